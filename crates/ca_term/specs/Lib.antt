@@ -1,0 +1,10 @@
+pub mod Cause
+pub mod Code
+pub mod Falls
+pub mod Kind
+pub mod Order
+pub mod Stored
+pub mod TermList
+pub mod TermListView
+pub mod Tree
+pub mod View

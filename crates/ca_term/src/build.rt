@@ -1,0 +1,110 @@
+//! The builders of terms.
+ghost use Rattle.std.specs.Prelude.{◌≡◌, ◌≤◌, ◌<◌, ◌↔◌, length, IfOk, IfErr, IsErrOf};
+ghost use Rattle.std.specs.Str.{chars};
+ghost use Rattle.ca_term.specs.Cause.{IsCauseOfAtom, IsCauseOfCell, IsCauseOfTuple};
+ghost use Rattle.ca_term.specs.Tree.{Integer, Atom, Tuple, Nil, Cons, Binary, row_of, depth};
+
+use crate::fault::TermFault;
+use crate::term::{Node, Term};
+use crate::terms::Terms;
+use std::alloc::Global;
+
+const MOST_CODE_POINTS: usize = 255;
+const MOST_ELEMENTS: usize = 120;
+const MOST_DEPTH: u8 = 192;
+
+/// The term of an integer.
+pub fn int(value: i64) -> Term
+    ensures { result ≡ Integer value }
+{
+    Term {
+        node: Node::Int(value),
+        depth: 1,
+    }
+}
+
+/// The empty list, `[]`.
+pub fn nil() -> Term
+    ensures { result ≡ Nil }
+{
+    Term {
+        node: Node::Nil,
+        depth: 1,
+    }
+}
+
+// How many code points a text has.
+fn code_points(text: &str) -> usize
+    ensures { result ≡ length (chars text.now) }
+{
+    text.chars().count()
+}
+
+/// The atom of a text of at most 255 code points.
+pub fn atom(alloc: Global, text: &str) -> Result<Term, TermFault>
+    ensures ok { IfOk result (λ t. t ≡ Atom text.now) }
+    ensures too_long { 255 < length (chars text.now) → IsErrOf result TermFault.AtomTooLong }
+    ensures causes { IfErr result (λ e. IsCauseOfAtom text.now e) }
+{
+    if code_points(text) > MOST_CODE_POINTS {
+        return Err(TermFault::AtomTooLong);
+    }
+    let text = text.to_string(alloc)?;
+    Ok(Term {
+        node: Node::Atom(text),
+        depth: 1,
+    })
+}
+
+/// The binary of these bytes.
+pub fn bin(alloc: Global, bytes: &[u8]) -> Result<Term, TermFault>
+    ensures ok { IfOk result (λ t. t ≡ Binary bytes.now) }
+    ensures causes { IfErr result (λ e. e ≡ TermFault.NoMemory) }
+{
+    let bytes = bytes.to_vec(alloc)?;
+    Ok(Term {
+        node: Node::Bin(bytes),
+        depth: 1,
+    })
+}
+
+/// A list cell of at most 192 levels: its head stands one deeper than the list, its tail as deep. A refusal drops both.
+pub fn cons(alloc: Global, head: Term, tail: Term) -> Result<Term, TermFault>
+    ensures ok { IfOk result (λ t. t ≡ Cons head tail) }
+    ensures too_deep { 192 < depth (Cons head tail) → IsErrOf result TermFault.TooDeep }
+    ensures causes { IfErr result (λ e. IsCauseOfCell (Cons head tail) e) }
+{
+    let depth = (head.depth + 1).max(tail.depth);
+    if depth > MOST_DEPTH {
+        return Err(TermFault::TooDeep);
+    }
+    let head = Box::new(alloc, head)?;
+    let tail = Box::new(alloc, tail)?;
+    Ok(Term {
+        node: Node::Cons(head, tail),
+        depth,
+    })
+}
+
+/// The tuple of these terms: at most 120, and of at most 191 levels each. It takes no memory. A refusal drops the terms.
+pub fn tuple(items: Terms) -> Result<Term, TermFault>
+    ensures ok { IfOk result (λ t. t ≡ Tuple (row_of items.items)) }
+    ensures too_wide { 120 < length items.items → IsErrOf result TermFault.TooWide }
+    ensures too_deep { length items.items ≤ 120 → 192 < depth (Tuple (row_of items.items)) → IsErrOf result TermFault.TooDeep }
+    ensures causes { IfErr result (λ e. IsCauseOfTuple items.items e) }
+{
+    if items.items.len() > MOST_ELEMENTS {
+        return Err(TermFault::TooWide);
+    }
+    let mut deepest = 0;
+    for item in items.items.as_slice() {
+        deepest = item.depth.max(deepest);
+    }
+    if deepest >= MOST_DEPTH {
+        return Err(TermFault::TooDeep);
+    }
+    Ok(Term {
+        node: Node::Tuple(items.items),
+        depth: deepest + 1,
+    })
+}

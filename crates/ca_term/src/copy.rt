@@ -1,0 +1,71 @@
+//! Copies of terms.
+ghost use Rattle.std.specs.Prelude.{◌≡◌, false, IfOk, IfErr};
+ghost use Rattle.ca_term.specs.Tree.{is_cell};
+
+use crate::fault::TermFault;
+use crate::term::{Node, Term};
+use std::alloc::Global;
+
+/// A term equal to this one.
+///
+/// It goes along a list's tail in a loop: a list may be longer than the stack is deep.
+#[cycle(copy)]
+#[tactic(auto, using(crate::proofs::Cells::kept_none, crate::proofs::Cells::kept_more, crate::proofs::Cells::kept_last, crate::proofs::Cells::kept_all))]
+pub fn try_copy(alloc: Global, term: &Term) -> Result<Term, TermFault>
+    ensures ok { IfOk result (λ t. t ≡ term.now) }
+    ensures causes { IfErr result (λ e. e ≡ TermFault.NoMemory) }
+{
+    let mut heads = Vec::new(alloc);
+    let mut rest = term;
+    while let Node::Cons(head, tail) = &rest.node {
+        let head = try_copy(alloc, head)?;
+        heads.push((head, rest.depth))?;
+        rest = tail;
+    }
+    let mut copy = copy_last(alloc, rest)?;
+    while let Some((head, depth)) = heads.pop() {
+        let head = Box::new(alloc, head)?;
+        let tail = Box::new(alloc, copy)?;
+        copy = Term {
+            node: Node::Cons(head, tail),
+            depth,
+        };
+    }
+    Ok(copy)
+}
+
+// A copy of a term that is no list cell.
+#[cycle(copy)]
+#[tactic(auto, using(crate::proofs::Cells::cell_is))]
+fn copy_last(alloc: Global, term: &Term) -> Result<Term, TermFault>
+    requires { is_cell term.now ≡ false }
+    ensures ok { IfOk result (λ t. t ≡ term.now) }
+    ensures causes { IfErr result (λ e. e ≡ TermFault.NoMemory) }
+{
+    let node = match &term.node {
+        Node::Int(value) => Node::Int(*value),
+        Node::Atom(text) => Node::Atom(text.as_str().to_string(alloc)?),
+        Node::Tuple(items) => Node::Tuple(copy_items(alloc, items.as_slice())?),
+        Node::Nil => Node::Nil,
+        Node::Cons(_, _) => unreachable!(),
+        Node::Bin(bytes) => Node::Bin(bytes.as_slice().to_vec(alloc)?),
+    };
+    Ok(Term {
+        node,
+        depth: term.depth,
+    })
+}
+
+// Copies of these terms, in order.
+#[cycle(copy)]
+#[tactic(auto, using(crate::proofs::Rows::nodes_item))]
+fn copy_items(alloc: Global, items: &[Term]) -> Result<Vec<Term>, TermFault>
+    ensures ok { IfOk result (λ copies. copies.items ≡ items.now) }
+    ensures causes { IfErr result (λ e. e ≡ TermFault.NoMemory) }
+{
+    let mut copies = Vec::with_capacity(alloc, items.len())?;
+    for item in items {
+        copies.push(try_copy(alloc, item)?)?;
+    }
+    Ok(copies)
+}

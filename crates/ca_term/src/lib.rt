@@ -1,0 +1,21 @@
+//! Terms of Erlang in this project's profile: 64-bit integers, atoms, tuples, lists and binaries, with their order.
+#![tactic(auto)]
+
+mod build;
+mod copy;
+mod fault;
+// mod length;
+mod order;
+mod term;
+mod terms;
+
+pub use build::{atom, bin, cons, int, nil, tuple};
+pub use copy::try_copy;
+pub use fault::TermFault;
+// pub use length
+pub use order::{order_laws, term_order};
+pub use term::{Kind, Term};
+pub use terms::Terms;
+
+// cfg
+// mod tests;
