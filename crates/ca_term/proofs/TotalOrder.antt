@@ -99,11 +99,11 @@ mutual
   tree_chain (Atom a) (Atom b) (Atom c) h k = nat_list_cmp_total.trans a b c h k
   tree_chain (Tuple r) (Tuple s) (Tuple t) h k =
       then_chain (nat_cmp (size r) (size s)) (nat_cmp (size s) (size t)) (nat_cmp (size r) (size t)) (row_cmp r s) (row_cmp s t) (row_cmp r t)
-        (nat_cmp_total.trans (size r) (size s) (size t)) (λ e. nat_cmp_total.congr (size r) (size s) (size t) e) (λ e. ap (nat_cmp (size r)) (sym (nat_cmp-IsAntisymmetric (size s) (size t) e))) (row_chain r s t) h k
+      (nat_cmp_total.trans (size r) (size s) (size t)) (λ e. nat_cmp_total.congr (size r) (size s) (size t) e) (λ e. ap (nat_cmp (size r)) (sym (nat_cmp-IsAntisymmetric (size s) (size t) e))) (row_chain r s t) h k
   tree_chain Nil Nil Nil h k = h
   tree_chain (Cons h t) (Cons k u) (Cons l v) e f =
       then_chain (term_cmp h k) (term_cmp k l) (term_cmp h l) (term_cmp t u) (term_cmp u v) (term_cmp t v)
-        (tree_chain h k l) (left_equal h k l) (right_equal h k l) (tree_chain t u v) e f
+      (tree_chain h k l) (left_equal h k l) (right_equal h k l) (tree_chain t u v) e f
   tree_chain (Binary a) (Binary b) (Binary c) h k = nat_list_cmp_total.trans a b c h k
   tree_chain a b c h k = first_of (cc, search (arith, rank_less, less_rank a b h, less_rank b c k))
 
@@ -115,7 +115,7 @@ mutual
   row_chain (More w r) (More u s) Ends h k = cc
   row_chain (More w r) (More u s) (More v t) h k =
       then_chain (term_cmp w u) (term_cmp u v) (term_cmp w v) (row_cmp r s) (row_cmp s t) (row_cmp r t)
-        (tree_chain w u v) (left_equal w u v) (right_equal w u v) (row_chain r s t) h k
+      (tree_chain w u v) (left_equal w u v) (right_equal w u v) (row_chain r s t) h k
 
 pub term_cmp_total : IsTotalOrder term_cmp
 term_cmp_total = record { antisymm = tree_flip; trans = tree_chain; congr = left_equal }
