@@ -1,5 +1,5 @@
-use Rattle.std.proofs.Common.{◌≡◌, List, ◌∷◌, [], ◌++◌, ℕ, arith, ap, sym, ◌∙◌, refl}
-use Rattle.ca_term.specs.Tree.{Tree, Cons, nodes, IsTerm, depth}
+use Rattle.std.proofs.Common.{◌≡◌, ◌∷◌, [], ◌++◌, arith, ap, sym, ◌∙◌, refl}
+use Rattle.ca_term.specs.Tree.{Cons, nodes, depth}
 use Rattle.ca_term.specs.View.{tree_of}
 use Rattle.ca_term.proofs.Cells.{kept_more, kept_last, IsKept}
 use Rattle.ca_term.proofs.copy.+copy.Goals as goal
