@@ -9,3 +9,6 @@ mod table;
 pub use command::{Cmd, Cont, Fault, Reply};
 pub use laws::{no_commands, no_files, one_client, tables_stay_ordered};
 pub use table::ListTable;
+
+#[cfg(test)]
+mod tests;
