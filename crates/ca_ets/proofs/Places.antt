@@ -103,6 +103,7 @@ keys_rise p m t i d l h = by (term_cmp (key_of p (get_or m i d)) (key_of p (get_
     next [] i t h = absurd (omega arith)
     next (o ∷ m) zero t h = above_item p o m 0 d t.1 (omega arith)
     next (o ∷ m) (suc i) t h = let s : suc i + 1 ≡ suc (i + 1) = omega arith in rw s (next m i t.2 (omega arith))
+
     by : (r : Ordering) → term_cmp (key_of p (get_or m i d)) (key_of p (get_or m (i + 1) d)) ≡ r → is_lt (term_cmp (key_of p (get_or m (i + 1) d)) (key_of p (get_or m i d))) ≡ false
     by r e = ap is_lt (tree_flip (key_of p (get_or m (i + 1) d)) (key_of p (get_or m i d)) ∙ ap ordering_reverse (next m i t h))
 

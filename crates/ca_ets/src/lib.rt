@@ -4,6 +4,7 @@
 
 mod command;
 mod laws;
+mod object;
 mod table;
 
 pub use command::{Cmd, Cont, Fault, Reply};

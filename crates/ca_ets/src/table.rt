@@ -1,100 +1,21 @@
 //! A table as a list of objects in key order.
-ghost use Rattle.std.specs.Prelude.{◌≡◌, ◌≤◌, ◌<◌, [], ◌∷◌, length, true, IfOk, OnOk, OnErr, IsNone, IfSome, is_some};
+ghost use Rattle.std.specs.Prelude.{◌≡◌, ◌≤◌, [], ◌∷◌, length, true, IfOk, OnOk, OnErr};
 ghost use Rattle.std.specs.List.Sorted.{IsSearchInRange};
-ghost use Rattle.ca_term.specs.Tree.{Nil};
-ghost use Rattle.ca_term.specs.Order.{term_cmp};
 ghost use Rattle.ca_ets.specs.Command.{Continuation, command_of, continuation_of};
-ghost use Rattle.ca_ets.specs.Object.{is_object, key_of, fits};
 ghost use Rattle.ca_ets.specs.OrderedMap.{IsTable};
 ghost use Rattle.ca_ets.specs.Place.{IsPlace, placed};
 ghost use Rattle.ca_ets.specs.Step.{step, inserted, looked_up, is_built};
 ghost use Rattle.ca_ets.specs.Stepped.{stepped};
 
 use crate::command::{Cmd, Cont, Fault, Reply};
-use ca_term::{Kind, Term, Terms, code_length, nil, term_order, try_copy};
+use crate::object::{copied, fits, key, key_order};
+use ca_term::{Term, Terms};
 use std::alloc::{AllocError, Global};
-use std::cmp::Ordering;
 use std::marker::Model;
 use std::mem;
 
-// How many bytes the code of an object or a key may have.
-const MOST_CODE_BYTES: usize = 1000;
-
-// The element that is an object's key, counted from 1; a term that is no object has none.
-#[tactic(auto, using(crate::proofs::Objects::no_key, crate::proofs::Objects::key_is, crate::proofs::Objects::object_is, crate::proofs::Objects::object_is_not))]
-fn key(object: &Term, keypos: u32) -> Option<&Term>
-    ensures none { IsNone result → key_of keypos object.now ≡ Nil }
-    ensures some { IfSome result (λ k. k.now ≡ key_of keypos object.now) }
-    ensures object { 1 ≤ keypos → is_object keypos object.now ≡ is_some result }
-{
-    match object.kind() {
-        Kind::Tuple(items) => items.get((keypos as usize).saturating_sub(1)),
-        _ => None,
-    }
-}
-
-// How an object's key stands to a key.
-fn key_order(object: &Term, keypos: u32, k: &Term) -> Ordering
-    ensures { result ≡ term_cmp (key_of keypos object.now) k.now }
-{
-    match key(object, keypos) {
-        Some(own) => term_order(own, k),
-        None => term_order(&nil(), k),
-    }
-}
-
-// Where a key stands in a table, or would stand.
-fn place(objects: &[Term], keypos: u32, k: &Term) -> Result<usize, usize>
-    requires { IsTable keypos objects.now }
-    ensures { IsPlace keypos objects.now k.now result }
-{
-    objects.binary_search_by(|object| key_order(object, keypos, k))
-}
-
-// Puts an object at a place: at that of another one it takes no memory, and drops that one.
-fn put_at(objects: &mut Vec<Term>, place: Result<usize, usize>, object: Term) -> Result<(), AllocError>
-    requires { IsSearchInRange place (length objects.old.items) }
-    ensures ok { OnOk result (objects.new.items ≡ placed objects.old.items place object) }
-    ensures err { OnErr result (objects.new.items ≡ objects.old.items) }
-{
-    match place {
-        Ok(at) => {
-            let _old = mem::replace(&mut objects[at], object);
-        }
-        Err(at) => objects.insert(at, object)?,
-    }
-    Ok(())
-}
-
-// Whether a term's code is short enough for an object or a key of a table.
-fn fits(term: &Term) -> bool
-    ensures { result ≡ fits term.now }
-{
-    code_length(term) <= MOST_CODE_BYTES
-}
-
-// A copy of a term.
-fn copied(alloc: Global, term: &Term) -> Result<Term, AllocError>
-    ensures { IfOk result (λ copy. copy ≡ term.now) }
-{
-    match try_copy(alloc, term) {
-        Ok(copy) => Ok(copy),
-        Err(_) => Err(AllocError),
-    }
-}
-
-// The list of a copy of this term alone.
-fn only(alloc: Global, term: &Term) -> Result<Terms, AllocError>
-    ensures { IfOk result (λ terms. terms.items ≡ term.now ∷ []) }
-{
-    let mut terms = Terms::new(alloc);
-    match terms.push(copied(alloc, term)?) {
-        Ok(()) => Ok(terms),
-        Err(_) => Err(AllocError),
-    }
-}
-
-/// A table kept as a list of objects in key order.
+/// An `ordered_set` kept as a list of its objects in key order. Contracts see its `keypos` and its objects.
+/// Source: the ets manual, the table type `ordered_set` and the option `keypos`.
 #[derive(Drop)]
 pub struct ListTable {
     keypos: u32,
@@ -116,7 +37,7 @@ impl Model for ListTable {
 }
 
 impl ListTable {
-    /// A table with no objects, whose objects' keys are their elements number `keypos`, counted from 1. It takes no memory.
+    /// A table with no objects; element number `keypos` of an object, counted from 1, is its key. It takes no memory.
     pub fn new(alloc: Global, keypos: u32) -> ListTable
         requires { 1 ≤ keypos }
         ensures keypos { result.keypos ≡ keypos }
@@ -144,8 +65,9 @@ impl ListTable {
         self.objects.as_slice()
     }
 
-    /// The step of one thread: it changes the table and the client's continuation, and gives the reply. Where memory is
-    /// not found it changes neither.
+    /// One step of one thread: what the command does to the table and to its client's continuation, and the reply.
+    /// A command that is answered with an error changes nothing, and so does one for which memory is not found.
+    /// Source: the ets manual's text on each call; the order of the checks and the error `Size` are this project's own.
     pub fn apply(&mut self, alloc: Global, cmd: &Cmd, cont: &mut Cont) -> Result<Reply, AllocError>
         requires built { is_built (command_of cmd.now) ≡ true }
         ensures step { IfOk result (λ reply. step self.old.keypos self.old.objects (continuation_of cont.old) (command_of cmd.now) ≡ stepped self.new.objects (continuation_of cont.new) reply) }
@@ -160,10 +82,10 @@ impl ListTable {
         }
     }
 
-    // `insert`: it takes the memory that it needs before it changes the table.
+    // `insert`: the copy is made before the table is changed.
     #[tactic(auto, using(crate::proofs::Inserts::not_an_object, crate::proofs::Inserts::too_long, crate::proofs::Inserts::put_is, crate::proofs::Inserts::put_keeps, crate::proofs::Places::place_range))]
     fn insert(&mut self, alloc: Global, object: &Term) -> Result<Reply, AllocError>
-        ensures step { (k : Continuation) → IfOk result (λ reply. inserted self.old.keypos self.old.objects k object.now ≡ stepped self.new.objects k reply) }
+        ensures step { (continuation : Continuation) → IfOk result (λ reply. inserted self.old.keypos self.old.objects continuation object.now ≡ stepped self.new.objects continuation reply) }
         ensures keypos { self.new.keypos ≡ self.old.keypos }
         ensures unchanged { OnErr result (self.new ≡ self.old) }
     {
@@ -179,9 +101,9 @@ impl ListTable {
         Ok(Reply::Truth(true))
     }
 
-    // `lookup`.
+    // `lookup`: a key that is too long is refused, since no object has it.
     fn lookup(&self, alloc: Global, k: &Term) -> Result<Reply, AllocError>
-        ensures { (c : Continuation) → IfOk result (λ reply. looked_up self.now.keypos self.now.objects c k.now ≡ stepped self.now.objects c reply) }
+        ensures { (continuation : Continuation) → IfOk result (λ reply. looked_up self.now.keypos self.now.objects continuation k.now ≡ stepped self.now.objects continuation reply) }
     {
         if !fits(k) {
             return Ok(Reply::Error(Fault::Size));
@@ -190,5 +112,43 @@ impl ListTable {
             Ok(at) => Ok(Reply::List(only(alloc, &self.objects[at])?)),
             Err(_) => Ok(Reply::List(Terms::new(alloc))),
         }
+    }
+}
+
+// Where a key stands in a table, or would stand.
+fn place(objects: &[Term], keypos: u32, k: &Term) -> Result<usize, usize>
+    requires { IsTable keypos objects.now }
+    ensures { IsPlace keypos objects.now k.now result }
+{
+    objects.binary_search_by(|object| key_order(object, keypos, k))
+}
+
+// Puts an object at a place: at that of another one it takes no memory, and drops that one.
+fn put_at(
+    objects: &mut Vec<Term>,
+    place: Result<usize, usize>,
+    object: Term,
+) -> Result<(), AllocError>
+    requires { IsSearchInRange place (length objects.old.items) }
+    ensures ok { OnOk result (objects.new.items ≡ placed objects.old.items place object) }
+    ensures err { OnErr result (objects.new.items ≡ objects.old.items) }
+{
+    match place {
+        Ok(at) => {
+            let _old = mem::replace(&mut objects[at], object);
+        }
+        Err(at) => objects.insert(at, object)?,
+    }
+    Ok(())
+}
+
+// The list of a copy of this term alone.
+fn only(alloc: Global, term: &Term) -> Result<Terms, AllocError>
+    ensures { IfOk result (λ terms. terms.items ≡ term.now ∷ []) }
+{
+    let mut terms = Terms::new(alloc);
+    match terms.push(copied(alloc, term)?) {
+        Ok(()) => Ok(terms),
+        Err(_) => Err(AllocError),
     }
 }

@@ -1,20 +1,40 @@
 use super::*;
 use ca_term::{Kind, Term, TermFault, Terms, atom, bin, cons, int, nil, tuple};
 use std::alloc::{AllocError, Global};
-use std::test::Fail;
 
-// The tuple of these two.
-fn pair(alloc: Global, first: Term, second: Term) -> Result<Term, TermFault> {
-    let mut items = Terms::new(alloc);
-    items.push(first)?;
-    items.push(second)?;
-    tuple(items)
+// The number of an object that was found, nothing, or an error; `Err(None)` where memory was not found.
+type Answer = Result<Option<i64>, Option<Fault>>;
+
+// Keys in their order.
+fn key(alloc: Global, place: i64) -> Result<Term, TermFault> {
+    match place {
+        0 => Ok(int(-7)),
+        1 => Ok(int(5)),
+        2 => atom(alloc, "aa"),
+        3 => atom(alloc, "b"),
+        4 => tuple(Terms::new(alloc)),
+        5 => Ok(nil()),
+        6 => cons(alloc, nil(), nil()),
+        _ => bin(alloc, b""),
+    }
 }
 
-// The tuple of a binary of this many bytes.
-fn long(alloc: Global, bytes: usize) -> Result<Term, TermFault> {
+// The binary of this many bytes.
+fn bytes(alloc: Global, count: usize) -> Result<Term, TermFault> {
+    bin(alloc, vec![in alloc; 7; count]?.as_slice())
+}
+
+// The tuple of this term, and of a number where there is one.
+fn object(
+    alloc: Global,
+    first: Result<Term, TermFault>,
+    number: Option<i64>,
+) -> Result<Term, TermFault> {
     let mut items = Terms::new(alloc);
-    items.push(bin(alloc, vec![in alloc; 7; bytes]?.as_slice())?)?;
+    items.push(first?)?;
+    if let Some(number) = number {
+        items.push(int(number))?;
+    }
     tuple(items)
 }
 
@@ -29,80 +49,83 @@ fn number(object: &Term) -> Option<i64> {
     }
 }
 
-// What an insert is answered with: its error, if any.
-fn insert(alloc: Global, table: &mut ListTable, object: Term) -> Result<Option<Fault>, Fail> {
-    match table.apply(alloc, &Cmd::Insert(object), &mut Cont::Never)? {
-        Reply::Error(fault) => Ok(Some(fault)),
-        Reply::Truth(true) => Ok(None),
-        _ => Err(Fail::from("another reply")),
+fn told(reply: Result<Reply, AllocError>) -> Answer {
+    match reply {
+        Ok(Reply::Truth(true)) => Ok(None),
+        Ok(Reply::List(found)) => Ok(found.as_slice().first().and_then(number)),
+        Ok(Reply::Error(fault)) => Err(Some(fault)),
+        _ => Err(None),
     }
 }
 
-// What a lookup is answered with: the number of the object that it found, if any, or its error.
-fn lookup(alloc: Global, table: &mut ListTable, k: Term) -> Result<Result<Option<i64>, Fault>, Fail> {
-    match table.apply(alloc, &Cmd::Lookup(k), &mut Cont::Never)? {
-        Reply::Error(fault) => Ok(Err(fault)),
-        Reply::List(found) => match found.as_slice().first() {
-            Some(object) => Ok(Ok(number(object))),
-            None => Ok(Ok(None)),
-        },
-        _ => Err(Fail::from("another reply")),
+fn insert(alloc: Global, table: &mut ListTable, object: Result<Term, TermFault>) -> Answer {
+    match object {
+        Ok(object) => told(table.apply(alloc, &Cmd::Insert(object), &mut Cont::Never)),
+        Err(_) => Err(None),
+    }
+}
+
+fn lookup(alloc: Global, table: &mut ListTable, k: Result<Term, TermFault>) -> Answer {
+    match k {
+        Ok(k) => told(table.apply(alloc, &Cmd::Lookup(k), &mut Cont::Never)),
+        Err(_) => Err(None),
     }
 }
 
 #[test]
-fn objects_stand_in_key_order(rt: HostRuntime) -> Result<(), Fail> {
+fn objects_stand_in_key_order(rt: HostRuntime) {
     let alloc = rt.alloc();
     let mut table = ListTable::new(alloc, 1);
-    let keys = vec![in alloc;
-        (bin(alloc, b"")?, 7),
-        (nil(), 5),
-        (int(5), 1),
-        (atom(alloc, "b")?, 3),
-        (tuple(Terms::new(alloc))?, 4),
-        (int(-7), 0),
-        (cons(alloc, nil(), nil())?, 6),
-        (atom(alloc, "aa")?, 2),
-    ]?;
-    for (key, place) in keys {
-        let object = pair(alloc, key, int(place))?;
-        assert_eq!(rt; insert(alloc, &mut table, object)?, None);
+    for (place, value) in [
+        (7, 7),
+        (5, 5),
+        (1, 9),
+        (3, 3),
+        (4, 4),
+        (0, 0),
+        (6, 6),
+        (2, 2),
+        (1, 1),
+    ] {
+        let object = object(alloc, key(alloc, place), Some(value));
+        assert_eq!(rt; insert(alloc, &mut table, object), Ok(None));
     }
     assert_eq!(rt; table.objects().len(), 8);
     for (place, object) in table.objects().iter().enumerate() {
-        assert_eq!(rt; number(object), Some(place as i64));
+        assert_eq!(rt; number(object), i64::try_from(place).ok());
     }
-    let object = pair(alloc, int(5), int(50))?;
-    assert_eq!(rt; insert(alloc, &mut table, object)?, None);
-    assert_eq!(rt; table.objects().len(), 8);
-    assert_eq!(rt; lookup(alloc, &mut table, int(5))?, Ok(Some(50)));
-    assert_eq!(rt; lookup(alloc, &mut table, int(6))?, Ok(None));
-    Ok(())
 }
 
 #[test]
-fn what_does_not_fit_is_refused(rt: HostRuntime) -> Result<(), Fail> {
+fn what_does_not_fit_is_refused(rt: HostRuntime) {
     let alloc = rt.alloc();
     let mut table = ListTable::new(alloc, 1);
-    let objects = vec![in alloc;
-        (atom(alloc, "a")?, Some(Fault::BadArg)),
-        (bin(alloc, vec![in alloc; 7; 1000]?.as_slice())?, Some(Fault::BadArg)),
-        (tuple(Terms::new(alloc))?, Some(Fault::BadArg)),
-        (long(alloc, 1000)?, Some(Fault::Size)),
-        (long(alloc, 993)?, Some(Fault::Size)),
-        (long(alloc, 992)?, None),
-    ]?;
-    for (object, answer) in objects {
-        assert_eq!(rt; insert(alloc, &mut table, object)?, answer);
+    for (count, answer) in [
+        (1000, Err(Some(Fault::Size))),
+        (993, Err(Some(Fault::Size))),
+        (992, Ok(None)),
+    ] {
+        let object = object(alloc, bytes(alloc, count), None);
+        assert_eq!(rt; insert(alloc, &mut table, object), answer);
     }
-    assert_eq!(rt; table.objects().len(), 1);
-    let key = bin(alloc, vec![in alloc; 7; 998]?.as_slice())?;
-    assert_eq!(rt; lookup(alloc, &mut table, key)?, Err(Fault::Size));
+    assert_eq!(rt;
+        insert(alloc, &mut table, bytes(alloc, 1000)),
+        Err(Some(Fault::BadArg))
+    );
+    assert_eq!(rt;
+        lookup(alloc, &mut table, bytes(alloc, 998)),
+        Err(Some(Fault::Size))
+    );
+}
+
+#[test]
+fn the_second_element_is_the_key(rt: HostRuntime) {
+    let alloc = rt.alloc();
     let mut table = ListTable::new(alloc, 2);
-    assert_eq!(rt; insert(alloc, &mut table, long(alloc, 1)?)?, Some(Fault::BadArg));
-    let object = pair(alloc, int(1), int(2))?;
-    assert_eq!(rt; insert(alloc, &mut table, object)?, None);
-    assert_eq!(rt; lookup(alloc, &mut table, int(2))?, Ok(Some(2)));
-    assert_eq!(rt; lookup(alloc, &mut table, int(1))?, Ok(None));
-    Ok(())
+    for (value, answer) in [(None, Err(Some(Fault::BadArg))), (Some(2), Ok(None))] {
+        let object = object(alloc, Ok(int(1)), value);
+        assert_eq!(rt; insert(alloc, &mut table, object), answer);
+    }
+    assert_eq!(rt; lookup(alloc, &mut table, Ok(int(2))), Ok(Some(2)));
+    assert_eq!(rt; lookup(alloc, &mut table, Ok(int(1))), Ok(None));
 }

@@ -9,5 +9,5 @@ use Rattle.ca_ets.proofs.table.place.Goals as goal
 pub returns : goal.returns
 returns c =
     let facts = c.binary_search_by.ensures in
-    let by_key = facts.position (λ o. term_cmp (key_of c.args.keypos o) c.args.k.now) (always_returns_same _ _ _ (λ a r g called. search rules)) in
+    let by_key = facts.position (λ o. term_cmp (key_of c.args.keypos o) c.args.k.now) (always_returns_same _ _ _ (λ a r f called. search rules)) in
     searched _ _ _ _ c.requires facts.bound by_key
