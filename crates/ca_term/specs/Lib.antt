@@ -1,5 +1,6 @@
 pub mod Cause
 pub mod Code
+pub mod CodeLaws
 pub mod Falls
 pub mod Kind
 pub mod Order
