@@ -32,7 +32,7 @@ abbrev pub AllBytes : List ℕ → Type 0
 AllBytes [] = Unit {0}
 AllBytes (b ∷ bs) = (b < 256) × AllBytes bs
 
-high_bytes : (k n : ℕ) → AllBytes (bytes_high_first k n)
+pub high_bytes : (k n : ℕ) → AllBytes (bytes_high_first k n)
 high_bytes zero n = tt
 high_bytes (suc zero) n = (mod-lt n (omega arith), tt)
 high_bytes (suc (suc k)) n = (mod-lt (n / 256 ^ suc k) (omega arith), high_bytes (suc k) n)

@@ -2,6 +2,7 @@ pub mod Cause
 pub mod Code
 pub mod CodeLaws
 pub mod Falls
+pub mod Grammar
 pub mod Kind
 pub mod Order
 pub mod Stored
