@@ -2,6 +2,7 @@
 #![tactic(auto)]
 
 mod build;
+mod code;
 mod copy;
 mod fault;
 mod length;
@@ -10,6 +11,7 @@ mod term;
 mod terms;
 
 pub use build::{atom, bin, cons, int, nil, tuple};
+pub use code::code_laws;
 pub use copy::try_copy;
 pub use fault::TermFault;
 pub use length::code_length;
