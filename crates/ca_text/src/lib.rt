@@ -1,0 +1,12 @@
+//! The printed text of terms, in Erlang's notation.
+#![tactic(auto)]
+
+mod atom;
+mod binary;
+mod print;
+mod put;
+
+pub use print::{print_term, text_laws};
+
+#[cfg(test)]
+mod tests;
