@@ -1,5 +1,5 @@
 -- A list's heads, and what stands behind them.
-use Rattle.std.proofs.Common.{false, ◌≡◌, ℕ, ◌≤◌, List, [], ◌∷◌, ◌++◌, refl, sym, ◌∙◌, ap, subst}
+use Rattle.std.proofs.Common.{false, ◌≡◌, ℕ, List, [], ◌∷◌, ◌++◌, refl, sym, ◌∙◌, ap, subst}
 use Rattle.ca_term.specs.Tree.{Tree, Cons, IsTerm, depth, is_cell}
 
 -- the list of these heads, each with the depth of its cell, and this tail

@@ -1,10 +1,10 @@
 -- The order of terms is a total order.
-use Rattle.std.proofs.Common.{◌≡◌, ℕ, ◌≤◌, ◌<◌, arith, refl, sym, ◌∙◌, ap, subst}
+use Rattle.std.proofs.Common.{◌≡◌, ◌≤◌, ◌<◌, arith, refl, sym, ap}
 use Rattle.std.specs.declared.cmp.Ordering.{Ordering}
 use Rattle.std.specs.declared.cmp.Ordering.TheVariants.{Less, Equal, Greater}
-use Rattle.std.specs.Ordering.{ordering_then, ordering_reverse, nat_cmp, int_cmp}
+use Rattle.std.specs.Ordering.{ordering_then, ordering_reverse, nat_cmp}
 use Rattle.std.specs.Cmp.{IsTotalOrder, nat_cmp_total, int_cmp_total, then_flip}
-use Rattle.std.specs.Cmp.Lexicographic.{slice_cmp, nat_list_cmp_total}
+use Rattle.std.specs.Cmp.Lexicographic.{nat_list_cmp_total}
 use Rattle.std.specs.FinMap.{nat_cmp-IsAntisymmetric, int_cmp-IsAntisymmetric, slice_cmp-IsAntisymmetric}
 use Rattle.ca_term.specs.Tree.{Tree, Row, Integer, Atom, Tuple, Nil, Cons, Binary, Ends, More, size}
 use Rattle.ca_term.specs.Order.{term_cmp, row_cmp, rank}
@@ -99,11 +99,11 @@ mutual
   tree_chain (Atom a) (Atom b) (Atom c) h k = nat_list_cmp_total.trans a b c h k
   tree_chain (Tuple r) (Tuple s) (Tuple t) h k =
       then_chain (nat_cmp (size r) (size s)) (nat_cmp (size s) (size t)) (nat_cmp (size r) (size t)) (row_cmp r s) (row_cmp s t) (row_cmp r t)
-        (nat_cmp_total.trans (size r) (size s) (size t)) (λ e. nat_cmp_total.congr (size r) (size s) (size t) e) (λ e. ap (nat_cmp (size r)) (sym (nat_cmp-IsAntisymmetric (size s) (size t) e))) (row_chain r s t) h k
+      (nat_cmp_total.trans (size r) (size s) (size t)) (λ e. nat_cmp_total.congr (size r) (size s) (size t) e) (λ e. ap (nat_cmp (size r)) (sym (nat_cmp-IsAntisymmetric (size s) (size t) e))) (row_chain r s t) h k
   tree_chain Nil Nil Nil h k = h
   tree_chain (Cons h t) (Cons k u) (Cons l v) e f =
       then_chain (term_cmp h k) (term_cmp k l) (term_cmp h l) (term_cmp t u) (term_cmp u v) (term_cmp t v)
-        (tree_chain h k l) (left_equal h k l) (right_equal h k l) (tree_chain t u v) e f
+      (tree_chain h k l) (left_equal h k l) (right_equal h k l) (tree_chain t u v) e f
   tree_chain (Binary a) (Binary b) (Binary c) h k = nat_list_cmp_total.trans a b c h k
   tree_chain a b c h k = first_of (cc, search (arith, rank_less, less_rank a b h, less_rank b c k))
 
@@ -115,7 +115,7 @@ mutual
   row_chain (More w r) (More u s) Ends h k = cc
   row_chain (More w r) (More u s) (More v t) h k =
       then_chain (term_cmp w u) (term_cmp u v) (term_cmp w v) (row_cmp r s) (row_cmp s t) (row_cmp r t)
-        (tree_chain w u v) (left_equal w u v) (right_equal w u v) (row_chain r s t) h k
+      (tree_chain w u v) (left_equal w u v) (right_equal w u v) (row_chain r s t) h k
 
 pub term_cmp_total : IsTotalOrder term_cmp
 term_cmp_total = record { antisymm = tree_flip; trans = tree_chain; congr = left_equal }

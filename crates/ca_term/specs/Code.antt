@@ -22,6 +22,11 @@ unfoldable pub escaped : List ℕ → List ℕ
 escaped [] = 0 ∷ 0 ∷ []
 escaped (b ∷ bs) = if b == 0 then 0 ∷ 0xff ∷ escaped bs else b ∷ escaped bs
 
+-- n of n, and m of -m - 1
+abbrev pub magnitude : ℤ → ℕ
+magnitude (pos n) = n
+magnitude (negsuc m) = m
+
 -- 20 + L and the L bytes of n; for -m - 1, 1F - L and the complement of the L bytes of m
 unfoldable pub int_code : ℤ → List ℕ
 int_code (pos n) = (0x20 + length (digits n)) ∷ digits n

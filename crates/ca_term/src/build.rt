@@ -10,7 +10,9 @@ use crate::terms::Terms;
 use std::alloc::Global;
 
 const MOST_CODE_POINTS: usize = 255;
+
 const MOST_ELEMENTS: usize = 120;
+
 const MOST_DEPTH: u8 = 192;
 
 /// The term of an integer.

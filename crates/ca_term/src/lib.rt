@@ -4,7 +4,7 @@
 mod build;
 mod copy;
 mod fault;
-// mod length;
+mod length;
 mod order;
 mod term;
 mod terms;
@@ -12,7 +12,7 @@ mod terms;
 pub use build::{atom, bin, cons, int, nil, tuple};
 pub use copy::try_copy;
 pub use fault::TermFault;
-// pub use length
+pub use length::code_length;
 pub use order::{order_laws, term_order};
 pub use term::{Kind, Term};
 pub use terms::Terms;

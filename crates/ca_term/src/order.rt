@@ -63,5 +63,4 @@ pub fn term_order(a: &Term, b: &Term) -> Ordering
 /// The order is total: of two terms one is less, or they are the same term.
 pub fn order_laws()
     ensures { IsTotalOrder term_cmp }
-{
-}
+{}

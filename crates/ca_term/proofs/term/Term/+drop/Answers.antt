@@ -1,5 +1,5 @@
-use Rattle.std.proofs.Common.{rules, arith, ◌≡◌, ◌<◌, ◌≤◌, ap, sym, ◌∙◌}
-use Rattle.ca_term.specs.Tree.{nodes, row_of, row_nodes, Tuple}
+use Rattle.std.proofs.Common.{rules, arith, ◌≡◌, ap, sym, ◌∙◌}
+use Rattle.ca_term.specs.Tree.{nodes, row_of, Tuple}
 use Rattle.ca_term.specs.View.{tree_of}
 use Rattle.ca_term.proofs.Rows.{items_fewer}
 use Rattle.ca_term.proofs.term.Term.+drop.Goals as goal

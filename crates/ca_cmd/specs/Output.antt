@@ -1,0 +1,60 @@
+-- What is printed of answers and of a table.
+use Rattle.std.specs.Prelude.{ℕ, ◌+◌, Bool, true, false, List, [], ◌∷◌, ◌++◌, length, codes, decimal, flat_map}
+use Rattle.ca_term.specs.Tree.{Tree, Nil, Cons}
+use Rattle.ca_ets.specs.Command.{Response, Truth, Value, Items, Results, End, Error, Answered, Replied, Full, Deep, Worn}
+use Rattle.ca_ets.specs.declared.command.Fault.{Fault}
+use Rattle.ca_ets.specs.declared.command.Fault.TheVariants.{BadArg, Range, Size}
+use Rattle.ca_text.specs.Text.{text_of}
+use Rattle.ca_cmd.specs.File.{Numbered}
+
+-- the list of these terms, as a term
+abbrev pub list_of : List Tree → Tree
+list_of [] = Nil
+list_of (t ∷ ts) = Cons t (list_of ts)
+
+abbrev pub text_of_fault : Fault → List ℕ
+text_of_fault BadArg = codes "error badarg"
+text_of_fault Range = codes "error range"
+text_of_fault Size = codes "error size"
+
+-- a reply's term text, or its error
+abbrev pub text_of_response : Response → List ℕ
+text_of_response (Truth true) = codes "true"
+text_of_response (Truth false) = codes "false"
+text_of_response (Value t) = text_of t
+text_of_response (Items ts) = text_of (list_of ts)
+text_of_response (Results ts true) = codes "{" ++ text_of (list_of ts) ++ codes ",more}"
+text_of_response (Results ts false) = codes "{" ++ text_of (list_of ts) ++ codes ",'$end_of_table'}"
+text_of_response End = codes "'$end_of_table'"
+text_of_response (Error fault) = text_of_fault fault
+
+abbrev pub text_of_answer : Answered → List ℕ
+text_of_answer (Replied response) = text_of_response response
+text_of_answer Full = codes "refused full"
+text_of_answer Deep = codes "refused deep"
+text_of_answer Worn = codes "refused worn"
+
+-- for each command its line's number and its answer
+abbrev pub answer_lines : List Numbered → List Answered → List ℕ
+answer_lines [] answers = []
+answer_lines (l ∷ lines) [] = []
+answer_lines (l ∷ lines) (a ∷ answers) = decimal l.number ++ codes " " ++ text_of_answer a ++ codes "\n" ++ answer_lines lines answers
+
+-- the clients' answers, from the client of this number on
+abbrev pub client_lines : ℕ → List (List Numbered) → List (List Answered) → List ℕ
+client_lines client [] answers = []
+client_lines client (lines ∷ files) [] = []
+client_lines client (lines ∷ files) (said ∷ answers) =
+    codes "client " ++ decimal client ++ codes "\n" ++ answer_lines lines said ++ client_lines (client + 1) files answers
+
+-- an object of the table
+abbrev pub object_line : Tree → List ℕ
+object_line o = text_of o ++ codes ".\n"
+
+-- the table's objects in key order, and how many they are
+abbrev pub table_text : List Tree → List ℕ
+table_text table = codes "table\n" ++ flat_map object_line table ++ codes "end " ++ decimal (length table) ++ codes "\n"
+
+-- the whole output: each client's answers, and the table
+abbrev pub text_of_run : List (List Numbered) → List (List Answered) → List Tree → List ℕ
+text_of_run files answers table = client_lines 1 files answers ++ table_text table

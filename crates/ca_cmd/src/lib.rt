@@ -1,0 +1,12 @@
+//! Command files, and answers as text.
+#![tactic(auto)]
+
+mod answer;
+mod fault;
+mod line;
+mod reading;
+
+pub use answer::{Answer, Played, show_reply, show_run};
+pub use fault::{FileFault, LineWhy};
+pub use line::{Line, Lines};
+pub use reading::read_file;

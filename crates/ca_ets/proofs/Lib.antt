@@ -1,0 +1,3 @@
+pub mod Merges
+pub mod Puts
+pub mod Tables

@@ -1,0 +1,5 @@
+use Rattle.ca_ets.proofs.Merges.{in_order, explained}
+use Rattle.ca_ets.proofs.laws.one_client.Goals as goal
+
+pub returns : goal.returns
+returns c = λ p commands answers table. (in_order p commands answers table, explained p commands answers table)

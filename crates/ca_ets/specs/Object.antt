@@ -1,0 +1,27 @@
+-- Objects, their keys, and what fits into a table.
+-- Source: the ets manual: an object is a tuple, and the option `keypos` names the element that is its key.
+use Rattle.std.specs.Prelude.{ℕ, Bool, false, nat_le, ◌-◌, length, slice_index_or}
+use Rattle.ca_term.specs.Tree.{Tree, Integer, Atom, Tuple, Nil, Cons, Binary, elements, size}
+use Rattle.ca_term.specs.Code.{code_of}
+
+-- a tuple with at least `keypos` elements
+abbrev pub is_object : ℕ → Tree → Bool
+is_object keypos (Integer n) = false
+is_object keypos (Atom text) = false
+is_object keypos (Tuple row) = nat_le keypos (size row)
+is_object keypos Nil = false
+is_object keypos (Cons head tail) = false
+is_object keypos (Binary bytes) = false
+
+-- an object's key: element number `keypos`, counted from 1
+abbrev pub key_of : ℕ → Tree → Tree
+key_of keypos (Integer n) = Nil
+key_of keypos (Atom text) = Nil
+key_of keypos (Tuple row) = slice_index_or (elements row) (keypos - 1) Nil
+key_of keypos Nil = Nil
+key_of keypos (Cons head tail) = Nil
+key_of keypos (Binary bytes) = Nil
+
+-- An object or a key fits where its byte code has at most 1,000 bytes.
+abbrev pub fits : Tree → Bool
+fits t = nat_le (length (code_of t)) 1000

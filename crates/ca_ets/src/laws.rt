@@ -1,0 +1,30 @@
+//! What follows from the definitions alone.
+ghost use Rattle.std.specs.Prelude.{◌≡◌, ℕ, List, [], ◌∷◌, ◌↔◌, replicate};
+ghost use Rattle.ca_term.specs.Tree.{Tree};
+ghost use Rattle.ca_ets.specs.Command.{Command, Answered};
+ghost use Rattle.ca_ets.specs.Explained.{Explained};
+ghost use Rattle.ca_ets.specs.InOrder.{IsInOrder};
+ghost use Rattle.ca_ets.specs.OrderedMap.{IsTable};
+
+/// A run of one client is explained exactly where its commands were run in order.
+pub fn one_client()
+    ensures { (keypos : ℕ) (commands : List Command) (answers : List Answered) (table : List Tree) →
+        Explained keypos (commands ∷ []) (answers ∷ []) table ↔ IsInOrder keypos commands answers table }
+{}
+
+/// No files at all, and nothing printed: the table is empty, and no other table explains it.
+pub fn no_files()
+    ensures { (keypos : ℕ) (table : List Tree) → Explained keypos [] [] table ↔ (table ≡ []) }
+{}
+
+/// Files without a command are explained by the empty table, and by no other.
+pub fn no_commands()
+    ensures { (keypos clients : ℕ) (table : List Tree) →
+        Explained keypos (replicate clients []) (replicate clients []) table ↔ (table ≡ []) }
+{}
+
+/// The table that a run ends with is an ordered map of objects that fit.
+pub fn tables_stay_ordered()
+    ensures { (keypos : ℕ) (files : List (List Command)) (answers : List (List Answered)) (table : List Tree) →
+        Explained keypos files answers table → IsTable keypos table }
+{}

@@ -1,0 +1,9 @@
+//! The calls of an `ordered_set` of Erlang's `ets`: commands, replies, the step of one thread, and what explains many
+//! clients' answers.
+#![tactic(auto)]
+
+mod command;
+mod laws;
+
+pub use command::{Cmd, Cont, Fault, Reply};
+pub use laws::{no_commands, no_files, one_client, tables_stay_ordered};
