@@ -14,7 +14,8 @@ const RESERVED: [&str; 29] = [
     "orelse", "receive", "rem", "try", "when", "xor",
 ];
 
-fn is_reserved(text: &str) -> bool
+/// Whether a text is a reserved word, which an atom shows in quotes.
+pub fn is_reserved(text: &str) -> bool
     ensures { result ≡ is_reserved text.now }
 {
     RESERVED.contains(&text)

@@ -6,6 +6,7 @@ mod binary;
 mod print;
 mod put;
 
+pub use atom::is_reserved;
 pub use print::{print_term, text_laws};
 
 #[cfg(test)]
