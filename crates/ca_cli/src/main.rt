@@ -12,9 +12,8 @@ mod words;
 use crate::status::Status;
 use crate::top::run;
 use ca_outside::{DirShelf, OutSink};
-use std::env;
-use std::io;
 use std::process::ExitCode;
+use std::{env, io};
 
 // The words after the program's name. Where one isn't text there is no command line: no words stand for that.
 fn words_given(rt: &HostRuntime) -> Result<Vec<String>, Status> {

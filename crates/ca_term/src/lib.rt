@@ -19,5 +19,5 @@ pub use order::{order_laws, term_order};
 pub use term::{Kind, Term};
 pub use terms::Terms;
 
-// cfg
-// mod tests;
+#[cfg(test)]
+mod tests;
