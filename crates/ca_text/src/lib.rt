@@ -1,0 +1,13 @@
+//! The printed text of terms, in Erlang's notation.
+#![tactic(auto)]
+
+mod atom;
+mod binary;
+mod print;
+mod put;
+
+pub use atom::is_reserved;
+pub use print::{print_term, text_laws};
+
+#[cfg(test)]
+mod tests;
