@@ -1,7 +1,11 @@
 pub mod Command
 pub mod Explained
 pub mod InOrder
+pub mod ListTableView
 pub mod Merge
 pub mod Object
 pub mod OrderedMap
+pub mod Place
 pub mod Step
+pub mod Stepped
+pub mod Table

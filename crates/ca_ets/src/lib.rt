@@ -4,6 +4,12 @@
 
 mod command;
 mod laws;
+mod object;
+mod table;
 
 pub use command::{Cmd, Cont, Fault, Reply};
 pub use laws::{no_commands, no_files, one_client, tables_stay_ordered};
+pub use table::ListTable;
+
+#[cfg(test)]
+mod tests;

@@ -1,5 +1,5 @@
 -- The bytes of a number without leading zeros, and how many there are.
-use Rattle.std.proofs.Common.{◌≡◌, ℕ, ◌≤◌, ◌<◌, ◌+◌, ◌-◌, ◌*◌, ◌/◌, ◌^◌, ◌==◌, suc, zero, List, [], ◌∷◌, length, arith, refl, ◌∙◌, ap, false, ◌⊎◌, inl, inr, ⊎_elim}
+use Rattle.std.proofs.Common.{◌≡◌, ℕ, ◌≤◌, ◌<◌, ◌+◌, ◌-◌, ◌*◌, ◌/◌, ◌^◌, ◌==◌, suc, zero, List, [], ◌∷◌, length, arith, refl, sym, ◌∙◌, ap, false, ◌⊎◌, inl, inr, ⊎_elim}
 use Rattle.std.proofs.lemmas.Bool.Decides.{nat_tests}
 use Rattle.std.proofs.lemmas.List.{length-map}
 use Rattle.std.proofs.lemmas.Nat.{leading_top, pow-add}
@@ -41,7 +41,7 @@ trim_at_other : (b : ℕ) (bs : List ℕ) → 0 < b → trim (b ∷ bs) ≡ b �
 trim_at_other zero bs h = absurd (omega arith)
 trim_at_other (suc b) bs h = trim_suc b bs
 
-below_or_not : (m n : ℕ) → (m < n) ⊎ (n ≤ m)
+pub below_or_not : (m n : ℕ) → (m < n) ⊎ (n ≤ m)
 below_or_not m zero = inr (omega arith)
 below_or_not zero (suc n) = inl (omega arith)
 below_or_not (suc m) (suc n) = ⊎_elim (λ h. inl (omega (arith, h))) (λ h. inr (omega (arith, h))) (below_or_not m n)
@@ -79,15 +79,24 @@ bytes_bits (suc k) =
     let e : 8 * suc k ≡ 8 * k + 8 = omega arith in
     rw (e, pow-add 2 (8 * k) 8, pow-suc 256 k, bytes_bits k)
 
+-- how many bytes a number has: 256 ^ count is at most the number, and 256 ^ (count + 1) above it
+pub record HasBytes (n count : ℕ) : Type 0 where
+  pub low : 256 ^ count ≤ n
+  pub high : n < 256 ^ suc count
+
+-- by its leading zeros
+pub byte_count : (n : ℕ) → 0 < n → n < 2 ^ 64 → (count : ℕ) × (count < 8) × HasBytes n count × ((71 - count_leading_zeros 64 n) / 8 ≡ suc count)
+byte_count n p h =
+    let t = leading_top 64 n p h in
+    let j : ℕ = t.0 in
+    let q : ℕ = j / 8 in
+    let low : 2 ^ (8 * q) ≤ 2 ^ j = pow-le-pow_right {n = 2} (omega arith) {i = 8 * q} {j = j} (omega arith) in
+    let high : 2 ^ suc j ≤ 2 ^ (8 * suc q) = pow-le-pow_right {n = 2} (omega arith) {i = suc j} {j = 8 * suc q} (omega arith) in
+    (q, omega (arith, t.1), record { low = omega (arith, bytes_bits q, t.2); high = omega (arith, bytes_bits (suc q), t.3) }, omega (arith, t.1))
+
 -- how many bytes a number of 64 bits has, by its leading zeros
 pub length_digits : (n : ℕ) → n < 2 ^ 64 → length (digits n) ≡ (71 - count_leading_zeros 64 n) / 8
 length_digits zero h = rw (digits_zero, leading_of_zero 64) refl
 length_digits (suc m) h =
-    let n : ℕ = suc m in
-    let t = leading_top 64 (suc m) (omega arith) h in
-    let j : ℕ = t.0 in
-    let q : ℕ = j / 8 in
-    let low : 256 ^ q ≤ suc m = (let p : 2 ^ (8 * q) ≤ 2 ^ j = pow-le-pow_right {n = 2} (omega arith) {i = 8 * q} {j = j} (omega arith) in omega (arith, bytes_bits q, t.2)) in
-    let high : suc m < 256 ^ suc q = (let p : 2 ^ suc j ≤ 2 ^ (8 * suc q) = pow-le-pow_right {n = 2} (omega arith) {i = suc j} {j = 8 * suc q} (omega arith) in omega (arith, bytes_bits (suc q), t.3)) in
-    let e : digits (suc m) ≡ bytes_high_first (suc q) (suc m) = digits_of q (suc m) (omega (arith, t.1)) low high in
-    ap length e ∙ length_high_first (suc q) (suc m) ∙ omega (arith, t.1)
+    let c = byte_count (suc m) (omega arith) h in
+    ap length (digits_of c.0 (suc m) c.1 c.2.low c.2.high) ∙ length_high_first (suc c.0) (suc m) ∙ sym c.3

@@ -1,6 +1,12 @@
+pub mod Bytes
 pub mod Cells
+pub mod Codes
+pub mod DigitBytes
+pub mod DigitOrder
 pub mod Digits
 pub mod Escapes
+pub mod Grammar
+pub mod IntCodes
 pub mod Lengths
 pub mod Numbers
 pub mod Rows

@@ -31,15 +31,15 @@ weighted_by p a b r s Greater h k e = let l : b < a = ranked a b Greater e in gr
 pub weighted : (p a b r s : ℕ) → r < p → s < p → nat_cmp (a * p + r) (b * p + s) ≡ ordering_then (nat_cmp a b) (nat_cmp r s)
 weighted p a b r s h k = weighted_by p a b r s (nat_cmp a b) h k refl
 
-base_pos : (k : ℕ) → 0 < 256 ^ k
+pub base_pos : (k : ℕ) → 0 < 256 ^ k
 base_pos zero = omega arith
 base_pos (suc k) = omega (arith, pow-suc 256 k, base_pos k)
 
-byte_is : (k n : ℕ) → byte_at k n ≡ n / 256 ^ k % 256
+pub byte_is : (k n : ℕ) → byte_at k n ≡ n / 256 ^ k % 256
 byte_is zero n = grind arith
 byte_is (suc k) n = refl
 
-split_high : (k n : ℕ) → n % 256 ^ suc k ≡ byte_at k n * 256 ^ k + n % 256 ^ k
+pub split_high : (k n : ℕ) → n % 256 ^ suc k ≡ byte_at k n * 256 ^ k + n % 256 ^ k
 split_high k n = rw (byte_is k n) (let p : 0 < 256 ^ k = base_pos k in let e : 256 ^ suc k ≡ 256 * 256 ^ k = omega (arith, pow-suc 256 k) in rw e (mod-mul n (omega arith) p))
 
 -- the last k bytes of two numbers

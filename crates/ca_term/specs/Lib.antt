@@ -1,6 +1,8 @@
 pub mod Cause
 pub mod Code
+pub mod CodeLaws
 pub mod Falls
+pub mod Grammar
 pub mod Kind
 pub mod Order
 pub mod Stored

@@ -1,0 +1,5 @@
+pub mod Commands
+pub mod LineCommands
+pub mod Outcomes
+pub mod Plays
+pub mod Printed

@@ -1,0 +1,37 @@
+-- The headline: what is printed is what one thread gives that runs a merge of the files' commands on an ordered set.
+use Rattle.std.specs.Prelude.{◌≡◌, ℕ, List, [], ◌∷◌, map}
+use Rattle.ca_term.specs.Tree.{Tree}
+use Rattle.ca_ets.specs.Command.{Answered, Replied, Full, Deep, Worn}
+use Rattle.ca_ets.specs.Explained.{Explained}
+use Rattle.ca_cmd.specs.File.{Numbered, commands_in, IsFileOf}
+use Rattle.ca_cmd.specs.Output.{text_of_run}
+
+-- Each file holds these lines.
+abbrev pub AreFilesOf : List (List ℕ) → List (List Numbered) → Type 0
+AreFilesOf [] [] = Unit {0}
+AreFilesOf [] (lines ∷ all) = ⊥
+AreFilesOf (file ∷ files) [] = ⊥
+AreFilesOf (file ∷ files) (lines ∷ all) = IsFileOf file lines × AreFilesOf files all
+
+-- No command was refused.
+abbrev pub AreReplies : List Answered → Type 0
+AreReplies [] = Unit {0}
+AreReplies (Replied response ∷ answers) = AreReplies answers
+AreReplies (Full ∷ answers) = ⊥
+AreReplies (Deep ∷ answers) = ⊥
+AreReplies (Worn ∷ answers) = ⊥
+
+abbrev pub AllAreReplies : List (List Answered) → Type 0
+AllAreReplies [] = Unit {0}
+AllAreReplies (answers ∷ all) = AreReplies answers × AllAreReplies all
+
+-- These bytes are the text of answers and of a table that are explained for the commands of these files, a file a client.
+-- No line is answered by a refusal.
+pub record IsAnswer (keypos : ℕ) (files : List (List ℕ)) (bytes : List ℕ) : Type 0 where
+  pub lines : List (List Numbered)
+  pub answers : List (List Answered)
+  pub table : List Tree
+  pub read : AreFilesOf files lines
+  pub explained : Explained keypos (map commands_in lines) answers table
+  pub unrefused : AllAreReplies answers
+  pub written : bytes ≡ text_of_run lines answers table

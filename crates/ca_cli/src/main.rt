@@ -1,0 +1,48 @@
+//! `ca run FILE`: reads a command file, runs its commands on a table that behaves as an `ordered_set` of Erlang's `ets`,
+//! and prints every answer and the final table.
+#![tactic(auto)]
+
+mod answer;
+mod message;
+mod play;
+mod status;
+mod top;
+mod words;
+
+use crate::status::Status;
+use crate::top::run;
+use ca_outside::{DirShelf, OutSink};
+use std::process::ExitCode;
+use std::{env, io};
+
+// The words after the program's name. Where one isn't text there is no command line: no words stand for that.
+fn words_given(rt: &HostRuntime) -> Result<Vec<String>, Status> {
+    let mut words = Vec::new(rt.alloc());
+    match env::args(rt) {
+        Ok(args) => {
+            for word in args.skip(1) {
+                let Ok(()) = words.push(word) else {
+                    return Err(Status::NoMemory);
+                };
+            }
+            Ok(words)
+        }
+        Err(e) if e.kind() == io::ErrorKind::InvalidData => Ok(words),
+        Err(_) => Err(Status::NoMemory),
+    }
+}
+
+fn main(rt: HostRuntime) -> ExitCode {
+    let status = match words_given(&rt) {
+        Ok(words) => {
+            let mut shelf = DirShelf::new(&rt);
+            let mut sink = OutSink::new(io::writer(&rt));
+            run(rt.alloc(), words.as_slice(), &mut shelf, &mut sink)
+        }
+        Err(status) => status,
+    };
+    ExitCode::from(status.code())
+}
+
+#[cfg(test)]
+mod tests;

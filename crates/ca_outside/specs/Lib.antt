@@ -1,0 +1,5 @@
+pub mod Count
+pub mod Drawer
+pub mod Known
+pub mod Output
+pub mod Tape

@@ -1,0 +1,19 @@
+//! Where files come from and where output goes.
+#![tactic(auto)]
+
+mod dir_shelf;
+mod drawer;
+mod out_sink;
+mod shelf;
+mod sink;
+mod tape;
+
+pub use dir_shelf::DirShelf;
+pub use drawer::{Drawer, SureDrawer};
+pub use out_sink::OutSink;
+pub use shelf::{FetchFault, Shelf};
+pub use sink::{Sink, SinkFailed, write_out};
+pub use tape::{SureTape, Tape};
+
+#[cfg(test)]
+mod tests;
