@@ -18,3 +18,6 @@ pub use laws::file_laws;
 pub use line::{Line, Lines};
 pub use output::{Played, show_run};
 pub use reading::read_file;
+
+#[cfg(test)]
+mod tests;
