@@ -1,4 +1,15 @@
-pub mod Integers
+pub mod FirstZero
+pub mod Lists
+pub mod Opened
 pub mod Parts
 pub mod Put
-pub mod FirstZero
+pub mod Sizes
+pub mod Starts
+pub mod Turned
+pub mod AtomParts
+pub mod BinaryParts
+pub mod Faults
+pub mod FirstBytes
+pub mod Unescaped
+pub mod Utf8
+pub mod TwosComplement
