@@ -1,19 +1,19 @@
 -- Where escaped texts are stuck.
 use Rattle.std.proofs.Common.{◌≡◌, ℕ, zero, suc, ◌≤◌, ◌<◌, ◌+◌, ◌-◌, true, List, [], ◌∷◌, ◌++◌, length, take, arith, refl, sym, ◌∙◌, ap, subst, append_assoc, append-nil, length-append, ◌⊎◌, inl, inr, ⊎_elim}
-use Rattle.std.proofs.str.Laws.{Scalar, Shape, of1, of2, of3, of4, shape, one, Follows, both, scalars-append}
+use Rattle.std.proofs.str.Laws.{Shape, of1, of2, of3, of4, shape, one, both, scalars-append}
 use lib.Utf8.{scalar, scalar_cases}
 use Rattle.std.proofs.lemmas.Str.{cons_from_encodes, encode_same, chars-encodes}
 use Rattle.std.specs.Char.{IsScalar, encode_utf8}
-use Rattle.std.specs.Str.{encode_utf8_all, all_scalars, IsUtf8, chars}
+use Rattle.std.specs.Str.{encode_utf8_all, all_scalars, IsUtf8}
 use Rattle.ca_term.specs.Tree.{Tree, Atom, IsTerm, IsNarrow, depth}
 use Rattle.ca_term.specs.Code.{code_of, escaped}
-use Rattle.ca_term.proofs.Escapes.{escaped_zero, escaped_suc, escaped_nil, same_escaped}
+use Rattle.ca_term.proofs.Escapes.{escaped_zero, escaped_suc, escaped_nil}
 use Rattle.ca_order.specs.Zeros.{HasNoZero, opened}
 use Rattle.ca_order.specs.Stuck.{IsStuck, IsRest}
 use Rattle.ca_order.specs.Languages.{HasText, HasChar, HasFollowing, IsNoLead}
 use Rattle.ca_order.specs.Reads.{BeginsWithText, BeginsWithTerm, BeginsWithWord}
-use Rattle.ca_order.proofs.Opened.{escaped_append, escaped_ends, opened_append, opened_no_zero, opened_zero, opened_suc, opened_nil, same_opened, escaped_after, same_head, same_second}
-use Rattle.ca_order.proofs.Starts.{stuck_here, stuck_at_end, stuck_behind, IsPrefixFree, Begins}
+use Rattle.ca_order.proofs.Opened.{escaped_append, escaped_ends, opened_append, opened_no_zero, opened_zero, opened_nil, same_opened, escaped_after, same_head, same_second}
+use Rattle.ca_order.proofs.Starts.{stuck_here, IsPrefixFree, Begins}
 use Rattle.ca_order.proofs.Parts.{code_atom}
 
 -- ---- characters
@@ -137,18 +137,24 @@ text_begins room x h = text_first room h.text x h.are_scalars h.code_is
 
 -- any character goes on as a text
 char_text : (c room : ℕ) (u : List ℕ) → IsScalar c → 1 ≤ room → u ≡ encode_utf8 c → (v : List ℕ) × HasText room (u ++ v)
-char_text zero room u h r e = (0xff ∷ 0 ∷ 0 ∷ [], record {
-  text = 0 ∷ [];
-  are_scalars = refl;
-  short = omega arith;
-  code_is = ap (λ y. y ++ 0xff ∷ 0 ∷ 0 ∷ []) (e ∙ encode_zero) ∙ sym (ap (λ y. escaped (y ++ [])) encode_zero ∙ escaped_zero [] ∙ (λ i. 0 ∷ 0xff ∷ escaped_nil i));
-})
-char_text (suc c) room u h r e = (0 ∷ 0 ∷ [], record {
-  text = suc c ∷ [];
-  are_scalars = rw h refl;
-  short = omega arith;
-  code_is = ap (λ y. y ++ 0 ∷ 0 ∷ []) (e ∙ sym (opened_char (suc c) h (omega arith)) ∙ ap opened (sym (append-nil (encode_utf8 (suc c))))) ∙ sym (escaped_ends (encode_utf8 (suc c) ++ []));
-})
+char_text zero room u h r e = (
+  0xff ∷ 0 ∷ 0 ∷ [],
+  record {
+    text = 0 ∷ [];
+    are_scalars = refl;
+    short = omega arith;
+    code_is = ap (λ y. y ++ 0xff ∷ 0 ∷ 0 ∷ []) (e ∙ encode_zero) ∙ sym (ap (λ y. escaped (y ++ [])) encode_zero ∙ escaped_zero [] ∙ (λ i. 0 ∷ 0xff ∷ escaped_nil i));
+  },
+)
+char_text (suc c) room u h r e = (
+  0 ∷ 0 ∷ [],
+  record {
+    text = suc c ∷ [];
+    are_scalars = rw h refl;
+    short = omega arith;
+    code_is = ap (λ y. y ++ 0 ∷ 0 ∷ []) (e ∙ sym (opened_char (suc c) h (omega arith)) ∙ ap opened (sym (append-nil (encode_utf8 (suc c))))) ∙ sym (escaped_ends (encode_utf8 (suc c) ++ []));
+  },
+)
 
 pub text_goes_on : (room : ℕ) (u : List ℕ) → 1 ≤ room → HasChar u → (v : List ℕ) × HasText room (u ++ v)
 text_goes_on room u r h = char_text h.char room u h.is_scalar r h.code_is
@@ -167,7 +173,7 @@ stuck_following zero least most bytes p h n = absurd (omega arith)
 stuck_following (suc count) least most bytes p h n =
     let w = following_word count 0x80 0xbf (omega arith) in
     stuck_here (HasFollowing (suc count) least most) bytes least w.0 (least, w.0, omega arith, h, refl, w.1)
-      (λ b more rest e v. let k = first_between count least most b rest v in n b more e k.0 k.1)
+    (λ b more rest e v. let k = first_between count least most b rest v in n b more e k.0 k.1)
 
 pub following_rest : (count least most b : ℕ) → 1 ≤ count → least ≤ b → b ≤ most → IsRest (HasFollowing count least most) (b ∷ []) (HasFollowing (count - 1) 0x80 0xbf)
 following_rest zero least most b p h k = absurd (omega arith)

@@ -1,9 +1,9 @@
 -- Where escaped bytes are stuck.
-use Rattle.std.proofs.Common.{◌≡◌, ℕ, zero, suc, ◌≤◌, ◌<◌, ◌+◌, ◌-◌, List, [], ◌∷◌, ◌++◌, length, take, arith, refl, sym, ◌∙◌, ap, subst, append_assoc, append-nil, length-append}
+use Rattle.std.proofs.Common.{◌≡◌, ℕ, zero, suc, ◌≤◌, ◌-◌, List, [], ◌∷◌, ◌++◌, length, take, arith, refl, sym, ◌∙◌, ap, subst, append_assoc, length-append}
 use Rattle.ca_term.specs.Tree.{AreBytes}
 use Rattle.ca_term.specs.Code.{escaped}
 use Rattle.ca_term.proofs.DigitBytes.{head_byte, tail_bytes, cons_bytes, no_bytes}
-use Rattle.ca_term.proofs.Escapes.{escaped_zero, escaped_suc, escaped_nil, same_escaped}
+use Rattle.ca_term.proofs.Escapes.{escaped_zero, escaped_suc, escaped_nil}
 use Rattle.ca_order.specs.Zeros.{HasNoZero, opened}
 use Rattle.ca_order.specs.Stuck.{IsStuck, IsRest}
 use Rattle.ca_order.specs.Languages.{HasBytes}
@@ -11,8 +11,8 @@ use Rattle.ca_order.specs.Reads.{BeginsWithBytes, BeginsWithTerm}
 use Rattle.ca_term.specs.Tree.{Tree, Binary, IsTerm, depth}
 use Rattle.ca_term.specs.Code.{code_of}
 use Rattle.ca_order.proofs.Parts.{code_binary}
-use Rattle.ca_order.proofs.Opened.{escaped_append, escaped_ends, opened_append, opened_no_zero, opened_zero, opened_suc, opened_nil, behind_zero, no_zero_opened, same_opened, escaped_after, same_head, same_second}
-use Rattle.ca_order.proofs.Starts.{stuck_here, stuck_at_end, stuck_behind}
+use Rattle.ca_order.proofs.Opened.{escaped_append, escaped_ends, opened_append, opened_no_zero, opened_zero, opened_nil, same_opened, escaped_after, same_head, same_second}
+use Rattle.ca_order.proofs.Starts.{stuck_at_end, stuck_behind}
 
 pub bytes_append : (xs ys : List ℕ) → AreBytes xs → AreBytes ys → AreBytes (xs ++ ys)
 bytes_append [] ys h k = k

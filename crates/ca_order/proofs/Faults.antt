@@ -1,5 +1,5 @@
 -- Faults of readers, by the parts of what they read.
-use Rattle.std.proofs.Common.{◌≡◌, ℕ, List, [], ◌∷◌, ◌++◌, length, refl, sym, subst}
+use Rattle.std.proofs.Common.{◌≡◌, ℕ, List, ◌++◌, length, refl, sym, subst}
 use Rattle.ca_order.specs.declared.fault.ReadFault.{ReadFault}
 use Rattle.ca_order.specs.declared.fault.ReadFault.TheVariants.{Stuck, NoMemory}
 use Rattle.ca_order.specs.Stuck.{IsStuck, IsRest}

@@ -1,16 +1,16 @@
 -- What the first byte of a code says, and what may follow it.
-use Rattle.std.proofs.Common.{◌≡◌, ℕ, zero, suc, ◌≤◌, ◌<◌, ◌+◌, ◌-◌, ◌^◌, max, ℤ, pos, negsuc, true, false, List, [], ◌∷◌, ◌++◌, length, arith, refl, sym, ◌∙◌, ap, subst, append_assoc, append-nil}
+use Rattle.std.proofs.Common.{◌≡◌, ℕ, zero, suc, ◌≤◌, ◌<◌, ◌+◌, ◌-◌, ◌^◌, pos, negsuc, true, false, List, [], ◌∷◌, ◌++◌, length, arith, refl, sym, ◌∙◌, ap, subst}
 use Rattle.std.specs.Prelude.{FitsSigned}
 use Rattle.std.specs.Int.{w64}
-use Rattle.std.specs.Str.{IsUtf8, chars, encode_utf8_all, all_scalars}
+use Rattle.std.specs.Str.{IsUtf8, chars, encode_utf8_all}
 use Rattle.std.proofs.lemmas.Str.{chars-encodes}
 use Rattle.ca_term.specs.Tree.{Tree, Row, Integer, Atom, Tuple, Nil, Cons, Binary, Ends, More, size, depth, row_depth, IsNarrow, IsNarrowRow}
 use Rattle.ca_term.specs.Code.{code_of, row_code, int_code, digits, complement, escaped, four_bytes}
 use Rattle.ca_term.proofs.Codes.{same_code, prefix_free}
-use Rattle.ca_term.proofs.Digits.{digits_shorter, length_complement}
+use Rattle.ca_term.proofs.Digits.{digits_shorter}
 use Rattle.ca_term.proofs.DigitBytes.{digits_number, number_word, are_digits}
 use Rattle.ca_term.proofs.Grammar.{deep}
-use Rattle.ca_term.proofs.IntCodes.{IsWord, word}
+use Rattle.ca_term.proofs.IntCodes.{word}
 use Rattle.ca_term.specs.Grammar.{AreDigits, number}
 use Rattle.ca_order.specs.Languages.{HasTerm, HasRow, HasTuple, HasDigits, HasBytes, HasText}
 use Rattle.ca_order.specs.Stuck.{IsRest}
@@ -61,8 +61,8 @@ unfolding code_of
 atom_rest l = record {
   into = λ x h. atom_by x h.term h.narrow (tagged h.term 0x30 x h.code_is);
   back = λ x h.
-    let u : IsUtf8 (encode_utf8_all h.text) = (h.text, (h.are_scalars, refl)) in
-    record { term = Atom (encode_utf8_all h.text); shallow = omega arith; narrow = (u, omega (arith, h.short, ap length (chars-encodes h.text h.are_scalars))); code_is = ap (λ (y : List ℕ). 0x30 ∷ y) h.code_is };
+      let u : IsUtf8 (encode_utf8_all h.text) = (h.text, (h.are_scalars, refl)) in
+      record { term = Atom (encode_utf8_all h.text); shallow = omega arith; narrow = (u, omega (arith, h.short, ap length (chars-encodes h.text h.are_scalars))); code_is = ap (λ (y : List ℕ). 0x30 ∷ y) h.code_is };
 }
 
 -- ---- binaries
@@ -266,3 +266,29 @@ unfolding row_code
 row_goes_on l n u h =
     let v = nil_row l n (omega (arith, deep h.term, h.shallow)) in
     (v.0, record { row = More h.term v.1.row; shallow = omega (arith, h.shallow, v.1.shallow); narrow = (h.narrow, v.1.narrow); many = omega (arith, v.1.many); code_is = rw (h.code_is, v.1.code_is) refl })
+
+-- ---- bytes that begin no code
+
+pub record IsNoTag (levels b : ℕ) : Type 0 where
+  pub no_int : 0x17 ≤ b → b ≤ 0x28 → ⊥
+  pub no_atom : b ≡ 0x30 → ⊥
+  pub no_tuple : b ≡ 0x40 → ⊥
+  pub no_nil : b ≡ 0x60 → ⊥
+  pub no_cons : 2 ≤ levels → b ≡ 0x70 → ⊥
+  pub no_binary : b ≡ 0x80 → ⊥
+
+no_tag_by : (levels b : ℕ) (x : List ℕ) (t : Tree) → depth t ≤ levels → Tagged b x t → IsNoTag levels b → ⊥
+no_tag_by levels b x _ d (is_pos k e f) n = n.no_int (omega (arith, e)) (omega (arith, e, digits_shorter k))
+no_tag_by levels b x _ d (is_neg k e f) n = n.no_int (omega (arith, e, digits_shorter k)) (omega (arith, e))
+no_tag_by levels b x _ d (is_atom text e f) n = n.no_atom e
+no_tag_by levels b x _ d (is_tuple row e f) n = n.no_tuple e
+no_tag_by levels b x _ d (is_nil e f) n = n.no_nil e
+no_tag_by levels b x _ d (is_cons head tail e f) n = n.no_cons (omega (arith, deep head)) e
+no_tag_by levels b x _ d (is_binary bytes e f) n = n.no_binary e
+
+pub no_tag : (levels b : ℕ) (x : List ℕ) → IsNoTag levels b → HasTerm levels (b ∷ x) → ⊥
+no_tag levels b x n h = no_tag_by levels b x h.term h.shallow (tagged h.term b x h.code_is) n
+
+pub has_nil : (levels : ℕ) → 1 ≤ levels → HasTerm levels (0x60 ∷ [])
+unfolding code_of
+has_nil levels h = record { term = Nil; shallow = h; narrow = tt; code_is = refl }

@@ -1,4 +1,5 @@
 pub mod FirstZero
+pub mod Lasts
 pub mod Lists
 pub mod Opened
 pub mod Parts
@@ -8,6 +9,7 @@ pub mod Starts
 pub mod Turned
 pub mod AtomParts
 pub mod BinaryParts
+pub mod Decoded
 pub mod Faults
 pub mod FirstBytes
 pub mod Unescaped

@@ -1,12 +1,12 @@
 -- Lists are read head by head, and rows item by item.
 use Rattle.std.proofs.Common.{◌≡◌, ℕ, zero, suc, ◌≤◌, ◌<◌, ◌+◌, ◌-◌, max, List, [], ◌∷◌, ◌++◌, length, arith, refl, sym, ◌∙◌, ap, subst, append_assoc, append-nil, length-append}
 use Rattle.ca_order.specs.declared.fault.ReadFault.{ReadFault}
-use Rattle.ca_term.specs.Tree.{Tree, Row, Tuple, Cons, Ends, More, row_of, size, depth, row_depth, IsTerm, IsNarrow, IsNarrowRow, AreTerms}
+use Rattle.ca_term.specs.Tree.{Tree, Tuple, Cons, Ends, row_of, size, depth, row_depth, IsTerm, IsNarrow, AreTerms}
 use Rattle.ca_term.specs.Code.{code_of, row_code, four_bytes}
 use Rattle.ca_term.proofs.Rows.{size_row, narrow_row, AreTerms_push}
 use Rattle.ca_order.specs.Cells.{cells, heads_code, AreShallow}
-use Rattle.ca_order.specs.Stuck.{IsStuck, IsRest}
-use Rattle.ca_order.specs.Languages.{HasTerm, HasTuple, HasRow}
+use Rattle.ca_order.specs.Stuck.{IsRest}
+use Rattle.ca_order.specs.Languages.{HasTerm, HasRow}
 use Rattle.ca_order.specs.Reads.{IsReadFault, BeginsWithTerm, BeginsWithRow}
 use Rattle.ca_order.proofs.Parts.{code_cons, code_tuple}
 use Rattle.ca_order.proofs.FirstBytes.{HasCell, cons_rest, tail_rest, terms_prefix_free, cell_begins, cell_goes_on, row_rest, row_begins, row_goes_on}
@@ -39,7 +39,7 @@ heads_rest : (l : ℕ) (hs : List Tree) → AreShallow l hs → IsRest (HasTerm 
 heads_rest l [] a = rest_same (HasTerm (suc l))
 heads_rest l (h ∷ hs) a =
     rest_then (HasTerm (suc l)) (HasTerm (suc l)) (HasTerm (suc l)) (0x70 ∷ code_of h) (heads_code hs)
-      (rest_then (HasTerm (suc l)) (HasCell l) (HasTerm (suc l)) (0x70 ∷ []) (code_of h) (cons_rest l) (tail_rest l h a.0 a.1.narrow)) (heads_rest l hs a.2)
+    (rest_then (HasTerm (suc l)) (HasCell l) (HasTerm (suc l)) (0x70 ∷ []) (code_of h) (cons_rest l) (tail_rest l h a.0 a.1.narrow)) (heads_rest l hs a.2)
 
 -- how far a list was read
 pub record IsHeads (levels : ℕ) (bytes : List ℕ) (heads : List Tree) (rest : List ℕ) : Type 0 where
@@ -68,8 +68,8 @@ head_fault zero rest inside e l p f = absurd (omega arith)
 head_fault (suc l) rest inside e k p f =
     let n : suc l - 1 ≡ l = omega arith in
     fault_same (HasTerm (suc l)) rest (0x70 ∷ inside) e p
-      (fault_behind (HasTerm (suc l)) (HasCell l) (0x70 ∷ []) inside e (cons_rest l)
-        (fault_first (HasTerm l) (HasCell l) inside e (terms_prefix_free l) (cell_begins l) (cell_goes_on l) (subst (λ (x : ℕ). IsReadFault (HasTerm x) inside e) n f)))
+    (fault_behind (HasTerm (suc l)) (HasCell l) (0x70 ∷ []) inside e (cons_rest l)
+    (fault_first (HasTerm l) (HasCell l) inside e (terms_prefix_free l) (cell_begins l) (cell_goes_on l) (subst (λ (x : ℕ). IsReadFault (HasTerm x) inside e) n f)))
 
 cells_code : (hs : List Tree) (t : Tree) → code_of (cells hs t) ≡ heads_code hs ++ code_of t
 cells_code [] t = refl
@@ -127,15 +127,15 @@ unfolding row_code
 items_rest l m [] d b = subst (λ (n : ℕ). IsRest (HasRow l n) [] (HasRow l m)) (let e : m ≡ 0 + m = omega arith in e) (rest_same (HasRow l m))
 items_rest l m (t ∷ ts) d b =
     subst (λ (n : ℕ). IsRest (HasRow l n) (code_of t ++ row_code (row_of ts)) (HasRow l m)) (let e : suc (length ts + m) ≡ length (t ∷ ts) + m = omega arith in e)
-      (rest_then (HasRow l (suc (length ts + m))) (HasRow l (length ts + m)) (HasRow l m) (code_of t) (row_code (row_of ts)) (row_rest l (length ts + m) t (omega arith) b.0.narrow) (items_rest l m ts (omega arith) b.1))
+    (rest_then (HasRow l (suc (length ts + m))) (HasRow l (length ts + m)) (HasRow l m) (code_of t) (row_code (row_of ts)) (row_rest l (length ts + m) t (omega arith) b.0.narrow) (items_rest l m ts (omega arith) b.1))
 
 pub item_fault : (levels k count : ℕ) (bytes : List ℕ) (items : List Tree) (rest : List ℕ) (e : ReadFault) → k < count → BeginsWithRow levels k bytes items rest → IsReadFault (HasTerm levels) rest e → IsReadFault (HasRow levels count) bytes e
 item_fault levels k count bytes items rest e h r f =
     let n : length items + suc (count - k - 1) ≡ count = omega (arith, r.many) in
     let q : IsRest (HasRow levels count) (row_code (row_of items)) (HasRow levels (suc (count - k - 1))) = subst (λ (x : ℕ). IsRest (HasRow levels x) (row_code (row_of items)) (HasRow levels (suc (count - k - 1)))) n (items_rest levels (suc (count - k - 1)) items r.shallow r.bounded) in
     fault_same (HasRow levels count) bytes (row_code (row_of items) ++ rest) e r.parts
-      (fault_behind (HasRow levels count) (HasRow levels (suc (count - k - 1))) (row_code (row_of items)) rest e q
-        (fault_first (HasTerm levels) (HasRow levels (suc (count - k - 1))) rest e (terms_prefix_free levels) (row_begins levels (count - k - 1)) (row_goes_on levels (count - k - 1)) f))
+    (fault_behind (HasRow levels count) (HasRow levels (suc (count - k - 1))) (row_code (row_of items)) rest e q
+    (fault_first (HasTerm levels) (HasRow levels (suc (count - k - 1))) rest e (terms_prefix_free levels) (row_begins levels (count - k - 1)) (row_goes_on levels (count - k - 1)) f))
 
 -- the tuple of a row
 pub begins_tuple : (levels count : ℕ) (bytes inside : List ℕ) (items : List Tree) (rest : List ℕ) (t : Tree) → levels ≤ 191 → count ≤ 120 → bytes ≡ four_bytes count ++ inside → BeginsWithRow levels count inside items rest → t ≡ Tuple (row_of items) → BeginsWithTerm (levels + 1) (0x40 ∷ bytes) t rest

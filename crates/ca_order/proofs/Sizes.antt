@@ -1,7 +1,7 @@
 -- Where the size of a tuple is stuck.
-use Rattle.std.proofs.Common.{◌≡◌, ℕ, zero, suc, ◌≤◌, ◌<◌, ◌+◌, ◌/◌, ◌%◌, List, [], ◌∷◌, ◌++◌, length, arith, refl, sym, ◌∙◌, ap, subst, append_assoc, append-nil, length-append}
+use Rattle.std.proofs.Common.{◌≡◌, ℕ, zero, suc, ◌≤◌, ◌+◌, ◌/◌, ◌%◌, List, [], ◌∷◌, ◌++◌, arith, refl, sym, ◌∙◌, ap, subst}
 use Rattle.ca_order.specs.declared.fault.ReadFault.{ReadFault}
-use Rattle.ca_term.specs.Tree.{Row, Ends, More, size, depth, row_depth}
+use Rattle.ca_term.specs.Tree.{Row, Ends, More, size, row_depth}
 use Rattle.ca_term.specs.Code.{four_bytes, row_code}
 use Rattle.ca_term.proofs.Grammar.{deep}
 use Rattle.ca_order.specs.Stuck.{IsStuck, IsRest}
@@ -60,7 +60,7 @@ pub zero_fault : (k z most : ℕ) (bytes rest : List ℕ) (e : ReadFault) → k 
 zero_fault k z most bytes rest e n f h =
     let q : IsRest (HasSize 3 most) (zero_bytes k) (HasSize (suc z) most) = subst (λ (x : ℕ). IsRest (HasSize x most) (zero_bytes k) (HasSize (suc z) most)) n (zeros_rest k (suc z) most) in
     fault_same (HasSize 3 most) bytes (zero_bytes k ++ rest) e f
-      (fault_behind (HasSize 3 most) (HasSize (suc z) most) (zero_bytes k) rest e q (fault_first (HasSize 0 0) (HasSize (suc z) most) rest e (byte_prefix_free 0) (zero_begins z most) (zero_goes_on z most) h))
+    (fault_behind (HasSize 3 most) (HasSize (suc z) most) (zero_bytes k) rest e q (fault_first (HasSize 0 0) (HasSize (suc z) most) rest e (byte_prefix_free 0) (zero_begins z most) (zero_goes_on z most) h))
 
 pub last_fault : (most : ℕ) (bytes rest : List ℕ) (e : ReadFault) → bytes ≡ zero_bytes 3 ++ rest → IsReadFault (HasSize 0 most) rest e → IsReadFault (HasSize 3 most) bytes e
 last_fault most bytes rest e f h = fault_same (HasSize 3 most) bytes (zero_bytes 3 ++ rest) e f (fault_behind (HasSize 3 most) (HasSize 0 most) (zero_bytes 3) rest e (zeros_rest 3 0 most) h)
@@ -126,9 +126,9 @@ size_fault levels bytes e h = fault_first (HasSize 3 (most_elements levels)) (Ha
 pub elements_rest : (levels n : ℕ) → n ≤ 120 → IsRest (HasTuple levels) (four_bytes n) (HasRow levels n)
 elements_rest levels n h = record {
   into = λ x w.
-    let e : 0 ∷ 0 ∷ 0 ∷ n ∷ x ≡ 0 ∷ 0 ∷ 0 ∷ w.count ∷ w.elements = ap (λ y. y ++ x) (sym (four_small n h)) ∙ w.code_is ∙ ap (λ y. y ++ w.elements) (four_small w.count w.fits) in
-    let same : w.count ≡ n = cc in
-    let rest : w.elements ≡ x = cc in
-    subst (HasRow levels n) rest (subst (λ (k : ℕ). HasRow levels k w.elements) same w.row);
+      let e : 0 ∷ 0 ∷ 0 ∷ n ∷ x ≡ 0 ∷ 0 ∷ 0 ∷ w.count ∷ w.elements = ap (λ y. y ++ x) (sym (four_small n h)) ∙ w.code_is ∙ ap (λ y. y ++ w.elements) (four_small w.count w.fits) in
+      let same : w.count ≡ n = cc in
+      let rest : w.elements ≡ x = cc in
+      subst (HasRow levels n) rest (subst (λ (k : ℕ). HasRow levels k w.elements) same w.row);
   back = λ x w. record { count = n; fits = h; elements = x; row = w; code_is = refl };
 }

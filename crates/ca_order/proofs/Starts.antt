@@ -1,5 +1,5 @@
 -- Where bytes are stuck in a word, by the parts of the word.
-use Rattle.std.proofs.Common.{◌≡◌, ℕ, zero, suc, ◌≤◌, ◌<◌, ◌+◌, ◌-◌, List, [], ◌∷◌, ◌++◌, length, take, drop, arith, refl, sym, ◌∙◌, ap, subst, append_assoc, append-nil, length-append, ◌⊎◌, inl, inr, ⊎_elim}
+use Rattle.std.proofs.Common.{◌≡◌, ℕ, zero, suc, ◌≤◌, ◌<◌, ◌+◌, ◌-◌, List, [], ◌∷◌, ◌++◌, length, take, arith, refl, sym, ◌∙◌, ap, subst, append_assoc, append-nil, length-append, ◌⊎◌, inl, inr, ⊎_elim}
 use Rattle.ca_order.specs.Stuck.{IsStuck, IsLongestStart, IsRest}
 
 -- no word is a proper start of another one
@@ -62,12 +62,12 @@ stuck_first H L bytes behind free split extend s =
       rest = s.rest ++ more.0;
       begins = subst L (append_assoc s.done (s.next ∷ s.rest) more.0) more.1;
       no_longer = λ b after rest e h.
-        let w = split (s.done ++ b ∷ rest) h in
-        let parts : s.done ++ b ∷ rest ≡ w.word ++ w.rest = w.parts in
-        ⊎_elim
+          let w = split (s.done ++ b ∷ rest) h in
+          let parts : s.done ++ b ∷ rest ≡ w.word ++ w.rest = w.parts in
+          ⊎_elim
           (λ le. let z = longer w.word w.rest s.done (b ∷ rest) (sym parts) le in
-            let again : H (w.word ++ (z.0 ++ s.next ∷ s.rest)) = subst H (append_assoc w.word z.0 (s.next ∷ s.rest)) (subst (λ (x : List ℕ). H (x ++ s.next ∷ s.rest)) z.1 s.begins) in
-            no_end z.0 s.next s.rest (free w.word (z.0 ++ s.next ∷ s.rest) w.is_word again))
+          let again : H (w.word ++ (z.0 ++ s.next ∷ s.rest)) = subst H (append_assoc w.word z.0 (s.next ∷ s.rest)) (subst (λ (x : List ℕ). H (x ++ s.next ∷ s.rest)) z.1 s.begins) in
+          no_end z.0 s.next s.rest (free w.word (z.0 ++ s.next ∷ s.rest) w.is_word again))
           (λ lt. let z = longer s.done (b ∷ rest) w.word w.rest parts (omega arith) in in_word s.done b rest w.word w.rest z.0 z.1 z.2 lt (λ r f. s.no_longer b after r e (subst H f w.is_word)))
           (compare_lengths (length w.word) (length s.done));
     }

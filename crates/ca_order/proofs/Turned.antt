@@ -1,11 +1,11 @@
 -- Digits that stand as they are or complemented, and where they are stuck.
-use Rattle.std.proofs.Common.{◌≡◌, ℕ, zero, suc, ◌≤◌, ◌<◌, ◌+◌, ◌-◌, ◌*◌, ◌^◌, Bool, true, false, List, [], ◌∷◌, ◌++◌, length, map, take, drop, get_or, arith, add-one, refl, sym, ◌∙◌, ap, subst, length-append, take-append-drop, append-nil}
+use Rattle.std.proofs.Common.{◌≡◌, ℕ, zero, suc, ◌≤◌, ◌<◌, ◌+◌, ◌-◌, ◌*◌, ◌^◌, Bool, true, false, List, [], ◌∷◌, ◌++◌, length, take, get_or, arith, add-one, refl, sym, ◌∙◌, ap, subst, length-append}
 use Rattle.std.proofs.lemmas.List.{take_more}
-use Rattle.std.proofs.Math.Nat.{pow-suc, pow-le-pow_right, mul-le-mul_left}
+use Rattle.std.proofs.Math.Nat.{pow-suc, pow-le-pow_right}
 use Rattle.ca_term.specs.Tree.{AreBytes}
 use Rattle.ca_term.specs.Code.{complement}
 use Rattle.ca_term.specs.Grammar.{AreDigits, number}
-use Rattle.ca_term.proofs.DigitBytes.{head_byte, tail_bytes, cons_bytes, no_bytes, number_below}
+use Rattle.ca_term.proofs.DigitBytes.{head_byte, tail_bytes, cons_bytes, no_bytes}
 use Rattle.ca_order.specs.Stuck.{IsStuck}
 use Rattle.ca_order.specs.Languages.{HasDigits, CanBegin, turned, turned_byte}
 use Rattle.ca_order.specs.Reads.{BeginsWithDigits}
@@ -109,13 +109,13 @@ pub stuck_first_digit : (neg : Bool) (len : ℕ) (bytes : List ℕ) → 1 ≤ le
 stuck_first_digit neg zero bytes l m h = absurd (omega arith)
 stuck_first_digit neg (suc k) bytes l m h =
     stuck_here (HasDigits neg (suc k)) bytes (turned_byte neg 1) (turned neg (zeros k))
-      (record {
-        digits = 1 ∷ zeros k;
-        are_digits = are_digits_by 1 (zeros k) (suc k) (omega (arith, length_zeros k)) m (omega arith, λ _. omega arith) (cons_bytes 1 (zeros k) (omega arith) (bytes_zeros k));
-        many = omega (arith, length_zeros k);
-        code_is = sym (turned_cons neg 1 (zeros k));
-      })
-      (λ b more rest e w. h b more e (first_fits neg (suc k) b rest w.digits l w.are_digits w.many w.code_is))
+    (record {
+      digits = 1 ∷ zeros k;
+      are_digits = are_digits_by 1 (zeros k) (suc k) (omega (arith, length_zeros k)) m (omega arith, λ _. omega arith) (cons_bytes 1 (zeros k) (omega arith) (bytes_zeros k));
+      many = omega (arith, length_zeros k);
+      code_is = sym (turned_cons neg 1 (zeros k));
+    })
+    (λ b more rest e w. h b more e (first_fits neg (suc k) b rest w.digits l w.are_digits w.many w.code_is))
 
 more_digits : (neg : Bool) (len k : ℕ) (b : ℕ) (more : List ℕ) → length (b ∷ more) + suc k ≡ len → len ≤ 8 → AreBytes (b ∷ more) → CanBegin (turned_byte neg b) len → HasDigits neg len ((b ∷ more) ++ turned_byte neg 0 ∷ turned neg (zeros k))
 more_digits neg len k b more e l h c =
@@ -133,7 +133,7 @@ more_digits neg len k b more e l h c =
 pub stuck_short : (neg : Bool) (len b : ℕ) (more : List ℕ) → length (b ∷ more) < len → len ≤ 8 → AreBytes (b ∷ more) → CanBegin (turned_byte neg b) len → IsStuck (HasDigits neg len) (b ∷ more) []
 stuck_short neg len b more h l a c =
     stuck_at_end (HasDigits neg len) (b ∷ more) (turned_byte neg 0) (turned neg (zeros (len - length (b ∷ more) - 1)))
-      (more_digits neg len (len - length (b ∷ more) - 1) b more (omega arith) l a c)
+    (more_digits neg len (len - length (b ∷ more) - 1) b more (omega arith) l a c)
 
 -- enough digits
 pub begins_with_digits : (neg : Bool) (len b : ℕ) (digits rest bytes : List ℕ) (value : ℕ) → bytes ≡ digits ++ rest → length digits ≡ len → 1 ≤ len → len ≤ 8 → AreBytes digits → ((b : ℕ) (more : List ℕ) → bytes ≡ b ∷ more → CanBegin (turned_byte neg b) len) → value ≡ number (turned neg digits) → BeginsWithDigits neg len bytes value rest

@@ -1,8 +1,8 @@
 -- The bytes of a character, by its first one.
-use Rattle.std.proofs.Common.{◌≡◌, ℕ, zero, suc, ◌≤◌, ◌<◌, ◌+◌, ◌-◌, ◌*◌, ◌/◌, ◌%◌, true, List, [], ◌∷◌, ◌++◌, length, arith, refl, sym, ◌∙◌, ap, subst, ◌⊎◌, inl, inr, ⊎_elim}
+use Rattle.std.proofs.Common.{◌≡◌, ℕ, ◌≤◌, ◌<◌, ◌+◌, ◌-◌, ◌*◌, ◌/◌, ◌%◌, List, [], ◌∷◌, length, arith, refl, sym, ◌∙◌, ap, subst, ◌⊎◌, inl, inr, ⊎_elim}
 use Rattle.std.proofs.str.Laws.{Scalar, Shape, of1, of2, of3, of4, shape, order, one, two, three, four, Follows}
 use Rattle.std.proofs.str.Digits.{high_scalar}
-use lib.Utf8.{scalar, scalar_cases, low_scalar}
+use lib.Utf8.{scalar_cases, low_scalar}
 use Rattle.std.specs.Char.{IsScalar, encode_utf8}
 use Rattle.ca_order.specs.Stuck.{IsRest}
 use Rattle.ca_order.specs.Languages.{HasChar, HasFollowing, IsNoLead}
@@ -203,7 +203,7 @@ pub rest_four : (lead least most : ℕ) → Fours lead least most → IsRest Has
 rest_four lead least most t = record {
   into = λ x w. four_into lead least most w.char x t (below_top w.char (scalar_cases w.char w.is_scalar)) (split lead x w);
   back = λ x w. let v = w.5 in let u = v.5 in
-    subst HasChar (λ i. lead ∷ sym (w.4 ∙ ap (λ (y : List ℕ). w.0 ∷ y) (v.4 ∙ ap (λ (y : List ℕ). v.0 ∷ y) (u.4 ∙ ap (λ (y : List ℕ). u.0 ∷ y) u.5))) i) (four_back lead least most w.0 v.0 u.0 t w.2 w.3 v.2 v.3 u.2 u.3);
+      subst HasChar (λ i. lead ∷ sym (w.4 ∙ ap (λ (y : List ℕ). w.0 ∷ y) (v.4 ∙ ap (λ (y : List ℕ). v.0 ∷ y) (u.4 ∙ ap (λ (y : List ℕ). u.0 ∷ y) u.5))) i) (four_back lead least most w.0 v.0 u.0 t w.2 w.3 v.2 v.3 u.2 u.3);
 }
 
 pub fours_f0 : Fours 0xf0 0x90 0xbf

@@ -1,5 +1,5 @@
 -- What the reader of codes meets, as languages of bytes: codes, and what stands inside them behind their first byte.
-use Rattle.std.specs.Prelude.{◌≡◌, ℕ, zero, suc, ◌<◌, ◌≤◌, ◌+◌, ◌-◌, Bool, true, false, List, [], ◌∷◌, ◌++◌, length}
+use Rattle.std.specs.Prelude.{◌≡◌, ℕ, zero, suc, ◌<◌, ◌≤◌, ◌-◌, Bool, true, false, List, [], ◌∷◌, ◌++◌, length}
 use Rattle.std.specs.Char.{IsScalar, encode_utf8}
 use Rattle.std.specs.Str.{encode_utf8_all, all_scalars}
 use Rattle.ca_term.specs.Tree.{Tree, Row, size, depth, row_depth, IsTerm, IsNarrow, IsNarrowRow, AreBytes}

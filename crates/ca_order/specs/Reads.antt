@@ -1,5 +1,5 @@
 -- What a reader of a code leaves, and where it is stuck.
-use Rattle.std.specs.Prelude.{◌≡◌, ℕ, ◌≤◌, Bool, List, ◌∷◌, ◌++◌, length, Result, Ok, Err}
+use Rattle.std.specs.Prelude.{◌≡◌, ℕ, ◌≤◌, Bool, List, ◌∷◌, ◌++◌, length}
 use Rattle.ca_term.specs.Tree.{Tree, Atom, IsNarrow, IsTerm, AreTerms, AreBytes, depth, row_depth, row_of}
 use Rattle.ca_term.specs.Code.{code_of, row_code}
 use Rattle.ca_order.specs.declared.fault.ReadFault.{ReadFault}

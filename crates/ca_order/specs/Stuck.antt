@@ -1,5 +1,5 @@
 -- How far bytes can begin a word of a language.
-use Rattle.std.specs.Prelude.{◌≡◌, ℕ, ◌≤◌, ◌<◌, ◌+◌, List, [], ◌∷◌, ◌++◌, length, take}
+use Rattle.std.specs.Prelude.{◌≡◌, ℕ, ◌≤◌, ◌<◌, ◌+◌, List, ◌∷◌, ◌++◌, length, take}
 
 -- The first `at` bytes begin a word, and no word begins with one byte more of them.
 pub record IsLongestStart (L : List ℕ → Type 0) (bytes : List ℕ) (at : ℕ) : Type 0 where

@@ -14,6 +14,7 @@ use ca_term::{Term, Terms, cons, int, nil, tuple};
 use std::alloc::Global;
 
 const MOST_LEVELS: u8 = 192;
+
 const MOST_ELEMENTS: u8 = 120;
 
 /// The term whose byte code these bytes are.
@@ -154,7 +155,12 @@ fn read_byte(bytes: &[u8], most: u8) -> Result<(u8, &[u8]), ReadFault>
 
 // The terms whose codes these bytes begin with, so many and of at most so many levels.
 #[cycle(read)]
-fn read_items(alloc: Global, bytes: &[u8], count: u8, levels: u8) -> Result<(Terms, &[u8]), ReadFault>
+fn read_items(
+    alloc: Global,
+    bytes: &[u8],
+    count: u8,
+    levels: u8,
+) -> Result<(Terms, &[u8]), ReadFault>
     requires levels { levels ≤ 191 }
     requires count { count ≤ most_elements levels }
     ensures { MatchResult result (λ p. BeginsWithRow levels count bytes.now p.0.items p.1.now) (λ e. IsReadFault (HasRow levels count) bytes.now e) }

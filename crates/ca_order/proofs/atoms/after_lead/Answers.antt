@@ -1,4 +1,4 @@
-use Rattle.std.proofs.Common.{◌≡◌, ◌≤◌, ◌<◌, ℕ, List, [], ◌∷◌, arith, sym, subst, inl, inr}
+use Rattle.std.proofs.Common.{ℕ, [], ◌∷◌, arith, sym, subst, inl, inr}
 use Rattle.ca_order.specs.Stuck.{IsRest}
 use Rattle.ca_order.specs.Languages.{HasChar, HasFollowing}
 use Rattle.ca_order.proofs.Utf8.{rest_one, rest_two, rest_three, rest_four, threes_e0, threes_ed, threes_other, fours_f0, fours_below, fours_f4, no_lead}

@@ -1,4 +1,4 @@
-use Rattle.std.proofs.Common.{◌≡◌, ℕ, List, [], ◌∷◌, sym, ◌∙◌, ap, subst}
+use Rattle.std.proofs.Common.{ℕ, List, sym, ◌∙◌, ap, subst}
 use Rattle.ca_term.specs.Tree.{Atom, IsNarrow}
 use Rattle.ca_order.proofs.Opened.{opened_no_zero}
 use Rattle.ca_order.proofs.AtomParts.{begins_atom, text_narrow}

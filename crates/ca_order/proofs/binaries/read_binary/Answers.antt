@@ -1,4 +1,4 @@
-use Rattle.std.proofs.Common.{◌≡◌, ℕ, List, [], ◌∷◌, sym, ◌∙◌, ap}
+use Rattle.std.proofs.Common.{◌∙◌, ap}
 use Rattle.ca_term.specs.Tree.{Binary}
 use Rattle.ca_order.proofs.BinaryParts.{begins_binary, begins_plain_binary, is_opened}
 use Rattle.ca_order.proofs.binaries.read_binary.Goals as goal

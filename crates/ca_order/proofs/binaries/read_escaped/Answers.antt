@@ -1,8 +1,8 @@
-use Rattle.std.proofs.Common.{◌≡◌, ℕ, List, [], ◌∷◌, ◌++◌, refl, sym, ap, subst}
+use Rattle.std.proofs.Common.{[], refl}
 use Rattle.ca_term.specs.Tree.{AreBytes}
 use Rattle.ca_order.specs.Languages.{HasBytes}
 use Rattle.ca_order.proofs.Faults.{fault_at}
-use Rattle.ca_order.proofs.BinaryParts.{IsOpened, opened_none, opened_more, opened_end, opened_stuck, opened_short}
+use Rattle.ca_order.proofs.BinaryParts.{opened_none, opened_more, opened_end, opened_stuck, opened_short}
 use Rattle.ca_order.proofs.binaries.read_escaped.Goals as goal
 
 pub loop-behind-init : goal.loop-behind-init
@@ -25,7 +25,7 @@ returns-in-Neither c =
     let bytes = c.args.bytes.now in
     let all : AreBytes bytes = λ k. (c.type_inv.bytes k).fits in
     fault_at HasBytes bytes c.in-Some.behind.now c.stuck.result c.stuck.ensures
-      (opened_stuck bytes c.loop-behind.rest.now c.in-Some.field-0-0.now c.in-Some.behind.now c.loop-behind.invariant all c.in-Some.ensures.0 c.in-Some.ensures.1 c.in-Neither.ensures)
+    (opened_stuck bytes c.loop-behind.rest.now c.in-Some.field-0-0.now c.in-Some.behind.now c.loop-behind.invariant all c.in-Some.ensures.0 c.in-Some.ensures.1 c.in-Neither.ensures)
 
 pub returns : goal.returns
 returns c =

@@ -1,4 +1,3 @@
-use Rattle.std.proofs.Common.{◌≡◌, ℕ, List, [], ◌∷◌, ◌++◌}
 use Rattle.ca_order.proofs.Unescaped.{escape_is_zero, left_more, parts_more, parts_all, parts_none}
 use Rattle.ca_order.proofs.binaries.unescape.Goals as goal
 
@@ -17,7 +16,7 @@ loop-run-preserved c =
     record {
       left = left_more c.loop-run.invariant.left.0 run c.loop-run.rest.now behind more c.in-Some.ensures.0 c.loop-run.invariant.left.1 c.in-Some.ensures.1 c.in-Zero.ensures;
       parts = parts_more c.loop-run.inside.items c.extend_from_slice.new.self.items c.push.new.self.items run c.loop-run.rest.now behind more c.args.body.now c.in-Some.ensures.0 c.in-Some.ensures.1 c.in-Zero.ensures c.loop-run.invariant.parts
-        c.in_ok-extend_from_slice.ensures.items c.in_ok-push.ensures.items;
+          c.in_ok-extend_from_slice.ensures.items c.in_ok-push.ensures.items;
     }
 
 pub returns : goal.returns

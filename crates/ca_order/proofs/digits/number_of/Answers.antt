@@ -1,6 +1,5 @@
-use Rattle.std.proofs.Common.{◌≡◌, ℕ, ◌+◌, ◌*◌, ◌<◌, arith, sym, ◌∙◌, ap, take}
+use Rattle.std.proofs.Common.{ℕ, ◌+◌, ◌*◌, arith, sym, ◌∙◌, ap}
 use Rattle.ca_term.specs.Grammar.{number}
-use Rattle.ca_order.specs.Languages.{turned}
 use Rattle.ca_order.proofs.Turned.{turned_nil, fits_more, small_more, number_more}
 use Rattle.ca_order.proofs.digits.number_of.Goals as goal
 

@@ -14,3 +14,12 @@ decreases-read_tuple l = 4 * l.levels + 5
 
 abbrev pub decreases-read_items : goal.decreases-read_items
 decreases-read_items l = 4 * l.levels + 4
+
+abbrev pub invariant-read_term-loop-inside : goal.invariant-read_term-loop-inside
+invariant-read_term-loop-inside l = IsHeads l.levels l.bytes l.heads.items l.rest
+
+abbrev pub decreases-read_term-loop-inside : goal.decreases-read_term-loop-inside
+decreases-read_term-loop-inside l = length l.rest
+
+abbrev pub invariant-read_items-loop : goal.invariant-read_items-loop
+invariant-read_items-loop l = BeginsWithRow l.levels l.counter l.bytes l.items.items l.rest

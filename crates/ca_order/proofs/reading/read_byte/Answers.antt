@@ -1,4 +1,4 @@
-use Rattle.std.proofs.Common.{◌≡◌, ℕ, ◌≤◌, List, [], ◌∷◌, length, arith, ap}
+use Rattle.std.proofs.Common.{◌≡◌, length, arith, ap}
 use Rattle.ca_order.specs.Languages.{HasSize}
 use Rattle.ca_order.proofs.Faults.{fault_at}
 use Rattle.ca_order.proofs.Turned.{same_first}
@@ -14,4 +14,4 @@ pub returns-then-byte-most : goal.returns-then-byte-most
 returns-then-byte-most c =
     let bytes = c.args.bytes.now in
     fault_at (HasSize 0 c.args.most) bytes bytes c.stuck-then-byte-most.result c.stuck-then-byte-most.ensures
-      (stuck_byte c.args.most bytes (λ b more e h. let first : b ≡ c.in-Some.byte.now = same_first b c.in-Some.byte.now more c.in-Some.rest.now bytes e c.in-Some.ensures.cases.0 in absurd (omega (arith, first))))
+    (stuck_byte c.args.most bytes (λ b more e h. let first : b ≡ c.in-Some.byte.now = same_first b c.in-Some.byte.now more c.in-Some.rest.now bytes e c.in-Some.ensures.cases.0 in absurd (omega (arith, first))))

@@ -1,6 +1,6 @@
-use Rattle.std.proofs.Common.{◌≡◌, ℕ, ◌≤◌, List, [], ◌∷◌, ◌++◌, refl, arith}
+use Rattle.std.proofs.Common.{◌≡◌, ◌++◌, refl}
 use Rattle.std.proofs.lemmas.Result.{err_from_is_err_and, MatchResult-weaker}
-use Rattle.ca_order.specs.Languages.{HasSize, zero_bytes}
+use Rattle.ca_order.specs.Languages.{zero_bytes}
 use Rattle.ca_order.proofs.Sizes.{zero_fault, last_fault, zero_more, size_all}
 use Rattle.ca_order.proofs.reading.read_size.Goals as goal
 
@@ -37,5 +37,5 @@ returns c =
     let b : bytes ≡ zero_bytes 2 ++ two = zero_more 1 c.in_ok-bytes_2.field-0-0 bytes one two a c.in_ok-bytes_2.ensures.0 c.in_ok-bytes_2.ensures.1 in
     let d : bytes ≡ zero_bytes 3 ++ three = zero_more 2 c.in_ok-bytes_3.field-0-0 bytes two three b c.in_ok-bytes_3.ensures.0 c.in_ok-bytes_3.ensures.1 in
     MatchResult-weaker c.read_byte-4.result c.read_byte-4.ensures
-      (λ p w. (w.0, size_all c.args.most p.0 bytes three p.1.now c.requires w.0 d w.1))
-      (λ e w. last_fault c.args.most bytes three e d w)
+    (λ p w. (w.0, size_all c.args.most p.0 bytes three p.1.now c.requires w.0 d w.1))
+    (λ e w. last_fault c.args.most bytes three e d w)
