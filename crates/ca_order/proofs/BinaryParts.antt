@@ -1,5 +1,5 @@
 -- Where escaped bytes are stuck.
-use Rattle.std.proofs.Common.{◌≡◌, ℕ, zero, suc, ◌≤◌, ◌-◌, List, [], ◌∷◌, ◌++◌, length, take, arith, refl, sym, ◌∙◌, ap, subst, append_assoc, length-append}
+use Rattle.std.proofs.Common.{◌≡◌, ℕ, zero, suc, ◌≤◌, ◌-◌, List, [], ◌∷◌, ◌++◌, length, take, arith, refl, sym, ◌∙◌, ap, subst, append_assoc, append-nil, length-append}
 use Rattle.ca_term.specs.Tree.{AreBytes}
 use Rattle.ca_term.specs.Code.{escaped}
 use Rattle.ca_term.proofs.DigitBytes.{head_byte, tail_bytes, cons_bytes, no_bytes}
@@ -7,12 +7,15 @@ use Rattle.ca_term.proofs.Escapes.{escaped_zero, escaped_suc, escaped_nil}
 use Rattle.ca_order.specs.Zeros.{HasNoZero, opened}
 use Rattle.ca_order.specs.Stuck.{IsStuck, IsRest}
 use Rattle.ca_order.specs.Languages.{HasBytes}
-use Rattle.ca_order.specs.Reads.{BeginsWithBytes, BeginsWithTerm}
+use Rattle.ca_order.specs.Reads.{BeginsWithBytes, BeginsWithTerm, IsStuckFault}
 use Rattle.ca_term.specs.Tree.{Tree, Binary, IsTerm, depth}
 use Rattle.ca_term.specs.Code.{code_of}
 use Rattle.ca_order.proofs.Parts.{code_binary}
 use Rattle.ca_order.proofs.Opened.{escaped_append, escaped_ends, opened_append, opened_no_zero, opened_zero, opened_nil, same_opened, escaped_after, same_head, same_second}
-use Rattle.ca_order.proofs.Starts.{stuck_at_end, stuck_behind}
+use Rattle.ca_order.specs.declared.fault.ReadFault.{ReadFault}
+use Rattle.ca_term.proofs.Escapes.{same_escaped}
+use Rattle.ca_order.proofs.Starts.{stuck_at_end, stuck_behind, IsPrefixFree}
+use Rattle.ca_order.proofs.Faults.{no_fault}
 
 pub bytes_append : (xs ys : List ℕ) → AreBytes xs → AreBytes ys → AreBytes (xs ++ ys)
 bytes_append [] ys h k = k
@@ -130,3 +133,31 @@ begins_plain_binary bytes body rest t w h e = begins_binary bytes body rest body
 
 pub is_opened : (bytes body rest : List ℕ) → BeginsWithBytes bytes body rest → (inside : List ℕ) × (body ≡ opened inside)
 is_opened bytes body rest w = (w.inside, w.body_is)
+
+-- ---- escaped bytes that are known to stand there
+
+bytes_inside : (bs end : List ℕ) → AreBytes (escaped bs ++ end) → AreBytes bs
+bytes_inside [] end h = no_bytes
+bytes_inside (zero ∷ bs) end h =
+    let k : AreBytes (0 ∷ 0xff ∷ escaped bs ++ end) = subst AreBytes (ap (λ x. x ++ end) (escaped_zero bs)) h in
+    cons_bytes 0 bs (omega arith) (bytes_inside bs end (tail_bytes 0xff (escaped bs ++ end) (tail_bytes 0 (0xff ∷ escaped bs ++ end) k)))
+bytes_inside (suc b ∷ bs) end h =
+    let k : AreBytes (suc b ∷ escaped bs ++ end) = subst AreBytes (ap (λ x. x ++ end) (escaped_suc b bs)) h in
+    cons_bytes (suc b) bs (head_byte (suc b) (escaped bs ++ end) k) (bytes_inside bs end (tail_bytes (suc b) (escaped bs ++ end) k))
+
+bytes_prefix_free : IsPrefixFree HasBytes
+bytes_prefix_free u rest h k =
+    let e : escaped h.inside ++ rest ≡ escaped k.inside ++ [] = ap (λ x. x ++ rest) (sym h.code_is) ∙ k.code_is ∙ sym (append-nil (escaped k.inside)) in
+    (same_escaped h.inside k.inside rest [] e).1
+
+pub no_escaped_fault : (bytes inside end : List ℕ) (e : ReadFault) → AreBytes bytes → bytes ≡ escaped inside ++ end → IsStuckFault HasBytes bytes e → ⊥
+no_escaped_fault bytes inside end e h p f =
+    no_fault HasBytes bytes (escaped inside) end e bytes_prefix_free (record { inside = inside; are_bytes = bytes_inside inside end (subst AreBytes p h); code_is = refl }) p f
+
+pub same_end : (bytes body rest inside end : List ℕ) → BeginsWithBytes bytes body rest → bytes ≡ escaped inside ++ end → rest ≡ end
+same_end bytes body rest inside end w p =
+    let inner : bytes ≡ escaped w.inside ++ rest = w.parts ∙ ap (λ x. x ++ 0 ∷ 0 ∷ rest) w.body_is ∙ sym (append_assoc (opened w.inside) (0 ∷ 0 ∷ []) rest) ∙ ap (λ x. x ++ rest) (sym (escaped_ends w.inside)) in
+    (same_escaped w.inside inside rest end (sym inner ∙ p)).1
+
+pub rest_shorter : (bytes body rest : List ℕ) → BeginsWithBytes bytes body rest → length rest ≤ length bytes
+rest_shorter bytes body rest w = omega (arith, ap length w.parts, length-append body (0 ∷ 0 ∷ rest))

@@ -3,8 +3,8 @@ use Rattle.std.proofs.Common.{◌≡◌, ℕ, List, ◌++◌, length, refl, sym,
 use Rattle.ca_order.specs.declared.fault.ReadFault.{ReadFault}
 use Rattle.ca_order.specs.declared.fault.ReadFault.TheVariants.{Stuck, NoMemory}
 use Rattle.ca_order.specs.Stuck.{IsStuck, IsRest}
-use Rattle.ca_order.specs.Reads.{IsReadFault}
-use Rattle.ca_order.proofs.Starts.{IsPrefixFree, Begins, stuck_behind, stuck_first}
+use Rattle.ca_order.specs.Reads.{IsReadFault, IsStuckFault}
+use Rattle.ca_order.proofs.Starts.{IsPrefixFree, Begins, stuck_behind, stuck_first, stuck_no_word}
 
 pub fault_at : (L : List ℕ → Type 0) (bytes behind : List ℕ) (e : ReadFault) → e ≡ Stuck (length behind) → IsStuck L bytes behind → IsReadFault L bytes e
 fault_at L bytes behind e f s = subst (IsReadFault L bytes) (sym f) (behind, refl, s)
@@ -23,3 +23,15 @@ fault_first H L bytes NoMemory free split extend f = tt
 -- the same where the bytes are written otherwise
 pub fault_same : (L : List ℕ → Type 0) (xs ys : List ℕ) (e : ReadFault) → xs ≡ ys → IsReadFault L ys e → IsReadFault L xs e
 fault_same L xs ys e f h = subst (λ (x : List ℕ). IsReadFault L x e) (sym f) h
+
+pub stuck_at : (L : List ℕ → Type 0) (bytes behind : List ℕ) (e : ReadFault) → e ≡ Stuck (length behind) → IsStuck L bytes behind → IsStuckFault L bytes e
+stuck_at L bytes behind e f s = subst (IsStuckFault L bytes) (sym f) (behind, refl, s)
+
+pub stuck_is_fault : (L : List ℕ → Type 0) (bytes : List ℕ) (e : ReadFault) → IsStuckFault L bytes e → IsReadFault L bytes e
+stuck_is_fault L bytes (Stuck left) f = f
+stuck_is_fault L bytes NoMemory f = tt
+
+-- bytes that begin with a word are stuck nowhere
+pub no_fault : (L : List ℕ → Type 0) (bytes word rest : List ℕ) (e : ReadFault) → IsPrefixFree L → L word → bytes ≡ word ++ rest → IsStuckFault L bytes e → ⊥
+no_fault L bytes word rest (Stuck left) free w p f = stuck_no_word L bytes f.0 word rest free w p f.2
+no_fault L bytes word rest NoMemory free w p f = f

@@ -17,7 +17,7 @@ use Rattle.ca_order.specs.Stuck.{IsRest}
 use Rattle.ca_order.proofs.Starts.{IsPrefixFree, Begins}
 
 -- a first byte, and what stands behind it, by the kind of the term
-data Tagged (b : ℕ) (x : List ℕ) : Tree → Type 0 where
+pub data Tagged (b : ℕ) (x : List ℕ) : Tree → Type 0 where
   is_pos : (n : ℕ) → b ≡ 0x20 + length (digits n) → x ≡ digits n → Tagged b x (Integer (pos n))
   is_neg : (m : ℕ) → b ≡ 0x1f - length (digits m) → x ≡ complement (digits m) → Tagged b x (Integer (negsuc m))
   is_atom : (text : List ℕ) → b ≡ 0x30 → x ≡ escaped text → Tagged b x (Atom text)
@@ -29,7 +29,7 @@ data Tagged (b : ℕ) (x : List ℕ) : Tree → Type 0 where
 first_same : (a b : ℕ) (xs ys : List ℕ) → a ∷ xs ≡ b ∷ ys → (a ≡ b) × (xs ≡ ys)
 first_same a b xs ys e = (cc, cc)
 
-tagged : (t : Tree) (b : ℕ) (x : List ℕ) → b ∷ x ≡ code_of t → Tagged b x t
+pub tagged : (t : Tree) (b : ℕ) (x : List ℕ) → b ∷ x ≡ code_of t → Tagged b x t
 unfolding code_of int_code
 tagged (Integer (pos n)) b x e = let p = first_same b (0x20 + length (digits n)) x (digits n) e in is_pos n p.0 p.1
 tagged (Integer (negsuc m)) b x e = let p = first_same b (0x1f - length (digits m)) x (complement (digits m)) e in is_neg m p.0 p.1

@@ -1,10 +1,12 @@
 pub mod FirstZero
+pub mod KeyPlaces
 pub mod Lasts
 pub mod Lists
 pub mod Opened
 pub mod Parts
 pub mod Put
 pub mod Sizes
+pub mod Skipped
 pub mod Starts
 pub mod Turned
 pub mod AtomParts

@@ -76,6 +76,21 @@ stuck_first H L bytes behind free split extend s =
     in_word done b rest word behind [] e f h k = absurd (omega (arith, ap length e, length-append done []))
     in_word done b rest word behind (y ∷ z) e f h k = let first : b ≡ y = cc in k z (e ∙ ap (λ x. done ++ x ∷ z) (sym first))
 
+-- bytes that begin with a word are stuck nowhere
+pub stuck_no_word : (L : List ℕ → Type 0) (bytes behind word rest : List ℕ) → IsPrefixFree L → L word → bytes ≡ word ++ rest → IsStuck L bytes behind → ⊥
+stuck_no_word L bytes behind word rest free w p s =
+    let parts : s.done ++ behind ≡ word ++ rest = sym s.parts ∙ p in
+    ⊎_elim
+    (λ le. let z = longer word rest s.done behind (sym parts) le in
+    let again : L (word ++ (z.0 ++ s.next ∷ s.rest)) = subst L (append_assoc word z.0 (s.next ∷ s.rest)) (subst (λ (x : List ℕ). L (x ++ s.next ∷ s.rest)) z.1 s.begins) in
+    no_end z.0 s.next s.rest (free word (z.0 ++ s.next ∷ s.rest) w again))
+    (λ lt. let z = longer s.done behind word rest parts (omega arith) in past z.0 z.1 z.2 lt)
+    (compare_lengths (length word) (length s.done))
+  where
+    past : (z : List ℕ) → word ≡ s.done ++ z → behind ≡ z ++ rest → length s.done < length word → ⊥
+    past [] e f h = absurd (omega (arith, ap length e, length-append s.done []))
+    past (b ∷ z) e f h = s.no_longer b (z ++ rest) z f (subst L e w)
+
 take_front : (u v : List ℕ) → take (length u) (u ++ v) ≡ u
 take_front [] v = refl
 take_front (x ∷ u) v = λ i. x ∷ take_front u v i

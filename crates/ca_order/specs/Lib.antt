@@ -1,6 +1,7 @@
 pub mod Cells
 pub mod Escapes
 pub mod IntTag
+pub mod KeyParts
 pub mod Languages
 pub mod Puts
 pub mod Reads

@@ -19,6 +19,11 @@ abbrev pub IsReadFault : (List ℕ → Type 0) → List ℕ → ReadFault → Ty
 IsReadFault L bytes (Stuck left) = (behind : List ℕ) × (length behind ≡ left) × IsStuck L bytes behind
 IsReadFault L bytes NoMemory = Unit {0}
 
+-- the same where no memory is taken
+abbrev pub IsStuckFault : (List ℕ → Type 0) → List ℕ → ReadFault → Type 0
+IsStuckFault L bytes (Stuck left) = IsReadFault L bytes (Stuck left)
+IsStuckFault L bytes NoMemory = ⊥
+
 -- Why bytes are refused: they aren't the code of a term, and `at` is the length of their longest start that begins one.
 abbrev pub IsDecodeFault : List ℕ → DecodeFault → Type 0
 IsDecodeFault bytes (decode.NotACode at) = (IsTermCode bytes → ⊥) × IsLongestStart IsTermCode bytes at

@@ -3,7 +3,7 @@ ghost use Rattle.std.specs.Prelude.{◌≡◌, ◌∷◌, ◌++◌, List, ℕ, I
 ghost use Rattle.ca_term.specs.Code.{code_of};
 ghost use Rattle.ca_order.specs.Languages.{HasBytes};
 ghost use Rattle.ca_order.specs.Zeros.{opened};
-ghost use Rattle.ca_order.specs.Reads.{IsReadFault, BeginsWithTerm, BeginsWithBytes};
+ghost use Rattle.ca_order.specs.Reads.{IsReadFault, IsStuckFault, BeginsWithTerm, BeginsWithBytes};
 
 use crate::fault::{ReadFault, stuck};
 use crate::zeros::{Escape, after_zero, split_at_zero};
@@ -23,8 +23,8 @@ pub(crate) fn read_binary(alloc: Global, bytes: &[u8]) -> Result<(Term, &[u8]), 
 }
 
 // The escaped bytes that these bytes begin with, without their end, and the bytes behind their end.
-fn read_escaped(bytes: &[u8]) -> Result<(&[u8], &[u8]), ReadFault>
-    ensures { MatchResult result (λ p. BeginsWithBytes bytes.now p.0.now p.1.now) (λ e. IsReadFault HasBytes bytes.now e) }
+pub(crate) fn read_escaped(bytes: &[u8]) -> Result<(&[u8], &[u8]), ReadFault>
+    ensures { MatchResult result (λ p. BeginsWithBytes bytes.now p.0.now p.1.now) (λ e. IsStuckFault HasBytes bytes.now e) }
 {
     let mut rest = bytes;
     while let Some((_, behind)) = split_at_zero(rest) {

@@ -5,6 +5,7 @@ mod atoms;
 mod binaries;
 mod digits;
 mod fault;
+mod object;
 mod reading;
 mod room;
 mod tags;
@@ -12,6 +13,7 @@ mod writing;
 mod zeros;
 
 pub use fault::DecodeFault;
+pub use object::object_parts;
 pub use reading::decode;
 pub use room::{Code, TooLong, compare};
 pub use writing::encode;

@@ -1,7 +1,7 @@
 use Rattle.std.proofs.Common.{[], refl}
 use Rattle.ca_term.specs.Tree.{AreBytes}
 use Rattle.ca_order.specs.Languages.{HasBytes}
-use Rattle.ca_order.proofs.Faults.{fault_at}
+use Rattle.ca_order.proofs.Faults.{stuck_at}
 use Rattle.ca_order.proofs.BinaryParts.{opened_none, opened_more, opened_end, opened_stuck, opened_short}
 use Rattle.ca_order.proofs.binaries.read_escaped.Goals as goal
 
@@ -24,7 +24,7 @@ pub returns-in-Neither : goal.returns-in-Neither
 returns-in-Neither c =
     let bytes = c.args.bytes.now in
     let all : AreBytes bytes = λ k. (c.type_inv.bytes k).fits in
-    fault_at HasBytes bytes c.in-Some.behind.now c.stuck.result c.stuck.ensures
+    stuck_at HasBytes bytes c.in-Some.behind.now c.stuck.result c.stuck.ensures
     (opened_stuck bytes c.loop-behind.rest.now c.in-Some.field-0-0.now c.in-Some.behind.now c.loop-behind.invariant all c.in-Some.ensures.0 c.in-Some.ensures.1 c.in-Neither.ensures)
 
 pub returns : goal.returns
