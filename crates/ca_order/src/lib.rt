@@ -17,3 +17,6 @@ pub use object::object_parts;
 pub use reading::decode;
 pub use room::{Code, TooLong, compare};
 pub use writing::encode;
+
+#[cfg(test)]
+mod tests;
