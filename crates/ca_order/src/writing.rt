@@ -6,18 +6,9 @@ ghost use Rattle.ca_order.specs.Puts.{Puts};
 ghost use Rattle.ca_order.specs.IntTag.{int_tag};
 
 use crate::room::{Code, TooLong};
+use crate::tags::{ATOM, BINARY, CONS, NIL, TUPLE};
 use crate::zeros::split_at_zero;
 use ca_term::{Kind, Term, int_code_length};
-
-const ATOM: u8 = 0x30;
-
-const TUPLE: u8 = 0x40;
-
-const NIL: u8 = 0x60;
-
-const CONS: u8 = 0x70;
-
-const BINARY: u8 = 0x80;
 
 /// Writes the term's code into `into` in place of what it held. Where the code has over 1,000 bytes, `into` is left empty.
 pub fn encode(term: &Term, into: &mut Code) -> Result<(), TooLong>

@@ -1,6 +1,7 @@
 //! Zero bytes, which stand escaped in a code.
 ghost use Rattle.std.specs.Prelude.{◌≡◌, ◌==◌, ◌∷◌, ◌++◌, position, MatchOption};
 ghost use Rattle.ca_order.specs.Zeros.{HasNoZero};
+ghost use Rattle.ca_order.specs.Escapes.{IsEscape};
 
 // The bytes before the first zero byte and those behind it, or None where there is no zero byte.
 #[tactic(auto, using(crate::proofs::FirstZero::split_first, crate::proofs::FirstZero::split_last))]
@@ -16,4 +17,24 @@ fn first_zero(bytes: &[u8]) -> Option<usize>
     ensures { result ≡ position (λ b. b == 0) bytes.now }
 {
     bytes.iter().position(|byte| *byte == 0)
+}
+
+// What stands behind a zero byte in escaped bytes, with the bytes behind it: 00 ends them, FF makes it a zero byte of them,
+// and nothing else may stand there.
+#[derive(Clone, Copy)]
+pub(crate) enum Escape<'a> {
+    End(&'a [u8]),
+    Zero(&'a [u8]),
+    Neither,
+}
+
+// What these bytes begin with, behind a zero byte.
+pub(crate) fn after_zero(behind: &[u8]) -> Escape<'_>
+    ensures { IsEscape behind.now result }
+{
+    match behind.split_first() {
+        Some((&0, rest)) => Escape::End(rest),
+        Some((&0xff, rest)) => Escape::Zero(rest),
+        _ => Escape::Neither,
+    }
 }

@@ -4,6 +4,7 @@ use Rattle.std.specs.declared.cmp.Ordering.{Ordering}
 use Rattle.std.specs.declared.cmp.Ordering.TheVariants.{Less, Equal, Greater}
 use Rattle.std.specs.Ordering.{ordering_then, nat_cmp}
 use Rattle.std.specs.Cmp.Lexicographic.{slice_cmp}
+use Rattle.std.specs.FinMap.{nat_cmp-IsAntisymmetric, slice_cmp-IsAntisymmetric}
 use Rattle.ca_term.proofs.Numbers.{less, greater, same}
 
 abbrev pub bytes_cmp : List ℕ → List ℕ → Ordering
@@ -42,3 +43,6 @@ pub then_both : (o p : Ordering) → ordering_then o p ≡ Equal → (o ≡ Equa
 then_both Less p e = cc
 then_both Equal p e = (refl, e)
 then_both Greater p e = cc
+
+pub same_bytes : (xs ys : List ℕ) → bytes_cmp xs ys ≡ Equal → xs ≡ ys
+same_bytes xs ys e = slice_cmp-IsAntisymmetric nat_cmp-IsAntisymmetric xs ys e

@@ -7,7 +7,7 @@ use Rattle.std.specs.Ordering.{ordering_then, nat_cmp}
 use Rattle.std.specs.Cmp.{ranked}
 use Rattle.ca_term.proofs.TotalOrder.{tree_same}
 use Rattle.ca_term.proofs.Numbers.{high_first_cmp, length_high_first}
-use Rattle.ca_term.proofs.Bytes.{bytes_cmp, then_assoc, seam, bytes_itself, nothing_behind, then_both}
+use Rattle.ca_term.proofs.Bytes.{bytes_cmp, then_assoc, seam, bytes_itself, nothing_behind, then_both, same_bytes}
 use Rattle.ca_term.proofs.Escapes.{escaped_cmp}
 use Rattle.ca_term.proofs.IntCodes.{int_code_cmp, int_first, int_last, word}
 use Rattle.ca_term.specs.Tree.{Tree, Row, Integer, Atom, Tuple, Nil, Cons, Binary, Ends, More, size, IsNarrow, IsNarrowRow}
@@ -84,6 +84,14 @@ prefix_free t u z h k e =
     let q : bytes_cmp (code_of t ++ z) (code_of u ++ []) ≡ Equal = rw (append-nil (code_of u), e) (bytes_itself (code_of u)) in
     let b = then_both (term_cmp t u) (bytes_cmp z []) (sym p ∙ q) in
     (tree_same t u b.0, nothing_behind z b.1)
+
+-- what begins with the codes of two terms begins with one code and goes on alike
+pub same_code : (t u : Tree) (xs ys : List ℕ) → IsNarrow t → IsNarrow u → code_of t ++ xs ≡ code_of u ++ ys → (t ≡ u) × (xs ≡ ys)
+same_code t u xs ys h k e =
+    let p = code_cmp t u xs ys h k in
+    let q : bytes_cmp (code_of t ++ xs) (code_of u ++ ys) ≡ Equal = rw e (bytes_itself (code_of u ++ ys)) in
+    let b = then_both (term_cmp t u) (bytes_cmp xs ys) (sym p ∙ q) in
+    (tree_same t u b.0, same_bytes xs ys b.1)
 
 pub are_prefix_free : ArePrefixFree
 are_prefix_free t u rest h k e = prefix_free t u rest h.narrow k.narrow e

@@ -9,12 +9,7 @@ use Rattle.ca_term.proofs.Digits.{digits_of, digits_zero, byte_count, below_or_n
 use Rattle.ca_term.proofs.DigitOrder.{AllBytes, high_bytes}
 use Rattle.ca_term.specs.Tree.{AreBytes}
 use Rattle.ca_term.specs.Code.{digits}
-use Rattle.ca_term.specs.Grammar.{AreDigits}
-
--- the number of these bytes, the highest first
-abbrev pub number : List ℕ → ℕ
-number [] = 0
-number (b ∷ bs) = b * 256 ^ length bs + number bs
+use Rattle.ca_term.specs.Grammar.{AreDigits, number}
 
 pub head_byte : (b : ℕ) (bs : List ℕ) → AreBytes (b ∷ bs) → b < 256
 head_byte b bs h = h 0

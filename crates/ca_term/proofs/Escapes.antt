@@ -1,9 +1,10 @@
 -- Escaped bytes: part by part, how they compare, and how long they are.
-use Rattle.std.proofs.Common.{◌≡◌, ℕ, ◌+◌, ◌==◌, suc, zero, List, [], ◌∷◌, ◌++◌, length, count_by, filter, arith, refl, sym, false}
+use Rattle.std.proofs.Common.{◌≡◌, ℕ, ◌+◌, ◌==◌, suc, zero, List, [], ◌∷◌, ◌++◌, length, count_by, filter, arith, refl, sym, ◌∙◌, false}
 use Rattle.std.proofs.lemmas.Bool.Decides.{nat_tests}
 use Rattle.std.proofs.lemmas.List.Sums.{length-filter}
+use Rattle.std.specs.declared.cmp.Ordering.TheVariants.{Equal}
 use Rattle.std.specs.Ordering.{ordering_then, nat_cmp}
-use Rattle.ca_term.proofs.Bytes.{bytes_cmp, then_assoc, head_less, head_greater}
+use Rattle.ca_term.proofs.Bytes.{bytes_cmp, then_assoc, head_less, head_greater, bytes_itself, then_both, same_bytes}
 use Rattle.ca_term.proofs.Numbers.{less, greater}
 use Rattle.ca_term.specs.Code.{escaped}
 
@@ -30,6 +31,13 @@ escaped_cmp (zero ∷ a) (zero ∷ b) xs ys = rw (escaped_zero a, escaped_zero b
 escaped_cmp (zero ∷ a) (suc y ∷ b) xs ys = rw (escaped_zero a, escaped_suc y b, less 0 (suc y) (omega arith))
 escaped_cmp (suc x ∷ a) (zero ∷ b) xs ys = rw (escaped_suc x a, escaped_zero b, greater (suc x) 0 (omega arith))
 escaped_cmp (suc x ∷ a) (suc y ∷ b) xs ys = rw (escaped_suc x a, escaped_suc y b, escaped_cmp a b xs ys) (sym (then_assoc (nat_cmp (suc x) (suc y)) (bytes_cmp a b) (bytes_cmp xs ys)))
+
+-- what begins with two escaped texts begins with one and goes on alike
+pub same_escaped : (a b xs ys : List ℕ) → escaped a ++ xs ≡ escaped b ++ ys → (a ≡ b) × (xs ≡ ys)
+same_escaped a b xs ys e =
+    let q : bytes_cmp (escaped a ++ xs) (escaped b ++ ys) ≡ Equal = rw e (bytes_itself (escaped b ++ ys)) in
+    let t = then_both (bytes_cmp a b) (bytes_cmp xs ys) (sym (escaped_cmp a b xs ys) ∙ q) in
+    (same_bytes a b t.0, same_bytes xs ys t.1)
 
 length_by_filter : (bs : List ℕ) → length (escaped bs) ≡ length bs + length (filter (λ b. b == 0) bs) + 2
 length_by_filter [] = rw escaped_nil refl

@@ -2,11 +2,11 @@
 use Rattle.std.proofs.Common.{◌≡◌, ℕ, zero, suc, ◌≤◌, ◌<◌, ◌+◌, ◌^◌, pos, negsuc, List, ◌++◌, arith, refl, sym, subst}
 use Rattle.std.specs.Prelude.{FitsSigned}
 use Rattle.std.specs.Int.{w64}
-use Rattle.ca_term.proofs.DigitBytes.{number, digits_number, number_word, are_digits}
+use Rattle.ca_term.proofs.DigitBytes.{digits_number, number_word, are_digits}
 use Rattle.ca_term.proofs.IntCodes.{word}
 use Rattle.ca_term.specs.Tree.{Tree, Row, Integer, Atom, Tuple, Nil, Cons, Binary, Ends, More, size, depth, row_depth, IsNarrow, IsNarrowRow}
 use Rattle.ca_term.specs.Code.{code_of, row_code, int_code, digits}
-use Rattle.ca_term.specs.Grammar.{IsCodeWithin, AreCodesWithin, FromZero, BelowZero, AnAtom, ATuple, ANil, ACons, ABinary, NoCode, OneMore, IsCode, AreCodesOfTerms}
+use Rattle.ca_term.specs.Grammar.{number, IsCodeWithin, AreCodesWithin, FromZero, BelowZero, AnAtom, ATuple, ANil, ACons, ABinary, NoCode, OneMore, IsCode, AreCodesOfTerms}
 
 pub deep : (t : Tree) → 1 ≤ depth t
 deep (Integer n) = omega arith

@@ -1,5 +1,5 @@
 -- The byte codes as a language on bytes alone, with the bounds of terms in it and without terms.
-use Rattle.std.specs.Prelude.{◌≡◌, ◌↔◌, ℕ, suc, ◌+◌, ◌-◌, ◌<◌, ◌≤◌, List, [], ◌∷◌, ◌++◌, length}
+use Rattle.std.specs.Prelude.{◌≡◌, ◌↔◌, ℕ, suc, ◌+◌, ◌-◌, ◌*◌, ◌^◌, ◌<◌, ◌≤◌, List, [], ◌∷◌, ◌++◌, length}
 use Rattle.std.specs.Str.{IsUtf8, chars}
 use Rattle.ca_term.specs.Tree.{Tree, IsTerm, AreBytes}
 use Rattle.ca_term.specs.Code.{code_of, complement, escaped, four_bytes}
@@ -8,6 +8,11 @@ use Rattle.ca_term.specs.Code.{code_of, complement, escaped, four_bytes}
 abbrev pub AreDigits : List ℕ → Type 0
 AreDigits [] = Unit {0}
 AreDigits (b ∷ bs) = (0 < b) × (length bs ≤ 7) × (length bs ≡ 7 → b < 0x80) × AreBytes (b ∷ bs)
+
+-- the number of these bytes, the highest first
+abbrev pub number : List ℕ → ℕ
+number [] = 0
+number (b ∷ bs) = b * 256 ^ length bs + number bs
 
 mutual
   -- The codes of at most so many levels: an element or a head stands one level below its tuple or list, and a tail on the same level.

@@ -5,7 +5,7 @@ use Rattle.ca_term.proofs.IntCodes.{word}
 use Rattle.ca_term.specs.Code.{int_code}
 use Rattle.ca_order.specs.IntTag.{int_tag}
 use Rattle.ca_order.proofs.Put.{IsPut, put_more, puts_all}
-use Rattle.ca_order.proofs.Integers.{int_parts}
+use Rattle.ca_order.proofs.TwosComplement.{int_parts}
 use Rattle.ca_order.proofs.writing.put_int.Goals as goal
 
 pub returns : goal.returns

@@ -1,0 +1,57 @@
+//! Escaped bytes, read back.
+ghost use Rattle.std.specs.Prelude.{◌≡◌, ◌∷◌, ◌++◌, List, ℕ, IfOk, IfErr, MatchResult};
+ghost use Rattle.ca_term.specs.Code.{code_of};
+ghost use Rattle.ca_order.specs.Languages.{HasBytes};
+ghost use Rattle.ca_order.specs.Zeros.{opened};
+ghost use Rattle.ca_order.specs.Reads.{IsReadFault, IsStuckFault, BeginsWithTerm, BeginsWithBytes};
+
+use crate::fault::{ReadFault, stuck};
+use crate::zeros::{Escape, after_zero, split_at_zero};
+use ca_term::{Term, bin};
+use std::alloc::{AllocError, Global};
+
+// The binary whose escaped bytes these bytes begin with, and the bytes behind it.
+pub(crate) fn read_binary(alloc: Global, bytes: &[u8]) -> Result<(Term, &[u8]), ReadFault>
+    ensures { MatchResult result (λ p. BeginsWithTerm 1 (0x80 ∷ bytes.now) p.0 p.1.now) (λ e. IsReadFault HasBytes bytes.now e) }
+{
+    let (body, rest) = read_escaped(bytes)?;
+    let Some(_) = split_at_zero(body) else {
+        return Ok((bin(alloc, body)?, rest));
+    };
+    let inside = unescape(alloc, body)?;
+    Ok((bin(alloc, inside.as_slice())?, rest))
+}
+
+// The escaped bytes that these bytes begin with, without their end, and the bytes behind their end.
+pub(crate) fn read_escaped(bytes: &[u8]) -> Result<(&[u8], &[u8]), ReadFault>
+    ensures { MatchResult result (λ p. BeginsWithBytes bytes.now p.0.now p.1.now) (λ e. IsStuckFault HasBytes bytes.now e) }
+{
+    let mut rest = bytes;
+    while let Some((_, behind)) = split_at_zero(rest) {
+        match after_zero(behind) {
+            Escape::End(end) => return Ok((&bytes[..bytes.len() - end.len() - 2], end)),
+            Escape::Zero(more) => rest = more,
+            Escape::Neither => return Err(stuck(behind)),
+        }
+    }
+    Err(ReadFault::Stuck { left: 0 })
+}
+
+// Bytes without their escapes.
+pub(crate) fn unescape(alloc: Global, body: &[u8]) -> Result<Vec<u8>, AllocError>
+    requires { (inside : List ℕ) × (body.now ≡ opened inside) }
+    ensures { IfOk result (λ v. opened v.items ≡ body.now) }
+{
+    let mut inside = Vec::with_capacity(alloc, body.len())?;
+    let mut rest = body;
+    while let Some((run, behind)) = split_at_zero(rest) {
+        inside.extend_from_slice(run)?;
+        inside.push(0)?;
+        let Escape::Zero(more) = after_zero(behind) else {
+            unreachable!()
+        };
+        rest = more;
+    }
+    inside.extend_from_slice(rest)?;
+    Ok(inside)
+}
