@@ -1,5 +1,5 @@
 //! The byte code of a term.
-ghost use Rattle.std.specs.Prelude.{◌≡◌, ◌<◌, ◌≤◌, ◌++◌, [], length, OnOk, OnErr};
+ghost use Rattle.std.specs.Prelude.{◌≡◌, ◌<◌, ◌≤◌, ◌++◌, [], length, ◌↔◌, IsErr, OnOk, OnErr};
 ghost use Rattle.ca_term.specs.Code.{code_of, escaped, int_code, four_bytes, row_code};
 ghost use Rattle.ca_term.specs.Tree.{row_of};
 ghost use Rattle.ca_order.specs.Puts.{Puts};
@@ -13,7 +13,7 @@ use ca_term::{Kind, Term, int_code_length};
 /// Writes the term's code into `into` in place of what it held. Where the code has over 1,000 bytes, `into` is left empty.
 pub fn encode(term: &Term, into: &mut Code) -> Result<(), TooLong>
     ensures ok { OnOk result (into.new.items ≡ code_of term.now) }
-    ensures too_long { OnErr result (1000 < length (code_of term.now)) }
+    ensures too_long { IsErr result ↔ (1000 < length (code_of term.now)) }
     ensures empty { OnErr result (into.new.items ≡ []) }
 {
     into.clear();
@@ -21,6 +21,8 @@ pub fn encode(term: &Term, into: &mut Code) -> Result<(), TooLong>
     if put.is_err() {
         into.clear();
     }
+    // That the room holds at most 1,000 bytes is told by its length.
+    let _length = into.len();
     put
 }
 
@@ -35,7 +37,6 @@ fn put(bytes: &[u8], into: &mut Code) -> Result<(), TooLong>
 }
 
 // Appends these bytes with each 00 written as 00 FF, and then 00 00.
-
 fn put_escaped(bytes: &[u8], into: &mut Code) -> Result<(), TooLong>
     ensures { Puts result into.old.items (escaped bytes.now) into.new.items }
 {
@@ -50,7 +51,6 @@ fn put_escaped(bytes: &[u8], into: &mut Code) -> Result<(), TooLong>
 }
 
 // Appends the code of an integer: the lowest bytes of its two's complement are the bytes of n, or those of m complemented.
-
 fn put_int(value: i64, into: &mut Code) -> Result<(), TooLong>
     ensures { Puts result into.old.items (int_code value) into.new.items }
 {
