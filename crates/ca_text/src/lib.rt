@@ -3,6 +3,7 @@
 
 mod atom;
 mod binary;
+mod fault;
 mod print;
 mod put;
 
