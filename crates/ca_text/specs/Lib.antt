@@ -1,4 +1,5 @@
 pub mod Grammar
+pub mod NextView
 pub mod Reading
 pub mod Text
 pub mod Written

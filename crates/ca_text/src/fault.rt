@@ -1,5 +1,5 @@
 //! Why a text is not read.
-ghost use Rattle.std.specs.Prelude.{◌≡◌};
+ghost use Rattle.std.specs.Prelude.{◌≡◌, length};
 ghost use Rattle.ca_text.specs.declared.fault.Stop.TheVariants.{NoMemory};
 
 use ca_term::TermFault;
@@ -49,4 +49,20 @@ impl From<TermFault> for Stop {
     fn from(_e: TermFault) -> Stop {
         Stop::NoMemory
     }
+}
+
+// A fault at the first of these bytes, or at the end where there are none.
+pub(crate) fn fault_at(why: Why, bytes: &[u8]) -> Stop
+    ensures { result ≡ Stop.At (record { why = why; left = length bytes.now }) }
+{
+    Stop::At(Fault {
+        why,
+        left: bytes.len(),
+    })
+}
+
+pub(crate) fn syntax_at(bytes: &[u8]) -> Stop
+    ensures { result ≡ Stop.At (record { why = Why.Syntax; left = length bytes.now }) }
+{
+    fault_at(Why::Syntax, bytes)
 }

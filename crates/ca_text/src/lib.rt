@@ -3,9 +3,13 @@
 
 mod atom;
 mod binary;
+mod character;
 mod fault;
+mod parts;
 mod print;
 mod put;
+mod read;
+mod scan;
 
 pub use atom::is_reserved;
 pub use print::{print_term, text_laws};
