@@ -1,6 +1,6 @@
 -- What an object's text and a line spell.
-use Rattle.std.proofs.Common.{◌≡◌, ℕ, ◌<◌, ◌≤◌, ◌+◌, ◌*◌, List, [], ◌∷◌, ◌++◌, length, sym, ◌∙◌, arith, ap}
-use Rattle.ca_term.specs.Tree.{Tree, row_of, row_depth, size}
+use Rattle.std.proofs.Common.{ℕ, ◌≤◌, List, length, arith, ap}
+use Rattle.ca_term.specs.Tree.{Tree, row_of}
 use Rattle.ca_term.specs.Cause.{IsCauseOfTuple}
 use Rattle.ca_term.proofs.Rows.{size_row}
 use Rattle.ca_term.specs.declared.fault.TermFault.{TermFault}

@@ -1,8 +1,7 @@
 -- One key after another, with commas between them.
-use Rattle.std.proofs.Common.{◌≡◌, ◌≢◌, ℕ, ◌+◌, ◌*◌, ◌<◌, ◌≤◌, List, [], ◌∷◌, ◌++◌, length, length-append, refl, sym, ◌∙◌, ap, subst, arith, append_assoc, zero, suc}
-use Rattle.std.proofs.lemmas.List.{append-nil}
+use Rattle.std.proofs.Common.{◌≡◌, ℕ, ◌<◌, List, [], ◌∷◌, ◌++◌, refl, sym, ◌∙◌, ap, subst, arith, append_assoc}
 use Rattle.ca_term.specs.Tree.{Tree, Row, Ends, More, size, row_of}
-use Rattle.ca_text.specs.Text.{text_of, row_text, more_text}
+use Rattle.ca_text.specs.Text.{text_of, row_text}
 use Rattle.ca_cmd.specs.Cut.{IsFree, IsCut}
 use Rattle.ca_cmd.specs.File.{IsKey, AreKeys}
 use Rattle.ca_cmd.specs.Found.{AreSpelled}

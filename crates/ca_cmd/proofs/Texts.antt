@@ -1,5 +1,5 @@
 -- The texts of keys, rows of keys and commands: which bytes they are made of, and that they tell what they are of.
-use Rattle.std.proofs.Common.{◌≡◌, ◌≢◌, ℕ, zero, suc, ◌+◌, ◌*◌, ◌/◌, ◌%◌, ◌^◌, ◌<◌, ◌≤◌, Bool, true, false, ◌&&◌, cond, not, List, [], ◌∷◌, ◌++◌, length, length-append, refl, sym, ◌∙◌, ap, subst, arith, pos, negsuc, ℤ, codes, append-nil}
+use Rattle.std.proofs.Common.{◌≡◌, ℕ, suc, ◌+◌, ◌*◌, ◌^◌, ◌<◌, ◌≤◌, Bool, true, false, ◌&&◌, cond, not, List, [], ◌∷◌, ◌++◌, length, length-append, refl, sym, ◌∙◌, ap, subst, arith, pos, negsuc, ℤ, codes, append-nil}
 use Rattle.std.specs.Prelude.{FitsSigned}
 use Rattle.std.specs.Int.{w64}
 use Rattle.std.specs.List.{list_all}
@@ -9,7 +9,7 @@ use Rattle.std.proofs.lemmas.Fmt.{decimal_by_steps, signed_decimal_injective}
 use Rattle.std.proofs.lemmas.Bool.Decides.{nat_tests}
 use Rattle.ca_term.specs.Tree.{Tree, Row, Integer, Atom, Tuple, Nil, Cons, Binary, Ends, More, size, row_depth}
 use Rattle.ca_ets.specs.Command.{Command, Insert, Lookup}
-use Rattle.ca_text.specs.Text.{text_of, row_text, more_text, atom_text, is_name_char, has_plain_form, is_reserved, is_plain_atom, quoted}
+use Rattle.ca_text.specs.Text.{text_of, row_text, more_text, atom_text, is_name_char, is_plain_atom, quoted}
 use Rattle.ca_text.proofs.Nonempty.{text_some}
 use Rattle.ca_cmd.specs.Cut.{IsFree}
 use Rattle.ca_cmd.specs.File.{IsName, IsKey, AreKeys, IsSimple, text_of_command}

@@ -1,4 +1,4 @@
-use Rattle.std.proofs.Common.{◌≡◌, ◌≤◌, ◌∷◌, [], length, length-append, arith, ap}
+use Rattle.std.proofs.Common.{◌≤◌, ◌∷◌, [], length, length-append, arith, ap}
 use Rattle.ca_cmd.proofs.Commands.{no_cause}
 use Rattle.ca_cmd.proofs.command.read_object.Goals as goal
 

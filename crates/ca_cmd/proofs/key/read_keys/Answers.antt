@@ -1,7 +1,4 @@
-use Rattle.std.proofs.Common.{◌≡◌, ◌≤◌, ◌++◌, ◌∷◌, [], length, length-append, arith, ap}
-use Rattle.ca_term.specs.Tree.{Tree}
-use Rattle.ca_text.specs.Text.{text_of}
-use Rattle.ca_cmd.specs.File.{IsKey}
+use Rattle.std.proofs.Common.{◌≤◌, ◌∷◌, length, length-append, arith, ap}
 use Rattle.ca_cmd.proofs.Keys.{read_more, read_wrong, read_last_wrong, read_last}
 use Rattle.ca_cmd.proofs.key.read_keys.Goals as goal
 

@@ -1,4 +1,4 @@
-use Rattle.std.proofs.Common.{◌≡◌, ◌++◌, ◌∙◌, ap, sym, rules}
+use Rattle.std.proofs.Common.{rules}
 use Rattle.ca_cmd.proofs.Printed.{clients_more}
 use Rattle.ca_cmd.proofs.output.show_run.Goals as goal
 

@@ -1,7 +1,6 @@
-use Rattle.std.proofs.Common.{◌≡◌, ◌≤◌, ◌<◌, ◌+◌, ◌∷◌, length, length-append, arith, ap, sym, ◌∙◌}
+use Rattle.std.proofs.Common.{◌≡◌, ◌≤◌, ◌<◌, ◌+◌, ◌∷◌, length, length-append, arith, ap}
 use Rattle.std.proofs.lemmas.Bool.Decides.{nat_tests}
 use Rattle.ca_cmd.specs.Lines.{numbered}
-use Rattle.ca_cmd.specs.declared.line.Line.{Line}
 use Rattle.ca_cmd.proofs.Files.{lines_more, line_wrong, line_unended, lines_done, lines_same, not_both, nothing}
 use Rattle.ca_cmd.proofs.reading.read_file.Goals as goal
 
