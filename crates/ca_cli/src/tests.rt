@@ -54,78 +54,41 @@ fn answers_files(rt: HostRuntime) -> Result<(), Fail> {
     Ok(())
 }
 
+// How a run of these words ends over a drawer with one file, `f`, and what it writes.
+fn ended(alloc: Global, words: &str, file: &str) -> Result<(Status, SureTape), AllocError> {
+    let mut shelf = Drawer::new(file_of(alloc, "f", file.as_bytes())?, Vec::new(alloc));
+    let mut sink = SureTape::new(alloc, 1000)?;
+    let status = run(
+        alloc,
+        words_of(alloc, words)?.as_slice(),
+        &mut shelf,
+        &mut sink,
+    );
+    Ok((status, sink))
+}
+
+#[test]
+fn takes_no_other_words(rt: HostRuntime) -> Result<(), Fail> {
+    for words in ["", "run", "run -f", "run f f", "walk f", "Run f", "f run"] {
+        let (status, sink) = ended(rt.alloc(), words, "")?;
+        assert_eq!(rt; status, Status::Usage, "at {words}");
+        assert_eq!(rt;
+            sink.taken(),
+            b"usage: ca run [OPTIONS] [--] FILE...\n".as_slice()
+        );
+    }
+    Ok(())
+}
+
 #[test]
 fn names_what_is_wrong(rt: HostRuntime) -> Result<(), Fail> {
-    let alloc = rt.alloc();
-    for (words, file, status, message) in [
-        (
-            "",
-            "",
-            Status::Usage,
-            "usage: ca run [OPTIONS] [--] FILE...\n",
-        ),
-        (
-            "run",
-            "",
-            Status::Usage,
-            "usage: ca run [OPTIONS] [--] FILE...\n",
-        ),
-        (
-            "run -f",
-            "",
-            Status::Usage,
-            "usage: ca run [OPTIONS] [--] FILE...\n",
-        ),
-        (
-            "run f f",
-            "",
-            Status::Usage,
-            "usage: ca run [OPTIONS] [--] FILE...\n",
-        ),
-        (
-            "walk f",
-            "",
-            Status::Usage,
-            "usage: ca run [OPTIONS] [--] FILE...\n",
-        ),
-        (
-            "run g",
-            "",
-            Status::ShelfFault { file: 1 },
-            "cannot read file 1\n",
-        ),
-        (
-            "run f",
-            "insert {1}\nlookup 01\n",
-            Status::BadLine {
-                file: 1,
-                line: 2,
-                at: 1,
-            },
-            "bad line: file 1 line 2 at 1\n",
-        ),
-        (
-            "run f",
-            "lookup 1",
-            Status::BadLine {
-                file: 1,
-                line: 1,
-                at: 1,
-            },
-            "bad line: file 1 line 1 at 1\n",
-        ),
-    ] {
-        let mut shelf = Drawer::new(file_of(alloc, "f", file.as_bytes())?, Vec::new(alloc));
-        let mut sink = SureTape::new(alloc, 1000)?;
-        let ended = run(
-            alloc,
-            words_of(alloc, words)?.as_slice(),
-            &mut shelf,
-            &mut sink,
-        );
-        assert_eq!(rt; ended, status, "at {words}");
-        assert_eq!(rt; sink.taken(), message.as_bytes(), "at {words}");
-    }
+    let (status, sink) = ended(rt.alloc(), "run g", "")?;
+    assert_eq!(rt; status, Status::ShelfFault { file: 1 });
+    assert_eq!(rt; sink.taken(), b"cannot read file 1\n".as_slice());
+    let (status, sink) = ended(rt.alloc(), "run f", "insert {1}\nlookup 01\n")?;
+    let (file, line, at) = (1, 2, 1);
+    assert_eq!(rt; status, Status::BadLine { file, line, at });
+    assert_eq!(rt; sink.taken(), b"bad line: file 1 line 2 at 1\n".as_slice());
     Ok(())
 }
 
