@@ -75,8 +75,8 @@ pub(crate) fn read_key(alloc: Global, text: &[u8]) -> Result<Option<Term>, Alloc
     }
 }
 
-#[tactic(auto, using(crate::proofs::Keys::read_start))]
 // One or more keys with commas between them.
+#[tactic(auto, using(crate::proofs::Keys::read_start))]
 pub(crate) fn read_keys(alloc: Global, text: &[u8]) -> Result<Option<Terms>, AllocError>
     requires { length text.now ≤ 200 }
     ensures { IfOk result (λ found. AreKeysFound text.now found) }

@@ -21,8 +21,8 @@ fn bad_line(line: u32) -> FileFault
     }
 }
 
-#[tactic(auto, using(crate::proofs::Files::lines_start, crate::proofs::Files::lines_done))]
 /// The commands of a file, with their lines' numbers. A file has at most 16,777,216 bytes.
+#[tactic(auto, using(crate::proofs::Files::lines_start, crate::proofs::Files::lines_done))]
 pub fn read_file(alloc: Global, bytes: &[u8]) -> Result<Lines, FileFault>
     requires { length bytes.now ≤ 16777216 }
     ensures read { IfOk result (λ lines. IsFileOf bytes.now (numbered lines)) }
