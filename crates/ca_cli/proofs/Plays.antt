@@ -46,12 +46,12 @@ pub goes_on : (p : ℕ) (commands : List Command) (i : ℕ) (m n : List Tree) (k
 goes_on p commands i m n k l said c r h lt e s =
     let left : drop i commands ≡ c ∷ drop (i + 1) commands = (rw (add-one, drop-cons commands i c, e) refl) in
     let now : played p m k (drop i commands) ≡ behind (r ∷ []) (played p n l (drop (i + 1) commands)) =
-      ap (played p m k) left ∙ ap (λ (x : Stepped). behind (x.response ∷ []) (played p x.map x.continuation (drop (i + 1) commands))) s in
+    ap (played p m k) left ∙ ap (λ (x : Stepped). behind (x.response ∷ []) (played p x.map x.continuation (drop (i + 1) commands))) s in
     record {
       count = omega (arith, length-append said (Replied r ∷ []), h.count);
       unrefused = unrefused_push said r h.unrefused;
       run = h.run ∙ ap (behind (replies_in said)) now ∙ behind_push (replies_in said) r (played p n l (drop (i + 1) commands))
-        ∙ ap (λ x. behind x (played p n l (drop (i + 1) commands))) (sym (replies_push said r));
+          ∙ ap (λ x. behind x (played p n l (drop (i + 1) commands))) (sym (replies_push said r));
     }
 
 all_replied : (commands : List Command) (said : List Answered) → length commands ≡ length said → AreReplies said → replied_commands commands said ≡ commands

@@ -37,7 +37,10 @@ fn fetched(alloc: Global, file: &[u8]) -> (Status, Vec<u8>)
 {
     match answer(alloc, file) {
         Ok(bytes) => (Status::Done, bytes),
-        Err(FileFault::BadLine { line, at, .. }) => told(alloc, Status::BadLine { file: 1, line, at }),
+        Err(FileFault::BadLine { line, at, .. }) => told(
+            alloc,
+            Status::BadLine { file: 1, line, at },
+        ),
         Err(FileFault::NoMemory) => (Status::NoMemory, Vec::new(alloc)),
     }
 }
@@ -45,10 +48,8 @@ fn fetched(alloc: Global, file: &[u8]) -> (Status, Vec<u8>)
 // What the call comes to, before anything is written: the status, and the bytes that go with it.
 fn outcome<F: Shelf>(alloc: Global, words: &[String], shelf: &mut F) -> (Status, Vec<u8>)
     ensures outcome { IsOutcome (call_of (map string_bytes words.now) (F.content shelf.old) (F.faults shelf.old) (F.faults shelf.new)) result.0 result.1.items }
-    ensures complete {
-        let call = call_of (map string_bytes words.now) (F.content shelf.old) (F.faults shelf.old) (F.faults shelf.new) in
-        IsWellFormed call → ¬ HasRisen call.faults_before call.faults_after → IsDoneOrWant result.0
-    }
+    ensures complete { let call = call_of (map string_bytes words.now) (F.content shelf.old) (F.faults shelf.old) (F.faults shelf.new) in
+        IsWellFormed call → ¬ HasRisen call.faults_before call.faults_after → IsDoneOrWant result.0 }
     ensures later { F.faults shelf.old ≤ F.faults shelf.new }
 {
     let Some(name) = named_file(words) else {
@@ -67,7 +68,12 @@ fn outcome<F: Shelf>(alloc: Global, words: &[String], shelf: &mut F) -> (Status,
 /// and the final table. `words` are the words after the program's name.
 ///
 /// The whole output is made before its first byte is written, so without memory nothing is written.
-pub fn run<F: Shelf, S: Sink>(alloc: Global, words: &[String], shelf: &mut F, sink: &mut S) -> Status
+pub fn run<F: Shelf, S: Sink>(
+    alloc: Global,
+    words: &[String],
+    shelf: &mut F,
+    sink: &mut S,
+) -> Status
     // The cause of each status, the bytes that go with it, and which of them the sink took in this call.
     ensures run { HasRun
         (call_of (map string_bytes words.now) (F.content shelf.old) (F.faults shelf.old) (F.faults shelf.new))
@@ -79,11 +85,9 @@ pub fn run<F: Shelf, S: Sink>(alloc: Global, words: &[String], shelf: &mut F, si
         (output_of (S.taken sink.old) (S.taken sink.new) (S.faults sink.old) (S.faults sink.new)) }
 
     // Right words, files of the form within the limit and no fault give the answers, or want of memory.
-    ensures complete {
-        let call = call_of (map string_bytes words.now) (F.content shelf.old) (F.faults shelf.old) (F.faults shelf.new) in
+    ensures complete { let call = call_of (map string_bytes words.now) (F.content shelf.old) (F.faults shelf.old) (F.faults shelf.new) in
         let output = output_of (S.taken sink.old) (S.taken sink.new) (S.faults sink.old) (S.faults sink.new) in
-        IsWellFormed call → IsFaultless call output → IsDoneOrWant result
-    }
+        IsWellFormed call → IsFaultless call output → IsDoneOrWant result }
 
     ensures shelf_later { F.faults shelf.old ≤ F.faults shelf.new }
     ensures sink_later { S.faults sink.old ≤ S.faults sink.new }

@@ -10,7 +10,9 @@ pub fn named_file(words: &[String]) -> Option<&str>
         (λ name. named_files (map string_bytes words.now) ≡ Some (name.now ∷ [])) }
 {
     match words {
-        [run, name] if run.as_str() == "run" && !name.as_str().starts_with('-') => Some(name.as_str()),
+        [run, name] if run.as_str() == "run" && !name.as_str().starts_with('-') => Some(
+            name.as_str(),
+        ),
         _ => None,
     }
 }

@@ -2,11 +2,22 @@
 #![tactic(auto)]
 
 mod answer;
+mod command;
+mod cut;
 mod fault;
+mod key;
+mod laws;
 mod line;
+mod output;
+mod put;
 mod reading;
 
-pub use answer::{Answer, Played, show_reply, show_run};
+pub use answer::{Answer, show_reply};
 pub use fault::{FileFault, LineWhy};
+pub use laws::file_laws;
 pub use line::{Line, Lines};
+pub use output::{Played, show_run};
 pub use reading::read_file;
+
+#[cfg(test)]
+mod tests;

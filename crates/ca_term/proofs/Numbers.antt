@@ -39,7 +39,7 @@ pub byte_is : (k n : ℕ) → byte_at k n ≡ n / 256 ^ k % 256
 byte_is zero n = grind arith
 byte_is (suc k) n = refl
 
-split_high : (k n : ℕ) → n % 256 ^ suc k ≡ byte_at k n * 256 ^ k + n % 256 ^ k
+pub split_high : (k n : ℕ) → n % 256 ^ suc k ≡ byte_at k n * 256 ^ k + n % 256 ^ k
 split_high k n = rw (byte_is k n) (let p : 0 < 256 ^ k = base_pos k in let e : 256 ^ suc k ≡ 256 * 256 ^ k = omega (arith, pow-suc 256 k) in rw e (mod-mul n (omega arith) p))
 
 -- the last k bytes of two numbers

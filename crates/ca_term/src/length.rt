@@ -1,5 +1,5 @@
 //! The length of a term's byte code, found without writing it.
-ghost use Rattle.std.specs.Prelude.{◌≡◌, ◌+◌, ◌<◌, length, min, MatchOption};
+ghost use Rattle.std.specs.Prelude.{◌≡◌, ◌+◌, ◌<◌, ◌≤◌, length, min, MatchOption};
 ghost use Rattle.ca_term.specs.Code.{code_of, row_code, int_code, escaped, magnitude};
 ghost use Rattle.ca_term.specs.Tree.{row_of};
 
@@ -67,10 +67,12 @@ fn room_behind_escaped(bytes: &[u8], room: usize) -> Option<usize>
     left.checked_sub(zeros)
 }
 
-// The length of an integer's code: a tag, and the bytes of the integer or of its complement without leading zero bytes.
+/// The length in bytes of an integer's code: a tag, and up to eight bytes.
 #[tactic(auto, using(crate::proofs::Lengths::length_int_code))]
-fn int_code_length(value: i64) -> usize
-    ensures { result ≡ length (int_code value) }
+pub fn int_code_length(value: i64) -> usize
+    ensures value { result ≡ length (int_code value) }
+    ensures least { 1 ≤ result }
+    ensures most { result ≤ 9 }
 {
     let zeros = magnitude(value).leading_zeros() as usize;
     1 + (71 - zeros) / 8

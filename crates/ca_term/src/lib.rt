@@ -14,10 +14,10 @@ pub use build::{atom, bin, cons, int, nil, tuple};
 pub use code::code_laws;
 pub use copy::try_copy;
 pub use fault::TermFault;
-pub use length::code_length;
+pub use length::{code_length, int_code_length};
 pub use order::{order_laws, term_order};
 pub use term::{Kind, Term};
 pub use terms::Terms;
 
-// cfg
-// mod tests;
+#[cfg(test)]
+mod tests;

@@ -30,7 +30,7 @@ fn check<R: Abort + AllocGlobal>(rt: &R, term: &Term, text: &str) -> Result<(), 
     Ok(())
 }
 
-// As Erlang prints them with `~tw`, but for the atoms with a code point that `~tw` writes otherwise.
+// As Erlang's `~tw` writes them, but for the control characters that it names, as `\d` and `\v`.
 #[test]
 fn atoms(rt: HostRuntime) -> Result<(), Fail> {
     for (text, shown) in [
@@ -95,4 +95,19 @@ fn lists_and_tuples(rt: HostRuntime) -> Result<(), Fail> {
         tuple(pair(alloc, nil(), bin(alloc, b"x")?)?)?,
     )?;
     check(&rt, &nested, "[[1,[]],[1,2|3]|{[],<<\"x\">>}]")
+}
+
+// The loops along a tail: a list may be longer than the stack is deep.
+#[test]
+fn long_lists(rt: HostRuntime) -> Result<(), Fail> {
+    let mut list = nil();
+    for _ in 0..100_000 {
+        list = cons(rt.alloc(), int(7), list)?;
+    }
+    let mut into = Vec::new(rt.alloc());
+    print_term(&list, &mut into)?;
+    assert_eq!(rt; into.len(), 200_001);
+    assert!(rt; into.as_slice().starts_with(b"[7,7,"));
+    assert!(rt; into.as_slice().ends_with(b",7]"));
+    Ok(())
 }

@@ -14,8 +14,10 @@ apply-requires c =
     let lines = c.args.lines.now in
     let within : c.loop-line.line-index < length lines = omega arith in
     let more : c.loop-line.line-index < length (commands_in (numbered lines)) = omega (arith, length_commands lines) in
-    record { built = built_at (commands_in (numbered lines)) c.loop-line.line-index (command_of c.line-item.result.cmd) c.requires.built more
-      (command_at lines c.loop-line.line-index c.line-item.result within (sym c.line-item.is)) }
+    record {
+      built = built_at (commands_in (numbered lines)) c.loop-line.line-index (command_of c.line-item.result.cmd) c.requires.built more
+          (command_at lines c.loop-line.line-index c.line-item.result within (sym c.line-item.is));
+    }
 
 pub loop-line-preserved : goal.loop-line-preserved
 loop-line-preserved c =
@@ -28,7 +30,7 @@ loop-line-preserved c =
     let stepped = rw c.loop-line.invariant.keypos at c.in_ok-reply.ensures.step in
     let pushed : said c.push.new.self.items ≡ said c.loop-line.answers.items ++ Replied (response_of c.in_ok-reply.reply) ∷ [] = ap said c.in_ok-push.ensures.items ∙ map-append answered c.loop-line.answers.items _ in
     let next = goes_on p (commands_in (numbered lines)) i c.loop-line.table.objects c.apply.new.self.objects (continuation_of c.loop-line.cont) (continuation_of c.apply.new.cont)
-        (said c.loop-line.answers.items) command (response_of c.in_ok-reply.reply) c.loop-line.invariant.playing more (command_at lines i c.line-item.result within (sym c.line-item.is)) stepped in
+    (said c.loop-line.answers.items) command (response_of c.in_ok-reply.reply) c.loop-line.invariant.playing more (command_at lines i c.line-item.result within (sym c.line-item.is)) stepped in
     record {
       keypos = c.in_ok-reply.ensures.keypos ∙ c.loop-line.invariant.keypos;
       playing = subst (λ (x : List Answered). IsPlaying p (commands_in (numbered lines)) (i + 1) c.apply.new.self.objects (continuation_of c.apply.new.cont) x) (sym pushed) next;

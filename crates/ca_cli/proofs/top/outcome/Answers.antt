@@ -8,7 +8,7 @@ use Rattle.ca_cli.proofs.top.outcome.Goals as goal
 pub returns-in-Ok-clause-outcome : goal.returns-in-Ok-clause-outcome
 returns-in-Ok-clause-outcome g c =
     answered_outcome _ c.in-Some.name.now c.in-Some.ensures c.as_slice.result.now c.fetched.result.0 c.fetched.result.1.items
-      (rw c.as_slice.ensures.value c.in-Ok.ensures.found) (rw c.as_slice.ensures.value c.in-Ok.ensures.fits) c.fetched.ensures.cause
+    (rw c.as_slice.ensures.value c.in-Ok.ensures.found) (rw c.as_slice.ensures.value c.in-Ok.ensures.fits) c.fetched.ensures.cause
 
 pub returns-in-Ok-clause-complete : goal.returns-in-Ok-clause-complete
 returns-in-Ok-clause-complete g c well faultless =

@@ -1,0 +1,4 @@
+pub mod Integers
+pub mod Parts
+pub mod Put
+pub mod FirstZero

@@ -1,0 +1,3 @@
+pub mod IntTag
+pub mod Puts
+pub mod Zeros
