@@ -1,4 +1,8 @@
 //! Why a command file was refused.
+ghost use Rattle.std.specs.Prelude.{◌≡◌};
+ghost use Rattle.ca_cmd.specs.declared.fault.FileFault.TheVariants.{NoMemory};
+
+use std::alloc::{AllocError, AllocFailed};
 
 /// Why a line was refused.
 #[derive(Clone, Copy, Debug, PartialEq, Eq)]
@@ -21,4 +25,20 @@ pub enum FileFault {
     BadLine { line: u32, at: u32, why: LineWhy },
     /// Memory was not found.
     NoMemory,
+}
+
+impl From<AllocError> for FileFault {
+    ghost from_gives = { λ _ e. e ≡ NoMemory };
+
+    fn from(_e: AllocError) -> FileFault {
+        FileFault::NoMemory
+    }
+}
+
+impl<T: Drop> From<AllocFailed<T>> for FileFault {
+    ghost from_gives = { λ _ e. e ≡ NoMemory };
+
+    fn from(_e: AllocFailed<T>) -> FileFault {
+        FileFault::NoMemory
+    }
 }

@@ -2,7 +2,10 @@
 #![tactic(auto)]
 
 mod answer;
+mod command;
+mod cut;
 mod fault;
+mod key;
 mod line;
 mod reading;
 

@@ -21,7 +21,6 @@ pub struct Lines {
 impl Model for Lines {
     ghost use Rattle.std.specs.Prelude.{List};
     ghost use Rattle.ca_cmd.specs.declared.line.Line.{Line};
-
     ghost use Rattle.std.specs.Coded.{codes};
     ghost use Rattle.ca_term.specs.contracts.term.Term as term;
 

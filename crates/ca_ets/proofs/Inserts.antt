@@ -1,11 +1,11 @@
 -- What an insert leaves and answers, at each of its exits.
-use Rattle.std.proofs.Common.{◌≡◌, ℕ, Bool, true, false, List, [], ◌∷◌, ◌++◌, refl, Result}
+use Rattle.std.proofs.Common.{◌≡◌, ℕ, true, false, List, Result}
 use Rattle.ca_term.specs.Tree.{Tree}
 use Rattle.ca_ets.specs.Command.{Continuation, Error, Truth}
 use Rattle.ca_ets.specs.Object.{is_object, fits, key_of}
-use Rattle.ca_ets.specs.OrderedMap.{put, IsTable}
+use Rattle.ca_ets.specs.OrderedMap.{IsTable}
 use Rattle.ca_ets.specs.Place.{IsPlace, placed}
-use Rattle.ca_ets.specs.Step.{Stepped, inserted, unchanged}
+use Rattle.ca_ets.specs.Step.{inserted, unchanged}
 use Rattle.ca_ets.specs.declared.command.Fault.TheVariants.{BadArg, Size}
 use Rattle.ca_ets.proofs.Places.{placed_is}
 use Rattle.ca_ets.proofs.Puts.{table_put}

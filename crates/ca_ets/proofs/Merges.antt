@@ -1,5 +1,5 @@
 -- Merges whose turns are all of one client, or of none.
-use Rattle.std.proofs.Common.{◌≡◌, ℕ, zero, suc, ◌==◌, Bool, true, false, List, [], ◌∷◌, map, arith, refl, sym, ◌∙◌, ap, cond, if◌then◌else◌}
+use Rattle.std.proofs.Common.{◌≡◌, ℕ, zero, suc, ◌==◌, true, false, List, [], ◌∷◌, map, arith, refl, sym, ◌∙◌, ap}
 use Rattle.std.proofs.lemmas.Bool.Decides.{nat_tests}
 use Rattle.std.specs.Prelude.{slice_index_or, replicate}
 use Rattle.ca_term.specs.Tree.{Tree}
@@ -83,6 +83,7 @@ explained p cs said t i =
     merges_by : (merge : List (ℕ × Command)) → own 0 merge ≡ replied_commands cs said → ((n : ℕ) → own (suc n) merge ≡ []) → IsMerge (replied (cs ∷ []) (said ∷ [])) merge
     merges_by merge e h zero = e
     merges_by merge e h (suc n) = h n
+
     replies_by : (replies : List (ℕ × Response)) → own 0 replies ≡ replies_in said → ((n : ℕ) → own (suc n) replies ≡ []) → IsMerge (map replies_in (said ∷ [])) replies
     replies_by replies e h zero = e
     replies_by replies e h (suc n) = h n

@@ -1,5 +1,5 @@
 -- The table of a run is an ordered map at each step.
-use Rattle.std.proofs.Common.{◌≡◌, ℕ, List, [], ◌∷◌, subst}
+use Rattle.std.proofs.Common.{ℕ, List, [], ◌∷◌, subst}
 use Rattle.ca_term.specs.Tree.{Tree}
 use Rattle.ca_ets.specs.Command.{Command, Answered, Continuation, Never}
 use Rattle.ca_ets.specs.Step.{step}

@@ -1,5 +1,5 @@
 -- Commands, replies and continuations as plain data: they know nothing of memory and of room kept in it.
-use Rattle.std.specs.Prelude.{ℕ, Bool, true, false, List}
+use Rattle.std.specs.Prelude.{ℕ, Bool, List}
 use Rattle.ca_term.specs.Tree.{Tree}
 use Rattle.ca_ets.specs.declared.command.Cmd.{Cmd}
 use Rattle.ca_ets.specs.declared.command.Cmd.TheVariants as cmd

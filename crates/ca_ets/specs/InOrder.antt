@@ -3,7 +3,7 @@ use Rattle.std.specs.Prelude.{◌≡◌, ℕ, List, [], ◌∷◌, length, map}
 use Rattle.ca_term.specs.Tree.{Tree}
 use Rattle.ca_ets.specs.Command.{Command, Response, Answered, Continuation, Never}
 use Rattle.ca_ets.specs.Explained.{replied_commands, replies_in}
-use Rattle.ca_ets.specs.Step.{Stepped, step}
+use Rattle.ca_ets.specs.Step.{step}
 
 -- what the commands come to, from a map and a continuation on: the replies, and the table
 pub record Played : Type 0 where

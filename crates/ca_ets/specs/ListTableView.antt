@@ -1,5 +1,5 @@
 -- A table kept as a list, and the vector that holds it.
-use Rattle.std.specs.Prelude.{ℕ, ◌≤◌}
+use Rattle.std.specs.Prelude.{◌≤◌}
 use Rattle.ca_ets.specs.Table.{Table}
 use Rattle.ca_ets.specs.OrderedMap.{IsTable}
 use Rattle.ca_ets.specs.declared.table.ListTable.TheInside.{Inside}

@@ -1,6 +1,6 @@
 -- The ordered map of objects: a list of objects that fit, their keys strictly ascending in the term order.
 -- Source: the ets manual, the table type `ordered_set`.
-use Rattle.std.specs.Prelude.{◌≡◌, ℕ, Bool, true, not, ◌&&◌, List, [], ◌∷◌, ◌++◌, filter}
+use Rattle.std.specs.Prelude.{◌≡◌, ℕ, true, not, ◌&&◌, List, [], ◌∷◌, ◌++◌, filter}
 use Rattle.std.specs.declared.cmp.Ordering.TheVariants.{Less}
 use Rattle.std.specs.Ordering.{is_lt, is_le, is_eq, is_gt}
 use Rattle.ca_term.specs.Tree.{Tree}
