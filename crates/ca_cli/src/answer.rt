@@ -8,7 +8,7 @@ ghost use Rattle.ca_cmd.specs.Refusal.{IsCauseIn};
 ghost use Rattle.ca_cli.specs.Headline.{IsAnswer};
 
 use crate::play::play;
-use ca_cmd::{FileFault, Lines, Played, read_file, show_run};
+use ca_cmd::{FileFault, Lines, read_file, show_run};
 use ca_ets::ListTable;
 use std::alloc::{AllocError, Global};
 
@@ -19,8 +19,7 @@ fn output(alloc: Global, lines: Lines) -> Result<Vec<u8>, AllocError>
 {
     let mut table = ListTable::new(alloc, 1);
     let answers = play(alloc, &mut table, lines.as_slice())?;
-    let clients = [Played { lines, answers }];
-    show_run(alloc, &clients, table.objects())
+    show_run(alloc, &[lines], &[answers], table.objects())
 }
 
 /// What is printed for a file of at most 16,777,216 bytes: the answers to its commands, and the table.

@@ -28,18 +28,16 @@ pub fn show_reply(answer: &Answer, into: &mut Vec<u8>) -> Result<(), AllocError>
     Err(AllocError)
 }
 
-/// A client's lines, with an answer for each.
-#[derive(Drop)]
-pub struct Played {
-    pub lines: Lines,
-    pub answers: Vec<Answer>,
-}
-
-/// The whole output: the answers of the clients, and the table.
-pub fn show_run(alloc: Global, clients: &[Played], table: &[Term]) -> Result<Vec<u8>, AllocError>
-    ensures { IfOk result (λ bytes. bytes.items ≡ text_of_run (map (λ client. numbered client.lines) clients.now) (map (λ client. said client.answers.items) clients.now) table.now) }
+/// The whole output: the answers of each client to its lines, and the table.
+pub fn show_run(
+    alloc: Global,
+    files: &[Lines],
+    answers: &[Vec<Answer>],
+    table: &[Term],
+) -> Result<Vec<u8>, AllocError>
+    ensures { IfOk result (λ bytes. bytes.items ≡ text_of_run (map numbered files.now) (map (λ a. said a.items) answers.now) table.now) }
 {
-    let _ = (clients.len(), table.len());
+    let _ = (files.len(), answers.len(), table.len());
     let _ = alloc;
     Err(AllocError)
 }

@@ -9,7 +9,7 @@ mod key;
 mod line;
 mod reading;
 
-pub use answer::{Answer, Played, show_reply, show_run};
+pub use answer::{Answer, show_reply, show_run};
 pub use fault::{FileFault, LineWhy};
 pub use line::{Line, Lines};
 pub use reading::read_file;

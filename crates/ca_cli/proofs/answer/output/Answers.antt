@@ -16,4 +16,4 @@ returns c file f =
     let played = rw c.as_slice.ensures at (rw c.new-table.ensures.keypos at c.in_ok-answers.ensures.played) in
     IfOk-weaker c.show_run.result _ _
     (λ bytes w. one_answer file bytes.items lines answers c.play.new.table.objects f played c.in_ok-answers.ensures.unrefused
-    (w ∙ ap (λ (t : List Tree). text_of_run (lines ∷ []) (answers ∷ []) t) c.objects.ensures)) c.show_run.ensures
+    (w ∙ ap (λ (t : List Tree). text_of_run (lines ∷ []) (answers ∷ []) t) c.objects.ensures.value)) c.show_run.ensures
