@@ -2,9 +2,11 @@
 //! project's table of messages.
 use crate::status::Status;
 use crate::top::run;
-use ca_outside::{Drawer, SureDrawer, SureTape, Tape};
+use ca_outside::{Drawer, FetchFault, Shelf, SureDrawer, SureTape, Tape};
 use std::alloc::{AllocError, Global};
 use std::test::Fail;
+
+const USAGE: &str = "usage: ca run [OPTIONS] [--] FILE...\n";
 
 // The words of a command line, parted by blanks.
 fn words_of(alloc: Global, line: &str) -> Result<Vec<String>, AllocError> {
@@ -15,41 +17,77 @@ fn words_of(alloc: Global, line: &str) -> Result<Vec<String>, AllocError> {
     Ok(words)
 }
 
-// One file of this name.
-fn file_of(alloc: Global, name: &str, bytes: &[u8]) -> Result<Vec<(String, Vec<u8>)>, AllocError> {
-    let mut files = Vec::new(alloc);
-    files.push((name.to_string(alloc)?, bytes.to_vec(alloc)?))?;
-    Ok(files)
+// The files of these names.
+fn files_of(alloc: Global, files: &[(&str, &[u8])]) -> Result<Vec<(String, Vec<u8>)>, AllocError> {
+    let mut all = Vec::new(alloc);
+    for (name, bytes) in files {
+        all.push((name.to_string(alloc)?, bytes.to_vec(alloc)?))?;
+    }
+    Ok(all)
+}
+
+// The files `a` and `b`, of which only `a` may be there.
+fn two_files(
+    alloc: Global,
+    a: &str,
+    b: Option<&str>,
+) -> Result<Vec<(String, Vec<u8>)>, AllocError> {
+    match b {
+        Some(b) => files_of(
+            alloc,
+            &[("a", a.as_bytes()), ("b", b.as_bytes())],
+        ),
+        None => files_of(alloc, &[("a", a.as_bytes())]),
+    }
 }
 
 #[test]
 fn answers_files(rt: HostRuntime) -> Result<(), Fail> {
     let alloc = rt.alloc();
-    for (file, output) in [
+    for (words, a, b, output) in [
         (
+            "run a",
             "insert {1,a}\nlookup 1\n",
+            "",
             "client 1\n1 true\n2 [{1,a}]\ntable\n{1,a}.\nend 1\n",
         ),
-        ("", "client 1\ntable\nend 0\n"),
+        ("run a", "", "", "client 1\ntable\nend 0\n"),
         (
+            "run a",
             "insert {1,a}\nlookup 2\n",
+            "",
             "client 1\n1 true\n2 []\ntable\n{1,a}.\nend 1\n",
         ),
         (
+            "run a",
             "insert {b,1}\ninsert {-3}\ninsert {aa,x,y}\ninsert {7}\ninsert {b,2}\nlookup b\n",
+            "",
             "client 1\n1 true\n2 true\n3 true\n4 true\n5 true\n6 [{b,2}]\ntable\n{-3}.\n{7}.\n{aa,x,y}.\n{b,2}.\nend 4\n",
         ),
+        ("run a b", "", "", "client 1\nclient 2\ntable\nend 0\n"),
+        (
+            "run a b",
+            "insert {1,a}\n",
+            "lookup 1\ninsert {1,b}\n",
+            "client 1\n1 true\nclient 2\n1 [{1,a}]\n2 true\ntable\n{1,b}.\nend 1\n",
+        ),
+        (
+            "run b a b",
+            "insert {2}\n",
+            "lookup 2\n",
+            "client 1\n1 []\nclient 2\n1 true\nclient 3\n1 [{2}]\ntable\n{2}.\nend 1\n",
+        ),
     ] {
-        let mut shelf = SureDrawer::new(file_of(alloc, "f", file.as_bytes())?);
+        let mut shelf = SureDrawer::new(two_files(alloc, a, Some(b))?);
         let mut sink = SureTape::new(alloc, 1000)?;
         let status = run(
             alloc,
-            words_of(alloc, "run f")?.as_slice(),
+            words_of(alloc, words)?.as_slice(),
             &mut shelf,
             &mut sink,
         );
-        assert_eq!(rt; status, Status::Done, "at {file:?}");
-        assert_eq!(rt; sink.taken(), output.as_bytes(), "at {file:?}");
+        assert_eq!(rt; status, Status::Done, "at {words} {a:?} {b:?}");
+        assert_eq!(rt; sink.taken(), output.as_bytes(), "at {words} {a:?} {b:?}");
     }
     Ok(())
 }
@@ -57,45 +95,26 @@ fn answers_files(rt: HostRuntime) -> Result<(), Fail> {
 #[test]
 fn names_what_is_wrong(rt: HostRuntime) -> Result<(), Fail> {
     let alloc = rt.alloc();
-    for (words, file, status, message) in [
+    for (words, a, status, message) in [
+        ("", "", Status::Usage, USAGE),
+        ("run", "", Status::Usage, USAGE),
+        ("run -a", "", Status::Usage, USAGE),
+        ("run a -a", "", Status::Usage, USAGE),
+        ("walk a", "", Status::Usage, USAGE),
         (
-            "",
-            "",
-            Status::Usage,
-            "usage: ca run [OPTIONS] [--] FILE...\n",
-        ),
-        (
-            "run",
-            "",
-            Status::Usage,
-            "usage: ca run [OPTIONS] [--] FILE...\n",
-        ),
-        (
-            "run -f",
-            "",
-            Status::Usage,
-            "usage: ca run [OPTIONS] [--] FILE...\n",
-        ),
-        (
-            "run f f",
-            "",
-            Status::Usage,
-            "usage: ca run [OPTIONS] [--] FILE...\n",
-        ),
-        (
-            "walk f",
-            "",
-            Status::Usage,
-            "usage: ca run [OPTIONS] [--] FILE...\n",
-        ),
-        (
-            "run g",
+            "run c",
             "",
             Status::ShelfFault { file: 1 },
             "cannot read file 1\n",
         ),
         (
-            "run f",
+            "run a b",
+            "",
+            Status::ShelfFault { file: 2 },
+            "cannot read file 2\n",
+        ),
+        (
+            "run a b",
             "insert {1}\nlookup 01\n",
             Status::BadLine {
                 file: 1,
@@ -105,7 +124,7 @@ fn names_what_is_wrong(rt: HostRuntime) -> Result<(), Fail> {
             "bad line: file 1 line 2 at 1\n",
         ),
         (
-            "run f",
+            "run a",
             "lookup 1",
             Status::BadLine {
                 file: 1,
@@ -115,7 +134,7 @@ fn names_what_is_wrong(rt: HostRuntime) -> Result<(), Fail> {
             "bad line: file 1 line 1 at 1\n",
         ),
     ] {
-        let mut shelf = Drawer::new(file_of(alloc, "f", file.as_bytes())?, Vec::new(alloc));
+        let mut shelf = Drawer::new(two_files(alloc, a, None)?, Vec::new(alloc));
         let mut sink = SureTape::new(alloc, 1000)?;
         let ended = run(
             alloc,
@@ -130,31 +149,99 @@ fn names_what_is_wrong(rt: HostRuntime) -> Result<(), Fail> {
 }
 
 #[test]
-fn reads_no_longer_file_than_the_limit(rt: HostRuntime) -> Result<(), Fail> {
+fn fetches_no_file_after_a_bad_one(rt: HostRuntime) -> Result<(), Fail> {
     let alloc = rt.alloc();
-    let bytes = vec![in alloc; 10u8; 16_777_217]?;
-    let mut shelf = SureDrawer::new(file_of(alloc, "f", bytes.as_slice())?);
+    // Of this drawer's fetches the second one fails.
+    let mut shelf = Drawer::new(
+        two_files(alloc, "lookup\n", None)?,
+        [2].to_vec(alloc)?,
+    );
     let mut sink = SureTape::new(alloc, 1000)?;
     let status = run(
         alloc,
-        words_of(alloc, "run f")?.as_slice(),
+        words_of(alloc, "run a b")?.as_slice(),
         &mut shelf,
         &mut sink,
     );
-    assert_eq!(rt; status, Status::TooLong { file: 1 });
-    assert_eq!(rt; sink.taken(), b"file 1 too long\n".as_slice());
+    assert_eq!(
+        rt;
+        status,
+        Status::BadLine { file: 1, line: 1, at: 1 }
+    );
+    let mut bytes = Vec::new(alloc);
+    let second = shelf.fetch(alloc, "a", 100, &mut bytes);
+    assert_eq!(rt; second, Err(FetchFault::Failed));
+    Ok(())
+}
+
+#[test]
+fn takes_up_to_64_files(rt: HostRuntime) -> Result<(), Fail> {
+    let alloc = rt.alloc();
+    for (count, ended) in [(64, Status::Done), (65, Status::Usage)] {
+        let mut words = words_of(alloc, "run")?;
+        for _ in 0..count {
+            words.push("a".to_string(alloc)?)?;
+        }
+        let mut shelf = SureDrawer::new(two_files(alloc, "", None)?);
+        let mut sink = SureTape::new(alloc, 1000)?;
+        let status = run(alloc, words.as_slice(), &mut shelf, &mut sink);
+        assert_eq!(rt; status, ended, "at {count}");
+    }
+    Ok(())
+}
+
+#[test]
+fn reads_no_more_bytes_than_the_limit(rt: HostRuntime) -> Result<(), Fail> {
+    let alloc = rt.alloc();
+    // The file `b` has one byte too many alone; as many as there may be, behind nine others; and as many as `a` leaves.
+    for (words, length, status) in [
+        (
+            "run b a",
+            16_777_217,
+            Status::TooLong { file: 1 },
+        ),
+        (
+            "run a b",
+            16_777_216,
+            Status::TooLong { file: 2 },
+        ),
+        (
+            "run a b",
+            16_777_207,
+            Status::BadLine {
+                file: 2,
+                line: 1,
+                at: 1,
+            },
+        ),
+    ] {
+        let bytes = vec![in alloc; 10u8; length]?;
+        let files = [
+            ("a", b"lookup 1\n".as_slice()),
+            ("b", bytes.as_slice()),
+        ];
+        let mut shelf = SureDrawer::new(files_of(alloc, &files)?);
+        let mut sink = SureTape::new(alloc, 1000)?;
+        let ended = run(
+            alloc,
+            words_of(alloc, words)?.as_slice(),
+            &mut shelf,
+            &mut sink,
+        );
+        assert_eq!(rt; ended, status, "at {length}");
+    }
     Ok(())
 }
 
 #[test]
 fn stops_where_the_sink_fails(rt: HostRuntime) -> Result<(), Fail> {
     let alloc = rt.alloc();
-    let file = b"insert {1,a}\nlookup 1\n".as_slice();
-    let mut shelf = SureDrawer::new(file_of(alloc, "f", file)?);
+    let a = "insert {1,a}\nlookup 1\n";
+    let mut shelf = SureDrawer::new(two_files(alloc, a, None)?);
     let mut sink = Tape::new(alloc, 9, 4, Vec::new(alloc))?;
     let status = run(
         alloc,
-        words_of(alloc, "run f")?.as_slice(),
+        words_of(alloc, "run a")?.as_slice(),
         &mut shelf,
         &mut sink,
     );
