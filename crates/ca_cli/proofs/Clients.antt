@@ -30,7 +30,7 @@ pub more_played : (p : ℕ) (lines : List (List Numbered)) (answers : List (List
 more_played p lines answers t u own said h n =
     let all = all_replied (commands_in own) said n.answered n.unrefused in
     let more = explained_more p (map commands_in lines) answers t u (commands_in own) said h.explained n.answered
-      (ap (λ (x : List Command). (played p t Never x).replies) all ∙ n.replies) (ap (λ (x : List Command). (played p t Never x).table) all ∙ n.table_is) in
+    (ap (λ (x : List Command). (played p t Never x).replies) all ∙ n.replies) (ap (λ (x : List Command). (played p t Never x).table) all ∙ n.table_is) in
     record {
       explained = subst (λ (x : List (List Command)). Explained p x (answers ++ said ∷ []) u) (sym (map-append commands_in lines (own ∷ []))) more;
       unrefused = replies_more answers said h.unrefused n.unrefused;

@@ -1,7 +1,6 @@
 -- The commands of files are built ones.
 use Rattle.std.proofs.Common.{◌≡◌, ℕ, zero, suc, ◌+◌, true, List, [], ◌∷◌, ◌&&◌, map, arith, refl, ap, ◌∙◌}
 use Rattle.std.specs.List.{All, list_all}
-use Rattle.ca_term.specs.Tree.{Tree}
 use Rattle.ca_ets.specs.Command.{Command, Insert, Lookup}
 use Rattle.ca_ets.specs.Step.{is_built}
 use Rattle.ca_cmd.specs.File.{Numbered, commands_in, IsSimple, AreLines, IsFileOf}

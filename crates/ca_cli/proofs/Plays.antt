@@ -1,7 +1,6 @@
 -- How far the play of one client's commands has come.
-use Rattle.std.proofs.Common.{◌≡◌, ℕ, zero, suc, ◌+◌, ◌≤◌, ◌<◌, Bool, true, false, List, [], ◌∷◌, ◌++◌, length, drop, get_or, map, arith, add-one, drop-cons, length-append, refl, sym, ◌∙◌, ap, subst, append_assoc, append-nil, ◌&&◌}
-use Rattle.std.proofs.lemmas.List.{drop_all, length-map, get_or-map, map-append}
-use Rattle.std.proofs.lemmas.List.Sums.{AllPass-from_list_all}
+use Rattle.std.proofs.Common.{◌≡◌, ℕ, zero, suc, ◌+◌, ◌<◌, Bool, true, false, List, [], ◌∷◌, ◌++◌, length, drop, get_or, arith, add-one, drop-cons, length-append, refl, sym, ◌∙◌, ap, append_assoc, append-nil, ◌&&◌}
+use Rattle.std.proofs.lemmas.List.{drop_all}
 use Rattle.std.specs.List.{list_all}
 use Rattle.ca_term.specs.Tree.{Tree}
 use Rattle.ca_ets.specs.Command.{Command, Response, Answered, Replied, Full, Deep, Worn, Continuation, Never}

@@ -2,6 +2,8 @@
 //! `ets`, a file a client, one client after the other, and prints every answer and the final table.
 #![tactic(auto)]
 
+ghost use Rattle.std.specs.Prelude.{◌≡◌, IfErr};
+
 mod answer;
 mod files;
 mod message;
@@ -17,7 +19,9 @@ use std::process::ExitCode;
 use std::{env, io};
 
 // The words after the program's name. Where one isn't text there is no command line: no words stand for that.
-fn words_given(rt: &HostRuntime) -> Result<Vec<String>, Status> {
+fn words_given(rt: &HostRuntime) -> Result<Vec<String>, Status>
+    ensures { IfErr result (λ status. status ≡ Status.NoMemory) }
+{
     let mut words = Vec::new(rt.alloc());
     match env::args(rt) {
         Ok(args) => {

@@ -6,8 +6,6 @@ use ca_outside::{Drawer, FetchFault, Shelf, SureDrawer, SureTape, Tape};
 use std::alloc::{AllocError, Global};
 use std::test::Fail;
 
-const USAGE: &str = "usage: ca run [OPTIONS] [--] FILE...\n";
-
 // The words of a command line, parted by blanks.
 fn words_of(alloc: Global, line: &str) -> Result<Vec<String>, AllocError> {
     let mut words = Vec::new(alloc);
@@ -24,21 +22,6 @@ fn files_of(alloc: Global, files: &[(&str, &[u8])]) -> Result<Vec<(String, Vec<u
         all.push((name.to_string(alloc)?, bytes.to_vec(alloc)?))?;
     }
     Ok(all)
-}
-
-// The files `a` and `b`, of which only `a` may be there.
-fn two_files(
-    alloc: Global,
-    a: &str,
-    b: Option<&str>,
-) -> Result<Vec<(String, Vec<u8>)>, AllocError> {
-    match b {
-        Some(b) => files_of(
-            alloc,
-            &[("a", a.as_bytes()), ("b", b.as_bytes())],
-        ),
-        None => files_of(alloc, &[("a", a.as_bytes())]),
-    }
 }
 
 #[test]
@@ -78,7 +61,8 @@ fn answers_files(rt: HostRuntime) -> Result<(), Fail> {
             "client 1\n1 []\nclient 2\n1 true\nclient 3\n1 [{2}]\ntable\n{2}.\nend 1\n",
         ),
     ] {
-        let mut shelf = SureDrawer::new(two_files(alloc, a, Some(b))?);
+        let files = files_of(alloc, &[("a", a.as_bytes()), ("b", b.as_bytes())])?;
+        let mut shelf = SureDrawer::new(files);
         let mut sink = SureTape::new(alloc, 1000)?;
         let status = run(
             alloc,
@@ -92,68 +76,71 @@ fn answers_files(rt: HostRuntime) -> Result<(), Fail> {
     Ok(())
 }
 
+// How a run of these words ends over a drawer with one file, `a`, and what it writes.
+fn ended(alloc: Global, words: &str, a: &str) -> Result<(Status, SureTape), AllocError> {
+    let mut shelf = Drawer::new(files_of(alloc, &[("a", a.as_bytes())])?, Vec::new(alloc));
+    let mut sink = SureTape::new(alloc, 1000)?;
+    let status = run(
+        alloc,
+        words_of(alloc, words)?.as_slice(),
+        &mut shelf,
+        &mut sink,
+    );
+    Ok((status, sink))
+}
+
+#[test]
+fn takes_no_other_words(rt: HostRuntime) -> Result<(), Fail> {
+    for words in ["", "run", "run -a", "run a -a", "walk a", "Run a", "a run"] {
+        let (status, sink) = ended(rt.alloc(), words, "")?;
+        assert_eq!(rt; status, Status::Usage, "at {words}");
+        assert_eq!(rt;
+            sink.taken(),
+            b"usage: ca run [OPTIONS] [--] FILE...\n".as_slice()
+        );
+    }
+    Ok(())
+}
+
+#[test]
+fn takes_up_to_64_files(rt: HostRuntime) -> Result<(), Fail> {
+    let alloc = rt.alloc();
+    for (count, status) in [(64, Status::Done), (65, Status::Usage)] {
+        let mut words = words_of(alloc, "run")?;
+        for _ in 0..count {
+            words.push("a".to_string(alloc)?)?;
+        }
+        let mut shelf = SureDrawer::new(Vec::new(alloc));
+        let mut sink = SureTape::new(alloc, 1000)?;
+        let ended = run(alloc, words.as_slice(), &mut shelf, &mut sink);
+        assert_eq!(rt; ended, status, "at {count}");
+    }
+    Ok(())
+}
+
 #[test]
 fn names_what_is_wrong(rt: HostRuntime) -> Result<(), Fail> {
-    let alloc = rt.alloc();
-    for (words, a, status, message) in [
-        ("", "", Status::Usage, USAGE),
-        ("run", "", Status::Usage, USAGE),
-        ("run -a", "", Status::Usage, USAGE),
-        ("run a -a", "", Status::Usage, USAGE),
-        ("walk a", "", Status::Usage, USAGE),
-        (
-            "run c",
-            "",
-            Status::ShelfFault { file: 1 },
-            "cannot read file 1\n",
-        ),
-        (
-            "run a b",
-            "",
-            Status::ShelfFault { file: 2 },
-            "cannot read file 2\n",
-        ),
-        (
-            "run a b",
-            "insert {1}\nlookup 01\n",
-            Status::BadLine {
-                file: 1,
-                line: 2,
-                at: 1,
-            },
-            "bad line: file 1 line 2 at 1\n",
-        ),
-        (
-            "run a",
-            "lookup 1",
-            Status::BadLine {
-                file: 1,
-                line: 1,
-                at: 1,
-            },
-            "bad line: file 1 line 1 at 1\n",
-        ),
+    for (words, a, file, message) in [
+        ("run c", "", 1, "cannot read file 1\n"),
+        ("run a b", "", 2, "cannot read file 2\n"),
     ] {
-        let mut shelf = Drawer::new(two_files(alloc, a, None)?, Vec::new(alloc));
-        let mut sink = SureTape::new(alloc, 1000)?;
-        let ended = run(
-            alloc,
-            words_of(alloc, words)?.as_slice(),
-            &mut shelf,
-            &mut sink,
-        );
-        assert_eq!(rt; ended, status, "at {words}");
+        let (status, sink) = ended(rt.alloc(), words, a)?;
+        assert_eq!(rt; status, Status::ShelfFault { file }, "at {words}");
         assert_eq!(rt; sink.taken(), message.as_bytes(), "at {words}");
     }
+    let (status, sink) = ended(rt.alloc(), "run a", "insert {1}\nlookup 01\n")?;
+    let (file, line, at) = (1, 2, 1);
+    assert_eq!(rt; status, Status::BadLine { file, line, at });
+    assert_eq!(rt; sink.taken(), b"bad line: file 1 line 2 at 1\n".as_slice());
     Ok(())
 }
 
 #[test]
 fn fetches_no_file_after_a_bad_one(rt: HostRuntime) -> Result<(), Fail> {
     let alloc = rt.alloc();
-    // Of this drawer's fetches the second one fails.
+    // The second fetch from this drawer fails, whatever it is of.
     let mut shelf = Drawer::new(
-        two_files(alloc, "lookup\n", None)?,
+        files_of(alloc, &[("a", b"lookup\n".as_slice())])?,
         [2].to_vec(alloc)?,
     );
     let mut sink = SureTape::new(alloc, 1000)?;
@@ -163,11 +150,8 @@ fn fetches_no_file_after_a_bad_one(rt: HostRuntime) -> Result<(), Fail> {
         &mut shelf,
         &mut sink,
     );
-    assert_eq!(
-        rt;
-        status,
-        Status::BadLine { file: 1, line: 1, at: 1 }
-    );
+    let (file, line, at) = (1, 1, 1);
+    assert_eq!(rt; status, Status::BadLine { file, line, at });
     let mut bytes = Vec::new(alloc);
     let second = shelf.fetch(alloc, "a", 100, &mut bytes);
     assert_eq!(rt; second, Err(FetchFault::Failed));
@@ -175,51 +159,17 @@ fn fetches_no_file_after_a_bad_one(rt: HostRuntime) -> Result<(), Fail> {
 }
 
 #[test]
-fn takes_up_to_64_files(rt: HostRuntime) -> Result<(), Fail> {
-    let alloc = rt.alloc();
-    for (count, ended) in [(64, Status::Done), (65, Status::Usage)] {
-        let mut words = words_of(alloc, "run")?;
-        for _ in 0..count {
-            words.push("a".to_string(alloc)?)?;
-        }
-        let mut shelf = SureDrawer::new(two_files(alloc, "", None)?);
-        let mut sink = SureTape::new(alloc, 1000)?;
-        let status = run(alloc, words.as_slice(), &mut shelf, &mut sink);
-        assert_eq!(rt; status, ended, "at {count}");
-    }
-    Ok(())
-}
-
-#[test]
 fn reads_no_more_bytes_than_the_limit(rt: HostRuntime) -> Result<(), Fail> {
     let alloc = rt.alloc();
-    // The file `b` has one byte too many alone; as many as there may be, behind nine others; and as many as `a` leaves.
+    // Of the limit, `a` takes 9 bytes. An empty line is a bad one.
+    let (file, line, at) = (2, 1, 1);
     for (words, length, status) in [
-        (
-            "run b a",
-            16_777_217,
-            Status::TooLong { file: 1 },
-        ),
-        (
-            "run a b",
-            16_777_216,
-            Status::TooLong { file: 2 },
-        ),
-        (
-            "run a b",
-            16_777_207,
-            Status::BadLine {
-                file: 2,
-                line: 1,
-                at: 1,
-            },
-        ),
+        ("run b a", 16_777_217, Status::TooLong { file: 1 }),
+        ("run a b", 16_777_208, Status::TooLong { file: 2 }),
+        ("run a b", 16_777_207, Status::BadLine { file, line, at }),
     ] {
         let bytes = vec![in alloc; 10u8; length]?;
-        let files = [
-            ("a", b"lookup 1\n".as_slice()),
-            ("b", bytes.as_slice()),
-        ];
+        let files = [("a", b"lookup 1\n".as_slice()), ("b", bytes.as_slice())];
         let mut shelf = SureDrawer::new(files_of(alloc, &files)?);
         let mut sink = SureTape::new(alloc, 1000)?;
         let ended = run(
@@ -228,7 +178,7 @@ fn reads_no_more_bytes_than_the_limit(rt: HostRuntime) -> Result<(), Fail> {
             &mut shelf,
             &mut sink,
         );
-        assert_eq!(rt; ended, status, "at {length}");
+        assert_eq!(rt; ended, status, "at {words} {length}");
     }
     Ok(())
 }
@@ -236,8 +186,8 @@ fn reads_no_more_bytes_than_the_limit(rt: HostRuntime) -> Result<(), Fail> {
 #[test]
 fn stops_where_the_sink_fails(rt: HostRuntime) -> Result<(), Fail> {
     let alloc = rt.alloc();
-    let a = "insert {1,a}\nlookup 1\n";
-    let mut shelf = SureDrawer::new(two_files(alloc, a, None)?);
+    let files = [("a", b"insert {1,a}\nlookup 1\n".as_slice())];
+    let mut shelf = SureDrawer::new(files_of(alloc, &files)?);
     let mut sink = Tape::new(alloc, 9, 4, Vec::new(alloc))?;
     let status = run(
         alloc,

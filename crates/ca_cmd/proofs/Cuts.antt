@@ -29,14 +29,14 @@ found_at : (stop : ℕ) (xs : List ℕ) (n i : ℕ) → position_from (λ b. eqb
 found_at stop [] n i e = cc
 found_at stop (x ∷ xs) n i e =
     elim (eqb x stop) as (λ b. eqb x stop ≡ b → cond b (Some n) (position_from (λ b. eqb b stop) (n + 1) xs) ≡ Some i → (k : ℕ) × (k < length (x ∷ xs)) × (i ≡ n + k) × IsCut (x ∷ xs) stop (take k (x ∷ xs)) (drop (suc k) (x ∷ xs))) [
-      true ↦ λ t s.
-        let h : n ≡ i = cc in
-        (0, omega arith, omega arith, record { free = tt; whole = ap (λ z. z ∷ xs) ((Decides-eqb x stop).0 t) })
-    | false ↦ λ t s.
-        let r = found_at stop xs (n + 1) i s in
-        let after : i ≡ n + 1 + r.0 = r.2 in
-        let within : r.0 < length xs = r.1 in
-        (suc r.0, omega arith, omega arith, record { free = (λ q. absurd (false≢true (sym t ∙ (Decides-eqb x stop).1 q)), r.3.free); whole = ap (λ zs. x ∷ zs) r.3.whole })
+      | true ↦ λ t s.
+          let h : n ≡ i = cc in
+          (0, omega arith, omega arith, record { free = tt; whole = ap (λ z. z ∷ xs) ((Decides-eqb x stop).0 t) })
+      | false ↦ λ t s.
+          let r = found_at stop xs (n + 1) i s in
+          let after : i ≡ n + 1 + r.0 = r.2 in
+          let within : r.0 < length xs = r.1 in
+          (suc r.0, omega arith, omega arith, record { free = (λ q. absurd (false≢true (sym t ∙ (Decides-eqb x stop).1 q)), r.3.free); whole = ap (λ zs. x ∷ zs) r.3.whole })
     ] refl e
 
 -- no such byte, where a search finds none
@@ -44,8 +44,8 @@ found_none : (stop : ℕ) (xs : List ℕ) (n : ℕ) → position_from (λ b. eqb
 found_none stop [] n e = tt
 found_none stop (x ∷ xs) n e =
     elim (eqb x stop) as (λ b. eqb x stop ≡ b → cond b (Some n) (position_from (λ b. eqb b stop) (n + 1) xs) ≡ None → IsFree stop (x ∷ xs)) [
-      true ↦ λ t s. cc
-    | false ↦ λ t s. (λ q. absurd (false≢true (sym t ∙ (Decides-eqb x stop).1 q)), found_none stop xs (n + 1) s)
+      | true ↦ λ t s. cc
+      | false ↦ λ t s. (λ q. absurd (false≢true (sym t ∙ (Decides-eqb x stop).1 q)), found_none stop xs (n + 1) s)
     ] refl e
 
 pub place_none : (stop : ℕ) (xs : List ℕ) → position (λ b. eqb b stop) xs ≡ None → IsFree stop xs

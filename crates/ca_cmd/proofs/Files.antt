@@ -32,9 +32,16 @@ lines_same n file (l ∷ ls) (m ∷ ms) a b =
 lines_push : (n : ℕ) (before line : List ℕ) (ls : List Numbered) (c : Command) → AreLines n before ls → IsLine line c → AreLines n (before ++ (line ++ 10 ∷ [])) (ls ++ record { number = n + length ls; command = c } ∷ [])
 lines_push n before line [] c a l = (omega arith, (line, [], l, ap (λ z. z ++ (line ++ 10 ∷ [])) a, refl))
 lines_push n before line (m ∷ ls) c a l =
-    let next : n + 1 + length ls ≡ n + suc (length ls) = omega arith in
-    (a.0, (a.1.0, a.1.1 ++ (line ++ 10 ∷ []), a.1.2, ap (λ z. z ++ (line ++ 10 ∷ [])) a.1.3 ∙ append_assoc a.1.0 (10 ∷ a.1.1) (line ++ 10 ∷ []),
-      subst (λ (k : ℕ). AreLines (n + 1) (a.1.1 ++ (line ++ 10 ∷ [])) (ls ++ record { number = k; command = c } ∷ [])) next (lines_push (n + 1) a.1.1 line ls c a.1.4 l)))
+    let next : n + 1 + length ls ≡ n + suc (length ls) = omega arith in (
+      a.0,
+      (
+        a.1.0,
+        a.1.1 ++ (line ++ 10 ∷ []),
+        a.1.2,
+        ap (λ z. z ++ (line ++ 10 ∷ [])) a.1.3 ∙ append_assoc a.1.0 (10 ∷ a.1.1) (line ++ 10 ∷ []),
+        subst (λ (k : ℕ). AreLines (n + 1) (a.1.1 ++ (line ++ 10 ∷ [])) (ls ++ record { number = k; command = c } ∷ [])) next (lines_push (n + 1) a.1.1 line ls c a.1.4 l),
+      ),
+    )
 
 -- Where good lines stand in front, the lines of a file begin with them, and the rest of it holds the others.
 lines_front : (n : ℕ) (before rest : List ℕ) (ls ms : List Numbered) → AreLines n before ls → AreLines n (before ++ rest) ms → (others : List Numbered) × AreLines (n + length ls) rest others
@@ -74,7 +81,7 @@ pub lines_more : (file rest line others : List ℕ) (lines : List Line) (last : 
 lines_more file rest line others lines last cmd r c l =
     let next : 1 + length (numbered lines) ≡ last + 1 = omega (arith, r.last_is) in
     let pushed : numbered (lines ++ record { number = last + 1; cmd = cmd } ∷ []) ≡ numbered lines ++ record { number = last + 1; command = command_of cmd } ∷ [] =
-      map-append numbered_line lines (record { number = last + 1; cmd = cmd } ∷ []) in
+    map-append numbered_line lines (record { number = last + 1; cmd = cmd } ∷ []) in
     record {
       before = r.before ++ (line ++ 10 ∷ []);
       good = rw pushed (subst (λ (k : ℕ). AreLines 1 (r.before ++ (line ++ 10 ∷ [])) (numbered lines ++ record { number = k; command = command_of cmd } ∷ [])) next (lines_push 1 r.before line (numbered lines) (command_of cmd) r.good l));
@@ -87,27 +94,37 @@ some_cut rest front others c = omega (arith, ap length c.whole, length-append fr
 
 pub line_wrong : (file rest line others : List ℕ) (lines : List Line) (last : ℕ) → AreReadLines file lines last rest → IsCut rest 10 line others → ((c : Command) → IsLine line c → ⊥) → IsRefusedAt file (last + 1) 1 Syntax
 line_wrong file rest line others lines last r c n = record {
-    bad = record {
-      before = r.before; lines = numbered lines; rest = rest; good = r.good; whole = r.whole; more = some_cut rest line others c;
-      none = λ other after command l e.
+  bad = record {
+    before = r.before;
+    lines = numbered lines;
+    rest = rest;
+    good = r.good;
+    whole = r.whole;
+    more = some_cut rest line others c;
+    none = λ other after command l e.
         let same = cut_same 10 line other others after c.free (line_free other command l) (sym c.whole ∙ e) in
         n command (subst (λ (z : List ℕ). IsLine z command) (sym same.0) l);
-      place = omega (arith, r.last_is);
-    };
-    first_byte = refl;
-    syntax_ = refl;
-  }
+    place = omega (arith, r.last_is);
+  };
+  first_byte = refl;
+  syntax_ = refl;
+}
 
 pub line_unended : (file rest : List ℕ) (lines : List Line) (last : ℕ) → AreReadLines file lines last rest → IsFree 10 rest → 0 < length rest → IsRefusedAt file (last + 1) 1 Syntax
 line_unended file rest lines last r f h = record {
-    bad = record {
-      before = r.before; lines = numbered lines; rest = rest; good = r.good; whole = r.whole; more = h;
-      none = λ other after command l e. free_cut 10 other after (subst (IsFree 10) e f);
-      place = omega (arith, r.last_is);
-    };
-    first_byte = refl;
-    syntax_ = refl;
-  }
+  bad = record {
+    before = r.before;
+    lines = numbered lines;
+    rest = rest;
+    good = r.good;
+    whole = r.whole;
+    more = h;
+    none = λ other after command l e. free_cut 10 other after (subst (IsFree 10) e f);
+    place = omega (arith, r.last_is);
+  };
+  first_byte = refl;
+  syntax_ = refl;
+}
 
 pub lines_done : (file rest : List ℕ) (lines : List Line) (last : ℕ) → AreReadLines file lines last rest → rest ≡ [] → IsFileOf file (numbered lines)
 lines_done file rest lines last r e = rw (r.whole ∙ ap (λ z. r.before ++ z) e ∙ append-nil r.before) r.good
@@ -115,3 +132,24 @@ lines_done file rest lines last r e = rw (r.whole ∙ ap (λ z. r.before ++ z) e
 pub nothing : (bytes : List ℕ) → length bytes ≡ 0 → bytes ≡ []
 nothing [] e = refl
 nothing (b ∷ bytes) e = absurd (omega arith)
+
+-- the front of a file whose first line is this one
+front_line : (file before rest line after : List ℕ) → file ≡ before ++ rest → before ≡ line ++ 10 ∷ after → file ≡ line ++ 10 ∷ (after ++ rest)
+front_line file before rest line after e f = e ∙ ap (λ z. z ++ rest) f ∙ append_assoc line (10 ∷ after) rest
+
+abbrev BeginsNoLine : List ℕ → Type 0
+BeginsNoLine rest = (line after : List ℕ) (command : Command) → IsLine line command → rest ≡ line ++ 10 ∷ after → ⊥
+
+as_many : (n : ℕ) (file before rest before' rest' : List ℕ) (ls ms : List Numbered) → AreLines n before ls → AreLines n before' ms → file ≡ before ++ rest → file ≡ before' ++ rest' → BeginsNoLine rest → BeginsNoLine rest' → length ls ≡ length ms
+as_many n file before rest before' rest' [] [] a b e f p q = refl
+as_many n file before rest before' rest' [] (m ∷ ms) a b e f p q =
+    absurd (p b.1.0 (b.1.1 ++ rest') m.command b.1.2 (sym (ap (λ z. z ++ rest) a) ∙ sym e ∙ front_line file before' rest' b.1.0 b.1.1 f b.1.3))
+as_many n file before rest before' rest' (l ∷ ls) [] a b e f p q =
+    absurd (q a.1.0 (a.1.1 ++ rest) l.command a.1.2 (sym (ap (λ z. z ++ rest') b) ∙ sym f ∙ front_line file before rest a.1.0 a.1.1 e a.1.3))
+as_many n file before rest before' rest' (l ∷ ls) (m ∷ ms) a b e f p q =
+    let c = cut_same 10 a.1.0 b.1.0 (a.1.1 ++ rest) (b.1.1 ++ rest') (line_free a.1.0 l.command a.1.2) (line_free b.1.0 m.command b.1.2)
+    (sym (front_line file before rest a.1.0 a.1.1 e a.1.3) ∙ front_line file before' rest' b.1.0 b.1.1 f b.1.3) in
+    ap suc (as_many (n + 1) (a.1.1 ++ rest) a.1.1 rest b.1.1 rest' ls ms a.1.4 b.1.4 refl c.1 p q)
+
+pub bad_same : (file : List ℕ) (m n : ℕ) → IsBadLine file m → IsBadLine file n → m ≡ n
+bad_same file m n a b = omega (arith, a.place, b.place, as_many 1 file a.before a.rest b.before b.rest a.lines b.lines a.good b.good a.whole b.whole a.none b.none)

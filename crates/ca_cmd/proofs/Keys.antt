@@ -59,10 +59,10 @@ read_start text = record { are_keys = tt; front = refl; others = λ row s. (row,
 
 pub read_more : (text rest first others : List ℕ) (keys : List Tree) (k : Tree) → AreRead text keys rest → IsCut rest 44 first others → IsKey k → first ≡ text_of k → AreRead text (keys ++ k ∷ []) others
 read_more text rest first others keys k r c h e = record {
-    are_keys = keys_push keys k r.are_keys h;
-    front = r.front ∙ ap (λ l. front_text keys ++ l) (c.whole ∙ ap (λ l. l ++ 44 ∷ others) e) ∙ front_push keys k others;
-    others = λ row s. let t = r.others row s in let u = spelled_cut rest first others t.0 c t.1 in (u.1, u.4);
-  }
+  are_keys = keys_push keys k r.are_keys h;
+  front = r.front ∙ ap (λ l. front_text keys ++ l) (c.whole ∙ ap (λ l. l ++ 44 ∷ others) e) ∙ front_push keys k others;
+  others = λ row s. let t = r.others row s in let u = spelled_cut rest first others t.0 c t.1 in (u.1, u.4);
+}
 
 pub read_wrong : (text rest first others : List ℕ) (keys : List Tree) → AreRead text keys rest → IsCut rest 44 first others → ((k : Tree) → IsKey k → first ≡ text_of k → ⊥) → (row : Row) → AreSpelled text row → ⊥
 read_wrong text rest first others keys r c n row s = let t = r.others row s in let u = spelled_cut rest first others t.0 c t.1 in n u.0 u.2 u.3
@@ -72,7 +72,7 @@ read_last_wrong text rest keys r f n row s = let t = r.others row s in let u = s
 
 pub read_last : (text rest : List ℕ) (keys : List Tree) (k : Tree) → AreRead text keys rest → IsKey k → rest ≡ text_of k → AreSpelled text (row_of (keys ++ k ∷ []))
 read_last text rest keys k r h e = record {
-    some = some_push keys k;
-    keys = keys_push keys k r.are_keys h;
-    text_is = r.front ∙ ap (λ l. front_text keys ++ l) e ∙ front_last keys k;
-  }
+  some = some_push keys k;
+  keys = keys_push keys k r.are_keys h;
+  text_is = r.front ∙ ap (λ l. front_text keys ++ l) e ∙ front_last keys k;
+}

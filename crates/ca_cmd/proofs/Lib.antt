@@ -2,5 +2,6 @@ pub mod Commands
 pub mod Cuts
 pub mod Files
 pub mod Keys
-pub mod Texts
+pub mod Printed
 pub mod Spelled
+pub mod Texts

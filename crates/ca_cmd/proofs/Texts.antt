@@ -46,9 +46,9 @@ between_both lo hi lo' hi' (x ∷ xs) h s a b = omega (arith, a.1, b.0)
 decimal_digits : (n : ℕ) → n < 2 ^ 64 → AreBetween 47 58 (decimal n)
 decimal_digits n h =
     decimal_by_steps (λ _ ds. AreBetween 47 58 ds)
-      (λ k l. (omega arith, omega arith, tt))
-      (λ k ds l a. between_append 47 58 ds _ a (omega arith, omega arith, tt))
-      n h
+    (λ k l. (omega arith, omega arith, tt))
+    (λ k ds l a. between_append 47 58 ds _ a (omega arith, omega arith, tt))
+    n h
 
 pub number_bytes : (n : ℤ) → FitsSigned w64 n → AreBetween 44 58 (signed_decimal n)
 number_bytes (pos n) f = let s = f.sfits in between_wider 47 58 44 58 (decimal n) (omega arith) (omega arith) (decimal_digits n (omega arith))
@@ -121,7 +121,7 @@ command_bytes (Insert (Integer n)) h = absurd h
 command_bytes (Insert (Atom text)) h = absurd h
 command_bytes (Insert (Tuple row)) h =
     between_append 10 126 (codes "insert ") (text_of (Tuple row)) insert_word
-      (omega arith, omega arith, between_append 10 126 (row_text row) (codes "}") (between_wider 43 123 10 126 (row_text row) (omega arith) (omega arith) (row_bytes row h.1)) (omega arith, omega arith, tt))
+    (omega arith, omega arith, between_append 10 126 (row_text row) (codes "}") (between_wider 43 123 10 126 (row_text row) (omega arith) (omega arith) (row_bytes row h.1)) (omega arith, omega arith, tt))
 command_bytes (Insert Nil) h = absurd h
 command_bytes (Insert (Cons head tail)) h = absurd h
 command_bytes (Insert (Binary bytes)) h = absurd h

@@ -17,14 +17,18 @@ text_of_fault BadArg = codes "error badarg"
 text_of_fault Range = codes "error range"
 text_of_fault Size = codes "error size"
 
+-- how the text of a batch ends: whether there may be more
+abbrev pub batch_end : Bool → List ℕ
+batch_end true = codes ",more}"
+batch_end false = codes ",'$end_of_table'}"
+
 -- a reply's term text, or its error
 abbrev pub text_of_response : Response → List ℕ
 text_of_response (Truth true) = codes "true"
 text_of_response (Truth false) = codes "false"
 text_of_response (Value t) = text_of t
 text_of_response (Items ts) = text_of (list_of ts)
-text_of_response (Results ts true) = codes "{" ++ text_of (list_of ts) ++ codes ",more}"
-text_of_response (Results ts false) = codes "{" ++ text_of (list_of ts) ++ codes ",'$end_of_table'}"
+text_of_response (Results ts more) = codes "{" ++ text_of (list_of ts) ++ batch_end more
 text_of_response End = codes "'$end_of_table'"
 text_of_response (Error fault) = text_of_fault fault
 

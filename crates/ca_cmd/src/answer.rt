@@ -1,13 +1,15 @@
-//! Answers and the output as text.
-ghost use Rattle.std.specs.Prelude.{◌≡◌, ◌++◌, List, map, length, IfOk, OnOk, OnErr};
-ghost use Rattle.ca_cmd.specs.Answers.{answered, said};
-ghost use Rattle.ca_cmd.specs.Lines.{numbered};
-ghost use Rattle.ca_cmd.specs.Output.{text_of_answer, text_of_run};
+//! Answers as text.
+ghost use Rattle.std.specs.Prelude.{◌≡◌, ◌++◌, OnOk, OnErr};
+ghost use Rattle.ca_ets.specs.Command.{Results, response_of};
+ghost use Rattle.ca_text.specs.Text.{text_of};
+ghost use Rattle.ca_text.specs.Written.{BeginsWith};
+ghost use Rattle.ca_cmd.specs.Answers.{answered};
+ghost use Rattle.ca_cmd.specs.Output.{batch_end, list_of, text_of_answer, text_of_fault, text_of_response};
 
-use crate::line::Lines;
-use ca_ets::Reply;
+use crate::put::{put, put_term};
+use ca_ets::{Fault, Reply};
 use ca_term::Term;
-use std::alloc::{AllocError, Global};
+use std::alloc::AllocError;
 
 /// The answer to a command: a reply, or one of the three refusals of a table that has no room, no depth or no numbers left.
 #[derive(Drop)]
@@ -23,21 +25,85 @@ pub fn show_reply(answer: &Answer, into: &mut Vec<u8>) -> Result<(), AllocError>
     ensures ok { OnOk result (into.new.items ≡ into.old.items ++ text_of_answer (answered answer.now)) }
     ensures err { OnErr result (into.new.items ≡ into.old.items) }
 {
-    let _ = answer;
-    let _ = into.len();
-    Err(AllocError)
+    let before = into.len();
+    let outcome = put_answer(answer, into);
+    if outcome.is_err() {
+        into.truncate(before);
+    }
+    outcome
 }
 
-/// The whole output: the answers of each client to its lines, and the table.
-pub fn show_run(
-    alloc: Global,
-    files: &[Lines],
-    answers: &[Vec<Answer>],
-    table: &[Term],
-) -> Result<Vec<u8>, AllocError>
-    ensures { IfOk result (λ bytes. bytes.items ≡ text_of_run (map numbered files.now) (map (λ a. said a.items) answers.now) table.now) }
+fn put_answer(answer: &Answer, into: &mut Vec<u8>) -> Result<(), AllocError>
+    ensures ok { OnOk result (into.new.items ≡ into.old.items ++ text_of_answer (answered answer.now)) }
+    ensures front { BeginsWith into.new.items into.old.items }
 {
-    let _ = (files.len(), answers.len(), table.len());
-    let _ = alloc;
-    Err(AllocError)
+    match answer {
+        Answer::Replied(reply) => put_reply(reply, into),
+        Answer::Full => put(b"refused full", into),
+        Answer::Deep => put(b"refused deep", into),
+        Answer::Worn => put(b"refused worn", into),
+    }
+}
+
+fn put_reply(reply: &Reply, into: &mut Vec<u8>) -> Result<(), AllocError>
+    ensures ok { OnOk result (into.new.items ≡ into.old.items ++ text_of_response (response_of reply.now)) }
+    ensures front { BeginsWith into.new.items into.old.items }
+{
+    match reply {
+        Reply::Truth(true) => put(b"true", into),
+        Reply::Truth(false) => put(b"false", into),
+        Reply::Value(term) => put_term(term, into),
+        Reply::List(terms) => put_list(terms.as_slice(), into),
+        Reply::Batch(terms, more) => put_batch(terms.as_slice(), *more, into),
+        Reply::End => put(b"'$end_of_table'", into),
+        Reply::Error(fault) => put_fault(*fault, into),
+    }
+}
+
+fn put_batch(terms: &[Term], more: bool, into: &mut Vec<u8>) -> Result<(), AllocError>
+    ensures ok { OnOk result (into.new.items ≡ into.old.items ++ text_of_response (Results terms.now more)) }
+    ensures front { BeginsWith into.new.items into.old.items }
+{
+    put(b"{", into)?;
+    put_list(terms, into)?;
+    put_batch_end(more, into)
+}
+
+fn put_batch_end(more: bool, into: &mut Vec<u8>) -> Result<(), AllocError>
+    ensures ok { OnOk result (into.new.items ≡ into.old.items ++ batch_end more) }
+    ensures front { BeginsWith into.new.items into.old.items }
+{
+    match more {
+        true => put(b",more}", into),
+        false => put(b",'$end_of_table'}", into),
+    }
+}
+
+// The list of these terms.
+#[tactic(auto, using(ca_text::proofs::Fronts::begins_more))]
+fn put_list(terms: &[Term], into: &mut Vec<u8>) -> Result<(), AllocError>
+    ensures ok { OnOk result (into.new.items ≡ into.old.items ++ text_of (list_of terms.now)) }
+    ensures front { BeginsWith into.new.items into.old.items }
+{
+    let Some((first, others)) = terms.split_first() else {
+        return put(b"[]", into);
+    };
+    put(b"[", into)?;
+    put_term(first, into)?;
+    for term in others {
+        put(b",", into)?;
+        put_term(term, into)?;
+    }
+    put(b"]", into)
+}
+
+fn put_fault(fault: Fault, into: &mut Vec<u8>) -> Result<(), AllocError>
+    ensures ok { OnOk result (into.new.items ≡ into.old.items ++ text_of_fault fault) }
+    ensures front { BeginsWith into.new.items into.old.items }
+{
+    match fault {
+        Fault::BadArg => put(b"error badarg", into),
+        Fault::Range => put(b"error range", into),
+        Fault::Size => put(b"error size", into),
+    }
 }

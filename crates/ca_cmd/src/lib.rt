@@ -6,10 +6,18 @@ mod command;
 mod cut;
 mod fault;
 mod key;
+mod laws;
 mod line;
+mod output;
+mod put;
 mod reading;
 
-pub use answer::{Answer, show_reply, show_run};
+pub use answer::{Answer, show_reply};
 pub use fault::{FileFault, LineWhy};
+pub use laws::file_laws;
 pub use line::{Line, Lines};
+pub use output::show_run;
 pub use reading::read_file;
+
+#[cfg(test)]
+mod tests;

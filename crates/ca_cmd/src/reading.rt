@@ -10,6 +10,17 @@ use crate::fault::{FileFault, LineWhy};
 use crate::line::{Line, Lines};
 use std::alloc::Global;
 
+// A line that isn't of the form is refused as a whole, at its first byte.
+fn bad_line(line: u32) -> FileFault
+    ensures { result ≡ FileFault.BadLine line 1 LineWhy.Syntax }
+{
+    FileFault::BadLine {
+        line,
+        at: 1,
+        why: LineWhy::Syntax,
+    }
+}
+
 #[tactic(auto, using(crate::proofs::Files::lines_start, crate::proofs::Files::lines_done))]
 /// The commands of a file, with their lines' numbers. A file has at most 16,777,216 bytes.
 pub fn read_file(alloc: Global, bytes: &[u8]) -> Result<Lines, FileFault>
@@ -24,18 +35,10 @@ pub fn read_file(alloc: Global, bytes: &[u8]) -> Result<Lines, FileFault>
     while !rest.is_empty() {
         number += 1;
         let Some((line, others)) = cut_at(rest, b'\n') else {
-            return Err(FileFault::BadLine {
-                line: number,
-                at: 1,
-                why: LineWhy::Syntax,
-            });
+            return Err(bad_line(number));
         };
         let Some(cmd) = read_command(alloc, line)? else {
-            return Err(FileFault::BadLine {
-                line: number,
-                at: 1,
-                why: LineWhy::Syntax,
-            });
+            return Err(bad_line(number));
         };
         lines.push(Line { number, cmd })?;
         rest = others;

@@ -1,4 +1,4 @@
-use Rattle.std.proofs.Common.{◌≡◌, ◌<◌, ℕ, ◌+◌, ◌-◌, List, ◌∷◌, [], ◌++◌, length, map, take, arith, sym, ◌∙◌, ap, subst}
+use Rattle.std.proofs.Common.{◌≡◌, ◌<◌, ◌+◌, ◌-◌, List, ◌∷◌, [], ◌++◌, length, map, take, arith, sym, ◌∙◌, ap, subst}
 use Rattle.std.proofs.lemmas.List.{map-append}
 use Rattle.std.proofs.lemmas.Result.{err_from_is_err_and}
 use Rattle.std.specs.String.{string_bytes}
@@ -18,8 +18,8 @@ returns-in_err-lines-clause-refused g c =
     let fault = rw (c.loop-name.invariant.same c.as_str.result.now, c.as_str.ensures.value) at c.in_err-lines.ensures.refused in
     let p = err_from_is_err_and c.from_residual.result c.from_residual.ensures.1 in
     rw (p.1, p.2) (λ words n. fault_outcome string_bytes names i c.name-item.result within c.name-item.is content (map numbered c.loop-name.all.items) c.loop-name.room c.loop-name.invariant.reading
-      words (g.F.Shelf.faults c.args.shelf.now) (g.F.Shelf.faults c.read_one.new.shelf) n (c.loop-name.number + 1) (g.F.Shelf.faults c.loop-name.shelf) c.in_err-lines.field-0.0
-      (omega (arith, c.loop-name.invariant.number)) c.loop-name.invariant.later fault)
+    words (g.F.Shelf.faults c.args.shelf.now) (g.F.Shelf.faults c.read_one.new.shelf) n (c.loop-name.number + 1) (g.F.Shelf.faults c.loop-name.shelf) c.in_err-lines.field-0.0
+    (omega (arith, c.loop-name.invariant.number)) c.loop-name.invariant.later fault)
 
 pub returns-in_err-lines-clause-complete : goal.returns-in_err-lines-clause-complete
 returns-in_err-lines-clause-complete g c words n w faultless =
@@ -28,7 +28,7 @@ returns-in_err-lines-clause-complete g c words n w faultless =
     let within : i < length names = omega arith in
     let content = g.F.Shelf.content c.args.shelf.now in
     let next = next_file string_bytes names i c.name-item.result within c.name-item.is content (map numbered c.loop-name.all.items) c.loop-name.room c.loop-name.invariant.reading
-      words (g.F.Shelf.faults c.args.shelf.now) (g.F.Shelf.faults c.read_one.new.shelf) n w in
+    words (g.F.Shelf.faults c.args.shelf.now) (g.F.Shelf.faults c.read_one.new.shelf) n w in
     let complete = rw (c.loop-name.invariant.same c.as_str.result.now, c.as_str.ensures.value) at c.in_err-lines.ensures.complete in
     let p = err_from_is_err_and c.from_residual.result c.from_residual.ensures.1 in
     rw (p.1, p.2) (complete next.0.file next.0.own next.0.told next.1 next.0.read (λ r. faultless (risen_since _ _ _ c.loop-name.invariant.later r)))

@@ -1,7 +1,6 @@
-use Rattle.std.proofs.Common.{◌≡◌, ◌<◌, ◌+◌, List, ◌∷◌, [], ◌++◌, length, get_or, arith, sym, ◌∙◌, ap, subst}
+use Rattle.std.proofs.Common.{◌≡◌, ◌<◌, ◌+◌, List, ◌∷◌, [], ◌++◌, length, arith, sym, ◌∙◌, ap, subst}
 use Rattle.std.proofs.lemmas.List.{map-append}
 use Rattle.ca_ets.specs.Command.{Answered, Replied, command_of, continuation_of, response_of}
-use Rattle.ca_ets.specs.Step.{step}
 use Rattle.ca_cmd.specs.Answers.{answered, said}
 use Rattle.ca_cmd.specs.File.{commands_in}
 use Rattle.ca_cmd.specs.Lines.{numbered}

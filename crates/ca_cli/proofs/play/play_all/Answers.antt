@@ -1,10 +1,8 @@
-use Rattle.std.proofs.Common.{◌≡◌, ◌<◌, ◌+◌, List, ◌∷◌, [], ◌++◌, length, map, take, arith, sym, ◌∙◌, ap, subst}
+use Rattle.std.proofs.Common.{◌≡◌, ◌<◌, ◌+◌, ◌∷◌, [], ◌++◌, length, map, take, arith, ◌∙◌, ap}
 use Rattle.std.proofs.lemmas.List.{map-append}
-use Rattle.ca_ets.specs.Command.{Answered}
 use Rattle.ca_cmd.specs.Answers.{said}
-use Rattle.ca_cmd.specs.File.{Numbered}
 use Rattle.ca_cmd.specs.Lines.{numbered}
-use Rattle.ca_cli.proofs.Clients.{ArePlayed, more_played}
+use Rattle.ca_cli.proofs.Clients.{more_played}
 use Rattle.ca_cli.proofs.Firsts.{first_more}
 use Rattle.ca_cli.proofs.play.play_all.Goals as goal
 

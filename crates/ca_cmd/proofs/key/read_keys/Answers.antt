@@ -8,7 +8,7 @@ use Rattle.ca_cmd.proofs.key.read_keys.Goals as goal
 pub returns-in_default-2 : goal.returns-in_default-2
 returns-in_default-2 c =
     read_wrong c.args.text.now c.loop-first.rest.now c.in-Some.first.now c.in-Some.others.now c.loop-first.keys.items c.loop-first.invariant.read c.in-Some.ensures
-      (rw c.in_default-2.is at c.in_ok-key.ensures)
+    (rw c.in_default-2.is at c.in_ok-key.ensures)
 
 pub loop-first-preserved : goal.loop-first-preserved
 loop-first-preserved c =
@@ -16,7 +16,7 @@ loop-first-preserved c =
     let short : length c.in-Some.others.now ≤ length c.loop-first.rest.now = omega (arith, ap length c.in-Some.ensures.whole, length-append c.in-Some.first.now (44 ∷ c.in-Some.others.now)) in
     record {
       read = rw c.in_ok-add.ensures
-        (read_more c.args.text.now c.loop-first.rest.now c.in-Some.first.now c.in-Some.others.now c.loop-first.keys.items c.in-Some-2.key c.loop-first.invariant.read c.in-Some.ensures h.0 h.1);
+          (read_more c.args.text.now c.loop-first.rest.now c.in-Some.first.now c.in-Some.others.now c.loop-first.keys.items c.in-Some-2.key c.loop-first.invariant.read c.in-Some.ensures h.0 h.1);
       short = omega arith;
     }
 

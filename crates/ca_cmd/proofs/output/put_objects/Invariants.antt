@@ -1,0 +1,6 @@
+use Rattle.std.proofs.Common.{◌≡◌, ◌++◌, flat_map, take}
+use Rattle.ca_cmd.specs.Output.{object_line}
+use Rattle.ca_cmd.proofs.output.put_objects.Given as goal
+
+abbrev pub invariant-loop-object : goal.invariant-loop-object
+invariant-loop-object l = l.into.items ≡ l.initial.into.items ++ flat_map object_line (take l.object-index l.table)
