@@ -152,17 +152,13 @@ fn shows_a_run(rt: HostRuntime) -> Result<(), Fail> {
     let mut answers = Vec::new(alloc);
     answers.push(Answer::Replied(Reply::Truth(true)))?;
     answers.push(Answer::Full)?;
-    let mut clients = Vec::new(alloc);
-    clients.push(Played {
-        lines: read_file(alloc, b"insert {1}\nlookup 1\n")?,
-        answers,
-    })?;
-    clients.push(Played {
-        lines: read_file(alloc, b"")?,
-        answers: Vec::new(alloc),
-    })?;
+    let files = [
+        read_file(alloc, b"insert {1}\nlookup 1\n")?,
+        read_file(alloc, b"")?,
+    ];
+    let answers = [answers, Vec::new(alloc)];
     let table = [int(1), int(-2)];
-    let text = show_run(alloc, clients.as_slice(), &table)?;
+    let text = show_run(alloc, &files, &answers, &table)?;
     assert_eq!(rt;
         text.as_slice(),
         b"client 1\n1 true\n2 refused full\nclient 2\ntable\n1.\n-2.\nend 2\n".as_slice()

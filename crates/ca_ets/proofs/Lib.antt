@@ -4,3 +4,4 @@ pub mod Objects
 pub mod Places
 pub mod Puts
 pub mod Tables
+pub mod Turns

@@ -9,14 +9,14 @@ use Rattle.ca_ets.specs.Merge.{own, IsMerge, run_from, run_of, changed}
 use Rattle.ca_ets.specs.InOrder.{played, IsInOrder}
 use Rattle.ca_ets.specs.Explained.{Explained, AreAnswered, replied, replied_commands, replies_in}
 
-itself : (n : ℕ) → (n == n) ≡ true
+pub itself : (n : ℕ) → (n == n) ≡ true
 itself n = grind (arith, nat_tests)
 
-not_first : (n : ℕ) → (0 == suc n) ≡ false
+pub not_first : (n : ℕ) → (0 == suc n) ≡ false
 not_first n = grind (arith, nat_tests)
 
 -- a client's first turn is its own
-own_here : {A : Type 0} (n : ℕ) (x : A) (merge : List (ℕ × A)) → own n ((n, x) ∷ merge) ≡ x ∷ own n merge
+pub own_here : {A : Type 0} (n : ℕ) (x : A) (merge : List (ℕ × A)) → own n ((n, x) ∷ merge) ≡ x ∷ own n merge
 own_here n x merge = rw (itself n)
 
 own_later : {A : Type 0} (n : ℕ) (x : A) (merge : List (ℕ × A)) → own (suc n) ((0, x) ∷ merge) ≡ own (suc n) merge
