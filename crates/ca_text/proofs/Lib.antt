@@ -3,6 +3,7 @@ pub mod Fronts
 pub mod Loops
 pub mod Names
 pub mod Nonempty
+pub mod Numbers
 pub mod Points
 pub mod Texts
 pub mod Tools
