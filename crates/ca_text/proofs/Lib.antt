@@ -3,6 +3,8 @@ pub mod Fronts
 pub mod Loops
 pub mod Names
 pub mod Nonempty
+pub mod Numbers
 pub mod Points
+pub mod Sound
 pub mod Texts
 pub mod Tools

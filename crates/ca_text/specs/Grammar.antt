@@ -64,7 +64,7 @@ pub data IsSegment : List ℕ → List ℕ → Type 0 where
 pub data AreSegments : List ℕ → List ℕ → Type 0 where
   LastSegment : (text blanks bytes : List ℕ) → IsSegment text bytes → AreBlanks blanks → AreSegments (text ++ (blanks ++ 62 ∷ 62 ∷ [])) bytes
   MoreSegments : (text before after rest bytes others : List ℕ) → IsSegment text bytes → AreBlanks before → AreBlanks after → AreSegments rest others
-      → AreSegments (text ++ (before ++ 44 ∷ after ++ rest)) (bytes ++ others)
+      → AreSegments (text ++ (before ++ 44 ∷ (after ++ rest))) (bytes ++ others)
 
 -- the list of these code points
 abbrev pub points : List ℕ → Tree
@@ -95,16 +95,16 @@ mutual
     LastElement : (limits : Limits) (levels : ℕ) (text blanks : List ℕ) (t : Tree) → IsTextOf limits levels text t → AreBlanks blanks
         → AreElements limits levels (text ++ (blanks ++ 125 ∷ [])) (More t Ends)
     MoreElements : (limits : Limits) (levels : ℕ) (text before after rest : List ℕ) (t : Tree) (row : Row) → IsTextOf limits levels text t → AreBlanks before → AreBlanks after
-        → AreElements limits levels rest row → AreElements limits levels (text ++ (before ++ 44 ∷ after ++ rest)) (More t row)
+        → AreElements limits levels rest row → AreElements limits levels (text ++ (before ++ 44 ∷ (after ++ rest))) (More t row)
 
   -- the heads of a list with commas between them, perhaps a bar and a last tail, and `]`
   pub data AreCells : Limits → ℕ → List ℕ → Tree → Type 0 where
     LastCell : (limits : Limits) (levels : ℕ) (text blanks : List ℕ) (head : Tree) → IsTextOf limits levels text head → AreBlanks blanks
         → AreCells limits levels (text ++ (blanks ++ 93 ∷ [])) (Cons head Nil)
     MoreCells : (limits : Limits) (levels : ℕ) (text before after rest : List ℕ) (head tail : Tree) → IsTextOf limits levels text head → AreBlanks before → AreBlanks after
-        → AreCells limits levels rest tail → AreCells limits levels (text ++ (before ++ 44 ∷ after ++ rest)) (Cons head tail)
+        → AreCells limits levels rest tail → AreCells limits levels (text ++ (before ++ 44 ∷ (after ++ rest))) (Cons head tail)
     LastTail : (limits : Limits) (levels : ℕ) (text before after last blanks : List ℕ) (head tail : Tree) → IsTextOf limits levels text head → AreBlanks before → AreBlanks after
-        → IsTextOf limits (suc levels) last tail → AreBlanks blanks → AreCells limits levels (text ++ (before ++ 124 ∷ after ++ (last ++ (blanks ++ 93 ∷ [])))) (Cons head tail)
+        → IsTextOf limits (suc levels) last tail → AreBlanks blanks → AreCells limits levels (text ++ (before ++ 124 ∷ (after ++ (last ++ (blanks ++ 93 ∷ []))))) (Cons head tail)
 
 -- the limits of a text that is read: 64 levels, 120 elements, 255 code points
 abbrev pub most_levels : ℕ

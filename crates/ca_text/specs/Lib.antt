@@ -1,5 +1,6 @@
 pub mod Grammar
 pub mod NextView
+pub mod Place
 pub mod Reading
 pub mod Text
 pub mod Written

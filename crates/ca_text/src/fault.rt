@@ -1,5 +1,6 @@
 //! Why a text is not read.
 ghost use Rattle.std.specs.Prelude.{◌≡◌, length};
+ghost use Rattle.ca_text.specs.Place.{IsStopWithin, text_fault};
 ghost use Rattle.ca_text.specs.declared.fault.Stop.TheVariants.{NoMemory};
 
 use ca_term::TermFault;
@@ -65,4 +66,36 @@ pub(crate) fn syntax_at(bytes: &[u8]) -> Stop
     ensures { result ≡ Stop.At (record { why = Why.Syntax; left = length bytes.now }) }
 {
     fault_at(Why::Syntax, bytes)
+}
+
+/// Why no term was read, with the place of the fault as a number of bytes from the first one.
+#[derive(Clone, Copy, Debug, PartialEq, Eq)]
+pub enum TextFault {
+    /// The bytes before this place begin some term text, and with the byte there, or at the end, they begin none.
+    Syntax { at: usize },
+    /// At this byte the 256th code point or escape of an atom begins.
+    AtomTooLong { at: usize },
+    /// At this byte a term begins that would stand at depth 65.
+    TooDeep { at: usize },
+    /// At this byte stands the comma before the 121st element of a tuple.
+    TooWide { at: usize },
+    /// Memory was not found.
+    NoMemory,
+}
+
+// The fault of a stop in so many bytes.
+pub(crate) fn fault_of(stop: Stop, length: usize) -> TextFault
+    requires { IsStopWithin stop length }
+    ensures { result ≡ text_fault stop length }
+{
+    let Stop::At(fault) = stop else {
+        return TextFault::NoMemory;
+    };
+    let at = length - fault.left;
+    match fault.why {
+        Why::Syntax => TextFault::Syntax { at },
+        Why::AtomTooLong => TextFault::AtomTooLong { at },
+        Why::TooDeep => TextFault::TooDeep { at },
+        Why::TooWide => TextFault::TooWide { at },
+    }
 }

@@ -12,6 +12,8 @@ mod read;
 mod scan;
 
 pub use atom::is_reserved;
+pub use fault::TextFault;
+pub use read::read_term;
 pub use print::{print_term, text_laws};
 
 #[cfg(test)]

@@ -4,7 +4,7 @@ ghost use Rattle.ca_text.specs.NextView.{next_view};
 ghost use Rattle.ca_text.specs.Grammar.{Limits, standard};
 ghost use Rattle.ca_text.specs.Reading.{Gives, Fails, with_front, after_element_at, element_step, elements_at, series_at, next_at, tail_at, inner_at, closed, cell_step, cells_at, brackets_at, conses,  tuple_at, binary_at, atom_at, integer_term_at, list_at, term_at, other_at, too_deep, begins_term, bracketed, with_heads};
 
-use crate::fault::{Stop, Why, fault_at, syntax_at};
+use crate::fault::{Stop, TextFault, Why, fault_at, fault_of, syntax_at};
 use crate::parts::{binary_bytes, quoted_atom, string_term};
 use crate::scan::{expect, integer, name, skip};
 use ca_term::{Term, TermFault, Terms, atom, bin, cons, int, nil, tuple};
@@ -299,4 +299,12 @@ fn term(alloc: Global, levels: u8, bytes: &[u8]) -> Result<(Term, &[u8]), Stop>
         return Err(too_deep(bytes));
     }
     bracketed(alloc, levels - 1, bytes)
+}
+
+/// Reads the longest term text at the front of some bytes: the term, and how many bytes its text has.
+pub fn read_term(alloc: Global, bytes: &[u8]) -> Result<(Term, usize), TextFault> {
+    match term(alloc, MOST_LEVELS, bytes) {
+        Ok((term, rest)) => Ok((term, bytes.len() - rest.len())),
+        Err(stop) => Err(fault_of(stop, bytes.len())),
+    }
 }
