@@ -1,7 +1,6 @@
-pub mod Commands
-pub mod Cuts
-pub mod Files
-pub mod Keys
+mod Cuts
+mod CutLines
+mod Files
 pub mod Printed
-pub mod Spelled
-pub mod Texts
+mod Same
+mod Words

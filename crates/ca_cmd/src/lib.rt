@@ -2,10 +2,10 @@
 #![tactic(auto)]
 
 mod answer;
+mod argument;
 mod command;
 mod cut;
 mod fault;
-mod key;
 mod laws;
 mod line;
 mod output;

@@ -5,6 +5,5 @@ pub mod Names
 pub mod Nonempty
 pub mod Numbers
 pub mod Points
-pub mod Sound
 pub mod Texts
 pub mod Tools

@@ -1,3 +1,4 @@
+pub mod Front
 pub mod Grammar
 pub mod NextView
 pub mod Place

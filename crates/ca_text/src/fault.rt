@@ -85,13 +85,12 @@ pub enum TextFault {
 
 // The fault of a stop in so many bytes.
 pub(crate) fn fault_of(stop: Stop, length: usize) -> TextFault
-    requires { IsStopWithin stop length }
     ensures { result ≡ text_fault stop length }
 {
     let Stop::At(fault) = stop else {
         return TextFault::NoMemory;
     };
-    let at = length - fault.left;
+    let at = length.saturating_sub(fault.left);
     match fault.why {
         Why::Syntax => TextFault::Syntax { at },
         Why::AtomTooLong => TextFault::AtomTooLong { at },

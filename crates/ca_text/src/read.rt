@@ -1,6 +1,7 @@
 //! The reader of term texts.
-ghost use Rattle.std.specs.Prelude.{◌≡◌, ◌≤◌, ◌<◌, ◌-◌, ◌+◌, [], ◌∷◌, length, Ok, OnOk, OnErr, IfOk, IfErr};
+ghost use Rattle.std.specs.Prelude.{◌≡◌, ◌≤◌, ◌<◌, ◌-◌, ◌+◌, [], ◌∷◌, ◌⊎◌, length, Ok, Err, OnOk, OnErr, IfOk, IfErr};
 ghost use Rattle.ca_text.specs.NextView.{next_view};
+ghost use Rattle.ca_text.specs.Front.{term_in};
 ghost use Rattle.ca_text.specs.Grammar.{Limits, standard};
 ghost use Rattle.ca_text.specs.Reading.{Gives, Fails, with_front, after_element_at, element_step, elements_at, series_at, next_at, tail_at, inner_at, closed, cell_step, cells_at, brackets_at, conses,  tuple_at, binary_at, atom_at, integer_term_at, list_at, term_at, other_at, too_deep, begins_term, bracketed, with_heads};
 
@@ -302,9 +303,12 @@ fn term(alloc: Global, levels: u8, bytes: &[u8]) -> Result<(Term, &[u8]), Stop>
 }
 
 /// Reads the longest term text at the front of some bytes: the term, and how many bytes its text has.
-pub fn read_term(alloc: Global, bytes: &[u8]) -> Result<(Term, usize), TextFault> {
+pub fn read_term(alloc: Global, bytes: &[u8]) -> Result<(Term, usize), TextFault>
+    ensures read { IfOk result (λ r. Ok r ≡ term_in bytes.now) }
+    ensures refused { IfErr result (λ e. (e ≡ TextFault.NoMemory) ⊎ (Err e ≡ term_in bytes.now)) }
+{
     match term(alloc, MOST_LEVELS, bytes) {
-        Ok((term, rest)) => Ok((term, bytes.len() - rest.len())),
+        Ok((term, rest)) => Ok((term, bytes.len().saturating_sub(rest.len()))),
         Err(stop) => Err(fault_of(stop, bytes.len())),
     }
 }
