@@ -1,3 +1,4 @@
+pub mod Built
 mod Cuts
 mod CutLines
 mod Files
