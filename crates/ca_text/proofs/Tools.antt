@@ -22,6 +22,10 @@ pub spared : {A : Type 0} (b : Bool) (d : Fault) (x : Result A Fault) (y : A) �
 spared true d x y e = absurd cc
 spared false d x y e = (refl, e)
 
+pub neither : {A : Type 0} (b : Bool) (d f : Fault) (y : A) → cond b (Err d) (Err f) ≡ Ok y → ⊥
+neither true d f y e = cc
+neither false d f y e = cc
+
 pub both : (a b : Bool) → (a && b) ≡ true → (a ≡ true) × (b ≡ true)
 both true b e = (refl, e)
 both false b e = absurd cc
