@@ -1,10 +1,13 @@
+pub mod Again
 pub mod Characters
+pub mod Complete
 pub mod Fronts
 pub mod Loops
 pub mod Names
 pub mod Nonempty
 pub mod Numbers
 pub mod Points
+pub mod PointsAgain
 pub mod Sound
 pub mod Texts
 pub mod Tools
