@@ -379,7 +379,7 @@ some_bytes blanks inner bs rest are is =
     let step : bytes_at (b.first ∷ (b.others ++ rest)) ≡ Ok (bs, rest) = bytes_from b.first (b.others ++ rest) b.going ∙ ap (λ x. series_at segment_step (length (b.first ∷ (b.others ++ rest))) (x ++ rest)) (sym b.is) ∙ read in
     rw (expect_again 60 ((blanks ++ inner) ++ rest), front, step) refl
 
-begins_by : (b : ℕ) (text : List ℕ) → is_blank b ≡ false → eqb b 125 ≡ false → eqb b 93 ≡ false → Begins (b ∷ text)
+abbrev begins_by : (b : ℕ) (text : List ℕ) → is_blank b ≡ false → eqb b 125 ≡ false → eqb b 93 ≡ false → Begins (b ∷ text)
 begins_by b text h i j = record { first = b; others = text; is = refl; solid = h; no_brace = i; no_bracket = j }
 
 last_element : (limits : Limits) (levels n : ℕ) (text blanks : List ℕ) (t : Tree) (rest : List ℕ) → Shape limits levels text t → AreBlanks blanks
@@ -397,3 +397,130 @@ further_element limits levels n text before after others t rest s one two b more
     let read = shape_reads limits levels text t (before ++ 44 ∷ tail) s (whole_before text before 44 tail one refl) in
     let some : eqb n 0 ≡ false = grind (arith, nat_tests) in
     rw (further_parts 44 text before after others rest, read, skip_again before 44 tail one refl, some, skip_to after others rest b.first b.others two b.is b.solid) refl
+
+last_cell : (limits : Limits) (levels : ℕ) (text blanks : List ℕ) (head : Tree) (rest : List ℕ) → Shape limits levels text head → AreBlanks blanks
+    → cell_step (term_at limits levels) (others_of limits levels) ((text ++ (blanks ++ 93 ∷ [])) ++ rest) ≡ Ok (head, Last Nil rest)
+unfolding cell_step next_at
+last_cell limits levels text blanks head rest s are =
+    let read = shape_reads limits levels text head (blanks ++ 93 ∷ rest) s (whole_before text blanks 93 rest are refl) in
+    rw (ended_parts text blanks (93 ∷ []) rest, read, skip_again blanks 93 rest are refl) refl
+
+further_cell : (limits : Limits) (levels : ℕ) (text before after others : List ℕ) (head : Tree) (rest : List ℕ) → Shape limits levels text head → AreBlanks before → AreBlanks after → Begins others
+    → cell_step (term_at limits levels) (others_of limits levels) ((text ++ (before ++ 44 ∷ (after ++ others))) ++ rest) ≡ Ok (head, Head (others ++ rest))
+unfolding cell_step next_at
+further_cell limits levels text before after others head rest s one two b =
+    let tail = after ++ (others ++ rest) in
+    let read = shape_reads limits levels text head (before ++ 44 ∷ tail) s (whole_before text before 44 tail one refl) in
+    rw (further_parts 44 text before after others rest, read, skip_again before 44 tail one refl, skip_to after others rest b.first b.others two b.is b.solid) refl
+
+barred_cell : (limits : Limits) (levels : ℕ) (text before after behind : List ℕ) (head : Tree) (next : Next) (rest : List ℕ) → Shape limits levels text head → AreBlanks before → AreBlanks after → Begins behind
+    → tail_at (others_of limits levels) (behind ++ rest) ≡ Ok next
+    → cell_step (term_at limits levels) (others_of limits levels) ((text ++ (before ++ 124 ∷ (after ++ behind))) ++ rest) ≡ Ok (head, next)
+unfolding cell_step next_at
+barred_cell limits levels text before after behind head next rest s one two b found =
+    let tail = after ++ (behind ++ rest) in
+    let read = shape_reads limits levels text head (before ++ 124 ∷ tail) s (whole_before text before 124 tail one refl) in
+    rw (further_parts 124 text before after behind rest, read, skip_again before 124 tail one refl, skip_to after behind rest b.first b.others two b.is b.solid, found) refl
+
+begins_on : (text more : List ℕ) → Begins text → Begins (text ++ more)
+begins_on text more b = record { first = b.first; others = b.others ++ more; is = ap (λ x. x ++ more) b.is; solid = b.solid; no_brace = b.no_brace; no_bracket = b.no_bracket }
+
+begins_some : (text : List ℕ) → Begins text → 0 < length text
+begins_some text b = omega (arith, ap (λ (x : List ℕ). length x) b.is)
+
+one_step : (limits : Limits) (levels k : ℕ) (bytes : List ℕ) (head : Tree) (next : Next) (r : Read Tree) → cell_step (term_at limits levels) (others_of limits levels) bytes ≡ Ok (head, next)
+    → cells_after head (cells_at (term_at limits levels) (others_of limits levels) k) next ≡ r → cells_at (term_at limits levels) (others_of limits levels) (suc k) bytes ≡ r
+unfolding cells_at
+one_step limits levels k bytes head next r e f = rw e f
+
+one_element : (element : List ℕ → Read Tree) (n : ℕ) (bytes : List ℕ) (t : Tree) (more : Bool) (after : List ℕ) (r : Read (List Tree)) → element_step element n bytes ≡ Ok ((t ∷ [], more), after)
+    → series_rest (t ∷ []) (series_at (element_step element) n) more after ≡ r → series_at (element_step element) (suc n) bytes ≡ r
+unfolding series_at
+one_element element n bytes t more after r e f = rw e f
+
+abbrev pub Rows : Limits → ℕ → List ℕ → Row → Type 0
+Rows limits levels text row = Begins text × ((n : ℕ) → size row ≤ n → (rest : List ℕ) → series_at (element_step (term_at limits levels)) n (text ++ rest) ≡ Ok (elements row, rest))
+
+abbrev pub Cells : Limits → ℕ → List ℕ → Tree → Type 0
+Cells limits levels text t = Begins text × ((k : ℕ) → length text ≤ k → (rest : List ℕ) → cells_at (term_at limits levels) (others_of limits levels) k (text ++ rest) ≡ Ok (t, rest))
+
+last_row : (limits : Limits) (levels : ℕ) (text blanks : List ℕ) (t : Tree) → Shape limits levels text t → AreBlanks blanks → (n : ℕ) → size (More t Ends) ≤ n → (rest : List ℕ)
+    → series_at (element_step (term_at limits levels)) n ((text ++ (blanks ++ 125 ∷ [])) ++ rest) ≡ Ok (t ∷ [], rest)
+last_row limits levels text blanks t s are zero few rest = absurd (omega arith)
+last_row limits levels text blanks t s are (suc n) few rest = one_element (term_at limits levels) n _ t false rest _ (last_element limits levels n text blanks t rest s are) refl
+
+further_row : (limits : Limits) (levels : ℕ) (text before after others : List ℕ) (t : Tree) (row : Row) → Shape limits levels text t → AreBlanks before → AreBlanks after → Rows limits levels others row → (n : ℕ) → size (More t row) ≤ n
+    → (rest : List ℕ) → 0 < size row → series_at (element_step (term_at limits levels)) n ((text ++ (before ++ 44 ∷ (after ++ others))) ++ rest) ≡ Ok (t ∷ elements row, rest)
+further_row limits levels text before after others t row s one two rows zero few rest some = absurd (omega arith)
+further_row limits levels text before after others t row s one two rows (suc n) few rest some =
+    let later : series_rest (t ∷ []) (series_at (element_step (term_at limits levels)) n) true (others ++ rest) ≡ Ok (t ∷ elements row, rest) = rw (rows.1 n (omega arith) rest) refl in
+    one_element (term_at limits levels) n _ t true (others ++ rest) _ (further_element limits levels n text before after others t rest s one two rows.0 (omega arith)) later
+
+row_some : (limits : Limits) (levels : ℕ) (text : List ℕ) (row : Row) → AreElements limits levels text row → 0 < size row
+row_some _ _ _ _ (LastElement limits levels text blanks t is are) = omega arith
+row_some _ _ _ _ (MoreElements limits levels text before after rest t row is one two are) = omega arith
+
+last_of : (limits : Limits) (levels : ℕ) (text blanks : List ℕ) (head : Tree) → Shape limits levels text head → AreBlanks blanks → (k : ℕ) → length (text ++ (blanks ++ 93 ∷ [])) ≤ k → (rest : List ℕ)
+    → cells_at (term_at limits levels) (others_of limits levels) k ((text ++ (blanks ++ 93 ∷ [])) ++ rest) ≡ Ok (Cons head Nil, rest)
+last_of limits levels text blanks head s are zero few rest = absurd (omega (arith, few, length-append text (blanks ++ 93 ∷ []), begins_some text (shape_begins limits levels text head s)))
+last_of limits levels text blanks head s are (suc k) few rest = one_step limits levels k _ head (Last Nil rest) _ (last_cell limits levels text blanks head rest s are) refl
+
+further_of : (limits : Limits) (levels : ℕ) (text before after others : List ℕ) (head tail : Tree) → Shape limits levels text head → AreBlanks before → AreBlanks after → Cells limits levels others tail → (k : ℕ)
+    → length (text ++ (before ++ 44 ∷ (after ++ others))) ≤ k → (rest : List ℕ) → cells_at (term_at limits levels) (others_of limits levels) k ((text ++ (before ++ 44 ∷ (after ++ others))) ++ rest) ≡ Ok (Cons head tail, rest)
+further_of limits levels text before after others head tail s one two cells zero few rest = absurd (omega (arith, few, length-append text (before ++ 44 ∷ (after ++ others)), begins_some text (shape_begins limits levels text head s)))
+further_of limits levels text before after others head tail s one two cells (suc k) few rest =
+    let short : length others ≤ k = omega (arith, few, length-append text (before ++ 44 ∷ (after ++ others)), length-append before (44 ∷ (after ++ others)), length-append after others, begins_some text (shape_begins limits levels text head s)) in
+    let later : cells_after head (cells_at (term_at limits levels) (others_of limits levels) k) (Head (others ++ rest)) ≡ Ok (Cons head tail, rest) = rw (cells.1 k short rest) refl in
+    one_step limits levels k _ head (Head (others ++ rest)) _ (further_cell limits levels text before after others head rest s one two cells.0) later
+
+barred_of : (limits : Limits) (levels : ℕ) (text before after last blanks : List ℕ) (head tail : Tree) → Shape limits levels text head → AreBlanks before → AreBlanks after → Shape limits (suc levels) last tail → AreBlanks blanks → (k : ℕ)
+    → length (text ++ (before ++ 124 ∷ (after ++ (last ++ (blanks ++ 93 ∷ []))))) ≤ k → (rest : List ℕ)
+    → cells_at (term_at limits levels) (others_of limits levels) k ((text ++ (before ++ 124 ∷ (after ++ (last ++ (blanks ++ 93 ∷ []))))) ++ rest) ≡ Ok (Cons head tail, rest)
+barred_of limits levels text before after last blanks head tail s one two l are zero few rest =
+    absurd (omega (arith, few, length-append text (before ++ 124 ∷ (after ++ (last ++ (blanks ++ 93 ∷ [])))), begins_some text (shape_begins limits levels text head s)))
+barred_of limits levels text before after last blanks head tail s one two l are (suc k) few rest =
+    let behind = last ++ (blanks ++ 93 ∷ []) in
+    let short : length last ≤ k = omega (arith, few, length-append text (before ++ 124 ∷ (after ++ behind)), length-append before (124 ∷ (after ++ behind)), length-append after behind, length-append last (blanks ++ 93 ∷ []), begins_some text (shape_begins limits levels text head s)) in
+    let r = tail_reads limits levels k last tail blanks rest are short l in
+    let found : tail_at (others_of limits levels) (behind ++ rest) ≡ Ok r.next = ap (tail_at (others_of limits levels)) (ended_parts last blanks (93 ∷ []) rest) ∙ r.found in
+    one_step limits levels k _ head r.next _ (barred_cell limits levels text before after behind head r.next rest s one two (begins_on last (blanks ++ 93 ∷ []) (shape_begins limits (suc levels) last tail l)) found) (r.reads head)
+
+mutual
+  shape_again : (limits : Limits) (levels : ℕ) (text : List ℕ) (t : Tree) → IsTextOf limits levels text t → Shape limits levels text t
+  shape_again _ _ _ _ (AnInteger limits levels text n is) = inl (integer_shape limits levels text n is)
+  shape_again _ _ _ _ (AnAtom limits levels text name is) = inl (atom_shape limits levels text name is)
+  shape_again _ _ _ _ (NoElements limits levels blanks are) = inl (record { begins = begins_by 123 (blanks ++ 125 ∷ []) refl refl refl; apart = refl; reads = λ rest whole. tuple_other limits (term_at limits levels) levels ((blanks ++ 125 ∷ []) ++ rest) ∙ empty_tuple (term_at limits levels) limits.elements blanks rest are })
+  shape_again _ _ _ _ (ATuple limits levels blanks inner row are is few) =
+      let r = rows_again limits levels inner row is in
+      inl (record { begins = begins_by 123 (blanks ++ inner) refl refl refl; apart = refl; reads = λ rest whole. tuple_other limits (term_at limits levels) levels ((blanks ++ inner) ++ rest) ∙ full_tuple (term_at limits levels) limits.elements blanks inner rest row are r.0 (r.1 limits.elements few rest) })
+  shape_again _ _ _ _ (ANil limits levels blanks are) = inr (inl (record { blanks = blanks; are = are; is = refl; nil = refl }))
+  shape_again _ _ _ _ (AList limits levels blanks inner t are is) = let c = cells_again limits levels inner t is in inr (inr (record { blanks = blanks; are = are; cells = inner; is = refl; begins = c.0; reads = c.1 }))
+  shape_again _ _ _ _ (NoString limits levels) = inl (record { begins = begins_by 34 (34 ∷ []) refl refl refl; apart = refl; reads = λ rest whole. string_other limits (term_at limits levels) levels (34 ∷ rest) ∙ no_string levels rest })
+  shape_again _ _ _ _ (AString limits levels c text cs are) = inl (record { begins = begins_by 34 text refl refl refl; apart = refl; reads = λ rest whole. string_other limits (term_at limits (suc levels)) (suc levels) (text ++ rest) ∙ some_string levels text (c ∷ cs) rest are })
+  shape_again _ _ _ _ (NoBytes limits levels blanks are) = inl (record { begins = begins_by 60 (60 ∷ blanks ++ 62 ∷ 62 ∷ []) refl refl refl; apart = refl; reads = λ rest whole. binary_other limits (term_at limits levels) levels (60 ∷ ((blanks ++ 62 ∷ 62 ∷ []) ++ rest)) ∙ no_bytes blanks rest are })
+  shape_again _ _ _ _ (ABinary limits levels blanks inner bs are is) = inl (record { begins = begins_by 60 (60 ∷ blanks ++ inner) refl refl refl; apart = refl; reads = λ rest whole. binary_other limits (term_at limits levels) levels (60 ∷ ((blanks ++ inner) ++ rest)) ∙ some_bytes blanks inner bs rest are is })
+
+  rows_again : (limits : Limits) (levels : ℕ) (text : List ℕ) (row : Row) → AreElements limits levels text row → Rows limits levels text row
+  rows_again _ _ _ _ (LastElement limits levels text blanks t is are) =
+      let s = shape_again limits levels text t is in
+      (begins_on text (blanks ++ 125 ∷ []) (shape_begins limits levels text t s), last_row limits levels text blanks t s are)
+  rows_again _ _ _ _ (MoreElements limits levels text before after others t row is one two are) =
+      let s = shape_again limits levels text t is in
+      let r = rows_again limits levels others row are in
+      (begins_on text (before ++ 44 ∷ (after ++ others)) (shape_begins limits levels text t s), λ n few rest. further_row limits levels text before after others t row s one two r n few rest (row_some limits levels others row are))
+
+  cells_again : (limits : Limits) (levels : ℕ) (text : List ℕ) (t : Tree) → AreCells limits levels text t → Cells limits levels text t
+  cells_again _ _ _ _ (LastCell limits levels text blanks head is are) =
+      let s = shape_again limits levels text head is in
+      (begins_on text (blanks ++ 93 ∷ []) (shape_begins limits levels text head s), last_of limits levels text blanks head s are)
+  cells_again _ _ _ _ (MoreCells limits levels text before after others head tail is one two are) =
+      let s = shape_again limits levels text head is in
+      let c = cells_again limits levels others tail are in
+      (begins_on text (before ++ 44 ∷ (after ++ others)) (shape_begins limits levels text head s), further_of limits levels text before after others head tail s one two c)
+  cells_again _ _ _ _ (LastTail limits levels text before after last blanks head tail is one two end are) =
+      let s = shape_again limits levels text head is in
+      let l = shape_again limits (suc levels) last tail end in
+      (begins_on text (before ++ 124 ∷ (after ++ (last ++ (blanks ++ 93 ∷ [])))) (shape_begins limits levels text head s), barred_of limits levels text before after last blanks head tail s one two l are)
+
+pub term_again : (limits : Limits) (levels : ℕ) (text : List ℕ) (t : Tree) (rest : List ℕ) → IsTextOf limits levels text t → IsWhole text rest → term_at limits levels (text ++ rest) ≡ Ok (t, rest)
+term_again limits levels text t rest is whole = shape_reads limits levels text t rest (shape_again limits levels text t is) whole
