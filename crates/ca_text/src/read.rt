@@ -1,7 +1,8 @@
 //! The reader of term texts.
-ghost use Rattle.std.specs.Prelude.{◌≡◌, ◌≤◌, ◌<◌, ◌-◌, ◌+◌, [], ◌∷◌, length, Ok, OnOk, OnErr, IfOk, IfErr};
+ghost use Rattle.std.specs.Prelude.{◌≡◌, ◌≤◌, ◌<◌, ◌-◌, ◌+◌, [], ◌∷◌, ℕ, length, take, Ok, IfOk, MatchResult};
 ghost use Rattle.ca_text.specs.NextView.{next_view};
-ghost use Rattle.ca_text.specs.Grammar.{Limits, standard};
+ghost use Rattle.ca_term.specs.Tree.{Tree};
+ghost use Rattle.ca_text.specs.Grammar.{standard, IsRead, IsText};
 ghost use Rattle.ca_text.specs.Reading.{Gives, Fails, with_front, after_element_at, element_step, elements_at, series_at, next_at, tail_at, inner_at, closed, cell_step, cells_at, brackets_at, conses,  tuple_at, binary_at, atom_at, integer_term_at, list_at, term_at, other_at, too_deep, begins_term, bracketed, with_heads};
 
 use crate::fault::{Stop, TextFault, Why, fault_at, fault_of, syntax_at};
@@ -302,7 +303,16 @@ fn term(alloc: Global, levels: u8, bytes: &[u8]) -> Result<(Term, &[u8]), Stop>
 }
 
 /// Reads the longest term text at the front of some bytes: the term, and how many bytes its text has.
-pub fn read_term(alloc: Global, bytes: &[u8]) -> Result<(Term, usize), TextFault> {
+///
+/// An integer takes in each digit that follows it, and a plain atom each letter of ASCII, digit, `_` and `@`. The text has at
+/// most 64 levels, its tuples at most 120 elements and its atoms at most 255 code points.
+pub fn read_term(alloc: Global, bytes: &[u8]) -> Result<(Term, usize), TextFault>
+    ensures ok { IfOk result (λ x. IsRead bytes.now x.0 x.1) }
+    // No longer text stands at the front.
+    ensures longest { IfOk result (λ x. (m : ℕ) (t : Tree) → x.1 < m → m ≤ length bytes.now → IsText (take m bytes.now) t → ⊥) }
+    // What stands at the front is read, unless memory lacks.
+    ensures only { (t : Tree) (n : ℕ) → IsRead bytes.now t n → MatchResult result (λ x. (x.0 ≡ t) × (x.1 ≡ n)) (λ e. e ≡ TextFault.NoMemory) }
+{
     match term(alloc, MOST_LEVELS, bytes) {
         Ok((term, rest)) => Ok((term, bytes.len() - rest.len())),
         Err(stop) => Err(fault_of(stop, bytes.len())),
