@@ -8,6 +8,7 @@ pub mod Nonempty
 pub mod Numbers
 pub mod Points
 pub mod PointsAgain
+pub mod Printed
 pub mod ReadFront
 pub mod Sound
 pub mod Texts

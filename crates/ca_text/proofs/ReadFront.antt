@@ -1,7 +1,9 @@
 -- What is read at the front of some bytes, by number of bytes.
 use Rattle.std.proofs.Common.{◌≡◌, ℕ, zero, suc, ◌+◌, ◌-◌, ◌<◌, ◌≤◌, false, List, [], ◌∷◌, ◌++◌, length, take, drop, Result, Ok, Err, refl, sym, ap, subst, ◌∙◌, arith, take-append-drop, length-append, length-take-le, length-drop, take-add, append-nil}
 use Rattle.std.specs.Prelude.{MatchResult}
-use Rattle.ca_term.specs.Tree.{Tree}
+use Rattle.ca_term.specs.Tree.{Tree, IsTerm, depth}
+use Rattle.ca_text.specs.Text.{text_of}
+use Rattle.ca_text.proofs.Printed.{printed_is}
 use Rattle.ca_text.specs.declared.fault.TextFault.{TextFault}
 use Rattle.ca_text.specs.declared.fault.TextFault.TheVariants.{NoMemory}
 use Rattle.ca_text.specs.declared.fault.Stop.{Stop}
@@ -21,7 +23,7 @@ drop_front : (xs ys : List ℕ) → drop (length xs) (xs ++ ys) ≡ ys
 drop_front [] ys = refl
 drop_front (x ∷ xs) ys = drop_front xs ys
 
-read_of : (text rest : List ℕ) (t : Tree) → IsText text t → IsWhole text rest → IsRead (text ++ rest) t (length text)
+pub read_of : (text rest : List ℕ) (t : Tree) → IsText text t → IsWhole text rest → IsRead (text ++ rest) t (length text)
 read_of text rest t is whole = record {
   within = omega (arith, length-append text rest);
   text = subst (λ x. IsText x t) (sym (take_front text rest)) is;
@@ -67,3 +69,7 @@ pub same_read : (bytes : List ℕ) (t : Tree) (rest : List ℕ) (u : Tree) (n : 
 same_read bytes t rest u n e r =
     let p = pair_is t rest u (drop n bytes) (sym e ∙ read_again bytes u n r) in
     (p.0, omega (arith, ap (λ (x : List ℕ). length x) p.1, length-drop n bytes, r.within))
+
+-- a printed text of at most 64 levels is read, whatever follows that doesn't belong to it
+pub printed_read : (t : Tree) (rest : List ℕ) → IsTerm t → depth t ≤ 64 → IsWhole (text_of t) rest → IsRead (text_of t ++ rest) t (length (text_of t))
+printed_read t rest is shallow whole = read_of (text_of t) rest t (printed_is t is.narrow shallow) whole

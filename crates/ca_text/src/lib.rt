@@ -13,7 +13,7 @@ mod scan;
 
 pub use atom::is_reserved;
 pub use fault::TextFault;
-pub use read::read_term;
+pub use read::{read_laws, read_term};
 pub use print::{print_term, text_laws};
 
 #[cfg(test)]

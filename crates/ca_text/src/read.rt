@@ -1,8 +1,9 @@
 //! The reader of term texts.
-ghost use Rattle.std.specs.Prelude.{◌≡◌, ◌≤◌, ◌<◌, ◌-◌, ◌+◌, [], ◌∷◌, ℕ, length, take, Ok, IfOk, MatchResult};
+ghost use Rattle.std.specs.Prelude.{◌≡◌, ◌≤◌, ◌<◌, ◌-◌, ◌+◌, List, [], ◌∷◌, ◌++◌, ℕ, length, take, Ok, IfOk, MatchResult};
 ghost use Rattle.ca_text.specs.NextView.{next_view};
-ghost use Rattle.ca_term.specs.Tree.{Tree};
-ghost use Rattle.ca_text.specs.Grammar.{standard, IsRead, IsText};
+ghost use Rattle.ca_term.specs.Tree.{Tree, IsTerm, depth};
+ghost use Rattle.ca_text.specs.Text.{text_of};
+ghost use Rattle.ca_text.specs.Grammar.{standard, IsRead, IsText, IsWhole};
 ghost use Rattle.ca_text.specs.Reading.{Gives, Fails, with_front, after_element_at, element_step, elements_at, series_at, next_at, tail_at, inner_at, closed, cell_step, cells_at, brackets_at, conses,  tuple_at, binary_at, atom_at, integer_term_at, list_at, term_at, other_at, too_deep, begins_term, bracketed, with_heads};
 
 use crate::fault::{Stop, TextFault, Why, fault_at, fault_of, syntax_at};
@@ -318,3 +319,10 @@ pub fn read_term(alloc: Global, bytes: &[u8]) -> Result<(Term, usize), TextFault
         Err(stop) => Err(fault_of(stop, bytes.len())),
     }
 }
+
+/// A printed text of at most 64 levels is a text of its term, and it is the one that is read where it stands at the front and
+/// nothing that follows belongs to it.
+pub fn read_laws()
+    ensures printed { (t : Tree) → IsTerm t → depth t ≤ 64 → IsText (text_of t) t }
+    ensures again { (t : Tree) (rest : List ℕ) → IsTerm t → depth t ≤ 64 → IsWhole (text_of t) rest → IsRead (text_of t ++ rest) t (length (text_of t)) }
+{}
