@@ -1,14 +1,14 @@
 -- Blanks, numbers, names and code points that stand at the front are read, whatever follows that doesn't belong to them.
-use Rattle.std.proofs.Common.{◌≡◌, ◌≢◌, ℕ, zero, suc, ◌+◌, ◌-◌, ◌*◌, ◌/◌, ◌%◌, ◌^◌, ◌<◌, ◌≤◌, Bool, true, false, cond, not, ltb, leb, eqb, ◌&&◌, ◌||◌, List, [], ◌∷◌, ◌++◌, length, take, drop, Option, None, Some, Result, Ok, Err, ℤ, pos, neg_ℤ, refl, sym, ap, subst, ◌∙◌, append_assoc, arith, le-ltb, lt-ltb, ◌⊎◌, inl, inr, ⊎_elim}
+use Rattle.std.proofs.Common.{◌≡◌, ℕ, ◌+◌, ◌-◌, ◌*◌, ◌^◌, ◌<◌, ◌≤◌, true, false, leb, eqb, ◌||◌, List, [], ◌∷◌, ◌++◌, length, take, drop, Ok, ℤ, pos, refl, ap, arith}
 use Rattle.std.proofs.Math.Nat.{mul-le-mul_left}
-use Rattle.std.proofs.lemmas.Bool.{leb-true, leb-false, eqb-true, eqb-false, ltb-true, ltb-false, le-leb}
+use Rattle.std.proofs.lemmas.Bool.{le-leb}
 use Rattle.std.proofs.lemmas.Bool.Decides.{nat_tests}
 use Rattle.std.specs.List.{list_all}
-use Rattle.std.specs.Char.{is_ascii_digit, is_ascii_hexdigit, digit_value, is_ascii_lowercase, encode_utf8, IsScalar}
+use Rattle.std.specs.Char.{is_ascii_digit, digit_value, is_ascii_lowercase}
 use Rattle.std.specs.Str.Parse.{AllDigits, IsNumeral, digits_value, digits_value_after}
 use Rattle.ca_text.specs.Text.{is_name_char, has_plain_form}
-use Rattle.ca_text.specs.Grammar.{is_blank, AreBlanks, IsInteger, FromZero, Negative, IsWhole, takes_in}
-use Rattle.ca_text.specs.Reading.{◌>>=◌, syntax_fault, skip, expect, digits_after, number_at, negative_at, positive_at, integer_at, name_length, name_at}
+use Rattle.ca_text.specs.Grammar.{is_blank, AreBlanks, IsInteger, FromZero, Negative, IsWhole}
+use Rattle.ca_text.specs.Reading.{skip, expect, digits_after, number_at, integer_at, name_length, name_at}
 use Rattle.ca_text.proofs.Tools.{both}
 use Rattle.ca_text.proofs.Numbers.{EndsDigits, EndsName}
 

@@ -1,15 +1,14 @@
 -- A text of a term that stands at the front is read, whatever follows that doesn't belong to it.
-use Rattle.std.proofs.Common.{◌≡◌, ◌≢◌, ℕ, zero, suc, ◌+◌, ◌-◌, ◌*◌, ◌<◌, ◌≤◌, Bool, true, false, cond, not, ltb, leb, eqb, ◌&&◌, ◌||◌, List, [], ◌∷◌, ◌++◌, length, drop, Option, None, Some, Result, Ok, Err, ℤ, pos, neg_ℤ, refl, sym, ap, subst, ◌∙◌, append_assoc, arith, ◌⊎◌, inl, inr, ⊎_elim, length-append}
-use Rattle.std.proofs.lemmas.Bool.{leb-true, leb-false, eqb-true, eqb-false, ltb-true, le-leb}
+use Rattle.std.proofs.Common.{◌≡◌, ℕ, zero, suc, ◌<◌, ◌≤◌, Bool, true, false, eqb, List, [], ◌∷◌, ◌++◌, length, Some, Ok, ℤ, pos, neg_ℤ, refl, sym, ap, ◌∙◌, append_assoc, arith, ◌⊎◌, inl, inr, ⊎_elim, length-append}
 use Rattle.std.proofs.lemmas.Bool.Decides.{nat_tests}
 use Rattle.std.specs.List.{list_all}
 use Rattle.std.specs.Char.{is_ascii, is_ascii_digit, is_ascii_lowercase, digit_value, IsScalar}
-use Rattle.std.specs.Str.{encode_utf8_all, all_scalars}
+use Rattle.std.specs.Str.{encode_utf8_all}
 use Rattle.std.specs.Str.Parse.{IsNumeral, digits_value}
 use Rattle.ca_term.specs.Tree.{Tree, Row, Integer, Atom, Tuple, Nil, Cons, Binary, Ends, More, row_of, size, elements}
-use Rattle.ca_text.specs.Text.{has_plain_form, is_name_char}
+use Rattle.ca_text.specs.Text.{is_name_char}
 use Rattle.ca_text.specs.Grammar.{Limits, is_blank, AreBlanks, IsInteger, FromZero, Negative, IsCharacter, Itself, Escaped, Hexadecimal, escape_of, AreCharacters, Closed, OneMore, IsAtom, Plain, Quoted, IsSegment, OneByte, Shown, AreSegments, LastSegment, MoreSegments, points, IsTextOf, AnInteger, AnAtom, NoElements, ATuple, ANil, AList, NoString, AString, NoBytes, ABinary, AreElements, LastElement, MoreElements, AreCells, LastCell, MoreCells, LastTail, IsWhole, takes_in}
-use Rattle.ca_text.specs.Reading.{◌>>=◌, Read, syntax_fault, fault, skip, expect, number_at, integer_at, name_at, is_point, most_point, most_shown, characters_at, string_at, quoted_at, one_byte_at, segment_at, after_segment_at, segment_step, series_at, series_rest, bytes_at, after_element_at, element_step, elements_at, Next, Head, Inner, Last, closed, inner_at, tail_at, next_at, cells_after, cell_step, cells_at, list_at, string_points_at, points_at, tuple_at, binary_at, atom_at, integer_term_at, other_at, bracketed, too_deep, term_at}
+use Rattle.ca_text.specs.Reading.{Read, skip, is_point, most_point, most_shown, quoted_at, one_byte_at, segment_at, after_segment_at, segment_step, series_at, series_rest, bytes_at, after_element_at, element_step, elements_at, Next, Head, Inner, Last, closed, inner_at, tail_at, next_at, cells_after, cell_step, cells_at, list_at, points_at, tuple_at, binary_at, atom_at, integer_term_at, other_at, bracketed, term_at}
 use Rattle.ca_text.proofs.Tools.{both}
 use Rattle.ca_text.proofs.Again.{skip_again, expect_again, number_again, integer_again, name_again}
 use Rattle.ca_text.proofs.Numbers.{EndsDigits}
@@ -169,16 +168,16 @@ shape_reads limits (suc levels) text t rest s whole =
     let other = others_of limits levels in
     ⊎_elim
     (λ o. let step : bracketed list other (o.begins.first ∷ (o.begins.others ++ rest)) ≡ other (o.begins.first ∷ (o.begins.others ++ rest)) = rw o.apart refl in
-      ap (λ x. bracketed list other (x ++ rest)) o.begins.is ∙ step ∙ ap (λ x. other (x ++ rest)) (sym o.begins.is) ∙ o.reads rest whole)
+    ap (λ x. bracketed list other (x ++ rest)) o.begins.is ∙ step ∙ ap (λ x. other (x ++ rest)) (sym o.begins.is) ∙ o.reads rest whole)
     (λ l. ⊎_elim
-      (λ e. ap (λ x. bracketed list other (x ++ rest)) e.is ∙ list_empty (term_at limits levels) other e.blanks rest e.are ∙ ap (λ x. Ok (x, rest)) (sym e.nil))
-      (λ c. let begins = c.begins in
-        let front : skip ((c.blanks ++ c.cells) ++ rest) ≡ begins.first ∷ (begins.others ++ rest) = ap skip (append_assoc c.blanks c.cells rest) ∙ skip_to c.blanks c.cells rest begins.first begins.others c.are begins.is begins.solid ∙ ap (λ x. x ++ rest) begins.is in
-        let many : length c.cells ≤ length (begins.first ∷ (begins.others ++ rest)) = omega (arith, ap (λ (x : List ℕ). length x) begins.is, length-append begins.others rest) in
-        let read : cells_at (term_at limits levels) other (length (begins.first ∷ (begins.others ++ rest))) (begins.first ∷ (begins.others ++ rest)) ≡ Ok (t, rest)
-            = ap (λ x. cells_at (term_at limits levels) other (length (begins.first ∷ (begins.others ++ rest))) (x ++ rest)) (sym begins.is) ∙ c.reads _ many rest in
-        ap (λ x. bracketed list other (x ++ rest)) c.is ∙ ap list front ∙ list_from (term_at limits levels) other begins.first (begins.others ++ rest) (Ok (t, rest)) begins.no_bracket read)
-      l)
+    (λ e. ap (λ x. bracketed list other (x ++ rest)) e.is ∙ list_empty (term_at limits levels) other e.blanks rest e.are ∙ ap (λ x. Ok (x, rest)) (sym e.nil))
+    (λ c. let begins = c.begins in
+    let front : skip ((c.blanks ++ c.cells) ++ rest) ≡ begins.first ∷ (begins.others ++ rest) = ap skip (append_assoc c.blanks c.cells rest) ∙ skip_to c.blanks c.cells rest begins.first begins.others c.are begins.is begins.solid ∙ ap (λ x. x ++ rest) begins.is in
+    let many : length c.cells ≤ length (begins.first ∷ (begins.others ++ rest)) = omega (arith, ap (λ (x : List ℕ). length x) begins.is, length-append begins.others rest) in
+    let read : cells_at (term_at limits levels) other (length (begins.first ∷ (begins.others ++ rest))) (begins.first ∷ (begins.others ++ rest)) ≡ Ok (t, rest)
+    = ap (λ x. cells_at (term_at limits levels) other (length (begins.first ∷ (begins.others ++ rest))) (x ++ rest)) (sym begins.is) ∙ c.reads _ many rest in
+    ap (λ x. bracketed list other (x ++ rest)) c.is ∙ ap list front ∙ list_from (term_at limits levels) other begins.first (begins.others ++ rest) (Ok (t, rest)) begins.no_bracket read)
+    l)
     s
 
 -- what is no character of a name belongs to no text before it
@@ -360,7 +359,7 @@ some_string : (levels : ℕ) (text cs rest : List ℕ) → AreCharacters 34 text
 unfolding points_at
 some_string levels text cs rest are =
     rw (characters_again _ 34 most_point (length (text ++ rest)) text cs rest (omega arith) (λ e. absurd (omega (arith, e))) are (characters_points 34 text cs are)
-      (omega (arith, length-append text rest, characters_few 34 text cs (λ e. absurd (omega (arith, e))) (omega arith) are))) refl
+    (omega (arith, length-append text rest, characters_few 34 text cs (λ e. absurd (omega (arith, e))) (omega arith) are))) refl
 
 no_bytes : (blanks rest : List ℕ) → AreBlanks blanks → binary_at (60 ∷ ((blanks ++ 62 ∷ 62 ∷ []) ++ rest)) ≡ Ok (Binary [], rest)
 unfolding bytes_at

@@ -1,6 +1,6 @@
 -- The text of a code point is read, whatever follows; and so are the characters between quotes.
-use Rattle.std.proofs.Common.{◌≡◌, ◌≢◌, ℕ, zero, suc, ◌+◌, ◌-◌, ◌*◌, ◌/◌, ◌%◌, ◌^◌, ◌<◌, ◌≤◌, Bool, true, false, cond, not, ltb, leb, eqb, ◌&&◌, ◌||◌, List, [], ◌∷◌, ◌++◌, length, Option, None, Some, Result, Ok, Err, refl, sym, ap, subst, ◌∙◌, append_assoc, arith, le-ltb, lt-ltb, ◌⊎◌, inl, inr, ⊎_elim, length-append}
-use Rattle.std.proofs.lemmas.Bool.{leb-true, leb-false, eqb-true, eqb-false, ltb-true, ltb-false, le-leb}
+use Rattle.std.proofs.Common.{◌≡◌, ◌≢◌, ℕ, zero, suc, ◌+◌, ◌-◌, ◌*◌, ◌/◌, ◌%◌, ◌<◌, ◌≤◌, true, false, cond, ltb, leb, eqb, List, [], ◌∷◌, ◌++◌, length, None, Some, Ok, refl, sym, ap, subst, ◌∙◌, append_assoc, arith, le-ltb, lt-ltb, ⊎_elim, length-append}
+use Rattle.std.proofs.lemmas.Bool.{leb-true, ltb-true, ltb-false, le-leb}
 use Rattle.std.proofs.lemmas.Bool.Decides.{nat_tests}
 use Rattle.std.specs.List.{list_all}
 use Rattle.std.specs.Char.{is_ascii_hexdigit, digit_value, encode_utf8, IsScalar}
@@ -8,7 +8,7 @@ use Rattle.std.specs.Str.{all_scalars}
 use Rattle.std.specs.Str.Parse.{AllDigits, IsNumeral, digits_value, digits_value_after}
 use Rattle.ca_text.specs.Grammar.{escape_of, IsCharacter, Itself, Escaped, Hexadecimal, AreCharacters, Closed, OneMore}
 use Rattle.ca_text.specs.declared.fault.Why.{Why}
-use Rattle.ca_text.specs.Reading.{◌>>=◌, syntax_fault, expect, byte_between, inner_byte, two_at, three_at, four_at, least_of_three, end_of_three, least_of_four, end_of_four, point_at, is_point, may_stand, hex_after, hex_at, or_fault, escape_at, begins_character, character_at, next_point_at, closing_at, points_after, characters_at, most_point}
+use Rattle.ca_text.specs.Reading.{byte_between, inner_byte, two_at, three_at, four_at, least_of_three, end_of_three, least_of_four, end_of_four, point_at, is_point, may_stand, hex_after, hex_at, escape_at, begins_character, character_at, next_point_at, closing_at, characters_at}
 use Rattle.ca_text.proofs.Tools.{both, chosen}
 use Rattle.ca_text.proofs.Again.{expect_again, grows}
 
@@ -54,15 +54,15 @@ unfolding point_at encode_utf8
 point_again c rest is =
     ⊎_elim (λ h. rw (h.0, h.0) refl)
     (λ h. let low = ltb-false c 128 h.0 in
-      ⊎_elim (λ i. let high = ltb-true c 2048 i.0 in
-        rw (h.0, i.0, le-ltb (192 + c / 64) 0x80 (omega arith), le-ltb (192 + c / 64) 0xc2 (omega arith), lt-ltb (192 + c / 64) 0xe0 (omega arith)) (two_again c rest low high))
-      (λ i. let low2 = ltb-false c 2048 i.0 in
-        ⊎_elim (λ j. let high = ltb-true c 65536 j.0 in
-          rw (h.0, i.0, j.0, le-ltb (224 + c / 4096) 0x80 (omega arith), le-ltb (224 + c / 4096) 0xc2 (omega arith), le-ltb (224 + c / 4096) 0xe0 (omega arith), lt-ltb (224 + c / 4096) 0xf0 (omega arith)) (three_again c rest low2 high is))
-        (λ j. let low3 = ltb-false c 65536 j.0 in let top = scalar_top c is in
-          rw (h.0, i.0, j.0, le-ltb (240 + c / 262144) 0x80 (omega arith), le-ltb (240 + c / 262144) 0xc2 (omega arith), le-ltb (240 + c / 262144) 0xe0 (omega arith), le-ltb (240 + c / 262144) 0xf0 (omega arith), lt-ltb (240 + c / 262144) 0xf5 (omega arith)) (four_again c rest low3 top))
-        (chosen (ltb c 65536) true false (cond (ltb c 65536) true false) refl))
-      (chosen (ltb c 2048) true false (cond (ltb c 2048) true false) refl))
+    ⊎_elim (λ i. let high = ltb-true c 2048 i.0 in
+    rw (h.0, i.0, le-ltb (192 + c / 64) 0x80 (omega arith), le-ltb (192 + c / 64) 0xc2 (omega arith), lt-ltb (192 + c / 64) 0xe0 (omega arith)) (two_again c rest low high))
+    (λ i. let low2 = ltb-false c 2048 i.0 in
+    ⊎_elim (λ j. let high = ltb-true c 65536 j.0 in
+    rw (h.0, i.0, j.0, le-ltb (224 + c / 4096) 0x80 (omega arith), le-ltb (224 + c / 4096) 0xc2 (omega arith), le-ltb (224 + c / 4096) 0xe0 (omega arith), lt-ltb (224 + c / 4096) 0xf0 (omega arith)) (three_again c rest low2 high is))
+    (λ j. let low3 = ltb-false c 65536 j.0 in let top = scalar_top c is in
+    rw (h.0, i.0, j.0, le-ltb (240 + c / 262144) 0x80 (omega arith), le-ltb (240 + c / 262144) 0xc2 (omega arith), le-ltb (240 + c / 262144) 0xe0 (omega arith), le-ltb (240 + c / 262144) 0xf0 (omega arith), lt-ltb (240 + c / 262144) 0xf5 (omega arith)) (four_again c rest low3 top))
+    (chosen (ltb c 65536) true false (cond (ltb c 65536) true false) refl))
+    (chosen (ltb c 2048) true false (cond (ltb c 2048) true false) refl))
     (chosen (ltb c 128) true false (cond (ltb c 128) true false) refl)
 
 hex_parts : (d : ℕ) → digit_value d < 16 → (is_ascii_hexdigit d ≡ true)
@@ -121,8 +121,8 @@ unfolding encode_utf8
 encode_some c =
     ⊎_elim (λ h. rw h.0 (omega arith))
     (λ h. ⊎_elim (λ i. rw (h.0, i.0) (omega arith))
-      (λ i. ⊎_elim (λ j. rw (h.0, i.0, j.0) (omega arith)) (λ j. rw (h.0, i.0, j.0) (omega arith)) (chosen (ltb c 65536) true false (cond (ltb c 65536) true false) refl))
-      (chosen (ltb c 2048) true false (cond (ltb c 2048) true false) refl))
+    (λ i. ⊎_elim (λ j. rw (h.0, i.0, j.0) (omega arith)) (λ j. rw (h.0, i.0, j.0) (omega arith)) (chosen (ltb c 65536) true false (cond (ltb c 65536) true false) refl))
+    (chosen (ltb c 2048) true false (cond (ltb c 2048) true false) refl))
     (chosen (ltb c 128) true false (cond (ltb c 128) true false) refl)
 
 -- how a code point of more than one byte begins
@@ -133,9 +133,9 @@ lead c is low =
     let no : ltb c 128 ≡ false = le-ltb c 128 low in
     ⊎_elim (λ h. let high = ltb-true c 2048 h.0 in (192 + c / 64, (128 + c % 64) ∷ [], rw (no, h.0) refl, omega arith, omega arith))
     (λ h. let low2 = ltb-false c 2048 h.0 in
-      ⊎_elim (λ i. let high = ltb-true c 65536 i.0 in (224 + c / 4096, (128 + (c / 64) % 64) ∷ (128 + c % 64) ∷ [], rw (no, h.0, i.0) refl, omega arith, omega arith))
-      (λ i. let low3 = ltb-false c 65536 i.0 in (240 + c / 262144, (128 + (c / 4096) % 64) ∷ (128 + (c / 64) % 64) ∷ (128 + c % 64) ∷ [], rw (no, h.0, i.0) refl, omega arith, omega arith))
-      (chosen (ltb c 65536) true false (cond (ltb c 65536) true false) refl))
+    ⊎_elim (λ i. let high = ltb-true c 65536 i.0 in (224 + c / 4096, (128 + (c / 64) % 64) ∷ (128 + c % 64) ∷ [], rw (no, h.0, i.0) refl, omega arith, omega arith))
+    (λ i. let low3 = ltb-false c 65536 i.0 in (240 + c / 262144, (128 + (c / 4096) % 64) ∷ (128 + (c / 64) % 64) ∷ (128 + c % 64) ∷ [], rw (no, h.0, i.0) refl, omega arith, omega arith))
+    (chosen (ltb c 65536) true false (cond (ltb c 65536) true false) refl))
     (chosen (ltb c 2048) true false (cond (ltb c 2048) true false) refl)
 
 lead_begins : (close most b : ℕ) → close < 128 → 128 ≤ most → 0xc2 ≤ b → b < 0xf5 → (begins_character close most b ≡ true) × (eqb b 92 ≡ false) × (eqb b close ≡ false)
@@ -160,12 +160,12 @@ itself_again : (close most c : ℕ) (rest : List ℕ) → close < 128 → IsScal
 itself_again close most c rest small is h i j point =
     ⊎_elim
     (λ k. let low = ltb-true c 128 k.0 in
-      (itself_from close most c c [] rest (one_byte c low) is (other_quote 92 c i) (begins_itself close most c low h j), record { first = c; others = []; is = one_byte c low; apart = other_quote close c h }))
+    (itself_from close most c c [] rest (one_byte c low) is (other_quote 92 c i) (begins_itself close most c low h j), record { first = c; others = []; is = one_byte c low; apart = other_quote close c h }))
     (λ k. let low = ltb-false c 128 k.0 in
-      let l = lead c is low in
-      let top = point_most most c point in
-      let b = lead_begins close most l.0 small (omega arith) l.3 l.4 in
-      (itself_from close most c l.0 l.1 rest l.2 is b.1 b.0, record { first = l.0; others = l.1; is = l.2; apart = b.2 }))
+    let l = lead c is low in
+    let top = point_most most c point in
+    let b = lead_begins close most l.0 small (omega arith) l.3 l.4 in
+    (itself_from close most c l.0 l.1 rest l.2 is b.1 b.0, record { first = l.0; others = l.1; is = l.2; apart = b.2 }))
     (chosen (ltb c 128) true false (cond (ltb c 128) true false) refl)
 
 character_again : (close most : ℕ) (text : List ℕ) (c : ℕ) (rest : List ℕ) → close < 128 → close ≢ 92 → IsCharacter close text c → is_point most c ≡ true

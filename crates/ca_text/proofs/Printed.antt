@@ -1,7 +1,7 @@
 -- The printed text of a term is a text of it.
-use Rattle.std.proofs.Common.{◌≡◌, ◌≢◌, ℕ, zero, suc, ◌+◌, ◌-◌, ◌*◌, ◌^◌, ◌<◌, ◌≤◌, max, Bool, true, false, cond, not, ltb, leb, eqb, ◌&&◌, ◌||◌, List, [], ◌∷◌, ◌++◌, flat_map, length, get_or, Option, Some, ℤ, pos, negsuc, neg_ℤ, refl, sym, ap, subst, ◌∙◌, append_assoc, append-nil, arith, le-ltb, lt-ltb, ◌⊎◌, inl, inr, ⊎_elim}
-use Rattle.std.specs.Prelude.{FitsSigned, codes, decimal, slice_index}
-use Rattle.std.proofs.lemmas.Bool.{leb-true, eqb-true, eqb-false}
+use Rattle.std.proofs.Common.{◌≡◌, ◌≢◌, ℕ, zero, suc, ◌^◌, ◌<◌, ◌≤◌, Bool, true, false, cond, not, ltb, eqb, ◌||◌, List, [], ◌∷◌, ◌++◌, flat_map, length, ℤ, pos, negsuc, neg_ℤ, refl, sym, ap, subst, ◌∙◌, append_assoc, arith, ◌⊎◌, inl, inr, ⊎_elim}
+use Rattle.std.specs.Prelude.{FitsSigned, codes, decimal}
+use Rattle.std.proofs.lemmas.Bool.{eqb-true, eqb-false}
 use Rattle.std.proofs.lemmas.Bool.Decides.{nat_tests}
 use Rattle.std.proofs.lemmas.Fmt.{decimal_is_IsNumeral, digits_is_IsNumeral, hex_one_digit, hex_two_digits}
 use Rattle.std.proofs.lemmas.Str.{chars-IsAscii, scalars-chars, encodes-chars}
@@ -10,11 +10,10 @@ use Rattle.std.specs.Int.{w64}
 use Rattle.std.specs.List.{list_all}
 use Rattle.std.specs.Fmt.{digits, signed_decimal}
 use Rattle.std.specs.Char.{is_ascii, is_control, is_ascii_lowercase, encode_utf8, IsScalar}
-use Rattle.std.specs.Str.{chars, encode_utf8_all, all_scalars, IsUtf8}
-use Rattle.std.specs.Str.Parse.{IsNumeral, digits_value}
+use Rattle.std.specs.Str.{chars, all_scalars, IsUtf8}
 use Rattle.ca_term.specs.Tree.{Tree, Row, Integer, Atom, Tuple, Nil, Cons, Binary, Ends, More, size, depth, row_depth, IsNarrow, IsNarrowRow, AreBytes}
 use Rattle.ca_text.specs.Text.{has_plain_form, is_name_char, is_plain_atom, is_reserved, code_escape, escaped_char, quoted, atom_text, is_printable, escaped_byte, binary_text, bar_text, text_of, tail_text, row_text, more_text}
-use Rattle.ca_text.specs.Grammar.{Limits, standard, IsInteger, FromZero, Negative, IsCharacter, Itself, Escaped, Hexadecimal, AreCharacters, Closed, OneMore, IsAtom, Plain, Quoted, IsSegment, OneByte, Shown, AreSegments, LastSegment, MoreSegments, IsTextOf, AnInteger, AnAtom, NoElements, ATuple, ANil, AList, NoBytes, ABinary, AreElements, LastElement, MoreElements, AreCells, LastCell, MoreCells, LastTail}
+use Rattle.ca_text.specs.Grammar.{standard, IsInteger, FromZero, Negative, IsCharacter, Itself, Escaped, Hexadecimal, AreCharacters, Closed, OneMore, IsAtom, Plain, Quoted, IsSegment, OneByte, Shown, AreSegments, LastSegment, MoreSegments, IsTextOf, AnInteger, AnAtom, NoElements, ATuple, ANil, AList, NoBytes, ABinary, AreElements, LastElement, MoreElements, AreCells, LastCell, MoreCells, LastTail}
 use Rattle.ca_text.proofs.Tools.{both, chosen, either}
 use Rattle.ca_text.proofs.Names.{name_ascii}
 
@@ -46,16 +45,16 @@ unfolding escaped_char
 escaped_is c is =
     ⊎_elim (λ h. let e = eqb-true c 92 h.0 in rw (h.0, e) (Escaped 39 92 92 refl))
     (λ h. ⊎_elim (λ i. let e = eqb-true c 39 i.0 in rw (h.0, i.0, e) (Escaped 39 39 39 refl))
-      (λ i. ⊎_elim (λ j. let e = eqb-true c 10 j.0 in rw (h.0, i.0, j.0, e) (Escaped 39 110 10 refl))
-        (λ j. ⊎_elim (λ k. let e = eqb-true c 13 k.0 in rw (h.0, i.0, j.0, k.0, e) (Escaped 39 114 13 refl))
-          (λ k. ⊎_elim (λ l. let e = eqb-true c 9 l.0 in rw (h.0, i.0, j.0, k.0, l.0, e) (Escaped 39 116 9 refl))
-            (λ l. ⊎_elim (λ m. rw (h.0, i.0, j.0, k.0, l.0, m.0) (code_is c m.0))
-              (λ m. rw (h.0, i.0, j.0, k.0, l.0, m.0) (Itself 39 c is (eqb-false c 39 i.0) (eqb-false c 92 h.0) (eqb-false c 10 j.0)))
-              (chosen (is_control c) true false (cond (is_control c) true false) refl))
-            (chosen (eqb c 9) true false (cond (eqb c 9) true false) refl))
-          (chosen (eqb c 13) true false (cond (eqb c 13) true false) refl))
-        (chosen (eqb c 10) true false (cond (eqb c 10) true false) refl))
-      (chosen (eqb c 39) true false (cond (eqb c 39) true false) refl))
+    (λ i. ⊎_elim (λ j. let e = eqb-true c 10 j.0 in rw (h.0, i.0, j.0, e) (Escaped 39 110 10 refl))
+    (λ j. ⊎_elim (λ k. let e = eqb-true c 13 k.0 in rw (h.0, i.0, j.0, k.0, e) (Escaped 39 114 13 refl))
+    (λ k. ⊎_elim (λ l. let e = eqb-true c 9 l.0 in rw (h.0, i.0, j.0, k.0, l.0, e) (Escaped 39 116 9 refl))
+    (λ l. ⊎_elim (λ m. rw (h.0, i.0, j.0, k.0, l.0, m.0) (code_is c m.0))
+    (λ m. rw (h.0, i.0, j.0, k.0, l.0, m.0) (Itself 39 c is (eqb-false c 39 i.0) (eqb-false c 92 h.0) (eqb-false c 10 j.0)))
+    (chosen (is_control c) true false (cond (is_control c) true false) refl))
+    (chosen (eqb c 9) true false (cond (eqb c 9) true false) refl))
+    (chosen (eqb c 13) true false (cond (eqb c 13) true false) refl))
+    (chosen (eqb c 10) true false (cond (eqb c 10) true false) refl))
+    (chosen (eqb c 39) true false (cond (eqb c 39) true false) refl))
     (chosen (eqb c 92) true false (cond (eqb c 92) true false) refl)
 
 -- code points that pass a test, each written as a character, and the closing quote
@@ -89,8 +88,8 @@ unfolding atom_text
 atom_is text utf8 few =
     ⊎_elim
     (λ h. let form = (both (has_plain_form text) (not (is_reserved text)) h.0).0 in
-      let same = chars-IsAscii text (name_ascii text (plain_names text form)) in
-      rw h.0 (Plain standard text form (omega (arith, few, ap (λ (x : List ℕ). length x) same))))
+    let same = chars-IsAscii text (name_ascii text (plain_names text form)) in
+    rw h.0 (Plain standard text form (omega (arith, few, ap (λ (x : List ℕ). length x) same))))
     (λ h. rw h.0 (quoted_is text utf8 few))
     (chosen (is_plain_atom text) true false (cond (is_plain_atom text) true false) refl)
 
@@ -101,12 +100,12 @@ unfolding escaped_byte encode_utf8
 byte_is b h =
     ⊎_elim
     (λ t. let e : (b ≡ 34) ⊎ (b ≡ 92) = ⊎_elim (λ u. inl (eqb-true b 34 u)) (λ u. inr (eqb-true b 92 u)) (either (eqb b 34) (eqb b 92) t.0) in
-      rw t.0 (⊎_elim (λ u. rw u (Escaped 34 34 34 refl)) (λ u. rw u (Escaped 34 92 92 refl)) e))
+    rw t.0 (⊎_elim (λ u. rw u (Escaped 34 34 34 refl)) (λ u. rw u (Escaped 34 92 92 refl)) e))
     (λ t. let scalar : IsScalar b = grind (arith, nat_tests) in
-      let one : ltb b 128 ≡ true = grind (arith, nat_tests) in
-      let spelled : encode_utf8 b ≡ b ∷ [] = rw one refl in
-      let apart : (b ≢ 34) × (b ≢ 92) × (b ≢ 10) = (λ e. grind (arith, nat_tests), λ e. grind (arith, nat_tests), λ e. grind (arith, nat_tests)) in
-      rw t.0 (subst (λ x. IsCharacter 34 x b) spelled (Itself 34 b scalar apart.0 apart.1 apart.2)))
+    let one : ltb b 128 ≡ true = grind (arith, nat_tests) in
+    let spelled : encode_utf8 b ≡ b ∷ [] = rw one refl in
+    let apart : (b ≢ 34) × (b ≢ 92) × (b ≢ 10) = (λ e. grind (arith, nat_tests), λ e. grind (arith, nat_tests), λ e. grind (arith, nat_tests)) in
+    rw t.0 (subst (λ x. IsCharacter 34 x b) spelled (Itself 34 b scalar apart.0 apart.1 apart.2)))
     (chosen (eqb b 34 || eqb b 92) true false (cond (eqb b 34 || eqb b 92) true false) refl)
 
 printable_ascii : (bs : List ℕ) → list_all is_printable bs ≡ true → list_all is_ascii bs ≡ true
@@ -145,9 +144,9 @@ binary_is levels [] fits = NoBytes standard levels [] refl
 binary_is levels (b ∷ bs) fits =
     ⊎_elim
     (λ h. let whole : (codes "<<\"" ++ flat_map escaped_byte (b ∷ bs)) ++ codes "\">>" ≡ 60 ∷ 60 ∷ 34 ∷ (flat_map escaped_byte (b ∷ bs) ++ 34 ∷ 62 ∷ 62 ∷ []) = refl in
-      rw h.0 (subst (λ x. IsTextOf standard (suc levels) x (Binary (b ∷ bs))) (sym whole) (ABinary standard levels [] (34 ∷ flat_map escaped_byte (b ∷ bs) ++ 34 ∷ 62 ∷ 62 ∷ []) (b ∷ bs) refl (shown_is (b ∷ bs) h.0))))
+    rw h.0 (subst (λ x. IsTextOf standard (suc levels) x (Binary (b ∷ bs))) (sym whole) (ABinary standard levels [] (34 ∷ flat_map escaped_byte (b ∷ bs) ++ 34 ∷ 62 ∷ 62 ∷ []) (b ∷ bs) refl (shown_is (b ∷ bs) h.0))))
     (λ h. let whole : ((codes "<<" ++ decimal b) ++ flat_map with_comma bs) ++ codes ">>" ≡ 60 ∷ 60 ∷ (decimal b ++ (flat_map with_comma bs ++ 62 ∷ 62 ∷ [])) = ap (λ x. 60 ∷ 60 ∷ x) (append_assoc (decimal b) (flat_map with_comma bs) (62 ∷ 62 ∷ [])) in
-      rw h.0 (subst (λ x. IsTextOf standard (suc levels) x (Binary (b ∷ bs))) (sym whole) (ABinary standard levels [] (decimal b ++ (flat_map with_comma bs ++ 62 ∷ 62 ∷ [])) (b ∷ bs) refl (numbers_are b bs fits))))
+    rw h.0 (subst (λ x. IsTextOf standard (suc levels) x (Binary (b ∷ bs))) (sym whole) (ABinary standard levels [] (decimal b ++ (flat_map with_comma bs ++ 62 ∷ 62 ∷ [])) (b ∷ bs) refl (numbers_are b bs fits))))
     (chosen (list_all is_printable (b ∷ bs)) true false (cond (list_all is_printable (b ∷ bs)) true false) refl)
 
 -- ---- terms

@@ -1,18 +1,16 @@
 -- What is read at the front of some bytes, by number of bytes.
-use Rattle.std.proofs.Common.{◌≡◌, ℕ, zero, suc, ◌+◌, ◌-◌, ◌<◌, ◌≤◌, false, List, [], ◌∷◌, ◌++◌, length, take, drop, Result, Ok, Err, refl, sym, ap, subst, ◌∙◌, arith, take-append-drop, length-append, length-take-le, length-drop, take-add, append-nil}
-use Rattle.std.specs.Prelude.{MatchResult}
+use Rattle.std.proofs.Common.{◌≡◌, ℕ, zero, suc, ◌+◌, ◌-◌, ◌<◌, ◌≤◌, List, [], ◌∷◌, ◌++◌, length, take, drop, Ok, refl, sym, ap, subst, ◌∙◌, arith, take-append-drop, length-append, length-take-le, length-drop, take-add, append-nil}
 use Rattle.ca_term.specs.Tree.{Tree, IsTerm, depth}
 use Rattle.ca_text.specs.Text.{text_of}
 use Rattle.ca_text.proofs.Printed.{printed_is}
-use Rattle.ca_text.specs.declared.fault.TextFault.{TextFault}
 use Rattle.ca_text.specs.declared.fault.TextFault.TheVariants.{NoMemory}
 use Rattle.ca_text.specs.declared.fault.Stop.{Stop}
 use Rattle.ca_text.specs.declared.fault.Stop.TheVariants as stop
-use Rattle.ca_text.specs.Grammar.{standard, most_levels, IsText, IsWhole, takes_in, IsRead}
+use Rattle.ca_text.specs.Grammar.{standard, IsText, IsWhole, IsRead}
 use Rattle.ca_text.specs.Place.{text_fault}
 use Rattle.ca_text.specs.Reading.{Fails, term_at}
 use Rattle.ca_text.proofs.Tools.{pair_is}
-use Rattle.ca_text.proofs.Sound.{IsTermAt, term_taken}
+use Rattle.ca_text.proofs.Sound.{term_taken}
 use Rattle.ca_text.proofs.Complete.{term_again}
 
 take_front : (xs ys : List ℕ) → take (length xs) (xs ++ ys) ≡ xs

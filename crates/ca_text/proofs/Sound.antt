@@ -1,16 +1,16 @@
 -- What is read as a term is a text of it.
-use Rattle.std.proofs.Common.{◌≡◌, ℕ, zero, suc, ◌+◌, ◌-◌, ◌<◌, ◌≤◌, Bool, true, false, cond, leb, eqb, ◌&&◌, List, [], ◌∷◌, ◌++◌, length, drop, Result, Ok, Err, pos, refl, sym, ap, subst, ◌∙◌, append_assoc, arith, ◌⊎◌, inl, inr, ⊎_elim}
-use Rattle.std.proofs.lemmas.Bool.{leb-true, eqb-true, eqb-false}
+use Rattle.std.proofs.Common.{◌≡◌, ℕ, zero, suc, ◌≤◌, Bool, true, false, leb, eqb, List, [], ◌∷◌, ◌++◌, length, Ok, refl, sym, ap, subst, ◌∙◌, append_assoc, arith, ◌⊎◌, inl, inr, ⊎_elim}
+use Rattle.std.proofs.lemmas.Bool.{leb-true, eqb-true}
 use Rattle.std.proofs.lemmas.Bool.Decides.{nat_tests}
 use Rattle.std.specs.List.{list_all}
 use Rattle.std.specs.Char.{is_ascii, is_ascii_lowercase}
 use Rattle.std.specs.Str.{encode_utf8_all}
-use Rattle.ca_term.specs.Tree.{Tree, Row, Integer, Atom, Tuple, Nil, Cons, Binary, Ends, More, row_of, size}
-use Rattle.ca_text.specs.Grammar.{Limits, AreBlanks, IsInteger, AreCharacters, Closed, OneMore, IsAtom, Plain, Quoted, IsSegment, OneByte, Shown, AreSegments, LastSegment, MoreSegments, points, IsTextOf, AnInteger, AnAtom, NoElements, ATuple, ANil, AList, NoString, AString, NoBytes, ABinary, AreElements, LastElement, MoreElements, AreCells, LastCell, MoreCells, LastTail, IsWhole}
-use Rattle.ca_text.specs.Reading.{◌>>=◌, Read, syntax_fault, fault, skip, expect, number_at, integer_at, name_at, is_point, most_point, most_shown, characters_at, string_at, quoted_at, one_byte_at, segment_at, after_segment_at, segment_step, series_at, series_rest, bytes_at, after_element_at, element_step, elements_at, Next, Head, Inner, Last, closed, inner_at, tail_at, next_at, cells_after, cell_step, cells_at, list_at, string_points_at, points_at, tuple_at, binary_at, atom_at, integer_term_at, other_at, bracketed, too_deep, begins_term, begins_character, term_at}
+use Rattle.ca_term.specs.Tree.{Tree, Integer, Atom, Tuple, Nil, Cons, Binary, row_of, size}
+use Rattle.ca_text.specs.Grammar.{Limits, AreBlanks, AreCharacters, Closed, OneMore, Plain, Quoted, IsSegment, OneByte, Shown, AreSegments, LastSegment, MoreSegments, points, IsTextOf, AnInteger, AnAtom, NoElements, ATuple, ANil, AList, NoString, AString, NoBytes, ABinary, AreElements, LastElement, MoreElements, AreCells, LastCell, MoreCells, LastTail, IsWhole}
+use Rattle.ca_text.specs.Reading.{◌>>=◌, Read, skip, expect, number_at, integer_at, name_at, is_point, most_point, most_shown, characters_at, string_at, quoted_at, one_byte_at, segment_at, after_segment_at, segment_step, series_at, series_rest, bytes_at, after_element_at, element_step, elements_at, Next, Head, Inner, Last, closed, inner_at, tail_at, next_at, cells_after, cell_step, cells_at, list_at, points_at, tuple_at, binary_at, atom_at, integer_term_at, other_at, bracketed, too_deep, begins_term, begins_character, term_at}
 use Rattle.ca_text.proofs.Tools.{bind_ok, chosen, guarded, spared, both, neither, ok_is, pair_is}
-use Rattle.ca_text.proofs.Characters.{expect_taken, AreCharactersAt, characters_taken}
-use Rattle.ca_text.proofs.Numbers.{skipped, IsNumberAt, number_taken, whole_by, integer_taken, name_taken}
+use Rattle.ca_text.proofs.Characters.{expect_taken, characters_taken}
+use Rattle.ca_text.proofs.Numbers.{skipped, number_taken, whole_by, integer_taken, name_taken}
 
 -- parts of some bytes, one behind another
 with_end : (bytes text r blanks s closing rest : List ℕ) → bytes ≡ text ++ r → r ≡ blanks ++ s → s ≡ closing ++ rest → bytes ≡ (text ++ (blanks ++ closing)) ++ rest
@@ -52,8 +52,8 @@ segment_taken [] bs rest e = one_byte_taken [] bs rest e
 segment_taken (b ∷ bytes) bs rest e =
     ⊎_elim
     (λ h. let same = eqb-true b 34 h.0 in
-      let r = characters_taken _ 34 most_shown (length bytes) bytes bs rest (omega arith) (omega arith) (λ x. absurd (omega arith)) h.1 in
-      record { text = 34 ∷ r.text; whole = let w = r.whole in cc; is = Shown r.text bs r.characters (shown_ascii bs r.points) })
+    let r = characters_taken _ 34 most_shown (length bytes) bytes bs rest (omega arith) (omega arith) (λ x. absurd (omega arith)) h.1 in
+    record { text = 34 ∷ r.text; whole = let w = r.whole in cc; is = Shown r.text bs r.characters (shown_ascii bs r.points) })
     (λ h. one_byte_taken (b ∷ bytes) bs rest h.1)
     (chosen (eqb b 34) _ _ (Ok (bs, rest)) e)
 
@@ -66,12 +66,12 @@ after_segment_taken (b ∷ bytes) more rest e =
     ⊎_elim
     (λ h. let p = pair_is true (skip bytes) more rest h.1 in inl (sym p.0, bytes, ap (λ x. x ∷ bytes) (eqb-true b 44 h.0), p.1))
     (λ h. let g = guarded (eqb b 62) _ (expect 62 bytes >>= λ after. Ok (false, after)) (more, rest) h.1 in
-      let s = bind_ok (expect 62 bytes) (λ after. Ok (false, after)) (more, rest) g.1 in
-      let p = pair_is false s.0 more rest s.2 in
-      let x = expect_taken 62 bytes s.0 s.1 in
-      let same = eqb-true b 62 g.0 in
-      let q = p.1 in
-      inr (sym p.0, cc))
+    let s = bind_ok (expect 62 bytes) (λ after. Ok (false, after)) (more, rest) g.1 in
+    let p = pair_is false s.0 more rest s.2 in
+    let x = expect_taken 62 bytes s.0 s.1 in
+    let same = eqb-true b 62 g.0 in
+    let q = p.1 in
+    inr (sym p.0, cc))
     (chosen (eqb b 44) _ _ (Ok (more, rest)) e)
 
 pub record AreSegmentsAt (bytes bs rest : List ℕ) : Type 0 where
@@ -94,19 +94,19 @@ segments_more n bytes bs rest part more after later e f =
     let more_is : u.0.0 ≡ more = ap (λ (x : List ℕ × Bool). x.1) p.0 in
     ⊎_elim
     (λ h. let yes : more ≡ true = sym more_is ∙ h.0 in
-      let step : series_rest part (series_at segment_step n) true after ≡ Ok (bs, rest) = subst (λ m. series_rest part (series_at segment_step n) m after ≡ Ok (bs, rest)) yes f in
-      let v = bind_ok (series_at segment_step n after) (λ r. Ok (part ++ r.0, r.1)) (bs, rest) step in
-      let q = pair_is (part ++ v.0.0) v.0.1 bs rest v.2 in
-      let others = later after v.0.0 v.0.1 v.1 in
-      let gap = skipped h.1 in
-      let whole = with_more 44 bytes first.text s.0.1 blanks.blanks (skip s.0.1) h.1 gap.blanks (skip h.1) others.text rest first.whole blanks.whole h.2 gap.whole (h.3 ∙ p.1 ∙ others.whole ∙ ap (λ x. others.text ++ x) q.1) in
-      let made : AreSegments _ (s.0.0 ++ v.0.0) = MoreSegments first.text blanks.blanks gap.blanks others.text s.0.0 v.0.0 first.is blanks.are gap.are others.are in
-      record { text = first.text ++ (blanks.blanks ++ 44 ∷ (gap.blanks ++ others.text)); whole = whole; are = subst (λ x. AreSegments (first.text ++ (blanks.blanks ++ 44 ∷ (gap.blanks ++ others.text))) x) (ap (λ x. x ++ v.0.0) part_is ∙ q.0) made })
+    let step : series_rest part (series_at segment_step n) true after ≡ Ok (bs, rest) = subst (λ m. series_rest part (series_at segment_step n) m after ≡ Ok (bs, rest)) yes f in
+    let v = bind_ok (series_at segment_step n after) (λ r. Ok (part ++ r.0, r.1)) (bs, rest) step in
+    let q = pair_is (part ++ v.0.0) v.0.1 bs rest v.2 in
+    let others = later after v.0.0 v.0.1 v.1 in
+    let gap = skipped h.1 in
+    let whole = with_more 44 bytes first.text s.0.1 blanks.blanks (skip s.0.1) h.1 gap.blanks (skip h.1) others.text rest first.whole blanks.whole h.2 gap.whole (h.3 ∙ p.1 ∙ others.whole ∙ ap (λ x. others.text ++ x) q.1) in
+    let made : AreSegments _ (s.0.0 ++ v.0.0) = MoreSegments first.text blanks.blanks gap.blanks others.text s.0.0 v.0.0 first.is blanks.are gap.are others.are in
+    record { text = first.text ++ (blanks.blanks ++ 44 ∷ (gap.blanks ++ others.text)); whole = whole; are = subst (λ x. AreSegments (first.text ++ (blanks.blanks ++ 44 ∷ (gap.blanks ++ others.text))) x) (ap (λ x. x ++ v.0.0) part_is ∙ q.0) made })
     (λ h. let no : more ≡ false = sym more_is ∙ h.0 in
-      let step : series_rest part (series_at segment_step n) false after ≡ Ok (bs, rest) = subst (λ m. series_rest part (series_at segment_step n) m after ≡ Ok (bs, rest)) no f in
-      let q = pair_is part after bs rest step in
-      let whole = with_end bytes first.text s.0.1 blanks.blanks (skip s.0.1) (62 ∷ 62 ∷ []) rest first.whole blanks.whole (h.1 ∙ ap (λ x. 62 ∷ 62 ∷ x) (p.1 ∙ q.1)) in
-      record { text = first.text ++ (blanks.blanks ++ 62 ∷ 62 ∷ []); whole = whole; are = subst (λ x. AreSegments (first.text ++ (blanks.blanks ++ 62 ∷ 62 ∷ [])) x) (part_is ∙ q.0) (LastSegment first.text blanks.blanks s.0.0 first.is blanks.are) })
+    let step : series_rest part (series_at segment_step n) false after ≡ Ok (bs, rest) = subst (λ m. series_rest part (series_at segment_step n) m after ≡ Ok (bs, rest)) no f in
+    let q = pair_is part after bs rest step in
+    let whole = with_end bytes first.text s.0.1 blanks.blanks (skip s.0.1) (62 ∷ 62 ∷ []) rest first.whole blanks.whole (h.1 ∙ ap (λ x. 62 ∷ 62 ∷ x) (p.1 ∙ q.1)) in
+    record { text = first.text ++ (blanks.blanks ++ 62 ∷ 62 ∷ []); whole = whole; are = subst (λ x. AreSegments (first.text ++ (blanks.blanks ++ 62 ∷ 62 ∷ [])) x) (part_is ∙ q.0) (LastSegment first.text blanks.blanks s.0.0 first.is blanks.are) })
     (after_segment_taken (skip s.0.1) u.0.0 u.0.1 u.1)
 
 segments_taken : (n : ℕ) (bytes bs rest : List ℕ) → series_at segment_step n bytes ≡ Ok (bs, rest) → AreSegmentsAt bytes bs rest
@@ -135,14 +135,14 @@ bytes_from limits levels bytes bs rest blanks [] gap are e = absurd cc
 bytes_from limits levels bytes bs rest blanks (b ∷ inner) gap are e =
     ⊎_elim
     (λ h. let s = bind_ok (expect 62 inner) (λ after. Ok ([], after)) (bs, rest) h.1 in
-      let p = pair_is [] s.0 bs rest s.2 in
-      let x = expect_taken 62 inner s.0 s.1 in
-      let closing : b ∷ inner ≡ (62 ∷ 62 ∷ []) ++ rest = let same = eqb-true b 62 h.0 in let q = p.1 in cc in
-      let whole : 60 ∷ 60 ∷ bytes ≡ (60 ∷ 60 ∷ blanks ++ 62 ∷ 62 ∷ []) ++ rest = ap (λ x. 60 ∷ 60 ∷ x) (with_front_blanks bytes blanks (b ∷ inner) (62 ∷ 62 ∷ []) rest gap closing) in
-      record { text = 60 ∷ 60 ∷ blanks ++ 62 ∷ 62 ∷ []; whole = whole; is = subst (λ x. IsTextOf limits (suc levels) (60 ∷ 60 ∷ blanks ++ 62 ∷ 62 ∷ []) (Binary x)) p.0 (NoBytes limits levels blanks are); ends = whole_by (60 ∷ 60 ∷ blanks ++ 62 ∷ 62 ∷ []) _ (λ c. refl) })
+    let p = pair_is [] s.0 bs rest s.2 in
+    let x = expect_taken 62 inner s.0 s.1 in
+    let closing : b ∷ inner ≡ (62 ∷ 62 ∷ []) ++ rest = let same = eqb-true b 62 h.0 in let q = p.1 in cc in
+    let whole : 60 ∷ 60 ∷ bytes ≡ (60 ∷ 60 ∷ blanks ++ 62 ∷ 62 ∷ []) ++ rest = ap (λ x. 60 ∷ 60 ∷ x) (with_front_blanks bytes blanks (b ∷ inner) (62 ∷ 62 ∷ []) rest gap closing) in
+    record { text = 60 ∷ 60 ∷ blanks ++ 62 ∷ 62 ∷ []; whole = whole; is = subst (λ x. IsTextOf limits (suc levels) (60 ∷ 60 ∷ blanks ++ 62 ∷ 62 ∷ []) (Binary x)) p.0 (NoBytes limits levels blanks are); ends = whole_by (60 ∷ 60 ∷ blanks ++ 62 ∷ 62 ∷ []) _ (λ c. refl) })
     (λ h. let r = segments_taken (length (b ∷ inner)) (b ∷ inner) bs rest h.1 in
-      let whole : 60 ∷ 60 ∷ bytes ≡ (60 ∷ 60 ∷ blanks ++ r.text) ++ rest = ap (λ x. 60 ∷ 60 ∷ x) (with_front_blanks bytes blanks (b ∷ inner) r.text rest gap r.whole) in
-      record { text = 60 ∷ 60 ∷ blanks ++ r.text; whole = whole; is = ABinary limits levels blanks r.text bs are r.are; ends = whole_by (60 ∷ 60 ∷ blanks ++ r.text) _ (λ c. refl) })
+    let whole : 60 ∷ 60 ∷ bytes ≡ (60 ∷ 60 ∷ blanks ++ r.text) ++ rest = ap (λ x. 60 ∷ 60 ∷ x) (with_front_blanks bytes blanks (b ∷ inner) r.text rest gap r.whole) in
+    record { text = 60 ∷ 60 ∷ blanks ++ r.text; whole = whole; is = ABinary limits levels blanks r.text bs are r.are; ends = whole_by (60 ∷ 60 ∷ blanks ++ r.text) _ (λ c. refl) })
     (chosen (eqb b 62) _ _ (Ok (bs, rest)) e)
 
 bytes_taken : (limits : Limits) (levels : ℕ) (bytes bs rest : List ℕ) → bytes_at (skip bytes) ≡ Ok (bs, rest) → IsTermAt limits (suc levels) (60 ∷ 60 ∷ bytes) (Binary bs) rest
@@ -156,12 +156,12 @@ after_element_taken n [] more rest e = absurd cc
 after_element_taken n (b ∷ bytes) more rest e =
     ⊎_elim
     (λ h. let g = spared (eqb n 0) _ (Ok (true, skip bytes)) (more, rest) h.1 in
-      let p = pair_is true (skip bytes) more rest g.1 in inl (sym p.0, bytes, ap (λ x. x ∷ bytes) (eqb-true b 44 h.0), p.1))
+    let p = pair_is true (skip bytes) more rest g.1 in inl (sym p.0, bytes, ap (λ x. x ∷ bytes) (eqb-true b 44 h.0), p.1))
     (λ h. let g = guarded (eqb b 125) _ (Ok (false, bytes)) (more, rest) h.1 in
-      let p = pair_is false bytes more rest g.1 in
-      let same = eqb-true b 125 g.0 in
-      let q = p.1 in
-      inr (sym p.0, cc))
+    let p = pair_is false bytes more rest g.1 in
+    let same = eqb-true b 125 g.0 in
+    let q = p.1 in
+    inr (sym p.0, cc))
     (chosen (eqb b 44) _ _ (Ok (more, rest)) e)
 
 module _ (limits : Limits) (levels : ℕ) (element : List ℕ → Read Tree) (sound : ReadsTerms limits levels element) where
@@ -187,31 +187,31 @@ module _ (limits : Limits) (levels : ℕ) (element : List ℕ → Read Tree) (so
       let more_is : u.0.0 ≡ more = ap (λ (x : List Tree × Bool). x.1) p.0 in
       ⊎_elim
       (λ h. let yes : more ≡ true = sym more_is ∙ h.0 in
-        let step : series_rest part (series_at (element_step element) n) true after ≡ Ok (ts, rest) = subst (λ m. series_rest part (series_at (element_step element) n) m after ≡ Ok (ts, rest)) yes f in
-        let v = bind_ok (series_at (element_step element) n after) (λ r. Ok (part ++ r.0, r.1)) (ts, rest) step in
-        let q = pair_is (part ++ v.0.0) v.0.1 ts rest v.2 in
-        let others = later after v.0.0 v.0.1 v.1 in
-        let gap = skipped h.1 in
-        let whole = with_more 44 bytes first.text s.0.1 blanks.blanks (skip s.0.1) h.1 gap.blanks (skip h.1) others.text rest first.whole blanks.whole h.2 gap.whole (h.3 ∙ p.1 ∙ others.whole ∙ ap (λ x. others.text ++ x) q.1) in
-        let made : AreElements limits levels _ (row_of (s.0.0 ∷ v.0.0)) = MoreElements limits levels first.text blanks.blanks gap.blanks others.text s.0.0 (row_of v.0.0) first.is blanks.are gap.are others.are in
-        let same : s.0.0 ∷ v.0.0 ≡ ts = ap (λ x. x ++ v.0.0) part_is ∙ q.0 in
-        record {
-          text = first.text ++ (blanks.blanks ++ 44 ∷ (gap.blanks ++ others.text));
-          whole = whole;
-          are = subst (λ x. AreElements limits levels (first.text ++ (blanks.blanks ++ 44 ∷ (gap.blanks ++ others.text))) (row_of x)) same made;
-          few = subst (λ (x : List Tree). length x ≤ suc n) same (omega (arith, others.few));
-        })
+      let step : series_rest part (series_at (element_step element) n) true after ≡ Ok (ts, rest) = subst (λ m. series_rest part (series_at (element_step element) n) m after ≡ Ok (ts, rest)) yes f in
+      let v = bind_ok (series_at (element_step element) n after) (λ r. Ok (part ++ r.0, r.1)) (ts, rest) step in
+      let q = pair_is (part ++ v.0.0) v.0.1 ts rest v.2 in
+      let others = later after v.0.0 v.0.1 v.1 in
+      let gap = skipped h.1 in
+      let whole = with_more 44 bytes first.text s.0.1 blanks.blanks (skip s.0.1) h.1 gap.blanks (skip h.1) others.text rest first.whole blanks.whole h.2 gap.whole (h.3 ∙ p.1 ∙ others.whole ∙ ap (λ x. others.text ++ x) q.1) in
+      let made : AreElements limits levels _ (row_of (s.0.0 ∷ v.0.0)) = MoreElements limits levels first.text blanks.blanks gap.blanks others.text s.0.0 (row_of v.0.0) first.is blanks.are gap.are others.are in
+      let same : s.0.0 ∷ v.0.0 ≡ ts = ap (λ x. x ++ v.0.0) part_is ∙ q.0 in
+      record {
+        text = first.text ++ (blanks.blanks ++ 44 ∷ (gap.blanks ++ others.text));
+        whole = whole;
+        are = subst (λ x. AreElements limits levels (first.text ++ (blanks.blanks ++ 44 ∷ (gap.blanks ++ others.text))) (row_of x)) same made;
+        few = subst (λ (x : List Tree). length x ≤ suc n) same (omega (arith, others.few));
+      })
       (λ h. let no : more ≡ false = sym more_is ∙ h.0 in
-        let step : series_rest part (series_at (element_step element) n) false after ≡ Ok (ts, rest) = subst (λ m. series_rest part (series_at (element_step element) n) m after ≡ Ok (ts, rest)) no f in
-        let q = pair_is part after ts rest step in
-        let whole = with_end bytes first.text s.0.1 blanks.blanks (skip s.0.1) (125 ∷ []) rest first.whole blanks.whole (h.1 ∙ ap (λ x. 125 ∷ x) (p.1 ∙ q.1)) in
-        let same : s.0.0 ∷ [] ≡ ts = part_is ∙ q.0 in
-        record {
-          text = first.text ++ (blanks.blanks ++ 125 ∷ []);
-          whole = whole;
-          are = subst (λ x. AreElements limits levels (first.text ++ (blanks.blanks ++ 125 ∷ [])) (row_of x)) same (LastElement limits levels first.text blanks.blanks s.0.0 first.is blanks.are);
-          few = subst (λ (x : List Tree). length x ≤ suc n) same (omega arith);
-        })
+      let step : series_rest part (series_at (element_step element) n) false after ≡ Ok (ts, rest) = subst (λ m. series_rest part (series_at (element_step element) n) m after ≡ Ok (ts, rest)) no f in
+      let q = pair_is part after ts rest step in
+      let whole = with_end bytes first.text s.0.1 blanks.blanks (skip s.0.1) (125 ∷ []) rest first.whole blanks.whole (h.1 ∙ ap (λ x. 125 ∷ x) (p.1 ∙ q.1)) in
+      let same : s.0.0 ∷ [] ≡ ts = part_is ∙ q.0 in
+      record {
+        text = first.text ++ (blanks.blanks ++ 125 ∷ []);
+        whole = whole;
+        are = subst (λ x. AreElements limits levels (first.text ++ (blanks.blanks ++ 125 ∷ [])) (row_of x)) same (LastElement limits levels first.text blanks.blanks s.0.0 first.is blanks.are);
+        few = subst (λ (x : List Tree). length x ≤ suc n) same (omega arith);
+      })
       (after_element_taken n (skip s.0.1) u.0.0 u.0.1 u.1)
 
   series_taken : (n : ℕ) (bytes : List ℕ) (ts : List Tree) (rest : List ℕ) → series_at (element_step element) n bytes ≡ Ok (ts, rest) → AreElementsAt n bytes ts rest
@@ -232,13 +232,13 @@ module _ (limits : Limits) (levels : ℕ) (element : List ℕ → Read Tree) (so
   elements_from bytes ts rest blanks (b ∷ inner) gap are e =
       ⊎_elim
       (λ h. let none : List Tree = [] in
-        let p = pair_is none inner ts rest h.1 in
-        let closing : b ∷ inner ≡ (125 ∷ []) ++ rest = let same = eqb-true b 125 h.0 in let q = p.1 in cc in
-        let whole : 123 ∷ bytes ≡ (123 ∷ blanks ++ 125 ∷ []) ++ rest = ap (λ x. 123 ∷ x) (with_front_blanks bytes blanks (b ∷ inner) (125 ∷ []) rest gap closing) in
-        record { text = 123 ∷ blanks ++ 125 ∷ []; whole = whole; is = subst (λ x. IsTextOf limits (suc levels) (123 ∷ blanks ++ 125 ∷ []) (Tuple (row_of x))) p.0 (NoElements limits levels blanks are); ends = whole_by (123 ∷ blanks ++ 125 ∷ []) _ (λ c. refl) })
+      let p = pair_is none inner ts rest h.1 in
+      let closing : b ∷ inner ≡ (125 ∷ []) ++ rest = let same = eqb-true b 125 h.0 in let q = p.1 in cc in
+      let whole : 123 ∷ bytes ≡ (123 ∷ blanks ++ 125 ∷ []) ++ rest = ap (λ x. 123 ∷ x) (with_front_blanks bytes blanks (b ∷ inner) (125 ∷ []) rest gap closing) in
+      record { text = 123 ∷ blanks ++ 125 ∷ []; whole = whole; is = subst (λ x. IsTextOf limits (suc levels) (123 ∷ blanks ++ 125 ∷ []) (Tuple (row_of x))) p.0 (NoElements limits levels blanks are); ends = whole_by (123 ∷ blanks ++ 125 ∷ []) _ (λ c. refl) })
       (λ h. let r = series_taken limits.elements (b ∷ inner) ts rest h.1 in
-        let whole : 123 ∷ bytes ≡ (123 ∷ blanks ++ r.text) ++ rest = ap (λ x. 123 ∷ x) (with_front_blanks bytes blanks (b ∷ inner) r.text rest gap r.whole) in
-        record { text = 123 ∷ blanks ++ r.text; whole = whole; is = ATuple limits levels blanks r.text (row_of ts) are r.are (omega (arith, size_row ts, r.few)); ends = whole_by (123 ∷ blanks ++ r.text) _ (λ c. refl) })
+      let whole : 123 ∷ bytes ≡ (123 ∷ blanks ++ r.text) ++ rest = ap (λ x. 123 ∷ x) (with_front_blanks bytes blanks (b ∷ inner) r.text rest gap r.whole) in
+      record { text = 123 ∷ blanks ++ r.text; whole = whole; is = ATuple limits levels blanks r.text (row_of ts) are r.are (omega (arith, size_row ts, r.few)); ends = whole_by (123 ∷ blanks ++ r.text) _ (λ c. refl) })
       (chosen (eqb b 125) _ _ (Ok (ts, rest)) e)
 
   tuple_taken : (bytes : List ℕ) (t : Tree) (rest : List ℕ) → tuple_at element limits.elements (skip bytes) ≡ Ok (t, rest) → IsTermAt limits (suc levels) (123 ∷ bytes) t rest
@@ -277,10 +277,10 @@ module _ (limits : Limits) (levels : ℕ) (element : List ℕ → Read Tree) (so
     inner_taken bytes tail bracket (b ∷ inner) next bar opens gap e =
         ⊎_elim
         (λ h. let blanks = skipped bracket in
-          let closing : skip bracket ≡ (93 ∷ []) ++ inner = gap ∙ ap (λ x. x ∷ inner) (eqb-true b 93 h.0) in
-          let whole : skip tail ≡ (91 ∷ blanks.blanks ++ 93 ∷ []) ++ inner = opens ∙ ap (λ x. 91 ∷ x) (with_front_blanks bracket blanks.blanks (skip bracket) (93 ∷ []) inner blanks.whole closing) in
-          let is : IsTermAt limits (suc levels) (skip tail) Nil inner = record { text = 91 ∷ blanks.blanks ++ 93 ∷ []; whole = whole; is = ANil limits levels blanks.blanks blanks.are; ends = whole_by (91 ∷ blanks.blanks ++ 93 ∷ []) _ (λ c. refl) } in
-          closed_next bytes tail Nil inner next bar is h.1)
+        let closing : skip bracket ≡ (93 ∷ []) ++ inner = gap ∙ ap (λ x. x ∷ inner) (eqb-true b 93 h.0) in
+        let whole : skip tail ≡ (91 ∷ blanks.blanks ++ 93 ∷ []) ++ inner = opens ∙ ap (λ x. 91 ∷ x) (with_front_blanks bracket blanks.blanks (skip bracket) (93 ∷ []) inner blanks.whole closing) in
+        let is : IsTermAt limits (suc levels) (skip tail) Nil inner = record { text = 91 ∷ blanks.blanks ++ 93 ∷ []; whole = whole; is = ANil limits levels blanks.blanks blanks.are; ends = whole_by (91 ∷ blanks.blanks ++ 93 ∷ []) _ (λ c. refl) } in
+        closed_next bytes tail Nil inner next bar is h.1)
         (λ h. subst (λ n. IsNext bytes n) (ok_is (Inner (b ∷ inner)) next h.1) (tail, bracket, bar, opens, gap))
         (chosen (eqb b 93) _ _ (Ok next) e)
 
@@ -300,10 +300,10 @@ module _ (limits : Limits) (levels : ℕ) (element : List ℕ → Read Tree) (so
         ⊎_elim
         (λ h. subst (λ n. IsNext (b ∷ bytes) n) (ok_is (Head (skip bytes)) next h.1) (bytes, ap (λ x. x ∷ bytes) (eqb-true b 44 h.0), refl))
         (λ h. ⊎_elim
-          (λ u. subst (λ n. IsNext (b ∷ bytes) n) (ok_is (Last Nil bytes) next u.1) (inl (refl, ap (λ x. x ∷ bytes) (eqb-true b 93 u.0))))
-          (λ u. let g = guarded (eqb b 124) _ (tail_at other (skip bytes)) next u.1 in
-            tail_taken (b ∷ bytes) bytes (skip bytes) next (ap (λ x. x ∷ bytes) (eqb-true b 124 g.0)) refl g.1)
-          (chosen (eqb b 93) _ _ (Ok next) h.1))
+        (λ u. subst (λ n. IsNext (b ∷ bytes) n) (ok_is (Last Nil bytes) next u.1) (inl (refl, ap (λ x. x ∷ bytes) (eqb-true b 93 u.0))))
+        (λ u. let g = guarded (eqb b 124) _ (tail_at other (skip bytes)) next u.1 in
+        tail_taken (b ∷ bytes) bytes (skip bytes) next (ap (λ x. x ∷ bytes) (eqb-true b 124 g.0)) refl g.1)
+        (chosen (eqb b 93) _ _ (Ok next) h.1))
         (chosen (eqb b 44) _ _ (Ok next) e)
 
     pub record AreCellsAt (bytes : List ℕ) (t : Tree) (rest : List ℕ) : Type 0 where
@@ -354,13 +354,13 @@ module _ (limits : Limits) (levels : ℕ) (element : List ℕ → Read Tree) (so
         let p = pair_is (Cons head tail) inner t rest e in
         ⊎_elim
         (λ h. let before = skipped r in
-          let whole = with_end bytes first.text r before.blanks (skip r) (93 ∷ []) rest first.whole before.whole (h.1 ∙ ap (λ x. 93 ∷ x) p.1) in
-          let same : Cons head Nil ≡ t = ap (λ x. Cons head x) (sym h.0) ∙ p.0 in
-          record {
-            text = first.text ++ (before.blanks ++ 93 ∷ []);
-            whole = whole;
-            are = subst (λ x. AreCells limits levels (first.text ++ (before.blanks ++ 93 ∷ [])) x) same (LastCell limits levels first.text before.blanks head first.is before.are);
-          })
+        let whole = with_end bytes first.text r before.blanks (skip r) (93 ∷ []) rest first.whole before.whole (h.1 ∙ ap (λ x. 93 ∷ x) p.1) in
+        let same : Cons head Nil ≡ t = ap (λ x. Cons head x) (sym h.0) ∙ p.0 in
+        record {
+          text = first.text ++ (before.blanks ++ 93 ∷ []);
+          whole = whole;
+          are = subst (λ x. AreCells limits levels (first.text ++ (before.blanks ++ 93 ∷ [])) x) same (LastCell limits levels first.text before.blanks head first.is before.are);
+        })
         (λ h. subst (λ x. AreCellsAt bytes x rest) p.0 (barred bytes head tail r h.0 h.1 rest first h.2 h.3 (h.4 ∙ ap (λ x. 93 ∷ x) p.1)))
         next
 
@@ -382,12 +382,12 @@ module _ (limits : Limits) (levels : ℕ) (element : List ℕ → Read Tree) (so
     list_from bytes t rest blanks (b ∷ inner) gap are e =
         ⊎_elim
         (λ h. let p = pair_is Nil inner t rest h.1 in
-          let closing : b ∷ inner ≡ (93 ∷ []) ++ rest = let same = eqb-true b 93 h.0 in let q = p.1 in cc in
-          let whole : 91 ∷ bytes ≡ (91 ∷ blanks ++ 93 ∷ []) ++ rest = ap (λ x. 91 ∷ x) (with_front_blanks bytes blanks (b ∷ inner) (93 ∷ []) rest gap closing) in
-          record { text = 91 ∷ blanks ++ 93 ∷ []; whole = whole; is = subst (λ x. IsTextOf limits (suc levels) (91 ∷ blanks ++ 93 ∷ []) x) p.0 (ANil limits levels blanks are); ends = whole_by (91 ∷ blanks ++ 93 ∷ []) _ (λ c. refl) })
+        let closing : b ∷ inner ≡ (93 ∷ []) ++ rest = let same = eqb-true b 93 h.0 in let q = p.1 in cc in
+        let whole : 91 ∷ bytes ≡ (91 ∷ blanks ++ 93 ∷ []) ++ rest = ap (λ x. 91 ∷ x) (with_front_blanks bytes blanks (b ∷ inner) (93 ∷ []) rest gap closing) in
+        record { text = 91 ∷ blanks ++ 93 ∷ []; whole = whole; is = subst (λ x. IsTextOf limits (suc levels) (91 ∷ blanks ++ 93 ∷ []) x) p.0 (ANil limits levels blanks are); ends = whole_by (91 ∷ blanks ++ 93 ∷ []) _ (λ c. refl) })
         (λ h. let r = cells_taken (length (b ∷ inner)) (b ∷ inner) t rest h.1 in
-          let whole : 91 ∷ bytes ≡ (91 ∷ blanks ++ r.text) ++ rest = ap (λ x. 91 ∷ x) (with_front_blanks bytes blanks (b ∷ inner) r.text rest gap r.whole) in
-          record { text = 91 ∷ blanks ++ r.text; whole = whole; is = AList limits levels blanks r.text t are r.are; ends = whole_by (91 ∷ blanks ++ r.text) _ (λ c. refl) })
+        let whole : 91 ∷ bytes ≡ (91 ∷ blanks ++ r.text) ++ rest = ap (λ x. 91 ∷ x) (with_front_blanks bytes blanks (b ∷ inner) r.text rest gap r.whole) in
+        record { text = 91 ∷ blanks ++ r.text; whole = whole; is = AList limits levels blanks r.text t are r.are; ends = whole_by (91 ∷ blanks ++ r.text) _ (λ c. refl) })
         (chosen (eqb b 93) _ _ (Ok (t, rest)) e)
 
     bracketed_taken : (bytes : List ℕ) (t : Tree) (rest : List ℕ) → bracketed (list_at element other) other bytes ≡ Ok (t, rest) → IsTermAt limits (suc levels) bytes t rest
@@ -395,8 +395,8 @@ module _ (limits : Limits) (levels : ℕ) (element : List ℕ → Read Tree) (so
     bracketed_taken (b ∷ bytes) t rest e =
         ⊎_elim
         (λ h. let gap = skipped bytes in
-          let same : b ≡ 91 = eqb-true b 91 h.0 in
-          subst (λ x. IsTermAt limits (suc levels) (x ∷ bytes) t rest) (sym same) (list_from bytes t rest gap.blanks (skip bytes) gap.whole gap.are h.1))
+        let same : b ≡ 91 = eqb-true b 91 h.0 in
+        subst (λ x. IsTermAt limits (suc levels) (x ∷ bytes) t rest) (sym same) (list_from bytes t rest gap.blanks (skip bytes) gap.whole gap.are h.1))
         (λ h. others_sound (b ∷ bytes) t rest h.1)
         (chosen (eqb b 91) _ _ (Ok (t, rest)) e)
 
@@ -432,9 +432,9 @@ string_taken limits zero [] t rest e = absurd cc
 string_taken limits zero (b ∷ bytes) t rest e =
     ⊎_elim
     (λ h. let p = pair_is Nil bytes t rest h.1 in
-      let same = eqb-true b 34 h.0 in
-      let whole : 34 ∷ b ∷ bytes ≡ (34 ∷ 34 ∷ []) ++ rest = let q = p.1 in cc in
-      record { text = 34 ∷ 34 ∷ []; whole = whole; is = subst (λ x. IsTextOf limits 1 (34 ∷ 34 ∷ []) x) p.0 (NoString limits 0); ends = whole_by (34 ∷ 34 ∷ []) _ (λ c. refl) })
+    let same = eqb-true b 34 h.0 in
+    let whole : 34 ∷ b ∷ bytes ≡ (34 ∷ 34 ∷ []) ++ rest = let q = p.1 in cc in
+    record { text = 34 ∷ 34 ∷ []; whole = whole; is = subst (λ x. IsTextOf limits 1 (34 ∷ 34 ∷ []) x) p.0 (NoString limits 0); ends = whole_by (34 ∷ 34 ∷ []) _ (λ c. refl) })
     (λ h. absurd (neither (begins_character 34 most_point b) _ _ (t, rest) h.1))
     (chosen (eqb b 34) _ _ (Ok (t, rest)) e)
 string_taken limits (suc levels) bytes t rest e =
@@ -487,13 +487,13 @@ other_taken limits levels element sound [] t rest e = integer_term_taken limits 
 other_taken limits levels element sound (b ∷ bytes) t rest e =
     ⊎_elim (λ h. at_byte limits (suc levels) b 123 bytes t rest h.0 (tuple_taken limits levels element sound bytes t rest h.1))
     (λ h. ⊎_elim (λ i. at_byte limits (suc levels) b 34 bytes t rest i.0 (string_taken limits levels bytes t rest i.1))
-      (λ i. ⊎_elim (λ j. at_byte limits (suc levels) b 39 bytes t rest j.0 (quoted_taken limits levels bytes t rest j.1))
-        (λ j. ⊎_elim (λ k. at_byte limits (suc levels) b 60 bytes t rest k.0 (binary_taken limits levels bytes t rest k.1))
-          (λ k. ⊎_elim (λ l. atom_taken limits levels b bytes t rest l.0 l.1) (λ l. integer_term_taken limits levels (b ∷ bytes) t rest l.1)
-            (chosen (is_ascii_lowercase b) _ _ (Ok (t, rest)) k.1))
-          (chosen (eqb b 60) _ _ (Ok (t, rest)) j.1))
-        (chosen (eqb b 39) _ _ (Ok (t, rest)) i.1))
-      (chosen (eqb b 34) _ _ (Ok (t, rest)) h.1))
+    (λ i. ⊎_elim (λ j. at_byte limits (suc levels) b 39 bytes t rest j.0 (quoted_taken limits levels bytes t rest j.1))
+    (λ j. ⊎_elim (λ k. at_byte limits (suc levels) b 60 bytes t rest k.0 (binary_taken limits levels bytes t rest k.1))
+    (λ k. ⊎_elim (λ l. atom_taken limits levels b bytes t rest l.0 l.1) (λ l. integer_term_taken limits levels (b ∷ bytes) t rest l.1)
+    (chosen (is_ascii_lowercase b) _ _ (Ok (t, rest)) k.1))
+    (chosen (eqb b 60) _ _ (Ok (t, rest)) j.1))
+    (chosen (eqb b 39) _ _ (Ok (t, rest)) i.1))
+    (chosen (eqb b 34) _ _ (Ok (t, rest)) h.1))
     (chosen (eqb b 123) _ _ (Ok (t, rest)) e)
 
 none_deep : (limits : Limits) → ReadsTerms limits 0 too_deep

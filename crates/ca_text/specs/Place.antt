@@ -1,6 +1,5 @@
 -- Faults with their places from the front.
 use Rattle.std.specs.Prelude.{ℕ, ◌-◌}
-use Rattle.ca_text.specs.declared.fault.Fault.{Fault}
 use Rattle.ca_text.specs.declared.fault.Why.{Why}
 use Rattle.ca_text.specs.declared.fault.Why.TheVariants as why
 use Rattle.ca_text.specs.declared.fault.Stop.{Stop}

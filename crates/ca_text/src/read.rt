@@ -4,7 +4,7 @@ ghost use Rattle.ca_text.specs.NextView.{next_view};
 ghost use Rattle.ca_term.specs.Tree.{Tree, IsTerm, depth};
 ghost use Rattle.ca_text.specs.Text.{text_of};
 ghost use Rattle.ca_text.specs.Grammar.{standard, IsRead, IsText, IsWhole};
-ghost use Rattle.ca_text.specs.Reading.{Gives, Fails, with_front, after_element_at, element_step, elements_at, series_at, next_at, tail_at, inner_at, closed, cell_step, cells_at, brackets_at, conses,  tuple_at, binary_at, atom_at, integer_term_at, list_at, term_at, other_at, too_deep, begins_term, bracketed, with_heads};
+ghost use Rattle.ca_text.specs.Reading.{Gives, Fails, with_front, after_element_at, element_step, elements_at, series_at, next_at, tail_at, inner_at, closed, cell_step, cells_at, brackets_at, conses, tuple_at, binary_at, atom_at, integer_term_at, list_at, term_at, other_at, too_deep, begins_term, bracketed, with_heads};
 
 use crate::fault::{Stop, TextFault, Why, fault_at, fault_of, syntax_at};
 use crate::parts::{binary_bytes, quoted_atom, string_term};
@@ -74,7 +74,12 @@ fn list_of(alloc: Global, heads: Vec<Term>, tail: Term) -> Result<Term, TermFaul
 // An element of a tuple, and whether a further one follows it.
 #[cycle(read)]
 #[tactic(auto, unfolding(crate::specs::Reading::element_step))]
-fn element_step(alloc: Global, levels: u8, n: usize, bytes: &[u8]) -> Result<((Term, bool), &[u8]), Stop>
+fn element_step(
+    alloc: Global,
+    levels: u8,
+    n: usize,
+    bytes: &[u8],
+) -> Result<((Term, bool), &[u8]), Stop>
     ensures { Gives (λ x. ((x.0.0 ∷ [], x.0.1), x.1.now)) result (element_step (term_at standard levels) n bytes.now) }
 {
     let (element, rest) = term(alloc, levels, bytes)?;
@@ -235,7 +240,13 @@ fn cell_step(alloc: Global, levels: u8, bytes: &[u8]) -> Result<(Term, Next<'_>)
 }
 
 // The end of a list: the closing brackets still owed, and the list of the heads and the last tail.
-fn end_list(alloc: Global, heads: Vec<Term>, owed: usize, tail: Term, bytes: &[u8]) -> Result<(Term, &[u8]), Stop>
+fn end_list(
+    alloc: Global,
+    heads: Vec<Term>,
+    owed: usize,
+    tail: Term,
+    bytes: &[u8],
+) -> Result<(Term, &[u8]), Stop>
     ensures { Gives (λ x. (x.0, x.1.now)) result (with_heads heads.items owed (Ok (tail, bytes.now))) }
 {
     let rest = brackets(owed, bytes)?;

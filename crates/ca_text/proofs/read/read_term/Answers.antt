@@ -1,4 +1,4 @@
-use Rattle.std.proofs.Common.{◌≡◌, ◌-◌, ◌∙◌, length}
+use Rattle.std.proofs.Common.{◌∙◌}
 use Rattle.ca_text.proofs.ReadFront.{read_is, longest, none_read, same_read}
 use Rattle.ca_text.proofs.read.read_term.Goals as goal
 
