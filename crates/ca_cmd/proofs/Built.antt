@@ -34,9 +34,9 @@ forms_built word =
     elim (bytes_eq word (codes "insert")) as (λ b. AreBuilt (cond b (Some (One Insert)) (cond (bytes_eq word (codes "lookup")) (Some (One Lookup)) None))) [
       | true ↦ λ t. refl
       | false ↦ elim (bytes_eq word (codes "lookup")) as (λ b. AreBuilt (cond b (Some (One Lookup)) None)) [
-          | true ↦ λ t. refl
-          | false ↦ tt
-        ]
+        | true ↦ λ t. refl
+        | false ↦ tt
+      ]
     ]
 
 bare_built : (command : Command) (bytes : List ℕ) (x : Command × List ℕ) → IsBuilt command → IsBare command bytes (Ok x) → IsBuilt x.0

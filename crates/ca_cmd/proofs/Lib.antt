@@ -4,4 +4,5 @@ mod CutLines
 mod Files
 pub mod Printed
 mod Same
+mod TermTexts
 mod Words

@@ -5,6 +5,7 @@ use Rattle.ca_term.specs.Tree.{Tree}
 use Rattle.ca_ets.specs.Command.{Command}
 use Rattle.ca_text.specs.declared.fault.TextFault.{TextFault}
 use Rattle.ca_text.specs.declared.fault.TextFault.TheVariants as text
+use Rattle.ca_cmd.proofs.TermTexts.{term_sure}
 use Rattle.ca_cmd.specs.Argument.{Refused, Found, IsThen, apart, IsTermRefused, IsTermOf, IsTermAt, IsFirstTerm, IsArgument, IsEnd, place}
 use Rattle.ca_cmd.specs.Word.{Form, Bare, One, Two, Three, form_of, word_length, Filled, IsBare, IsNext, IsOne, IsTwo, IsThree, IsFilled, IsWhole, IsCommand}
 use Rattle.ca_cmd.specs.Content.{IsHeld, IsText, IsLine, text_in}
@@ -23,10 +24,6 @@ after_sure : {A B : Type 0} (Is : Found A → Type 0) (Follows : A → Found B �
 after_sure Is Follows sure follows x y p q =
     then_sure p.0 Follows follows x y p.2 (subst (λ f. IsThen f Follows y) (sym (sure p.0 q.0 p.1 q.1)) q.2)
 
--- the one place that says so of term texts
-term_sure : (bytes : List ℕ) (x y : Result (Tree × ℕ) TextFault) → IsTermOf bytes x → IsTermOf bytes y → x ≡ y
-term_sure bytes x y p q = p ∙ sym q
-
 refused_sure : (size : ℕ) (bytes : List ℕ) (fault : TextFault) (x y : Refused) → IsTermRefused size bytes fault x → IsTermRefused size bytes fault y → x ≡ y
 refused_sure size bytes (text.Syntax at) x y p q = p ∙ sym q
 refused_sure size bytes (text.AtomTooLong at) x y p q = p ∙ sym q
@@ -39,13 +36,13 @@ ok_same x y e = cc
 
 term_at_sure : (size : ℕ) (bytes : List ℕ) → IsSure (IsTermAt size bytes)
 term_at_sure size bytes (Ok x) (Ok y) p q =
-    let e : (x.0, p.0) ≡ (y.0, q.0) = ok_same _ _ (term_sure bytes _ _ p.1 q.1) in
+    let e : (x.0, p.0) ≡ (y.0, q.0) = ok_same (x.0, p.0) (y.0, q.0) (term_sure bytes (Ok (x.0, p.0)) (Ok (y.0, q.0)) p.1 q.1) in
     let rest : x.1 ≡ y.1 = p.2 ∙ ap (λ (z : Tree × ℕ). drop z.1 bytes) e ∙ sym q.2 in
     λ i. Ok ((e i).0, rest i)
-term_at_sure size bytes (Ok x) (Err f) p q = let e = term_sure bytes _ _ p.1 q.1 in cc
-term_at_sure size bytes (Err e) (Ok y) p q = let e = term_sure bytes _ _ p.1 q.1 in cc
+term_at_sure size bytes (Ok x) (Err f) p q = let e = term_sure bytes (Ok (x.0, p.0)) (Err q.0) p.1 q.1 in absurd cc
+term_at_sure size bytes (Err e) (Ok y) p q = let e = term_sure bytes (Err p.0) (Ok (y.0, q.0)) p.1 q.1 in absurd cc
 term_at_sure size bytes (Err e) (Err f) p q =
-    let same : p.0 ≡ q.0 = let h = term_sure bytes _ _ p.1 q.1 in cc in
+    let same : p.0 ≡ q.0 = let h = term_sure bytes (Err p.0) (Err q.0) p.1 q.1 in cc in
     ap (λ (z : Refused). Err z) (refused_sure size bytes p.0 e f p.2 (subst (λ z. IsTermRefused size bytes z f) (sym same) q.2))
 
 first_term_sure : (size : ℕ) (bytes : List ℕ) → IsSure (IsFirstTerm size bytes)

@@ -1,9 +1,9 @@
 -- The arguments of a command word: terms, each parted from what stands before it by blanks.
 use Rattle.std.specs.Prelude.{◌≡◌, ℕ, ◌+◌, ◌-◌, List, [], ◌∷◌, length, drop, Result, Ok, Err, if◌then◌else◌}
 use Rattle.ca_term.specs.Tree.{Tree}
-use Rattle.ca_text.specs.Grammar.{is_blank}
+use Rattle.ca_text.specs.Grammar.{is_blank, IsRead}
 use Rattle.ca_text.specs.Reading.{skip}
-use Rattle.ca_text.specs.Front.{term_in}
+use Rattle.ca_text.specs.Front.{IsNotRead}
 use Rattle.ca_text.specs.declared.fault.TextFault.{TextFault}
 use Rattle.ca_text.specs.declared.fault.TextFault.TheVariants as text
 use Rattle.ca_cmd.specs.declared.fault.LineWhy.{LineWhy}
@@ -43,17 +43,10 @@ IsTermRefused size bytes (text.TooDeep at) e = e ≡ record { at = place size (d
 IsTermRefused size bytes (text.TooWide at) e = e ≡ record { at = place size (drop at bytes); why = TooWide }
 IsTermRefused size bytes text.NoMemory e = ⊥
 
--- at which of some bytes a term text is refused
-abbrev pub fault_place : TextFault → ℕ
-fault_place (text.Syntax at) = at
-fault_place (text.AtomTooLong at) = at
-fault_place (text.TooDeep at) = at
-fault_place (text.TooWide at) = at
-fault_place text.NoMemory = 0
-
--- what is read of a term text at the front of some bytes: the term and how many bytes it has, or where and why none is read
+-- the term text at the front of some bytes: the term and how many bytes the text has, or where and why none is read
 abbrev pub IsTermOf : List ℕ → Result (Tree × ℕ) TextFault → Type 0
-IsTermOf bytes found = found ≡ term_in bytes
+IsTermOf bytes (Ok x) = IsRead bytes x.0 x.1
+IsTermOf bytes (Err e) = IsNotRead bytes e
 
 abbrev pub IsTermAt : ℕ → List ℕ → Found (Tree × List ℕ) → Type 0
 IsTermAt size bytes (Ok x) = (n : ℕ) × IsTermOf bytes (Ok (x.0, n)) × (x.1 ≡ drop n bytes)

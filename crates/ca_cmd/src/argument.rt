@@ -1,7 +1,8 @@
 //! The arguments of a command word.
 ghost use Rattle.std.specs.Prelude.{◌≡◌, ◌≤◌, ◌+◌, length, IfOk};
+ghost use Rattle.ca_text.specs.Front.{fault_place};
 ghost use Rattle.ca_text.specs.Reading.{skip};
-ghost use Rattle.ca_cmd.specs.Argument.{apart, place, IsArgument, IsEnd, IsTermAt, fault_place};
+ghost use Rattle.ca_cmd.specs.Argument.{apart, place, IsArgument, IsEnd, IsTermAt};
 ghost use Rattle.ca_cmd.specs.Finds.{Finds, IsTermFault};
 
 use crate::fault::{LineFault, LineWhy, refused};

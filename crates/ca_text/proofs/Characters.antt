@@ -1,17 +1,16 @@
 -- What is read between quotes is what the characters there stand for.
-use Rattle.std.proofs.Common.{◌≡◌, ◌≢◌, ℕ, zero, suc, ◌+◌, ◌-◌, ◌*◌, ◌<◌, ◌≤◌, ◌^◌, Bool, true, false, cond, not, ltb, leb, eqb, ◌&&◌, ◌||◌, List, [], ◌∷◌, ◌++◌, length, get_or, Option, None, Some, Result, Ok, Err, refl, sym, ap, subst, ◌∙◌, append_assoc, arith, ◌⊎◌, inl, inr, ⊎_elim}
-use Rattle.std.proofs.lemmas.Bool.{ltb-true, ltb-false, leb-true, leb-false, eqb-true, eqb-false}
+use Rattle.std.proofs.Common.{◌≡◌, ◌≢◌, ℕ, zero, suc, ◌+◌, ◌-◌, ◌*◌, ◌<◌, ◌≤◌, true, ltb, leb, eqb, ◌&&◌, List, [], ◌∷◌, ◌++◌, length, get_or, Option, None, Some, Ok, refl, sym, ap, subst, ◌∙◌, append_assoc, arith, ◌⊎◌, inl, inr, ⊎_elim}
+use Rattle.std.proofs.lemmas.Bool.{ltb-true, ltb-false, leb-true, eqb-true, eqb-false}
 use Rattle.std.proofs.lemmas.Bool.Decides.{nat_tests}
 use Rattle.std.specs.List.{list_all}
 use Rattle.std.specs.Char.{encode_utf8, IsScalar, is_ascii_hexdigit, digit_value}
 use Rattle.std.specs.Str.{all_scalars}
-use Rattle.std.specs.Str.Parse.{AllDigits, IsNumeral, digits_value, digits_value_after}
+use Rattle.std.specs.Str.Parse.{AllDigits, digits_value, digits_value_after}
 use Rattle.ca_text.specs.Grammar.{escape_of, IsCharacter, Itself, Escaped, Hexadecimal, AreCharacters, Closed, OneMore}
-use Rattle.ca_text.specs.declared.fault.Fault.{Fault}
 use Rattle.ca_text.specs.declared.fault.Why.{Why}
-use Rattle.ca_text.specs.Reading.{◌>>=◌, syntax_fault, expect, point_at, is_point, may_stand, hex_after, hex_at, or_fault, escape_at, begins_character, character_at, next_point_at, closing_at, points_after, characters_at, most_point}
+use Rattle.ca_text.specs.Reading.{expect, point_at, is_point, may_stand, hex_after, hex_at, or_fault, escape_at, begins_character, character_at, next_point_at, closing_at, points_after, characters_at, most_point}
 use Rattle.ca_text.proofs.Points.{IsPointOf, point_taken}
-use Rattle.ca_text.proofs.Tools.{bind_ok, chosen, guarded, spared, both, ok_is, pair_is}
+use Rattle.ca_text.proofs.Tools.{bind_ok, chosen, guarded, both, ok_is, pair_is}
 
 pub expect_taken : (c : ℕ) (bytes rest : List ℕ) → expect c bytes ≡ Ok rest → bytes ≡ c ∷ rest
 unfolding expect
@@ -40,18 +39,18 @@ hex_after_taken [] most more c value rest e = absurd cc
 hex_after_taken (b ∷ bytes) most more c value rest e =
     ⊎_elim
     (λ h. let g = guarded (may_stand most (more - 1) (c * 16 + digit_value b)) _ _ (value, rest) h.1 in
-      let t = both (is_ascii_hexdigit b) (ltb 0 more) h.0 in
-      let some = ltb-true 0 more t.1 in
-      let r = hex_after_taken bytes most (more - 1) (c * 16 + digit_value b) value rest g.1 in
-      let whole : b ∷ bytes ≡ (b ∷ r.digits) ++ 125 ∷ rest = let w = r.whole in cc in
-      let few : length (b ∷ r.digits) ≤ more = omega (arith, r.few) in
-      record { digits = b ∷ r.digits; whole = whole; all = (is_hex b t.0, r.all); few = few; value_is = r.value_is; point = r.point })
+    let t = both (is_ascii_hexdigit b) (ltb 0 more) h.0 in
+    let some = ltb-true 0 more t.1 in
+    let r = hex_after_taken bytes most (more - 1) (c * 16 + digit_value b) value rest g.1 in
+    let whole : b ∷ bytes ≡ (b ∷ r.digits) ++ 125 ∷ rest = let w = r.whole in cc in
+    let few : length (b ∷ r.digits) ≤ more = omega (arith, r.few) in
+    record { digits = b ∷ r.digits; whole = whole; all = (is_hex b t.0, r.all); few = few; value_is = r.value_is; point = r.point })
     (λ h. let g = guarded (eqb b 125 && is_point most c) _ (Ok (c, bytes)) (value, rest) h.1 in
-      let t = both (eqb b 125) (is_point most c) g.0 in
-      let p = pair_is c bytes value rest g.1 in
-      let same = eqb-true b 125 t.0 in
-      let whole : b ∷ bytes ≡ [] ++ 125 ∷ rest = let q = p.1 in cc in
-      record { digits = []; whole = whole; all = tt; few = omega arith; value_is = p.0; point = rw p.0 at t.1 })
+    let t = both (eqb b 125) (is_point most c) g.0 in
+    let p = pair_is c bytes value rest g.1 in
+    let same = eqb-true b 125 t.0 in
+    let whole : b ∷ bytes ≡ [] ++ 125 ∷ rest = let q = p.1 in cc in
+    record { digits = []; whole = whole; all = tt; few = omega arith; value_is = p.0; point = rw p.0 at t.1 })
     (chosen (is_ascii_hexdigit b && ltb 0 more) _ _ (Ok (value, rest)) e)
 
 hex_taken : (most : ℕ) (bytes : List ℕ) (value : ℕ) (rest : List ℕ) → hex_at most bytes ≡ Ok (value, rest) → (r : AreHexDigits most 6 0 bytes value rest) × (0 < length r.digits)
@@ -89,18 +88,18 @@ escape_taken close most [] c rest h e = absurd cc
 escape_taken close most (b ∷ bytes) c rest h e =
     ⊎_elim
     (λ t. let same = eqb-true b 120 t.0 in
-      let s = bind_ok (expect 123 bytes) (λ rest. hex_at most rest) (c, rest) t.1 in
-      let opened = expect_taken 123 bytes s.0 s.1 in
-      let r = hex_taken most s.0 c rest s.2 in
-      let worth : digits_value 16 r.0.digits ≡ c = r.0.value_is in
-      let spelled = append_assoc r.0.digits (125 ∷ []) rest in
-      let whole : 92 ∷ b ∷ bytes ≡ (92 ∷ 120 ∷ 123 ∷ r.0.digits ++ 125 ∷ []) ++ rest = let w = r.0.whole in cc in
-      let scalar : IsScalar (digits_value 16 r.0.digits) = rw worth (point_scalar most c r.0.point) in
-      let spells : IsCharacter close (92 ∷ 120 ∷ 123 ∷ r.0.digits ++ 125 ∷ []) (digits_value 16 r.0.digits) = Hexadecimal close r.0.digits (r.1, r.0.all) r.0.few scalar in
-      record { text = 92 ∷ 120 ∷ 123 ∷ r.0.digits ++ 125 ∷ []; whole = whole; character = subst (λ n. IsCharacter close (92 ∷ 120 ∷ 123 ∷ r.0.digits ++ 125 ∷ []) n) worth spells; point = r.0.point })
+    let s = bind_ok (expect 123 bytes) (λ rest. hex_at most rest) (c, rest) t.1 in
+    let opened = expect_taken 123 bytes s.0 s.1 in
+    let r = hex_taken most s.0 c rest s.2 in
+    let worth : digits_value 16 r.0.digits ≡ c = r.0.value_is in
+    let spelled = append_assoc r.0.digits (125 ∷ []) rest in
+    let whole : 92 ∷ b ∷ bytes ≡ (92 ∷ 120 ∷ 123 ∷ r.0.digits ++ 125 ∷ []) ++ rest = let w = r.0.whole in cc in
+    let scalar : IsScalar (digits_value 16 r.0.digits) = rw worth (point_scalar most c r.0.point) in
+    let spells : IsCharacter close (92 ∷ 120 ∷ 123 ∷ r.0.digits ++ 125 ∷ []) (digits_value 16 r.0.digits) = Hexadecimal close r.0.digits (r.1, r.0.all) r.0.few scalar in
+    record { text = 92 ∷ 120 ∷ 123 ∷ r.0.digits ++ 125 ∷ []; whole = whole; character = subst (λ n. IsCharacter close (92 ∷ 120 ∷ 123 ∷ r.0.digits ++ 125 ∷ []) n) worth spells; point = r.0.point })
     (λ t. let o = or_fault_taken (escape_of b) bytes (b ∷ bytes) c rest t.1 in
-      let whole : 92 ∷ b ∷ bytes ≡ (92 ∷ b ∷ []) ++ rest = let w = o.1 in cc in
-      record { text = 92 ∷ b ∷ []; whole = whole; character = Escaped close b c o.0; point = escape_small most b c h o.0 })
+    let whole : 92 ∷ b ∷ bytes ≡ (92 ∷ b ∷ []) ++ rest = let w = o.1 in cc in
+    record { text = 92 ∷ b ∷ []; whole = whole; character = Escaped close b c o.0; point = escape_small most b c h o.0 })
     (chosen (eqb b 120) _ _ (Ok (c, rest)) e)
 
 -- the first byte of a code point: the code point itself, or a byte from 194 on
@@ -109,8 +108,8 @@ unfolding encode_utf8
 first_byte c h =
     ⊎_elim (λ t. inl (ltb-true c 128 t.0, sym t.1))
     (λ t. ⊎_elim (λ u. inr (ltb-false c 128 t.0, _, _, sym u.1, omega arith))
-      (λ u. ⊎_elim (λ v. inr (ltb-false c 128 t.0, _, _, sym v.1, omega arith)) (λ v. inr (ltb-false c 128 t.0, _, _, sym v.1, omega arith)) (chosen (ltb c 65536) _ _ _ u.1))
-      (chosen (ltb c 2048) _ _ _ t.1))
+    (λ u. ⊎_elim (λ v. inr (ltb-false c 128 t.0, _, _, sym v.1, omega arith)) (λ v. inr (ltb-false c 128 t.0, _, _, sym v.1, omega arith)) (chosen (ltb c 65536) _ _ _ u.1))
+    (chosen (ltb c 2048) _ _ _ t.1))
     (chosen (ltb c 128) _ _ (encode_utf8 c) refl)
 
 begins_parts : (close most b : ℕ) → begins_character close most b ≡ true → (b ≢ close) × (b ≢ 10) × (128 ≤ b → 128 ≤ most)
@@ -126,10 +125,10 @@ point_begins close most b bytes c rest begins other small low high p =
     let parts = begins_parts close most b begins in
     ⊎_elim
     (λ t. let same : b ≡ c = let w = p.whole in let s = t.1 in cc in
-      (λ e. parts.0 (same ∙ e), λ e. other (same ∙ e), λ e. parts.1 (same ∙ e), grind (arith, nat_tests)))
+    (λ e. parts.0 (same ∙ e), λ e. other (same ∙ e), λ e. parts.1 (same ∙ e), grind (arith, nat_tests)))
     (λ t. let same : b ≡ t.1 = let w = p.whole in let s = t.3 in cc in
-      let most_is : most ≡ most_point = high (parts.2 (omega (arith, same, t.4))) in
-      (λ e. absurd (omega (arith, e, t.0)), λ e. absurd (omega (arith, e, t.0)), λ e. absurd (omega (arith, e, t.0)), rw most_is (scalar_point c p.scalar)))
+    let most_is : most ≡ most_point = high (parts.2 (omega (arith, same, t.4))) in
+    (λ e. absurd (omega (arith, e, t.0)), λ e. absurd (omega (arith, e, t.0)), λ e. absurd (omega (arith, e, t.0)), rw most_is (scalar_point c p.scalar)))
     (first_byte c p.scalar)
 
 pub character_taken : (close most : ℕ) (bytes : List ℕ) (c : ℕ) (rest : List ℕ) → close < 128 → 127 ≤ most → (128 ≤ most → most ≡ most_point) → character_at close most bytes ≡ Ok (c, rest)
@@ -139,14 +138,14 @@ character_taken close most [] c rest small low high e = absurd cc
 character_taken close most (b ∷ bytes) c rest small low high e =
     ⊎_elim
     (λ t. let same = eqb-true b 92 t.0 in
-      let r = escape_taken close most bytes c rest low t.1 in
-      let whole : b ∷ bytes ≡ r.text ++ rest = let w = r.whole in cc in
-      record { text = r.text; whole = whole; character = r.character; point = r.point })
+    let r = escape_taken close most bytes c rest low t.1 in
+    let whole : b ∷ bytes ≡ r.text ++ rest = let w = r.whole in cc in
+    record { text = r.text; whole = whole; character = r.character; point = r.point })
     (λ t. let other = eqb-false b 92 t.0 in
-      let g = guarded (begins_character close most b) _ (point_at (b ∷ bytes)) (c, rest) t.1 in
-      let p = point_taken (b ∷ bytes) c rest g.1 in
-      let k = point_begins close most b bytes c rest g.0 other small low high p in
-      record { text = encode_utf8 c; whole = p.whole; character = Itself close c p.scalar k.0 k.1 k.2; point = k.3 })
+    let g = guarded (begins_character close most b) _ (point_at (b ∷ bytes)) (c, rest) t.1 in
+    let p = point_taken (b ∷ bytes) c rest g.1 in
+    let k = point_begins close most b bytes c rest g.0 other small low high p in
+    record { text = encode_utf8 c; whole = p.whole; character = Itself close c p.scalar k.0 k.1 k.2; point = k.3 })
     (chosen (eqb b 92) _ _ (Ok (c, rest)) e)
 
 -- no code point, or one, is read at the front
@@ -157,10 +156,10 @@ next_taken close most [] c rest small low high e = absurd cc
 next_taken close most (b ∷ bytes) c rest small low high e =
     ⊎_elim (λ t. let p = pair_is _ _ _ _ t.1 in let q = p.0 in absurd cc)
     (λ t. let s = bind_ok (character_at close most (b ∷ bytes)) (λ x. Ok (Some x.0, x.1)) (Some c, rest) t.1 in
-      let p = pair_is _ _ _ _ s.2 in
-      let c_is : s.0.0 ≡ c = let q = p.0 in cc in
-      let r = character_taken close most (b ∷ bytes) s.0.0 s.0.1 small low high s.1 in
-      record { text = r.text; whole = r.whole ∙ ap (λ (x : List ℕ). r.text ++ x) p.1; character = subst (λ n. IsCharacter close r.text n) c_is r.character; point = rw c_is at r.point })
+    let p = pair_is _ _ _ _ s.2 in
+    let c_is : s.0.0 ≡ c = let q = p.0 in cc in
+    let r = character_taken close most (b ∷ bytes) s.0.0 s.0.1 small low high s.1 in
+    record { text = r.text; whole = r.whole ∙ ap (λ (x : List ℕ). r.text ++ x) p.1; character = subst (λ n. IsCharacter close r.text n) c_is r.character; point = rw c_is at r.point })
     (chosen (eqb b close) _ _ (Ok (Some c, rest)) e)
 
 none_taken : (close most : ℕ) (bytes rest : List ℕ) → next_point_at close most bytes ≡ Ok (None, rest) → bytes ≡ close ∷ rest

@@ -1,14 +1,14 @@
 -- What is read as blanks, as a number or as a name.
-use Rattle.std.proofs.Common.{◌≡◌, ℕ, zero, suc, ◌+◌, ◌-◌, ◌*◌, ◌^◌, ◌<◌, ◌≤◌, Bool, true, false, cond, leb, eqb, ◌&&◌, ◌||◌, List, [], ◌∷◌, ◌++◌, length, take, drop, Result, Ok, Err, ℤ, pos, neg_ℤ, refl, sym, ap, subst, ◌∙◌, arith, ⊎_elim, take-append-drop, length-take}
-use Rattle.std.proofs.lemmas.Bool.{leb-true, leb-false, eqb-true, eqb-false}
+use Rattle.std.proofs.Common.{◌≡◌, ℕ, ◌+◌, ◌-◌, ◌*◌, ◌^◌, ◌<◌, ◌≤◌, Bool, true, false, cond, leb, eqb, ◌&&◌, ◌||◌, List, [], ◌∷◌, ◌++◌, length, take, drop, Ok, ℤ, pos, neg_ℤ, refl, sym, ap, subst, ◌∙◌, arith, ⊎_elim, take-append-drop, length-take}
+use Rattle.std.proofs.lemmas.Bool.{leb-true, eqb-true}
 use Rattle.std.proofs.lemmas.Bool.Decides.{nat_tests}
 use Rattle.std.specs.List.{list_all}
 use Rattle.std.specs.Char.{is_ascii_digit, digit_value, is_ascii_lowercase}
 use Rattle.std.specs.Str.Parse.{AllDigits, IsNumeral, digits_value, digits_value_after}
 use Rattle.ca_text.specs.Text.{is_name_char, has_plain_form}
 use Rattle.ca_text.specs.Grammar.{is_blank, AreBlanks, IsInteger, FromZero, Negative, takes_in, IsWhole}
-use Rattle.ca_text.specs.Reading.{◌>>=◌, syntax_fault, skip, digits_after, number_at, negative_at, positive_at, integer_at, name_length, name_at}
-use Rattle.ca_text.proofs.Tools.{bind_ok, chosen, guarded, spared, both, pair_is}
+use Rattle.ca_text.specs.Reading.{skip, digits_after, number_at, negative_at, positive_at, integer_at, name_length, name_at}
+use Rattle.ca_text.proofs.Tools.{bind_ok, chosen, guarded, both, pair_is}
 
 -- blanks stand at the front
 pub record IsSkipped (bytes rest : List ℕ) : Type 0 where
@@ -59,18 +59,18 @@ digits_taken most n [] value rest e =
 digits_taken most n (b ∷ bytes) value rest e =
     ⊎_elim
     (λ h. let g = guarded (leb (n * 10 + (b - 48)) most) _ _ (value, rest) h.1 in
-      let r = digits_taken most (n * 10 + (b - 48)) bytes value rest g.1 in
-      let d = digit_worth b h.0 in
-      record {
-        digits = b ∷ r.digits;
-        whole = ap (λ x. b ∷ x) r.whole;
-        all = (d.1, r.all);
-        value_is = ap (λ x. digits_value_after 10 (n * 10 + x) r.digits) d.0 ∙ r.value_is;
-        bounded = λ _. r.bounded (leb-true _ most g.0);
-        ends = r.ends;
-      })
+    let r = digits_taken most (n * 10 + (b - 48)) bytes value rest g.1 in
+    let d = digit_worth b h.0 in
+    record {
+      digits = b ∷ r.digits;
+      whole = ap (λ x. b ∷ x) r.whole;
+      all = (d.1, r.all);
+      value_is = ap (λ x. digits_value_after 10 (n * 10 + x) r.digits) d.0 ∙ r.value_is;
+      bounded = λ _. r.bounded (leb-true _ most g.0);
+      ends = r.ends;
+    })
     (λ h. let p = pair_is n (b ∷ bytes) value rest h.1 in
-      record { digits = []; whole = p.1; all = tt; value_is = p.0; bounded = λ h. omega (arith, p.0); ends = subst EndsDigits p.1 h.0 })
+    record { digits = []; whole = p.1; all = tt; value_is = p.0; bounded = λ h. omega (arith, p.0); ends = subst EndsDigits p.1 h.0 })
     (chosen (is_ascii_digit b) _ _ (Ok (value, rest)) e)
 
 and_false : (b : Bool) → (b && false) ≡ false

@@ -1,10 +1,9 @@
 -- What is read as a code point in UTF-8 is that code point's text, and that text is read.
-use Rattle.std.proofs.Common.{◌≡◌, ℕ, ◌+◌, ◌-◌, ◌*◌, ◌/◌, ◌%◌, ◌<◌, ◌≤◌, Bool, true, false, cond, ltb, leb, ◌&&◌, List, [], ◌∷◌, ◌++◌, length, Result, Ok, Err, refl, sym, ap, subst, le-ltb, lt-ltb, ◌∙◌, arith, inl, inr, ⊎_elim, eqb}
-use Rattle.std.proofs.lemmas.Bool.{ltb-true, ltb-false, leb-true, leb-false, eqb-true, eqb-false}
+use Rattle.std.proofs.Common.{◌≡◌, ℕ, ◌+◌, ◌-◌, ◌*◌, ◌/◌, ◌%◌, ◌<◌, ◌≤◌, ltb, leb, ◌&&◌, List, [], ◌∷◌, ◌++◌, Ok, refl, le-ltb, lt-ltb, arith, ⊎_elim}
+use Rattle.std.proofs.lemmas.Bool.{ltb-true, ltb-false, leb-true}
 use Rattle.std.proofs.lemmas.Bool.Decides.{nat_tests}
 use Rattle.std.specs.Char.{encode_utf8, IsScalar}
-use Rattle.ca_text.specs.declared.fault.Fault.{Fault}
-use Rattle.ca_text.specs.Reading.{◌>>=◌, syntax_fault, byte_between, inner_byte, two_at, three_at, four_at, point_at, least_of_three, end_of_three, least_of_four, end_of_four}
+use Rattle.ca_text.specs.Reading.{◌>>=◌, byte_between, inner_byte, two_at, three_at, four_at, point_at, least_of_three, end_of_three, least_of_four, end_of_four}
 use Rattle.ca_text.proofs.Tools.{bind_ok, chosen, guarded, spared, both, pair_is}
 
 pub record IsByte (low high : ℕ) (bytes : List ℕ) (b : ℕ) (rest : List ℕ) : Type 0 where
@@ -121,12 +120,12 @@ point_taken (b ∷ bytes) c rest e =
     ⊎_elim
     (λ h. let p = pair_is b bytes c rest h.1 in let low = ltb-true b 0x80 h.0 in point_of (b ∷ bytes) (b ∷ []) c b rest (rw p.1 refl) (encode_1 b low) p.0)
     (λ h. let g = spared (ltb b 0xc2) _ _ (c, rest) h.1 in
-      let low = ltb-false b 0xc2 g.0 in
-      ⊎_elim
-      (λ h2. two_taken b bytes c rest low (ltb-true b 0xe0 h2.0) h2.1)
-      (λ h2. ⊎_elim
-        (λ h3. three_taken b bytes c rest (ltb-false b 0xe0 h2.0) (ltb-true b 0xf0 h3.0) h3.1)
-        (λ h3. let g4 = guarded (ltb b 0xf5) _ (four_at b bytes) (c, rest) h3.1 in four_taken b bytes c rest (ltb-false b 0xf0 h3.0) (ltb-true b 0xf5 g4.0) g4.1)
-        (chosen (ltb b 0xf0) _ _ (Ok (c, rest)) h2.1))
-      (chosen (ltb b 0xe0) _ _ (Ok (c, rest)) g.1))
+    let low = ltb-false b 0xc2 g.0 in
+    ⊎_elim
+    (λ h2. two_taken b bytes c rest low (ltb-true b 0xe0 h2.0) h2.1)
+    (λ h2. ⊎_elim
+    (λ h3. three_taken b bytes c rest (ltb-false b 0xe0 h2.0) (ltb-true b 0xf0 h3.0) h3.1)
+    (λ h3. let g4 = guarded (ltb b 0xf5) _ (four_at b bytes) (c, rest) h3.1 in four_taken b bytes c rest (ltb-false b 0xf0 h3.0) (ltb-true b 0xf5 g4.0) g4.1)
+    (chosen (ltb b 0xf0) _ _ (Ok (c, rest)) h2.1))
+    (chosen (ltb b 0xe0) _ _ (Ok (c, rest)) g.1))
     (chosen (ltb b 0x80) (Ok (b, bytes)) _ (Ok (c, rest)) e)

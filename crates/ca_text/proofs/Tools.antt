@@ -1,5 +1,5 @@
 -- Steps of reading, taken apart.
-use Rattle.std.proofs.Common.{◌≡◌, ℕ, ◌<◌, ◌≤◌, Bool, true, false, cond, ◌&&◌, List, [], ◌∷◌, ◌++◌, Result, Ok, Err, refl, sym, ap, ◌∙◌, append_assoc, ◌⊎◌, inl, inr}
+use Rattle.std.proofs.Common.{◌≡◌, Bool, true, false, cond, ◌&&◌, ◌||◌, Result, Ok, Err, refl, ap, ◌⊎◌, inl, inr}
 use Rattle.ca_text.specs.declared.fault.Fault.{Fault}
 use Rattle.ca_text.specs.Reading.{◌>>=◌}
 
@@ -22,9 +22,17 @@ pub spared : {A : Type 0} (b : Bool) (d : Fault) (x : Result A Fault) (y : A) �
 spared true d x y e = absurd cc
 spared false d x y e = (refl, e)
 
+pub neither : {A : Type 0} (b : Bool) (d f : Fault) (y : A) → cond b (Err d) (Err f) ≡ Ok y → ⊥
+neither true d f y e = cc
+neither false d f y e = cc
+
 pub both : (a b : Bool) → (a && b) ≡ true → (a ≡ true) × (b ≡ true)
 both true b e = (refl, e)
 both false b e = absurd cc
+
+pub either : (a b : Bool) → (a || b) ≡ true → (a ≡ true) ⊎ (b ≡ true)
+either true b e = inl refl
+either false b e = inr e
 
 abbrev done : {A : Type 0} → A → Result A Fault
 done x = Ok x

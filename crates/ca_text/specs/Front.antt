@@ -1,15 +1,19 @@
--- The term text at the front of some bytes, with places counted from the front.
-use Rattle.std.specs.Prelude.{◌≡◌, ℕ, ◌-◌, Result, Ok, Err, List, length}
-use Rattle.ca_term.specs.Tree.{Tree}
+-- Why no term is read at the front of some bytes.
+use Rattle.std.specs.Prelude.{◌≡◌, ℕ, ◌-◌, Err, List, length}
 use Rattle.ca_text.specs.Grammar.{standard, most_levels}
-use Rattle.ca_text.specs.Reading.{Read, term_at}
+use Rattle.ca_text.specs.Reading.{term_at}
 use Rattle.ca_text.specs.Place.{fault_with}
+use Rattle.ca_text.specs.declared.fault.Fault.{Fault}
 use Rattle.ca_text.specs.declared.fault.TextFault.{TextFault}
+use Rattle.ca_text.specs.declared.fault.TextFault.TheVariants.{Syntax, AtomTooLong, TooDeep, TooWide, NoMemory}
 
-abbrev pub counted : ℕ → Read Tree → Result (Tree × ℕ) TextFault
-counted size (Ok x) = Ok (x.0, size - length x.1)
-counted size (Err f) = Err (fault_with f.why (size - f.left))
+abbrev pub IsNotRead : List ℕ → TextFault → Type 0
+IsNotRead bytes e = (fault : Fault) × (term_at standard most_levels bytes ≡ Err fault) × (e ≡ fault_with fault.why (length bytes - fault.left))
 
--- the term and how many bytes its text has, or where, counted from 0, and why none is read
-abbrev pub term_in : List ℕ → Result (Tree × ℕ) TextFault
-term_in bytes = counted (length bytes) (term_at standard most_levels bytes)
+-- the byte at which no text goes on, counted from 0
+abbrev pub fault_place : TextFault → ℕ
+fault_place (Syntax at) = at
+fault_place (AtomTooLong at) = at
+fault_place (TooDeep at) = at
+fault_place (TooWide at) = at
+fault_place NoMemory = 0

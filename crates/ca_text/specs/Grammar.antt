@@ -1,6 +1,6 @@
 -- The texts of terms that are read, as a relation between bytes in UTF-8 and terms. It is apart from the reader.
 -- Source: the Erlang reference manual, "Data Types", in this project's profile.
-use Rattle.std.specs.Prelude.{◌≡◌, ◌≢◌, ℕ, zero, suc, ◌+◌, ◌<◌, ◌≤◌, ◌^◌, Bool, true, false, ◌&&◌, ◌||◌, ◌==◌, ℤ, pos, neg_ℤ, Option, None, Some, List, [], ◌∷◌, ◌++◌, length, take, drop, encode_utf8, if◌then◌else◌}
+use Rattle.std.specs.Prelude.{◌≡◌, ◌≢◌, ℕ, suc, ◌<◌, ◌≤◌, ◌^◌, Bool, true, false, ◌&&◌, ◌||◌, ◌==◌, ℤ, pos, neg_ℤ, Option, None, Some, List, [], ◌∷◌, ◌++◌, length, take, drop, encode_utf8, if◌then◌else◌}
 use Rattle.std.specs.List.{list_all}
 use Rattle.std.specs.Char.{IsScalar, is_ascii, is_ascii_digit, is_ascii_lowercase}
 use Rattle.std.specs.Str.{encode_utf8_all}

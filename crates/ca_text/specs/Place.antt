@@ -1,6 +1,5 @@
 -- Faults with their places from the front.
-use Rattle.std.specs.Prelude.{ℕ, ◌-◌, ◌≤◌}
-use Rattle.ca_text.specs.declared.fault.Fault.{Fault}
+use Rattle.std.specs.Prelude.{ℕ, ◌-◌}
 use Rattle.ca_text.specs.declared.fault.Why.{Why}
 use Rattle.ca_text.specs.declared.fault.Why.TheVariants as why
 use Rattle.ca_text.specs.declared.fault.Stop.{Stop}
@@ -18,7 +17,3 @@ fault_with why.TooWide at = TooWide at
 abbrev pub text_fault : Stop → ℕ → TextFault
 text_fault stop.NoMemory length = NoMemory
 text_fault (stop.At fault) length = fault_with fault.why (length - fault.left)
-
-abbrev pub IsStopWithin : Stop → ℕ → Type 0
-IsStopWithin stop.NoMemory length = Unit {0}
-IsStopWithin (stop.At fault) length = fault.left ≤ length

@@ -14,14 +14,13 @@ const RESERVED: [&str; 29] = [
     "orelse", "receive", "rem", "try", "when", "xor",
 ];
 
-/// Whether a text is a reserved word, which an atom shows in quotes. The words are Erlang's, by this project's own list.
+/// Whether a text is a reserved word, which an atom shows in quotes.
 pub fn is_reserved(text: &str) -> bool
     ensures { result ≡ is_reserved text.now }
 {
     RESERVED.contains(&text)
 }
 
-// Whether a character may follow the first one of a plain atom.
 pub(crate) fn is_name_char(c: u8) -> bool
     ensures { result ≡ is_name_char c }
 {
@@ -43,7 +42,6 @@ fn has_plain_form(text: &[u8]) -> bool
     }
 }
 
-// A character of an atom in quotes.
 #[tactic(auto, unfolding(crate::specs::Text::escaped_char))]
 fn put_character(c: char, into: &mut Vec<u8>) -> Result<(), AllocError>
     ensures ok { OnOk result (into.new.items ≡ into.old.items ++ escaped_char c) }
@@ -102,8 +100,8 @@ fn put_characters(text: &str, into: &mut Vec<u8>) -> Result<(), AllocError>
     Ok(())
 }
 
-// The text of an atom: as it is where it has the plain form and is no reserved word, else in quotes.
 #[tactic(auto, unfolding(crate::specs::Text::atom_text, crate::specs::Text::quoted))]
+/// The text of an atom: as it is where it has the plain form and is no reserved word, else in quotes.
 pub(crate) fn put_atom(text: &str, into: &mut Vec<u8>) -> Result<(), AllocError>
     ensures ok { OnOk result (into.new.items ≡ into.old.items ++ atom_text text.now) }
     ensures front { BeginsWith into.new.items into.old.items }

@@ -1,6 +1,6 @@
 //! Why a text is not read.
 ghost use Rattle.std.specs.Prelude.{◌≡◌, length};
-ghost use Rattle.ca_text.specs.Place.{IsStopWithin, text_fault};
+ghost use Rattle.ca_text.specs.Place.{text_fault};
 ghost use Rattle.ca_text.specs.declared.fault.Stop.TheVariants.{NoMemory};
 
 use ca_term::TermFault;

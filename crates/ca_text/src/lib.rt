@@ -13,8 +13,8 @@ mod scan;
 
 pub use atom::is_reserved;
 pub use fault::TextFault;
-pub use read::read_term;
 pub use print::{print_term, text_laws};
+pub use read::{read_laws, read_term};
 
 #[cfg(test)]
 mod tests;

@@ -12,8 +12,7 @@ use ca_term::{Kind, Term};
 use itoa::Buffer;
 use std::alloc::AllocError;
 
-/// Appends the term's one text, in UTF-8. Where memory lacks, `into` is as before. Source: the notation of the Erlang
-/// reference manual's "Data Types".
+/// Appends the term's one text, in UTF-8. Where memory lacks, `into` is as before.
 pub fn print_term(term: &Term, into: &mut Vec<u8>) -> Result<(), AllocError>
     ensures ok { OnOk result (into.new.items ≡ into.old.items ++ text_of term.now) }
     ensures err { OnErr result (into.new.items ≡ into.old.items) }

@@ -1,9 +1,11 @@
 //! The reader of term texts.
-ghost use Rattle.std.specs.Prelude.{◌≡◌, ◌≤◌, ◌<◌, ◌-◌, ◌+◌, [], ◌∷◌, ◌⊎◌, length, Ok, Err, OnOk, OnErr, IfOk, IfErr};
+ghost use Rattle.std.specs.Prelude.{◌≡◌, ◌⊎◌, ◌≤◌, ◌<◌, ◌-◌, ◌+◌, List, [], ◌∷◌, ◌++◌, ℕ, length, take, Ok, IfOk, IfErr, MatchResult};
 ghost use Rattle.ca_text.specs.NextView.{next_view};
-ghost use Rattle.ca_text.specs.Front.{term_in};
-ghost use Rattle.ca_text.specs.Grammar.{Limits, standard};
-ghost use Rattle.ca_text.specs.Reading.{Gives, Fails, with_front, after_element_at, element_step, elements_at, series_at, next_at, tail_at, inner_at, closed, cell_step, cells_at, brackets_at, conses,  tuple_at, binary_at, atom_at, integer_term_at, list_at, term_at, other_at, too_deep, begins_term, bracketed, with_heads};
+ghost use Rattle.ca_text.specs.Front.{IsNotRead};
+ghost use Rattle.ca_term.specs.Tree.{Tree, IsTerm, depth};
+ghost use Rattle.ca_text.specs.Text.{text_of};
+ghost use Rattle.ca_text.specs.Grammar.{standard, IsRead, IsText, IsWhole};
+ghost use Rattle.ca_text.specs.Reading.{Gives, Fails, with_front, after_element_at, element_step, elements_at, series_at, next_at, tail_at, inner_at, closed, cell_step, cells_at, brackets_at, conses, tuple_at, binary_at, atom_at, integer_term_at, list_at, term_at, other_at, too_deep, begins_term, bracketed, with_heads};
 
 use crate::fault::{Stop, TextFault, Why, fault_at, fault_of, syntax_at};
 use crate::parts::{binary_bytes, quoted_atom, string_term};
@@ -73,7 +75,12 @@ fn list_of(alloc: Global, heads: Vec<Term>, tail: Term) -> Result<Term, TermFaul
 // An element of a tuple, and whether a further one follows it.
 #[cycle(read)]
 #[tactic(auto, unfolding(crate::specs::Reading::element_step))]
-fn element_step(alloc: Global, levels: u8, n: usize, bytes: &[u8]) -> Result<((Term, bool), &[u8]), Stop>
+fn element_step(
+    alloc: Global,
+    levels: u8,
+    n: usize,
+    bytes: &[u8],
+) -> Result<((Term, bool), &[u8]), Stop>
     ensures { Gives (λ x. ((x.0.0 ∷ [], x.0.1), x.1.now)) result (element_step (term_at standard levels) n bytes.now) }
 {
     let (element, rest) = term(alloc, levels, bytes)?;
@@ -234,7 +241,13 @@ fn cell_step(alloc: Global, levels: u8, bytes: &[u8]) -> Result<(Term, Next<'_>)
 }
 
 // The end of a list: the closing brackets still owed, and the list of the heads and the last tail.
-fn end_list(alloc: Global, heads: Vec<Term>, owed: usize, tail: Term, bytes: &[u8]) -> Result<(Term, &[u8]), Stop>
+fn end_list(
+    alloc: Global,
+    heads: Vec<Term>,
+    owed: usize,
+    tail: Term,
+    bytes: &[u8],
+) -> Result<(Term, &[u8]), Stop>
     ensures { Gives (λ x. (x.0, x.1.now)) result (with_heads heads.items owed (Ok (tail, bytes.now))) }
 {
     let rest = brackets(owed, bytes)?;
@@ -303,12 +316,26 @@ fn term(alloc: Global, levels: u8, bytes: &[u8]) -> Result<(Term, &[u8]), Stop>
 }
 
 /// Reads the longest term text at the front of some bytes: the term, and how many bytes its text has.
+///
+/// An integer takes in each digit that follows it, and a plain atom each letter of ASCII, digit, `_` and `@`. The text has at
+/// most 64 levels, its tuples at most 120 elements and its atoms at most 255 code points.
 pub fn read_term(alloc: Global, bytes: &[u8]) -> Result<(Term, usize), TextFault>
-    ensures read { IfOk result (λ r. Ok r ≡ term_in bytes.now) }
-    ensures refused { IfErr result (λ e. (e ≡ TextFault.NoMemory) ⊎ (Err e ≡ term_in bytes.now)) }
+    ensures ok { IfOk result (λ x. IsRead bytes.now x.0 x.1) }
+    // No longer text stands at the front.
+    ensures longest { IfOk result (λ x. (m : ℕ) (t : Tree) → x.1 < m → m ≤ length bytes.now → IsText (take m bytes.now) t → ⊥) }
+    ensures refused { IfErr result (λ e. (e ≡ TextFault.NoMemory) ⊎ IsNotRead bytes.now e) }
+    // What stands at the front is read, unless memory lacks.
+    ensures only { (t : Tree) (n : ℕ) → IsRead bytes.now t n → MatchResult result (λ x. (x.0 ≡ t) × (x.1 ≡ n)) (λ e. e ≡ TextFault.NoMemory) }
 {
     match term(alloc, MOST_LEVELS, bytes) {
-        Ok((term, rest)) => Ok((term, bytes.len().saturating_sub(rest.len()))),
+        Ok((term, rest)) => Ok((term, bytes.len() - rest.len())),
         Err(stop) => Err(fault_of(stop, bytes.len())),
     }
 }
+
+/// A printed text of at most 64 levels is a text of its term, and it is the one that is read where it stands at the front and
+/// nothing that follows belongs to it.
+pub fn read_laws()
+    ensures printed { (t : Tree) → IsTerm t → depth t ≤ 64 → IsText (text_of t) t }
+    ensures again { (t : Tree) (rest : List ℕ) → IsTerm t → depth t ≤ 64 → IsWhole (text_of t) rest → IsRead (text_of t ++ rest) t (length (text_of t)) }
+{}

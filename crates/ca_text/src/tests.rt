@@ -107,7 +107,10 @@ fn reads<R: Abort + AllocGlobal>(
     let Ok((read, n)) = read_term(rt.alloc(), text.as_bytes()) else {
         panic!(rt; "{text} is a text");
     };
-    assert!(rt; term_order(&read, term) == Ordering::Equal, "{text} is read as another term");
+    assert!(rt;
+        term_order(&read, term) == Ordering::Equal,
+        "{text} is read as another term"
+    );
     assert_eq!(rt; n, length);
     Ok(())
 }
@@ -116,15 +119,15 @@ fn reads<R: Abort + AllocGlobal>(
 fn texts_of_terms(rt: HostRuntime) -> Result<(), Fail> {
     let alloc = rt.alloc();
     let two = tuple(pair(alloc, int(1), int(2))?)?;
-    for (text, length) in [
-        ("{1,2} x", 5),
-        ("{ 1\t, 2 }", 9),
-        ("{01,002}}", 8),
-    ] {
+    for (text, length) in [("{1,2} x", 5), ("{ 1\t, 2 }", 9), ("{01,002}}", 8)] {
         reads(&rt, text, &two, length)?;
     }
     let improper = list(alloc, pair(alloc, int(1), int(2))?, int(3))?;
-    for (text, length) in [("[1,2|3]", 7), ("[1|[2|3]]", 9), ("[ 1 | [ 2 | 3 ] ] ]", 17)] {
+    for (text, length) in [
+        ("[1,2|3]", 7),
+        ("[1|[2|3]]", 9),
+        ("[ 1 | [ 2 | 3 ] ] ]", 17),
+    ] {
         reads(&rt, text, &improper, length)?;
     }
     let proper = list(alloc, pair(alloc, int(97), int(233))?, nil())?;
@@ -167,7 +170,13 @@ fn texts_of_terms(rt: HostRuntime) -> Result<(), Fail> {
 }
 
 // A text with this in place of its last character so many times.
-fn many(alloc: Global, front: &str, part: &str, count: usize, end: &str) -> Result<String, AllocError> {
+fn many(
+    alloc: Global,
+    front: &str,
+    part: &str,
+    count: usize,
+    end: &str,
+) -> Result<String, AllocError> {
     let mut text = front.to_string(alloc)?;
     for _ in 0..count {
         text.push_str(part)?;
@@ -211,7 +220,10 @@ fn places_of_faults(rt: HostRuntime) -> Result<(), Fail> {
         ("9223372036854775808", 18),
         ("-9223372036854775809", 19),
     ] {
-        assert_eq!(rt; read_term(rt.alloc(), text.as_bytes()).err(), Some(TextFault::Syntax { at }));
+        assert_eq!(rt;
+            read_term(rt.alloc(), text.as_bytes()).err(),
+            Some(TextFault::Syntax { at })
+        );
     }
     for (bytes, at) in [
         (b"'\xff'".as_slice(), 1),
@@ -220,7 +232,10 @@ fn places_of_faults(rt: HostRuntime) -> Result<(), Fail> {
         (b"'\xf4\x90\x80\x80'", 2),
         (b"'\xe2\x82'", 3),
     ] {
-        assert_eq!(rt; read_term(rt.alloc(), bytes).err(), Some(TextFault::Syntax { at }));
+        assert_eq!(rt;
+            read_term(rt.alloc(), bytes).err(),
+            Some(TextFault::Syntax { at })
+        );
     }
     Ok(())
 }
@@ -232,7 +247,13 @@ fn bounds(rt: HostRuntime) -> Result<(), Fail> {
         ("", "a", 256, "", Some(TextFault::AtomTooLong { at: 255 })),
         ("", "a", 255, "-", None),
         ("'", "\\n", 255, "'", None),
-        ("'", "\\n", 256, "'", Some(TextFault::AtomTooLong { at: 511 })),
+        (
+            "'",
+            "\\n",
+            256,
+            "'",
+            Some(TextFault::AtomTooLong { at: 511 }),
+        ),
         ("'", "é", 255, "\n'", Some(TextFault::Syntax { at: 511 })),
         ("", "[", 64, "", Some(TextFault::Syntax { at: 64 })),
         ("", "[", 64, "-", Some(TextFault::TooDeep { at: 64 })),
@@ -241,7 +262,13 @@ fn bounds(rt: HostRuntime) -> Result<(), Fail> {
         ("", "{", 64, " \"", Some(TextFault::TooDeep { at: 65 })),
         ("", "[", 63, "\"a", Some(TextFault::TooDeep { at: 64 })),
         ("{1", ",1", 119, "}", None),
-        ("{1", ",1", 119, " ,1}", Some(TextFault::TooWide { at: 241 })),
+        (
+            "{1",
+            ",1",
+            119,
+            " ,1}",
+            Some(TextFault::TooWide { at: 241 }),
+        ),
         ("[1", "|[1", 100, "", Some(TextFault::Syntax { at: 302 })),
     ] {
         let text = many(alloc, front, part, count, end)?;

@@ -1,6 +1,4 @@
-use Rattle.std.proofs.Common.{◌≡◌, ◌++◌, ◌∷◌, [], None, sym, ◌∙◌}
 use Rattle.std.proofs.lemmas.Result.{err_from_is_err_and}
-use Rattle.ca_text.specs.Reading.{Fails, characters_at}
 use Rattle.ca_text.proofs.Loops.{points_go_on, points_closed, points_fail, points_end, points_end_fail}
 use Rattle.ca_text.proofs.character.characters.Goals as goal
 

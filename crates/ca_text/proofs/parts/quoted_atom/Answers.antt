@@ -1,5 +1,4 @@
-use Rattle.std.proofs.Common.{◌≡◌, true, refl, arith}
-use Rattle.std.specs.Str.{all_scalars}
+use Rattle.std.proofs.Common.{refl, arith}
 use Rattle.ca_text.specs.Reading.{most_point}
 use Rattle.ca_text.proofs.Characters.{characters_taken, points_scalar}
 use Rattle.ca_text.proofs.parts.quoted_atom.Goals as goal

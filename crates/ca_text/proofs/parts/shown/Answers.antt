@@ -1,6 +1,5 @@
-use Rattle.std.proofs.Common.{◌≡◌, true, length, refl, arith}
-use Rattle.std.specs.List.{list_all}
-use Rattle.ca_text.specs.Reading.{is_point, most_shown}
+use Rattle.std.proofs.Common.{length, arith}
+use Rattle.ca_text.specs.Reading.{most_shown}
 use Rattle.ca_text.proofs.Characters.{characters_taken}
 use Rattle.ca_text.proofs.parts.shown.Goals as goal
 

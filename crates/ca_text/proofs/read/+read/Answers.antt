@@ -1,7 +1,7 @@
-use Rattle.std.proofs.Common.{◌≡◌, ◌+◌, ◌-◌, ◌≤◌, length, arith}
+use Rattle.std.proofs.Common.{◌≡◌, ◌-◌, length, arith}
 use Rattle.std.proofs.lemmas.Result.{err_from_is_err_and}
 use Rattle.ca_text.specs.Grammar.{standard}
-use Rattle.ca_text.specs.Reading.{Gives, element_step, term_at, other_at}
+use Rattle.ca_text.specs.Reading.{element_step, term_at, other_at}
 use Rattle.ca_text.proofs.Loops.{series_goes_on, series_closed, series_fails, series_ends, cells_fail, cells_end, head_follows, inner_follows, last_follows, with_no_heads}
 use Rattle.ca_text.proofs.read.+read.Goals as goal
 use Rattle.ca_text.proofs.read.+read.Goals.{cells-in-Head, cells-in-Inner}
@@ -23,7 +23,7 @@ pub elements-returns : goal.elements-returns
 elements-returns t c = rw c.syntax_at.ensures (series_ends (element_step (term_at standard c.args.levels)) 120 c.loop-i.i c.loop-i.items.items c.loop-i.rest.now _ c.loop-i-test.false c.loop-i.invariant)
 
 pub cells-loop-init : goal.cells-loop-init
-cells-loop-init t c = 
+cells-loop-init t c =
     let k : length c.args.bytes.now - 0 ≡ length c.args.bytes.now = omega arith in
     record { read = rw (c.new-heads.ensures.items, k) (with_no_heads _); few = omega arith }
 

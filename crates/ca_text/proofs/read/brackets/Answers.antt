@@ -1,6 +1,4 @@
-use Rattle.std.proofs.Common.{◌≡◌}
 use Rattle.std.proofs.lemmas.Result.{err_from_is_err_and}
-use Rattle.ca_text.specs.Reading.{expect, skip, Gives}
 use Rattle.ca_text.proofs.Loops.{brackets_fail, brackets_go_on, brackets_end}
 use Rattle.ca_text.proofs.read.brackets.Goals as goal
 

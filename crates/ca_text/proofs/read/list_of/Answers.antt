@@ -1,5 +1,4 @@
-use Rattle.std.proofs.Common.{◌≡◌, ◌∙◌}
-use Rattle.ca_text.specs.Reading.{conses}
+use Rattle.std.proofs.Common.{◌∙◌}
 use Rattle.ca_text.proofs.Loops.{conses_pop}
 use Rattle.ca_text.proofs.read.list_of.Goals as goal
 
