@@ -128,10 +128,10 @@ fn names_what_is_wrong(rt: HostRuntime) -> Result<(), Fail> {
         assert_eq!(rt; status, Status::ShelfFault { file }, "at {words}");
         assert_eq!(rt; sink.taken(), message.as_bytes(), "at {words}");
     }
-    let (status, sink) = ended(rt.alloc(), "run a", "insert {1}\nlookup 01\n")?;
-    let (file, line, at) = (1, 2, 1);
+    let (status, sink) = ended(rt.alloc(), "run a", "insert {1}\ninsert {1,\n")?;
+    let (file, line, at) = (1, 2, 11);
     assert_eq!(rt; status, Status::BadLine { file, line, at });
-    assert_eq!(rt; sink.taken(), b"bad line: file 1 line 2 at 1\n".as_slice());
+    assert_eq!(rt; sink.taken(), b"bad line: file 1 line 2 at 11\n".as_slice());
     Ok(())
 }
 
@@ -150,7 +150,7 @@ fn fetches_no_file_after_a_bad_one(rt: HostRuntime) -> Result<(), Fail> {
         &mut shelf,
         &mut sink,
     );
-    let (file, line, at) = (1, 1, 1);
+    let (file, line, at) = (1, 1, 7);
     assert_eq!(rt; status, Status::BadLine { file, line, at });
     let mut bytes = Vec::new(alloc);
     let second = shelf.fetch(alloc, "a", 100, &mut bytes);
@@ -161,14 +161,14 @@ fn fetches_no_file_after_a_bad_one(rt: HostRuntime) -> Result<(), Fail> {
 #[test]
 fn reads_no_more_bytes_than_the_limit(rt: HostRuntime) -> Result<(), Fail> {
     let alloc = rt.alloc();
-    // Of the limit, `a` takes 9 bytes. An empty line is a bad one.
-    let (file, line, at) = (2, 1, 1);
+    // Of the limit, `a` takes 9 bytes. The other file is one line, and too long.
+    let (file, line, at) = (2, 1, 8193);
     for (words, length, status) in [
         ("run b a", 16_777_217, Status::TooLong { file: 1 }),
         ("run a b", 16_777_208, Status::TooLong { file: 2 }),
         ("run a b", 16_777_207, Status::BadLine { file, line, at }),
     ] {
-        let bytes = vec![in alloc; 10u8; length]?;
+        let bytes = vec![in alloc; b'x'; length]?;
         let files = [("a", b"lookup 1\n".as_slice()), ("b", bytes.as_slice())];
         let mut shelf = SureDrawer::new(files_of(alloc, &files)?);
         let mut sink = SureTape::new(alloc, 1000)?;

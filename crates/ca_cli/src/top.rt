@@ -38,10 +38,10 @@ fn outcome<F: Shelf>(alloc: Global, words: &[String], shelf: &mut F) -> (Status,
         Ok(files) => files,
         Err(status) => return told(alloc, status),
     };
-    match answer(alloc, files.as_slice()) {
-        Ok(bytes) => (Status::Done, bytes),
-        Err(_) => (Status::NoMemory, Vec::new(alloc)),
-    }
+    let Ok(bytes) = answer(alloc, files.as_slice()) else {
+        return (Status::NoMemory, Vec::new(alloc));
+    };
+    (Status::Done, bytes)
 }
 
 /// Reads the files that the words name, gives their commands to an empty table, all of the first file's, then all of the
