@@ -1,8 +1,8 @@
 -- The first line of some bytes, as a cut at the first LF gives it.
-use Rattle.std.proofs.Common.{◌≡◌, ℕ, ◌<◌, true, false, cond, eqb, List, [], ◌∷◌, ◌++◌, length, map, refl, sym, ◌∙◌, ap, subst, arith}
-use Rattle.std.proofs.lemmas.Bool.{eqb-true, eqb-false}
+use Rattle.std.proofs.Common.{◌≡◌, ℕ, ◌<◌, true, false, eqb, List, [], ◌∷◌, ◌++◌, length, refl, ap, arith}
+use Rattle.std.proofs.lemmas.Bool.{eqb-true}
 use Rattle.ca_cmd.specs.Cut.{IsFree, IsCut}
-use Rattle.ca_cmd.specs.File.{cut_lines, with_byte, without_cr, lines_of}
+use Rattle.ca_cmd.specs.File.{cut_lines, without_cr, lines_of}
 
 not_lf : (b : ℕ) → (b ≡ 10 → ⊥) → eqb b 10 ≡ false
 not_lf b h = elim (eqb b 10) as (λ x. eqb b 10 ≡ x → x ≡ false) [

@@ -1,12 +1,12 @@
 -- One line has one content.
-use Rattle.std.proofs.Common.{◌≡◌, ℕ, true, false, List, [], ◌∷◌, length, drop, Option, None, Some, Result, Ok, Err, refl, sym, ◌∙◌, ap, subst}
+use Rattle.std.proofs.Common.{◌≡◌, ℕ, true, false, List, [], ◌∷◌, length, drop, Option, None, Some, Result, Ok, Err, sym, ◌∙◌, ap, subst}
 use Rattle.std.specs.Prelude.{MatchBool, eqb, take}
 use Rattle.ca_term.specs.Tree.{Tree}
 use Rattle.ca_ets.specs.Command.{Command}
 use Rattle.ca_text.specs.declared.fault.TextFault.{TextFault}
 use Rattle.ca_text.specs.declared.fault.TextFault.TheVariants as text
 use Rattle.ca_cmd.proofs.TermTexts.{term_sure}
-use Rattle.ca_cmd.specs.Argument.{Refused, Found, IsThen, apart, IsTermRefused, IsTermOf, IsTermAt, IsFirstTerm, IsArgument, IsEnd, place}
+use Rattle.ca_cmd.specs.Argument.{Refused, Found, IsThen, apart, IsTermRefused, IsTermAt, IsFirstTerm, IsArgument, IsEnd, place}
 use Rattle.ca_cmd.specs.Word.{Form, Bare, One, Two, Three, form_of, word_length, Filled, IsBare, IsNext, IsOne, IsTwo, IsThree, IsFilled, IsWhole, IsCommand}
 use Rattle.ca_cmd.specs.Content.{IsHeld, IsText, IsLine, text_in}
 

@@ -1,5 +1,5 @@
 -- What a word's arguments, and a line before its word, come to.
-use Rattle.std.proofs.Common.{◌≡◌, ℕ, ◌+◌, ◌-◌, ◌≤◌, List, length, take, drop, Option, Some, Ok, Err, true, false, refl, sym, ap, arith, length-drop}
+use Rattle.std.proofs.Common.{◌≡◌, ℕ, ◌+◌, ◌-◌, ◌≤◌, List, length, take, drop, Some, Ok, Err, true, false, refl, ap, arith, length-drop}
 use Rattle.std.specs.Prelude.{codes, IsUtf8, nat_lt}
 use Rattle.std.specs.Str.{is_utf8}
 use Rattle.std.specs.Str.Lossy.{utf8_valid_len}

@@ -2,7 +2,6 @@
 use Rattle.std.specs.Prelude.{◌≡◌, ℕ, ◌+◌, ◌==◌, List, [], ◌∷◌, ◌++◌, length, map, Option, None, Some, Ok, Err, if◌then◌else◌}
 use Rattle.ca_ets.specs.Command.{Command}
 use Rattle.ca_cmd.specs.declared.fault.LineWhy.{LineWhy}
-use Rattle.ca_cmd.specs.Argument.{Refused}
 use Rattle.ca_cmd.specs.Content.{IsLine}
 
 -- a command, with the number of its line

@@ -1,5 +1,5 @@
 -- Command words, and the commands that they make of their arguments.
-use Rattle.std.specs.Prelude.{◌≡◌, ℕ, suc, List, [], ◌∷◌, take, drop, length, codes, bytes_eq, Option, None, Some, Ok, if◌then◌else◌}
+use Rattle.std.specs.Prelude.{◌≡◌, ℕ, suc, List, [], ◌∷◌, take, drop, codes, bytes_eq, Option, None, Some, Ok, if◌then◌else◌}
 use Rattle.ca_term.specs.Tree.{Tree}
 use Rattle.ca_ets.specs.Command.{Command, Insert, Lookup}
 use Rattle.ca_text.specs.Grammar.{is_blank}
