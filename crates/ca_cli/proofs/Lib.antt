@@ -1,5 +1,9 @@
+pub mod Accepted
+pub mod Clients
 pub mod Commands
+pub mod Firsts
 pub mod LineCommands
+pub mod Names
+pub mod NextFile
 pub mod Outcomes
 pub mod Plays
-pub mod Printed

@@ -1,6 +1,6 @@
 -- The commands of lines, place by place.
 use Rattle.std.proofs.Common.{◌≡◌, ℕ, zero, suc, ◌<◌, List, [], ◌∷◌, length, get_or, arith, refl, ap}
-use Rattle.ca_ets.specs.Command.{Command, command_of}
+use Rattle.ca_ets.specs.Command.{command_of}
 use Rattle.ca_cmd.specs.File.{commands_in}
 use Rattle.ca_cmd.specs.Lines.{numbered}
 use Rattle.ca_cmd.specs.declared.line.Line.{Line}

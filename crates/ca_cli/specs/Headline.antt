@@ -25,13 +25,11 @@ abbrev pub AllAreReplies : List (List Answered) → Type 0
 AllAreReplies [] = Unit {0}
 AllAreReplies (answers ∷ all) = AreReplies answers × AllAreReplies all
 
--- These bytes are the text of answers and of a table that are explained for the commands of these files, a file a client.
+-- These bytes are the text of answers and of a table that are explained for the commands of these lines, a list a client.
 -- No line is answered by a refusal.
-pub record IsAnswer (keypos : ℕ) (files : List (List ℕ)) (bytes : List ℕ) : Type 0 where
-  pub lines : List (List Numbered)
+pub record IsAnswer (keypos : ℕ) (lines : List (List Numbered)) (bytes : List ℕ) : Type 0 where
   pub answers : List (List Answered)
   pub table : List Tree
-  pub read : AreFilesOf files lines
   pub explained : Explained keypos (map commands_in lines) answers table
   pub unrefused : AllAreReplies answers
   pub written : bytes ≡ text_of_run lines answers table

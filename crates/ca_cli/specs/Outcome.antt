@@ -1,5 +1,5 @@
 -- What a call of the program comes to, before anything is written.
-use Rattle.std.specs.Prelude.{◌≡◌, ℕ, ◌+◌, ◌-◌, ◌≤◌, List, [], ◌∷◌, ◌++◌, length, sum, map, Option, Some, None}
+use Rattle.std.specs.Prelude.{◌≡◌, ℕ, ◌+◌, ◌-◌, ◌≤◌, List, [], ◌∷◌, ◌++◌, length, sum_by, map, Option, Some, None}
 use Rattle.ca_outside.specs.Known.{Tells, IsOver, HasRisen}
 use Rattle.ca_cmd.specs.File.{Numbered, IsRefusedAt}
 use Rattle.ca_cmd.specs.declared.fault.LineWhy.{LineWhy}
@@ -24,7 +24,7 @@ abbrev pub most_bytes : ℕ
 most_bytes = 16777216
 
 abbrev pub total_length : List (List ℕ) → ℕ
-total_length files = sum (map (λ (file : List ℕ). length file) files)
+total_length files = sum_by (λ (file : List ℕ). length file) files
 
 -- the shelf's contents, where it tells them, are these files in order
 abbrev pub AreFetched : (List ℕ → Option (List ℕ)) → List (List ℕ) → List (List ℕ) → Type 0
@@ -33,11 +33,10 @@ AreFetched content [] (file ∷ files) = ⊥
 AreFetched content (name ∷ names) [] = ⊥
 AreFetched content (name ∷ names) (file ∷ files) = Tells (content name) file × AreFetched content names files
 
--- The files of these names were fetched, are within the limit together, and hold commands in each line.
-pub record AreAccepted (content : List ℕ → Option (List ℕ)) (names files : List (List ℕ)) : Type 0 where
+-- The files of these names were fetched, are within the limit together, and hold these lines.
+pub record AreAccepted (content : List ℕ → Option (List ℕ)) (names files : List (List ℕ)) (lines : List (List Numbered)) : Type 0 where
   pub fetched : AreFetched content names files
   pub limit : total_length files ≤ most_bytes
-  pub lines : List (List Numbered)
   pub read : AreFilesOf files lines
 
 -- The words name files, and the files before this one were accepted.
@@ -48,15 +47,17 @@ pub record IsReached (call : Call) (number : ℕ) : Type 0 where
   pub named : named_files call.words ≡ Some (earlier ++ name ∷ later)
   pub place : number ≡ length earlier + 1
   pub files : List (List ℕ)
-  pub accepted : AreAccepted call.content earlier files
+  pub lines : List (List Numbered)
+  pub accepted : AreAccepted call.content earlier files lines
 
--- The words name files, all were accepted, and these bytes answer them.
+-- The words name files, all were accepted, and these bytes answer the lines that were read.
 pub record IsPlayed (call : Call) (bytes : List ℕ) : Type 0 where
   pub names : List (List ℕ)
   pub named : named_files call.words ≡ Some names
   pub files : List (List ℕ)
-  pub accepted : AreAccepted call.content names files
-  pub answer : IsAnswer 1 files bytes
+  pub lines : List (List Numbered)
+  pub accepted : AreAccepted call.content names files lines
+  pub answer : IsAnswer 1 lines bytes
 
 -- This file was reached and fetched, within the limit, and is refused at this byte of this line.
 pub record IsRefused (call : Call) (number line at : ℕ) : Type 0 where
@@ -101,13 +102,3 @@ IsDoneOrWant SinkFault = ⊥
 IsDoneOrWant (BadLine file line at) = ⊥
 IsDoneOrWant NoMemory = Unit {0}
 IsDoneOrWant (TooLong file) = ⊥
-
--- what a single file that was fetched comes to
-abbrev pub IsAnswered : List ℕ → Status → List ℕ → Type 0
-IsAnswered file Done bytes = IsAnswer 1 (file ∷ []) bytes
-IsAnswered file Usage bytes = ⊥
-IsAnswered file (ShelfFault number) bytes = ⊥
-IsAnswered file SinkFault bytes = ⊥
-IsAnswered file (BadLine number line at) bytes = (number ≡ 1) × ((why : LineWhy) × IsRefusedAt file line at why) × (bytes ≡ text_of_status (BadLine number line at))
-IsAnswered file NoMemory bytes = bytes ≡ []
-IsAnswered file (TooLong number) bytes = ⊥

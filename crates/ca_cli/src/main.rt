@@ -1,10 +1,11 @@
-//! `ca run FILE`: reads a command file, runs its commands on a table that behaves as an `ordered_set` of Erlang's `ets`,
-//! and prints every answer and the final table.
+//! `ca run FILE...`: reads command files, runs their commands on one table that behaves as an `ordered_set` of Erlang's
+//! `ets`, a file a client, one client after the other, and prints every answer and the final table.
 #![tactic(auto)]
 
 ghost use Rattle.std.specs.Prelude.{◌≡◌, IfErr};
 
 mod answer;
+mod files;
 mod message;
 mod play;
 mod status;

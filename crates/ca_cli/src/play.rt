@@ -1,25 +1,24 @@
-//! One client's commands on a table.
-ghost use Rattle.std.specs.Prelude.{◌≡◌, [], true, IfOk};
-ghost use Rattle.std.specs.List.{list_all};
-ghost use Rattle.ca_ets.specs.InOrder.{IsInOrder};
+//! The clients' commands on a table.
+ghost use Rattle.std.specs.Prelude.{◌≡◌, [], map, true, IfOk};
+ghost use Rattle.std.specs.List.{All, list_all};
+ghost use Rattle.ca_ets.specs.Explained.{Explained};
 ghost use Rattle.ca_ets.specs.Step.{is_built};
 ghost use Rattle.ca_cmd.specs.Answers.{said};
 ghost use Rattle.ca_cmd.specs.File.{commands_in};
 ghost use Rattle.ca_cmd.specs.Lines.{numbered};
-ghost use Rattle.ca_cli.specs.Headline.{AreReplies};
+ghost use Rattle.ca_cli.specs.Headline.{AllAreReplies};
+ghost use Rattle.ca_cli.specs.Play.{IsPlay};
 
-use ca_cmd::{Answer, Line};
+use ca_cmd::{Answer, Line, Lines};
 use ca_ets::{Cont, ListTable};
 use std::alloc::{AllocError, Global};
 
-/// Gives the lines' commands to an empty table, one after the other. Each has one answer, and none is a refusal.
+// Gives a client's commands to a table, one after the other.
 #[tactic(auto, using(crate::proofs::Plays::begun))]
-pub fn play(alloc: Global, table: &mut ListTable, lines: &[Line]) -> Result<Vec<Answer>, AllocError>
-    requires empty { table.old.objects ≡ [] }
-    requires built { list_all is_built (commands_in (numbered lines.now)) ≡ true }
+fn play(alloc: Global, table: &mut ListTable, lines: &[Line]) -> Result<Vec<Answer>, AllocError>
+    requires { list_all is_built (commands_in (numbered lines.now)) ≡ true }
     ensures keypos { table.new.keypos ≡ table.old.keypos }
-    ensures played { IfOk result (λ answers. IsInOrder table.old.keypos (commands_in (numbered lines.now)) (said answers.items) table.new.objects) }
-    ensures unrefused { IfOk result (λ answers. AreReplies (said answers.items)) }
+    ensures played { IfOk result (λ answers. IsPlay table.old.keypos table.old.objects (commands_in (numbered lines.now)) (said answers.items) table.new.objects) }
 {
     let mut cont = Cont::Never;
     let mut answers = Vec::with_capacity(alloc, lines.len())?;
@@ -28,4 +27,25 @@ pub fn play(alloc: Global, table: &mut ListTable, lines: &[Line]) -> Result<Vec<
         answers.push(Answer::Replied(reply))?;
     }
     Ok(answers)
+}
+
+/// Gives the clients' commands to an empty table, all of the first client's, then all of the second's, and so on. Each
+/// command has one answer, and none is a refusal.
+pub fn play_all(
+    alloc: Global,
+    table: &mut ListTable,
+    files: &[Lines],
+) -> Result<Vec<Vec<Answer>>, AllocError>
+    requires empty { table.old.objects ≡ [] }
+    requires built { All (λ lines. list_all is_built (commands_in (numbered lines)) ≡ true) files.now }
+    ensures keypos { table.new.keypos ≡ table.old.keypos }
+    ensures explained { IfOk result (λ answers. Explained table.old.keypos (map commands_in (map numbered files.now)) (map (λ a. said a.items) answers.items) table.new.objects) }
+    ensures unrefused { IfOk result (λ answers. AllAreReplies (map (λ a. said a.items) answers.items)) }
+{
+    let mut all = Vec::with_capacity(alloc, files.len())?;
+    for lines in files {
+        let answers = play(alloc, table, lines.as_slice())?;
+        all.push(answers)?;
+    }
+    Ok(all)
 }

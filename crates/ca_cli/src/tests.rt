@@ -2,7 +2,7 @@
 //! project's table of messages.
 use crate::status::Status;
 use crate::top::run;
-use ca_outside::{Drawer, SureDrawer, SureTape, Tape};
+use ca_outside::{Drawer, FetchFault, Shelf, SureDrawer, SureTape, Tape};
 use std::alloc::{AllocError, Global};
 use std::test::Fail;
 
@@ -15,48 +15,70 @@ fn words_of(alloc: Global, line: &str) -> Result<Vec<String>, AllocError> {
     Ok(words)
 }
 
-// One file of this name.
-fn file_of(alloc: Global, name: &str, bytes: &[u8]) -> Result<Vec<(String, Vec<u8>)>, AllocError> {
-    let mut files = Vec::new(alloc);
-    files.push((name.to_string(alloc)?, bytes.to_vec(alloc)?))?;
-    Ok(files)
+// The files of these names.
+fn files_of(alloc: Global, files: &[(&str, &[u8])]) -> Result<Vec<(String, Vec<u8>)>, AllocError> {
+    let mut all = Vec::new(alloc);
+    for (name, bytes) in files {
+        all.push((name.to_string(alloc)?, bytes.to_vec(alloc)?))?;
+    }
+    Ok(all)
 }
 
 #[test]
 fn answers_files(rt: HostRuntime) -> Result<(), Fail> {
     let alloc = rt.alloc();
-    for (file, output) in [
+    for (words, a, b, output) in [
         (
+            "run a",
             "insert {1,a}\nlookup 1\n",
+            "",
             "client 1\n1 true\n2 [{1,a}]\ntable\n{1,a}.\nend 1\n",
         ),
-        ("", "client 1\ntable\nend 0\n"),
+        ("run a", "", "", "client 1\ntable\nend 0\n"),
         (
+            "run a",
             "insert {1,a}\nlookup 2\n",
+            "",
             "client 1\n1 true\n2 []\ntable\n{1,a}.\nend 1\n",
         ),
         (
+            "run a",
             "insert {b,1}\ninsert {-3}\ninsert {aa,x,y}\ninsert {7}\ninsert {b,2}\nlookup b\n",
+            "",
             "client 1\n1 true\n2 true\n3 true\n4 true\n5 true\n6 [{b,2}]\ntable\n{-3}.\n{7}.\n{aa,x,y}.\n{b,2}.\nend 4\n",
         ),
+        ("run a b", "", "", "client 1\nclient 2\ntable\nend 0\n"),
+        (
+            "run a b",
+            "insert {1,a}\n",
+            "lookup 1\ninsert {1,b}\n",
+            "client 1\n1 true\nclient 2\n1 [{1,a}]\n2 true\ntable\n{1,b}.\nend 1\n",
+        ),
+        (
+            "run b a b",
+            "insert {2}\n",
+            "lookup 2\n",
+            "client 1\n1 []\nclient 2\n1 true\nclient 3\n1 [{2}]\ntable\n{2}.\nend 1\n",
+        ),
     ] {
-        let mut shelf = SureDrawer::new(file_of(alloc, "f", file.as_bytes())?);
+        let files = files_of(alloc, &[("a", a.as_bytes()), ("b", b.as_bytes())])?;
+        let mut shelf = SureDrawer::new(files);
         let mut sink = SureTape::new(alloc, 1000)?;
         let status = run(
             alloc,
-            words_of(alloc, "run f")?.as_slice(),
+            words_of(alloc, words)?.as_slice(),
             &mut shelf,
             &mut sink,
         );
-        assert_eq!(rt; status, Status::Done, "at {file:?}");
-        assert_eq!(rt; sink.taken(), output.as_bytes(), "at {file:?}");
+        assert_eq!(rt; status, Status::Done, "at {words} {a:?} {b:?}");
+        assert_eq!(rt; sink.taken(), output.as_bytes(), "at {words} {a:?} {b:?}");
     }
     Ok(())
 }
 
-// How a run of these words ends over a drawer with one file, `f`, and what it writes.
-fn ended(alloc: Global, words: &str, file: &str) -> Result<(Status, SureTape), AllocError> {
-    let mut shelf = Drawer::new(file_of(alloc, "f", file.as_bytes())?, Vec::new(alloc));
+// How a run of these words ends over a drawer with one file, `a`, and what it writes.
+fn ended(alloc: Global, words: &str, a: &str) -> Result<(Status, SureTape), AllocError> {
+    let mut shelf = Drawer::new(files_of(alloc, &[("a", a.as_bytes())])?, Vec::new(alloc));
     let mut sink = SureTape::new(alloc, 1000)?;
     let status = run(
         alloc,
@@ -69,7 +91,7 @@ fn ended(alloc: Global, words: &str, file: &str) -> Result<(Status, SureTape), A
 
 #[test]
 fn takes_no_other_words(rt: HostRuntime) -> Result<(), Fail> {
-    for words in ["", "run", "run -f", "run f f", "walk f", "Run f", "f run"] {
+    for words in ["", "run", "run -a", "run a -a", "walk a", "Run a", "a run"] {
         let (status, sink) = ended(rt.alloc(), words, "")?;
         assert_eq!(rt; status, Status::Usage, "at {words}");
         assert_eq!(rt;
@@ -81,43 +103,95 @@ fn takes_no_other_words(rt: HostRuntime) -> Result<(), Fail> {
 }
 
 #[test]
-fn names_what_is_wrong(rt: HostRuntime) -> Result<(), Fail> {
-    let (status, sink) = ended(rt.alloc(), "run g", "")?;
-    assert_eq!(rt; status, Status::ShelfFault { file: 1 });
-    assert_eq!(rt; sink.taken(), b"cannot read file 1\n".as_slice());
-    let (status, sink) = ended(rt.alloc(), "run f", "insert {1}\nlookup 01\n")?;
-    let (file, line, at) = (1, 2, 1);
-    assert_eq!(rt; status, Status::BadLine { file, line, at });
-    assert_eq!(rt; sink.taken(), b"bad line: file 1 line 2 at 1\n".as_slice());
+fn takes_up_to_64_files(rt: HostRuntime) -> Result<(), Fail> {
+    let alloc = rt.alloc();
+    for (count, status) in [(64, Status::Done), (65, Status::Usage)] {
+        let mut words = words_of(alloc, "run")?;
+        for _ in 0..count {
+            words.push("a".to_string(alloc)?)?;
+        }
+        let mut shelf = SureDrawer::new(Vec::new(alloc));
+        let mut sink = SureTape::new(alloc, 1000)?;
+        let ended = run(alloc, words.as_slice(), &mut shelf, &mut sink);
+        assert_eq!(rt; ended, status, "at {count}");
+    }
     Ok(())
 }
 
 #[test]
-fn reads_no_longer_file_than_the_limit(rt: HostRuntime) -> Result<(), Fail> {
+fn names_what_is_wrong(rt: HostRuntime) -> Result<(), Fail> {
+    for (words, a, file, message) in [
+        ("run c", "", 1, "cannot read file 1\n"),
+        ("run a b", "", 2, "cannot read file 2\n"),
+    ] {
+        let (status, sink) = ended(rt.alloc(), words, a)?;
+        assert_eq!(rt; status, Status::ShelfFault { file }, "at {words}");
+        assert_eq!(rt; sink.taken(), message.as_bytes(), "at {words}");
+    }
+    let (status, sink) = ended(rt.alloc(), "run a", "insert {1}\ninsert {1,\n")?;
+    let (file, line, at) = (1, 2, 11);
+    assert_eq!(rt; status, Status::BadLine { file, line, at });
+    assert_eq!(rt; sink.taken(), b"bad line: file 1 line 2 at 11\n".as_slice());
+    Ok(())
+}
+
+#[test]
+fn fetches_no_file_after_a_bad_one(rt: HostRuntime) -> Result<(), Fail> {
     let alloc = rt.alloc();
-    let bytes = vec![in alloc; 10u8; 16_777_217]?;
-    let mut shelf = SureDrawer::new(file_of(alloc, "f", bytes.as_slice())?);
+    // The second fetch from this drawer fails, whatever it is of.
+    let mut shelf = Drawer::new(
+        files_of(alloc, &[("a", b"lookup\n".as_slice())])?,
+        [2].to_vec(alloc)?,
+    );
     let mut sink = SureTape::new(alloc, 1000)?;
     let status = run(
         alloc,
-        words_of(alloc, "run f")?.as_slice(),
+        words_of(alloc, "run a b")?.as_slice(),
         &mut shelf,
         &mut sink,
     );
-    assert_eq!(rt; status, Status::TooLong { file: 1 });
-    assert_eq!(rt; sink.taken(), b"file 1 too long\n".as_slice());
+    let (file, line, at) = (1, 1, 7);
+    assert_eq!(rt; status, Status::BadLine { file, line, at });
+    let mut bytes = Vec::new(alloc);
+    let second = shelf.fetch(alloc, "a", 100, &mut bytes);
+    assert_eq!(rt; second, Err(FetchFault::Failed));
+    Ok(())
+}
+
+#[test]
+fn reads_no_more_bytes_than_the_limit(rt: HostRuntime) -> Result<(), Fail> {
+    let alloc = rt.alloc();
+    // Of the limit, `a` takes 9 bytes. The other file is one line, and too long.
+    let (file, line, at) = (2, 1, 8193);
+    for (words, length, status) in [
+        ("run b a", 16_777_217, Status::TooLong { file: 1 }),
+        ("run a b", 16_777_208, Status::TooLong { file: 2 }),
+        ("run a b", 16_777_207, Status::BadLine { file, line, at }),
+    ] {
+        let bytes = vec![in alloc; b'x'; length]?;
+        let files = [("a", b"lookup 1\n".as_slice()), ("b", bytes.as_slice())];
+        let mut shelf = SureDrawer::new(files_of(alloc, &files)?);
+        let mut sink = SureTape::new(alloc, 1000)?;
+        let ended = run(
+            alloc,
+            words_of(alloc, words)?.as_slice(),
+            &mut shelf,
+            &mut sink,
+        );
+        assert_eq!(rt; ended, status, "at {words} {length}");
+    }
     Ok(())
 }
 
 #[test]
 fn stops_where_the_sink_fails(rt: HostRuntime) -> Result<(), Fail> {
     let alloc = rt.alloc();
-    let file = b"insert {1,a}\nlookup 1\n".as_slice();
-    let mut shelf = SureDrawer::new(file_of(alloc, "f", file)?);
+    let files = [("a", b"insert {1,a}\nlookup 1\n".as_slice())];
+    let mut shelf = SureDrawer::new(files_of(alloc, &files)?);
     let mut sink = Tape::new(alloc, 9, 4, Vec::new(alloc))?;
     let status = run(
         alloc,
-        words_of(alloc, "run f")?.as_slice(),
+        words_of(alloc, "run a")?.as_slice(),
         &mut shelf,
         &mut sink,
     );

@@ -1,155 +1,152 @@
--- The lines of a file: they are determined, and a file isn't both good and bad.
-use Rattle.std.proofs.Common.{◌≡◌, ◌≢◌, ℕ, ◌+◌, ◌<◌, List, [], ◌∷◌, ◌++◌, length, refl, sym, ◌∙◌, ap, subst, arith, append_assoc, suc, length-append}
-use Rattle.std.proofs.lemmas.List.{append-nil, map-append}
-use Rattle.ca_ets.specs.Command.{Command, command_of}
-use Rattle.ca_ets.specs.declared.command.Cmd.{Cmd}
-use Rattle.ca_cmd.specs.Cut.{IsFree, IsCut}
-use Rattle.ca_cmd.specs.File.{Numbered, IsLine, AreLines, IsFileOf, IsBadLine, IsRefusedAt}
-use Rattle.ca_cmd.specs.Lines.{numbered, numbered_line}
+-- The lines of a file: they are determined, a file isn't both read and refused, and one line after the other is taken.
+use Rattle.std.proofs.Common.{◌≡◌, ℕ, suc, ◌+◌, List, [], ◌∷◌, ◌++◌, length, Option, Ok, Err, refl, sym, ◌∙◌, ap, subst, arith, append_assoc, length-append}
+use Rattle.std.proofs.lemmas.List.{append-nil}
+use Rattle.ca_ets.specs.Command.{Command}
+use Rattle.ca_cmd.specs.Argument.{Refused}
+use Rattle.ca_cmd.specs.Content.{IsLine}
+use Rattle.ca_cmd.specs.File.{Numbered, cut_lines, lines_of, held_at, AreLines, IsFileOf, IsRefusedAt}
+use Rattle.ca_cmd.specs.Lines.{numbered}
+use Rattle.ca_cmd.specs.Refusal.{IsCauseIn, IsCauseAt, IsTaken}
+use Rattle.ca_cmd.specs.declared.fault.FileFault.{FileFault}
+use Rattle.ca_cmd.specs.declared.fault.FileFault.TheVariants.{BadLine, NoMemory}
 use Rattle.ca_cmd.specs.declared.line.Line.{Line}
-use Rattle.ca_cmd.specs.declared.fault.LineWhy.TheVariants.{Syntax}
-use Rattle.ca_cmd.proofs.Cuts.{cut_same, free_cut}
-use Rattle.ca_cmd.proofs.Texts.{command_bytes, command_same, between_free}
+use Rattle.ca_cmd.specs.declared.fault.LineWhy.{LineWhy}
+use Rattle.ca_cmd.proofs.Same.{line_sure}
 
-line_free : (line : List ℕ) (c : Command) → IsLine line c → IsFree 10 line
-line_free line c l = rw l.text (between_free 10 126 10 _ (omega arith) (command_bytes c l.simple))
+held_same : (line : List ℕ) (a b : Option Command) → IsLine line (Ok a) → IsLine line (Ok b) → a ≡ b
+held_same line a b p q = let e = line_sure line (Ok a) (Ok b) p q in cc
 
-some_bytes : (line rest : List ℕ) → line ++ 10 ∷ rest ≡ [] → ⊥
-some_bytes [] rest e = cc
-some_bytes (b ∷ line) rest e = cc
+refusal_same : (line : List ℕ) (a b : Refused) → IsLine line (Err a) → IsLine line (Err b) → a ≡ b
+refusal_same line a b p q = let e = line_sure line (Err a) (Err b) p q in cc
 
-pub lines_same : (n : ℕ) (file : List ℕ) (ls ms : List Numbered) → AreLines n file ls → AreLines n file ms → ls ≡ ms
-lines_same n file [] [] a b = refl
-lines_same n file [] (m ∷ ms) a b = absurd (some_bytes b.1.0 b.1.1 (sym b.1.3 ∙ a))
-lines_same n file (l ∷ ls) [] a b = absurd (some_bytes a.1.0 a.1.1 (sym a.1.3 ∙ b))
-lines_same n file (l ∷ ls) (m ∷ ms) a b =
-    let c = cut_same 10 a.1.0 b.1.0 a.1.1 b.1.1 (line_free a.1.0 l.command a.1.2) (line_free b.1.0 m.command b.1.2) (sym a.1.3 ∙ b.1.3) in
-    let number : l.number ≡ m.number = a.0 ∙ sym b.0 in
-    let command : l.command ≡ m.command = command_same l.command m.command a.1.2.simple b.1.2.simple (sym a.1.2.text ∙ c.0 ∙ b.1.2.text) in
-    let others : ls ≡ ms = lines_same (n + 1) b.1.1 ls ms (subst (λ (rest : List ℕ). AreLines (n + 1) rest ls) c.1 a.1.4) b.1.4 in
-    λ i. record { number = number i; command = command i } ∷ others i
+held_or_refused : (line : List ℕ) (a : Option Command) (b : Refused) → IsLine line (Ok a) → IsLine line (Err b) → ⊥
+held_or_refused line a b p q = let e = line_sure line (Ok a) (Err b) p q in cc
 
-lines_push : (n : ℕ) (before line : List ℕ) (ls : List Numbered) (c : Command) → AreLines n before ls → IsLine line c → AreLines n (before ++ (line ++ 10 ∷ [])) (ls ++ record { number = n + length ls; command = c } ∷ [])
-lines_push n before line [] c a l = (omega arith, (line, [], l, ap (λ z. z ++ (line ++ 10 ∷ [])) a, refl))
-lines_push n before line (m ∷ ls) c a l =
-    let next : n + 1 + length ls ≡ n + suc (length ls) = omega arith in (
-      a.0,
-      (
-        a.1.0,
-        a.1.1 ++ (line ++ 10 ∷ []),
-        a.1.2,
-        ap (λ z. z ++ (line ++ 10 ∷ [])) a.1.3 ∙ append_assoc a.1.0 (10 ∷ a.1.1) (line ++ 10 ∷ []),
-        subst (λ (k : ℕ). AreLines (n + 1) (a.1.1 ++ (line ++ 10 ∷ [])) (ls ++ record { number = k; command = c } ∷ [])) next (lines_push (n + 1) a.1.1 line ls c a.1.4 l),
-      ),
-    )
+pub lines_same : (n : ℕ) (lines : List (List ℕ)) (cs ds : List Numbered) → AreLines n lines cs → AreLines n lines ds → cs ≡ ds
+lines_same n [] cs ds p q = p ∙ sym q
+lines_same n (line ∷ lines) cs ds p q =
+    let held : p.0 ≡ q.0 = held_same line p.0 q.0 p.2 q.2 in
+    let others : p.1 ≡ q.1 = lines_same (n + 1) lines p.1 q.1 p.3 q.3 in
+    p.4 ∙ (λ i. held_at n (held i) ++ others i) ∙ sym q.4
 
--- Where good lines stand in front, the lines of a file begin with them, and the rest of it holds the others.
-lines_front : (n : ℕ) (before rest : List ℕ) (ls ms : List Numbered) → AreLines n before ls → AreLines n (before ++ rest) ms → (others : List Numbered) × AreLines (n + length ls) rest others
-lines_front n before rest [] ms a b =
-    let here : n ≡ n + 0 = omega arith in
-    (ms, subst (λ (k : ℕ). AreLines k rest ms) here (subst (λ (z : List ℕ). AreLines n (z ++ rest) ms) a b))
-lines_front n before rest (l ∷ ls) [] a b =
-    absurd (some_bytes a.1.0 (a.1.1 ++ rest) (sym (append_assoc a.1.0 (10 ∷ a.1.1) rest) ∙ sym (ap (λ z. z ++ rest) a.1.3) ∙ b))
-lines_front n before rest (l ∷ ls) (m ∷ ms) a b =
-    let e : a.1.0 ++ 10 ∷ (a.1.1 ++ rest) ≡ b.1.0 ++ 10 ∷ b.1.1 = sym (append_assoc a.1.0 (10 ∷ a.1.1) rest) ∙ sym (ap (λ z. z ++ rest) a.1.3) ∙ b.1.3 in
-    let c = cut_same 10 a.1.0 b.1.0 (a.1.1 ++ rest) b.1.1 (line_free a.1.0 l.command a.1.2) (line_free b.1.0 m.command b.1.2) e in
-    let r = lines_front (n + 1) a.1.1 rest ls ms a.1.4 (subst (λ (z : List ℕ). AreLines (n + 1) z ms) (sym c.1) b.1.4) in
-    let next : n + 1 + length ls ≡ n + suc (length ls) = omega arith in
-    (r.0, subst (λ (k : ℕ). AreLines k rest r.0) next r.1)
+-- A refused line stands behind good ones.
+pub record IsBehind (lines : List (List ℕ)) (before : List (List ℕ)) (line : List ℕ) (e : Refused) : Type 0 where
+  pub after : List (List ℕ)
+  pub whole : lines ≡ before ++ line ∷ after
+  pub bad : IsLine line (Err e)
 
-none_left : (n : ℕ) (rest : List ℕ) (others : List Numbered) → AreLines n rest others → 0 < length rest → ((line after : List ℕ) (command : Command) → IsLine line command → rest ≡ line ++ 10 ∷ after → ⊥) → ⊥
-none_left n rest [] a h none = let e : length rest ≡ 0 = ap length a in omega arith
-none_left n rest (m ∷ ms) a h none = none a.1.0 a.1.1 m.command a.1.2 a.1.3
+heads : {A : Type 0} (x y : A) (xs ys : List A) → x ∷ xs ≡ y ∷ ys → (x ≡ y) × (xs ≡ ys)
+heads x y xs ys e = (cc, cc)
 
--- a file isn't both good and bad
-pub not_both : (file : List ℕ) (n : ℕ) (ls : List Numbered) → IsBadLine file n → IsFileOf file ls → ⊥
-not_both file n ls b f =
-    let r = lines_front 1 b.before b.rest b.lines ls b.good (subst (λ (z : List ℕ). AreLines 1 z ls) b.whole f) in
-    none_left (1 + length b.lines) b.rest r.0 r.1 b.more b.none
+-- the one refusal, and how many lines stand before it
+behind_same : (n : ℕ) (lines before after : List (List ℕ)) (cs ds : List Numbered) (x y : List ℕ) (e f : Refused)
+    → AreLines n before cs → AreLines n after ds → IsBehind lines before x e → IsBehind lines after y f → (length before ≡ length after) × (e ≡ f)
+behind_same n lines [] [] cs ds x y e f p q a b =
+    let h = heads x y a.after b.after (sym a.whole ∙ b.whole) in
+    (refl, refusal_same x e f a.bad (subst (λ z. IsLine z (Err f)) (sym h.0) b.bad))
+behind_same n lines [] (w ∷ after) cs ds x y e f p q a b =
+    let h = heads x w a.after (after ++ y ∷ b.after) (sym a.whole ∙ b.whole) in
+    absurd (held_or_refused w q.0 e q.2 (subst (λ z. IsLine z (Err e)) h.0 a.bad))
+behind_same n lines (v ∷ before) [] cs ds x y e f p q a b =
+    let h = heads v y (before ++ x ∷ a.after) b.after (sym a.whole ∙ b.whole) in
+    absurd (held_or_refused v p.0 f p.2 (subst (λ z. IsLine z (Err f)) (sym h.0) b.bad))
+behind_same n lines (v ∷ before) (w ∷ after) cs ds x y e f p q a b =
+    let h = heads v w (before ++ x ∷ a.after) (after ++ y ∷ b.after) (sym a.whole ∙ b.whole) in
+    let r = behind_same (n + 1) (before ++ x ∷ a.after) before after p.1 q.1 x y e f p.3 q.3 (record { after = a.after; whole = refl; bad = a.bad }) (record { after = b.after; whole = h.1; bad = b.bad }) in
+    (ap suc r.0, r.1)
 
--- These lines were read, the last of this number, and this is left.
-pub record AreReadLines (file : List ℕ) (lines : List Line) (last : ℕ) (rest : List ℕ) : Type 0 where
-  pub before : List ℕ
+module _ (file : List ℕ) (line other at place : ℕ) (why reason : LineWhy) (a : IsRefusedAt file line at why) (b : IsRefusedAt file other place reason) where
+  one_refusal : (length a.before ≡ length b.before) × (◌≡◌ {A = Refused} (record { at = at; why = why }) (record { at = place; why = reason }))
+  one_refusal =
+      behind_same 1 (lines_of file) a.before b.before a.commands b.commands a.line b.line _ _ a.good b.good (record { after = a.after; whole = a.whole; bad = a.bad }) (record { after = b.after; whole = b.whole; bad = b.bad })
+
+  pub one_line : line ≡ other
+  one_line = omega (arith, a.place, b.place, one_refusal.0)
+
+  pub one_place : at ≡ place
+  one_place = ap (λ (e : Refused). e.at) one_refusal.1
+
+  pub one_reason : why ≡ reason
+  one_reason = ap (λ (e : Refused). e.why) one_refusal.1
+
+good_or_bad : (n : ℕ) (lines before : List (List ℕ)) (cs ds : List Numbered) (x : List ℕ) (e : Refused) → AreLines n before cs → IsBehind lines before x e → AreLines n lines ds → ⊥
+good_or_bad n lines [] cs ds x e p a q =
+    let r = subst (λ z. AreLines n z ds) a.whole q in
+    held_or_refused x r.0 e r.2 a.bad
+good_or_bad n lines (v ∷ before) cs ds x e p a q =
+    let r = subst (λ z. AreLines n z ds) a.whole q in
+    good_or_bad (n + 1) (before ++ x ∷ a.after) before p.1 r.1 x e p.3 (record { after = a.after; whole = refl; bad = a.bad }) r.3
+
+-- a file isn't both read and refused
+pub not_both : (file : List ℕ) (line at : ℕ) (why : LineWhy) (lines : List Numbered) → IsRefusedAt file line at why → IsFileOf file lines → ⊥
+not_both file line at why lines a f = good_or_bad 1 (lines_of file) a.before a.commands lines a.line _ a.good (record { after = a.after; whole = a.whole; bad = a.bad }) f
+
+-- So many lines were read, with these commands, and this is left.
+pub record AreReadLines (file : List ℕ) (lines : List Line) (count : ℕ) (rest : List ℕ) : Type 0 where
+  pub before : List (List ℕ)
   pub good : AreLines 1 before (numbered lines)
-  pub whole : file ≡ before ++ rest
-  pub last_is : last ≡ length (numbered lines)
+  pub whole : lines_of file ≡ before ++ lines_of rest
+  pub count_is : count ≡ length before
 
 pub lines_start : (file : List ℕ) → AreReadLines file [] 0 file
-lines_start file = record { before = []; good = refl; whole = refl; last_is = refl }
+lines_start file = record { before = []; good = refl; whole = refl; count_is = refl }
 
-pub lines_more : (file rest line others : List ℕ) (lines : List Line) (last : ℕ) (cmd : Cmd) → AreReadLines file lines last rest → IsCut rest 10 line others → IsLine line (command_of cmd) → AreReadLines file (lines ++ record { number = last + 1; cmd = cmd } ∷ []) (last + 1) others
-lines_more file rest line others lines last cmd r c l =
-    let next : 1 + length (numbered lines) ≡ last + 1 = omega (arith, r.last_is) in
-    let pushed : numbered (lines ++ record { number = last + 1; cmd = cmd } ∷ []) ≡ numbered lines ++ record { number = last + 1; command = command_of cmd } ∷ [] =
-    map-append numbered_line lines (record { number = last + 1; cmd = cmd } ∷ []) in
+lines_push : (n : ℕ) (before : List (List ℕ)) (commands : List Numbered) (line : List ℕ) (held : Option Command)
+    → AreLines n before commands → IsLine line (Ok held) → AreLines n (before ++ line ∷ []) (commands ++ held_at (n + length before) held)
+lines_push n [] commands line held p l =
+    let here : n + 0 ≡ n = omega arith in
+    (held, [], l, refl, rw (p, here) (sym (append-nil (held_at n held))))
+lines_push n (v ∷ before) commands line held p l =
+    let next : n + 1 + length before ≡ n + suc (length before) = omega arith in (
+      p.0,
+      p.1 ++ held_at (n + suc (length before)) held,
+      p.2,
+      subst (λ k. AreLines (n + 1) (before ++ line ∷ []) (p.1 ++ held_at k held)) next (lines_push (n + 1) before p.1 line held p.3 l),
+      ap (λ z. z ++ held_at (n + suc (length before)) held) p.4 ∙ append_assoc (held_at n p.0) p.1 (held_at (n + suc (length before)) held),
+    )
+
+pub lines_more : (file rest line others : List ℕ) (lines after : List Line) (count : ℕ) → AreReadLines file lines count rest → lines_of rest ≡ line ∷ lines_of others → IsTaken (count + 1) line lines after
+    → AreReadLines file after (count + 1) others
+lines_more file rest line others lines after count r e t =
+    let here : 1 + length r.before ≡ count + 1 = omega (arith, r.count_is) in
+    let all : numbered lines ++ held_at (1 + length r.before) t.0 ≡ numbered after = ap (λ k. numbered lines ++ held_at k t.0) here ∙ sym t.2 in
     record {
-      before = r.before ++ (line ++ 10 ∷ []);
-      good = rw pushed (subst (λ (k : ℕ). AreLines 1 (r.before ++ (line ++ 10 ∷ [])) (numbered lines ++ record { number = k; command = command_of cmd } ∷ [])) next (lines_push 1 r.before line (numbered lines) (command_of cmd) r.good l));
-      whole = r.whole ∙ ap (λ z. r.before ++ z) (c.whole ∙ sym (append_assoc line (10 ∷ []) others)) ∙ sym (append_assoc r.before (line ++ 10 ∷ []) others);
-      last_is = rw pushed (simp length-append (omega (arith, r.last_is)));
+      before = r.before ++ line ∷ [];
+      good = subst (λ z. AreLines 1 (r.before ++ line ∷ []) z) all (lines_push 1 r.before (numbered lines) line t.0 r.good t.1);
+      whole = r.whole ∙ ap (λ z. r.before ++ z) e ∙ sym (append_assoc r.before (line ∷ []) (lines_of others));
+      count_is = simp length-append (omega (arith, r.count_is));
     }
 
-some_cut : (rest front others : List ℕ) → IsCut rest 10 front others → 0 < length rest
-some_cut rest front others c = omega (arith, ap length c.whole, length-append front (10 ∷ others))
-
-pub line_wrong : (file rest line others : List ℕ) (lines : List Line) (last : ℕ) → AreReadLines file lines last rest → IsCut rest 10 line others → ((c : Command) → IsLine line c → ⊥) → IsRefusedAt file (last + 1) 1 Syntax
-line_wrong file rest line others lines last r c n = record {
-  bad = record {
-    before = r.before;
-    lines = numbered lines;
-    rest = rest;
-    good = r.good;
-    whole = r.whole;
-    more = some_cut rest line others c;
-    none = λ other after command l e.
-        let same = cut_same 10 line other others after c.free (line_free other command l) (sym c.whole ∙ e) in
-        n command (subst (λ (z : List ℕ). IsLine z command) (sym same.0) l);
-    place = omega (arith, r.last_is);
-  };
-  first_byte = refl;
-  syntax_ = refl;
+pub line_refused : (file rest line others : List ℕ) (lines : List Line) (count at : ℕ) (why : LineWhy) → AreReadLines file lines count rest → lines_of rest ≡ line ∷ lines_of others
+    → IsLine line (Err (record { at = at; why = why })) → IsRefusedAt file (count + 1) at why
+line_refused file rest line others lines count at why r e l = record {
+  before = r.before;
+  commands = numbered lines;
+  line = line;
+  after = lines_of others;
+  whole = r.whole ∙ ap (λ z. r.before ++ z) e;
+  good = r.good;
+  bad = l;
+  place = omega (arith, r.count_is);
 }
 
-pub line_unended : (file rest : List ℕ) (lines : List Line) (last : ℕ) → AreReadLines file lines last rest → IsFree 10 rest → 0 < length rest → IsRefusedAt file (last + 1) 1 Syntax
-line_unended file rest lines last r f h = record {
-  bad = record {
-    before = r.before;
-    lines = numbered lines;
-    rest = rest;
-    good = r.good;
-    whole = r.whole;
-    more = h;
-    none = λ other after command l e. free_cut 10 other after (subst (IsFree 10) e f);
-    place = omega (arith, r.last_is);
-  };
-  first_byte = refl;
-  syntax_ = refl;
-}
+no_lines : cut_lines [] ≡ []
+unfolding cut_lines
+no_lines = refl
 
-pub lines_done : (file rest : List ℕ) (lines : List Line) (last : ℕ) → AreReadLines file lines last rest → rest ≡ [] → IsFileOf file (numbered lines)
-lines_done file rest lines last r e = rw (r.whole ∙ ap (λ z. r.before ++ z) e ∙ append-nil r.before) r.good
+pub lines_done : (file rest : List ℕ) (lines : List Line) (count : ℕ) → AreReadLines file lines count rest → length rest ≡ 0 → IsFileOf file (numbered lines)
+lines_done file [] lines count r e =
+    let all : r.before ≡ lines_of file = sym (append-nil r.before) ∙ sym (rw (no_lines) at r.whole) in
+    subst (λ z. AreLines 1 z (numbered lines)) all r.good
+lines_done file (b ∷ rest) lines count r e = absurd (omega arith)
 
-pub nothing : (bytes : List ℕ) → length bytes ≡ 0 → bytes ≡ []
-nothing [] e = refl
-nothing (b ∷ bytes) e = absurd (omega arith)
+-- A file that is read fails for want of memory alone.
+pub only_memory : (file : List ℕ) (commands : List Numbered) (e : FileFault) → IsFileOf file commands → IsCauseIn file e → e ≡ NoMemory
+only_memory file commands (BadLine line at why) f c = absurd (not_both file line at why commands c f)
+only_memory file commands NoMemory f c = refl
 
--- the front of a file whose first line is this one
-front_line : (file before rest line after : List ℕ) → file ≡ before ++ rest → before ≡ line ++ 10 ∷ after → file ≡ line ++ 10 ∷ (after ++ rest)
-front_line file before rest line after e f = e ∙ ap (λ z. z ++ rest) f ∙ append_assoc line (10 ∷ after) rest
-
-abbrev BeginsNoLine : List ℕ → Type 0
-BeginsNoLine rest = (line after : List ℕ) (command : Command) → IsLine line command → rest ≡ line ++ 10 ∷ after → ⊥
-
-as_many : (n : ℕ) (file before rest before' rest' : List ℕ) (ls ms : List Numbered) → AreLines n before ls → AreLines n before' ms → file ≡ before ++ rest → file ≡ before' ++ rest' → BeginsNoLine rest → BeginsNoLine rest' → length ls ≡ length ms
-as_many n file before rest before' rest' [] [] a b e f p q = refl
-as_many n file before rest before' rest' [] (m ∷ ms) a b e f p q =
-    absurd (p b.1.0 (b.1.1 ++ rest') m.command b.1.2 (sym (ap (λ z. z ++ rest) a) ∙ sym e ∙ front_line file before' rest' b.1.0 b.1.1 f b.1.3))
-as_many n file before rest before' rest' (l ∷ ls) [] a b e f p q =
-    absurd (q a.1.0 (a.1.1 ++ rest) l.command a.1.2 (sym (ap (λ z. z ++ rest') b) ∙ sym f ∙ front_line file before rest a.1.0 a.1.1 e a.1.3))
-as_many n file before rest before' rest' (l ∷ ls) (m ∷ ms) a b e f p q =
-    let c = cut_same 10 a.1.0 b.1.0 (a.1.1 ++ rest) (b.1.1 ++ rest') (line_free a.1.0 l.command a.1.2) (line_free b.1.0 m.command b.1.2)
-    (sym (front_line file before rest a.1.0 a.1.1 e a.1.3) ∙ front_line file before' rest' b.1.0 b.1.1 f b.1.3) in
-    ap suc (as_many (n + 1) (a.1.1 ++ rest) a.1.1 rest b.1.1 rest' ls ms a.1.4 b.1.4 refl c.1 p q)
-
-pub bad_same : (file : List ℕ) (m n : ℕ) → IsBadLine file m → IsBadLine file n → m ≡ n
-bad_same file m n a b = omega (arith, a.place, b.place, as_many 1 file a.before a.rest b.before b.rest a.lines b.lines a.good b.good a.whole b.whole a.none b.none)
+pub line_cause : (file rest line others : List ℕ) (lines : List Line) (count : ℕ) (e : FileFault) → AreReadLines file lines count rest → lines_of rest ≡ line ∷ lines_of others → IsCauseAt (count + 1) line e
+    → IsCauseIn file e
+line_cause file rest line others lines count (BadLine number at why) r e c =
+    subst (λ n. IsRefusedAt file n at why) (sym c.0) (line_refused file rest line others lines count at why r e c.1)
+line_cause file rest line others lines count NoMemory r e c = tt

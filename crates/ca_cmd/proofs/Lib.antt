@@ -1,7 +1,8 @@
-pub mod Commands
-pub mod Cuts
-pub mod Files
-pub mod Keys
+pub mod Built
+mod Cuts
+mod CutLines
+mod Files
 pub mod Printed
-pub mod Spelled
-pub mod Texts
+mod Same
+mod TermTexts
+mod Words

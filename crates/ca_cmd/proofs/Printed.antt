@@ -9,7 +9,6 @@ use Rattle.ca_cmd.specs.Lines.{numbered}
 use Rattle.ca_cmd.specs.Output.{text_of_answer, answer_lines, client_lines}
 use Rattle.ca_cmd.specs.declared.answer.Answer.{Answer}
 use Rattle.ca_cmd.specs.declared.line.Line.{Line}
-use Rattle.ca_cmd.specs.declared.output.Played.{Played}
 
 pub answers_more : (was now whole : List ℕ) (l : Line) (a : Answer) (ls ls' : List Line) (vs vs' : List Answer) → ls ≡ l ∷ ls' → vs ≡ a ∷ vs' → was ++ answer_lines (numbered ls) (said vs) ≡ whole → now ≡ was ++ decimal l.number ++ codes " " ++ text_of_answer (answered a) ++ codes "\n" → now ++ answer_lines (numbered ls') (said vs') ≡ whole
 answers_more was now whole l a ls ls' vs vs' p q w n =
@@ -28,20 +27,27 @@ answers_done now whole ls vs (inl e) w = sym (append-nil now) ∙ subst (λ (z :
 answers_done now whole ls vs (inr e) w =
     sym (append-nil now) ∙ ap (λ z. now ++ z) (sym (none_left (numbered ls))) ∙ subst (λ (z : List Answer). now ++ answer_lines (numbered ls) (said z) ≡ whole) e w
 
-abbrev files : List Played → List (List Numbered)
-files clients = map (λ (p : Played). numbered p.lines) clients
+pub clients_more : (was now whole : List ℕ) (client : ℕ) (lines : List Numbered) (own : List Answered) (files files' : List (List Numbered)) (answers answers' : List (List Answered)) → files ≡ lines ∷ files' → answers ≡ own ∷ answers'
+    → was ++ client_lines client files answers ≡ whole
+    → now ≡ was ++ codes "client " ++ decimal client ++ codes "\n" ++ answer_lines lines own
+    → now ++ client_lines (client + 1) files' answers' ≡ whole
+clients_more was now whole client lines own files files' answers answers' p q w n =
+    let first : was ++ client_lines client (lines ∷ files') answers ≡ whole = subst (λ (z : List (List Numbered)). was ++ client_lines client z answers ≡ whole) p w in
+    let both : was ++ client_lines client (lines ∷ files') (own ∷ answers') ≡ whole = subst (λ (z : List (List Answered)). was ++ client_lines client (lines ∷ files') z ≡ whole) q first in
+    let regrouped : (was ++ codes "client " ++ decimal client ++ codes "\n" ++ answer_lines lines own) ++ client_lines (client + 1) files' answers' ≡ was ++ client_lines client (lines ∷ files') (own ∷ answers') =
+    simp append_assoc in
+    rw n (regrouped ∙ both)
 
-abbrev answers : List Played → List (List Answered)
-answers clients = map (λ (p : Played). said p.answers.items) clients
+no_clients_left : (client : ℕ) (files : List (List Numbered)) → client_lines client files [] ≡ []
+no_clients_left client [] = refl
+no_clients_left client (lines ∷ files) = refl
 
-pub clients_more : (was now whole : List ℕ) (cs : List Played) (i : ℕ) (c : Played) → i < length cs → c ≡ get_or cs i c
-    → was ++ client_lines (i + 1) (files (drop i cs)) (answers (drop i cs)) ≡ whole
-    → now ≡ was ++ codes "client " ++ decimal (i + 1) ++ codes "\n" ++ answer_lines (numbered c.lines) (said c.answers.items)
-    → now ++ client_lines (i + 1 + 1) (files (drop (i + 1) cs)) (answers (drop (i + 1) cs)) ≡ whole
-clients_more was now whole cs i c h e w n =
-    let next : drop i cs ≡ c ∷ drop (i + 1) cs = rw (add-one, drop-cons cs i c) (ap (λ z. z ∷ drop (suc i) cs) (sym e)) in
-    let here : was ++ client_lines (i + 1) (files (c ∷ drop (i + 1) cs)) (answers (c ∷ drop (i + 1) cs)) ≡ whole =
-    subst (λ (z : List Played). was ++ client_lines (i + 1) (files z) (answers z) ≡ whole) next w in
-    let regrouped : (was ++ codes "client " ++ decimal (i + 1) ++ codes "\n" ++ answer_lines (numbered c.lines) (said c.answers.items)) ++ client_lines (i + 1 + 1) (files (drop (i + 1) cs)) (answers (drop (i + 1) cs))
-    ≡ was ++ client_lines (i + 1) (files (c ∷ drop (i + 1) cs)) (answers (c ∷ drop (i + 1) cs)) = simp append_assoc in
-    rw n (regrouped ∙ here)
+pub clients_done : (now whole : List ℕ) (client : ℕ) (files : List (List Numbered)) (answers : List (List Answered)) → (files ≡ []) ⊎ (answers ≡ []) → now ++ client_lines client files answers ≡ whole → now ≡ whole
+clients_done now whole client files answers (inl e) w = sym (append-nil now) ∙ subst (λ (z : List (List Numbered)). now ++ client_lines client z answers ≡ whole) e w
+clients_done now whole client files answers (inr e) w =
+    sym (append-nil now) ∙ ap (λ z. now ++ z) (sym (no_clients_left client files)) ∙ subst (λ (z : List (List Answered)). now ++ client_lines client files z ≡ whole) e w
+
+pub map_from : {A B : Type 0} (f : A → B) (xs : List A) (i : ℕ) (x : A) → i < length xs → x ≡ get_or xs i x → map f (drop i xs) ≡ f x ∷ map f (drop (i + 1) xs)
+map_from f xs i x h e =
+    let next : drop i xs ≡ x ∷ drop (i + 1) xs = rw (add-one, drop-cons xs i x) (ap (λ z. z ∷ drop (suc i) xs) (sym e)) in
+    ap (map f) next

@@ -1,14 +1,8 @@
--- Command files in their first, narrow form: one command a line, in its one spelling. (The contracts of the crates above
--- stand on the names of this file: Numbered, commands_in, IsFileOf, IsRefusedAt.)
-use Rattle.std.specs.Prelude.{◌≡◌, ℕ, ◌+◌, ◌<◌, ◌≤◌, FitsSigned, true, false, List, [], ◌∷◌, ◌++◌, length, map, codes}
-use Rattle.std.specs.Int.{w64}
-use Rattle.std.specs.List.{list_all}
-use Rattle.std.specs.Char.{is_ascii_lowercase}
-use Rattle.ca_term.specs.Tree.{Tree, Row, Integer, Atom, Tuple, Nil, Cons, Binary, Ends, More, size}
-use Rattle.ca_ets.specs.Command.{Command, Insert, Lookup}
-use Rattle.ca_text.specs.Text.{text_of, is_reserved}
+-- Command files: their lines, the commands in them, and where and why a file is refused.
+use Rattle.std.specs.Prelude.{◌≡◌, ℕ, ◌+◌, ◌==◌, List, [], ◌∷◌, ◌++◌, length, map, Option, None, Some, Ok, Err, if◌then◌else◌}
+use Rattle.ca_ets.specs.Command.{Command}
 use Rattle.ca_cmd.specs.declared.fault.LineWhy.{LineWhy}
-use Rattle.ca_cmd.specs.declared.fault.LineWhy.TheVariants.{Syntax}
+use Rattle.ca_cmd.specs.Content.{IsLine}
 
 -- a command, with the number of its line
 pub record Numbered : Type 0 where
@@ -18,65 +12,46 @@ pub record Numbered : Type 0 where
 abbrev pub commands_in : List Numbered → List Command
 commands_in lines = map (λ (l : Numbered). l.command) lines
 
--- one or more letters a to z, and none of the reserved words
-pub record IsName (text : List ℕ) : Type 0 where
-  pub some : 0 < length text
-  pub letters : list_all is_ascii_lowercase text ≡ true
-  pub free : is_reserved text ≡ false
+-- one more byte in front of the first line
+abbrev pub with_byte : ℕ → List (List ℕ) → List (List ℕ)
+with_byte b [] = (b ∷ []) ∷ []
+with_byte b (line ∷ lines) = (b ∷ line) ∷ lines
 
--- an integer of 64 bits or a name
-abbrev pub IsKey : Tree → Type 0
-IsKey (Integer n) = FitsSigned w64 n
-IsKey (Atom text) = IsName text
-IsKey (Tuple row) = ⊥
-IsKey Nil = ⊥
-IsKey (Cons head tail) = ⊥
-IsKey (Binary bytes) = ⊥
+-- LF ends a line; what stands behind the last LF is a line where it isn't empty
+unfoldable pub cut_lines : List ℕ → List (List ℕ)
+cut_lines [] = []
+cut_lines (b ∷ bytes) = if b == 10 then [] ∷ cut_lines bytes else with_byte b (cut_lines bytes)
 
-abbrev pub AreKeys : Row → Type 0
-AreKeys Ends = Unit {0}
-AreKeys (More t row) = IsKey t × AreKeys row
+-- one CR at a line's end doesn't belong to the line
+unfoldable pub without_cr : List ℕ → List ℕ
+without_cr [] = []
+without_cr (b ∷ []) = if b == 13 then [] else b ∷ []
+without_cr (b ∷ c ∷ line) = b ∷ without_cr (c ∷ line)
 
--- `insert` of a tuple of one or more keys, and `lookup` of a key
-abbrev pub IsSimple : Command → Type 0
-IsSimple (Insert (Tuple row)) = (0 < size row) × AreKeys row
-IsSimple (Lookup k) = IsKey k
-IsSimple command = ⊥
+abbrev pub lines_of : List ℕ → List (List ℕ)
+lines_of file = map without_cr (cut_lines file)
 
-abbrev pub text_of_command : Command → List ℕ
-text_of_command (Insert o) = codes "insert " ++ text_of o
-text_of_command (Lookup k) = codes "lookup " ++ text_of k
-text_of_command command = []
+-- the command that a line of this number holds, if it holds one
+abbrev pub held_at : ℕ → Option Command → List Numbered
+held_at number None = []
+held_at number (Some command) = record { number = number; command = command } ∷ []
 
--- a line of at most 200 bytes, without its end, that holds a command
-pub record IsLine (line : List ℕ) (command : Command) : Type 0 where
-  pub short : length line ≤ 200
-  pub simple : IsSimple command
-  pub text : line ≡ text_of_command command
-
--- These bytes are lines that hold these commands, each line ended by LF, numbered from this number on.
-abbrev pub AreLines : ℕ → List ℕ → List Numbered → Type 0
-AreLines first file [] = file ≡ []
-AreLines first file (l ∷ lines) =
-    (l.number ≡ first) × ((line rest : List ℕ) × IsLine line l.command × (file ≡ line ++ 10 ∷ rest) × AreLines (first + 1) rest lines)
+-- Each of these lines, of which the first has this number, holds a command or none, and these are the commands.
+abbrev pub AreLines : ℕ → List (List ℕ) → List Numbered → Type 0
+AreLines first [] commands = commands ≡ []
+AreLines first (line ∷ lines) commands =
+    (held : Option Command) × (others : List Numbered) × IsLine line (Ok held) × AreLines (first + 1) lines others × (commands ≡ held_at first held ++ others)
 
 abbrev pub IsFileOf : List ℕ → List Numbered → Type 0
-IsFileOf file lines = AreLines 1 file lines
+IsFileOf file commands = AreLines 1 (lines_of file) commands
 
--- The file's first line that isn't of the form has this number: good lines stand before it, something follows them, and
--- what follows doesn't begin with a line of the form.
-pub record IsBadLine (file : List ℕ) (number : ℕ) : Type 0 where
-  pub before : List ℕ
-  pub lines : List Numbered
-  pub rest : List ℕ
-  pub good : AreLines 1 before lines
-  pub whole : file ≡ before ++ rest
-  pub more : 0 < length rest
-  pub none : (line after : List ℕ) (command : Command) → IsLine line command → rest ≡ line ++ 10 ∷ after → ⊥
-  pub place : number ≡ length lines + 1
-
--- The file is refused at this byte of this line, both counted from 1, for this reason.
-pub record IsRefusedAt (file : List ℕ) (line at : ℕ) (why : LineWhy) : Type 0 where
-  pub bad : IsBadLine file line
-  pub first_byte : at ≡ 1
-  pub syntax_ : why ≡ Syntax
+-- The first line that is refused has this number, and it is refused at this byte of it, both counted from 1, for this reason.
+pub record IsRefusedAt (file : List ℕ) (number at : ℕ) (why : LineWhy) : Type 0 where
+  pub before : List (List ℕ)
+  pub commands : List Numbered
+  pub line : List ℕ
+  pub after : List (List ℕ)
+  pub whole : lines_of file ≡ before ++ line ∷ after
+  pub good : AreLines 1 before commands
+  pub bad : IsLine line (Err (record { at = at; why = why }))
+  pub place : number ≡ length before + 1

@@ -1,7 +1,10 @@
 pub mod Answers
+pub mod Argument
+pub mod Content
 pub mod Cut
 pub mod File
-pub mod Found
+pub mod Finds
 pub mod Lines
 pub mod Output
 pub mod Refusal
+pub mod Word

@@ -2,10 +2,10 @@
 #![tactic(auto)]
 
 mod answer;
+mod argument;
 mod command;
 mod cut;
 mod fault;
-mod key;
 mod laws;
 mod line;
 mod output;
@@ -16,7 +16,7 @@ pub use answer::{Answer, show_reply};
 pub use fault::{FileFault, LineWhy};
 pub use laws::file_laws;
 pub use line::{Line, Lines};
-pub use output::{Played, show_run};
+pub use output::show_run;
 pub use reading::read_file;
 
 #[cfg(test)]

@@ -2,7 +2,7 @@
 ghost use Rattle.std.specs.Prelude.{◌≡◌, ◌+◌, ◌<◌, ◌^◌, ◌++◌, map, flat_map, length, IfOk, OnOk};
 ghost use Rattle.ca_cmd.specs.Answers.{said};
 ghost use Rattle.ca_cmd.specs.Lines.{numbered};
-ghost use Rattle.ca_cmd.specs.Output.{answer_lines, object_line, table_text, text_of_run};
+ghost use Rattle.ca_cmd.specs.Output.{answer_lines, client_lines, object_line, table_text, text_of_run};
 
 use crate::answer::{Answer, show_reply};
 use crate::line::{Line, Lines};
@@ -10,31 +10,39 @@ use crate::put::{put, put_number, put_term};
 use ca_term::Term;
 use std::alloc::{AllocError, Global};
 
-/// A client's lines, with an answer for each.
-#[derive(Drop)]
-pub struct Played {
-    pub lines: Lines,
-    pub answers: Vec<Answer>,
-}
-
-/// The whole output: the answers of the clients, and the table. Where a client has fewer answers than lines, or fewer
-/// lines than answers, the shorter of the two decides how many are shown.
-pub fn show_run(alloc: Global, clients: &[Played], table: &[Term]) -> Result<Vec<u8>, AllocError>
-    ensures { IfOk result (λ bytes. bytes.items ≡ text_of_run (map (λ client. numbered client.lines) clients.now) (map (λ client. said client.answers.items) clients.now) table.now) }
+/// The whole output: the answers of each client to its lines, and the table. Where a client has fewer answers than lines,
+/// or fewer lines than answers, the shorter of the two decides how many are shown; so do the two lists of clients.
+pub fn show_run(
+    alloc: Global,
+    files: &[Lines],
+    answers: &[Vec<Answer>],
+    table: &[Term],
+) -> Result<Vec<u8>, AllocError>
+    ensures { IfOk result (λ bytes. bytes.items ≡ text_of_run (map numbered files.now) (map (λ a. said a.items) answers.now) table.now) }
 {
     let mut bytes = Vec::new(alloc);
-    for (i, client) in clients.iter().enumerate() {
-        put(b"client ", &mut bytes)?;
-        put_number(i as u64 + 1, &mut bytes)?;
-        put(b"\n", &mut bytes)?;
-        put_answers(
-            client.lines.as_slice(),
-            client.answers.as_slice(),
-            &mut bytes,
-        )?;
-    }
+    put_clients(files, answers, &mut bytes)?;
     put_table(table, &mut bytes)?;
     Ok(bytes)
+}
+
+fn put_clients(
+    files: &[Lines],
+    answers: &[Vec<Answer>],
+    into: &mut Vec<u8>,
+) -> Result<(), AllocError>
+    ensures { OnOk result (into.new.items ≡ into.old.items ++ client_lines 1 (map numbered files.now) (map (λ a. said a.items) answers.now)) }
+{
+    for (i, lines) in files.iter().enumerate() {
+        let Some(own) = answers.get(i) else {
+            return Ok(());
+        };
+        put(b"client ", into)?;
+        put_number(i as u64 + 1, into)?;
+        put(b"\n", into)?;
+        put_answers(lines.as_slice(), own.as_slice(), into)?;
+    }
+    Ok(())
 }
 
 // A client's lines, each with its number and its answer.

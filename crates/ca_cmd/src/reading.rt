@@ -1,28 +1,41 @@
 //! Command files.
-ghost use Rattle.std.specs.Prelude.{◌≡◌, ◌≤◌, List, length, IfOk, IfErr, MatchResult};
+ghost use Rattle.std.specs.Prelude.{◌≡◌, ◌≤◌, ◌++◌, List, length, option_map, IfOk, IfErr, MatchResult};
 ghost use Rattle.ca_cmd.specs.File.{Numbered, IsFileOf};
 ghost use Rattle.ca_cmd.specs.Lines.{numbered};
-ghost use Rattle.ca_cmd.specs.Refusal.{IsCauseIn};
+ghost use Rattle.ca_cmd.specs.Refusal.{IsCauseIn, IsTaken, IsCauseAt};
 
-use crate::command::read_command;
-use crate::cut::cut_at;
-use crate::fault::{FileFault, LineWhy};
+use crate::command::read_line;
+use crate::cut::cut_line;
+use crate::fault::{FileFault, LineFault};
 use crate::line::{Line, Lines};
 use std::alloc::Global;
 
-// A line that isn't of the form is refused as a whole, at its first byte.
-fn bad_line(line: u32) -> FileFault
-    ensures { result ≡ FileFault.BadLine line 1 LineWhy.Syntax }
+// Reads the line of this number, and adds its command.
+fn take_line(
+    alloc: Global,
+    number: u32,
+    line: &[u8],
+    lines: &mut Vec<Line>,
+) -> Result<(), FileFault>
+    ensures taken { IfOk result (λ _. IsTaken number line.now lines.old.items lines.new.items) }
+    ensures refused { IfErr result (λ e. IsCauseAt number line.now e) }
 {
-    FileFault::BadLine {
-        line,
-        at: 1,
-        why: LineWhy::Syntax,
+    match read_line(alloc, line) {
+        Ok(None) => Ok(()),
+        Ok(Some(cmd)) => Ok(lines.push(Line { number, cmd })?),
+        Err(LineFault::Refused { at, why }) => Err(FileFault::BadLine {
+            line: number,
+            at,
+            why,
+        }),
+        Err(LineFault::NoMemory) => Err(FileFault::NoMemory),
     }
 }
 
-#[tactic(auto, using(crate::proofs::Files::lines_start, crate::proofs::Files::lines_done))]
-/// The commands of a file, with their lines' numbers. A file has at most 16,777,216 bytes.
+/// The commands of a file, with their lines' numbers, counted from 1. A file has at most 16,777,216 bytes.
+///
+/// A line is ended by LF, or by CR and LF; the last one needs no LF. It holds a command word and its arguments, each behind
+/// at least one blank, a space or a tab; or nothing but blanks, or a comment, which begins with `%`.
 pub fn read_file(alloc: Global, bytes: &[u8]) -> Result<Lines, FileFault>
     requires { length bytes.now ≤ 16777216 }
     ensures read { IfOk result (λ lines. IsFileOf bytes.now (numbered lines)) }
@@ -34,13 +47,8 @@ pub fn read_file(alloc: Global, bytes: &[u8]) -> Result<Lines, FileFault>
     let mut number = 0;
     while !rest.is_empty() {
         number += 1;
-        let Some((line, others)) = cut_at(rest, b'\n') else {
-            return Err(bad_line(number));
-        };
-        let Some(cmd) = read_command(alloc, line)? else {
-            return Err(bad_line(number));
-        };
-        lines.push(Line { number, cmd })?;
+        let (line, others) = cut_line(rest);
+        take_line(alloc, number, line, &mut lines)?;
         rest = others;
     }
     Ok(Lines::from_vec(lines))

@@ -3,6 +3,7 @@ use ca_ets::{Cmd, Fault, Reply};
 use ca_term::{Terms, atom, int};
 use ca_text::print_term;
 use std::alloc::{AllocError, Global};
+use std::process::Abort;
 use std::test::Fail;
 
 // A command as a line shows it.
@@ -22,88 +23,174 @@ fn spelled(alloc: Global, cmd: &Cmd) -> Result<Vec<u8>, AllocError> {
     Ok(text)
 }
 
-fn refusal(alloc: Global, file: &[u8]) -> Option<FileFault> {
+// The commands of a file, each with its line's number and a dot.
+fn listed(alloc: Global, file: &[u8]) -> Result<Vec<u8>, Fail> {
     if file.len() > 1000 {
-        return None;
+        return Ok(Vec::new(alloc));
     }
-    read_file(alloc, file).err()
-}
-
-fn at_line(line: u32) -> Option<FileFault> {
-    Some(FileFault::BadLine {
-        line,
-        at: 1,
-        why: LineWhy::Syntax,
-    })
+    let lines = read_file(alloc, file)?;
+    let mut text = Vec::new(alloc);
+    for line in lines.as_slice() {
+        let cmd = spelled(alloc, &line.cmd)?;
+        text.extend_from_slice(format!(in alloc; "{} ", line.number)?.as_bytes())?;
+        text.extend_from_slice(cmd.as_slice())?;
+        text.push(b'.')?;
+    }
+    Ok(text)
 }
 
 #[test]
 fn reads_commands(rt: HostRuntime) -> Result<(), Fail> {
     let alloc = rt.alloc();
-    let file =
-        b"insert {1,a}\nlookup 1\ninsert {maybes,-9223372036854775808,0}\nlookup 9223372036854775807\n";
-    let lines = read_file(alloc, file)?;
-    assert_eq!(rt; lines.len(), 4);
-    let mut again = Vec::new(alloc);
-    for (i, line) in lines.as_slice().iter().enumerate() {
-        assert_eq!(rt; line.number as usize, i + 1);
-        again.extend_from_slice(spelled(alloc, &line.cmd)?.as_slice())?;
-        again.push(b'\n')?;
-    }
-    assert_eq!(rt; again.as_slice(), file.as_slice());
-    assert!(rt; read_file(alloc, b"")?.is_empty());
-    Ok(())
-}
-
-#[test]
-fn refuses_other_lines(rt: HostRuntime) -> Result<(), Fail> {
-    let alloc = rt.alloc();
-    for line in [
-        b"insert {01}\n".as_slice(),
-        b"insert {-0}\n",
-        b"insert {+1}\n",
-        b"insert {and}\n",
-        b"insert {1, 2}\n",
-        b"insert {}\n",
-        b"insert {1,}\n",
-        b"insert {,1}\n",
-        b"insert {{1}}\n",
-        b"insert 1\n",
-        b"insert  {1}\n",
-        b"Insert {1}\n",
-        b"delete 1\n",
-        b"lookup {1}\n",
-        b"lookup \n",
-        b"lookup 1 \n",
-        b"lookup aB\n",
-        b"lookup a1\n",
-        b"lookup \xff\n",
-        b"lookup 9223372036854775808\n",
-        b"lookup -9223372036854775809\n",
-        b"lookup 1\r\n",
-        b"lookup 1",
-        b"\n",
+    for (file, commands) in [
+        (b"".as_slice(), ""),
+        (b"\n", ""),
+        (b"\r", ""),
+        (
+            b"% note\r\n\n  insert  { 1 , 'a' }\r\nlookup 1",
+            "3 insert {1,a}.4 lookup 1.",
+        ),
+        (
+            b"\tinsert\t \t{'B',\"c\"} \n \t\n\t%\n\r\nlookup <<1>>\r",
+            "1 insert {'B',[99]}.5 lookup <<1>>.",
+        ),
+        (
+            b"lookup end\nlookup -007 \n%lookup 2",
+            "1 lookup 'end'.2 lookup -7.",
+        ),
+        ("lookup 'é'\n% é\n".as_bytes(), "1 lookup 'é'."),
     ] {
-        assert_eq!(rt; refusal(alloc, line), at_line(1), "{line:?}");
-        let mut file = b"lookup a\nlookup b\n".to_vec(alloc)?;
-        file.extend_from_slice(line)?;
-        assert_eq!(rt; refusal(alloc, file.as_slice()), at_line(3), "{line:?}");
+        assert_eq!(rt; listed(alloc, file)?.as_slice(), commands.as_bytes());
     }
     Ok(())
 }
 
-#[test]
-fn counts_a_lines_bytes(rt: HostRuntime) -> Result<(), Fail> {
-    let alloc = rt.alloc();
-    let mut file = b"lookup ".to_vec(alloc)?;
-    for _ in 0..193 {
-        file.push(b'a')?;
+fn refusal(alloc: Global, file: &[u8]) -> Option<FileFault> {
+    if file.len() > 20_000 {
+        return None;
     }
-    file.push(b'\n')?;
-    assert_eq!(rt; refusal(alloc, file.as_slice()), None);
-    file.truncate(200);
-    file.extend_from_slice(b"a\n")?;
-    assert_eq!(rt; refusal(alloc, file.as_slice()), at_line(1));
+    read_file(alloc, file).err()
+}
+
+// The text stands alone in the first line of a file, and between others in the fourth one.
+fn is_refused<R: Abort + AllocGlobal>(
+    rt: &R,
+    text: &[u8],
+    at: u32,
+    why: LineWhy,
+) -> Result<(), Fail> {
+    let alloc = rt.alloc();
+    assert_eq!(rt;
+        refusal(alloc, text),
+        Some(FileFault::BadLine { line: 1, at, why })
+    );
+    let mut file = b"%\n\nlookup a\r\n".to_vec(alloc)?;
+    file.extend_from_slice(text)?;
+    file.extend_from_slice(b"\r\n?\n")?;
+    assert_eq!(rt;
+        refusal(alloc, file.as_slice()),
+        Some(FileFault::BadLine { line: 4, at, why })
+    );
+    Ok(())
+}
+
+#[test]
+fn refuses_lines(rt: HostRuntime) -> Result<(), Fail> {
+    for (text, at, why) in [
+        (b"\xff".as_slice(), 1, LineWhy::NotUtf8),
+        (b"? \xe2\x82", 3, LineWhy::NotUtf8),
+        (b"%\xc3", 2, LineWhy::NotUtf8),
+        (b"lookup 1\xed\xa0\x80", 9, LineWhy::NotUtf8),
+        (b"?", 1, LineWhy::UnknownWord),
+        (b" \t Insert {1}", 4, LineWhy::UnknownWord),
+        (b"insert{1}", 1, LineWhy::UnknownWord),
+        (b"lookup% 1", 1, LineWhy::UnknownWord),
+        (b"\r\r\r", 1, LineWhy::UnknownWord),
+        (b"insert", 7, LineWhy::Absent),
+        (b"\tlookup \t ", 11, LineWhy::Absent),
+        (b"lookup %", 8, LineWhy::Syntax),
+        (b"insert {1,", 11, LineWhy::Syntax),
+        (b"insert {9223372036854775808}", 27, LineWhy::Syntax),
+        (b"lookup 1x", 9, LineWhy::Syntax),
+        (b"lookup {1}%", 11, LineWhy::Syntax),
+        (b"lookup 1\r\r", 9, LineWhy::Syntax),
+        (b"lookup 1 2", 10, LineWhy::Extra),
+        (b"insert  {} \t% no", 13, LineWhy::Extra),
+    ] {
+        is_refused(&rt, text, at, why)?;
+    }
+    Ok(())
+}
+
+// A front, a part as often as that, and an end.
+fn repeated(
+    alloc: Global,
+    front: &[u8],
+    part: &[u8],
+    times: u32,
+    end: &[u8],
+) -> Result<Vec<u8>, AllocError> {
+    let mut text = front.to_vec(alloc)?;
+    for _ in 0..times {
+        text.extend_from_slice(part)?;
+    }
+    text.extend_from_slice(end)?;
+    Ok(text)
+}
+
+#[test]
+fn refuses_long_lines(rt: HostRuntime) -> Result<(), Fail> {
+    let alloc = rt.alloc();
+    for (front, part, times, end, at, why) in [
+        (
+            b"".as_slice(),
+            b"%".as_slice(),
+            8193,
+            b"".as_slice(),
+            8193,
+            LineWhy::LineTooLong,
+        ),
+        (b"lookup 1", b" ", 8185, b"", 8193, LineWhy::LineTooLong),
+        (b"lookup 1", b" ", 8183, b"x", 8192, LineWhy::Extra),
+        (b"", b" ", 8191, b"?", 8192, LineWhy::UnknownWord),
+        (b"insert", b"\t", 8186, b"", 8193, LineWhy::Absent),
+        (b"lookup ", b"a", 256, b"", 263, LineWhy::AtomTooLong),
+        (b"lookup '", b"a", 256, b"'", 264, LineWhy::AtomTooLong),
+        (b"lookup ", b"{", 64, b"1", 72, LineWhy::TooDeep),
+        (b"lookup {0", b",0", 120, b"}", 248, LineWhy::TooWide),
+    ] {
+        let text = repeated(alloc, front, part, times, end)?;
+        is_refused(&rt, text.as_slice(), at, why)?;
+    }
+    for (front, part, times) in [
+        (b"lookup 1".as_slice(), b" ".as_slice(), 8184),
+        (b"%", b"?", 8191),
+        (b"", b"\t", 8192),
+    ] {
+        let text = repeated(alloc, front, part, times, b"\r\n")?;
+        assert_eq!(rt; refusal(alloc, text.as_slice()), None);
+    }
+    Ok(())
+}
+
+// What the front of so many bytes of a line, whose argument ends with its last byte, is refused for.
+fn front_fault(length: u8) -> Option<FileFault> {
+    let (at, why) = match length {
+        0 => return None,
+        1..=5 => (1, LineWhy::UnknownWord),
+        6 | 7 => (u32::from(length) + 1, LineWhy::Absent),
+        _ => (u32::from(length) + 1, LineWhy::Syntax),
+    };
+    Some(FileFault::BadLine { line: 1, at, why })
+}
+
+#[test]
+fn refuses_fronts(rt: HostRuntime) -> Result<(), Fail> {
+    let line = b"insert { 1 ,-2,[a|\"b\"],'c d\\x{e9}',<<3, \"4\">>,{}}";
+    for (i, _) in line.iter().enumerate().take(200) {
+        assert_eq!(rt; refusal(rt.alloc(), &line[..i]), front_fault(i as u8));
+    }
+    assert_eq!(rt; refusal(rt.alloc(), line), None);
     Ok(())
 }
 
@@ -152,17 +239,13 @@ fn shows_a_run(rt: HostRuntime) -> Result<(), Fail> {
     let mut answers = Vec::new(alloc);
     answers.push(Answer::Replied(Reply::Truth(true)))?;
     answers.push(Answer::Full)?;
-    let mut clients = Vec::new(alloc);
-    clients.push(Played {
-        lines: read_file(alloc, b"insert {1}\nlookup 1\n")?,
-        answers,
-    })?;
-    clients.push(Played {
-        lines: read_file(alloc, b"")?,
-        answers: Vec::new(alloc),
-    })?;
+    let files = [
+        read_file(alloc, b"insert {1}\nlookup 1\n")?,
+        read_file(alloc, b"")?,
+    ];
+    let answers = [answers, Vec::new(alloc)];
     let table = [int(1), int(-2)];
-    let text = show_run(alloc, clients.as_slice(), &table)?;
+    let text = show_run(alloc, &files, &answers, &table)?;
     assert_eq!(rt;
         text.as_slice(),
         b"client 1\n1 true\n2 refused full\nclient 2\ntable\n1.\n-2.\nend 2\n".as_slice()

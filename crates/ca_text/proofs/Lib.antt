@@ -1,2 +1,16 @@
+pub mod Again
+pub mod Characters
+pub mod Complete
 pub mod Fronts
+pub mod Loops
+pub mod Names
 pub mod Nonempty
+pub mod Numbers
+pub mod Points
+pub mod PointsAgain
+pub mod Printed
+pub mod ReadFront
+pub mod Refusals
+pub mod Sound
+pub mod Texts
+pub mod Tools

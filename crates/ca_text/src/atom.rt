@@ -21,7 +21,7 @@ pub fn is_reserved(text: &str) -> bool
     RESERVED.contains(&text)
 }
 
-fn is_name_char(c: u8) -> bool
+pub(crate) fn is_name_char(c: u8) -> bool
     ensures { result ≡ is_name_char c }
 {
     c.is_ascii_alphanumeric() || c == b'_' || c == b'@'

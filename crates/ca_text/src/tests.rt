@@ -1,6 +1,7 @@
 use super::*;
-use ca_term::{Term, TermFault, Terms, atom, bin, cons, int, nil, tuple};
-use std::alloc::Global;
+use ca_term::{Term, TermFault, Terms, atom, bin, cons, int, nil, term_order, tuple};
+use std::alloc::{AllocError, Global};
+use std::cmp::Ordering;
 use std::process::Abort;
 use std::test::Fail;
 
@@ -95,4 +96,198 @@ fn lists_and_tuples(rt: HostRuntime) -> Result<(), Fail> {
         tuple(pair(alloc, nil(), bin(alloc, b"x")?)?)?,
     )?;
     check(&rt, &nested, "[[1,[]],[1,2|3]|{[],<<\"x\">>}]")
+}
+
+fn reads<R: Abort + AllocGlobal>(
+    rt: &R,
+    text: &str,
+    term: &Term,
+    length: usize,
+) -> Result<(), Fail> {
+    let Ok((read, n)) = read_term(rt.alloc(), text.as_bytes()) else {
+        panic!(rt; "{text} is a text");
+    };
+    assert!(rt;
+        term_order(&read, term) == Ordering::Equal,
+        "{text} is read as another term"
+    );
+    assert_eq!(rt; n, length);
+    Ok(())
+}
+
+#[test]
+fn texts_of_terms(rt: HostRuntime) -> Result<(), Fail> {
+    let alloc = rt.alloc();
+    let two = tuple(pair(alloc, int(1), int(2))?)?;
+    for (text, length) in [("{1,2} x", 5), ("{ 1\t, 2 }", 9), ("{01,002}}", 8)] {
+        reads(&rt, text, &two, length)?;
+    }
+    let improper = list(alloc, pair(alloc, int(1), int(2))?, int(3))?;
+    for (text, length) in [
+        ("[1,2|3]", 7),
+        ("[1|[2|3]]", 9),
+        ("[ 1 | [ 2 | 3 ] ] ]", 17),
+    ] {
+        reads(&rt, text, &improper, length)?;
+    }
+    let proper = list(alloc, pair(alloc, int(97), int(233))?, nil())?;
+    for (text, length) in [
+        ("[97,233]", 8),
+        ("\"aé\"", 5),
+        ("\"\\x{61}\\x{0000E9}\"", 18),
+        ("[97|\"é\"]", 9),
+        ("[97|[233|[]]]", 13),
+    ] {
+        reads(&rt, text, &proper, length)?;
+    }
+    for (value, text, length) in [
+        (1, "1x", 1),
+        (0, "-0", 2),
+        (i64::MAX, "9223372036854775807", 19),
+        (i64::MIN, "-9223372036854775808", 20),
+    ] {
+        reads(&rt, text, &int(value), length)?;
+    }
+    for (name, text, length) in [
+        ("aB_9@x", "aB_9@x-", 6),
+        ("and", "and", 3),
+        ("", "''", 2),
+        ("'\\\"\n\r\t €𝄞", "'\\'\\\\\\\"\\n\\r\\t\\s€\\x{1d11E}'", 28),
+    ] {
+        reads(&rt, text, &atom(alloc, name)?, length)?;
+    }
+    for (bytes, text, length) in [
+        (b"".as_slice(), "<< >>", 5),
+        (b"ab\x00\xffc", "<<\"ab\",000, 255 ,\"c\">>", 22),
+        (b"", "<<\"\">>", 6),
+    ] {
+        reads(&rt, text, &bin(alloc, bytes)?, length)?;
+    }
+    for text in ["[]", "[ ]", "\"\""] {
+        reads(&rt, text, &nil(), text.len())?;
+    }
+    Ok(())
+}
+
+// A text with this in place of its last character so many times.
+fn many(
+    alloc: Global,
+    front: &str,
+    part: &str,
+    count: usize,
+    end: &str,
+) -> Result<String, AllocError> {
+    let mut text = front.to_string(alloc)?;
+    for _ in 0..count {
+        text.push_str(part)?;
+    }
+    text.push_str(end)?;
+    Ok(text)
+}
+
+#[test]
+fn places_of_faults(rt: HostRuntime) -> Result<(), Fail> {
+    for (text, at) in [
+        ("", 0),
+        (" 1", 0),
+        ("X", 0),
+        ("_", 0),
+        ("-", 1),
+        ("-a", 1),
+        ("{1 2}", 3),
+        ("{1,}", 3),
+        ("{,}", 1),
+        ("[1|]", 3),
+        ("[|1]", 1),
+        ("[1|2,3]", 4),
+        ("[1|2", 4),
+        ("[1|[2|[3]]", 10),
+        ("\"\\q\"", 2),
+        ("'a", 2),
+        ("'\n'", 1),
+        ("'\\x{}'", 4),
+        ("'\\x{d800}'", 8),
+        ("'\\x{00d800}'", 9),
+        ("'\\x{110000}'", 9),
+        ("'\\x{0000001}'", 10),
+        ("<<256>>", 4),
+        ("<<-1>>", 2),
+        ("<<1 2>>", 4),
+        ("<<1>", 4),
+        ("<<\"\\x{80}\">>", 7),
+        ("<<\"é\">>", 3),
+        ("<<1,>>", 4),
+        ("9223372036854775808", 18),
+        ("-9223372036854775809", 19),
+    ] {
+        assert_eq!(rt;
+            read_term(rt.alloc(), text.as_bytes()).err(),
+            Some(TextFault::Syntax { at })
+        );
+    }
+    for (bytes, at) in [
+        (b"'\xff'".as_slice(), 1),
+        (b"'\xc3'", 2),
+        (b"'\xed\xa0\x80'", 2),
+        (b"'\xf4\x90\x80\x80'", 2),
+        (b"'\xe2\x82'", 3),
+    ] {
+        assert_eq!(rt;
+            read_term(rt.alloc(), bytes).err(),
+            Some(TextFault::Syntax { at })
+        );
+    }
+    Ok(())
+}
+
+#[test]
+fn bounds(rt: HostRuntime) -> Result<(), Fail> {
+    let alloc = rt.alloc();
+    for (front, part, count, end, fault) in [
+        ("", "a", 256, "", Some(TextFault::AtomTooLong { at: 255 })),
+        ("", "a", 255, "-", None),
+        ("'", "\\n", 255, "'", None),
+        (
+            "'",
+            "\\n",
+            256,
+            "'",
+            Some(TextFault::AtomTooLong { at: 511 }),
+        ),
+        ("'", "é", 255, "\n'", Some(TextFault::Syntax { at: 511 })),
+        ("", "[", 64, "", Some(TextFault::Syntax { at: 64 })),
+        ("", "[", 64, "-", Some(TextFault::TooDeep { at: 64 })),
+        ("", "[", 65, "", Some(TextFault::TooDeep { at: 64 })),
+        ("", "[", 64, "X", Some(TextFault::Syntax { at: 64 })),
+        ("", "{", 64, " \"", Some(TextFault::TooDeep { at: 65 })),
+        ("", "[", 63, "\"a", Some(TextFault::TooDeep { at: 64 })),
+        ("{1", ",1", 119, "}", None),
+        (
+            "{1",
+            ",1",
+            119,
+            " ,1}",
+            Some(TextFault::TooWide { at: 241 }),
+        ),
+        ("[1", "|[1", 100, "", Some(TextFault::Syntax { at: 302 })),
+    ] {
+        let text = many(alloc, front, part, count, end)?;
+        assert_eq!(rt; read_term(alloc, text.as_bytes()).err(), fault);
+    }
+    Ok(())
+}
+
+// The loops along a tail: a list may be longer than the stack is deep.
+#[test]
+fn long_lists(rt: HostRuntime) -> Result<(), Fail> {
+    let mut list = nil();
+    for _ in 0..100_000 {
+        list = cons(rt.alloc(), int(7), list)?;
+    }
+    let mut into = Vec::new(rt.alloc());
+    print_term(&list, &mut into)?;
+    assert_eq!(rt; into.len(), 200_001);
+    assert!(rt; into.as_slice().starts_with(b"[7,7,"));
+    assert!(rt; into.as_slice().ends_with(b",7]"));
+    Ok(())
 }

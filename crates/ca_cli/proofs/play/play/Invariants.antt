@@ -9,5 +9,5 @@ use Rattle.ca_cli.proofs.play.play.Given as goal
 abbrev pub invariant-loop-line : goal.invariant-loop-line
 invariant-loop-line l = record {
   keypos : l.table.keypos ≡ l.initial.table.keypos;
-  playing : IsPlaying l.initial.table.keypos (commands_in (numbered l.lines)) l.line-index l.table.objects (continuation_of l.cont) (said l.answers.items);
+  playing : IsPlaying l.initial.table.keypos l.initial.table.objects (commands_in (numbered l.lines)) l.line-index l.table.objects (continuation_of l.cont) (said l.answers.items);
 }

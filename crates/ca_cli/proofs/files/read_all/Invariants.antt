@@ -1,0 +1,13 @@
+use Rattle.std.proofs.Common.{◌≡◌, ℕ, ◌≤◌, List, map, take}
+use Rattle.std.specs.String.{string_bytes}
+use Rattle.ca_cmd.specs.Lines.{numbered}
+use Rattle.ca_cli.proofs.Accepted.{IsReading}
+use Rattle.ca_cli.proofs.files.read_all.Given as goal
+
+abbrev pub invariant-loop-name : goal.invariant-loop-name
+invariant-loop-name g l = record {
+  number : l.number ≡ l.name-index;
+  reading : IsReading (g.F.Shelf.content l.initial.shelf) (map string_bytes (take l.name-index l.names)) (map numbered l.all.items) l.room;
+  later : g.F.Shelf.faults l.initial.shelf ≤ g.F.Shelf.faults l.shelf;
+  same : (n : List ℕ) → g.F.Shelf.content l.shelf n ≡ g.F.Shelf.content l.initial.shelf n;
+}

@@ -1,0 +1,186 @@
+-- Reading one part after another, as a loop does.
+use Rattle.std.proofs.Common.{◌≡◌, ℕ, suc, ◌-◌, ◌+◌, ◌<◌, ◌≤◌, Bool, true, false, List, [], ◌∷◌, ◌++◌, None, Some, Result, Ok, Err, refl, sym, ap, ◌∙◌, append_assoc, arith, add-one}
+use Rattle.std.proofs.lemmas.List.{append-nil}
+use Rattle.ca_text.specs.declared.fault.Fault.{Fault}
+use Rattle.ca_text.specs.declared.fault.Why.{Why}
+use Rattle.ca_text.specs.declared.fault.Stop.{Stop}
+use Rattle.ca_text.specs.declared.fault.Stop.TheVariants as stop
+use Rattle.ca_text.specs.Reading.{◌>>=◌, Read, Fails, characters_at, next_point_at, closing_at, with_front, syntax_fault, series_at, skip, expect, Head, Inner, Last, cell_step, cells_at, brackets_at, conses, with_heads}
+use Rattle.ca_term.specs.Tree.{Tree, Cons}
+
+regroup : {B : Type 0} (front xs : List B) (read : Read (List B)) → with_front front (with_front xs read) ≡ with_front (front ++ xs) read
+regroup {B} front xs (Ok x) = ap (λ (cs : List B). Ok (cs, x.1)) (sym (append_assoc front xs x.0))
+regroup front xs (Err f) = refl
+
+conses-append : (ts us : List Tree) (tail : Tree) → conses (ts ++ us) tail ≡ conses ts (conses us tail)
+conses-append [] us tail = refl
+conses-append (t ∷ ts) us tail = ap (λ x. Cons t x) (conses-append ts us tail)
+
+abbrev listed : List Tree → Tree → Result (List ℕ) Fault → Read Tree
+listed heads t r = ◌>>=◌ {B = Tree × List ℕ} r (λ rest. Ok (conses heads t, rest))
+
+bracketed_head : (heads : List Tree) (head t : Tree) (r : Result (List ℕ) Fault) → listed heads (Cons head t) r ≡ listed (heads ++ head ∷ []) t r
+bracketed_head heads head t (Ok rest) = ap (λ (x : Tree). Ok (x, rest)) (sym (conses-append heads (head ∷ []) t))
+bracketed_head heads head t (Err f) = refl
+
+regroup_head : (heads : List Tree) (head : Tree) (owed : ℕ) (read : Read Tree) → with_heads heads owed (read >>= λ x. Ok (Cons head x.0, x.1)) ≡ with_heads (heads ++ head ∷ []) owed read
+regroup_head heads head owed (Ok x) = bracketed_head heads head x.0 (brackets_at owed x.1)
+regroup_head heads head owed (Err f) = refl
+
+regroup_bracket : (heads : List Tree) (head t : Tree) (owed : ℕ) (r : Result (List ℕ) Fault)
+    → with_heads heads owed (◌>>=◌ {B = Tree × List ℕ} r (λ after. Ok (Cons head t, after))) ≡ listed (heads ++ head ∷ []) t (r >>= λ rest. brackets_at owed rest)
+regroup_bracket heads head t owed (Ok after) = bracketed_head heads head t (brackets_at owed after)
+regroup_bracket heads head t owed (Err f) = refl
+
+regroup_inner : (heads : List Tree) (head : Tree) (owed : ℕ) (read : Read Tree)
+    → with_heads heads owed (read >>= λ x. ◌>>=◌ {B = Tree × List ℕ} (expect 93 (skip x.1)) (λ after. Ok (Cons head x.0, after))) ≡ with_heads (heads ++ head ∷ []) (suc owed) read
+unfolding brackets_at
+regroup_inner heads head owed (Ok x) = regroup_bracket heads head x.0 owed (expect 93 (skip x.1))
+regroup_inner heads head owed (Err f) = refl
+
+module _ (over : Why) (close most limit i : ℕ) (front bytes : List ℕ) (total : Read (List ℕ)) where
+  pub points_go_on : (c : ℕ) (after : List ℕ) → i < limit → next_point_at close most bytes ≡ Ok (Some c, after)
+      → with_front front (characters_at over close most (limit - i) bytes) ≡ total → with_front (front ++ c ∷ []) (characters_at over close most (limit - (i + 1)) after) ≡ total
+  unfolding characters_at
+  points_go_on c after lt h so_far =
+      let k : limit - i ≡ suc (limit - (i + 1)) = omega arith in
+      let one : with_front front (characters_at over close most (limit - i) bytes) ≡ with_front (front ++ c ∷ []) (characters_at over close most (limit - (i + 1)) after) = rw (k, h) (regroup front (c ∷ []) (characters_at over close most (limit - (i + 1)) after)) in
+      sym one ∙ so_far
+
+  pub points_closed : (after : List ℕ) → i < limit → next_point_at close most bytes ≡ Ok (None, after)
+      → with_front front (characters_at over close most (limit - i) bytes) ≡ total → total ≡ Ok (front, after)
+  unfolding characters_at
+  points_closed after lt h so_far =
+      let k : limit - i ≡ suc (limit - (i + 1)) = omega arith in
+      let one : with_front front (characters_at over close most (limit - i) bytes) ≡ Ok (front, after) = rw (k, h) (ap (λ (cs : List ℕ). Ok (cs, after)) (append-nil front)) in
+      sym so_far ∙ one
+
+  pub points_fail : (e : Stop) → i < limit → Fails e (next_point_at close most bytes)
+      → with_front front (characters_at over close most (limit - i) bytes) ≡ total → Fails e total
+  unfolding characters_at
+  points_fail stop.NoMemory lt h so_far = tt
+  points_fail (stop.At f) lt h so_far =
+      let k : limit - i ≡ suc (limit - (i + 1)) = omega arith in
+      let one : with_front front (characters_at over close most (limit - i) bytes) ≡ Err f = rw (k, h) refl in
+      sym so_far ∙ one
+
+  pub points_end : (after : List ℕ) → limit ≤ i → closing_at over close most bytes ≡ Ok after
+      → with_front front (characters_at over close most (limit - i) bytes) ≡ total → total ≡ Ok (front, after)
+  unfolding characters_at
+  points_end after le h so_far =
+      let k : limit - i ≡ 0 = omega arith in
+      let one : with_front front (characters_at over close most (limit - i) bytes) ≡ Ok (front, after) = rw (k, h) (ap (λ (cs : List ℕ). Ok (cs, after)) (append-nil front)) in
+      sym so_far ∙ one
+
+  pub points_end_fail : (e : Stop) → limit ≤ i → Fails e (closing_at over close most bytes)
+      → with_front front (characters_at over close most (limit - i) bytes) ≡ total → Fails e total
+  unfolding characters_at
+  points_end_fail stop.NoMemory le h so_far = tt
+  points_end_fail (stop.At f) le h so_far =
+      let k : limit - i ≡ 0 = omega arith in
+      let one : with_front front (characters_at over close most (limit - i) bytes) ≡ Err f = rw (k, h) refl in
+      sym so_far ∙ one
+
+module _ {B : Type 0} (step : ℕ → List ℕ → Read (List B × Bool)) (limit i : ℕ) (front : List B) (bytes : List ℕ) (total : Read (List B)) where
+  pub series_goes_on : (xs : List B) (after : List ℕ) → i < limit → step (limit - (i + 1)) bytes ≡ Ok ((xs, true), after)
+      → with_front front (series_at step (limit - i) bytes) ≡ total → with_front (front ++ xs) (series_at step (limit - (i + 1)) after) ≡ total
+  unfolding series_at
+  series_goes_on xs after lt h so_far =
+      let k : limit - i ≡ suc (limit - (i + 1)) = omega arith in
+      let one : with_front front (series_at step (limit - i) bytes) ≡ with_front (front ++ xs) (series_at step (limit - (i + 1)) after) = rw (k, h) (regroup front xs (series_at step (limit - (i + 1)) after)) in
+      sym one ∙ so_far
+
+  pub series_closed : (xs : List B) (after : List ℕ) → i < limit → step (limit - (i + 1)) bytes ≡ Ok ((xs, false), after)
+      → with_front front (series_at step (limit - i) bytes) ≡ total → total ≡ Ok (front ++ xs, after)
+  unfolding series_at
+  series_closed xs after lt h so_far =
+      let k : limit - i ≡ suc (limit - (i + 1)) = omega arith in
+      let one : with_front front (series_at step (limit - i) bytes) ≡ Ok (front ++ xs, after) = rw (k, h) refl in
+      sym so_far ∙ one
+
+  pub series_fails : (e : Stop) → i < limit → Fails e (step (limit - (i + 1)) bytes)
+      → with_front front (series_at step (limit - i) bytes) ≡ total → Fails e total
+  unfolding series_at
+  series_fails stop.NoMemory lt h so_far = tt
+  series_fails (stop.At f) lt h so_far =
+      let k : limit - i ≡ suc (limit - (i + 1)) = omega arith in
+      let one : with_front front (series_at step (limit - i) bytes) ≡ Err f = rw (k, h) refl in
+      sym so_far ∙ one
+
+  pub series_ends : limit ≤ i → with_front front (series_at step (limit - i) bytes) ≡ total → total ≡ syntax_fault bytes
+  unfolding series_at
+  series_ends le so_far =
+      let k : limit - i ≡ 0 = omega arith in
+      let one : with_front front (series_at step (limit - i) bytes) ≡ syntax_fault bytes = rw k refl in
+      sym so_far ∙ one
+
+module _ (element other : List ℕ → Read Tree) (limit i owed : ℕ) (heads : List Tree) (bytes : List ℕ) (total : Read Tree) where
+  pub cells_fail : (e : Stop) → i < limit → Fails e (cell_step element other bytes) → with_heads heads owed (cells_at element other (limit - i) bytes) ≡ total → Fails e total
+  unfolding cells_at
+  cells_fail stop.NoMemory lt h so_far = tt
+  cells_fail (stop.At f) lt h so_far =
+      let k : limit - i ≡ suc (limit - (i + 1)) = omega arith in
+      let one : with_heads heads owed (cells_at element other (limit - i) bytes) ≡ Err f = rw (k, h) refl in
+      sym so_far ∙ one
+
+  pub cells_end : limit ≤ i → with_heads heads owed (cells_at element other (limit - i) bytes) ≡ total → total ≡ syntax_fault bytes
+  unfolding cells_at
+  cells_end le so_far =
+      let k : limit - i ≡ 0 = omega arith in
+      let one : with_heads heads owed (cells_at element other (limit - i) bytes) ≡ syntax_fault bytes = rw k refl in
+      sym so_far ∙ one
+
+  pub head_follows : (head : Tree) (after : List ℕ) → i < limit → cell_step element other bytes ≡ Ok (head, Head after)
+      → with_heads heads owed (cells_at element other (limit - i) bytes) ≡ total → with_heads (heads ++ head ∷ []) owed (cells_at element other (limit - (i + 1)) after) ≡ total
+  unfolding cells_at
+  head_follows head after lt h so_far =
+      let k : limit - i ≡ suc (limit - (i + 1)) = omega arith in
+      let one : with_heads heads owed (cells_at element other (limit - i) bytes) ≡ with_heads (heads ++ head ∷ []) owed (cells_at element other (limit - (i + 1)) after) = rw (k, h) (regroup_head heads head owed (cells_at element other (limit - (i + 1)) after)) in
+      sym one ∙ so_far
+
+  pub inner_follows : (head : Tree) (after : List ℕ) → i < limit → cell_step element other bytes ≡ Ok (head, Inner after)
+      → with_heads heads owed (cells_at element other (limit - i) bytes) ≡ total → with_heads (heads ++ head ∷ []) (owed + 1) (cells_at element other (limit - (i + 1)) after) ≡ total
+  unfolding cells_at
+  inner_follows head after lt h so_far =
+      let k : limit - i ≡ suc (limit - (i + 1)) = omega arith in
+      let one : with_heads heads owed (cells_at element other (limit - i) bytes) ≡ with_heads (heads ++ head ∷ []) (owed + 1) (cells_at element other (limit - (i + 1)) after) = rw (k, h, add-one owed) (regroup_inner heads head owed (cells_at element other (limit - (i + 1)) after)) in
+      sym one ∙ so_far
+
+  pub last_follows : (head tail : Tree) (after : List ℕ) → i < limit → cell_step element other bytes ≡ Ok (head, Last tail after)
+      → with_heads heads owed (cells_at element other (limit - i) bytes) ≡ total → total ≡ with_heads (heads ++ head ∷ []) owed (Ok (tail, after))
+  unfolding cells_at
+  last_follows head tail after lt h so_far =
+      let k : limit - i ≡ suc (limit - (i + 1)) = omega arith in
+      let one : with_heads heads owed (cells_at element other (limit - i) bytes) ≡ with_heads (heads ++ head ∷ []) owed (Ok (tail, after)) = rw (k, h) (regroup_head heads head owed (Ok (tail, after))) in
+      sym so_far ∙ one
+
+pub conses_pop : (hs rest : List Tree) (head tail : Tree) → hs ≡ rest ++ head ∷ [] → conses rest (Cons head tail) ≡ conses hs tail
+conses_pop hs rest head tail e = sym (ap (λ (x : List Tree). conses x tail) e ∙ conses-append rest (head ∷ []) tail)
+
+module _ (owed i : ℕ) (bytes : List ℕ) (total : Result (List ℕ) Fault) where
+  pub brackets_fail : (e : Stop) → i < owed → Fails e (expect 93 (skip bytes)) → brackets_at (owed - i) bytes ≡ total → Fails e total
+  unfolding brackets_at
+  brackets_fail stop.NoMemory lt h so_far = tt
+  brackets_fail (stop.At f) lt h so_far =
+      let k : owed - i ≡ suc (owed - (i + 1)) = omega arith in
+      let one : brackets_at (owed - i) bytes ≡ Err f = rw (k, h) refl in
+      sym so_far ∙ one
+
+  pub brackets_go_on : (after : List ℕ) → i < owed → expect 93 (skip bytes) ≡ Ok after → brackets_at (owed - i) bytes ≡ total → brackets_at (owed - (i + 1)) after ≡ total
+  unfolding brackets_at
+  brackets_go_on after lt h so_far =
+      let k : owed - i ≡ suc (owed - (i + 1)) = omega arith in
+      let one : brackets_at (owed - i) bytes ≡ brackets_at (owed - (i + 1)) after = rw (k, h) refl in
+      sym one ∙ so_far
+
+  pub brackets_end : owed ≤ i → brackets_at (owed - i) bytes ≡ total → total ≡ Ok bytes
+  unfolding brackets_at
+  brackets_end le so_far =
+      let k : owed - i ≡ 0 = omega arith in
+      let one : brackets_at (owed - i) bytes ≡ Ok bytes = rw k refl in
+      sym so_far ∙ one
+
+pub with_no_heads : (read : Read Tree) → with_heads [] 0 read ≡ read
+unfolding brackets_at
+with_no_heads (Ok x) = refl
+with_no_heads (Err f) = refl

@@ -1,0 +1,30 @@
+-- What is read as a name has the characters of one.
+use Rattle.std.proofs.Common.{◌≡◌, ℕ, zero, suc, true, false, cond, leb, List, [], ◌∷◌, take, drop, Ok, refl, arith, ⊎_elim}
+use Rattle.std.proofs.lemmas.Bool.Decides.{nat_tests}
+use Rattle.std.proofs.lemmas.Str.{IsUtf8-from_ascii}
+use Rattle.std.specs.List.{list_all}
+use Rattle.std.specs.Str.{IsUtf8, IsAscii}
+use Rattle.ca_text.specs.Text.{is_name_char}
+use Rattle.ca_text.specs.Reading.{name_length, name_at}
+use Rattle.ca_text.proofs.Tools.{chosen, guarded, both, pair_is}
+
+pub names_front : (bytes : List ℕ) → list_all is_name_char (take (name_length bytes) bytes) ≡ true
+unfolding name_length
+names_front [] = refl
+names_front (b ∷ bytes) =
+    ⊎_elim
+    (λ h. rw (h.0, h.0, names_front bytes) refl)
+    (λ h. rw h.0 refl)
+    (chosen (is_name_char b) true false (cond (is_name_char b) true false) refl)
+
+pub name_ascii : (name : List ℕ) → list_all is_name_char name ≡ true → IsAscii name
+name_ascii [] h i = omega arith
+name_ascii (c ∷ cs) h zero = let t = both (is_name_char c) (list_all is_name_char cs) h in let u = t.0 in grind (arith, nat_tests)
+name_ascii (c ∷ cs) h (suc i) = name_ascii cs (both (is_name_char c) (list_all is_name_char cs) h).1 i
+
+pub name_utf8 : (most : ℕ) (bytes name rest : List ℕ) → name_at most bytes ≡ Ok (name, rest) → IsUtf8 name
+unfolding name_at
+name_utf8 most bytes name rest e =
+    let g = guarded (leb (name_length bytes) most) _ (Ok (take (name_length bytes) bytes, drop (name_length bytes) bytes)) (name, rest) e in
+    let p = pair_is _ _ _ _ g.1 in
+    rw (← p.0) (IsUtf8-from_ascii _ (name_ascii _ (names_front bytes)))

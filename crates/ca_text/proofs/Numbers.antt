@@ -1,0 +1,205 @@
+-- What is read as blanks, as a number or as a name.
+use Rattle.std.proofs.Common.{◌≡◌, ℕ, ◌+◌, ◌-◌, ◌*◌, ◌^◌, ◌<◌, ◌≤◌, Bool, true, false, cond, leb, eqb, ◌&&◌, ◌||◌, List, [], ◌∷◌, ◌++◌, length, take, drop, Ok, ℤ, pos, neg_ℤ, refl, sym, ap, subst, ◌∙◌, arith, ⊎_elim, take-append-drop, length-take}
+use Rattle.std.proofs.lemmas.Bool.{leb-true, eqb-true}
+use Rattle.std.proofs.lemmas.Bool.Decides.{nat_tests}
+use Rattle.std.specs.List.{list_all}
+use Rattle.std.specs.Char.{is_ascii_digit, digit_value, is_ascii_lowercase}
+use Rattle.std.specs.Str.Parse.{AllDigits, IsNumeral, digits_value, digits_value_after}
+use Rattle.ca_text.specs.Text.{is_name_char, has_plain_form}
+use Rattle.ca_text.specs.Grammar.{is_blank, AreBlanks, IsInteger, FromZero, Negative, takes_in, IsWhole}
+use Rattle.ca_text.specs.Reading.{skip, digits_after, number_at, negative_at, positive_at, integer_at, name_length, name_at}
+use Rattle.ca_text.proofs.Tools.{bind_ok, chosen, guarded, both, pair_is}
+
+-- blanks stand at the front
+pub record IsSkipped (bytes rest : List ℕ) : Type 0 where
+  pub blanks : List ℕ
+  pub whole : bytes ≡ blanks ++ rest
+  pub are : AreBlanks blanks
+
+pub skipped : (bytes : List ℕ) → IsSkipped bytes (skip bytes)
+unfolding skip
+skipped [] = record { blanks = []; whole = refl; are = refl }
+skipped (b ∷ bytes) =
+    let r = skipped bytes in
+    ⊎_elim
+    (λ h. record { blanks = b ∷ r.blanks; whole = rw h.0 (ap (λ x. b ∷ x) r.whole); are = rw (h.0, r.are) refl })
+    (λ h. record { blanks = []; whole = rw h.0 refl; are = refl })
+    (chosen (is_blank b) true false (cond (is_blank b) true false) refl)
+
+-- no digit stands first
+abbrev pub EndsDigits : List ℕ → Type 0
+EndsDigits [] = Unit {0}
+EndsDigits (b ∷ bytes) = is_ascii_digit b ≡ false
+
+-- no character of a name stands first
+abbrev pub EndsName : List ℕ → Type 0
+EndsName [] = Unit {0}
+EndsName (b ∷ bytes) = is_name_char b ≡ false
+
+digit_worth : (b : ℕ) → is_ascii_digit b ≡ true → (digit_value b ≡ b - 48) × (digit_value b < 10)
+digit_worth b h = (grind (arith, nat_tests), grind (arith, nat_tests))
+
+digit_is : (b : ℕ) → digit_value b < 10 → is_ascii_digit b ≡ true
+digit_is b h = grind (arith, nat_tests)
+
+-- digits stand at the front, behind others worth n
+pub record AreDigitsAt (most n : ℕ) (bytes : List ℕ) (value : ℕ) (rest : List ℕ) : Type 0 where
+  pub digits : List ℕ
+  pub whole : bytes ≡ digits ++ rest
+  pub all : AllDigits 10 digits
+  pub value_is : digits_value_after 10 n digits ≡ value
+  pub bounded : n ≤ most → value ≤ most
+  pub ends : EndsDigits rest
+
+pub digits_taken : (most n : ℕ) (bytes : List ℕ) (value : ℕ) (rest : List ℕ) → digits_after most n bytes ≡ Ok (value, rest) → AreDigitsAt most n bytes value rest
+unfolding digits_after
+digits_taken most n [] value rest e =
+    let p = pair_is n [] value rest e in
+    record { digits = []; whole = p.1; all = tt; value_is = p.0; bounded = λ h. omega (arith, p.0); ends = subst EndsDigits p.1 tt }
+digits_taken most n (b ∷ bytes) value rest e =
+    ⊎_elim
+    (λ h. let g = guarded (leb (n * 10 + (b - 48)) most) _ _ (value, rest) h.1 in
+    let r = digits_taken most (n * 10 + (b - 48)) bytes value rest g.1 in
+    let d = digit_worth b h.0 in
+    record {
+      digits = b ∷ r.digits;
+      whole = ap (λ x. b ∷ x) r.whole;
+      all = (d.1, r.all);
+      value_is = ap (λ x. digits_value_after 10 (n * 10 + x) r.digits) d.0 ∙ r.value_is;
+      bounded = λ _. r.bounded (leb-true _ most g.0);
+      ends = r.ends;
+    })
+    (λ h. let p = pair_is n (b ∷ bytes) value rest h.1 in
+    record { digits = []; whole = p.1; all = tt; value_is = p.0; bounded = λ h. omega (arith, p.0); ends = subst EndsDigits p.1 h.0 })
+    (chosen (is_ascii_digit b) _ _ (Ok (value, rest)) e)
+
+and_false : (b : Bool) → (b && false) ≡ false
+and_false true = refl
+and_false false = refl
+
+-- a number stands at the front
+pub record IsNumberAt (most : ℕ) (bytes : List ℕ) (value : ℕ) (rest : List ℕ) : Type 0 where
+  pub digits : List ℕ
+  pub whole : bytes ≡ digits ++ rest
+  pub numeral : IsNumeral 10 digits
+  pub value_is : digits_value 10 digits ≡ value
+  pub bounded : value ≤ most
+  pub ends : EndsDigits rest
+
+number_some : (most b : ℕ) (bytes digits : List ℕ) (value : ℕ) (rest : List ℕ) → is_ascii_digit b ≡ true → b ∷ bytes ≡ digits ++ rest → AllDigits 10 digits → digits_value_after 10 0 digits ≡ value
+    → value ≤ most → EndsDigits rest → IsNumberAt most (b ∷ bytes) value rest
+number_some most b bytes [] value rest h whole all worth bound ends = let no : is_ascii_digit b ≡ false = subst EndsDigits (sym whole) ends in absurd cc
+number_some most b bytes (d ∷ digits) value rest h whole all worth bound ends =
+    record { digits = d ∷ digits; whole = whole; numeral = (omega arith, all); value_is = worth; bounded = bound; ends = ends }
+
+pub number_taken : (most : ℕ) (bytes : List ℕ) (value : ℕ) (rest : List ℕ) → number_at most bytes ≡ Ok (value, rest) → IsNumberAt most bytes value rest
+unfolding number_at
+number_taken most [] value rest e = absurd cc
+number_taken most (b ∷ bytes) value rest e =
+    let g = guarded (is_ascii_digit b) _ (digits_after most 0 (b ∷ bytes)) (value, rest) e in
+    let r = digits_taken most 0 (b ∷ bytes) value rest g.1 in
+    number_some most b bytes r.digits value rest g.0 r.whole r.all r.value_is (r.bounded (omega arith)) r.ends
+
+pub whole_by : (text rest : List ℕ) → ((b : ℕ) → takes_in text b ≡ false) → IsWhole text rest
+whole_by text [] h = tt
+whole_by text (b ∷ rest) h = h b
+
+number_whole : (c b : ℕ) (text : List ℕ) → (is_ascii_lowercase c ≡ false) → is_ascii_digit b ≡ false → takes_in (c ∷ text) b ≡ false
+number_whole c b text h e = rw (h, e) (and_false (is_ascii_digit c || eqb c 45))
+
+whole_digits : (c : ℕ) (text rest : List ℕ) → is_ascii_lowercase c ≡ false → EndsDigits rest → IsWhole (c ∷ text) rest
+whole_digits c text [] h e = tt
+whole_digits c text (b ∷ rest) h e = number_whole c b text h e
+
+digit_not_letter : (b : ℕ) → digit_value b < 10 → is_ascii_lowercase b ≡ false
+digit_not_letter b h = grind (arith, nat_tests)
+
+pub whole_numeral : (digits rest : List ℕ) → IsNumeral 10 digits → EndsDigits rest → IsWhole digits rest
+whole_numeral [] rest n ends = absurd (omega (arith, n.0))
+whole_numeral (d ∷ digits) rest n ends = whole_digits d digits rest (digit_not_letter d n.1.0) ends
+
+-- an integer stands at the front
+pub record IsIntegerAt (bytes : List ℕ) (n : ℤ) (rest : List ℕ) : Type 0 where
+  pub text : List ℕ
+  pub whole : bytes ≡ text ++ rest
+  pub is : IsInteger text n
+  pub ends : IsWhole text rest
+
+negative_taken : (bytes : List ℕ) (n : ℤ) (rest : List ℕ) → negative_at bytes ≡ Ok (n, rest) → IsIntegerAt (45 ∷ bytes) n rest
+negative_taken bytes n rest e =
+    let s = bind_ok (number_at (2 ^ 63) bytes) (λ x. Ok (neg_ℤ (pos x.0), x.1)) (n, rest) e in
+    let p = pair_is (neg_ℤ (pos s.0.0)) s.0.1 n rest s.2 in
+    let r = number_taken (2 ^ 63) bytes s.0.0 s.0.1 s.1 in
+    let same : neg_ℤ (pos (digits_value 10 r.digits)) ≡ n = ap (λ x. neg_ℤ (pos x)) r.value_is ∙ p.0 in
+    record {
+      text = 45 ∷ r.digits;
+      whole = ap (λ x. 45 ∷ x) (r.whole ∙ ap (λ x. r.digits ++ x) p.1);
+      is = subst (λ x. IsInteger (45 ∷ r.digits) x) same (Negative r.digits r.numeral (omega (arith, r.value_is, r.bounded)));
+      ends = whole_digits 45 r.digits rest refl (subst EndsDigits p.1 r.ends);
+    }
+
+positive_taken : (bytes : List ℕ) (n : ℤ) (rest : List ℕ) → positive_at bytes ≡ Ok (n, rest) → IsIntegerAt bytes n rest
+positive_taken bytes n rest e =
+    let s = bind_ok (number_at (2 ^ 63 - 1) bytes) (λ x. Ok (pos x.0, x.1)) (n, rest) e in
+    let p = pair_is (pos s.0.0) s.0.1 n rest s.2 in
+    let r = number_taken (2 ^ 63 - 1) bytes s.0.0 s.0.1 s.1 in
+    let same : pos (digits_value 10 r.digits) ≡ n = ap pos r.value_is ∙ p.0 in
+    record {
+      text = r.digits;
+      whole = r.whole ∙ ap (λ x. r.digits ++ x) p.1;
+      is = subst (λ x. IsInteger r.digits x) same (FromZero r.digits r.numeral (omega (arith, r.value_is, r.bounded)));
+      ends = whole_numeral r.digits rest r.numeral (subst EndsDigits p.1 r.ends);
+    }
+
+pub integer_taken : (bytes : List ℕ) (n : ℤ) (rest : List ℕ) → integer_at bytes ≡ Ok (n, rest) → IsIntegerAt bytes n rest
+unfolding integer_at
+integer_taken [] n rest e = absurd cc
+integer_taken (b ∷ bytes) n rest e =
+    ⊎_elim
+    (λ h. let same = eqb-true b 45 h.0 in subst (λ x. IsIntegerAt (x ∷ bytes) n rest) (sym same) (negative_taken bytes n rest h.1))
+    (λ h. positive_taken (b ∷ bytes) n rest h.1)
+    (chosen (eqb b 45) _ _ (Ok (n, rest)) e)
+
+names_all : (bytes : List ℕ) → list_all is_name_char (take (name_length bytes) bytes) ≡ true
+unfolding name_length
+names_all [] = refl
+names_all (b ∷ bytes) =
+    ⊎_elim (λ h. rw (h.0, h.0, names_all bytes) refl) (λ h. rw h.0 refl) (chosen (is_name_char b) true false (cond (is_name_char b) true false) refl)
+
+names_end : (bytes : List ℕ) → EndsName (drop (name_length bytes) bytes)
+unfolding name_length
+names_end [] = tt
+names_end (b ∷ bytes) =
+    ⊎_elim (λ h. rw h.0 (names_end bytes)) (λ h. rw h.0 h.0) (chosen (is_name_char b) true false (cond (is_name_char b) true false) refl)
+
+-- a plain atom stands at the front
+pub record IsNameAt (most : ℕ) (bytes name rest : List ℕ) : Type 0 where
+  pub whole : bytes ≡ name ++ rest
+  pub form : has_plain_form name ≡ true
+  pub few : length name ≤ most
+  pub ends : IsWhole name rest
+
+whole_name : (c : ℕ) (text rest : List ℕ) → is_ascii_lowercase c ≡ true → EndsName rest → IsWhole (c ∷ text) rest
+whole_name c text [] h e = tt
+whole_name c text (b ∷ rest) h e = rw (h, e) refl
+
+letter_named : (b : ℕ) → is_ascii_lowercase b ≡ true → is_name_char b ≡ true
+letter_named b h = grind (arith, nat_tests)
+
+name_parts : (most b : ℕ) (bytes name rest : List ℕ) → is_ascii_lowercase b ≡ true → b ∷ bytes ≡ name ++ rest → list_all is_name_char name ≡ true → length name ≤ most → EndsName rest
+    → IsNameAt most (b ∷ bytes) name rest
+name_parts most b bytes [] rest h whole all few ends = let no : is_name_char b ≡ false = subst EndsName (sym whole) ends in let yes = letter_named b h in absurd cc
+name_parts most b bytes (c ∷ cs) rest h whole all few ends =
+    let same : b ≡ c = cc in
+    let letter : is_ascii_lowercase c ≡ true = rw same at h in
+    record { whole = whole; form = rw (letter, (both (is_name_char c) (list_all is_name_char cs) all).1) refl; few = few; ends = whole_name c cs rest letter ends }
+
+pub name_taken : (most b : ℕ) (bytes name rest : List ℕ) → is_ascii_lowercase b ≡ true → name_at most (b ∷ bytes) ≡ Ok (name, rest) → IsNameAt most (b ∷ bytes) name rest
+unfolding name_at
+name_taken most b bytes name rest h e =
+    let n = name_length (b ∷ bytes) in
+    let g = guarded (leb n most) _ (Ok (take n (b ∷ bytes), drop n (b ∷ bytes))) (name, rest) e in
+    let p = pair_is (take n (b ∷ bytes)) (drop n (b ∷ bytes)) name rest g.1 in
+    let whole : b ∷ bytes ≡ name ++ rest = sym (take-append-drop n (b ∷ bytes)) ∙ ap (λ x. x ++ drop n (b ∷ bytes)) p.0 ∙ ap (λ x. name ++ x) p.1 in
+    let few : length (take n (b ∷ bytes)) ≤ most = omega (arith, length-take n (b ∷ bytes), leb-true n most g.0) in
+    name_parts most b bytes name rest h whole (subst (λ x. list_all is_name_char x ≡ true) p.0 (names_all (b ∷ bytes))) (subst (λ x. length x ≤ most) p.0 few) (subst EndsName p.1 (names_end (b ∷ bytes)))

@@ -1,0 +1,6 @@
+use Rattle.std.proofs.Common.{◌≡◌, ◌-◌}
+use Rattle.ca_text.specs.Reading.{brackets_at}
+use Rattle.ca_text.proofs.read.brackets.Given as goal
+
+abbrev pub invariant-loop : goal.invariant-loop
+invariant-loop l = brackets_at (l.owed - l.counter) l.rest ≡ brackets_at l.owed l.bytes
