@@ -1,4 +1,5 @@
 use Rattle.std.proofs.Common.{◌∙◌}
+use Rattle.ca_text.proofs.Places.{stands}
 use Rattle.ca_text.proofs.ReadFront.{read_is, longest, none_read, same_read}
 use Rattle.ca_text.proofs.read.read_term.Goals as goal
 
@@ -16,3 +17,6 @@ returns-in-Ok-clause-only c = λ t n. same_read c.args.bytes.now c.in-Ok.term c.
 
 pub returns-in-Err-clause-only : goal.returns-in-Err-clause-only
 returns-in-Err-clause-only c = λ t n r. c.fault_of.ensures ∙ none_read c.args.bytes.now c.in-Err.stop t n c.in-Err.ensures r
+
+pub returns-in-Err-clause-place : goal.returns-in-Err-clause-place
+returns-in-Err-clause-place c = rw c.fault_of.ensures (stands c.args.bytes.now c.in-Err.stop c.in-Err.ensures)
