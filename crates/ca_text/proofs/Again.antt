@@ -70,17 +70,17 @@ ends_name : (c : ℕ) (text rest : List ℕ) → is_ascii_lowercase c ≡ true �
 ends_name c text [] low whole = tt
 ends_name c text (b ∷ rest) low whole = rw low at whole
 
-name_long : (cs rest : List ℕ) → list_all is_name_char cs ≡ true → EndsName rest → name_length (cs ++ rest) ≡ length cs
+pub name_long : (cs rest : List ℕ) → list_all is_name_char cs ≡ true → EndsName rest → name_length (cs ++ rest) ≡ length cs
 unfolding name_length
 name_long [] [] all ends = refl
 name_long [] (b ∷ rest) all ends = rw ends refl
 name_long (c ∷ cs) rest all ends = let t = both (is_name_char c) (list_all is_name_char cs) all in rw t.0 (omega (arith, name_long cs rest t.1 ends))
 
-take_front : (xs ys : List ℕ) → take (length xs) (xs ++ ys) ≡ xs
+pub take_front : (xs ys : List ℕ) → take (length xs) (xs ++ ys) ≡ xs
 take_front [] ys = refl
 take_front (x ∷ xs) ys = ap (λ zs. x ∷ zs) (take_front xs ys)
 
-drop_front : (xs ys : List ℕ) → drop (length xs) (xs ++ ys) ≡ ys
+pub drop_front : (xs ys : List ℕ) → drop (length xs) (xs ++ ys) ≡ ys
 drop_front [] ys = refl
 drop_front (x ∷ xs) ys = drop_front xs ys
 

@@ -149,7 +149,7 @@ character_taken close most (b ∷ bytes) c rest small low high e =
     (chosen (eqb b 92) _ _ (Ok (c, rest)) e)
 
 -- no code point, or one, is read at the front
-next_taken : (close most : ℕ) (bytes : List ℕ) (c : ℕ) (rest : List ℕ) → close < 128 → 127 ≤ most → (128 ≤ most → most ≡ most_point) → next_point_at close most bytes ≡ Ok (Some c, rest)
+pub next_taken : (close most : ℕ) (bytes : List ℕ) (c : ℕ) (rest : List ℕ) → close < 128 → 127 ≤ most → (128 ≤ most → most ≡ most_point) → next_point_at close most bytes ≡ Ok (Some c, rest)
     → IsCharacterAt close most bytes c rest
 unfolding next_point_at
 next_taken close most [] c rest small low high e = absurd cc

@@ -65,7 +65,7 @@ pub record BeginsSegment (text : List ℕ) : Type 0 where
 digit_solid : (d : ℕ) → digit_value d < 10 → (is_blank d ≡ false) × (eqb d 62 ≡ false)
 digit_solid d h = (grind (arith, nat_tests), grind (arith, nat_tests))
 
-segment_begins : (text bs : List ℕ) → IsSegment text bs → BeginsSegment text
+pub segment_begins : (text bs : List ℕ) → IsSegment text bs → BeginsSegment text
 segment_begins _ _ (OneByte [] n bound) = absurd (omega (arith, n.0))
 segment_begins _ _ (OneByte (d ∷ ds) n bound) = let s = digit_solid d n.1.0 in record { first = d; others = ds; is = refl; solid = s.0; going = s.1 }
 segment_begins _ _ (Shown text cs are all) = record { first = 34; others = text; is = refl; solid = refl; going = refl }
@@ -523,3 +523,7 @@ mutual
 
 pub term_again : (limits : Limits) (levels : ℕ) (text : List ℕ) (t : Tree) (rest : List ℕ) → IsTextOf limits levels text t → IsWhole text rest → term_at limits levels (text ++ rest) ≡ Ok (t, rest)
 term_again limits levels text t rest is whole = shape_reads limits levels text t rest (shape_again limits levels text t is) whole
+
+-- no text is empty
+pub text_some : (limits : Limits) (levels : ℕ) (text : List ℕ) (t : Tree) → IsTextOf limits levels text t → 0 < length text
+text_some limits levels text t is = begins_some text (shape_begins limits levels text t (shape_again limits levels text t is))

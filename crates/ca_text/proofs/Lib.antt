@@ -2,10 +2,14 @@ pub mod Again
 pub mod Characters
 pub mod Complete
 pub mod Fronts
+pub mod Local
+pub mod LocalParts
+pub mod LocalTerms
 pub mod Loops
 pub mod Names
 pub mod Nonempty
 pub mod Numbers
+pub mod Places
 pub mod Points
 pub mod PointsAgain
 pub mod Printed

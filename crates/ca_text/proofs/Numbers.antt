@@ -160,13 +160,13 @@ integer_taken (b ∷ bytes) n rest e =
     (λ h. positive_taken (b ∷ bytes) n rest h.1)
     (chosen (eqb b 45) _ _ (Ok (n, rest)) e)
 
-names_all : (bytes : List ℕ) → list_all is_name_char (take (name_length bytes) bytes) ≡ true
+pub names_all : (bytes : List ℕ) → list_all is_name_char (take (name_length bytes) bytes) ≡ true
 unfolding name_length
 names_all [] = refl
 names_all (b ∷ bytes) =
     ⊎_elim (λ h. rw (h.0, h.0, names_all bytes) refl) (λ h. rw h.0 refl) (chosen (is_name_char b) true false (cond (is_name_char b) true false) refl)
 
-names_end : (bytes : List ℕ) → EndsName (drop (name_length bytes) bytes)
+pub names_end : (bytes : List ℕ) → EndsName (drop (name_length bytes) bytes)
 unfolding name_length
 names_end [] = tt
 names_end (b ∷ bytes) =

@@ -178,7 +178,7 @@ character_again _ most _ _ rest small slash (Hexadecimal close ds n few is) poin
     let regrouped : (ds ++ 125 ∷ []) ++ rest ≡ ds ++ 125 ∷ rest = append_assoc ds (125 ∷ []) rest in
     (rw (expect_again 123 ((ds ++ 125 ∷ []) ++ rest), regrouped, hex_again most ds rest n few point) refl, record { first = 92; others = 120 ∷ 123 ∷ ds ++ 125 ∷ []; is = refl; apart = other_quote close 92 (λ x. slash (sym x)) })
 
-character_some : (close : ℕ) (text : List ℕ) (c : ℕ) → IsCharacter close text c → 0 < length text
+pub character_some : (close : ℕ) (text : List ℕ) (c : ℕ) → IsCharacter close text c → 0 < length text
 character_some _ _ _ (Itself close c is h i j) = encode_some c
 character_some _ _ _ (Escaped close letter c e) = omega arith
 character_some _ _ _ (Hexadecimal close ds n few is) = omega arith

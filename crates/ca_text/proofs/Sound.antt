@@ -46,7 +46,7 @@ one_byte_taken bytes bs rest e =
     let same = ap (λ n. n ∷ []) r.value_is ∙ p.0 in
     record { text = r.digits; whole = r.whole ∙ ap (λ x. r.digits ++ x) p.1; is = subst (λ x. IsSegment r.digits x) same (OneByte r.digits r.numeral (omega (arith, r.value_is, r.bounded))) }
 
-segment_taken : (bytes bs rest : List ℕ) → segment_at bytes ≡ Ok (bs, rest) → IsSegmentAt bytes bs rest
+pub segment_taken : (bytes bs rest : List ℕ) → segment_at bytes ≡ Ok (bs, rest) → IsSegmentAt bytes bs rest
 unfolding segment_at
 segment_taken [] bs rest e = one_byte_taken [] bs rest e
 segment_taken (b ∷ bytes) bs rest e =

@@ -1,5 +1,6 @@
 //! The reader of term texts.
 ghost use Rattle.std.specs.Prelude.{◌≡◌, ◌⊎◌, ◌≤◌, ◌<◌, ◌-◌, ◌+◌, List, [], ◌∷◌, ◌++◌, ℕ, length, take, Ok, IfOk, IfErr, MatchResult};
+ghost use Rattle.ca_text.specs.Place.{StandsWhereTextsEnd};
 ghost use Rattle.ca_text.specs.NextView.{next_view};
 ghost use Rattle.ca_text.specs.Front.{IsNotRead};
 ghost use Rattle.ca_term.specs.Tree.{Tree, IsTerm, depth};
@@ -324,6 +325,8 @@ pub fn read_term(alloc: Global, bytes: &[u8]) -> Result<(Term, usize), TextFault
     // No longer text stands at the front.
     ensures longest { IfOk result (λ x. (m : ℕ) (t : Tree) → x.1 < m → m ≤ length bytes.now → IsText (take m bytes.now) t → ⊥) }
     ensures refused { IfErr result (λ e. (e ≡ TextFault.NoMemory) ⊎ IsNotRead bytes.now e) }
+    // No text goes on at the place of a fault.
+    ensures place { IfErr result (λ e. StandsWhereTextsEnd bytes.now e) }
     // What stands at the front is read, unless memory lacks.
     ensures only { (t : Tree) (n : ℕ) → IsRead bytes.now t n → MatchResult result (λ x. (x.0 ≡ t) × (x.1 ≡ n)) (λ e. e ≡ TextFault.NoMemory) }
 {

@@ -1,0 +1,176 @@
+-- The readers of numbers, names, characters and binaries look no further than one byte ahead.
+use Rattle.std.proofs.Common.{◌≡◌, ◌≢◌, ℕ, zero, suc, ◌+◌, ◌-◌, ◌*◌, ◌^◌, ◌<◌, ◌≤◌, Bool, true, false, cond, not, ltb, leb, eqb, ◌&&◌, ◌||◌, List, [], ◌∷◌, ◌++◌, length, take, drop, Option, None, Some, Result, Ok, Err, ℤ, pos, neg_ℤ, refl, sym, ap, subst, ◌∙◌, append_assoc, append-nil, arith, ◌⊎◌, inl, inr, ⊎_elim, length-append, take-append-drop, length-take-le, le-ltb}
+use Rattle.std.proofs.lemmas.Bool.{leb-true, leb-false, eqb-true, eqb-false, le-leb}
+use Rattle.std.proofs.lemmas.Bool.Decides.{nat_tests}
+use Rattle.std.specs.List.{list_all}
+use Rattle.std.specs.Char.{is_ascii_digit, is_ascii_hexdigit, digit_value}
+use Rattle.ca_text.specs.Text.{is_name_char}
+use Rattle.ca_text.specs.Grammar.{is_blank, escape_of}
+use Rattle.ca_text.specs.declared.fault.Fault.{Fault}
+use Rattle.ca_text.specs.declared.fault.Why.{Why}
+use Rattle.ca_text.specs.declared.fault.Why.TheVariants.{Syntax, AtomTooLong, TooDeep, TooWide}
+use Rattle.ca_text.specs.Reading.{◌>>=◌, Read, syntax_fault, fault, skip, expect, digits_after, number_at, negative_at, positive_at, integer_at, name_length, name_at, byte_between, inner_byte, two_at, three_at, four_at, least_of_three, end_of_three, least_of_four, end_of_four, point_at, is_point, may_stand, hex_after, hex_at, or_fault, escape_at, begins_character, character_at, next_point_at, closing_at, points_after, characters_at, string_at, most_point, most_shown, one_byte_at, segment_at, after_segment_at, segment_step}
+use Rattle.ca_text.proofs.Tools.{bind_ok, chosen, both, ok_is, pair_is}
+use Rattle.ca_text.proofs.Local.{place, Taken, Stuck, LocalAt, IsLocal, nil_local, fault_local, done_local, stay_local, cons_local, same_local, pure_local, bind_local, expect_local, skip_local}
+
+-- which way a test goes
+pub either_way : {C : Type 0} (b : Bool) → (b ≡ true → C) → (b ≡ false → C) → C
+either_way true f g = f refl
+either_way false f g = g refl
+
+either_letter : {C : Type 0} (o : Option ℕ) → (o ≡ None → C) → ((c : ℕ) × (o ≡ Some c) → C) → C
+either_letter None f g = f refl
+either_letter (Some c) f g = g (c, refl)
+
+end_local : (most n : ℕ) → LocalAt (digits_after most n) []
+unfolding digits_after
+end_local most n = record {
+  taken = λ a ys h. let q = pair_is n [] a ys h in record { front = []; whole = q.1; again = λ c r s y. let none = q.1 in absurd cc };
+  stuck = λ f h. absurd cc;
+}
+
+pub digits_local : (bytes : List ℕ) (most n : ℕ) → LocalAt (digits_after most n) bytes
+unfolding digits_after
+digits_local [] most n = end_local most n
+digits_local (b ∷ bytes) most n =
+    either_way (is_ascii_digit b)
+    (λ h. either_way (leb (n * 10 + (b - 48)) most)
+    (λ i. cons_local (digits_after most n) (digits_after most (n * 10 + (b - 48))) b bytes (λ zs. rw (h, i) refl) (digits_local bytes most (n * 10 + (b - 48))))
+    (λ i. fault_local (digits_after most n) Syntax b bytes (λ zs. rw (h, i) refl)))
+    (λ h. stay_local (digits_after most n) n b bytes (λ zs. rw h refl))
+
+pub number_local : (most : ℕ) → IsLocal (number_at most)
+unfolding number_at
+number_local most [] = nil_local (number_at most) refl
+number_local most (b ∷ bytes) =
+    either_way (is_ascii_digit b)
+    (λ h. same_local (number_at most) (digits_after most 0) b bytes (λ zs. rw h refl) (digits_local (b ∷ bytes) most 0))
+    (λ h. fault_local (number_at most) Syntax b bytes (λ zs. rw h refl))
+
+negative_local : IsLocal negative_at
+negative_local = bind_local (number_at (2 ^ 63)) (λ n ys. Ok (neg_ℤ (pos n), ys)) (number_local (2 ^ 63)) (λ n. pure_local (neg_ℤ (pos n)))
+
+positive_local : IsLocal positive_at
+positive_local = bind_local (number_at (2 ^ 63 - 1)) (λ n ys. Ok (pos n, ys)) (number_local (2 ^ 63 - 1)) (λ n. pure_local (pos n))
+
+pub integer_local : IsLocal integer_at
+unfolding integer_at
+integer_local [] = nil_local integer_at refl
+integer_local (b ∷ bytes) =
+    either_way (eqb b 45)
+    (λ h. cons_local integer_at negative_at b bytes (λ zs. rw h refl) (negative_local bytes))
+    (λ h. same_local integer_at positive_at b bytes (λ zs. rw h refl) (positive_local (b ∷ bytes)))
+
+pub byte_local : (low high : ℕ) → IsLocal (byte_between low high)
+unfolding byte_between
+byte_local low high [] = nil_local (byte_between low high) refl
+byte_local low high (b ∷ bytes) =
+    either_way (leb low b && ltb b high)
+    (λ h. done_local (byte_between low high) b b bytes (λ zs. rw h refl))
+    (λ h. fault_local (byte_between low high) Syntax b bytes (λ zs. rw h refl))
+
+inner_local : IsLocal inner_byte
+unfolding inner_byte
+inner_local = byte_local 128 192
+
+two_local : (b : ℕ) → IsLocal (two_at b)
+unfolding two_at
+two_local b = bind_local inner_byte (λ c ys. Ok ((b - 192) * 64 + (c - 128), ys)) inner_local (λ c. pure_local ((b - 192) * 64 + (c - 128)))
+
+three_local : (b : ℕ) → IsLocal (three_at b)
+unfolding three_at
+three_local b =
+    bind_local (byte_between (least_of_three b) (end_of_three b)) (λ c ys. inner_byte ys >>= λ d. Ok (((b - 224) * 64 + (c - 128)) * 64 + (d.0 - 128), d.1)) (byte_local (least_of_three b) (end_of_three b))
+    (λ c. bind_local inner_byte (λ d ys. Ok (((b - 224) * 64 + (c - 128)) * 64 + (d - 128), ys)) inner_local (λ d. pure_local (((b - 224) * 64 + (c - 128)) * 64 + (d - 128))))
+
+four_local : (b : ℕ) → IsLocal (four_at b)
+unfolding four_at
+four_local b =
+    bind_local (byte_between (least_of_four b) (end_of_four b)) (λ c ys. inner_byte ys >>= λ d. inner_byte d.1 >>= λ e. Ok ((((b - 240) * 64 + (c - 128)) * 64 + (d.0 - 128)) * 64 + (e.0 - 128), e.1)) (byte_local (least_of_four b) (end_of_four b))
+    (λ c. bind_local inner_byte (λ d ys. inner_byte ys >>= λ e. Ok ((((b - 240) * 64 + (c - 128)) * 64 + (d - 128)) * 64 + (e.0 - 128), e.1)) inner_local
+      (λ d. bind_local inner_byte (λ e ys. Ok ((((b - 240) * 64 + (c - 128)) * 64 + (d - 128)) * 64 + (e - 128), ys)) inner_local (λ e. pure_local ((((b - 240) * 64 + (c - 128)) * 64 + (d - 128)) * 64 + (e - 128)))))
+
+pub point_local : IsLocal point_at
+unfolding point_at
+point_local [] = nil_local point_at refl
+point_local (b ∷ bytes) =
+    either_way (ltb b 0x80)
+    (λ h. done_local point_at b b bytes (λ zs. rw h refl))
+    (λ h. either_way (ltb b 0xc2)
+    (λ i. fault_local point_at Syntax b bytes (λ zs. rw (h, i) refl))
+    (λ i. either_way (ltb b 0xe0)
+    (λ j. cons_local point_at (two_at b) b bytes (λ zs. rw (h, i, j) refl) (two_local b bytes))
+    (λ j. either_way (ltb b 0xf0)
+    (λ k. cons_local point_at (three_at b) b bytes (λ zs. rw (h, i, j, k) refl) (three_local b bytes))
+    (λ k. either_way (ltb b 0xf5)
+    (λ l. cons_local point_at (four_at b) b bytes (λ zs. rw (h, i, j, k, l) refl) (four_local b bytes))
+    (λ l. fault_local point_at Syntax b bytes (λ zs. rw (h, i, j, k, l) refl))))))
+
+hex_after_local : (bytes : List ℕ) (most more c : ℕ) → LocalAt (hex_after most more c) bytes
+unfolding hex_after
+hex_after_local [] most more c = nil_local (hex_after most more c) refl
+hex_after_local (b ∷ bytes) most more c =
+    let next = c * 16 + digit_value b in
+    either_way (is_ascii_hexdigit b && ltb 0 more)
+    (λ h. either_way (may_stand most (more - 1) next)
+    (λ i. cons_local (hex_after most more c) (hex_after most (more - 1) next) b bytes (λ zs. rw (h, i) refl) (hex_after_local bytes most (more - 1) next))
+    (λ i. fault_local (hex_after most more c) Syntax b bytes (λ zs. rw (h, i) refl)))
+    (λ h. either_way (eqb b 125 && is_point most c)
+    (λ i. done_local (hex_after most more c) c b bytes (λ zs. rw (h, i) refl))
+    (λ i. fault_local (hex_after most more c) Syntax b bytes (λ zs. rw (h, i) refl)))
+
+hex_local : (most : ℕ) → IsLocal (hex_at most)
+unfolding hex_at
+hex_local most [] = nil_local (hex_at most) refl
+hex_local most (b ∷ bytes) =
+    either_way (is_ascii_hexdigit b)
+    (λ h. cons_local (hex_at most) (hex_after most 5 (digit_value b)) b bytes (λ zs. rw h refl) (hex_after_local bytes most 5 (digit_value b)))
+    (λ h. fault_local (hex_at most) Syntax b bytes (λ zs. rw h refl))
+
+escape_local : (most : ℕ) → IsLocal (escape_at most)
+unfolding escape_at
+escape_local most [] = nil_local (escape_at most) refl
+escape_local most (b ∷ bytes) =
+    either_way (eqb b 120)
+    (λ h. cons_local (escape_at most) (λ xs. expect 123 xs >>= λ rest. hex_at most rest) b bytes (λ zs. rw h refl) (expect_local 123 (hex_at most) (hex_local most) bytes))
+    (λ h. either_letter (escape_of b)
+    (λ i. fault_local (escape_at most) Syntax b bytes (λ zs. rw (h, i) refl))
+    (λ i. done_local (escape_at most) i.0 b bytes (λ zs. rw (h, i.1) refl)))
+
+character_local : (close most : ℕ) → IsLocal (character_at close most)
+unfolding character_at
+character_local close most [] = nil_local (character_at close most) refl
+character_local close most (b ∷ bytes) =
+    either_way (eqb b 92)
+    (λ h. cons_local (character_at close most) (escape_at most) b bytes (λ zs. rw h refl) (escape_local most bytes))
+    (λ h. either_way (begins_character close most b)
+    (λ i. same_local (character_at close most) point_at b bytes (λ zs. rw (h, i) refl) (point_local (b ∷ bytes)))
+    (λ i. fault_local (character_at close most) Syntax b bytes (λ zs. rw (h, i) refl)))
+
+pub next_local : (close most : ℕ) → IsLocal (next_point_at close most)
+unfolding next_point_at
+next_local close most [] = nil_local (next_point_at close most) refl
+next_local close most (b ∷ bytes) =
+    let some = bind_local (character_at close most) (λ c ys. Ok (Some c, ys)) (character_local close most) (λ c. pure_local (Some c)) in
+    either_way (eqb b close)
+    (λ h. done_local (next_point_at close most) None b bytes (λ zs. rw h refl))
+    (λ h. same_local (next_point_at close most) (λ xs. character_at close most xs >>= λ x. Ok (Some x.0, x.1)) b bytes (λ zs. rw h refl) (some (b ∷ bytes)))
+
+last_local : (over : Why) (close most : ℕ) → IsLocal (characters_at over close most zero)
+unfolding characters_at closing_at
+last_local over close most [] = nil_local (characters_at over close most zero) refl
+last_local over close most (b ∷ bytes) =
+    either_way (eqb b close)
+    (λ h. done_local (characters_at over close most zero) [] b bytes (λ zs. rw h refl))
+    (λ h. either_way (begins_character close most b)
+    (λ i. fault_local (characters_at over close most zero) over b bytes (λ zs. rw (i, h) refl))
+    (λ i. fault_local (characters_at over close most zero) Syntax b bytes (λ zs. rw (i, h) refl)))
+
+after_local : (next : List ℕ → Read (List ℕ)) → IsLocal next → (o : Option ℕ) → IsLocal (λ ys. points_after next (o, ys))
+after_local next l None = pure_local []
+after_local next l (Some c) = bind_local next (λ cs ys. Ok (c ∷ cs, ys)) l (λ cs. pure_local (c ∷ cs))
+
+pub characters_local : (over : Why) (close most n : ℕ) → IsLocal (characters_at over close most n)
+unfolding characters_at
+characters_local over close most zero = last_local over close most
+characters_local over close most (suc n) = bind_local (next_point_at close most) (λ o ys. points_after (characters_at over close most n) (o, ys)) (next_local close most) (after_local (characters_at over close most n) (characters_local over close most n))
