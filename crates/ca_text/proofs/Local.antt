@@ -1,11 +1,11 @@
 -- Reading looks no further than the byte after what it takes, and a fault hangs on no byte behind its place.
-use Rattle.std.proofs.Common.{◌≡◌, ℕ, zero, suc, ◌+◌, ◌-◌, ◌*◌, ◌^◌, ◌<◌, ◌≤◌, max, Bool, true, false, cond, not, ltb, leb, eqb, ◌&&◌, ◌||◌, List, [], ◌∷◌, ◌++◌, length, take, drop, Option, None, Some, Result, Ok, Err, ℤ, pos, neg_ℤ, refl, sym, ap, subst, ◌∙◌, append_assoc, append-nil, arith, ◌⊎◌, inl, inr, ⊎_elim, length-append}
+use Rattle.std.proofs.Common.{◌≡◌, ℕ, true, false, cond, eqb, List, [], ◌∷◌, ◌++◌, length, Result, Ok, Err, refl, sym, ap, ◌∙◌, append_assoc, ◌⊎◌, inl, inr, ⊎_elim}
 use Rattle.ca_text.specs.declared.fault.Fault.{Fault}
 use Rattle.ca_text.specs.declared.fault.Why.{Why}
-use Rattle.ca_text.specs.declared.fault.Why.TheVariants.{Syntax, AtomTooLong, TooDeep, TooWide}
+use Rattle.ca_text.specs.declared.fault.Why.TheVariants.{Syntax}
 use Rattle.ca_text.specs.Reading.{◌>>=◌, Read, syntax_fault, fault, skip, expect}
 use Rattle.ca_text.specs.Grammar.{is_blank}
-use Rattle.ca_text.proofs.Tools.{bind_ok, chosen, ok_is, pair_is}
+use Rattle.ca_text.proofs.Tools.{bind_ok, chosen, pair_is}
 
 -- the fault of this kind at the first of these bytes
 abbrev pub place : Why → List ℕ → Fault
@@ -50,7 +50,9 @@ module _ {A : Type 0} (p : List ℕ → Read A) where
   fault_local why b bytes e = record {
     taken = λ a ys h. absurd (apart (a, ys) _ (p (b ∷ bytes)) h (e bytes));
     stuck = λ f h. let same = err_is _ f (sym (e bytes) ∙ h) in record {
-      front = []; behind = b ∷ bytes; whole = refl;
+      front = [];
+      behind = b ∷ bytes;
+      whole = refl;
       is = sym same ∙ ap (λ (g : Fault). place g.why (b ∷ bytes)) same;
       again = λ c r s x. let first : b ≡ c = cc in let kind : why ≡ f.why = ap (λ (g : Fault). g.why) same in ap (λ y. p (y ∷ s)) (sym first) ∙ e s ∙ ap (λ (w : Why). Err (place w (b ∷ s))) kind ∙ ap (λ (y : ℕ). Err (place f.why (y ∷ s))) first;
     };
@@ -59,7 +61,9 @@ module _ {A : Type 0} (p : List ℕ → Read A) where
   pub done_local : (a : A) (b : ℕ) (bytes : List ℕ) → ((zs : List ℕ) → p (b ∷ zs) ≡ Ok (a, zs)) → LocalAt p (b ∷ bytes)
   done_local a b bytes e = record {
     taken = λ x ys h. let q = pair_is a bytes x ys (sym (e bytes) ∙ h) in record {
-      front = b ∷ []; whole = ap (λ z. b ∷ z) q.1; again = λ c r s _. e (c ∷ s) ∙ ap (λ (y : A). Ok (y, c ∷ s)) q.0;
+      front = b ∷ [];
+      whole = ap (λ z. b ∷ z) q.1;
+      again = λ c r s _. e (c ∷ s) ∙ ap (λ (y : A). Ok (y, c ∷ s)) q.0;
     };
     stuck = λ f h. absurd (apart (a, bytes) f (p (b ∷ bytes)) (e bytes) h);
   }
@@ -67,7 +71,8 @@ module _ {A : Type 0} (p : List ℕ → Read A) where
   pub stay_local : (a : A) (b : ℕ) (bytes : List ℕ) → ((zs : List ℕ) → p (b ∷ zs) ≡ Ok (a, b ∷ zs)) → LocalAt p (b ∷ bytes)
   stay_local a b bytes e = record {
     taken = λ x ys h. let q = pair_is a (b ∷ bytes) x ys (sym (e bytes) ∙ h) in record {
-      front = []; whole = q.1;
+      front = [];
+      whole = q.1;
       again = λ c r s y. let rest = q.1 in let first : b ≡ c = cc in ap (λ z. p (z ∷ s)) (sym first) ∙ e s ∙ ap (λ (z : A). Ok (z, b ∷ s)) q.0 ∙ ap (λ (z : ℕ). Ok (x, z ∷ s)) first;
     };
     stuck = λ f h. absurd (apart (a, b ∷ bytes) f (p (b ∷ bytes)) (e bytes) h);
@@ -120,17 +125,17 @@ module _ {A B : Type 0} (p : List ℕ → Read A) (q : A → List ℕ → Read B
   pub bind_local : IsLocal chain
   bind_local xs = record {
     taken = λ b zs h.
-      let s = bind_ok (p xs) (λ x. q x.0 x.1) (b, zs) h in
-      let t = (first xs).taken s.0.0 s.0.1 s.1 in
-      let u = (second s.0.0 s.0.1).taken b zs s.2 in
-      record {
-        front = t.front ++ u.front;
-        whole = t.whole ∙ ap (λ x. t.front ++ x) u.whole ∙ sym (append_assoc t.front u.front zs);
-        again = λ c r k y. ap chain (append_assoc t.front u.front (c ∷ k)) ∙ step_to (t.front ++ (u.front ++ c ∷ k)) s.0.0 (u.front ++ c ∷ k) (Ok (b, c ∷ k)) (again_first xs s.0.0 s.0.1 t u.front zs u.whole c r k t y) (u.again c r k y);
-      };
+        let s = bind_ok (p xs) (λ x. q x.0 x.1) (b, zs) h in
+        let t = (first xs).taken s.0.0 s.0.1 s.1 in
+        let u = (second s.0.0 s.0.1).taken b zs s.2 in
+        record {
+          front = t.front ++ u.front;
+          whole = t.whole ∙ ap (λ x. t.front ++ x) u.whole ∙ sym (append_assoc t.front u.front zs);
+          again = λ c r k y. ap chain (append_assoc t.front u.front (c ∷ k)) ∙ step_to (t.front ++ (u.front ++ c ∷ k)) s.0.0 (u.front ++ c ∷ k) (Ok (b, c ∷ k)) (again_first xs s.0.0 s.0.1 t u.front zs u.whole c r k t y) (u.again c r k y);
+        };
     stuck = λ f h. ⊎_elim
-      (λ e. let t = (first xs).stuck f e in record { front = t.front; behind = t.behind; whole = t.whole; is = t.is; again = λ c r k y. fail_to (t.front ++ c ∷ k) (place f.why (c ∷ k)) (t.again c r k y) })
-      (λ s. let t = (first xs).taken s.0.0 s.0.1 s.1 in
+        (λ e. let t = (first xs).stuck f e in record { front = t.front; behind = t.behind; whole = t.whole; is = t.is; again = λ c r k y. fail_to (t.front ++ c ∷ k) (place f.why (c ∷ k)) (t.again c r k y) })
+        (λ s. let t = (first xs).taken s.0.0 s.0.1 s.1 in
         let u = (second s.0.0 s.0.1).stuck f s.2 in
         record {
           front = t.front ++ u.front;
@@ -139,7 +144,7 @@ module _ {A B : Type 0} (p : List ℕ → Read A) (q : A → List ℕ → Read B
           is = u.is;
           again = λ c r k y. ap chain (append_assoc t.front u.front (c ∷ k)) ∙ step_to (t.front ++ (u.front ++ c ∷ k)) s.0.0 (u.front ++ c ∷ k) (Err (place f.why (c ∷ k))) (again_first xs s.0.0 s.0.1 t u.front u.behind u.whole c r k t y) (u.again c r k y);
         })
-      (chain_err (p xs) f h);
+        (chain_err (p xs) f h);
   }
 
 -- ---- a byte, and blanks

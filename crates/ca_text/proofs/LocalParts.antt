@@ -1,17 +1,12 @@
 -- The readers of numbers, names, characters and binaries look no further than one byte ahead.
-use Rattle.std.proofs.Common.{◌≡◌, ◌≢◌, ℕ, zero, suc, ◌+◌, ◌-◌, ◌*◌, ◌^◌, ◌<◌, ◌≤◌, Bool, true, false, cond, not, ltb, leb, eqb, ◌&&◌, ◌||◌, List, [], ◌∷◌, ◌++◌, length, take, drop, Option, None, Some, Result, Ok, Err, ℤ, pos, neg_ℤ, refl, sym, ap, subst, ◌∙◌, append_assoc, append-nil, arith, ◌⊎◌, inl, inr, ⊎_elim, length-append, take-append-drop, length-take-le, le-ltb}
-use Rattle.std.proofs.lemmas.Bool.{leb-true, leb-false, eqb-true, eqb-false, le-leb}
-use Rattle.std.proofs.lemmas.Bool.Decides.{nat_tests}
-use Rattle.std.specs.List.{list_all}
+use Rattle.std.proofs.Common.{◌≡◌, ℕ, zero, suc, ◌+◌, ◌-◌, ◌*◌, ◌^◌, Bool, true, false, ltb, leb, eqb, ◌&&◌, List, [], ◌∷◌, Option, None, Some, Ok, pos, neg_ℤ, refl}
 use Rattle.std.specs.Char.{is_ascii_digit, is_ascii_hexdigit, digit_value}
-use Rattle.ca_text.specs.Text.{is_name_char}
-use Rattle.ca_text.specs.Grammar.{is_blank, escape_of}
-use Rattle.ca_text.specs.declared.fault.Fault.{Fault}
+use Rattle.ca_text.specs.Grammar.{escape_of}
 use Rattle.ca_text.specs.declared.fault.Why.{Why}
-use Rattle.ca_text.specs.declared.fault.Why.TheVariants.{Syntax, AtomTooLong, TooDeep, TooWide}
-use Rattle.ca_text.specs.Reading.{◌>>=◌, Read, syntax_fault, fault, skip, expect, digits_after, number_at, negative_at, positive_at, integer_at, name_length, name_at, byte_between, inner_byte, two_at, three_at, four_at, least_of_three, end_of_three, least_of_four, end_of_four, point_at, is_point, may_stand, hex_after, hex_at, or_fault, escape_at, begins_character, character_at, next_point_at, closing_at, points_after, characters_at, string_at, most_point, most_shown, one_byte_at, segment_at, after_segment_at, segment_step}
-use Rattle.ca_text.proofs.Tools.{bind_ok, chosen, both, ok_is, pair_is}
-use Rattle.ca_text.proofs.Local.{place, Taken, Stuck, LocalAt, IsLocal, nil_local, fault_local, done_local, stay_local, cons_local, same_local, pure_local, bind_local, expect_local, skip_local}
+use Rattle.ca_text.specs.declared.fault.Why.TheVariants.{Syntax}
+use Rattle.ca_text.specs.Reading.{◌>>=◌, Read, expect, digits_after, number_at, negative_at, positive_at, integer_at, byte_between, inner_byte, two_at, three_at, four_at, least_of_three, end_of_three, least_of_four, end_of_four, point_at, is_point, may_stand, hex_after, hex_at, escape_at, begins_character, character_at, next_point_at, closing_at, points_after, characters_at}
+use Rattle.ca_text.proofs.Tools.{pair_is}
+use Rattle.ca_text.proofs.Local.{LocalAt, IsLocal, nil_local, fault_local, done_local, stay_local, cons_local, same_local, pure_local, bind_local, expect_local}
 
 -- which way a test goes
 pub either_way : {C : Type 0} (b : Bool) → (b ≡ true → C) → (b ≡ false → C) → C
@@ -88,7 +83,7 @@ unfolding four_at
 four_local b =
     bind_local (byte_between (least_of_four b) (end_of_four b)) (λ c ys. inner_byte ys >>= λ d. inner_byte d.1 >>= λ e. Ok ((((b - 240) * 64 + (c - 128)) * 64 + (d.0 - 128)) * 64 + (e.0 - 128), e.1)) (byte_local (least_of_four b) (end_of_four b))
     (λ c. bind_local inner_byte (λ d ys. inner_byte ys >>= λ e. Ok ((((b - 240) * 64 + (c - 128)) * 64 + (d - 128)) * 64 + (e.0 - 128), e.1)) inner_local
-      (λ d. bind_local inner_byte (λ e ys. Ok ((((b - 240) * 64 + (c - 128)) * 64 + (d - 128)) * 64 + (e - 128), ys)) inner_local (λ e. pure_local ((((b - 240) * 64 + (c - 128)) * 64 + (d - 128)) * 64 + (e - 128)))))
+    (λ d. bind_local inner_byte (λ e ys. Ok ((((b - 240) * 64 + (c - 128)) * 64 + (d - 128)) * 64 + (e - 128), ys)) inner_local (λ e. pure_local ((((b - 240) * 64 + (c - 128)) * 64 + (d - 128)) * 64 + (e - 128)))))
 
 pub point_local : IsLocal point_at
 unfolding point_at

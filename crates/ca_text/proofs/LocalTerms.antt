@@ -1,27 +1,27 @@
 -- The readers of terms look no further than one byte ahead.
-use Rattle.std.proofs.Common.{◌≡◌, ◌≢◌, ℕ, zero, suc, ◌+◌, ◌-◌, ◌*◌, ◌^◌, ◌<◌, ◌≤◌, Bool, true, false, cond, not, ltb, leb, eqb, ◌&&◌, ◌||◌, List, [], ◌∷◌, ◌++◌, length, take, drop, Option, None, Some, Result, Ok, Err, pos, refl, sym, ap, subst, ◌∙◌, append_assoc, append-nil, arith, ◌⊎◌, inl, inr, ⊎_elim, length-append, take-append-drop, length-take-le, length-drop}
-use Rattle.std.proofs.lemmas.Bool.{leb-true, leb-false, eqb-true, le-leb}
+use Rattle.std.proofs.Common.{◌≡◌, ℕ, zero, suc, ◌+◌, ◌<◌, ◌≤◌, Bool, true, false, cond, leb, eqb, List, [], ◌∷◌, ◌++◌, length, take, drop, Option, None, Some, Result, Ok, Err, refl, sym, ap, subst, ◌∙◌, arith, length-append, take-append-drop, length-take-le}
+use Rattle.std.proofs.lemmas.Bool.{leb-true, leb-false, le-leb}
 use Rattle.std.proofs.lemmas.Bool.Decides.{nat_tests}
 use Rattle.std.specs.List.{list_all}
 use Rattle.std.specs.Char.{is_ascii_lowercase}
 use Rattle.std.specs.Str.{encode_utf8_all}
 use Rattle.ca_term.specs.Tree.{Tree, Integer, Atom, Tuple, Nil, Cons, Binary, row_of}
 use Rattle.ca_text.specs.Text.{is_name_char}
-use Rattle.ca_text.specs.Grammar.{Limits, is_blank, points, IsTextOf}
+use Rattle.ca_text.specs.Grammar.{Limits, points}
 use Rattle.ca_text.specs.declared.fault.Fault.{Fault}
 use Rattle.ca_text.specs.declared.fault.Why.{Why}
 use Rattle.ca_text.specs.declared.fault.Why.TheVariants.{Syntax, AtomTooLong, TooDeep, TooWide}
-use Rattle.ca_text.specs.Reading.{◌>>=◌, Read, syntax_fault, fault, skip, expect, number_at, integer_at, name_length, name_at, is_point, next_point_at, closing_at, points_after, characters_at, string_at, quoted_at, most_point, most_shown, begins_character, one_byte_at, segment_at, after_segment_at, segment_step, series_at, series_rest, bytes_at, after_element_at, element_step, elements_at, Next, Head, Inner, Last, closed, inner_at, tail_at, next_at, cells_after, cell_step, cells_at, list_at, string_points_at, points_at, tuple_at, binary_at, atom_at, integer_term_at, other_at, bracketed, begins_term, too_deep, term_at}
+use Rattle.ca_text.specs.Reading.{◌>>=◌, Read, syntax_fault, fault, skip, expect, number_at, integer_at, name_length, name_at, next_point_at, closing_at, points_after, characters_at, string_at, quoted_at, most_point, most_shown, begins_character, one_byte_at, segment_at, after_segment_at, segment_step, series_at, series_rest, bytes_at, after_element_at, element_step, elements_at, Next, Head, Inner, Last, closed, inner_at, tail_at, next_at, cells_after, cell_step, cells_at, list_at, string_points_at, points_at, tuple_at, binary_at, atom_at, integer_term_at, other_at, bracketed, begins_term, too_deep, term_at}
 use Rattle.ca_text.proofs.Tools.{bind_ok, both, ok_is, pair_is}
-use Rattle.ca_text.proofs.Characters.{next_taken, IsCharacterAt}
+use Rattle.ca_text.proofs.Characters.{next_taken}
 use Rattle.ca_text.proofs.PointsAgain.{character_some}
 use Rattle.ca_text.proofs.Numbers.{skipped, EndsName, names_all, names_end}
 use Rattle.ca_text.proofs.Again.{name_long, take_front, drop_front}
-use Rattle.ca_text.proofs.Sound.{IsSegmentAt, segment_taken}
+use Rattle.ca_text.proofs.Sound.{segment_taken}
 use Rattle.ca_text.proofs.Complete.{segment_begins, text_some}
-use Rattle.ca_text.proofs.Sound.{IsTermAt, ReadsTerms, term_taken}
-use Rattle.ca_text.proofs.Local.{place, Taken, Stuck, LocalAt, IsLocal, nil_local, fault_local, done_local, stay_local, cons_local, same_local, pure_local, bind_local, expect_local, skip_local, err_is}
-use Rattle.ca_text.proofs.LocalParts.{either_way, number_local, integer_local, next_local, characters_local}
+use Rattle.ca_text.proofs.Sound.{term_taken}
+use Rattle.ca_text.proofs.Local.{place, LocalAt, IsLocal, nil_local, fault_local, done_local, cons_local, same_local, pure_local, bind_local, expect_local, skip_local, err_is}
+use Rattle.ca_text.proofs.LocalParts.{either_way, number_local, integer_local, characters_local}
 
 -- two ways to part some bytes, with last parts of one length
 same_parts : (u v xs ys : List ℕ) → u ++ xs ≡ v ++ ys → length xs ≡ length ys → (u ≡ v) × (xs ≡ ys)
@@ -42,30 +42,30 @@ module _ {A : Type 0} (P : ℕ → List ℕ → Read A) (each : (k : ℕ) → Is
   pub fuel_local : IsLocal (λ xs. P (length xs) xs)
   fuel_local xs = record {
     taken = λ a ys h. let t = (each (length xs) xs).taken a ys h in
-      record {
-        front = t.front;
-        whole = t.whole;
-        again = λ c r s y.
-          let zs = t.front ++ c ∷ s in
-          let k = length xs + length zs in
-          let u = (each k xs).taken a ys (same k (length xs) xs (omega arith) (omega arith) ∙ h) in
-          let fronts : u.front ≡ t.front = cancel u.front t.front ys (sym u.whole ∙ t.whole) in
-          same (length zs) k zs (omega arith) (omega arith) ∙ ap (λ x. P k (x ++ c ∷ s)) (sym fronts) ∙ u.again c r s y;
-      };
+        record {
+          front = t.front;
+          whole = t.whole;
+          again = λ c r s y.
+              let zs = t.front ++ c ∷ s in
+              let k = length xs + length zs in
+              let u = (each k xs).taken a ys (same k (length xs) xs (omega arith) (omega arith) ∙ h) in
+              let fronts : u.front ≡ t.front = cancel u.front t.front ys (sym u.whole ∙ t.whole) in
+              same (length zs) k zs (omega arith) (omega arith) ∙ ap (λ x. P k (x ++ c ∷ s)) (sym fronts) ∙ u.again c r s y;
+        };
     stuck = λ f h. let t = (each (length xs) xs).stuck f h in
-      record {
-        front = t.front;
-        behind = t.behind;
-        whole = t.whole;
-        is = t.is;
-        again = λ c r s y.
-          let zs = t.front ++ c ∷ s in
-          let k = length xs + length zs in
-          let u = (each k xs).stuck f (same k (length xs) xs (omega arith) (omega arith) ∙ h) in
-          let long : length u.behind ≡ length t.behind = ap (λ (g : Fault). g.left) (sym u.is ∙ t.is) in
-          let parts = same_parts u.front t.front u.behind t.behind (sym u.whole ∙ t.whole) long in
-          same (length zs) k zs (omega arith) (omega arith) ∙ ap (λ x. P k (x ++ c ∷ s)) (sym parts.0) ∙ u.again c r s (parts.1 ∙ y);
-      };
+        record {
+          front = t.front;
+          behind = t.behind;
+          whole = t.whole;
+          is = t.is;
+          again = λ c r s y.
+              let zs = t.front ++ c ∷ s in
+              let k = length xs + length zs in
+              let u = (each k xs).stuck f (same k (length xs) xs (omega arith) (omega arith) ∙ h) in
+              let long : length u.behind ≡ length t.behind = ap (λ (g : Fault). g.left) (sym u.is ∙ t.is) in
+              let parts = same_parts u.front t.front u.behind t.behind (sym u.whole ∙ t.whole) long in
+              same (length zs) k zs (omega arith) (omega arith) ∙ ap (λ x. P k (x ++ c ∷ s)) (sym parts.0) ∙ u.again c r s (parts.1 ∙ y);
+        };
   }
 
 -- names
@@ -125,30 +125,30 @@ name_local most xs =
     either_way (leb n most)
     (λ h. record {
       taken = λ name ys e.
-        let q = pair_is (take n xs) (drop n xs) name ys (fit_is (leb n most) (Ok (take n xs, drop n xs)) (fault AtomTooLong (drop most xs)) (Ok (name, ys)) h e) in
-        let all : list_all is_name_char name ≡ true = subst (λ x. list_all is_name_char x ≡ true) q.0 (names_all xs) in
-        let few : length name ≤ most = subst (λ (x : List ℕ). length x ≤ most) q.0 (omega (arith, length-take-le n xs (name_within xs), leb-true n most h)) in
-        let ends : EndsName ys = subst EndsName q.1 (names_end xs) in
-        record {
-          front = name;
-          whole = sym (take-append-drop n xs) ∙ ap (λ x. x ++ drop n xs) q.0 ∙ ap (λ x. name ++ x) q.1;
-          again = λ c r s y. let end : is_name_char c ≡ false = subst EndsName y ends in name_of most name (c ∷ s) all end few;
-        };
+          let q = pair_is (take n xs) (drop n xs) name ys (fit_is (leb n most) (Ok (take n xs, drop n xs)) (fault AtomTooLong (drop most xs)) (Ok (name, ys)) h e) in
+          let all : list_all is_name_char name ≡ true = subst (λ x. list_all is_name_char x ≡ true) q.0 (names_all xs) in
+          let few : length name ≤ most = subst (λ (x : List ℕ). length x ≤ most) q.0 (omega (arith, length-take-le n xs (name_within xs), leb-true n most h)) in
+          let ends : EndsName ys = subst EndsName q.1 (names_end xs) in
+          record {
+            front = name;
+            whole = sym (take-append-drop n xs) ∙ ap (λ x. x ++ drop n xs) q.0 ∙ ap (λ x. name ++ x) q.1;
+            again = λ c r s y. let end : is_name_char c ≡ false = subst EndsName y ends in name_of most name (c ∷ s) all end few;
+          };
       stuck = λ f e. let k = fit_is (leb n most) (Ok (take n xs, drop n xs)) (fault AtomTooLong (drop most xs)) (Err f) h e in absurd cc;
     })
     (λ h. record {
       taken = λ name ys e. let k = long_is (leb n most) (Ok (take n xs, drop n xs)) (fault AtomTooLong (drop most xs)) (Ok (name, ys)) h e in absurd cc;
       stuck = λ f e.
-        let same : place AtomTooLong (drop most xs) ≡ f = err_is (place AtomTooLong (drop most xs)) f (long_is (leb n most) (Ok (take n xs, drop n xs)) (fault AtomTooLong (drop most xs)) (Err f) h e) in
-        let less = leb-false n most h in
-        let within = name_within xs in
-        record {
-          front = take most xs;
-          behind = drop most xs;
-          whole = sym (take-append-drop most xs);
-          is = sym same ∙ ap (λ (g : Fault). place g.why (drop most xs)) same;
-          again = λ c r s y. name_over most (take most xs) c s (names_to most xs (omega (arith, less))) (name_there most xs c r (omega (arith, less)) y) (length-take-le most xs (omega (arith, less, within))) ∙ ap (λ (g : Fault). failed_at g.why (c ∷ s)) same;
-        };
+          let same : place AtomTooLong (drop most xs) ≡ f = err_is (place AtomTooLong (drop most xs)) f (long_is (leb n most) (Ok (take n xs, drop n xs)) (fault AtomTooLong (drop most xs)) (Err f) h e) in
+          let less = leb-false n most h in
+          let within = name_within xs in
+          record {
+            front = take most xs;
+            behind = drop most xs;
+            whole = sym (take-append-drop most xs);
+            is = sym same ∙ ap (λ (g : Fault). place g.why (drop most xs)) same;
+            again = λ c r s y. name_over most (take most xs) c s (names_to most xs (omega (arith, less))) (name_there most xs c r (omega (arith, less)) y) (length-take-le most xs (omega (arith, less, within))) ∙ ap (λ (g : Fault). failed_at g.why (c ∷ s)) same;
+          };
     })
 
 -- ---- strings and binaries
@@ -196,8 +196,8 @@ after_segment_local [] = nil_local after_segment_at refl
 after_segment_local (b ∷ bytes) = either_way (eqb b 44)
     (λ h. cons_local after_segment_at (λ xs. Ok (true, skip xs)) b bytes (λ zs. rw h refl) (true_skip bytes))
     (λ h. either_way (eqb b 62)
-      (λ i. cons_local after_segment_at (λ xs. expect 62 xs >>= λ rest. Ok (false, rest)) b bytes (λ zs. rw (h, i) refl) (expect_local 62 (λ rest. Ok (false, rest)) (pure_local false) bytes))
-      (λ i. fault_local after_segment_at Syntax b bytes (λ zs. rw (h, i) refl)))
+    (λ i. cons_local after_segment_at (λ xs. expect 62 xs >>= λ rest. Ok (false, rest)) b bytes (λ zs. rw (h, i) refl) (expect_local 62 (λ rest. Ok (false, rest)) (pure_local false) bytes))
+    (λ i. fault_local after_segment_at Syntax b bytes (λ zs. rw (h, i) refl)))
 
 segment_step_local : (n : ℕ) → IsLocal (segment_step n)
 unfolding segment_step
@@ -288,8 +288,8 @@ unfolding after_element_at
 after_element_local n [] = nil_local (after_element_at n) refl
 after_element_local n (b ∷ bytes) = either_way (eqb b 44)
     (λ h. either_way (eqb n 0)
-      (λ i. fault_local (after_element_at n) TooWide b bytes (λ zs. rw (h, i) refl))
-      (λ i. cons_local (after_element_at n) (λ xs. Ok (true, skip xs)) b bytes (λ zs. rw (h, i) refl) (true_skip bytes)))
+    (λ i. fault_local (after_element_at n) TooWide b bytes (λ zs. rw (h, i) refl))
+    (λ i. cons_local (after_element_at n) (λ xs. Ok (true, skip xs)) b bytes (λ zs. rw (h, i) refl) (true_skip bytes)))
     (λ h. either_way (eqb b 125) (λ i. done_local (after_element_at n) false b bytes (λ zs. rw (h, i) refl)) (λ i. fault_local (after_element_at n) Syntax b bytes (λ zs. rw (h, i) refl)))
 
 module _ (element : List ℕ → Read Tree) (local : IsLocal element) where
@@ -357,10 +357,10 @@ module _ (element : List ℕ → Read Tree) (local : IsLocal element) where
       next_cell_local (b ∷ bytes) = either_way (eqb b 44)
           (λ h. cons_local (λ xs. follow (next_at other xs)) (λ xs. cells (skip xs) >>= λ x. Ok (Cons head x.0, x.1)) b bytes (λ zs. rw h refl) (head_local bytes))
           (λ h. either_way (eqb b 93)
-            (λ i. done_local (λ xs. follow (next_at other xs)) (Cons head Nil) b bytes (λ zs. rw (h, i) refl))
-            (λ i. either_way (eqb b 124)
-              (λ j. cons_local (λ xs. follow (next_at other xs)) (λ ys. follow (tail_at other (skip ys))) b bytes (λ zs. rw (h, i, j) refl) (skip_local (λ ys. follow (tail_at other ys)) tail_local bytes))
-              (λ j. fault_local (λ xs. follow (next_at other xs)) Syntax b bytes (λ zs. rw (h, i, j) refl))))
+          (λ i. done_local (λ xs. follow (next_at other xs)) (Cons head Nil) b bytes (λ zs. rw (h, i) refl))
+          (λ i. either_way (eqb b 124)
+          (λ j. cons_local (λ xs. follow (next_at other xs)) (λ ys. follow (tail_at other (skip ys))) b bytes (λ zs. rw (h, i, j) refl) (skip_local (λ ys. follow (tail_at other ys)) tail_local bytes))
+          (λ j. fault_local (λ xs. follow (next_at other xs)) Syntax b bytes (λ zs. rw (h, i, j) refl))))
 
 -- readers that answer alike
 equal_local : {A : Type 0} (p q : List ℕ → Read A) → ((xs : List ℕ) → p xs ≡ q xs) → IsLocal q → IsLocal p
@@ -403,10 +403,10 @@ next_left other [] next e = absurd cc
 next_left other (b ∷ xs) next e = either_way (eqb b 44)
     (λ h. let k : next_at other (b ∷ xs) ≡ Ok (Head (skip xs)) = rw h refl in omega (arith, ap left_of (ok_is (Head (skip xs)) next (sym k ∙ e)), skip_shorter xs))
     (λ h. either_way (eqb b 93)
-      (λ i. let k : next_at other (b ∷ xs) ≡ Ok (Last Nil xs) = rw (h, i) refl in omega (arith, ap left_of (ok_is (Last Nil xs) next (sym k ∙ e))))
-      (λ i. either_way (eqb b 124)
-        (λ j. let k : next_at other (b ∷ xs) ≡ tail_at other (skip xs) = rw (h, i, j) refl in omega (arith, tail_left other (skip xs) next (sym k ∙ e), skip_shorter xs))
-        (λ j. let k : next_at other (b ∷ xs) ≡ syntax_fault (b ∷ xs) = rw (h, i, j) refl in let m = sym k ∙ e in absurd cc)))
+    (λ i. let k : next_at other (b ∷ xs) ≡ Ok (Last Nil xs) = rw (h, i) refl in omega (arith, ap left_of (ok_is (Last Nil xs) next (sym k ∙ e))))
+    (λ i. either_way (eqb b 124)
+    (λ j. let k : next_at other (b ∷ xs) ≡ tail_at other (skip xs) = rw (h, i, j) refl in omega (arith, tail_left other (skip xs) next (sym k ∙ e), skip_shorter xs))
+    (λ j. let k : next_at other (b ∷ xs) ≡ syntax_fault (b ∷ xs) = rw (h, i, j) refl in let m = sym k ∙ e in absurd cc)))
 
 module _ (limits : Limits) (levels : ℕ) (element other : List ℕ → Read Tree) (nil : element [] ≡ syntax_fault []) (local : IsLocal element) (other_local : IsLocal other)
     (strict : (xs : List ℕ) (t : Tree) (ys : List ℕ) → element xs ≡ Ok (t, ys) → length ys < length xs) where
@@ -434,7 +434,7 @@ module _ (limits : Limits) (levels : ℕ) (element other : List ℕ → Read Tre
   cells_local (suc n) =
       equal_local (cells_at element other (suc n)) (λ xs. element xs >>= λ x. ◌>>=◌ {A = Next} {B = Tree × List ℕ} (next_at other (skip x.1)) (λ next. cells_after x.0 (cells_at element other n) next)) (cells_is n)
       (bind_local element (λ t ys. ◌>>=◌ {A = Next} {B = Tree × List ℕ} (next_at other (skip ys)) (λ next. cells_after t (cells_at element other n) next)) local
-        (λ t. skip_local (λ ys. ◌>>=◌ {A = Next} {B = Tree × List ℕ} (next_at other ys) (λ next. cells_after t (cells_at element other n) next)) (next_cell_local element local other other_local t (cells_at element other n) (cells_local n))))
+      (λ t. skip_local (λ ys. ◌>>=◌ {A = Next} {B = Tree × List ℕ} (next_at other ys) (λ next. cells_after t (cells_at element other n) next)) (next_cell_local element local other other_local t (cells_at element other n) (cells_local n))))
 
   after_next_same : (head : Tree) (k j : ℕ) (xs : List ℕ) (r : Result Next Fault) → next_at other xs ≡ r → length xs ≤ k → length xs ≤ j
       → ((ys : List ℕ) → length ys ≤ k → length ys ≤ j → cells_at element other k ys ≡ cells_at element other j ys)
@@ -516,14 +516,14 @@ other_local limits element levels l (b ∷ bytes) =
     either_way (eqb b 123)
     (λ h. cons_local p (λ xs. tuple_at element limits.elements (skip xs)) b bytes (λ zs. rw h refl) (tuple_local element l limits.elements bytes))
     (λ h. either_way (eqb b 34)
-      (λ i. cons_local p (points_at levels) b bytes (λ zs. rw (h, i) refl) (points_local levels bytes))
-      (λ i. either_way (eqb b 39)
-        (λ j. cons_local p (quoted_at limits.characters) b bytes (λ zs. rw (h, i, j) refl) (quoted_local limits.characters bytes))
-        (λ j. either_way (eqb b 60)
-          (λ k. cons_local p binary_at b bytes (λ zs. rw (h, i, j, k) refl) (binary_local bytes))
-          (λ k. either_way (is_ascii_lowercase b)
-            (λ m. same_local p (atom_at limits.characters) b bytes (λ zs. rw (h, i, j, k, m) refl) (atom_local limits.characters (b ∷ bytes)))
-            (λ m. same_local p integer_term_at b bytes (λ zs. rw (h, i, j, k, m) refl) (integer_term_local (b ∷ bytes)))))))
+    (λ i. cons_local p (points_at levels) b bytes (λ zs. rw (h, i) refl) (points_local levels bytes))
+    (λ i. either_way (eqb b 39)
+    (λ j. cons_local p (quoted_at limits.characters) b bytes (λ zs. rw (h, i, j) refl) (quoted_local limits.characters bytes))
+    (λ j. either_way (eqb b 60)
+    (λ k. cons_local p binary_at b bytes (λ zs. rw (h, i, j, k) refl) (binary_local bytes))
+    (λ k. either_way (is_ascii_lowercase b)
+    (λ m. same_local p (atom_at limits.characters) b bytes (λ zs. rw (h, i, j, k, m) refl) (atom_local limits.characters (b ∷ bytes)))
+    (λ m. same_local p integer_term_at b bytes (λ zs. rw (h, i, j, k, m) refl) (integer_term_local (b ∷ bytes)))))))
 
 deep_local : IsLocal too_deep
 deep_local [] = nil_local too_deep refl

@@ -1,5 +1,5 @@
 -- Where a fault stands no text goes on.
-use Rattle.std.proofs.Common.{◌≡◌, ℕ, suc, ◌+◌, ◌-◌, ◌<◌, ◌≤◌, List, [], ◌∷◌, ◌++◌, length, take, Result, Ok, Err, refl, sym, ap, subst, ◌∙◌, arith, append_assoc, append-nil, length-append, add-one}
+use Rattle.std.proofs.Common.{◌≡◌, ℕ, suc, ◌+◌, ◌-◌, ◌<◌, List, [], ◌∷◌, ◌++◌, length, take, Ok, Err, refl, sym, ap, subst, ◌∙◌, arith, append_assoc, append-nil, length-append, add-one}
 use Rattle.ca_term.specs.Tree.{Tree}
 use Rattle.ca_text.specs.declared.fault.Fault.{Fault}
 use Rattle.ca_text.specs.declared.fault.Why.{Why}
@@ -7,9 +7,9 @@ use Rattle.ca_text.specs.declared.fault.Why.TheVariants as why
 use Rattle.ca_text.specs.declared.fault.Stop.{Stop}
 use Rattle.ca_text.specs.declared.fault.Stop.TheVariants as stop
 use Rattle.ca_text.specs.Grammar.{standard, IsText}
-use Rattle.ca_text.specs.Place.{EndsTexts, StandsWhereTextsEnd, fault_with, text_fault}
+use Rattle.ca_text.specs.Place.{EndsTexts, StandsWhereTextsEnd, IsWithin, fault_with, text_fault}
 use Rattle.ca_text.specs.Reading.{Fails, term_at}
-use Rattle.ca_text.proofs.Local.{place, Stuck}
+use Rattle.ca_text.proofs.Local.{place}
 use Rattle.ca_text.proofs.LocalTerms.{term_local}
 use Rattle.ca_text.proofs.Complete.{term_again}
 
@@ -44,8 +44,9 @@ stands_at bytes why.AtomTooLong at h = h
 stands_at bytes why.TooDeep at h = h
 stands_at bytes why.TooWide at h = h
 
-pub within : (bytes : List ℕ) (f : Fault) → term_at standard 64 bytes ≡ Err f → f.left ≤ length bytes
-within bytes f e =
+pub within : (bytes : List ℕ) (e : Stop) → Fails e (term_at standard 64 bytes) → IsWithin e (length bytes)
+within bytes stop.NoMemory e = tt
+within bytes (stop.At f) e =
     let s = (term_local standard 64 bytes).stuck f e in
     omega (arith, ap (λ (l : List ℕ). length l) s.whole, length-append s.front s.behind, ap (λ (g : Fault). g.left) s.is)
 

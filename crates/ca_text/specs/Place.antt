@@ -15,6 +15,11 @@ fault_with why.AtomTooLong at = AtomTooLong at
 fault_with why.TooDeep at = TooDeep at
 fault_with why.TooWide at = TooWide at
 
+-- a fault stands in so many bytes or at their end
+abbrev pub IsWithin : Stop → ℕ → Type 0
+IsWithin stop.NoMemory length = Unit {0}
+IsWithin (stop.At fault) length = fault.left ≤ length
+
 -- the fault of a stop in so many bytes
 abbrev pub text_fault : Stop → ℕ → TextFault
 text_fault stop.NoMemory length = NoMemory

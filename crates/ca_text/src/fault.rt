@@ -1,6 +1,6 @@
 //! Why a text is not read.
 ghost use Rattle.std.specs.Prelude.{◌≡◌, length};
-ghost use Rattle.ca_text.specs.Place.{text_fault};
+ghost use Rattle.ca_text.specs.Place.{IsWithin, text_fault};
 ghost use Rattle.ca_text.specs.declared.fault.Stop.TheVariants.{NoMemory};
 
 use ca_term::TermFault;
@@ -85,12 +85,13 @@ pub enum TextFault {
 
 // The fault of a stop in so many bytes.
 pub(crate) fn fault_of(stop: Stop, length: usize) -> TextFault
+    requires { IsWithin stop length }
     ensures { result ≡ text_fault stop length }
 {
     let Stop::At(fault) = stop else {
         return TextFault::NoMemory;
     };
-    let at = length.saturating_sub(fault.left);
+    let at = length - fault.left;
     match fault.why {
         Why::Syntax => TextFault::Syntax { at },
         Why::AtomTooLong => TextFault::AtomTooLong { at },

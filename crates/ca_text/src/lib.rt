@@ -1,4 +1,4 @@
-//! The printed text of terms, in Erlang's notation.
+//! The text of terms in Erlang's notation: printing it, and reading it.
 #![tactic(auto)]
 
 mod atom;
