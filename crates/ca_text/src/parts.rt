@@ -1,5 +1,5 @@
 //! Atoms in quotes, strings and binaries.
-ghost use Rattle.std.specs.Prelude.{◌≡◌, ◌≤◌, ◌<◌, ◌^◌, ◌++◌, true, pos, string_bytes, length, IfOk};
+ghost use Rattle.std.specs.Prelude.{◌≡◌, ◌≤◌, ◌<◌, ◌^◌, ◌++◌, true, pos, string_bytes, length, IfOk, IfErr};
 ghost use Rattle.std.specs.List.{list_all};
 ghost use Rattle.std.specs.Str.{all_scalars, encode_utf8_all};
 ghost use Rattle.ca_text.specs.Grammar.{points};
@@ -8,7 +8,7 @@ ghost use Rattle.ca_text.specs.Reading.{Gives, string_at, quoted_at, one_byte_at
 use crate::character::{begins_character, characters};
 use crate::fault::{Stop, Why, fault_at, syntax_at};
 use crate::scan::{expect, number, skip};
-use ca_term::{Term, TermFault, atom, cons, int, nil};
+use ca_term::{Term, atom, cons, int, nil};
 use std::alloc::{AllocError, Global};
 
 const MOST_POINT: u32 = 0x10ffff;
@@ -138,8 +138,9 @@ pub(crate) fn binary_bytes(alloc: Global, bytes: &[u8]) -> Result<(Vec<u8>, &[u8
 }
 
 // The list of these code points.
-fn list_of(alloc: Global, codes: &[u32]) -> Result<Term, TermFault>
-    ensures { IfOk result (λ t. t ≡ points codes.now) }
+fn list_of(alloc: Global, codes: &[u32]) -> Result<Term, Stop>
+    ensures ok { IfOk result (λ t. t ≡ points codes.now) }
+    ensures causes { IfErr result (λ e. e ≡ Stop.NoMemory) }
 {
     let mut list = nil();
     let mut left = codes.len();

@@ -11,7 +11,7 @@ ghost use Rattle.ca_text.specs.Reading.{Gives, Fails, with_front, after_element_
 use crate::fault::{Stop, TextFault, Why, fault_at, fault_of, syntax_at};
 use crate::parts::{binary_bytes, quoted_atom, string_term};
 use crate::scan::{expect, integer, name, skip};
-use ca_term::{Term, TermFault, Terms, atom, bin, cons, int, nil, tuple};
+use ca_term::{Term, Terms, atom, bin, cons, int, nil, tuple};
 use std::alloc::Global;
 
 const MOST_LEVELS: u8 = 64;
@@ -62,8 +62,9 @@ fn brackets(owed: usize, bytes: &[u8]) -> Result<&[u8], Stop>
 }
 
 // The list of these heads and this last tail.
-fn list_of(alloc: Global, heads: Vec<Term>, tail: Term) -> Result<Term, TermFault>
-    ensures { IfOk result (λ t. t ≡ conses heads.items tail) }
+fn list_of(alloc: Global, heads: Vec<Term>, tail: Term) -> Result<Term, Stop>
+    ensures ok { IfOk result (λ t. t ≡ conses heads.items tail) }
+    ensures causes { IfErr result (λ e. e ≡ Stop.NoMemory) }
 {
     let mut heads = heads;
     let mut list = tail;
