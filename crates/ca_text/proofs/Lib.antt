@@ -2,6 +2,7 @@ pub mod Again
 pub mod Characters
 pub mod Complete
 pub mod Fronts
+pub mod Halts
 pub mod Local
 pub mod LocalParts
 pub mod LocalTerms
