@@ -1,9 +1,11 @@
 -- Where a reader halts, what it took begins a text.
-use Rattle.std.proofs.Common.{◌≡◌, ℕ, List, [], ◌∷◌, ◌++◌, length, Result, Ok, Err, refl, sym, ap, subst, ◌∙◌, append_assoc, ◌⊎◌, inl, inr, ⊎_elim}
+use Rattle.std.proofs.Common.{◌≡◌, ℕ, eqb, List, [], ◌∷◌, ◌++◌, length, Result, Ok, Err, refl, sym, ap, subst, ◌∙◌, append_assoc, ◌⊎◌, inl, inr, ⊎_elim}
 use Rattle.ca_text.specs.declared.fault.Fault.{Fault}
 use Rattle.ca_text.specs.declared.fault.Why.{Why}
-use Rattle.ca_text.specs.Reading.{◌>>=◌}
+use Rattle.ca_text.specs.declared.fault.Why.TheVariants.{Syntax}
+use Rattle.ca_text.specs.Reading.{◌>>=◌, expect}
 use Rattle.ca_text.proofs.Local.{place, err_is}
+use Rattle.ca_text.proofs.Tools.{chosen}
 
 -- some bytes go on to a text, and it is one of this kind
 abbrev pub GoesOn : {A : Type 0} → (List ℕ → A → Type 0) → List ℕ → Type 0
@@ -58,3 +60,20 @@ halted_map IsPart IsOf bytes f h each = record {
       (λ g. let u = each (h.front ++ g.0) g.1 g.2 in inr (g.0 ++ u.0, u.1, subst (λ x. IsOf x u.1) (append_assoc h.front g.0 u.0) u.2))
       h.goes_on;
 }
+
+-- a fault at the first byte behind bytes that go on
+pub halted_stop : {A : Type 0} (IsOf : List ℕ → A → Type 0) (taken bytes : List ℕ) (why : Why) (f : Fault) → place why bytes ≡ f → GoesOn IsOf taken → Halted IsOf (taken ++ bytes) f
+halted_stop {A} IsOf taken bytes why f e goes = record {
+  front = taken;
+  behind = bytes;
+  whole = refl;
+  left = ap (λ (g : Fault). g.left) (sym e);
+  goes_on = inr goes;
+}
+
+-- a byte that doesn't stand there
+pub expect_halts : (c : ℕ) (bytes : List ℕ) (f : Fault) → expect c bytes ≡ Err f → place Syntax bytes ≡ f
+unfolding expect
+expect_halts c [] f e = err_is {A = List ℕ} (place Syntax []) f e
+expect_halts c (b ∷ bytes) f e =
+    ⊎_elim (λ h. absurd (let k = h.1 in cc)) (λ h. err_is {A = List ℕ} (place Syntax (b ∷ bytes)) f h.1) (chosen (eqb b c) _ _ (Err f) e)
