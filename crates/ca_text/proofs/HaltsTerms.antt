@@ -12,12 +12,12 @@ use Rattle.ca_text.proofs.Local.{place, err_is}
 use Rattle.ca_text.proofs.LocalParts.{either_way}
 use Rattle.ca_text.proofs.Numbers.{skipped, whole_by}
 use Rattle.ca_text.proofs.Sound.{IsTermAt, ReadsTerms, with_more, with_front_blanks, after_element_taken, IsNext, next_taken, AreCellsAt, cells_taken}
-use Rattle.ca_text.proofs.Halts.{GoesOn, Halted, Halts, halted_here, halted_behind, halted_map, halted_stop, bind_err, expect_halts}
+use Rattle.ca_text.proofs.Halts.{GoesOn, Halted, Halts, halted_here, halted_behind, halted_map, halted_at, bind_err, expect_halts}
 
 module _ {A : Type 0} where
   -- the same bytes, told apart otherwise
-  pub halted_as : (IsOf : List ℕ → A → Type 0) (bytes other : List ℕ) (f : Fault) → bytes ≡ other → Halted IsOf other f → Halted IsOf bytes f
-  halted_as IsOf bytes other f e h = subst (λ x. Halted IsOf x f) (sym e) h
+  pub halted_whole : (IsOf : List ℕ → A → Type 0) (bytes other : List ℕ) (f : Fault) → bytes ≡ other → Halted IsOf other f → Halted IsOf bytes f
+  halted_whole IsOf bytes other f e h = subst (λ x. Halted IsOf x f) (sym e) h
 
 never : {A : Type 0} {C : Type 0} (x : A) (f : Fault) → (let ok : Result A Fault = Ok x in ok ≡ Err f) → C
 never x f e = absurd cc
@@ -72,7 +72,7 @@ module _ (limits : Limits) (levels : ℕ) (element : List ℕ → Read Tree) (so
       let whole : bytes ≡ (first.text ++ gap.blanks) ++ skip h.0.1 = first.whole ∙ ap (λ x. first.text ++ x) gap.whole ∙ sym (append_assoc first.text gap.blanks (skip h.0.1)) in
       ⊎_elim
       (λ i. let stop = after_element_halts n (skip h.0.1) f i in
-      halted_as (IsRow (suc n)) bytes ((first.text ++ gap.blanks) ++ skip h.0.1) f whole (halted_stop (IsRow (suc n)) (first.text ++ gap.blanks) (skip h.0.1) stop.0 f stop.1 (one_element n first.text gap.blanks h.0.0 first.is gap.are)))
+      halted_whole (IsRow (suc n)) bytes ((first.text ++ gap.blanks) ++ skip h.0.1) f whole (halted_at (IsRow (suc n)) (first.text ++ gap.blanks) (skip h.0.1) stop.0 f stop.1 (one_element n first.text gap.blanks h.0.0 first.is gap.are)))
       (λ i. let k = i.2 in absurd cc)
       (bind_err (after_element_at n (skip h.0.1)) (λ y. Ok ((h.0.0 ∷ [], y.0), y.1)) f h.2))
       (bind_err (element bytes) (λ x. after_element_at n (skip x.1) >>= λ y. Ok ((x.0 ∷ [], y.0), y.1)) f e)
@@ -91,7 +91,7 @@ module _ (limits : Limits) (levels : ℕ) (element : List ℕ → Read Tree) (so
           λ rest row are. further_elements (suc n) first.text before.blanks behind.blanks rest t row first.is before.are behind.are are in
       let again = one_element n first.text [] t first.is refl in
       let last : IsRow (suc n) ((first.text ++ []) ++ again.0) again.1 = again.2 in
-      halted_as (IsRow (suc (suc n))) bytes (taken ++ after) f whole
+      halted_whole (IsRow (suc (suc n))) bytes (taken ++ after) f whole
           (halted_behind (IsRow (suc n)) (IsRow (suc (suc n))) taken after f h ((first.text ++ []) ++ again.0, More t again.1, more ((first.text ++ []) ++ again.0) again.1 last)
           (λ rest row are. ([], More t row, subst (λ x. IsRow (suc (suc n)) (taken ++ x) (More t row)) (sym (append-nil rest)) (more rest row are))))
 
@@ -126,7 +126,7 @@ module _ (limits : Limits) (levels : ℕ) (element : List ℕ → Read Tree) (so
   tuple_inner : (blanks inner : List ℕ) (f : Fault) → AreBlanks blanks → GoesOn (IsTextOf limits (suc levels)) (123 ∷ blanks) → elements_at element limits.elements inner ≡ Err f
       → Halted (IsTextOf limits (suc levels)) ((123 ∷ blanks) ++ inner) f
   unfolding elements_at
-  tuple_inner blanks [] f are none e = halted_stop (IsTextOf limits (suc levels)) (123 ∷ blanks) [] Syntax f (err_is {A = List Tree × List ℕ} (place Syntax []) f e) none
+  tuple_inner blanks [] f are none e = halted_at (IsTextOf limits (suc levels)) (123 ∷ blanks) [] Syntax f (err_is {A = List Tree × List ℕ} (place Syntax []) f e) none
   tuple_inner blanks (b ∷ inner) f are none e =
       ⊎_elim (λ h. absurd (let k = h.1 in cc))
       (λ h. halted_behind (IsRow limits.elements) (IsTextOf limits (suc levels)) (123 ∷ blanks) (b ∷ inner) f (elements_halt limits.elements (b ∷ inner) f h.1) none
@@ -139,7 +139,7 @@ module _ (limits : Limits) (levels : ℕ) (element : List ℕ → Read Tree) (so
   tuple_from bytes blanks inner f gap are e =
       let none : GoesOn (IsTextOf limits (suc levels)) (123 ∷ blanks) = (125 ∷ [], Tuple Ends, NoElements limits levels blanks are) in
       let whole : 123 ∷ bytes ≡ (123 ∷ blanks) ++ inner = ap (λ x. 123 ∷ x) gap in
-      halted_as (IsTextOf limits (suc levels)) (123 ∷ bytes) ((123 ∷ blanks) ++ inner) f whole (tuple_inner blanks inner f are none e)
+      halted_whole (IsTextOf limits (suc levels)) (123 ∷ bytes) ((123 ∷ blanks) ++ inner) f whole (tuple_inner blanks inner f are none e)
 
   tuple_halts : (bytes : List ℕ) (f : Fault) → tuple_at element limits.elements (skip bytes) ≡ Err f → Halted (IsTextOf limits (suc levels)) (123 ∷ bytes) f
   tuple_halts bytes f e =
@@ -185,7 +185,7 @@ module _ (limits : Limits) (levels : ℕ) (element : List ℕ → Read Tree) (so
         let gap = skipped after in
         let whole : bytes ≡ (is.text ++ gap.blanks) ++ skip after = is.whole ∙ ap (λ x. is.text ++ x) gap.whole ∙ sym (append_assoc is.text gap.blanks (skip after)) in
         ⊎_elim
-        (λ h. halted_as IsLast bytes ((is.text ++ gap.blanks) ++ skip after) f whole (halted_stop IsLast (is.text ++ gap.blanks) (skip after) Syntax f (expect_halts 93 (skip after) f h) (tail_goes is.text gap.blanks tail is.is gap.are)))
+        (λ h. halted_whole IsLast bytes ((is.text ++ gap.blanks) ++ skip after) f whole (halted_at IsLast (is.text ++ gap.blanks) (skip after) Syntax f (expect_halts 93 (skip after) f h) (tail_goes is.text gap.blanks tail is.is gap.are)))
         (λ h. let k = h.2 in absurd cc)
         (bind_err (expect 93 (skip after)) (λ rest. Ok (Last tail rest)) f e)
 
@@ -211,7 +211,7 @@ module _ (limits : Limits) (levels : ℕ) (element : List ℕ → Read Tree) (so
     tail_halts [] f e = closed_halts [] f e
     tail_halts (b ∷ bytes) f e =
         ⊎_elim
-        (λ h. let gap = skipped bytes in halted_as IsLast (b ∷ bytes) (91 ∷ bytes) f (ap (λ x. x ∷ bytes) (eqb-true b 91 h.0)) (inner_halts bytes gap.blanks (skip bytes) f gap.whole gap.are h.1))
+        (λ h. let gap = skipped bytes in halted_whole IsLast (b ∷ bytes) (91 ∷ bytes) f (ap (λ x. x ∷ bytes) (eqb-true b 91 h.0)) (inner_halts bytes gap.blanks (skip bytes) f gap.whole gap.are h.1))
         (λ h. closed_halts (b ∷ bytes) f h.1)
         (chosen (eqb b 91) _ _ (Err f) e)
 
@@ -227,7 +227,7 @@ module _ (limits : Limits) (levels : ℕ) (element : List ℕ → Read Tree) (so
         let taken : List ℕ = 124 ∷ gap.blanks in
         let whole : b ∷ bytes ≡ taken ++ skip bytes = ap (λ x. x ∷ bytes) (eqb-true b 124 j.0) ∙ ap (λ x. 124 ∷ x) gap.whole in
         let zero_last = last_of (48 ∷ []) [] (Integer (pos 0)) zero_text refl in
-        halted_as IsEnding (b ∷ bytes) (taken ++ skip bytes) f whole (halted_behind IsLast IsEnding taken (skip bytes) f (tail_halts (skip bytes) f j.1)
+        halted_whole IsEnding (b ∷ bytes) (taken ++ skip bytes) f whole (halted_behind IsLast IsEnding taken (skip bytes) f (tail_halts (skip bytes) f j.1)
             (48 ∷ 93 ∷ [], Integer (pos 0), bar gap.blanks (48 ∷ 93 ∷ []) (Integer (pos 0)) gap.are zero_last)
             (λ text tail l. ([], tail, subst (λ x. IsEnding (taken ++ x) tail) (sym (append-nil text)) (bar gap.blanks text tail gap.are l)))))
         (λ j. halted_here IsEnding Syntax (b ∷ bytes) f (err_is {A = Next} (place Syntax (b ∷ bytes)) f j.1))
@@ -243,7 +243,7 @@ module _ (limits : Limits) (levels : ℕ) (element : List ℕ → Read Tree) (so
         let whole : bytes ≡ taken ++ skip r = first.whole ∙ ap (λ x. first.text ++ x) gap.whole ∙ sym (append_assoc first.text gap.blanks (skip r)) in
         let made : (rest : List ℕ) (tail : Tree) → IsEnding rest tail → AreCells limits levels (taken ++ rest) (Cons head tail) =
             λ rest tail e. subst (λ x. AreCells limits levels x (Cons head tail)) (sym (append_assoc first.text gap.blanks rest)) (e head first.text gap.blanks first.is gap.are) in
-        halted_as (AreCells limits levels) bytes (taken ++ skip r) f whole (halted_behind IsEnding (AreCells limits levels) taken (skip r) f h
+        halted_whole (AreCells limits levels) bytes (taken ++ skip r) f whole (halted_behind IsEnding (AreCells limits levels) taken (skip r) f h
             (93 ∷ [], Cons head Nil, made (93 ∷ []) Nil closing)
             (λ rest tail e. ([], Cons head tail, subst (λ x. AreCells limits levels (taken ++ x) (Cons head tail)) (sym (append-nil rest)) (made rest tail e))))
 
@@ -268,7 +268,7 @@ module _ (limits : Limits) (levels : ℕ) (element : List ℕ → Read Tree) (so
         let made : (rest : List ℕ) (t : Tree) → AreCells limits levels rest t → IsEnding (taken ++ rest) t =
             λ rest t are head text blanks is one. MoreCells limits levels text blanks behind.blanks rest head t is one behind.are are in
         let again : AreCells limits levels (first.text ++ 93 ∷ []) (Cons head Nil) = closing head first.text [] first.is refl in
-        ended bytes r head f first (halted_as IsEnding (skip r) (taken ++ after) f whole (halted_behind (AreCells limits levels) IsEnding taken after f h
+        ended bytes r head f first (halted_whole IsEnding (skip r) (taken ++ after) f whole (halted_behind (AreCells limits levels) IsEnding taken after f h
             (first.text ++ 93 ∷ [], Cons head Nil, made (first.text ++ 93 ∷ []) (Cons head Nil) again)
             (λ rest t are. ([], t, subst (λ x. IsEnding (taken ++ x) t) (sym (append-nil rest)) (made rest t are)))))
 
@@ -295,7 +295,7 @@ module _ (limits : Limits) (levels : ℕ) (element : List ℕ → Read Tree) (so
         let taken : List ℕ = 124 ∷ (behind.blanks ++ 91 ∷ blanks.blanks) in
         let whole : skip r ≡ taken ++ after =
             bar ∙ ap (λ x. 124 ∷ x) (behind.whole ∙ ap (λ x. behind.blanks ++ x) (opens ∙ ap (λ x. 91 ∷ x) (blanks.whole ∙ ap (λ x. blanks.blanks ++ x) gap)) ∙ sym (append_assoc behind.blanks (91 ∷ blanks.blanks) after)) in
-        ended bytes r head f first (halted_as IsEnding (skip r) (taken ++ after) f whole (halted_behind (AreCells limits levels) IsEnding taken after f h
+        ended bytes r head f first (halted_whole IsEnding (skip r) (taken ++ after) f whole (halted_behind (AreCells limits levels) IsEnding taken after f h
             (93 ∷ 93 ∷ [], Nil, empty_ending behind.blanks blanks.blanks behind.are blanks.are)
             (λ rest t are. (93 ∷ [], t, inner_ending behind.blanks blanks.blanks rest t behind.are blanks.are are))))
 
@@ -311,8 +311,8 @@ module _ (limits : Limits) (levels : ℕ) (element : List ℕ → Read Tree) (so
             ∙ sym (append_assoc behind.blanks (last.text ++ gap.blanks) (skip after))) in
         let goes = tail_goes last.text gap.blanks t last.is gap.are in
         let same : behind.blanks ++ ((last.text ++ gap.blanks) ++ goes.0) ≡ (behind.blanks ++ (last.text ++ gap.blanks)) ++ goes.0 = sym (append_assoc behind.blanks (last.text ++ gap.blanks) goes.0) in
-        ended bytes r head f first (halted_as IsEnding (skip r) (taken ++ skip after) f whole
-            (halted_stop IsEnding taken (skip after) Syntax f (expect_halts 93 (skip after) f e)
+        ended bytes r head f first (halted_whole IsEnding (skip r) (taken ++ skip after) f whole
+            (halted_at IsEnding taken (skip after) Syntax f (expect_halts 93 (skip after) f e)
             (goes.0, goes.1, subst (λ x. IsEnding (124 ∷ x) goes.1) same (bar behind.blanks ((last.text ++ gap.blanks) ++ goes.0) goes.1 behind.are goes.2))))
 
     cells_behind : (cells : List ℕ → Read Tree) (bytes r : List ℕ) (head : Tree) (next : Next) (f : Fault) → Halts cells (AreCells limits levels)
@@ -350,7 +350,7 @@ module _ (limits : Limits) (levels : ℕ) (element : List ℕ → Read Tree) (so
 
     list_inner : (blanks inner : List ℕ) (f : Fault) → AreBlanks blanks → list_at element other inner ≡ Err f → Halted (IsTextOf limits (suc levels)) ((91 ∷ blanks) ++ inner) f
     unfolding list_at
-    list_inner blanks [] f are e = halted_stop (IsTextOf limits (suc levels)) (91 ∷ blanks) [] Syntax f (err_is {A = Tree × List ℕ} (place Syntax []) f e) (93 ∷ [], Nil, ANil limits levels blanks are)
+    list_inner blanks [] f are e = halted_at (IsTextOf limits (suc levels)) (91 ∷ blanks) [] Syntax f (err_is {A = Tree × List ℕ} (place Syntax []) f e) (93 ∷ [], Nil, ANil limits levels blanks are)
     list_inner blanks (b ∷ inner) f are e =
         ⊎_elim (λ h. absurd (let k = h.1 in cc))
         (λ h. halted_behind (AreCells limits levels) (IsTextOf limits (suc levels)) (91 ∷ blanks) (b ∷ inner) f (cells_halt (length (b ∷ inner)) (b ∷ inner) f h.1) (93 ∷ [], Nil, ANil limits levels blanks are)
@@ -364,6 +364,6 @@ module _ (limits : Limits) (levels : ℕ) (element : List ℕ → Read Tree) (so
         ⊎_elim
         (λ h. let gap = skipped bytes in
         let whole : b ∷ bytes ≡ (91 ∷ gap.blanks) ++ skip bytes = ap (λ x. x ∷ bytes) (eqb-true b 91 h.0) ∙ ap (λ x. 91 ∷ x) gap.whole in
-        halted_as (IsTextOf limits (suc levels)) (b ∷ bytes) ((91 ∷ gap.blanks) ++ skip bytes) f whole (list_inner gap.blanks (skip bytes) f gap.are h.1))
+        halted_whole (IsTextOf limits (suc levels)) (b ∷ bytes) ((91 ∷ gap.blanks) ++ skip bytes) f whole (list_inner gap.blanks (skip bytes) f gap.are h.1))
         (λ h. others_halt (b ∷ bytes) f h.1)
         (chosen (eqb b 91) _ _ (Err f) e)

@@ -3,6 +3,7 @@ pub mod Characters
 pub mod Complete
 pub mod Fronts
 pub mod Halts
+pub mod HaltsNumbers
 pub mod HaltsTerms
 pub mod Local
 pub mod LocalParts

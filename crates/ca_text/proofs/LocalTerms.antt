@@ -73,7 +73,7 @@ names_to_next : (k b : ℕ) (bytes : List ℕ) → (k ≤ name_length bytes → 
 unfolding name_length
 names_to_next k b bytes later h = either_way (is_name_char b) (λ x. let g : suc k ≤ suc (name_length bytes) = rw x at h in rw (x, later (omega (arith, g))) refl) (λ x. absurd (omega (arith, rw x at h)))
 
-names_to : (k : ℕ) (bytes : List ℕ) → k ≤ name_length bytes → list_all is_name_char (take k bytes) ≡ true
+pub names_to : (k : ℕ) (bytes : List ℕ) → k ≤ name_length bytes → list_all is_name_char (take k bytes) ≡ true
 unfolding name_length
 names_to zero bytes h = refl
 names_to (suc k) [] h = absurd (omega arith)
