@@ -42,6 +42,10 @@ comma_more zero (b ∷ bytes) rest e =
     (chosen (eqb b 44) _ _ (Ok (true, rest)) e)
 comma_more (suc n) bytes rest e = omega arith
 
+-- a text of each level
+pub zero_text : (limits : Limits) (levels : ℕ) → IsTextOf limits (suc levels) (48 ∷ []) (Integer (pos 0))
+zero_text limits levels = AnInteger limits levels (48 ∷ []) (pos 0) (FromZero (48 ∷ []) (omega arith, (omega arith, tt)) (omega arith))
+
 module _ (limits : Limits) (levels : ℕ) (element : List ℕ → Read Tree) (sound : ReadsTerms limits levels element) (halts : Halts element (IsTextOf limits levels)) where
   -- elements of a tuple, at most so many
   abbrev pub IsRow : ℕ → List ℕ → Row → Type 0
@@ -72,7 +76,7 @@ module _ (limits : Limits) (levels : ℕ) (element : List ℕ → Read Tree) (so
       let whole : bytes ≡ (first.text ++ gap.blanks) ++ skip h.0.1 = first.whole ∙ ap (λ x. first.text ++ x) gap.whole ∙ sym (append_assoc first.text gap.blanks (skip h.0.1)) in
       ⊎_elim
       (λ i. let stop = after_element_halts n (skip h.0.1) f i in
-      halted_whole (IsRow (suc n)) bytes ((first.text ++ gap.blanks) ++ skip h.0.1) f whole (halted_at (IsRow (suc n)) (first.text ++ gap.blanks) (skip h.0.1) stop.0 f stop.1 (one_element n first.text gap.blanks h.0.0 first.is gap.are)))
+      halted_whole (IsRow (suc n)) bytes ((first.text ++ gap.blanks) ++ skip h.0.1) f whole (halted_at (IsRow (suc n)) stop.0 (first.text ++ gap.blanks) (skip h.0.1) f stop.1 (one_element n first.text gap.blanks h.0.0 first.is gap.are)))
       (λ i. let k = i.2 in absurd cc)
       (bind_err (after_element_at n (skip h.0.1)) (λ y. Ok ((h.0.0 ∷ [], y.0), y.1)) f h.2))
       (bind_err (element bytes) (λ x. after_element_at n (skip x.1) >>= λ y. Ok ((x.0 ∷ [], y.0), y.1)) f e)
@@ -126,7 +130,7 @@ module _ (limits : Limits) (levels : ℕ) (element : List ℕ → Read Tree) (so
   tuple_inner : (blanks inner : List ℕ) (f : Fault) → AreBlanks blanks → GoesOn (IsTextOf limits (suc levels)) (123 ∷ blanks) → elements_at element limits.elements inner ≡ Err f
       → Halted (IsTextOf limits (suc levels)) ((123 ∷ blanks) ++ inner) f
   unfolding elements_at
-  tuple_inner blanks [] f are none e = halted_at (IsTextOf limits (suc levels)) (123 ∷ blanks) [] Syntax f (err_is {A = List Tree × List ℕ} (place Syntax []) f e) none
+  tuple_inner blanks [] f are none e = halted_at (IsTextOf limits (suc levels)) Syntax (123 ∷ blanks) [] f (err_is {A = List Tree × List ℕ} (place Syntax []) f e) none
   tuple_inner blanks (b ∷ inner) f are none e =
       ⊎_elim (λ h. absurd (let k = h.1 in cc))
       (λ h. halted_behind (IsRow limits.elements) (IsTextOf limits (suc levels)) (123 ∷ blanks) (b ∷ inner) f (elements_halt limits.elements (b ∷ inner) f h.1) none
@@ -141,7 +145,7 @@ module _ (limits : Limits) (levels : ℕ) (element : List ℕ → Read Tree) (so
       let whole : 123 ∷ bytes ≡ (123 ∷ blanks) ++ inner = ap (λ x. 123 ∷ x) gap in
       halted_whole (IsTextOf limits (suc levels)) (123 ∷ bytes) ((123 ∷ blanks) ++ inner) f whole (tuple_inner blanks inner f are none e)
 
-  tuple_halts : (bytes : List ℕ) (f : Fault) → tuple_at element limits.elements (skip bytes) ≡ Err f → Halted (IsTextOf limits (suc levels)) (123 ∷ bytes) f
+  pub tuple_halts : (bytes : List ℕ) (f : Fault) → tuple_at element limits.elements (skip bytes) ≡ Err f → Halted (IsTextOf limits (suc levels)) (123 ∷ bytes) f
   tuple_halts bytes f e =
       let gap = skipped bytes in
       ⊎_elim (tuple_from bytes gap.blanks (skip bytes) f gap.whole gap.are) (λ h. let k = h.2 in absurd cc)
@@ -175,9 +179,6 @@ module _ (limits : Limits) (levels : ℕ) (element : List ℕ → Read Tree) (so
   tail_goes : (last blanks : List ℕ) (tail : Tree) → IsTextOf limits (suc levels) last tail → AreBlanks blanks → GoesOn IsLast (last ++ blanks)
   tail_goes last blanks tail is are = (93 ∷ [], tail, subst (λ x. IsLast x tail) (sym (append_assoc last blanks (93 ∷ []))) (last_of last blanks tail is are))
 
-  zero_text : IsTextOf limits (suc levels) (48 ∷ []) (Integer (pos 0))
-  zero_text = AnInteger limits levels (48 ∷ []) (pos 0) (FromZero (48 ∷ []) (omega arith, (omega arith, tt)) (omega arith))
-
   module _ (other : List ℕ → Read Tree) (others_sound : ReadsTerms limits (suc levels) other) (others_halt : Halts other (IsTextOf limits (suc levels))) where
     -- a last tail that was read, and no closing bracket behind it
     unclosed : (bytes after : List ℕ) (tail : Tree) (f : Fault) → IsTermAt limits (suc levels) bytes tail after → closed (Ok (tail, after)) ≡ Err f → Halted IsLast bytes f
@@ -185,7 +186,7 @@ module _ (limits : Limits) (levels : ℕ) (element : List ℕ → Read Tree) (so
         let gap = skipped after in
         let whole : bytes ≡ (is.text ++ gap.blanks) ++ skip after = is.whole ∙ ap (λ x. is.text ++ x) gap.whole ∙ sym (append_assoc is.text gap.blanks (skip after)) in
         ⊎_elim
-        (λ h. halted_whole IsLast bytes ((is.text ++ gap.blanks) ++ skip after) f whole (halted_at IsLast (is.text ++ gap.blanks) (skip after) Syntax f (expect_halts 93 (skip after) f h) (tail_goes is.text gap.blanks tail is.is gap.are)))
+        (λ h. halted_whole IsLast bytes ((is.text ++ gap.blanks) ++ skip after) f whole (halted_at IsLast Syntax (is.text ++ gap.blanks) (skip after) f (expect_halts 93 (skip after) f h) (tail_goes is.text gap.blanks tail is.is gap.are)))
         (λ h. let k = h.2 in absurd cc)
         (bind_err (expect 93 (skip after)) (λ rest. Ok (Last tail rest)) f e)
 
@@ -226,7 +227,7 @@ module _ (limits : Limits) (levels : ℕ) (element : List ℕ → Read Tree) (so
         (λ j. let gap = skipped bytes in
         let taken : List ℕ = 124 ∷ gap.blanks in
         let whole : b ∷ bytes ≡ taken ++ skip bytes = ap (λ x. x ∷ bytes) (eqb-true b 124 j.0) ∙ ap (λ x. 124 ∷ x) gap.whole in
-        let zero_last = last_of (48 ∷ []) [] (Integer (pos 0)) zero_text refl in
+        let zero_last = last_of (48 ∷ []) [] (Integer (pos 0)) (zero_text limits levels) refl in
         halted_whole IsEnding (b ∷ bytes) (taken ++ skip bytes) f whole (halted_behind IsLast IsEnding taken (skip bytes) f (tail_halts (skip bytes) f j.1)
             (48 ∷ 93 ∷ [], Integer (pos 0), bar gap.blanks (48 ∷ 93 ∷ []) (Integer (pos 0)) gap.are zero_last)
             (λ text tail l. ([], tail, subst (λ x. IsEnding (taken ++ x) tail) (sym (append-nil text)) (bar gap.blanks text tail gap.are l)))))
@@ -312,7 +313,7 @@ module _ (limits : Limits) (levels : ℕ) (element : List ℕ → Read Tree) (so
         let goes = tail_goes last.text gap.blanks t last.is gap.are in
         let same : behind.blanks ++ ((last.text ++ gap.blanks) ++ goes.0) ≡ (behind.blanks ++ (last.text ++ gap.blanks)) ++ goes.0 = sym (append_assoc behind.blanks (last.text ++ gap.blanks) goes.0) in
         ended bytes r head f first (halted_whole IsEnding (skip r) (taken ++ skip after) f whole
-            (halted_at IsEnding taken (skip after) Syntax f (expect_halts 93 (skip after) f e)
+            (halted_at IsEnding Syntax taken (skip after) f (expect_halts 93 (skip after) f e)
             (goes.0, goes.1, subst (λ x. IsEnding (124 ∷ x) goes.1) same (bar behind.blanks ((last.text ++ gap.blanks) ++ goes.0) goes.1 behind.are goes.2))))
 
     cells_behind : (cells : List ℕ → Read Tree) (bytes r : List ℕ) (head : Tree) (next : Next) (f : Fault) → Halts cells (AreCells limits levels)
@@ -350,7 +351,7 @@ module _ (limits : Limits) (levels : ℕ) (element : List ℕ → Read Tree) (so
 
     list_inner : (blanks inner : List ℕ) (f : Fault) → AreBlanks blanks → list_at element other inner ≡ Err f → Halted (IsTextOf limits (suc levels)) ((91 ∷ blanks) ++ inner) f
     unfolding list_at
-    list_inner blanks [] f are e = halted_at (IsTextOf limits (suc levels)) (91 ∷ blanks) [] Syntax f (err_is {A = Tree × List ℕ} (place Syntax []) f e) (93 ∷ [], Nil, ANil limits levels blanks are)
+    list_inner blanks [] f are e = halted_at (IsTextOf limits (suc levels)) Syntax (91 ∷ blanks) [] f (err_is {A = Tree × List ℕ} (place Syntax []) f e) (93 ∷ [], Nil, ANil limits levels blanks are)
     list_inner blanks (b ∷ inner) f are e =
         ⊎_elim (λ h. absurd (let k = h.1 in cc))
         (λ h. halted_behind (AreCells limits levels) (IsTextOf limits (suc levels)) (91 ∷ blanks) (b ∷ inner) f (cells_halt (length (b ∷ inner)) (b ∷ inner) f h.1) (93 ∷ [], Nil, ANil limits levels blanks are)
@@ -358,7 +359,7 @@ module _ (limits : Limits) (levels : ℕ) (element : List ℕ → Read Tree) (so
         (chosen (eqb b 93) _ _ (Err f) e)
 
     -- a list, or another term
-    bracketed_halts : Halts (bracketed (list_at element other) other) (IsTextOf limits (suc levels))
+    pub bracketed_halts : Halts (bracketed (list_at element other) other) (IsTextOf limits (suc levels))
     bracketed_halts [] f e = others_halt [] f e
     bracketed_halts (b ∷ bytes) f e =
         ⊎_elim

@@ -3,8 +3,12 @@ pub mod Characters
 pub mod Complete
 pub mod Fronts
 pub mod Halts
+pub mod HaltsBinaries
+pub mod HaltsCharacters
 pub mod HaltsNumbers
+pub mod HaltsOthers
 pub mod HaltsTerms
+pub mod LimitKinds
 pub mod Local
 pub mod LocalParts
 pub mod LocalTerms
@@ -16,8 +20,11 @@ pub mod Places
 pub mod Points
 pub mod PointsAgain
 pub mod Printed
+pub mod Raised
+pub mod RaisedTerms
 pub mod ReadFront
 pub mod Refusals
 pub mod Sound
 pub mod Texts
 pub mod Tools
+pub mod Widened

@@ -1,17 +1,23 @@
--- Where a fault stands no text goes on.
-use Rattle.std.proofs.Common.{◌≡◌, ℕ, suc, ◌+◌, ◌-◌, ◌<◌, List, [], ◌∷◌, ◌++◌, length, take, Ok, Err, refl, sym, ap, subst, ◌∙◌, arith, append_assoc, append-nil, length-append, add-one}
-use Rattle.ca_term.specs.Tree.{Tree}
+-- The place of a fault: the bytes before it begin a text, and with the byte there they begin none.
+use Rattle.std.proofs.Common.{◌≡◌, ℕ, zero, suc, ◌+◌, ◌-◌, ◌<◌, ◌≤◌, List, [], ◌∷◌, ◌++◌, leb, length, take, drop, Ok, Err, pos, refl, sym, ap, subst, ◌∙◌, arith, ⊎_elim, append_assoc, append-nil, length-append, add-one, take-append-drop}
+use Rattle.std.proofs.lemmas.Bool.{leb-true, leb-false}
+use Rattle.std.proofs.lemmas.List.{take-append-le}
+use Rattle.ca_term.specs.Tree.{Tree, Integer}
 use Rattle.ca_text.specs.declared.fault.Fault.{Fault}
 use Rattle.ca_text.specs.declared.fault.Why.{Why}
-use Rattle.ca_text.specs.declared.fault.Why.TheVariants as why
 use Rattle.ca_text.specs.declared.fault.Stop.{Stop}
 use Rattle.ca_text.specs.declared.fault.Stop.TheVariants as stop
-use Rattle.ca_text.specs.Grammar.{standard, IsText}
-use Rattle.ca_text.specs.Place.{EndsTexts, StandsWhereTextsEnd, IsWithin, fault_with, text_fault}
+use Rattle.ca_text.specs.Front.{Begins, IsLongestStart}
+use Rattle.ca_text.specs.Grammar.{Limits, standard, IsTextOf}
+use Rattle.ca_text.specs.Place.{IsWithin}
 use Rattle.ca_text.specs.Reading.{Fails, term_at}
 use Rattle.ca_text.proofs.Local.{place}
+use Rattle.ca_text.proofs.LocalParts.{either_way}
 use Rattle.ca_text.proofs.LocalTerms.{term_local}
 use Rattle.ca_text.proofs.Complete.{term_again}
+use Rattle.ca_text.proofs.Halts.{GoesOn}
+use Rattle.ca_text.proofs.HaltsTerms.{zero_text}
+use Rattle.ca_text.proofs.HaltsOthers.{term_halts}
 
 take_next : (front : List ℕ) (c : ℕ) (behind : List ℕ) → take (suc (length front)) (front ++ c ∷ behind) ≡ front ++ c ∷ []
 take_next [] c behind = refl
@@ -20,36 +26,75 @@ take_next (b ∷ front) c behind = ap (λ x. b ∷ x) (take_next front c behind)
 take_past : (front : List ℕ) (c : ℕ) (behind : List ℕ) → take (length front + 1) (front ++ c ∷ behind) ≡ front ++ c ∷ []
 take_past front c behind = ap (λ n. take n (front ++ c ∷ behind)) (add-one (length front)) ∙ take_next front c behind
 
-ends_by : (bytes front behind : List ℕ) (f : Fault) (rest : List ℕ) (t : Tree) → bytes ≡ front ++ behind → 0 < length behind
-    → ((c : ℕ) (r s : List ℕ) → behind ≡ c ∷ r → term_at standard 64 (front ++ c ∷ s) ≡ Err (place f.why (c ∷ s))) → IsText (take (length front + 1) bytes ++ rest) t → ⊥
-ends_by bytes front [] f rest t whole some again is = absurd (omega arith)
-ends_by bytes front (c ∷ behind) f rest t whole some again is =
-    let cut : take (length front + 1) bytes ++ rest ≡ front ++ c ∷ rest = ap (λ x. take (length front + 1) x ++ rest) whole ∙ ap (λ x. x ++ rest) (take_past front c behind) ∙ append_assoc front (c ∷ []) rest in
-    let text : IsText (front ++ c ∷ rest) t = subst (λ x. IsText x t) cut is in
-    let read : term_at standard 64 (front ++ c ∷ rest) ≡ Ok (t, []) = ap (term_at standard 64) (sym (append-nil (front ++ c ∷ rest))) ∙ term_again standard 64 (front ++ c ∷ rest) t [] text tt in
-    let stuck = again c behind rest refl in
-    absurd cc
+take_take : (k n : ℕ) (bytes : List ℕ) → k ≤ n → take k (take n bytes) ≡ take k bytes
+take_take zero n bytes h = refl
+take_take (suc k) zero bytes h = absurd (omega (arith, h))
+take_take (suc k) (suc n) [] h = refl
+take_take (suc k) (suc n) (b ∷ bytes) h = ap (λ x. b ∷ x) (take_take k n bytes (omega (arith, h)))
 
-ends : (bytes : List ℕ) (f : Fault) → term_at standard 64 bytes ≡ Err f → EndsTexts bytes (length bytes - f.left)
-ends bytes f e =
-    let s = (term_local standard 64 bytes).stuck f e in
-    let long : length bytes ≡ length s.front + length s.behind = ap (λ (l : List ℕ). length l) s.whole ∙ length-append s.front s.behind in
-    let left : f.left ≡ length s.behind = ap (λ (g : Fault). g.left) s.is in
-    let at : length bytes - f.left ≡ length s.front = omega (arith, long, left) in
-    (omega arith, λ less rest t is. ends_by bytes s.front s.behind f rest t s.whole (omega (arith, less, at, long)) s.again (subst (λ n. IsText (take (n + 1) bytes ++ rest) t) at is))
+-- the first bytes of a text's beginning begin it too
+pub begins_cut : (limits : Limits) (levels k : ℕ) (front : List ℕ) → Begins limits levels front → Begins limits levels (take k front)
+begins_cut limits levels k front b =
+    let same : take k front ++ (drop k front ++ b.0) ≡ front ++ b.0 = sym (append_assoc (take k front) (drop k front) b.0) ∙ ap (λ x. x ++ b.0) (take-append-drop k front) in
+    (drop k front ++ b.0, b.1, subst (λ x. IsTextOf limits levels x b.1) (sym same) b.2)
 
-stands_at : (bytes : List ℕ) (w : Why) (at : ℕ) → EndsTexts bytes at → StandsWhereTextsEnd bytes (fault_with w at)
-stands_at bytes why.Syntax at h = h
-stands_at bytes why.AtomTooLong at h = h
-stands_at bytes why.TooDeep at h = h
-stands_at bytes why.TooWide at h = h
+-- so do the first bytes of what begins with them
+pub begins_front : (limits : Limits) (levels k : ℕ) (bytes front behind : List ℕ) → bytes ≡ front ++ behind → k ≤ length front → Begins limits levels front → Begins limits levels (take k bytes)
+begins_front limits levels k bytes front behind whole few b =
+    subst (λ x. Begins limits levels x) (sym (ap (λ x. take k x) whole ∙ take-append-le k front behind few)) (begins_cut limits levels k front b)
+
+module _ (limits : Limits) (levels : ℕ) where
+  ends_by : (bytes front behind : List ℕ) (f : Fault) → bytes ≡ front ++ behind → 0 < length behind
+      → ((c : ℕ) (r s : List ℕ) → behind ≡ c ∷ r → term_at limits levels (front ++ c ∷ s) ≡ Err (place f.why (c ∷ s))) → Begins limits levels (take (length front + 1) bytes) → ⊥
+  ends_by bytes front [] f whole some again b = absurd (omega arith)
+  ends_by bytes front (c ∷ behind) f whole some again b =
+      let cut : take (length front + 1) bytes ++ b.0 ≡ front ++ c ∷ b.0 = ap (λ x. take (length front + 1) x ++ b.0) whole ∙ ap (λ x. x ++ b.0) (take_past front c behind) ∙ append_assoc front (c ∷ []) b.0 in
+      let text : IsTextOf limits levels (front ++ c ∷ b.0) b.1 = subst (λ x. IsTextOf limits levels x b.1) cut b.2 in
+      let read : term_at limits levels (front ++ c ∷ b.0) ≡ Ok (b.1, []) = ap (term_at limits levels) (sym (append-nil (front ++ c ∷ b.0))) ∙ term_again limits levels (front ++ c ∷ b.0) b.1 [] text tt in
+      let stuck = again c behind b.0 refl in
+      absurd cc
+
+  -- with the byte at a fault's place no text begins
+  pub ends : (bytes : List ℕ) (f : Fault) → term_at limits levels bytes ≡ Err f → length bytes - f.left < length bytes → Begins limits levels (take (length bytes - f.left + 1) bytes) → ⊥
+  ends bytes f e less b =
+      let s = (term_local limits levels bytes).stuck f e in
+      let long : length bytes ≡ length s.front + length s.behind = ap (λ (l : List ℕ). length l) s.whole ∙ length-append s.front s.behind in
+      let left : f.left ≡ length s.behind = ap (λ (g : Fault). g.left) s.is in
+      let at : length bytes - f.left ≡ length s.front = omega (arith, long, left) in
+      ends_by bytes s.front s.behind f s.whole (omega (arith, less, at, long)) s.again (subst (λ n. Begins limits levels (take (n + 1) bytes)) at b)
+
+  pub within_by : (bytes : List ℕ) (f : Fault) → term_at limits levels bytes ≡ Err f → f.left ≤ length bytes
+  within_by bytes f e =
+      let s = (term_local limits levels bytes).stuck f e in
+      omega (arith, ap (λ (l : List ℕ). length l) s.whole, length-append s.front s.behind, ap (λ (g : Fault). g.left) s.is)
+
+  -- the bytes before it begin a text
+  pub begins_before : (bytes : List ℕ) (f : Fault) (k : ℕ) → term_at limits (suc levels) bytes ≡ Err f → k + f.left ≤ length bytes → Begins limits (suc levels) (take k bytes)
+  begins_before bytes f k e few =
+      let h = term_halts limits (suc levels) bytes f e in
+      let long : length bytes ≡ length h.front + length h.behind = ap (λ (l : List ℕ). length l) h.whole ∙ length-append h.front h.behind in
+      let zero_begins : Begins limits (suc levels) [] = (48 ∷ [], Integer (pos 0), zero_text limits levels) in
+      let goes : Begins limits (suc levels) h.front = ⊎_elim (λ none. subst (λ x. Begins limits (suc levels) x) (sym none) zero_begins) (λ (g : GoesOn (IsTextOf limits (suc levels)) h.front). g) h.goes_on in
+      begins_front limits (suc levels) k bytes h.front h.behind h.whole (omega (arith, few, long, h.left)) goes
+
+pub start_is : (bytes : List ℕ) (f : Fault) → term_at standard 64 bytes ≡ Err f → IsLongestStart bytes (length bytes - f.left)
+start_is bytes f e = record {
+  within = omega arith;
+  begins = begins_before standard 63 bytes f (length bytes - f.left) e (omega (arith, within_by standard 64 bytes f e));
+  ends = ends standard 64 bytes f e;
+}
+
+-- one place is the longest start's end
+start_least : (bytes : List ℕ) (at other : ℕ) → IsLongestStart bytes at → IsLongestStart bytes other → at ≤ other
+start_least bytes at other one two =
+    either_way (leb at other) (leb-true at other)
+    (λ h. let less : other < at = leb-false at other h in
+    let first : take (other + 1) (take at bytes) ≡ take (other + 1) bytes = take_take (other + 1) at bytes (omega (arith, less)) in
+    absurd (two.ends (omega (arith, less, one.within)) (subst (λ x. Begins standard 64 x) first (begins_cut standard 64 (other + 1) (take at bytes) one.begins))))
+
+pub start_sure : (bytes : List ℕ) (at other : ℕ) → IsLongestStart bytes at → IsLongestStart bytes other → at ≡ other
+start_sure bytes at other one two = omega (arith, start_least bytes at other one two, start_least bytes other at two one)
 
 pub within : (bytes : List ℕ) (e : Stop) → Fails e (term_at standard 64 bytes) → IsWithin e (length bytes)
 within bytes stop.NoMemory e = tt
-within bytes (stop.At f) e =
-    let s = (term_local standard 64 bytes).stuck f e in
-    omega (arith, ap (λ (l : List ℕ). length l) s.whole, length-append s.front s.behind, ap (λ (g : Fault). g.left) s.is)
-
-pub stands : (bytes : List ℕ) (e : Stop) → Fails e (term_at standard 64 bytes) → StandsWhereTextsEnd bytes (text_fault e (length bytes))
-stands bytes stop.NoMemory f = tt
-stands bytes (stop.At d) f = stands_at bytes d.why (length bytes - d.left) (ends bytes d f)
+within bytes (stop.At f) e = within_by standard 64 bytes f e

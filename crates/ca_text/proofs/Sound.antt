@@ -414,7 +414,7 @@ quoted_taken limits levels bytes t rest e =
       ends = whole_by (39 ∷ r.text) _ (λ c. refl);
     }
 
-closed_text : (close : ℕ) (text cs : List ℕ) → AreCharacters close text cs → cs ≡ [] → text ≡ close ∷ []
+pub closed_text : (close : ℕ) (text cs : List ℕ) → AreCharacters close text cs → cs ≡ [] → text ≡ close ∷ []
 closed_text _ _ _ (Closed close) e = refl
 closed_text _ _ _ (OneMore close c first rest cs is are) e = absurd cc
 
@@ -481,7 +481,7 @@ integer_term_taken limits levels bytes t rest e =
 at_byte : (limits : Limits) (levels b c : ℕ) (bytes : List ℕ) (t : Tree) (rest : List ℕ) → eqb b c ≡ true → IsTermAt limits levels (c ∷ bytes) t rest → IsTermAt limits levels (b ∷ bytes) t rest
 at_byte limits levels b c bytes t rest e h = subst (λ x. IsTermAt limits levels (x ∷ bytes) t rest) (sym (eqb-true b c e)) h
 
-other_taken : (limits : Limits) (levels : ℕ) (element : List ℕ → Read Tree) → ReadsTerms limits levels element → ReadsTerms limits (suc levels) (other_at limits element levels)
+pub other_taken : (limits : Limits) (levels : ℕ) (element : List ℕ → Read Tree) → ReadsTerms limits levels element → ReadsTerms limits (suc levels) (other_at limits element levels)
 unfolding other_at
 other_taken limits levels element sound [] t rest e = integer_term_taken limits levels [] t rest e
 other_taken limits levels element sound (b ∷ bytes) t rest e =

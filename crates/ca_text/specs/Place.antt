@@ -1,7 +1,5 @@
 -- Faults with their places from the front.
-use Rattle.std.specs.Prelude.{ℕ, ◌+◌, ◌-◌, ◌<◌, ◌≤◌, List, ◌++◌, length, take}
-use Rattle.ca_term.specs.Tree.{Tree}
-use Rattle.ca_text.specs.Grammar.{IsText}
+use Rattle.std.specs.Prelude.{ℕ, ◌-◌, ◌≤◌}
 use Rattle.ca_text.specs.declared.fault.Why.{Why}
 use Rattle.ca_text.specs.declared.fault.Why.TheVariants as why
 use Rattle.ca_text.specs.declared.fault.Stop.{Stop}
@@ -24,15 +22,3 @@ IsWithin (stop.At fault) length = fault.left ≤ length
 abbrev pub text_fault : Stop → ℕ → TextFault
 text_fault stop.NoMemory length = NoMemory
 text_fault (stop.At fault) length = fault_with fault.why (length - fault.left)
-
--- Where no text goes on: none begins with the bytes before this place and the byte there.
-abbrev pub EndsTexts : List ℕ → ℕ → Type 0
-EndsTexts bytes at = (at ≤ length bytes) × (at < length bytes → (rest : List ℕ) (t : Tree) → IsText (take (at + 1) bytes ++ rest) t → ⊥)
-
--- each fault but want of memory stands at such a place
-abbrev pub StandsWhereTextsEnd : List ℕ → TextFault → Type 0
-StandsWhereTextsEnd bytes (Syntax at) = EndsTexts bytes at
-StandsWhereTextsEnd bytes (AtomTooLong at) = EndsTexts bytes at
-StandsWhereTextsEnd bytes (TooDeep at) = EndsTexts bytes at
-StandsWhereTextsEnd bytes (TooWide at) = EndsTexts bytes at
-StandsWhereTextsEnd bytes NoMemory = Unit {0}

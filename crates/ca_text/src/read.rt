@@ -1,6 +1,5 @@
 //! The reader of term texts.
 ghost use Rattle.std.specs.Prelude.{◌≡◌, ◌⊎◌, ◌≤◌, ◌<◌, ◌-◌, ◌+◌, List, [], ◌∷◌, ◌++◌, ℕ, length, take, Ok, IfOk, IfErr, MatchResult};
-ghost use Rattle.ca_text.specs.Place.{StandsWhereTextsEnd};
 ghost use Rattle.ca_text.specs.NextView.{next_view};
 ghost use Rattle.ca_text.specs.Front.{IsNotRead};
 ghost use Rattle.ca_term.specs.Tree.{Tree, IsTerm, depth};
@@ -325,9 +324,8 @@ pub fn read_term(alloc: Global, bytes: &[u8]) -> Result<(Term, usize), TextFault
     ensures ok { IfOk result (λ x. IsRead bytes.now x.0 x.1) }
     // No longer text stands at the front.
     ensures longest { IfOk result (λ x. (m : ℕ) (t : Tree) → x.1 < m → m ≤ length bytes.now → IsText (take m bytes.now) t → ⊥) }
+    // A fault is at the byte with which no text begins any more, and of the kind that tells by which limit.
     ensures refused { IfErr result (λ e. (e ≡ TextFault.NoMemory) ⊎ IsNotRead bytes.now e) }
-    // No text goes on at the place of a fault.
-    ensures place { IfErr result (λ e. StandsWhereTextsEnd bytes.now e) }
     // What stands at the front is read, unless memory lacks.
     ensures only { (t : Tree) (n : ℕ) → IsRead bytes.now t n → MatchResult result (λ x. (x.0 ≡ t) × (x.1 ≡ n)) (λ e. e ≡ TextFault.NoMemory) }
 {
@@ -338,8 +336,11 @@ pub fn read_term(alloc: Global, bytes: &[u8]) -> Result<(Term, usize), TextFault
 }
 
 /// A printed text of at most 64 levels is a text of its term, and it is the one that is read where it stands at the front and
-/// nothing that follows belongs to it.
+/// nothing that follows belongs to it. At the front of any bytes one text is read, or none for one reason.
 pub fn read_laws()
     ensures printed { (t : Tree) → IsTerm t → depth t ≤ 64 → IsText (text_of t) t }
     ensures again { (t : Tree) (rest : List ℕ) → IsTerm t → depth t ≤ 64 → IsWhole (text_of t) rest → IsRead (text_of t ++ rest) t (length (text_of t)) }
+    ensures one_text { (bytes : List ℕ) (t u : Tree) (n m : ℕ) → IsRead bytes t n → IsRead bytes u m → (t ≡ u) × (n ≡ m) }
+    ensures one_fault { (bytes : List ℕ) (e f : TextFault) → IsNotRead bytes e → IsNotRead bytes f → e ≡ f }
+    ensures read_or_not { (bytes : List ℕ) (t : Tree) (n : ℕ) (e : TextFault) → IsRead bytes t n → IsNotRead bytes e → ⊥ }
 {}
