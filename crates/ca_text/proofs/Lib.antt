@@ -3,6 +3,8 @@ pub mod Characters
 pub mod Complete
 pub mod Fronts
 pub mod Halts
+pub mod HaltsBinaries
+pub mod HaltsCharacters
 pub mod HaltsNumbers
 pub mod Local
 pub mod LocalParts
