@@ -5,8 +5,8 @@ use Rattle.ca_text.specs.declared.fault.Fault.{Fault}
 use Rattle.ca_text.specs.declared.fault.Why.{Why}
 use Rattle.ca_text.specs.declared.fault.Why.TheVariants.{Syntax}
 use Rattle.ca_text.specs.Reading.{◌>>=◌, Read, expect}
-use Rattle.ca_text.proofs.Tools.{chosen}
 use Rattle.ca_text.proofs.Local.{place, err_is}
+use Rattle.ca_text.proofs.Tools.{chosen}
 
 -- some bytes go on to a text, and it is one of this kind
 abbrev pub GoesOn : {A : Type 0} → (List ℕ → A → Type 0) → List ℕ → Type 0
@@ -83,12 +83,6 @@ pub done_err : {A B : Type 0} (r : Result A Fault) (g : A → B) (f : Fault) →
 done_err (Ok x) g f e = absurd cc
 done_err {A} {B} (Err d) g f e = ap (λ (h : Fault). Err h) (err_is {A = B} d f e)
 
--- where this byte does not stand, none is taken
-pub expect_stuck : (c : ℕ) (bytes : List ℕ) (f : Fault) → expect c bytes ≡ Err f → place Syntax bytes ≡ f
-unfolding expect
-expect_stuck c [] f e = err_is _ f e
-expect_stuck c (b ∷ bytes) f e = ⊎_elim (λ h. absurd cc) (λ h. err_is _ f h.1) (chosen (eqb b c) _ _ (Err f) e)
-
 -- a reader takes a text to its end
 abbrev pub Reads : {A : Type 0} → (List ℕ → Read A) → List ℕ → A → Type 0
 Reads reader text a = reader text ≡ Ok (a, [])
@@ -110,3 +104,10 @@ module _ {A : Type 0} (p q : List ℕ → Read A) (b : ℕ) (bytes : List ℕ) (
   -- the same as another reader, wherever this byte is the first
   pub halted_same : ((zs : List ℕ) → p (b ∷ zs) ≡ q (b ∷ zs)) → Halted (Reads q) (b ∷ bytes) f → Halted (Reads p) (b ∷ bytes) f
   halted_same e h = record { front = h.front; behind = h.behind; whole = h.whole; left = h.left; goes_on = same_goes_on e h.front h.behind h.whole h.goes_on }
+
+-- a byte that doesn't stand there
+pub expect_halts : (c : ℕ) (bytes : List ℕ) (f : Fault) → expect c bytes ≡ Err f → place Syntax bytes ≡ f
+unfolding expect
+expect_halts c [] f e = err_is {A = List ℕ} (place Syntax []) f e
+expect_halts c (b ∷ bytes) f e =
+    ⊎_elim (λ h. absurd (let k = h.1 in cc)) (λ h. err_is {A = List ℕ} (place Syntax (b ∷ bytes)) f h.1) (chosen (eqb b c) _ _ (Err f) e)

@@ -14,7 +14,7 @@ use Rattle.ca_text.proofs.Numbers.{skipped}
 use Rattle.ca_text.proofs.Sound.{segment_taken, after_segment_taken, shown_ascii}
 use Rattle.ca_text.proofs.HaltsNumbers.{IsNumber, number_halts}
 use Rattle.ca_text.proofs.HaltsCharacters.{AreWithin, characters_halts}
-use Rattle.ca_text.proofs.Halts.{Halted, Halts, halted_here, halted_behind_as, halted_map, halted_as, halted_at, bind_err, done_err, expect_stuck}
+use Rattle.ca_text.proofs.Halts.{Halted, Halts, halted_here, halted_behind_as, halted_map, halted_as, halted_at, bind_err, done_err, expect_halts}
 
 one_byte_halts : Halts one_byte_at IsSegment
 one_byte_halts bytes f e =
@@ -49,7 +49,7 @@ after_segment_halts (b ∷ bytes) f e =
     ⊎_elim
     (λ h. let other = h.1 in absurd cc)
     (λ h. ⊎_elim
-    (λ i. let stuck = expect_stuck 62 bytes f (done_err (expect 62 bytes) (λ rest. (false, rest)) f i.1) in
+    (λ i. let stuck = expect_halts 62 bytes f (done_err (expect 62 bytes) (λ rest. (false, rest)) f i.1) in
     subst (λ x. Halted IsClosing (x ∷ bytes) f) (sym (eqb-true b 62 i.0)) (halted_at IsClosing Syntax (62 ∷ []) bytes f stuck (62 ∷ [], 0, refl)))
     (λ i. halted_here _ Syntax (b ∷ bytes) f (err_is _ f i.1))
     (chosen (eqb b 62) _ _ (Err f) h.1))
@@ -144,7 +144,7 @@ module _ (limits : Limits) (levels : ℕ) where
   bytes_halts blanks are [] f e = halted_here _ Syntax [] f (err_is _ f e)
   bytes_halts blanks are (b ∷ bytes) f e =
       ⊎_elim
-      (λ h. let stuck = expect_stuck 62 bytes f (done_err (expect 62 bytes) (λ rest. ([], rest)) f h.1) in
+      (λ h. let stuck = expect_halts 62 bytes f (done_err (expect 62 bytes) (λ rest. ([], rest)) f h.1) in
       subst (λ x. Halted (IsInner blanks) (x ∷ bytes) f) (sym (eqb-true b 62 h.0))
       (halted_at (IsInner blanks) Syntax (62 ∷ []) bytes f stuck (62 ∷ [], Binary [], NoBytes limits levels blanks are)))
       (λ h. halted_as AreSegments (IsInner blanks) (b ∷ bytes) f (segments_halts (length (b ∷ bytes)) (b ∷ bytes) f h.1)
@@ -157,7 +157,7 @@ module _ (limits : Limits) (levels : ℕ) where
   pub binary_halts : Halts binary_at IsBinary
   binary_halts bytes f e =
       ⊎_elim
-      (λ h. halted_here _ Syntax bytes f (expect_stuck 60 bytes f h))
+      (λ h. halted_here _ Syntax bytes f (expect_halts 60 bytes f h))
       (λ s. let gap = skipped s.0 in
       let halted = bytes_halts gap.blanks gap.are (skip s.0) f (done_err (bytes_at (skip s.0)) (λ x. (Binary x.0, x.1)) f s.2) in
       let whole : bytes ≡ (60 ∷ gap.blanks) ++ skip s.0 = expect_taken 60 bytes s.0 s.1 ∙ ap (λ x. 60 ∷ x) gap.whole in

@@ -6,6 +6,7 @@ pub mod Halts
 pub mod HaltsBinaries
 pub mod HaltsCharacters
 pub mod HaltsNumbers
+pub mod HaltsTerms
 pub mod Local
 pub mod LocalParts
 pub mod LocalTerms

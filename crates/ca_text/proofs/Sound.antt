@@ -13,14 +13,14 @@ use Rattle.ca_text.proofs.Characters.{expect_taken, characters_taken}
 use Rattle.ca_text.proofs.Numbers.{skipped, number_taken, whole_by, integer_taken, name_taken}
 
 -- parts of some bytes, one behind another
-with_end : (bytes text r blanks s closing rest : List ℕ) → bytes ≡ text ++ r → r ≡ blanks ++ s → s ≡ closing ++ rest → bytes ≡ (text ++ (blanks ++ closing)) ++ rest
+pub with_end : (bytes text r blanks s closing rest : List ℕ) → bytes ≡ text ++ r → r ≡ blanks ++ s → s ≡ closing ++ rest → bytes ≡ (text ++ (blanks ++ closing)) ++ rest
 with_end bytes text r blanks s closing rest e f g = rw (e, f, g) (simp append_assoc)
 
-with_more : (c : ℕ) (bytes text r before s tail after u others rest : List ℕ) → bytes ≡ text ++ r → r ≡ before ++ s → s ≡ c ∷ tail → tail ≡ after ++ u → u ≡ others ++ rest
+pub with_more : (c : ℕ) (bytes text r before s tail after u others rest : List ℕ) → bytes ≡ text ++ r → r ≡ before ++ s → s ≡ c ∷ tail → tail ≡ after ++ u → u ≡ others ++ rest
     → bytes ≡ (text ++ (before ++ c ∷ (after ++ others))) ++ rest
 with_more c bytes text r before s tail after u others rest e f g h i = rw (e, f, g, h, i) (simp append_assoc)
 
-with_front_blanks : (bytes blanks inner text rest : List ℕ) → bytes ≡ blanks ++ inner → inner ≡ text ++ rest → bytes ≡ (blanks ++ text) ++ rest
+pub with_front_blanks : (bytes blanks inner text rest : List ℕ) → bytes ≡ blanks ++ inner → inner ≡ text ++ rest → bytes ≡ (blanks ++ text) ++ rest
 with_front_blanks bytes blanks inner text rest e f = e ∙ ap (λ x. blanks ++ x) f ∙ sym (append_assoc blanks text rest)
 
 -- ---- binaries
@@ -149,7 +149,7 @@ bytes_taken : (limits : Limits) (levels : ℕ) (bytes bs rest : List ℕ) → by
 bytes_taken limits levels bytes bs rest e = let gap = skipped bytes in bytes_from limits levels bytes bs rest gap.blanks (skip bytes) gap.whole gap.are e
 
 -- a comma, or the closing brace
-after_element_taken : (n : ℕ) (bytes : List ℕ) (more : Bool) (rest : List ℕ) → after_element_at n bytes ≡ Ok (more, rest)
+pub after_element_taken : (n : ℕ) (bytes : List ℕ) (more : Bool) (rest : List ℕ) → after_element_at n bytes ≡ Ok (more, rest)
     → ((more ≡ true) × (tail : List ℕ) × (bytes ≡ 44 ∷ tail) × (skip tail ≡ rest)) ⊎ ((more ≡ false) × (bytes ≡ 125 ∷ rest))
 unfolding after_element_at
 after_element_taken n [] more rest e = absurd cc
@@ -293,7 +293,7 @@ module _ (limits : Limits) (levels : ℕ) (element : List ℕ → Read Tree) (so
         (λ h. closed_other bytes tail next bar (subst (λ x. closed (other x) ≡ Ok next) (sym gap) h.1))
         (chosen (eqb b 91) _ _ (Ok next) e)
 
-    next_taken : (bytes : List ℕ) (next : Next) → next_at other bytes ≡ Ok next → IsNext bytes next
+    pub next_taken : (bytes : List ℕ) (next : Next) → next_at other bytes ≡ Ok next → IsNext bytes next
     unfolding next_at
     next_taken [] next e = absurd cc
     next_taken (b ∷ bytes) next e =
@@ -364,7 +364,7 @@ module _ (limits : Limits) (levels : ℕ) (element : List ℕ → Read Tree) (so
         (λ h. subst (λ x. AreCellsAt bytes x rest) p.0 (barred bytes head tail r h.0 h.1 rest first h.2 h.3 (h.4 ∙ ap (λ x. 93 ∷ x) p.1)))
         next
 
-    cells_taken : (n : ℕ) (bytes : List ℕ) (t : Tree) (rest : List ℕ) → cells_at element other n bytes ≡ Ok (t, rest) → AreCellsAt bytes t rest
+    pub cells_taken : (n : ℕ) (bytes : List ℕ) (t : Tree) (rest : List ℕ) → cells_at element other n bytes ≡ Ok (t, rest) → AreCellsAt bytes t rest
     unfolding cells_at cell_step
     cells_taken zero bytes t rest e = absurd cc
     cells_taken (suc n) bytes t rest e =

@@ -1,3 +1,4 @@
+use Rattle.ca_text.proofs.HaltsTerms.{halted_as}
 use Rattle.ca_text.proofs.Halts.{halted_map}
 use Rattle.ca_text.proofs.Printed.{printed_is}
 use Rattle.ca_text.proofs.ReadFront.{printed_read}
