@@ -62,14 +62,20 @@ halted_map IsPart IsOf bytes f h each = record {
       h.goes_on;
 }
 
--- the same with no rest
+-- as halted_behind and halted_map, with no rest
+pub halted_behind_as : {A B : Type 0} (IsPart : List ℕ → A → Type 0) (IsOf : List ℕ → B → Type 0) (taken bytes : List ℕ) (f : Fault) → Halted IsPart bytes f → GoesOn IsOf taken
+    → ((part : List ℕ) (a : A) → IsPart part a → (b : B) × IsOf (taken ++ part) b) → Halted IsOf (taken ++ bytes) f
+halted_behind_as IsPart IsOf taken bytes f h none each =
+    halted_behind IsPart IsOf taken bytes f h none (λ part a is. let u = each part a is in ([], u.0, subst (λ x. IsOf (taken ++ x) u.0) (sym (append-nil part)) u.1))
+
 pub halted_as : {A B : Type 0} (IsPart : List ℕ → A → Type 0) (IsOf : List ℕ → B → Type 0) (bytes : List ℕ) (f : Fault) → Halted IsPart bytes f
     → ((part : List ℕ) (a : A) → IsPart part a → (b : B) × IsOf part b) → Halted IsOf bytes f
 halted_as IsPart IsOf bytes f h each =
     halted_map IsPart IsOf bytes f h (λ part a is. let u = each part a is in ([], u.0, subst (λ x. IsOf x u.0) (sym (append-nil part)) u.1))
 
 -- a fault behind bytes that go on
-pub halted_at : {A : Type 0} (IsOf : List ℕ → A → Type 0) (why : Why) (taken bytes : List ℕ) (f : Fault) → place why bytes ≡ f → GoesOn IsOf taken → Halted IsOf (taken ++ bytes) f
+pub halted_at : {A : Type 0} (IsOf : List ℕ → A → Type 0) (why : Why) (taken bytes : List ℕ) (f : Fault) → place why bytes ≡ f → GoesOn IsOf taken
+    → Halted IsOf (taken ++ bytes) f
 halted_at IsOf why taken bytes f e goes = record { front = taken; behind = bytes; whole = refl; left = ap (λ (g : Fault). g.left) (sym e); goes_on = inr goes }
 
 -- a step that is followed by none that fails
@@ -85,13 +91,15 @@ module _ {A : Type 0} (p q : List ℕ → Read A) (b : ℕ) (bytes : List ℕ) (
   -- behind a byte, the same as another reader
   pub halted_cons : ((zs : List ℕ) → p (b ∷ zs) ≡ q zs) → GoesOn (Reads q) [] → Halted (Reads q) bytes f → Halted (Reads p) (b ∷ bytes) f
   halted_cons e none h =
-      halted_behind (Reads q) (Reads p) (b ∷ []) bytes f h (none.0, none.1, e none.0 ∙ none.2) (λ part a is. ([], a, e (part ++ []) ∙ ap q (append-nil part) ∙ is))
+      halted_behind_as (Reads q) (Reads p) (b ∷ []) bytes f h (none.0, none.1, e none.0 ∙ none.2) (λ part a is. (a, e part ∙ is))
 
-  same_goes_on : ((zs : List ℕ) → p (b ∷ zs) ≡ q (b ∷ zs)) → (front behind : List ℕ) → b ∷ bytes ≡ front ++ behind → (front ≡ []) ⊎ GoesOn (Reads q) front → (front ≡ []) ⊎ GoesOn (Reads p) front
+  same_goes_on : ((zs : List ℕ) → p (b ∷ zs) ≡ q (b ∷ zs)) → (front behind : List ℕ) → b ∷ bytes ≡ front ++ behind → (front ≡ []) ⊎ GoesOn (Reads q) front
+      → (front ≡ []) ⊎ GoesOn (Reads p) front
   same_goes_on e [] behind whole goes = inl refl
   same_goes_on e (c ∷ front) behind whole goes =
       let first : b ≡ c = cc in
-      ⊎_elim (λ none. inl none) (λ g. inr (g.0, g.1, ap (λ z. p (z ∷ (front ++ g.0))) (sym first) ∙ e (front ++ g.0) ∙ ap (λ z. q (z ∷ (front ++ g.0))) first ∙ g.2)) goes
+      let same : (zs : List ℕ) → p (c ∷ zs) ≡ q (c ∷ zs) = λ zs. ap (λ z. p (z ∷ zs)) (sym first) ∙ e zs ∙ ap (λ z. q (z ∷ zs)) first in
+      ⊎_elim (λ none. inl none) (λ g. inr (g.0, g.1, same (front ++ g.0) ∙ g.2)) goes
 
   -- the same as another reader, wherever this byte is the first
   pub halted_same : ((zs : List ℕ) → p (b ∷ zs) ≡ q (b ∷ zs)) → Halted (Reads q) (b ∷ bytes) f → Halted (Reads p) (b ∷ bytes) f

@@ -1,5 +1,5 @@
 -- Where the reading of a number or of a name halts, what it took begins one.
-use Rattle.std.proofs.Common.{◌≡◌, ℕ, zero, suc, ◌+◌, ◌-◌, ◌*◌, ◌^◌, ◌≤◌, true, leb, eqb, ◌&&◌, List, [], ◌∷◌, ◌++◌, length, take, drop, Err, ℤ, pos, neg_ℤ, refl, sym, ap, subst, ◌∙◌, ◌<◌, arith, ◌⊎◌, inl, inr, ⊎_elim, take-append-drop, length-take}
+use Rattle.std.proofs.Common.{◌≡◌, ℕ, zero, suc, ◌+◌, ◌-◌, ◌*◌, ◌^◌, ◌≤◌, true, leb, eqb, List, [], ◌∷◌, length, take, drop, Err, pos, neg_ℤ, refl, sym, ap, subst, ◌∙◌, ◌<◌, arith, ◌⊎◌, inl, inr, ⊎_elim, take-append-drop, length-take}
 use Rattle.std.proofs.lemmas.Bool.{leb-false, eqb-true}
 use Rattle.std.proofs.lemmas.List.{append-nil}
 use Rattle.std.specs.List.{list_all}
@@ -9,12 +9,12 @@ use Rattle.ca_text.specs.Text.{is_name_char, has_plain_form}
 use Rattle.ca_text.specs.Grammar.{IsInteger, FromZero, Negative}
 use Rattle.ca_text.specs.declared.fault.Fault.{Fault}
 use Rattle.ca_text.specs.declared.fault.Why.TheVariants.{Syntax, AtomTooLong}
-use Rattle.ca_text.specs.Reading.{◌>>=◌, digits_after, number_at, integer_at, negative_at, positive_at, name_length, name_at}
+use Rattle.ca_text.specs.Reading.{digits_after, number_at, integer_at, negative_at, positive_at, name_length, name_at}
 use Rattle.ca_text.proofs.Tools.{chosen, both}
 use Rattle.ca_text.proofs.Local.{place, err_is}
 use Rattle.ca_text.proofs.LocalTerms.{names_to}
 use Rattle.ca_text.proofs.Numbers.{number_taken}
-use Rattle.ca_text.proofs.Halts.{Halted, Halts, halted_here, halted_behind, GoesOn, halted_as, done_err, Reads, halted_cons, halted_same}
+use Rattle.ca_text.proofs.Halts.{Halted, Halts, halted_here, halted_behind_as, GoesOn, halted_as, done_err, Reads, halted_cons, halted_same}
 
 digits_halt : (bytes : List ℕ) (most n : ℕ) (f : Fault) → digits_after most n bytes ≡ Err f → Halted (Reads (digits_after most n)) bytes f
 unfolding digits_after
@@ -57,9 +57,9 @@ positive_halts bytes f e =
 
 negative_halts : (bytes : List ℕ) (f : Fault) → negative_at bytes ≡ Err f → Halted IsInteger (45 ∷ bytes) f
 negative_halts bytes f e =
-    halted_behind (IsNumber (2 ^ 63)) IsInteger (45 ∷ []) bytes f (number_halts (2 ^ 63) bytes f (done_err (number_at (2 ^ 63) bytes) (λ x. (neg_ℤ (pos x.0), x.1)) f e))
+    halted_behind_as (IsNumber (2 ^ 63)) IsInteger (45 ∷ []) bytes f (number_halts (2 ^ 63) bytes f (done_err (number_at (2 ^ 63) bytes) (λ x. (neg_ℤ (pos x.0), x.1)) f e))
     (48 ∷ [], neg_ℤ (pos 0), Negative (48 ∷ []) (omega arith, (omega arith, tt)) (omega arith))
-    (λ digits n is. ([], neg_ℤ (pos (digits_value 10 digits)), subst (λ x. IsInteger (45 ∷ x) (neg_ℤ (pos (digits_value 10 digits)))) (sym (append-nil digits)) (Negative digits is.0 (omega (arith, is.1, is.2)))))
+    (λ digits n is. (neg_ℤ (pos (digits_value 10 digits)), Negative digits is.0 (omega (arith, is.1, is.2))))
 
 pub integer_halts : Halts integer_at IsInteger
 unfolding integer_at
@@ -75,7 +75,8 @@ abbrev pub IsName : ℕ → List ℕ → List ℕ → Type 0
 IsName most text name = (has_plain_form text ≡ true) × (length text ≤ most) × (text ≡ name)
 
 -- what is taken of a name that is too long
-name_front : (most b : ℕ) (bytes : List ℕ) → is_ascii_lowercase b ≡ true → most < name_length (b ∷ bytes) → (take most (b ∷ bytes) ≡ []) ⊎ GoesOn (IsName most) (take most (b ∷ bytes))
+name_front : (most b : ℕ) (bytes : List ℕ) → is_ascii_lowercase b ≡ true → most < name_length (b ∷ bytes)
+    → (take most (b ∷ bytes) ≡ []) ⊎ GoesOn (IsName most) (take most (b ∷ bytes))
 name_front zero b bytes h more = inl refl
 name_front (suc most) b bytes h more =
     let name = b ∷ take most bytes in

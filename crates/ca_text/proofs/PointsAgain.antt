@@ -16,7 +16,7 @@ pub byte_again : (low high b : ℕ) (rest : List ℕ) → low ≤ b → b < high
 unfolding byte_between
 byte_again low high b rest l h = rw (le-leb low b l, lt-ltb b high h) refl
 
-inner_again : (b : ℕ) (rest : List ℕ) → 128 ≤ b → b < 192 → inner_byte (b ∷ rest) ≡ Ok (b, rest)
+pub inner_again : (b : ℕ) (rest : List ℕ) → 128 ≤ b → b < 192 → inner_byte (b ∷ rest) ≡ Ok (b, rest)
 unfolding inner_byte
 inner_again b rest l h = byte_again 128 192 b rest l h
 
@@ -71,7 +71,7 @@ hex_parts d h = grind (arith, nat_tests)
 stands : (most more c value : ℕ) → c ≤ value → is_point most value ≡ true → (more ≡ 0 → c ≡ value) → may_stand most more c ≡ true
 stands most more c value le point last = grind (arith, nat_tests)
 
-hex_end : (most more c : ℕ) (rest : List ℕ) → is_point most c ≡ true → hex_after most more c (125 ∷ rest) ≡ Ok (c, rest)
+pub hex_end : (most more c : ℕ) (rest : List ℕ) → is_point most c ≡ true → hex_after most more c (125 ∷ rest) ≡ Ok (c, rest)
 unfolding hex_after
 hex_end most more c rest point = rw point refl
 

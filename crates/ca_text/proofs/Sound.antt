@@ -30,7 +30,7 @@ pub record IsSegmentAt (bytes bs rest : List ℕ) : Type 0 where
   pub whole : bytes ≡ text ++ rest
   pub is : IsSegment text bs
 
-shown_ascii : (cs : List ℕ) → list_all (is_point most_shown) cs ≡ true → list_all is_ascii cs ≡ true
+pub shown_ascii : (cs : List ℕ) → list_all (is_point most_shown) cs ≡ true → list_all is_ascii cs ≡ true
 shown_ascii [] h = refl
 shown_ascii (c ∷ cs) h =
     let t = both (is_point most_shown c) (list_all (is_point most_shown) cs) h in
@@ -58,7 +58,7 @@ segment_taken (b ∷ bytes) bs rest e =
     (chosen (eqb b 34) _ _ (Ok (bs, rest)) e)
 
 -- a comma, or the closing brackets
-after_segment_taken : (bytes : List ℕ) (more : Bool) (rest : List ℕ) → after_segment_at bytes ≡ Ok (more, rest)
+pub after_segment_taken : (bytes : List ℕ) (more : Bool) (rest : List ℕ) → after_segment_at bytes ≡ Ok (more, rest)
     → ((more ≡ true) × (tail : List ℕ) × (bytes ≡ 44 ∷ tail) × (skip tail ≡ rest)) ⊎ ((more ≡ false) × (bytes ≡ 62 ∷ 62 ∷ rest))
 unfolding after_segment_at
 after_segment_taken [] more rest e = absurd cc
