@@ -68,6 +68,11 @@ same_read bytes t rest u n e r =
     let p = pair_is t rest u (drop n bytes) (sym e ∙ read_again bytes u n r) in
     (p.0, omega (arith, ap (λ (x : List ℕ). length x) p.1, length-drop n bytes, r.within))
 
+pub one_read : (bytes : List ℕ) (t u : Tree) (n m : ℕ) → IsRead bytes t n → IsRead bytes u m → (t ≡ u) × (n ≡ m)
+one_read bytes t u n m p q =
+    let s = same_read bytes t (drop n bytes) u m (read_again bytes t n p) q in
+    (s.0, omega (arith, s.1, p.within, length-drop n bytes))
+
 -- a printed text of at most 64 levels is read, whatever follows that doesn't belong to it
 pub printed_read : (t : Tree) (rest : List ℕ) → IsTerm t → depth t ≤ 64 → IsWhole (text_of t) rest → IsRead (text_of t ++ rest) t (length (text_of t))
 printed_read t rest is shallow whole = read_of (text_of t) rest t (printed_is t is.narrow shallow) whole

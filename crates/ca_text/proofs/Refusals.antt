@@ -12,6 +12,7 @@ use Rattle.ca_text.specs.declared.fault.Stop.{Stop}
 use Rattle.ca_text.specs.declared.fault.Stop.TheVariants as stop
 use Rattle.ca_text.specs.declared.fault.TextFault.{TextFault}
 use Rattle.ca_text.specs.declared.fault.TextFault.TheVariants.{Syntax, AtomTooLong, TooDeep, TooWide, NoMemory}
+use Rattle.ca_text.proofs.LocalParts.{either_way}
 use Rattle.ca_text.proofs.LimitKinds.{just, limits_for, levels_for, limit_goes, limit_stays, syntax_stays}
 use Rattle.ca_text.proofs.Places.{start_is, start_sure}
 use Rattle.ca_text.proofs.ReadFront.{read_is, read_again}
@@ -41,7 +42,7 @@ not_read bytes (stop.At d) f = inr (fault_is bytes d f)
 
 -- ---- one fault
 
--- a fault of syntax goes on with no limit raised, and a fault of a limit with that one
+-- what goes on with a limit raised is a fault of that limit
 apart : (w : Why) (bytes : List ℕ) (f : Fault) → term_at standard 64 bytes ≡ Err f → GoesOnAt (limits_for w) (suc (levels_for w)) bytes (length bytes - f.left) → just w f.why ≡ true
 apart w bytes f e goes = either_way (just w f.why) (λ h. h) (λ h. absurd (limit_stays w bytes f e h goes))
 
@@ -61,16 +62,16 @@ just_is why.TooWide why.AtomTooLong h = absurd cc
 just_is why.TooWide why.TooDeep h = absurd cc
 
 -- a fault of a limit isn't one of syntax
-no_syntax : (bytes : List ℕ) (f : Fault) (w v : Why) → term_at standard 64 bytes ≡ Err f → f.why ≡ v → just v v ≡ true → IsKind bytes (Syntax (length bytes - f.left)) → ⊥
-no_syntax bytes f w v e kind up none =
+no_syntax : (bytes : List ℕ) (f : Fault) (v : Why) → term_at standard 64 bytes ≡ Err f → f.why ≡ v → just v v ≡ true → IsKind bytes (Syntax (length bytes - f.left)) → ⊥
+no_syntax bytes f v e kind up none =
     let goes = limit_goes v bytes f e (ap (just v) kind ∙ up) in
     none goes.0 (limits_for v) (suc (levels_for v)) goes.1
 
 syntax_sure : (bytes : List ℕ) (f : Fault) (v : Why) → term_at standard 64 bytes ≡ Err f → f.why ≡ v → IsKind bytes (Syntax (length bytes - f.left)) → why.Syntax ≡ v
 syntax_sure bytes f why.Syntax e kind none = refl
-syntax_sure bytes f why.AtomTooLong e kind none = absurd (no_syntax bytes f why.Syntax why.AtomTooLong e kind refl none)
-syntax_sure bytes f why.TooDeep e kind none = absurd (no_syntax bytes f why.Syntax why.TooDeep e kind refl none)
-syntax_sure bytes f why.TooWide e kind none = absurd (no_syntax bytes f why.Syntax why.TooWide e kind refl none)
+syntax_sure bytes f why.AtomTooLong e kind none = absurd (no_syntax bytes f why.AtomTooLong e kind refl none)
+syntax_sure bytes f why.TooDeep e kind none = absurd (no_syntax bytes f why.TooDeep e kind refl none)
+syntax_sure bytes f why.TooWide e kind none = absurd (no_syntax bytes f why.TooWide e kind refl none)
 
 limit_sure : (w : Why) (bytes : List ℕ) (f : Fault) → term_at standard 64 bytes ≡ Err f → GoesOnAt (limits_for w) (suc (levels_for w)) bytes (length bytes - f.left) → w ≡ f.why
 limit_sure w bytes f e goes = just_is w f.why (apart w bytes f e goes)

@@ -1,5 +1,5 @@
 use Rattle.std.proofs.Common.{◌∙◌}
-use Rattle.ca_text.proofs.Places.{stands, within}
+use Rattle.ca_text.proofs.Places.{within}
 use Rattle.ca_text.proofs.ReadFront.{read_is, longest, none_read, same_read}
 use Rattle.ca_text.proofs.Refusals.{not_read}
 use Rattle.ca_text.proofs.read.read_term.Goals as goal
@@ -21,9 +21,6 @@ returns-in-Err-clause-only c = λ t n r. c.fault_of.ensures ∙ none_read c.args
 
 pub returns-in-Err-clause-refused : goal.returns-in-Err-clause-refused
 returns-in-Err-clause-refused c = rw c.fault_of.ensures (not_read c.args.bytes.now c.in-Err.stop c.in-Err.ensures)
-
-pub returns-in-Err-clause-place : goal.returns-in-Err-clause-place
-returns-in-Err-clause-place c = rw c.fault_of.ensures (stands c.args.bytes.now c.in-Err.stop c.in-Err.ensures)
 
 pub fault_of-requires : goal.fault_of-requires
 fault_of-requires c = within c.args.bytes.now c.in-Err.stop c.in-Err.ensures
