@@ -67,7 +67,7 @@ step_halts n bytes f e =
     let taken = first.text ++ gap.blanks in
     let whole : bytes ≡ taken ++ skip s.0.1 = first.whole ∙ ap (λ x. first.text ++ x) gap.whole ∙ sym (append_assoc first.text gap.blanks (skip s.0.1)) in
     let closed : AreSegments (taken ++ 62 ∷ 62 ∷ []) s.0.0 =
-        subst (λ x. AreSegments x s.0.0) (sym (append_assoc first.text gap.blanks (62 ∷ 62 ∷ []))) (LastSegment first.text gap.blanks s.0.0 first.is gap.are) in
+    subst (λ x. AreSegments x s.0.0) (sym (append_assoc first.text gap.blanks (62 ∷ 62 ∷ []))) (LastSegment first.text gap.blanks s.0.0 first.is gap.are) in
     subst (λ x. Halted AreSegments x f) (sym whole)
     (halted_behind_as IsClosing AreSegments taken (skip s.0.1) f halted (62 ∷ 62 ∷ [], s.0.0, closed)
     (λ part n is. (s.0.0, subst (λ x. AreSegments (taken ++ x) s.0.0) (sym is) closed))))
@@ -116,8 +116,8 @@ behind_step n bytes part true after f later e h =
     let halted = later after f (done_err (series_at segment_step n after) (λ r. (part ++ r.0, r.1)) f h) in
     let taken = s.segment ++ (s.before ++ 44 ∷ s.behind) in
     let further : (text bs : List ℕ) → AreSegments text bs → AreSegments (taken ++ text) (part ++ bs) = λ text bs are.
-        let same : s.segment ++ (s.before ++ 44 ∷ (s.behind ++ text)) ≡ taken ++ text = simp append_assoc in
-        subst (λ x. AreSegments x (part ++ bs)) same (MoreSegments s.segment s.before s.behind text part bs s.is s.one s.two are) in
+    let same : s.segment ++ (s.before ++ 44 ∷ (s.behind ++ text)) ≡ taken ++ text = simp append_assoc in
+    subst (λ x. AreSegments x (part ++ bs)) same (MoreSegments s.segment s.before s.behind text part bs s.is s.one s.two are) in
     -- the segment once more
     let again = further _ part (LastSegment s.segment [] part s.is refl) in
     subst (λ x. Halted AreSegments x f) (sym s.whole)

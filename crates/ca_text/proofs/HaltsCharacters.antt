@@ -64,7 +64,7 @@ unfolding four_at
 four_goes b c d low high inner_low inner_high =
     let n = (((b - 240) * 64 + (c - 128)) * 64 + (d - 128)) * 64 + (128 - 128) in
     let is : four_at b (c ∷ d ∷ 128 ∷ []) ≡ Ok (n, []) =
-        rw (byte_again _ _ c (d ∷ 128 ∷ []) low high, inner_again d (128 ∷ []) inner_low inner_high, inner_again 128 [] (omega arith) (omega arith)) refl in
+    rw (byte_again _ _ c (d ∷ 128 ∷ []) low high, inner_again d (128 ∷ []) inner_low inner_high, inner_again 128 [] (omega arith) (omega arith)) refl in
     (128 ∷ [], n, is)
 
 four_halts : (b : ℕ) → Halts (four_at b) (Reads (four_at b))
@@ -75,13 +75,13 @@ four_halts b bytes f e =
     (λ h. halted_here _ Syntax bytes f (byte_stuck _ _ bytes f h))
     (λ s. let c = byte_taken _ _ bytes s.0.0 s.0.1 s.1 in
     let two = ⊎_elim {C = Halted (Reads (four_at b)) (s.0.0 ∷ s.0.1) f}
-        (λ h. let goes = four_goes b s.0.0 128 c.low_enough c.high_enough (omega arith) (omega arith) in
-        halted_at (Reads (four_at b)) Syntax (s.0.0 ∷ []) s.0.1 f (inner_stuck s.0.1 f h) (128 ∷ goes.0, goes.1, goes.2))
-        (λ t. let d = inner_taken s.0.1 t.0.0 t.0.1 t.1 in
-        let stuck = inner_stuck t.0.1 f (done_err (inner_byte t.0.1) (λ g. (value s.0.0 t.0.0 g.0, g.1)) f t.2) in
-        let goes = four_goes b s.0.0 t.0.0 c.low_enough c.high_enough d.low_enough d.high_enough in
-        subst (λ x. Halted (Reads (four_at b)) (s.0.0 ∷ x) f) (sym d.whole) (halted_at (Reads (four_at b)) Syntax (s.0.0 ∷ t.0.0 ∷ []) t.0.1 f stuck goes))
-        (bind_err (inner_byte s.0.1) (λ d. inner_byte d.1 >>= λ g. Ok (value s.0.0 d.0 g.0, g.1)) f s.2) in
+    (λ h. let goes = four_goes b s.0.0 128 c.low_enough c.high_enough (omega arith) (omega arith) in
+    halted_at (Reads (four_at b)) Syntax (s.0.0 ∷ []) s.0.1 f (inner_stuck s.0.1 f h) (128 ∷ goes.0, goes.1, goes.2))
+    (λ t. let d = inner_taken s.0.1 t.0.0 t.0.1 t.1 in
+    let stuck = inner_stuck t.0.1 f (done_err (inner_byte t.0.1) (λ g. (value s.0.0 t.0.0 g.0, g.1)) f t.2) in
+    let goes = four_goes b s.0.0 t.0.0 c.low_enough c.high_enough d.low_enough d.high_enough in
+    subst (λ x. Halted (Reads (four_at b)) (s.0.0 ∷ x) f) (sym d.whole) (halted_at (Reads (four_at b)) Syntax (s.0.0 ∷ t.0.0 ∷ []) t.0.1 f stuck goes))
+    (bind_err (inner_byte s.0.1) (λ d. inner_byte d.1 >>= λ g. Ok (value s.0.0 d.0 g.0, g.1)) f s.2) in
     subst (λ x. Halted (Reads (four_at b)) x f) (sym c.whole) two)
     (bind_err (byte_between (least_of_four b) (end_of_four b) bytes) (λ c. inner_byte c.1 >>= λ d. inner_byte d.1 >>= λ g. Ok (value c.0 d.0 g.0, g.1)) f e)
 

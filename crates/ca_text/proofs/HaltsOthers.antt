@@ -121,4 +121,4 @@ term_halts limits (suc levels) =
     let element = term_at limits levels in
     let other = other_at limits element levels in
     bracketed_halts limits levels element (term_taken limits levels) (term_halts limits levels) other (other_taken limits levels element (term_taken limits levels))
-        (other_halts limits levels element (term_taken limits levels) (term_halts limits levels))
+    (other_halts limits levels element (term_taken limits levels) (term_halts limits levels))

@@ -90,14 +90,14 @@ module _ (limits : Limits) (levels : ℕ) (element : List ℕ → Read Tree) (so
       let behind = skipped tail in
       let taken = first.text ++ (before.blanks ++ 44 ∷ behind.blanks) in
       let whole : bytes ≡ taken ++ after = with_more 44 bytes first.text r before.blanks (skip r) tail behind.blanks (skip tail) [] after first.whole before.whole comma behind.whole gap
-          ∙ ap (λ x. (first.text ++ (before.blanks ++ 44 ∷ x)) ++ after) (append-nil behind.blanks) in
+      ∙ ap (λ x. (first.text ++ (before.blanks ++ 44 ∷ x)) ++ after) (append-nil behind.blanks) in
       let more : (rest : List ℕ) (row : Row) → IsRow (suc n) rest row → IsRow (suc (suc n)) (taken ++ rest) (More t row) =
-          λ rest row are. further_elements (suc n) first.text before.blanks behind.blanks rest t row first.is before.are behind.are are in
+      λ rest row are. further_elements (suc n) first.text before.blanks behind.blanks rest t row first.is before.are behind.are are in
       let again = one_element n first.text [] t first.is refl in
       let last : IsRow (suc n) ((first.text ++ []) ++ again.0) again.1 = again.2 in
       halted_whole (IsRow (suc (suc n))) bytes (taken ++ after) f whole
-          (halted_behind (IsRow (suc n)) (IsRow (suc (suc n))) taken after f h ((first.text ++ []) ++ again.0, More t again.1, more ((first.text ++ []) ++ again.0) again.1 last)
-          (λ rest row are. ([], More t row, subst (λ x. IsRow (suc (suc n)) (taken ++ x) (More t row)) (sym (append-nil rest)) (more rest row are))))
+      (halted_behind (IsRow (suc n)) (IsRow (suc (suc n))) taken after f h ((first.text ++ []) ++ again.0, More t again.1, more ((first.text ++ []) ++ again.0) again.1 last)
+      (λ rest row are. ([], More t row, subst (λ x. IsRow (suc (suc n)) (taken ++ x) (More t row)) (sym (append-nil rest)) (more rest row are))))
 
   series_behind : (n : ℕ) (bytes : List ℕ) (f : Fault) (part : List Tree) (more : Bool) (after : List ℕ) → Halts (series_at (element_step element) n) (IsRow n)
       → element_step element n bytes ≡ Ok ((part, more), after) → series_rest part (series_at (element_step element) n) more after ≡ Err f → Halted (IsRow (suc n)) bytes f
@@ -229,8 +229,8 @@ module _ (limits : Limits) (levels : ℕ) (element : List ℕ → Read Tree) (so
         let whole : b ∷ bytes ≡ taken ++ skip bytes = ap (λ x. x ∷ bytes) (eqb-true b 124 j.0) ∙ ap (λ x. 124 ∷ x) gap.whole in
         let zero_last = last_of (48 ∷ []) [] (Integer (pos 0)) (zero_text limits levels) refl in
         halted_whole IsEnding (b ∷ bytes) (taken ++ skip bytes) f whole (halted_behind IsLast IsEnding taken (skip bytes) f (tail_halts (skip bytes) f j.1)
-            (48 ∷ 93 ∷ [], Integer (pos 0), bar gap.blanks (48 ∷ 93 ∷ []) (Integer (pos 0)) gap.are zero_last)
-            (λ text tail l. ([], tail, subst (λ x. IsEnding (taken ++ x) tail) (sym (append-nil text)) (bar gap.blanks text tail gap.are l)))))
+        (48 ∷ 93 ∷ [], Integer (pos 0), bar gap.blanks (48 ∷ 93 ∷ []) (Integer (pos 0)) gap.are zero_last)
+        (λ text tail l. ([], tail, subst (λ x. IsEnding (taken ++ x) tail) (sym (append-nil text)) (bar gap.blanks text tail gap.are l)))))
         (λ j. halted_here IsEnding Syntax (b ∷ bytes) f (err_is {A = Next} (place Syntax (b ∷ bytes)) f j.1))
         (chosen (eqb b 124) _ _ (Err f) i.1))
         (chosen (eqb b 93) _ _ (Err f) h.1))
@@ -243,10 +243,10 @@ module _ (limits : Limits) (levels : ℕ) (element : List ℕ → Read Tree) (so
         let taken = first.text ++ gap.blanks in
         let whole : bytes ≡ taken ++ skip r = first.whole ∙ ap (λ x. first.text ++ x) gap.whole ∙ sym (append_assoc first.text gap.blanks (skip r)) in
         let made : (rest : List ℕ) (tail : Tree) → IsEnding rest tail → AreCells limits levels (taken ++ rest) (Cons head tail) =
-            λ rest tail e. subst (λ x. AreCells limits levels x (Cons head tail)) (sym (append_assoc first.text gap.blanks rest)) (e head first.text gap.blanks first.is gap.are) in
+        λ rest tail e. subst (λ x. AreCells limits levels x (Cons head tail)) (sym (append_assoc first.text gap.blanks rest)) (e head first.text gap.blanks first.is gap.are) in
         halted_whole (AreCells limits levels) bytes (taken ++ skip r) f whole (halted_behind IsEnding (AreCells limits levels) taken (skip r) f h
-            (93 ∷ [], Cons head Nil, made (93 ∷ []) Nil closing)
-            (λ rest tail e. ([], Cons head tail, subst (λ x. AreCells limits levels (taken ++ x) (Cons head tail)) (sym (append-nil rest)) (made rest tail e))))
+        (93 ∷ [], Cons head Nil, made (93 ∷ []) Nil closing)
+        (λ rest tail e. ([], Cons head tail, subst (λ x. AreCells limits levels (taken ++ x) (Cons head tail)) (sym (append-nil rest)) (made rest tail e))))
 
     cell_halts : (bytes : List ℕ) (f : Fault) → cell_step element other bytes ≡ Err f → Halted (AreCells limits levels) bytes f
     unfolding cell_step
@@ -267,11 +267,11 @@ module _ (limits : Limits) (levels : ℕ) (element : List ℕ → Read Tree) (so
         let taken : List ℕ = 44 ∷ behind.blanks in
         let whole : skip r ≡ taken ++ after = comma ∙ ap (λ x. 44 ∷ x) (behind.whole ∙ ap (λ x. behind.blanks ++ x) gap) in
         let made : (rest : List ℕ) (t : Tree) → AreCells limits levels rest t → IsEnding (taken ++ rest) t =
-            λ rest t are head text blanks is one. MoreCells limits levels text blanks behind.blanks rest head t is one behind.are are in
+        λ rest t are head text blanks is one. MoreCells limits levels text blanks behind.blanks rest head t is one behind.are are in
         let again : AreCells limits levels (first.text ++ 93 ∷ []) (Cons head Nil) = closing head first.text [] first.is refl in
         ended bytes r head f first (halted_whole IsEnding (skip r) (taken ++ after) f whole (halted_behind (AreCells limits levels) IsEnding taken after f h
-            (first.text ++ 93 ∷ [], Cons head Nil, made (first.text ++ 93 ∷ []) (Cons head Nil) again)
-            (λ rest t are. ([], t, subst (λ x. IsEnding (taken ++ x) t) (sym (append-nil rest)) (made rest t are)))))
+        (first.text ++ 93 ∷ [], Cons head Nil, made (first.text ++ 93 ∷ []) (Cons head Nil) again)
+        (λ rest t are. ([], t, subst (λ x. IsEnding (taken ++ x) t) (sym (append-nil rest)) (made rest t are)))))
 
     -- a list in brackets as the last tail, of which so many bytes were taken
     inner_last : (blanks rest : List ℕ) (t : Tree) → AreBlanks blanks → AreCells limits levels rest t → IsLast ((91 ∷ blanks ++ rest) ++ 93 ∷ []) t
@@ -295,10 +295,10 @@ module _ (limits : Limits) (levels : ℕ) (element : List ℕ → Read Tree) (so
         let blanks = skipped bracket in
         let taken : List ℕ = 124 ∷ (behind.blanks ++ 91 ∷ blanks.blanks) in
         let whole : skip r ≡ taken ++ after =
-            bar ∙ ap (λ x. 124 ∷ x) (behind.whole ∙ ap (λ x. behind.blanks ++ x) (opens ∙ ap (λ x. 91 ∷ x) (blanks.whole ∙ ap (λ x. blanks.blanks ++ x) gap)) ∙ sym (append_assoc behind.blanks (91 ∷ blanks.blanks) after)) in
+        bar ∙ ap (λ x. 124 ∷ x) (behind.whole ∙ ap (λ x. behind.blanks ++ x) (opens ∙ ap (λ x. 91 ∷ x) (blanks.whole ∙ ap (λ x. blanks.blanks ++ x) gap)) ∙ sym (append_assoc behind.blanks (91 ∷ blanks.blanks) after)) in
         ended bytes r head f first (halted_whole IsEnding (skip r) (taken ++ after) f whole (halted_behind (AreCells limits levels) IsEnding taken after f h
-            (93 ∷ 93 ∷ [], Nil, empty_ending behind.blanks blanks.blanks behind.are blanks.are)
-            (λ rest t are. (93 ∷ [], t, inner_ending behind.blanks blanks.blanks rest t behind.are blanks.are are))))
+        (93 ∷ 93 ∷ [], Nil, empty_ending behind.blanks blanks.blanks behind.are blanks.are)
+        (λ rest t are. (93 ∷ [], t, inner_ending behind.blanks blanks.blanks rest t behind.are blanks.are are))))
 
     -- no closing bracket stands behind a list in brackets that is the last tail
     unbarred : (bytes r tail after : List ℕ) (head t : Tree) (f : Fault) → IsTermAt limits levels bytes head r → skip r ≡ 124 ∷ tail → IsTermAt limits (suc levels) (skip tail) t after
@@ -308,13 +308,13 @@ module _ (limits : Limits) (levels : ℕ) (element : List ℕ → Read Tree) (so
         let gap = skipped after in
         let taken : List ℕ = 124 ∷ (behind.blanks ++ (last.text ++ gap.blanks)) in
         let whole : skip r ≡ taken ++ skip after =
-            bar_is ∙ ap (λ x. 124 ∷ x) (behind.whole ∙ ap (λ x. behind.blanks ++ x) (last.whole ∙ ap (λ x. last.text ++ x) gap.whole ∙ sym (append_assoc last.text gap.blanks (skip after)))
-            ∙ sym (append_assoc behind.blanks (last.text ++ gap.blanks) (skip after))) in
+        bar_is ∙ ap (λ x. 124 ∷ x) (behind.whole ∙ ap (λ x. behind.blanks ++ x) (last.whole ∙ ap (λ x. last.text ++ x) gap.whole ∙ sym (append_assoc last.text gap.blanks (skip after)))
+        ∙ sym (append_assoc behind.blanks (last.text ++ gap.blanks) (skip after))) in
         let goes = tail_goes last.text gap.blanks t last.is gap.are in
         let same : behind.blanks ++ ((last.text ++ gap.blanks) ++ goes.0) ≡ (behind.blanks ++ (last.text ++ gap.blanks)) ++ goes.0 = sym (append_assoc behind.blanks (last.text ++ gap.blanks) goes.0) in
         ended bytes r head f first (halted_whole IsEnding (skip r) (taken ++ skip after) f whole
-            (halted_at IsEnding Syntax taken (skip after) f (expect_halts 93 (skip after) f e)
-            (goes.0, goes.1, subst (λ x. IsEnding (124 ∷ x) goes.1) same (bar behind.blanks ((last.text ++ gap.blanks) ++ goes.0) goes.1 behind.are goes.2))))
+        (halted_at IsEnding Syntax taken (skip after) f (expect_halts 93 (skip after) f e)
+        (goes.0, goes.1, subst (λ x. IsEnding (124 ∷ x) goes.1) same (bar behind.blanks ((last.text ++ gap.blanks) ++ goes.0) goes.1 behind.are goes.2))))
 
     cells_behind : (cells : List ℕ → Read Tree) (bytes r : List ℕ) (head : Tree) (next : Next) (f : Fault) → Halts cells (AreCells limits levels)
         → ((bytes : List ℕ) (t : Tree) (rest : List ℕ) → cells bytes ≡ Ok (t, rest) → AreCellsAt limits levels element sound other others_sound bytes t rest)
@@ -329,7 +329,7 @@ module _ (limits : Limits) (levels : ℕ) (element : List ℕ → Read Tree) (so
         let gap = skipped next.1 in
         let whole : skip next.0 ≡ (91 ∷ gap.blanks ++ others.text) ++ h.0.1 = next.3 ∙ ap (λ x. 91 ∷ x) (with_front_blanks next.1 gap.blanks (skip next.1) others.text h.0.1 gap.whole (next.4 ∙ others.whole)) in
         let last : IsTermAt limits (suc levels) (skip next.0) h.0.0 h.0.1 =
-            record { text = 91 ∷ gap.blanks ++ others.text; whole = whole; is = AList limits levels gap.blanks others.text h.0.0 gap.are others.are; ends = whole_by (91 ∷ gap.blanks ++ others.text) h.0.1 (λ c. refl) } in
+        record { text = 91 ∷ gap.blanks ++ others.text; whole = whole; is = AList limits levels gap.blanks others.text h.0.0 gap.are others.are; ends = whole_by (91 ∷ gap.blanks ++ others.text) h.0.1 (λ c. refl) } in
         ⊎_elim (unbarred bytes r next.0 h.0.1 head h.0.0 f first next.2 last) (λ i. let k = i.2 in absurd cc)
         (bind_err (expect 93 (skip h.0.1)) (λ rest. Ok (Cons head h.0.0, rest)) f h.2))
         (bind_err (cells after) (λ x. expect 93 (skip x.1) >>= λ rest. Ok (Cons head x.0, rest)) f e)
@@ -346,7 +346,7 @@ module _ (limits : Limits) (levels : ℕ) (element : List ℕ → Read Tree) (so
         let same = ok_is made h.0 v.2 in
         let g : cells_after u.0.0 (cells_at element other n) v.0 ≡ Err f = subst (λ (x : Tree × Next). cells_after x.0 (cells_at element other n) x.1 ≡ Err f) (sym same) h.2 in
         cells_behind (cells_at element other n) bytes u.0.1 u.0.0 v.0 f (cells_halt n) (cells_taken limits levels element sound other others_sound n) (sound bytes u.0.0 u.0.1 u.1)
-            (next_taken limits levels element sound other others_sound (skip u.0.1) v.0 v.1) g)
+        (next_taken limits levels element sound other others_sound (skip u.0.1) v.0 v.1) g)
         (bind_err (cell_step element other bytes) (λ x. cells_after x.0 (cells_at element other n) x.1) f e)
 
     list_inner : (blanks inner : List ℕ) (f : Fault) → AreBlanks blanks → list_at element other inner ≡ Err f → Halted (IsTextOf limits (suc levels)) ((91 ∷ blanks) ++ inner) f

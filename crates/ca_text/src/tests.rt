@@ -90,6 +90,9 @@ fn lists_and_tuples(rt: HostRuntime) -> Result<(), Fail> {
     check(&rt, &proper, "[1,[]]")?;
     let improper = list(alloc, pair(alloc, int(1), int(2))?, int(3))?;
     check(&rt, &improper, "[1,2|3]")?;
+    // No list is printed as a string.
+    let letters = list(alloc, pair(alloc, int(97), int(98))?, nil())?;
+    check(&rt, &letters, "[97,98]")?;
     let nested = list(
         alloc,
         pair(alloc, proper, improper)?,
@@ -165,6 +168,65 @@ fn texts_of_terms(rt: HostRuntime) -> Result<(), Fail> {
     }
     for text in ["[]", "[ ]", "\"\""] {
         reads(&rt, text, &nil(), text.len())?;
+    }
+    Ok(())
+}
+
+// A reserved word of Erlang is read as an atom, and printed in quotes.
+#[test]
+fn reserved_words(rt: HostRuntime) -> Result<(), Fail> {
+    for word in [
+        "after", "and", "andalso", "band", "begin", "bnot", "bor", "bsl", "bsr", "bxor", "case",
+        "catch", "cond", "div", "else", "end", "fun", "if", "let", "maybe", "not", "of", "or",
+        "orelse", "receive", "rem", "try", "when", "xor",
+    ] {
+        let term = atom(rt.alloc(), word)?;
+        let quoted = format!(in rt.alloc(); "'{word}'")?;
+        check(&rt, &term, quoted.as_str())?;
+        reads(&rt, word, &term, word.len())?;
+        reads(&rt, quoted.as_str(), &term, quoted.len())?;
+    }
+    Ok(())
+}
+
+// What a letter after a backslash stands for, in an atom.
+fn escaped(letter: u8) -> Option<&'static str> {
+    match letter {
+        b'\\' => Some("\\"),
+        b'\'' => Some("'"),
+        b'"' => Some("\""),
+        b'n' => Some("\n"),
+        b'r' => Some("\r"),
+        b't' => Some("\t"),
+        b's' => Some(" "),
+        _ => None,
+    }
+}
+
+#[test]
+fn escapes(rt: HostRuntime) -> Result<(), Fail> {
+    for letter in 0..128u8 {
+        let text = [b'\'', b'\\', letter, b'\''];
+        let read = read_term(rt.alloc(), &text);
+        match escaped(letter) {
+            Some(name) => {
+                let wanted = atom(rt.alloc(), name)?;
+                assert!(rt;
+                    read.is_ok_and(|(term, n)| n == 4
+                        && term_order(&term, &wanted) == Ordering::Equal),
+                    "after a backslash {letter}"
+                );
+            }
+            // `\x` wants a brace, and any other letter stands for nothing.
+            None => {
+                let at = if letter == b'x' { 3 } else { 2 };
+                assert_eq!(rt;
+                    read.err(),
+                    Some(TextFault::Syntax { at }),
+                    "after a backslash {letter}"
+                );
+            }
+        }
     }
     Ok(())
 }
@@ -262,6 +324,8 @@ fn bounds(rt: HostRuntime) -> Result<(), Fail> {
         ("", "{", 64, " \"", Some(TextFault::TooDeep { at: 65 })),
         ("", "[", 63, "\"a", Some(TextFault::TooDeep { at: 64 })),
         ("{1", ",1", 119, "}", None),
+        ("{1", ",1", 119, ",", Some(TextFault::TooWide { at: 240 })),
+        ("{1", ",1", 119, "", Some(TextFault::Syntax { at: 240 })),
         (
             "{1",
             ",1",
