@@ -14,6 +14,9 @@ pub mod Places
 pub mod Points
 pub mod PointsAgain
 pub mod Printed
+pub mod Raised
+pub mod RaisedParts
+pub mod RaisedTerms
 pub mod ReadFront
 pub mod Refusals
 pub mod Sound
