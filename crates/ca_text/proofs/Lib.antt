@@ -21,6 +21,7 @@ pub mod Points
 pub mod PointsAgain
 pub mod Printed
 pub mod Raised
+pub mod RaisedParts
 pub mod RaisedTerms
 pub mod ReadFront
 pub mod Refusals

@@ -85,7 +85,7 @@ name_there k [] c r h e = absurd (omega arith)
 name_there zero (b ∷ bytes) c r h e = let same : b ≡ c = cc in either_way (is_name_char b) (λ x. ap is_name_char (sym same) ∙ x) (λ x. absurd (omega (arith, rw x at h)))
 name_there (suc k) (b ∷ bytes) c r h e = either_way (is_name_char b) (λ x. let g : suc k < suc (name_length bytes) = rw x at h in name_there k bytes c r (omega (arith, g)) e) (λ x. absurd (omega (arith, rw x at h)))
 
-name_within : (bytes : List ℕ) → name_length bytes ≤ length bytes
+pub name_within : (bytes : List ℕ) → name_length bytes ≤ length bytes
 unfolding name_length
 name_within [] = omega arith
 name_within (b ∷ bytes) = either_way (is_name_char b) (λ x. rw x (omega (arith, name_within bytes))) (λ x. rw x (omega arith))
@@ -199,7 +199,7 @@ after_segment_local (b ∷ bytes) = either_way (eqb b 44)
     (λ i. cons_local after_segment_at (λ xs. expect 62 xs >>= λ rest. Ok (false, rest)) b bytes (λ zs. rw (h, i) refl) (expect_local 62 (λ rest. Ok (false, rest)) (pure_local false) bytes))
     (λ i. fault_local after_segment_at Syntax b bytes (λ zs. rw (h, i) refl)))
 
-segment_step_local : (n : ℕ) → IsLocal (segment_step n)
+pub segment_step_local : (n : ℕ) → IsLocal (segment_step n)
 unfolding segment_step
 segment_step_local n =
     bind_local segment_at (λ s ys. after_segment_at (skip ys) >>= λ y. Ok ((s, y.0), y.1)) segment_local
@@ -283,7 +283,7 @@ alike p q e l = record {
 
 -- ---- tuples and lists
 
-after_element_local : (n : ℕ) → IsLocal (after_element_at n)
+pub after_element_local : (n : ℕ) → IsLocal (after_element_at n)
 unfolding after_element_at
 after_element_local n [] = nil_local (after_element_at n) refl
 after_element_local n (b ∷ bytes) = either_way (eqb b 44)
@@ -369,7 +369,7 @@ equal_local p q e l xs = record {
   stuck = λ f h. let t = (l xs).stuck f (sym (e xs) ∙ h) in record { front = t.front; behind = t.behind; whole = t.whole; is = t.is; again = λ c r s y. e (t.front ++ c ∷ s) ∙ t.again c r s y };
 }
 
-skip_shorter : (xs : List ℕ) → length (skip xs) ≤ length xs
+pub skip_shorter : (xs : List ℕ) → length (skip xs) ≤ length xs
 skip_shorter xs = let gap = skipped xs in omega (arith, ap (λ (l : List ℕ). length l) gap.whole, length-append gap.blanks (skip xs))
 
 -- at how many bytes a further head begins
