@@ -8,7 +8,7 @@ use Rattle.std.proofs.lemmas.Bool.Decides.{nat_tests}
 use Rattle.std.proofs.lemmas.List.{take_rest}
 use Rattle.ca_term.specs.Tree.{Tree}
 use Rattle.ca_ets.specs.Command.{Command, Insert, Lookup}
-use Rattle.ca_text.specs.Reading.{skip}
+use Rattle.ca_text.specs.Grammar.{skip}
 use Rattle.ca_cmd.specs.Argument.{IsArgument, refused, place}
 use Rattle.ca_cmd.specs.Content.{text_in}
 use Rattle.ca_cmd.specs.Finds.{IsFault}

@@ -1,8 +1,7 @@
 -- The arguments of a command word: terms, each parted from what stands before it by blanks.
 use Rattle.std.specs.Prelude.{◌≡◌, ℕ, ◌+◌, ◌-◌, List, [], ◌∷◌, length, drop, Result, Ok, Err, if◌then◌else◌}
 use Rattle.ca_term.specs.Tree.{Tree}
-use Rattle.ca_text.specs.Grammar.{is_blank, IsRead}
-use Rattle.ca_text.specs.Reading.{skip}
+use Rattle.ca_text.specs.Grammar.{is_blank, IsRead, skip}
 use Rattle.ca_text.specs.Front.{IsNotRead}
 use Rattle.ca_text.specs.declared.fault.TextFault.{TextFault}
 use Rattle.ca_text.specs.declared.fault.TextFault.TheVariants as text

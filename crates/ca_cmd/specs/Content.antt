@@ -3,7 +3,7 @@ use Rattle.std.specs.Prelude.{◌≡◌, ℕ, ◌+◌, not, ◌==◌, nat_lt, Li
 use Rattle.std.specs.Str.{is_utf8}
 use Rattle.std.specs.Str.Lossy.{utf8_valid_len}
 use Rattle.ca_ets.specs.Command.{Command}
-use Rattle.ca_text.specs.Reading.{skip}
+use Rattle.ca_text.specs.Grammar.{skip}
 use Rattle.ca_cmd.specs.declared.fault.LineWhy.TheVariants.{LineTooLong, NotUtf8}
 use Rattle.ca_cmd.specs.Argument.{Found, IsThen, refused}
 use Rattle.ca_cmd.specs.Word.{IsCommand}

@@ -1,7 +1,7 @@
 //! The arguments of a command word.
 ghost use Rattle.std.specs.Prelude.{◌≡◌, ◌≤◌, ◌+◌, length, IfOk};
 ghost use Rattle.ca_text.specs.Front.{fault_place};
-ghost use Rattle.ca_text.specs.Reading.{skip};
+ghost use Rattle.ca_text.specs.Grammar.{skip};
 ghost use Rattle.ca_cmd.specs.Argument.{apart, place, IsArgument, IsEnd, IsTermAt};
 ghost use Rattle.ca_cmd.specs.Finds.{Finds, IsTermFault};
 
@@ -11,7 +11,7 @@ use ca_text::{TextFault, read_term};
 use std::alloc::Global;
 
 // The bytes after the blanks at the front.
-#[tactic(auto, unfolding(ca_text::specs::Reading::skip))]
+#[tactic(auto, unfolding(ca_text::specs::Grammar::skip))]
 pub(crate) fn skip(bytes: &[u8]) -> &[u8]
     ensures value { result.now ≡ skip bytes.now }
     ensures within { length result.now ≤ length bytes.now }

@@ -7,8 +7,8 @@ use Rattle.std.specs.List.{list_all}
 use Rattle.std.specs.Char.{is_ascii_digit, digit_value, is_ascii_lowercase}
 use Rattle.std.specs.Str.Parse.{AllDigits, IsNumeral, digits_value, digits_value_after}
 use Rattle.ca_text.specs.Text.{is_name_char, has_plain_form}
-use Rattle.ca_text.specs.Grammar.{is_blank, AreBlanks, IsInteger, FromZero, Negative, IsWhole}
-use Rattle.ca_text.specs.Reading.{skip, expect, digits_after, number_at, integer_at, name_length, name_at}
+use Rattle.ca_text.specs.Grammar.{is_blank, AreBlanks, IsInteger, FromZero, Negative, IsWhole, skip}
+use Rattle.ca_text.specs.Reading.{expect, digits_after, number_at, integer_at, name_length, name_at}
 use Rattle.ca_text.proofs.Tools.{both}
 use Rattle.ca_text.proofs.Numbers.{EndsDigits, EndsName}
 

@@ -7,8 +7,8 @@ use Rattle.std.specs.Str.{encode_utf8_all}
 use Rattle.std.specs.Str.Parse.{IsNumeral, digits_value}
 use Rattle.ca_term.specs.Tree.{Tree, Row, Integer, Atom, Tuple, Nil, Cons, Binary, Ends, More, row_of, size, elements}
 use Rattle.ca_text.specs.Text.{is_name_char}
-use Rattle.ca_text.specs.Grammar.{Limits, is_blank, AreBlanks, IsInteger, FromZero, Negative, IsCharacter, Itself, Escaped, Hexadecimal, escape_of, AreCharacters, Closed, OneMore, IsAtom, Plain, Quoted, IsSegment, OneByte, Shown, AreSegments, LastSegment, MoreSegments, points, IsTextOf, AnInteger, AnAtom, NoElements, ATuple, ANil, AList, NoString, AString, NoBytes, ABinary, AreElements, LastElement, MoreElements, AreCells, LastCell, MoreCells, LastTail, IsWhole, takes_in}
-use Rattle.ca_text.specs.Reading.{Read, skip, is_point, most_point, most_shown, quoted_at, one_byte_at, segment_at, after_segment_at, segment_step, series_at, series_rest, bytes_at, after_element_at, element_step, elements_at, Next, Head, Inner, Last, closed, inner_at, tail_at, next_at, cells_after, cell_step, cells_at, list_at, points_at, tuple_at, binary_at, atom_at, integer_term_at, other_at, bracketed, term_at}
+use Rattle.ca_text.specs.Grammar.{Limits, is_blank, AreBlanks, IsInteger, FromZero, Negative, IsCharacter, Itself, Escaped, Hexadecimal, escape_of, AreCharacters, Closed, OneMore, IsAtom, Plain, Quoted, IsSegment, OneByte, Shown, AreSegments, LastSegment, MoreSegments, points, IsTextOf, AnInteger, AnAtom, NoElements, ATuple, ANil, AList, NoString, AString, NoBytes, ABinary, AreElements, LastElement, MoreElements, AreCells, LastCell, MoreCells, LastTail, IsWhole, takes_in, skip}
+use Rattle.ca_text.specs.Reading.{Read, is_point, most_point, most_shown, quoted_at, one_byte_at, segment_at, after_segment_at, segment_step, series_at, series_rest, bytes_at, after_element_at, element_step, elements_at, Next, Head, Inner, Last, closed, inner_at, tail_at, next_at, cells_after, cell_step, cells_at, list_at, points_at, tuple_at, binary_at, atom_at, integer_term_at, other_at, bracketed, term_at}
 use Rattle.ca_text.proofs.Tools.{both}
 use Rattle.ca_text.proofs.Again.{skip_again, expect_again, number_again, integer_again, name_again}
 use Rattle.ca_text.proofs.Numbers.{EndsDigits}

@@ -3,10 +3,10 @@ use Rattle.std.proofs.Common.{◌≡◌, ℕ, zero, suc, Bool, true, false, eqb,
 use Rattle.std.proofs.lemmas.Bool.{eqb-true}
 use Rattle.std.specs.Str.Parse.{digits_value}
 use Rattle.ca_term.specs.Tree.{Tree, Binary}
-use Rattle.ca_text.specs.Grammar.{Limits, AreBlanks, Closed, IsSegment, OneByte, Shown, AreSegments, LastSegment, MoreSegments, IsTextOf, NoBytes, ABinary}
+use Rattle.ca_text.specs.Grammar.{Limits, AreBlanks, Closed, IsSegment, OneByte, Shown, AreSegments, LastSegment, MoreSegments, IsTextOf, NoBytes, ABinary, skip}
 use Rattle.ca_text.specs.declared.fault.Fault.{Fault}
 use Rattle.ca_text.specs.declared.fault.Why.TheVariants.{Syntax}
-use Rattle.ca_text.specs.Reading.{◌>>=◌, skip, expect, number_at, most_shown, string_at, one_byte_at, segment_at, after_segment_at, segment_step, series_at, series_rest, bytes_at, binary_at}
+use Rattle.ca_text.specs.Reading.{◌>>=◌, expect, number_at, most_shown, string_at, one_byte_at, segment_at, after_segment_at, segment_step, series_at, series_rest, bytes_at, binary_at}
 use Rattle.ca_text.proofs.Tools.{bind_ok, chosen, pair_is}
 use Rattle.ca_text.proofs.Local.{err_is}
 use Rattle.ca_text.proofs.Characters.{expect_taken}

@@ -7,11 +7,11 @@ use Rattle.std.specs.Char.{is_ascii_lowercase}
 use Rattle.std.specs.Str.{encode_utf8_all}
 use Rattle.ca_term.specs.Tree.{Tree, Integer, Atom, Tuple, Nil, Cons, Binary, row_of}
 use Rattle.ca_text.specs.Text.{is_name_char}
-use Rattle.ca_text.specs.Grammar.{Limits, points}
+use Rattle.ca_text.specs.Grammar.{Limits, points, skip}
 use Rattle.ca_text.specs.declared.fault.Fault.{Fault}
 use Rattle.ca_text.specs.declared.fault.Why.{Why}
 use Rattle.ca_text.specs.declared.fault.Why.TheVariants.{Syntax, AtomTooLong, TooDeep, TooWide}
-use Rattle.ca_text.specs.Reading.{◌>>=◌, Read, syntax_fault, fault, skip, expect, number_at, integer_at, name_length, name_at, next_point_at, closing_at, points_after, characters_at, string_at, quoted_at, most_point, most_shown, begins_character, one_byte_at, segment_at, after_segment_at, segment_step, series_at, series_rest, bytes_at, after_element_at, element_step, elements_at, Next, Head, Inner, Last, closed, inner_at, tail_at, next_at, cells_after, cell_step, cells_at, list_at, string_points_at, points_at, tuple_at, binary_at, atom_at, integer_term_at, other_at, bracketed, begins_term, too_deep, term_at}
+use Rattle.ca_text.specs.Reading.{◌>>=◌, Read, syntax_fault, fault, expect, number_at, integer_at, name_length, name_at, next_point_at, closing_at, points_after, characters_at, string_at, quoted_at, most_point, most_shown, begins_character, one_byte_at, segment_at, after_segment_at, segment_step, series_at, series_rest, bytes_at, after_element_at, element_step, elements_at, Next, Head, Inner, Last, closed, inner_at, tail_at, next_at, cells_after, cell_step, cells_at, list_at, string_points_at, points_at, tuple_at, binary_at, atom_at, integer_term_at, other_at, bracketed, begins_term, too_deep, term_at}
 use Rattle.ca_text.proofs.Tools.{bind_ok, both, ok_is, pair_is}
 use Rattle.ca_text.proofs.Characters.{next_taken}
 use Rattle.ca_text.proofs.PointsAgain.{character_some}

@@ -5,7 +5,8 @@ use Rattle.ca_text.specs.declared.fault.Fault.{Fault}
 use Rattle.ca_text.specs.declared.fault.Why.{Why}
 use Rattle.ca_text.specs.declared.fault.Stop.{Stop}
 use Rattle.ca_text.specs.declared.fault.Stop.TheVariants as stop
-use Rattle.ca_text.specs.Reading.{◌>>=◌, Read, Fails, characters_at, next_point_at, closing_at, with_front, syntax_fault, series_at, skip, expect, Head, Inner, Last, cell_step, cells_at, brackets_at, conses, with_heads}
+use Rattle.ca_text.specs.Grammar.{skip}
+use Rattle.ca_text.specs.Reading.{◌>>=◌, Read, Fails, characters_at, next_point_at, closing_at, with_front, syntax_fault, series_at, expect, Head, Inner, Last, cell_step, cells_at, brackets_at, conses, with_heads}
 use Rattle.ca_term.specs.Tree.{Tree, Cons}
 
 regroup : {B : Type 0} (front xs : List B) (read : Read (List B)) → with_front front (with_front xs read) ≡ with_front (front ++ xs) read

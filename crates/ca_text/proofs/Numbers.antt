@@ -6,8 +6,8 @@ use Rattle.std.specs.List.{list_all}
 use Rattle.std.specs.Char.{is_ascii_digit, digit_value, is_ascii_lowercase}
 use Rattle.std.specs.Str.Parse.{AllDigits, IsNumeral, digits_value, digits_value_after}
 use Rattle.ca_text.specs.Text.{is_name_char, has_plain_form}
-use Rattle.ca_text.specs.Grammar.{is_blank, AreBlanks, IsInteger, FromZero, Negative, takes_in, IsWhole}
-use Rattle.ca_text.specs.Reading.{skip, digits_after, number_at, negative_at, positive_at, integer_at, name_length, name_at}
+use Rattle.ca_text.specs.Grammar.{is_blank, AreBlanks, IsInteger, FromZero, Negative, takes_in, IsWhole, skip}
+use Rattle.ca_text.specs.Reading.{digits_after, number_at, negative_at, positive_at, integer_at, name_length, name_at}
 use Rattle.ca_text.proofs.Tools.{bind_ok, chosen, guarded, both, pair_is}
 
 -- blanks stand at the front

@@ -2,7 +2,8 @@
 use Rattle.std.proofs.Common.{◌≡◌, ℕ, zero, suc, ◌<◌, ◌≤◌, Bool, true, false, cond, List, length, Result, Ok, Err, refl, sym, ap, subst, ◌∙◌, arith, length-append}
 use Rattle.ca_text.specs.declared.fault.Fault.{Fault}
 use Rattle.ca_text.specs.declared.fault.Why.{Why}
-use Rattle.ca_text.specs.Reading.{◌>>=◌, Read, fault, skip}
+use Rattle.ca_text.specs.Grammar.{skip}
+use Rattle.ca_text.specs.Reading.{◌>>=◌, Read, fault}
 use Rattle.ca_text.proofs.Local.{IsLocal}
 use Rattle.ca_text.proofs.LocalParts.{either_way}
 use Rattle.ca_text.proofs.LocalTerms.{skip_shorter}

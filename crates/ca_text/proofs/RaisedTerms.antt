@@ -4,10 +4,10 @@ use Rattle.std.proofs.lemmas.Bool.Decides.{nat_tests}
 use Rattle.std.specs.Char.{is_ascii_digit, is_ascii_lowercase}
 use Rattle.ca_term.specs.Tree.{Tree, Integer, Atom}
 use Rattle.ca_text.specs.Text.{is_name_char}
-use Rattle.ca_text.specs.Grammar.{Limits, points}
+use Rattle.ca_text.specs.Grammar.{Limits, points, skip}
 use Rattle.ca_text.specs.declared.fault.Why.{Why}
 use Rattle.ca_text.specs.declared.fault.Why.TheVariants.{Syntax, AtomTooLong, TooDeep, TooWide}
-use Rattle.ca_text.specs.Reading.{◌>>=◌, Read, fault, syntax_fault, skip, digits_after, number_at, negative_at, integer_at, name_length, name_at, closing_at, next_point_at, character_at, characters_at, string_at, quoted_at, most_point, begins_character, after_element_at, element_step, elements_at, Next, Head, Inner, Last, closed, inner_at, tail_at, next_at, cells_after, cell_step, cells_at, list_at, string_points_at, points_at, tuple_at, binary_at, atom_at, integer_term_at, other_at, bracketed, begins_term, too_deep, term_at}
+use Rattle.ca_text.specs.Reading.{◌>>=◌, Read, fault, syntax_fault, digits_after, number_at, negative_at, integer_at, name_length, name_at, closing_at, next_point_at, character_at, characters_at, string_at, quoted_at, most_point, begins_character, after_element_at, element_step, elements_at, Next, Head, Inner, Last, closed, inner_at, tail_at, next_at, cells_after, cell_step, cells_at, list_at, string_points_at, points_at, tuple_at, binary_at, atom_at, integer_term_at, other_at, bracketed, begins_term, too_deep, term_at}
 use Rattle.ca_text.proofs.Tools.{bind_ok, ok_is, pair_is}
 use Rattle.ca_text.proofs.Local.{IsLocal}
 use Rattle.ca_text.proofs.LocalParts.{either_way, digits_local, number_local}

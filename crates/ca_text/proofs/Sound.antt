@@ -6,8 +6,8 @@ use Rattle.std.specs.List.{list_all}
 use Rattle.std.specs.Char.{is_ascii, is_ascii_lowercase}
 use Rattle.std.specs.Str.{encode_utf8_all}
 use Rattle.ca_term.specs.Tree.{Tree, Integer, Atom, Tuple, Nil, Cons, Binary, row_of, size}
-use Rattle.ca_text.specs.Grammar.{Limits, AreBlanks, AreCharacters, Closed, OneMore, Plain, Quoted, IsSegment, OneByte, Shown, AreSegments, LastSegment, MoreSegments, points, IsTextOf, AnInteger, AnAtom, NoElements, ATuple, ANil, AList, NoString, AString, NoBytes, ABinary, AreElements, LastElement, MoreElements, AreCells, LastCell, MoreCells, LastTail, IsWhole}
-use Rattle.ca_text.specs.Reading.{◌>>=◌, Read, skip, expect, number_at, integer_at, name_at, is_point, most_point, most_shown, characters_at, string_at, quoted_at, one_byte_at, segment_at, after_segment_at, segment_step, series_at, series_rest, bytes_at, after_element_at, element_step, elements_at, Next, Head, Inner, Last, closed, inner_at, tail_at, next_at, cells_after, cell_step, cells_at, list_at, points_at, tuple_at, binary_at, atom_at, integer_term_at, other_at, bracketed, too_deep, begins_term, begins_character, term_at}
+use Rattle.ca_text.specs.Grammar.{Limits, AreBlanks, AreCharacters, Closed, OneMore, Plain, Quoted, IsSegment, OneByte, Shown, AreSegments, LastSegment, MoreSegments, points, IsTextOf, AnInteger, AnAtom, NoElements, ATuple, ANil, AList, NoString, AString, NoBytes, ABinary, AreElements, LastElement, MoreElements, AreCells, LastCell, MoreCells, LastTail, IsWhole, skip}
+use Rattle.ca_text.specs.Reading.{◌>>=◌, Read, expect, number_at, integer_at, name_at, is_point, most_point, most_shown, characters_at, string_at, quoted_at, one_byte_at, segment_at, after_segment_at, segment_step, series_at, series_rest, bytes_at, after_element_at, element_step, elements_at, Next, Head, Inner, Last, closed, inner_at, tail_at, next_at, cells_after, cell_step, cells_at, list_at, points_at, tuple_at, binary_at, atom_at, integer_term_at, other_at, bracketed, too_deep, begins_term, begins_character, term_at}
 use Rattle.ca_text.proofs.Tools.{bind_ok, chosen, guarded, spared, both, neither, ok_is, pair_is}
 use Rattle.ca_text.proofs.Characters.{expect_taken, characters_taken}
 use Rattle.ca_text.proofs.Numbers.{skipped, number_taken, whole_by, integer_taken, name_taken}

@@ -20,6 +20,11 @@ is_blank b = b == 32 || b == 9
 abbrev pub AreBlanks : List ℕ → Type 0
 AreBlanks bytes = list_all is_blank bytes ≡ true
 
+-- the bytes after the blanks at the front
+unfoldable pub skip : List ℕ → List ℕ
+skip [] = []
+skip (b ∷ bytes) = if is_blank b then skip bytes else b ∷ bytes
+
 -- `-` or nothing, and decimal digits, of a value within 64 bits
 pub data IsInteger : List ℕ → ℤ → Type 0 where
   FromZero : (digits : List ℕ) → IsNumeral 10 digits → digits_value 10 digits < 2 ^ 63 → IsInteger digits (pos (digits_value 10 digits))

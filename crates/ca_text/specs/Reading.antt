@@ -5,7 +5,7 @@ use Rattle.std.specs.Char.{is_ascii_digit, is_ascii_hexdigit, is_ascii_lowercase
 use Rattle.std.specs.Str.{encode_utf8_all, all_scalars}
 use Rattle.ca_term.specs.Tree.{Tree, Integer, Atom, Tuple, Nil, Cons, Binary, row_of}
 use Rattle.ca_text.specs.Text.{is_name_char}
-use Rattle.ca_text.specs.Grammar.{Limits, is_blank, escape_of, points}
+use Rattle.ca_text.specs.Grammar.{Limits, skip, escape_of, points}
 use Rattle.ca_text.specs.declared.fault.Fault.{Fault}
 use Rattle.ca_text.specs.declared.fault.Why.{Why}
 use Rattle.ca_text.specs.declared.fault.Why.TheVariants.{Syntax, AtomTooLong, TooDeep, TooWide}
@@ -40,11 +40,6 @@ Fails (stop.At f) read = read ≡ Err f
 abbrev pub Gives : {X Y : Type 0} → (X → Y) → Result X Stop → Result Y Fault → Type 0
 Gives view (Ok x) read = read ≡ Ok (view x)
 Gives view (Err e) read = Fails e read
-
--- the bytes after the blanks at the front
-unfoldable pub skip : List ℕ → List ℕ
-skip [] = []
-skip (b ∷ bytes) = if is_blank b then skip bytes else b ∷ bytes
 
 -- the bytes after this one
 unfoldable pub expect : ℕ → List ℕ → Result (List ℕ) Fault

@@ -2,14 +2,14 @@
 //! text goes on.
 ghost use Rattle.std.specs.Prelude.{◌≡◌, ◌+◌, ◌*◌, ◌≤◌, ◌<◌, ◌^◌, length, SomeIff, IfOk, pos, neg_ℤ};
 ghost use Rattle.ca_text.specs.Text.{is_name_char};
-ghost use Rattle.ca_text.specs.Grammar.{is_blank};
-ghost use Rattle.ca_text.specs.Reading.{Gives, skip, expect, digits_after, number_at, integer_at, negative_at, positive_at, name_at, name_length};
+ghost use Rattle.ca_text.specs.Grammar.{is_blank, skip};
+ghost use Rattle.ca_text.specs.Reading.{Gives, expect, digits_after, number_at, integer_at, negative_at, positive_at, name_at, name_length};
 
 use crate::atom::is_name_char;
 use crate::fault::{Stop, Why, fault_at, syntax_at};
 
 // The bytes after the blanks at the front.
-#[tactic(auto, unfolding(crate::specs::Reading::skip))]
+#[tactic(auto, unfolding(crate::specs::Grammar::skip))]
 pub(crate) fn skip(bytes: &[u8]) -> &[u8]
     ensures { result.now ≡ skip bytes.now }
 {

@@ -1,5 +1,5 @@
 use Rattle.std.proofs.Common.{◌≡◌, ◌≤◌, length}
-use Rattle.ca_text.specs.Reading.{skip}
+use Rattle.ca_text.specs.Grammar.{skip}
 use Rattle.ca_cmd.proofs.argument.skip.Given as goal
 
 abbrev pub invariant-loop-rest : goal.invariant-loop-rest
