@@ -1,5 +1,5 @@
 -- Why no term is read: one fault, within the bytes, and none where a term is read.
-use Rattle.std.proofs.Common.{◌≡◌, ◌⊎◌, inl, inr, ℕ, suc, ◌+◌, ◌-◌, ◌<◌, ◌≤◌, true, false, List, length, take, Result, Ok, Err, refl, sym, ap, subst, ◌∙◌, arith}
+use Rattle.std.proofs.Common.{◌≡◌, ◌⊎◌, inl, inr, ⊎_elim, ℕ, suc, ◌+◌, ◌-◌, ◌<◌, ◌≤◌, true, false, List, length, take, Result, Ok, Err, refl, sym, ap, subst, ◌∙◌, arith}
 use Rattle.ca_term.specs.Tree.{Tree}
 use Rattle.ca_text.specs.Front.{GoesOnAt, IsLongestStart, IsKind, IsNotRead, fault_place}
 use Rattle.ca_text.specs.Grammar.{standard, IsRead}
@@ -103,6 +103,9 @@ fault_by bytes e f (Err d) is p q = fault_found bytes d e is p ∙ sym (fault_fo
 
 pub fault_sure : (bytes : List ℕ) (e f : TextFault) → IsNotRead bytes e → IsNotRead bytes f → e ≡ f
 fault_sure bytes e f p q = fault_by bytes e f (term_at standard 64 bytes) refl p q
+
+pub fault_known : (bytes : List ℕ) (s : Stop) (e : TextFault) → Fails s (term_at standard 64 bytes) → IsNotRead bytes e → (text_fault s (length bytes) ≡ e) ⊎ (text_fault s (length bytes) ≡ NoMemory)
+fault_known bytes s e h p = ⊎_elim (λ none. inr none) (λ q. inl (fault_sure bytes (text_fault s (length bytes)) e q p)) (not_read bytes s h)
 
 pub read_or_not : (bytes : List ℕ) (t : Tree) (n : ℕ) (e : TextFault) → IsRead bytes t n → IsNotRead bytes e → ⊥
 read_or_not bytes t n e p q = q.unread t n p

@@ -326,6 +326,8 @@ pub fn read_term(alloc: Global, bytes: &[u8]) -> Result<(Term, usize), TextFault
     ensures longest { IfOk result (λ x. (m : ℕ) (t : Tree) → x.1 < m → m ≤ length bytes.now → IsText (take m bytes.now) t → ⊥) }
     // A fault is at the byte with which no text begins any more, and of the kind that tells by which limit.
     ensures refused { IfErr result (λ e. (e ≡ TextFault.NoMemory) ⊎ IsNotRead bytes.now e) }
+    // Where no text stands at the front, that is told, unless memory lacks.
+    ensures sure { (e : TextFault) → IsNotRead bytes.now e → MatchResult result (λ x. ⊥) (λ f. (f ≡ e) ⊎ (f ≡ TextFault.NoMemory)) }
     // What stands at the front is read, unless memory lacks.
     ensures only { (t : Tree) (n : ℕ) → IsRead bytes.now t n → MatchResult result (λ x. (x.0 ≡ t) × (x.1 ≡ n)) (λ e. e ≡ TextFault.NoMemory) }
 {
