@@ -1,19 +1,18 @@
 -- Where the reader of a term halts, the bytes that it took begin a text of a term.
-use Rattle.std.proofs.Common.{◌≡◌, ◌≢◌, ℕ, zero, suc, ◌<◌, ◌≤◌, true, false, eqb, List, [], ◌∷◌, ◌++◌, length, Result, Ok, Err, refl, sym, ap, subst, append-nil, arith, ⊎_elim}
+use Rattle.std.proofs.Common.{◌≡◌, ℕ, zero, suc, ◌≤◌, true, eqb, List, [], ◌∷◌, length, Ok, Err, refl, sym, ap, subst, append-nil, arith, ⊎_elim}
 use Rattle.std.proofs.lemmas.Bool.{eqb-true}
 use Rattle.std.specs.List.{list_all}
 use Rattle.std.specs.Char.{is_ascii_lowercase}
 use Rattle.std.specs.Str.{encode_utf8_all}
 use Rattle.ca_term.specs.Tree.{Tree, Integer, Atom, Nil, Binary}
-use Rattle.ca_text.specs.Text.{has_plain_form}
 use Rattle.ca_text.specs.Grammar.{Limits, IsInteger, AreCharacters, Closed, Plain, Quoted, points, IsTextOf, AnInteger, AnAtom, NoString, AString, NoBytes}
 use Rattle.ca_text.specs.declared.fault.Fault.{Fault}
 use Rattle.ca_text.specs.declared.fault.Why.TheVariants.{Syntax, AtomTooLong, TooDeep}
-use Rattle.ca_text.specs.Reading.{◌>>=◌, Read, integer_at, name_at, is_point, most_point, characters_at, string_at, quoted_at, binary_at, begins_character, points_at, tuple_at, atom_at, integer_term_at, other_at, begins_term, too_deep, term_at}
+use Rattle.ca_text.specs.Reading.{Read, integer_at, name_at, is_point, most_point, characters_at, string_at, quoted_at, binary_at, begins_character, points_at, atom_at, integer_term_at, other_at, begins_term, too_deep, term_at}
 use Rattle.ca_text.proofs.Tools.{chosen}
 use Rattle.ca_text.proofs.Local.{place, err_is}
 use Rattle.ca_text.proofs.Sound.{ReadsTerms, closed_text, other_taken, term_taken}
-use Rattle.ca_text.proofs.Halts.{GoesOn, Halted, Halts, halted_here, halted_behind, halted_map, halted_as, halted_at, bind_err}
+use Rattle.ca_text.proofs.Halts.{GoesOn, Halted, Halts, halted_here, halted_behind, halted_as, halted_at, bind_err}
 use Rattle.ca_text.proofs.HaltsNumbers.{integer_halts, name_halts}
 use Rattle.ca_text.proofs.HaltsCharacters.{characters_halts}
 use Rattle.ca_text.proofs.HaltsBinaries.{binary_halts}

@@ -1,7 +1,7 @@
 -- Where a reader of terms halts, the bytes that it took begin a text.
-use Rattle.std.proofs.Common.{◌≡◌, ℕ, zero, suc, ◌+◌, ◌-◌, ◌<◌, ◌≤◌, Bool, true, false, eqb, List, [], ◌∷◌, ◌++◌, length, Result, Ok, Err, pos, refl, sym, ap, subst, ◌∙◌, append_assoc, append-nil, arith, ◌⊎◌, inl, inr, ⊎_elim}
-use Rattle.std.proofs.lemmas.Bool.{eqb-true, eqb-false}
-use Rattle.ca_term.specs.Tree.{Tree, Row, Integer, Atom, Tuple, Nil, Cons, Binary, Ends, More, row_of, size}
+use Rattle.std.proofs.Common.{◌≡◌, ℕ, zero, suc, ◌<◌, ◌≤◌, Bool, true, false, eqb, List, [], ◌∷◌, ◌++◌, length, Result, Ok, Err, pos, refl, sym, ap, subst, ◌∙◌, append_assoc, append-nil, arith, ⊎_elim}
+use Rattle.std.proofs.lemmas.Bool.{eqb-true}
+use Rattle.ca_term.specs.Tree.{Tree, Row, Integer, Tuple, Nil, Cons, Ends, More, row_of, size}
 use Rattle.ca_text.specs.Grammar.{Limits, AreBlanks, IsTextOf, AnInteger, FromZero, NoElements, ATuple, ANil, AList, AreElements, LastElement, MoreElements, AreCells, LastCell, MoreCells, LastTail, skip}
 use Rattle.ca_text.specs.declared.fault.Fault.{Fault}
 use Rattle.ca_text.specs.declared.fault.Why.{Why}
@@ -9,7 +9,6 @@ use Rattle.ca_text.specs.declared.fault.Why.TheVariants.{Syntax, TooWide}
 use Rattle.ca_text.specs.Reading.{◌>>=◌, Read, expect, series_at, series_rest, after_element_at, element_step, elements_at, tuple_at, Next, Head, Inner, Last, closed, inner_at, tail_at, next_at, cells_after, cell_step, cells_at, list_at, bracketed}
 use Rattle.ca_text.proofs.Tools.{bind_ok, chosen, ok_is, pair_is}
 use Rattle.ca_text.proofs.Local.{place, err_is}
-use Rattle.ca_text.proofs.LocalParts.{either_way}
 use Rattle.ca_text.proofs.Numbers.{skipped, whole_by}
 use Rattle.ca_text.proofs.Sound.{IsTermAt, ReadsTerms, with_more, with_front_blanks, after_element_taken, IsNext, next_taken, AreCellsAt, cells_taken}
 use Rattle.ca_text.proofs.Halts.{GoesOn, Halted, Halts, halted_here, halted_behind, halted_map, halted_at, bind_err, expect_halts}

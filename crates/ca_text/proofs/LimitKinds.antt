@@ -1,5 +1,5 @@
 -- The kind of a fault: with one limit raised the bytes go on at its place, or with none.
-use Rattle.std.proofs.Common.{◌≡◌, ℕ, zero, suc, ◌+◌, ◌-◌, ◌<◌, ◌≤◌, Bool, true, false, ltb, List, [], ◌++◌, length, take, Result, Ok, Err, refl, sym, ap, subst, ◌∙◌, arith, length-append, append-nil}
+use Rattle.std.proofs.Common.{◌≡◌, ℕ, suc, ◌+◌, ◌-◌, ◌<◌, ◌≤◌, Bool, true, false, ltb, List, [], ◌++◌, length, take, Ok, Err, refl, sym, ap, subst, ◌∙◌, arith, length-append, append-nil}
 use Rattle.std.proofs.lemmas.Bool.{ltb-true, ltb-false}
 use Rattle.ca_term.specs.Tree.{Tree}
 use Rattle.ca_text.specs.declared.fault.Fault.{Fault}
@@ -8,7 +8,6 @@ use Rattle.ca_text.specs.declared.fault.Why.TheVariants.{Syntax, AtomTooLong, To
 use Rattle.ca_text.specs.Front.{Begins, GoesOnAt, longer_atoms, wider_tuples}
 use Rattle.ca_text.specs.Grammar.{Limits, standard, IsTextOf}
 use Rattle.ca_text.specs.Reading.{Read, term_at}
-use Rattle.ca_text.proofs.LocalParts.{either_way}
 use Rattle.ca_text.proofs.Places.{begins_front, begins_before, ends, within_by}
 use Rattle.ca_text.proofs.Raised.{Grown, Past, IsRaised}
 use Rattle.ca_text.proofs.RaisedTerms.{term_raised}

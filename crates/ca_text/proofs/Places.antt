@@ -2,9 +2,8 @@
 use Rattle.std.proofs.Common.{◌≡◌, ℕ, zero, suc, ◌+◌, ◌-◌, ◌<◌, ◌≤◌, List, [], ◌∷◌, ◌++◌, leb, length, take, drop, Ok, Err, pos, refl, sym, ap, subst, ◌∙◌, arith, ⊎_elim, append_assoc, append-nil, length-append, add-one, take-append-drop}
 use Rattle.std.proofs.lemmas.Bool.{leb-true, leb-false}
 use Rattle.std.proofs.lemmas.List.{take-append-le}
-use Rattle.ca_term.specs.Tree.{Tree, Integer}
+use Rattle.ca_term.specs.Tree.{Integer}
 use Rattle.ca_text.specs.declared.fault.Fault.{Fault}
-use Rattle.ca_text.specs.declared.fault.Why.{Why}
 use Rattle.ca_text.specs.declared.fault.Stop.{Stop}
 use Rattle.ca_text.specs.declared.fault.Stop.TheVariants as stop
 use Rattle.ca_text.specs.Front.{Begins, IsLongestStart}

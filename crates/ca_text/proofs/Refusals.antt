@@ -1,5 +1,5 @@
 -- Why no term is read: one fault, within the bytes, and none where a term is read.
-use Rattle.std.proofs.Common.{◌≡◌, ◌⊎◌, inl, inr, ⊎_elim, ℕ, suc, ◌+◌, ◌-◌, ◌<◌, ◌≤◌, true, false, List, length, take, Result, Ok, Err, refl, sym, ap, subst, ◌∙◌, arith}
+use Rattle.std.proofs.Common.{◌≡◌, ◌⊎◌, inl, inr, ⊎_elim, ℕ, suc, ◌-◌, ◌≤◌, true, List, length, Ok, Err, refl, sym, ap, subst, ◌∙◌}
 use Rattle.ca_term.specs.Tree.{Tree}
 use Rattle.ca_text.specs.Front.{GoesOnAt, IsLongestStart, IsKind, IsNotRead, fault_place}
 use Rattle.ca_text.specs.Grammar.{standard, IsRead}

@@ -1,6 +1,6 @@
 -- A text is a text within larger limits and on more levels.
-use Rattle.std.proofs.Common.{◌≡◌, ℕ, zero, suc, ◌+◌, ◌≤◌, List, length, arith}
-use Rattle.ca_term.specs.Tree.{Tree, Row, size}
+use Rattle.std.proofs.Common.{◌≡◌, ℕ, zero, suc, ◌+◌, ◌≤◌, List, arith}
+use Rattle.ca_term.specs.Tree.{Tree, Row}
 use Rattle.ca_text.specs.Grammar.{Limits, IsAtom, Plain, Quoted, IsTextOf, AnInteger, AnAtom, NoElements, ATuple, ANil, AList, NoString, AString, NoBytes, ABinary, AreElements, LastElement, MoreElements, AreCells, LastCell, MoreCells, LastTail}
 
 -- so many levels more

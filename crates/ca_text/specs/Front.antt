@@ -1,5 +1,5 @@
 -- Why no term is read at the front of some bytes, and at which byte: by the texts of the grammar alone.
-use Rattle.std.specs.Prelude.{◌≡◌, ℕ, ◌+◌, ◌<◌, ◌≤◌, List, ◌++◌, length, take}
+use Rattle.std.specs.Prelude.{ℕ, ◌+◌, ◌<◌, ◌≤◌, List, ◌++◌, length, take}
 use Rattle.ca_term.specs.Tree.{Tree}
 use Rattle.ca_text.specs.Grammar.{Limits, IsTextOf, IsRead, standard, most_levels}
 use Rattle.ca_text.specs.declared.fault.TextFault.{TextFault}
