@@ -4,6 +4,7 @@ use crate::status::Status;
 use crate::top::run;
 use ca_outside::{Drawer, FetchFault, Shelf, SureDrawer, SureTape, Tape};
 use std::alloc::{AllocError, Global};
+use std::process::Abort;
 use std::test::Fail;
 
 // The words of a command line, parted by blanks.
@@ -24,29 +25,54 @@ fn files_of(alloc: Global, files: &[(&str, &[u8])]) -> Result<Vec<(String, Vec<u
     Ok(all)
 }
 
-#[test]
-fn answers_files(rt: HostRuntime) -> Result<(), Fail> {
+// A run of these words over two files, `a` and `b`, writes this.
+fn answers<R: Abort + AllocGlobal>(
+    rt: &R,
+    words: &str,
+    a: &str,
+    b: &str,
+    output: &str,
+) -> Result<(), Fail> {
     let alloc = rt.alloc();
-    for (words, a, b, output) in [
+    let files = files_of(alloc, &[("a", a.as_bytes()), ("b", b.as_bytes())])?;
+    let mut shelf = SureDrawer::new(files);
+    let mut sink = SureTape::new(alloc, 1000)?;
+    let status = run(
+        alloc,
+        words_of(alloc, words)?.as_slice(),
+        &mut shelf,
+        &mut sink,
+    );
+    assert_eq!(rt; status, Status::Done, "at {words} {a:?} {b:?}");
+    assert_eq!(rt; sink.taken(), output.as_bytes(), "at {words} {a:?} {b:?}");
+    Ok(())
+}
+
+#[test]
+fn answers_one_file(rt: HostRuntime) -> Result<(), Fail> {
+    for (file, output) in [
         (
-            "run a",
             "insert {1,a}\nlookup 1\n",
-            "",
             "client 1\n1 true\n2 [{1,a}]\ntable\n{1,a}.\nend 1\n",
         ),
-        ("run a", "", "", "client 1\ntable\nend 0\n"),
+        ("", "client 1\ntable\nend 0\n"),
         (
-            "run a",
             "insert {1,a}\nlookup 2\n",
-            "",
             "client 1\n1 true\n2 []\ntable\n{1,a}.\nend 1\n",
         ),
         (
-            "run a",
             "insert {b,1}\ninsert {-3}\ninsert {aa,x,y}\ninsert {7}\ninsert {b,2}\nlookup b\n",
-            "",
             "client 1\n1 true\n2 true\n3 true\n4 true\n5 true\n6 [{b,2}]\ntable\n{-3}.\n{7}.\n{aa,x,y}.\n{b,2}.\nend 4\n",
         ),
+    ] {
+        answers(&rt, "run a", file, "", output)?;
+    }
+    Ok(())
+}
+
+#[test]
+fn answers_several_files(rt: HostRuntime) -> Result<(), Fail> {
+    for (words, a, b, output) in [
         ("run a b", "", "", "client 1\nclient 2\ntable\nend 0\n"),
         (
             "run a b",
@@ -61,17 +87,7 @@ fn answers_files(rt: HostRuntime) -> Result<(), Fail> {
             "client 1\n1 []\nclient 2\n1 true\nclient 3\n1 [{2}]\ntable\n{2}.\nend 1\n",
         ),
     ] {
-        let files = files_of(alloc, &[("a", a.as_bytes()), ("b", b.as_bytes())])?;
-        let mut shelf = SureDrawer::new(files);
-        let mut sink = SureTape::new(alloc, 1000)?;
-        let status = run(
-            alloc,
-            words_of(alloc, words)?.as_slice(),
-            &mut shelf,
-            &mut sink,
-        );
-        assert_eq!(rt; status, Status::Done, "at {words} {a:?} {b:?}");
-        assert_eq!(rt; sink.taken(), output.as_bytes(), "at {words} {a:?} {b:?}");
+        answers(&rt, words, a, b, output)?;
     }
     Ok(())
 }

@@ -119,7 +119,7 @@ fn reads<R: Abort + AllocGlobal>(
 }
 
 #[test]
-fn texts_of_terms(rt: HostRuntime) -> Result<(), Fail> {
+fn texts_of_tuples_and_lists(rt: HostRuntime) -> Result<(), Fail> {
     let alloc = rt.alloc();
     let two = tuple(pair(alloc, int(1), int(2))?)?;
     for (text, length) in [("{1,2} x", 5), ("{ 1\t, 2 }", 9), ("{01,002}}", 8)] {
@@ -143,6 +143,15 @@ fn texts_of_terms(rt: HostRuntime) -> Result<(), Fail> {
     ] {
         reads(&rt, text, &proper, length)?;
     }
+    for text in ["[]", "[ ]", "\"\""] {
+        reads(&rt, text, &nil(), text.len())?;
+    }
+    Ok(())
+}
+
+#[test]
+fn texts_of_other_terms(rt: HostRuntime) -> Result<(), Fail> {
+    let alloc = rt.alloc();
     for (value, text, length) in [
         (1, "1x", 1),
         (0, "-0", 2),
@@ -165,9 +174,6 @@ fn texts_of_terms(rt: HostRuntime) -> Result<(), Fail> {
         (b"", "<<\"\">>", 6),
     ] {
         reads(&rt, text, &bin(alloc, bytes)?, length)?;
-    }
-    for text in ["[]", "[ ]", "\"\""] {
-        reads(&rt, text, &nil(), text.len())?;
     }
     Ok(())
 }
@@ -287,6 +293,11 @@ fn places_of_faults(rt: HostRuntime) -> Result<(), Fail> {
             Some(TextFault::Syntax { at })
         );
     }
+    Ok(())
+}
+
+#[test]
+fn places_in_utf8(rt: HostRuntime) -> Result<(), Fail> {
     for (bytes, at) in [
         (b"'\xff'".as_slice(), 1),
         (b"'\xc3'", 2),
