@@ -14,8 +14,14 @@ pub enum Kind {
 #[derive(Debug, Clone, PartialEq, Eq)]
 pub enum Answer {
     /// A text of so many bytes, and the printed text of its term.
-    Read { length: usize, text: Vec<u8> },
-    Refused { kind: Kind, at: usize },
+    Read {
+        length: usize,
+        text: Vec<u8>,
+    },
+    Refused {
+        kind: Kind,
+        at: usize,
+    },
 }
 
 /// How many bytes the longest front has with which some text begins, and how many the longest one that is a text.

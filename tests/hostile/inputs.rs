@@ -1,20 +1,22 @@
-//! What the reader is fed: random bytes and tokens, valid texts, valid texts with random edits, and texts close to each limit.
+//! What the reader is fed: every short input over a few alphabets; then random bytes and tokens, valid texts, valid texts with random
+//! edits, and texts close to each limit.
 
 use crate::random::Random;
 use crate::spelling::{POINTS, blanks, spell, term};
 
-const HOSTILE: &[u8] = b"{}[]<>,|\"'\\x0189 \t\n-aZ_@sn.#$%:/~\0\x01\r\x7f\x80\x8f\x90\x9f\xa0\xbf\xc0\xc1\xc2\xc3\xdf\xe0\xe2\xed\xef\xf0\xf3\xf4\xf5\xff";
+const HOSTILE: &[u8] =
+    b"{}[]<>,|\"'\\x0189 \t\n-aZ_@sn.#$%:/~\0\x01\r\x7f\x80\x8f\x90\x9f\xa0\xbf\xc0\xc1\xc2\xc3\xdf\xe0\xe2\xed\xef\xf0\xf3\xf4\xf5\xff";
 
 const TOKENS: &[&[u8]] = &[
-    b"{", b"}", b"[", b"]", b"<<", b">>", b",", b"|", b"\"", b"'", b" ", b"\t", b"-", b"1", b"00", b"255", b"256", b"a", b"aZ_@9",
-    b"''", b"'a b'", b"\"\"", b"\"ab\"", b"[]", b"{}", b"<<>>", b"\\n", b"\\x{41}", b"\\x{", b"<<\"a\",1>>", b"[1|", b"{1,", b"[[", b"\n",
+    b"{", b"}", b"[", b"]", b"<<", b">>", b",", b"|", b"\"", b"'", b" ", b"\t", b"-", b"1", b"00", b"255", b"256", b"a", b"aZ_@9", b"''",
+    b"'a b'", b"\"\"", b"\"ab\"", b"[]", b"{}", b"<<>>", b"\\n", b"\\x{41}", b"\\x{", b"<<\"a\",1>>", b"[1|", b"{1,", b"[[", b"\n",
 ];
 
 const BEGINNINGS: &[&[u8]] = &[b"{", b"[", b"\"", b"'", b"<<", b"<<\"", b"-", b"1", b"a", b"[1|", b"{1,", b"[\"", b"'\\x{", b"\"\\x{", b""];
 
 const INTEGERS: &[&str] = &[
-    "9223372036854775806", "9223372036854775807", "9223372036854775808", "9223372036854775809", "922337203685477580",
-    "922337203685477581", "18446744073709551615", "18446744073709551616", "99999999999999999999", "0", "1",
+    "9223372036854775806", "9223372036854775807", "9223372036854775808", "9223372036854775809", "922337203685477580", "922337203685477581",
+    "18446744073709551615", "18446744073709551616", "99999999999999999999", "0", "1",
 ];
 
 const BYTES: &[&str] = &["0", "9", "25", "26", "127", "128", "199", "200", "249", "250", "255", "256", "260", "300", "999"];
@@ -24,7 +26,19 @@ const POINT_DIGITS: &[&str] = &[
     "1fffff", "ffffff", "",
 ];
 
-/// An input, and the term of which all of it is a text, where that is known.
+/// What stands behind many opening brackets.
+const INSIDES: &[&[u8]] = &[
+    b"", b"1", b"a", b"''", b"\"\"", b"\"a", b"\"\\x{41}\"", b"\"\xc3\xa9\"", b"\"\xff", b"[]", b"{}", b"{ }", b"<<>>", b"<<1>>", b"-",
+    b"X", b"1|[]", b"1|\"a\"", b"{1", b"\"\n", b"\xff", b"[{", b"\t",
+];
+
+/// What stands behind many characters in quotes.
+const ENDS: &[&[u8]] = &[b"'", b"'", b"'", b"']", b"'}", b"\"", b"\">>", b"\n'", b"\\", b"\\q", b"\xff", b"\xc2", b"\xf0\x9f", b""];
+
+/// Alphabets, and how long the inputs over each are of which all are tried.
+const SHORT: [(&[u8], u32); 3] = [(b"{}[],|\"'<>1a\\", 5), (b"{}[],|\"'<>19a\\- xns_\xc3\xa9", 4), (b"<>\"\\x{}02d81,\n", 5)];
+
+/// An input, and the printed text of the term that all of it spells, where that is known.
 pub struct Input {
     pub bytes: Vec<u8>,
     pub text: Option<String>,
@@ -35,6 +49,19 @@ fn broken(bytes: Vec<u8>) -> Input {
     Input { bytes, text: None }
 }
 
+/// Each short input, once for each alphabet.
+pub fn short() -> impl Iterator<Item = Input> {
+    SHORT.into_iter().flat_map(|(alphabet, most)| (0..=most).flat_map(move |length| words(alphabet, length))).map(broken)
+}
+
+/// All inputs of this length over an alphabet: the numbers of so many digits, each digit a byte.
+fn words(alphabet: &'static [u8], length: u32) -> impl Iterator<Item = Vec<u8>> {
+    let base = alphabet.len();
+    let word = move |number: usize| (0..length).map(|place| alphabet[number / base.pow(place) % base]).collect();
+    (0..base.pow(length)).map(word)
+}
+
+/// A random input.
 pub fn input(random: &mut Random) -> Input {
     match random.below(16) {
         0..=2 => broken(hostile(random)),
@@ -146,10 +173,7 @@ fn deep(random: &mut Random) -> Vec<u8> {
         ends.push(end);
     }
     let mut bytes = text.into_bytes();
-    bytes.extend_from_slice(random.pick(&[
-        b"".as_slice(), b"1", b"a", b"''", b"\"\"", b"\"a", b"\"\\x{41}\"", b"\"\xc3\xa9\"", b"\"\xff", b"[]", b"{}", b"{ }", b"<<>>", b"<<1>>",
-        b"-", b"X", b"1|[]", b"1|\"a\"", b"{1", b"\"\n", b"\xff", b"[{", b"\t",
-    ]));
+    bytes.extend_from_slice(random.pick(INSIDES));
     if !random.once_in(4) {
         ends.iter().rev().for_each(|end| bytes.extend_from_slice(end.as_bytes()));
     }
@@ -198,8 +222,6 @@ fn long_quoted(random: &mut Random) -> Vec<u8> {
         }
     }
     let mut bytes = text.into_bytes();
-    bytes.extend_from_slice(random.pick(&[
-        b"'".as_slice(), b"'", b"'", b"']", b"'}", b"\"", b"\">>", b"\n'", b"\\", b"\\q", b"\xff", b"\xc2", b"\xf0\x9f", b"",
-    ]));
+    bytes.extend_from_slice(random.pick(ENDS));
     bytes
 }

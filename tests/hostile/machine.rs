@@ -39,9 +39,16 @@ enum Place {
     Backslash,
     /// Behind `\x`.
     Brace,
-    Hexadecimal { digits: u32, value: u32 },
+    Hexadecimal {
+        digits: u32,
+        value: u32,
+    },
     /// Inside a code point in UTF-8 of which so many bytes are missing, whose value must be `least` or more.
-    Inside { missing: u32, value: u32, least: u32 },
+    Inside {
+        missing: u32,
+        value: u32,
+        least: u32,
+    },
 }
 
 enum State {
@@ -54,9 +61,16 @@ enum State {
     /// Behind a term inside brackets.
     After,
     Minus,
-    Digits { negative: bool, value: i64 },
+    Digits {
+        negative: bool,
+        value: i64,
+    },
     Name(String),
-    Quoted { quote: Quote, points: Vec<char>, place: Place },
+    Quoted {
+        quote: Quote,
+        points: Vec<char>,
+        place: Place,
+    },
     /// Behind the first `<`.
     Less,
     FirstSegment,
