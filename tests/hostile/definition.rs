@@ -71,6 +71,11 @@ fn why(bytes: &[u8], at: usize) -> Kind {
     kinds.first().copied().unwrap_or(Kind::Syntax)
 }
 
+/// A text that begins with these bytes, where there is one.
+pub fn completed(bytes: &[u8]) -> Option<Vec<u8>> {
+    Some([bytes, &machine_after(bytes).ending()?].concat())
+}
+
 pub fn answer(bytes: &[u8]) -> Answer {
     let (at, text) = fronts(bytes, STANDARD);
     match text.and_then(|length| Some((length, term_of(bytes, length)?))) {

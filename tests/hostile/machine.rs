@@ -5,6 +5,8 @@
 //! (`take`) and whether they are a text (`is_text`). The limits are its own numbers, so that a fault's kind is found by asking
 //! whether one more of something would have helped.
 
+mod ending;
+
 use crate::term::{Term, is_name_character};
 
 /// How deep, how wide and how long a text may be.

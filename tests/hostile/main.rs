@@ -73,6 +73,12 @@ fn tell(bytes: &[u8], wanted: &Option<Answer>, told: &Option<Answer>) {
     println!("the reader:  {}", shown(told));
 }
 
+fn stop(why: &str, bytes: &[u8], wanted: Option<Answer>, told: Option<Answer>) -> ! {
+    println!("DIFFERENCE: {why}");
+    tell(bytes, &wanted, &told);
+    exit(1);
+}
+
 /// The answer on which the grammar, the reader and, where it is known, the spelled term agree.
 fn agreed(input: &Input, room: &mut [u8]) -> Answer {
     let wanted = definition::answer(&input.bytes);
@@ -80,17 +86,27 @@ fn agreed(input: &Input, room: &mut [u8]) -> Answer {
     if let Some(text) = &input.text {
         let spelled = Answer::Read { length: input.bytes.len(), text: text.clone().into_bytes() };
         if wanted != spelled {
-            println!("DIFFERENCE: the grammar does not read what was spelled: {text}");
-            tell(&input.bytes, &Some(wanted), &told);
-            exit(1);
+            stop("the grammar does not read what was spelled", &input.bytes, Some(wanted), Some(spelled));
         }
     }
     if told.as_ref() != Some(&wanted) {
-        println!("DIFFERENCE");
-        tell(&input.bytes, &Some(wanted), &told);
-        exit(1);
+        stop("the reader answers otherwise", &input.bytes, Some(wanted), told);
+    }
+    if let Answer::Refused { at, .. } = wanted {
+        complete(&input.bytes[..at], room);
     }
     wanted
+}
+
+/// The bytes before the place of a fault begin a text: they are completed to one, and the reader must read all of it.
+fn complete(front: &[u8], room: &mut [u8]) {
+    let Some(text) = definition::completed(front) else {
+        stop("no text begins with the bytes before a fault", front, None, None);
+    };
+    match library::answer(&text, room) {
+        Some(Answer::Read { length, .. }) if length == text.len() => {}
+        told => stop("the reader does not read all of a text", &text, Some(definition::answer(&text)), told),
+    }
 }
 
 fn run(time: Duration, seed: u64) -> Counts {
