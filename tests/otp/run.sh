@@ -1,10 +1,14 @@
 #!/bin/sh
 # Compares with a real Erlang: the order of random terms, by the terms and by the bytes of their codes; and what is read of term texts.
-# KIT is the kit's folder. Where there is no Erlang it says so and passes.
+# KIT is the kit's folder. Where there is no Erlang or no rustc it says so and passes.
 set -eu
 cd "$(dirname "$0")/../.."
 if ! command -v escript >/dev/null; then
     echo "SKIPPED: there is no escript here (Debian: erlang-base)"
+    exit 0
+fi
+if ! command -v rustc >/dev/null; then
+    echo "SKIPPED: there is no rustc here"
     exit 0
 fi
 OUT=${OUT:-$(mktemp -d)}
