@@ -1,15 +1,21 @@
 #!/bin/sh
-# Compares the order of random terms with that of a real Erlang, by the terms and by the bytes of their codes.
-# KIT is the kit's folder. Where there is no Erlang it says so and passes.
+# Compares with a real Erlang: the order of random terms, by the terms and by the bytes of their codes; and what is read of term texts.
+# KIT is the kit's folder. Where there is no Erlang or no rustc it says so and passes.
 set -eu
 cd "$(dirname "$0")/../.."
 if ! command -v escript >/dev/null; then
     echo "SKIPPED: there is no escript here (Debian: erlang-base)"
     exit 0
 fi
-KIT=${KIT:-/opt/rattle}
+if ! command -v rustc >/dev/null; then
+    echo "SKIPPED: there is no rustc here"
+    exit 0
+fi
 OUT=${OUT:-$(mktemp -d)}
-(cd crates/ca_speed && rt lib >"$OUT/lib.log" 2>&1) || { tail -n 5 "$OUT/lib.log"; exit 1; }
-rustc --edition 2024 -O tests/otp/pairs.rs -o "$OUT/pairs" -L native=crates/ca_speed/out -L native="$KIT/c" -l static=ca_speed -l static=libc_c
+tools/harness tests/otp/pairs.rs "$OUT/pairs"
 escript tests/otp/pairs.escript "${PAIRS:-2000}" >"$OUT/pairs.txt"
 "$OUT/pairs" <"$OUT/pairs.txt"
+tools/harness tests/otp/texts.rs "$OUT/texts"
+escript tests/otp/texts.escript make "${TEXTS:-2000}" >"$OUT/texts.txt"
+"$OUT/texts" <"$OUT/texts.txt" >"$OUT/answers.txt"
+escript tests/otp/texts.escript compare "$OUT/answers.txt"

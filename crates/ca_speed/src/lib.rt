@@ -1,12 +1,13 @@
-//! Calls of the order crate for programs that are not Rattle: the speed harness and the comparison with Erlang.
+//! Calls of the crates of codes and of texts for programs that are not Rattle: the speed harness and the tests.
 //!
-//! Terms come in as their codes. A call answers 0 where a code is no term's or memory is lacking.
+//! But for `ca_speed_read` terms come in as their codes, and a call answers 0 where a code is no term's or memory is lacking.
 #![tactic(auto)]
 
 ghost use Rattle.std.specs.Prelude.{◌≤◌};
 
 use ca_order::{Code, compare, decode, encode};
 use ca_term::Terms;
+use ca_text::{TextFault, print_term, read_term};
 use std::alloc::Global;
 use std::cmp::Ordering;
 
@@ -86,4 +87,55 @@ pub extern "C" fn ca_speed_order(alloc: Global, first: &[u8], second: &[u8]) -> 
         Ordering::Equal => 2,
         Ordering::Greater => 3,
     }
+}
+
+/// What `read_term` answers to some bytes.
+#[derive(Clone, Copy)]
+#[repr(C)]
+pub struct Reading {
+    /// 0 a term, 1 `Syntax`, 2 `AtomTooLong`, 3 `TooDeep`, 4 `TooWide`, 5 memory or room for the text is lacking.
+    pub kind: u32,
+    /// How many bytes the term's text has, or the place of the fault.
+    pub at: usize,
+    /// How many bytes were printed.
+    pub printed: usize,
+}
+
+fn refusal(fault: TextFault) -> Reading {
+    let (kind, at) = match fault {
+        TextFault::Syntax { at } => (1, at),
+        TextFault::AtomTooLong { at } => (2, at),
+        TextFault::TooDeep { at } => (3, at),
+        TextFault::TooWide { at } => (4, at),
+        TextFault::NoMemory => (5, 0),
+    };
+    Reading {
+        kind,
+        at,
+        printed: 0,
+    }
+}
+
+fn read(alloc: Global, bytes: &[u8], room: &mut [u8]) -> Reading {
+    let (term, at) = match read_term(alloc, bytes) {
+        Ok(read) => read,
+        Err(fault) => return refusal(fault),
+    };
+    let mut text = Vec::new(alloc);
+    if print_term(&term, &mut text).is_err() || text.len() > room.len() {
+        return refusal(TextFault::NoMemory);
+    }
+    let printed = text.len();
+    room[..printed].copy_from_slice(text.as_slice());
+    Reading {
+        kind: 0,
+        at,
+        printed,
+    }
+}
+
+/// Reads the term text at the front of some bytes, and prints the term into the room.
+#[unsafe(no_mangle)]
+pub extern "C" fn ca_speed_read(alloc: Global, bytes: &[u8], room: &mut [u8], into: &mut Reading) {
+    *into = read(alloc, bytes, room);
 }
