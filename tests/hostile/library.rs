@@ -1,23 +1,11 @@
-//! The proved reader, called in the static library of crate ca_speed.
+//! The proved reader's answer.
 
 use crate::definition::{Answer, Kind};
-
-#[repr(C)]
-#[derive(Default)]
-struct Reading {
-    kind: u32,
-    at: usize,
-    printed: usize,
-}
-
-unsafe extern "C" {
-    fn ca_speed_read(bytes: *const u8, len: usize, room: *mut u8, room_len: usize, into: *mut Reading);
-}
+use crate::reader::read;
 
 /// What `read_term` answers, or None for want of memory or of room for the printed text.
 pub fn answer(bytes: &[u8], room: &mut [u8]) -> Option<Answer> {
-    let mut reading = Reading::default();
-    unsafe { ca_speed_read(bytes.as_ptr(), bytes.len(), room.as_mut_ptr(), room.len(), &mut reading) };
+    let reading = read(bytes, room);
     let kind = match reading.kind {
         0 => return Some(Answer::Read { length: reading.at, text: room[..reading.printed].to_vec() }),
         1 => Kind::Syntax,

@@ -6,6 +6,8 @@ mod inputs;
 mod library;
 mod machine;
 mod random;
+#[path = "../reader.rs"]
+mod reader;
 mod spelling;
 mod term;
 

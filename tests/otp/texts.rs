@@ -3,17 +3,8 @@
 
 use std::io::{BufRead, BufWriter, Write, stdin, stdout};
 
-#[repr(C)]
-#[derive(Default)]
-struct Reading {
-    kind: u32,
-    at: usize,
-    printed: usize,
-}
-
-unsafe extern "C" {
-    fn ca_speed_read(bytes: *const u8, len: usize, room: *mut u8, room_len: usize, into: *mut Reading);
-}
+#[path = "../reader.rs"]
+mod reader;
 
 const FAULTS: [&str; 6] = ["read", "Syntax", "AtomTooLong", "TooDeep", "TooWide", "NoMemory"];
 
@@ -22,8 +13,7 @@ fn bytes(hex: &str) -> Vec<u8> {
 }
 
 fn answer(text: &[u8], room: &mut [u8]) -> String {
-    let mut reading = Reading::default();
-    unsafe { ca_speed_read(text.as_ptr(), text.len(), room.as_mut_ptr(), room.len(), &mut reading) };
+    let reading = reader::read(text, room);
     let word = FAULTS[reading.kind as usize];
     if reading.kind > 0 {
         return format!("{word} {}", reading.at);

@@ -1,5 +1,5 @@
 -- Where a reader of terms halts, the bytes that it took begin a text.
-use Rattle.std.proofs.Common.{◌≡◌, ℕ, zero, suc, ◌<◌, ◌≤◌, Bool, true, false, eqb, List, [], ◌∷◌, ◌++◌, length, Result, Ok, Err, pos, refl, sym, ap, subst, ◌∙◌, append_assoc, append-nil, arith, ⊎_elim}
+use Rattle.std.proofs.Common.{◌≡◌, ℕ, zero, suc, ◌<◌, ◌≤◌, Bool, true, false, eqb, List, [], ◌∷◌, ◌++◌, length, Ok, Err, pos, refl, sym, ap, subst, ◌∙◌, append_assoc, append-nil, arith, ⊎_elim}
 use Rattle.std.proofs.lemmas.Bool.{eqb-true}
 use Rattle.ca_term.specs.Tree.{Tree, Row, Integer, Tuple, Nil, Cons, Ends, More, row_of, size}
 use Rattle.ca_text.specs.Grammar.{Limits, AreBlanks, IsTextOf, AnInteger, FromZero, NoElements, ATuple, ANil, AList, AreElements, LastElement, MoreElements, AreCells, LastCell, MoreCells, LastTail, skip}
@@ -10,16 +10,13 @@ use Rattle.ca_text.specs.Reading.{◌>>=◌, Read, expect, series_at, series_res
 use Rattle.ca_text.proofs.Tools.{bind_ok, chosen, ok_is, pair_is}
 use Rattle.ca_text.proofs.Local.{place, err_is}
 use Rattle.ca_text.proofs.Numbers.{skipped, whole_by}
-use Rattle.ca_text.proofs.Sound.{IsTermAt, ReadsTerms, with_more, with_front_blanks, after_element_taken, IsNext, next_taken, AreCellsAt, cells_taken}
+use Rattle.ca_text.proofs.Sound.{IsTermAt, ReadsTerms, with_more, with_front_blanks, after_element_taken, after_some, IsNext, next_taken, AreCellsAt, cells_taken}
 use Rattle.ca_text.proofs.Halts.{GoesOn, Halted, Halts, halted_here, halted_behind, halted_map, halted_at, bind_err, expect_halts}
 
 module _ {A : Type 0} where
   -- the same bytes, told apart otherwise
   pub halted_whole : (IsOf : List ℕ → A → Type 0) (bytes other : List ℕ) (f : Fault) → bytes ≡ other → Halted IsOf other f → Halted IsOf bytes f
   halted_whole IsOf bytes other f e h = subst (λ x. Halted IsOf x f) (sym e) h
-
-never : {A : Type 0} {C : Type 0} (x : A) (f : Fault) → (let ok : Result A Fault = Ok x in ok ≡ Err f) → C
-never x f e = absurd cc
 
 -- what follows an element halts at once
 after_element_halts : (n : ℕ) (bytes : List ℕ) (f : Fault) → after_element_at n bytes ≡ Err f → (why : Why) × (place why bytes ≡ f)
@@ -30,16 +27,6 @@ after_element_halts n (b ∷ bytes) f e =
     (λ h. ⊎_elim (λ i. (TooWide, err_is {A = Bool × List ℕ} (place TooWide (b ∷ bytes)) f i.1)) (λ i. absurd (let k = i.1 in cc)) (chosen (eqb n 0) _ _ (Err f) h.1))
     (λ h. ⊎_elim (λ i. absurd (let k = i.1 in cc)) (λ i. (Syntax, err_is {A = Bool × List ℕ} (place Syntax (b ∷ bytes)) f i.1)) (chosen (eqb b 125) _ _ (Err f) h.1))
     (chosen (eqb b 44) _ _ (Err f) e)
-
--- after a comma a further element may come
-comma_more : (n : ℕ) (bytes rest : List ℕ) → after_element_at n bytes ≡ Ok (true, rest) → 0 < n
-unfolding after_element_at
-comma_more zero [] rest e = absurd cc
-comma_more zero (b ∷ bytes) rest e =
-    ⊎_elim (λ h. absurd (let k = h.1 in cc))
-    (λ h. ⊎_elim (λ i. let p = pair_is false bytes true rest i.1 in absurd (let k = p.0 in cc)) (λ i. absurd (let k = i.1 in cc)) (chosen (eqb b 125) _ _ (Ok (true, rest)) h.1))
-    (chosen (eqb b 44) _ _ (Ok (true, rest)) e)
-comma_more (suc n) bytes rest e = omega arith
 
 -- a text of each level
 pub zero_text : (limits : Limits) (levels : ℕ) → IsTextOf limits (suc levels) (48 ∷ []) (Integer (pos 0))
@@ -109,7 +96,7 @@ module _ (limits : Limits) (levels : ℕ) (element : List ℕ → Read Tree) (so
       let wanted : List Tree × Bool = (part, true) in
       let p = pair_is found u.0.1 wanted after u.2 in
       let more_is : u.0.0 ≡ true = ap (λ (x : List Tree × Bool). x.1) p.0 in
-      let some : 0 < n = comma_more n (skip s.0.1) u.0.1 (u.1 ∙ ap (λ (m : Bool). Ok (m, u.0.1)) more_is) in
+      let some : 0 < n = after_some n (skip s.0.1) u.0.1 (u.1 ∙ ap (λ (m : Bool). Ok (m, u.0.1)) more_is) in
       ⊎_elim
       (λ h. ⊎_elim
       (λ i. behind_comma n bytes s.0.1 h.1 after s.0.0 f some (sound bytes s.0.0 s.0.1 s.1) h.2 (h.3 ∙ p.1) (later after f i))

@@ -8,9 +8,10 @@ use Rattle.ca_text.specs.Grammar.{Limits, points, skip}
 use Rattle.ca_text.specs.declared.fault.Why.{Why}
 use Rattle.ca_text.specs.declared.fault.Why.TheVariants.{Syntax, AtomTooLong, TooDeep, TooWide}
 use Rattle.ca_text.specs.Reading.{◌>>=◌, Read, fault, syntax_fault, digits_after, number_at, negative_at, integer_at, name_length, name_at, closing_at, next_point_at, character_at, characters_at, string_at, quoted_at, most_point, begins_character, after_element_at, element_step, elements_at, Next, Head, Inner, Last, closed, inner_at, tail_at, next_at, cells_after, cell_step, cells_at, list_at, string_points_at, points_at, tuple_at, binary_at, atom_at, integer_term_at, other_at, bracketed, begins_term, too_deep, term_at}
-use Rattle.ca_text.proofs.Tools.{bind_ok, ok_is, pair_is}
+use Rattle.ca_text.proofs.Tools.{bind_ok, ok_is}
 use Rattle.ca_text.proofs.Local.{IsLocal}
 use Rattle.ca_text.proofs.LocalParts.{either_way, digits_local, number_local}
+use Rattle.ca_text.proofs.Sound.{after_some}
 use Rattle.ca_text.proofs.LocalTerms.{skip_shorter, after_element_local, term_local}
 use Rattle.ca_text.proofs.Raised.{Grown, Past, Within, IsRaised, Beside, behind, ReadsBeside, grown_itself, grown_before, grown_most, grown_stays, grown_raised, within_more, within_past, ok_beside, fault_beside, past_beside, beside_more, if_beside, bind_within, bind_past, bind_beside, skip_beside, local_within}
 use Rattle.ca_text.proofs.RaisedParts.{syntax_beside, expect_beside, integer_beside, characters_past, characters_beside, string_beside, name_beside, series_beside, binary_beside}
@@ -22,15 +23,6 @@ rest_of (Inner rest) = rest
 rest_of (Last t rest) = rest
 
 -- ---- tuples
-
--- a further element follows only where there may be one
-after_some : (n : ℕ) (bytes rest : List ℕ) → after_element_at n bytes ≡ Ok (true, rest) → 0 < n
-unfolding after_element_at
-after_some n [] rest e = absurd cc
-after_some zero (b ∷ bytes) rest e =
-    either_way (eqb b 44) (λ h. let k = rw h at e in absurd cc) (λ h.
-    either_way (eqb b 125) (λ i. let k : false ≡ true = (pair_is false bytes true rest (rw (h, i) at e)).0 in absurd cc) (λ i. let k = rw (h, i) at e in absurd cc))
-after_some (suc n) (b ∷ bytes) rest e = omega arith
 
 module _ (raises : Why → Bool) (plain : raises Syntax ≡ false) where
   -- a comma, where so many more elements may come

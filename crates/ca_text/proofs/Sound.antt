@@ -1,5 +1,5 @@
 -- What is read as a term is a text of it.
-use Rattle.std.proofs.Common.{◌≡◌, ℕ, zero, suc, ◌≤◌, Bool, true, false, leb, eqb, List, [], ◌∷◌, ◌++◌, length, Ok, refl, sym, ap, subst, ◌∙◌, append_assoc, arith, ◌⊎◌, inl, inr, ⊎_elim}
+use Rattle.std.proofs.Common.{◌≡◌, ℕ, zero, suc, ◌<◌, ◌≤◌, Bool, true, false, leb, eqb, List, [], ◌∷◌, ◌++◌, length, Ok, refl, sym, ap, subst, ◌∙◌, append_assoc, arith, ◌⊎◌, inl, inr, ⊎_elim}
 use Rattle.std.proofs.lemmas.Bool.{leb-true, eqb-true}
 use Rattle.std.proofs.lemmas.Bool.Decides.{nat_tests}
 use Rattle.std.specs.List.{list_all}
@@ -163,6 +163,16 @@ after_element_taken n (b ∷ bytes) more rest e =
     let q = p.1 in
     inr (sym p.0, cc))
     (chosen (eqb b 44) _ _ (Ok (more, rest)) e)
+
+-- a further element follows only where there may be one
+pub after_some : (n : ℕ) (bytes rest : List ℕ) → after_element_at n bytes ≡ Ok (true, rest) → 0 < n
+unfolding after_element_at
+after_some n [] rest e = absurd cc
+after_some zero (b ∷ bytes) rest e =
+    ⊎_elim (λ h. let k = h.1 in absurd cc)
+    (λ h. let g = guarded (eqb b 125) _ (Ok (false, bytes)) (true, rest) h.1 in let k : false ≡ true = (pair_is false bytes true rest g.1).0 in absurd cc)
+    (chosen (eqb b 44) _ _ (Ok (true, rest)) e)
+after_some (suc n) (b ∷ bytes) rest e = omega arith
 
 module _ (limits : Limits) (levels : ℕ) (element : List ℕ → Read Tree) (sound : ReadsTerms limits levels element) where
   pub record AreElementsAt (n : ℕ) (bytes : List ℕ) (ts : List Tree) (rest : List ℕ) : Type 0 where
