@@ -41,7 +41,8 @@ total_more files file = sum_by-append (λ (f : List ℕ). length f) files (file 
 pub reads_on : (content : List ℕ → Option (List ℕ)) (names : List (List ℕ)) (lines : List (List Numbered)) (room : ℕ) (name : List ℕ) (own : List Numbered) (count : ℕ) →
     IsReading content names lines room → IsRead (content name) room own count → IsReading content (names ++ name ∷ []) (lines ++ own ∷ []) (room - count)
 reads_on content names lines room name own count h r =
-    let total : total_length (h.files ++ r.file ∷ []) ≡ total_length h.files + count = total_more h.files r.file ∙ ap (λ (n : ℕ). total_length h.files + n) (sym r.counted) in
+    let total : total_length (h.files ++ r.file ∷ []) ≡ total_length h.files + count =
+    total_more h.files r.file ∙ ap (λ (n : ℕ). total_length h.files + n) (sym r.counted) in
     record {
       files = h.files ++ r.file ∷ [];
       accepted = record {
@@ -69,7 +70,8 @@ pub has_next : (content : List ℕ → Option (List ℕ)) (earlier : List (List 
     AreFetched content earlier found → map content (earlier ++ name ∷ later) ≡ map Some files → AreFilesOf files lines → HasNext content name found files
 has_next content [] name later [] [] lines h e r = cc
 has_next content [] name later [] (file ∷ files) [] h e r = absurd r
-has_next content [] name later [] (file ∷ files) (own ∷ lines) h e r = record { file = file; own = own; told = cc; total = omega (arith, total_first file files); read = r.0 }
+has_next content [] name later [] (file ∷ files) (own ∷ lines) h e r =
+    record { file = file; own = own; told = cc; total = omega (arith, total_first file files); read = r.0 }
 has_next content [] name later (f ∷ found) files lines h e r = absurd h
 has_next content (n ∷ earlier) name later [] files lines h e r = absurd h
 has_next content (n ∷ earlier) name later (f ∷ found) [] lines h e r = cc

@@ -9,7 +9,8 @@ pub length_commands : (lines : List Line) → length (commands_in (numbered line
 length_commands [] = refl
 length_commands (l ∷ lines) = omega (arith, length_commands lines)
 
-pub command_at : (lines : List Line) (i : ℕ) (l : Line) → i < length lines → get_or lines i l ≡ l → get_or (commands_in (numbered lines)) i (command_of l.cmd) ≡ command_of l.cmd
+pub command_at : (lines : List Line) (i : ℕ) (l : Line) → i < length lines → get_or lines i l ≡ l
+    → get_or (commands_in (numbered lines)) i (command_of l.cmd) ≡ command_of l.cmd
 command_at [] i l h e = absurd (omega arith)
 command_at (m ∷ lines) zero l h e = ap (λ (x : Line). command_of x.cmd) e
 command_at (m ∷ lines) (suc i) l h e = command_at lines i l (omega arith) e

@@ -19,7 +19,8 @@ named_same o names others e f = cc
 -- The names, seen by f, and one of them, at a place before which all files were accepted.
 module _ {X : Type 0} (f : X → List ℕ) (names : List X) (i : ℕ) (name : X) (inside : i < length names) (here : name ≡ get_or names i name)
     (content : List ℕ → Option (List ℕ)) (lines : List (List Numbered)) (room : ℕ) (h : IsReading content (map f (take i names)) lines room) where
-  pub reads_next : (own : List Numbered) (count : ℕ) → IsRead (content (f name)) room own count → IsReading content (map f (take (i + 1) names)) (lines ++ own ∷ []) (room - count)
+  pub reads_next : (own : List Numbered) (count : ℕ) → IsRead (content (f name)) room own count
+      → IsReading content (map f (take (i + 1) names)) (lines ++ own ∷ []) (room - count)
   reads_next own count r =
       subst (λ (x : List (List ℕ)). IsReading content x (lines ++ own ∷ []) (room - count)) (sym (first_more f names i name inside here))
       (reads_on content (map f (take i names)) lines room (f name) own count h r)

@@ -39,7 +39,9 @@ unrefused_push (Deep ∷ said) r h = absurd h
 unrefused_push (Worn ∷ said) r h = absurd h
 
 behind_push : (replies : List Response) (r : Response) (rest : Played) → behind replies (behind (r ∷ []) rest) ≡ behind (replies ++ r ∷ []) rest
-behind_push replies r rest = ap (λ (x : List Response). let y : Played = record { replies = x; table = rest.table; continuation = rest.continuation } in y) (sym (append_assoc replies (r ∷ []) rest.replies))
+behind_push replies r rest =
+    ap (λ (x : List Response). let y : Played = record { replies = x; table = rest.table; continuation = rest.continuation } in y)
+    (sym (append_assoc replies (r ∷ []) rest.replies))
 
 pub goes_on : (p : ℕ) (b : List Tree) (commands : List Command) (i : ℕ) (m n : List Tree) (k l : Continuation) (said : List Answered) (c : Command) (r : Response) →
     IsPlaying p b commands i m k said → i < length commands → get_or commands i c ≡ c → step p m k c ≡ record { map = n; continuation = l; response = r } →
@@ -75,7 +77,8 @@ all_played p b commands i m k said h e =
       table_is = ap (λ (x : Played). x.table) run;
     }
 
-pub built_at : (commands : List Command) (i : ℕ) (c : Command) → list_all is_built commands ≡ true → i < length commands → get_or commands i c ≡ c → is_built c ≡ true
+pub built_at : (commands : List Command) (i : ℕ) (c : Command) → list_all is_built commands ≡ true → i < length commands → get_or commands i c ≡ c
+    → is_built c ≡ true
 built_at [] i c h lt e = absurd (omega arith)
 built_at (d ∷ commands) zero c h lt e = rw (← e) (first h)
   where

@@ -32,7 +32,8 @@ pub record Wanted : Type 0 where
   pub faults_after : ℕ
 
 abbrev pub wanted_of : ℕ → Option (List ℕ) → ℕ → ℕ → ℕ → Wanted
-wanted_of number content room faults_before faults_after = record { number = number; content = content; room = room; faults_before = faults_before; faults_after = faults_after }
+wanted_of number content room faults_before faults_after =
+    record { number = number; content = content; room = room; faults_before = faults_before; faults_after = faults_after }
 
 -- the cause of each status that a file can come to
 abbrev pub IsFault : Wanted → Status → Type 0

@@ -11,7 +11,8 @@ use Rattle.ca_cmd.specs.Content.{IsHeld, IsText, IsLine, text_in}
 use Rattle.ca_cmd.specs.File.{Numbered, commands_in, held_at, lines_of, AreLines, IsFileOf}
 
 -- Where a value is found at the end, one was found before.
-then_ok : {A B : Type 0} (first : Found A) (Follows : A → Found B → Type 0) (P : Type 0) (x : B) → ((a : A) → first ≡ Ok a → Follows a (Ok x) → P) → IsThen first Follows (Ok x) → P
+then_ok : {A B : Type 0} (first : Found A) (Follows : A → Found B → Type 0) (P : Type 0) (x : B) → ((a : A) → first ≡ Ok a → Follows a (Ok x) → P)
+    → IsThen first Follows (Ok x) → P
 then_ok (Ok a) Follows P x f h = f a refl h
 then_ok (Err e) Follows P x f h = absurd cc
 
@@ -42,16 +43,20 @@ forms_built word =
 bare_built : (command : Command) (bytes : List ℕ) (x : Command × List ℕ) → IsBuilt command → IsBare command bytes (Ok x) → IsBuilt x.0
 bare_built command bytes x b h = subst IsBuilt (sym (ap (λ (z : Command × List ℕ). z.0) (same x (command, bytes) h))) b
 
-next_built : (size : ℕ) (Follows : Tree → List ℕ → Filled → Type 0) (bytes : List ℕ) (x : Command × List ℕ) → ((t : Tree) (rest : List ℕ) → Follows t rest (Ok x) → IsBuilt x.0) → IsNext size Follows bytes (Ok x) → IsBuilt x.0
+next_built : (size : ℕ) (Follows : Tree → List ℕ → Filled → Type 0) (bytes : List ℕ) (x : Command × List ℕ)
+    → ((t : Tree) (rest : List ℕ) → Follows t rest (Ok x) → IsBuilt x.0) → IsNext size Follows bytes (Ok x) → IsBuilt x.0
 next_built size Follows bytes x f h = then_ok h.0 (λ first. Follows first.0 first.1) (IsBuilt x.0) x (λ first e g. f first.0 first.1 g) h.2
 
-one_built : (size : ℕ) (command : Tree → Command) (bytes : List ℕ) (x : Command × List ℕ) → ((t : Tree) → IsBuilt (command t)) → IsOne size command bytes (Ok x) → IsBuilt x.0
+one_built : (size : ℕ) (command : Tree → Command) (bytes : List ℕ) (x : Command × List ℕ) → ((t : Tree) → IsBuilt (command t)) → IsOne size command bytes (Ok x)
+    → IsBuilt x.0
 one_built size command bytes x b h = next_built size (λ t. IsBare (command t)) bytes x (λ t rest g. bare_built (command t) rest x (b t) g) h
 
-two_built : (size : ℕ) (command : Tree → Tree → Command) (bytes : List ℕ) (x : Command × List ℕ) → ((t u : Tree) → IsBuilt (command t u)) → IsTwo size command bytes (Ok x) → IsBuilt x.0
+two_built : (size : ℕ) (command : Tree → Tree → Command) (bytes : List ℕ) (x : Command × List ℕ) → ((t u : Tree) → IsBuilt (command t u))
+    → IsTwo size command bytes (Ok x) → IsBuilt x.0
 two_built size command bytes x b h = next_built size (λ t. IsOne size (command t)) bytes x (λ t rest g. one_built size (command t) rest x (b t) g) h
 
-three_built : (size : ℕ) (command : Tree → Tree → Tree → Command) (bytes : List ℕ) (x : Command × List ℕ) → ((t u v : Tree) → IsBuilt (command t u v)) → IsThree size command bytes (Ok x) → IsBuilt x.0
+three_built : (size : ℕ) (command : Tree → Tree → Tree → Command) (bytes : List ℕ) (x : Command × List ℕ) → ((t u v : Tree) → IsBuilt (command t u v))
+    → IsThree size command bytes (Ok x) → IsBuilt x.0
 three_built size command bytes x b h = next_built size (λ t. IsTwo size (command t)) bytes x (λ t rest g. two_built size (command t) rest x (b t) g) h
 
 filled_built : (size at : ℕ) (form : Option Form) (bytes : List ℕ) (x : Command × List ℕ) → AreBuilt form → IsFilled size at form bytes (Ok x) → IsBuilt x.0
@@ -70,7 +75,9 @@ command_built size text c h =
     let rest = drop (word_length text) text in
     then_ok h.0 (λ x. IsWhole size x.0 x.1) (IsBuilt c) c
     (λ x e g.
-    subst IsBuilt (sym (whole_same size x.0 c x.1 g)) (filled_built size (place size text) form rest x (forms_built (take (word_length text) text)) (subst (λ f. IsFilled size (place size text) form rest f) e h.1)))
+    subst IsBuilt (sym (whole_same size x.0 c x.1 g))
+    (filled_built size (place size text) form rest x (forms_built (take (word_length text) text))
+    (subst (λ f. IsFilled size (place size text) form rest f) e h.1)))
     h.2
 
 abbrev IsHeldBuilt : Option Command → Type 0
@@ -80,7 +87,8 @@ IsHeldBuilt (Some command) = IsBuilt command
 text_built : (size : ℕ) (text : List ℕ) (held : Option Command) → IsText size text (Ok held) → IsHeldBuilt held
 text_built size [] held h = subst IsHeldBuilt (sym (same held None h)) tt
 text_built size (b ∷ text) held h =
-    elim (eqb b 37) as (λ z. MatchBool z (◌≡◌ {A = Found (Option Command)} (Ok held) (Ok None)) ((command : Found Command) × IsCommand size (b ∷ text) command × IsThen command IsHeld (Ok held)) → IsHeldBuilt held) [
+    elim (eqb b 37) as (λ z. MatchBool z (◌≡◌ {A = Found (Option Command)} (Ok held) (Ok None))
+    ((command : Found Command) × IsCommand size (b ∷ text) command × IsThen command IsHeld (Ok held)) → IsHeldBuilt held) [
       | true ↦ λ g. subst IsHeldBuilt (sym (same held None g)) tt
       | false ↦ λ g.
           then_ok g.0 IsHeld (IsHeldBuilt held) held
@@ -91,7 +99,8 @@ text_built size (b ∷ text) held h =
 line_built : (line : List ℕ) (held : Option Command) → IsLine line (Ok held) → IsHeldBuilt held
 line_built line held h = then_ok (text_in line) (IsText (length line)) (IsHeldBuilt held) held (λ text e g. text_built (length line) text held g) h
 
-held_built : (n : ℕ) (held : Option Command) (others : List Numbered) → IsHeldBuilt held → list_all is_built (commands_in others) ≡ true → list_all is_built (commands_in (held_at n held ++ others)) ≡ true
+held_built : (n : ℕ) (held : Option Command) (others : List Numbered) → IsHeldBuilt held → list_all is_built (commands_in others) ≡ true
+    → list_all is_built (commands_in (held_at n held ++ others)) ≡ true
 held_built n None others h e = e
 held_built n (Some command) others h e = ap (λ b. b && list_all is_built (commands_in others)) h ∙ e
 

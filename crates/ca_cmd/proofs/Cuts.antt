@@ -25,18 +25,27 @@ free_append stop [] ys f g = g
 free_append stop (x ∷ xs) ys f g = (f.0, free_append stop xs ys f.1 g)
 
 -- a byte that a search from this place on finds
-found_at : (stop : ℕ) (xs : List ℕ) (n i : ℕ) → position_from (λ b. eqb b stop) n xs ≡ Some i → (k : ℕ) × (k < length xs) × (i ≡ n + k) × IsCut xs stop (take k xs) (drop (suc k) xs)
+found_at : (stop : ℕ) (xs : List ℕ) (n i : ℕ) → position_from (λ b. eqb b stop) n xs ≡ Some i
+    → (k : ℕ) × (k < length xs) × (i ≡ n + k) × IsCut xs stop (take k xs) (drop (suc k) xs)
 found_at stop [] n i e = cc
 found_at stop (x ∷ xs) n i e =
-    elim (eqb x stop) as (λ b. eqb x stop ≡ b → cond b (Some n) (position_from (λ b. eqb b stop) (n + 1) xs) ≡ Some i → (k : ℕ) × (k < length (x ∷ xs)) × (i ≡ n + k) × IsCut (x ∷ xs) stop (take k (x ∷ xs)) (drop (suc k) (x ∷ xs))) [
+    elim (eqb x stop) as (λ b. eqb x stop ≡ b → cond b (Some n) (position_from (λ b. eqb b stop) (n + 1) xs) ≡ Some i → (k : ℕ) × (k < length (x ∷ xs)) ×
+    (i ≡ n + k) × IsCut (x ∷ xs) stop (take k (x ∷ xs)) (drop (suc k) (x ∷ xs))) [
       | true ↦ λ t s.
           let h : n ≡ i = cc in
           (0, omega arith, omega arith, record { free = tt; whole = ap (λ z. z ∷ xs) ((Decides-eqb x stop).0 t) })
       | false ↦ λ t s.
           let r = found_at stop xs (n + 1) i s in
           let after : i ≡ n + 1 + r.0 = r.2 in
-          let within : r.0 < length xs = r.1 in
-          (suc r.0, omega arith, omega arith, record { free = (λ q. absurd (false≢true (sym t ∙ (Decides-eqb x stop).1 q)), r.3.free); whole = ap (λ zs. x ∷ zs) r.3.whole })
+          let within : r.0 < length xs = r.1 in (
+            suc r.0,
+            omega arith,
+            omega arith,
+            record {
+              free = (λ q. absurd (false≢true (sym t ∙ (Decides-eqb x stop).1 q)), r.3.free);
+              whole = ap (λ zs. x ∷ zs) r.3.whole;
+            },
+          )
     ] refl e
 
 -- no such byte, where a search finds none
@@ -65,5 +74,6 @@ place_some stop xs i e =
     rw add-one (subst (λ (k : ℕ). IsCut xs stop (take k xs) (drop (suc k) xs)) at r.3)
 
 -- the same, with the rest as a slice gives it
-pub place_cut : (stop : ℕ) (xs : List ℕ) (i : ℕ) → position (λ b. eqb b stop) xs ≡ Some i → IsCut xs stop (take i xs) (take (length xs - (i + 1)) (drop (i + 1) xs))
+pub place_cut : (stop : ℕ) (xs : List ℕ) (i : ℕ) → position (λ b. eqb b stop) xs ≡ Some i
+    → IsCut xs stop (take i xs) (take (length xs - (i + 1)) (drop (i + 1) xs))
 place_cut stop xs i e = rw (take_rest xs (i + 1)) (place_some stop xs i e)

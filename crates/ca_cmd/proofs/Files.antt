@@ -52,13 +52,15 @@ behind_same n lines (v ∷ before) [] cs ds x y e f p q a b =
     absurd (held_or_refused v p.0 f p.2 (subst (λ z. IsLine z (Err f)) (sym h.0) b.bad))
 behind_same n lines (v ∷ before) (w ∷ after) cs ds x y e f p q a b =
     let h = heads v w (before ++ x ∷ a.after) (after ++ y ∷ b.after) (sym a.whole ∙ b.whole) in
-    let r = behind_same (n + 1) (before ++ x ∷ a.after) before after p.1 q.1 x y e f p.3 q.3 (record { after = a.after; whole = refl; bad = a.bad }) (record { after = b.after; whole = h.1; bad = b.bad }) in
+    let r = behind_same (n + 1) (before ++ x ∷ a.after) before after p.1 q.1 x y e f p.3 q.3 (record { after = a.after; whole = refl; bad = a.bad })
+    (record { after = b.after; whole = h.1; bad = b.bad }) in
     (ap suc r.0, r.1)
 
 module _ (file : List ℕ) (line other at place : ℕ) (why reason : LineWhy) (a : IsRefusedAt file line at why) (b : IsRefusedAt file other place reason) where
   one_refusal : (length a.before ≡ length b.before) × (◌≡◌ {A = Refused} (record { at = at; why = why }) (record { at = place; why = reason }))
   one_refusal =
-      behind_same 1 (lines_of file) a.before b.before a.commands b.commands a.line b.line _ _ a.good b.good (record { after = a.after; whole = a.whole; bad = a.bad }) (record { after = b.after; whole = b.whole; bad = b.bad })
+      behind_same 1 (lines_of file) a.before b.before a.commands b.commands a.line b.line _ _ a.good b.good
+      (record { after = a.after; whole = a.whole; bad = a.bad }) (record { after = b.after; whole = b.whole; bad = b.bad })
 
   pub one_line : line ≡ other
   one_line = omega (arith, a.place, b.place, one_refusal.0)
@@ -69,7 +71,8 @@ module _ (file : List ℕ) (line other at place : ℕ) (why reason : LineWhy) (a
   pub one_reason : why ≡ reason
   one_reason = ap (λ (e : Refused). e.why) one_refusal.1
 
-good_or_bad : (n : ℕ) (lines before : List (List ℕ)) (cs ds : List Numbered) (x : List ℕ) (e : Refused) → AreLines n before cs → IsBehind lines before x e → AreLines n lines ds → ⊥
+good_or_bad : (n : ℕ) (lines before : List (List ℕ)) (cs ds : List Numbered) (x : List ℕ) (e : Refused) → AreLines n before cs → IsBehind lines before x e
+    → AreLines n lines ds → ⊥
 good_or_bad n lines [] cs ds x e p a q =
     let r = subst (λ z. AreLines n z ds) a.whole q in
     held_or_refused x r.0 e r.2 a.bad
@@ -79,7 +82,8 @@ good_or_bad n lines (v ∷ before) cs ds x e p a q =
 
 -- a file isn't both read and refused
 pub not_both : (file : List ℕ) (line at : ℕ) (why : LineWhy) (lines : List Numbered) → IsRefusedAt file line at why → IsFileOf file lines → ⊥
-not_both file line at why lines a f = good_or_bad 1 (lines_of file) a.before a.commands lines a.line _ a.good (record { after = a.after; whole = a.whole; bad = a.bad }) f
+not_both file line at why lines a f =
+    good_or_bad 1 (lines_of file) a.before a.commands lines a.line _ a.good (record { after = a.after; whole = a.whole; bad = a.bad }) f
 
 -- So many lines were read, with these commands, and this is left.
 pub record AreReadLines (file : List ℕ) (lines : List Line) (count : ℕ) (rest : List ℕ) : Type 0 where
@@ -105,7 +109,8 @@ lines_push n (v ∷ before) commands line held p l =
       ap (λ z. z ++ held_at (n + suc (length before)) held) p.4 ∙ append_assoc (held_at n p.0) p.1 (held_at (n + suc (length before)) held),
     )
 
-pub lines_more : (file rest line others : List ℕ) (lines after : List Line) (count : ℕ) → AreReadLines file lines count rest → lines_of rest ≡ line ∷ lines_of others → IsTaken (count + 1) line lines after
+pub lines_more : (file rest line others : List ℕ) (lines after : List Line) (count : ℕ) → AreReadLines file lines count rest
+    → lines_of rest ≡ line ∷ lines_of others → IsTaken (count + 1) line lines after
     → AreReadLines file after (count + 1) others
 lines_more file rest line others lines after count r e t =
     let here : 1 + length r.before ≡ count + 1 = omega (arith, r.count_is) in
@@ -117,7 +122,8 @@ lines_more file rest line others lines after count r e t =
       count_is = simp length-append (omega (arith, r.count_is));
     }
 
-pub line_refused : (file rest line others : List ℕ) (lines : List Line) (count at : ℕ) (why : LineWhy) → AreReadLines file lines count rest → lines_of rest ≡ line ∷ lines_of others
+pub line_refused : (file rest line others : List ℕ) (lines : List Line) (count at : ℕ) (why : LineWhy) → AreReadLines file lines count rest
+    → lines_of rest ≡ line ∷ lines_of others
     → IsLine line (Err (record { at = at; why = why })) → IsRefusedAt file (count + 1) at why
 line_refused file rest line others lines count at why r e l = record {
   before = r.before;
@@ -145,7 +151,8 @@ pub only_memory : (file : List ℕ) (commands : List Numbered) (e : FileFault) �
 only_memory file commands (BadLine line at why) f c = absurd (not_both file line at why commands c f)
 only_memory file commands NoMemory f c = refl
 
-pub line_cause : (file rest line others : List ℕ) (lines : List Line) (count : ℕ) (e : FileFault) → AreReadLines file lines count rest → lines_of rest ≡ line ∷ lines_of others → IsCauseAt (count + 1) line e
+pub line_cause : (file rest line others : List ℕ) (lines : List Line) (count : ℕ) (e : FileFault) → AreReadLines file lines count rest
+    → lines_of rest ≡ line ∷ lines_of others → IsCauseAt (count + 1) line e
     → IsCauseIn file e
 line_cause file rest line others lines count (BadLine number at why) r e c =
     subst (λ n. IsRefusedAt file n at why) (sym c.0) (line_refused file rest line others lines count at why r e c.1)

@@ -10,11 +10,16 @@ use Rattle.ca_cmd.specs.Output.{text_of_answer, answer_lines, client_lines}
 use Rattle.ca_cmd.specs.declared.answer.Answer.{Answer}
 use Rattle.ca_cmd.specs.declared.line.Line.{Line}
 
-pub answers_more : (was now whole : List ℕ) (l : Line) (a : Answer) (ls ls' : List Line) (vs vs' : List Answer) → ls ≡ l ∷ ls' → vs ≡ a ∷ vs' → was ++ answer_lines (numbered ls) (said vs) ≡ whole → now ≡ was ++ decimal l.number ++ codes " " ++ text_of_answer (answered a) ++ codes "\n" → now ++ answer_lines (numbered ls') (said vs') ≡ whole
+pub answers_more : (was now whole : List ℕ) (l : Line) (a : Answer) (ls ls' : List Line) (vs vs' : List Answer) → ls ≡ l ∷ ls' → vs ≡ a ∷ vs'
+    → was ++ answer_lines (numbered ls) (said vs) ≡ whole → now ≡ was ++ decimal l.number ++ codes " " ++ text_of_answer (answered a) ++ codes "\n"
+    → now ++ answer_lines (numbered ls') (said vs') ≡ whole
 answers_more was now whole l a ls ls' vs vs' p q w n =
-    let first : was ++ answer_lines (numbered (l ∷ ls')) (said vs) ≡ whole = subst (λ (z : List Line). was ++ answer_lines (numbered z) (said vs) ≡ whole) p w in
-    let both : was ++ answer_lines (numbered (l ∷ ls')) (said (a ∷ vs')) ≡ whole = subst (λ (z : List Answer). was ++ answer_lines (numbered (l ∷ ls')) (said z) ≡ whole) q first in
-    let regrouped : (was ++ decimal l.number ++ codes " " ++ text_of_answer (answered a) ++ codes "\n") ++ answer_lines (numbered ls') (said vs') ≡ was ++ answer_lines (numbered (l ∷ ls')) (said (a ∷ vs')) =
+    let first : was ++ answer_lines (numbered (l ∷ ls')) (said vs) ≡ whole =
+    subst (λ (z : List Line). was ++ answer_lines (numbered z) (said vs) ≡ whole) p w in
+    let both : was ++ answer_lines (numbered (l ∷ ls')) (said (a ∷ vs')) ≡ whole =
+    subst (λ (z : List Answer). was ++ answer_lines (numbered (l ∷ ls')) (said z) ≡ whole) q first in
+    let regrouped : (was ++ decimal l.number ++ codes " " ++ text_of_answer (answered a) ++ codes "\n") ++ answer_lines (numbered ls')
+    (said vs') ≡ was ++ answer_lines (numbered (l ∷ ls')) (said (a ∷ vs')) =
     simp append_assoc in
     rw n (regrouped ∙ both)
 
@@ -22,19 +27,24 @@ none_left : (lines : List Numbered) → answer_lines lines [] ≡ []
 none_left [] = refl
 none_left (l ∷ lines) = refl
 
-pub answers_done : (now whole : List ℕ) (ls : List Line) (vs : List Answer) → (ls ≡ []) ⊎ (vs ≡ []) → now ++ answer_lines (numbered ls) (said vs) ≡ whole → now ≡ whole
+pub answers_done : (now whole : List ℕ) (ls : List Line) (vs : List Answer) → (ls ≡ []) ⊎ (vs ≡ []) → now ++ answer_lines (numbered ls) (said vs) ≡ whole
+    → now ≡ whole
 answers_done now whole ls vs (inl e) w = sym (append-nil now) ∙ subst (λ (z : List Line). now ++ answer_lines (numbered z) (said vs) ≡ whole) e w
 answers_done now whole ls vs (inr e) w =
-    sym (append-nil now) ∙ ap (λ z. now ++ z) (sym (none_left (numbered ls))) ∙ subst (λ (z : List Answer). now ++ answer_lines (numbered ls) (said z) ≡ whole) e w
+    sym (append-nil now) ∙ ap (λ z. now ++ z) (sym (none_left (numbered ls)))
+    ∙ subst (λ (z : List Answer). now ++ answer_lines (numbered ls) (said z) ≡ whole) e w
 
 pub clients_more : (was now whole : List ℕ) (client : ℕ) (lines : List Numbered) (own : List Answered) (files files' : List (List Numbered)) (answers answers' : List (List Answered)) → files ≡ lines ∷ files' → answers ≡ own ∷ answers'
     → was ++ client_lines client files answers ≡ whole
     → now ≡ was ++ codes "client " ++ decimal client ++ codes "\n" ++ answer_lines lines own
     → now ++ client_lines (client + 1) files' answers' ≡ whole
 clients_more was now whole client lines own files files' answers answers' p q w n =
-    let first : was ++ client_lines client (lines ∷ files') answers ≡ whole = subst (λ (z : List (List Numbered)). was ++ client_lines client z answers ≡ whole) p w in
-    let both : was ++ client_lines client (lines ∷ files') (own ∷ answers') ≡ whole = subst (λ (z : List (List Answered)). was ++ client_lines client (lines ∷ files') z ≡ whole) q first in
-    let regrouped : (was ++ codes "client " ++ decimal client ++ codes "\n" ++ answer_lines lines own) ++ client_lines (client + 1) files' answers' ≡ was ++ client_lines client (lines ∷ files') (own ∷ answers') =
+    let first : was ++ client_lines client (lines ∷ files') answers ≡ whole =
+    subst (λ (z : List (List Numbered)). was ++ client_lines client z answers ≡ whole) p w in
+    let both : was ++ client_lines client (lines ∷ files') (own ∷ answers') ≡ whole =
+    subst (λ (z : List (List Answered)). was ++ client_lines client (lines ∷ files') z ≡ whole) q first in
+    let regrouped : (was ++ codes "client " ++ decimal client ++ codes "\n" ++ answer_lines lines own) ++ client_lines
+    (client + 1) files' answers' ≡ was ++ client_lines client (lines ∷ files') (own ∷ answers') =
     simp append_assoc in
     rw n (regrouped ∙ both)
 
@@ -42,10 +52,13 @@ no_clients_left : (client : ℕ) (files : List (List Numbered)) → client_lines
 no_clients_left client [] = refl
 no_clients_left client (lines ∷ files) = refl
 
-pub clients_done : (now whole : List ℕ) (client : ℕ) (files : List (List Numbered)) (answers : List (List Answered)) → (files ≡ []) ⊎ (answers ≡ []) → now ++ client_lines client files answers ≡ whole → now ≡ whole
-clients_done now whole client files answers (inl e) w = sym (append-nil now) ∙ subst (λ (z : List (List Numbered)). now ++ client_lines client z answers ≡ whole) e w
+pub clients_done : (now whole : List ℕ) (client : ℕ) (files : List (List Numbered)) (answers : List (List Answered)) → (files ≡ []) ⊎ (answers ≡ [])
+    → now ++ client_lines client files answers ≡ whole → now ≡ whole
+clients_done now whole client files answers (inl e) w =
+    sym (append-nil now) ∙ subst (λ (z : List (List Numbered)). now ++ client_lines client z answers ≡ whole) e w
 clients_done now whole client files answers (inr e) w =
-    sym (append-nil now) ∙ ap (λ z. now ++ z) (sym (no_clients_left client files)) ∙ subst (λ (z : List (List Answered)). now ++ client_lines client files z ≡ whole) e w
+    sym (append-nil now) ∙ ap (λ z. now ++ z) (sym (no_clients_left client files))
+    ∙ subst (λ (z : List (List Answered)). now ++ client_lines client files z ≡ whole) e w
 
 pub map_from : {A B : Type 0} (f : A → B) (xs : List A) (i : ℕ) (x : A) → i < length xs → x ≡ get_or xs i x → map f (drop i xs) ≡ f x ∷ map f (drop (i + 1) xs)
 map_from f xs i x h e =

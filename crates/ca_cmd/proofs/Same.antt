@@ -58,7 +58,8 @@ end_sure size bytes = then_sure (apart size bytes) _ (λ rest x y p q. p ∙ sym
 bare_sure : (command : Command) (bytes : List ℕ) → IsSure (IsBare command bytes)
 bare_sure command bytes x y p q = p ∙ sym q
 
-next_sure : (size : ℕ) (Follows : Tree → List ℕ → Filled → Type 0) → ((t : Tree) (bytes : List ℕ) → IsSure (Follows t bytes)) → (bytes : List ℕ) → IsSure (IsNext size Follows bytes)
+next_sure : (size : ℕ) (Follows : Tree → List ℕ → Filled → Type 0) → ((t : Tree) (bytes : List ℕ) → IsSure (Follows t bytes)) → (bytes : List ℕ)
+    → IsSure (IsNext size Follows bytes)
 next_sure size Follows sure bytes = after_sure (IsArgument size bytes) (λ x. Follows x.0 x.1) (argument_sure size bytes) (λ x. sure x.0 x.1)
 
 one_sure : (size : ℕ) (command : Tree → Command) (bytes : List ℕ) → IsSure (IsOne size command bytes)

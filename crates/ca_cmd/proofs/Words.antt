@@ -25,10 +25,12 @@ pub lookup_form : form_of (codes "lookup") ≡ Some (One Lookup)
 unfolding form_of
 lookup_form = refl
 
-pub one_read : (size at : ℕ) (word bytes rest : List ℕ) (command : Tree → Command) (t : Tree) → form_of word ≡ Some (One command) → IsArgument size bytes (Ok (t, rest)) → IsFilled size at (form_of word) bytes (Ok (command t, rest))
+pub one_read : (size at : ℕ) (word bytes rest : List ℕ) (command : Tree → Command) (t : Tree) → form_of word ≡ Some (One command)
+    → IsArgument size bytes (Ok (t, rest)) → IsFilled size at (form_of word) bytes (Ok (command t, rest))
 one_read size at word bytes rest command t h p = rw h (Ok (t, rest), p, refl)
 
-pub one_refused : (size at : ℕ) (word bytes : List ℕ) (command : Tree → Command) (e : LineFault) → form_of word ≡ Some (One command) → IsFault (IsArgument size bytes) e → IsFault (IsFilled size at (form_of word) bytes) e
+pub one_refused : (size at : ℕ) (word bytes : List ℕ) (command : Tree → Command) (e : LineFault) → form_of word ≡ Some (One command)
+    → IsFault (IsArgument size bytes) e → IsFault (IsFilled size at (form_of word) bytes) e
 one_refused size at word bytes command (Refused place why) h p = rw h (Err (record { at = place; why = why }), p, refl)
 one_refused size at word bytes command NoMemory h p = tt
 
@@ -47,5 +49,6 @@ pub text_ill : (line : List ℕ) (n : ℕ) → length line ≤ 8192 → (IsUtf8 
     → refused NotUtf8 (place (length line) (take (length line - n) (drop n line))) ≡ text_in line
 text_ill line n short u h e =
     let within : nat_lt 8192 (length line) ≡ false = grind (arith, nat_tests) in
-    let here : place (length line) (take (length line - n) (drop n line)) ≡ utf8_valid_len line + 1 = rw (take_rest line n) (omega (arith, e, length-drop n line)) in
+    let here : place (length line) (take (length line - n) (drop n line)) ≡ utf8_valid_len line + 1 =
+    rw (take_rest line n) (omega (arith, e, length-drop n line)) in
     rw (within, not_utf8 line u) (ap (λ k. refused NotUtf8 k) here)

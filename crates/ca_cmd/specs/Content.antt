@@ -25,7 +25,8 @@ IsHeld command found = found ≡ Ok (Some command)
 -- Nothing at all, and a text that begins with `%`, is no command.
 abbrev pub IsText : ℕ → List ℕ → Found (Option Command) → Type 0
 IsText size [] found = found ≡ Ok None
-IsText size (b ∷ text) found = MatchBool (b == 37) (found ≡ Ok None) ((command : Found Command) × IsCommand size (b ∷ text) command × IsThen command IsHeld found)
+IsText size (b ∷ text) found =
+    MatchBool (b == 37) (found ≡ Ok None) ((command : Found Command) × IsCommand size (b ∷ text) command × IsThen command IsHeld found)
 
 abbrev pub IsLine : List ℕ → Found (Option Command) → Type 0
 IsLine line found = IsThen (text_in line) (IsText (length line)) found

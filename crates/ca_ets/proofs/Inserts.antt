@@ -17,8 +17,10 @@ module _ (p : ℕ) (m : List Tree) (k : Continuation) (o : Tree) where
   pub too_long : is_object p o ≡ true → fits o ≡ false → inserted p m k o ≡ unchanged m k (Error Size)
   too_long e f = rw (e, f)
 
-  pub put_is : (q : Tree) (r : Result ℕ ℕ) → is_object p o ≡ true → fits o ≡ true → q ≡ key_of p o → IsPlace p m q r → inserted p m k o ≡ record { map = placed m r o; continuation = k; response = Truth true }
+  pub put_is : (q : Tree) (r : Result ℕ ℕ) → is_object p o ≡ true → fits o ≡ true → q ≡ key_of p o → IsPlace p m q r
+      → inserted p m k o ≡ record { map = placed m r o; continuation = k; response = Truth true }
   put_is q r e f s h = rw (e, f, placed_is p m o r (rw s at h))
 
-pub put_keeps : (p : ℕ) (m : List Tree) (o q : Tree) (r : Result ℕ ℕ) → IsTable p m → is_object p o ≡ true → fits o ≡ true → q ≡ key_of p o → IsPlace p m q r → IsTable p (placed m r o)
+pub put_keeps : (p : ℕ) (m : List Tree) (o q : Tree) (r : Result ℕ ℕ) → IsTable p m → is_object p o ≡ true → fits o ≡ true → q ≡ key_of p o → IsPlace p m q r
+    → IsTable p (placed m r o)
 put_keeps p m o q r t e f s h = rw (placed_is p m o r (rw s at h)) (table_put p m o t (record { object = e; fitting = f }))

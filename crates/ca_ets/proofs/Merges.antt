@@ -29,7 +29,8 @@ nobody ((n, x) ∷ merge) h = let e : x ∷ own n merge ≡ [] = sym (own_here n
 
 -- the run of a merge in which only the first client has turns
 module _ (p : ℕ) where
-  alone : (m : List Tree) (ks : ℕ → Continuation) (merge : List (ℕ × Command)) → ((n : ℕ) → own (suc n) merge ≡ []) → (own 0 (run_from p m ks merge).replies ≡ (played p m (ks 0) (own 0 merge)).replies) × ((run_from p m ks merge).table ≡ (played p m (ks 0) (own 0 merge)).table)
+  alone : (m : List Tree) (ks : ℕ → Continuation) (merge : List (ℕ × Command)) → ((n : ℕ) → own (suc n) merge ≡ [])
+      → (own 0 (run_from p m ks merge).replies ≡ (played p m (ks 0) (own 0 merge)).replies) × ((run_from p m ks merge).table ≡ (played p m (ks 0) (own 0 merge)).table)
   alone m ks [] h = (refl, refl)
   alone m ks ((zero, c) ∷ merge) h =
       let s = step p m (ks 0) c in
@@ -37,11 +38,13 @@ module _ (p : ℕ) where
       (ap (λ x. s.response ∷ x) r.0, r.1)
   alone m ks ((suc j, c) ∷ merge) h = let e : c ∷ own (suc j) merge ≡ [] = sym (own_here (suc j) c merge) ∙ h j in cc
 
-  others_silent : (m : List Tree) (ks : ℕ → Continuation) (merge : List (ℕ × Command)) → ((n : ℕ) → own (suc n) merge ≡ []) → (n : ℕ) → own (suc n) (run_from p m ks merge).replies ≡ []
+  others_silent : (m : List Tree) (ks : ℕ → Continuation) (merge : List (ℕ × Command)) → ((n : ℕ) → own (suc n) merge ≡ []) → (n : ℕ)
+      → own (suc n) (run_from p m ks merge).replies ≡ []
   others_silent m ks [] h n = refl
   others_silent m ks ((zero, c) ∷ merge) h n =
       let s = step p m (ks 0) c in
-      own_later n s.response (run_from p s.map (changed ks 0 s.continuation) merge).replies ∙ others_silent s.map (changed ks 0 s.continuation) merge (λ k. sym (own_later k c merge) ∙ h k) n
+      own_later n s.response (run_from p s.map (changed ks 0 s.continuation) merge).replies
+      ∙ others_silent s.map (changed ks 0 s.continuation) merge (λ k. sym (own_later k c merge) ∙ h k) n
   others_silent m ks ((suc j, c) ∷ merge) h n = let e : c ∷ own (suc j) merge ≡ [] = sym (own_here (suc j) c merge) ∙ h j in cc
 
 -- commands as the turns of the first client
@@ -80,11 +83,13 @@ explained p cs said t i =
       table_is = a.1 ∙ i.table_is;
     }
   where
-    merges_by : (merge : List (ℕ × Command)) → own 0 merge ≡ replied_commands cs said → ((n : ℕ) → own (suc n) merge ≡ []) → IsMerge (replied (cs ∷ []) (said ∷ [])) merge
+    merges_by : (merge : List (ℕ × Command)) → own 0 merge ≡ replied_commands cs said → ((n : ℕ) → own (suc n) merge ≡ [])
+        → IsMerge (replied (cs ∷ []) (said ∷ [])) merge
     merges_by merge e h zero = e
     merges_by merge e h (suc n) = h n
 
-    replies_by : (replies : List (ℕ × Response)) → own 0 replies ≡ replies_in said → ((n : ℕ) → own (suc n) replies ≡ []) → IsMerge (map replies_in (said ∷ [])) replies
+    replies_by : (replies : List (ℕ × Response)) → own 0 replies ≡ replies_in said → ((n : ℕ) → own (suc n) replies ≡ [])
+        → IsMerge (map replies_in (said ∷ [])) replies
     replies_by replies e h zero = e
     replies_by replies e h (suc n) = h n
 

@@ -104,11 +104,13 @@ keys_rise p m t i d l h = by (term_cmp (key_of p (get_or m i d)) (key_of p (get_
     next (o ∷ m) zero t h = above_item p o m 0 d t.1 (omega arith)
     next (o ∷ m) (suc i) t h = let s : suc i + 1 ≡ suc (i + 1) = omega arith in rw s (next m i t.2 (omega arith))
 
-    by : (r : Ordering) → term_cmp (key_of p (get_or m i d)) (key_of p (get_or m (i + 1) d)) ≡ r → is_lt (term_cmp (key_of p (get_or m (i + 1) d)) (key_of p (get_or m i d))) ≡ false
+    by : (r : Ordering) → term_cmp (key_of p (get_or m i d)) (key_of p (get_or m (i + 1) d)) ≡ r
+        → is_lt (term_cmp (key_of p (get_or m (i + 1) d)) (key_of p (get_or m i d))) ≡ false
     by r e = ap is_lt (tree_flip (key_of p (get_or m (i + 1) d)) (key_of p (get_or m i d)) ∙ ap ordering_reverse (next m i t h))
 
 -- what a binary search by the keys answers
-pub searched : (p : ℕ) (m : List Tree) (k : Tree) (r : Result ℕ ℕ) → IsTable p m → IsSearchInRange r (length m) → IsBinarySearchResult (λ o. term_cmp (key_of p o) k) m r → IsPlace p m k r
+pub searched : (p : ℕ) (m : List Tree) (k : Tree) (r : Result ℕ ℕ) → IsTable p m → IsSearchInRange r (length m)
+    → IsBinarySearchResult (λ o. term_cmp (key_of p o) k) m r → IsPlace p m k r
 searched p m k (Ok i) t b s = found p m k i t b (s Nil)
 searched p m k (Err i) t b s =
     let rises : IsNonDecreasingBy (λ o. ordering_index (term_cmp (key_of p o) k)) m = searchable_from_sorted term_cmp_total (key_of p) m k (keys_rise p m t) in

@@ -30,7 +30,8 @@ pub above_are : (p : ℕ) (o : Tree) (m : List Tree) → AreAbove p o (above p m
 above_are p o [] = tt
 above_are p o (q ∷ m) = by (term_cmp (key_of p q) (key_of p o)) refl (above_are p o m)
   where
-    by : (r : Ordering) → term_cmp (key_of p q) (key_of p o) ≡ r → AreAbove p o (above p m (key_of p o)) → AreAbove p o (if is_gt r then q ∷ above p m (key_of p o) else above p m (key_of p o))
+    by : (r : Ordering) → term_cmp (key_of p q) (key_of p o) ≡ r → AreAbove p o (above p m (key_of p o))
+        → AreAbove p o (if is_gt r then q ∷ above p m (key_of p o) else above p m (key_of p o))
     by Less e rest = rest
     by Equal e rest = rest
     by Greater e rest = (tree_flip (key_of p o) (key_of p q) ∙ ap ordering_reverse e, rest)
@@ -62,7 +63,8 @@ table_filter p (q ∷ m) f t = by (f q) (table_filter p m f t.2)
     by false rest = rest
 
 -- a table, and behind it another one whose first key is greater
-pub table_append : (p : ℕ) (xs : List Tree) (o : Tree) (ys : List Tree) → AreBelow p xs (key_of p o) → IsTable p xs → IsTable p (o ∷ ys) → IsTable p (xs ++ o ∷ ys)
+pub table_append : (p : ℕ) (xs : List Tree) (o : Tree) (ys : List Tree) → AreBelow p xs (key_of p o) → IsTable p xs → IsTable p (o ∷ ys)
+    → IsTable p (xs ++ o ∷ ys)
 table_append p [] o ys b s t = t
 table_append p (x ∷ xs) o ys b s t =
     (s.0, above_append p x xs (o ∷ ys) s.1 (b.0, above_far p x o ys b.0 t.1), table_append p xs o ys b.1 s.2 t)

@@ -22,7 +22,8 @@ own-append : {A : Type 0} (n : ℕ) (xs ys : List (ℕ × A)) → own n (xs ++ y
 own-append n [] ys = refl
 own-append n ((k, x) ∷ xs) ys = by (k == n) (own-append n xs ys)
   where
-    by : (b : Bool) → own n (xs ++ ys) ≡ own n xs ++ own n ys → (if b then x ∷ own n (xs ++ ys) else own n (xs ++ ys)) ≡ (if b then x ∷ own n xs else own n xs) ++ own n ys
+    by : (b : Bool) → own n (xs ++ ys) ≡ own n xs ++ own n ys
+        → (if b then x ∷ own n (xs ++ ys) else own n (xs ++ ys)) ≡ (if b then x ∷ own n xs else own n xs) ++ own n ys
     by true e = ap (λ zs. x ∷ zs) e
     by false e = e
 
@@ -44,7 +45,8 @@ module _ (p : ℕ) where
       by (k == n) refl h (untouched n s.map (changed ks k s.continuation) merge)
     where
       by : (b : Bool) → (k == n) ≡ b → (if b then c ∷ own n merge else own n merge) ≡ [] →
-          (own n merge ≡ [] → left_by p (step p m (ks k) c).map (changed ks k (step p m (ks k) c).continuation) merge n ≡ changed ks k (step p m (ks k) c).continuation n) →
+          (own n merge ≡ [] → left_by p (step p m (ks k) c).map (changed ks k (step p m (ks k) c).continuation) merge n ≡ changed ks k
+          (step p m (ks k) c).continuation n) →
           left_by p (step p m (ks k) c).map (changed ks k (step p m (ks k) c).continuation) merge n ≡ ks n
       by true e g f = cc
       by false e g f =
@@ -68,7 +70,8 @@ other_turns k n (x ∷ xs) e = rw e (other_turns k n xs e)
 
 -- the run of one client's turns is its play
 run_turns : (p n : ℕ) (m : List Tree) (ks : ℕ → Continuation) (cs : List Command) →
-    ((run_from p m ks (turns_of n cs)).table ≡ (played p m (ks n) cs).table) × ((run_from p m ks (turns_of n cs)).replies ≡ turns_of n (played p m (ks n) cs).replies)
+    ((run_from p m ks (turns_of n cs)).table ≡ (played p m (ks n) cs).table) ×
+    ((run_from p m ks (turns_of n cs)).replies ≡ turns_of n (played p m (ks n) cs).replies)
 unfolding turns_of
 run_turns p n m ks [] = (refl, refl)
 run_turns p n m ks (c ∷ cs) =
@@ -90,7 +93,8 @@ own_turns_if k n xs = by (n == k) refl
     by true e = let same : n ≡ k = same_number n k e in rw (← same) (own_turns n xs)
     by false e = other_turns k n xs e
 
-index_more : {A : Type 0} (lists : List (List A)) (x : List A) (k : ℕ) → slice_index_or (lists ++ x ∷ []) k [] ≡ slice_index_or lists k [] ++ (if length lists == k then x else [])
+index_more : {A : Type 0} (lists : List (List A)) (x : List A) (k : ℕ)
+    → slice_index_or (lists ++ x ∷ []) k [] ≡ slice_index_or lists k [] ++ (if length lists == k then x else [])
 index_more [] x zero = refl
 index_more [] x (suc k) = rw (not_first k) refl
 index_more (l ∷ lists) x zero =
@@ -99,24 +103,28 @@ index_more (l ∷ lists) x zero =
 index_more (l ∷ lists) x (suc k) = rw (suc_same (length lists) k) (index_more lists x k)
 
 -- a further client's list behind all turns so far
-merge_more : {A : Type 0} (lists : List (List A)) (merge : List (ℕ × A)) (x : List A) → IsMerge lists merge → IsMerge (lists ++ x ∷ []) (merge ++ turns_of (length lists) x)
+merge_more : {A : Type 0} (lists : List (List A)) (merge : List (ℕ × A)) (x : List A) → IsMerge lists merge
+    → IsMerge (lists ++ x ∷ []) (merge ++ turns_of (length lists) x)
 merge_more lists merge x h k =
     own-append k merge (turns_of (length lists) x) ∙ ap (λ ys. ys ++ own k (turns_of (length lists) x)) (h k)
     ∙ ap (λ ys. slice_index_or lists k [] ++ ys) (own_turns_if k (length lists) x) ∙ sym (index_more lists x k)
 
-answered_more : (files : List (List Command)) (answers : List (List Answered)) (cs : List Command) (said : List Answered) → AreAnswered files answers → length cs ≡ length said → AreAnswered (files ++ cs ∷ []) (answers ++ said ∷ [])
+answered_more : (files : List (List Command)) (answers : List (List Answered)) (cs : List Command) (said : List Answered) → AreAnswered files answers
+    → length cs ≡ length said → AreAnswered (files ++ cs ∷ []) (answers ++ said ∷ [])
 answered_more [] [] cs said a e = (e, tt)
 answered_more [] (s ∷ answers) cs said a e = absurd a
 answered_more (f ∷ files) [] cs said a e = absurd a
 answered_more (f ∷ files) (s ∷ answers) cs said a e = (a.0, answered_more files answers cs said a.1 e)
 
-replied_more : (files : List (List Command)) (answers : List (List Answered)) (cs : List Command) (said : List Answered) → AreAnswered files answers → replied (files ++ cs ∷ []) (answers ++ said ∷ []) ≡ replied files answers ++ replied_commands cs said ∷ []
+replied_more : (files : List (List Command)) (answers : List (List Answered)) (cs : List Command) (said : List Answered) → AreAnswered files answers
+    → replied (files ++ cs ∷ []) (answers ++ said ∷ []) ≡ replied files answers ++ replied_commands cs said ∷ []
 replied_more [] [] cs said a = refl
 replied_more [] (s ∷ answers) cs said a = absurd a
 replied_more (f ∷ files) [] cs said a = absurd a
 replied_more (f ∷ files) (s ∷ answers) cs said a = ap (λ x. replied_commands f s ∷ x) (replied_more files answers cs said a.1)
 
-length_replied : (files : List (List Command)) (answers : List (List Answered)) → AreAnswered files answers → (length (replied files answers) ≡ length files) × (length answers ≡ length files)
+length_replied : (files : List (List Command)) (answers : List (List Answered)) → AreAnswered files answers
+    → (length (replied files answers) ≡ length files) × (length answers ≡ length files)
 length_replied [] [] a = (refl, refl)
 length_replied [] (s ∷ answers) a = absurd a
 length_replied (f ∷ files) [] a = absurd a
@@ -145,8 +153,11 @@ explained_more p files answers t u cs said e same r s =
       answered = answered_more files answers cs said e.answered same;
       merge = e.merge ++ turns_of n own_cs;
       merges = subst (λ (lists : List (List Command)). IsMerge lists (e.merge ++ turns_of n own_cs)) (sym (replied_more files answers cs said e.answered))
-          (subst (λ (k : ℕ). IsMerge (replied files answers ++ own_cs ∷ []) (e.merge ++ turns_of k own_cs)) lengths.0 (merge_more (replied files answers) e.merge own_cs e.merges));
-      replies = subst (λ (x : List (ℕ × Response)). IsMerge (map replies_in (answers ++ said ∷ [])) x) (sym (split.1 ∙ ap (λ x. (run_of p e.merge).replies ++ x) (play.1 ∙ ap (turns_of n) (ap (λ (x : Played). x.replies) plays ∙ r))))
+          (subst (λ (k : ℕ). IsMerge (replied files answers ++ own_cs ∷ []) (e.merge ++ turns_of k own_cs)) lengths.0
+          (merge_more (replied files answers) e.merge own_cs e.merges));
+      replies =
+          subst (λ (x : List (ℕ × Response)). IsMerge (map replies_in (answers ++ said ∷ [])) x)
+          (sym (split.1 ∙ ap (λ x. (run_of p e.merge).replies ++ x) (play.1 ∙ ap (turns_of n) (ap (λ (x : Played). x.replies) plays ∙ r))))
           (more_replies (run_of p e.merge).replies e.replies lengths.1);
       table_is = split.0 ∙ play.0 ∙ ap (λ (x : Played). x.table) plays ∙ s;
     }
@@ -154,6 +165,8 @@ explained_more p files answers t u cs said e same r s =
     more_replies : (replies : List (ℕ × Response)) → IsMerge (map replies_in answers) replies → length answers ≡ length files →
         IsMerge (map replies_in (answers ++ said ∷ [])) (replies ++ turns_of (length files) (replies_in said))
     more_replies replies h l =
-        subst (λ (lists : List (List Response)). IsMerge lists (replies ++ turns_of (length files) (replies_in said))) (sym (map-append replies_in answers (said ∷ [])))
-        (subst (λ (k : ℕ). IsMerge (map replies_in answers ++ replies_in said ∷ []) (replies ++ turns_of k (replies_in said))) (length-map answers replies_in ∙ l)
+        subst (λ (lists : List (List Response)). IsMerge lists (replies ++ turns_of (length files) (replies_in said)))
+        (sym (map-append replies_in answers (said ∷ [])))
+        (subst (λ (k : ℕ). IsMerge (map replies_in answers ++ replies_in said ∷ []) (replies ++ turns_of k (replies_in said)))
+        (length-map answers replies_in ∙ l)
         (merge_more (map replies_in answers) replies (replies_in said) h))

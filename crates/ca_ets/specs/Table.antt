@@ -12,4 +12,5 @@ pub record Table : Type 0 where
 
 -- how the logic stores a table
 abbrev pub table_stored : Coded Table
-table_stored = code_by (ℕ × List Tree) (coded× coded_ℕ (coded_list tree_stored)) (λ t. (t.keypos, t.objects)) (λ p. record { keypos = p.0; objects = p.1 }) (λ _. refl)
+table_stored =
+    code_by (ℕ × List Tree) (coded× coded_ℕ (coded_list tree_stored)) (λ t. (t.keypos, t.objects)) (λ p. record { keypos = p.0; objects = p.1 }) (λ _. refl)

@@ -75,14 +75,16 @@ text_after cs room most x n h =
 and_true : (cs ds : List ℕ) → all_scalars cs ≡ true → all_scalars ds ≡ true → all_scalars (cs ++ ds) ≡ true
 and_true cs ds h k = scalars-append cs ds h k
 
-pub text_rest : (cs : List ℕ) (room most : ℕ) → length cs + room ≡ most → all_scalars cs ≡ true → IsRest (HasText most) (opened (encode_utf8_all cs)) (HasText room)
+pub text_rest : (cs : List ℕ) (room most : ℕ) → length cs + room ≡ most → all_scalars cs ≡ true
+    → IsRest (HasText most) (opened (encode_utf8_all cs)) (HasText room)
 text_rest cs room most n h = record {
   into = λ x w. text_after cs room most x n w;
   back = λ x w. record {
     text = cs ++ w.text;
     are_scalars = and_true cs w.text h w.are_scalars;
     short = omega (arith, n, w.short, length-append cs w.text);
-    code_is = ap (λ y. opened (encode_utf8_all cs) ++ y) w.code_is ∙ sym (escaped_append (encode_utf8_all cs) (encode_utf8_all w.text)) ∙ ap escaped (sym (encodes_append cs w.text));
+    code_is = ap (λ y. opened (encode_utf8_all cs) ++ y) w.code_is ∙ sym (escaped_append (encode_utf8_all cs) (encode_utf8_all w.text))
+        ∙ ap escaped (sym (encodes_append cs w.text));
   };
 }
 
@@ -99,7 +101,8 @@ first_of_none [] b rest h e = same_head b 0 rest (0 ∷ []) (e ∙ escaped_nil)
 first_of_none (c ∷ cs) b rest h e = absurd (omega arith)
 
 pub stuck_no_room : (bytes : List ℕ) (room : ℕ) → room ≡ 0 → ((b : ℕ) (more : List ℕ) → bytes ≡ b ∷ more → b ≡ 0 → ⊥) → IsStuck (HasText room) bytes bytes
-stuck_no_room bytes room z n = stuck_here (HasText room) bytes 0 (0 ∷ []) (no_text room) (λ b more rest f w. n b more f (first_of_none w.text b rest (omega (arith, w.short)) w.code_is))
+stuck_no_room bytes room z n =
+    stuck_here (HasText room) bytes 0 (0 ∷ []) (no_text room) (λ b more rest f w. n b more f (first_of_none w.text b rest (omega (arith, w.short)) w.code_is))
 
 -- what may stand behind a zero byte
 second_by : (zs : List ℕ) (b : ℕ) (rest : List ℕ) → 0 ∷ b ∷ rest ≡ escaped zs → (b ≡ 0) ⊎ ((0 < length zs) × (b ≡ 0xff))
@@ -111,25 +114,29 @@ nonempty : (cs : List ℕ) → 0 < length (encode_utf8_all cs) → 0 < length cs
 nonempty [] h = h
 nonempty (c ∷ cs) h = omega arith
 
-pub stuck_behind_zero : (room : ℕ) (behind : List ℕ) → ((b : ℕ) (more : List ℕ) → behind ≡ b ∷ more → (b ≡ 0 → ⊥) × (b ≡ 0xff → 1 ≤ room → ⊥)) → IsStuck (HasText room) (0 ∷ behind) behind
+pub stuck_behind_zero : (room : ℕ) (behind : List ℕ) → ((b : ℕ) (more : List ℕ) → behind ≡ b ∷ more → (b ≡ 0 → ⊥) × (b ≡ 0xff → 1 ≤ room → ⊥))
+    → IsStuck (HasText room) (0 ∷ behind) behind
 stuck_behind_zero room behind n = record {
   done = 0 ∷ [];
   parts = refl;
   next = 0;
   rest = [];
   begins = no_text room;
-  no_longer = λ b more rest f w. ⊎_elim (λ z. (n b more f).0 z) (λ z. (n b more f).1 z.1 (omega (arith, nonempty w.text z.0, w.short))) (second_by (encode_utf8_all w.text) b rest w.code_is);
+  no_longer = λ b more rest f w. ⊎_elim (λ z. (n b more f).0 z) (λ z. (n b more f).1 z.1 (omega (arith, nonempty w.text z.0, w.short)))
+      (second_by (encode_utf8_all w.text) b rest w.code_is);
 }
 
 -- every text begins with a character, since its end begins as the character 0 does
 text_first : (room : ℕ) (text x : List ℕ) → all_scalars text ≡ true → x ≡ escaped (encode_utf8_all text) → Begins HasChar x
-text_first room [] x h e = record { word = 0 ∷ []; rest = 0 ∷ []; parts = e ∙ escaped_nil; is_word = record { char = 0; is_scalar = refl; code_is = sym encode_zero } }
+text_first room [] x h e =
+    record { word = 0 ∷ []; rest = 0 ∷ []; parts = e ∙ escaped_nil; is_word = record { char = 0; is_scalar = refl; code_is = sym encode_zero } }
 text_first room (zero ∷ cs) x h e =
     let f : x ≡ 0 ∷ 0xff ∷ escaped (encode_utf8_all cs) = e ∙ ap (λ y. escaped (y ++ encode_utf8_all cs)) encode_zero ∙ escaped_zero (encode_utf8_all cs) in
     record { word = 0 ∷ []; rest = 0xff ∷ escaped (encode_utf8_all cs); parts = f; is_word = record { char = 0; is_scalar = refl; code_is = sym encode_zero } }
 text_first room (suc c ∷ cs) x h e =
     let s = both (scalar (suc c)) (all_scalars cs) h in
-    let f : x ≡ encode_utf8 (suc c) ++ escaped (encode_utf8_all cs) = e ∙ escaped_append (encode_utf8 (suc c)) (encode_utf8_all cs) ∙ ap (λ y. y ++ escaped (encode_utf8_all cs)) (opened_char (suc c) s.0 (omega arith)) in
+    let f : x ≡ encode_utf8 (suc c) ++ escaped (encode_utf8_all cs) =
+    e ∙ escaped_append (encode_utf8 (suc c)) (encode_utf8_all cs) ∙ ap (λ y. y ++ escaped (encode_utf8_all cs)) (opened_char (suc c) s.0 (omega arith)) in
     record { word = encode_utf8 (suc c); rest = escaped (encode_utf8_all cs); parts = f; is_word = record { char = suc c; is_scalar = s.0; code_is = refl } }
 
 pub text_begins : (room : ℕ) (x : List ℕ) → HasText room x → Begins HasChar x
@@ -143,7 +150,8 @@ char_text zero room u h r e = (
     text = 0 ∷ [];
     are_scalars = refl;
     short = omega arith;
-    code_is = ap (λ y. y ++ 0xff ∷ 0 ∷ 0 ∷ []) (e ∙ encode_zero) ∙ sym (ap (λ y. escaped (y ++ [])) encode_zero ∙ escaped_zero [] ∙ (λ i. 0 ∷ 0xff ∷ escaped_nil i));
+    code_is = ap (λ y. y ++ 0xff ∷ 0 ∷ 0 ∷ []) (e ∙ encode_zero)
+        ∙ sym (ap (λ y. escaped (y ++ [])) encode_zero ∙ escaped_zero [] ∙ (λ i. 0 ∷ 0xff ∷ escaped_nil i));
   },
 )
 char_text (suc c) room u h r e = (
@@ -152,7 +160,8 @@ char_text (suc c) room u h r e = (
     text = suc c ∷ [];
     are_scalars = rw h refl;
     short = omega arith;
-    code_is = ap (λ y. y ++ 0 ∷ 0 ∷ []) (e ∙ sym (opened_char (suc c) h (omega arith)) ∙ ap opened (sym (append-nil (encode_utf8 (suc c))))) ∙ sym (escaped_ends (encode_utf8 (suc c) ++ []));
+    code_is = ap (λ y. y ++ 0 ∷ 0 ∷ []) (e ∙ sym (opened_char (suc c) h (omega arith)) ∙ ap opened (sym (append-nil (encode_utf8 (suc c)))))
+        ∙ sym (escaped_ends (encode_utf8 (suc c) ++ []));
   },
 )
 
@@ -168,14 +177,16 @@ following_word (suc count) least most h = let w = following_word count 0x80 0xbf
 first_between : (count least most b : ℕ) (rest : List ℕ) → HasFollowing (suc count) least most (b ∷ rest) → (least ≤ b) × (b ≤ most)
 first_between count least most b rest w = let e : b ≡ w.0 = same_head b w.0 rest w.1 w.4 in (omega (arith, w.2, e), omega (arith, w.3, e))
 
-pub stuck_following : (count least most : ℕ) (bytes : List ℕ) → 1 ≤ count → least ≤ most → ((b : ℕ) (more : List ℕ) → bytes ≡ b ∷ more → least ≤ b → b ≤ most → ⊥) → IsStuck (HasFollowing count least most) bytes bytes
+pub stuck_following : (count least most : ℕ) (bytes : List ℕ) → 1 ≤ count → least ≤ most
+    → ((b : ℕ) (more : List ℕ) → bytes ≡ b ∷ more → least ≤ b → b ≤ most → ⊥) → IsStuck (HasFollowing count least most) bytes bytes
 stuck_following zero least most bytes p h n = absurd (omega arith)
 stuck_following (suc count) least most bytes p h n =
     let w = following_word count 0x80 0xbf (omega arith) in
     stuck_here (HasFollowing (suc count) least most) bytes least w.0 (least, w.0, omega arith, h, refl, w.1)
     (λ b more rest e v. let k = first_between count least most b rest v in n b more e k.0 k.1)
 
-pub following_rest : (count least most b : ℕ) → 1 ≤ count → least ≤ b → b ≤ most → IsRest (HasFollowing count least most) (b ∷ []) (HasFollowing (count - 1) 0x80 0xbf)
+pub following_rest : (count least most b : ℕ) → 1 ≤ count → least ≤ b → b ≤ most
+    → IsRest (HasFollowing count least most) (b ∷ []) (HasFollowing (count - 1) 0x80 0xbf)
 following_rest zero least most b p h k = absurd (omega arith)
 following_rest (suc count) least most b p h k =
     let n : suc count - 1 ≡ count = omega arith in
@@ -187,15 +198,18 @@ following_rest (suc count) least most b p h k =
     same_tail : (a b : ℕ) (xs ys : List ℕ) → a ∷ xs ≡ b ∷ ys → xs ≡ ys
     same_tail a b xs ys e = cc
 
-pub word_behind : (L M : List ℕ → Type 0) (u bytes behind rest : List ℕ) → IsRest L u M → bytes ≡ u ++ behind → BeginsWithWord M behind rest → BeginsWithWord L bytes rest
-word_behind L M u bytes behind rest q e w = record { word = u ++ w.word; is_word = q.back w.word w.is_word; parts = e ∙ ap (λ x. u ++ x) w.parts ∙ sym (append_assoc u w.word rest) }
+pub word_behind : (L M : List ℕ → Type 0) (u bytes behind rest : List ℕ) → IsRest L u M → bytes ≡ u ++ behind → BeginsWithWord M behind rest
+    → BeginsWithWord L bytes rest
+word_behind L M u bytes behind rest q e w =
+    record { word = u ++ w.word; is_word = q.back w.word w.is_word; parts = e ∙ ap (λ x. u ++ x) w.parts ∙ sym (append_assoc u w.word rest) }
 
 pub no_following : (count least most : ℕ) (bytes : List ℕ) → count ≡ 0 → BeginsWithWord (HasFollowing count least most) bytes bytes
 no_following count least most bytes e = record { word = []; is_word = subst (λ (x : ℕ). HasFollowing x least most []) (sym e) refl; parts = refl }
 
 -- a byte that begins no character, or no byte
 pub stuck_char : (bytes : List ℕ) → ((b : ℕ) (more : List ℕ) → bytes ≡ b ∷ more → IsNoLead b) → IsStuck HasChar bytes bytes
-stuck_char bytes n = stuck_here HasChar bytes 97 [] (record { char = 97; is_scalar = refl; code_is = sym (one 97 (omega arith)) }) (λ b more rest e w. n b more e rest w)
+stuck_char bytes n =
+    stuck_here HasChar bytes 97 [] (record { char = 97; is_scalar = refl; code_is = sym (one 97 (omega arith)) }) (λ b more rest e w. n b more e rest w)
 
 -- ---- a text, step by step
 
@@ -209,27 +223,34 @@ pub record IsRead (room : ℕ) (bytes rest : List ℕ) : Type 0 where
 pub read_none : (bytes : List ℕ) → IsRead 255 bytes bytes
 read_none bytes = record { text = []; are_scalars = refl; many = refl; parts = ap (λ x. x ++ bytes) (sym opened_nil) }
 
-pub read_more : (room : ℕ) (bytes rest behind : List ℕ) (c : ℕ) → IsRead room bytes rest → 1 ≤ room → IsScalar c → rest ≡ opened (encode_utf8 c) ++ behind → IsRead (room - 1) bytes behind
+pub read_more : (room : ℕ) (bytes rest behind : List ℕ) (c : ℕ) → IsRead room bytes rest → 1 ≤ room → IsScalar c → rest ≡ opened (encode_utf8 c) ++ behind
+    → IsRead (room - 1) bytes behind
 read_more room bytes rest behind c r p h e =
     let last : encode_utf8_all (c ∷ []) ≡ encode_utf8 c = append-nil (encode_utf8 c) in
-    let joined : opened (encode_utf8_all (r.text ++ c ∷ [])) ≡ opened (encode_utf8_all r.text) ++ opened (encode_utf8 c) = ap opened (encodes_append r.text (c ∷ [])) ∙ opened_append (encode_utf8_all r.text) (encode_utf8_all (c ∷ [])) ∙ ap (λ x. opened (encode_utf8_all r.text) ++ opened x) last in
+    let joined : opened (encode_utf8_all (r.text ++ c ∷ [])) ≡ opened (encode_utf8_all r.text) ++ opened (encode_utf8 c) =
+    ap opened (encodes_append r.text (c ∷ [])) ∙ opened_append (encode_utf8_all r.text) (encode_utf8_all (c ∷ []))
+    ∙ ap (λ x. opened (encode_utf8_all r.text) ++ opened x) last in
     record {
       text = r.text ++ c ∷ [];
       are_scalars = and_true r.text (c ∷ []) r.are_scalars (rw h refl);
       many = omega (arith, r.many, length-append r.text (c ∷ []));
-      parts = r.parts ∙ ap (λ x. opened (encode_utf8_all r.text) ++ x) e ∙ sym (append_assoc (opened (encode_utf8_all r.text)) (opened (encode_utf8 c)) behind) ∙ ap (λ x. x ++ behind) (sym joined);
+      parts = r.parts ∙ ap (λ x. opened (encode_utf8_all r.text) ++ x) e ∙ sym (append_assoc (opened (encode_utf8_all r.text)) (opened (encode_utf8 c)) behind)
+          ∙ ap (λ x. x ++ behind) (sym joined);
     }
 
 take_front : (u v : List ℕ) → take (length u) (u ++ v) ≡ u
 take_front [] v = refl
 take_front (x ∷ u) v = λ i. x ∷ take_front u v i
 
-pub read_end : (room : ℕ) (bytes rest end : List ℕ) → IsRead room bytes rest → rest ≡ 0 ∷ 0 ∷ end → BeginsWithText bytes (take (length bytes - length end - 2) bytes) end
+pub read_end : (room : ℕ) (bytes rest end : List ℕ) → IsRead room bytes rest → rest ≡ 0 ∷ 0 ∷ end
+    → BeginsWithText bytes (take (length bytes - length end - 2) bytes) end
 read_end room bytes rest end r e =
     let o : List ℕ = opened (encode_utf8_all r.text) in
     let parts : bytes ≡ opened (encode_utf8_all r.text) ++ 0 ∷ 0 ∷ end = r.parts ∙ ap (λ x. opened (encode_utf8_all r.text) ++ x) e in
-    let len : length bytes - length end - 2 ≡ length (opened (encode_utf8_all r.text)) = omega (arith, ap length parts, length-append (opened (encode_utf8_all r.text)) (0 ∷ 0 ∷ end)) in
-    let body : take (length bytes - length end - 2) bytes ≡ opened (encode_utf8_all r.text) = (λ i. take (len i) (parts i)) ∙ take_front (opened (encode_utf8_all r.text)) (0 ∷ 0 ∷ end) in
+    let len : length bytes - length end - 2 ≡ length (opened (encode_utf8_all r.text)) =
+    omega (arith, ap length parts, length-append (opened (encode_utf8_all r.text)) (0 ∷ 0 ∷ end)) in
+    let body : take (length bytes - length end - 2) bytes ≡ opened (encode_utf8_all r.text) =
+    (λ i. take (len i) (parts i)) ∙ take_front (opened (encode_utf8_all r.text)) (0 ∷ 0 ∷ end) in
     let utf8 : IsUtf8 (encode_utf8_all r.text) = (r.text, (r.are_scalars, refl)) in
     record {
       text = encode_utf8_all r.text;
@@ -239,12 +260,15 @@ read_end room bytes rest end r e =
     }
 
 -- the atom that an escaped text makes
-pub begins_atom : (bytes body rest text : List ℕ) (t : Tree) → BeginsWithText bytes body rest → opened text ≡ body → t ≡ Atom text → BeginsWithTerm 1 (0x30 ∷ bytes) t rest
+pub begins_atom : (bytes body rest text : List ℕ) (t : Tree) → BeginsWithText bytes body rest → opened text ≡ body → t ≡ Atom text
+    → BeginsWithTerm 1 (0x30 ∷ bytes) t rest
 begins_atom bytes body rest text t w o e =
     let same : text ≡ w.text = same_opened text w.text (o ∙ w.body_is) in
     let f : t ≡ Atom w.text = e ∙ ap Atom same in
     let c : code_of t ≡ 0x30 ∷ escaped w.text = ap code_of f ∙ code_atom w.text in
-    let inner : bytes ≡ escaped w.text ++ rest = w.parts ∙ ap (λ x. x ++ 0 ∷ 0 ∷ rest) w.body_is ∙ sym (append_assoc (opened w.text) (0 ∷ 0 ∷ []) rest) ∙ ap (λ x. x ++ rest) (sym (escaped_ends w.text)) in
+    let inner : bytes ≡ escaped w.text ++ rest =
+    w.parts ∙ ap (λ x. x ++ 0 ∷ 0 ∷ rest) w.body_is ∙ sym (append_assoc (opened w.text) (0 ∷ 0 ∷ []) rest)
+    ∙ ap (λ x. x ++ rest) (sym (escaped_ends w.text)) in
     record {
       parts = ap (λ (x : List ℕ). 0x30 ∷ x) inner ∙ ap (λ x. x ++ rest) (sym c);
       shallow = subst (λ (x : Tree). depth x ≤ 1) (sym f) (omega arith);
@@ -259,9 +283,11 @@ text_narrow bytes body rest text w o = subst (λ (x : List ℕ). IsNarrow (Atom 
 pub nul_step : (bytes behind rest : List ℕ) → bytes ≡ 0 ∷ behind → behind ≡ 0xff ∷ rest → (c : ℕ) × IsScalar c × (bytes ≡ opened (encode_utf8 c) ++ rest)
 nul_step bytes behind rest e f = (0, refl, e ∙ ap (λ (x : List ℕ). 0 ∷ x) f ∙ ap (λ x. x ++ rest) (sym opened_nul))
 
-char_by : (c : ℕ) (bytes rest : List ℕ) (b : ℕ) (more : List ℕ) → bytes ≡ b ∷ more → (b ≡ 0 → ⊥) → IsScalar c → bytes ≡ encode_utf8 c ++ rest → (d : ℕ) × IsScalar d × (bytes ≡ opened (encode_utf8 d) ++ rest)
+char_by : (c : ℕ) (bytes rest : List ℕ) (b : ℕ) (more : List ℕ) → bytes ≡ b ∷ more → (b ≡ 0 → ⊥) → IsScalar c → bytes ≡ encode_utf8 c ++ rest
+    → (d : ℕ) × IsScalar d × (bytes ≡ opened (encode_utf8 d) ++ rest)
 char_by zero bytes rest b more e n h f = let g : b ∷ more ≡ 0 ∷ rest = sym e ∙ f ∙ ap (λ x. x ++ rest) encode_zero in absurd (n (same_head b 0 more rest g))
 char_by (suc c) bytes rest b more e n h f = (suc c, h, f ∙ ap (λ x. x ++ rest) (sym (opened_char (suc c) h (omega arith))))
 
-pub char_step : (bytes : List ℕ) (b : ℕ) (more rest : List ℕ) → bytes ≡ b ∷ more → (b ≡ 0 → ⊥) → BeginsWithWord HasChar bytes rest → (c : ℕ) × IsScalar c × (bytes ≡ opened (encode_utf8 c) ++ rest)
+pub char_step : (bytes : List ℕ) (b : ℕ) (more rest : List ℕ) → bytes ≡ b ∷ more → (b ≡ 0 → ⊥) → BeginsWithWord HasChar bytes rest
+    → (c : ℕ) × IsScalar c × (bytes ≡ opened (encode_utf8 c) ++ rest)
 char_step bytes b more rest e n w = char_by w.is_word.char bytes rest b more e n w.is_word.is_scalar (w.parts ∙ ap (λ x. x ++ rest) w.is_word.code_is)

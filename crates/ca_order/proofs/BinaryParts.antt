@@ -31,12 +31,21 @@ into_by xs zs x e h = let r = escaped_after xs zs x e in record { inside = r.0; 
 pub bytes_rest : (xs : List ℕ) → AreBytes xs → IsRest HasBytes (opened xs) HasBytes
 bytes_rest xs h = record {
   into = λ x w. into_by xs w.inside x w.code_is w.are_bytes;
-  back = λ x w. record { inside = xs ++ w.inside; are_bytes = bytes_append xs w.inside h w.are_bytes; code_is = ap (λ y. opened xs ++ y) w.code_is ∙ sym (escaped_append xs w.inside) };
+  back = λ x w. record {
+    inside = xs ++ w.inside;
+    are_bytes = bytes_append xs w.inside h w.are_bytes;
+    code_is = ap (λ y. opened xs ++ y) w.code_is ∙ sym (escaped_append xs w.inside);
+  };
 }
 
 -- stuck at the end of a run without zeros
 pub stuck_in_run : (run : List ℕ) → HasNoZero run → AreBytes run → IsStuck HasBytes run []
-stuck_in_run run h k = stuck_at_end HasBytes run 0 (0 ∷ []) (record { inside = run; are_bytes = k; code_is = sym (escaped_ends run ∙ ap (λ y. y ++ 0 ∷ 0 ∷ []) (opened_no_zero run h)) })
+stuck_in_run run h k =
+    stuck_at_end HasBytes run 0 (0 ∷ []) (record {
+      inside = run;
+      are_bytes = k;
+      code_is = sym (escaped_ends run ∙ ap (λ y. y ++ 0 ∷ 0 ∷ []) (opened_no_zero run h));
+    })
 
 -- stuck behind a zero byte: neither 00 nor FF follows
 pub stuck_at_zero : (behind : List ℕ) → ((b : ℕ) (more : List ℕ) → behind ≡ b ∷ more → (b ≡ 0 → ⊥) × (b ≡ 0xff → ⊥)) → IsStuck HasBytes (0 ∷ behind) behind
@@ -52,7 +61,9 @@ stuck_at_zero behind h = record {
     no_word : (b : ℕ) (rest zs : List ℕ) → (b ≡ 0 → ⊥) → (b ≡ 0xff → ⊥) → 0 ∷ b ∷ rest ≡ escaped zs → ⊥
     no_word b rest [] h k e = let f : 0 ∷ b ∷ rest ≡ 0 ∷ 0 ∷ [] = e ∙ escaped_nil in h (same_second 0 0 b 0 rest [] f)
     no_word b rest (zero ∷ zs) h k e = let f : 0 ∷ b ∷ rest ≡ 0 ∷ 0xff ∷ escaped zs = e ∙ escaped_zero zs in k (same_second 0 0 b 0xff rest (escaped zs) f)
-    no_word b rest (suc c ∷ zs) h k e = let f : 0 ∷ b ∷ rest ≡ suc c ∷ escaped zs = e ∙ escaped_suc c zs in let g : 0 ≡ suc c = same_head 0 (suc c) (b ∷ rest) (escaped zs) f in absurd (omega arith)
+    no_word b rest (suc c ∷ zs) h k e =
+        let f : 0 ∷ b ∷ rest ≡ suc c ∷ escaped zs = e ∙ escaped_suc c zs in let g : 0 ≡ suc c = same_head 0 (suc c) (b ∷ rest) (escaped zs) f in
+        absurd (omega arith)
 
 -- how far escaped bytes were read
 pub record IsOpened (bytes rest : List ℕ) : Type 0 where
@@ -64,15 +75,19 @@ pub opened_none : (bytes : List ℕ) → IsOpened bytes bytes
 opened_none bytes = record { inside = []; are_bytes = no_bytes; parts = ap (λ x. x ++ bytes) (sym opened_nil) }
 
 -- one run and one zero more
-pub opened_more : (bytes rest run behind more : List ℕ) → IsOpened bytes rest → AreBytes bytes → HasNoZero run → rest ≡ run ++ 0 ∷ behind → behind ≡ 0xff ∷ more → IsOpened bytes more
+pub opened_more : (bytes rest run behind more : List ℕ) → IsOpened bytes rest → AreBytes bytes → HasNoZero run → rest ≡ run ++ 0 ∷ behind → behind ≡ 0xff ∷ more
+    → IsOpened bytes more
 opened_more bytes rest run behind more o h n e f =
     let all : AreBytes (opened o.inside ++ rest) = subst AreBytes o.parts h in
     let here : AreBytes (run ++ 0 ∷ behind) = subst AreBytes e (bytes_back (opened o.inside) rest all) in
-    let zero_more : opened (run ++ 0 ∷ []) ++ more ≡ run ++ 0 ∷ 0xff ∷ more = rw (opened_append run (0 ∷ []), opened_no_zero run n, opened_zero [], opened_nil) (append_assoc run (0 ∷ 0xff ∷ []) more) in
+    let zero_more : opened (run ++ 0 ∷ []) ++ more ≡ run ++ 0 ∷ 0xff ∷ more =
+    rw (opened_append run (0 ∷ []), opened_no_zero run n, opened_zero [], opened_nil) (append_assoc run (0 ∷ 0xff ∷ []) more) in
     record {
       inside = o.inside ++ (run ++ 0 ∷ []);
-      are_bytes = bytes_append o.inside (run ++ 0 ∷ []) o.are_bytes (bytes_append run (0 ∷ []) (front_bytes run (0 ∷ behind) here) (cons_bytes 0 [] (omega arith) no_bytes));
-      parts = o.parts ∙ ap (λ x. opened o.inside ++ x) (e ∙ ap (λ x. run ++ 0 ∷ x) f ∙ sym zero_more) ∙ sym (append_assoc (opened o.inside) (opened (run ++ 0 ∷ [])) more) ∙ ap (λ x. x ++ more) (sym (opened_append o.inside (run ++ 0 ∷ [])));
+      are_bytes = bytes_append o.inside (run ++ 0 ∷ []) o.are_bytes
+          (bytes_append run (0 ∷ []) (front_bytes run (0 ∷ behind) here) (cons_bytes 0 [] (omega arith) no_bytes));
+      parts = o.parts ∙ ap (λ x. opened o.inside ++ x) (e ∙ ap (λ x. run ++ 0 ∷ x) f ∙ sym zero_more)
+          ∙ sym (append_assoc (opened o.inside) (opened (run ++ 0 ∷ [])) more) ∙ ap (λ x. x ++ more) (sym (opened_append o.inside (run ++ 0 ∷ [])));
     }
   where
     front_bytes : (xs ys : List ℕ) → AreBytes (xs ++ ys) → AreBytes xs
@@ -103,32 +118,41 @@ module _ (bytes rest run behind : List ℕ) (o : IsOpened bytes rest) (h : AreBy
   pub opened_end : (end : List ℕ) → behind ≡ 0 ∷ end → BeginsWithBytes bytes (take (length bytes - length end - 2) bytes) end
   opened_end end f =
       let parts : bytes ≡ opened (o.inside ++ run) ++ 0 ∷ 0 ∷ end = run_parts ∙ ap (λ x. opened (o.inside ++ run) ++ 0 ∷ x) f in
-      let len : length bytes - length end - 2 ≡ length (opened (o.inside ++ run)) = omega (arith, ap length parts, length-append (opened (o.inside ++ run)) (0 ∷ 0 ∷ end)) in
-      let body : take (length bytes - length end - 2) bytes ≡ opened (o.inside ++ run) = (λ i. take (len i) (parts i)) ∙ take_front (opened (o.inside ++ run)) (0 ∷ 0 ∷ end) in
+      let len : length bytes - length end - 2 ≡ length (opened (o.inside ++ run)) =
+      omega (arith, ap length parts, length-append (opened (o.inside ++ run)) (0 ∷ 0 ∷ end)) in
+      let body : take (length bytes - length end - 2) bytes ≡ opened (o.inside ++ run) =
+      (λ i. take (len i) (parts i)) ∙ take_front (opened (o.inside ++ run)) (0 ∷ 0 ∷ end) in
       record { inside = o.inside ++ run; are_bytes = run_bytes; body_is = body; parts = parts ∙ ap (λ x. x ++ 0 ∷ 0 ∷ end) (sym body) }
 
   pub opened_stuck : ((b : ℕ) (more : List ℕ) → behind ≡ b ∷ more → (b ≡ 0 → ⊥) × (b ≡ 0xff → ⊥)) → IsStuck HasBytes bytes behind
-  opened_stuck f = subst (λ (x : List ℕ). IsStuck HasBytes x behind) (sym run_parts) (stuck_behind HasBytes HasBytes (opened (o.inside ++ run)) (0 ∷ behind) behind (bytes_rest (o.inside ++ run) run_bytes) (stuck_at_zero behind f))
+  opened_stuck f =
+      subst (λ (x : List ℕ). IsStuck HasBytes x behind) (sym run_parts)
+      (stuck_behind HasBytes HasBytes (opened (o.inside ++ run)) (0 ∷ behind) behind (bytes_rest (o.inside ++ run) run_bytes) (stuck_at_zero behind f))
 
 pub opened_short : (bytes rest : List ℕ) → IsOpened bytes rest → AreBytes bytes → HasNoZero rest → IsStuck HasBytes bytes []
 opened_short bytes rest o h n =
     let here : AreBytes rest = bytes_back (opened o.inside) rest (subst AreBytes o.parts h) in
-    subst (λ (x : List ℕ). IsStuck HasBytes x []) (sym o.parts) (stuck_behind HasBytes HasBytes (opened o.inside) rest [] (bytes_rest o.inside o.are_bytes) (stuck_in_run rest n here))
+    subst (λ (x : List ℕ). IsStuck HasBytes x []) (sym o.parts)
+    (stuck_behind HasBytes HasBytes (opened o.inside) rest [] (bytes_rest o.inside o.are_bytes) (stuck_in_run rest n here))
 
 -- the binary that escaped bytes make
-pub begins_binary : (bytes body rest inside : List ℕ) (t : Tree) → BeginsWithBytes bytes body rest → opened inside ≡ body → t ≡ Binary inside → BeginsWithTerm 1 (0x80 ∷ bytes) t rest
+pub begins_binary : (bytes body rest inside : List ℕ) (t : Tree) → BeginsWithBytes bytes body rest → opened inside ≡ body → t ≡ Binary inside
+    → BeginsWithTerm 1 (0x80 ∷ bytes) t rest
 begins_binary bytes body rest inside t w o e =
     let same : inside ≡ w.inside = same_opened inside w.inside (o ∙ w.body_is) in
     let f : t ≡ Binary w.inside = e ∙ ap Binary same in
     let c : code_of t ≡ 0x80 ∷ escaped w.inside = ap code_of f ∙ code_binary w.inside in
-    let inner : bytes ≡ escaped w.inside ++ rest = w.parts ∙ ap (λ x. x ++ 0 ∷ 0 ∷ rest) w.body_is ∙ sym (append_assoc (opened w.inside) (0 ∷ 0 ∷ []) rest) ∙ ap (λ x. x ++ rest) (sym (escaped_ends w.inside)) in
+    let inner : bytes ≡ escaped w.inside ++ rest =
+    w.parts ∙ ap (λ x. x ++ 0 ∷ 0 ∷ rest) w.body_is ∙ sym (append_assoc (opened w.inside) (0 ∷ 0 ∷ []) rest)
+    ∙ ap (λ x. x ++ rest) (sym (escaped_ends w.inside)) in
     record {
       parts = ap (λ (x : List ℕ). 0x80 ∷ x) inner ∙ ap (λ x. x ++ rest) (sym c);
       shallow = subst (λ (x : Tree). depth x ≤ 1) (sym f) (omega arith);
       bounded = subst IsTerm (sym f) (record { shallow = omega arith; narrow = w.are_bytes });
     }
 
-pub begins_plain_binary : (bytes body rest : List ℕ) (t : Tree) → BeginsWithBytes bytes body rest → HasNoZero body → t ≡ Binary body → BeginsWithTerm 1 (0x80 ∷ bytes) t rest
+pub begins_plain_binary : (bytes body rest : List ℕ) (t : Tree) → BeginsWithBytes bytes body rest → HasNoZero body → t ≡ Binary body
+    → BeginsWithTerm 1 (0x80 ∷ bytes) t rest
 begins_plain_binary bytes body rest t w h e = begins_binary bytes body rest body t w (opened_no_zero body h) e
 
 pub is_opened : (bytes body rest : List ℕ) → BeginsWithBytes bytes body rest → (inside : List ℕ) × (body ≡ opened inside)
@@ -152,11 +176,14 @@ bytes_prefix_free u rest h k =
 
 pub no_escaped_fault : (bytes inside end : List ℕ) (e : ReadFault) → AreBytes bytes → bytes ≡ escaped inside ++ end → IsStuckFault HasBytes bytes e → ⊥
 no_escaped_fault bytes inside end e h p f =
-    no_fault HasBytes bytes (escaped inside) end e bytes_prefix_free (record { inside = inside; are_bytes = bytes_inside inside end (subst AreBytes p h); code_is = refl }) p f
+    no_fault HasBytes bytes (escaped inside) end e bytes_prefix_free
+    (record { inside = inside; are_bytes = bytes_inside inside end (subst AreBytes p h); code_is = refl }) p f
 
 pub same_end : (bytes body rest inside end : List ℕ) → BeginsWithBytes bytes body rest → bytes ≡ escaped inside ++ end → rest ≡ end
 same_end bytes body rest inside end w p =
-    let inner : bytes ≡ escaped w.inside ++ rest = w.parts ∙ ap (λ x. x ++ 0 ∷ 0 ∷ rest) w.body_is ∙ sym (append_assoc (opened w.inside) (0 ∷ 0 ∷ []) rest) ∙ ap (λ x. x ++ rest) (sym (escaped_ends w.inside)) in
+    let inner : bytes ≡ escaped w.inside ++ rest =
+    w.parts ∙ ap (λ x. x ++ 0 ∷ 0 ∷ rest) w.body_is ∙ sym (append_assoc (opened w.inside) (0 ∷ 0 ∷ []) rest)
+    ∙ ap (λ x. x ++ rest) (sym (escaped_ends w.inside)) in
     (same_escaped w.inside inside rest end (sym inner ∙ p)).1
 
 pub rest_shorter : (bytes body rest : List ℕ) → BeginsWithBytes bytes body rest → length rest ≤ length bytes

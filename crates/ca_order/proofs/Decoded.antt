@@ -27,17 +27,22 @@ no_code code (b ∷ more) s c = s.no_longer b more more refl (subst (HasTerm 192
 pub decode_stuck : (code : List ℕ) (left : ℕ) → IsReadFault (HasTerm 192) code (Stuck left) → IsDecodeFault code (NotACode (length code - left))
 decode_stuck code left f =
     let s = f.2 in
-    let at : IsLongestStart IsTermCode code (length code - length f.0) = longest_start IsTermCode code s.done f.0 (s.next ∷ s.rest) s.parts (code_from (s.done ++ s.next ∷ s.rest) s.begins) (λ b more rest e w. s.no_longer b more rest e (code_to (s.done ++ b ∷ rest) w)) in
+    let at : IsLongestStart IsTermCode code (length code - length f.0) =
+    longest_start IsTermCode code s.done f.0 (s.next ∷ s.rest) s.parts (code_from (s.done ++ s.next ∷ s.rest) s.begins)
+    (λ b more rest e w. s.no_longer b more rest e (code_to (s.done ++ b ∷ rest) w)) in
     (no_code code f.0 s, subst (λ (x : ℕ). IsLongestStart IsTermCode code (length code - x)) f.1 at)
 
-pub decode_rest : (code : List ℕ) (t : Tree) (rest : List ℕ) → BeginsWithTerm 192 code t rest → 0 < length rest → IsDecodeFault code (NotACode (length code - length rest))
+pub decode_rest : (code : List ℕ) (t : Tree) (rest : List ℕ) → BeginsWithTerm 192 code t rest → 0 < length rest
+    → IsDecodeFault code (NotACode (length code - length rest))
 decode_rest code t rest w h =
-    let none : (b : ℕ) (more x : List ℕ) → IsTermCode (code_of t ++ b ∷ x) → ⊥ = λ b more x c. (let p = prefix_free t c.0 (b ∷ x) w.bounded.narrow c.1.narrow c.2 in let q : b ∷ x ≡ [] = p.1 in cc) in (
+    let none : (b : ℕ) (more x : List ℕ) → IsTermCode (code_of t ++ b ∷ x) → ⊥ =
+    λ b more x c. (let p = prefix_free t c.0 (b ∷ x) w.bounded.narrow c.1.narrow c.2 in let q : b ∷ x ≡ [] = p.1 in cc) in (
       no rest h w none,
       longest_start IsTermCode code (code_of t) rest [] w.parts (t, w.bounded, append-nil (code_of t)) (λ b more x e c. none b more x c),
     )
   where
-    no : (rest : List ℕ) → 0 < length rest → BeginsWithTerm 192 code t rest → ((b : ℕ) (more x : List ℕ) → IsTermCode (code_of t ++ b ∷ x) → ⊥) → IsTermCode code → ⊥
+    no : (rest : List ℕ) → 0 < length rest → BeginsWithTerm 192 code t rest → ((b : ℕ) (more x : List ℕ) → IsTermCode (code_of t ++ b ∷ x) → ⊥)
+        → IsTermCode code → ⊥
     no [] h w n c = absurd (omega arith)
     no (b ∷ more) h w n c = n b more more (subst IsTermCode w.parts c)
 

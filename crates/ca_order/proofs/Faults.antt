@@ -16,7 +16,8 @@ pub fault_behind : (L M : List ℕ → Type 0) (u bytes : List ℕ) (e : ReadFau
 fault_behind L M u bytes (Stuck left) q f = (f.0, f.1, stuck_behind L M u bytes f.0 q f.2)
 fault_behind L M u bytes NoMemory q f = tt
 
-pub fault_first : (H L : List ℕ → Type 0) (bytes : List ℕ) (e : ReadFault) → IsPrefixFree H → ((x : List ℕ) → L x → Begins H x) → ((u : List ℕ) → H u → (v : List ℕ) × L (u ++ v)) → IsReadFault H bytes e → IsReadFault L bytes e
+pub fault_first : (H L : List ℕ → Type 0) (bytes : List ℕ) (e : ReadFault) → IsPrefixFree H → ((x : List ℕ) → L x → Begins H x)
+    → ((u : List ℕ) → H u → (v : List ℕ) × L (u ++ v)) → IsReadFault H bytes e → IsReadFault L bytes e
 fault_first H L bytes (Stuck left) free split extend f = (f.0, f.1, stuck_first H L bytes f.0 free split extend f.2)
 fault_first H L bytes NoMemory free split extend f = tt
 

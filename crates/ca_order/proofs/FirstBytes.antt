@@ -62,7 +62,12 @@ atom_rest l = record {
   into = λ x h. atom_by x h.term h.narrow (tagged h.term 0x30 x h.code_is);
   back = λ x h.
       let u : IsUtf8 (encode_utf8_all h.text) = (h.text, (h.are_scalars, refl)) in
-      record { term = Atom (encode_utf8_all h.text); shallow = omega arith; narrow = (u, omega (arith, h.short, ap length (chars-encodes h.text h.are_scalars))); code_is = ap (λ (y : List ℕ). 0x30 ∷ y) h.code_is };
+      record {
+        term = Atom (encode_utf8_all h.text);
+        shallow = omega arith;
+        narrow = (u, omega (arith, h.short, ap length (chars-encodes h.text h.are_scalars)));
+        code_is = ap (λ (y : List ℕ). 0x30 ∷ y) h.code_is;
+      };
 }
 
 -- ---- binaries
@@ -96,7 +101,8 @@ pos_by len x _ l n (is_binary bytes e f) = absurd (omega (arith, e))
 
 neg_by : (len : ℕ) (x : List ℕ) (t : Tree) → len ≤ 8 → IsNarrow t → Tagged (0x1f - len) x t → HasDigits true len x
 neg_by len x _ l n (is_pos k e f) = absurd (omega (arith, e))
-neg_by len x _ l n (is_neg k e f) = record { digits = digits k; are_digits = are_digits k (word (negsuc k) n); many = omega (arith, e, digits_shorter k); code_is = f }
+neg_by len x _ l n (is_neg k e f) =
+    record { digits = digits k; are_digits = are_digits k (word (negsuc k) n); many = omega (arith, e, digits_shorter k); code_is = f }
 neg_by len x _ l n (is_atom text e f) = absurd (omega (arith, e))
 neg_by len x _ l n (is_tuple row e f) = absurd (omega (arith, e))
 neg_by len x _ l n (is_nil e f) = absurd (omega (arith, e))
@@ -158,7 +164,8 @@ cons_by l x _ d n (is_neg k e f) = absurd (omega (arith, e))
 cons_by l x _ d n (is_atom text e f) = absurd (omega (arith, e))
 cons_by l x _ d n (is_tuple row e f) = absurd (omega (arith, e))
 cons_by l x _ d n (is_nil e f) = absurd (omega (arith, e))
-cons_by l x _ d n (is_cons head tail e f) = record { head = head; tail = tail; head_shallow = omega arith; tail_shallow = omega arith; head_narrow = n.0; tail_narrow = n.1; code_is = f }
+cons_by l x _ d n (is_cons head tail e f) =
+    record { head = head; tail = tail; head_shallow = omega arith; tail_shallow = omega arith; head_narrow = n.0; tail_narrow = n.1; code_is = f }
 cons_by l x _ d n (is_binary bytes e f) = absurd (omega (arith, e))
 
 pub cons_rest : (l : ℕ) → IsRest (HasTerm (suc l)) (0x70 ∷ []) (HasCell l)
@@ -175,8 +182,17 @@ cons_rest l = record {
 
 pub tail_rest : (l : ℕ) (head : Tree) → depth head ≤ l → IsNarrow head → IsRest (HasCell l) (code_of head) (HasTerm (suc l))
 tail_rest l head d n = record {
-  into = λ x h. let s = same_code head h.head x (code_of h.tail) n h.head_narrow h.code_is in record { term = h.tail; shallow = h.tail_shallow; narrow = h.tail_narrow; code_is = s.1 };
-  back = λ x h. record { head = head; tail = h.term; head_shallow = d; tail_shallow = h.shallow; head_narrow = n; tail_narrow = h.narrow; code_is = ap (λ (y : List ℕ). code_of head ++ y) h.code_is };
+  into = λ x h. let s = same_code head h.head x (code_of h.tail) n h.head_narrow h.code_is in
+      record { term = h.tail; shallow = h.tail_shallow; narrow = h.tail_narrow; code_is = s.1 };
+  back = λ x h. record {
+    head = head;
+    tail = h.term;
+    head_shallow = d;
+    tail_shallow = h.shallow;
+    head_narrow = n;
+    tail_narrow = h.narrow;
+    code_is = ap (λ (y : List ℕ). code_of head ++ y) h.code_is;
+  };
 }
 
 pub terms_prefix_free : (l : ℕ) → IsPrefixFree (HasTerm l)
@@ -185,10 +201,27 @@ terms_prefix_free l u rest h k =
     (prefix_free h.term k.term rest h.narrow k.narrow e).1
 
 pub cell_begins : (l : ℕ) (x : List ℕ) → HasCell l x → Begins (HasTerm l) x
-cell_begins l x h = record { word = code_of h.head; rest = code_of h.tail; parts = h.code_is; is_word = record { term = h.head; shallow = h.head_shallow; narrow = h.head_narrow; code_is = refl } }
+cell_begins l x h =
+    record {
+      word = code_of h.head;
+      rest = code_of h.tail;
+      parts = h.code_is;
+      is_word = record { term = h.head; shallow = h.head_shallow; narrow = h.head_narrow; code_is = refl };
+    }
 
 pub cell_goes_on : (l : ℕ) (u : List ℕ) → HasTerm l u → (v : List ℕ) × HasCell l (u ++ v)
-cell_goes_on l u h = (code_of Nil, record { head = h.term; tail = Nil; head_shallow = h.shallow; tail_shallow = omega arith; head_narrow = h.narrow; tail_narrow = tt; code_is = ap (λ (x : List ℕ). x ++ code_of Nil) h.code_is })
+cell_goes_on l u h = (
+  code_of Nil,
+  record {
+    head = h.term;
+    tail = Nil;
+    head_shallow = h.shallow;
+    tail_shallow = omega arith;
+    head_narrow = h.narrow;
+    tail_narrow = tt;
+    code_is = ap (λ (x : List ℕ). x ++ code_of Nil) h.code_is;
+  },
+)
 
 -- ---- tuples
 
@@ -222,12 +255,14 @@ tuple_rest l = record {
 row_first : (l n : ℕ) (row : Row) → row_depth row ≤ l → IsNarrowRow row → size row ≡ suc n → (x : List ℕ) → x ≡ row_code row → Begins (HasTerm l) x
 unfolding row_code
 row_first l n Ends d k e x f = absurd (omega arith)
-row_first l n (More t row) d k e x f = record { word = code_of t; rest = row_code row; parts = f; is_word = record { term = t; shallow = omega arith; narrow = k.0; code_is = refl } }
+row_first l n (More t row) d k e x f =
+    record { word = code_of t; rest = row_code row; parts = f; is_word = record { term = t; shallow = omega arith; narrow = k.0; code_is = refl } }
 
 pub row_begins : (l n : ℕ) (x : List ℕ) → HasRow l (suc n) x → Begins (HasTerm l) x
 row_begins l n x h = row_first l n h.row h.shallow h.narrow h.many x h.code_is
 
-row_after : (l n : ℕ) (t : Tree) (row : Row) (x : List ℕ) → IsNarrow t → row_depth row ≤ l → IsNarrowRow row → size row ≡ suc n → code_of t ++ x ≡ row_code row → HasRow l n x
+row_after : (l n : ℕ) (t : Tree) (row : Row) (x : List ℕ) → IsNarrow t → row_depth row ≤ l → IsNarrowRow row → size row ≡ suc n → code_of t ++ x ≡ row_code row
+    → HasRow l n x
 unfolding row_code
 row_after l n t Ends x h d k e f = absurd (omega arith)
 row_after l n t (More u row) x h d k e f =
@@ -238,7 +273,13 @@ pub row_rest : (l n : ℕ) (t : Tree) → depth t ≤ l → IsNarrow t → IsRes
 unfolding row_code
 row_rest l n t d k = record {
   into = λ x h. row_after l n t h.row x k h.shallow h.narrow h.many h.code_is;
-  back = λ x h. record { row = More t h.row; shallow = omega (arith, h.shallow); narrow = (k, h.narrow); many = omega (arith, h.many); code_is = ap (λ (y : List ℕ). code_of t ++ y) h.code_is };
+  back = λ x h. record {
+    row = More t h.row;
+    shallow = omega (arith, h.shallow);
+    narrow = (k, h.narrow);
+    many = omega (arith, h.many);
+    code_is = ap (λ (y : List ℕ). code_of t ++ y) h.code_is;
+  };
 }
 
 abbrev nils : ℕ → Row
@@ -264,8 +305,16 @@ nil_row l n h = (row_code (nils n), record { row = nils n; shallow = low n; narr
 pub row_goes_on : (l n : ℕ) (u : List ℕ) → HasTerm l u → (v : List ℕ) × HasRow l (suc n) (u ++ v)
 unfolding row_code
 row_goes_on l n u h =
-    let v = nil_row l n (omega (arith, deep h.term, h.shallow)) in
-    (v.0, record { row = More h.term v.1.row; shallow = omega (arith, h.shallow, v.1.shallow); narrow = (h.narrow, v.1.narrow); many = omega (arith, v.1.many); code_is = rw (h.code_is, v.1.code_is) refl })
+    let v = nil_row l n (omega (arith, deep h.term, h.shallow)) in (
+      v.0,
+      record {
+        row = More h.term v.1.row;
+        shallow = omega (arith, h.shallow, v.1.shallow);
+        narrow = (h.narrow, v.1.narrow);
+        many = omega (arith, v.1.many);
+        code_is = rw (h.code_is, v.1.code_is) refl;
+      },
+    )
 
 -- ---- bytes that begin no code
 

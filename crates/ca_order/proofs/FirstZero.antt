@@ -24,9 +24,12 @@ first_zero_by (suc b ∷ bs) (suc i) h e f =
     record { run = (omega arith, r.run); parts = λ j. suc b ∷ r.parts j }
 
 rest_is : (bs : List ℕ) (i : ℕ) → take (length bs - (i + 1)) (drop (i + 1) bs) ≡ drop (suc i) bs
-rest_is bs i = let e : take (length bs - (i + 1)) (drop (i + 1) bs) ≡ drop (i + 1) bs = take_all (length bs - (i + 1)) (drop (i + 1) bs) (omega (arith, length-drop (i + 1) bs)) in rw (e, add-one) refl
+rest_is bs i =
+    let e : take (length bs - (i + 1)) (drop (i + 1) bs) ≡ drop (i + 1) bs =
+    take_all (length bs - (i + 1)) (drop (i + 1) bs) (omega (arith, length-drop (i + 1) bs)) in rw (e, add-one) refl
 
-pub split_first : (bs : List ℕ) (i : ℕ) → Some i ≡ position (λ b. b == 0) bs → HasNoZero (take i bs) × (bs ≡ take i bs ++ 0 ∷ take (length bs - (i + 1)) (drop (i + 1) bs))
+pub split_first : (bs : List ℕ) (i : ℕ) → Some i ≡ position (λ b. b == 0) bs
+    → HasNoZero (take i bs) × (bs ≡ take i bs ++ 0 ∷ take (length bs - (i + 1)) (drop (i + 1) bs))
 split_first bs i e =
     let p = position-Some (λ b. b == 0) bs i 0 (sym e) in
     let r = first_zero_by bs i p.0 p.1 p.2 in
@@ -35,7 +38,9 @@ split_first bs i e =
 no_zero_from : (bs : List ℕ) (i : ℕ) → position_from (λ b. b == 0) i bs ≡ None → HasNoZero bs
 no_zero_from [] i e = tt
 no_zero_from (zero ∷ bs) i e = cc
-no_zero_from (suc b ∷ bs) i e = let n : (suc b == 0) ≡ false = grind (arith, nat_tests) in let f : position_from (λ b. b == 0) (i + 1) bs ≡ None = rw n at e in (omega arith, no_zero_from bs (i + 1) f)
+no_zero_from (suc b ∷ bs) i e =
+    let n : (suc b == 0) ≡ false = grind (arith, nat_tests) in let f : position_from (λ b. b == 0) (i + 1) bs ≡ None = rw n at e in
+    (omega arith, no_zero_from bs (i + 1) f)
 
 pub split_last : (bs : List ℕ) → None ≡ position (λ b. b == 0) bs → HasNoZero bs
 split_last bs e = no_zero_from bs 0 (sym (position_from-zero (λ b. b == 0) bs) ∙ sym e)

@@ -54,8 +54,10 @@ same_term code inside o t h e = (same_code (Tuple o.row) t [] [] o.bounded.narro
 pub size_fits : (code inside : List ℕ) (o : IsObject code inside) → (n : ℕ) × (rest : List ℕ) × (n ≤ 120) × (inside ≡ four_bytes n ++ rest)
 size_fits code inside o = (size o.row, row_code o.row, o.bounded.narrow.0, o.inside_is)
 
-pub few : (code inside : List ℕ) (o : IsObject code inside) (keypos n : ℕ) → 1 ≤ keypos → n ≡ size o.row → n ≤ keypos - 1 → (t : Tree) → IsTerm t → code ≡ code_of t → IsKeyParts t keypos None
-few code inside o keypos n p e h t b f = subst (λ (x : Tree). IsKeyParts x keypos None) (same_term code inside o t b f) (let lt : size o.row < keypos = omega (arith, e) in lt)
+pub few : (code inside : List ℕ) (o : IsObject code inside) (keypos n : ℕ) → 1 ≤ keypos → n ≡ size o.row → n ≤ keypos - 1 → (t : Tree) → IsTerm t
+    → code ≡ code_of t → IsKeyParts t keypos None
+few code inside o keypos n p e h t b f =
+    subst (λ (x : Tree). IsKeyParts x keypos None) (same_term code inside o t b f) (let lt : size o.row < keypos = omega (arith, e) in lt)
 
 -- ---- the elements before and behind one
 
@@ -75,12 +77,24 @@ list_of (More t row) h = let r = list_of row h.1 in (t ∷ r.0, ap (More t) r.1,
 
 parted : (row : Row) (k : ℕ) → k < size row → IsNarrowRow row → Parted row k
 parted Ends k h n = absurd (omega arith)
-parted (More t row) zero h n = let r = list_of row n.1 in record { before = []; key = t; after = r.0; row_is = ap (More t) r.1; place = refl; narrow_before = tt; narrow_key = n.0; narrow_after = r.2 }
+parted (More t row) zero h n =
+    let r = list_of row n.1 in
+    record { before = []; key = t; after = r.0; row_is = ap (More t) r.1; place = refl; narrow_before = tt; narrow_key = n.0; narrow_after = r.2 }
 parted (More t row) (suc k) h n =
     let r = parted row k (omega arith) n.1 in
-    record { before = t ∷ r.before; key = r.key; after = r.after; row_is = ap (More t) r.row_is; place = omega (arith, r.place); narrow_before = (n.0, r.narrow_before); narrow_key = r.narrow_key; narrow_after = r.narrow_after }
+    record {
+      before = t ∷ r.before;
+      key = r.key;
+      after = r.after;
+      row_is = ap (More t) r.row_is;
+      place = omega (arith, r.place);
+      narrow_before = (n.0, r.narrow_before);
+      narrow_key = r.narrow_key;
+      narrow_after = r.narrow_after;
+    }
 
-module _ (code inside elements : List ℕ) (o : IsObject code inside) (keypos : ℕ) (h : 1 ≤ keypos) (l : keypos - 1 < size o.row) (e : elements ≡ row_code o.row) where
+module _ (code inside elements : List ℕ) (o : IsObject code inside) (keypos : ℕ) (h : 1 ≤ keypos) (l : keypos - 1 < size o.row)
+    (e : elements ≡ row_code o.row) where
   pub pd : Parted o.row (keypos - 1)
   pd = parted o.row (keypos - 1) l o.bounded.narrow.1
 
@@ -96,13 +110,28 @@ module _ (code inside elements : List ℕ) (o : IsObject code inside) (keypos : 
   pub code_length : length code ≡ 5 + length elements
   code_length = omega (arith, ap length o.code_is, length_tuple o.row, ap length e)
 
-  pub place_is : (key behind : List ℕ) → key ≡ code_of pd.key ++ row_code (row_of pd.after) → behind ≡ row_code (row_of pd.after) → IsKeyPlace o.row keypos (length code - length key) (length code - length behind)
+  pub place_is : (key behind : List ℕ) → key ≡ code_of pd.key ++ row_code (row_of pd.after) → behind ≡ row_code (row_of pd.after)
+      → IsKeyPlace o.row keypos (length code - length key) (length code - length behind)
   place_is key behind f g = record {
     before = pd.before;
     key = pd.key;
     after = pd.after;
     row_is = pd.row_is;
     place = omega (arith, pd.place);
-    start_is = omega (arith, code_length, ap length elements_are, ap length f, length-append (row_code (row_of pd.before)) (code_of pd.key ++ row_code (row_of pd.after)));
-    end_is = omega (arith, code_length, ap length elements_are, ap length f, ap length g, length-append (row_code (row_of pd.before)) (code_of pd.key ++ row_code (row_of pd.after)), length-append (code_of pd.key) (row_code (row_of pd.after)));
+    start_is = omega (
+      arith,
+      code_length,
+      ap length elements_are,
+      ap length f,
+      length-append (row_code (row_of pd.before)) (code_of pd.key ++ row_code (row_of pd.after)),
+    );
+    end_is = omega (
+      arith,
+      code_length,
+      ap length elements_are,
+      ap length f,
+      ap length g,
+      length-append (row_code (row_of pd.before)) (code_of pd.key ++ row_code (row_of pd.after)),
+      length-append (code_of pd.key) (row_code (row_of pd.after)),
+    );
   }

@@ -16,16 +16,20 @@ use Rattle.ca_order.proofs.Faults.{fault_behind, fault_same}
 use Rattle.ca_order.proofs.FirstBytes.{IsNoTag, no_tag, has_nil, pos_rest, neg_rest, code_pos, code_neg}
 use Rattle.ca_order.proofs.Parts.{code_nil}
 
-pub raise : (low levels : ℕ) (xs ys : List ℕ) (t : Tree) (rest : List ℕ) → xs ≡ ys → low ≤ levels → BeginsWithTerm low ys t rest → BeginsWithTerm levels xs t rest
+pub raise : (low levels : ℕ) (xs ys : List ℕ) (t : Tree) (rest : List ℕ) → xs ≡ ys → low ≤ levels → BeginsWithTerm low ys t rest
+    → BeginsWithTerm levels xs t rest
 raise low levels xs ys t rest e h w = record { parts = e ∙ w.parts; shallow = omega (arith, w.shallow); bounded = w.bounded }
 
-pub tag_fault : (levels tag : ℕ) (M : ℕ → List ℕ → Type 0) (bytes inside : List ℕ) (e : ReadFault) → 1 ≤ levels → bytes ≡ tag ∷ inside → ((l : ℕ) → IsRest (HasTerm (suc l)) (tag ∷ []) (M l)) → IsReadFault (M (levels - 1)) inside e → IsReadFault (HasTerm levels) bytes e
+pub tag_fault : (levels tag : ℕ) (M : ℕ → List ℕ → Type 0) (bytes inside : List ℕ) (e : ReadFault) → 1 ≤ levels → bytes ≡ tag ∷ inside
+    → ((l : ℕ) → IsRest (HasTerm (suc l)) (tag ∷ []) (M l)) → IsReadFault (M (levels - 1)) inside e → IsReadFault (HasTerm levels) bytes e
 tag_fault zero tag M bytes inside e h p q f = absurd (omega arith)
 tag_fault (suc l) tag M bytes inside e h p q f =
     let n : suc l - 1 ≡ l = omega arith in
-    fault_same (HasTerm (suc l)) bytes (tag ∷ inside) e p (fault_behind (HasTerm (suc l)) (M l) (tag ∷ []) inside e (q l) (subst (λ (x : ℕ). IsReadFault (M x) inside e) n f))
+    fault_same (HasTerm (suc l)) bytes (tag ∷ inside) e p
+    (fault_behind (HasTerm (suc l)) (M l) (tag ∷ []) inside e (q l) (subst (λ (x : ℕ). IsReadFault (M x) inside e) n f))
 
-pub stuck_no_tag : (levels : ℕ) (bytes : List ℕ) → 1 ≤ levels → ((b : ℕ) (more : List ℕ) → bytes ≡ b ∷ more → IsNoTag levels b) → IsStuck (HasTerm levels) bytes bytes
+pub stuck_no_tag : (levels : ℕ) (bytes : List ℕ) → 1 ≤ levels → ((b : ℕ) (more : List ℕ) → bytes ≡ b ∷ more → IsNoTag levels b)
+    → IsStuck (HasTerm levels) bytes bytes
 stuck_no_tag levels bytes h n = stuck_here (HasTerm levels) bytes 0x60 [] (has_nil levels h) (λ b more rest e w. no_tag levels b rest (n b more e) w)
 
 pub nil_term : (levels : ℕ) (bytes rest : List ℕ) (t : Tree) → 1 ≤ levels → bytes ≡ 0x60 ∷ rest → t ≡ Nil → BeginsWithTerm levels bytes t rest
@@ -37,13 +41,15 @@ nil_term levels bytes rest t h e f = record {
 
 -- ---- integers
 
-pub pos_fault : (levels tag : ℕ) (bytes inside : List ℕ) (e : ReadFault) → 1 ≤ levels → 0x20 ≤ tag → tag ≤ 0x28 → bytes ≡ tag ∷ inside → IsReadFault (HasDigits false (tag - 0x20)) inside e → IsReadFault (HasTerm levels) bytes e
+pub pos_fault : (levels tag : ℕ) (bytes inside : List ℕ) (e : ReadFault) → 1 ≤ levels → 0x20 ≤ tag → tag ≤ 0x28 → bytes ≡ tag ∷ inside
+    → IsReadFault (HasDigits false (tag - 0x20)) inside e → IsReadFault (HasTerm levels) bytes e
 pos_fault levels tag bytes inside e h k m p f =
     let n : 0x20 + (tag - 0x20) ≡ tag = omega arith in
     tag_fault levels tag (λ l. HasDigits false (tag - 0x20)) bytes inside e h p
     (λ l. subst (λ (x : ℕ). IsRest (HasTerm (suc l)) (x ∷ []) (HasDigits false (tag - 0x20))) n (pos_rest l (tag - 0x20) (omega arith))) f
 
-pub neg_fault : (levels tag : ℕ) (bytes inside : List ℕ) (e : ReadFault) → 1 ≤ levels → 0x17 ≤ tag → tag ≤ 0x1f → bytes ≡ tag ∷ inside → IsReadFault (HasDigits true (0x1f - tag)) inside e → IsReadFault (HasTerm levels) bytes e
+pub neg_fault : (levels tag : ℕ) (bytes inside : List ℕ) (e : ReadFault) → 1 ≤ levels → 0x17 ≤ tag → tag ≤ 0x1f → bytes ≡ tag ∷ inside
+    → IsReadFault (HasDigits true (0x1f - tag)) inside e → IsReadFault (HasTerm levels) bytes e
 neg_fault levels tag bytes inside e h k m p f =
     let n : 0x1f - (0x1f - tag) ≡ tag = omega arith in
     tag_fault levels tag (λ l. HasDigits true (0x1f - tag)) bytes inside e h p
@@ -58,7 +64,8 @@ signed_pos n h = record { sfits = h }
 signed_neg : (n : ℕ) → n < 2 ^ 63 → FitsSigned w64 (negsuc n)
 signed_neg n h = record { sfits = h }
 
-pub pos_term : (levels tag : ℕ) (bytes inside : List ℕ) (value : ℕ) (rest : List ℕ) (t : Tree) → 1 ≤ levels → 0x20 ≤ tag → bytes ≡ tag ∷ inside → BeginsWithDigits false (tag - 0x20) inside value rest → t ≡ Integer (pos value) → BeginsWithTerm levels bytes t rest
+pub pos_term : (levels tag : ℕ) (bytes inside : List ℕ) (value : ℕ) (rest : List ℕ) (t : Tree) → 1 ≤ levels → 0x20 ≤ tag → bytes ≡ tag ∷ inside
+    → BeginsWithDigits false (tag - 0x20) inside value rest → t ≡ Integer (pos value) → BeginsWithTerm levels bytes t rest
 pos_term levels tag bytes inside value rest t h k p w f =
     let n : 0x20 + (tag - 0x20) ≡ tag = omega arith in
     let g : t ≡ Integer (pos (number w.digits)) = f ∙ ap (λ (x : ℕ). Integer (pos x)) w.value_is in
@@ -69,11 +76,13 @@ pos_term levels tag bytes inside value rest t h k p w f =
       bounded = subst IsTerm (sym g) (record { shallow = omega arith; narrow = signed_pos (number w.digits) (number_word w.digits w.are_digits) });
     }
 
-pub neg_term : (levels tag : ℕ) (bytes inside : List ℕ) (value : ℕ) (rest : List ℕ) (t : Tree) → 1 ≤ levels → tag ≤ 0x1f → bytes ≡ tag ∷ inside → BeginsWithDigits true (0x1f - tag) inside value rest → t ≡ Integer (negsuc value) → BeginsWithTerm levels bytes t rest
+pub neg_term : (levels tag : ℕ) (bytes inside : List ℕ) (value : ℕ) (rest : List ℕ) (t : Tree) → 1 ≤ levels → tag ≤ 0x1f → bytes ≡ tag ∷ inside
+    → BeginsWithDigits true (0x1f - tag) inside value rest → t ≡ Integer (negsuc value) → BeginsWithTerm levels bytes t rest
 neg_term levels tag bytes inside value rest t h k p w f =
     let n : 0x1f - (0x1f - tag) ≡ tag = omega arith in
     let g : t ≡ Integer (negsuc (number w.digits)) = f ∙ ap (λ (x : ℕ). Integer (negsuc x)) w.value_is in
-    let c : tag ∷ complement w.digits ≡ code_of t = ap (λ (x : ℕ). x ∷ complement w.digits) (sym n) ∙ code_neg w.digits (0x1f - tag) w.are_digits w.many ∙ ap code_of (sym g) in
+    let c : tag ∷ complement w.digits ≡ code_of t =
+    ap (λ (x : ℕ). x ∷ complement w.digits) (sym n) ∙ code_neg w.digits (0x1f - tag) w.are_digits w.many ∙ ap code_of (sym g) in
     record {
       parts = p ∙ ap (λ (x : List ℕ). tag ∷ x) w.parts ∙ ap (λ x. x ++ rest) c;
       shallow = subst (λ (x : Tree). depth x ≤ levels) (sym g) h;
@@ -89,4 +98,5 @@ minus : (n : ℕ) → negsuc 0 -ℤ pos n ≡ negsuc n
 minus n = omega (arith, ints)
 
 pub cast_neg : (n : ℕ) → n < 2 ^ 63 → to_z w64 (of_z w64 (negsuc 0 -ℤ to_z w64 n)) ≡ negsuc n
-cast_neg n h = ap (λ z. to_z w64 (of_z w64 (negsuc 0 -ℤ z))) (cast_pos n h) ∙ ap (λ z. to_z w64 (of_z w64 z)) (minus n) ∙ to_z-of_z w64 (negsuc n) (signed_neg n h)
+cast_neg n h =
+    ap (λ z. to_z w64 (of_z w64 (negsuc 0 -ℤ z))) (cast_pos n h) ∙ ap (λ z. to_z w64 (of_z w64 z)) (minus n) ∙ to_z-of_z w64 (negsuc n) (signed_neg n h)

@@ -29,7 +29,9 @@ cells_push (g ∷ hs) h t = ap (Cons g) (cells_push hs h t)
 
 heads_push : (hs : List Tree) (h : Tree) → heads_code (hs ++ h ∷ []) ≡ heads_code hs ++ 0x70 ∷ code_of h
 heads_push [] h = ap (λ (x : List ℕ). 0x70 ∷ x) (append-nil (code_of h))
-heads_push (g ∷ hs) h = ap (λ (x : List ℕ). 0x70 ∷ code_of g ++ x) (heads_push hs h) ∙ ap (λ (x : List ℕ). 0x70 ∷ x) (sym (append_assoc (code_of g) (heads_code hs) (0x70 ∷ code_of h)))
+heads_push (g ∷ hs) h =
+    ap (λ (x : List ℕ). 0x70 ∷ code_of g ++ x) (heads_push hs h)
+    ∙ ap (λ (x : List ℕ). 0x70 ∷ x) (sym (append_assoc (code_of g) (heads_code hs) (0x70 ∷ code_of h)))
 
 shallow_push : (l : ℕ) (hs : List Tree) (h : Tree) → AreShallow l hs → depth h ≤ l → IsTerm h → AreShallow l (hs ++ h ∷ [])
 shallow_push l [] h a d b = (d, b, tt)
@@ -49,31 +51,39 @@ pub record IsHeads (levels : ℕ) (bytes : List ℕ) (heads : List Tree) (rest :
 pub heads_none : (levels : ℕ) (bytes : List ℕ) (heads : List Tree) → heads ≡ [] → IsHeads levels bytes heads bytes
 heads_none levels bytes heads e = subst (λ (x : List Tree). IsHeads levels bytes x bytes) (sym e) (record { parts = refl; shallow = tt })
 
-pub heads_more : (levels : ℕ) (bytes : List ℕ) (heads new : List Tree) (rest inside : List ℕ) (h : Tree) (behind : List ℕ) → IsHeads levels bytes heads rest → rest ≡ 0x70 ∷ inside → BeginsWithTerm (levels - 1) inside h behind → new ≡ heads ++ h ∷ [] → IsHeads levels bytes new behind
+pub heads_more : (levels : ℕ) (bytes : List ℕ) (heads new : List Tree) (rest inside : List ℕ) (h : Tree) (behind : List ℕ) → IsHeads levels bytes heads rest
+    → rest ≡ 0x70 ∷ inside → BeginsWithTerm (levels - 1) inside h behind → new ≡ heads ++ h ∷ [] → IsHeads levels bytes new behind
 heads_more levels bytes heads new rest inside h behind p e w f =
     subst (λ (x : List Tree). IsHeads levels bytes x behind) (sym f) (record {
-      parts = p.parts ∙ ap (λ x. heads_code heads ++ x) (e ∙ ap (λ (x : List ℕ). 0x70 ∷ x) w.parts) ∙ sym (append_assoc (heads_code heads) (0x70 ∷ code_of h) behind) ∙ ap (λ x. x ++ behind) (sym (heads_push heads h));
+      parts = p.parts ∙ ap (λ x. heads_code heads ++ x) (e ∙ ap (λ (x : List ℕ). 0x70 ∷ x) w.parts)
+          ∙ sym (append_assoc (heads_code heads) (0x70 ∷ code_of h) behind) ∙ ap (λ x. x ++ behind) (sym (heads_push heads h));
       shallow = shallow_push (levels - 1) heads h p.shallow w.shallow w.bounded;
     })
 
-pub heads_fault : (levels : ℕ) (bytes : List ℕ) (heads : List Tree) (rest : List ℕ) (e : ReadFault) → 1 ≤ levels → IsHeads levels bytes heads rest → IsReadFault (HasTerm levels) rest e → IsReadFault (HasTerm levels) bytes e
+pub heads_fault : (levels : ℕ) (bytes : List ℕ) (heads : List Tree) (rest : List ℕ) (e : ReadFault) → 1 ≤ levels → IsHeads levels bytes heads rest
+    → IsReadFault (HasTerm levels) rest e → IsReadFault (HasTerm levels) bytes e
 heads_fault zero bytes heads rest e l p f = absurd (omega arith)
 heads_fault (suc l) bytes heads rest e k p f =
     let n : suc l - 1 ≡ l = omega arith in
-    fault_same (HasTerm (suc l)) bytes (heads_code heads ++ rest) e p.parts (fault_behind (HasTerm (suc l)) (HasTerm (suc l)) (heads_code heads) rest e (heads_rest l heads (subst (λ (x : ℕ). AreShallow x heads) n p.shallow)) f)
+    fault_same (HasTerm (suc l)) bytes (heads_code heads ++ rest) e p.parts
+    (fault_behind (HasTerm (suc l)) (HasTerm (suc l)) (heads_code heads) rest e (heads_rest l heads (subst (λ (x : ℕ). AreShallow x heads) n p.shallow)) f)
 
 -- stuck in a head
-pub head_fault : (levels : ℕ) (rest inside : List ℕ) (e : ReadFault) → 1 ≤ levels → rest ≡ 0x70 ∷ inside → IsReadFault (HasTerm (levels - 1)) inside e → IsReadFault (HasTerm levels) rest e
+pub head_fault : (levels : ℕ) (rest inside : List ℕ) (e : ReadFault) → 1 ≤ levels → rest ≡ 0x70 ∷ inside → IsReadFault (HasTerm (levels - 1)) inside e
+    → IsReadFault (HasTerm levels) rest e
 head_fault zero rest inside e l p f = absurd (omega arith)
 head_fault (suc l) rest inside e k p f =
     let n : suc l - 1 ≡ l = omega arith in
     fault_same (HasTerm (suc l)) rest (0x70 ∷ inside) e p
     (fault_behind (HasTerm (suc l)) (HasCell l) (0x70 ∷ []) inside e (cons_rest l)
-    (fault_first (HasTerm l) (HasCell l) inside e (terms_prefix_free l) (cell_begins l) (cell_goes_on l) (subst (λ (x : ℕ). IsReadFault (HasTerm x) inside e) n f)))
+    (fault_first (HasTerm l) (HasCell l) inside e (terms_prefix_free l) (cell_begins l) (cell_goes_on l)
+    (subst (λ (x : ℕ). IsReadFault (HasTerm x) inside e) n f)))
 
 cells_code : (hs : List Tree) (t : Tree) → code_of (cells hs t) ≡ heads_code hs ++ code_of t
 cells_code [] t = refl
-cells_code (h ∷ hs) t = code_cons h (cells hs t) ∙ ap (λ (x : List ℕ). 0x70 ∷ code_of h ++ x) (cells_code hs t) ∙ ap (λ (x : List ℕ). 0x70 ∷ x) (sym (append_assoc (code_of h) (heads_code hs) (code_of t)))
+cells_code (h ∷ hs) t =
+    code_cons h (cells hs t) ∙ ap (λ (x : List ℕ). 0x70 ∷ code_of h ++ x) (cells_code hs t)
+    ∙ ap (λ (x : List ℕ). 0x70 ∷ x) (sym (append_assoc (code_of h) (heads_code hs) (code_of t)))
 
 cells_depth : (l : ℕ) (hs : List Tree) (t : Tree) → AreShallow l hs → depth t ≤ suc l → depth (cells hs t) ≤ suc l
 cells_depth l [] t a d = d
@@ -83,14 +93,16 @@ cells_narrow : (l : ℕ) (hs : List Tree) (t : Tree) → AreShallow l hs → IsN
 cells_narrow l [] t a n = n
 cells_narrow l (h ∷ hs) t a n = (a.1.narrow, cells_narrow l hs t a.2 n)
 
-pub heads_term : (levels : ℕ) (bytes : List ℕ) (heads : List Tree) (rest : List ℕ) (last whole : Tree) (behind : List ℕ) → 1 ≤ levels → levels ≤ 192 → IsHeads levels bytes heads rest → BeginsWithTerm levels rest last behind → whole ≡ cells heads last → BeginsWithTerm levels bytes whole behind
+pub heads_term : (levels : ℕ) (bytes : List ℕ) (heads : List Tree) (rest : List ℕ) (last whole : Tree) (behind : List ℕ) → 1 ≤ levels → levels ≤ 192
+    → IsHeads levels bytes heads rest → BeginsWithTerm levels rest last behind → whole ≡ cells heads last → BeginsWithTerm levels bytes whole behind
 heads_term zero bytes heads rest last whole behind l m p w e = absurd (omega arith)
 heads_term (suc l) bytes heads rest last whole behind k m p w e =
     let n : suc l - 1 ≡ l = omega arith in
     let a : AreShallow l heads = subst (λ (x : ℕ). AreShallow x heads) n p.shallow in
     let d : depth (cells heads last) ≤ suc l = cells_depth l heads last a w.shallow in
     subst (λ (x : Tree). BeginsWithTerm (suc l) bytes x behind) (sym e) (record {
-      parts = p.parts ∙ ap (λ x. heads_code heads ++ x) w.parts ∙ sym (append_assoc (heads_code heads) (code_of last) behind) ∙ ap (λ x. x ++ behind) (sym (cells_code heads last));
+      parts = p.parts ∙ ap (λ x. heads_code heads ++ x) w.parts ∙ sym (append_assoc (heads_code heads) (code_of last) behind)
+          ∙ ap (λ x. x ++ behind) (sym (cells_code heads last));
       shallow = d;
       bounded = record { shallow = omega (arith, d); narrow = cells_narrow l heads last a w.bounded.narrow };
     })
@@ -111,12 +123,16 @@ unfolding row_code
 row_nil = refl
 
 pub row_none : (levels : ℕ) (bytes : List ℕ) (items : List Tree) → items ≡ [] → BeginsWithRow levels 0 bytes items bytes
-row_none levels bytes items e = subst (λ (x : List Tree). BeginsWithRow levels 0 bytes x bytes) (sym e) (record { parts = ap (λ x. x ++ bytes) row_nil; shallow = omega arith; bounded = tt; many = refl })
+row_none levels bytes items e =
+    subst (λ (x : List Tree). BeginsWithRow levels 0 bytes x bytes) (sym e)
+    (record { parts = ap (λ x. x ++ bytes) row_nil; shallow = omega arith; bounded = tt; many = refl })
 
-pub row_more : (levels k : ℕ) (bytes : List ℕ) (items new : List Tree) (rest : List ℕ) (t : Tree) (behind : List ℕ) → BeginsWithRow levels k bytes items rest → BeginsWithTerm levels rest t behind → new ≡ items ++ t ∷ [] → BeginsWithRow levels (k + 1) bytes new behind
+pub row_more : (levels k : ℕ) (bytes : List ℕ) (items new : List Tree) (rest : List ℕ) (t : Tree) (behind : List ℕ) → BeginsWithRow levels k bytes items rest
+    → BeginsWithTerm levels rest t behind → new ≡ items ++ t ∷ [] → BeginsWithRow levels (k + 1) bytes new behind
 row_more levels k bytes items new rest t behind r w e =
     subst (λ (x : List Tree). BeginsWithRow levels (k + 1) bytes x behind) (sym e) (record {
-      parts = r.parts ∙ ap (λ x. row_code (row_of items) ++ x) w.parts ∙ sym (append_assoc (row_code (row_of items)) (code_of t) behind) ∙ ap (λ x. x ++ behind) (sym (row_push items t));
+      parts = r.parts ∙ ap (λ x. row_code (row_of items) ++ x) w.parts ∙ sym (append_assoc (row_code (row_of items)) (code_of t) behind)
+          ∙ ap (λ x. x ++ behind) (sym (row_push items t));
       shallow = omega (arith, depth_push items t, r.shallow, w.shallow);
       bounded = AreTerms_push items t r.bounded w.bounded;
       many = omega (arith, length-append items (t ∷ []), r.many);
@@ -126,25 +142,35 @@ items_rest : (l m : ℕ) (ts : List Tree) → row_depth (row_of ts) ≤ l → Ar
 unfolding row_code
 items_rest l m [] d b = subst (λ (n : ℕ). IsRest (HasRow l n) [] (HasRow l m)) (let e : m ≡ 0 + m = omega arith in e) (rest_same (HasRow l m))
 items_rest l m (t ∷ ts) d b =
-    subst (λ (n : ℕ). IsRest (HasRow l n) (code_of t ++ row_code (row_of ts)) (HasRow l m)) (let e : suc (length ts + m) ≡ length (t ∷ ts) + m = omega arith in e)
-    (rest_then (HasRow l (suc (length ts + m))) (HasRow l (length ts + m)) (HasRow l m) (code_of t) (row_code (row_of ts)) (row_rest l (length ts + m) t (omega arith) b.0.narrow) (items_rest l m ts (omega arith) b.1))
+    subst (λ (n : ℕ). IsRest (HasRow l n) (code_of t ++ row_code (row_of ts)) (HasRow l m))
+    (let e : suc (length ts + m) ≡ length (t ∷ ts) + m = omega arith in e)
+    (rest_then (HasRow l (suc (length ts + m))) (HasRow l (length ts + m)) (HasRow l m) (code_of t) (row_code (row_of ts))
+    (row_rest l (length ts + m) t (omega arith) b.0.narrow) (items_rest l m ts (omega arith) b.1))
 
-pub item_fault : (levels k count : ℕ) (bytes : List ℕ) (items : List Tree) (rest : List ℕ) (e : ReadFault) → k < count → BeginsWithRow levels k bytes items rest → IsReadFault (HasTerm levels) rest e → IsReadFault (HasRow levels count) bytes e
+pub item_fault : (levels k count : ℕ) (bytes : List ℕ) (items : List Tree) (rest : List ℕ) (e : ReadFault) → k < count → BeginsWithRow levels k bytes items rest
+    → IsReadFault (HasTerm levels) rest e → IsReadFault (HasRow levels count) bytes e
 item_fault levels k count bytes items rest e h r f =
     let n : length items + suc (count - k - 1) ≡ count = omega (arith, r.many) in
-    let q : IsRest (HasRow levels count) (row_code (row_of items)) (HasRow levels (suc (count - k - 1))) = subst (λ (x : ℕ). IsRest (HasRow levels x) (row_code (row_of items)) (HasRow levels (suc (count - k - 1)))) n (items_rest levels (suc (count - k - 1)) items r.shallow r.bounded) in
+    let q : IsRest (HasRow levels count) (row_code (row_of items)) (HasRow levels (suc (count - k - 1))) =
+    subst (λ (x : ℕ). IsRest (HasRow levels x) (row_code (row_of items)) (HasRow levels (suc (count - k - 1)))) n
+    (items_rest levels (suc (count - k - 1)) items r.shallow r.bounded) in
     fault_same (HasRow levels count) bytes (row_code (row_of items) ++ rest) e r.parts
     (fault_behind (HasRow levels count) (HasRow levels (suc (count - k - 1))) (row_code (row_of items)) rest e q
-    (fault_first (HasTerm levels) (HasRow levels (suc (count - k - 1))) rest e (terms_prefix_free levels) (row_begins levels (count - k - 1)) (row_goes_on levels (count - k - 1)) f))
+    (fault_first (HasTerm levels) (HasRow levels (suc (count - k - 1))) rest e (terms_prefix_free levels) (row_begins levels (count - k - 1))
+    (row_goes_on levels (count - k - 1)) f))
 
 -- the tuple of a row
-pub begins_tuple : (levels count : ℕ) (bytes inside : List ℕ) (items : List Tree) (rest : List ℕ) (t : Tree) → levels ≤ 191 → count ≤ 120 → bytes ≡ four_bytes count ++ inside → BeginsWithRow levels count inside items rest → t ≡ Tuple (row_of items) → BeginsWithTerm (levels + 1) (0x40 ∷ bytes) t rest
+pub begins_tuple : (levels count : ℕ) (bytes inside : List ℕ) (items : List Tree) (rest : List ℕ) (t : Tree) → levels ≤ 191 → count ≤ 120
+    → bytes ≡ four_bytes count ++ inside → BeginsWithRow levels count inside items rest → t ≡ Tuple (row_of items)
+    → BeginsWithTerm (levels + 1) (0x40 ∷ bytes) t rest
 begins_tuple levels count bytes inside items rest t h k e r f =
     let n : size (row_of items) ≡ count = size_row items ∙ r.many in
-    let c : code_of t ≡ 0x40 ∷ four_bytes count ++ row_code (row_of items) = ap code_of f ∙ code_tuple (row_of items) ∙ ap (λ m. 0x40 ∷ four_bytes m ++ row_code (row_of items)) n in
+    let c : code_of t ≡ 0x40 ∷ four_bytes count ++ row_code (row_of items) =
+    ap code_of f ∙ code_tuple (row_of items) ∙ ap (λ m. 0x40 ∷ four_bytes m ++ row_code (row_of items)) n in
     let b : IsTerm (Tuple (row_of items)) = record { shallow = omega (arith, r.shallow); narrow = (omega (arith, n), narrow_row items r.bounded) } in
     record {
-      parts = ap (λ (x : List ℕ). 0x40 ∷ x) (e ∙ ap (λ x. four_bytes count ++ x) r.parts ∙ sym (append_assoc (four_bytes count) (row_code (row_of items)) rest)) ∙ ap (λ x. x ++ rest) (sym c);
+      parts = ap (λ (x : List ℕ). 0x40 ∷ x) (e ∙ ap (λ x. four_bytes count ++ x) r.parts ∙ sym (append_assoc (four_bytes count) (row_code (row_of items)) rest))
+          ∙ ap (λ x. x ++ rest) (sym c);
       shallow = subst (λ (x : Tree). depth x ≤ levels + 1) (sym f) (omega (arith, r.shallow));
       bounded = subst IsTerm (sym f) b;
     }

@@ -55,7 +55,8 @@ pub behind_zero : (bs run behind : List ℕ) → HasNoZero run → opened bs ≡
 behind_zero [] [] behind h e = let f : [] ≡ 0 ∷ behind = sym opened_nil ∙ e in cc
 behind_zero [] (x ∷ run) behind h e = let f : [] ≡ x ∷ run ++ 0 ∷ behind = sym opened_nil ∙ e in cc
 behind_zero (zero ∷ bs) [] behind h e = let f : 0 ∷ 0xff ∷ opened bs ≡ 0 ∷ behind = sym (opened_zero bs) ∙ e in (bs, cc)
-behind_zero (zero ∷ bs) (x ∷ run) behind h e = let f : 0 ∷ 0xff ∷ opened bs ≡ x ∷ run ++ 0 ∷ behind = sym (opened_zero bs) ∙ e in let g : 0 ≡ x = cc in absurd (omega (arith, h.0))
+behind_zero (zero ∷ bs) (x ∷ run) behind h e =
+    let f : 0 ∷ 0xff ∷ opened bs ≡ x ∷ run ++ 0 ∷ behind = sym (opened_zero bs) ∙ e in let g : 0 ≡ x = cc in absurd (omega (arith, h.0))
 behind_zero (suc b ∷ bs) [] behind h e = let f : suc b ∷ opened bs ≡ 0 ∷ behind = sym (opened_suc b bs) ∙ e in let g : suc b ≡ 0 = cc in absurd (omega arith)
 behind_zero (suc b ∷ bs) (x ∷ run) behind h e =
     let f : suc b ∷ opened bs ≡ x ∷ run ++ 0 ∷ behind = sym (opened_suc b bs) ∙ e in
@@ -74,15 +75,23 @@ no_ff b e f = omega (arith, e, f)
 -- behind escaped bytes stands an escaped rest
 pub escaped_after : (xs zs x : List ℕ) → opened xs ++ x ≡ escaped zs → (ys : List ℕ) × (zs ≡ xs ++ ys) × (x ≡ escaped ys)
 escaped_after [] zs x e = (zs, refl, ap (λ y. y ++ x) (sym opened_nil) ∙ e)
-escaped_after (zero ∷ xs) [] x e = let f : 0 ∷ 0xff ∷ opened xs ++ x ≡ 0 ∷ 0 ∷ [] = ap (λ y. y ++ x) (sym (opened_zero xs)) ∙ e ∙ escaped_nil in absurd (no_ff 0xff refl (same_second 0 0 0xff 0 (opened xs ++ x) [] f))
+escaped_after (zero ∷ xs) [] x e =
+    let f : 0 ∷ 0xff ∷ opened xs ++ x ≡ 0 ∷ 0 ∷ [] = ap (λ y. y ++ x) (sym (opened_zero xs)) ∙ e ∙ escaped_nil in
+    absurd (no_ff 0xff refl (same_second 0 0 0xff 0 (opened xs ++ x) [] f))
 escaped_after (zero ∷ xs) (zero ∷ zs) x e =
     let f : 0 ∷ 0xff ∷ opened xs ++ x ≡ 0 ∷ 0xff ∷ escaped zs = ap (λ y. y ++ x) (sym (opened_zero xs)) ∙ e ∙ escaped_zero zs in
     let g : opened xs ++ x ≡ escaped zs = cc in
     let r = escaped_after xs zs x g in
     (r.0, ap (λ y. 0 ∷ y) r.1, r.2)
-escaped_after (zero ∷ xs) (suc b ∷ zs) x e = let f : 0 ∷ 0xff ∷ opened xs ++ x ≡ suc b ∷ escaped zs = ap (λ y. y ++ x) (sym (opened_zero xs)) ∙ e ∙ escaped_suc b zs in let g : 0 ≡ suc b = same_head 0 (suc b) (0xff ∷ opened xs ++ x) (escaped zs) f in absurd (omega arith)
-escaped_after (suc a ∷ xs) [] x e = let f : suc a ∷ opened xs ++ x ≡ 0 ∷ 0 ∷ [] = ap (λ y. y ++ x) (sym (opened_suc a xs)) ∙ e ∙ escaped_nil in let g : suc a ≡ 0 = same_head (suc a) 0 (opened xs ++ x) (0 ∷ []) f in absurd (omega arith)
-escaped_after (suc a ∷ xs) (zero ∷ zs) x e = let f : suc a ∷ opened xs ++ x ≡ 0 ∷ 0xff ∷ escaped zs = ap (λ y. y ++ x) (sym (opened_suc a xs)) ∙ e ∙ escaped_zero zs in let g : suc a ≡ 0 = same_head (suc a) 0 (opened xs ++ x) (0xff ∷ escaped zs) f in absurd (omega arith)
+escaped_after (zero ∷ xs) (suc b ∷ zs) x e =
+    let f : 0 ∷ 0xff ∷ opened xs ++ x ≡ suc b ∷ escaped zs = ap (λ y. y ++ x) (sym (opened_zero xs)) ∙ e ∙ escaped_suc b zs in
+    let g : 0 ≡ suc b = same_head 0 (suc b) (0xff ∷ opened xs ++ x) (escaped zs) f in absurd (omega arith)
+escaped_after (suc a ∷ xs) [] x e =
+    let f : suc a ∷ opened xs ++ x ≡ 0 ∷ 0 ∷ [] = ap (λ y. y ++ x) (sym (opened_suc a xs)) ∙ e ∙ escaped_nil in
+    let g : suc a ≡ 0 = same_head (suc a) 0 (opened xs ++ x) (0 ∷ []) f in absurd (omega arith)
+escaped_after (suc a ∷ xs) (zero ∷ zs) x e =
+    let f : suc a ∷ opened xs ++ x ≡ 0 ∷ 0xff ∷ escaped zs = ap (λ y. y ++ x) (sym (opened_suc a xs)) ∙ e ∙ escaped_zero zs in
+    let g : suc a ≡ 0 = same_head (suc a) 0 (opened xs ++ x) (0xff ∷ escaped zs) f in absurd (omega arith)
 escaped_after (suc a ∷ xs) (suc b ∷ zs) x e =
     let f : suc a ∷ opened xs ++ x ≡ suc b ∷ escaped zs = ap (λ y. y ++ x) (sym (opened_suc a xs)) ∙ e ∙ escaped_suc b zs in
     let g : opened xs ++ x ≡ escaped zs = cc in

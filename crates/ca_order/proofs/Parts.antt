@@ -68,7 +68,8 @@ unfolding four_bytes
 size_bytes n bytes e = e
 
 -- an item, and the items behind it
-pub at_item : (ts : List Tree) (i : ℕ) (t : Tree) → i < length ts → t ≡ get_or ts i t → row_code (row_of (drop i ts)) ≡ code_of t ++ row_code (row_of (drop (i + 1) ts))
+pub at_item : (ts : List Tree) (i : ℕ) (t : Tree) → i < length ts → t ≡ get_or ts i t
+    → row_code (row_of (drop i ts)) ≡ code_of t ++ row_code (row_of (drop (i + 1) ts))
 at_item ts i t h e = row_code_at ts i t h ∙ ap (λ u. code_of u ++ row_code (row_of (drop (i + 1) ts))) (sym e)
 
 pub no_item : (ts : List Tree) (i : ℕ) → length ts ≤ i → row_code (row_of (drop i ts)) ≡ []

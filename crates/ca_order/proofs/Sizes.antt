@@ -30,7 +30,9 @@ same_one a b xs ys e = (cc, cc)
 -- ---- one byte
 
 pub stuck_byte : (most : ℕ) (bytes : List ℕ) → ((b : ℕ) (more : List ℕ) → bytes ≡ b ∷ more → b ≤ most → ⊥) → IsStuck (HasSize 0 most) bytes bytes
-stuck_byte most bytes n = stuck_here (HasSize 0 most) bytes 0 [] (record { count = 0; fits = omega arith; code_is = refl }) (λ b more rest e w. let f : b ≡ w.count = (same_one b w.count rest [] w.code_is).0 in n b more e (omega (arith, f, w.fits)))
+stuck_byte most bytes n =
+    stuck_here (HasSize 0 most) bytes 0 [] (record { count = 0; fits = omega arith; code_is = refl })
+    (λ b more rest e w. let f : b ≡ w.count = (same_one b w.count rest [] w.code_is).0 in n b more e (omega (arith, f, w.fits)))
 
 byte_prefix_free : (most : ℕ) → IsPrefixFree (HasSize 0 most)
 byte_prefix_free most u rest h k =
@@ -38,7 +40,8 @@ byte_prefix_free most u rest h k =
     (same_one h.count k.count rest [] e).1
 
 zero_begins : (z most : ℕ) (x : List ℕ) → HasSize (suc z) most x → Begins (HasSize 0 0) x
-zero_begins z most x h = record { word = 0 ∷ []; rest = zero_bytes z ++ h.count ∷ []; parts = h.code_is; is_word = record { count = 0; fits = omega arith; code_is = refl } }
+zero_begins z most x h =
+    record { word = 0 ∷ []; rest = zero_bytes z ++ h.count ∷ []; parts = h.code_is; is_word = record { count = 0; fits = omega arith; code_is = refl } }
 
 zero_goes_on : (z most : ℕ) (u : List ℕ) → HasSize 0 0 u → (v : List ℕ) × HasSize (suc z) most (u ++ v)
 zero_goes_on z most u h =
@@ -48,22 +51,32 @@ zero_goes_on z most u h =
 -- ---- the bytes of a size
 
 zeros_rest : (k z most : ℕ) → IsRest (HasSize (k + z) most) (zero_bytes k) (HasSize z most)
-zeros_rest zero z most = subst (λ (n : ℕ). IsRest (HasSize n most) [] (HasSize z most)) (let e : z ≡ 0 + z = omega arith in e) (record { into = λ x w. w; back = λ x w. w })
+zeros_rest zero z most =
+    subst (λ (n : ℕ). IsRest (HasSize n most) [] (HasSize z most)) (let e : z ≡ 0 + z = omega arith in e) (record { into = λ x w. w; back = λ x w. w })
 zeros_rest (suc k) z most =
     let q = zeros_rest k z most in
     subst (λ (n : ℕ). IsRest (HasSize n most) (zero_bytes (suc k)) (HasSize z most)) (let e : suc (k + z) ≡ suc k + z = omega arith in e) (record {
-      into = λ x w. q.into x (record { count = w.count; fits = w.fits; code_is = (same_one 0 0 (zero_bytes k ++ x) (zero_bytes (k + z) ++ w.count ∷ []) w.code_is).1 });
+      into = λ x w. q.into x (record {
+        count = w.count;
+        fits = w.fits;
+        code_is = (same_one 0 0 (zero_bytes k ++ x) (zero_bytes (k + z) ++ w.count ∷ []) w.code_is).1;
+      });
       back = λ x w. let v = q.back x w in record { count = v.count; fits = v.fits; code_is = ap (λ (y : List ℕ). 0 ∷ y) v.code_is };
     })
 
-pub zero_fault : (k z most : ℕ) (bytes rest : List ℕ) (e : ReadFault) → k + suc z ≡ 3 → bytes ≡ zero_bytes k ++ rest → IsReadFault (HasSize 0 0) rest e → IsReadFault (HasSize 3 most) bytes e
+pub zero_fault : (k z most : ℕ) (bytes rest : List ℕ) (e : ReadFault) → k + suc z ≡ 3 → bytes ≡ zero_bytes k ++ rest → IsReadFault (HasSize 0 0) rest e
+    → IsReadFault (HasSize 3 most) bytes e
 zero_fault k z most bytes rest e n f h =
-    let q : IsRest (HasSize 3 most) (zero_bytes k) (HasSize (suc z) most) = subst (λ (x : ℕ). IsRest (HasSize x most) (zero_bytes k) (HasSize (suc z) most)) n (zeros_rest k (suc z) most) in
+    let q : IsRest (HasSize 3 most) (zero_bytes k) (HasSize (suc z) most) =
+    subst (λ (x : ℕ). IsRest (HasSize x most) (zero_bytes k) (HasSize (suc z) most)) n (zeros_rest k (suc z) most) in
     fault_same (HasSize 3 most) bytes (zero_bytes k ++ rest) e f
-    (fault_behind (HasSize 3 most) (HasSize (suc z) most) (zero_bytes k) rest e q (fault_first (HasSize 0 0) (HasSize (suc z) most) rest e (byte_prefix_free 0) (zero_begins z most) (zero_goes_on z most) h))
+    (fault_behind (HasSize 3 most) (HasSize (suc z) most) (zero_bytes k) rest e q
+    (fault_first (HasSize 0 0) (HasSize (suc z) most) rest e (byte_prefix_free 0) (zero_begins z most) (zero_goes_on z most) h))
 
-pub last_fault : (most : ℕ) (bytes rest : List ℕ) (e : ReadFault) → bytes ≡ zero_bytes 3 ++ rest → IsReadFault (HasSize 0 most) rest e → IsReadFault (HasSize 3 most) bytes e
-last_fault most bytes rest e f h = fault_same (HasSize 3 most) bytes (zero_bytes 3 ++ rest) e f (fault_behind (HasSize 3 most) (HasSize 0 most) (zero_bytes 3) rest e (zeros_rest 3 0 most) h)
+pub last_fault : (most : ℕ) (bytes rest : List ℕ) (e : ReadFault) → bytes ≡ zero_bytes 3 ++ rest → IsReadFault (HasSize 0 most) rest e
+    → IsReadFault (HasSize 3 most) bytes e
+last_fault most bytes rest e f h =
+    fault_same (HasSize 3 most) bytes (zero_bytes 3 ++ rest) e f (fault_behind (HasSize 3 most) (HasSize 0 most) (zero_bytes 3) rest e (zeros_rest 3 0 most) h)
 
 -- one zero byte more
 pub zero_more : (k b : ℕ) (bytes rest more : List ℕ) → bytes ≡ zero_bytes k ++ rest → b ≤ 0 → rest ≡ b ∷ more → bytes ≡ zero_bytes (suc k) ++ more
@@ -121,12 +134,15 @@ size_goes_on levels u h =
     (v.0, record { count = h.count; fits = f; elements = v.0; row = v.1; code_is = ap (λ x. x ++ v.0) (h.code_is ∙ sym (four_small h.count f)) })
 
 pub size_fault : (levels : ℕ) (bytes : List ℕ) (e : ReadFault) → IsReadFault (HasSize 3 (most_elements levels)) bytes e → IsReadFault (HasTuple levels) bytes e
-size_fault levels bytes e h = fault_first (HasSize 3 (most_elements levels)) (HasTuple levels) bytes e (size_prefix_free (most_elements levels)) (size_begins levels) (size_goes_on levels) h
+size_fault levels bytes e h =
+    fault_first (HasSize 3 (most_elements levels)) (HasTuple levels) bytes e (size_prefix_free (most_elements levels)) (size_begins levels)
+    (size_goes_on levels) h
 
 pub elements_rest : (levels n : ℕ) → n ≤ 120 → IsRest (HasTuple levels) (four_bytes n) (HasRow levels n)
 elements_rest levels n h = record {
   into = λ x w.
-      let e : 0 ∷ 0 ∷ 0 ∷ n ∷ x ≡ 0 ∷ 0 ∷ 0 ∷ w.count ∷ w.elements = ap (λ y. y ++ x) (sym (four_small n h)) ∙ w.code_is ∙ ap (λ y. y ++ w.elements) (four_small w.count w.fits) in
+      let e : 0 ∷ 0 ∷ 0 ∷ n ∷ x ≡ 0 ∷ 0 ∷ 0 ∷ w.count ∷ w.elements =
+      ap (λ y. y ++ x) (sym (four_small n h)) ∙ w.code_is ∙ ap (λ y. y ++ w.elements) (four_small w.count w.fits) in
       let same : w.count ≡ n = cc in
       let rest : w.elements ≡ x = cc in
       subst (HasRow levels n) rest (subst (λ (k : ℕ). HasRow levels k w.elements) same w.row);

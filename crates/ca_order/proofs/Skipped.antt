@@ -18,7 +18,9 @@ data Next (b : ℕ) (inside y : List ℕ) : Type 0 where
 
 next_by : (t : Tree) (b : ℕ) (z inside y : List ℕ) → IsNarrow t → inside ≡ z ++ y → Tagged b z t → Next b inside y
 next_by _ b z inside y n e (is_pos k f g) = next_pos (digits k) (digits_shorter k) f (e ∙ ap (λ x. x ++ y) g)
-next_by _ b z inside y n e (is_neg k f g) = next_neg (complement (digits k)) (omega (arith, length_complement (digits k), digits_shorter k)) (omega (arith, f, length_complement (digits k))) (e ∙ ap (λ x. x ++ y) g)
+next_by _ b z inside y n e (is_neg k f g) =
+    next_neg (complement (digits k)) (omega (arith, length_complement (digits k), digits_shorter k)) (omega (arith, f, length_complement (digits k)))
+    (e ∙ ap (λ x. x ++ y) g)
 next_by _ b z inside y n e (is_atom text f g) = next_atom text f (e ∙ ap (λ x. x ++ y) g)
 next_by _ b z inside y n e (is_tuple row f g) = next_tuple row f n.0 n.1 (e ∙ ap (λ x. x ++ y) g ∙ append_assoc (four_bytes (size row)) (row_code row) y)
 next_by _ b z inside y n e (is_nil f g) = next_nil f (e ∙ ap (λ x. x ++ y) g)
@@ -56,7 +58,8 @@ as_escaped b inside y e (next_nil f g) = absurd (omega (arith, f))
 as_escaped b inside y e (next_cons h t f k l g) = absurd (omega (arith, f))
 as_escaped b inside y e (next_binary bs f g) = (bs, g)
 
-as_tuple : (b : ℕ) (inside y : List ℕ) → b ≡ 0x40 → Next b inside y → (row : Row) × (size row ≤ 120) × IsNarrowRow row × (inside ≡ four_bytes (size row) ++ (row_code row ++ y))
+as_tuple : (b : ℕ) (inside y : List ℕ) → b ≡ 0x40 → Next b inside y
+    → (row : Row) × (size row ≤ 120) × IsNarrowRow row × (inside ≡ four_bytes (size row) ++ (row_code row ++ y))
 as_tuple b inside y e (next_pos ds l f g) = absurd (omega (arith, f))
 as_tuple b inside y e (next_neg ds l f g) = absurd (omega (arith, f))
 as_tuple b inside y e (next_atom bs f g) = absurd (omega (arith, f))
@@ -74,7 +77,8 @@ as_nil b inside y e (next_nil f g) = g
 as_nil b inside y e (next_cons h t f k l g) = absurd (omega (arith, f))
 as_nil b inside y e (next_binary bs f g) = absurd (omega (arith, f))
 
-as_cons : (b : ℕ) (inside y : List ℕ) → b ≡ 0x70 → Next b inside y → (h : Tree) × (t : Tree) × IsNarrow h × IsNarrow t × (inside ≡ code_of h ++ (code_of t ++ y))
+as_cons : (b : ℕ) (inside y : List ℕ) → b ≡ 0x70 → Next b inside y
+    → (h : Tree) × (t : Tree) × IsNarrow h × IsNarrow t × (inside ≡ code_of h ++ (code_of t ++ y))
 as_cons b inside y e (next_pos ds l f g) = absurd (omega (arith, f))
 as_cons b inside y e (next_neg ds l f g) = absurd (omega (arith, f))
 as_cons b inside y e (next_atom bs f g) = absurd (omega (arith, f))
@@ -140,7 +144,8 @@ record Headed (n b : ℕ) (inside end : List ℕ) : Type 0 where
   pub many : length others ≡ n
   pub next_is : Next b inside (row_code (row_of others) ++ end)
 
-headed_by : (ts : List Tree) (n b : ℕ) (bytes inside end : List ℕ) → IsNarrowRow (row_of ts) → length ts ≡ n + 1 → bytes ≡ row_code (row_of ts) ++ end → bytes ≡ b ∷ inside → Headed n b inside end
+headed_by : (ts : List Tree) (n b : ℕ) (bytes inside end : List ℕ) → IsNarrowRow (row_of ts) → length ts ≡ n + 1 → bytes ≡ row_code (row_of ts) ++ end
+    → bytes ≡ b ∷ inside → Headed n b inside end
 unfolding row_code
 headed_by [] n b bytes inside end h m p e = absurd (omega arith)
 headed_by (t ∷ ts) n b bytes inside end h m p e = record {
@@ -174,7 +179,8 @@ module _ (n b : ℕ) (bytes inside end : List ℕ) (h : HasCodes (n + 1) bytes e
   escaped_there t = let a = as_escaped b inside (row_code (row_of hd.others) ++ end) t hd.next_is in (a.0, row_code (row_of hd.others) ++ end, a.1)
 
   pub escaped_codes : (rest : List ℕ) → (b ≡ 0x30) ⊎ (b ≡ 0x80) → ((bs y : List ℕ) → inside ≡ escaped bs ++ y → rest ≡ y) → HasCodes (n + 0) rest end
-  escaped_codes rest t f = let a = as_escaped b inside (row_code (row_of hd.others) ++ end) t hd.next_is in leaf rest (f a.0 (row_code (row_of hd.others) ++ end) a.1)
+  escaped_codes rest t f =
+      let a = as_escaped b inside (row_code (row_of hd.others) ++ end) t hd.next_is in leaf rest (f a.0 (row_code (row_of hd.others) ++ end) a.1)
 
   pub nil_codes : b ≡ 0x60 → HasCodes (n + 0) inside end
   nil_codes t = leaf inside (as_nil b inside (row_code (row_of hd.others) ++ end) t hd.next_is)
@@ -185,9 +191,11 @@ module _ (n b : ℕ) (bytes inside end : List ℕ) (h : HasCodes (n + 1) bytes e
       record { terms = a.0 ∷ a.1 ∷ hd.others; narrow = (a.2, (a.3, hd.narrow)); many = omega (arith, hd.many); parts = a.4 ∙ two_more a.0 a.1 hd.others end }
 
   pub size_there : b ≡ 0x40 → (m : ℕ) × (y : List ℕ) × (m ≤ 120) × (inside ≡ four_bytes m ++ y)
-  size_there t = let a = as_tuple b inside (row_code (row_of hd.others) ++ end) t hd.next_is in (size a.0, row_code a.0 ++ (row_code (row_of hd.others) ++ end), a.1, a.3)
+  size_there t =
+      let a = as_tuple b inside (row_code (row_of hd.others) ++ end) t hd.next_is in (size a.0, row_code a.0 ++ (row_code (row_of hd.others) ++ end), a.1, a.3)
 
-  pub tuple_codes : (m : ℕ) (rest : List ℕ) → b ≡ 0x40 → ((k : ℕ) (y : List ℕ) → k ≤ 120 → inside ≡ four_bytes k ++ y → (m ≡ k) × (rest ≡ y)) → HasCodes (n + m) rest end
+  pub tuple_codes : (m : ℕ) (rest : List ℕ) → b ≡ 0x40 → ((k : ℕ) (y : List ℕ) → k ≤ 120 → inside ≡ four_bytes k ++ y → (m ≡ k) × (rest ≡ y))
+      → HasCodes (n + m) rest end
   tuple_codes m rest t f =
       let a = as_tuple b inside (row_code (row_of hd.others) ++ end) t hd.next_is in
       let k = f (size a.0) (row_code a.0 ++ (row_code (row_of hd.others) ++ end)) a.1 a.3 in
@@ -199,16 +207,23 @@ module _ (n b : ℕ) (bytes inside end : List ℕ) (h : HasCodes (n + 1) bytes e
       }
 
   pub pos_there : (0x20 ≤ b) × (b ≤ 0x28) → b - 0x20 ≤ length inside
-  pos_there t = let a = as_pos b inside (row_code (row_of hd.others) ++ end) t hd.next_is in omega (arith, a.1, ap length a.2, length-append a.0 (row_code (row_of hd.others) ++ end))
+  pos_there t =
+      let a = as_pos b inside (row_code (row_of hd.others) ++ end) t hd.next_is in
+      omega (arith, a.1, ap length a.2, length-append a.0 (row_code (row_of hd.others) ++ end))
 
-  pub pos_codes : (rest : List ℕ) → (0x20 ≤ b) × (b ≤ 0x28) → ((xs ys : List ℕ) → length xs ≡ b - 0x20 → inside ≡ xs ++ ys → rest ≡ ys) → HasCodes (n + 0) rest end
-  pos_codes rest t f = let a = as_pos b inside (row_code (row_of hd.others) ++ end) t hd.next_is in leaf rest (f a.0 (row_code (row_of hd.others) ++ end) a.1 a.2)
+  pub pos_codes : (rest : List ℕ) → (0x20 ≤ b) × (b ≤ 0x28) → ((xs ys : List ℕ) → length xs ≡ b - 0x20 → inside ≡ xs ++ ys → rest ≡ ys)
+      → HasCodes (n + 0) rest end
+  pos_codes rest t f =
+      let a = as_pos b inside (row_code (row_of hd.others) ++ end) t hd.next_is in leaf rest (f a.0 (row_code (row_of hd.others) ++ end) a.1 a.2)
 
   pub neg_there : IsNoOther b → (b ≤ 0x1f) × (0x1f - b ≤ length inside)
-  neg_there t = let a = as_neg b inside (row_code (row_of hd.others) ++ end) t hd.next_is in (a.1, omega (arith, a.2, ap length a.3, length-append a.0 (row_code (row_of hd.others) ++ end)))
+  neg_there t =
+      let a = as_neg b inside (row_code (row_of hd.others) ++ end) t hd.next_is in
+      (a.1, omega (arith, a.2, ap length a.3, length-append a.0 (row_code (row_of hd.others) ++ end)))
 
   pub neg_codes : (rest : List ℕ) → IsNoOther b → ((xs ys : List ℕ) → length xs ≡ 0x1f - b → inside ≡ xs ++ ys → rest ≡ ys) → HasCodes (n + 0) rest end
-  neg_codes rest t f = let a = as_neg b inside (row_code (row_of hd.others) ++ end) t hd.next_is in leaf rest (f a.0 (row_code (row_of hd.others) ++ end) a.2 a.3)
+  neg_codes rest t f =
+      let a = as_neg b inside (row_code (row_of hd.others) ++ end) t hd.next_is in leaf rest (f a.0 (row_code (row_of hd.others) ++ end) a.2 a.3)
 
 no_row : (end : List ℕ) → row_code (row_of []) ++ end ≡ end
 unfolding row_code
@@ -238,10 +253,12 @@ codes_done n bytes end z h = by h.terms h.many h.parts
 pub codes_more : (n : ℕ) (bytes end : List ℕ) → 0 < n → HasCodes n bytes end → HasCodes (n - 1 + 1) bytes end
 codes_more n bytes end h w = let e : n ≡ n - 1 + 1 = omega arith in subst (λ (x : ℕ). HasCodes x bytes end) e w
 
-pub row_app : (before : List Tree) (key : Tree) (after : List Tree) → row_code (row_of (before ++ key ∷ after)) ≡ row_code (row_of before) ++ (code_of key ++ row_code (row_of after))
+pub row_app : (before : List Tree) (key : Tree) (after : List Tree)
+    → row_code (row_of (before ++ key ∷ after)) ≡ row_code (row_of before) ++ (code_of key ++ row_code (row_of after))
 unfolding row_code
 row_app [] key after = refl
-row_app (t ∷ before) key after = ap (λ x. code_of t ++ x) (row_app before key after) ∙ sym (append_assoc (code_of t) (row_code (row_of before)) (code_of key ++ row_code (row_of after)))
+row_app (t ∷ before) key after =
+    ap (λ x. code_of t ++ x) (row_app before key after) ∙ sym (append_assoc (code_of t) (row_code (row_of before)) (code_of key ++ row_code (row_of after)))
 
 pub one_code : (key : Tree) (end : List ℕ) → code_of key ++ end ≡ row_code (row_of (key ∷ [])) ++ end
 unfolding row_code

@@ -33,12 +33,14 @@ compare_lengths (suc m) zero = inr (omega arith)
 compare_lengths (suc m) (suc n) = ⊎_elim (λ h. inl (omega (arith, h))) (λ h. inr (omega (arith, h))) (compare_lengths m n)
 
 -- stuck before any byte
-pub stuck_here : (L : List ℕ → Type 0) (bytes : List ℕ) (next : ℕ) (rest : List ℕ) → L (next ∷ rest) → ((b : ℕ) (more rest : List ℕ) → bytes ≡ b ∷ more → L (b ∷ rest) → ⊥) → IsStuck L bytes bytes
+pub stuck_here : (L : List ℕ → Type 0) (bytes : List ℕ) (next : ℕ) (rest : List ℕ) → L (next ∷ rest)
+    → ((b : ℕ) (more rest : List ℕ) → bytes ≡ b ∷ more → L (b ∷ rest) → ⊥) → IsStuck L bytes bytes
 stuck_here L bytes next rest h k = record { done = []; parts = refl; next = next; rest = rest; begins = h; no_longer = k }
 
 -- stuck at the end of the bytes
 pub stuck_at_end : (L : List ℕ → Type 0) (bytes : List ℕ) (next : ℕ) (rest : List ℕ) → L (bytes ++ next ∷ rest) → IsStuck L bytes []
-stuck_at_end L bytes next rest h = record { done = bytes; parts = sym (append-nil bytes); next = next; rest = rest; begins = h; no_longer = λ b more rest' e. cc }
+stuck_at_end L bytes next rest h =
+    record { done = bytes; parts = sym (append-nil bytes); next = next; rest = rest; begins = h; no_longer = λ b more rest' e. cc }
 
 -- stuck in what follows u
 pub stuck_behind : (L M : List ℕ → Type 0) (u bytes behind : List ℕ) → IsRest L u M → IsStuck M bytes behind → IsStuck L (u ++ bytes) behind
@@ -52,7 +54,8 @@ stuck_behind L M u bytes behind q s = record {
 }
 
 -- stuck in the word that all words begin with
-pub stuck_first : (H L : List ℕ → Type 0) (bytes behind : List ℕ) → IsPrefixFree H → ((x : List ℕ) → L x → Begins H x) → ((u : List ℕ) → H u → (v : List ℕ) × L (u ++ v)) → IsStuck H bytes behind → IsStuck L bytes behind
+pub stuck_first : (H L : List ℕ → Type 0) (bytes behind : List ℕ) → IsPrefixFree H → ((x : List ℕ) → L x → Begins H x)
+    → ((u : List ℕ) → H u → (v : List ℕ) × L (u ++ v)) → IsStuck H bytes behind → IsStuck L bytes behind
 stuck_first H L bytes behind free split extend s =
     let more = extend (s.done ++ s.next ∷ s.rest) s.begins in
     record {
@@ -66,13 +69,16 @@ stuck_first H L bytes behind free split extend s =
           let parts : s.done ++ b ∷ rest ≡ w.word ++ w.rest = w.parts in
           ⊎_elim
           (λ le. let z = longer w.word w.rest s.done (b ∷ rest) (sym parts) le in
-          let again : H (w.word ++ (z.0 ++ s.next ∷ s.rest)) = subst H (append_assoc w.word z.0 (s.next ∷ s.rest)) (subst (λ (x : List ℕ). H (x ++ s.next ∷ s.rest)) z.1 s.begins) in
+          let again : H (w.word ++ (z.0 ++ s.next ∷ s.rest)) =
+          subst H (append_assoc w.word z.0 (s.next ∷ s.rest)) (subst (λ (x : List ℕ). H (x ++ s.next ∷ s.rest)) z.1 s.begins) in
           no_end z.0 s.next s.rest (free w.word (z.0 ++ s.next ∷ s.rest) w.is_word again))
-          (λ lt. let z = longer s.done (b ∷ rest) w.word w.rest parts (omega arith) in in_word s.done b rest w.word w.rest z.0 z.1 z.2 lt (λ r f. s.no_longer b after r e (subst H f w.is_word)))
+          (λ lt. let z = longer s.done (b ∷ rest) w.word w.rest parts (omega arith) in in_word s.done b rest w.word w.rest z.0 z.1 z.2 lt
+          (λ r f. s.no_longer b after r e (subst H f w.is_word)))
           (compare_lengths (length w.word) (length s.done));
     }
   where
-    in_word : (done : List ℕ) (b : ℕ) (rest word behind z : List ℕ) → word ≡ done ++ z → b ∷ rest ≡ z ++ behind → length done < length word → ((r : List ℕ) → word ≡ done ++ b ∷ r → ⊥) → ⊥
+    in_word : (done : List ℕ) (b : ℕ) (rest word behind z : List ℕ) → word ≡ done ++ z → b ∷ rest ≡ z ++ behind → length done < length word
+        → ((r : List ℕ) → word ≡ done ++ b ∷ r → ⊥) → ⊥
     in_word done b rest word behind [] e f h k = absurd (omega (arith, ap length e, length-append done []))
     in_word done b rest word behind (y ∷ z) e f h k = let first : b ≡ y = cc in k z (e ∙ ap (λ x. done ++ x ∷ z) (sym first))
 
@@ -82,7 +88,8 @@ stuck_no_word L bytes behind word rest free w p s =
     let parts : s.done ++ behind ≡ word ++ rest = sym s.parts ∙ p in
     ⊎_elim
     (λ le. let z = longer word rest s.done behind (sym parts) le in
-    let again : L (word ++ (z.0 ++ s.next ∷ s.rest)) = subst L (append_assoc word z.0 (s.next ∷ s.rest)) (subst (λ (x : List ℕ). L (x ++ s.next ∷ s.rest)) z.1 s.begins) in
+    let again : L (word ++ (z.0 ++ s.next ∷ s.rest)) =
+    subst L (append_assoc word z.0 (s.next ∷ s.rest)) (subst (λ (x : List ℕ). L (x ++ s.next ∷ s.rest)) z.1 s.begins) in
     no_end z.0 s.next s.rest (free word (z.0 ++ s.next ∷ s.rest) w again))
     (λ lt. let z = longer s.done behind word rest parts (omega arith) in past z.0 z.1 z.2 lt)
     (compare_lengths (length word) (length s.done))
@@ -102,7 +109,8 @@ take_one_more u b v =
     rw (n, append_assoc u (b ∷ []) v) at e
 
 -- the place where bytes are stuck, as a number
-pub longest_start : (L : List ℕ → Type 0) (bytes done behind rest : List ℕ) → bytes ≡ done ++ behind → L (done ++ rest) → ((b : ℕ) (more rest : List ℕ) → behind ≡ b ∷ more → L (done ++ b ∷ rest) → ⊥) → IsLongestStart L bytes (length bytes - length behind)
+pub longest_start : (L : List ℕ → Type 0) (bytes done behind rest : List ℕ) → bytes ≡ done ++ behind → L (done ++ rest)
+    → ((b : ℕ) (more rest : List ℕ) → behind ≡ b ∷ more → L (done ++ b ∷ rest) → ⊥) → IsLongestStart L bytes (length bytes - length behind)
 longest_start L bytes done behind rest e h k =
     let n : length bytes - length behind ≡ length done = omega (arith, ap length e, length-append done behind) in
     subst (λ (x : ℕ). IsLongestStart L bytes x) (sym n) (record {
@@ -112,7 +120,8 @@ longest_start L bytes done behind rest e h k =
       no_longer = λ lt r. at_next behind e k (omega (arith, lt, ap length e, length-append done behind)) r;
     })
   where
-    at_next : (behind : List ℕ) → bytes ≡ done ++ behind → ((b : ℕ) (more rest : List ℕ) → behind ≡ b ∷ more → L (done ++ b ∷ rest) → ⊥) → 0 < length behind → (r : List ℕ) → L (take (length done + 1) bytes ++ r) → ⊥
+    at_next : (behind : List ℕ) → bytes ≡ done ++ behind → ((b : ℕ) (more rest : List ℕ) → behind ≡ b ∷ more → L (done ++ b ∷ rest) → ⊥) → 0 < length behind
+        → (r : List ℕ) → L (take (length done + 1) bytes ++ r) → ⊥
     at_next [] e k h r w = absurd (omega arith)
     at_next (b ∷ more) e k h r w =
         let t : take (length done + 1) bytes ≡ done ++ b ∷ [] = ap (take (length done + 1)) e ∙ take_one_more done b more in

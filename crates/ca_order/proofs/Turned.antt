@@ -47,7 +47,8 @@ byte_turned false b h = h
 
 bytes_turned : (neg : Bool) (bs : List ℕ) → AreBytes bs → AreBytes (turned neg bs)
 bytes_turned neg [] h = rw (turned_nil neg) no_bytes
-bytes_turned neg (b ∷ bs) h = rw (turned_cons neg b bs) (cons_bytes (turned_byte neg b) (turned neg bs) (byte_turned neg b (head_byte b bs h)) (bytes_turned neg bs (tail_bytes b bs h)))
+bytes_turned neg (b ∷ bs) h =
+    rw (turned_cons neg b bs) (cons_bytes (turned_byte neg b) (turned neg bs) (byte_turned neg b (head_byte b bs h)) (bytes_turned neg bs (tail_bytes b bs h)))
 
 -- ---- the number, digit by digit
 
@@ -58,11 +59,13 @@ number_push (d ∷ ds) b =
     let p : 256 ^ length (ds ++ b ∷ []) ≡ 256 ^ length ds * 256 = ap (λ k. 256 ^ k) l ∙ pow-suc 256 (length ds) in
     rw (p, number_push ds b) (omega arith)
 
-pub number_more : (neg : Bool) (ds : List ℕ) (i b : ℕ) → i < length ds → b ≡ turned_byte neg (get_or ds i 0) → number (turned neg (take (i + 1) ds)) ≡ number (turned neg (take i ds)) * 256 + b
+pub number_more : (neg : Bool) (ds : List ℕ) (i b : ℕ) → i < length ds → b ≡ turned_byte neg (get_or ds i 0)
+    → number (turned neg (take (i + 1) ds)) ≡ number (turned neg (take i ds)) * 256 + b
 number_more neg ds i b h e =
     let t : take (i + 1) ds ≡ take i ds ++ get_or ds i 0 ∷ [] = take_more ds i 0 h in
     let u : turned neg (get_or ds i 0 ∷ []) ≡ b ∷ [] = turned_cons neg (get_or ds i 0) [] ∙ (λ j. sym e j ∷ turned_nil neg j) in
-    ap (λ x. number (turned neg x)) t ∙ ap number (turned_append neg (take i ds) (get_or ds i 0 ∷ []) ∙ ap (λ x. turned neg (take i ds) ++ x) u) ∙ number_push (turned neg (take i ds)) b
+    ap (λ x. number (turned neg x)) t ∙ ap number (turned_append neg (take i ds) (get_or ds i 0 ∷ []) ∙ ap (λ x. turned neg (take i ds) ++ x) u)
+    ∙ number_push (turned neg (take i ds)) b
 
 pub fits_more : (n i : ℕ) → n < 256 ^ i → i < 8 → n * 256 + 255 < 2 ^ 64
 fits_more n i h l =
@@ -97,7 +100,8 @@ pub are_digits_by : (d : ℕ) (ds : List ℕ) (len : ℕ) → length (d ∷ ds) 
 are_digits_by d ds len e l c h = (c.0, omega (arith, e), (λ f. c.1 (omega (arith, e, f))), h)
 
 -- a byte that may begin no word
-first_fits : (neg : Bool) (len : ℕ) (b : ℕ) (rest ds : List ℕ) → 1 ≤ len → AreDigits ds → length ds ≡ len → b ∷ rest ≡ turned neg ds → CanBegin (turned_byte neg b) len
+first_fits : (neg : Bool) (len : ℕ) (b : ℕ) (rest ds : List ℕ) → 1 ≤ len → AreDigits ds → length ds ≡ len → b ∷ rest ≡ turned neg ds
+    → CanBegin (turned_byte neg b) len
 first_fits neg len b rest [] l h e f = absurd (omega (arith, e))
 first_fits neg len b rest (d ∷ ds) l h e f =
     let g : b ∷ rest ≡ turned_byte neg d ∷ turned neg ds = f ∙ turned_cons neg d ds in
@@ -105,22 +109,28 @@ first_fits neg len b rest (d ∷ ds) l h e f =
     let same : turned_byte neg b ≡ d = ap (turned_byte neg) first ∙ turned_back neg d (head_byte d ds h.3) in
     subst (λ (x : ℕ). CanBegin x len) (sym same) (h.0, λ k. h.2 (omega (arith, e, h.1, k)))
 
-pub stuck_first_digit : (neg : Bool) (len : ℕ) (bytes : List ℕ) → 1 ≤ len → len ≤ 8 → ((b : ℕ) (more : List ℕ) → bytes ≡ b ∷ more → CanBegin (turned_byte neg b) len → ⊥) → IsStuck (HasDigits neg len) bytes bytes
+pub stuck_first_digit : (neg : Bool) (len : ℕ) (bytes : List ℕ) → 1 ≤ len → len ≤ 8
+    → ((b : ℕ) (more : List ℕ) → bytes ≡ b ∷ more → CanBegin (turned_byte neg b) len → ⊥) → IsStuck (HasDigits neg len) bytes bytes
 stuck_first_digit neg zero bytes l m h = absurd (omega arith)
 stuck_first_digit neg (suc k) bytes l m h =
     stuck_here (HasDigits neg (suc k)) bytes (turned_byte neg 1) (turned neg (zeros k))
     (record {
       digits = 1 ∷ zeros k;
-      are_digits = are_digits_by 1 (zeros k) (suc k) (omega (arith, length_zeros k)) m (omega arith, λ _. omega arith) (cons_bytes 1 (zeros k) (omega arith) (bytes_zeros k));
+      are_digits = are_digits_by 1 (zeros k) (suc k) (omega (arith, length_zeros k)) m (omega arith, λ _. omega arith)
+          (cons_bytes 1 (zeros k) (omega arith) (bytes_zeros k));
       many = omega (arith, length_zeros k);
       code_is = sym (turned_cons neg 1 (zeros k));
     })
     (λ b more rest e w. h b more e (first_fits neg (suc k) b rest w.digits l w.are_digits w.many w.code_is))
 
-more_digits : (neg : Bool) (len k : ℕ) (b : ℕ) (more : List ℕ) → length (b ∷ more) + suc k ≡ len → len ≤ 8 → AreBytes (b ∷ more) → CanBegin (turned_byte neg b) len → HasDigits neg len ((b ∷ more) ++ turned_byte neg 0 ∷ turned neg (zeros k))
+more_digits : (neg : Bool) (len k : ℕ) (b : ℕ) (more : List ℕ) → length (b ∷ more) + suc k ≡ len → len ≤ 8 → AreBytes (b ∷ more)
+    → CanBegin (turned_byte neg b) len → HasDigits neg len ((b ∷ more) ++ turned_byte neg 0 ∷ turned neg (zeros k))
 more_digits neg len k b more e l h c =
-    let all : AreBytes ((turned_byte neg b ∷ turned neg more) ++ zeros (suc k)) = bytes_append (turned_byte neg b ∷ turned neg more) (zeros (suc k)) (rw (turned_cons neg b more) at (bytes_turned neg (b ∷ more) h)) (bytes_zeros (suc k)) in
-    let n : length ((turned_byte neg b ∷ turned neg more) ++ zeros (suc k)) ≡ len = omega (arith, length-append (turned_byte neg b ∷ turned neg more) (zeros (suc k)), length_turned neg more, length_zeros (suc k), e) in
+    let all : AreBytes ((turned_byte neg b ∷ turned neg more) ++ zeros (suc k)) =
+    bytes_append (turned_byte neg b ∷ turned neg more) (zeros (suc k)) (rw (turned_cons neg b more) at (bytes_turned neg (b ∷ more) h))
+    (bytes_zeros (suc k)) in
+    let n : length ((turned_byte neg b ∷ turned neg more) ++ zeros (suc k)) ≡ len =
+    omega (arith, length-append (turned_byte neg b ∷ turned neg more) (zeros (suc k)), length_turned neg more, length_zeros (suc k), e) in
     let back : turned neg (turned_byte neg b ∷ turned neg more) ≡ b ∷ more = ap (turned neg) (sym (turned_cons neg b more)) ∙ turned_twice neg (b ∷ more) h in
     record {
       digits = (turned_byte neg b ∷ turned neg more) ++ zeros (suc k);
@@ -130,20 +140,24 @@ more_digits neg len k b more e l h c =
     }
 
 -- too few digits, the first of which may begin so many
-pub stuck_short : (neg : Bool) (len b : ℕ) (more : List ℕ) → length (b ∷ more) < len → len ≤ 8 → AreBytes (b ∷ more) → CanBegin (turned_byte neg b) len → IsStuck (HasDigits neg len) (b ∷ more) []
+pub stuck_short : (neg : Bool) (len b : ℕ) (more : List ℕ) → length (b ∷ more) < len → len ≤ 8 → AreBytes (b ∷ more) → CanBegin (turned_byte neg b) len
+    → IsStuck (HasDigits neg len) (b ∷ more) []
 stuck_short neg len b more h l a c =
     stuck_at_end (HasDigits neg len) (b ∷ more) (turned_byte neg 0) (turned neg (zeros (len - length (b ∷ more) - 1)))
     (more_digits neg len (len - length (b ∷ more) - 1) b more (omega arith) l a c)
 
 -- enough digits
-pub begins_with_digits : (neg : Bool) (len b : ℕ) (digits rest bytes : List ℕ) (value : ℕ) → bytes ≡ digits ++ rest → length digits ≡ len → 1 ≤ len → len ≤ 8 → AreBytes digits → ((b : ℕ) (more : List ℕ) → bytes ≡ b ∷ more → CanBegin (turned_byte neg b) len) → value ≡ number (turned neg digits) → BeginsWithDigits neg len bytes value rest
+pub begins_with_digits : (neg : Bool) (len b : ℕ) (digits rest bytes : List ℕ) (value : ℕ) → bytes ≡ digits ++ rest → length digits ≡ len → 1 ≤ len → len ≤ 8
+    → AreBytes digits → ((b : ℕ) (more : List ℕ) → bytes ≡ b ∷ more → CanBegin (turned_byte neg b) len) → value ≡ number (turned neg digits)
+    → BeginsWithDigits neg len bytes value rest
 begins_with_digits neg len b [] rest bytes value e n l m a c v = absurd (omega (arith, n))
 begins_with_digits neg len b (d ∷ ds) rest bytes value e n l m a c v =
     let t : turned neg (d ∷ ds) ≡ turned_byte neg d ∷ turned neg ds = turned_cons neg d ds in
     let k : AreBytes (turned_byte neg d ∷ turned neg ds) = subst AreBytes t (bytes_turned neg (d ∷ ds) a) in
     record {
       digits = turned neg (d ∷ ds);
-      are_digits = subst AreDigits (sym t) (are_digits_by (turned_byte neg d) (turned neg ds) len (omega (arith, n, length_turned neg ds)) m (c d (ds ++ rest) e) k);
+      are_digits = subst AreDigits (sym t) (are_digits_by (turned_byte neg d) (turned neg ds) len (omega (arith, n, length_turned neg ds)) m
+          (c d (ds ++ rest) e) k);
       many = length_turned neg (d ∷ ds) ∙ n;
       value_is = v;
       parts = e ∙ ap (λ x. x ++ rest) (sym (turned_twice neg (d ∷ ds) a));

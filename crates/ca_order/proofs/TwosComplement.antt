@@ -38,7 +38,8 @@ unfolding complement
 complement_bytes zero m n e = refl
 complement_bytes (suc k) m n e =
     let p : 0 < 256 ^ k = base_pos k in
-    let r : (byte_at k m + byte_at k n) * 256 ^ k + (m % 256 ^ k + n % 256 ^ k + 1) ≡ 256 * 256 ^ k = omega (arith, split_high k m, split_high k n, pow-suc 256 k) in
+    let r : (byte_at k m + byte_at k n) * 256 ^ k + (m % 256 ^ k + n % 256 ^ k + 1) ≡ 256 * 256 ^ k =
+    omega (arith, split_high k m, split_high k n, pow-suc 256 k) in
     let s = sum_is (byte_at k m + byte_at k n) (256 ^ k) (m % 256 ^ k + n % 256 ^ k + 1) r (omega arith) (omega (arith, mod-lt m p, mod-lt n p)) in
     let first : byte_at k m ≡ 255 - byte_at k n = omega (arith, s.0) in
     let rest : bytes_high_first k m ≡ complement (bytes_high_first k n) = complement_bytes k m n s.1 in
@@ -46,14 +47,16 @@ complement_bytes (suc k) m n e =
 
 lowest : (len k : ℕ) (bytes ds : List ℕ) → k ≡ len → len ≤ 8 → length bytes ≡ 8 → ds ≡ drop (8 - len) bytes → ds ≡ take (8 - (8 - k)) (drop (8 - k) bytes)
 lowest len k bytes ds e l h d =
-    let a : take (8 - (8 - len)) (drop (8 - len) bytes) ≡ drop (8 - len) bytes = take_all (8 - (8 - len)) (drop (8 - len) bytes) (omega (arith, length-drop (8 - len) bytes)) in
+    let a : take (8 - (8 - len)) (drop (8 - len) bytes) ≡ drop (8 - len) bytes =
+    take_all (8 - (8 - len)) (drop (8 - len) bytes) (omega (arith, length-drop (8 - len) bytes)) in
     d ∙ sym a ∙ ap (λ x. take (8 - (8 - x)) (drop (8 - x) bytes)) (sym e)
 
 turned : (k : ℕ) (bs : List ℕ) → complement (drop k bs) ≡ drop k (complement bs)
 unfolding complement
 turned k bs = sym (drop-map (λ b. 255 - b) k bs)
 
-pub int_parts : (n : ℤ) (len : ℕ) → IsWord n → len ≡ length (int_code n) → int_code n ≡ int_tag n (len - 1) ∷ take (8 - (8 - (len - 1))) (drop (8 - (len - 1)) (to_be_bytes w64 (cast_unsigned w64 n)))
+pub int_parts : (n : ℤ) (len : ℕ) → IsWord n → len ≡ length (int_code n)
+    → int_code n ≡ int_tag n (len - 1) ∷ take (8 - (8 - (len - 1))) (drop (8 - (len - 1)) (to_be_bytes w64 (cast_unsigned w64 n)))
 unfolding int_code
 int_parts (pos n) len h e =
     let l : len - 1 ≡ length (digits n) = omega (arith, e) in
@@ -62,6 +65,8 @@ int_parts (pos n) len h e =
 int_parts (negsuc m) len h e =
     let l : len - 1 ≡ length (digits m) = omega (arith, e, length_complement (digits m)) in
     let low : to_be_bytes w64 (2 ^ 64 - suc m) ≡ complement (to_be_bytes w64 m) = complement_bytes 8 (2 ^ 64 - suc m) m (omega arith) in
-    let d : complement (digits m) ≡ drop (8 - length (digits m)) (to_be_bytes w64 (2 ^ 64 - suc m)) = ap complement (digits_drop m) ∙ turned (8 - length (digits m)) (to_be_bytes w64 m) ∙ ap (drop (8 - length (digits m))) (sym low) in
-    let rest = lowest (length (digits m)) (len - 1) (to_be_bytes w64 (2 ^ 64 - suc m)) (complement (digits m)) l (digits_shorter m) (length_high_first 8 (2 ^ 64 - suc m)) d in
+    let d : complement (digits m) ≡ drop (8 - length (digits m)) (to_be_bytes w64 (2 ^ 64 - suc m)) =
+    ap complement (digits_drop m) ∙ turned (8 - length (digits m)) (to_be_bytes w64 m) ∙ ap (drop (8 - length (digits m))) (sym low) in
+    let rest = lowest (length (digits m)) (len - 1) (to_be_bytes w64 (2 ^ 64 - suc m)) (complement (digits m)) l (digits_shorter m)
+    (length_high_first 8 (2 ^ 64 - suc m)) d in
     ap (λ x. (0x1f - x) ∷ complement (digits m)) (sym l) ∙ (λ i. (0x1f - (len - 1)) ∷ rest i)

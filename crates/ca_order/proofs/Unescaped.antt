@@ -8,7 +8,8 @@ use Rattle.ca_order.specs.Zeros.{HasNoZero, opened}
 use Rattle.ca_order.proofs.Opened.{opened_append, opened_no_zero, opened_zero, opened_nil, behind_zero}
 
 -- an escape stands behind each zero byte
-pub escape_is_zero : (inside run rest behind : List ℕ) (e : Escape) → HasNoZero run → rest ≡ opened inside → rest ≡ run ++ 0 ∷ behind → IsEscape behind e → ((x : Bor (List ℕ)) → e ≡ Zero x → ⊥) → ⊥
+pub escape_is_zero : (inside run rest behind : List ℕ) (e : Escape) → HasNoZero run → rest ≡ opened inside → rest ≡ run ++ 0 ∷ behind → IsEscape behind e
+    → ((x : Bor (List ℕ)) → e ≡ Zero x → ⊥) → ⊥
 escape_is_zero inside run rest behind e h f g k n = by e k n
   where
     next : (more : List ℕ) × (behind ≡ 0xff ∷ opened more)
@@ -22,17 +23,22 @@ escape_is_zero inside run rest behind e h f g k n = by e k n
     by (Zero x) k n = n x refl
     by Neither k n = (k 0xff (opened next.0) next.1).1 refl
 
-pub left_more : (inside run rest behind more : List ℕ) → HasNoZero run → rest ≡ opened inside → rest ≡ run ++ 0 ∷ behind → behind ≡ 0xff ∷ more → (x : List ℕ) × (more ≡ opened x)
+pub left_more : (inside run rest behind more : List ℕ) → HasNoZero run → rest ≡ opened inside → rest ≡ run ++ 0 ∷ behind → behind ≡ 0xff ∷ more
+    → (x : List ℕ) × (more ≡ opened x)
 left_more inside run rest behind more h f g k = let n = behind_zero inside run behind h (sym f ∙ g) in (n.0, same 0xff more (opened n.0) (sym k ∙ n.1))
   where
     same : (b : ℕ) (xs ys : List ℕ) → b ∷ xs ≡ b ∷ ys → xs ≡ ys
     same b xs ys e = cc
 
-pub parts_more : (inside mid new run rest behind more body : List ℕ) → HasNoZero run → rest ≡ run ++ 0 ∷ behind → behind ≡ 0xff ∷ more → opened inside ++ rest ≡ body → mid ≡ inside ++ run → new ≡ mid ++ 0 ∷ [] → opened new ++ more ≡ body
+pub parts_more : (inside mid new run rest behind more body : List ℕ) → HasNoZero run → rest ≡ run ++ 0 ∷ behind → behind ≡ 0xff ∷ more
+    → opened inside ++ rest ≡ body → mid ≡ inside ++ run → new ≡ mid ++ 0 ∷ [] → opened new ++ more ≡ body
 parts_more inside mid new run rest behind more body h g k p e f =
-    let o : opened new ≡ (opened inside ++ run) ++ 0 ∷ 0xff ∷ [] = ap opened f ∙ opened_append mid (0 ∷ []) ∙ (λ i. opened (e i) ++ opened_zero [] i) ∙ (λ i. opened_append inside run i ++ 0 ∷ 0xff ∷ opened_nil i) ∙ ap (λ x. (opened inside ++ x) ++ 0 ∷ 0xff ∷ []) (opened_no_zero run h) in
+    let o : opened new ≡ (opened inside ++ run) ++ 0 ∷ 0xff ∷ [] =
+    ap opened f ∙ opened_append mid (0 ∷ []) ∙ (λ i. opened (e i) ++ opened_zero [] i) ∙ (λ i. opened_append inside run i ++ 0 ∷ 0xff ∷ opened_nil i)
+    ∙ ap (λ x. (opened inside ++ x) ++ 0 ∷ 0xff ∷ []) (opened_no_zero run h) in
     let r : rest ≡ run ++ 0 ∷ 0xff ∷ more = g ∙ ap (λ x. run ++ 0 ∷ x) k in
-    ap (λ x. x ++ more) o ∙ append_assoc (opened inside ++ run) (0 ∷ 0xff ∷ []) more ∙ append_assoc (opened inside) run (0 ∷ 0xff ∷ more) ∙ ap (λ x. opened inside ++ x) (sym r) ∙ p
+    ap (λ x. x ++ more) o ∙ append_assoc (opened inside ++ run) (0 ∷ 0xff ∷ []) more ∙ append_assoc (opened inside) run (0 ∷ 0xff ∷ more)
+    ∙ ap (λ x. opened inside ++ x) (sym r) ∙ p
 
 pub parts_all : (inside new rest body : List ℕ) → HasNoZero rest → opened inside ++ rest ≡ body → new ≡ inside ++ rest → opened new ≡ body
 parts_all inside new rest body h p e = ap opened e ∙ opened_append inside rest ∙ ap (λ x. opened inside ++ x) (opened_no_zero rest h) ∙ p

@@ -12,7 +12,8 @@ data Split (lead : ℕ) (x : List ℕ) (c : ℕ) : Type 0 where
   one_byte : c < 128 → lead ≡ c → x ≡ [] → Split lead x c
   two_bytes : (b : ℕ) → 128 ≤ c → 192 ≤ lead → lead < 224 → Follows b → c + 12416 ≡ lead * 64 + b → x ≡ b ∷ [] → Split lead x c
   three_bytes : (b d : ℕ) → 2048 ≤ c → 224 ≤ lead → lead < 240 → Follows b → Follows d → c + 925824 ≡ lead * 4096 + b * 64 + d → x ≡ b ∷ d ∷ [] → Split lead x c
-  four_bytes : (b d e : ℕ) → 65536 ≤ c → 240 ≤ lead → Follows b → Follows d → Follows e → c + 63447168 ≡ lead * 262144 + b * 4096 + d * 64 + e → x ≡ b ∷ d ∷ e ∷ [] → Split lead x c
+  four_bytes : (b d e : ℕ) → 65536 ≤ c → 240 ≤ lead → Follows b → Follows d → Follows e → c + 63447168 ≡ lead * 262144 + b * 4096 + d * 64 + e
+      → x ≡ b ∷ d ∷ e ∷ [] → Split lead x c
 
 past_one : (c : ℕ) → 1 < length (encode_utf8 c) → 128 ≤ c
 past_one c h = ⊎_elim (λ l. absurd (omega (arith, ap length (one c l)))) (λ l. l) (order c 128)
@@ -103,7 +104,8 @@ below_top : (c : ℕ) → Scalar c → c < 1114112
 below_top c (inl h) = omega arith
 below_top c (inr h) = h.1
 
-three_char : (lead b d c : ℕ) → 0xe0 ≤ lead → lead ≤ 0xef → 0x80 ≤ b → b ≤ 0xbf → 0x80 ≤ d → d ≤ 0xbf → c + 925824 ≡ lead * 4096 + b * 64 + d → 2048 ≤ c → Scalar c → HasChar (lead ∷ b ∷ d ∷ [])
+three_char : (lead b d c : ℕ) → 0xe0 ≤ lead → lead ≤ 0xef → 0x80 ≤ b → b ≤ 0xbf → 0x80 ≤ d → d ≤ 0xbf → c + 925824 ≡ lead * 4096 + b * 64 + d → 2048 ≤ c
+    → Scalar c → HasChar (lead ∷ b ∷ d ∷ [])
 three_char lead b d c low high h k l m e f s =
     let first : 224 + c / 4096 ≡ lead = omega arith in
     let second : 128 + c / 64 % 64 ≡ b = omega arith in
@@ -120,7 +122,9 @@ three_back lead least most b d t h k l m =
 pub rest_three : (lead least most : ℕ) → Threes lead least most → IsRest HasChar (lead ∷ []) (HasFollowing 2 least most)
 rest_three lead least most t = record {
   into = λ x w. three_into lead least most w.char x t (scalar_cases w.char w.is_scalar) (split lead x w);
-  back = λ x w. let v = w.5 in subst HasChar (λ i. lead ∷ sym (w.4 ∙ ap (λ (y : List ℕ). w.0 ∷ y) (v.4 ∙ ap (λ (y : List ℕ). v.0 ∷ y) v.5)) i) (three_back lead least most w.0 v.0 t w.2 w.3 v.2 v.3);
+  back = λ x w. let v = w.5 in
+      subst HasChar (λ i. lead ∷ sym (w.4 ∙ ap (λ (y : List ℕ). w.0 ∷ y) (v.4 ∙ ap (λ (y : List ℕ). v.0 ∷ y) v.5)) i)
+      (three_back lead least most w.0 v.0 t w.2 w.3 v.2 v.3);
 }
 
 -- no shorter form, and no surrogate
@@ -173,8 +177,10 @@ pub record Fours (lead least most : ℕ) : Type 0 where
   pub low : 0xf0 ≤ lead
   pub high : lead ≤ 0xf4
   pub bounds : (0x80 ≤ least) × (most ≤ 0xbf)
-  pub covers : (b d k c : ℕ) → Follows b → Follows d → Follows k → c + 63447168 ≡ lead * 262144 + b * 4096 + d * 64 + k → 65536 ≤ c → c < 1114112 → (least ≤ b) × (b ≤ most)
-  pub allows : (b d k c : ℕ) → least ≤ b → b ≤ most → 0x80 ≤ d → d ≤ 0xbf → 0x80 ≤ k → k ≤ 0xbf → c + 63447168 ≡ lead * 262144 + b * 4096 + d * 64 + k → (65536 ≤ c) × (c < 1114112)
+  pub covers : (b d k c : ℕ) → Follows b → Follows d → Follows k → c + 63447168 ≡ lead * 262144 + b * 4096 + d * 64 + k → 65536 ≤ c → c < 1114112
+      → (least ≤ b) × (b ≤ most)
+  pub allows : (b d k c : ℕ) → least ≤ b → b ≤ most → 0x80 ≤ d → d ≤ 0xbf → 0x80 ≤ k → k ≤ 0xbf → c + 63447168 ≡ lead * 262144 + b * 4096 + d * 64 + k
+      → (65536 ≤ c) × (c < 1114112)
 
 four_into : (lead least most c : ℕ) (x : List ℕ) → Fours lead least most → c < 1114112 → Split lead x c → HasFollowing 3 least most x
 four_into lead least most c x t s (one_byte l e f) = absurd (omega (arith, t.low))
@@ -184,16 +190,22 @@ four_into lead least most c x t s (four_bytes b d k l m p q r e f) =
     let w = t.covers b d k c p q r e l s in
     (b, d ∷ k ∷ [], w.0, w.1, f, (d, k ∷ [], q.0, omega (arith, q.1), refl, (k, [], r.0, omega (arith, r.1), refl, refl)))
 
-four_char : (lead b d k c : ℕ) → 0xf0 ≤ lead → lead ≤ 0xf4 → 0x80 ≤ b → b ≤ 0xbf → 0x80 ≤ d → d ≤ 0xbf → 0x80 ≤ k → k ≤ 0xbf → c + 63447168 ≡ lead * 262144 + b * 4096 + d * 64 + k → 65536 ≤ c → c < 1114112 → HasChar (lead ∷ b ∷ d ∷ k ∷ [])
+four_char : (lead b d k c : ℕ) → 0xf0 ≤ lead → lead ≤ 0xf4 → 0x80 ≤ b → b ≤ 0xbf → 0x80 ≤ d → d ≤ 0xbf → 0x80 ≤ k → k ≤ 0xbf
+    → c + 63447168 ≡ lead * 262144 + b * 4096 + d * 64 + k → 65536 ≤ c → c < 1114112 → HasChar (lead ∷ b ∷ d ∷ k ∷ [])
 four_char lead b d k c low high h i l m n o e f s =
     let first : 240 + c / 262144 ≡ lead = omega arith in
     let second : 128 + c / 4096 % 64 ≡ b = omega arith in
     let third : 128 + c / 64 % 64 ≡ d = omega arith in
     let fourth : 128 + c % 64 ≡ k = omega arith in
     let is : encode_utf8 c ≡ (240 + c / 262144) ∷ (128 + c / 4096 % 64) ∷ (128 + c / 64 % 64) ∷ (128 + c % 64) ∷ [] = four c f in
-    record { char = c; is_scalar = is_scalar_by c (inr (omega arith, s)); code_is = (λ j. sym first j ∷ sym second j ∷ sym third j ∷ sym fourth j ∷ []) ∙ sym is }
+    record {
+      char = c;
+      is_scalar = is_scalar_by c (inr (omega arith, s));
+      code_is = (λ j. sym first j ∷ sym second j ∷ sym third j ∷ sym fourth j ∷ []) ∙ sym is;
+    }
 
-four_back : (lead least most b d k : ℕ) → Fours lead least most → least ≤ b → b ≤ most → 0x80 ≤ d → d ≤ 0xbf → 0x80 ≤ k → k ≤ 0xbf → HasChar (lead ∷ b ∷ d ∷ k ∷ [])
+four_back : (lead least most b d k : ℕ) → Fours lead least most → least ≤ b → b ≤ most → 0x80 ≤ d → d ≤ 0xbf → 0x80 ≤ k → k ≤ 0xbf
+    → HasChar (lead ∷ b ∷ d ∷ k ∷ [])
 four_back lead least most b d k t h i l m n o =
     let e : (lead * 262144 + b * 4096 + d * 64 + k - 63447168) + 63447168 ≡ lead * 262144 + b * 4096 + d * 64 + k = omega (arith, t.low, t.bounds) in
     let a = t.allows b d k (lead * 262144 + b * 4096 + d * 64 + k - 63447168) h i l m n o e in
@@ -203,7 +215,8 @@ pub rest_four : (lead least most : ℕ) → Fours lead least most → IsRest Has
 rest_four lead least most t = record {
   into = λ x w. four_into lead least most w.char x t (below_top w.char (scalar_cases w.char w.is_scalar)) (split lead x w);
   back = λ x w. let v = w.5 in let u = v.5 in
-      subst HasChar (λ i. lead ∷ sym (w.4 ∙ ap (λ (y : List ℕ). w.0 ∷ y) (v.4 ∙ ap (λ (y : List ℕ). v.0 ∷ y) (u.4 ∙ ap (λ (y : List ℕ). u.0 ∷ y) u.5))) i) (four_back lead least most w.0 v.0 u.0 t w.2 w.3 v.2 v.3 u.2 u.3);
+      subst HasChar (λ i. lead ∷ sym (w.4 ∙ ap (λ (y : List ℕ). w.0 ∷ y) (v.4 ∙ ap (λ (y : List ℕ). v.0 ∷ y) (u.4 ∙ ap (λ (y : List ℕ). u.0 ∷ y) u.5))) i)
+      (four_back lead least most w.0 v.0 u.0 t w.2 w.3 v.2 v.3 u.2 u.3);
 }
 
 pub fours_f0 : Fours 0xf0 0x90 0xbf

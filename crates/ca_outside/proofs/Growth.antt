@@ -16,7 +16,8 @@ grows_more (Some x) None (Some z) xs ys g h = absurd h
 grows_more (Some x) (Some y) None xs ys g h = tt
 grows_more (Some x) (Some y) (Some z) xs ys g h = rw (h, g, append_assoc)
 
-pub grows_by : (a b c : Option (List ℕ)) (bytes : List ℕ) (at n : ℕ) → Grows a b (take at bytes) → Grows b c (take n (drop at bytes)) → Grows a c (take (at + n) bytes)
+pub grows_by : (a b c : Option (List ℕ)) (bytes : List ℕ) (at n : ℕ) → Grows a b (take at bytes) → Grows b c (take n (drop at bytes))
+    → Grows a c (take (at + n) bytes)
 grows_by a b c bytes at n g h = rw (take-add at n bytes) (grows_more a b c (take at bytes) (take n (drop at bytes)) g h)
 
 pub grows_whole : (a b : Option (List ℕ)) (bytes : List ℕ) (at : ℕ) → length bytes ≤ at → Grows a b (take at bytes) → Grows a b bytes

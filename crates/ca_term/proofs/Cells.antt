@@ -24,7 +24,8 @@ more : (hs : List (Tree × ℕ)) (h : Tree × ℕ) (t : Tree) → AreCells hs (C
 more [] h t a d b = (d, b, tt)
 more (g ∷ hs) h t a d b = rw (cells_more hs h t) (a.0, a.1, more hs h t a.2 d b)
 
-last : (hs : List (Tree × ℕ)) (h : Tree × ℕ) (t : Tree) → AreCells (hs ++ h ∷ []) t → AreCells hs (Cons h.0 t) × (h.1 ≡ depth (Cons h.0 t)) × IsTerm (Cons h.0 t)
+last : (hs : List (Tree × ℕ)) (h : Tree × ℕ) (t : Tree) → AreCells (hs ++ h ∷ []) t
+    → AreCells hs (Cons h.0 t) × (h.1 ≡ depth (Cons h.0 t)) × IsTerm (Cons h.0 t)
 last [] h t a = (tt, a.0, a.1)
 last (g ∷ hs) h t a =
     let r = last hs h t a.2 in
@@ -33,7 +34,8 @@ last (g ∷ hs) h t a =
 pub kept_none : (t : Tree) → IsKept [] t t
 kept_none t = record { whole_is = refl; kept = tt }
 
-pub kept_more : (hs gs : List (Tree × ℕ)) (h : Tree) (d : ℕ) (t whole here : Tree) → IsKept hs here whole → Cons h t ≡ here → d ≡ depth here → IsTerm here → gs ≡ hs ++ (h, d) ∷ [] → IsKept gs t whole
+pub kept_more : (hs gs : List (Tree × ℕ)) (h : Tree) (d : ℕ) (t whole here : Tree) → IsKept hs here whole → Cons h t ≡ here → d ≡ depth here → IsTerm here
+    → gs ≡ hs ++ (h, d) ∷ [] → IsKept gs t whole
 kept_more hs gs h d t whole here k e f b g =
     let a : AreCells hs (Cons h t) = subst (λ (x : Tree). AreCells hs x) (sym e) k.kept in
     rw g (record {
@@ -41,7 +43,8 @@ kept_more hs gs h d t whole here k e f b g =
       kept = more hs (h, d) t a (subst (λ (x : Tree). d ≡ depth x) (sym e) f) (subst IsTerm (sym e) b);
     })
 
-pub kept_last : (hs gs : List (Tree × ℕ)) (h : Tree) (d : ℕ) (t whole : Tree) → IsKept gs t whole → gs ≡ hs ++ (h, d) ∷ [] → IsKept hs (Cons h t) whole × (d ≡ depth (Cons h t)) × IsTerm (Cons h t)
+pub kept_last : (hs gs : List (Tree × ℕ)) (h : Tree) (d : ℕ) (t whole : Tree) → IsKept gs t whole → gs ≡ hs ++ (h, d) ∷ []
+    → IsKept hs (Cons h t) whole × (d ≡ depth (Cons h t)) × IsTerm (Cons h t)
 kept_last hs gs h d t whole k g =
     let a : AreCells (hs ++ (h, d) ∷ []) t = rw (← g) k.kept in
     let r = last hs (h, d) t a in

@@ -17,7 +17,8 @@ use Rattle.ca_term.specs.CodeLaws.{ArePrefixFree, CompareAsTerms}
 
 size_cmp : (m n : ℕ) → m ≤ 120 → n ≤ 120 → bytes_cmp (four_bytes m) (four_bytes n) ≡ nat_cmp m n
 unfolding four_bytes
-size_cmp m n h k = high_first_cmp 4 m n ∙ (λ i. nat_cmp (mod-eq_of_lt {n = m} {m = 256 ^ 4} (omega arith) i) (mod-eq_of_lt {n = n} {m = 256 ^ 4} (omega arith) i))
+size_cmp m n h k =
+    high_first_cmp 4 m n ∙ (λ i. nat_cmp (mod-eq_of_lt {n = m} {m = 256 ^ 4} (omega arith) i) (mod-eq_of_lt {n = n} {m = 256 ^ 4} (omega arith) i))
 
 size_length : (m n : ℕ) → length (four_bytes m) ≡ length (four_bytes n)
 unfolding four_bytes
@@ -26,7 +27,8 @@ size_length m n = length_high_first 4 m ∙ sym (length_high_first 4 n)
 -- the sizes decide, and else what stands behind them
 sized : (m n : ℕ) (xs ys : List ℕ) (o q : Ordering) → m ≤ 120 → n ≤ 120 → (m ≡ n → bytes_cmp xs ys ≡ ordering_then o q) →
     bytes_cmp (four_bytes m ++ xs) (four_bytes n ++ ys) ≡ ordering_then (ordering_then (nat_cmp m n) o) q
-sized m n xs ys o q h k f = seam (four_bytes m) (four_bytes n) xs ys (size_length m n) ∙ ap (λ z. ordering_then z (bytes_cmp xs ys)) (size_cmp m n h k) ∙ by (nat_cmp m n) refl
+sized m n xs ys o q h k f =
+    seam (four_bytes m) (four_bytes n) xs ys (size_length m n) ∙ ap (λ z. ordering_then z (bytes_cmp xs ys)) (size_cmp m n h k) ∙ by (nat_cmp m n) refl
   where
     by : (r : Ordering) → r ≡ nat_cmp m n → ordering_then r (bytes_cmp xs ys) ≡ ordering_then (ordering_then r o) q
     by Less e = refl
@@ -37,7 +39,8 @@ mutual
   unfolding code_of
 
   -- The bytes of two codes compare as the terms do, and where the terms are equal what follows decides.
-  pub code_cmp : (t u : Tree) (xs ys : List ℕ) → IsNarrow t → IsNarrow u → bytes_cmp (code_of t ++ xs) (code_of u ++ ys) ≡ ordering_then (term_cmp t u) (bytes_cmp xs ys)
+  pub code_cmp : (t u : Tree) (xs ys : List ℕ) → IsNarrow t → IsNarrow u
+      → bytes_cmp (code_of t ++ xs) (code_of u ++ ys) ≡ ordering_then (term_cmp t u) (bytes_cmp xs ys)
   code_cmp (Integer m) (Integer n) xs ys h k = int_code_cmp m n xs ys (word m h) (word n k)
   code_cmp (Integer m) (Atom b) xs ys h k = int_first m 0x30 xs (escaped b ++ ys) (omega arith)
   code_cmp (Integer m) (Tuple s) xs ys h k = int_first m 0x40 xs ((four_bytes (size s) ++ row_code s) ++ ys) (omega arith)
@@ -55,17 +58,28 @@ mutual
       (sized (size r) (size s) (row_code r ++ xs) (row_code s ++ ys) (row_cmp r s) (bytes_cmp xs ys) h.0 k.0 (λ e. row_code_cmp r s xs ys e h.1 k.1))
   code_cmp Nil Nil xs ys h k = refl
   code_cmp (Cons l v) (Cons m w) xs ys h k =
-      rw (append_assoc (code_of l) (code_of v) xs, append_assoc (code_of m) (code_of w) ys, code_cmp l m (code_of v ++ xs) (code_of w ++ ys) h.0 k.0, code_cmp v w xs ys h.1 k.1)
+      rw (
+        append_assoc (code_of l) (code_of v) xs,
+        append_assoc (code_of m) (code_of w) ys,
+        code_cmp l m (code_of v ++ xs) (code_of w ++ ys) h.0 k.0,
+        code_cmp v w xs ys h.1 k.1,
+      )
       (sym (then_assoc (term_cmp l m) (term_cmp v w) (bytes_cmp xs ys)))
   code_cmp (Binary a) (Binary b) xs ys h k = escaped_cmp a b xs ys
   code_cmp t u xs ys h k = refl
 
-  row_code_cmp : (r s : Row) (xs ys : List ℕ) → size r ≡ size s → IsNarrowRow r → IsNarrowRow s → bytes_cmp (row_code r ++ xs) (row_code s ++ ys) ≡ ordering_then (row_cmp r s) (bytes_cmp xs ys)
+  row_code_cmp : (r s : Row) (xs ys : List ℕ) → size r ≡ size s → IsNarrowRow r → IsNarrowRow s
+      → bytes_cmp (row_code r ++ xs) (row_code s ++ ys) ≡ ordering_then (row_cmp r s) (bytes_cmp xs ys)
   row_code_cmp Ends Ends xs ys e h k = refl
   row_code_cmp Ends (More u s) xs ys e h k = absurd (omega arith)
   row_code_cmp (More t r) Ends xs ys e h k = absurd (omega arith)
   row_code_cmp (More t r) (More u s) xs ys e h k =
-      rw (append_assoc (code_of t) (row_code r) xs, append_assoc (code_of u) (row_code s) ys, code_cmp t u (row_code r ++ xs) (row_code s ++ ys) h.0 k.0, row_code_cmp r s xs ys (omega arith) h.1 k.1)
+      rw (
+        append_assoc (code_of t) (row_code r) xs,
+        append_assoc (code_of u) (row_code s) ys,
+        code_cmp t u (row_code r ++ xs) (row_code s ++ ys) h.0 k.0,
+        row_code_cmp r s xs ys (omega arith) h.1 k.1,
+      )
       (sym (then_assoc (term_cmp t u) (row_cmp r s) (bytes_cmp xs ys)))
 
 -- codes compare as the terms do

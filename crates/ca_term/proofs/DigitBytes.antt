@@ -30,10 +30,18 @@ each_byte (b ∷ bs) h = cons_bytes b bs h.0 (each_byte bs h.1)
 
 pub number_below : (bs : List ℕ) → AreBytes bs → number bs < 256 ^ length bs
 number_below [] h = omega arith
-number_below (b ∷ bs) h = omega (arith, pow-suc 256 (length bs), number_below bs (tail_bytes b bs h), head_byte b bs h, mul-le-mul_left {m = suc b} {n = 256} (256 ^ length bs) (omega (arith, head_byte b bs h)))
+number_below (b ∷ bs) h =
+    omega (
+      arith,
+      pow-suc 256 (length bs),
+      number_below bs (tail_bytes b bs h),
+      head_byte b bs h,
+      mul-le-mul_left {m = suc b} {n = 256} (256 ^ length bs) (omega (arith, head_byte b bs h)),
+    )
 
 same_low : (k m n : ℕ) → m % 256 ^ k ≡ n % 256 ^ k → bytes_high_first k m ≡ bytes_high_first k n
-same_low k m n e = slice_cmp-IsAntisymmetric nat_cmp-IsAntisymmetric (bytes_high_first k m) (bytes_high_first k n) (high_first_cmp k m n ∙ (rw e (same (n % 256 ^ k))))
+same_low k m n e =
+    slice_cmp-IsAntisymmetric nat_cmp-IsAntisymmetric (bytes_high_first k m) (bytes_high_first k n) (high_first_cmp k m n ∙ (rw e (same (n % 256 ^ k))))
 
 pub high_first_number : (bs : List ℕ) → AreBytes bs → bytes_high_first (length bs) (number bs) ≡ bs
 high_first_number [] h = refl
@@ -41,14 +49,17 @@ high_first_number (b ∷ bs) h =
     let k : ℕ = length bs in
     let v : ℕ = number bs in
     let l : v < 256 ^ k = number_below bs (tail_bytes b bs h) in
-    let first : byte_at k (b * 256 ^ k + v) ≡ b = byte_is k (b * 256 ^ k + v) ∙ ap (λ n. n % 256) (div-mul-add b (256 ^ k) v l) ∙ mod-eq_of_lt (head_byte b bs h) in
-    let rest : bytes_high_first k (b * 256 ^ k + v) ≡ bs = same_low k (b * 256 ^ k + v) v (mod-mul-add b (256 ^ k) v l ∙ sym (mod-eq_of_lt l)) ∙ high_first_number bs (tail_bytes b bs h) in
+    let first : byte_at k (b * 256 ^ k + v) ≡ b =
+    byte_is k (b * 256 ^ k + v) ∙ ap (λ n. n % 256) (div-mul-add b (256 ^ k) v l) ∙ mod-eq_of_lt (head_byte b bs h) in
+    let rest : bytes_high_first k (b * 256 ^ k + v) ≡ bs =
+    same_low k (b * 256 ^ k + v) v (mod-mul-add b (256 ^ k) v l ∙ sym (mod-eq_of_lt l)) ∙ high_first_number bs (tail_bytes b bs h) in
     λ i. first i ∷ rest i
 
 pub digits_number : (bs : List ℕ) → AreDigits bs → digits (number bs) ≡ bs
 digits_number [] h = digits_zero
 digits_number (b ∷ bs) h =
-    digits_of (length bs) (number (b ∷ bs)) (omega (arith, h.1)) (omega (arith, mul-le-mul_left {m = 1} {n = b} (256 ^ length bs) h.0)) (number_below (b ∷ bs) h.3) ∙ high_first_number (b ∷ bs) h.3
+    digits_of (length bs) (number (b ∷ bs)) (omega (arith, h.1)) (omega (arith, mul-le-mul_left {m = 1} {n = b} (256 ^ length bs) h.0))
+    (number_below (b ∷ bs) h.3) ∙ high_first_number (b ∷ bs) h.3
 
 seven_more : (b k v : ℕ) → k ≡ 7 → b < 128 → v < 256 ^ k → b * 256 ^ k + v < 2 ^ 63
 seven_more b k v e h l =
@@ -73,5 +84,10 @@ are_digits (suc m) h =
     let c = byte_count (suc m) (omega arith) (omega arith) in
     let k : ℕ = c.0 in
     let n : ℕ = suc m in
-    let d : AreDigits (byte_at k n ∷ bytes_high_first k n) = (top_byte k n c.2.low c.2.high, omega (arith, length_high_first k n, c.1), (λ e. top_of_eight k n h (omega (arith, length_high_first k n))), each_byte (bytes_high_first (suc k) n) (high_bytes (suc k) n)) in
+    let d : AreDigits (byte_at k n ∷ bytes_high_first k n) = (
+      top_byte k n c.2.low c.2.high,
+      omega (arith, length_high_first k n, c.1),
+      (λ e. top_of_eight k n h (omega (arith, length_high_first k n))),
+      each_byte (bytes_high_first (suc k) n) (high_bytes (suc k) n),
+    ) in
     subst AreDigits (sym (digits_of k n c.1 c.2.low c.2.high)) d

@@ -62,7 +62,9 @@ trim_keeps (suc k) j n l h b = ⊎_elim
 
 trim_none : (k : ℕ) → trim (bytes_high_first k 0) ≡ []
 trim_none zero = trim_nil
-trim_none (suc k) = trim_at_zero (byte_at k 0) (bytes_high_first k 0) (no_top_byte k 0 (let p : 1 ≤ 256 ^ k = pow-le-pow_right {n = 256} (omega arith) {i = 0} {j = k} (omega arith) in omega arith)) ∙ trim_none k
+trim_none (suc k) =
+    trim_at_zero (byte_at k 0) (bytes_high_first k 0)
+    (no_top_byte k 0 (let p : 1 ≤ 256 ^ k = pow-le-pow_right {n = 256} (omega arith) {i = 0} {j = k} (omega arith) in omega arith)) ∙ trim_none k
 
 -- a number of j + 1 bytes has these digits
 pub digits_of : (j n : ℕ) → j < 8 → 256 ^ j ≤ n → n < 256 ^ suc j → digits n ≡ bytes_high_first (suc j) n

@@ -30,7 +30,8 @@ escaped_cmp (suc x ∷ a) [] xs ys = rw (escaped_nil, escaped_suc x a) (head_gre
 escaped_cmp (zero ∷ a) (zero ∷ b) xs ys = rw (escaped_zero a, escaped_zero b) (escaped_cmp a b xs ys)
 escaped_cmp (zero ∷ a) (suc y ∷ b) xs ys = rw (escaped_zero a, escaped_suc y b, less 0 (suc y) (omega arith))
 escaped_cmp (suc x ∷ a) (zero ∷ b) xs ys = rw (escaped_suc x a, escaped_zero b, greater (suc x) 0 (omega arith))
-escaped_cmp (suc x ∷ a) (suc y ∷ b) xs ys = rw (escaped_suc x a, escaped_suc y b, escaped_cmp a b xs ys) (sym (then_assoc (nat_cmp (suc x) (suc y)) (bytes_cmp a b) (bytes_cmp xs ys)))
+escaped_cmp (suc x ∷ a) (suc y ∷ b) xs ys =
+    rw (escaped_suc x a, escaped_suc y b, escaped_cmp a b xs ys) (sym (then_assoc (nat_cmp (suc x) (suc y)) (bytes_cmp a b) (bytes_cmp xs ys)))
 
 -- what begins with two escaped texts begins with one and goes on alike
 pub same_escaped : (a b xs ys : List ℕ) → escaped a ++ xs ≡ escaped b ++ ys → (a ≡ b) × (xs ≡ ys)

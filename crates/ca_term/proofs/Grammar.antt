@@ -26,14 +26,16 @@ mutual
   code_within (Atom text) (suc l) d h = AnAtom l text h.0 h.1
   code_within (Tuple row) (suc l) d h = ATuple l (size row) (row_code row) h.0 (codes_within row l (omega arith) h.1)
   code_within Nil (suc l) d h = ANil l
-  code_within (Cons head tail) (suc l) d h = ACons l (code_of head) (code_of tail) (code_within head l (omega arith) h.0) (code_within tail (suc l) (omega arith) h.1)
+  code_within (Cons head tail) (suc l) d h =
+      ACons l (code_of head) (code_of tail) (code_within head l (omega arith) h.0) (code_within tail (suc l) (omega arith) h.1)
   code_within (Binary bytes) (suc l) d h = ABinary l bytes h
 
   codes_within : (r : Row) (levels : ℕ) → row_depth r ≤ levels → IsNarrowRow r → AreCodesWithin levels (size r) (row_code r)
   codes_within Ends l d h = NoCode l
   codes_within (More t r) l d h =
       let n : suc (size r) ≡ 1 + size r = omega arith in
-      subst (λ (k : ℕ). AreCodesWithin l k (code_of t ++ row_code r)) n (OneMore l (size r) (code_of t) (row_code r) (code_within t l (omega arith) h.0) (codes_within r l (omega arith) h.1))
+      subst (λ (k : ℕ). AreCodesWithin l k (code_of t ++ row_code r)) n
+      (OneMore l (size r) (code_of t) (row_code r) (code_within t l (omega arith) h.0) (codes_within r l (omega arith) h.1))
 
 signed_pos : (n : ℕ) → n < 2 ^ 63 → FitsSigned w64 (pos n)
 signed_pos n h = record { sfits = h }

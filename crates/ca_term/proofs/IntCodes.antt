@@ -37,7 +37,8 @@ pub word : (n : ℤ) → FitsSigned w64 n → IsWord n
 word (pos n) h = h.sfits
 word (negsuc m) h = h.sfits
 
-pub int_code_cmp : (m n : ℤ) (xs ys : List ℕ) → IsWord m → IsWord n → bytes_cmp (int_code m ++ xs) (int_code n ++ ys) ≡ ordering_then (int_cmp m n) (bytes_cmp xs ys)
+pub int_code_cmp : (m n : ℤ) (xs ys : List ℕ) → IsWord m → IsWord n
+    → bytes_cmp (int_code m ++ xs) (int_code n ++ ys) ≡ ordering_then (int_cmp m n) (bytes_cmp xs ys)
 unfolding int_code
 int_code_cmp (pos m) (pos n) xs ys h k =
     ⊎_elim
@@ -46,13 +47,17 @@ int_code_cmp (pos m) (pos n) xs ys h k =
     (λ t. rw (int_pos m n, t.1) (head_greater (32 + length (digits m)) (32 + length (digits n)) (digits m ++ xs) (digits n ++ ys) (omega (arith, t.0))))
     (λ t. rw (int_pos m n, t.0, same (32 + length (digits n)), ← t.1) (seam (digits m) (digits n) xs ys t.0)))
     (digits_tell m n (omega arith) (omega arith))
-int_code_cmp (pos m) (negsuc n) xs ys h k = head_greater (32 + length (digits m)) (31 - length (digits n)) (digits m ++ xs) (complement (digits n) ++ ys) (omega arith)
-int_code_cmp (negsuc m) (pos n) xs ys h k = head_less (31 - length (digits m)) (32 + length (digits n)) (complement (digits m) ++ xs) (digits n ++ ys) (omega arith)
+int_code_cmp (pos m) (negsuc n) xs ys h k =
+    head_greater (32 + length (digits m)) (31 - length (digits n)) (digits m ++ xs) (complement (digits n) ++ ys) (omega arith)
+int_code_cmp (negsuc m) (pos n) xs ys h k =
+    head_less (31 - length (digits m)) (32 + length (digits n)) (complement (digits m) ++ xs) (digits n ++ ys) (omega arith)
 int_code_cmp (negsuc m) (negsuc n) xs ys h k =
     ⊎_elim
-    (λ t. rw (int_neg m n, t.1) (head_less (31 - length (digits m)) (31 - length (digits n)) (complement (digits m) ++ xs) (complement (digits n) ++ ys) (omega (arith, t.0, digits_shorter m, digits_shorter n))))
+    (λ t. rw (int_neg m n, t.1) (head_less (31 - length (digits m)) (31 - length (digits n)) (complement (digits m) ++ xs) (complement (digits n) ++ ys)
+    (omega (arith, t.0, digits_shorter m, digits_shorter n))))
     (⊎_elim
-    (λ t. rw (int_neg m n, t.1) (head_greater (31 - length (digits m)) (31 - length (digits n)) (complement (digits m) ++ xs) (complement (digits n) ++ ys) (omega (arith, t.0, digits_shorter m, digits_shorter n))))
+    (λ t. rw (int_neg m n, t.1) (head_greater (31 - length (digits m)) (31 - length (digits n)) (complement (digits m) ++ xs) (complement (digits n) ++ ys)
+    (omega (arith, t.0, digits_shorter m, digits_shorter n))))
     (λ t. let l : length (digits m) ≡ length (digits n) = sym t.0 in
     rw (int_neg m n, l, same (31 - length (digits n)), ← t.1, ← complement_cmp (digits m) (digits n) (digits_bytes m) (digits_bytes n) l)
     (seam (complement (digits m)) (complement (digits n)) xs ys (length_complement (digits m) ∙ l ∙ sym (length_complement (digits n))))))

@@ -40,11 +40,13 @@ pub length_tuple : (row : Row) → length (code_of (Tuple row)) ≡ 5 + length (
 unfolding code_of
 length_tuple row = omega (arith, length-append (four_bytes (size row)) (row_code row), length_four (size row))
 
-pub row_code_at : (ts : List Tree) (i : ℕ) (t : Tree) → i < length ts → row_code (row_of (drop i ts)) ≡ code_of (get_or ts i t) ++ row_code (row_of (drop (i + 1) ts))
+pub row_code_at : (ts : List Tree) (i : ℕ) (t : Tree) → i < length ts
+    → row_code (row_of (drop i ts)) ≡ code_of (get_or ts i t) ++ row_code (row_of (drop (i + 1) ts))
 unfolding code_of
 row_code_at ts i t h = rw (add-one, drop-cons ts i t)
 
-pub length_row : (ts : List Tree) (i : ℕ) (t : Tree) → i < length ts → length (row_code (row_of (drop i ts))) ≡ length (code_of (get_or ts i t)) + length (row_code (row_of (drop (i + 1) ts)))
+pub length_row : (ts : List Tree) (i : ℕ) (t : Tree) → i < length ts
+    → length (row_code (row_of (drop i ts))) ≡ length (code_of (get_or ts i t)) + length (row_code (row_of (drop (i + 1) ts)))
 length_row ts i t h = ap length (row_code_at ts i t h) ∙ length-append (code_of (get_or ts i t)) (row_code (row_of (drop (i + 1) ts)))
 
 pub length_no_row : (ts : List Tree) (i : ℕ) → length ts ≤ i → length (row_code (row_of (drop i ts))) ≡ 0

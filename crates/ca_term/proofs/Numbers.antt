@@ -26,7 +26,8 @@ shifted_by c r s Greater e = let h : s < r = ranked r s Greater e in greater (c 
 weighted_by : (p a b r s : ℕ) (o : Ordering) → r < p → s < p → o ≡ nat_cmp a b → nat_cmp (a * p + r) (b * p + s) ≡ ordering_then o (nat_cmp r s)
 weighted_by p a b r s Less h k e = let l : a < b = ranked a b Less e in less (a * p + r) (b * p + s) (omega (arith, mul-le-mul_left {m = suc a} {n = b} p l))
 weighted_by p a b r s Equal h k e = let l : a ≡ b = ranked a b Equal e in rw l (shifted_by (b * p) r s (nat_cmp r s) refl)
-weighted_by p a b r s Greater h k e = let l : b < a = ranked a b Greater e in greater (a * p + r) (b * p + s) (omega (arith, mul-le-mul_left {m = suc b} {n = a} p l))
+weighted_by p a b r s Greater h k e =
+    let l : b < a = ranked a b Greater e in greater (a * p + r) (b * p + s) (omega (arith, mul-le-mul_left {m = suc b} {n = a} p l))
 
 pub weighted : (p a b r s : ℕ) → r < p → s < p → nat_cmp (a * p + r) (b * p + s) ≡ ordering_then (nat_cmp a b) (nat_cmp r s)
 weighted p a b r s h k = weighted_by p a b r s (nat_cmp a b) h k refl
@@ -40,14 +41,21 @@ byte_is zero n = grind arith
 byte_is (suc k) n = refl
 
 pub split_high : (k n : ℕ) → n % 256 ^ suc k ≡ byte_at k n * 256 ^ k + n % 256 ^ k
-split_high k n = rw (byte_is k n) (let p : 0 < 256 ^ k = base_pos k in let e : 256 ^ suc k ≡ 256 * 256 ^ k = omega (arith, pow-suc 256 k) in rw e (mod-mul n (omega arith) p))
+split_high k n =
+    rw (byte_is k n) (let p : 0 < 256 ^ k = base_pos k in let e : 256 ^ suc k ≡ 256 * 256 ^ k = omega (arith, pow-suc 256 k) in rw e
+    (mod-mul n (omega arith) p))
 
 -- the last k bytes of two numbers
 pub high_first_cmp : (k m n : ℕ) → slice_cmp nat_cmp (bytes_high_first k m) (bytes_high_first k n) ≡ nat_cmp (m % 256 ^ k) (n % 256 ^ k)
 high_first_cmp zero m n = nat_cmp_is (m % 1) (n % 1) Equal (omega arith)
 high_first_cmp (suc k) m n =
     let p : 0 < 256 ^ k = base_pos k in
-    rw (split_high k m, split_high k n, weighted (256 ^ k) (byte_at k m) (byte_at k n) (m % 256 ^ k) (n % 256 ^ k) (mod-lt m p) (mod-lt n p), high_first_cmp k m n)
+    rw (
+      split_high k m,
+      split_high k n,
+      weighted (256 ^ k) (byte_at k m) (byte_at k n) (m % 256 ^ k) (n % 256 ^ k) (mod-lt m p) (mod-lt n p),
+      high_first_cmp k m n,
+    )
 
 pub length_high_first : (k n : ℕ) → length (bytes_high_first k n) ≡ k
 length_high_first zero n = refl

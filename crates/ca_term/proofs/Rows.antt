@@ -14,7 +14,8 @@ AreTerms_push [] t all one = (one, tt)
 AreTerms_push (u ∷ ts) t all one = (all.0, AreTerms_push ts t all.1 one)
 
 -- the depth of what is left, with one item gone
-pub row_depth_drop : (ts : List Tree) (i : ℕ) (t : Tree) → i < length ts → row_depth (row_of (drop i ts)) ≡ max (depth (get_or ts i t)) (row_depth (row_of (drop (i + 1) ts)))
+pub row_depth_drop : (ts : List Tree) (i : ℕ) (t : Tree) → i < length ts
+    → row_depth (row_of (drop i ts)) ≡ max (depth (get_or ts i t)) (row_depth (row_of (drop (i + 1) ts)))
 row_depth_drop ts i t h = rw (add-one, drop-cons ts i t)
 
 pub narrow_row : (ts : List Tree) → AreTerms ts → IsNarrowRow (row_of ts)
@@ -30,7 +31,8 @@ pub row_depth_done : (ts : List Tree) (i d : ℕ) → length ts ≤ i → max d 
 row_depth_done ts i d h e = let n : drop i ts ≡ [] = drop_all i ts h in omega (arith, rw n at e)
 
 -- what two rows with more items at a place come to there
-pub row_cmp_drop : (r s : List Tree) (i : ℕ) (t u : Tree) → i < length r → i < length s → row_cmp (row_of (drop i r)) (row_of (drop i s)) ≡ ordering_then (term_cmp (get_or r i t) (get_or s i u)) (row_cmp (row_of (drop (i + 1) r)) (row_of (drop (i + 1) s)))
+pub row_cmp_drop : (r s : List Tree) (i : ℕ) (t u : Tree) → i < length r → i < length s
+    → row_cmp (row_of (drop i r)) (row_of (drop i s)) ≡ ordering_then (term_cmp (get_or r i t) (get_or s i u)) (row_cmp (row_of (drop (i + 1) r)) (row_of (drop (i + 1) s)))
 row_cmp_drop r s i t u h k = rw (add-one, drop-cons r i t, drop-cons s i u)
 
 pub same_size : (m n : ℕ) → Equal ≡ nat_cmp m n → m ≡ n
@@ -48,9 +50,12 @@ then_first Equal p h = absurd (h refl)
 then_first Greater p h = refl
 
 -- the first unequal items decide
-pub row_cmp_found : (r s : List Tree) (i : ℕ) (t u : Tree) (o : Ordering) → i < length r → i < length s → row_cmp (row_of (drop i r)) (row_of (drop i s)) ≡ row_cmp (row_of r) (row_of s) → o ≡ term_cmp (get_or r i t) (get_or s i u) → (o ≡ Equal → ⊥) → o ≡ row_cmp (row_of r) (row_of s)
+pub row_cmp_found : (r s : List Tree) (i : ℕ) (t u : Tree) (o : Ordering) → i < length r → i < length s
+    → row_cmp (row_of (drop i r)) (row_of (drop i s)) ≡ row_cmp (row_of r) (row_of s) → o ≡ term_cmp (get_or r i t) (get_or s i u) → (o ≡ Equal → ⊥)
+    → o ≡ row_cmp (row_of r) (row_of s)
 row_cmp_found r s i t u o h k e f n =
-    f ∙ sym (then_first (term_cmp (get_or r i t) (get_or s i u)) (row_cmp (row_of (drop (i + 1) r)) (row_of (drop (i + 1) s))) (λ g. n (f ∙ g))) ∙ sym (row_cmp_drop r s i t u h k) ∙ e
+    f ∙ sym (then_first (term_cmp (get_or r i t) (get_or s i u)) (row_cmp (row_of (drop (i + 1) r)) (row_of (drop (i + 1) s))) (λ g. n (f ∙ g)))
+    ∙ sym (row_cmp_drop r s i t u h k) ∙ e
 
 -- each item of a tuple has fewer nodes than the tuple, as the measure of a drop counts them
 pub items_fewer : (ts : List Tree) → most (λ k. 2 * (nodes k + 1) + 0) ts ≤ 2 * (row_nodes (row_of ts) + 1)

@@ -22,7 +22,8 @@ then_equal_second Greater p e = cc
 then_flips : (o o' p p' : Ordering) → o ≡ ordering_reverse o' → p ≡ ordering_reverse p' → ordering_then o p ≡ ordering_reverse (ordering_then o' p')
 then_flips o o' p p' e f = rw (e, f) (then_flip o' p')
 
-then_chain : (o r s p q t : Ordering) → (o ≡ Less → r ≡ Less → s ≡ Less) → (o ≡ Equal → s ≡ r) → (r ≡ Equal → s ≡ o) → (p ≡ Less → q ≡ Less → t ≡ Less) → ordering_then o p ≡ Less → ordering_then r q ≡ Less → ordering_then s t ≡ Less
+then_chain : (o r s p q t : Ordering) → (o ≡ Less → r ≡ Less → s ≡ Less) → (o ≡ Equal → s ≡ r) → (r ≡ Equal → s ≡ o) → (p ≡ Less → q ≡ Less → t ≡ Less)
+    → ordering_then o p ≡ Less → ordering_then r q ≡ Less → ordering_then s t ≡ Less
 then_chain Less Less s p q t f g h k a b = rw (f refl refl)
 then_chain Less Equal s p q t f g h k a b = rw (h refl)
 then_chain Less Greater s p q t f g h k a b = cc
@@ -35,7 +36,8 @@ mutual
   pub tree_flip : (a b : Tree) → term_cmp a b ≡ ordering_reverse (term_cmp b a)
   tree_flip (Integer m) (Integer n) = int_cmp_total.antisymm m n
   tree_flip (Atom a) (Atom b) = nat_list_cmp_total.antisymm a b
-  tree_flip (Tuple r) (Tuple s) = then_flips (nat_cmp (size r) (size s)) (nat_cmp (size s) (size r)) (row_cmp r s) (row_cmp s r) (nat_cmp_total.antisymm (size r) (size s)) (row_flip r s)
+  tree_flip (Tuple r) (Tuple s) =
+      then_flips (nat_cmp (size r) (size s)) (nat_cmp (size s) (size r)) (row_cmp r s) (row_cmp s r) (nat_cmp_total.antisymm (size r) (size s)) (row_flip r s)
   tree_flip Nil Nil = refl
   tree_flip (Cons h t) (Cons k u) = then_flips (term_cmp h k) (term_cmp k h) (term_cmp t u) (term_cmp u t) (tree_flip h k) (tree_flip t u)
   tree_flip (Binary a) (Binary b) = nat_list_cmp_total.antisymm a b
@@ -99,7 +101,8 @@ mutual
   tree_chain (Atom a) (Atom b) (Atom c) h k = nat_list_cmp_total.trans a b c h k
   tree_chain (Tuple r) (Tuple s) (Tuple t) h k =
       then_chain (nat_cmp (size r) (size s)) (nat_cmp (size s) (size t)) (nat_cmp (size r) (size t)) (row_cmp r s) (row_cmp s t) (row_cmp r t)
-      (nat_cmp_total.trans (size r) (size s) (size t)) (λ e. nat_cmp_total.congr (size r) (size s) (size t) e) (λ e. ap (nat_cmp (size r)) (sym (nat_cmp-IsAntisymmetric (size s) (size t) e))) (row_chain r s t) h k
+      (nat_cmp_total.trans (size r) (size s) (size t)) (λ e. nat_cmp_total.congr (size r) (size s) (size t) e)
+      (λ e. ap (nat_cmp (size r)) (sym (nat_cmp-IsAntisymmetric (size s) (size t) e))) (row_chain r s t) h k
   tree_chain Nil Nil Nil h k = h
   tree_chain (Cons h t) (Cons k u) (Cons l v) e f =
       then_chain (term_cmp h k) (term_cmp k l) (term_cmp h l) (term_cmp t u) (term_cmp u v) (term_cmp t v)

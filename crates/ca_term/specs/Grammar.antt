@@ -22,7 +22,8 @@ mutual
     -- -m - 1, by the bytes of m
     BelowZero : (levels : ℕ) (digits : List ℕ) → AreDigits digits → IsCodeWithin (suc levels) ((0x1f - length digits) ∷ complement digits)
     AnAtom : (levels : ℕ) (text : List ℕ) → IsUtf8 text → length (chars text) ≤ 255 → IsCodeWithin (suc levels) (0x30 ∷ escaped text)
-    ATuple : (levels size : ℕ) (elements : List ℕ) → size ≤ 120 → AreCodesWithin levels size elements → IsCodeWithin (suc levels) (0x40 ∷ four_bytes size ++ elements)
+    ATuple : (levels size : ℕ) (elements : List ℕ) → size ≤ 120 → AreCodesWithin levels size elements
+        → IsCodeWithin (suc levels) (0x40 ∷ four_bytes size ++ elements)
     ANil : (levels : ℕ) → IsCodeWithin (suc levels) (0x60 ∷ [])
     ACons : (levels : ℕ) (head tail : List ℕ) → IsCodeWithin levels head → IsCodeWithin (suc levels) tail → IsCodeWithin (suc levels) (0x70 ∷ head ++ tail)
     ABinary : (levels : ℕ) (bytes : List ℕ) → AreBytes bytes → IsCodeWithin (suc levels) (0x80 ∷ escaped bytes)
@@ -30,7 +31,8 @@ mutual
   -- so many codes, one after another
   pub data AreCodesWithin : ℕ → ℕ → List ℕ → Type 0 where
     NoCode : (levels : ℕ) → AreCodesWithin levels 0 []
-    OneMore : (levels size : ℕ) (first rest : List ℕ) → IsCodeWithin levels first → AreCodesWithin levels size rest → AreCodesWithin levels (suc size) (first ++ rest)
+    OneMore : (levels size : ℕ) (first rest : List ℕ) → IsCodeWithin levels first → AreCodesWithin levels size rest
+        → AreCodesWithin levels (suc size) (first ++ rest)
 
 -- a code
 abbrev pub IsCode : List ℕ → Type 0

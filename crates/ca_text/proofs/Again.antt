@@ -30,7 +30,8 @@ grows (d ∷ ds) radix n h =
     let one : n ≤ n * radix = omega (arith, mul-le-mul_left n h) in
     omega (arith, grows ds radix (n * radix + digit_value d) h, one)
 
-pub digits_again : (most n : ℕ) (ds rest : List ℕ) → AllDigits 10 ds → digits_value_after 10 n ds ≤ most → EndsDigits rest → digits_after most n (ds ++ rest) ≡ Ok (digits_value_after 10 n ds, rest)
+pub digits_again : (most n : ℕ) (ds rest : List ℕ) → AllDigits 10 ds → digits_value_after 10 n ds ≤ most → EndsDigits rest
+    → digits_after most n (ds ++ rest) ≡ Ok (digits_value_after 10 n ds, rest)
 unfolding digits_after
 digits_again most n [] [] all bound ends = refl
 digits_again most n [] (b ∷ rest) all bound ends = rw ends refl
@@ -41,7 +42,8 @@ digits_again most n (d ∷ ds) rest all bound ends =
     let fits : leb (n * 10 + digit_value d) most ≡ true = le-leb _ _ small in
     rw (p.0, step, fits) (digits_again most (n * 10 + digit_value d) ds rest all.1 bound ends)
 
-pub number_again : (most : ℕ) (ds rest : List ℕ) → IsNumeral 10 ds → digits_value 10 ds ≤ most → EndsDigits rest → number_at most (ds ++ rest) ≡ Ok (digits_value 10 ds, rest)
+pub number_again : (most : ℕ) (ds rest : List ℕ) → IsNumeral 10 ds → digits_value 10 ds ≤ most → EndsDigits rest
+    → number_at most (ds ++ rest) ≡ Ok (digits_value 10 ds, rest)
 unfolding number_at
 number_again most [] rest n bound ends = absurd (omega (arith, n.0))
 number_again most (d ∷ ds) rest n bound ends = rw (digit_parts d n.1.0).0 (digits_again most 0 (d ∷ ds) rest n.1 bound ends)
@@ -53,7 +55,8 @@ ends_digits c text (b ∷ rest) low digit whole = rw (low, digit) at whole
 digit_first : (d : ℕ) → digit_value d < 10 → (is_ascii_lowercase d ≡ false) × ((is_ascii_digit d || eqb d 45) ≡ true) × (eqb d 45 ≡ false)
 digit_first d h = (grind (arith, nat_tests), grind (arith, nat_tests), grind (arith, nat_tests))
 
-positive_again : (ds rest : List ℕ) → IsNumeral 10 ds → digits_value 10 ds < 2 ^ 63 → IsWhole ds rest → integer_at (ds ++ rest) ≡ Ok (pos (digits_value 10 ds), rest)
+positive_again : (ds rest : List ℕ) → IsNumeral 10 ds → digits_value 10 ds < 2 ^ 63 → IsWhole ds rest
+    → integer_at (ds ++ rest) ≡ Ok (pos (digits_value 10 ds), rest)
 unfolding integer_at
 positive_again [] rest n bound whole = absurd (omega (arith, n.0))
 positive_again (d ∷ ds) rest n bound whole =
@@ -91,7 +94,8 @@ plain_all c cs h =
     let one : is_name_char c ≡ true = grind (arith, nat_tests) in
     (t.0, rw (one, t.1) refl)
 
-pub name_again : (most c : ℕ) (cs rest : List ℕ) → has_plain_form (c ∷ cs) ≡ true → length (c ∷ cs) ≤ most → IsWhole (c ∷ cs) rest → name_at most ((c ∷ cs) ++ rest) ≡ Ok (c ∷ cs, rest)
+pub name_again : (most c : ℕ) (cs rest : List ℕ) → has_plain_form (c ∷ cs) ≡ true → length (c ∷ cs) ≤ most → IsWhole (c ∷ cs) rest
+    → name_at most ((c ∷ cs) ++ rest) ≡ Ok (c ∷ cs, rest)
 unfolding name_at
 name_again most c cs rest form few whole =
     let p = plain_all c cs form in

@@ -33,7 +33,8 @@ pub record AreHexDigits (most more c : ℕ) (bytes : List ℕ) (value : ℕ) (re
 is_hex : (b : ℕ) → is_ascii_hexdigit b ≡ true → digit_value b < 16
 is_hex b h = grind (arith, nat_tests)
 
-hex_after_taken : (bytes : List ℕ) (most more c value : ℕ) (rest : List ℕ) → hex_after most more c bytes ≡ Ok (value, rest) → AreHexDigits most more c bytes value rest
+hex_after_taken : (bytes : List ℕ) (most more c value : ℕ) (rest : List ℕ) → hex_after most more c bytes ≡ Ok (value, rest)
+    → AreHexDigits most more c bytes value rest
 unfolding hex_after
 hex_after_taken [] most more c value rest e = absurd cc
 hex_after_taken (b ∷ bytes) most more c value rest e =
@@ -53,7 +54,8 @@ hex_after_taken (b ∷ bytes) most more c value rest e =
     record { digits = []; whole = whole; all = tt; few = omega arith; value_is = p.0; point = rw p.0 at t.1 })
     (chosen (is_ascii_hexdigit b && ltb 0 more) _ _ (Ok (value, rest)) e)
 
-hex_taken : (most : ℕ) (bytes : List ℕ) (value : ℕ) (rest : List ℕ) → hex_at most bytes ≡ Ok (value, rest) → (r : AreHexDigits most 6 0 bytes value rest) × (0 < length r.digits)
+hex_taken : (most : ℕ) (bytes : List ℕ) (value : ℕ) (rest : List ℕ) → hex_at most bytes ≡ Ok (value, rest)
+    → (r : AreHexDigits most 6 0 bytes value rest) × (0 < length r.digits)
 unfolding hex_at
 hex_taken most [] value rest e = absurd cc
 hex_taken most (b ∷ bytes) value rest e =
@@ -82,7 +84,8 @@ or_fault_taken (Some d) rest bytes c after e = let p = pair_is d rest c after e 
 point_scalar : (most c : ℕ) → is_point most c ≡ true → IsScalar c
 point_scalar most c e = let t = both (leb c most) (all_scalars (c ∷ [])) e in (both _ _ t.1).0
 
-escape_taken : (close most : ℕ) (bytes : List ℕ) (c : ℕ) (rest : List ℕ) → 127 ≤ most → escape_at most bytes ≡ Ok (c, rest) → IsCharacterAt close most (92 ∷ bytes) c rest
+escape_taken : (close most : ℕ) (bytes : List ℕ) (c : ℕ) (rest : List ℕ) → 127 ≤ most → escape_at most bytes ≡ Ok (c, rest)
+    → IsCharacterAt close most (92 ∷ bytes) c rest
 unfolding escape_at
 escape_taken close most [] c rest h e = absurd cc
 escape_taken close most (b ∷ bytes) c rest h e =
@@ -95,8 +98,14 @@ escape_taken close most (b ∷ bytes) c rest h e =
     let spelled = append_assoc r.0.digits (125 ∷ []) rest in
     let whole : 92 ∷ b ∷ bytes ≡ (92 ∷ 120 ∷ 123 ∷ r.0.digits ++ 125 ∷ []) ++ rest = let w = r.0.whole in cc in
     let scalar : IsScalar (digits_value 16 r.0.digits) = rw worth (point_scalar most c r.0.point) in
-    let spells : IsCharacter close (92 ∷ 120 ∷ 123 ∷ r.0.digits ++ 125 ∷ []) (digits_value 16 r.0.digits) = Hexadecimal close r.0.digits (r.1, r.0.all) r.0.few scalar in
-    record { text = 92 ∷ 120 ∷ 123 ∷ r.0.digits ++ 125 ∷ []; whole = whole; character = subst (λ n. IsCharacter close (92 ∷ 120 ∷ 123 ∷ r.0.digits ++ 125 ∷ []) n) worth spells; point = r.0.point })
+    let spells : IsCharacter close (92 ∷ 120 ∷ 123 ∷ r.0.digits ++ 125 ∷ []) (digits_value 16 r.0.digits) =
+    Hexadecimal close r.0.digits (r.1, r.0.all) r.0.few scalar in
+    record {
+      text = 92 ∷ 120 ∷ 123 ∷ r.0.digits ++ 125 ∷ [];
+      whole = whole;
+      character = subst (λ n. IsCharacter close (92 ∷ 120 ∷ 123 ∷ r.0.digits ++ 125 ∷ []) n) worth spells;
+      point = r.0.point;
+    })
     (λ t. let o = or_fault_taken (escape_of b) bytes (b ∷ bytes) c rest t.1 in
     let whole : 92 ∷ b ∷ bytes ≡ (92 ∷ b ∷ []) ++ rest = let w = o.1 in cc in
     record { text = 92 ∷ b ∷ []; whole = whole; character = Escaped close b c o.0; point = escape_small most b c h o.0 })
@@ -108,7 +117,8 @@ unfolding encode_utf8
 first_byte c h =
     ⊎_elim (λ t. inl (ltb-true c 128 t.0, sym t.1))
     (λ t. ⊎_elim (λ u. inr (ltb-false c 128 t.0, _, _, sym u.1, omega arith))
-    (λ u. ⊎_elim (λ v. inr (ltb-false c 128 t.0, _, _, sym v.1, omega arith)) (λ v. inr (ltb-false c 128 t.0, _, _, sym v.1, omega arith)) (chosen (ltb c 65536) _ _ _ u.1))
+    (λ u. ⊎_elim (λ v. inr (ltb-false c 128 t.0, _, _, sym v.1, omega arith)) (λ v. inr (ltb-false c 128 t.0, _, _, sym v.1, omega arith))
+    (chosen (ltb c 65536) _ _ _ u.1))
     (chosen (ltb c 2048) _ _ _ t.1))
     (chosen (ltb c 128) _ _ (encode_utf8 c) refl)
 
@@ -119,7 +129,8 @@ scalar_point : (c : ℕ) → IsScalar c → is_point most_point c ≡ true
 scalar_point c h = grind (arith, nat_tests)
 
 -- a code point that begins with such a byte
-point_begins : (close most b : ℕ) (bytes : List ℕ) (c : ℕ) (rest : List ℕ) → begins_character close most b ≡ true → b ≢ 92 → close < 128 → 127 ≤ most → (128 ≤ most → most ≡ most_point)
+point_begins : (close most b : ℕ) (bytes : List ℕ) (c : ℕ) (rest : List ℕ) → begins_character close most b ≡ true → b ≢ 92 → close < 128 → 127 ≤ most
+    → (128 ≤ most → most ≡ most_point)
     → IsPointOf (b ∷ bytes) c rest → (c ≢ close) × (c ≢ 92) × (c ≢ 10) × (is_point most c ≡ true)
 point_begins close most b bytes c rest begins other small low high p =
     let parts = begins_parts close most b begins in
@@ -131,7 +142,8 @@ point_begins close most b bytes c rest begins other small low high p =
     (λ e. absurd (omega (arith, e, t.0)), λ e. absurd (omega (arith, e, t.0)), λ e. absurd (omega (arith, e, t.0)), rw most_is (scalar_point c p.scalar)))
     (first_byte c p.scalar)
 
-pub character_taken : (close most : ℕ) (bytes : List ℕ) (c : ℕ) (rest : List ℕ) → close < 128 → 127 ≤ most → (128 ≤ most → most ≡ most_point) → character_at close most bytes ≡ Ok (c, rest)
+pub character_taken : (close most : ℕ) (bytes : List ℕ) (c : ℕ) (rest : List ℕ) → close < 128 → 127 ≤ most → (128 ≤ most → most ≡ most_point)
+    → character_at close most bytes ≡ Ok (c, rest)
     → IsCharacterAt close most bytes c rest
 unfolding character_at
 character_taken close most [] c rest small low high e = absurd cc
@@ -149,7 +161,8 @@ character_taken close most (b ∷ bytes) c rest small low high e =
     (chosen (eqb b 92) _ _ (Ok (c, rest)) e)
 
 -- no code point, or one, is read at the front
-pub next_taken : (close most : ℕ) (bytes : List ℕ) (c : ℕ) (rest : List ℕ) → close < 128 → 127 ≤ most → (128 ≤ most → most ≡ most_point) → next_point_at close most bytes ≡ Ok (Some c, rest)
+pub next_taken : (close most : ℕ) (bytes : List ℕ) (c : ℕ) (rest : List ℕ) → close < 128 → 127 ≤ most → (128 ≤ most → most ≡ most_point)
+    → next_point_at close most bytes ≡ Ok (Some c, rest)
     → IsCharacterAt close most bytes c rest
 unfolding next_point_at
 next_taken close most [] c rest small low high e = absurd cc
@@ -159,7 +172,12 @@ next_taken close most (b ∷ bytes) c rest small low high e =
     let p = pair_is _ _ _ _ s.2 in
     let c_is : s.0.0 ≡ c = let q = p.0 in cc in
     let r = character_taken close most (b ∷ bytes) s.0.0 s.0.1 small low high s.1 in
-    record { text = r.text; whole = r.whole ∙ ap (λ (x : List ℕ). r.text ++ x) p.1; character = subst (λ n. IsCharacter close r.text n) c_is r.character; point = rw c_is at r.point })
+    record {
+      text = r.text;
+      whole = r.whole ∙ ap (λ (x : List ℕ). r.text ++ x) p.1;
+      character = subst (λ n. IsCharacter close r.text n) c_is r.character;
+      point = rw c_is at r.point;
+    })
     (chosen (eqb b close) _ _ (Ok (Some c, rest)) e)
 
 none_taken : (close most : ℕ) (bytes rest : List ℕ) → next_point_at close most bytes ≡ Ok (None, rest) → bytes ≡ close ∷ rest
@@ -168,7 +186,8 @@ none_taken close most [] rest e = absurd cc
 none_taken close most (b ∷ bytes) rest e =
     ⊎_elim
     (λ t. let p = pair_is _ _ _ _ t.1 in let same = eqb-true b close t.0 in let q = p.1 in cc)
-    (λ t. let s = bind_ok (character_at close most (b ∷ bytes)) (λ x. Ok (Some x.0, x.1)) (None, rest) t.1 in let p = pair_is _ _ _ _ s.2 in let q = p.0 in absurd cc)
+    (λ t. let s = bind_ok (character_at close most (b ∷ bytes)) (λ x. Ok (Some x.0, x.1))
+    (None, rest) t.1 in let p = pair_is _ _ _ _ s.2 in let q = p.0 in absurd cc)
     (chosen (eqb b close) _ _ (Ok (None, rest)) e)
 
 closing_taken : (over : Why) (close most : ℕ) (bytes rest : List ℕ) → closing_at over close most bytes ≡ Ok rest → bytes ≡ close ∷ rest
@@ -188,34 +207,57 @@ pub record AreCharactersAt (close most n : ℕ) (bytes cs rest : List ℕ) : Typ
   pub points : list_all (is_point most) cs ≡ true
   pub few : length cs ≤ n
 
-characters_next : (over : Why) (close most n : ℕ) (bytes cs rest : List ℕ) (o : Option ℕ) (after : List ℕ) → close < 128 → 127 ≤ most → (128 ≤ most → most ≡ most_point)
+characters_next : (over : Why) (close most n : ℕ) (bytes cs rest : List ℕ) (o : Option ℕ) (after : List ℕ) → close < 128 → 127 ≤ most
+    → (128 ≤ most → most ≡ most_point)
     → ((bytes cs rest : List ℕ) → characters_at over close most n bytes ≡ Ok (cs, rest) → AreCharactersAt close most n bytes cs rest)
-    → next_point_at close most bytes ≡ Ok (o, after) → points_after (characters_at over close most n) (o, after) ≡ Ok (cs, rest) → AreCharactersAt close most (suc n) bytes cs rest
+    → next_point_at close most bytes ≡ Ok (o, after) → points_after (characters_at over close most n) (o, after) ≡ Ok (cs, rest)
+    → AreCharactersAt close most (suc n) bytes cs rest
 characters_next over close most n bytes cs rest None after small low high later e f =
     let p = pair_is _ _ _ _ f in
     let c = none_taken close most bytes after e in
-    record { text = close ∷ []; whole = c ∙ ap (λ x. close ∷ x) p.1; characters = subst (λ x. AreCharacters close (close ∷ []) x) p.0 (Closed close); points = rw (← p.0) refl; few = rw (← p.0) (omega arith) }
+    record {
+      text = close ∷ [];
+      whole = c ∙ ap (λ x. close ∷ x) p.1;
+      characters = subst (λ x. AreCharacters close (close ∷ []) x) p.0 (Closed close);
+      points = rw (← p.0) refl;
+      few = rw (← p.0) (omega arith);
+    }
 characters_next over close most n bytes cs rest (Some c) after small low high later e f =
     let s = bind_ok (characters_at over close most n after) (λ y. Ok (c ∷ y.0, y.1)) (cs, rest) f in
     let p = pair_is _ _ _ _ s.2 in
     let first = next_taken close most bytes c after small low high e in
     let others = later after s.0.0 s.0.1 s.1 in
-    let whole : bytes ≡ (first.text ++ others.text) ++ rest = first.whole ∙ ap (λ x. first.text ++ x) (others.whole ∙ ap (λ x. others.text ++ x) p.1) ∙ sym (append_assoc first.text others.text rest) in
+    let whole : bytes ≡ (first.text ++ others.text) ++ rest =
+    first.whole ∙ ap (λ x. first.text ++ x) (others.whole ∙ ap (λ x. others.text ++ x) p.1) ∙ sym (append_assoc first.text others.text rest) in
     let spells : AreCharacters close (first.text ++ others.text) (c ∷ s.0.0) = OneMore close c first.text others.text s.0.0 first.character others.characters in
     let points : list_all (is_point most) (c ∷ s.0.0) ≡ true = rw (first.point, others.points) refl in
-    record { text = first.text ++ others.text; whole = whole; characters = subst (λ x. AreCharacters close (first.text ++ others.text) x) p.0 spells; points = subst (λ x. list_all (is_point most) x ≡ true) p.0 points; few = rw (← p.0) (omega (arith, others.few)) }
+    record {
+      text = first.text ++ others.text;
+      whole = whole;
+      characters = subst (λ x. AreCharacters close (first.text ++ others.text) x) p.0 spells;
+      points = subst (λ x. list_all (is_point most) x ≡ true) p.0 points;
+      few = rw (← p.0) (omega (arith, others.few));
+    }
 
-pub characters_taken : (over : Why) (close most n : ℕ) (bytes cs rest : List ℕ) → close < 128 → 127 ≤ most → (128 ≤ most → most ≡ most_point) → characters_at over close most n bytes ≡ Ok (cs, rest)
+pub characters_taken : (over : Why) (close most n : ℕ) (bytes cs rest : List ℕ) → close < 128 → 127 ≤ most → (128 ≤ most → most ≡ most_point)
+    → characters_at over close most n bytes ≡ Ok (cs, rest)
     → AreCharactersAt close most n bytes cs rest
 unfolding characters_at
 characters_taken over close most zero bytes cs rest small low high e =
     let s = bind_ok (closing_at over close most bytes) (λ rest. Ok ([], rest)) (cs, rest) e in
     let p = pair_is _ _ _ _ s.2 in
     let c = closing_taken over close most bytes s.0 s.1 in
-    record { text = close ∷ []; whole = c ∙ ap (λ x. close ∷ x) p.1; characters = subst (λ x. AreCharacters close (close ∷ []) x) p.0 (Closed close); points = rw (← p.0) refl; few = rw (← p.0) (omega arith) }
+    record {
+      text = close ∷ [];
+      whole = c ∙ ap (λ x. close ∷ x) p.1;
+      characters = subst (λ x. AreCharacters close (close ∷ []) x) p.0 (Closed close);
+      points = rw (← p.0) refl;
+      few = rw (← p.0) (omega arith);
+    }
 characters_taken over close most (suc n) bytes cs rest small low high e =
     let s = bind_ok (next_point_at close most bytes) (λ x. points_after (characters_at over close most n) x) (cs, rest) e in
-    characters_next over close most n bytes cs rest s.0.0 s.0.1 small low high (λ cs after r. characters_taken over close most n cs after r small low high) s.1 s.2
+    characters_next over close most n bytes cs rest s.0.0 s.0.1 small low high
+    (λ cs after r. characters_taken over close most n cs after r small low high) s.1 s.2
 
 -- code points are scalar values, and those of ASCII are bytes
 pub points_scalar : (most : ℕ) (cs : List ℕ) → list_all (is_point most) cs ≡ true → all_scalars cs ≡ true
@@ -224,5 +266,6 @@ points_scalar most (c ∷ cs) e = let t = both (is_point most c) (list_all (is_p
 
 pub points_low : (most : ℕ) (cs : List ℕ) (i : ℕ) → list_all (is_point most) cs ≡ true → get_or cs i 0 ≤ most
 points_low most [] i e = omega arith
-points_low most (c ∷ cs) zero e = let t = both (is_point most c) (list_all (is_point most) cs) e in leb-true c most (both (leb c most) (all_scalars (c ∷ [])) t.0).0
+points_low most (c ∷ cs) zero e =
+    let t = both (is_point most c) (list_all (is_point most) cs) e in leb-true c most (both (leb c most) (all_scalars (c ∷ [])) t.0).0
 points_low most (c ∷ cs) (suc i) e = points_low most cs i (both (is_point most c) (list_all (is_point most) cs) e).1

@@ -40,7 +40,8 @@ ascii_points (c ∷ cs) h =
 
 -- ---- binaries
 
-one_byte_again : (ds rest : List ℕ) → IsNumeral 10 ds → digits_value 10 ds ≤ 255 → EndsDigits rest → one_byte_at (ds ++ rest) ≡ Ok (digits_value 10 ds ∷ [], rest)
+one_byte_again : (ds rest : List ℕ) → IsNumeral 10 ds → digits_value 10 ds ≤ 255 → EndsDigits rest
+    → one_byte_at (ds ++ rest) ≡ Ok (digits_value 10 ds ∷ [], rest)
 one_byte_again ds rest n bound ends = rw (number_again 255 ds rest n bound ends) refl
 
 digit_quote : (d : ℕ) → digit_value d < 10 → eqb d 34 ≡ false
@@ -71,8 +72,24 @@ segment_begins _ _ (OneByte (d ∷ ds) n bound) = let s = digit_solid d n.1.0 in
 segment_begins _ _ (Shown text cs are all) = record { first = 34; others = text; is = refl; solid = refl; going = refl }
 
 segments_begin : (text bs : List ℕ) → AreSegments text bs → BeginsSegment text
-segments_begin _ _ (LastSegment text blanks bytes is are) = let b = segment_begins text bytes is in record { first = b.first; others = b.others ++ (blanks ++ 62 ∷ 62 ∷ []); is = ap (λ x. x ++ (blanks ++ 62 ∷ 62 ∷ [])) b.is; solid = b.solid; going = b.going }
-segments_begin _ _ (MoreSegments text before after rest bytes others is one two are) = let b = segment_begins text bytes is in record { first = b.first; others = b.others ++ (before ++ 44 ∷ (after ++ rest)); is = ap (λ x. x ++ (before ++ 44 ∷ (after ++ rest))) b.is; solid = b.solid; going = b.going }
+segments_begin _ _ (LastSegment text blanks bytes is are) =
+    let b = segment_begins text bytes is in
+    record {
+      first = b.first;
+      others = b.others ++ (blanks ++ 62 ∷ 62 ∷ []);
+      is = ap (λ x. x ++ (blanks ++ 62 ∷ 62 ∷ [])) b.is;
+      solid = b.solid;
+      going = b.going;
+    }
+segments_begin _ _ (MoreSegments text before after rest bytes others is one two are) =
+    let b = segment_begins text bytes is in
+    record {
+      first = b.first;
+      others = b.others ++ (before ++ 44 ∷ (after ++ rest));
+      is = ap (λ x. x ++ (before ++ 44 ∷ (after ++ rest))) b.is;
+      solid = b.solid;
+      going = b.going;
+    }
 
 -- blanks and what isn't a digit end a number
 blanks_end : (blanks : List ℕ) (c : ℕ) (rest : List ℕ) → AreBlanks blanks → is_ascii_digit c ≡ false → EndsDigits (blanks ++ c ∷ rest)
@@ -80,14 +97,16 @@ blanks_end [] c rest are h = h
 blanks_end (b ∷ blanks) c rest are h = let t = (both (is_blank b) (list_all is_blank blanks) are).0 in grind (arith, nat_tests)
 
 -- blanks and then what begins so
-skip_to : (blanks text rest : List ℕ) (first : ℕ) (others : List ℕ) → AreBlanks blanks → text ≡ first ∷ others → is_blank first ≡ false → skip (blanks ++ (text ++ rest)) ≡ text ++ rest
+skip_to : (blanks text rest : List ℕ) (first : ℕ) (others : List ℕ) → AreBlanks blanks → text ≡ first ∷ others → is_blank first ≡ false
+    → skip (blanks ++ (text ++ rest)) ≡ text ++ rest
 skip_to blanks text rest first others are is solid =
     ap (λ x. skip (blanks ++ (x ++ rest))) is ∙ skip_again blanks first (others ++ rest) are solid ∙ ap (λ x. x ++ rest) (sym is)
 
 ended_parts : (text blanks closing rest : List ℕ) → (text ++ (blanks ++ closing)) ++ rest ≡ text ++ (blanks ++ (closing ++ rest))
 ended_parts text blanks closing rest = simp append_assoc
 
-further_parts : (c : ℕ) (text before after others rest : List ℕ) → (text ++ (before ++ c ∷ (after ++ others))) ++ rest ≡ text ++ (before ++ c ∷ (after ++ (others ++ rest)))
+further_parts : (c : ℕ) (text before after others rest : List ℕ)
+    → (text ++ (before ++ c ∷ (after ++ others))) ++ rest ≡ text ++ (before ++ c ∷ (after ++ (others ++ rest)))
 further_parts c text before after others rest = simp append_assoc
 
 segments_again : (n : ℕ) (text bs rest : List ℕ) → AreSegments text bs → length text ≤ n → series_at segment_step n (text ++ rest) ≡ Ok (bs, rest)
@@ -100,9 +119,23 @@ segments_again (suc n) _ _ rest (MoreSegments text before after others bytes mor
     let tail = 44 ∷ (after ++ (others ++ rest)) in
     let read = segment_again text bytes (before ++ tail) is (blanks_end before 44 (after ++ (others ++ rest)) one refl) in
     let b = segment_begins text bytes is in
-    let short : length others ≤ n = omega (arith, few, ap (λ (x : List ℕ). length x) b.is, length-append text (before ++ 44 ∷ (after ++ others)), length-append before (44 ∷ (after ++ others)), length-append after others) in
+    let short : length others ≤ n =
+    omega (
+      arith,
+      few,
+      ap (λ (x : List ℕ). length x) b.is,
+      length-append text (before ++ 44 ∷ (after ++ others)),
+      length-append before (44 ∷ (after ++ others)),
+      length-append after others,
+    ) in
     let s = segments_begin others more are in
-    rw (further_parts 44 text before after others rest, read, skip_again before 44 (after ++ (others ++ rest)) one refl, skip_to after others rest s.first s.others two s.is s.solid, segments_again n others more rest are short) refl
+    rw (
+      further_parts 44 text before after others rest,
+      read,
+      skip_again before 44 (after ++ (others ++ rest)) one refl,
+      skip_to after others rest s.first s.others two s.is s.solid,
+      segments_again n others more rest are short,
+    ) refl
 
 -- ---- terms
 
@@ -152,15 +185,18 @@ shape_begins limits zero text t s = absurd s
 shape_begins limits (suc levels) text t s = ⊎_elim (λ o. o.begins) (λ l. ⊎_elim (λ e. bracket_begins text _ e.is) (λ c. bracket_begins text _ c.is) l) s
 
 -- a list's text behind its bracket, read
-list_empty : (element other : List ℕ → Read Tree) (blanks rest : List ℕ) → AreBlanks blanks → bracketed (list_at element other) other ((91 ∷ blanks ++ 93 ∷ []) ++ rest) ≡ Ok (Nil, rest)
+list_empty : (element other : List ℕ → Read Tree) (blanks rest : List ℕ) → AreBlanks blanks
+    → bracketed (list_at element other) other ((91 ∷ blanks ++ 93 ∷ []) ++ rest) ≡ Ok (Nil, rest)
 unfolding list_at
 list_empty element other blanks rest are = rw (append_assoc blanks (93 ∷ []) rest, skip_again blanks 93 rest are refl) refl
 
-list_from : (element other : List ℕ → Read Tree) (b : ℕ) (bytes : List ℕ) (r : Read Tree) → eqb b 93 ≡ false → cells_at element other (length (b ∷ bytes)) (b ∷ bytes) ≡ r → list_at element other (b ∷ bytes) ≡ r
+list_from : (element other : List ℕ → Read Tree) (b : ℕ) (bytes : List ℕ) (r : Read Tree) → eqb b 93 ≡ false
+    → cells_at element other (length (b ∷ bytes)) (b ∷ bytes) ≡ r → list_at element other (b ∷ bytes) ≡ r
 unfolding list_at
 list_from element other b bytes r going e = rw going e
 
-shape_reads : (limits : Limits) (levels : ℕ) (text : List ℕ) (t : Tree) (rest : List ℕ) → Shape limits levels text t → IsWhole text rest → term_at limits levels (text ++ rest) ≡ Ok (t, rest)
+shape_reads : (limits : Limits) (levels : ℕ) (text : List ℕ) (t : Tree) (rest : List ℕ) → Shape limits levels text t → IsWhole text rest
+    → term_at limits levels (text ++ rest) ≡ Ok (t, rest)
 unfolding term_at
 shape_reads limits zero text t rest s whole = absurd s
 shape_reads limits (suc levels) text t rest s whole =
@@ -172,11 +208,15 @@ shape_reads limits (suc levels) text t rest s whole =
     (λ l. ⊎_elim
     (λ e. ap (λ x. bracketed list other (x ++ rest)) e.is ∙ list_empty (term_at limits levels) other e.blanks rest e.are ∙ ap (λ x. Ok (x, rest)) (sym e.nil))
     (λ c. let begins = c.begins in
-    let front : skip ((c.blanks ++ c.cells) ++ rest) ≡ begins.first ∷ (begins.others ++ rest) = ap skip (append_assoc c.blanks c.cells rest) ∙ skip_to c.blanks c.cells rest begins.first begins.others c.are begins.is begins.solid ∙ ap (λ x. x ++ rest) begins.is in
-    let many : length c.cells ≤ length (begins.first ∷ (begins.others ++ rest)) = omega (arith, ap (λ (x : List ℕ). length x) begins.is, length-append begins.others rest) in
+    let front : skip ((c.blanks ++ c.cells) ++ rest) ≡ begins.first ∷ (begins.others ++ rest) =
+    ap skip (append_assoc c.blanks c.cells rest) ∙ skip_to c.blanks c.cells rest begins.first begins.others c.are begins.is begins.solid
+    ∙ ap (λ x. x ++ rest) begins.is in
+    let many : length c.cells ≤ length (begins.first ∷ (begins.others ++ rest)) =
+    omega (arith, ap (λ (x : List ℕ). length x) begins.is, length-append begins.others rest) in
     let read : cells_at (term_at limits levels) other (length (begins.first ∷ (begins.others ++ rest))) (begins.first ∷ (begins.others ++ rest)) ≡ Ok (t, rest)
     = ap (λ x. cells_at (term_at limits levels) other (length (begins.first ∷ (begins.others ++ rest))) (x ++ rest)) (sym begins.is) ∙ c.reads _ many rest in
-    ap (λ x. bracketed list other (x ++ rest)) c.is ∙ ap list front ∙ list_from (term_at limits levels) other begins.first (begins.others ++ rest) (Ok (t, rest)) begins.no_bracket read)
+    ap (λ x. bracketed list other (x ++ rest)) c.is ∙ ap list front
+    ∙ list_from (term_at limits levels) other begins.first (begins.others ++ rest) (Ok (t, rest)) begins.no_bracket read)
     l)
     s
 
@@ -201,7 +241,8 @@ pub record TailReads (limits : Limits) (levels : ℕ) (k : ℕ) (bytes : List �
 closed_reads : (t : Tree) (blanks rest : List ℕ) → AreBlanks blanks → closed (Ok (t, blanks ++ 93 ∷ rest)) ≡ Ok (Last t rest)
 closed_reads t blanks rest are = rw (skip_again blanks 93 rest are refl, expect_again 93 rest) refl
 
-other_tail : (limits : Limits) (levels k : ℕ) (text : List ℕ) (t : Tree) (blanks rest : List ℕ) → AreBlanks blanks → OtherShape limits levels text t → TailReads limits levels k (text ++ (blanks ++ 93 ∷ rest)) t rest
+other_tail : (limits : Limits) (levels k : ℕ) (text : List ℕ) (t : Tree) (blanks rest : List ℕ) → AreBlanks blanks → OtherShape limits levels text t
+    → TailReads limits levels k (text ++ (blanks ++ 93 ∷ rest)) t rest
 unfolding tail_at
 other_tail limits levels k text t blanks rest are o =
     let other = others_of limits levels in
@@ -210,47 +251,58 @@ other_tail limits levels k text t blanks rest are o =
     let step : tail_at other (o.begins.first ∷ (o.begins.others ++ behind)) ≡ closed (other (o.begins.first ∷ (o.begins.others ++ behind))) = rw o.apart refl in
     record {
       next = Last t rest;
-      found = ap (λ x. tail_at other (x ++ behind)) o.begins.is ∙ step ∙ ap (λ x. closed (other (x ++ behind))) (sym o.begins.is) ∙ ap closed read ∙ closed_reads t blanks rest are;
+      found = ap (λ x. tail_at other (x ++ behind)) o.begins.is ∙ step ∙ ap (λ x. closed (other (x ++ behind))) (sym o.begins.is) ∙ ap closed read
+          ∙ closed_reads t blanks rest are;
       reads = λ head. refl;
     }
 
-empty_tail : (limits : Limits) (levels k : ℕ) (text : List ℕ) (t : Tree) (blanks rest : List ℕ) → AreBlanks blanks → EmptyShape text t → TailReads limits levels k (text ++ (blanks ++ 93 ∷ rest)) t rest
+empty_tail : (limits : Limits) (levels k : ℕ) (text : List ℕ) (t : Tree) (blanks rest : List ℕ) → AreBlanks blanks → EmptyShape text t
+    → TailReads limits levels k (text ++ (blanks ++ 93 ∷ rest)) t rest
 unfolding tail_at
 empty_tail limits levels k text t blanks rest are e =
     let other = others_of limits levels in
     let behind = blanks ++ 93 ∷ rest in
-    let front : skip ((e.blanks ++ 93 ∷ []) ++ behind) ≡ 93 ∷ behind = ap skip (append_assoc e.blanks (93 ∷ []) behind) ∙ skip_again e.blanks 93 behind e.are refl in
+    let front : skip ((e.blanks ++ 93 ∷ []) ++ behind) ≡ 93 ∷ behind =
+    ap skip (append_assoc e.blanks (93 ∷ []) behind) ∙ skip_again e.blanks 93 behind e.are refl in
     let step : tail_at other ((91 ∷ e.blanks ++ 93 ∷ []) ++ behind) ≡ Ok (Last Nil rest) = ap inner_at front ∙ closed_reads Nil blanks rest are in
     record { next = Last Nil rest; found = ap (λ x. tail_at other (x ++ behind)) e.is ∙ step; reads = λ head. ap (λ x. Ok (Cons head x, rest)) (sym e.nil) }
 
 inner_from : (b : ℕ) (bytes : List ℕ) → eqb b 93 ≡ false → inner_at (b ∷ bytes) ≡ Ok (Inner (b ∷ bytes))
 inner_from b bytes h = rw h refl
 
-cells_tail : (limits : Limits) (levels k : ℕ) (text : List ℕ) (t : Tree) (blanks rest : List ℕ) → AreBlanks blanks → length text ≤ k → CellsShape limits levels text t → TailReads limits levels k (text ++ (blanks ++ 93 ∷ rest)) t rest
+cells_tail : (limits : Limits) (levels k : ℕ) (text : List ℕ) (t : Tree) (blanks rest : List ℕ) → AreBlanks blanks → length text ≤ k
+    → CellsShape limits levels text t → TailReads limits levels k (text ++ (blanks ++ 93 ∷ rest)) t rest
 unfolding tail_at
 cells_tail limits levels k text t blanks rest are few c =
     let other = others_of limits levels in
     let behind = blanks ++ 93 ∷ rest in
     let begins = c.begins in
-    let front : skip ((c.blanks ++ c.cells) ++ behind) ≡ begins.first ∷ (begins.others ++ behind) = ap skip (append_assoc c.blanks c.cells behind) ∙ skip_to c.blanks c.cells behind begins.first begins.others c.are begins.is begins.solid ∙ ap (λ x. x ++ behind) begins.is in
-    let step : tail_at other ((91 ∷ c.blanks ++ c.cells) ++ behind) ≡ Ok (Inner (begins.first ∷ (begins.others ++ behind))) = ap inner_at front ∙ inner_from begins.first (begins.others ++ behind) begins.no_bracket in
+    let front : skip ((c.blanks ++ c.cells) ++ behind) ≡ begins.first ∷ (begins.others ++ behind) =
+    ap skip (append_assoc c.blanks c.cells behind) ∙ skip_to c.blanks c.cells behind begins.first begins.others c.are begins.is begins.solid
+    ∙ ap (λ x. x ++ behind) begins.is in
+    let step : tail_at other ((91 ∷ c.blanks ++ c.cells) ++ behind) ≡ Ok (Inner (begins.first ∷ (begins.others ++ behind))) =
+    ap inner_at front ∙ inner_from begins.first (begins.others ++ behind) begins.no_bracket in
     let short : length c.cells ≤ k = omega (arith, few, ap (λ (x : List ℕ). length x) c.is, length-append c.blanks c.cells) in
-    let read : cells_at (term_at limits levels) other k (begins.first ∷ (begins.others ++ behind)) ≡ Ok (t, behind) = ap (λ x. cells_at (term_at limits levels) other k (x ++ behind)) (sym begins.is) ∙ c.reads k short behind in
+    let read : cells_at (term_at limits levels) other k (begins.first ∷ (begins.others ++ behind)) ≡ Ok (t, behind) =
+    ap (λ x. cells_at (term_at limits levels) other k (x ++ behind)) (sym begins.is) ∙ c.reads k short behind in
     record {
       next = Inner (begins.first ∷ (begins.others ++ behind));
       found = ap (λ x. tail_at other (x ++ behind)) c.is ∙ step;
       reads = λ head. rw (read, skip_again blanks 93 rest are refl, expect_again 93 rest) refl;
     }
 
-tail_reads : (limits : Limits) (levels k : ℕ) (text : List ℕ) (t : Tree) (blanks rest : List ℕ) → AreBlanks blanks → length text ≤ k → Shape limits (suc levels) text t → TailReads limits levels k (text ++ (blanks ++ 93 ∷ rest)) t rest
+tail_reads : (limits : Limits) (levels k : ℕ) (text : List ℕ) (t : Tree) (blanks rest : List ℕ) → AreBlanks blanks → length text ≤ k
+    → Shape limits (suc levels) text t → TailReads limits levels k (text ++ (blanks ++ 93 ∷ rest)) t rest
 tail_reads limits levels k text t blanks rest are few s =
-    ⊎_elim (other_tail limits levels k text t blanks rest are) (λ l. ⊎_elim (empty_tail limits levels k text t blanks rest are) (cells_tail limits levels k text t blanks rest are few) l) s
+    ⊎_elim (other_tail limits levels k text t blanks rest are)
+    (λ l. ⊎_elim (empty_tail limits levels k text t blanks rest are) (cells_tail limits levels k text t blanks rest are few) l) s
 
 digit_apart : (d : ℕ) → digit_value d < 10 → (is_blank d ≡ false) × (eqb d 125 ≡ false) × (eqb d 93 ≡ false) × (eqb d 91 ≡ false)
 digit_apart d h = (grind (arith, nat_tests), grind (arith, nat_tests), grind (arith, nat_tests), grind (arith, nat_tests))
 
 -- a digit begins an integer and no other term
-digit_other : (limits : Limits) (element : List ℕ → Read Tree) (levels d : ℕ) (bytes : List ℕ) → digit_value d < 10 → other_at limits element levels (d ∷ bytes) ≡ integer_term_at (d ∷ bytes)
+digit_other : (limits : Limits) (element : List ℕ → Read Tree) (levels d : ℕ) (bytes : List ℕ) → digit_value d < 10
+    → other_at limits element levels (d ∷ bytes) ≡ integer_term_at (d ∷ bytes)
 unfolding other_at
 digit_other limits element levels d bytes h =
     let a : eqb d 123 ≡ false = grind (arith, nat_tests) in
@@ -263,7 +315,8 @@ digit_other limits element levels d bytes h =
 integer_term_again : (text : List ℕ) (n : ℤ) (rest : List ℕ) → IsInteger text n → IsWhole text rest → integer_term_at (text ++ rest) ≡ Ok (Integer n, rest)
 integer_term_again text n rest is whole = rw (integer_again text n rest is whole) refl
 
-minus_other : (limits : Limits) (element : List ℕ → Read Tree) (levels : ℕ) (bytes : List ℕ) → other_at limits element levels (45 ∷ bytes) ≡ integer_term_at (45 ∷ bytes)
+minus_other : (limits : Limits) (element : List ℕ → Read Tree) (levels : ℕ) (bytes : List ℕ)
+    → other_at limits element levels (45 ∷ bytes) ≡ integer_term_at (45 ∷ bytes)
 unfolding other_at
 minus_other limits element levels bytes = refl
 
@@ -274,19 +327,22 @@ integer_shape limits levels _ _ (FromZero (d ∷ ds) n bound) =
     record {
       begins = record { first = d; others = ds; is = refl; solid = a.0; no_brace = a.1; no_bracket = a.2 };
       apart = a.3;
-      reads = λ rest whole. digit_other limits (term_at limits levels) levels d (ds ++ rest) n.1.0 ∙ integer_term_again (d ∷ ds) (pos (digits_value 10 (d ∷ ds))) rest (FromZero (d ∷ ds) n bound) whole;
+      reads = λ rest whole. digit_other limits (term_at limits levels) levels d (ds ++ rest) n.1.0
+          ∙ integer_term_again (d ∷ ds) (pos (digits_value 10 (d ∷ ds))) rest (FromZero (d ∷ ds) n bound) whole;
     }
 integer_shape limits levels _ _ (Negative ds n bound) =
     record {
       begins = record { first = 45; others = ds; is = refl; solid = refl; no_brace = refl; no_bracket = refl };
       apart = refl;
-      reads = λ rest whole. minus_other limits (term_at limits levels) levels (ds ++ rest) ∙ integer_term_again (45 ∷ ds) (neg_ℤ (pos (digits_value 10 ds))) rest (Negative ds n bound) whole;
+      reads = λ rest whole. minus_other limits (term_at limits levels) levels (ds ++ rest)
+          ∙ integer_term_again (45 ∷ ds) (neg_ℤ (pos (digits_value 10 ds))) rest (Negative ds n bound) whole;
     }
 
 letter_apart : (c : ℕ) → is_ascii_lowercase c ≡ true → (is_blank c ≡ false) × (eqb c 125 ≡ false) × (eqb c 93 ≡ false) × (eqb c 91 ≡ false)
 letter_apart c h = (grind (arith, nat_tests), grind (arith, nat_tests), grind (arith, nat_tests), grind (arith, nat_tests))
 
-letter_other : (limits : Limits) (element : List ℕ → Read Tree) (levels c : ℕ) (bytes : List ℕ) → is_ascii_lowercase c ≡ true → other_at limits element levels (c ∷ bytes) ≡ atom_at limits.characters (c ∷ bytes)
+letter_other : (limits : Limits) (element : List ℕ → Read Tree) (levels c : ℕ) (bytes : List ℕ) → is_ascii_lowercase c ≡ true
+    → other_at limits element levels (c ∷ bytes) ≡ atom_at limits.characters (c ∷ bytes)
 unfolding other_at
 letter_other limits element levels d bytes h =
     let a : eqb d 123 ≡ false = grind (arith, nat_tests) in
@@ -295,12 +351,15 @@ letter_other limits element levels d bytes h =
     let e : eqb d 60 ≡ false = grind (arith, nat_tests) in
     rw (a, b, c, e, h) refl
 
-quoted_other : (limits : Limits) (element : List ℕ → Read Tree) (levels : ℕ) (bytes : List ℕ) → other_at limits element levels (39 ∷ bytes) ≡ quoted_at limits.characters bytes
+quoted_other : (limits : Limits) (element : List ℕ → Read Tree) (levels : ℕ) (bytes : List ℕ)
+    → other_at limits element levels (39 ∷ bytes) ≡ quoted_at limits.characters bytes
 unfolding other_at
 quoted_other limits element levels bytes = refl
 
-quoted_again : (most : ℕ) (text cs rest : List ℕ) → AreCharacters 39 text cs → length cs ≤ most → quoted_at most (text ++ rest) ≡ Ok (Atom (encode_utf8_all cs), rest)
-quoted_again most text cs rest are few = rw (characters_again _ 39 most_point most text cs rest (omega arith) (λ e. absurd (omega (arith, e))) are (characters_points 39 text cs are) few) refl
+quoted_again : (most : ℕ) (text cs rest : List ℕ) → AreCharacters 39 text cs → length cs ≤ most
+    → quoted_at most (text ++ rest) ≡ Ok (Atom (encode_utf8_all cs), rest)
+quoted_again most text cs rest are few =
+    rw (characters_again _ 39 most_point most text cs rest (omega arith) (λ e. absurd (omega (arith, e))) are (characters_points 39 text cs are) few) refl
 
 atom_shape : (limits : Limits) (levels : ℕ) (text name : List ℕ) → IsAtom limits text name → OtherShape limits levels text (Atom name)
 atom_shape _ levels _ _ (Plain limits [] form few) = absurd cc
@@ -310,7 +369,8 @@ atom_shape _ levels _ _ (Plain limits (c ∷ cs) form few) =
     record {
       begins = record { first = c; others = cs; is = refl; solid = a.0; no_brace = a.1; no_bracket = a.2 };
       apart = a.3;
-      reads = λ rest whole. letter_other limits (term_at limits levels) levels c (cs ++ rest) letter ∙ rw (name_again limits.characters c cs rest form few whole) refl;
+      reads = λ rest whole. letter_other limits (term_at limits levels) levels c (cs ++ rest) letter
+          ∙ rw (name_again limits.characters c cs rest form few whole) refl;
     }
 atom_shape _ levels _ _ (Quoted limits text cs are few) =
     record {
@@ -319,11 +379,13 @@ atom_shape _ levels _ _ (Quoted limits text cs are few) =
       reads = λ rest whole. quoted_other limits (term_at limits levels) levels (text ++ rest) ∙ quoted_again limits.characters text cs rest are few;
     }
 
-tuple_other : (limits : Limits) (element : List ℕ → Read Tree) (levels : ℕ) (bytes : List ℕ) → other_at limits element levels (123 ∷ bytes) ≡ tuple_at element limits.elements (skip bytes)
+tuple_other : (limits : Limits) (element : List ℕ → Read Tree) (levels : ℕ) (bytes : List ℕ)
+    → other_at limits element levels (123 ∷ bytes) ≡ tuple_at element limits.elements (skip bytes)
 unfolding other_at
 tuple_other limits element levels bytes = refl
 
-string_other : (limits : Limits) (element : List ℕ → Read Tree) (levels : ℕ) (bytes : List ℕ) → other_at limits element levels (34 ∷ bytes) ≡ points_at levels bytes
+string_other : (limits : Limits) (element : List ℕ → Read Tree) (levels : ℕ) (bytes : List ℕ)
+    → other_at limits element levels (34 ∷ bytes) ≡ points_at levels bytes
 unfolding other_at
 string_other limits element levels bytes = refl
 
@@ -331,7 +393,8 @@ binary_other : (limits : Limits) (element : List ℕ → Read Tree) (levels : �
 unfolding other_at
 binary_other limits element levels bytes = refl
 
-empty_tuple : (element : List ℕ → Read Tree) (most : ℕ) (blanks rest : List ℕ) → AreBlanks blanks → tuple_at element most (skip ((blanks ++ 125 ∷ []) ++ rest)) ≡ Ok (Tuple Ends, rest)
+empty_tuple : (element : List ℕ → Read Tree) (most : ℕ) (blanks rest : List ℕ) → AreBlanks blanks
+    → tuple_at element most (skip ((blanks ++ 125 ∷ []) ++ rest)) ≡ Ok (Tuple Ends, rest)
 unfolding elements_at
 empty_tuple element most blanks rest are = rw (append_assoc blanks (125 ∷ []) rest, skip_again blanks 125 rest are refl) refl
 
@@ -339,31 +402,45 @@ row_back : (row : Row) → row_of (elements row) ≡ row
 row_back Ends = refl
 row_back (More t row) = ap (λ x. More t x) (row_back row)
 
-elements_from : (element : List ℕ → Read Tree) (most b : ℕ) (bytes : List ℕ) → eqb b 125 ≡ false → elements_at element most (b ∷ bytes) ≡ series_at (element_step element) most (b ∷ bytes)
+elements_from : (element : List ℕ → Read Tree) (most b : ℕ) (bytes : List ℕ) → eqb b 125 ≡ false
+    → elements_at element most (b ∷ bytes) ≡ series_at (element_step element) most (b ∷ bytes)
 unfolding elements_at
 elements_from element most b bytes h = rw h refl
 
-full_tuple : (element : List ℕ → Read Tree) (most : ℕ) (blanks inner rest : List ℕ) (row : Row) → AreBlanks blanks → Begins inner → series_at (element_step element) most (inner ++ rest) ≡ Ok (elements row, rest)
+full_tuple : (element : List ℕ → Read Tree) (most : ℕ) (blanks inner rest : List ℕ) (row : Row) → AreBlanks blanks → Begins inner
+    → series_at (element_step element) most (inner ++ rest) ≡ Ok (elements row, rest)
     → tuple_at element most (skip ((blanks ++ inner) ++ rest)) ≡ Ok (Tuple row, rest)
 full_tuple element most blanks inner rest row are b read =
-    let front : skip ((blanks ++ inner) ++ rest) ≡ inner ++ rest = ap skip (append_assoc blanks inner rest) ∙ skip_to blanks inner rest b.first b.others are b.is b.solid in
-    let step : elements_at element most (inner ++ rest) ≡ Ok (elements row, rest) = ap (λ x. elements_at element most (x ++ rest)) b.is ∙ elements_from element most b.first (b.others ++ rest) b.no_brace ∙ ap (λ x. series_at (element_step element) most (x ++ rest)) (sym b.is) ∙ read in
+    let front : skip ((blanks ++ inner) ++ rest) ≡ inner ++ rest =
+    ap skip (append_assoc blanks inner rest) ∙ skip_to blanks inner rest b.first b.others are b.is b.solid in
+    let step : elements_at element most (inner ++ rest) ≡ Ok (elements row, rest) =
+    ap (λ x. elements_at element most (x ++ rest)) b.is ∙ elements_from element most b.first (b.others ++ rest) b.no_brace
+    ∙ ap (λ x. series_at (element_step element) most (x ++ rest)) (sym b.is) ∙ read in
     rw (front, step, row_back row) refl
 
 no_string : (levels : ℕ) (rest : List ℕ) → points_at levels (34 ∷ rest) ≡ Ok (Nil, rest)
 unfolding points_at
 no_string zero rest = refl
-no_string (suc levels) rest = rw (characters_again _ 34 most_point (length (34 ∷ rest)) (34 ∷ []) [] rest (omega arith) (λ e. absurd (omega (arith, e))) (Closed 34) refl (omega arith)) refl
+no_string (suc levels) rest =
+    rw (characters_again _ 34 most_point (length (34 ∷ rest)) (34 ∷ []) [] rest (omega arith) (λ e. absurd (omega (arith, e)))
+    (Closed 34) refl (omega arith)) refl
 
 some_string : (levels : ℕ) (text cs rest : List ℕ) → AreCharacters 34 text cs → points_at (suc levels) (text ++ rest) ≡ Ok (points cs, rest)
 unfolding points_at
 some_string levels text cs rest are =
-    rw (characters_again _ 34 most_point (length (text ++ rest)) text cs rest (omega arith) (λ e. absurd (omega (arith, e))) are (characters_points 34 text cs are)
+    rw (characters_again _ 34 most_point (length (text ++ rest)) text cs rest (omega arith) (λ e. absurd (omega (arith, e))) are
+    (characters_points 34 text cs are)
     (omega (arith, length-append text rest, characters_few 34 text cs (λ e. absurd (omega (arith, e))) (omega arith) are))) refl
 
 no_bytes : (blanks rest : List ℕ) → AreBlanks blanks → binary_at (60 ∷ ((blanks ++ 62 ∷ 62 ∷ []) ++ rest)) ≡ Ok (Binary [], rest)
 unfolding bytes_at
-no_bytes blanks rest are = rw (expect_again 60 ((blanks ++ 62 ∷ 62 ∷ []) ++ rest), append_assoc blanks (62 ∷ 62 ∷ []) rest, skip_again blanks 62 (62 ∷ rest) are refl, expect_again 62 rest) refl
+no_bytes blanks rest are =
+    rw (
+      expect_again 60 ((blanks ++ 62 ∷ 62 ∷ []) ++ rest),
+      append_assoc blanks (62 ∷ 62 ∷ []) rest,
+      skip_again blanks 62 (62 ∷ rest) are refl,
+      expect_again 62 rest,
+    ) refl
 
 bytes_from : (b : ℕ) (bytes : List ℕ) → eqb b 62 ≡ false → bytes_at (b ∷ bytes) ≡ series_at segment_step (length (b ∷ bytes)) (b ∷ bytes)
 unfolding bytes_at
@@ -372,10 +449,13 @@ bytes_from b bytes h = rw h refl
 some_bytes : (blanks inner bs rest : List ℕ) → AreBlanks blanks → AreSegments inner bs → binary_at (60 ∷ ((blanks ++ inner) ++ rest)) ≡ Ok (Binary bs, rest)
 some_bytes blanks inner bs rest are is =
     let b = segments_begin inner bs is in
-    let front : skip ((blanks ++ inner) ++ rest) ≡ b.first ∷ (b.others ++ rest) = ap skip (append_assoc blanks inner rest) ∙ skip_to blanks inner rest b.first b.others are b.is b.solid ∙ ap (λ x. x ++ rest) b.is in
+    let front : skip ((blanks ++ inner) ++ rest) ≡ b.first ∷ (b.others ++ rest) =
+    ap skip (append_assoc blanks inner rest) ∙ skip_to blanks inner rest b.first b.others are b.is b.solid ∙ ap (λ x. x ++ rest) b.is in
     let many : length inner ≤ length (b.first ∷ (b.others ++ rest)) = omega (arith, ap (λ (x : List ℕ). length x) b.is, length-append b.others rest) in
     let read = segments_again (length (b.first ∷ (b.others ++ rest))) inner bs rest is many in
-    let step : bytes_at (b.first ∷ (b.others ++ rest)) ≡ Ok (bs, rest) = bytes_from b.first (b.others ++ rest) b.going ∙ ap (λ x. series_at segment_step (length (b.first ∷ (b.others ++ rest))) (x ++ rest)) (sym b.is) ∙ read in
+    let step : bytes_at (b.first ∷ (b.others ++ rest)) ≡ Ok (bs, rest) =
+    bytes_from b.first (b.others ++ rest) b.going
+    ∙ ap (λ x. series_at segment_step (length (b.first ∷ (b.others ++ rest))) (x ++ rest)) (sym b.is) ∙ read in
     rw (expect_again 60 ((blanks ++ inner) ++ rest), front, step) refl
 
 abbrev begins_by : (b : ℕ) (text : List ℕ) → is_blank b ≡ false → eqb b 125 ≡ false → eqb b 93 ≡ false → Begins (b ∷ text)
@@ -388,14 +468,21 @@ last_element limits levels n text blanks t rest s are =
     let read = shape_reads limits levels text t (blanks ++ 125 ∷ rest) s (whole_before text blanks 125 rest are refl) in
     rw (ended_parts text blanks (125 ∷ []) rest, read, skip_again blanks 125 rest are refl) refl
 
-further_element : (limits : Limits) (levels n : ℕ) (text before after others : List ℕ) (t : Tree) (rest : List ℕ) → Shape limits levels text t → AreBlanks before → AreBlanks after → Begins others → 0 < n
+further_element : (limits : Limits) (levels n : ℕ) (text before after others : List ℕ) (t : Tree) (rest : List ℕ) → Shape limits levels text t
+    → AreBlanks before → AreBlanks after → Begins others → 0 < n
     → element_step (term_at limits levels) n ((text ++ (before ++ 44 ∷ (after ++ others))) ++ rest) ≡ Ok ((t ∷ [], true), others ++ rest)
 unfolding element_step after_element_at
 further_element limits levels n text before after others t rest s one two b more =
     let tail = after ++ (others ++ rest) in
     let read = shape_reads limits levels text t (before ++ 44 ∷ tail) s (whole_before text before 44 tail one refl) in
     let some : eqb n 0 ≡ false = grind (arith, nat_tests) in
-    rw (further_parts 44 text before after others rest, read, skip_again before 44 tail one refl, some, skip_to after others rest b.first b.others two b.is b.solid) refl
+    rw (
+      further_parts 44 text before after others rest,
+      read,
+      skip_again before 44 tail one refl,
+      some,
+      skip_to after others rest b.first b.others two b.is b.solid,
+    ) refl
 
 last_cell : (limits : Limits) (levels : ℕ) (text blanks : List ℕ) (head : Tree) (rest : List ℕ) → Shape limits levels text head → AreBlanks blanks
     → cell_step (term_at limits levels) (others_of limits levels) ((text ++ (blanks ++ 93 ∷ [])) ++ rest) ≡ Ok (head, Last Nil rest)
@@ -404,100 +491,192 @@ last_cell limits levels text blanks head rest s are =
     let read = shape_reads limits levels text head (blanks ++ 93 ∷ rest) s (whole_before text blanks 93 rest are refl) in
     rw (ended_parts text blanks (93 ∷ []) rest, read, skip_again blanks 93 rest are refl) refl
 
-further_cell : (limits : Limits) (levels : ℕ) (text before after others : List ℕ) (head : Tree) (rest : List ℕ) → Shape limits levels text head → AreBlanks before → AreBlanks after → Begins others
+further_cell : (limits : Limits) (levels : ℕ) (text before after others : List ℕ) (head : Tree) (rest : List ℕ) → Shape limits levels text head
+    → AreBlanks before → AreBlanks after → Begins others
     → cell_step (term_at limits levels) (others_of limits levels) ((text ++ (before ++ 44 ∷ (after ++ others))) ++ rest) ≡ Ok (head, Head (others ++ rest))
 unfolding cell_step next_at
 further_cell limits levels text before after others head rest s one two b =
     let tail = after ++ (others ++ rest) in
     let read = shape_reads limits levels text head (before ++ 44 ∷ tail) s (whole_before text before 44 tail one refl) in
-    rw (further_parts 44 text before after others rest, read, skip_again before 44 tail one refl, skip_to after others rest b.first b.others two b.is b.solid) refl
+    rw (
+      further_parts 44 text before after others rest,
+      read,
+      skip_again before 44 tail one refl,
+      skip_to after others rest b.first b.others two b.is b.solid,
+    ) refl
 
-barred_cell : (limits : Limits) (levels : ℕ) (text before after behind : List ℕ) (head : Tree) (next : Next) (rest : List ℕ) → Shape limits levels text head → AreBlanks before → AreBlanks after → Begins behind
+barred_cell : (limits : Limits) (levels : ℕ) (text before after behind : List ℕ) (head : Tree) (next : Next) (rest : List ℕ) → Shape limits levels text head
+    → AreBlanks before → AreBlanks after → Begins behind
     → tail_at (others_of limits levels) (behind ++ rest) ≡ Ok next
     → cell_step (term_at limits levels) (others_of limits levels) ((text ++ (before ++ 124 ∷ (after ++ behind))) ++ rest) ≡ Ok (head, next)
 unfolding cell_step next_at
 barred_cell limits levels text before after behind head next rest s one two b found =
     let tail = after ++ (behind ++ rest) in
     let read = shape_reads limits levels text head (before ++ 124 ∷ tail) s (whole_before text before 124 tail one refl) in
-    rw (further_parts 124 text before after behind rest, read, skip_again before 124 tail one refl, skip_to after behind rest b.first b.others two b.is b.solid, found) refl
+    rw (
+      further_parts 124 text before after behind rest,
+      read,
+      skip_again before 124 tail one refl,
+      skip_to after behind rest b.first b.others two b.is b.solid,
+      found,
+    ) refl
 
 begins_on : (text more : List ℕ) → Begins text → Begins (text ++ more)
-begins_on text more b = record { first = b.first; others = b.others ++ more; is = ap (λ x. x ++ more) b.is; solid = b.solid; no_brace = b.no_brace; no_bracket = b.no_bracket }
+begins_on text more b =
+    record { first = b.first; others = b.others ++ more; is = ap (λ x. x ++ more) b.is; solid = b.solid; no_brace = b.no_brace; no_bracket = b.no_bracket }
 
 begins_some : (text : List ℕ) → Begins text → 0 < length text
 begins_some text b = omega (arith, ap (λ (x : List ℕ). length x) b.is)
 
-one_step : (limits : Limits) (levels k : ℕ) (bytes : List ℕ) (head : Tree) (next : Next) (r : Read Tree) → cell_step (term_at limits levels) (others_of limits levels) bytes ≡ Ok (head, next)
-    → cells_after head (cells_at (term_at limits levels) (others_of limits levels) k) next ≡ r → cells_at (term_at limits levels) (others_of limits levels) (suc k) bytes ≡ r
+one_step : (limits : Limits) (levels k : ℕ) (bytes : List ℕ) (head : Tree) (next : Next) (r : Read Tree)
+    → cell_step (term_at limits levels) (others_of limits levels) bytes ≡ Ok (head, next)
+    → cells_after head (cells_at (term_at limits levels) (others_of limits levels) k) next ≡ r
+    → cells_at (term_at limits levels) (others_of limits levels) (suc k) bytes ≡ r
 unfolding cells_at
 one_step limits levels k bytes head next r e f = rw e f
 
-one_element : (element : List ℕ → Read Tree) (n : ℕ) (bytes : List ℕ) (t : Tree) (more : Bool) (after : List ℕ) (r : Read (List Tree)) → element_step element n bytes ≡ Ok ((t ∷ [], more), after)
+one_element : (element : List ℕ → Read Tree) (n : ℕ) (bytes : List ℕ) (t : Tree) (more : Bool) (after : List ℕ) (r : Read (List Tree))
+    → element_step element n bytes ≡ Ok ((t ∷ [], more), after)
     → series_rest (t ∷ []) (series_at (element_step element) n) more after ≡ r → series_at (element_step element) (suc n) bytes ≡ r
 unfolding series_at
 one_element element n bytes t more after r e f = rw e f
 
 abbrev pub Rows : Limits → ℕ → List ℕ → Row → Type 0
-Rows limits levels text row = Begins text × ((n : ℕ) → size row ≤ n → (rest : List ℕ) → series_at (element_step (term_at limits levels)) n (text ++ rest) ≡ Ok (elements row, rest))
+Rows limits levels text row =
+    Begins text × ((n : ℕ) → size row ≤ n → (rest : List ℕ) → series_at (element_step (term_at limits levels)) n (text ++ rest) ≡ Ok (elements row, rest))
 
 abbrev pub Cells : Limits → ℕ → List ℕ → Tree → Type 0
-Cells limits levels text t = Begins text × ((k : ℕ) → length text ≤ k → (rest : List ℕ) → cells_at (term_at limits levels) (others_of limits levels) k (text ++ rest) ≡ Ok (t, rest))
+Cells limits levels text t =
+    Begins text × ((k : ℕ) → length text ≤ k → (rest : List ℕ) → cells_at (term_at limits levels) (others_of limits levels) k (text ++ rest) ≡ Ok (t, rest))
 
-last_row : (limits : Limits) (levels : ℕ) (text blanks : List ℕ) (t : Tree) → Shape limits levels text t → AreBlanks blanks → (n : ℕ) → size (More t Ends) ≤ n → (rest : List ℕ)
+last_row : (limits : Limits) (levels : ℕ) (text blanks : List ℕ) (t : Tree) → Shape limits levels text t → AreBlanks blanks → (n : ℕ) → size (More t Ends) ≤ n
+    → (rest : List ℕ)
     → series_at (element_step (term_at limits levels)) n ((text ++ (blanks ++ 125 ∷ [])) ++ rest) ≡ Ok (t ∷ [], rest)
 last_row limits levels text blanks t s are zero few rest = absurd (omega arith)
-last_row limits levels text blanks t s are (suc n) few rest = one_element (term_at limits levels) n _ t false rest _ (last_element limits levels n text blanks t rest s are) refl
+last_row limits levels text blanks t s are (suc n) few rest =
+    one_element (term_at limits levels) n _ t false rest _ (last_element limits levels n text blanks t rest s are) refl
 
-further_row : (limits : Limits) (levels : ℕ) (text before after others : List ℕ) (t : Tree) (row : Row) → Shape limits levels text t → AreBlanks before → AreBlanks after → Rows limits levels others row → (n : ℕ) → size (More t row) ≤ n
-    → (rest : List ℕ) → 0 < size row → series_at (element_step (term_at limits levels)) n ((text ++ (before ++ 44 ∷ (after ++ others))) ++ rest) ≡ Ok (t ∷ elements row, rest)
+further_row : (limits : Limits) (levels : ℕ) (text before after others : List ℕ) (t : Tree) (row : Row) → Shape limits levels text t → AreBlanks before
+    → AreBlanks after → Rows limits levels others row → (n : ℕ) → size (More t row) ≤ n
+    → (rest : List ℕ) → 0 < size row
+    → series_at (element_step (term_at limits levels)) n ((text ++ (before ++ 44 ∷ (after ++ others))) ++ rest) ≡ Ok (t ∷ elements row, rest)
 further_row limits levels text before after others t row s one two rows zero few rest some = absurd (omega arith)
 further_row limits levels text before after others t row s one two rows (suc n) few rest some =
-    let later : series_rest (t ∷ []) (series_at (element_step (term_at limits levels)) n) true (others ++ rest) ≡ Ok (t ∷ elements row, rest) = rw (rows.1 n (omega arith) rest) refl in
-    one_element (term_at limits levels) n _ t true (others ++ rest) _ (further_element limits levels n text before after others t rest s one two rows.0 (omega arith)) later
+    let later : series_rest (t ∷ []) (series_at (element_step (term_at limits levels)) n) true (others ++ rest) ≡ Ok (t ∷ elements row, rest) =
+    rw (rows.1 n (omega arith) rest) refl in
+    one_element (term_at limits levels) n _ t true (others ++ rest) _
+    (further_element limits levels n text before after others t rest s one two rows.0 (omega arith)) later
 
 row_some : (limits : Limits) (levels : ℕ) (text : List ℕ) (row : Row) → AreElements limits levels text row → 0 < size row
 row_some _ _ _ _ (LastElement limits levels text blanks t is are) = omega arith
 row_some _ _ _ _ (MoreElements limits levels text before after rest t row is one two are) = omega arith
 
-last_of : (limits : Limits) (levels : ℕ) (text blanks : List ℕ) (head : Tree) → Shape limits levels text head → AreBlanks blanks → (k : ℕ) → length (text ++ (blanks ++ 93 ∷ [])) ≤ k → (rest : List ℕ)
+last_of : (limits : Limits) (levels : ℕ) (text blanks : List ℕ) (head : Tree) → Shape limits levels text head → AreBlanks blanks → (k : ℕ)
+    → length (text ++ (blanks ++ 93 ∷ [])) ≤ k → (rest : List ℕ)
     → cells_at (term_at limits levels) (others_of limits levels) k ((text ++ (blanks ++ 93 ∷ [])) ++ rest) ≡ Ok (Cons head Nil, rest)
-last_of limits levels text blanks head s are zero few rest = absurd (omega (arith, few, length-append text (blanks ++ 93 ∷ []), begins_some text (shape_begins limits levels text head s)))
-last_of limits levels text blanks head s are (suc k) few rest = one_step limits levels k _ head (Last Nil rest) _ (last_cell limits levels text blanks head rest s are) refl
+last_of limits levels text blanks head s are zero few rest =
+    absurd (omega (arith, few, length-append text (blanks ++ 93 ∷ []), begins_some text (shape_begins limits levels text head s)))
+last_of limits levels text blanks head s are (suc k) few rest =
+    one_step limits levels k _ head (Last Nil rest) _ (last_cell limits levels text blanks head rest s are) refl
 
-further_of : (limits : Limits) (levels : ℕ) (text before after others : List ℕ) (head tail : Tree) → Shape limits levels text head → AreBlanks before → AreBlanks after → Cells limits levels others tail → (k : ℕ)
-    → length (text ++ (before ++ 44 ∷ (after ++ others))) ≤ k → (rest : List ℕ) → cells_at (term_at limits levels) (others_of limits levels) k ((text ++ (before ++ 44 ∷ (after ++ others))) ++ rest) ≡ Ok (Cons head tail, rest)
-further_of limits levels text before after others head tail s one two cells zero few rest = absurd (omega (arith, few, length-append text (before ++ 44 ∷ (after ++ others)), begins_some text (shape_begins limits levels text head s)))
+further_of : (limits : Limits) (levels : ℕ) (text before after others : List ℕ) (head tail : Tree) → Shape limits levels text head → AreBlanks before
+    → AreBlanks after → Cells limits levels others tail → (k : ℕ)
+    → length (text ++ (before ++ 44 ∷ (after ++ others))) ≤ k → (rest : List ℕ)
+    → cells_at (term_at limits levels) (others_of limits levels) k ((text ++ (before ++ 44 ∷ (after ++ others))) ++ rest) ≡ Ok (Cons head tail, rest)
+further_of limits levels text before after others head tail s one two cells zero few rest =
+    absurd (omega (arith, few, length-append text (before ++ 44 ∷ (after ++ others)), begins_some text (shape_begins limits levels text head s)))
 further_of limits levels text before after others head tail s one two cells (suc k) few rest =
-    let short : length others ≤ k = omega (arith, few, length-append text (before ++ 44 ∷ (after ++ others)), length-append before (44 ∷ (after ++ others)), length-append after others, begins_some text (shape_begins limits levels text head s)) in
-    let later : cells_after head (cells_at (term_at limits levels) (others_of limits levels) k) (Head (others ++ rest)) ≡ Ok (Cons head tail, rest) = rw (cells.1 k short rest) refl in
+    let short : length others ≤ k =
+    omega (
+      arith,
+      few,
+      length-append text (before ++ 44 ∷ (after ++ others)),
+      length-append before (44 ∷ (after ++ others)),
+      length-append after others,
+      begins_some text (shape_begins limits levels text head s),
+    ) in
+    let later : cells_after head (cells_at (term_at limits levels) (others_of limits levels) k) (Head (others ++ rest)) ≡ Ok (Cons head tail, rest) =
+    rw (cells.1 k short rest) refl in
     one_step limits levels k _ head (Head (others ++ rest)) _ (further_cell limits levels text before after others head rest s one two cells.0) later
 
-barred_of : (limits : Limits) (levels : ℕ) (text before after last blanks : List ℕ) (head tail : Tree) → Shape limits levels text head → AreBlanks before → AreBlanks after → Shape limits (suc levels) last tail → AreBlanks blanks → (k : ℕ)
+barred_of : (limits : Limits) (levels : ℕ) (text before after last blanks : List ℕ) (head tail : Tree) → Shape limits levels text head → AreBlanks before
+    → AreBlanks after → Shape limits (suc levels) last tail → AreBlanks blanks → (k : ℕ)
     → length (text ++ (before ++ 124 ∷ (after ++ (last ++ (blanks ++ 93 ∷ []))))) ≤ k → (rest : List ℕ)
     → cells_at (term_at limits levels) (others_of limits levels) k ((text ++ (before ++ 124 ∷ (after ++ (last ++ (blanks ++ 93 ∷ []))))) ++ rest) ≡ Ok (Cons head tail, rest)
 barred_of limits levels text before after last blanks head tail s one two l are zero few rest =
-    absurd (omega (arith, few, length-append text (before ++ 124 ∷ (after ++ (last ++ (blanks ++ 93 ∷ [])))), begins_some text (shape_begins limits levels text head s)))
+    absurd (omega (
+      arith,
+      few,
+      length-append text (before ++ 124 ∷ (after ++ (last ++ (blanks ++ 93 ∷ [])))),
+      begins_some text (shape_begins limits levels text head s),
+    ))
 barred_of limits levels text before after last blanks head tail s one two l are (suc k) few rest =
     let behind = last ++ (blanks ++ 93 ∷ []) in
-    let short : length last ≤ k = omega (arith, few, length-append text (before ++ 124 ∷ (after ++ behind)), length-append before (124 ∷ (after ++ behind)), length-append after behind, length-append last (blanks ++ 93 ∷ []), begins_some text (shape_begins limits levels text head s)) in
+    let short : length last ≤ k =
+    omega (
+      arith,
+      few,
+      length-append text (before ++ 124 ∷ (after ++ behind)),
+      length-append before (124 ∷ (after ++ behind)),
+      length-append after behind,
+      length-append last (blanks ++ 93 ∷ []),
+      begins_some text (shape_begins limits levels text head s),
+    ) in
     let r = tail_reads limits levels k last tail blanks rest are short l in
-    let found : tail_at (others_of limits levels) (behind ++ rest) ≡ Ok r.next = ap (tail_at (others_of limits levels)) (ended_parts last blanks (93 ∷ []) rest) ∙ r.found in
-    one_step limits levels k _ head r.next _ (barred_cell limits levels text before after behind head r.next rest s one two (begins_on last (blanks ++ 93 ∷ []) (shape_begins limits (suc levels) last tail l)) found) (r.reads head)
+    let found : tail_at (others_of limits levels) (behind ++ rest) ≡ Ok r.next =
+    ap (tail_at (others_of limits levels)) (ended_parts last blanks (93 ∷ []) rest) ∙ r.found in
+    one_step limits levels k _ head r.next _ (barred_cell limits levels text before after behind head r.next rest s one two
+    (begins_on last (blanks ++ 93 ∷ []) (shape_begins limits (suc levels) last tail l)) found) (r.reads head)
 
 mutual
   shape_again : (limits : Limits) (levels : ℕ) (text : List ℕ) (t : Tree) → IsTextOf limits levels text t → Shape limits levels text t
   shape_again _ _ _ _ (AnInteger limits levels text n is) = inl (integer_shape limits levels text n is)
   shape_again _ _ _ _ (AnAtom limits levels text name is) = inl (atom_shape limits levels text name is)
-  shape_again _ _ _ _ (NoElements limits levels blanks are) = inl (record { begins = begins_by 123 (blanks ++ 125 ∷ []) refl refl refl; apart = refl; reads = λ rest whole. tuple_other limits (term_at limits levels) levels ((blanks ++ 125 ∷ []) ++ rest) ∙ empty_tuple (term_at limits levels) limits.elements blanks rest are })
+  shape_again _ _ _ _ (NoElements limits levels blanks are) =
+      inl (record {
+        begins = begins_by 123 (blanks ++ 125 ∷ []) refl refl refl;
+        apart = refl;
+        reads =
+            λ rest whole. tuple_other limits (term_at limits levels) levels ((blanks ++ 125 ∷ []) ++ rest)
+            ∙ empty_tuple (term_at limits levels) limits.elements blanks rest are;
+      })
   shape_again _ _ _ _ (ATuple limits levels blanks inner row are is few) =
       let r = rows_again limits levels inner row is in
-      inl (record { begins = begins_by 123 (blanks ++ inner) refl refl refl; apart = refl; reads = λ rest whole. tuple_other limits (term_at limits levels) levels ((blanks ++ inner) ++ rest) ∙ full_tuple (term_at limits levels) limits.elements blanks inner rest row are r.0 (r.1 limits.elements few rest) })
+      inl (record {
+        begins = begins_by 123 (blanks ++ inner) refl refl refl;
+        apart = refl;
+        reads =
+            λ rest whole. tuple_other limits (term_at limits levels) levels ((blanks ++ inner) ++ rest)
+            ∙ full_tuple (term_at limits levels) limits.elements blanks inner rest row are r.0 (r.1 limits.elements few rest);
+      })
   shape_again _ _ _ _ (ANil limits levels blanks are) = inr (inl (record { blanks = blanks; are = are; is = refl; nil = refl }))
-  shape_again _ _ _ _ (AList limits levels blanks inner t are is) = let c = cells_again limits levels inner t is in inr (inr (record { blanks = blanks; are = are; cells = inner; is = refl; begins = c.0; reads = c.1 }))
-  shape_again _ _ _ _ (NoString limits levels) = inl (record { begins = begins_by 34 (34 ∷ []) refl refl refl; apart = refl; reads = λ rest whole. string_other limits (term_at limits levels) levels (34 ∷ rest) ∙ no_string levels rest })
-  shape_again _ _ _ _ (AString limits levels c text cs are) = inl (record { begins = begins_by 34 text refl refl refl; apart = refl; reads = λ rest whole. string_other limits (term_at limits (suc levels)) (suc levels) (text ++ rest) ∙ some_string levels text (c ∷ cs) rest are })
-  shape_again _ _ _ _ (NoBytes limits levels blanks are) = inl (record { begins = begins_by 60 (60 ∷ blanks ++ 62 ∷ 62 ∷ []) refl refl refl; apart = refl; reads = λ rest whole. binary_other limits (term_at limits levels) levels (60 ∷ ((blanks ++ 62 ∷ 62 ∷ []) ++ rest)) ∙ no_bytes blanks rest are })
-  shape_again _ _ _ _ (ABinary limits levels blanks inner bs are is) = inl (record { begins = begins_by 60 (60 ∷ blanks ++ inner) refl refl refl; apart = refl; reads = λ rest whole. binary_other limits (term_at limits levels) levels (60 ∷ ((blanks ++ inner) ++ rest)) ∙ some_bytes blanks inner bs rest are is })
+  shape_again _ _ _ _ (AList limits levels blanks inner t are is) =
+      let c = cells_again limits levels inner t is in inr (inr (record { blanks = blanks; are = are; cells = inner; is = refl; begins = c.0; reads = c.1 }))
+  shape_again _ _ _ _ (NoString limits levels) =
+      inl (record {
+        begins = begins_by 34 (34 ∷ []) refl refl refl;
+        apart = refl;
+        reads = λ rest whole. string_other limits (term_at limits levels) levels (34 ∷ rest) ∙ no_string levels rest;
+      })
+  shape_again _ _ _ _ (AString limits levels c text cs are) =
+      inl (record {
+        begins = begins_by 34 text refl refl refl;
+        apart = refl;
+        reads = λ rest whole. string_other limits (term_at limits (suc levels)) (suc levels) (text ++ rest) ∙ some_string levels text (c ∷ cs) rest are;
+      })
+  shape_again _ _ _ _ (NoBytes limits levels blanks are) =
+      inl (record {
+        begins = begins_by 60 (60 ∷ blanks ++ 62 ∷ 62 ∷ []) refl refl refl;
+        apart = refl;
+        reads = λ rest whole. binary_other limits (term_at limits levels) levels (60 ∷ ((blanks ++ 62 ∷ 62 ∷ []) ++ rest)) ∙ no_bytes blanks rest are;
+      })
+  shape_again _ _ _ _ (ABinary limits levels blanks inner bs are is) =
+      inl (record {
+        begins = begins_by 60 (60 ∷ blanks ++ inner) refl refl refl;
+        apart = refl;
+        reads =
+            λ rest whole. binary_other limits (term_at limits levels) levels (60 ∷ ((blanks ++ inner) ++ rest)) ∙ some_bytes blanks inner bs rest are is;
+      })
 
   rows_again : (limits : Limits) (levels : ℕ) (text : List ℕ) (row : Row) → AreElements limits levels text row → Rows limits levels text row
   rows_again _ _ _ _ (LastElement limits levels text blanks t is are) =
@@ -505,8 +684,10 @@ mutual
       (begins_on text (blanks ++ 125 ∷ []) (shape_begins limits levels text t s), last_row limits levels text blanks t s are)
   rows_again _ _ _ _ (MoreElements limits levels text before after others t row is one two are) =
       let s = shape_again limits levels text t is in
-      let r = rows_again limits levels others row are in
-      (begins_on text (before ++ 44 ∷ (after ++ others)) (shape_begins limits levels text t s), λ n few rest. further_row limits levels text before after others t row s one two r n few rest (row_some limits levels others row are))
+      let r = rows_again limits levels others row are in (
+        begins_on text (before ++ 44 ∷ (after ++ others)) (shape_begins limits levels text t s),
+        λ n few rest. further_row limits levels text before after others t row s one two r n few rest (row_some limits levels others row are),
+      )
 
   cells_again : (limits : Limits) (levels : ℕ) (text : List ℕ) (t : Tree) → AreCells limits levels text t → Cells limits levels text t
   cells_again _ _ _ _ (LastCell limits levels text blanks head is are) =
@@ -514,14 +695,19 @@ mutual
       (begins_on text (blanks ++ 93 ∷ []) (shape_begins limits levels text head s), last_of limits levels text blanks head s are)
   cells_again _ _ _ _ (MoreCells limits levels text before after others head tail is one two are) =
       let s = shape_again limits levels text head is in
-      let c = cells_again limits levels others tail are in
-      (begins_on text (before ++ 44 ∷ (after ++ others)) (shape_begins limits levels text head s), further_of limits levels text before after others head tail s one two c)
+      let c = cells_again limits levels others tail are in (
+        begins_on text (before ++ 44 ∷ (after ++ others)) (shape_begins limits levels text head s),
+        further_of limits levels text before after others head tail s one two c,
+      )
   cells_again _ _ _ _ (LastTail limits levels text before after last blanks head tail is one two end are) =
       let s = shape_again limits levels text head is in
-      let l = shape_again limits (suc levels) last tail end in
-      (begins_on text (before ++ 124 ∷ (after ++ (last ++ (blanks ++ 93 ∷ [])))) (shape_begins limits levels text head s), barred_of limits levels text before after last blanks head tail s one two l are)
+      let l = shape_again limits (suc levels) last tail end in (
+        begins_on text (before ++ 124 ∷ (after ++ (last ++ (blanks ++ 93 ∷ [])))) (shape_begins limits levels text head s),
+        barred_of limits levels text before after last blanks head tail s one two l are,
+      )
 
-pub term_again : (limits : Limits) (levels : ℕ) (text : List ℕ) (t : Tree) (rest : List ℕ) → IsTextOf limits levels text t → IsWhole text rest → term_at limits levels (text ++ rest) ≡ Ok (t, rest)
+pub term_again : (limits : Limits) (levels : ℕ) (text : List ℕ) (t : Tree) (rest : List ℕ) → IsTextOf limits levels text t → IsWhole text rest
+    → term_at limits levels (text ++ rest) ≡ Ok (t, rest)
 term_again limits levels text t rest is whole = shape_reads limits levels text t rest (shape_again limits levels text t is) whole
 
 -- no text is empty

@@ -28,7 +28,8 @@ pub halted_here : {A : Type 0} (IsOf : List ℕ → A → Type 0) (why : Why) (b
 halted_here IsOf why bytes f e = record { front = []; behind = bytes; whole = refl; left = ap (λ (g : Fault). g.left) (sym e); goes_on = inl refl }
 
 -- A part halts behind bytes that were taken, and they go on, with no part and with each.
-pub halted_behind : {A B : Type 0} (IsPart : List ℕ → A → Type 0) (IsOf : List ℕ → B → Type 0) (taken bytes : List ℕ) (f : Fault) → Halted IsPart bytes f → GoesOn IsOf taken
+pub halted_behind : {A B : Type 0} (IsPart : List ℕ → A → Type 0) (IsOf : List ℕ → B → Type 0) (taken bytes : List ℕ) (f : Fault) → Halted IsPart bytes f
+    → GoesOn IsOf taken
     → ((part : List ℕ) (a : A) → IsPart part a → (rest : List ℕ) × (b : B) × IsOf (taken ++ (part ++ rest)) b) → Halted IsOf (taken ++ bytes) f
 halted_behind IsPart IsOf taken bytes f h none each = record {
   front = taken ++ h.front;
@@ -45,7 +46,8 @@ halted_behind IsPart IsOf taken bytes f h none each = record {
 }
 
 -- the fault of a step, or of what comes behind it
-pub bind_err : {A B : Type 0} (r : Result A Fault) (f : A → Result B Fault) (e : Fault) → (r >>= f) ≡ Err e → (r ≡ Err e) ⊎ ((x : A) × (r ≡ Ok x) × (f x ≡ Err e))
+pub bind_err : {A B : Type 0} (r : Result A Fault) (f : A → Result B Fault) (e : Fault) → (r >>= f) ≡ Err e
+    → (r ≡ Err e) ⊎ ((x : A) × (r ≡ Ok x) × (f x ≡ Err e))
 bind_err (Ok x) f e h = inr (x, refl, h)
 bind_err {A} {B} (Err d) f e h = inl (ap (λ (g : Fault). Err g) (err_is {A = B} d e h))
 
@@ -63,10 +65,12 @@ halted_map IsPart IsOf bytes f h each = record {
 }
 
 -- as halted_behind and halted_map, with no rest
-pub halted_behind_as : {A B : Type 0} (IsPart : List ℕ → A → Type 0) (IsOf : List ℕ → B → Type 0) (taken bytes : List ℕ) (f : Fault) → Halted IsPart bytes f → GoesOn IsOf taken
+pub halted_behind_as : {A B : Type 0} (IsPart : List ℕ → A → Type 0) (IsOf : List ℕ → B → Type 0) (taken bytes : List ℕ) (f : Fault) → Halted IsPart bytes f
+    → GoesOn IsOf taken
     → ((part : List ℕ) (a : A) → IsPart part a → (b : B) × IsOf (taken ++ part) b) → Halted IsOf (taken ++ bytes) f
 halted_behind_as IsPart IsOf taken bytes f h none each =
-    halted_behind IsPart IsOf taken bytes f h none (λ part a is. let u = each part a is in ([], u.0, subst (λ x. IsOf (taken ++ x) u.0) (sym (append-nil part)) u.1))
+    halted_behind IsPart IsOf taken bytes f h none
+    (λ part a is. let u = each part a is in ([], u.0, subst (λ x. IsOf (taken ++ x) u.0) (sym (append-nil part)) u.1))
 
 pub halted_as : {A B : Type 0} (IsPart : List ℕ → A → Type 0) (IsOf : List ℕ → B → Type 0) (bytes : List ℕ) (f : Fault) → Halted IsPart bytes f
     → ((part : List ℕ) (a : A) → IsPart part a → (b : B) × IsOf part b) → Halted IsOf bytes f

@@ -121,7 +121,8 @@ behind_step n bytes part true after f later e h =
     -- the segment once more
     let again = further _ part (LastSegment s.segment [] part s.is refl) in
     subst (λ x. Halted AreSegments x f) (sym s.whole)
-    (halted_behind_as AreSegments AreSegments taken after f halted (s.segment ++ 62 ∷ 62 ∷ [], part ++ part, again) (λ text bs are. (part ++ bs, further text bs are)))
+    (halted_behind_as AreSegments AreSegments taken after f halted (s.segment ++ 62 ∷ 62 ∷ [], part ++ part, again)
+    (λ text bs are. (part ++ bs, further text bs are)))
 
 pub segments_halts : (n : ℕ) → Halts (series_at segment_step n) AreSegments
 unfolding series_at
@@ -162,5 +163,6 @@ module _ (limits : Limits) (levels : ℕ) where
       let halted = bytes_halts gap.blanks gap.are (skip s.0) f (done_err (bytes_at (skip s.0)) (λ x. (Binary x.0, x.1)) f s.2) in
       let whole : bytes ≡ (60 ∷ gap.blanks) ++ skip s.0 = expect_taken 60 bytes s.0 s.1 ∙ ap (λ x. 60 ∷ x) gap.whole in
       subst (λ x. Halted IsBinary x f) (sym whole)
-      (halted_behind_as (IsInner gap.blanks) IsBinary (60 ∷ gap.blanks) (skip s.0) f halted (62 ∷ 62 ∷ [], Binary [], NoBytes limits levels gap.blanks gap.are) (λ text t is. (t, is))))
+      (halted_behind_as (IsInner gap.blanks) IsBinary (60 ∷ gap.blanks) (skip s.0) f halted (62 ∷ 62 ∷ [], Binary [], NoBytes limits levels gap.blanks gap.are)
+      (λ text t is. (t, is))))
       (bind_err (expect 60 bytes) (λ rest. bytes_at (skip rest) >>= λ x. Ok (Binary x.0, x.1)) f e)

@@ -56,8 +56,10 @@ three_halts b bytes f e =
     (λ h. halted_here _ Syntax bytes f (byte_stuck _ _ bytes f h))
     (λ s. let c = byte_taken _ _ bytes s.0.0 s.0.1 s.1 in
     let stuck = inner_stuck s.0.1 f (done_err (inner_byte s.0.1) (λ d. (((b - 224) * 64 + (s.0.0 - 128)) * 64 + (d.0 - 128), d.1)) f s.2) in
-    subst (λ x. Halted (Reads (three_at b)) x f) (sym c.whole) (halted_at (Reads (three_at b)) Syntax (s.0.0 ∷ []) s.0.1 f stuck (three_goes b s.0.0 c.low_enough c.high_enough)))
-    (bind_err (byte_between (least_of_three b) (end_of_three b) bytes) (λ c. inner_byte c.1 >>= λ d. Ok (((b - 224) * 64 + (c.0 - 128)) * 64 + (d.0 - 128), d.1)) f e)
+    subst (λ x. Halted (Reads (three_at b)) x f) (sym c.whole)
+    (halted_at (Reads (three_at b)) Syntax (s.0.0 ∷ []) s.0.1 f stuck (three_goes b s.0.0 c.low_enough c.high_enough)))
+    (bind_err (byte_between (least_of_three b) (end_of_three b) bytes)
+    (λ c. inner_byte c.1 >>= λ d. Ok (((b - 224) * 64 + (c.0 - 128)) * 64 + (d.0 - 128), d.1)) f e)
 
 four_goes : (b c d : ℕ) → least_of_four b ≤ c → c < end_of_four b → 128 ≤ d → d < 192 → GoesOn (Reads (four_at b)) (c ∷ d ∷ [])
 unfolding four_at
@@ -106,7 +108,8 @@ point_halts (b ∷ bytes) f e =
     halted_cons point_at (three_at b) b bytes f (λ zs. rw (h.0, i.0, j.0, k.0) refl) (least_of_three b ∷ goes.0, goes.1, goes.2) (three_halts b bytes f k.1))
     (λ k. ⊎_elim
     (λ l. let goes = four_goes b (least_of_four b) 128 (omega arith) (bounds_of_four b) (omega arith) (omega arith) in
-    halted_cons point_at (four_at b) b bytes f (λ zs. rw (h.0, i.0, j.0, k.0, l.0) refl) (least_of_four b ∷ 128 ∷ goes.0, goes.1, goes.2) (four_halts b bytes f l.1))
+    halted_cons point_at (four_at b) b bytes f (λ zs. rw (h.0, i.0, j.0, k.0, l.0) refl) (least_of_four b ∷ 128 ∷ goes.0, goes.1, goes.2)
+    (four_halts b bytes f l.1))
     (λ l. halted_here _ Syntax (b ∷ bytes) f (err_is _ f l.1))
     (chosen (ltb b 0xf5) _ _ (Err f) k.1))
     (chosen (ltb b 0xf0) _ _ (Err f) j.1))
@@ -230,7 +233,8 @@ module _ (close most : ℕ) (small : close < 128) (low : 127 ≤ most) (high : 1
   character_halts [] f e = halted_here _ Syntax [] f (err_is _ f e)
   character_halts (b ∷ bytes) f e =
       ⊎_elim
-      (λ h. halted_cons (character_at close most) (escape_at most) b bytes f (λ zs. rw h.0 refl) (110 ∷ [], 10, newline_read) (escape_halts most low high bytes f h.1))
+      (λ h. halted_cons (character_at close most) (escape_at most) b bytes f (λ zs. rw h.0 refl) (110 ∷ [], 10, newline_read)
+      (escape_halts most low high bytes f h.1))
       (λ h. ⊎_elim
       (λ i. halted_same (character_at close most) point_at b bytes f (λ zs. rw (h.0, i.0) refl) (point_halts (b ∷ bytes) f i.1))
       (λ i. halted_here _ Syntax (b ∷ bytes) f (err_is _ f i.1))
@@ -262,22 +266,26 @@ module _ (close most : ℕ) (small : close < 128) (low : 127 ≤ most) (high : 1
       (λ h. ⊎_elim (λ i. (over, err_is _ f i.1)) (λ i. (Syntax, err_is _ f i.1)) (chosen (begins_character close most b) _ _ (Err f) h.1))
       (chosen (eqb b close) _ _ (Err f) e)
 
-  one_more : (n c : ℕ) (first rest cs : List ℕ) → IsPointAt close most first c → AreWithin close most n rest cs → AreWithin close most (suc n) (first ++ rest) (c ∷ cs)
+  one_more : (n c : ℕ) (first rest cs : List ℕ) → IsPointAt close most first c → AreWithin close most n rest cs
+      → AreWithin close most (suc n) (first ++ rest) (c ∷ cs)
   one_more n c first rest cs is are = (OneMore close c first rest cs is.0 are.0, rw (is.1, are.1) refl, omega (arith, are.2))
 
   -- the closing quote alone
   closed : (n : ℕ) → AreWithin close most n (close ∷ []) []
   closed n = (Closed close, refl, omega arith)
 
-  behind_next : (over : Why) (n : ℕ) (bytes : List ℕ) (o : Option ℕ) (after : List ℕ) (f : Fault) → Halts (characters_at over close most n) (AreWithin close most n)
-      → next_point_at close most bytes ≡ Ok (o, after) → points_after (characters_at over close most n) (o, after) ≡ Err f → Halted (AreWithin close most (suc n)) bytes f
+  behind_next : (over : Why) (n : ℕ) (bytes : List ℕ) (o : Option ℕ) (after : List ℕ) (f : Fault)
+      → Halts (characters_at over close most n) (AreWithin close most n)
+      → next_point_at close most bytes ≡ Ok (o, after) → points_after (characters_at over close most n) (o, after) ≡ Err f
+      → Halted (AreWithin close most (suc n)) bytes f
   behind_next over n bytes None after f later e h = absurd cc
   behind_next over n bytes (Some c) after f later e h =
       let first = next_taken close most bytes c after small low high e in
       let halted = later after f (done_err (characters_at over close most n after) (λ y. (c ∷ y.0, y.1)) f h) in
       let is : IsPointAt close most first.text c = (first.character, first.point) in
       subst (λ x. Halted (AreWithin close most (suc n)) x f) (sym first.whole)
-      (halted_behind_as (AreWithin close most n) (AreWithin close most (suc n)) first.text after f halted (close ∷ [], c ∷ [], one_more n c first.text (close ∷ []) [] is (closed n))
+      (halted_behind_as (AreWithin close most n) (AreWithin close most (suc n)) first.text after f halted
+      (close ∷ [], c ∷ [], one_more n c first.text (close ∷ []) [] is (closed n))
       (λ part cs are. (c ∷ cs, one_more n c first.text part cs is are)))
 
   within_halts : (over : Why) (n : ℕ) → Halts (characters_at over close most n) (AreWithin close most n)

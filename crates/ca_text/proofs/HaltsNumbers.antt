@@ -57,7 +57,8 @@ positive_halts bytes f e =
 
 negative_halts : (bytes : List ℕ) (f : Fault) → negative_at bytes ≡ Err f → Halted IsInteger (45 ∷ bytes) f
 negative_halts bytes f e =
-    halted_behind_as (IsNumber (2 ^ 63)) IsInteger (45 ∷ []) bytes f (number_halts (2 ^ 63) bytes f (done_err (number_at (2 ^ 63) bytes) (λ x. (neg_ℤ (pos x.0), x.1)) f e))
+    halted_behind_as (IsNumber (2 ^ 63)) IsInteger (45 ∷ []) bytes f
+    (number_halts (2 ^ 63) bytes f (done_err (number_at (2 ^ 63) bytes) (λ x. (neg_ℤ (pos x.0), x.1)) f e))
     (48 ∷ [], neg_ℤ (pos 0), Negative (48 ∷ []) (omega arith, (omega arith, tt)) (omega arith))
     (λ digits n is. (neg_ℤ (pos (digits_value 10 digits)), Negative digits is.0 (omega (arith, is.1, is.2))))
 

@@ -50,23 +50,31 @@ module _ (limits : Limits) (levels : ℕ) where
       (λ h. halted_behind (AreQuoted 39 most_point limits.characters) IsOne (39 ∷ []) bytes f
       (characters_halts AtomTooLong 39 most_point limits.characters (omega arith) (λ x. absurd (omega (arith, x))) (omega arith) (λ x. refl) bytes f h)
       (39 ∷ [], Atom [], no_name)
-      (λ part cs are. ([], Atom (encode_utf8_all cs), subst (λ x. IsOne (39 ∷ x) (Atom (encode_utf8_all cs))) (sym (append-nil part)) (AnAtom limits levels (39 ∷ part) (encode_utf8_all cs) (Quoted limits part cs are.0 are.2)))))
+      (λ part cs are. (
+        [],
+        Atom (encode_utf8_all cs),
+        subst (λ x. IsOne (39 ∷ x) (Atom (encode_utf8_all cs))) (sym (append-nil part))
+            (AnAtom limits levels (39 ∷ part) (encode_utf8_all cs) (Quoted limits part cs are.0 are.2)),
+      )))
       (λ h. let k = h.2 in absurd cc)
       (bind_err (characters_at AtomTooLong 39 most_point limits.characters bytes) (λ x. Ok (Atom (encode_utf8_all x.0), x.1)) f e)
 
   binary_term_halts : (bytes : List ℕ) (f : Fault) → binary_at bytes ≡ Err f → Halted IsOne (60 ∷ bytes) f
   binary_term_halts bytes f e =
-      halted_behind (λ text t. IsOne (60 ∷ text) t) IsOne (60 ∷ []) bytes f (binary_halts limits levels bytes f e) (60 ∷ 62 ∷ 62 ∷ [], Binary [], NoBytes limits levels [] refl)
+      halted_behind (λ text t. IsOne (60 ∷ text) t) IsOne (60 ∷ []) bytes f (binary_halts limits levels bytes f e)
+      (60 ∷ 62 ∷ 62 ∷ [], Binary [], NoBytes limits levels [] refl)
       (λ part t is. ([], t, subst (λ x. IsOne (60 ∷ x) t) (sym (append-nil part)) is))
 
 -- a string halts behind its first quote
 string_goes : (limits : Limits) (levels : ℕ) (text cs : List ℕ) → AreCharacters 34 text cs → IsTextOf limits (suc (suc levels)) (34 ∷ text) (points cs)
-string_goes limits levels text [] are = subst (λ x. IsTextOf limits (suc (suc levels)) (34 ∷ x) Nil) (sym (closed_text 34 text [] are refl)) (NoString limits (suc levels))
+string_goes limits levels text [] are =
+    subst (λ x. IsTextOf limits (suc (suc levels)) (34 ∷ x) Nil) (sym (closed_text 34 text [] are refl)) (NoString limits (suc levels))
 string_goes limits levels text (c ∷ cs) are = AString limits levels c text cs are
 
 flat_string_halts : (limits : Limits) (bytes : List ℕ) (f : Fault) → points_at zero bytes ≡ Err f → Halted (IsTextOf limits 1) (34 ∷ bytes) f
 unfolding points_at
-flat_string_halts limits [] f e = halted_at (IsTextOf limits 1) Syntax (34 ∷ []) [] f (err_is {A = Tree × List ℕ} (place Syntax []) f e) (34 ∷ [], Nil, NoString limits 0)
+flat_string_halts limits [] f e =
+    halted_at (IsTextOf limits 1) Syntax (34 ∷ []) [] f (err_is {A = Tree × List ℕ} (place Syntax []) f e) (34 ∷ [], Nil, NoString limits 0)
 flat_string_halts limits (b ∷ bytes) f e =
     let goes : GoesOn (IsTextOf limits 1) (34 ∷ []) = (34 ∷ [], Nil, NoString limits 0) in
     ⊎_elim (λ h. absurd (let k = h.1 in cc))
@@ -76,7 +84,8 @@ flat_string_halts limits (b ∷ bytes) f e =
     (chosen (begins_character 34 most_point b) _ _ (Err f) h.1))
     (chosen (eqb b 34) _ _ (Err f) e)
 
-string_halts : (limits : Limits) (levels : ℕ) (bytes : List ℕ) (f : Fault) → points_at levels bytes ≡ Err f → Halted (IsTextOf limits (suc levels)) (34 ∷ bytes) f
+string_halts : (limits : Limits) (levels : ℕ) (bytes : List ℕ) (f : Fault) → points_at levels bytes ≡ Err f
+    → Halted (IsTextOf limits (suc levels)) (34 ∷ bytes) f
 unfolding points_at
 string_halts limits zero bytes f e = flat_string_halts limits bytes f e
 string_halts limits (suc levels) bytes f e =
@@ -84,14 +93,21 @@ string_halts limits (suc levels) bytes f e =
     (λ h. halted_behind (AreQuoted 34 most_point (length bytes)) (IsTextOf limits (suc (suc levels))) (34 ∷ []) bytes f
     (characters_halts Syntax 34 most_point (length bytes) (omega arith) (λ x. absurd (omega (arith, x))) (omega arith) (λ x. refl) bytes f h)
     (34 ∷ [], Nil, NoString limits (suc levels))
-    (λ part cs are. ([], points cs, subst (λ x. IsTextOf limits (suc (suc levels)) (34 ∷ x) (points cs)) (sym (append-nil part)) (string_goes limits levels part cs are.0))))
+    (λ part cs are. (
+      [],
+      points cs,
+      subst (λ x. IsTextOf limits (suc (suc levels)) (34 ∷ x) (points cs)) (sym (append-nil part))
+          (string_goes limits levels part cs are.0),
+    )))
     (λ h. let k = h.2 in absurd cc)
     (bind_err (string_at most_point bytes) (λ x. Ok (points x.0, x.1)) f e)
 
-at_byte : (limits : Limits) (levels b c : ℕ) (bytes : List ℕ) (f : Fault) → eqb b c ≡ true → Halted (IsTextOf limits levels) (c ∷ bytes) f → Halted (IsTextOf limits levels) (b ∷ bytes) f
+at_byte : (limits : Limits) (levels b c : ℕ) (bytes : List ℕ) (f : Fault) → eqb b c ≡ true → Halted (IsTextOf limits levels) (c ∷ bytes) f
+    → Halted (IsTextOf limits levels) (b ∷ bytes) f
 at_byte limits levels b c bytes f e h = halted_whole (IsTextOf limits levels) (b ∷ bytes) (c ∷ bytes) f (ap (λ x. x ∷ bytes) (eqb-true b c e)) h
 
-other_halts : (limits : Limits) (levels : ℕ) (element : List ℕ → Read Tree) → ReadsTerms limits levels element → Halts element (IsTextOf limits levels) → Halts (other_at limits element levels) (IsTextOf limits (suc levels))
+other_halts : (limits : Limits) (levels : ℕ) (element : List ℕ → Read Tree) → ReadsTerms limits levels element → Halts element (IsTextOf limits levels)
+    → Halts (other_at limits element levels) (IsTextOf limits (suc levels))
 unfolding other_at
 other_halts limits levels element sound halts [] f e = integer_term_halts limits levels [] f e
 other_halts limits levels element sound halts (b ∷ bytes) f e =
@@ -119,5 +135,6 @@ term_halts limits zero = deep_halts limits
 term_halts limits (suc levels) =
     let element = term_at limits levels in
     let other = other_at limits element levels in
-    bracketed_halts limits levels element (term_taken limits levels) (term_halts limits levels) other (other_taken limits levels element (term_taken limits levels))
+    bracketed_halts limits levels element (term_taken limits levels) (term_halts limits levels) other
+    (other_taken limits levels element (term_taken limits levels))
     (other_halts limits levels element (term_taken limits levels) (term_halts limits levels))

@@ -24,15 +24,18 @@ unfolding after_element_at
 after_element_halts n [] f e = (Syntax, err_is {A = Bool × List ℕ} (place Syntax []) f e)
 after_element_halts n (b ∷ bytes) f e =
     ⊎_elim
-    (λ h. ⊎_elim (λ i. (TooWide, err_is {A = Bool × List ℕ} (place TooWide (b ∷ bytes)) f i.1)) (λ i. absurd (let k = i.1 in cc)) (chosen (eqb n 0) _ _ (Err f) h.1))
-    (λ h. ⊎_elim (λ i. absurd (let k = i.1 in cc)) (λ i. (Syntax, err_is {A = Bool × List ℕ} (place Syntax (b ∷ bytes)) f i.1)) (chosen (eqb b 125) _ _ (Err f) h.1))
+    (λ h. ⊎_elim (λ i. (TooWide, err_is {A = Bool × List ℕ} (place TooWide (b ∷ bytes)) f i.1)) (λ i. absurd (let k = i.1 in cc))
+    (chosen (eqb n 0) _ _ (Err f) h.1))
+    (λ h. ⊎_elim (λ i. absurd (let k = i.1 in cc)) (λ i. (Syntax, err_is {A = Bool × List ℕ} (place Syntax (b ∷ bytes)) f i.1))
+    (chosen (eqb b 125) _ _ (Err f) h.1))
     (chosen (eqb b 44) _ _ (Err f) e)
 
 -- a text of each level
 pub zero_text : (limits : Limits) (levels : ℕ) → IsTextOf limits (suc levels) (48 ∷ []) (Integer (pos 0))
 zero_text limits levels = AnInteger limits levels (48 ∷ []) (pos 0) (FromZero (48 ∷ []) (omega arith, (omega arith, tt)) (omega arith))
 
-module _ (limits : Limits) (levels : ℕ) (element : List ℕ → Read Tree) (sound : ReadsTerms limits levels element) (halts : Halts element (IsTextOf limits levels)) where
+module _ (limits : Limits) (levels : ℕ) (element : List ℕ → Read Tree) (sound : ReadsTerms limits levels element)
+    (halts : Halts element (IsTextOf limits levels)) where
   -- elements of a tuple, at most so many
   abbrev pub IsRow : ℕ → List ℕ → Row → Type 0
   IsRow n text row = (_ : AreElements limits levels text row) × (size row ≤ n)
@@ -45,10 +48,12 @@ module _ (limits : Limits) (levels : ℕ) (element : List ℕ → Read Tree) (so
       (125 ∷ [], row, (subst (λ x. AreElements limits levels x row) (sym (append_assoc text blanks (125 ∷ []))) made, omega arith))
 
   -- an element, a comma and elements
-  further_elements : (n : ℕ) (text before after rest : List ℕ) (t : Tree) (row : Row) → IsTextOf limits levels text t → AreBlanks before → AreBlanks after → IsRow n rest row
+  further_elements : (n : ℕ) (text before after rest : List ℕ) (t : Tree) (row : Row) → IsTextOf limits levels text t → AreBlanks before → AreBlanks after
+      → IsRow n rest row
       → IsRow (suc n) ((text ++ (before ++ 44 ∷ after)) ++ rest) (More t row)
   further_elements n text before after rest t row is one two more =
-      let made : AreElements limits levels (text ++ (before ++ 44 ∷ (after ++ rest))) (More t row) = MoreElements limits levels text before after rest t row is one two more.0 in
+      let made : AreElements limits levels (text ++ (before ++ 44 ∷ (after ++ rest))) (More t row) =
+      MoreElements limits levels text before after rest t row is one two more.0 in
       let same : (text ++ (before ++ 44 ∷ after)) ++ rest ≡ text ++ (before ++ 44 ∷ (after ++ rest)) = simp append_assoc in
       (subst (λ x. AreElements limits levels x (More t row)) (sym same) made, omega (arith, more.1))
 
@@ -56,37 +61,44 @@ module _ (limits : Limits) (levels : ℕ) (element : List ℕ → Read Tree) (so
   unfolding element_step
   element_halts n bytes f e =
       ⊎_elim
-      (λ h. halted_map (IsTextOf limits levels) (IsRow (suc n)) bytes f (halts bytes f h) (λ part a is. let g = one_element n part [] a is refl in (g.0, g.1, subst (λ x. IsRow (suc n) (x ++ g.0) g.1) (append-nil part) g.2)))
+      (λ h. halted_map (IsTextOf limits levels) (IsRow (suc n)) bytes f (halts bytes f h)
+      (λ part a is. let g = one_element n part [] a is refl in (g.0, g.1, subst (λ x. IsRow (suc n) (x ++ g.0) g.1) (append-nil part) g.2)))
       (λ h. let first = sound bytes h.0.0 h.0.1 h.1 in
       let gap = skipped h.0.1 in
-      let whole : bytes ≡ (first.text ++ gap.blanks) ++ skip h.0.1 = first.whole ∙ ap (λ x. first.text ++ x) gap.whole ∙ sym (append_assoc first.text gap.blanks (skip h.0.1)) in
+      let whole : bytes ≡ (first.text ++ gap.blanks) ++ skip h.0.1 =
+      first.whole ∙ ap (λ x. first.text ++ x) gap.whole ∙ sym (append_assoc first.text gap.blanks (skip h.0.1)) in
       ⊎_elim
       (λ i. let stop = after_element_halts n (skip h.0.1) f i in
-      halted_whole (IsRow (suc n)) bytes ((first.text ++ gap.blanks) ++ skip h.0.1) f whole (halted_at (IsRow (suc n)) stop.0 (first.text ++ gap.blanks) (skip h.0.1) f stop.1 (one_element n first.text gap.blanks h.0.0 first.is gap.are)))
+      halted_whole (IsRow (suc n)) bytes ((first.text ++ gap.blanks) ++ skip h.0.1) f whole
+      (halted_at (IsRow (suc n)) stop.0 (first.text ++ gap.blanks) (skip h.0.1) f stop.1 (one_element n first.text gap.blanks h.0.0 first.is gap.are)))
       (λ i. let k = i.2 in absurd cc)
       (bind_err (after_element_at n (skip h.0.1)) (λ y. Ok ((h.0.0 ∷ [], y.0), y.1)) f h.2))
       (bind_err (element bytes) (λ x. after_element_at n (skip x.1) >>= λ y. Ok ((x.0 ∷ [], y.0), y.1)) f e)
 
   -- elements halt behind an element, a comma and blanks
-  behind_comma : (n : ℕ) (bytes r tail after : List ℕ) (t : Tree) (f : Fault) → 0 < n → IsTermAt limits levels bytes t r → skip r ≡ 44 ∷ tail → skip tail ≡ after → Halted (IsRow n) after f
+  behind_comma : (n : ℕ) (bytes r tail after : List ℕ) (t : Tree) (f : Fault) → 0 < n → IsTermAt limits levels bytes t r → skip r ≡ 44 ∷ tail
+      → skip tail ≡ after → Halted (IsRow n) after f
       → Halted (IsRow (suc n)) bytes f
   behind_comma zero bytes r tail after t f some first comma gap h = absurd (omega (arith, some))
   behind_comma (suc n) bytes r tail after t f some first comma gap h =
       let before = skipped r in
       let behind = skipped tail in
       let taken = first.text ++ (before.blanks ++ 44 ∷ behind.blanks) in
-      let whole : bytes ≡ taken ++ after = with_more 44 bytes first.text r before.blanks (skip r) tail behind.blanks (skip tail) [] after first.whole before.whole comma behind.whole gap
+      let whole : bytes ≡ taken ++ after =
+      with_more 44 bytes first.text r before.blanks (skip r) tail behind.blanks (skip tail) [] after first.whole before.whole comma behind.whole gap
       ∙ ap (λ x. (first.text ++ (before.blanks ++ 44 ∷ x)) ++ after) (append-nil behind.blanks) in
       let more : (rest : List ℕ) (row : Row) → IsRow (suc n) rest row → IsRow (suc (suc n)) (taken ++ rest) (More t row) =
       λ rest row are. further_elements (suc n) first.text before.blanks behind.blanks rest t row first.is before.are behind.are are in
       let again = one_element n first.text [] t first.is refl in
       let last : IsRow (suc n) ((first.text ++ []) ++ again.0) again.1 = again.2 in
       halted_whole (IsRow (suc (suc n))) bytes (taken ++ after) f whole
-      (halted_behind (IsRow (suc n)) (IsRow (suc (suc n))) taken after f h ((first.text ++ []) ++ again.0, More t again.1, more ((first.text ++ []) ++ again.0) again.1 last)
+      (halted_behind (IsRow (suc n)) (IsRow (suc (suc n))) taken after f h
+      ((first.text ++ []) ++ again.0, More t again.1, more ((first.text ++ []) ++ again.0) again.1 last)
       (λ rest row are. ([], More t row, subst (λ x. IsRow (suc (suc n)) (taken ++ x) (More t row)) (sym (append-nil rest)) (more rest row are))))
 
   series_behind : (n : ℕ) (bytes : List ℕ) (f : Fault) (part : List Tree) (more : Bool) (after : List ℕ) → Halts (series_at (element_step element) n) (IsRow n)
-      → element_step element n bytes ≡ Ok ((part, more), after) → series_rest part (series_at (element_step element) n) more after ≡ Err f → Halted (IsRow (suc n)) bytes f
+      → element_step element n bytes ≡ Ok ((part, more), after) → series_rest part (series_at (element_step element) n) more after ≡ Err f
+      → Halted (IsRow (suc n)) bytes f
   unfolding element_step
   series_behind n bytes f part false after later e g = absurd cc
   series_behind n bytes f part true after later e g =
@@ -113,18 +125,27 @@ module _ (limits : Limits) (levels : ℕ) (element : List ℕ → Read Tree) (so
       (λ h. series_behind n bytes f h.0.0.0 h.0.0.1 h.0.1 (elements_halt n) h.1 h.2)
       (bind_err (element_step element n bytes) (λ x. series_rest x.0.0 (series_at (element_step element) n) x.0.1 x.1) f e)
 
-  tuple_inner : (blanks inner : List ℕ) (f : Fault) → AreBlanks blanks → GoesOn (IsTextOf limits (suc levels)) (123 ∷ blanks) → elements_at element limits.elements inner ≡ Err f
+  tuple_inner : (blanks inner : List ℕ) (f : Fault) → AreBlanks blanks → GoesOn (IsTextOf limits (suc levels)) (123 ∷ blanks)
+      → elements_at element limits.elements inner ≡ Err f
       → Halted (IsTextOf limits (suc levels)) ((123 ∷ blanks) ++ inner) f
   unfolding elements_at
-  tuple_inner blanks [] f are none e = halted_at (IsTextOf limits (suc levels)) Syntax (123 ∷ blanks) [] f (err_is {A = List Tree × List ℕ} (place Syntax []) f e) none
+  tuple_inner blanks [] f are none e =
+      halted_at (IsTextOf limits (suc levels)) Syntax (123 ∷ blanks) [] f (err_is {A = List Tree × List ℕ} (place Syntax []) f e) none
   tuple_inner blanks (b ∷ inner) f are none e =
       ⊎_elim (λ h. absurd (let k = h.1 in cc))
-      (λ h. halted_behind (IsRow limits.elements) (IsTextOf limits (suc levels)) (123 ∷ blanks) (b ∷ inner) f (elements_halt limits.elements (b ∷ inner) f h.1) none
-      (λ rest row are_all. ([], Tuple row, subst (λ x. IsTextOf limits (suc levels) ((123 ∷ blanks) ++ x) (Tuple row)) (sym (append-nil rest)) (ATuple limits levels blanks rest row are are_all.0 are_all.1))))
+      (λ h. halted_behind (IsRow limits.elements) (IsTextOf limits (suc levels)) (123 ∷ blanks) (b ∷ inner) f
+      (elements_halt limits.elements (b ∷ inner) f h.1) none
+      (λ rest row are_all. (
+        [],
+        Tuple row,
+        subst (λ x. IsTextOf limits (suc levels) ((123 ∷ blanks) ++ x) (Tuple row)) (sym (append-nil rest))
+            (ATuple limits levels blanks rest row are are_all.0 are_all.1),
+      )))
       (chosen (eqb b 125) _ _ (Err f) e)
 
   -- a tuple halts behind its brace and blanks
-  tuple_from : (bytes blanks inner : List ℕ) (f : Fault) → bytes ≡ blanks ++ inner → AreBlanks blanks → elements_at element limits.elements inner ≡ Err f → Halted (IsTextOf limits (suc levels)) (123 ∷ bytes) f
+  tuple_from : (bytes blanks inner : List ℕ) (f : Fault) → bytes ≡ blanks ++ inner → AreBlanks blanks → elements_at element limits.elements inner ≡ Err f
+      → Halted (IsTextOf limits (suc levels)) (123 ∷ bytes) f
   unfolding elements_at
   tuple_from bytes blanks inner f gap are e =
       let none : GoesOn (IsTextOf limits (suc levels)) (123 ∷ blanks) = (125 ∷ [], Tuple Ends, NoElements limits levels blanks are) in
@@ -141,7 +162,9 @@ module _ (limits : Limits) (levels : ℕ) (element : List ℕ → Read Tree) (so
 
   -- what follows a head and blanks, up to the end of the list
   abbrev pub IsEnding : List ℕ → Tree → Type 0
-  IsEnding rest tail = (head : Tree) (text blanks : List ℕ) → IsTextOf limits levels text head → AreBlanks blanks → AreCells limits levels (text ++ (blanks ++ rest)) (Cons head tail)
+  IsEnding rest tail =
+      (head : Tree) (text blanks : List ℕ) → IsTextOf limits levels text head → AreBlanks blanks → AreCells limits levels
+      (text ++ (blanks ++ rest)) (Cons head tail)
 
   closing : IsEnding (93 ∷ []) Nil
   closing head text blanks is are = LastCell limits levels text blanks head is are
@@ -159,7 +182,8 @@ module _ (limits : Limits) (levels : ℕ) (element : List ℕ → Read Tree) (so
 
   bar : (after text : List ℕ) (tail : Tree) → AreBlanks after → IsLast text tail → IsEnding (124 ∷ (after ++ text)) tail
   bar after text tail are l head first before is one =
-      subst (λ x. AreCells limits levels (first ++ (before ++ 124 ∷ (after ++ x))) (Cons head tail)) (sym l.whole) (LastTail limits levels first before after l.last l.blanks head tail is one are l.is l.are)
+      subst (λ x. AreCells limits levels (first ++ (before ++ 124 ∷ (after ++ x))) (Cons head tail)) (sym l.whole)
+      (LastTail limits levels first before after l.last l.blanks head tail is one are l.is l.are)
 
   -- behind a last tail and blanks the closing bracket goes on
   tail_goes : (last blanks : List ℕ) (tail : Tree) → IsTextOf limits (suc levels) last tail → AreBlanks blanks → GoesOn IsLast (last ++ blanks)
@@ -167,12 +191,16 @@ module _ (limits : Limits) (levels : ℕ) (element : List ℕ → Read Tree) (so
 
   module _ (other : List ℕ → Read Tree) (others_sound : ReadsTerms limits (suc levels) other) (others_halt : Halts other (IsTextOf limits (suc levels))) where
     -- a last tail that was read, and no closing bracket behind it
-    unclosed : (bytes after : List ℕ) (tail : Tree) (f : Fault) → IsTermAt limits (suc levels) bytes tail after → closed (Ok (tail, after)) ≡ Err f → Halted IsLast bytes f
+    unclosed : (bytes after : List ℕ) (tail : Tree) (f : Fault) → IsTermAt limits (suc levels) bytes tail after → closed (Ok (tail, after)) ≡ Err f
+        → Halted IsLast bytes f
     unclosed bytes after tail f is e =
         let gap = skipped after in
-        let whole : bytes ≡ (is.text ++ gap.blanks) ++ skip after = is.whole ∙ ap (λ x. is.text ++ x) gap.whole ∙ sym (append_assoc is.text gap.blanks (skip after)) in
+        let whole : bytes ≡ (is.text ++ gap.blanks) ++ skip after =
+        is.whole ∙ ap (λ x. is.text ++ x) gap.whole ∙ sym (append_assoc is.text gap.blanks (skip after)) in
         ⊎_elim
-        (λ h. halted_whole IsLast bytes ((is.text ++ gap.blanks) ++ skip after) f whole (halted_at IsLast Syntax (is.text ++ gap.blanks) (skip after) f (expect_halts 93 (skip after) f h) (tail_goes is.text gap.blanks tail is.is gap.are)))
+        (λ h. halted_whole IsLast bytes ((is.text ++ gap.blanks) ++ skip after) f whole
+        (halted_at IsLast Syntax (is.text ++ gap.blanks) (skip after) f (expect_halts 93 (skip after) f h)
+        (tail_goes is.text gap.blanks tail is.is gap.are)))
         (λ h. let k = h.2 in absurd cc)
         (bind_err (expect 93 (skip after)) (λ rest. Ok (Last tail rest)) f e)
 
@@ -189,7 +217,12 @@ module _ (limits : Limits) (levels : ℕ) (element : List ℕ → Read Tree) (so
         ⊎_elim
         (λ h. let same : b ∷ inner ≡ (93 ∷ []) ++ inner = ap (λ x. x ∷ inner) (eqb-true b 93 h.0) in
         let whole : 91 ∷ bytes ≡ (91 ∷ blanks ++ 93 ∷ []) ++ inner = ap (λ x. 91 ∷ x) (with_front_blanks bytes blanks (b ∷ inner) (93 ∷ []) inner gap same) in
-        unclosed (91 ∷ bytes) inner Nil f (record { text = 91 ∷ blanks ++ 93 ∷ []; whole = whole; is = ANil limits levels blanks are; ends = whole_by (91 ∷ blanks ++ 93 ∷ []) inner (λ c. refl) }) h.1)
+        unclosed (91 ∷ bytes) inner Nil f (record {
+          text = 91 ∷ blanks ++ 93 ∷ [];
+          whole = whole;
+          is = ANil limits levels blanks are;
+          ends = whole_by (91 ∷ blanks ++ 93 ∷ []) inner (λ c. refl);
+        }) h.1)
         (λ h. let k = h.1 in absurd cc)
         (chosen (eqb b 93) _ _ (Err f) e)
 
@@ -198,7 +231,8 @@ module _ (limits : Limits) (levels : ℕ) (element : List ℕ → Read Tree) (so
     tail_halts [] f e = closed_halts [] f e
     tail_halts (b ∷ bytes) f e =
         ⊎_elim
-        (λ h. let gap = skipped bytes in halted_whole IsLast (b ∷ bytes) (91 ∷ bytes) f (ap (λ x. x ∷ bytes) (eqb-true b 91 h.0)) (inner_halts bytes gap.blanks (skip bytes) f gap.whole gap.are h.1))
+        (λ h. let gap = skipped bytes in halted_whole IsLast (b ∷ bytes) (91 ∷ bytes) f (ap (λ x. x ∷ bytes) (eqb-true b 91 h.0))
+        (inner_halts bytes gap.blanks (skip bytes) f gap.whole gap.are h.1))
         (λ h. closed_halts (b ∷ bytes) f h.1)
         (chosen (eqb b 91) _ _ (Err f) e)
 
@@ -223,13 +257,15 @@ module _ (limits : Limits) (levels : ℕ) (element : List ℕ → Read Tree) (so
         (chosen (eqb b 44) _ _ (Err f) e)
 
     -- a head and blanks, and then what may follow them
-    ended : (bytes r : List ℕ) (head : Tree) (f : Fault) → IsTermAt limits levels bytes head r → Halted IsEnding (skip r) f → Halted (AreCells limits levels) bytes f
+    ended : (bytes r : List ℕ) (head : Tree) (f : Fault) → IsTermAt limits levels bytes head r → Halted IsEnding (skip r) f
+        → Halted (AreCells limits levels) bytes f
     ended bytes r head f first h =
         let gap = skipped r in
         let taken = first.text ++ gap.blanks in
         let whole : bytes ≡ taken ++ skip r = first.whole ∙ ap (λ x. first.text ++ x) gap.whole ∙ sym (append_assoc first.text gap.blanks (skip r)) in
         let made : (rest : List ℕ) (tail : Tree) → IsEnding rest tail → AreCells limits levels (taken ++ rest) (Cons head tail) =
-        λ rest tail e. subst (λ x. AreCells limits levels x (Cons head tail)) (sym (append_assoc first.text gap.blanks rest)) (e head first.text gap.blanks first.is gap.are) in
+        λ rest tail e. subst (λ x. AreCells limits levels x (Cons head tail)) (sym (append_assoc first.text gap.blanks rest))
+        (e head first.text gap.blanks first.is gap.are) in
         halted_whole (AreCells limits levels) bytes (taken ++ skip r) f whole (halted_behind IsEnding (AreCells limits levels) taken (skip r) f h
         (93 ∷ [], Cons head Nil, made (93 ∷ []) Nil closing)
         (λ rest tail e. ([], Cons head tail, subst (λ x. AreCells limits levels (taken ++ x) (Cons head tail)) (sym (append-nil rest)) (made rest tail e))))
@@ -238,7 +274,8 @@ module _ (limits : Limits) (levels : ℕ) (element : List ℕ → Read Tree) (so
     unfolding cell_step
     cell_halts bytes f e =
         ⊎_elim
-        (λ h. halted_map (IsTextOf limits levels) (AreCells limits levels) bytes f (halts bytes f h) (λ part head is. (93 ∷ [], Cons head Nil, closing head part [] is refl)))
+        (λ h. halted_map (IsTextOf limits levels) (AreCells limits levels) bytes f (halts bytes f h)
+        (λ part head is. (93 ∷ [], Cons head Nil, closing head part [] is refl)))
         (λ h. ⊎_elim
         (λ i. ended bytes h.0.1 h.0.0 f (sound bytes h.0.0 h.0.1 h.1) (next_halts (skip h.0.1) f i))
         (λ i. let k = i.2 in absurd cc)
@@ -246,7 +283,8 @@ module _ (limits : Limits) (levels : ℕ) (element : List ℕ → Read Tree) (so
         (bind_err (element bytes) (λ x. next_at other (skip x.1) >>= λ next. Ok (x.0, next)) f e)
 
     -- cells halt behind a head and a comma
-    behind_head : (bytes r tail after : List ℕ) (head : Tree) (f : Fault) → IsTermAt limits levels bytes head r → skip r ≡ 44 ∷ tail → skip tail ≡ after → Halted (AreCells limits levels) after f
+    behind_head : (bytes r tail after : List ℕ) (head : Tree) (f : Fault) → IsTermAt limits levels bytes head r → skip r ≡ 44 ∷ tail → skip tail ≡ after
+        → Halted (AreCells limits levels) after f
         → Halted (AreCells limits levels) bytes f
     behind_head bytes r tail after head f first comma gap h =
         let behind = skipped tail in
@@ -263,7 +301,8 @@ module _ (limits : Limits) (levels : ℕ) (element : List ℕ → Read Tree) (so
     inner_last : (blanks rest : List ℕ) (t : Tree) → AreBlanks blanks → AreCells limits levels rest t → IsLast ((91 ∷ blanks ++ rest) ++ 93 ∷ []) t
     inner_last blanks rest t are cells = last_of (91 ∷ blanks ++ rest) [] t (AList limits levels blanks rest t are cells) refl
 
-    inner_ending : (after blanks rest : List ℕ) (t : Tree) → AreBlanks after → AreBlanks blanks → AreCells limits levels rest t → IsEnding ((124 ∷ (after ++ 91 ∷ blanks)) ++ (rest ++ 93 ∷ [])) t
+    inner_ending : (after blanks rest : List ℕ) (t : Tree) → AreBlanks after → AreBlanks blanks → AreCells limits levels rest t
+        → IsEnding ((124 ∷ (after ++ 91 ∷ blanks)) ++ (rest ++ 93 ∷ [])) t
     inner_ending after blanks rest t one two cells =
         let same : after ++ ((91 ∷ blanks ++ rest) ++ 93 ∷ []) ≡ (after ++ 91 ∷ blanks) ++ (rest ++ 93 ∷ []) = simp append_assoc in
         subst (λ x. IsEnding (124 ∷ x) t) same (bar after ((91 ∷ blanks ++ rest) ++ 93 ∷ []) t one (inner_last blanks rest t two cells))
@@ -271,40 +310,47 @@ module _ (limits : Limits) (levels : ℕ) (element : List ℕ → Read Tree) (so
     empty_ending : (after blanks : List ℕ) → AreBlanks after → AreBlanks blanks → IsEnding ((124 ∷ (after ++ 91 ∷ blanks)) ++ 93 ∷ 93 ∷ []) Nil
     empty_ending after blanks one two =
         let same : after ++ ((91 ∷ blanks ++ 93 ∷ []) ++ 93 ∷ []) ≡ (after ++ 91 ∷ blanks) ++ 93 ∷ 93 ∷ [] = simp append_assoc in
-        subst (λ x. IsEnding (124 ∷ x) Nil) same (bar after ((91 ∷ blanks ++ 93 ∷ []) ++ 93 ∷ []) Nil one (last_of (91 ∷ blanks ++ 93 ∷ []) [] Nil (ANil limits levels blanks two) refl))
+        subst (λ x. IsEnding (124 ∷ x) Nil) same (bar after ((91 ∷ blanks ++ 93 ∷ []) ++ 93 ∷ []) Nil one
+        (last_of (91 ∷ blanks ++ 93 ∷ []) [] Nil (ANil limits levels blanks two) refl))
 
     -- cells halt behind a head, a bar and an opening bracket
-    behind_bar : (bytes r tail bracket after : List ℕ) (head : Tree) (f : Fault) → IsTermAt limits levels bytes head r → skip r ≡ 124 ∷ tail → skip tail ≡ 91 ∷ bracket → skip bracket ≡ after
+    behind_bar : (bytes r tail bracket after : List ℕ) (head : Tree) (f : Fault) → IsTermAt limits levels bytes head r → skip r ≡ 124 ∷ tail
+        → skip tail ≡ 91 ∷ bracket → skip bracket ≡ after
         → Halted (AreCells limits levels) after f → Halted (AreCells limits levels) bytes f
     behind_bar bytes r tail bracket after head f first bar opens gap h =
         let behind = skipped tail in
         let blanks = skipped bracket in
         let taken : List ℕ = 124 ∷ (behind.blanks ++ 91 ∷ blanks.blanks) in
         let whole : skip r ≡ taken ++ after =
-        bar ∙ ap (λ x. 124 ∷ x) (behind.whole ∙ ap (λ x. behind.blanks ++ x) (opens ∙ ap (λ x. 91 ∷ x) (blanks.whole ∙ ap (λ x. blanks.blanks ++ x) gap)) ∙ sym (append_assoc behind.blanks (91 ∷ blanks.blanks) after)) in
+        bar ∙ ap (λ x. 124 ∷ x) (behind.whole ∙ ap (λ x. behind.blanks ++ x) (opens ∙ ap (λ x. 91 ∷ x) (blanks.whole ∙ ap (λ x. blanks.blanks ++ x) gap))
+        ∙ sym (append_assoc behind.blanks (91 ∷ blanks.blanks) after)) in
         ended bytes r head f first (halted_whole IsEnding (skip r) (taken ++ after) f whole (halted_behind (AreCells limits levels) IsEnding taken after f h
         (93 ∷ 93 ∷ [], Nil, empty_ending behind.blanks blanks.blanks behind.are blanks.are)
         (λ rest t are. (93 ∷ [], t, inner_ending behind.blanks blanks.blanks rest t behind.are blanks.are are))))
 
     -- no closing bracket stands behind a list in brackets that is the last tail
-    unbarred : (bytes r tail after : List ℕ) (head t : Tree) (f : Fault) → IsTermAt limits levels bytes head r → skip r ≡ 124 ∷ tail → IsTermAt limits (suc levels) (skip tail) t after
+    unbarred : (bytes r tail after : List ℕ) (head t : Tree) (f : Fault) → IsTermAt limits levels bytes head r → skip r ≡ 124 ∷ tail
+        → IsTermAt limits (suc levels) (skip tail) t after
         → expect 93 (skip after) ≡ Err f → Halted (AreCells limits levels) bytes f
     unbarred bytes r tail after head t f first bar_is last e =
         let behind = skipped tail in
         let gap = skipped after in
         let taken : List ℕ = 124 ∷ (behind.blanks ++ (last.text ++ gap.blanks)) in
         let whole : skip r ≡ taken ++ skip after =
-        bar_is ∙ ap (λ x. 124 ∷ x) (behind.whole ∙ ap (λ x. behind.blanks ++ x) (last.whole ∙ ap (λ x. last.text ++ x) gap.whole ∙ sym (append_assoc last.text gap.blanks (skip after)))
+        bar_is ∙ ap (λ x. 124 ∷ x) (behind.whole ∙ ap (λ x. behind.blanks ++ x)
+        (last.whole ∙ ap (λ x. last.text ++ x) gap.whole ∙ sym (append_assoc last.text gap.blanks (skip after)))
         ∙ sym (append_assoc behind.blanks (last.text ++ gap.blanks) (skip after))) in
         let goes = tail_goes last.text gap.blanks t last.is gap.are in
-        let same : behind.blanks ++ ((last.text ++ gap.blanks) ++ goes.0) ≡ (behind.blanks ++ (last.text ++ gap.blanks)) ++ goes.0 = sym (append_assoc behind.blanks (last.text ++ gap.blanks) goes.0) in
+        let same : behind.blanks ++ ((last.text ++ gap.blanks) ++ goes.0) ≡ (behind.blanks ++ (last.text ++ gap.blanks)) ++ goes.0 =
+        sym (append_assoc behind.blanks (last.text ++ gap.blanks) goes.0) in
         ended bytes r head f first (halted_whole IsEnding (skip r) (taken ++ skip after) f whole
         (halted_at IsEnding Syntax taken (skip after) f (expect_halts 93 (skip after) f e)
         (goes.0, goes.1, subst (λ x. IsEnding (124 ∷ x) goes.1) same (bar behind.blanks ((last.text ++ gap.blanks) ++ goes.0) goes.1 behind.are goes.2))))
 
     cells_behind : (cells : List ℕ → Read Tree) (bytes r : List ℕ) (head : Tree) (next : Next) (f : Fault) → Halts cells (AreCells limits levels)
         → ((bytes : List ℕ) (t : Tree) (rest : List ℕ) → cells bytes ≡ Ok (t, rest) → AreCellsAt limits levels element sound other others_sound bytes t rest)
-        → IsTermAt limits levels bytes head r → IsNext limits levels element sound (skip r) next → cells_after head cells next ≡ Err f → Halted (AreCells limits levels) bytes f
+        → IsTermAt limits levels bytes head r → IsNext limits levels element sound (skip r) next → cells_after head cells next ≡ Err f
+        → Halted (AreCells limits levels) bytes f
     cells_behind cells bytes r head (Head after) f later read first next e =
         ⊎_elim (λ h. behind_head bytes r next.0 after head f first next.1 next.2 (later after f h)) (λ h. let k = h.2 in absurd cc)
         (bind_err (cells after) (λ x. Ok (Cons head x.0, x.1)) f e)
@@ -313,9 +359,15 @@ module _ (limits : Limits) (levels : ℕ) (element : List ℕ → Read Tree) (so
         (λ h. behind_bar bytes r next.0 next.1 after head f first next.2 next.3 next.4 (later after f h))
         (λ h. let others = read after h.0.0 h.0.1 h.1 in
         let gap = skipped next.1 in
-        let whole : skip next.0 ≡ (91 ∷ gap.blanks ++ others.text) ++ h.0.1 = next.3 ∙ ap (λ x. 91 ∷ x) (with_front_blanks next.1 gap.blanks (skip next.1) others.text h.0.1 gap.whole (next.4 ∙ others.whole)) in
+        let whole : skip next.0 ≡ (91 ∷ gap.blanks ++ others.text) ++ h.0.1 =
+        next.3 ∙ ap (λ x. 91 ∷ x) (with_front_blanks next.1 gap.blanks (skip next.1) others.text h.0.1 gap.whole (next.4 ∙ others.whole)) in
         let last : IsTermAt limits (suc levels) (skip next.0) h.0.0 h.0.1 =
-        record { text = 91 ∷ gap.blanks ++ others.text; whole = whole; is = AList limits levels gap.blanks others.text h.0.0 gap.are others.are; ends = whole_by (91 ∷ gap.blanks ++ others.text) h.0.1 (λ c. refl) } in
+        record {
+          text = 91 ∷ gap.blanks ++ others.text;
+          whole = whole;
+          is = AList limits levels gap.blanks others.text h.0.0 gap.are others.are;
+          ends = whole_by (91 ∷ gap.blanks ++ others.text) h.0.1 (λ c. refl);
+        } in
         ⊎_elim (unbarred bytes r next.0 h.0.1 head h.0.0 f first next.2 last) (λ i. let k = i.2 in absurd cc)
         (bind_err (expect 93 (skip h.0.1)) (λ rest. Ok (Cons head h.0.0, rest)) f h.2))
         (bind_err (cells after) (λ x. expect 93 (skip x.1) >>= λ rest. Ok (Cons head x.0, rest)) f e)
@@ -330,18 +382,29 @@ module _ (limits : Limits) (levels : ℕ) (element : List ℕ → Read Tree) (so
         let v = bind_ok (next_at other (skip u.0.1)) (λ next. Ok (u.0.0, next)) h.0 u.2 in
         let made : Tree × Next = (u.0.0, v.0) in
         let same = ok_is made h.0 v.2 in
-        let g : cells_after u.0.0 (cells_at element other n) v.0 ≡ Err f = subst (λ (x : Tree × Next). cells_after x.0 (cells_at element other n) x.1 ≡ Err f) (sym same) h.2 in
-        cells_behind (cells_at element other n) bytes u.0.1 u.0.0 v.0 f (cells_halt n) (cells_taken limits levels element sound other others_sound n) (sound bytes u.0.0 u.0.1 u.1)
+        let g : cells_after u.0.0 (cells_at element other n) v.0 ≡ Err f =
+        subst (λ (x : Tree × Next). cells_after x.0 (cells_at element other n) x.1 ≡ Err f) (sym same) h.2 in
+        cells_behind (cells_at element other n) bytes u.0.1 u.0.0 v.0 f (cells_halt n) (cells_taken limits levels element sound other others_sound n)
+        (sound bytes u.0.0 u.0.1 u.1)
         (next_taken limits levels element sound other others_sound (skip u.0.1) v.0 v.1) g)
         (bind_err (cell_step element other bytes) (λ x. cells_after x.0 (cells_at element other n) x.1) f e)
 
-    list_inner : (blanks inner : List ℕ) (f : Fault) → AreBlanks blanks → list_at element other inner ≡ Err f → Halted (IsTextOf limits (suc levels)) ((91 ∷ blanks) ++ inner) f
+    list_inner : (blanks inner : List ℕ) (f : Fault) → AreBlanks blanks → list_at element other inner ≡ Err f
+        → Halted (IsTextOf limits (suc levels)) ((91 ∷ blanks) ++ inner) f
     unfolding list_at
-    list_inner blanks [] f are e = halted_at (IsTextOf limits (suc levels)) Syntax (91 ∷ blanks) [] f (err_is {A = Tree × List ℕ} (place Syntax []) f e) (93 ∷ [], Nil, ANil limits levels blanks are)
+    list_inner blanks [] f are e =
+        halted_at (IsTextOf limits (suc levels)) Syntax (91 ∷ blanks) [] f (err_is {A = Tree × List ℕ} (place Syntax []) f e)
+        (93 ∷ [], Nil, ANil limits levels blanks are)
     list_inner blanks (b ∷ inner) f are e =
         ⊎_elim (λ h. absurd (let k = h.1 in cc))
-        (λ h. halted_behind (AreCells limits levels) (IsTextOf limits (suc levels)) (91 ∷ blanks) (b ∷ inner) f (cells_halt (length (b ∷ inner)) (b ∷ inner) f h.1) (93 ∷ [], Nil, ANil limits levels blanks are)
-        (λ rest t cells. ([], t, subst (λ x. IsTextOf limits (suc levels) ((91 ∷ blanks) ++ x) t) (sym (append-nil rest)) (AList limits levels blanks rest t are cells))))
+        (λ h. halted_behind (AreCells limits levels) (IsTextOf limits (suc levels)) (91 ∷ blanks) (b ∷ inner) f
+        (cells_halt (length (b ∷ inner)) (b ∷ inner) f h.1) (93 ∷ [], Nil, ANil limits levels blanks are)
+        (λ rest t cells. (
+          [],
+          t,
+          subst (λ x. IsTextOf limits (suc levels) ((91 ∷ blanks) ++ x) t) (sym (append-nil rest))
+              (AList limits levels blanks rest t are cells),
+        )))
         (chosen (eqb b 93) _ _ (Err f) e)
 
     -- a list, or another term

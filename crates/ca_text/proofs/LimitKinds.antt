@@ -45,22 +45,27 @@ module _ (raises : Why → Bool) (v : Why) (m n : ℕ) where
   goes_up : raises v ≡ true → m < n → Grown raises v m n
   goes_up h less = record { more = λ g. less; same = λ g. let no = sym h ∙ g in absurd cc }
 
-one_raised : (w : Why) (bytes : List ℕ) → IsRaised (just w) (λ (x : Tree × List ℕ). x.1) (term_at standard 64 bytes) (term_at (limits_for w) (suc (levels_for w)) bytes)
+one_raised : (w : Why) (bytes : List ℕ)
+    → IsRaised (just w) (λ (x : Tree × List ℕ). x.1) (term_at standard 64 bytes) (term_at (limits_for w) (suc (levels_for w)) bytes)
 one_raised Syntax bytes =
-    term_raised (just Syntax) refl standard standard 64 64 (omega arith) (omega arith) (stays (just Syntax) TooWide 120 120 refl refl) (stays (just Syntax) AtomTooLong 255 255 refl refl)
+    term_raised (just Syntax) refl standard standard 64 64 (omega arith) (omega arith) (stays (just Syntax) TooWide 120 120 refl refl)
+    (stays (just Syntax) AtomTooLong 255 255 refl refl)
     (stays (just Syntax) TooDeep 64 64 refl refl) bytes
 one_raised AtomTooLong bytes =
     term_raised (just AtomTooLong) refl standard longer_atoms 64 64 (omega arith) (omega arith) (stays (just AtomTooLong) TooWide 120 120 refl refl)
     (goes_up (just AtomTooLong) AtomTooLong 255 256 refl (omega arith)) (stays (just AtomTooLong) TooDeep 64 64 refl refl) bytes
 one_raised TooDeep bytes =
-    term_raised (just TooDeep) refl standard standard 64 65 (omega arith) (omega arith) (stays (just TooDeep) TooWide 120 120 refl refl) (stays (just TooDeep) AtomTooLong 255 255 refl refl)
+    term_raised (just TooDeep) refl standard standard 64 65 (omega arith) (omega arith) (stays (just TooDeep) TooWide 120 120 refl refl)
+    (stays (just TooDeep) AtomTooLong 255 255 refl refl)
     (goes_up (just TooDeep) TooDeep 64 65 refl (omega arith)) bytes
 one_raised TooWide bytes =
-    term_raised (just TooWide) refl standard wider_tuples 64 64 (omega arith) (omega arith) (goes_up (just TooWide) TooWide 120 121 refl (omega arith)) (stays (just TooWide) AtomTooLong 255 255 refl refl)
+    term_raised (just TooWide) refl standard wider_tuples 64 64 (omega arith) (omega arith) (goes_up (just TooWide) TooWide 120 121 refl (omega arith))
+    (stays (just TooWide) AtomTooLong 255 255 refl refl)
     (stays (just TooWide) TooDeep 64 64 refl refl) bytes
 
 -- what got past a byte begins a text with it
-begins_past : (limits : Limits) (levels : ℕ) (bytes : List ℕ) (left : ℕ) (r : Read Tree) → term_at limits (suc levels) bytes ≡ r → left ≤ length bytes → Past (λ (x : Tree × List ℕ). x.1) left r
+begins_past : (limits : Limits) (levels : ℕ) (bytes : List ℕ) (left : ℕ) (r : Read Tree) → term_at limits (suc levels) bytes ≡ r → left ≤ length bytes
+    → Past (λ (x : Tree × List ℕ). x.1) left r
     → GoesOnAt limits (suc levels) bytes (length bytes - left)
 begins_past limits levels bytes left (Ok (t, rest)) e few past =
     let s = term_taken limits (suc levels) bytes t rest e in
@@ -70,22 +75,28 @@ begins_past limits levels bytes left (Ok (t, rest)) e few past =
 begins_past limits levels bytes left (Err f) e few past =
     (omega (arith, few, past), begins_before limits levels bytes f (length bytes - left + 1) e (omega (arith, few, past)))
 
-past_of : (raises : Why → Bool) (r s : Read Tree) (f : Fault) → r ≡ Err f → IsRaised raises (λ (x : Tree × List ℕ). x.1) r s → raises f.why ≡ true → Past (λ (x : Tree × List ℕ). x.1) f.left s
-past_of raises r s f e h up = let i : IsRaised raises (λ (x : Tree × List ℕ). x.1) (Err f) s = subst (λ x. IsRaised raises (λ (x : Tree × List ℕ). x.1) x s) e h in i.1 up
+past_of : (raises : Why → Bool) (r s : Read Tree) (f : Fault) → r ≡ Err f → IsRaised raises (λ (x : Tree × List ℕ). x.1) r s → raises f.why ≡ true
+    → Past (λ (x : Tree × List ℕ). x.1) f.left s
+past_of raises r s f e h up =
+    let i : IsRaised raises (λ (x : Tree × List ℕ). x.1) (Err f) s = subst (λ x. IsRaised raises (λ (x : Tree × List ℕ). x.1) x s) e h in i.1 up
 
 same_of : (raises : Why → Bool) (r s : Read Tree) (f : Fault) → r ≡ Err f → IsRaised raises (λ (x : Tree × List ℕ). x.1) r s → raises f.why ≡ false → s ≡ Err f
-same_of raises r s f e h stay = let i : IsRaised raises (λ (x : Tree × List ℕ). x.1) (Err f) s = subst (λ x. IsRaised raises (λ (x : Tree × List ℕ). x.1) x s) e h in i.0 stay
+same_of raises r s f e h stay =
+    let i : IsRaised raises (λ (x : Tree × List ℕ). x.1) (Err f) s = subst (λ x. IsRaised raises (λ (x : Tree × List ℕ). x.1) x s) e h in i.0 stay
 
 -- a fault of a limit goes on with that limit raised
-pub limit_goes : (w : Why) (bytes : List ℕ) (f : Fault) → term_at standard 64 bytes ≡ Err f → just w f.why ≡ true → GoesOnAt (limits_for w) (suc (levels_for w)) bytes (length bytes - f.left)
+pub limit_goes : (w : Why) (bytes : List ℕ) (f : Fault) → term_at standard 64 bytes ≡ Err f → just w f.why ≡ true
+    → GoesOnAt (limits_for w) (suc (levels_for w)) bytes (length bytes - f.left)
 limit_goes w bytes f e up =
     begins_past (limits_for w) (levels_for w) bytes f.left (term_at (limits_for w) (suc (levels_for w)) bytes) refl (within_by standard 64 bytes f e)
     (past_of (just w) (term_at standard 64 bytes) (term_at (limits_for w) (suc (levels_for w)) bytes) f e (one_raised w bytes) up)
 
 -- and no other does
-pub limit_stays : (w : Why) (bytes : List ℕ) (f : Fault) → term_at standard 64 bytes ≡ Err f → just w f.why ≡ false → GoesOnAt (limits_for w) (suc (levels_for w)) bytes (length bytes - f.left) → ⊥
+pub limit_stays : (w : Why) (bytes : List ℕ) (f : Fault) → term_at standard 64 bytes ≡ Err f → just w f.why ≡ false
+    → GoesOnAt (limits_for w) (suc (levels_for w)) bytes (length bytes - f.left) → ⊥
 limit_stays w bytes f e stay goes =
-    ends (limits_for w) (suc (levels_for w)) bytes f (same_of (just w) (term_at standard 64 bytes) (term_at (limits_for w) (suc (levels_for w)) bytes) f e (one_raised w bytes) stay) goes.0 goes.1
+    ends (limits_for w) (suc (levels_for w)) bytes f
+    (same_of (just w) (term_at standard 64 bytes) (term_at (limits_for w) (suc (levels_for w)) bytes) f e (one_raised w bytes) stay) goes.0 goes.1
 
 -- ---- all limits raised
 
@@ -101,16 +112,21 @@ grows limits levels TooWide = ltb 120 (limits.elements + 120)
 grown_by : (raises : Why → Bool) (v : Why) (m n : ℕ) → raises v ≡ ltb m n → m ≤ n → Grown raises v m n
 grown_by raises v m n e le = record { more = λ h. ltb-true m n (sym e ∙ h); same = λ h. omega (arith, le, ltb-false m n (sym e ∙ h)) }
 
-all_raised : (limits : Limits) (levels : ℕ) (bytes : List ℕ) → IsRaised (grows limits levels) (λ (x : Tree × List ℕ). x.1) (term_at standard 64 bytes) (term_at (widened limits) (raised_by 64 levels) bytes)
+all_raised : (limits : Limits) (levels : ℕ) (bytes : List ℕ)
+    → IsRaised (grows limits levels) (λ (x : Tree × List ℕ). x.1) (term_at standard 64 bytes) (term_at (widened limits) (raised_by 64 levels) bytes)
 all_raised limits levels bytes =
-    term_raised (grows limits levels) refl standard (widened limits) 64 (raised_by 64 levels) (omega arith) (omega arith) (grown_by (grows limits levels) TooWide 120 (limits.elements + 120) refl (omega arith))
-    (grown_by (grows limits levels) AtomTooLong 255 (limits.characters + 255) refl (omega arith)) (grown_by (grows limits levels) TooDeep 64 (raised_by 64 levels) refl (omega (arith, raised_sum 64 levels))) bytes
+    term_raised (grows limits levels) refl standard (widened limits) 64 (raised_by 64 levels) (omega arith) (omega arith)
+    (grown_by (grows limits levels) TooWide 120 (limits.elements + 120) refl (omega arith))
+    (grown_by (grows limits levels) AtomTooLong 255 (limits.characters + 255) refl (omega arith))
+    (grown_by (grows limits levels) TooDeep 64 (raised_by 64 levels) refl (omega (arith, raised_sum 64 levels))) bytes
 
 -- at a fault of syntax no text goes on, whatever the limits
 pub syntax_stays : (bytes : List ℕ) (f : Fault) → term_at standard 64 bytes ≡ Err f → f.why ≡ Syntax → length bytes - f.left < length bytes
     → (limits : Limits) (levels : ℕ) → Begins limits levels (take (length bytes - f.left + 1) bytes) → ⊥
 syntax_stays bytes f e kind less limits levels b =
     let stay : grows limits levels f.why ≡ false = ap (grows limits levels) kind in
-    let same = same_of (grows limits levels) (term_at standard 64 bytes) (term_at (widened limits) (raised_by 64 levels) bytes) f e (all_raised limits levels bytes) stay in
+    let same = same_of (grows limits levels) (term_at standard 64 bytes) (term_at (widened limits) (raised_by 64 levels) bytes) f e
+    (all_raised limits levels bytes) stay in
     let least : AtLeast limits (widened limits) = record { elements = omega arith; characters = omega arith } in
-    ends (widened limits) (raised_by 64 levels) bytes f same less (b.0, b.1, text_widened limits (widened limits) 64 levels (take (length bytes - f.left + 1) bytes ++ b.0) b.1 least b.2)
+    ends (widened limits) (raised_by 64 levels) bytes f same less
+    (b.0, b.1, text_widened limits (widened limits) 64 levels (take (length bytes - f.left + 1) bytes ++ b.0) b.1 least b.2)

@@ -43,7 +43,8 @@ module _ {A : Type 0} (p : List ℕ → Read A) where
   pub nil_local : p [] ≡ syntax_fault [] → LocalAt p []
   nil_local e = record {
     taken = λ a ys h. absurd (apart (a, ys) _ (p []) h e);
-    stuck = λ f h. let same = err_is _ f (sym e ∙ h) in record { front = []; behind = []; whole = refl; is = sym same ∙ ap (λ (g : Fault). place g.why []) same; again = λ c r s x. absurd cc };
+    stuck = λ f h. let same = err_is _ f (sym e ∙ h) in
+        record { front = []; behind = []; whole = refl; is = sym same ∙ ap (λ (g : Fault). place g.why []) same; again = λ c r s x. absurd cc };
   }
 
   pub fault_local : (why : Why) (b : ℕ) (bytes : List ℕ) → ((zs : List ℕ) → p (b ∷ zs) ≡ fault why (b ∷ zs)) → LocalAt p (b ∷ bytes)
@@ -54,7 +55,8 @@ module _ {A : Type 0} (p : List ℕ → Read A) where
       behind = b ∷ bytes;
       whole = refl;
       is = sym same ∙ ap (λ (g : Fault). place g.why (b ∷ bytes)) same;
-      again = λ c r s x. let first : b ≡ c = cc in let kind : why ≡ f.why = ap (λ (g : Fault). g.why) same in ap (λ y. p (y ∷ s)) (sym first) ∙ e s ∙ ap (λ (w : Why). Err (place w (b ∷ s))) kind ∙ ap (λ (y : ℕ). Err (place f.why (y ∷ s))) first;
+      again = λ c r s x. let first : b ≡ c = cc in let kind : why ≡ f.why = ap (λ (g : Fault). g.why) same in
+          ap (λ y. p (y ∷ s)) (sym first) ∙ e s ∙ ap (λ (w : Why). Err (place w (b ∷ s))) kind ∙ ap (λ (y : ℕ). Err (place f.why (y ∷ s))) first;
     };
   }
 
@@ -73,26 +75,39 @@ module _ {A : Type 0} (p : List ℕ → Read A) where
     taken = λ x ys h. let q = pair_is a (b ∷ bytes) x ys (sym (e bytes) ∙ h) in record {
       front = [];
       whole = q.1;
-      again = λ c r s y. let rest = q.1 in let first : b ≡ c = cc in ap (λ z. p (z ∷ s)) (sym first) ∙ e s ∙ ap (λ (z : A). Ok (z, b ∷ s)) q.0 ∙ ap (λ (z : ℕ). Ok (x, z ∷ s)) first;
+      again = λ c r s y. let rest = q.1 in let first : b ≡ c = cc in
+          ap (λ z. p (z ∷ s)) (sym first) ∙ e s ∙ ap (λ (z : A). Ok (z, b ∷ s)) q.0 ∙ ap (λ (z : ℕ). Ok (x, z ∷ s)) first;
     };
     stuck = λ f h. absurd (apart (a, b ∷ bytes) f (p (b ∷ bytes)) (e bytes) h);
   }
 
   pub cons_local : (q : List ℕ → Read A) (b : ℕ) (bytes : List ℕ) → ((zs : List ℕ) → p (b ∷ zs) ≡ q zs) → LocalAt q bytes → LocalAt p (b ∷ bytes)
   cons_local q b bytes e l = record {
-    taken = λ a ys h. let t = l.taken a ys (sym (e bytes) ∙ h) in record { front = b ∷ t.front; whole = ap (λ z. b ∷ z) t.whole; again = λ c r s y. e (t.front ++ c ∷ s) ∙ t.again c r s y };
-    stuck = λ f h. let t = l.stuck f (sym (e bytes) ∙ h) in record { front = b ∷ t.front; behind = t.behind; whole = ap (λ z. b ∷ z) t.whole; is = t.is; again = λ c r s y. e (t.front ++ c ∷ s) ∙ t.again c r s y };
+    taken = λ a ys h. let t = l.taken a ys (sym (e bytes) ∙ h) in
+        record { front = b ∷ t.front; whole = ap (λ z. b ∷ z) t.whole; again = λ c r s y. e (t.front ++ c ∷ s) ∙ t.again c r s y };
+    stuck = λ f h. let t = l.stuck f (sym (e bytes) ∙ h) in
+        record { front = b ∷ t.front; behind = t.behind; whole = ap (λ z. b ∷ z) t.whole; is = t.is; again = λ c r s y. e (t.front ++ c ∷ s) ∙ t.again c r s y };
   }
 
-  same_first : (q : List ℕ → Read A) (b : ℕ) (bytes : List ℕ) → ((zs : List ℕ) → p (b ∷ zs) ≡ q (b ∷ zs)) → (front behind : List ℕ) (c : ℕ) (r s : List ℕ) → b ∷ bytes ≡ front ++ behind → behind ≡ c ∷ r → p (front ++ c ∷ s) ≡ q (front ++ c ∷ s)
+  same_first : (q : List ℕ → Read A) (b : ℕ) (bytes : List ℕ) → ((zs : List ℕ) → p (b ∷ zs) ≡ q (b ∷ zs)) → (front behind : List ℕ) (c : ℕ) (r s : List ℕ)
+      → b ∷ bytes ≡ front ++ behind → behind ≡ c ∷ r → p (front ++ c ∷ s) ≡ q (front ++ c ∷ s)
   same_first q b bytes e [] behind c r s whole y = let first : b ≡ c = cc in ap (λ z. p (z ∷ s)) (sym first) ∙ e s ∙ ap (λ z. q (z ∷ s)) first
-  same_first q b bytes e (d ∷ front) behind c r s whole y = let first : b ≡ d = cc in ap (λ z. p (z ∷ (front ++ c ∷ s))) (sym first) ∙ e (front ++ c ∷ s) ∙ ap (λ z. q (z ∷ (front ++ c ∷ s))) first
+  same_first q b bytes e (d ∷ front) behind c r s whole y =
+      let first : b ≡ d = cc in ap (λ z. p (z ∷ (front ++ c ∷ s))) (sym first) ∙ e (front ++ c ∷ s) ∙ ap (λ z. q (z ∷ (front ++ c ∷ s))) first
 
   -- the same as another reader wherever the first byte is the same
   pub same_local : (q : List ℕ → Read A) (b : ℕ) (bytes : List ℕ) → ((zs : List ℕ) → p (b ∷ zs) ≡ q (b ∷ zs)) → LocalAt q (b ∷ bytes) → LocalAt p (b ∷ bytes)
   same_local q b bytes e l = record {
-    taken = λ a ys h. let t = l.taken a ys (sym (e bytes) ∙ h) in record { front = t.front; whole = t.whole; again = λ c r s y. same_first q b bytes e t.front ys c r s t.whole y ∙ t.again c r s y };
-    stuck = λ f h. let t = l.stuck f (sym (e bytes) ∙ h) in record { front = t.front; behind = t.behind; whole = t.whole; is = t.is; again = λ c r s y. same_first q b bytes e t.front t.behind c r s t.whole y ∙ t.again c r s y };
+    taken = λ a ys h. let t = l.taken a ys (sym (e bytes) ∙ h) in
+        record { front = t.front; whole = t.whole; again = λ c r s y. same_first q b bytes e t.front ys c r s t.whole y ∙ t.again c r s y };
+    stuck = λ f h. let t = l.stuck f (sym (e bytes) ∙ h) in
+        record {
+          front = t.front;
+          behind = t.behind;
+          whole = t.whole;
+          is = t.is;
+          again = λ c r s y. same_first q b bytes e t.front t.behind c r s t.whole y ∙ t.again c r s y;
+        };
   }
 
 pub pure_local : {A : Type 0} (a : A) → IsLocal (λ ys. Ok (a, ys))
@@ -105,7 +120,8 @@ pure_local {A} a xs = record {
 
 module _ {A B : Type 0} (p : List ℕ → Read A) (q : A → List ℕ → Read B) (first : IsLocal p) (second : (a : A) → IsLocal (q a)) where
   -- the first part again, before what the second part began with
-  again_first : (xs : List ℕ) (a : A) (ys : List ℕ) → Taken p xs a ys → (front behind : List ℕ) → ys ≡ front ++ behind → (c : ℕ) (r s : List ℕ) (t : Taken p xs a ys) → behind ≡ c ∷ r → p (t.front ++ (front ++ c ∷ s)) ≡ Ok (a, front ++ c ∷ s)
+  again_first : (xs : List ℕ) (a : A) (ys : List ℕ) → Taken p xs a ys → (front behind : List ℕ) → ys ≡ front ++ behind
+      → (c : ℕ) (r s : List ℕ) (t : Taken p xs a ys) → behind ≡ c ∷ r → p (t.front ++ (front ++ c ∷ s)) ≡ Ok (a, front ++ c ∷ s)
   again_first xs a ys _ [] behind e c r s t h = t.again c r s (e ∙ h)
   again_first xs a ys _ (d ∷ front) behind e c r s t h = t.again d (front ++ behind) (front ++ c ∷ s) e
 
@@ -131,10 +147,18 @@ module _ {A B : Type 0} (p : List ℕ → Read A) (q : A → List ℕ → Read B
         record {
           front = t.front ++ u.front;
           whole = t.whole ∙ ap (λ x. t.front ++ x) u.whole ∙ sym (append_assoc t.front u.front zs);
-          again = λ c r k y. ap chain (append_assoc t.front u.front (c ∷ k)) ∙ step_to (t.front ++ (u.front ++ c ∷ k)) s.0.0 (u.front ++ c ∷ k) (Ok (b, c ∷ k)) (again_first xs s.0.0 s.0.1 t u.front zs u.whole c r k t y) (u.again c r k y);
+          again = λ c r k y. ap chain (append_assoc t.front u.front (c ∷ k))
+              ∙ step_to (t.front ++ (u.front ++ c ∷ k)) s.0.0 (u.front ++ c ∷ k) (Ok (b, c ∷ k))
+              (again_first xs s.0.0 s.0.1 t u.front zs u.whole c r k t y) (u.again c r k y);
         };
     stuck = λ f h. ⊎_elim
-        (λ e. let t = (first xs).stuck f e in record { front = t.front; behind = t.behind; whole = t.whole; is = t.is; again = λ c r k y. fail_to (t.front ++ c ∷ k) (place f.why (c ∷ k)) (t.again c r k y) })
+        (λ e. let t = (first xs).stuck f e in record {
+          front = t.front;
+          behind = t.behind;
+          whole = t.whole;
+          is = t.is;
+          again = λ c r k y. fail_to (t.front ++ c ∷ k) (place f.why (c ∷ k)) (t.again c r k y);
+        })
         (λ s. let t = (first xs).taken s.0.0 s.0.1 s.1 in
         let u = (second s.0.0 s.0.1).stuck f s.2 in
         record {
@@ -142,7 +166,9 @@ module _ {A B : Type 0} (p : List ℕ → Read A) (q : A → List ℕ → Read B
           behind = u.behind;
           whole = t.whole ∙ ap (λ x. t.front ++ x) u.whole ∙ sym (append_assoc t.front u.front u.behind);
           is = u.is;
-          again = λ c r k y. ap chain (append_assoc t.front u.front (c ∷ k)) ∙ step_to (t.front ++ (u.front ++ c ∷ k)) s.0.0 (u.front ++ c ∷ k) (Err (place f.why (c ∷ k))) (again_first xs s.0.0 s.0.1 t u.front u.behind u.whole c r k t y) (u.again c r k y);
+          again = λ c r k y. ap chain (append_assoc t.front u.front (c ∷ k))
+              ∙ step_to (t.front ++ (u.front ++ c ∷ k)) s.0.0 (u.front ++ c ∷ k) (Err (place f.why (c ∷ k)))
+              (again_first xs s.0.0 s.0.1 t u.front u.behind u.whole c r k t y) (u.again c r k y);
         })
         (chain_err (p xs) f h);
   }
@@ -171,8 +197,10 @@ module _ {A : Type 0} (q : List ℕ → Read A) (behind : IsLocal q) where
   same_nil : LocalAt q [] → LocalAt (λ xs. q (skip xs)) []
   unfolding skip
   same_nil l = record {
-    taken = λ a ys h. let t = l.taken a ys h in record { front = t.front; whole = t.whole; again = λ c r s y. let none = empty_front t.front ys t.whole in absurd cc };
-    stuck = λ f h. let t = l.stuck f h in record { front = t.front; behind = t.behind; whole = t.whole; is = t.is; again = λ c r s y. let none = empty_front t.front t.behind t.whole in absurd cc };
+    taken = λ a ys h. let t = l.taken a ys h in
+        record { front = t.front; whole = t.whole; again = λ c r s y. let none = empty_front t.front ys t.whole in absurd cc };
+    stuck = λ f h. let t = l.stuck f h in
+        record { front = t.front; behind = t.behind; whole = t.whole; is = t.is; again = λ c r s y. let none = empty_front t.front t.behind t.whole in absurd cc };
   }
 
   pub skip_local : IsLocal (λ xs. q (skip xs))

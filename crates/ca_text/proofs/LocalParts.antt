@@ -75,15 +75,20 @@ two_local b = bind_local inner_byte (λ c ys. Ok ((b - 192) * 64 + (c - 128), ys
 three_local : (b : ℕ) → IsLocal (three_at b)
 unfolding three_at
 three_local b =
-    bind_local (byte_between (least_of_three b) (end_of_three b)) (λ c ys. inner_byte ys >>= λ d. Ok (((b - 224) * 64 + (c - 128)) * 64 + (d.0 - 128), d.1)) (byte_local (least_of_three b) (end_of_three b))
-    (λ c. bind_local inner_byte (λ d ys. Ok (((b - 224) * 64 + (c - 128)) * 64 + (d - 128), ys)) inner_local (λ d. pure_local (((b - 224) * 64 + (c - 128)) * 64 + (d - 128))))
+    bind_local (byte_between (least_of_three b) (end_of_three b)) (λ c ys. inner_byte ys >>= λ d. Ok (((b - 224) * 64 + (c - 128)) * 64 + (d.0 - 128), d.1))
+    (byte_local (least_of_three b) (end_of_three b))
+    (λ c. bind_local inner_byte (λ d ys. Ok (((b - 224) * 64 + (c - 128)) * 64 + (d - 128), ys)) inner_local
+    (λ d. pure_local (((b - 224) * 64 + (c - 128)) * 64 + (d - 128))))
 
 four_local : (b : ℕ) → IsLocal (four_at b)
 unfolding four_at
 four_local b =
-    bind_local (byte_between (least_of_four b) (end_of_four b)) (λ c ys. inner_byte ys >>= λ d. inner_byte d.1 >>= λ e. Ok ((((b - 240) * 64 + (c - 128)) * 64 + (d.0 - 128)) * 64 + (e.0 - 128), e.1)) (byte_local (least_of_four b) (end_of_four b))
+    bind_local (byte_between (least_of_four b) (end_of_four b))
+    (λ c ys. inner_byte ys >>= λ d. inner_byte d.1 >>= λ e. Ok ((((b - 240) * 64 + (c - 128)) * 64 + (d.0 - 128)) * 64 + (e.0 - 128), e.1))
+    (byte_local (least_of_four b) (end_of_four b))
     (λ c. bind_local inner_byte (λ d ys. inner_byte ys >>= λ e. Ok ((((b - 240) * 64 + (c - 128)) * 64 + (d - 128)) * 64 + (e.0 - 128), e.1)) inner_local
-    (λ d. bind_local inner_byte (λ e ys. Ok ((((b - 240) * 64 + (c - 128)) * 64 + (d - 128)) * 64 + (e - 128), ys)) inner_local (λ e. pure_local ((((b - 240) * 64 + (c - 128)) * 64 + (d - 128)) * 64 + (e - 128)))))
+    (λ d. bind_local inner_byte (λ e ys. Ok ((((b - 240) * 64 + (c - 128)) * 64 + (d - 128)) * 64 + (e - 128), ys)) inner_local
+    (λ e. pure_local ((((b - 240) * 64 + (c - 128)) * 64 + (d - 128)) * 64 + (e - 128)))))
 
 pub point_local : IsLocal point_at
 unfolding point_at
@@ -127,7 +132,8 @@ unfolding escape_at
 escape_local most [] = nil_local (escape_at most) refl
 escape_local most (b ∷ bytes) =
     either_way (eqb b 120)
-    (λ h. cons_local (escape_at most) (λ xs. expect 123 xs >>= λ rest. hex_at most rest) b bytes (λ zs. rw h refl) (expect_local 123 (hex_at most) (hex_local most) bytes))
+    (λ h. cons_local (escape_at most) (λ xs. expect 123 xs >>= λ rest. hex_at most rest) b bytes (λ zs. rw h refl)
+    (expect_local 123 (hex_at most) (hex_local most) bytes))
     (λ h. either_letter (escape_of b)
     (λ i. fault_local (escape_at most) Syntax b bytes (λ zs. rw (h, i) refl))
     (λ i. done_local (escape_at most) i.0 b bytes (λ zs. rw (h, i.1) refl)))
@@ -168,4 +174,6 @@ after_local next l (Some c) = bind_local next (λ cs ys. Ok (c ∷ cs, ys)) l (�
 pub characters_local : (over : Why) (close most n : ℕ) → IsLocal (characters_at over close most n)
 unfolding characters_at
 characters_local over close most zero = last_local over close most
-characters_local over close most (suc n) = bind_local (next_point_at close most) (λ o ys. points_after (characters_at over close most n) (o, ys)) (next_local close most) (after_local (characters_at over close most n) (characters_local over close most n))
+characters_local over close most (suc n) =
+    bind_local (next_point_at close most) (λ o ys. points_after (characters_at over close most n) (o, ys)) (next_local close most)
+    (after_local (characters_at over close most n) (characters_local over close most n))

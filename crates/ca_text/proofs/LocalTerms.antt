@@ -38,7 +38,8 @@ cancel : (u v ys : List ℕ) → u ++ ys ≡ v ++ ys → u ≡ v
 cancel u v ys e = (same_parts u v ys ys e refl).0
 
 -- a reader with a bound on its steps that is never reached
-module _ {A : Type 0} (P : ℕ → List ℕ → Read A) (each : (k : ℕ) → IsLocal (P k)) (same : (k j : ℕ) (xs : List ℕ) → length xs ≤ k → length xs ≤ j → P k xs ≡ P j xs) where
+module _ {A : Type 0} (P : ℕ → List ℕ → Read A) (each : (k : ℕ) → IsLocal (P k))
+    (same : (k j : ℕ) (xs : List ℕ) → length xs ≤ k → length xs ≤ j → P k xs ≡ P j xs) where
   pub fuel_local : IsLocal (λ xs. P (length xs) xs)
   fuel_local xs = record {
     taken = λ a ys h. let t = (each (length xs) xs).taken a ys h in
@@ -69,9 +70,12 @@ module _ {A : Type 0} (P : ℕ → List ℕ → Read A) (each : (k : ℕ) → Is
   }
 
 -- names
-names_to_next : (k b : ℕ) (bytes : List ℕ) → (k ≤ name_length bytes → list_all is_name_char (take k bytes) ≡ true) → suc k ≤ name_length (b ∷ bytes) → list_all is_name_char (take (suc k) (b ∷ bytes)) ≡ true
+names_to_next : (k b : ℕ) (bytes : List ℕ) → (k ≤ name_length bytes → list_all is_name_char (take k bytes) ≡ true) → suc k ≤ name_length (b ∷ bytes)
+    → list_all is_name_char (take (suc k) (b ∷ bytes)) ≡ true
 unfolding name_length
-names_to_next k b bytes later h = either_way (is_name_char b) (λ x. let g : suc k ≤ suc (name_length bytes) = rw x at h in rw (x, later (omega (arith, g))) refl) (λ x. absurd (omega (arith, rw x at h)))
+names_to_next k b bytes later h =
+    either_way (is_name_char b) (λ x. let g : suc k ≤ suc (name_length bytes) = rw x at h in rw (x, later (omega (arith, g))) refl)
+    (λ x. absurd (omega (arith, rw x at h)))
 
 pub names_to : (k : ℕ) (bytes : List ℕ) → k ≤ name_length bytes → list_all is_name_char (take k bytes) ≡ true
 unfolding name_length
@@ -82,8 +86,11 @@ names_to (suc k) (b ∷ bytes) h = names_to_next k b bytes (λ g. names_to k byt
 name_there : (k : ℕ) (bytes : List ℕ) (c : ℕ) (r : List ℕ) → k < name_length bytes → drop k bytes ≡ c ∷ r → is_name_char c ≡ true
 unfolding name_length
 name_there k [] c r h e = absurd (omega arith)
-name_there zero (b ∷ bytes) c r h e = let same : b ≡ c = cc in either_way (is_name_char b) (λ x. ap is_name_char (sym same) ∙ x) (λ x. absurd (omega (arith, rw x at h)))
-name_there (suc k) (b ∷ bytes) c r h e = either_way (is_name_char b) (λ x. let g : suc k < suc (name_length bytes) = rw x at h in name_there k bytes c r (omega (arith, g)) e) (λ x. absurd (omega (arith, rw x at h)))
+name_there zero (b ∷ bytes) c r h e =
+    let same : b ≡ c = cc in either_way (is_name_char b) (λ x. ap is_name_char (sym same) ∙ x) (λ x. absurd (omega (arith, rw x at h)))
+name_there (suc k) (b ∷ bytes) c r h e =
+    either_way (is_name_char b) (λ x. let g : suc k < suc (name_length bytes) = rw x at h in name_there k bytes c r (omega (arith, g)) e)
+    (λ x. absurd (omega (arith, rw x at h)))
 
 pub name_within : (bytes : List ℕ) → name_length bytes ≤ length bytes
 unfolding name_length
@@ -102,7 +109,8 @@ name_of most cs rest all ends few = rw (name_long cs rest all ends, le-leb (leng
 over : (n most : ℕ) → most < n → leb n most ≡ false
 over n most h = grind (arith, nat_tests)
 
-name_over : (most : ℕ) (cs : List ℕ) (c : ℕ) (s : List ℕ) → list_all is_name_char cs ≡ true → is_name_char c ≡ true → length cs ≡ most → name_at most (cs ++ c ∷ s) ≡ Err (place AtomTooLong (c ∷ s))
+name_over : (most : ℕ) (cs : List ℕ) (c : ℕ) (s : List ℕ) → list_all is_name_char cs ≡ true → is_name_char c ≡ true → length cs ≡ most
+    → name_at most (cs ++ c ∷ s) ≡ Err (place AtomTooLong (c ∷ s))
 unfolding name_at
 name_over most cs c s all h long =
     let more : leb (name_length (cs ++ c ∷ s)) most ≡ false = over _ most (omega (arith, name_more cs c s all h, long)) in
@@ -125,7 +133,8 @@ name_local most xs =
     either_way (leb n most)
     (λ h. record {
       taken = λ name ys e.
-          let q = pair_is (take n xs) (drop n xs) name ys (fit_is (leb n most) (Ok (take n xs, drop n xs)) (fault AtomTooLong (drop most xs)) (Ok (name, ys)) h e) in
+          let q = pair_is (take n xs) (drop n xs) name ys
+          (fit_is (leb n most) (Ok (take n xs, drop n xs)) (fault AtomTooLong (drop most xs)) (Ok (name, ys)) h e) in
           let all : list_all is_name_char name ≡ true = subst (λ x. list_all is_name_char x ≡ true) q.0 (names_all xs) in
           let few : length name ≤ most = subst (λ (x : List ℕ). length x ≤ most) q.0 (omega (arith, length-take-le n xs (name_within xs), leb-true n most h)) in
           let ends : EndsName ys = subst EndsName q.1 (names_end xs) in
@@ -139,7 +148,8 @@ name_local most xs =
     (λ h. record {
       taken = λ name ys e. let k = long_is (leb n most) (Ok (take n xs, drop n xs)) (fault AtomTooLong (drop most xs)) (Ok (name, ys)) h e in absurd cc;
       stuck = λ f e.
-          let same : place AtomTooLong (drop most xs) ≡ f = err_is (place AtomTooLong (drop most xs)) f (long_is (leb n most) (Ok (take n xs, drop n xs)) (fault AtomTooLong (drop most xs)) (Err f) h e) in
+          let same : place AtomTooLong (drop most xs) ≡ f =
+          err_is (place AtomTooLong (drop most xs)) f (long_is (leb n most) (Ok (take n xs, drop n xs)) (fault AtomTooLong (drop most xs)) (Err f) h e) in
           let less = leb-false n most h in
           let within = name_within xs in
           record {
@@ -147,7 +157,8 @@ name_local most xs =
             behind = drop most xs;
             whole = sym (take-append-drop most xs);
             is = sym same ∙ ap (λ (g : Fault). place g.why (drop most xs)) same;
-            again = λ c r s y. name_over most (take most xs) c s (names_to most xs (omega (arith, less))) (name_there most xs c r (omega (arith, less)) y) (length-take-le most xs (omega (arith, less, within))) ∙ ap (λ (g : Fault). failed_at g.why (c ∷ s)) same;
+            again = λ c r s y. name_over most (take most xs) c s (names_to most xs (omega (arith, less))) (name_there most xs c r (omega (arith, less)) y)
+                (length-take-le most xs (omega (arith, less, within))) ∙ ap (λ (g : Fault). failed_at g.why (c ∷ s)) same;
           };
     })
 
@@ -175,7 +186,8 @@ module _ (close most : ℕ) (small : close < 128) (low : 127 ≤ most) (high : 1
   characters_same (suc k) (suc j) xs h i = after_same k j xs (next_point_at close most xs) refl h i (characters_same k j)
 
 string_local : (most : ℕ) → 127 ≤ most → (128 ≤ most → most ≡ most_point) → IsLocal (string_at most)
-string_local most low high = fuel_local (λ k. characters_at Syntax 34 most k) (λ k. characters_local Syntax 34 most k) (characters_same 34 most (omega arith) low high)
+string_local most low high =
+    fuel_local (λ k. characters_at Syntax 34 most k) (λ k. characters_local Syntax 34 most k) (characters_same 34 most (omega arith) low high)
 
 one_byte_local : IsLocal one_byte_at
 one_byte_local = bind_local (number_at 255) (λ n ys. Ok (n ∷ [], ys)) (number_local 255) (λ n. pure_local (n ∷ []))
@@ -196,14 +208,16 @@ after_segment_local [] = nil_local after_segment_at refl
 after_segment_local (b ∷ bytes) = either_way (eqb b 44)
     (λ h. cons_local after_segment_at (λ xs. Ok (true, skip xs)) b bytes (λ zs. rw h refl) (true_skip bytes))
     (λ h. either_way (eqb b 62)
-    (λ i. cons_local after_segment_at (λ xs. expect 62 xs >>= λ rest. Ok (false, rest)) b bytes (λ zs. rw (h, i) refl) (expect_local 62 (λ rest. Ok (false, rest)) (pure_local false) bytes))
+    (λ i. cons_local after_segment_at (λ xs. expect 62 xs >>= λ rest. Ok (false, rest)) b bytes (λ zs. rw (h, i) refl)
+    (expect_local 62 (λ rest. Ok (false, rest)) (pure_local false) bytes))
     (λ i. fault_local after_segment_at Syntax b bytes (λ zs. rw (h, i) refl)))
 
 pub segment_step_local : (n : ℕ) → IsLocal (segment_step n)
 unfolding segment_step
 segment_step_local n =
     bind_local segment_at (λ s ys. after_segment_at (skip ys) >>= λ y. Ok ((s, y.0), y.1)) segment_local
-    (λ s. skip_local (λ ys. after_segment_at ys >>= λ y. Ok ((s, y.0), y.1)) (bind_local after_segment_at (λ m zs. Ok ((s, m), zs)) after_segment_local (λ m. pure_local {A = List ℕ × Bool} (s, m))))
+    (λ s. skip_local (λ ys. after_segment_at ys >>= λ y. Ok ((s, y.0), y.1))
+    (bind_local after_segment_at (λ m zs. Ok ((s, m), zs)) after_segment_local (λ m. pure_local {A = List ℕ × Bool} (s, m))))
 
 -- parts one after another
 module _ {B : Type 0} (step : ℕ → List ℕ → Read (List B × Bool)) (each : (n : ℕ) → IsLocal (step n)) where
@@ -218,7 +232,8 @@ module _ {B : Type 0} (step : ℕ → List ℕ → Read (List B × Bool)) (each 
   series_local : (n : ℕ) → IsLocal (series_at step n)
   unfolding series_at
   series_local zero = none_local (series_at step zero) (λ xs. refl)
-  series_local (suc n) = bind_local (step n) (λ x ys. series_rest x.0 (series_at step n) x.1 ys) (each n) (λ x. rest_local x.0 (series_at step n) (series_local n) x.1)
+  series_local (suc n) =
+      bind_local (step n) (λ x ys. series_rest x.0 (series_at step n) x.1 ys) (each n) (λ x. rest_local x.0 (series_at step n) (series_local n) x.1)
 
 step_shorter : (n : ℕ) (xs : List ℕ) (x : List ℕ × Bool) (ys : List ℕ) → segment_step n xs ≡ Ok (x, ys) → length ys < length xs
 unfolding segment_step
@@ -231,7 +246,17 @@ step_shorter n xs x ys e =
     let begins = segment_begins t.text s.0.0 t.is in
     let gap = skipped s.0.1 in
     let a = (after_segment_local (skip s.0.1)).taken u.0.0 u.0.1 u.1 in
-    omega (arith, ap (λ (l : List ℕ). length l) t.whole, length-append t.text s.0.1, ap (λ (l : List ℕ). length l) begins.is, ap (λ (l : List ℕ). length l) gap.whole, length-append gap.blanks (skip s.0.1), ap (λ (l : List ℕ). length l) a.whole, length-append a.front u.0.1, ap (λ (l : List ℕ). length l) p.1)
+    omega (
+      arith,
+      ap (λ (l : List ℕ). length l) t.whole,
+      length-append t.text s.0.1,
+      ap (λ (l : List ℕ). length l) begins.is,
+      ap (λ (l : List ℕ). length l) gap.whole,
+      length-append gap.blanks (skip s.0.1),
+      ap (λ (l : List ℕ). length l) a.whole,
+      length-append a.front u.0.1,
+      ap (λ (l : List ℕ). length l) p.1,
+    )
 
 step_same : (n m : ℕ) (xs : List ℕ) → segment_step n xs ≡ segment_step m xs
 unfolding segment_step
@@ -242,7 +267,8 @@ rest_same : (k j : ℕ) (xs : List ℕ) (r : Read (List ℕ × Bool)) → segmen
     → (r >>= λ x. series_rest x.0.0 (series_at segment_step k) x.0.1 x.1) ≡ (r >>= λ x. series_rest x.0.0 (series_at segment_step j) x.0.1 x.1)
 rest_same k j xs (Err f) e h i later = refl
 rest_same k j xs (Ok ((part, false), ys)) e h i later = refl
-rest_same k j xs (Ok ((part, true), ys)) e h i later = let less = step_shorter k xs (part, true) ys e in rw (later ys (omega (arith, less)) (omega (arith, less))) refl
+rest_same k j xs (Ok ((part, true), ys)) e h i later =
+    let less = step_shorter k xs (part, true) ys e in rw (later ys (omega (arith, less)) (omega (arith, less))) refl
 
 nil_step : (n : ℕ) → segment_step n [] ≡ syntax_fault []
 unfolding segment_step segment_at number_at
@@ -255,7 +281,9 @@ segments_same zero (suc j) [] h i = rw (nil_step j) refl
 segments_same zero (suc j) (b ∷ xs) h i = absurd (omega arith)
 segments_same (suc k) zero [] h i = rw (nil_step k) refl
 segments_same (suc k) zero (b ∷ xs) h i = absurd (omega arith)
-segments_same (suc k) (suc j) xs h i = rest_same k j xs (segment_step k xs) refl h i (segments_same k j) ∙ ap (λ (r : Read (List ℕ × Bool)). r >>= λ x. series_rest x.0.0 (series_at segment_step j) x.0.1 x.1) (step_same k j xs)
+segments_same (suc k) (suc j) xs h i =
+    rest_same k j xs (segment_step k xs) refl h i (segments_same k j)
+    ∙ ap (λ (r : Read (List ℕ × Bool)). r >>= λ x. series_rest x.0.0 (series_at segment_step j) x.0.1 x.1) (step_same k j xs)
 
 segments_local : IsLocal (λ xs. series_at segment_step (length xs) xs)
 segments_local = fuel_local (series_at segment_step) (series_local segment_step segment_step_local) segments_same
@@ -264,11 +292,15 @@ bytes_local : IsLocal bytes_at
 unfolding bytes_at
 bytes_local [] = nil_local bytes_at refl
 bytes_local (b ∷ bytes) = either_way (eqb b 62)
-    (λ h. cons_local bytes_at (λ xs. expect 62 xs >>= λ rest. Ok ([], rest)) b bytes (λ zs. rw h refl) (expect_local 62 (λ rest. Ok ([], rest)) (pure_local []) bytes))
+    (λ h. cons_local bytes_at (λ xs. expect 62 xs >>= λ rest. Ok ([], rest)) b bytes (λ zs. rw h refl)
+    (expect_local 62 (λ rest. Ok ([], rest)) (pure_local []) bytes))
     (λ h. same_local bytes_at (λ xs. series_at segment_step (length xs) xs) b bytes (λ zs. rw h refl) (segments_local (b ∷ bytes)))
 
 binary_local : IsLocal binary_at
-binary_local = expect_local 60 (λ rest. bytes_at (skip rest) >>= λ x. Ok (Binary x.0, x.1)) (skip_local (λ rest. bytes_at rest >>= λ x. Ok (Binary x.0, x.1)) (bind_local bytes_at (λ bs ys. Ok (Binary bs, ys)) bytes_local (λ bs. pure_local (Binary bs))))
+binary_local =
+    expect_local 60 (λ rest. bytes_at (skip rest) >>= λ x. Ok (Binary x.0, x.1))
+    (skip_local (λ rest. bytes_at rest >>= λ x. Ok (Binary x.0, x.1))
+    (bind_local bytes_at (λ bs ys. Ok (Binary bs, ys)) bytes_local (λ bs. pure_local (Binary bs))))
 
 ends_nil : (front ys : List ℕ) → [] ≡ front ++ ys → ys ≡ []
 ends_nil [] ys e = sym e
@@ -277,8 +309,10 @@ ends_nil (x ∷ front) ys e = absurd cc
 -- two readers that answer alike where there are no bytes
 alike : {A : Type 0} (p q : List ℕ → Read A) → p [] ≡ q [] → LocalAt q [] → LocalAt p []
 alike p q e l = record {
-  taken = λ a ys h. let t = l.taken a ys (sym e ∙ h) in record { front = t.front; whole = t.whole; again = λ c r s y. let none = ends_nil t.front ys t.whole in absurd cc };
-  stuck = λ f h. let t = l.stuck f (sym e ∙ h) in record { front = t.front; behind = t.behind; whole = t.whole; is = t.is; again = λ c r s y. let none = ends_nil t.front t.behind t.whole in absurd cc };
+  taken = λ a ys h. let t = l.taken a ys (sym e ∙ h) in
+      record { front = t.front; whole = t.whole; again = λ c r s y. let none = ends_nil t.front ys t.whole in absurd cc };
+  stuck = λ f h. let t = l.stuck f (sym e ∙ h) in
+      record { front = t.front; behind = t.behind; whole = t.whole; is = t.is; again = λ c r s y. let none = ends_nil t.front t.behind t.whole in absurd cc };
 }
 
 -- ---- tuples and lists
@@ -290,30 +324,36 @@ after_element_local n (b ∷ bytes) = either_way (eqb b 44)
     (λ h. either_way (eqb n 0)
     (λ i. fault_local (after_element_at n) TooWide b bytes (λ zs. rw (h, i) refl))
     (λ i. cons_local (after_element_at n) (λ xs. Ok (true, skip xs)) b bytes (λ zs. rw (h, i) refl) (true_skip bytes)))
-    (λ h. either_way (eqb b 125) (λ i. done_local (after_element_at n) false b bytes (λ zs. rw (h, i) refl)) (λ i. fault_local (after_element_at n) Syntax b bytes (λ zs. rw (h, i) refl)))
+    (λ h. either_way (eqb b 125) (λ i. done_local (after_element_at n) false b bytes (λ zs. rw (h, i) refl))
+    (λ i. fault_local (after_element_at n) Syntax b bytes (λ zs. rw (h, i) refl)))
 
 module _ (element : List ℕ → Read Tree) (local : IsLocal element) where
   element_step_local : (n : ℕ) → IsLocal (element_step element n)
   unfolding element_step
   element_step_local n =
       bind_local element (λ t ys. after_element_at n (skip ys) >>= λ y. Ok ((t ∷ [], y.0), y.1)) local
-      (λ t. skip_local (λ ys. after_element_at n ys >>= λ y. Ok ((t ∷ [], y.0), y.1)) (bind_local (after_element_at n) (λ m zs. Ok ((t ∷ [], m), zs)) (after_element_local n) (λ m. pure_local {A = List Tree × Bool} (t ∷ [], m))))
+      (λ t. skip_local (λ ys. after_element_at n ys >>= λ y. Ok ((t ∷ [], y.0), y.1))
+      (bind_local (after_element_at n) (λ m zs. Ok ((t ∷ [], m), zs)) (after_element_local n) (λ m. pure_local {A = List Tree × Bool} (t ∷ [], m))))
 
   elements_local : (most : ℕ) → IsLocal (elements_at element most)
   unfolding elements_at
   elements_local most [] = nil_local (elements_at element most) refl
   elements_local most (b ∷ bytes) = either_way (eqb b 125)
       (λ h. done_local (elements_at element most) [] b bytes (λ zs. rw h refl))
-      (λ h. same_local (elements_at element most) (series_at (element_step element) most) b bytes (λ zs. rw h refl) (series_local (element_step element) element_step_local most (b ∷ bytes)))
+      (λ h. same_local (elements_at element most) (series_at (element_step element) most) b bytes (λ zs. rw h refl)
+      (series_local (element_step element) element_step_local most (b ∷ bytes)))
 
   tuple_local : (most : ℕ) → IsLocal (λ xs. tuple_at element most (skip xs))
-  tuple_local most = skip_local (tuple_at element most) (bind_local (elements_at element most) (λ ts ys. Ok (Tuple (row_of ts), ys)) (elements_local most) (λ ts. pure_local (Tuple (row_of ts))))
+  tuple_local most =
+      skip_local (tuple_at element most) (bind_local (elements_at element most) (λ ts ys. Ok (Tuple (row_of ts), ys)) (elements_local most)
+      (λ ts. pure_local (Tuple (row_of ts))))
 
   module _ (other : List ℕ → Read Tree) (other_local : IsLocal other) where
     -- what follows a head, with the rest of the list
     module _ (head : Tree) (cells : List ℕ → Read Tree) (more : IsLocal cells) where
       bracket_local : (t : Tree) → IsLocal (λ ys. expect 93 (skip ys) >>= λ rest. Ok (Cons head t, rest))
-      bracket_local t = skip_local (λ ys. expect 93 ys >>= λ rest. Ok (Cons head t, rest)) (expect_local 93 (λ rest. Ok (Cons head t, rest)) (pure_local (Cons head t)))
+      bracket_local t =
+          skip_local (λ ys. expect 93 ys >>= λ rest. Ok (Cons head t, rest)) (expect_local 93 (λ rest. Ok (Cons head t, rest)) (pure_local (Cons head t)))
 
       abbrev follow : Result Next Fault → Read Tree
       follow r = r >>= λ next. cells_after head cells next
@@ -338,35 +378,43 @@ module _ (element : List ℕ → Read Tree) (local : IsLocal element) where
       inner_local : IsLocal (λ xs. follow (inner_at xs))
       inner_local [] = alike (λ xs. follow (inner_at xs)) (λ xs. after_last (cells xs)) refl (inner_list_local [])
       inner_local (b ∷ bytes) = either_way (eqb b 93)
-          (λ h. cons_local (λ xs. follow (inner_at xs)) (λ ys. expect 93 (skip ys) >>= λ rest. Ok (Cons head Nil, rest)) b bytes (λ zs. rw h (closed_end Nil (expect 93 (skip zs)))) (bracket_local Nil bytes))
+          (λ h. cons_local (λ xs. follow (inner_at xs)) (λ ys. expect 93 (skip ys) >>= λ rest. Ok (Cons head Nil, rest)) b bytes
+          (λ zs. rw h (closed_end Nil (expect 93 (skip zs)))) (bracket_local Nil bytes))
           (λ h. same_local (λ xs. follow (inner_at xs)) (λ xs. after_last (cells xs)) b bytes (λ zs. rw h refl) (inner_list_local (b ∷ bytes)))
 
       tail_local : IsLocal (λ xs. follow (tail_at other xs))
       unfolding tail_at
       tail_local [] = alike (λ xs. follow (tail_at other xs)) (λ xs. after_last (other xs)) (closed_is (other [])) (last_tail_local [])
       tail_local (b ∷ bytes) = either_way (eqb b 91)
-          (λ h. cons_local (λ xs. follow (tail_at other xs)) (λ ys. follow (inner_at (skip ys))) b bytes (λ zs. rw h refl) (skip_local (λ ys. follow (inner_at ys)) inner_local bytes))
-          (λ h. same_local (λ xs. follow (tail_at other xs)) (λ xs. after_last (other xs)) b bytes (λ zs. rw h (closed_is (other (b ∷ zs)))) (last_tail_local (b ∷ bytes)))
+          (λ h. cons_local (λ xs. follow (tail_at other xs)) (λ ys. follow (inner_at (skip ys))) b bytes (λ zs. rw h refl)
+          (skip_local (λ ys. follow (inner_at ys)) inner_local bytes))
+          (λ h. same_local (λ xs. follow (tail_at other xs)) (λ xs. after_last (other xs)) b bytes (λ zs. rw h (closed_is (other (b ∷ zs))))
+          (last_tail_local (b ∷ bytes)))
 
       head_local : IsLocal (λ xs. cells (skip xs) >>= λ x. Ok (Cons head x.0, x.1))
-      head_local = skip_local (λ xs. cells xs >>= λ x. Ok (Cons head x.0, x.1)) (bind_local cells (λ t ys. Ok (Cons head t, ys)) more (λ t. pure_local (Cons head t)))
+      head_local =
+          skip_local (λ xs. cells xs >>= λ x. Ok (Cons head x.0, x.1)) (bind_local cells (λ t ys. Ok (Cons head t, ys)) more (λ t. pure_local (Cons head t)))
 
       next_cell_local : IsLocal (λ xs. follow (next_at other xs))
       unfolding next_at
       next_cell_local [] = nil_local (λ xs. follow (next_at other xs)) refl
       next_cell_local (b ∷ bytes) = either_way (eqb b 44)
-          (λ h. cons_local (λ xs. follow (next_at other xs)) (λ xs. cells (skip xs) >>= λ x. Ok (Cons head x.0, x.1)) b bytes (λ zs. rw h refl) (head_local bytes))
+          (λ h. cons_local (λ xs. follow (next_at other xs)) (λ xs. cells (skip xs) >>= λ x. Ok (Cons head x.0, x.1)) b bytes
+          (λ zs. rw h refl) (head_local bytes))
           (λ h. either_way (eqb b 93)
           (λ i. done_local (λ xs. follow (next_at other xs)) (Cons head Nil) b bytes (λ zs. rw (h, i) refl))
           (λ i. either_way (eqb b 124)
-          (λ j. cons_local (λ xs. follow (next_at other xs)) (λ ys. follow (tail_at other (skip ys))) b bytes (λ zs. rw (h, i, j) refl) (skip_local (λ ys. follow (tail_at other ys)) tail_local bytes))
+          (λ j. cons_local (λ xs. follow (next_at other xs)) (λ ys. follow (tail_at other (skip ys))) b bytes (λ zs. rw (h, i, j) refl)
+          (skip_local (λ ys. follow (tail_at other ys)) tail_local bytes))
           (λ j. fault_local (λ xs. follow (next_at other xs)) Syntax b bytes (λ zs. rw (h, i, j) refl))))
 
 -- readers that answer alike
 equal_local : {A : Type 0} (p q : List ℕ → Read A) → ((xs : List ℕ) → p xs ≡ q xs) → IsLocal q → IsLocal p
 equal_local p q e l xs = record {
-  taken = λ a ys h. let t = (l xs).taken a ys (sym (e xs) ∙ h) in record { front = t.front; whole = t.whole; again = λ c r s y. e (t.front ++ c ∷ s) ∙ t.again c r s y };
-  stuck = λ f h. let t = (l xs).stuck f (sym (e xs) ∙ h) in record { front = t.front; behind = t.behind; whole = t.whole; is = t.is; again = λ c r s y. e (t.front ++ c ∷ s) ∙ t.again c r s y };
+  taken = λ a ys h. let t = (l xs).taken a ys (sym (e xs) ∙ h) in
+      record { front = t.front; whole = t.whole; again = λ c r s y. e (t.front ++ c ∷ s) ∙ t.again c r s y };
+  stuck = λ f h. let t = (l xs).stuck f (sym (e xs) ∙ h) in
+      record { front = t.front; behind = t.behind; whole = t.whole; is = t.is; again = λ c r s y. e (t.front ++ c ∷ s) ∙ t.again c r s y };
 }
 
 pub skip_shorter : (xs : List ℕ) → length (skip xs) ≤ length xs
@@ -401,14 +449,17 @@ next_left : (other : List ℕ → Read Tree) (xs : List ℕ) (next : Next) → n
 unfolding next_at
 next_left other [] next e = absurd cc
 next_left other (b ∷ xs) next e = either_way (eqb b 44)
-    (λ h. let k : next_at other (b ∷ xs) ≡ Ok (Head (skip xs)) = rw h refl in omega (arith, ap left_of (ok_is (Head (skip xs)) next (sym k ∙ e)), skip_shorter xs))
+    (λ h. let k : next_at other (b ∷ xs) ≡ Ok (Head (skip xs)) = rw h refl in omega
+    (arith, ap left_of (ok_is (Head (skip xs)) next (sym k ∙ e)), skip_shorter xs))
     (λ h. either_way (eqb b 93)
     (λ i. let k : next_at other (b ∷ xs) ≡ Ok (Last Nil xs) = rw (h, i) refl in omega (arith, ap left_of (ok_is (Last Nil xs) next (sym k ∙ e))))
     (λ i. either_way (eqb b 124)
-    (λ j. let k : next_at other (b ∷ xs) ≡ tail_at other (skip xs) = rw (h, i, j) refl in omega (arith, tail_left other (skip xs) next (sym k ∙ e), skip_shorter xs))
+    (λ j. let k : next_at other (b ∷ xs) ≡ tail_at other (skip xs) = rw (h, i, j) refl in omega
+    (arith, tail_left other (skip xs) next (sym k ∙ e), skip_shorter xs))
     (λ j. let k : next_at other (b ∷ xs) ≡ syntax_fault (b ∷ xs) = rw (h, i, j) refl in let m = sym k ∙ e in absurd cc)))
 
-module _ (limits : Limits) (levels : ℕ) (element other : List ℕ → Read Tree) (nil : element [] ≡ syntax_fault []) (local : IsLocal element) (other_local : IsLocal other)
+module _ (limits : Limits) (levels : ℕ) (element other : List ℕ → Read Tree) (nil : element [] ≡ syntax_fault []) (local : IsLocal element)
+    (other_local : IsLocal other)
     (strict : (xs : List ℕ) (t : Tree) (ys : List ℕ) → element xs ≡ Ok (t, ys) → length ys < length xs) where
   step_regroup : (head : Tree) (cells : List ℕ → Read Tree) (r : Result Next Fault)
       → (◌>>=◌ {A = Tree × Next} {B = Tree × List ℕ} (r >>= λ next. Ok (head, next)) (λ x. cells_after x.0 cells x.1)) ≡ (◌>>=◌ {A = Next} {B = Tree × List ℕ} r (λ next. cells_after head cells next))
@@ -420,7 +471,8 @@ module _ (limits : Limits) (levels : ℕ) (element other : List ℕ → Read Tre
   cells_regroup cells (Ok x) = step_regroup x.0 cells (next_at other (skip x.1))
   cells_regroup cells (Err f) = refl
 
-  cells_is : (n : ℕ) (xs : List ℕ) → cells_at element other (suc n) xs ≡ (element xs >>= λ x. ◌>>=◌ {A = Next} {B = Tree × List ℕ} (next_at other (skip x.1)) (λ next. cells_after x.0 (cells_at element other n) next))
+  cells_is : (n : ℕ) (xs : List ℕ)
+      → cells_at element other (suc n) xs ≡ (element xs >>= λ x. ◌>>=◌ {A = Next} {B = Tree × List ℕ} (next_at other (skip x.1)) (λ next. cells_after x.0 (cells_at element other n) next))
   unfolding cells_at cell_step
   cells_is n xs = cells_regroup (cells_at element other n) (element xs)
 
@@ -432,17 +484,22 @@ module _ (limits : Limits) (levels : ℕ) (element other : List ℕ → Read Tre
   cells_local : (n : ℕ) → IsLocal (cells_at element other n)
   cells_local zero = no_cells
   cells_local (suc n) =
-      equal_local (cells_at element other (suc n)) (λ xs. element xs >>= λ x. ◌>>=◌ {A = Next} {B = Tree × List ℕ} (next_at other (skip x.1)) (λ next. cells_after x.0 (cells_at element other n) next)) (cells_is n)
+      equal_local (cells_at element other (suc n))
+      (λ xs. element xs >>= λ x. ◌>>=◌ {A = Next} {B = Tree × List ℕ} (next_at other (skip x.1))
+      (λ next. cells_after x.0 (cells_at element other n) next)) (cells_is n)
       (bind_local element (λ t ys. ◌>>=◌ {A = Next} {B = Tree × List ℕ} (next_at other (skip ys)) (λ next. cells_after t (cells_at element other n) next)) local
-      (λ t. skip_local (λ ys. ◌>>=◌ {A = Next} {B = Tree × List ℕ} (next_at other ys) (λ next. cells_after t (cells_at element other n) next)) (next_cell_local element local other other_local t (cells_at element other n) (cells_local n))))
+      (λ t. skip_local (λ ys. ◌>>=◌ {A = Next} {B = Tree × List ℕ} (next_at other ys) (λ next. cells_after t (cells_at element other n) next))
+      (next_cell_local element local other other_local t (cells_at element other n) (cells_local n))))
 
   after_next_same : (head : Tree) (k j : ℕ) (xs : List ℕ) (r : Result Next Fault) → next_at other xs ≡ r → length xs ≤ k → length xs ≤ j
       → ((ys : List ℕ) → length ys ≤ k → length ys ≤ j → cells_at element other k ys ≡ cells_at element other j ys)
       → (◌>>=◌ {A = Next} {B = Tree × List ℕ} r (λ next. cells_after head (cells_at element other k) next)) ≡ (◌>>=◌ {A = Next} {B = Tree × List ℕ} r (λ next. cells_after head (cells_at element other j) next))
   after_next_same head k j xs (Err f) e h i later = refl
   after_next_same head k j xs (Ok (Last t ys)) e h i later = refl
-  after_next_same head k j xs (Ok (Head ys)) e h i later = let less = next_left other xs (Head ys) e in rw (later ys (omega (arith, less)) (omega (arith, less))) refl
-  after_next_same head k j xs (Ok (Inner ys)) e h i later = let less = next_left other xs (Inner ys) e in rw (later ys (omega (arith, less)) (omega (arith, less))) refl
+  after_next_same head k j xs (Ok (Head ys)) e h i later =
+      let less = next_left other xs (Head ys) e in rw (later ys (omega (arith, less)) (omega (arith, less))) refl
+  after_next_same head k j xs (Ok (Inner ys)) e h i later =
+      let less = next_left other xs (Inner ys) e in rw (later ys (omega (arith, less)) (omega (arith, less))) refl
 
   after_head_same : (k j : ℕ) (xs : List ℕ) (r : Read Tree) → element xs ≡ r → length xs ≤ suc k → length xs ≤ suc j
       → ((ys : List ℕ) → length ys ≤ k → length ys ≤ j → cells_at element other k ys ≡ cells_at element other j ys)
@@ -474,28 +531,34 @@ module _ (limits : Limits) (levels : ℕ) (element other : List ℕ → Read Tre
   list_local [] = nil_local (list_at element other) refl
   list_local (b ∷ bytes) = either_way (eqb b 93)
       (λ h. done_local (list_at element other) Nil b bytes (λ zs. rw h refl))
-      (λ h. same_local (list_at element other) (λ xs. cells_at element other (length xs) xs) b bytes (λ zs. rw h refl) (fuel_local (cells_at element other) cells_local cells_same (b ∷ bytes)))
+      (λ h. same_local (list_at element other) (λ xs. cells_at element other (length xs) xs) b bytes (λ zs. rw h refl)
+      (fuel_local (cells_at element other) cells_local cells_same (b ∷ bytes)))
 
   bracketed_local : other [] ≡ syntax_fault [] → IsLocal (bracketed (list_at element other) other)
   bracketed_local e [] = nil_local (bracketed (list_at element other) other) e
   bracketed_local e (b ∷ bytes) = either_way (eqb b 91)
-      (λ h. cons_local (bracketed (list_at element other) other) (λ xs. list_at element other (skip xs)) b bytes (λ zs. rw h refl) (skip_local (list_at element other) list_local bytes))
+      (λ h. cons_local (bracketed (list_at element other) other) (λ xs. list_at element other (skip xs)) b bytes (λ zs. rw h refl)
+      (skip_local (list_at element other) list_local bytes))
       (λ h. same_local (bracketed (list_at element other) other) other b bytes (λ zs. rw h refl) (other_local (b ∷ bytes)))
 
 -- ---- terms
 
 quoted_local : (most : ℕ) → IsLocal (quoted_at most)
-quoted_local most = bind_local (characters_at AtomTooLong 39 most_point most) (λ cs ys. Ok (Atom (encode_utf8_all cs), ys)) (characters_local AtomTooLong 39 most_point most) (λ cs. pure_local (Atom (encode_utf8_all cs)))
+quoted_local most =
+    bind_local (characters_at AtomTooLong 39 most_point most) (λ cs ys. Ok (Atom (encode_utf8_all cs), ys)) (characters_local AtomTooLong 39 most_point most)
+    (λ cs. pure_local (Atom (encode_utf8_all cs)))
 
 some_points_local : IsLocal string_points_at
-some_points_local = bind_local (string_at most_point) (λ cs ys. Ok (points cs, ys)) (string_local most_point (omega arith) (λ h. refl)) (λ cs. pure_local (points cs))
+some_points_local =
+    bind_local (string_at most_point) (λ cs ys. Ok (points cs, ys)) (string_local most_point (omega arith) (λ h. refl)) (λ cs. pure_local (points cs))
 
 points_local : (levels : ℕ) → IsLocal (points_at levels)
 unfolding points_at
 points_local zero [] = nil_local (points_at zero) refl
 points_local zero (b ∷ bytes) = either_way (eqb b 34)
     (λ h. done_local (points_at zero) Nil b bytes (λ zs. rw h refl))
-    (λ h. either_way (begins_character 34 most_point b) (λ i. fault_local (points_at zero) TooDeep b bytes (λ zs. rw (i, h) refl)) (λ i. fault_local (points_at zero) Syntax b bytes (λ zs. rw (i, h) refl)))
+    (λ h. either_way (begins_character 34 most_point b) (λ i. fault_local (points_at zero) TooDeep b bytes (λ zs. rw (i, h) refl))
+    (λ i. fault_local (points_at zero) Syntax b bytes (λ zs. rw (i, h) refl)))
 points_local (suc levels) bytes = some_points_local bytes
 
 atom_local : (most : ℕ) → IsLocal (atom_at most)
@@ -527,7 +590,8 @@ other_local limits element levels l (b ∷ bytes) =
 
 deep_local : IsLocal too_deep
 deep_local [] = nil_local too_deep refl
-deep_local (b ∷ bytes) = either_way (begins_term b) (λ h. fault_local too_deep TooDeep b bytes (λ zs. rw h refl)) (λ h. fault_local too_deep Syntax b bytes (λ zs. rw h refl))
+deep_local (b ∷ bytes) =
+    either_way (begins_term b) (λ h. fault_local too_deep TooDeep b bytes (λ zs. rw h refl)) (λ h. fault_local too_deep Syntax b bytes (λ zs. rw h refl))
 
 nil_term : (limits : Limits) (levels : ℕ) → term_at limits levels [] ≡ syntax_fault []
 unfolding term_at
@@ -546,4 +610,5 @@ term_local limits zero = deep_local
 term_local limits (suc levels) =
     let element = term_at limits levels in
     let l = term_local limits levels in
-    bracketed_local limits levels element (other_at limits element levels) (nil_term limits levels) l (other_local limits element levels l) (term_strict limits levels) (nil_other limits element levels)
+    bracketed_local limits levels element (other_at limits element levels) (nil_term limits levels) l (other_local limits element levels l)
+    (term_strict limits levels) (nil_other limits element levels)

@@ -24,7 +24,8 @@ bracketed_head : (heads : List Tree) (head t : Tree) (r : Result (List ℕ) Faul
 bracketed_head heads head t (Ok rest) = ap (λ (x : Tree). Ok (x, rest)) (sym (conses-append heads (head ∷ []) t))
 bracketed_head heads head t (Err f) = refl
 
-regroup_head : (heads : List Tree) (head : Tree) (owed : ℕ) (read : Read Tree) → with_heads heads owed (read >>= λ x. Ok (Cons head x.0, x.1)) ≡ with_heads (heads ++ head ∷ []) owed read
+regroup_head : (heads : List Tree) (head : Tree) (owed : ℕ) (read : Read Tree)
+    → with_heads heads owed (read >>= λ x. Ok (Cons head x.0, x.1)) ≡ with_heads (heads ++ head ∷ []) owed read
 regroup_head heads head owed (Ok x) = bracketed_head heads head x.0 (brackets_at owed x.1)
 regroup_head heads head owed (Err f) = refl
 
@@ -41,11 +42,14 @@ regroup_inner heads head owed (Err f) = refl
 
 module _ (over : Why) (close most limit i : ℕ) (front bytes : List ℕ) (total : Read (List ℕ)) where
   pub points_go_on : (c : ℕ) (after : List ℕ) → i < limit → next_point_at close most bytes ≡ Ok (Some c, after)
-      → with_front front (characters_at over close most (limit - i) bytes) ≡ total → with_front (front ++ c ∷ []) (characters_at over close most (limit - (i + 1)) after) ≡ total
+      → with_front front (characters_at over close most (limit - i) bytes) ≡ total
+      → with_front (front ++ c ∷ []) (characters_at over close most (limit - (i + 1)) after) ≡ total
   unfolding characters_at
   points_go_on c after lt h so_far =
       let k : limit - i ≡ suc (limit - (i + 1)) = omega arith in
-      let one : with_front front (characters_at over close most (limit - i) bytes) ≡ with_front (front ++ c ∷ []) (characters_at over close most (limit - (i + 1)) after) = rw (k, h) (regroup front (c ∷ []) (characters_at over close most (limit - (i + 1)) after)) in
+      let one : with_front front (characters_at over close most (limit - i) bytes) ≡ with_front (front ++ c ∷ [])
+      (characters_at over close most (limit - (i + 1)) after) = rw (k, h)
+      (regroup front (c ∷ []) (characters_at over close most (limit - (i + 1)) after)) in
       sym one ∙ so_far
 
   pub points_closed : (after : List ℕ) → i < limit → next_point_at close most bytes ≡ Ok (None, after)
@@ -53,7 +57,8 @@ module _ (over : Why) (close most limit i : ℕ) (front bytes : List ℕ) (total
   unfolding characters_at
   points_closed after lt h so_far =
       let k : limit - i ≡ suc (limit - (i + 1)) = omega arith in
-      let one : with_front front (characters_at over close most (limit - i) bytes) ≡ Ok (front, after) = rw (k, h) (ap (λ (cs : List ℕ). Ok (cs, after)) (append-nil front)) in
+      let one : with_front front (characters_at over close most (limit - i) bytes) ≡ Ok (front, after) =
+      rw (k, h) (ap (λ (cs : List ℕ). Ok (cs, after)) (append-nil front)) in
       sym so_far ∙ one
 
   pub points_fail : (e : Stop) → i < limit → Fails e (next_point_at close most bytes)
@@ -70,7 +75,8 @@ module _ (over : Why) (close most limit i : ℕ) (front bytes : List ℕ) (total
   unfolding characters_at
   points_end after le h so_far =
       let k : limit - i ≡ 0 = omega arith in
-      let one : with_front front (characters_at over close most (limit - i) bytes) ≡ Ok (front, after) = rw (k, h) (ap (λ (cs : List ℕ). Ok (cs, after)) (append-nil front)) in
+      let one : with_front front (characters_at over close most (limit - i) bytes) ≡ Ok (front, after) =
+      rw (k, h) (ap (λ (cs : List ℕ). Ok (cs, after)) (append-nil front)) in
       sym so_far ∙ one
 
   pub points_end_fail : (e : Stop) → limit ≤ i → Fails e (closing_at over close most bytes)
@@ -88,7 +94,8 @@ module _ {B : Type 0} (step : ℕ → List ℕ → Read (List B × Bool)) (limit
   unfolding series_at
   series_goes_on xs after lt h so_far =
       let k : limit - i ≡ suc (limit - (i + 1)) = omega arith in
-      let one : with_front front (series_at step (limit - i) bytes) ≡ with_front (front ++ xs) (series_at step (limit - (i + 1)) after) = rw (k, h) (regroup front xs (series_at step (limit - (i + 1)) after)) in
+      let one : with_front front (series_at step (limit - i) bytes) ≡ with_front (front ++ xs) (series_at step (limit - (i + 1)) after) =
+      rw (k, h) (regroup front xs (series_at step (limit - (i + 1)) after)) in
       sym one ∙ so_far
 
   pub series_closed : (xs : List B) (after : List ℕ) → i < limit → step (limit - (i + 1)) bytes ≡ Ok ((xs, false), after)
@@ -116,7 +123,8 @@ module _ {B : Type 0} (step : ℕ → List ℕ → Read (List B × Bool)) (limit
       sym so_far ∙ one
 
 module _ (element other : List ℕ → Read Tree) (limit i owed : ℕ) (heads : List Tree) (bytes : List ℕ) (total : Read Tree) where
-  pub cells_fail : (e : Stop) → i < limit → Fails e (cell_step element other bytes) → with_heads heads owed (cells_at element other (limit - i) bytes) ≡ total → Fails e total
+  pub cells_fail : (e : Stop) → i < limit → Fails e (cell_step element other bytes) → with_heads heads owed (cells_at element other (limit - i) bytes) ≡ total
+      → Fails e total
   unfolding cells_at
   cells_fail stop.NoMemory lt h so_far = tt
   cells_fail (stop.At f) lt h so_far =
@@ -132,19 +140,24 @@ module _ (element other : List ℕ → Read Tree) (limit i owed : ℕ) (heads : 
       sym so_far ∙ one
 
   pub head_follows : (head : Tree) (after : List ℕ) → i < limit → cell_step element other bytes ≡ Ok (head, Head after)
-      → with_heads heads owed (cells_at element other (limit - i) bytes) ≡ total → with_heads (heads ++ head ∷ []) owed (cells_at element other (limit - (i + 1)) after) ≡ total
+      → with_heads heads owed (cells_at element other (limit - i) bytes) ≡ total
+      → with_heads (heads ++ head ∷ []) owed (cells_at element other (limit - (i + 1)) after) ≡ total
   unfolding cells_at
   head_follows head after lt h so_far =
       let k : limit - i ≡ suc (limit - (i + 1)) = omega arith in
-      let one : with_heads heads owed (cells_at element other (limit - i) bytes) ≡ with_heads (heads ++ head ∷ []) owed (cells_at element other (limit - (i + 1)) after) = rw (k, h) (regroup_head heads head owed (cells_at element other (limit - (i + 1)) after)) in
+      let one : with_heads heads owed (cells_at element other (limit - i) bytes) ≡ with_heads (heads ++ head ∷ []) owed
+      (cells_at element other (limit - (i + 1)) after) = rw (k, h) (regroup_head heads head owed (cells_at element other (limit - (i + 1)) after)) in
       sym one ∙ so_far
 
   pub inner_follows : (head : Tree) (after : List ℕ) → i < limit → cell_step element other bytes ≡ Ok (head, Inner after)
-      → with_heads heads owed (cells_at element other (limit - i) bytes) ≡ total → with_heads (heads ++ head ∷ []) (owed + 1) (cells_at element other (limit - (i + 1)) after) ≡ total
+      → with_heads heads owed (cells_at element other (limit - i) bytes) ≡ total
+      → with_heads (heads ++ head ∷ []) (owed + 1) (cells_at element other (limit - (i + 1)) after) ≡ total
   unfolding cells_at
   inner_follows head after lt h so_far =
       let k : limit - i ≡ suc (limit - (i + 1)) = omega arith in
-      let one : with_heads heads owed (cells_at element other (limit - i) bytes) ≡ with_heads (heads ++ head ∷ []) (owed + 1) (cells_at element other (limit - (i + 1)) after) = rw (k, h, add-one owed) (regroup_inner heads head owed (cells_at element other (limit - (i + 1)) after)) in
+      let one : with_heads heads owed (cells_at element other (limit - i) bytes) ≡ with_heads (heads ++ head ∷ []) (owed + 1)
+      (cells_at element other (limit - (i + 1)) after) = rw (k, h, add-one owed)
+      (regroup_inner heads head owed (cells_at element other (limit - (i + 1)) after)) in
       sym one ∙ so_far
 
   pub last_follows : (head tail : Tree) (after : List ℕ) → i < limit → cell_step element other bytes ≡ Ok (head, Last tail after)
@@ -152,7 +165,8 @@ module _ (element other : List ℕ → Read Tree) (limit i owed : ℕ) (heads : 
   unfolding cells_at
   last_follows head tail after lt h so_far =
       let k : limit - i ≡ suc (limit - (i + 1)) = omega arith in
-      let one : with_heads heads owed (cells_at element other (limit - i) bytes) ≡ with_heads (heads ++ head ∷ []) owed (Ok (tail, after)) = rw (k, h) (regroup_head heads head owed (Ok (tail, after))) in
+      let one : with_heads heads owed (cells_at element other (limit - i) bytes) ≡ with_heads (heads ++ head ∷ []) owed (Ok (tail, after)) =
+      rw (k, h) (regroup_head heads head owed (Ok (tail, after))) in
       sym so_far ∙ one
 
 pub conses_pop : (hs rest : List Tree) (head tail : Tree) → hs ≡ rest ++ head ∷ [] → conses rest (Cons head tail) ≡ conses hs tail
@@ -167,7 +181,8 @@ module _ (owed i : ℕ) (bytes : List ℕ) (total : Result (List ℕ) Fault) whe
       let one : brackets_at (owed - i) bytes ≡ Err f = rw (k, h) refl in
       sym so_far ∙ one
 
-  pub brackets_go_on : (after : List ℕ) → i < owed → expect 93 (skip bytes) ≡ Ok after → brackets_at (owed - i) bytes ≡ total → brackets_at (owed - (i + 1)) after ≡ total
+  pub brackets_go_on : (after : List ℕ) → i < owed → expect 93 (skip bytes) ≡ Ok after → brackets_at (owed - i) bytes ≡ total
+      → brackets_at (owed - (i + 1)) after ≡ total
   unfolding brackets_at
   brackets_go_on after lt h so_far =
       let k : owed - i ≡ suc (owed - (i + 1)) = omega arith in

@@ -51,7 +51,8 @@ pub record AreDigitsAt (most n : ℕ) (bytes : List ℕ) (value : ℕ) (rest : L
   pub bounded : n ≤ most → value ≤ most
   pub ends : EndsDigits rest
 
-pub digits_taken : (most n : ℕ) (bytes : List ℕ) (value : ℕ) (rest : List ℕ) → digits_after most n bytes ≡ Ok (value, rest) → AreDigitsAt most n bytes value rest
+pub digits_taken : (most n : ℕ) (bytes : List ℕ) (value : ℕ) (rest : List ℕ) → digits_after most n bytes ≡ Ok (value, rest)
+    → AreDigitsAt most n bytes value rest
 unfolding digits_after
 digits_taken most n [] value rest e =
     let p = pair_is n [] value rest e in
@@ -86,7 +87,8 @@ pub record IsNumberAt (most : ℕ) (bytes : List ℕ) (value : ℕ) (rest : List
   pub bounded : value ≤ most
   pub ends : EndsDigits rest
 
-number_some : (most b : ℕ) (bytes digits : List ℕ) (value : ℕ) (rest : List ℕ) → is_ascii_digit b ≡ true → b ∷ bytes ≡ digits ++ rest → AllDigits 10 digits → digits_value_after 10 0 digits ≡ value
+number_some : (most b : ℕ) (bytes digits : List ℕ) (value : ℕ) (rest : List ℕ) → is_ascii_digit b ≡ true → b ∷ bytes ≡ digits ++ rest → AllDigits 10 digits
+    → digits_value_after 10 0 digits ≡ value
     → value ≤ most → EndsDigits rest → IsNumberAt most (b ∷ bytes) value rest
 number_some most b bytes [] value rest h whole all worth bound ends = let no : is_ascii_digit b ≡ false = subst EndsDigits (sym whole) ends in absurd cc
 number_some most b bytes (d ∷ digits) value rest h whole all worth bound ends =
@@ -186,15 +188,23 @@ whole_name c text (b ∷ rest) h e = rw (h, e) refl
 letter_named : (b : ℕ) → is_ascii_lowercase b ≡ true → is_name_char b ≡ true
 letter_named b h = grind (arith, nat_tests)
 
-name_parts : (most b : ℕ) (bytes name rest : List ℕ) → is_ascii_lowercase b ≡ true → b ∷ bytes ≡ name ++ rest → list_all is_name_char name ≡ true → length name ≤ most → EndsName rest
+name_parts : (most b : ℕ) (bytes name rest : List ℕ) → is_ascii_lowercase b ≡ true → b ∷ bytes ≡ name ++ rest → list_all is_name_char name ≡ true
+    → length name ≤ most → EndsName rest
     → IsNameAt most (b ∷ bytes) name rest
-name_parts most b bytes [] rest h whole all few ends = let no : is_name_char b ≡ false = subst EndsName (sym whole) ends in let yes = letter_named b h in absurd cc
+name_parts most b bytes [] rest h whole all few ends =
+    let no : is_name_char b ≡ false = subst EndsName (sym whole) ends in let yes = letter_named b h in absurd cc
 name_parts most b bytes (c ∷ cs) rest h whole all few ends =
     let same : b ≡ c = cc in
     let letter : is_ascii_lowercase c ≡ true = rw same at h in
-    record { whole = whole; form = rw (letter, (both (is_name_char c) (list_all is_name_char cs) all).1) refl; few = few; ends = whole_name c cs rest letter ends }
+    record {
+      whole = whole;
+      form = rw (letter, (both (is_name_char c) (list_all is_name_char cs) all).1) refl;
+      few = few;
+      ends = whole_name c cs rest letter ends;
+    }
 
-pub name_taken : (most b : ℕ) (bytes name rest : List ℕ) → is_ascii_lowercase b ≡ true → name_at most (b ∷ bytes) ≡ Ok (name, rest) → IsNameAt most (b ∷ bytes) name rest
+pub name_taken : (most b : ℕ) (bytes name rest : List ℕ) → is_ascii_lowercase b ≡ true → name_at most (b ∷ bytes) ≡ Ok (name, rest)
+    → IsNameAt most (b ∷ bytes) name rest
 unfolding name_at
 name_taken most b bytes name rest h e =
     let n = name_length (b ∷ bytes) in
@@ -202,4 +212,5 @@ name_taken most b bytes name rest h e =
     let p = pair_is (take n (b ∷ bytes)) (drop n (b ∷ bytes)) name rest g.1 in
     let whole : b ∷ bytes ≡ name ++ rest = sym (take-append-drop n (b ∷ bytes)) ∙ ap (λ x. x ++ drop n (b ∷ bytes)) p.0 ∙ ap (λ x. name ++ x) p.1 in
     let few : length (take n (b ∷ bytes)) ≤ most = omega (arith, length-take n (b ∷ bytes), leb-true n most g.0) in
-    name_parts most b bytes name rest h whole (subst (λ x. list_all is_name_char x ≡ true) p.0 (names_all (b ∷ bytes))) (subst (λ x. length x ≤ most) p.0 few) (subst EndsName p.1 (names_end (b ∷ bytes)))
+    name_parts most b bytes name rest h whole (subst (λ x. list_all is_name_char x ≡ true) p.0 (names_all (b ∷ bytes))) (subst (λ x. length x ≤ most) p.0 few)
+    (subst EndsName p.1 (names_end (b ∷ bytes)))

@@ -89,7 +89,8 @@ bounds_of_four b c low high = (grind (arith, nat_tests), grind (arith, nat_tests
 three_taken : (b : ℕ) (bytes : List ℕ) (c : ℕ) (rest : List ℕ) → 0xE0 ≤ b → b < 0xF0 → three_at b bytes ≡ Ok (c, rest) → IsPointOf (b ∷ bytes) c rest
 unfolding three_at
 three_taken b bytes c rest low high e =
-    let s = bind_ok (byte_between (least_of_three b) (end_of_three b) bytes) (λ s. inner_byte s.1 >>= λ d. Ok (((b - 224) * 64 + (s.0 - 128)) * 64 + (d.0 - 128), d.1)) (c, rest) e in
+    let s = bind_ok (byte_between (least_of_three b) (end_of_three b) bytes)
+    (λ s. inner_byte s.1 >>= λ d. Ok (((b - 224) * 64 + (s.0 - 128)) * 64 + (d.0 - 128), d.1)) (c, rest) e in
     let d = bind_ok (inner_byte s.0.1) (λ d. Ok (((b - 224) * 64 + (s.0.0 - 128)) * 64 + (d.0 - 128), d.1)) (c, rest) s.2 in
     let i = byte_taken _ _ bytes s.0.0 s.0.1 s.1 in
     let j = inner_taken s.0.1 d.0.0 d.0.1 d.1 in
@@ -102,7 +103,8 @@ four_taken : (b : ℕ) (bytes : List ℕ) (c : ℕ) (rest : List ℕ) → 0xF0 �
 unfolding four_at
 four_taken b bytes c rest low high e =
     let value : ℕ → ℕ → ℕ → ℕ = λ x y z. (((b - 240) * 64 + (x - 128)) * 64 + (y - 128)) * 64 + (z - 128) in
-    let s = bind_ok (byte_between (least_of_four b) (end_of_four b) bytes) (λ s. inner_byte s.1 >>= λ d. inner_byte d.1 >>= λ f. Ok (value s.0 d.0 f.0, f.1)) (c, rest) e in
+    let s = bind_ok (byte_between (least_of_four b) (end_of_four b) bytes)
+    (λ s. inner_byte s.1 >>= λ d. inner_byte d.1 >>= λ f. Ok (value s.0 d.0 f.0, f.1)) (c, rest) e in
     let d = bind_ok (inner_byte s.0.1) (λ d. inner_byte d.1 >>= λ f. Ok (value s.0.0 d.0 f.0, f.1)) (c, rest) s.2 in
     let f = bind_ok (inner_byte d.0.1) (λ f. Ok (value s.0.0 d.0.0 f.0, f.1)) (c, rest) d.2 in
     let i = byte_taken _ _ bytes s.0.0 s.0.1 s.1 in

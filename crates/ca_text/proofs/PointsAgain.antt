@@ -26,25 +26,35 @@ two_again c rest low high =
     let value : (192 + c / 64 - 192) * 64 + (128 + c % 64 - 128) ≡ c = omega arith in
     rw (inner_again (128 + c % 64) rest (omega arith) (omega arith), value) refl
 
-three_bounds : (c : ℕ) → 2048 ≤ c → c < 65536 → IsScalar c → (least_of_three (224 + c / 4096) ≤ 128 + (c / 64) % 64) × (128 + (c / 64) % 64 < end_of_three (224 + c / 4096))
+three_bounds : (c : ℕ) → 2048 ≤ c → c < 65536 → IsScalar c
+    → (least_of_three (224 + c / 4096) ≤ 128 + (c / 64) % 64) × (128 + (c / 64) % 64 < end_of_three (224 + c / 4096))
 three_bounds c low high is = (grind (arith, nat_tests), grind (arith, nat_tests))
 
-three_again : (c : ℕ) (rest : List ℕ) → 2048 ≤ c → c < 65536 → IsScalar c → three_at (224 + c / 4096) ((128 + (c / 64) % 64) ∷ (128 + c % 64) ∷ rest) ≡ Ok (c, rest)
+three_again : (c : ℕ) (rest : List ℕ) → 2048 ≤ c → c < 65536 → IsScalar c
+    → three_at (224 + c / 4096) ((128 + (c / 64) % 64) ∷ (128 + c % 64) ∷ rest) ≡ Ok (c, rest)
 unfolding three_at
 three_again c rest low high is =
     let bounds = three_bounds c low high is in
     let value : ((224 + c / 4096 - 224) * 64 + (128 + (c / 64) % 64 - 128)) * 64 + (128 + c % 64 - 128) ≡ c = omega arith in
     rw (byte_again _ _ (128 + (c / 64) % 64) ((128 + c % 64) ∷ rest) bounds.0 bounds.1, inner_again (128 + c % 64) rest (omega arith) (omega arith), value) refl
 
-four_bounds : (c : ℕ) → 65536 ≤ c → c < 1114112 → (least_of_four (240 + c / 262144) ≤ 128 + (c / 4096) % 64) × (128 + (c / 4096) % 64 < end_of_four (240 + c / 262144))
+four_bounds : (c : ℕ) → 65536 ≤ c → c < 1114112
+    → (least_of_four (240 + c / 262144) ≤ 128 + (c / 4096) % 64) × (128 + (c / 4096) % 64 < end_of_four (240 + c / 262144))
 four_bounds c low high = (grind (arith, nat_tests), grind (arith, nat_tests))
 
-four_again : (c : ℕ) (rest : List ℕ) → 65536 ≤ c → c < 1114112 → four_at (240 + c / 262144) ((128 + (c / 4096) % 64) ∷ (128 + (c / 64) % 64) ∷ (128 + c % 64) ∷ rest) ≡ Ok (c, rest)
+four_again : (c : ℕ) (rest : List ℕ) → 65536 ≤ c → c < 1114112
+    → four_at (240 + c / 262144) ((128 + (c / 4096) % 64) ∷ (128 + (c / 64) % 64) ∷ (128 + c % 64) ∷ rest) ≡ Ok (c, rest)
 unfolding four_at
 four_again c rest low high =
     let bounds = four_bounds c low high in
-    let value : (((240 + c / 262144 - 240) * 64 + (128 + (c / 4096) % 64 - 128)) * 64 + (128 + (c / 64) % 64 - 128)) * 64 + (128 + c % 64 - 128) ≡ c = omega arith in
-    rw (byte_again _ _ (128 + (c / 4096) % 64) ((128 + (c / 64) % 64) ∷ (128 + c % 64) ∷ rest) bounds.0 bounds.1, inner_again (128 + (c / 64) % 64) ((128 + c % 64) ∷ rest) (omega arith) (omega arith), inner_again (128 + c % 64) rest (omega arith) (omega arith), value) refl
+    let value : (((240 + c / 262144 - 240) * 64 + (128 + (c / 4096) % 64 - 128)) * 64 + (128 + (c / 64) % 64 - 128)) * 64 + (128 + c % 64 - 128) ≡ c =
+    omega arith in
+    rw (
+      byte_again _ _ (128 + (c / 4096) % 64) ((128 + (c / 64) % 64) ∷ (128 + c % 64) ∷ rest) bounds.0 bounds.1,
+      inner_again (128 + (c / 64) % 64) ((128 + c % 64) ∷ rest) (omega arith) (omega arith),
+      inner_again (128 + c % 64) rest (omega arith) (omega arith),
+      value,
+    ) refl
 
 scalar_top : (c : ℕ) → IsScalar c → c < 1114112
 scalar_top c h = grind (arith, nat_tests)
@@ -55,12 +65,30 @@ point_again c rest is =
     ⊎_elim (λ h. rw (h.0, h.0) refl)
     (λ h. let low = ltb-false c 128 h.0 in
     ⊎_elim (λ i. let high = ltb-true c 2048 i.0 in
-    rw (h.0, i.0, le-ltb (192 + c / 64) 0x80 (omega arith), le-ltb (192 + c / 64) 0xc2 (omega arith), lt-ltb (192 + c / 64) 0xe0 (omega arith)) (two_again c rest low high))
+    rw (h.0, i.0, le-ltb (192 + c / 64) 0x80 (omega arith), le-ltb (192 + c / 64) 0xc2 (omega arith), lt-ltb (192 + c / 64) 0xe0 (omega arith))
+    (two_again c rest low high))
     (λ i. let low2 = ltb-false c 2048 i.0 in
     ⊎_elim (λ j. let high = ltb-true c 65536 j.0 in
-    rw (h.0, i.0, j.0, le-ltb (224 + c / 4096) 0x80 (omega arith), le-ltb (224 + c / 4096) 0xc2 (omega arith), le-ltb (224 + c / 4096) 0xe0 (omega arith), lt-ltb (224 + c / 4096) 0xf0 (omega arith)) (three_again c rest low2 high is))
+    rw (
+      h.0,
+      i.0,
+      j.0,
+      le-ltb (224 + c / 4096) 0x80 (omega arith),
+      le-ltb (224 + c / 4096) 0xc2 (omega arith),
+      le-ltb (224 + c / 4096) 0xe0 (omega arith),
+      lt-ltb (224 + c / 4096) 0xf0 (omega arith),
+    ) (three_again c rest low2 high is))
     (λ j. let low3 = ltb-false c 65536 j.0 in let top = scalar_top c is in
-    rw (h.0, i.0, j.0, le-ltb (240 + c / 262144) 0x80 (omega arith), le-ltb (240 + c / 262144) 0xc2 (omega arith), le-ltb (240 + c / 262144) 0xe0 (omega arith), le-ltb (240 + c / 262144) 0xf0 (omega arith), lt-ltb (240 + c / 262144) 0xf5 (omega arith)) (four_again c rest low3 top))
+    rw (
+      h.0,
+      i.0,
+      j.0,
+      le-ltb (240 + c / 262144) 0x80 (omega arith),
+      le-ltb (240 + c / 262144) 0xc2 (omega arith),
+      le-ltb (240 + c / 262144) 0xe0 (omega arith),
+      le-ltb (240 + c / 262144) 0xf0 (omega arith),
+      lt-ltb (240 + c / 262144) 0xf5 (omega arith),
+    ) (four_again c rest low3 top))
     (chosen (ltb c 65536) true false (cond (ltb c 65536) true false) refl))
     (chosen (ltb c 2048) true false (cond (ltb c 2048) true false) refl))
     (chosen (ltb c 128) true false (cond (ltb c 128) true false) refl)
@@ -90,7 +118,8 @@ hex_after_again (d ∷ ds) most more c rest all few point =
     let may = stands most (more - 1) next (digits_value_after 16 next ds) (grows ds 16 next (omega arith)) point last in
     rw (hex_parts d all.0, some, may) (hex_after_again ds most (more - 1) next rest all.1 (omega arith) point)
 
-hex_again : (most : ℕ) (ds rest : List ℕ) → IsNumeral 16 ds → length ds ≤ 6 → is_point most (digits_value 16 ds) ≡ true → hex_at most (ds ++ 125 ∷ rest) ≡ Ok (digits_value 16 ds, rest)
+hex_again : (most : ℕ) (ds rest : List ℕ) → IsNumeral 16 ds → length ds ≤ 6 → is_point most (digits_value 16 ds) ≡ true
+    → hex_at most (ds ++ 125 ∷ rest) ≡ Ok (digits_value 16 ds, rest)
 unfolding hex_at
 hex_again most [] rest n few point = absurd (omega (arith, n.0))
 hex_again most (d ∷ ds) rest n few point =
@@ -121,7 +150,8 @@ unfolding encode_utf8
 encode_some c =
     ⊎_elim (λ h. rw h.0 (omega arith))
     (λ h. ⊎_elim (λ i. rw (h.0, i.0) (omega arith))
-    (λ i. ⊎_elim (λ j. rw (h.0, i.0, j.0) (omega arith)) (λ j. rw (h.0, i.0, j.0) (omega arith)) (chosen (ltb c 65536) true false (cond (ltb c 65536) true false) refl))
+    (λ i. ⊎_elim (λ j. rw (h.0, i.0, j.0) (omega arith)) (λ j. rw (h.0, i.0, j.0) (omega arith))
+    (chosen (ltb c 65536) true false (cond (ltb c 65536) true false) refl))
     (chosen (ltb c 2048) true false (cond (ltb c 2048) true false) refl))
     (chosen (ltb c 128) true false (cond (ltb c 128) true false) refl)
 
@@ -133,12 +163,15 @@ lead c is low =
     let no : ltb c 128 ≡ false = le-ltb c 128 low in
     ⊎_elim (λ h. let high = ltb-true c 2048 h.0 in (192 + c / 64, (128 + c % 64) ∷ [], rw (no, h.0) refl, omega arith, omega arith))
     (λ h. let low2 = ltb-false c 2048 h.0 in
-    ⊎_elim (λ i. let high = ltb-true c 65536 i.0 in (224 + c / 4096, (128 + (c / 64) % 64) ∷ (128 + c % 64) ∷ [], rw (no, h.0, i.0) refl, omega arith, omega arith))
-    (λ i. let low3 = ltb-false c 65536 i.0 in (240 + c / 262144, (128 + (c / 4096) % 64) ∷ (128 + (c / 64) % 64) ∷ (128 + c % 64) ∷ [], rw (no, h.0, i.0) refl, omega arith, omega arith))
+    ⊎_elim (λ i. let high = ltb-true c 65536 i.0 in
+    (224 + c / 4096, (128 + (c / 64) % 64) ∷ (128 + c % 64) ∷ [], rw (no, h.0, i.0) refl, omega arith, omega arith))
+    (λ i. let low3 = ltb-false c 65536 i.0 in
+    (240 + c / 262144, (128 + (c / 4096) % 64) ∷ (128 + (c / 64) % 64) ∷ (128 + c % 64) ∷ [], rw (no, h.0, i.0) refl, omega arith, omega arith))
     (chosen (ltb c 65536) true false (cond (ltb c 65536) true false) refl))
     (chosen (ltb c 2048) true false (cond (ltb c 2048) true false) refl)
 
-lead_begins : (close most b : ℕ) → close < 128 → 128 ≤ most → 0xc2 ≤ b → b < 0xf5 → (begins_character close most b ≡ true) × (eqb b 92 ≡ false) × (eqb b close ≡ false)
+lead_begins : (close most b : ℕ) → close < 128 → 128 ≤ most → 0xc2 ≤ b → b < 0xf5
+    → (begins_character close most b ≡ true) × (eqb b 92 ≡ false) × (eqb b close ≡ false)
 lead_begins close most b small wide low high = (grind (arith, nat_tests), grind (arith, nat_tests), grind (arith, nat_tests))
 
 one_byte : (c : ℕ) → c < 128 → encode_utf8 c ≡ c ∷ []
@@ -148,7 +181,8 @@ one_byte c h = rw (lt-ltb c 128 h) refl
 point_most : (most c : ℕ) → is_point most c ≡ true → c ≤ most
 point_most most c h = leb-true c most (both (leb c most) (all_scalars (c ∷ [])) h).0
 
-itself_from : (close most c b : ℕ) (cs rest : List ℕ) → encode_utf8 c ≡ b ∷ cs → IsScalar c → eqb b 92 ≡ false → begins_character close most b ≡ true → character_at close most (encode_utf8 c ++ rest) ≡ Ok (c, rest)
+itself_from : (close most c b : ℕ) (cs rest : List ℕ) → encode_utf8 c ≡ b ∷ cs → IsScalar c → eqb b 92 ≡ false → begins_character close most b ≡ true
+    → character_at close most (encode_utf8 c ++ rest) ≡ Ok (c, rest)
 unfolding character_at
 itself_from close most c b cs rest is scalar other begins =
     let read : point_at (b ∷ (cs ++ rest)) ≡ Ok (c, rest) = ap (λ x. point_at (x ++ rest)) (sym is) ∙ point_again c rest scalar in
@@ -159,8 +193,10 @@ itself_again : (close most c : ℕ) (rest : List ℕ) → close < 128 → IsScal
     → (character_at close most (encode_utf8 c ++ rest) ≡ Ok (c, rest)) × BeginsApart close (encode_utf8 c)
 itself_again close most c rest small is h i j point =
     ⊎_elim
-    (λ k. let low = ltb-true c 128 k.0 in
-    (itself_from close most c c [] rest (one_byte c low) is (other_quote 92 c i) (begins_itself close most c low h j), record { first = c; others = []; is = one_byte c low; apart = other_quote close c h }))
+    (λ k. let low = ltb-true c 128 k.0 in (
+      itself_from close most c c [] rest (one_byte c low) is (other_quote 92 c i) (begins_itself close most c low h j),
+      record { first = c; others = []; is = one_byte c low; apart = other_quote close c h },
+    ))
     (λ k. let low = ltb-false c 128 k.0 in
     let l = lead c is low in
     let top = point_most most c point in
@@ -175,8 +211,10 @@ character_again _ most _ _ rest small slash (Itself close c is h i j) point = it
 character_again _ most _ _ rest small slash (Escaped close letter c e) point =
     (rw (escape_letter letter c e, e) refl, record { first = 92; others = letter ∷ []; is = refl; apart = other_quote close 92 (λ x. slash (sym x)) })
 character_again _ most _ _ rest small slash (Hexadecimal close ds n few is) point =
-    let regrouped : (ds ++ 125 ∷ []) ++ rest ≡ ds ++ 125 ∷ rest = append_assoc ds (125 ∷ []) rest in
-    (rw (expect_again 123 ((ds ++ 125 ∷ []) ++ rest), regrouped, hex_again most ds rest n few point) refl, record { first = 92; others = 120 ∷ 123 ∷ ds ++ 125 ∷ []; is = refl; apart = other_quote close 92 (λ x. slash (sym x)) })
+    let regrouped : (ds ++ 125 ∷ []) ++ rest ≡ ds ++ 125 ∷ rest = append_assoc ds (125 ∷ []) rest in (
+      rw (expect_again 123 ((ds ++ 125 ∷ []) ++ rest), regrouped, hex_again most ds rest n few point) refl,
+      record { first = 92; others = 120 ∷ 123 ∷ ds ++ 125 ∷ []; is = refl; apart = other_quote close 92 (λ x. slash (sym x)) },
+    )
 
 pub character_some : (close : ℕ) (text : List ℕ) (c : ℕ) → IsCharacter close text c → 0 < length text
 character_some _ _ _ (Itself close c is h i j) = encode_some c
@@ -191,14 +229,16 @@ none_again : (close most : ℕ) (rest : List ℕ) → next_point_at close most (
 unfolding next_point_at
 none_again close most rest = let e : eqb close close ≡ true = grind (arith, nat_tests) in rw e refl
 
-next_from : (close most c b : ℕ) (text others rest : List ℕ) → text ≡ b ∷ others → eqb b close ≡ false → character_at close most (text ++ rest) ≡ Ok (c, rest) → next_point_at close most (text ++ rest) ≡ Ok (Some c, rest)
+next_from : (close most c b : ℕ) (text others rest : List ℕ) → text ≡ b ∷ others → eqb b close ≡ false → character_at close most (text ++ rest) ≡ Ok (c, rest)
+    → next_point_at close most (text ++ rest) ≡ Ok (Some c, rest)
 unfolding next_point_at
 next_from close most c b text others rest is apart read =
     let again : character_at close most (b ∷ (others ++ rest)) ≡ Ok (c, rest) = ap (λ x. character_at close most (x ++ rest)) (sym is) ∙ read in
     let step : next_point_at close most (b ∷ (others ++ rest)) ≡ Ok (Some c, rest) = rw (apart, again) refl in
     ap (λ x. next_point_at close most (x ++ rest)) is ∙ step
 
-pub characters_again : (over : Why) (close most n : ℕ) (text cs rest : List ℕ) → close < 128 → close ≢ 92 → AreCharacters close text cs → list_all (is_point most) cs ≡ true → length cs ≤ n
+pub characters_again : (over : Why) (close most n : ℕ) (text cs rest : List ℕ) → close < 128 → close ≢ 92 → AreCharacters close text cs
+    → list_all (is_point most) cs ≡ true → length cs ≤ n
     → characters_at over close most n (text ++ rest) ≡ Ok (cs, rest)
 unfolding characters_at
 characters_again over _ most zero _ _ rest small slash (Closed close) all few = rw (closed_again over close most rest) refl

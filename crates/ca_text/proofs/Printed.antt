@@ -58,12 +58,15 @@ escaped_is c is =
     (chosen (eqb c 92) true false (cond (eqb c 92) true false) refl)
 
 -- code points that pass a test, each written as a character, and the closing quote
-characters_are : (close : ℕ) (write : ℕ → List ℕ) (test : ℕ → Bool) → ((c : ℕ) → test c ≡ true → IsCharacter close (write c) c) → (cs : List ℕ) → list_all test cs ≡ true → AreCharacters close (flat_map write cs ++ close ∷ []) cs
+characters_are : (close : ℕ) (write : ℕ → List ℕ) (test : ℕ → Bool) → ((c : ℕ) → test c ≡ true → IsCharacter close (write c) c) → (cs : List ℕ)
+    → list_all test cs ≡ true → AreCharacters close (flat_map write cs ++ close ∷ []) cs
 characters_are close write test h [] all = Closed close
 characters_are close write test h (c ∷ cs) all =
     let t = both (test c) (list_all test cs) all in
-    let whole : flat_map write (c ∷ cs) ++ close ∷ [] ≡ write c ++ (flat_map write cs ++ close ∷ []) = ap (λ x. x ++ close ∷ []) (flat_map-cons write c cs) ∙ append_assoc (write c) (flat_map write cs) (close ∷ []) in
-    subst (λ x. AreCharacters close x (c ∷ cs)) (sym whole) (OneMore close c (write c) (flat_map write cs ++ close ∷ []) cs (h c t.0) (characters_are close write test h cs t.1))
+    let whole : flat_map write (c ∷ cs) ++ close ∷ [] ≡ write c ++ (flat_map write cs ++ close ∷ []) =
+    ap (λ x. x ++ close ∷ []) (flat_map-cons write c cs) ∙ append_assoc (write c) (flat_map write cs) (close ∷ []) in
+    subst (λ x. AreCharacters close x (c ∷ cs)) (sym whole)
+    (OneMore close c (write c) (flat_map write cs ++ close ∷ []) cs (h c t.0) (characters_are close write test h cs t.1))
 
 scalars_all : (cs : List ℕ) → all_scalars cs ≡ true → list_all (λ c. all_scalars (c ∷ [])) cs ≡ true
 scalars_all [] h = refl
@@ -72,8 +75,10 @@ scalars_all (c ∷ cs) h = let t = both _ (all_scalars cs) h in rw (t.0, scalars
 quoted_is : (text : List ℕ) → IsUtf8 text → length (chars text) ≤ 255 → IsAtom standard (quoted text) text
 unfolding quoted
 quoted_is text utf8 few =
-    let are = characters_are 39 escaped_char (λ c. all_scalars (c ∷ [])) (λ c h. escaped_is c (both _ true h).0) (chars text) (scalars_all (chars text) (scalars-chars text utf8)) in
-    subst (λ x. IsAtom standard (39 ∷ flat_map escaped_char (chars text) ++ 39 ∷ []) x) (encodes-chars text utf8) (Quoted standard (flat_map escaped_char (chars text) ++ 39 ∷ []) (chars text) are few)
+    let are = characters_are 39 escaped_char (λ c. all_scalars (c ∷ [])) (λ c h. escaped_is c (both _ true h).0) (chars text)
+    (scalars_all (chars text) (scalars-chars text utf8)) in
+    subst (λ x. IsAtom standard (39 ∷ flat_map escaped_char (chars text) ++ 39 ∷ []) x) (encodes-chars text utf8)
+    (Quoted standard (flat_map escaped_char (chars text) ++ 39 ∷ []) (chars text) are few)
 
 plain_names : (text : List ℕ) → has_plain_form text ≡ true → list_all is_name_char text ≡ true
 plain_names [] h = absurd cc
@@ -134,8 +139,10 @@ numbers_are : (b : ℕ) (bs : List ℕ) → AreBytes (b ∷ bs) → AreSegments 
 numbers_are b [] fits = LastSegment (decimal b) [] (b ∷ []) (number_is b (fits 0)) refl
 numbers_are b (c ∷ cs) fits =
     let later = numbers_are c cs (λ k. fits (suc k)) in
-    let more = MoreSegments (decimal b) [] [] (decimal c ++ (flat_map with_comma cs ++ 62 ∷ 62 ∷ [])) (b ∷ []) (c ∷ cs) (number_is b (fits 0)) refl refl later in
-    let whole : flat_map with_comma (c ∷ cs) ++ 62 ∷ 62 ∷ [] ≡ 44 ∷ (decimal c ++ (flat_map with_comma cs ++ 62 ∷ 62 ∷ [])) = ap (λ x. x ++ 62 ∷ 62 ∷ []) (flat_map-cons with_comma c cs) ∙ append_assoc (with_comma c) (flat_map with_comma cs) (62 ∷ 62 ∷ []) in
+    let more = MoreSegments (decimal b) [] [] (decimal c ++ (flat_map with_comma cs ++ 62 ∷ 62 ∷ [])) (b ∷ []) (c ∷ cs)
+    (number_is b (fits 0)) refl refl later in
+    let whole : flat_map with_comma (c ∷ cs) ++ 62 ∷ 62 ∷ [] ≡ 44 ∷ (decimal c ++ (flat_map with_comma cs ++ 62 ∷ 62 ∷ [])) =
+    ap (λ x. x ++ 62 ∷ 62 ∷ []) (flat_map-cons with_comma c cs) ∙ append_assoc (with_comma c) (flat_map with_comma cs) (62 ∷ 62 ∷ []) in
     subst (λ x. AreSegments (decimal b ++ x) (b ∷ c ∷ cs)) (sym whole) more
 
 binary_is : (levels : ℕ) (bs : List ℕ) → AreBytes bs → IsTextOf standard (suc levels) (binary_text bs) (Binary bs)
@@ -143,19 +150,26 @@ unfolding binary_text
 binary_is levels [] fits = NoBytes standard levels [] refl
 binary_is levels (b ∷ bs) fits =
     ⊎_elim
-    (λ h. let whole : (codes "<<\"" ++ flat_map escaped_byte (b ∷ bs)) ++ codes "\">>" ≡ 60 ∷ 60 ∷ 34 ∷ (flat_map escaped_byte (b ∷ bs) ++ 34 ∷ 62 ∷ 62 ∷ []) = refl in
-    rw h.0 (subst (λ x. IsTextOf standard (suc levels) x (Binary (b ∷ bs))) (sym whole) (ABinary standard levels [] (34 ∷ flat_map escaped_byte (b ∷ bs) ++ 34 ∷ 62 ∷ 62 ∷ []) (b ∷ bs) refl (shown_is (b ∷ bs) h.0))))
-    (λ h. let whole : ((codes "<<" ++ decimal b) ++ flat_map with_comma bs) ++ codes ">>" ≡ 60 ∷ 60 ∷ (decimal b ++ (flat_map with_comma bs ++ 62 ∷ 62 ∷ [])) = ap (λ x. 60 ∷ 60 ∷ x) (append_assoc (decimal b) (flat_map with_comma bs) (62 ∷ 62 ∷ [])) in
-    rw h.0 (subst (λ x. IsTextOf standard (suc levels) x (Binary (b ∷ bs))) (sym whole) (ABinary standard levels [] (decimal b ++ (flat_map with_comma bs ++ 62 ∷ 62 ∷ [])) (b ∷ bs) refl (numbers_are b bs fits))))
+    (λ h. let whole : (codes "<<\"" ++ flat_map escaped_byte (b ∷ bs)) ++ codes "\">>" ≡ 60 ∷ 60 ∷ 34 ∷
+    (flat_map escaped_byte (b ∷ bs) ++ 34 ∷ 62 ∷ 62 ∷ []) = refl in
+    rw h.0 (subst (λ x. IsTextOf standard (suc levels) x (Binary (b ∷ bs))) (sym whole)
+    (ABinary standard levels [] (34 ∷ flat_map escaped_byte (b ∷ bs) ++ 34 ∷ 62 ∷ 62 ∷ []) (b ∷ bs) refl (shown_is (b ∷ bs) h.0))))
+    (λ h. let whole : ((codes "<<" ++ decimal b) ++ flat_map with_comma bs) ++ codes ">>" ≡ 60 ∷ 60 ∷
+    (decimal b ++ (flat_map with_comma bs ++ 62 ∷ 62 ∷ [])) = ap (λ x. 60 ∷ 60 ∷ x) (append_assoc (decimal b) (flat_map with_comma bs) (62 ∷ 62 ∷ [])) in
+    rw h.0 (subst (λ x. IsTextOf standard (suc levels) x (Binary (b ∷ bs))) (sym whole)
+    (ABinary standard levels [] (decimal b ++ (flat_map with_comma bs ++ 62 ∷ 62 ∷ [])) (b ∷ bs) refl (numbers_are b bs fits))))
     (chosen (list_all is_printable (b ∷ bs)) true false (cond (list_all is_printable (b ∷ bs)) true false) refl)
 
 -- ---- terms
 
-barred_is : (levels : ℕ) (head tail : Tree) (text last : List ℕ) → IsTextOf standard levels text head → IsTextOf standard (suc levels) last tail → AreCells standard levels (text ++ bar_text last) (Cons head tail)
+barred_is : (levels : ℕ) (head tail : Tree) (text last : List ℕ) → IsTextOf standard levels text head → IsTextOf standard (suc levels) last tail
+    → AreCells standard levels (text ++ bar_text last) (Cons head tail)
 barred_is levels head tail text last is end =
     LastTail standard levels text [] [] last [] head tail is refl refl end refl
 
-tuple_is : (levels : ℕ) (row : Row) → size row ≤ 120 → ((t : Tree) (others : Row) → row ≡ More t others → AreElements standard levels (row_text row ++ 125 ∷ []) row) → IsTextOf standard (suc levels) (codes "{" ++ row_text row ++ codes "}") (Tuple row)
+tuple_is : (levels : ℕ) (row : Row) → size row ≤ 120
+    → ((t : Tree) (others : Row) → row ≡ More t others → AreElements standard levels (row_text row ++ 125 ∷ []) row)
+    → IsTextOf standard (suc levels) (codes "{" ++ row_text row ++ codes "}") (Tuple row)
 tuple_is levels Ends few are = NoElements standard levels [] refl
 tuple_is levels (More t row) few are = ATuple standard levels [] (row_text (More t row) ++ 125 ∷ []) (More t row) refl (are t row refl) few
 
@@ -171,26 +185,36 @@ mutual
   text_is Nil (suc levels) narrow shallow = ANil standard levels [] refl
   text_is (Cons head tail) zero narrow shallow = absurd (omega (arith, shallow))
   text_is (Cons head tail) (suc levels) narrow shallow =
-      AList standard levels [] (text_of head ++ tail_text tail) (Cons head tail) refl (cells_are tail levels head (text_of head) (text_is head levels narrow.0 (omega (arith, shallow))) narrow.1 (omega (arith, shallow)))
+      AList standard levels [] (text_of head ++ tail_text tail) (Cons head tail) refl
+      (cells_are tail levels head (text_of head) (text_is head levels narrow.0 (omega (arith, shallow))) narrow.1 (omega (arith, shallow)))
   text_is (Binary bytes) zero narrow shallow = absurd (omega (arith, shallow))
   text_is (Binary bytes) (suc levels) narrow shallow = binary_is levels bytes narrow
 
   -- a row that isn't empty
-  row_is : (row : Row) (levels : ℕ) → IsNarrowRow row → row_depth row ≤ levels → (t : Tree) (others : Row) → row ≡ More t others → AreElements standard levels (row_text row ++ 125 ∷ []) row
+  row_is : (row : Row) (levels : ℕ) → IsNarrowRow row → row_depth row ≤ levels → (t : Tree) (others : Row) → row ≡ More t others
+      → AreElements standard levels (row_text row ++ 125 ∷ []) row
   row_is Ends levels narrow shallow t others e = absurd cc
-  row_is (More u row) levels narrow shallow t others e = more_are row levels u (text_of u) (text_is u levels narrow.0 (omega (arith, shallow))) narrow.1 (omega (arith, shallow))
+  row_is (More u row) levels narrow shallow t others e =
+      more_are row levels u (text_of u) (text_is u levels narrow.0 (omega (arith, shallow))) narrow.1 (omega (arith, shallow))
 
-  more_are : (row : Row) (levels : ℕ) (t : Tree) (text : List ℕ) → IsTextOf standard levels text t → IsNarrowRow row → row_depth row ≤ levels → AreElements standard levels ((text ++ more_text row) ++ 125 ∷ []) (More t row)
+  more_are : (row : Row) (levels : ℕ) (t : Tree) (text : List ℕ) → IsTextOf standard levels text t → IsNarrowRow row → row_depth row ≤ levels
+      → AreElements standard levels ((text ++ more_text row) ++ 125 ∷ []) (More t row)
   more_are Ends levels t text is narrow shallow =
       subst (λ x. AreElements standard levels x (More t Ends)) (sym (append_assoc text [] (125 ∷ []))) (LastElement standard levels text [] t is refl)
   more_are (More u row) levels t text is narrow shallow =
       let later = more_are row levels u (text_of u) (text_is u levels narrow.0 (omega (arith, shallow))) narrow.1 (omega (arith, shallow)) in
-      subst (λ x. AreElements standard levels x (More t (More u row))) (sym (append_assoc text (more_text (More u row)) (125 ∷ []))) (MoreElements standard levels text [] [] ((text_of u ++ more_text row) ++ 125 ∷ []) t (More u row) is refl refl later)
+      subst (λ x. AreElements standard levels x (More t (More u row))) (sym (append_assoc text (more_text (More u row)) (125 ∷ [])))
+      (MoreElements standard levels text [] [] ((text_of u ++ more_text row) ++ 125 ∷ []) t (More u row) is refl refl later)
 
-  cells_are : (tail : Tree) (levels : ℕ) (head : Tree) (text : List ℕ) → IsTextOf standard levels text head → IsNarrow tail → depth tail ≤ suc levels → AreCells standard levels (text ++ tail_text tail) (Cons head tail)
-  cells_are (Integer n) levels head text is narrow shallow = barred_is levels head (Integer n) text (signed_decimal n) is (AnInteger standard levels (signed_decimal n) n (integer_is n narrow))
-  cells_are (Atom name) levels head text is narrow shallow = barred_is levels head (Atom name) text (atom_text name) is (AnAtom standard levels (atom_text name) name (atom_is name narrow.0 narrow.1))
-  cells_are (Tuple row) levels head text is narrow shallow = barred_is levels head (Tuple row) text (codes "{" ++ row_text row ++ codes "}") is (tuple_is levels row narrow.0 (λ t others e. row_is row levels narrow.1 (omega (arith, shallow)) t others e))
+  cells_are : (tail : Tree) (levels : ℕ) (head : Tree) (text : List ℕ) → IsTextOf standard levels text head → IsNarrow tail → depth tail ≤ suc levels
+      → AreCells standard levels (text ++ tail_text tail) (Cons head tail)
+  cells_are (Integer n) levels head text is narrow shallow =
+      barred_is levels head (Integer n) text (signed_decimal n) is (AnInteger standard levels (signed_decimal n) n (integer_is n narrow))
+  cells_are (Atom name) levels head text is narrow shallow =
+      barred_is levels head (Atom name) text (atom_text name) is (AnAtom standard levels (atom_text name) name (atom_is name narrow.0 narrow.1))
+  cells_are (Tuple row) levels head text is narrow shallow =
+      barred_is levels head (Tuple row) text (codes "{" ++ row_text row ++ codes "}") is
+      (tuple_is levels row narrow.0 (λ t others e. row_is row levels narrow.1 (omega (arith, shallow)) t others e))
   cells_are Nil levels head text is narrow shallow = LastCell standard levels text [] head is refl
   cells_are (Cons h t) levels head text is narrow shallow =
       let later = cells_are t levels h (text_of h) (text_is h levels narrow.0 (omega (arith, shallow))) narrow.1 (omega (arith, shallow)) in

@@ -67,7 +67,8 @@ module _ {raises : Why → Bool} {X : Type 0} {rest_of : X → List ℕ} where
   pub ok_beside : {left : ℕ} {x : X} → length (rest_of x) ≤ left → Beside raises rest_of left (Ok x) (Ok x)
   ok_beside h = record { raised = refl; within = h }
 
-  pub fault_beside : {left : ℕ} (why : Why) (bytes : List ℕ) → raises why ≡ false → length bytes ≤ left → Beside raises rest_of left (fault why bytes) (fault why bytes)
+  pub fault_beside : {left : ℕ} (why : Why) (bytes : List ℕ) → raises why ≡ false → length bytes ≤ left
+      → Beside raises rest_of left (fault why bytes) (fault why bytes)
   fault_beside why bytes stays h = record { raised = (λ i. refl, λ i. let e = sym stays ∙ i in absurd cc); within = h }
 
   -- a limit that is raised, and reading gets past it
@@ -86,15 +87,18 @@ module _ {raises : Why → Bool} {X : Type 0} {rest_of : X → List ℕ} where
 
 -- one reader behind another
 module _ {X Y : Type 0} (before : X → List ℕ) (after : Y → List ℕ) where
-  pub bind_within : (left : ℕ) (s : Result X Fault) (h : X → Result Y Fault) → Within before left s → ((x : X) → Within after (length (before x)) (h x)) → Within after left (s >>= h)
+  pub bind_within : (left : ℕ) (s : Result X Fault) (h : X → Result Y Fault) → Within before left s → ((x : X) → Within after (length (before x)) (h x))
+      → Within after left (s >>= h)
   bind_within left (Ok x) h first second = within_more after (h x) first (second x)
   bind_within left (Err f) h first second = first
 
-  pub bind_past : (left : ℕ) (s : Result X Fault) (h : X → Result Y Fault) → Past before left s → ((x : X) → Within after (length (before x)) (h x)) → Past after left (s >>= h)
+  pub bind_past : (left : ℕ) (s : Result X Fault) (h : X → Result Y Fault) → Past before left s → ((x : X) → Within after (length (before x)) (h x))
+      → Past after left (s >>= h)
   bind_past left (Ok x) h first second = within_past after (h x) first (second x)
   bind_past left (Err f) h first second = first
 
-  bind_raised : (raises : Why → Bool) (r s : Result X Fault) (g h : X → Result Y Fault) → IsRaised raises before r s → ((x : X) → r ≡ Ok x → IsRaised raises after (g x) (h x))
+  bind_raised : (raises : Why → Bool) (r s : Result X Fault) (g h : X → Result Y Fault) → IsRaised raises before r s
+      → ((x : X) → r ≡ Ok x → IsRaised raises after (g x) (h x))
       → ((x : X) → Within after (length (before x)) (h x)) → IsRaised raises after (r >>= g) (s >>= h)
   bind_raised raises (Ok x) s g h first second within = subst (λ (t : Result X Fault). IsRaised raises after (g x) (t >>= h)) (sym first) (second x refl)
   bind_raised raises (Err f) s g h first second within = (λ i. let e = first.0 i in rw e refl, λ i. bind_past f.left s h (first.1 i) within)
@@ -103,7 +107,8 @@ module _ {raises : Why → Bool} {X Y : Type 0} {before : X → List ℕ} {after
   -- where the second reader hangs on what the first one answered without raised limits
   pub bind_known : (g h : X → Result Y Fault) → Beside raises before left r s → ((x : X) → r ≡ Ok x → IsRaised raises after (g x) (h x))
       → ((x : X) → Within after (length (before x)) (h x)) → Beside raises after left (r >>= g) (s >>= h)
-  bind_known g h first second within = record { raised = bind_raised before after raises r s g h first.raised second within; within = bind_within before after left s h first.within within }
+  bind_known g h first second within =
+      record { raised = bind_raised before after raises r s g h first.raised second within; within = bind_within before after left s h first.within within }
 
   pub bind_beside : (g h : X → Result Y Fault) → Beside raises before left r s → ((x : X) → Beside raises after (length (before x)) (g x) (h x))
       → Beside raises after left (r >>= g) (s >>= h)
@@ -121,14 +126,16 @@ abbrev pub ReadsBeside : {A : Type 0} → (Why → Bool) → (List ℕ → Read 
 ReadsBeside raises p q = (bytes : List ℕ) → Beside raises behind (length bytes) (p bytes) (q bytes)
 
 module _ {raises : Why → Bool} {X : Type 0} {rest_of : X → List ℕ} {p q : List ℕ → Result X Fault} where
-  pub skip_beside : ((bytes : List ℕ) → Beside raises rest_of (length bytes) (p bytes) (q bytes)) → (bytes : List ℕ) → Beside raises rest_of (length bytes) (p (skip bytes)) (q (skip bytes))
+  pub skip_beside : ((bytes : List ℕ) → Beside raises rest_of (length bytes) (p bytes) (q bytes)) → (bytes : List ℕ)
+      → Beside raises rest_of (length bytes) (p (skip bytes)) (q (skip bytes))
   skip_beside l bytes = beside_more (skip_shorter bytes) (l (skip bytes))
 
 -- a reader that looks no further than one byte ahead
 module _ {A : Type 0} (p : List ℕ → Read A) (local : IsLocal p) where
   answer_within : (bytes : List ℕ) (r : Read A) → p bytes ≡ r → Within behind (length bytes) r
   answer_within bytes (Ok (a, ys)) e = let t = (local bytes).taken a ys e in omega (arith, ap (λ (l : List ℕ). length l) t.whole, length-append t.front ys)
-  answer_within bytes (Err f) e = let t = (local bytes).stuck f e in omega (arith, ap (λ (l : List ℕ). length l) t.whole, length-append t.front t.behind, ap (λ (g : Fault). g.left) t.is)
+  answer_within bytes (Err f) e =
+      let t = (local bytes).stuck f e in omega (arith, ap (λ (l : List ℕ). length l) t.whole, length-append t.front t.behind, ap (λ (g : Fault). g.left) t.is)
 
   pub local_within : (bytes : List ℕ) → Within behind (length bytes) (p bytes)
   local_within bytes = answer_within bytes (p bytes) refl

@@ -12,7 +12,8 @@ use Rattle.ca_text.proofs.LocalTerms.{skip_shorter, name_within, segment_step_lo
 use Rattle.ca_text.proofs.Raised.{Grown, Past, Within, Beside, itself, behind, ReadsBeside, grown_itself, grown_before, grown_most, grown_stays, grown_raised, within_past, ok_beside, fault_beside, past_beside, beside_more, if_beside, bind_within, bind_past, bind_known, bind_beside, skip_beside, local_within}
 
 module _ (raises : Why → Bool) (plain : raises Syntax ≡ false) where
-  pub syntax_beside : {X : Type 0} {rest_of : X → List ℕ} {left : ℕ} (bytes : List ℕ) → length bytes ≤ left → Beside raises rest_of left (syntax_fault bytes) (syntax_fault bytes)
+  pub syntax_beside : {X : Type 0} {rest_of : X → List ℕ} {left : ℕ} (bytes : List ℕ) → length bytes ≤ left
+      → Beside raises rest_of left (syntax_fault bytes) (syntax_fault bytes)
   syntax_beside bytes h = fault_beside Syntax bytes plain h
 
   pub expect_beside : (c : ℕ) (bytes : List ℕ) → Beside raises itself (length bytes) (expect c bytes) (expect c bytes)
@@ -25,7 +26,8 @@ module _ (raises : Why → Bool) (plain : raises Syntax ≡ false) where
   digits_beside [] most n = ok_beside (omega arith)
   digits_beside (b ∷ bytes) most n =
       if_beside (is_ascii_digit b)
-      (λ h. if_beside (leb (n * 10 + (b - 48)) most) (λ i. beside_more (omega arith) (digits_beside bytes most (n * 10 + (b - 48)))) (λ i. syntax_beside (b ∷ bytes) (omega arith)))
+      (λ h. if_beside (leb (n * 10 + (b - 48)) most) (λ i. beside_more (omega arith) (digits_beside bytes most (n * 10 + (b - 48))))
+      (λ i. syntax_beside (b ∷ bytes) (omega arith)))
       (λ h. ok_beside (omega arith))
 
   number_beside : (most : ℕ) → ReadsBeside raises (number_at most) (number_at most)
@@ -85,15 +87,19 @@ module _ (raises : Why → Bool) (plain : raises Syntax ≡ false) where
   hex_after_beside (b ∷ bytes) most more c =
       let next = c * 16 + digit_value b in
       if_beside (is_ascii_hexdigit b && ltb 0 more)
-      (λ h. if_beside (may_stand most (more - 1) next) (λ i. beside_more (omega arith) (hex_after_beside bytes most (more - 1) next)) (λ i. syntax_beside (b ∷ bytes) (omega arith)))
+      (λ h. if_beside (may_stand most (more - 1) next) (λ i. beside_more (omega arith) (hex_after_beside bytes most (more - 1) next))
+      (λ i. syntax_beside (b ∷ bytes) (omega arith)))
       (λ h. if_beside (eqb b 125 && is_point most c) (λ i. ok_beside (omega arith)) (λ i. syntax_beside (b ∷ bytes) (omega arith)))
 
   hex_beside : (most : ℕ) → ReadsBeside raises (hex_at most) (hex_at most)
   unfolding hex_at
   hex_beside most [] = syntax_beside [] (omega arith)
-  hex_beside most (b ∷ bytes) = if_beside (is_ascii_hexdigit b) (λ h. beside_more (omega arith) (hex_after_beside bytes most 5 (digit_value b))) (λ h. syntax_beside (b ∷ bytes) (omega arith))
+  hex_beside most (b ∷ bytes) =
+      if_beside (is_ascii_hexdigit b) (λ h. beside_more (omega arith) (hex_after_beside bytes most 5 (digit_value b)))
+      (λ h. syntax_beside (b ∷ bytes) (omega arith))
 
-  letter_beside : (o : Option ℕ) (b : ℕ) (bytes : List ℕ) → Beside raises behind (length (b ∷ bytes)) (or_fault o bytes (b ∷ bytes)) (or_fault o bytes (b ∷ bytes))
+  letter_beside : (o : Option ℕ) (b : ℕ) (bytes : List ℕ)
+      → Beside raises behind (length (b ∷ bytes)) (or_fault o bytes (b ∷ bytes)) (or_fault o bytes (b ∷ bytes))
   letter_beside None b bytes = syntax_beside (b ∷ bytes) (omega arith)
   letter_beside (Some c) b bytes = ok_beside (omega arith)
 
@@ -115,7 +121,8 @@ module _ (raises : Why → Bool) (plain : raises Syntax ≡ false) where
   next_beside : (close most : ℕ) → ReadsBeside raises (next_point_at close most) (next_point_at close most)
   unfolding next_point_at
   next_beside close most [] = syntax_beside [] (omega arith)
-  next_beside close most (b ∷ bytes) = if_beside (eqb b close) (λ h. ok_beside (omega arith)) (λ h. bind_beside _ _ (character_beside close most (b ∷ bytes)) (λ x. ok_beside (omega arith)))
+  next_beside close most (b ∷ bytes) =
+      if_beside (eqb b close) (λ h. ok_beside (omega arith)) (λ h. bind_beside _ _ (character_beside close most (b ∷ bytes)) (λ x. ok_beside (omega arith)))
 
   point_past : (close most b : ℕ) (bytes : List ℕ) → begins_character close most b ≡ true → Past behind (length (b ∷ bytes)) (point_at (b ∷ bytes))
   unfolding point_at
@@ -124,9 +131,11 @@ module _ (raises : Why → Bool) (plain : raises Syntax ≡ false) where
       either_way (ltb b 0xc2) (λ i. absurd (grind (arith, nat_tests))) (λ i.
       either_way (ltb b 0xe0) (λ j. rw (h, i, j) (within_past behind (two_at b bytes) (omega arith) (two_beside b bytes).within)) (λ j.
       either_way (ltb b 0xf0) (λ k. rw (h, i, j, k) (within_past behind (three_at b bytes) (omega arith) (three_beside b bytes).within)) (λ k.
-      either_way (ltb b 0xf5) (λ l. rw (h, i, j, k, l) (within_past behind (four_at b bytes) (omega arith) (four_beside b bytes).within)) (λ l. absurd (grind (arith, nat_tests)))))))
+      either_way (ltb b 0xf5) (λ l. rw (h, i, j, k, l) (within_past behind (four_at b bytes) (omega arith) (four_beside b bytes).within))
+      (λ l. absurd (grind (arith, nat_tests)))))))
 
-  character_past : (close most b : ℕ) (bytes : List ℕ) → begins_character close most b ≡ true → Past behind (length (b ∷ bytes)) (character_at close most (b ∷ bytes))
+  character_past : (close most b : ℕ) (bytes : List ℕ) → begins_character close most b ≡ true
+      → Past behind (length (b ∷ bytes)) (character_at close most (b ∷ bytes))
   unfolding character_at
   character_past close most b bytes begins =
       either_way (eqb b 92)
@@ -138,7 +147,8 @@ module _ (raises : Why → Bool) (plain : raises Syntax ≡ false) where
       → Past behind (length (b ∷ bytes)) (next_point_at close most (b ∷ bytes))
   unfolding next_point_at
   next_past close most b bytes apart begins =
-      rw apart (bind_past behind behind (length (b ∷ bytes)) (character_at close most (b ∷ bytes)) (λ x. Ok (Some x.0, x.1)) (character_past close most b bytes begins) (λ x. omega arith))
+      rw apart (bind_past behind behind (length (b ∷ bytes)) (character_at close most (b ∷ bytes)) (λ x. Ok (Some x.0, x.1))
+      (character_past close most b bytes begins) (λ x. omega arith))
 
   after_within : (next : List ℕ → Read (List ℕ)) → ((bytes : List ℕ) → Within behind (length bytes) (next bytes))
       → (x : Option ℕ × List ℕ) → Within behind (length x.1) (points_after next x)
@@ -162,7 +172,8 @@ module _ (raises : Why → Bool) (plain : raises Syntax ≡ false) where
       if_beside (begins_character close most b) (λ i. fault_beside over (b ∷ bytes) stays (omega arith)) (λ i. syntax_beside (b ∷ bytes) (omega arith)))
 
   -- one more character where there could be none
-  more_beside : (over : Why) → raises over ≡ true → (close most n : ℕ) → ReadsBeside raises (characters_at over close most zero) (characters_at over close most (suc n))
+  more_beside : (over : Why) → raises over ≡ true → (close most n : ℕ)
+      → ReadsBeside raises (characters_at over close most zero) (characters_at over close most (suc n))
   unfolding characters_at closing_at next_point_at character_at
   more_beside over grows close most n [] = syntax_beside [] (omega arith)
   more_beside over grows close most n (b ∷ bytes) =
@@ -171,18 +182,22 @@ module _ (raises : Why → Bool) (plain : raises Syntax ≡ false) where
       (λ i. past_beside over (b ∷ bytes) _ _ grows (rw (i, h) refl) (characters_past over close most n b bytes h i))
       (λ i. let slash : eqb b 92 ≡ false = grind (arith, nat_tests) in rw (i, slash, h) (syntax_beside (b ∷ bytes) (omega arith))))
 
-  after_beside : (p q : List ℕ → Read (List ℕ)) → ReadsBeside raises p q → (x : Option ℕ × List ℕ) → Beside raises behind (length x.1) (points_after p x) (points_after q x)
+  after_beside : (p q : List ℕ → Read (List ℕ)) → ReadsBeside raises p q → (x : Option ℕ × List ℕ)
+      → Beside raises behind (length x.1) (points_after p x) (points_after q x)
   after_beside p q l (None, rest) = ok_beside (omega arith)
   after_beside p q l (Some c, rest) = bind_beside _ _ (l rest) (λ y. ok_beside (omega arith))
 
-  pub characters_beside : (over : Why) (close most n m : ℕ) → Grown raises over n m → ReadsBeside raises (characters_at over close most n) (characters_at over close most m)
+  pub characters_beside : (over : Why) (close most n m : ℕ) → Grown raises over n m
+      → ReadsBeside raises (characters_at over close most n) (characters_at over close most m)
   unfolding characters_at
-  characters_beside over close most zero zero g bytes = bind_beside _ _ (closing_beside over (grown_stays raises over zero g) close most bytes) (λ rest. ok_beside (omega arith))
+  characters_beside over close most zero zero g bytes =
+      bind_beside _ _ (closing_beside over (grown_stays raises over zero g) close most bytes) (λ rest. ok_beside (omega arith))
   characters_beside over close most zero (suc m) g bytes = more_beside over (grown_raised raises over m g) close most m bytes
   characters_beside over close most (suc n) zero g bytes = absurd (omega (arith, grown_most raises over (suc n) zero g))
   characters_beside over close most (suc n) (suc m) g bytes =
       bind_beside _ _ (next_beside close most bytes)
-      (after_beside (characters_at over close most n) (characters_at over close most m) (characters_beside over close most n m (grown_before raises over n m g)))
+      (after_beside (characters_at over close most n) (characters_at over close most m)
+      (characters_beside over close most n m (grown_before raises over n m g)))
 
   pub string_beside : (most : ℕ) → ReadsBeside raises (string_at most) (string_at most)
   string_beside most bytes = characters_beside Syntax 34 most (length bytes) (length bytes) (grown_itself raises Syntax (length bytes) plain) bytes
@@ -225,7 +240,8 @@ module _ (raises : Why → Bool) (plain : raises Syntax ≡ false) where
   module _ {B : Type 0} (v : Why) (step wide : ℕ → List ℕ → Read (List B × Bool)) (each : (n m : ℕ) → Grown raises v n m → ReadsBeside raises (step n) (wide m))
       (within : (n : ℕ) (bytes : List ℕ) → Within behind (length bytes) (wide n bytes))
       (some : (n : ℕ) (bytes : List ℕ) (x : (List B × Bool) × List ℕ) → step n bytes ≡ Ok x → x.0.1 ≡ true → raises v ≡ true → 0 < n) where
-    rest_within : (front : List B) (next : List ℕ → Read (List B)) → ((bytes : List ℕ) → Within behind (length bytes) (next bytes)) → (more : Bool) (rest : List ℕ)
+    rest_within : (front : List B) (next : List ℕ → Read (List B)) → ((bytes : List ℕ) → Within behind (length bytes) (next bytes))
+        → (more : Bool) (rest : List ℕ)
         → Within behind (length rest) (series_rest front next more rest)
     rest_within front next l true rest = bind_within behind behind (length rest) (next rest) (λ r. Ok (front ++ r.0, r.1)) (l rest) (λ r. omega arith)
     rest_within front next l false rest = omega arith
@@ -268,7 +284,8 @@ module _ (raises : Why → Bool) (plain : raises Syntax ≡ false) where
   after_segment_beside [] = syntax_beside [] (omega arith)
   after_segment_beside (b ∷ bytes) =
       if_beside (eqb b 44) (λ h. ok_beside (omega (arith, skip_shorter bytes))) (λ h.
-      if_beside (eqb b 62) (λ i. beside_more (omega arith) (bind_beside _ _ (expect_beside 62 bytes) (λ rest. ok_beside (omega arith)))) (λ i. syntax_beside (b ∷ bytes) (omega arith)))
+      if_beside (eqb b 62) (λ i. beside_more (omega arith) (bind_beside _ _ (expect_beside 62 bytes) (λ rest. ok_beside (omega arith))))
+      (λ i. syntax_beside (b ∷ bytes) (omega arith)))
 
   segment_step_beside : (n m : ℕ) → Grown raises Syntax n m → ReadsBeside raises (segment_step n) (segment_step m)
   unfolding segment_step

@@ -57,7 +57,8 @@ module _ (raises : Why → Bool) (plain : raises Syntax ≡ false) where
     element_step_within n bytes =
         bind_within behind behind (length bytes) (wide bytes) (λ x. after_element_at n (skip x.1) >>= λ y. Ok ((x.0 ∷ [], y.0), y.1)) (each bytes).within (λ x.
         bind_within behind behind (length x.1) (after_element_at n (skip x.1)) (λ y. Ok ((x.0 ∷ [], y.0), y.1))
-        (within_more behind (after_element_at n (skip x.1)) (skip_shorter x.1) (local_within (after_element_at n) (after_element_local n) (skip x.1))) (λ y. omega arith))
+        (within_more behind (after_element_at n (skip x.1)) (skip_shorter x.1)
+        (local_within (after_element_at n) (after_element_local n) (skip x.1))) (λ y. omega arith))
 
     element_some : (n : ℕ) (bytes : List ℕ) (x : (List Tree × Bool) × List ℕ) → element_step element n bytes ≡ Ok x → x.0.1 ≡ true → 0 < n
     unfolding element_step
@@ -67,7 +68,8 @@ module _ (raises : Why → Bool) (plain : raises Syntax ≡ false) where
         let more : u.0.0 ≡ true = ap (λ (y : (List Tree × Bool) × List ℕ). y.0.1) (ok_is ((s.0.0 ∷ [], u.0.0), u.0.1) x u.2) ∙ h in
         after_some n (skip s.0.1) u.0.1 (u.1 ∙ ap (λ (y : Bool). Ok (y, u.0.1)) more)
 
-    elements_beside : (most more : ℕ) → (raises TooWide ≡ true → 0 < most) → Grown raises TooWide most more → ReadsBeside raises (elements_at element most) (elements_at wide more)
+    elements_beside : (most more : ℕ) → (raises TooWide ≡ true → 0 < most) → Grown raises TooWide most more
+        → ReadsBeside raises (elements_at element most) (elements_at wide more)
     unfolding elements_at
     elements_beside most more some g [] = syntax_beside raises plain [] (omega arith)
     elements_beside most more some g (b ∷ bytes) =
@@ -75,7 +77,8 @@ module _ (raises : Why → Bool) (plain : raises Syntax ≡ false) where
         (λ h. series_beside raises plain TooWide (element_step element) (element_step wide) element_step_beside element_step_within
         (λ n ys x e i j. element_some n ys x e i) most more g some (b ∷ bytes))
 
-    tuple_beside : (most more : ℕ) → (raises TooWide ≡ true → 0 < most) → Grown raises TooWide most more → ReadsBeside raises (tuple_at element most) (tuple_at wide more)
+    tuple_beside : (most more : ℕ) → (raises TooWide ≡ true → 0 < most) → Grown raises TooWide most more
+        → ReadsBeside raises (tuple_at element most) (tuple_at wide more)
     tuple_beside most more some g bytes = bind_beside _ _ (elements_beside most more some g bytes) (λ x. ok_beside (omega arith))
 
   -- ---- lists
@@ -147,7 +150,8 @@ module _ (raises : Why → Bool) (plain : raises Syntax ≡ false) where
   no_points stays [] = syntax_beside raises plain [] (omega arith)
   no_points stays (b ∷ bytes) =
       if_beside (eqb b 34) (λ h. ok_beside (omega arith)) (λ h.
-      if_beside (begins_character 34 most_point b) (λ i. fault_beside TooDeep (b ∷ bytes) stays (omega arith)) (λ i. syntax_beside raises plain (b ∷ bytes) (omega arith)))
+      if_beside (begins_character 34 most_point b) (λ i. fault_beside TooDeep (b ∷ bytes) stays (omega arith))
+      (λ i. syntax_beside raises plain (b ∷ bytes) (omega arith)))
 
   points_beside : (levels deeper : ℕ) → Grown raises TooDeep levels deeper → ReadsBeside raises (points_at levels) (points_at deeper)
   unfolding points_at
@@ -166,7 +170,8 @@ module _ (raises : Why → Bool) (plain : raises Syntax ≡ false) where
   integer_term_beside bytes = bind_beside _ _ (integer_beside raises plain bytes) (λ x. ok_beside (omega arith))
 
   other_beside : (limits wider : Limits) (element wide : List ℕ → Read Tree) (levels deeper : ℕ) → (raises TooWide ≡ true → 0 < limits.elements)
-      → Grown raises TooWide limits.elements wider.elements → Grown raises AtomTooLong limits.characters wider.characters → Grown raises TooDeep levels deeper → ReadsBeside raises element wide
+      → Grown raises TooWide limits.elements wider.elements → Grown raises AtomTooLong limits.characters wider.characters → Grown raises TooDeep levels deeper
+      → ReadsBeside raises element wide
       → ReadsBeside raises (other_at limits element levels) (other_at wider wide deeper)
   unfolding other_at
   other_beside limits wider element wide levels deeper some elements characters depth each [] = integer_term_beside []
@@ -176,7 +181,8 @@ module _ (raises : Why → Bool) (plain : raises Syntax ≡ false) where
       (λ h. if_beside (eqb b 34) (λ i. beside_more (omega arith) (points_beside levels deeper depth bytes))
       (λ i. if_beside (eqb b 39) (λ j. beside_more (omega arith) (quoted_beside limits.characters wider.characters characters bytes))
       (λ j. if_beside (eqb b 60) (λ k. beside_more (omega arith) (binary_beside raises plain bytes))
-      (λ k. if_beside (is_ascii_lowercase b) (λ l. atom_beside limits.characters wider.characters characters (b ∷ bytes)) (λ l. integer_term_beside (b ∷ bytes))))))
+      (λ k. if_beside (is_ascii_lowercase b) (λ l. atom_beside limits.characters wider.characters characters (b ∷ bytes))
+      (λ l. integer_term_beside (b ∷ bytes))))))
 
 -- ---- a term where there could be none
 
@@ -197,16 +203,19 @@ unfolding number_at digits_after
 past_number most b bytes high digit =
     let worth = 0 * 10 + (b - 48) in
     let fits : leb worth most ≡ true = grind (arith, nat_tests) in
-    rw (digit, fits) (within_past behind (digits_after most worth bytes) (omega arith) (local_within (digits_after most worth) (λ xs. digits_local xs most worth) bytes))
+    rw (digit, fits) (within_past behind (digits_after most worth bytes) (omega arith)
+    (local_within (digits_after most worth) (λ xs. digits_local xs most worth) bytes))
 
 past_integer : (b : ℕ) (bytes : List ℕ) → (eqb b 45 || is_ascii_digit b) ≡ true → Past behind (length (b ∷ bytes)) (integer_at (b ∷ bytes))
 unfolding integer_at
 past_integer b bytes begins =
     either_way (eqb b 45)
     (λ h. let number = local_within (number_at (2 ^ 63)) (number_local (2 ^ 63)) bytes in
-    rw h (within_past behind (negative_at bytes) (omega arith) (bind_within behind behind (length bytes) (number_at (2 ^ 63) bytes) (λ x. Ok (neg_ℤ (pos x.0), x.1)) number (λ x. omega arith))))
+    rw h (within_past behind (negative_at bytes) (omega arith)
+    (bind_within behind behind (length bytes) (number_at (2 ^ 63) bytes) (λ x. Ok (neg_ℤ (pos x.0), x.1)) number (λ x. omega arith))))
     (λ h. let digit : is_ascii_digit b ≡ true = rw h at begins in
-    rw h (bind_past behind behind (length (b ∷ bytes)) (number_at (2 ^ 63 - 1) (b ∷ bytes)) (λ x. Ok (pos x.0, x.1)) (past_number (2 ^ 63 - 1) b bytes (omega arith) digit) (λ x. omega arith)))
+    rw h (bind_past behind behind (length (b ∷ bytes)) (number_at (2 ^ 63 - 1) (b ∷ bytes)) (λ x. Ok (pos x.0, x.1))
+    (past_number (2 ^ 63 - 1) b bytes (omega arith) digit) (λ x. omega arith)))
 
 -- no limit is raised: so the lemmas above tell how far a reader looks
 abbrev never : Why → Bool
@@ -234,7 +243,8 @@ module _ (limits : Limits) (levels : ℕ) where
 
   each_other : ReadsBeside never other other
   each_other =
-      other_beside never refl limits limits element element levels levels (λ h. absurd cc) (never_grown TooWide limits.elements) (never_grown AtomTooLong limits.characters)
+      other_beside never refl limits limits element element levels levels (λ h. absurd cc) (never_grown TooWide limits.elements)
+      (never_grown AtomTooLong limits.characters)
       (never_grown TooDeep levels) each
 
   past_other : 0 < limits.characters → (b : ℕ) (bytes : List ℕ) → begins_term b ≡ true → eqb b 91 ≡ false → Past behind (length (b ∷ bytes)) (other (b ∷ bytes))
@@ -244,7 +254,8 @@ module _ (limits : Limits) (levels : ℕ) where
       (λ h. let tuple = tuple_beside never refl element element each limits.elements limits.elements (λ i. absurd cc) (never_grown TooWide limits.elements) in
       rw h (within_past behind (tuple_at element limits.elements (skip bytes)) (omega arith) (skip_beside tuple bytes).within))
       (λ h. either_way (eqb b 34)
-      (λ i. rw (h, i) (within_past behind (points_at levels bytes) (omega arith) (points_beside never refl levels levels (never_grown TooDeep levels) bytes).within))
+      (λ i. rw (h, i) (within_past behind (points_at levels bytes) (omega arith)
+      (points_beside never refl levels levels (never_grown TooDeep levels) bytes).within))
       (λ i. either_way (eqb b 39)
       (λ j. rw (h, i, j) (within_past behind (quoted_at limits.characters bytes) (omega arith)
       (quoted_beside never refl limits.characters limits.characters (never_grown AtomTooLong limits.characters) bytes).within))
@@ -254,10 +265,12 @@ module _ (limits : Limits) (levels : ℕ) where
       (λ l. rw (h, i, j, k, l) (bind_past behind behind (length (b ∷ bytes)) (name_at limits.characters (b ∷ bytes)) (λ x. Ok (Atom x.0, x.1))
       (past_name limits.characters b bytes some l) (λ x. omega arith)))
       (λ l. let number : (eqb b 45 || is_ascii_digit b) ≡ true = grind (arith, nat_tests) in
-      rw (h, i, j, k, l) (bind_past behind behind (length (b ∷ bytes)) (integer_at (b ∷ bytes)) (λ x. Ok (Integer x.0, x.1)) (past_integer b bytes number) (λ x. omega arith)))))))
+      rw (h, i, j, k, l) (bind_past behind behind (length (b ∷ bytes)) (integer_at (b ∷ bytes)) (λ x. Ok (Integer x.0, x.1)) (past_integer b bytes number)
+      (λ x. omega arith)))))))
 
   -- a term that begins here is read, or the fault stands behind its first byte
-  past_term : 0 < limits.characters → (b : ℕ) (bytes : List ℕ) → begins_term b ≡ true → Past behind (length (b ∷ bytes)) (term_at limits (suc levels) (b ∷ bytes))
+  past_term : 0 < limits.characters → (b : ℕ) (bytes : List ℕ) → begins_term b ≡ true
+      → Past behind (length (b ∷ bytes)) (term_at limits (suc levels) (b ∷ bytes))
   unfolding term_at
   past_term some b bytes begins =
       either_way (eqb b 91)
@@ -293,9 +306,11 @@ module _ (raises : Why → Bool) (plain : raises Syntax ≡ false) where
 
   flat_beside : raises TooDeep ≡ false → ReadsBeside raises too_deep too_deep
   flat_beside stays [] = syntax_beside raises plain [] (omega arith)
-  flat_beside stays (b ∷ bytes) = if_beside (begins_term b) (λ h. fault_beside TooDeep (b ∷ bytes) stays (omega arith)) (λ h. syntax_beside raises plain (b ∷ bytes) (omega arith))
+  flat_beside stays (b ∷ bytes) =
+      if_beside (begins_term b) (λ h. fault_beside TooDeep (b ∷ bytes) stays (omega arith)) (λ h. syntax_beside raises plain (b ∷ bytes) (omega arith))
 
-  module _ (limits wider : Limits) (elements : 0 < limits.elements) (characters : 0 < limits.characters) (more_elements : Grown raises TooWide limits.elements wider.elements)
+  module _ (limits wider : Limits) (elements : 0 < limits.elements) (characters : 0 < limits.characters)
+      (more_elements : Grown raises TooWide limits.elements wider.elements)
       (more_characters : Grown raises AtomTooLong limits.characters wider.characters) where
     term_beside : (levels deeper : ℕ) → Grown raises TooDeep levels deeper → ReadsBeside raises (term_at limits levels) (term_at wider deeper)
     unfolding term_at

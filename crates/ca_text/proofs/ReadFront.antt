@@ -25,10 +25,12 @@ pub read_of : (text rest : List ℕ) (t : Tree) → IsText text t → IsWhole te
 read_of text rest t is whole = record {
   within = omega (arith, length-append text rest);
   text = subst (λ x. IsText x t) (sym (take_front text rest)) is;
-  whole = subst (λ x. IsWhole x (drop (length text) (text ++ rest))) (sym (take_front text rest)) (subst (λ x. IsWhole text x) (sym (drop_front text rest)) whole);
+  whole = subst (λ x. IsWhole x (drop (length text) (text ++ rest))) (sym (take_front text rest))
+      (subst (λ x. IsWhole text x) (sym (drop_front text rest)) whole);
 }
 
-pub read_is : (bytes : List ℕ) (t : Tree) (rest : List ℕ) → term_at standard 64 bytes ≡ Ok (t, rest) → (length rest ≤ length bytes) × IsRead bytes t (length bytes - length rest)
+pub read_is : (bytes : List ℕ) (t : Tree) (rest : List ℕ) → term_at standard 64 bytes ≡ Ok (t, rest)
+    → (length rest ≤ length bytes) × IsRead bytes t (length bytes - length rest)
 read_is bytes t rest e =
     let r = term_taken standard 64 bytes t rest e in
     let long : length bytes ≡ length r.text + length rest = ap (λ (x : List ℕ). length x) r.whole ∙ length-append r.text rest in
@@ -51,7 +53,8 @@ longest bytes t u n m r less within is =
     let sum : n + k ≡ m = omega arith in
     let cut : take m bytes ≡ take n bytes ++ take k (drop n bytes) = ap (λ i. take i bytes) (sym sum) ∙ take-add n k bytes in
     let short = term_again standard 64 (take n bytes) t (take k (drop n bytes)) r.text (whole_cut (take n bytes) (drop n bytes) k r.whole) in
-    let long : term_at standard 64 (take m bytes) ≡ Ok (u, []) = ap (term_at standard 64) (sym (append-nil (take m bytes))) ∙ term_again standard 64 (take m bytes) u [] is tt in
+    let long : term_at standard 64 (take m bytes) ≡ Ok (u, []) =
+    ap (term_at standard 64) (sym (append-nil (take m bytes))) ∙ term_again standard 64 (take m bytes) u [] is tt in
     let same : term_at standard 64 (take m bytes) ≡ Ok (t, take k (drop n bytes)) = ap (term_at standard 64) cut ∙ short in
     let none : [] ≡ take k (drop n bytes) = (pair_is u [] t (take k (drop n bytes)) (sym long ∙ same)).1 in
     let some : length (take k (drop n bytes)) ≡ k = length-take-le k (drop n bytes) (omega (arith, length-drop n bytes)) in
@@ -63,7 +66,8 @@ none_read bytes stop.NoMemory t n f r = refl
 none_read bytes (stop.At d) t n f r = let again = read_again bytes t n r in absurd cc
 
 -- one term is read
-pub same_read : (bytes : List ℕ) (t : Tree) (rest : List ℕ) (u : Tree) (n : ℕ) → term_at standard 64 bytes ≡ Ok (t, rest) → IsRead bytes u n → (t ≡ u) × (length bytes - length rest ≡ n)
+pub same_read : (bytes : List ℕ) (t : Tree) (rest : List ℕ) (u : Tree) (n : ℕ) → term_at standard 64 bytes ≡ Ok (t, rest) → IsRead bytes u n
+    → (t ≡ u) × (length bytes - length rest ≡ n)
 same_read bytes t rest u n e r =
     let p = pair_is t rest u (drop n bytes) (sym e ∙ read_again bytes u n r) in
     (p.0, omega (arith, ap (λ (x : List ℕ). length x) p.1, length-drop n bytes, r.within))

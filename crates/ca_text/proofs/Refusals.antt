@@ -36,14 +36,16 @@ fault_is bytes f e = record {
   kind = kind_is bytes f f.why e refl;
 }
 
-pub not_read : (bytes : List ℕ) (e : Stop) → Fails e (term_at standard 64 bytes) → (text_fault e (length bytes) ≡ NoMemory) ⊎ IsNotRead bytes (text_fault e (length bytes))
+pub not_read : (bytes : List ℕ) (e : Stop) → Fails e (term_at standard 64 bytes)
+    → (text_fault e (length bytes) ≡ NoMemory) ⊎ IsNotRead bytes (text_fault e (length bytes))
 not_read bytes stop.NoMemory f = inl refl
 not_read bytes (stop.At d) f = inr (fault_is bytes d f)
 
 -- ---- one fault
 
 -- what goes on with a limit raised is a fault of that limit
-apart : (w : Why) (bytes : List ℕ) (f : Fault) → term_at standard 64 bytes ≡ Err f → GoesOnAt (limits_for w) (suc (levels_for w)) bytes (length bytes - f.left) → just w f.why ≡ true
+apart : (w : Why) (bytes : List ℕ) (f : Fault) → term_at standard 64 bytes ≡ Err f → GoesOnAt (limits_for w) (suc (levels_for w)) bytes (length bytes - f.left)
+    → just w f.why ≡ true
 apart w bytes f e goes = either_way (just w f.why) (λ h. h) (λ h. absurd (limit_stays w bytes f e h goes))
 
 just_is : (w v : Why) → just w v ≡ true → w ≡ v
@@ -62,18 +64,21 @@ just_is why.TooWide why.AtomTooLong h = absurd cc
 just_is why.TooWide why.TooDeep h = absurd cc
 
 -- a fault of a limit isn't one of syntax
-no_syntax : (bytes : List ℕ) (f : Fault) (v : Why) → term_at standard 64 bytes ≡ Err f → f.why ≡ v → just v v ≡ true → IsKind bytes (Syntax (length bytes - f.left)) → ⊥
+no_syntax : (bytes : List ℕ) (f : Fault) (v : Why) → term_at standard 64 bytes ≡ Err f → f.why ≡ v → just v v ≡ true
+    → IsKind bytes (Syntax (length bytes - f.left)) → ⊥
 no_syntax bytes f v e kind up none =
     let goes = limit_goes v bytes f e (ap (just v) kind ∙ up) in
     none goes.0 (limits_for v) (suc (levels_for v)) goes.1
 
-syntax_sure : (bytes : List ℕ) (f : Fault) (v : Why) → term_at standard 64 bytes ≡ Err f → f.why ≡ v → IsKind bytes (Syntax (length bytes - f.left)) → why.Syntax ≡ v
+syntax_sure : (bytes : List ℕ) (f : Fault) (v : Why) → term_at standard 64 bytes ≡ Err f → f.why ≡ v → IsKind bytes (Syntax (length bytes - f.left))
+    → why.Syntax ≡ v
 syntax_sure bytes f why.Syntax e kind none = refl
 syntax_sure bytes f why.AtomTooLong e kind none = absurd (no_syntax bytes f why.AtomTooLong e kind refl none)
 syntax_sure bytes f why.TooDeep e kind none = absurd (no_syntax bytes f why.TooDeep e kind refl none)
 syntax_sure bytes f why.TooWide e kind none = absurd (no_syntax bytes f why.TooWide e kind refl none)
 
-limit_sure : (w : Why) (bytes : List ℕ) (f : Fault) → term_at standard 64 bytes ≡ Err f → GoesOnAt (limits_for w) (suc (levels_for w)) bytes (length bytes - f.left) → w ≡ f.why
+limit_sure : (w : Why) (bytes : List ℕ) (f : Fault) → term_at standard 64 bytes ≡ Err f
+    → GoesOnAt (limits_for w) (suc (levels_for w)) bytes (length bytes - f.left) → w ≡ f.why
 limit_sure w bytes f e goes = just_is w f.why (apart w bytes f e goes)
 
 at_place : (bytes : List ℕ) (f : Fault) (at : ℕ) → term_at standard 64 bytes ≡ Err f → IsLongestStart bytes at → at ≡ length bytes - f.left
@@ -82,13 +87,15 @@ at_place bytes f at e start = start_sure bytes at (length bytes - f.left) start 
 same_fault : (at other : ℕ) (w v : Why) → at ≡ other → w ≡ v → fault_with w at ≡ fault_with v other
 same_fault at other w v e kind = ap (fault_with w) e ∙ ap (λ (x : Why). fault_with x other) kind
 
-fault_found : (bytes : List ℕ) (f : Fault) (e : TextFault) → term_at standard 64 bytes ≡ Err f → IsNotRead bytes e → e ≡ fault_with f.why (length bytes - f.left)
+fault_found : (bytes : List ℕ) (f : Fault) (e : TextFault) → term_at standard 64 bytes ≡ Err f → IsNotRead bytes e
+    → e ≡ fault_with f.why (length bytes - f.left)
 fault_found bytes f (Syntax at) e h =
     let same = at_place bytes f at e h.place in
     same_fault at (length bytes - f.left) why.Syntax f.why same (syntax_sure bytes f f.why e refl (subst (λ n. IsKind bytes (Syntax n)) same h.kind))
 fault_found bytes f (AtomTooLong at) e h =
     let same = at_place bytes f at e h.place in
-    same_fault at (length bytes - f.left) why.AtomTooLong f.why same (limit_sure why.AtomTooLong bytes f e (subst (λ n. IsKind bytes (AtomTooLong n)) same h.kind))
+    same_fault at (length bytes - f.left) why.AtomTooLong f.why same
+    (limit_sure why.AtomTooLong bytes f e (subst (λ n. IsKind bytes (AtomTooLong n)) same h.kind))
 fault_found bytes f (TooDeep at) e h =
     let same = at_place bytes f at e h.place in
     same_fault at (length bytes - f.left) why.TooDeep f.why same (limit_sure why.TooDeep bytes f e (subst (λ n. IsKind bytes (TooDeep n)) same h.kind))
@@ -104,7 +111,8 @@ fault_by bytes e f (Err d) is p q = fault_found bytes d e is p ∙ sym (fault_fo
 pub fault_sure : (bytes : List ℕ) (e f : TextFault) → IsNotRead bytes e → IsNotRead bytes f → e ≡ f
 fault_sure bytes e f p q = fault_by bytes e f (term_at standard 64 bytes) refl p q
 
-pub fault_known : (bytes : List ℕ) (s : Stop) (e : TextFault) → Fails s (term_at standard 64 bytes) → IsNotRead bytes e → (text_fault s (length bytes) ≡ e) ⊎ (text_fault s (length bytes) ≡ NoMemory)
+pub fault_known : (bytes : List ℕ) (s : Stop) (e : TextFault) → Fails s (term_at standard 64 bytes) → IsNotRead bytes e
+    → (text_fault s (length bytes) ≡ e) ⊎ (text_fault s (length bytes) ≡ NoMemory)
 fault_known bytes s e h p = ⊎_elim (λ none. inr none) (λ q. inl (fault_sure bytes (text_fault s (length bytes)) e q p)) (not_read bytes s h)
 
 pub read_or_not : (bytes : List ℕ) (t : Tree) (n : ℕ) (e : TextFault) → IsRead bytes t n → IsNotRead bytes e → ⊥

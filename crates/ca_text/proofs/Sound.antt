@@ -13,10 +13,12 @@ use Rattle.ca_text.proofs.Characters.{expect_taken, characters_taken}
 use Rattle.ca_text.proofs.Numbers.{skipped, number_taken, whole_by, integer_taken, name_taken}
 
 -- parts of some bytes, one behind another
-pub with_end : (bytes text r blanks s closing rest : List ℕ) → bytes ≡ text ++ r → r ≡ blanks ++ s → s ≡ closing ++ rest → bytes ≡ (text ++ (blanks ++ closing)) ++ rest
+pub with_end : (bytes text r blanks s closing rest : List ℕ) → bytes ≡ text ++ r → r ≡ blanks ++ s → s ≡ closing ++ rest
+    → bytes ≡ (text ++ (blanks ++ closing)) ++ rest
 with_end bytes text r blanks s closing rest e f g = rw (e, f, g) (simp append_assoc)
 
-pub with_more : (c : ℕ) (bytes text r before s tail after u others rest : List ℕ) → bytes ≡ text ++ r → r ≡ before ++ s → s ≡ c ∷ tail → tail ≡ after ++ u → u ≡ others ++ rest
+pub with_more : (c : ℕ) (bytes text r before s tail after u others rest : List ℕ) → bytes ≡ text ++ r → r ≡ before ++ s → s ≡ c ∷ tail → tail ≡ after ++ u
+    → u ≡ others ++ rest
     → bytes ≡ (text ++ (before ++ c ∷ (after ++ others))) ++ rest
 with_more c bytes text r before s tail after u others rest e f g h i = rw (e, f, g, h, i) (simp append_assoc)
 
@@ -44,7 +46,11 @@ one_byte_taken bytes bs rest e =
     let p = pair_is (s.0.0 ∷ []) s.0.1 bs rest s.2 in
     let r = number_taken 255 bytes s.0.0 s.0.1 s.1 in
     let same = ap (λ n. n ∷ []) r.value_is ∙ p.0 in
-    record { text = r.digits; whole = r.whole ∙ ap (λ x. r.digits ++ x) p.1; is = subst (λ x. IsSegment r.digits x) same (OneByte r.digits r.numeral (omega (arith, r.value_is, r.bounded))) }
+    record {
+      text = r.digits;
+      whole = r.whole ∙ ap (λ x. r.digits ++ x) p.1;
+      is = subst (λ x. IsSegment r.digits x) same (OneByte r.digits r.numeral (omega (arith, r.value_is, r.bounded)));
+    }
 
 pub segment_taken : (bytes bs rest : List ℕ) → segment_at bytes ≡ Ok (bs, rest) → IsSegmentAt bytes bs rest
 unfolding segment_at
@@ -79,7 +85,8 @@ pub record AreSegmentsAt (bytes bs rest : List ℕ) : Type 0 where
   pub whole : bytes ≡ text ++ rest
   pub are : AreSegments text bs
 
-segments_more : (n : ℕ) (bytes bs rest part : List ℕ) (more : Bool) (after : List ℕ) → ((bytes bs rest : List ℕ) → series_at segment_step n bytes ≡ Ok (bs, rest) → AreSegmentsAt bytes bs rest)
+segments_more : (n : ℕ) (bytes bs rest part : List ℕ) (more : Bool) (after : List ℕ)
+    → ((bytes bs rest : List ℕ) → series_at segment_step n bytes ≡ Ok (bs, rest) → AreSegmentsAt bytes bs rest)
     → segment_step n bytes ≡ Ok ((part, more), after) → series_rest part (series_at segment_step n) more after ≡ Ok (bs, rest) → AreSegmentsAt bytes bs rest
 unfolding segment_step
 segments_more n bytes bs rest part more after later e f =
@@ -94,19 +101,35 @@ segments_more n bytes bs rest part more after later e f =
     let more_is : u.0.0 ≡ more = ap (λ (x : List ℕ × Bool). x.1) p.0 in
     ⊎_elim
     (λ h. let yes : more ≡ true = sym more_is ∙ h.0 in
-    let step : series_rest part (series_at segment_step n) true after ≡ Ok (bs, rest) = subst (λ m. series_rest part (series_at segment_step n) m after ≡ Ok (bs, rest)) yes f in
+    let step : series_rest part (series_at segment_step n) true after ≡ Ok (bs, rest) =
+    subst (λ m. series_rest part (series_at segment_step n) m after ≡ Ok (bs, rest)) yes f in
     let v = bind_ok (series_at segment_step n after) (λ r. Ok (part ++ r.0, r.1)) (bs, rest) step in
     let q = pair_is (part ++ v.0.0) v.0.1 bs rest v.2 in
     let others = later after v.0.0 v.0.1 v.1 in
     let gap = skipped h.1 in
-    let whole = with_more 44 bytes first.text s.0.1 blanks.blanks (skip s.0.1) h.1 gap.blanks (skip h.1) others.text rest first.whole blanks.whole h.2 gap.whole (h.3 ∙ p.1 ∙ others.whole ∙ ap (λ x. others.text ++ x) q.1) in
-    let made : AreSegments _ (s.0.0 ++ v.0.0) = MoreSegments first.text blanks.blanks gap.blanks others.text s.0.0 v.0.0 first.is blanks.are gap.are others.are in
-    record { text = first.text ++ (blanks.blanks ++ 44 ∷ (gap.blanks ++ others.text)); whole = whole; are = subst (λ x. AreSegments (first.text ++ (blanks.blanks ++ 44 ∷ (gap.blanks ++ others.text))) x) (ap (λ x. x ++ v.0.0) part_is ∙ q.0) made })
+    let whole =
+    with_more 44 bytes first.text s.0.1 blanks.blanks (skip s.0.1) h.1 gap.blanks (skip h.1) others.text rest first.whole blanks.whole h.2 gap.whole
+    (h.3 ∙ p.1 ∙ others.whole ∙ ap (λ x. others.text ++ x) q.1) in
+    let made : AreSegments _ (s.0.0 ++ v.0.0) =
+    MoreSegments first.text blanks.blanks gap.blanks others.text s.0.0 v.0.0 first.is blanks.are gap.are others.are in
+    record {
+      text = first.text ++ (blanks.blanks ++ 44 ∷ (gap.blanks ++ others.text));
+      whole = whole;
+      are = subst (λ x. AreSegments (first.text ++ (blanks.blanks ++ 44 ∷ (gap.blanks ++ others.text))) x) (ap (λ x. x ++ v.0.0) part_is ∙ q.0) made;
+    })
     (λ h. let no : more ≡ false = sym more_is ∙ h.0 in
-    let step : series_rest part (series_at segment_step n) false after ≡ Ok (bs, rest) = subst (λ m. series_rest part (series_at segment_step n) m after ≡ Ok (bs, rest)) no f in
+    let step : series_rest part (series_at segment_step n) false after ≡ Ok (bs, rest) =
+    subst (λ m. series_rest part (series_at segment_step n) m after ≡ Ok (bs, rest)) no f in
     let q = pair_is part after bs rest step in
-    let whole = with_end bytes first.text s.0.1 blanks.blanks (skip s.0.1) (62 ∷ 62 ∷ []) rest first.whole blanks.whole (h.1 ∙ ap (λ x. 62 ∷ 62 ∷ x) (p.1 ∙ q.1)) in
-    record { text = first.text ++ (blanks.blanks ++ 62 ∷ 62 ∷ []); whole = whole; are = subst (λ x. AreSegments (first.text ++ (blanks.blanks ++ 62 ∷ 62 ∷ [])) x) (part_is ∙ q.0) (LastSegment first.text blanks.blanks s.0.0 first.is blanks.are) })
+    let whole =
+    with_end bytes first.text s.0.1 blanks.blanks (skip s.0.1) (62 ∷ 62 ∷ []) rest first.whole blanks.whole (h.1 ∙ ap (λ x. 62 ∷ 62 ∷ x) (p.1 ∙ q.1)) in
+    record {
+      text = first.text ++ (blanks.blanks ++ 62 ∷ 62 ∷ []);
+      whole = whole;
+      are =
+          subst (λ x. AreSegments (first.text ++ (blanks.blanks ++ 62 ∷ 62 ∷ [])) x) (part_is ∙ q.0)
+          (LastSegment first.text blanks.blanks s.0.0 first.is blanks.are);
+    })
     (after_segment_taken (skip s.0.1) u.0.0 u.0.1 u.1)
 
 segments_taken : (n : ℕ) (bytes bs rest : List ℕ) → series_at segment_step n bytes ≡ Ok (bs, rest) → AreSegmentsAt bytes bs rest
@@ -129,7 +152,8 @@ pub record IsTermAt (limits : Limits) (levels : ℕ) (bytes : List ℕ) (t : Tre
 abbrev pub ReadsTerms : Limits → ℕ → (List ℕ → Read Tree) → Type 0
 ReadsTerms limits levels reader = (bytes : List ℕ) (t : Tree) (rest : List ℕ) → reader bytes ≡ Ok (t, rest) → IsTermAt limits levels bytes t rest
 
-bytes_from : (limits : Limits) (levels : ℕ) (bytes bs rest blanks inner : List ℕ) → bytes ≡ blanks ++ inner → AreBlanks blanks → bytes_at inner ≡ Ok (bs, rest) → IsTermAt limits (suc levels) (60 ∷ 60 ∷ bytes) (Binary bs) rest
+bytes_from : (limits : Limits) (levels : ℕ) (bytes bs rest blanks inner : List ℕ) → bytes ≡ blanks ++ inner → AreBlanks blanks → bytes_at inner ≡ Ok (bs, rest)
+    → IsTermAt limits (suc levels) (60 ∷ 60 ∷ bytes) (Binary bs) rest
 unfolding bytes_at
 bytes_from limits levels bytes bs rest blanks [] gap are e = absurd cc
 bytes_from limits levels bytes bs rest blanks (b ∷ inner) gap are e =
@@ -138,14 +162,29 @@ bytes_from limits levels bytes bs rest blanks (b ∷ inner) gap are e =
     let p = pair_is [] s.0 bs rest s.2 in
     let x = expect_taken 62 inner s.0 s.1 in
     let closing : b ∷ inner ≡ (62 ∷ 62 ∷ []) ++ rest = let same = eqb-true b 62 h.0 in let q = p.1 in cc in
-    let whole : 60 ∷ 60 ∷ bytes ≡ (60 ∷ 60 ∷ blanks ++ 62 ∷ 62 ∷ []) ++ rest = ap (λ x. 60 ∷ 60 ∷ x) (with_front_blanks bytes blanks (b ∷ inner) (62 ∷ 62 ∷ []) rest gap closing) in
-    record { text = 60 ∷ 60 ∷ blanks ++ 62 ∷ 62 ∷ []; whole = whole; is = subst (λ x. IsTextOf limits (suc levels) (60 ∷ 60 ∷ blanks ++ 62 ∷ 62 ∷ []) (Binary x)) p.0 (NoBytes limits levels blanks are); ends = whole_by (60 ∷ 60 ∷ blanks ++ 62 ∷ 62 ∷ []) _ (λ c. refl) })
+    let whole : 60 ∷ 60 ∷ bytes ≡ (60 ∷ 60 ∷ blanks ++ 62 ∷ 62 ∷ []) ++ rest =
+    ap (λ x. 60 ∷ 60 ∷ x) (with_front_blanks bytes blanks (b ∷ inner) (62 ∷ 62 ∷ []) rest gap closing) in
+    record {
+      text = 60 ∷ 60 ∷ blanks ++ 62 ∷ 62 ∷ [];
+      whole = whole;
+      is =
+          subst (λ x. IsTextOf limits (suc levels) (60 ∷ 60 ∷ blanks ++ 62 ∷ 62 ∷ []) (Binary x)) p.0 (NoBytes limits levels blanks are);
+      ends =
+          whole_by (60 ∷ 60 ∷ blanks ++ 62 ∷ 62 ∷ []) _ (λ c. refl);
+    })
     (λ h. let r = segments_taken (length (b ∷ inner)) (b ∷ inner) bs rest h.1 in
-    let whole : 60 ∷ 60 ∷ bytes ≡ (60 ∷ 60 ∷ blanks ++ r.text) ++ rest = ap (λ x. 60 ∷ 60 ∷ x) (with_front_blanks bytes blanks (b ∷ inner) r.text rest gap r.whole) in
-    record { text = 60 ∷ 60 ∷ blanks ++ r.text; whole = whole; is = ABinary limits levels blanks r.text bs are r.are; ends = whole_by (60 ∷ 60 ∷ blanks ++ r.text) _ (λ c. refl) })
+    let whole : 60 ∷ 60 ∷ bytes ≡ (60 ∷ 60 ∷ blanks ++ r.text) ++ rest =
+    ap (λ x. 60 ∷ 60 ∷ x) (with_front_blanks bytes blanks (b ∷ inner) r.text rest gap r.whole) in
+    record {
+      text = 60 ∷ 60 ∷ blanks ++ r.text;
+      whole = whole;
+      is = ABinary limits levels blanks r.text bs are r.are;
+      ends = whole_by (60 ∷ 60 ∷ blanks ++ r.text) _ (λ c. refl);
+    })
     (chosen (eqb b 62) _ _ (Ok (bs, rest)) e)
 
-bytes_taken : (limits : Limits) (levels : ℕ) (bytes bs rest : List ℕ) → bytes_at (skip bytes) ≡ Ok (bs, rest) → IsTermAt limits (suc levels) (60 ∷ 60 ∷ bytes) (Binary bs) rest
+bytes_taken : (limits : Limits) (levels : ℕ) (bytes bs rest : List ℕ) → bytes_at (skip bytes) ≡ Ok (bs, rest)
+    → IsTermAt limits (suc levels) (60 ∷ 60 ∷ bytes) (Binary bs) rest
 bytes_taken limits levels bytes bs rest e = let gap = skipped bytes in bytes_from limits levels bytes bs rest gap.blanks (skip bytes) gap.whole gap.are e
 
 -- a comma, or the closing brace
@@ -183,7 +222,8 @@ module _ (limits : Limits) (levels : ℕ) (element : List ℕ → Read Tree) (so
 
   elements_more : (n : ℕ) (bytes : List ℕ) (ts : List Tree) (rest : List ℕ) (part : List Tree) (more : Bool) (after : List ℕ)
       → ((bytes : List ℕ) (ts : List Tree) (rest : List ℕ) → series_at (element_step element) n bytes ≡ Ok (ts, rest) → AreElementsAt n bytes ts rest)
-      → element_step element n bytes ≡ Ok ((part, more), after) → series_rest part (series_at (element_step element) n) more after ≡ Ok (ts, rest) → AreElementsAt (suc n) bytes ts rest
+      → element_step element n bytes ≡ Ok ((part, more), after) → series_rest part (series_at (element_step element) n) more after ≡ Ok (ts, rest)
+      → AreElementsAt (suc n) bytes ts rest
   unfolding element_step
   elements_more n bytes ts rest part more after later e f =
       let s = bind_ok (element bytes) (λ x. after_element_at n (skip x.1) >>= λ y. Ok ((x.0 ∷ [], y.0), y.1)) ((part, more), after) e in
@@ -197,13 +237,17 @@ module _ (limits : Limits) (levels : ℕ) (element : List ℕ → Read Tree) (so
       let more_is : u.0.0 ≡ more = ap (λ (x : List Tree × Bool). x.1) p.0 in
       ⊎_elim
       (λ h. let yes : more ≡ true = sym more_is ∙ h.0 in
-      let step : series_rest part (series_at (element_step element) n) true after ≡ Ok (ts, rest) = subst (λ m. series_rest part (series_at (element_step element) n) m after ≡ Ok (ts, rest)) yes f in
+      let step : series_rest part (series_at (element_step element) n) true after ≡ Ok (ts, rest) =
+      subst (λ m. series_rest part (series_at (element_step element) n) m after ≡ Ok (ts, rest)) yes f in
       let v = bind_ok (series_at (element_step element) n after) (λ r. Ok (part ++ r.0, r.1)) (ts, rest) step in
       let q = pair_is (part ++ v.0.0) v.0.1 ts rest v.2 in
       let others = later after v.0.0 v.0.1 v.1 in
       let gap = skipped h.1 in
-      let whole = with_more 44 bytes first.text s.0.1 blanks.blanks (skip s.0.1) h.1 gap.blanks (skip h.1) others.text rest first.whole blanks.whole h.2 gap.whole (h.3 ∙ p.1 ∙ others.whole ∙ ap (λ x. others.text ++ x) q.1) in
-      let made : AreElements limits levels _ (row_of (s.0.0 ∷ v.0.0)) = MoreElements limits levels first.text blanks.blanks gap.blanks others.text s.0.0 (row_of v.0.0) first.is blanks.are gap.are others.are in
+      let whole =
+      with_more 44 bytes first.text s.0.1 blanks.blanks (skip s.0.1) h.1 gap.blanks (skip h.1) others.text rest first.whole blanks.whole h.2 gap.whole
+      (h.3 ∙ p.1 ∙ others.whole ∙ ap (λ x. others.text ++ x) q.1) in
+      let made : AreElements limits levels _ (row_of (s.0.0 ∷ v.0.0)) =
+      MoreElements limits levels first.text blanks.blanks gap.blanks others.text s.0.0 (row_of v.0.0) first.is blanks.are gap.are others.are in
       let same : s.0.0 ∷ v.0.0 ≡ ts = ap (λ x. x ++ v.0.0) part_is ∙ q.0 in
       record {
         text = first.text ++ (blanks.blanks ++ 44 ∷ (gap.blanks ++ others.text));
@@ -212,19 +256,22 @@ module _ (limits : Limits) (levels : ℕ) (element : List ℕ → Read Tree) (so
         few = subst (λ (x : List Tree). length x ≤ suc n) same (omega (arith, others.few));
       })
       (λ h. let no : more ≡ false = sym more_is ∙ h.0 in
-      let step : series_rest part (series_at (element_step element) n) false after ≡ Ok (ts, rest) = subst (λ m. series_rest part (series_at (element_step element) n) m after ≡ Ok (ts, rest)) no f in
+      let step : series_rest part (series_at (element_step element) n) false after ≡ Ok (ts, rest) =
+      subst (λ m. series_rest part (series_at (element_step element) n) m after ≡ Ok (ts, rest)) no f in
       let q = pair_is part after ts rest step in
       let whole = with_end bytes first.text s.0.1 blanks.blanks (skip s.0.1) (125 ∷ []) rest first.whole blanks.whole (h.1 ∙ ap (λ x. 125 ∷ x) (p.1 ∙ q.1)) in
       let same : s.0.0 ∷ [] ≡ ts = part_is ∙ q.0 in
       record {
         text = first.text ++ (blanks.blanks ++ 125 ∷ []);
         whole = whole;
-        are = subst (λ x. AreElements limits levels (first.text ++ (blanks.blanks ++ 125 ∷ [])) (row_of x)) same (LastElement limits levels first.text blanks.blanks s.0.0 first.is blanks.are);
+        are = subst (λ x. AreElements limits levels (first.text ++ (blanks.blanks ++ 125 ∷ [])) (row_of x)) same
+            (LastElement limits levels first.text blanks.blanks s.0.0 first.is blanks.are);
         few = subst (λ (x : List Tree). length x ≤ suc n) same (omega arith);
       })
       (after_element_taken n (skip s.0.1) u.0.0 u.0.1 u.1)
 
-  series_taken : (n : ℕ) (bytes : List ℕ) (ts : List Tree) (rest : List ℕ) → series_at (element_step element) n bytes ≡ Ok (ts, rest) → AreElementsAt n bytes ts rest
+  series_taken : (n : ℕ) (bytes : List ℕ) (ts : List Tree) (rest : List ℕ) → series_at (element_step element) n bytes ≡ Ok (ts, rest)
+      → AreElementsAt n bytes ts rest
   unfolding series_at
   series_taken zero bytes ts rest e = absurd cc
   series_taken (suc n) bytes ts rest e =
@@ -235,7 +282,8 @@ module _ (limits : Limits) (levels : ℕ) (element : List ℕ → Read Tree) (so
   size_row [] = refl
   size_row (t ∷ ts) = omega (arith, size_row ts)
 
-  elements_from : (bytes : List ℕ) (ts : List Tree) (rest blanks inner : List ℕ) → bytes ≡ blanks ++ inner → AreBlanks blanks → elements_at element limits.elements inner ≡ Ok (ts, rest)
+  elements_from : (bytes : List ℕ) (ts : List Tree) (rest blanks inner : List ℕ) → bytes ≡ blanks ++ inner → AreBlanks blanks
+      → elements_at element limits.elements inner ≡ Ok (ts, rest)
       → IsTermAt limits (suc levels) (123 ∷ bytes) (Tuple (row_of ts)) rest
   unfolding elements_at
   elements_from bytes ts rest blanks [] gap are e = absurd cc
@@ -244,20 +292,35 @@ module _ (limits : Limits) (levels : ℕ) (element : List ℕ → Read Tree) (so
       (λ h. let none : List Tree = [] in
       let p = pair_is none inner ts rest h.1 in
       let closing : b ∷ inner ≡ (125 ∷ []) ++ rest = let same = eqb-true b 125 h.0 in let q = p.1 in cc in
-      let whole : 123 ∷ bytes ≡ (123 ∷ blanks ++ 125 ∷ []) ++ rest = ap (λ x. 123 ∷ x) (with_front_blanks bytes blanks (b ∷ inner) (125 ∷ []) rest gap closing) in
-      record { text = 123 ∷ blanks ++ 125 ∷ []; whole = whole; is = subst (λ x. IsTextOf limits (suc levels) (123 ∷ blanks ++ 125 ∷ []) (Tuple (row_of x))) p.0 (NoElements limits levels blanks are); ends = whole_by (123 ∷ blanks ++ 125 ∷ []) _ (λ c. refl) })
+      let whole : 123 ∷ bytes ≡ (123 ∷ blanks ++ 125 ∷ []) ++ rest =
+      ap (λ x. 123 ∷ x) (with_front_blanks bytes blanks (b ∷ inner) (125 ∷ []) rest gap closing) in
+      record {
+        text = 123 ∷ blanks ++ 125 ∷ [];
+        whole = whole;
+        is =
+            subst (λ x. IsTextOf limits (suc levels) (123 ∷ blanks ++ 125 ∷ []) (Tuple (row_of x))) p.0 (NoElements limits levels blanks are);
+        ends =
+            whole_by (123 ∷ blanks ++ 125 ∷ []) _ (λ c. refl);
+      })
       (λ h. let r = series_taken limits.elements (b ∷ inner) ts rest h.1 in
       let whole : 123 ∷ bytes ≡ (123 ∷ blanks ++ r.text) ++ rest = ap (λ x. 123 ∷ x) (with_front_blanks bytes blanks (b ∷ inner) r.text rest gap r.whole) in
-      record { text = 123 ∷ blanks ++ r.text; whole = whole; is = ATuple limits levels blanks r.text (row_of ts) are r.are (omega (arith, size_row ts, r.few)); ends = whole_by (123 ∷ blanks ++ r.text) _ (λ c. refl) })
+      record {
+        text = 123 ∷ blanks ++ r.text;
+        whole = whole;
+        is = ATuple limits levels blanks r.text (row_of ts) are r.are (omega (arith, size_row ts, r.few));
+        ends = whole_by (123 ∷ blanks ++ r.text) _ (λ c. refl);
+      })
       (chosen (eqb b 125) _ _ (Ok (ts, rest)) e)
 
-  tuple_taken : (bytes : List ℕ) (t : Tree) (rest : List ℕ) → tuple_at element limits.elements (skip bytes) ≡ Ok (t, rest) → IsTermAt limits (suc levels) (123 ∷ bytes) t rest
+  tuple_taken : (bytes : List ℕ) (t : Tree) (rest : List ℕ) → tuple_at element limits.elements (skip bytes) ≡ Ok (t, rest)
+      → IsTermAt limits (suc levels) (123 ∷ bytes) t rest
   tuple_taken bytes t rest e =
       let s = bind_ok (elements_at element limits.elements (skip bytes)) (λ x. Ok (Tuple (row_of x.0), x.1)) (t, rest) e in
       let p = pair_is (Tuple (row_of s.0.0)) s.0.1 t rest s.2 in
       let gap = skipped bytes in
       let r = elements_from bytes s.0.0 s.0.1 gap.blanks (skip bytes) gap.whole gap.are s.1 in
-      subst (λ x. IsTermAt limits (suc levels) (123 ∷ bytes) x rest) p.0 (subst (λ x. IsTermAt limits (suc levels) (123 ∷ bytes) (Tuple (row_of s.0.0)) x) p.1 r)
+      subst (λ x. IsTermAt limits (suc levels) (123 ∷ bytes) x rest) p.0
+      (subst (λ x. IsTermAt limits (suc levels) (123 ∷ bytes) (Tuple (row_of s.0.0)) x) p.1 r)
 
   -- ---- lists
 
@@ -268,10 +331,13 @@ module _ (limits : Limits) (levels : ℕ) (element : List ℕ → Read Tree) (so
   -- a bar and an opening bracket, and then a head
   IsNext bytes (Inner rest) = (tail inner : List ℕ) × (bytes ≡ 124 ∷ tail) × (skip tail ≡ 91 ∷ inner) × (skip inner ≡ rest)
   -- the closing bracket, or a bar, a tail and the closing bracket
-  IsNext bytes (Last t rest) = ((t ≡ Nil) × (bytes ≡ 93 ∷ rest)) ⊎ ((tail after : List ℕ) × (bytes ≡ 124 ∷ tail) × IsTermAt limits (suc levels) (skip tail) t after × (skip after ≡ 93 ∷ rest))
+  IsNext bytes (Last t rest) =
+      ((t ≡ Nil) × (bytes ≡ 93 ∷ rest)) ⊎ ((tail after : List ℕ) × (bytes ≡ 124 ∷ tail) × IsTermAt limits (suc levels) (skip tail) t after ×
+      (skip after ≡ 93 ∷ rest))
 
   module _ (other : List ℕ → Read Tree) (others_sound : ReadsTerms limits (suc levels) other) where
-    closed_next : (bytes tail : List ℕ) (t : Tree) (after : List ℕ) (next : Next) → bytes ≡ 124 ∷ tail → IsTermAt limits (suc levels) (skip tail) t after → closed (Ok (t, after)) ≡ Ok next → IsNext bytes next
+    closed_next : (bytes tail : List ℕ) (t : Tree) (after : List ℕ) (next : Next) → bytes ≡ 124 ∷ tail → IsTermAt limits (suc levels) (skip tail) t after
+        → closed (Ok (t, after)) ≡ Ok next → IsNext bytes next
     closed_next bytes tail t after next bar is e =
         let s = bind_ok (expect 93 (skip after)) (λ rest. Ok (Last t rest)) next e in
         let x = expect_taken 93 (skip after) s.0 s.1 in
@@ -282,14 +348,22 @@ module _ (limits : Limits) (levels : ℕ) (element : List ℕ → Read Tree) (so
         let s = bind_ok (other (skip tail)) (λ x. expect 93 (skip x.1) >>= λ rest. Ok (Last x.0 rest)) next e in
         closed_next bytes tail s.0.0 s.0.1 next bar (others_sound (skip tail) s.0.0 s.0.1 s.1) s.2
 
-    inner_taken : (bytes tail bracket inner : List ℕ) (next : Next) → bytes ≡ 124 ∷ tail → skip tail ≡ 91 ∷ bracket → skip bracket ≡ inner → inner_at inner ≡ Ok next → IsNext bytes next
+    inner_taken : (bytes tail bracket inner : List ℕ) (next : Next) → bytes ≡ 124 ∷ tail → skip tail ≡ 91 ∷ bracket → skip bracket ≡ inner
+        → inner_at inner ≡ Ok next → IsNext bytes next
     inner_taken bytes tail bracket [] next bar opens gap e = subst (λ n. IsNext bytes n) (ok_is (Inner []) next e) (tail, bracket, bar, opens, gap)
     inner_taken bytes tail bracket (b ∷ inner) next bar opens gap e =
         ⊎_elim
         (λ h. let blanks = skipped bracket in
         let closing : skip bracket ≡ (93 ∷ []) ++ inner = gap ∙ ap (λ x. x ∷ inner) (eqb-true b 93 h.0) in
-        let whole : skip tail ≡ (91 ∷ blanks.blanks ++ 93 ∷ []) ++ inner = opens ∙ ap (λ x. 91 ∷ x) (with_front_blanks bracket blanks.blanks (skip bracket) (93 ∷ []) inner blanks.whole closing) in
-        let is : IsTermAt limits (suc levels) (skip tail) Nil inner = record { text = 91 ∷ blanks.blanks ++ 93 ∷ []; whole = whole; is = ANil limits levels blanks.blanks blanks.are; ends = whole_by (91 ∷ blanks.blanks ++ 93 ∷ []) _ (λ c. refl) } in
+        let whole : skip tail ≡ (91 ∷ blanks.blanks ++ 93 ∷ []) ++ inner =
+        opens ∙ ap (λ x. 91 ∷ x) (with_front_blanks bracket blanks.blanks (skip bracket) (93 ∷ []) inner blanks.whole closing) in
+        let is : IsTermAt limits (suc levels) (skip tail) Nil inner =
+        record {
+          text = 91 ∷ blanks.blanks ++ 93 ∷ [];
+          whole = whole;
+          is = ANil limits levels blanks.blanks blanks.are;
+          ends = whole_by (91 ∷ blanks.blanks ++ 93 ∷ []) _ (λ c. refl);
+        } in
         closed_next bytes tail Nil inner next bar is h.1)
         (λ h. subst (λ n. IsNext bytes n) (ok_is (Inner (b ∷ inner)) next h.1) (tail, bracket, bar, opens, gap))
         (chosen (eqb b 93) _ _ (Ok next) e)
@@ -321,14 +395,17 @@ module _ (limits : Limits) (levels : ℕ) (element : List ℕ → Read Tree) (so
       pub whole : bytes ≡ text ++ rest
       pub are : AreCells limits levels text t
 
-    barred : (bytes : List ℕ) (head t : Tree) (r tail after rest : List ℕ) → IsTermAt limits levels bytes head r → skip r ≡ 124 ∷ tail → IsTermAt limits (suc levels) (skip tail) t after → skip after ≡ 93 ∷ rest
+    barred : (bytes : List ℕ) (head t : Tree) (r tail after rest : List ℕ) → IsTermAt limits levels bytes head r → skip r ≡ 124 ∷ tail
+        → IsTermAt limits (suc levels) (skip tail) t after → skip after ≡ 93 ∷ rest
         → AreCellsAt bytes (Cons head t) rest
     barred bytes head t r tail after rest first bar last closing =
         let before = skipped r in
         let behind = skipped tail in
         let blanks = skipped after in
         let ending = with_end (skip tail) last.text after blanks.blanks (skip after) (93 ∷ []) rest last.whole blanks.whole closing in
-        let whole = with_more 124 bytes first.text r before.blanks (skip r) tail behind.blanks (skip tail) (last.text ++ (blanks.blanks ++ 93 ∷ [])) rest first.whole before.whole bar behind.whole ending in
+        let whole =
+        with_more 124 bytes first.text r before.blanks (skip r) tail behind.blanks (skip tail)
+        (last.text ++ (blanks.blanks ++ 93 ∷ [])) rest first.whole before.whole bar behind.whole ending in
         record {
           text = first.text ++ (before.blanks ++ 124 ∷ (behind.blanks ++ (last.text ++ (blanks.blanks ++ 93 ∷ []))));
           whole = whole;
@@ -344,11 +421,14 @@ module _ (limits : Limits) (levels : ℕ) (element : List ℕ → Read Tree) (so
         let others = later inner s.0.0 s.0.1 s.1 in
         let before = skipped r in
         let behind = skipped next.0 in
-        let whole = with_more 44 bytes first.text r before.blanks (skip r) next.0 behind.blanks (skip next.0) others.text rest first.whole before.whole next.1 behind.whole (next.2 ∙ others.whole ∙ ap (λ x. others.text ++ x) p.1) in
+        let whole =
+        with_more 44 bytes first.text r before.blanks (skip r) next.0 behind.blanks
+        (skip next.0) others.text rest first.whole before.whole next.1 behind.whole (next.2 ∙ others.whole ∙ ap (λ x. others.text ++ x) p.1) in
         record {
           text = first.text ++ (before.blanks ++ 44 ∷ (behind.blanks ++ others.text));
           whole = whole;
-          are = subst (λ x. AreCells limits levels (first.text ++ (before.blanks ++ 44 ∷ (behind.blanks ++ others.text))) x) p.0 (MoreCells limits levels first.text before.blanks behind.blanks others.text head s.0.0 first.is before.are behind.are others.are);
+          are = subst (λ x. AreCells limits levels (first.text ++ (before.blanks ++ 44 ∷ (behind.blanks ++ others.text))) x) p.0
+              (MoreCells limits levels first.text before.blanks behind.blanks others.text head s.0.0 first.is before.are behind.are others.are);
         }
     cells_next cells bytes head r (Inner inner) t rest later first next e =
         let s = bind_ok (cells inner) (λ x. expect 93 (skip x.1) >>= λ after. Ok (Cons head x.0, after)) (t, rest) e in
@@ -356,8 +436,15 @@ module _ (limits : Limits) (levels : ℕ) (element : List ℕ → Read Tree) (so
         let p = pair_is (Cons head s.0.0) u.0 t rest u.2 in
         let others = later inner s.0.0 s.0.1 s.1 in
         let gap = skipped next.1 in
-        let whole : skip next.0 ≡ (91 ∷ gap.blanks ++ others.text) ++ s.0.1 = next.3 ∙ ap (λ x. 91 ∷ x) (with_front_blanks next.1 gap.blanks (skip next.1) others.text s.0.1 gap.whole (next.4 ∙ others.whole)) in
-        let last : IsTermAt limits (suc levels) (skip next.0) s.0.0 s.0.1 = record { text = 91 ∷ gap.blanks ++ others.text; whole = whole; is = AList limits levels gap.blanks others.text s.0.0 gap.are others.are; ends = whole_by (91 ∷ gap.blanks ++ others.text) _ (λ c. refl) } in
+        let whole : skip next.0 ≡ (91 ∷ gap.blanks ++ others.text) ++ s.0.1 =
+        next.3 ∙ ap (λ x. 91 ∷ x) (with_front_blanks next.1 gap.blanks (skip next.1) others.text s.0.1 gap.whole (next.4 ∙ others.whole)) in
+        let last : IsTermAt limits (suc levels) (skip next.0) s.0.0 s.0.1 =
+        record {
+          text = 91 ∷ gap.blanks ++ others.text;
+          whole = whole;
+          is = AList limits levels gap.blanks others.text s.0.0 gap.are others.are;
+          ends = whole_by (91 ∷ gap.blanks ++ others.text) _ (λ c. refl);
+        } in
         let closing : skip s.0.1 ≡ 93 ∷ rest = expect_taken 93 (skip s.0.1) u.0 u.1 ∙ ap (λ x. 93 ∷ x) p.1 in
         subst (λ x. AreCellsAt bytes x rest) p.0 (barred bytes head s.0.0 r next.0 s.0.1 rest first next.2 last closing)
     cells_next cells bytes head r (Last tail inner) t rest later first next e =
@@ -369,7 +456,8 @@ module _ (limits : Limits) (levels : ℕ) (element : List ℕ → Read Tree) (so
         record {
           text = first.text ++ (before.blanks ++ 93 ∷ []);
           whole = whole;
-          are = subst (λ x. AreCells limits levels (first.text ++ (before.blanks ++ 93 ∷ [])) x) same (LastCell limits levels first.text before.blanks head first.is before.are);
+          are = subst (λ x. AreCells limits levels (first.text ++ (before.blanks ++ 93 ∷ [])) x) same
+              (LastCell limits levels first.text before.blanks head first.is before.are);
         })
         (λ h. subst (λ x. AreCellsAt bytes x rest) p.0 (barred bytes head tail r h.0 h.1 rest first h.2 h.3 (h.4 ∙ ap (λ x. 93 ∷ x) p.1)))
         next
@@ -383,10 +471,12 @@ module _ (limits : Limits) (levels : ℕ) (element : List ℕ → Read Tree) (so
         let v = bind_ok (next_at other (skip u.0.1)) (λ next. Ok (u.0.0, next)) s.0 u.2 in
         let made : Tree × Next = (u.0.0, v.0) in
         let same = ok_is made s.0 v.2 in
-        let f : cells_after u.0.0 (cells_at element other n) v.0 ≡ Ok (t, rest) = subst (λ (x : Tree × Next). cells_after x.0 (cells_at element other n) x.1 ≡ Ok (t, rest)) (sym same) s.2 in
+        let f : cells_after u.0.0 (cells_at element other n) v.0 ≡ Ok (t, rest) =
+        subst (λ (x : Tree × Next). cells_after x.0 (cells_at element other n) x.1 ≡ Ok (t, rest)) (sym same) s.2 in
         cells_next (cells_at element other n) bytes u.0.0 u.0.1 v.0 t rest (cells_taken n) (sound bytes u.0.0 u.0.1 u.1) (next_taken (skip u.0.1) v.0 v.1) f
 
-    list_from : (bytes : List ℕ) (t : Tree) (rest blanks inner : List ℕ) → bytes ≡ blanks ++ inner → AreBlanks blanks → list_at element other inner ≡ Ok (t, rest) → IsTermAt limits (suc levels) (91 ∷ bytes) t rest
+    list_from : (bytes : List ℕ) (t : Tree) (rest blanks inner : List ℕ) → bytes ≡ blanks ++ inner → AreBlanks blanks
+        → list_at element other inner ≡ Ok (t, rest) → IsTermAt limits (suc levels) (91 ∷ bytes) t rest
     unfolding list_at
     list_from bytes t rest blanks [] gap are e = absurd cc
     list_from bytes t rest blanks (b ∷ inner) gap are e =
@@ -394,13 +484,26 @@ module _ (limits : Limits) (levels : ℕ) (element : List ℕ → Read Tree) (so
         (λ h. let p = pair_is Nil inner t rest h.1 in
         let closing : b ∷ inner ≡ (93 ∷ []) ++ rest = let same = eqb-true b 93 h.0 in let q = p.1 in cc in
         let whole : 91 ∷ bytes ≡ (91 ∷ blanks ++ 93 ∷ []) ++ rest = ap (λ x. 91 ∷ x) (with_front_blanks bytes blanks (b ∷ inner) (93 ∷ []) rest gap closing) in
-        record { text = 91 ∷ blanks ++ 93 ∷ []; whole = whole; is = subst (λ x. IsTextOf limits (suc levels) (91 ∷ blanks ++ 93 ∷ []) x) p.0 (ANil limits levels blanks are); ends = whole_by (91 ∷ blanks ++ 93 ∷ []) _ (λ c. refl) })
+        record {
+          text = 91 ∷ blanks ++ 93 ∷ [];
+          whole = whole;
+          is =
+              subst (λ x. IsTextOf limits (suc levels) (91 ∷ blanks ++ 93 ∷ []) x) p.0 (ANil limits levels blanks are);
+          ends =
+              whole_by (91 ∷ blanks ++ 93 ∷ []) _ (λ c. refl);
+        })
         (λ h. let r = cells_taken (length (b ∷ inner)) (b ∷ inner) t rest h.1 in
         let whole : 91 ∷ bytes ≡ (91 ∷ blanks ++ r.text) ++ rest = ap (λ x. 91 ∷ x) (with_front_blanks bytes blanks (b ∷ inner) r.text rest gap r.whole) in
-        record { text = 91 ∷ blanks ++ r.text; whole = whole; is = AList limits levels blanks r.text t are r.are; ends = whole_by (91 ∷ blanks ++ r.text) _ (λ c. refl) })
+        record {
+          text = 91 ∷ blanks ++ r.text;
+          whole = whole;
+          is = AList limits levels blanks r.text t are r.are;
+          ends = whole_by (91 ∷ blanks ++ r.text) _ (λ c. refl);
+        })
         (chosen (eqb b 93) _ _ (Ok (t, rest)) e)
 
-    bracketed_taken : (bytes : List ℕ) (t : Tree) (rest : List ℕ) → bracketed (list_at element other) other bytes ≡ Ok (t, rest) → IsTermAt limits (suc levels) bytes t rest
+    bracketed_taken : (bytes : List ℕ) (t : Tree) (rest : List ℕ) → bracketed (list_at element other) other bytes ≡ Ok (t, rest)
+        → IsTermAt limits (suc levels) bytes t rest
     bracketed_taken [] t rest e = others_sound [] t rest e
     bracketed_taken (b ∷ bytes) t rest e =
         ⊎_elim
@@ -412,7 +515,8 @@ module _ (limits : Limits) (levels : ℕ) (element : List ℕ → Read Tree) (so
 
 -- ---- other terms
 
-quoted_taken : (limits : Limits) (levels : ℕ) (bytes : List ℕ) (t : Tree) (rest : List ℕ) → quoted_at limits.characters bytes ≡ Ok (t, rest) → IsTermAt limits (suc levels) (39 ∷ bytes) t rest
+quoted_taken : (limits : Limits) (levels : ℕ) (bytes : List ℕ) (t : Tree) (rest : List ℕ) → quoted_at limits.characters bytes ≡ Ok (t, rest)
+    → IsTermAt limits (suc levels) (39 ∷ bytes) t rest
 quoted_taken limits levels bytes t rest e =
     let s = bind_ok (characters_at _ 39 most_point limits.characters bytes) (λ x. Ok (Atom (encode_utf8_all x.0), x.1)) (t, rest) e in
     let p = pair_is (Atom (encode_utf8_all s.0.0)) s.0.1 t rest s.2 in
@@ -420,7 +524,8 @@ quoted_taken limits levels bytes t rest e =
     record {
       text = 39 ∷ r.text;
       whole = ap (λ x. 39 ∷ x) (r.whole ∙ ap (λ x. r.text ++ x) p.1);
-      is = subst (λ x. IsTextOf limits (suc levels) (39 ∷ r.text) x) p.0 (AnAtom limits levels (39 ∷ r.text) (encode_utf8_all s.0.0) (Quoted limits r.text s.0.0 r.characters r.few));
+      is = subst (λ x. IsTextOf limits (suc levels) (39 ∷ r.text) x) p.0
+          (AnAtom limits levels (39 ∷ r.text) (encode_utf8_all s.0.0) (Quoted limits r.text s.0.0 r.characters r.few));
       ends = whole_by (39 ∷ r.text) _ (λ c. refl);
     }
 
@@ -428,7 +533,8 @@ pub closed_text : (close : ℕ) (text cs : List ℕ) → AreCharacters close tex
 closed_text _ _ _ (Closed close) e = refl
 closed_text _ _ _ (OneMore close c first rest cs is are) e = absurd cc
 
-points_list : (limits : Limits) (levels : ℕ) (text cs bytes rest : List ℕ) → AreCharacters 34 text cs → bytes ≡ text ++ rest → IsTermAt limits (suc (suc levels)) (34 ∷ bytes) (points cs) rest
+points_list : (limits : Limits) (levels : ℕ) (text cs bytes rest : List ℕ) → AreCharacters 34 text cs → bytes ≡ text ++ rest
+    → IsTermAt limits (suc (suc levels)) (34 ∷ bytes) (points cs) rest
 points_list limits levels text [] bytes rest are whole =
     let none : text ≡ 34 ∷ [] = closed_text 34 text [] are refl in
     let w : 34 ∷ bytes ≡ (34 ∷ 34 ∷ []) ++ rest = ap (λ x. 34 ∷ x) (whole ∙ ap (λ x. x ++ rest) none) in
@@ -436,7 +542,8 @@ points_list limits levels text [] bytes rest are whole =
 points_list limits levels text (c ∷ cs) bytes rest are whole =
     record { text = 34 ∷ text; whole = ap (λ x. 34 ∷ x) whole; is = AString limits levels c text cs are; ends = whole_by (34 ∷ text) _ (λ d. refl) }
 
-string_taken : (limits : Limits) (levels : ℕ) (bytes : List ℕ) (t : Tree) (rest : List ℕ) → points_at levels bytes ≡ Ok (t, rest) → IsTermAt limits (suc levels) (34 ∷ bytes) t rest
+string_taken : (limits : Limits) (levels : ℕ) (bytes : List ℕ) (t : Tree) (rest : List ℕ) → points_at levels bytes ≡ Ok (t, rest)
+    → IsTermAt limits (suc levels) (34 ∷ bytes) t rest
 unfolding points_at
 string_taken limits zero [] t rest e = absurd cc
 string_taken limits zero (b ∷ bytes) t rest e =
@@ -444,16 +551,23 @@ string_taken limits zero (b ∷ bytes) t rest e =
     (λ h. let p = pair_is Nil bytes t rest h.1 in
     let same = eqb-true b 34 h.0 in
     let whole : 34 ∷ b ∷ bytes ≡ (34 ∷ 34 ∷ []) ++ rest = let q = p.1 in cc in
-    record { text = 34 ∷ 34 ∷ []; whole = whole; is = subst (λ x. IsTextOf limits 1 (34 ∷ 34 ∷ []) x) p.0 (NoString limits 0); ends = whole_by (34 ∷ 34 ∷ []) _ (λ c. refl) })
+    record {
+      text = 34 ∷ 34 ∷ [];
+      whole = whole;
+      is = subst (λ x. IsTextOf limits 1 (34 ∷ 34 ∷ []) x) p.0 (NoString limits 0);
+      ends = whole_by (34 ∷ 34 ∷ []) _ (λ c. refl);
+    })
     (λ h. absurd (neither (begins_character 34 most_point b) _ _ (t, rest) h.1))
     (chosen (eqb b 34) _ _ (Ok (t, rest)) e)
 string_taken limits (suc levels) bytes t rest e =
     let s = bind_ok (string_at most_point bytes) (λ x. Ok (points x.0, x.1)) (t, rest) e in
     let p = pair_is (points s.0.0) s.0.1 t rest s.2 in
     let r = characters_taken _ 34 most_point (length bytes) bytes s.0.0 s.0.1 (omega arith) (omega arith) (λ h. refl) s.1 in
-    subst (λ x. IsTermAt limits (suc (suc levels)) (34 ∷ bytes) x rest) p.0 (points_list limits levels r.text s.0.0 bytes rest r.characters (r.whole ∙ ap (λ x. r.text ++ x) p.1))
+    subst (λ x. IsTermAt limits (suc (suc levels)) (34 ∷ bytes) x rest) p.0
+    (points_list limits levels r.text s.0.0 bytes rest r.characters (r.whole ∙ ap (λ x. r.text ++ x) p.1))
 
-binary_taken : (limits : Limits) (levels : ℕ) (bytes : List ℕ) (t : Tree) (rest : List ℕ) → binary_at bytes ≡ Ok (t, rest) → IsTermAt limits (suc levels) (60 ∷ bytes) t rest
+binary_taken : (limits : Limits) (levels : ℕ) (bytes : List ℕ) (t : Tree) (rest : List ℕ) → binary_at bytes ≡ Ok (t, rest)
+    → IsTermAt limits (suc levels) (60 ∷ bytes) t rest
 binary_taken limits levels bytes t rest e =
     let s = bind_ok (expect 60 bytes) (λ after. bytes_at (skip after) >>= λ x. Ok (Binary x.0, x.1)) (t, rest) e in
     let u = bind_ok (bytes_at (skip s.0)) (λ x. Ok (Binary x.0, x.1)) (t, rest) s.2 in
@@ -464,7 +578,8 @@ binary_taken limits levels bytes t rest e =
     let r_is = subst (λ y. IsTermAt limits (suc levels) (60 ∷ 60 ∷ s.0) t y) p.1 t_is in
     subst (λ y. IsTermAt limits (suc levels) (60 ∷ y) t rest) (sym x) r_is
 
-atom_taken : (limits : Limits) (levels b : ℕ) (bytes : List ℕ) (t : Tree) (rest : List ℕ) → is_ascii_lowercase b ≡ true → atom_at limits.characters (b ∷ bytes) ≡ Ok (t, rest) → IsTermAt limits (suc levels) (b ∷ bytes) t rest
+atom_taken : (limits : Limits) (levels b : ℕ) (bytes : List ℕ) (t : Tree) (rest : List ℕ) → is_ascii_lowercase b ≡ true
+    → atom_at limits.characters (b ∷ bytes) ≡ Ok (t, rest) → IsTermAt limits (suc levels) (b ∷ bytes) t rest
 atom_taken limits levels b bytes t rest h e =
     let s = bind_ok (name_at limits.characters (b ∷ bytes)) (λ x. Ok (Atom x.0, x.1)) (t, rest) e in
     let p = pair_is (Atom s.0.0) s.0.1 t rest s.2 in
@@ -488,10 +603,12 @@ integer_term_taken limits levels bytes t rest e =
       ends = subst (λ x. IsWhole r.text x) p.1 r.ends;
     }
 
-at_byte : (limits : Limits) (levels b c : ℕ) (bytes : List ℕ) (t : Tree) (rest : List ℕ) → eqb b c ≡ true → IsTermAt limits levels (c ∷ bytes) t rest → IsTermAt limits levels (b ∷ bytes) t rest
+at_byte : (limits : Limits) (levels b c : ℕ) (bytes : List ℕ) (t : Tree) (rest : List ℕ) → eqb b c ≡ true → IsTermAt limits levels (c ∷ bytes) t rest
+    → IsTermAt limits levels (b ∷ bytes) t rest
 at_byte limits levels b c bytes t rest e h = subst (λ x. IsTermAt limits levels (x ∷ bytes) t rest) (sym (eqb-true b c e)) h
 
-pub other_taken : (limits : Limits) (levels : ℕ) (element : List ℕ → Read Tree) → ReadsTerms limits levels element → ReadsTerms limits (suc levels) (other_at limits element levels)
+pub other_taken : (limits : Limits) (levels : ℕ) (element : List ℕ → Read Tree) → ReadsTerms limits levels element
+    → ReadsTerms limits (suc levels) (other_at limits element levels)
 unfolding other_at
 other_taken limits levels element sound [] t rest e = integer_term_taken limits levels [] t rest e
 other_taken limits levels element sound (b ∷ bytes) t rest e =
@@ -514,4 +631,5 @@ pub term_taken : (limits : Limits) (levels : ℕ) → ReadsTerms limits levels (
 unfolding term_at
 term_taken limits zero = none_deep limits
 term_taken limits (suc levels) =
-    bracketed_taken limits levels (term_at limits levels) (term_taken limits levels) (other_at limits (term_at limits levels) levels) (other_taken limits levels (term_at limits levels) (term_taken limits levels))
+    bracketed_taken limits levels (term_at limits levels) (term_taken limits levels) (other_at limits (term_at limits levels) levels)
+    (other_taken limits levels (term_at limits levels) (term_taken limits levels))

@@ -13,7 +13,9 @@ scalar_at (c ∷ cs) (suc i) h lt = scalar_at cs i (both _ _ h).1 (omega arith)
 encode_next : (cs : List ℕ) (i : ℕ) → i < length cs → encode_utf8_all (take (suc i) cs) ≡ encode_utf8_all (take i cs) ++ encode_utf8 (get_or cs i 0)
 encode_next [] i lt = absurd (omega arith)
 encode_next (c ∷ cs) zero lt = append-nil (encode_utf8 c)
-encode_next (c ∷ cs) (suc i) lt = ap (λ (bs : List ℕ). encode_utf8 c ++ bs) (encode_next cs i (omega arith)) ∙ sym (append_assoc (encode_utf8 c) (encode_utf8_all (take i cs)) (encode_utf8 (get_or cs i 0)))
+encode_next (c ∷ cs) (suc i) lt =
+    ap (λ (bs : List ℕ). encode_utf8 c ++ bs) (encode_next cs i (omega arith))
+    ∙ sym (append_assoc (encode_utf8 c) (encode_utf8_all (take i cs)) (encode_utf8 (get_or cs i 0)))
 
 pub encode_more : (cs : List ℕ) (i : ℕ) → i < length cs → encode_utf8_all (take (i + 1) cs) ≡ encode_utf8_all (take i cs) ++ encode_utf8 (get_or cs i 0)
 encode_more cs i lt = ap (λ n. encode_utf8_all (take n cs)) (add-one i) ∙ encode_next cs i lt

@@ -83,14 +83,16 @@ mutual
     AnInteger : (limits : Limits) (levels : ℕ) (text : List ℕ) (n : ℤ) → IsInteger text n → IsTextOf limits (suc levels) text (Integer n)
     AnAtom : (limits : Limits) (levels : ℕ) (text name : List ℕ) → IsAtom limits text name → IsTextOf limits (suc levels) text (Atom name)
     NoElements : (limits : Limits) (levels : ℕ) (blanks : List ℕ) → AreBlanks blanks → IsTextOf limits (suc levels) (123 ∷ blanks ++ 125 ∷ []) (Tuple Ends)
-    ATuple : (limits : Limits) (levels : ℕ) (blanks rest : List ℕ) (row : Row) → AreBlanks blanks → AreElements limits levels rest row → size row ≤ limits.elements
+    ATuple : (limits : Limits) (levels : ℕ) (blanks rest : List ℕ) (row : Row) → AreBlanks blanks → AreElements limits levels rest row
+        → size row ≤ limits.elements
         → IsTextOf limits (suc levels) (123 ∷ blanks ++ rest) (Tuple row)
     ANil : (limits : Limits) (levels : ℕ) (blanks : List ℕ) → AreBlanks blanks → IsTextOf limits (suc levels) (91 ∷ blanks ++ 93 ∷ []) Nil
     AList : (limits : Limits) (levels : ℕ) (blanks rest : List ℕ) (t : Tree) → AreBlanks blanks → AreCells limits levels rest t
         → IsTextOf limits (suc levels) (91 ∷ blanks ++ rest) t
     NoString : (limits : Limits) (levels : ℕ) → IsTextOf limits (suc levels) (34 ∷ 34 ∷ []) Nil
     -- its code points stand one level below it, as a list's heads do
-    AString : (limits : Limits) (levels c : ℕ) (text cs : List ℕ) → AreCharacters 34 text (c ∷ cs) → IsTextOf limits (suc (suc levels)) (34 ∷ text) (points (c ∷ cs))
+    AString : (limits : Limits) (levels c : ℕ) (text cs : List ℕ) → AreCharacters 34 text (c ∷ cs)
+        → IsTextOf limits (suc (suc levels)) (34 ∷ text) (points (c ∷ cs))
     NoBytes : (limits : Limits) (levels : ℕ) (blanks : List ℕ) → AreBlanks blanks → IsTextOf limits (suc levels) (60 ∷ 60 ∷ blanks ++ 62 ∷ 62 ∷ []) (Binary [])
     ABinary : (limits : Limits) (levels : ℕ) (blanks rest bytes : List ℕ) → AreBlanks blanks → AreSegments rest bytes
         → IsTextOf limits (suc levels) (60 ∷ 60 ∷ blanks ++ rest) (Binary bytes)
@@ -99,17 +101,21 @@ mutual
   pub data AreElements : Limits → ℕ → List ℕ → Row → Type 0 where
     LastElement : (limits : Limits) (levels : ℕ) (text blanks : List ℕ) (t : Tree) → IsTextOf limits levels text t → AreBlanks blanks
         → AreElements limits levels (text ++ (blanks ++ 125 ∷ [])) (More t Ends)
-    MoreElements : (limits : Limits) (levels : ℕ) (text before after rest : List ℕ) (t : Tree) (row : Row) → IsTextOf limits levels text t → AreBlanks before → AreBlanks after
+    MoreElements : (limits : Limits) (levels : ℕ) (text before after rest : List ℕ) (t : Tree) (row : Row) → IsTextOf limits levels text t → AreBlanks before
+        → AreBlanks after
         → AreElements limits levels rest row → AreElements limits levels (text ++ (before ++ 44 ∷ (after ++ rest))) (More t row)
 
   -- the heads of a list with commas between them, perhaps a bar and a last tail, and `]`
   pub data AreCells : Limits → ℕ → List ℕ → Tree → Type 0 where
     LastCell : (limits : Limits) (levels : ℕ) (text blanks : List ℕ) (head : Tree) → IsTextOf limits levels text head → AreBlanks blanks
         → AreCells limits levels (text ++ (blanks ++ 93 ∷ [])) (Cons head Nil)
-    MoreCells : (limits : Limits) (levels : ℕ) (text before after rest : List ℕ) (head tail : Tree) → IsTextOf limits levels text head → AreBlanks before → AreBlanks after
+    MoreCells : (limits : Limits) (levels : ℕ) (text before after rest : List ℕ) (head tail : Tree) → IsTextOf limits levels text head → AreBlanks before
+        → AreBlanks after
         → AreCells limits levels rest tail → AreCells limits levels (text ++ (before ++ 44 ∷ (after ++ rest))) (Cons head tail)
-    LastTail : (limits : Limits) (levels : ℕ) (text before after last blanks : List ℕ) (head tail : Tree) → IsTextOf limits levels text head → AreBlanks before → AreBlanks after
-        → IsTextOf limits (suc levels) last tail → AreBlanks blanks → AreCells limits levels (text ++ (before ++ 124 ∷ (after ++ (last ++ (blanks ++ 93 ∷ []))))) (Cons head tail)
+    LastTail : (limits : Limits) (levels : ℕ) (text before after last blanks : List ℕ) (head tail : Tree) → IsTextOf limits levels text head → AreBlanks before
+        → AreBlanks after
+        → IsTextOf limits (suc levels) last tail → AreBlanks blanks
+        → AreCells limits levels (text ++ (before ++ 124 ∷ (after ++ (last ++ (blanks ++ 93 ∷ []))))) (Cons head tail)
 
 -- the limits of a text that is read: 64 levels, 120 elements, 255 code points
 abbrev pub most_levels : ℕ

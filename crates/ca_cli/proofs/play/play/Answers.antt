@@ -27,13 +27,17 @@ loop-line-preserved c =
     let within : i < length lines = omega arith in
     let more : i < length (commands_in (numbered lines)) = omega (arith, length_commands lines) in
     let stepped = rw c.loop-line.invariant.keypos at c.in_ok-reply.ensures.step in
-    let pushed : said c.push.new.self.items ≡ said c.loop-line.answers.items ++ Replied (response_of c.in_ok-reply.reply) ∷ [] = ap said c.in_ok-push.ensures.items ∙ map-append answered c.loop-line.answers.items _ in
+    let pushed : said c.push.new.self.items ≡ said c.loop-line.answers.items ++ Replied (response_of c.in_ok-reply.reply) ∷ [] =
+    ap said c.in_ok-push.ensures.items ∙ map-append answered c.loop-line.answers.items _ in
     let b = c.args.table.now.objects in
-    let next = goes_on p b (commands_in (numbered lines)) i c.loop-line.table.objects c.apply.new.self.objects (continuation_of c.loop-line.cont) (continuation_of c.apply.new.cont)
-    (said c.loop-line.answers.items) command (response_of c.in_ok-reply.reply) c.loop-line.invariant.playing more (command_at lines i c.line-item.result within (sym c.line-item.is)) stepped in
+    let next = goes_on p b (commands_in (numbered lines)) i c.loop-line.table.objects c.apply.new.self.objects (continuation_of c.loop-line.cont)
+    (continuation_of c.apply.new.cont)
+    (said c.loop-line.answers.items) command (response_of c.in_ok-reply.reply) c.loop-line.invariant.playing more
+    (command_at lines i c.line-item.result within (sym c.line-item.is)) stepped in
     record {
       keypos = c.in_ok-reply.ensures.keypos ∙ c.loop-line.invariant.keypos;
-      playing = subst (λ (x : List Answered). IsPlaying p b (commands_in (numbered lines)) (i + 1) c.apply.new.self.objects (continuation_of c.apply.new.cont) x) (sym pushed) next;
+      playing = subst (λ (x : List Answered). IsPlaying p b (commands_in (numbered lines)) (i + 1) c.apply.new.self.objects
+          (continuation_of c.apply.new.cont) x) (sym pushed) next;
     }
 
 pub returns-clause-played : goal.returns-clause-played

@@ -23,10 +23,18 @@ pub returns-in_err-next-in-insert-clause-value : goal.returns-in_err-next-in-ins
 returns-in_err-next-in-insert-clause-value c =
     let word : c.args.word.now ≡ codes "insert" = text_from_reads c.args.word.now (codes "insert") (omega arith) (search rules) in
     let form : form_of c.args.word.now ≡ Some (One Insert) = rw word insert_form in
-    search (rules, one_refused c.args.arguments.now.size (place c.args.arguments.now.size c.args.text.now) c.args.word.now c.args.arguments.now.rest.now Insert c.in_err-next-in-insert.field-0.0 form c.in_err-next-in-insert.ensures.value)
+    search (
+      rules,
+      one_refused c.args.arguments.now.size
+          (place c.args.arguments.now.size c.args.text.now) c.args.word.now c.args.arguments.now.rest.now Insert c.in_err-next-in-insert.field-0.0 form c.in_err-next-in-insert.ensures.value,
+    )
 
 pub returns-in_err-next-in-lookup-clause-value : goal.returns-in_err-next-in-lookup-clause-value
 returns-in_err-next-in-lookup-clause-value c =
     let word : c.args.word.now ≡ codes "lookup" = text_from_reads c.args.word.now (codes "lookup") (omega arith) (search rules) in
     let form : form_of c.args.word.now ≡ Some (One Lookup) = rw word lookup_form in
-    search (rules, one_refused c.args.arguments.now.size (place c.args.arguments.now.size c.args.text.now) c.args.word.now c.args.arguments.now.rest.now Lookup c.in_err-next-in-lookup.field-0.0 form c.in_err-next-in-lookup.ensures.value)
+    search (
+      rules,
+      one_refused c.args.arguments.now.size
+          (place c.args.arguments.now.size c.args.text.now) c.args.word.now c.args.arguments.now.rest.now Lookup c.in_err-next-in-lookup.field-0.0 form c.in_err-next-in-lookup.ensures.value,
+    )

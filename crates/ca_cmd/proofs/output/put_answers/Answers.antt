@@ -10,4 +10,5 @@ loop-line-preserved c =
 
 pub returns : goal.returns
 returns c =
-    answers_done c.loop-line.into.items _ _ _ (either_empty_from_Zip c.loop-line.line-iterator c.next.new.self c.next.result c.in-None.is c.next.ensures.steps) c.loop-line.invariant
+    answers_done c.loop-line.into.items _ _ _
+    (either_empty_from_Zip c.loop-line.line-iterator c.next.new.self c.next.result c.in-None.is c.next.ensures.steps) c.loop-line.invariant

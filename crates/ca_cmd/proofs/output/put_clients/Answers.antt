@@ -13,4 +13,5 @@ loop-i-preserved c =
     let own = c.in-Some.own.now in
     let found = c.in-Some.ensures.lookup in
     clients_more c.loop-i.into.items c.put_answers.new.into.items _ (i + 1) (numbered lines) (said own.items) _ _ _ _
-    (map_from numbered files i lines c.loop-i-test.true c.index-files-i.is) (map_from (λ a. said a.items) answers i own found.3.0 found.1) c.loop-i.invariant (search rules)
+    (map_from numbered files i lines c.loop-i-test.true c.index-files-i.is)
+    (map_from (λ a. said a.items) answers i own found.3.0 found.1) c.loop-i.invariant (search rules)

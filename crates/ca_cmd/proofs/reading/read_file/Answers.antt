@@ -16,7 +16,8 @@ returns-in_err-take_line-clause-complete c lines f =
 
 pub loop-rest-preserved : goal.loop-rest-preserved
 loop-rest-preserved c = record {
-  read = lines_more c.args.bytes.now c.loop-rest.rest.now c.cut_line.result.0.now c.cut_line.result.1.now c.loop-rest.lines.items c.take_line.new.lines.items c.loop-rest.number
+  read =
+      lines_more c.args.bytes.now c.loop-rest.rest.now c.cut_line.result.0.now c.cut_line.result.1.now c.loop-rest.lines.items c.take_line.new.lines.items c.loop-rest.number
       c.loop-rest.invariant.read c.cut_line.ensures.line c.in_ok-take_line.ensures.taken;
   fewer = omega (arith, c.loop-rest.invariant.fewer, c.cut_line.ensures.shorter);
 }

@@ -10,5 +10,6 @@ pub returns-in_ok-push-in-Ok-Some-clause-taken : goal.returns-in_ok-push-in-Ok-S
 returns-in_ok-push-in-Ok-Some-clause-taken c = (
   Some (command_of c.in-Ok-Some.cmd),
   subst (λ held. IsLine c.args.line.now (Ok (option_map command_of held))) c.in-Ok-Some.field-0-is c.in-Ok-Some.ensures,
-  ap numbered c.in_ok-push-in-Ok-Some.ensures.items ∙ map-append numbered_line c.args.lines.now.items (record { number = c.args.number; cmd = c.in-Ok-Some.cmd } ∷ []),
+  ap numbered c.in_ok-push-in-Ok-Some.ensures.items
+      ∙ map-append numbered_line c.args.lines.now.items (record { number = c.args.number; cmd = c.in-Ok-Some.cmd } ∷ []),
 )

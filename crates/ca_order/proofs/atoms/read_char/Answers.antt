@@ -15,7 +15,8 @@ pub returns-in_default-after_lead : goal.returns-in_default-after_lead
 returns-in_default-after_lead c =
     let bytes = c.args.bytes.now in
     fault_at HasChar bytes bytes c.stuck-in_default-after_lead.result c.stuck-in_default-after_lead.ensures
-    (stuck_char bytes (λ b more e. subst IsNoLead (sym (same_first b c.in-Some.lead.now more c.in-Some.behind.now bytes e c.in-Some.ensures.cases.0)) c.in_default-after_lead.ensures))
+    (stuck_char bytes (λ b more e. subst IsNoLead
+    (sym (same_first b c.in-Some.lead.now more c.in-Some.behind.now bytes e c.in-Some.ensures.cases.0)) c.in_default-after_lead.ensures))
 
 pub returns : goal.returns
 returns c =

@@ -21,7 +21,8 @@ returns-then-room-eq0 c =
 pub returns-in_err-read_char : goal.returns-in_err-read_char
 returns-in_err-read_char c =
     let p = err_from_is_err_and c.from_residual.result c.from_residual.ensures.1 in
-    rw (p.1, p.2) (fault_first HasChar (HasText c.args.room) c.args.bytes.now c.in_err-read_char.field-0.0 chars_prefix_free (text_begins c.args.room) (λ u h. text_goes_on c.args.room u (omega arith) h) c.in_err-read_char.ensures)
+    rw (p.1, p.2) (fault_first HasChar (HasText c.args.room) c.args.bytes.now c.in_err-read_char.field-0.0 chars_prefix_free (text_begins c.args.room)
+    (λ u h. text_goes_on c.args.room u (omega arith) h) c.in_err-read_char.ensures)
 
 pub returns-then-first-ne0 : goal.returns-then-first-ne0
 returns-then-first-ne0 c =
@@ -35,7 +36,11 @@ returns-then-room-eq0-2 c =
     let parts : bytes ≡ 0 ∷ behind = c.in-Some.ensures.cases.0 ∙ ap (λ (x : ℕ). x ∷ behind) c.if-first-ne0.false in
     fault_same (HasText c.args.room) bytes (0 ∷ behind) c.stuck-then-room-eq0-2.result parts
     (fault_at (HasText c.args.room) (0 ∷ behind) behind c.stuck-then-room-eq0-2.result c.stuck-then-room-eq0-2.ensures
-    (stuck_behind_zero c.args.room behind (λ b more e. ((λ z. let f : b ≡ 0xff = same_first b 0xff more c.in-Zero.rest.now behind e c.in-Zero.ensures in absurd (omega (arith, f, z))), (λ z r. omega (arith, r, c.if-room-eq0-2.true))))))
+    (stuck_behind_zero c.args.room behind (λ b more e. (
+      (λ z. let f : b ≡ 0xff = same_first b 0xff more c.in-Zero.rest.now behind e c.in-Zero.ensures in absurd
+          (omega (arith, f, z))),
+      (λ z r. omega (arith, r, c.if-room-eq0-2.true)),
+    ))))
 
 pub returns-else-room-eq0-2 : goal.returns-else-room-eq0-2
 returns-else-room-eq0-2 c =

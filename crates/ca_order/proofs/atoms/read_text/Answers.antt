@@ -18,7 +18,8 @@ returns-in_err-step c =
     let e = c.in_err-step.field-0.0 in
     let p = err_from_is_err_and c.from_residual.result c.from_residual.ensures.1 in
     rw (p.1, p.2) (fault_same (HasText 255) c.args.bytes.now (opened (encode_utf8_all r.text) ++ rest) e r.parts
-    (fault_behind (HasText 255) (HasText c.loop-step.room) (opened (encode_utf8_all r.text)) rest e (text_rest r.text c.loop-step.room 255 r.many r.are_scalars) c.in_err-step.ensures))
+    (fault_behind (HasText 255) (HasText c.loop-step.room) (opened (encode_utf8_all r.text)) rest e
+    (text_rest r.text c.loop-step.room 255 r.many r.are_scalars) c.in_err-step.ensures))
 
 pub returns-in-End : goal.returns-in-End
 returns-in-End c =

@@ -15,9 +15,11 @@ loop-run-preserved c =
     let more = c.in-Zero.more.now in
     record {
       left = left_more c.loop-run.invariant.left.0 run c.loop-run.rest.now behind more c.in-Some.ensures.0 c.loop-run.invariant.left.1 c.in-Some.ensures.1 c.in-Zero.ensures;
-      parts = parts_more c.loop-run.inside.items c.extend_from_slice.new.self.items c.push.new.self.items run c.loop-run.rest.now behind more c.args.body.now c.in-Some.ensures.0 c.in-Some.ensures.1 c.in-Zero.ensures c.loop-run.invariant.parts
+      parts =
+          parts_more c.loop-run.inside.items c.extend_from_slice.new.self.items c.push.new.self.items run c.loop-run.rest.now behind more c.args.body.now c.in-Some.ensures.0 c.in-Some.ensures.1 c.in-Zero.ensures c.loop-run.invariant.parts
           c.in_ok-extend_from_slice.ensures.items c.in_ok-push.ensures.items;
     }
 
 pub returns : goal.returns
-returns c = parts_all c.loop-run.inside.items c.extend_from_slice-2.new.self.items c.loop-run.rest.now c.args.body.now c.in_default.ensures c.loop-run.invariant.parts c.in_ok-extend_from_slice-2.ensures.items
+returns c =
+    parts_all c.loop-run.inside.items c.extend_from_slice-2.new.self.items c.loop-run.rest.now c.args.body.now c.in_default.ensures c.loop-run.invariant.parts c.in_ok-extend_from_slice-2.ensures.items

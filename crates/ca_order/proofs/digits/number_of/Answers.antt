@@ -18,4 +18,7 @@ loop-digit-preserved c =
     let i = c.loop-digit.digit-index in
     let ds = c.args.digits.now in
     let m = number_more c.args.negative ds i c.from.result (omega arith) (c.from.ensures ∙ c.turned.ensures) in
-    record { value = ap (λ (x : ℕ). x * 256 + c.from.result) c.loop-digit.invariant.value ∙ sym m; small = small_more n i c.from.result c.loop-digit.invariant.small (omega arith) }
+    record {
+      value = ap (λ (x : ℕ). x * 256 + c.from.result) c.loop-digit.invariant.value ∙ sym m;
+      small = small_more n i c.from.result c.loop-digit.invariant.small (omega arith);
+    }

@@ -7,43 +7,95 @@ pub unreachable-requires : goal.unreachable-requires
 unreachable-requires c = no_codes c.requires.0 c.args.bytes.now c.requires.1 c.requires.2 c.in_default.ensures.cases
 
 pub skip_escaped-requires : goal.skip_escaped-requires
-skip_escaped-requires c = escaped_there c.requires.0 c.in-Some.tag.now c.args.bytes.now c.in-Some.inside.now c.requires.1 c.requires.2 c.in-Some.ensures.cases.0 (inl c.in-48.is)
+skip_escaped-requires c =
+    escaped_there c.requires.0 c.in-Some.tag.now c.args.bytes.now c.in-Some.inside.now c.requires.1 c.requires.2 c.in-Some.ensures.cases.0 (inl c.in-48.is)
 
 pub skip_escaped-requires-in-128 : goal.skip_escaped-requires-in-128
-skip_escaped-requires-in-128 c = escaped_there c.requires.0 c.in-Some.tag.now c.args.bytes.now c.in-Some.inside.now c.requires.1 c.requires.2 c.in-Some.ensures.cases.0 (inr c.in-128.is)
+skip_escaped-requires-in-128 c =
+    escaped_there c.requires.0 c.in-Some.tag.now c.args.bytes.now c.in-Some.inside.now c.requires.1 c.requires.2 c.in-Some.ensures.cases.0 (inr c.in-128.is)
 
 pub split_size-requires : goal.split_size-requires
-split_size-requires c = size_there c.requires.0 c.in-Some.tag.now c.args.bytes.now c.in-Some.inside.now c.requires.1 c.requires.2 c.in-Some.ensures.cases.0 c.in-64.is
+split_size-requires c =
+    size_there c.requires.0 c.in-Some.tag.now c.args.bytes.now c.in-Some.inside.now c.requires.1 c.requires.2 c.in-Some.ensures.cases.0 c.in-64.is
 
 pub behind-requires : goal.behind-requires
-behind-requires c = pos_there c.requires.0 c.in-Some.tag.now c.args.bytes.now c.in-Some.inside.now c.requires.1 c.requires.2 c.in-Some.ensures.cases.0 (omega arith, omega arith)
+behind-requires c =
+    pos_there c.requires.0 c.in-Some.tag.now c.args.bytes.now c.in-Some.inside.now c.requires.1 c.requires.2 c.in-Some.ensures.cases.0
+    (omega arith, omega arith)
 
 pub returns-in-48-clause-codes : goal.returns-in-48-clause-codes
-returns-in-48-clause-codes c = λ n end h. escaped_codes n c.in-Some.tag.now c.args.bytes.now c.in-Some.inside.now end h c.in-Some.ensures.cases.0 c.skip_escaped.result.now (inl c.in-48.is) c.skip_escaped.ensures.rest
+returns-in-48-clause-codes c =
+    λ n end h. escaped_codes n c.in-Some.tag.now c.args.bytes.now c.in-Some.inside.now end h c.in-Some.ensures.cases.0 c.skip_escaped.result.now
+    (inl c.in-48.is) c.skip_escaped.ensures.rest
 
 pub returns-in-48-clause-shorter : goal.returns-in-48-clause-shorter
 returns-in-48-clause-shorter c = omega (arith, c.in-Some.ensures.cases.1, c.skip_escaped.ensures.shorter)
 
 pub returns-in-128-clause-codes : goal.returns-in-128-clause-codes
-returns-in-128-clause-codes c = λ n end h. escaped_codes n c.in-Some.tag.now c.args.bytes.now c.in-Some.inside.now end h c.in-Some.ensures.cases.0 c.skip_escaped-in-128.result.now (inr c.in-128.is) c.skip_escaped-in-128.ensures.rest
+returns-in-128-clause-codes c =
+    λ n end h. escaped_codes n c.in-Some.tag.now c.args.bytes.now c.in-Some.inside.now end h c.in-Some.ensures.cases.0 c.skip_escaped-in-128.result.now
+    (inr c.in-128.is) c.skip_escaped-in-128.ensures.rest
 
 pub returns-in-128-clause-shorter : goal.returns-in-128-clause-shorter
 returns-in-128-clause-shorter c = omega (arith, c.in-Some.ensures.cases.1, c.skip_escaped-in-128.ensures.shorter)
 
 pub returns-in-64-clause-codes : goal.returns-in-64-clause-codes
-returns-in-64-clause-codes c = λ n end h. tuple_codes n c.in-Some.tag.now c.args.bytes.now c.in-Some.inside.now end h c.in-Some.ensures.cases.0 c.split_size.result.0 c.split_size.result.1.now c.in-64.is c.split_size.ensures.size
+returns-in-64-clause-codes c =
+    λ n end h. tuple_codes n c.in-Some.tag.now c.args.bytes.now c.in-Some.inside.now end h c.in-Some.ensures.cases.0 c.split_size.result.0 c.split_size.result.1.now c.in-64.is c.split_size.ensures.size
 
 pub returns-in-64-clause-shorter : goal.returns-in-64-clause-shorter
 returns-in-64-clause-shorter c = omega (arith, c.in-Some.ensures.cases.1, c.split_size.ensures.shorter)
 
 pub overflow_sub-tag-in_default-tag : goal.overflow_sub-tag-in_default-tag
 overflow_sub-tag-in_default-tag c =
-    let other : IsNoOther c.in-Some.tag.now = elim c.in_default-tag.branch [ in_default-tag-via-then-tag-lt32 w ↦ record { no_pos = λ h k. omega arith; no_atom = λ e. omega (arith, e); no_tuple = λ e. omega (arith, e); no_nil = λ e. omega (arith, e); no_cons = λ e. omega (arith, e); no_binary = λ e. omega (arith, e) } | in_default-tag-via-else-tag-lt32+else-tag-lt41 w ↦ record { no_pos = λ h k. omega arith; no_atom = λ e. omega (arith, e); no_tuple = λ e. omega (arith, e); no_nil = λ e. omega (arith, e); no_cons = λ e. omega (arith, e); no_binary = λ e. omega (arith, e) } ] in
+    let other : IsNoOther c.in-Some.tag.now =
+    elim c.in_default-tag.branch [
+      | in_default-tag-via-then-tag-lt32 w ↦ record {
+        no_pos = λ h k. omega arith;
+        no_atom = λ e. omega (arith, e);
+        no_tuple =
+            λ e. omega (arith, e);
+        no_nil = λ e. omega (arith, e);
+        no_cons = λ e. omega (arith, e);
+        no_binary =
+            λ e. omega (arith, e);
+      }
+      | in_default-tag-via-else-tag-lt32+else-tag-lt41 w ↦ record {
+        no_pos = λ h k. omega arith;
+        no_atom =
+            λ e. omega (arith, e);
+        no_tuple = λ e. omega (arith, e);
+        no_nil = λ e. omega (arith, e);
+        no_cons = λ e. omega (arith, e);
+        no_binary = λ e. omega (arith, e);
+      }
+    ] in
     (neg_there c.requires.0 c.in-Some.tag.now c.args.bytes.now c.in-Some.inside.now c.requires.1 c.requires.2 c.in-Some.ensures.cases.0 other).0
 
 pub behind-requires-in_default-tag : goal.behind-requires-in_default-tag
 behind-requires-in_default-tag c =
-    let other : IsNoOther c.in-Some.tag.now = elim c.in_default-tag.branch [ in_default-tag-via-then-tag-lt32 w ↦ record { no_pos = λ h k. omega arith; no_atom = λ e. omega (arith, e); no_tuple = λ e. omega (arith, e); no_nil = λ e. omega (arith, e); no_cons = λ e. omega (arith, e); no_binary = λ e. omega (arith, e) } | in_default-tag-via-else-tag-lt32+else-tag-lt41 w ↦ record { no_pos = λ h k. omega arith; no_atom = λ e. omega (arith, e); no_tuple = λ e. omega (arith, e); no_nil = λ e. omega (arith, e); no_cons = λ e. omega (arith, e); no_binary = λ e. omega (arith, e) } ] in
+    let other : IsNoOther c.in-Some.tag.now =
+    elim c.in_default-tag.branch [
+      | in_default-tag-via-then-tag-lt32 w ↦ record {
+        no_pos = λ h k. omega arith;
+        no_atom = λ e. omega (arith, e);
+        no_tuple =
+            λ e. omega (arith, e);
+        no_nil = λ e. omega (arith, e);
+        no_cons = λ e. omega (arith, e);
+        no_binary =
+            λ e. omega (arith, e);
+      }
+      | in_default-tag-via-else-tag-lt32+else-tag-lt41 w ↦ record {
+        no_pos = λ h k. omega arith;
+        no_atom =
+            λ e. omega (arith, e);
+        no_tuple = λ e. omega (arith, e);
+        no_nil = λ e. omega (arith, e);
+        no_cons = λ e. omega (arith, e);
+        no_binary = λ e. omega (arith, e);
+      }
+    ] in
     (neg_there c.requires.0 c.in-Some.tag.now c.args.bytes.now c.in-Some.inside.now c.requires.1 c.requires.2 c.in-Some.ensures.cases.0 other).1
 
 pub returns-in-96-clause-codes : goal.returns-in-96-clause-codes
@@ -53,9 +105,32 @@ pub returns-in-112-clause-codes : goal.returns-in-112-clause-codes
 returns-in-112-clause-codes c = λ n end h. cons_codes n c.in-Some.tag.now c.args.bytes.now c.in-Some.inside.now end h c.in-Some.ensures.cases.0 c.in-112.is
 
 pub returns-in-32-to-40-clause-codes : goal.returns-in-32-to-40-clause-codes
-returns-in-32-to-40-clause-codes c = λ n end h. pos_codes n c.in-Some.tag.now c.args.bytes.now c.in-Some.inside.now end h c.in-Some.ensures.cases.0 c.behind.result.now (omega arith, omega arith) c.behind.ensures.rest
+returns-in-32-to-40-clause-codes c =
+    λ n end h. pos_codes n c.in-Some.tag.now c.args.bytes.now c.in-Some.inside.now end h c.in-Some.ensures.cases.0 c.behind.result.now
+    (omega arith, omega arith) c.behind.ensures.rest
 
 pub returns-in_default-tag-clause-codes : goal.returns-in_default-tag-clause-codes
 returns-in_default-tag-clause-codes c = λ n end h.
-    let other : IsNoOther c.in-Some.tag.now = elim c.in_default-tag.branch [ in_default-tag-via-then-tag-lt32 w ↦ record { no_pos = λ h k. omega arith; no_atom = λ e. omega (arith, e); no_tuple = λ e. omega (arith, e); no_nil = λ e. omega (arith, e); no_cons = λ e. omega (arith, e); no_binary = λ e. omega (arith, e) } | in_default-tag-via-else-tag-lt32+else-tag-lt41 w ↦ record { no_pos = λ h k. omega arith; no_atom = λ e. omega (arith, e); no_tuple = λ e. omega (arith, e); no_nil = λ e. omega (arith, e); no_cons = λ e. omega (arith, e); no_binary = λ e. omega (arith, e) } ] in
+    let other : IsNoOther c.in-Some.tag.now =
+    elim c.in_default-tag.branch [
+      | in_default-tag-via-then-tag-lt32 w ↦ record {
+        no_pos = λ h k. omega arith;
+        no_atom = λ e. omega (arith, e);
+        no_tuple =
+            λ e. omega (arith, e);
+        no_nil = λ e. omega (arith, e);
+        no_cons = λ e. omega (arith, e);
+        no_binary =
+            λ e. omega (arith, e);
+      }
+      | in_default-tag-via-else-tag-lt32+else-tag-lt41 w ↦ record {
+        no_pos = λ h k. omega arith;
+        no_atom =
+            λ e. omega (arith, e);
+        no_tuple = λ e. omega (arith, e);
+        no_nil = λ e. omega (arith, e);
+        no_cons = λ e. omega (arith, e);
+        no_binary = λ e. omega (arith, e);
+      }
+    ] in
     neg_codes n c.in-Some.tag.now c.args.bytes.now c.in-Some.inside.now end h c.in-Some.ensures.cases.0 c.behind-in_default-tag.result.now other c.behind-in_default-tag.ensures.rest

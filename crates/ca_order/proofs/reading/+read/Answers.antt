@@ -31,23 +31,28 @@ read_items-loop-preserved t c =
 pub read_last-returns-in_default : goal.read_last-returns-in_default
 read_last-returns-in_default t c =
     let bytes = c.args.bytes.now in
-    fault_at (HasTerm c.args.levels) bytes bytes c.stuck.result c.stuck.ensures (stuck_no_tag c.args.levels bytes c.requires.least (λ b more e. absurd (omega (arith, ap length e, c.in_default.ensures.cases))))
+    fault_at (HasTerm c.args.levels) bytes bytes c.stuck.result c.stuck.ensures
+    (stuck_no_tag c.args.levels bytes c.requires.least (λ b more e. absurd (omega (arith, ap length e, c.in_default.ensures.cases))))
 
 pub read_last-returns-in_err-number-in-23-to-31 : goal.read_last-returns-in_err-number-in-23-to-31
 read_last-returns-in_err-number-in-23-to-31 t c =
     let p = err_from_is_err_and c.from_residual.result c.from_residual.ensures.1 in
-    rw (p.1, p.2) (neg_fault c.args.levels c.in-Some.tag.now c.args.bytes.now c.in-Some.inside.now c.in_err-number-in-23-to-31.field-0.0 c.requires.least (omega arith) (omega arith) c.in-Some.ensures.cases.0 c.in_err-number-in-23-to-31.ensures)
+    rw (p.1, p.2) (neg_fault c.args.levels c.in-Some.tag.now c.args.bytes.now c.in-Some.inside.now c.in_err-number-in-23-to-31.field-0.0 c.requires.least
+    (omega arith) (omega arith) c.in-Some.ensures.cases.0 c.in_err-number-in-23-to-31.ensures)
 
 pub read_last-overflow_cast-number : goal.read_last-overflow_cast-number
-read_last-overflow_cast-number t c = record { sfits = digits_fit true (0x1f - c.in-Some.tag.now) c.in-Some.inside.now c.in_ok-number-in-23-to-31.number c.in_ok-number-in-23-to-31.rest.now c.in_ok-number-in-23-to-31.ensures }
+read_last-overflow_cast-number t c =
+    record { sfits = digits_fit true (0x1f - c.in-Some.tag.now) c.in-Some.inside.now c.in_ok-number-in-23-to-31.number c.in_ok-number-in-23-to-31.rest.now c.in_ok-number-in-23-to-31.ensures }
 
 pub read_last-returns-in_err-number-in-32-to-40 : goal.read_last-returns-in_err-number-in-32-to-40
 read_last-returns-in_err-number-in-32-to-40 t c =
     let p = err_from_is_err_and c.from_residual-in_err-number-in-32-to-40.result c.from_residual-in_err-number-in-32-to-40.ensures.1 in
-    rw (p.1, p.2) (pos_fault c.args.levels c.in-Some.tag.now c.args.bytes.now c.in-Some.inside.now c.in_err-number-in-32-to-40.field-0.0 c.requires.least (omega arith) (omega arith) c.in-Some.ensures.cases.0 c.in_err-number-in-32-to-40.ensures)
+    rw (p.1, p.2) (pos_fault c.args.levels c.in-Some.tag.now c.args.bytes.now c.in-Some.inside.now c.in_err-number-in-32-to-40.field-0.0 c.requires.least
+    (omega arith) (omega arith) c.in-Some.ensures.cases.0 c.in_err-number-in-32-to-40.ensures)
 
 pub read_last-overflow_cast-number-in-32-to-40 : goal.read_last-overflow_cast-number-in-32-to-40
-read_last-overflow_cast-number-in-32-to-40 t c = record { sfits = digits_fit false (c.in-Some.tag.now - 0x20) c.in-Some.inside.now c.in_ok-number-in-32-to-40.number c.in_ok-number-in-32-to-40.rest.now c.in_ok-number-in-32-to-40.ensures }
+read_last-overflow_cast-number-in-32-to-40 t c =
+    record { sfits = digits_fit false (c.in-Some.tag.now - 0x20) c.in-Some.inside.now c.in_ok-number-in-32-to-40.number c.in_ok-number-in-32-to-40.rest.now c.in_ok-number-in-32-to-40.ensures }
 
 pub read_last-returns-in-48 : goal.read_last-returns-in-48
 read_last-returns-in-48 t c =
@@ -86,7 +91,8 @@ pub read_last-returns-in_ok-number-in-23-to-31 : goal.read_last-returns-in_ok-nu
 read_last-returns-in_ok-number-in-23-to-31 t c =
     let n = c.in_ok-number-in-23-to-31.number in
     let small = digits_fit true (0x1f - c.in-Some.tag.now) c.in-Some.inside.now n c.in_ok-number-in-23-to-31.rest.now c.in_ok-number-in-23-to-31.ensures in
-    neg_term c.args.levels c.in-Some.tag.now c.args.bytes.now c.in-Some.inside.now n c.in_ok-number-in-23-to-31.rest.now c.int.result c.requires.least (omega arith) c.in-Some.ensures.cases.0 c.in_ok-number-in-23-to-31.ensures (c.int.ensures ∙ ap Integer (cast_neg n small))
+    neg_term c.args.levels c.in-Some.tag.now c.args.bytes.now c.in-Some.inside.now n c.in_ok-number-in-23-to-31.rest.now c.int.result c.requires.least
+    (omega arith) c.in-Some.ensures.cases.0 c.in_ok-number-in-23-to-31.ensures (c.int.ensures ∙ ap Integer (cast_neg n small))
 
 pub read_last-returns-in_ok-number-in-32-to-40 : goal.read_last-returns-in_ok-number-in-32-to-40
 read_last-returns-in_ok-number-in-32-to-40 t c =
@@ -100,11 +106,26 @@ read_last-returns-in_default-tag t c =
     let tag = c.in-Some.tag.now in
     let no_cons : 2 ≤ c.args.levels → tag ≡ 0x70 → ⊥ = λ h e. c.requires.no_cell h (ap (λ (x : List ℕ). slice_index x 0) c.in-Some.ensures.cases.0 ∙ e) in
     let none : IsNoTag c.args.levels tag = elim c.in_default-tag.branch [
-      | read_last-in_default-tag-via-then-tag-lt23 w ↦ record { no_int = λ h k. omega arith; no_atom = λ e. omega (arith, e); no_tuple = λ e. omega (arith, e); no_nil = λ e. omega (arith, e); no_cons = no_cons; no_binary = λ e. omega (arith, e) }
-      | read_last-in_default-tag-via-else-tag-lt23+else-tag-lt32+else-tag-lt41 w ↦ record { no_int = λ h k. omega arith; no_atom = λ e. omega (arith, e); no_tuple = λ e. omega (arith, e); no_nil = λ e. omega (arith, e); no_cons = no_cons; no_binary = λ e. omega (arith, e) }
+      | read_last-in_default-tag-via-then-tag-lt23 w ↦ record {
+        no_int = λ h k. omega arith;
+        no_atom = λ e. omega (arith, e);
+        no_tuple = λ e. omega (arith, e);
+        no_nil = λ e. omega (arith, e);
+        no_cons = no_cons;
+        no_binary = λ e. omega (arith, e);
+      }
+      | read_last-in_default-tag-via-else-tag-lt23+else-tag-lt32+else-tag-lt41 w ↦ record {
+        no_int = λ h k. omega arith;
+        no_atom = λ e. omega (arith, e);
+        no_tuple = λ e. omega (arith, e);
+        no_nil = λ e. omega (arith, e);
+        no_cons = no_cons;
+        no_binary = λ e. omega (arith, e);
+      }
     ] in
     fault_at (HasTerm c.args.levels) bytes bytes c.stuck-in_default-tag.result c.stuck-in_default-tag.ensures
-    (stuck_no_tag c.args.levels bytes c.requires.least (λ b more e. subst (IsNoTag c.args.levels) (sym (same_first b tag more c.in-Some.inside.now bytes e c.in-Some.ensures.cases.0)) none))
+    (stuck_no_tag c.args.levels bytes c.requires.least
+    (λ b more e. subst (IsNoTag c.args.levels) (sym (same_first b tag more c.in-Some.inside.now bytes e c.in-Some.ensures.cases.0)) none))
 
 -- ---- a list by its heads
 
@@ -144,7 +165,8 @@ read_tuple-returns-in_err-items t c =
     let e = c.in_err-items.field-0.0 in
     let fits : n ≤ 120 = omega (arith, c.in_ok-count.ensures.0, c.most_elements.ensures, most_fits l) in
     let p = err_from_is_err_and c.from_residual-in_err-items.result c.from_residual-in_err-items.ensures.1 in
-    rw (p.1, p.2) (fault_same (HasTuple l) c.args.bytes.now (four_bytes n ++ inside) e c.in_ok-count.ensures.1 (fault_behind (HasTuple l) (HasRow l n) (four_bytes n) inside e (elements_rest l n fits) c.in_err-items.ensures))
+    rw (p.1, p.2) (fault_same (HasTuple l) c.args.bytes.now (four_bytes n ++ inside) e c.in_ok-count.ensures.1
+    (fault_behind (HasTuple l) (HasRow l n) (four_bytes n) inside e (elements_rest l n fits) c.in_err-items.ensures))
 
 pub read_tuple-returns : goal.read_tuple-returns
 read_tuple-returns t c =

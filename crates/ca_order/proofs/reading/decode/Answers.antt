@@ -11,4 +11,5 @@ returns-else-is_empty-clause-fault c =
     decode_rest c.args.code.now c.in-Ok.term c.in-Ok.rest.now c.in-Ok.ensures some
 
 pub returns-in-Err-Stuck-clause-fault : goal.returns-in-Err-Stuck-clause-fault
-returns-in-Err-Stuck-clause-fault c = decode_stuck c.args.code.now c.in-Err-Stuck.left (subst (IsReadFault (HasTerm 192) c.args.code.now) c.in-Err-Stuck.field-0-is c.in-Err-Stuck.ensures)
+returns-in-Err-Stuck-clause-fault c =
+    decode_stuck c.args.code.now c.in-Err-Stuck.left (subst (IsReadFault (HasTerm 192) c.args.code.now) c.in-Err-Stuck.field-0-is c.in-Err-Stuck.ensures)

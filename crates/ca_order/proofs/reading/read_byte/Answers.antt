@@ -8,7 +8,8 @@ use Rattle.ca_order.proofs.reading.read_byte.Goals as goal
 pub returns-in_default : goal.returns-in_default
 returns-in_default c =
     let bytes = c.args.bytes.now in
-    fault_at (HasSize 0 c.args.most) bytes bytes c.stuck.result c.stuck.ensures (stuck_byte c.args.most bytes (λ b more e h. absurd (omega (arith, ap length e, c.in_default.ensures.cases))))
+    fault_at (HasSize 0 c.args.most) bytes bytes c.stuck.result c.stuck.ensures
+    (stuck_byte c.args.most bytes (λ b more e h. absurd (omega (arith, ap length e, c.in_default.ensures.cases))))
 
 pub returns-then-byte-most : goal.returns-then-byte-most
 returns-then-byte-most c =

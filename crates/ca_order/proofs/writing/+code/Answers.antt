@@ -27,7 +27,8 @@ put_row-returns-in_err-put_term t c =
     let ts = c.args.items.now in
     let i = c.loop-item.item-index in
     let item = c.item-item.result in
-    puts_err _ c.loop-item.into.items (row_code (row_of (drop i ts))) c.args.into.now.items (four_bytes (length ts) ++ row_code (row_of ts)) (code_of item) (row_code (row_of (drop (i + 1) ts))) _
+    puts_err _ c.loop-item.into.items (row_code (row_of (drop i ts))) c.args.into.now.items (four_bytes (length ts) ++ row_code (row_of ts)) (code_of item)
+    (row_code (row_of (drop (i + 1) ts))) _
     c.from_residual-in_err-put_term.ensures.0 c.loop-item.invariant (at_item ts i item c.loop-item-test.true c.item-item.is) c.in_err-put_term.ensures
 
 pub put_row-loop-item-preserved : goal.put_row-loop-item-preserved
@@ -35,7 +36,8 @@ put_row-loop-item-preserved t c =
     let ts = c.args.items.now in
     let i = c.loop-item.item-index in
     let item = c.item-item.result in
-    put_more c.loop-item.into.items (row_code (row_of (drop i ts))) c.args.into.now.items (four_bytes (length ts) ++ row_code (row_of ts)) (code_of item) (row_code (row_of (drop (i + 1) ts))) c.put_term.new.into.items
+    put_more c.loop-item.into.items (row_code (row_of (drop i ts))) c.args.into.now.items (four_bytes (length ts) ++ row_code (row_of ts)) (code_of item)
+    (row_code (row_of (drop (i + 1) ts))) c.put_term.new.into.items
     c.loop-item.invariant (at_item ts i item c.loop-item-test.true c.item-item.is) c.in_ok-put_term.ensures
 
 pub put_row-returns : goal.put_row-returns
@@ -61,24 +63,28 @@ put_term-returns-in_err-put-in-Atom t c =
 pub put_term-returns-in-Atom : goal.put_term-returns-in-Atom
 put_term-returns-in-Atom t c =
     let same : c.as_bytes.result.now ≡ c.in-Atom.text.now = c.as_bytes.ensures.value in
-    puts_tagged _ c.cells.into.items (code_of c.cells.rest.now) c.args.into.now.items (code_of c.args.term.now) (escaped c.in-Atom.text.now) c.put.new.into.items _ 0x30
+    puts_tagged _ c.cells.into.items (code_of c.cells.rest.now) c.args.into.now.items (code_of c.args.term.now)
+    (escaped c.in-Atom.text.now) c.put.new.into.items _ 0x30
     c.cells.invariant.put (at_atom c.cells.rest.now c.in-Atom.text.now c.in-Atom.ensures.kind) c.in_ok-put-in-Atom.ensures (rw same at c.put_escaped.ensures)
 
 pub put_term-returns-in_err-put-in-Tuple : goal.put_term-returns-in_err-put-in-Tuple
 put_term-returns-in_err-put-in-Tuple t c =
     let ts = c.in-Tuple.items.now in
-    puts_err _ c.cells.into.items (code_of c.cells.rest.now) c.args.into.now.items (code_of c.args.term.now) (0x40 ∷ []) (four_bytes (length ts) ++ row_code (row_of ts)) _
+    puts_err _ c.cells.into.items (code_of c.cells.rest.now) c.args.into.now.items (code_of c.args.term.now) (0x40 ∷ [])
+    (four_bytes (length ts) ++ row_code (row_of ts)) _
     c.from_residual-in_err-put-in-Tuple.ensures.0 c.cells.invariant.put (at_tuple c.cells.rest.now ts c.in-Tuple.ensures.kind) c.in_err-put-in-Tuple.ensures
 
 pub put_term-returns-in-Tuple : goal.put_term-returns-in-Tuple
 put_term-returns-in-Tuple t c =
     let ts = c.in-Tuple.items.now in
-    puts_tagged _ c.cells.into.items (code_of c.cells.rest.now) c.args.into.now.items (code_of c.args.term.now) (four_bytes (length ts) ++ row_code (row_of ts)) c.put-in-Tuple.new.into.items _ 0x40
+    puts_tagged _ c.cells.into.items (code_of c.cells.rest.now) c.args.into.now.items (code_of c.args.term.now)
+    (four_bytes (length ts) ++ row_code (row_of ts)) c.put-in-Tuple.new.into.items _ 0x40
     c.cells.invariant.put (at_tuple c.cells.rest.now ts c.in-Tuple.ensures.kind) c.in_ok-put-in-Tuple.ensures c.put_row.ensures
 
 pub put_term-returns-in-Nil : goal.put_term-returns-in-Nil
 put_term-returns-in-Nil t c =
-    puts_all _ c.cells.into.items (code_of c.cells.rest.now) c.args.into.now.items (code_of c.args.term.now) _ c.cells.invariant.put (rw (at_nil c.cells.rest.now c.in-Nil.ensures.kind) c.put-in-Nil.ensures)
+    puts_all _ c.cells.into.items (code_of c.cells.rest.now) c.args.into.now.items (code_of c.args.term.now) _ c.cells.invariant.put
+    (rw (at_nil c.cells.rest.now c.in-Nil.ensures.kind) c.put-in-Nil.ensures)
 
 pub put_term-returns-in_err-put-in-Cons : goal.put_term-returns-in_err-put-in-Cons
 put_term-returns-in_err-put-in-Cons t c =
@@ -92,7 +98,8 @@ put_term-returns-in_err-put_term-in-Cons t c =
     let head = c.in-Cons.head.now in
     let tail = c.in-Cons.tail.now in
     let p : IsPut c.put-in-Cons.new.into.items (code_of head ++ code_of tail) c.args.into.now.items (code_of c.args.term.now) =
-    put_more c.cells.into.items (code_of c.cells.rest.now) c.args.into.now.items (code_of c.args.term.now) (0x70 ∷ []) (code_of head ++ code_of tail) c.put-in-Cons.new.into.items
+    put_more c.cells.into.items (code_of c.cells.rest.now) c.args.into.now.items (code_of c.args.term.now) (0x70 ∷ [])
+    (code_of head ++ code_of tail) c.put-in-Cons.new.into.items
     c.cells.invariant.put (at_cons c.cells.rest.now head tail c.in-Cons.ensures.kind) c.in_ok-put-in-Cons.ensures in
     puts_err _ c.put-in-Cons.new.into.items (code_of head ++ code_of tail) c.args.into.now.items (code_of c.args.term.now) (code_of head) (code_of tail) _
     c.from_residual-in_err-put_term-in-Cons.ensures.0 p refl c.in_err-put_term-in-Cons.ensures
@@ -102,19 +109,23 @@ put_term-cells-preserved t c =
     let head = c.in-Cons.head.now in
     let tail = c.in-Cons.tail.now in
     let p : IsPut c.put-in-Cons.new.into.items (code_of head ++ code_of tail) c.args.into.now.items (code_of c.args.term.now) =
-    put_more c.cells.into.items (code_of c.cells.rest.now) c.args.into.now.items (code_of c.args.term.now) (0x70 ∷ []) (code_of head ++ code_of tail) c.put-in-Cons.new.into.items
+    put_more c.cells.into.items (code_of c.cells.rest.now) c.args.into.now.items (code_of c.args.term.now) (0x70 ∷ [])
+    (code_of head ++ code_of tail) c.put-in-Cons.new.into.items
     c.cells.invariant.put (at_cons c.cells.rest.now head tail c.in-Cons.ensures.kind) c.in_ok-put-in-Cons.ensures in
     record {
-      put = put_more c.put-in-Cons.new.into.items (code_of head ++ code_of tail) c.args.into.now.items (code_of c.args.term.now) (code_of head) (code_of tail) c.put_term.new.into.items p refl c.in_ok-put_term-in-Cons.ensures;
+      put = put_more c.put-in-Cons.new.into.items (code_of head ++ code_of tail) c.args.into.now.items (code_of c.args.term.now) (code_of head)
+          (code_of tail) c.put_term.new.into.items p refl c.in_ok-put_term-in-Cons.ensures;
       fewer = omega (arith, cons_falls c.cells.rest.now head tail c.in-Cons.ensures.kind, c.cells.invariant.fewer);
     }
 
 pub put_term-returns-in_err-put-in-Bin : goal.put_term-returns-in_err-put-in-Bin
 put_term-returns-in_err-put-in-Bin t c =
     puts_err _ c.cells.into.items (code_of c.cells.rest.now) c.args.into.now.items (code_of c.args.term.now) (0x80 ∷ []) (escaped c.in-Bin.bytes.now) _
-    c.from_residual-in_err-put-in-Bin.ensures.0 c.cells.invariant.put (at_binary c.cells.rest.now c.in-Bin.bytes.now c.in-Bin.ensures.kind) c.in_err-put-in-Bin.ensures
+    c.from_residual-in_err-put-in-Bin.ensures.0 c.cells.invariant.put
+    (at_binary c.cells.rest.now c.in-Bin.bytes.now c.in-Bin.ensures.kind) c.in_err-put-in-Bin.ensures
 
 pub put_term-returns-in-Bin : goal.put_term-returns-in-Bin
 put_term-returns-in-Bin t c =
-    puts_tagged _ c.cells.into.items (code_of c.cells.rest.now) c.args.into.now.items (code_of c.args.term.now) (escaped c.in-Bin.bytes.now) c.put-in-Bin.new.into.items _ 0x80
+    puts_tagged _ c.cells.into.items (code_of c.cells.rest.now) c.args.into.now.items (code_of c.args.term.now)
+    (escaped c.in-Bin.bytes.now) c.put-in-Bin.new.into.items _ 0x80
     c.cells.invariant.put (at_binary c.cells.rest.now c.in-Bin.bytes.now c.in-Bin.ensures.kind) c.in_ok-put-in-Bin.ensures c.put_escaped-in-Bin.ensures

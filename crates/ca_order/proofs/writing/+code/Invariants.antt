@@ -20,4 +20,5 @@ abbrev pub decreases-put_term-cells : goal.decreases-put_term-cells
 decreases-put_term-cells l = nodes l.rest
 
 abbrev pub invariant-put_row-loop-item : goal.invariant-put_row-loop-item
-invariant-put_row-loop-item l = IsPut l.into.items (row_code (row_of (drop l.item-index l.items))) l.fn.into.items (four_bytes (length l.items) ++ row_code (row_of l.items))
+invariant-put_row-loop-item l =
+    IsPut l.into.items (row_code (row_of (drop l.item-index l.items))) l.fn.into.items (four_bytes (length l.items) ++ row_code (row_of l.items))

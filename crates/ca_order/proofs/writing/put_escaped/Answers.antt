@@ -16,7 +16,8 @@ returns-in_err-put-2 c =
     let run = c.in-Some.run'.now in
     let behind = c.in-Some.behind.now in
     let p : IsPut c.put.new.into.items (0 ∷ 0xff ∷ escaped behind) c.args.into.now.items (escaped c.args.bytes.now) =
-    put_more c.loop-run.into.items (escaped c.loop-run.rest.now) c.args.into.now.items (escaped c.args.bytes.now) run (0 ∷ 0xff ∷ escaped behind) c.put.new.into.items
+    put_more c.loop-run.into.items (escaped c.loop-run.rest.now) c.args.into.now.items (escaped c.args.bytes.now) run
+    (0 ∷ 0xff ∷ escaped behind) c.put.new.into.items
     c.loop-run.invariant (ap escaped c.in-Some.ensures.1 ∙ escaped_run run behind c.in-Some.ensures.0) c.in_ok-put.ensures in
     puts_err _ c.put.new.into.items (0 ∷ 0xff ∷ escaped behind) c.args.into.now.items (escaped c.args.bytes.now) (0 ∷ 0xff ∷ []) (escaped behind) _
     c.from_residual-in_err-put-2.ensures.0 p refl c.in_err-put-2.ensures
@@ -26,9 +27,11 @@ loop-run-preserved c =
     let run = c.in-Some.run'.now in
     let behind = c.in-Some.behind.now in
     let p : IsPut c.put.new.into.items (0 ∷ 0xff ∷ escaped behind) c.args.into.now.items (escaped c.args.bytes.now) =
-    put_more c.loop-run.into.items (escaped c.loop-run.rest.now) c.args.into.now.items (escaped c.args.bytes.now) run (0 ∷ 0xff ∷ escaped behind) c.put.new.into.items
+    put_more c.loop-run.into.items (escaped c.loop-run.rest.now) c.args.into.now.items (escaped c.args.bytes.now) run
+    (0 ∷ 0xff ∷ escaped behind) c.put.new.into.items
     c.loop-run.invariant (ap escaped c.in-Some.ensures.1 ∙ escaped_run run behind c.in-Some.ensures.0) c.in_ok-put.ensures in
-    put_more c.put.new.into.items (0 ∷ 0xff ∷ escaped behind) c.args.into.now.items (escaped c.args.bytes.now) (0 ∷ 0xff ∷ []) (escaped behind) c.put-in-Some.new.into.items p refl c.in_ok-put-2.ensures
+    put_more c.put.new.into.items (0 ∷ 0xff ∷ escaped behind) c.args.into.now.items (escaped c.args.bytes.now) (0 ∷ 0xff ∷ [])
+    (escaped behind) c.put-in-Some.new.into.items p refl c.in_ok-put-2.ensures
 
 pub returns-in_err-put-3 : goal.returns-in_err-put-3
 returns-in_err-put-3 c =

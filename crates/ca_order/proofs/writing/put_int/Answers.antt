@@ -21,4 +21,5 @@ returns c =
     let split : int_code n ≡ (c.int_tag.result ∷ []) ++ rest = rw (tag, bytes) parts in
     let whole : IsPut c.args.into.now.items (int_code n) c.args.into.now.items (int_code n) = record { parts = refl } in
     puts_all c.put-2.result c.put.new.into.items rest c.args.into.now.items (int_code n) c.put-2.new.into.items
-    (put_more c.args.into.now.items (int_code n) c.args.into.now.items (int_code n) (c.int_tag.result ∷ []) rest c.put.new.into.items whole split c.in_ok-put.ensures) c.put-2.ensures
+    (put_more c.args.into.now.items (int_code n) c.args.into.now.items (int_code n)
+    (c.int_tag.result ∷ []) rest c.put.new.into.items whole split c.in_ok-put.ensures) c.put-2.ensures

@@ -9,7 +9,8 @@ try_copy-loop-rest-preserved t c =
     let here : Cons c.in-Cons.head.value c.in-Cons.tail.value ≡ c.loop-rest.rest.now = sym (ap tree_of c.in-Cons.is) ∙ c.rest.view_is in
     let kept : IsKept c.push.new.self.items c.in-Cons.tail.value c.args.term.now =
     kept_more c.loop-rest.heads.items c.push.new.self.items c.in-Cons.head.value c.rest.inside.depth c.in-Cons.tail.value c.args.term.now c.loop-rest.rest.now
-    c.loop-rest.invariant.kept here (c.rest.invariant.depth_is ∙ ap depth c.rest.view_is) (rw c.rest.view_is at c.rest.invariant.bounded) (c.in_ok-push.ensures.items ∙ (rw (c.in_ok-head.ensures.ok, c.deref.ensures) refl)) in
+    c.loop-rest.invariant.kept here (c.rest.invariant.depth_is ∙ ap depth c.rest.view_is) (rw c.rest.view_is at c.rest.invariant.bounded)
+    (c.in_ok-push.ensures.items ∙ (rw (c.in_ok-head.ensures.ok, c.deref.ensures) refl)) in
     record { kept = rw c.deref-rest.ensures kept; fewer = omega (arith, ap nodes c.deref-rest.ensures, ap nodes here, c.loop-rest.invariant.fewer) }
 
 pub try_copy-invariant_of-copy : goal.try_copy-invariant_of-copy

@@ -9,12 +9,14 @@ returns-in_err-next c =
 
 pub returns-in_default : goal.returns-in_default
 returns-in_default c =
-    points_closed _ _ _ _ c.loop.counter c.loop.points.items c.loop.rest.now _ c.in_ok-next.after.now c.loop-test.true (rw c.in_default.is at c.in_ok-next.ensures) c.loop.invariant
+    points_closed _ _ _ _ c.loop.counter c.loop.points.items c.loop.rest.now _ c.in_ok-next.after.now c.loop-test.true
+    (rw c.in_default.is at c.in_ok-next.ensures) c.loop.invariant
 
 pub loop-preserved : goal.loop-preserved
 loop-preserved c =
     rw c.in_ok-push.ensures.items
-    (points_go_on _ _ _ _ c.loop.counter c.loop.points.items c.loop.rest.now _ c.in-Some.point c.in_ok-next.after.now c.loop-test.true (rw c.in-Some.is at c.in_ok-next.ensures) c.loop.invariant)
+    (points_go_on _ _ _ _ c.loop.counter c.loop.points.items c.loop.rest.now _ c.in-Some.point c.in_ok-next.after.now c.loop-test.true
+    (rw c.in-Some.is at c.in_ok-next.ensures) c.loop.invariant)
 
 pub returns-in_err-after : goal.returns-in_err-after
 returns-in_err-after c =
@@ -22,4 +24,5 @@ returns-in_err-after c =
     rw (p.1, p.2) (points_end_fail _ _ _ _ c.loop.counter c.loop.points.items c.loop.rest.now _ c.in_err-after.field-0.0 c.loop-test.false c.in_err-after.ensures c.loop.invariant)
 
 pub returns : goal.returns
-returns c = points_end _ _ _ _ c.loop.counter c.loop.points.items c.loop.rest.now _ c.in_ok-after.after.now c.loop-test.false c.in_ok-after.ensures c.loop.invariant
+returns c =
+    points_end _ _ _ _ c.loop.counter c.loop.points.items c.loop.rest.now _ c.in_ok-after.after.now c.loop-test.false c.in_ok-after.ensures c.loop.invariant

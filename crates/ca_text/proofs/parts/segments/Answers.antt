@@ -11,14 +11,17 @@ returns-in_err-part c =
 
 pub returns-then-not-more : goal.returns-then-not-more
 returns-then-not-more c =
-    let e : c.extend_from_slice.new.self.items ≡ c.loop-i.bytes.items ++ c.in_ok-part.part.items = c.in_ok-extend_from_slice.ensures.items ∙ ap (λ (x : List ℕ). c.loop-i.bytes.items ++ x) c.as_slice.ensures.value in
+    let e : c.extend_from_slice.new.self.items ≡ c.loop-i.bytes.items ++ c.in_ok-part.part.items =
+    c.in_ok-extend_from_slice.ensures.items ∙ ap (λ (x : List ℕ). c.loop-i.bytes.items ++ x) c.as_slice.ensures.value in
     rw e (series_closed segment_step (length c.args.text.now) c.loop-i.i c.loop-i.bytes.items c.loop-i.rest.now _ c.in_ok-part.part.items c.in_ok-part.after.now c.loop-i-test.true (rw c.if-not-more.true at c.in_ok-part.ensures) c.loop-i.invariant)
 
 pub loop-i-preserved : goal.loop-i-preserved
 loop-i-preserved c =
-    let e : c.extend_from_slice.new.self.items ≡ c.loop-i.bytes.items ++ c.in_ok-part.part.items = c.in_ok-extend_from_slice.ensures.items ∙ ap (λ (x : List ℕ). c.loop-i.bytes.items ++ x) c.as_slice.ensures.value in
+    let e : c.extend_from_slice.new.self.items ≡ c.loop-i.bytes.items ++ c.in_ok-part.part.items =
+    c.in_ok-extend_from_slice.ensures.items ∙ ap (λ (x : List ℕ). c.loop-i.bytes.items ++ x) c.as_slice.ensures.value in
     rw e (series_goes_on segment_step (length c.args.text.now) c.loop-i.i c.loop-i.bytes.items c.loop-i.rest.now _ c.in_ok-part.part.items c.in_ok-part.after.now c.loop-i-test.true (rw c.if-not-more.false at c.in_ok-part.ensures) c.loop-i.invariant)
 
 pub returns : goal.returns
 returns c =
-    rw c.syntax_at.ensures (series_ends segment_step (length c.args.text.now) c.loop-i.i c.loop-i.bytes.items c.loop-i.rest.now _ c.loop-i-test.false c.loop-i.invariant)
+    rw c.syntax_at.ensures (series_ends segment_step
+    (length c.args.text.now) c.loop-i.i c.loop-i.bytes.items c.loop-i.rest.now _ c.loop-i-test.false c.loop-i.invariant)

@@ -40,7 +40,9 @@ abbrev pub decreases-element_step : goal.decreases-element_step
 decreases-element_step l = 12 * l.levels + 1
 
 abbrev pub invariant-elements-loop-i : goal.invariant-elements-loop-i
-invariant-elements-loop-i l = with_front l.items.items (series_at (element_step (term_at standard l.levels)) (120 - l.i) l.rest) ≡ series_at (element_step (term_at standard l.levels)) 120 l.bytes
+invariant-elements-loop-i l =
+    with_front l.items.items (series_at (element_step (term_at standard l.levels)) (120 - l.i) l.rest) ≡ series_at
+    (element_step (term_at standard l.levels)) 120 l.bytes
 
 abbrev pub invariant-cells-loop : goal.invariant-cells-loop
 invariant-cells-loop l = record {
