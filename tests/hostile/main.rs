@@ -3,6 +3,7 @@
 
 mod definition;
 mod inputs;
+mod large;
 mod library;
 mod machine;
 mod random;
@@ -138,6 +139,11 @@ fn main() {
         eprintln!("hostile SECONDS SEED, or hostile one HEXADECIMAL");
         exit(2);
     };
+    let faults = large::faults();
+    if !faults.is_empty() {
+        println!("DIFFERENCE in a large input: {}", faults.join("; "));
+        exit(1);
+    }
     let (seconds, seed) = (seconds.parse().expect("a number of seconds"), seed.parse().expect("a seed"));
     let counts = run(Duration::from_secs(seconds), seed);
     let Counts { read, syntax, too_long, too_deep, too_wide } = counts;
