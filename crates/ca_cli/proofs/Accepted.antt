@@ -1,5 +1,5 @@
 -- The files of a call, accepted one by one.
-use Rattle.std.proofs.Common.{◌≡◌, ℕ, ◌+◌, ◌-◌, ◌≤◌, List, [], ◌∷◌, ◌++◌, length, map, arith, zero-add, refl, sym, ◌∙◌, ap, None, Some}
+use Rattle.std.proofs.Common.{◌≡◌, ℕ, ◌+◌, ◌-◌, ◌≤◌, List, [], ◌∷◌, ◌++◌, length, map, arith, zero-add, sym, ◌∙◌, ap, None, Some}
 use Rattle.std.proofs.lemmas.List.Sums.{sum_by-append, sum_by-cons}
 use Rattle.std.specs.Prelude.{Option}
 use Rattle.ca_outside.specs.Known.{Tells}
@@ -13,9 +13,6 @@ pub record IsReading (content : List ℕ → Option (List ℕ)) (names : List (L
   pub files : List (List ℕ)
   pub accepted : AreAccepted content names files lines
   pub left : total_length files + room ≡ most_bytes
-
-pub nothing_read : (content : List ℕ → Option (List ℕ)) → IsReading content [] [] most_bytes
-nothing_read content = record { files = []; accepted = record { fetched = tt; limit = omega arith; read = tt }; left = refl }
 
 fetched_more : (content : List ℕ → Option (List ℕ)) (names files : List (List ℕ)) (name file : List ℕ) →
     AreFetched content names files → Tells (content name) file → AreFetched content (names ++ name ∷ []) (files ++ file ∷ [])

@@ -1,11 +1,10 @@
 -- Clients that played one after the other.
-use Rattle.std.proofs.Common.{◌≡◌, ℕ, List, [], ◌∷◌, ◌++◌, map, sym, ◌∙◌, ap, subst}
+use Rattle.std.proofs.Common.{ℕ, List, [], ◌∷◌, ◌++◌, map, sym, ◌∙◌, ap, subst}
 use Rattle.std.proofs.lemmas.List.{map-append}
 use Rattle.ca_term.specs.Tree.{Tree}
 use Rattle.ca_ets.specs.Command.{Command, Answered, Never}
 use Rattle.ca_ets.specs.Explained.{Explained}
 use Rattle.ca_ets.specs.InOrder.{played}
-use Rattle.ca_ets.proofs.Merges.{no_commands_explained}
 use Rattle.ca_ets.proofs.Turns.{explained_more}
 use Rattle.ca_cmd.specs.File.{Numbered, commands_in}
 use Rattle.ca_cli.specs.Headline.{AreReplies, AllAreReplies}
@@ -16,9 +15,6 @@ use Rattle.ca_cli.proofs.Plays.{all_replied}
 pub record ArePlayed (p : ℕ) (lines : List (List Numbered)) (answers : List (List Answered)) (table : List Tree) : Type 0 where
   pub explained : Explained p (map commands_in lines) answers table
   pub unrefused : AllAreReplies answers
-
-pub none_played : (p : ℕ) (table : List Tree) → table ≡ [] → ArePlayed p [] [] table
-none_played p table e = record { explained = no_commands_explained p 0 table e; unrefused = tt }
 
 replies_more : (answers : List (List Answered)) (said : List Answered) → AllAreReplies answers → AreReplies said → AllAreReplies (answers ++ said ∷ [])
 replies_more [] said h u = (u, tt)

@@ -1,7 +1,6 @@
 -- The commands of files are built ones.
-use Rattle.std.proofs.Common.{◌≡◌, ℕ, zero, suc, ◌+◌, true, List, [], ◌∷◌, ◌&&◌, map, arith, refl, ap, ◌∙◌}
+use Rattle.std.proofs.Common.{◌≡◌, ℕ, zero, suc, true, List, [], ◌∷◌, map, arith}
 use Rattle.std.specs.List.{All, list_all}
-use Rattle.ca_ets.specs.Command.{Command, Insert, Lookup}
 use Rattle.ca_ets.specs.Step.{is_built}
 use Rattle.ca_cmd.specs.File.{commands_in}
 use Rattle.ca_cmd.specs.Lines.{numbered}

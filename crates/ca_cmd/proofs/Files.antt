@@ -92,10 +92,7 @@ pub record AreReadLines (file : List ℕ) (lines : List Line) (count : ℕ) (res
   pub whole : lines_of file ≡ before ++ lines_of rest
   pub count_is : count ≡ length before
 
-pub lines_start : (file : List ℕ) → AreReadLines file [] 0 file
-lines_start file = record { before = []; good = refl; whole = refl; count_is = refl }
-
-lines_push : (n : ℕ) (before : List (List ℕ)) (commands : List Numbered) (line : List ℕ) (held : Option Command)
+pub lines_push : (n : ℕ) (before : List (List ℕ)) (commands : List Numbered) (line : List ℕ) (held : Option Command)
     → AreLines n before commands → IsLine line (Ok held) → AreLines n (before ++ line ∷ []) (commands ++ held_at (n + length before) held)
 lines_push n [] commands line held p l =
     let here : n + 0 ≡ n = omega arith in

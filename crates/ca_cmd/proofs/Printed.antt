@@ -52,14 +52,6 @@ no_clients_left : (client : ℕ) (files : List (List Numbered)) → client_lines
 no_clients_left client [] = refl
 no_clients_left client (lines ∷ files) = refl
 
-pub clients_done : (now whole : List ℕ) (client : ℕ) (files : List (List Numbered)) (answers : List (List Answered)) → (files ≡ []) ⊎ (answers ≡ [])
-    → now ++ client_lines client files answers ≡ whole → now ≡ whole
-clients_done now whole client files answers (inl e) w =
-    sym (append-nil now) ∙ subst (λ (z : List (List Numbered)). now ++ client_lines client z answers ≡ whole) e w
-clients_done now whole client files answers (inr e) w =
-    sym (append-nil now) ∙ ap (λ z. now ++ z) (sym (no_clients_left client files))
-    ∙ subst (λ (z : List (List Answered)). now ++ client_lines client files z ≡ whole) e w
-
 pub map_from : {A B : Type 0} (f : A → B) (xs : List A) (i : ℕ) (x : A) → i < length xs → x ≡ get_or xs i x → map f (drop i xs) ≡ f x ∷ map f (drop (i + 1) xs)
 map_from f xs i x h e =
     let next : drop i xs ≡ x ∷ drop (i + 1) xs = rw (add-one, drop-cons xs i x) (ap (λ z. z ∷ drop (suc i) xs) (sym e)) in

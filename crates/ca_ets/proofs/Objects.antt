@@ -1,17 +1,14 @@
 -- Whether a tuple is an object, and its key.
 use Rattle.std.proofs.Common.{◌≡◌, ℕ, zero, suc, ◌≤◌, ◌<◌, ◌-◌, true, false, List, [], ◌∷◌, length, get_or, arith, refl, ◌∙◌}
+use Rattle.ca_term.proofs.Rows.{size_row}
 use Rattle.std.proofs.lemmas.Bool.Decides.{nat_tests}
 use Rattle.std.proofs.lemmas.List.{get_or_default}
-use Rattle.ca_term.specs.Tree.{Tree, Tuple, Nil, row_of, elements, size}
+use Rattle.ca_term.specs.Tree.{Tree, Tuple, Nil, row_of, elements}
 use Rattle.ca_ets.specs.Object.{key_of, is_object}
 
 elements_are : (ts : List Tree) → elements (row_of ts) ≡ ts
 elements_are [] = refl
 elements_are (t ∷ ts) = λ i. t ∷ elements_are ts i
-
-size_is : (ts : List Tree) → size (row_of ts) ≡ length ts
-size_is [] = refl
-size_is (t ∷ ts) = omega (arith, size_is ts)
 
 get_past : (ts : List Tree) (n : ℕ) (d : Tree) → length ts ≤ n → get_or ts n d ≡ d
 get_past [] n d h = refl
@@ -26,7 +23,7 @@ module _ (p : ℕ) (ts : List Tree) (o : Tree) (is : Tuple (row_of ts) ≡ o) wh
   key_is k e h = rw (← is, elements_are ts) (e ∙ get_or_default ts (p - 1) k Nil h)
 
   pub object_is : 1 ≤ p → p - 1 < length ts → is_object p o ≡ true
-  object_is l h = rw (← is, size_is ts) (grind (arith, nat_tests))
+  object_is l h = rw (← is, size_row ts) (grind (arith, nat_tests))
 
   pub object_is_not : 1 ≤ p → length ts ≤ p - 1 → is_object p o ≡ false
-  object_is_not l h = rw (← is, size_is ts) (grind (arith, nat_tests))
+  object_is_not l h = rw (← is, size_row ts) (grind (arith, nat_tests))

@@ -1,12 +1,12 @@
 -- Clients that play one after the other: a further client's commands come behind all turns so far.
-use Rattle.std.proofs.Common.{◌≡◌, ℕ, zero, suc, ◌+◌, ◌<◌, ◌≤◌, ◌==◌, Bool, true, false, List, [], ◌∷◌, ◌++◌, length, map, arith, refl, sym, ◌∙◌, ap, subst, if◌then◌else◌, append-nil}
+use Rattle.std.proofs.Common.{◌≡◌, ℕ, zero, suc, ◌==◌, Bool, true, false, List, [], ◌∷◌, ◌++◌, length, map, arith, refl, sym, ◌∙◌, ap, subst, if◌then◌else◌, append-nil}
 use Rattle.std.proofs.lemmas.Bool.Decides.{nat_tests}
 use Rattle.std.proofs.lemmas.List.{length-map, map-append}
 use Rattle.std.specs.Prelude.{slice_index_or}
 use Rattle.ca_term.specs.Tree.{Tree}
 use Rattle.ca_ets.specs.Command.{Command, Response, Answered, Continuation, Never}
-use Rattle.ca_ets.specs.Step.{Stepped, step}
-use Rattle.ca_ets.specs.Merge.{Run, own, IsMerge, run_from, run_of, changed}
+use Rattle.ca_ets.specs.Step.{step}
+use Rattle.ca_ets.specs.Merge.{own, IsMerge, run_from, run_of, changed}
 use Rattle.ca_ets.specs.InOrder.{Played, played}
 use Rattle.ca_ets.specs.Explained.{Explained, AreAnswered, replied, replied_commands, replies_in}
 use Rattle.ca_ets.proofs.Merges.{own_here, itself, not_first}

@@ -1,5 +1,6 @@
 -- Where escaped texts are stuck.
 use Rattle.std.proofs.Common.{◌≡◌, ℕ, zero, suc, ◌≤◌, ◌<◌, ◌+◌, ◌-◌, true, List, [], ◌∷◌, ◌++◌, length, take, arith, refl, sym, ◌∙◌, ap, subst, append_assoc, append-nil, length-append, ◌⊎◌, inl, inr, ⊎_elim}
+use Rattle.std.proofs.Math.Seq.{take-append_seam}
 use Rattle.std.proofs.str.Laws.{Shape, of1, of2, of3, of4, shape, one, both, scalars-append}
 use lib.Utf8.{scalar, scalar_cases}
 use Rattle.std.proofs.lemmas.Str.{cons_from_encodes, encode_same, chars-encodes}
@@ -203,9 +204,6 @@ pub word_behind : (L M : List ℕ → Type 0) (u bytes behind rest : List ℕ) �
 word_behind L M u bytes behind rest q e w =
     record { word = u ++ w.word; is_word = q.back w.word w.is_word; parts = e ∙ ap (λ x. u ++ x) w.parts ∙ sym (append_assoc u w.word rest) }
 
-pub no_following : (count least most : ℕ) (bytes : List ℕ) → count ≡ 0 → BeginsWithWord (HasFollowing count least most) bytes bytes
-no_following count least most bytes e = record { word = []; is_word = subst (λ (x : ℕ). HasFollowing x least most []) (sym e) refl; parts = refl }
-
 -- a byte that begins no character, or no byte
 pub stuck_char : (bytes : List ℕ) → ((b : ℕ) (more : List ℕ) → bytes ≡ b ∷ more → IsNoLead b) → IsStuck HasChar bytes bytes
 stuck_char bytes n =
@@ -238,10 +236,6 @@ read_more room bytes rest behind c r p h e =
           ∙ ap (λ x. x ++ behind) (sym joined);
     }
 
-take_front : (u v : List ℕ) → take (length u) (u ++ v) ≡ u
-take_front [] v = refl
-take_front (x ∷ u) v = λ i. x ∷ take_front u v i
-
 pub read_end : (room : ℕ) (bytes rest end : List ℕ) → IsRead room bytes rest → rest ≡ 0 ∷ 0 ∷ end
     → BeginsWithText bytes (take (length bytes - length end - 2) bytes) end
 read_end room bytes rest end r e =
@@ -250,7 +244,7 @@ read_end room bytes rest end r e =
     let len : length bytes - length end - 2 ≡ length (opened (encode_utf8_all r.text)) =
     omega (arith, ap length parts, length-append (opened (encode_utf8_all r.text)) (0 ∷ 0 ∷ end)) in
     let body : take (length bytes - length end - 2) bytes ≡ opened (encode_utf8_all r.text) =
-    (λ i. take (len i) (parts i)) ∙ take_front (opened (encode_utf8_all r.text)) (0 ∷ 0 ∷ end) in
+    (λ i. take (len i) (parts i)) ∙ take-append_seam (opened (encode_utf8_all r.text)) (0 ∷ 0 ∷ end) in
     let utf8 : IsUtf8 (encode_utf8_all r.text) = (r.text, (r.are_scalars, refl)) in
     record {
       text = encode_utf8_all r.text;

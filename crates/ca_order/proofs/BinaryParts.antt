@@ -1,5 +1,7 @@
 -- Where escaped bytes are stuck.
 use Rattle.std.proofs.Common.{◌≡◌, ℕ, zero, suc, ◌≤◌, ◌-◌, List, [], ◌∷◌, ◌++◌, length, take, arith, refl, sym, ◌∙◌, ap, subst, append_assoc, append-nil, length-append}
+use Rattle.ca_order.proofs.Turned.{bytes_append, bytes_front}
+use Rattle.std.proofs.Math.Seq.{take-append_seam}
 use Rattle.ca_term.specs.Tree.{AreBytes}
 use Rattle.ca_term.specs.Code.{escaped}
 use Rattle.ca_term.proofs.DigitBytes.{head_byte, tail_bytes, cons_bytes, no_bytes}
@@ -16,10 +18,6 @@ use Rattle.ca_order.specs.declared.fault.ReadFault.{ReadFault}
 use Rattle.ca_term.proofs.Escapes.{same_escaped}
 use Rattle.ca_order.proofs.Starts.{stuck_at_end, stuck_behind, IsPrefixFree}
 use Rattle.ca_order.proofs.Faults.{no_fault}
-
-pub bytes_append : (xs ys : List ℕ) → AreBytes xs → AreBytes ys → AreBytes (xs ++ ys)
-bytes_append [] ys h k = k
-bytes_append (x ∷ xs) ys h k = cons_bytes x (xs ++ ys) (head_byte x xs h) (bytes_append xs ys (tail_bytes x xs h) k)
 
 pub bytes_back : (xs ys : List ℕ) → AreBytes (xs ++ ys) → AreBytes ys
 bytes_back [] ys h = h
@@ -85,22 +83,10 @@ opened_more bytes rest run behind more o h n e f =
     record {
       inside = o.inside ++ (run ++ 0 ∷ []);
       are_bytes = bytes_append o.inside (run ++ 0 ∷ []) o.are_bytes
-          (bytes_append run (0 ∷ []) (front_bytes run (0 ∷ behind) here) (cons_bytes 0 [] (omega arith) no_bytes));
+          (bytes_append run (0 ∷ []) (bytes_front run (0 ∷ behind) here) (cons_bytes 0 [] (omega arith) no_bytes));
       parts = o.parts ∙ ap (λ x. opened o.inside ++ x) (e ∙ ap (λ x. run ++ 0 ∷ x) f ∙ sym zero_more)
           ∙ sym (append_assoc (opened o.inside) (opened (run ++ 0 ∷ [])) more) ∙ ap (λ x. x ++ more) (sym (opened_append o.inside (run ++ 0 ∷ [])));
     }
-  where
-    front_bytes : (xs ys : List ℕ) → AreBytes (xs ++ ys) → AreBytes xs
-    front_bytes [] ys h = no_bytes
-    front_bytes (x ∷ xs) ys h = cons_bytes x xs (head_byte x (xs ++ ys) h) (front_bytes xs ys (tail_bytes x (xs ++ ys) h))
-
-pub front_bytes : (xs ys : List ℕ) → AreBytes (xs ++ ys) → AreBytes xs
-front_bytes [] ys h = no_bytes
-front_bytes (x ∷ xs) ys h = cons_bytes x xs (head_byte x (xs ++ ys) h) (front_bytes xs ys (tail_bytes x (xs ++ ys) h))
-
-pub take_front : (u v : List ℕ) → take (length u) (u ++ v) ≡ u
-take_front [] v = refl
-take_front (x ∷ u) v = λ i. x ∷ take_front u v i
 
 module _ (bytes rest run behind : List ℕ) (o : IsOpened bytes rest) (h : AreBytes bytes) (n : HasNoZero run) (e : rest ≡ run ++ 0 ∷ behind) where
   -- one run more
@@ -113,7 +99,7 @@ module _ (bytes rest run behind : List ℕ) (o : IsOpened bytes rest) (h : AreBy
   run_bytes : AreBytes (o.inside ++ run)
   run_bytes =
       let here : AreBytes (run ++ 0 ∷ behind) = subst AreBytes e (bytes_back (opened o.inside) rest (subst AreBytes o.parts h)) in
-      bytes_append o.inside run o.are_bytes (front_bytes run (0 ∷ behind) here)
+      bytes_append o.inside run o.are_bytes (bytes_front run (0 ∷ behind) here)
 
   pub opened_end : (end : List ℕ) → behind ≡ 0 ∷ end → BeginsWithBytes bytes (take (length bytes - length end - 2) bytes) end
   opened_end end f =
@@ -121,7 +107,7 @@ module _ (bytes rest run behind : List ℕ) (o : IsOpened bytes rest) (h : AreBy
       let len : length bytes - length end - 2 ≡ length (opened (o.inside ++ run)) =
       omega (arith, ap length parts, length-append (opened (o.inside ++ run)) (0 ∷ 0 ∷ end)) in
       let body : take (length bytes - length end - 2) bytes ≡ opened (o.inside ++ run) =
-      (λ i. take (len i) (parts i)) ∙ take_front (opened (o.inside ++ run)) (0 ∷ 0 ∷ end) in
+      (λ i. take (len i) (parts i)) ∙ take-append_seam (opened (o.inside ++ run)) (0 ∷ 0 ∷ end) in
       record { inside = o.inside ++ run; are_bytes = run_bytes; body_is = body; parts = parts ∙ ap (λ x. x ++ 0 ∷ 0 ∷ end) (sym body) }
 
   pub opened_stuck : ((b : ℕ) (more : List ℕ) → behind ≡ b ∷ more → (b ≡ 0 → ⊥) × (b ≡ 0xff → ⊥)) → IsStuck HasBytes bytes behind

@@ -45,8 +45,3 @@ decode_rest code t rest w h =
         → IsTermCode code → ⊥
     no [] h w n c = absurd (omega arith)
     no (b ∷ more) h w n c = n b more more (subst IsTermCode w.parts c)
-
--- a code is no fault's
-pub decode_ok : (code : List ℕ) (t : Tree) (rest : List ℕ) → BeginsWithTerm 192 code t rest → length rest ≡ 0 → code ≡ code_of t
-decode_ok code t [] w e = w.parts ∙ append-nil (code_of t)
-decode_ok code t (x ∷ rest) w e = absurd (omega arith)

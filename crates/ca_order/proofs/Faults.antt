@@ -9,9 +9,6 @@ use Rattle.ca_order.proofs.Starts.{IsPrefixFree, Begins, stuck_behind, stuck_fir
 pub fault_at : (L : List ℕ → Type 0) (bytes behind : List ℕ) (e : ReadFault) → e ≡ Stuck (length behind) → IsStuck L bytes behind → IsReadFault L bytes e
 fault_at L bytes behind e f s = subst (IsReadFault L bytes) (sym f) (behind, refl, s)
 
-pub fault_memory : (L : List ℕ → Type 0) (bytes : List ℕ) (e : ReadFault) → e ≡ NoMemory → IsReadFault L bytes e
-fault_memory L bytes e f = subst (IsReadFault L bytes) (sym f) tt
-
 pub fault_behind : (L M : List ℕ → Type 0) (u bytes : List ℕ) (e : ReadFault) → IsRest L u M → IsReadFault M bytes e → IsReadFault L (u ++ bytes) e
 fault_behind L M u bytes (Stuck left) q f = (f.0, f.1, stuck_behind L M u bytes f.0 q f.2)
 fault_behind L M u bytes NoMemory q f = tt

@@ -1,7 +1,5 @@
 -- What the first byte of a code says, and what may follow it.
-use Rattle.std.proofs.Common.{◌≡◌, ℕ, zero, suc, ◌≤◌, ◌<◌, ◌+◌, ◌-◌, ◌^◌, pos, negsuc, true, false, List, [], ◌∷◌, ◌++◌, length, arith, refl, sym, ◌∙◌, ap, subst}
-use Rattle.std.specs.Prelude.{FitsSigned}
-use Rattle.std.specs.Int.{w64}
+use Rattle.std.proofs.Common.{◌≡◌, ℕ, zero, suc, ◌≤◌, ◌+◌, ◌-◌, pos, negsuc, true, false, List, [], ◌∷◌, ◌++◌, length, arith, refl, sym, ◌∙◌, ap, subst}
 use Rattle.std.specs.Str.{IsUtf8, chars, encode_utf8_all}
 use Rattle.std.proofs.lemmas.Str.{chars-encodes}
 use Rattle.ca_term.specs.Tree.{Tree, Row, Integer, Atom, Tuple, Nil, Cons, Binary, Ends, More, size, depth, row_depth, IsNarrow, IsNarrowRow}
@@ -9,7 +7,7 @@ use Rattle.ca_term.specs.Code.{code_of, row_code, int_code, digits, complement, 
 use Rattle.ca_term.proofs.Codes.{same_code, prefix_free}
 use Rattle.ca_term.proofs.Digits.{digits_shorter}
 use Rattle.ca_term.proofs.DigitBytes.{digits_number, number_word, are_digits}
-use Rattle.ca_term.proofs.Grammar.{deep}
+use Rattle.ca_term.proofs.Grammar.{deep, signed_pos, signed_neg}
 use Rattle.ca_term.proofs.IntCodes.{word}
 use Rattle.ca_term.specs.Grammar.{AreDigits, number}
 use Rattle.ca_order.specs.Languages.{HasTerm, HasRow, HasTuple, HasDigits, HasBytes, HasText}
@@ -26,7 +24,7 @@ pub data Tagged (b : ℕ) (x : List ℕ) : Tree → Type 0 where
   is_cons : (head tail : Tree) → b ≡ 0x70 → x ≡ code_of head ++ code_of tail → Tagged b x (Cons head tail)
   is_binary : (bytes : List ℕ) → b ≡ 0x80 → x ≡ escaped bytes → Tagged b x (Binary bytes)
 
-first_same : (a b : ℕ) (xs ys : List ℕ) → a ∷ xs ≡ b ∷ ys → (a ≡ b) × (xs ≡ ys)
+pub first_same : (a b : ℕ) (xs ys : List ℕ) → a ∷ xs ≡ b ∷ ys → (a ≡ b) × (xs ≡ ys)
 first_same a b xs ys e = (cc, cc)
 
 pub tagged : (t : Tree) (b : ℕ) (x : List ℕ) → b ∷ x ≡ code_of t → Tagged b x t
@@ -117,12 +115,6 @@ code_pos ds len h e = rw (digits_number ds h, ← e) refl
 pub code_neg : (ds : List ℕ) (len : ℕ) → AreDigits ds → length ds ≡ len → (0x1f - len) ∷ complement ds ≡ code_of (Integer (negsuc (number ds)))
 unfolding code_of int_code
 code_neg ds len h e = rw (digits_number ds h, ← e) refl
-
-signed_pos : (n : ℕ) → n < 2 ^ 63 → FitsSigned w64 (pos n)
-signed_pos n h = record { sfits = h }
-
-signed_neg : (n : ℕ) → n < 2 ^ 63 → FitsSigned w64 (negsuc n)
-signed_neg n h = record { sfits = h }
 
 pub pos_rest : (l len : ℕ) → len ≤ 8 → IsRest (HasTerm (suc l)) ((0x20 + len) ∷ []) (HasDigits false len)
 pos_rest l len k = record {

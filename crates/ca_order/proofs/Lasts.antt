@@ -1,7 +1,7 @@
 -- Terms that are no list cells, by their first byte.
 use Rattle.std.proofs.Common.{◌≡◌, ℕ, zero, suc, ◌≤◌, ◌<◌, ◌+◌, ◌-◌, ◌^◌, pos, negsuc, Bool, true, false, List, [], ◌∷◌, ◌++◌, arith, sym, ◌∙◌, ap, subst, ◌-ℤ◌, to_z, of_z}
+use Rattle.ca_term.proofs.Grammar.{signed_pos, signed_neg}
 use Rattle.std.proofs.lemmas.Int.{ints, to_z_pos, to_z-of_z}
-use Rattle.std.specs.Prelude.{FitsSigned}
 use Rattle.std.specs.Int.{w64}
 use Rattle.ca_order.specs.declared.fault.ReadFault.{ReadFault}
 use Rattle.ca_term.specs.Tree.{Tree, Integer, Nil, depth, IsTerm}
@@ -57,12 +57,6 @@ neg_fault levels tag bytes inside e h k m p f =
 
 pub digits_fit : (neg : Bool) (len : ℕ) (bytes : List ℕ) (value : ℕ) (rest : List ℕ) → BeginsWithDigits neg len bytes value rest → value < 2 ^ 63
 digits_fit neg len bytes value rest w = omega (arith, w.value_is, number_word w.digits w.are_digits)
-
-signed_pos : (n : ℕ) → n < 2 ^ 63 → FitsSigned w64 (pos n)
-signed_pos n h = record { sfits = h }
-
-signed_neg : (n : ℕ) → n < 2 ^ 63 → FitsSigned w64 (negsuc n)
-signed_neg n h = record { sfits = h }
 
 pub pos_term : (levels tag : ℕ) (bytes inside : List ℕ) (value : ℕ) (rest : List ℕ) (t : Tree) → 1 ≤ levels → 0x20 ≤ tag → bytes ≡ tag ∷ inside
     → BeginsWithDigits false (tag - 0x20) inside value rest → t ≡ Integer (pos value) → BeginsWithTerm levels bytes t rest

@@ -48,9 +48,6 @@ pub record IsHeads (levels : ℕ) (bytes : List ℕ) (heads : List Tree) (rest :
   pub parts : bytes ≡ heads_code heads ++ rest
   pub shallow : AreShallow (levels - 1) heads
 
-pub heads_none : (levels : ℕ) (bytes : List ℕ) (heads : List Tree) → heads ≡ [] → IsHeads levels bytes heads bytes
-heads_none levels bytes heads e = subst (λ (x : List Tree). IsHeads levels bytes x bytes) (sym e) (record { parts = refl; shallow = tt })
-
 pub heads_more : (levels : ℕ) (bytes : List ℕ) (heads new : List Tree) (rest inside : List ℕ) (h : Tree) (behind : List ℕ) → IsHeads levels bytes heads rest
     → rest ≡ 0x70 ∷ inside → BeginsWithTerm (levels - 1) inside h behind → new ≡ heads ++ h ∷ [] → IsHeads levels bytes new behind
 heads_more levels bytes heads new rest inside h behind p e w f =

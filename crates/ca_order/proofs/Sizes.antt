@@ -9,7 +9,7 @@ use Rattle.ca_order.specs.Languages.{HasSize, HasTuple, HasRow, zero_bytes, most
 use Rattle.ca_order.specs.Reads.{IsReadFault}
 use Rattle.ca_order.proofs.Starts.{IsPrefixFree, Begins, stuck_here}
 use Rattle.ca_order.proofs.Faults.{fault_behind, fault_first, fault_same}
-use Rattle.ca_order.proofs.FirstBytes.{nil_row}
+use Rattle.ca_order.proofs.FirstBytes.{nil_row, first_same}
 
 pub four_small : (n : ℕ) → n ≤ 120 → four_bytes n ≡ 0 ∷ 0 ∷ 0 ∷ n ∷ []
 unfolding four_bytes
@@ -24,20 +24,17 @@ row_nil : [] ≡ row_code Ends
 unfolding row_code
 row_nil = refl
 
-same_one : (a b : ℕ) (xs ys : List ℕ) → a ∷ xs ≡ b ∷ ys → (a ≡ b) × (xs ≡ ys)
-same_one a b xs ys e = (cc, cc)
-
 -- ---- one byte
 
 pub stuck_byte : (most : ℕ) (bytes : List ℕ) → ((b : ℕ) (more : List ℕ) → bytes ≡ b ∷ more → b ≤ most → ⊥) → IsStuck (HasSize 0 most) bytes bytes
 stuck_byte most bytes n =
     stuck_here (HasSize 0 most) bytes 0 [] (record { count = 0; fits = omega arith; code_is = refl })
-    (λ b more rest e w. let f : b ≡ w.count = (same_one b w.count rest [] w.code_is).0 in n b more e (omega (arith, f, w.fits)))
+    (λ b more rest e w. let f : b ≡ w.count = (first_same b w.count rest [] w.code_is).0 in n b more e (omega (arith, f, w.fits)))
 
 byte_prefix_free : (most : ℕ) → IsPrefixFree (HasSize 0 most)
 byte_prefix_free most u rest h k =
     let e : h.count ∷ rest ≡ k.count ∷ [] = ap (λ x. x ++ rest) (sym h.code_is) ∙ k.code_is in
-    (same_one h.count k.count rest [] e).1
+    (first_same h.count k.count rest [] e).1
 
 zero_begins : (z most : ℕ) (x : List ℕ) → HasSize (suc z) most x → Begins (HasSize 0 0) x
 zero_begins z most x h =
@@ -59,7 +56,7 @@ zeros_rest (suc k) z most =
       into = λ x w. q.into x (record {
         count = w.count;
         fits = w.fits;
-        code_is = (same_one 0 0 (zero_bytes k ++ x) (zero_bytes (k + z) ++ w.count ∷ []) w.code_is).1;
+        code_is = (first_same 0 0 (zero_bytes k ++ x) (zero_bytes (k + z) ++ w.count ∷ []) w.code_is).1;
       });
       back = λ x w. let v = q.back x w in record { count = v.count; fits = v.fits; code_is = ap (λ (y : List ℕ). 0 ∷ y) v.code_is };
     })

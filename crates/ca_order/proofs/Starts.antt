@@ -1,5 +1,6 @@
 -- Where bytes are stuck in a word, by the parts of the word.
 use Rattle.std.proofs.Common.{◌≡◌, ℕ, zero, suc, ◌≤◌, ◌<◌, ◌+◌, ◌-◌, List, [], ◌∷◌, ◌++◌, length, take, arith, refl, sym, ◌∙◌, ap, subst, append_assoc, append-nil, length-append, ◌⊎◌, inl, inr, ⊎_elim}
+use Rattle.std.proofs.Math.Seq.{take-append_seam, take-append-add}
 use Rattle.ca_order.specs.Stuck.{IsStuck, IsLongestStart, IsRest}
 
 -- no word is a proper start of another one
@@ -98,16 +99,6 @@ stuck_no_word L bytes behind word rest free w p s =
     past [] e f h = absurd (omega (arith, ap length e, length-append s.done []))
     past (b ∷ z) e f h = s.no_longer b (z ++ rest) z f (subst L e w)
 
-take_front : (u v : List ℕ) → take (length u) (u ++ v) ≡ u
-take_front [] v = refl
-take_front (x ∷ u) v = λ i. x ∷ take_front u v i
-
-take_one_more : (u : List ℕ) (b : ℕ) (v : List ℕ) → take (length u + 1) (u ++ b ∷ v) ≡ u ++ b ∷ []
-take_one_more u b v =
-    let e : take (length (u ++ b ∷ [])) ((u ++ b ∷ []) ++ v) ≡ u ++ b ∷ [] = take_front (u ++ b ∷ []) v in
-    let n : length (u ++ b ∷ []) ≡ length u + 1 = length-append u (b ∷ []) in
-    rw (n, append_assoc u (b ∷ []) v) at e
-
 -- the place where bytes are stuck, as a number
 pub longest_start : (L : List ℕ → Type 0) (bytes done behind rest : List ℕ) → bytes ≡ done ++ behind → L (done ++ rest)
     → ((b : ℕ) (more rest : List ℕ) → behind ≡ b ∷ more → L (done ++ b ∷ rest) → ⊥) → IsLongestStart L bytes (length bytes - length behind)
@@ -116,7 +107,7 @@ longest_start L bytes done behind rest e h k =
     subst (λ (x : ℕ). IsLongestStart L bytes x) (sym n) (record {
       in_range = omega (arith, ap length e, length-append done behind);
       rest = rest;
-      begins = subst (λ (x : List ℕ). L (x ++ rest)) (sym (ap (take (length done)) e ∙ take_front done behind)) h;
+      begins = subst (λ (x : List ℕ). L (x ++ rest)) (sym (ap (take (length done)) e ∙ take-append_seam done behind)) h;
       no_longer = λ lt r. at_next behind e k (omega (arith, lt, ap length e, length-append done behind)) r;
     })
   where
@@ -124,5 +115,5 @@ longest_start L bytes done behind rest e h k =
         → (r : List ℕ) → L (take (length done + 1) bytes ++ r) → ⊥
     at_next [] e k h r w = absurd (omega arith)
     at_next (b ∷ more) e k h r w =
-        let t : take (length done + 1) bytes ≡ done ++ b ∷ [] = ap (take (length done + 1)) e ∙ take_one_more done b more in
+        let t : take (length done + 1) bytes ≡ done ++ b ∷ [] = ap (take (length done + 1)) e ∙ take-append-add done (b ∷ more) 1 in
         k b more r refl (subst L (append_assoc done (b ∷ []) r) (subst (λ (x : List ℕ). L (x ++ r)) t w))

@@ -91,7 +91,7 @@ bytes_zeros : (n : ℕ) → AreBytes (zeros n)
 bytes_zeros zero = no_bytes
 bytes_zeros (suc n) = cons_bytes 0 (zeros n) (omega arith) (bytes_zeros n)
 
-bytes_append : (xs ys : List ℕ) → AreBytes xs → AreBytes ys → AreBytes (xs ++ ys)
+pub bytes_append : (xs ys : List ℕ) → AreBytes xs → AreBytes ys → AreBytes (xs ++ ys)
 bytes_append [] ys h k = k
 bytes_append (x ∷ xs) ys h k = cons_bytes x (xs ++ ys) (head_byte x xs h) (bytes_append xs ys (tail_bytes x xs h) k)
 

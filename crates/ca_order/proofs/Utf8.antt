@@ -1,5 +1,6 @@
 -- The bytes of a character, by its first one.
 use Rattle.std.proofs.Common.{◌≡◌, ℕ, ◌≤◌, ◌<◌, ◌+◌, ◌-◌, ◌*◌, ◌/◌, ◌%◌, List, [], ◌∷◌, length, arith, refl, sym, ◌∙◌, ap, subst, ◌⊎◌, inl, inr, ⊎_elim}
+use Rattle.ca_order.proofs.FirstBytes.{first_same}
 use Rattle.std.proofs.str.Laws.{Scalar, Shape, of1, of2, of3, of4, shape, order, one, two, three, four, Follows}
 use Rattle.std.proofs.str.Digits.{high_scalar}
 use lib.Utf8.{scalar_cases, low_scalar}
@@ -24,19 +25,16 @@ past_two c h = ⊎_elim (λ l. absurd (omega (arith, ap length (two c (past_one 
 past_three : (c : ℕ) → 3 < length (encode_utf8 c) → 65536 ≤ c
 past_three c h = ⊎_elim (λ l. absurd (omega (arith, ap length (three c (past_two c (omega arith)) l)))) (λ l. l) (order c 65536)
 
-same_cons : (a b : ℕ) (xs ys : List ℕ) → a ∷ xs ≡ b ∷ ys → (a ≡ b) × (xs ≡ ys)
-same_cons a b xs ys e = (cc, cc)
-
 split_by : (lead c : ℕ) (x : List ℕ) → Shape c → lead ∷ x ≡ encode_utf8 c → Split lead x c
-split_by lead c x (of1 h e) f = let p = same_cons lead c x [] (f ∙ e) in one_byte h p.0 p.1
+split_by lead c x (of1 h e) f = let p = first_same lead c x [] (f ∙ e) in one_byte h p.0 p.1
 split_by lead c x (of2 a b l u g s e) f =
-    let p = same_cons lead a x (b ∷ []) (f ∙ e) in
+    let p = first_same lead a x (b ∷ []) (f ∙ e) in
     two_bytes b (past_one c (omega (arith, ap length e))) (omega (arith, p.0)) (omega (arith, p.0)) g (rw p.0 s) p.1
 split_by lead c x (of3 a b d l u g h s e) f =
-    let p = same_cons lead a x (b ∷ d ∷ []) (f ∙ e) in
+    let p = first_same lead a x (b ∷ d ∷ []) (f ∙ e) in
     three_bytes b d (past_two c (omega (arith, ap length e))) (omega (arith, p.0)) (omega (arith, p.0)) g h (rw p.0 s) p.1
 split_by lead c x (of4 a b d k l u g h i s e) f =
-    let p = same_cons lead a x (b ∷ d ∷ k ∷ []) (f ∙ e) in
+    let p = first_same lead a x (b ∷ d ∷ k ∷ []) (f ∙ e) in
     four_bytes b d k (past_three c (omega (arith, ap length e))) (omega (arith, p.0)) g h i (rw p.0 s) p.1
 
 split : (lead : ℕ) (x : List ℕ) → (h : HasChar (lead ∷ x)) → Split lead x h.char

@@ -1,12 +1,8 @@
 -- What reads of a file have consumed, against its content.
-use Rattle.std.proofs.Common.{ℕ, ◌<◌, List, [], ◌++◌, length, append_assoc, append-nil, length-append, arith, refl, None, Some}
+use Rattle.std.proofs.Common.{ℕ, ◌<◌, List, ◌++◌, length, append_assoc, append-nil, length-append, arith, refl, None, Some}
 use Rattle.std.specs.Prelude.{Option}
 use Rattle.std.specs.Io.KnownBytes.{Consumes, IsAtEnd}
 use Rattle.ca_outside.specs.Known.{Tells, IsOver}
-
-pub consumes_none : (a : Option (List ℕ)) → Consumes a a []
-consumes_none None = tt
-consumes_none (Some xs) = refl
 
 -- one read after another
 pub consumes_more : (a b c : Option (List ℕ)) (xs ys : List ℕ) → Consumes a b xs → Consumes b c ys → Consumes a c (xs ++ ys)

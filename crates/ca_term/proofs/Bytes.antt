@@ -21,9 +21,6 @@ head_less x y xs ys h = rw (less x y h)
 pub head_greater : (x y : ℕ) (xs ys : List ℕ) → y < x → bytes_cmp (x ∷ xs) (y ∷ ys) ≡ Greater
 head_greater x y xs ys h = rw (greater x y h)
 
-pub head_same : (x : ℕ) (xs ys : List ℕ) → bytes_cmp (x ∷ xs) (x ∷ ys) ≡ bytes_cmp xs ys
-head_same x xs ys = rw (same x)
-
 -- two texts of one length, each with something behind it
 pub seam : (p q xs ys : List ℕ) → length p ≡ length q → bytes_cmp (p ++ xs) (q ++ ys) ≡ ordering_then (bytes_cmp p q) (bytes_cmp xs ys)
 seam [] [] xs ys e = refl

@@ -37,10 +37,10 @@ mutual
       subst (λ (k : ℕ). AreCodesWithin l k (code_of t ++ row_code r)) n
       (OneMore l (size r) (code_of t) (row_code r) (code_within t l (omega arith) h.0) (codes_within r l (omega arith) h.1))
 
-signed_pos : (n : ℕ) → n < 2 ^ 63 → FitsSigned w64 (pos n)
+pub signed_pos : (n : ℕ) → n < 2 ^ 63 → FitsSigned w64 (pos n)
 signed_pos n h = record { sfits = h }
 
-signed_neg : (n : ℕ) → n < 2 ^ 63 → FitsSigned w64 (negsuc n)
+pub signed_neg : (n : ℕ) → n < 2 ^ 63 → FitsSigned w64 (negsuc n)
 signed_neg n h = record { sfits = h }
 
 -- a term of at most so many levels with this code

@@ -7,16 +7,11 @@ use Rattle.ca_term.specs.Order.{term_cmp, row_cmp}
 use Rattle.std.specs.Ordering.{ordering_then, nat_cmp}
 use Rattle.std.proofs.lemmas.List.{drop_all}
 use denote.Param.Weighed.{most}
-use Rattle.ca_term.specs.Tree.{nodes, row_nodes, Tree, IsTerm, IsNarrowRow, AreTerms, Tuple, row_of, row_depth, depth, size}
+use Rattle.ca_term.specs.Tree.{nodes, row_nodes, Tree, IsTerm, IsNarrowRow, AreTerms, Tuple, row_of, row_depth, size}
 
 pub AreTerms_push : (ts : List Tree) (t : Tree) → AreTerms ts → IsTerm t → AreTerms (ts ++ t ∷ [])
 AreTerms_push [] t all one = (one, tt)
 AreTerms_push (u ∷ ts) t all one = (all.0, AreTerms_push ts t all.1 one)
-
--- the depth of what is left, with one item gone
-pub row_depth_drop : (ts : List Tree) (i : ℕ) (t : Tree) → i < length ts
-    → row_depth (row_of (drop i ts)) ≡ max (depth (get_or ts i t)) (row_depth (row_of (drop (i + 1) ts)))
-row_depth_drop ts i t h = rw (add-one, drop-cons ts i t)
 
 pub narrow_row : (ts : List Tree) → AreTerms ts → IsNarrowRow (row_of ts)
 narrow_row [] all = tt

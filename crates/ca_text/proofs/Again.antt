@@ -1,5 +1,6 @@
 -- Blanks, numbers, names and code points that stand at the front are read, whatever follows that doesn't belong to them.
-use Rattle.std.proofs.Common.{◌≡◌, ℕ, ◌+◌, ◌-◌, ◌*◌, ◌^◌, ◌<◌, ◌≤◌, true, false, leb, eqb, ◌||◌, List, [], ◌∷◌, ◌++◌, length, take, drop, Ok, ℤ, pos, refl, ap, arith}
+use Rattle.std.proofs.Common.{◌≡◌, ℕ, ◌+◌, ◌-◌, ◌*◌, ◌^◌, ◌<◌, ◌≤◌, true, false, leb, eqb, ◌||◌, List, [], ◌∷◌, ◌++◌, length, Ok, ℤ, pos, refl, arith}
+use Rattle.std.proofs.Math.Seq.{take-append_seam, drop-append_seam}
 use Rattle.std.proofs.Math.Nat.{mul-le-mul_left}
 use Rattle.std.proofs.lemmas.Bool.{le-leb}
 use Rattle.std.proofs.lemmas.Bool.Decides.{nat_tests}
@@ -79,14 +80,6 @@ name_long [] [] all ends = refl
 name_long [] (b ∷ rest) all ends = rw ends refl
 name_long (c ∷ cs) rest all ends = let t = both (is_name_char c) (list_all is_name_char cs) all in rw t.0 (omega (arith, name_long cs rest t.1 ends))
 
-pub take_front : (xs ys : List ℕ) → take (length xs) (xs ++ ys) ≡ xs
-take_front [] ys = refl
-take_front (x ∷ xs) ys = ap (λ zs. x ∷ zs) (take_front xs ys)
-
-pub drop_front : (xs ys : List ℕ) → drop (length xs) (xs ++ ys) ≡ ys
-drop_front [] ys = refl
-drop_front (x ∷ xs) ys = drop_front xs ys
-
 plain_all : (c : ℕ) (cs : List ℕ) → has_plain_form (c ∷ cs) ≡ true → (is_ascii_lowercase c ≡ true) × (list_all is_name_char (c ∷ cs) ≡ true)
 plain_all c cs h =
     let t = both (is_ascii_lowercase c) (list_all is_name_char cs) h in
@@ -101,4 +94,4 @@ name_again most c cs rest form few whole =
     let p = plain_all c cs form in
     let long = name_long (c ∷ cs) rest p.1 (ends_name c cs rest p.0 whole) in
     let fits : leb (length (c ∷ cs)) most ≡ true = le-leb _ _ few in
-    rw (long, fits, take_front (c ∷ cs) rest, drop_front (c ∷ cs) rest) refl
+    rw (long, fits, take-append_seam (c ∷ cs) rest, drop-append_seam (c ∷ cs) rest) refl

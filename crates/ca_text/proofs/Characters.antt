@@ -125,7 +125,7 @@ first_byte c h =
 begins_parts : (close most b : ℕ) → begins_character close most b ≡ true → (b ≢ close) × (b ≢ 10) × (128 ≤ b → 128 ≤ most)
 begins_parts close most b h = (λ e. grind (arith, nat_tests), λ e. grind (arith, nat_tests), λ e. grind (arith, nat_tests))
 
-scalar_point : (c : ℕ) → IsScalar c → is_point most_point c ≡ true
+pub scalar_point : (c : ℕ) → IsScalar c → is_point most_point c ≡ true
 scalar_point c h = grind (arith, nat_tests)
 
 -- a code point that begins with such a byte

@@ -1,8 +1,9 @@
 -- A text of a term that stands at the front is read, whatever follows that doesn't belong to it.
 use Rattle.std.proofs.Common.{◌≡◌, ℕ, zero, suc, ◌<◌, ◌≤◌, Bool, true, false, eqb, List, [], ◌∷◌, ◌++◌, length, Some, Ok, ℤ, pos, neg_ℤ, refl, sym, ap, ◌∙◌, append_assoc, arith, ◌⊎◌, inl, inr, ⊎_elim, length-append}
+use Rattle.ca_text.proofs.Characters.{scalar_point}
 use Rattle.std.proofs.lemmas.Bool.Decides.{nat_tests}
 use Rattle.std.specs.List.{list_all}
-use Rattle.std.specs.Char.{is_ascii, is_ascii_digit, is_ascii_lowercase, digit_value, IsScalar}
+use Rattle.std.specs.Char.{is_ascii, is_ascii_digit, is_ascii_lowercase, digit_value}
 use Rattle.std.specs.Str.{encode_utf8_all}
 use Rattle.std.specs.Str.Parse.{IsNumeral, digits_value}
 use Rattle.ca_term.specs.Tree.{Tree, Row, Integer, Atom, Tuple, Nil, Cons, Binary, Ends, More, row_of, size, elements}
@@ -17,9 +18,6 @@ use Rattle.ca_text.proofs.PointsAgain.{characters_again, characters_few}
 -- code points of characters are scalar values
 escape_scalar : (letter c : ℕ) → escape_of letter ≡ Some c → is_point most_point c ≡ true
 escape_scalar letter c e = grind (arith, nat_tests)
-
-scalar_point : (c : ℕ) → IsScalar c → is_point most_point c ≡ true
-scalar_point c h = grind (arith, nat_tests)
 
 character_point : (close : ℕ) (text : List ℕ) (c : ℕ) → IsCharacter close text c → is_point most_point c ≡ true
 character_point _ _ _ (Itself close c is h i j) = scalar_point c is

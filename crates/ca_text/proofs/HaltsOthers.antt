@@ -1,26 +1,21 @@
 -- Where the reader of a term halts, the bytes that it took begin a text of a term.
-use Rattle.std.proofs.Common.{◌≡◌, ℕ, zero, suc, ◌≤◌, true, eqb, List, [], ◌∷◌, length, Ok, Err, refl, sym, ap, subst, append-nil, arith, ⊎_elim}
+use Rattle.std.proofs.Common.{◌≡◌, ℕ, zero, suc, true, eqb, List, [], ◌∷◌, length, Ok, Err, refl, sym, ap, subst, append-nil, arith, ⊎_elim}
 use Rattle.std.proofs.lemmas.Bool.{eqb-true}
-use Rattle.std.specs.List.{list_all}
 use Rattle.std.specs.Char.{is_ascii_lowercase}
 use Rattle.std.specs.Str.{encode_utf8_all}
 use Rattle.ca_term.specs.Tree.{Tree, Integer, Atom, Nil, Binary}
 use Rattle.ca_text.specs.Grammar.{Limits, IsInteger, AreCharacters, Closed, Plain, Quoted, points, IsTextOf, AnInteger, AnAtom, NoString, AString, NoBytes}
 use Rattle.ca_text.specs.declared.fault.Fault.{Fault}
 use Rattle.ca_text.specs.declared.fault.Why.TheVariants.{Syntax, AtomTooLong, TooDeep}
-use Rattle.ca_text.specs.Reading.{Read, integer_at, name_at, is_point, most_point, characters_at, string_at, quoted_at, binary_at, begins_character, points_at, atom_at, integer_term_at, other_at, begins_term, too_deep, term_at}
+use Rattle.ca_text.specs.Reading.{Read, integer_at, name_at, most_point, characters_at, string_at, quoted_at, binary_at, begins_character, points_at, atom_at, integer_term_at, other_at, begins_term, too_deep, term_at}
 use Rattle.ca_text.proofs.Tools.{chosen}
 use Rattle.ca_text.proofs.Local.{place, err_is}
 use Rattle.ca_text.proofs.Sound.{ReadsTerms, closed_text, other_taken, term_taken}
 use Rattle.ca_text.proofs.Halts.{GoesOn, Halted, Halts, halted_here, halted_behind, halted_as, halted_at, bind_err}
 use Rattle.ca_text.proofs.HaltsNumbers.{integer_halts, name_halts}
-use Rattle.ca_text.proofs.HaltsCharacters.{characters_halts}
+use Rattle.ca_text.proofs.HaltsCharacters.{AreWithin, characters_halts}
 use Rattle.ca_text.proofs.HaltsBinaries.{binary_halts}
 use Rattle.ca_text.proofs.HaltsTerms.{halted_whole, tuple_halts, bracketed_halts}
-
--- characters between quotes, at most so many
-abbrev AreQuoted : ℕ → ℕ → ℕ → List ℕ → List ℕ → Type 0
-AreQuoted close most n text cs = AreCharacters close text cs × (list_all (is_point most) cs ≡ true) × (length cs ≤ n)
 
 module _ (limits : Limits) (levels : ℕ) where
   abbrev IsOne : List ℕ → Tree → Type 0
@@ -47,7 +42,7 @@ module _ (limits : Limits) (levels : ℕ) where
   quoted_halts : (bytes : List ℕ) (f : Fault) → quoted_at limits.characters bytes ≡ Err f → Halted IsOne (39 ∷ bytes) f
   quoted_halts bytes f e =
       ⊎_elim
-      (λ h. halted_behind (AreQuoted 39 most_point limits.characters) IsOne (39 ∷ []) bytes f
+      (λ h. halted_behind (AreWithin 39 most_point limits.characters) IsOne (39 ∷ []) bytes f
       (characters_halts AtomTooLong 39 most_point limits.characters (omega arith) (λ x. absurd (omega (arith, x))) (omega arith) (λ x. refl) bytes f h)
       (39 ∷ [], Atom [], no_name)
       (λ part cs are. (
@@ -90,7 +85,7 @@ unfolding points_at
 string_halts limits zero bytes f e = flat_string_halts limits bytes f e
 string_halts limits (suc levels) bytes f e =
     ⊎_elim
-    (λ h. halted_behind (AreQuoted 34 most_point (length bytes)) (IsTextOf limits (suc (suc levels))) (34 ∷ []) bytes f
+    (λ h. halted_behind (AreWithin 34 most_point (length bytes)) (IsTextOf limits (suc (suc levels))) (34 ∷ []) bytes f
     (characters_halts Syntax 34 most_point (length bytes) (omega arith) (λ x. absurd (omega (arith, x))) (omega arith) (λ x. refl) bytes f h)
     (34 ∷ [], Nil, NoString limits (suc levels))
     (λ part cs are. (

@@ -175,10 +175,6 @@ module _ {A B : Type 0} (p : List ℕ → Read A) (q : A → List ℕ → Read B
 
 -- ---- a byte, and blanks
 
-expect_same : (c : ℕ) (zs : List ℕ) → eqb c c ≡ true → expect c (c ∷ zs) ≡ Ok zs
-unfolding expect
-expect_same c zs e = rw e refl
-
 module _ {A : Type 0} (d : ℕ) (q : List ℕ → Read A) (behind : IsLocal q) where
   pub expect_local : IsLocal (λ xs. expect d xs >>= q)
   unfolding expect
@@ -189,11 +185,11 @@ module _ {A : Type 0} (d : ℕ) (q : List ℕ → Read A) (behind : IsLocal q) w
       (λ h. fault_local (λ xs. expect d xs >>= q) Syntax b bytes (λ zs. rw h.0 refl))
       (chosen (eqb b d) true false (cond (eqb b d) true false) refl)
 
-module _ {A : Type 0} (q : List ℕ → Read A) (behind : IsLocal q) where
-  empty_front : (front ys : List ℕ) → [] ≡ front ++ ys → ys ≡ []
-  empty_front [] ys e = sym e
-  empty_front (x ∷ front) ys e = absurd cc
+pub empty_front : (front ys : List ℕ) → [] ≡ front ++ ys → ys ≡ []
+empty_front [] ys e = sym e
+empty_front (x ∷ front) ys e = absurd cc
 
+module _ {A : Type 0} (q : List ℕ → Read A) (behind : IsLocal q) where
   same_nil : LocalAt q [] → LocalAt (λ xs. q (skip xs)) []
   unfolding skip
   same_nil l = record {

@@ -1,5 +1,6 @@
 -- The readers of terms look no further than one byte ahead.
 use Rattle.std.proofs.Common.{◌≡◌, ℕ, zero, suc, ◌+◌, ◌<◌, ◌≤◌, Bool, true, false, cond, leb, eqb, List, [], ◌∷◌, ◌++◌, length, take, drop, Option, None, Some, Result, Ok, Err, refl, sym, ap, subst, ◌∙◌, arith, length-append, take-append-drop, length-take-le}
+use Rattle.std.proofs.Math.Seq.{take-append_seam, drop-append_seam}
 use Rattle.std.proofs.lemmas.Bool.{leb-true, leb-false, le-leb}
 use Rattle.std.proofs.lemmas.Bool.Decides.{nat_tests}
 use Rattle.std.specs.List.{list_all}
@@ -16,11 +17,11 @@ use Rattle.ca_text.proofs.Tools.{bind_ok, both, ok_is, pair_is}
 use Rattle.ca_text.proofs.Characters.{next_taken}
 use Rattle.ca_text.proofs.PointsAgain.{character_some}
 use Rattle.ca_text.proofs.Numbers.{skipped, EndsName, names_all, names_end}
-use Rattle.ca_text.proofs.Again.{name_long, take_front, drop_front}
+use Rattle.ca_text.proofs.Again.{name_long}
 use Rattle.ca_text.proofs.Sound.{segment_taken}
 use Rattle.ca_text.proofs.Complete.{segment_begins, text_some}
 use Rattle.ca_text.proofs.Sound.{term_taken}
-use Rattle.ca_text.proofs.Local.{place, LocalAt, IsLocal, nil_local, fault_local, done_local, cons_local, same_local, pure_local, bind_local, expect_local, skip_local, err_is}
+use Rattle.ca_text.proofs.Local.{empty_front, place, LocalAt, IsLocal, nil_local, fault_local, done_local, cons_local, same_local, pure_local, bind_local, expect_local, skip_local, err_is}
 use Rattle.ca_text.proofs.LocalParts.{either_way, number_local, integer_local, characters_local}
 
 -- two ways to part some bytes, with last parts of one length
@@ -104,7 +105,7 @@ name_more (d ∷ cs) c s all h = let t = both (is_name_char d) (list_all is_name
 
 name_of : (most : ℕ) (cs rest : List ℕ) → list_all is_name_char cs ≡ true → EndsName rest → length cs ≤ most → name_at most (cs ++ rest) ≡ Ok (cs, rest)
 unfolding name_at
-name_of most cs rest all ends few = rw (name_long cs rest all ends, le-leb (length cs) most few, take_front cs rest, drop_front cs rest) refl
+name_of most cs rest all ends few = rw (name_long cs rest all ends, le-leb (length cs) most few, take-append_seam cs rest, drop-append_seam cs rest) refl
 
 over : (n most : ℕ) → most < n → leb n most ≡ false
 over n most h = grind (arith, nat_tests)
@@ -114,7 +115,7 @@ name_over : (most : ℕ) (cs : List ℕ) (c : ℕ) (s : List ℕ) → list_all i
 unfolding name_at
 name_over most cs c s all h long =
     let more : leb (name_length (cs ++ c ∷ s)) most ≡ false = over _ most (omega (arith, name_more cs c s all h, long)) in
-    rw (more, ← long, drop_front cs (c ∷ s)) refl
+    rw (more, ← long, drop-append_seam cs (c ∷ s)) refl
 
 abbrev failed_at : Why → List ℕ → Read (List ℕ)
 failed_at why bytes = Err (place why bytes)
@@ -302,17 +303,13 @@ binary_local =
     (skip_local (λ rest. bytes_at rest >>= λ x. Ok (Binary x.0, x.1))
     (bind_local bytes_at (λ bs ys. Ok (Binary bs, ys)) bytes_local (λ bs. pure_local (Binary bs))))
 
-ends_nil : (front ys : List ℕ) → [] ≡ front ++ ys → ys ≡ []
-ends_nil [] ys e = sym e
-ends_nil (x ∷ front) ys e = absurd cc
-
 -- two readers that answer alike where there are no bytes
 alike : {A : Type 0} (p q : List ℕ → Read A) → p [] ≡ q [] → LocalAt q [] → LocalAt p []
 alike p q e l = record {
   taken = λ a ys h. let t = l.taken a ys (sym e ∙ h) in
-      record { front = t.front; whole = t.whole; again = λ c r s y. let none = ends_nil t.front ys t.whole in absurd cc };
+      record { front = t.front; whole = t.whole; again = λ c r s y. let none = empty_front t.front ys t.whole in absurd cc };
   stuck = λ f h. let t = l.stuck f (sym e ∙ h) in
-      record { front = t.front; behind = t.behind; whole = t.whole; is = t.is; again = λ c r s y. let none = ends_nil t.front t.behind t.whole in absurd cc };
+      record { front = t.front; behind = t.behind; whole = t.whole; is = t.is; again = λ c r s y. let none = empty_front t.front t.behind t.whole in absurd cc };
 }
 
 -- ---- tuples and lists

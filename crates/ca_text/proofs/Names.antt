@@ -1,21 +1,13 @@
 -- What is read as a name has the characters of one.
-use Rattle.std.proofs.Common.{◌≡◌, ℕ, zero, suc, true, false, cond, leb, List, [], ◌∷◌, take, drop, Ok, refl, arith, ⊎_elim}
+use Rattle.std.proofs.Common.{◌≡◌, ℕ, zero, suc, true, leb, List, [], ◌∷◌, take, drop, Ok, arith}
+use Rattle.ca_text.proofs.Numbers.{names_all}
 use Rattle.std.proofs.lemmas.Bool.Decides.{nat_tests}
 use Rattle.std.proofs.lemmas.Str.{IsUtf8-from_ascii}
 use Rattle.std.specs.List.{list_all}
 use Rattle.std.specs.Str.{IsUtf8, IsAscii}
 use Rattle.ca_text.specs.Text.{is_name_char}
 use Rattle.ca_text.specs.Reading.{name_length, name_at}
-use Rattle.ca_text.proofs.Tools.{chosen, guarded, both, pair_is}
-
-pub names_front : (bytes : List ℕ) → list_all is_name_char (take (name_length bytes) bytes) ≡ true
-unfolding name_length
-names_front [] = refl
-names_front (b ∷ bytes) =
-    ⊎_elim
-    (λ h. rw (h.0, h.0, names_front bytes) refl)
-    (λ h. rw h.0 refl)
-    (chosen (is_name_char b) true false (cond (is_name_char b) true false) refl)
+use Rattle.ca_text.proofs.Tools.{guarded, both, pair_is}
 
 pub name_ascii : (name : List ℕ) → list_all is_name_char name ≡ true → IsAscii name
 name_ascii [] h i = omega arith
@@ -27,4 +19,4 @@ unfolding name_at
 name_utf8 most bytes name rest e =
     let g = guarded (leb (name_length bytes) most) _ (Ok (take (name_length bytes) bytes, drop (name_length bytes) bytes)) (name, rest) e in
     let p = pair_is _ _ _ _ g.1 in
-    rw (← p.0) (IsUtf8-from_ascii _ (name_ascii _ (names_front bytes)))
+    rw (← p.0) (IsUtf8-from_ascii _ (name_ascii _ (names_all bytes)))

@@ -39,9 +39,6 @@ EndsName (b ∷ bytes) = is_name_char b ≡ false
 digit_worth : (b : ℕ) → is_ascii_digit b ≡ true → (digit_value b ≡ b - 48) × (digit_value b < 10)
 digit_worth b h = (grind (arith, nat_tests), grind (arith, nat_tests))
 
-digit_is : (b : ℕ) → digit_value b < 10 → is_ascii_digit b ≡ true
-digit_is b h = grind (arith, nat_tests)
-
 -- digits stand at the front, behind others worth n
 pub record AreDigitsAt (most n : ℕ) (bytes : List ℕ) (value : ℕ) (rest : List ℕ) : Type 0 where
   pub digits : List ℕ

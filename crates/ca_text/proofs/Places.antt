@@ -1,5 +1,6 @@
 -- The place of a fault: the bytes before it begin a text, and with the byte there they begin none.
-use Rattle.std.proofs.Common.{◌≡◌, ℕ, zero, suc, ◌+◌, ◌-◌, ◌<◌, ◌≤◌, List, [], ◌∷◌, ◌++◌, leb, length, take, drop, Ok, Err, pos, refl, sym, ap, subst, ◌∙◌, arith, ⊎_elim, append_assoc, append-nil, length-append, add-one, take-append-drop}
+use Rattle.std.proofs.Common.{◌≡◌, ℕ, zero, suc, ◌+◌, ◌-◌, ◌<◌, ◌≤◌, List, [], ◌∷◌, ◌++◌, leb, length, take, drop, Ok, Err, pos, refl, sym, ap, subst, ◌∙◌, arith, ⊎_elim, append_assoc, append-nil, length-append, take-append-drop}
+use Rattle.std.proofs.Math.Seq.{take-append-add}
 use Rattle.std.proofs.lemmas.Bool.{leb-true, leb-false}
 use Rattle.std.proofs.lemmas.List.{take-append-le}
 use Rattle.ca_term.specs.Tree.{Integer}
@@ -17,13 +18,6 @@ use Rattle.ca_text.proofs.Complete.{term_again}
 use Rattle.ca_text.proofs.Halts.{GoesOn}
 use Rattle.ca_text.proofs.HaltsTerms.{zero_text}
 use Rattle.ca_text.proofs.HaltsOthers.{term_halts}
-
-take_next : (front : List ℕ) (c : ℕ) (behind : List ℕ) → take (suc (length front)) (front ++ c ∷ behind) ≡ front ++ c ∷ []
-take_next [] c behind = refl
-take_next (b ∷ front) c behind = ap (λ x. b ∷ x) (take_next front c behind)
-
-take_past : (front : List ℕ) (c : ℕ) (behind : List ℕ) → take (length front + 1) (front ++ c ∷ behind) ≡ front ++ c ∷ []
-take_past front c behind = ap (λ n. take n (front ++ c ∷ behind)) (add-one (length front)) ∙ take_next front c behind
 
 take_take : (k n : ℕ) (bytes : List ℕ) → k ≤ n → take k (take n bytes) ≡ take k bytes
 take_take zero n bytes h = refl
@@ -51,7 +45,7 @@ module _ (limits : Limits) (levels : ℕ) where
   ends_by bytes front [] f whole some again b = absurd (omega arith)
   ends_by bytes front (c ∷ behind) f whole some again b =
       let cut : take (length front + 1) bytes ++ b.0 ≡ front ++ c ∷ b.0 =
-      ap (λ x. take (length front + 1) x ++ b.0) whole ∙ ap (λ x. x ++ b.0) (take_past front c behind) ∙ append_assoc front (c ∷ []) b.0 in
+      ap (λ x. take (length front + 1) x ++ b.0) whole ∙ ap (λ x. x ++ b.0) (take-append-add front (c ∷ behind) 1) ∙ append_assoc front (c ∷ []) b.0 in
       let text : IsTextOf limits levels (front ++ c ∷ b.0) b.1 = subst (λ x. IsTextOf limits levels x b.1) cut b.2 in
       let read : term_at limits levels (front ++ c ∷ b.0) ≡ Ok (b.1, []) =
       ap (term_at limits levels) (sym (append-nil (front ++ c ∷ b.0))) ∙ term_again limits levels (front ++ c ∷ b.0) b.1 [] text tt in

@@ -1,5 +1,6 @@
 -- What is read at the front of some bytes, by number of bytes.
 use Rattle.std.proofs.Common.{◌≡◌, ℕ, zero, suc, ◌+◌, ◌-◌, ◌<◌, ◌≤◌, List, [], ◌∷◌, ◌++◌, length, take, drop, Ok, refl, sym, ap, subst, ◌∙◌, arith, take-append-drop, length-append, length-take-le, length-drop, take-add, append-nil}
+use Rattle.std.proofs.Math.Seq.{take-append_seam, drop-append_seam}
 use Rattle.ca_term.specs.Tree.{Tree, IsTerm, depth}
 use Rattle.ca_text.specs.Text.{text_of}
 use Rattle.ca_text.proofs.Printed.{printed_is}
@@ -13,20 +14,12 @@ use Rattle.ca_text.proofs.Tools.{pair_is}
 use Rattle.ca_text.proofs.Sound.{term_taken}
 use Rattle.ca_text.proofs.Complete.{term_again}
 
-take_front : (xs ys : List ℕ) → take (length xs) (xs ++ ys) ≡ xs
-take_front [] ys = refl
-take_front (x ∷ xs) ys = ap (λ zs. x ∷ zs) (take_front xs ys)
-
-drop_front : (xs ys : List ℕ) → drop (length xs) (xs ++ ys) ≡ ys
-drop_front [] ys = refl
-drop_front (x ∷ xs) ys = drop_front xs ys
-
 pub read_of : (text rest : List ℕ) (t : Tree) → IsText text t → IsWhole text rest → IsRead (text ++ rest) t (length text)
 read_of text rest t is whole = record {
   within = omega (arith, length-append text rest);
-  text = subst (λ x. IsText x t) (sym (take_front text rest)) is;
-  whole = subst (λ x. IsWhole x (drop (length text) (text ++ rest))) (sym (take_front text rest))
-      (subst (λ x. IsWhole text x) (sym (drop_front text rest)) whole);
+  text = subst (λ x. IsText x t) (sym (take-append_seam text rest)) is;
+  whole = subst (λ x. IsWhole x (drop (length text) (text ++ rest))) (sym (take-append_seam text rest))
+      (subst (λ x. IsWhole text x) (sym (drop-append_seam text rest)) whole);
 }
 
 pub read_is : (bytes : List ℕ) (t : Tree) (rest : List ℕ) → term_at standard 64 bytes ≡ Ok (t, rest)

@@ -1,5 +1,5 @@
 -- Why no term is read: one fault, within the bytes, and none where a term is read.
-use Rattle.std.proofs.Common.{◌≡◌, ◌⊎◌, inl, inr, ⊎_elim, ℕ, suc, ◌-◌, ◌≤◌, true, List, length, Ok, Err, refl, sym, ap, subst, ◌∙◌}
+use Rattle.std.proofs.Common.{◌≡◌, ◌⊎◌, inl, inr, ⊎_elim, ℕ, suc, ◌-◌, true, List, length, Ok, Err, refl, sym, ap, subst, ◌∙◌}
 use Rattle.ca_term.specs.Tree.{Tree}
 use Rattle.ca_text.specs.Front.{GoesOnAt, IsLongestStart, IsKind, IsNotRead, fault_place}
 use Rattle.ca_text.specs.Grammar.{standard, IsRead}
@@ -117,6 +117,3 @@ fault_known bytes s e h p = ⊎_elim (λ none. inr none) (λ q. inl (fault_sure 
 
 pub read_or_not : (bytes : List ℕ) (t : Tree) (n : ℕ) (e : TextFault) → IsRead bytes t n → IsNotRead bytes e → ⊥
 read_or_not bytes t n e p q = q.unread t n p
-
-pub fault_within : (bytes : List ℕ) (e : TextFault) → IsNotRead bytes e → fault_place e ≤ length bytes
-fault_within bytes e p = p.place.within

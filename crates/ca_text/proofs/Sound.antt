@@ -1,11 +1,12 @@
 -- What is read as a term is a text of it.
 use Rattle.std.proofs.Common.{◌≡◌, ℕ, zero, suc, ◌<◌, ◌≤◌, Bool, true, false, leb, eqb, List, [], ◌∷◌, ◌++◌, length, Ok, refl, sym, ap, subst, ◌∙◌, append_assoc, arith, ◌⊎◌, inl, inr, ⊎_elim}
+use Rattle.ca_term.proofs.Rows.{size_row}
 use Rattle.std.proofs.lemmas.Bool.{leb-true, eqb-true}
 use Rattle.std.proofs.lemmas.Bool.Decides.{nat_tests}
 use Rattle.std.specs.List.{list_all}
 use Rattle.std.specs.Char.{is_ascii, is_ascii_lowercase}
 use Rattle.std.specs.Str.{encode_utf8_all}
-use Rattle.ca_term.specs.Tree.{Tree, Integer, Atom, Tuple, Nil, Cons, Binary, row_of, size}
+use Rattle.ca_term.specs.Tree.{Tree, Integer, Atom, Tuple, Nil, Cons, Binary, row_of}
 use Rattle.ca_text.specs.Grammar.{Limits, AreBlanks, AreCharacters, Closed, OneMore, Plain, Quoted, IsSegment, OneByte, Shown, AreSegments, LastSegment, MoreSegments, points, IsTextOf, AnInteger, AnAtom, NoElements, ATuple, ANil, AList, NoString, AString, NoBytes, ABinary, AreElements, LastElement, MoreElements, AreCells, LastCell, MoreCells, LastTail, IsWhole, skip}
 use Rattle.ca_text.specs.Reading.{◌>>=◌, Read, expect, number_at, integer_at, name_at, is_point, most_point, most_shown, characters_at, string_at, quoted_at, one_byte_at, segment_at, after_segment_at, segment_step, series_at, series_rest, bytes_at, after_element_at, element_step, elements_at, Next, Head, Inner, Last, closed, inner_at, tail_at, next_at, cells_after, cell_step, cells_at, list_at, points_at, tuple_at, binary_at, atom_at, integer_term_at, other_at, bracketed, too_deep, begins_term, begins_character, term_at}
 use Rattle.ca_text.proofs.Tools.{bind_ok, chosen, guarded, spared, both, neither, ok_is, pair_is}
@@ -277,10 +278,6 @@ module _ (limits : Limits) (levels : ℕ) (element : List ℕ → Read Tree) (so
   series_taken (suc n) bytes ts rest e =
       let s = bind_ok (element_step element n bytes) (λ x. series_rest x.0.0 (series_at (element_step element) n) x.0.1 x.1) (ts, rest) e in
       elements_more n bytes ts rest s.0.0.0 s.0.0.1 s.0.1 (series_taken n) s.1 s.2
-
-  size_row : (ts : List Tree) → size (row_of ts) ≡ length ts
-  size_row [] = refl
-  size_row (t ∷ ts) = omega (arith, size_row ts)
 
   elements_from : (bytes : List ℕ) (ts : List Tree) (rest blanks inner : List ℕ) → bytes ≡ blanks ++ inner → AreBlanks blanks
       → elements_at element limits.elements inner ≡ Ok (ts, rest)
