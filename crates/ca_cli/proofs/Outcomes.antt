@@ -1,15 +1,10 @@
 -- What a call of the program comes to.
-use Rattle.std.proofs.Common.{◌≡◌, ℕ, ◌<◌, ◌⊎◌, List, [], length, refl, inr, take}
+use Rattle.std.proofs.Common.{ℕ, ◌<◌, List, length, refl, inr, take}
 use Rattle.ca_outside.specs.Known.{HasRisen, Grows}
 use Rattle.ca_cli.specs.Outcome.{Call, IsOutcome}
-use Rattle.ca_cli.specs.StatusText.{text_of_status}
 use Rattle.ca_cli.specs.Written.{Output, HasRun}
 use Rattle.ca_cli.specs.declared.status.Status.{Status}
-use Rattle.ca_cli.specs.declared.status.Status.TheVariants.{SinkFault, NoMemory}
-
--- a status with its text, or want of memory
-abbrev pub IsTold : Status → Status → List ℕ → Type 0
-IsTold status given bytes = ((given ≡ status) × (bytes ≡ text_of_status status)) ⊎ ((given ≡ NoMemory) × (bytes ≡ []))
+use Rattle.ca_cli.specs.declared.status.Status.TheVariants.{SinkFault}
 
 -- the sink failed after a part of the bytes
 pub cut_off : (call : Call) (output : Output) (status : Status) (bytes : List ℕ) → IsOutcome call status bytes → (n : ℕ) → n < length bytes

@@ -48,10 +48,6 @@ clients_more was now whole client lines own files files' answers answers' p q w 
     simp append_assoc in
     rw n (regrouped ∙ both)
 
-no_clients_left : (client : ℕ) (files : List (List Numbered)) → client_lines client files [] ≡ []
-no_clients_left client [] = refl
-no_clients_left client (lines ∷ files) = refl
-
 pub map_from : {A B : Type 0} (f : A → B) (xs : List A) (i : ℕ) (x : A) → i < length xs → x ≡ get_or xs i x → map f (drop i xs) ≡ f x ∷ map f (drop (i + 1) xs)
 map_from f xs i x h e =
     let next : drop i xs ≡ x ∷ drop (i + 1) xs = rw (add-one, drop-cons xs i x) (ap (λ z. z ∷ drop (suc i) xs) (sym e)) in
