@@ -2,7 +2,7 @@
 use Rattle.std.proofs.Common.{◌≡◌, ℕ, true, false, List, Result}
 use Rattle.ca_term.specs.Tree.{Tree}
 use Rattle.ca_ets.specs.Command.{Continuation, Error, Truth}
-use Rattle.ca_ets.specs.Object.{is_object, fits, key_of}
+use Rattle.ca_term.specs.Object.{is_object, fits, key_of}
 use Rattle.ca_ets.specs.OrderedMap.{IsTable}
 use Rattle.ca_ets.specs.Place.{IsPlace, placed}
 use Rattle.ca_ets.specs.Step.{inserted, unchanged}

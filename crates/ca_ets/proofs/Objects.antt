@@ -4,7 +4,7 @@ use Rattle.ca_term.proofs.Rows.{size_row}
 use Rattle.std.proofs.lemmas.Bool.Decides.{nat_tests}
 use Rattle.std.proofs.lemmas.List.{get_or_default}
 use Rattle.ca_term.specs.Tree.{Tree, Tuple, Nil, row_of, elements}
-use Rattle.ca_ets.specs.Object.{key_of, is_object}
+use Rattle.ca_term.specs.Object.{key_of, is_object}
 
 elements_are : (ts : List Tree) → elements (row_of ts) ≡ ts
 elements_are [] = refl

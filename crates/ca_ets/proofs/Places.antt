@@ -9,7 +9,7 @@ use Rattle.std.specs.Ordering.{is_lt, ordering_reverse, ordering_index}
 use Rattle.ca_term.specs.Tree.{Tree, Nil}
 use Rattle.ca_term.specs.Order.{term_cmp}
 use Rattle.ca_term.proofs.TotalOrder.{tree_flip, term_cmp_total}
-use Rattle.ca_ets.specs.Object.{key_of}
+use Rattle.ca_term.specs.Object.{key_of}
 use Rattle.ca_ets.specs.OrderedMap.{below, get, above, put, AreAbove, IsTable}
 use Rattle.ca_ets.specs.Place.{IsAt, IsBefore, IsPlace, placed}
 

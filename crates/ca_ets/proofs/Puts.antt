@@ -7,7 +7,7 @@ use Rattle.std.specs.Ordering.{is_lt, is_gt, ordering_reverse}
 use Rattle.ca_term.specs.Tree.{Tree}
 use Rattle.ca_term.specs.Order.{term_cmp}
 use Rattle.ca_term.proofs.TotalOrder.{tree_flip, tree_chain}
-use Rattle.ca_ets.specs.Object.{key_of, is_object, fits}
+use Rattle.ca_term.specs.Object.{key_of, is_object, fits}
 use Rattle.ca_ets.specs.OrderedMap.{below, above, put, IsEntry, AreAbove, IsTable}
 use Rattle.ca_ets.specs.Command.{Command, Insert, Lookup, Continuation}
 use Rattle.ca_ets.specs.Step.{step, inserted, looked_up}

@@ -3,7 +3,6 @@ pub mod Explained
 pub mod InOrder
 pub mod ListTableView
 pub mod Merge
-pub mod Object
 pub mod OrderedMap
 pub mod Place
 pub mod Step

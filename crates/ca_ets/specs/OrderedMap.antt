@@ -5,7 +5,7 @@ use Rattle.std.specs.declared.cmp.Ordering.TheVariants.{Less}
 use Rattle.std.specs.Ordering.{is_lt, is_le, is_eq, is_gt}
 use Rattle.ca_term.specs.Tree.{Tree}
 use Rattle.ca_term.specs.Order.{term_cmp}
-use Rattle.ca_ets.specs.Object.{key_of, is_object, fits}
+use Rattle.ca_term.specs.Object.{key_of, is_object, fits}
 
 -- the objects whose key is k: none or one
 abbrev pub get : ℕ → List Tree → Tree → List Tree

@@ -2,7 +2,7 @@
 -- Source: the ets manual's text on each call; the order of the checks and the error `size` are this project's own.
 use Rattle.std.specs.Prelude.{ℕ, Bool, true, false, List, if◌then◌else◌}
 use Rattle.ca_term.specs.Tree.{Tree}
-use Rattle.ca_ets.specs.Object.{is_object, fits}
+use Rattle.ca_term.specs.Object.{is_object, fits}
 use Rattle.ca_ets.specs.OrderedMap.{put, get}
 use Rattle.ca_ets.specs.Command.{Command, Insert, Lookup, Response, Truth, Items, Error, Continuation}
 use Rattle.ca_ets.specs.declared.command.Fault.TheVariants.{BadArg, Size}

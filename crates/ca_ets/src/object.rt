@@ -2,7 +2,7 @@
 ghost use Rattle.std.specs.Prelude.{◌≡◌, ◌≤◌, IfOk, IsNone, IfSome, is_some};
 ghost use Rattle.ca_term.specs.Order.{term_cmp};
 ghost use Rattle.ca_term.specs.Tree.{Nil};
-ghost use Rattle.ca_ets.specs.Object.{is_object, key_of, fits};
+ghost use Rattle.ca_term.specs.Object.{is_object, key_of, fits};
 
 use ca_term::{Kind, Term, code_length, nil, term_order, try_copy};
 use std::alloc::{AllocError, Global};

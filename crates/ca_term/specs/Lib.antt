@@ -4,6 +4,7 @@ pub mod CodeLaws
 pub mod Falls
 pub mod Grammar
 pub mod Kind
+pub mod Object
 pub mod Order
 pub mod Stored
 pub mod TermList

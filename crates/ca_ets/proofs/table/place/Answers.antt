@@ -1,7 +1,7 @@
 use Rattle.std.proofs.Common.{rules}
 use Rattle.std.proofs.lemmas.Fn.{always_returns_same}
 use Rattle.ca_term.specs.Order.{term_cmp}
-use Rattle.ca_ets.specs.Object.{key_of}
+use Rattle.ca_term.specs.Object.{key_of}
 use Rattle.ca_ets.proofs.Places.{searched}
 use Rattle.ca_ets.proofs.table.place.Goals as goal
 
