@@ -3,6 +3,7 @@
 use Rattle.std.specs.Prelude.{ℕ, Bool, false, nat_le, ◌-◌, length, slice_index_or}
 use Rattle.ca_term.specs.Tree.{Tree, Integer, Atom, Tuple, Nil, Cons, Binary, elements, size}
 use Rattle.ca_term.specs.Code.{code_of}
+use Rattle.ca_term.specs.declared.bounds.TheConstants.{MOST_CODE_BYTES}
 
 -- a tuple with at least `keypos` elements
 abbrev pub is_object : ℕ → Tree → Bool
@@ -22,6 +23,6 @@ key_of keypos Nil = Nil
 key_of keypos (Cons head tail) = Nil
 key_of keypos (Binary bytes) = Nil
 
--- An object or a key fits where its byte code has at most 1,000 bytes.
+-- An object or a key fits where its byte code has no more bytes than it may have.
 abbrev pub fits : Tree → Bool
-fits t = nat_le (length (code_of t)) 1000
+fits t = nat_le (length (code_of t)) MOST_CODE_BYTES

@@ -1,6 +1,7 @@
 //! Terms of Erlang in this project's profile: 64-bit integers, atoms, tuples, lists and binaries, with their order.
 #![tactic(auto)]
 
+mod bounds;
 mod build;
 mod code;
 mod copy;
@@ -10,6 +11,7 @@ mod order;
 mod term;
 mod terms;
 
+pub use bounds::{MOST_CODE_BYTES, MOST_CODE_POINTS, MOST_DEPTH, MOST_ELEMENTS};
 pub use build::{atom, bin, cons, int, nil, tuple};
 pub use code::code_laws;
 pub use copy::try_copy;
