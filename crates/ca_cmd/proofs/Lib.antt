@@ -2,7 +2,6 @@ pub mod Built
 mod Cuts
 mod CutLines
 mod Files
-pub mod Printed
 mod Same
 mod TermTexts
 mod Words

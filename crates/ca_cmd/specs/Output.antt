@@ -38,26 +38,37 @@ text_of_answer Full = codes "refused full"
 text_of_answer Deep = codes "refused deep"
 text_of_answer Worn = codes "refused worn"
 
--- for each command its line's number and its answer
+-- the line of an answer: the number of its command's line, and its text
+abbrev pub answer_line : ℕ → Answered → List ℕ
+answer_line number answer = decimal number ++ codes " " ++ text_of_answer answer ++ codes "\n"
+
+-- a line for each command
 abbrev pub answer_lines : List Numbered → List Answered → List ℕ
 answer_lines [] answers = []
 answer_lines (l ∷ lines) [] = []
-answer_lines (l ∷ lines) (a ∷ answers) = decimal l.number ++ codes " " ++ text_of_answer a ++ codes "\n" ++ answer_lines lines answers
+answer_lines (l ∷ lines) (a ∷ answers) = answer_line l.number a ++ answer_lines lines answers
+
+-- what a client's answers begin with
+abbrev pub client_line : ℕ → List ℕ
+client_line client = codes "client " ++ decimal client ++ codes "\n"
 
 -- the clients' answers, from the client of this number on
 abbrev pub client_lines : ℕ → List (List Numbered) → List (List Answered) → List ℕ
 client_lines client [] answers = []
 client_lines client (lines ∷ files) [] = []
-client_lines client (lines ∷ files) (said ∷ answers) =
-    codes "client " ++ decimal client ++ codes "\n" ++ answer_lines lines said ++ client_lines (client + 1) files answers
+client_lines client (lines ∷ files) (own ∷ answers) = client_line client ++ answer_lines lines own ++ client_lines (client + 1) files answers
 
 -- an object of the table
 abbrev pub object_line : Tree → List ℕ
 object_line o = text_of o ++ codes ".\n"
 
--- the table's objects in key order, and how many they are
+-- the last line: how many objects there are
+abbrev pub end_line : ℕ → List ℕ
+end_line count = codes "end " ++ decimal count ++ codes "\n"
+
+-- the table's objects in key order
 abbrev pub table_text : List Tree → List ℕ
-table_text table = codes "table\n" ++ flat_map object_line table ++ codes "end " ++ decimal (length table) ++ codes "\n"
+table_text table = codes "table\n" ++ flat_map object_line table ++ end_line (length table)
 
 -- the whole output: each client's answers, and the table
 abbrev pub text_of_run : List (List Numbered) → List (List Answered) → List Tree → List ℕ

@@ -33,7 +33,7 @@ pub fn show_reply(answer: &Answer, into: &mut Vec<u8>) -> Result<(), AllocError>
     outcome
 }
 
-fn put_answer(answer: &Answer, into: &mut Vec<u8>) -> Result<(), AllocError>
+pub(crate) fn put_answer(answer: &Answer, into: &mut Vec<u8>) -> Result<(), AllocError>
     ensures ok { OnOk result (into.new.items ≡ into.old.items ++ text_of_answer (answered answer.now)) }
     ensures front { BeginsWith into.new.items into.old.items }
 {

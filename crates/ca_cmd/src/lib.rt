@@ -16,7 +16,7 @@ pub use answer::{Answer, show_reply};
 pub use fault::{FileFault, LineWhy};
 pub use laws::file_laws;
 pub use line::{Line, Lines};
-pub use output::show_run;
+pub use output::{show_answer, show_client, show_table};
 pub use reading::read_file;
 
 #[cfg(test)]

@@ -1,79 +1,105 @@
-//! The output of a run as text.
-ghost use Rattle.std.specs.Prelude.{◌≡◌, ◌+◌, ◌<◌, ◌^◌, ◌++◌, map, flat_map, length, IfOk, OnOk};
-ghost use Rattle.ca_cmd.specs.Answers.{said};
-ghost use Rattle.ca_cmd.specs.Lines.{numbered};
-ghost use Rattle.ca_cmd.specs.Output.{answer_lines, client_lines, object_line, table_text, text_of_run};
+//! The output of a run as text, piece by piece: an answer is text as soon as it was given, and its terms can go.
+//! Where memory lacks, the bytes are as before.
+ghost use Rattle.std.specs.Prelude.{◌≡◌, ◌++◌, flat_map, OnOk, OnErr};
+ghost use Rattle.ca_text.specs.Written.{BeginsWith};
+ghost use Rattle.ca_cmd.specs.Answers.{answered};
+ghost use Rattle.ca_cmd.specs.Output.{answer_line, client_line, end_line, object_line, table_text};
 
-use crate::answer::{Answer, show_reply};
-use crate::line::{Line, Lines};
+use crate::answer::{Answer, put_answer};
 use crate::put::{put, put_number, put_term};
 use ca_term::Term;
-use std::alloc::{AllocError, Global};
+use std::alloc::AllocError;
 
-/// The whole output: the answers of each client to its lines, and the table. Where a client has fewer answers than lines,
-/// or fewer lines than answers, the shorter of the two decides how many are shown; so do the two lists of clients.
-pub fn show_run(
-    alloc: Global,
-    files: &[Lines],
-    answers: &[Vec<Answer>],
-    table: &[Term],
-) -> Result<Vec<u8>, AllocError>
-    ensures { IfOk result (λ bytes. bytes.items ≡ text_of_run (map numbered files.now) (map (λ a. said a.items) answers.now) table.now) }
+/// Appends the line that stands before a client's answers. Clients count from 1.
+pub fn show_client(client: u32, into: &mut Vec<u8>) -> Result<(), AllocError>
+    ensures ok { OnOk result (into.new.items ≡ into.old.items ++ client_line client) }
+    ensures err { OnErr result (into.new.items ≡ into.old.items) }
 {
-    let mut bytes = Vec::new(alloc);
-    put_clients(files, answers, &mut bytes)?;
-    put_table(table, &mut bytes)?;
-    Ok(bytes)
+    let before = into.len();
+    let outcome = put_client(client, into);
+    if outcome.is_err() {
+        into.truncate(before);
+    }
+    outcome
 }
 
-fn put_clients(
-    files: &[Lines],
-    answers: &[Vec<Answer>],
-    into: &mut Vec<u8>,
-) -> Result<(), AllocError>
-    ensures { OnOk result (into.new.items ≡ into.old.items ++ client_lines 1 (map numbered files.now) (map (λ a. said a.items) answers.now)) }
+fn put_client(client: u32, into: &mut Vec<u8>) -> Result<(), AllocError>
+    ensures ok { OnOk result (into.new.items ≡ into.old.items ++ client_line client) }
+    ensures front { BeginsWith into.new.items into.old.items }
 {
-    for (i, lines) in files.iter().enumerate() {
-        let Some(own) = answers.get(i) else {
-            return Ok(());
-        };
-        put(b"client ", into)?;
-        put_number(i as u64 + 1, into)?;
-        put(b"\n", into)?;
-        put_answers(lines.as_slice(), own.as_slice(), into)?;
-    }
-    Ok(())
+    put(b"client ", into)?;
+    put_number(u64::from(client), into)?;
+    put(b"\n", into)
 }
 
-// A client's lines, each with its number and its answer.
-fn put_answers(lines: &[Line], answers: &[Answer], into: &mut Vec<u8>) -> Result<(), AllocError>
-    ensures { OnOk result (into.new.items ≡ into.old.items ++ answer_lines (numbered lines.now) (said answers.now)) }
+/// Appends the line of an answer to the command that stands in the line of this number, counted from 1.
+pub fn show_answer(number: u32, answer: &Answer, into: &mut Vec<u8>) -> Result<(), AllocError>
+    ensures ok { OnOk result (into.new.items ≡ into.old.items ++ answer_line number (answered answer.now)) }
+    ensures err { OnErr result (into.new.items ≡ into.old.items) }
 {
-    for (line, answer) in lines.iter().zip(answers) {
-        put_number(u64::from(line.number), into)?;
-        put(b" ", into)?;
-        show_reply(answer, into)?;
-        put(b"\n", into)?;
+    let before = into.len();
+    let outcome = put_answer_line(number, answer, into);
+    if outcome.is_err() {
+        into.truncate(before);
     }
-    Ok(())
+    outcome
 }
 
-fn put_objects(table: &[Term], into: &mut Vec<u8>) -> Result<(), AllocError>
-    ensures { OnOk result (into.new.items ≡ into.old.items ++ flat_map object_line table.now) }
+fn put_answer_line(number: u32, answer: &Answer, into: &mut Vec<u8>) -> Result<(), AllocError>
+    ensures ok { OnOk result (into.new.items ≡ into.old.items ++ answer_line number (answered answer.now)) }
+    ensures front { BeginsWith into.new.items into.old.items }
 {
-    for object in table {
-        put_term(object, into)?;
-        put(b".\n", into)?;
+    put_number(u64::from(number), into)?;
+    put(b" ", into)?;
+    put_answer(answer, into)?;
+    put(b"\n", into)
+}
+
+/// Appends the objects of a table, a line each, and how many they are.
+pub fn show_table(table: &[Term], into: &mut Vec<u8>) -> Result<(), AllocError>
+    ensures ok { OnOk result (into.new.items ≡ into.old.items ++ table_text table.now) }
+    ensures err { OnErr result (into.new.items ≡ into.old.items) }
+{
+    let before = into.len();
+    let outcome = put_table(table, into);
+    if outcome.is_err() {
+        into.truncate(before);
     }
-    Ok(())
+    outcome
 }
 
 fn put_table(table: &[Term], into: &mut Vec<u8>) -> Result<(), AllocError>
-    ensures { OnOk result (into.new.items ≡ into.old.items ++ table_text table.now) }
+    ensures ok { OnOk result (into.new.items ≡ into.old.items ++ table_text table.now) }
+    ensures front { BeginsWith into.new.items into.old.items }
 {
     put(b"table\n", into)?;
     put_objects(table, into)?;
+    put_end(table.len() as u64, into)
+}
+
+fn put_end(count: u64, into: &mut Vec<u8>) -> Result<(), AllocError>
+    ensures ok { OnOk result (into.new.items ≡ into.old.items ++ end_line count) }
+    ensures front { BeginsWith into.new.items into.old.items }
+{
     put(b"end ", into)?;
-    put_number(table.len() as u64, into)?;
+    put_number(count, into)?;
     put(b"\n", into)
+}
+
+fn put_objects(table: &[Term], into: &mut Vec<u8>) -> Result<(), AllocError>
+    ensures ok { OnOk result (into.new.items ≡ into.old.items ++ flat_map object_line table.now) }
+    ensures front { BeginsWith into.new.items into.old.items }
+{
+    for object in table {
+        put_object(object, into)?;
+    }
+    Ok(())
+}
+
+fn put_object(object: &Term, into: &mut Vec<u8>) -> Result<(), AllocError>
+    ensures ok { OnOk result (into.new.items ≡ into.old.items ++ object_line object.now) }
+    ensures front { BeginsWith into.new.items into.old.items }
+{
+    put_term(object, into)?;
+    put(b".\n", into)
 }

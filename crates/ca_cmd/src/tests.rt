@@ -235,20 +235,15 @@ fn shows_answers(rt: HostRuntime) -> Result<(), Fail> {
 
 #[test]
 fn shows_a_run(rt: HostRuntime) -> Result<(), Fail> {
-    let alloc = rt.alloc();
-    let mut answers = Vec::new(alloc);
-    answers.push(Answer::Replied(Reply::Truth(true)))?;
-    answers.push(Answer::Full)?;
-    let files = [
-        read_file(alloc, b"insert {1}\nlookup 1\n")?,
-        read_file(alloc, b"")?,
-    ];
-    let answers = [answers, Vec::new(alloc)];
-    let table = [int(1), int(-2)];
-    let text = show_run(alloc, &files, &answers, &table)?;
+    let mut text = Vec::new(rt.alloc());
+    show_client(1, &mut text)?;
+    show_answer(1, &Answer::Replied(Reply::Truth(true)), &mut text)?;
+    show_answer(12, &Answer::Full, &mut text)?;
+    show_client(2, &mut text)?;
+    show_table(&[int(1), int(-2)], &mut text)?;
     assert_eq!(rt;
         text.as_slice(),
-        b"client 1\n1 true\n2 refused full\nclient 2\ntable\n1.\n-2.\nend 2\n".as_slice()
+        b"client 1\n1 true\n12 refused full\nclient 2\ntable\n1.\n-2.\nend 2\n".as_slice()
     );
     Ok(())
 }
