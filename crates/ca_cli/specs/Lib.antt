@@ -1,6 +1,6 @@
 pub mod Headline
+pub mod InTurn
 pub mod Outcome
-pub mod Play
 pub mod Reading
 pub mod StatusText
 pub mod Words

@@ -1,22 +1,26 @@
 //! The answer to the files of a call.
-ghost use Rattle.std.specs.Prelude.{◌≡◌, map, true, IfOk};
-ghost use Rattle.std.specs.List.{All, list_all};
-ghost use Rattle.ca_ets.specs.Step.{is_built};
+ghost use Rattle.std.specs.Prelude.{◌≡◌, ◌≤◌, [], map, IfOk};
 ghost use Rattle.ca_cmd.specs.File.{commands_in};
 ghost use Rattle.ca_cmd.specs.Lines.{numbered};
-ghost use Rattle.ca_cli.specs.Headline.{IsAnswer};
+ghost use Rattle.ca_cli.specs.Headline.{IsAnswer, AllAreReplies};
+ghost use Rattle.ca_cli.specs.InTurn.{run_in_turn};
 
 use crate::play::play_all;
-use ca_cmd::{Lines, show_run};
+use ca_cmd::{Lines, show_table};
 use ca_ets::ListTable;
 use std::alloc::{AllocError, Global};
 
-/// What is printed for the lines of files: the answers to their commands, a file a client, and the table.
-pub fn answer(alloc: Global, files: &[Lines]) -> Result<Vec<u8>, AllocError>
-    requires { All (λ lines. list_all is_built (commands_in (numbered lines)) ≡ true) files.now }
-    ensures { IfOk result (λ bytes. IsAnswer 1 (map numbered files.now) bytes.items) }
+/// What is printed for the lines of files: the answers to their commands, a file a client, and the table. Element number
+/// `keypos` of an object, counted from 1, is its key.
+pub fn answer(alloc: Global, keypos: u32, files: &[Lines]) -> Result<Vec<u8>, AllocError>
+    requires { 1 ≤ keypos }
+    ensures answer { let run = run_in_turn keypos [] (map commands_in (map numbered files.now)) in
+        IfOk result (λ bytes. IsAnswer keypos (map numbered files.now) run.answers run.table bytes.items) }
+    ensures unrefused { AllAreReplies (run_in_turn keypos [] (map commands_in (map numbered files.now))).answers }
 {
-    let mut table = ListTable::new(alloc, 1);
-    let answers = play_all(alloc, &mut table, files)?;
-    show_run(alloc, files, answers.as_slice(), table.objects())
+    let mut table = ListTable::new(alloc, keypos);
+    let mut bytes = Vec::new(alloc);
+    play_all(alloc, &mut table, files, &mut bytes)?;
+    show_table(table.objects(), &mut bytes)?;
+    Ok(bytes)
 }
