@@ -1,8 +1,5 @@
 //! The answer to the files of a call.
-ghost use Rattle.std.specs.Prelude.{◌≡◌, map, true, IfOk};
-ghost use Rattle.std.specs.List.{All, list_all};
-ghost use Rattle.ca_ets.specs.Step.{is_built};
-ghost use Rattle.ca_cmd.specs.File.{commands_in};
+ghost use Rattle.std.specs.Prelude.{◌≡◌, map, IfOk};
 ghost use Rattle.ca_cmd.specs.Lines.{numbered};
 ghost use Rattle.ca_cli.specs.Headline.{IsAnswer};
 
@@ -13,7 +10,6 @@ use std::alloc::{AllocError, Global};
 
 /// What is printed for the lines of files: the answers to their commands, a file a client, and the table.
 pub fn answer(alloc: Global, files: &[Lines]) -> Result<Vec<u8>, AllocError>
-    requires { All (λ lines. list_all is_built (commands_in (numbered lines)) ≡ true) files.now }
     ensures { IfOk result (λ bytes. IsAnswer 1 (map numbered files.now) bytes.items) }
 {
     let mut table = ListTable::new(alloc, 1);

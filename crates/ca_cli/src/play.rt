@@ -1,8 +1,6 @@
 //! The clients' commands on a table.
-ghost use Rattle.std.specs.Prelude.{◌≡◌, [], map, true, IfOk};
-ghost use Rattle.std.specs.List.{All, list_all};
+ghost use Rattle.std.specs.Prelude.{◌≡◌, [], map, IfOk};
 ghost use Rattle.ca_ets.specs.Explained.{Explained};
-ghost use Rattle.ca_ets.specs.Step.{is_built};
 ghost use Rattle.ca_cmd.specs.Answers.{said};
 ghost use Rattle.ca_cmd.specs.File.{commands_in};
 ghost use Rattle.ca_cmd.specs.Lines.{numbered};
@@ -16,7 +14,6 @@ use std::alloc::{AllocError, Global};
 // Gives a client's commands to a table, one after the other.
 #[tactic(auto, using(crate::proofs::Plays::begun))]
 fn play(alloc: Global, table: &mut ListTable, lines: &[Line]) -> Result<Vec<Answer>, AllocError>
-    requires { list_all is_built (commands_in (numbered lines.now)) ≡ true }
     ensures keypos { table.new.keypos ≡ table.old.keypos }
     ensures played { IfOk result (λ answers. IsPlay table.old.keypos table.old.objects (commands_in (numbered lines.now)) (said answers.items) table.new.objects) }
 {
@@ -36,8 +33,7 @@ pub fn play_all(
     table: &mut ListTable,
     files: &[Lines],
 ) -> Result<Vec<Vec<Answer>>, AllocError>
-    requires empty { table.old.objects ≡ [] }
-    requires built { All (λ lines. list_all is_built (commands_in (numbered lines)) ≡ true) files.now }
+    requires { table.old.objects ≡ [] }
     ensures keypos { table.new.keypos ≡ table.old.keypos }
     ensures explained { IfOk result (λ answers. Explained table.old.keypos (map commands_in (map numbered files.now)) (map (λ a. said a.items) answers.items) table.new.objects) }
     ensures unrefused { IfOk result (λ answers. AllAreReplies (map (λ a. said a.items) answers.items)) }

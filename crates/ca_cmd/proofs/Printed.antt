@@ -2,7 +2,7 @@
 use Rattle.std.proofs.Common.{◌≡◌, ℕ, suc, ◌+◌, ◌<◌, List, [], ◌∷◌, ◌++◌, length, get_or, drop, map, refl, sym, ◌∙◌, ap, subst, append_assoc, add-one, drop-cons, inl, inr, ◌⊎◌}
 use Rattle.std.specs.Prelude.{codes, decimal}
 use Rattle.std.proofs.lemmas.List.{append-nil}
-use Rattle.ca_ets.specs.Command.{Answered}
+use Rattle.ca_ets.specs.Command.{Answer as PlainAnswer}
 use Rattle.ca_cmd.specs.Answers.{answered, said}
 use Rattle.ca_cmd.specs.File.{Numbered}
 use Rattle.ca_cmd.specs.Lines.{numbered}
@@ -34,7 +34,7 @@ answers_done now whole ls vs (inr e) w =
     sym (append-nil now) ∙ ap (λ z. now ++ z) (sym (none_left (numbered ls)))
     ∙ subst (λ (z : List Answer). now ++ answer_lines (numbered ls) (said z) ≡ whole) e w
 
-pub clients_more : (was now whole : List ℕ) (client : ℕ) (lines : List Numbered) (own : List Answered) (files files' : List (List Numbered)) (answers answers' : List (List Answered)) → files ≡ lines ∷ files' → answers ≡ own ∷ answers'
+pub clients_more : (was now whole : List ℕ) (client : ℕ) (lines : List Numbered) (own : List PlainAnswer) (files files' : List (List Numbered)) (answers answers' : List (List PlainAnswer)) → files ≡ lines ∷ files' → answers ≡ own ∷ answers'
     → was ++ client_lines client files answers ≡ whole
     → now ≡ was ++ codes "client " ++ decimal client ++ codes "\n" ++ answer_lines lines own
     → now ++ client_lines (client + 1) files' answers' ≡ whole
@@ -42,7 +42,7 @@ clients_more was now whole client lines own files files' answers answers' p q w 
     let first : was ++ client_lines client (lines ∷ files') answers ≡ whole =
     subst (λ (z : List (List Numbered)). was ++ client_lines client z answers ≡ whole) p w in
     let both : was ++ client_lines client (lines ∷ files') (own ∷ answers') ≡ whole =
-    subst (λ (z : List (List Answered)). was ++ client_lines client (lines ∷ files') z ≡ whole) q first in
+    subst (λ (z : List (List PlainAnswer)). was ++ client_lines client (lines ∷ files') z ≡ whole) q first in
     let regrouped : (was ++ codes "client " ++ decimal client ++ codes "\n" ++ answer_lines lines own) ++ client_lines
     (client + 1) files' answers' ≡ was ++ client_lines client (lines ∷ files') (own ∷ answers') =
     simp append_assoc in
