@@ -1,6 +1,5 @@
 pub mod Accepted
 pub mod Clients
-pub mod Commands
 pub mod Firsts
 pub mod LineCommands
 pub mod Names

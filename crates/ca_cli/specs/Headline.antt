@@ -1,7 +1,7 @@
 -- The headline: what is printed is what one thread gives that runs a merge of the files' commands on an ordered set.
-use Rattle.std.specs.Prelude.{◌≡◌, ℕ, List, [], ◌∷◌, map}
+use Rattle.std.specs.Prelude.{◌≡◌, ℕ, List, [], ◌∷◌, map, Ok, Err}
 use Rattle.ca_term.specs.Tree.{Tree}
-use Rattle.ca_ets.specs.Command.{Answered, Replied, Full, Deep, Worn}
+use Rattle.ca_ets.specs.Command.{Answer}
 use Rattle.ca_ets.specs.Explained.{Explained}
 use Rattle.ca_cmd.specs.File.{Numbered, commands_in, IsFileOf}
 use Rattle.ca_cmd.specs.Output.{text_of_run}
@@ -14,21 +14,19 @@ AreFilesOf (file ∷ files) [] = ⊥
 AreFilesOf (file ∷ files) (lines ∷ all) = IsFileOf file lines × AreFilesOf files all
 
 -- No command was refused.
-abbrev pub AreReplies : List Answered → Type 0
+abbrev pub AreReplies : List Answer → Type 0
 AreReplies [] = Unit {0}
-AreReplies (Replied response ∷ answers) = AreReplies answers
-AreReplies (Full ∷ answers) = ⊥
-AreReplies (Deep ∷ answers) = ⊥
-AreReplies (Worn ∷ answers) = ⊥
+AreReplies (Ok response ∷ answers) = AreReplies answers
+AreReplies (Err refusal ∷ answers) = ⊥
 
-abbrev pub AllAreReplies : List (List Answered) → Type 0
+abbrev pub AllAreReplies : List (List Answer) → Type 0
 AllAreReplies [] = Unit {0}
 AllAreReplies (answers ∷ all) = AreReplies answers × AllAreReplies all
 
 -- These bytes are the text of answers and of a table that are explained for the commands of these lines, a list a client.
 -- No line is answered by a refusal.
 pub record IsAnswer (keypos : ℕ) (lines : List (List Numbered)) (bytes : List ℕ) : Type 0 where
-  pub answers : List (List Answered)
+  pub answers : List (List Answer)
   pub table : List Tree
   pub explained : Explained keypos (map commands_in lines) answers table
   pub unrefused : AllAreReplies answers

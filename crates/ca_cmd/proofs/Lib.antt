@@ -1,4 +1,3 @@
-pub mod Built
 mod Cuts
 mod CutLines
 mod Files

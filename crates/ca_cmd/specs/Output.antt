@@ -1,7 +1,7 @@
 -- What is printed of answers and of a table.
-use Rattle.std.specs.Prelude.{ℕ, ◌+◌, Bool, true, false, List, [], ◌∷◌, ◌++◌, length, codes, decimal, flat_map}
+use Rattle.std.specs.Prelude.{ℕ, ◌+◌, Bool, true, false, List, [], ◌∷◌, ◌++◌, length, codes, decimal, flat_map, Ok, Err}
 use Rattle.ca_term.specs.Tree.{Tree, Nil, Cons}
-use Rattle.ca_ets.specs.Command.{Response, Truth, Value, Items, Results, End, Error, Answered, Replied, Full, Deep, Worn}
+use Rattle.ca_ets.specs.Command.{Response, Truth, Value, Items, Results, End, Error, Answer, Full, Deep, Worn}
 use Rattle.ca_ets.specs.declared.command.Fault.{Fault}
 use Rattle.ca_ets.specs.declared.command.Fault.TheVariants.{BadArg, Range, Size}
 use Rattle.ca_text.specs.Text.{text_of}
@@ -32,18 +32,18 @@ text_of_response (Results ts more) = codes "{" ++ text_of (list_of ts) ++ batch_
 text_of_response End = codes "'$end_of_table'"
 text_of_response (Error fault) = text_of_fault fault
 
-abbrev pub text_of_answer : Answered → List ℕ
-text_of_answer (Replied response) = text_of_response response
-text_of_answer Full = codes "refused full"
-text_of_answer Deep = codes "refused deep"
-text_of_answer Worn = codes "refused worn"
+abbrev pub text_of_answer : Answer → List ℕ
+text_of_answer (Ok response) = text_of_response response
+text_of_answer (Err Full) = codes "refused full"
+text_of_answer (Err Deep) = codes "refused deep"
+text_of_answer (Err Worn) = codes "refused worn"
 
 -- the line of an answer: the number of its command's line, and its text
-abbrev pub answer_line : ℕ → Answered → List ℕ
+abbrev pub answer_line : ℕ → Answer → List ℕ
 answer_line number answer = decimal number ++ codes " " ++ text_of_answer answer ++ codes "\n"
 
 -- a line for each command
-abbrev pub answer_lines : List Numbered → List Answered → List ℕ
+abbrev pub answer_lines : List Numbered → List Answer → List ℕ
 answer_lines [] answers = []
 answer_lines (l ∷ lines) [] = []
 answer_lines (l ∷ lines) (a ∷ answers) = answer_line l.number a ++ answer_lines lines answers
@@ -53,7 +53,7 @@ abbrev pub client_line : ℕ → List ℕ
 client_line client = codes "client " ++ decimal client ++ codes "\n"
 
 -- the clients' answers, from the client of this number on
-abbrev pub client_lines : ℕ → List (List Numbered) → List (List Answered) → List ℕ
+abbrev pub client_lines : ℕ → List (List Numbered) → List (List Answer) → List ℕ
 client_lines client [] answers = []
 client_lines client (lines ∷ files) [] = []
 client_lines client (lines ∷ files) (own ∷ answers) = client_line client ++ answer_lines lines own ++ client_lines (client + 1) files answers
@@ -71,5 +71,5 @@ abbrev pub table_text : List Tree → List ℕ
 table_text table = codes "table\n" ++ flat_map object_line table ++ end_line (length table)
 
 -- the whole output: each client's answers, and the table
-abbrev pub text_of_run : List (List Numbered) → List (List Answered) → List Tree → List ℕ
+abbrev pub text_of_run : List (List Numbered) → List (List Answer) → List Tree → List ℕ
 text_of_run files answers table = client_lines 1 files answers ++ table_text table

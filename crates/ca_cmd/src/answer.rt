@@ -3,7 +3,7 @@ ghost use Rattle.std.specs.Prelude.{◌≡◌, ◌++◌, OnOk, OnErr};
 ghost use Rattle.ca_ets.specs.Command.{Results, response_of};
 ghost use Rattle.ca_text.specs.Text.{text_of};
 ghost use Rattle.ca_text.specs.Written.{BeginsWith};
-ghost use Rattle.ca_cmd.specs.Answers.{answered};
+ghost use Rattle.ca_cmd.specs.Answers.{answer_of};
 ghost use Rattle.ca_cmd.specs.Output.{batch_end, list_of, text_of_answer, text_of_fault, text_of_response};
 
 use crate::put::{put, put_term};
@@ -22,7 +22,7 @@ pub enum Answer {
 
 /// Appends the text of an answer. A refusal leaves the bytes as they were.
 pub fn show_reply(answer: &Answer, into: &mut Vec<u8>) -> Result<(), AllocError>
-    ensures ok { OnOk result (into.new.items ≡ into.old.items ++ text_of_answer (answered answer.now)) }
+    ensures ok { OnOk result (into.new.items ≡ into.old.items ++ text_of_answer (answer_of answer.now)) }
     ensures err { OnErr result (into.new.items ≡ into.old.items) }
 {
     let before = into.len();
@@ -34,7 +34,7 @@ pub fn show_reply(answer: &Answer, into: &mut Vec<u8>) -> Result<(), AllocError>
 }
 
 pub(crate) fn put_answer(answer: &Answer, into: &mut Vec<u8>) -> Result<(), AllocError>
-    ensures ok { OnOk result (into.new.items ≡ into.old.items ++ text_of_answer (answered answer.now)) }
+    ensures ok { OnOk result (into.new.items ≡ into.old.items ++ text_of_answer (answer_of answer.now)) }
     ensures front { BeginsWith into.new.items into.old.items }
 {
     match answer {

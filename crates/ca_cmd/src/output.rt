@@ -2,7 +2,7 @@
 //! Where memory lacks, the bytes are as before.
 ghost use Rattle.std.specs.Prelude.{◌≡◌, ◌++◌, flat_map, OnOk, OnErr};
 ghost use Rattle.ca_text.specs.Written.{BeginsWith};
-ghost use Rattle.ca_cmd.specs.Answers.{answered};
+ghost use Rattle.ca_cmd.specs.Answers.{answer_of};
 ghost use Rattle.ca_cmd.specs.Output.{answer_line, client_line, end_line, object_line, table_text};
 
 use crate::answer::{Answer, put_answer};
@@ -34,7 +34,7 @@ fn put_client(client: u32, into: &mut Vec<u8>) -> Result<(), AllocError>
 
 /// Appends the line of an answer to the command that stands in the line of this number, counted from 1.
 pub fn show_answer(number: u32, answer: &Answer, into: &mut Vec<u8>) -> Result<(), AllocError>
-    ensures ok { OnOk result (into.new.items ≡ into.old.items ++ answer_line number (answered answer.now)) }
+    ensures ok { OnOk result (into.new.items ≡ into.old.items ++ answer_line number (answer_of answer.now)) }
     ensures err { OnErr result (into.new.items ≡ into.old.items) }
 {
     let before = into.len();
@@ -46,7 +46,7 @@ pub fn show_answer(number: u32, answer: &Answer, into: &mut Vec<u8>) -> Result<(
 }
 
 fn put_answer_line(number: u32, answer: &Answer, into: &mut Vec<u8>) -> Result<(), AllocError>
-    ensures ok { OnOk result (into.new.items ≡ into.old.items ++ answer_line number (answered answer.now)) }
+    ensures ok { OnOk result (into.new.items ≡ into.old.items ++ answer_line number (answer_of answer.now)) }
     ensures front { BeginsWith into.new.items into.old.items }
 {
     put_number(u64::from(number), into)?;

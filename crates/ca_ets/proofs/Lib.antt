@@ -1,7 +1,9 @@
 pub mod Inserts
 pub mod Merges
 pub mod Objects
+pub mod OneClient
 pub mod Places
 pub mod Puts
-pub mod Tables
+pub mod Runs
+pub mod Steps
 pub mod Turns

@@ -1,4 +1,4 @@
--- A put keeps a table, and so does a step.
+-- A put keeps a table.
 use Rattle.std.proofs.Common.{◌≡◌, ℕ, Bool, true, false, List, [], ◌∷◌, ◌++◌, refl, ap, ◌∙◌, if◌then◌else◌}
 use Rattle.std.specs.Prelude.{filter}
 use Rattle.std.specs.declared.cmp.Ordering.{Ordering}
@@ -7,10 +7,8 @@ use Rattle.std.specs.Ordering.{is_lt, is_gt, ordering_reverse}
 use Rattle.ca_term.specs.Tree.{Tree}
 use Rattle.ca_term.specs.Order.{term_cmp}
 use Rattle.ca_term.proofs.TotalOrder.{tree_flip, tree_chain}
-use Rattle.ca_term.specs.Object.{key_of, is_object, fits}
+use Rattle.ca_term.specs.Object.{key_of}
 use Rattle.ca_ets.specs.OrderedMap.{below, above, put, IsEntry, AreAbove, IsTable}
-use Rattle.ca_ets.specs.Command.{Command, Insert, Lookup, Continuation}
-use Rattle.ca_ets.specs.Step.{step, inserted, looked_up}
 
 -- the keys of all these are less than k
 abbrev pub AreBelow : ℕ → List Tree → Tree → Type 0
@@ -74,24 +72,3 @@ table_put p m o t e =
     let k = key_of p o in
     table_append p (below p m k) o (above p m k) (below_are p m k) (table_filter p m (λ q. is_lt (term_cmp (key_of p q) k)) t)
     (e, above_are p o m, table_filter p m (λ q. is_gt (term_cmp (key_of p q) k)) t)
-
-inserted_table : (p : ℕ) (m : List Tree) (k : Continuation) (o : Tree) → IsTable p m → IsTable p (inserted p m k o).map
-inserted_table p m k o t = by (is_object p o) (fits o) refl refl
-  where
-    by : (b c : Bool) → is_object p o ≡ b → fits o ≡ c → IsTable p (inserted p m k o).map
-    by true true e f = rw (e, f) (table_put p m o t (record { object = e; fitting = f }))
-    by true false e f = rw (e, f) t
-    by false c e f = rw e t
-
-looked_up_table : (p : ℕ) (m : List Tree) (k : Continuation) (o : Tree) → IsTable p m → IsTable p (looked_up p m k o).map
-looked_up_table p m k o t = by (fits o) refl
-  where
-    by : (b : Bool) → fits o ≡ b → IsTable p (looked_up p m k o).map
-    by true e = rw e t
-    by false e = rw e t
-
--- A step keeps a table.
-pub step_table : (p : ℕ) (m : List Tree) (k : Continuation) (c : Command) → IsTable p m → IsTable p (step p m k c).map
-step_table p m k (Insert o) t = inserted_table p m k o t
-step_table p m k (Lookup o) t = looked_up_table p m k o t
-step_table p m k c t = t

@@ -6,5 +6,4 @@ pub mod Merge
 pub mod OrderedMap
 pub mod Place
 pub mod Step
-pub mod Stepped
 pub mod Table

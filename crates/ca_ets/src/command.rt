@@ -1,42 +1,16 @@
 //! Commands of a client, replies to them, and where a client's batches stand.
 use ca_term::{Term, Terms};
 
-/// A call of one client on the table. Source: the ets manual's calls of these names; `SelectRange`, `Batch` and `More`
-/// are this project's own.
+/// A call of one client on the table. Source: the ets manual's calls of these names.
 #[derive(Drop)]
 pub enum Cmd {
     /// The object.
     Insert(Term),
-    /// The object.
-    InsertNew(Term),
     /// The key.
     Lookup(Term),
-    /// The key.
-    Member(Term),
-    /// The key.
-    Delete(Term),
-    /// The key.
-    Take(Term),
-    /// The key, and the operation or operations.
-    UpdateCounter(Term, Term),
-    /// The key, and the position with the new value.
-    UpdateElement(Term, Term),
-    First,
-    Last,
-    /// A key, in the table or not.
-    Next(Term),
-    /// A key, in the table or not.
-    Prev(Term),
-    /// The match specification.
-    Select(Term),
-    /// The least and the greatest key, and the match specification.
-    SelectRange(Term, Term, Term),
-    /// The match specification, and the number of results.
-    Batch(Term, Term),
-    More,
 }
 
-/// What a command is answered with.
+/// The reply to a command.
 #[derive(Drop)]
 pub enum Reply {
     /// `true` or `false`.
@@ -53,7 +27,7 @@ pub enum Reply {
     Error(Fault),
 }
 
-/// An error that a command is answered with.
+/// An error that is the reply to a command.
 #[derive(Clone, Copy, Debug, PartialEq, Eq)]
 pub enum Fault {
     /// An argument isn't of the command's form, or the command has nothing to work on.
@@ -69,7 +43,7 @@ pub enum Fault {
 pub enum Cont {
     /// No batch was asked for yet.
     Never,
-    /// Behind a key, with the specification and the number of results of the batch that began.
+    /// Behind a key that fits, with the specification and the number of results, at least 1, of the batch that began.
     At { spec: Term, limit: u64, key: Term },
     /// At the table's end.
     AtEnd,

@@ -8,7 +8,7 @@ mod object;
 mod table;
 
 pub use command::{Cmd, Cont, Fault, Reply};
-pub use laws::{no_commands, no_files, one_client, tables_stay_ordered};
+pub use laws::{no_commands, no_files, one_client, steps_keep, tables_stay_ordered};
 pub use table::ListTable;
 
 #[cfg(test)]

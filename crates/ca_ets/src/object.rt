@@ -4,12 +4,9 @@ ghost use Rattle.ca_term.specs.Order.{term_cmp};
 ghost use Rattle.ca_term.specs.Tree.{Nil};
 ghost use Rattle.ca_term.specs.Object.{is_object, key_of, fits};
 
-use ca_term::{Kind, Term, code_length, nil, term_order, try_copy};
+use ca_term::{Kind, MOST_CODE_BYTES, Term, code_length, nil, term_order, try_copy};
 use std::alloc::{AllocError, Global};
 use std::cmp::Ordering;
-
-// How many bytes the code of an object or a key may have.
-const MOST_CODE_BYTES: usize = 1000;
 
 // The element that is an object's key, counted from 1; a term that is no object has none.
 #[tactic(auto, using(crate::proofs::Objects::no_key, crate::proofs::Objects::key_is, crate::proofs::Objects::object_is, crate::proofs::Objects::object_is_not))]

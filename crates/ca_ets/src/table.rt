@@ -1,11 +1,11 @@
 //! A table as a list of objects in key order.
-ghost use Rattle.std.specs.Prelude.{◌≡◌, ◌≤◌, [], ◌∷◌, length, true, IfOk, OnOk, OnErr};
+ghost use Rattle.std.specs.Prelude.{◌≡◌, ◌≤◌, [], ◌∷◌, length, true, false, IfOk, OnOk, OnErr, MatchOption};
 ghost use Rattle.std.specs.List.Sorted.{IsSearchInRange};
-ghost use Rattle.ca_ets.specs.Command.{Continuation, command_of, continuation_of};
+ghost use Rattle.ca_term.specs.Object.{fits};
+ghost use Rattle.ca_ets.specs.Command.{Continuation, IsContinuation, command_of, continuation_of};
 ghost use Rattle.ca_ets.specs.OrderedMap.{IsTable};
 ghost use Rattle.ca_ets.specs.Place.{IsPlace, placed};
-ghost use Rattle.ca_ets.specs.Step.{step, inserted, looked_up, is_built};
-ghost use Rattle.ca_ets.specs.Stepped.{stepped};
+ghost use Rattle.ca_ets.specs.Step.{step, step_of_insert, step_of_lookup, step_of_reply};
 
 use crate::command::{Cmd, Cont, Fault, Reply};
 use crate::object::{copied, fits, key, key_order};
@@ -69,8 +69,9 @@ impl ListTable {
     /// A command that is answered with an error changes nothing, and so does one for which memory is not found.
     /// Source: the ets manual's text on each call; the order of the checks and the error `Size` are this project's own.
     pub fn apply(&mut self, alloc: Global, cmd: &Cmd, cont: &mut Cont) -> Result<Reply, AllocError>
-        requires built { is_built (command_of cmd.now) ≡ true }
-        ensures step { IfOk result (λ reply. step self.old.keypos self.old.objects (continuation_of cont.old) (command_of cmd.now) ≡ stepped self.new.objects (continuation_of cont.new) reply) }
+        requires { IsContinuation (continuation_of cont.old) }
+        ensures step { IfOk result (λ reply. step self.old.keypos self.old.objects (continuation_of cont.old) (command_of cmd.now) ≡ step_of_reply self.new.objects (continuation_of cont.new) reply) }
+        ensures continuation { IsContinuation (continuation_of cont.new) }
         ensures keypos { self.new.keypos ≡ self.old.keypos }
         ensures table_unchanged { OnErr result (self.new ≡ self.old) }
         ensures continuation_unchanged { OnErr result (cont.new ≡ cont.old) }
@@ -78,14 +79,13 @@ impl ListTable {
         match cmd {
             Cmd::Insert(object) => self.insert(alloc, object),
             Cmd::Lookup(k) => self.lookup(alloc, k),
-            _ => unreachable!(),
         }
     }
 
     // `insert`: the copy is made before the table is changed.
     #[tactic(auto, using(crate::proofs::Inserts::not_an_object, crate::proofs::Inserts::too_long, crate::proofs::Inserts::put_is, crate::proofs::Inserts::put_keeps, crate::proofs::Places::place_range))]
     fn insert(&mut self, alloc: Global, object: &Term) -> Result<Reply, AllocError>
-        ensures step { (continuation : Continuation) → IfOk result (λ reply. inserted self.old.keypos self.old.objects continuation object.now ≡ stepped self.new.objects continuation reply) }
+        ensures step { (continuation : Continuation) → IfOk result (λ reply. step_of_insert self.old.keypos self.old.objects continuation object.now ≡ step_of_reply self.new.objects continuation reply) }
         ensures keypos { self.new.keypos ≡ self.old.keypos }
         ensures unchanged { OnErr result (self.new ≡ self.old) }
     {
@@ -101,17 +101,25 @@ impl ListTable {
         Ok(Reply::Truth(true))
     }
 
-    // `lookup`: a key that is too long is refused, since no object has it.
+    // `lookup`: the list of the key's object, or the empty list.
     fn lookup(&self, alloc: Global, k: &Term) -> Result<Reply, AllocError>
-        ensures { (continuation : Continuation) → IfOk result (λ reply. looked_up self.now.keypos self.now.objects continuation k.now ≡ stepped self.now.objects continuation reply) }
+        ensures { (continuation : Continuation) → IfOk result (λ reply. step_of_lookup self.now.keypos self.now.objects continuation k.now ≡ step_of_reply self.now.objects continuation reply) }
+    {
+        match self.place_of(k) {
+            None => Ok(Reply::Error(Fault::Size)),
+            Some(Ok(at)) => Ok(Reply::List(only(alloc, &self.objects[at])?)),
+            Some(Err(_)) => Ok(Reply::List(Terms::new(alloc))),
+        }
+    }
+
+    // Where the key of a command stands, or would stand; none for a key that is too long, since no object has it.
+    fn place_of(&self, k: &Term) -> Option<Result<usize, usize>>
+        ensures { MatchOption result (fits k.now ≡ false) (λ place. (fits k.now ≡ true) × IsPlace self.now.keypos self.now.objects k.now place) }
     {
         if !fits(k) {
-            return Ok(Reply::Error(Fault::Size));
+            return None;
         }
-        match place(self.objects.as_slice(), self.keypos, k) {
-            Ok(at) => Ok(Reply::List(only(alloc, &self.objects[at])?)),
-            Err(_) => Ok(Reply::List(Terms::new(alloc))),
-        }
+        Some(place(self.objects.as_slice(), self.keypos, k))
     }
 }
 

@@ -1,4 +1,4 @@
-use Rattle.ca_ets.proofs.Merges.{empty_table, no_commands_explained}
+use Rattle.ca_ets.proofs.OneClient.{empty_table, no_commands_explained}
 use Rattle.ca_ets.proofs.laws.no_commands.Goals as goal
 
 pub returns : goal.returns

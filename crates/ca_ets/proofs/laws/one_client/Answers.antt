@@ -1,4 +1,4 @@
-use Rattle.ca_ets.proofs.Merges.{in_order, explained}
+use Rattle.ca_ets.proofs.OneClient.{in_order, explained}
 use Rattle.ca_ets.proofs.laws.one_client.Goals as goal
 
 pub returns : goal.returns

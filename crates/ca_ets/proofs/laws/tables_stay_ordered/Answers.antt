@@ -1,4 +1,4 @@
-use Rattle.ca_ets.proofs.Tables.{explained_table}
+use Rattle.ca_ets.proofs.OneClient.{explained_table}
 use Rattle.ca_ets.proofs.laws.tables_stay_ordered.Goals as goal
 
 pub returns : goal.returns
