@@ -5,6 +5,7 @@ use Rattle.ca_ets.specs.Command.{Command, Continuation, Response, Answer, Never}
 use Rattle.ca_ets.specs.Explained.{Explained, commands_of_replies, replies_of}
 use Rattle.ca_ets.specs.InOrder.{run_in_order}
 use Rattle.ca_ets.specs.Step.{step}
+use Rattle.ca_ets.proofs.OneClient.{no_commands_explained}
 use Rattle.ca_ets.proofs.Turns.{explained_more}
 use Rattle.ca_cli.specs.Headline.{AreReplies, AllAreReplies}
 use Rattle.ca_cli.specs.InTurn.{answers_of, run_in_turn}
@@ -20,13 +21,13 @@ replies_back [] = refl
 replies_back (r ∷ replies) = ap (λ x. r ∷ x) (replies_back replies)
 
 -- A client has as many replies as commands.
-as_many : (p : ℕ) (m : List Tree) (k : Continuation) (commands : List Command) → length commands ≡ length (answers_of (run_in_order p m k commands).replies)
+as_many : (p : ℕ) (m : List Tree) (k : Continuation) (commands : List Command) → length commands ≡ length (run_in_order p m k commands).replies
 as_many p m k [] = refl
 as_many p m k (c ∷ commands) = let s = step p m k c in omega (arith, as_many p s.map s.continuation commands)
 
-as_many_replies : (p : ℕ) (m : List Tree) (k : Continuation) (commands : List Command) → length commands ≡ length (run_in_order p m k commands).replies
-as_many_replies p m k [] = refl
-as_many_replies p m k (c ∷ commands) = let s = step p m k c in omega (arith, as_many_replies p s.map s.continuation commands)
+length_answers : (replies : List Response) → length (answers_of replies) ≡ length replies
+length_answers [] = refl
+length_answers (r ∷ replies) = omega (arith, length_answers replies)
 
 -- Further clients in turn, on the table that those before them left.
 more_in_turn : (p : ℕ) (done : List (List Command)) (answers : List (List Answer)) (t : List Tree) (files : List (List Command)) → Explained p done answers t
@@ -37,8 +38,8 @@ more_in_turn p done answers t [] e =
 more_in_turn p done answers t (commands ∷ files) e =
     let run = run_in_order p t Never commands in
     let own = answers_of run.replies in
-    let all = all_replied commands run.replies (as_many_replies p t Never commands) in
-    let next = explained_more p done answers t run.table commands own e (as_many p t Never commands)
+    let all = all_replied commands run.replies (as_many p t Never commands) in
+    let next = explained_more p done answers t run.table commands own e (as_many p t Never commands ∙ sym (length_answers run.replies))
     (ap (λ (x : List Command). (run_in_order p t Never x).replies) all ∙ sym (replies_back run.replies)) (ap (λ (x : List Command). (run_in_order p t Never x).table) all) in
     let rest = run_in_turn p run.table files in
     subst (λ (x : List (List Command)). Explained p x (answers ++ own ∷ rest.answers) rest.table) (append_assoc done (commands ∷ []) files)

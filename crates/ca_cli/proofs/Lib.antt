@@ -1,8 +1,7 @@
 pub mod Accepted
-pub mod Clients
 pub mod Firsts
-pub mod LineCommands
+pub mod InTurn
 pub mod Names
 pub mod NextFile
 pub mod Outcomes
-pub mod Plays
+pub mod Playing

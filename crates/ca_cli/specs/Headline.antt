@@ -23,11 +23,7 @@ abbrev pub AllAreReplies : List (List Answer) → Type 0
 AllAreReplies [] = Unit {0}
 AllAreReplies (answers ∷ all) = AreReplies answers × AllAreReplies all
 
--- These bytes are the text of answers and of a table that are explained for the commands of these lines, a list a client.
--- No line is answered by a refusal.
-pub record IsAnswer (keypos : ℕ) (lines : List (List Numbered)) (bytes : List ℕ) : Type 0 where
-  pub answers : List (List Answer)
-  pub table : List Tree
+-- The answers and the table are explained for the commands of these lines, a list a client, and these bytes are their text.
+pub record IsAnswer (keypos : ℕ) (lines : List (List Numbered)) (answers : List (List Answer)) (table : List Tree) (bytes : List ℕ) : Type 0 where
   pub explained : Explained keypos (map commands_in lines) answers table
-  pub unrefused : AllAreReplies answers
   pub written : bytes ≡ text_of_run lines answers table

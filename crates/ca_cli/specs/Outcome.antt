@@ -3,6 +3,8 @@ use Rattle.std.specs.Prelude.{◌≡◌, ℕ, ◌+◌, ◌-◌, ◌≤◌, List,
 use Rattle.ca_outside.specs.Known.{Tells, IsOver, HasRisen}
 use Rattle.ca_cmd.specs.File.{Numbered, IsRefusedAt}
 use Rattle.ca_cmd.specs.declared.fault.LineWhy.{LineWhy}
+use Rattle.ca_term.specs.Tree.{Tree}
+use Rattle.ca_ets.specs.Command.{Answer}
 use Rattle.ca_cli.specs.Headline.{AreFilesOf, IsAnswer}
 use Rattle.ca_cli.specs.StatusText.{text_of_status}
 use Rattle.ca_cli.specs.Words.{named_files}
@@ -57,7 +59,9 @@ pub record IsPlayed (call : Call) (bytes : List ℕ) : Type 0 where
   pub files : List (List ℕ)
   pub lines : List (List Numbered)
   pub accepted : AreAccepted call.content names files lines
-  pub answer : IsAnswer 1 lines bytes
+  pub answers : List (List Answer)
+  pub table : List Tree
+  pub answer : IsAnswer 1 lines answers table bytes
 
 -- This file was reached and fetched, within the limit, and is refused at this byte of this line.
 pub record IsRefused (call : Call) (number line at : ℕ) : Type 0 where

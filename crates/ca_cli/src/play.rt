@@ -13,7 +13,6 @@ use ca_ets::{Cont, ListTable};
 use std::alloc::{AllocError, Global};
 
 // Gives a client's commands to a table, one after the other, and appends the lines of the answers.
-#[tactic(auto, using(crate::proofs::Playing::begun))]
 fn play(
     alloc: Global,
     table: &mut ListTable,

@@ -38,7 +38,7 @@ fn outcome<F: Shelf>(alloc: Global, words: &[String], shelf: &mut F) -> (Status,
         Ok(files) => files,
         Err(status) => return told(alloc, status),
     };
-    let Ok(bytes) = answer(alloc, files.as_slice()) else {
+    let Ok(bytes) = answer(alloc, 1, files.as_slice()) else {
         return (Status::NoMemory, Vec::new(alloc));
     };
     (Status::Done, bytes)

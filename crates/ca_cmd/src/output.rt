@@ -11,7 +11,7 @@ use ca_term::Term;
 use std::alloc::AllocError;
 
 /// Appends the line that stands before a client's answers. Clients count from 1.
-pub fn show_client(client: u32, into: &mut Vec<u8>) -> Result<(), AllocError>
+pub fn show_client(client: u64, into: &mut Vec<u8>) -> Result<(), AllocError>
     ensures ok { OnOk result (into.new.items ≡ into.old.items ++ client_line client) }
     ensures err { OnErr result (into.new.items ≡ into.old.items) }
 {
@@ -23,12 +23,12 @@ pub fn show_client(client: u32, into: &mut Vec<u8>) -> Result<(), AllocError>
     outcome
 }
 
-fn put_client(client: u32, into: &mut Vec<u8>) -> Result<(), AllocError>
+fn put_client(client: u64, into: &mut Vec<u8>) -> Result<(), AllocError>
     ensures ok { OnOk result (into.new.items ≡ into.old.items ++ client_line client) }
     ensures front { BeginsWith into.new.items into.old.items }
 {
     put(b"client ", into)?;
-    put_number(u64::from(client), into)?;
+    put_number(client, into)?;
     put(b"\n", into)
 }
 
