@@ -3,11 +3,13 @@ use Rattle.std.proofs.Common.{ℕ, ◌≤◌, ◌+◌, List, [], ◌++◌, lengt
 use Rattle.std.specs.Prelude.{Option}
 use Rattle.ca_outside.specs.Known.{Grows}
 
-pub grows_none : (a : Option (List ℕ)) → Grows a a []
+-- nothing more
+pub grows_none : {A : Type 0} (a : Option (List A)) → Grows a a []
 grows_none None = tt
 grows_none (Some xs) = sym (append-nil xs)
 
-pub grows_more : (a b c : Option (List ℕ)) (xs ys : List ℕ) → Grows a b xs → Grows b c ys → Grows a c (xs ++ ys)
+-- one growth after another
+pub grows_more : {A : Type 0} (a b c : Option (List A)) (xs ys : List A) → Grows a b xs → Grows b c ys → Grows a c (xs ++ ys)
 grows_more None None None xs ys g h = tt
 grows_more None None (Some z) xs ys g h = h
 grows_more None (Some y) c xs ys g h = absurd g

@@ -1,9 +1,11 @@
 //! Shelves in memory.
-ghost use Rattle.std.specs.Prelude.{◌≡◌, ◌⊎◌, ℕ, ◌≤◌, ◌<◌, List, [], length, Some, IsTrue, IsFalse, ◌↔◌, OnOk, OnErr, IsErrOf};
+ghost use Rattle.std.specs.Prelude.{◌≡◌, ◌⊎◌, ℕ, ◌≤◌, ◌<◌, List, [], ◌∷◌, length, map, if◌then◌else◌, None, Some, IsSome, ◌↔◌, OnOk, OnErr, IsErrOf, MatchOption};
 ghost use Rattle.std.specs.Option.{option_copied};
-ghost use Rattle.ca_outside.specs.Drawer.{files_of, content_of, content_or_empty, fetch_fails, after_fetch};
-ghost use Rattle.ca_outside.specs.Known.{Tells, IsOver, HasRisen};
+ghost use Rattle.ca_outside.specs.Drawer.{files_of, bytes_of, content_of, bytes_or_none, next_bytes, after_fetch, without_log};
+ghost use Rattle.ca_outside.specs.Fetches.{fetched, fetched_of, with_fetch};
+ghost use Rattle.ca_outside.specs.Known.{Tells, IsOver, HasRisen, Missing, Holds, Grows, content_or};
 
+use crate::fetch_log::{Fetch, FetchLog};
 use crate::shelf::{FetchFault, Shelf};
 use std::alloc::Global;
 use std::marker::Model;
@@ -15,27 +17,37 @@ pub struct Drawer {
     fails: Vec<u64>,
     fetches: u64,
     faults: u64,
+    log: FetchLog,
 }
 
 impl Model for Drawer {
     ghost use Rattle.ca_outside.specs.Drawer.{DrawerState, files_of};
+    ghost use Rattle.ca_outside.specs.Fetches.{told_fetches};
 
     ghost Value = { DrawerState };
 
-    ghost view = { λ d. record { files = files_of d.files.items; fails = d.fails.items; fetches = d.fetches; faults = d.faults } };
+    ghost view = { λ d. record { files = files_of d.files.items; fails = d.fails.items; fetches = d.fetches; faults = d.faults; log = told_fetches d.log } };
 }
 
 impl Drawer {
     /// A drawer of these files by their names. Fetches are numbered from 1, and those in `fails` fail.
-    pub fn new(files: Vec<(String, Vec<u8>)>, fails: Vec<u64>) -> Drawer
-        ensures { result ≡ record { files = files_of files.items; fails = fails.items; fetches = 0; faults = 0 } }
+    pub fn new(alloc: Global, files: Vec<(String, Vec<u8>)>, fails: Vec<u64>) -> Drawer
+        ensures { result ≡ record { files = files_of files.items; fails = fails.items; fetches = 0; faults = 0; log = Some [] } }
     {
         Drawer {
             files,
             fails,
             fetches: 0,
             faults: 0,
+            log: FetchLog::new(alloc),
         }
+    }
+
+    /// The fetches so far, as long as there was memory to log them.
+    pub fn log(&self) -> Option<&[Fetch]>
+        ensures { MatchOption result (self.now.log ≡ None) (λ made. self.now.log ≡ Some (map fetched_of made.now)) }
+    {
+        self.log.told()
     }
 }
 
@@ -44,10 +56,13 @@ impl Shelf for Drawer {
 
     ghost faults = { λ drawer. drawer.faults };
 
-    /// Fails exactly where its number is among those that fail, or no file has the name.
+    ghost fetches = { λ drawer. drawer.log };
+
+    /// Fails exactly where its number is among those that fail, or no file has the name. A fetch whose entry in the log
+    /// finds no memory is not made.
     fn fetch(
         &mut self,
-        _alloc: Global,
+        alloc: Global,
         name: &str,
         room: usize,
         into: &mut Vec<u8>,
@@ -58,22 +73,29 @@ impl Shelf for Drawer {
         ensures empty { OnErr result (into.new.items ≡ []) }
         ensures too_long { IsErrOf result FetchFault.TooLong → IsOver room (content_of self.old.files name.now) }
         ensures failed { IsErrOf result FetchFault.Failed → HasRisen self.old.faults self.new.faults }
+        ensures logged { Grows self.old.log self.new.log (fetched name.now result ∷ []) }
+        ensures told { ¬ IsErrOf result FetchFault.NoMemory → IsSome self.old.log → IsSome self.new.log }
         ensures later { self.old.faults ≤ self.new.faults }
         ensures same { (n : List ℕ) → content_of self.new.files n ≡ content_of self.old.files n }
 
-        // A name that isn't listed fails, and the others are too long exactly where they are.
-        ensures fails { IsErrOf result FetchFault.Failed ↔ IsTrue (fetch_fails self.old name.now) }
-        ensures over { IsErrOf result FetchFault.TooLong ↔ (IsFalse (fetch_fails self.old name.now)
-            × IsOver room (content_of self.old.files name.now)) }
-        ensures after { self.new ≡ after_fetch self.old name.now }
+        // A name that isn't listed fails, and the others are too long exactly where they are, unless memory is wanted.
+        ensures fails { ¬ IsErrOf result FetchFault.NoMemory → (IsErrOf result FetchFault.Failed ↔ (next_bytes self.old name.now ≡ None)) }
+        ensures over { ¬ IsErrOf result FetchFault.NoMemory →
+            (IsErrOf result FetchFault.TooLong ↔ IsOver room (content_or Missing (next_bytes self.old name.now))) }
+        ensures after { (self.new ≡ after_fetch self.old (fetched name.now result))
+            ⊎ (IsErrOf result FetchFault.NoMemory × (self.new ≡ without_log self.old)) }
     {
+        let entry = self.log.reserve(alloc, name)?;
         self.fetches = self.fetches.saturating_add(1);
         let fails = self.fails.contains(&self.fetches);
-        let (Some(bytes), false) = (find(&self.files, name), fails) else {
+        let Some(bytes) = find_unless(fails, &self.files, name) else {
             self.faults = self.faults.saturating_add(1);
+            self.log.add(entry, Err(FetchFault::Failed));
             return Err(FetchFault::Failed);
         };
-        fill(into, bytes, room)
+        let result = fill(into, bytes, room);
+        self.log.add(entry, result);
+        result
     }
 }
 
@@ -82,56 +104,76 @@ impl Shelf for Drawer {
 #[derive(Drop)]
 pub struct SureDrawer {
     files: Vec<(String, Vec<u8>)>,
+    log: FetchLog,
 }
 
 impl Model for SureDrawer {
-    ghost use Rattle.std.specs.Prelude.{ℕ, List};
-    ghost use Rattle.ca_outside.specs.Drawer.{files_of};
+    ghost use Rattle.ca_outside.specs.Drawer.{SureDrawerState, files_of};
+    ghost use Rattle.ca_outside.specs.Fetches.{told_fetches};
 
-    ghost Value = { List (List ℕ × List ℕ) };
+    ghost Value = { SureDrawerState };
 
-    ghost view = { λ d. files_of d.files.items };
+    ghost view = { λ d. record { files = files_of d.files.items; log = told_fetches d.log } };
 }
 
 impl SureDrawer {
     /// A drawer of these files by their names.
-    pub fn new(files: Vec<(String, Vec<u8>)>) -> SureDrawer
-        ensures { result ≡ files_of files.items }
+    pub fn new(alloc: Global, files: Vec<(String, Vec<u8>)>) -> SureDrawer
+        ensures { result ≡ record { files = files_of files.items; log = Some [] } }
     {
-        SureDrawer { files }
+        SureDrawer {
+            files,
+            log: FetchLog::new(alloc),
+        }
+    }
+
+    /// The fetches so far, as long as there was memory to log them.
+    pub fn log(&self) -> Option<&[Fetch]>
+        ensures { MatchOption result (self.now.log ≡ None) (λ made. self.now.log ≡ Some (map fetched_of made.now)) }
+    {
+        self.log.told()
     }
 }
 
 impl Shelf for SureDrawer {
-    ghost content = { λ files name. Some (content_or_empty files name) };
+    ghost content = { λ drawer name. Holds (bytes_or_none drawer.files name) };
 
     ghost faults = { λ _. 0 };
 
+    ghost fetches = { λ drawer. drawer.log };
+
+    /// A fetch whose entry in the log finds no memory is not made.
     fn fetch(
         &mut self,
-        _alloc: Global,
+        alloc: Global,
         name: &str,
         room: usize,
         into: &mut Vec<u8>,
     ) -> Result<(), FetchFault>
         requires { into.old.items ≡ [] }
-        ensures found { OnOk result (content_or_empty self.old name.now ≡ into.new.items) }
+        ensures found { OnOk result (bytes_or_none self.old.files name.now ≡ into.new.items) }
         ensures fits { OnOk result (length into.new.items ≤ room) }
         ensures empty { OnErr result (into.new.items ≡ []) }
-        ensures over { IsErrOf result FetchFault.TooLong ↔ (room < length (content_or_empty self.old name.now)) }
+        ensures over { ¬ IsErrOf result FetchFault.NoMemory →
+            (IsErrOf result FetchFault.TooLong ↔ (room < length (bytes_or_none self.old.files name.now))) }
         ensures sure { ¬ IsErrOf result FetchFault.Failed }
-        ensures same { self.new ≡ self.old }
+        ensures same { self.new.files ≡ self.old.files }
+        ensures logged { (self.new.log ≡ with_fetch self.old.log (fetched name.now result))
+            ⊎ (IsErrOf result FetchFault.NoMemory × (self.new.log ≡ None)) }
     {
-        match find(&self.files, name) {
+        let entry = self.log.reserve(alloc, name)?;
+        let result = match find(&self.files, name) {
             Some(bytes) => fill(into, bytes, room),
             None => Ok(()),
-        }
+        };
+        self.log.add(entry, result);
+        result
     }
 }
 
-// The content of the first file of this name.
+// The bytes of the first file of this name.
 fn find<'a>(files: &'a [(String, Vec<u8>)], name: &str) -> Option<&'a [u8]>
-    ensures { option_copied result ≡ content_of (files_of files.now) name.now }
+    ensures { option_copied result ≡ bytes_of (files_of files.now) name.now }
 {
     for (known, bytes) in files {
         if known.as_str() == name {
@@ -139,6 +181,13 @@ fn find<'a>(files: &'a [(String, Vec<u8>)], name: &str) -> Option<&'a [u8]>
         }
     }
     None
+}
+
+// The same, where the fetch is not one of those that fail.
+fn find_unless<'a>(fails: bool, files: &'a [(String, Vec<u8>)], name: &str) -> Option<&'a [u8]>
+    ensures { option_copied result ≡ (if fails then None else bytes_of (files_of files.now) name.now) }
+{
+    if fails { None } else { find(files, name) }
 }
 
 // Copies a content of at most `room` bytes into an empty vector.

@@ -3,6 +3,7 @@
 
 mod dir_shelf;
 mod drawer;
+mod fetch_log;
 mod out_sink;
 mod shelf;
 mod sink;
@@ -10,6 +11,7 @@ mod tape;
 
 pub use dir_shelf::DirShelf;
 pub use drawer::{Drawer, SureDrawer};
+pub use fetch_log::Fetch;
 pub use out_sink::OutSink;
 pub use shelf::{FetchFault, Shelf};
 pub use sink::{Sink, SinkFailed, write_out};

@@ -1,6 +1,7 @@
 //! The source of files.
-ghost use Rattle.std.specs.Prelude.{◌≡◌, ℕ, ◌≤◌, List, [], length, Option, OnOk, OnErr, IsErrOf};
-ghost use Rattle.ca_outside.specs.Known.{Tells, IsOver, HasRisen};
+ghost use Rattle.std.specs.Prelude.{◌≡◌, ℕ, ◌≤◌, List, [], ◌∷◌, length, Option, IsSome, OnOk, OnErr, IsErrOf};
+ghost use Rattle.ca_outside.specs.Fetches.{Fetched, fetched};
+ghost use Rattle.ca_outside.specs.Known.{Content, Tells, IsOver, HasRisen, Grows};
 
 use std::alloc::Global;
 
@@ -17,11 +18,14 @@ pub enum FetchFault {
 
 /// A source of files by name. A name and a content are lists of bytes.
 pub trait Shelf {
-    // The content of a name, where it is told.
-    ghost content: { Self → List ℕ → Option (List ℕ) };
+    // What is told of a name.
+    ghost content: { Self → List ℕ → Content };
 
     // How often a fetch has failed.
     ghost faults: { Self → ℕ };
+
+    // The fetches so far in order, where they are told.
+    ghost fetches: { Self → Option (List Fetched) };
 
     /// Fetches the file of this name, of at most `room` bytes, into an empty vector.
     fn fetch(
@@ -40,6 +44,10 @@ pub trait Shelf {
         ensures empty { OnErr result (into.new.items ≡ []) }
         ensures too_long { IsErrOf result FetchFault.TooLong → IsOver room (content self.old name.now) }
         ensures failed { IsErrOf result FetchFault.Failed → HasRisen (faults self.old) (faults self.new) }
+
+        // The call adds one fetch, of its own name and with its own end. Only for want of memory the fetches are told no more.
+        ensures logged { Grows (fetches self.old) (fetches self.new) (fetched name.now result ∷ []) }
+        ensures told { ¬ IsErrOf result FetchFault.NoMemory → IsSome (fetches self.old) → IsSome (fetches self.new) }
 
         ensures later { faults self.old ≤ faults self.new }
         ensures same { (n : List ℕ) → content self.new n ≡ content self.old n };

@@ -1,5 +1,6 @@
 use super::*;
 use std::alloc::{AllocError, Global};
+use std::process::Abort;
 use std::test::Fail;
 
 // Two of them have one name.
@@ -15,11 +16,20 @@ fn files(alloc: Global) -> Result<Vec<(String, Vec<u8>)>, AllocError> {
     Ok(files)
 }
 
+// The last fetch of a log was of this name, and ended so.
+fn assert_last<R: Abort>(rt: &R, log: Option<&[Fetch]>, name: &str, end: Result<(), FetchFault>) {
+    let last = log.and_then(|log| log.last());
+    assert_eq!(rt;
+        last.map(|fetch| (fetch.name.as_str(), fetch.end)),
+        Some((name, end))
+    );
+}
+
 #[test]
 fn drawers_are_fetched_from(rt: HostRuntime) -> Result<(), Fail> {
     let alloc = rt.alloc();
-    let mut drawer = Drawer::new(files(alloc)?, vec![in alloc; 2]?);
-    let mut sure_drawer = SureDrawer::new(files(alloc)?);
+    let mut drawer = Drawer::new(alloc, files(alloc)?, vec![in alloc; 2]?);
+    let mut sure_drawer = SureDrawer::new(alloc, files(alloc)?);
     let failed = Err(FetchFault::Failed);
     let too_long = Err(FetchFault::TooLong);
     let cases = [
@@ -34,30 +44,39 @@ fn drawers_are_fetched_from(rt: HostRuntime) -> Result<(), Fail> {
         let answer = drawer.fetch(alloc, name, room, &mut into);
         assert_eq!(rt; answer, content.map(|_| ()));
         assert_eq!(rt; into.as_slice(), content.unwrap_or("").as_bytes());
+        assert_last(&rt, drawer.log(), name, answer);
         into.clear();
         let answer = sure_drawer.fetch(alloc, name, room, &mut into);
         assert_eq!(rt; answer, sure_content.map(|_| ()));
         assert_eq!(rt; into.as_slice(), sure_content.unwrap_or("").as_bytes());
+        assert_last(&rt, sure_drawer.log(), name, answer);
     }
+    assert_eq!(rt; drawer.log().map(|log| log.len()), Some(5));
+    assert_eq!(rt; sure_drawer.log().map(|log| log.len()), Some(5));
     Ok(())
 }
 
 #[test]
 fn files_are_fetched(rt: HostRuntime) {
     let alloc = rt.alloc();
-    let mut shelf = DirShelf::new(rt);
+    let mut shelf = DirShelf::new(alloc, &rt);
     let cases = [
-        ("/dev/null", Ok(()), 0),
+        ("/dev/null", Ok(""), 0),
         ("/no/such/file", Err(FetchFault::Failed), 1),
         // It has no end.
         ("/dev/zero", Err(FetchFault::TooLong), 1),
+        // Linux tells its name there.
+        ("/proc/sys/kernel/ostype", Ok("Linux\n"), 1),
     ];
-    for (name, answer, faults) in cases {
+    for (name, content, faults) in cases {
         let mut into = Vec::new(alloc);
-        assert_eq!(rt; shelf.fetch(alloc, name, 40_000, &mut into), answer);
-        assert_eq!(rt; into.len(), 0);
+        let answer = shelf.fetch(alloc, name, 40_000, &mut into);
+        assert_eq!(rt; answer, content.map(|_| ()));
+        assert_eq!(rt; into.as_slice(), content.unwrap_or("").as_bytes());
         assert_eq!(rt; shelf.faults(), faults);
+        assert_last(&rt, shelf.log(), name, answer);
     }
+    assert_eq!(rt; shelf.log().map(|log| log.len()), Some(4));
 }
 
 #[test]
