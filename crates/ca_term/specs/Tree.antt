@@ -33,6 +33,11 @@ abbrev pub elements : Row → List Tree
 elements Ends = []
 elements (More t row) = t ∷ elements row
 
+-- the list of these terms with this tail
+abbrev pub list_of : List Tree → Tree → Tree
+list_of [] tail = tail
+list_of (t ∷ ts) tail = Cons t (list_of ts tail)
+
 -- how many elements
 abbrev pub size : Row → ℕ
 size Ends = 0

@@ -3,7 +3,7 @@ ghost use Rattle.std.specs.Prelude.{◌≡◌, ◌≤◌, ◌<◌, ◌↔◌, le
 ghost use Rattle.std.specs.Str.{chars};
 ghost use Rattle.ca_term.specs.Cause.{IsCauseOfAtom, IsCauseOfCell, IsCauseOfTuple};
 ghost use Rattle.ca_term.specs.declared.bounds.TheConstants.{MOST_CODE_POINTS, MOST_DEPTH, MOST_ELEMENTS};
-ghost use Rattle.ca_term.specs.Tree.{Integer, Atom, Tuple, Nil, Cons, Binary, row_of, depth};
+ghost use Rattle.ca_term.specs.Tree.{Integer, Atom, Tuple, Nil, Cons, Binary, row_of, row_depth, list_of, depth};
 
 use crate::bounds::{MOST_CODE_POINTS, MOST_DEPTH, MOST_ELEMENTS};
 use crate::fault::TermFault;
@@ -84,6 +84,41 @@ pub fn cons(alloc: Global, head: Term, tail: Term) -> Result<Term, TermFault>
     })
 }
 
+/// The list of these terms with this tail, of at most `MOST_DEPTH` levels: `tail` itself where there are no terms.
+/// It takes no memory before it has checked the levels. A refusal drops the terms.
+#[tactic(auto, using(crate::proofs::Lists::too_deep, crate::proofs::Lists::deep_enough))]
+pub fn list(alloc: Global, items: Terms, tail: Term) -> Result<Term, TermFault>
+    ensures ok { IfOk result (λ t. t ≡ list_of items.items tail) }
+    ensures too_deep { MOST_DEPTH < depth (list_of items.items tail) → IsErrOf result TermFault.TooDeep }
+    ensures causes { IfErr result (λ e. IsCauseOfCell (list_of items.items tail) e) }
+{
+    if deepest(items.items.as_slice()) >= MOST_DEPTH {
+        return Err(TermFault::TooDeep);
+    }
+    let mut heads = items.items;
+    let mut list = tail;
+    while let Some(head) = heads.pop() {
+        // No part is deeper than the whole, so a cell is refused for want of memory alone.
+        let Ok(cell) = cons(alloc, head, list) else {
+            return Err(TermFault::NoMemory);
+        };
+        list = cell;
+    }
+    Ok(list)
+}
+
+// The most levels of these terms, or 0 where there are none.
+#[tactic(auto, using(crate::proofs::Rows::row_depth_done))]
+fn deepest(items: &[Term]) -> u8
+    ensures { result ≡ row_depth (row_of items.now) }
+{
+    let mut deepest = 0;
+    for item in items {
+        deepest = item.depth.max(deepest);
+    }
+    deepest
+}
+
 /// The tuple of these terms: at most `MOST_ELEMENTS`, and each of fewer than `MOST_DEPTH` levels. It takes no memory. A refusal drops the terms.
 pub fn tuple(items: Terms) -> Result<Term, TermFault>
     ensures ok { IfOk result (λ t. t ≡ Tuple (row_of items.items)) }
@@ -94,10 +129,7 @@ pub fn tuple(items: Terms) -> Result<Term, TermFault>
     if items.items.len() > MOST_ELEMENTS {
         return Err(TermFault::TooWide);
     }
-    let mut deepest = 0;
-    for item in items.items.as_slice() {
-        deepest = item.depth.max(deepest);
-    }
+    let deepest = deepest(items.items.as_slice());
     if deepest >= MOST_DEPTH {
         return Err(TermFault::TooDeep);
     }
