@@ -15,6 +15,10 @@ use Rattle.ca_term.specs.Character.{IsNoCharacter}
 pub spelled : (bs rest : List ℕ) (c size : ℕ) → (decoded bs).char ≡ Some c → size ≡ (decoded bs).size → rest ≡ drop size bs → bs ≡ encode_utf8 c ++ rest
 spelled bs rest c size h e f = rw (f, e) (SpellsChar-decoded bs c h).bytes
 
+-- A character that is decoded is a Unicode scalar value.
+pub a_scalar : (bs : List ℕ) (c : ℕ) → (decoded bs).char ≡ Some c → IsScalar c
+a_scalar bs c h = (SpellsChar-decoded bs c h).scalar
+
 -- A character that is decoded has no more bytes than there are.
 pub fits : (bs : List ℕ) (c size : ℕ) → (decoded bs).char ≡ Some c → size ≡ (decoded bs).size → size ≤ length bs
 fits bs c size h e =

@@ -1,12 +1,13 @@
 //! Characters in UTF-8.
 ghost use Rattle.std.specs.Prelude.{◌≡◌, ◌≤◌, ◌++◌, ◌↔◌, slice_index, IsTrue, IfOk, IfErr};
-ghost use Rattle.std.specs.Char.{encode_utf8};
+ghost use Rattle.std.specs.Char.{IsScalar, encode_utf8};
 ghost use Rattle.ca_term.specs.Character.{IsNoCharacter};
 
 /// The character that these bytes begin with, in UTF-8, and the bytes behind it. Else how many bytes at the front begin
 /// some character, while none begins with one byte more. It takes no memory.
 pub fn character(bytes: &[u8]) -> Result<(char, &[u8]), usize>
     ensures read { IfOk result (λ x. bytes.now ≡ encode_utf8 x.0 ++ x.1.now) }
+    ensures scalar { IfOk result (λ x. IsScalar x.0) }
     ensures refused { IfErr result (λ at. IsNoCharacter bytes.now at) }
 {
     let (char, size) = bstr::decode_utf8(bytes);

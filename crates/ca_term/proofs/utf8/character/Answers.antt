@@ -1,7 +1,7 @@
 use Rattle.std.proofs.Common.{◌≡◌, Some, sym, ◌∙◌}
 use Rattle.std.proofs.lemmas.Bool.{false≢true}
 use Rattle.bstr.specs.Utf8.{decoded}
-use Rattle.ca_term.proofs.Characters.{fits, spelled, no_lead, no_character}
+use Rattle.ca_term.proofs.Characters.{a_scalar, fits, spelled, no_lead, no_character}
 use Rattle.ca_term.proofs.utf8.character.Goals as goal
 
 pub split_at-requires : goal.split_at-requires
@@ -11,6 +11,9 @@ pub returns-in-Some-clause-read : goal.returns-in-Some-clause-read
 returns-in-Some-clause-read c =
     let found : (decoded c.args.bytes.now).char ≡ Some c.in-Some.char = sym c.decode-char.ensures.char ∙ c.in-Some.is in
     spelled c.args.bytes.now c.split_at.result.1.now c.in-Some.char c.decode-char.result.1 found c.decode-char.ensures.size c.split_at.ensures.back
+
+pub returns-in-Some-clause-scalar : goal.returns-in-Some-clause-scalar
+returns-in-Some-clause-scalar c = a_scalar c.args.bytes.now c.in-Some.char (sym c.decode-char.ensures.char ∙ c.in-Some.is)
 
 pub returns-in-None-clause-refused : goal.returns-in-None-clause-refused
 returns-in-None-clause-refused c =
