@@ -1,18 +1,21 @@
 -- Where escaped texts are stuck.
-use Rattle.std.proofs.Common.{◌≡◌, ℕ, zero, suc, ◌≤◌, ◌<◌, ◌+◌, ◌-◌, true, List, [], ◌∷◌, ◌++◌, length, take, arith, refl, sym, ◌∙◌, ap, subst, append_assoc, append-nil, length-append, ◌⊎◌, inl, inr, ⊎_elim}
+use Rattle.std.proofs.Common.{◌≡◌, ℕ, zero, suc, ◌≤◌, ◌<◌, ◌+◌, ◌-◌, true, List, [], ◌∷◌, ◌++◌, length, take, drop, take-append-drop, length-drop, drop-cons, get_or, arith, refl, sym, ◌∙◌, ap, subst, append_assoc, append-nil, length-append, ◌⊎◌, inl, inr, ⊎_elim}
 use Rattle.std.proofs.Math.Seq.{take-append_seam}
+use Rattle.std.proofs.lemmas.List.{take_more}
 use Rattle.std.proofs.str.Laws.{Shape, of1, of2, of3, of4, shape, one, both, scalars-append}
 use lib.Utf8.{scalar, scalar_cases}
 use Rattle.std.proofs.lemmas.Str.{cons_from_encodes, encode_same, chars-encodes}
 use Rattle.std.specs.Char.{IsScalar, encode_utf8}
 use Rattle.std.specs.Str.{encode_utf8_all, all_scalars, IsUtf8}
+use Rattle.ca_term.specs.declared.bounds.TheConstants.{MOST_CODE_POINTS}
 use Rattle.ca_term.specs.Tree.{Tree, Atom, IsTerm, IsNarrow, depth}
+use Rattle.ca_term.specs.Character.{IsNoCharacter}
 use Rattle.ca_term.specs.Code.{code_of, escaped}
 use Rattle.ca_term.proofs.Escapes.{escaped_zero, escaped_suc, escaped_nil}
 use Rattle.ca_order.specs.Zeros.{HasNoZero, opened}
 use Rattle.ca_order.specs.Stuck.{IsStuck, IsRest}
-use Rattle.ca_order.specs.Languages.{HasText, HasChar, HasFollowing, IsNoLead}
-use Rattle.ca_order.specs.Reads.{BeginsWithText, BeginsWithTerm, BeginsWithWord}
+use Rattle.ca_order.specs.Languages.{HasText, HasChar}
+use Rattle.ca_order.specs.Reads.{BeginsWithText, BeginsWithTerm}
 use Rattle.ca_order.proofs.Opened.{escaped_append, escaped_ends, opened_append, opened_no_zero, opened_zero, opened_nil, same_opened, escaped_after, same_head, same_second}
 use Rattle.ca_order.proofs.Starts.{stuck_here, IsPrefixFree, Begins}
 use Rattle.ca_order.proofs.Parts.{code_atom}
@@ -169,45 +172,21 @@ char_text (suc c) room u h r e = (
 pub text_goes_on : (room : ℕ) (u : List ℕ) → 1 ≤ room → HasChar u → (v : List ℕ) × HasText room (u ++ v)
 text_goes_on room u r h = char_text h.char room u h.is_scalar r h.code_is
 
--- ---- what follows the first byte of a character
-
-following_word : (count least most : ℕ) → least ≤ most → (x : List ℕ) × HasFollowing count least most x
-following_word zero least most h = ([], refl)
-following_word (suc count) least most h = let w = following_word count 0x80 0xbf (omega arith) in (least ∷ w.0, (least, w.0, omega arith, h, refl, w.1))
-
-first_between : (count least most b : ℕ) (rest : List ℕ) → HasFollowing (suc count) least most (b ∷ rest) → (least ≤ b) × (b ≤ most)
-first_between count least most b rest w = let e : b ≡ w.0 = same_head b w.0 rest w.1 w.4 in (omega (arith, w.2, e), omega (arith, w.3, e))
-
-pub stuck_following : (count least most : ℕ) (bytes : List ℕ) → 1 ≤ count → least ≤ most
-    → ((b : ℕ) (more : List ℕ) → bytes ≡ b ∷ more → least ≤ b → b ≤ most → ⊥) → IsStuck (HasFollowing count least most) bytes bytes
-stuck_following zero least most bytes p h n = absurd (omega arith)
-stuck_following (suc count) least most bytes p h n =
-    let w = following_word count 0x80 0xbf (omega arith) in
-    stuck_here (HasFollowing (suc count) least most) bytes least w.0 (least, w.0, omega arith, h, refl, w.1)
-    (λ b more rest e v. let k = first_between count least most b rest v in n b more e k.0 k.1)
-
-pub following_rest : (count least most b : ℕ) → 1 ≤ count → least ≤ b → b ≤ most
-    → IsRest (HasFollowing count least most) (b ∷ []) (HasFollowing (count - 1) 0x80 0xbf)
-following_rest zero least most b p h k = absurd (omega arith)
-following_rest (suc count) least most b p h k =
-    let n : suc count - 1 ≡ count = omega arith in
-    subst (λ (x : ℕ). IsRest (HasFollowing (suc count) least most) (b ∷ []) (HasFollowing x 0x80 0xbf)) (sym n) (record {
-      into = λ x w. let e : x ≡ w.1 = same_tail b w.0 x w.1 w.4 in subst (HasFollowing count 0x80 0xbf) (sym e) w.5;
-      back = λ x w. (b, x, h, k, refl, w);
-    })
-  where
-    same_tail : (a b : ℕ) (xs ys : List ℕ) → a ∷ xs ≡ b ∷ ys → xs ≡ ys
-    same_tail a b xs ys e = cc
-
-pub word_behind : (L M : List ℕ → Type 0) (u bytes behind rest : List ℕ) → IsRest L u M → bytes ≡ u ++ behind → BeginsWithWord M behind rest
-    → BeginsWithWord L bytes rest
-word_behind L M u bytes behind rest q e w =
-    record { word = u ++ w.word; is_word = q.back w.word w.is_word; parts = e ∙ ap (λ x. u ++ x) w.parts ∙ sym (append_assoc u w.word rest) }
-
--- a byte that begins no character, or no byte
-pub stuck_char : (bytes : List ℕ) → ((b : ℕ) (more : List ℕ) → bytes ≡ b ∷ more → IsNoLead b) → IsStuck HasChar bytes bytes
-stuck_char bytes n =
-    stuck_here HasChar bytes 97 [] (record { char = 97; is_scalar = refl; code_is = sym (one 97 (omega arith)) }) (λ b more rest e w. n b more e rest w)
+-- Where bytes stop to be a character, they are stuck in one.
+pub stuck_char : (bytes : List ℕ) (at : ℕ) → IsNoCharacter bytes at → IsStuck HasChar bytes (drop at bytes)
+stuck_char bytes at s = record {
+  done = take at bytes;
+  parts = sym (take-append-drop at bytes);
+  next = s.next;
+  rest = s.rest;
+  begins = record { char = s.char; is_scalar = s.is_scalar; code_is = sym s.begins };
+  no_longer = λ b more rest e w.
+      let l : at < length bytes = omega (arith, ap length e, length-drop at bytes) in
+      let cut : drop at bytes ≡ get_or bytes at 0 ∷ drop (suc at) bytes = drop-cons bytes at 0 l in
+      let first : get_or bytes at 0 ≡ b = same_head (get_or bytes at 0) b (drop (suc at) bytes) more (sym cut ∙ e) in
+      let n : take (at + 1) bytes ≡ take at bytes ++ b ∷ [] = take_more bytes at 0 l ∙ ap (λ x. take at bytes ++ x ∷ []) first in
+      s.no_longer l w.char rest w.is_scalar (sym w.code_is ∙ sym (append_assoc (take at bytes) (b ∷ []) rest) ∙ ap (λ x. x ++ rest) (sym n));
+}
 
 -- ---- a text, step by step
 
@@ -215,10 +194,10 @@ stuck_char bytes n =
 pub record IsRead (room : ℕ) (bytes rest : List ℕ) : Type 0 where
   pub text : List ℕ
   pub are_scalars : all_scalars text ≡ true
-  pub many : length text + room ≡ 255
+  pub many : length text + room ≡ MOST_CODE_POINTS
   pub parts : bytes ≡ opened (encode_utf8_all text) ++ rest
 
-pub read_none : (bytes : List ℕ) → IsRead 255 bytes bytes
+pub read_none : (bytes : List ℕ) → IsRead MOST_CODE_POINTS bytes bytes
 read_none bytes = record { text = []; are_scalars = refl; many = refl; parts = ap (λ x. x ++ bytes) (sym opened_nil) }
 
 pub read_more : (room : ℕ) (bytes rest behind : List ℕ) (c : ℕ) → IsRead room bytes rest → 1 ≤ room → IsScalar c → rest ≡ opened (encode_utf8 c) ++ behind
@@ -277,11 +256,9 @@ text_narrow bytes body rest text w o = subst (λ (x : List ℕ). IsNarrow (Atom 
 pub nul_step : (bytes behind rest : List ℕ) → bytes ≡ 0 ∷ behind → behind ≡ 0xff ∷ rest → (c : ℕ) × IsScalar c × (bytes ≡ opened (encode_utf8 c) ++ rest)
 nul_step bytes behind rest e f = (0, refl, e ∙ ap (λ (x : List ℕ). 0 ∷ x) f ∙ ap (λ x. x ++ rest) (sym opened_nul))
 
-char_by : (c : ℕ) (bytes rest : List ℕ) (b : ℕ) (more : List ℕ) → bytes ≡ b ∷ more → (b ≡ 0 → ⊥) → IsScalar c → bytes ≡ encode_utf8 c ++ rest
-    → (d : ℕ) × IsScalar d × (bytes ≡ opened (encode_utf8 d) ++ rest)
-char_by zero bytes rest b more e n h f = let g : b ∷ more ≡ 0 ∷ rest = sym e ∙ f ∙ ap (λ x. x ++ rest) encode_zero in absurd (n (same_head b 0 more rest g))
-char_by (suc c) bytes rest b more e n h f = (suc c, h, f ∙ ap (λ x. x ++ rest) (sym (opened_char (suc c) h (omega arith))))
-
-pub char_step : (bytes : List ℕ) (b : ℕ) (more rest : List ℕ) → bytes ≡ b ∷ more → (b ≡ 0 → ⊥) → BeginsWithWord HasChar bytes rest
-    → (c : ℕ) × IsScalar c × (bytes ≡ opened (encode_utf8 c) ++ rest)
-char_step bytes b more rest e n w = char_by w.is_word.char bytes rest b more e n w.is_word.is_scalar (w.parts ∙ ap (λ x. x ++ rest) w.is_word.code_is)
+-- A character that is not 0 stands in a text as it is.
+pub char_step : (bytes : List ℕ) (b : ℕ) (more rest : List ℕ) (c : ℕ) → bytes ≡ b ∷ more → (b ≡ 0 → ⊥) → IsScalar c → bytes ≡ encode_utf8 c ++ rest
+    → bytes ≡ opened (encode_utf8 c) ++ rest
+char_step bytes b more rest zero e n h f =
+    let g : b ∷ more ≡ 0 ∷ rest = sym e ∙ f ∙ ap (λ x. x ++ rest) encode_zero in absurd (n (same_head b 0 more rest g))
+char_step bytes b more rest (suc c) e n h f = f ∙ ap (λ x. x ++ rest) (sym (opened_char (suc c) h (omega arith)))

@@ -1,5 +1,6 @@
 -- Where bytes are no code.
 use Rattle.std.proofs.Common.{◌≡◌, ℕ, ◌<◌, ◌-◌, List, [], ◌∷◌, ◌++◌, length, arith, refl, ◌∙◌, subst, append-nil}
+use Rattle.ca_term.specs.declared.bounds.TheConstants.{MOST_DEPTH}
 use Rattle.ca_order.specs.declared.fault.ReadFault.TheVariants.{Stuck}
 use Rattle.ca_order.specs.declared.fault.DecodeFault.TheVariants.{NotACode}
 use Rattle.ca_term.specs.Tree.{Tree}
@@ -11,20 +12,20 @@ use Rattle.ca_order.specs.Reads.{IsReadFault, IsDecodeFault, BeginsWithTerm}
 use Rattle.ca_order.proofs.Starts.{longest_start}
 use Rattle.ca_order.proofs.FirstBytes.{terms_prefix_free}
 
-code_from : (x : List ℕ) → HasTerm 192 x → IsTermCode x
+code_from : (x : List ℕ) → HasTerm MOST_DEPTH x → IsTermCode x
 code_from x h = (h.term, record { shallow = h.shallow; narrow = h.narrow }, h.code_is)
 
-code_to : (x : List ℕ) → IsTermCode x → HasTerm 192 x
+code_to : (x : List ℕ) → IsTermCode x → HasTerm MOST_DEPTH x
 code_to x c = record { term = c.0; shallow = c.1.shallow; narrow = c.1.narrow; code_is = c.2 }
 
-no_code : (code behind : List ℕ) → IsStuck (HasTerm 192) code behind → IsTermCode code → ⊥
+no_code : (code behind : List ℕ) → IsStuck (HasTerm MOST_DEPTH) code behind → IsTermCode code → ⊥
 no_code code [] s c =
     let e : code ≡ s.done = s.parts ∙ append-nil s.done in
-    let n : s.next ∷ s.rest ≡ [] = terms_prefix_free 192 s.done (s.next ∷ s.rest) (subst (HasTerm 192) e (code_to code c)) s.begins in
+    let n : s.next ∷ s.rest ≡ [] = terms_prefix_free MOST_DEPTH s.done (s.next ∷ s.rest) (subst (HasTerm MOST_DEPTH) e (code_to code c)) s.begins in
     cc
-no_code code (b ∷ more) s c = s.no_longer b more more refl (subst (HasTerm 192) s.parts (code_to code c))
+no_code code (b ∷ more) s c = s.no_longer b more more refl (subst (HasTerm MOST_DEPTH) s.parts (code_to code c))
 
-pub decode_stuck : (code : List ℕ) (left : ℕ) → IsReadFault (HasTerm 192) code (Stuck left) → IsDecodeFault code (NotACode (length code - left))
+pub decode_stuck : (code : List ℕ) (left : ℕ) → IsReadFault (HasTerm MOST_DEPTH) code (Stuck left) → IsDecodeFault code (NotACode (length code - left))
 decode_stuck code left f =
     let s = f.2 in
     let at : IsLongestStart IsTermCode code (length code - length f.0) =
@@ -32,7 +33,7 @@ decode_stuck code left f =
     (λ b more rest e w. s.no_longer b more rest e (code_to (s.done ++ b ∷ rest) w)) in
     (no_code code f.0 s, subst (λ (x : ℕ). IsLongestStart IsTermCode code (length code - x)) f.1 at)
 
-pub decode_rest : (code : List ℕ) (t : Tree) (rest : List ℕ) → BeginsWithTerm 192 code t rest → 0 < length rest
+pub decode_rest : (code : List ℕ) (t : Tree) (rest : List ℕ) → BeginsWithTerm MOST_DEPTH code t rest → 0 < length rest
     → IsDecodeFault code (NotACode (length code - length rest))
 decode_rest code t rest w h =
     let none : (b : ℕ) (more x : List ℕ) → IsTermCode (code_of t ++ b ∷ x) → ⊥ =
@@ -41,7 +42,7 @@ decode_rest code t rest w h =
       longest_start IsTermCode code (code_of t) rest [] w.parts (t, w.bounded, append-nil (code_of t)) (λ b more x e c. none b more x c),
     )
   where
-    no : (rest : List ℕ) → 0 < length rest → BeginsWithTerm 192 code t rest → ((b : ℕ) (more x : List ℕ) → IsTermCode (code_of t ++ b ∷ x) → ⊥)
+    no : (rest : List ℕ) → 0 < length rest → BeginsWithTerm MOST_DEPTH code t rest → ((b : ℕ) (more x : List ℕ) → IsTermCode (code_of t ++ b ∷ x) → ⊥)
         → IsTermCode code → ⊥
     no [] h w n c = absurd (omega arith)
     no (b ∷ more) h w n c = n b more more (subst IsTermCode w.parts c)

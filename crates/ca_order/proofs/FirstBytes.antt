@@ -2,6 +2,7 @@
 use Rattle.std.proofs.Common.{◌≡◌, ℕ, zero, suc, ◌≤◌, ◌+◌, ◌-◌, pos, negsuc, true, false, List, [], ◌∷◌, ◌++◌, length, arith, refl, sym, ◌∙◌, ap, subst}
 use Rattle.std.specs.Str.{IsUtf8, chars, encode_utf8_all}
 use Rattle.std.proofs.lemmas.Str.{chars-encodes}
+use Rattle.ca_term.specs.declared.bounds.TheConstants.{MOST_CODE_POINTS}
 use Rattle.ca_term.specs.Tree.{Tree, Row, Integer, Atom, Tuple, Nil, Cons, Binary, Ends, More, size, depth, row_depth, IsNarrow, IsNarrowRow}
 use Rattle.ca_term.specs.Code.{code_of, row_code, int_code, digits, complement, escaped, four_bytes}
 use Rattle.ca_term.proofs.Codes.{same_code, prefix_free}
@@ -39,22 +40,22 @@ tagged (Binary bytes) b x e = let p = first_same b 0x80 x (escaped bytes) e in i
 
 -- ---- atoms
 
-text_of : (text : List ℕ) (l : ℕ) → IsNarrow (Atom text) → HasText 255 (escaped text)
+text_of : (text : List ℕ) (l : ℕ) → IsNarrow (Atom text) → HasText MOST_CODE_POINTS (escaped text)
 text_of text l n =
     let u = n.0 in
     let same : chars text ≡ u.0 = ap chars (sym u.1.1) ∙ chars-encodes u.0 u.1.0 in
     record { text = u.0; are_scalars = u.1.0; short = omega (arith, n.1, ap length same); code_is = ap escaped (sym u.1.1) }
 
-atom_by : (x : List ℕ) (t : Tree) → IsNarrow t → Tagged 0x30 x t → HasText 255 x
+atom_by : (x : List ℕ) (t : Tree) → IsNarrow t → Tagged 0x30 x t → HasText MOST_CODE_POINTS x
 atom_by x _ n (is_pos k e f) = absurd (omega (arith, digits_shorter k, e))
 atom_by x _ n (is_neg k e f) = absurd (omega (arith, e))
-atom_by x _ n (is_atom text e f) = subst (HasText 255) (sym f) (text_of text 0 n)
+atom_by x _ n (is_atom text e f) = subst (HasText MOST_CODE_POINTS) (sym f) (text_of text 0 n)
 atom_by x _ n (is_tuple row e f) = absurd (omega (arith, e))
 atom_by x _ n (is_nil e f) = absurd (omega (arith, e))
 atom_by x _ n (is_cons head tail e f) = absurd (omega (arith, e))
 atom_by x _ n (is_binary bytes e f) = absurd (omega (arith, e))
 
-pub atom_rest : (l : ℕ) → IsRest (HasTerm (suc l)) (0x30 ∷ []) (HasText 255)
+pub atom_rest : (l : ℕ) → IsRest (HasTerm (suc l)) (0x30 ∷ []) (HasText MOST_CODE_POINTS)
 unfolding code_of
 atom_rest l = record {
   into = λ x h. atom_by x h.term h.narrow (tagged h.term 0x30 x h.code_is);

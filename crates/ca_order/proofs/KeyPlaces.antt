@@ -1,6 +1,7 @@
 -- The key's place in an object's code.
 use Rattle.std.proofs.Common.{◌≡◌, ℕ, zero, suc, ◌≤◌, ◌<◌, ◌+◌, ◌-◌, List, [], ◌∷◌, ◌++◌, length, arith, refl, sym, ◌∙◌, ap, subst, length-append}
 use Rattle.std.specs.Prelude.{None}
+use Rattle.ca_term.specs.declared.bounds.TheConstants.{MOST_ELEMENTS}
 use Rattle.ca_term.specs.Tree.{Tree, Row, Tuple, Ends, More, row_of, size, IsTerm, IsNarrow, IsNarrowRow}
 use Rattle.ca_term.specs.Code.{code_of, row_code, four_bytes}
 use Rattle.ca_term.proofs.Codes.{same_code}
@@ -51,7 +52,7 @@ object code inside b c e n = object_by c.0 b code inside c.1 c.2 n (tagged c.0 b
 pub same_term : (code inside : List ℕ) (o : IsObject code inside) (t : Tree) → IsTerm t → code ≡ code_of t → Tuple o.row ≡ t
 same_term code inside o t h e = (same_code (Tuple o.row) t [] [] o.bounded.narrow h.narrow (ap (λ x. x ++ []) (sym o.code_is ∙ e))).0
 
-pub size_fits : (code inside : List ℕ) (o : IsObject code inside) → (n : ℕ) × (rest : List ℕ) × (n ≤ 120) × (inside ≡ four_bytes n ++ rest)
+pub size_fits : (code inside : List ℕ) (o : IsObject code inside) → (n : ℕ) × (rest : List ℕ) × (n ≤ MOST_ELEMENTS) × (inside ≡ four_bytes n ++ rest)
 size_fits code inside o = (size o.row, row_code o.row, o.bounded.narrow.0, o.inside_is)
 
 pub few : (code inside : List ℕ) (o : IsObject code inside) (keypos n : ℕ) → 1 ≤ keypos → n ≡ size o.row → n ≤ keypos - 1 → (t : Tree) → IsTerm t

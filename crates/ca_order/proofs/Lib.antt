@@ -15,5 +15,4 @@ pub mod Decoded
 pub mod Faults
 pub mod FirstBytes
 pub mod Unescaped
-pub mod Utf8
 pub mod TwosComplement

@@ -1,10 +1,10 @@
 -- Lists are read head by head, and rows item by item.
 use Rattle.std.proofs.Common.{◌≡◌, ℕ, zero, suc, ◌≤◌, ◌<◌, ◌+◌, ◌-◌, max, List, [], ◌∷◌, ◌++◌, length, arith, refl, sym, ◌∙◌, ap, subst, append_assoc, append-nil, length-append}
+use Rattle.ca_term.specs.declared.bounds.TheConstants.{MOST_DEPTH, MOST_ELEMENTS}
 use Rattle.ca_order.specs.declared.fault.ReadFault.{ReadFault}
-use Rattle.ca_term.specs.Tree.{Tree, Tuple, Cons, Ends, row_of, size, depth, row_depth, IsTerm, IsNarrow, AreTerms}
+use Rattle.ca_term.specs.Tree.{Tree, Tuple, Ends, row_of, list_of, size, depth, row_depth, IsTerm, IsNarrow, AreTerms}
 use Rattle.ca_term.specs.Code.{code_of, row_code, four_bytes}
 use Rattle.ca_term.proofs.Rows.{size_row, narrow_row, AreTerms_push}
-use Rattle.ca_order.specs.Cells.{cells, heads_code, AreShallow}
 use Rattle.ca_order.specs.Stuck.{IsRest}
 use Rattle.ca_order.specs.Languages.{HasTerm, HasRow}
 use Rattle.ca_order.specs.Reads.{IsReadFault, BeginsWithTerm, BeginsWithRow}
@@ -23,9 +23,15 @@ rest_same L = record { into = λ x w. w; back = λ x w. w }
 
 -- ---- lists
 
-pub cells_push : (hs : List Tree) (h t : Tree) → cells (hs ++ h ∷ []) t ≡ cells hs (Cons h t)
-cells_push [] h t = refl
-cells_push (g ∷ hs) h t = ap (Cons g) (cells_push hs h t)
+-- the codes of the cells up to their tail
+abbrev heads_code : List Tree → List ℕ
+heads_code [] = []
+heads_code (h ∷ hs) = 0x70 ∷ code_of h ++ heads_code hs
+
+-- terms of at most so many levels
+abbrev AreShallow : ℕ → List Tree → Type 0
+AreShallow levels [] = Unit {0}
+AreShallow levels (t ∷ ts) = (depth t ≤ levels) × IsTerm t × AreShallow levels ts
 
 heads_push : (hs : List Tree) (h : Tree) → heads_code (hs ++ h ∷ []) ≡ heads_code hs ++ 0x70 ∷ code_of h
 heads_push [] h = ap (λ (x : List ℕ). 0x70 ∷ x) (append-nil (code_of h))
@@ -76,32 +82,32 @@ head_fault (suc l) rest inside e k p f =
     (fault_first (HasTerm l) (HasCell l) inside e (terms_prefix_free l) (cell_begins l) (cell_goes_on l)
     (subst (λ (x : ℕ). IsReadFault (HasTerm x) inside e) n f)))
 
-cells_code : (hs : List Tree) (t : Tree) → code_of (cells hs t) ≡ heads_code hs ++ code_of t
-cells_code [] t = refl
-cells_code (h ∷ hs) t =
-    code_cons h (cells hs t) ∙ ap (λ (x : List ℕ). 0x70 ∷ code_of h ++ x) (cells_code hs t)
+list_code : (hs : List Tree) (t : Tree) → code_of (list_of hs t) ≡ heads_code hs ++ code_of t
+list_code [] t = refl
+list_code (h ∷ hs) t =
+    code_cons h (list_of hs t) ∙ ap (λ (x : List ℕ). 0x70 ∷ code_of h ++ x) (list_code hs t)
     ∙ ap (λ (x : List ℕ). 0x70 ∷ x) (sym (append_assoc (code_of h) (heads_code hs) (code_of t)))
 
-cells_depth : (l : ℕ) (hs : List Tree) (t : Tree) → AreShallow l hs → depth t ≤ suc l → depth (cells hs t) ≤ suc l
-cells_depth l [] t a d = d
-cells_depth l (h ∷ hs) t a d = omega (arith, a.0, cells_depth l hs t a.2 d)
+list_depth : (l : ℕ) (hs : List Tree) (t : Tree) → AreShallow l hs → depth t ≤ suc l → depth (list_of hs t) ≤ suc l
+list_depth l [] t a d = d
+list_depth l (h ∷ hs) t a d = omega (arith, a.0, list_depth l hs t a.2 d)
 
-cells_narrow : (l : ℕ) (hs : List Tree) (t : Tree) → AreShallow l hs → IsNarrow t → IsNarrow (cells hs t)
-cells_narrow l [] t a n = n
-cells_narrow l (h ∷ hs) t a n = (a.1.narrow, cells_narrow l hs t a.2 n)
+list_narrow : (l : ℕ) (hs : List Tree) (t : Tree) → AreShallow l hs → IsNarrow t → IsNarrow (list_of hs t)
+list_narrow l [] t a n = n
+list_narrow l (h ∷ hs) t a n = (a.1.narrow, list_narrow l hs t a.2 n)
 
-pub heads_term : (levels : ℕ) (bytes : List ℕ) (heads : List Tree) (rest : List ℕ) (last whole : Tree) (behind : List ℕ) → 1 ≤ levels → levels ≤ 192
-    → IsHeads levels bytes heads rest → BeginsWithTerm levels rest last behind → whole ≡ cells heads last → BeginsWithTerm levels bytes whole behind
+pub heads_term : (levels : ℕ) (bytes : List ℕ) (heads : List Tree) (rest : List ℕ) (last whole : Tree) (behind : List ℕ) → 1 ≤ levels → levels ≤ MOST_DEPTH
+    → IsHeads levels bytes heads rest → BeginsWithTerm levels rest last behind → whole ≡ list_of heads last → BeginsWithTerm levels bytes whole behind
 heads_term zero bytes heads rest last whole behind l m p w e = absurd (omega arith)
 heads_term (suc l) bytes heads rest last whole behind k m p w e =
     let n : suc l - 1 ≡ l = omega arith in
     let a : AreShallow l heads = subst (λ (x : ℕ). AreShallow x heads) n p.shallow in
-    let d : depth (cells heads last) ≤ suc l = cells_depth l heads last a w.shallow in
+    let d : depth (list_of heads last) ≤ suc l = list_depth l heads last a w.shallow in
     subst (λ (x : Tree). BeginsWithTerm (suc l) bytes x behind) (sym e) (record {
       parts = p.parts ∙ ap (λ x. heads_code heads ++ x) w.parts ∙ sym (append_assoc (heads_code heads) (code_of last) behind)
-          ∙ ap (λ x. x ++ behind) (sym (cells_code heads last));
+          ∙ ap (λ x. x ++ behind) (sym (list_code heads last));
       shallow = d;
-      bounded = record { shallow = omega (arith, d); narrow = cells_narrow l heads last a w.bounded.narrow };
+      bounded = record { shallow = omega (arith, d); narrow = list_narrow l heads last a w.bounded.narrow };
     })
 
 -- ---- rows
@@ -157,7 +163,7 @@ item_fault levels k count bytes items rest e h r f =
     (row_goes_on levels (count - k - 1)) f))
 
 -- the tuple of a row
-pub begins_tuple : (levels count : ℕ) (bytes inside : List ℕ) (items : List Tree) (rest : List ℕ) (t : Tree) → levels ≤ 191 → count ≤ 120
+pub begins_tuple : (levels count : ℕ) (bytes inside : List ℕ) (items : List Tree) (rest : List ℕ) (t : Tree) → levels < MOST_DEPTH → count ≤ MOST_ELEMENTS
     → bytes ≡ four_bytes count ++ inside → BeginsWithRow levels count inside items rest → t ≡ Tuple (row_of items)
     → BeginsWithTerm (levels + 1) (0x40 ∷ bytes) t rest
 begins_tuple levels count bytes inside items rest t h k e r f =

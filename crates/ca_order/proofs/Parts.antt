@@ -1,6 +1,7 @@
 -- Codes, part by part.
 use Rattle.std.proofs.Common.{◌≡◌, ℕ, ◌≤◌, ◌<◌, ◌+◌, List, [], ◌∷◌, ◌++◌, length, drop, get_or, arith, refl, sym, ◌∙◌, ap, subst}
 use Rattle.std.proofs.lemmas.List.{drop_all}
+use Rattle.ca_term.specs.declared.bounds.TheConstants.{MOST_ELEMENTS}
 use Rattle.ca_term.proofs.Lengths.{row_code_at}
 use Rattle.ca_term.proofs.Rows.{size_row}
 use Rattle.ca_term.specs.Code.{code_of, escaped, int_code, four_bytes, row_code}
@@ -53,14 +54,14 @@ module _ (t : Tree) where
   pub at_binary : (bytes : List ℕ) → Binary bytes ≡ t → code_of t ≡ (0x80 ∷ []) ++ escaped bytes
   at_binary bytes e = ap code_of (sym e) ∙ code_binary bytes
 
-  -- the elements of a tuple have fewer nodes than it, and are at most 120
+  -- the elements of a tuple have fewer nodes than it, and are no more than a tuple may have
   pub tuple_falls : (ts : List Tree) → Tuple (row_of ts) ≡ t → 1 + row_nodes (row_of ts) ≡ nodes t
   tuple_falls ts e = ap nodes e
 
   pub cons_falls : (head tail : Tree) → Cons head tail ≡ t → 1 + (nodes head + nodes tail) ≡ nodes t
   cons_falls head tail e = ap nodes e
 
-  pub tuple_fits : (ts : List Tree) → Tuple (row_of ts) ≡ t → IsTerm t → length ts ≤ 120
+  pub tuple_fits : (ts : List Tree) → Tuple (row_of ts) ≡ t → IsTerm t → length ts ≤ MOST_ELEMENTS
   tuple_fits ts e h = let n : IsNarrow (Tuple (row_of ts)) = subst IsNarrow (sym e) h.narrow in omega (arith, n.0, size_row ts)
 
 pub size_bytes : (n : ℕ) (bytes : List ℕ) → bytes ≡ to_be_bytes w32 n → bytes ≡ four_bytes n

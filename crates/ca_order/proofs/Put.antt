@@ -1,6 +1,7 @@
 -- What is written goes before what is left to write.
 use Rattle.std.proofs.Common.{◌≡◌, ℕ, ◌<◌, ◌+◌, List, [], ◌∷◌, ◌++◌, length, arith, ◌∙◌, ap, append_assoc, length-append}
 use Rattle.std.specs.Prelude.{Result, Ok, Err, IsErr}
+use Rattle.ca_term.specs.declared.bounds.TheConstants.{MOST_CODE_BYTES}
 use Rattle.ca_order.specs.declared.room.TooLong.{TooLong}
 use Rattle.ca_order.specs.Puts.{Puts}
 
@@ -18,13 +19,13 @@ pub put_all : (written rest old whole new : List ℕ) → IsPut written rest old
 put_all written rest old whole new p e = e ∙ p.parts
 
 -- where a piece of the rest doesn't fit, the whole doesn't
-pub put_full : (written rest old whole piece left : List ℕ) → IsPut written rest old whole → rest ≡ piece ++ left → 1000 < length written + length piece
-    → 1000 < length old + length whole
+pub put_full : (written rest old whole piece left : List ℕ) → IsPut written rest old whole → rest ≡ piece ++ left → MOST_CODE_BYTES < length written + length piece
+    → MOST_CODE_BYTES < length old + length whole
 put_full written rest old whole piece left p e h =
     omega (arith, ap length p.parts, ap length e, length-append written rest, length-append old whole, length-append piece left)
 
 -- where the rest doesn't fit, the whole doesn't
-pub rest_full : (written rest old whole : List ℕ) → IsPut written rest old whole → 1000 < length written + length rest → 1000 < length old + length whole
+pub rest_full : (written rest old whole : List ℕ) → IsPut written rest old whole → MOST_CODE_BYTES < length written + length rest → MOST_CODE_BYTES < length old + length whole
 rest_full written rest old whole p h = omega (arith, ap length p.parts, length-append written rest, length-append old whole)
 
 -- at a last call
@@ -35,7 +36,7 @@ puts_all (Err fault) written rest old whole new p h = rest_full written rest old
 
 -- at a refusal
 pub puts_err : (r : Result (Unit {0}) TooLong) (written rest old whole piece left new : List ℕ) → IsErr r → IsPut written rest old whole → rest ≡ piece ++ left
-    → 1000 < length written + length piece → Puts r old whole new
+    → MOST_CODE_BYTES < length written + length piece → Puts r old whole new
 puts_err (Ok u) written rest old whole piece left new e p f h = cc
 puts_err (Err fault) written rest old whole piece left new e p f h = put_full written rest old whole piece left p f h
 

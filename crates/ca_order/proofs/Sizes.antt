@@ -1,5 +1,6 @@
 -- Where the size of a tuple is stuck.
 use Rattle.std.proofs.Common.{◌≡◌, ℕ, zero, suc, ◌≤◌, ◌+◌, ◌/◌, ◌%◌, List, [], ◌∷◌, ◌++◌, arith, refl, sym, ◌∙◌, ap, subst}
+use Rattle.ca_term.specs.declared.bounds.TheConstants.{MOST_ELEMENTS}
 use Rattle.ca_order.specs.declared.fault.ReadFault.{ReadFault}
 use Rattle.ca_term.specs.Tree.{Row, Ends, More, size, row_depth}
 use Rattle.ca_term.specs.Code.{four_bytes, row_code}
@@ -11,7 +12,7 @@ use Rattle.ca_order.proofs.Starts.{IsPrefixFree, Begins, stuck_here}
 use Rattle.ca_order.proofs.Faults.{fault_behind, fault_first, fault_same}
 use Rattle.ca_order.proofs.FirstBytes.{nil_row, first_same}
 
-pub four_small : (n : ℕ) → n ≤ 120 → four_bytes n ≡ 0 ∷ 0 ∷ 0 ∷ n ∷ []
+pub four_small : (n : ℕ) → n ≤ MOST_ELEMENTS → four_bytes n ≡ 0 ∷ 0 ∷ 0 ∷ n ∷ []
 unfolding four_bytes
 four_small n h =
     let a : n / 16777216 % 256 ≡ 0 = omega arith in
@@ -85,7 +86,7 @@ zero_more k b bytes rest more e h f =
     shift zero xs = refl
     shift (suc k) xs = ap (λ (y : List ℕ). 0 ∷ y) (shift k xs)
 
-pub size_all : (most n : ℕ) (bytes rest more : List ℕ) → most ≤ 120 → n ≤ most → bytes ≡ zero_bytes 3 ++ rest → rest ≡ n ∷ more → bytes ≡ four_bytes n ++ more
+pub size_all : (most n : ℕ) (bytes rest more : List ℕ) → most ≤ MOST_ELEMENTS → n ≤ most → bytes ≡ zero_bytes 3 ++ rest → rest ≡ n ∷ more → bytes ≡ four_bytes n ++ more
 size_all most n bytes rest more h k e f = e ∙ ap (λ x. zero_bytes 3 ++ x) f ∙ ap (λ x. x ++ more) (sym (four_small n (omega arith)))
 
 -- ---- the size, and then the elements
@@ -99,11 +100,11 @@ no_row : (row : Row) → row_depth row ≤ 0 → size row ≡ 0
 no_row Ends h = refl
 no_row (More t row) h = absurd (omega (arith, deep t))
 
-few_elements : (levels n : ℕ) (x : List ℕ) → HasRow levels n x → n ≤ 120 → n ≤ most_elements levels
+few_elements : (levels n : ℕ) (x : List ℕ) → HasRow levels n x → n ≤ MOST_ELEMENTS → n ≤ most_elements levels
 few_elements zero n x h k = omega (arith, no_row h.row h.shallow, h.many)
 few_elements (suc levels) n x h k = k
 
-pub most_fits : (levels : ℕ) → most_elements levels ≤ 120
+pub most_fits : (levels : ℕ) → most_elements levels ≤ MOST_ELEMENTS
 most_fits zero = omega arith
 most_fits (suc levels) = omega arith
 
@@ -127,7 +128,7 @@ some_row (suc levels) n h = nil_row (suc levels) n (omega arith)
 size_goes_on : (levels : ℕ) (u : List ℕ) → HasSize 3 (most_elements levels) u → (v : List ℕ) × HasTuple levels (u ++ v)
 size_goes_on levels u h =
     let v = some_row levels h.count h.fits in
-    let f : h.count ≤ 120 = omega (arith, h.fits, most_fits levels) in
+    let f : h.count ≤ MOST_ELEMENTS = omega (arith, h.fits, most_fits levels) in
     (v.0, record { count = h.count; fits = f; elements = v.0; row = v.1; code_is = ap (λ x. x ++ v.0) (h.code_is ∙ sym (four_small h.count f)) })
 
 pub size_fault : (levels : ℕ) (bytes : List ℕ) (e : ReadFault) → IsReadFault (HasSize 3 (most_elements levels)) bytes e → IsReadFault (HasTuple levels) bytes e
@@ -135,7 +136,7 @@ size_fault levels bytes e h =
     fault_first (HasSize 3 (most_elements levels)) (HasTuple levels) bytes e (size_prefix_free (most_elements levels)) (size_begins levels)
     (size_goes_on levels) h
 
-pub elements_rest : (levels n : ℕ) → n ≤ 120 → IsRest (HasTuple levels) (four_bytes n) (HasRow levels n)
+pub elements_rest : (levels n : ℕ) → n ≤ MOST_ELEMENTS → IsRest (HasTuple levels) (four_bytes n) (HasRow levels n)
 elements_rest levels n h = record {
   into = λ x w.
       let e : 0 ∷ 0 ∷ 0 ∷ n ∷ x ≡ 0 ∷ 0 ∷ 0 ∷ w.count ∷ w.elements =

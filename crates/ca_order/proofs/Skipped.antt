@@ -1,5 +1,6 @@
 -- Codes are skipped by their first byte.
 use Rattle.std.proofs.Common.{◌≡◌, ℕ, ◌≤◌, ◌<◌, ◌+◌, ◌-◌, pos, negsuc, List, [], ◌∷◌, ◌++◌, length, arith, refl, sym, ◌∙◌, ap, subst, append_assoc, append-nil, length-append, ◌⊎◌}
+use Rattle.ca_term.specs.declared.bounds.TheConstants.{MOST_ELEMENTS}
 use Rattle.ca_term.specs.Tree.{Tree, Row, Integer, Atom, Tuple, Nil, Cons, Binary, Ends, More, row_of, size, elements, IsNarrow, IsNarrowRow}
 use Rattle.ca_term.specs.Code.{code_of, row_code, int_code, digits, complement, escaped, four_bytes}
 use Rattle.ca_term.proofs.Digits.{digits_shorter, length_complement}
@@ -11,7 +12,7 @@ data Next (b : ℕ) (inside y : List ℕ) : Type 0 where
   next_pos : (ds : List ℕ) → length ds ≤ 8 → b ≡ 0x20 + length ds → inside ≡ ds ++ y → Next b inside y
   next_neg : (ds : List ℕ) → length ds ≤ 8 → b ≡ 0x1f - length ds → inside ≡ ds ++ y → Next b inside y
   next_atom : (bs : List ℕ) → b ≡ 0x30 → inside ≡ escaped bs ++ y → Next b inside y
-  next_tuple : (row : Row) → b ≡ 0x40 → size row ≤ 120 → IsNarrowRow row → inside ≡ four_bytes (size row) ++ (row_code row ++ y) → Next b inside y
+  next_tuple : (row : Row) → b ≡ 0x40 → size row ≤ MOST_ELEMENTS → IsNarrowRow row → inside ≡ four_bytes (size row) ++ (row_code row ++ y) → Next b inside y
   next_nil : b ≡ 0x60 → inside ≡ y → Next b inside y
   next_cons : (h t : Tree) → b ≡ 0x70 → IsNarrow h → IsNarrow t → inside ≡ code_of h ++ (code_of t ++ y) → Next b inside y
   next_binary : (bs : List ℕ) → b ≡ 0x80 → inside ≡ escaped bs ++ y → Next b inside y
@@ -59,7 +60,7 @@ as_escaped b inside y e (next_cons h t f k l g) = absurd (omega (arith, f))
 as_escaped b inside y e (next_binary bs f g) = (bs, g)
 
 as_tuple : (b : ℕ) (inside y : List ℕ) → b ≡ 0x40 → Next b inside y
-    → (row : Row) × (size row ≤ 120) × IsNarrowRow row × (inside ≡ four_bytes (size row) ++ (row_code row ++ y))
+    → (row : Row) × (size row ≤ MOST_ELEMENTS) × IsNarrowRow row × (inside ≡ four_bytes (size row) ++ (row_code row ++ y))
 as_tuple b inside y e (next_pos ds l f g) = absurd (omega (arith, f))
 as_tuple b inside y e (next_neg ds l f g) = absurd (omega (arith, f))
 as_tuple b inside y e (next_atom bs f g) = absurd (omega (arith, f))
@@ -190,11 +191,11 @@ module _ (n b : ℕ) (bytes inside end : List ℕ) (h : HasCodes (n + 1) bytes e
       let a = as_cons b inside (row_code (row_of hd.others) ++ end) t hd.next_is in
       record { terms = a.0 ∷ a.1 ∷ hd.others; narrow = (a.2, (a.3, hd.narrow)); many = omega (arith, hd.many); parts = a.4 ∙ two_more a.0 a.1 hd.others end }
 
-  pub size_there : b ≡ 0x40 → (m : ℕ) × (y : List ℕ) × (m ≤ 120) × (inside ≡ four_bytes m ++ y)
+  pub size_there : b ≡ 0x40 → (m : ℕ) × (y : List ℕ) × (m ≤ MOST_ELEMENTS) × (inside ≡ four_bytes m ++ y)
   size_there t =
       let a = as_tuple b inside (row_code (row_of hd.others) ++ end) t hd.next_is in (size a.0, row_code a.0 ++ (row_code (row_of hd.others) ++ end), a.1, a.3)
 
-  pub tuple_codes : (m : ℕ) (rest : List ℕ) → b ≡ 0x40 → ((k : ℕ) (y : List ℕ) → k ≤ 120 → inside ≡ four_bytes k ++ y → (m ≡ k) × (rest ≡ y))
+  pub tuple_codes : (m : ℕ) (rest : List ℕ) → b ≡ 0x40 → ((k : ℕ) (y : List ℕ) → k ≤ MOST_ELEMENTS → inside ≡ four_bytes k ++ y → (m ≡ k) × (rest ≡ y))
       → HasCodes (n + m) rest end
   tuple_codes m rest t f =
       let a = as_tuple b inside (row_code (row_of hd.others) ++ end) t hd.next_is in

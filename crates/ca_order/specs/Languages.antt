@@ -2,6 +2,7 @@
 use Rattle.std.specs.Prelude.{◌≡◌, ℕ, zero, suc, ◌<◌, ◌≤◌, ◌-◌, Bool, true, false, List, [], ◌∷◌, ◌++◌, length}
 use Rattle.std.specs.Char.{IsScalar, encode_utf8}
 use Rattle.std.specs.Str.{encode_utf8_all, all_scalars}
+use Rattle.ca_term.specs.declared.bounds.TheConstants.{MOST_ELEMENTS}
 use Rattle.ca_term.specs.Tree.{Tree, Row, size, depth, row_depth, IsTerm, IsNarrow, IsNarrowRow, AreBytes}
 use Rattle.ca_term.specs.Code.{code_of, row_code, escaped, complement, four_bytes}
 use Rattle.ca_term.specs.Grammar.{AreDigits}
@@ -13,7 +14,7 @@ zero_bytes (suc n) = 0 ∷ zero_bytes n
 -- how many elements a tuple may have whose elements have at most so many levels
 abbrev pub most_elements : ℕ → ℕ
 most_elements zero = 0
-most_elements (suc levels) = 120
+most_elements (suc levels) = MOST_ELEMENTS
 
 -- the code of a term
 abbrev pub IsTermCode : List ℕ → Type 0
@@ -43,7 +44,7 @@ pub record HasSize (zeros most : ℕ) (bytes : List ℕ) : Type 0 where
 -- the size of a tuple and the codes of its elements, of at most so many levels
 pub record HasTuple (levels : ℕ) (bytes : List ℕ) : Type 0 where
   pub count : ℕ
-  pub fits : count ≤ 120
+  pub fits : count ≤ MOST_ELEMENTS
   pub elements : List ℕ
   pub row : HasRow levels count elements
   pub code_is : bytes ≡ four_bytes count ++ elements
@@ -86,12 +87,3 @@ pub record HasChar (bytes : List ℕ) : Type 0 where
   pub char : ℕ
   pub is_scalar : IsScalar char
   pub code_is : bytes ≡ encode_utf8 char
-
--- no character begins with this byte
-abbrev pub IsNoLead : ℕ → Type 0
-IsNoLead lead = (x : List ℕ) → HasChar (lead ∷ x) → ⊥
-
--- so many bytes, the first one between these bounds, and the others between 80 and BF
-abbrev pub HasFollowing : ℕ → ℕ → ℕ → List ℕ → Type 0
-HasFollowing zero least most bytes = bytes ≡ []
-HasFollowing (suc count) least most bytes = (b : ℕ) × (rest : List ℕ) × (least ≤ b) × (b ≤ most) × (bytes ≡ b ∷ rest) × HasFollowing count 0x80 0xbf rest

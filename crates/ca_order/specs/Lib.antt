@@ -1,4 +1,3 @@
-pub mod Cells
 pub mod Escapes
 pub mod IntTag
 pub mod KeyParts

@@ -64,12 +64,6 @@ pub record BeginsWithDigits (negative : Bool) (len : ℕ) (bytes : List ℕ) (va
   pub value_is : value ≡ number digits
   pub parts : bytes ≡ turned negative digits ++ rest
 
--- bytes begin with a word
-pub record BeginsWithWord (L : List ℕ → Type 0) (bytes rest : List ℕ) : Type 0 where
-  pub word : List ℕ
-  pub is_word : L word
-  pub parts : bytes ≡ word ++ rest
-
 -- a text with room for so many characters ends, or has one more
 abbrev pub IsStep : ℕ → List ℕ → Step → Type 0
 IsStep room bytes (End end) = bytes ≡ 0 ∷ 0 ∷ end.now

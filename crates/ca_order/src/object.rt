@@ -1,5 +1,6 @@
 //! The parts of an object's code.
 ghost use Rattle.std.specs.Prelude.{◌≡◌, ◌≤◌, ◌<◌, ◌+◌, ◌++◌, ◌∷◌, ℕ, List, length};
+ghost use Rattle.ca_term.specs.declared.bounds.TheConstants.{MOST_ELEMENTS};
 ghost use Rattle.ca_term.specs.Code.{code_of, escaped, four_bytes};
 ghost use Rattle.ca_term.specs.Tree.{Tree, IsTerm};
 ghost use Rattle.ca_order.specs.KeyParts.{IsKeyParts, HasCodes};
@@ -76,8 +77,8 @@ fn behind(bytes: &[u8], len: u8) -> &[u8]
 
 // The number in the first four bytes, and the bytes behind them.
 fn split_size(bytes: &[u8]) -> (usize, &[u8])
-    requires { (n : ℕ) × (rest : List ℕ) × (n ≤ 120) × (bytes.now ≡ four_bytes n ++ rest) }
-    ensures size { (n : ℕ) (rest : List ℕ) → n ≤ 120 → bytes.now ≡ four_bytes n ++ rest → (result.0 ≡ n) × (result.1.now ≡ rest) }
+    requires { (n : ℕ) × (rest : List ℕ) × (n ≤ MOST_ELEMENTS) × (bytes.now ≡ four_bytes n ++ rest) }
+    ensures size { (n : ℕ) (rest : List ℕ) → n ≤ MOST_ELEMENTS → bytes.now ≡ four_bytes n ++ rest → (result.0 ≡ n) × (result.1.now ≡ rest) }
     ensures shorter { length result.1.now ≤ length bytes.now }
 {
     let (size, rest) = bytes.split_at(4);

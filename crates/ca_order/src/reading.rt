@@ -1,7 +1,7 @@
 //! The term of a byte code.
-ghost use Rattle.std.specs.Prelude.{◌≡◌, ◌≢◌, ◌≤◌, ◌∷◌, ◌++◌, ◌+◌, slice_index, length, IfOk, IfErr, IsErr, MatchOption, MatchResult};
+ghost use Rattle.std.specs.Prelude.{◌≡◌, ◌≢◌, ◌≤◌, ◌<◌, ◌∷◌, ◌++◌, ◌+◌, slice_index, length, IfOk, IfErr, IsErr, MatchOption, MatchResult};
+ghost use Rattle.ca_term.specs.declared.bounds.TheConstants.{MOST_DEPTH, MOST_ELEMENTS};
 ghost use Rattle.ca_term.specs.Code.{code_of, four_bytes};
-ghost use Rattle.ca_order.specs.Cells.{cells};
 ghost use Rattle.ca_order.specs.Languages.{IsTermCode, HasTerm, HasTuple, HasRow, HasSize, most_elements};
 ghost use Rattle.ca_order.specs.Reads.{IsReadFault, IsDecodeFault, BeginsWithTerm, BeginsWithRow};
 
@@ -10,22 +10,18 @@ use crate::binaries::read_binary;
 use crate::digits::read_digits;
 use crate::fault::{DecodeFault, ReadFault, stuck};
 use crate::tags::{ATOM, BINARY, CONS, NIL, TUPLE};
-use ca_term::{Term, Terms, cons, int, nil, tuple};
+use ca_term::{MOST_DEPTH, MOST_ELEMENTS, Term, Terms, int, list, nil, tuple};
 use std::alloc::Global;
-
-const MOST_LEVELS: u8 = 192;
-
-const MOST_ELEMENTS: u8 = 120;
 
 /// The term whose byte code these bytes are.
 ///
-/// It takes memory only for what it has read, and no input makes it nest deeper than 192 calls of itself.
+/// It takes memory only for what it has read, and no input makes it nest deeper than `MOST_DEPTH` calls of itself.
 pub fn decode(alloc: Global, code: &[u8]) -> Result<Term, DecodeFault>
     ensures ok { IfOk result (λ t. code.now ≡ code_of t) }
     ensures refused { (IsTermCode code.now → ⊥) → IsErr result }
     ensures fault { IfErr result (λ e. IsDecodeFault code.now e) }
 {
-    match read_term(alloc, code, MOST_LEVELS) {
+    match read_term(alloc, code, MOST_DEPTH) {
         Ok((term, rest)) => {
             if rest.is_empty() {
                 Ok(term)
@@ -48,10 +44,10 @@ pub fn decode(alloc: Global, code: &[u8]) -> Result<Term, DecodeFault>
 #[cycle(read)]
 fn read_term(alloc: Global, bytes: &[u8], levels: u8) -> Result<(Term, &[u8]), ReadFault>
     requires least { 1 ≤ levels }
-    requires most { levels ≤ 192 }
+    requires most { levels ≤ MOST_DEPTH }
     ensures { MatchResult result (λ p. BeginsWithTerm levels bytes.now p.0 p.1.now) (λ e. IsReadFault (HasTerm levels) bytes.now e) }
 {
-    let mut heads = Vec::new(alloc);
+    let mut heads = Terms::new(alloc);
     let mut rest = bytes;
     while let Some(inside) = inside_cell(rest, levels) {
         let (head, behind) = read_term(alloc, inside, levels - 1)?;
@@ -59,7 +55,7 @@ fn read_term(alloc: Global, bytes: &[u8], levels: u8) -> Result<(Term, &[u8]), R
         rest = behind;
     }
     let (last, behind) = read_last(alloc, rest, levels)?;
-    Ok((list_of(alloc, heads, last)?, behind))
+    Ok((list(alloc, heads, last)?, behind))
 }
 
 // The bytes behind the first byte of a list cell, where the levels allow one.
@@ -72,22 +68,11 @@ fn inside_cell(bytes: &[u8], levels: u8) -> Option<&[u8]>
     }
 }
 
-// The list of these heads with this tail.
-fn list_of(alloc: Global, mut heads: Vec<Term>, last: Term) -> Result<Term, ReadFault>
-    ensures { MatchResult result (λ t. t ≡ cells heads.items last) (λ e. e ≡ ReadFault.NoMemory) }
-{
-    let mut list = last;
-    while let Some(head) = heads.pop() {
-        list = cons(alloc, head, list)?;
-    }
-    Ok(list)
-}
-
 // The term whose code these bytes begin with, where it is no list cell.
 #[cycle(read)]
 fn read_last(alloc: Global, bytes: &[u8], levels: u8) -> Result<(Term, &[u8]), ReadFault>
     requires least { 1 ≤ levels }
-    requires most { levels ≤ 192 }
+    requires most { levels ≤ MOST_DEPTH }
     requires no_cell { 2 ≤ levels → slice_index bytes.now 0 ≢ 0x70 }
     ensures { MatchResult result (λ p. BeginsWithTerm levels bytes.now p.0 p.1.now) (λ e. IsReadFault (HasTerm levels) bytes.now e) }
 {
@@ -114,7 +99,7 @@ fn read_last(alloc: Global, bytes: &[u8], levels: u8) -> Result<(Term, &[u8]), R
 // The tuple whose size and elements these bytes begin with, its elements of at most so many levels.
 #[cycle(read)]
 fn read_tuple(alloc: Global, bytes: &[u8], levels: u8) -> Result<(Term, &[u8]), ReadFault>
-    requires { levels ≤ 191 }
+    requires { levels < MOST_DEPTH }
     ensures { MatchResult result (λ p. BeginsWithTerm (levels + 1) (0x40 ∷ bytes.now) p.0 p.1.now) (λ e. IsReadFault (HasTuple levels) bytes.now e) }
 {
     let (count, inside) = read_size(bytes, most_elements(levels))?;
@@ -123,15 +108,15 @@ fn read_tuple(alloc: Global, bytes: &[u8], levels: u8) -> Result<(Term, &[u8]), 
 }
 
 // How many elements a tuple may have whose elements have at most so many levels.
-fn most_elements(levels: u8) -> u8
+fn most_elements(levels: u8) -> usize
     ensures { result ≡ most_elements levels }
 {
     if levels == 0 { 0 } else { MOST_ELEMENTS }
 }
 
 // The size of at most `most` that these bytes begin with, in four bytes.
-fn read_size(bytes: &[u8], most: u8) -> Result<(u8, &[u8]), ReadFault>
-    requires { most ≤ 120 }
+fn read_size(bytes: &[u8], most: usize) -> Result<(usize, &[u8]), ReadFault>
+    requires { most ≤ MOST_ELEMENTS }
     ensures { MatchResult result (λ p. (p.0 ≤ most) × (bytes.now ≡ four_bytes p.0 ++ p.1.now)) (λ e. IsReadFault (HasSize 3 most) bytes.now e) }
 {
     let (_, bytes_1) = read_byte(bytes, 0)?;
@@ -141,16 +126,17 @@ fn read_size(bytes: &[u8], most: u8) -> Result<(u8, &[u8]), ReadFault>
 }
 
 // The byte of at most `most` that these bytes begin with.
-fn read_byte(bytes: &[u8], most: u8) -> Result<(u8, &[u8]), ReadFault>
+fn read_byte(bytes: &[u8], most: usize) -> Result<(usize, &[u8]), ReadFault>
     ensures { MatchResult result (λ p. (p.0 ≤ most) × (bytes.now ≡ p.0 ∷ p.1.now)) (λ e. IsReadFault (HasSize 0 most) bytes.now e) }
 {
     let Some((byte, rest)) = bytes.split_first() else {
         return Err(stuck(bytes));
     };
-    if *byte > most {
+    let number = usize::from(*byte);
+    if number > most {
         return Err(stuck(bytes));
     }
-    Ok((*byte, rest))
+    Ok((number, rest))
 }
 
 // The terms whose codes these bytes begin with, so many and of at most so many levels.
@@ -158,10 +144,10 @@ fn read_byte(bytes: &[u8], most: u8) -> Result<(u8, &[u8]), ReadFault>
 fn read_items(
     alloc: Global,
     bytes: &[u8],
-    count: u8,
+    count: usize,
     levels: u8,
 ) -> Result<(Terms, &[u8]), ReadFault>
-    requires levels { levels ≤ 191 }
+    requires levels { levels < MOST_DEPTH }
     requires count { count ≤ most_elements levels }
     ensures { MatchResult result (λ p. BeginsWithRow levels count bytes.now p.0.items p.1.now) (λ e. IsReadFault (HasRow levels count) bytes.now e) }
 {

@@ -3,13 +3,13 @@ ghost use Rattle.std.specs.Prelude.{◌≡◌};
 ghost use Rattle.ca_term.specs.Order.{term_cmp};
 
 use arrayvec::ArrayVec;
-use ca_term::{Term, term_order};
+use ca_term::{MOST_CODE_BYTES, Term, term_order};
 use std::cmp::Ordering;
 
-/// Room for a code of up to 1,000 bytes.
-pub type Code = ArrayVec<u8, 1000>;
+/// Room for a code of up to `MOST_CODE_BYTES` bytes.
+pub type Code = ArrayVec<u8, MOST_CODE_BYTES>;
 
-/// The code has over 1,000 bytes.
+/// The code has over `MOST_CODE_BYTES` bytes.
 #[derive(Clone, Copy, Debug, PartialEq, Eq)]
 pub struct TooLong {}
 

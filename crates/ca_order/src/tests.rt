@@ -71,13 +71,13 @@ fn integers(rt: HostRuntime) {
 #[test]
 fn longest_binaries(rt: HostRuntime) {
     let alloc = rt.alloc();
-    let bytes = [7u8; 998];
+    let bytes = [7u8; MOST_CODE_BYTES - 2];
     let mut into = Code::new();
-    match bin(alloc, &bytes[..997]) {
+    match bin(alloc, &bytes[1..]) {
         Ok(fits) => {
             assert!(rt; encode(&fits, &mut into).is_ok());
-            assert_eq!(rt; into.len(), 1000);
-            assert_eq!(rt; code_length(&fits), 1000);
+            assert_eq!(rt; into.len(), MOST_CODE_BYTES);
+            assert_eq!(rt; code_length(&fits), MOST_CODE_BYTES);
         }
         Err(_) => assert!(rt; false),
     }
@@ -85,7 +85,7 @@ fn longest_binaries(rt: HostRuntime) {
         Ok(over) => {
             assert!(rt; encode(&over, &mut into).is_err());
             assert_eq!(rt; into.len(), 0);
-            assert_eq!(rt; code_length(&over), 1001);
+            assert_eq!(rt; code_length(&over), MOST_CODE_BYTES + 1);
         }
         Err(_) => assert!(rt; false),
     }
@@ -121,26 +121,27 @@ fn places(rt: HostRuntime) {
 #[test]
 fn deepest(rt: HostRuntime) {
     let alloc = rt.alloc();
-    let mut code = [0u8; 965];
-    for wrap in 0..192 {
+    let wraps = usize::from(MOST_DEPTH);
+    let mut code = [0u8; 5 * (MOST_DEPTH as usize + 1)];
+    for wrap in 0..wraps {
         code[5 * wrap] = 0x40;
         code[5 * wrap + 4] = 1;
     }
-    code[960] = 0x40;
+    code[5 * wraps] = 0x40;
     assert!(rt; stands_both_ways(alloc, &code[5..]));
-    assert_eq!(rt; refused_at(alloc, &code), Some(959));
+    assert_eq!(rt; refused_at(alloc, &code), Some(5 * wraps - 1));
 }
 
 #[test]
 fn longest_atoms(rt: HostRuntime) {
     let alloc = rt.alloc();
-    let mut code = [0x61u8; 259];
+    let mut code = [0x61u8; MOST_CODE_POINTS + 4];
     code[0] = 0x30;
-    code[257] = 0;
-    code[258] = 0;
-    assert_eq!(rt; refused_at(alloc, &code), Some(256));
-    code[256] = 0;
-    assert!(rt; stands_both_ways(alloc, &code[..258]));
+    code[MOST_CODE_POINTS + 2] = 0;
+    code[MOST_CODE_POINTS + 3] = 0;
+    assert_eq!(rt; refused_at(alloc, &code), Some(MOST_CODE_POINTS + 1));
+    code[MOST_CODE_POINTS + 1] = 0;
+    assert!(rt; stands_both_ways(alloc, &code[..MOST_CODE_POINTS + 3]));
 }
 
 #[test]

@@ -1,5 +1,6 @@
 //! The byte code of a term.
 ghost use Rattle.std.specs.Prelude.{◌≡◌, ◌<◌, ◌≤◌, ◌++◌, [], length, ◌↔◌, IsErr, OnOk, OnErr};
+ghost use Rattle.ca_term.specs.declared.bounds.TheConstants.{MOST_CODE_BYTES, MOST_ELEMENTS};
 ghost use Rattle.ca_term.specs.Code.{code_of, escaped, int_code, four_bytes, row_code};
 ghost use Rattle.ca_term.specs.Tree.{row_of};
 ghost use Rattle.ca_order.specs.Puts.{Puts};
@@ -10,10 +11,10 @@ use crate::tags::{ATOM, BINARY, CONS, NIL, TUPLE};
 use crate::zeros::split_at_zero;
 use ca_term::{Kind, Term, int_code_length};
 
-/// Writes the term's code into `into` in place of what it held. Where the code has over 1,000 bytes, `into` is left empty.
+/// Writes the term's code into `into` in place of what it held. Where the code has over `MOST_CODE_BYTES` bytes, `into` is left empty.
 pub fn encode(term: &Term, into: &mut Code) -> Result<(), TooLong>
     ensures ok { OnOk result (into.new.items ≡ code_of term.now) }
-    ensures too_long { IsErr result ↔ (1000 < length (code_of term.now)) }
+    ensures too_long { IsErr result ↔ (MOST_CODE_BYTES < length (code_of term.now)) }
     ensures empty { OnErr result (into.new.items ≡ []) }
 {
     into.clear();
@@ -21,7 +22,7 @@ pub fn encode(term: &Term, into: &mut Code) -> Result<(), TooLong>
     if put.is_err() {
         into.clear();
     }
-    // That the room holds at most 1,000 bytes is told by its length.
+    // That the room holds at most `MOST_CODE_BYTES` bytes is told by its length.
     let _length = into.len();
     put
 }
@@ -109,7 +110,7 @@ fn put_term(term: &Term, into: &mut Code) -> Result<(), TooLong>
 #[cycle(code)]
 #[tactic(auto, using(ca_term::proofs::Rows::nodes_item))]
 fn put_row(items: &[Term], into: &mut Code) -> Result<(), TooLong>
-    requires { length items.now ≤ 120 }
+    requires { length items.now ≤ MOST_ELEMENTS }
     ensures { Puts result into.old.items (four_bytes (length items.now) ++ row_code (row_of items.now)) into.new.items }
 {
     put(&(items.len() as u32).to_be_bytes(), into)?;

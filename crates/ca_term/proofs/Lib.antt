@@ -1,5 +1,6 @@
 pub mod Bytes
 pub mod Cells
+pub mod Characters
 pub mod Codes
 pub mod DigitBytes
 pub mod DigitOrder
@@ -8,6 +9,7 @@ pub mod Escapes
 pub mod Grammar
 pub mod IntCodes
 pub mod Lengths
+pub mod Lists
 pub mod Numbers
 pub mod Rows
 pub mod TotalOrder

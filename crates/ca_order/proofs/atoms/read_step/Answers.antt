@@ -1,9 +1,9 @@
-use Rattle.std.proofs.Common.{◌≡◌, ℕ, ◌∷◌, arith, sym, ◌∙◌, ap}
-use Rattle.std.proofs.lemmas.Result.{err_from_is_err_and}
+use Rattle.std.proofs.Common.{◌≡◌, ℕ, ◌∷◌, drop, length-drop, arith, sym, ◌∙◌, ap}
 use Rattle.ca_order.specs.Languages.{HasText, HasChar}
-use Rattle.ca_order.proofs.Faults.{fault_at, fault_first, fault_same}
+use Rattle.ca_order.proofs.Faults.{fault_at, fault_same}
 use Rattle.ca_order.proofs.Turned.{same_first}
-use Rattle.ca_order.proofs.AtomParts.{stuck_no_text, stuck_no_room, stuck_behind_zero, text_begins, text_goes_on, chars_prefix_free, nul_step, char_step}
+use Rattle.ca_order.proofs.AtomParts.{stuck_no_text, stuck_no_room, stuck_behind_zero, text_begins, text_goes_on, chars_prefix_free, stuck_char, nul_step, char_step}
+use Rattle.ca_order.proofs.Starts.{stuck_first}
 use Rattle.ca_order.proofs.atoms.read_step.Goals as goal
 
 pub returns-in_default : goal.returns-in_default
@@ -18,16 +18,22 @@ returns-then-room-eq0 c =
     (stuck_no_room bytes c.args.room c.if-room-eq0.true
     (λ b more e z. let first : b ≡ c.in-Some.first.now = same_first b c.in-Some.first.now more c.in-Some.behind.now bytes e c.in-Some.ensures.cases.0 in c.if-first-ne0.true (sym first ∙ z)))
 
-pub returns-in_err-read_char : goal.returns-in_err-read_char
-returns-in_err-read_char c =
-    let p = err_from_is_err_and c.from_residual.result c.from_residual.ensures.1 in
-    rw (p.1, p.2) (fault_first HasChar (HasText c.args.room) c.args.bytes.now c.in_err-read_char.field-0.0 chars_prefix_free (text_begins c.args.room)
-    (λ u h. text_goes_on c.args.room u (omega arith) h) c.in_err-read_char.ensures)
+pub returns-in-Ok : goal.returns-in-Ok
+returns-in-Ok c =
+    let char = c.in-Ok.field-0-0 in
+    let e = c.in-Ok.ensures.read in
+    let h = c.in-Ok.ensures.scalar in
+    (omega arith, char, h, char_step c.args.bytes.now c.in-Some.first.now c.in-Some.behind.now c.in-Ok.behind.now char c.in-Some.ensures.cases.0 c.if-first-ne0.true h e)
 
-pub returns-then-first-ne0 : goal.returns-then-first-ne0
-returns-then-first-ne0 c =
-    let w = char_step c.args.bytes.now c.in-Some.first.now c.in-Some.behind.now c.in_ok-read_char.field-0.now c.in-Some.ensures.cases.0 c.if-first-ne0.true c.in_ok-read_char.ensures in
-    (omega arith, w.0, w.1, w.2)
+pub returns-in-Err : goal.returns-in-Err
+returns-in-Err c =
+    let bytes = c.args.bytes.now in
+    let at = c.in-Err.at in
+    let s = stuck_char bytes at c.in-Err.ensures.refused in (
+      drop at bytes,
+      length-drop at bytes,
+      stuck_first HasChar (HasText c.args.room) bytes (drop at bytes) chars_prefix_free (text_begins c.args.room) (λ u h. text_goes_on c.args.room u (omega arith) h) s,
+    )
 
 pub returns-then-room-eq0-2 : goal.returns-then-room-eq0-2
 returns-then-room-eq0-2 c =

@@ -1,5 +1,6 @@
 use Rattle.std.proofs.Common.{◌≡◌, ℕ, ◌≤◌, ◌+◌, ◌-◌, List, ◌∷◌, ◌++◌, length, slice_index, arith, sym, ◌∙◌, ap, subst, true, false}
 use Rattle.std.proofs.lemmas.Result.{err_from_is_err_and, MatchResult-weaker}
+use Rattle.ca_term.specs.declared.bounds.TheConstants.{MOST_CODE_POINTS, MOST_ELEMENTS}
 use Rattle.ca_term.specs.Tree.{Integer}
 use Rattle.ca_term.specs.Code.{four_bytes}
 use Rattle.ca_order.specs.Languages.{HasTerm, HasTuple, HasRow, HasText, HasBytes}
@@ -61,7 +62,7 @@ read_last-returns-in-48 t c =
     let e : bytes ≡ 0x30 ∷ inside = c.in-Some.ensures.cases.0 ∙ ap (λ (x : ℕ). x ∷ inside) c.in-48.is in
     MatchResult-weaker c.read_atom.result c.read_atom.ensures
     (λ p w. raise 1 c.args.levels bytes (0x30 ∷ inside) p.0 p.1.now e c.requires.least w)
-    (λ f w. tag_fault c.args.levels 0x30 (λ l. HasText 255) bytes inside f c.requires.least e atom_rest w)
+    (λ f w. tag_fault c.args.levels 0x30 (λ l. HasText MOST_CODE_POINTS) bytes inside f c.requires.least e atom_rest w)
 
 pub read_last-returns-in-64 : goal.read_last-returns-in-64
 read_last-returns-in-64 t c =
@@ -139,7 +140,7 @@ read_term-returns-in_err-head t c =
 
 pub read_term-loop-inside-preserved : goal.read_term-loop-inside-preserved
 read_term-loop-inside-preserved t c =
-    heads_more c.args.levels c.args.bytes.now c.loop-inside.heads.items c.push.new.self.items c.loop-inside.rest.now c.in-Some.inside.now c.in_ok-head.head c.in_ok-head.behind.now c.loop-inside.invariant c.in-Some.ensures.1 c.in_ok-head.ensures c.in_ok-push.ensures.items
+    heads_more c.args.levels c.args.bytes.now c.loop-inside.heads.items c.push.new.self.items c.loop-inside.rest.now c.in-Some.inside.now c.in_ok-head.head c.in_ok-head.behind.now c.loop-inside.invariant c.in-Some.ensures.1 c.in_ok-head.ensures c.in_ok-push.ensures.ok
 
 pub read_term-returns-in_err-last : goal.read_term-returns-in_err-last
 read_term-returns-in_err-last t c =
@@ -148,7 +149,7 @@ read_term-returns-in_err-last t c =
 
 pub read_term-returns : goal.read_term-returns
 read_term-returns t c =
-    heads_term c.args.levels c.args.bytes.now c.loop-inside.heads.items c.loop-inside.rest.now c.in_ok-last.last c.in_ok-list_of.field-0 c.in_ok-last.behind.now c.requires.least c.requires.most c.loop-inside.invariant c.in_ok-last.ensures c.in_ok-list_of.ensures
+    heads_term c.args.levels c.args.bytes.now c.loop-inside.heads.items c.loop-inside.rest.now c.in_ok-last.last c.in_ok-list.field-0 c.in_ok-last.behind.now c.requires.least c.requires.most c.loop-inside.invariant c.in_ok-last.ensures c.in_ok-list.ensures.ok
 
 -- ---- a tuple
 
@@ -163,7 +164,7 @@ read_tuple-returns-in_err-items t c =
     let n = c.in_ok-count.count in
     let inside = c.in_ok-count.inside.now in
     let e = c.in_err-items.field-0.0 in
-    let fits : n ≤ 120 = omega (arith, c.in_ok-count.ensures.0, c.most_elements.ensures, most_fits l) in
+    let fits : n ≤ MOST_ELEMENTS = omega (arith, c.in_ok-count.ensures.0, c.most_elements.ensures, most_fits l) in
     let p = err_from_is_err_and c.from_residual-in_err-items.result c.from_residual-in_err-items.ensures.1 in
     rw (p.1, p.2) (fault_same (HasTuple l) c.args.bytes.now (four_bytes n ++ inside) e c.in_ok-count.ensures.1
     (fault_behind (HasTuple l) (HasRow l n) (four_bytes n) inside e (elements_rest l n fits) c.in_err-items.ensures))
@@ -172,5 +173,5 @@ pub read_tuple-returns : goal.read_tuple-returns
 read_tuple-returns t c =
     let l = c.args.levels in
     let n = c.in_ok-count.count in
-    let fits : n ≤ 120 = omega (arith, c.in_ok-count.ensures.0, c.most_elements.ensures, most_fits l) in
+    let fits : n ≤ MOST_ELEMENTS = omega (arith, c.in_ok-count.ensures.0, c.most_elements.ensures, most_fits l) in
     begins_tuple l n c.args.bytes.now c.in_ok-count.inside.now c.in_ok-items.items.items c.in_ok-items.rest.now c.in_ok-tuple.field-0 c.requires fits c.in_ok-count.ensures.1 c.in_ok-items.ensures c.in_ok-tuple.ensures.ok

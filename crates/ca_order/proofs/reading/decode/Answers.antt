@@ -1,5 +1,6 @@
 use Rattle.std.proofs.Common.{◌<◌, length, arith, subst}
 use Rattle.std.proofs.lemmas.Bool.Decides.{nat_tests}
+use Rattle.ca_term.specs.declared.bounds.TheConstants.{MOST_DEPTH}
 use Rattle.ca_order.specs.Languages.{HasTerm}
 use Rattle.ca_order.specs.Reads.{IsReadFault}
 use Rattle.ca_order.proofs.Decoded.{decode_stuck, decode_rest}
@@ -12,4 +13,4 @@ returns-else-is_empty-clause-fault c =
 
 pub returns-in-Err-Stuck-clause-fault : goal.returns-in-Err-Stuck-clause-fault
 returns-in-Err-Stuck-clause-fault c =
-    decode_stuck c.args.code.now c.in-Err-Stuck.left (subst (IsReadFault (HasTerm 192) c.args.code.now) c.in-Err-Stuck.field-0-is c.in-Err-Stuck.ensures)
+    decode_stuck c.args.code.now c.in-Err-Stuck.left (subst (IsReadFault (HasTerm MOST_DEPTH) c.args.code.now) c.in-Err-Stuck.field-0-is c.in-Err-Stuck.ensures)
