@@ -3,7 +3,7 @@ use Rattle.std.proofs.Common.{◌≡◌, ℕ, true, false, cond, eqb, List, [], 
 use Rattle.ca_text.specs.declared.fault.Fault.{Fault}
 use Rattle.ca_text.specs.declared.fault.Why.{Why}
 use Rattle.ca_text.specs.declared.fault.Why.TheVariants.{Syntax}
-use Rattle.ca_text.specs.Reading.{◌>>=◌, Read, syntax_fault, fault, expect}
+use Rattle.ca_text.specs.Inner.Reading.{◌>>=◌, Read, syntax_fault, fault, expect}
 use Rattle.ca_text.specs.Grammar.{is_blank, skip}
 use Rattle.ca_text.proofs.Tools.{bind_ok, chosen, pair_is}
 

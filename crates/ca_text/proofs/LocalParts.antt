@@ -1,10 +1,11 @@
 -- The readers of numbers, names, characters and binaries look no further than one byte ahead.
 use Rattle.std.proofs.Common.{◌≡◌, ℕ, zero, suc, ◌+◌, ◌-◌, ◌*◌, ◌^◌, Bool, true, false, ltb, leb, eqb, ◌&&◌, List, [], ◌∷◌, Option, None, Some, Ok, pos, neg_ℤ, refl}
 use Rattle.std.specs.Char.{is_ascii_digit, is_ascii_hexdigit, digit_value}
+use Rattle.ca_text.specs.Bytes.{backslash, close_brace, digit_zero, letter_x, minus_sign, open_brace}
 use Rattle.ca_text.specs.Grammar.{escape_of}
 use Rattle.ca_text.specs.declared.fault.Why.{Why}
 use Rattle.ca_text.specs.declared.fault.Why.TheVariants.{Syntax}
-use Rattle.ca_text.specs.Reading.{◌>>=◌, Read, expect, digits_after, number_at, negative_at, positive_at, integer_at, byte_between, inner_byte, two_at, three_at, four_at, least_of_three, end_of_three, least_of_four, end_of_four, point_at, is_point, may_stand, hex_after, hex_at, escape_at, begins_character, character_at, next_point_at, closing_at, points_after, characters_at}
+use Rattle.ca_text.specs.Inner.Reading.{◌>>=◌, Read, expect, digits_after, number_at, negative_at, positive_at, integer_at, byte_between, inner_byte, two_at, three_at, four_at, least_of_three, end_of_three, least_of_four, end_of_four, point_at, is_point, may_stand, hex_after, hex_at, escape_at, begins_character, character_at, next_point_at, closing_at, points_after, characters_at}
 use Rattle.ca_text.proofs.Tools.{pair_is}
 use Rattle.ca_text.proofs.Local.{LocalAt, IsLocal, nil_local, fault_local, done_local, stay_local, cons_local, same_local, pure_local, bind_local, expect_local}
 
@@ -29,8 +30,8 @@ unfolding digits_after
 digits_local [] most n = end_local most n
 digits_local (b ∷ bytes) most n =
     either_way (is_ascii_digit b)
-    (λ h. either_way (leb (n * 10 + (b - 48)) most)
-    (λ i. cons_local (digits_after most n) (digits_after most (n * 10 + (b - 48))) b bytes (λ zs. rw (h, i) refl) (digits_local bytes most (n * 10 + (b - 48))))
+    (λ h. either_way (leb (n * 10 + (b - digit_zero)) most)
+    (λ i. cons_local (digits_after most n) (digits_after most (n * 10 + (b - digit_zero))) b bytes (λ zs. rw (h, i) refl) (digits_local bytes most (n * 10 + (b - digit_zero))))
     (λ i. fault_local (digits_after most n) Syntax b bytes (λ zs. rw (h, i) refl)))
     (λ h. stay_local (digits_after most n) n b bytes (λ zs. rw h refl))
 
@@ -52,7 +53,7 @@ pub integer_local : IsLocal integer_at
 unfolding integer_at
 integer_local [] = nil_local integer_at refl
 integer_local (b ∷ bytes) =
-    either_way (eqb b 45)
+    either_way (eqb b minus_sign)
     (λ h. cons_local integer_at negative_at b bytes (λ zs. rw h refl) (negative_local bytes))
     (λ h. same_local integer_at positive_at b bytes (λ zs. rw h refl) (positive_local (b ∷ bytes)))
 
@@ -115,7 +116,7 @@ hex_after_local (b ∷ bytes) most more c =
     (λ h. either_way (may_stand most (more - 1) next)
     (λ i. cons_local (hex_after most more c) (hex_after most (more - 1) next) b bytes (λ zs. rw (h, i) refl) (hex_after_local bytes most (more - 1) next))
     (λ i. fault_local (hex_after most more c) Syntax b bytes (λ zs. rw (h, i) refl)))
-    (λ h. either_way (eqb b 125 && is_point most c)
+    (λ h. either_way (eqb b close_brace && is_point most c)
     (λ i. done_local (hex_after most more c) c b bytes (λ zs. rw (h, i) refl))
     (λ i. fault_local (hex_after most more c) Syntax b bytes (λ zs. rw (h, i) refl)))
 
@@ -131,9 +132,9 @@ escape_local : (most : ℕ) → IsLocal (escape_at most)
 unfolding escape_at
 escape_local most [] = nil_local (escape_at most) refl
 escape_local most (b ∷ bytes) =
-    either_way (eqb b 120)
-    (λ h. cons_local (escape_at most) (λ xs. expect 123 xs >>= λ rest. hex_at most rest) b bytes (λ zs. rw h refl)
-    (expect_local 123 (hex_at most) (hex_local most) bytes))
+    either_way (eqb b letter_x)
+    (λ h. cons_local (escape_at most) (λ xs. expect open_brace xs >>= λ rest. hex_at most rest) b bytes (λ zs. rw h refl)
+    (expect_local open_brace (hex_at most) (hex_local most) bytes))
     (λ h. either_letter (escape_of b)
     (λ i. fault_local (escape_at most) Syntax b bytes (λ zs. rw (h, i) refl))
     (λ i. done_local (escape_at most) i.0 b bytes (λ zs. rw (h, i.1) refl)))
@@ -142,7 +143,7 @@ character_local : (close most : ℕ) → IsLocal (character_at close most)
 unfolding character_at
 character_local close most [] = nil_local (character_at close most) refl
 character_local close most (b ∷ bytes) =
-    either_way (eqb b 92)
+    either_way (eqb b backslash)
     (λ h. cons_local (character_at close most) (escape_at most) b bytes (λ zs. rw h refl) (escape_local most bytes))
     (λ h. either_way (begins_character close most b)
     (λ i. same_local (character_at close most) point_at b bytes (λ zs. rw (h, i) refl) (point_local (b ∷ bytes)))

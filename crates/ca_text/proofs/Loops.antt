@@ -1,12 +1,13 @@
 -- Reading one part after another, as a loop does.
 use Rattle.std.proofs.Common.{◌≡◌, ℕ, suc, ◌-◌, ◌+◌, ◌<◌, ◌≤◌, Bool, true, false, List, [], ◌∷◌, ◌++◌, None, Some, Result, Ok, Err, refl, sym, ap, ◌∙◌, append_assoc, arith, add-one}
 use Rattle.std.proofs.lemmas.List.{append-nil}
+use Rattle.ca_text.specs.Bytes.{close_bracket}
 use Rattle.ca_text.specs.declared.fault.Fault.{Fault}
 use Rattle.ca_text.specs.declared.fault.Why.{Why}
 use Rattle.ca_text.specs.declared.fault.Stop.{Stop}
 use Rattle.ca_text.specs.declared.fault.Stop.TheVariants as stop
 use Rattle.ca_text.specs.Grammar.{skip}
-use Rattle.ca_text.specs.Reading.{◌>>=◌, Read, Fails, characters_at, next_point_at, closing_at, with_front, syntax_fault, series_at, expect, Head, Inner, Last, cell_step, cells_at, brackets_at, conses, with_heads}
+use Rattle.ca_text.specs.Inner.Reading.{◌>>=◌, Read, Fails, characters_at, next_point_at, closing_at, with_front, syntax_fault, series_at, expect, Head, Inner, Last, cell_step, cells_at, brackets_at, conses, with_heads}
 use Rattle.ca_term.specs.Tree.{Tree, Cons}
 
 regroup : {B : Type 0} (front xs : List B) (read : Read (List B)) → with_front front (with_front xs read) ≡ with_front (front ++ xs) read
@@ -35,9 +36,9 @@ regroup_bracket heads head t owed (Ok after) = bracketed_head heads head t (brac
 regroup_bracket heads head t owed (Err f) = refl
 
 regroup_inner : (heads : List Tree) (head : Tree) (owed : ℕ) (read : Read Tree)
-    → with_heads heads owed (read >>= λ x. ◌>>=◌ {B = Tree × List ℕ} (expect 93 (skip x.1)) (λ after. Ok (Cons head x.0, after))) ≡ with_heads (heads ++ head ∷ []) (suc owed) read
+    → with_heads heads owed (read >>= λ x. ◌>>=◌ {B = Tree × List ℕ} (expect close_bracket (skip x.1)) (λ after. Ok (Cons head x.0, after))) ≡ with_heads (heads ++ head ∷ []) (suc owed) read
 unfolding brackets_at
-regroup_inner heads head owed (Ok x) = regroup_bracket heads head x.0 owed (expect 93 (skip x.1))
+regroup_inner heads head owed (Ok x) = regroup_bracket heads head x.0 owed (expect close_bracket (skip x.1))
 regroup_inner heads head owed (Err f) = refl
 
 module _ (over : Why) (close most limit i : ℕ) (front bytes : List ℕ) (total : Read (List ℕ)) where
@@ -173,7 +174,7 @@ pub conses_pop : (hs rest : List Tree) (head tail : Tree) → hs ≡ rest ++ hea
 conses_pop hs rest head tail e = sym (ap (λ (x : List Tree). conses x tail) e ∙ conses-append rest (head ∷ []) tail)
 
 module _ (owed i : ℕ) (bytes : List ℕ) (total : Result (List ℕ) Fault) where
-  pub brackets_fail : (e : Stop) → i < owed → Fails e (expect 93 (skip bytes)) → brackets_at (owed - i) bytes ≡ total → Fails e total
+  pub brackets_fail : (e : Stop) → i < owed → Fails e (expect close_bracket (skip bytes)) → brackets_at (owed - i) bytes ≡ total → Fails e total
   unfolding brackets_at
   brackets_fail stop.NoMemory lt h so_far = tt
   brackets_fail (stop.At f) lt h so_far =
@@ -181,7 +182,7 @@ module _ (owed i : ℕ) (bytes : List ℕ) (total : Result (List ℕ) Fault) whe
       let one : brackets_at (owed - i) bytes ≡ Err f = rw (k, h) refl in
       sym so_far ∙ one
 
-  pub brackets_go_on : (after : List ℕ) → i < owed → expect 93 (skip bytes) ≡ Ok after → brackets_at (owed - i) bytes ≡ total
+  pub brackets_go_on : (after : List ℕ) → i < owed → expect close_bracket (skip bytes) ≡ Ok after → brackets_at (owed - i) bytes ≡ total
       → brackets_at (owed - (i + 1)) after ≡ total
   unfolding brackets_at
   brackets_go_on after lt h so_far =

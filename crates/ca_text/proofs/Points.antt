@@ -3,7 +3,7 @@ use Rattle.std.proofs.Common.{◌≡◌, ℕ, ◌+◌, ◌-◌, ◌*◌, ◌/◌
 use Rattle.std.proofs.lemmas.Bool.{ltb-true, ltb-false, leb-true}
 use Rattle.std.proofs.lemmas.Bool.Decides.{nat_tests}
 use Rattle.std.specs.Char.{encode_utf8, IsScalar}
-use Rattle.ca_text.specs.Reading.{◌>>=◌, byte_between, inner_byte, two_at, three_at, four_at, point_at, least_of_three, end_of_three, least_of_four, end_of_four}
+use Rattle.ca_text.specs.Inner.Reading.{◌>>=◌, byte_between, inner_byte, two_at, three_at, four_at, point_at, least_of_three, end_of_three, least_of_four, end_of_four}
 use Rattle.ca_text.proofs.Tools.{bind_ok, chosen, guarded, spared, both, pair_is}
 
 pub record IsByte (low high : ℕ) (bytes : List ℕ) (b : ℕ) (rest : List ℕ) : Type 0 where

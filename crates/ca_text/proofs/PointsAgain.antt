@@ -6,9 +6,10 @@ use Rattle.std.specs.List.{list_all}
 use Rattle.std.specs.Char.{is_ascii_hexdigit, digit_value, encode_utf8, IsScalar}
 use Rattle.std.specs.Str.{all_scalars}
 use Rattle.std.specs.Str.Parse.{AllDigits, IsNumeral, digits_value, digits_value_after}
+use Rattle.ca_text.specs.Bytes.{backslash, close_brace, letter_x, line_feed, open_brace}
 use Rattle.ca_text.specs.Grammar.{escape_of, IsCharacter, Itself, Escaped, Hexadecimal, AreCharacters, Closed, OneMore}
 use Rattle.ca_text.specs.declared.fault.Why.{Why}
-use Rattle.ca_text.specs.Reading.{byte_between, inner_byte, two_at, three_at, four_at, least_of_three, end_of_three, least_of_four, end_of_four, point_at, is_point, may_stand, hex_after, hex_at, escape_at, begins_character, character_at, next_point_at, closing_at, characters_at}
+use Rattle.ca_text.specs.Inner.Reading.{byte_between, inner_byte, two_at, three_at, four_at, least_of_three, end_of_three, least_of_four, end_of_four, point_at, is_point, may_stand, hex_after, hex_at, escape_at, begins_character, character_at, next_point_at, closing_at, characters_at}
 use Rattle.ca_text.proofs.Tools.{both, chosen}
 use Rattle.ca_text.proofs.Again.{expect_again, grows}
 
@@ -99,7 +100,7 @@ hex_parts d h = grind (arith, nat_tests)
 stands : (most more c value : ℕ) → c ≤ value → is_point most value ≡ true → (more ≡ 0 → c ≡ value) → may_stand most more c ≡ true
 stands most more c value le point last = grind (arith, nat_tests)
 
-pub hex_end : (most more c : ℕ) (rest : List ℕ) → is_point most c ≡ true → hex_after most more c (125 ∷ rest) ≡ Ok (c, rest)
+pub hex_end : (most more c : ℕ) (rest : List ℕ) → is_point most c ≡ true → hex_after most more c (close_brace ∷ rest) ≡ Ok (c, rest)
 unfolding hex_after
 hex_end most more c rest point = rw point refl
 
@@ -108,7 +109,7 @@ ended [] n h = refl
 ended (d ∷ ds) n h = absurd (omega arith)
 
 hex_after_again : (ds : List ℕ) (most more c : ℕ) (rest : List ℕ) → AllDigits 16 ds → length ds ≤ more → is_point most (digits_value_after 16 c ds) ≡ true
-    → hex_after most more c (ds ++ 125 ∷ rest) ≡ Ok (digits_value_after 16 c ds, rest)
+    → hex_after most more c (ds ++ close_brace ∷ rest) ≡ Ok (digits_value_after 16 c ds, rest)
 unfolding hex_after
 hex_after_again [] most more c rest all few point = hex_end most more c rest point
 hex_after_again (d ∷ ds) most more c rest all few point =
@@ -119,17 +120,17 @@ hex_after_again (d ∷ ds) most more c rest all few point =
     rw (hex_parts d all.0, some, may) (hex_after_again ds most (more - 1) next rest all.1 (omega arith) point)
 
 hex_again : (most : ℕ) (ds rest : List ℕ) → IsNumeral 16 ds → length ds ≤ 6 → is_point most (digits_value 16 ds) ≡ true
-    → hex_at most (ds ++ 125 ∷ rest) ≡ Ok (digits_value 16 ds, rest)
+    → hex_at most (ds ++ close_brace ∷ rest) ≡ Ok (digits_value 16 ds, rest)
 unfolding hex_at
 hex_again most [] rest n few point = absurd (omega (arith, n.0))
 hex_again most (d ∷ ds) rest n few point =
     let start : 0 * 16 + digit_value d ≡ digit_value d = omega arith in
     let worth : digits_value 16 (d ∷ ds) ≡ digits_value_after 16 (digit_value d) ds = ap (λ x. digits_value_after 16 x ds) start in
     let later = hex_after_again ds most 5 (digit_value d) rest n.1.1 (omega arith) (subst (λ x. is_point most x ≡ true) worth point) in
-    let step : hex_at most (d ∷ (ds ++ 125 ∷ rest)) ≡ Ok (digits_value_after 16 (digit_value d) ds, rest) = rw (hex_parts d n.1.0) later in
+    let step : hex_at most (d ∷ (ds ++ close_brace ∷ rest)) ≡ Ok (digits_value_after 16 (digit_value d) ds, rest) = rw (hex_parts d n.1.0) later in
     step ∙ ap (λ x. Ok (x, rest)) (sym worth)
 
-escape_letter : (letter c : ℕ) → escape_of letter ≡ Some c → eqb letter 120 ≡ false
+escape_letter : (letter c : ℕ) → escape_of letter ≡ Some c → eqb letter letter_x ≡ false
 escape_letter letter c e = grind (arith, nat_tests)
 
 -- a first byte that isn't the closing quote
@@ -142,7 +143,7 @@ pub record BeginsApart (close : ℕ) (text : List ℕ) : Type 0 where
 other_quote : (close b : ℕ) → b ≢ close → eqb b close ≡ false
 other_quote close b h = grind (arith, nat_tests)
 
-begins_itself : (close most c : ℕ) → c < 128 → c ≢ close → c ≢ 10 → begins_character close most c ≡ true
+begins_itself : (close most c : ℕ) → c < 128 → c ≢ close → c ≢ line_feed → begins_character close most c ≡ true
 begins_itself close most c low h i = grind (arith, nat_tests)
 
 encode_some : (c : ℕ) → 0 < length (encode_utf8 c)
@@ -171,7 +172,7 @@ lead c is low =
     (chosen (ltb c 2048) true false (cond (ltb c 2048) true false) refl)
 
 lead_begins : (close most b : ℕ) → close < 128 → 128 ≤ most → 0xc2 ≤ b → b < 0xf5
-    → (begins_character close most b ≡ true) × (eqb b 92 ≡ false) × (eqb b close ≡ false)
+    → (begins_character close most b ≡ true) × (eqb b backslash ≡ false) × (eqb b close ≡ false)
 lead_begins close most b small wide low high = (grind (arith, nat_tests), grind (arith, nat_tests), grind (arith, nat_tests))
 
 one_byte : (c : ℕ) → c < 128 → encode_utf8 c ≡ c ∷ []
@@ -181,7 +182,7 @@ one_byte c h = rw (lt-ltb c 128 h) refl
 point_most : (most c : ℕ) → is_point most c ≡ true → c ≤ most
 point_most most c h = leb-true c most (both (leb c most) (all_scalars (c ∷ [])) h).0
 
-itself_from : (close most c b : ℕ) (cs rest : List ℕ) → encode_utf8 c ≡ b ∷ cs → IsScalar c → eqb b 92 ≡ false → begins_character close most b ≡ true
+itself_from : (close most c b : ℕ) (cs rest : List ℕ) → encode_utf8 c ≡ b ∷ cs → IsScalar c → eqb b backslash ≡ false → begins_character close most b ≡ true
     → character_at close most (encode_utf8 c ++ rest) ≡ Ok (c, rest)
 unfolding character_at
 itself_from close most c b cs rest is scalar other begins =
@@ -189,12 +190,12 @@ itself_from close most c b cs rest is scalar other begins =
     let step : character_at close most (b ∷ (cs ++ rest)) ≡ Ok (c, rest) = rw (other, begins, read) refl in
     ap (λ x. character_at close most (x ++ rest)) is ∙ step
 
-itself_again : (close most c : ℕ) (rest : List ℕ) → close < 128 → IsScalar c → c ≢ close → c ≢ 92 → c ≢ 10 → is_point most c ≡ true
+itself_again : (close most c : ℕ) (rest : List ℕ) → close < 128 → IsScalar c → c ≢ close → c ≢ backslash → c ≢ line_feed → is_point most c ≡ true
     → (character_at close most (encode_utf8 c ++ rest) ≡ Ok (c, rest)) × BeginsApart close (encode_utf8 c)
 itself_again close most c rest small is h i j point =
     ⊎_elim
     (λ k. let low = ltb-true c 128 k.0 in (
-      itself_from close most c c [] rest (one_byte c low) is (other_quote 92 c i) (begins_itself close most c low h j),
+      itself_from close most c c [] rest (one_byte c low) is (other_quote backslash c i) (begins_itself close most c low h j),
       record { first = c; others = []; is = one_byte c low; apart = other_quote close c h },
     ))
     (λ k. let low = ltb-false c 128 k.0 in
@@ -204,16 +205,16 @@ itself_again close most c rest small is h i j point =
     (itself_from close most c l.0 l.1 rest l.2 is b.1 b.0, record { first = l.0; others = l.1; is = l.2; apart = b.2 }))
     (chosen (ltb c 128) true false (cond (ltb c 128) true false) refl)
 
-character_again : (close most : ℕ) (text : List ℕ) (c : ℕ) (rest : List ℕ) → close < 128 → close ≢ 92 → IsCharacter close text c → is_point most c ≡ true
+character_again : (close most : ℕ) (text : List ℕ) (c : ℕ) (rest : List ℕ) → close < 128 → close ≢ backslash → IsCharacter close text c → is_point most c ≡ true
     → (character_at close most (text ++ rest) ≡ Ok (c, rest)) × BeginsApart close text
 unfolding character_at escape_at
 character_again _ most _ _ rest small slash (Itself close c is h i j) point = itself_again close most c rest small is h i j point
 character_again _ most _ _ rest small slash (Escaped close letter c e) point =
-    (rw (escape_letter letter c e, e) refl, record { first = 92; others = letter ∷ []; is = refl; apart = other_quote close 92 (λ x. slash (sym x)) })
+    (rw (escape_letter letter c e, e) refl, record { first = backslash; others = letter ∷ []; is = refl; apart = other_quote close backslash (λ x. slash (sym x)) })
 character_again _ most _ _ rest small slash (Hexadecimal close ds n few is) point =
-    let regrouped : (ds ++ 125 ∷ []) ++ rest ≡ ds ++ 125 ∷ rest = append_assoc ds (125 ∷ []) rest in (
-      rw (expect_again 123 ((ds ++ 125 ∷ []) ++ rest), regrouped, hex_again most ds rest n few point) refl,
-      record { first = 92; others = 120 ∷ 123 ∷ ds ++ 125 ∷ []; is = refl; apart = other_quote close 92 (λ x. slash (sym x)) },
+    let regrouped : (ds ++ close_brace ∷ []) ++ rest ≡ ds ++ close_brace ∷ rest = append_assoc ds (close_brace ∷ []) rest in (
+      rw (expect_again open_brace ((ds ++ close_brace ∷ []) ++ rest), regrouped, hex_again most ds rest n few point) refl,
+      record { first = backslash; others = letter_x ∷ open_brace ∷ ds ++ close_brace ∷ []; is = refl; apart = other_quote close backslash (λ x. slash (sym x)) },
     )
 
 pub character_some : (close : ℕ) (text : List ℕ) (c : ℕ) → IsCharacter close text c → 0 < length text
@@ -237,7 +238,7 @@ next_from close most c b text others rest is apart read =
     let step : next_point_at close most (b ∷ (others ++ rest)) ≡ Ok (Some c, rest) = rw (apart, again) refl in
     ap (λ x. next_point_at close most (x ++ rest)) is ∙ step
 
-pub characters_again : (over : Why) (close most n : ℕ) (text cs rest : List ℕ) → close < 128 → close ≢ 92 → AreCharacters close text cs
+pub characters_again : (over : Why) (close most n : ℕ) (text cs rest : List ℕ) → close < 128 → close ≢ backslash → AreCharacters close text cs
     → list_all (is_point most) cs ≡ true → length cs ≤ n
     → characters_at over close most n (text ++ rest) ≡ Ok (cs, rest)
 unfolding characters_at
@@ -252,7 +253,7 @@ characters_again over _ most (suc n) _ _ rest small slash (OneMore close c first
     rw (append_assoc first others rest, next, later) refl
 
 -- there are no more code points than bytes
-pub characters_few : (close : ℕ) (text cs : List ℕ) → close ≢ 92 → close < 128 → AreCharacters close text cs → length cs ≤ length text
+pub characters_few : (close : ℕ) (text cs : List ℕ) → close ≢ backslash → close < 128 → AreCharacters close text cs → length cs ≤ length text
 characters_few _ _ _ slash small (Closed close) = omega arith
 characters_few _ _ _ slash small (OneMore close c first others cs is are) =
     let some : 0 < length first = character_some close first c is in

@@ -3,7 +3,7 @@ use Rattle.std.proofs.Common.{◌≡◌, ℕ, zero, suc, ◌<◌, ◌≤◌, Boo
 use Rattle.ca_text.specs.declared.fault.Fault.{Fault}
 use Rattle.ca_text.specs.declared.fault.Why.{Why}
 use Rattle.ca_text.specs.Grammar.{skip}
-use Rattle.ca_text.specs.Reading.{◌>>=◌, Read, fault}
+use Rattle.ca_text.specs.Inner.Reading.{◌>>=◌, Read, fault}
 use Rattle.ca_text.proofs.Local.{IsLocal}
 use Rattle.ca_text.proofs.LocalParts.{either_way}
 use Rattle.ca_text.proofs.LocalTerms.{skip_shorter}

@@ -1,7 +1,7 @@
 -- Steps of reading, taken apart.
 use Rattle.std.proofs.Common.{◌≡◌, Bool, true, false, cond, ◌&&◌, ◌||◌, Result, Ok, Err, refl, ap, ◌⊎◌, inl, inr}
 use Rattle.ca_text.specs.declared.fault.Fault.{Fault}
-use Rattle.ca_text.specs.Reading.{◌>>=◌}
+use Rattle.ca_text.specs.Inner.Reading.{◌>>=◌}
 
 -- the value of a step that did not fail
 pub bind_ok : {A B : Type 0} (r : Result A Fault) (f : A → Result B Fault) (y : B) → (r >>= f) ≡ Ok y → (x : A) × (r ≡ Ok x) × (f x ≡ Ok y)

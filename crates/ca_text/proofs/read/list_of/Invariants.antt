@@ -1,5 +1,5 @@
 use Rattle.std.proofs.Common.{◌≡◌, length}
-use Rattle.ca_text.specs.Reading.{conses}
+use Rattle.ca_text.specs.Inner.Reading.{conses}
 use Rattle.ca_text.proofs.read.list_of.Given as goal
 
 abbrev pub invariant-loop-head : goal.invariant-loop-head
