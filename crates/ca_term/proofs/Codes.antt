@@ -10,12 +10,13 @@ use Rattle.ca_term.proofs.Numbers.{high_first_cmp, length_high_first}
 use Rattle.ca_term.proofs.Bytes.{bytes_cmp, then_assoc, seam, bytes_itself, nothing_behind, then_both, same_bytes}
 use Rattle.ca_term.proofs.Escapes.{escaped_cmp}
 use Rattle.ca_term.proofs.IntCodes.{int_code_cmp, int_first, int_last, word}
+use Rattle.ca_term.specs.declared.bounds.TheConstants.{MOST_ELEMENTS}
 use Rattle.ca_term.specs.Tree.{Tree, Row, Integer, Atom, Tuple, Nil, Cons, Binary, Ends, More, size, IsNarrow, IsNarrowRow}
 use Rattle.ca_term.specs.Order.{term_cmp, row_cmp}
 use Rattle.ca_term.specs.Code.{escaped, code_of, row_code, four_bytes}
 use Rattle.ca_term.specs.CodeLaws.{ArePrefixFree, CompareAsTerms}
 
-size_cmp : (m n : ℕ) → m ≤ 120 → n ≤ 120 → bytes_cmp (four_bytes m) (four_bytes n) ≡ nat_cmp m n
+size_cmp : (m n : ℕ) → m ≤ MOST_ELEMENTS → n ≤ MOST_ELEMENTS → bytes_cmp (four_bytes m) (four_bytes n) ≡ nat_cmp m n
 unfolding four_bytes
 size_cmp m n h k =
     high_first_cmp 4 m n ∙ (λ i. nat_cmp (mod-eq_of_lt {n = m} {m = 256 ^ 4} (omega arith) i) (mod-eq_of_lt {n = n} {m = 256 ^ 4} (omega arith) i))
@@ -25,7 +26,7 @@ unfolding four_bytes
 size_length m n = length_high_first 4 m ∙ sym (length_high_first 4 n)
 
 -- the sizes decide, and else what stands behind them
-sized : (m n : ℕ) (xs ys : List ℕ) (o q : Ordering) → m ≤ 120 → n ≤ 120 → (m ≡ n → bytes_cmp xs ys ≡ ordering_then o q) →
+sized : (m n : ℕ) (xs ys : List ℕ) (o q : Ordering) → m ≤ MOST_ELEMENTS → n ≤ MOST_ELEMENTS → (m ≡ n → bytes_cmp xs ys ≡ ordering_then o q) →
     bytes_cmp (four_bytes m ++ xs) (four_bytes n ++ ys) ≡ ordering_then (ordering_then (nat_cmp m n) o) q
 sized m n xs ys o q h k f =
     seam (four_bytes m) (four_bytes n) xs ys (size_length m n) ∙ ap (λ z. ordering_then z (bytes_cmp xs ys)) (size_cmp m n h k) ∙ by (nat_cmp m n) refl

@@ -4,6 +4,7 @@ use Rattle.std.specs.Prelude.{FitsSigned}
 use Rattle.std.specs.Int.{w64}
 use Rattle.ca_term.proofs.DigitBytes.{digits_number, number_word, are_digits}
 use Rattle.ca_term.proofs.IntCodes.{word}
+use Rattle.ca_term.specs.declared.bounds.TheConstants.{MOST_DEPTH}
 use Rattle.ca_term.specs.Tree.{Tree, Row, Integer, Atom, Tuple, Nil, Cons, Binary, Ends, More, size, depth, row_depth, IsNarrow, IsNarrowRow}
 use Rattle.ca_term.specs.Code.{code_of, row_code, int_code, digits}
 use Rattle.ca_term.specs.Grammar.{number, IsCodeWithin, AreCodesWithin, FromZero, BelowZero, AnAtom, ATuple, ANil, ACons, ABinary, NoCode, OneMore, IsCode, AreCodesOfTerms}
@@ -109,6 +110,6 @@ mutual
 
 pub are_codes_of_terms : AreCodesOfTerms
 are_codes_of_terms bytes = (
-  (λ h. let t = term_within 192 bytes h in (t.term, record { shallow = t.shallow; narrow = t.narrow }, t.code_is)),
-  (λ t. subst IsCode (sym t.2) (code_within t.0 192 t.1.shallow t.1.narrow)),
+  (λ h. let t = term_within MOST_DEPTH bytes h in (t.term, record { shallow = t.shallow; narrow = t.narrow }, t.code_is)),
+  (λ t. subst IsCode (sym t.2) (code_within t.0 MOST_DEPTH t.1.shallow t.1.narrow)),
 )

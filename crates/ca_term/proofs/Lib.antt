@@ -8,6 +8,7 @@ pub mod Escapes
 pub mod Grammar
 pub mod IntCodes
 pub mod Lengths
+pub mod Lists
 pub mod Numbers
 pub mod Rows
 pub mod TotalOrder

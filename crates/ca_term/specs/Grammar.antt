@@ -1,6 +1,7 @@
 -- The byte codes as a language on bytes alone, with the bounds of terms in it and without terms.
 use Rattle.std.specs.Prelude.{◌≡◌, ◌↔◌, ℕ, suc, ◌+◌, ◌-◌, ◌*◌, ◌^◌, ◌<◌, ◌≤◌, List, [], ◌∷◌, ◌++◌, length}
 use Rattle.std.specs.Str.{IsUtf8, chars}
+use Rattle.ca_term.specs.declared.bounds.TheConstants.{MOST_CODE_POINTS, MOST_ELEMENTS, MOST_DEPTH}
 use Rattle.ca_term.specs.Tree.{Tree, IsTerm, AreBytes}
 use Rattle.ca_term.specs.Code.{code_of, complement, escaped, four_bytes}
 
@@ -21,8 +22,8 @@ mutual
     FromZero : (levels : ℕ) (digits : List ℕ) → AreDigits digits → IsCodeWithin (suc levels) ((0x20 + length digits) ∷ digits)
     -- -m - 1, by the bytes of m
     BelowZero : (levels : ℕ) (digits : List ℕ) → AreDigits digits → IsCodeWithin (suc levels) ((0x1f - length digits) ∷ complement digits)
-    AnAtom : (levels : ℕ) (text : List ℕ) → IsUtf8 text → length (chars text) ≤ 255 → IsCodeWithin (suc levels) (0x30 ∷ escaped text)
-    ATuple : (levels size : ℕ) (elements : List ℕ) → size ≤ 120 → AreCodesWithin levels size elements
+    AnAtom : (levels : ℕ) (text : List ℕ) → IsUtf8 text → length (chars text) ≤ MOST_CODE_POINTS → IsCodeWithin (suc levels) (0x30 ∷ escaped text)
+    ATuple : (levels size : ℕ) (elements : List ℕ) → size ≤ MOST_ELEMENTS → AreCodesWithin levels size elements
         → IsCodeWithin (suc levels) (0x40 ∷ four_bytes size ++ elements)
     ANil : (levels : ℕ) → IsCodeWithin (suc levels) (0x60 ∷ [])
     ACons : (levels : ℕ) (head tail : List ℕ) → IsCodeWithin levels head → IsCodeWithin (suc levels) tail → IsCodeWithin (suc levels) (0x70 ∷ head ++ tail)
@@ -36,7 +37,7 @@ mutual
 
 -- a code
 abbrev pub IsCode : List ℕ → Type 0
-IsCode bytes = IsCodeWithin 192 bytes
+IsCode bytes = IsCodeWithin MOST_DEPTH bytes
 
 -- The codes are the codes of terms.
 abbrev pub AreCodesOfTerms : Type 0

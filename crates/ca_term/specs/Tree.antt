@@ -3,6 +3,7 @@
 use Rattle.std.specs.Prelude.{ℕ, ℤ, Bool, true, false, ◌+◌, ◌<◌, ◌≤◌, FitsSigned, max, List, [], ◌∷◌, length, slice_index}
 use Rattle.std.specs.Int.{w64}
 use Rattle.std.specs.Str.{chars, IsUtf8}
+use Rattle.ca_term.specs.declared.bounds.TheConstants.{MOST_CODE_POINTS, MOST_ELEMENTS, MOST_DEPTH}
 
 mutual
   -- a term
@@ -31,6 +32,11 @@ row_of (t ∷ ts) = More t (row_of ts)
 abbrev pub elements : Row → List Tree
 elements Ends = []
 elements (More t row) = t ∷ elements row
+
+-- the list of these terms with this tail
+abbrev pub list_of : List Tree → Tree → Tree
+list_of [] tail = tail
+list_of (t ∷ ts) tail = Cons t (list_of ts tail)
 
 -- how many elements
 abbrev pub size : Row → ℕ
@@ -79,11 +85,11 @@ abbrev pub AreBytes : List ℕ → Type 0
 AreBytes bytes = (k : ℕ) → slice_index bytes k < 256
 
 abbrev mutual
-  -- Integers have 64 bits, atoms are texts of at most 255 code points, and tuples have at most 120 elements, at every level.
+  -- Integers have 64 bits, atoms are texts of so many code points at most, and tuples have so many elements at most, at every level.
   pub IsNarrow : Tree → Type 0
   IsNarrow (Integer n) = FitsSigned w64 n
-  IsNarrow (Atom text) = IsUtf8 text × (length (chars text) ≤ 255)
-  IsNarrow (Tuple row) = (size row ≤ 120) × IsNarrowRow row
+  IsNarrow (Atom text) = IsUtf8 text × (length (chars text) ≤ MOST_CODE_POINTS)
+  IsNarrow (Tuple row) = (size row ≤ MOST_ELEMENTS) × IsNarrowRow row
   IsNarrow Nil = Unit {0}
   IsNarrow (Cons head tail) = IsNarrow head × IsNarrow tail
   IsNarrow (Binary bytes) = AreBytes bytes
@@ -94,7 +100,7 @@ abbrev mutual
 
 -- what every term keeps; a part of a term is never deeper than the term
 pub record IsTerm (t : Tree) : Type 0 where
-  pub shallow : depth t ≤ 192
+  pub shallow : depth t ≤ MOST_DEPTH
   pub narrow : IsNarrow t
 
 abbrev pub AreTerms : List Tree → Type 0

@@ -2,18 +2,14 @@
 ghost use Rattle.std.specs.Prelude.{◌≡◌, ◌≤◌, ◌<◌, ◌↔◌, length, IfOk, IfErr, IsErrOf};
 ghost use Rattle.std.specs.Str.{chars};
 ghost use Rattle.ca_term.specs.Cause.{IsCauseOfAtom, IsCauseOfCell, IsCauseOfTuple};
-ghost use Rattle.ca_term.specs.Tree.{Integer, Atom, Tuple, Nil, Cons, Binary, row_of, depth};
+ghost use Rattle.ca_term.specs.declared.bounds.TheConstants.{MOST_CODE_POINTS, MOST_DEPTH, MOST_ELEMENTS};
+ghost use Rattle.ca_term.specs.Tree.{Integer, Atom, Tuple, Nil, Cons, Binary, row_of, row_depth, list_of, depth};
 
+use crate::bounds::{MOST_CODE_POINTS, MOST_DEPTH, MOST_ELEMENTS};
 use crate::fault::TermFault;
 use crate::term::{Node, Term};
 use crate::terms::Terms;
 use std::alloc::Global;
-
-const MOST_CODE_POINTS: usize = 255;
-
-const MOST_ELEMENTS: usize = 120;
-
-const MOST_DEPTH: u8 = 192;
 
 /// The term of an integer.
 pub fn int(value: i64) -> Term
@@ -42,10 +38,10 @@ fn code_points(text: &str) -> usize
     text.chars().count()
 }
 
-/// The atom of a text of at most 255 code points.
+/// The atom of a text of at most `MOST_CODE_POINTS` code points.
 pub fn atom(alloc: Global, text: &str) -> Result<Term, TermFault>
     ensures ok { IfOk result (λ t. t ≡ Atom text.now) }
-    ensures too_long { 255 < length (chars text.now) → IsErrOf result TermFault.AtomTooLong }
+    ensures too_long { MOST_CODE_POINTS < length (chars text.now) → IsErrOf result TermFault.AtomTooLong }
     ensures causes { IfErr result (λ e. IsCauseOfAtom text.now e) }
 {
     if code_points(text) > MOST_CODE_POINTS {
@@ -70,10 +66,10 @@ pub fn bin(alloc: Global, bytes: &[u8]) -> Result<Term, TermFault>
     })
 }
 
-/// A list cell of at most 192 levels: its head stands one deeper than the list, its tail as deep. A refusal drops both.
+/// A list cell of at most `MOST_DEPTH` levels: its head stands one deeper than the list, its tail as deep. A refusal drops both.
 pub fn cons(alloc: Global, head: Term, tail: Term) -> Result<Term, TermFault>
     ensures ok { IfOk result (λ t. t ≡ Cons head tail) }
-    ensures too_deep { 192 < depth (Cons head tail) → IsErrOf result TermFault.TooDeep }
+    ensures too_deep { MOST_DEPTH < depth (Cons head tail) → IsErrOf result TermFault.TooDeep }
     ensures causes { IfErr result (λ e. IsCauseOfCell (Cons head tail) e) }
 {
     let depth = (head.depth + 1).max(tail.depth);
@@ -88,20 +84,52 @@ pub fn cons(alloc: Global, head: Term, tail: Term) -> Result<Term, TermFault>
     })
 }
 
-/// The tuple of these terms: at most 120, and of at most 191 levels each. It takes no memory. A refusal drops the terms.
+/// The list of these terms with this tail, of at most `MOST_DEPTH` levels: `tail` itself where there are no terms.
+/// It takes no memory before it has checked the levels. A refusal drops the terms.
+#[tactic(auto, using(crate::proofs::Lists::too_deep, crate::proofs::Lists::deep_enough))]
+pub fn list(alloc: Global, items: Terms, tail: Term) -> Result<Term, TermFault>
+    ensures ok { IfOk result (λ t. t ≡ list_of items.items tail) }
+    ensures too_deep { MOST_DEPTH < depth (list_of items.items tail) → IsErrOf result TermFault.TooDeep }
+    ensures causes { IfErr result (λ e. IsCauseOfCell (list_of items.items tail) e) }
+{
+    if deepest(items.items.as_slice()) >= MOST_DEPTH {
+        return Err(TermFault::TooDeep);
+    }
+    let mut heads = items.items;
+    let mut list = tail;
+    while let Some(head) = heads.pop() {
+        // No part is deeper than the whole, so a cell is refused for want of memory alone.
+        let Ok(cell) = cons(alloc, head, list) else {
+            return Err(TermFault::NoMemory);
+        };
+        list = cell;
+    }
+    Ok(list)
+}
+
+// The most levels of these terms, or 0 where there are none.
+#[tactic(auto, using(crate::proofs::Rows::row_depth_done))]
+fn deepest(items: &[Term]) -> u8
+    ensures { result ≡ row_depth (row_of items.now) }
+{
+    let mut deepest = 0;
+    for item in items {
+        deepest = item.depth.max(deepest);
+    }
+    deepest
+}
+
+/// The tuple of these terms: at most `MOST_ELEMENTS`, and each of fewer than `MOST_DEPTH` levels. It takes no memory. A refusal drops the terms.
 pub fn tuple(items: Terms) -> Result<Term, TermFault>
     ensures ok { IfOk result (λ t. t ≡ Tuple (row_of items.items)) }
-    ensures too_wide { 120 < length items.items → IsErrOf result TermFault.TooWide }
-    ensures too_deep { length items.items ≤ 120 → 192 < depth (Tuple (row_of items.items)) → IsErrOf result TermFault.TooDeep }
+    ensures too_wide { MOST_ELEMENTS < length items.items → IsErrOf result TermFault.TooWide }
+    ensures too_deep { length items.items ≤ MOST_ELEMENTS → MOST_DEPTH < depth (Tuple (row_of items.items)) → IsErrOf result TermFault.TooDeep }
     ensures causes { IfErr result (λ e. IsCauseOfTuple items.items e) }
 {
     if items.items.len() > MOST_ELEMENTS {
         return Err(TermFault::TooWide);
     }
-    let mut deepest = 0;
-    for item in items.items.as_slice() {
-        deepest = item.depth.max(deepest);
-    }
+    let deepest = deepest(items.items.as_slice());
     if deepest >= MOST_DEPTH {
         return Err(TermFault::TooDeep);
     }

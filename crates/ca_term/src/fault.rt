@@ -7,11 +7,11 @@ use std::alloc::{AllocError, AllocFailed};
 /// Why a term was not made.
 #[derive(Clone, Copy, Debug, PartialEq, Eq)]
 pub enum TermFault {
-    /// The atom would have over 255 code points.
+    /// The atom would have over `MOST_CODE_POINTS` code points.
     AtomTooLong,
-    /// The term would be over 192 deep.
+    /// The term would be over `MOST_DEPTH` deep.
     TooDeep,
-    /// The tuple would have over 120 elements.
+    /// The tuple would have over `MOST_ELEMENTS` elements.
     TooWide,
     /// Memory was not found.
     NoMemory,

@@ -1,21 +1,21 @@
 //! The length of a term's byte code, found without writing it.
 ghost use Rattle.std.specs.Prelude.{◌≡◌, ◌+◌, ◌<◌, ◌≤◌, length, min, MatchOption};
 ghost use Rattle.ca_term.specs.Code.{code_of, row_code, int_code, escaped, magnitude};
+ghost use Rattle.ca_term.specs.declared.bounds.TheConstants.{MOST_CODE_BYTES};
 ghost use Rattle.ca_term.specs.Tree.{row_of};
 
+use crate::bounds::MOST_CODE_BYTES;
 use crate::term::{Node, Term};
 
-const MOST_BYTES: usize = 1000;
-
-/// The length in bytes of the term's byte code, or 1,001 where that is longer than 1,000. It takes no memory.
+/// The length in bytes of the term's byte code, or `MOST_CODE_BYTES + 1` where that is longer than `MOST_CODE_BYTES`. It takes no memory.
 ///
-/// It stops as soon as 1,000 bytes are passed, so it reads no more of a long term.
+/// It stops as soon as that many bytes are passed, so it reads no more of a long term.
 pub fn code_length(term: &Term) -> usize
-    ensures { result ≡ min (length (code_of term.now)) 1001 }
+    ensures { result ≡ min (length (code_of term.now)) (MOST_CODE_BYTES + 1) }
 {
-    match room_behind(term, MOST_BYTES) {
-        Some(left) => MOST_BYTES - left,
-        None => MOST_BYTES + 1,
+    match room_behind(term, MOST_CODE_BYTES) {
+        Some(left) => MOST_CODE_BYTES - left,
+        None => MOST_CODE_BYTES + 1,
     }
 }
 

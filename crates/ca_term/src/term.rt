@@ -5,7 +5,8 @@ ghost use Rattle.ca_term.specs.Tree.{IsTerm};
 
 use std::marker::Model;
 
-/// A term of at most 192 levels, whose tuples have at most 120 elements and whose atoms at most 255 code points.
+/// A term of at most `MOST_DEPTH` levels, whose tuples have at most `MOST_ELEMENTS` elements and whose atoms at most
+/// `MOST_CODE_POINTS` code points.
 /// Contracts see it as its tree.
 #[cycle(term)]
 pub struct Term {

@@ -20,9 +20,9 @@ impl Model for Terms {
 
     ghost coded = { list_stored };
 
-    ghost use Rattle.ca_term.specs.TermListView.{list_of, AreKept};
+    ghost use Rattle.ca_term.specs.TermListView.{terms_of, AreKept};
 
-    ghost view = { list_of };
+    ghost view = { terms_of };
 
     ghost invariant = { AreKept };
 }

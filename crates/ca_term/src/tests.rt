@@ -82,21 +82,21 @@ fn orders_all_kinds(rt: HostRuntime) -> Result<(), Fail> {
 #[test]
 fn keeps_the_bounds(rt: HostRuntime) -> Result<(), Fail> {
     let alloc = rt.alloc();
-    let letters = vec![in alloc; b'a'; 256]?;
+    let letters = vec![in alloc; b'a'; MOST_CODE_POINTS + 1]?;
     let text = std::str::from_utf8(letters.as_slice())?;
-    assert!(rt; atom(alloc, &text[..255]).is_ok());
+    assert!(rt; atom(alloc, &text[..MOST_CODE_POINTS]).is_ok());
     assert_eq!(rt; atom(alloc, text).err(), Some(TermFault::AtomTooLong));
-    let numbers = vec![in alloc; 1i64; 121]?;
-    assert!(rt; integers(alloc, &numbers.as_slice()[..120]).is_ok());
+    let numbers = vec![in alloc; 1i64; MOST_ELEMENTS + 1]?;
+    assert!(rt; integers(alloc, &numbers.as_slice()[..MOST_ELEMENTS]).is_ok());
     assert_eq!(rt;
         integers(alloc, numbers.as_slice()).err(),
         Some(TermFault::TooWide)
     );
-    assert!(rt; wrapped(alloc, 191).is_ok());
-    assert_eq!(rt; wrapped(alloc, 192).err(), Some(TermFault::TooDeep));
-    let deepest = wrapped(alloc, 191)?;
+    let wraps = usize::from(MOST_DEPTH) - 1;
+    assert_eq!(rt; wrapped(alloc, wraps + 1).err(), Some(TermFault::TooDeep));
+    let deepest = wrapped(alloc, wraps)?;
     assert_eq!(rt; cons(alloc, deepest, nil()).err(), Some(TermFault::TooDeep));
-    assert!(rt; cons(alloc, nil(), wrapped(alloc, 191)?).is_ok());
+    assert!(rt; cons(alloc, nil(), wrapped(alloc, wraps)?).is_ok());
     Ok(())
 }
 
@@ -107,7 +107,7 @@ fn goes_along_long_lists(rt: HostRuntime) -> Result<(), Fail> {
     let long = list(alloc, numbers.as_slice(), nil())?;
     let copy = try_copy(alloc, &long)?;
     assert_eq!(rt; term_order(&long, &copy), Ordering::Equal);
-    assert_eq!(rt; code_length(&long), 1001);
+    assert_eq!(rt; code_length(&long), MOST_CODE_BYTES + 1);
     Ok(())
 }
 
