@@ -13,7 +13,7 @@ use Rattle.ca_text.specs.declared.fault.Why.TheVariants.{Syntax}
 use Rattle.ca_text.specs.Inner.Reading.{◌>>=◌, Read, syntax_fault, expect, byte_between, inner_byte, least_of_three, end_of_three, least_of_four, end_of_four, two_at, three_at, four_at, point_at, is_point, may_stand, hex_after, hex_at, or_fault, escape_at, begins_character, character_at, next_point_at, closing_at, points_after, characters_at, most_point}
 use Rattle.ca_text.proofs.Tools.{chosen, both, either}
 use Rattle.ca_text.proofs.Local.{place, err_is}
-use Rattle.ca_text.proofs.LocalParts.{either_way}
+use Rattle.ca_text.proofs.Tools.{either_way}
 use Rattle.ca_text.proofs.Points.{byte_taken, inner_taken}
 use Rattle.ca_text.proofs.PointsAgain.{byte_again, inner_again, hex_end}
 use Rattle.ca_text.proofs.Again.{expect_again}

@@ -1,33 +1,21 @@
 -- The readers of numbers, names, characters and binaries look no further than one byte ahead.
-use Rattle.std.proofs.Common.{◌≡◌, ℕ, zero, suc, ◌+◌, ◌-◌, ◌*◌, ◌^◌, Bool, true, false, ltb, leb, eqb, ◌&&◌, List, [], ◌∷◌, Option, None, Some, Ok, pos, neg_ℤ, refl}
+use Rattle.std.proofs.Common.{◌≡◌, ℕ, zero, suc, ◌+◌, ◌-◌, ◌*◌, ◌^◌, ltb, leb, eqb, ◌&&◌, List, [], ◌∷◌, Option, None, Some, Ok, pos, neg_ℤ, refl}
 use Rattle.std.specs.Char.{is_ascii_digit, is_ascii_hexdigit, digit_value}
 use Rattle.ca_text.specs.Bytes.{backslash, close_brace, digit_zero, letter_x, minus_sign, open_brace}
 use Rattle.ca_text.specs.Grammar.{escape_of}
 use Rattle.ca_text.specs.declared.fault.Why.{Why}
 use Rattle.ca_text.specs.declared.fault.Why.TheVariants.{Syntax}
 use Rattle.ca_text.specs.Inner.Reading.{◌>>=◌, Read, expect, digits_after, number_at, negative_at, positive_at, integer_at, byte_between, inner_byte, two_at, three_at, four_at, least_of_three, end_of_three, least_of_four, end_of_four, point_at, is_point, may_stand, hex_after, hex_at, escape_at, begins_character, character_at, next_point_at, closing_at, points_after, characters_at}
-use Rattle.ca_text.proofs.Tools.{pair_is}
-use Rattle.ca_text.proofs.Local.{LocalAt, IsLocal, nil_local, fault_local, done_local, stay_local, cons_local, same_local, pure_local, bind_local, expect_local}
-
--- which way a test goes
-pub either_way : {C : Type 0} (b : Bool) → (b ≡ true → C) → (b ≡ false → C) → C
-either_way true f g = f refl
-either_way false f g = g refl
+use Rattle.ca_text.proofs.Tools.{either_way}
+use Rattle.ca_text.proofs.Local.{LocalAt, IsLocal, end_local, nil_local, fault_local, done_local, stay_local, cons_local, same_local, pure_local, bind_local, expect_local}
 
 either_letter : {C : Type 0} (o : Option ℕ) → (o ≡ None → C) → ((c : ℕ) × (o ≡ Some c) → C) → C
 either_letter None f g = f refl
 either_letter (Some c) f g = g (c, refl)
 
-end_local : (most n : ℕ) → LocalAt (digits_after most n) []
-unfolding digits_after
-end_local most n = record {
-  taken = λ a ys h. let q = pair_is n [] a ys h in record { front = []; whole = q.1; again = λ c r s y. let none = q.1 in absurd cc };
-  stuck = λ f h. absurd cc;
-}
-
 pub digits_local : (bytes : List ℕ) (most n : ℕ) → LocalAt (digits_after most n) bytes
 unfolding digits_after
-digits_local [] most n = end_local most n
+digits_local [] most n = end_local (digits_after most n) (Ok n) refl
 digits_local (b ∷ bytes) most n =
     either_way (is_ascii_digit b)
     (λ h. either_way (leb (n * 10 + (b - digit_zero)) most)
@@ -134,7 +122,7 @@ escape_local most [] = nil_local (escape_at most) refl
 escape_local most (b ∷ bytes) =
     either_way (eqb b letter_x)
     (λ h. cons_local (escape_at most) (λ xs. expect open_brace xs >>= λ rest. hex_at most rest) b bytes (λ zs. rw h refl)
-    (expect_local open_brace (hex_at most) (hex_local most) bytes))
+    (expect_local (hex_at most) (hex_local most) open_brace bytes))
     (λ h. either_letter (escape_of b)
     (λ i. fault_local (escape_at most) Syntax b bytes (λ zs. rw (h, i) refl))
     (λ i. done_local (escape_at most) i.0 b bytes (λ zs. rw (h, i.1) refl)))

@@ -7,22 +7,19 @@ use Rattle.ca_text.specs.declared.fault.Why.{Why}
 use Rattle.ca_text.specs.declared.fault.Stop.{Stop}
 use Rattle.ca_text.specs.declared.fault.Stop.TheVariants as stop
 use Rattle.ca_text.specs.Grammar.{skip}
-use Rattle.ca_text.specs.Inner.Reading.{◌>>=◌, Read, Fails, characters_at, next_point_at, closing_at, with_front, syntax_fault, series_at, expect, Head, Inner, Last, cell_step, cells_at, brackets_at, conses, with_heads}
-use Rattle.ca_term.specs.Tree.{Tree, Cons}
+use Rattle.ca_text.specs.Inner.Reading.{◌>>=◌, Read, Fails, characters_at, next_point_at, closing_at, with_front, syntax_fault, series_at, expect, Head, Inner, Last, cell_step, cells_at, brackets_at, with_heads}
+use Rattle.ca_term.specs.Tree.{Tree, Cons, list_of}
+use Rattle.ca_term.proofs.Lists.{list_push}
 
 regroup : {B : Type 0} (front xs : List B) (read : Read (List B)) → with_front front (with_front xs read) ≡ with_front (front ++ xs) read
 regroup {B} front xs (Ok x) = ap (λ (cs : List B). Ok (cs, x.1)) (sym (append_assoc front xs x.0))
 regroup front xs (Err f) = refl
 
-conses-append : (ts us : List Tree) (tail : Tree) → conses (ts ++ us) tail ≡ conses ts (conses us tail)
-conses-append [] us tail = refl
-conses-append (t ∷ ts) us tail = ap (λ x. Cons t x) (conses-append ts us tail)
-
 abbrev listed : List Tree → Tree → Result (List ℕ) Fault → Read Tree
-listed heads t r = ◌>>=◌ {B = Tree × List ℕ} r (λ rest. Ok (conses heads t, rest))
+listed heads t r = ◌>>=◌ {B = Tree × List ℕ} r (λ rest. Ok (list_of heads t, rest))
 
 bracketed_head : (heads : List Tree) (head t : Tree) (r : Result (List ℕ) Fault) → listed heads (Cons head t) r ≡ listed (heads ++ head ∷ []) t r
-bracketed_head heads head t (Ok rest) = ap (λ (x : Tree). Ok (x, rest)) (sym (conses-append heads (head ∷ []) t))
+bracketed_head heads head t (Ok rest) = ap (λ (x : Tree). Ok (x, rest)) (sym (list_push heads head t))
 bracketed_head heads head t (Err f) = refl
 
 regroup_head : (heads : List Tree) (head : Tree) (owed : ℕ) (read : Read Tree)
@@ -169,9 +166,6 @@ module _ (element other : List ℕ → Read Tree) (limit i owed : ℕ) (heads : 
       let one : with_heads heads owed (cells_at element other (limit - i) bytes) ≡ with_heads (heads ++ head ∷ []) owed (Ok (tail, after)) =
       rw (k, h) (regroup_head heads head owed (Ok (tail, after))) in
       sym so_far ∙ one
-
-pub conses_pop : (hs rest : List Tree) (head tail : Tree) → hs ≡ rest ++ head ∷ [] → conses rest (Cons head tail) ≡ conses hs tail
-conses_pop hs rest head tail e = sym (ap (λ (x : List Tree). conses x tail) e ∙ conses-append rest (head ∷ []) tail)
 
 module _ (owed i : ℕ) (bytes : List ℕ) (total : Result (List ℕ) Fault) where
   pub brackets_fail : (e : Stop) → i < owed → Fails e (expect close_bracket (skip bytes)) → brackets_at (owed - i) bytes ≡ total → Fails e total

@@ -12,8 +12,8 @@ use Rattle.ca_text.specs.Front.{Begins, IsLongestStart}
 use Rattle.ca_text.specs.Grammar.{Limits, standard, IsTextOf}
 use Rattle.ca_text.specs.Inner.Place.{IsWithin}
 use Rattle.ca_text.specs.Inner.Reading.{Fails, term_at}
-use Rattle.ca_text.proofs.Local.{place}
-use Rattle.ca_text.proofs.LocalParts.{either_way}
+use Rattle.ca_text.proofs.Local.{place, stuck}
+use Rattle.ca_text.proofs.Tools.{either_way}
 use Rattle.ca_text.proofs.LocalTerms.{term_local}
 use Rattle.ca_text.proofs.Complete.{term_again}
 use Rattle.ca_text.proofs.Halts.{GoesOn}
@@ -51,14 +51,14 @@ module _ (limits : Limits) (levels : ℕ) where
       let text : IsTextOf limits levels (front ++ c ∷ b.0) b.1 = subst (λ x. IsTextOf limits levels x b.1) cut b.2 in
       let read : term_at limits levels (front ++ c ∷ b.0) ≡ Ok (b.1, []) =
       ap (term_at limits levels) (sym (append-nil (front ++ c ∷ b.0))) ∙ term_again limits levels (front ++ c ∷ b.0) b.1 [] text tt in
-      let stuck = again c behind b.0 refl in
+      let here = again c behind b.0 refl in
       absurd cc
 
   -- with the byte at a fault's place no text begins
   pub ends : (bytes : List ℕ) (f : Fault) → term_at limits levels bytes ≡ Err f → length bytes - f.left < length bytes
       → Begins limits levels (take (length bytes - f.left + 1) bytes) → ⊥
   ends bytes f e less b =
-      let s = (term_local limits levels bytes).stuck f e in
+      let s = stuck (term_at limits levels) bytes (term_local limits levels bytes) f e in
       let long : length bytes ≡ length s.front + length s.behind = ap (λ (l : List ℕ). length l) s.whole ∙ length-append s.front s.behind in
       let left : f.left ≡ length s.behind = ap (λ (g : Fault). g.left) s.is in
       let at : length bytes - f.left ≡ length s.front = omega (arith, long, left) in
@@ -66,7 +66,7 @@ module _ (limits : Limits) (levels : ℕ) where
 
   pub within_by : (bytes : List ℕ) (f : Fault) → term_at limits levels bytes ≡ Err f → f.left ≤ length bytes
   within_by bytes f e =
-      let s = (term_local limits levels bytes).stuck f e in
+      let s = stuck (term_at limits levels) bytes (term_local limits levels bytes) f e in
       omega (arith, ap (λ (l : List ℕ). length l) s.whole, length-append s.front s.behind, ap (λ (g : Fault). g.left) s.is)
 
   -- the bytes before it begin a text

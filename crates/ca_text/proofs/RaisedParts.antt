@@ -8,7 +8,8 @@ use Rattle.ca_text.specs.Grammar.{escape_of, most_byte}
 use Rattle.ca_text.specs.declared.fault.Why.{Why}
 use Rattle.ca_text.specs.declared.fault.Why.TheVariants.{Syntax, AtomTooLong}
 use Rattle.ca_text.specs.Inner.Reading.{Read, syntax_fault, expect, digits_after, number_at, integer_at, byte_between, inner_byte, two_at, three_at, four_at, least_of_three, end_of_three, least_of_four, end_of_four, point_at, is_point, may_stand, hex_after, hex_at, or_fault, escape_at, begins_character, character_at, next_point_at, closing_at, points_after, characters_at, string_at, name_length, name_at, series_rest, series_at, most_shown, one_byte_at, segment_at, after_segment_at, segment_step, bytes_at, binary_at}
-use Rattle.ca_text.proofs.LocalParts.{either_way, characters_local}
+use Rattle.ca_text.proofs.Tools.{either_way}
+use Rattle.ca_text.proofs.LocalParts.{characters_local}
 use Rattle.ca_text.proofs.LocalTerms.{skip_shorter, name_within, segment_step_local}
 use Rattle.ca_text.proofs.Raised.{Grown, Past, Within, Beside, itself, behind, ReadsBeside, grown_itself, grown_before, grown_most, grown_stays, grown_raised, within_past, ok_beside, fault_beside, past_beside, beside_more, if_beside, bind_within, bind_past, bind_known, bind_beside, skip_beside, local_within}
 

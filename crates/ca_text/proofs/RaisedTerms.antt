@@ -9,9 +9,9 @@ use Rattle.ca_text.specs.Grammar.{Limits, points, skip}
 use Rattle.ca_text.specs.declared.fault.Why.{Why}
 use Rattle.ca_text.specs.declared.fault.Why.TheVariants.{Syntax, AtomTooLong, TooDeep, TooWide}
 use Rattle.ca_text.specs.Inner.Reading.{◌>>=◌, Read, fault, syntax_fault, digits_after, number_at, negative_at, integer_at, name_length, name_at, closing_at, next_point_at, character_at, characters_at, string_at, quoted_at, most_point, begins_character, after_element_at, element_step, elements_at, Next, Head, Inner, Last, closed, inner_at, tail_at, next_at, cells_after, cell_step, cells_at, list_at, string_points_at, points_at, tuple_at, binary_at, atom_at, integer_term_at, other_at, bracketed, begins_term, too_deep, term_at}
-use Rattle.ca_text.proofs.Tools.{bind_ok, ok_is}
+use Rattle.ca_text.proofs.Tools.{bind_ok, either_way, ok_is}
 use Rattle.ca_text.proofs.Local.{IsLocal}
-use Rattle.ca_text.proofs.LocalParts.{either_way, digits_local, number_local}
+use Rattle.ca_text.proofs.LocalParts.{digits_local, number_local}
 use Rattle.ca_text.proofs.Sound.{after_some}
 use Rattle.ca_text.proofs.LocalTerms.{skip_shorter, after_element_local, term_local}
 use Rattle.ca_text.proofs.Raised.{Grown, Past, Within, IsRaised, Beside, behind, ReadsBeside, grown_itself, grown_before, grown_most, grown_stays, grown_raised, within_more, within_past, ok_beside, fault_beside, past_beside, beside_more, if_beside, bind_within, bind_past, bind_beside, skip_beside, local_within}

@@ -12,7 +12,7 @@ use Rattle.ca_text.specs.declared.fault.Stop.{Stop}
 use Rattle.ca_text.specs.declared.fault.Stop.TheVariants as stop
 use Rattle.ca_text.specs.declared.fault.TextFault.{TextFault}
 use Rattle.ca_text.specs.declared.fault.TextFault.TheVariants.{Syntax, AtomTooLong, TooDeep, TooWide, NoMemory}
-use Rattle.ca_text.proofs.LocalParts.{either_way}
+use Rattle.ca_text.proofs.Tools.{either_way}
 use Rattle.ca_text.proofs.LimitKinds.{just, limits_for, levels_for, limit_goes, limit_stays, syntax_stays}
 use Rattle.ca_text.proofs.Places.{start_is, start_sure}
 use Rattle.ca_text.specs.declared.bounds.TheConstants.{MOST_LEVELS}

@@ -5,13 +5,13 @@ ghost use Rattle.ca_text.specs.Front.{IsNotRead};
 ghost use Rattle.ca_term.specs.Tree.{Tree, IsTerm, depth};
 ghost use Rattle.ca_text.specs.Text.{text_of};
 ghost use Rattle.ca_text.specs.Grammar.{standard, IsRead, IsText, IsWhole};
-ghost use Rattle.ca_text.specs.Inner.Reading.{Gives, Fails, with_front, after_element_at, element_step, elements_at, series_at, next_at, tail_at, inner_at, closed, cell_step, cells_at, brackets_at, conses, tuple_at, binary_at, atom_at, integer_term_at, list_at, term_at, other_at, too_deep, begins_term, bracketed, with_heads};
+ghost use Rattle.ca_text.specs.Inner.Reading.{Gives, Fails, with_front, after_element_at, element_step, elements_at, series_at, next_at, tail_at, inner_at, closed, cell_step, cells_at, brackets_at, tuple_at, binary_at, atom_at, integer_term_at, list_at, term_at, other_at, too_deep, begins_term, bracketed, with_heads};
 
 use crate::bounds::MOST_LEVELS;
 use crate::fault::{Stop, TextFault, Why, fault_at, fault_of, syntax_at};
 use crate::parts::{binary_bytes, quoted_atom, string_term};
 use crate::scan::{expect, integer, name, skip};
-use ca_term::{MOST_CODE_POINTS, MOST_ELEMENTS, Term, Terms, atom, bin, cons, int, nil, tuple};
+use ca_term::{MOST_CODE_POINTS, MOST_ELEMENTS, Term, Terms, atom, bin, int, nil, tuple};
 use std::alloc::Global;
 
 // Whether a byte begins a term.
@@ -53,19 +53,6 @@ fn brackets(owed: usize, bytes: &[u8]) -> Result<&[u8], Stop>
         rest = expect(b']', skip(rest))?;
     }
     Ok(rest)
-}
-
-// The list of these heads and this last tail.
-fn list_of(alloc: Global, heads: Vec<Term>, tail: Term) -> Result<Term, Stop>
-    ensures ok { IfOk result (λ t. t ≡ conses heads.items tail) }
-    ensures causes { IfErr result (λ e. e ≡ Stop.NoMemory) }
-{
-    let mut heads = heads;
-    let mut list = tail;
-    while let Some(head) = heads.pop() {
-        list = cons(alloc, head, list)?;
-    }
-    Ok(list)
 }
 
 // An element of a tuple, and whether a further one follows it.
@@ -239,7 +226,7 @@ fn cell_step(alloc: Global, levels: u8, bytes: &[u8]) -> Result<(Term, Next<'_>)
 // The end of a list: the closing brackets still owed, and the list of the heads and the last tail.
 fn end_list(
     alloc: Global,
-    heads: Vec<Term>,
+    heads: Terms,
     owed: usize,
     tail: Term,
     bytes: &[u8],
@@ -247,7 +234,7 @@ fn end_list(
     ensures { Gives (λ x. (x.0, x.1.now)) result (with_heads heads.items owed (Ok (tail, bytes.now))) }
 {
     let rest = brackets(owed, bytes)?;
-    Ok((list_of(alloc, heads, tail)?, rest))
+    Ok((ca_term::list(alloc, heads, tail)?, rest))
 }
 
 // Heads and a last tail, up to the closing bracket. There are no more heads than bytes.
@@ -257,7 +244,7 @@ fn end_list(
 fn cells(alloc: Global, levels: u8, bytes: &[u8]) -> Result<(Term, &[u8]), Stop>
     ensures { Gives (λ x. (x.0, x.1.now)) result (cells_at (term_at standard levels) (other_at standard (term_at standard levels) levels) (length bytes.now) bytes.now) }
 {
-    let mut heads = Vec::new(alloc);
+    let mut heads = Terms::new(alloc);
     let mut owed = 0;
     let mut rest = bytes;
     for _ in 0..bytes.len() {

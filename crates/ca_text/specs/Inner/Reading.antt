@@ -3,7 +3,7 @@
 use Rattle.std.specs.Prelude.{◌≡◌, ℕ, zero, suc, ◌+◌, ◌-◌, ◌*◌, ◌^◌, Bool, true, false, not, ◌&&◌, ◌||◌, ◌==◌, nat_le, nat_lt, ℤ, pos, neg_ℤ, Option, None, Some, Result, Ok, Err, List, [], ◌∷◌, ◌++◌, length, take, drop, if◌then◌else◌}
 use Rattle.std.specs.Char.{is_ascii_digit, is_ascii_hexdigit, is_ascii_lowercase, digit_value}
 use Rattle.std.specs.Str.{encode_utf8_all, all_scalars}
-use Rattle.ca_term.specs.Tree.{Tree, Integer, Atom, Tuple, Nil, Cons, Binary, row_of}
+use Rattle.ca_term.specs.Tree.{Tree, Integer, Atom, Tuple, Nil, Cons, Binary, row_of, list_of}
 use Rattle.ca_text.specs.Bytes.{backslash, close_angle, close_brace, close_bracket, comma, double_quote, minus_sign, open_angle, open_brace, open_bracket, single_quote, vertical_bar, letter_x, line_feed, digit_zero}
 use Rattle.ca_text.specs.Text.{is_name_char}
 use Rattle.ca_text.specs.Grammar.{Limits, skip, escape_of, points, most_byte}
@@ -310,14 +310,9 @@ unfoldable pub list_at : (element other : List ℕ → Read Tree) → List ℕ �
 list_at element other [] = syntax_fault []
 list_at element other (b ∷ bytes) = if b == close_bracket then Ok (Nil, bytes) else cells_at element other (length (b ∷ bytes)) (b ∷ bytes)
 
--- the list of these heads and this last tail
-abbrev pub conses : List Tree → Tree → Tree
-conses [] tail = tail
-conses (t ∷ ts) tail = Cons t (conses ts tail)
-
 -- heads that were read, in so many lists whose closing brackets are still to come, and the rest of the list
 abbrev pub with_heads : List Tree → ℕ → Read Tree → Read Tree
-with_heads heads owed read = read >>= λ x. brackets_at owed x.1 >>= λ rest. Ok (conses heads x.0, rest)
+with_heads heads owed read = read >>= λ x. brackets_at owed x.1 >>= λ rest. Ok (list_of heads x.0, rest)
 
 -- whether a byte begins a term
 abbrev pub begins_term : ℕ → Bool

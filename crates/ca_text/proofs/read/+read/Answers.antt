@@ -45,20 +45,20 @@ pub cells-returns-in-Last : goal.cells-returns-in-Last
 cells-returns-in-Last t c =
     let last = last_follows (term_at standard c.args.levels) (other_at standard (term_at standard c.args.levels) c.args.levels)
     (length c.args.bytes.now) c.loop.counter c.loop.owed c.loop.heads.items c.loop.rest.now _ c.in_ok-head.head c.in-Last.tail c.in-Last.after.now c.loop-test.true (rw c.in-Last.is at c.in_ok-head.ensures) c.loop.invariant.read in
-    rw last (rw c.in_ok-push.ensures.items at c.end_list.ensures)
+    rw last (rw c.in_ok-push.ensures.ok at c.end_list.ensures)
 
 pub cells-loop-preserved : goal.cells-loop-preserved
 cells-loop-preserved t c =
     elim c.match-next-2.branch [
       | cells-in-Head w ↦ record {
-        read = rw (w.owed-is, w.rest-is, c.in_ok-push.ensures.items)
+        read = rw (w.owed-is, w.rest-is, c.in_ok-push.ensures.ok)
             (head_follows (term_at standard c.args.levels) (other_at standard (term_at standard c.args.levels) c.args.levels)
             (length c.args.bytes.now) c.loop.counter c.loop.owed c.loop.heads.items c.loop.rest.now _ c.in_ok-head.head w.in-Head.after.now c.loop-test.true
             (rw w.in-Head.is at c.in_ok-head.ensures) c.loop.invariant.read);
         few = omega (arith, w.owed-is, c.loop.invariant.few);
       }
       | cells-in-Inner w ↦ record {
-        read = rw (w.owed-is, w.rest-is, c.in_ok-push.ensures.items)
+        read = rw (w.owed-is, w.rest-is, c.in_ok-push.ensures.ok)
             (inner_follows (term_at standard c.args.levels) (other_at standard (term_at standard c.args.levels) c.args.levels)
             (length c.args.bytes.now) c.loop.counter c.loop.owed c.loop.heads.items c.loop.rest.now _ c.in_ok-head.head w.in-Inner.after.now c.loop-test.true (rw w.in-Inner.is at c.in_ok-head.ensures) c.loop.invariant.read);
         few = omega (arith, w.owed-is, c.loop.invariant.few);
