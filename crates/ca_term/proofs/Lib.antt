@@ -1,5 +1,6 @@
 pub mod Bytes
 pub mod Cells
+pub mod Characters
 pub mod Codes
 pub mod DigitBytes
 pub mod DigitOrder

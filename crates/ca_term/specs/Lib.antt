@@ -1,4 +1,5 @@
 pub mod Cause
+pub mod Character
 pub mod Code
 pub mod CodeLaws
 pub mod Falls

@@ -10,6 +10,7 @@ mod length;
 mod order;
 mod term;
 mod terms;
+mod utf8;
 
 pub use bounds::{MOST_CODE_BYTES, MOST_CODE_POINTS, MOST_DEPTH, MOST_ELEMENTS};
 pub use build::{atom, bin, cons, int, list, nil, tuple};
@@ -20,6 +21,7 @@ pub use length::{code_length, int_code_length};
 pub use order::{order_laws, term_order};
 pub use term::{Kind, Term};
 pub use terms::Terms;
+pub use utf8::character;
 
 #[cfg(test)]
 mod tests;
