@@ -10,7 +10,7 @@ use Rattle.ca_text.specs.Bytes.{backslash, close_brace, letter_x, line_feed, ope
 use Rattle.ca_text.specs.Grammar.{escape_of, IsCharacter, Itself, Escaped, Hexadecimal, AreCharacters, Closed, OneMore}
 use Rattle.ca_text.specs.declared.fault.Why.{Why}
 use Rattle.ca_text.specs.Inner.Reading.{expect, point_at, is_point, may_stand, hex_after, hex_at, or_fault, escape_at, begins_character, character_at, next_point_at, closing_at, points_after, characters_at, most_point}
-use Rattle.ca_text.proofs.Points.{IsPointOf, point_taken}
+use Rattle.ca_text.proofs.Points.{IsPointOf, first_byte, point_taken}
 use Rattle.ca_text.proofs.Tools.{bind_ok, chosen, guarded, both, ok_is, pair_is}
 
 pub expect_taken : (c : ℕ) (bytes rest : List ℕ) → expect c bytes ≡ Ok rest → bytes ≡ c ∷ rest
@@ -111,17 +111,6 @@ escape_taken close most (b ∷ bytes) c rest h e =
     let whole : backslash ∷ b ∷ bytes ≡ (backslash ∷ b ∷ []) ++ rest = let w = o.1 in cc in
     record { text = backslash ∷ b ∷ []; whole = whole; character = Escaped close b c o.0; point = escape_small most b c h o.0 })
     (chosen (eqb b letter_x) _ _ (Ok (c, rest)) e)
-
--- the first byte of a code point: the code point itself, or a byte from 194 on
-first_byte : (c : ℕ) → IsScalar c → ((c < 128) × (encode_utf8 c ≡ c ∷ [])) ⊎ ((128 ≤ c) × (b : ℕ) × (cs : List ℕ) × (encode_utf8 c ≡ b ∷ cs) × (128 ≤ b))
-unfolding encode_utf8
-first_byte c h =
-    ⊎_elim (λ t. inl (ltb-true c 128 t.0, sym t.1))
-    (λ t. ⊎_elim (λ u. inr (ltb-false c 128 t.0, _, _, sym u.1, omega arith))
-    (λ u. ⊎_elim (λ v. inr (ltb-false c 128 t.0, _, _, sym v.1, omega arith)) (λ v. inr (ltb-false c 128 t.0, _, _, sym v.1, omega arith))
-    (chosen (ltb c 65536) _ _ _ u.1))
-    (chosen (ltb c 2048) _ _ _ t.1))
-    (chosen (ltb c 128) _ _ (encode_utf8 c) refl)
 
 begins_parts : (close most b : ℕ) → begins_character close most b ≡ true → (b ≢ close) × (b ≢ line_feed) × (128 ≤ b → 128 ≤ most)
 begins_parts close most b h = (λ e. grind (arith, nat_tests), λ e. grind (arith, nat_tests), λ e. grind (arith, nat_tests))

@@ -14,7 +14,7 @@ use Rattle.ca_text.specs.Inner.Reading.{Read, is_point, most_point, most_shown, 
 use Rattle.ca_text.proofs.Tools.{both}
 use Rattle.ca_text.proofs.Again.{skip_again, expect_again, number_again, integer_again, name_again}
 use Rattle.ca_text.proofs.Numbers.{EndsDigits}
-use Rattle.ca_text.proofs.PointsAgain.{characters_again, characters_few}
+use Rattle.ca_text.proofs.CharactersAgain.{characters_again, characters_few}
 
 -- code points of characters are scalar values
 escape_scalar : (letter c : ℕ) → escape_of letter ≡ Some c → is_point most_point c ≡ true

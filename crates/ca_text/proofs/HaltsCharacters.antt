@@ -10,113 +10,15 @@ use Rattle.ca_text.specs.Grammar.{escape_of, IsCharacter, AreCharacters, Closed,
 use Rattle.ca_text.specs.declared.fault.Fault.{Fault}
 use Rattle.ca_text.specs.declared.fault.Why.{Why}
 use Rattle.ca_text.specs.declared.fault.Why.TheVariants.{Syntax}
-use Rattle.ca_text.specs.Inner.Reading.{◌>>=◌, Read, syntax_fault, expect, byte_between, inner_byte, least_of_three, end_of_three, least_of_four, end_of_four, two_at, three_at, four_at, point_at, is_point, may_stand, hex_after, hex_at, or_fault, escape_at, begins_character, character_at, next_point_at, closing_at, points_after, characters_at, most_point}
+use Rattle.ca_text.specs.Inner.Reading.{◌>>=◌, Read, syntax_fault, expect, point_at, is_point, may_stand, hex_after, hex_at, or_fault, escape_at, begins_character, character_at, next_point_at, closing_at, points_after, characters_at, most_point}
 use Rattle.ca_text.proofs.Tools.{chosen, both, either}
 use Rattle.ca_text.proofs.Local.{place, err_is}
 use Rattle.ca_text.proofs.Tools.{either_way}
-use Rattle.ca_text.proofs.Points.{byte_taken, inner_taken}
-use Rattle.ca_text.proofs.PointsAgain.{byte_again, inner_again, hex_end}
+use Rattle.ca_text.proofs.Points.{point_halts}
+use Rattle.ca_text.proofs.CharactersAgain.{hex_end}
 use Rattle.ca_text.proofs.Again.{expect_again}
 use Rattle.ca_text.proofs.Characters.{character_taken, next_taken}
 use Rattle.ca_text.proofs.Halts.{GoesOn, Halted, Halts, halted_here, halted_behind_as, halted_map, halted_as, halted_at, bind_err, done_err, Reads, halted_cons, halted_same}
-
--- ---- code points in UTF-8
-
-byte_stuck : (low high : ℕ) (bytes : List ℕ) (f : Fault) → byte_between low high bytes ≡ Err f → place Syntax bytes ≡ f
-unfolding byte_between
-byte_stuck low high [] f e = err_is _ f e
-byte_stuck low high (b ∷ bytes) f e =
-    ⊎_elim (λ h. let no = h.1 in absurd cc) (λ h. err_is _ f h.1) (chosen (leb low b && ltb b high) _ _ (Err f) e)
-
-inner_stuck : (bytes : List ℕ) (f : Fault) → inner_byte bytes ≡ Err f → place Syntax bytes ≡ f
-unfolding inner_byte
-inner_stuck bytes f e = byte_stuck 128 192 bytes f e
-
-two_goes : (b : ℕ) → GoesOn (Reads (two_at b)) []
-unfolding two_at
-two_goes b =
-    let n = (b - 192) * 64 + (128 - 128) in
-    let is : two_at b (128 ∷ []) ≡ Ok (n, []) = rw (inner_again 128 [] (omega arith) (omega arith)) refl in
-    (128 ∷ [], n, is)
-
-two_halts : (b : ℕ) → Halts (two_at b) (Reads (two_at b))
-unfolding two_at
-two_halts b bytes f e = halted_here _ Syntax bytes f (inner_stuck bytes f (done_err (inner_byte bytes) (λ c. ((b - 192) * 64 + (c.0 - 128), c.1)) f e))
-
-three_goes : (b c : ℕ) → least_of_three b ≤ c → c < end_of_three b → GoesOn (Reads (three_at b)) (c ∷ [])
-unfolding three_at
-three_goes b c low high =
-    let n = ((b - 224) * 64 + (c - 128)) * 64 + (128 - 128) in
-    let is : three_at b (c ∷ 128 ∷ []) ≡ Ok (n, []) = rw (byte_again _ _ c (128 ∷ []) low high, inner_again 128 [] (omega arith) (omega arith)) refl in
-    (128 ∷ [], n, is)
-
-three_halts : (b : ℕ) → Halts (three_at b) (Reads (three_at b))
-unfolding three_at
-three_halts b bytes f e =
-    ⊎_elim
-    (λ h. halted_here _ Syntax bytes f (byte_stuck _ _ bytes f h))
-    (λ s. let c = byte_taken _ _ bytes s.0.0 s.0.1 s.1 in
-    let stuck = inner_stuck s.0.1 f (done_err (inner_byte s.0.1) (λ d. (((b - 224) * 64 + (s.0.0 - 128)) * 64 + (d.0 - 128), d.1)) f s.2) in
-    subst (λ x. Halted (Reads (three_at b)) x f) (sym c.whole)
-    (halted_at (Reads (three_at b)) Syntax (s.0.0 ∷ []) s.0.1 f stuck (three_goes b s.0.0 c.low_enough c.high_enough)))
-    (bind_err (byte_between (least_of_three b) (end_of_three b) bytes)
-    (λ c. inner_byte c.1 >>= λ d. Ok (((b - 224) * 64 + (c.0 - 128)) * 64 + (d.0 - 128), d.1)) f e)
-
-four_goes : (b c d : ℕ) → least_of_four b ≤ c → c < end_of_four b → 128 ≤ d → d < 192 → GoesOn (Reads (four_at b)) (c ∷ d ∷ [])
-unfolding four_at
-four_goes b c d low high inner_low inner_high =
-    let n = (((b - 240) * 64 + (c - 128)) * 64 + (d - 128)) * 64 + (128 - 128) in
-    let is : four_at b (c ∷ d ∷ 128 ∷ []) ≡ Ok (n, []) =
-    rw (byte_again _ _ c (d ∷ 128 ∷ []) low high, inner_again d (128 ∷ []) inner_low inner_high, inner_again 128 [] (omega arith) (omega arith)) refl in
-    (128 ∷ [], n, is)
-
-four_halts : (b : ℕ) → Halts (four_at b) (Reads (four_at b))
-unfolding four_at
-four_halts b bytes f e =
-    let value : ℕ → ℕ → ℕ → ℕ = λ x y z. (((b - 240) * 64 + (x - 128)) * 64 + (y - 128)) * 64 + (z - 128) in
-    ⊎_elim
-    (λ h. halted_here _ Syntax bytes f (byte_stuck _ _ bytes f h))
-    (λ s. let c = byte_taken _ _ bytes s.0.0 s.0.1 s.1 in
-    let two = ⊎_elim {C = Halted (Reads (four_at b)) (s.0.0 ∷ s.0.1) f}
-    (λ h. let goes = four_goes b s.0.0 128 c.low_enough c.high_enough (omega arith) (omega arith) in
-    halted_at (Reads (four_at b)) Syntax (s.0.0 ∷ []) s.0.1 f (inner_stuck s.0.1 f h) (128 ∷ goes.0, goes.1, goes.2))
-    (λ t. let d = inner_taken s.0.1 t.0.0 t.0.1 t.1 in
-    let stuck = inner_stuck t.0.1 f (done_err (inner_byte t.0.1) (λ g. (value s.0.0 t.0.0 g.0, g.1)) f t.2) in
-    let goes = four_goes b s.0.0 t.0.0 c.low_enough c.high_enough d.low_enough d.high_enough in
-    subst (λ x. Halted (Reads (four_at b)) (s.0.0 ∷ x) f) (sym d.whole) (halted_at (Reads (four_at b)) Syntax (s.0.0 ∷ t.0.0 ∷ []) t.0.1 f stuck goes))
-    (bind_err (inner_byte s.0.1) (λ d. inner_byte d.1 >>= λ g. Ok (value s.0.0 d.0 g.0, g.1)) f s.2) in
-    subst (λ x. Halted (Reads (four_at b)) x f) (sym c.whole) two)
-    (bind_err (byte_between (least_of_four b) (end_of_four b) bytes) (λ c. inner_byte c.1 >>= λ d. inner_byte d.1 >>= λ g. Ok (value c.0 d.0 g.0, g.1)) f e)
-
-bounds_of_three : (b : ℕ) → least_of_three b < end_of_three b
-bounds_of_three b = grind (arith, nat_tests)
-
-bounds_of_four : (b : ℕ) → least_of_four b < end_of_four b
-bounds_of_four b = grind (arith, nat_tests)
-
-point_halts : Halts point_at (Reads point_at)
-unfolding point_at
-point_halts [] f e = halted_here _ Syntax [] f (err_is _ f e)
-point_halts (b ∷ bytes) f e =
-    ⊎_elim
-    (λ h. let no = h.1 in absurd cc)
-    (λ h. ⊎_elim
-    (λ i. halted_here _ Syntax (b ∷ bytes) f (err_is _ f i.1))
-    (λ i. ⊎_elim
-    (λ j. halted_cons point_at (two_at b) b bytes f (λ zs. rw (h.0, i.0, j.0) refl) (two_goes b) (two_halts b bytes f j.1))
-    (λ j. ⊎_elim
-    (λ k. let goes = three_goes b (least_of_three b) (omega arith) (bounds_of_three b) in
-    halted_cons point_at (three_at b) b bytes f (λ zs. rw (h.0, i.0, j.0, k.0) refl) (least_of_three b ∷ goes.0, goes.1, goes.2) (three_halts b bytes f k.1))
-    (λ k. ⊎_elim
-    (λ l. let goes = four_goes b (least_of_four b) 128 (omega arith) (bounds_of_four b) (omega arith) (omega arith) in
-    halted_cons point_at (four_at b) b bytes f (λ zs. rw (h.0, i.0, j.0, k.0, l.0) refl) (least_of_four b ∷ 128 ∷ goes.0, goes.1, goes.2)
-    (four_halts b bytes f l.1))
-    (λ l. halted_here _ Syntax (b ∷ bytes) f (err_is _ f l.1))
-    (chosen (ltb b 0xf5) _ _ (Err f) k.1))
-    (chosen (ltb b 0xf0) _ _ (Err f) j.1))
-    (chosen (ltb b 0xe0) _ _ (Err f) i.1))
-    (chosen (ltb b 0xc2) _ _ (Err f) h.1))
-    (chosen (ltb b 0x80) _ _ (Err f) e)
 
 -- ---- what stands behind a backslash
 

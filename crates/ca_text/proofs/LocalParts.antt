@@ -5,7 +5,8 @@ use Rattle.ca_text.specs.Bytes.{backslash, close_brace, digit_zero, letter_x, mi
 use Rattle.ca_text.specs.Grammar.{escape_of}
 use Rattle.ca_text.specs.declared.fault.Why.{Why}
 use Rattle.ca_text.specs.declared.fault.Why.TheVariants.{Syntax}
-use Rattle.ca_text.specs.Inner.Reading.{◌>>=◌, Read, expect, digits_after, number_at, negative_at, positive_at, integer_at, byte_between, inner_byte, two_at, three_at, four_at, least_of_three, end_of_three, least_of_four, end_of_four, point_at, is_point, may_stand, hex_after, hex_at, escape_at, begins_character, character_at, next_point_at, closing_at, points_after, characters_at}
+use Rattle.ca_text.specs.Inner.Reading.{◌>>=◌, Read, expect, digits_after, number_at, negative_at, positive_at, integer_at, point_at, is_point, may_stand, hex_after, hex_at, escape_at, begins_character, character_at, next_point_at, closing_at, points_after, characters_at}
+use Rattle.ca_text.proofs.Points.{point_local}
 use Rattle.ca_text.proofs.Tools.{either_way}
 use Rattle.ca_text.proofs.Local.{LocalAt, IsLocal, end_local, nil_local, fault_local, done_local, stay_local, cons_local, same_local, pure_local, bind_local, expect_local}
 
@@ -44,56 +45,6 @@ integer_local (b ∷ bytes) =
     either_way (eqb b minus_sign)
     (λ h. cons_local integer_at negative_at b bytes (λ zs. rw h refl) (negative_local bytes))
     (λ h. same_local integer_at positive_at b bytes (λ zs. rw h refl) (positive_local (b ∷ bytes)))
-
-pub byte_local : (low high : ℕ) → IsLocal (byte_between low high)
-unfolding byte_between
-byte_local low high [] = nil_local (byte_between low high) refl
-byte_local low high (b ∷ bytes) =
-    either_way (leb low b && ltb b high)
-    (λ h. done_local (byte_between low high) b b bytes (λ zs. rw h refl))
-    (λ h. fault_local (byte_between low high) Syntax b bytes (λ zs. rw h refl))
-
-inner_local : IsLocal inner_byte
-unfolding inner_byte
-inner_local = byte_local 128 192
-
-two_local : (b : ℕ) → IsLocal (two_at b)
-unfolding two_at
-two_local b = bind_local inner_byte (λ c ys. Ok ((b - 192) * 64 + (c - 128), ys)) inner_local (λ c. pure_local ((b - 192) * 64 + (c - 128)))
-
-three_local : (b : ℕ) → IsLocal (three_at b)
-unfolding three_at
-three_local b =
-    bind_local (byte_between (least_of_three b) (end_of_three b)) (λ c ys. inner_byte ys >>= λ d. Ok (((b - 224) * 64 + (c - 128)) * 64 + (d.0 - 128), d.1))
-    (byte_local (least_of_three b) (end_of_three b))
-    (λ c. bind_local inner_byte (λ d ys. Ok (((b - 224) * 64 + (c - 128)) * 64 + (d - 128), ys)) inner_local
-    (λ d. pure_local (((b - 224) * 64 + (c - 128)) * 64 + (d - 128))))
-
-four_local : (b : ℕ) → IsLocal (four_at b)
-unfolding four_at
-four_local b =
-    bind_local (byte_between (least_of_four b) (end_of_four b))
-    (λ c ys. inner_byte ys >>= λ d. inner_byte d.1 >>= λ e. Ok ((((b - 240) * 64 + (c - 128)) * 64 + (d.0 - 128)) * 64 + (e.0 - 128), e.1))
-    (byte_local (least_of_four b) (end_of_four b))
-    (λ c. bind_local inner_byte (λ d ys. inner_byte ys >>= λ e. Ok ((((b - 240) * 64 + (c - 128)) * 64 + (d - 128)) * 64 + (e.0 - 128), e.1)) inner_local
-    (λ d. bind_local inner_byte (λ e ys. Ok ((((b - 240) * 64 + (c - 128)) * 64 + (d - 128)) * 64 + (e - 128), ys)) inner_local
-    (λ e. pure_local ((((b - 240) * 64 + (c - 128)) * 64 + (d - 128)) * 64 + (e - 128)))))
-
-pub point_local : IsLocal point_at
-unfolding point_at
-point_local [] = nil_local point_at refl
-point_local (b ∷ bytes) =
-    either_way (ltb b 0x80)
-    (λ h. done_local point_at b b bytes (λ zs. rw h refl))
-    (λ h. either_way (ltb b 0xc2)
-    (λ i. fault_local point_at Syntax b bytes (λ zs. rw (h, i) refl))
-    (λ i. either_way (ltb b 0xe0)
-    (λ j. cons_local point_at (two_at b) b bytes (λ zs. rw (h, i, j) refl) (two_local b bytes))
-    (λ j. either_way (ltb b 0xf0)
-    (λ k. cons_local point_at (three_at b) b bytes (λ zs. rw (h, i, j, k) refl) (three_local b bytes))
-    (λ k. either_way (ltb b 0xf5)
-    (λ l. cons_local point_at (four_at b) b bytes (λ zs. rw (h, i, j, k, l) refl) (four_local b bytes))
-    (λ l. fault_local point_at Syntax b bytes (λ zs. rw (h, i, j, k, l) refl))))))
 
 hex_after_local : (bytes : List ℕ) (most more c : ℕ) → LocalAt (hex_after most more c) bytes
 unfolding hex_after

@@ -16,7 +16,7 @@ use Rattle.ca_text.specs.declared.fault.Why.TheVariants.{Syntax, AtomTooLong, To
 use Rattle.ca_text.specs.Inner.Reading.{◌>>=◌, Read, syntax_fault, expect, number_at, integer_at, name_length, name_at, next_point_at, closing_at, points_after, characters_at, string_at, quoted_at, most_point, most_shown, begins_character, one_byte_at, segment_at, after_segment_at, segment_step, series_at, series_rest, bytes_at, after_element_at, element_step, elements_at, Next, Head, Inner, Last, closed, inner_at, tail_at, next_at, cells_after, cell_step, cells_at, list_at, string_points_at, points_at, tuple_at, binary_at, atom_at, integer_term_at, other_at, bracketed, begins_term, too_deep, term_at}
 use Rattle.ca_text.proofs.Tools.{bind_ok, either_way, both, ok_is, pair_is}
 use Rattle.ca_text.proofs.Characters.{next_taken}
-use Rattle.ca_text.proofs.PointsAgain.{character_some}
+use Rattle.ca_text.proofs.CharactersAgain.{character_some}
 use Rattle.ca_text.proofs.Numbers.{skipped, EndsName, names_all, names_end}
 use Rattle.ca_text.proofs.Again.{name_long}
 use Rattle.ca_text.proofs.Sound.{segment_taken}

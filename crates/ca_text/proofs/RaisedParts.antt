@@ -1,16 +1,17 @@
 -- The readers of numbers, names, characters and binaries, with raised limits and without.
-use Rattle.std.proofs.Common.{◌≡◌, ℕ, zero, suc, ◌+◌, ◌-◌, ◌*◌, ◌^◌, ◌<◌, ◌≤◌, Bool, true, false, ltb, leb, eqb, ◌&&◌, List, [], ◌∷◌, ◌++◌, length, drop, Option, None, Some, Ok, refl, sym, subst, ◌∙◌, arith, length-drop}
+use Rattle.std.proofs.Common.{◌≡◌, ℕ, zero, suc, ◌+◌, ◌-◌, ◌*◌, ◌^◌, ◌<◌, ◌≤◌, Bool, true, false, ltb, leb, eqb, ◌&&◌, List, [], ◌∷◌, ⊎_elim, length-append, ap, ◌++◌, length, drop, Option, None, Some, Ok, refl, sym, subst, ◌∙◌, arith, length-drop}
 use Rattle.std.proofs.lemmas.Bool.{leb-true, leb-false, le-leb}
 use Rattle.std.proofs.lemmas.Bool.Decides.{nat_tests}
-use Rattle.std.specs.Char.{is_ascii_digit, is_ascii_hexdigit, digit_value}
+use Rattle.std.specs.Char.{encode_utf8, is_ascii_digit, is_ascii_hexdigit, digit_value}
 use Rattle.ca_text.specs.Bytes.{backslash, close_angle, close_brace, comma, digit_zero, double_quote, letter_x, minus_sign, open_angle, open_brace}
 use Rattle.ca_text.specs.Grammar.{escape_of, most_byte}
 use Rattle.ca_text.specs.declared.fault.Why.{Why}
 use Rattle.ca_text.specs.declared.fault.Why.TheVariants.{Syntax, AtomTooLong}
-use Rattle.ca_text.specs.Inner.Reading.{Read, syntax_fault, expect, digits_after, number_at, integer_at, byte_between, inner_byte, two_at, three_at, four_at, least_of_three, end_of_three, least_of_four, end_of_four, point_at, is_point, may_stand, hex_after, hex_at, or_fault, escape_at, begins_character, character_at, next_point_at, closing_at, points_after, characters_at, string_at, name_length, name_at, series_rest, series_at, most_shown, one_byte_at, segment_at, after_segment_at, segment_step, bytes_at, binary_at}
+use Rattle.ca_text.specs.Inner.Reading.{Read, syntax_fault, expect, digits_after, number_at, integer_at, point_at, is_point, may_stand, hex_after, hex_at, or_fault, escape_at, begins_character, character_at, next_point_at, closing_at, points_after, characters_at, string_at, name_length, name_at, series_rest, series_at, most_shown, one_byte_at, segment_at, after_segment_at, segment_step, bytes_at, binary_at}
 use Rattle.ca_text.proofs.Tools.{either_way}
 use Rattle.ca_text.proofs.LocalParts.{characters_local}
 use Rattle.ca_text.proofs.LocalTerms.{skip_shorter, name_within, segment_step_local}
+use Rattle.ca_text.proofs.Points.{PointRead, PointStuck, encode_some, point_cases, stuck_some}
 use Rattle.ca_text.proofs.Raised.{Grown, Past, Within, Beside, itself, behind, ReadsBeside, grown_itself, grown_before, grown_most, grown_stays, grown_raised, within_past, ok_beside, fault_beside, past_beside, beside_more, if_beside, bind_within, bind_past, bind_known, bind_beside, skip_beside, local_within}
 
 module _ (raises : Why → Bool) (plain : raises Syntax ≡ false) where
@@ -47,41 +48,15 @@ module _ (raises : Why → Bool) (plain : raises Syntax ≡ false) where
 
   -- ---- code points
 
-  byte_beside : (low high : ℕ) → ReadsBeside raises (byte_between low high) (byte_between low high)
-  unfolding byte_between
-  byte_beside low high [] = syntax_beside [] (omega arith)
-  byte_beside low high (b ∷ bytes) = if_beside (leb low b && ltb b high) (λ h. ok_beside (omega arith)) (λ h. syntax_beside (b ∷ bytes) (omega arith))
-
-  inner_beside : ReadsBeside raises inner_byte inner_byte
-  unfolding inner_byte
-  inner_beside bytes = byte_beside 128 192 bytes
-
-  two_beside : (b : ℕ) → ReadsBeside raises (two_at b) (two_at b)
-  unfolding two_at
-  two_beside b bytes = bind_beside _ _ (inner_beside bytes) (λ c. ok_beside (omega arith))
-
-  three_beside : (b : ℕ) → ReadsBeside raises (three_at b) (three_at b)
-  unfolding three_at
-  three_beside b bytes =
-      bind_beside _ _ (byte_beside (least_of_three b) (end_of_three b) bytes) (λ c.
-      bind_beside _ _ (inner_beside c.1) (λ d. ok_beside (omega arith)))
-
-  four_beside : (b : ℕ) → ReadsBeside raises (four_at b) (four_at b)
-  unfolding four_at
-  four_beside b bytes =
-      bind_beside _ _ (byte_beside (least_of_four b) (end_of_four b) bytes) (λ c.
-      bind_beside _ _ (inner_beside c.1) (λ d.
-      bind_beside _ _ (inner_beside d.1) (λ e. ok_beside (omega arith))))
-
   point_beside : ReadsBeside raises point_at point_at
-  unfolding point_at
-  point_beside [] = syntax_beside [] (omega arith)
-  point_beside (b ∷ bytes) =
-      if_beside (ltb b 0x80) (λ h. ok_beside (omega arith)) (λ h.
-      if_beside (ltb b 0xc2) (λ i. syntax_beside (b ∷ bytes) (omega arith)) (λ i.
-      if_beside (ltb b 0xe0) (λ j. beside_more (omega arith) (two_beside b bytes)) (λ j.
-      if_beside (ltb b 0xf0) (λ k. beside_more (omega arith) (three_beside b bytes)) (λ k.
-      if_beside (ltb b 0xf5) (λ l. beside_more (omega arith) (four_beside b bytes)) (λ l. syntax_beside (b ∷ bytes) (omega arith))))))
+  point_beside bytes =
+      let same : Read ℕ → Type 0 = λ r. Beside raises behind (length bytes) r r in
+      ⊎_elim
+      (λ (p : PointRead bytes). subst same (sym p.read)
+      (ok_beside (omega (arith, ap (λ (l : List ℕ). length l) p.is.whole, length-append (encode_utf8 p.point) p.rest))))
+      (λ (k : PointStuck bytes). subst same (sym k.read)
+      (syntax_beside k.behind (omega (arith, ap (λ (l : List ℕ). length l) k.whole, length-append k.front k.behind))))
+      (point_cases bytes)
 
   hex_after_beside : (bytes : List ℕ) (most more c : ℕ) → Beside raises behind (length bytes) (hex_after most more c bytes) (hex_after most more c bytes)
   unfolding hex_after
@@ -127,14 +102,14 @@ module _ (raises : Why → Bool) (plain : raises Syntax ≡ false) where
       if_beside (eqb b close) (λ h. ok_beside (omega arith)) (λ h. bind_beside _ _ (character_beside close most (b ∷ bytes)) (λ x. ok_beside (omega arith)))
 
   point_past : (close most b : ℕ) (bytes : List ℕ) → begins_character close most b ≡ true → Past behind (length (b ∷ bytes)) (point_at (b ∷ bytes))
-  unfolding point_at
   point_past close most b bytes begins =
-      either_way (ltb b 0x80) (λ h. rw h (omega arith)) (λ h.
-      either_way (ltb b 0xc2) (λ i. absurd (grind (arith, nat_tests))) (λ i.
-      either_way (ltb b 0xe0) (λ j. rw (h, i, j) (within_past behind (two_at b bytes) (omega arith) (two_beside b bytes).within)) (λ j.
-      either_way (ltb b 0xf0) (λ k. rw (h, i, j, k) (within_past behind (three_at b bytes) (omega arith) (three_beside b bytes).within)) (λ k.
-      either_way (ltb b 0xf5) (λ l. rw (h, i, j, k, l) (within_past behind (four_at b bytes) (omega arith) (four_beside b bytes).within))
-      (λ l. absurd (grind (arith, nat_tests)))))))
+      let lead : 128 ≤ b → (0xc2 ≤ b) × (b ≤ 0xf4) = λ h. (grind (arith, nat_tests), grind (arith, nat_tests)) in
+      ⊎_elim
+      (λ (p : PointRead (b ∷ bytes)). subst (Past behind (length (b ∷ bytes))) (sym p.read)
+      (omega (arith, ap (λ (l : List ℕ). length l) p.is.whole, length-append (encode_utf8 p.point) p.rest, encode_some p.point p.is.scalar)))
+      (λ (k : PointStuck (b ∷ bytes)). subst (Past behind (length (b ∷ bytes))) (sym k.read)
+      (omega (arith, ap (λ (l : List ℕ). length l) k.whole, length-append k.front k.behind, stuck_some b bytes lead k)))
+      (point_cases (b ∷ bytes))
 
   character_past : (close most b : ℕ) (bytes : List ℕ) → begins_character close most b ≡ true
       → Past behind (length (b ∷ bytes)) (character_at close most (b ∷ bytes))

@@ -2,82 +2,20 @@
 ghost use Rattle.std.specs.Prelude.{◌≡◌, ◌≤◌, ◌<◌, true, false, ◌^◌, length, IfOk};
 ghost use Rattle.std.specs.Char.{digit_value, is_ascii_hexdigit};
 ghost use Rattle.ca_text.specs.Grammar.{escape_of};
-ghost use Rattle.ca_text.specs.Inner.Reading.{Gives, byte_between, inner_byte, point_at, two_at, three_at, four_at, hex_after, hex_at, escape_at, character_at, next_point_at, closing_at, begins_character, characters_at, is_point, may_stand, least_of_three, end_of_three, least_of_four, end_of_four};
+ghost use Rattle.ca_text.specs.Inner.Reading.{Gives, point_at, hex_after, hex_at, escape_at, character_at, next_point_at, closing_at, begins_character, characters_at, is_point, may_stand};
 
 use crate::fault::{Stop, Why, fault_at, syntax_at};
 use crate::scan::expect;
 use std::alloc::Global;
 
-// A byte from `low` on and below `high`.
-#[tactic(auto, unfolding(crate::specs::Inner::Reading::byte_between))]
-fn byte_between(low: u8, high: u8, bytes: &[u8]) -> Result<(u32, &[u8]), Stop>
-    ensures read { Gives (λ x. (x.0, x.1.now)) result (byte_between low high bytes.now) }
-    ensures bounded { IfOk result (λ x. (low ≤ x.0) × (x.0 < high)) }
-{
-    match bytes {
-        [byte, rest @ ..] if low <= *byte && *byte < high => Ok((u32::from(*byte), rest)),
-        _ => Err(syntax_at(bytes)),
-    }
-}
-
-// A byte of a code point after the first one.
-#[tactic(auto, unfolding(crate::specs::Inner::Reading::inner_byte))]
-fn inner_byte(bytes: &[u8]) -> Result<(u32, &[u8]), Stop>
-    ensures read { Gives (λ x. (x.0, x.1.now)) result (inner_byte bytes.now) }
-    ensures bounded { IfOk result (λ x. (128 ≤ x.0) × (x.0 < 192)) }
-{
-    byte_between(128, 192, bytes)
-}
-
-#[tactic(auto, unfolding(crate::specs::Inner::Reading::two_at))]
-fn two_bytes(first: u8, bytes: &[u8]) -> Result<(u32, &[u8]), Stop>
-    requires { 192 ≤ first }
-    ensures { Gives (λ x. (x.0, x.1.now)) result (two_at first bytes.now) }
-{
-    let (second, rest) = inner_byte(bytes)?;
-    let high = u32::from(first) - 192;
-    Ok((high * 64 + (second - 128), rest))
-}
-
-#[tactic(auto, unfolding(crate::specs::Inner::Reading::three_at))]
-fn three_bytes(first: u8, bytes: &[u8]) -> Result<(u32, &[u8]), Stop>
-    requires { 224 ≤ first }
-    ensures { Gives (λ x. (x.0, x.1.now)) result (three_at first bytes.now) }
-{
-    let least = if first == 0xe0 { 160 } else { 128 };
-    let end = if first == 0xed { 160 } else { 192 };
-    let (second, rest) = byte_between(least, end, bytes)?;
-    let (third, rest) = inner_byte(rest)?;
-    let high = u32::from(first) - 224;
-    Ok(((high * 64 + (second - 128)) * 64 + (third - 128), rest))
-}
-
-#[tactic(auto, unfolding(crate::specs::Inner::Reading::four_at))]
-fn four_bytes(first: u8, bytes: &[u8]) -> Result<(u32, &[u8]), Stop>
-    requires { 240 ≤ first }
-    ensures { Gives (λ x. (x.0, x.1.now)) result (four_at first bytes.now) }
-{
-    let least = if first == 0xf0 { 144 } else { 128 };
-    let end = if first == 0xf4 { 144 } else { 192 };
-    let (second, rest) = byte_between(least, end, bytes)?;
-    let (third, rest) = inner_byte(rest)?;
-    let (fourth, rest) = inner_byte(rest)?;
-    let high = u32::from(first) - 240;
-    let point = ((high * 64 + (second - 128)) * 64 + (third - 128)) * 64 + (fourth - 128);
-    Ok((point, rest))
-}
-
 // A code point in UTF-8: the shortest form, no surrogate, at most 10FFFF.
-#[tactic(auto, unfolding(crate::specs::Inner::Reading::point_at))]
+#[tactic(auto, using(crate::proofs::Points::point_read, crate::proofs::Points::point_refused))]
 fn point(bytes: &[u8]) -> Result<(u32, &[u8]), Stop>
     ensures { Gives (λ x. (x.0, x.1.now)) result (point_at bytes.now) }
 {
-    match bytes {
-        [first @ ..0x80, rest @ ..] => Ok((u32::from(*first), rest)),
-        [first @ 0xc2..0xe0, rest @ ..] => two_bytes(*first, rest),
-        [first @ 0xe0..0xf0, rest @ ..] => three_bytes(*first, rest),
-        [first @ 0xf0..0xf5, rest @ ..] => four_bytes(*first, rest),
-        _ => Err(syntax_at(bytes)),
+    match ca_term::character(bytes) {
+        Ok((c, rest)) => Ok((u32::from(c), rest)),
+        Err(at) => Err(syntax_at(bytes.split_at(at).1)),
     }
 }
 

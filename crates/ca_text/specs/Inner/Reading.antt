@@ -1,8 +1,9 @@
 -- How a text is read from the left: a value and the bytes after it, or why and how many bytes before the end no text goes on.
 -- The grammar decides what is a text; that these functions read just its texts is a law.
-use Rattle.std.specs.Prelude.{◌≡◌, ℕ, zero, suc, ◌+◌, ◌-◌, ◌*◌, ◌^◌, Bool, true, false, not, ◌&&◌, ◌||◌, ◌==◌, nat_le, nat_lt, ℤ, pos, neg_ℤ, Option, None, Some, Result, Ok, Err, List, [], ◌∷◌, ◌++◌, length, take, drop, if◌then◌else◌}
+use Rattle.std.specs.Prelude.{◌≡◌, ℕ, zero, suc, ◌+◌, ◌-◌, ◌*◌, ◌^◌, Bool, true, false, not, ◌&&◌, ◌||◌, ◌==◌, nat_le, nat_lt, ℤ, pos, neg_ℤ, Option, None, Some, Result, Ok, Err, List, [], ◌∷◌, ◌++◌, length, take, drop, slice_index, if◌then◌else◌}
 use Rattle.std.specs.Char.{is_ascii_digit, is_ascii_hexdigit, is_ascii_lowercase, digit_value}
 use Rattle.std.specs.Str.{encode_utf8_all, all_scalars}
+use Rattle.bstr.specs.Utf8.{decoded}
 use Rattle.ca_term.specs.Tree.{Tree, Integer, Atom, Tuple, Nil, Cons, Binary, row_of, list_of}
 use Rattle.ca_text.specs.Bytes.{backslash, close_angle, close_brace, close_bracket, comma, double_quote, minus_sign, open_angle, open_brace, open_bracket, single_quote, vertical_bar, letter_x, line_feed, digit_zero}
 use Rattle.ca_text.specs.Text.{is_name_char}
@@ -82,54 +83,18 @@ name_at most bytes =
     then Ok (take (name_length bytes) bytes, drop (name_length bytes) bytes)
     else fault AtomTooLong (drop most bytes)
 
--- a byte from low on and below high
-unfoldable pub byte_between : ℕ → ℕ → List ℕ → Read ℕ
-byte_between low high [] = syntax_fault []
-byte_between low high (b ∷ bytes) = if nat_le low b && nat_lt b high then Ok (b, bytes) else syntax_fault (b ∷ bytes)
+-- how many bytes at the front begin a code point, where none stands there; bstr counts a first byte that begins none
+unfoldable pub begun : List ℕ → ℕ
+begun bytes = if nat_le 0xc2 (slice_index bytes 0) && nat_le (slice_index bytes 0) 0xf4 then (decoded bytes).size else 0
 
--- a byte of a code point after the first one
-unfoldable pub inner_byte : List ℕ → Read ℕ
-inner_byte bytes = byte_between 128 192 bytes
-
--- the bounds of the second byte of a character of three bytes and of four, by the first: no form but the shortest, no surrogate,
--- none past 10FFFF
-abbrev pub least_of_three : ℕ → ℕ
-least_of_three b = if b == 0xe0 then 160 else 128
-
-abbrev pub end_of_three : ℕ → ℕ
-end_of_three b = if b == 0xed then 160 else 192
-
-abbrev pub least_of_four : ℕ → ℕ
-least_of_four b = if b == 0xf0 then 144 else 128
-
-abbrev pub end_of_four : ℕ → ℕ
-end_of_four b = if b == 0xf4 then 144 else 192
-
--- the bytes of a code point after its first byte b, where it has two bytes, three, or four
-unfoldable pub two_at : ℕ → List ℕ → Read ℕ
-two_at b bytes = inner_byte bytes >>= λ c. Ok ((b - 192) * 64 + (c.0 - 128), c.1)
-
-unfoldable pub three_at : ℕ → List ℕ → Read ℕ
-three_at b bytes =
-    byte_between (least_of_three b) (end_of_three b) bytes >>= λ c.
-    inner_byte c.1 >>= λ d. Ok (((b - 224) * 64 + (c.0 - 128)) * 64 + (d.0 - 128), d.1)
-
-unfoldable pub four_at : ℕ → List ℕ → Read ℕ
-four_at b bytes =
-    byte_between (least_of_four b) (end_of_four b) bytes >>= λ c.
-    inner_byte c.1 >>= λ d.
-    inner_byte d.1 >>= λ e. Ok ((((b - 240) * 64 + (c.0 - 128)) * 64 + (d.0 - 128)) * 64 + (e.0 - 128), e.1)
+-- what is read where this code point stands at the front, or none
+unfoldable pub point_of : Option ℕ → List ℕ → Read ℕ
+point_of (Some c) bytes = Ok (c, drop (decoded bytes).size bytes)
+point_of None bytes = syntax_fault (drop (begun bytes) bytes)
 
 -- a code point in UTF-8
 unfoldable pub point_at : List ℕ → Read ℕ
-point_at [] = syntax_fault []
-point_at (b ∷ bytes) =
-    if nat_lt b 0x80 then Ok (b, bytes)
-    else (if nat_lt b 0xc2 then syntax_fault (b ∷ bytes)
-    else (if nat_lt b 0xe0 then two_at b bytes
-    else (if nat_lt b 0xf0 then three_at b bytes
-    else (if nat_lt b 0xf5 then four_at b bytes
-    else syntax_fault (b ∷ bytes)))))
+point_at bytes = point_of (decoded bytes).char bytes
 
 -- whether c is a code point, and c <= most
 abbrev pub is_point : ℕ → ℕ → Bool

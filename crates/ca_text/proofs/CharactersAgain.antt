@@ -1,4 +1,4 @@
--- The text of a code point is read, whatever follows; and so are the characters between quotes.
+-- The characters between quotes are read, whatever follows.
 use Rattle.std.proofs.Common.{◌≡◌, ◌≢◌, ℕ, zero, suc, ◌+◌, ◌-◌, ◌*◌, ◌/◌, ◌%◌, ◌<◌, ◌≤◌, true, false, cond, ltb, leb, eqb, List, [], ◌∷◌, ◌++◌, length, None, Some, Ok, refl, sym, ap, subst, ◌∙◌, append_assoc, arith, le-ltb, lt-ltb, ⊎_elim, length-append}
 use Rattle.std.proofs.lemmas.Bool.{leb-true, ltb-true, ltb-false, le-leb}
 use Rattle.std.proofs.lemmas.Bool.Decides.{nat_tests}
@@ -9,90 +9,10 @@ use Rattle.std.specs.Str.Parse.{AllDigits, IsNumeral, digits_value, digits_value
 use Rattle.ca_text.specs.Bytes.{backslash, close_brace, letter_x, line_feed, open_brace}
 use Rattle.ca_text.specs.Grammar.{escape_of, IsCharacter, Itself, Escaped, Hexadecimal, AreCharacters, Closed, OneMore}
 use Rattle.ca_text.specs.declared.fault.Why.{Why}
-use Rattle.ca_text.specs.Inner.Reading.{byte_between, inner_byte, two_at, three_at, four_at, least_of_three, end_of_three, least_of_four, end_of_four, point_at, is_point, may_stand, hex_after, hex_at, escape_at, begins_character, character_at, next_point_at, closing_at, characters_at}
+use Rattle.ca_text.specs.Inner.Reading.{point_at, is_point, may_stand, hex_after, hex_at, escape_at, begins_character, character_at, next_point_at, closing_at, characters_at}
 use Rattle.ca_text.proofs.Tools.{both, chosen}
+use Rattle.ca_text.proofs.Points.{encode_some, first_byte, point_again}
 use Rattle.ca_text.proofs.Again.{expect_again, grows}
-
-pub byte_again : (low high b : ℕ) (rest : List ℕ) → low ≤ b → b < high → byte_between low high (b ∷ rest) ≡ Ok (b, rest)
-unfolding byte_between
-byte_again low high b rest l h = rw (le-leb low b l, lt-ltb b high h) refl
-
-pub inner_again : (b : ℕ) (rest : List ℕ) → 128 ≤ b → b < 192 → inner_byte (b ∷ rest) ≡ Ok (b, rest)
-unfolding inner_byte
-inner_again b rest l h = byte_again 128 192 b rest l h
-
-two_again : (c : ℕ) (rest : List ℕ) → 128 ≤ c → c < 2048 → two_at (192 + c / 64) ((128 + c % 64) ∷ rest) ≡ Ok (c, rest)
-unfolding two_at
-two_again c rest low high =
-    let value : (192 + c / 64 - 192) * 64 + (128 + c % 64 - 128) ≡ c = omega arith in
-    rw (inner_again (128 + c % 64) rest (omega arith) (omega arith), value) refl
-
-three_bounds : (c : ℕ) → 2048 ≤ c → c < 65536 → IsScalar c
-    → (least_of_three (224 + c / 4096) ≤ 128 + (c / 64) % 64) × (128 + (c / 64) % 64 < end_of_three (224 + c / 4096))
-three_bounds c low high is = (grind (arith, nat_tests), grind (arith, nat_tests))
-
-three_again : (c : ℕ) (rest : List ℕ) → 2048 ≤ c → c < 65536 → IsScalar c
-    → three_at (224 + c / 4096) ((128 + (c / 64) % 64) ∷ (128 + c % 64) ∷ rest) ≡ Ok (c, rest)
-unfolding three_at
-three_again c rest low high is =
-    let bounds = three_bounds c low high is in
-    let value : ((224 + c / 4096 - 224) * 64 + (128 + (c / 64) % 64 - 128)) * 64 + (128 + c % 64 - 128) ≡ c = omega arith in
-    rw (byte_again _ _ (128 + (c / 64) % 64) ((128 + c % 64) ∷ rest) bounds.0 bounds.1, inner_again (128 + c % 64) rest (omega arith) (omega arith), value) refl
-
-four_bounds : (c : ℕ) → 65536 ≤ c → c < 1114112
-    → (least_of_four (240 + c / 262144) ≤ 128 + (c / 4096) % 64) × (128 + (c / 4096) % 64 < end_of_four (240 + c / 262144))
-four_bounds c low high = (grind (arith, nat_tests), grind (arith, nat_tests))
-
-four_again : (c : ℕ) (rest : List ℕ) → 65536 ≤ c → c < 1114112
-    → four_at (240 + c / 262144) ((128 + (c / 4096) % 64) ∷ (128 + (c / 64) % 64) ∷ (128 + c % 64) ∷ rest) ≡ Ok (c, rest)
-unfolding four_at
-four_again c rest low high =
-    let bounds = four_bounds c low high in
-    let value : (((240 + c / 262144 - 240) * 64 + (128 + (c / 4096) % 64 - 128)) * 64 + (128 + (c / 64) % 64 - 128)) * 64 + (128 + c % 64 - 128) ≡ c =
-    omega arith in
-    rw (
-      byte_again _ _ (128 + (c / 4096) % 64) ((128 + (c / 64) % 64) ∷ (128 + c % 64) ∷ rest) bounds.0 bounds.1,
-      inner_again (128 + (c / 64) % 64) ((128 + c % 64) ∷ rest) (omega arith) (omega arith),
-      inner_again (128 + c % 64) rest (omega arith) (omega arith),
-      value,
-    ) refl
-
-scalar_top : (c : ℕ) → IsScalar c → c < 1114112
-scalar_top c h = grind (arith, nat_tests)
-
-pub point_again : (c : ℕ) (rest : List ℕ) → IsScalar c → point_at (encode_utf8 c ++ rest) ≡ Ok (c, rest)
-unfolding point_at encode_utf8
-point_again c rest is =
-    ⊎_elim (λ h. rw (h.0, h.0) refl)
-    (λ h. let low = ltb-false c 128 h.0 in
-    ⊎_elim (λ i. let high = ltb-true c 2048 i.0 in
-    rw (h.0, i.0, le-ltb (192 + c / 64) 0x80 (omega arith), le-ltb (192 + c / 64) 0xc2 (omega arith), lt-ltb (192 + c / 64) 0xe0 (omega arith))
-    (two_again c rest low high))
-    (λ i. let low2 = ltb-false c 2048 i.0 in
-    ⊎_elim (λ j. let high = ltb-true c 65536 j.0 in
-    rw (
-      h.0,
-      i.0,
-      j.0,
-      le-ltb (224 + c / 4096) 0x80 (omega arith),
-      le-ltb (224 + c / 4096) 0xc2 (omega arith),
-      le-ltb (224 + c / 4096) 0xe0 (omega arith),
-      lt-ltb (224 + c / 4096) 0xf0 (omega arith),
-    ) (three_again c rest low2 high is))
-    (λ j. let low3 = ltb-false c 65536 j.0 in let top = scalar_top c is in
-    rw (
-      h.0,
-      i.0,
-      j.0,
-      le-ltb (240 + c / 262144) 0x80 (omega arith),
-      le-ltb (240 + c / 262144) 0xc2 (omega arith),
-      le-ltb (240 + c / 262144) 0xe0 (omega arith),
-      le-ltb (240 + c / 262144) 0xf0 (omega arith),
-      lt-ltb (240 + c / 262144) 0xf5 (omega arith),
-    ) (four_again c rest low3 top))
-    (chosen (ltb c 65536) true false (cond (ltb c 65536) true false) refl))
-    (chosen (ltb c 2048) true false (cond (ltb c 2048) true false) refl))
-    (chosen (ltb c 128) true false (cond (ltb c 128) true false) refl)
 
 hex_parts : (d : ℕ) → digit_value d < 16 → (is_ascii_hexdigit d ≡ true)
 hex_parts d h = grind (arith, nat_tests)
@@ -146,38 +66,9 @@ other_quote close b h = grind (arith, nat_tests)
 begins_itself : (close most c : ℕ) → c < 128 → c ≢ close → c ≢ line_feed → begins_character close most c ≡ true
 begins_itself close most c low h i = grind (arith, nat_tests)
 
-encode_some : (c : ℕ) → 0 < length (encode_utf8 c)
-unfolding encode_utf8
-encode_some c =
-    ⊎_elim (λ h. rw h.0 (omega arith))
-    (λ h. ⊎_elim (λ i. rw (h.0, i.0) (omega arith))
-    (λ i. ⊎_elim (λ j. rw (h.0, i.0, j.0) (omega arith)) (λ j. rw (h.0, i.0, j.0) (omega arith))
-    (chosen (ltb c 65536) true false (cond (ltb c 65536) true false) refl))
-    (chosen (ltb c 2048) true false (cond (ltb c 2048) true false) refl))
-    (chosen (ltb c 128) true false (cond (ltb c 128) true false) refl)
-
--- how a code point of more than one byte begins
-lead : (c : ℕ) → IsScalar c → 128 ≤ c → (b : ℕ) × (cs : List ℕ) × (encode_utf8 c ≡ b ∷ cs) × (0xc2 ≤ b) × (b < 0xf5)
-unfolding encode_utf8
-lead c is low =
-    let top = scalar_top c is in
-    let no : ltb c 128 ≡ false = le-ltb c 128 low in
-    ⊎_elim (λ h. let high = ltb-true c 2048 h.0 in (192 + c / 64, (128 + c % 64) ∷ [], rw (no, h.0) refl, omega arith, omega arith))
-    (λ h. let low2 = ltb-false c 2048 h.0 in
-    ⊎_elim (λ i. let high = ltb-true c 65536 i.0 in
-    (224 + c / 4096, (128 + (c / 64) % 64) ∷ (128 + c % 64) ∷ [], rw (no, h.0, i.0) refl, omega arith, omega arith))
-    (λ i. let low3 = ltb-false c 65536 i.0 in
-    (240 + c / 262144, (128 + (c / 4096) % 64) ∷ (128 + (c / 64) % 64) ∷ (128 + c % 64) ∷ [], rw (no, h.0, i.0) refl, omega arith, omega arith))
-    (chosen (ltb c 65536) true false (cond (ltb c 65536) true false) refl))
-    (chosen (ltb c 2048) true false (cond (ltb c 2048) true false) refl)
-
 lead_begins : (close most b : ℕ) → close < 128 → 128 ≤ most → 0xc2 ≤ b → b < 0xf5
     → (begins_character close most b ≡ true) × (eqb b backslash ≡ false) × (eqb b close ≡ false)
 lead_begins close most b small wide low high = (grind (arith, nat_tests), grind (arith, nat_tests), grind (arith, nat_tests))
-
-one_byte : (c : ℕ) → c < 128 → encode_utf8 c ≡ c ∷ []
-unfolding encode_utf8
-one_byte c h = rw (lt-ltb c 128 h) refl
 
 point_most : (most c : ℕ) → is_point most c ≡ true → c ≤ most
 point_most most c h = leb-true c most (both (leb c most) (all_scalars (c ∷ [])) h).0
@@ -194,16 +85,14 @@ itself_again : (close most c : ℕ) (rest : List ℕ) → close < 128 → IsScal
     → (character_at close most (encode_utf8 c ++ rest) ≡ Ok (c, rest)) × BeginsApart close (encode_utf8 c)
 itself_again close most c rest small is h i j point =
     ⊎_elim
-    (λ k. let low = ltb-true c 128 k.0 in (
-      itself_from close most c c [] rest (one_byte c low) is (other_quote backslash c i) (begins_itself close most c low h j),
-      record { first = c; others = []; is = one_byte c low; apart = other_quote close c h },
+    (λ k. (
+      itself_from close most c c [] rest k.1 is (other_quote backslash c i) (begins_itself close most c k.0 h j),
+      record { first = c; others = []; is = k.1; apart = other_quote close c h },
     ))
-    (λ k. let low = ltb-false c 128 k.0 in
-    let l = lead c is low in
-    let top = point_most most c point in
-    let b = lead_begins close most l.0 small (omega arith) l.3 l.4 in
-    (itself_from close most c l.0 l.1 rest l.2 is b.1 b.0, record { first = l.0; others = l.1; is = l.2; apart = b.2 }))
-    (chosen (ltb c 128) true false (cond (ltb c 128) true false) refl)
+    (λ k. let top = point_most most c point in
+    let b = lead_begins close most k.1 small (omega (arith, k.0)) k.4 k.5 in
+    (itself_from close most c k.1 k.2 rest k.3 is b.1 b.0, record { first = k.1; others = k.2; is = k.3; apart = b.2 }))
+    (first_byte c is)
 
 character_again : (close most : ℕ) (text : List ℕ) (c : ℕ) (rest : List ℕ) → close < 128 → close ≢ backslash → IsCharacter close text c → is_point most c ≡ true
     → (character_at close most (text ++ rest) ≡ Ok (c, rest)) × BeginsApart close text
@@ -218,7 +107,7 @@ character_again _ most _ _ rest small slash (Hexadecimal close ds n few is) poin
     )
 
 pub character_some : (close : ℕ) (text : List ℕ) (c : ℕ) → IsCharacter close text c → 0 < length text
-character_some _ _ _ (Itself close c is h i j) = encode_some c
+character_some _ _ _ (Itself close c is h i j) = encode_some c is
 character_some _ _ _ (Escaped close letter c e) = omega arith
 character_some _ _ _ (Hexadecimal close ds n few is) = omega arith
 
