@@ -7,9 +7,10 @@ use Rattle.std.proofs.lemmas.Bool.Decides.{nat_tests}
 use Rattle.std.specs.List.{list_all}
 use Rattle.std.specs.Char.{is_ascii_digit, digit_value, is_ascii_lowercase}
 use Rattle.std.specs.Str.Parse.{AllDigits, IsNumeral, digits_value, digits_value_after}
+use Rattle.ca_text.specs.Bytes.{digit_zero, minus_sign}
 use Rattle.ca_text.specs.Text.{is_name_char, has_plain_form}
 use Rattle.ca_text.specs.Grammar.{is_blank, AreBlanks, IsInteger, FromZero, Negative, IsWhole, skip}
-use Rattle.ca_text.specs.Reading.{expect, digits_after, number_at, integer_at, name_length, name_at}
+use Rattle.ca_text.specs.Inner.Reading.{expect, digits_after, number_at, integer_at, name_length, name_at}
 use Rattle.ca_text.proofs.Tools.{both}
 use Rattle.ca_text.proofs.Numbers.{EndsDigits, EndsName}
 
@@ -22,7 +23,7 @@ pub expect_again : (c : ℕ) (rest : List ℕ) → expect c (c ∷ rest) ≡ Ok 
 unfolding expect
 expect_again c rest = let e : eqb c c ≡ true = grind (arith, nat_tests) in rw e refl
 
-digit_parts : (d : ℕ) → digit_value d < 10 → (is_ascii_digit d ≡ true) × (digit_value d ≡ d - 48)
+digit_parts : (d : ℕ) → digit_value d < 10 → (is_ascii_digit d ≡ true) × (digit_value d ≡ d - digit_zero)
 digit_parts d h = (grind (arith, nat_tests), grind (arith, nat_tests))
 
 pub grows : (ds : List ℕ) (radix n : ℕ) → 0 < radix → n ≤ digits_value_after radix n ds
@@ -38,7 +39,7 @@ digits_again most n [] [] all bound ends = refl
 digits_again most n [] (b ∷ rest) all bound ends = rw ends refl
 digits_again most n (d ∷ ds) rest all bound ends =
     let p = digit_parts d all.0 in
-    let step : n * 10 + (d - 48) ≡ n * 10 + digit_value d = omega (arith, p.1) in
+    let step : n * 10 + (d - digit_zero) ≡ n * 10 + digit_value d = omega (arith, p.1) in
     let small : n * 10 + digit_value d ≤ most = omega (arith, grows ds 10 (n * 10 + digit_value d) (omega arith), bound) in
     let fits : leb (n * 10 + digit_value d) most ≡ true = le-leb _ _ small in
     rw (p.0, step, fits) (digits_again most (n * 10 + digit_value d) ds rest all.1 bound ends)
@@ -49,11 +50,11 @@ unfolding number_at
 number_again most [] rest n bound ends = absurd (omega (arith, n.0))
 number_again most (d ∷ ds) rest n bound ends = rw (digit_parts d n.1.0).0 (digits_again most 0 (d ∷ ds) rest n.1 bound ends)
 
-ends_digits : (c : ℕ) (text rest : List ℕ) → is_ascii_lowercase c ≡ false → (is_ascii_digit c || eqb c 45) ≡ true → IsWhole (c ∷ text) rest → EndsDigits rest
+ends_digits : (c : ℕ) (text rest : List ℕ) → is_ascii_lowercase c ≡ false → (is_ascii_digit c || eqb c minus_sign) ≡ true → IsWhole (c ∷ text) rest → EndsDigits rest
 ends_digits c text [] low digit whole = tt
 ends_digits c text (b ∷ rest) low digit whole = rw (low, digit) at whole
 
-digit_first : (d : ℕ) → digit_value d < 10 → (is_ascii_lowercase d ≡ false) × ((is_ascii_digit d || eqb d 45) ≡ true) × (eqb d 45 ≡ false)
+digit_first : (d : ℕ) → digit_value d < 10 → (is_ascii_lowercase d ≡ false) × ((is_ascii_digit d || eqb d minus_sign) ≡ true) × (eqb d minus_sign ≡ false)
 digit_first d h = (grind (arith, nat_tests), grind (arith, nat_tests), grind (arith, nat_tests))
 
 positive_again : (ds rest : List ℕ) → IsNumeral 10 ds → digits_value 10 ds < 2 ^ 63 → IsWhole ds rest
@@ -68,7 +69,7 @@ positive_again (d ∷ ds) rest n bound whole =
 pub integer_again : (text : List ℕ) (n : ℤ) (rest : List ℕ) → IsInteger text n → IsWhole text rest → integer_at (text ++ rest) ≡ Ok (n, rest)
 unfolding integer_at
 integer_again _ _ rest (FromZero ds n bound) whole = positive_again ds rest n bound whole
-integer_again _ _ rest (Negative ds n bound) whole = rw (number_again (2 ^ 63) ds rest n bound (ends_digits 45 ds rest refl refl whole)) refl
+integer_again _ _ rest (Negative ds n bound) whole = rw (number_again (2 ^ 63) ds rest n bound (ends_digits minus_sign ds rest refl refl whole)) refl
 
 ends_name : (c : ℕ) (text rest : List ℕ) → is_ascii_lowercase c ≡ true → IsWhole (c ∷ text) rest → EndsName rest
 ends_name c text [] low whole = tt

@@ -6,10 +6,11 @@ use Rattle.std.specs.List.{list_all}
 use Rattle.std.specs.Char.{encode_utf8, IsScalar, is_ascii_hexdigit, digit_value}
 use Rattle.std.specs.Str.{all_scalars}
 use Rattle.std.specs.Str.Parse.{AllDigits, digits_value, digits_value_after}
+use Rattle.ca_text.specs.Bytes.{backslash, close_brace, letter_x, line_feed, open_brace}
 use Rattle.ca_text.specs.Grammar.{escape_of, IsCharacter, Itself, Escaped, Hexadecimal, AreCharacters, Closed, OneMore}
 use Rattle.ca_text.specs.declared.fault.Why.{Why}
-use Rattle.ca_text.specs.Reading.{expect, point_at, is_point, may_stand, hex_after, hex_at, or_fault, escape_at, begins_character, character_at, next_point_at, closing_at, points_after, characters_at, most_point}
-use Rattle.ca_text.proofs.Points.{IsPointOf, point_taken}
+use Rattle.ca_text.specs.Inner.Reading.{expect, point_at, is_point, may_stand, hex_after, hex_at, or_fault, escape_at, begins_character, character_at, next_point_at, closing_at, points_after, characters_at, most_point}
+use Rattle.ca_text.proofs.Points.{IsPointOf, first_byte, point_taken}
 use Rattle.ca_text.proofs.Tools.{bind_ok, chosen, guarded, both, ok_is, pair_is}
 
 pub expect_taken : (c : ℕ) (bytes rest : List ℕ) → expect c bytes ≡ Ok rest → bytes ≡ c ∷ rest
@@ -24,7 +25,7 @@ expect_taken c (b ∷ bytes) rest e =
 -- `\x{`, digits and `}` behind digits worth c
 pub record AreHexDigits (most more c : ℕ) (bytes : List ℕ) (value : ℕ) (rest : List ℕ) : Type 0 where
   pub digits : List ℕ
-  pub whole : bytes ≡ digits ++ 125 ∷ rest
+  pub whole : bytes ≡ digits ++ close_brace ∷ rest
   pub all : AllDigits 16 digits
   pub few : length digits ≤ more
   pub value_is : digits_value_after 16 c digits ≡ value
@@ -43,14 +44,14 @@ hex_after_taken (b ∷ bytes) most more c value rest e =
     let t = both (is_ascii_hexdigit b) (ltb 0 more) h.0 in
     let some = ltb-true 0 more t.1 in
     let r = hex_after_taken bytes most (more - 1) (c * 16 + digit_value b) value rest g.1 in
-    let whole : b ∷ bytes ≡ (b ∷ r.digits) ++ 125 ∷ rest = let w = r.whole in cc in
+    let whole : b ∷ bytes ≡ (b ∷ r.digits) ++ close_brace ∷ rest = let w = r.whole in cc in
     let few : length (b ∷ r.digits) ≤ more = omega (arith, r.few) in
     record { digits = b ∷ r.digits; whole = whole; all = (is_hex b t.0, r.all); few = few; value_is = r.value_is; point = r.point })
-    (λ h. let g = guarded (eqb b 125 && is_point most c) _ (Ok (c, bytes)) (value, rest) h.1 in
-    let t = both (eqb b 125) (is_point most c) g.0 in
+    (λ h. let g = guarded (eqb b close_brace && is_point most c) _ (Ok (c, bytes)) (value, rest) h.1 in
+    let t = both (eqb b close_brace) (is_point most c) g.0 in
     let p = pair_is c bytes value rest g.1 in
-    let same = eqb-true b 125 t.0 in
-    let whole : b ∷ bytes ≡ [] ++ 125 ∷ rest = let q = p.1 in cc in
+    let same = eqb-true b close_brace t.0 in
+    let whole : b ∷ bytes ≡ [] ++ close_brace ∷ rest = let q = p.1 in cc in
     record { digits = []; whole = whole; all = tt; few = omega arith; value_is = p.0; point = rw p.0 at t.1 })
     (chosen (is_ascii_hexdigit b && ltb 0 more) _ _ (Ok (value, rest)) e)
 
@@ -61,7 +62,7 @@ hex_taken most [] value rest e = absurd cc
 hex_taken most (b ∷ bytes) value rest e =
     let g = guarded (is_ascii_hexdigit b) _ _ (value, rest) e in
     let r = hex_after_taken bytes most 5 (digit_value b) value rest g.1 in
-    let whole : b ∷ bytes ≡ (b ∷ r.digits) ++ 125 ∷ rest = let w = r.whole in cc in
+    let whole : b ∷ bytes ≡ (b ∷ r.digits) ++ close_brace ∷ rest = let w = r.whole in cc in
     let few : length (b ∷ r.digits) ≤ 6 = omega (arith, r.few) in
     let start : 0 * 16 + digit_value b ≡ digit_value b = omega arith in
     let worth : digits_value_after 16 0 (b ∷ r.digits) ≡ value = ap (λ c. digits_value_after 16 c r.digits) start ∙ r.value_is in
@@ -85,53 +86,42 @@ point_scalar : (most c : ℕ) → is_point most c ≡ true → IsScalar c
 point_scalar most c e = let t = both (leb c most) (all_scalars (c ∷ [])) e in (both _ _ t.1).0
 
 escape_taken : (close most : ℕ) (bytes : List ℕ) (c : ℕ) (rest : List ℕ) → 127 ≤ most → escape_at most bytes ≡ Ok (c, rest)
-    → IsCharacterAt close most (92 ∷ bytes) c rest
+    → IsCharacterAt close most (backslash ∷ bytes) c rest
 unfolding escape_at
 escape_taken close most [] c rest h e = absurd cc
 escape_taken close most (b ∷ bytes) c rest h e =
     ⊎_elim
-    (λ t. let same = eqb-true b 120 t.0 in
-    let s = bind_ok (expect 123 bytes) (λ rest. hex_at most rest) (c, rest) t.1 in
-    let opened = expect_taken 123 bytes s.0 s.1 in
+    (λ t. let same = eqb-true b letter_x t.0 in
+    let s = bind_ok (expect open_brace bytes) (λ rest. hex_at most rest) (c, rest) t.1 in
+    let opened = expect_taken open_brace bytes s.0 s.1 in
     let r = hex_taken most s.0 c rest s.2 in
     let worth : digits_value 16 r.0.digits ≡ c = r.0.value_is in
-    let spelled = append_assoc r.0.digits (125 ∷ []) rest in
-    let whole : 92 ∷ b ∷ bytes ≡ (92 ∷ 120 ∷ 123 ∷ r.0.digits ++ 125 ∷ []) ++ rest = let w = r.0.whole in cc in
+    let spelled = append_assoc r.0.digits (close_brace ∷ []) rest in
+    let whole : backslash ∷ b ∷ bytes ≡ (backslash ∷ letter_x ∷ open_brace ∷ r.0.digits ++ close_brace ∷ []) ++ rest = let w = r.0.whole in cc in
     let scalar : IsScalar (digits_value 16 r.0.digits) = rw worth (point_scalar most c r.0.point) in
-    let spells : IsCharacter close (92 ∷ 120 ∷ 123 ∷ r.0.digits ++ 125 ∷ []) (digits_value 16 r.0.digits) =
+    let spells : IsCharacter close (backslash ∷ letter_x ∷ open_brace ∷ r.0.digits ++ close_brace ∷ []) (digits_value 16 r.0.digits) =
     Hexadecimal close r.0.digits (r.1, r.0.all) r.0.few scalar in
     record {
-      text = 92 ∷ 120 ∷ 123 ∷ r.0.digits ++ 125 ∷ [];
+      text = backslash ∷ letter_x ∷ open_brace ∷ r.0.digits ++ close_brace ∷ [];
       whole = whole;
-      character = subst (λ n. IsCharacter close (92 ∷ 120 ∷ 123 ∷ r.0.digits ++ 125 ∷ []) n) worth spells;
+      character = subst (λ n. IsCharacter close (backslash ∷ letter_x ∷ open_brace ∷ r.0.digits ++ close_brace ∷ []) n) worth spells;
       point = r.0.point;
     })
     (λ t. let o = or_fault_taken (escape_of b) bytes (b ∷ bytes) c rest t.1 in
-    let whole : 92 ∷ b ∷ bytes ≡ (92 ∷ b ∷ []) ++ rest = let w = o.1 in cc in
-    record { text = 92 ∷ b ∷ []; whole = whole; character = Escaped close b c o.0; point = escape_small most b c h o.0 })
-    (chosen (eqb b 120) _ _ (Ok (c, rest)) e)
+    let whole : backslash ∷ b ∷ bytes ≡ (backslash ∷ b ∷ []) ++ rest = let w = o.1 in cc in
+    record { text = backslash ∷ b ∷ []; whole = whole; character = Escaped close b c o.0; point = escape_small most b c h o.0 })
+    (chosen (eqb b letter_x) _ _ (Ok (c, rest)) e)
 
--- the first byte of a code point: the code point itself, or a byte from 194 on
-first_byte : (c : ℕ) → IsScalar c → ((c < 128) × (encode_utf8 c ≡ c ∷ [])) ⊎ ((128 ≤ c) × (b : ℕ) × (cs : List ℕ) × (encode_utf8 c ≡ b ∷ cs) × (128 ≤ b))
-unfolding encode_utf8
-first_byte c h =
-    ⊎_elim (λ t. inl (ltb-true c 128 t.0, sym t.1))
-    (λ t. ⊎_elim (λ u. inr (ltb-false c 128 t.0, _, _, sym u.1, omega arith))
-    (λ u. ⊎_elim (λ v. inr (ltb-false c 128 t.0, _, _, sym v.1, omega arith)) (λ v. inr (ltb-false c 128 t.0, _, _, sym v.1, omega arith))
-    (chosen (ltb c 65536) _ _ _ u.1))
-    (chosen (ltb c 2048) _ _ _ t.1))
-    (chosen (ltb c 128) _ _ (encode_utf8 c) refl)
-
-begins_parts : (close most b : ℕ) → begins_character close most b ≡ true → (b ≢ close) × (b ≢ 10) × (128 ≤ b → 128 ≤ most)
+begins_parts : (close most b : ℕ) → begins_character close most b ≡ true → (b ≢ close) × (b ≢ line_feed) × (128 ≤ b → 128 ≤ most)
 begins_parts close most b h = (λ e. grind (arith, nat_tests), λ e. grind (arith, nat_tests), λ e. grind (arith, nat_tests))
 
 pub scalar_point : (c : ℕ) → IsScalar c → is_point most_point c ≡ true
 scalar_point c h = grind (arith, nat_tests)
 
 -- a code point that begins with such a byte
-point_begins : (close most b : ℕ) (bytes : List ℕ) (c : ℕ) (rest : List ℕ) → begins_character close most b ≡ true → b ≢ 92 → close < 128 → 127 ≤ most
+point_begins : (close most b : ℕ) (bytes : List ℕ) (c : ℕ) (rest : List ℕ) → begins_character close most b ≡ true → b ≢ backslash → close < 128 → 127 ≤ most
     → (128 ≤ most → most ≡ most_point)
-    → IsPointOf (b ∷ bytes) c rest → (c ≢ close) × (c ≢ 92) × (c ≢ 10) × (is_point most c ≡ true)
+    → IsPointOf (b ∷ bytes) c rest → (c ≢ close) × (c ≢ backslash) × (c ≢ line_feed) × (is_point most c ≡ true)
 point_begins close most b bytes c rest begins other small low high p =
     let parts = begins_parts close most b begins in
     ⊎_elim
@@ -149,16 +139,16 @@ unfolding character_at
 character_taken close most [] c rest small low high e = absurd cc
 character_taken close most (b ∷ bytes) c rest small low high e =
     ⊎_elim
-    (λ t. let same = eqb-true b 92 t.0 in
+    (λ t. let same = eqb-true b backslash t.0 in
     let r = escape_taken close most bytes c rest low t.1 in
     let whole : b ∷ bytes ≡ r.text ++ rest = let w = r.whole in cc in
     record { text = r.text; whole = whole; character = r.character; point = r.point })
-    (λ t. let other = eqb-false b 92 t.0 in
+    (λ t. let other = eqb-false b backslash t.0 in
     let g = guarded (begins_character close most b) _ (point_at (b ∷ bytes)) (c, rest) t.1 in
     let p = point_taken (b ∷ bytes) c rest g.1 in
     let k = point_begins close most b bytes c rest g.0 other small low high p in
     record { text = encode_utf8 c; whole = p.whole; character = Itself close c p.scalar k.0 k.1 k.2; point = k.3 })
-    (chosen (eqb b 92) _ _ (Ok (c, rest)) e)
+    (chosen (eqb b backslash) _ _ (Ok (c, rest)) e)
 
 -- no code point, or one, is read at the front
 pub next_taken : (close most : ℕ) (bytes : List ℕ) (c : ℕ) (rest : List ℕ) → close < 128 → 127 ≤ most → (128 ≤ most → most ≡ most_point)

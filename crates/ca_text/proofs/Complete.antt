@@ -1,5 +1,6 @@
 -- A text of a term that stands at the front is read, whatever follows that doesn't belong to it.
 use Rattle.std.proofs.Common.{◌≡◌, ℕ, zero, suc, ◌<◌, ◌≤◌, Bool, true, false, eqb, List, [], ◌∷◌, ◌++◌, length, Some, Ok, ℤ, pos, neg_ℤ, refl, sym, ap, ◌∙◌, append_assoc, arith, ◌⊎◌, inl, inr, ⊎_elim, length-append}
+use Rattle.ca_text.specs.Bytes.{close_angle, close_brace, close_bracket, comma, double_quote, minus_sign, open_angle, open_brace, open_bracket, single_quote, vertical_bar}
 use Rattle.ca_text.proofs.Characters.{scalar_point}
 use Rattle.std.proofs.lemmas.Bool.Decides.{nat_tests}
 use Rattle.std.specs.List.{list_all}
@@ -8,12 +9,12 @@ use Rattle.std.specs.Str.{encode_utf8_all}
 use Rattle.std.specs.Str.Parse.{IsNumeral, digits_value}
 use Rattle.ca_term.specs.Tree.{Tree, Row, Integer, Atom, Tuple, Nil, Cons, Binary, Ends, More, row_of, size, elements}
 use Rattle.ca_text.specs.Text.{is_name_char}
-use Rattle.ca_text.specs.Grammar.{Limits, is_blank, AreBlanks, IsInteger, FromZero, Negative, IsCharacter, Itself, Escaped, Hexadecimal, escape_of, AreCharacters, Closed, OneMore, IsAtom, Plain, Quoted, IsSegment, OneByte, Shown, AreSegments, LastSegment, MoreSegments, points, IsTextOf, AnInteger, AnAtom, NoElements, ATuple, ANil, AList, NoString, AString, NoBytes, ABinary, AreElements, LastElement, MoreElements, AreCells, LastCell, MoreCells, LastTail, IsWhole, takes_in, skip}
-use Rattle.ca_text.specs.Reading.{Read, is_point, most_point, most_shown, quoted_at, one_byte_at, segment_at, after_segment_at, segment_step, series_at, series_rest, bytes_at, after_element_at, element_step, elements_at, Next, Head, Inner, Last, closed, inner_at, tail_at, next_at, cells_after, cell_step, cells_at, list_at, points_at, tuple_at, binary_at, atom_at, integer_term_at, other_at, bracketed, term_at}
+use Rattle.ca_text.specs.Grammar.{ABinary, AList, ANil, AString, ATuple, AnAtom, AnInteger, AreBlanks, AreCells, AreCharacters, AreElements, AreSegments, Closed, Escaped, FromZero, Hexadecimal, IsAtom, IsCharacter, IsInteger, IsSegment, IsTextOf, IsWhole, Itself, LastCell, LastElement, LastSegment, LastTail, Limits, MoreCells, MoreElements, MoreSegments, Negative, NoBytes, NoElements, NoString, OneByte, OneMore, Plain, Quoted, Shown, escape_of, is_blank, most_byte, points, skip, takes_in}
+use Rattle.ca_text.specs.Inner.Reading.{Read, is_point, most_point, most_shown, quoted_at, one_byte_at, segment_at, after_segment_at, segment_step, series_at, series_rest, bytes_at, after_element_at, element_step, elements_at, Next, Head, Inner, Last, closed, inner_at, tail_at, next_at, cells_after, cell_step, cells_at, list_at, points_at, tuple_at, binary_at, atom_at, integer_term_at, other_at, bracketed, term_at}
 use Rattle.ca_text.proofs.Tools.{both}
 use Rattle.ca_text.proofs.Again.{skip_again, expect_again, number_again, integer_again, name_again}
 use Rattle.ca_text.proofs.Numbers.{EndsDigits}
-use Rattle.ca_text.proofs.PointsAgain.{characters_again, characters_few}
+use Rattle.ca_text.proofs.CharactersAgain.{characters_again, characters_few}
 
 -- code points of characters are scalar values
 escape_scalar : (letter c : ℕ) → escape_of letter ≡ Some c → is_point most_point c ≡ true
@@ -38,11 +39,11 @@ ascii_points (c ∷ cs) h =
 
 -- ---- binaries
 
-one_byte_again : (ds rest : List ℕ) → IsNumeral 10 ds → digits_value 10 ds ≤ 255 → EndsDigits rest
+one_byte_again : (ds rest : List ℕ) → IsNumeral 10 ds → digits_value 10 ds ≤ most_byte → EndsDigits rest
     → one_byte_at (ds ++ rest) ≡ Ok (digits_value 10 ds ∷ [], rest)
-one_byte_again ds rest n bound ends = rw (number_again 255 ds rest n bound ends) refl
+one_byte_again ds rest n bound ends = rw (number_again most_byte ds rest n bound ends) refl
 
-digit_quote : (d : ℕ) → digit_value d < 10 → eqb d 34 ≡ false
+digit_quote : (d : ℕ) → digit_value d < 10 → eqb d double_quote ≡ false
 digit_quote d h = grind (arith, nat_tests)
 
 segment_again : (text bs rest : List ℕ) → IsSegment text bs → EndsDigits rest → segment_at (text ++ rest) ≡ Ok (bs, rest)
@@ -50,8 +51,8 @@ unfolding segment_at
 segment_again _ _ rest (OneByte [] n bound) ends = absurd (omega (arith, n.0))
 segment_again _ _ rest (OneByte (d ∷ ds) n bound) ends = rw (digit_quote d n.1.0) (one_byte_again (d ∷ ds) rest n bound ends)
 segment_again _ _ rest (Shown text cs are all) ends =
-    characters_again _ 34 most_shown (length (text ++ rest)) text cs rest (omega arith) (λ e. absurd (omega (arith, e))) are (ascii_points cs all)
-    (omega (arith, length-append text rest, characters_few 34 text cs (λ e. absurd (omega (arith, e))) (omega arith) are))
+    characters_again _ double_quote most_shown (length (text ++ rest)) text cs rest (omega arith) (λ e. absurd (omega (arith, e))) are (ascii_points cs all)
+    (omega (arith, length-append text rest, characters_few double_quote text cs (λ e. absurd (omega (arith, e))) (omega arith) are))
 
 -- how a segment begins: no blank, and not the closing brackets
 pub record BeginsSegment (text : List ℕ) : Type 0 where
@@ -59,23 +60,23 @@ pub record BeginsSegment (text : List ℕ) : Type 0 where
   pub others : List ℕ
   pub is : text ≡ first ∷ others
   pub solid : is_blank first ≡ false
-  pub going : eqb first 62 ≡ false
+  pub going : eqb first close_angle ≡ false
 
-digit_solid : (d : ℕ) → digit_value d < 10 → (is_blank d ≡ false) × (eqb d 62 ≡ false)
+digit_solid : (d : ℕ) → digit_value d < 10 → (is_blank d ≡ false) × (eqb d close_angle ≡ false)
 digit_solid d h = (grind (arith, nat_tests), grind (arith, nat_tests))
 
 pub segment_begins : (text bs : List ℕ) → IsSegment text bs → BeginsSegment text
 segment_begins _ _ (OneByte [] n bound) = absurd (omega (arith, n.0))
 segment_begins _ _ (OneByte (d ∷ ds) n bound) = let s = digit_solid d n.1.0 in record { first = d; others = ds; is = refl; solid = s.0; going = s.1 }
-segment_begins _ _ (Shown text cs are all) = record { first = 34; others = text; is = refl; solid = refl; going = refl }
+segment_begins _ _ (Shown text cs are all) = record { first = double_quote; others = text; is = refl; solid = refl; going = refl }
 
 segments_begin : (text bs : List ℕ) → AreSegments text bs → BeginsSegment text
 segments_begin _ _ (LastSegment text blanks bytes is are) =
     let b = segment_begins text bytes is in
     record {
       first = b.first;
-      others = b.others ++ (blanks ++ 62 ∷ 62 ∷ []);
-      is = ap (λ x. x ++ (blanks ++ 62 ∷ 62 ∷ [])) b.is;
+      others = b.others ++ (blanks ++ close_angle ∷ close_angle ∷ []);
+      is = ap (λ x. x ++ (blanks ++ close_angle ∷ close_angle ∷ [])) b.is;
       solid = b.solid;
       going = b.going;
     }
@@ -83,8 +84,8 @@ segments_begin _ _ (MoreSegments text before after rest bytes others is one two 
     let b = segment_begins text bytes is in
     record {
       first = b.first;
-      others = b.others ++ (before ++ 44 ∷ (after ++ rest));
-      is = ap (λ x. x ++ (before ++ 44 ∷ (after ++ rest))) b.is;
+      others = b.others ++ (before ++ comma ∷ (after ++ rest));
+      is = ap (λ x. x ++ (before ++ comma ∷ (after ++ rest))) b.is;
       solid = b.solid;
       going = b.going;
     }
@@ -111,26 +112,26 @@ segments_again : (n : ℕ) (text bs rest : List ℕ) → AreSegments text bs →
 unfolding series_at segment_step after_segment_at
 segments_again zero text bs rest are few = let b = segments_begin text bs are in absurd (omega (arith, few, ap (λ (x : List ℕ). length x) b.is))
 segments_again (suc n) _ _ rest (LastSegment text blanks bytes is are) few =
-    let read = segment_again text bytes (blanks ++ 62 ∷ 62 ∷ rest) is (blanks_end blanks 62 (62 ∷ rest) are refl) in
-    rw (ended_parts text blanks (62 ∷ 62 ∷ []) rest, read, skip_again blanks 62 (62 ∷ rest) are refl, expect_again 62 rest) refl
+    let read = segment_again text bytes (blanks ++ close_angle ∷ close_angle ∷ rest) is (blanks_end blanks close_angle (close_angle ∷ rest) are refl) in
+    rw (ended_parts text blanks (close_angle ∷ close_angle ∷ []) rest, read, skip_again blanks close_angle (close_angle ∷ rest) are refl, expect_again close_angle rest) refl
 segments_again (suc n) _ _ rest (MoreSegments text before after others bytes more is one two are) few =
-    let tail = 44 ∷ (after ++ (others ++ rest)) in
-    let read = segment_again text bytes (before ++ tail) is (blanks_end before 44 (after ++ (others ++ rest)) one refl) in
+    let tail = comma ∷ (after ++ (others ++ rest)) in
+    let read = segment_again text bytes (before ++ tail) is (blanks_end before comma (after ++ (others ++ rest)) one refl) in
     let b = segment_begins text bytes is in
     let short : length others ≤ n =
     omega (
       arith,
       few,
       ap (λ (x : List ℕ). length x) b.is,
-      length-append text (before ++ 44 ∷ (after ++ others)),
-      length-append before (44 ∷ (after ++ others)),
+      length-append text (before ++ comma ∷ (after ++ others)),
+      length-append before (comma ∷ (after ++ others)),
       length-append after others,
     ) in
     let s = segments_begin others more are in
     rw (
-      further_parts 44 text before after others rest,
+      further_parts comma text before after others rest,
       read,
-      skip_again before 44 (after ++ (others ++ rest)) one refl,
+      skip_again before comma (after ++ (others ++ rest)) one refl,
       skip_to after others rest s.first s.others two s.is s.solid,
       segments_again n others more rest are short,
     ) refl
@@ -143,8 +144,8 @@ pub record Begins (text : List ℕ) : Type 0 where
   pub others : List ℕ
   pub is : text ≡ first ∷ others
   pub solid : is_blank first ≡ false
-  pub no_brace : eqb first 125 ≡ false
-  pub no_bracket : eqb first 93 ≡ false
+  pub no_brace : eqb first close_brace ≡ false
+  pub no_bracket : eqb first close_bracket ≡ false
 
 abbrev others_of : Limits → ℕ → List ℕ → Read Tree
 others_of limits levels = other_at limits (term_at limits levels) levels
@@ -152,14 +153,14 @@ others_of limits levels = other_at limits (term_at limits levels) levels
 -- a term outside brackets is read
 pub record OtherShape (limits : Limits) (levels : ℕ) (text : List ℕ) (t : Tree) : Type 0 where
   pub begins : Begins text
-  pub apart : eqb begins.first 91 ≡ false
+  pub apart : eqb begins.first open_bracket ≡ false
   pub reads : (rest : List ℕ) → IsWhole text rest → others_of limits levels (text ++ rest) ≡ Ok (t, rest)
 
 -- an empty list
 pub record EmptyShape (text : List ℕ) (t : Tree) : Type 0 where
   pub blanks : List ℕ
   pub are : AreBlanks blanks
-  pub is : text ≡ 91 ∷ blanks ++ 93 ∷ []
+  pub is : text ≡ open_bracket ∷ blanks ++ close_bracket ∷ []
   pub nil : t ≡ Nil
 
 -- a list whose cells are read
@@ -167,7 +168,7 @@ pub record CellsShape (limits : Limits) (levels : ℕ) (text : List ℕ) (t : Tr
   pub blanks : List ℕ
   pub are : AreBlanks blanks
   pub cells : List ℕ
-  pub is : text ≡ 91 ∷ blanks ++ cells
+  pub is : text ≡ open_bracket ∷ blanks ++ cells
   pub begins : Begins cells
   pub reads : (k : ℕ) → length cells ≤ k → (rest : List ℕ) → cells_at (term_at limits levels) (others_of limits levels) k (cells ++ rest) ≡ Ok (t, rest)
 
@@ -175,8 +176,8 @@ abbrev pub Shape : Limits → ℕ → List ℕ → Tree → Type 0
 Shape limits zero text t = ⊥
 Shape limits (suc levels) text t = OtherShape limits levels text t ⊎ (EmptyShape text t ⊎ CellsShape limits levels text t)
 
-bracket_begins : (text others : List ℕ) → text ≡ 91 ∷ others → Begins text
-bracket_begins text others is = record { first = 91; others = others; is = is; solid = refl; no_brace = refl; no_bracket = refl }
+bracket_begins : (text others : List ℕ) → text ≡ open_bracket ∷ others → Begins text
+bracket_begins text others is = record { first = open_bracket; others = others; is = is; solid = refl; no_brace = refl; no_bracket = refl }
 
 shape_begins : (limits : Limits) (levels : ℕ) (text : List ℕ) (t : Tree) → Shape limits levels text t → Begins text
 shape_begins limits zero text t s = absurd s
@@ -184,11 +185,11 @@ shape_begins limits (suc levels) text t s = ⊎_elim (λ o. o.begins) (λ l. ⊎
 
 -- a list's text behind its bracket, read
 list_empty : (element other : List ℕ → Read Tree) (blanks rest : List ℕ) → AreBlanks blanks
-    → bracketed (list_at element other) other ((91 ∷ blanks ++ 93 ∷ []) ++ rest) ≡ Ok (Nil, rest)
+    → bracketed (list_at element other) other ((open_bracket ∷ blanks ++ close_bracket ∷ []) ++ rest) ≡ Ok (Nil, rest)
 unfolding list_at
-list_empty element other blanks rest are = rw (append_assoc blanks (93 ∷ []) rest, skip_again blanks 93 rest are refl) refl
+list_empty element other blanks rest are = rw (append_assoc blanks (close_bracket ∷ []) rest, skip_again blanks close_bracket rest are refl) refl
 
-list_from : (element other : List ℕ → Read Tree) (b : ℕ) (bytes : List ℕ) (r : Read Tree) → eqb b 93 ≡ false
+list_from : (element other : List ℕ → Read Tree) (b : ℕ) (bytes : List ℕ) (r : Read Tree) → eqb b close_bracket ≡ false
     → cells_at element other (length (b ∷ bytes)) (b ∷ bytes) ≡ r → list_at element other (b ∷ bytes) ≡ r
 unfolding list_at
 list_from element other b bytes r going e = rw going e
@@ -236,16 +237,16 @@ pub record TailReads (limits : Limits) (levels : ℕ) (k : ℕ) (bytes : List �
   pub found : tail_at (others_of limits levels) bytes ≡ Ok next
   pub reads : (head : Tree) → cells_after head (cells_at (term_at limits levels) (others_of limits levels) k) next ≡ Ok (Cons head t, rest)
 
-closed_reads : (t : Tree) (blanks rest : List ℕ) → AreBlanks blanks → closed (Ok (t, blanks ++ 93 ∷ rest)) ≡ Ok (Last t rest)
-closed_reads t blanks rest are = rw (skip_again blanks 93 rest are refl, expect_again 93 rest) refl
+closed_reads : (t : Tree) (blanks rest : List ℕ) → AreBlanks blanks → closed (Ok (t, blanks ++ close_bracket ∷ rest)) ≡ Ok (Last t rest)
+closed_reads t blanks rest are = rw (skip_again blanks close_bracket rest are refl, expect_again close_bracket rest) refl
 
 other_tail : (limits : Limits) (levels k : ℕ) (text : List ℕ) (t : Tree) (blanks rest : List ℕ) → AreBlanks blanks → OtherShape limits levels text t
-    → TailReads limits levels k (text ++ (blanks ++ 93 ∷ rest)) t rest
+    → TailReads limits levels k (text ++ (blanks ++ close_bracket ∷ rest)) t rest
 unfolding tail_at
 other_tail limits levels k text t blanks rest are o =
     let other = others_of limits levels in
-    let behind = blanks ++ 93 ∷ rest in
-    let read = o.reads behind (whole_before text blanks 93 rest are refl) in
+    let behind = blanks ++ close_bracket ∷ rest in
+    let read = o.reads behind (whole_before text blanks close_bracket rest are refl) in
     let step : tail_at other (o.begins.first ∷ (o.begins.others ++ behind)) ≡ closed (other (o.begins.first ∷ (o.begins.others ++ behind))) = rw o.apart refl in
     record {
       next = Last t rest;
@@ -255,30 +256,30 @@ other_tail limits levels k text t blanks rest are o =
     }
 
 empty_tail : (limits : Limits) (levels k : ℕ) (text : List ℕ) (t : Tree) (blanks rest : List ℕ) → AreBlanks blanks → EmptyShape text t
-    → TailReads limits levels k (text ++ (blanks ++ 93 ∷ rest)) t rest
+    → TailReads limits levels k (text ++ (blanks ++ close_bracket ∷ rest)) t rest
 unfolding tail_at
 empty_tail limits levels k text t blanks rest are e =
     let other = others_of limits levels in
-    let behind = blanks ++ 93 ∷ rest in
-    let front : skip ((e.blanks ++ 93 ∷ []) ++ behind) ≡ 93 ∷ behind =
-    ap skip (append_assoc e.blanks (93 ∷ []) behind) ∙ skip_again e.blanks 93 behind e.are refl in
-    let step : tail_at other ((91 ∷ e.blanks ++ 93 ∷ []) ++ behind) ≡ Ok (Last Nil rest) = ap inner_at front ∙ closed_reads Nil blanks rest are in
+    let behind = blanks ++ close_bracket ∷ rest in
+    let front : skip ((e.blanks ++ close_bracket ∷ []) ++ behind) ≡ close_bracket ∷ behind =
+    ap skip (append_assoc e.blanks (close_bracket ∷ []) behind) ∙ skip_again e.blanks close_bracket behind e.are refl in
+    let step : tail_at other ((open_bracket ∷ e.blanks ++ close_bracket ∷ []) ++ behind) ≡ Ok (Last Nil rest) = ap inner_at front ∙ closed_reads Nil blanks rest are in
     record { next = Last Nil rest; found = ap (λ x. tail_at other (x ++ behind)) e.is ∙ step; reads = λ head. ap (λ x. Ok (Cons head x, rest)) (sym e.nil) }
 
-inner_from : (b : ℕ) (bytes : List ℕ) → eqb b 93 ≡ false → inner_at (b ∷ bytes) ≡ Ok (Inner (b ∷ bytes))
+inner_from : (b : ℕ) (bytes : List ℕ) → eqb b close_bracket ≡ false → inner_at (b ∷ bytes) ≡ Ok (Inner (b ∷ bytes))
 inner_from b bytes h = rw h refl
 
 cells_tail : (limits : Limits) (levels k : ℕ) (text : List ℕ) (t : Tree) (blanks rest : List ℕ) → AreBlanks blanks → length text ≤ k
-    → CellsShape limits levels text t → TailReads limits levels k (text ++ (blanks ++ 93 ∷ rest)) t rest
+    → CellsShape limits levels text t → TailReads limits levels k (text ++ (blanks ++ close_bracket ∷ rest)) t rest
 unfolding tail_at
 cells_tail limits levels k text t blanks rest are few c =
     let other = others_of limits levels in
-    let behind = blanks ++ 93 ∷ rest in
+    let behind = blanks ++ close_bracket ∷ rest in
     let begins = c.begins in
     let front : skip ((c.blanks ++ c.cells) ++ behind) ≡ begins.first ∷ (begins.others ++ behind) =
     ap skip (append_assoc c.blanks c.cells behind) ∙ skip_to c.blanks c.cells behind begins.first begins.others c.are begins.is begins.solid
     ∙ ap (λ x. x ++ behind) begins.is in
-    let step : tail_at other ((91 ∷ c.blanks ++ c.cells) ++ behind) ≡ Ok (Inner (begins.first ∷ (begins.others ++ behind))) =
+    let step : tail_at other ((open_bracket ∷ c.blanks ++ c.cells) ++ behind) ≡ Ok (Inner (begins.first ∷ (begins.others ++ behind))) =
     ap inner_at front ∙ inner_from begins.first (begins.others ++ behind) begins.no_bracket in
     let short : length c.cells ≤ k = omega (arith, few, ap (λ (x : List ℕ). length x) c.is, length-append c.blanks c.cells) in
     let read : cells_at (term_at limits levels) other k (begins.first ∷ (begins.others ++ behind)) ≡ Ok (t, behind) =
@@ -286,16 +287,16 @@ cells_tail limits levels k text t blanks rest are few c =
     record {
       next = Inner (begins.first ∷ (begins.others ++ behind));
       found = ap (λ x. tail_at other (x ++ behind)) c.is ∙ step;
-      reads = λ head. rw (read, skip_again blanks 93 rest are refl, expect_again 93 rest) refl;
+      reads = λ head. rw (read, skip_again blanks close_bracket rest are refl, expect_again close_bracket rest) refl;
     }
 
 tail_reads : (limits : Limits) (levels k : ℕ) (text : List ℕ) (t : Tree) (blanks rest : List ℕ) → AreBlanks blanks → length text ≤ k
-    → Shape limits (suc levels) text t → TailReads limits levels k (text ++ (blanks ++ 93 ∷ rest)) t rest
+    → Shape limits (suc levels) text t → TailReads limits levels k (text ++ (blanks ++ close_bracket ∷ rest)) t rest
 tail_reads limits levels k text t blanks rest are few s =
     ⊎_elim (other_tail limits levels k text t blanks rest are)
     (λ l. ⊎_elim (empty_tail limits levels k text t blanks rest are) (cells_tail limits levels k text t blanks rest are few) l) s
 
-digit_apart : (d : ℕ) → digit_value d < 10 → (is_blank d ≡ false) × (eqb d 125 ≡ false) × (eqb d 93 ≡ false) × (eqb d 91 ≡ false)
+digit_apart : (d : ℕ) → digit_value d < 10 → (is_blank d ≡ false) × (eqb d close_brace ≡ false) × (eqb d close_bracket ≡ false) × (eqb d open_bracket ≡ false)
 digit_apart d h = (grind (arith, nat_tests), grind (arith, nat_tests), grind (arith, nat_tests), grind (arith, nat_tests))
 
 -- a digit begins an integer and no other term
@@ -303,10 +304,10 @@ digit_other : (limits : Limits) (element : List ℕ → Read Tree) (levels d : �
     → other_at limits element levels (d ∷ bytes) ≡ integer_term_at (d ∷ bytes)
 unfolding other_at
 digit_other limits element levels d bytes h =
-    let a : eqb d 123 ≡ false = grind (arith, nat_tests) in
-    let b : eqb d 34 ≡ false = grind (arith, nat_tests) in
-    let c : eqb d 39 ≡ false = grind (arith, nat_tests) in
-    let e : eqb d 60 ≡ false = grind (arith, nat_tests) in
+    let a : eqb d open_brace ≡ false = grind (arith, nat_tests) in
+    let b : eqb d double_quote ≡ false = grind (arith, nat_tests) in
+    let c : eqb d single_quote ≡ false = grind (arith, nat_tests) in
+    let e : eqb d open_angle ≡ false = grind (arith, nat_tests) in
     let f : is_ascii_lowercase d ≡ false = grind (arith, nat_tests) in
     rw (a, b, c, e, f) refl
 
@@ -314,7 +315,7 @@ integer_term_again : (text : List ℕ) (n : ℤ) (rest : List ℕ) → IsInteger
 integer_term_again text n rest is whole = rw (integer_again text n rest is whole) refl
 
 minus_other : (limits : Limits) (element : List ℕ → Read Tree) (levels : ℕ) (bytes : List ℕ)
-    → other_at limits element levels (45 ∷ bytes) ≡ integer_term_at (45 ∷ bytes)
+    → other_at limits element levels (minus_sign ∷ bytes) ≡ integer_term_at (minus_sign ∷ bytes)
 unfolding other_at
 minus_other limits element levels bytes = refl
 
@@ -330,34 +331,34 @@ integer_shape limits levels _ _ (FromZero (d ∷ ds) n bound) =
     }
 integer_shape limits levels _ _ (Negative ds n bound) =
     record {
-      begins = record { first = 45; others = ds; is = refl; solid = refl; no_brace = refl; no_bracket = refl };
+      begins = record { first = minus_sign; others = ds; is = refl; solid = refl; no_brace = refl; no_bracket = refl };
       apart = refl;
       reads = λ rest whole. minus_other limits (term_at limits levels) levels (ds ++ rest)
-          ∙ integer_term_again (45 ∷ ds) (neg_ℤ (pos (digits_value 10 ds))) rest (Negative ds n bound) whole;
+          ∙ integer_term_again (minus_sign ∷ ds) (neg_ℤ (pos (digits_value 10 ds))) rest (Negative ds n bound) whole;
     }
 
-letter_apart : (c : ℕ) → is_ascii_lowercase c ≡ true → (is_blank c ≡ false) × (eqb c 125 ≡ false) × (eqb c 93 ≡ false) × (eqb c 91 ≡ false)
+letter_apart : (c : ℕ) → is_ascii_lowercase c ≡ true → (is_blank c ≡ false) × (eqb c close_brace ≡ false) × (eqb c close_bracket ≡ false) × (eqb c open_bracket ≡ false)
 letter_apart c h = (grind (arith, nat_tests), grind (arith, nat_tests), grind (arith, nat_tests), grind (arith, nat_tests))
 
 letter_other : (limits : Limits) (element : List ℕ → Read Tree) (levels c : ℕ) (bytes : List ℕ) → is_ascii_lowercase c ≡ true
     → other_at limits element levels (c ∷ bytes) ≡ atom_at limits.characters (c ∷ bytes)
 unfolding other_at
 letter_other limits element levels d bytes h =
-    let a : eqb d 123 ≡ false = grind (arith, nat_tests) in
-    let b : eqb d 34 ≡ false = grind (arith, nat_tests) in
-    let c : eqb d 39 ≡ false = grind (arith, nat_tests) in
-    let e : eqb d 60 ≡ false = grind (arith, nat_tests) in
+    let a : eqb d open_brace ≡ false = grind (arith, nat_tests) in
+    let b : eqb d double_quote ≡ false = grind (arith, nat_tests) in
+    let c : eqb d single_quote ≡ false = grind (arith, nat_tests) in
+    let e : eqb d open_angle ≡ false = grind (arith, nat_tests) in
     rw (a, b, c, e, h) refl
 
 quoted_other : (limits : Limits) (element : List ℕ → Read Tree) (levels : ℕ) (bytes : List ℕ)
-    → other_at limits element levels (39 ∷ bytes) ≡ quoted_at limits.characters bytes
+    → other_at limits element levels (single_quote ∷ bytes) ≡ quoted_at limits.characters bytes
 unfolding other_at
 quoted_other limits element levels bytes = refl
 
-quoted_again : (most : ℕ) (text cs rest : List ℕ) → AreCharacters 39 text cs → length cs ≤ most
+quoted_again : (most : ℕ) (text cs rest : List ℕ) → AreCharacters single_quote text cs → length cs ≤ most
     → quoted_at most (text ++ rest) ≡ Ok (Atom (encode_utf8_all cs), rest)
 quoted_again most text cs rest are few =
-    rw (characters_again _ 39 most_point most text cs rest (omega arith) (λ e. absurd (omega (arith, e))) are (characters_points 39 text cs are) few) refl
+    rw (characters_again _ single_quote most_point most text cs rest (omega arith) (λ e. absurd (omega (arith, e))) are (characters_points single_quote text cs are) few) refl
 
 atom_shape : (limits : Limits) (levels : ℕ) (text name : List ℕ) → IsAtom limits text name → OtherShape limits levels text (Atom name)
 atom_shape _ levels _ _ (Plain limits [] form few) = absurd cc
@@ -372,35 +373,35 @@ atom_shape _ levels _ _ (Plain limits (c ∷ cs) form few) =
     }
 atom_shape _ levels _ _ (Quoted limits text cs are few) =
     record {
-      begins = record { first = 39; others = text; is = refl; solid = refl; no_brace = refl; no_bracket = refl };
+      begins = record { first = single_quote; others = text; is = refl; solid = refl; no_brace = refl; no_bracket = refl };
       apart = refl;
       reads = λ rest whole. quoted_other limits (term_at limits levels) levels (text ++ rest) ∙ quoted_again limits.characters text cs rest are few;
     }
 
 tuple_other : (limits : Limits) (element : List ℕ → Read Tree) (levels : ℕ) (bytes : List ℕ)
-    → other_at limits element levels (123 ∷ bytes) ≡ tuple_at element limits.elements (skip bytes)
+    → other_at limits element levels (open_brace ∷ bytes) ≡ tuple_at element limits.elements (skip bytes)
 unfolding other_at
 tuple_other limits element levels bytes = refl
 
 string_other : (limits : Limits) (element : List ℕ → Read Tree) (levels : ℕ) (bytes : List ℕ)
-    → other_at limits element levels (34 ∷ bytes) ≡ points_at levels bytes
+    → other_at limits element levels (double_quote ∷ bytes) ≡ points_at levels bytes
 unfolding other_at
 string_other limits element levels bytes = refl
 
-binary_other : (limits : Limits) (element : List ℕ → Read Tree) (levels : ℕ) (bytes : List ℕ) → other_at limits element levels (60 ∷ bytes) ≡ binary_at bytes
+binary_other : (limits : Limits) (element : List ℕ → Read Tree) (levels : ℕ) (bytes : List ℕ) → other_at limits element levels (open_angle ∷ bytes) ≡ binary_at bytes
 unfolding other_at
 binary_other limits element levels bytes = refl
 
 empty_tuple : (element : List ℕ → Read Tree) (most : ℕ) (blanks rest : List ℕ) → AreBlanks blanks
-    → tuple_at element most (skip ((blanks ++ 125 ∷ []) ++ rest)) ≡ Ok (Tuple Ends, rest)
+    → tuple_at element most (skip ((blanks ++ close_brace ∷ []) ++ rest)) ≡ Ok (Tuple Ends, rest)
 unfolding elements_at
-empty_tuple element most blanks rest are = rw (append_assoc blanks (125 ∷ []) rest, skip_again blanks 125 rest are refl) refl
+empty_tuple element most blanks rest are = rw (append_assoc blanks (close_brace ∷ []) rest, skip_again blanks close_brace rest are refl) refl
 
 row_back : (row : Row) → row_of (elements row) ≡ row
 row_back Ends = refl
 row_back (More t row) = ap (λ x. More t x) (row_back row)
 
-elements_from : (element : List ℕ → Read Tree) (most b : ℕ) (bytes : List ℕ) → eqb b 125 ≡ false
+elements_from : (element : List ℕ → Read Tree) (most b : ℕ) (bytes : List ℕ) → eqb b close_brace ≡ false
     → elements_at element most (b ∷ bytes) ≡ series_at (element_step element) most (b ∷ bytes)
 unfolding elements_at
 elements_from element most b bytes h = rw h refl
@@ -416,35 +417,35 @@ full_tuple element most blanks inner rest row are b read =
     ∙ ap (λ x. series_at (element_step element) most (x ++ rest)) (sym b.is) ∙ read in
     rw (front, step, row_back row) refl
 
-no_string : (levels : ℕ) (rest : List ℕ) → points_at levels (34 ∷ rest) ≡ Ok (Nil, rest)
+no_string : (levels : ℕ) (rest : List ℕ) → points_at levels (double_quote ∷ rest) ≡ Ok (Nil, rest)
 unfolding points_at
 no_string zero rest = refl
 no_string (suc levels) rest =
-    rw (characters_again _ 34 most_point (length (34 ∷ rest)) (34 ∷ []) [] rest (omega arith) (λ e. absurd (omega (arith, e)))
-    (Closed 34) refl (omega arith)) refl
+    rw (characters_again _ double_quote most_point (length (double_quote ∷ rest)) (double_quote ∷ []) [] rest (omega arith) (λ e. absurd (omega (arith, e)))
+    (Closed double_quote) refl (omega arith)) refl
 
-some_string : (levels : ℕ) (text cs rest : List ℕ) → AreCharacters 34 text cs → points_at (suc levels) (text ++ rest) ≡ Ok (points cs, rest)
+some_string : (levels : ℕ) (text cs rest : List ℕ) → AreCharacters double_quote text cs → points_at (suc levels) (text ++ rest) ≡ Ok (points cs, rest)
 unfolding points_at
 some_string levels text cs rest are =
-    rw (characters_again _ 34 most_point (length (text ++ rest)) text cs rest (omega arith) (λ e. absurd (omega (arith, e))) are
-    (characters_points 34 text cs are)
-    (omega (arith, length-append text rest, characters_few 34 text cs (λ e. absurd (omega (arith, e))) (omega arith) are))) refl
+    rw (characters_again _ double_quote most_point (length (text ++ rest)) text cs rest (omega arith) (λ e. absurd (omega (arith, e))) are
+    (characters_points double_quote text cs are)
+    (omega (arith, length-append text rest, characters_few double_quote text cs (λ e. absurd (omega (arith, e))) (omega arith) are))) refl
 
-no_bytes : (blanks rest : List ℕ) → AreBlanks blanks → binary_at (60 ∷ ((blanks ++ 62 ∷ 62 ∷ []) ++ rest)) ≡ Ok (Binary [], rest)
+no_bytes : (blanks rest : List ℕ) → AreBlanks blanks → binary_at (open_angle ∷ ((blanks ++ close_angle ∷ close_angle ∷ []) ++ rest)) ≡ Ok (Binary [], rest)
 unfolding bytes_at
 no_bytes blanks rest are =
     rw (
-      expect_again 60 ((blanks ++ 62 ∷ 62 ∷ []) ++ rest),
-      append_assoc blanks (62 ∷ 62 ∷ []) rest,
-      skip_again blanks 62 (62 ∷ rest) are refl,
-      expect_again 62 rest,
+      expect_again open_angle ((blanks ++ close_angle ∷ close_angle ∷ []) ++ rest),
+      append_assoc blanks (close_angle ∷ close_angle ∷ []) rest,
+      skip_again blanks close_angle (close_angle ∷ rest) are refl,
+      expect_again close_angle rest,
     ) refl
 
-bytes_from : (b : ℕ) (bytes : List ℕ) → eqb b 62 ≡ false → bytes_at (b ∷ bytes) ≡ series_at segment_step (length (b ∷ bytes)) (b ∷ bytes)
+bytes_from : (b : ℕ) (bytes : List ℕ) → eqb b close_angle ≡ false → bytes_at (b ∷ bytes) ≡ series_at segment_step (length (b ∷ bytes)) (b ∷ bytes)
 unfolding bytes_at
 bytes_from b bytes h = rw h refl
 
-some_bytes : (blanks inner bs rest : List ℕ) → AreBlanks blanks → AreSegments inner bs → binary_at (60 ∷ ((blanks ++ inner) ++ rest)) ≡ Ok (Binary bs, rest)
+some_bytes : (blanks inner bs rest : List ℕ) → AreBlanks blanks → AreSegments inner bs → binary_at (open_angle ∷ ((blanks ++ inner) ++ rest)) ≡ Ok (Binary bs, rest)
 some_bytes blanks inner bs rest are is =
     let b = segments_begin inner bs is in
     let front : skip ((blanks ++ inner) ++ rest) ≡ b.first ∷ (b.others ++ rest) =
@@ -454,67 +455,67 @@ some_bytes blanks inner bs rest are is =
     let step : bytes_at (b.first ∷ (b.others ++ rest)) ≡ Ok (bs, rest) =
     bytes_from b.first (b.others ++ rest) b.going
     ∙ ap (λ x. series_at segment_step (length (b.first ∷ (b.others ++ rest))) (x ++ rest)) (sym b.is) ∙ read in
-    rw (expect_again 60 ((blanks ++ inner) ++ rest), front, step) refl
+    rw (expect_again open_angle ((blanks ++ inner) ++ rest), front, step) refl
 
-abbrev begins_by : (b : ℕ) (text : List ℕ) → is_blank b ≡ false → eqb b 125 ≡ false → eqb b 93 ≡ false → Begins (b ∷ text)
+abbrev begins_by : (b : ℕ) (text : List ℕ) → is_blank b ≡ false → eqb b close_brace ≡ false → eqb b close_bracket ≡ false → Begins (b ∷ text)
 begins_by b text h i j = record { first = b; others = text; is = refl; solid = h; no_brace = i; no_bracket = j }
 
 last_element : (limits : Limits) (levels n : ℕ) (text blanks : List ℕ) (t : Tree) (rest : List ℕ) → Shape limits levels text t → AreBlanks blanks
-    → element_step (term_at limits levels) n ((text ++ (blanks ++ 125 ∷ [])) ++ rest) ≡ Ok ((t ∷ [], false), rest)
+    → element_step (term_at limits levels) n ((text ++ (blanks ++ close_brace ∷ [])) ++ rest) ≡ Ok ((t ∷ [], false), rest)
 unfolding element_step after_element_at
 last_element limits levels n text blanks t rest s are =
-    let read = shape_reads limits levels text t (blanks ++ 125 ∷ rest) s (whole_before text blanks 125 rest are refl) in
-    rw (ended_parts text blanks (125 ∷ []) rest, read, skip_again blanks 125 rest are refl) refl
+    let read = shape_reads limits levels text t (blanks ++ close_brace ∷ rest) s (whole_before text blanks close_brace rest are refl) in
+    rw (ended_parts text blanks (close_brace ∷ []) rest, read, skip_again blanks close_brace rest are refl) refl
 
 further_element : (limits : Limits) (levels n : ℕ) (text before after others : List ℕ) (t : Tree) (rest : List ℕ) → Shape limits levels text t
     → AreBlanks before → AreBlanks after → Begins others → 0 < n
-    → element_step (term_at limits levels) n ((text ++ (before ++ 44 ∷ (after ++ others))) ++ rest) ≡ Ok ((t ∷ [], true), others ++ rest)
+    → element_step (term_at limits levels) n ((text ++ (before ++ comma ∷ (after ++ others))) ++ rest) ≡ Ok ((t ∷ [], true), others ++ rest)
 unfolding element_step after_element_at
 further_element limits levels n text before after others t rest s one two b more =
     let tail = after ++ (others ++ rest) in
-    let read = shape_reads limits levels text t (before ++ 44 ∷ tail) s (whole_before text before 44 tail one refl) in
+    let read = shape_reads limits levels text t (before ++ comma ∷ tail) s (whole_before text before comma tail one refl) in
     let some : eqb n 0 ≡ false = grind (arith, nat_tests) in
     rw (
-      further_parts 44 text before after others rest,
+      further_parts comma text before after others rest,
       read,
-      skip_again before 44 tail one refl,
+      skip_again before comma tail one refl,
       some,
       skip_to after others rest b.first b.others two b.is b.solid,
     ) refl
 
 last_cell : (limits : Limits) (levels : ℕ) (text blanks : List ℕ) (head : Tree) (rest : List ℕ) → Shape limits levels text head → AreBlanks blanks
-    → cell_step (term_at limits levels) (others_of limits levels) ((text ++ (blanks ++ 93 ∷ [])) ++ rest) ≡ Ok (head, Last Nil rest)
+    → cell_step (term_at limits levels) (others_of limits levels) ((text ++ (blanks ++ close_bracket ∷ [])) ++ rest) ≡ Ok (head, Last Nil rest)
 unfolding cell_step next_at
 last_cell limits levels text blanks head rest s are =
-    let read = shape_reads limits levels text head (blanks ++ 93 ∷ rest) s (whole_before text blanks 93 rest are refl) in
-    rw (ended_parts text blanks (93 ∷ []) rest, read, skip_again blanks 93 rest are refl) refl
+    let read = shape_reads limits levels text head (blanks ++ close_bracket ∷ rest) s (whole_before text blanks close_bracket rest are refl) in
+    rw (ended_parts text blanks (close_bracket ∷ []) rest, read, skip_again blanks close_bracket rest are refl) refl
 
 further_cell : (limits : Limits) (levels : ℕ) (text before after others : List ℕ) (head : Tree) (rest : List ℕ) → Shape limits levels text head
     → AreBlanks before → AreBlanks after → Begins others
-    → cell_step (term_at limits levels) (others_of limits levels) ((text ++ (before ++ 44 ∷ (after ++ others))) ++ rest) ≡ Ok (head, Head (others ++ rest))
+    → cell_step (term_at limits levels) (others_of limits levels) ((text ++ (before ++ comma ∷ (after ++ others))) ++ rest) ≡ Ok (head, Head (others ++ rest))
 unfolding cell_step next_at
 further_cell limits levels text before after others head rest s one two b =
     let tail = after ++ (others ++ rest) in
-    let read = shape_reads limits levels text head (before ++ 44 ∷ tail) s (whole_before text before 44 tail one refl) in
+    let read = shape_reads limits levels text head (before ++ comma ∷ tail) s (whole_before text before comma tail one refl) in
     rw (
-      further_parts 44 text before after others rest,
+      further_parts comma text before after others rest,
       read,
-      skip_again before 44 tail one refl,
+      skip_again before comma tail one refl,
       skip_to after others rest b.first b.others two b.is b.solid,
     ) refl
 
 barred_cell : (limits : Limits) (levels : ℕ) (text before after behind : List ℕ) (head : Tree) (next : Next) (rest : List ℕ) → Shape limits levels text head
     → AreBlanks before → AreBlanks after → Begins behind
     → tail_at (others_of limits levels) (behind ++ rest) ≡ Ok next
-    → cell_step (term_at limits levels) (others_of limits levels) ((text ++ (before ++ 124 ∷ (after ++ behind))) ++ rest) ≡ Ok (head, next)
+    → cell_step (term_at limits levels) (others_of limits levels) ((text ++ (before ++ vertical_bar ∷ (after ++ behind))) ++ rest) ≡ Ok (head, next)
 unfolding cell_step next_at
 barred_cell limits levels text before after behind head next rest s one two b found =
     let tail = after ++ (behind ++ rest) in
-    let read = shape_reads limits levels text head (before ++ 124 ∷ tail) s (whole_before text before 124 tail one refl) in
+    let read = shape_reads limits levels text head (before ++ vertical_bar ∷ tail) s (whole_before text before vertical_bar tail one refl) in
     rw (
-      further_parts 124 text before after behind rest,
+      further_parts vertical_bar text before after behind rest,
       read,
-      skip_again before 124 tail one refl,
+      skip_again before vertical_bar tail one refl,
       skip_to after behind rest b.first b.others two b.is b.solid,
       found,
     ) refl
@@ -549,7 +550,7 @@ Cells limits levels text t =
 
 last_row : (limits : Limits) (levels : ℕ) (text blanks : List ℕ) (t : Tree) → Shape limits levels text t → AreBlanks blanks → (n : ℕ) → size (More t Ends) ≤ n
     → (rest : List ℕ)
-    → series_at (element_step (term_at limits levels)) n ((text ++ (blanks ++ 125 ∷ [])) ++ rest) ≡ Ok (t ∷ [], rest)
+    → series_at (element_step (term_at limits levels)) n ((text ++ (blanks ++ close_brace ∷ [])) ++ rest) ≡ Ok (t ∷ [], rest)
 last_row limits levels text blanks t s are zero few rest = absurd (omega arith)
 last_row limits levels text blanks t s are (suc n) few rest =
     one_element (term_at limits levels) n _ t false rest _ (last_element limits levels n text blanks t rest s are) refl
@@ -557,7 +558,7 @@ last_row limits levels text blanks t s are (suc n) few rest =
 further_row : (limits : Limits) (levels : ℕ) (text before after others : List ℕ) (t : Tree) (row : Row) → Shape limits levels text t → AreBlanks before
     → AreBlanks after → Rows limits levels others row → (n : ℕ) → size (More t row) ≤ n
     → (rest : List ℕ) → 0 < size row
-    → series_at (element_step (term_at limits levels)) n ((text ++ (before ++ 44 ∷ (after ++ others))) ++ rest) ≡ Ok (t ∷ elements row, rest)
+    → series_at (element_step (term_at limits levels)) n ((text ++ (before ++ comma ∷ (after ++ others))) ++ rest) ≡ Ok (t ∷ elements row, rest)
 further_row limits levels text before after others t row s one two rows zero few rest some = absurd (omega arith)
 further_row limits levels text before after others t row s one two rows (suc n) few rest some =
     let later : series_rest (t ∷ []) (series_at (element_step (term_at limits levels)) n) true (others ++ rest) ≡ Ok (t ∷ elements row, rest) =
@@ -570,26 +571,26 @@ row_some _ _ _ _ (LastElement limits levels text blanks t is are) = omega arith
 row_some _ _ _ _ (MoreElements limits levels text before after rest t row is one two are) = omega arith
 
 last_of : (limits : Limits) (levels : ℕ) (text blanks : List ℕ) (head : Tree) → Shape limits levels text head → AreBlanks blanks → (k : ℕ)
-    → length (text ++ (blanks ++ 93 ∷ [])) ≤ k → (rest : List ℕ)
-    → cells_at (term_at limits levels) (others_of limits levels) k ((text ++ (blanks ++ 93 ∷ [])) ++ rest) ≡ Ok (Cons head Nil, rest)
+    → length (text ++ (blanks ++ close_bracket ∷ [])) ≤ k → (rest : List ℕ)
+    → cells_at (term_at limits levels) (others_of limits levels) k ((text ++ (blanks ++ close_bracket ∷ [])) ++ rest) ≡ Ok (Cons head Nil, rest)
 last_of limits levels text blanks head s are zero few rest =
-    absurd (omega (arith, few, length-append text (blanks ++ 93 ∷ []), begins_some text (shape_begins limits levels text head s)))
+    absurd (omega (arith, few, length-append text (blanks ++ close_bracket ∷ []), begins_some text (shape_begins limits levels text head s)))
 last_of limits levels text blanks head s are (suc k) few rest =
     one_step limits levels k _ head (Last Nil rest) _ (last_cell limits levels text blanks head rest s are) refl
 
 further_of : (limits : Limits) (levels : ℕ) (text before after others : List ℕ) (head tail : Tree) → Shape limits levels text head → AreBlanks before
     → AreBlanks after → Cells limits levels others tail → (k : ℕ)
-    → length (text ++ (before ++ 44 ∷ (after ++ others))) ≤ k → (rest : List ℕ)
-    → cells_at (term_at limits levels) (others_of limits levels) k ((text ++ (before ++ 44 ∷ (after ++ others))) ++ rest) ≡ Ok (Cons head tail, rest)
+    → length (text ++ (before ++ comma ∷ (after ++ others))) ≤ k → (rest : List ℕ)
+    → cells_at (term_at limits levels) (others_of limits levels) k ((text ++ (before ++ comma ∷ (after ++ others))) ++ rest) ≡ Ok (Cons head tail, rest)
 further_of limits levels text before after others head tail s one two cells zero few rest =
-    absurd (omega (arith, few, length-append text (before ++ 44 ∷ (after ++ others)), begins_some text (shape_begins limits levels text head s)))
+    absurd (omega (arith, few, length-append text (before ++ comma ∷ (after ++ others)), begins_some text (shape_begins limits levels text head s)))
 further_of limits levels text before after others head tail s one two cells (suc k) few rest =
     let short : length others ≤ k =
     omega (
       arith,
       few,
-      length-append text (before ++ 44 ∷ (after ++ others)),
-      length-append before (44 ∷ (after ++ others)),
+      length-append text (before ++ comma ∷ (after ++ others)),
+      length-append before (comma ∷ (after ++ others)),
       length-append after others,
       begins_some text (shape_begins limits levels text head s),
     ) in
@@ -599,32 +600,32 @@ further_of limits levels text before after others head tail s one two cells (suc
 
 barred_of : (limits : Limits) (levels : ℕ) (text before after last blanks : List ℕ) (head tail : Tree) → Shape limits levels text head → AreBlanks before
     → AreBlanks after → Shape limits (suc levels) last tail → AreBlanks blanks → (k : ℕ)
-    → length (text ++ (before ++ 124 ∷ (after ++ (last ++ (blanks ++ 93 ∷ []))))) ≤ k → (rest : List ℕ)
-    → cells_at (term_at limits levels) (others_of limits levels) k ((text ++ (before ++ 124 ∷ (after ++ (last ++ (blanks ++ 93 ∷ []))))) ++ rest) ≡ Ok (Cons head tail, rest)
+    → length (text ++ (before ++ vertical_bar ∷ (after ++ (last ++ (blanks ++ close_bracket ∷ []))))) ≤ k → (rest : List ℕ)
+    → cells_at (term_at limits levels) (others_of limits levels) k ((text ++ (before ++ vertical_bar ∷ (after ++ (last ++ (blanks ++ close_bracket ∷ []))))) ++ rest) ≡ Ok (Cons head tail, rest)
 barred_of limits levels text before after last blanks head tail s one two l are zero few rest =
     absurd (omega (
       arith,
       few,
-      length-append text (before ++ 124 ∷ (after ++ (last ++ (blanks ++ 93 ∷ [])))),
+      length-append text (before ++ vertical_bar ∷ (after ++ (last ++ (blanks ++ close_bracket ∷ [])))),
       begins_some text (shape_begins limits levels text head s),
     ))
 barred_of limits levels text before after last blanks head tail s one two l are (suc k) few rest =
-    let behind = last ++ (blanks ++ 93 ∷ []) in
+    let behind = last ++ (blanks ++ close_bracket ∷ []) in
     let short : length last ≤ k =
     omega (
       arith,
       few,
-      length-append text (before ++ 124 ∷ (after ++ behind)),
-      length-append before (124 ∷ (after ++ behind)),
+      length-append text (before ++ vertical_bar ∷ (after ++ behind)),
+      length-append before (vertical_bar ∷ (after ++ behind)),
       length-append after behind,
-      length-append last (blanks ++ 93 ∷ []),
+      length-append last (blanks ++ close_bracket ∷ []),
       begins_some text (shape_begins limits levels text head s),
     ) in
     let r = tail_reads limits levels k last tail blanks rest are short l in
     let found : tail_at (others_of limits levels) (behind ++ rest) ≡ Ok r.next =
-    ap (tail_at (others_of limits levels)) (ended_parts last blanks (93 ∷ []) rest) ∙ r.found in
+    ap (tail_at (others_of limits levels)) (ended_parts last blanks (close_bracket ∷ []) rest) ∙ r.found in
     one_step limits levels k _ head r.next _ (barred_cell limits levels text before after behind head r.next rest s one two
-    (begins_on last (blanks ++ 93 ∷ []) (shape_begins limits (suc levels) last tail l)) found) (r.reads head)
+    (begins_on last (blanks ++ close_bracket ∷ []) (shape_begins limits (suc levels) last tail l)) found) (r.reads head)
 
 mutual
   shape_again : (limits : Limits) (levels : ℕ) (text : List ℕ) (t : Tree) → IsTextOf limits levels text t → Shape limits levels text t
@@ -632,16 +633,16 @@ mutual
   shape_again _ _ _ _ (AnAtom limits levels text name is) = inl (atom_shape limits levels text name is)
   shape_again _ _ _ _ (NoElements limits levels blanks are) =
       inl (record {
-        begins = begins_by 123 (blanks ++ 125 ∷ []) refl refl refl;
+        begins = begins_by open_brace (blanks ++ close_brace ∷ []) refl refl refl;
         apart = refl;
         reads =
-            λ rest whole. tuple_other limits (term_at limits levels) levels ((blanks ++ 125 ∷ []) ++ rest)
+            λ rest whole. tuple_other limits (term_at limits levels) levels ((blanks ++ close_brace ∷ []) ++ rest)
             ∙ empty_tuple (term_at limits levels) limits.elements blanks rest are;
       })
   shape_again _ _ _ _ (ATuple limits levels blanks inner row are is few) =
       let r = rows_again limits levels inner row is in
       inl (record {
-        begins = begins_by 123 (blanks ++ inner) refl refl refl;
+        begins = begins_by open_brace (blanks ++ inner) refl refl refl;
         apart = refl;
         reads =
             λ rest whole. tuple_other limits (term_at limits levels) levels ((blanks ++ inner) ++ rest)
@@ -652,55 +653,55 @@ mutual
       let c = cells_again limits levels inner t is in inr (inr (record { blanks = blanks; are = are; cells = inner; is = refl; begins = c.0; reads = c.1 }))
   shape_again _ _ _ _ (NoString limits levels) =
       inl (record {
-        begins = begins_by 34 (34 ∷ []) refl refl refl;
+        begins = begins_by double_quote (double_quote ∷ []) refl refl refl;
         apart = refl;
-        reads = λ rest whole. string_other limits (term_at limits levels) levels (34 ∷ rest) ∙ no_string levels rest;
+        reads = λ rest whole. string_other limits (term_at limits levels) levels (double_quote ∷ rest) ∙ no_string levels rest;
       })
   shape_again _ _ _ _ (AString limits levels c text cs are) =
       inl (record {
-        begins = begins_by 34 text refl refl refl;
+        begins = begins_by double_quote text refl refl refl;
         apart = refl;
         reads = λ rest whole. string_other limits (term_at limits (suc levels)) (suc levels) (text ++ rest) ∙ some_string levels text (c ∷ cs) rest are;
       })
   shape_again _ _ _ _ (NoBytes limits levels blanks are) =
       inl (record {
-        begins = begins_by 60 (60 ∷ blanks ++ 62 ∷ 62 ∷ []) refl refl refl;
+        begins = begins_by open_angle (open_angle ∷ blanks ++ close_angle ∷ close_angle ∷ []) refl refl refl;
         apart = refl;
-        reads = λ rest whole. binary_other limits (term_at limits levels) levels (60 ∷ ((blanks ++ 62 ∷ 62 ∷ []) ++ rest)) ∙ no_bytes blanks rest are;
+        reads = λ rest whole. binary_other limits (term_at limits levels) levels (open_angle ∷ ((blanks ++ close_angle ∷ close_angle ∷ []) ++ rest)) ∙ no_bytes blanks rest are;
       })
   shape_again _ _ _ _ (ABinary limits levels blanks inner bs are is) =
       inl (record {
-        begins = begins_by 60 (60 ∷ blanks ++ inner) refl refl refl;
+        begins = begins_by open_angle (open_angle ∷ blanks ++ inner) refl refl refl;
         apart = refl;
         reads =
-            λ rest whole. binary_other limits (term_at limits levels) levels (60 ∷ ((blanks ++ inner) ++ rest)) ∙ some_bytes blanks inner bs rest are is;
+            λ rest whole. binary_other limits (term_at limits levels) levels (open_angle ∷ ((blanks ++ inner) ++ rest)) ∙ some_bytes blanks inner bs rest are is;
       })
 
   rows_again : (limits : Limits) (levels : ℕ) (text : List ℕ) (row : Row) → AreElements limits levels text row → Rows limits levels text row
   rows_again _ _ _ _ (LastElement limits levels text blanks t is are) =
       let s = shape_again limits levels text t is in
-      (begins_on text (blanks ++ 125 ∷ []) (shape_begins limits levels text t s), last_row limits levels text blanks t s are)
+      (begins_on text (blanks ++ close_brace ∷ []) (shape_begins limits levels text t s), last_row limits levels text blanks t s are)
   rows_again _ _ _ _ (MoreElements limits levels text before after others t row is one two are) =
       let s = shape_again limits levels text t is in
       let r = rows_again limits levels others row are in (
-        begins_on text (before ++ 44 ∷ (after ++ others)) (shape_begins limits levels text t s),
+        begins_on text (before ++ comma ∷ (after ++ others)) (shape_begins limits levels text t s),
         λ n few rest. further_row limits levels text before after others t row s one two r n few rest (row_some limits levels others row are),
       )
 
   cells_again : (limits : Limits) (levels : ℕ) (text : List ℕ) (t : Tree) → AreCells limits levels text t → Cells limits levels text t
   cells_again _ _ _ _ (LastCell limits levels text blanks head is are) =
       let s = shape_again limits levels text head is in
-      (begins_on text (blanks ++ 93 ∷ []) (shape_begins limits levels text head s), last_of limits levels text blanks head s are)
+      (begins_on text (blanks ++ close_bracket ∷ []) (shape_begins limits levels text head s), last_of limits levels text blanks head s are)
   cells_again _ _ _ _ (MoreCells limits levels text before after others head tail is one two are) =
       let s = shape_again limits levels text head is in
       let c = cells_again limits levels others tail are in (
-        begins_on text (before ++ 44 ∷ (after ++ others)) (shape_begins limits levels text head s),
+        begins_on text (before ++ comma ∷ (after ++ others)) (shape_begins limits levels text head s),
         further_of limits levels text before after others head tail s one two c,
       )
   cells_again _ _ _ _ (LastTail limits levels text before after last blanks head tail is one two end are) =
       let s = shape_again limits levels text head is in
       let l = shape_again limits (suc levels) last tail end in (
-        begins_on text (before ++ 124 ∷ (after ++ (last ++ (blanks ++ 93 ∷ [])))) (shape_begins limits levels text head s),
+        begins_on text (before ++ vertical_bar ∷ (after ++ (last ++ (blanks ++ close_bracket ∷ [])))) (shape_begins limits levels text head s),
         barred_of limits levels text before after last blanks head tail s one two l are,
       )
 

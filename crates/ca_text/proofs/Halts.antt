@@ -4,7 +4,7 @@ use Rattle.std.proofs.lemmas.List.{append-nil}
 use Rattle.ca_text.specs.declared.fault.Fault.{Fault}
 use Rattle.ca_text.specs.declared.fault.Why.{Why}
 use Rattle.ca_text.specs.declared.fault.Why.TheVariants.{Syntax}
-use Rattle.ca_text.specs.Reading.{◌>>=◌, Read, expect}
+use Rattle.ca_text.specs.Inner.Reading.{◌>>=◌, Read, expect}
 use Rattle.ca_text.proofs.Local.{place, err_is}
 use Rattle.ca_text.proofs.Tools.{chosen}
 

@@ -5,11 +5,12 @@ use Rattle.std.proofs.lemmas.List.{append-nil}
 use Rattle.std.specs.List.{list_all}
 use Rattle.std.specs.Char.{is_ascii_digit, is_ascii_lowercase}
 use Rattle.std.specs.Str.Parse.{IsNumeral, digits_value}
+use Rattle.ca_text.specs.Bytes.{digit_zero, minus_sign}
 use Rattle.ca_text.specs.Text.{is_name_char, has_plain_form}
 use Rattle.ca_text.specs.Grammar.{IsInteger, FromZero, Negative}
 use Rattle.ca_text.specs.declared.fault.Fault.{Fault}
 use Rattle.ca_text.specs.declared.fault.Why.TheVariants.{Syntax, AtomTooLong}
-use Rattle.ca_text.specs.Reading.{digits_after, number_at, integer_at, negative_at, positive_at, name_length, name_at}
+use Rattle.ca_text.specs.Inner.Reading.{digits_after, number_at, integer_at, negative_at, positive_at, name_length, name_at}
 use Rattle.ca_text.proofs.Tools.{chosen, both}
 use Rattle.ca_text.proofs.Local.{place, err_is}
 use Rattle.ca_text.proofs.LocalTerms.{names_to}
@@ -20,7 +21,7 @@ digits_halt : (bytes : List ℕ) (most n : ℕ) (f : Fault) → digits_after mos
 unfolding digits_after
 digits_halt [] most n f e = absurd cc
 digits_halt (b ∷ bytes) most n f e =
-    let next = n * 10 + (b - 48) in
+    let next = n * 10 + (b - digit_zero) in
     ⊎_elim
     (λ h. ⊎_elim
     (λ i. halted_cons (digits_after most n) (digits_after most next) b bytes f (λ zs. rw (h.0, i.0) refl) ([], next, refl) (digits_halt bytes most next f i.1))
@@ -55,11 +56,11 @@ positive_halts bytes f e =
     halted_as (IsNumber (2 ^ 63 - 1)) IsInteger bytes f (number_halts (2 ^ 63 - 1) bytes f (done_err (number_at (2 ^ 63 - 1) bytes) (λ x. (pos x.0, x.1)) f e))
     (λ digits n is. (pos (digits_value 10 digits), FromZero digits is.0 (omega (arith, is.1, is.2))))
 
-negative_halts : (bytes : List ℕ) (f : Fault) → negative_at bytes ≡ Err f → Halted IsInteger (45 ∷ bytes) f
+negative_halts : (bytes : List ℕ) (f : Fault) → negative_at bytes ≡ Err f → Halted IsInteger (minus_sign ∷ bytes) f
 negative_halts bytes f e =
-    halted_behind_as (IsNumber (2 ^ 63)) IsInteger (45 ∷ []) bytes f
+    halted_behind_as (IsNumber (2 ^ 63)) IsInteger (minus_sign ∷ []) bytes f
     (number_halts (2 ^ 63) bytes f (done_err (number_at (2 ^ 63) bytes) (λ x. (neg_ℤ (pos x.0), x.1)) f e))
-    (48 ∷ [], neg_ℤ (pos 0), Negative (48 ∷ []) (omega arith, (omega arith, tt)) (omega arith))
+    (digit_zero ∷ [], neg_ℤ (pos 0), Negative (digit_zero ∷ []) (omega arith, (omega arith, tt)) (omega arith))
     (λ digits n is. (neg_ℤ (pos (digits_value 10 digits)), Negative digits is.0 (omega (arith, is.1, is.2))))
 
 pub integer_halts : Halts integer_at IsInteger
@@ -67,9 +68,9 @@ unfolding integer_at
 integer_halts [] f e = halted_here _ Syntax [] f (err_is _ f e)
 integer_halts (b ∷ bytes) f e =
     ⊎_elim
-    (λ h. subst (λ x. Halted IsInteger (x ∷ bytes) f) (sym (eqb-true b 45 h.0)) (negative_halts bytes f h.1))
+    (λ h. subst (λ x. Halted IsInteger (x ∷ bytes) f) (sym (eqb-true b minus_sign h.0)) (negative_halts bytes f h.1))
     (λ h. positive_halts (b ∷ bytes) f h.1)
-    (chosen (eqb b 45) _ _ (Err f) e)
+    (chosen (eqb b minus_sign) _ _ (Err f) e)
 
 -- a name of at most so many characters
 abbrev pub IsName : ℕ → List ℕ → List ℕ → Type 0

@@ -2,11 +2,12 @@
 use Rattle.std.proofs.Common.{◌≡◌, ℕ, zero, suc, ◌<◌, ◌≤◌, Bool, true, false, eqb, List, [], ◌∷◌, ◌++◌, length, Ok, Err, pos, refl, sym, ap, subst, ◌∙◌, append_assoc, append-nil, arith, ⊎_elim}
 use Rattle.std.proofs.lemmas.Bool.{eqb-true}
 use Rattle.ca_term.specs.Tree.{Tree, Row, Integer, Tuple, Nil, Cons, Ends, More, row_of, size}
+use Rattle.ca_text.specs.Bytes.{close_brace, close_bracket, comma, digit_zero, open_brace, open_bracket, vertical_bar}
 use Rattle.ca_text.specs.Grammar.{Limits, AreBlanks, IsTextOf, AnInteger, FromZero, NoElements, ATuple, ANil, AList, AreElements, LastElement, MoreElements, AreCells, LastCell, MoreCells, LastTail, skip}
 use Rattle.ca_text.specs.declared.fault.Fault.{Fault}
 use Rattle.ca_text.specs.declared.fault.Why.{Why}
 use Rattle.ca_text.specs.declared.fault.Why.TheVariants.{Syntax, TooWide}
-use Rattle.ca_text.specs.Reading.{◌>>=◌, Read, expect, series_at, series_rest, after_element_at, element_step, elements_at, tuple_at, Next, Head, Inner, Last, closed, inner_at, tail_at, next_at, cells_after, cell_step, cells_at, list_at, bracketed}
+use Rattle.ca_text.specs.Inner.Reading.{◌>>=◌, Read, expect, series_at, series_rest, after_element_at, element_step, elements_at, tuple_at, Next, Head, Inner, Last, closed, inner_at, tail_at, next_at, cells_after, cell_step, cells_at, list_at, bracketed}
 use Rattle.ca_text.proofs.Tools.{bind_ok, chosen, ok_is, pair_is}
 use Rattle.ca_text.proofs.Local.{place, err_is}
 use Rattle.ca_text.proofs.Numbers.{skipped, whole_by}
@@ -27,12 +28,12 @@ after_element_halts n (b ∷ bytes) f e =
     (λ h. ⊎_elim (λ i. (TooWide, err_is {A = Bool × List ℕ} (place TooWide (b ∷ bytes)) f i.1)) (λ i. absurd (let k = i.1 in cc))
     (chosen (eqb n 0) _ _ (Err f) h.1))
     (λ h. ⊎_elim (λ i. absurd (let k = i.1 in cc)) (λ i. (Syntax, err_is {A = Bool × List ℕ} (place Syntax (b ∷ bytes)) f i.1))
-    (chosen (eqb b 125) _ _ (Err f) h.1))
-    (chosen (eqb b 44) _ _ (Err f) e)
+    (chosen (eqb b close_brace) _ _ (Err f) h.1))
+    (chosen (eqb b comma) _ _ (Err f) e)
 
 -- a text of each level
-pub zero_text : (limits : Limits) (levels : ℕ) → IsTextOf limits (suc levels) (48 ∷ []) (Integer (pos 0))
-zero_text limits levels = AnInteger limits levels (48 ∷ []) (pos 0) (FromZero (48 ∷ []) (omega arith, (omega arith, tt)) (omega arith))
+pub zero_text : (limits : Limits) (levels : ℕ) → IsTextOf limits (suc levels) (digit_zero ∷ []) (Integer (pos 0))
+zero_text limits levels = AnInteger limits levels (digit_zero ∷ []) (pos 0) (FromZero (digit_zero ∷ []) (omega arith, (omega arith, tt)) (omega arith))
 
 module _ (limits : Limits) (levels : ℕ) (element : List ℕ → Read Tree) (sound : ReadsTerms limits levels element)
     (halts : Halts element (IsTextOf limits levels)) where
@@ -44,17 +45,17 @@ module _ (limits : Limits) (levels : ℕ) (element : List ℕ → Read Tree) (so
   one_element : (n : ℕ) (text blanks : List ℕ) (t : Tree) → IsTextOf limits levels text t → AreBlanks blanks → GoesOn (IsRow (suc n)) (text ++ blanks)
   one_element n text blanks t is are =
       let row : Row = More t Ends in
-      let made : AreElements limits levels (text ++ (blanks ++ 125 ∷ [])) row = LastElement limits levels text blanks t is are in
-      (125 ∷ [], row, (subst (λ x. AreElements limits levels x row) (sym (append_assoc text blanks (125 ∷ []))) made, omega arith))
+      let made : AreElements limits levels (text ++ (blanks ++ close_brace ∷ [])) row = LastElement limits levels text blanks t is are in
+      (close_brace ∷ [], row, (subst (λ x. AreElements limits levels x row) (sym (append_assoc text blanks (close_brace ∷ []))) made, omega arith))
 
   -- an element, a comma and elements
   further_elements : (n : ℕ) (text before after rest : List ℕ) (t : Tree) (row : Row) → IsTextOf limits levels text t → AreBlanks before → AreBlanks after
       → IsRow n rest row
-      → IsRow (suc n) ((text ++ (before ++ 44 ∷ after)) ++ rest) (More t row)
+      → IsRow (suc n) ((text ++ (before ++ comma ∷ after)) ++ rest) (More t row)
   further_elements n text before after rest t row is one two more =
-      let made : AreElements limits levels (text ++ (before ++ 44 ∷ (after ++ rest))) (More t row) =
+      let made : AreElements limits levels (text ++ (before ++ comma ∷ (after ++ rest))) (More t row) =
       MoreElements limits levels text before after rest t row is one two more.0 in
-      let same : (text ++ (before ++ 44 ∷ after)) ++ rest ≡ text ++ (before ++ 44 ∷ (after ++ rest)) = simp append_assoc in
+      let same : (text ++ (before ++ comma ∷ after)) ++ rest ≡ text ++ (before ++ comma ∷ (after ++ rest)) = simp append_assoc in
       (subst (λ x. AreElements limits levels x (More t row)) (sym same) made, omega (arith, more.1))
 
   element_halts : (n : ℕ) (bytes : List ℕ) (f : Fault) → element_step element n bytes ≡ Err f → Halted (IsRow (suc n)) bytes f
@@ -76,17 +77,17 @@ module _ (limits : Limits) (levels : ℕ) (element : List ℕ → Read Tree) (so
       (bind_err (element bytes) (λ x. after_element_at n (skip x.1) >>= λ y. Ok ((x.0 ∷ [], y.0), y.1)) f e)
 
   -- elements halt behind an element, a comma and blanks
-  behind_comma : (n : ℕ) (bytes r tail after : List ℕ) (t : Tree) (f : Fault) → 0 < n → IsTermAt limits levels bytes t r → skip r ≡ 44 ∷ tail
+  behind_comma : (n : ℕ) (bytes r tail after : List ℕ) (t : Tree) (f : Fault) → 0 < n → IsTermAt limits levels bytes t r → skip r ≡ comma ∷ tail
       → skip tail ≡ after → Halted (IsRow n) after f
       → Halted (IsRow (suc n)) bytes f
-  behind_comma zero bytes r tail after t f some first comma gap h = absurd (omega (arith, some))
-  behind_comma (suc n) bytes r tail after t f some first comma gap h =
+  behind_comma zero bytes r tail after t f some first parted gap h = absurd (omega (arith, some))
+  behind_comma (suc n) bytes r tail after t f some first parted gap h =
       let before = skipped r in
       let behind = skipped tail in
-      let taken = first.text ++ (before.blanks ++ 44 ∷ behind.blanks) in
+      let taken = first.text ++ (before.blanks ++ comma ∷ behind.blanks) in
       let whole : bytes ≡ taken ++ after =
-      with_more 44 bytes first.text r before.blanks (skip r) tail behind.blanks (skip tail) [] after first.whole before.whole comma behind.whole gap
-      ∙ ap (λ x. (first.text ++ (before.blanks ++ 44 ∷ x)) ++ after) (append-nil behind.blanks) in
+      with_more comma bytes first.text r before.blanks (skip r) tail behind.blanks (skip tail) [] after first.whole before.whole parted behind.whole gap
+      ∙ ap (λ x. (first.text ++ (before.blanks ++ comma ∷ x)) ++ after) (append-nil behind.blanks) in
       let more : (rest : List ℕ) (row : Row) → IsRow (suc n) rest row → IsRow (suc (suc n)) (taken ++ rest) (More t row) =
       λ rest row are. further_elements (suc n) first.text before.blanks behind.blanks rest t row first.is before.are behind.are are in
       let again = one_element n first.text [] t first.is refl in
@@ -125,34 +126,34 @@ module _ (limits : Limits) (levels : ℕ) (element : List ℕ → Read Tree) (so
       (λ h. series_behind n bytes f h.0.0.0 h.0.0.1 h.0.1 (elements_halt n) h.1 h.2)
       (bind_err (element_step element n bytes) (λ x. series_rest x.0.0 (series_at (element_step element) n) x.0.1 x.1) f e)
 
-  tuple_inner : (blanks inner : List ℕ) (f : Fault) → AreBlanks blanks → GoesOn (IsTextOf limits (suc levels)) (123 ∷ blanks)
+  tuple_inner : (blanks inner : List ℕ) (f : Fault) → AreBlanks blanks → GoesOn (IsTextOf limits (suc levels)) (open_brace ∷ blanks)
       → elements_at element limits.elements inner ≡ Err f
-      → Halted (IsTextOf limits (suc levels)) ((123 ∷ blanks) ++ inner) f
+      → Halted (IsTextOf limits (suc levels)) ((open_brace ∷ blanks) ++ inner) f
   unfolding elements_at
   tuple_inner blanks [] f are none e =
-      halted_at (IsTextOf limits (suc levels)) Syntax (123 ∷ blanks) [] f (err_is {A = List Tree × List ℕ} (place Syntax []) f e) none
+      halted_at (IsTextOf limits (suc levels)) Syntax (open_brace ∷ blanks) [] f (err_is {A = List Tree × List ℕ} (place Syntax []) f e) none
   tuple_inner blanks (b ∷ inner) f are none e =
       ⊎_elim (λ h. absurd (let k = h.1 in cc))
-      (λ h. halted_behind (IsRow limits.elements) (IsTextOf limits (suc levels)) (123 ∷ blanks) (b ∷ inner) f
+      (λ h. halted_behind (IsRow limits.elements) (IsTextOf limits (suc levels)) (open_brace ∷ blanks) (b ∷ inner) f
       (elements_halt limits.elements (b ∷ inner) f h.1) none
       (λ rest row are_all. (
         [],
         Tuple row,
-        subst (λ x. IsTextOf limits (suc levels) ((123 ∷ blanks) ++ x) (Tuple row)) (sym (append-nil rest))
+        subst (λ x. IsTextOf limits (suc levels) ((open_brace ∷ blanks) ++ x) (Tuple row)) (sym (append-nil rest))
             (ATuple limits levels blanks rest row are are_all.0 are_all.1),
       )))
-      (chosen (eqb b 125) _ _ (Err f) e)
+      (chosen (eqb b close_brace) _ _ (Err f) e)
 
   -- a tuple halts behind its brace and blanks
   tuple_from : (bytes blanks inner : List ℕ) (f : Fault) → bytes ≡ blanks ++ inner → AreBlanks blanks → elements_at element limits.elements inner ≡ Err f
-      → Halted (IsTextOf limits (suc levels)) (123 ∷ bytes) f
+      → Halted (IsTextOf limits (suc levels)) (open_brace ∷ bytes) f
   unfolding elements_at
   tuple_from bytes blanks inner f gap are e =
-      let none : GoesOn (IsTextOf limits (suc levels)) (123 ∷ blanks) = (125 ∷ [], Tuple Ends, NoElements limits levels blanks are) in
-      let whole : 123 ∷ bytes ≡ (123 ∷ blanks) ++ inner = ap (λ x. 123 ∷ x) gap in
-      halted_whole (IsTextOf limits (suc levels)) (123 ∷ bytes) ((123 ∷ blanks) ++ inner) f whole (tuple_inner blanks inner f are none e)
+      let none : GoesOn (IsTextOf limits (suc levels)) (open_brace ∷ blanks) = (close_brace ∷ [], Tuple Ends, NoElements limits levels blanks are) in
+      let whole : open_brace ∷ bytes ≡ (open_brace ∷ blanks) ++ inner = ap (λ x. open_brace ∷ x) gap in
+      halted_whole (IsTextOf limits (suc levels)) (open_brace ∷ bytes) ((open_brace ∷ blanks) ++ inner) f whole (tuple_inner blanks inner f are none e)
 
-  pub tuple_halts : (bytes : List ℕ) (f : Fault) → tuple_at element limits.elements (skip bytes) ≡ Err f → Halted (IsTextOf limits (suc levels)) (123 ∷ bytes) f
+  pub tuple_halts : (bytes : List ℕ) (f : Fault) → tuple_at element limits.elements (skip bytes) ≡ Err f → Halted (IsTextOf limits (suc levels)) (open_brace ∷ bytes) f
   tuple_halts bytes f e =
       let gap = skipped bytes in
       ⊎_elim (tuple_from bytes gap.blanks (skip bytes) f gap.whole gap.are) (λ h. let k = h.2 in absurd cc)
@@ -166,28 +167,28 @@ module _ (limits : Limits) (levels : ℕ) (element : List ℕ → Read Tree) (so
       (head : Tree) (text blanks : List ℕ) → IsTextOf limits levels text head → AreBlanks blanks → AreCells limits levels
       (text ++ (blanks ++ rest)) (Cons head tail)
 
-  closing : IsEnding (93 ∷ []) Nil
+  closing : IsEnding (close_bracket ∷ []) Nil
   closing head text blanks is are = LastCell limits levels text blanks head is are
 
   -- a last tail, blanks and the closing bracket
   pub record IsLast (text : List ℕ) (tail : Tree) : Type 0 where
     pub last : List ℕ
     pub blanks : List ℕ
-    pub whole : text ≡ last ++ (blanks ++ 93 ∷ [])
+    pub whole : text ≡ last ++ (blanks ++ close_bracket ∷ [])
     pub is : IsTextOf limits (suc levels) last tail
     pub are : AreBlanks blanks
 
-  last_of : (last blanks : List ℕ) (tail : Tree) → IsTextOf limits (suc levels) last tail → AreBlanks blanks → IsLast (last ++ (blanks ++ 93 ∷ [])) tail
+  last_of : (last blanks : List ℕ) (tail : Tree) → IsTextOf limits (suc levels) last tail → AreBlanks blanks → IsLast (last ++ (blanks ++ close_bracket ∷ [])) tail
   last_of last blanks tail is are = record { last = last; blanks = blanks; whole = refl; is = is; are = are }
 
-  bar : (after text : List ℕ) (tail : Tree) → AreBlanks after → IsLast text tail → IsEnding (124 ∷ (after ++ text)) tail
+  bar : (after text : List ℕ) (tail : Tree) → AreBlanks after → IsLast text tail → IsEnding (vertical_bar ∷ (after ++ text)) tail
   bar after text tail are l head first before is one =
-      subst (λ x. AreCells limits levels (first ++ (before ++ 124 ∷ (after ++ x))) (Cons head tail)) (sym l.whole)
+      subst (λ x. AreCells limits levels (first ++ (before ++ vertical_bar ∷ (after ++ x))) (Cons head tail)) (sym l.whole)
       (LastTail limits levels first before after l.last l.blanks head tail is one are l.is l.are)
 
   -- behind a last tail and blanks the closing bracket goes on
   tail_goes : (last blanks : List ℕ) (tail : Tree) → IsTextOf limits (suc levels) last tail → AreBlanks blanks → GoesOn IsLast (last ++ blanks)
-  tail_goes last blanks tail is are = (93 ∷ [], tail, subst (λ x. IsLast x tail) (sym (append_assoc last blanks (93 ∷ []))) (last_of last blanks tail is are))
+  tail_goes last blanks tail is are = (close_bracket ∷ [], tail, subst (λ x. IsLast x tail) (sym (append_assoc last blanks (close_bracket ∷ []))) (last_of last blanks tail is are))
 
   module _ (other : List ℕ → Read Tree) (others_sound : ReadsTerms limits (suc levels) other) (others_halt : Halts other (IsTextOf limits (suc levels))) where
     -- a last tail that was read, and no closing bracket behind it
@@ -199,42 +200,42 @@ module _ (limits : Limits) (levels : ℕ) (element : List ℕ → Read Tree) (so
         is.whole ∙ ap (λ x. is.text ++ x) gap.whole ∙ sym (append_assoc is.text gap.blanks (skip after)) in
         ⊎_elim
         (λ h. halted_whole IsLast bytes ((is.text ++ gap.blanks) ++ skip after) f whole
-        (halted_at IsLast Syntax (is.text ++ gap.blanks) (skip after) f (expect_halts 93 (skip after) f h)
+        (halted_at IsLast Syntax (is.text ++ gap.blanks) (skip after) f (expect_halts close_bracket (skip after) f h)
         (tail_goes is.text gap.blanks tail is.is gap.are)))
         (λ h. let k = h.2 in absurd cc)
-        (bind_err (expect 93 (skip after)) (λ rest. Ok (Last tail rest)) f e)
+        (bind_err (expect close_bracket (skip after)) (λ rest. Ok (Last tail rest)) f e)
 
     closed_halts : (bytes : List ℕ) (f : Fault) → closed (other bytes) ≡ Err f → Halted IsLast bytes f
     closed_halts bytes f e =
         ⊎_elim
-        (λ h. halted_map (IsTextOf limits (suc levels)) IsLast bytes f (others_halt bytes f h) (λ part t is. (93 ∷ [], t, last_of part [] t is refl)))
+        (λ h. halted_map (IsTextOf limits (suc levels)) IsLast bytes f (others_halt bytes f h) (λ part t is. (close_bracket ∷ [], t, last_of part [] t is refl)))
         (λ h. unclosed bytes h.0.1 h.0.0 f (others_sound bytes h.0.0 h.0.1 h.1) h.2)
-        (bind_err (other bytes) (λ x. expect 93 (skip x.1) >>= λ rest. Ok (Last x.0 rest)) f e)
+        (bind_err (other bytes) (λ x. expect close_bracket (skip x.1) >>= λ rest. Ok (Last x.0 rest)) f e)
 
-    inner_halts : (bytes blanks inner : List ℕ) (f : Fault) → bytes ≡ blanks ++ inner → AreBlanks blanks → inner_at inner ≡ Err f → Halted IsLast (91 ∷ bytes) f
+    inner_halts : (bytes blanks inner : List ℕ) (f : Fault) → bytes ≡ blanks ++ inner → AreBlanks blanks → inner_at inner ≡ Err f → Halted IsLast (open_bracket ∷ bytes) f
     inner_halts bytes blanks [] f gap are e = absurd cc
     inner_halts bytes blanks (b ∷ inner) f gap are e =
         ⊎_elim
-        (λ h. let same : b ∷ inner ≡ (93 ∷ []) ++ inner = ap (λ x. x ∷ inner) (eqb-true b 93 h.0) in
-        let whole : 91 ∷ bytes ≡ (91 ∷ blanks ++ 93 ∷ []) ++ inner = ap (λ x. 91 ∷ x) (with_front_blanks bytes blanks (b ∷ inner) (93 ∷ []) inner gap same) in
-        unclosed (91 ∷ bytes) inner Nil f (record {
-          text = 91 ∷ blanks ++ 93 ∷ [];
+        (λ h. let same : b ∷ inner ≡ (close_bracket ∷ []) ++ inner = ap (λ x. x ∷ inner) (eqb-true b close_bracket h.0) in
+        let whole : open_bracket ∷ bytes ≡ (open_bracket ∷ blanks ++ close_bracket ∷ []) ++ inner = ap (λ x. open_bracket ∷ x) (with_front_blanks bytes blanks (b ∷ inner) (close_bracket ∷ []) inner gap same) in
+        unclosed (open_bracket ∷ bytes) inner Nil f (record {
+          text = open_bracket ∷ blanks ++ close_bracket ∷ [];
           whole = whole;
           is = ANil limits levels blanks are;
-          ends = whole_by (91 ∷ blanks ++ 93 ∷ []) inner (λ c. refl);
+          ends = whole_by (open_bracket ∷ blanks ++ close_bracket ∷ []) inner (λ c. refl);
         }) h.1)
         (λ h. let k = h.1 in absurd cc)
-        (chosen (eqb b 93) _ _ (Err f) e)
+        (chosen (eqb b close_bracket) _ _ (Err f) e)
 
     tail_halts : (bytes : List ℕ) (f : Fault) → tail_at other bytes ≡ Err f → Halted IsLast bytes f
     unfolding tail_at
     tail_halts [] f e = closed_halts [] f e
     tail_halts (b ∷ bytes) f e =
         ⊎_elim
-        (λ h. let gap = skipped bytes in halted_whole IsLast (b ∷ bytes) (91 ∷ bytes) f (ap (λ x. x ∷ bytes) (eqb-true b 91 h.0))
+        (λ h. let gap = skipped bytes in halted_whole IsLast (b ∷ bytes) (open_bracket ∷ bytes) f (ap (λ x. x ∷ bytes) (eqb-true b open_bracket h.0))
         (inner_halts bytes gap.blanks (skip bytes) f gap.whole gap.are h.1))
         (λ h. closed_halts (b ∷ bytes) f h.1)
-        (chosen (eqb b 91) _ _ (Err f) e)
+        (chosen (eqb b open_bracket) _ _ (Err f) e)
 
     -- what follows a head halts
     next_halts : (bytes : List ℕ) (f : Fault) → next_at other bytes ≡ Err f → Halted IsEnding bytes f
@@ -245,16 +246,16 @@ module _ (limits : Limits) (levels : ℕ) (element : List ℕ → Read Tree) (so
         (λ h. ⊎_elim (λ i. absurd (let k = i.1 in cc))
         (λ i. ⊎_elim
         (λ j. let gap = skipped bytes in
-        let taken : List ℕ = 124 ∷ gap.blanks in
-        let whole : b ∷ bytes ≡ taken ++ skip bytes = ap (λ x. x ∷ bytes) (eqb-true b 124 j.0) ∙ ap (λ x. 124 ∷ x) gap.whole in
-        let zero_last = last_of (48 ∷ []) [] (Integer (pos 0)) (zero_text limits levels) refl in
+        let taken : List ℕ = vertical_bar ∷ gap.blanks in
+        let whole : b ∷ bytes ≡ taken ++ skip bytes = ap (λ x. x ∷ bytes) (eqb-true b vertical_bar j.0) ∙ ap (λ x. vertical_bar ∷ x) gap.whole in
+        let zero_last = last_of (digit_zero ∷ []) [] (Integer (pos 0)) (zero_text limits levels) refl in
         halted_whole IsEnding (b ∷ bytes) (taken ++ skip bytes) f whole (halted_behind IsLast IsEnding taken (skip bytes) f (tail_halts (skip bytes) f j.1)
-        (48 ∷ 93 ∷ [], Integer (pos 0), bar gap.blanks (48 ∷ 93 ∷ []) (Integer (pos 0)) gap.are zero_last)
+        (digit_zero ∷ close_bracket ∷ [], Integer (pos 0), bar gap.blanks (digit_zero ∷ close_bracket ∷ []) (Integer (pos 0)) gap.are zero_last)
         (λ text tail l. ([], tail, subst (λ x. IsEnding (taken ++ x) tail) (sym (append-nil text)) (bar gap.blanks text tail gap.are l)))))
         (λ j. halted_here IsEnding Syntax (b ∷ bytes) f (err_is {A = Next} (place Syntax (b ∷ bytes)) f j.1))
-        (chosen (eqb b 124) _ _ (Err f) i.1))
-        (chosen (eqb b 93) _ _ (Err f) h.1))
-        (chosen (eqb b 44) _ _ (Err f) e)
+        (chosen (eqb b vertical_bar) _ _ (Err f) i.1))
+        (chosen (eqb b close_bracket) _ _ (Err f) h.1))
+        (chosen (eqb b comma) _ _ (Err f) e)
 
     -- a head and blanks, and then what may follow them
     ended : (bytes r : List ℕ) (head : Tree) (f : Fault) → IsTermAt limits levels bytes head r → Halted IsEnding (skip r) f
@@ -267,7 +268,7 @@ module _ (limits : Limits) (levels : ℕ) (element : List ℕ → Read Tree) (so
         λ rest tail e. subst (λ x. AreCells limits levels x (Cons head tail)) (sym (append_assoc first.text gap.blanks rest))
         (e head first.text gap.blanks first.is gap.are) in
         halted_whole (AreCells limits levels) bytes (taken ++ skip r) f whole (halted_behind IsEnding (AreCells limits levels) taken (skip r) f h
-        (93 ∷ [], Cons head Nil, made (93 ∷ []) Nil closing)
+        (close_bracket ∷ [], Cons head Nil, made (close_bracket ∷ []) Nil closing)
         (λ rest tail e. ([], Cons head tail, subst (λ x. AreCells limits levels (taken ++ x) (Cons head tail)) (sym (append-nil rest)) (made rest tail e))))
 
     cell_halts : (bytes : List ℕ) (f : Fault) → cell_step element other bytes ≡ Err f → Halted (AreCells limits levels) bytes f
@@ -275,7 +276,7 @@ module _ (limits : Limits) (levels : ℕ) (element : List ℕ → Read Tree) (so
     cell_halts bytes f e =
         ⊎_elim
         (λ h. halted_map (IsTextOf limits levels) (AreCells limits levels) bytes f (halts bytes f h)
-        (λ part head is. (93 ∷ [], Cons head Nil, closing head part [] is refl)))
+        (λ part head is. (close_bracket ∷ [], Cons head Nil, closing head part [] is refl)))
         (λ h. ⊎_elim
         (λ i. ended bytes h.0.1 h.0.0 f (sound bytes h.0.0 h.0.1 h.1) (next_halts (skip h.0.1) f i))
         (λ i. let k = i.2 in absurd cc)
@@ -283,69 +284,69 @@ module _ (limits : Limits) (levels : ℕ) (element : List ℕ → Read Tree) (so
         (bind_err (element bytes) (λ x. next_at other (skip x.1) >>= λ next. Ok (x.0, next)) f e)
 
     -- cells halt behind a head and a comma
-    behind_head : (bytes r tail after : List ℕ) (head : Tree) (f : Fault) → IsTermAt limits levels bytes head r → skip r ≡ 44 ∷ tail → skip tail ≡ after
+    behind_head : (bytes r tail after : List ℕ) (head : Tree) (f : Fault) → IsTermAt limits levels bytes head r → skip r ≡ comma ∷ tail → skip tail ≡ after
         → Halted (AreCells limits levels) after f
         → Halted (AreCells limits levels) bytes f
-    behind_head bytes r tail after head f first comma gap h =
+    behind_head bytes r tail after head f first parted gap h =
         let behind = skipped tail in
-        let taken : List ℕ = 44 ∷ behind.blanks in
-        let whole : skip r ≡ taken ++ after = comma ∙ ap (λ x. 44 ∷ x) (behind.whole ∙ ap (λ x. behind.blanks ++ x) gap) in
+        let taken : List ℕ = comma ∷ behind.blanks in
+        let whole : skip r ≡ taken ++ after = parted ∙ ap (λ x. comma ∷ x) (behind.whole ∙ ap (λ x. behind.blanks ++ x) gap) in
         let made : (rest : List ℕ) (t : Tree) → AreCells limits levels rest t → IsEnding (taken ++ rest) t =
         λ rest t are head text blanks is one. MoreCells limits levels text blanks behind.blanks rest head t is one behind.are are in
-        let again : AreCells limits levels (first.text ++ 93 ∷ []) (Cons head Nil) = closing head first.text [] first.is refl in
+        let again : AreCells limits levels (first.text ++ close_bracket ∷ []) (Cons head Nil) = closing head first.text [] first.is refl in
         ended bytes r head f first (halted_whole IsEnding (skip r) (taken ++ after) f whole (halted_behind (AreCells limits levels) IsEnding taken after f h
-        (first.text ++ 93 ∷ [], Cons head Nil, made (first.text ++ 93 ∷ []) (Cons head Nil) again)
+        (first.text ++ close_bracket ∷ [], Cons head Nil, made (first.text ++ close_bracket ∷ []) (Cons head Nil) again)
         (λ rest t are. ([], t, subst (λ x. IsEnding (taken ++ x) t) (sym (append-nil rest)) (made rest t are)))))
 
     -- a list in brackets as the last tail, of which so many bytes were taken
-    inner_last : (blanks rest : List ℕ) (t : Tree) → AreBlanks blanks → AreCells limits levels rest t → IsLast ((91 ∷ blanks ++ rest) ++ 93 ∷ []) t
-    inner_last blanks rest t are cells = last_of (91 ∷ blanks ++ rest) [] t (AList limits levels blanks rest t are cells) refl
+    inner_last : (blanks rest : List ℕ) (t : Tree) → AreBlanks blanks → AreCells limits levels rest t → IsLast ((open_bracket ∷ blanks ++ rest) ++ close_bracket ∷ []) t
+    inner_last blanks rest t are cells = last_of (open_bracket ∷ blanks ++ rest) [] t (AList limits levels blanks rest t are cells) refl
 
     inner_ending : (after blanks rest : List ℕ) (t : Tree) → AreBlanks after → AreBlanks blanks → AreCells limits levels rest t
-        → IsEnding ((124 ∷ (after ++ 91 ∷ blanks)) ++ (rest ++ 93 ∷ [])) t
+        → IsEnding ((vertical_bar ∷ (after ++ open_bracket ∷ blanks)) ++ (rest ++ close_bracket ∷ [])) t
     inner_ending after blanks rest t one two cells =
-        let same : after ++ ((91 ∷ blanks ++ rest) ++ 93 ∷ []) ≡ (after ++ 91 ∷ blanks) ++ (rest ++ 93 ∷ []) = simp append_assoc in
-        subst (λ x. IsEnding (124 ∷ x) t) same (bar after ((91 ∷ blanks ++ rest) ++ 93 ∷ []) t one (inner_last blanks rest t two cells))
+        let same : after ++ ((open_bracket ∷ blanks ++ rest) ++ close_bracket ∷ []) ≡ (after ++ open_bracket ∷ blanks) ++ (rest ++ close_bracket ∷ []) = simp append_assoc in
+        subst (λ x. IsEnding (vertical_bar ∷ x) t) same (bar after ((open_bracket ∷ blanks ++ rest) ++ close_bracket ∷ []) t one (inner_last blanks rest t two cells))
 
-    empty_ending : (after blanks : List ℕ) → AreBlanks after → AreBlanks blanks → IsEnding ((124 ∷ (after ++ 91 ∷ blanks)) ++ 93 ∷ 93 ∷ []) Nil
+    empty_ending : (after blanks : List ℕ) → AreBlanks after → AreBlanks blanks → IsEnding ((vertical_bar ∷ (after ++ open_bracket ∷ blanks)) ++ close_bracket ∷ close_bracket ∷ []) Nil
     empty_ending after blanks one two =
-        let same : after ++ ((91 ∷ blanks ++ 93 ∷ []) ++ 93 ∷ []) ≡ (after ++ 91 ∷ blanks) ++ 93 ∷ 93 ∷ [] = simp append_assoc in
-        subst (λ x. IsEnding (124 ∷ x) Nil) same (bar after ((91 ∷ blanks ++ 93 ∷ []) ++ 93 ∷ []) Nil one
-        (last_of (91 ∷ blanks ++ 93 ∷ []) [] Nil (ANil limits levels blanks two) refl))
+        let same : after ++ ((open_bracket ∷ blanks ++ close_bracket ∷ []) ++ close_bracket ∷ []) ≡ (after ++ open_bracket ∷ blanks) ++ close_bracket ∷ close_bracket ∷ [] = simp append_assoc in
+        subst (λ x. IsEnding (vertical_bar ∷ x) Nil) same (bar after ((open_bracket ∷ blanks ++ close_bracket ∷ []) ++ close_bracket ∷ []) Nil one
+        (last_of (open_bracket ∷ blanks ++ close_bracket ∷ []) [] Nil (ANil limits levels blanks two) refl))
 
     -- cells halt behind a head, a bar and an opening bracket
-    behind_bar : (bytes r tail bracket after : List ℕ) (head : Tree) (f : Fault) → IsTermAt limits levels bytes head r → skip r ≡ 124 ∷ tail
-        → skip tail ≡ 91 ∷ bracket → skip bracket ≡ after
+    behind_bar : (bytes r tail bracket after : List ℕ) (head : Tree) (f : Fault) → IsTermAt limits levels bytes head r → skip r ≡ vertical_bar ∷ tail
+        → skip tail ≡ open_bracket ∷ bracket → skip bracket ≡ after
         → Halted (AreCells limits levels) after f → Halted (AreCells limits levels) bytes f
     behind_bar bytes r tail bracket after head f first bar opens gap h =
         let behind = skipped tail in
         let blanks = skipped bracket in
-        let taken : List ℕ = 124 ∷ (behind.blanks ++ 91 ∷ blanks.blanks) in
+        let taken : List ℕ = vertical_bar ∷ (behind.blanks ++ open_bracket ∷ blanks.blanks) in
         let whole : skip r ≡ taken ++ after =
-        bar ∙ ap (λ x. 124 ∷ x) (behind.whole ∙ ap (λ x. behind.blanks ++ x) (opens ∙ ap (λ x. 91 ∷ x) (blanks.whole ∙ ap (λ x. blanks.blanks ++ x) gap))
-        ∙ sym (append_assoc behind.blanks (91 ∷ blanks.blanks) after)) in
+        bar ∙ ap (λ x. vertical_bar ∷ x) (behind.whole ∙ ap (λ x. behind.blanks ++ x) (opens ∙ ap (λ x. open_bracket ∷ x) (blanks.whole ∙ ap (λ x. blanks.blanks ++ x) gap))
+        ∙ sym (append_assoc behind.blanks (open_bracket ∷ blanks.blanks) after)) in
         ended bytes r head f first (halted_whole IsEnding (skip r) (taken ++ after) f whole (halted_behind (AreCells limits levels) IsEnding taken after f h
-        (93 ∷ 93 ∷ [], Nil, empty_ending behind.blanks blanks.blanks behind.are blanks.are)
-        (λ rest t are. (93 ∷ [], t, inner_ending behind.blanks blanks.blanks rest t behind.are blanks.are are))))
+        (close_bracket ∷ close_bracket ∷ [], Nil, empty_ending behind.blanks blanks.blanks behind.are blanks.are)
+        (λ rest t are. (close_bracket ∷ [], t, inner_ending behind.blanks blanks.blanks rest t behind.are blanks.are are))))
 
     -- no closing bracket stands behind a list in brackets that is the last tail
-    unbarred : (bytes r tail after : List ℕ) (head t : Tree) (f : Fault) → IsTermAt limits levels bytes head r → skip r ≡ 124 ∷ tail
+    unbarred : (bytes r tail after : List ℕ) (head t : Tree) (f : Fault) → IsTermAt limits levels bytes head r → skip r ≡ vertical_bar ∷ tail
         → IsTermAt limits (suc levels) (skip tail) t after
-        → expect 93 (skip after) ≡ Err f → Halted (AreCells limits levels) bytes f
+        → expect close_bracket (skip after) ≡ Err f → Halted (AreCells limits levels) bytes f
     unbarred bytes r tail after head t f first bar_is last e =
         let behind = skipped tail in
         let gap = skipped after in
-        let taken : List ℕ = 124 ∷ (behind.blanks ++ (last.text ++ gap.blanks)) in
+        let taken : List ℕ = vertical_bar ∷ (behind.blanks ++ (last.text ++ gap.blanks)) in
         let whole : skip r ≡ taken ++ skip after =
-        bar_is ∙ ap (λ x. 124 ∷ x) (behind.whole ∙ ap (λ x. behind.blanks ++ x)
+        bar_is ∙ ap (λ x. vertical_bar ∷ x) (behind.whole ∙ ap (λ x. behind.blanks ++ x)
         (last.whole ∙ ap (λ x. last.text ++ x) gap.whole ∙ sym (append_assoc last.text gap.blanks (skip after)))
         ∙ sym (append_assoc behind.blanks (last.text ++ gap.blanks) (skip after))) in
         let goes = tail_goes last.text gap.blanks t last.is gap.are in
         let same : behind.blanks ++ ((last.text ++ gap.blanks) ++ goes.0) ≡ (behind.blanks ++ (last.text ++ gap.blanks)) ++ goes.0 =
         sym (append_assoc behind.blanks (last.text ++ gap.blanks) goes.0) in
         ended bytes r head f first (halted_whole IsEnding (skip r) (taken ++ skip after) f whole
-        (halted_at IsEnding Syntax taken (skip after) f (expect_halts 93 (skip after) f e)
-        (goes.0, goes.1, subst (λ x. IsEnding (124 ∷ x) goes.1) same (bar behind.blanks ((last.text ++ gap.blanks) ++ goes.0) goes.1 behind.are goes.2))))
+        (halted_at IsEnding Syntax taken (skip after) f (expect_halts close_bracket (skip after) f e)
+        (goes.0, goes.1, subst (λ x. IsEnding (vertical_bar ∷ x) goes.1) same (bar behind.blanks ((last.text ++ gap.blanks) ++ goes.0) goes.1 behind.are goes.2))))
 
     cells_behind : (cells : List ℕ → Read Tree) (bytes r : List ℕ) (head : Tree) (next : Next) (f : Fault) → Halts cells (AreCells limits levels)
         → ((bytes : List ℕ) (t : Tree) (rest : List ℕ) → cells bytes ≡ Ok (t, rest) → AreCellsAt limits levels element sound other others_sound bytes t rest)
@@ -359,18 +360,18 @@ module _ (limits : Limits) (levels : ℕ) (element : List ℕ → Read Tree) (so
         (λ h. behind_bar bytes r next.0 next.1 after head f first next.2 next.3 next.4 (later after f h))
         (λ h. let others = read after h.0.0 h.0.1 h.1 in
         let gap = skipped next.1 in
-        let whole : skip next.0 ≡ (91 ∷ gap.blanks ++ others.text) ++ h.0.1 =
-        next.3 ∙ ap (λ x. 91 ∷ x) (with_front_blanks next.1 gap.blanks (skip next.1) others.text h.0.1 gap.whole (next.4 ∙ others.whole)) in
+        let whole : skip next.0 ≡ (open_bracket ∷ gap.blanks ++ others.text) ++ h.0.1 =
+        next.3 ∙ ap (λ x. open_bracket ∷ x) (with_front_blanks next.1 gap.blanks (skip next.1) others.text h.0.1 gap.whole (next.4 ∙ others.whole)) in
         let last : IsTermAt limits (suc levels) (skip next.0) h.0.0 h.0.1 =
         record {
-          text = 91 ∷ gap.blanks ++ others.text;
+          text = open_bracket ∷ gap.blanks ++ others.text;
           whole = whole;
           is = AList limits levels gap.blanks others.text h.0.0 gap.are others.are;
-          ends = whole_by (91 ∷ gap.blanks ++ others.text) h.0.1 (λ c. refl);
+          ends = whole_by (open_bracket ∷ gap.blanks ++ others.text) h.0.1 (λ c. refl);
         } in
         ⊎_elim (unbarred bytes r next.0 h.0.1 head h.0.0 f first next.2 last) (λ i. let k = i.2 in absurd cc)
-        (bind_err (expect 93 (skip h.0.1)) (λ rest. Ok (Cons head h.0.0, rest)) f h.2))
-        (bind_err (cells after) (λ x. expect 93 (skip x.1) >>= λ rest. Ok (Cons head x.0, rest)) f e)
+        (bind_err (expect close_bracket (skip h.0.1)) (λ rest. Ok (Cons head h.0.0, rest)) f h.2))
+        (bind_err (cells after) (λ x. expect close_bracket (skip x.1) >>= λ rest. Ok (Cons head x.0, rest)) f e)
     cells_behind cells bytes r head (Last tail after) f later read first next e = absurd cc
 
     cells_halt : (n : ℕ) → Halts (cells_at element other n) (AreCells limits levels)
@@ -390,22 +391,22 @@ module _ (limits : Limits) (levels : ℕ) (element : List ℕ → Read Tree) (so
         (bind_err (cell_step element other bytes) (λ x. cells_after x.0 (cells_at element other n) x.1) f e)
 
     list_inner : (blanks inner : List ℕ) (f : Fault) → AreBlanks blanks → list_at element other inner ≡ Err f
-        → Halted (IsTextOf limits (suc levels)) ((91 ∷ blanks) ++ inner) f
+        → Halted (IsTextOf limits (suc levels)) ((open_bracket ∷ blanks) ++ inner) f
     unfolding list_at
     list_inner blanks [] f are e =
-        halted_at (IsTextOf limits (suc levels)) Syntax (91 ∷ blanks) [] f (err_is {A = Tree × List ℕ} (place Syntax []) f e)
-        (93 ∷ [], Nil, ANil limits levels blanks are)
+        halted_at (IsTextOf limits (suc levels)) Syntax (open_bracket ∷ blanks) [] f (err_is {A = Tree × List ℕ} (place Syntax []) f e)
+        (close_bracket ∷ [], Nil, ANil limits levels blanks are)
     list_inner blanks (b ∷ inner) f are e =
         ⊎_elim (λ h. absurd (let k = h.1 in cc))
-        (λ h. halted_behind (AreCells limits levels) (IsTextOf limits (suc levels)) (91 ∷ blanks) (b ∷ inner) f
-        (cells_halt (length (b ∷ inner)) (b ∷ inner) f h.1) (93 ∷ [], Nil, ANil limits levels blanks are)
+        (λ h. halted_behind (AreCells limits levels) (IsTextOf limits (suc levels)) (open_bracket ∷ blanks) (b ∷ inner) f
+        (cells_halt (length (b ∷ inner)) (b ∷ inner) f h.1) (close_bracket ∷ [], Nil, ANil limits levels blanks are)
         (λ rest t cells. (
           [],
           t,
-          subst (λ x. IsTextOf limits (suc levels) ((91 ∷ blanks) ++ x) t) (sym (append-nil rest))
+          subst (λ x. IsTextOf limits (suc levels) ((open_bracket ∷ blanks) ++ x) t) (sym (append-nil rest))
               (AList limits levels blanks rest t are cells),
         )))
-        (chosen (eqb b 93) _ _ (Err f) e)
+        (chosen (eqb b close_bracket) _ _ (Err f) e)
 
     -- a list, or another term
     pub bracketed_halts : Halts (bracketed (list_at element other) other) (IsTextOf limits (suc levels))
@@ -413,7 +414,7 @@ module _ (limits : Limits) (levels : ℕ) (element : List ℕ → Read Tree) (so
     bracketed_halts (b ∷ bytes) f e =
         ⊎_elim
         (λ h. let gap = skipped bytes in
-        let whole : b ∷ bytes ≡ (91 ∷ gap.blanks) ++ skip bytes = ap (λ x. x ∷ bytes) (eqb-true b 91 h.0) ∙ ap (λ x. 91 ∷ x) gap.whole in
-        halted_whole (IsTextOf limits (suc levels)) (b ∷ bytes) ((91 ∷ gap.blanks) ++ skip bytes) f whole (list_inner gap.blanks (skip bytes) f gap.are h.1))
+        let whole : b ∷ bytes ≡ (open_bracket ∷ gap.blanks) ++ skip bytes = ap (λ x. x ∷ bytes) (eqb-true b open_bracket h.0) ∙ ap (λ x. open_bracket ∷ x) gap.whole in
+        halted_whole (IsTextOf limits (suc levels)) (b ∷ bytes) ((open_bracket ∷ gap.blanks) ++ skip bytes) f whole (list_inner gap.blanks (skip bytes) f gap.are h.1))
         (λ h. others_halt (b ∷ bytes) f h.1)
-        (chosen (eqb b 91) _ _ (Err f) e)
+        (chosen (eqb b open_bracket) _ _ (Err f) e)

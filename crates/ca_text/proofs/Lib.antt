@@ -1,5 +1,6 @@
 pub mod Again
 pub mod Characters
+pub mod CharactersAgain
 pub mod Complete
 pub mod Fronts
 pub mod Halts
@@ -18,7 +19,6 @@ pub mod Nonempty
 pub mod Numbers
 pub mod Places
 pub mod Points
-pub mod PointsAgain
 pub mod Printed
 pub mod Raised
 pub mod RaisedParts

@@ -7,11 +7,13 @@ use Rattle.ca_text.specs.declared.fault.Why.{Why}
 use Rattle.ca_text.specs.declared.fault.Why.TheVariants.{Syntax, AtomTooLong, TooDeep, TooWide}
 use Rattle.ca_text.specs.Front.{Begins, GoesOnAt, longer_atoms, wider_tuples}
 use Rattle.ca_text.specs.Grammar.{Limits, standard, IsTextOf}
-use Rattle.ca_text.specs.Reading.{Read, term_at}
+use Rattle.ca_text.specs.Inner.Reading.{Read, term_at}
 use Rattle.ca_text.proofs.Places.{begins_front, begins_before, ends, within_by}
 use Rattle.ca_text.proofs.Raised.{Grown, Past, IsRaised}
 use Rattle.ca_text.proofs.RaisedTerms.{term_raised}
 use Rattle.ca_text.proofs.Sound.{term_taken}
+use Rattle.ca_term.specs.declared.bounds.TheConstants.{MOST_CODE_POINTS, MOST_ELEMENTS}
+use Rattle.ca_text.specs.declared.bounds.TheConstants.{MOST_LEVELS}
 use Rattle.ca_text.proofs.Widened.{AtLeast, raised_by, raised_sum, text_widened}
 
 -- ---- one limit raised
@@ -33,10 +35,10 @@ limits_for TooWide = wider_tuples
 
 -- one less than the levels
 abbrev pub levels_for : Why → ℕ
-levels_for Syntax = 63
-levels_for AtomTooLong = 63
-levels_for TooDeep = 64
-levels_for TooWide = 63
+levels_for Syntax = MOST_LEVELS - 1
+levels_for AtomTooLong = MOST_LEVELS - 1
+levels_for TooDeep = MOST_LEVELS
+levels_for TooWide = MOST_LEVELS - 1
 
 module _ (raises : Why → Bool) (v : Why) (m n : ℕ) where
   stays : raises v ≡ false → m ≡ n → Grown raises v m n
@@ -46,22 +48,22 @@ module _ (raises : Why → Bool) (v : Why) (m n : ℕ) where
   goes_up h less = record { more = λ g. less; same = λ g. let no = sym h ∙ g in absurd cc }
 
 one_raised : (w : Why) (bytes : List ℕ)
-    → IsRaised (just w) (λ (x : Tree × List ℕ). x.1) (term_at standard 64 bytes) (term_at (limits_for w) (suc (levels_for w)) bytes)
+    → IsRaised (just w) (λ (x : Tree × List ℕ). x.1) (term_at standard MOST_LEVELS bytes) (term_at (limits_for w) (suc (levels_for w)) bytes)
 one_raised Syntax bytes =
-    term_raised (just Syntax) refl standard standard 64 64 (omega arith) (omega arith) (stays (just Syntax) TooWide 120 120 refl refl)
-    (stays (just Syntax) AtomTooLong 255 255 refl refl)
-    (stays (just Syntax) TooDeep 64 64 refl refl) bytes
+    term_raised (just Syntax) refl standard standard MOST_LEVELS MOST_LEVELS (omega arith) (omega arith) (stays (just Syntax) TooWide MOST_ELEMENTS MOST_ELEMENTS refl refl)
+    (stays (just Syntax) AtomTooLong MOST_CODE_POINTS MOST_CODE_POINTS refl refl)
+    (stays (just Syntax) TooDeep MOST_LEVELS MOST_LEVELS refl refl) bytes
 one_raised AtomTooLong bytes =
-    term_raised (just AtomTooLong) refl standard longer_atoms 64 64 (omega arith) (omega arith) (stays (just AtomTooLong) TooWide 120 120 refl refl)
-    (goes_up (just AtomTooLong) AtomTooLong 255 256 refl (omega arith)) (stays (just AtomTooLong) TooDeep 64 64 refl refl) bytes
+    term_raised (just AtomTooLong) refl standard longer_atoms MOST_LEVELS MOST_LEVELS (omega arith) (omega arith) (stays (just AtomTooLong) TooWide MOST_ELEMENTS MOST_ELEMENTS refl refl)
+    (goes_up (just AtomTooLong) AtomTooLong MOST_CODE_POINTS (MOST_CODE_POINTS + 1) refl (omega arith)) (stays (just AtomTooLong) TooDeep MOST_LEVELS MOST_LEVELS refl refl) bytes
 one_raised TooDeep bytes =
-    term_raised (just TooDeep) refl standard standard 64 65 (omega arith) (omega arith) (stays (just TooDeep) TooWide 120 120 refl refl)
-    (stays (just TooDeep) AtomTooLong 255 255 refl refl)
-    (goes_up (just TooDeep) TooDeep 64 65 refl (omega arith)) bytes
+    term_raised (just TooDeep) refl standard standard MOST_LEVELS (MOST_LEVELS + 1) (omega arith) (omega arith) (stays (just TooDeep) TooWide MOST_ELEMENTS MOST_ELEMENTS refl refl)
+    (stays (just TooDeep) AtomTooLong MOST_CODE_POINTS MOST_CODE_POINTS refl refl)
+    (goes_up (just TooDeep) TooDeep MOST_LEVELS (MOST_LEVELS + 1) refl (omega arith)) bytes
 one_raised TooWide bytes =
-    term_raised (just TooWide) refl standard wider_tuples 64 64 (omega arith) (omega arith) (goes_up (just TooWide) TooWide 120 121 refl (omega arith))
-    (stays (just TooWide) AtomTooLong 255 255 refl refl)
-    (stays (just TooWide) TooDeep 64 64 refl refl) bytes
+    term_raised (just TooWide) refl standard wider_tuples MOST_LEVELS MOST_LEVELS (omega arith) (omega arith) (goes_up (just TooWide) TooWide MOST_ELEMENTS (MOST_ELEMENTS + 1) refl (omega arith))
+    (stays (just TooWide) AtomTooLong MOST_CODE_POINTS MOST_CODE_POINTS refl refl)
+    (stays (just TooWide) TooDeep MOST_LEVELS MOST_LEVELS refl refl) bytes
 
 -- what got past a byte begins a text with it
 begins_past : (limits : Limits) (levels : ℕ) (bytes : List ℕ) (left : ℕ) (r : Read Tree) → term_at limits (suc levels) bytes ≡ r → left ≤ length bytes
@@ -85,48 +87,48 @@ same_of raises r s f e h stay =
     let i : IsRaised raises (λ (x : Tree × List ℕ). x.1) (Err f) s = subst (λ x. IsRaised raises (λ (x : Tree × List ℕ). x.1) x s) e h in i.0 stay
 
 -- a fault of a limit goes on with that limit raised
-pub limit_goes : (w : Why) (bytes : List ℕ) (f : Fault) → term_at standard 64 bytes ≡ Err f → just w f.why ≡ true
+pub limit_goes : (w : Why) (bytes : List ℕ) (f : Fault) → term_at standard MOST_LEVELS bytes ≡ Err f → just w f.why ≡ true
     → GoesOnAt (limits_for w) (suc (levels_for w)) bytes (length bytes - f.left)
 limit_goes w bytes f e up =
-    begins_past (limits_for w) (levels_for w) bytes f.left (term_at (limits_for w) (suc (levels_for w)) bytes) refl (within_by standard 64 bytes f e)
-    (past_of (just w) (term_at standard 64 bytes) (term_at (limits_for w) (suc (levels_for w)) bytes) f e (one_raised w bytes) up)
+    begins_past (limits_for w) (levels_for w) bytes f.left (term_at (limits_for w) (suc (levels_for w)) bytes) refl (within_by standard MOST_LEVELS bytes f e)
+    (past_of (just w) (term_at standard MOST_LEVELS bytes) (term_at (limits_for w) (suc (levels_for w)) bytes) f e (one_raised w bytes) up)
 
 -- and no other does
-pub limit_stays : (w : Why) (bytes : List ℕ) (f : Fault) → term_at standard 64 bytes ≡ Err f → just w f.why ≡ false
+pub limit_stays : (w : Why) (bytes : List ℕ) (f : Fault) → term_at standard MOST_LEVELS bytes ≡ Err f → just w f.why ≡ false
     → GoesOnAt (limits_for w) (suc (levels_for w)) bytes (length bytes - f.left) → ⊥
 limit_stays w bytes f e stay goes =
     ends (limits_for w) (suc (levels_for w)) bytes f
-    (same_of (just w) (term_at standard 64 bytes) (term_at (limits_for w) (suc (levels_for w)) bytes) f e (one_raised w bytes) stay) goes.0 goes.1
+    (same_of (just w) (term_at standard MOST_LEVELS bytes) (term_at (limits_for w) (suc (levels_for w)) bytes) f e (one_raised w bytes) stay) goes.0 goes.1
 
 -- ---- all limits raised
 
 abbrev widened : Limits → Limits
-widened limits = record { elements = limits.elements + 120; characters = limits.characters + 255 }
+widened limits = record { elements = limits.elements + MOST_ELEMENTS; characters = limits.characters + MOST_CODE_POINTS }
 
 abbrev grows : Limits → ℕ → Why → Bool
 grows limits levels Syntax = false
-grows limits levels AtomTooLong = ltb 255 (limits.characters + 255)
-grows limits levels TooDeep = ltb 64 (raised_by 64 levels)
-grows limits levels TooWide = ltb 120 (limits.elements + 120)
+grows limits levels AtomTooLong = ltb MOST_CODE_POINTS (limits.characters + MOST_CODE_POINTS)
+grows limits levels TooDeep = ltb MOST_LEVELS (raised_by MOST_LEVELS levels)
+grows limits levels TooWide = ltb MOST_ELEMENTS (limits.elements + MOST_ELEMENTS)
 
 grown_by : (raises : Why → Bool) (v : Why) (m n : ℕ) → raises v ≡ ltb m n → m ≤ n → Grown raises v m n
 grown_by raises v m n e le = record { more = λ h. ltb-true m n (sym e ∙ h); same = λ h. omega (arith, le, ltb-false m n (sym e ∙ h)) }
 
 all_raised : (limits : Limits) (levels : ℕ) (bytes : List ℕ)
-    → IsRaised (grows limits levels) (λ (x : Tree × List ℕ). x.1) (term_at standard 64 bytes) (term_at (widened limits) (raised_by 64 levels) bytes)
+    → IsRaised (grows limits levels) (λ (x : Tree × List ℕ). x.1) (term_at standard MOST_LEVELS bytes) (term_at (widened limits) (raised_by MOST_LEVELS levels) bytes)
 all_raised limits levels bytes =
-    term_raised (grows limits levels) refl standard (widened limits) 64 (raised_by 64 levels) (omega arith) (omega arith)
-    (grown_by (grows limits levels) TooWide 120 (limits.elements + 120) refl (omega arith))
-    (grown_by (grows limits levels) AtomTooLong 255 (limits.characters + 255) refl (omega arith))
-    (grown_by (grows limits levels) TooDeep 64 (raised_by 64 levels) refl (omega (arith, raised_sum 64 levels))) bytes
+    term_raised (grows limits levels) refl standard (widened limits) MOST_LEVELS (raised_by MOST_LEVELS levels) (omega arith) (omega arith)
+    (grown_by (grows limits levels) TooWide MOST_ELEMENTS (limits.elements + MOST_ELEMENTS) refl (omega arith))
+    (grown_by (grows limits levels) AtomTooLong MOST_CODE_POINTS (limits.characters + MOST_CODE_POINTS) refl (omega arith))
+    (grown_by (grows limits levels) TooDeep MOST_LEVELS (raised_by MOST_LEVELS levels) refl (omega (arith, raised_sum MOST_LEVELS levels))) bytes
 
 -- at a fault of syntax no text goes on, whatever the limits
-pub syntax_stays : (bytes : List ℕ) (f : Fault) → term_at standard 64 bytes ≡ Err f → f.why ≡ Syntax → length bytes - f.left < length bytes
+pub syntax_stays : (bytes : List ℕ) (f : Fault) → term_at standard MOST_LEVELS bytes ≡ Err f → f.why ≡ Syntax → length bytes - f.left < length bytes
     → (limits : Limits) (levels : ℕ) → Begins limits levels (take (length bytes - f.left + 1) bytes) → ⊥
 syntax_stays bytes f e kind less limits levels b =
     let stay : grows limits levels f.why ≡ false = ap (grows limits levels) kind in
-    let same = same_of (grows limits levels) (term_at standard 64 bytes) (term_at (widened limits) (raised_by 64 levels) bytes) f e
+    let same = same_of (grows limits levels) (term_at standard MOST_LEVELS bytes) (term_at (widened limits) (raised_by MOST_LEVELS levels) bytes) f e
     (all_raised limits levels bytes) stay in
     let least : AtLeast limits (widened limits) = record { elements = omega arith; characters = omega arith } in
-    ends (widened limits) (raised_by 64 levels) bytes f same less
-    (b.0, b.1, text_widened limits (widened limits) 64 levels (take (length bytes - f.left + 1) bytes ++ b.0) b.1 least b.2)
+    ends (widened limits) (raised_by MOST_LEVELS levels) bytes f same less
+    (b.0, b.1, text_widened limits (widened limits) MOST_LEVELS levels (take (length bytes - f.left + 1) bytes ++ b.0) b.1 least b.2)

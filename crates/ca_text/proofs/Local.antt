@@ -1,21 +1,122 @@
 -- Reading looks no further than the byte after what it takes, and a fault hangs on no byte behind its place.
-use Rattle.std.proofs.Common.{◌≡◌, ℕ, true, false, cond, eqb, List, [], ◌∷◌, ◌++◌, length, Result, Ok, Err, refl, sym, ap, ◌∙◌, append_assoc, ◌⊎◌, inl, inr, ⊎_elim}
+use Rattle.std.proofs.Common.{◌≡◌, ℕ, ◌≤◌, eqb, List, [], ◌∷◌, ◌++◌, length, Result, Ok, Err, refl, sym, ap, subst, ◌∙◌, append_assoc, arith, length-append}
 use Rattle.ca_text.specs.declared.fault.Fault.{Fault}
 use Rattle.ca_text.specs.declared.fault.Why.{Why}
 use Rattle.ca_text.specs.declared.fault.Why.TheVariants.{Syntax}
-use Rattle.ca_text.specs.Reading.{◌>>=◌, Read, syntax_fault, fault, expect}
+use Rattle.ca_text.specs.Inner.Reading.{◌>>=◌, Read, expect}
 use Rattle.ca_text.specs.Grammar.{is_blank, skip}
-use Rattle.ca_text.proofs.Tools.{bind_ok, chosen, pair_is}
+use Rattle.ca_text.proofs.Tools.{either_way, pair_is}
 
 -- the fault of this kind at the first of these bytes
 abbrev pub place : Why → List ℕ → Fault
 place why bytes = record { why = why; left = length bytes }
 
-pub record Taken {A : Type 0} (p : List ℕ → Read A) (xs : List ℕ) (a : A) (ys : List ℕ) : Type 0 where
-  pub front : List ℕ
-  pub whole : xs ≡ front ++ ys
-  pub again : (c : ℕ) (r s : List ℕ) → ys ≡ c ∷ r → p (front ++ c ∷ s) ≡ Ok (a, c ∷ s)
+-- a value and the bytes after it, or a fault of this kind at the first of them
+abbrev pub before : {A : Type 0} → Result A Why → List ℕ → Read A
+before (Ok a) ys = Ok (a, ys)
+before (Err why) ys = Err (place why ys)
 
+-- What is answered hangs on the bytes in front and on the first one behind alone.
+pub record Cut {A : Type 0} (p : List ℕ → Read A) (xs : List ℕ) (answer : Result A Why) : Type 0 where
+  pub front : List ℕ
+  pub behind : List ℕ
+  pub whole : xs ≡ front ++ behind
+  pub is : p xs ≡ before answer behind
+  pub again : (c : ℕ) (r s : List ℕ) → behind ≡ c ∷ r → p (front ++ c ∷ s) ≡ before answer (c ∷ s)
+
+abbrev pub LocalAt : {A : Type 0} → (List ℕ → Read A) → List ℕ → Type 0
+LocalAt {A} p xs = (answer : Result A Why) × Cut p xs answer
+
+abbrev pub IsLocal : {A : Type 0} → (List ℕ → Read A) → Type 0
+IsLocal p = (xs : List ℕ) → LocalAt p xs
+
+-- Equal faults of one type are one.
+pub err_is : {A : Type 0} (f g : Fault) → ◌≡◌ {A = Result A Fault} (Err f) (Err g) → f ≡ g
+err_is f g e = cc
+
+-- What stands behind no bytes is none.
+empty_front : (front ys : List ℕ) → [] ≡ front ++ ys → ys ≡ []
+empty_front [] ys e = sym e
+empty_front (x ∷ front) ys e = absurd cc
+
+module _ {A : Type 0} (p : List ℕ → Read A) where
+  -- An answer at the end.
+  pub end_local : (answer : Result A Why) → p [] ≡ before answer [] → LocalAt p []
+  end_local answer e = (answer, record { front = []; behind = []; whole = refl; is = e; again = λ c r s h. absurd cc })
+
+  -- A fault at the end.
+  pub nil_local : p [] ≡ before (Err Syntax) [] → LocalAt p []
+  nil_local e = end_local (Err Syntax) e
+
+  -- An answer before this byte, whatever follows.
+  stop_local : (answer : Result A Why) (b : ℕ) (bytes : List ℕ) → ((zs : List ℕ) → p (b ∷ zs) ≡ before answer (b ∷ zs)) → LocalAt p (b ∷ bytes)
+  stop_local answer b bytes e = (answer, record {
+    front = [];
+    behind = b ∷ bytes;
+    whole = refl;
+    is = e bytes;
+    again = λ c r s h. let first : b ≡ c = cc in subst (λ (x : ℕ). p (x ∷ s) ≡ before answer (x ∷ s)) first (e s);
+  })
+
+  -- A fault at this byte, whatever follows.
+  pub fault_local : (why : Why) (b : ℕ) (bytes : List ℕ) → ((zs : List ℕ) → p (b ∷ zs) ≡ before (Err why) (b ∷ zs)) → LocalAt p (b ∷ bytes)
+  fault_local why = stop_local (Err why)
+
+  -- A value before this byte, whatever follows.
+  pub stay_local : (a : A) (b : ℕ) (bytes : List ℕ) → ((zs : List ℕ) → p (b ∷ zs) ≡ before (Ok a) (b ∷ zs)) → LocalAt p (b ∷ bytes)
+  stay_local a = stop_local (Ok a)
+
+  -- A value behind this byte, whatever follows.
+  pub done_local : (a : A) (b : ℕ) (bytes : List ℕ) → ((zs : List ℕ) → p (b ∷ zs) ≡ before (Ok a) zs) → LocalAt p (b ∷ bytes)
+  done_local a b bytes e = (Ok a, record { front = b ∷ []; behind = bytes; whole = refl; is = e bytes; again = λ c r s h. e (c ∷ s) })
+
+  -- Behind this byte, another reader.
+  pub cons_local : (q : List ℕ → Read A) (b : ℕ) (bytes : List ℕ) → ((zs : List ℕ) → p (b ∷ zs) ≡ q zs) → LocalAt q bytes → LocalAt p (b ∷ bytes)
+  cons_local q b bytes e (answer, t) = (answer, record {
+    front = b ∷ t.front;
+    behind = t.behind;
+    whole = ap (λ z. b ∷ z) t.whole;
+    is = e bytes ∙ t.is;
+    again = λ c r s h. e (t.front ++ c ∷ s) ∙ t.again c r s h;
+  })
+
+  same_first : (q : List ℕ → Read A) (b : ℕ) (bytes : List ℕ) → ((zs : List ℕ) → p (b ∷ zs) ≡ q (b ∷ zs)) → (front behind : List ℕ) (c : ℕ) (r s : List ℕ)
+      → b ∷ bytes ≡ front ++ behind → behind ≡ c ∷ r → p (front ++ c ∷ s) ≡ q (front ++ c ∷ s)
+  same_first q b bytes e [] behind c r s whole h = let first : b ≡ c = cc in subst (λ (x : ℕ). p (x ∷ s) ≡ q (x ∷ s)) first (e s)
+  same_first q b bytes e (d ∷ front) behind c r s whole h =
+      let first : b ≡ d = cc in subst (λ (x : ℕ). p (x ∷ (front ++ c ∷ s)) ≡ q (x ∷ (front ++ c ∷ s))) first (e (front ++ c ∷ s))
+
+  -- The same as another reader wherever the first byte is the same.
+  pub same_local : (q : List ℕ → Read A) (b : ℕ) (bytes : List ℕ) → ((zs : List ℕ) → p (b ∷ zs) ≡ q (b ∷ zs)) → LocalAt q (b ∷ bytes) → LocalAt p (b ∷ bytes)
+  same_local q b bytes e (answer, t) = (answer, record {
+    front = t.front;
+    behind = t.behind;
+    whole = t.whole;
+    is = e bytes ∙ t.is;
+    again = λ c r s h. same_first q b bytes e t.front t.behind c r s t.whole h ∙ t.again c r s h;
+  })
+
+  -- The same as another reader where there are no bytes.
+  pub alike : (q : List ℕ → Read A) → p [] ≡ q [] → LocalAt q [] → LocalAt p []
+  alike q e (answer, t) = end_local answer (e ∙ t.is ∙ ap (λ x. before answer x) (empty_front t.front t.behind t.whole))
+
+  -- The same as another reader everywhere.
+  pub equal_local : (q : List ℕ → Read A) → ((xs : List ℕ) → p xs ≡ q xs) → IsLocal q → IsLocal p
+  equal_local q e l xs = let t = (l xs).1 in ((l xs).0, record {
+    front = t.front;
+    behind = t.behind;
+    whole = t.whole;
+    is = e xs ∙ t.is;
+    again = λ c r s h. e (t.front ++ c ∷ s) ∙ t.again c r s h;
+  })
+
+-- A value and all bytes behind it.
+pub pure_local : {A : Type 0} (a : A) → IsLocal (λ ys. Ok (a, ys))
+pure_local a xs = (Ok a, record { front = []; behind = xs; whole = refl; is = refl; again = λ c r s h. refl })
+
+-- ---- what was taken, and what is left
+
+-- the parts of some bytes at a fault
 pub record Stuck {A : Type 0} (p : List ℕ → Read A) (xs : List ℕ) (f : Fault) : Type 0 where
   pub front : List ℕ
   pub behind : List ℕ
@@ -23,187 +124,71 @@ pub record Stuck {A : Type 0} (p : List ℕ → Read A) (xs : List ℕ) (f : Fau
   pub is : f ≡ place f.why behind
   pub again : (c : ℕ) (r s : List ℕ) → behind ≡ c ∷ r → p (front ++ c ∷ s) ≡ Err (place f.why (c ∷ s))
 
-pub record LocalAt {A : Type 0} (p : List ℕ → Read A) (xs : List ℕ) : Type 0 where
-  pub taken : (a : A) (ys : List ℕ) → p xs ≡ Ok (a, ys) → Taken p xs a ys
-  pub stuck : (f : Fault) → p xs ≡ Err f → Stuck p xs f
+module _ {A : Type 0} (p : List ℕ → Read A) (xs : List ℕ) where
+  -- A fault comes again with any bytes behind the one at its place.
+  pub stuck : LocalAt p xs → (f : Fault) → p xs ≡ Err f → Stuck p xs f
+  stuck (Ok a, t) f e = let i = t.is in absurd cc
+  stuck (Err why, t) f e =
+      let same : place why t.behind ≡ f = err_is {A = A × List ℕ} (place why t.behind) f (sym t.is ∙ e) in
+      let kind : why ≡ f.why = ap (λ (g : Fault). g.why) same in
+      record {
+        front = t.front;
+        behind = t.behind;
+        whole = t.whole;
+        is = sym same ∙ ap (λ (w : Why). place w t.behind) kind;
+        again = λ c r s h. t.again c r s h ∙ ap (λ (w : Why). Err (place w (c ∷ s))) kind;
+      }
 
-abbrev pub IsLocal : {A : Type 0} → (List ℕ → Read A) → Type 0
-IsLocal p = (xs : List ℕ) → LocalAt p xs
-
-abbrev failed : {A : Type 0} → Fault → Result A Fault
-failed f = Err f
-
-pub err_is : {A : Type 0} (f g : Fault) → failed {A = A} f ≡ failed {A = A} g → f ≡ g
-err_is f g e = cc
-
-apart : {A : Type 0} (x : A) (f : Fault) (r : Result A Fault) → r ≡ Ok x → r ≡ Err f → ⊥
-apart x f r e g = cc
-
-module _ {A : Type 0} (p : List ℕ → Read A) where
-  pub nil_local : p [] ≡ syntax_fault [] → LocalAt p []
-  nil_local e = record {
-    taken = λ a ys h. absurd (apart (a, ys) _ (p []) h e);
-    stuck = λ f h. let same = err_is _ f (sym e ∙ h) in
-        record { front = []; behind = []; whole = refl; is = sym same ∙ ap (λ (g : Fault). place g.why []) same; again = λ c r s x. absurd cc };
-  }
-
-  pub fault_local : (why : Why) (b : ℕ) (bytes : List ℕ) → ((zs : List ℕ) → p (b ∷ zs) ≡ fault why (b ∷ zs)) → LocalAt p (b ∷ bytes)
-  fault_local why b bytes e = record {
-    taken = λ a ys h. absurd (apart (a, ys) _ (p (b ∷ bytes)) h (e bytes));
-    stuck = λ f h. let same = err_is _ f (sym (e bytes) ∙ h) in record {
-      front = [];
-      behind = b ∷ bytes;
-      whole = refl;
-      is = sym same ∙ ap (λ (g : Fault). place g.why (b ∷ bytes)) same;
-      again = λ c r s x. let first : b ≡ c = cc in let kind : why ≡ f.why = ap (λ (g : Fault). g.why) same in
-          ap (λ y. p (y ∷ s)) (sym first) ∙ e s ∙ ap (λ (w : Why). Err (place w (b ∷ s))) kind ∙ ap (λ (y : ℕ). Err (place f.why (y ∷ s))) first;
-    };
-  }
-
-  pub done_local : (a : A) (b : ℕ) (bytes : List ℕ) → ((zs : List ℕ) → p (b ∷ zs) ≡ Ok (a, zs)) → LocalAt p (b ∷ bytes)
-  done_local a b bytes e = record {
-    taken = λ x ys h. let q = pair_is a bytes x ys (sym (e bytes) ∙ h) in record {
-      front = b ∷ [];
-      whole = ap (λ z. b ∷ z) q.1;
-      again = λ c r s _. e (c ∷ s) ∙ ap (λ (y : A). Ok (y, c ∷ s)) q.0;
-    };
-    stuck = λ f h. absurd (apart (a, bytes) f (p (b ∷ bytes)) (e bytes) h);
-  }
-
-  pub stay_local : (a : A) (b : ℕ) (bytes : List ℕ) → ((zs : List ℕ) → p (b ∷ zs) ≡ Ok (a, b ∷ zs)) → LocalAt p (b ∷ bytes)
-  stay_local a b bytes e = record {
-    taken = λ x ys h. let q = pair_is a (b ∷ bytes) x ys (sym (e bytes) ∙ h) in record {
-      front = [];
-      whole = q.1;
-      again = λ c r s y. let rest = q.1 in let first : b ≡ c = cc in
-          ap (λ z. p (z ∷ s)) (sym first) ∙ e s ∙ ap (λ (z : A). Ok (z, b ∷ s)) q.0 ∙ ap (λ (z : ℕ). Ok (x, z ∷ s)) first;
-    };
-    stuck = λ f h. absurd (apart (a, b ∷ bytes) f (p (b ∷ bytes)) (e bytes) h);
-  }
-
-  pub cons_local : (q : List ℕ → Read A) (b : ℕ) (bytes : List ℕ) → ((zs : List ℕ) → p (b ∷ zs) ≡ q zs) → LocalAt q bytes → LocalAt p (b ∷ bytes)
-  cons_local q b bytes e l = record {
-    taken = λ a ys h. let t = l.taken a ys (sym (e bytes) ∙ h) in
-        record { front = b ∷ t.front; whole = ap (λ z. b ∷ z) t.whole; again = λ c r s y. e (t.front ++ c ∷ s) ∙ t.again c r s y };
-    stuck = λ f h. let t = l.stuck f (sym (e bytes) ∙ h) in
-        record { front = b ∷ t.front; behind = t.behind; whole = ap (λ z. b ∷ z) t.whole; is = t.is; again = λ c r s y. e (t.front ++ c ∷ s) ∙ t.again c r s y };
-  }
-
-  same_first : (q : List ℕ → Read A) (b : ℕ) (bytes : List ℕ) → ((zs : List ℕ) → p (b ∷ zs) ≡ q (b ∷ zs)) → (front behind : List ℕ) (c : ℕ) (r s : List ℕ)
-      → b ∷ bytes ≡ front ++ behind → behind ≡ c ∷ r → p (front ++ c ∷ s) ≡ q (front ++ c ∷ s)
-  same_first q b bytes e [] behind c r s whole y = let first : b ≡ c = cc in ap (λ z. p (z ∷ s)) (sym first) ∙ e s ∙ ap (λ z. q (z ∷ s)) first
-  same_first q b bytes e (d ∷ front) behind c r s whole y =
-      let first : b ≡ d = cc in ap (λ z. p (z ∷ (front ++ c ∷ s))) (sym first) ∙ e (front ++ c ∷ s) ∙ ap (λ z. q (z ∷ (front ++ c ∷ s))) first
-
-  -- the same as another reader wherever the first byte is the same
-  pub same_local : (q : List ℕ → Read A) (b : ℕ) (bytes : List ℕ) → ((zs : List ℕ) → p (b ∷ zs) ≡ q (b ∷ zs)) → LocalAt q (b ∷ bytes) → LocalAt p (b ∷ bytes)
-  same_local q b bytes e l = record {
-    taken = λ a ys h. let t = l.taken a ys (sym (e bytes) ∙ h) in
-        record { front = t.front; whole = t.whole; again = λ c r s y. same_first q b bytes e t.front ys c r s t.whole y ∙ t.again c r s y };
-    stuck = λ f h. let t = l.stuck f (sym (e bytes) ∙ h) in
-        record {
-          front = t.front;
-          behind = t.behind;
-          whole = t.whole;
-          is = t.is;
-          again = λ c r s y. same_first q b bytes e t.front t.behind c r s t.whole y ∙ t.again c r s y;
-        };
-  }
-
-pub pure_local : {A : Type 0} (a : A) → IsLocal (λ ys. Ok (a, ys))
-pure_local {A} a xs = record {
-  taken = λ x ys h. let q = pair_is a xs x ys h in record { front = []; whole = q.1; again = λ c r s y. ap (λ (z : A). Ok (z, c ∷ s)) q.0 };
-  stuck = λ f h. absurd cc;
-}
+  -- No more bytes are left than there were.
+  pub no_longer : LocalAt p xs → (a : A) (ys : List ℕ) → p xs ≡ Ok (a, ys) → length ys ≤ length xs
+  no_longer (Ok b, t) a ys e =
+      let q = pair_is b t.behind a ys (sym t.is ∙ e) in omega (arith, ap (λ (l : List ℕ). length l) t.whole, length-append t.front t.behind, ap (λ (l : List ℕ). length l) q.1)
+  no_longer (Err why, t) a ys e = let i = t.is in absurd cc
 
 -- ---- one reader behind another
 
 module _ {A B : Type 0} (p : List ℕ → Read A) (q : A → List ℕ → Read B) (first : IsLocal p) (second : (a : A) → IsLocal (q a)) where
+  abbrev next : Read A → Read B
+  next r = r >>= λ x. q x.0 x.1
+
   -- the first part again, before what the second part began with
-  again_first : (xs : List ℕ) (a : A) (ys : List ℕ) → Taken p xs a ys → (front behind : List ℕ) → ys ≡ front ++ behind
-      → (c : ℕ) (r s : List ℕ) (t : Taken p xs a ys) → behind ≡ c ∷ r → p (t.front ++ (front ++ c ∷ s)) ≡ Ok (a, front ++ c ∷ s)
-  again_first xs a ys _ [] behind e c r s t h = t.again c r s (e ∙ h)
-  again_first xs a ys _ (d ∷ front) behind e c r s t h = t.again d (front ++ behind) (front ++ c ∷ s) e
+  again_first : (xs : List ℕ) (a : A) (t : Cut p xs (Ok a)) (front behind : List ℕ) (c : ℕ) (r s : List ℕ) → t.behind ≡ front ++ behind → behind ≡ c ∷ r
+      → p (t.front ++ (front ++ c ∷ s)) ≡ Ok (a, front ++ c ∷ s)
+  again_first xs a t [] behind c r s e h = t.again c r s (e ∙ h)
+  again_first xs a t (d ∷ front) behind c r s e h = t.again d (front ++ behind) (front ++ c ∷ s) e
 
-  abbrev chain : List ℕ → Read B
-  chain xs = p xs >>= λ x. q x.0 x.1
+  behind_first : (xs : List ℕ) → LocalAt p xs → LocalAt (λ ys. next (p ys)) xs
+  behind_first xs (Ok a, t) = let u = (second a t.behind).1 in ((second a t.behind).0, record {
+    front = t.front ++ u.front;
+    behind = u.behind;
+    whole = t.whole ∙ ap (λ x. t.front ++ x) u.whole ∙ sym (append_assoc t.front u.front u.behind);
+    is = ap next t.is ∙ u.is;
+    again = λ c r s h. ap (λ x. next (p x)) (append_assoc t.front u.front (c ∷ s)) ∙ ap next (again_first xs a t u.front u.behind c r s u.whole h) ∙ u.again c r s h;
+  })
+  behind_first xs (Err why, t) =
+      (Err why, record { front = t.front; behind = t.behind; whole = t.whole; is = ap next t.is; again = λ c r s h. ap next (t.again c r s h) })
 
-  step_to : (xs : List ℕ) (a : A) (ys : List ℕ) (r : Read B) → p xs ≡ Ok (a, ys) → q a ys ≡ r → chain xs ≡ r
-  step_to xs a ys r e f = rw e f
-
-  chain_err : (r : Read A) (f : Fault) → (r >>= λ x. q x.0 x.1) ≡ Err f → (r ≡ Err f) ⊎ ((x : A × List ℕ) × (r ≡ Ok x) × (q x.0 x.1 ≡ Err f))
-  chain_err (Ok x) f e = inr (x, refl, e)
-  chain_err (Err g) f e = inl (ap failed (err_is g f e))
-
-  fail_to : (xs : List ℕ) (f : Fault) → p xs ≡ Err f → chain xs ≡ Err f
-  fail_to xs f e = rw e refl
-
-  pub bind_local : IsLocal chain
-  bind_local xs = record {
-    taken = λ b zs h.
-        let s = bind_ok (p xs) (λ x. q x.0 x.1) (b, zs) h in
-        let t = (first xs).taken s.0.0 s.0.1 s.1 in
-        let u = (second s.0.0 s.0.1).taken b zs s.2 in
-        record {
-          front = t.front ++ u.front;
-          whole = t.whole ∙ ap (λ x. t.front ++ x) u.whole ∙ sym (append_assoc t.front u.front zs);
-          again = λ c r k y. ap chain (append_assoc t.front u.front (c ∷ k))
-              ∙ step_to (t.front ++ (u.front ++ c ∷ k)) s.0.0 (u.front ++ c ∷ k) (Ok (b, c ∷ k))
-              (again_first xs s.0.0 s.0.1 t u.front zs u.whole c r k t y) (u.again c r k y);
-        };
-    stuck = λ f h. ⊎_elim
-        (λ e. let t = (first xs).stuck f e in record {
-          front = t.front;
-          behind = t.behind;
-          whole = t.whole;
-          is = t.is;
-          again = λ c r k y. fail_to (t.front ++ c ∷ k) (place f.why (c ∷ k)) (t.again c r k y);
-        })
-        (λ s. let t = (first xs).taken s.0.0 s.0.1 s.1 in
-        let u = (second s.0.0 s.0.1).stuck f s.2 in
-        record {
-          front = t.front ++ u.front;
-          behind = u.behind;
-          whole = t.whole ∙ ap (λ x. t.front ++ x) u.whole ∙ sym (append_assoc t.front u.front u.behind);
-          is = u.is;
-          again = λ c r k y. ap chain (append_assoc t.front u.front (c ∷ k))
-              ∙ step_to (t.front ++ (u.front ++ c ∷ k)) s.0.0 (u.front ++ c ∷ k) (Err (place f.why (c ∷ k)))
-              (again_first xs s.0.0 s.0.1 t u.front u.behind u.whole c r k t y) (u.again c r k y);
-        })
-        (chain_err (p xs) f h);
-  }
+  -- One local reader behind another is local.
+  pub bind_local : IsLocal (λ xs. p xs >>= λ x. q x.0 x.1)
+  bind_local xs = behind_first xs (first xs)
 
 -- ---- a byte, and blanks
 
-module _ {A : Type 0} (d : ℕ) (q : List ℕ → Read A) (behind : IsLocal q) where
-  pub expect_local : IsLocal (λ xs. expect d xs >>= q)
-  unfolding expect
-  expect_local [] = nil_local (λ xs. expect d xs >>= q) refl
-  expect_local (b ∷ bytes) =
-      ⊎_elim
-      (λ h. cons_local (λ xs. expect d xs >>= q) q b bytes (λ zs. rw h.0 refl) (behind bytes))
-      (λ h. fault_local (λ xs. expect d xs >>= q) Syntax b bytes (λ zs. rw h.0 refl))
-      (chosen (eqb b d) true false (cond (eqb b d) true false) refl)
-
-pub empty_front : (front ys : List ℕ) → [] ≡ front ++ ys → ys ≡ []
-empty_front [] ys e = sym e
-empty_front (x ∷ front) ys e = absurd cc
-
 module _ {A : Type 0} (q : List ℕ → Read A) (behind : IsLocal q) where
-  same_nil : LocalAt q [] → LocalAt (λ xs. q (skip xs)) []
-  unfolding skip
-  same_nil l = record {
-    taken = λ a ys h. let t = l.taken a ys h in
-        record { front = t.front; whole = t.whole; again = λ c r s y. let none = empty_front t.front ys t.whole in absurd cc };
-    stuck = λ f h. let t = l.stuck f h in
-        record { front = t.front; behind = t.behind; whole = t.whole; is = t.is; again = λ c r s y. let none = empty_front t.front t.behind t.whole in absurd cc };
-  }
+  -- A local reader behind a byte is local.
+  pub expect_local : (d : ℕ) → IsLocal (λ xs. expect d xs >>= q)
+  unfolding expect
+  expect_local d [] = nil_local (λ xs. expect d xs >>= q) refl
+  expect_local d (b ∷ bytes) =
+      either_way (eqb b d)
+      (λ h. cons_local (λ xs. expect d xs >>= q) q b bytes (λ zs. rw h refl) (behind bytes))
+      (λ h. fault_local (λ xs. expect d xs >>= q) Syntax b bytes (λ zs. rw h refl))
 
+  -- A local reader behind blanks is local.
   pub skip_local : IsLocal (λ xs. q (skip xs))
   unfolding skip
-  skip_local [] = same_nil (behind [])
+  skip_local [] = alike (λ xs. q (skip xs)) q refl (behind [])
   skip_local (b ∷ bytes) =
-      ⊎_elim
-      (λ h. cons_local (λ xs. q (skip xs)) (λ xs. q (skip xs)) b bytes (λ zs. rw h.0 refl) (skip_local bytes))
-      (λ h. same_local (λ xs. q (skip xs)) q b bytes (λ zs. rw h.0 refl) (behind (b ∷ bytes)))
-      (chosen (is_blank b) true false (cond (is_blank b) true false) refl)
+      either_way (is_blank b)
+      (λ h. cons_local (λ xs. q (skip xs)) (λ xs. q (skip xs)) b bytes (λ zs. rw h refl) (skip_local bytes))
+      (λ h. same_local (λ xs. q (skip xs)) q b bytes (λ zs. rw h refl) (behind (b ∷ bytes)))

@@ -1,36 +1,26 @@
 -- The readers of numbers, names, characters and binaries look no further than one byte ahead.
-use Rattle.std.proofs.Common.{◌≡◌, ℕ, zero, suc, ◌+◌, ◌-◌, ◌*◌, ◌^◌, Bool, true, false, ltb, leb, eqb, ◌&&◌, List, [], ◌∷◌, Option, None, Some, Ok, pos, neg_ℤ, refl}
+use Rattle.std.proofs.Common.{◌≡◌, ℕ, zero, suc, ◌+◌, ◌-◌, ◌*◌, ◌^◌, ltb, leb, eqb, ◌&&◌, List, [], ◌∷◌, Option, None, Some, Ok, pos, neg_ℤ, refl}
 use Rattle.std.specs.Char.{is_ascii_digit, is_ascii_hexdigit, digit_value}
+use Rattle.ca_text.specs.Bytes.{backslash, close_brace, digit_zero, letter_x, minus_sign, open_brace}
 use Rattle.ca_text.specs.Grammar.{escape_of}
 use Rattle.ca_text.specs.declared.fault.Why.{Why}
 use Rattle.ca_text.specs.declared.fault.Why.TheVariants.{Syntax}
-use Rattle.ca_text.specs.Reading.{◌>>=◌, Read, expect, digits_after, number_at, negative_at, positive_at, integer_at, byte_between, inner_byte, two_at, three_at, four_at, least_of_three, end_of_three, least_of_four, end_of_four, point_at, is_point, may_stand, hex_after, hex_at, escape_at, begins_character, character_at, next_point_at, closing_at, points_after, characters_at}
-use Rattle.ca_text.proofs.Tools.{pair_is}
-use Rattle.ca_text.proofs.Local.{LocalAt, IsLocal, nil_local, fault_local, done_local, stay_local, cons_local, same_local, pure_local, bind_local, expect_local}
-
--- which way a test goes
-pub either_way : {C : Type 0} (b : Bool) → (b ≡ true → C) → (b ≡ false → C) → C
-either_way true f g = f refl
-either_way false f g = g refl
+use Rattle.ca_text.specs.Inner.Reading.{◌>>=◌, Read, expect, digits_after, number_at, negative_at, positive_at, integer_at, point_at, is_point, may_stand, hex_after, hex_at, escape_at, begins_character, character_at, next_point_at, closing_at, points_after, characters_at}
+use Rattle.ca_text.proofs.Points.{point_local}
+use Rattle.ca_text.proofs.Tools.{either_way}
+use Rattle.ca_text.proofs.Local.{LocalAt, IsLocal, end_local, nil_local, fault_local, done_local, stay_local, cons_local, same_local, pure_local, bind_local, expect_local}
 
 either_letter : {C : Type 0} (o : Option ℕ) → (o ≡ None → C) → ((c : ℕ) × (o ≡ Some c) → C) → C
 either_letter None f g = f refl
 either_letter (Some c) f g = g (c, refl)
 
-end_local : (most n : ℕ) → LocalAt (digits_after most n) []
-unfolding digits_after
-end_local most n = record {
-  taken = λ a ys h. let q = pair_is n [] a ys h in record { front = []; whole = q.1; again = λ c r s y. let none = q.1 in absurd cc };
-  stuck = λ f h. absurd cc;
-}
-
 pub digits_local : (bytes : List ℕ) (most n : ℕ) → LocalAt (digits_after most n) bytes
 unfolding digits_after
-digits_local [] most n = end_local most n
+digits_local [] most n = end_local (digits_after most n) (Ok n) refl
 digits_local (b ∷ bytes) most n =
     either_way (is_ascii_digit b)
-    (λ h. either_way (leb (n * 10 + (b - 48)) most)
-    (λ i. cons_local (digits_after most n) (digits_after most (n * 10 + (b - 48))) b bytes (λ zs. rw (h, i) refl) (digits_local bytes most (n * 10 + (b - 48))))
+    (λ h. either_way (leb (n * 10 + (b - digit_zero)) most)
+    (λ i. cons_local (digits_after most n) (digits_after most (n * 10 + (b - digit_zero))) b bytes (λ zs. rw (h, i) refl) (digits_local bytes most (n * 10 + (b - digit_zero))))
     (λ i. fault_local (digits_after most n) Syntax b bytes (λ zs. rw (h, i) refl)))
     (λ h. stay_local (digits_after most n) n b bytes (λ zs. rw h refl))
 
@@ -52,59 +42,9 @@ pub integer_local : IsLocal integer_at
 unfolding integer_at
 integer_local [] = nil_local integer_at refl
 integer_local (b ∷ bytes) =
-    either_way (eqb b 45)
+    either_way (eqb b minus_sign)
     (λ h. cons_local integer_at negative_at b bytes (λ zs. rw h refl) (negative_local bytes))
     (λ h. same_local integer_at positive_at b bytes (λ zs. rw h refl) (positive_local (b ∷ bytes)))
-
-pub byte_local : (low high : ℕ) → IsLocal (byte_between low high)
-unfolding byte_between
-byte_local low high [] = nil_local (byte_between low high) refl
-byte_local low high (b ∷ bytes) =
-    either_way (leb low b && ltb b high)
-    (λ h. done_local (byte_between low high) b b bytes (λ zs. rw h refl))
-    (λ h. fault_local (byte_between low high) Syntax b bytes (λ zs. rw h refl))
-
-inner_local : IsLocal inner_byte
-unfolding inner_byte
-inner_local = byte_local 128 192
-
-two_local : (b : ℕ) → IsLocal (two_at b)
-unfolding two_at
-two_local b = bind_local inner_byte (λ c ys. Ok ((b - 192) * 64 + (c - 128), ys)) inner_local (λ c. pure_local ((b - 192) * 64 + (c - 128)))
-
-three_local : (b : ℕ) → IsLocal (three_at b)
-unfolding three_at
-three_local b =
-    bind_local (byte_between (least_of_three b) (end_of_three b)) (λ c ys. inner_byte ys >>= λ d. Ok (((b - 224) * 64 + (c - 128)) * 64 + (d.0 - 128), d.1))
-    (byte_local (least_of_three b) (end_of_three b))
-    (λ c. bind_local inner_byte (λ d ys. Ok (((b - 224) * 64 + (c - 128)) * 64 + (d - 128), ys)) inner_local
-    (λ d. pure_local (((b - 224) * 64 + (c - 128)) * 64 + (d - 128))))
-
-four_local : (b : ℕ) → IsLocal (four_at b)
-unfolding four_at
-four_local b =
-    bind_local (byte_between (least_of_four b) (end_of_four b))
-    (λ c ys. inner_byte ys >>= λ d. inner_byte d.1 >>= λ e. Ok ((((b - 240) * 64 + (c - 128)) * 64 + (d.0 - 128)) * 64 + (e.0 - 128), e.1))
-    (byte_local (least_of_four b) (end_of_four b))
-    (λ c. bind_local inner_byte (λ d ys. inner_byte ys >>= λ e. Ok ((((b - 240) * 64 + (c - 128)) * 64 + (d - 128)) * 64 + (e.0 - 128), e.1)) inner_local
-    (λ d. bind_local inner_byte (λ e ys. Ok ((((b - 240) * 64 + (c - 128)) * 64 + (d - 128)) * 64 + (e - 128), ys)) inner_local
-    (λ e. pure_local ((((b - 240) * 64 + (c - 128)) * 64 + (d - 128)) * 64 + (e - 128)))))
-
-pub point_local : IsLocal point_at
-unfolding point_at
-point_local [] = nil_local point_at refl
-point_local (b ∷ bytes) =
-    either_way (ltb b 0x80)
-    (λ h. done_local point_at b b bytes (λ zs. rw h refl))
-    (λ h. either_way (ltb b 0xc2)
-    (λ i. fault_local point_at Syntax b bytes (λ zs. rw (h, i) refl))
-    (λ i. either_way (ltb b 0xe0)
-    (λ j. cons_local point_at (two_at b) b bytes (λ zs. rw (h, i, j) refl) (two_local b bytes))
-    (λ j. either_way (ltb b 0xf0)
-    (λ k. cons_local point_at (three_at b) b bytes (λ zs. rw (h, i, j, k) refl) (three_local b bytes))
-    (λ k. either_way (ltb b 0xf5)
-    (λ l. cons_local point_at (four_at b) b bytes (λ zs. rw (h, i, j, k, l) refl) (four_local b bytes))
-    (λ l. fault_local point_at Syntax b bytes (λ zs. rw (h, i, j, k, l) refl))))))
 
 hex_after_local : (bytes : List ℕ) (most more c : ℕ) → LocalAt (hex_after most more c) bytes
 unfolding hex_after
@@ -115,7 +55,7 @@ hex_after_local (b ∷ bytes) most more c =
     (λ h. either_way (may_stand most (more - 1) next)
     (λ i. cons_local (hex_after most more c) (hex_after most (more - 1) next) b bytes (λ zs. rw (h, i) refl) (hex_after_local bytes most (more - 1) next))
     (λ i. fault_local (hex_after most more c) Syntax b bytes (λ zs. rw (h, i) refl)))
-    (λ h. either_way (eqb b 125 && is_point most c)
+    (λ h. either_way (eqb b close_brace && is_point most c)
     (λ i. done_local (hex_after most more c) c b bytes (λ zs. rw (h, i) refl))
     (λ i. fault_local (hex_after most more c) Syntax b bytes (λ zs. rw (h, i) refl)))
 
@@ -131,9 +71,9 @@ escape_local : (most : ℕ) → IsLocal (escape_at most)
 unfolding escape_at
 escape_local most [] = nil_local (escape_at most) refl
 escape_local most (b ∷ bytes) =
-    either_way (eqb b 120)
-    (λ h. cons_local (escape_at most) (λ xs. expect 123 xs >>= λ rest. hex_at most rest) b bytes (λ zs. rw h refl)
-    (expect_local 123 (hex_at most) (hex_local most) bytes))
+    either_way (eqb b letter_x)
+    (λ h. cons_local (escape_at most) (λ xs. expect open_brace xs >>= λ rest. hex_at most rest) b bytes (λ zs. rw h refl)
+    (expect_local (hex_at most) (hex_local most) open_brace bytes))
     (λ h. either_letter (escape_of b)
     (λ i. fault_local (escape_at most) Syntax b bytes (λ zs. rw (h, i) refl))
     (λ i. done_local (escape_at most) i.0 b bytes (λ zs. rw (h, i.1) refl)))
@@ -142,7 +82,7 @@ character_local : (close most : ℕ) → IsLocal (character_at close most)
 unfolding character_at
 character_local close most [] = nil_local (character_at close most) refl
 character_local close most (b ∷ bytes) =
-    either_way (eqb b 92)
+    either_way (eqb b backslash)
     (λ h. cons_local (character_at close most) (escape_at most) b bytes (λ zs. rw h refl) (escape_local most bytes))
     (λ h. either_way (begins_character close most b)
     (λ i. same_local (character_at close most) point_at b bytes (λ zs. rw (h, i) refl) (point_local (b ∷ bytes)))

@@ -1,5 +1,5 @@
 -- The readers of terms look no further than one byte ahead.
-use Rattle.std.proofs.Common.{◌≡◌, ℕ, zero, suc, ◌+◌, ◌<◌, ◌≤◌, Bool, true, false, cond, leb, eqb, List, [], ◌∷◌, ◌++◌, length, take, drop, Option, None, Some, Result, Ok, Err, refl, sym, ap, subst, ◌∙◌, arith, length-append, take-append-drop, length-take-le}
+use Rattle.std.proofs.Common.{◌≡◌, ℕ, zero, suc, ◌+◌, ◌<◌, ◌≤◌, Bool, true, false, leb, eqb, List, [], ◌∷◌, ◌++◌, length, take, drop, Option, None, Some, Result, Ok, Err, refl, sym, ap, subst, ◌∙◌, arith, length-append, take-append-drop, length-take-le}
 use Rattle.std.proofs.Math.Seq.{take-append_seam, drop-append_seam}
 use Rattle.std.proofs.lemmas.Bool.{leb-true, leb-false, le-leb}
 use Rattle.std.proofs.lemmas.Bool.Decides.{nat_tests}
@@ -7,22 +7,23 @@ use Rattle.std.specs.List.{list_all}
 use Rattle.std.specs.Char.{is_ascii_lowercase}
 use Rattle.std.specs.Str.{encode_utf8_all}
 use Rattle.ca_term.specs.Tree.{Tree, Integer, Atom, Tuple, Nil, Cons, Binary, row_of}
+use Rattle.ca_text.specs.Bytes.{close_angle, close_brace, close_bracket, comma, double_quote, open_angle, open_brace, open_bracket, single_quote, vertical_bar}
 use Rattle.ca_text.specs.Text.{is_name_char}
-use Rattle.ca_text.specs.Grammar.{Limits, points, skip}
+use Rattle.ca_text.specs.Grammar.{Limits, most_byte, points, skip}
 use Rattle.ca_text.specs.declared.fault.Fault.{Fault}
 use Rattle.ca_text.specs.declared.fault.Why.{Why}
 use Rattle.ca_text.specs.declared.fault.Why.TheVariants.{Syntax, AtomTooLong, TooDeep, TooWide}
-use Rattle.ca_text.specs.Reading.{◌>>=◌, Read, syntax_fault, fault, expect, number_at, integer_at, name_length, name_at, next_point_at, closing_at, points_after, characters_at, string_at, quoted_at, most_point, most_shown, begins_character, one_byte_at, segment_at, after_segment_at, segment_step, series_at, series_rest, bytes_at, after_element_at, element_step, elements_at, Next, Head, Inner, Last, closed, inner_at, tail_at, next_at, cells_after, cell_step, cells_at, list_at, string_points_at, points_at, tuple_at, binary_at, atom_at, integer_term_at, other_at, bracketed, begins_term, too_deep, term_at}
-use Rattle.ca_text.proofs.Tools.{bind_ok, both, ok_is, pair_is}
+use Rattle.ca_text.specs.Inner.Reading.{◌>>=◌, Read, syntax_fault, expect, number_at, integer_at, name_length, name_at, next_point_at, closing_at, points_after, characters_at, string_at, quoted_at, most_point, most_shown, begins_character, one_byte_at, segment_at, after_segment_at, segment_step, series_at, series_rest, bytes_at, after_element_at, element_step, elements_at, Next, Head, Inner, Last, closed, inner_at, tail_at, next_at, cells_after, cell_step, cells_at, list_at, string_points_at, points_at, tuple_at, binary_at, atom_at, integer_term_at, other_at, bracketed, begins_term, too_deep, term_at}
+use Rattle.ca_text.proofs.Tools.{bind_ok, either_way, both, ok_is, pair_is}
 use Rattle.ca_text.proofs.Characters.{next_taken}
-use Rattle.ca_text.proofs.PointsAgain.{character_some}
+use Rattle.ca_text.proofs.CharactersAgain.{character_some}
 use Rattle.ca_text.proofs.Numbers.{skipped, EndsName, names_all, names_end}
 use Rattle.ca_text.proofs.Again.{name_long}
 use Rattle.ca_text.proofs.Sound.{segment_taken}
 use Rattle.ca_text.proofs.Complete.{segment_begins, text_some}
 use Rattle.ca_text.proofs.Sound.{term_taken}
-use Rattle.ca_text.proofs.Local.{empty_front, place, LocalAt, IsLocal, nil_local, fault_local, done_local, cons_local, same_local, pure_local, bind_local, expect_local, skip_local, err_is}
-use Rattle.ca_text.proofs.LocalParts.{either_way, number_local, integer_local, characters_local}
+use Rattle.ca_text.proofs.Local.{place, before, IsLocal, nil_local, fault_local, done_local, cons_local, same_local, alike, equal_local, pure_local, no_longer, bind_local, expect_local, skip_local, err_is}
+use Rattle.ca_text.proofs.LocalParts.{number_local, integer_local, characters_local}
 
 -- two ways to part some bytes, with last parts of one length
 same_parts : (u v xs ys : List ℕ) → u ++ xs ≡ v ++ ys → length xs ≡ length ys → (u ≡ v) × (xs ≡ ys)
@@ -35,40 +36,33 @@ same_parts (b ∷ u) (c ∷ v) xs ys e h =
     let r = same_parts u v xs ys rest h in
     (ap (λ x. x ∷ u) first ∙ ap (λ x. c ∷ x) r.0, r.1)
 
-cancel : (u v ys : List ℕ) → u ++ ys ≡ v ++ ys → u ≡ v
-cancel u v ys e = (same_parts u v ys ys e refl).0
+-- Equal answers have as many bytes behind them, and are equal before any bytes.
+answers_same : {A : Type 0} (a b : Result A Why) (ys zs : List ℕ) → before a ys ≡ before b zs → (length ys ≡ length zs) × ((x : List ℕ) → before a x ≡ before b x)
+answers_same {A} (Ok a) (Ok b) ys zs e = let q = pair_is a ys b zs e in (ap length q.1, λ x. ap (λ (c : A). Ok (c, x)) q.0)
+answers_same (Ok a) (Err w) ys zs e = absurd cc
+answers_same (Err v) (Ok b) ys zs e = absurd cc
+answers_same {A} (Err v) (Err w) ys zs e =
+    let same = err_is {A = A × List ℕ} (place v ys) (place w zs) e in
+    (ap (λ (f : Fault). f.left) same, λ x. ap (λ (f : Fault). Err (place f.why x)) same)
 
 -- a reader with a bound on its steps that is never reached
 module _ {A : Type 0} (P : ℕ → List ℕ → Read A) (each : (k : ℕ) → IsLocal (P k))
     (same : (k j : ℕ) (xs : List ℕ) → length xs ≤ k → length xs ≤ j → P k xs ≡ P j xs) where
+  -- Such a reader is local.
   pub fuel_local : IsLocal (λ xs. P (length xs) xs)
-  fuel_local xs = record {
-    taken = λ a ys h. let t = (each (length xs) xs).taken a ys h in
-        record {
-          front = t.front;
-          whole = t.whole;
-          again = λ c r s y.
-              let zs = t.front ++ c ∷ s in
-              let k = length xs + length zs in
-              let u = (each k xs).taken a ys (same k (length xs) xs (omega arith) (omega arith) ∙ h) in
-              let fronts : u.front ≡ t.front = cancel u.front t.front ys (sym u.whole ∙ t.whole) in
-              same (length zs) k zs (omega arith) (omega arith) ∙ ap (λ x. P k (x ++ c ∷ s)) (sym fronts) ∙ u.again c r s y;
-        };
-    stuck = λ f h. let t = (each (length xs) xs).stuck f h in
-        record {
-          front = t.front;
-          behind = t.behind;
-          whole = t.whole;
-          is = t.is;
-          again = λ c r s y.
-              let zs = t.front ++ c ∷ s in
-              let k = length xs + length zs in
-              let u = (each k xs).stuck f (same k (length xs) xs (omega arith) (omega arith) ∙ h) in
-              let long : length u.behind ≡ length t.behind = ap (λ (g : Fault). g.left) (sym u.is ∙ t.is) in
-              let parts = same_parts u.front t.front u.behind t.behind (sym u.whole ∙ t.whole) long in
-              same (length zs) k zs (omega arith) (omega arith) ∙ ap (λ x. P k (x ++ c ∷ s)) (sym parts.0) ∙ u.again c r s (parts.1 ∙ y);
-        };
-  }
+  fuel_local xs = let t = (each (length xs) xs).1 in ((each (length xs) xs).0, record {
+    front = t.front;
+    behind = t.behind;
+    whole = t.whole;
+    is = t.is;
+    again = λ c r s y.
+        let zs = t.front ++ c ∷ s in
+        let k = length xs + length zs in
+        let u = (each k xs).1 in
+        let answers = answers_same (each k xs).0 (each (length xs) xs).0 u.behind t.behind (sym u.is ∙ same k (length xs) xs (omega arith) (omega arith) ∙ t.is) in
+        let parts = same_parts u.front t.front u.behind t.behind (sym u.whole ∙ t.whole) answers.0 in
+        same (length zs) k zs (omega arith) (omega arith) ∙ ap (λ x. P k (x ++ c ∷ s)) (sym parts.0) ∙ u.again c r s (parts.1 ∙ y) ∙ answers.1 (c ∷ s);
+  })
 
 -- names
 names_to_next : (k b : ℕ) (bytes : List ℕ) → (k ≤ name_length bytes → list_all is_name_char (take k bytes) ≡ true) → suc k ≤ name_length (b ∷ bytes)
@@ -117,51 +111,29 @@ name_over most cs c s all h long =
     let more : leb (name_length (cs ++ c ∷ s)) most ≡ false = over _ most (omega (arith, name_more cs c s all h, long)) in
     rw (more, ← long, drop-append_seam cs (c ∷ s)) refl
 
-abbrev failed_at : Why → List ℕ → Read (List ℕ)
-failed_at why bytes = Err (place why bytes)
-
-module _ (b : Bool) (x y : Read (List ℕ)) where
-  fit_is : (r : Read (List ℕ)) → b ≡ true → cond b x y ≡ r → x ≡ r
-  fit_is r h e = let k : cond b x y ≡ x = rw h refl in sym k ∙ e
-
-  long_is : (r : Read (List ℕ)) → b ≡ false → cond b x y ≡ r → y ≡ r
-  long_is r h e = let k : cond b x y ≡ y = rw h refl in sym k ∙ e
-
 name_local : (most : ℕ) → IsLocal (name_at most)
 unfolding name_at
 name_local most xs =
     let n = name_length xs in
+    let within = name_within xs in
     either_way (leb n most)
-    (λ h. record {
-      taken = λ name ys e.
-          let q = pair_is (take n xs) (drop n xs) name ys
-          (fit_is (leb n most) (Ok (take n xs, drop n xs)) (fault AtomTooLong (drop most xs)) (Ok (name, ys)) h e) in
-          let all : list_all is_name_char name ≡ true = subst (λ x. list_all is_name_char x ≡ true) q.0 (names_all xs) in
-          let few : length name ≤ most = subst (λ (x : List ℕ). length x ≤ most) q.0 (omega (arith, length-take-le n xs (name_within xs), leb-true n most h)) in
-          let ends : EndsName ys = subst EndsName q.1 (names_end xs) in
-          record {
-            front = name;
-            whole = sym (take-append-drop n xs) ∙ ap (λ x. x ++ drop n xs) q.0 ∙ ap (λ x. name ++ x) q.1;
-            again = λ c r s y. let end : is_name_char c ≡ false = subst EndsName y ends in name_of most name (c ∷ s) all end few;
-          };
-      stuck = λ f e. let k = fit_is (leb n most) (Ok (take n xs, drop n xs)) (fault AtomTooLong (drop most xs)) (Err f) h e in absurd cc;
-    })
-    (λ h. record {
-      taken = λ name ys e. let k = long_is (leb n most) (Ok (take n xs, drop n xs)) (fault AtomTooLong (drop most xs)) (Ok (name, ys)) h e in absurd cc;
-      stuck = λ f e.
-          let same : place AtomTooLong (drop most xs) ≡ f =
-          err_is (place AtomTooLong (drop most xs)) f (long_is (leb n most) (Ok (take n xs, drop n xs)) (fault AtomTooLong (drop most xs)) (Err f) h e) in
-          let less = leb-false n most h in
-          let within = name_within xs in
-          record {
-            front = take most xs;
-            behind = drop most xs;
-            whole = sym (take-append-drop most xs);
-            is = sym same ∙ ap (λ (g : Fault). place g.why (drop most xs)) same;
-            again = λ c r s y. name_over most (take most xs) c s (names_to most xs (omega (arith, less))) (name_there most xs c r (omega (arith, less)) y)
-                (length-take-le most xs (omega (arith, less, within))) ∙ ap (λ (g : Fault). failed_at g.why (c ∷ s)) same;
-          };
-    })
+    (λ h. (Ok (take n xs), record {
+      front = take n xs;
+      behind = drop n xs;
+      whole = sym (take-append-drop n xs);
+      is = rw h refl;
+      again = λ c r s y.
+          let ends : is_name_char c ≡ false = subst EndsName y (names_end xs) in
+          name_of most (take n xs) (c ∷ s) (names_all xs) ends (omega (arith, length-take-le n xs within, leb-true n most h));
+    }))
+    (λ h. let less = leb-false n most h in (Err AtomTooLong, record {
+      front = take most xs;
+      behind = drop most xs;
+      whole = sym (take-append-drop most xs);
+      is = rw h refl;
+      again = λ c r s y. name_over most (take most xs) c s (names_to most xs (omega (arith, less))) (name_there most xs c r (omega (arith, less)) y)
+          (length-take-le most xs (omega (arith, less, within)));
+    }))
 
 -- ---- strings and binaries
 
@@ -188,15 +160,15 @@ module _ (close most : ℕ) (small : close < 128) (low : 127 ≤ most) (high : 1
 
 string_local : (most : ℕ) → 127 ≤ most → (128 ≤ most → most ≡ most_point) → IsLocal (string_at most)
 string_local most low high =
-    fuel_local (λ k. characters_at Syntax 34 most k) (λ k. characters_local Syntax 34 most k) (characters_same 34 most (omega arith) low high)
+    fuel_local (λ k. characters_at Syntax double_quote most k) (λ k. characters_local Syntax double_quote most k) (characters_same double_quote most (omega arith) low high)
 
 one_byte_local : IsLocal one_byte_at
-one_byte_local = bind_local (number_at 255) (λ n ys. Ok (n ∷ [], ys)) (number_local 255) (λ n. pure_local (n ∷ []))
+one_byte_local = bind_local (number_at most_byte) (λ n ys. Ok (n ∷ [], ys)) (number_local most_byte) (λ n. pure_local (n ∷ []))
 
 segment_local : IsLocal segment_at
 unfolding segment_at number_at
 segment_local [] = nil_local segment_at refl
-segment_local (b ∷ bytes) = either_way (eqb b 34)
+segment_local (b ∷ bytes) = either_way (eqb b double_quote)
     (λ h. cons_local segment_at (string_at most_shown) b bytes (λ zs. rw h refl) (string_local most_shown (omega arith) (λ x. absurd (omega arith)) bytes))
     (λ h. same_local segment_at one_byte_at b bytes (λ zs. rw h refl) (one_byte_local (b ∷ bytes)))
 
@@ -206,11 +178,11 @@ true_skip = skip_local (λ xs. Ok (true, xs)) (pure_local true)
 after_segment_local : IsLocal after_segment_at
 unfolding after_segment_at
 after_segment_local [] = nil_local after_segment_at refl
-after_segment_local (b ∷ bytes) = either_way (eqb b 44)
+after_segment_local (b ∷ bytes) = either_way (eqb b comma)
     (λ h. cons_local after_segment_at (λ xs. Ok (true, skip xs)) b bytes (λ zs. rw h refl) (true_skip bytes))
-    (λ h. either_way (eqb b 62)
-    (λ i. cons_local after_segment_at (λ xs. expect 62 xs >>= λ rest. Ok (false, rest)) b bytes (λ zs. rw (h, i) refl)
-    (expect_local 62 (λ rest. Ok (false, rest)) (pure_local false) bytes))
+    (λ h. either_way (eqb b close_angle)
+    (λ i. cons_local after_segment_at (λ xs. expect close_angle xs >>= λ rest. Ok (false, rest)) b bytes (λ zs. rw (h, i) refl)
+    (expect_local (λ rest. Ok (false, rest)) (pure_local false) close_angle bytes))
     (λ i. fault_local after_segment_at Syntax b bytes (λ zs. rw (h, i) refl)))
 
 pub segment_step_local : (n : ℕ) → IsLocal (segment_step n)
@@ -246,7 +218,7 @@ step_shorter n xs x ys e =
     let t = segment_taken xs s.0.0 s.0.1 s.1 in
     let begins = segment_begins t.text s.0.0 t.is in
     let gap = skipped s.0.1 in
-    let a = (after_segment_local (skip s.0.1)).taken u.0.0 u.0.1 u.1 in
+    let less = no_longer after_segment_at (skip s.0.1) (after_segment_local (skip s.0.1)) u.0.0 u.0.1 u.1 in
     omega (
       arith,
       ap (λ (l : List ℕ). length l) t.whole,
@@ -254,8 +226,7 @@ step_shorter n xs x ys e =
       ap (λ (l : List ℕ). length l) begins.is,
       ap (λ (l : List ℕ). length l) gap.whole,
       length-append gap.blanks (skip s.0.1),
-      ap (λ (l : List ℕ). length l) a.whole,
-      length-append a.front u.0.1,
+      less,
       ap (λ (l : List ℕ). length l) p.1,
     )
 
@@ -292,36 +263,27 @@ segments_local = fuel_local (series_at segment_step) (series_local segment_step 
 bytes_local : IsLocal bytes_at
 unfolding bytes_at
 bytes_local [] = nil_local bytes_at refl
-bytes_local (b ∷ bytes) = either_way (eqb b 62)
-    (λ h. cons_local bytes_at (λ xs. expect 62 xs >>= λ rest. Ok ([], rest)) b bytes (λ zs. rw h refl)
-    (expect_local 62 (λ rest. Ok ([], rest)) (pure_local []) bytes))
+bytes_local (b ∷ bytes) = either_way (eqb b close_angle)
+    (λ h. cons_local bytes_at (λ xs. expect close_angle xs >>= λ rest. Ok ([], rest)) b bytes (λ zs. rw h refl)
+    (expect_local (λ rest. Ok ([], rest)) (pure_local []) close_angle bytes))
     (λ h. same_local bytes_at (λ xs. series_at segment_step (length xs) xs) b bytes (λ zs. rw h refl) (segments_local (b ∷ bytes)))
 
 binary_local : IsLocal binary_at
 binary_local =
-    expect_local 60 (λ rest. bytes_at (skip rest) >>= λ x. Ok (Binary x.0, x.1))
+    expect_local (λ rest. bytes_at (skip rest) >>= λ x. Ok (Binary x.0, x.1))
     (skip_local (λ rest. bytes_at rest >>= λ x. Ok (Binary x.0, x.1))
-    (bind_local bytes_at (λ bs ys. Ok (Binary bs, ys)) bytes_local (λ bs. pure_local (Binary bs))))
-
--- two readers that answer alike where there are no bytes
-alike : {A : Type 0} (p q : List ℕ → Read A) → p [] ≡ q [] → LocalAt q [] → LocalAt p []
-alike p q e l = record {
-  taken = λ a ys h. let t = l.taken a ys (sym e ∙ h) in
-      record { front = t.front; whole = t.whole; again = λ c r s y. let none = empty_front t.front ys t.whole in absurd cc };
-  stuck = λ f h. let t = l.stuck f (sym e ∙ h) in
-      record { front = t.front; behind = t.behind; whole = t.whole; is = t.is; again = λ c r s y. let none = empty_front t.front t.behind t.whole in absurd cc };
-}
+    (bind_local bytes_at (λ bs ys. Ok (Binary bs, ys)) bytes_local (λ bs. pure_local (Binary bs)))) open_angle
 
 -- ---- tuples and lists
 
 pub after_element_local : (n : ℕ) → IsLocal (after_element_at n)
 unfolding after_element_at
 after_element_local n [] = nil_local (after_element_at n) refl
-after_element_local n (b ∷ bytes) = either_way (eqb b 44)
+after_element_local n (b ∷ bytes) = either_way (eqb b comma)
     (λ h. either_way (eqb n 0)
     (λ i. fault_local (after_element_at n) TooWide b bytes (λ zs. rw (h, i) refl))
     (λ i. cons_local (after_element_at n) (λ xs. Ok (true, skip xs)) b bytes (λ zs. rw (h, i) refl) (true_skip bytes)))
-    (λ h. either_way (eqb b 125) (λ i. done_local (after_element_at n) false b bytes (λ zs. rw (h, i) refl))
+    (λ h. either_way (eqb b close_brace) (λ i. done_local (after_element_at n) false b bytes (λ zs. rw (h, i) refl))
     (λ i. fault_local (after_element_at n) Syntax b bytes (λ zs. rw (h, i) refl)))
 
 module _ (element : List ℕ → Read Tree) (local : IsLocal element) where
@@ -335,7 +297,7 @@ module _ (element : List ℕ → Read Tree) (local : IsLocal element) where
   elements_local : (most : ℕ) → IsLocal (elements_at element most)
   unfolding elements_at
   elements_local most [] = nil_local (elements_at element most) refl
-  elements_local most (b ∷ bytes) = either_way (eqb b 125)
+  elements_local most (b ∷ bytes) = either_way (eqb b close_brace)
       (λ h. done_local (elements_at element most) [] b bytes (λ zs. rw h refl))
       (λ h. same_local (elements_at element most) (series_at (element_step element) most) b bytes (λ zs. rw h refl)
       (series_local (element_step element) element_step_local most (b ∷ bytes)))
@@ -348,15 +310,15 @@ module _ (element : List ℕ → Read Tree) (local : IsLocal element) where
   module _ (other : List ℕ → Read Tree) (other_local : IsLocal other) where
     -- what follows a head, with the rest of the list
     module _ (head : Tree) (cells : List ℕ → Read Tree) (more : IsLocal cells) where
-      bracket_local : (t : Tree) → IsLocal (λ ys. expect 93 (skip ys) >>= λ rest. Ok (Cons head t, rest))
+      bracket_local : (t : Tree) → IsLocal (λ ys. expect close_bracket (skip ys) >>= λ rest. Ok (Cons head t, rest))
       bracket_local t =
-          skip_local (λ ys. expect 93 ys >>= λ rest. Ok (Cons head t, rest)) (expect_local 93 (λ rest. Ok (Cons head t, rest)) (pure_local (Cons head t)))
+          skip_local (λ ys. expect close_bracket ys >>= λ rest. Ok (Cons head t, rest)) (expect_local (λ rest. Ok (Cons head t, rest)) (pure_local (Cons head t)) close_bracket)
 
       abbrev follow : Result Next Fault → Read Tree
       follow r = r >>= λ next. cells_after head cells next
 
       abbrev after_last : Read Tree → Read Tree
-      after_last r = r >>= λ x. expect 93 (skip x.1) >>= λ rest. Ok (Cons head x.0, rest)
+      after_last r = r >>= λ x. expect close_bracket (skip x.1) >>= λ rest. Ok (Cons head x.0, rest)
 
       closed_end : (t : Tree) (r : Result (List ℕ) Fault) → follow (r >>= λ rest. Ok (Last t rest)) ≡ (r >>= λ rest. Ok (Cons head t, rest))
       closed_end t (Ok rest) = refl
@@ -364,25 +326,25 @@ module _ (element : List ℕ → Read Tree) (local : IsLocal element) where
 
       closed_is : (r : Read Tree) → follow (closed r) ≡ after_last r
       closed_is (Err f) = refl
-      closed_is (Ok x) = closed_end x.0 (expect 93 (skip x.1))
+      closed_is (Ok x) = closed_end x.0 (expect close_bracket (skip x.1))
 
       last_tail_local : IsLocal (λ xs. after_last (other xs))
-      last_tail_local = bind_local other (λ t ys. expect 93 (skip ys) >>= λ rest. Ok (Cons head t, rest)) other_local bracket_local
+      last_tail_local = bind_local other (λ t ys. expect close_bracket (skip ys) >>= λ rest. Ok (Cons head t, rest)) other_local bracket_local
 
       inner_list_local : IsLocal (λ xs. after_last (cells xs))
-      inner_list_local = bind_local cells (λ t ys. expect 93 (skip ys) >>= λ rest. Ok (Cons head t, rest)) more bracket_local
+      inner_list_local = bind_local cells (λ t ys. expect close_bracket (skip ys) >>= λ rest. Ok (Cons head t, rest)) more bracket_local
 
       inner_local : IsLocal (λ xs. follow (inner_at xs))
       inner_local [] = alike (λ xs. follow (inner_at xs)) (λ xs. after_last (cells xs)) refl (inner_list_local [])
-      inner_local (b ∷ bytes) = either_way (eqb b 93)
-          (λ h. cons_local (λ xs. follow (inner_at xs)) (λ ys. expect 93 (skip ys) >>= λ rest. Ok (Cons head Nil, rest)) b bytes
-          (λ zs. rw h (closed_end Nil (expect 93 (skip zs)))) (bracket_local Nil bytes))
+      inner_local (b ∷ bytes) = either_way (eqb b close_bracket)
+          (λ h. cons_local (λ xs. follow (inner_at xs)) (λ ys. expect close_bracket (skip ys) >>= λ rest. Ok (Cons head Nil, rest)) b bytes
+          (λ zs. rw h (closed_end Nil (expect close_bracket (skip zs)))) (bracket_local Nil bytes))
           (λ h. same_local (λ xs. follow (inner_at xs)) (λ xs. after_last (cells xs)) b bytes (λ zs. rw h refl) (inner_list_local (b ∷ bytes)))
 
       tail_local : IsLocal (λ xs. follow (tail_at other xs))
       unfolding tail_at
       tail_local [] = alike (λ xs. follow (tail_at other xs)) (λ xs. after_last (other xs)) (closed_is (other [])) (last_tail_local [])
-      tail_local (b ∷ bytes) = either_way (eqb b 91)
+      tail_local (b ∷ bytes) = either_way (eqb b open_bracket)
           (λ h. cons_local (λ xs. follow (tail_at other xs)) (λ ys. follow (inner_at (skip ys))) b bytes (λ zs. rw h refl)
           (skip_local (λ ys. follow (inner_at ys)) inner_local bytes))
           (λ h. same_local (λ xs. follow (tail_at other xs)) (λ xs. after_last (other xs)) b bytes (λ zs. rw h (closed_is (other (b ∷ zs))))
@@ -395,24 +357,15 @@ module _ (element : List ℕ → Read Tree) (local : IsLocal element) where
       next_cell_local : IsLocal (λ xs. follow (next_at other xs))
       unfolding next_at
       next_cell_local [] = nil_local (λ xs. follow (next_at other xs)) refl
-      next_cell_local (b ∷ bytes) = either_way (eqb b 44)
+      next_cell_local (b ∷ bytes) = either_way (eqb b comma)
           (λ h. cons_local (λ xs. follow (next_at other xs)) (λ xs. cells (skip xs) >>= λ x. Ok (Cons head x.0, x.1)) b bytes
           (λ zs. rw h refl) (head_local bytes))
-          (λ h. either_way (eqb b 93)
+          (λ h. either_way (eqb b close_bracket)
           (λ i. done_local (λ xs. follow (next_at other xs)) (Cons head Nil) b bytes (λ zs. rw (h, i) refl))
-          (λ i. either_way (eqb b 124)
+          (λ i. either_way (eqb b vertical_bar)
           (λ j. cons_local (λ xs. follow (next_at other xs)) (λ ys. follow (tail_at other (skip ys))) b bytes (λ zs. rw (h, i, j) refl)
           (skip_local (λ ys. follow (tail_at other ys)) tail_local bytes))
           (λ j. fault_local (λ xs. follow (next_at other xs)) Syntax b bytes (λ zs. rw (h, i, j) refl))))
-
--- readers that answer alike
-equal_local : {A : Type 0} (p q : List ℕ → Read A) → ((xs : List ℕ) → p xs ≡ q xs) → IsLocal q → IsLocal p
-equal_local p q e l xs = record {
-  taken = λ a ys h. let t = (l xs).taken a ys (sym (e xs) ∙ h) in
-      record { front = t.front; whole = t.whole; again = λ c r s y. e (t.front ++ c ∷ s) ∙ t.again c r s y };
-  stuck = λ f h. let t = (l xs).stuck f (sym (e xs) ∙ h) in
-      record { front = t.front; behind = t.behind; whole = t.whole; is = t.is; again = λ c r s y. e (t.front ++ c ∷ s) ∙ t.again c r s y };
-}
 
 pub skip_shorter : (xs : List ℕ) → length (skip xs) ≤ length xs
 skip_shorter xs = let gap = skipped xs in omega (arith, ap (λ (l : List ℕ). length l) gap.whole, length-append gap.blanks (skip xs))
@@ -426,31 +379,31 @@ left_of (Last t ys) = 0
 closed_left : (r : Read Tree) (next : Next) → closed r ≡ Ok next → left_of next ≡ 0
 closed_left (Err f) next e = absurd cc
 closed_left (Ok x) next e =
-    let s = bind_ok (expect 93 (skip x.1)) (λ rest. Ok (Last x.0 rest)) next e in
+    let s = bind_ok (expect close_bracket (skip x.1)) (λ rest. Ok (Last x.0 rest)) next e in
     ap left_of (sym (ok_is (Last x.0 s.0) next s.2))
 
 inner_left : (xs : List ℕ) (next : Next) → inner_at xs ≡ Ok next → left_of next ≤ length xs
 inner_left [] next e = omega (arith, ap left_of (ok_is (Inner []) next e))
-inner_left (b ∷ xs) next e = either_way (eqb b 93)
+inner_left (b ∷ xs) next e = either_way (eqb b close_bracket)
     (λ h. omega (arith, closed_left (Ok (Nil, xs)) next (let k : inner_at (b ∷ xs) ≡ closed (Ok (Nil, xs)) = rw h refl in sym k ∙ e)))
     (λ h. let k : inner_at (b ∷ xs) ≡ Ok (Inner (b ∷ xs)) = rw h refl in omega (arith, ap left_of (ok_is (Inner (b ∷ xs)) next (sym k ∙ e))))
 
 tail_left : (other : List ℕ → Read Tree) (xs : List ℕ) (next : Next) → tail_at other xs ≡ Ok next → left_of next ≤ length xs
 unfolding tail_at
 tail_left other [] next e = omega (arith, closed_left (other []) next e)
-tail_left other (b ∷ xs) next e = either_way (eqb b 91)
+tail_left other (b ∷ xs) next e = either_way (eqb b open_bracket)
     (λ h. let k : tail_at other (b ∷ xs) ≡ inner_at (skip xs) = rw h refl in omega (arith, inner_left (skip xs) next (sym k ∙ e), skip_shorter xs))
     (λ h. let k : tail_at other (b ∷ xs) ≡ closed (other (b ∷ xs)) = rw h refl in omega (arith, closed_left (other (b ∷ xs)) next (sym k ∙ e)))
 
 next_left : (other : List ℕ → Read Tree) (xs : List ℕ) (next : Next) → next_at other xs ≡ Ok next → left_of next ≤ length xs
 unfolding next_at
 next_left other [] next e = absurd cc
-next_left other (b ∷ xs) next e = either_way (eqb b 44)
+next_left other (b ∷ xs) next e = either_way (eqb b comma)
     (λ h. let k : next_at other (b ∷ xs) ≡ Ok (Head (skip xs)) = rw h refl in omega
     (arith, ap left_of (ok_is (Head (skip xs)) next (sym k ∙ e)), skip_shorter xs))
-    (λ h. either_way (eqb b 93)
+    (λ h. either_way (eqb b close_bracket)
     (λ i. let k : next_at other (b ∷ xs) ≡ Ok (Last Nil xs) = rw (h, i) refl in omega (arith, ap left_of (ok_is (Last Nil xs) next (sym k ∙ e))))
-    (λ i. either_way (eqb b 124)
+    (λ i. either_way (eqb b vertical_bar)
     (λ j. let k : next_at other (b ∷ xs) ≡ tail_at other (skip xs) = rw (h, i, j) refl in omega
     (arith, tail_left other (skip xs) next (sym k ∙ e), skip_shorter xs))
     (λ j. let k : next_at other (b ∷ xs) ≡ syntax_fault (b ∷ xs) = rw (h, i, j) refl in let m = sym k ∙ e in absurd cc)))
@@ -526,14 +479,14 @@ module _ (limits : Limits) (levels : ℕ) (element other : List ℕ → Read Tre
   list_local : IsLocal (list_at element other)
   unfolding list_at
   list_local [] = nil_local (list_at element other) refl
-  list_local (b ∷ bytes) = either_way (eqb b 93)
+  list_local (b ∷ bytes) = either_way (eqb b close_bracket)
       (λ h. done_local (list_at element other) Nil b bytes (λ zs. rw h refl))
       (λ h. same_local (list_at element other) (λ xs. cells_at element other (length xs) xs) b bytes (λ zs. rw h refl)
       (fuel_local (cells_at element other) cells_local cells_same (b ∷ bytes)))
 
   bracketed_local : other [] ≡ syntax_fault [] → IsLocal (bracketed (list_at element other) other)
   bracketed_local e [] = nil_local (bracketed (list_at element other) other) e
-  bracketed_local e (b ∷ bytes) = either_way (eqb b 91)
+  bracketed_local e (b ∷ bytes) = either_way (eqb b open_bracket)
       (λ h. cons_local (bracketed (list_at element other) other) (λ xs. list_at element other (skip xs)) b bytes (λ zs. rw h refl)
       (skip_local (list_at element other) list_local bytes))
       (λ h. same_local (bracketed (list_at element other) other) other b bytes (λ zs. rw h refl) (other_local (b ∷ bytes)))
@@ -542,7 +495,7 @@ module _ (limits : Limits) (levels : ℕ) (element other : List ℕ → Read Tre
 
 quoted_local : (most : ℕ) → IsLocal (quoted_at most)
 quoted_local most =
-    bind_local (characters_at AtomTooLong 39 most_point most) (λ cs ys. Ok (Atom (encode_utf8_all cs), ys)) (characters_local AtomTooLong 39 most_point most)
+    bind_local (characters_at AtomTooLong single_quote most_point most) (λ cs ys. Ok (Atom (encode_utf8_all cs), ys)) (characters_local AtomTooLong single_quote most_point most)
     (λ cs. pure_local (Atom (encode_utf8_all cs)))
 
 some_points_local : IsLocal string_points_at
@@ -552,9 +505,9 @@ some_points_local =
 points_local : (levels : ℕ) → IsLocal (points_at levels)
 unfolding points_at
 points_local zero [] = nil_local (points_at zero) refl
-points_local zero (b ∷ bytes) = either_way (eqb b 34)
+points_local zero (b ∷ bytes) = either_way (eqb b double_quote)
     (λ h. done_local (points_at zero) Nil b bytes (λ zs. rw h refl))
-    (λ h. either_way (begins_character 34 most_point b) (λ i. fault_local (points_at zero) TooDeep b bytes (λ zs. rw (i, h) refl))
+    (λ h. either_way (begins_character double_quote most_point b) (λ i. fault_local (points_at zero) TooDeep b bytes (λ zs. rw (i, h) refl))
     (λ i. fault_local (points_at zero) Syntax b bytes (λ zs. rw (i, h) refl)))
 points_local (suc levels) bytes = some_points_local bytes
 
@@ -573,13 +526,13 @@ unfolding other_at
 other_local limits element levels l [] = nil_local (other_at limits element levels) (nil_other limits element levels)
 other_local limits element levels l (b ∷ bytes) =
     let p = other_at limits element levels in
-    either_way (eqb b 123)
+    either_way (eqb b open_brace)
     (λ h. cons_local p (λ xs. tuple_at element limits.elements (skip xs)) b bytes (λ zs. rw h refl) (tuple_local element l limits.elements bytes))
-    (λ h. either_way (eqb b 34)
+    (λ h. either_way (eqb b double_quote)
     (λ i. cons_local p (points_at levels) b bytes (λ zs. rw (h, i) refl) (points_local levels bytes))
-    (λ i. either_way (eqb b 39)
+    (λ i. either_way (eqb b single_quote)
     (λ j. cons_local p (quoted_at limits.characters) b bytes (λ zs. rw (h, i, j) refl) (quoted_local limits.characters bytes))
-    (λ j. either_way (eqb b 60)
+    (λ j. either_way (eqb b open_angle)
     (λ k. cons_local p binary_at b bytes (λ zs. rw (h, i, j, k) refl) (binary_local bytes))
     (λ k. either_way (is_ascii_lowercase b)
     (λ m. same_local p (atom_at limits.characters) b bytes (λ zs. rw (h, i, j, k, m) refl) (atom_local limits.characters (b ∷ bytes)))

@@ -1,27 +1,25 @@
 -- Reading one part after another, as a loop does.
 use Rattle.std.proofs.Common.{◌≡◌, ℕ, suc, ◌-◌, ◌+◌, ◌<◌, ◌≤◌, Bool, true, false, List, [], ◌∷◌, ◌++◌, None, Some, Result, Ok, Err, refl, sym, ap, ◌∙◌, append_assoc, arith, add-one}
 use Rattle.std.proofs.lemmas.List.{append-nil}
+use Rattle.ca_text.specs.Bytes.{close_bracket}
 use Rattle.ca_text.specs.declared.fault.Fault.{Fault}
 use Rattle.ca_text.specs.declared.fault.Why.{Why}
 use Rattle.ca_text.specs.declared.fault.Stop.{Stop}
 use Rattle.ca_text.specs.declared.fault.Stop.TheVariants as stop
 use Rattle.ca_text.specs.Grammar.{skip}
-use Rattle.ca_text.specs.Reading.{◌>>=◌, Read, Fails, characters_at, next_point_at, closing_at, with_front, syntax_fault, series_at, expect, Head, Inner, Last, cell_step, cells_at, brackets_at, conses, with_heads}
-use Rattle.ca_term.specs.Tree.{Tree, Cons}
+use Rattle.ca_text.specs.Inner.Reading.{◌>>=◌, Read, Fails, characters_at, next_point_at, closing_at, with_front, syntax_fault, series_at, expect, Head, Inner, Last, cell_step, cells_at, brackets_at, with_heads}
+use Rattle.ca_term.specs.Tree.{Tree, Cons, list_of}
+use Rattle.ca_term.proofs.Lists.{list_push}
 
 regroup : {B : Type 0} (front xs : List B) (read : Read (List B)) → with_front front (with_front xs read) ≡ with_front (front ++ xs) read
 regroup {B} front xs (Ok x) = ap (λ (cs : List B). Ok (cs, x.1)) (sym (append_assoc front xs x.0))
 regroup front xs (Err f) = refl
 
-conses-append : (ts us : List Tree) (tail : Tree) → conses (ts ++ us) tail ≡ conses ts (conses us tail)
-conses-append [] us tail = refl
-conses-append (t ∷ ts) us tail = ap (λ x. Cons t x) (conses-append ts us tail)
-
 abbrev listed : List Tree → Tree → Result (List ℕ) Fault → Read Tree
-listed heads t r = ◌>>=◌ {B = Tree × List ℕ} r (λ rest. Ok (conses heads t, rest))
+listed heads t r = ◌>>=◌ {B = Tree × List ℕ} r (λ rest. Ok (list_of heads t, rest))
 
 bracketed_head : (heads : List Tree) (head t : Tree) (r : Result (List ℕ) Fault) → listed heads (Cons head t) r ≡ listed (heads ++ head ∷ []) t r
-bracketed_head heads head t (Ok rest) = ap (λ (x : Tree). Ok (x, rest)) (sym (conses-append heads (head ∷ []) t))
+bracketed_head heads head t (Ok rest) = ap (λ (x : Tree). Ok (x, rest)) (sym (list_push heads head t))
 bracketed_head heads head t (Err f) = refl
 
 regroup_head : (heads : List Tree) (head : Tree) (owed : ℕ) (read : Read Tree)
@@ -35,9 +33,9 @@ regroup_bracket heads head t owed (Ok after) = bracketed_head heads head t (brac
 regroup_bracket heads head t owed (Err f) = refl
 
 regroup_inner : (heads : List Tree) (head : Tree) (owed : ℕ) (read : Read Tree)
-    → with_heads heads owed (read >>= λ x. ◌>>=◌ {B = Tree × List ℕ} (expect 93 (skip x.1)) (λ after. Ok (Cons head x.0, after))) ≡ with_heads (heads ++ head ∷ []) (suc owed) read
+    → with_heads heads owed (read >>= λ x. ◌>>=◌ {B = Tree × List ℕ} (expect close_bracket (skip x.1)) (λ after. Ok (Cons head x.0, after))) ≡ with_heads (heads ++ head ∷ []) (suc owed) read
 unfolding brackets_at
-regroup_inner heads head owed (Ok x) = regroup_bracket heads head x.0 owed (expect 93 (skip x.1))
+regroup_inner heads head owed (Ok x) = regroup_bracket heads head x.0 owed (expect close_bracket (skip x.1))
 regroup_inner heads head owed (Err f) = refl
 
 module _ (over : Why) (close most limit i : ℕ) (front bytes : List ℕ) (total : Read (List ℕ)) where
@@ -169,11 +167,8 @@ module _ (element other : List ℕ → Read Tree) (limit i owed : ℕ) (heads : 
       rw (k, h) (regroup_head heads head owed (Ok (tail, after))) in
       sym so_far ∙ one
 
-pub conses_pop : (hs rest : List Tree) (head tail : Tree) → hs ≡ rest ++ head ∷ [] → conses rest (Cons head tail) ≡ conses hs tail
-conses_pop hs rest head tail e = sym (ap (λ (x : List Tree). conses x tail) e ∙ conses-append rest (head ∷ []) tail)
-
 module _ (owed i : ℕ) (bytes : List ℕ) (total : Result (List ℕ) Fault) where
-  pub brackets_fail : (e : Stop) → i < owed → Fails e (expect 93 (skip bytes)) → brackets_at (owed - i) bytes ≡ total → Fails e total
+  pub brackets_fail : (e : Stop) → i < owed → Fails e (expect close_bracket (skip bytes)) → brackets_at (owed - i) bytes ≡ total → Fails e total
   unfolding brackets_at
   brackets_fail stop.NoMemory lt h so_far = tt
   brackets_fail (stop.At f) lt h so_far =
@@ -181,7 +176,7 @@ module _ (owed i : ℕ) (bytes : List ℕ) (total : Result (List ℕ) Fault) whe
       let one : brackets_at (owed - i) bytes ≡ Err f = rw (k, h) refl in
       sym so_far ∙ one
 
-  pub brackets_go_on : (after : List ℕ) → i < owed → expect 93 (skip bytes) ≡ Ok after → brackets_at (owed - i) bytes ≡ total
+  pub brackets_go_on : (after : List ℕ) → i < owed → expect close_bracket (skip bytes) ≡ Ok after → brackets_at (owed - i) bytes ≡ total
       → brackets_at (owed - (i + 1)) after ≡ total
   unfolding brackets_at
   brackets_go_on after lt h so_far =

@@ -6,7 +6,7 @@ use Rattle.std.proofs.lemmas.Str.{IsUtf8-from_ascii}
 use Rattle.std.specs.List.{list_all}
 use Rattle.std.specs.Str.{IsUtf8, IsAscii}
 use Rattle.ca_text.specs.Text.{is_name_char}
-use Rattle.ca_text.specs.Reading.{name_length, name_at}
+use Rattle.ca_text.specs.Inner.Reading.{name_length, name_at}
 use Rattle.ca_text.proofs.Tools.{guarded, both, pair_is}
 
 pub name_ascii : (name : List ℕ) → list_all is_name_char name ≡ true → IsAscii name

@@ -5,9 +5,10 @@ use Rattle.std.proofs.lemmas.Bool.Decides.{nat_tests}
 use Rattle.std.specs.List.{list_all}
 use Rattle.std.specs.Char.{is_ascii_digit, digit_value, is_ascii_lowercase}
 use Rattle.std.specs.Str.Parse.{AllDigits, IsNumeral, digits_value, digits_value_after}
+use Rattle.ca_text.specs.Bytes.{digit_zero, minus_sign}
 use Rattle.ca_text.specs.Text.{is_name_char, has_plain_form}
 use Rattle.ca_text.specs.Grammar.{is_blank, AreBlanks, IsInteger, FromZero, Negative, takes_in, IsWhole, skip}
-use Rattle.ca_text.specs.Reading.{digits_after, number_at, negative_at, positive_at, integer_at, name_length, name_at}
+use Rattle.ca_text.specs.Inner.Reading.{digits_after, number_at, negative_at, positive_at, integer_at, name_length, name_at}
 use Rattle.ca_text.proofs.Tools.{bind_ok, chosen, guarded, both, pair_is}
 
 -- blanks stand at the front
@@ -36,7 +37,7 @@ abbrev pub EndsName : List ℕ → Type 0
 EndsName [] = Unit {0}
 EndsName (b ∷ bytes) = is_name_char b ≡ false
 
-digit_worth : (b : ℕ) → is_ascii_digit b ≡ true → (digit_value b ≡ b - 48) × (digit_value b < 10)
+digit_worth : (b : ℕ) → is_ascii_digit b ≡ true → (digit_value b ≡ b - digit_zero) × (digit_value b < 10)
 digit_worth b h = (grind (arith, nat_tests), grind (arith, nat_tests))
 
 -- digits stand at the front, behind others worth n
@@ -56,8 +57,8 @@ digits_taken most n [] value rest e =
     record { digits = []; whole = p.1; all = tt; value_is = p.0; bounded = λ h. omega (arith, p.0); ends = subst EndsDigits p.1 tt }
 digits_taken most n (b ∷ bytes) value rest e =
     ⊎_elim
-    (λ h. let g = guarded (leb (n * 10 + (b - 48)) most) _ _ (value, rest) h.1 in
-    let r = digits_taken most (n * 10 + (b - 48)) bytes value rest g.1 in
+    (λ h. let g = guarded (leb (n * 10 + (b - digit_zero)) most) _ _ (value, rest) h.1 in
+    let r = digits_taken most (n * 10 + (b - digit_zero)) bytes value rest g.1 in
     let d = digit_worth b h.0 in
     record {
       digits = b ∷ r.digits;
@@ -104,7 +105,7 @@ whole_by text [] h = tt
 whole_by text (b ∷ rest) h = h b
 
 number_whole : (c b : ℕ) (text : List ℕ) → (is_ascii_lowercase c ≡ false) → is_ascii_digit b ≡ false → takes_in (c ∷ text) b ≡ false
-number_whole c b text h e = rw (h, e) (and_false (is_ascii_digit c || eqb c 45))
+number_whole c b text h e = rw (h, e) (and_false (is_ascii_digit c || eqb c minus_sign))
 
 whole_digits : (c : ℕ) (text rest : List ℕ) → is_ascii_lowercase c ≡ false → EndsDigits rest → IsWhole (c ∷ text) rest
 whole_digits c text [] h e = tt
@@ -124,17 +125,17 @@ pub record IsIntegerAt (bytes : List ℕ) (n : ℤ) (rest : List ℕ) : Type 0 w
   pub is : IsInteger text n
   pub ends : IsWhole text rest
 
-negative_taken : (bytes : List ℕ) (n : ℤ) (rest : List ℕ) → negative_at bytes ≡ Ok (n, rest) → IsIntegerAt (45 ∷ bytes) n rest
+negative_taken : (bytes : List ℕ) (n : ℤ) (rest : List ℕ) → negative_at bytes ≡ Ok (n, rest) → IsIntegerAt (minus_sign ∷ bytes) n rest
 negative_taken bytes n rest e =
     let s = bind_ok (number_at (2 ^ 63) bytes) (λ x. Ok (neg_ℤ (pos x.0), x.1)) (n, rest) e in
     let p = pair_is (neg_ℤ (pos s.0.0)) s.0.1 n rest s.2 in
     let r = number_taken (2 ^ 63) bytes s.0.0 s.0.1 s.1 in
     let same : neg_ℤ (pos (digits_value 10 r.digits)) ≡ n = ap (λ x. neg_ℤ (pos x)) r.value_is ∙ p.0 in
     record {
-      text = 45 ∷ r.digits;
-      whole = ap (λ x. 45 ∷ x) (r.whole ∙ ap (λ x. r.digits ++ x) p.1);
-      is = subst (λ x. IsInteger (45 ∷ r.digits) x) same (Negative r.digits r.numeral (omega (arith, r.value_is, r.bounded)));
-      ends = whole_digits 45 r.digits rest refl (subst EndsDigits p.1 r.ends);
+      text = minus_sign ∷ r.digits;
+      whole = ap (λ x. minus_sign ∷ x) (r.whole ∙ ap (λ x. r.digits ++ x) p.1);
+      is = subst (λ x. IsInteger (minus_sign ∷ r.digits) x) same (Negative r.digits r.numeral (omega (arith, r.value_is, r.bounded)));
+      ends = whole_digits minus_sign r.digits rest refl (subst EndsDigits p.1 r.ends);
     }
 
 positive_taken : (bytes : List ℕ) (n : ℤ) (rest : List ℕ) → positive_at bytes ≡ Ok (n, rest) → IsIntegerAt bytes n rest
@@ -155,9 +156,9 @@ unfolding integer_at
 integer_taken [] n rest e = absurd cc
 integer_taken (b ∷ bytes) n rest e =
     ⊎_elim
-    (λ h. let same = eqb-true b 45 h.0 in subst (λ x. IsIntegerAt (x ∷ bytes) n rest) (sym same) (negative_taken bytes n rest h.1))
+    (λ h. let same = eqb-true b minus_sign h.0 in subst (λ x. IsIntegerAt (x ∷ bytes) n rest) (sym same) (negative_taken bytes n rest h.1))
     (λ h. positive_taken (b ∷ bytes) n rest h.1)
-    (chosen (eqb b 45) _ _ (Ok (n, rest)) e)
+    (chosen (eqb b minus_sign) _ _ (Ok (n, rest)) e)
 
 pub names_all : (bytes : List ℕ) → list_all is_name_char (take (name_length bytes) bytes) ≡ true
 unfolding name_length

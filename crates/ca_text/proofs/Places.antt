@@ -4,19 +4,21 @@ use Rattle.std.proofs.Math.Seq.{take-append-add}
 use Rattle.std.proofs.lemmas.Bool.{leb-true, leb-false}
 use Rattle.std.proofs.lemmas.List.{take-append-le}
 use Rattle.ca_term.specs.Tree.{Integer}
+use Rattle.ca_text.specs.Bytes.{digit_zero}
 use Rattle.ca_text.specs.declared.fault.Fault.{Fault}
 use Rattle.ca_text.specs.declared.fault.Stop.{Stop}
 use Rattle.ca_text.specs.declared.fault.Stop.TheVariants as stop
 use Rattle.ca_text.specs.Front.{Begins, IsLongestStart}
 use Rattle.ca_text.specs.Grammar.{Limits, standard, IsTextOf}
-use Rattle.ca_text.specs.Place.{IsWithin}
-use Rattle.ca_text.specs.Reading.{Fails, term_at}
-use Rattle.ca_text.proofs.Local.{place}
-use Rattle.ca_text.proofs.LocalParts.{either_way}
+use Rattle.ca_text.specs.Inner.Place.{IsWithin}
+use Rattle.ca_text.specs.Inner.Reading.{Fails, term_at}
+use Rattle.ca_text.proofs.Local.{place, stuck}
+use Rattle.ca_text.proofs.Tools.{either_way}
 use Rattle.ca_text.proofs.LocalTerms.{term_local}
 use Rattle.ca_text.proofs.Complete.{term_again}
 use Rattle.ca_text.proofs.Halts.{GoesOn}
 use Rattle.ca_text.proofs.HaltsTerms.{zero_text}
+use Rattle.ca_text.specs.declared.bounds.TheConstants.{MOST_LEVELS}
 use Rattle.ca_text.proofs.HaltsOthers.{term_halts}
 
 take_take : (k n : ℕ) (bytes : List ℕ) → k ≤ n → take k (take n bytes) ≡ take k bytes
@@ -49,14 +51,14 @@ module _ (limits : Limits) (levels : ℕ) where
       let text : IsTextOf limits levels (front ++ c ∷ b.0) b.1 = subst (λ x. IsTextOf limits levels x b.1) cut b.2 in
       let read : term_at limits levels (front ++ c ∷ b.0) ≡ Ok (b.1, []) =
       ap (term_at limits levels) (sym (append-nil (front ++ c ∷ b.0))) ∙ term_again limits levels (front ++ c ∷ b.0) b.1 [] text tt in
-      let stuck = again c behind b.0 refl in
+      let here = again c behind b.0 refl in
       absurd cc
 
   -- with the byte at a fault's place no text begins
   pub ends : (bytes : List ℕ) (f : Fault) → term_at limits levels bytes ≡ Err f → length bytes - f.left < length bytes
       → Begins limits levels (take (length bytes - f.left + 1) bytes) → ⊥
   ends bytes f e less b =
-      let s = (term_local limits levels bytes).stuck f e in
+      let s = stuck (term_at limits levels) bytes (term_local limits levels bytes) f e in
       let long : length bytes ≡ length s.front + length s.behind = ap (λ (l : List ℕ). length l) s.whole ∙ length-append s.front s.behind in
       let left : f.left ≡ length s.behind = ap (λ (g : Fault). g.left) s.is in
       let at : length bytes - f.left ≡ length s.front = omega (arith, long, left) in
@@ -64,7 +66,7 @@ module _ (limits : Limits) (levels : ℕ) where
 
   pub within_by : (bytes : List ℕ) (f : Fault) → term_at limits levels bytes ≡ Err f → f.left ≤ length bytes
   within_by bytes f e =
-      let s = (term_local limits levels bytes).stuck f e in
+      let s = stuck (term_at limits levels) bytes (term_local limits levels bytes) f e in
       omega (arith, ap (λ (l : List ℕ). length l) s.whole, length-append s.front s.behind, ap (λ (g : Fault). g.left) s.is)
 
   -- the bytes before it begin a text
@@ -73,17 +75,17 @@ module _ (limits : Limits) (levels : ℕ) where
   begins_before bytes f k e few =
       let h = term_halts limits (suc levels) bytes f e in
       let long : length bytes ≡ length h.front + length h.behind = ap (λ (l : List ℕ). length l) h.whole ∙ length-append h.front h.behind in
-      let zero_begins : Begins limits (suc levels) [] = (48 ∷ [], Integer (pos 0), zero_text limits levels) in
+      let zero_begins : Begins limits (suc levels) [] = (digit_zero ∷ [], Integer (pos 0), zero_text limits levels) in
       let goes : Begins limits (suc levels) h.front =
       ⊎_elim (λ none. subst (λ x. Begins limits (suc levels) x) (sym none) zero_begins)
       (λ (g : GoesOn (IsTextOf limits (suc levels)) h.front). g) h.goes_on in
       begins_front limits (suc levels) k bytes h.front h.behind h.whole (omega (arith, few, long, h.left)) goes
 
-pub start_is : (bytes : List ℕ) (f : Fault) → term_at standard 64 bytes ≡ Err f → IsLongestStart bytes (length bytes - f.left)
+pub start_is : (bytes : List ℕ) (f : Fault) → term_at standard MOST_LEVELS bytes ≡ Err f → IsLongestStart bytes (length bytes - f.left)
 start_is bytes f e = record {
   within = omega arith;
-  begins = begins_before standard 63 bytes f (length bytes - f.left) e (omega (arith, within_by standard 64 bytes f e));
-  ends = ends standard 64 bytes f e;
+  begins = begins_before standard (MOST_LEVELS - 1) bytes f (length bytes - f.left) e (omega (arith, within_by standard MOST_LEVELS bytes f e));
+  ends = ends standard MOST_LEVELS bytes f e;
 }
 
 -- one place is the longest start's end
@@ -93,11 +95,11 @@ start_least bytes at other one two =
     (λ h. let less : other < at = leb-false at other h in
     let first : take (other + 1) (take at bytes) ≡ take (other + 1) bytes = take_take (other + 1) at bytes (omega (arith, less)) in
     absurd (two.ends (omega (arith, less, one.within))
-    (subst (λ x. Begins standard 64 x) first (begins_cut standard 64 (other + 1) (take at bytes) one.begins))))
+    (subst (λ x. Begins standard MOST_LEVELS x) first (begins_cut standard MOST_LEVELS (other + 1) (take at bytes) one.begins))))
 
 pub start_sure : (bytes : List ℕ) (at other : ℕ) → IsLongestStart bytes at → IsLongestStart bytes other → at ≡ other
 start_sure bytes at other one two = omega (arith, start_least bytes at other one two, start_least bytes other at two one)
 
-pub within : (bytes : List ℕ) (e : Stop) → Fails e (term_at standard 64 bytes) → IsWithin e (length bytes)
+pub within : (bytes : List ℕ) (e : Stop) → Fails e (term_at standard MOST_LEVELS bytes) → IsWithin e (length bytes)
 within bytes stop.NoMemory e = tt
-within bytes (stop.At f) e = within_by standard 64 bytes f e
+within bytes (stop.At f) e = within_by standard MOST_LEVELS bytes f e

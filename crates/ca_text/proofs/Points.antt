@@ -1,133 +1,263 @@
--- What is read as a code point in UTF-8 is that code point's text, and that text is read.
-use Rattle.std.proofs.Common.{◌≡◌, ℕ, ◌+◌, ◌-◌, ◌*◌, ◌/◌, ◌%◌, ◌<◌, ◌≤◌, ltb, leb, ◌&&◌, List, [], ◌∷◌, ◌++◌, Ok, refl, le-ltb, lt-ltb, arith, ⊎_elim}
-use Rattle.std.proofs.lemmas.Bool.{ltb-true, ltb-false, leb-true}
+-- The code point in UTF-8 at the front of some bytes: it is read, or the fault stands behind the longest start of one.
+use Rattle.std.proofs.Common.{◌≡◌, ℕ, ◌+◌, ◌<◌, ◌≤◌, ◌/◌, true, false, leb, ltb, ◌&&◌, List, [], ◌∷◌, ◌++◌, length, take, drop, slice_index, Option, None, Some, Result, Ok, Err, refl, sym, ap, subst, ◌∙◌, append_assoc, append-nil, arith, ◌⊎◌, inl, inr, ⊎_elim, length-append, length-drop, length-take-le, take-append-drop, get_or}
+use Rattle.std.proofs.Math.Seq.{drop-append_seam}
+use Rattle.std.proofs.lemmas.List.{drop_more, take_more}
+use Rattle.std.proofs.lemmas.Bool.{cases_lt, le-leb, leb-true}
 use Rattle.std.proofs.lemmas.Bool.Decides.{nat_tests}
+use Rattle.std.proofs.str.Laws.{one, two, three, four}
 use Rattle.std.specs.Char.{encode_utf8, IsScalar}
-use Rattle.ca_text.specs.Reading.{◌>>=◌, byte_between, inner_byte, two_at, three_at, four_at, point_at, least_of_three, end_of_three, least_of_four, end_of_four}
-use Rattle.ca_text.proofs.Tools.{bind_ok, chosen, guarded, spared, both, pair_is}
+use Rattle.bstr.specs.Utf8.{Decoded, decoded}
+use Rattle.bstr.proofs.lemmas.EncodeLemmas.{decoded-encode}
+use Rattle.bstr.proofs.lemmas.PieceLemmas.{piece-bounds}
+use Rattle.bstr.proofs.lemmas.SoundLemmas.{SpellsChar-decoded}
+use Rattle.ca_term.specs.Character.{IsNoCharacter}
+use Rattle.ca_term.proofs.Characters.{no_lead, no_character}
+use Rattle.ca_text.specs.declared.fault.Fault.{Fault}
+use Rattle.ca_text.specs.declared.fault.Why.TheVariants.{Syntax}
+use Rattle.ca_text.specs.Inner.Reading.{Read, syntax_fault, begun, point_of, point_at}
+use Rattle.ca_text.proofs.Tools.{both, either_way, pair_is}
+use Rattle.ca_text.proofs.Halts.{Halts, Reads}
+use Rattle.ca_text.proofs.Local.{IsLocal, err_is, place}
 
-pub record IsByte (low high : ℕ) (bytes : List ℕ) (b : ℕ) (rest : List ℕ) : Type 0 where
-  pub whole : bytes ≡ b ∷ rest
-  pub low_enough : low ≤ b
-  pub high_enough : b < high
-
-pub byte_taken : (low high : ℕ) (bytes : List ℕ) (b : ℕ) (rest : List ℕ) → byte_between low high bytes ≡ Ok (b, rest) → IsByte low high bytes b rest
-unfolding byte_between
-byte_taken low high [] b rest e = absurd cc
-byte_taken low high (c ∷ bytes) b rest e =
-    let g = guarded (leb low c && ltb c high) _ (Ok (c, bytes)) (b, rest) e in
-    let t = both (leb low c) (ltb c high) g.0 in
-    let p = pair_is c bytes b rest g.1 in
-    record { whole = cc; low_enough = omega (arith, p.0, leb-true low c t.0); high_enough = omega (arith, p.0, ltb-true c high t.1) }
-
-pub inner_taken : (bytes : List ℕ) (b : ℕ) (rest : List ℕ) → inner_byte bytes ≡ Ok (b, rest) → IsByte 128 192 bytes b rest
-unfolding inner_byte
-inner_taken bytes b rest e = byte_taken 128 192 bytes b rest e
-
--- the code point c is read at the front
+-- the code point c stands at the front
 pub record IsPointOf (bytes : List ℕ) (c : ℕ) (rest : List ℕ) : Type 0 where
   pub whole : bytes ≡ encode_utf8 c ++ rest
   pub scalar : IsScalar c
 
-encode_1 : (b : ℕ) → b < 0x80 → IsScalar b × (encode_utf8 b ≡ b ∷ [])
-unfolding encode_utf8
-encode_1 b low = (grind (arith, nat_tests), rw (lt-ltb b 128 low) refl)
+-- The bytes in front begin a code point, and with the first one behind they begin none.
+pub record BeginsPoint (front behind : List ℕ) : Type 0 where
+  pub point : ℕ
+  pub scalar : IsScalar point
+  pub next : ℕ
+  pub rest : List ℕ
+  pub begins : encode_utf8 point ≡ front ++ next ∷ rest
+  pub ends : (d : ℕ) (r : List ℕ) → behind ≡ d ∷ r → (c : ℕ) (more : List ℕ) → IsScalar c → encode_utf8 c ≡ front ++ d ∷ more → ⊥
 
-encode_2 : (b c x : ℕ) → 0xC2 ≤ b → b < 0xE0 → 128 ≤ c → c < 192 → (b - 192) * 64 + (c - 128) ≡ x → IsScalar x × (encode_utf8 x ≡ b ∷ c ∷ [])
-unfolding encode_utf8
-encode_2 b c x low high c_low c_high e =
-    let first : 192 + x / 64 ≡ b = omega arith in
-    let last : 128 + x % 64 ≡ c = omega arith in (
-      grind (arith, nat_tests),
-      rw (le-ltb x 128 (omega arith), lt-ltb x 2048 (omega arith), first, last) refl,
-    )
+-- A code point's UTF-8 is read, whatever follows.
+pub point_again : (c : ℕ) (rest : List ℕ) → IsScalar c → point_at (encode_utf8 c ++ rest) ≡ Ok (c, rest)
+unfolding point_at point_of
+point_again c rest is =
+    let bytes = encode_utf8 c ++ rest in
+    let d = decoded-encode c rest is in
+    ap (λ (p : Decoded). point_of p.char bytes) d ∙ ap (λ (p : Decoded). Ok (c, drop p.size bytes)) d
+    ∙ ap (λ (x : List ℕ). Ok (c, x)) (drop-append_seam (encode_utf8 c) rest)
 
-encode_3 : (b c d x : ℕ) → 0xE0 ≤ b → b < 0xF0 → 128 ≤ c → c < 192 → (b ≡ 0xE0 → 160 ≤ c) → (b ≡ 0xED → c < 160) → 128 ≤ d → d < 192
-    → ((b - 224) * 64 + (c - 128)) * 64 + (d - 128) ≡ x → IsScalar x × (encode_utf8 x ≡ b ∷ c ∷ d ∷ [])
-unfolding encode_utf8
-encode_3 b c d x low high c_low c_high narrow_low narrow_high d_low d_high e =
-    let bounds : (2048 ≤ x) × (x < 65536) × (55296 ≤ x → 57344 ≤ x) = (grind arith, omega arith, λ h. grind arith) in
-    let first : 224 + x / 4096 ≡ b = omega arith in
-    let middle : 128 + (x / 64) % 64 ≡ c = omega arith in
-    let last : 128 + x % 64 ≡ d = omega arith in (
-      grind (arith, nat_tests),
-      rw (le-ltb x 128 (omega arith), le-ltb x 2048 (omega arith), lt-ltb x 65536 (omega arith), first, middle, last) refl,
-    )
+-- a code point is read
+pub record PointRead (bytes : List ℕ) : Type 0 where
+  pub point : ℕ
+  pub rest : List ℕ
+  pub is : IsPointOf bytes point rest
+  pub read : point_at bytes ≡ Ok (point, rest)
 
-encode_4 : (b c d f x : ℕ) → 0xF0 ≤ b → b < 0xF5 → 128 ≤ c → c < 192 → (b ≡ 0xF0 → 144 ≤ c) → (b ≡ 0xF4 → c < 144) → 128 ≤ d → d < 192 → 128 ≤ f → f < 192
-    → (((b - 240) * 64 + (c - 128)) * 64 + (d - 128)) * 64 + (f - 128) ≡ x → IsScalar x × (encode_utf8 x ≡ b ∷ c ∷ d ∷ f ∷ [])
-unfolding encode_utf8
-encode_4 b c d f x low high c_low c_high narrow_low narrow_high d_low d_high f_low f_high e =
-    let bounds : (65536 ≤ x) × (x < 1114112) = (grind arith, grind arith) in
-    let first : 240 + x / 262144 ≡ b = omega arith in
-    let next : 128 + (x / 4096) % 64 ≡ c = omega arith in
-    let middle : 128 + (x / 64) % 64 ≡ d = omega arith in
-    let last : 128 + x % 64 ≡ f = omega arith in (
-      grind (arith, nat_tests),
-      rw (le-ltb x 128 (omega arith), le-ltb x 2048 (omega arith), le-ltb x 65536 (omega arith), first, next, middle, last) refl,
-    )
+-- none is read
+pub record PointStuck (bytes : List ℕ) : Type 0 where
+  pub front : List ℕ
+  pub behind : List ℕ
+  pub whole : bytes ≡ front ++ behind
+  pub is : BeginsPoint front behind
+  pub read : point_at bytes ≡ syntax_fault behind
+  -- the first byte is taken where it begins code points of several bytes
+  pub lead : 0xc2 ≤ slice_index bytes 0 → slice_index bytes 0 ≤ 0xf4 → 0 < length front
 
--- c is what some bytes at the front write
-point_of : (bytes front : List ℕ) (c x : ℕ) (rest : List ℕ) → bytes ≡ front ++ rest → IsScalar x × (encode_utf8 x ≡ front) → x ≡ c → IsPointOf bytes c rest
-point_of bytes front c x rest whole h same = record { whole = rw (← same, h.1) whole; scalar = rw (← same) h.0 }
+begins_at : (bytes : List ℕ) (at : ℕ) → IsNoCharacter bytes at → BeginsPoint (take at bytes) (drop at bytes)
+begins_at bytes at n = record {
+  point = n.char;
+  scalar = n.is_scalar;
+  next = n.next;
+  rest = n.rest;
+  begins = n.begins;
+  ends = λ d r e c more is h.
+      let some : at < length bytes = omega (arith, length-drop at bytes, ap (λ (x : List ℕ). length x) e) in
+      let last : get_or bytes at 0 ≡ d = let w = drop_more bytes at 0 some in cc in
+      let longer : take (at + 1) bytes ++ more ≡ take at bytes ++ d ∷ more =
+      ap (λ x. x ++ more) (take_more bytes at 0 some ∙ ap (λ x. take at bytes ++ x ∷ []) last) ∙ append_assoc (take at bytes) (d ∷ []) more in
+      n.no_longer some c more is (h ∙ sym longer);
+}
 
-two_taken : (b : ℕ) (bytes : List ℕ) (c : ℕ) (rest : List ℕ) → 0xC2 ≤ b → b < 0xE0 → two_at b bytes ≡ Ok (c, rest) → IsPointOf (b ∷ bytes) c rest
-unfolding two_at
-two_taken b bytes c rest low high e =
-    let s = bind_ok (inner_byte bytes) (λ s. Ok ((b - 192) * 64 + (s.0 - 128), s.1)) (c, rest) e in
-    let i = inner_taken bytes s.0.0 s.0.1 s.1 in
-    let p = pair_is _ _ _ _ s.2 in
-    let whole : b ∷ bytes ≡ (b ∷ s.0.0 ∷ []) ++ rest = let w = i.whole in let q = p.1 in cc in
-    point_of (b ∷ bytes) _ c _ rest whole (encode_2 b s.0.0 _ low high i.low_enough i.high_enough refl) p.0
+begun_is : (bytes : List ℕ) → (decoded bytes).char ≡ None → IsNoCharacter bytes (begun bytes)
+unfolding begun
+begun_is bytes none = either_way (leb 0xc2 (slice_index bytes 0) && leb (slice_index bytes 0) 0xf4)
+    (λ h. let t = both _ _ h in rw h (no_character bytes (decoded bytes).size none refl (leb-true _ _ t.0) (leb-true _ _ t.1)))
+    (λ h. rw h (no_lead bytes none (λ p. grind (arith, nat_tests))))
 
-bounds_of_three : (b c : ℕ) → least_of_three b ≤ c → c < end_of_three b → (128 ≤ c) × (c < 192) × (b ≡ 0xE0 → 160 ≤ c) × (b ≡ 0xED → c < 160)
-bounds_of_three b c low high = (grind (arith, nat_tests), grind (arith, nat_tests), λ e. rw e at low, λ e. rw e at high)
+begun_some : (bytes : List ℕ) → 0xc2 ≤ slice_index bytes 0 → slice_index bytes 0 ≤ 0xf4 → 0 < length (take (begun bytes) bytes)
+unfolding begun
+begun_some [] low high = absurd (omega arith)
+begun_some (b ∷ bytes) low high =
+    let size = piece-bounds (b ∷ bytes) (omega arith) in
+    rw (le-leb 0xc2 b low, le-leb b 0xf4 high) (omega (arith, size.0, length-take-le (decoded (b ∷ bytes)).size (b ∷ bytes) size.2))
 
-bounds_of_four : (b c : ℕ) → least_of_four b ≤ c → c < end_of_four b → (128 ≤ c) × (c < 192) × (b ≡ 0xF0 → 144 ≤ c) × (b ≡ 0xF4 → c < 144)
-bounds_of_four b c low high = (grind (arith, nat_tests), grind (arith, nat_tests), λ e. rw e at low, λ e. rw e at high)
+point_by : (bytes : List ℕ) (o : Option ℕ) → (decoded bytes).char ≡ o → PointRead bytes ⊎ PointStuck bytes
+unfolding point_at point_of
+point_by bytes (Some c) e =
+    let s = SpellsChar-decoded bytes c e in
+    inl (record {
+      point = c;
+      rest = drop (decoded bytes).size bytes;
+      is = record { whole = s.bytes; scalar = s.scalar };
+      read = ap (λ o. point_of o bytes) e;
+    })
+point_by bytes None e =
+    inr (record {
+      front = take (begun bytes) bytes;
+      behind = drop (begun bytes) bytes;
+      whole = sym (take-append-drop (begun bytes) bytes);
+      is = begins_at bytes (begun bytes) (begun_is bytes e);
+      read = ap (λ o. point_of o bytes) e;
+      lead = begun_some bytes;
+    })
 
-three_taken : (b : ℕ) (bytes : List ℕ) (c : ℕ) (rest : List ℕ) → 0xE0 ≤ b → b < 0xF0 → three_at b bytes ≡ Ok (c, rest) → IsPointOf (b ∷ bytes) c rest
-unfolding three_at
-three_taken b bytes c rest low high e =
-    let s = bind_ok (byte_between (least_of_three b) (end_of_three b) bytes)
-    (λ s. inner_byte s.1 >>= λ d. Ok (((b - 224) * 64 + (s.0 - 128)) * 64 + (d.0 - 128), d.1)) (c, rest) e in
-    let d = bind_ok (inner_byte s.0.1) (λ d. Ok (((b - 224) * 64 + (s.0.0 - 128)) * 64 + (d.0 - 128), d.1)) (c, rest) s.2 in
-    let i = byte_taken _ _ bytes s.0.0 s.0.1 s.1 in
-    let j = inner_taken s.0.1 d.0.0 d.0.1 d.1 in
-    let p = pair_is _ _ _ _ d.2 in
-    let bounds = bounds_of_three b s.0.0 i.low_enough i.high_enough in
-    let whole : b ∷ bytes ≡ (b ∷ s.0.0 ∷ d.0.0 ∷ []) ++ rest = let w = i.whole in let v = j.whole in let q = p.1 in cc in
-    point_of (b ∷ bytes) _ c _ rest whole (encode_3 b s.0.0 d.0.0 _ low high bounds.0 bounds.1 bounds.2 bounds.3 j.low_enough j.high_enough refl) p.0
+-- The first code point is read, or none is.
+pub point_cases : (bytes : List ℕ) → PointRead bytes ⊎ PointStuck bytes
+point_cases bytes = point_by bytes (decoded bytes).char refl
 
-four_taken : (b : ℕ) (bytes : List ℕ) (c : ℕ) (rest : List ℕ) → 0xF0 ≤ b → b < 0xF5 → four_at b bytes ≡ Ok (c, rest) → IsPointOf (b ∷ bytes) c rest
-unfolding four_at
-four_taken b bytes c rest low high e =
-    let value : ℕ → ℕ → ℕ → ℕ = λ x y z. (((b - 240) * 64 + (x - 128)) * 64 + (y - 128)) * 64 + (z - 128) in
-    let s = bind_ok (byte_between (least_of_four b) (end_of_four b) bytes)
-    (λ s. inner_byte s.1 >>= λ d. inner_byte d.1 >>= λ f. Ok (value s.0 d.0 f.0, f.1)) (c, rest) e in
-    let d = bind_ok (inner_byte s.0.1) (λ d. inner_byte d.1 >>= λ f. Ok (value s.0.0 d.0 f.0, f.1)) (c, rest) s.2 in
-    let f = bind_ok (inner_byte d.0.1) (λ f. Ok (value s.0.0 d.0.0 f.0, f.1)) (c, rest) d.2 in
-    let i = byte_taken _ _ bytes s.0.0 s.0.1 s.1 in
-    let j = inner_taken s.0.1 d.0.0 d.0.1 d.1 in
-    let k = inner_taken d.0.1 f.0.0 f.0.1 f.1 in
-    let p = pair_is _ _ _ _ f.2 in
-    let bounds = bounds_of_four b s.0.0 i.low_enough i.high_enough in
-    let whole : b ∷ bytes ≡ (b ∷ s.0.0 ∷ d.0.0 ∷ f.0.0 ∷ []) ++ rest = let w = i.whole in let v = j.whole in let u = k.whole in let q = p.1 in cc in
-    point_of (b ∷ bytes) _ c _ rest whole (encode_4 b s.0.0 d.0.0 f.0.0 _ low high bounds.0 bounds.1 bounds.2 bounds.3 j.low_enough j.high_enough k.low_enough k.high_enough refl) p.0
-
+-- What is read as a code point in UTF-8 is one.
 pub point_taken : (bytes : List ℕ) (c : ℕ) (rest : List ℕ) → point_at bytes ≡ Ok (c, rest) → IsPointOf bytes c rest
-unfolding point_at
-point_taken [] c rest e = absurd cc
-point_taken (b ∷ bytes) c rest e =
+point_taken bytes c rest e =
     ⊎_elim
-    (λ h. let p = pair_is b bytes c rest h.1 in let low = ltb-true b 0x80 h.0 in point_of (b ∷ bytes) (b ∷ []) c b rest (rw p.1 refl) (encode_1 b low) p.0)
-    (λ h. let g = spared (ltb b 0xc2) _ _ (c, rest) h.1 in
-    let low = ltb-false b 0xc2 g.0 in
+    (λ (p : PointRead bytes). let q = pair_is p.point p.rest c rest (sym p.read ∙ e) in
+    record { whole = rw (← q.0, ← q.1) p.is.whole; scalar = rw (← q.0) p.is.scalar })
+    (λ (s : PointStuck bytes). let no = s.read in absurd cc)
+    (point_cases bytes)
+
+-- ---- where none is read
+
+-- the bytes of two lists in a row that are the same, where the first of one is longer
+record Longer (u v xs ys : List ℕ) : Type 0 where
+  more : List ℕ
+  left : v ≡ u ++ more
+  right : xs ≡ more ++ ys
+
+overlap : (u v xs ys : List ℕ) → u ++ xs ≡ v ++ ys → Longer u v xs ys ⊎ Longer v u ys xs
+overlap [] v xs ys e = inl (record { more = v; left = refl; right = e })
+overlap (a ∷ u) [] xs ys e = inr (record { more = a ∷ u; left = refl; right = sym e })
+overlap (a ∷ u) (b ∷ v) xs ys e =
+    let first : a ≡ b = cc in
+    let rest : u ++ xs ≡ v ++ ys = cc in
     ⊎_elim
-    (λ h2. two_taken b bytes c rest low (ltb-true b 0xe0 h2.0) h2.1)
-    (λ h2. ⊎_elim
-    (λ h3. three_taken b bytes c rest (ltb-false b 0xe0 h2.0) (ltb-true b 0xf0 h3.0) h3.1)
-    (λ h3. let g4 = guarded (ltb b 0xf5) _ (four_at b bytes) (c, rest) h3.1 in four_taken b bytes c rest (ltb-false b 0xf0 h3.0) (ltb-true b 0xf5 g4.0) g4.1)
-    (chosen (ltb b 0xf0) _ _ (Ok (c, rest)) h2.1))
-    (chosen (ltb b 0xe0) _ _ (Ok (c, rest)) g.1))
-    (chosen (ltb b 0x80) (Ok (b, bytes)) _ (Ok (c, rest)) e)
+    (λ (l : Longer u v xs ys). inl (record { more = l.more; left = (let k = l.left in cc); right = l.right }))
+    (λ (l : Longer v u ys xs). inr (record { more = l.more; left = (let k = l.left in cc); right = l.right }))
+    (overlap u v xs ys rest)
+
+-- No code point's UTF-8 is another's and more.
+no_more : (c d : ℕ) (more : List ℕ) → 0 < length more → IsScalar c → IsScalar d → encode_utf8 c ≡ encode_utf8 d ++ more → ⊥
+no_more c d more some is other e =
+    let one : point_at (encode_utf8 c) ≡ Ok (c, []) = ap point_at (sym (append-nil (encode_utf8 c))) ∙ point_again c [] is in
+    let q = pair_is c [] d more (sym one ∙ ap point_at e ∙ point_again d more other) in
+    omega (arith, some, ap (λ (x : List ℕ). length x) q.1)
+
+-- Of two longest starts of code points none is longer.
+no_further : (front behind other rest more : List ℕ) → BeginsPoint front behind → BeginsPoint other rest → other ≡ front ++ more → behind ≡ more ++ rest
+    → behind ≡ rest
+no_further front behind other rest [] a b l r = r
+no_further front behind other rest (d ∷ more) a b l r =
+    absurd (a.ends d (more ++ rest) r b.point (more ++ b.next ∷ b.rest) b.scalar
+    (b.begins ∙ ap (λ x. x ++ b.next ∷ b.rest) l ∙ append_assoc front (d ∷ more) (b.next ∷ b.rest)))
+
+module _ (front behind : List ℕ) (a : BeginsPoint front behind) where
+  -- A longest start and more is no code point.
+  not_longer : (c : ℕ) (rest more : List ℕ) → IsScalar c → encode_utf8 c ≡ front ++ more → behind ≡ more ++ rest → ⊥
+  not_longer c rest [] is l r =
+      no_more a.point c (a.next ∷ a.rest) (omega arith) a.scalar is (a.begins ∙ ap (λ x. x ++ a.next ∷ a.rest) (sym (l ∙ append-nil front)))
+  not_longer c rest (d ∷ more) is l r = a.ends d (more ++ rest) r c more is l
+
+  -- No code point begins a longest start.
+  not_shorter : (c : ℕ) (more : List ℕ) → IsScalar c → front ≡ encode_utf8 c ++ more → ⊥
+  not_shorter c more is l =
+      no_more a.point c (more ++ a.next ∷ a.rest) (omega (arith, length-append more (a.next ∷ a.rest))) a.scalar is
+      (a.begins ∙ ap (λ x. x ++ a.next ∷ a.rest) l ∙ append_assoc (encode_utf8 c) more (a.next ∷ a.rest))
+
+  -- Where some bytes begin a code point, and none with the next byte, no code point is read, and the fault stands behind them.
+  pub no_point : point_at (front ++ behind) ≡ syntax_fault behind
+  no_point =
+      ⊎_elim
+      (λ (p : PointRead (front ++ behind)). absurd (⊎_elim
+      (λ (l : Longer front (encode_utf8 p.point) behind p.rest). not_longer p.point p.rest l.more p.is.scalar l.left l.right)
+      (λ (l : Longer (encode_utf8 p.point) front p.rest behind). not_shorter p.point l.more p.is.scalar l.left)
+      (overlap front (encode_utf8 p.point) behind p.rest p.is.whole)))
+      (λ (s : PointStuck (front ++ behind)). s.read ∙ ap (λ (x : List ℕ). Err (place Syntax x)) (⊎_elim
+      (λ (l : Longer front s.front behind s.behind). sym (no_further front behind s.front s.behind l.more a s.is l.left l.right))
+      (λ (l : Longer s.front front s.behind behind). no_further s.front s.behind front behind l.more s.is a l.left l.right)
+      (overlap front s.front behind s.behind s.whole)))
+      (point_cases (front ++ behind))
+
+-- Where bytes stop to be a character, the fault stands.
+pub point_refused : (bytes : List ℕ) (at : ℕ) → IsNoCharacter bytes at → point_at bytes ≡ syntax_fault (drop at bytes)
+point_refused bytes at n = ap point_at (sym (take-append-drop at bytes)) ∙ no_point (take at bytes) (drop at bytes) (begins_at bytes at n)
+
+-- What stands at the front is read.
+pub point_read : (bytes : List ℕ) (c : ℕ) (rest : List ℕ) → bytes ≡ encode_utf8 c ++ rest → IsScalar c → point_at bytes ≡ Ok (c, rest)
+point_read bytes c rest e is = ap point_at e ∙ point_again c rest is
+
+-- ---- the reader of code points is local, halts at what begins one, and keeps within the bytes
+
+-- No reader of code points looks further than the byte at a fault.
+pub point_local : IsLocal point_at
+point_local bytes =
+    ⊎_elim
+    (λ (p : PointRead bytes). (Ok p.point, record {
+      front = encode_utf8 p.point;
+      behind = p.rest;
+      whole = p.is.whole;
+      is = p.read;
+      again = λ c r s h. point_again p.point (c ∷ s) p.is.scalar;
+    }))
+    (λ (k : PointStuck bytes). (Err Syntax, record {
+      front = k.front;
+      behind = k.behind;
+      whole = k.whole;
+      is = k.read;
+      again = λ c r s h. no_point k.front (c ∷ s) (record {
+        point = k.is.point;
+        scalar = k.is.scalar;
+        next = k.is.next;
+        rest = k.is.rest;
+        begins = k.is.begins;
+        ends = λ d t e. let first : c ≡ d = cc in rw (← first) (k.is.ends c r h);
+      });
+    }))
+    (point_cases bytes)
+
+-- What is taken where no code point is read begins one.
+pub point_halts : Halts point_at (Reads point_at)
+point_halts bytes f e =
+    ⊎_elim
+    (λ (p : PointRead bytes). let no = p.read in absurd cc)
+    (λ (k : PointStuck bytes).
+    let again : point_at (k.front ++ k.is.next ∷ k.is.rest) ≡ Ok (k.is.point, []) =
+    ap point_at (sym k.is.begins ∙ sym (append-nil (encode_utf8 k.is.point))) ∙ point_again k.is.point [] k.is.scalar in
+    record {
+      front = k.front;
+      behind = k.behind;
+      whole = k.whole;
+      left = ap (λ (g : Fault). g.left) (err_is {A = ℕ × List ℕ} f (place Syntax k.behind) (sym e ∙ k.read));
+      goes_on = inr (k.is.next ∷ k.is.rest, k.is.point, again);
+    })
+    (point_cases bytes)
+
+-- ---- how a code point begins
+
+-- Its first byte is the code point itself, or a byte from 194 to 244.
+pub first_byte : (c : ℕ) → IsScalar c
+    → ((c < 128) × (encode_utf8 c ≡ c ∷ [])) ⊎ ((128 ≤ c) × (b : ℕ) × (cs : List ℕ) × (encode_utf8 c ≡ b ∷ cs) × (0xc2 ≤ b) × (b < 0xf5))
+first_byte c is =
+    let top : c < 1114112 = grind (arith, nat_tests) in
+    ⊎_elim (λ h. inl (h, one c h))
+    (λ h. inr (⊎_elim
+    (λ i. (h, 192 + c / 64, _, two c h i, omega arith, omega arith))
+    (λ i. ⊎_elim (λ j. (h, 224 + c / 4096, _, three c i j, omega arith, omega arith)) (λ j. (h, 240 + c / 262144, _, four c j, omega arith, omega arith)) (cases_lt c 65536))
+    (cases_lt c 2048)))
+    (cases_lt c 128)
+
+-- No code point's UTF-8 is empty.
+pub encode_some : (c : ℕ) → IsScalar c → 0 < length (encode_utf8 c)
+encode_some c is = ⊎_elim (λ k. rw k.1 (omega arith)) (λ k. rw k.3 (omega arith)) (first_byte c is)
+
+-- Where none is read, a first byte that begins some code point is taken.
+pub stuck_some : (b : ℕ) (bytes : List ℕ) → (128 ≤ b → (0xc2 ≤ b) × (b ≤ 0xf4)) → (k : PointStuck (b ∷ bytes)) → 0 < length k.front
+stuck_some b bytes begins k =
+    ⊎_elim (λ h. some_front k.front k.behind k.whole k.is h) (λ h. let l = begins h in k.lead l.0 l.1) (cases_lt b 128)
+  where
+    some_front : (front behind : List ℕ) → b ∷ bytes ≡ front ++ behind → BeginsPoint front behind → b < 128 → 0 < length front
+    some_front [] behind whole is h = absurd (is.ends b bytes (sym whole) b [] (grind (arith, nat_tests)) (one b h))
+    some_front (c ∷ front) behind whole is h = omega arith

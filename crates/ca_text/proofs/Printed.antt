@@ -12,9 +12,12 @@ use Rattle.std.specs.Fmt.{digits, signed_decimal}
 use Rattle.std.specs.Char.{is_ascii, is_control, is_ascii_lowercase, encode_utf8, IsScalar}
 use Rattle.std.specs.Str.{chars, all_scalars, IsUtf8}
 use Rattle.ca_term.specs.Tree.{Tree, Row, Integer, Atom, Tuple, Nil, Cons, Binary, Ends, More, size, depth, row_depth, IsNarrow, IsNarrowRow, AreBytes}
+use Rattle.ca_text.specs.Bytes.{backslash, carriage_return, close_angle, close_brace, comma, double_quote, letter_n, letter_r, letter_t, line_feed, minus_sign, open_angle, single_quote, tab}
 use Rattle.ca_text.specs.Text.{has_plain_form, is_name_char, is_plain_atom, is_reserved, code_escape, escaped_char, quoted, atom_text, is_printable, escaped_byte, binary_text, bar_text, text_of, tail_text, row_text, more_text}
 use Rattle.ca_text.specs.Grammar.{standard, IsInteger, FromZero, Negative, IsCharacter, Itself, Escaped, Hexadecimal, AreCharacters, Closed, OneMore, IsAtom, Plain, Quoted, IsSegment, OneByte, Shown, AreSegments, LastSegment, MoreSegments, IsTextOf, AnInteger, AnAtom, NoElements, ATuple, ANil, AList, NoBytes, ABinary, AreElements, LastElement, MoreElements, AreCells, LastCell, MoreCells, LastTail}
 use Rattle.ca_text.proofs.Tools.{both, chosen, either}
+use Rattle.ca_term.specs.declared.bounds.TheConstants.{MOST_CODE_POINTS, MOST_ELEMENTS}
+use Rattle.ca_text.specs.declared.bounds.TheConstants.{MOST_LEVELS}
 use Rattle.ca_text.proofs.Names.{name_ascii}
 
 integer_is : (n : ℤ) → FitsSigned w64 n → IsInteger (signed_decimal n) n
@@ -23,7 +26,7 @@ integer_is (pos n) fits =
     subst (λ x. IsInteger (decimal n) (pos x)) r.1 (FromZero (decimal n) r.0 (omega (arith, r.1, fits)))
 integer_is (negsuc n) fits =
     let r = decimal_is_IsNumeral (suc n) (omega (arith, fits)) in
-    subst (λ x. IsInteger (45 ∷ decimal (suc n)) (neg_ℤ (pos x))) r.1 (Negative (decimal (suc n)) r.0 (omega (arith, r.1, fits)))
+    subst (λ x. IsInteger (minus_sign ∷ decimal (suc n)) (neg_ℤ (pos x))) r.1 (Negative (decimal (suc n)) r.0 (omega (arith, r.1, fits)))
 
 hex_few : (c : ℕ) → is_control c ≡ true → length (digits 16 false c) ≤ 6
 hex_few c h =
@@ -33,29 +36,29 @@ hex_few c h =
     (λ t. let high : 16 ≤ c = grind (arith, nat_tests) in rw (hex_two_digits false c high small) (omega arith))
     (chosen (ltb c 16) true false (cond (ltb c 16) true false) refl)
 
-code_is : (c : ℕ) → is_control c ≡ true → IsCharacter 39 (code_escape c) c
+code_is : (c : ℕ) → is_control c ≡ true → IsCharacter single_quote (code_escape c) c
 code_is c h =
     let small : c < 16 ^ 64 = grind (arith, nat_tests) in
     let scalar : IsScalar c = grind (arith, nat_tests) in
     let r = digits_is_IsNumeral 16 false (omega arith) (omega arith) c small in
-    subst (λ x. IsCharacter 39 (code_escape c) x) r.1 (Hexadecimal 39 (digits 16 false c) r.0 (hex_few c h) (rw r.1 scalar))
+    subst (λ x. IsCharacter single_quote (code_escape c) x) r.1 (Hexadecimal single_quote (digits 16 false c) r.0 (hex_few c h) (rw r.1 scalar))
 
-escaped_is : (c : ℕ) → IsScalar c → IsCharacter 39 (escaped_char c) c
+escaped_is : (c : ℕ) → IsScalar c → IsCharacter single_quote (escaped_char c) c
 unfolding escaped_char
 escaped_is c is =
-    ⊎_elim (λ h. let e = eqb-true c 92 h.0 in rw (h.0, e) (Escaped 39 92 92 refl))
-    (λ h. ⊎_elim (λ i. let e = eqb-true c 39 i.0 in rw (h.0, i.0, e) (Escaped 39 39 39 refl))
-    (λ i. ⊎_elim (λ j. let e = eqb-true c 10 j.0 in rw (h.0, i.0, j.0, e) (Escaped 39 110 10 refl))
-    (λ j. ⊎_elim (λ k. let e = eqb-true c 13 k.0 in rw (h.0, i.0, j.0, k.0, e) (Escaped 39 114 13 refl))
-    (λ k. ⊎_elim (λ l. let e = eqb-true c 9 l.0 in rw (h.0, i.0, j.0, k.0, l.0, e) (Escaped 39 116 9 refl))
+    ⊎_elim (λ h. let e = eqb-true c backslash h.0 in rw (h.0, e) (Escaped single_quote backslash backslash refl))
+    (λ h. ⊎_elim (λ i. let e = eqb-true c single_quote i.0 in rw (h.0, i.0, e) (Escaped single_quote single_quote single_quote refl))
+    (λ i. ⊎_elim (λ j. let e = eqb-true c line_feed j.0 in rw (h.0, i.0, j.0, e) (Escaped single_quote letter_n line_feed refl))
+    (λ j. ⊎_elim (λ k. let e = eqb-true c carriage_return k.0 in rw (h.0, i.0, j.0, k.0, e) (Escaped single_quote letter_r carriage_return refl))
+    (λ k. ⊎_elim (λ l. let e = eqb-true c tab l.0 in rw (h.0, i.0, j.0, k.0, l.0, e) (Escaped single_quote letter_t tab refl))
     (λ l. ⊎_elim (λ m. rw (h.0, i.0, j.0, k.0, l.0, m.0) (code_is c m.0))
-    (λ m. rw (h.0, i.0, j.0, k.0, l.0, m.0) (Itself 39 c is (eqb-false c 39 i.0) (eqb-false c 92 h.0) (eqb-false c 10 j.0)))
+    (λ m. rw (h.0, i.0, j.0, k.0, l.0, m.0) (Itself single_quote c is (eqb-false c single_quote i.0) (eqb-false c backslash h.0) (eqb-false c line_feed j.0)))
     (chosen (is_control c) true false (cond (is_control c) true false) refl))
-    (chosen (eqb c 9) true false (cond (eqb c 9) true false) refl))
-    (chosen (eqb c 13) true false (cond (eqb c 13) true false) refl))
-    (chosen (eqb c 10) true false (cond (eqb c 10) true false) refl))
-    (chosen (eqb c 39) true false (cond (eqb c 39) true false) refl))
-    (chosen (eqb c 92) true false (cond (eqb c 92) true false) refl)
+    (chosen (eqb c tab) true false (cond (eqb c tab) true false) refl))
+    (chosen (eqb c carriage_return) true false (cond (eqb c carriage_return) true false) refl))
+    (chosen (eqb c line_feed) true false (cond (eqb c line_feed) true false) refl))
+    (chosen (eqb c single_quote) true false (cond (eqb c single_quote) true false) refl))
+    (chosen (eqb c backslash) true false (cond (eqb c backslash) true false) refl)
 
 -- code points that pass a test, each written as a character, and the closing quote
 characters_are : (close : ℕ) (write : ℕ → List ℕ) (test : ℕ → Bool) → ((c : ℕ) → test c ≡ true → IsCharacter close (write c) c) → (cs : List ℕ)
@@ -72,13 +75,13 @@ scalars_all : (cs : List ℕ) → all_scalars cs ≡ true → list_all (λ c. al
 scalars_all [] h = refl
 scalars_all (c ∷ cs) h = let t = both _ (all_scalars cs) h in rw (t.0, scalars_all cs t.1) refl
 
-quoted_is : (text : List ℕ) → IsUtf8 text → length (chars text) ≤ 255 → IsAtom standard (quoted text) text
+quoted_is : (text : List ℕ) → IsUtf8 text → length (chars text) ≤ MOST_CODE_POINTS → IsAtom standard (quoted text) text
 unfolding quoted
 quoted_is text utf8 few =
-    let are = characters_are 39 escaped_char (λ c. all_scalars (c ∷ [])) (λ c h. escaped_is c (both _ true h).0) (chars text)
+    let are = characters_are single_quote escaped_char (λ c. all_scalars (c ∷ [])) (λ c h. escaped_is c (both _ true h).0) (chars text)
     (scalars_all (chars text) (scalars-chars text utf8)) in
-    subst (λ x. IsAtom standard (39 ∷ flat_map escaped_char (chars text) ++ 39 ∷ []) x) (encodes-chars text utf8)
-    (Quoted standard (flat_map escaped_char (chars text) ++ 39 ∷ []) (chars text) are few)
+    subst (λ x. IsAtom standard (single_quote ∷ flat_map escaped_char (chars text) ++ single_quote ∷ []) x) (encodes-chars text utf8)
+    (Quoted standard (flat_map escaped_char (chars text) ++ single_quote ∷ []) (chars text) are few)
 
 plain_names : (text : List ℕ) → has_plain_form text ≡ true → list_all is_name_char text ≡ true
 plain_names [] h = absurd cc
@@ -88,7 +91,7 @@ plain_names (c ∷ cs) h =
     let one : is_name_char c ≡ true = grind (arith, nat_tests) in
     rw (one, t.1) refl
 
-atom_is : (text : List ℕ) → IsUtf8 text → length (chars text) ≤ 255 → IsAtom standard (atom_text text) text
+atom_is : (text : List ℕ) → IsUtf8 text → length (chars text) ≤ MOST_CODE_POINTS → IsAtom standard (atom_text text) text
 unfolding atom_text
 atom_is text utf8 few =
     ⊎_elim
@@ -100,18 +103,18 @@ atom_is text utf8 few =
 
 -- ---- binaries
 
-byte_is : (b : ℕ) → is_printable b ≡ true → IsCharacter 34 (escaped_byte b) b
+byte_is : (b : ℕ) → is_printable b ≡ true → IsCharacter double_quote (escaped_byte b) b
 unfolding escaped_byte encode_utf8
 byte_is b h =
     ⊎_elim
-    (λ t. let e : (b ≡ 34) ⊎ (b ≡ 92) = ⊎_elim (λ u. inl (eqb-true b 34 u)) (λ u. inr (eqb-true b 92 u)) (either (eqb b 34) (eqb b 92) t.0) in
-    rw t.0 (⊎_elim (λ u. rw u (Escaped 34 34 34 refl)) (λ u. rw u (Escaped 34 92 92 refl)) e))
+    (λ t. let e : (b ≡ double_quote) ⊎ (b ≡ backslash) = ⊎_elim (λ u. inl (eqb-true b double_quote u)) (λ u. inr (eqb-true b backslash u)) (either (eqb b double_quote) (eqb b backslash) t.0) in
+    rw t.0 (⊎_elim (λ u. rw u (Escaped double_quote double_quote double_quote refl)) (λ u. rw u (Escaped double_quote backslash backslash refl)) e))
     (λ t. let scalar : IsScalar b = grind (arith, nat_tests) in
     let one : ltb b 128 ≡ true = grind (arith, nat_tests) in
     let spelled : encode_utf8 b ≡ b ∷ [] = rw one refl in
-    let apart : (b ≢ 34) × (b ≢ 92) × (b ≢ 10) = (λ e. grind (arith, nat_tests), λ e. grind (arith, nat_tests), λ e. grind (arith, nat_tests)) in
-    rw t.0 (subst (λ x. IsCharacter 34 x b) spelled (Itself 34 b scalar apart.0 apart.1 apart.2)))
-    (chosen (eqb b 34 || eqb b 92) true false (cond (eqb b 34 || eqb b 92) true false) refl)
+    let apart : (b ≢ double_quote) × (b ≢ backslash) × (b ≢ line_feed) = (λ e. grind (arith, nat_tests), λ e. grind (arith, nat_tests), λ e. grind (arith, nat_tests)) in
+    rw t.0 (subst (λ x. IsCharacter double_quote x b) spelled (Itself double_quote b scalar apart.0 apart.1 apart.2)))
+    (chosen (eqb b double_quote || eqb b backslash) true false (cond (eqb b double_quote || eqb b backslash) true false) refl)
 
 printable_ascii : (bs : List ℕ) → list_all is_printable bs ≡ true → list_all is_ascii bs ≡ true
 printable_ascii [] h = refl
@@ -121,11 +124,11 @@ printable_ascii (b ∷ bs) h =
     let one : is_ascii b ≡ true = grind (arith, nat_tests) in
     rw (one, printable_ascii bs t.1) refl
 
-shown_is : (bs : List ℕ) → list_all is_printable bs ≡ true → AreSegments (34 ∷ flat_map escaped_byte bs ++ 34 ∷ 62 ∷ 62 ∷ []) bs
+shown_is : (bs : List ℕ) → list_all is_printable bs ≡ true → AreSegments (double_quote ∷ flat_map escaped_byte bs ++ double_quote ∷ close_angle ∷ close_angle ∷ []) bs
 shown_is bs h =
-    let are = characters_are 34 escaped_byte is_printable byte_is bs h in
-    let last = LastSegment (34 ∷ flat_map escaped_byte bs ++ 34 ∷ []) [] bs (Shown (flat_map escaped_byte bs ++ 34 ∷ []) bs are (printable_ascii bs h)) refl in
-    subst (λ x. AreSegments (34 ∷ x) bs) (append_assoc (flat_map escaped_byte bs) (34 ∷ []) (62 ∷ 62 ∷ [])) last
+    let are = characters_are double_quote escaped_byte is_printable byte_is bs h in
+    let last = LastSegment (double_quote ∷ flat_map escaped_byte bs ++ double_quote ∷ []) [] bs (Shown (flat_map escaped_byte bs ++ double_quote ∷ []) bs are (printable_ascii bs h)) refl in
+    subst (λ x. AreSegments (double_quote ∷ x) bs) (append_assoc (flat_map escaped_byte bs) (double_quote ∷ []) (close_angle ∷ close_angle ∷ [])) last
 
 number_is : (b : ℕ) → b < 256 → IsSegment (decimal b) (b ∷ [])
 number_is b h =
@@ -135,14 +138,14 @@ number_is b h =
 abbrev with_comma : ℕ → List ℕ
 with_comma n = codes "," ++ decimal n
 
-numbers_are : (b : ℕ) (bs : List ℕ) → AreBytes (b ∷ bs) → AreSegments (decimal b ++ (flat_map with_comma bs ++ 62 ∷ 62 ∷ [])) (b ∷ bs)
+numbers_are : (b : ℕ) (bs : List ℕ) → AreBytes (b ∷ bs) → AreSegments (decimal b ++ (flat_map with_comma bs ++ close_angle ∷ close_angle ∷ [])) (b ∷ bs)
 numbers_are b [] fits = LastSegment (decimal b) [] (b ∷ []) (number_is b (fits 0)) refl
 numbers_are b (c ∷ cs) fits =
     let later = numbers_are c cs (λ k. fits (suc k)) in
-    let more = MoreSegments (decimal b) [] [] (decimal c ++ (flat_map with_comma cs ++ 62 ∷ 62 ∷ [])) (b ∷ []) (c ∷ cs)
+    let more = MoreSegments (decimal b) [] [] (decimal c ++ (flat_map with_comma cs ++ close_angle ∷ close_angle ∷ [])) (b ∷ []) (c ∷ cs)
     (number_is b (fits 0)) refl refl later in
-    let whole : flat_map with_comma (c ∷ cs) ++ 62 ∷ 62 ∷ [] ≡ 44 ∷ (decimal c ++ (flat_map with_comma cs ++ 62 ∷ 62 ∷ [])) =
-    ap (λ x. x ++ 62 ∷ 62 ∷ []) (flat_map-cons with_comma c cs) ∙ append_assoc (with_comma c) (flat_map with_comma cs) (62 ∷ 62 ∷ []) in
+    let whole : flat_map with_comma (c ∷ cs) ++ close_angle ∷ close_angle ∷ [] ≡ comma ∷ (decimal c ++ (flat_map with_comma cs ++ close_angle ∷ close_angle ∷ [])) =
+    ap (λ x. x ++ close_angle ∷ close_angle ∷ []) (flat_map-cons with_comma c cs) ∙ append_assoc (with_comma c) (flat_map with_comma cs) (close_angle ∷ close_angle ∷ []) in
     subst (λ x. AreSegments (decimal b ++ x) (b ∷ c ∷ cs)) (sym whole) more
 
 binary_is : (levels : ℕ) (bs : List ℕ) → AreBytes bs → IsTextOf standard (suc levels) (binary_text bs) (Binary bs)
@@ -150,14 +153,14 @@ unfolding binary_text
 binary_is levels [] fits = NoBytes standard levels [] refl
 binary_is levels (b ∷ bs) fits =
     ⊎_elim
-    (λ h. let whole : (codes "<<\"" ++ flat_map escaped_byte (b ∷ bs)) ++ codes "\">>" ≡ 60 ∷ 60 ∷ 34 ∷
-    (flat_map escaped_byte (b ∷ bs) ++ 34 ∷ 62 ∷ 62 ∷ []) = refl in
+    (λ h. let whole : (codes "<<\"" ++ flat_map escaped_byte (b ∷ bs)) ++ codes "\">>" ≡ open_angle ∷ open_angle ∷ double_quote ∷
+    (flat_map escaped_byte (b ∷ bs) ++ double_quote ∷ close_angle ∷ close_angle ∷ []) = refl in
     rw h.0 (subst (λ x. IsTextOf standard (suc levels) x (Binary (b ∷ bs))) (sym whole)
-    (ABinary standard levels [] (34 ∷ flat_map escaped_byte (b ∷ bs) ++ 34 ∷ 62 ∷ 62 ∷ []) (b ∷ bs) refl (shown_is (b ∷ bs) h.0))))
-    (λ h. let whole : ((codes "<<" ++ decimal b) ++ flat_map with_comma bs) ++ codes ">>" ≡ 60 ∷ 60 ∷
-    (decimal b ++ (flat_map with_comma bs ++ 62 ∷ 62 ∷ [])) = ap (λ x. 60 ∷ 60 ∷ x) (append_assoc (decimal b) (flat_map with_comma bs) (62 ∷ 62 ∷ [])) in
+    (ABinary standard levels [] (double_quote ∷ flat_map escaped_byte (b ∷ bs) ++ double_quote ∷ close_angle ∷ close_angle ∷ []) (b ∷ bs) refl (shown_is (b ∷ bs) h.0))))
+    (λ h. let whole : ((codes "<<" ++ decimal b) ++ flat_map with_comma bs) ++ codes ">>" ≡ open_angle ∷ open_angle ∷
+    (decimal b ++ (flat_map with_comma bs ++ close_angle ∷ close_angle ∷ [])) = ap (λ x. open_angle ∷ open_angle ∷ x) (append_assoc (decimal b) (flat_map with_comma bs) (close_angle ∷ close_angle ∷ [])) in
     rw h.0 (subst (λ x. IsTextOf standard (suc levels) x (Binary (b ∷ bs))) (sym whole)
-    (ABinary standard levels [] (decimal b ++ (flat_map with_comma bs ++ 62 ∷ 62 ∷ [])) (b ∷ bs) refl (numbers_are b bs fits))))
+    (ABinary standard levels [] (decimal b ++ (flat_map with_comma bs ++ close_angle ∷ close_angle ∷ [])) (b ∷ bs) refl (numbers_are b bs fits))))
     (chosen (list_all is_printable (b ∷ bs)) true false (cond (list_all is_printable (b ∷ bs)) true false) refl)
 
 -- ---- terms
@@ -167,11 +170,11 @@ barred_is : (levels : ℕ) (head tail : Tree) (text last : List ℕ) → IsTextO
 barred_is levels head tail text last is end =
     LastTail standard levels text [] [] last [] head tail is refl refl end refl
 
-tuple_is : (levels : ℕ) (row : Row) → size row ≤ 120
-    → ((t : Tree) (others : Row) → row ≡ More t others → AreElements standard levels (row_text row ++ 125 ∷ []) row)
+tuple_is : (levels : ℕ) (row : Row) → size row ≤ MOST_ELEMENTS
+    → ((t : Tree) (others : Row) → row ≡ More t others → AreElements standard levels (row_text row ++ close_brace ∷ []) row)
     → IsTextOf standard (suc levels) (codes "{" ++ row_text row ++ codes "}") (Tuple row)
 tuple_is levels Ends few are = NoElements standard levels [] refl
-tuple_is levels (More t row) few are = ATuple standard levels [] (row_text (More t row) ++ 125 ∷ []) (More t row) refl (are t row refl) few
+tuple_is levels (More t row) few are = ATuple standard levels [] (row_text (More t row) ++ close_brace ∷ []) (More t row) refl (are t row refl) few
 
 mutual
   text_is : (t : Tree) (levels : ℕ) → IsNarrow t → depth t ≤ levels → IsTextOf standard levels (text_of t) t
@@ -192,19 +195,19 @@ mutual
 
   -- a row that isn't empty
   row_is : (row : Row) (levels : ℕ) → IsNarrowRow row → row_depth row ≤ levels → (t : Tree) (others : Row) → row ≡ More t others
-      → AreElements standard levels (row_text row ++ 125 ∷ []) row
+      → AreElements standard levels (row_text row ++ close_brace ∷ []) row
   row_is Ends levels narrow shallow t others e = absurd cc
   row_is (More u row) levels narrow shallow t others e =
       more_are row levels u (text_of u) (text_is u levels narrow.0 (omega (arith, shallow))) narrow.1 (omega (arith, shallow))
 
   more_are : (row : Row) (levels : ℕ) (t : Tree) (text : List ℕ) → IsTextOf standard levels text t → IsNarrowRow row → row_depth row ≤ levels
-      → AreElements standard levels ((text ++ more_text row) ++ 125 ∷ []) (More t row)
+      → AreElements standard levels ((text ++ more_text row) ++ close_brace ∷ []) (More t row)
   more_are Ends levels t text is narrow shallow =
-      subst (λ x. AreElements standard levels x (More t Ends)) (sym (append_assoc text [] (125 ∷ []))) (LastElement standard levels text [] t is refl)
+      subst (λ x. AreElements standard levels x (More t Ends)) (sym (append_assoc text [] (close_brace ∷ []))) (LastElement standard levels text [] t is refl)
   more_are (More u row) levels t text is narrow shallow =
       let later = more_are row levels u (text_of u) (text_is u levels narrow.0 (omega (arith, shallow))) narrow.1 (omega (arith, shallow)) in
-      subst (λ x. AreElements standard levels x (More t (More u row))) (sym (append_assoc text (more_text (More u row)) (125 ∷ [])))
-      (MoreElements standard levels text [] [] ((text_of u ++ more_text row) ++ 125 ∷ []) t (More u row) is refl refl later)
+      subst (λ x. AreElements standard levels x (More t (More u row))) (sym (append_assoc text (more_text (More u row)) (close_brace ∷ [])))
+      (MoreElements standard levels text [] [] ((text_of u ++ more_text row) ++ close_brace ∷ []) t (More u row) is refl refl later)
 
   cells_are : (tail : Tree) (levels : ℕ) (head : Tree) (text : List ℕ) → IsTextOf standard levels text head → IsNarrow tail → depth tail ≤ suc levels
       → AreCells standard levels (text ++ tail_text tail) (Cons head tail)
@@ -221,6 +224,6 @@ mutual
       MoreCells standard levels text [] [] (text_of h ++ tail_text t) head (Cons h t) is refl refl later
   cells_are (Binary bytes) levels head text is narrow shallow = barred_is levels head (Binary bytes) text (binary_text bytes) is (binary_is levels bytes narrow)
 
--- The text that is printed of a term of at most 64 levels is a text of it.
-pub printed_is : (t : Tree) → IsNarrow t → depth t ≤ 64 → IsTextOf standard 64 (text_of t) t
-printed_is t narrow shallow = text_is t 64 narrow shallow
+-- The text that is printed of a term of at most so many levels is a text of it.
+pub printed_is : (t : Tree) → IsNarrow t → depth t ≤ MOST_LEVELS → IsTextOf standard MOST_LEVELS (text_of t) t
+printed_is t narrow shallow = text_is t MOST_LEVELS narrow shallow

@@ -3,9 +3,9 @@ use Rattle.std.proofs.Common.{◌≡◌, ℕ, zero, suc, ◌<◌, ◌≤◌, Boo
 use Rattle.ca_text.specs.declared.fault.Fault.{Fault}
 use Rattle.ca_text.specs.declared.fault.Why.{Why}
 use Rattle.ca_text.specs.Grammar.{skip}
-use Rattle.ca_text.specs.Reading.{◌>>=◌, Read, fault}
-use Rattle.ca_text.proofs.Local.{IsLocal}
-use Rattle.ca_text.proofs.LocalParts.{either_way}
+use Rattle.ca_text.specs.Inner.Reading.{◌>>=◌, Read, fault}
+use Rattle.ca_text.proofs.Local.{before, IsLocal}
+use Rattle.ca_text.proofs.Tools.{either_way}
 use Rattle.ca_text.proofs.LocalTerms.{skip_shorter}
 
 -- A limit of this kind is raised, or it stays.
@@ -132,10 +132,13 @@ module _ {raises : Why → Bool} {X : Type 0} {rest_of : X → List ℕ} {p q : 
 
 -- a reader that looks no further than one byte ahead
 module _ {A : Type 0} (p : List ℕ → Read A) (local : IsLocal p) where
-  answer_within : (bytes : List ℕ) (r : Read A) → p bytes ≡ r → Within behind (length bytes) r
-  answer_within bytes (Ok (a, ys)) e = let t = (local bytes).taken a ys e in omega (arith, ap (λ (l : List ℕ). length l) t.whole, length-append t.front ys)
-  answer_within bytes (Err f) e =
-      let t = (local bytes).stuck f e in omega (arith, ap (λ (l : List ℕ). length l) t.whole, length-append t.front t.behind, ap (λ (g : Fault). g.left) t.is)
+  answer_within : (answer : Result A Why) (bytes ys : List ℕ) → length ys ≤ length bytes → Within behind (length bytes) (before answer ys)
+  answer_within (Ok a) bytes ys h = h
+  answer_within (Err why) bytes ys h = h
 
+  -- It leaves no more bytes than there were.
   pub local_within : (bytes : List ℕ) → Within behind (length bytes) (p bytes)
-  local_within bytes = answer_within bytes (p bytes) refl
+  local_within bytes =
+      let t = (local bytes).1 in
+      subst (Within behind (length bytes)) (sym t.is)
+      (answer_within (local bytes).0 bytes t.behind (omega (arith, ap (λ (l : List ℕ). length l) t.whole, length-append t.front t.behind)))

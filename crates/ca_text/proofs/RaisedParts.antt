@@ -1,14 +1,17 @@
 -- The readers of numbers, names, characters and binaries, with raised limits and without.
-use Rattle.std.proofs.Common.{◌≡◌, ℕ, zero, suc, ◌+◌, ◌-◌, ◌*◌, ◌^◌, ◌<◌, ◌≤◌, Bool, true, false, ltb, leb, eqb, ◌&&◌, List, [], ◌∷◌, ◌++◌, length, drop, Option, None, Some, Ok, refl, sym, subst, ◌∙◌, arith, length-drop}
+use Rattle.std.proofs.Common.{◌≡◌, ℕ, zero, suc, ◌+◌, ◌-◌, ◌*◌, ◌^◌, ◌<◌, ◌≤◌, Bool, true, false, ltb, leb, eqb, ◌&&◌, List, [], ◌∷◌, ⊎_elim, length-append, ap, ◌++◌, length, drop, Option, None, Some, Ok, refl, sym, subst, ◌∙◌, arith, length-drop}
 use Rattle.std.proofs.lemmas.Bool.{leb-true, leb-false, le-leb}
 use Rattle.std.proofs.lemmas.Bool.Decides.{nat_tests}
-use Rattle.std.specs.Char.{is_ascii_digit, is_ascii_hexdigit, digit_value}
-use Rattle.ca_text.specs.Grammar.{escape_of}
+use Rattle.std.specs.Char.{encode_utf8, is_ascii_digit, is_ascii_hexdigit, digit_value}
+use Rattle.ca_text.specs.Bytes.{backslash, close_angle, close_brace, comma, digit_zero, double_quote, letter_x, minus_sign, open_angle, open_brace}
+use Rattle.ca_text.specs.Grammar.{escape_of, most_byte}
 use Rattle.ca_text.specs.declared.fault.Why.{Why}
 use Rattle.ca_text.specs.declared.fault.Why.TheVariants.{Syntax, AtomTooLong}
-use Rattle.ca_text.specs.Reading.{Read, syntax_fault, expect, digits_after, number_at, integer_at, byte_between, inner_byte, two_at, three_at, four_at, least_of_three, end_of_three, least_of_four, end_of_four, point_at, is_point, may_stand, hex_after, hex_at, or_fault, escape_at, begins_character, character_at, next_point_at, closing_at, points_after, characters_at, string_at, name_length, name_at, series_rest, series_at, most_shown, one_byte_at, segment_at, after_segment_at, segment_step, bytes_at, binary_at}
-use Rattle.ca_text.proofs.LocalParts.{either_way, characters_local}
+use Rattle.ca_text.specs.Inner.Reading.{Read, syntax_fault, expect, digits_after, number_at, integer_at, point_at, is_point, may_stand, hex_after, hex_at, or_fault, escape_at, begins_character, character_at, next_point_at, closing_at, points_after, characters_at, string_at, name_length, name_at, series_rest, series_at, most_shown, one_byte_at, segment_at, after_segment_at, segment_step, bytes_at, binary_at}
+use Rattle.ca_text.proofs.Tools.{either_way}
+use Rattle.ca_text.proofs.LocalParts.{characters_local}
 use Rattle.ca_text.proofs.LocalTerms.{skip_shorter, name_within, segment_step_local}
+use Rattle.ca_text.proofs.Points.{PointRead, PointStuck, encode_some, point_cases, stuck_some}
 use Rattle.ca_text.proofs.Raised.{Grown, Past, Within, Beside, itself, behind, ReadsBeside, grown_itself, grown_before, grown_most, grown_stays, grown_raised, within_past, ok_beside, fault_beside, past_beside, beside_more, if_beside, bind_within, bind_past, bind_known, bind_beside, skip_beside, local_within}
 
 module _ (raises : Why → Bool) (plain : raises Syntax ≡ false) where
@@ -26,7 +29,7 @@ module _ (raises : Why → Bool) (plain : raises Syntax ≡ false) where
   digits_beside [] most n = ok_beside (omega arith)
   digits_beside (b ∷ bytes) most n =
       if_beside (is_ascii_digit b)
-      (λ h. if_beside (leb (n * 10 + (b - 48)) most) (λ i. beside_more (omega arith) (digits_beside bytes most (n * 10 + (b - 48))))
+      (λ h. if_beside (leb (n * 10 + (b - digit_zero)) most) (λ i. beside_more (omega arith) (digits_beside bytes most (n * 10 + (b - digit_zero))))
       (λ i. syntax_beside (b ∷ bytes) (omega arith)))
       (λ h. ok_beside (omega arith))
 
@@ -39,47 +42,21 @@ module _ (raises : Why → Bool) (plain : raises Syntax ≡ false) where
   unfolding integer_at
   integer_beside [] = syntax_beside [] (omega arith)
   integer_beside (b ∷ bytes) =
-      if_beside (eqb b 45)
+      if_beside (eqb b minus_sign)
       (λ h. beside_more (omega arith) (bind_beside _ _ (number_beside (2 ^ 63) bytes) (λ x. ok_beside (omega arith))))
       (λ h. bind_beside _ _ (number_beside (2 ^ 63 - 1) (b ∷ bytes)) (λ x. ok_beside (omega arith)))
 
   -- ---- code points
 
-  byte_beside : (low high : ℕ) → ReadsBeside raises (byte_between low high) (byte_between low high)
-  unfolding byte_between
-  byte_beside low high [] = syntax_beside [] (omega arith)
-  byte_beside low high (b ∷ bytes) = if_beside (leb low b && ltb b high) (λ h. ok_beside (omega arith)) (λ h. syntax_beside (b ∷ bytes) (omega arith))
-
-  inner_beside : ReadsBeside raises inner_byte inner_byte
-  unfolding inner_byte
-  inner_beside bytes = byte_beside 128 192 bytes
-
-  two_beside : (b : ℕ) → ReadsBeside raises (two_at b) (two_at b)
-  unfolding two_at
-  two_beside b bytes = bind_beside _ _ (inner_beside bytes) (λ c. ok_beside (omega arith))
-
-  three_beside : (b : ℕ) → ReadsBeside raises (three_at b) (three_at b)
-  unfolding three_at
-  three_beside b bytes =
-      bind_beside _ _ (byte_beside (least_of_three b) (end_of_three b) bytes) (λ c.
-      bind_beside _ _ (inner_beside c.1) (λ d. ok_beside (omega arith)))
-
-  four_beside : (b : ℕ) → ReadsBeside raises (four_at b) (four_at b)
-  unfolding four_at
-  four_beside b bytes =
-      bind_beside _ _ (byte_beside (least_of_four b) (end_of_four b) bytes) (λ c.
-      bind_beside _ _ (inner_beside c.1) (λ d.
-      bind_beside _ _ (inner_beside d.1) (λ e. ok_beside (omega arith))))
-
   point_beside : ReadsBeside raises point_at point_at
-  unfolding point_at
-  point_beside [] = syntax_beside [] (omega arith)
-  point_beside (b ∷ bytes) =
-      if_beside (ltb b 0x80) (λ h. ok_beside (omega arith)) (λ h.
-      if_beside (ltb b 0xc2) (λ i. syntax_beside (b ∷ bytes) (omega arith)) (λ i.
-      if_beside (ltb b 0xe0) (λ j. beside_more (omega arith) (two_beside b bytes)) (λ j.
-      if_beside (ltb b 0xf0) (λ k. beside_more (omega arith) (three_beside b bytes)) (λ k.
-      if_beside (ltb b 0xf5) (λ l. beside_more (omega arith) (four_beside b bytes)) (λ l. syntax_beside (b ∷ bytes) (omega arith))))))
+  point_beside bytes =
+      let same : Read ℕ → Type 0 = λ r. Beside raises behind (length bytes) r r in
+      ⊎_elim
+      (λ (p : PointRead bytes). subst same (sym p.read)
+      (ok_beside (omega (arith, ap (λ (l : List ℕ). length l) p.is.whole, length-append (encode_utf8 p.point) p.rest))))
+      (λ (k : PointStuck bytes). subst same (sym k.read)
+      (syntax_beside k.behind (omega (arith, ap (λ (l : List ℕ). length l) k.whole, length-append k.front k.behind))))
+      (point_cases bytes)
 
   hex_after_beside : (bytes : List ℕ) (most more c : ℕ) → Beside raises behind (length bytes) (hex_after most more c bytes) (hex_after most more c bytes)
   unfolding hex_after
@@ -89,7 +66,7 @@ module _ (raises : Why → Bool) (plain : raises Syntax ≡ false) where
       if_beside (is_ascii_hexdigit b && ltb 0 more)
       (λ h. if_beside (may_stand most (more - 1) next) (λ i. beside_more (omega arith) (hex_after_beside bytes most (more - 1) next))
       (λ i. syntax_beside (b ∷ bytes) (omega arith)))
-      (λ h. if_beside (eqb b 125 && is_point most c) (λ i. ok_beside (omega arith)) (λ i. syntax_beside (b ∷ bytes) (omega arith)))
+      (λ h. if_beside (eqb b close_brace && is_point most c) (λ i. ok_beside (omega arith)) (λ i. syntax_beside (b ∷ bytes) (omega arith)))
 
   hex_beside : (most : ℕ) → ReadsBeside raises (hex_at most) (hex_at most)
   unfolding hex_at
@@ -107,15 +84,15 @@ module _ (raises : Why → Bool) (plain : raises Syntax ≡ false) where
   unfolding escape_at
   escape_beside most [] = syntax_beside [] (omega arith)
   escape_beside most (b ∷ bytes) =
-      if_beside (eqb b 120)
-      (λ h. beside_more (omega arith) (bind_beside _ _ (expect_beside 123 bytes) (λ rest. hex_beside most rest)))
+      if_beside (eqb b letter_x)
+      (λ h. beside_more (omega arith) (bind_beside _ _ (expect_beside open_brace bytes) (λ rest. hex_beside most rest)))
       (λ h. letter_beside (escape_of b) b bytes)
 
   character_beside : (close most : ℕ) → ReadsBeside raises (character_at close most) (character_at close most)
   unfolding character_at
   character_beside close most [] = syntax_beside [] (omega arith)
   character_beside close most (b ∷ bytes) =
-      if_beside (eqb b 92) (λ h. beside_more (omega arith) (escape_beside most bytes)) (λ h.
+      if_beside (eqb b backslash) (λ h. beside_more (omega arith) (escape_beside most bytes)) (λ h.
       if_beside (begins_character close most b) (λ i. point_beside (b ∷ bytes)) (λ i. syntax_beside (b ∷ bytes) (omega arith)))
 
   next_beside : (close most : ℕ) → ReadsBeside raises (next_point_at close most) (next_point_at close most)
@@ -125,20 +102,20 @@ module _ (raises : Why → Bool) (plain : raises Syntax ≡ false) where
       if_beside (eqb b close) (λ h. ok_beside (omega arith)) (λ h. bind_beside _ _ (character_beside close most (b ∷ bytes)) (λ x. ok_beside (omega arith)))
 
   point_past : (close most b : ℕ) (bytes : List ℕ) → begins_character close most b ≡ true → Past behind (length (b ∷ bytes)) (point_at (b ∷ bytes))
-  unfolding point_at
   point_past close most b bytes begins =
-      either_way (ltb b 0x80) (λ h. rw h (omega arith)) (λ h.
-      either_way (ltb b 0xc2) (λ i. absurd (grind (arith, nat_tests))) (λ i.
-      either_way (ltb b 0xe0) (λ j. rw (h, i, j) (within_past behind (two_at b bytes) (omega arith) (two_beside b bytes).within)) (λ j.
-      either_way (ltb b 0xf0) (λ k. rw (h, i, j, k) (within_past behind (three_at b bytes) (omega arith) (three_beside b bytes).within)) (λ k.
-      either_way (ltb b 0xf5) (λ l. rw (h, i, j, k, l) (within_past behind (four_at b bytes) (omega arith) (four_beside b bytes).within))
-      (λ l. absurd (grind (arith, nat_tests)))))))
+      let lead : 128 ≤ b → (0xc2 ≤ b) × (b ≤ 0xf4) = λ h. (grind (arith, nat_tests), grind (arith, nat_tests)) in
+      ⊎_elim
+      (λ (p : PointRead (b ∷ bytes)). subst (Past behind (length (b ∷ bytes))) (sym p.read)
+      (omega (arith, ap (λ (l : List ℕ). length l) p.is.whole, length-append (encode_utf8 p.point) p.rest, encode_some p.point p.is.scalar)))
+      (λ (k : PointStuck (b ∷ bytes)). subst (Past behind (length (b ∷ bytes))) (sym k.read)
+      (omega (arith, ap (λ (l : List ℕ). length l) k.whole, length-append k.front k.behind, stuck_some b bytes lead k)))
+      (point_cases (b ∷ bytes))
 
   character_past : (close most b : ℕ) (bytes : List ℕ) → begins_character close most b ≡ true
       → Past behind (length (b ∷ bytes)) (character_at close most (b ∷ bytes))
   unfolding character_at
   character_past close most b bytes begins =
-      either_way (eqb b 92)
+      either_way (eqb b backslash)
       (λ h. rw h (within_past behind (escape_at most bytes) (omega arith) (escape_beside most bytes).within))
       (λ h. rw (h, begins) (point_past close most b bytes begins))
 
@@ -180,7 +157,7 @@ module _ (raises : Why → Bool) (plain : raises Syntax ≡ false) where
       either_way (eqb b close) (λ h. rw h (ok_beside (omega arith))) (λ h.
       either_way (begins_character close most b)
       (λ i. past_beside over (b ∷ bytes) _ _ grows (rw (i, h) refl) (characters_past over close most n b bytes h i))
-      (λ i. let slash : eqb b 92 ≡ false = grind (arith, nat_tests) in rw (i, slash, h) (syntax_beside (b ∷ bytes) (omega arith))))
+      (λ i. let slash : eqb b backslash ≡ false = grind (arith, nat_tests) in rw (i, slash, h) (syntax_beside (b ∷ bytes) (omega arith))))
 
   after_beside : (p q : List ℕ → Read (List ℕ)) → ReadsBeside raises p q → (x : Option ℕ × List ℕ)
       → Beside raises behind (length x.1) (points_after p x) (points_after q x)
@@ -200,7 +177,7 @@ module _ (raises : Why → Bool) (plain : raises Syntax ≡ false) where
       (characters_beside over close most n m (grown_before raises over n m g)))
 
   pub string_beside : (most : ℕ) → ReadsBeside raises (string_at most) (string_at most)
-  string_beside most bytes = characters_beside Syntax 34 most (length bytes) (length bytes) (grown_itself raises Syntax (length bytes) plain) bytes
+  string_beside most bytes = characters_beside Syntax double_quote most (length bytes) (length bytes) (grown_itself raises Syntax (length bytes) plain) bytes
 
   -- ---- names
 
@@ -272,19 +249,19 @@ module _ (raises : Why → Bool) (plain : raises Syntax ≡ false) where
   -- ---- binaries
 
   one_byte_beside : ReadsBeside raises one_byte_at one_byte_at
-  one_byte_beside bytes = bind_beside _ _ (number_beside 255 bytes) (λ x. ok_beside (omega arith))
+  one_byte_beside bytes = bind_beside _ _ (number_beside most_byte bytes) (λ x. ok_beside (omega arith))
 
   segment_beside : ReadsBeside raises segment_at segment_at
   unfolding segment_at
   segment_beside [] = one_byte_beside []
-  segment_beside (b ∷ bytes) = if_beside (eqb b 34) (λ h. beside_more (omega arith) (string_beside most_shown bytes)) (λ h. one_byte_beside (b ∷ bytes))
+  segment_beside (b ∷ bytes) = if_beside (eqb b double_quote) (λ h. beside_more (omega arith) (string_beside most_shown bytes)) (λ h. one_byte_beside (b ∷ bytes))
 
   after_segment_beside : ReadsBeside raises after_segment_at after_segment_at
   unfolding after_segment_at
   after_segment_beside [] = syntax_beside [] (omega arith)
   after_segment_beside (b ∷ bytes) =
-      if_beside (eqb b 44) (λ h. ok_beside (omega (arith, skip_shorter bytes))) (λ h.
-      if_beside (eqb b 62) (λ i. beside_more (omega arith) (bind_beside _ _ (expect_beside 62 bytes) (λ rest. ok_beside (omega arith))))
+      if_beside (eqb b comma) (λ h. ok_beside (omega (arith, skip_shorter bytes))) (λ h.
+      if_beside (eqb b close_angle) (λ i. beside_more (omega arith) (bind_beside _ _ (expect_beside close_angle bytes) (λ rest. ok_beside (omega arith))))
       (λ i. syntax_beside (b ∷ bytes) (omega arith)))
 
   segment_step_beside : (n m : ℕ) → Grown raises Syntax n m → ReadsBeside raises (segment_step n) (segment_step m)
@@ -298,11 +275,11 @@ module _ (raises : Why → Bool) (plain : raises Syntax ≡ false) where
   bytes_beside [] = syntax_beside [] (omega arith)
   bytes_beside (b ∷ bytes) =
       let n = length (b ∷ bytes) in
-      if_beside (eqb b 62) (λ h. beside_more (omega arith) (bind_beside _ _ (expect_beside 62 bytes) (λ rest. ok_beside (omega arith))))
+      if_beside (eqb b close_angle) (λ h. beside_more (omega arith) (bind_beside _ _ (expect_beside close_angle bytes) (λ rest. ok_beside (omega arith))))
       (λ h. series_beside Syntax segment_step segment_step segment_step_beside (λ k. local_within (segment_step k) (segment_step_local k))
       (λ k ys x e i j. let stays = sym plain ∙ j in absurd cc) n n (grown_itself raises Syntax n plain) (λ j. omega arith) (b ∷ bytes))
 
   pub binary_beside : ReadsBeside raises binary_at binary_at
   binary_beside bytes =
-      bind_beside _ _ (expect_beside 60 bytes) (λ rest.
+      bind_beside _ _ (expect_beside open_angle bytes) (λ rest.
       bind_beside _ _ (skip_beside bytes_beside rest) (λ x. ok_beside (omega arith)))

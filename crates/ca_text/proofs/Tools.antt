@@ -1,12 +1,17 @@
 -- Steps of reading, taken apart.
 use Rattle.std.proofs.Common.{◌≡◌, Bool, true, false, cond, ◌&&◌, ◌||◌, Result, Ok, Err, refl, ap, ◌⊎◌, inl, inr}
 use Rattle.ca_text.specs.declared.fault.Fault.{Fault}
-use Rattle.ca_text.specs.Reading.{◌>>=◌}
+use Rattle.ca_text.specs.Inner.Reading.{◌>>=◌}
 
 -- the value of a step that did not fail
 pub bind_ok : {A B : Type 0} (r : Result A Fault) (f : A → Result B Fault) (y : B) → (r >>= f) ≡ Ok y → (x : A) × (r ≡ Ok x) × (f x ≡ Ok y)
 bind_ok (Ok x) f y e = (x, refl, e)
 bind_ok (Err d) f y e = absurd cc
+
+-- A goal that holds whichever way a test goes holds.
+pub either_way : {C : Type 0} (b : Bool) → (b ≡ true → C) → (b ≡ false → C) → C
+either_way true f g = f refl
+either_way false f g = g refl
 
 -- which way a test went
 pub chosen : {A : Type 0} (b : Bool) (x y z : A) → cond b x y ≡ z → ((b ≡ true) × (x ≡ z)) ⊎ ((b ≡ false) × (y ≡ z))

@@ -1,7 +1,9 @@
 -- Why no term is read at the front of some bytes, and at which byte: by the texts of the grammar alone.
 use Rattle.std.specs.Prelude.{ℕ, ◌+◌, ◌<◌, ◌≤◌, List, ◌++◌, length, take}
 use Rattle.ca_term.specs.Tree.{Tree}
-use Rattle.ca_text.specs.Grammar.{Limits, IsTextOf, IsRead, standard, most_levels}
+use Rattle.ca_term.specs.declared.bounds.TheConstants.{MOST_CODE_POINTS, MOST_ELEMENTS}
+use Rattle.ca_text.specs.declared.bounds.TheConstants.{MOST_LEVELS}
+use Rattle.ca_text.specs.Grammar.{Limits, IsTextOf, IsRead, standard}
 use Rattle.ca_text.specs.declared.fault.TextFault.{TextFault}
 use Rattle.ca_text.specs.declared.fault.TextFault.TheVariants.{Syntax, AtomTooLong, TooDeep, TooWide, NoMemory}
 
@@ -12,15 +14,15 @@ Begins limits levels bytes = (rest : List ℕ) × (t : Tree) × IsTextOf limits 
 -- So many of the bytes begin a text, and no more.
 pub record IsLongestStart (bytes : List ℕ) (at : ℕ) : Type 0 where
   pub within : at ≤ length bytes
-  pub begins : Begins standard most_levels (take at bytes)
-  pub ends : at < length bytes → Begins standard most_levels (take (at + 1) bytes) → ⊥
+  pub begins : Begins standard MOST_LEVELS (take at bytes)
+  pub ends : at < length bytes → Begins standard MOST_LEVELS (take (at + 1) bytes) → ⊥
 
 -- atoms of one more code point, tuples of one more element
 abbrev pub longer_atoms : Limits
-longer_atoms = record { elements = 120; characters = 256 }
+longer_atoms = record standard { characters = MOST_CODE_POINTS + 1 }
 
 abbrev pub wider_tuples : Limits
-wider_tuples = record { elements = 121; characters = 255 }
+wider_tuples = record standard { elements = MOST_ELEMENTS + 1 }
 
 -- with the byte at this place, the bytes begin a text of these limits
 abbrev pub GoesOnAt : Limits → ℕ → List ℕ → ℕ → Type 0
@@ -30,9 +32,9 @@ GoesOnAt limits levels bytes at = (at < length bytes) × Begins limits levels (t
 -- all, whatever the limits.
 abbrev pub IsKind : List ℕ → TextFault → Type 0
 IsKind bytes (Syntax at) = at < length bytes → (limits : Limits) (levels : ℕ) → Begins limits levels (take (at + 1) bytes) → ⊥
-IsKind bytes (AtomTooLong at) = GoesOnAt longer_atoms most_levels bytes at
-IsKind bytes (TooDeep at) = GoesOnAt standard (most_levels + 1) bytes at
-IsKind bytes (TooWide at) = GoesOnAt wider_tuples most_levels bytes at
+IsKind bytes (AtomTooLong at) = GoesOnAt longer_atoms MOST_LEVELS bytes at
+IsKind bytes (TooDeep at) = GoesOnAt standard (MOST_LEVELS + 1) bytes at
+IsKind bytes (TooWide at) = GoesOnAt wider_tuples MOST_LEVELS bytes at
 IsKind bytes NoMemory = ⊥
 
 -- the byte at which no text goes on, counted from 0

@@ -1,7 +1,6 @@
+pub mod Bytes
 pub mod Front
 pub mod Grammar
-pub mod NextView
-pub mod Place
-pub mod Reading
+pub mod Inner
 pub mod Text
 pub mod Written

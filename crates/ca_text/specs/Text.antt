@@ -4,11 +4,13 @@ use Rattle.std.specs.Prelude.{ℕ, Bool, false, not, ◌&&◌, ◌||◌, ◌==�
 use Rattle.std.specs.List.{list_all, list_any}
 use Rattle.std.specs.Char.{is_control, is_ascii_lowercase, is_ascii_alphanumeric}
 use Rattle.std.specs.Fmt.{digits, signed_decimal}
+use Rattle.std.specs.Str.{byte}
 use Rattle.ca_term.specs.Tree.{Tree, Row, Integer, Atom, Tuple, Nil, Cons, Binary, Ends, More}
+use Rattle.ca_text.specs.Bytes.{at_sign, backslash, carriage_return, double_quote, line_feed, single_quote, tab, underscore}
 
 -- a letter of ASCII, a digit, `_` or `@`
 abbrev pub is_name_char : ℕ → Bool
-is_name_char c = is_ascii_alphanumeric c || c == 95 || c == 64
+is_name_char c = is_ascii_alphanumeric c || c == underscore || c == at_sign
 
 -- a letter a to z, then such characters
 abbrev pub has_plain_form : List ℕ → Bool
@@ -36,11 +38,11 @@ code_escape c = codes "\\x{" ++ digits 16 false c ++ codes "}"
 -- a character between single quotes
 unfoldable pub escaped_char : ℕ → List ℕ
 escaped_char c =
-    if c == 92 then codes "\\\\"
-    else (if c == 39 then codes "\\'"
-    else (if c == 10 then codes "\\n"
-    else (if c == 13 then codes "\\r"
-    else (if c == 9 then codes "\\t"
+    if c == backslash then codes "\\\\"
+    else (if c == single_quote then codes "\\'"
+    else (if c == line_feed then codes "\\n"
+    else (if c == carriage_return then codes "\\r"
+    else (if c == tab then codes "\\t"
     else (if is_control c then code_escape c
     else encode_utf8 c)))))
 
@@ -52,11 +54,11 @@ atom_text text = if is_plain_atom text then text else quoted text
 
 -- a byte that a binary shows between double quotes
 abbrev pub is_printable : ℕ → Bool
-is_printable b = nat_le 32 b && nat_le b 126
+is_printable b = nat_le (byte " ") b && nat_le b (byte "~")
 
 -- `"` and `\` after a backslash, any other printable byte as it is
 unfoldable pub escaped_byte : ℕ → List ℕ
-escaped_byte b = if b == 34 || b == 92 then 92 ∷ b ∷ [] else b ∷ []
+escaped_byte b = if b == double_quote || b == backslash then backslash ∷ b ∷ [] else b ∷ []
 
 unfoldable pub binary_text : List ℕ → List ℕ
 binary_text [] = codes "<<>>"

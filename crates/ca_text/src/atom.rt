@@ -5,7 +5,7 @@ ghost use Rattle.std.specs.List.{list_all};
 ghost use Rattle.ca_text.specs.Text.{atom_text, code_escape, escaped_char, has_plain_form, is_name_char, is_reserved};
 ghost use Rattle.ca_text.specs.Written.{BeginsWith};
 
-use crate::put::put;
+use crate::writer::put;
 use std::alloc::AllocError;
 
 const RESERVED: [&str; 29] = [

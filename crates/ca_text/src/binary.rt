@@ -4,8 +4,7 @@ ghost use Rattle.std.specs.List.{list_all};
 ghost use Rattle.ca_text.specs.Text.{binary_text, escaped_byte, is_printable};
 ghost use Rattle.ca_text.specs.Written.{BeginsWith};
 
-use crate::put::put;
-use itoa::Buffer;
+use crate::writer::{put, put_number};
 use std::alloc::AllocError;
 
 fn is_shown(bytes: &[u8]) -> bool
@@ -36,13 +35,6 @@ fn put_shown(bytes: &[u8], into: &mut Vec<u8>) -> Result<(), AllocError>
     Ok(())
 }
 
-fn put_number(n: u8, into: &mut Vec<u8>) -> Result<(), AllocError>
-    ensures ok { OnOk result (into.new.items ≡ into.old.items ++ decimal n) }
-    ensures front { BeginsWith into.new.items into.old.items }
-{
-    put(Buffer::new().format(n).as_bytes(), into)
-}
-
 #[tactic(auto, using(crate::proofs::Fronts::begins_more))]
 fn put_numbers(bytes: &[u8], into: &mut Vec<u8>) -> Result<(), AllocError>
     ensures ok { OnOk result (into.new.items ≡ into.old.items ++ flat_map (λ n. codes "," ++ decimal n) bytes.now) }
@@ -50,7 +42,7 @@ fn put_numbers(bytes: &[u8], into: &mut Vec<u8>) -> Result<(), AllocError>
 {
     for b in bytes {
         put(b",", into)?;
-        put_number(*b, into)?;
+        put_number(u64::from(*b), into)?;
     }
     Ok(())
 }
@@ -69,7 +61,7 @@ pub(crate) fn put_binary(bytes: &[u8], into: &mut Vec<u8>) -> Result<(), AllocEr
         return put(b"\">>", into);
     }
     put(b"<<", into)?;
-    put_number(*first, into)?;
+    put_number(u64::from(*first), into)?;
     put_numbers(others, into)?;
     put(b">>", into)
 }

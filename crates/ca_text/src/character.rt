@@ -2,82 +2,20 @@
 ghost use Rattle.std.specs.Prelude.{◌≡◌, ◌≤◌, ◌<◌, true, false, ◌^◌, length, IfOk};
 ghost use Rattle.std.specs.Char.{digit_value, is_ascii_hexdigit};
 ghost use Rattle.ca_text.specs.Grammar.{escape_of};
-ghost use Rattle.ca_text.specs.Reading.{Gives, byte_between, inner_byte, point_at, two_at, three_at, four_at, hex_after, hex_at, escape_at, character_at, next_point_at, closing_at, begins_character, characters_at, is_point, may_stand, least_of_three, end_of_three, least_of_four, end_of_four};
+ghost use Rattle.ca_text.specs.Inner.Reading.{Gives, point_at, hex_after, hex_at, escape_at, character_at, next_point_at, closing_at, begins_character, characters_at, is_point, may_stand};
 
 use crate::fault::{Stop, Why, fault_at, syntax_at};
 use crate::scan::expect;
 use std::alloc::Global;
 
-// A byte from `low` on and below `high`.
-#[tactic(auto, unfolding(crate::specs::Reading::byte_between))]
-fn byte_between(low: u8, high: u8, bytes: &[u8]) -> Result<(u32, &[u8]), Stop>
-    ensures read { Gives (λ x. (x.0, x.1.now)) result (byte_between low high bytes.now) }
-    ensures bounded { IfOk result (λ x. (low ≤ x.0) × (x.0 < high)) }
-{
-    match bytes {
-        [byte, rest @ ..] if low <= *byte && *byte < high => Ok((u32::from(*byte), rest)),
-        _ => Err(syntax_at(bytes)),
-    }
-}
-
-// A byte of a code point after the first one.
-#[tactic(auto, unfolding(crate::specs::Reading::inner_byte))]
-fn inner_byte(bytes: &[u8]) -> Result<(u32, &[u8]), Stop>
-    ensures read { Gives (λ x. (x.0, x.1.now)) result (inner_byte bytes.now) }
-    ensures bounded { IfOk result (λ x. (128 ≤ x.0) × (x.0 < 192)) }
-{
-    byte_between(128, 192, bytes)
-}
-
-#[tactic(auto, unfolding(crate::specs::Reading::two_at))]
-fn two_bytes(first: u8, bytes: &[u8]) -> Result<(u32, &[u8]), Stop>
-    requires { 192 ≤ first }
-    ensures { Gives (λ x. (x.0, x.1.now)) result (two_at first bytes.now) }
-{
-    let (second, rest) = inner_byte(bytes)?;
-    let high = u32::from(first) - 192;
-    Ok((high * 64 + (second - 128), rest))
-}
-
-#[tactic(auto, unfolding(crate::specs::Reading::three_at))]
-fn three_bytes(first: u8, bytes: &[u8]) -> Result<(u32, &[u8]), Stop>
-    requires { 224 ≤ first }
-    ensures { Gives (λ x. (x.0, x.1.now)) result (three_at first bytes.now) }
-{
-    let least = if first == 0xe0 { 160 } else { 128 };
-    let end = if first == 0xed { 160 } else { 192 };
-    let (second, rest) = byte_between(least, end, bytes)?;
-    let (third, rest) = inner_byte(rest)?;
-    let high = u32::from(first) - 224;
-    Ok(((high * 64 + (second - 128)) * 64 + (third - 128), rest))
-}
-
-#[tactic(auto, unfolding(crate::specs::Reading::four_at))]
-fn four_bytes(first: u8, bytes: &[u8]) -> Result<(u32, &[u8]), Stop>
-    requires { 240 ≤ first }
-    ensures { Gives (λ x. (x.0, x.1.now)) result (four_at first bytes.now) }
-{
-    let least = if first == 0xf0 { 144 } else { 128 };
-    let end = if first == 0xf4 { 144 } else { 192 };
-    let (second, rest) = byte_between(least, end, bytes)?;
-    let (third, rest) = inner_byte(rest)?;
-    let (fourth, rest) = inner_byte(rest)?;
-    let high = u32::from(first) - 240;
-    let point = ((high * 64 + (second - 128)) * 64 + (third - 128)) * 64 + (fourth - 128);
-    Ok((point, rest))
-}
-
 // A code point in UTF-8: the shortest form, no surrogate, at most 10FFFF.
-#[tactic(auto, unfolding(crate::specs::Reading::point_at))]
+#[tactic(auto, using(crate::proofs::Points::point_read, crate::proofs::Points::point_refused))]
 fn point(bytes: &[u8]) -> Result<(u32, &[u8]), Stop>
     ensures { Gives (λ x. (x.0, x.1.now)) result (point_at bytes.now) }
 {
-    match bytes {
-        [first @ ..0x80, rest @ ..] => Ok((u32::from(*first), rest)),
-        [first @ 0xc2..0xe0, rest @ ..] => two_bytes(*first, rest),
-        [first @ 0xe0..0xf0, rest @ ..] => three_bytes(*first, rest),
-        [first @ 0xf0..0xf5, rest @ ..] => four_bytes(*first, rest),
-        _ => Err(syntax_at(bytes)),
+    match ca_term::character(bytes) {
+        Ok((c, rest)) => Ok((u32::from(c), rest)),
+        Err(at) => Err(syntax_at(bytes.split_at(at).1)),
     }
 }
 
@@ -92,16 +30,14 @@ fn hex_value(digit: u8) -> u32
     ensures value { result ≡ digit_value digit }
     ensures small { result < 16 }
 {
-    match digit {
-        b'0'..=b'9' => u32::from(digit - b'0'),
-        b'A'..=b'F' => u32::from(digit - b'A') + 10,
-        b'a'..=b'f' => u32::from(digit - b'a') + 10,
-        _ => unreachable!(),
-    }
+    let Some(value) = char::from(digit).to_digit(16) else {
+        unreachable!();
+    };
+    value
 }
 
 // Hexadecimal digits and `}`.
-#[tactic(auto, unfolding(crate::specs::Reading::hex_at))]
+#[tactic(auto, unfolding(crate::specs::Inner::Reading::hex_at))]
 fn hex(most: u32, bytes: &[u8]) -> Result<(u32, &[u8]), Stop>
     requires { most < 2 ^ 21 }
     ensures { Gives (λ x. (x.0, x.1.now)) result (hex_at most bytes.now) }
@@ -121,7 +57,7 @@ fn may_stand(most: u32, more: u8, value: u32) -> bool
 }
 
 // At most `more` further digits, with the digits before these worth `value`.
-#[tactic(auto, unfolding(crate::specs::Reading::hex_after))]
+#[tactic(auto, unfolding(crate::specs::Inner::Reading::hex_after))]
 fn more_hex(most: u32, more: u8, value: u32, bytes: &[u8]) -> Result<(u32, &[u8]), Stop>
     requires low { most < 2 ^ 21 }
     requires before { value < 2 ^ 21 }
@@ -155,7 +91,7 @@ fn escape_of(letter: u8) -> Option<u32>
 }
 
 // What stands after a backslash.
-#[tactic(auto, unfolding(crate::specs::Reading::escape_at))]
+#[tactic(auto, unfolding(crate::specs::Inner::Reading::escape_at))]
 fn escape(most: u32, bytes: &[u8]) -> Result<(u32, &[u8]), Stop>
     requires { most < 2 ^ 21 }
     ensures { Gives (λ x. (x.0, x.1.now)) result (escape_at most bytes.now) }
@@ -178,7 +114,7 @@ pub(crate) fn begins_character(close: u8, most: u32, byte: u8) -> bool
 }
 
 // A code point of at most `most` before the closing quote.
-#[tactic(auto, unfolding(crate::specs::Reading::character_at))]
+#[tactic(auto, unfolding(crate::specs::Inner::Reading::character_at))]
 pub(crate) fn character(close: u8, most: u32, bytes: &[u8]) -> Result<(u32, &[u8]), Stop>
     requires { most < 2 ^ 21 }
     ensures { Gives (λ x. (x.0, x.1.now)) result (character_at close most bytes.now) }
@@ -191,7 +127,7 @@ pub(crate) fn character(close: u8, most: u32, bytes: &[u8]) -> Result<(u32, &[u8
 }
 
 // The next code point, or None at the closing quote.
-#[tactic(auto, unfolding(crate::specs::Reading::next_point_at))]
+#[tactic(auto, unfolding(crate::specs::Inner::Reading::next_point_at))]
 fn next_point(close: u8, most: u32, bytes: &[u8]) -> Result<(Option<u32>, &[u8]), Stop>
     requires { most < 2 ^ 21 }
     ensures { Gives (λ x. (x.0, x.1.now)) result (next_point_at close most bytes.now) }
@@ -207,7 +143,7 @@ fn next_point(close: u8, most: u32, bytes: &[u8]) -> Result<(Option<u32>, &[u8])
 }
 
 // The bytes after the closing quote. A further code point is the fault `over`.
-#[tactic(auto, unfolding(crate::specs::Reading::closing_at))]
+#[tactic(auto, unfolding(crate::specs::Inner::Reading::closing_at))]
 fn closing(over: Why, close: u8, most: u32, bytes: &[u8]) -> Result<&[u8], Stop>
     ensures { Gives (λ rest. rest.now) result (closing_at over close most bytes.now) }
 {

@@ -1,6 +1,6 @@
 //! Why a text is not read.
 ghost use Rattle.std.specs.Prelude.{◌≡◌, length};
-ghost use Rattle.ca_text.specs.Place.{IsWithin, text_fault};
+ghost use Rattle.ca_text.specs.Inner.Place.{IsWithin, text_fault};
 ghost use Rattle.ca_text.specs.declared.fault.Stop.TheVariants.{NoMemory};
 
 use ca_term::TermFault;
@@ -73,11 +73,11 @@ pub(crate) fn syntax_at(bytes: &[u8]) -> Stop
 pub enum TextFault {
     /// The bytes before this place begin some term text, and with the byte there, or at the end, they begin none.
     Syntax { at: usize },
-    /// At this byte the 256th code point or escape of an atom begins.
+    /// At this byte a code point or escape of an atom begins that would be one more than `ca_term::MOST_CODE_POINTS`.
     AtomTooLong { at: usize },
-    /// At this byte a term begins that would stand at depth 65.
+    /// At this byte a term begins that would stand one level below the last, which is [`crate::MOST_LEVELS`].
     TooDeep { at: usize },
-    /// At this byte stands the comma before the 121st element of a tuple.
+    /// At this byte stands the comma before an element of a tuple that would be one more than `ca_term::MOST_ELEMENTS`.
     TooWide { at: usize },
     /// Memory was not found.
     NoMemory,

@@ -3,18 +3,22 @@
 
 mod atom;
 mod binary;
+mod bounds;
 mod character;
 mod fault;
 mod parts;
 mod print;
-mod put;
 mod read;
 mod scan;
+mod writer;
 
 pub use atom::is_reserved;
+pub use bounds::MOST_LEVELS;
 pub use fault::TextFault;
 pub use print::{print_term, text_laws};
 pub use read::{read_laws, read_term};
+pub use scan::skip;
+pub use writer::{put, put_number};
 
 #[cfg(test)]
 mod tests;

@@ -3,7 +3,7 @@ ghost use Rattle.std.specs.Prelude.{◌≡◌, ◌≤◌, ◌<◌, ◌^◌, ◌+
 ghost use Rattle.std.specs.List.{list_all};
 ghost use Rattle.std.specs.Str.{all_scalars, encode_utf8_all};
 ghost use Rattle.ca_text.specs.Grammar.{points};
-ghost use Rattle.ca_text.specs.Reading.{Gives, string_at, quoted_at, one_byte_at, segment_at, after_segment_at, segment_step, series_at, bytes_at, points_at, string_points_at, is_point, most_point, most_shown};
+ghost use Rattle.ca_text.specs.Inner.Reading.{Gives, string_at, quoted_at, one_byte_at, segment_at, after_segment_at, segment_step, series_at, bytes_at, points_at, string_points_at, is_point, most_point, most_shown};
 
 use crate::character::{begins_character, characters};
 use crate::fault::{Stop, Why, fault_at, syntax_at};
@@ -62,7 +62,7 @@ fn bytes_of(alloc: Global, points: &[u32]) -> Result<Vec<u8>, AllocError>
 }
 
 // A part of a binary.
-#[tactic(auto, unfolding(crate::specs::Reading::segment_at))]
+#[tactic(auto, unfolding(crate::specs::Inner::Reading::segment_at))]
 fn segment(alloc: Global, bytes: &[u8]) -> Result<(Vec<u8>, &[u8]), Stop>
     ensures { Gives (λ x. (x.0.items, x.1.now)) result (segment_at bytes.now) }
 {
@@ -82,12 +82,12 @@ fn shown(alloc: Global, bytes: &[u8]) -> Result<(Vec<u8>, &[u8]), Stop>
 fn one_byte(alloc: Global, bytes: &[u8]) -> Result<(Vec<u8>, &[u8]), Stop>
     ensures { Gives (λ x. (x.0.items, x.1.now)) result (one_byte_at bytes.now) }
 {
-    let (value, rest) = number(255, bytes)?;
+    let (value, rest) = number(u64::from(u8::MAX), bytes)?;
     Ok(([value as u8].to_vec(alloc)?, rest))
 }
 
 // What follows a segment: a comma, which is true, or the closing brackets.
-#[tactic(auto, unfolding(crate::specs::Reading::after_segment_at))]
+#[tactic(auto, unfolding(crate::specs::Inner::Reading::after_segment_at))]
 fn after_segment(bytes: &[u8]) -> Result<(bool, &[u8]), Stop>
     ensures { Gives (λ x. (x.0, x.1.now)) result (after_segment_at bytes.now) }
 {
@@ -99,7 +99,7 @@ fn after_segment(bytes: &[u8]) -> Result<(bool, &[u8]), Stop>
 }
 
 // A segment, and whether a further one follows it.
-#[tactic(auto, unfolding(crate::specs::Reading::segment_step))]
+#[tactic(auto, unfolding(crate::specs::Inner::Reading::segment_step))]
 fn segment_step(alloc: Global, n: usize, bytes: &[u8]) -> Result<((Vec<u8>, bool), &[u8]), Stop>
     ensures { Gives (λ x. ((x.0.0.items, x.0.1), x.1.now)) result (segment_step n bytes.now) }
 {
@@ -126,7 +126,7 @@ fn segments(alloc: Global, text: &[u8]) -> Result<(Vec<u8>, &[u8]), Stop>
 }
 
 // A binary, behind its opening brackets and the blanks there.
-#[tactic(auto, unfolding(crate::specs::Reading::bytes_at))]
+#[tactic(auto, unfolding(crate::specs::Inner::Reading::bytes_at))]
 pub(crate) fn binary_bytes(alloc: Global, bytes: &[u8]) -> Result<(Vec<u8>, &[u8]), Stop>
     ensures { Gives (λ x. (x.0.items, x.1.now)) result (bytes_at bytes.now) }
 {
@@ -152,7 +152,7 @@ fn list_of(alloc: Global, codes: &[u32]) -> Result<Term, Stop>
 }
 
 // A string, behind its first quote, so many levels above its code points.
-#[tactic(auto, unfolding(crate::specs::Reading::points_at))]
+#[tactic(auto, unfolding(crate::specs::Inner::Reading::points_at))]
 pub(crate) fn string_term(alloc: Global, levels: u8, bytes: &[u8]) -> Result<(Term, &[u8]), Stop>
     ensures { Gives (λ x. (x.0, x.1.now)) result (points_at levels bytes.now) }
 {

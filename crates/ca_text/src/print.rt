@@ -7,7 +7,7 @@ ghost use Rattle.ca_text.specs.Written.{BeginsWith};
 
 use crate::atom::put_atom;
 use crate::binary::put_binary;
-use crate::put::put;
+use crate::writer::put;
 use ca_term::{Kind, Term};
 use itoa::Buffer;
 use std::alloc::AllocError;

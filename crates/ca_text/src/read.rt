@@ -1,23 +1,18 @@
 //! The reader of term texts.
 ghost use Rattle.std.specs.Prelude.{◌≡◌, ◌⊎◌, ◌≤◌, ◌<◌, ◌-◌, ◌+◌, List, [], ◌∷◌, ◌++◌, ℕ, length, take, Ok, IfOk, IfErr, MatchResult};
-ghost use Rattle.ca_text.specs.NextView.{next_view};
+ghost use Rattle.ca_text.specs.Inner.NextView.{next_view};
 ghost use Rattle.ca_text.specs.Front.{IsNotRead};
 ghost use Rattle.ca_term.specs.Tree.{Tree, IsTerm, depth};
 ghost use Rattle.ca_text.specs.Text.{text_of};
 ghost use Rattle.ca_text.specs.Grammar.{standard, IsRead, IsText, IsWhole};
-ghost use Rattle.ca_text.specs.Reading.{Gives, Fails, with_front, after_element_at, element_step, elements_at, series_at, next_at, tail_at, inner_at, closed, cell_step, cells_at, brackets_at, conses, tuple_at, binary_at, atom_at, integer_term_at, list_at, term_at, other_at, too_deep, begins_term, bracketed, with_heads};
+ghost use Rattle.ca_text.specs.Inner.Reading.{Gives, Fails, with_front, after_element_at, element_step, elements_at, series_at, next_at, tail_at, inner_at, closed, cell_step, cells_at, brackets_at, tuple_at, binary_at, atom_at, integer_term_at, list_at, term_at, other_at, too_deep, begins_term, bracketed, with_heads};
 
+use crate::bounds::MOST_LEVELS;
 use crate::fault::{Stop, TextFault, Why, fault_at, fault_of, syntax_at};
 use crate::parts::{binary_bytes, quoted_atom, string_term};
 use crate::scan::{expect, integer, name, skip};
-use ca_term::{Term, Terms, atom, bin, cons, int, nil, tuple};
+use ca_term::{MOST_CODE_POINTS, MOST_ELEMENTS, Term, Terms, atom, bin, int, nil, tuple};
 use std::alloc::Global;
-
-const MOST_LEVELS: u8 = 64;
-
-const MOST_ELEMENTS: usize = 120;
-
-const MOST_CHARACTERS: usize = 255;
 
 // Whether a byte begins a term.
 fn begins_term(byte: u8) -> bool
@@ -37,7 +32,7 @@ fn too_deep(bytes: &[u8]) -> Stop
 }
 
 // What follows an element, where there may be `n` more: a comma, which is true, or the closing brace.
-#[tactic(auto, unfolding(crate::specs::Reading::after_element_at))]
+#[tactic(auto, unfolding(crate::specs::Inner::Reading::after_element_at))]
 fn after_element(n: usize, bytes: &[u8]) -> Result<(bool, &[u8]), Stop>
     ensures { Gives (λ x. (x.0, x.1.now)) result (after_element_at n bytes.now) }
 {
@@ -60,22 +55,9 @@ fn brackets(owed: usize, bytes: &[u8]) -> Result<&[u8], Stop>
     Ok(rest)
 }
 
-// The list of these heads and this last tail.
-fn list_of(alloc: Global, heads: Vec<Term>, tail: Term) -> Result<Term, Stop>
-    ensures ok { IfOk result (λ t. t ≡ conses heads.items tail) }
-    ensures causes { IfErr result (λ e. e ≡ Stop.NoMemory) }
-{
-    let mut heads = heads;
-    let mut list = tail;
-    while let Some(head) = heads.pop() {
-        list = cons(alloc, head, list)?;
-    }
-    Ok(list)
-}
-
 // An element of a tuple, and whether a further one follows it.
 #[cycle(read)]
-#[tactic(auto, unfolding(crate::specs::Reading::element_step))]
+#[tactic(auto, unfolding(crate::specs::Inner::Reading::element_step))]
 fn element_step(
     alloc: Global,
     levels: u8,
@@ -89,10 +71,10 @@ fn element_step(
     Ok(((element, more), rest))
 }
 
-// Elements up to the closing brace, at most 120.
+// Elements up to the closing brace.
 #[cycle(read)]
 fn elements(alloc: Global, levels: u8, bytes: &[u8]) -> Result<(Terms, &[u8]), Stop>
-    ensures { Gives (λ x. (x.0.items, x.1.now)) result (series_at (element_step (term_at standard levels)) 120 bytes.now) }
+    ensures { Gives (λ x. (x.0.items, x.1.now)) result (series_at (element_step (term_at standard levels)) MOST_ELEMENTS bytes.now) }
 {
     let mut items = Terms::new(alloc);
     let mut rest = bytes;
@@ -109,9 +91,9 @@ fn elements(alloc: Global, levels: u8, bytes: &[u8]) -> Result<(Terms, &[u8]), S
 
 // A tuple, behind its opening brace and the blanks there.
 #[cycle(read)]
-#[tactic(auto, unfolding(crate::specs::Reading::elements_at))]
+#[tactic(auto, unfolding(crate::specs::Inner::Reading::elements_at))]
 fn tuple_term(alloc: Global, levels: u8, bytes: &[u8]) -> Result<(Term, &[u8]), Stop>
-    ensures { Gives (λ x. (x.0, x.1.now)) result (tuple_at (term_at standard levels) 120 bytes.now) }
+    ensures { Gives (λ x. (x.0, x.1.now)) result (tuple_at (term_at standard levels) MOST_ELEMENTS bytes.now) }
 {
     match bytes {
         [b'}', rest @ ..] => Ok((tuple(Terms::new(alloc))?, rest)),
@@ -134,9 +116,9 @@ fn binary_term(alloc: Global, bytes: &[u8]) -> Result<(Term, &[u8]), Stop>
 
 // A plain atom.
 fn plain_atom(alloc: Global, bytes: &[u8]) -> Result<(Term, &[u8]), Stop>
-    ensures { Gives (λ x. (x.0, x.1.now)) result (atom_at 255 bytes.now) }
+    ensures { Gives (λ x. (x.0, x.1.now)) result (atom_at MOST_CODE_POINTS bytes.now) }
 {
-    let (text, rest) = name(MOST_CHARACTERS, bytes)?;
+    let (text, rest) = name(MOST_CODE_POINTS, bytes)?;
     let Ok(text) = str::from_utf8(text) else {
         unreachable!();
     };
@@ -152,14 +134,14 @@ fn integer_term(bytes: &[u8]) -> Result<(Term, &[u8]), Stop>
 
 // A term that isn't in brackets, so many levels above its elements.
 #[cycle(read)]
-#[tactic(auto, unfolding(crate::specs::Reading::other_at))]
+#[tactic(auto, unfolding(crate::specs::Inner::Reading::other_at))]
 fn other(alloc: Global, levels: u8, bytes: &[u8]) -> Result<(Term, &[u8]), Stop>
     ensures { Gives (λ x. (x.0, x.1.now)) result (other_at standard (term_at standard levels) levels bytes.now) }
 {
     match bytes {
         [b'{', rest @ ..] => tuple_term(alloc, levels, skip(rest)),
         [b'"', rest @ ..] => string_term(alloc, levels, rest),
-        [b'\'', rest @ ..] => quoted_atom(alloc, MOST_CHARACTERS, rest),
+        [b'\'', rest @ ..] => quoted_atom(alloc, MOST_CODE_POINTS, rest),
         [b'<', rest @ ..] => binary_term(alloc, rest),
         [b'a'..=b'z', ..] => plain_atom(alloc, bytes),
         _ => integer_term(bytes),
@@ -206,7 +188,7 @@ fn last_tail(alloc: Global, levels: u8, bytes: &[u8]) -> Result<Next<'_>, Stop>
 
 // The tail after a bar.
 #[cycle(read)]
-#[tactic(auto, unfolding(crate::specs::Reading::tail_at))]
+#[tactic(auto, unfolding(crate::specs::Inner::Reading::tail_at))]
 fn tail(alloc: Global, levels: u8, bytes: &[u8]) -> Result<Next<'_>, Stop>
     ensures { Gives next_view result (tail_at (other_at standard (term_at standard levels) levels) bytes.now) }
 {
@@ -218,7 +200,7 @@ fn tail(alloc: Global, levels: u8, bytes: &[u8]) -> Result<Next<'_>, Stop>
 
 // What follows a head and blanks.
 #[cycle(read)]
-#[tactic(auto, unfolding(crate::specs::Reading::next_at))]
+#[tactic(auto, unfolding(crate::specs::Inner::Reading::next_at))]
 fn following(alloc: Global, levels: u8, bytes: &[u8]) -> Result<Next<'_>, Stop>
     ensures { Gives next_view result (next_at (other_at standard (term_at standard levels) levels) bytes.now) }
 {
@@ -232,7 +214,7 @@ fn following(alloc: Global, levels: u8, bytes: &[u8]) -> Result<Next<'_>, Stop>
 
 // A head and what follows it.
 #[cycle(read)]
-#[tactic(auto, unfolding(crate::specs::Reading::cell_step))]
+#[tactic(auto, unfolding(crate::specs::Inner::Reading::cell_step))]
 fn cell_step(alloc: Global, levels: u8, bytes: &[u8]) -> Result<(Term, Next<'_>), Stop>
     ensures { Gives (λ x. (x.0, next_view x.1)) result (cell_step (term_at standard levels) (other_at standard (term_at standard levels) levels) bytes.now) }
 {
@@ -244,7 +226,7 @@ fn cell_step(alloc: Global, levels: u8, bytes: &[u8]) -> Result<(Term, Next<'_>)
 // The end of a list: the closing brackets still owed, and the list of the heads and the last tail.
 fn end_list(
     alloc: Global,
-    heads: Vec<Term>,
+    heads: Terms,
     owed: usize,
     tail: Term,
     bytes: &[u8],
@@ -252,7 +234,7 @@ fn end_list(
     ensures { Gives (λ x. (x.0, x.1.now)) result (with_heads heads.items owed (Ok (tail, bytes.now))) }
 {
     let rest = brackets(owed, bytes)?;
-    Ok((list_of(alloc, heads, tail)?, rest))
+    Ok((ca_term::list(alloc, heads, tail)?, rest))
 }
 
 // Heads and a last tail, up to the closing bracket. There are no more heads than bytes.
@@ -262,7 +244,7 @@ fn end_list(
 fn cells(alloc: Global, levels: u8, bytes: &[u8]) -> Result<(Term, &[u8]), Stop>
     ensures { Gives (λ x. (x.0, x.1.now)) result (cells_at (term_at standard levels) (other_at standard (term_at standard levels) levels) (length bytes.now) bytes.now) }
 {
-    let mut heads = Vec::new(alloc);
+    let mut heads = Terms::new(alloc);
     let mut owed = 0;
     let mut rest = bytes;
     for _ in 0..bytes.len() {
@@ -282,7 +264,7 @@ fn cells(alloc: Global, levels: u8, bytes: &[u8]) -> Result<(Term, &[u8]), Stop>
 
 // A list, behind its opening bracket and the blanks there.
 #[cycle(read)]
-#[tactic(auto, unfolding(crate::specs::Reading::list_at))]
+#[tactic(auto, unfolding(crate::specs::Inner::Reading::list_at))]
 fn list(alloc: Global, levels: u8, bytes: &[u8]) -> Result<(Term, &[u8]), Stop>
     ensures { Gives (λ x. (x.0, x.1.now)) result (list_at (term_at standard levels) (other_at standard (term_at standard levels) levels) bytes.now) }
 {
@@ -306,7 +288,7 @@ fn bracketed(alloc: Global, levels: u8, bytes: &[u8]) -> Result<(Term, &[u8]), S
 
 // A term of at most so many levels.
 #[cycle(read)]
-#[tactic(auto, unfolding(crate::specs::Reading::term_at))]
+#[tactic(auto, unfolding(crate::specs::Inner::Reading::term_at))]
 fn term(alloc: Global, levels: u8, bytes: &[u8]) -> Result<(Term, &[u8]), Stop>
     ensures { Gives (λ x. (x.0, x.1.now)) result (term_at standard levels bytes.now) }
 {
@@ -319,7 +301,8 @@ fn term(alloc: Global, levels: u8, bytes: &[u8]) -> Result<(Term, &[u8]), Stop>
 /// Reads the longest term text at the front of some bytes: the term, and how many bytes its text has.
 ///
 /// An integer takes in each digit that follows it, and a plain atom each letter of ASCII, digit, `_` and `@`. The text has at
-/// most 64 levels, its tuples at most 120 elements and its atoms at most 255 code points.
+/// most [`MOST_LEVELS`] levels, its tuples at most `ca_term::MOST_ELEMENTS` elements and its atoms at most
+/// `ca_term::MOST_CODE_POINTS` code points.
 pub fn read_term(alloc: Global, bytes: &[u8]) -> Result<(Term, usize), TextFault>
     ensures ok { IfOk result (λ x. IsRead bytes.now x.0 x.1) }
     // No longer text stands at the front.
@@ -337,11 +320,11 @@ pub fn read_term(alloc: Global, bytes: &[u8]) -> Result<(Term, usize), TextFault
     }
 }
 
-/// A printed text of at most 64 levels is a text of its term, and it is the one that is read where it stands at the front and
+/// A printed text of at most [`MOST_LEVELS`] levels is a text of its term, and it is the one that is read where it stands at the front and
 /// nothing that follows belongs to it. At the front of any bytes one text is read, or none for one reason.
 pub fn read_laws()
-    ensures printed { (t : Tree) → IsTerm t → depth t ≤ 64 → IsText (text_of t) t }
-    ensures again { (t : Tree) (rest : List ℕ) → IsTerm t → depth t ≤ 64 → IsWhole (text_of t) rest → IsRead (text_of t ++ rest) t (length (text_of t)) }
+    ensures printed { (t : Tree) → IsTerm t → depth t ≤ MOST_LEVELS → IsText (text_of t) t }
+    ensures again { (t : Tree) (rest : List ℕ) → IsTerm t → depth t ≤ MOST_LEVELS → IsWhole (text_of t) rest → IsRead (text_of t ++ rest) t (length (text_of t)) }
     ensures one_text { (bytes : List ℕ) (t u : Tree) (n m : ℕ) → IsRead bytes t n → IsRead bytes u m → (t ≡ u) × (n ≡ m) }
     ensures one_fault { (bytes : List ℕ) (e f : TextFault) → IsNotRead bytes e → IsNotRead bytes f → e ≡ f }
     ensures read_or_not { (bytes : List ℕ) (t : Tree) (n : ℕ) (e : TextFault) → IsRead bytes t n → IsNotRead bytes e → ⊥ }

@@ -3,15 +3,16 @@
 ghost use Rattle.std.specs.Prelude.{◌≡◌, ◌+◌, ◌*◌, ◌≤◌, ◌<◌, ◌^◌, length, SomeIff, IfOk, pos, neg_ℤ};
 ghost use Rattle.ca_text.specs.Text.{is_name_char};
 ghost use Rattle.ca_text.specs.Grammar.{is_blank, skip};
-ghost use Rattle.ca_text.specs.Reading.{Gives, expect, digits_after, number_at, integer_at, negative_at, positive_at, name_at, name_length};
+ghost use Rattle.ca_text.specs.Inner.Reading.{Gives, expect, digits_after, number_at, integer_at, negative_at, positive_at, name_at, name_length};
 
 use crate::atom::is_name_char;
 use crate::fault::{Stop, Why, fault_at, syntax_at};
 
-// The bytes after the blanks at the front.
+/// The bytes after the blanks at the front: spaces and tabs.
 #[tactic(auto, unfolding(crate::specs::Grammar::skip))]
-pub(crate) fn skip(bytes: &[u8]) -> &[u8]
-    ensures { result.now ≡ skip bytes.now }
+pub fn skip(bytes: &[u8]) -> &[u8]
+    ensures value { result.now ≡ skip bytes.now }
+    ensures within { length result.now ≤ length bytes.now }
 {
     let mut rest = bytes;
     while let [b' ' | b'\t', after @ ..] = rest {
@@ -21,7 +22,7 @@ pub(crate) fn skip(bytes: &[u8]) -> &[u8]
 }
 
 // The bytes after this one.
-#[tactic(auto, unfolding(crate::specs::Reading::expect))]
+#[tactic(auto, unfolding(crate::specs::Inner::Reading::expect))]
 pub(crate) fn expect(byte: u8, bytes: &[u8]) -> Result<&[u8], Stop>
     ensures { Gives (λ rest. rest.now) result (expect byte bytes.now) }
 {
@@ -33,21 +34,14 @@ pub(crate) fn expect(byte: u8, bytes: &[u8]) -> Result<&[u8], Stop>
 
 // A number with one more digit, unless it is over `most`.
 fn with_digit(number: u64, digit: u8, most: u64) -> Option<u64>
-    requires { digit < 10 }
     ensures { SomeIff result (number * 10 + digit ≤ most) (number * 10 + digit) }
 {
-    if number > most / 10 {
-        return None;
-    }
-    let tens = number * 10;
-    if u64::from(digit) > most - tens {
-        return None;
-    }
-    Some(tens + u64::from(digit))
+    let next = number.checked_mul(10)?.checked_add(u64::from(digit))?;
+    if next <= most { Some(next) } else { None }
 }
 
 // The digits at the front as a number of at most `most`.
-#[tactic(auto, unfolding(crate::specs::Reading::digits_after))]
+#[tactic(auto, unfolding(crate::specs::Inner::Reading::digits_after))]
 fn digits(most: u64, bytes: &[u8]) -> Result<(u64, &[u8]), Stop>
     ensures read { Gives (λ x. (x.0, x.1.now)) result (digits_after most 0 bytes.now) }
     ensures bounded { IfOk result (λ x. x.0 ≤ most) }
@@ -65,7 +59,7 @@ fn digits(most: u64, bytes: &[u8]) -> Result<(u64, &[u8]), Stop>
 }
 
 // One digit or more, of a value of at most `most`.
-#[tactic(auto, unfolding(crate::specs::Reading::number_at))]
+#[tactic(auto, unfolding(crate::specs::Inner::Reading::number_at))]
 pub(crate) fn number(most: u64, bytes: &[u8]) -> Result<(u64, &[u8]), Stop>
     ensures read { Gives (λ x. (x.0, x.1.now)) result (number_at most bytes.now) }
     ensures bounded { IfOk result (λ x. x.0 ≤ most) }
@@ -77,7 +71,7 @@ pub(crate) fn number(most: u64, bytes: &[u8]) -> Result<(u64, &[u8]), Stop>
 }
 
 // `-` or nothing, and digits, of a value within 64 bits.
-#[tactic(auto, unfolding(crate::specs::Reading::integer_at, crate::specs::Reading::number_at))]
+#[tactic(auto, unfolding(crate::specs::Inner::Reading::integer_at, crate::specs::Inner::Reading::number_at))]
 pub(crate) fn integer(bytes: &[u8]) -> Result<(i64, &[u8]), Stop>
     ensures { Gives (λ x. (x.0, x.1.now)) result (integer_at bytes.now) }
 {
@@ -113,7 +107,7 @@ fn negated(value: u64) -> i64
 }
 
 // How many characters of a name stand at the front.
-#[tactic(auto, unfolding(crate::specs::Reading::name_length))]
+#[tactic(auto, unfolding(crate::specs::Inner::Reading::name_length))]
 fn name_length(bytes: &[u8]) -> usize
     ensures value { result ≡ name_length bytes.now }
     ensures within { result ≤ length bytes.now }
@@ -131,7 +125,7 @@ fn name_length(bytes: &[u8]) -> usize
 }
 
 // A name of at most `most` characters.
-#[tactic(auto, unfolding(crate::specs::Reading::name_at))]
+#[tactic(auto, unfolding(crate::specs::Inner::Reading::name_at))]
 pub(crate) fn name(most: usize, bytes: &[u8]) -> Result<(&[u8], &[u8]), Stop>
     ensures { Gives (λ x. (x.0.now, x.1.now)) result (name_at most bytes.now) }
 {

@@ -1,5 +1,9 @@
+use super::TextFault::{AtomTooLong, Syntax, TooDeep, TooWide};
 use super::*;
-use ca_term::{Term, TermFault, Terms, atom, bin, cons, int, nil, term_order, tuple};
+use ca_term::{
+    MOST_CODE_POINTS, MOST_ELEMENTS, Term, TermFault, Terms, atom, bin, cons, int, nil, term_order,
+    tuple,
+};
 use std::alloc::{AllocError, Global};
 use std::cmp::Ordering;
 use std::process::Abort;
@@ -228,7 +232,7 @@ fn escapes(rt: HostRuntime) -> Result<(), Fail> {
                 let at = if letter == b'x' { 3 } else { 2 };
                 assert_eq!(rt;
                     read.err(),
-                    Some(TextFault::Syntax { at }),
+                    Some(Syntax { at }),
                     "after a backslash {letter}"
                 );
             }
@@ -290,7 +294,7 @@ fn places_of_faults(rt: HostRuntime) -> Result<(), Fail> {
     ] {
         assert_eq!(rt;
             read_term(rt.alloc(), text.as_bytes()).err(),
-            Some(TextFault::Syntax { at })
+            Some(Syntax { at })
         );
     }
     Ok(())
@@ -305,10 +309,7 @@ fn places_in_utf8(rt: HostRuntime) -> Result<(), Fail> {
         (b"'\xf4\x90\x80\x80'", 2),
         (b"'\xe2\x82'", 3),
     ] {
-        assert_eq!(rt;
-            read_term(rt.alloc(), bytes).err(),
-            Some(TextFault::Syntax { at })
-        );
+        assert_eq!(rt; read_term(rt.alloc(), bytes).err(), Some(Syntax { at }));
     }
     Ok(())
 }
@@ -316,35 +317,26 @@ fn places_in_utf8(rt: HostRuntime) -> Result<(), Fail> {
 #[test]
 fn bounds(rt: HostRuntime) -> Result<(), Fail> {
     let alloc = rt.alloc();
+    let most = MOST_CODE_POINTS;
+    let levels = usize::from(MOST_LEVELS);
+    let further = MOST_ELEMENTS - 1;
     for (front, part, count, end, fault) in [
-        ("", "a", 256, "", Some(TextFault::AtomTooLong { at: 255 })),
-        ("", "a", 255, "-", None),
-        ("'", "\\n", 255, "'", None),
-        (
-            "'",
-            "\\n",
-            256,
-            "'",
-            Some(TextFault::AtomTooLong { at: 511 }),
-        ),
-        ("'", "é", 255, "\n'", Some(TextFault::Syntax { at: 511 })),
-        ("", "[", 64, "", Some(TextFault::Syntax { at: 64 })),
-        ("", "[", 64, "-", Some(TextFault::TooDeep { at: 64 })),
-        ("", "[", 65, "", Some(TextFault::TooDeep { at: 64 })),
-        ("", "[", 64, "X", Some(TextFault::Syntax { at: 64 })),
-        ("", "{", 64, " \"", Some(TextFault::TooDeep { at: 65 })),
-        ("", "[", 63, "\"a", Some(TextFault::TooDeep { at: 64 })),
-        ("{1", ",1", 119, "}", None),
-        ("{1", ",1", 119, ",", Some(TextFault::TooWide { at: 240 })),
-        ("{1", ",1", 119, "", Some(TextFault::Syntax { at: 240 })),
-        (
-            "{1",
-            ",1",
-            119,
-            " ,1}",
-            Some(TextFault::TooWide { at: 241 }),
-        ),
-        ("[1", "|[1", 100, "", Some(TextFault::Syntax { at: 302 })),
+        ("", "a", most + 1, "", Some(AtomTooLong { at: most })),
+        ("", "a", most, "-", None),
+        ("'", "\\n", most, "'", None),
+        ("'", "\\n", most + 1, "'", Some(AtomTooLong { at: 511 })),
+        ("'", "é", most, "\n'", Some(Syntax { at: 511 })),
+        ("", "[", levels, "", Some(Syntax { at: levels })),
+        ("", "[", levels, "-", Some(TooDeep { at: levels })),
+        ("", "[", levels + 1, "", Some(TooDeep { at: levels })),
+        ("", "[", levels, "X", Some(Syntax { at: levels })),
+        ("", "{", levels, " \"", Some(TooDeep { at: levels + 1 })),
+        ("", "[", levels - 1, "\"a", Some(TooDeep { at: levels })),
+        ("{1", ",1", further, "}", None),
+        ("{1", ",1", further, ",", Some(TooWide { at: 240 })),
+        ("{1", ",1", further, "", Some(Syntax { at: 240 })),
+        ("{1", ",1", further, " ,1}", Some(TooWide { at: 241 })),
+        ("[1", "|[1", 100, "", Some(Syntax { at: 302 })),
     ] {
         let text = many(alloc, front, part, count, end)?;
         assert_eq!(rt; read_term(alloc, text.as_bytes()).err(), fault);

@@ -1,5 +1,5 @@
 use Rattle.std.proofs.Common.{◌≡◌, ◌-◌}
-use Rattle.ca_text.specs.Reading.{characters_at, with_front}
+use Rattle.ca_text.specs.Inner.Reading.{characters_at, with_front}
 use Rattle.ca_text.proofs.character.characters.Given as goal
 
 abbrev pub invariant-loop : goal.invariant-loop

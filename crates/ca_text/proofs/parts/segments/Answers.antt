@@ -1,6 +1,6 @@
 use Rattle.std.proofs.Common.{◌≡◌, ℕ, List, ◌++◌, ap, ◌∙◌, length}
 use Rattle.std.proofs.lemmas.Result.{err_from_is_err_and}
-use Rattle.ca_text.specs.Reading.{segment_step}
+use Rattle.ca_text.specs.Inner.Reading.{segment_step}
 use Rattle.ca_text.proofs.Loops.{series_goes_on, series_closed, series_fails, series_ends}
 use Rattle.ca_text.proofs.parts.segments.Goals as goal
 

@@ -1,5 +1,5 @@
 use Rattle.std.proofs.Common.{◌≡◌, ◌-◌, length}
-use Rattle.ca_text.specs.Reading.{series_at, segment_step, with_front}
+use Rattle.ca_text.specs.Inner.Reading.{series_at, segment_step, with_front}
 use Rattle.ca_text.proofs.parts.segments.Given as goal
 
 abbrev pub invariant-loop-i : goal.invariant-loop-i

@@ -1,6 +1,7 @@
 use Rattle.std.proofs.Common.{◌≡◌, ◌+◌, ◌*◌, ◌-◌, ◌≤◌, length}
 use Rattle.ca_text.specs.Grammar.{standard}
-use Rattle.ca_text.specs.Reading.{term_at, other_at, series_at, element_step, cells_at, with_front, with_heads}
+use Rattle.ca_text.specs.Inner.Reading.{term_at, other_at, series_at, element_step, cells_at, with_front, with_heads}
+use Rattle.ca_term.specs.declared.bounds.TheConstants.{MOST_ELEMENTS}
 use Rattle.ca_text.proofs.read.+read.Given as goal
 
 abbrev pub decreases-term : goal.decreases-term
@@ -41,8 +42,8 @@ decreases-element_step l = 12 * l.levels + 1
 
 abbrev pub invariant-elements-loop-i : goal.invariant-elements-loop-i
 invariant-elements-loop-i l =
-    with_front l.items.items (series_at (element_step (term_at standard l.levels)) (120 - l.i) l.rest) ≡ series_at
-    (element_step (term_at standard l.levels)) 120 l.bytes
+    with_front l.items.items (series_at (element_step (term_at standard l.levels)) (MOST_ELEMENTS - l.i) l.rest) ≡ series_at
+    (element_step (term_at standard l.levels)) MOST_ELEMENTS l.bytes
 
 abbrev pub invariant-cells-loop : goal.invariant-cells-loop
 invariant-cells-loop l = record {

@@ -1,5 +1,5 @@
 use Rattle.std.proofs.Common.{◌≡◌, ◌-◌}
-use Rattle.ca_text.specs.Reading.{brackets_at}
+use Rattle.ca_text.specs.Inner.Reading.{brackets_at}
 use Rattle.ca_text.proofs.read.brackets.Given as goal
 
 abbrev pub invariant-loop : goal.invariant-loop

@@ -1,5 +1,5 @@
 use Rattle.std.proofs.Common.{◌≡◌, ◌≤◌, length}
-use Rattle.ca_text.specs.Reading.{digits_after}
+use Rattle.ca_text.specs.Inner.Reading.{digits_after}
 use Rattle.ca_text.proofs.scan.digits.Given as goal
 
 abbrev pub invariant-loop-rest : goal.invariant-loop-rest

@@ -1,5 +1,5 @@
 use Rattle.std.proofs.Common.{◌≡◌, ◌+◌, length}
-use Rattle.ca_text.specs.Reading.{name_length}
+use Rattle.ca_text.specs.Inner.Reading.{name_length}
 use Rattle.ca_text.proofs.scan.name_length.Given as goal
 
 abbrev pub invariant-loop-rest : goal.invariant-loop-rest

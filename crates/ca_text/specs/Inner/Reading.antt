@@ -1,11 +1,13 @@
 -- How a text is read from the left: a value and the bytes after it, or why and how many bytes before the end no text goes on.
 -- The grammar decides what is a text; that these functions read just its texts is a law.
-use Rattle.std.specs.Prelude.{◌≡◌, ℕ, zero, suc, ◌+◌, ◌-◌, ◌*◌, ◌^◌, Bool, true, false, not, ◌&&◌, ◌||◌, ◌==◌, nat_le, nat_lt, ℤ, pos, neg_ℤ, Option, None, Some, Result, Ok, Err, List, [], ◌∷◌, ◌++◌, length, take, drop, if◌then◌else◌}
+use Rattle.std.specs.Prelude.{◌≡◌, ℕ, zero, suc, ◌+◌, ◌-◌, ◌*◌, ◌^◌, Bool, true, false, not, ◌&&◌, ◌||◌, ◌==◌, nat_le, nat_lt, ℤ, pos, neg_ℤ, Option, None, Some, Result, Ok, Err, List, [], ◌∷◌, ◌++◌, length, take, drop, slice_index, if◌then◌else◌}
 use Rattle.std.specs.Char.{is_ascii_digit, is_ascii_hexdigit, is_ascii_lowercase, digit_value}
 use Rattle.std.specs.Str.{encode_utf8_all, all_scalars}
-use Rattle.ca_term.specs.Tree.{Tree, Integer, Atom, Tuple, Nil, Cons, Binary, row_of}
+use Rattle.bstr.specs.Utf8.{decoded}
+use Rattle.ca_term.specs.Tree.{Tree, Integer, Atom, Tuple, Nil, Cons, Binary, row_of, list_of}
+use Rattle.ca_text.specs.Bytes.{backslash, close_angle, close_brace, close_bracket, comma, double_quote, minus_sign, open_angle, open_brace, open_bracket, single_quote, vertical_bar, letter_x, line_feed, digit_zero}
 use Rattle.ca_text.specs.Text.{is_name_char}
-use Rattle.ca_text.specs.Grammar.{Limits, skip, escape_of, points}
+use Rattle.ca_text.specs.Grammar.{Limits, skip, escape_of, points, most_byte}
 use Rattle.ca_text.specs.declared.fault.Fault.{Fault}
 use Rattle.ca_text.specs.declared.fault.Why.{Why}
 use Rattle.ca_text.specs.declared.fault.Why.TheVariants.{Syntax, AtomTooLong, TooDeep, TooWide}
@@ -51,7 +53,7 @@ unfoldable pub digits_after : ℕ → ℕ → List ℕ → Read ℕ
 digits_after most n [] = Ok (n, [])
 digits_after most n (b ∷ bytes) =
     if is_ascii_digit b
-    then (if nat_le (n * 10 + (b - 48)) most then digits_after most (n * 10 + (b - 48)) bytes else syntax_fault (b ∷ bytes))
+    then (if nat_le (n * 10 + (b - digit_zero)) most then digits_after most (n * 10 + (b - digit_zero)) bytes else syntax_fault (b ∷ bytes))
     else Ok (n, b ∷ bytes)
 
 -- one digit or more, of a value of at most so much
@@ -67,7 +69,7 @@ positive_at bytes = number_at (2 ^ 63 - 1) bytes >>= λ x. Ok (pos x.0, x.1)
 
 unfoldable pub integer_at : List ℕ → Read ℤ
 integer_at [] = syntax_fault []
-integer_at (b ∷ bytes) = if b == 45 then negative_at bytes else positive_at (b ∷ bytes)
+integer_at (b ∷ bytes) = if b == minus_sign then negative_at bytes else positive_at (b ∷ bytes)
 
 -- how many characters of a name stand at the front
 unfoldable pub name_length : List ℕ → ℕ
@@ -81,54 +83,18 @@ name_at most bytes =
     then Ok (take (name_length bytes) bytes, drop (name_length bytes) bytes)
     else fault AtomTooLong (drop most bytes)
 
--- a byte from low on and below high
-unfoldable pub byte_between : ℕ → ℕ → List ℕ → Read ℕ
-byte_between low high [] = syntax_fault []
-byte_between low high (b ∷ bytes) = if nat_le low b && nat_lt b high then Ok (b, bytes) else syntax_fault (b ∷ bytes)
+-- how many bytes at the front begin a code point, where none stands there; bstr counts a first byte that begins none
+unfoldable pub begun : List ℕ → ℕ
+begun bytes = if nat_le 0xc2 (slice_index bytes 0) && nat_le (slice_index bytes 0) 0xf4 then (decoded bytes).size else 0
 
--- a byte of a code point after the first one
-unfoldable pub inner_byte : List ℕ → Read ℕ
-inner_byte bytes = byte_between 128 192 bytes
-
--- the bounds of the second byte of a character of three bytes and of four, by the first: no form but the shortest, no surrogate,
--- none past 10FFFF
-abbrev pub least_of_three : ℕ → ℕ
-least_of_three b = if b == 0xe0 then 160 else 128
-
-abbrev pub end_of_three : ℕ → ℕ
-end_of_three b = if b == 0xed then 160 else 192
-
-abbrev pub least_of_four : ℕ → ℕ
-least_of_four b = if b == 0xf0 then 144 else 128
-
-abbrev pub end_of_four : ℕ → ℕ
-end_of_four b = if b == 0xf4 then 144 else 192
-
--- the bytes of a code point after its first byte b, where it has two bytes, three, or four
-unfoldable pub two_at : ℕ → List ℕ → Read ℕ
-two_at b bytes = inner_byte bytes >>= λ c. Ok ((b - 192) * 64 + (c.0 - 128), c.1)
-
-unfoldable pub three_at : ℕ → List ℕ → Read ℕ
-three_at b bytes =
-    byte_between (least_of_three b) (end_of_three b) bytes >>= λ c.
-    inner_byte c.1 >>= λ d. Ok (((b - 224) * 64 + (c.0 - 128)) * 64 + (d.0 - 128), d.1)
-
-unfoldable pub four_at : ℕ → List ℕ → Read ℕ
-four_at b bytes =
-    byte_between (least_of_four b) (end_of_four b) bytes >>= λ c.
-    inner_byte c.1 >>= λ d.
-    inner_byte d.1 >>= λ e. Ok ((((b - 240) * 64 + (c.0 - 128)) * 64 + (d.0 - 128)) * 64 + (e.0 - 128), e.1)
+-- what is read where this code point stands at the front, or none
+unfoldable pub point_of : Option ℕ → List ℕ → Read ℕ
+point_of (Some c) bytes = Ok (c, drop (decoded bytes).size bytes)
+point_of None bytes = syntax_fault (drop (begun bytes) bytes)
 
 -- a code point in UTF-8
 unfoldable pub point_at : List ℕ → Read ℕ
-point_at [] = syntax_fault []
-point_at (b ∷ bytes) =
-    if nat_lt b 0x80 then Ok (b, bytes)
-    else (if nat_lt b 0xc2 then syntax_fault (b ∷ bytes)
-    else (if nat_lt b 0xe0 then two_at b bytes
-    else (if nat_lt b 0xf0 then three_at b bytes
-    else (if nat_lt b 0xf5 then four_at b bytes
-    else syntax_fault (b ∷ bytes)))))
+point_at bytes = point_of (decoded bytes).char bytes
 
 -- whether c is a code point, and c <= most
 abbrev pub is_point : ℕ → ℕ → Bool
@@ -144,7 +110,7 @@ hex_after most more c [] = syntax_fault []
 hex_after most more c (b ∷ bytes) =
     if is_ascii_hexdigit b && nat_lt 0 more
     then (if may_stand most (more - 1) (c * 16 + digit_value b) then hex_after most (more - 1) (c * 16 + digit_value b) bytes else syntax_fault (b ∷ bytes))
-    else (if b == 125 && is_point most c then Ok (c, bytes) else syntax_fault (b ∷ bytes))
+    else (if b == close_brace && is_point most c then Ok (c, bytes) else syntax_fault (b ∷ bytes))
 
 -- what stands after \x
 unfoldable pub hex_at : ℕ → List ℕ → Read ℕ
@@ -158,17 +124,17 @@ or_fault (Some c) rest bytes = Ok (c, rest)
 -- what stands after a backslash
 unfoldable pub escape_at : ℕ → List ℕ → Read ℕ
 escape_at most [] = syntax_fault []
-escape_at most (b ∷ bytes) = if b == 120 then (expect 123 bytes >>= λ rest. hex_at most rest) else or_fault (escape_of b) bytes (b ∷ bytes)
+escape_at most (b ∷ bytes) = if b == letter_x then (expect open_brace bytes >>= λ rest. hex_at most rest) else or_fault (escape_of b) bytes (b ∷ bytes)
 
 -- whether a byte begins a code point of at most `most`, as it is or after a backslash, before the closing quote
 abbrev pub begins_character : ℕ → ℕ → ℕ → Bool
-begins_character close most b = not (b == close || b == 10) && (nat_lt b 128 || (nat_lt 127 most && (nat_le 0xc2 b && nat_lt b 0xf5)))
+begins_character close most b = not (b == close || b == line_feed) && (nat_lt b 128 || (nat_lt 127 most && (nat_le 0xc2 b && nat_lt b 0xf5)))
 
 -- a code point of at most `most`
 unfoldable pub character_at : ℕ → ℕ → List ℕ → Read ℕ
 character_at close most [] = syntax_fault []
 character_at close most (b ∷ bytes) =
-    if b == 92 then escape_at most bytes
+    if b == backslash then escape_at most bytes
     else (if begins_character close most b then point_at (b ∷ bytes) else syntax_fault (b ∷ bytes))
 
 -- the next code point, or none at the closing quote
@@ -194,7 +160,7 @@ characters_at over close most (suc n) bytes = next_point_at close most bytes >>=
 
 -- the characters of a string, of which there are no more than bytes
 abbrev pub string_at : ℕ → List ℕ → Read (List ℕ)
-string_at most bytes = characters_at Syntax 34 most (length bytes) bytes
+string_at most bytes = characters_at Syntax double_quote most (length bytes) bytes
 
 abbrev pub most_point : ℕ
 most_point = 0x10ffff
@@ -204,15 +170,15 @@ most_shown = 127
 
 -- an atom in quotes, behind the first one
 abbrev pub quoted_at : ℕ → List ℕ → Read Tree
-quoted_at most bytes = characters_at AtomTooLong 39 most_point most bytes >>= λ x. Ok (Atom (encode_utf8_all x.0), x.1)
+quoted_at most bytes = characters_at AtomTooLong single_quote most_point most bytes >>= λ x. Ok (Atom (encode_utf8_all x.0), x.1)
 
 abbrev pub one_byte_at : List ℕ → Read (List ℕ)
-one_byte_at bytes = number_at 255 bytes >>= λ x. Ok (x.0 ∷ [], x.1)
+one_byte_at bytes = number_at most_byte bytes >>= λ x. Ok (x.0 ∷ [], x.1)
 
 -- a part of a binary
 unfoldable pub segment_at : List ℕ → Read (List ℕ)
 segment_at [] = one_byte_at []
-segment_at (b ∷ bytes) = if b == 34 then string_at most_shown bytes else one_byte_at (b ∷ bytes)
+segment_at (b ∷ bytes) = if b == double_quote then string_at most_shown bytes else one_byte_at (b ∷ bytes)
 
 -- Parts one after another, at most so many. A step reads a part and what follows it, and tells whether a further part follows;
 -- it is told how many more there may be.
@@ -228,8 +194,8 @@ series_at step (suc n) bytes = step n bytes >>= λ x. series_rest x.0.0 (series_
 unfoldable pub after_segment_at : List ℕ → Read Bool
 after_segment_at [] = syntax_fault []
 after_segment_at (b ∷ bytes) =
-    if b == 44 then Ok (true, skip bytes)
-    else (if b == 62 then (expect 62 bytes >>= λ rest. Ok (false, rest)) else syntax_fault (b ∷ bytes))
+    if b == comma then Ok (true, skip bytes)
+    else (if b == close_angle then (expect close_angle bytes >>= λ rest. Ok (false, rest)) else syntax_fault (b ∷ bytes))
 
 unfoldable pub segment_step : ℕ → List ℕ → Read (List ℕ × Bool)
 segment_step n bytes = segment_at bytes >>= λ x. after_segment_at (skip x.1) >>= λ y. Ok ((x.0, y.0), y.1)
@@ -237,14 +203,14 @@ segment_step n bytes = segment_at bytes >>= λ x. after_segment_at (skip x.1) >>
 -- what stands behind the opening brackets of a binary and the blanks there; there are no more segments than bytes
 unfoldable pub bytes_at : List ℕ → Read (List ℕ)
 bytes_at [] = syntax_fault []
-bytes_at (b ∷ bytes) = if b == 62 then (expect 62 bytes >>= λ rest. Ok ([], rest)) else series_at segment_step (length (b ∷ bytes)) (b ∷ bytes)
+bytes_at (b ∷ bytes) = if b == close_angle then (expect close_angle bytes >>= λ rest. Ok ([], rest)) else series_at segment_step (length (b ∷ bytes)) (b ∷ bytes)
 
 -- what follows an element, where there may be so many more: a comma, or the closing brace
 unfoldable pub after_element_at : ℕ → List ℕ → Read Bool
 after_element_at n [] = syntax_fault []
 after_element_at n (b ∷ bytes) =
-    if b == 44 then (if n == 0 then fault TooWide (b ∷ bytes) else Ok (true, skip bytes))
-    else (if b == 125 then Ok (false, bytes) else syntax_fault (b ∷ bytes))
+    if b == comma then (if n == 0 then fault TooWide (b ∷ bytes) else Ok (true, skip bytes))
+    else (if b == close_brace then Ok (false, bytes) else syntax_fault (b ∷ bytes))
 
 unfoldable pub element_step : (List ℕ → Read Tree) → ℕ → List ℕ → Read (List Tree × Bool)
 element_step element n bytes = element bytes >>= λ x. after_element_at n (skip x.1) >>= λ y. Ok ((x.0 ∷ [], y.0), y.1)
@@ -252,7 +218,7 @@ element_step element n bytes = element bytes >>= λ x. after_element_at n (skip 
 -- what stands behind the opening brace of a tuple and the blanks there
 unfoldable pub elements_at : (List ℕ → Read Tree) → ℕ → List ℕ → Read (List Tree)
 elements_at element most [] = syntax_fault []
-elements_at element most (b ∷ bytes) = if b == 125 then Ok ([], bytes) else series_at (element_step element) most (b ∷ bytes)
+elements_at element most (b ∷ bytes) = if b == close_brace then Ok ([], bytes) else series_at (element_step element) most (b ∷ bytes)
 
 -- what follows a head and blanks
 pub data Next : Type 0 where
@@ -265,34 +231,34 @@ pub data Next : Type 0 where
 
 -- a last tail, and the closing bracket behind it
 abbrev pub closed : Read Tree → Result Next Fault
-closed tail = tail >>= λ x. expect 93 (skip x.1) >>= λ rest. Ok (Last x.0 rest)
+closed tail = tail >>= λ x. expect close_bracket (skip x.1) >>= λ rest. Ok (Last x.0 rest)
 
 -- the tail after a bar, behind an opening bracket and blanks
 abbrev pub inner_at : List ℕ → Result Next Fault
 inner_at [] = Ok (Inner [])
-inner_at (b ∷ bytes) = if b == 93 then closed (Ok (Nil, bytes)) else Ok (Inner (b ∷ bytes))
+inner_at (b ∷ bytes) = if b == close_bracket then closed (Ok (Nil, bytes)) else Ok (Inner (b ∷ bytes))
 
 -- the tail after a bar
 unfoldable pub tail_at : (List ℕ → Read Tree) → List ℕ → Result Next Fault
 tail_at other [] = closed (other [])
-tail_at other (b ∷ bytes) = if b == 91 then inner_at (skip bytes) else closed (other (b ∷ bytes))
+tail_at other (b ∷ bytes) = if b == open_bracket then inner_at (skip bytes) else closed (other (b ∷ bytes))
 
 unfoldable pub next_at : (List ℕ → Read Tree) → List ℕ → Result Next Fault
 next_at other [] = syntax_fault []
 next_at other (b ∷ bytes) =
-    if b == 44 then Ok (Head (skip bytes))
-    else (if b == 93 then Ok (Last Nil bytes)
-    else (if b == 124 then tail_at other (skip bytes) else syntax_fault (b ∷ bytes)))
+    if b == comma then Ok (Head (skip bytes))
+    else (if b == close_bracket then Ok (Last Nil bytes)
+    else (if b == vertical_bar then tail_at other (skip bytes) else syntax_fault (b ∷ bytes)))
 
 -- so many closing brackets, with blanks before each
 unfoldable pub brackets_at : ℕ → List ℕ → Result (List ℕ) Fault
 brackets_at zero bytes = Ok bytes
-brackets_at (suc n) bytes = expect 93 (skip bytes) >>= λ rest. brackets_at n rest
+brackets_at (suc n) bytes = expect close_bracket (skip bytes) >>= λ rest. brackets_at n rest
 
 -- the rest of a list whose head is known
 abbrev pub cells_after : Tree → (List ℕ → Read Tree) → Next → Read Tree
 cells_after head cells (Head rest) = cells rest >>= λ x. Ok (Cons head x.0, x.1)
-cells_after head cells (Inner rest) = cells rest >>= λ x. expect 93 (skip x.1) >>= λ after. Ok (Cons head x.0, after)
+cells_after head cells (Inner rest) = cells rest >>= λ x. expect close_bracket (skip x.1) >>= λ after. Ok (Cons head x.0, after)
 cells_after head cells (Last tail rest) = Ok (Cons head tail, rest)
 
 -- a head and what follows it
@@ -307,20 +273,15 @@ cells_at element other (suc n) bytes = cell_step element other bytes >>= λ x. c
 -- what stands behind the opening bracket of a list and the blanks there
 unfoldable pub list_at : (element other : List ℕ → Read Tree) → List ℕ → Read Tree
 list_at element other [] = syntax_fault []
-list_at element other (b ∷ bytes) = if b == 93 then Ok (Nil, bytes) else cells_at element other (length (b ∷ bytes)) (b ∷ bytes)
-
--- the list of these heads and this last tail
-abbrev pub conses : List Tree → Tree → Tree
-conses [] tail = tail
-conses (t ∷ ts) tail = Cons t (conses ts tail)
+list_at element other (b ∷ bytes) = if b == close_bracket then Ok (Nil, bytes) else cells_at element other (length (b ∷ bytes)) (b ∷ bytes)
 
 -- heads that were read, in so many lists whose closing brackets are still to come, and the rest of the list
 abbrev pub with_heads : List Tree → ℕ → Read Tree → Read Tree
-with_heads heads owed read = read >>= λ x. brackets_at owed x.1 >>= λ rest. Ok (conses heads x.0, rest)
+with_heads heads owed read = read >>= λ x. brackets_at owed x.1 >>= λ rest. Ok (list_of heads x.0, rest)
 
 -- whether a byte begins a term
 abbrev pub begins_term : ℕ → Bool
-begins_term b = ((b == 123 || b == 91) || (b == 34 || b == 39)) || ((b == 60 || b == 45) || (is_ascii_digit b || is_ascii_lowercase b))
+begins_term b = ((b == open_brace || b == open_bracket) || (b == double_quote || b == single_quote)) || ((b == open_angle || b == minus_sign) || (is_ascii_digit b || is_ascii_lowercase b))
 
 abbrev pub string_points_at : List ℕ → Read Tree
 string_points_at bytes = string_at most_point bytes >>= λ x. Ok (points x.0, x.1)
@@ -329,15 +290,15 @@ string_points_at bytes = string_at most_point bytes >>= λ x. Ok (points x.0, x.
 unfoldable pub points_at : ℕ → List ℕ → Read Tree
 points_at zero [] = syntax_fault []
 points_at zero (b ∷ bytes) =
-    if b == 34 then Ok (Nil, bytes)
-    else (if begins_character 34 most_point b then fault TooDeep (b ∷ bytes) else syntax_fault (b ∷ bytes))
+    if b == double_quote then Ok (Nil, bytes)
+    else (if begins_character double_quote most_point b then fault TooDeep (b ∷ bytes) else syntax_fault (b ∷ bytes))
 points_at (suc levels) bytes = string_points_at bytes
 
 abbrev pub tuple_at : (List ℕ → Read Tree) → ℕ → List ℕ → Read Tree
 tuple_at element most bytes = elements_at element most bytes >>= λ x. Ok (Tuple (row_of x.0), x.1)
 
 abbrev pub binary_at : List ℕ → Read Tree
-binary_at bytes = expect 60 bytes >>= λ rest. bytes_at (skip rest) >>= λ x. Ok (Binary x.0, x.1)
+binary_at bytes = expect open_angle bytes >>= λ rest. bytes_at (skip rest) >>= λ x. Ok (Binary x.0, x.1)
 
 abbrev pub atom_at : ℕ → List ℕ → Read Tree
 atom_at most bytes = name_at most bytes >>= λ x. Ok (Atom x.0, x.1)
@@ -349,17 +310,17 @@ integer_term_at bytes = integer_at bytes >>= λ x. Ok (Integer x.0, x.1)
 unfoldable pub other_at : Limits → (List ℕ → Read Tree) → ℕ → List ℕ → Read Tree
 other_at limits element levels [] = integer_term_at []
 other_at limits element levels (b ∷ bytes) =
-    if b == 123 then tuple_at element limits.elements (skip bytes)
-    else (if b == 34 then points_at levels bytes
-    else (if b == 39 then quoted_at limits.characters bytes
-    else (if b == 60 then binary_at bytes
+    if b == open_brace then tuple_at element limits.elements (skip bytes)
+    else (if b == double_quote then points_at levels bytes
+    else (if b == single_quote then quoted_at limits.characters bytes
+    else (if b == open_angle then binary_at bytes
     else (if is_ascii_lowercase b then atom_at limits.characters (b ∷ bytes)
     else integer_term_at (b ∷ bytes)))))
 
 -- a term in brackets, or another one
 abbrev pub bracketed : (list other : List ℕ → Read Tree) → List ℕ → Read Tree
 bracketed list other [] = other []
-bracketed list other (b ∷ bytes) = if b == 91 then list (skip bytes) else other (b ∷ bytes)
+bracketed list other (b ∷ bytes) = if b == open_bracket then list (skip bytes) else other (b ∷ bytes)
 
 -- no term may stand here
 abbrev pub too_deep : List ℕ → Read Tree

@@ -1,5 +1,5 @@
 -- What contracts see of what follows a head.
-use Rattle.ca_text.specs.Reading.{Next, Head, Inner, Last}
+use Rattle.ca_text.specs.Inner.Reading.{Next, Head, Inner, Last}
 use Rattle.ca_text.specs.declared.read.Next.{Next as Found}
 use Rattle.ca_text.specs.declared.read.Next.TheVariants as found
 
