@@ -1,16 +1,11 @@
 -- What is printed of answers and of a table.
 use Rattle.std.specs.Prelude.{ℕ, ◌+◌, Bool, true, false, List, [], ◌∷◌, ◌++◌, length, codes, decimal, flat_map, Ok, Err}
-use Rattle.ca_term.specs.Tree.{Tree, Nil, Cons}
+use Rattle.ca_term.specs.Tree.{Tree, Nil, list_of}
 use Rattle.ca_ets.specs.Command.{Response, Truth, Value, Items, Results, End, Error, Answer, Full, Deep, Worn}
 use Rattle.ca_ets.specs.declared.command.Fault.{Fault}
 use Rattle.ca_ets.specs.declared.command.Fault.TheVariants.{BadArg, Range, Size}
 use Rattle.ca_text.specs.Text.{text_of}
 use Rattle.ca_cmd.specs.File.{Numbered}
-
--- the list of these terms, as a term
-abbrev pub list_of : List Tree → Tree
-list_of [] = Nil
-list_of (t ∷ ts) = Cons t (list_of ts)
 
 abbrev pub text_of_fault : Fault → List ℕ
 text_of_fault BadArg = codes "error badarg"
@@ -27,8 +22,8 @@ abbrev pub text_of_response : Response → List ℕ
 text_of_response (Truth true) = codes "true"
 text_of_response (Truth false) = codes "false"
 text_of_response (Value t) = text_of t
-text_of_response (Items ts) = text_of (list_of ts)
-text_of_response (Results ts more) = codes "{" ++ text_of (list_of ts) ++ batch_end more
+text_of_response (Items ts) = text_of (list_of ts Nil)
+text_of_response (Results ts more) = codes "{" ++ text_of (list_of ts Nil) ++ batch_end more
 text_of_response End = codes "'$end_of_table'"
 text_of_response (Error fault) = text_of_fault fault
 

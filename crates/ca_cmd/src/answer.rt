@@ -1,14 +1,15 @@
 //! Answers as text.
 ghost use Rattle.std.specs.Prelude.{◌≡◌, ◌++◌, OnOk, OnErr};
 ghost use Rattle.ca_ets.specs.Command.{Results, response_of};
+ghost use Rattle.ca_term.specs.Tree.{Nil, list_of};
 ghost use Rattle.ca_text.specs.Text.{text_of};
 ghost use Rattle.ca_text.specs.Written.{BeginsWith};
 ghost use Rattle.ca_cmd.specs.Answers.{answer_of};
-ghost use Rattle.ca_cmd.specs.Output.{batch_end, list_of, text_of_answer, text_of_fault, text_of_response};
+ghost use Rattle.ca_cmd.specs.Output.{batch_end, text_of_answer, text_of_fault, text_of_response};
 
-use crate::put::{put, put_term};
 use ca_ets::{Fault, Reply};
 use ca_term::Term;
+use ca_text::{print_term, put};
 use std::alloc::AllocError;
 
 /// The answer to a command: a reply, or one of the three refusals of a table that has no room, no depth or no numbers left.
@@ -82,7 +83,7 @@ fn put_batch_end(more: bool, into: &mut Vec<u8>) -> Result<(), AllocError>
 // The list of these terms.
 #[tactic(auto, using(ca_text::proofs::Fronts::begins_more))]
 fn put_list(terms: &[Term], into: &mut Vec<u8>) -> Result<(), AllocError>
-    ensures ok { OnOk result (into.new.items ≡ into.old.items ++ text_of (list_of terms.now)) }
+    ensures ok { OnOk result (into.new.items ≡ into.old.items ++ text_of (list_of terms.now Nil)) }
     ensures front { BeginsWith into.new.items into.old.items }
 {
     let Some((first, others)) = terms.split_first() else {
@@ -106,4 +107,12 @@ fn put_fault(fault: Fault, into: &mut Vec<u8>) -> Result<(), AllocError>
         Fault::Range => put(b"error range", into),
         Fault::Size => put(b"error size", into),
     }
+}
+
+// Appends the text of a term.
+pub(crate) fn put_term(term: &Term, into: &mut Vec<u8>) -> Result<(), AllocError>
+    ensures ok { OnOk result (into.new.items ≡ into.old.items ++ text_of term.now) }
+    ensures front { BeginsWith into.new.items into.old.items }
+{
+    print_term(term, into)
 }

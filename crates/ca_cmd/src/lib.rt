@@ -9,7 +9,6 @@ mod fault;
 mod laws;
 mod line;
 mod output;
-mod put;
 mod reading;
 
 pub use answer::{Answer, show_reply};

@@ -5,9 +5,9 @@ ghost use Rattle.ca_text.specs.Written.{BeginsWith};
 ghost use Rattle.ca_cmd.specs.Answers.{answer_of};
 ghost use Rattle.ca_cmd.specs.Output.{answer_line, client_line, end_line, object_line, table_text};
 
-use crate::answer::{Answer, put_answer};
-use crate::put::{put, put_number, put_term};
+use crate::answer::{Answer, put_answer, put_term};
 use ca_term::Term;
+use ca_text::{put, put_number};
 use std::alloc::AllocError;
 
 /// Appends the line that stands before a client's answers. Clients count from 1.
