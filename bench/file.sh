@@ -48,21 +48,20 @@ else
 fi
 
 # The program works in phases, one after the other, and most of its layers are inlined into one function. So the time is shared by
-# the samples that tell where a phase begins: the first one in a function of its layer, or in a call of the kernel.
+# the samples that tell where a phase begins: the first one in a function of its layer, or in a call of the kernel. In the phase
+# "play" commands are answered, answers become text, and terms are let go.
 if ! perf record -q -F 5000 -g -o "$out/perf" .built/ca run "$out/file.ca" >"$out/printed" 2>"$out/perf.log"; then
   echo "perf does not work here: $(head -n 1 "$out/perf.log" 2>/dev/null)"
   exit 0
 fi
-perf script -i "$out/perf" -F time,ip,sym 2>/dev/null | awk 'BEGIN { RS = ""; phase = 1; split("fetch|text|table|output|let go|write|end", name, "|") }
+perf script -i "$out/perf" -F time,ip,sym 2>/dev/null | awk 'BEGIN { RS = ""; phase = 1; split("fetch|text|play|write|end", name, "|") }
   {
     time = $1 + 0
     if (NR == 1) last = start = time
     if (phase == 1 && $3 ~ /^ca_text::read|^ca_cmd::command/) phase = 2
-    if (phase == 2 && $3 ~ /^ca_ets::table|^ca_term::(copy|length|order)/) phase = 3
-    if (phase == 3 && $3 ~ /^ca_cmd::(put|answer)|^ca_text::print/) phase = 4
-    if (phase == 4 && $3 ~ /drop/) phase = 5
-    if (phase >= 4 && /ksys_write|vfs_write/) phase = 6
-    else if (phase == 6) phase = 7
+    if (phase == 2 && $3 ~ /^ca_ets::table|^ca_term::(copy|length|order)|^ca_cmd::(output|answer)|^ca_text::print/) phase = 3
+    if (phase >= 3 && /ksys_write|vfs_write/) phase = 4
+    else if (phase == 4) phase = 5
     spent[phase] += time - last
     last = time
     here[phase]++
@@ -73,7 +72,7 @@ perf script -i "$out/perf" -F time,ip,sym 2>/dev/null | awk 'BEGIN { RS = ""; ph
     samples[phase, where]++
   }
   END {
-    for (p = 1; p <= 7; p++) {
+    for (p = 1; p <= 5; p++) {
       printf "%-8s %6.1f ms %5.1f%%\n", name[p], 1000 * spent[p], 100 * spent[p] / (last - start)
       for (key in samples) {
         split(key, part, SUBSEP)
