@@ -8,9 +8,9 @@ use Rattle.std.proofs.lemmas.Str.{cons_from_encodes, encode_same, chars-encodes}
 use Rattle.std.specs.Char.{IsScalar, encode_utf8}
 use Rattle.std.specs.Str.{encode_utf8_all, all_scalars, IsUtf8}
 use Rattle.ca_term.specs.declared.bounds.TheConstants.{MOST_CODE_POINTS}
-use Rattle.ca_term.specs.Tree.{Tree, Atom, IsTerm, IsNarrow, depth}
+use Rattle.ca_term.specs.Tree.{Tree, Atom, IsNarrow}
 use Rattle.ca_term.specs.Character.{IsNoCharacter}
-use Rattle.ca_term.specs.Code.{code_of, escaped}
+use Rattle.ca_term.specs.Code.{escaped}
 use Rattle.ca_term.proofs.Escapes.{escaped_zero, escaped_suc, escaped_nil}
 use Rattle.ca_order.specs.Zeros.{HasNoZero, opened}
 use Rattle.ca_order.specs.Stuck.{IsStuck, IsRest}
@@ -18,7 +18,7 @@ use Rattle.ca_order.specs.Languages.{HasText, HasChar}
 use Rattle.ca_order.specs.Reads.{BeginsWithText, BeginsWithTerm}
 use Rattle.ca_order.proofs.Opened.{escaped_append, escaped_ends, opened_append, opened_no_zero, opened_zero, opened_nil, same_opened, escaped_after, same_head, same_second}
 use Rattle.ca_order.proofs.Starts.{stuck_here, IsPrefixFree, Begins}
-use Rattle.ca_order.proofs.Parts.{code_atom}
+use Rattle.ca_order.proofs.Parts.{code_atom, begins_as}
 
 -- ---- characters
 
@@ -237,16 +237,11 @@ pub begins_atom : (bytes body rest text : List ℕ) (t : Tree) → BeginsWithTex
     → BeginsWithTerm 1 (0x30 ∷ bytes) t rest
 begins_atom bytes body rest text t w o e =
     let same : text ≡ w.text = same_opened text w.text (o ∙ w.body_is) in
-    let f : t ≡ Atom w.text = e ∙ ap Atom same in
-    let c : code_of t ≡ 0x30 ∷ escaped w.text = ap code_of f ∙ code_atom w.text in
     let inner : bytes ≡ escaped w.text ++ rest =
     w.parts ∙ ap (λ x. x ++ 0 ∷ 0 ∷ rest) w.body_is ∙ sym (append_assoc (opened w.text) (0 ∷ 0 ∷ []) rest)
     ∙ ap (λ x. x ++ rest) (sym (escaped_ends w.text)) in
-    record {
-      parts = ap (λ (x : List ℕ). 0x30 ∷ x) inner ∙ ap (λ x. x ++ rest) (sym c);
-      shallow = subst (λ (x : Tree). depth x ≤ 1) (sym f) (omega arith);
-      bounded = subst IsTerm (sym f) (record { shallow = omega arith; narrow = w.narrow });
-    }
+    begins_as 1 (0x30 ∷ bytes) rest t (Atom w.text) (e ∙ ap Atom same) (ap (λ (x : List ℕ). 0x30 ∷ x) inner ∙ ap (λ x. x ++ rest) (sym (code_atom w.text)))
+    (omega arith) (record { shallow = omega arith; narrow = w.narrow })
 
 pub text_narrow : (bytes body rest text : List ℕ) → BeginsWithText bytes body rest → opened text ≡ body → IsNarrow (Atom text)
 text_narrow bytes body rest text w o = subst (λ (x : List ℕ). IsNarrow (Atom x)) (sym (same_opened text w.text (o ∙ w.body_is))) w.narrow

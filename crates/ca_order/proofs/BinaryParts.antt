@@ -10,9 +10,8 @@ use Rattle.ca_order.specs.Zeros.{HasNoZero, opened}
 use Rattle.ca_order.specs.Stuck.{IsStuck, IsRest}
 use Rattle.ca_order.specs.Languages.{HasBytes}
 use Rattle.ca_order.specs.Reads.{BeginsWithBytes, BeginsWithTerm, IsStuckFault}
-use Rattle.ca_term.specs.Tree.{Tree, Binary, IsTerm, depth}
-use Rattle.ca_term.specs.Code.{code_of}
-use Rattle.ca_order.proofs.Parts.{code_binary}
+use Rattle.ca_term.specs.Tree.{Tree, Binary}
+use Rattle.ca_order.proofs.Parts.{code_binary, begins_as}
 use Rattle.ca_order.proofs.Opened.{escaped_append, escaped_ends, opened_append, opened_no_zero, opened_zero, opened_nil, same_opened, escaped_after, same_head, same_second}
 use Rattle.ca_order.specs.declared.fault.ReadFault.{ReadFault}
 use Rattle.ca_term.proofs.Escapes.{same_escaped}
@@ -126,16 +125,11 @@ pub begins_binary : (bytes body rest inside : List ℕ) (t : Tree) → BeginsWit
     → BeginsWithTerm 1 (0x80 ∷ bytes) t rest
 begins_binary bytes body rest inside t w o e =
     let same : inside ≡ w.inside = same_opened inside w.inside (o ∙ w.body_is) in
-    let f : t ≡ Binary w.inside = e ∙ ap Binary same in
-    let c : code_of t ≡ 0x80 ∷ escaped w.inside = ap code_of f ∙ code_binary w.inside in
     let inner : bytes ≡ escaped w.inside ++ rest =
     w.parts ∙ ap (λ x. x ++ 0 ∷ 0 ∷ rest) w.body_is ∙ sym (append_assoc (opened w.inside) (0 ∷ 0 ∷ []) rest)
     ∙ ap (λ x. x ++ rest) (sym (escaped_ends w.inside)) in
-    record {
-      parts = ap (λ (x : List ℕ). 0x80 ∷ x) inner ∙ ap (λ x. x ++ rest) (sym c);
-      shallow = subst (λ (x : Tree). depth x ≤ 1) (sym f) (omega arith);
-      bounded = subst IsTerm (sym f) (record { shallow = omega arith; narrow = w.are_bytes });
-    }
+    begins_as 1 (0x80 ∷ bytes) rest t (Binary w.inside) (e ∙ ap Binary same) (ap (λ (x : List ℕ). 0x80 ∷ x) inner ∙ ap (λ x. x ++ rest) (sym (code_binary w.inside)))
+    (omega arith) (record { shallow = omega arith; narrow = w.are_bytes })
 
 pub begins_plain_binary : (bytes body rest : List ℕ) (t : Tree) → BeginsWithBytes bytes body rest → HasNoZero body → t ≡ Binary body
     → BeginsWithTerm 1 (0x80 ∷ bytes) t rest

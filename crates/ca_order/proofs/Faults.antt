@@ -1,5 +1,7 @@
 -- Faults of readers, by the parts of what they read.
 use Rattle.std.proofs.Common.{◌≡◌, ℕ, List, ◌++◌, length, refl, sym, subst}
+use Rattle.std.specs.Prelude.{Result, Ok, Err, MatchResult}
+use Rattle.std.specs.Result.{IsErrAnd}
 use Rattle.ca_order.specs.declared.fault.ReadFault.{ReadFault}
 use Rattle.ca_order.specs.declared.fault.ReadFault.TheVariants.{Stuck, NoMemory}
 use Rattle.ca_order.specs.Stuck.{IsStuck, IsRest}
@@ -33,3 +35,8 @@ stuck_is_fault L bytes NoMemory f = tt
 pub no_fault : (L : List ℕ → Type 0) (bytes word rest : List ℕ) (e : ReadFault) → IsPrefixFree L → L word → bytes ≡ word ++ rest → IsStuckFault L bytes e → ⊥
 no_fault L bytes word rest (Stuck left) free w p f = stuck_no_word L bytes f.0 word rest free w p f.2
 no_fault L bytes word rest NoMemory free w p f = f
+
+-- What a `?` hands on is the fault that it met.
+pub refused : {T : Type 0} (P : T → Type 0) (Q : ReadFault → Type 0) (r : Result T ReadFault) (e : ReadFault) → IsErrAnd r (λ x. x ≡ e) → Q e → MatchResult r P Q
+refused P Q (Ok x) e h q = absurd h
+refused P Q (Err x) e h q = subst Q (sym h) q

@@ -4,7 +4,7 @@ use Rattle.ca_term.proofs.Grammar.{signed_pos, signed_neg}
 use Rattle.std.proofs.lemmas.Int.{ints, to_z_pos, to_z-of_z}
 use Rattle.std.specs.Int.{w64}
 use Rattle.ca_order.specs.declared.fault.ReadFault.{ReadFault}
-use Rattle.ca_term.specs.Tree.{Tree, Integer, Nil, depth, IsTerm}
+use Rattle.ca_term.specs.Tree.{Tree, Integer, Nil}
 use Rattle.ca_term.specs.Code.{code_of, complement}
 use Rattle.ca_term.specs.Grammar.{number}
 use Rattle.ca_term.proofs.DigitBytes.{number_word}
@@ -14,7 +14,7 @@ use Rattle.ca_order.specs.Reads.{IsReadFault, BeginsWithTerm, BeginsWithDigits}
 use Rattle.ca_order.proofs.Starts.{stuck_here}
 use Rattle.ca_order.proofs.Faults.{fault_behind, fault_same}
 use Rattle.ca_order.proofs.FirstBytes.{IsNoTag, no_tag, has_nil, pos_rest, neg_rest, code_pos, code_neg}
-use Rattle.ca_order.proofs.Parts.{code_nil}
+use Rattle.ca_order.proofs.Parts.{code_nil, begins_as}
 
 pub raise : (low levels : ℕ) (xs ys : List ℕ) (t : Tree) (rest : List ℕ) → xs ≡ ys → low ≤ levels → BeginsWithTerm low ys t rest
     → BeginsWithTerm levels xs t rest
@@ -33,11 +33,8 @@ pub stuck_no_tag : (levels : ℕ) (bytes : List ℕ) → 1 ≤ levels → ((b : 
 stuck_no_tag levels bytes h n = stuck_here (HasTerm levels) bytes 0x60 [] (has_nil levels h) (λ b more rest e w. no_tag levels b rest (n b more e) w)
 
 pub nil_term : (levels : ℕ) (bytes rest : List ℕ) (t : Tree) → 1 ≤ levels → bytes ≡ 0x60 ∷ rest → t ≡ Nil → BeginsWithTerm levels bytes t rest
-nil_term levels bytes rest t h e f = record {
-  parts = e ∙ ap (λ x. x ++ rest) (sym (ap code_of f ∙ code_nil));
-  shallow = subst (λ (x : Tree). depth x ≤ levels) (sym f) h;
-  bounded = subst IsTerm (sym f) (record { shallow = omega arith; narrow = tt });
-}
+nil_term levels bytes rest t h e f =
+    begins_as levels bytes rest t Nil f (e ∙ ap (λ x. x ++ rest) (sym code_nil)) h (record { shallow = omega arith; narrow = tt })
 
 -- ---- integers
 
@@ -62,26 +59,20 @@ pub pos_term : (levels tag : ℕ) (bytes inside : List ℕ) (value : ℕ) (rest 
     → BeginsWithDigits false (tag - 0x20) inside value rest → t ≡ Integer (pos value) → BeginsWithTerm levels bytes t rest
 pos_term levels tag bytes inside value rest t h k p w f =
     let n : 0x20 + (tag - 0x20) ≡ tag = omega arith in
-    let g : t ≡ Integer (pos (number w.digits)) = f ∙ ap (λ (x : ℕ). Integer (pos x)) w.value_is in
-    let c : tag ∷ w.digits ≡ code_of t = ap (λ (x : ℕ). x ∷ w.digits) (sym n) ∙ code_pos w.digits (tag - 0x20) w.are_digits w.many ∙ ap code_of (sym g) in
-    record {
-      parts = p ∙ ap (λ (x : List ℕ). tag ∷ x) w.parts ∙ ap (λ x. x ++ rest) c;
-      shallow = subst (λ (x : Tree). depth x ≤ levels) (sym g) h;
-      bounded = subst IsTerm (sym g) (record { shallow = omega arith; narrow = signed_pos (number w.digits) (number_word w.digits w.are_digits) });
-    }
+    let u : Tree = Integer (pos (number w.digits)) in
+    let c : tag ∷ w.digits ≡ code_of u = ap (λ (x : ℕ). x ∷ w.digits) (sym n) ∙ code_pos w.digits (tag - 0x20) w.are_digits w.many in
+    begins_as levels bytes rest t u (f ∙ ap (λ (x : ℕ). Integer (pos x)) w.value_is) (p ∙ ap (λ (x : List ℕ). tag ∷ x) w.parts ∙ ap (λ x. x ++ rest) c) h
+    (record { shallow = omega arith; narrow = signed_pos (number w.digits) (number_word w.digits w.are_digits) })
 
 pub neg_term : (levels tag : ℕ) (bytes inside : List ℕ) (value : ℕ) (rest : List ℕ) (t : Tree) → 1 ≤ levels → tag ≤ 0x1f → bytes ≡ tag ∷ inside
     → BeginsWithDigits true (0x1f - tag) inside value rest → t ≡ Integer (negsuc value) → BeginsWithTerm levels bytes t rest
 neg_term levels tag bytes inside value rest t h k p w f =
     let n : 0x1f - (0x1f - tag) ≡ tag = omega arith in
-    let g : t ≡ Integer (negsuc (number w.digits)) = f ∙ ap (λ (x : ℕ). Integer (negsuc x)) w.value_is in
-    let c : tag ∷ complement w.digits ≡ code_of t =
-    ap (λ (x : ℕ). x ∷ complement w.digits) (sym n) ∙ code_neg w.digits (0x1f - tag) w.are_digits w.many ∙ ap code_of (sym g) in
-    record {
-      parts = p ∙ ap (λ (x : List ℕ). tag ∷ x) w.parts ∙ ap (λ x. x ++ rest) c;
-      shallow = subst (λ (x : Tree). depth x ≤ levels) (sym g) h;
-      bounded = subst IsTerm (sym g) (record { shallow = omega arith; narrow = signed_neg (number w.digits) (number_word w.digits w.are_digits) });
-    }
+    let u : Tree = Integer (negsuc (number w.digits)) in
+    let c : tag ∷ complement w.digits ≡ code_of u =
+    ap (λ (x : ℕ). x ∷ complement w.digits) (sym n) ∙ code_neg w.digits (0x1f - tag) w.are_digits w.many in
+    begins_as levels bytes rest t u (f ∙ ap (λ (x : ℕ). Integer (negsuc x)) w.value_is) (p ∙ ap (λ (x : List ℕ). tag ∷ x) w.parts ∙ ap (λ x. x ++ rest) c) h
+    (record { shallow = omega arith; narrow = signed_neg (number w.digits) (number_word w.digits w.are_digits) })
 
 -- what casts make of a value
 

@@ -8,7 +8,7 @@ use Rattle.ca_term.proofs.Rows.{size_row, narrow_row, AreTerms_push}
 use Rattle.ca_order.specs.Stuck.{IsRest}
 use Rattle.ca_order.specs.Languages.{HasTerm, HasRow}
 use Rattle.ca_order.specs.Reads.{IsReadFault, BeginsWithTerm, BeginsWithRow}
-use Rattle.ca_order.proofs.Parts.{code_cons, code_tuple}
+use Rattle.ca_order.proofs.Parts.{code_cons, code_tuple, begins_as}
 use Rattle.ca_order.proofs.FirstBytes.{HasCell, cons_rest, tail_rest, terms_prefix_free, cell_begins, cell_goes_on, row_rest, row_begins, row_goes_on}
 use Rattle.ca_order.proofs.Faults.{fault_behind, fault_first, fault_same}
 
@@ -168,12 +168,9 @@ pub begins_tuple : (levels count : ℕ) (bytes inside : List ℕ) (items : List 
     → BeginsWithTerm (levels + 1) (0x40 ∷ bytes) t rest
 begins_tuple levels count bytes inside items rest t h k e r f =
     let n : size (row_of items) ≡ count = size_row items ∙ r.many in
-    let c : code_of t ≡ 0x40 ∷ four_bytes count ++ row_code (row_of items) =
-    ap code_of f ∙ code_tuple (row_of items) ∙ ap (λ m. 0x40 ∷ four_bytes m ++ row_code (row_of items)) n in
-    let b : IsTerm (Tuple (row_of items)) = record { shallow = omega (arith, r.shallow); narrow = (omega (arith, n), narrow_row items r.bounded) } in
-    record {
-      parts = ap (λ (x : List ℕ). 0x40 ∷ x) (e ∙ ap (λ x. four_bytes count ++ x) r.parts ∙ sym (append_assoc (four_bytes count) (row_code (row_of items)) rest))
-          ∙ ap (λ x. x ++ rest) (sym c);
-      shallow = subst (λ (x : Tree). depth x ≤ levels + 1) (sym f) (omega (arith, r.shallow));
-      bounded = subst IsTerm (sym f) b;
-    }
+    let c : code_of (Tuple (row_of items)) ≡ 0x40 ∷ four_bytes count ++ row_code (row_of items) =
+    code_tuple (row_of items) ∙ ap (λ m. 0x40 ∷ four_bytes m ++ row_code (row_of items)) n in
+    let p : bytes ≡ (four_bytes count ++ row_code (row_of items)) ++ rest =
+    e ∙ ap (λ x. four_bytes count ++ x) r.parts ∙ sym (append_assoc (four_bytes count) (row_code (row_of items)) rest) in
+    begins_as (levels + 1) (0x40 ∷ bytes) rest t (Tuple (row_of items)) f (ap (λ (x : List ℕ). 0x40 ∷ x) p ∙ ap (λ x. x ++ rest) (sym c))
+    (omega (arith, r.shallow)) (record { shallow = omega (arith, r.shallow); narrow = (omega (arith, n), narrow_row items r.bounded) })

@@ -5,7 +5,8 @@ use Rattle.ca_term.specs.declared.bounds.TheConstants.{MOST_ELEMENTS}
 use Rattle.ca_term.proofs.Lengths.{row_code_at}
 use Rattle.ca_term.proofs.Rows.{size_row}
 use Rattle.ca_term.specs.Code.{code_of, escaped, int_code, four_bytes, row_code}
-use Rattle.ca_term.specs.Tree.{Tree, Row, Integer, Atom, Tuple, Nil, Cons, Binary, size, row_of, nodes, row_nodes, IsTerm, IsNarrow}
+use Rattle.ca_term.specs.Tree.{Tree, Row, Integer, Atom, Tuple, Nil, Cons, Binary, size, row_of, nodes, row_nodes, depth, IsTerm, IsNarrow}
+use Rattle.ca_order.specs.Reads.{BeginsWithTerm}
 use Rattle.std.specs.Prelude.{ℤ}
 use Rattle.std.specs.Int.{to_be_bytes, w32}
 
@@ -76,3 +77,8 @@ at_item ts i t h e = row_code_at ts i t h ∙ ap (λ u. code_of u ++ row_code (r
 pub no_item : (ts : List Tree) (i : ℕ) → length ts ≤ i → row_code (row_of (drop i ts)) ≡ []
 unfolding row_code
 no_item ts i h = rw (drop_all i ts h)
+
+-- Bytes begin with a term where they begin with its code.
+pub begins_as : (levels : ℕ) (bytes rest : List ℕ) (t u : Tree) → t ≡ u → bytes ≡ code_of u ++ rest → depth u ≤ levels → IsTerm u
+    → BeginsWithTerm levels bytes t rest
+begins_as levels bytes rest t u e p d b = subst (λ (x : Tree). BeginsWithTerm levels bytes x rest) (sym e) (record { parts = p; shallow = d; bounded = b })

@@ -5,7 +5,7 @@ use Rattle.ca_term.specs.Tree.{Tree, Row, Integer, Atom, Tuple, Nil, Cons, Binar
 use Rattle.ca_term.specs.Code.{code_of, row_code, int_code, digits, complement, escaped, four_bytes}
 use Rattle.ca_term.proofs.Digits.{digits_shorter, length_complement}
 use Rattle.ca_order.specs.KeyParts.{HasCodes}
-use Rattle.ca_order.proofs.FirstBytes.{Tagged, tagged, is_pos, is_neg, is_atom, is_tuple, is_nil, is_cons, is_binary}
+use Rattle.ca_order.proofs.FirstBytes.{IsNoTag, Tagged, tagged, is_pos, is_neg, is_atom, is_tuple, is_nil, is_cons, is_binary}
 
 -- what stands behind the first byte of a code that `y` follows, by the kind of the term
 data Next (b : ℕ) (inside y : List ℕ) : Type 0 where
@@ -97,23 +97,23 @@ as_pos b inside y e (next_nil f g) = absurd (omega (arith, f, e))
 as_pos b inside y e (next_cons h t f k l g) = absurd (omega (arith, f, e))
 as_pos b inside y e (next_binary bs f g) = absurd (omega (arith, f, e))
 
--- no other first byte
-pub record IsNoOther (b : ℕ) : Type 0 where
-  pub no_pos : 0x20 ≤ b → b ≤ 0x28 → ⊥
-  pub no_atom : b ≡ 0x30 → ⊥
-  pub no_tuple : b ≡ 0x40 → ⊥
-  pub no_nil : b ≡ 0x60 → ⊥
-  pub no_cons : b ≡ 0x70 → ⊥
-  pub no_binary : b ≡ 0x80 → ⊥
+as_neg : (b : ℕ) (inside y : List ℕ) → (0x17 ≤ b) × (b ≤ 0x1f) → Next b inside y → (ds : List ℕ) × (length ds ≡ 0x1f - b) × (inside ≡ ds ++ y)
+as_neg b inside y e (next_pos ds l f g) = absurd (omega (arith, f, e))
+as_neg b inside y e (next_neg ds l f g) = (ds, omega (arith, f), g)
+as_neg b inside y e (next_atom bs f g) = absurd (omega (arith, f, e))
+as_neg b inside y e (next_tuple row f l k g) = absurd (omega (arith, f, e))
+as_neg b inside y e (next_nil f g) = absurd (omega (arith, f, e))
+as_neg b inside y e (next_cons h t f k l g) = absurd (omega (arith, f, e))
+as_neg b inside y e (next_binary bs f g) = absurd (omega (arith, f, e))
 
-as_neg : (b : ℕ) (inside y : List ℕ) → IsNoOther b → Next b inside y → (ds : List ℕ) × (b ≤ 0x1f) × (length ds ≡ 0x1f - b) × (inside ≡ ds ++ y)
-as_neg b inside y e (next_pos ds l f g) = absurd (e.no_pos (omega (arith, f)) (omega (arith, f)))
-as_neg b inside y e (next_neg ds l f g) = (ds, omega (arith, f), omega (arith, f), g)
-as_neg b inside y e (next_atom bs f g) = absurd (e.no_atom f)
-as_neg b inside y e (next_tuple row f l k g) = absurd (e.no_tuple f)
-as_neg b inside y e (next_nil f g) = absurd (e.no_nil f)
-as_neg b inside y e (next_cons h t f k l g) = absurd (e.no_cons f)
-as_neg b inside y e (next_binary bs f g) = absurd (e.no_binary f)
+as_none : (b : ℕ) (inside y : List ℕ) → IsNoTag 2 b → Next b inside y → ⊥
+as_none b inside y e (next_pos ds l f g) = e.no_int (omega (arith, f)) (omega (arith, f))
+as_none b inside y e (next_neg ds l f g) = e.no_int (omega (arith, f)) (omega (arith, f))
+as_none b inside y e (next_atom bs f g) = e.no_atom f
+as_none b inside y e (next_tuple row f l k g) = e.no_tuple f
+as_none b inside y e (next_nil f g) = e.no_nil f
+as_none b inside y e (next_cons h t f k l g) = e.no_cons (omega arith) f
+as_none b inside y e (next_binary bs f g) = e.no_binary f
 
 -- ---- rows
 
@@ -217,14 +217,21 @@ module _ (n b : ℕ) (bytes inside end : List ℕ) (h : HasCodes (n + 1) bytes e
   pos_codes rest t f =
       let a = as_pos b inside (row_code (row_of hd.others) ++ end) t hd.next_is in leaf rest (f a.0 (row_code (row_of hd.others) ++ end) a.1 a.2)
 
-  pub neg_there : IsNoOther b → (b ≤ 0x1f) × (0x1f - b ≤ length inside)
+  -- Behind the first byte of a negative integer stand its bytes.
+  pub neg_there : (0x17 ≤ b) × (b ≤ 0x1f) → 0x1f - b ≤ length inside
   neg_there t =
       let a = as_neg b inside (row_code (row_of hd.others) ++ end) t hd.next_is in
-      (a.1, omega (arith, a.2, ap length a.3, length-append a.0 (row_code (row_of hd.others) ++ end)))
+      omega (arith, a.1, ap length a.2, length-append a.0 (row_code (row_of hd.others) ++ end))
 
-  pub neg_codes : (rest : List ℕ) → IsNoOther b → ((xs ys : List ℕ) → length xs ≡ 0x1f - b → inside ≡ xs ++ ys → rest ≡ ys) → HasCodes (n + 0) rest end
+  -- Behind the bytes of a negative integer stand the other codes.
+  pub neg_codes : (rest : List ℕ) → (0x17 ≤ b) × (b ≤ 0x1f) → ((xs ys : List ℕ) → length xs ≡ 0x1f - b → inside ≡ xs ++ ys → rest ≡ ys)
+      → HasCodes (n + 0) rest end
   neg_codes rest t f =
-      let a = as_neg b inside (row_code (row_of hd.others) ++ end) t hd.next_is in leaf rest (f a.0 (row_code (row_of hd.others) ++ end) a.2 a.3)
+      let a = as_neg b inside (row_code (row_of hd.others) ++ end) t hd.next_is in leaf rest (f a.0 (row_code (row_of hd.others) ++ end) a.1 a.2)
+
+  -- A byte that begins no code begins none here.
+  pub no_such_tag : IsNoTag 2 b → ⊥
+  no_such_tag t = as_none b inside (row_code (row_of hd.others) ++ end) t hd.next_is
 
 no_row : (end : List ℕ) → row_code (row_of []) ++ end ≡ end
 unfolding row_code

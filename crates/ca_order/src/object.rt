@@ -61,8 +61,9 @@ fn skip_tag(bytes: &[u8]) -> (usize, &[u8])
         TUPLE => split_size(inside),
         NIL => (0, inside),
         CONS => (2, inside),
+        0x17..=0x1f => (0, behind(inside, 0x1f - *tag)),
         0x20..=0x28 => (0, behind(inside, *tag - 0x20)),
-        _ => (0, behind(inside, 0x1f - *tag)),
+        _ => unreachable!(),
     }
 }
 
