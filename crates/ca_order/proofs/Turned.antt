@@ -27,7 +27,8 @@ turned_append : (neg : Bool) (xs ys : List ℕ) → turned neg (xs ++ ys) ≡ tu
 turned_append neg [] ys = rw (turned_nil neg) refl
 turned_append neg (x ∷ xs) ys = rw (turned_cons neg x (xs ++ ys), turned_cons neg x xs, turned_append neg xs ys) refl
 
-length_turned : (neg : Bool) (xs : List ℕ) → length (turned neg xs) ≡ length xs
+-- Turned digits are as many.
+pub length_turned : (neg : Bool) (xs : List ℕ) → length (turned neg xs) ≡ length xs
 length_turned neg [] = rw (turned_nil neg) refl
 length_turned neg (x ∷ xs) = omega (arith, ap length (turned_cons neg x xs), length_turned neg xs)
 

@@ -53,7 +53,7 @@ behind-requires-in-32-to-40 c =
 pub unreachable-requires-in_default-tag : goal.unreachable-requires-in_default-tag
 unreachable-requires-in_default-tag c =
     no_such_tag c.requires.0 c.in-Some.tag.now c.args.bytes.now c.in-Some.inside.now c.requires.1 c.requires.2 c.in-Some.ensures.cases.0
-    (record {
+    (λ l. record {
       no_int = λ h k. grind arith;
       no_atom = λ e. grind arith;
       no_tuple = λ e. grind arith;
