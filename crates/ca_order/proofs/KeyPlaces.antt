@@ -10,7 +10,6 @@ use Rattle.ca_order.specs.Languages.{IsTermCode}
 use Rattle.ca_order.proofs.FirstBytes.{first_same, Tagged, tagged, is_pos, is_neg, is_atom, is_tuple, is_nil, is_cons, is_binary}
 use Rattle.ca_term.proofs.Digits.{digits_shorter}
 use Rattle.ca_term.proofs.Lengths.{length_tuple}
-use Rattle.ca_order.proofs.Parts.{code_tuple}
 use Rattle.ca_order.proofs.Skipped.{code_begun, row_app, one_code}
 
 -- Where the code is no tuple's, its term has no key.
@@ -24,8 +23,8 @@ no_key code keypos n (Binary bytes) e = refl
 
 -- The code of a tuple begins with the byte 40.
 pub no_object : (code inside : List ℕ) (b : ℕ) → code ≡ b ∷ inside → (b ≡ 0x40 → ⊥) → IsNoObject code
-no_object code inside b e n row f =
-    n (first_same b 0x40 inside (four_bytes (size row) ++ row_code row) (sym e ∙ f ∙ code_tuple row)).0
+unfolding code_of
+no_object code inside b e n row f = n (first_same b 0x40 inside (four_bytes (size row) ++ row_code row) (sym e ∙ f)).0
 
 -- No code is empty.
 pub no_empty_object : (code : List ℕ) → length code ≡ 0 → IsNoObject code
@@ -118,9 +117,11 @@ module _ (code elements : List ℕ) (count keypos : ℕ) (s : IsSplit code count
   elements_are : elements ≡ row_code (row_of pd.before) ++ (code_of pd.key ++ row_code (row_of pd.after))
   elements_are = s.elements_is ∙ ap row_code pd.row_is ∙ row_app pd.before pd.key pd.after
 
+  -- In front of the key stand the codes of the elements before it.
   pub key_codes : HasCodes (keypos - 1) elements (code_of pd.key ++ row_code (row_of pd.after))
   key_codes = record { terms = pd.before; narrow = pd.narrow_before; many = pd.place; parts = elements_are }
 
+  -- Behind the key stand the codes of the elements behind it.
   pub behind_codes : (key : List ℕ) → key ≡ code_of pd.key ++ row_code (row_of pd.after) → HasCodes 1 key (row_code (row_of pd.after))
   behind_codes key f = record { terms = pd.key ∷ []; narrow = (pd.narrow_key, tt); many = refl; parts = f ∙ one_code pd.key (row_code (row_of pd.after)) }
 

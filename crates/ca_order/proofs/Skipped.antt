@@ -71,6 +71,7 @@ headed_by (t ∷ ts) n b bytes inside end h m p e =
       inside_is = s.1;
     }
 
+-- One and more codes have at least one byte.
 pub no_codes : (n : ℕ) (bytes end : List ℕ) → HasCodes (n + 1) bytes end → length bytes ≡ 0 → ⊥
 no_codes n bytes end h e = by h.terms h.many h.parts
   where
@@ -193,6 +194,7 @@ no_row : (end : List ℕ) → row_code (row_of []) ++ end ≡ end
 unfolding row_code
 no_row end = refl
 
+-- Each code has at least one byte.
 pub code_begun : (t : Tree) → 1 ≤ length (code_of t)
 code_begun t = let b = begun t in omega (arith, ap length b.2)
 
@@ -201,9 +203,11 @@ unfolding row_code
 row_longer [] = omega arith
 row_longer (t ∷ ts) = omega (arith, code_begun t, row_longer ts, length-append (code_of t) (row_code (row_of ts)))
 
+-- So many codes have at least so many bytes.
 pub codes_le : (n : ℕ) (bytes end : List ℕ) → HasCodes n bytes end → n ≤ length bytes
 codes_le n bytes end h = omega (arith, h.many, row_longer h.terms, ap length h.parts, length-append (row_code (row_of h.terms)) end)
 
+-- Behind no codes stands the end.
 pub codes_done : (n : ℕ) (bytes end : List ℕ) → n ≤ 0 → HasCodes n bytes end → bytes ≡ end
 codes_done n bytes end z h = by h.terms h.many h.parts
   where
@@ -214,9 +218,11 @@ codes_done n bytes end z h = by h.terms h.many h.parts
     by [] m p = p ∙ none
     by (t ∷ ts) m p = absurd (omega arith)
 
+-- Above 0, so many codes are one and one fewer.
 pub codes_more : (n : ℕ) (bytes end : List ℕ) → 0 < n → HasCodes n bytes end → HasCodes (n - 1 + 1) bytes end
 codes_more n bytes end h w = let e : n ≡ n - 1 + 1 = omega arith in subst (λ (x : ℕ). HasCodes x bytes end) e w
 
+-- The codes of a row are those before an element, its own and those behind it.
 pub row_app : (before : List Tree) (key : Tree) (after : List Tree)
     → row_code (row_of (before ++ key ∷ after)) ≡ row_code (row_of before) ++ (code_of key ++ row_code (row_of after))
 unfolding row_code
@@ -224,6 +230,7 @@ row_app [] key after = refl
 row_app (t ∷ before) key after =
     ap (λ x. code_of t ++ x) (row_app before key after) ∙ sym (append_assoc (code_of t) (row_code (row_of before)) (code_of key ++ row_code (row_of after)))
 
+-- The code of a term is that of a row of it alone.
 pub one_code : (key : Tree) (end : List ℕ) → code_of key ++ end ≡ row_code (row_of (key ∷ [])) ++ end
 unfolding row_code
 one_code key end = ap (λ x. x ++ end) (sym (append-nil (code_of key)))
