@@ -8,9 +8,9 @@ use Rattle.std.proofs.lemmas.Str.{cons_from_encodes, encode_same, chars-encodes}
 use Rattle.std.specs.Char.{IsScalar, encode_utf8}
 use Rattle.std.specs.Str.{encode_utf8_all, all_scalars, IsUtf8}
 use Rattle.ca_term.specs.declared.bounds.TheConstants.{MOST_CODE_POINTS}
-use Rattle.ca_term.specs.Tree.{Tree, Atom, IsTerm, IsNarrow, depth}
+use Rattle.ca_term.specs.Tree.{Tree, Atom, IsNarrow}
 use Rattle.ca_term.specs.Character.{IsNoCharacter}
-use Rattle.ca_term.specs.Code.{code_of, escaped}
+use Rattle.ca_term.specs.Code.{escaped}
 use Rattle.ca_term.proofs.Escapes.{escaped_zero, escaped_suc, escaped_nil}
 use Rattle.ca_order.specs.Zeros.{HasNoZero, opened}
 use Rattle.ca_order.specs.Stuck.{IsStuck, IsRest}
@@ -18,7 +18,7 @@ use Rattle.ca_order.specs.Languages.{HasText, HasChar}
 use Rattle.ca_order.specs.Reads.{BeginsWithText, BeginsWithTerm}
 use Rattle.ca_order.proofs.Opened.{escaped_append, escaped_ends, opened_append, opened_no_zero, opened_zero, opened_nil, same_opened, escaped_after, same_head, same_second}
 use Rattle.ca_order.proofs.Starts.{stuck_here, IsPrefixFree, Begins}
-use Rattle.ca_order.proofs.Parts.{code_atom}
+use Rattle.ca_order.proofs.Parts.{at_atom, begins_as}
 
 -- ---- characters
 
@@ -35,12 +35,15 @@ no_zero_by c p (of4 a b d k l u f g h s e) = subst HasNoZero (sym e) (omega arit
 pub char_no_zero : (c : ℕ) → IsScalar c → 0 < c → HasNoZero (encode_utf8 c)
 char_no_zero c h p = no_zero_by c p (shape c (scalar_cases c h))
 
+-- A character that is not 0 is escaped as it stands.
 pub opened_char : (c : ℕ) → IsScalar c → 0 < c → opened (encode_utf8 c) ≡ encode_utf8 c
 opened_char c h p = opened_no_zero (encode_utf8 c) (char_no_zero c h p)
 
+-- The character 0 is escaped as 00 FF.
 pub opened_nul : opened (encode_utf8 0) ≡ 0 ∷ 0xff ∷ []
 opened_nul = ap opened encode_zero ∙ opened_zero [] ∙ (λ i. 0 ∷ 0xff ∷ opened_nil i)
 
+-- No character's UTF-8 begins another one's.
 pub chars_prefix_free : IsPrefixFree HasChar
 chars_prefix_free u rest h k =
     let e : encode_utf8 h.char ++ rest ≡ encode_utf8 k.char ++ [] = ap (λ x. x ++ rest) (sym h.code_is) ∙ k.code_is ∙ sym (append-nil (encode_utf8 k.char)) in
@@ -79,6 +82,7 @@ text_after cs room most x n h =
 and_true : (cs ds : List ℕ) → all_scalars cs ≡ true → all_scalars ds ≡ true → all_scalars (cs ++ ds) ≡ true
 and_true cs ds h k = scalars-append cs ds h k
 
+-- Behind a part of an escaped text stands an escaped text with as much less room.
 pub text_rest : (cs : List ℕ) (room most : ℕ) → length cs + room ≡ most → all_scalars cs ≡ true
     → IsRest (HasText most) (opened (encode_utf8_all cs)) (HasText room)
 text_rest cs room most n h = record {
@@ -97,6 +101,7 @@ no_text most = record { text = []; are_scalars = refl; short = omega arith; code
 
 -- ---- where a text is stuck
 
+-- No bytes are stuck at once: a text has at least its end.
 pub stuck_no_text : (room : ℕ) (bytes : List ℕ) → length bytes ≡ 0 → IsStuck (HasText room) bytes bytes
 stuck_no_text room bytes e = stuck_here (HasText room) bytes 0 (0 ∷ []) (no_text room) (λ b more rest f w. absurd (omega (arith, ap length f, e)))
 
@@ -104,6 +109,7 @@ first_of_none : (text : List ℕ) (b : ℕ) (rest : List ℕ) → length text �
 first_of_none [] b rest h e = same_head b 0 rest (0 ∷ []) (e ∙ escaped_nil)
 first_of_none (c ∷ cs) b rest h e = absurd (omega arith)
 
+-- Without room for a character, a text is stuck in front of a byte above 0.
 pub stuck_no_room : (bytes : List ℕ) (room : ℕ) → room ≡ 0 → ((b : ℕ) (more : List ℕ) → bytes ≡ b ∷ more → b ≡ 0 → ⊥) → IsStuck (HasText room) bytes bytes
 stuck_no_room bytes room z n =
     stuck_here (HasText room) bytes 0 (0 ∷ []) (no_text room) (λ b more rest f w. n b more f (first_of_none w.text b rest (omega (arith, w.short)) w.code_is))
@@ -118,6 +124,7 @@ nonempty : (cs : List ℕ) → 0 < length (encode_utf8_all cs) → 0 < length cs
 nonempty [] h = h
 nonempty (c ∷ cs) h = omega arith
 
+-- Behind a zero byte, a text is stuck where neither its end nor an escape with room follows.
 pub stuck_behind_zero : (room : ℕ) (behind : List ℕ) → ((b : ℕ) (more : List ℕ) → behind ≡ b ∷ more → (b ≡ 0 → ⊥) × (b ≡ 0xff → 1 ≤ room → ⊥))
     → IsStuck (HasText room) (0 ∷ behind) behind
 stuck_behind_zero room behind n = record {
@@ -143,6 +150,7 @@ text_first room (suc c ∷ cs) x h e =
     e ∙ escaped_append (encode_utf8 (suc c)) (encode_utf8_all cs) ∙ ap (λ y. y ++ escaped (encode_utf8_all cs)) (opened_char (suc c) s.0 (omega arith)) in
     record { word = encode_utf8 (suc c); rest = escaped (encode_utf8_all cs); parts = f; is_word = record { char = suc c; is_scalar = s.0; code_is = refl } }
 
+-- Each escaped text begins with a character.
 pub text_begins : (room : ℕ) (x : List ℕ) → HasText room x → Begins HasChar x
 text_begins room x h = text_first room h.text x h.are_scalars h.code_is
 
@@ -169,6 +177,7 @@ char_text (suc c) room u h r e = (
   },
 )
 
+-- With room, any character goes on to an escaped text.
 pub text_goes_on : (room : ℕ) (u : List ℕ) → 1 ≤ room → HasChar u → (v : List ℕ) × HasText room (u ++ v)
 text_goes_on room u r h = char_text h.char room u h.is_scalar r h.code_is
 
@@ -197,9 +206,11 @@ pub record IsRead (room : ℕ) (bytes rest : List ℕ) : Type 0 where
   pub many : length text + room ≡ MOST_CODE_POINTS
   pub parts : bytes ≡ opened (encode_utf8_all text) ++ rest
 
+-- At first nothing is read, and there is room for all characters.
 pub read_none : (bytes : List ℕ) → IsRead MOST_CODE_POINTS bytes bytes
 read_none bytes = record { text = []; are_scalars = refl; many = refl; parts = ap (λ x. x ++ bytes) (sym opened_nil) }
 
+-- One more character takes one place of the room.
 pub read_more : (room : ℕ) (bytes rest behind : List ℕ) (c : ℕ) → IsRead room bytes rest → 1 ≤ room → IsScalar c → rest ≡ opened (encode_utf8 c) ++ behind
     → IsRead (room - 1) bytes behind
 read_more room bytes rest behind c r p h e =
@@ -215,6 +226,7 @@ read_more room bytes rest behind c r p h e =
           ∙ ap (λ x. x ++ behind) (sym joined);
     }
 
+-- At the end the text in front of it is read.
 pub read_end : (room : ℕ) (bytes rest end : List ℕ) → IsRead room bytes rest → rest ≡ 0 ∷ 0 ∷ end
     → BeginsWithText bytes (take (length bytes - length end - 2) bytes) end
 read_end room bytes rest end r e =
@@ -237,22 +249,19 @@ pub begins_atom : (bytes body rest text : List ℕ) (t : Tree) → BeginsWithTex
     → BeginsWithTerm 1 (0x30 ∷ bytes) t rest
 begins_atom bytes body rest text t w o e =
     let same : text ≡ w.text = same_opened text w.text (o ∙ w.body_is) in
-    let f : t ≡ Atom w.text = e ∙ ap Atom same in
-    let c : code_of t ≡ 0x30 ∷ escaped w.text = ap code_of f ∙ code_atom w.text in
     let inner : bytes ≡ escaped w.text ++ rest =
     w.parts ∙ ap (λ x. x ++ 0 ∷ 0 ∷ rest) w.body_is ∙ sym (append_assoc (opened w.text) (0 ∷ 0 ∷ []) rest)
     ∙ ap (λ x. x ++ rest) (sym (escaped_ends w.text)) in
-    record {
-      parts = ap (λ (x : List ℕ). 0x30 ∷ x) inner ∙ ap (λ x. x ++ rest) (sym c);
-      shallow = subst (λ (x : Tree). depth x ≤ 1) (sym f) (omega arith);
-      bounded = subst IsTerm (sym f) (record { shallow = omega arith; narrow = w.narrow });
-    }
+    begins_as 1 (0x30 ∷ bytes) rest t (Atom w.text) (e ∙ ap Atom same) (ap (λ (x : List ℕ). 0x30 ∷ x) inner ∙ ap (λ x. x ++ rest) (sym (at_atom (Atom w.text) w.text refl)))
+    (omega arith) (record { shallow = omega arith; narrow = w.narrow })
 
+-- A text that is read makes an atom within the bounds.
 pub text_narrow : (bytes body rest text : List ℕ) → BeginsWithText bytes body rest → opened text ≡ body → IsNarrow (Atom text)
 text_narrow bytes body rest text w o = subst (λ (x : List ℕ). IsNarrow (Atom x)) (sym (same_opened text w.text (o ∙ w.body_is))) w.narrow
 
 -- ---- one step of a text
 
+-- 00 FF is the character 0.
 pub nul_step : (bytes behind rest : List ℕ) → bytes ≡ 0 ∷ behind → behind ≡ 0xff ∷ rest → (c : ℕ) × IsScalar c × (bytes ≡ opened (encode_utf8 c) ++ rest)
 nul_step bytes behind rest e f = (0, refl, e ∙ ap (λ (x : List ℕ). 0 ∷ x) f ∙ ap (λ x. x ++ rest) (sym opened_nul))
 

@@ -10,15 +10,15 @@ use Rattle.ca_order.specs.Zeros.{HasNoZero, opened}
 use Rattle.ca_order.specs.Stuck.{IsStuck, IsRest}
 use Rattle.ca_order.specs.Languages.{HasBytes}
 use Rattle.ca_order.specs.Reads.{BeginsWithBytes, BeginsWithTerm, IsStuckFault}
-use Rattle.ca_term.specs.Tree.{Tree, Binary, IsTerm, depth}
-use Rattle.ca_term.specs.Code.{code_of}
-use Rattle.ca_order.proofs.Parts.{code_binary}
+use Rattle.ca_term.specs.Tree.{Tree, Binary}
+use Rattle.ca_order.proofs.Parts.{at_binary, begins_as}
 use Rattle.ca_order.proofs.Opened.{escaped_append, escaped_ends, opened_append, opened_no_zero, opened_zero, opened_nil, same_opened, escaped_after, same_head, same_second}
 use Rattle.ca_order.specs.declared.fault.ReadFault.{ReadFault}
 use Rattle.ca_term.proofs.Escapes.{same_escaped}
 use Rattle.ca_order.proofs.Starts.{stuck_at_end, stuck_behind, IsPrefixFree}
 use Rattle.ca_order.proofs.Faults.{no_fault}
 
+-- The back of bytes are bytes.
 pub bytes_back : (xs ys : List ℕ) → AreBytes (xs ++ ys) → AreBytes ys
 bytes_back [] ys h = h
 bytes_back (x ∷ xs) ys h = bytes_back xs ys (tail_bytes x (xs ++ ys) h)
@@ -26,6 +26,7 @@ bytes_back (x ∷ xs) ys h = bytes_back xs ys (tail_bytes x (xs ++ ys) h)
 into_by : (xs zs x : List ℕ) → opened xs ++ x ≡ escaped zs → AreBytes zs → HasBytes x
 into_by xs zs x e h = let r = escaped_after xs zs x e in record { inside = r.0; are_bytes = bytes_back xs r.0 (subst AreBytes r.1 h); code_is = r.2 }
 
+-- Behind a part of escaped bytes stand escaped bytes.
 pub bytes_rest : (xs : List ℕ) → AreBytes xs → IsRest HasBytes (opened xs) HasBytes
 bytes_rest xs h = record {
   into = λ x w. into_by xs w.inside x w.code_is w.are_bytes;
@@ -69,6 +70,7 @@ pub record IsOpened (bytes rest : List ℕ) : Type 0 where
   pub are_bytes : AreBytes inside
   pub parts : bytes ≡ opened inside ++ rest
 
+-- At first nothing is read.
 pub opened_none : (bytes : List ℕ) → IsOpened bytes bytes
 opened_none bytes = record { inside = []; are_bytes = no_bytes; parts = ap (λ x. x ++ bytes) (sym opened_nil) }
 
@@ -101,6 +103,7 @@ module _ (bytes rest run behind : List ℕ) (o : IsOpened bytes rest) (h : AreBy
       let here : AreBytes (run ++ 0 ∷ behind) = subst AreBytes e (bytes_back (opened o.inside) rest (subst AreBytes o.parts h)) in
       bytes_append o.inside run o.are_bytes (bytes_front run (0 ∷ behind) here)
 
+  -- At 00 00 the bytes in front of it are read.
   pub opened_end : (end : List ℕ) → behind ≡ 0 ∷ end → BeginsWithBytes bytes (take (length bytes - length end - 2) bytes) end
   opened_end end f =
       let parts : bytes ≡ opened (o.inside ++ run) ++ 0 ∷ 0 ∷ end = run_parts ∙ ap (λ x. opened (o.inside ++ run) ++ 0 ∷ x) f in
@@ -110,11 +113,13 @@ module _ (bytes rest run behind : List ℕ) (o : IsOpened bytes rest) (h : AreBy
       (λ i. take (len i) (parts i)) ∙ take-append_seam (opened (o.inside ++ run)) (0 ∷ 0 ∷ end) in
       record { inside = o.inside ++ run; are_bytes = run_bytes; body_is = body; parts = parts ∙ ap (λ x. x ++ 0 ∷ 0 ∷ end) (sym body) }
 
+  -- Behind a zero byte, escaped bytes are stuck where neither 00 nor FF follows.
   pub opened_stuck : ((b : ℕ) (more : List ℕ) → behind ≡ b ∷ more → (b ≡ 0 → ⊥) × (b ≡ 0xff → ⊥)) → IsStuck HasBytes bytes behind
   opened_stuck f =
       subst (λ (x : List ℕ). IsStuck HasBytes x behind) (sym run_parts)
       (stuck_behind HasBytes HasBytes (opened (o.inside ++ run)) (0 ∷ behind) behind (bytes_rest (o.inside ++ run) run_bytes) (stuck_at_zero behind f))
 
+-- Bytes without a further zero byte are stuck at their end.
 pub opened_short : (bytes rest : List ℕ) → IsOpened bytes rest → AreBytes bytes → HasNoZero rest → IsStuck HasBytes bytes []
 opened_short bytes rest o h n =
     let here : AreBytes rest = bytes_back (opened o.inside) rest (subst AreBytes o.parts h) in
@@ -126,21 +131,18 @@ pub begins_binary : (bytes body rest inside : List ℕ) (t : Tree) → BeginsWit
     → BeginsWithTerm 1 (0x80 ∷ bytes) t rest
 begins_binary bytes body rest inside t w o e =
     let same : inside ≡ w.inside = same_opened inside w.inside (o ∙ w.body_is) in
-    let f : t ≡ Binary w.inside = e ∙ ap Binary same in
-    let c : code_of t ≡ 0x80 ∷ escaped w.inside = ap code_of f ∙ code_binary w.inside in
     let inner : bytes ≡ escaped w.inside ++ rest =
     w.parts ∙ ap (λ x. x ++ 0 ∷ 0 ∷ rest) w.body_is ∙ sym (append_assoc (opened w.inside) (0 ∷ 0 ∷ []) rest)
     ∙ ap (λ x. x ++ rest) (sym (escaped_ends w.inside)) in
-    record {
-      parts = ap (λ (x : List ℕ). 0x80 ∷ x) inner ∙ ap (λ x. x ++ rest) (sym c);
-      shallow = subst (λ (x : Tree). depth x ≤ 1) (sym f) (omega arith);
-      bounded = subst IsTerm (sym f) (record { shallow = omega arith; narrow = w.are_bytes });
-    }
+    begins_as 1 (0x80 ∷ bytes) rest t (Binary w.inside) (e ∙ ap Binary same) (ap (λ (x : List ℕ). 0x80 ∷ x) inner ∙ ap (λ x. x ++ rest) (sym (at_binary (Binary w.inside) w.inside refl)))
+    (omega arith) (record { shallow = omega arith; narrow = w.are_bytes })
 
+-- Bytes without an escape make the binary of themselves.
 pub begins_plain_binary : (bytes body rest : List ℕ) (t : Tree) → BeginsWithBytes bytes body rest → HasNoZero body → t ≡ Binary body
     → BeginsWithTerm 1 (0x80 ∷ bytes) t rest
 begins_plain_binary bytes body rest t w h e = begins_binary bytes body rest body t w (opened_no_zero body h) e
 
+-- What is read are the escapes of some bytes.
 pub is_opened : (bytes body rest : List ℕ) → BeginsWithBytes bytes body rest → (inside : List ℕ) × (body ≡ opened inside)
 is_opened bytes body rest w = (w.inside, w.body_is)
 
@@ -160,11 +162,13 @@ bytes_prefix_free u rest h k =
     let e : escaped h.inside ++ rest ≡ escaped k.inside ++ [] = ap (λ x. x ++ rest) (sym h.code_is) ∙ k.code_is ∙ sym (append-nil (escaped k.inside)) in
     (same_escaped h.inside k.inside rest [] e).1
 
+-- Where escaped bytes stand, no fault is told.
 pub no_escaped_fault : (bytes inside end : List ℕ) (e : ReadFault) → AreBytes bytes → bytes ≡ escaped inside ++ end → IsStuckFault HasBytes bytes e → ⊥
 no_escaped_fault bytes inside end e h p f =
     no_fault HasBytes bytes (escaped inside) end e bytes_prefix_free
     (record { inside = inside; are_bytes = bytes_inside inside end (subst AreBytes p h); code_is = refl }) p f
 
+-- Of escaped bytes there is one end.
 pub same_end : (bytes body rest inside end : List ℕ) → BeginsWithBytes bytes body rest → bytes ≡ escaped inside ++ end → rest ≡ end
 same_end bytes body rest inside end w p =
     let inner : bytes ≡ escaped w.inside ++ rest =
@@ -172,5 +176,6 @@ same_end bytes body rest inside end w p =
     ∙ ap (λ x. x ++ rest) (sym (escaped_ends w.inside)) in
     (same_escaped w.inside inside rest end (sym inner ∙ p)).1
 
+-- Behind escaped bytes stand no more bytes than from them on.
 pub rest_shorter : (bytes body rest : List ℕ) → BeginsWithBytes bytes body rest → length rest ≤ length bytes
 rest_shorter bytes body rest w = omega (arith, ap length w.parts, length-append body (0 ∷ 0 ∷ rest))

@@ -25,6 +25,7 @@ no_code code [] s c =
     cc
 no_code code (b ∷ more) s c = s.no_longer b more more refl (subst (HasTerm MOST_DEPTH) s.parts (code_to code c))
 
+-- Where no term is read, the bytes are refused behind their longest start of a code.
 pub decode_stuck : (code : List ℕ) (left : ℕ) → IsReadFault (HasTerm MOST_DEPTH) code (Stuck left) → IsDecodeFault code (NotACode (length code - left))
 decode_stuck code left f =
     let s = f.2 in
@@ -33,6 +34,7 @@ decode_stuck code left f =
     (λ b more rest e w. s.no_longer b more rest e (code_to (s.done ++ b ∷ rest) w)) in
     (no_code code f.0 s, subst (λ (x : ℕ). IsLongestStart IsTermCode code (length code - x)) f.1 at)
 
+-- Where bytes stand behind a term's code, they are refused behind it.
 pub decode_rest : (code : List ℕ) (t : Tree) (rest : List ℕ) → BeginsWithTerm MOST_DEPTH code t rest → 0 < length rest
     → IsDecodeFault code (NotACode (length code - length rest))
 decode_rest code t rest w h =

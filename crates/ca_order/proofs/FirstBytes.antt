@@ -25,9 +25,11 @@ pub data Tagged (b : ℕ) (x : List ℕ) : Tree → Type 0 where
   is_cons : (head tail : Tree) → b ≡ 0x70 → x ≡ code_of head ++ code_of tail → Tagged b x (Cons head tail)
   is_binary : (bytes : List ℕ) → b ≡ 0x80 → x ≡ escaped bytes → Tagged b x (Binary bytes)
 
+-- Of equal lists the first items are equal, and what stands behind them.
 pub first_same : (a b : ℕ) (xs ys : List ℕ) → a ∷ xs ≡ b ∷ ys → (a ≡ b) × (xs ≡ ys)
 first_same a b xs ys e = (cc, cc)
 
+-- The first byte of a code tells its kind, and what stands behind it.
 pub tagged : (t : Tree) (b : ℕ) (x : List ℕ) → b ∷ x ≡ code_of t → Tagged b x t
 unfolding code_of int_code
 tagged (Integer (pos n)) b x e = let p = first_same b (0x20 + length (digits n)) x (digits n) e in is_pos n p.0 p.1
@@ -55,6 +57,7 @@ atom_by x _ n (is_nil e f) = absurd (omega (arith, e))
 atom_by x _ n (is_cons head tail e f) = absurd (omega (arith, e))
 atom_by x _ n (is_binary bytes e f) = absurd (omega (arith, e))
 
+-- Behind the first byte of an atom's code stands an escaped text.
 pub atom_rest : (l : ℕ) → IsRest (HasTerm (suc l)) (0x30 ∷ []) (HasText MOST_CODE_POINTS)
 unfolding code_of
 atom_rest l = record {
@@ -80,6 +83,7 @@ binary_by x _ n (is_nil e f) = absurd (omega (arith, e))
 binary_by x _ n (is_cons head tail e f) = absurd (omega (arith, e))
 binary_by x _ n (is_binary bytes e f) = record { inside = bytes; are_bytes = n; code_is = f }
 
+-- Behind the first byte of a binary's code stand escaped bytes.
 pub binary_rest : (l : ℕ) → IsRest (HasTerm (suc l)) (0x80 ∷ []) HasBytes
 unfolding code_of
 binary_rest l = record {
@@ -113,10 +117,12 @@ pub code_pos : (ds : List ℕ) (len : ℕ) → AreDigits ds → length ds ≡ le
 unfolding code_of int_code
 code_pos ds len h e = rw (digits_number ds h, ← e) refl
 
+-- A tag and the complement of these digits are the code of a negative integer.
 pub code_neg : (ds : List ℕ) (len : ℕ) → AreDigits ds → length ds ≡ len → (0x1f - len) ∷ complement ds ≡ code_of (Integer (negsuc (number ds)))
 unfolding code_of int_code
 code_neg ds len h e = rw (digits_number ds h, ← e) refl
 
+-- Behind the first byte of an integer's code stand its digits.
 pub pos_rest : (l len : ℕ) → len ≤ 8 → IsRest (HasTerm (suc l)) ((0x20 + len) ∷ []) (HasDigits false len)
 pos_rest l len k = record {
   into = λ x h. pos_by len x h.term k h.narrow (tagged h.term (0x20 + len) x h.code_is);
@@ -128,6 +134,7 @@ pos_rest l len k = record {
   };
 }
 
+-- Behind the first byte of a negative integer's code stands the complement of its digits.
 pub neg_rest : (l len : ℕ) → len ≤ 8 → IsRest (HasTerm (suc l)) ((0x1f - len) ∷ []) (HasDigits true len)
 neg_rest l len k = record {
   into = λ x h. neg_by len x h.term k h.narrow (tagged h.term (0x1f - len) x h.code_is);
@@ -161,6 +168,7 @@ cons_by l x _ d n (is_cons head tail e f) =
     record { head = head; tail = tail; head_shallow = omega arith; tail_shallow = omega arith; head_narrow = n.0; tail_narrow = n.1; code_is = f }
 cons_by l x _ d n (is_binary bytes e f) = absurd (omega (arith, e))
 
+-- Behind the first byte of a list cell's code stand a head and a tail.
 pub cons_rest : (l : ℕ) → IsRest (HasTerm (suc l)) (0x70 ∷ []) (HasCell l)
 unfolding code_of
 cons_rest l = record {
@@ -173,6 +181,7 @@ cons_rest l = record {
   };
 }
 
+-- Behind the code of a head stands the code of a tail.
 pub tail_rest : (l : ℕ) (head : Tree) → depth head ≤ l → IsNarrow head → IsRest (HasCell l) (code_of head) (HasTerm (suc l))
 tail_rest l head d n = record {
   into = λ x h. let s = same_code head h.head x (code_of h.tail) n h.head_narrow h.code_is in
@@ -188,11 +197,13 @@ tail_rest l head d n = record {
   };
 }
 
+-- No code of a term begins another one's.
 pub terms_prefix_free : (l : ℕ) → IsPrefixFree (HasTerm l)
 terms_prefix_free l u rest h k =
     let e : code_of h.term ++ rest ≡ code_of k.term = ap (λ (x : List ℕ). x ++ rest) (sym h.code_is) ∙ k.code_is in
     (prefix_free h.term k.term rest h.narrow k.narrow e).1
 
+-- A head and a tail begin with the code of a term.
 pub cell_begins : (l : ℕ) (x : List ℕ) → HasCell l x → Begins (HasTerm l) x
 cell_begins l x h =
     record {
@@ -202,6 +213,7 @@ cell_begins l x h =
       is_word = record { term = h.head; shallow = h.head_shallow; narrow = h.head_narrow; code_is = refl };
     }
 
+-- The code of a term goes on to a head and a tail.
 pub cell_goes_on : (l : ℕ) (u : List ℕ) → HasTerm l u → (v : List ℕ) × HasCell l (u ++ v)
 cell_goes_on l u h = (
   code_of Nil,
@@ -233,6 +245,7 @@ tuple_by l x _ d n (is_nil e f) = absurd (omega (arith, e))
 tuple_by l x _ d n (is_cons head tail e f) = absurd (omega (arith, e))
 tuple_by l x _ d n (is_binary bytes e f) = absurd (omega (arith, e))
 
+-- Behind the first byte of a tuple's code stand a size and elements.
 pub tuple_rest : (l : ℕ) → IsRest (HasTerm (suc l)) (0x40 ∷ []) (HasTuple l)
 unfolding code_of
 tuple_rest l = record {
@@ -251,6 +264,7 @@ row_first l n Ends d k e x f = absurd (omega arith)
 row_first l n (More t row) d k e x f =
     record { word = code_of t; rest = row_code row; parts = f; is_word = record { term = t; shallow = omega arith; narrow = k.0; code_is = refl } }
 
+-- Codes of one and more terms begin with the code of a term.
 pub row_begins : (l n : ℕ) (x : List ℕ) → HasRow l (suc n) x → Begins (HasTerm l) x
 row_begins l n x h = row_first l n h.row h.shallow h.narrow h.many x h.code_is
 
@@ -262,6 +276,7 @@ row_after l n t (More u row) x h d k e f =
     let s = same_code t u x (row_code row) h k.0 f in
     record { row = row; shallow = omega arith; narrow = k.1; many = omega arith; code_is = s.1 }
 
+-- Behind the code of the first of some terms stand the codes of one fewer.
 pub row_rest : (l n : ℕ) (t : Tree) → depth t ≤ l → IsNarrow t → IsRest (HasRow l (suc n)) (code_of t) (HasRow l n)
 unfolding row_code
 row_rest l n t d k = record {
@@ -295,6 +310,7 @@ nil_row l n h = (row_code (nils n), record { row = nils n; shallow = low n; narr
     long zero = refl
     long (suc n) = omega (arith, long n)
 
+-- The code of a term goes on to the codes of so many more.
 pub row_goes_on : (l n : ℕ) (u : List ℕ) → HasTerm l u → (v : List ℕ) × HasRow l (suc n) (u ++ v)
 unfolding row_code
 row_goes_on l n u h =
@@ -328,9 +344,11 @@ no_tag_by levels b x _ d (is_nil e f) n = n.no_nil e
 no_tag_by levels b x _ d (is_cons head tail e f) n = n.no_cons (omega (arith, deep head)) e
 no_tag_by levels b x _ d (is_binary bytes e f) n = n.no_binary e
 
+-- No code begins with a byte that is no tag.
 pub no_tag : (levels b : ℕ) (x : List ℕ) → IsNoTag levels b → HasTerm levels (b ∷ x) → ⊥
 no_tag levels b x n h = no_tag_by levels b x h.term h.shallow (tagged h.term b x h.code_is) n
 
+-- The empty list has a code at any level.
 pub has_nil : (levels : ℕ) → 1 ≤ levels → HasTerm levels (0x60 ∷ [])
 unfolding code_of
 has_nil levels h = record { term = Nil; shallow = h; narrow = tt; code_is = refl }

@@ -28,6 +28,7 @@ rest_is bs i =
     let e : take (length bs - (i + 1)) (drop (i + 1) bs) ≡ drop (i + 1) bs =
     take_all (length bs - (i + 1)) (drop (i + 1) bs) (omega (arith, length-drop (i + 1) bs)) in rw (e, add-one) refl
 
+-- Up to the first zero byte there is none.
 pub split_first : (bs : List ℕ) (i : ℕ) → Some i ≡ position (λ b. b == 0) bs
     → HasNoZero (take i bs) × (bs ≡ take i bs ++ 0 ∷ take (length bs - (i + 1)) (drop (i + 1) bs))
 split_first bs i e =
@@ -42,6 +43,7 @@ no_zero_from (suc b ∷ bs) i e =
     let n : (suc b == 0) ≡ false = grind (arith, nat_tests) in let f : position_from (λ b. b == 0) (i + 1) bs ≡ None = rw n at e in
     (omega arith, no_zero_from bs (i + 1) f)
 
+-- Where none is found there is no zero byte.
 pub split_last : (bs : List ℕ) → None ≡ position (λ b. b == 0) bs → HasNoZero bs
 split_last bs e = no_zero_from bs 0 (sym (position_from-zero (λ b. b == 0) bs) ∙ sym e)
 
@@ -51,6 +53,7 @@ escaped_run [] rest h = escaped_zero rest
 escaped_run (zero ∷ run) rest h = absurd (omega (arith, h.0))
 escaped_run (suc b ∷ run) rest h = escaped_suc b (run ++ 0 ∷ rest) ∙ (λ j. suc b ∷ escaped_run run rest h.1 j)
 
+-- Bytes without a zero byte are escaped as they stand, with the end behind them.
 pub escaped_no_zero : (bs : List ℕ) → HasNoZero bs → escaped bs ≡ bs ++ 0 ∷ 0 ∷ []
 escaped_no_zero [] h = escaped_nil
 escaped_no_zero (zero ∷ bs) h = absurd (omega (arith, h.0))

@@ -2,35 +2,35 @@
 use Rattle.std.proofs.Common.{◌≡◌, ℕ, zero, suc, ◌≤◌, ◌<◌, ◌+◌, ◌-◌, List, [], ◌∷◌, ◌++◌, length, arith, refl, sym, ◌∙◌, ap, subst, length-append}
 use Rattle.std.specs.Prelude.{None}
 use Rattle.ca_term.specs.declared.bounds.TheConstants.{MOST_ELEMENTS}
-use Rattle.ca_term.specs.Tree.{Tree, Row, Tuple, Ends, More, row_of, size, IsTerm, IsNarrow, IsNarrowRow}
+use Rattle.ca_term.specs.Tree.{Tree, Row, Integer, Atom, Nil, Cons, Binary, Tuple, Ends, More, row_of, size, IsTerm, IsNarrow, IsNarrowRow}
 use Rattle.ca_term.specs.Code.{code_of, row_code, four_bytes}
 use Rattle.ca_term.proofs.Codes.{same_code}
-use Rattle.ca_order.specs.KeyParts.{HasCodes, IsKeyParts, IsKeyPlace}
+use Rattle.ca_order.specs.KeyParts.{HasCodes, IsKeyParts, IsKeyPlace, IsNoObject, IsSplit}
 use Rattle.ca_order.specs.Languages.{IsTermCode}
-use Rattle.ca_order.proofs.FirstBytes.{Tagged, tagged, is_pos, is_neg, is_atom, is_tuple, is_nil, is_cons, is_binary}
+use Rattle.ca_order.proofs.FirstBytes.{first_same, Tagged, tagged, is_pos, is_neg, is_atom, is_tuple, is_nil, is_cons, is_binary}
 use Rattle.ca_term.proofs.Digits.{digits_shorter}
 use Rattle.ca_term.proofs.Lengths.{length_tuple}
 use Rattle.ca_order.proofs.Skipped.{code_begun, row_app, one_code}
 
--- ---- no tuple
+-- Where the code is no tuple's, its term has no key.
+pub no_key : (code : List ℕ) (keypos : ℕ) → IsNoObject code → (t : Tree) → code ≡ code_of t → IsKeyParts t keypos None
+no_key code keypos n (Integer m) e = refl
+no_key code keypos n (Atom text) e = refl
+no_key code keypos n (Tuple row) e = absurd (n row e)
+no_key code keypos n Nil e = refl
+no_key code keypos n (Cons head tail) e = refl
+no_key code keypos n (Binary bytes) e = refl
 
-no_tuple_by : (t : Tree) (keypos b : ℕ) (x : List ℕ) → (b ≡ 0x40 → ⊥) → Tagged b x t → IsKeyParts t keypos None
-no_tuple_by _ keypos b x n (is_pos k e f) = refl
-no_tuple_by _ keypos b x n (is_neg k e f) = refl
-no_tuple_by _ keypos b x n (is_atom text e f) = refl
-no_tuple_by _ keypos b x n (is_tuple row e f) = absurd (n e)
-no_tuple_by _ keypos b x n (is_nil e f) = refl
-no_tuple_by _ keypos b x n (is_cons h t e f) = refl
-no_tuple_by _ keypos b x n (is_binary bytes e f) = refl
+-- The code of a tuple begins with the byte 40.
+pub no_object : (code inside : List ℕ) (b : ℕ) → code ≡ b ∷ inside → (b ≡ 0x40 → ⊥) → IsNoObject code
+unfolding code_of
+no_object code inside b e n row f = n (first_same b 0x40 inside (four_bytes (size row) ++ row_code row) (sym e ∙ f)).0
 
-pub no_tuple : (t : Tree) (keypos b : ℕ) (code inside : List ℕ) → code ≡ b ∷ inside → (b ≡ 0x40 → ⊥) → code ≡ code_of t → IsKeyParts t keypos None
-no_tuple t keypos b code inside e n f = no_tuple_by t keypos b inside n (tagged t b inside (sym e ∙ f))
+-- No code is empty.
+pub no_empty_object : (code : List ℕ) → length code ≡ 0 → IsNoObject code
+no_empty_object code e row f = omega (arith, e, ap length f, code_begun (Tuple row))
 
-pub no_bytes_code : (t : Tree) (code : List ℕ) → length code ≡ 0 → code ≡ code_of t → ⊥
-no_bytes_code t code e f = omega (arith, e, ap length f, code_begun t)
-
--- ---- a tuple
-
+-- a tuple by what stands behind the first byte of its code
 pub record IsObject (code inside : List ℕ) : Type 0 where
   pub row : Row
   pub bounded : IsTerm (Tuple row)
@@ -46,19 +46,34 @@ object_by _ b code inside h c n (is_nil e f) = absurd (omega (arith, n, e))
 object_by _ b code inside h c n (is_cons k t e f) = absurd (omega (arith, n, e))
 object_by _ b code inside h c n (is_binary bytes e f) = absurd (omega (arith, n, e))
 
+-- A code that begins with the byte 40 is a tuple's.
 pub object : (code inside : List ℕ) (b : ℕ) → IsTermCode code → code ≡ b ∷ inside → b ≡ 0x40 → IsObject code inside
 object code inside b c e n = object_by c.0 b code inside c.1 c.2 n (tagged c.0 b inside (sym e ∙ c.2))
 
-pub same_term : (code inside : List ℕ) (o : IsObject code inside) (t : Tree) → IsTerm t → code ≡ code_of t → Tuple o.row ≡ t
-same_term code inside o t h e = (same_code (Tuple o.row) t [] [] o.bounded.narrow h.narrow (ap (λ x. x ++ []) (sym o.code_is ∙ e))).0
-
+-- The size of a tuple stands behind its first byte.
 pub size_fits : (code inside : List ℕ) (o : IsObject code inside) → (n : ℕ) × (rest : List ℕ) × (n ≤ MOST_ELEMENTS) × (inside ≡ four_bytes n ++ rest)
 size_fits code inside o = (size o.row, row_code o.row, o.bounded.narrow.0, o.inside_is)
 
-pub few : (code inside : List ℕ) (o : IsObject code inside) (keypos n : ℕ) → 1 ≤ keypos → n ≡ size o.row → n ≤ keypos - 1 → (t : Tree) → IsTerm t
+-- What stands in the four bytes of a tuple's size, and behind them, is its size and its elements.
+pub split : (code inside elements : List ℕ) (count : ℕ) (o : IsObject code inside)
+    → ((n : ℕ) (rest : List ℕ) → n ≤ MOST_ELEMENTS → inside ≡ four_bytes n ++ rest → (count ≡ n) × (elements ≡ rest)) → IsSplit code count elements
+split code inside elements count o f =
+    let s = f (size o.row) (row_code o.row) o.bounded.narrow.0 o.inside_is in
+    record { row = o.row; bounded = o.bounded; code_is = o.code_is; count_is = s.0; elements_is = s.1 }
+
+-- A tuple is the only term of its code.
+pub same_term : (code elements : List ℕ) (count : ℕ) (s : IsSplit code count elements) (t : Tree) → IsTerm t → code ≡ code_of t → Tuple s.row ≡ t
+same_term code elements count s t h e = (same_code (Tuple s.row) t [] [] s.bounded.narrow h.narrow (ap (λ x. x ++ []) (sym s.code_is ∙ e))).0
+
+-- A tuple of fewer elements has no key there.
+pub few : (code elements : List ℕ) (count keypos : ℕ) → IsSplit code count elements → 1 ≤ keypos → count ≤ keypos - 1 → (t : Tree) → IsTerm t
     → code ≡ code_of t → IsKeyParts t keypos None
-few code inside o keypos n p e h t b f =
-    subst (λ (x : Tree). IsKeyParts x keypos None) (same_term code inside o t b f) (let lt : size o.row < keypos = omega (arith, e) in lt)
+few code elements count keypos s p h t b f =
+    subst (λ (x : Tree). IsKeyParts x keypos None) (same_term code elements count s t b f) (let lt : size s.row < keypos = omega (arith, s.count_is) in lt)
+
+-- A tuple's code is five bytes longer than the codes of its elements.
+pub object_length : (code elements : List ℕ) (count : ℕ) → IsSplit code count elements → length code ≡ 5 + length elements
+object_length code elements count s = omega (arith, ap length s.code_is, length_tuple s.row, ap length s.elements_is)
 
 -- ---- the elements before and behind one
 
@@ -94,25 +109,25 @@ parted (More t row) (suc k) h n =
       narrow_after = r.narrow_after;
     }
 
-module _ (code inside elements : List ℕ) (o : IsObject code inside) (keypos : ℕ) (h : 1 ≤ keypos) (l : keypos - 1 < size o.row)
-    (e : elements ≡ row_code o.row) where
-  pub pd : Parted o.row (keypos - 1)
-  pd = parted o.row (keypos - 1) l o.bounded.narrow.1
+module _ (code elements : List ℕ) (count keypos : ℕ) (s : IsSplit code count elements) (h : 1 ≤ keypos) (l : keypos - 1 < count) where
+  -- The key stands between the elements before it and those behind it.
+  pub pd : Parted s.row (keypos - 1)
+  pd = parted s.row (keypos - 1) (omega (arith, s.count_is)) s.bounded.narrow.1
 
   elements_are : elements ≡ row_code (row_of pd.before) ++ (code_of pd.key ++ row_code (row_of pd.after))
-  elements_are = e ∙ ap row_code pd.row_is ∙ row_app pd.before pd.key pd.after
+  elements_are = s.elements_is ∙ ap row_code pd.row_is ∙ row_app pd.before pd.key pd.after
 
+  -- In front of the key stand the codes of the elements before it.
   pub key_codes : HasCodes (keypos - 1) elements (code_of pd.key ++ row_code (row_of pd.after))
   key_codes = record { terms = pd.before; narrow = pd.narrow_before; many = pd.place; parts = elements_are }
 
+  -- Behind the key stand the codes of the elements behind it.
   pub behind_codes : (key : List ℕ) → key ≡ code_of pd.key ++ row_code (row_of pd.after) → HasCodes 1 key (row_code (row_of pd.after))
   behind_codes key f = record { terms = pd.key ∷ []; narrow = (pd.narrow_key, tt); many = refl; parts = f ∙ one_code pd.key (row_code (row_of pd.after)) }
 
-  pub code_length : length code ≡ 5 + length elements
-  code_length = omega (arith, ap length o.code_is, length_tuple o.row, ap length e)
-
+  -- The key's code stands where it is told.
   pub place_is : (key behind : List ℕ) → key ≡ code_of pd.key ++ row_code (row_of pd.after) → behind ≡ row_code (row_of pd.after)
-      → IsKeyPlace o.row keypos (length code - length key) (length code - length behind)
+      → IsKeyPlace s.row keypos (length code - length key) (length code - length behind)
   place_is key behind f g = record {
     before = pd.before;
     key = pd.key;
@@ -121,14 +136,14 @@ module _ (code inside elements : List ℕ) (o : IsObject code inside) (keypos : 
     place = omega (arith, pd.place);
     start_is = omega (
       arith,
-      code_length,
+      object_length code elements count s,
       ap length elements_are,
       ap length f,
       length-append (row_code (row_of pd.before)) (code_of pd.key ++ row_code (row_of pd.after)),
     );
     end_is = omega (
       arith,
-      code_length,
+      object_length code elements count s,
       ap length elements_are,
       ap length f,
       ap length g,

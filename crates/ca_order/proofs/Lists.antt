@@ -2,13 +2,13 @@
 use Rattle.std.proofs.Common.{◌≡◌, ℕ, zero, suc, ◌≤◌, ◌<◌, ◌+◌, ◌-◌, max, List, [], ◌∷◌, ◌++◌, length, arith, refl, sym, ◌∙◌, ap, subst, append_assoc, append-nil, length-append}
 use Rattle.ca_term.specs.declared.bounds.TheConstants.{MOST_DEPTH, MOST_ELEMENTS}
 use Rattle.ca_order.specs.declared.fault.ReadFault.{ReadFault}
-use Rattle.ca_term.specs.Tree.{Tree, Tuple, Ends, row_of, list_of, size, depth, row_depth, IsTerm, IsNarrow, AreTerms}
+use Rattle.ca_term.specs.Tree.{Tree, Tuple, Cons, Ends, row_of, list_of, size, depth, row_depth, IsTerm, IsNarrow, AreTerms}
 use Rattle.ca_term.specs.Code.{code_of, row_code, four_bytes}
 use Rattle.ca_term.proofs.Rows.{size_row, narrow_row, AreTerms_push}
 use Rattle.ca_order.specs.Stuck.{IsRest}
 use Rattle.ca_order.specs.Languages.{HasTerm, HasRow}
 use Rattle.ca_order.specs.Reads.{IsReadFault, BeginsWithTerm, BeginsWithRow}
-use Rattle.ca_order.proofs.Parts.{code_cons, code_tuple}
+use Rattle.ca_order.proofs.Parts.{at_cons, at_tuple, begins_as}
 use Rattle.ca_order.proofs.FirstBytes.{HasCell, cons_rest, tail_rest, terms_prefix_free, cell_begins, cell_goes_on, row_rest, row_begins, row_goes_on}
 use Rattle.ca_order.proofs.Faults.{fault_behind, fault_first, fault_same}
 
@@ -54,6 +54,7 @@ pub record IsHeads (levels : ℕ) (bytes : List ℕ) (heads : List Tree) (rest :
   pub parts : bytes ≡ heads_code heads ++ rest
   pub shallow : AreShallow (levels - 1) heads
 
+-- One more head is read.
 pub heads_more : (levels : ℕ) (bytes : List ℕ) (heads new : List Tree) (rest inside : List ℕ) (h : Tree) (behind : List ℕ) → IsHeads levels bytes heads rest
     → rest ≡ 0x70 ∷ inside → BeginsWithTerm (levels - 1) inside h behind → new ≡ heads ++ h ∷ [] → IsHeads levels bytes new behind
 heads_more levels bytes heads new rest inside h behind p e w f =
@@ -63,6 +64,7 @@ heads_more levels bytes heads new rest inside h behind p e w f =
       shallow = shallow_push (levels - 1) heads h p.shallow w.shallow w.bounded;
     })
 
+-- A fault behind heads is a fault of the list.
 pub heads_fault : (levels : ℕ) (bytes : List ℕ) (heads : List Tree) (rest : List ℕ) (e : ReadFault) → 1 ≤ levels → IsHeads levels bytes heads rest
     → IsReadFault (HasTerm levels) rest e → IsReadFault (HasTerm levels) bytes e
 heads_fault zero bytes heads rest e l p f = absurd (omega arith)
@@ -85,7 +87,7 @@ head_fault (suc l) rest inside e k p f =
 list_code : (hs : List Tree) (t : Tree) → code_of (list_of hs t) ≡ heads_code hs ++ code_of t
 list_code [] t = refl
 list_code (h ∷ hs) t =
-    code_cons h (list_of hs t) ∙ ap (λ (x : List ℕ). 0x70 ∷ code_of h ++ x) (list_code hs t)
+    at_cons (Cons h (list_of hs t)) h (list_of hs t) refl ∙ ap (λ (x : List ℕ). 0x70 ∷ code_of h ++ x) (list_code hs t)
     ∙ ap (λ (x : List ℕ). 0x70 ∷ x) (sym (append_assoc (code_of h) (heads_code hs) (code_of t)))
 
 list_depth : (l : ℕ) (hs : List Tree) (t : Tree) → AreShallow l hs → depth t ≤ suc l → depth (list_of hs t) ≤ suc l
@@ -96,6 +98,7 @@ list_narrow : (l : ℕ) (hs : List Tree) (t : Tree) → AreShallow l hs → IsNa
 list_narrow l [] t a n = n
 list_narrow l (h ∷ hs) t a n = (a.1.narrow, list_narrow l hs t a.2 n)
 
+-- Heads and a tail that were read make a list.
 pub heads_term : (levels : ℕ) (bytes : List ℕ) (heads : List Tree) (rest : List ℕ) (last whole : Tree) (behind : List ℕ) → 1 ≤ levels → levels ≤ MOST_DEPTH
     → IsHeads levels bytes heads rest → BeginsWithTerm levels rest last behind → whole ≡ list_of heads last → BeginsWithTerm levels bytes whole behind
 heads_term zero bytes heads rest last whole behind l m p w e = absurd (omega arith)
@@ -125,11 +128,13 @@ row_nil : [] ≡ row_code Ends
 unfolding row_code
 row_nil = refl
 
+-- At first no item is read.
 pub row_none : (levels : ℕ) (bytes : List ℕ) (items : List Tree) → items ≡ [] → BeginsWithRow levels 0 bytes items bytes
 row_none levels bytes items e =
     subst (λ (x : List Tree). BeginsWithRow levels 0 bytes x bytes) (sym e)
     (record { parts = ap (λ x. x ++ bytes) row_nil; shallow = omega arith; bounded = tt; many = refl })
 
+-- One more item is read.
 pub row_more : (levels k : ℕ) (bytes : List ℕ) (items new : List Tree) (rest : List ℕ) (t : Tree) (behind : List ℕ) → BeginsWithRow levels k bytes items rest
     → BeginsWithTerm levels rest t behind → new ≡ items ++ t ∷ [] → BeginsWithRow levels (k + 1) bytes new behind
 row_more levels k bytes items new rest t behind r w e =
@@ -150,6 +155,7 @@ items_rest l m (t ∷ ts) d b =
     (rest_then (HasRow l (suc (length ts + m))) (HasRow l (length ts + m)) (HasRow l m) (code_of t) (row_code (row_of ts))
     (row_rest l (length ts + m) t (omega arith) b.0.narrow) (items_rest l m ts (omega arith) b.1))
 
+-- A fault in an item is a fault of the row.
 pub item_fault : (levels k count : ℕ) (bytes : List ℕ) (items : List Tree) (rest : List ℕ) (e : ReadFault) → k < count → BeginsWithRow levels k bytes items rest
     → IsReadFault (HasTerm levels) rest e → IsReadFault (HasRow levels count) bytes e
 item_fault levels k count bytes items rest e h r f =
@@ -168,12 +174,9 @@ pub begins_tuple : (levels count : ℕ) (bytes inside : List ℕ) (items : List 
     → BeginsWithTerm (levels + 1) (0x40 ∷ bytes) t rest
 begins_tuple levels count bytes inside items rest t h k e r f =
     let n : size (row_of items) ≡ count = size_row items ∙ r.many in
-    let c : code_of t ≡ 0x40 ∷ four_bytes count ++ row_code (row_of items) =
-    ap code_of f ∙ code_tuple (row_of items) ∙ ap (λ m. 0x40 ∷ four_bytes m ++ row_code (row_of items)) n in
-    let b : IsTerm (Tuple (row_of items)) = record { shallow = omega (arith, r.shallow); narrow = (omega (arith, n), narrow_row items r.bounded) } in
-    record {
-      parts = ap (λ (x : List ℕ). 0x40 ∷ x) (e ∙ ap (λ x. four_bytes count ++ x) r.parts ∙ sym (append_assoc (four_bytes count) (row_code (row_of items)) rest))
-          ∙ ap (λ x. x ++ rest) (sym c);
-      shallow = subst (λ (x : Tree). depth x ≤ levels + 1) (sym f) (omega (arith, r.shallow));
-      bounded = subst IsTerm (sym f) b;
-    }
+    let c : code_of (Tuple (row_of items)) ≡ 0x40 ∷ four_bytes count ++ row_code (row_of items) =
+    at_tuple (Tuple (row_of items)) items refl ∙ ap (λ m. 0x40 ∷ four_bytes m ++ row_code (row_of items)) r.many in
+    let p : bytes ≡ (four_bytes count ++ row_code (row_of items)) ++ rest =
+    e ∙ ap (λ x. four_bytes count ++ x) r.parts ∙ sym (append_assoc (four_bytes count) (row_code (row_of items)) rest) in
+    begins_as (levels + 1) (0x40 ∷ bytes) rest t (Tuple (row_of items)) f (ap (λ (x : List ℕ). 0x40 ∷ x) p ∙ ap (λ x. x ++ rest) (sym c))
+    (omega (arith, r.shallow)) (record { shallow = omega (arith, r.shallow); narrow = (omega (arith, n), narrow_row items r.bounded) })

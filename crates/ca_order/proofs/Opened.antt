@@ -5,14 +5,17 @@ use Rattle.ca_term.specs.Code.{escaped}
 use Rattle.ca_term.proofs.Escapes.{escaped_zero, escaped_suc, escaped_nil, same_escaped}
 use Rattle.ca_order.specs.Zeros.{HasNoZero, opened}
 
+-- No bytes have no escapes.
 pub opened_nil : opened [] ≡ []
 unfolding opened
 opened_nil = refl
 
+-- A zero byte is escaped as 00 FF.
 pub opened_zero : (bs : List ℕ) → opened (0 ∷ bs) ≡ 0 ∷ 0xff ∷ opened bs
 unfolding opened
 opened_zero bs = refl
 
+-- A byte above 0 is escaped as it stands.
 pub opened_suc : (b : ℕ) (bs : List ℕ) → opened (suc b ∷ bs) ≡ suc b ∷ opened bs
 unfolding opened
 opened_suc b bs = let n : (suc b == 0) ≡ false = grind (arith, nat_tests) in rw n
@@ -23,14 +26,17 @@ escaped_append [] ys = rw opened_nil refl
 escaped_append (zero ∷ xs) ys = rw (escaped_zero (xs ++ ys), opened_zero xs, escaped_append xs ys) refl
 escaped_append (suc b ∷ xs) ys = rw (escaped_suc b (xs ++ ys), opened_suc b xs, escaped_append xs ys) refl
 
+-- Escaped bytes are the escapes and the end.
 pub escaped_ends : (bs : List ℕ) → escaped bs ≡ opened bs ++ 0 ∷ 0 ∷ []
 escaped_ends bs = ap escaped (sym (append-nil bs)) ∙ escaped_append bs [] ∙ ap (λ x. opened bs ++ x) escaped_nil
 
+-- Bytes are escaped part by part.
 pub opened_append : (xs ys : List ℕ) → opened (xs ++ ys) ≡ opened xs ++ opened ys
 opened_append [] ys = rw opened_nil refl
 opened_append (zero ∷ xs) ys = rw (opened_zero (xs ++ ys), opened_zero xs, opened_append xs ys) refl
 opened_append (suc b ∷ xs) ys = rw (opened_suc b (xs ++ ys), opened_suc b xs, opened_append xs ys) refl
 
+-- Bytes without a zero byte are escaped as they stand.
 pub opened_no_zero : (bs : List ℕ) → HasNoZero bs → opened bs ≡ bs
 opened_no_zero [] h = opened_nil
 opened_no_zero (zero ∷ bs) h = absurd (omega (arith, h.0))
@@ -45,6 +51,7 @@ no_zero_opened (suc b ∷ bs) body e h =
     let r : bs ≡ opened bs = no_zero_opened bs (opened bs) refl z.1 in
     ap (λ x. suc b ∷ x) r ∙ sym (e ∙ opened_suc b bs)
 
+-- No two texts have the same escapes.
 pub same_opened : (a b : List ℕ) → opened a ≡ opened b → a ≡ b
 same_opened a b e =
     let f : escaped a ++ [] ≡ escaped b ++ [] = ap (λ x. x ++ []) (escaped_ends a ∙ ap (λ x. x ++ 0 ∷ 0 ∷ []) e ∙ sym (escaped_ends b)) in
@@ -63,9 +70,11 @@ behind_zero (suc b ∷ bs) (x ∷ run) behind h e =
     let g : opened bs ≡ run ++ 0 ∷ behind = cc in
     behind_zero bs run behind h.1 g
 
+-- Of equal lists the first items are equal.
 pub same_head : (a b : ℕ) (xs ys : List ℕ) → a ∷ xs ≡ b ∷ ys → a ≡ b
 same_head a b xs ys e = cc
 
+-- Of equal lists the second items are equal.
 pub same_second : (a b c d : ℕ) (xs ys : List ℕ) → a ∷ c ∷ xs ≡ b ∷ d ∷ ys → c ≡ d
 same_second a b c d xs ys e = cc
 

@@ -12,6 +12,7 @@ use Rattle.ca_order.proofs.Starts.{IsPrefixFree, Begins, stuck_here}
 use Rattle.ca_order.proofs.Faults.{fault_behind, fault_first, fault_same}
 use Rattle.ca_order.proofs.FirstBytes.{nil_row, first_same}
 
+-- A size that a tuple may have stands in the last of its four bytes.
 pub four_small : (n : ℕ) → n ≤ MOST_ELEMENTS → four_bytes n ≡ 0 ∷ 0 ∷ 0 ∷ n ∷ []
 unfolding four_bytes
 four_small n h =
@@ -27,6 +28,7 @@ row_nil = refl
 
 -- ---- one byte
 
+-- A size of one byte is stuck in front of a byte that is too large.
 pub stuck_byte : (most : ℕ) (bytes : List ℕ) → ((b : ℕ) (more : List ℕ) → bytes ≡ b ∷ more → b ≤ most → ⊥) → IsStuck (HasSize 0 most) bytes bytes
 stuck_byte most bytes n =
     stuck_here (HasSize 0 most) bytes 0 [] (record { count = 0; fits = omega arith; code_is = refl })
@@ -62,6 +64,7 @@ zeros_rest (suc k) z most =
       back = λ x w. let v = q.back x w in record { count = v.count; fits = v.fits; code_is = ap (λ (y : List ℕ). 0 ∷ y) v.code_is };
     })
 
+-- A fault in one of the first three bytes is a fault of the size.
 pub zero_fault : (k z most : ℕ) (bytes rest : List ℕ) (e : ReadFault) → k + suc z ≡ 3 → bytes ≡ zero_bytes k ++ rest → IsReadFault (HasSize 0 0) rest e
     → IsReadFault (HasSize 3 most) bytes e
 zero_fault k z most bytes rest e n f h =
@@ -71,6 +74,7 @@ zero_fault k z most bytes rest e n f h =
     (fault_behind (HasSize 3 most) (HasSize (suc z) most) (zero_bytes k) rest e q
     (fault_first (HasSize 0 0) (HasSize (suc z) most) rest e (byte_prefix_free 0) (zero_begins z most) (zero_goes_on z most) h))
 
+-- A fault in the last byte is a fault of the size.
 pub last_fault : (most : ℕ) (bytes rest : List ℕ) (e : ReadFault) → bytes ≡ zero_bytes 3 ++ rest → IsReadFault (HasSize 0 most) rest e
     → IsReadFault (HasSize 3 most) bytes e
 last_fault most bytes rest e f h =
@@ -86,6 +90,7 @@ zero_more k b bytes rest more e h f =
     shift zero xs = refl
     shift (suc k) xs = ap (λ (y : List ℕ). 0 ∷ y) (shift k xs)
 
+-- Three zero bytes and a small byte are the four bytes of a size.
 pub size_all : (most n : ℕ) (bytes rest more : List ℕ) → most ≤ MOST_ELEMENTS → n ≤ most → bytes ≡ zero_bytes 3 ++ rest → rest ≡ n ∷ more → bytes ≡ four_bytes n ++ more
 size_all most n bytes rest more h k e f = e ∙ ap (λ x. zero_bytes 3 ++ x) f ∙ ap (λ x. x ++ more) (sym (four_small n (omega arith)))
 
@@ -104,6 +109,7 @@ few_elements : (levels n : ℕ) (x : List ℕ) → HasRow levels n x → n ≤ M
 few_elements zero n x h k = omega (arith, no_row h.row h.shallow, h.many)
 few_elements (suc levels) n x h k = k
 
+-- At any level a tuple has no more elements than a tuple may have.
 pub most_fits : (levels : ℕ) → most_elements levels ≤ MOST_ELEMENTS
 most_fits zero = omega arith
 most_fits (suc levels) = omega arith
@@ -131,11 +137,13 @@ size_goes_on levels u h =
     let f : h.count ≤ MOST_ELEMENTS = omega (arith, h.fits, most_fits levels) in
     (v.0, record { count = h.count; fits = f; elements = v.0; row = v.1; code_is = ap (λ x. x ++ v.0) (h.code_is ∙ sym (four_small h.count f)) })
 
+-- A fault in the size is a fault of the tuple.
 pub size_fault : (levels : ℕ) (bytes : List ℕ) (e : ReadFault) → IsReadFault (HasSize 3 (most_elements levels)) bytes e → IsReadFault (HasTuple levels) bytes e
 size_fault levels bytes e h =
     fault_first (HasSize 3 (most_elements levels)) (HasTuple levels) bytes e (size_prefix_free (most_elements levels)) (size_begins levels)
     (size_goes_on levels) h
 
+-- Behind its size stand a tuple's elements.
 pub elements_rest : (levels n : ℕ) → n ≤ MOST_ELEMENTS → IsRest (HasTuple levels) (four_bytes n) (HasRow levels n)
 elements_rest levels n h = record {
   into = λ x w.

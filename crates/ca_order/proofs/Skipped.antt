@@ -1,32 +1,14 @@
 -- Codes are skipped by their first byte.
-use Rattle.std.proofs.Common.{◌≡◌, ℕ, ◌≤◌, ◌<◌, ◌+◌, ◌-◌, pos, negsuc, List, [], ◌∷◌, ◌++◌, length, arith, refl, sym, ◌∙◌, ap, subst, append_assoc, append-nil, length-append, ◌⊎◌}
-use Rattle.ca_term.specs.declared.bounds.TheConstants.{MOST_ELEMENTS}
-use Rattle.ca_term.specs.Tree.{Tree, Row, Integer, Atom, Tuple, Nil, Cons, Binary, Ends, More, row_of, size, elements, IsNarrow, IsNarrowRow}
+use Rattle.std.proofs.Common.{◌≡◌, ℕ, suc, ◌≤◌, ◌<◌, ◌+◌, ◌-◌, pos, negsuc, true, false, List, [], ◌∷◌, ◌++◌, length, arith, refl, sym, ◌∙◌, ap, subst, append_assoc, append-nil, length-append, ◌⊎◌, ⊎_elim}
+use Rattle.std.specs.Str.{encode_utf8_all}
+use Rattle.ca_term.specs.declared.bounds.TheConstants.{MOST_ELEMENTS, MOST_CODE_POINTS}
+use Rattle.ca_term.specs.Tree.{Tree, Row, Integer, Atom, Tuple, Nil, Cons, Binary, Ends, More, row_of, size, depth, elements, IsNarrowRow}
 use Rattle.ca_term.specs.Code.{code_of, row_code, int_code, digits, complement, escaped, four_bytes}
-use Rattle.ca_term.proofs.Digits.{digits_shorter, length_complement}
 use Rattle.ca_order.specs.KeyParts.{HasCodes}
-use Rattle.ca_order.proofs.FirstBytes.{Tagged, tagged, is_pos, is_neg, is_atom, is_tuple, is_nil, is_cons, is_binary}
-
--- what stands behind the first byte of a code that `y` follows, by the kind of the term
-data Next (b : ℕ) (inside y : List ℕ) : Type 0 where
-  next_pos : (ds : List ℕ) → length ds ≤ 8 → b ≡ 0x20 + length ds → inside ≡ ds ++ y → Next b inside y
-  next_neg : (ds : List ℕ) → length ds ≤ 8 → b ≡ 0x1f - length ds → inside ≡ ds ++ y → Next b inside y
-  next_atom : (bs : List ℕ) → b ≡ 0x30 → inside ≡ escaped bs ++ y → Next b inside y
-  next_tuple : (row : Row) → b ≡ 0x40 → size row ≤ MOST_ELEMENTS → IsNarrowRow row → inside ≡ four_bytes (size row) ++ (row_code row ++ y) → Next b inside y
-  next_nil : b ≡ 0x60 → inside ≡ y → Next b inside y
-  next_cons : (h t : Tree) → b ≡ 0x70 → IsNarrow h → IsNarrow t → inside ≡ code_of h ++ (code_of t ++ y) → Next b inside y
-  next_binary : (bs : List ℕ) → b ≡ 0x80 → inside ≡ escaped bs ++ y → Next b inside y
-
-next_by : (t : Tree) (b : ℕ) (z inside y : List ℕ) → IsNarrow t → inside ≡ z ++ y → Tagged b z t → Next b inside y
-next_by _ b z inside y n e (is_pos k f g) = next_pos (digits k) (digits_shorter k) f (e ∙ ap (λ x. x ++ y) g)
-next_by _ b z inside y n e (is_neg k f g) =
-    next_neg (complement (digits k)) (omega (arith, length_complement (digits k), digits_shorter k)) (omega (arith, f, length_complement (digits k)))
-    (e ∙ ap (λ x. x ++ y) g)
-next_by _ b z inside y n e (is_atom text f g) = next_atom text f (e ∙ ap (λ x. x ++ y) g)
-next_by _ b z inside y n e (is_tuple row f g) = next_tuple row f n.0 n.1 (e ∙ ap (λ x. x ++ y) g ∙ append_assoc (four_bytes (size row)) (row_code row) y)
-next_by _ b z inside y n e (is_nil f g) = next_nil f (e ∙ ap (λ x. x ++ y) g)
-next_by _ b z inside y n e (is_cons h t f g) = next_cons h t f n.0 n.1 (e ∙ ap (λ x. x ++ y) g ∙ append_assoc (code_of h) (code_of t) y)
-next_by _ b z inside y n e (is_binary bytes f g) = next_binary bytes f (e ∙ ap (λ x. x ++ y) g)
+use Rattle.ca_order.specs.Stuck.{IsRest}
+use Rattle.ca_order.specs.Languages.{HasTerm, HasText, HasBytes, HasTuple, HasDigits}
+use Rattle.ca_order.proofs.Turned.{length_turned}
+use Rattle.ca_order.proofs.FirstBytes.{first_same, IsNoTag, no_tag, has_nil, HasCell, atom_rest, binary_rest, cons_rest, tuple_rest, pos_rest, neg_rest, terms_prefix_free}
 
 -- a code has a first byte
 begun : (t : Tree) → (b : ℕ) × (z : List ℕ) × (code_of t ≡ b ∷ z)
@@ -38,82 +20,6 @@ begun (Tuple row) = (0x40, four_bytes (size row) ++ row_code row, refl)
 begun Nil = (0x60, [], refl)
 begun (Cons h t) = (0x70, code_of h ++ code_of t, refl)
 begun (Binary bytes) = (0x80, escaped bytes, refl)
-
-next : (t : Tree) (b : ℕ) (inside y : List ℕ) → IsNarrow t → b ∷ inside ≡ code_of t ++ y → Next b inside y
-next t b inside y n e =
-    let p = begun t in
-    let f : b ∷ inside ≡ p.0 ∷ p.1 ++ y = e ∙ ap (λ x. x ++ y) p.2 in
-    let first : b ≡ p.0 = cc in
-    let rest : inside ≡ p.1 ++ y = cc in
-    let whole : b ∷ p.1 ≡ code_of t = ap (λ (x : ℕ). x ∷ p.1) first ∙ sym p.2 in
-    next_by t b p.1 inside y n rest (tagged t b p.1 whole)
-
--- ---- what each first byte leaves
-
-as_escaped : (b : ℕ) (inside y : List ℕ) → (b ≡ 0x30) ⊎ (b ≡ 0x80) → Next b inside y → (bs : List ℕ) × (inside ≡ escaped bs ++ y)
-as_escaped b inside y e (next_pos ds l f g) = absurd (omega (arith, f))
-as_escaped b inside y e (next_neg ds l f g) = absurd (omega (arith, f))
-as_escaped b inside y e (next_atom bs f g) = (bs, g)
-as_escaped b inside y e (next_tuple row f l k g) = absurd (omega (arith, f))
-as_escaped b inside y e (next_nil f g) = absurd (omega (arith, f))
-as_escaped b inside y e (next_cons h t f k l g) = absurd (omega (arith, f))
-as_escaped b inside y e (next_binary bs f g) = (bs, g)
-
-as_tuple : (b : ℕ) (inside y : List ℕ) → b ≡ 0x40 → Next b inside y
-    → (row : Row) × (size row ≤ MOST_ELEMENTS) × IsNarrowRow row × (inside ≡ four_bytes (size row) ++ (row_code row ++ y))
-as_tuple b inside y e (next_pos ds l f g) = absurd (omega (arith, f))
-as_tuple b inside y e (next_neg ds l f g) = absurd (omega (arith, f))
-as_tuple b inside y e (next_atom bs f g) = absurd (omega (arith, f))
-as_tuple b inside y e (next_tuple row f l k g) = (row, l, k, g)
-as_tuple b inside y e (next_nil f g) = absurd (omega (arith, f))
-as_tuple b inside y e (next_cons h t f k l g) = absurd (omega (arith, f))
-as_tuple b inside y e (next_binary bs f g) = absurd (omega (arith, f))
-
-as_nil : (b : ℕ) (inside y : List ℕ) → b ≡ 0x60 → Next b inside y → inside ≡ y
-as_nil b inside y e (next_pos ds l f g) = absurd (omega (arith, f))
-as_nil b inside y e (next_neg ds l f g) = absurd (omega (arith, f))
-as_nil b inside y e (next_atom bs f g) = absurd (omega (arith, f))
-as_nil b inside y e (next_tuple row f l k g) = absurd (omega (arith, f))
-as_nil b inside y e (next_nil f g) = g
-as_nil b inside y e (next_cons h t f k l g) = absurd (omega (arith, f))
-as_nil b inside y e (next_binary bs f g) = absurd (omega (arith, f))
-
-as_cons : (b : ℕ) (inside y : List ℕ) → b ≡ 0x70 → Next b inside y
-    → (h : Tree) × (t : Tree) × IsNarrow h × IsNarrow t × (inside ≡ code_of h ++ (code_of t ++ y))
-as_cons b inside y e (next_pos ds l f g) = absurd (omega (arith, f))
-as_cons b inside y e (next_neg ds l f g) = absurd (omega (arith, f))
-as_cons b inside y e (next_atom bs f g) = absurd (omega (arith, f))
-as_cons b inside y e (next_tuple row f l k g) = absurd (omega (arith, f))
-as_cons b inside y e (next_nil f g) = absurd (omega (arith, f))
-as_cons b inside y e (next_cons h t f k l g) = (h, t, k, l, g)
-as_cons b inside y e (next_binary bs f g) = absurd (omega (arith, f))
-
-as_pos : (b : ℕ) (inside y : List ℕ) → (0x20 ≤ b) × (b ≤ 0x28) → Next b inside y → (ds : List ℕ) × (length ds ≡ b - 0x20) × (inside ≡ ds ++ y)
-as_pos b inside y e (next_pos ds l f g) = (ds, omega (arith, f), g)
-as_pos b inside y e (next_neg ds l f g) = absurd (omega (arith, f, e))
-as_pos b inside y e (next_atom bs f g) = absurd (omega (arith, f, e))
-as_pos b inside y e (next_tuple row f l k g) = absurd (omega (arith, f, e))
-as_pos b inside y e (next_nil f g) = absurd (omega (arith, f, e))
-as_pos b inside y e (next_cons h t f k l g) = absurd (omega (arith, f, e))
-as_pos b inside y e (next_binary bs f g) = absurd (omega (arith, f, e))
-
--- no other first byte
-pub record IsNoOther (b : ℕ) : Type 0 where
-  pub no_pos : 0x20 ≤ b → b ≤ 0x28 → ⊥
-  pub no_atom : b ≡ 0x30 → ⊥
-  pub no_tuple : b ≡ 0x40 → ⊥
-  pub no_nil : b ≡ 0x60 → ⊥
-  pub no_cons : b ≡ 0x70 → ⊥
-  pub no_binary : b ≡ 0x80 → ⊥
-
-as_neg : (b : ℕ) (inside y : List ℕ) → IsNoOther b → Next b inside y → (ds : List ℕ) × (b ≤ 0x1f) × (length ds ≡ 0x1f - b) × (inside ≡ ds ++ y)
-as_neg b inside y e (next_pos ds l f g) = absurd (e.no_pos (omega (arith, f)) (omega (arith, f)))
-as_neg b inside y e (next_neg ds l f g) = (ds, omega (arith, f), omega (arith, f), g)
-as_neg b inside y e (next_atom bs f g) = absurd (e.no_atom f)
-as_neg b inside y e (next_tuple row f l k g) = absurd (e.no_tuple f)
-as_neg b inside y e (next_nil f g) = absurd (e.no_nil f)
-as_neg b inside y e (next_cons h t f k l g) = absurd (e.no_cons f)
-as_neg b inside y e (next_binary bs f g) = absurd (e.no_binary f)
 
 -- ---- rows
 
@@ -140,25 +46,32 @@ row_both (More t row) ts = ap (λ x. code_of t ++ x) (row_both row ts) ∙ sym (
 -- ---- so many codes, the first of which begins with this byte
 
 record Headed (n b : ℕ) (inside end : List ℕ) : Type 0 where
-  pub others : List Tree
-  pub narrow : IsNarrowRow (row_of others)
-  pub many : length others ≡ n
-  pub next_is : Next b inside (row_code (row_of others) ++ end)
+  others : List Tree
+  narrow : IsNarrowRow (row_of others)
+  many : length others ≡ n
+  levels : ℕ
+  body : List ℕ
+  first : HasTerm (suc levels) (b ∷ body)
+  inside_is : inside ≡ body ++ (row_code (row_of others) ++ end)
 
 headed_by : (ts : List Tree) (n b : ℕ) (bytes inside end : List ℕ) → IsNarrowRow (row_of ts) → length ts ≡ n + 1 → bytes ≡ row_code (row_of ts) ++ end
     → bytes ≡ b ∷ inside → Headed n b inside end
-unfolding row_code
 headed_by [] n b bytes inside end h m p e = absurd (omega arith)
-headed_by (t ∷ ts) n b bytes inside end h m p e = record {
-  others = ts;
-  narrow = h.1;
-  many = omega arith;
-  next_is = next t b inside (row_code (row_of ts) ++ end) h.0 (sym e ∙ p ∙ append_assoc (code_of t) (row_code (row_of ts)) end);
-}
+headed_by (t ∷ ts) n b bytes inside end h m p e =
+    let q = begun t in
+    let f : b ∷ inside ≡ q.0 ∷ q.1 ++ (row_code (row_of ts) ++ end) = sym e ∙ p ∙ more_code t ts end ∙ ap (λ x. x ++ (row_code (row_of ts) ++ end)) q.2 in
+    let s = first_same b q.0 inside (q.1 ++ (row_code (row_of ts) ++ end)) f in
+    record {
+      others = ts;
+      narrow = h.1;
+      many = omega arith;
+      levels = depth t;
+      body = q.1;
+      first = record { term = t; shallow = omega arith; narrow = h.0; code_is = ap (λ (x : ℕ). x ∷ q.1) s.0 ∙ sym q.2 };
+      inside_is = s.1;
+    }
 
-headed : (n b : ℕ) (bytes inside end : List ℕ) → HasCodes (n + 1) bytes end → bytes ≡ b ∷ inside → Headed n b inside end
-headed n b bytes inside end h e = headed_by h.terms n b bytes inside end h.narrow h.many h.parts e
-
+-- One and more codes have at least one byte.
 pub no_codes : (n : ℕ) (bytes end : List ℕ) → HasCodes (n + 1) bytes end → length bytes ≡ 0 → ⊥
 no_codes n bytes end h e = by h.terms h.many h.parts
   where
@@ -171,65 +84,117 @@ no_codes n bytes end h e = by h.terms h.many h.parts
 
 module _ (n b : ℕ) (bytes inside end : List ℕ) (h : HasCodes (n + 1) bytes end) (e : bytes ≡ b ∷ inside) where
   hd : Headed n b inside end
-  hd = headed n b bytes inside end h e
+  hd = headed_by h.terms n b bytes inside end h.narrow h.many h.parts e
 
-  leaf : (rest : List ℕ) → rest ≡ row_code (row_of hd.others) ++ end → HasCodes (n + 0) rest end
+  behind : List ℕ
+  behind = row_code (row_of hd.others) ++ end
+
+  -- what stands behind a first byte, in the language of what may follow it
+  at : (tag : ℕ) (M : ℕ → List ℕ → Type 0) → b ≡ tag → ((l : ℕ) → IsRest (HasTerm (suc l)) (tag ∷ []) (M l)) → M hd.levels hd.body
+  at tag M t q = (q hd.levels).into hd.body (subst (λ (x : ℕ). HasTerm (suc hd.levels) (x ∷ hd.body)) t hd.first)
+
+  inside_by : (body : List ℕ) → hd.body ≡ body → inside ≡ body ++ behind
+  unfolding behind
+  inside_by body f = hd.inside_is ∙ ap (λ x. x ++ behind) f
+
+  leaf : (rest : List ℕ) → rest ≡ behind → HasCodes (n + 0) rest end
+  unfolding behind
   leaf rest f = record { terms = hd.others; narrow = hd.narrow; many = omega (arith, hd.many); parts = f }
 
+  some_escaped : (b ≡ 0x30) ⊎ (b ≡ 0x80) → (bs : List ℕ) × (inside ≡ escaped bs ++ behind)
+  some_escaped t = ⊎_elim
+      (λ f. let w = at 0x30 (λ l. HasText MOST_CODE_POINTS) f atom_rest in (encode_utf8_all w.text, inside_by (escaped (encode_utf8_all w.text)) w.code_is))
+      (λ f. let w = at 0x80 (λ l. HasBytes) f binary_rest in (w.inside, inside_by (escaped w.inside) w.code_is)) t
+
+  -- Behind the first byte of an atom or a binary stand escaped bytes.
   pub escaped_there : (b ≡ 0x30) ⊎ (b ≡ 0x80) → (bs : List ℕ) × (y : List ℕ) × (inside ≡ escaped bs ++ y)
-  escaped_there t = let a = as_escaped b inside (row_code (row_of hd.others) ++ end) t hd.next_is in (a.0, row_code (row_of hd.others) ++ end, a.1)
+  escaped_there t = let a = some_escaped t in (a.0, behind, a.1)
 
+  -- Behind escaped bytes stand the other codes.
   pub escaped_codes : (rest : List ℕ) → (b ≡ 0x30) ⊎ (b ≡ 0x80) → ((bs y : List ℕ) → inside ≡ escaped bs ++ y → rest ≡ y) → HasCodes (n + 0) rest end
-  escaped_codes rest t f =
-      let a = as_escaped b inside (row_code (row_of hd.others) ++ end) t hd.next_is in leaf rest (f a.0 (row_code (row_of hd.others) ++ end) a.1)
+  escaped_codes rest t f = let a = some_escaped t in leaf rest (f a.0 behind a.1)
 
+  -- Behind the empty list stand the other codes.
   pub nil_codes : b ≡ 0x60 → HasCodes (n + 0) inside end
-  nil_codes t = leaf inside (as_nil b inside (row_code (row_of hd.others) ++ end) t hd.next_is)
+  nil_codes t =
+      let first : HasTerm (suc hd.levels) (0x60 ∷ hd.body) = subst (λ (x : ℕ). HasTerm (suc hd.levels) (x ∷ hd.body)) t hd.first in
+      leaf inside (inside_by [] (terms_prefix_free (suc hd.levels) (0x60 ∷ []) hd.body (has_nil (suc hd.levels) (omega arith)) first))
 
+  -- Behind the first byte of a list cell stand a head, a tail and the other codes.
   pub cons_codes : b ≡ 0x70 → HasCodes (n + 2) inside end
+  unfolding behind
   cons_codes t =
-      let a = as_cons b inside (row_code (row_of hd.others) ++ end) t hd.next_is in
-      record { terms = a.0 ∷ a.1 ∷ hd.others; narrow = (a.2, (a.3, hd.narrow)); many = omega (arith, hd.many); parts = a.4 ∙ two_more a.0 a.1 hd.others end }
-
-  pub size_there : b ≡ 0x40 → (m : ℕ) × (y : List ℕ) × (m ≤ MOST_ELEMENTS) × (inside ≡ four_bytes m ++ y)
-  size_there t =
-      let a = as_tuple b inside (row_code (row_of hd.others) ++ end) t hd.next_is in (size a.0, row_code a.0 ++ (row_code (row_of hd.others) ++ end), a.1, a.3)
-
-  pub tuple_codes : (m : ℕ) (rest : List ℕ) → b ≡ 0x40 → ((k : ℕ) (y : List ℕ) → k ≤ MOST_ELEMENTS → inside ≡ four_bytes k ++ y → (m ≡ k) × (rest ≡ y))
-      → HasCodes (n + m) rest end
-  tuple_codes m rest t f =
-      let a = as_tuple b inside (row_code (row_of hd.others) ++ end) t hd.next_is in
-      let k = f (size a.0) (row_code a.0 ++ (row_code (row_of hd.others) ++ end)) a.1 a.3 in
+      let w = at 0x70 HasCell t cons_rest in
       record {
-        terms = elements a.0 ++ hd.others;
-        narrow = narrow_both a.0 hd.others a.2 hd.narrow;
-        many = omega (arith, hd.many, k.0, length-append (elements a.0) hd.others, length_elements a.0);
-        parts = k.1 ∙ sym (append_assoc (row_code a.0) (row_code (row_of hd.others)) end) ∙ ap (λ x. x ++ end) (sym (row_both a.0 hd.others));
+        terms = w.head ∷ w.tail ∷ hd.others;
+        narrow = (w.head_narrow, (w.tail_narrow, hd.narrow));
+        many = omega (arith, hd.many);
+        parts = inside_by (code_of w.head ++ code_of w.tail) w.code_is ∙ append_assoc (code_of w.head) (code_of w.tail) behind
+            ∙ two_more w.head w.tail hd.others end;
       }
 
-  pub pos_there : (0x20 ≤ b) × (b ≤ 0x28) → b - 0x20 ≤ length inside
-  pos_there t =
-      let a = as_pos b inside (row_code (row_of hd.others) ++ end) t hd.next_is in
-      omega (arith, a.1, ap length a.2, length-append a.0 (row_code (row_of hd.others) ++ end))
+  tuple_there : b ≡ 0x40 → (w : HasTuple hd.levels hd.body) × (inside ≡ four_bytes w.count ++ (w.elements ++ behind))
+  tuple_there t =
+      let w = at 0x40 HasTuple t tuple_rest in
+      (w, inside_by (four_bytes w.count ++ w.elements) w.code_is ∙ append_assoc (four_bytes w.count) w.elements behind)
 
+  -- Behind the first byte of a tuple stands its size.
+  pub size_there : b ≡ 0x40 → (m : ℕ) × (y : List ℕ) × (m ≤ MOST_ELEMENTS) × (inside ≡ four_bytes m ++ y)
+  size_there t = let w = tuple_there t in (w.0.count, w.0.elements ++ behind, w.0.fits, w.1)
+
+  -- Behind a tuple's size stand its elements and the other codes.
+  pub tuple_codes : (m : ℕ) (rest : List ℕ) → b ≡ 0x40 → ((k : ℕ) (y : List ℕ) → k ≤ MOST_ELEMENTS → inside ≡ four_bytes k ++ y → (m ≡ k) × (rest ≡ y))
+      → HasCodes (n + m) rest end
+  unfolding behind
+  tuple_codes m rest t f =
+      let w = tuple_there t in
+      let r = w.0.row in
+      let k = f w.0.count (w.0.elements ++ behind) w.0.fits w.1 in
+      record {
+        terms = elements r.row ++ hd.others;
+        narrow = narrow_both r.row hd.others r.narrow hd.narrow;
+        many = omega (arith, hd.many, k.0, r.many, length-append (elements r.row) hd.others, length_elements r.row);
+        parts = k.1 ∙ ap (λ x. x ++ behind) r.code_is ∙ sym (append_assoc (row_code r.row) (row_code (row_of hd.others)) end)
+            ∙ ap (λ x. x ++ end) (sym (row_both r.row hd.others));
+      }
+
+  pos_body : (0x20 ≤ b) × (b ≤ 0x28) → length hd.body ≡ b - 0x20
+  pos_body t =
+      let w = at (0x20 + (b - 0x20)) (λ l. HasDigits false (b - 0x20)) (omega (arith, t)) (λ l. pos_rest l (b - 0x20) (omega (arith, t))) in
+      omega (arith, ap length w.code_is, w.many)
+
+  neg_body : (0x17 ≤ b) × (b ≤ 0x1f) → length hd.body ≡ 0x1f - b
+  neg_body t =
+      let w = at (0x1f - (0x1f - b)) (λ l. HasDigits true (0x1f - b)) (omega (arith, t)) (λ l. neg_rest l (0x1f - b) (omega (arith, t))) in
+      omega (arith, ap length w.code_is, length_turned true w.digits, w.many)
+
+  -- Behind the first byte of an integer stand its bytes.
+  pub pos_there : (0x20 ≤ b) × (b ≤ 0x28) → b - 0x20 ≤ length inside
+  pos_there t = omega (arith, pos_body t, ap length (inside_by hd.body refl), length-append hd.body behind)
+
+  -- Behind the bytes of an integer stand the other codes.
   pub pos_codes : (rest : List ℕ) → (0x20 ≤ b) × (b ≤ 0x28) → ((xs ys : List ℕ) → length xs ≡ b - 0x20 → inside ≡ xs ++ ys → rest ≡ ys)
       → HasCodes (n + 0) rest end
-  pos_codes rest t f =
-      let a = as_pos b inside (row_code (row_of hd.others) ++ end) t hd.next_is in leaf rest (f a.0 (row_code (row_of hd.others) ++ end) a.1 a.2)
+  pos_codes rest t f = leaf rest (f hd.body behind (pos_body t) (inside_by hd.body refl))
 
-  pub neg_there : IsNoOther b → (b ≤ 0x1f) × (0x1f - b ≤ length inside)
-  neg_there t =
-      let a = as_neg b inside (row_code (row_of hd.others) ++ end) t hd.next_is in
-      (a.1, omega (arith, a.2, ap length a.3, length-append a.0 (row_code (row_of hd.others) ++ end)))
+  -- Behind the first byte of a negative integer stand its bytes.
+  pub neg_there : (0x17 ≤ b) × (b ≤ 0x1f) → 0x1f - b ≤ length inside
+  neg_there t = omega (arith, neg_body t, ap length (inside_by hd.body refl), length-append hd.body behind)
 
-  pub neg_codes : (rest : List ℕ) → IsNoOther b → ((xs ys : List ℕ) → length xs ≡ 0x1f - b → inside ≡ xs ++ ys → rest ≡ ys) → HasCodes (n + 0) rest end
-  neg_codes rest t f =
-      let a = as_neg b inside (row_code (row_of hd.others) ++ end) t hd.next_is in leaf rest (f a.0 (row_code (row_of hd.others) ++ end) a.2 a.3)
+  -- Behind the bytes of a negative integer stand the other codes.
+  pub neg_codes : (rest : List ℕ) → (0x17 ≤ b) × (b ≤ 0x1f) → ((xs ys : List ℕ) → length xs ≡ 0x1f - b → inside ≡ xs ++ ys → rest ≡ ys)
+      → HasCodes (n + 0) rest end
+  neg_codes rest t f = leaf rest (f hd.body behind (neg_body t) (inside_by hd.body refl))
+
+  -- A byte that begins no code begins none here.
+  pub no_such_tag : ((l : ℕ) → IsNoTag l b) → ⊥
+  no_such_tag t = no_tag (suc hd.levels) b hd.body (t (suc hd.levels)) hd.first
 
 no_row : (end : List ℕ) → row_code (row_of []) ++ end ≡ end
 unfolding row_code
 no_row end = refl
 
+-- Each code has at least one byte.
 pub code_begun : (t : Tree) → 1 ≤ length (code_of t)
 code_begun t = let b = begun t in omega (arith, ap length b.2)
 
@@ -238,9 +203,11 @@ unfolding row_code
 row_longer [] = omega arith
 row_longer (t ∷ ts) = omega (arith, code_begun t, row_longer ts, length-append (code_of t) (row_code (row_of ts)))
 
+-- So many codes have at least so many bytes.
 pub codes_le : (n : ℕ) (bytes end : List ℕ) → HasCodes n bytes end → n ≤ length bytes
 codes_le n bytes end h = omega (arith, h.many, row_longer h.terms, ap length h.parts, length-append (row_code (row_of h.terms)) end)
 
+-- Behind no codes stands the end.
 pub codes_done : (n : ℕ) (bytes end : List ℕ) → n ≤ 0 → HasCodes n bytes end → bytes ≡ end
 codes_done n bytes end z h = by h.terms h.many h.parts
   where
@@ -251,9 +218,11 @@ codes_done n bytes end z h = by h.terms h.many h.parts
     by [] m p = p ∙ none
     by (t ∷ ts) m p = absurd (omega arith)
 
+-- Above 0, so many codes are one and one fewer.
 pub codes_more : (n : ℕ) (bytes end : List ℕ) → 0 < n → HasCodes n bytes end → HasCodes (n - 1 + 1) bytes end
 codes_more n bytes end h w = let e : n ≡ n - 1 + 1 = omega arith in subst (λ (x : ℕ). HasCodes x bytes end) e w
 
+-- The codes of a row are those before an element, its own and those behind it.
 pub row_app : (before : List Tree) (key : Tree) (after : List Tree)
     → row_code (row_of (before ++ key ∷ after)) ≡ row_code (row_of before) ++ (code_of key ++ row_code (row_of after))
 unfolding row_code
@@ -261,6 +230,7 @@ row_app [] key after = refl
 row_app (t ∷ before) key after =
     ap (λ x. code_of t ++ x) (row_app before key after) ∙ sym (append_assoc (code_of t) (row_code (row_of before)) (code_of key ++ row_code (row_of after)))
 
+-- The code of a term is that of a row of it alone.
 pub one_code : (key : Tree) (end : List ℕ) → code_of key ++ end ≡ row_code (row_of (key ∷ [])) ++ end
 unfolding row_code
 one_code key end = ap (λ x. x ++ end) (sym (append-nil (code_of key)))

@@ -1,5 +1,6 @@
 -- Where bytes are stuck in a word, by the parts of the word.
-use Rattle.std.proofs.Common.{◌≡◌, ℕ, zero, suc, ◌≤◌, ◌<◌, ◌+◌, ◌-◌, List, [], ◌∷◌, ◌++◌, length, take, arith, refl, sym, ◌∙◌, ap, subst, append_assoc, append-nil, length-append, ◌⊎◌, inl, inr, ⊎_elim}
+use Rattle.std.proofs.Common.{◌≡◌, ℕ, ◌≤◌, ◌<◌, ◌+◌, ◌-◌, List, [], ◌∷◌, ◌++◌, length, take, arith, refl, sym, ◌∙◌, ap, subst, append_assoc, append-nil, length-append, ◌⊎◌, inl, inr, ⊎_elim}
+use Rattle.std.proofs.lemmas.Bool.{cases_lt}
 use Rattle.std.proofs.Math.Seq.{take-append_seam, take-append-add}
 use Rattle.ca_order.specs.Stuck.{IsStuck, IsLongestStart, IsRest}
 
@@ -29,9 +30,7 @@ no_end [] n r e = cc
 no_end (x ∷ z) n r e = cc
 
 compare_lengths : (m n : ℕ) → (m ≤ n) ⊎ (n < m)
-compare_lengths zero n = inl (omega arith)
-compare_lengths (suc m) zero = inr (omega arith)
-compare_lengths (suc m) (suc n) = ⊎_elim (λ h. inl (omega (arith, h))) (λ h. inr (omega (arith, h))) (compare_lengths m n)
+compare_lengths m n = ⊎_elim (λ h. inr h) (λ h. inl h) (cases_lt n m)
 
 -- stuck before any byte
 pub stuck_here : (L : List ℕ → Type 0) (bytes : List ℕ) (next : ℕ) (rest : List ℕ) → L (next ∷ rest)

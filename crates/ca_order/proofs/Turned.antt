@@ -13,11 +13,13 @@ use Rattle.ca_order.proofs.Starts.{stuck_here, stuck_at_end}
 
 -- ---- part by part
 
+-- Digits are turned one by one.
 pub turned_cons : (neg : Bool) (b : ℕ) (bs : List ℕ) → turned neg (b ∷ bs) ≡ turned_byte neg b ∷ turned neg bs
 unfolding complement
 turned_cons true b bs = refl
 turned_cons false b bs = refl
 
+-- No digits turned are no digits.
 pub turned_nil : (neg : Bool) → turned neg [] ≡ []
 unfolding complement
 turned_nil true = refl
@@ -27,7 +29,8 @@ turned_append : (neg : Bool) (xs ys : List ℕ) → turned neg (xs ++ ys) ≡ tu
 turned_append neg [] ys = rw (turned_nil neg) refl
 turned_append neg (x ∷ xs) ys = rw (turned_cons neg x (xs ++ ys), turned_cons neg x xs, turned_append neg xs ys) refl
 
-length_turned : (neg : Bool) (xs : List ℕ) → length (turned neg xs) ≡ length xs
+-- Turned digits are as many.
+pub length_turned : (neg : Bool) (xs : List ℕ) → length (turned neg xs) ≡ length xs
 length_turned neg [] = rw (turned_nil neg) refl
 length_turned neg (x ∷ xs) = omega (arith, ap length (turned_cons neg x xs), length_turned neg xs)
 
@@ -59,6 +62,7 @@ number_push (d ∷ ds) b =
     let p : 256 ^ length (ds ++ b ∷ []) ≡ 256 ^ length ds * 256 = ap (λ k. 256 ^ k) l ∙ pow-suc 256 (length ds) in
     rw (p, number_push ds b) (omega arith)
 
+-- One more digit makes the number 256 times as large, and adds the digit.
 pub number_more : (neg : Bool) (ds : List ℕ) (i b : ℕ) → i < length ds → b ≡ turned_byte neg (get_or ds i 0)
     → number (turned neg (take (i + 1) ds)) ≡ number (turned neg (take i ds)) * 256 + b
 number_more neg ds i b h e =
@@ -67,11 +71,13 @@ number_more neg ds i b h e =
     ap (λ x. number (turned neg x)) t ∙ ap number (turned_append neg (take i ds) (get_or ds i 0 ∷ []) ∙ ap (λ x. turned neg (take i ds) ++ x) u)
     ∙ number_push (turned neg (take i ds)) b
 
+-- A number of fewer than eight digits has room for one more.
 pub fits_more : (n i : ℕ) → n < 256 ^ i → i < 8 → n * 256 + 255 < 2 ^ 64
 fits_more n i h l =
     let p : 256 ^ i ≤ 256 ^ 7 = pow-le-pow_right {n = 256} (omega arith) {i = i} {j = 7} (omega arith) in
     omega arith
 
+-- A number with one more digit is below the next power of 256.
 pub small_more : (n i b : ℕ) → n < 256 ^ i → b < 256 → n * 256 + b < 256 ^ (i + 1)
 small_more n i b h l =
     let p : 256 ^ (i + 1) ≡ 256 ^ i * 256 = (let q : i + 1 ≡ suc i = add-one i in ap (λ k. 256 ^ k) q) ∙ pow-suc 256 i in
@@ -91,6 +97,7 @@ bytes_zeros : (n : ℕ) → AreBytes (zeros n)
 bytes_zeros zero = no_bytes
 bytes_zeros (suc n) = cons_bytes 0 (zeros n) (omega arith) (bytes_zeros n)
 
+-- Bytes behind bytes are bytes.
 pub bytes_append : (xs ys : List ℕ) → AreBytes xs → AreBytes ys → AreBytes (xs ++ ys)
 bytes_append [] ys h k = k
 bytes_append (x ∷ xs) ys h k = cons_bytes x (xs ++ ys) (head_byte x xs h) (bytes_append xs ys (tail_bytes x xs h) k)
@@ -109,6 +116,7 @@ first_fits neg len b rest (d ∷ ds) l h e f =
     let same : turned_byte neg b ≡ d = ap (turned_byte neg) first ∙ turned_back neg d (head_byte d ds h.3) in
     subst (λ (x : ℕ). CanBegin x len) (sym same) (h.0, λ k. h.2 (omega (arith, e, h.1, k)))
 
+-- Digits are stuck in front of a byte that may not be the first one.
 pub stuck_first_digit : (neg : Bool) (len : ℕ) (bytes : List ℕ) → 1 ≤ len → len ≤ 8
     → ((b : ℕ) (more : List ℕ) → bytes ≡ b ∷ more → CanBegin (turned_byte neg b) len → ⊥) → IsStuck (HasDigits neg len) bytes bytes
 stuck_first_digit neg zero bytes l m h = absurd (omega arith)
@@ -163,12 +171,15 @@ begins_with_digits neg len b (d ∷ ds) rest bytes value e n l m a c v =
       parts = e ∙ ap (λ x. x ++ rest) (sym (turned_twice neg (d ∷ ds) a));
     }
 
+-- No digits are read of any bytes.
 pub no_digits : (neg : Bool) (bytes : List ℕ) → BeginsWithDigits neg 0 bytes 0 bytes
 no_digits neg bytes = record { digits = []; are_digits = tt; many = refl; value_is = refl; parts = ap (λ x. x ++ bytes) (sym (turned_nil neg)) }
 
+-- The front of bytes are bytes.
 pub bytes_front : (xs ys : List ℕ) → AreBytes (xs ++ ys) → AreBytes xs
 bytes_front [] ys h = no_bytes
 bytes_front (x ∷ xs) ys h = cons_bytes x xs (head_byte x (xs ++ ys) h) (bytes_front xs ys (tail_bytes x (xs ++ ys) h))
 
+-- One list has one first item.
 pub same_first : (a b : ℕ) (xs ys zs : List ℕ) → zs ≡ a ∷ xs → zs ≡ b ∷ ys → a ≡ b
 same_first a b xs ys zs e f = cc

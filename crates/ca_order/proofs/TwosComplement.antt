@@ -1,10 +1,11 @@
 -- The bytes of an integer's code are the lowest ones of its two's complement.
 use Rattle.std.proofs.Common.{◌≡◌, ℕ, zero, suc, ◌≤◌, ◌<◌, ◌+◌, ◌-◌, ◌*◌, ◌%◌, ◌^◌, ℤ, pos, negsuc, List, [], ◌∷◌, length, take, drop, arith, refl, sym, ◌∙◌, ap, subst, take_all, length-drop, ⊎_elim}
+use Rattle.std.proofs.lemmas.Bool.{cases_lt}
 use Rattle.std.proofs.lemmas.List.{drop-map}
 use Rattle.std.proofs.Math.Nat.{mod-lt, pow-suc, mul-le-mul_left}
 use Rattle.std.specs.Int.{to_be_bytes, bytes_high_first, byte_at, w64, cast_unsigned}
 use Rattle.ca_term.proofs.Numbers.{length_high_first, base_pos, split_high}
-use Rattle.ca_term.proofs.Digits.{trim_zero, trim_suc, trim_nil, trim_shorter, digits_shorter, length_complement, below_or_not}
+use Rattle.ca_term.proofs.Digits.{trim_zero, trim_suc, trim_nil, trim_shorter, digits_shorter, length_complement}
 use Rattle.ca_term.proofs.IntCodes.{IsWord}
 use Rattle.ca_term.specs.Code.{trim, digits, complement, int_code}
 use Rattle.ca_order.specs.IntTag.{int_tag}
@@ -29,8 +30,8 @@ sum_is s p q e h k = ⊎_elim
     (λ l. ⊎_elim
     (λ m. let is : s ≡ 255 = omega (arith, l, m) in let f : 255 * p + q ≡ 256 * p = subst (λ (x : ℕ). x * p + q ≡ 256 * p) is e in (is, omega arith))
     (λ m. absurd (omega (arith, mul-le-mul_left {m = 256} {n = s} p m)))
-    (below_or_not s 256))
-    (below_or_not s 255)
+    (cases_lt s 256))
+    (cases_lt s 255)
 
 -- the lowest bytes of 256 ^ k - 1 - n are those of n complemented
 complement_bytes : (k m n : ℕ) → m % 256 ^ k + n % 256 ^ k + 1 ≡ 256 ^ k → bytes_high_first k m ≡ complement (bytes_high_first k n)
@@ -55,6 +56,7 @@ turned : (k : ℕ) (bs : List ℕ) → complement (drop k bs) ≡ drop k (comple
 unfolding complement
 turned k bs = sym (drop-map (λ b. 255 - b) k bs)
 
+-- An integer's code is its tag and the lowest bytes of its two's complement.
 pub int_parts : (n : ℤ) (len : ℕ) → IsWord n → len ≡ length (int_code n)
     → int_code n ≡ int_tag n (len - 1) ∷ take (8 - (8 - (len - 1))) (drop (8 - (len - 1)) (to_be_bytes w64 (cast_unsigned w64 n)))
 unfolding int_code

@@ -23,6 +23,7 @@ escape_is_zero inside run rest behind e h f g k n = by e k n
     by (Zero x) k n = n x refl
     by Neither k n = (k 0xff (opened next.0) next.1).1 refl
 
+-- Behind a run and an escape stand escapes of some bytes.
 pub left_more : (inside run rest behind more : List ℕ) → HasNoZero run → rest ≡ opened inside → rest ≡ run ++ 0 ∷ behind → behind ≡ 0xff ∷ more
     → (x : List ℕ) × (more ≡ opened x)
 left_more inside run rest behind more h f g k = let n = behind_zero inside run behind h (sym f ∙ g) in (n.0, same 0xff more (opened n.0) (sym k ∙ n.1))
@@ -30,6 +31,7 @@ left_more inside run rest behind more h f g k = let n = behind_zero inside run b
     same : (b : ℕ) (xs ys : List ℕ) → b ∷ xs ≡ b ∷ ys → xs ≡ ys
     same b xs ys e = cc
 
+-- A run and a zero byte more are read of the escapes.
 pub parts_more : (inside mid new run rest behind more body : List ℕ) → HasNoZero run → rest ≡ run ++ 0 ∷ behind → behind ≡ 0xff ∷ more
     → opened inside ++ rest ≡ body → mid ≡ inside ++ run → new ≡ mid ++ 0 ∷ [] → opened new ++ more ≡ body
 parts_more inside mid new run rest behind more body h g k p e f =
@@ -40,8 +42,10 @@ parts_more inside mid new run rest behind more body h g k p e f =
     ap (λ x. x ++ more) o ∙ append_assoc (opened inside ++ run) (0 ∷ 0xff ∷ []) more ∙ append_assoc (opened inside) run (0 ∷ 0xff ∷ more)
     ∙ ap (λ x. opened inside ++ x) (sym r) ∙ p
 
+-- With the last run all escapes are read.
 pub parts_all : (inside new rest body : List ℕ) → HasNoZero rest → opened inside ++ rest ≡ body → new ≡ inside ++ rest → opened new ≡ body
 parts_all inside new rest body h p e = ap opened e ∙ opened_append inside rest ∙ ap (λ x. opened inside ++ x) (opened_no_zero rest h) ∙ p
 
+-- At first nothing is read of the escapes.
 pub parts_none : (inside body : List ℕ) → inside ≡ [] → opened inside ++ body ≡ body
 parts_none inside body e = ap (λ x. opened x ++ body) e ∙ ap (λ x. x ++ body) opened_nil

@@ -1,6 +1,6 @@
 -- Where an element of a tuple stands in the tuple's code.
 use Rattle.std.specs.Prelude.{◌≡◌, ℕ, ◌<◌, ◌+◌, List, ◌∷◌, ◌++◌, length, Option, None, MatchOption}
-use Rattle.ca_term.specs.Tree.{Tree, Row, Integer, Atom, Tuple, Nil, Cons, Binary, row_of, size, IsNarrowRow}
+use Rattle.ca_term.specs.Tree.{Tree, Row, Integer, Atom, Tuple, Nil, Cons, Binary, row_of, size, IsTerm, IsNarrowRow}
 use Rattle.ca_term.specs.Code.{code_of, row_code}
 
 -- The key is element `keypos` of the row. Its code begins behind the tag, the four bytes of the size and the codes of the elements before it.
@@ -21,6 +21,18 @@ IsKeyParts (Tuple row) keypos parts = MatchOption parts (size row < keypos) (λ 
 IsKeyParts Nil keypos parts = parts ≡ None
 IsKeyParts (Cons head tail) keypos parts = parts ≡ None
 IsKeyParts (Binary bytes) keypos parts = parts ≡ None
+
+-- the code of a tuple, its size and the codes of its elements
+pub record IsSplit (code : List ℕ) (count : ℕ) (elements : List ℕ) : Type 0 where
+  pub row : Row
+  pub bounded : IsTerm (Tuple row)
+  pub code_is : code ≡ code_of (Tuple row)
+  pub count_is : count ≡ size row
+  pub elements_is : elements ≡ row_code row
+
+-- the code of no tuple
+abbrev pub IsNoObject : List ℕ → Type 0
+IsNoObject code = (row : Row) → code ≡ code_of (Tuple row) → ⊥
 
 -- bytes begin with so many codes, and `end` stands behind them
 pub record HasCodes (count : ℕ) (bytes end : List ℕ) : Type 0 where

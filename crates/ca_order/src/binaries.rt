@@ -7,7 +7,7 @@ ghost use Rattle.ca_order.specs.Reads.{IsReadFault, IsStuckFault, BeginsWithTerm
 
 use crate::fault::{ReadFault, stuck};
 use crate::zeros::{Escape, after_zero, split_at_zero};
-use ca_term::{Term, bin};
+use ca_term::{Term, bin, bin_of};
 use std::alloc::{AllocError, Global};
 
 // The binary whose escaped bytes these bytes begin with, and the bytes behind it.
@@ -19,7 +19,7 @@ pub(crate) fn read_binary(alloc: Global, bytes: &[u8]) -> Result<(Term, &[u8]), 
         return Ok((bin(alloc, body)?, rest));
     };
     let inside = unescape(alloc, body)?;
-    Ok((bin(alloc, inside.as_slice())?, rest))
+    Ok((bin_of(inside), rest))
 }
 
 // The escaped bytes that these bytes begin with, without their end, and the bytes behind their end.

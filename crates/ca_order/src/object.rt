@@ -1,9 +1,9 @@
 //! The parts of an object's code.
-ghost use Rattle.std.specs.Prelude.{◌≡◌, ◌≤◌, ◌<◌, ◌+◌, ◌++◌, ◌∷◌, ℕ, List, length};
+ghost use Rattle.std.specs.Prelude.{◌≡◌, ◌≤◌, ◌<◌, ◌+◌, ◌++◌, ◌∷◌, ℕ, List, length, MatchOption};
 ghost use Rattle.ca_term.specs.declared.bounds.TheConstants.{MOST_ELEMENTS};
 ghost use Rattle.ca_term.specs.Code.{code_of, escaped, four_bytes};
 ghost use Rattle.ca_term.specs.Tree.{Tree, IsTerm};
-ghost use Rattle.ca_order.specs.KeyParts.{IsKeyParts, HasCodes};
+ghost use Rattle.ca_order.specs.KeyParts.{IsKeyParts, IsNoObject, IsSplit, HasCodes};
 ghost use Rattle.ca_order.specs.Languages.{IsTermCode};
 
 use crate::binaries::read_escaped;
@@ -16,11 +16,7 @@ pub fn object_parts(code: &[u8], keypos: u32) -> Option<(usize, usize)>
     requires keypos { 1 ≤ keypos }
     ensures { (t : Tree) → IsTerm t → code.now ≡ code_of t → IsKeyParts t keypos result }
 {
-    let (tag, inside) = code.split_first()?;
-    if *tag != TUPLE {
-        return None;
-    }
-    let (size, elements) = split_size(inside);
+    let (size, elements) = split_object(code)?;
     let before = keypos as usize - 1;
     if size <= before {
         return None;
@@ -28,6 +24,18 @@ pub fn object_parts(code: &[u8], keypos: u32) -> Option<(usize, usize)>
     let key = skip(elements, before);
     let behind = skip(key, 1);
     Some((code.len() - key.len(), code.len() - behind.len()))
+}
+
+// The size of the tuple whose code this is, and the codes of its elements. None where it is the code of no tuple.
+fn split_object(code: &[u8]) -> Option<(usize, &[u8])>
+    requires { IsTermCode code.now }
+    ensures { MatchOption result (IsNoObject code.now) (λ p. IsSplit code.now p.0 p.1.now) }
+{
+    let (tag, inside) = code.split_first()?;
+    if *tag != TUPLE {
+        return None;
+    }
+    Some(split_size(inside))
 }
 
 // The bytes behind so many codes.
@@ -61,8 +69,9 @@ fn skip_tag(bytes: &[u8]) -> (usize, &[u8])
         TUPLE => split_size(inside),
         NIL => (0, inside),
         CONS => (2, inside),
+        0x17..=0x1f => (0, behind(inside, 0x1f - *tag)),
         0x20..=0x28 => (0, behind(inside, *tag - 0x20)),
-        _ => (0, behind(inside, 0x1f - *tag)),
+        _ => unreachable!(),
     }
 }
 

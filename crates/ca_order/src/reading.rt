@@ -119,10 +119,11 @@ fn read_size(bytes: &[u8], most: usize) -> Result<(usize, &[u8]), ReadFault>
     requires { most ≤ MOST_ELEMENTS }
     ensures { MatchResult result (λ p. (p.0 ≤ most) × (bytes.now ≡ four_bytes p.0 ++ p.1.now)) (λ e. IsReadFault (HasSize 3 most) bytes.now e) }
 {
-    let (_, bytes_1) = read_byte(bytes, 0)?;
-    let (_, bytes_2) = read_byte(bytes_1, 0)?;
-    let (_, bytes_3) = read_byte(bytes_2, 0)?;
-    read_byte(bytes_3, most)
+    let mut rest = bytes;
+    for _ in 0..3_usize {
+        rest = read_byte(rest, 0)?.1;
+    }
+    read_byte(rest, most)
 }
 
 // The byte of at most `most` that these bytes begin with.

@@ -1,5 +1,5 @@
 use super::{Code, DecodeFault, decode, encode, object_parts};
-use ca_term::{bin, code_length, int};
+use ca_term::{MOST_CODE_BYTES, MOST_CODE_POINTS, MOST_DEPTH, bin, code_length, int};
 use std::alloc::Global;
 
 // A term and its code stand both ways.

@@ -31,9 +31,11 @@ last (g ∷ hs) h t a =
     let r = last hs h t a.2 in
     ((rw (cells_more hs h t) at a.0, rw (cells_more hs h t) at a.1, r.0), r.1, r.2)
 
+-- Before any cell is passed, the whole list stands behind.
 pub kept_none : (t : Tree) → IsKept [] t t
 kept_none t = record { whole_is = refl; kept = tt }
 
+-- Passing one more cell keeps the whole list.
 pub kept_more : (hs gs : List (Tree × ℕ)) (h : Tree) (d : ℕ) (t whole here : Tree) → IsKept hs here whole → Cons h t ≡ here → d ≡ depth here → IsTerm here
     → gs ≡ hs ++ (h, d) ∷ [] → IsKept gs t whole
 kept_more hs gs h d t whole here k e f b g =
@@ -43,6 +45,7 @@ kept_more hs gs h d t whole here k e f b g =
       kept = more hs (h, d) t a (subst (λ (x : Tree). d ≡ depth x) (sym e) f) (subst IsTerm (sym e) b);
     })
 
+-- The last head goes back in front of what stands behind it, at the depth that was kept with it.
 pub kept_last : (hs gs : List (Tree × ℕ)) (h : Tree) (d : ℕ) (t whole : Tree) → IsKept gs t whole → gs ≡ hs ++ (h, d) ∷ []
     → IsKept hs (Cons h t) whole × (d ≡ depth (Cons h t)) × IsTerm (Cons h t)
 kept_last hs gs h d t whole k g =
@@ -50,8 +53,10 @@ kept_last hs gs h d t whole k g =
     let r = last hs (h, d) t a in
     (record { whole_is = sym (cells_more hs (h, d) t) ∙ (rw (← g) k.whole_is); kept = r.0 }, r.1, r.2)
 
+-- Once no head is left, the whole list is made.
 pub kept_all : (hs : List (Tree × ℕ)) (t whole : Tree) → IsKept hs t whole → hs ≡ [] → t ≡ whole
 kept_all hs t whole k e = let w : cells [] t ≡ whole = rw e at k.whole_is in w
 
+-- A term that is no list cell is no head and tail.
 pub cell_is : (t : Tree) → is_cell t ≡ false → (h u : Tree) → t ≡ Cons h u → ⊥
 cell_is t n h u e = let c : is_cell (Cons h u) ≡ false = subst (λ (x : Tree). is_cell x ≡ false) e n in cc

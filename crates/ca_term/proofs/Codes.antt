@@ -108,8 +108,10 @@ same_code t u xs ys h k e =
     let b = then_both (term_cmp t u) (bytes_cmp xs ys) (sym p ∙ q) in
     (tree_same t u b.0, same_bytes xs ys b.1)
 
+-- No code is a proper prefix of another term's code.
 pub are_prefix_free : ArePrefixFree
 are_prefix_free t u rest h k e = prefix_free t u rest h.narrow k.narrow e
 
+-- The bytes of two codes compare as the terms do.
 pub compare_as_terms : CompareAsTerms
 compare_as_terms t u h k = codes_compare t u h.narrow k.narrow

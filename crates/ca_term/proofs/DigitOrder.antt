@@ -32,6 +32,7 @@ abbrev pub AllBytes : List ℕ → Type 0
 AllBytes [] = Unit {0}
 AllBytes (b ∷ bs) = (b < 256) × AllBytes bs
 
+-- Each byte of a number is below 256.
 pub high_bytes : (k n : ℕ) → AllBytes (bytes_high_first k n)
 high_bytes zero n = tt
 high_bytes (suc zero) n = (mod-lt n (omega arith), tt)
@@ -47,6 +48,7 @@ turned_by x y Less h k e = let l : y < x = ranked y x Less e in less (255 - x) (
 turned_by x y Equal h k e = let l : y ≡ x = ranked y x Equal e in rw l (same (255 - x))
 turned_by x y Greater h k e = let l : x < y = ranked y x Greater e in greater (255 - x) (255 - y) (omega arith)
 
+-- Complements of as many bytes compare the other way.
 pub complement_cmp : (p q : List ℕ) → AllBytes p → AllBytes q → length p ≡ length q → bytes_cmp (complement p) (complement q) ≡ bytes_cmp q p
 unfolding complement
 complement_cmp [] [] h k e = refl
@@ -60,6 +62,7 @@ complement_cmp (x ∷ p) (y ∷ q) h k e =
 high_cmp : (m n : ℕ) → m < 2 ^ 64 → n < 2 ^ 64 → bytes_cmp (to_be_bytes w64 m) (to_be_bytes w64 n) ≡ nat_cmp m n
 high_cmp m n h k = high_first_cmp 8 m n ∙ (λ i. nat_cmp (mod-eq_of_lt {n = m} {m = 256 ^ 8} h i) (mod-eq_of_lt {n = n} {m = 256 ^ 8} k i))
 
+-- Each digit is below 256.
 pub digits_bytes : (n : ℕ) → AllBytes (digits n)
 unfolding digits
 digits_bytes n = trim_bytes (to_be_bytes w64 n) (high_bytes 8 n)

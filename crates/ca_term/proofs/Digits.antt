@@ -1,5 +1,6 @@
 -- The bytes of a number without leading zeros, and how many there are.
-use Rattle.std.proofs.Common.{◌≡◌, ℕ, ◌≤◌, ◌<◌, ◌+◌, ◌-◌, ◌*◌, ◌/◌, ◌^◌, ◌==◌, suc, zero, List, [], ◌∷◌, length, arith, refl, sym, ◌∙◌, ap, false, ◌⊎◌, inl, inr, ⊎_elim}
+use Rattle.std.proofs.Common.{◌≡◌, ℕ, ◌≤◌, ◌<◌, ◌+◌, ◌-◌, ◌*◌, ◌/◌, ◌^◌, ◌==◌, suc, zero, List, [], ◌∷◌, length, arith, refl, sym, ◌∙◌, ap, false, ⊎_elim}
+use Rattle.std.proofs.lemmas.Bool.{cases_lt}
 use Rattle.std.proofs.lemmas.Bool.Decides.{nat_tests}
 use Rattle.std.proofs.lemmas.List.{length-map}
 use Rattle.std.proofs.lemmas.Nat.{leading_top, pow-add}
@@ -9,27 +10,33 @@ use Rattle.std.specs.Int.Count.{count_leading_zeros, leading_of_zero}
 use Rattle.ca_term.proofs.Numbers.{length_high_first, top_byte, no_top_byte}
 use Rattle.ca_term.specs.Code.{trim, digits, complement}
 
+-- A leading zero byte is trimmed.
 pub trim_zero : (bs : List ℕ) → trim (0 ∷ bs) ≡ trim bs
 unfolding trim
 trim_zero bs = refl
 
+-- A first byte above 0 ends the trimming.
 pub trim_suc : (b : ℕ) (bs : List ℕ) → trim (suc b ∷ bs) ≡ suc b ∷ bs
 unfolding trim
 trim_suc b bs = let n : (suc b == 0) ≡ false = grind (arith, nat_tests) in rw n
 
+-- Nothing is trimmed of no bytes.
 pub trim_nil : trim [] ≡ []
 unfolding trim
 trim_nil = refl
 
+-- Trimmed bytes are no more than before.
 pub trim_shorter : (bs : List ℕ) → length (trim bs) ≤ length bs
 trim_shorter [] = rw trim_nil (omega arith)
 trim_shorter (zero ∷ bs) = rw (trim_zero bs) (omega (arith, trim_shorter bs))
 trim_shorter (suc b ∷ bs) = rw (trim_suc b bs) (omega arith)
 
+-- A complement has as many bytes.
 pub length_complement : (p : List ℕ) → length (complement p) ≡ length p
 unfolding complement
 length_complement p = simp length-map
 
+-- A number of 64 bits has at most eight digits.
 pub digits_shorter : (n : ℕ) → length (digits n) ≤ 8
 unfolding digits
 digits_shorter n = omega (arith, trim_shorter (to_be_bytes w64 n), length_high_first 8 n)
@@ -40,11 +47,6 @@ trim_at_zero b bs e = rw e (trim_zero bs)
 trim_at_other : (b : ℕ) (bs : List ℕ) → 0 < b → trim (b ∷ bs) ≡ b ∷ bs
 trim_at_other zero bs h = absurd (omega arith)
 trim_at_other (suc b) bs h = trim_suc b bs
-
-pub below_or_not : (m n : ℕ) → (m < n) ⊎ (n ≤ m)
-below_or_not m zero = inr (omega arith)
-below_or_not zero (suc n) = inl (omega arith)
-below_or_not (suc m) (suc n) = ⊎_elim (λ h. inl (omega (arith, h))) (λ h. inr (omega (arith, h))) (below_or_not m n)
 
 -- a number of j + 1 bytes keeps the lowest j + 1 of them
 pub trim_keeps : (k j n : ℕ) → j < k → 256 ^ j ≤ n → n < 256 ^ suc j → trim (bytes_high_first k n) ≡ bytes_high_first (suc j) n
@@ -58,7 +60,7 @@ trim_keeps (suc k) j n l h b = ⊎_elim
     let e : k ≡ j = omega (arith, s, l) in
     let w : trim (bytes_high_first (suc j) n) ≡ bytes_high_first (suc j) n = trim_at_other (byte_at j n) (bytes_high_first j n) (top_byte j n h b) in
     rw e w)
-    (below_or_not j k)
+    (cases_lt j k)
 
 trim_none : (k : ℕ) → trim (bytes_high_first k 0) ≡ []
 trim_none zero = trim_nil
@@ -71,6 +73,7 @@ pub digits_of : (j n : ℕ) → j < 8 → 256 ^ j ≤ n → n < 256 ^ suc j → 
 unfolding digits
 digits_of j n l h b = trim_keeps 8 j n l h b
 
+-- The number 0 has no digits.
 pub digits_zero : digits 0 ≡ []
 unfolding digits
 digits_zero = trim_none 8

@@ -8,14 +8,17 @@ use Rattle.ca_term.proofs.Bytes.{bytes_cmp, then_assoc, head_less, head_greater,
 use Rattle.ca_term.proofs.Numbers.{less, greater}
 use Rattle.ca_term.specs.Code.{escaped}
 
+-- A zero byte is escaped as 00 FF.
 pub escaped_zero : (bs : List ℕ) → escaped (0 ∷ bs) ≡ 0 ∷ 0xff ∷ escaped bs
 unfolding escaped
 escaped_zero bs = refl
 
+-- A byte above 0 is escaped as it stands.
 pub escaped_suc : (b : ℕ) (bs : List ℕ) → escaped (suc b ∷ bs) ≡ suc b ∷ escaped bs
 unfolding escaped
 escaped_suc b bs = let n : (suc b == 0) ≡ false = grind (arith, nat_tests) in rw n
 
+-- No bytes, escaped, are the end alone.
 pub escaped_nil : escaped [] ≡ 0 ∷ 0 ∷ []
 unfolding escaped
 escaped_nil = refl

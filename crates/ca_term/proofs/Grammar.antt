@@ -9,6 +9,7 @@ use Rattle.ca_term.specs.Tree.{Tree, Row, Integer, Atom, Tuple, Nil, Cons, Binar
 use Rattle.ca_term.specs.Code.{code_of, row_code, int_code, digits}
 use Rattle.ca_term.specs.Grammar.{number, IsCodeWithin, AreCodesWithin, FromZero, BelowZero, AnAtom, ATuple, ANil, ACons, ABinary, NoCode, OneMore, IsCode, AreCodesOfTerms}
 
+-- Each term has a level.
 pub deep : (t : Tree) → 1 ≤ depth t
 deep (Integer n) = omega arith
 deep (Atom text) = omega arith
@@ -38,9 +39,11 @@ mutual
       subst (λ (k : ℕ). AreCodesWithin l k (code_of t ++ row_code r)) n
       (OneMore l (size r) (code_of t) (row_code r) (code_within t l (omega arith) h.0) (codes_within r l (omega arith) h.1))
 
+-- A number below 2 ^ 63 has 64 bits with its sign.
 pub signed_pos : (n : ℕ) → n < 2 ^ 63 → FitsSigned w64 (pos n)
 signed_pos n h = record { sfits = h }
 
+-- So has -m - 1 for m below 2 ^ 63.
 pub signed_neg : (n : ℕ) → n < 2 ^ 63 → FitsSigned w64 (negsuc n)
 signed_neg n h = record { sfits = h }
 
@@ -108,6 +111,7 @@ mutual
         code_is = rw (← t.code_is, ← r.code_is) refl;
       }
 
+-- The codes of the grammar are the codes of terms.
 pub are_codes_of_terms : AreCodesOfTerms
 are_codes_of_terms bytes = (
   (λ h. let t = term_within MOST_DEPTH bytes h in (t.term, record { shallow = t.shallow; narrow = t.narrow }, t.code_is)),

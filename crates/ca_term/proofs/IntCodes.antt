@@ -33,10 +33,12 @@ abbrev pub IsWord : ℤ → Type 0
 IsWord (pos n) = n < 2 ^ 63
 IsWord (negsuc m) = m < 2 ^ 63
 
+-- An integer of 64 bits is below 2 ^ 63, or -m - 1 for such an m.
 pub word : (n : ℤ) → FitsSigned w64 n → IsWord n
 word (pos n) h = h.sfits
 word (negsuc m) h = h.sfits
 
+-- Codes of integers compare as the integers do, and then what stands behind them.
 pub int_code_cmp : (m n : ℤ) (xs ys : List ℕ) → IsWord m → IsWord n
     → bytes_cmp (int_code m ++ xs) (int_code n ++ ys) ≡ ordering_then (int_cmp m n) (bytes_cmp xs ys)
 unfolding int_code
@@ -69,8 +71,10 @@ unfolding int_code
 tag_of_int (pos n) = (0x20 + length (digits n), digits n, refl, omega (arith, digits_shorter n))
 tag_of_int (negsuc m) = (0x1f - length (digits m), complement (digits m), refl, omega arith)
 
+-- The code of an integer comes before the codes of all other kinds.
 pub int_first : (n : ℤ) (c : ℕ) (xs ys : List ℕ) → 0x30 ≤ c → bytes_cmp (int_code n ++ xs) (c ∷ ys) ≡ Less
 int_first n c xs ys h = let t = tag_of_int n in rw t.2 (head_less t.0 c (t.1 ++ xs) ys (omega (arith, t.3)))
 
+-- The codes of all other kinds come behind the code of an integer.
 pub int_last : (n : ℤ) (c : ℕ) (xs ys : List ℕ) → 0x30 ≤ c → bytes_cmp (c ∷ ys) (int_code n ++ xs) ≡ Greater
 int_last n c xs ys h = let t = tag_of_int n in rw t.2 (head_greater c t.0 ys (t.1 ++ xs) (omega (arith, t.3)))

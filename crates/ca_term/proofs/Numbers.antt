@@ -9,12 +9,15 @@ use Rattle.std.specs.Cmp.{nat_cmp_is, ranked}
 use Rattle.std.specs.Cmp.Lexicographic.{slice_cmp}
 use Rattle.std.specs.Int.{bytes_high_first, byte_at}
 
+-- A lower number compares as less.
 pub less : (x y : ℕ) → x < y → nat_cmp x y ≡ Less
 less x y h = sym (nat_cmp_is x y Less h)
 
+-- A higher number compares as greater.
 pub greater : (x y : ℕ) → y < x → nat_cmp x y ≡ Greater
 greater x y h = sym (nat_cmp_is x y Greater h)
 
+-- A number compares as equal to itself.
 pub same : (x : ℕ) → nat_cmp x x ≡ Equal
 same x = sym (nat_cmp_is x x Equal refl)
 
@@ -29,17 +32,21 @@ weighted_by p a b r s Equal h k e = let l : a ≡ b = ranked a b Equal e in rw l
 weighted_by p a b r s Greater h k e =
     let l : b < a = ranked a b Greater e in greater (a * p + r) (b * p + s) (omega (arith, mul-le-mul_left {m = suc b} {n = a} p l))
 
+-- Numbers of two parts compare by the high part, and then by the low one.
 pub weighted : (p a b r s : ℕ) → r < p → s < p → nat_cmp (a * p + r) (b * p + s) ≡ ordering_then (nat_cmp a b) (nat_cmp r s)
 weighted p a b r s h k = weighted_by p a b r s (nat_cmp a b) h k refl
 
+-- A power of 256 is above 0.
 pub base_pos : (k : ℕ) → 0 < 256 ^ k
 base_pos zero = omega arith
 base_pos (suc k) = omega (arith, pow-suc 256 k, base_pos k)
 
+-- The byte at a place is what division by that power of 256 leaves.
 pub byte_is : (k n : ℕ) → byte_at k n ≡ n / 256 ^ k % 256
 byte_is zero n = grind arith
 byte_is (suc k) n = refl
 
+-- The lowest bytes of a number are its byte at a place and the bytes below it.
 pub split_high : (k n : ℕ) → n % 256 ^ suc k ≡ byte_at k n * 256 ^ k + n % 256 ^ k
 split_high k n =
     rw (byte_is k n) (let p : 0 < 256 ^ k = base_pos k in let e : 256 ^ suc k ≡ 256 * 256 ^ k = omega (arith, pow-suc 256 k) in rw e
@@ -57,6 +64,7 @@ high_first_cmp (suc k) m n =
       high_first_cmp k m n,
     )
 
+-- So many bytes are that many.
 pub length_high_first : (k n : ℕ) → length (bytes_high_first k n) ≡ k
 length_high_first zero n = refl
 length_high_first (suc k) n = grind (arith, length_high_first k n)
@@ -74,5 +82,6 @@ top_byte k n h b =
     not_none zero p r n e h k = absurd (omega arith)
     not_none (suc b) p r n e h k = omega arith
 
+-- Above its bytes a number has zero bytes.
 pub no_top_byte : (k n : ℕ) → n < 256 ^ k → byte_at k n ≡ 0
 no_top_byte k n h = rw (byte_is k n) (rw (div-eq_of_lt {n = n} {m = 256 ^ k} h) refl)

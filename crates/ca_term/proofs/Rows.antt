@@ -9,14 +9,17 @@ use Rattle.std.proofs.lemmas.List.{drop_all}
 use denote.Param.Weighed.{most}
 use Rattle.ca_term.specs.Tree.{nodes, row_nodes, Tree, IsTerm, IsNarrowRow, AreTerms, Tuple, row_of, row_depth, size}
 
+-- One more term at the end of terms makes terms.
 pub AreTerms_push : (ts : List Tree) (t : Tree) → AreTerms ts → IsTerm t → AreTerms (ts ++ t ∷ [])
 AreTerms_push [] t all one = (one, tt)
 AreTerms_push (u ∷ ts) t all one = (all.0, AreTerms_push ts t all.1 one)
 
+-- A row of terms keeps the bounds of width.
 pub narrow_row : (ts : List Tree) → AreTerms ts → IsNarrowRow (row_of ts)
 narrow_row [] all = tt
 narrow_row (t ∷ ts) all = (all.0.narrow, narrow_row ts all.1)
 
+-- A row has as many elements as the list it is made of.
 pub size_row : (ts : List Tree) → size (row_of ts) ≡ length ts
 size_row [] = refl
 size_row (t ∷ ts) = grind (arith, size_row ts)
@@ -30,12 +33,15 @@ pub row_cmp_drop : (r s : List Tree) (i : ℕ) (t u : Tree) → i < length r →
     → row_cmp (row_of (drop i r)) (row_of (drop i s)) ≡ ordering_then (term_cmp (get_or r i t) (get_or s i u)) (row_cmp (row_of (drop (i + 1) r)) (row_of (drop (i + 1) s)))
 row_cmp_drop r s i t u h k = rw (add-one, drop-cons r i t, drop-cons s i u)
 
+-- Sizes that compare as equal are the same.
 pub same_size : (m n : ℕ) → Equal ≡ nat_cmp m n → m ≡ n
 same_size m n e = nat_cmp-IsAntisymmetric m n (sym e)
 
+-- Tuples of as many elements compare as their rows do.
 pub tuple_cmp_same : (r s : List Tree) → Equal ≡ nat_cmp (length r) (length s) → term_cmp (Tuple (row_of r)) (Tuple (row_of s)) ≡ row_cmp (row_of r) (row_of s)
 tuple_cmp_same r s e = rw (size_row r, size_row s, ← e)
 
+-- Behind all items rows are equal.
 pub row_cmp_done : (r s : List Tree) (i : ℕ) → length r ≤ i → length s ≤ i → row_cmp (row_of (drop i r)) (row_of (drop i s)) ≡ Equal
 row_cmp_done r s i h k = rw (drop_all i r h, drop_all i s k)
 

@@ -33,6 +33,7 @@ then_chain Equal Greater s p q t f g h k a b = cc
 then_chain Greater r s p q t f g h k a b = cc
 
 mutual
+  -- Two terms the other way round compare the other way.
   pub tree_flip : (a b : Tree) → term_cmp a b ≡ ordering_reverse (term_cmp b a)
   tree_flip (Integer m) (Integer n) = int_cmp_total.antisymm m n
   tree_flip (Atom a) (Atom b) = nat_list_cmp_total.antisymm a b
@@ -50,6 +51,7 @@ mutual
   row_flip (More t r) (More u s) = then_flips (term_cmp t u) (term_cmp u t) (row_cmp r s) (row_cmp s r) (tree_flip t u) (row_flip r s)
 
 mutual
+  -- Terms that compare as equal are the same.
   pub tree_same : (a b : Tree) → term_cmp a b ≡ Equal → a ≡ b
   tree_same (Integer m) (Integer n) e = ap Integer (int_cmp-IsAntisymmetric m n e)
   tree_same (Atom a) (Atom b) e = ap Atom (slice_cmp-IsAntisymmetric nat_cmp-IsAntisymmetric a b e)
@@ -96,6 +98,7 @@ rank_less (Binary a) (Binary b) e = absurd (omega arith)
 rank_less a b e = first_of (cc, grind arith)
 
 mutual
+  -- What is less than something less is less.
   pub tree_chain : (a b c : Tree) → term_cmp a b ≡ Less → term_cmp b c ≡ Less → term_cmp a c ≡ Less
   tree_chain (Integer m) (Integer n) (Integer o) h k = int_cmp_total.trans m n o h k
   tree_chain (Atom a) (Atom b) (Atom c) h k = nat_list_cmp_total.trans a b c h k
@@ -120,5 +123,6 @@ mutual
       then_chain (term_cmp w u) (term_cmp u v) (term_cmp w v) (row_cmp r s) (row_cmp s t) (row_cmp r t)
       (tree_chain w u v) (left_equal w u v) (right_equal w u v) (row_chain r s t) h k
 
+-- The term order is total.
 pub term_cmp_total : IsTotalOrder term_cmp
 term_cmp_total = record { antisymm = tree_flip; trans = tree_chain; congr = left_equal }

@@ -66,6 +66,16 @@ pub fn bin(alloc: Global, bytes: &[u8]) -> Result<Term, TermFault>
     })
 }
 
+/// The binary of these bytes, without a copy of them. It takes no memory.
+pub fn bin_of(bytes: Vec<u8>) -> Term
+    ensures { result ≡ Binary bytes.items }
+{
+    Term {
+        node: Node::Bin(bytes),
+        depth: 1,
+    }
+}
+
 /// A list cell of at most `MOST_DEPTH` levels: its head stands one deeper than the list, its tail as deep. A refusal drops both.
 pub fn cons(alloc: Global, head: Term, tail: Term) -> Result<Term, TermFault>
     ensures ok { IfOk result (λ t. t ≡ Cons head tail) }

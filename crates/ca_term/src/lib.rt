@@ -13,7 +13,7 @@ mod terms;
 mod utf8;
 
 pub use bounds::{MOST_CODE_BYTES, MOST_CODE_POINTS, MOST_DEPTH, MOST_ELEMENTS};
-pub use build::{atom, bin, cons, int, list, nil, tuple};
+pub use build::{atom, bin, bin_of, cons, int, list, nil, tuple};
 pub use code::code_laws;
 pub use copy::try_copy;
 pub use fault::TermFault;

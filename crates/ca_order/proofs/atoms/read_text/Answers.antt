@@ -1,11 +1,10 @@
 use Rattle.std.proofs.Common.{◌≡◌, ◌∷◌, ◌++◌, subst}
-use Rattle.std.proofs.lemmas.Result.{err_from_is_err_and}
 use Rattle.std.specs.Str.{encode_utf8_all}
 use Rattle.ca_term.specs.declared.bounds.TheConstants.{MOST_CODE_POINTS}
 use Rattle.ca_order.specs.Zeros.{opened}
 use Rattle.ca_order.specs.Languages.{HasText}
 use Rattle.ca_order.specs.Reads.{IsStep}
-use Rattle.ca_order.proofs.Faults.{fault_behind, fault_same}
+use Rattle.ca_order.proofs.Faults.{refused, fault_behind, fault_same}
 use Rattle.ca_order.proofs.AtomParts.{read_none, read_more, read_end, text_rest}
 use Rattle.ca_order.proofs.atoms.read_text.Goals as goal
 
@@ -17,8 +16,7 @@ returns-in_err-step c =
     let r = c.loop-step.invariant in
     let rest = c.loop-step.rest.now in
     let e = c.in_err-step.field-0.0 in
-    let p = err_from_is_err_and c.from_residual.result c.from_residual.ensures.1 in
-    rw (p.1, p.2) (fault_same (HasText MOST_CODE_POINTS) c.args.bytes.now (opened (encode_utf8_all r.text) ++ rest) e r.parts
+    refused _ _ _ _ c.from_residual.ensures.1 (fault_same (HasText MOST_CODE_POINTS) c.args.bytes.now (opened (encode_utf8_all r.text) ++ rest) e r.parts
     (fault_behind (HasText MOST_CODE_POINTS) (HasText c.loop-step.room) (opened (encode_utf8_all r.text)) rest e
     (text_rest r.text c.loop-step.room MOST_CODE_POINTS r.many r.are_scalars) c.in_err-step.ensures))
 

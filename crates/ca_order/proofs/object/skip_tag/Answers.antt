@@ -1,7 +1,6 @@
 use Rattle.std.proofs.Common.{arith, inl, inr}
-use Rattle.ca_order.proofs.Skipped.{no_codes, escaped_there, escaped_codes, nil_codes, cons_codes, size_there, tuple_codes, pos_there, pos_codes, neg_there, neg_codes, IsNoOther}
+use Rattle.ca_order.proofs.Skipped.{no_codes, escaped_there, escaped_codes, nil_codes, cons_codes, size_there, tuple_codes, pos_there, pos_codes, neg_there, neg_codes, no_such_tag}
 use Rattle.ca_order.proofs.object.skip_tag.Goals as goal
-use Rattle.ca_order.proofs.object.skip_tag.Goals.{in_default-tag-via-then-tag-lt32, in_default-tag-via-else-tag-lt32+else-tag-lt41}
 
 pub unreachable-requires : goal.unreachable-requires
 unreachable-requires c = no_codes c.requires.0 c.args.bytes.now c.requires.1 c.requires.2 c.in_default.ensures.cases
@@ -20,7 +19,7 @@ split_size-requires c =
 
 pub behind-requires : goal.behind-requires
 behind-requires c =
-    pos_there c.requires.0 c.in-Some.tag.now c.args.bytes.now c.in-Some.inside.now c.requires.1 c.requires.2 c.in-Some.ensures.cases.0
+    neg_there c.requires.0 c.in-Some.tag.now c.args.bytes.now c.in-Some.inside.now c.requires.1 c.requires.2 c.in-Some.ensures.cases.0
     (omega arith, omega arith)
 
 pub returns-in-48-clause-codes : goal.returns-in-48-clause-codes
@@ -46,57 +45,22 @@ returns-in-64-clause-codes c =
 pub returns-in-64-clause-shorter : goal.returns-in-64-clause-shorter
 returns-in-64-clause-shorter c = omega (arith, c.in-Some.ensures.cases.1, c.split_size.ensures.shorter)
 
-pub overflow_sub-tag-in_default-tag : goal.overflow_sub-tag-in_default-tag
-overflow_sub-tag-in_default-tag c =
-    let other : IsNoOther c.in-Some.tag.now =
-    elim c.in_default-tag.branch [
-      | in_default-tag-via-then-tag-lt32 w ↦ record {
-        no_pos = λ h k. omega arith;
-        no_atom = λ e. omega (arith, e);
-        no_tuple =
-            λ e. omega (arith, e);
-        no_nil = λ e. omega (arith, e);
-        no_cons = λ e. omega (arith, e);
-        no_binary =
-            λ e. omega (arith, e);
-      }
-      | in_default-tag-via-else-tag-lt32+else-tag-lt41 w ↦ record {
-        no_pos = λ h k. omega arith;
-        no_atom =
-            λ e. omega (arith, e);
-        no_tuple = λ e. omega (arith, e);
-        no_nil = λ e. omega (arith, e);
-        no_cons = λ e. omega (arith, e);
-        no_binary = λ e. omega (arith, e);
-      }
-    ] in
-    (neg_there c.requires.0 c.in-Some.tag.now c.args.bytes.now c.in-Some.inside.now c.requires.1 c.requires.2 c.in-Some.ensures.cases.0 other).0
+pub behind-requires-in-32-to-40 : goal.behind-requires-in-32-to-40
+behind-requires-in-32-to-40 c =
+    pos_there c.requires.0 c.in-Some.tag.now c.args.bytes.now c.in-Some.inside.now c.requires.1 c.requires.2 c.in-Some.ensures.cases.0
+    (omega arith, omega arith)
 
-pub behind-requires-in_default-tag : goal.behind-requires-in_default-tag
-behind-requires-in_default-tag c =
-    let other : IsNoOther c.in-Some.tag.now =
-    elim c.in_default-tag.branch [
-      | in_default-tag-via-then-tag-lt32 w ↦ record {
-        no_pos = λ h k. omega arith;
-        no_atom = λ e. omega (arith, e);
-        no_tuple =
-            λ e. omega (arith, e);
-        no_nil = λ e. omega (arith, e);
-        no_cons = λ e. omega (arith, e);
-        no_binary =
-            λ e. omega (arith, e);
-      }
-      | in_default-tag-via-else-tag-lt32+else-tag-lt41 w ↦ record {
-        no_pos = λ h k. omega arith;
-        no_atom =
-            λ e. omega (arith, e);
-        no_tuple = λ e. omega (arith, e);
-        no_nil = λ e. omega (arith, e);
-        no_cons = λ e. omega (arith, e);
-        no_binary = λ e. omega (arith, e);
-      }
-    ] in
-    (neg_there c.requires.0 c.in-Some.tag.now c.args.bytes.now c.in-Some.inside.now c.requires.1 c.requires.2 c.in-Some.ensures.cases.0 other).1
+pub unreachable-requires-in_default-tag : goal.unreachable-requires-in_default-tag
+unreachable-requires-in_default-tag c =
+    no_such_tag c.requires.0 c.in-Some.tag.now c.args.bytes.now c.in-Some.inside.now c.requires.1 c.requires.2 c.in-Some.ensures.cases.0
+    (λ l. record {
+      no_int = λ h k. grind arith;
+      no_atom = λ e. grind arith;
+      no_tuple = λ e. grind arith;
+      no_nil = λ e. grind arith;
+      no_cons = λ h e. grind arith;
+      no_binary = λ e. grind arith;
+    })
 
 pub returns-in-96-clause-codes : goal.returns-in-96-clause-codes
 returns-in-96-clause-codes c = λ n end h. nil_codes n c.in-Some.tag.now c.args.bytes.now c.in-Some.inside.now end h c.in-Some.ensures.cases.0 c.in-96.is
@@ -104,33 +68,12 @@ returns-in-96-clause-codes c = λ n end h. nil_codes n c.in-Some.tag.now c.args.
 pub returns-in-112-clause-codes : goal.returns-in-112-clause-codes
 returns-in-112-clause-codes c = λ n end h. cons_codes n c.in-Some.tag.now c.args.bytes.now c.in-Some.inside.now end h c.in-Some.ensures.cases.0 c.in-112.is
 
-pub returns-in-32-to-40-clause-codes : goal.returns-in-32-to-40-clause-codes
-returns-in-32-to-40-clause-codes c =
-    λ n end h. pos_codes n c.in-Some.tag.now c.args.bytes.now c.in-Some.inside.now end h c.in-Some.ensures.cases.0 c.behind.result.now
+pub returns-in-23-to-31-clause-codes : goal.returns-in-23-to-31-clause-codes
+returns-in-23-to-31-clause-codes c =
+    λ n end h. neg_codes n c.in-Some.tag.now c.args.bytes.now c.in-Some.inside.now end h c.in-Some.ensures.cases.0 c.behind.result.now
     (omega arith, omega arith) c.behind.ensures.rest
 
-pub returns-in_default-tag-clause-codes : goal.returns-in_default-tag-clause-codes
-returns-in_default-tag-clause-codes c = λ n end h.
-    let other : IsNoOther c.in-Some.tag.now =
-    elim c.in_default-tag.branch [
-      | in_default-tag-via-then-tag-lt32 w ↦ record {
-        no_pos = λ h k. omega arith;
-        no_atom = λ e. omega (arith, e);
-        no_tuple =
-            λ e. omega (arith, e);
-        no_nil = λ e. omega (arith, e);
-        no_cons = λ e. omega (arith, e);
-        no_binary =
-            λ e. omega (arith, e);
-      }
-      | in_default-tag-via-else-tag-lt32+else-tag-lt41 w ↦ record {
-        no_pos = λ h k. omega arith;
-        no_atom =
-            λ e. omega (arith, e);
-        no_tuple = λ e. omega (arith, e);
-        no_nil = λ e. omega (arith, e);
-        no_cons = λ e. omega (arith, e);
-        no_binary = λ e. omega (arith, e);
-      }
-    ] in
-    neg_codes n c.in-Some.tag.now c.args.bytes.now c.in-Some.inside.now end h c.in-Some.ensures.cases.0 c.behind-in_default-tag.result.now other c.behind-in_default-tag.ensures.rest
+pub returns-in-32-to-40-clause-codes : goal.returns-in-32-to-40-clause-codes
+returns-in-32-to-40-clause-codes c =
+    λ n end h. pos_codes n c.in-Some.tag.now c.args.bytes.now c.in-Some.inside.now end h c.in-Some.ensures.cases.0 c.behind-in-32-to-40.result.now
+    (omega arith, omega arith) c.behind-in-32-to-40.ensures.rest

@@ -1,17 +1,16 @@
 use Rattle.std.proofs.Common.{◌≡◌, ℕ, ◌≤◌, ◌+◌, ◌-◌, List, ◌∷◌, ◌++◌, length, slice_index, arith, sym, ◌∙◌, ap, subst, true, false}
-use Rattle.std.proofs.lemmas.Result.{err_from_is_err_and, MatchResult-weaker}
+use Rattle.std.proofs.lemmas.Result.{MatchResult-weaker}
 use Rattle.ca_term.specs.declared.bounds.TheConstants.{MOST_CODE_POINTS, MOST_ELEMENTS}
 use Rattle.ca_term.specs.Tree.{Integer}
 use Rattle.ca_term.specs.Code.{four_bytes}
 use Rattle.ca_order.specs.Languages.{HasTerm, HasTuple, HasRow, HasText, HasBytes}
-use Rattle.ca_order.proofs.Faults.{fault_at, fault_behind, fault_same}
+use Rattle.ca_order.proofs.Faults.{refused, fault_at, fault_behind, fault_same}
 use Rattle.ca_order.proofs.FirstBytes.{IsNoTag, atom_rest, binary_rest, tuple_rest}
 use Rattle.ca_order.proofs.Lasts.{raise, tag_fault, stuck_no_tag, nil_term, pos_fault, neg_fault, pos_term, neg_term, digits_fit, cast_pos, cast_neg}
 use Rattle.ca_order.proofs.Lists.{heads_more, heads_fault, head_fault, heads_term, row_none, row_more, item_fault, begins_tuple}
 use Rattle.ca_order.proofs.Sizes.{size_fault, elements_rest, most_fits}
 use Rattle.ca_order.proofs.Turned.{same_first}
 use Rattle.ca_order.proofs.reading.+read.Goals as goal
-use Rattle.ca_order.proofs.reading.+read.Goals.{read_last-in_default-tag-via-then-tag-lt23, read_last-in_default-tag-via-else-tag-lt23+else-tag-lt32+else-tag-lt41}
 
 -- ---- the items of a row
 
@@ -20,8 +19,7 @@ read_items-loop-init t c = row_none c.args.levels c.args.bytes.now c.new-items.r
 
 pub read_items-returns-in_err-item : goal.read_items-returns-in_err-item
 read_items-returns-in_err-item t c =
-    let p = err_from_is_err_and c.from_residual.result c.from_residual.ensures.1 in
-    rw (p.1, p.2) (item_fault c.args.levels c.loop.counter c.args.count c.args.bytes.now c.loop.items.items c.loop.rest.now c.in_err-item.field-0.0 c.loop-test.true c.loop.invariant c.in_err-item.ensures)
+    refused _ _ _ _ c.from_residual.ensures.1 (item_fault c.args.levels c.loop.counter c.args.count c.args.bytes.now c.loop.items.items c.loop.rest.now c.in_err-item.field-0.0 c.loop-test.true c.loop.invariant c.in_err-item.ensures)
 
 pub read_items-loop-preserved : goal.read_items-loop-preserved
 read_items-loop-preserved t c =
@@ -37,8 +35,7 @@ read_last-returns-in_default t c =
 
 pub read_last-returns-in_err-number-in-23-to-31 : goal.read_last-returns-in_err-number-in-23-to-31
 read_last-returns-in_err-number-in-23-to-31 t c =
-    let p = err_from_is_err_and c.from_residual.result c.from_residual.ensures.1 in
-    rw (p.1, p.2) (neg_fault c.args.levels c.in-Some.tag.now c.args.bytes.now c.in-Some.inside.now c.in_err-number-in-23-to-31.field-0.0 c.requires.least
+    refused _ _ _ _ c.from_residual.ensures.1 (neg_fault c.args.levels c.in-Some.tag.now c.args.bytes.now c.in-Some.inside.now c.in_err-number-in-23-to-31.field-0.0 c.requires.least
     (omega arith) (omega arith) c.in-Some.ensures.cases.0 c.in_err-number-in-23-to-31.ensures)
 
 pub read_last-overflow_cast-number : goal.read_last-overflow_cast-number
@@ -47,8 +44,7 @@ read_last-overflow_cast-number t c =
 
 pub read_last-returns-in_err-number-in-32-to-40 : goal.read_last-returns-in_err-number-in-32-to-40
 read_last-returns-in_err-number-in-32-to-40 t c =
-    let p = err_from_is_err_and c.from_residual-in_err-number-in-32-to-40.result c.from_residual-in_err-number-in-32-to-40.ensures.1 in
-    rw (p.1, p.2) (pos_fault c.args.levels c.in-Some.tag.now c.args.bytes.now c.in-Some.inside.now c.in_err-number-in-32-to-40.field-0.0 c.requires.least
+    refused _ _ _ _ c.from_residual-in_err-number-in-32-to-40.ensures.1 (pos_fault c.args.levels c.in-Some.tag.now c.args.bytes.now c.in-Some.inside.now c.in_err-number-in-32-to-40.field-0.0 c.requires.least
     (omega arith) (omega arith) c.in-Some.ensures.cases.0 c.in_err-number-in-32-to-40.ensures)
 
 pub read_last-overflow_cast-number-in-32-to-40 : goal.read_last-overflow_cast-number-in-32-to-40
@@ -106,24 +102,14 @@ read_last-returns-in_default-tag t c =
     let bytes = c.args.bytes.now in
     let tag = c.in-Some.tag.now in
     let no_cons : 2 ≤ c.args.levels → tag ≡ 0x70 → ⊥ = λ h e. c.requires.no_cell h (ap (λ (x : List ℕ). slice_index x 0) c.in-Some.ensures.cases.0 ∙ e) in
-    let none : IsNoTag c.args.levels tag = elim c.in_default-tag.branch [
-      | read_last-in_default-tag-via-then-tag-lt23 w ↦ record {
-        no_int = λ h k. omega arith;
-        no_atom = λ e. omega (arith, e);
-        no_tuple = λ e. omega (arith, e);
-        no_nil = λ e. omega (arith, e);
-        no_cons = no_cons;
-        no_binary = λ e. omega (arith, e);
-      }
-      | read_last-in_default-tag-via-else-tag-lt23+else-tag-lt32+else-tag-lt41 w ↦ record {
-        no_int = λ h k. omega arith;
-        no_atom = λ e. omega (arith, e);
-        no_tuple = λ e. omega (arith, e);
-        no_nil = λ e. omega (arith, e);
-        no_cons = no_cons;
-        no_binary = λ e. omega (arith, e);
-      }
-    ] in
+    let none : IsNoTag c.args.levels tag = record {
+      no_int = λ h k. grind arith;
+      no_atom = λ e. grind arith;
+      no_tuple = λ e. grind arith;
+      no_nil = λ e. grind arith;
+      no_cons = no_cons;
+      no_binary = λ e. grind arith;
+    } in
     fault_at (HasTerm c.args.levels) bytes bytes c.stuck-in_default-tag.result c.stuck-in_default-tag.ensures
     (stuck_no_tag c.args.levels bytes c.requires.least
     (λ b more e. subst (IsNoTag c.args.levels) (sym (same_first b tag more c.in-Some.inside.now bytes e c.in-Some.ensures.cases.0)) none))
@@ -134,8 +120,7 @@ pub read_term-returns-in_err-head : goal.read_term-returns-in_err-head
 read_term-returns-in_err-head t c =
     let e = c.in_err-head.field-0.0 in
     let rest = c.loop-inside.rest.now in
-    let p = err_from_is_err_and c.from_residual.result c.from_residual.ensures.1 in
-    rw (p.1, p.2) (heads_fault c.args.levels c.args.bytes.now c.loop-inside.heads.items rest e c.requires.least c.loop-inside.invariant
+    refused _ _ _ _ c.from_residual.ensures.1 (heads_fault c.args.levels c.args.bytes.now c.loop-inside.heads.items rest e c.requires.least c.loop-inside.invariant
     (head_fault c.args.levels rest c.in-Some.inside.now e c.requires.least c.in-Some.ensures.1 c.in_err-head.ensures))
 
 pub read_term-loop-inside-preserved : goal.read_term-loop-inside-preserved
@@ -144,8 +129,7 @@ read_term-loop-inside-preserved t c =
 
 pub read_term-returns-in_err-last : goal.read_term-returns-in_err-last
 read_term-returns-in_err-last t c =
-    let p = err_from_is_err_and c.from_residual-in_err-last.result c.from_residual-in_err-last.ensures.1 in
-    rw (p.1, p.2) (heads_fault c.args.levels c.args.bytes.now c.loop-inside.heads.items c.loop-inside.rest.now c.in_err-last.field-0.0 c.requires.least c.loop-inside.invariant c.in_err-last.ensures)
+    refused _ _ _ _ c.from_residual-in_err-last.ensures.1 (heads_fault c.args.levels c.args.bytes.now c.loop-inside.heads.items c.loop-inside.rest.now c.in_err-last.field-0.0 c.requires.least c.loop-inside.invariant c.in_err-last.ensures)
 
 pub read_term-returns : goal.read_term-returns
 read_term-returns t c =
@@ -155,8 +139,7 @@ read_term-returns t c =
 
 pub read_tuple-returns-in_err-count : goal.read_tuple-returns-in_err-count
 read_tuple-returns-in_err-count t c =
-    let p = err_from_is_err_and c.from_residual.result c.from_residual.ensures.1 in
-    rw (p.1, p.2) (size_fault c.args.levels c.args.bytes.now c.in_err-count.field-0.0 (rw c.most_elements.ensures at c.in_err-count.ensures))
+    refused _ _ _ _ c.from_residual.ensures.1 (size_fault c.args.levels c.args.bytes.now c.in_err-count.field-0.0 (rw c.most_elements.ensures at c.in_err-count.ensures))
 
 pub read_tuple-returns-in_err-items : goal.read_tuple-returns-in_err-items
 read_tuple-returns-in_err-items t c =
@@ -165,8 +148,7 @@ read_tuple-returns-in_err-items t c =
     let inside = c.in_ok-count.inside.now in
     let e = c.in_err-items.field-0.0 in
     let fits : n ≤ MOST_ELEMENTS = omega (arith, c.in_ok-count.ensures.0, c.most_elements.ensures, most_fits l) in
-    let p = err_from_is_err_and c.from_residual-in_err-items.result c.from_residual-in_err-items.ensures.1 in
-    rw (p.1, p.2) (fault_same (HasTuple l) c.args.bytes.now (four_bytes n ++ inside) e c.in_ok-count.ensures.1
+    refused _ _ _ _ c.from_residual-in_err-items.ensures.1 (fault_same (HasTuple l) c.args.bytes.now (four_bytes n ++ inside) e c.in_ok-count.ensures.1
     (fault_behind (HasTuple l) (HasRow l n) (four_bytes n) inside e (elements_rest l n fits) c.in_err-items.ensures))
 
 pub read_tuple-returns : goal.read_tuple-returns
