@@ -1,6 +1,6 @@
 -- The characters between quotes are read, whatever follows.
-use Rattle.std.proofs.Common.{◌≡◌, ◌≢◌, ℕ, zero, suc, ◌+◌, ◌-◌, ◌*◌, ◌/◌, ◌%◌, ◌<◌, ◌≤◌, true, false, cond, ltb, leb, eqb, List, [], ◌∷◌, ◌++◌, length, None, Some, Ok, refl, sym, ap, subst, ◌∙◌, append_assoc, arith, le-ltb, lt-ltb, ⊎_elim, length-append}
-use Rattle.std.proofs.lemmas.Bool.{leb-true, ltb-true, ltb-false, le-leb}
+use Rattle.std.proofs.Common.{◌≡◌, ◌≢◌, ℕ, zero, suc, ◌+◌, ◌-◌, ◌*◌, ◌<◌, ◌≤◌, true, false, ltb, leb, eqb, List, [], ◌∷◌, ◌++◌, length, None, Some, Ok, refl, sym, ap, subst, ◌∙◌, append_assoc, arith, lt-ltb, ⊎_elim, length-append}
+use Rattle.std.proofs.lemmas.Bool.{leb-true}
 use Rattle.std.proofs.lemmas.Bool.Decides.{nat_tests}
 use Rattle.std.specs.List.{list_all}
 use Rattle.std.specs.Char.{is_ascii_hexdigit, digit_value, encode_utf8, IsScalar}
@@ -10,7 +10,7 @@ use Rattle.ca_text.specs.Bytes.{backslash, close_brace, letter_x, line_feed, ope
 use Rattle.ca_text.specs.Grammar.{escape_of, IsCharacter, Itself, Escaped, Hexadecimal, AreCharacters, Closed, OneMore}
 use Rattle.ca_text.specs.declared.fault.Why.{Why}
 use Rattle.ca_text.specs.Inner.Reading.{point_at, is_point, may_stand, hex_after, hex_at, escape_at, begins_character, character_at, next_point_at, closing_at, characters_at}
-use Rattle.ca_text.proofs.Tools.{both, chosen}
+use Rattle.ca_text.proofs.Tools.{both}
 use Rattle.ca_text.proofs.Points.{encode_some, first_byte, point_again}
 use Rattle.ca_text.proofs.Again.{expect_again, grows}
 

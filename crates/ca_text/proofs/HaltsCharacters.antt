@@ -18,7 +18,7 @@ use Rattle.ca_text.proofs.Points.{point_halts}
 use Rattle.ca_text.proofs.CharactersAgain.{hex_end}
 use Rattle.ca_text.proofs.Again.{expect_again}
 use Rattle.ca_text.proofs.Characters.{character_taken, next_taken}
-use Rattle.ca_text.proofs.Halts.{GoesOn, Halted, Halts, halted_here, halted_behind_as, halted_map, halted_as, halted_at, bind_err, done_err, Reads, halted_cons, halted_same}
+use Rattle.ca_text.proofs.Halts.{GoesOn, Halted, Halts, halted_here, halted_behind_as, halted_map, halted_as, bind_err, done_err, Reads, halted_cons, halted_same}
 
 -- ---- what stands behind a backslash
 
@@ -147,7 +147,7 @@ module _ (close most : ℕ) (small : close < 128) (low : 127 ≤ most) (high : 1
   one_halts : Halts (character_at close most) (IsPointAt close most)
   one_halts bytes f e =
       halted_as (Reads (character_at close most)) (IsPointAt close most) bytes f (character_halts bytes f e)
-      (λ text c is. let r = character_taken close most text c [] small low high is in
+      (λ text c is. let r = (character_taken close most small low high text).is (c, []) is in
       let whole : r.text ≡ text = sym (r.whole ∙ append-nil r.text) in
       (c, subst (λ x. IsPointAt close most x c) whole (r.character, r.point)))
 
@@ -183,7 +183,7 @@ module _ (close most : ℕ) (small : close < 128) (low : 127 ≤ most) (high : 1
       → Halted (AreWithin close most (suc n)) bytes f
   behind_next over n bytes None after f later e h = absurd cc
   behind_next over n bytes (Some c) after f later e h =
-      let first = next_taken close most bytes c after small low high e in
+      let first = (next_taken close most small low high bytes).is (Some c, after) e in
       let halted = later after f (done_err (characters_at over close most n after) (λ y. (c ∷ y.0, y.1)) f h) in
       let is : IsPointAt close most first.text c = (first.character, first.point) in
       subst (λ x. Halted (AreWithin close most (suc n)) x f) (sym first.whole)

@@ -70,7 +70,7 @@ begins_past : (limits : Limits) (levels : ℕ) (bytes : List ℕ) (left : ℕ) (
     → Past (λ (x : Tree × List ℕ). x.1) left r
     → GoesOnAt limits (suc levels) bytes (length bytes - left)
 begins_past limits levels bytes left (Ok (t, rest)) e few past =
-    let s = term_taken limits (suc levels) bytes t rest e in
+    let s = (term_taken limits (suc levels) bytes).is (t, rest) e in
     let long : length bytes ≡ length s.text + length rest = ap (λ (l : List ℕ). length l) s.whole ∙ length-append s.text rest in
     let b : Begins limits (suc levels) s.text = ([], t, subst (λ x. IsTextOf limits (suc levels) x t) (sym (append-nil s.text)) s.is) in
     (omega (arith, few, past), begins_front limits (suc levels) (length bytes - left + 1) bytes s.text rest s.whole (omega (arith, long, few, past)) b)

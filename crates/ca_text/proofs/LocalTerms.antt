@@ -144,7 +144,7 @@ module _ (close most : ℕ) (small : close < 128) (low : 127 ≤ most) (high : 1
   after_same k j xs (Err f) e h i later = refl
   after_same k j xs (Ok (None, ys)) e h i later = refl
   after_same k j xs (Ok (Some c, ys)) e h i later =
-      let t = next_taken close most xs c ys small low high e in
+      let t = (next_taken close most small low high xs).is (Some c, ys) e in
       let long : length xs ≡ length t.text + length ys = ap (λ (l : List ℕ). length l) t.whole ∙ length-append t.text ys in
       let some = character_some close t.text c t.character in
       rw (later ys (omega (arith, long, some)) (omega (arith, long, some))) refl
@@ -215,7 +215,7 @@ step_shorter n xs x ys e =
     let u = bind_ok (after_segment_at (skip s.0.1)) (λ y. Ok ((s.0.0, y.0), y.1)) (x, ys) s.2 in
     let made : List ℕ × Bool = (s.0.0, u.0.0) in
     let p = pair_is made u.0.1 x ys u.2 in
-    let t = segment_taken xs s.0.0 s.0.1 s.1 in
+    let t = (segment_taken xs).is s.0 s.1 in
     let begins = segment_begins t.text s.0.0 t.is in
     let gap = skipped s.0.1 in
     let less = no_longer after_segment_at (skip s.0.1) (after_segment_local (skip s.0.1)) u.0.0 u.0.1 u.1 in
@@ -550,7 +550,7 @@ nil_term limits (suc levels) = nil_other limits (term_at limits levels) levels
 
 term_strict : (limits : Limits) (levels : ℕ) (xs : List ℕ) (t : Tree) (ys : List ℕ) → term_at limits levels xs ≡ Ok (t, ys) → length ys < length xs
 term_strict limits levels xs t ys e =
-    let r = term_taken limits levels xs t ys e in
+    let r = (term_taken limits levels xs).is (t, ys) e in
     let some = text_some limits levels r.text t r.is in
     omega (arith, some, ap (λ (l : List ℕ). length l) r.whole, length-append r.text ys)
 

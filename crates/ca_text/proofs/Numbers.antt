@@ -8,8 +8,9 @@ use Rattle.std.specs.Str.Parse.{AllDigits, IsNumeral, digits_value, digits_value
 use Rattle.ca_text.specs.Bytes.{digit_zero, minus_sign}
 use Rattle.ca_text.specs.Text.{is_name_char, has_plain_form}
 use Rattle.ca_text.specs.Grammar.{is_blank, AreBlanks, IsInteger, FromZero, Negative, takes_in, IsWhole, skip}
-use Rattle.ca_text.specs.Inner.Reading.{digits_after, number_at, negative_at, positive_at, integer_at, name_length, name_at}
-use Rattle.ca_text.proofs.Tools.{bind_ok, chosen, guarded, both, pair_is}
+use Rattle.ca_text.specs.Inner.Reading.{digits_after, number_at, integer_at, name_length, name_at}
+use Rattle.ca_text.proofs.Yields.{Yields, ok_yields, err_yields, if_yields, bind_yields}
+use Rattle.ca_text.proofs.Tools.{chosen, guarded, both, pair_is}
 
 -- blanks stand at the front
 pub record IsSkipped (bytes rest : List ℕ) : Type 0 where
@@ -125,40 +126,28 @@ pub record IsIntegerAt (bytes : List ℕ) (n : ℤ) (rest : List ℕ) : Type 0 w
   pub is : IsInteger text n
   pub ends : IsWhole text rest
 
-negative_taken : (bytes : List ℕ) (n : ℤ) (rest : List ℕ) → negative_at bytes ≡ Ok (n, rest) → IsIntegerAt (minus_sign ∷ bytes) n rest
-negative_taken bytes n rest e =
-    let s = bind_ok (number_at (2 ^ 63) bytes) (λ x. Ok (neg_ℤ (pos x.0), x.1)) (n, rest) e in
-    let p = pair_is (neg_ℤ (pos s.0.0)) s.0.1 n rest s.2 in
-    let r = number_taken (2 ^ 63) bytes s.0.0 s.0.1 s.1 in
-    let same : neg_ℤ (pos (digits_value 10 r.digits)) ≡ n = ap (λ x. neg_ℤ (pos x)) r.value_is ∙ p.0 in
-    record {
-      text = minus_sign ∷ r.digits;
-      whole = ap (λ x. minus_sign ∷ x) (r.whole ∙ ap (λ x. r.digits ++ x) p.1);
-      is = subst (λ x. IsInteger (minus_sign ∷ r.digits) x) same (Negative r.digits r.numeral (omega (arith, r.value_is, r.bounded)));
-      ends = whole_digits minus_sign r.digits rest refl (subst EndsDigits p.1 r.ends);
-    }
+-- As number_taken, of whatever is read.
+pub number_yields : (most : ℕ) (bytes : List ℕ) → Yields (λ (x : ℕ × List ℕ). IsNumberAt most bytes x.0 x.1) (number_at most bytes)
+number_yields most bytes = record { is = λ x e. number_taken most bytes x.0 x.1 e }
 
-positive_taken : (bytes : List ℕ) (n : ℤ) (rest : List ℕ) → positive_at bytes ≡ Ok (n, rest) → IsIntegerAt bytes n rest
-positive_taken bytes n rest e =
-    let s = bind_ok (number_at (2 ^ 63 - 1) bytes) (λ x. Ok (pos x.0, x.1)) (n, rest) e in
-    let p = pair_is (pos s.0.0) s.0.1 n rest s.2 in
-    let r = number_taken (2 ^ 63 - 1) bytes s.0.0 s.0.1 s.1 in
-    let same : pos (digits_value 10 r.digits) ≡ n = ap pos r.value_is ∙ p.0 in
-    record {
-      text = r.digits;
-      whole = r.whole ∙ ap (λ x. r.digits ++ x) p.1;
-      is = subst (λ x. IsInteger r.digits x) same (FromZero r.digits r.numeral (omega (arith, r.value_is, r.bounded)));
-      ends = whole_numeral r.digits rest r.numeral (subst EndsDigits p.1 r.ends);
-    }
-
-pub integer_taken : (bytes : List ℕ) (n : ℤ) (rest : List ℕ) → integer_at bytes ≡ Ok (n, rest) → IsIntegerAt bytes n rest
+-- What is read as an integer is one.
+pub integer_taken : (bytes : List ℕ) → Yields (λ (x : ℤ × List ℕ). IsIntegerAt bytes x.0 x.1) (integer_at bytes)
 unfolding integer_at
-integer_taken [] n rest e = absurd cc
-integer_taken (b ∷ bytes) n rest e =
-    ⊎_elim
-    (λ h. let same = eqb-true b minus_sign h.0 in subst (λ x. IsIntegerAt (x ∷ bytes) n rest) (sym same) (negative_taken bytes n rest h.1))
-    (λ h. positive_taken (b ∷ bytes) n rest h.1)
-    (chosen (eqb b minus_sign) _ _ (Ok (n, rest)) e)
+integer_taken [] = err_yields
+integer_taken (b ∷ bytes) =
+    if_yields (eqb b minus_sign)
+    (λ h. bind_yields _ (number_yields (2 ^ 63) bytes) (λ x r. ok_yields (record {
+      text = minus_sign ∷ r.digits;
+      whole = λ i. eqb-true b minus_sign h i ∷ r.whole i;
+      is = subst (λ v. IsInteger (minus_sign ∷ r.digits) (neg_ℤ (pos v))) r.value_is (Negative r.digits r.numeral (omega (arith, r.value_is, r.bounded)));
+      ends = whole_digits minus_sign r.digits x.1 refl r.ends;
+    })))
+    (λ h. bind_yields _ (number_yields (2 ^ 63 - 1) (b ∷ bytes)) (λ x r. ok_yields (record {
+      text = r.digits;
+      whole = r.whole;
+      is = subst (λ v. IsInteger r.digits (pos v)) r.value_is (FromZero r.digits r.numeral (omega (arith, r.value_is, r.bounded)));
+      ends = whole_numeral r.digits x.1 r.numeral r.ends;
+    })))
 
 pub names_all : (bytes : List ℕ) → list_all is_name_char (take (name_length bytes) bytes) ≡ true
 unfolding name_length
@@ -201,14 +190,13 @@ name_parts most b bytes (c ∷ cs) rest h whole all few ends =
       ends = whole_name c cs rest letter ends;
     }
 
-pub name_taken : (most b : ℕ) (bytes name rest : List ℕ) → is_ascii_lowercase b ≡ true → name_at most (b ∷ bytes) ≡ Ok (name, rest)
-    → IsNameAt most (b ∷ bytes) name rest
+-- What is read as a name that a letter a to z begins is a plain atom.
+pub name_yields : (most b : ℕ) (bytes : List ℕ) → is_ascii_lowercase b ≡ true
+    → Yields (λ (x : List ℕ × List ℕ). IsNameAt most (b ∷ bytes) x.0 x.1) (name_at most (b ∷ bytes))
 unfolding name_at
-name_taken most b bytes name rest h e =
+name_yields most b bytes h =
     let n = name_length (b ∷ bytes) in
-    let g = guarded (leb n most) _ (Ok (take n (b ∷ bytes), drop n (b ∷ bytes))) (name, rest) e in
-    let p = pair_is (take n (b ∷ bytes)) (drop n (b ∷ bytes)) name rest g.1 in
-    let whole : b ∷ bytes ≡ name ++ rest = sym (take-append-drop n (b ∷ bytes)) ∙ ap (λ x. x ++ drop n (b ∷ bytes)) p.0 ∙ ap (λ x. name ++ x) p.1 in
-    let few : length (take n (b ∷ bytes)) ≤ most = omega (arith, length-take n (b ∷ bytes), leb-true n most g.0) in
-    name_parts most b bytes name rest h whole (subst (λ x. list_all is_name_char x ≡ true) p.0 (names_all (b ∷ bytes))) (subst (λ x. length x ≤ most) p.0 few)
-    (subst EndsName p.1 (names_end (b ∷ bytes)))
+    if_yields (leb n most)
+    (λ g. ok_yields (name_parts most b bytes (take n (b ∷ bytes)) (drop n (b ∷ bytes)) h (sym (take-append-drop n (b ∷ bytes))) (names_all (b ∷ bytes))
+    (omega (arith, length-take n (b ∷ bytes), leb-true n most g)) (names_end (b ∷ bytes))))
+    (λ g. err_yields)

@@ -26,7 +26,7 @@ read_of text rest t is whole = record {
 pub read_is : (bytes : List ℕ) (t : Tree) (rest : List ℕ) → term_at standard MOST_LEVELS bytes ≡ Ok (t, rest)
     → (length rest ≤ length bytes) × IsRead bytes t (length bytes - length rest)
 read_is bytes t rest e =
-    let r = term_taken standard MOST_LEVELS bytes t rest e in
+    let r = (term_taken standard MOST_LEVELS bytes).is (t, rest) e in
     let long : length bytes ≡ length r.text + length rest = ap (λ (x : List ℕ). length x) r.whole ∙ length-append r.text rest in
     let count : length r.text ≡ length bytes - length rest = omega (arith, long) in
     (omega (arith, long), subst (λ n. IsRead bytes t n) count (subst (λ x. IsRead x t (length r.text)) (sym r.whole) (read_of r.text rest t r.is r.ends)))
