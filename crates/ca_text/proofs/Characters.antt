@@ -115,7 +115,8 @@ module _ (close most : ℕ) (small : close < 128) (low : 127 ≤ most) (high : 1
   letter_taken : (b : ℕ) (bytes : List ℕ) (o : Option ℕ) → escape_of b ≡ o
       → Yields (λ (x : ℕ × List ℕ). IsCharacterAt close most (backslash ∷ b ∷ bytes) x.0 x.1) (or_fault o bytes (b ∷ bytes))
   letter_taken b bytes None e = err_yields
-  letter_taken b bytes (Some c) e = ok_yields (record { text = backslash ∷ b ∷ []; whole = refl; character = Escaped close b c e; point = escape_small most b c low e })
+  letter_taken b bytes (Some c) e = ok_yields (record { text = backslash ∷ b ∷ []; whole = refl; character = Escaped close b c e;
+      point = escape_small most b c low e })
 
   escape_taken : (bytes : List ℕ) → Yields (λ (x : ℕ × List ℕ). IsCharacterAt close most (backslash ∷ bytes) x.0 x.1) (escape_at most bytes)
   unfolding escape_at
@@ -138,7 +139,8 @@ module _ (close most : ℕ) (small : close < 128) (low : 127 ≤ most) (high : 1
       itself (λ e. parts.0 (same ∙ e)) (λ e. other (same ∙ e)) (λ e. parts.1 (same ∙ e)) (grind (arith, nat_tests)))
       (λ t. let same : b ≡ t.1 = let w = p.whole in let s = t.3 in cc in
       let most_is : most ≡ most_point = high (parts.2 (omega (arith, same, t.4))) in
-      itself (λ e. absurd (omega (arith, e, t.0))) (λ e. absurd (omega (arith, e, t.0))) (λ e. absurd (omega (arith, e, t.0))) (rw most_is (scalar_point c p.scalar)))
+      itself (λ e. absurd (omega (arith, e, t.0))) (λ e. absurd (omega (arith, e, t.0))) (λ e. absurd (omega (arith, e, t.0)))
+          (rw most_is (scalar_point c p.scalar)))
       (first_byte c p.scalar)
 
   -- What is read as a character is one.
@@ -147,7 +149,8 @@ module _ (close most : ℕ) (small : close < 128) (low : 127 ≤ most) (high : 1
   character_taken [] = err_yields
   character_taken (b ∷ bytes) =
       if_yields (eqb b backslash)
-      (λ t. subst (λ y. Yields (λ (x : ℕ × List ℕ). IsCharacterAt close most (y ∷ bytes) x.0 x.1) (escape_at most bytes)) (sym (eqb-true b backslash t)) (escape_taken bytes))
+      (λ t. subst (λ y. Yields (λ (x : ℕ × List ℕ). IsCharacterAt close most (y ∷ bytes) x.0 x.1) (escape_at most bytes)) (sym (eqb-true b backslash t))
+          (escape_taken bytes))
       (λ t. if_yields (begins_character close most b)
       (λ g. map_yields (point_yields (b ∷ bytes)) (λ x p. point_begins b bytes x.0 x.1 g (eqb-false b backslash t) p))
       (λ g. err_yields))
@@ -196,6 +199,7 @@ pub points_scalar : (most : ℕ) (cs : List ℕ) → list_all (is_point most) cs
 points_scalar most [] e = refl
 points_scalar most (c ∷ cs) e = let t = both (is_point most c) (list_all (is_point most) cs) e in rw (point_scalar most c t.0, points_scalar most cs t.1) refl
 
+-- Each of the code points is at most the largest one.
 pub points_low : (most : ℕ) (cs : List ℕ) (i : ℕ) → list_all (is_point most) cs ≡ true → get_or cs i 0 ≤ most
 points_low most [] i e = omega arith
 points_low most (c ∷ cs) zero e =

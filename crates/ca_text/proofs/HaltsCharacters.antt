@@ -113,7 +113,8 @@ module _ (most : ℕ) (low : 127 ≤ most) (high : 128 ≤ most → most ≡ mos
   escape_halts [] f e = halted_here _ Syntax [] f (err_is _ f e)
   escape_halts (b ∷ bytes) f e =
       ⊎_elim
-      (λ h. halted_cons (escape_at most) opened b bytes f (λ zs. rw h.0 refl) (open_brace ∷ digit_zero ∷ close_brace ∷ [], 0, opened_read) (opened_halts bytes f h.1))
+      (λ h. halted_cons (escape_at most) opened b bytes f (λ zs. rw h.0 refl) (open_brace ∷ digit_zero ∷ close_brace ∷ [], 0, opened_read)
+          (opened_halts bytes f h.1))
       (λ h. halted_here _ Syntax (b ∷ bytes) f (or_stuck (escape_of b) bytes (b ∷ bytes) f h.1))
       (chosen (eqb b letter_x) _ _ (Err f) e)
 
@@ -203,6 +204,7 @@ module _ (close most : ℕ) (small : close < 128) (low : 127 ≤ most) (high : 1
       (λ s. behind_next over n bytes s.0.0 s.0.1 f (within_halts over n) s.1 s.2)
       (bind_err (next_point_at close most bytes) (λ x. points_after (characters_at over close most n) x) f e)
 
+-- Where the reading of characters between quotes halts, what it took goes on to such characters.
 pub characters_halts : (over : Why) (close most n : ℕ) → close < 128 → close ≢ backslash → 127 ≤ most → (128 ≤ most → most ≡ most_point)
     → Halts (characters_at over close most n) (AreWithin close most n)
 characters_halts over close most n small slash low high = within_halts close most small low high over n

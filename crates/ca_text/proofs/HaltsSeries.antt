@@ -33,7 +33,8 @@ module _ {B : Type 0} (IsPart : List ℕ → List B → Type 0) (Are : ℕ → L
       let before = skipped p.0 in
       let behind = skipped p.2.0 in
       let taken = p.1.text ++ (before.blanks ++ comma ∷ behind.blanks) in
-      let whole = with_comma bytes p.1.text p.0 before.blanks (skip p.0) p.2.0 behind.blanks after (skip p.2.0) p.1.whole before.whole p.2.1 behind.whole p.2.2 in
+      let whole = with_comma bytes p.1.text p.0 before.blanks (skip p.0) p.2.0 behind.blanks after
+          (skip p.2.0) p.1.whole before.whole p.2.1 behind.whole p.2.2 in
       let further : (text : List ℕ) (bs : List B) → Are n text bs → Are (suc n) (taken ++ text) (b ++ bs) = λ text bs are.
       let same : p.1.text ++ (before.blanks ++ comma ∷ (behind.blanks ++ text)) ≡ taken ++ text = simp append_assoc in
       subst (λ x. Are (suc n) x (b ++ bs)) same (another n p.1.text before.blanks behind.blanks text b bs p.1.is before.are behind.are are) in

@@ -106,7 +106,9 @@ module _ (limits : Limits) (levels : ℕ) (element : List ℕ → Read Tree) (so
       let whole : open_brace ∷ bytes ≡ (open_brace ∷ blanks) ++ inner = ap (λ x. open_brace ∷ x) gap in
       halted_whole (IsTextOf limits (suc levels)) (open_brace ∷ bytes) ((open_brace ∷ blanks) ++ inner) f whole (tuple_inner blanks inner f are none e)
 
-  pub tuple_halts : (bytes : List ℕ) (f : Fault) → tuple_at element limits.elements (skip bytes) ≡ Err f → Halted (IsTextOf limits (suc levels)) (open_brace ∷ bytes) f
+  -- Where the reading of a tuple halts, what it took goes on to a text of one.
+  pub tuple_halts : (bytes : List ℕ) (f : Fault) → tuple_at element limits.elements (skip bytes) ≡ Err f
+      → Halted (IsTextOf limits (suc levels)) (open_brace ∷ bytes) f
   tuple_halts bytes f e =
       let gap = skipped bytes in
       ⊎_elim (tuple_from bytes gap.blanks (skip bytes) f gap.whole gap.are) (λ h. let k = h.2 in absurd cc)
@@ -131,7 +133,8 @@ module _ (limits : Limits) (levels : ℕ) (element : List ℕ → Read Tree) (so
     pub is : IsTextOf limits (suc levels) last tail
     pub are : AreBlanks blanks
 
-  last_of : (last blanks : List ℕ) (tail : Tree) → IsTextOf limits (suc levels) last tail → AreBlanks blanks → IsLast (last ++ (blanks ++ close_bracket ∷ [])) tail
+  last_of : (last blanks : List ℕ) (tail : Tree) → IsTextOf limits (suc levels) last tail → AreBlanks blanks
+      → IsLast (last ++ (blanks ++ close_bracket ∷ [])) tail
   last_of last blanks tail is are = record { last = last; blanks = blanks; whole = refl; is = is; are = are }
 
   bar : (after text : List ℕ) (tail : Tree) → AreBlanks after → IsLast text tail → IsEnding (vertical_bar ∷ (after ++ text)) tail
@@ -141,7 +144,8 @@ module _ (limits : Limits) (levels : ℕ) (element : List ℕ → Read Tree) (so
 
   -- behind a last tail and blanks the closing bracket goes on
   tail_goes : (last blanks : List ℕ) (tail : Tree) → IsTextOf limits (suc levels) last tail → AreBlanks blanks → GoesOn IsLast (last ++ blanks)
-  tail_goes last blanks tail is are = (close_bracket ∷ [], tail, subst (λ x. IsLast x tail) (sym (append_assoc last blanks (close_bracket ∷ []))) (last_of last blanks tail is are))
+  tail_goes last blanks tail is are = (close_bracket ∷ [], tail, subst (λ x. IsLast x tail) (sym (append_assoc last blanks (close_bracket ∷ [])))
+      (last_of last blanks tail is are))
 
   module _ (other : List ℕ → Read Tree) (others_sound : ReadsTerms limits (suc levels) other) (others_halt : Halts other (IsTextOf limits (suc levels))) where
     -- a last tail that was read, and no closing bracket behind it
@@ -161,16 +165,19 @@ module _ (limits : Limits) (levels : ℕ) (element : List ℕ → Read Tree) (so
     closed_halts : (bytes : List ℕ) (f : Fault) → closed (other bytes) ≡ Err f → Halted IsLast bytes f
     closed_halts bytes f e =
         ⊎_elim
-        (λ h. halted_map (IsTextOf limits (suc levels)) IsLast bytes f (others_halt bytes f h) (λ part t is. (close_bracket ∷ [], t, last_of part [] t is refl)))
+        (λ h. halted_map (IsTextOf limits (suc levels)) IsLast bytes f (others_halt bytes f h)
+            (λ part t is. (close_bracket ∷ [], t, last_of part [] t is refl)))
         (λ h. unclosed bytes h.0.1 h.0.0 f ((others_sound bytes).is h.0 h.1) h.2)
         (bind_err (other bytes) (λ x. expect close_bracket (skip x.1) >>= λ rest. Ok (Last x.0 rest)) f e)
 
-    inner_halts : (bytes blanks inner : List ℕ) (f : Fault) → bytes ≡ blanks ++ inner → AreBlanks blanks → inner_at inner ≡ Err f → Halted IsLast (open_bracket ∷ bytes) f
+    inner_halts : (bytes blanks inner : List ℕ) (f : Fault) → bytes ≡ blanks ++ inner → AreBlanks blanks → inner_at inner ≡ Err f
+        → Halted IsLast (open_bracket ∷ bytes) f
     inner_halts bytes blanks [] f gap are e = absurd cc
     inner_halts bytes blanks (b ∷ inner) f gap are e =
         ⊎_elim
         (λ h. let same : b ∷ inner ≡ (close_bracket ∷ []) ++ inner = ap (λ x. x ∷ inner) (eqb-true b close_bracket h.0) in
-        let whole : open_bracket ∷ bytes ≡ (open_bracket ∷ blanks ++ close_bracket ∷ []) ++ inner = ap (λ x. open_bracket ∷ x) (with_front_blanks bytes blanks (b ∷ inner) (close_bracket ∷ []) inner gap same) in
+        let whole : open_bracket ∷ bytes ≡ (open_bracket ∷ blanks ++ close_bracket ∷ []) ++ inner =
+            ap (λ x. open_bracket ∷ x) (with_front_blanks bytes blanks (b ∷ inner) (close_bracket ∷ []) inner gap same) in
         unclosed (open_bracket ∷ bytes) inner Nil f (record {
           text = open_bracket ∷ blanks ++ close_bracket ∷ [];
           whole = whole;
@@ -252,18 +259,23 @@ module _ (limits : Limits) (levels : ℕ) (element : List ℕ → Read Tree) (so
         (λ rest t are. ([], t, subst (λ x. IsEnding (taken ++ x) t) (sym (append-nil rest)) (made rest t are)))))
 
     -- a list in brackets as the last tail, of which so many bytes were taken
-    inner_last : (blanks rest : List ℕ) (t : Tree) → AreBlanks blanks → AreCells limits levels rest t → IsLast ((open_bracket ∷ blanks ++ rest) ++ close_bracket ∷ []) t
+    inner_last : (blanks rest : List ℕ) (t : Tree) → AreBlanks blanks → AreCells limits levels rest t
+        → IsLast ((open_bracket ∷ blanks ++ rest) ++ close_bracket ∷ []) t
     inner_last blanks rest t are cells = last_of (open_bracket ∷ blanks ++ rest) [] t (AList limits levels blanks rest t are cells) refl
 
     inner_ending : (after blanks rest : List ℕ) (t : Tree) → AreBlanks after → AreBlanks blanks → AreCells limits levels rest t
         → IsEnding ((vertical_bar ∷ (after ++ open_bracket ∷ blanks)) ++ (rest ++ close_bracket ∷ [])) t
     inner_ending after blanks rest t one two cells =
-        let same : after ++ ((open_bracket ∷ blanks ++ rest) ++ close_bracket ∷ []) ≡ (after ++ open_bracket ∷ blanks) ++ (rest ++ close_bracket ∷ []) = simp append_assoc in
-        subst (λ x. IsEnding (vertical_bar ∷ x) t) same (bar after ((open_bracket ∷ blanks ++ rest) ++ close_bracket ∷ []) t one (inner_last blanks rest t two cells))
+        let same : after ++ ((open_bracket ∷ blanks ++ rest) ++ close_bracket ∷ []) ≡ (after ++ open_bracket ∷ blanks) ++ (rest ++ close_bracket ∷ []) =
+            simp append_assoc in
+        subst (λ x. IsEnding (vertical_bar ∷ x) t) same
+            (bar after ((open_bracket ∷ blanks ++ rest) ++ close_bracket ∷ []) t one (inner_last blanks rest t two cells))
 
-    empty_ending : (after blanks : List ℕ) → AreBlanks after → AreBlanks blanks → IsEnding ((vertical_bar ∷ (after ++ open_bracket ∷ blanks)) ++ close_bracket ∷ close_bracket ∷ []) Nil
+    empty_ending : (after blanks : List ℕ) → AreBlanks after → AreBlanks blanks
+        → IsEnding ((vertical_bar ∷ (after ++ open_bracket ∷ blanks)) ++ close_bracket ∷ close_bracket ∷ []) Nil
     empty_ending after blanks one two =
-        let same : after ++ ((open_bracket ∷ blanks ++ close_bracket ∷ []) ++ close_bracket ∷ []) ≡ (after ++ open_bracket ∷ blanks) ++ close_bracket ∷ close_bracket ∷ [] = simp append_assoc in
+        let same : after ++ ((open_bracket ∷ blanks ++ close_bracket ∷ []) ++ close_bracket ∷ []) ≡ (after ++ open_bracket ∷ blanks)
+            ++ close_bracket ∷ close_bracket ∷ [] = simp append_assoc in
         subst (λ x. IsEnding (vertical_bar ∷ x) Nil) same (bar after ((open_bracket ∷ blanks ++ close_bracket ∷ []) ++ close_bracket ∷ []) Nil one
         (last_of (open_bracket ∷ blanks ++ close_bracket ∷ []) [] Nil (ANil limits levels blanks two) refl))
 
@@ -276,7 +288,8 @@ module _ (limits : Limits) (levels : ℕ) (element : List ℕ → Read Tree) (so
         let blanks = skipped bracket in
         let taken : List ℕ = vertical_bar ∷ (behind.blanks ++ open_bracket ∷ blanks.blanks) in
         let whole : skip r ≡ taken ++ after =
-        bar ∙ ap (λ x. vertical_bar ∷ x) (behind.whole ∙ ap (λ x. behind.blanks ++ x) (opens ∙ ap (λ x. open_bracket ∷ x) (blanks.whole ∙ ap (λ x. blanks.blanks ++ x) gap))
+        bar ∙ ap (λ x. vertical_bar ∷ x) (behind.whole
+            ∙ ap (λ x. behind.blanks ++ x) (opens ∙ ap (λ x. open_bracket ∷ x) (blanks.whole ∙ ap (λ x. blanks.blanks ++ x) gap))
         ∙ sym (append_assoc behind.blanks (open_bracket ∷ blanks.blanks) after)) in
         ended bytes r head f first (halted_whole IsEnding (skip r) (taken ++ after) f whole (halted_behind (AreCells limits levels) IsEnding taken after f h
         (close_bracket ∷ close_bracket ∷ [], Nil, empty_ending behind.blanks blanks.blanks behind.are blanks.are)
@@ -299,7 +312,8 @@ module _ (limits : Limits) (levels : ℕ) (element : List ℕ → Read Tree) (so
         sym (append_assoc behind.blanks (last.text ++ gap.blanks) goes.0) in
         ended bytes r head f first (halted_whole IsEnding (skip r) (taken ++ skip after) f whole
         (halted_at IsEnding Syntax taken (skip after) f (expect_halts close_bracket (skip after) f e)
-        (goes.0, goes.1, subst (λ x. IsEnding (vertical_bar ∷ x) goes.1) same (bar behind.blanks ((last.text ++ gap.blanks) ++ goes.0) goes.1 behind.are goes.2))))
+        (goes.0, goes.1, subst (λ x. IsEnding (vertical_bar ∷ x) goes.1) same
+            (bar behind.blanks ((last.text ++ gap.blanks) ++ goes.0) goes.1 behind.are goes.2))))
 
     cells_behind : (cells : List ℕ → Read Tree) (bytes r : List ℕ) (head : Tree) (next : Next) (f : Fault) → Halts cells (AreCells limits levels)
         → Takes (AreCells limits levels) cells
@@ -358,7 +372,9 @@ module _ (limits : Limits) (levels : ℕ) (element : List ℕ → Read Tree) (so
     bracketed_halts (b ∷ bytes) f e =
         ⊎_elim
         (λ h. let gap = skipped bytes in
-        let whole : b ∷ bytes ≡ (open_bracket ∷ gap.blanks) ++ skip bytes = ap (λ x. x ∷ bytes) (eqb-true b open_bracket h.0) ∙ ap (λ x. open_bracket ∷ x) gap.whole in
-        halted_whole (IsTextOf limits (suc levels)) (b ∷ bytes) ((open_bracket ∷ gap.blanks) ++ skip bytes) f whole (list_inner gap.blanks (skip bytes) f gap.are h.1))
+        let whole : b ∷ bytes ≡ (open_bracket ∷ gap.blanks) ++ skip bytes = ap (λ x. x ∷ bytes) (eqb-true b open_bracket h.0)
+            ∙ ap (λ x. open_bracket ∷ x) gap.whole in
+        halted_whole (IsTextOf limits (suc levels)) (b ∷ bytes) ((open_bracket ∷ gap.blanks) ++ skip bytes) f whole
+            (list_inner gap.blanks (skip bytes) f gap.are h.1))
         (λ h. others_halt (b ∷ bytes) f h.1)
         (chosen (eqb b open_bracket) _ _ (Err f) e)

@@ -18,6 +18,7 @@ pub record IsSkipped (bytes rest : List ℕ) : Type 0 where
   pub whole : bytes ≡ blanks ++ rest
   pub are : AreBlanks blanks
 
+-- What is skipped are blanks.
 pub skipped : (bytes : List ℕ) → IsSkipped bytes (skip bytes)
 unfolding skip
 skipped [] = record { blanks = []; whole = refl; are = refl }
@@ -50,7 +51,7 @@ pub record AreDigitsAt (most n : ℕ) (bytes : List ℕ) (value : ℕ) (rest : L
   pub bounded : n ≤ most → value ≤ most
   pub ends : EndsDigits rest
 
-pub digits_taken : (most n : ℕ) (bytes : List ℕ) (value : ℕ) (rest : List ℕ) → digits_after most n bytes ≡ Ok (value, rest)
+digits_taken : (most n : ℕ) (bytes : List ℕ) (value : ℕ) (rest : List ℕ) → digits_after most n bytes ≡ Ok (value, rest)
     → AreDigitsAt most n bytes value rest
 unfolding digits_after
 digits_taken most n [] value rest e =
@@ -93,6 +94,7 @@ number_some most b bytes [] value rest h whole all worth bound ends = let no : i
 number_some most b bytes (d ∷ digits) value rest h whole all worth bound ends =
     record { digits = d ∷ digits; whole = whole; numeral = (omega arith, all); value_is = worth; bounded = bound; ends = ends }
 
+-- What is read as a number is a numeral of that value.
 pub number_taken : (most : ℕ) (bytes : List ℕ) (value : ℕ) (rest : List ℕ) → number_at most bytes ≡ Ok (value, rest) → IsNumberAt most bytes value rest
 unfolding number_at
 number_taken most [] value rest e = absurd cc
@@ -101,6 +103,7 @@ number_taken most (b ∷ bytes) value rest e =
     let r = digits_taken most 0 (b ∷ bytes) value rest g.1 in
     number_some most b bytes r.digits value rest g.0 r.whole r.all r.value_is (r.bounded (omega arith)) r.ends
 
+-- A text to which no byte belongs is whole before anything.
 pub whole_by : (text rest : List ℕ) → ((b : ℕ) → takes_in text b ≡ false) → IsWhole text rest
 whole_by text [] h = tt
 whole_by text (b ∷ rest) h = h b
@@ -115,7 +118,7 @@ whole_digits c text (b ∷ rest) h e = number_whole c b text h e
 digit_not_letter : (b : ℕ) → digit_value b < 10 → is_ascii_lowercase b ≡ false
 digit_not_letter b h = grind (arith, nat_tests)
 
-pub whole_numeral : (digits rest : List ℕ) → IsNumeral 10 digits → EndsDigits rest → IsWhole digits rest
+whole_numeral : (digits rest : List ℕ) → IsNumeral 10 digits → EndsDigits rest → IsWhole digits rest
 whole_numeral [] rest n ends = absurd (omega (arith, n.0))
 whole_numeral (d ∷ digits) rest n ends = whole_digits d digits rest (digit_not_letter d n.1.0) ends
 
@@ -149,12 +152,14 @@ integer_taken (b ∷ bytes) =
       ends = whole_numeral r.digits x.1 r.numeral r.ends;
     })))
 
+-- The characters that are counted are those of a name.
 pub names_all : (bytes : List ℕ) → list_all is_name_char (take (name_length bytes) bytes) ≡ true
 unfolding name_length
 names_all [] = refl
 names_all (b ∷ bytes) =
     ⊎_elim (λ h. rw (h.0, h.0, names_all bytes) refl) (λ h. rw h.0 refl) (chosen (is_name_char b) true false (cond (is_name_char b) true false) refl)
 
+-- No character of a name stands behind those that are counted.
 pub names_end : (bytes : List ℕ) → EndsName (drop (name_length bytes) bytes)
 unfolding name_length
 names_end [] = tt

@@ -243,7 +243,8 @@ first_byte c is =
     ⊎_elim (λ h. inl (h, one c h))
     (λ h. inr (⊎_elim
     (λ i. (h, 192 + c / 64, _, two c h i, omega arith, omega arith))
-    (λ i. ⊎_elim (λ j. (h, 224 + c / 4096, _, three c i j, omega arith, omega arith)) (λ j. (h, 240 + c / 262144, _, four c j, omega arith, omega arith)) (cases_lt c 65536))
+    (λ i. ⊎_elim (λ j. (h, 224 + c / 4096, _, three c i j, omega arith, omega arith)) (λ j. (h, 240 + c / 262144, _, four c j, omega arith, omega arith))
+        (cases_lt c 65536))
     (cases_lt c 2048)))
     (cases_lt c 128)
 

@@ -30,7 +30,8 @@ module _ (raises : Why → Bool) (plain : raises Syntax ≡ false) where
   abbrev after_comma : ℕ → ℕ → List ℕ → Read Bool
   after_comma n b bytes = if n == 0 then fault TooWide (b ∷ bytes) else Ok (true, skip bytes)
 
-  comma_beside : (n m b : ℕ) (bytes : List ℕ) → Grown raises TooWide n m → Beside raises behind (length (b ∷ bytes)) (after_comma n b bytes) (after_comma m b bytes)
+  comma_beside : (n m b : ℕ) (bytes : List ℕ) → Grown raises TooWide n m
+      → Beside raises behind (length (b ∷ bytes)) (after_comma n b bytes) (after_comma m b bytes)
   comma_beside n m b bytes g =
       let short = skip_shorter bytes in
       either_way (raises TooWide)
@@ -95,7 +96,8 @@ module _ (raises : Why → Bool) (plain : raises Syntax ≡ false) where
     tail_beside : (bytes : List ℕ) → Beside raises rest_of (length bytes) (tail_at other bytes) (tail_at others bytes)
     unfolding tail_at
     tail_beside [] = closed_beside (beside [])
-    tail_beside (b ∷ bytes) = if_beside (eqb b open_bracket) (λ h. beside_more (omega arith) (skip_beside inner_beside bytes)) (λ h. closed_beside (beside (b ∷ bytes)))
+    tail_beside (b ∷ bytes) = if_beside (eqb b open_bracket) (λ h. beside_more (omega arith) (skip_beside inner_beside bytes))
+        (λ h. closed_beside (beside (b ∷ bytes)))
 
     next_beside : (bytes : List ℕ) → Beside raises rest_of (length bytes) (next_at other bytes) (next_at others bytes)
     unfolding next_at
@@ -103,7 +105,8 @@ module _ (raises : Why → Bool) (plain : raises Syntax ≡ false) where
     next_beside (b ∷ bytes) =
         if_beside (eqb b comma) (λ h. ok_beside (omega (arith, skip_shorter bytes))) (λ h.
         if_beside (eqb b close_bracket) (λ i. ok_beside (omega arith)) (λ i.
-        if_beside (eqb b vertical_bar) (λ j. beside_more (omega arith) (skip_beside tail_beside bytes)) (λ j. syntax_beside raises plain (b ∷ bytes) (omega arith))))
+        if_beside (eqb b vertical_bar) (λ j. beside_more (omega arith) (skip_beside tail_beside bytes))
+            (λ j. syntax_beside raises plain (b ∷ bytes) (omega arith))))
 
     module _ (element wide : List ℕ → Read Tree) (each : ReadsBeside raises element wide) where
       cell_beside : (bytes : List ℕ) → Beside raises (λ x. rest_of x.1) (length bytes) (cell_step element other bytes) (cell_step wide others bytes)
@@ -154,7 +157,8 @@ module _ (raises : Why → Bool) (plain : raises Syntax ≡ false) where
   points_beside (suc levels) (suc deeper) g bytes = bind_beside _ _ (string_beside raises plain most_point bytes) (λ x. ok_beside (omega arith))
 
   quoted_beside : (most more : ℕ) → Grown raises AtomTooLong most more → ReadsBeside raises (quoted_at most) (quoted_at more)
-  quoted_beside most more g bytes = bind_beside _ _ (characters_beside raises plain AtomTooLong single_quote most_point most more g bytes) (λ x. ok_beside (omega arith))
+  quoted_beside most more g bytes = bind_beside _ _ (characters_beside raises plain AtomTooLong single_quote most_point most more g bytes)
+      (λ x. ok_beside (omega arith))
 
   atom_beside : (most more : ℕ) → Grown raises AtomTooLong most more → ReadsBeside raises (atom_at most) (atom_at more)
   atom_beside most more g bytes = bind_beside _ _ (name_beside raises plain most more g bytes) (λ x. ok_beside (omega arith))
@@ -240,7 +244,8 @@ module _ (limits : Limits) (levels : ℕ) where
       (never_grown AtomTooLong limits.characters)
       (never_grown TooDeep levels) each
 
-  past_other : 0 < limits.characters → (b : ℕ) (bytes : List ℕ) → begins_term b ≡ true → eqb b open_bracket ≡ false → Past behind (length (b ∷ bytes)) (other (b ∷ bytes))
+  past_other : 0 < limits.characters → (b : ℕ) (bytes : List ℕ) → begins_term b ≡ true → eqb b open_bracket ≡ false
+      → Past behind (length (b ∷ bytes)) (other (b ∷ bytes))
   unfolding other_at
   past_other some b bytes begins apart =
       either_way (eqb b open_brace)

@@ -22,7 +22,7 @@ with_end : (bytes text r blanks s closing rest : List ℕ) → bytes ≡ text ++
 with_end bytes text r blanks s closing rest e f g = rw (e, f, g) (simp append_assoc)
 
 -- A part, blanks, a byte, blanks, and the rest.
-pub with_more : (c : ℕ) (bytes text r before s tail after u others rest : List ℕ) → bytes ≡ text ++ r → r ≡ before ++ s → s ≡ c ∷ tail → tail ≡ after ++ u
+with_more : (c : ℕ) (bytes text r before s tail after u others rest : List ℕ) → bytes ≡ text ++ r → r ≡ before ++ s → s ≡ c ∷ tail → tail ≡ after ++ u
     → u ≡ others ++ rest
     → bytes ≡ (text ++ (before ++ c ∷ (after ++ others))) ++ rest
 with_more c bytes text r before s tail after u others rest e f g h i = rw (e, f, g, h, i) (simp append_assoc)
@@ -49,7 +49,8 @@ module _ {B : Type 0} (IsPart : List ℕ → List B → Type 0) (Are : ℕ → L
     (step : ℕ → List ℕ → Read (List B × Bool))
     (step_taken : (n : ℕ) (bytes : List ℕ)
         → Yields (λ (x : (List B × Bool) × List ℕ). IsStep IsPart closing bytes x.0.0 x.0.1 x.1) (step n bytes)) where
-  rest_taken : (n : ℕ) (bytes : List ℕ) (part : List B) (more : Bool) (rest : List ℕ) → Takes (Are n) (series_at step n) → IsStep IsPart closing bytes part more rest
+  rest_taken : (n : ℕ) (bytes : List ℕ) (part : List B) (more : Bool) (rest : List ℕ) → Takes (Are n) (series_at step n)
+      → IsStep IsPart closing bytes part more rest
       → Yields (λ (x : List B × List ℕ). Stands (Are (suc n)) bytes x.0 x.1) (series_rest part (series_at step n) more rest)
   rest_taken n bytes part true rest later p = bind_yields _ (later rest) (λ x others.
       let before = skipped p.0 in
@@ -69,7 +70,7 @@ module _ {B : Type 0} (IsPart : List ℕ → List B → Type 0) (Are : ℕ → L
       })
 
   -- Parts that are read one after another are so.
-  pub series_taken : (n : ℕ) → Takes (Are n) (series_at step n)
+  series_taken : (n : ℕ) → Takes (Are n) (series_at step n)
   unfolding series_at
   series_taken zero bytes = err_yields
   series_taken (suc n) bytes = bind_yields _ (step_taken n bytes) (λ x p. rest_taken n bytes x.0.0 x.0.1 x.1 (series_taken n) p)
@@ -98,7 +99,8 @@ unfolding segment_at
 segment_taken [] = one_byte_taken []
 segment_taken (b ∷ bytes) =
     if_yields (eqb b double_quote)
-    (λ h. map_yields (characters_taken double_quote most_shown (omega arith) (omega arith) (λ x. absurd (omega arith)) Syntax (length bytes) bytes) (λ x r. record {
+    (λ h. map_yields (characters_taken double_quote most_shown (omega arith) (omega arith) (λ x. absurd (omega arith)) Syntax (length bytes) bytes)
+        (λ x r. record {
       text = double_quote ∷ r.text;
       whole = λ i. eqb-true b double_quote h i ∷ r.whole i;
       is = Shown r.text x.0 r.characters (shown_ascii x.0 r.points);
@@ -106,7 +108,7 @@ segment_taken (b ∷ bytes) =
     (λ h. one_byte_taken (b ∷ bytes))
 
 -- What follows a segment is a comma, or the closing brackets.
-pub after_segment_taken : (bytes : List ℕ) → Yields (λ (x : Bool × List ℕ). IsAfter (close_angle ∷ close_angle ∷ []) bytes x.0 x.1) (after_segment_at bytes)
+after_segment_taken : (bytes : List ℕ) → Yields (λ (x : Bool × List ℕ). IsAfter (close_angle ∷ close_angle ∷ []) bytes x.0 x.1) (after_segment_at bytes)
 unfolding after_segment_at
 after_segment_taken [] = err_yields
 after_segment_taken (b ∷ bytes) =
@@ -124,7 +126,8 @@ segment_step_taken n bytes = bind_yields _ (segment_taken bytes) (λ x s. bind_y
 
 -- What are read as segments are segments.
 segments_taken : (n : ℕ) → Takes AreSegments (series_at segment_step n)
-segments_taken n = series_taken IsSegment (λ n. AreSegments) (close_angle ∷ close_angle ∷ []) (λ n. LastSegment) (λ n. MoreSegments) segment_step segment_step_taken n
+segments_taken n = series_taken IsSegment (λ n. AreSegments) (close_angle ∷ close_angle ∷ []) (λ n. LastSegment) (λ n. MoreSegments)
+    segment_step segment_step_taken n
 
 -- ---- terms
 
@@ -171,7 +174,7 @@ module _ (limits : Limits) (levels : ℕ) where
       (λ x r. ok_yields (subst (λ y. IsTermAt limits (suc levels) (open_angle ∷ y) (Binary x.0) x.1) (sym e) r)))
 
 -- What follows an element is a comma, or the closing brace.
-pub after_element_taken : (n : ℕ) (bytes : List ℕ) → Yields (λ (x : Bool × List ℕ). IsAfter (close_brace ∷ []) bytes x.0 x.1) (after_element_at n bytes)
+after_element_taken : (n : ℕ) (bytes : List ℕ) → Yields (λ (x : Bool × List ℕ). IsAfter (close_brace ∷ []) bytes x.0 x.1) (after_element_at n bytes)
 unfolding after_element_at
 after_element_taken n [] = err_yields
 after_element_taken n (b ∷ bytes) =
@@ -210,7 +213,8 @@ module _ (limits : Limits) (levels : ℕ) (element : List ℕ → Read Tree) (so
       (λ y a. ok_yields (x.1, record { text = s.text; whole = s.whole; is = (x.0, refl, s.is) }, a)))
 
   -- An element and the closing brace.
-  pub last_most : (n : ℕ) (text blanks : List ℕ) (ts : List Tree) → IsElement text ts → AreBlanks blanks → AreMost (suc n) (text ++ (blanks ++ close_brace ∷ [])) ts
+  pub last_most : (n : ℕ) (text blanks : List ℕ) (ts : List Tree) → IsElement text ts → AreBlanks blanks
+      → AreMost (suc n) (text ++ (blanks ++ close_brace ∷ [])) ts
   last_most n text blanks ts is are =
       subst (AreMost (suc n) (text ++ (blanks ++ close_brace ∷ []))) (sym is.1) (LastElement limits levels text blanks is.0 is.2 are, omega arith)
 
@@ -222,18 +226,21 @@ module _ (limits : Limits) (levels : ℕ) (element : List ℕ → Read Tree) (so
       (MoreElements limits levels text before after rest is.0 (row_of us) is.2 one two are.0, omega (arith, are.1))
 
   elements_from : (bytes blanks inner : List ℕ) → bytes ≡ blanks ++ inner → AreBlanks blanks
-      → Yields (λ (x : List Tree × List ℕ). IsTermAt limits (suc levels) (open_brace ∷ bytes) (Tuple (row_of x.0)) x.1) (elements_at element limits.elements inner)
+      → Yields (λ (x : List Tree × List ℕ). IsTermAt limits (suc levels) (open_brace ∷ bytes) (Tuple (row_of x.0)) x.1)
+          (elements_at element limits.elements inner)
   unfolding elements_at
   elements_from bytes blanks [] gap are = err_yields
   elements_from bytes blanks (b ∷ inner) gap are =
       if_yields (eqb b close_brace)
       (λ h. ok_yields (record {
         text = open_brace ∷ blanks ++ close_brace ∷ [];
-        whole = ap (λ x. open_brace ∷ x) (with_front_blanks bytes blanks (b ∷ inner) (close_brace ∷ []) inner gap (ap (λ x. x ∷ inner) (eqb-true b close_brace h)));
+        whole = ap (λ x. open_brace ∷ x) (with_front_blanks bytes blanks (b ∷ inner) (close_brace ∷ []) inner gap
+            (ap (λ x. x ∷ inner) (eqb-true b close_brace h)));
         is = NoElements limits levels blanks are;
         ends = whole_by (open_brace ∷ blanks ++ close_brace ∷ []) inner (λ c. refl);
       }))
-      (λ h. map_yields (series_taken IsElement AreMost (close_brace ∷ []) last_most another_most (element_step element) element_step_taken limits.elements (b ∷ inner))
+      (λ h. map_yields (series_taken IsElement AreMost (close_brace ∷ []) last_most another_most (element_step element) element_step_taken limits.elements
+          (b ∷ inner))
       (λ x r. record {
         text = open_brace ∷ blanks ++ r.text;
         whole = ap (λ y. open_brace ∷ y) (with_front_blanks bytes blanks (b ∷ inner) r.text x.1 gap r.whole);
@@ -257,7 +264,8 @@ module _ (limits : Limits) (levels : ℕ) (element : List ℕ → Read Tree) (so
       ((t ≡ Nil) × (bytes ≡ close_bracket ∷ rest)) ⊎ ((tail after : List ℕ) × (bytes ≡ vertical_bar ∷ tail) × IsTermAt limits (suc levels) (skip tail) t after ×
       (skip after ≡ close_bracket ∷ rest))
 
-  closed_taken : (bytes tail : List ℕ) (r : Read Tree) → bytes ≡ vertical_bar ∷ tail → YieldsTerm limits (suc levels) (skip tail) r → Yields (IsNext bytes) (closed r)
+  closed_taken : (bytes tail : List ℕ) (r : Read Tree) → bytes ≡ vertical_bar ∷ tail → YieldsTerm limits (suc levels) (skip tail) r
+      → Yields (IsNext bytes) (closed r)
   closed_taken bytes tail r bar y =
       bind_yields _ y (λ x is. bind_yields _ (expect_yields close_bracket (skip x.1)) (λ rest e. ok_yields (inr (tail, x.1, bar, is, e))))
 
@@ -291,7 +299,8 @@ module _ (limits : Limits) (levels : ℕ) (element : List ℕ → Read Tree) (so
   module _ (other : List ℕ → Read Tree) (others_sound : ReadsTerms limits (suc levels) other) where
     tail_taken : (bytes tail rest : List ℕ) → bytes ≡ vertical_bar ∷ tail → skip tail ≡ rest → Yields (IsNext bytes) (tail_at other rest)
     unfolding tail_at
-    tail_taken bytes tail [] bar gap = closed_taken bytes tail (other []) bar (subst (λ x. YieldsTerm limits (suc levels) (skip tail) (other x)) gap (others_sound (skip tail)))
+    tail_taken bytes tail [] bar gap = closed_taken bytes tail (other []) bar
+        (subst (λ x. YieldsTerm limits (suc levels) (skip tail) (other x)) gap (others_sound (skip tail)))
     tail_taken bytes tail (b ∷ rest) bar gap =
         if_yields (eqb b open_bracket)
         (λ h. inner_taken bytes tail rest (skip rest) bar (gap ∙ ap (λ x. x ∷ rest) (eqb-true b open_bracket h)) refl)
@@ -402,7 +411,8 @@ closed_text _ _ _ (OneMore close c first rest cs is are) e = absurd cc
 module _ (limits : Limits) where
   quoted_taken : (levels : ℕ) (bytes : List ℕ) → YieldsTerm limits (suc levels) (single_quote ∷ bytes) (quoted_at limits.characters bytes)
   quoted_taken levels bytes =
-      bind_yields _ (characters_taken single_quote most_point (omega arith) (omega arith) (λ h. refl) AtomTooLong limits.characters bytes) (λ x r. ok_yields (record {
+      bind_yields _ (characters_taken single_quote most_point (omega arith) (omega arith) (λ h. refl) AtomTooLong limits.characters bytes)
+          (λ x r. ok_yields (record {
         text = single_quote ∷ r.text;
         whole = ap (λ y. single_quote ∷ y) r.whole;
         is = AnAtom limits levels (single_quote ∷ r.text) (encode_utf8_all x.0) (Quoted limits r.text x.0 r.characters r.few);
@@ -438,7 +448,8 @@ module _ (limits : Limits) where
       bind_yields _ (characters_taken double_quote most_point (omega arith) (omega arith) (λ h. refl) Syntax (length bytes) bytes)
       (λ x r. ok_yields (points_list levels r.text x.0 bytes x.1 r.characters r.whole))
 
-  atom_taken : (levels b : ℕ) (bytes : List ℕ) → is_ascii_lowercase b ≡ true → YieldsTerm limits (suc levels) (b ∷ bytes) (atom_at limits.characters (b ∷ bytes))
+  atom_taken : (levels b : ℕ) (bytes : List ℕ) → is_ascii_lowercase b ≡ true
+      → YieldsTerm limits (suc levels) (b ∷ bytes) (atom_at limits.characters (b ∷ bytes))
   atom_taken levels b bytes h = bind_yields _ (name_yields limits.characters b bytes h) (λ x r. ok_yields (record {
     text = x.0;
     whole = r.whole;
@@ -458,7 +469,8 @@ module _ (limits : Limits) where
   at_byte levels b c bytes r e y = subst (λ x. YieldsTerm limits levels (x ∷ bytes) r) (sym (eqb-true b c e)) y
 
   -- What is read as a term outside brackets is one.
-  pub other_taken : (levels : ℕ) (element : List ℕ → Read Tree) → ReadsTerms limits levels element → ReadsTerms limits (suc levels) (other_at limits element levels)
+  pub other_taken : (levels : ℕ) (element : List ℕ → Read Tree) → ReadsTerms limits levels element
+      → ReadsTerms limits (suc levels) (other_at limits element levels)
   unfolding other_at
   other_taken levels element sound [] = integer_term_taken levels []
   other_taken levels element sound (b ∷ bytes) =
