@@ -14,11 +14,13 @@ use Rattle.ca_text.specs.Inner.Reading.{expect, digits_after, number_at, integer
 use Rattle.ca_text.proofs.Tools.{both}
 use Rattle.ca_text.proofs.Numbers.{EndsDigits, EndsName}
 
+-- Blanks at the front are skipped, up to a byte that is none.
 pub skip_again : (blanks : List ℕ) (b : ℕ) (rest : List ℕ) → AreBlanks blanks → is_blank b ≡ false → skip (blanks ++ b ∷ rest) ≡ b ∷ rest
 unfolding skip
 skip_again [] b rest are h = rw h refl
 skip_again (c ∷ blanks) b rest are h = let t = both (is_blank c) (list_all is_blank blanks) are in rw t.0 (skip_again blanks b rest t.1 h)
 
+-- A byte that stands at the front is read.
 pub expect_again : (c : ℕ) (rest : List ℕ) → expect c (c ∷ rest) ≡ Ok rest
 unfolding expect
 expect_again c rest = let e : eqb c c ≡ true = grind (arith, nat_tests) in rw e refl
@@ -26,13 +28,14 @@ expect_again c rest = let e : eqb c c ≡ true = grind (arith, nat_tests) in rw 
 digit_parts : (d : ℕ) → digit_value d < 10 → (is_ascii_digit d ≡ true) × (digit_value d ≡ d - digit_zero)
 digit_parts d h = (grind (arith, nat_tests), grind (arith, nat_tests))
 
+-- Further digits make no number smaller.
 pub grows : (ds : List ℕ) (radix n : ℕ) → 0 < radix → n ≤ digits_value_after radix n ds
 grows [] radix n h = omega arith
 grows (d ∷ ds) radix n h =
     let one : n ≤ n * radix = omega (arith, mul-le-mul_left n h) in
     omega (arith, grows ds radix (n * radix + digit_value d) h, one)
 
-pub digits_again : (most n : ℕ) (ds rest : List ℕ) → AllDigits 10 ds → digits_value_after 10 n ds ≤ most → EndsDigits rest
+digits_again : (most n : ℕ) (ds rest : List ℕ) → AllDigits 10 ds → digits_value_after 10 n ds ≤ most → EndsDigits rest
     → digits_after most n (ds ++ rest) ≡ Ok (digits_value_after 10 n ds, rest)
 unfolding digits_after
 digits_again most n [] [] all bound ends = refl
@@ -44,13 +47,15 @@ digits_again most n (d ∷ ds) rest all bound ends =
     let fits : leb (n * 10 + digit_value d) most ≡ true = le-leb _ _ small in
     rw (p.0, step, fits) (digits_again most (n * 10 + digit_value d) ds rest all.1 bound ends)
 
+-- A numeral at the front that no digit follows is read.
 pub number_again : (most : ℕ) (ds rest : List ℕ) → IsNumeral 10 ds → digits_value 10 ds ≤ most → EndsDigits rest
     → number_at most (ds ++ rest) ≡ Ok (digits_value 10 ds, rest)
 unfolding number_at
 number_again most [] rest n bound ends = absurd (omega (arith, n.0))
 number_again most (d ∷ ds) rest n bound ends = rw (digit_parts d n.1.0).0 (digits_again most 0 (d ∷ ds) rest n.1 bound ends)
 
-ends_digits : (c : ℕ) (text rest : List ℕ) → is_ascii_lowercase c ≡ false → (is_ascii_digit c || eqb c minus_sign) ≡ true → IsWhole (c ∷ text) rest → EndsDigits rest
+ends_digits : (c : ℕ) (text rest : List ℕ) → is_ascii_lowercase c ≡ false → (is_ascii_digit c || eqb c minus_sign) ≡ true → IsWhole (c ∷ text) rest
+    → EndsDigits rest
 ends_digits c text [] low digit whole = tt
 ends_digits c text (b ∷ rest) low digit whole = rw (low, digit) at whole
 
@@ -66,6 +71,7 @@ positive_again (d ∷ ds) rest n bound whole =
     let read = number_again (2 ^ 63 - 1) (d ∷ ds) rest n (omega arith) (ends_digits d ds rest f.0 f.1 whole) in
     rw (f.2, read) refl
 
+-- An integer at the front that no digit follows is read.
 pub integer_again : (text : List ℕ) (n : ℤ) (rest : List ℕ) → IsInteger text n → IsWhole text rest → integer_at (text ++ rest) ≡ Ok (n, rest)
 unfolding integer_at
 integer_again _ _ rest (FromZero ds n bound) whole = positive_again ds rest n bound whole
@@ -75,6 +81,7 @@ ends_name : (c : ℕ) (text rest : List ℕ) → is_ascii_lowercase c ≡ true �
 ends_name c text [] low whole = tt
 ends_name c text (b ∷ rest) low whole = rw low at whole
 
+-- A name at the front is as long as its characters, if none follows.
 pub name_long : (cs rest : List ℕ) → list_all is_name_char cs ≡ true → EndsName rest → name_length (cs ++ rest) ≡ length cs
 unfolding name_length
 name_long [] [] all ends = refl
@@ -88,6 +95,7 @@ plain_all c cs h =
     let one : is_name_char c ≡ true = grind (arith, nat_tests) in
     (t.0, rw (one, t.1) refl)
 
+-- A plain atom at the front that no character of a name follows is read.
 pub name_again : (most c : ℕ) (cs rest : List ℕ) → has_plain_form (c ∷ cs) ≡ true → length (c ∷ cs) ≤ most → IsWhole (c ∷ cs) rest
     → name_at most ((c ∷ cs) ++ rest) ≡ Ok (c ∷ cs, rest)
 unfolding name_at

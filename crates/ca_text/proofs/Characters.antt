@@ -1,6 +1,6 @@
 -- What is read between quotes is what the characters there stand for.
-use Rattle.std.proofs.Common.{◌≡◌, ◌≢◌, ℕ, zero, suc, ◌+◌, ◌-◌, ◌*◌, ◌<◌, ◌≤◌, true, ltb, leb, eqb, ◌&&◌, List, [], ◌∷◌, ◌++◌, length, get_or, Option, None, Some, Ok, refl, sym, ap, subst, ◌∙◌, append_assoc, arith, ◌⊎◌, inl, inr, ⊎_elim}
-use Rattle.std.proofs.lemmas.Bool.{ltb-true, ltb-false, leb-true, eqb-true, eqb-false}
+use Rattle.std.proofs.Common.{◌≡◌, ◌≢◌, ℕ, zero, suc, ◌+◌, ◌-◌, ◌*◌, ◌<◌, ◌≤◌, true, ltb, leb, eqb, ◌&&◌, List, [], ◌∷◌, ◌++◌, length, get_or, Option, None, Some, refl, sym, ap, subst, ◌∙◌, append_assoc, arith, ⊎_elim}
+use Rattle.std.proofs.lemmas.Bool.{ltb-true, leb-true, eqb-true, eqb-false}
 use Rattle.std.proofs.lemmas.Bool.Decides.{nat_tests}
 use Rattle.std.specs.List.{list_all}
 use Rattle.std.specs.Char.{encode_utf8, IsScalar, is_ascii_hexdigit, digit_value}
@@ -9,18 +9,10 @@ use Rattle.std.specs.Str.Parse.{AllDigits, digits_value, digits_value_after}
 use Rattle.ca_text.specs.Bytes.{backslash, close_brace, letter_x, line_feed, open_brace}
 use Rattle.ca_text.specs.Grammar.{escape_of, IsCharacter, Itself, Escaped, Hexadecimal, AreCharacters, Closed, OneMore}
 use Rattle.ca_text.specs.declared.fault.Why.{Why}
-use Rattle.ca_text.specs.Inner.Reading.{expect, point_at, is_point, may_stand, hex_after, hex_at, or_fault, escape_at, begins_character, character_at, next_point_at, closing_at, points_after, characters_at, most_point}
-use Rattle.ca_text.proofs.Points.{IsPointOf, first_byte, point_taken}
-use Rattle.ca_text.proofs.Tools.{bind_ok, chosen, guarded, both, ok_is, pair_is}
-
-pub expect_taken : (c : ℕ) (bytes rest : List ℕ) → expect c bytes ≡ Ok rest → bytes ≡ c ∷ rest
-unfolding expect
-expect_taken c [] rest e = absurd cc
-expect_taken c (b ∷ bytes) rest e =
-    let g = guarded (eqb b c) _ (Ok bytes) rest e in
-    let same : b ≡ c = eqb-true b c g.0 in
-    let tail : bytes ≡ rest = ok_is bytes rest g.1 in
-    cc
+use Rattle.ca_text.specs.Inner.Reading.{is_point, may_stand, hex_after, hex_at, or_fault, escape_at, begins_character, character_at, next_point_at, closing_at, points_after, characters_at, most_point}
+use Rattle.ca_text.proofs.Points.{IsPointOf, first_byte, point_yields}
+use Rattle.ca_text.proofs.Tools.{both}
+use Rattle.ca_text.proofs.Yields.{Yields, ok_yields, err_yields, if_yields, map_yields, bind_yields, expect_yields}
 
 -- `\x{`, digits and `}` behind digits worth c
 pub record AreHexDigits (most more c : ℕ) (bytes : List ℕ) (value : ℕ) (rest : List ℕ) : Type 0 where
@@ -34,39 +26,44 @@ pub record AreHexDigits (most more c : ℕ) (bytes : List ℕ) (value : ℕ) (re
 is_hex : (b : ℕ) → is_ascii_hexdigit b ≡ true → digit_value b < 16
 is_hex b h = grind (arith, nat_tests)
 
-hex_after_taken : (bytes : List ℕ) (most more c value : ℕ) (rest : List ℕ) → hex_after most more c bytes ≡ Ok (value, rest)
-    → AreHexDigits most more c bytes value rest
+hex_after_taken : (bytes : List ℕ) (most more c : ℕ) → Yields (λ (x : ℕ × List ℕ). AreHexDigits most more c bytes x.0 x.1) (hex_after most more c bytes)
 unfolding hex_after
-hex_after_taken [] most more c value rest e = absurd cc
-hex_after_taken (b ∷ bytes) most more c value rest e =
-    ⊎_elim
-    (λ h. let g = guarded (may_stand most (more - 1) (c * 16 + digit_value b)) _ _ (value, rest) h.1 in
-    let t = both (is_ascii_hexdigit b) (ltb 0 more) h.0 in
+hex_after_taken [] most more c = err_yields
+hex_after_taken (b ∷ bytes) most more c =
+    if_yields (is_ascii_hexdigit b && ltb 0 more)
+    (λ h. let t = both (is_ascii_hexdigit b) (ltb 0 more) h in
     let some = ltb-true 0 more t.1 in
-    let r = hex_after_taken bytes most (more - 1) (c * 16 + digit_value b) value rest g.1 in
-    let whole : b ∷ bytes ≡ (b ∷ r.digits) ++ close_brace ∷ rest = let w = r.whole in cc in
-    let few : length (b ∷ r.digits) ≤ more = omega (arith, r.few) in
-    record { digits = b ∷ r.digits; whole = whole; all = (is_hex b t.0, r.all); few = few; value_is = r.value_is; point = r.point })
-    (λ h. let g = guarded (eqb b close_brace && is_point most c) _ (Ok (c, bytes)) (value, rest) h.1 in
-    let t = both (eqb b close_brace) (is_point most c) g.0 in
-    let p = pair_is c bytes value rest g.1 in
-    let same = eqb-true b close_brace t.0 in
-    let whole : b ∷ bytes ≡ [] ++ close_brace ∷ rest = let q = p.1 in cc in
-    record { digits = []; whole = whole; all = tt; few = omega arith; value_is = p.0; point = rw p.0 at t.1 })
-    (chosen (is_ascii_hexdigit b && ltb 0 more) _ _ (Ok (value, rest)) e)
+    if_yields (may_stand most (more - 1) (c * 16 + digit_value b))
+    (λ i. map_yields (hex_after_taken bytes most (more - 1) (c * 16 + digit_value b)) (λ x r. record {
+      digits = b ∷ r.digits;
+      whole = ap (λ y. b ∷ y) r.whole;
+      all = (is_hex b t.0, r.all);
+      few = omega (arith, r.few);
+      value_is = r.value_is;
+      point = r.point;
+    }))
+    (λ i. err_yields))
+    (λ h. if_yields (eqb b close_brace && is_point most c)
+    (λ i. let t = both (eqb b close_brace) (is_point most c) i in
+    ok_yields (record { digits = []; whole = ap (λ x. x ∷ bytes) (eqb-true b close_brace t.0); all = tt; few = omega arith; value_is = refl; point = t.1 }))
+    (λ i. err_yields))
 
-hex_taken : (most : ℕ) (bytes : List ℕ) (value : ℕ) (rest : List ℕ) → hex_at most bytes ≡ Ok (value, rest)
-    → (r : AreHexDigits most 6 0 bytes value rest) × (0 < length r.digits)
+hex_taken : (most : ℕ) (bytes : List ℕ)
+    → Yields (λ (x : ℕ × List ℕ). (r : AreHexDigits most 6 0 bytes x.0 x.1) × (0 < length r.digits)) (hex_at most bytes)
 unfolding hex_at
-hex_taken most [] value rest e = absurd cc
-hex_taken most (b ∷ bytes) value rest e =
-    let g = guarded (is_ascii_hexdigit b) _ _ (value, rest) e in
-    let r = hex_after_taken bytes most 5 (digit_value b) value rest g.1 in
-    let whole : b ∷ bytes ≡ (b ∷ r.digits) ++ close_brace ∷ rest = let w = r.whole in cc in
-    let few : length (b ∷ r.digits) ≤ 6 = omega (arith, r.few) in
+hex_taken most [] = err_yields
+hex_taken most (b ∷ bytes) =
     let start : 0 * 16 + digit_value b ≡ digit_value b = omega arith in
-    let worth : digits_value_after 16 0 (b ∷ r.digits) ≡ value = ap (λ c. digits_value_after 16 c r.digits) start ∙ r.value_is in
-    (record { digits = b ∷ r.digits; whole = whole; all = (is_hex b g.0, r.all); few = few; value_is = worth; point = r.point }, omega arith)
+    if_yields (is_ascii_hexdigit b)
+    (λ h. map_yields (hex_after_taken bytes most 5 (digit_value b)) (λ x r. (record {
+      digits = b ∷ r.digits;
+      whole = ap (λ y. b ∷ y) r.whole;
+      all = (is_hex b h, r.all);
+      few = omega (arith, r.few);
+      value_is = ap (λ c. digits_value_after 16 c r.digits) start ∙ r.value_is;
+      point = r.point;
+    }, omega arith)))
+    (λ h. err_yields)
 
 -- a character is read at the front
 pub record IsCharacterAt (close most : ℕ) (bytes : List ℕ) (c : ℕ) (rest : List ℕ) : Type 0 where
@@ -78,116 +75,20 @@ pub record IsCharacterAt (close most : ℕ) (bytes : List ℕ) (c : ℕ) (rest :
 escape_small : (most b c : ℕ) → 127 ≤ most → escape_of b ≡ Some c → is_point most c ≡ true
 escape_small most b c h e = grind (arith, nat_tests)
 
-or_fault_taken : (o : Option ℕ) (rest bytes : List ℕ) (c : ℕ) (after : List ℕ) → or_fault o rest bytes ≡ Ok (c, after) → (o ≡ Some c) × (rest ≡ after)
-or_fault_taken None rest bytes c after e = absurd cc
-or_fault_taken (Some d) rest bytes c after e = let p = pair_is d rest c after e in (ap Some p.0, p.1)
-
 point_scalar : (most c : ℕ) → is_point most c ≡ true → IsScalar c
 point_scalar most c e = let t = both (leb c most) (all_scalars (c ∷ [])) e in (both _ _ t.1).0
-
-escape_taken : (close most : ℕ) (bytes : List ℕ) (c : ℕ) (rest : List ℕ) → 127 ≤ most → escape_at most bytes ≡ Ok (c, rest)
-    → IsCharacterAt close most (backslash ∷ bytes) c rest
-unfolding escape_at
-escape_taken close most [] c rest h e = absurd cc
-escape_taken close most (b ∷ bytes) c rest h e =
-    ⊎_elim
-    (λ t. let same = eqb-true b letter_x t.0 in
-    let s = bind_ok (expect open_brace bytes) (λ rest. hex_at most rest) (c, rest) t.1 in
-    let opened = expect_taken open_brace bytes s.0 s.1 in
-    let r = hex_taken most s.0 c rest s.2 in
-    let worth : digits_value 16 r.0.digits ≡ c = r.0.value_is in
-    let spelled = append_assoc r.0.digits (close_brace ∷ []) rest in
-    let whole : backslash ∷ b ∷ bytes ≡ (backslash ∷ letter_x ∷ open_brace ∷ r.0.digits ++ close_brace ∷ []) ++ rest = let w = r.0.whole in cc in
-    let scalar : IsScalar (digits_value 16 r.0.digits) = rw worth (point_scalar most c r.0.point) in
-    let spells : IsCharacter close (backslash ∷ letter_x ∷ open_brace ∷ r.0.digits ++ close_brace ∷ []) (digits_value 16 r.0.digits) =
-    Hexadecimal close r.0.digits (r.1, r.0.all) r.0.few scalar in
-    record {
-      text = backslash ∷ letter_x ∷ open_brace ∷ r.0.digits ++ close_brace ∷ [];
-      whole = whole;
-      character = subst (λ n. IsCharacter close (backslash ∷ letter_x ∷ open_brace ∷ r.0.digits ++ close_brace ∷ []) n) worth spells;
-      point = r.0.point;
-    })
-    (λ t. let o = or_fault_taken (escape_of b) bytes (b ∷ bytes) c rest t.1 in
-    let whole : backslash ∷ b ∷ bytes ≡ (backslash ∷ b ∷ []) ++ rest = let w = o.1 in cc in
-    record { text = backslash ∷ b ∷ []; whole = whole; character = Escaped close b c o.0; point = escape_small most b c h o.0 })
-    (chosen (eqb b letter_x) _ _ (Ok (c, rest)) e)
 
 begins_parts : (close most b : ℕ) → begins_character close most b ≡ true → (b ≢ close) × (b ≢ line_feed) × (128 ≤ b → 128 ≤ most)
 begins_parts close most b h = (λ e. grind (arith, nat_tests), λ e. grind (arith, nat_tests), λ e. grind (arith, nat_tests))
 
+-- Code points are at most the last one.
 pub scalar_point : (c : ℕ) → IsScalar c → is_point most_point c ≡ true
 scalar_point c h = grind (arith, nat_tests)
 
--- a code point that begins with such a byte
-point_begins : (close most b : ℕ) (bytes : List ℕ) (c : ℕ) (rest : List ℕ) → begins_character close most b ≡ true → b ≢ backslash → close < 128 → 127 ≤ most
-    → (128 ≤ most → most ≡ most_point)
-    → IsPointOf (b ∷ bytes) c rest → (c ≢ close) × (c ≢ backslash) × (c ≢ line_feed) × (is_point most c ≡ true)
-point_begins close most b bytes c rest begins other small low high p =
-    let parts = begins_parts close most b begins in
-    ⊎_elim
-    (λ t. let same : b ≡ c = let w = p.whole in let s = t.1 in cc in
-    (λ e. parts.0 (same ∙ e), λ e. other (same ∙ e), λ e. parts.1 (same ∙ e), grind (arith, nat_tests)))
-    (λ t. let same : b ≡ t.1 = let w = p.whole in let s = t.3 in cc in
-    let most_is : most ≡ most_point = high (parts.2 (omega (arith, same, t.4))) in
-    (λ e. absurd (omega (arith, e, t.0)), λ e. absurd (omega (arith, e, t.0)), λ e. absurd (omega (arith, e, t.0)), rw most_is (scalar_point c p.scalar)))
-    (first_byte c p.scalar)
-
-pub character_taken : (close most : ℕ) (bytes : List ℕ) (c : ℕ) (rest : List ℕ) → close < 128 → 127 ≤ most → (128 ≤ most → most ≡ most_point)
-    → character_at close most bytes ≡ Ok (c, rest)
-    → IsCharacterAt close most bytes c rest
-unfolding character_at
-character_taken close most [] c rest small low high e = absurd cc
-character_taken close most (b ∷ bytes) c rest small low high e =
-    ⊎_elim
-    (λ t. let same = eqb-true b backslash t.0 in
-    let r = escape_taken close most bytes c rest low t.1 in
-    let whole : b ∷ bytes ≡ r.text ++ rest = let w = r.whole in cc in
-    record { text = r.text; whole = whole; character = r.character; point = r.point })
-    (λ t. let other = eqb-false b backslash t.0 in
-    let g = guarded (begins_character close most b) _ (point_at (b ∷ bytes)) (c, rest) t.1 in
-    let p = point_taken (b ∷ bytes) c rest g.1 in
-    let k = point_begins close most b bytes c rest g.0 other small low high p in
-    record { text = encode_utf8 c; whole = p.whole; character = Itself close c p.scalar k.0 k.1 k.2; point = k.3 })
-    (chosen (eqb b backslash) _ _ (Ok (c, rest)) e)
-
 -- no code point, or one, is read at the front
-pub next_taken : (close most : ℕ) (bytes : List ℕ) (c : ℕ) (rest : List ℕ) → close < 128 → 127 ≤ most → (128 ≤ most → most ≡ most_point)
-    → next_point_at close most bytes ≡ Ok (Some c, rest)
-    → IsCharacterAt close most bytes c rest
-unfolding next_point_at
-next_taken close most [] c rest small low high e = absurd cc
-next_taken close most (b ∷ bytes) c rest small low high e =
-    ⊎_elim (λ t. let p = pair_is _ _ _ _ t.1 in let q = p.0 in absurd cc)
-    (λ t. let s = bind_ok (character_at close most (b ∷ bytes)) (λ x. Ok (Some x.0, x.1)) (Some c, rest) t.1 in
-    let p = pair_is _ _ _ _ s.2 in
-    let c_is : s.0.0 ≡ c = let q = p.0 in cc in
-    let r = character_taken close most (b ∷ bytes) s.0.0 s.0.1 small low high s.1 in
-    record {
-      text = r.text;
-      whole = r.whole ∙ ap (λ (x : List ℕ). r.text ++ x) p.1;
-      character = subst (λ n. IsCharacter close r.text n) c_is r.character;
-      point = rw c_is at r.point;
-    })
-    (chosen (eqb b close) _ _ (Ok (Some c, rest)) e)
-
-none_taken : (close most : ℕ) (bytes rest : List ℕ) → next_point_at close most bytes ≡ Ok (None, rest) → bytes ≡ close ∷ rest
-unfolding next_point_at
-none_taken close most [] rest e = absurd cc
-none_taken close most (b ∷ bytes) rest e =
-    ⊎_elim
-    (λ t. let p = pair_is _ _ _ _ t.1 in let same = eqb-true b close t.0 in let q = p.1 in cc)
-    (λ t. let s = bind_ok (character_at close most (b ∷ bytes)) (λ x. Ok (Some x.0, x.1))
-    (None, rest) t.1 in let p = pair_is _ _ _ _ s.2 in let q = p.0 in absurd cc)
-    (chosen (eqb b close) _ _ (Ok (None, rest)) e)
-
-closing_taken : (over : Why) (close most : ℕ) (bytes rest : List ℕ) → closing_at over close most bytes ≡ Ok rest → bytes ≡ close ∷ rest
-unfolding closing_at
-closing_taken over close most [] rest e = absurd cc
-closing_taken over close most (b ∷ bytes) rest e =
-    ⊎_elim
-    (λ t. let same = eqb-true b close t.0 in let q = ok_is bytes rest t.1 in cc)
-    (λ t. ⊎_elim (λ u. absurd cc) (λ u. absurd cc) (chosen (begins_character close most b) _ _ (Ok rest) t.1))
-    (chosen (eqb b close) _ _ (Ok rest) e)
+abbrev pub IsNextPoint : ℕ → ℕ → List ℕ → Option ℕ → List ℕ → Type 0
+IsNextPoint close most bytes None rest = bytes ≡ close ∷ rest
+IsNextPoint close most bytes (Some c) rest = IsCharacterAt close most bytes c rest
 
 -- characters and the closing quote are read at the front
 pub record AreCharactersAt (close most n : ℕ) (bytes cs rest : List ℕ) : Type 0 where
@@ -197,63 +98,108 @@ pub record AreCharactersAt (close most n : ℕ) (bytes cs rest : List ℕ) : Typ
   pub points : list_all (is_point most) cs ≡ true
   pub few : length cs ≤ n
 
-characters_next : (over : Why) (close most n : ℕ) (bytes cs rest : List ℕ) (o : Option ℕ) (after : List ℕ) → close < 128 → 127 ≤ most
-    → (128 ≤ most → most ≡ most_point)
-    → ((bytes cs rest : List ℕ) → characters_at over close most n bytes ≡ Ok (cs, rest) → AreCharactersAt close most n bytes cs rest)
-    → next_point_at close most bytes ≡ Ok (o, after) → points_after (characters_at over close most n) (o, after) ≡ Ok (cs, rest)
-    → AreCharactersAt close most (suc n) bytes cs rest
-characters_next over close most n bytes cs rest None after small low high later e f =
-    let p = pair_is _ _ _ _ f in
-    let c = none_taken close most bytes after e in
-    record {
-      text = close ∷ [];
-      whole = c ∙ ap (λ x. close ∷ x) p.1;
-      characters = subst (λ x. AreCharacters close (close ∷ []) x) p.0 (Closed close);
-      points = rw (← p.0) refl;
-      few = rw (← p.0) (omega arith);
-    }
-characters_next over close most n bytes cs rest (Some c) after small low high later e f =
-    let s = bind_ok (characters_at over close most n after) (λ y. Ok (c ∷ y.0, y.1)) (cs, rest) f in
-    let p = pair_is _ _ _ _ s.2 in
-    let first = next_taken close most bytes c after small low high e in
-    let others = later after s.0.0 s.0.1 s.1 in
-    let whole : bytes ≡ (first.text ++ others.text) ++ rest =
-    first.whole ∙ ap (λ x. first.text ++ x) (others.whole ∙ ap (λ x. others.text ++ x) p.1) ∙ sym (append_assoc first.text others.text rest) in
-    let spells : AreCharacters close (first.text ++ others.text) (c ∷ s.0.0) = OneMore close c first.text others.text s.0.0 first.character others.characters in
-    let points : list_all (is_point most) (c ∷ s.0.0) ≡ true = rw (first.point, others.points) refl in
-    record {
-      text = first.text ++ others.text;
-      whole = whole;
-      characters = subst (λ x. AreCharacters close (first.text ++ others.text) x) p.0 spells;
-      points = subst (λ x. list_all (is_point most) x ≡ true) p.0 points;
-      few = rw (← p.0) (omega (arith, others.few));
-    }
+module _ (close most : ℕ) (small : close < 128) (low : 127 ≤ most) (high : 128 ≤ most → most ≡ most_point) where
+  hex_character : (bytes rest : List ℕ) (c : ℕ) (after : List ℕ) → bytes ≡ open_brace ∷ rest → (r : AreHexDigits most 6 0 rest c after) → 0 < length r.digits
+      → IsCharacterAt close most (backslash ∷ letter_x ∷ bytes) c after
+  hex_character bytes rest c after opened r some =
+      let spelled = append_assoc r.digits (close_brace ∷ []) after in
+      let scalar : IsScalar (digits_value 16 r.digits) = rw r.value_is (point_scalar most c r.point) in
+      record {
+        text = backslash ∷ letter_x ∷ open_brace ∷ r.digits ++ close_brace ∷ [];
+        whole = let w = r.whole in cc;
+        character = subst (IsCharacter close (backslash ∷ letter_x ∷ open_brace ∷ r.digits ++ close_brace ∷ [])) r.value_is
+            (Hexadecimal close r.digits (some, r.all) r.few scalar);
+        point = r.point;
+      }
 
-pub characters_taken : (over : Why) (close most n : ℕ) (bytes cs rest : List ℕ) → close < 128 → 127 ≤ most → (128 ≤ most → most ≡ most_point)
-    → characters_at over close most n bytes ≡ Ok (cs, rest)
-    → AreCharactersAt close most n bytes cs rest
-unfolding characters_at
-characters_taken over close most zero bytes cs rest small low high e =
-    let s = bind_ok (closing_at over close most bytes) (λ rest. Ok ([], rest)) (cs, rest) e in
-    let p = pair_is _ _ _ _ s.2 in
-    let c = closing_taken over close most bytes s.0 s.1 in
-    record {
-      text = close ∷ [];
-      whole = c ∙ ap (λ x. close ∷ x) p.1;
-      characters = subst (λ x. AreCharacters close (close ∷ []) x) p.0 (Closed close);
-      points = rw (← p.0) refl;
-      few = rw (← p.0) (omega arith);
-    }
-characters_taken over close most (suc n) bytes cs rest small low high e =
-    let s = bind_ok (next_point_at close most bytes) (λ x. points_after (characters_at over close most n) x) (cs, rest) e in
-    characters_next over close most n bytes cs rest s.0.0 s.0.1 small low high
-    (λ cs after r. characters_taken over close most n cs after r small low high) s.1 s.2
+  letter_taken : (b : ℕ) (bytes : List ℕ) (o : Option ℕ) → escape_of b ≡ o
+      → Yields (λ (x : ℕ × List ℕ). IsCharacterAt close most (backslash ∷ b ∷ bytes) x.0 x.1) (or_fault o bytes (b ∷ bytes))
+  letter_taken b bytes None e = err_yields
+  letter_taken b bytes (Some c) e = ok_yields (record { text = backslash ∷ b ∷ []; whole = refl; character = Escaped close b c e;
+      point = escape_small most b c low e })
+
+  escape_taken : (bytes : List ℕ) → Yields (λ (x : ℕ × List ℕ). IsCharacterAt close most (backslash ∷ bytes) x.0 x.1) (escape_at most bytes)
+  unfolding escape_at
+  escape_taken [] = err_yields
+  escape_taken (b ∷ bytes) =
+      if_yields (eqb b letter_x)
+      (λ t. bind_yields _ (expect_yields open_brace bytes) (λ rest opened. map_yields (hex_taken most rest) (λ x r.
+      subst (λ y. IsCharacterAt close most (backslash ∷ y ∷ bytes) x.0 x.1) (sym (eqb-true b letter_x t)) (hex_character bytes rest x.0 x.1 opened r.0 r.1))))
+      (λ t. letter_taken b bytes (escape_of b) refl)
+
+  -- a code point that begins with such a byte
+  point_begins : (b : ℕ) (bytes : List ℕ) (c : ℕ) (rest : List ℕ) → begins_character close most b ≡ true → b ≢ backslash → IsPointOf (b ∷ bytes) c rest
+      → IsCharacterAt close most (b ∷ bytes) c rest
+  point_begins b bytes c rest begins other p =
+      let parts = begins_parts close most b begins in
+      let itself : c ≢ close → c ≢ backslash → c ≢ line_feed → is_point most c ≡ true → IsCharacterAt close most (b ∷ bytes) c rest =
+      λ apart plain on point. record { text = encode_utf8 c; whole = p.whole; character = Itself close c p.scalar apart plain on; point = point } in
+      ⊎_elim
+      (λ t. let same : b ≡ c = let w = p.whole in let s = t.1 in cc in
+      itself (λ e. parts.0 (same ∙ e)) (λ e. other (same ∙ e)) (λ e. parts.1 (same ∙ e)) (grind (arith, nat_tests)))
+      (λ t. let same : b ≡ t.1 = let w = p.whole in let s = t.3 in cc in
+      let most_is : most ≡ most_point = high (parts.2 (omega (arith, same, t.4))) in
+      itself (λ e. absurd (omega (arith, e, t.0))) (λ e. absurd (omega (arith, e, t.0))) (λ e. absurd (omega (arith, e, t.0)))
+          (rw most_is (scalar_point c p.scalar)))
+      (first_byte c p.scalar)
+
+  -- What is read as a character is one.
+  pub character_taken : (bytes : List ℕ) → Yields (λ (x : ℕ × List ℕ). IsCharacterAt close most bytes x.0 x.1) (character_at close most bytes)
+  unfolding character_at
+  character_taken [] = err_yields
+  character_taken (b ∷ bytes) =
+      if_yields (eqb b backslash)
+      (λ t. subst (λ y. Yields (λ (x : ℕ × List ℕ). IsCharacterAt close most (y ∷ bytes) x.0 x.1) (escape_at most bytes)) (sym (eqb-true b backslash t))
+          (escape_taken bytes))
+      (λ t. if_yields (begins_character close most b)
+      (λ g. map_yields (point_yields (b ∷ bytes)) (λ x p. point_begins b bytes x.0 x.1 g (eqb-false b backslash t) p))
+      (λ g. err_yields))
+
+  -- What is read as the next code point is one, or it is the closing quote.
+  pub next_taken : (bytes : List ℕ) → Yields (λ (x : Option ℕ × List ℕ). IsNextPoint close most bytes x.0 x.1) (next_point_at close most bytes)
+  unfolding next_point_at
+  next_taken [] = err_yields
+  next_taken (b ∷ bytes) =
+      if_yields (eqb b close)
+      (λ t. ok_yields (ap (λ x. x ∷ bytes) (eqb-true b close t)))
+      (λ t. bind_yields _ (character_taken (b ∷ bytes)) (λ x r. ok_yields r))
+
+  closing_taken : (over : Why) (bytes : List ℕ) → Yields (λ (rest : List ℕ). bytes ≡ close ∷ rest) (closing_at over close most bytes)
+  unfolding closing_at
+  closing_taken over [] = err_yields
+  closing_taken over (b ∷ bytes) =
+      if_yields (eqb b close)
+      (λ t. ok_yields (ap (λ x. x ∷ bytes) (eqb-true b close t)))
+      (λ t. if_yields (begins_character close most b) (λ u. err_yields) (λ u. err_yields))
+
+  none_more : (n : ℕ) (bytes rest : List ℕ) → bytes ≡ close ∷ rest → AreCharactersAt close most n bytes [] rest
+  none_more n bytes rest e = record { text = close ∷ []; whole = e; characters = Closed close; points = refl; few = omega arith }
+
+  points_taken : (over : Why) (n : ℕ) (bytes : List ℕ) (o : Option ℕ) (after : List ℕ) → IsNextPoint close most bytes o after
+      → Yields (λ (x : List ℕ × List ℕ). AreCharactersAt close most n after x.0 x.1) (characters_at over close most n after)
+      → Yields (λ (x : List ℕ × List ℕ). AreCharactersAt close most (suc n) bytes x.0 x.1) (points_after (characters_at over close most n) (o, after))
+  points_taken over n bytes None after first later = ok_yields (none_more (suc n) bytes after first)
+  points_taken over n bytes (Some c) after first later = bind_yields _ later (λ x others. ok_yields (record {
+    text = first.text ++ others.text;
+    whole = first.whole ∙ ap (λ y. first.text ++ y) others.whole ∙ sym (append_assoc first.text others.text x.1);
+    characters = OneMore close c first.text others.text x.0 first.character others.characters;
+    points = rw (first.point, others.points) refl;
+    few = omega (arith, others.few);
+  }))
+
+  -- What are read as characters are characters.
+  pub characters_taken : (over : Why) (n : ℕ) (bytes : List ℕ)
+      → Yields (λ (x : List ℕ × List ℕ). AreCharactersAt close most n bytes x.0 x.1) (characters_at over close most n bytes)
+  unfolding characters_at
+  characters_taken over zero bytes = bind_yields _ (closing_taken over bytes) (λ rest e. ok_yields (none_more 0 bytes rest e))
+  characters_taken over (suc n) bytes = bind_yields _ (next_taken bytes) (λ x first. points_taken over n bytes x.0 x.1 first (characters_taken over n x.1))
 
 -- code points are scalar values, and those of ASCII are bytes
 pub points_scalar : (most : ℕ) (cs : List ℕ) → list_all (is_point most) cs ≡ true → all_scalars cs ≡ true
 points_scalar most [] e = refl
 points_scalar most (c ∷ cs) e = let t = both (is_point most c) (list_all (is_point most) cs) e in rw (point_scalar most c t.0, points_scalar most cs t.1) refl
 
+-- Each of the code points is at most the largest one.
 pub points_low : (most : ℕ) (cs : List ℕ) (i : ℕ) → list_all (is_point most) cs ≡ true → get_or cs i 0 ≤ most
 points_low most [] i e = omega arith
 points_low most (c ∷ cs) zero e =

@@ -1,6 +1,6 @@
 -- The characters between quotes are read, whatever follows.
-use Rattle.std.proofs.Common.{◌≡◌, ◌≢◌, ℕ, zero, suc, ◌+◌, ◌-◌, ◌*◌, ◌/◌, ◌%◌, ◌<◌, ◌≤◌, true, false, cond, ltb, leb, eqb, List, [], ◌∷◌, ◌++◌, length, None, Some, Ok, refl, sym, ap, subst, ◌∙◌, append_assoc, arith, le-ltb, lt-ltb, ⊎_elim, length-append}
-use Rattle.std.proofs.lemmas.Bool.{leb-true, ltb-true, ltb-false, le-leb}
+use Rattle.std.proofs.Common.{◌≡◌, ◌≢◌, ℕ, zero, suc, ◌+◌, ◌-◌, ◌*◌, ◌<◌, ◌≤◌, true, false, ltb, leb, eqb, List, [], ◌∷◌, ◌++◌, length, None, Some, Ok, refl, sym, ap, subst, ◌∙◌, append_assoc, arith, lt-ltb, ⊎_elim, length-append}
+use Rattle.std.proofs.lemmas.Bool.{leb-true}
 use Rattle.std.proofs.lemmas.Bool.Decides.{nat_tests}
 use Rattle.std.specs.List.{list_all}
 use Rattle.std.specs.Char.{is_ascii_hexdigit, digit_value, encode_utf8, IsScalar}
@@ -10,7 +10,7 @@ use Rattle.ca_text.specs.Bytes.{backslash, close_brace, letter_x, line_feed, ope
 use Rattle.ca_text.specs.Grammar.{escape_of, IsCharacter, Itself, Escaped, Hexadecimal, AreCharacters, Closed, OneMore}
 use Rattle.ca_text.specs.declared.fault.Why.{Why}
 use Rattle.ca_text.specs.Inner.Reading.{point_at, is_point, may_stand, hex_after, hex_at, escape_at, begins_character, character_at, next_point_at, closing_at, characters_at}
-use Rattle.ca_text.proofs.Tools.{both, chosen}
+use Rattle.ca_text.proofs.Tools.{both}
 use Rattle.ca_text.proofs.Points.{encode_some, first_byte, point_again}
 use Rattle.ca_text.proofs.Again.{expect_again, grows}
 
@@ -20,6 +20,7 @@ hex_parts d h = grind (arith, nat_tests)
 stands : (most more c value : ℕ) → c ≤ value → is_point most value ≡ true → (more ≡ 0 → c ≡ value) → may_stand most more c ≡ true
 stands most more c value le point last = grind (arith, nat_tests)
 
+-- A closing brace ends digits that are worth a code point.
 pub hex_end : (most more c : ℕ) (rest : List ℕ) → is_point most c ≡ true → hex_after most more c (close_brace ∷ rest) ≡ Ok (c, rest)
 unfolding hex_after
 hex_end most more c rest point = rw point refl
@@ -99,13 +100,16 @@ character_again : (close most : ℕ) (text : List ℕ) (c : ℕ) (rest : List �
 unfolding character_at escape_at
 character_again _ most _ _ rest small slash (Itself close c is h i j) point = itself_again close most c rest small is h i j point
 character_again _ most _ _ rest small slash (Escaped close letter c e) point =
-    (rw (escape_letter letter c e, e) refl, record { first = backslash; others = letter ∷ []; is = refl; apart = other_quote close backslash (λ x. slash (sym x)) })
+    (rw (escape_letter letter c e, e) refl, record { first = backslash; others = letter ∷ []; is = refl;
+        apart = other_quote close backslash (λ x. slash (sym x)) })
 character_again _ most _ _ rest small slash (Hexadecimal close ds n few is) point =
     let regrouped : (ds ++ close_brace ∷ []) ++ rest ≡ ds ++ close_brace ∷ rest = append_assoc ds (close_brace ∷ []) rest in (
       rw (expect_again open_brace ((ds ++ close_brace ∷ []) ++ rest), regrouped, hex_again most ds rest n few point) refl,
-      record { first = backslash; others = letter_x ∷ open_brace ∷ ds ++ close_brace ∷ []; is = refl; apart = other_quote close backslash (λ x. slash (sym x)) },
+      record { first = backslash; others = letter_x ∷ open_brace ∷ ds ++ close_brace ∷ []; is = refl;
+          apart = other_quote close backslash (λ x. slash (sym x)) },
     )
 
+-- No character's text is empty.
 pub character_some : (close : ℕ) (text : List ℕ) (c : ℕ) → IsCharacter close text c → 0 < length text
 character_some _ _ _ (Itself close c is h i j) = encode_some c is
 character_some _ _ _ (Escaped close letter c e) = omega arith
@@ -127,6 +131,7 @@ next_from close most c b text others rest is apart read =
     let step : next_point_at close most (b ∷ (others ++ rest)) ≡ Ok (Some c, rest) = rw (apart, again) refl in
     ap (λ x. next_point_at close most (x ++ rest)) is ∙ step
 
+-- Characters and the closing quote at the front are read.
 pub characters_again : (over : Why) (close most n : ℕ) (text cs rest : List ℕ) → close < 128 → close ≢ backslash → AreCharacters close text cs
     → list_all (is_point most) cs ≡ true → length cs ≤ n
     → characters_at over close most n (text ++ rest) ≡ Ok (cs, rest)

@@ -25,7 +25,7 @@ character_point _ _ _ (Itself close c is h i j) = scalar_point c is
 character_point _ _ _ (Escaped close letter c e) = escape_scalar letter c e
 character_point _ _ _ (Hexadecimal close ds n few is) = scalar_point (digits_value 16 ds) is
 
-pub characters_points : (close : ℕ) (text cs : List ℕ) → AreCharacters close text cs → list_all (is_point most_point) cs ≡ true
+characters_points : (close : ℕ) (text cs : List ℕ) → AreCharacters close text cs → list_all (is_point most_point) cs ≡ true
 characters_points _ _ _ (Closed close) = refl
 characters_points _ _ _ (OneMore close c first others cs is are) = rw (character_point close first c is, characters_points close others cs are) refl
 
@@ -65,6 +65,7 @@ pub record BeginsSegment (text : List ℕ) : Type 0 where
 digit_solid : (d : ℕ) → digit_value d < 10 → (is_blank d ≡ false) × (eqb d close_angle ≡ false)
 digit_solid d h = (grind (arith, nat_tests), grind (arith, nat_tests))
 
+-- A segment begins with no blank, and not with the closing brackets.
 pub segment_begins : (text bs : List ℕ) → IsSegment text bs → BeginsSegment text
 segment_begins _ _ (OneByte [] n bound) = absurd (omega (arith, n.0))
 segment_begins _ _ (OneByte (d ∷ ds) n bound) = let s = digit_solid d n.1.0 in record { first = d; others = ds; is = refl; solid = s.0; going = s.1 }
@@ -113,7 +114,8 @@ unfolding series_at segment_step after_segment_at
 segments_again zero text bs rest are few = let b = segments_begin text bs are in absurd (omega (arith, few, ap (λ (x : List ℕ). length x) b.is))
 segments_again (suc n) _ _ rest (LastSegment text blanks bytes is are) few =
     let read = segment_again text bytes (blanks ++ close_angle ∷ close_angle ∷ rest) is (blanks_end blanks close_angle (close_angle ∷ rest) are refl) in
-    rw (ended_parts text blanks (close_angle ∷ close_angle ∷ []) rest, read, skip_again blanks close_angle (close_angle ∷ rest) are refl, expect_again close_angle rest) refl
+    rw (ended_parts text blanks (close_angle ∷ close_angle ∷ []) rest, read, skip_again blanks close_angle (close_angle ∷ rest) are refl,
+        expect_again close_angle rest) refl
 segments_again (suc n) _ _ rest (MoreSegments text before after others bytes more is one two are) few =
     let tail = comma ∷ (after ++ (others ++ rest)) in
     let read = segment_again text bytes (before ++ tail) is (blanks_end before comma (after ++ (others ++ rest)) one refl) in
@@ -263,7 +265,8 @@ empty_tail limits levels k text t blanks rest are e =
     let behind = blanks ++ close_bracket ∷ rest in
     let front : skip ((e.blanks ++ close_bracket ∷ []) ++ behind) ≡ close_bracket ∷ behind =
     ap skip (append_assoc e.blanks (close_bracket ∷ []) behind) ∙ skip_again e.blanks close_bracket behind e.are refl in
-    let step : tail_at other ((open_bracket ∷ e.blanks ++ close_bracket ∷ []) ++ behind) ≡ Ok (Last Nil rest) = ap inner_at front ∙ closed_reads Nil blanks rest are in
+    let step : tail_at other ((open_bracket ∷ e.blanks ++ close_bracket ∷ []) ++ behind) ≡ Ok (Last Nil rest) = ap inner_at front
+        ∙ closed_reads Nil blanks rest are in
     record { next = Last Nil rest; found = ap (λ x. tail_at other (x ++ behind)) e.is ∙ step; reads = λ head. ap (λ x. Ok (Cons head x, rest)) (sym e.nil) }
 
 inner_from : (b : ℕ) (bytes : List ℕ) → eqb b close_bracket ≡ false → inner_at (b ∷ bytes) ≡ Ok (Inner (b ∷ bytes))
@@ -337,7 +340,8 @@ integer_shape limits levels _ _ (Negative ds n bound) =
           ∙ integer_term_again (minus_sign ∷ ds) (neg_ℤ (pos (digits_value 10 ds))) rest (Negative ds n bound) whole;
     }
 
-letter_apart : (c : ℕ) → is_ascii_lowercase c ≡ true → (is_blank c ≡ false) × (eqb c close_brace ≡ false) × (eqb c close_bracket ≡ false) × (eqb c open_bracket ≡ false)
+letter_apart : (c : ℕ) → is_ascii_lowercase c ≡ true → (is_blank c ≡ false) × (eqb c close_brace ≡ false) × (eqb c close_bracket ≡ false) ×
+    (eqb c open_bracket ≡ false)
 letter_apart c h = (grind (arith, nat_tests), grind (arith, nat_tests), grind (arith, nat_tests), grind (arith, nat_tests))
 
 letter_other : (limits : Limits) (element : List ℕ → Read Tree) (levels c : ℕ) (bytes : List ℕ) → is_ascii_lowercase c ≡ true
@@ -358,7 +362,8 @@ quoted_other limits element levels bytes = refl
 quoted_again : (most : ℕ) (text cs rest : List ℕ) → AreCharacters single_quote text cs → length cs ≤ most
     → quoted_at most (text ++ rest) ≡ Ok (Atom (encode_utf8_all cs), rest)
 quoted_again most text cs rest are few =
-    rw (characters_again _ single_quote most_point most text cs rest (omega arith) (λ e. absurd (omega (arith, e))) are (characters_points single_quote text cs are) few) refl
+    rw (characters_again _ single_quote most_point most text cs rest (omega arith) (λ e. absurd (omega (arith, e))) are
+        (characters_points single_quote text cs are) few) refl
 
 atom_shape : (limits : Limits) (levels : ℕ) (text name : List ℕ) → IsAtom limits text name → OtherShape limits levels text (Atom name)
 atom_shape _ levels _ _ (Plain limits [] form few) = absurd cc
@@ -388,7 +393,8 @@ string_other : (limits : Limits) (element : List ℕ → Read Tree) (levels : �
 unfolding other_at
 string_other limits element levels bytes = refl
 
-binary_other : (limits : Limits) (element : List ℕ → Read Tree) (levels : ℕ) (bytes : List ℕ) → other_at limits element levels (open_angle ∷ bytes) ≡ binary_at bytes
+binary_other : (limits : Limits) (element : List ℕ → Read Tree) (levels : ℕ) (bytes : List ℕ)
+    → other_at limits element levels (open_angle ∷ bytes) ≡ binary_at bytes
 unfolding other_at
 binary_other limits element levels bytes = refl
 
@@ -445,7 +451,8 @@ bytes_from : (b : ℕ) (bytes : List ℕ) → eqb b close_angle ≡ false → by
 unfolding bytes_at
 bytes_from b bytes h = rw h refl
 
-some_bytes : (blanks inner bs rest : List ℕ) → AreBlanks blanks → AreSegments inner bs → binary_at (open_angle ∷ ((blanks ++ inner) ++ rest)) ≡ Ok (Binary bs, rest)
+some_bytes : (blanks inner bs rest : List ℕ) → AreBlanks blanks → AreSegments inner bs
+    → binary_at (open_angle ∷ ((blanks ++ inner) ++ rest)) ≡ Ok (Binary bs, rest)
 some_bytes blanks inner bs rest are is =
     let b = segments_begin inner bs is in
     let front : skip ((blanks ++ inner) ++ rest) ≡ b.first ∷ (b.others ++ rest) =
@@ -601,7 +608,8 @@ further_of limits levels text before after others head tail s one two cells (suc
 barred_of : (limits : Limits) (levels : ℕ) (text before after last blanks : List ℕ) (head tail : Tree) → Shape limits levels text head → AreBlanks before
     → AreBlanks after → Shape limits (suc levels) last tail → AreBlanks blanks → (k : ℕ)
     → length (text ++ (before ++ vertical_bar ∷ (after ++ (last ++ (blanks ++ close_bracket ∷ []))))) ≤ k → (rest : List ℕ)
-    → cells_at (term_at limits levels) (others_of limits levels) k ((text ++ (before ++ vertical_bar ∷ (after ++ (last ++ (blanks ++ close_bracket ∷ []))))) ++ rest) ≡ Ok (Cons head tail, rest)
+    → cells_at (term_at limits levels) (others_of limits levels) k
+        ((text ++ (before ++ vertical_bar ∷ (after ++ (last ++ (blanks ++ close_bracket ∷ []))))) ++ rest) ≡ Ok (Cons head tail, rest)
 barred_of limits levels text before after last blanks head tail s one two l are zero few rest =
     absurd (omega (
       arith,
@@ -667,14 +675,16 @@ mutual
       inl (record {
         begins = begins_by open_angle (open_angle ∷ blanks ++ close_angle ∷ close_angle ∷ []) refl refl refl;
         apart = refl;
-        reads = λ rest whole. binary_other limits (term_at limits levels) levels (open_angle ∷ ((blanks ++ close_angle ∷ close_angle ∷ []) ++ rest)) ∙ no_bytes blanks rest are;
+        reads = λ rest whole. binary_other limits (term_at limits levels) levels (open_angle ∷ ((blanks ++ close_angle ∷ close_angle ∷ []) ++ rest))
+            ∙ no_bytes blanks rest are;
       })
   shape_again _ _ _ _ (ABinary limits levels blanks inner bs are is) =
       inl (record {
         begins = begins_by open_angle (open_angle ∷ blanks ++ inner) refl refl refl;
         apart = refl;
         reads =
-            λ rest whole. binary_other limits (term_at limits levels) levels (open_angle ∷ ((blanks ++ inner) ++ rest)) ∙ some_bytes blanks inner bs rest are is;
+            λ rest whole. binary_other limits (term_at limits levels) levels (open_angle ∷ ((blanks ++ inner) ++ rest))
+                ∙ some_bytes blanks inner bs rest are is;
       })
 
   rows_again : (limits : Limits) (levels : ℕ) (text : List ℕ) (row : Row) → AreElements limits levels text row → Rows limits levels text row
@@ -705,6 +715,7 @@ mutual
         barred_of limits levels text before after last blanks head tail s one two l are,
       )
 
+-- A text of a term at the front is read, if nothing that follows belongs to it.
 pub term_again : (limits : Limits) (levels : ℕ) (text : List ℕ) (t : Tree) (rest : List ℕ) → IsTextOf limits levels text t → IsWhole text rest
     → term_at limits levels (text ++ rest) ≡ Ok (t, rest)
 term_again limits levels text t rest is whole = shape_reads limits levels text t rest (shape_again limits levels text t is) whole

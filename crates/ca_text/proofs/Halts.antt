@@ -72,6 +72,7 @@ halted_behind_as IsPart IsOf taken bytes f h none each =
     halted_behind IsPart IsOf taken bytes f h none
     (λ part a is. let u = each part a is in ([], u.0, subst (λ x. IsOf (taken ++ x) u.0) (sym (append-nil part)) u.1))
 
+-- As halted_map, with no rest.
 pub halted_as : {A B : Type 0} (IsPart : List ℕ → A → Type 0) (IsOf : List ℕ → B → Type 0) (bytes : List ℕ) (f : Fault) → Halted IsPart bytes f
     → ((part : List ℕ) (a : A) → IsPart part a → (b : B) × IsOf part b) → Halted IsOf bytes f
 halted_as IsPart IsOf bytes f h each =

@@ -18,7 +18,7 @@ use Rattle.ca_text.proofs.Points.{point_halts}
 use Rattle.ca_text.proofs.CharactersAgain.{hex_end}
 use Rattle.ca_text.proofs.Again.{expect_again}
 use Rattle.ca_text.proofs.Characters.{character_taken, next_taken}
-use Rattle.ca_text.proofs.Halts.{GoesOn, Halted, Halts, halted_here, halted_behind_as, halted_map, halted_as, halted_at, bind_err, done_err, Reads, halted_cons, halted_same}
+use Rattle.ca_text.proofs.Halts.{GoesOn, Halted, Halts, halted_here, halted_behind_as, halted_map, halted_as, bind_err, done_err, Reads, halted_cons, halted_same}
 
 -- ---- what stands behind a backslash
 
@@ -113,7 +113,8 @@ module _ (most : ℕ) (low : 127 ≤ most) (high : 128 ≤ most → most ≡ mos
   escape_halts [] f e = halted_here _ Syntax [] f (err_is _ f e)
   escape_halts (b ∷ bytes) f e =
       ⊎_elim
-      (λ h. halted_cons (escape_at most) opened b bytes f (λ zs. rw h.0 refl) (open_brace ∷ digit_zero ∷ close_brace ∷ [], 0, opened_read) (opened_halts bytes f h.1))
+      (λ h. halted_cons (escape_at most) opened b bytes f (λ zs. rw h.0 refl) (open_brace ∷ digit_zero ∷ close_brace ∷ [], 0, opened_read)
+          (opened_halts bytes f h.1))
       (λ h. halted_here _ Syntax (b ∷ bytes) f (or_stuck (escape_of b) bytes (b ∷ bytes) f h.1))
       (chosen (eqb b letter_x) _ _ (Err f) e)
 
@@ -147,7 +148,7 @@ module _ (close most : ℕ) (small : close < 128) (low : 127 ≤ most) (high : 1
   one_halts : Halts (character_at close most) (IsPointAt close most)
   one_halts bytes f e =
       halted_as (Reads (character_at close most)) (IsPointAt close most) bytes f (character_halts bytes f e)
-      (λ text c is. let r = character_taken close most text c [] small low high is in
+      (λ text c is. let r = (character_taken close most small low high text).is (c, []) is in
       let whole : r.text ≡ text = sym (r.whole ∙ append-nil r.text) in
       (c, subst (λ x. IsPointAt close most x c) whole (r.character, r.point)))
 
@@ -183,7 +184,7 @@ module _ (close most : ℕ) (small : close < 128) (low : 127 ≤ most) (high : 1
       → Halted (AreWithin close most (suc n)) bytes f
   behind_next over n bytes None after f later e h = absurd cc
   behind_next over n bytes (Some c) after f later e h =
-      let first = next_taken close most bytes c after small low high e in
+      let first = (next_taken close most small low high bytes).is (Some c, after) e in
       let halted = later after f (done_err (characters_at over close most n after) (λ y. (c ∷ y.0, y.1)) f h) in
       let is : IsPointAt close most first.text c = (first.character, first.point) in
       subst (λ x. Halted (AreWithin close most (suc n)) x f) (sym first.whole)
@@ -203,6 +204,7 @@ module _ (close most : ℕ) (small : close < 128) (low : 127 ≤ most) (high : 1
       (λ s. behind_next over n bytes s.0.0 s.0.1 f (within_halts over n) s.1 s.2)
       (bind_err (next_point_at close most bytes) (λ x. points_after (characters_at over close most n) x) f e)
 
+-- Where the reading of characters between quotes halts, what it took goes on to such characters.
 pub characters_halts : (over : Why) (close most n : ℕ) → close < 128 → close ≢ backslash → 127 ≤ most → (128 ≤ most → most ≡ most_point)
     → Halts (characters_at over close most n) (AreWithin close most n)
 characters_halts over close most n small slash low high = within_halts close most small low high over n

@@ -43,6 +43,7 @@ number_halt most (b ∷ bytes) f e =
 abbrev pub IsNumber : ℕ → List ℕ → ℕ → Type 0
 IsNumber most text n = IsNumeral 10 text × (digits_value 10 text ≡ n) × (n ≤ most)
 
+-- Where the reading of a number halts, what it took goes on to one.
 pub number_halts : (most : ℕ) → Halts (number_at most) (IsNumber most)
 number_halts most bytes f e =
     halted_as (Reads (number_at most)) (IsNumber most) bytes f (number_halt most bytes f e)
@@ -63,6 +64,7 @@ negative_halts bytes f e =
     (digit_zero ∷ [], neg_ℤ (pos 0), Negative (digit_zero ∷ []) (omega arith, (omega arith, tt)) (omega arith))
     (λ digits n is. (neg_ℤ (pos (digits_value 10 digits)), Negative digits is.0 (omega (arith, is.1, is.2))))
 
+-- Where the reading of an integer halts, what it took goes on to one.
 pub integer_halts : Halts integer_at IsInteger
 unfolding integer_at
 integer_halts [] f e = halted_here _ Syntax [] f (err_is _ f e)
@@ -87,6 +89,7 @@ name_front (suc most) b bytes h more =
     let few : length name ≤ suc most = omega (arith, length-take (suc most) (b ∷ bytes)) in
     inr ([], name, subst (λ x. IsName (suc most) x name) (sym (append-nil name)) (form, few, refl))
 
+-- Where the reading of a plain atom halts, what it took is one.
 pub name_halts : (most b : ℕ) (bytes : List ℕ) (f : Fault) → is_ascii_lowercase b ≡ true → name_at most (b ∷ bytes) ≡ Err f → Halted (IsName most) (b ∷ bytes) f
 unfolding name_at
 name_halts most b bytes f h e =

@@ -44,7 +44,8 @@ module _ (limits : Limits) (levels : ℕ) where
   quoted_halts bytes f e =
       ⊎_elim
       (λ h. halted_behind (AreWithin single_quote most_point limits.characters) IsOne (single_quote ∷ []) bytes f
-      (characters_halts AtomTooLong single_quote most_point limits.characters (omega arith) (λ x. absurd (omega (arith, x))) (omega arith) (λ x. refl) bytes f h)
+      (characters_halts AtomTooLong single_quote most_point limits.characters (omega arith) (λ x. absurd (omega (arith, x))) (omega arith)
+          (λ x. refl) bytes f h)
       (single_quote ∷ [], Atom [], no_name)
       (λ part cs are. (
         [],
@@ -62,7 +63,8 @@ module _ (limits : Limits) (levels : ℕ) where
       (λ part t is. ([], t, subst (λ x. IsOne (open_angle ∷ x) t) (sym (append-nil part)) is))
 
 -- a string halts behind its first quote
-string_goes : (limits : Limits) (levels : ℕ) (text cs : List ℕ) → AreCharacters double_quote text cs → IsTextOf limits (suc (suc levels)) (double_quote ∷ text) (points cs)
+string_goes : (limits : Limits) (levels : ℕ) (text cs : List ℕ) → AreCharacters double_quote text cs
+    → IsTextOf limits (suc (suc levels)) (double_quote ∷ text) (points cs)
 string_goes limits levels text [] are =
     subst (λ x. IsTextOf limits (suc (suc levels)) (double_quote ∷ x) Nil) (sym (closed_text double_quote text [] are refl)) (NoString limits (suc levels))
 string_goes limits levels text (c ∷ cs) are = AString limits levels c text cs are
@@ -125,6 +127,7 @@ deep_halts limits (b ∷ bytes) f e =
     (λ h. halted_here (IsTextOf limits 0) Syntax (b ∷ bytes) f (err_is {A = Tree × List ℕ} (place Syntax (b ∷ bytes)) f h.1))
     (chosen (begins_term b) _ _ (Err f) e)
 
+-- Where the reading of a term halts, what it took goes on to a text of one.
 pub term_halts : (limits : Limits) (levels : ℕ) → Halts (term_at limits levels) (IsTextOf limits levels)
 unfolding term_at
 term_halts limits zero = deep_halts limits

@@ -1,17 +1,20 @@
 -- Where a reader of terms halts, the bytes that it took begin a text.
-use Rattle.std.proofs.Common.{◌≡◌, ℕ, zero, suc, ◌<◌, ◌≤◌, Bool, true, false, eqb, List, [], ◌∷◌, ◌++◌, length, Ok, Err, pos, refl, sym, ap, subst, ◌∙◌, append_assoc, append-nil, arith, ⊎_elim}
+use Rattle.std.proofs.Common.{◌≡◌, ℕ, zero, suc, Bool, true, eqb, List, [], ◌∷◌, ◌++◌, length, Ok, Err, pos, refl, sym, ap, subst, ◌∙◌, append_assoc, append-nil, arith, ⊎_elim}
 use Rattle.std.proofs.lemmas.Bool.{eqb-true}
-use Rattle.ca_term.specs.Tree.{Tree, Row, Integer, Tuple, Nil, Cons, Ends, More, row_of, size}
+use Rattle.ca_term.specs.Tree.{Tree, Integer, Tuple, Nil, Cons, Ends, row_of}
 use Rattle.ca_text.specs.Bytes.{close_brace, close_bracket, comma, digit_zero, open_brace, open_bracket, vertical_bar}
-use Rattle.ca_text.specs.Grammar.{Limits, AreBlanks, IsTextOf, AnInteger, FromZero, NoElements, ATuple, ANil, AList, AreElements, LastElement, MoreElements, AreCells, LastCell, MoreCells, LastTail, skip}
+use Rattle.ca_text.specs.Grammar.{Limits, AreBlanks, IsTextOf, AnInteger, FromZero, NoElements, ATuple, ANil, AList, AreCells, LastCell, MoreCells, LastTail, skip}
 use Rattle.ca_text.specs.declared.fault.Fault.{Fault}
 use Rattle.ca_text.specs.declared.fault.Why.{Why}
 use Rattle.ca_text.specs.declared.fault.Why.TheVariants.{Syntax, TooWide}
-use Rattle.ca_text.specs.Inner.Reading.{◌>>=◌, Read, expect, series_at, series_rest, after_element_at, element_step, elements_at, tuple_at, Next, Head, Inner, Last, closed, inner_at, tail_at, next_at, cells_after, cell_step, cells_at, list_at, bracketed}
-use Rattle.ca_text.proofs.Tools.{bind_ok, chosen, ok_is, pair_is}
+use Rattle.ca_text.specs.Inner.Reading.{◌>>=◌, Read, expect, series_at, after_element_at, element_step, elements_at, tuple_at, Next, Head, Inner, Last, closed, inner_at, tail_at, next_at, cells_after, cell_step, cells_at, list_at, bracketed}
+use Rattle.ca_text.proofs.Tools.{bind_ok, chosen, ok_is}
 use Rattle.ca_text.proofs.Local.{place, err_is}
 use Rattle.ca_text.proofs.Numbers.{skipped, whole_by}
-use Rattle.ca_text.proofs.Sound.{IsTermAt, ReadsTerms, with_more, with_front_blanks, after_element_taken, after_some, IsNext, next_taken, AreCellsAt, cells_taken}
+use Rattle.ca_text.proofs.Sound.{AreMost, IsElement, IsNext, IsTermAt, ReadsTerms, another_most, cells_taken, element_some, element_step_taken, inner_list, last_most, next_taken, with_front_blanks}
+use Rattle.ca_text.proofs.Yields.{Stands, Takes}
+use Rattle.ca_text.proofs.HaltsSeries.{series_halts}
+use Rattle.ca_term.proofs.Rows.{size_row}
 use Rattle.ca_text.proofs.Halts.{GoesOn, Halted, Halts, halted_here, halted_behind, halted_map, halted_at, bind_err, expect_halts}
 
 module _ {A : Type 0} where
@@ -38,25 +41,14 @@ zero_text limits levels = AnInteger limits levels (digit_zero ∷ []) (pos 0) (F
 module _ (limits : Limits) (levels : ℕ) (element : List ℕ → Read Tree) (sound : ReadsTerms limits levels element)
     (halts : Halts element (IsTextOf limits levels)) where
   -- elements of a tuple, at most so many
-  abbrev pub IsRow : ℕ → List ℕ → Row → Type 0
-  IsRow n text row = (_ : AreElements limits levels text row) × (size row ≤ n)
+  abbrev IsRow : ℕ → List ℕ → List Tree → Type 0
+  IsRow = AreMost limits levels element sound
 
   -- an element and the closing brace
   one_element : (n : ℕ) (text blanks : List ℕ) (t : Tree) → IsTextOf limits levels text t → AreBlanks blanks → GoesOn (IsRow (suc n)) (text ++ blanks)
   one_element n text blanks t is are =
-      let row : Row = More t Ends in
-      let made : AreElements limits levels (text ++ (blanks ++ close_brace ∷ [])) row = LastElement limits levels text blanks t is are in
-      (close_brace ∷ [], row, (subst (λ x. AreElements limits levels x row) (sym (append_assoc text blanks (close_brace ∷ []))) made, omega arith))
-
-  -- an element, a comma and elements
-  further_elements : (n : ℕ) (text before after rest : List ℕ) (t : Tree) (row : Row) → IsTextOf limits levels text t → AreBlanks before → AreBlanks after
-      → IsRow n rest row
-      → IsRow (suc n) ((text ++ (before ++ comma ∷ after)) ++ rest) (More t row)
-  further_elements n text before after rest t row is one two more =
-      let made : AreElements limits levels (text ++ (before ++ comma ∷ (after ++ rest))) (More t row) =
-      MoreElements limits levels text before after rest t row is one two more.0 in
-      let same : (text ++ (before ++ comma ∷ after)) ++ rest ≡ text ++ (before ++ comma ∷ (after ++ rest)) = simp append_assoc in
-      (subst (λ x. AreElements limits levels x (More t row)) (sym same) made, omega (arith, more.1))
+      (close_brace ∷ [], t ∷ [], subst (λ x. IsRow (suc n) x (t ∷ [])) (sym (append_assoc text blanks (close_brace ∷ [])))
+      (last_most limits levels element sound n text blanks (t ∷ []) (t, refl, is) are))
 
   element_halts : (n : ℕ) (bytes : List ℕ) (f : Fault) → element_step element n bytes ≡ Err f → Halted (IsRow (suc n)) bytes f
   unfolding element_step
@@ -64,7 +56,7 @@ module _ (limits : Limits) (levels : ℕ) (element : List ℕ → Read Tree) (so
       ⊎_elim
       (λ h. halted_map (IsTextOf limits levels) (IsRow (suc n)) bytes f (halts bytes f h)
       (λ part a is. let g = one_element n part [] a is refl in (g.0, g.1, subst (λ x. IsRow (suc n) (x ++ g.0) g.1) (append-nil part) g.2)))
-      (λ h. let first = sound bytes h.0.0 h.0.1 h.1 in
+      (λ h. let first = (sound bytes).is h.0 h.1 in
       let gap = skipped h.0.1 in
       let whole : bytes ≡ (first.text ++ gap.blanks) ++ skip h.0.1 =
       first.whole ∙ ap (λ x. first.text ++ x) gap.whole ∙ sym (append_assoc first.text gap.blanks (skip h.0.1)) in
@@ -76,55 +68,16 @@ module _ (limits : Limits) (levels : ℕ) (element : List ℕ → Read Tree) (so
       (bind_err (after_element_at n (skip h.0.1)) (λ y. Ok ((h.0.0 ∷ [], y.0), y.1)) f h.2))
       (bind_err (element bytes) (λ x. after_element_at n (skip x.1) >>= λ y. Ok ((x.0 ∷ [], y.0), y.1)) f e)
 
-  -- elements halt behind an element, a comma and blanks
-  behind_comma : (n : ℕ) (bytes r tail after : List ℕ) (t : Tree) (f : Fault) → 0 < n → IsTermAt limits levels bytes t r → skip r ≡ comma ∷ tail
-      → skip tail ≡ after → Halted (IsRow n) after f
-      → Halted (IsRow (suc n)) bytes f
-  behind_comma zero bytes r tail after t f some first parted gap h = absurd (omega (arith, some))
-  behind_comma (suc n) bytes r tail after t f some first parted gap h =
-      let before = skipped r in
-      let behind = skipped tail in
-      let taken = first.text ++ (before.blanks ++ comma ∷ behind.blanks) in
-      let whole : bytes ≡ taken ++ after =
-      with_more comma bytes first.text r before.blanks (skip r) tail behind.blanks (skip tail) [] after first.whole before.whole parted behind.whole gap
-      ∙ ap (λ x. (first.text ++ (before.blanks ++ comma ∷ x)) ++ after) (append-nil behind.blanks) in
-      let more : (rest : List ℕ) (row : Row) → IsRow (suc n) rest row → IsRow (suc (suc n)) (taken ++ rest) (More t row) =
-      λ rest row are. further_elements (suc n) first.text before.blanks behind.blanks rest t row first.is before.are behind.are are in
-      let again = one_element n first.text [] t first.is refl in
-      let last : IsRow (suc n) ((first.text ++ []) ++ again.0) again.1 = again.2 in
-      halted_whole (IsRow (suc (suc n))) bytes (taken ++ after) f whole
-      (halted_behind (IsRow (suc n)) (IsRow (suc (suc n))) taken after f h
-      ((first.text ++ []) ++ again.0, More t again.1, more ((first.text ++ []) ++ again.0) again.1 last)
-      (λ rest row are. ([], More t row, subst (λ x. IsRow (suc (suc n)) (taken ++ x) (More t row)) (sym (append-nil rest)) (more rest row are))))
-
-  series_behind : (n : ℕ) (bytes : List ℕ) (f : Fault) (part : List Tree) (more : Bool) (after : List ℕ) → Halts (series_at (element_step element) n) (IsRow n)
-      → element_step element n bytes ≡ Ok ((part, more), after) → series_rest part (series_at (element_step element) n) more after ≡ Err f
-      → Halted (IsRow (suc n)) bytes f
-  unfolding element_step
-  series_behind n bytes f part false after later e g = absurd cc
-  series_behind n bytes f part true after later e g =
-      let s = bind_ok (element bytes) (λ x. after_element_at n (skip x.1) >>= λ y. Ok ((x.0 ∷ [], y.0), y.1)) ((part, true), after) e in
-      let u = bind_ok (after_element_at n (skip s.0.1)) (λ y. Ok ((s.0.0 ∷ [], y.0), y.1)) ((part, true), after) s.2 in
-      let found : List Tree × Bool = (s.0.0 ∷ [], u.0.0) in
-      let wanted : List Tree × Bool = (part, true) in
-      let p = pair_is found u.0.1 wanted after u.2 in
-      let more_is : u.0.0 ≡ true = ap (λ (x : List Tree × Bool). x.1) p.0 in
-      let some : 0 < n = after_some n (skip s.0.1) u.0.1 (u.1 ∙ ap (λ (m : Bool). Ok (m, u.0.1)) more_is) in
-      ⊎_elim
-      (λ h. ⊎_elim
-      (λ i. behind_comma n bytes s.0.1 h.1 after s.0.0 f some (sound bytes s.0.0 s.0.1 s.1) h.2 (h.3 ∙ p.1) (later after f i))
-      (λ i. let k = i.2 in absurd cc)
-      (bind_err (series_at (element_step element) n after) (λ r. Ok (part ++ r.0, r.1)) f g))
-      (λ h. let no : true ≡ false = sym more_is ∙ h.0 in absurd cc)
-      (after_element_taken n (skip s.0.1) u.0.0 u.0.1 u.1)
+  once_more : (n : ℕ) (bytes : List ℕ) (ts : List Tree) (after : List ℕ) → element_step element n bytes ≡ Ok ((ts, true), after) → (text : List ℕ)
+      → IsElement limits levels element sound text ts
+      → (more : List ℕ) × (us : List Tree) × IsRow n more us
+  once_more zero bytes ts after e text is = absurd (omega (arith, (element_some element zero bytes).is ((ts, true), after) e refl))
+  once_more (suc n) bytes ts after e text is = (text ++ ([] ++ close_brace ∷ []), ts, last_most limits levels element sound n text [] ts is refl)
 
   elements_halt : (n : ℕ) → Halts (series_at (element_step element) n) (IsRow n)
-  unfolding series_at
-  elements_halt zero bytes f e = halted_here (IsRow 0) Syntax bytes f (err_is {A = List Tree × List ℕ} (place Syntax bytes) f e)
-  elements_halt (suc n) bytes f e =
-      ⊎_elim (element_halts n bytes f)
-      (λ h. series_behind n bytes f h.0.0.0 h.0.0.1 h.0.1 (elements_halt n) h.1 h.2)
-      (bind_err (element_step element n bytes) (λ x. series_rest x.0.0 (series_at (element_step element) n) x.0.1 x.1) f e)
+  elements_halt =
+      series_halts (IsElement limits levels element sound) IsRow (close_brace ∷ []) (another_most limits levels element sound) (element_step element)
+      (element_step_taken limits levels element sound) element_halts once_more
 
   tuple_inner : (blanks inner : List ℕ) (f : Fault) → AreBlanks blanks → GoesOn (IsTextOf limits (suc levels)) (open_brace ∷ blanks)
       → elements_at element limits.elements inner ≡ Err f
@@ -136,11 +89,11 @@ module _ (limits : Limits) (levels : ℕ) (element : List ℕ → Read Tree) (so
       ⊎_elim (λ h. absurd (let k = h.1 in cc))
       (λ h. halted_behind (IsRow limits.elements) (IsTextOf limits (suc levels)) (open_brace ∷ blanks) (b ∷ inner) f
       (elements_halt limits.elements (b ∷ inner) f h.1) none
-      (λ rest row are_all. (
+      (λ rest ts most. (
         [],
-        Tuple row,
-        subst (λ x. IsTextOf limits (suc levels) ((open_brace ∷ blanks) ++ x) (Tuple row)) (sym (append-nil rest))
-            (ATuple limits levels blanks rest row are are_all.0 are_all.1),
+        Tuple (row_of ts),
+        subst (λ x. IsTextOf limits (suc levels) ((open_brace ∷ blanks) ++ x) (Tuple (row_of ts))) (sym (append-nil rest))
+            (ATuple limits levels blanks rest (row_of ts) are most.0 (omega (arith, size_row ts, most.1))),
       )))
       (chosen (eqb b close_brace) _ _ (Err f) e)
 
@@ -153,7 +106,9 @@ module _ (limits : Limits) (levels : ℕ) (element : List ℕ → Read Tree) (so
       let whole : open_brace ∷ bytes ≡ (open_brace ∷ blanks) ++ inner = ap (λ x. open_brace ∷ x) gap in
       halted_whole (IsTextOf limits (suc levels)) (open_brace ∷ bytes) ((open_brace ∷ blanks) ++ inner) f whole (tuple_inner blanks inner f are none e)
 
-  pub tuple_halts : (bytes : List ℕ) (f : Fault) → tuple_at element limits.elements (skip bytes) ≡ Err f → Halted (IsTextOf limits (suc levels)) (open_brace ∷ bytes) f
+  -- Where the reading of a tuple halts, what it took goes on to a text of one.
+  pub tuple_halts : (bytes : List ℕ) (f : Fault) → tuple_at element limits.elements (skip bytes) ≡ Err f
+      → Halted (IsTextOf limits (suc levels)) (open_brace ∷ bytes) f
   tuple_halts bytes f e =
       let gap = skipped bytes in
       ⊎_elim (tuple_from bytes gap.blanks (skip bytes) f gap.whole gap.are) (λ h. let k = h.2 in absurd cc)
@@ -178,7 +133,8 @@ module _ (limits : Limits) (levels : ℕ) (element : List ℕ → Read Tree) (so
     pub is : IsTextOf limits (suc levels) last tail
     pub are : AreBlanks blanks
 
-  last_of : (last blanks : List ℕ) (tail : Tree) → IsTextOf limits (suc levels) last tail → AreBlanks blanks → IsLast (last ++ (blanks ++ close_bracket ∷ [])) tail
+  last_of : (last blanks : List ℕ) (tail : Tree) → IsTextOf limits (suc levels) last tail → AreBlanks blanks
+      → IsLast (last ++ (blanks ++ close_bracket ∷ [])) tail
   last_of last blanks tail is are = record { last = last; blanks = blanks; whole = refl; is = is; are = are }
 
   bar : (after text : List ℕ) (tail : Tree) → AreBlanks after → IsLast text tail → IsEnding (vertical_bar ∷ (after ++ text)) tail
@@ -188,7 +144,8 @@ module _ (limits : Limits) (levels : ℕ) (element : List ℕ → Read Tree) (so
 
   -- behind a last tail and blanks the closing bracket goes on
   tail_goes : (last blanks : List ℕ) (tail : Tree) → IsTextOf limits (suc levels) last tail → AreBlanks blanks → GoesOn IsLast (last ++ blanks)
-  tail_goes last blanks tail is are = (close_bracket ∷ [], tail, subst (λ x. IsLast x tail) (sym (append_assoc last blanks (close_bracket ∷ []))) (last_of last blanks tail is are))
+  tail_goes last blanks tail is are = (close_bracket ∷ [], tail, subst (λ x. IsLast x tail) (sym (append_assoc last blanks (close_bracket ∷ [])))
+      (last_of last blanks tail is are))
 
   module _ (other : List ℕ → Read Tree) (others_sound : ReadsTerms limits (suc levels) other) (others_halt : Halts other (IsTextOf limits (suc levels))) where
     -- a last tail that was read, and no closing bracket behind it
@@ -208,16 +165,19 @@ module _ (limits : Limits) (levels : ℕ) (element : List ℕ → Read Tree) (so
     closed_halts : (bytes : List ℕ) (f : Fault) → closed (other bytes) ≡ Err f → Halted IsLast bytes f
     closed_halts bytes f e =
         ⊎_elim
-        (λ h. halted_map (IsTextOf limits (suc levels)) IsLast bytes f (others_halt bytes f h) (λ part t is. (close_bracket ∷ [], t, last_of part [] t is refl)))
-        (λ h. unclosed bytes h.0.1 h.0.0 f (others_sound bytes h.0.0 h.0.1 h.1) h.2)
+        (λ h. halted_map (IsTextOf limits (suc levels)) IsLast bytes f (others_halt bytes f h)
+            (λ part t is. (close_bracket ∷ [], t, last_of part [] t is refl)))
+        (λ h. unclosed bytes h.0.1 h.0.0 f ((others_sound bytes).is h.0 h.1) h.2)
         (bind_err (other bytes) (λ x. expect close_bracket (skip x.1) >>= λ rest. Ok (Last x.0 rest)) f e)
 
-    inner_halts : (bytes blanks inner : List ℕ) (f : Fault) → bytes ≡ blanks ++ inner → AreBlanks blanks → inner_at inner ≡ Err f → Halted IsLast (open_bracket ∷ bytes) f
+    inner_halts : (bytes blanks inner : List ℕ) (f : Fault) → bytes ≡ blanks ++ inner → AreBlanks blanks → inner_at inner ≡ Err f
+        → Halted IsLast (open_bracket ∷ bytes) f
     inner_halts bytes blanks [] f gap are e = absurd cc
     inner_halts bytes blanks (b ∷ inner) f gap are e =
         ⊎_elim
         (λ h. let same : b ∷ inner ≡ (close_bracket ∷ []) ++ inner = ap (λ x. x ∷ inner) (eqb-true b close_bracket h.0) in
-        let whole : open_bracket ∷ bytes ≡ (open_bracket ∷ blanks ++ close_bracket ∷ []) ++ inner = ap (λ x. open_bracket ∷ x) (with_front_blanks bytes blanks (b ∷ inner) (close_bracket ∷ []) inner gap same) in
+        let whole : open_bracket ∷ bytes ≡ (open_bracket ∷ blanks ++ close_bracket ∷ []) ++ inner =
+            ap (λ x. open_bracket ∷ x) (with_front_blanks bytes blanks (b ∷ inner) (close_bracket ∷ []) inner gap same) in
         unclosed (open_bracket ∷ bytes) inner Nil f (record {
           text = open_bracket ∷ blanks ++ close_bracket ∷ [];
           whole = whole;
@@ -278,7 +238,7 @@ module _ (limits : Limits) (levels : ℕ) (element : List ℕ → Read Tree) (so
         (λ h. halted_map (IsTextOf limits levels) (AreCells limits levels) bytes f (halts bytes f h)
         (λ part head is. (close_bracket ∷ [], Cons head Nil, closing head part [] is refl)))
         (λ h. ⊎_elim
-        (λ i. ended bytes h.0.1 h.0.0 f (sound bytes h.0.0 h.0.1 h.1) (next_halts (skip h.0.1) f i))
+        (λ i. ended bytes h.0.1 h.0.0 f ((sound bytes).is h.0 h.1) (next_halts (skip h.0.1) f i))
         (λ i. let k = i.2 in absurd cc)
         (bind_err (next_at other (skip h.0.1)) (λ next. Ok (h.0.0, next)) f h.2))
         (bind_err (element bytes) (λ x. next_at other (skip x.1) >>= λ next. Ok (x.0, next)) f e)
@@ -299,18 +259,23 @@ module _ (limits : Limits) (levels : ℕ) (element : List ℕ → Read Tree) (so
         (λ rest t are. ([], t, subst (λ x. IsEnding (taken ++ x) t) (sym (append-nil rest)) (made rest t are)))))
 
     -- a list in brackets as the last tail, of which so many bytes were taken
-    inner_last : (blanks rest : List ℕ) (t : Tree) → AreBlanks blanks → AreCells limits levels rest t → IsLast ((open_bracket ∷ blanks ++ rest) ++ close_bracket ∷ []) t
+    inner_last : (blanks rest : List ℕ) (t : Tree) → AreBlanks blanks → AreCells limits levels rest t
+        → IsLast ((open_bracket ∷ blanks ++ rest) ++ close_bracket ∷ []) t
     inner_last blanks rest t are cells = last_of (open_bracket ∷ blanks ++ rest) [] t (AList limits levels blanks rest t are cells) refl
 
     inner_ending : (after blanks rest : List ℕ) (t : Tree) → AreBlanks after → AreBlanks blanks → AreCells limits levels rest t
         → IsEnding ((vertical_bar ∷ (after ++ open_bracket ∷ blanks)) ++ (rest ++ close_bracket ∷ [])) t
     inner_ending after blanks rest t one two cells =
-        let same : after ++ ((open_bracket ∷ blanks ++ rest) ++ close_bracket ∷ []) ≡ (after ++ open_bracket ∷ blanks) ++ (rest ++ close_bracket ∷ []) = simp append_assoc in
-        subst (λ x. IsEnding (vertical_bar ∷ x) t) same (bar after ((open_bracket ∷ blanks ++ rest) ++ close_bracket ∷ []) t one (inner_last blanks rest t two cells))
+        let same : after ++ ((open_bracket ∷ blanks ++ rest) ++ close_bracket ∷ []) ≡ (after ++ open_bracket ∷ blanks) ++ (rest ++ close_bracket ∷ []) =
+            simp append_assoc in
+        subst (λ x. IsEnding (vertical_bar ∷ x) t) same
+            (bar after ((open_bracket ∷ blanks ++ rest) ++ close_bracket ∷ []) t one (inner_last blanks rest t two cells))
 
-    empty_ending : (after blanks : List ℕ) → AreBlanks after → AreBlanks blanks → IsEnding ((vertical_bar ∷ (after ++ open_bracket ∷ blanks)) ++ close_bracket ∷ close_bracket ∷ []) Nil
+    empty_ending : (after blanks : List ℕ) → AreBlanks after → AreBlanks blanks
+        → IsEnding ((vertical_bar ∷ (after ++ open_bracket ∷ blanks)) ++ close_bracket ∷ close_bracket ∷ []) Nil
     empty_ending after blanks one two =
-        let same : after ++ ((open_bracket ∷ blanks ++ close_bracket ∷ []) ++ close_bracket ∷ []) ≡ (after ++ open_bracket ∷ blanks) ++ close_bracket ∷ close_bracket ∷ [] = simp append_assoc in
+        let same : after ++ ((open_bracket ∷ blanks ++ close_bracket ∷ []) ++ close_bracket ∷ []) ≡ (after ++ open_bracket ∷ blanks)
+            ++ close_bracket ∷ close_bracket ∷ [] = simp append_assoc in
         subst (λ x. IsEnding (vertical_bar ∷ x) Nil) same (bar after ((open_bracket ∷ blanks ++ close_bracket ∷ []) ++ close_bracket ∷ []) Nil one
         (last_of (open_bracket ∷ blanks ++ close_bracket ∷ []) [] Nil (ANil limits levels blanks two) refl))
 
@@ -323,7 +288,8 @@ module _ (limits : Limits) (levels : ℕ) (element : List ℕ → Read Tree) (so
         let blanks = skipped bracket in
         let taken : List ℕ = vertical_bar ∷ (behind.blanks ++ open_bracket ∷ blanks.blanks) in
         let whole : skip r ≡ taken ++ after =
-        bar ∙ ap (λ x. vertical_bar ∷ x) (behind.whole ∙ ap (λ x. behind.blanks ++ x) (opens ∙ ap (λ x. open_bracket ∷ x) (blanks.whole ∙ ap (λ x. blanks.blanks ++ x) gap))
+        bar ∙ ap (λ x. vertical_bar ∷ x) (behind.whole
+            ∙ ap (λ x. behind.blanks ++ x) (opens ∙ ap (λ x. open_bracket ∷ x) (blanks.whole ∙ ap (λ x. blanks.blanks ++ x) gap))
         ∙ sym (append_assoc behind.blanks (open_bracket ∷ blanks.blanks) after)) in
         ended bytes r head f first (halted_whole IsEnding (skip r) (taken ++ after) f whole (halted_behind (AreCells limits levels) IsEnding taken after f h
         (close_bracket ∷ close_bracket ∷ [], Nil, empty_ending behind.blanks blanks.blanks behind.are blanks.are)
@@ -346,10 +312,11 @@ module _ (limits : Limits) (levels : ℕ) (element : List ℕ → Read Tree) (so
         sym (append_assoc behind.blanks (last.text ++ gap.blanks) goes.0) in
         ended bytes r head f first (halted_whole IsEnding (skip r) (taken ++ skip after) f whole
         (halted_at IsEnding Syntax taken (skip after) f (expect_halts close_bracket (skip after) f e)
-        (goes.0, goes.1, subst (λ x. IsEnding (vertical_bar ∷ x) goes.1) same (bar behind.blanks ((last.text ++ gap.blanks) ++ goes.0) goes.1 behind.are goes.2))))
+        (goes.0, goes.1, subst (λ x. IsEnding (vertical_bar ∷ x) goes.1) same
+            (bar behind.blanks ((last.text ++ gap.blanks) ++ goes.0) goes.1 behind.are goes.2))))
 
     cells_behind : (cells : List ℕ → Read Tree) (bytes r : List ℕ) (head : Tree) (next : Next) (f : Fault) → Halts cells (AreCells limits levels)
-        → ((bytes : List ℕ) (t : Tree) (rest : List ℕ) → cells bytes ≡ Ok (t, rest) → AreCellsAt limits levels element sound other others_sound bytes t rest)
+        → Takes (AreCells limits levels) cells
         → IsTermAt limits levels bytes head r → IsNext limits levels element sound (skip r) next → cells_after head cells next ≡ Err f
         → Halted (AreCells limits levels) bytes f
     cells_behind cells bytes r head (Head after) f later read first next e =
@@ -358,17 +325,8 @@ module _ (limits : Limits) (levels : ℕ) (element : List ℕ → Read Tree) (so
     cells_behind cells bytes r head (Inner after) f later read first next e =
         ⊎_elim
         (λ h. behind_bar bytes r next.0 next.1 after head f first next.2 next.3 next.4 (later after f h))
-        (λ h. let others = read after h.0.0 h.0.1 h.1 in
-        let gap = skipped next.1 in
-        let whole : skip next.0 ≡ (open_bracket ∷ gap.blanks ++ others.text) ++ h.0.1 =
-        next.3 ∙ ap (λ x. open_bracket ∷ x) (with_front_blanks next.1 gap.blanks (skip next.1) others.text h.0.1 gap.whole (next.4 ∙ others.whole)) in
-        let last : IsTermAt limits (suc levels) (skip next.0) h.0.0 h.0.1 =
-        record {
-          text = open_bracket ∷ gap.blanks ++ others.text;
-          whole = whole;
-          is = AList limits levels gap.blanks others.text h.0.0 gap.are others.are;
-          ends = whole_by (open_bracket ∷ gap.blanks ++ others.text) h.0.1 (λ c. refl);
-        } in
+        (λ h. let others = subst (λ y. Stands (AreCells limits levels) y h.0.0 h.0.1) (sym next.4) ((read after).is h.0 h.1) in
+        let last = inner_list limits levels element sound next.0 next.1 h.0.1 h.0.0 next.3 others in
         ⊎_elim (unbarred bytes r next.0 h.0.1 head h.0.0 f first next.2 last) (λ i. let k = i.2 in absurd cc)
         (bind_err (expect close_bracket (skip h.0.1)) (λ rest. Ok (Cons head h.0.0, rest)) f h.2))
         (bind_err (cells after) (λ x. expect close_bracket (skip x.1) >>= λ rest. Ok (Cons head x.0, rest)) f e)
@@ -386,8 +344,8 @@ module _ (limits : Limits) (levels : ℕ) (element : List ℕ → Read Tree) (so
         let g : cells_after u.0.0 (cells_at element other n) v.0 ≡ Err f =
         subst (λ (x : Tree × Next). cells_after x.0 (cells_at element other n) x.1 ≡ Err f) (sym same) h.2 in
         cells_behind (cells_at element other n) bytes u.0.1 u.0.0 v.0 f (cells_halt n) (cells_taken limits levels element sound other others_sound n)
-        (sound bytes u.0.0 u.0.1 u.1)
-        (next_taken limits levels element sound other others_sound (skip u.0.1) v.0 v.1) g)
+        ((sound bytes).is u.0 u.1)
+        ((next_taken limits levels element sound other others_sound (skip u.0.1)).is v.0 v.1) g)
         (bind_err (cell_step element other bytes) (λ x. cells_after x.0 (cells_at element other n) x.1) f e)
 
     list_inner : (blanks inner : List ℕ) (f : Fault) → AreBlanks blanks → list_at element other inner ≡ Err f
@@ -414,7 +372,9 @@ module _ (limits : Limits) (levels : ℕ) (element : List ℕ → Read Tree) (so
     bracketed_halts (b ∷ bytes) f e =
         ⊎_elim
         (λ h. let gap = skipped bytes in
-        let whole : b ∷ bytes ≡ (open_bracket ∷ gap.blanks) ++ skip bytes = ap (λ x. x ∷ bytes) (eqb-true b open_bracket h.0) ∙ ap (λ x. open_bracket ∷ x) gap.whole in
-        halted_whole (IsTextOf limits (suc levels)) (b ∷ bytes) ((open_bracket ∷ gap.blanks) ++ skip bytes) f whole (list_inner gap.blanks (skip bytes) f gap.are h.1))
+        let whole : b ∷ bytes ≡ (open_bracket ∷ gap.blanks) ++ skip bytes = ap (λ x. x ∷ bytes) (eqb-true b open_bracket h.0)
+            ∙ ap (λ x. open_bracket ∷ x) gap.whole in
+        halted_whole (IsTextOf limits (suc levels)) (b ∷ bytes) ((open_bracket ∷ gap.blanks) ++ skip bytes) f whole
+            (list_inner gap.blanks (skip bytes) f gap.are h.1))
         (λ h. others_halt (b ∷ bytes) f h.1)
         (chosen (eqb b open_bracket) _ _ (Err f) e)

@@ -8,6 +8,7 @@ pub mod HaltsBinaries
 pub mod HaltsCharacters
 pub mod HaltsNumbers
 pub mod HaltsOthers
+pub mod HaltsSeries
 pub mod HaltsTerms
 pub mod LimitKinds
 pub mod Local
@@ -29,3 +30,4 @@ pub mod Sound
 pub mod Texts
 pub mod Tools
 pub mod Widened
+pub mod Yields

@@ -142,7 +142,8 @@ module _ {A : Type 0} (p : List ℕ → Read A) (xs : List ℕ) where
   -- No more bytes are left than there were.
   pub no_longer : LocalAt p xs → (a : A) (ys : List ℕ) → p xs ≡ Ok (a, ys) → length ys ≤ length xs
   no_longer (Ok b, t) a ys e =
-      let q = pair_is b t.behind a ys (sym t.is ∙ e) in omega (arith, ap (λ (l : List ℕ). length l) t.whole, length-append t.front t.behind, ap (λ (l : List ℕ). length l) q.1)
+      let q = pair_is b t.behind a ys (sym t.is ∙ e) in
+          omega (arith, ap (λ (l : List ℕ). length l) t.whole, length-append t.front t.behind, ap (λ (l : List ℕ). length l) q.1)
   no_longer (Err why, t) a ys e = let i = t.is in absurd cc
 
 -- ---- one reader behind another
@@ -163,7 +164,8 @@ module _ {A B : Type 0} (p : List ℕ → Read A) (q : A → List ℕ → Read B
     behind = u.behind;
     whole = t.whole ∙ ap (λ x. t.front ++ x) u.whole ∙ sym (append_assoc t.front u.front u.behind);
     is = ap next t.is ∙ u.is;
-    again = λ c r s h. ap (λ x. next (p x)) (append_assoc t.front u.front (c ∷ s)) ∙ ap next (again_first xs a t u.front u.behind c r s u.whole h) ∙ u.again c r s h;
+    again = λ c r s h. ap (λ x. next (p x)) (append_assoc t.front u.front (c ∷ s)) ∙ ap next (again_first xs a t u.front u.behind c r s u.whole h)
+        ∙ u.again c r s h;
   })
   behind_first xs (Err why, t) =
       (Err why, record { front = t.front; behind = t.behind; whole = t.whole; is = ap next t.is; again = λ c r s h. ap next (t.again c r s h) })

@@ -14,16 +14,19 @@ either_letter : {C : Type 0} (o : Option ℕ) → (o ≡ None → C) → ((c : �
 either_letter None f g = f refl
 either_letter (Some c) f g = g (c, refl)
 
+-- The reader of digits is local.
 pub digits_local : (bytes : List ℕ) (most n : ℕ) → LocalAt (digits_after most n) bytes
 unfolding digits_after
 digits_local [] most n = end_local (digits_after most n) (Ok n) refl
 digits_local (b ∷ bytes) most n =
     either_way (is_ascii_digit b)
     (λ h. either_way (leb (n * 10 + (b - digit_zero)) most)
-    (λ i. cons_local (digits_after most n) (digits_after most (n * 10 + (b - digit_zero))) b bytes (λ zs. rw (h, i) refl) (digits_local bytes most (n * 10 + (b - digit_zero))))
+    (λ i. cons_local (digits_after most n) (digits_after most (n * 10 + (b - digit_zero))) b bytes (λ zs. rw (h, i) refl)
+        (digits_local bytes most (n * 10 + (b - digit_zero))))
     (λ i. fault_local (digits_after most n) Syntax b bytes (λ zs. rw (h, i) refl)))
     (λ h. stay_local (digits_after most n) n b bytes (λ zs. rw h refl))
 
+-- The reader of numbers is local.
 pub number_local : (most : ℕ) → IsLocal (number_at most)
 unfolding number_at
 number_local most [] = nil_local (number_at most) refl
@@ -38,6 +41,7 @@ negative_local = bind_local (number_at (2 ^ 63)) (λ n ys. Ok (neg_ℤ (pos n), 
 positive_local : IsLocal positive_at
 positive_local = bind_local (number_at (2 ^ 63 - 1)) (λ n ys. Ok (pos n, ys)) (number_local (2 ^ 63 - 1)) (λ n. pure_local (pos n))
 
+-- The reader of integers is local.
 pub integer_local : IsLocal integer_at
 unfolding integer_at
 integer_local [] = nil_local integer_at refl
@@ -88,7 +92,7 @@ character_local close most (b ∷ bytes) =
     (λ i. same_local (character_at close most) point_at b bytes (λ zs. rw (h, i) refl) (point_local (b ∷ bytes)))
     (λ i. fault_local (character_at close most) Syntax b bytes (λ zs. rw (h, i) refl)))
 
-pub next_local : (close most : ℕ) → IsLocal (next_point_at close most)
+next_local : (close most : ℕ) → IsLocal (next_point_at close most)
 unfolding next_point_at
 next_local close most [] = nil_local (next_point_at close most) refl
 next_local close most (b ∷ bytes) =
@@ -111,6 +115,7 @@ after_local : (next : List ℕ → Read (List ℕ)) → IsLocal next → (o : Op
 after_local next l None = pure_local []
 after_local next l (Some c) = bind_local next (λ cs ys. Ok (c ∷ cs, ys)) l (λ cs. pure_local (c ∷ cs))
 
+-- The reader of characters between quotes is local.
 pub characters_local : (over : Why) (close most n : ℕ) → IsLocal (characters_at over close most n)
 unfolding characters_at
 characters_local over close most zero = last_local over close most

@@ -37,7 +37,8 @@ same_parts (b ∷ u) (c ∷ v) xs ys e h =
     (ap (λ x. x ∷ u) first ∙ ap (λ x. c ∷ x) r.0, r.1)
 
 -- Equal answers have as many bytes behind them, and are equal before any bytes.
-answers_same : {A : Type 0} (a b : Result A Why) (ys zs : List ℕ) → before a ys ≡ before b zs → (length ys ≡ length zs) × ((x : List ℕ) → before a x ≡ before b x)
+answers_same : {A : Type 0} (a b : Result A Why) (ys zs : List ℕ) → before a ys ≡ before b zs
+    → (length ys ≡ length zs) × ((x : List ℕ) → before a x ≡ before b x)
 answers_same {A} (Ok a) (Ok b) ys zs e = let q = pair_is a ys b zs e in (ap length q.1, λ x. ap (λ (c : A). Ok (c, x)) q.0)
 answers_same (Ok a) (Err w) ys zs e = absurd cc
 answers_same (Err v) (Ok b) ys zs e = absurd cc
@@ -59,7 +60,8 @@ module _ {A : Type 0} (P : ℕ → List ℕ → Read A) (each : (k : ℕ) → Is
         let zs = t.front ++ c ∷ s in
         let k = length xs + length zs in
         let u = (each k xs).1 in
-        let answers = answers_same (each k xs).0 (each (length xs) xs).0 u.behind t.behind (sym u.is ∙ same k (length xs) xs (omega arith) (omega arith) ∙ t.is) in
+        let answers = answers_same (each k xs).0 (each (length xs) xs).0 u.behind t.behind (sym u.is ∙ same k (length xs) xs (omega arith) (omega arith)
+            ∙ t.is) in
         let parts = same_parts u.front t.front u.behind t.behind (sym u.whole ∙ t.whole) answers.0 in
         same (length zs) k zs (omega arith) (omega arith) ∙ ap (λ x. P k (x ++ c ∷ s)) (sym parts.0) ∙ u.again c r s (parts.1 ∙ y) ∙ answers.1 (c ∷ s);
   })
@@ -72,6 +74,7 @@ names_to_next k b bytes later h =
     either_way (is_name_char b) (λ x. let g : suc k ≤ suc (name_length bytes) = rw x at h in rw (x, later (omega (arith, g))) refl)
     (λ x. absurd (omega (arith, rw x at h)))
 
+-- The first characters of a name are characters of a name.
 pub names_to : (k : ℕ) (bytes : List ℕ) → k ≤ name_length bytes → list_all is_name_char (take k bytes) ≡ true
 unfolding name_length
 names_to zero bytes h = refl
@@ -87,6 +90,7 @@ name_there (suc k) (b ∷ bytes) c r h e =
     either_way (is_name_char b) (λ x. let g : suc k < suc (name_length bytes) = rw x at h in name_there k bytes c r (omega (arith, g)) e)
     (λ x. absurd (omega (arith, rw x at h)))
 
+-- A name is no longer than the bytes.
 pub name_within : (bytes : List ℕ) → name_length bytes ≤ length bytes
 unfolding name_length
 name_within [] = omega arith
@@ -144,7 +148,7 @@ module _ (close most : ℕ) (small : close < 128) (low : 127 ≤ most) (high : 1
   after_same k j xs (Err f) e h i later = refl
   after_same k j xs (Ok (None, ys)) e h i later = refl
   after_same k j xs (Ok (Some c, ys)) e h i later =
-      let t = next_taken close most xs c ys small low high e in
+      let t = (next_taken close most small low high xs).is (Some c, ys) e in
       let long : length xs ≡ length t.text + length ys = ap (λ (l : List ℕ). length l) t.whole ∙ length-append t.text ys in
       let some = character_some close t.text c t.character in
       rw (later ys (omega (arith, long, some)) (omega (arith, long, some))) refl
@@ -160,7 +164,8 @@ module _ (close most : ℕ) (small : close < 128) (low : 127 ≤ most) (high : 1
 
 string_local : (most : ℕ) → 127 ≤ most → (128 ≤ most → most ≡ most_point) → IsLocal (string_at most)
 string_local most low high =
-    fuel_local (λ k. characters_at Syntax double_quote most k) (λ k. characters_local Syntax double_quote most k) (characters_same double_quote most (omega arith) low high)
+    fuel_local (λ k. characters_at Syntax double_quote most k) (λ k. characters_local Syntax double_quote most k)
+        (characters_same double_quote most (omega arith) low high)
 
 one_byte_local : IsLocal one_byte_at
 one_byte_local = bind_local (number_at most_byte) (λ n ys. Ok (n ∷ [], ys)) (number_local most_byte) (λ n. pure_local (n ∷ []))
@@ -185,6 +190,7 @@ after_segment_local (b ∷ bytes) = either_way (eqb b comma)
     (expect_local (λ rest. Ok (false, rest)) (pure_local false) close_angle bytes))
     (λ i. fault_local after_segment_at Syntax b bytes (λ zs. rw (h, i) refl)))
 
+-- The reader of a segment and what follows it is local.
 pub segment_step_local : (n : ℕ) → IsLocal (segment_step n)
 unfolding segment_step
 segment_step_local n =
@@ -215,7 +221,7 @@ step_shorter n xs x ys e =
     let u = bind_ok (after_segment_at (skip s.0.1)) (λ y. Ok ((s.0.0, y.0), y.1)) (x, ys) s.2 in
     let made : List ℕ × Bool = (s.0.0, u.0.0) in
     let p = pair_is made u.0.1 x ys u.2 in
-    let t = segment_taken xs s.0.0 s.0.1 s.1 in
+    let t = (segment_taken xs).is s.0 s.1 in
     let begins = segment_begins t.text s.0.0 t.is in
     let gap = skipped s.0.1 in
     let less = no_longer after_segment_at (skip s.0.1) (after_segment_local (skip s.0.1)) u.0.0 u.0.1 u.1 in
@@ -276,6 +282,7 @@ binary_local =
 
 -- ---- tuples and lists
 
+-- The reader of what follows an element is local.
 pub after_element_local : (n : ℕ) → IsLocal (after_element_at n)
 unfolding after_element_at
 after_element_local n [] = nil_local (after_element_at n) refl
@@ -312,7 +319,8 @@ module _ (element : List ℕ → Read Tree) (local : IsLocal element) where
     module _ (head : Tree) (cells : List ℕ → Read Tree) (more : IsLocal cells) where
       bracket_local : (t : Tree) → IsLocal (λ ys. expect close_bracket (skip ys) >>= λ rest. Ok (Cons head t, rest))
       bracket_local t =
-          skip_local (λ ys. expect close_bracket ys >>= λ rest. Ok (Cons head t, rest)) (expect_local (λ rest. Ok (Cons head t, rest)) (pure_local (Cons head t)) close_bracket)
+          skip_local (λ ys. expect close_bracket ys >>= λ rest. Ok (Cons head t, rest))
+              (expect_local (λ rest. Ok (Cons head t, rest)) (pure_local (Cons head t)) close_bracket)
 
       abbrev follow : Result Next Fault → Read Tree
       follow r = r >>= λ next. cells_after head cells next
@@ -367,6 +375,7 @@ module _ (element : List ℕ → Read Tree) (local : IsLocal element) where
           (skip_local (λ ys. follow (tail_at other ys)) tail_local bytes))
           (λ j. fault_local (λ xs. follow (next_at other xs)) Syntax b bytes (λ zs. rw (h, i, j) refl))))
 
+-- No more bytes stand behind the blanks than with them.
 pub skip_shorter : (xs : List ℕ) → length (skip xs) ≤ length xs
 skip_shorter xs = let gap = skipped xs in omega (arith, ap (λ (l : List ℕ). length l) gap.whole, length-append gap.blanks (skip xs))
 
@@ -412,17 +421,20 @@ module _ (limits : Limits) (levels : ℕ) (element other : List ℕ → Read Tre
     (other_local : IsLocal other)
     (strict : (xs : List ℕ) (t : Tree) (ys : List ℕ) → element xs ≡ Ok (t, ys) → length ys < length xs) where
   step_regroup : (head : Tree) (cells : List ℕ → Read Tree) (r : Result Next Fault)
-      → (◌>>=◌ {A = Tree × Next} {B = Tree × List ℕ} (r >>= λ next. Ok (head, next)) (λ x. cells_after x.0 cells x.1)) ≡ (◌>>=◌ {A = Next} {B = Tree × List ℕ} r (λ next. cells_after head cells next))
+      → (◌>>=◌ {A = Tree × Next} {B = Tree × List ℕ} (r >>= λ next. Ok (head, next)) (λ x. cells_after x.0 cells x.1)) ≡
+          (◌>>=◌ {A = Next} {B = Tree × List ℕ} r (λ next. cells_after head cells next))
   step_regroup head cells (Ok next) = refl
   step_regroup head cells (Err f) = refl
 
   cells_regroup : (cells : List ℕ → Read Tree) (r : Read Tree)
-      → (◌>>=◌ {A = Tree × Next} {B = Tree × List ℕ} (r >>= λ x. next_at other (skip x.1) >>= λ next. Ok (x.0, next)) (λ x. cells_after x.0 cells x.1)) ≡ (r >>= λ x. ◌>>=◌ {A = Next} {B = Tree × List ℕ} (next_at other (skip x.1)) (λ next. cells_after x.0 cells next))
+      → (◌>>=◌ {A = Tree × Next} {B = Tree × List ℕ} (r >>= λ x. next_at other (skip x.1) >>= λ next. Ok (x.0, next)) (λ x. cells_after x.0 cells x.1)) ≡
+          (r >>= λ x. ◌>>=◌ {A = Next} {B = Tree × List ℕ} (next_at other (skip x.1)) (λ next. cells_after x.0 cells next))
   cells_regroup cells (Ok x) = step_regroup x.0 cells (next_at other (skip x.1))
   cells_regroup cells (Err f) = refl
 
   cells_is : (n : ℕ) (xs : List ℕ)
-      → cells_at element other (suc n) xs ≡ (element xs >>= λ x. ◌>>=◌ {A = Next} {B = Tree × List ℕ} (next_at other (skip x.1)) (λ next. cells_after x.0 (cells_at element other n) next))
+      → cells_at element other (suc n) xs ≡ (element xs >>= λ x. ◌>>=◌ {A = Next} {B = Tree × List ℕ} (next_at other (skip x.1))
+          (λ next. cells_after x.0 (cells_at element other n) next))
   unfolding cells_at cell_step
   cells_is n xs = cells_regroup (cells_at element other n) (element xs)
 
@@ -443,7 +455,8 @@ module _ (limits : Limits) (levels : ℕ) (element other : List ℕ → Read Tre
 
   after_next_same : (head : Tree) (k j : ℕ) (xs : List ℕ) (r : Result Next Fault) → next_at other xs ≡ r → length xs ≤ k → length xs ≤ j
       → ((ys : List ℕ) → length ys ≤ k → length ys ≤ j → cells_at element other k ys ≡ cells_at element other j ys)
-      → (◌>>=◌ {A = Next} {B = Tree × List ℕ} r (λ next. cells_after head (cells_at element other k) next)) ≡ (◌>>=◌ {A = Next} {B = Tree × List ℕ} r (λ next. cells_after head (cells_at element other j) next))
+      → (◌>>=◌ {A = Next} {B = Tree × List ℕ} r (λ next. cells_after head (cells_at element other k) next)) ≡
+          (◌>>=◌ {A = Next} {B = Tree × List ℕ} r (λ next. cells_after head (cells_at element other j) next))
   after_next_same head k j xs (Err f) e h i later = refl
   after_next_same head k j xs (Ok (Last t ys)) e h i later = refl
   after_next_same head k j xs (Ok (Head ys)) e h i later =
@@ -453,7 +466,8 @@ module _ (limits : Limits) (levels : ℕ) (element other : List ℕ → Read Tre
 
   after_head_same : (k j : ℕ) (xs : List ℕ) (r : Read Tree) → element xs ≡ r → length xs ≤ suc k → length xs ≤ suc j
       → ((ys : List ℕ) → length ys ≤ k → length ys ≤ j → cells_at element other k ys ≡ cells_at element other j ys)
-      → (r >>= λ x. ◌>>=◌ {A = Next} {B = Tree × List ℕ} (next_at other (skip x.1)) (λ next. cells_after x.0 (cells_at element other k) next)) ≡ (r >>= λ x. ◌>>=◌ {A = Next} {B = Tree × List ℕ} (next_at other (skip x.1)) (λ next. cells_after x.0 (cells_at element other j) next))
+      → (r >>= λ x. ◌>>=◌ {A = Next} {B = Tree × List ℕ} (next_at other (skip x.1)) (λ next. cells_after x.0 (cells_at element other k) next)) ≡
+          (r >>= λ x. ◌>>=◌ {A = Next} {B = Tree × List ℕ} (next_at other (skip x.1)) (λ next. cells_after x.0 (cells_at element other j) next))
   after_head_same k j xs (Err f) e h i later = refl
   after_head_same k j xs (Ok (t, ys)) e h i later =
       let less = strict xs t ys e in
@@ -495,7 +509,8 @@ module _ (limits : Limits) (levels : ℕ) (element other : List ℕ → Read Tre
 
 quoted_local : (most : ℕ) → IsLocal (quoted_at most)
 quoted_local most =
-    bind_local (characters_at AtomTooLong single_quote most_point most) (λ cs ys. Ok (Atom (encode_utf8_all cs), ys)) (characters_local AtomTooLong single_quote most_point most)
+    bind_local (characters_at AtomTooLong single_quote most_point most) (λ cs ys. Ok (Atom (encode_utf8_all cs), ys))
+        (characters_local AtomTooLong single_quote most_point most)
     (λ cs. pure_local (Atom (encode_utf8_all cs)))
 
 some_points_local : IsLocal string_points_at
@@ -550,10 +565,11 @@ nil_term limits (suc levels) = nil_other limits (term_at limits levels) levels
 
 term_strict : (limits : Limits) (levels : ℕ) (xs : List ℕ) (t : Tree) (ys : List ℕ) → term_at limits levels xs ≡ Ok (t, ys) → length ys < length xs
 term_strict limits levels xs t ys e =
-    let r = term_taken limits levels xs t ys e in
+    let r = (term_taken limits levels xs).is (t, ys) e in
     let some = text_some limits levels r.text t r.is in
     omega (arith, some, ap (λ (l : List ℕ). length l) r.whole, length-append r.text ys)
 
+-- The reader of terms is local.
 pub term_local : (limits : Limits) (levels : ℕ) → IsLocal (term_at limits levels)
 unfolding term_at
 term_local limits zero = deep_local

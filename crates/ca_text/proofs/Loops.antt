@@ -28,17 +28,20 @@ regroup_head heads head owed (Ok x) = bracketed_head heads head x.0 (brackets_at
 regroup_head heads head owed (Err f) = refl
 
 regroup_bracket : (heads : List Tree) (head t : Tree) (owed : ℕ) (r : Result (List ℕ) Fault)
-    → with_heads heads owed (◌>>=◌ {B = Tree × List ℕ} r (λ after. Ok (Cons head t, after))) ≡ listed (heads ++ head ∷ []) t (r >>= λ rest. brackets_at owed rest)
+    → with_heads heads owed (◌>>=◌ {B = Tree × List ℕ} r (λ after. Ok (Cons head t, after))) ≡ listed (heads ++ head ∷ []) t
+        (r >>= λ rest. brackets_at owed rest)
 regroup_bracket heads head t owed (Ok after) = bracketed_head heads head t (brackets_at owed after)
 regroup_bracket heads head t owed (Err f) = refl
 
 regroup_inner : (heads : List Tree) (head : Tree) (owed : ℕ) (read : Read Tree)
-    → with_heads heads owed (read >>= λ x. ◌>>=◌ {B = Tree × List ℕ} (expect close_bracket (skip x.1)) (λ after. Ok (Cons head x.0, after))) ≡ with_heads (heads ++ head ∷ []) (suc owed) read
+    → with_heads heads owed (read >>= λ x. ◌>>=◌ {B = Tree × List ℕ} (expect close_bracket (skip x.1)) (λ after. Ok (Cons head x.0, after))) ≡ with_heads
+        (heads ++ head ∷ []) (suc owed) read
 unfolding brackets_at
 regroup_inner heads head owed (Ok x) = regroup_bracket heads head x.0 owed (expect close_bracket (skip x.1))
 regroup_inner heads head owed (Err f) = refl
 
 module _ (over : Why) (close most limit i : ℕ) (front bytes : List ℕ) (total : Read (List ℕ)) where
+  -- One code point more leaves what the loop comes to.
   pub points_go_on : (c : ℕ) (after : List ℕ) → i < limit → next_point_at close most bytes ≡ Ok (Some c, after)
       → with_front front (characters_at over close most (limit - i) bytes) ≡ total
       → with_front (front ++ c ∷ []) (characters_at over close most (limit - (i + 1)) after) ≡ total
@@ -50,6 +53,7 @@ module _ (over : Why) (close most limit i : ℕ) (front bytes : List ℕ) (total
       (regroup front (c ∷ []) (characters_at over close most (limit - (i + 1)) after)) in
       sym one ∙ so_far
 
+  -- At the closing quote the loop has come to its code points.
   pub points_closed : (after : List ℕ) → i < limit → next_point_at close most bytes ≡ Ok (None, after)
       → with_front front (characters_at over close most (limit - i) bytes) ≡ total → total ≡ Ok (front, after)
   unfolding characters_at
@@ -59,6 +63,7 @@ module _ (over : Why) (close most limit i : ℕ) (front bytes : List ℕ) (total
       rw (k, h) (ap (λ (cs : List ℕ). Ok (cs, after)) (append-nil front)) in
       sym so_far ∙ one
 
+  -- A fault of a code point is that of the loop.
   pub points_fail : (e : Stop) → i < limit → Fails e (next_point_at close most bytes)
       → with_front front (characters_at over close most (limit - i) bytes) ≡ total → Fails e total
   unfolding characters_at
@@ -68,6 +73,7 @@ module _ (over : Why) (close most limit i : ℕ) (front bytes : List ℕ) (total
       let one : with_front front (characters_at over close most (limit - i) bytes) ≡ Err f = rw (k, h) refl in
       sym so_far ∙ one
 
+  -- Behind as many code points as may stand the closing quote ends the loop.
   pub points_end : (after : List ℕ) → limit ≤ i → closing_at over close most bytes ≡ Ok after
       → with_front front (characters_at over close most (limit - i) bytes) ≡ total → total ≡ Ok (front, after)
   unfolding characters_at
@@ -77,6 +83,7 @@ module _ (over : Why) (close most limit i : ℕ) (front bytes : List ℕ) (total
       rw (k, h) (ap (λ (cs : List ℕ). Ok (cs, after)) (append-nil front)) in
       sym so_far ∙ one
 
+  -- A fault of the closing quote is that of the loop.
   pub points_end_fail : (e : Stop) → limit ≤ i → Fails e (closing_at over close most bytes)
       → with_front front (characters_at over close most (limit - i) bytes) ≡ total → Fails e total
   unfolding characters_at
@@ -87,6 +94,7 @@ module _ (over : Why) (close most limit i : ℕ) (front bytes : List ℕ) (total
       sym so_far ∙ one
 
 module _ {B : Type 0} (step : ℕ → List ℕ → Read (List B × Bool)) (limit i : ℕ) (front : List B) (bytes : List ℕ) (total : Read (List B)) where
+  -- One part more leaves what the loop comes to.
   pub series_goes_on : (xs : List B) (after : List ℕ) → i < limit → step (limit - (i + 1)) bytes ≡ Ok ((xs, true), after)
       → with_front front (series_at step (limit - i) bytes) ≡ total → with_front (front ++ xs) (series_at step (limit - (i + 1)) after) ≡ total
   unfolding series_at
@@ -96,6 +104,7 @@ module _ {B : Type 0} (step : ℕ → List ℕ → Read (List B × Bool)) (limit
       rw (k, h) (regroup front xs (series_at step (limit - (i + 1)) after)) in
       sym one ∙ so_far
 
+  -- At the last part the loop has come to its parts.
   pub series_closed : (xs : List B) (after : List ℕ) → i < limit → step (limit - (i + 1)) bytes ≡ Ok ((xs, false), after)
       → with_front front (series_at step (limit - i) bytes) ≡ total → total ≡ Ok (front ++ xs, after)
   unfolding series_at
@@ -104,6 +113,7 @@ module _ {B : Type 0} (step : ℕ → List ℕ → Read (List B × Bool)) (limit
       let one : with_front front (series_at step (limit - i) bytes) ≡ Ok (front ++ xs, after) = rw (k, h) refl in
       sym so_far ∙ one
 
+  -- A fault of a part is that of the loop.
   pub series_fails : (e : Stop) → i < limit → Fails e (step (limit - (i + 1)) bytes)
       → with_front front (series_at step (limit - i) bytes) ≡ total → Fails e total
   unfolding series_at
@@ -113,6 +123,7 @@ module _ {B : Type 0} (step : ℕ → List ℕ → Read (List B × Bool)) (limit
       let one : with_front front (series_at step (limit - i) bytes) ≡ Err f = rw (k, h) refl in
       sym so_far ∙ one
 
+  -- A loop over no further parts comes to a fault.
   pub series_ends : limit ≤ i → with_front front (series_at step (limit - i) bytes) ≡ total → total ≡ syntax_fault bytes
   unfolding series_at
   series_ends le so_far =
@@ -121,6 +132,7 @@ module _ {B : Type 0} (step : ℕ → List ℕ → Read (List B × Bool)) (limit
       sym so_far ∙ one
 
 module _ (element other : List ℕ → Read Tree) (limit i owed : ℕ) (heads : List Tree) (bytes : List ℕ) (total : Read Tree) where
+  -- A fault of a cell is that of the loop.
   pub cells_fail : (e : Stop) → i < limit → Fails e (cell_step element other bytes) → with_heads heads owed (cells_at element other (limit - i) bytes) ≡ total
       → Fails e total
   unfolding cells_at
@@ -130,6 +142,7 @@ module _ (element other : List ℕ → Read Tree) (limit i owed : ℕ) (heads : 
       let one : with_heads heads owed (cells_at element other (limit - i) bytes) ≡ Err f = rw (k, h) refl in
       sym so_far ∙ one
 
+  -- A loop over no further cells comes to a fault.
   pub cells_end : limit ≤ i → with_heads heads owed (cells_at element other (limit - i) bytes) ≡ total → total ≡ syntax_fault bytes
   unfolding cells_at
   cells_end le so_far =
@@ -137,6 +150,7 @@ module _ (element other : List ℕ → Read Tree) (limit i owed : ℕ) (heads : 
       let one : with_heads heads owed (cells_at element other (limit - i) bytes) ≡ syntax_fault bytes = rw k refl in
       sym so_far ∙ one
 
+  -- One head more leaves what the loop comes to.
   pub head_follows : (head : Tree) (after : List ℕ) → i < limit → cell_step element other bytes ≡ Ok (head, Head after)
       → with_heads heads owed (cells_at element other (limit - i) bytes) ≡ total
       → with_heads (heads ++ head ∷ []) owed (cells_at element other (limit - (i + 1)) after) ≡ total
@@ -147,6 +161,7 @@ module _ (element other : List ℕ → Read Tree) (limit i owed : ℕ) (heads : 
       (cells_at element other (limit - (i + 1)) after) = rw (k, h) (regroup_head heads head owed (cells_at element other (limit - (i + 1)) after)) in
       sym one ∙ so_far
 
+  -- A head and a list behind a bar leave what the loop comes to, with one bracket more owed.
   pub inner_follows : (head : Tree) (after : List ℕ) → i < limit → cell_step element other bytes ≡ Ok (head, Inner after)
       → with_heads heads owed (cells_at element other (limit - i) bytes) ≡ total
       → with_heads (heads ++ head ∷ []) (owed + 1) (cells_at element other (limit - (i + 1)) after) ≡ total
@@ -158,6 +173,7 @@ module _ (element other : List ℕ → Read Tree) (limit i owed : ℕ) (heads : 
       (regroup_inner heads head owed (cells_at element other (limit - (i + 1)) after)) in
       sym one ∙ so_far
 
+  -- At a last tail the loop has come to its list.
   pub last_follows : (head tail : Tree) (after : List ℕ) → i < limit → cell_step element other bytes ≡ Ok (head, Last tail after)
       → with_heads heads owed (cells_at element other (limit - i) bytes) ≡ total → total ≡ with_heads (heads ++ head ∷ []) owed (Ok (tail, after))
   unfolding cells_at
@@ -168,6 +184,7 @@ module _ (element other : List ℕ → Read Tree) (limit i owed : ℕ) (heads : 
       sym so_far ∙ one
 
 module _ (owed i : ℕ) (bytes : List ℕ) (total : Result (List ℕ) Fault) where
+  -- A fault of a closing bracket is that of the loop.
   pub brackets_fail : (e : Stop) → i < owed → Fails e (expect close_bracket (skip bytes)) → brackets_at (owed - i) bytes ≡ total → Fails e total
   unfolding brackets_at
   brackets_fail stop.NoMemory lt h so_far = tt
@@ -176,6 +193,7 @@ module _ (owed i : ℕ) (bytes : List ℕ) (total : Result (List ℕ) Fault) whe
       let one : brackets_at (owed - i) bytes ≡ Err f = rw (k, h) refl in
       sym so_far ∙ one
 
+  -- One closing bracket more leaves what the loop comes to.
   pub brackets_go_on : (after : List ℕ) → i < owed → expect close_bracket (skip bytes) ≡ Ok after → brackets_at (owed - i) bytes ≡ total
       → brackets_at (owed - (i + 1)) after ≡ total
   unfolding brackets_at
@@ -184,6 +202,7 @@ module _ (owed i : ℕ) (bytes : List ℕ) (total : Result (List ℕ) Fault) whe
       let one : brackets_at (owed - i) bytes ≡ brackets_at (owed - (i + 1)) after = rw (k, h) refl in
       sym one ∙ so_far
 
+  -- Behind the brackets that were owed the loop ends.
   pub brackets_end : owed ≤ i → brackets_at (owed - i) bytes ≡ total → total ≡ Ok bytes
   unfolding brackets_at
   brackets_end le so_far =
@@ -191,6 +210,7 @@ module _ (owed i : ℕ) (bytes : List ℕ) (total : Result (List ℕ) Fault) whe
       let one : brackets_at (owed - i) bytes ≡ Ok bytes = rw k refl in
       sym so_far ∙ one
 
+-- At first no heads were read, and no bracket is owed.
 pub with_no_heads : (read : Read Tree) → with_heads [] 0 read ≡ read
 unfolding brackets_at
 with_no_heads (Ok x) = refl

@@ -9,11 +9,13 @@ use Rattle.ca_text.specs.Text.{is_name_char}
 use Rattle.ca_text.specs.Inner.Reading.{name_length, name_at}
 use Rattle.ca_text.proofs.Tools.{guarded, both, pair_is}
 
+-- Characters of a name are of ASCII.
 pub name_ascii : (name : List ℕ) → list_all is_name_char name ≡ true → IsAscii name
 name_ascii [] h i = omega arith
 name_ascii (c ∷ cs) h zero = let t = both (is_name_char c) (list_all is_name_char cs) h in let u = t.0 in grind (arith, nat_tests)
 name_ascii (c ∷ cs) h (suc i) = name_ascii cs (both (is_name_char c) (list_all is_name_char cs) h).1 i
 
+-- What is read as a name is text.
 pub name_utf8 : (most : ℕ) (bytes name rest : List ℕ) → name_at most bytes ≡ Ok (name, rest) → IsUtf8 name
 unfolding name_at
 name_utf8 most bytes name rest e =

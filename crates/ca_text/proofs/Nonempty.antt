@@ -44,6 +44,7 @@ unfolding binary_text
 binary_some [] = omega arith
 binary_some (b ∷ bs) = either_some _ _ _ _ _
 
+-- No printed text is empty.
 pub text_some : (t : Tree) → 0 < length (text_of t)
 text_some (Integer (pos n)) = decimal_some n
 text_some (Integer (negsuc n)) = omega arith

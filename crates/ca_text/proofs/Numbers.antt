@@ -8,8 +8,9 @@ use Rattle.std.specs.Str.Parse.{AllDigits, IsNumeral, digits_value, digits_value
 use Rattle.ca_text.specs.Bytes.{digit_zero, minus_sign}
 use Rattle.ca_text.specs.Text.{is_name_char, has_plain_form}
 use Rattle.ca_text.specs.Grammar.{is_blank, AreBlanks, IsInteger, FromZero, Negative, takes_in, IsWhole, skip}
-use Rattle.ca_text.specs.Inner.Reading.{digits_after, number_at, negative_at, positive_at, integer_at, name_length, name_at}
-use Rattle.ca_text.proofs.Tools.{bind_ok, chosen, guarded, both, pair_is}
+use Rattle.ca_text.specs.Inner.Reading.{digits_after, number_at, integer_at, name_length, name_at}
+use Rattle.ca_text.proofs.Yields.{Yields, ok_yields, err_yields, if_yields, bind_yields}
+use Rattle.ca_text.proofs.Tools.{chosen, guarded, both, pair_is}
 
 -- blanks stand at the front
 pub record IsSkipped (bytes rest : List ℕ) : Type 0 where
@@ -17,6 +18,7 @@ pub record IsSkipped (bytes rest : List ℕ) : Type 0 where
   pub whole : bytes ≡ blanks ++ rest
   pub are : AreBlanks blanks
 
+-- What is skipped are blanks.
 pub skipped : (bytes : List ℕ) → IsSkipped bytes (skip bytes)
 unfolding skip
 skipped [] = record { blanks = []; whole = refl; are = refl }
@@ -49,7 +51,7 @@ pub record AreDigitsAt (most n : ℕ) (bytes : List ℕ) (value : ℕ) (rest : L
   pub bounded : n ≤ most → value ≤ most
   pub ends : EndsDigits rest
 
-pub digits_taken : (most n : ℕ) (bytes : List ℕ) (value : ℕ) (rest : List ℕ) → digits_after most n bytes ≡ Ok (value, rest)
+digits_taken : (most n : ℕ) (bytes : List ℕ) (value : ℕ) (rest : List ℕ) → digits_after most n bytes ≡ Ok (value, rest)
     → AreDigitsAt most n bytes value rest
 unfolding digits_after
 digits_taken most n [] value rest e =
@@ -92,6 +94,7 @@ number_some most b bytes [] value rest h whole all worth bound ends = let no : i
 number_some most b bytes (d ∷ digits) value rest h whole all worth bound ends =
     record { digits = d ∷ digits; whole = whole; numeral = (omega arith, all); value_is = worth; bounded = bound; ends = ends }
 
+-- What is read as a number is a numeral of that value.
 pub number_taken : (most : ℕ) (bytes : List ℕ) (value : ℕ) (rest : List ℕ) → number_at most bytes ≡ Ok (value, rest) → IsNumberAt most bytes value rest
 unfolding number_at
 number_taken most [] value rest e = absurd cc
@@ -100,6 +103,7 @@ number_taken most (b ∷ bytes) value rest e =
     let r = digits_taken most 0 (b ∷ bytes) value rest g.1 in
     number_some most b bytes r.digits value rest g.0 r.whole r.all r.value_is (r.bounded (omega arith)) r.ends
 
+-- A text to which no byte belongs is whole before anything.
 pub whole_by : (text rest : List ℕ) → ((b : ℕ) → takes_in text b ≡ false) → IsWhole text rest
 whole_by text [] h = tt
 whole_by text (b ∷ rest) h = h b
@@ -114,7 +118,7 @@ whole_digits c text (b ∷ rest) h e = number_whole c b text h e
 digit_not_letter : (b : ℕ) → digit_value b < 10 → is_ascii_lowercase b ≡ false
 digit_not_letter b h = grind (arith, nat_tests)
 
-pub whole_numeral : (digits rest : List ℕ) → IsNumeral 10 digits → EndsDigits rest → IsWhole digits rest
+whole_numeral : (digits rest : List ℕ) → IsNumeral 10 digits → EndsDigits rest → IsWhole digits rest
 whole_numeral [] rest n ends = absurd (omega (arith, n.0))
 whole_numeral (d ∷ digits) rest n ends = whole_digits d digits rest (digit_not_letter d n.1.0) ends
 
@@ -125,47 +129,37 @@ pub record IsIntegerAt (bytes : List ℕ) (n : ℤ) (rest : List ℕ) : Type 0 w
   pub is : IsInteger text n
   pub ends : IsWhole text rest
 
-negative_taken : (bytes : List ℕ) (n : ℤ) (rest : List ℕ) → negative_at bytes ≡ Ok (n, rest) → IsIntegerAt (minus_sign ∷ bytes) n rest
-negative_taken bytes n rest e =
-    let s = bind_ok (number_at (2 ^ 63) bytes) (λ x. Ok (neg_ℤ (pos x.0), x.1)) (n, rest) e in
-    let p = pair_is (neg_ℤ (pos s.0.0)) s.0.1 n rest s.2 in
-    let r = number_taken (2 ^ 63) bytes s.0.0 s.0.1 s.1 in
-    let same : neg_ℤ (pos (digits_value 10 r.digits)) ≡ n = ap (λ x. neg_ℤ (pos x)) r.value_is ∙ p.0 in
-    record {
-      text = minus_sign ∷ r.digits;
-      whole = ap (λ x. minus_sign ∷ x) (r.whole ∙ ap (λ x. r.digits ++ x) p.1);
-      is = subst (λ x. IsInteger (minus_sign ∷ r.digits) x) same (Negative r.digits r.numeral (omega (arith, r.value_is, r.bounded)));
-      ends = whole_digits minus_sign r.digits rest refl (subst EndsDigits p.1 r.ends);
-    }
+-- As number_taken, of whatever is read.
+pub number_yields : (most : ℕ) (bytes : List ℕ) → Yields (λ (x : ℕ × List ℕ). IsNumberAt most bytes x.0 x.1) (number_at most bytes)
+number_yields most bytes = record { is = λ x e. number_taken most bytes x.0 x.1 e }
 
-positive_taken : (bytes : List ℕ) (n : ℤ) (rest : List ℕ) → positive_at bytes ≡ Ok (n, rest) → IsIntegerAt bytes n rest
-positive_taken bytes n rest e =
-    let s = bind_ok (number_at (2 ^ 63 - 1) bytes) (λ x. Ok (pos x.0, x.1)) (n, rest) e in
-    let p = pair_is (pos s.0.0) s.0.1 n rest s.2 in
-    let r = number_taken (2 ^ 63 - 1) bytes s.0.0 s.0.1 s.1 in
-    let same : pos (digits_value 10 r.digits) ≡ n = ap pos r.value_is ∙ p.0 in
-    record {
-      text = r.digits;
-      whole = r.whole ∙ ap (λ x. r.digits ++ x) p.1;
-      is = subst (λ x. IsInteger r.digits x) same (FromZero r.digits r.numeral (omega (arith, r.value_is, r.bounded)));
-      ends = whole_numeral r.digits rest r.numeral (subst EndsDigits p.1 r.ends);
-    }
-
-pub integer_taken : (bytes : List ℕ) (n : ℤ) (rest : List ℕ) → integer_at bytes ≡ Ok (n, rest) → IsIntegerAt bytes n rest
+-- What is read as an integer is one.
+pub integer_taken : (bytes : List ℕ) → Yields (λ (x : ℤ × List ℕ). IsIntegerAt bytes x.0 x.1) (integer_at bytes)
 unfolding integer_at
-integer_taken [] n rest e = absurd cc
-integer_taken (b ∷ bytes) n rest e =
-    ⊎_elim
-    (λ h. let same = eqb-true b minus_sign h.0 in subst (λ x. IsIntegerAt (x ∷ bytes) n rest) (sym same) (negative_taken bytes n rest h.1))
-    (λ h. positive_taken (b ∷ bytes) n rest h.1)
-    (chosen (eqb b minus_sign) _ _ (Ok (n, rest)) e)
+integer_taken [] = err_yields
+integer_taken (b ∷ bytes) =
+    if_yields (eqb b minus_sign)
+    (λ h. bind_yields _ (number_yields (2 ^ 63) bytes) (λ x r. ok_yields (record {
+      text = minus_sign ∷ r.digits;
+      whole = λ i. eqb-true b minus_sign h i ∷ r.whole i;
+      is = subst (λ v. IsInteger (minus_sign ∷ r.digits) (neg_ℤ (pos v))) r.value_is (Negative r.digits r.numeral (omega (arith, r.value_is, r.bounded)));
+      ends = whole_digits minus_sign r.digits x.1 refl r.ends;
+    })))
+    (λ h. bind_yields _ (number_yields (2 ^ 63 - 1) (b ∷ bytes)) (λ x r. ok_yields (record {
+      text = r.digits;
+      whole = r.whole;
+      is = subst (λ v. IsInteger r.digits (pos v)) r.value_is (FromZero r.digits r.numeral (omega (arith, r.value_is, r.bounded)));
+      ends = whole_numeral r.digits x.1 r.numeral r.ends;
+    })))
 
+-- The characters that are counted are those of a name.
 pub names_all : (bytes : List ℕ) → list_all is_name_char (take (name_length bytes) bytes) ≡ true
 unfolding name_length
 names_all [] = refl
 names_all (b ∷ bytes) =
     ⊎_elim (λ h. rw (h.0, h.0, names_all bytes) refl) (λ h. rw h.0 refl) (chosen (is_name_char b) true false (cond (is_name_char b) true false) refl)
 
+-- No character of a name stands behind those that are counted.
 pub names_end : (bytes : List ℕ) → EndsName (drop (name_length bytes) bytes)
 unfolding name_length
 names_end [] = tt
@@ -201,14 +195,13 @@ name_parts most b bytes (c ∷ cs) rest h whole all few ends =
       ends = whole_name c cs rest letter ends;
     }
 
-pub name_taken : (most b : ℕ) (bytes name rest : List ℕ) → is_ascii_lowercase b ≡ true → name_at most (b ∷ bytes) ≡ Ok (name, rest)
-    → IsNameAt most (b ∷ bytes) name rest
+-- What is read as a name that a letter a to z begins is a plain atom.
+pub name_yields : (most b : ℕ) (bytes : List ℕ) → is_ascii_lowercase b ≡ true
+    → Yields (λ (x : List ℕ × List ℕ). IsNameAt most (b ∷ bytes) x.0 x.1) (name_at most (b ∷ bytes))
 unfolding name_at
-name_taken most b bytes name rest h e =
+name_yields most b bytes h =
     let n = name_length (b ∷ bytes) in
-    let g = guarded (leb n most) _ (Ok (take n (b ∷ bytes), drop n (b ∷ bytes))) (name, rest) e in
-    let p = pair_is (take n (b ∷ bytes)) (drop n (b ∷ bytes)) name rest g.1 in
-    let whole : b ∷ bytes ≡ name ++ rest = sym (take-append-drop n (b ∷ bytes)) ∙ ap (λ x. x ++ drop n (b ∷ bytes)) p.0 ∙ ap (λ x. name ++ x) p.1 in
-    let few : length (take n (b ∷ bytes)) ≤ most = omega (arith, length-take n (b ∷ bytes), leb-true n most g.0) in
-    name_parts most b bytes name rest h whole (subst (λ x. list_all is_name_char x ≡ true) p.0 (names_all (b ∷ bytes))) (subst (λ x. length x ≤ most) p.0 few)
-    (subst EndsName p.1 (names_end (b ∷ bytes)))
+    if_yields (leb n most)
+    (λ g. ok_yields (name_parts most b bytes (take n (b ∷ bytes)) (drop n (b ∷ bytes)) h (sym (take-append-drop n (b ∷ bytes))) (names_all (b ∷ bytes))
+    (omega (arith, length-take n (b ∷ bytes), leb-true n most g)) (names_end (b ∷ bytes))))
+    (λ g. err_yields)

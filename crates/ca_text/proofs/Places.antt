@@ -28,7 +28,7 @@ take_take (suc k) (suc n) [] h = refl
 take_take (suc k) (suc n) (b ∷ bytes) h = ap (λ x. b ∷ x) (take_take k n bytes (omega (arith, h)))
 
 -- the first bytes of a text's beginning begin it too
-pub begins_cut : (limits : Limits) (levels k : ℕ) (front : List ℕ) → Begins limits levels front → Begins limits levels (take k front)
+begins_cut : (limits : Limits) (levels k : ℕ) (front : List ℕ) → Begins limits levels front → Begins limits levels (take k front)
 begins_cut limits levels k front b =
     let same : take k front ++ (drop k front ++ b.0) ≡ front ++ b.0 =
     sym (append_assoc (take k front) (drop k front) b.0) ∙ ap (λ x. x ++ b.0) (take-append-drop k front) in
@@ -64,6 +64,7 @@ module _ (limits : Limits) (levels : ℕ) where
       let at : length bytes - f.left ≡ length s.front = omega (arith, long, left) in
       ends_by bytes s.front s.behind f s.whole (omega (arith, less, at, long)) s.again (subst (λ n. Begins limits levels (take (n + 1) bytes)) at b)
 
+  -- A fault stands within the bytes or at their end.
   pub within_by : (bytes : List ℕ) (f : Fault) → term_at limits levels bytes ≡ Err f → f.left ≤ length bytes
   within_by bytes f e =
       let s = stuck (term_at limits levels) bytes (term_local limits levels bytes) f e in
@@ -81,6 +82,7 @@ module _ (limits : Limits) (levels : ℕ) where
       (λ (g : GoesOn (IsTextOf limits (suc levels)) h.front). g) h.goes_on in
       begins_front limits (suc levels) k bytes h.front h.behind h.whole (omega (arith, few, long, h.left)) goes
 
+-- The bytes before a fault are the longest start of a text.
 pub start_is : (bytes : List ℕ) (f : Fault) → term_at standard MOST_LEVELS bytes ≡ Err f → IsLongestStart bytes (length bytes - f.left)
 start_is bytes f e = record {
   within = omega arith;
@@ -97,9 +99,11 @@ start_least bytes at other one two =
     absurd (two.ends (omega (arith, less, one.within))
     (subst (λ x. Begins standard MOST_LEVELS x) first (begins_cut standard MOST_LEVELS (other + 1) (take at bytes) one.begins))))
 
+-- Some bytes have one longest start.
 pub start_sure : (bytes : List ℕ) (at other : ℕ) → IsLongestStart bytes at → IsLongestStart bytes other → at ≡ other
 start_sure bytes at other one two = omega (arith, start_least bytes at other one two, start_least bytes other at two one)
 
+-- A stop stands within the bytes, if it is a fault.
 pub within : (bytes : List ℕ) (e : Stop) → Fails e (term_at standard MOST_LEVELS bytes) → IsWithin e (length bytes)
 within bytes stop.NoMemory e = tt
 within bytes (stop.At f) e = within_by standard MOST_LEVELS bytes f e

@@ -1,5 +1,5 @@
 -- The code point in UTF-8 at the front of some bytes: it is read, or the fault stands behind the longest start of one.
-use Rattle.std.proofs.Common.{◌≡◌, ℕ, ◌+◌, ◌<◌, ◌≤◌, ◌/◌, true, false, leb, ltb, ◌&&◌, List, [], ◌∷◌, ◌++◌, length, take, drop, slice_index, Option, None, Some, Result, Ok, Err, refl, sym, ap, subst, ◌∙◌, append_assoc, append-nil, arith, ◌⊎◌, inl, inr, ⊎_elim, length-append, length-drop, length-take-le, take-append-drop, get_or}
+use Rattle.std.proofs.Common.{◌≡◌, ℕ, ◌+◌, ◌<◌, ◌≤◌, ◌/◌, leb, ◌&&◌, List, [], ◌∷◌, ◌++◌, length, take, drop, slice_index, Option, None, Some, Ok, Err, refl, sym, ap, subst, ◌∙◌, append_assoc, append-nil, arith, ◌⊎◌, inl, inr, ⊎_elim, length-append, length-drop, length-take-le, take-append-drop, get_or}
 use Rattle.std.proofs.Math.Seq.{drop-append_seam}
 use Rattle.std.proofs.lemmas.List.{drop_more, take_more}
 use Rattle.std.proofs.lemmas.Bool.{cases_lt, le-leb, leb-true}
@@ -14,7 +14,8 @@ use Rattle.ca_term.specs.Character.{IsNoCharacter}
 use Rattle.ca_term.proofs.Characters.{no_lead, no_character}
 use Rattle.ca_text.specs.declared.fault.Fault.{Fault}
 use Rattle.ca_text.specs.declared.fault.Why.TheVariants.{Syntax}
-use Rattle.ca_text.specs.Inner.Reading.{Read, syntax_fault, begun, point_of, point_at}
+use Rattle.ca_text.specs.Inner.Reading.{syntax_fault, begun, point_of, point_at}
+use Rattle.ca_text.proofs.Yields.{Yields, ok_yields, err_yields}
 use Rattle.ca_text.proofs.Tools.{both, either_way, pair_is}
 use Rattle.ca_text.proofs.Halts.{Halts, Reads}
 use Rattle.ca_text.proofs.Local.{IsLocal, err_is, place}
@@ -112,13 +113,10 @@ pub point_cases : (bytes : List ℕ) → PointRead bytes ⊎ PointStuck bytes
 point_cases bytes = point_by bytes (decoded bytes).char refl
 
 -- What is read as a code point in UTF-8 is one.
-pub point_taken : (bytes : List ℕ) (c : ℕ) (rest : List ℕ) → point_at bytes ≡ Ok (c, rest) → IsPointOf bytes c rest
-point_taken bytes c rest e =
-    ⊎_elim
-    (λ (p : PointRead bytes). let q = pair_is p.point p.rest c rest (sym p.read ∙ e) in
-    record { whole = rw (← q.0, ← q.1) p.is.whole; scalar = rw (← q.0) p.is.scalar })
-    (λ (s : PointStuck bytes). let no = s.read in absurd cc)
-    (point_cases bytes)
+pub point_yields : (bytes : List ℕ) → Yields (λ (x : ℕ × List ℕ). IsPointOf bytes x.0 x.1) (point_at bytes)
+point_yields bytes =
+    ⊎_elim (λ (p : PointRead bytes). subst (Yields (λ (x : ℕ × List ℕ). IsPointOf bytes x.0 x.1)) (sym p.read) (ok_yields p.is))
+    (λ (k : PointStuck bytes). subst (Yields (λ (x : ℕ × List ℕ). IsPointOf bytes x.0 x.1)) (sym k.read) err_yields) (point_cases bytes)
 
 -- ---- where none is read
 
@@ -245,7 +243,8 @@ first_byte c is =
     ⊎_elim (λ h. inl (h, one c h))
     (λ h. inr (⊎_elim
     (λ i. (h, 192 + c / 64, _, two c h i, omega arith, omega arith))
-    (λ i. ⊎_elim (λ j. (h, 224 + c / 4096, _, three c i j, omega arith, omega arith)) (λ j. (h, 240 + c / 262144, _, four c j, omega arith, omega arith)) (cases_lt c 65536))
+    (λ i. ⊎_elim (λ j. (h, 224 + c / 4096, _, three c i j, omega arith, omega arith)) (λ j. (h, 240 + c / 262144, _, four c j, omega arith, omega arith))
+        (cases_lt c 65536))
     (cases_lt c 2048)))
     (cases_lt c 128)
 

@@ -37,36 +37,45 @@ pub record Beside {X : Type 0} (raises : Why → Bool) (rest_of : X → List ℕ
 -- ---- limits
 
 module _ (raises : Why → Bool) (v : Why) where
+  -- A limit that is not raised stays.
   pub grown_itself : (n : ℕ) → raises v ≡ false → Grown raises v n n
   grown_itself n stays = record { more = λ h. let e = sym stays ∙ h in absurd cc; same = λ h. refl }
 
+  -- A limit that is raised by one more than two that are used up is raised.
   pub grown_before : (m n : ℕ) → Grown raises v (suc m) (suc n) → Grown raises v m n
   grown_before m n g = record { more = λ h. omega (arith, g.more h); same = λ h. omega (arith, g.same h) }
 
+  -- No raised limit is smaller.
   pub grown_most : (m n : ℕ) → Grown raises v m n → m ≤ n
   grown_most m n g = either_way (raises v) (λ h. omega (arith, g.more h)) (λ h. omega (arith, g.same h))
 
+  -- A limit that stays is not raised.
   pub grown_stays : (n : ℕ) → Grown raises v n n → raises v ≡ false
   grown_stays n g = either_way (raises v) (λ h. absurd (omega (arith, g.more h))) (λ h. h)
 
+  -- A limit that was none and is some is raised.
   pub grown_raised : (n : ℕ) → Grown raises v zero (suc n) → raises v ≡ true
   grown_raised n g = either_way (raises v) (λ h. h) (λ h. absurd (omega (arith, g.same h)))
 
 -- ---- steps
 
 module _ {X : Type 0} (rest_of : X → List ℕ) where
+  -- What is kept within some bytes is kept within more.
   pub within_more : {less left : ℕ} (s : Result X Fault) → less ≤ left → Within rest_of less s → Within rest_of left s
   within_more (Ok x) h within = omega arith
   within_more (Err f) h within = omega arith
 
+  -- What is kept within fewer bytes got past.
   pub within_past : {less left : ℕ} (s : Result X Fault) → less < left → Within rest_of less s → Past rest_of left s
   within_past (Ok x) h within = omega arith
   within_past (Err f) h within = omega arith
 
 module _ {raises : Why → Bool} {X : Type 0} {rest_of : X → List ℕ} where
+  -- A value without raised limits is one with them.
   pub ok_beside : {left : ℕ} {x : X} → length (rest_of x) ≤ left → Beside raises rest_of left (Ok x) (Ok x)
   ok_beside h = record { raised = refl; within = h }
 
+  -- A fault that is not raised stays.
   pub fault_beside : {left : ℕ} (why : Why) (bytes : List ℕ) → raises why ≡ false → length bytes ≤ left
       → Beside raises rest_of left (fault why bytes) (fault why bytes)
   fault_beside why bytes stays h = record { raised = (λ i. refl, λ i. let e = sym stays ∙ i in absurd cc); within = h }
@@ -77,9 +86,11 @@ module _ {raises : Why → Bool} {X : Type 0} {rest_of : X → List ℕ} where
   past_beside why bytes r (Ok x) grows e past = rw e (record { raised = (λ i. let k = sym grows ∙ i in absurd cc, λ i. past); within = omega arith })
   past_beside why bytes r (Err f) grows e past = rw e (record { raised = (λ i. let k = sym grows ∙ i in absurd cc, λ i. past); within = omega arith })
 
+  -- What is kept within some bytes is kept within more, and raised as before.
   pub beside_more : {less left : ℕ} {r s : Result X Fault} → less ≤ left → Beside raises rest_of less r s → Beside raises rest_of left r s
   beside_more {s = s} h b = record { raised = b.raised; within = within_more rest_of s h b.within }
 
+  -- Both readings go one way at a test.
   pub if_beside : {left : ℕ} {x y u v : Result X Fault} (b : Bool) → (b ≡ true → Beside raises rest_of left x u) → (b ≡ false → Beside raises rest_of left y v)
       → Beside raises rest_of left (cond b x y) (cond b u v)
   if_beside true f g = f refl
@@ -87,11 +98,13 @@ module _ {raises : Why → Bool} {X : Type 0} {rest_of : X → List ℕ} where
 
 -- one reader behind another
 module _ {X Y : Type 0} (before : X → List ℕ) (after : Y → List ℕ) where
+  -- One reader behind another keeps within the bytes.
   pub bind_within : (left : ℕ) (s : Result X Fault) (h : X → Result Y Fault) → Within before left s → ((x : X) → Within after (length (before x)) (h x))
       → Within after left (s >>= h)
   bind_within left (Ok x) h first second = within_more after (h x) first (second x)
   bind_within left (Err f) h first second = first
 
+  -- Behind a reader that got past, another one got past.
   pub bind_past : (left : ℕ) (s : Result X Fault) (h : X → Result Y Fault) → Past before left s → ((x : X) → Within after (length (before x)) (h x))
       → Past after left (s >>= h)
   bind_past left (Ok x) h first second = within_past after (h x) first (second x)
@@ -110,6 +123,7 @@ module _ {raises : Why → Bool} {X Y : Type 0} {before : X → List ℕ} {after
   bind_known g h first second within =
       record { raised = bind_raised before after raises r s g h first.raised second within; within = bind_within before after left s h first.within within }
 
+  -- One reader behind another, with raised limits and without.
   pub bind_beside : (g h : X → Result Y Fault) → Beside raises before left r s → ((x : X) → Beside raises after (length (before x)) (g x) (h x))
       → Beside raises after left (r >>= g) (s >>= h)
   bind_beside g h first second = bind_known g h first (λ x e. (second x).raised) (λ x. (second x).within)
@@ -126,6 +140,7 @@ abbrev pub ReadsBeside : {A : Type 0} → (Why → Bool) → (List ℕ → Read 
 ReadsBeside raises p q = (bytes : List ℕ) → Beside raises behind (length bytes) (p bytes) (q bytes)
 
 module _ {raises : Why → Bool} {X : Type 0} {rest_of : X → List ℕ} {p q : List ℕ → Result X Fault} where
+  -- A reader behind blanks, with raised limits and without.
   pub skip_beside : ((bytes : List ℕ) → Beside raises rest_of (length bytes) (p bytes) (q bytes)) → (bytes : List ℕ)
       → Beside raises rest_of (length bytes) (p (skip bytes)) (q (skip bytes))
   skip_beside l bytes = beside_more (skip_shorter bytes) (l (skip bytes))

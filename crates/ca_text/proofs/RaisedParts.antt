@@ -15,10 +15,12 @@ use Rattle.ca_text.proofs.Points.{PointRead, PointStuck, encode_some, point_case
 use Rattle.ca_text.proofs.Raised.{Grown, Past, Within, Beside, itself, behind, ReadsBeside, grown_itself, grown_before, grown_most, grown_stays, grown_raised, within_past, ok_beside, fault_beside, past_beside, beside_more, if_beside, bind_within, bind_past, bind_known, bind_beside, skip_beside, local_within}
 
 module _ (raises : Why → Bool) (plain : raises Syntax ≡ false) where
+  -- A fault of syntax stays.
   pub syntax_beside : {X : Type 0} {rest_of : X → List ℕ} {left : ℕ} (bytes : List ℕ) → length bytes ≤ left
       → Beside raises rest_of left (syntax_fault bytes) (syntax_fault bytes)
   syntax_beside bytes h = fault_beside Syntax bytes plain h
 
+  -- A byte is read alike with raised limits.
   pub expect_beside : (c : ℕ) (bytes : List ℕ) → Beside raises itself (length bytes) (expect c bytes) (expect c bytes)
   unfolding expect
   expect_beside c [] = syntax_beside [] (omega arith)
@@ -38,6 +40,7 @@ module _ (raises : Why → Bool) (plain : raises Syntax ≡ false) where
   number_beside most [] = syntax_beside [] (omega arith)
   number_beside most (b ∷ bytes) = if_beside (is_ascii_digit b) (λ h. digits_beside (b ∷ bytes) most 0) (λ h. syntax_beside (b ∷ bytes) (omega arith))
 
+  -- An integer is read alike with raised limits.
   pub integer_beside : ReadsBeside raises integer_at integer_at
   unfolding integer_at
   integer_beside [] = syntax_beside [] (omega arith)
@@ -132,6 +135,7 @@ module _ (raises : Why → Bool) (plain : raises Syntax ≡ false) where
   after_within next l (None, rest) = omega arith
   after_within next l (Some c, rest) = bind_within behind behind (length rest) (next rest) (λ y. Ok (c ∷ y.0, y.1)) (l rest) (λ y. omega arith)
 
+  -- A code point more than may stand is got past where the limit is raised.
   pub characters_past : (over : Why) (close most n b : ℕ) (bytes : List ℕ) → eqb b close ≡ false → begins_character close most b ≡ true
       → Past behind (length (b ∷ bytes)) (characters_at over close most (suc n) (b ∷ bytes))
   unfolding characters_at
@@ -164,6 +168,7 @@ module _ (raises : Why → Bool) (plain : raises Syntax ≡ false) where
   after_beside p q l (None, rest) = ok_beside (omega arith)
   after_beside p q l (Some c, rest) = bind_beside _ _ (l rest) (λ y. ok_beside (omega arith))
 
+  -- Characters between quotes, with raised limits and without.
   pub characters_beside : (over : Why) (close most n m : ℕ) → Grown raises over n m
       → ReadsBeside raises (characters_at over close most n) (characters_at over close most m)
   unfolding characters_at
@@ -176,6 +181,7 @@ module _ (raises : Why → Bool) (plain : raises Syntax ≡ false) where
       (after_beside (characters_at over close most n) (characters_at over close most m)
       (characters_beside over close most n m (grown_before raises over n m g)))
 
+  -- A string is read alike with raised limits.
   pub string_beside : (most : ℕ) → ReadsBeside raises (string_at most) (string_at most)
   string_beside most bytes = characters_beside Syntax double_quote most (length bytes) (length bytes) (grown_itself raises Syntax (length bytes) plain) bytes
 
@@ -205,6 +211,7 @@ module _ (raises : Why → Bool) (plain : raises Syntax ≡ false) where
       (λ h. ok_beside (omega (arith, length-drop (name_length bytes) bytes)))
       (λ h. fault_beside AtomTooLong (drop most bytes) stays (omega (arith, length-drop most bytes)))
 
+  -- A name, with raised limits and without.
   pub name_beside : (most more : ℕ) → Grown raises AtomTooLong most more → ReadsBeside raises (name_at most) (name_at more)
   name_beside most more g = either_way (raises AtomTooLong)
       (λ h. name_raised most more h (g.more h))
@@ -235,6 +242,7 @@ module _ (raises : Why → Bool) (plain : raises Syntax ≡ false) where
     rest_beside front p q true rest l = bind_beside _ _ (l refl rest) (λ r. ok_beside (omega arith))
     rest_beside front p q false rest l = ok_beside (omega arith)
 
+    -- Parts one after another, with raised limits and without.
     pub series_beside : (n m : ℕ) → Grown raises v n m → (raises v ≡ true → 0 < n) → ReadsBeside raises (series_at step n) (series_at wide m)
     unfolding series_at
     series_beside zero zero g few bytes = syntax_beside bytes (omega arith)
@@ -254,7 +262,8 @@ module _ (raises : Why → Bool) (plain : raises Syntax ≡ false) where
   segment_beside : ReadsBeside raises segment_at segment_at
   unfolding segment_at
   segment_beside [] = one_byte_beside []
-  segment_beside (b ∷ bytes) = if_beside (eqb b double_quote) (λ h. beside_more (omega arith) (string_beside most_shown bytes)) (λ h. one_byte_beside (b ∷ bytes))
+  segment_beside (b ∷ bytes) = if_beside (eqb b double_quote) (λ h. beside_more (omega arith) (string_beside most_shown bytes))
+      (λ h. one_byte_beside (b ∷ bytes))
 
   after_segment_beside : ReadsBeside raises after_segment_at after_segment_at
   unfolding after_segment_at
@@ -279,6 +288,7 @@ module _ (raises : Why → Bool) (plain : raises Syntax ≡ false) where
       (λ h. series_beside Syntax segment_step segment_step segment_step_beside (λ k. local_within (segment_step k) (segment_step_local k))
       (λ k ys x e i j. let stays = sym plain ∙ j in absurd cc) n n (grown_itself raises Syntax n plain) (λ j. omega arith) (b ∷ bytes))
 
+  -- A binary is read alike with raised limits.
   pub binary_beside : ReadsBeside raises binary_at binary_at
   binary_beside bytes =
       bind_beside _ _ (expect_beside open_angle bytes) (λ rest.

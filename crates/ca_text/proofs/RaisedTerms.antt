@@ -1,5 +1,5 @@
 -- Terms read with raised limits, beside what is read without.
-use Rattle.std.proofs.Common.{◌≡◌, ℕ, zero, suc, ◌+◌, ◌-◌, ◌*◌, ◌^◌, ◌<◌, ◌≤◌, Bool, true, false, ◌||◌, ◌==◌, eqb, leb, List, [], ◌∷◌, length, Ok, Err, pos, neg_ℤ, refl, ap, subst, ◌∙◌, arith, length-drop, if◌then◌else◌}
+use Rattle.std.proofs.Common.{◌≡◌, ℕ, zero, suc, ◌+◌, ◌-◌, ◌*◌, ◌^◌, ◌<◌, ◌≤◌, Bool, true, false, ◌||◌, ◌==◌, eqb, leb, List, [], ◌∷◌, length, Ok, Err, pos, neg_ℤ, refl, subst, arith, length-drop, if◌then◌else◌}
 use Rattle.std.proofs.lemmas.Bool.Decides.{nat_tests}
 use Rattle.std.specs.Char.{is_ascii_digit, is_ascii_lowercase}
 use Rattle.ca_term.specs.Tree.{Tree, Integer, Atom}
@@ -9,10 +9,10 @@ use Rattle.ca_text.specs.Grammar.{Limits, points, skip}
 use Rattle.ca_text.specs.declared.fault.Why.{Why}
 use Rattle.ca_text.specs.declared.fault.Why.TheVariants.{Syntax, AtomTooLong, TooDeep, TooWide}
 use Rattle.ca_text.specs.Inner.Reading.{◌>>=◌, Read, fault, syntax_fault, digits_after, number_at, negative_at, integer_at, name_length, name_at, closing_at, next_point_at, character_at, characters_at, string_at, quoted_at, most_point, begins_character, after_element_at, element_step, elements_at, Next, Head, Inner, Last, closed, inner_at, tail_at, next_at, cells_after, cell_step, cells_at, list_at, string_points_at, points_at, tuple_at, binary_at, atom_at, integer_term_at, other_at, bracketed, begins_term, too_deep, term_at}
-use Rattle.ca_text.proofs.Tools.{bind_ok, either_way, ok_is}
+use Rattle.ca_text.proofs.Tools.{either_way}
 use Rattle.ca_text.proofs.Local.{IsLocal}
 use Rattle.ca_text.proofs.LocalParts.{digits_local, number_local}
-use Rattle.ca_text.proofs.Sound.{after_some}
+use Rattle.ca_text.proofs.Sound.{element_some}
 use Rattle.ca_text.proofs.LocalTerms.{skip_shorter, after_element_local, term_local}
 use Rattle.ca_text.proofs.Raised.{Grown, Past, Within, IsRaised, Beside, behind, ReadsBeside, grown_itself, grown_before, grown_most, grown_stays, grown_raised, within_more, within_past, ok_beside, fault_beside, past_beside, beside_more, if_beside, bind_within, bind_past, bind_beside, skip_beside, local_within}
 use Rattle.ca_text.proofs.RaisedParts.{syntax_beside, expect_beside, integer_beside, characters_past, characters_beside, string_beside, name_beside, series_beside, binary_beside}
@@ -30,7 +30,8 @@ module _ (raises : Why → Bool) (plain : raises Syntax ≡ false) where
   abbrev after_comma : ℕ → ℕ → List ℕ → Read Bool
   after_comma n b bytes = if n == 0 then fault TooWide (b ∷ bytes) else Ok (true, skip bytes)
 
-  comma_beside : (n m b : ℕ) (bytes : List ℕ) → Grown raises TooWide n m → Beside raises behind (length (b ∷ bytes)) (after_comma n b bytes) (after_comma m b bytes)
+  comma_beside : (n m b : ℕ) (bytes : List ℕ) → Grown raises TooWide n m
+      → Beside raises behind (length (b ∷ bytes)) (after_comma n b bytes) (after_comma m b bytes)
   comma_beside n m b bytes g =
       let short = skip_shorter bytes in
       either_way (raises TooWide)
@@ -61,14 +62,6 @@ module _ (raises : Why → Bool) (plain : raises Syntax ≡ false) where
         (within_more behind (after_element_at n (skip x.1)) (skip_shorter x.1)
         (local_within (after_element_at n) (after_element_local n) (skip x.1))) (λ y. omega arith))
 
-    element_some : (n : ℕ) (bytes : List ℕ) (x : (List Tree × Bool) × List ℕ) → element_step element n bytes ≡ Ok x → x.0.1 ≡ true → 0 < n
-    unfolding element_step
-    element_some n bytes x e h =
-        let s = bind_ok (element bytes) (λ x. after_element_at n (skip x.1) >>= λ y. Ok ((x.0 ∷ [], y.0), y.1)) x e in
-        let u = bind_ok (after_element_at n (skip s.0.1)) (λ y. Ok ((s.0.0 ∷ [], y.0), y.1)) x s.2 in
-        let more : u.0.0 ≡ true = ap (λ (y : (List Tree × Bool) × List ℕ). y.0.1) (ok_is ((s.0.0 ∷ [], u.0.0), u.0.1) x u.2) ∙ h in
-        after_some n (skip s.0.1) u.0.1 (u.1 ∙ ap (λ (y : Bool). Ok (y, u.0.1)) more)
-
     elements_beside : (most more : ℕ) → (raises TooWide ≡ true → 0 < most) → Grown raises TooWide most more
         → ReadsBeside raises (elements_at element most) (elements_at wide more)
     unfolding elements_at
@@ -76,7 +69,7 @@ module _ (raises : Why → Bool) (plain : raises Syntax ≡ false) where
     elements_beside most more some g (b ∷ bytes) =
         if_beside (eqb b close_brace) (λ h. ok_beside (omega arith))
         (λ h. series_beside raises plain TooWide (element_step element) (element_step wide) element_step_beside element_step_within
-        (λ n ys x e i j. element_some n ys x e i) most more g some (b ∷ bytes))
+        (λ n ys x e i j. (element_some element n ys).is x e i) most more g some (b ∷ bytes))
 
     tuple_beside : (most more : ℕ) → (raises TooWide ≡ true → 0 < most) → Grown raises TooWide most more
         → ReadsBeside raises (tuple_at element most) (tuple_at wide more)
@@ -103,7 +96,8 @@ module _ (raises : Why → Bool) (plain : raises Syntax ≡ false) where
     tail_beside : (bytes : List ℕ) → Beside raises rest_of (length bytes) (tail_at other bytes) (tail_at others bytes)
     unfolding tail_at
     tail_beside [] = closed_beside (beside [])
-    tail_beside (b ∷ bytes) = if_beside (eqb b open_bracket) (λ h. beside_more (omega arith) (skip_beside inner_beside bytes)) (λ h. closed_beside (beside (b ∷ bytes)))
+    tail_beside (b ∷ bytes) = if_beside (eqb b open_bracket) (λ h. beside_more (omega arith) (skip_beside inner_beside bytes))
+        (λ h. closed_beside (beside (b ∷ bytes)))
 
     next_beside : (bytes : List ℕ) → Beside raises rest_of (length bytes) (next_at other bytes) (next_at others bytes)
     unfolding next_at
@@ -111,7 +105,8 @@ module _ (raises : Why → Bool) (plain : raises Syntax ≡ false) where
     next_beside (b ∷ bytes) =
         if_beside (eqb b comma) (λ h. ok_beside (omega (arith, skip_shorter bytes))) (λ h.
         if_beside (eqb b close_bracket) (λ i. ok_beside (omega arith)) (λ i.
-        if_beside (eqb b vertical_bar) (λ j. beside_more (omega arith) (skip_beside tail_beside bytes)) (λ j. syntax_beside raises plain (b ∷ bytes) (omega arith))))
+        if_beside (eqb b vertical_bar) (λ j. beside_more (omega arith) (skip_beside tail_beside bytes))
+            (λ j. syntax_beside raises plain (b ∷ bytes) (omega arith))))
 
     module _ (element wide : List ℕ → Read Tree) (each : ReadsBeside raises element wide) where
       cell_beside : (bytes : List ℕ) → Beside raises (λ x. rest_of x.1) (length bytes) (cell_step element other bytes) (cell_step wide others bytes)
@@ -162,7 +157,8 @@ module _ (raises : Why → Bool) (plain : raises Syntax ≡ false) where
   points_beside (suc levels) (suc deeper) g bytes = bind_beside _ _ (string_beside raises plain most_point bytes) (λ x. ok_beside (omega arith))
 
   quoted_beside : (most more : ℕ) → Grown raises AtomTooLong most more → ReadsBeside raises (quoted_at most) (quoted_at more)
-  quoted_beside most more g bytes = bind_beside _ _ (characters_beside raises plain AtomTooLong single_quote most_point most more g bytes) (λ x. ok_beside (omega arith))
+  quoted_beside most more g bytes = bind_beside _ _ (characters_beside raises plain AtomTooLong single_quote most_point most more g bytes)
+      (λ x. ok_beside (omega arith))
 
   atom_beside : (most more : ℕ) → Grown raises AtomTooLong most more → ReadsBeside raises (atom_at most) (atom_at more)
   atom_beside most more g bytes = bind_beside _ _ (name_beside raises plain most more g bytes) (λ x. ok_beside (omega arith))
@@ -248,7 +244,8 @@ module _ (limits : Limits) (levels : ℕ) where
       (never_grown AtomTooLong limits.characters)
       (never_grown TooDeep levels) each
 
-  past_other : 0 < limits.characters → (b : ℕ) (bytes : List ℕ) → begins_term b ≡ true → eqb b open_bracket ≡ false → Past behind (length (b ∷ bytes)) (other (b ∷ bytes))
+  past_other : 0 < limits.characters → (b : ℕ) (bytes : List ℕ) → begins_term b ≡ true → eqb b open_bracket ≡ false
+      → Past behind (length (b ∷ bytes)) (other (b ∷ bytes))
   unfolding other_at
   past_other some b bytes begins apart =
       either_way (eqb b open_brace)

@@ -15,7 +15,7 @@ use Rattle.ca_text.proofs.Sound.{term_taken}
 use Rattle.ca_text.specs.declared.bounds.TheConstants.{MOST_LEVELS}
 use Rattle.ca_text.proofs.Complete.{term_again}
 
-pub read_of : (text rest : List ℕ) (t : Tree) → IsText text t → IsWhole text rest → IsRead (text ++ rest) t (length text)
+read_of : (text rest : List ℕ) (t : Tree) → IsText text t → IsWhole text rest → IsRead (text ++ rest) t (length text)
 read_of text rest t is whole = record {
   within = omega (arith, length-append text rest);
   text = subst (λ x. IsText x t) (sym (take-append_seam text rest)) is;
@@ -23,16 +23,19 @@ read_of text rest t is whole = record {
       (subst (λ x. IsWhole text x) (sym (drop-append_seam text rest)) whole);
 }
 
+-- What is read is a text at the front.
 pub read_is : (bytes : List ℕ) (t : Tree) (rest : List ℕ) → term_at standard MOST_LEVELS bytes ≡ Ok (t, rest)
     → (length rest ≤ length bytes) × IsRead bytes t (length bytes - length rest)
 read_is bytes t rest e =
-    let r = term_taken standard MOST_LEVELS bytes t rest e in
+    let r = (term_taken standard MOST_LEVELS bytes).is (t, rest) e in
     let long : length bytes ≡ length r.text + length rest = ap (λ (x : List ℕ). length x) r.whole ∙ length-append r.text rest in
     let count : length r.text ≡ length bytes - length rest = omega (arith, long) in
     (omega (arith, long), subst (λ n. IsRead bytes t n) count (subst (λ x. IsRead x t (length r.text)) (sym r.whole) (read_of r.text rest t r.is r.ends)))
 
+-- A text at the front is read.
 pub read_again : (bytes : List ℕ) (t : Tree) (n : ℕ) → IsRead bytes t n → term_at standard MOST_LEVELS bytes ≡ Ok (t, drop n bytes)
-read_again bytes t n r = ap (term_at standard MOST_LEVELS) (sym (take-append-drop n bytes)) ∙ term_again standard MOST_LEVELS (take n bytes) t (drop n bytes) r.text r.whole
+read_again bytes t n r = ap (term_at standard MOST_LEVELS) (sym (take-append-drop n bytes)) ∙ term_again standard MOST_LEVELS (take n bytes) t
+    (drop n bytes) r.text r.whole
 
 -- a text is whole before what begins as bytes did that it was whole before
 whole_cut : (text rest : List ℕ) (k : ℕ) → IsWhole text rest → IsWhole text (take k rest)
@@ -55,7 +58,8 @@ longest bytes t u n m r less within is =
     absurd (omega (arith, less, some, ap (λ (x : List ℕ). length x) none))
 
 -- a fault comes only where no text is read
-pub none_read : (bytes : List ℕ) (e : Stop) (t : Tree) (n : ℕ) → Fails e (term_at standard MOST_LEVELS bytes) → IsRead bytes t n → text_fault e (length bytes) ≡ NoMemory
+pub none_read : (bytes : List ℕ) (e : Stop) (t : Tree) (n : ℕ) → Fails e (term_at standard MOST_LEVELS bytes) → IsRead bytes t n
+    → text_fault e (length bytes) ≡ NoMemory
 none_read bytes stop.NoMemory t n f r = refl
 none_read bytes (stop.At d) t n f r = let again = read_again bytes t n r in absurd cc
 
@@ -66,6 +70,7 @@ same_read bytes t rest u n e r =
     let p = pair_is t rest u (drop n bytes) (sym e ∙ read_again bytes u n r) in
     (p.0, omega (arith, ap (λ (x : List ℕ). length x) p.1, length-drop n bytes, r.within))
 
+-- One text stands at the front.
 pub one_read : (bytes : List ℕ) (t u : Tree) (n m : ℕ) → IsRead bytes t n → IsRead bytes u m → (t ≡ u) × (n ≡ m)
 one_read bytes t u n m p q =
     let s = same_read bytes t (drop n bytes) u m (read_again bytes t n p) q in

@@ -37,6 +37,7 @@ fault_is bytes f e = record {
   kind = kind_is bytes f f.why e refl;
 }
 
+-- Where the reader stops at a fault, nothing is read, for the reason that it tells.
 pub not_read : (bytes : List ℕ) (e : Stop) → Fails e (term_at standard MOST_LEVELS bytes)
     → (text_fault e (length bytes) ≡ NoMemory) ⊎ IsNotRead bytes (text_fault e (length bytes))
 not_read bytes stop.NoMemory f = inl refl
@@ -45,7 +46,8 @@ not_read bytes (stop.At d) f = inr (fault_is bytes d f)
 -- ---- one fault
 
 -- what goes on with a limit raised is a fault of that limit
-apart : (w : Why) (bytes : List ℕ) (f : Fault) → term_at standard MOST_LEVELS bytes ≡ Err f → GoesOnAt (limits_for w) (suc (levels_for w)) bytes (length bytes - f.left)
+apart : (w : Why) (bytes : List ℕ) (f : Fault) → term_at standard MOST_LEVELS bytes ≡ Err f
+    → GoesOnAt (limits_for w) (suc (levels_for w)) bytes (length bytes - f.left)
     → just w f.why ≡ true
 apart w bytes f e goes = either_way (just w f.why) (λ h. h) (λ h. absurd (limit_stays w bytes f e h goes))
 
@@ -109,12 +111,15 @@ fault_by : (bytes : List ℕ) (e f : TextFault) (r : Read Tree) → term_at stan
 fault_by bytes e f (Ok (t, rest)) is p q = absurd (p.unread t (length bytes - length rest) (read_is bytes t rest is).1)
 fault_by bytes e f (Err d) is p q = fault_found bytes d e is p ∙ sym (fault_found bytes d f is q)
 
+-- Nothing is read for one reason.
 pub fault_sure : (bytes : List ℕ) (e f : TextFault) → IsNotRead bytes e → IsNotRead bytes f → e ≡ f
 fault_sure bytes e f p q = fault_by bytes e f (term_at standard MOST_LEVELS bytes) refl p q
 
+-- Where nothing is read for a reason, the reader tells it, unless memory lacks.
 pub fault_known : (bytes : List ℕ) (s : Stop) (e : TextFault) → Fails s (term_at standard MOST_LEVELS bytes) → IsNotRead bytes e
     → (text_fault s (length bytes) ≡ e) ⊎ (text_fault s (length bytes) ≡ NoMemory)
 fault_known bytes s e h p = ⊎_elim (λ none. inr none) (λ q. inl (fault_sure bytes (text_fault s (length bytes)) e q p)) (not_read bytes s h)
 
+-- No bytes have both a text at the front and a reason why there is none.
 pub read_or_not : (bytes : List ℕ) (t : Tree) (n : ℕ) (e : TextFault) → IsRead bytes t n → IsNotRead bytes e → ⊥
 read_or_not bytes t n e p q = q.unread t n p

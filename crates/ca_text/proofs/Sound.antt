@@ -6,34 +6,78 @@ use Rattle.std.proofs.lemmas.Bool.Decides.{nat_tests}
 use Rattle.std.specs.List.{list_all}
 use Rattle.std.specs.Char.{is_ascii, is_ascii_lowercase}
 use Rattle.std.specs.Str.{encode_utf8_all}
-use Rattle.ca_term.specs.Tree.{Tree, Integer, Atom, Tuple, Nil, Cons, Binary, row_of}
+use Rattle.ca_term.specs.Tree.{Tree, Tuple, Nil, Cons, Binary, row_of}
 use Rattle.ca_text.specs.Bytes.{close_angle, close_brace, close_bracket, comma, double_quote, open_angle, open_brace, open_bracket, single_quote, vertical_bar}
 use Rattle.ca_text.specs.Grammar.{ABinary, AList, ANil, AString, ATuple, AnAtom, AnInteger, AreBlanks, AreCells, AreCharacters, AreElements, AreSegments, Closed, IsSegment, IsTextOf, IsWhole, LastCell, LastElement, LastSegment, LastTail, Limits, MoreCells, MoreElements, MoreSegments, NoBytes, NoElements, NoString, OneByte, OneMore, Plain, Quoted, Shown, most_byte, points, skip}
-use Rattle.ca_text.specs.Inner.Reading.{◌>>=◌, Read, expect, number_at, integer_at, name_at, is_point, most_point, most_shown, characters_at, string_at, quoted_at, one_byte_at, segment_at, after_segment_at, segment_step, series_at, series_rest, bytes_at, after_element_at, element_step, elements_at, Next, Head, Inner, Last, closed, inner_at, tail_at, next_at, cells_after, cell_step, cells_at, list_at, points_at, tuple_at, binary_at, atom_at, integer_term_at, other_at, bracketed, too_deep, begins_term, begins_character, term_at}
-use Rattle.ca_text.proofs.Tools.{bind_ok, chosen, guarded, spared, both, neither, ok_is, pair_is}
-use Rattle.ca_text.proofs.Characters.{expect_taken, characters_taken}
-use Rattle.ca_text.proofs.Numbers.{skipped, number_taken, whole_by, integer_taken, name_taken}
+use Rattle.ca_text.specs.declared.fault.Why.TheVariants.{Syntax, AtomTooLong}
+use Rattle.ca_text.specs.Inner.Reading.{begins_character, Read, is_point, most_point, most_shown, quoted_at, one_byte_at, segment_at, after_segment_at, segment_step, series_at, series_rest, bytes_at, after_element_at, element_step, elements_at, Next, Head, Inner, Last, closed, inner_at, tail_at, next_at, cells_after, cell_step, cells_at, list_at, points_at, tuple_at, binary_at, atom_at, integer_term_at, other_at, bracketed, too_deep, begins_term, begins_character, term_at}
+use Rattle.ca_text.proofs.Tools.{both}
+use Rattle.ca_text.proofs.Yields.{Yields, Stands, Takes, any_yields, ok_yields, err_yields, if_yields, map_yields, bind_yields, expect_yields}
+use Rattle.ca_text.proofs.Characters.{characters_taken}
+use Rattle.ca_text.proofs.Numbers.{skipped, number_yields, whole_by, integer_taken, name_yields}
 
--- parts of some bytes, one behind another
-pub with_end : (bytes text r blanks s closing rest : List ℕ) → bytes ≡ text ++ r → r ≡ blanks ++ s → s ≡ closing ++ rest
+-- Parts of some bytes, one behind another.
+with_end : (bytes text r blanks s closing rest : List ℕ) → bytes ≡ text ++ r → r ≡ blanks ++ s → s ≡ closing ++ rest
     → bytes ≡ (text ++ (blanks ++ closing)) ++ rest
 with_end bytes text r blanks s closing rest e f g = rw (e, f, g) (simp append_assoc)
 
-pub with_more : (c : ℕ) (bytes text r before s tail after u others rest : List ℕ) → bytes ≡ text ++ r → r ≡ before ++ s → s ≡ c ∷ tail → tail ≡ after ++ u
+-- A part, blanks, a byte, blanks, and the rest.
+with_more : (c : ℕ) (bytes text r before s tail after u others rest : List ℕ) → bytes ≡ text ++ r → r ≡ before ++ s → s ≡ c ∷ tail → tail ≡ after ++ u
     → u ≡ others ++ rest
     → bytes ≡ (text ++ (before ++ c ∷ (after ++ others))) ++ rest
 with_more c bytes text r before s tail after u others rest e f g h i = rw (e, f, g, h, i) (simp append_assoc)
 
+-- Blanks, and what stands behind them.
 pub with_front_blanks : (bytes blanks inner text rest : List ℕ) → bytes ≡ blanks ++ inner → inner ≡ text ++ rest → bytes ≡ (blanks ++ text) ++ rest
 with_front_blanks bytes blanks inner text rest e f = e ∙ ap (λ x. blanks ++ x) f ∙ sym (append_assoc blanks text rest)
 
+-- ---- parts one after another
+
+-- a comma and blanks, or the end
+abbrev pub IsAfter : List ℕ → List ℕ → Bool → List ℕ → Type 0
+IsAfter closing bytes true rest = (tail : List ℕ) × (bytes ≡ comma ∷ tail) × (skip tail ≡ rest)
+IsAfter closing bytes false rest = bytes ≡ closing ++ rest
+
+-- a part, blanks, and what follows them
+abbrev pub IsStep : {B : Type 0} → (List ℕ → List B → Type 0) → List ℕ → List ℕ → List B → Bool → List ℕ → Type 0
+IsStep IsPart closing bytes part more rest = (after : List ℕ) × Stands IsPart bytes part after × IsAfter closing (skip after) more rest
+
+module _ {B : Type 0} (IsPart : List ℕ → List B → Type 0) (Are : ℕ → List ℕ → List B → Type 0) (closing : List ℕ)
+    (last : (n : ℕ) (text blanks : List ℕ) (b : List B) → IsPart text b → AreBlanks blanks → Are (suc n) (text ++ (blanks ++ closing)) b)
+    (another : (n : ℕ) (text before after rest : List ℕ) (b bs : List B) → IsPart text b → AreBlanks before → AreBlanks after → Are n rest bs
+        → Are (suc n) (text ++ (before ++ comma ∷ (after ++ rest))) (b ++ bs))
+    (step : ℕ → List ℕ → Read (List B × Bool))
+    (step_taken : (n : ℕ) (bytes : List ℕ)
+        → Yields (λ (x : (List B × Bool) × List ℕ). IsStep IsPart closing bytes x.0.0 x.0.1 x.1) (step n bytes)) where
+  rest_taken : (n : ℕ) (bytes : List ℕ) (part : List B) (more : Bool) (rest : List ℕ) → Takes (Are n) (series_at step n)
+      → IsStep IsPart closing bytes part more rest
+      → Yields (λ (x : List B × List ℕ). Stands (Are (suc n)) bytes x.0 x.1) (series_rest part (series_at step n) more rest)
+  rest_taken n bytes part true rest later p = bind_yields _ (later rest) (λ x others.
+      let before = skipped p.0 in
+      let after = skipped p.2.0 in
+      ok_yields (record {
+        text = p.1.text ++ (before.blanks ++ comma ∷ (after.blanks ++ others.text));
+        whole = with_more comma bytes p.1.text p.0 before.blanks (skip p.0) p.2.0 after.blanks (skip p.2.0) others.text x.1 p.1.whole before.whole p.2.1
+            after.whole (p.2.2 ∙ others.whole);
+        is = another n p.1.text before.blanks after.blanks others.text part x.0 p.1.is before.are after.are others.is;
+      }))
+  rest_taken n bytes part false rest later p =
+      let blanks = skipped p.0 in
+      ok_yields (record {
+        text = p.1.text ++ (blanks.blanks ++ closing);
+        whole = with_end bytes p.1.text p.0 blanks.blanks (skip p.0) closing rest p.1.whole blanks.whole p.2;
+        is = last n p.1.text blanks.blanks part p.1.is blanks.are;
+      })
+
+  -- Parts that are read one after another are so.
+  series_taken : (n : ℕ) → Takes (Are n) (series_at step n)
+  unfolding series_at
+  series_taken zero bytes = err_yields
+  series_taken (suc n) bytes = bind_yields _ (step_taken n bytes) (λ x p. rest_taken n bytes x.0.0 x.0.1 x.1 (series_taken n) p)
+
 -- ---- binaries
 
-pub record IsSegmentAt (bytes bs rest : List ℕ) : Type 0 where
-  pub text : List ℕ
-  pub whole : bytes ≡ text ++ rest
-  pub is : IsSegment text bs
-
+-- Shown code points are those of ASCII.
 pub shown_ascii : (cs : List ℕ) → list_all (is_point most_shown) cs ≡ true → list_all is_ascii cs ≡ true
 shown_ascii [] h = refl
 shown_ascii (c ∷ cs) h =
@@ -42,104 +86,48 @@ shown_ascii (c ∷ cs) h =
     let one : is_ascii c ≡ true = grind (arith, nat_tests) in
     rw (one, shown_ascii cs t.1) refl
 
-one_byte_taken : (bytes bs rest : List ℕ) → one_byte_at bytes ≡ Ok (bs, rest) → IsSegmentAt bytes bs rest
-one_byte_taken bytes bs rest e =
-    let s = bind_ok (number_at most_byte bytes) (λ x. Ok (x.0 ∷ [], x.1)) (bs, rest) e in
-    let p = pair_is (s.0.0 ∷ []) s.0.1 bs rest s.2 in
-    let r = number_taken most_byte bytes s.0.0 s.0.1 s.1 in
-    let same = ap (λ n. n ∷ []) r.value_is ∙ p.0 in
-    record {
-      text = r.digits;
-      whole = r.whole ∙ ap (λ x. r.digits ++ x) p.1;
-      is = subst (λ x. IsSegment r.digits x) same (OneByte r.digits r.numeral (omega (arith, r.value_is, r.bounded)));
-    }
+one_byte_taken : Takes IsSegment one_byte_at
+one_byte_taken bytes = bind_yields _ (number_yields most_byte bytes) (λ x r. ok_yields (record {
+  text = r.digits;
+  whole = r.whole;
+  is = subst (λ v. IsSegment r.digits (v ∷ [])) r.value_is (OneByte r.digits r.numeral (omega (arith, r.value_is, r.bounded)));
+}))
 
-pub segment_taken : (bytes bs rest : List ℕ) → segment_at bytes ≡ Ok (bs, rest) → IsSegmentAt bytes bs rest
+-- What is read as a part of a binary is one.
+pub segment_taken : Takes IsSegment segment_at
 unfolding segment_at
-segment_taken [] bs rest e = one_byte_taken [] bs rest e
-segment_taken (b ∷ bytes) bs rest e =
-    ⊎_elim
-    (λ h. let same = eqb-true b double_quote h.0 in
-    let r = characters_taken _ double_quote most_shown (length bytes) bytes bs rest (omega arith) (omega arith) (λ x. absurd (omega arith)) h.1 in
-    record { text = double_quote ∷ r.text; whole = let w = r.whole in cc; is = Shown r.text bs r.characters (shown_ascii bs r.points) })
-    (λ h. one_byte_taken (b ∷ bytes) bs rest h.1)
-    (chosen (eqb b double_quote) _ _ (Ok (bs, rest)) e)
+segment_taken [] = one_byte_taken []
+segment_taken (b ∷ bytes) =
+    if_yields (eqb b double_quote)
+    (λ h. map_yields (characters_taken double_quote most_shown (omega arith) (omega arith) (λ x. absurd (omega arith)) Syntax (length bytes) bytes)
+        (λ x r. record {
+      text = double_quote ∷ r.text;
+      whole = λ i. eqb-true b double_quote h i ∷ r.whole i;
+      is = Shown r.text x.0 r.characters (shown_ascii x.0 r.points);
+    }))
+    (λ h. one_byte_taken (b ∷ bytes))
 
--- a comma, or the closing brackets
-pub after_segment_taken : (bytes : List ℕ) (more : Bool) (rest : List ℕ) → after_segment_at bytes ≡ Ok (more, rest)
-    → ((more ≡ true) × (tail : List ℕ) × (bytes ≡ comma ∷ tail) × (skip tail ≡ rest)) ⊎ ((more ≡ false) × (bytes ≡ close_angle ∷ close_angle ∷ rest))
+-- What follows a segment is a comma, or the closing brackets.
+after_segment_taken : (bytes : List ℕ) → Yields (λ (x : Bool × List ℕ). IsAfter (close_angle ∷ close_angle ∷ []) bytes x.0 x.1) (after_segment_at bytes)
 unfolding after_segment_at
-after_segment_taken [] more rest e = absurd cc
-after_segment_taken (b ∷ bytes) more rest e =
-    ⊎_elim
-    (λ h. let p = pair_is true (skip bytes) more rest h.1 in inl (sym p.0, bytes, ap (λ x. x ∷ bytes) (eqb-true b comma h.0), p.1))
-    (λ h. let g = guarded (eqb b close_angle) _ (expect close_angle bytes >>= λ after. Ok (false, after)) (more, rest) h.1 in
-    let s = bind_ok (expect close_angle bytes) (λ after. Ok (false, after)) (more, rest) g.1 in
-    let p = pair_is false s.0 more rest s.2 in
-    let x = expect_taken close_angle bytes s.0 s.1 in
-    let same = eqb-true b close_angle g.0 in
-    let q = p.1 in
-    inr (sym p.0, cc))
-    (chosen (eqb b comma) _ _ (Ok (more, rest)) e)
+after_segment_taken [] = err_yields
+after_segment_taken (b ∷ bytes) =
+    if_yields (eqb b comma)
+    (λ h. ok_yields (bytes, ap (λ x. x ∷ bytes) (eqb-true b comma h), refl))
+    (λ h. if_yields (eqb b close_angle)
+    (λ i. bind_yields _ (expect_yields close_angle bytes) (λ rest e. ok_yields (λ j. eqb-true b close_angle i j ∷ e j)))
+    (λ i. err_yields))
 
-pub record AreSegmentsAt (bytes bs rest : List ℕ) : Type 0 where
-  pub text : List ℕ
-  pub whole : bytes ≡ text ++ rest
-  pub are : AreSegments text bs
-
-segments_more : (n : ℕ) (bytes bs rest part : List ℕ) (more : Bool) (after : List ℕ)
-    → ((bytes bs rest : List ℕ) → series_at segment_step n bytes ≡ Ok (bs, rest) → AreSegmentsAt bytes bs rest)
-    → segment_step n bytes ≡ Ok ((part, more), after) → series_rest part (series_at segment_step n) more after ≡ Ok (bs, rest) → AreSegmentsAt bytes bs rest
+-- What is read as a segment and what follows it is so.
+pub segment_step_taken : (n : ℕ) (bytes : List ℕ)
+    → Yields (λ (x : (List ℕ × Bool) × List ℕ). IsStep IsSegment (close_angle ∷ close_angle ∷ []) bytes x.0.0 x.0.1 x.1) (segment_step n bytes)
 unfolding segment_step
-segments_more n bytes bs rest part more after later e f =
-    let s = bind_ok (segment_at bytes) (λ x. after_segment_at (skip x.1) >>= λ y. Ok ((x.0, y.0), y.1)) ((part, more), after) e in
-    let u = bind_ok (after_segment_at (skip s.0.1)) (λ y. Ok ((s.0.0, y.0), y.1)) ((part, more), after) s.2 in
-    let found : List ℕ × Bool = (s.0.0, u.0.0) in
-    let wanted : List ℕ × Bool = (part, more) in
-    let p = pair_is found u.0.1 wanted after u.2 in
-    let first = segment_taken bytes s.0.0 s.0.1 s.1 in
-    let blanks = skipped s.0.1 in
-    let part_is : s.0.0 ≡ part = ap (λ (x : List ℕ × Bool). x.0) p.0 in
-    let more_is : u.0.0 ≡ more = ap (λ (x : List ℕ × Bool). x.1) p.0 in
-    ⊎_elim
-    (λ h. let yes : more ≡ true = sym more_is ∙ h.0 in
-    let step : series_rest part (series_at segment_step n) true after ≡ Ok (bs, rest) =
-    subst (λ m. series_rest part (series_at segment_step n) m after ≡ Ok (bs, rest)) yes f in
-    let v = bind_ok (series_at segment_step n after) (λ r. Ok (part ++ r.0, r.1)) (bs, rest) step in
-    let q = pair_is (part ++ v.0.0) v.0.1 bs rest v.2 in
-    let others = later after v.0.0 v.0.1 v.1 in
-    let gap = skipped h.1 in
-    let whole =
-    with_more comma bytes first.text s.0.1 blanks.blanks (skip s.0.1) h.1 gap.blanks (skip h.1) others.text rest first.whole blanks.whole h.2 gap.whole
-    (h.3 ∙ p.1 ∙ others.whole ∙ ap (λ x. others.text ++ x) q.1) in
-    let made : AreSegments _ (s.0.0 ++ v.0.0) =
-    MoreSegments first.text blanks.blanks gap.blanks others.text s.0.0 v.0.0 first.is blanks.are gap.are others.are in
-    record {
-      text = first.text ++ (blanks.blanks ++ comma ∷ (gap.blanks ++ others.text));
-      whole = whole;
-      are = subst (λ x. AreSegments (first.text ++ (blanks.blanks ++ comma ∷ (gap.blanks ++ others.text))) x) (ap (λ x. x ++ v.0.0) part_is ∙ q.0) made;
-    })
-    (λ h. let no : more ≡ false = sym more_is ∙ h.0 in
-    let step : series_rest part (series_at segment_step n) false after ≡ Ok (bs, rest) =
-    subst (λ m. series_rest part (series_at segment_step n) m after ≡ Ok (bs, rest)) no f in
-    let q = pair_is part after bs rest step in
-    let whole =
-    with_end bytes first.text s.0.1 blanks.blanks (skip s.0.1) (close_angle ∷ close_angle ∷ []) rest first.whole blanks.whole (h.1 ∙ ap (λ x. close_angle ∷ close_angle ∷ x) (p.1 ∙ q.1)) in
-    record {
-      text = first.text ++ (blanks.blanks ++ close_angle ∷ close_angle ∷ []);
-      whole = whole;
-      are =
-          subst (λ x. AreSegments (first.text ++ (blanks.blanks ++ close_angle ∷ close_angle ∷ [])) x) (part_is ∙ q.0)
-          (LastSegment first.text blanks.blanks s.0.0 first.is blanks.are);
-    })
-    (after_segment_taken (skip s.0.1) u.0.0 u.0.1 u.1)
+segment_step_taken n bytes = bind_yields _ (segment_taken bytes) (λ x s. bind_yields _ (after_segment_taken (skip x.1)) (λ y a. ok_yields (x.1, s, a)))
 
-segments_taken : (n : ℕ) (bytes bs rest : List ℕ) → series_at segment_step n bytes ≡ Ok (bs, rest) → AreSegmentsAt bytes bs rest
-unfolding series_at
-segments_taken zero bytes bs rest e = absurd cc
-segments_taken (suc n) bytes bs rest e =
-    let s = bind_ok (segment_step n bytes) (λ x. series_rest x.0.0 (series_at segment_step n) x.0.1 x.1) (bs, rest) e in
-    segments_more n bytes bs rest s.0.0.0 s.0.0.1 s.0.1 (segments_taken n) s.1 s.2
+-- What are read as segments are segments.
+segments_taken : (n : ℕ) → Takes AreSegments (series_at segment_step n)
+segments_taken n = series_taken IsSegment (λ n. AreSegments) (close_angle ∷ close_angle ∷ []) (λ n. LastSegment) (λ n. MoreSegments)
+    segment_step segment_step_taken n
 
 -- ---- terms
 
@@ -150,175 +138,118 @@ pub record IsTermAt (limits : Limits) (levels : ℕ) (bytes : List ℕ) (t : Tre
   pub is : IsTextOf limits levels text t
   pub ends : IsWhole text rest
 
+-- a term is read here
+abbrev pub YieldsTerm : Limits → ℕ → List ℕ → Read Tree → Type 0
+YieldsTerm limits levels bytes r = Yields (λ (x : Tree × List ℕ). IsTermAt limits levels bytes x.0 x.1) r
+
 -- what a reader reads are terms
 abbrev pub ReadsTerms : Limits → ℕ → (List ℕ → Read Tree) → Type 0
-ReadsTerms limits levels reader = (bytes : List ℕ) (t : Tree) (rest : List ℕ) → reader bytes ≡ Ok (t, rest) → IsTermAt limits levels bytes t rest
+ReadsTerms limits levels reader = (bytes : List ℕ) → YieldsTerm limits levels bytes (reader bytes)
 
-bytes_from : (limits : Limits) (levels : ℕ) (bytes bs rest blanks inner : List ℕ) → bytes ≡ blanks ++ inner → AreBlanks blanks → bytes_at inner ≡ Ok (bs, rest)
-    → IsTermAt limits (suc levels) (open_angle ∷ open_angle ∷ bytes) (Binary bs) rest
-unfolding bytes_at
-bytes_from limits levels bytes bs rest blanks [] gap are e = absurd cc
-bytes_from limits levels bytes bs rest blanks (b ∷ inner) gap are e =
-    ⊎_elim
-    (λ h. let s = bind_ok (expect close_angle inner) (λ after. Ok ([], after)) (bs, rest) h.1 in
-    let p = pair_is [] s.0 bs rest s.2 in
-    let x = expect_taken close_angle inner s.0 s.1 in
-    let closing : b ∷ inner ≡ (close_angle ∷ close_angle ∷ []) ++ rest = let same = eqb-true b close_angle h.0 in let q = p.1 in cc in
-    let whole : open_angle ∷ open_angle ∷ bytes ≡ (open_angle ∷ open_angle ∷ blanks ++ close_angle ∷ close_angle ∷ []) ++ rest =
-    ap (λ x. open_angle ∷ open_angle ∷ x) (with_front_blanks bytes blanks (b ∷ inner) (close_angle ∷ close_angle ∷ []) rest gap closing) in
-    record {
-      text = open_angle ∷ open_angle ∷ blanks ++ close_angle ∷ close_angle ∷ [];
-      whole = whole;
-      is =
-          subst (λ x. IsTextOf limits (suc levels) (open_angle ∷ open_angle ∷ blanks ++ close_angle ∷ close_angle ∷ []) (Binary x)) p.0 (NoBytes limits levels blanks are);
-      ends =
-          whole_by (open_angle ∷ open_angle ∷ blanks ++ close_angle ∷ close_angle ∷ []) _ (λ c. refl);
-    })
-    (λ h. let r = segments_taken (length (b ∷ inner)) (b ∷ inner) bs rest h.1 in
-    let whole : open_angle ∷ open_angle ∷ bytes ≡ (open_angle ∷ open_angle ∷ blanks ++ r.text) ++ rest =
-    ap (λ x. open_angle ∷ open_angle ∷ x) (with_front_blanks bytes blanks (b ∷ inner) r.text rest gap r.whole) in
-    record {
-      text = open_angle ∷ open_angle ∷ blanks ++ r.text;
-      whole = whole;
-      is = ABinary limits levels blanks r.text bs are r.are;
-      ends = whole_by (open_angle ∷ open_angle ∷ blanks ++ r.text) _ (λ c. refl);
-    })
-    (chosen (eqb b close_angle) _ _ (Ok (bs, rest)) e)
+module _ (limits : Limits) (levels : ℕ) where
+  bytes_from : (bytes blanks inner : List ℕ) → bytes ≡ blanks ++ inner → AreBlanks blanks
+      → Yields (λ (x : List ℕ × List ℕ). IsTermAt limits (suc levels) (open_angle ∷ open_angle ∷ bytes) (Binary x.0) x.1) (bytes_at inner)
+  unfolding bytes_at
+  bytes_from bytes blanks [] gap are = err_yields
+  bytes_from bytes blanks (b ∷ inner) gap are =
+      if_yields (eqb b close_angle)
+      (λ h. bind_yields _ (expect_yields close_angle inner) (λ rest e. ok_yields (record {
+        text = open_angle ∷ open_angle ∷ blanks ++ close_angle ∷ close_angle ∷ [];
+        whole = ap (λ x. open_angle ∷ open_angle ∷ x) (with_front_blanks bytes blanks (b ∷ inner) (close_angle ∷ close_angle ∷ []) rest gap
+            (λ i. eqb-true b close_angle h i ∷ e i));
+        is = NoBytes limits levels blanks are;
+        ends = whole_by (open_angle ∷ open_angle ∷ blanks ++ close_angle ∷ close_angle ∷ []) rest (λ c. refl);
+      })))
+      (λ h. map_yields (segments_taken (length (b ∷ inner)) (b ∷ inner)) (λ x r. record {
+        text = open_angle ∷ open_angle ∷ blanks ++ r.text;
+        whole = ap (λ y. open_angle ∷ open_angle ∷ y) (with_front_blanks bytes blanks (b ∷ inner) r.text x.1 gap r.whole);
+        is = ABinary limits levels blanks r.text x.0 are r.is;
+        ends = whole_by (open_angle ∷ open_angle ∷ blanks ++ r.text) x.1 (λ c. refl);
+      }))
 
-bytes_taken : (limits : Limits) (levels : ℕ) (bytes bs rest : List ℕ) → bytes_at (skip bytes) ≡ Ok (bs, rest)
-    → IsTermAt limits (suc levels) (open_angle ∷ open_angle ∷ bytes) (Binary bs) rest
-bytes_taken limits levels bytes bs rest e = let gap = skipped bytes in bytes_from limits levels bytes bs rest gap.blanks (skip bytes) gap.whole gap.are e
+  binary_taken : (bytes : List ℕ) → YieldsTerm limits (suc levels) (open_angle ∷ bytes) (binary_at bytes)
+  binary_taken bytes = bind_yields _ (expect_yields open_angle bytes) (λ after e.
+      let gap = skipped after in
+      bind_yields _ (bytes_from after gap.blanks (skip after) gap.whole gap.are)
+      (λ x r. ok_yields (subst (λ y. IsTermAt limits (suc levels) (open_angle ∷ y) (Binary x.0) x.1) (sym e) r)))
 
--- a comma, or the closing brace
-pub after_element_taken : (n : ℕ) (bytes : List ℕ) (more : Bool) (rest : List ℕ) → after_element_at n bytes ≡ Ok (more, rest)
-    → ((more ≡ true) × (tail : List ℕ) × (bytes ≡ comma ∷ tail) × (skip tail ≡ rest)) ⊎ ((more ≡ false) × (bytes ≡ close_brace ∷ rest))
+-- What follows an element is a comma, or the closing brace.
+after_element_taken : (n : ℕ) (bytes : List ℕ) → Yields (λ (x : Bool × List ℕ). IsAfter (close_brace ∷ []) bytes x.0 x.1) (after_element_at n bytes)
 unfolding after_element_at
-after_element_taken n [] more rest e = absurd cc
-after_element_taken n (b ∷ bytes) more rest e =
-    ⊎_elim
-    (λ h. let g = spared (eqb n 0) _ (Ok (true, skip bytes)) (more, rest) h.1 in
-    let p = pair_is true (skip bytes) more rest g.1 in inl (sym p.0, bytes, ap (λ x. x ∷ bytes) (eqb-true b comma h.0), p.1))
-    (λ h. let g = guarded (eqb b close_brace) _ (Ok (false, bytes)) (more, rest) h.1 in
-    let p = pair_is false bytes more rest g.1 in
-    let same = eqb-true b close_brace g.0 in
-    let q = p.1 in
-    inr (sym p.0, cc))
-    (chosen (eqb b comma) _ _ (Ok (more, rest)) e)
+after_element_taken n [] = err_yields
+after_element_taken n (b ∷ bytes) =
+    if_yields (eqb b comma)
+    (λ h. if_yields (eqb n 0) (λ i. err_yields) (λ i. ok_yields (bytes, ap (λ x. x ∷ bytes) (eqb-true b comma h), refl)))
+    (λ h. if_yields (eqb b close_brace) (λ i. ok_yields (ap (λ x. x ∷ bytes) (eqb-true b close_brace i))) (λ i. err_yields))
 
--- a further element follows only where there may be one
-pub after_some : (n : ℕ) (bytes rest : List ℕ) → after_element_at n bytes ≡ Ok (true, rest) → 0 < n
+after_some : (n : ℕ) (bytes : List ℕ) → Yields (λ (x : Bool × List ℕ). x.0 ≡ true → 0 < n) (after_element_at n bytes)
 unfolding after_element_at
-after_some n [] rest e = absurd cc
-after_some zero (b ∷ bytes) rest e =
-    ⊎_elim (λ h. let k = h.1 in absurd cc)
-    (λ h. let g = guarded (eqb b close_brace) _ (Ok (false, bytes)) (true, rest) h.1 in let k : false ≡ true = (pair_is false bytes true rest g.1).0 in absurd cc)
-    (chosen (eqb b comma) _ _ (Ok (true, rest)) e)
-after_some (suc n) (b ∷ bytes) rest e = omega arith
+after_some n [] = err_yields
+after_some n (b ∷ bytes) =
+    if_yields (eqb b comma)
+    (λ h. if_yields (eqb n 0) (λ i. err_yields) (λ i. ok_yields (λ t. grind (arith, nat_tests))))
+    (λ h. if_yields (eqb b close_brace) (λ i. ok_yields (λ t. absurd cc)) (λ i. err_yields))
+
+-- A further element follows only where there may be one.
+pub element_some : (element : List ℕ → Read Tree) (n : ℕ) (bytes : List ℕ)
+    → Yields (λ (x : (List Tree × Bool) × List ℕ). x.0.1 ≡ true → 0 < n) (element_step element n bytes)
+unfolding element_step
+element_some element n bytes = bind_yields _ (any_yields (element bytes)) (λ x _. bind_yields _ (after_some n (skip x.1)) (λ y h. ok_yields h))
 
 module _ (limits : Limits) (levels : ℕ) (element : List ℕ → Read Tree) (sound : ReadsTerms limits levels element) where
-  pub record AreElementsAt (n : ℕ) (bytes : List ℕ) (ts : List Tree) (rest : List ℕ) : Type 0 where
-    pub text : List ℕ
-    pub whole : bytes ≡ text ++ rest
-    pub are : AreElements limits levels text (row_of ts)
-    pub few : length ts ≤ n
+  -- one element
+  abbrev pub IsElement : List ℕ → List Tree → Type 0
+  IsElement text ts = (t : Tree) × (ts ≡ t ∷ []) × IsTextOf limits levels text t
 
-  elements_more : (n : ℕ) (bytes : List ℕ) (ts : List Tree) (rest : List ℕ) (part : List Tree) (more : Bool) (after : List ℕ)
-      → ((bytes : List ℕ) (ts : List Tree) (rest : List ℕ) → series_at (element_step element) n bytes ≡ Ok (ts, rest) → AreElementsAt n bytes ts rest)
-      → element_step element n bytes ≡ Ok ((part, more), after) → series_rest part (series_at (element_step element) n) more after ≡ Ok (ts, rest)
-      → AreElementsAt (suc n) bytes ts rest
+  -- elements and the closing brace, at most so many
+  abbrev pub AreMost : ℕ → List ℕ → List Tree → Type 0
+  AreMost n text ts = AreElements limits levels text (row_of ts) × (length ts ≤ n)
+
+  -- What is read as an element and what follows it is so.
+  pub element_step_taken : (n : ℕ) (bytes : List ℕ)
+      → Yields (λ (x : (List Tree × Bool) × List ℕ). IsStep IsElement (close_brace ∷ []) bytes x.0.0 x.0.1 x.1) (element_step element n bytes)
   unfolding element_step
-  elements_more n bytes ts rest part more after later e f =
-      let s = bind_ok (element bytes) (λ x. after_element_at n (skip x.1) >>= λ y. Ok ((x.0 ∷ [], y.0), y.1)) ((part, more), after) e in
-      let u = bind_ok (after_element_at n (skip s.0.1)) (λ y. Ok ((s.0.0 ∷ [], y.0), y.1)) ((part, more), after) s.2 in
-      let found : List Tree × Bool = (s.0.0 ∷ [], u.0.0) in
-      let wanted : List Tree × Bool = (part, more) in
-      let p = pair_is found u.0.1 wanted after u.2 in
-      let first = sound bytes s.0.0 s.0.1 s.1 in
-      let blanks = skipped s.0.1 in
-      let part_is : s.0.0 ∷ [] ≡ part = ap (λ (x : List Tree × Bool). x.0) p.0 in
-      let more_is : u.0.0 ≡ more = ap (λ (x : List Tree × Bool). x.1) p.0 in
-      ⊎_elim
-      (λ h. let yes : more ≡ true = sym more_is ∙ h.0 in
-      let step : series_rest part (series_at (element_step element) n) true after ≡ Ok (ts, rest) =
-      subst (λ m. series_rest part (series_at (element_step element) n) m after ≡ Ok (ts, rest)) yes f in
-      let v = bind_ok (series_at (element_step element) n after) (λ r. Ok (part ++ r.0, r.1)) (ts, rest) step in
-      let q = pair_is (part ++ v.0.0) v.0.1 ts rest v.2 in
-      let others = later after v.0.0 v.0.1 v.1 in
-      let gap = skipped h.1 in
-      let whole =
-      with_more comma bytes first.text s.0.1 blanks.blanks (skip s.0.1) h.1 gap.blanks (skip h.1) others.text rest first.whole blanks.whole h.2 gap.whole
-      (h.3 ∙ p.1 ∙ others.whole ∙ ap (λ x. others.text ++ x) q.1) in
-      let made : AreElements limits levels _ (row_of (s.0.0 ∷ v.0.0)) =
-      MoreElements limits levels first.text blanks.blanks gap.blanks others.text s.0.0 (row_of v.0.0) first.is blanks.are gap.are others.are in
-      let same : s.0.0 ∷ v.0.0 ≡ ts = ap (λ x. x ++ v.0.0) part_is ∙ q.0 in
-      record {
-        text = first.text ++ (blanks.blanks ++ comma ∷ (gap.blanks ++ others.text));
-        whole = whole;
-        are = subst (λ x. AreElements limits levels (first.text ++ (blanks.blanks ++ comma ∷ (gap.blanks ++ others.text))) (row_of x)) same made;
-        few = subst (λ (x : List Tree). length x ≤ suc n) same (omega (arith, others.few));
-      })
-      (λ h. let no : more ≡ false = sym more_is ∙ h.0 in
-      let step : series_rest part (series_at (element_step element) n) false after ≡ Ok (ts, rest) =
-      subst (λ m. series_rest part (series_at (element_step element) n) m after ≡ Ok (ts, rest)) no f in
-      let q = pair_is part after ts rest step in
-      let whole = with_end bytes first.text s.0.1 blanks.blanks (skip s.0.1) (close_brace ∷ []) rest first.whole blanks.whole (h.1 ∙ ap (λ x. close_brace ∷ x) (p.1 ∙ q.1)) in
-      let same : s.0.0 ∷ [] ≡ ts = part_is ∙ q.0 in
-      record {
-        text = first.text ++ (blanks.blanks ++ close_brace ∷ []);
-        whole = whole;
-        are = subst (λ x. AreElements limits levels (first.text ++ (blanks.blanks ++ close_brace ∷ [])) (row_of x)) same
-            (LastElement limits levels first.text blanks.blanks s.0.0 first.is blanks.are);
-        few = subst (λ (x : List Tree). length x ≤ suc n) same (omega arith);
-      })
-      (after_element_taken n (skip s.0.1) u.0.0 u.0.1 u.1)
+  element_step_taken n bytes = bind_yields _ (sound bytes) (λ x s. bind_yields _ (after_element_taken n (skip x.1))
+      (λ y a. ok_yields (x.1, record { text = s.text; whole = s.whole; is = (x.0, refl, s.is) }, a)))
 
-  series_taken : (n : ℕ) (bytes : List ℕ) (ts : List Tree) (rest : List ℕ) → series_at (element_step element) n bytes ≡ Ok (ts, rest)
-      → AreElementsAt n bytes ts rest
-  unfolding series_at
-  series_taken zero bytes ts rest e = absurd cc
-  series_taken (suc n) bytes ts rest e =
-      let s = bind_ok (element_step element n bytes) (λ x. series_rest x.0.0 (series_at (element_step element) n) x.0.1 x.1) (ts, rest) e in
-      elements_more n bytes ts rest s.0.0.0 s.0.0.1 s.0.1 (series_taken n) s.1 s.2
+  -- An element and the closing brace.
+  pub last_most : (n : ℕ) (text blanks : List ℕ) (ts : List Tree) → IsElement text ts → AreBlanks blanks
+      → AreMost (suc n) (text ++ (blanks ++ close_brace ∷ [])) ts
+  last_most n text blanks ts is are =
+      subst (AreMost (suc n) (text ++ (blanks ++ close_brace ∷ []))) (sym is.1) (LastElement limits levels text blanks is.0 is.2 are, omega arith)
 
-  elements_from : (bytes : List ℕ) (ts : List Tree) (rest blanks inner : List ℕ) → bytes ≡ blanks ++ inner → AreBlanks blanks
-      → elements_at element limits.elements inner ≡ Ok (ts, rest)
-      → IsTermAt limits (suc levels) (open_brace ∷ bytes) (Tuple (row_of ts)) rest
+  -- An element, a comma, and elements.
+  pub another_most : (n : ℕ) (text before after rest : List ℕ) (ts us : List Tree) → IsElement text ts → AreBlanks before → AreBlanks after → AreMost n rest us
+      → AreMost (suc n) (text ++ (before ++ comma ∷ (after ++ rest))) (ts ++ us)
+  another_most n text before after rest ts us is one two are =
+      subst (λ vs. AreMost (suc n) (text ++ (before ++ comma ∷ (after ++ rest))) (vs ++ us)) (sym is.1)
+      (MoreElements limits levels text before after rest is.0 (row_of us) is.2 one two are.0, omega (arith, are.1))
+
+  elements_from : (bytes blanks inner : List ℕ) → bytes ≡ blanks ++ inner → AreBlanks blanks
+      → Yields (λ (x : List Tree × List ℕ). IsTermAt limits (suc levels) (open_brace ∷ bytes) (Tuple (row_of x.0)) x.1)
+          (elements_at element limits.elements inner)
   unfolding elements_at
-  elements_from bytes ts rest blanks [] gap are e = absurd cc
-  elements_from bytes ts rest blanks (b ∷ inner) gap are e =
-      ⊎_elim
-      (λ h. let none : List Tree = [] in
-      let p = pair_is none inner ts rest h.1 in
-      let closing : b ∷ inner ≡ (close_brace ∷ []) ++ rest = let same = eqb-true b close_brace h.0 in let q = p.1 in cc in
-      let whole : open_brace ∷ bytes ≡ (open_brace ∷ blanks ++ close_brace ∷ []) ++ rest =
-      ap (λ x. open_brace ∷ x) (with_front_blanks bytes blanks (b ∷ inner) (close_brace ∷ []) rest gap closing) in
-      record {
+  elements_from bytes blanks [] gap are = err_yields
+  elements_from bytes blanks (b ∷ inner) gap are =
+      if_yields (eqb b close_brace)
+      (λ h. ok_yields (record {
         text = open_brace ∷ blanks ++ close_brace ∷ [];
-        whole = whole;
-        is =
-            subst (λ x. IsTextOf limits (suc levels) (open_brace ∷ blanks ++ close_brace ∷ []) (Tuple (row_of x))) p.0 (NoElements limits levels blanks are);
-        ends =
-            whole_by (open_brace ∷ blanks ++ close_brace ∷ []) _ (λ c. refl);
-      })
-      (λ h. let r = series_taken limits.elements (b ∷ inner) ts rest h.1 in
-      let whole : open_brace ∷ bytes ≡ (open_brace ∷ blanks ++ r.text) ++ rest = ap (λ x. open_brace ∷ x) (with_front_blanks bytes blanks (b ∷ inner) r.text rest gap r.whole) in
-      record {
+        whole = ap (λ x. open_brace ∷ x) (with_front_blanks bytes blanks (b ∷ inner) (close_brace ∷ []) inner gap
+            (ap (λ x. x ∷ inner) (eqb-true b close_brace h)));
+        is = NoElements limits levels blanks are;
+        ends = whole_by (open_brace ∷ blanks ++ close_brace ∷ []) inner (λ c. refl);
+      }))
+      (λ h. map_yields (series_taken IsElement AreMost (close_brace ∷ []) last_most another_most (element_step element) element_step_taken limits.elements
+          (b ∷ inner))
+      (λ x r. record {
         text = open_brace ∷ blanks ++ r.text;
-        whole = whole;
-        is = ATuple limits levels blanks r.text (row_of ts) are r.are (omega (arith, size_row ts, r.few));
-        ends = whole_by (open_brace ∷ blanks ++ r.text) _ (λ c. refl);
-      })
-      (chosen (eqb b close_brace) _ _ (Ok (ts, rest)) e)
+        whole = ap (λ y. open_brace ∷ y) (with_front_blanks bytes blanks (b ∷ inner) r.text x.1 gap r.whole);
+        is = ATuple limits levels blanks r.text (row_of x.0) are r.is.0 (omega (arith, size_row x.0, r.is.1));
+        ends = whole_by (open_brace ∷ blanks ++ r.text) x.1 (λ c. refl);
+      }))
 
-  tuple_taken : (bytes : List ℕ) (t : Tree) (rest : List ℕ) → tuple_at element limits.elements (skip bytes) ≡ Ok (t, rest)
-      → IsTermAt limits (suc levels) (open_brace ∷ bytes) t rest
-  tuple_taken bytes t rest e =
-      let s = bind_ok (elements_at element limits.elements (skip bytes)) (λ x. Ok (Tuple (row_of x.0), x.1)) (t, rest) e in
-      let p = pair_is (Tuple (row_of s.0.0)) s.0.1 t rest s.2 in
-      let gap = skipped bytes in
-      let r = elements_from bytes s.0.0 s.0.1 gap.blanks (skip bytes) gap.whole gap.are s.1 in
-      subst (λ x. IsTermAt limits (suc levels) (open_brace ∷ bytes) x rest) p.0
-      (subst (λ x. IsTermAt limits (suc levels) (open_brace ∷ bytes) (Tuple (row_of s.0.0)) x) p.1 r)
+  tuple_taken : (bytes : List ℕ) → YieldsTerm limits (suc levels) (open_brace ∷ bytes) (tuple_at element limits.elements (skip bytes))
+  tuple_taken bytes = let gap = skipped bytes in bind_yields _ (elements_from bytes gap.blanks (skip bytes) gap.whole gap.are) (λ x r. ok_yields r)
 
   -- ---- lists
 
@@ -333,301 +264,230 @@ module _ (limits : Limits) (levels : ℕ) (element : List ℕ → Read Tree) (so
       ((t ≡ Nil) × (bytes ≡ close_bracket ∷ rest)) ⊎ ((tail after : List ℕ) × (bytes ≡ vertical_bar ∷ tail) × IsTermAt limits (suc levels) (skip tail) t after ×
       (skip after ≡ close_bracket ∷ rest))
 
+  closed_taken : (bytes tail : List ℕ) (r : Read Tree) → bytes ≡ vertical_bar ∷ tail → YieldsTerm limits (suc levels) (skip tail) r
+      → Yields (IsNext bytes) (closed r)
+  closed_taken bytes tail r bar y =
+      bind_yields _ y (λ x is. bind_yields _ (expect_yields close_bracket (skip x.1)) (λ rest e. ok_yields (inr (tail, x.1, bar, is, e))))
+
+  inner_taken : (bytes tail bracket inner : List ℕ) → bytes ≡ vertical_bar ∷ tail → skip tail ≡ open_bracket ∷ bracket → skip bracket ≡ inner
+      → Yields (IsNext bytes) (inner_at inner)
+  inner_taken bytes tail bracket [] bar opens gap = ok_yields (tail, bracket, bar, opens, gap)
+  inner_taken bytes tail bracket (b ∷ inner) bar opens gap =
+      if_yields (eqb b close_bracket)
+      (λ h. let blanks = skipped bracket in
+      let closing : skip bracket ≡ (close_bracket ∷ []) ++ inner = gap ∙ ap (λ x. x ∷ inner) (eqb-true b close_bracket h) in
+      closed_taken bytes tail (Ok (Nil, inner)) bar (ok_yields (record {
+        text = open_bracket ∷ blanks.blanks ++ close_bracket ∷ [];
+        whole = opens ∙ ap (λ x. open_bracket ∷ x) (with_front_blanks bracket blanks.blanks (skip bracket) (close_bracket ∷ []) inner blanks.whole closing);
+        is = ANil limits levels blanks.blanks blanks.are;
+        ends = whole_by (open_bracket ∷ blanks.blanks ++ close_bracket ∷ []) inner (λ c. refl);
+      })))
+      (λ h. ok_yields (tail, bracket, bar, opens, gap))
+
+  -- A list in brackets behind a bar is a term.
+  pub inner_list : (tail inner rest : List ℕ) (t : Tree) → skip tail ≡ open_bracket ∷ inner → Stands (AreCells limits levels) (skip inner) t rest
+      → IsTermAt limits (suc levels) (skip tail) t rest
+  inner_list tail inner rest t opens cells =
+      let gap = skipped inner in
+      record {
+        text = open_bracket ∷ gap.blanks ++ cells.text;
+        whole = opens ∙ ap (λ x. open_bracket ∷ x) (with_front_blanks inner gap.blanks (skip inner) cells.text rest gap.whole cells.whole);
+        is = AList limits levels gap.blanks cells.text t gap.are cells.is;
+        ends = whole_by (open_bracket ∷ gap.blanks ++ cells.text) rest (λ c. refl);
+      }
+
   module _ (other : List ℕ → Read Tree) (others_sound : ReadsTerms limits (suc levels) other) where
-    closed_next : (bytes tail : List ℕ) (t : Tree) (after : List ℕ) (next : Next) → bytes ≡ vertical_bar ∷ tail → IsTermAt limits (suc levels) (skip tail) t after
-        → closed (Ok (t, after)) ≡ Ok next → IsNext bytes next
-    closed_next bytes tail t after next bar is e =
-        let s = bind_ok (expect close_bracket (skip after)) (λ rest. Ok (Last t rest)) next e in
-        let x = expect_taken close_bracket (skip after) s.0 s.1 in
-        subst (λ n. IsNext bytes n) (ok_is (Last t s.0) next s.2) (inr (tail, after, bar, is, x))
-
-    closed_other : (bytes tail : List ℕ) (next : Next) → bytes ≡ vertical_bar ∷ tail → closed (other (skip tail)) ≡ Ok next → IsNext bytes next
-    closed_other bytes tail next bar e =
-        let s = bind_ok (other (skip tail)) (λ x. expect close_bracket (skip x.1) >>= λ rest. Ok (Last x.0 rest)) next e in
-        closed_next bytes tail s.0.0 s.0.1 next bar (others_sound (skip tail) s.0.0 s.0.1 s.1) s.2
-
-    inner_taken : (bytes tail bracket inner : List ℕ) (next : Next) → bytes ≡ vertical_bar ∷ tail → skip tail ≡ open_bracket ∷ bracket → skip bracket ≡ inner
-        → inner_at inner ≡ Ok next → IsNext bytes next
-    inner_taken bytes tail bracket [] next bar opens gap e = subst (λ n. IsNext bytes n) (ok_is (Inner []) next e) (tail, bracket, bar, opens, gap)
-    inner_taken bytes tail bracket (b ∷ inner) next bar opens gap e =
-        ⊎_elim
-        (λ h. let blanks = skipped bracket in
-        let closing : skip bracket ≡ (close_bracket ∷ []) ++ inner = gap ∙ ap (λ x. x ∷ inner) (eqb-true b close_bracket h.0) in
-        let whole : skip tail ≡ (open_bracket ∷ blanks.blanks ++ close_bracket ∷ []) ++ inner =
-        opens ∙ ap (λ x. open_bracket ∷ x) (with_front_blanks bracket blanks.blanks (skip bracket) (close_bracket ∷ []) inner blanks.whole closing) in
-        let is : IsTermAt limits (suc levels) (skip tail) Nil inner =
-        record {
-          text = open_bracket ∷ blanks.blanks ++ close_bracket ∷ [];
-          whole = whole;
-          is = ANil limits levels blanks.blanks blanks.are;
-          ends = whole_by (open_bracket ∷ blanks.blanks ++ close_bracket ∷ []) _ (λ c. refl);
-        } in
-        closed_next bytes tail Nil inner next bar is h.1)
-        (λ h. subst (λ n. IsNext bytes n) (ok_is (Inner (b ∷ inner)) next h.1) (tail, bracket, bar, opens, gap))
-        (chosen (eqb b close_bracket) _ _ (Ok next) e)
-
-    tail_taken : (bytes tail rest : List ℕ) (next : Next) → bytes ≡ vertical_bar ∷ tail → skip tail ≡ rest → tail_at other rest ≡ Ok next → IsNext bytes next
+    tail_taken : (bytes tail rest : List ℕ) → bytes ≡ vertical_bar ∷ tail → skip tail ≡ rest → Yields (IsNext bytes) (tail_at other rest)
     unfolding tail_at
-    tail_taken bytes tail [] next bar gap e = closed_other bytes tail next bar (subst (λ x. closed (other x) ≡ Ok next) (sym gap) e)
-    tail_taken bytes tail (b ∷ rest) next bar gap e =
-        ⊎_elim
-        (λ h. inner_taken bytes tail rest (skip rest) next bar (gap ∙ ap (λ x. x ∷ rest) (eqb-true b open_bracket h.0)) refl h.1)
-        (λ h. closed_other bytes tail next bar (subst (λ x. closed (other x) ≡ Ok next) (sym gap) h.1))
-        (chosen (eqb b open_bracket) _ _ (Ok next) e)
+    tail_taken bytes tail [] bar gap = closed_taken bytes tail (other []) bar
+        (subst (λ x. YieldsTerm limits (suc levels) (skip tail) (other x)) gap (others_sound (skip tail)))
+    tail_taken bytes tail (b ∷ rest) bar gap =
+        if_yields (eqb b open_bracket)
+        (λ h. inner_taken bytes tail rest (skip rest) bar (gap ∙ ap (λ x. x ∷ rest) (eqb-true b open_bracket h)) refl)
+        (λ h. closed_taken bytes tail (other (b ∷ rest)) bar
+        (subst (λ x. YieldsTerm limits (suc levels) (skip tail) (other x)) gap (others_sound (skip tail))))
 
-    pub next_taken : (bytes : List ℕ) (next : Next) → next_at other bytes ≡ Ok next → IsNext bytes next
+    -- What is read behind a head and blanks is what follows a head.
+    pub next_taken : (bytes : List ℕ) → Yields (IsNext bytes) (next_at other bytes)
     unfolding next_at
-    next_taken [] next e = absurd cc
-    next_taken (b ∷ bytes) next e =
-        ⊎_elim
-        (λ h. subst (λ n. IsNext (b ∷ bytes) n) (ok_is (Head (skip bytes)) next h.1) (bytes, ap (λ x. x ∷ bytes) (eqb-true b comma h.0), refl))
-        (λ h. ⊎_elim
-        (λ u. subst (λ n. IsNext (b ∷ bytes) n) (ok_is (Last Nil bytes) next u.1) (inl (refl, ap (λ x. x ∷ bytes) (eqb-true b close_bracket u.0))))
-        (λ u. let g = guarded (eqb b vertical_bar) _ (tail_at other (skip bytes)) next u.1 in
-        tail_taken (b ∷ bytes) bytes (skip bytes) next (ap (λ x. x ∷ bytes) (eqb-true b vertical_bar g.0)) refl g.1)
-        (chosen (eqb b close_bracket) _ _ (Ok next) h.1))
-        (chosen (eqb b comma) _ _ (Ok next) e)
-
-    pub record AreCellsAt (bytes : List ℕ) (t : Tree) (rest : List ℕ) : Type 0 where
-      pub text : List ℕ
-      pub whole : bytes ≡ text ++ rest
-      pub are : AreCells limits levels text t
+    next_taken [] = err_yields
+    next_taken (b ∷ bytes) =
+        if_yields (eqb b comma)
+        (λ h. ok_yields (bytes, ap (λ x. x ∷ bytes) (eqb-true b comma h), refl))
+        (λ h. if_yields (eqb b close_bracket)
+        (λ i. ok_yields (inl (refl, ap (λ x. x ∷ bytes) (eqb-true b close_bracket i))))
+        (λ i. if_yields (eqb b vertical_bar)
+        (λ j. tail_taken (b ∷ bytes) bytes (skip bytes) (ap (λ x. x ∷ bytes) (eqb-true b vertical_bar j)) refl)
+        (λ j. err_yields)))
 
     barred : (bytes : List ℕ) (head t : Tree) (r tail after rest : List ℕ) → IsTermAt limits levels bytes head r → skip r ≡ vertical_bar ∷ tail
         → IsTermAt limits (suc levels) (skip tail) t after → skip after ≡ close_bracket ∷ rest
-        → AreCellsAt bytes (Cons head t) rest
+        → Stands (AreCells limits levels) bytes (Cons head t) rest
     barred bytes head t r tail after rest first bar last closing =
         let before = skipped r in
         let behind = skipped tail in
         let blanks = skipped after in
         let ending = with_end (skip tail) last.text after blanks.blanks (skip after) (close_bracket ∷ []) rest last.whole blanks.whole closing in
-        let whole =
-        with_more vertical_bar bytes first.text r before.blanks (skip r) tail behind.blanks (skip tail)
-        (last.text ++ (blanks.blanks ++ close_bracket ∷ [])) rest first.whole before.whole bar behind.whole ending in
         record {
           text = first.text ++ (before.blanks ++ vertical_bar ∷ (behind.blanks ++ (last.text ++ (blanks.blanks ++ close_bracket ∷ []))));
-          whole = whole;
-          are = LastTail limits levels first.text before.blanks behind.blanks last.text blanks.blanks head t first.is before.are behind.are last.is blanks.are;
+          whole = with_more vertical_bar bytes first.text r before.blanks (skip r) tail behind.blanks (skip tail)
+              (last.text ++ (blanks.blanks ++ close_bracket ∷ [])) rest first.whole before.whole bar behind.whole ending;
+          is = LastTail limits levels first.text before.blanks behind.blanks last.text blanks.blanks head t first.is before.are behind.are last.is blanks.are;
         }
 
-    cells_next : (cells : List ℕ → Read Tree) (bytes : List ℕ) (head : Tree) (r : List ℕ) (next : Next) (t : Tree) (rest : List ℕ)
-        → ((bytes : List ℕ) (t : Tree) (rest : List ℕ) → cells bytes ≡ Ok (t, rest) → AreCellsAt bytes t rest)
-        → IsTermAt limits levels bytes head r → IsNext (skip r) next → cells_after head cells next ≡ Ok (t, rest) → AreCellsAt bytes t rest
-    cells_next cells bytes head r (Head inner) t rest later first next e =
-        let s = bind_ok (cells inner) (λ x. Ok (Cons head x.0, x.1)) (t, rest) e in
-        let p = pair_is (Cons head s.0.0) s.0.1 t rest s.2 in
-        let others = later inner s.0.0 s.0.1 s.1 in
+    cells_next : (cells : List ℕ → Read Tree) (bytes : List ℕ) (head : Tree) (r : List ℕ) (next : Next) → Takes (AreCells limits levels) cells
+        → IsTermAt limits levels bytes head r → IsNext (skip r) next
+        → Yields (λ (x : Tree × List ℕ). Stands (AreCells limits levels) bytes x.0 x.1) (cells_after head cells next)
+    cells_next cells bytes head r (Head inner) later first next = bind_yields _ (later inner) (λ x others.
         let before = skipped r in
         let behind = skipped next.0 in
-        let whole =
-        with_more comma bytes first.text r before.blanks (skip r) next.0 behind.blanks
-        (skip next.0) others.text rest first.whole before.whole next.1 behind.whole (next.2 ∙ others.whole ∙ ap (λ x. others.text ++ x) p.1) in
-        record {
+        ok_yields (record {
           text = first.text ++ (before.blanks ++ comma ∷ (behind.blanks ++ others.text));
-          whole = whole;
-          are = subst (λ x. AreCells limits levels (first.text ++ (before.blanks ++ comma ∷ (behind.blanks ++ others.text))) x) p.0
-              (MoreCells limits levels first.text before.blanks behind.blanks others.text head s.0.0 first.is before.are behind.are others.are);
-        }
-    cells_next cells bytes head r (Inner inner) t rest later first next e =
-        let s = bind_ok (cells inner) (λ x. expect close_bracket (skip x.1) >>= λ after. Ok (Cons head x.0, after)) (t, rest) e in
-        let u = bind_ok (expect close_bracket (skip s.0.1)) (λ after. Ok (Cons head s.0.0, after)) (t, rest) s.2 in
-        let p = pair_is (Cons head s.0.0) u.0 t rest u.2 in
-        let others = later inner s.0.0 s.0.1 s.1 in
-        let gap = skipped next.1 in
-        let whole : skip next.0 ≡ (open_bracket ∷ gap.blanks ++ others.text) ++ s.0.1 =
-        next.3 ∙ ap (λ x. open_bracket ∷ x) (with_front_blanks next.1 gap.blanks (skip next.1) others.text s.0.1 gap.whole (next.4 ∙ others.whole)) in
-        let last : IsTermAt limits (suc levels) (skip next.0) s.0.0 s.0.1 =
-        record {
-          text = open_bracket ∷ gap.blanks ++ others.text;
-          whole = whole;
-          is = AList limits levels gap.blanks others.text s.0.0 gap.are others.are;
-          ends = whole_by (open_bracket ∷ gap.blanks ++ others.text) _ (λ c. refl);
-        } in
-        let closing : skip s.0.1 ≡ close_bracket ∷ rest = expect_taken close_bracket (skip s.0.1) u.0 u.1 ∙ ap (λ x. close_bracket ∷ x) p.1 in
-        subst (λ x. AreCellsAt bytes x rest) p.0 (barred bytes head s.0.0 r next.0 s.0.1 rest first next.2 last closing)
-    cells_next cells bytes head r (Last tail inner) t rest later first next e =
-        let p = pair_is (Cons head tail) inner t rest e in
-        ⊎_elim
+          whole = with_more comma bytes first.text r before.blanks (skip r) next.0 behind.blanks
+              (skip next.0) others.text x.1 first.whole before.whole next.1 behind.whole (next.2 ∙ others.whole);
+          is = MoreCells limits levels first.text before.blanks behind.blanks others.text head x.0 first.is before.are behind.are others.is;
+        }))
+    cells_next cells bytes head r (Inner inner) later first next = bind_yields _ (later inner) (λ x others.
+        bind_yields _ (expect_yields close_bracket (skip x.1)) (λ rest closing.
+        let there = subst (λ y. Stands (AreCells limits levels) y x.0 x.1) (sym next.4) others in
+        ok_yields (barred bytes head x.0 r next.0 x.1 rest first next.2 (inner_list next.0 next.1 x.1 x.0 next.3 there) closing)))
+    cells_next cells bytes head r (Last tail rest) later first next =
+        ok_yields (⊎_elim
         (λ h. let before = skipped r in
-        let whole = with_end bytes first.text r before.blanks (skip r) (close_bracket ∷ []) rest first.whole before.whole (h.1 ∙ ap (λ x. close_bracket ∷ x) p.1) in
-        let same : Cons head Nil ≡ t = ap (λ x. Cons head x) (sym h.0) ∙ p.0 in
-        record {
+        let ending : Stands (AreCells limits levels) bytes (Cons head Nil) rest = record {
           text = first.text ++ (before.blanks ++ close_bracket ∷ []);
-          whole = whole;
-          are = subst (λ x. AreCells limits levels (first.text ++ (before.blanks ++ close_bracket ∷ [])) x) same
-              (LastCell limits levels first.text before.blanks head first.is before.are);
-        })
-        (λ h. subst (λ x. AreCellsAt bytes x rest) p.0 (barred bytes head tail r h.0 h.1 rest first h.2 h.3 (h.4 ∙ ap (λ x. close_bracket ∷ x) p.1)))
-        next
+          whole = with_end bytes first.text r before.blanks (skip r) (close_bracket ∷ []) rest first.whole before.whole h.1;
+          is = LastCell limits levels first.text before.blanks head first.is before.are;
+        } in
+        subst (λ x. Stands (AreCells limits levels) bytes (Cons head x) rest) (sym h.0) ending)
+        (λ h. barred bytes head tail r h.0 h.1 rest first h.2 h.3 h.4)
+        next)
 
-    pub cells_taken : (n : ℕ) (bytes : List ℕ) (t : Tree) (rest : List ℕ) → cells_at element other n bytes ≡ Ok (t, rest) → AreCellsAt bytes t rest
+    -- What are read as cells are cells.
+    pub cells_taken : (n : ℕ) → Takes (AreCells limits levels) (cells_at element other n)
     unfolding cells_at cell_step
-    cells_taken zero bytes t rest e = absurd cc
-    cells_taken (suc n) bytes t rest e =
-        let s = bind_ok (cell_step element other bytes) (λ x. cells_after x.0 (cells_at element other n) x.1) (t, rest) e in
-        let u = bind_ok (element bytes) (λ x. next_at other (skip x.1) >>= λ next. Ok (x.0, next)) s.0 s.1 in
-        let v = bind_ok (next_at other (skip u.0.1)) (λ next. Ok (u.0.0, next)) s.0 u.2 in
-        let made : Tree × Next = (u.0.0, v.0) in
-        let same = ok_is made s.0 v.2 in
-        let f : cells_after u.0.0 (cells_at element other n) v.0 ≡ Ok (t, rest) =
-        subst (λ (x : Tree × Next). cells_after x.0 (cells_at element other n) x.1 ≡ Ok (t, rest)) (sym same) s.2 in
-        cells_next (cells_at element other n) bytes u.0.0 u.0.1 v.0 t rest (cells_taken n) (sound bytes u.0.0 u.0.1 u.1) (next_taken (skip u.0.1) v.0 v.1) f
+    cells_taken zero bytes = err_yields
+    cells_taken (suc n) bytes =
+        let step : Yields (λ (x : Tree × Next). (r : List ℕ) × IsTermAt limits levels bytes x.0 r × IsNext (skip r) x.1) (cell_step element other bytes) =
+        bind_yields _ (sound bytes) (λ x is. bind_yields _ (next_taken (skip x.1)) (λ next n. ok_yields (x.1, is, n))) in
+        bind_yields _ step (λ x p. cells_next (cells_at element other n) bytes x.0 p.0 x.1 (cells_taken n) p.1 p.2)
 
-    list_from : (bytes : List ℕ) (t : Tree) (rest blanks inner : List ℕ) → bytes ≡ blanks ++ inner → AreBlanks blanks
-        → list_at element other inner ≡ Ok (t, rest) → IsTermAt limits (suc levels) (open_bracket ∷ bytes) t rest
+    list_from : (bytes blanks inner : List ℕ) → bytes ≡ blanks ++ inner → AreBlanks blanks
+        → YieldsTerm limits (suc levels) (open_bracket ∷ bytes) (list_at element other inner)
     unfolding list_at
-    list_from bytes t rest blanks [] gap are e = absurd cc
-    list_from bytes t rest blanks (b ∷ inner) gap are e =
-        ⊎_elim
-        (λ h. let p = pair_is Nil inner t rest h.1 in
-        let closing : b ∷ inner ≡ (close_bracket ∷ []) ++ rest = let same = eqb-true b close_bracket h.0 in let q = p.1 in cc in
-        let whole : open_bracket ∷ bytes ≡ (open_bracket ∷ blanks ++ close_bracket ∷ []) ++ rest = ap (λ x. open_bracket ∷ x) (with_front_blanks bytes blanks (b ∷ inner) (close_bracket ∷ []) rest gap closing) in
-        record {
+    list_from bytes blanks [] gap are = err_yields
+    list_from bytes blanks (b ∷ inner) gap are =
+        if_yields (eqb b close_bracket)
+        (λ h. ok_yields (record {
           text = open_bracket ∷ blanks ++ close_bracket ∷ [];
-          whole = whole;
-          is =
-              subst (λ x. IsTextOf limits (suc levels) (open_bracket ∷ blanks ++ close_bracket ∷ []) x) p.0 (ANil limits levels blanks are);
-          ends =
-              whole_by (open_bracket ∷ blanks ++ close_bracket ∷ []) _ (λ c. refl);
-        })
-        (λ h. let r = cells_taken (length (b ∷ inner)) (b ∷ inner) t rest h.1 in
-        let whole : open_bracket ∷ bytes ≡ (open_bracket ∷ blanks ++ r.text) ++ rest = ap (λ x. open_bracket ∷ x) (with_front_blanks bytes blanks (b ∷ inner) r.text rest gap r.whole) in
-        record {
+          whole = ap (λ x. open_bracket ∷ x) (with_front_blanks bytes blanks (b ∷ inner) (close_bracket ∷ []) inner gap
+              (ap (λ x. x ∷ inner) (eqb-true b close_bracket h)));
+          is = ANil limits levels blanks are;
+          ends = whole_by (open_bracket ∷ blanks ++ close_bracket ∷ []) inner (λ c. refl);
+        }))
+        (λ h. map_yields (cells_taken (length (b ∷ inner)) (b ∷ inner)) (λ x r. record {
           text = open_bracket ∷ blanks ++ r.text;
-          whole = whole;
-          is = AList limits levels blanks r.text t are r.are;
-          ends = whole_by (open_bracket ∷ blanks ++ r.text) _ (λ c. refl);
-        })
-        (chosen (eqb b close_bracket) _ _ (Ok (t, rest)) e)
+          whole = ap (λ y. open_bracket ∷ y) (with_front_blanks bytes blanks (b ∷ inner) r.text x.1 gap r.whole);
+          is = AList limits levels blanks r.text x.0 are r.is;
+          ends = whole_by (open_bracket ∷ blanks ++ r.text) x.1 (λ c. refl);
+        }))
 
-    bracketed_taken : (bytes : List ℕ) (t : Tree) (rest : List ℕ) → bracketed (list_at element other) other bytes ≡ Ok (t, rest)
-        → IsTermAt limits (suc levels) bytes t rest
-    bracketed_taken [] t rest e = others_sound [] t rest e
-    bracketed_taken (b ∷ bytes) t rest e =
-        ⊎_elim
+    bracketed_taken : ReadsTerms limits (suc levels) (bracketed (list_at element other) other)
+    bracketed_taken [] = others_sound []
+    bracketed_taken (b ∷ bytes) =
+        if_yields (eqb b open_bracket)
         (λ h. let gap = skipped bytes in
-        let same : b ≡ open_bracket = eqb-true b open_bracket h.0 in
-        subst (λ x. IsTermAt limits (suc levels) (x ∷ bytes) t rest) (sym same) (list_from bytes t rest gap.blanks (skip bytes) gap.whole gap.are h.1))
-        (λ h. others_sound (b ∷ bytes) t rest h.1)
-        (chosen (eqb b open_bracket) _ _ (Ok (t, rest)) e)
+        subst (λ y. YieldsTerm limits (suc levels) (y ∷ bytes) (list_at element other (skip bytes))) (sym (eqb-true b open_bracket h))
+        (list_from bytes gap.blanks (skip bytes) gap.whole gap.are))
+        (λ h. others_sound (b ∷ bytes))
 
 -- ---- other terms
 
-quoted_taken : (limits : Limits) (levels : ℕ) (bytes : List ℕ) (t : Tree) (rest : List ℕ) → quoted_at limits.characters bytes ≡ Ok (t, rest)
-    → IsTermAt limits (suc levels) (single_quote ∷ bytes) t rest
-quoted_taken limits levels bytes t rest e =
-    let s = bind_ok (characters_at _ single_quote most_point limits.characters bytes) (λ x. Ok (Atom (encode_utf8_all x.0), x.1)) (t, rest) e in
-    let p = pair_is (Atom (encode_utf8_all s.0.0)) s.0.1 t rest s.2 in
-    let r = characters_taken _ single_quote most_point limits.characters bytes s.0.0 s.0.1 (omega arith) (omega arith) (λ h. refl) s.1 in
-    record {
-      text = single_quote ∷ r.text;
-      whole = ap (λ x. single_quote ∷ x) (r.whole ∙ ap (λ x. r.text ++ x) p.1);
-      is = subst (λ x. IsTextOf limits (suc levels) (single_quote ∷ r.text) x) p.0
-          (AnAtom limits levels (single_quote ∷ r.text) (encode_utf8_all s.0.0) (Quoted limits r.text s.0.0 r.characters r.few));
-      ends = whole_by (single_quote ∷ r.text) _ (λ c. refl);
-    }
-
+-- No code points are the closing quote alone.
 pub closed_text : (close : ℕ) (text cs : List ℕ) → AreCharacters close text cs → cs ≡ [] → text ≡ close ∷ []
 closed_text _ _ _ (Closed close) e = refl
 closed_text _ _ _ (OneMore close c first rest cs is are) e = absurd cc
 
-points_list : (limits : Limits) (levels : ℕ) (text cs bytes rest : List ℕ) → AreCharacters double_quote text cs → bytes ≡ text ++ rest
-    → IsTermAt limits (suc (suc levels)) (double_quote ∷ bytes) (points cs) rest
-points_list limits levels text [] bytes rest are whole =
-    let none : text ≡ double_quote ∷ [] = closed_text double_quote text [] are refl in
-    let w : double_quote ∷ bytes ≡ (double_quote ∷ double_quote ∷ []) ++ rest = ap (λ x. double_quote ∷ x) (whole ∙ ap (λ x. x ++ rest) none) in
-    record { text = double_quote ∷ double_quote ∷ []; whole = w; is = NoString limits (suc levels); ends = whole_by (double_quote ∷ double_quote ∷ []) _ (λ c. refl) }
-points_list limits levels text (c ∷ cs) bytes rest are whole =
-    record { text = double_quote ∷ text; whole = ap (λ x. double_quote ∷ x) whole; is = AString limits levels c text cs are; ends = whole_by (double_quote ∷ text) _ (λ d. refl) }
+module _ (limits : Limits) where
+  quoted_taken : (levels : ℕ) (bytes : List ℕ) → YieldsTerm limits (suc levels) (single_quote ∷ bytes) (quoted_at limits.characters bytes)
+  quoted_taken levels bytes =
+      bind_yields _ (characters_taken single_quote most_point (omega arith) (omega arith) (λ h. refl) AtomTooLong limits.characters bytes)
+          (λ x r. ok_yields (record {
+        text = single_quote ∷ r.text;
+        whole = ap (λ y. single_quote ∷ y) r.whole;
+        is = AnAtom limits levels (single_quote ∷ r.text) (encode_utf8_all x.0) (Quoted limits r.text x.0 r.characters r.few);
+        ends = whole_by (single_quote ∷ r.text) x.1 (λ c. refl);
+      }))
 
-string_taken : (limits : Limits) (levels : ℕ) (bytes : List ℕ) (t : Tree) (rest : List ℕ) → points_at levels bytes ≡ Ok (t, rest)
-    → IsTermAt limits (suc levels) (double_quote ∷ bytes) t rest
-unfolding points_at
-string_taken limits zero [] t rest e = absurd cc
-string_taken limits zero (b ∷ bytes) t rest e =
-    ⊎_elim
-    (λ h. let p = pair_is Nil bytes t rest h.1 in
-    let same = eqb-true b double_quote h.0 in
-    let whole : double_quote ∷ b ∷ bytes ≡ (double_quote ∷ double_quote ∷ []) ++ rest = let q = p.1 in cc in
-    record {
-      text = double_quote ∷ double_quote ∷ [];
-      whole = whole;
-      is = subst (λ x. IsTextOf limits 1 (double_quote ∷ double_quote ∷ []) x) p.0 (NoString limits 0);
-      ends = whole_by (double_quote ∷ double_quote ∷ []) _ (λ c. refl);
-    })
-    (λ h. absurd (neither (begins_character double_quote most_point b) _ _ (t, rest) h.1))
-    (chosen (eqb b double_quote) _ _ (Ok (t, rest)) e)
-string_taken limits (suc levels) bytes t rest e =
-    let s = bind_ok (string_at most_point bytes) (λ x. Ok (points x.0, x.1)) (t, rest) e in
-    let p = pair_is (points s.0.0) s.0.1 t rest s.2 in
-    let r = characters_taken _ double_quote most_point (length bytes) bytes s.0.0 s.0.1 (omega arith) (omega arith) (λ h. refl) s.1 in
-    subst (λ x. IsTermAt limits (suc (suc levels)) (double_quote ∷ bytes) x rest) p.0
-    (points_list limits levels r.text s.0.0 bytes rest r.characters (r.whole ∙ ap (λ x. r.text ++ x) p.1))
+  no_string : (levels : ℕ) (bytes rest : List ℕ) → bytes ≡ (double_quote ∷ []) ++ rest → IsTermAt limits (suc levels) (double_quote ∷ bytes) Nil rest
+  no_string levels bytes rest whole = record {
+    text = double_quote ∷ double_quote ∷ [];
+    whole = ap (λ x. double_quote ∷ x) whole;
+    is = NoString limits levels;
+    ends = whole_by (double_quote ∷ double_quote ∷ []) rest (λ c. refl);
+  }
 
-binary_taken : (limits : Limits) (levels : ℕ) (bytes : List ℕ) (t : Tree) (rest : List ℕ) → binary_at bytes ≡ Ok (t, rest)
-    → IsTermAt limits (suc levels) (open_angle ∷ bytes) t rest
-binary_taken limits levels bytes t rest e =
-    let s = bind_ok (expect open_angle bytes) (λ after. bytes_at (skip after) >>= λ x. Ok (Binary x.0, x.1)) (t, rest) e in
-    let u = bind_ok (bytes_at (skip s.0)) (λ x. Ok (Binary x.0, x.1)) (t, rest) s.2 in
-    let p = pair_is (Binary u.0.0) u.0.1 t rest u.2 in
-    let x = expect_taken open_angle bytes s.0 s.1 in
-    let r = bytes_taken limits levels s.0 u.0.0 u.0.1 u.1 in
-    let t_is = subst (λ y. IsTermAt limits (suc levels) (open_angle ∷ open_angle ∷ s.0) y u.0.1) p.0 r in
-    let r_is = subst (λ y. IsTermAt limits (suc levels) (open_angle ∷ open_angle ∷ s.0) t y) p.1 t_is in
-    subst (λ y. IsTermAt limits (suc levels) (open_angle ∷ y) t rest) (sym x) r_is
+  points_list : (levels : ℕ) (text cs bytes rest : List ℕ) → AreCharacters double_quote text cs → bytes ≡ text ++ rest
+      → IsTermAt limits (suc (suc levels)) (double_quote ∷ bytes) (points cs) rest
+  points_list levels text [] bytes rest are whole = no_string (suc levels) bytes rest (whole ∙ ap (λ x. x ++ rest) (closed_text double_quote text [] are refl))
+  points_list levels text (c ∷ cs) bytes rest are whole = record {
+    text = double_quote ∷ text;
+    whole = ap (λ x. double_quote ∷ x) whole;
+    is = AString limits levels c text cs are;
+    ends = whole_by (double_quote ∷ text) rest (λ d. refl);
+  }
 
-atom_taken : (limits : Limits) (levels b : ℕ) (bytes : List ℕ) (t : Tree) (rest : List ℕ) → is_ascii_lowercase b ≡ true
-    → atom_at limits.characters (b ∷ bytes) ≡ Ok (t, rest) → IsTermAt limits (suc levels) (b ∷ bytes) t rest
-atom_taken limits levels b bytes t rest h e =
-    let s = bind_ok (name_at limits.characters (b ∷ bytes)) (λ x. Ok (Atom x.0, x.1)) (t, rest) e in
-    let p = pair_is (Atom s.0.0) s.0.1 t rest s.2 in
-    let r = name_taken limits.characters b bytes s.0.0 s.0.1 h s.1 in
-    record {
-      text = s.0.0;
-      whole = r.whole ∙ ap (λ x. s.0.0 ++ x) p.1;
-      is = subst (λ x. IsTextOf limits (suc levels) s.0.0 x) p.0 (AnAtom limits levels s.0.0 s.0.0 (Plain limits s.0.0 r.form r.few));
-      ends = subst (λ x. IsWhole s.0.0 x) p.1 r.ends;
-    }
+  string_taken : (levels : ℕ) (bytes : List ℕ) → YieldsTerm limits (suc levels) (double_quote ∷ bytes) (points_at levels bytes)
+  unfolding points_at
+  string_taken zero [] = err_yields
+  string_taken zero (b ∷ bytes) =
+      if_yields (eqb b double_quote)
+      (λ h. ok_yields (no_string 0 (b ∷ bytes) bytes (ap (λ x. x ∷ bytes) (eqb-true b double_quote h))))
+      (λ h. if_yields (begins_character double_quote most_point b) (λ i. err_yields) (λ i. err_yields))
+  string_taken (suc levels) bytes =
+      bind_yields _ (characters_taken double_quote most_point (omega arith) (omega arith) (λ h. refl) Syntax (length bytes) bytes)
+      (λ x r. ok_yields (points_list levels r.text x.0 bytes x.1 r.characters r.whole))
 
-integer_term_taken : (limits : Limits) (levels : ℕ) → ReadsTerms limits (suc levels) integer_term_at
-integer_term_taken limits levels bytes t rest e =
-    let s = bind_ok (integer_at bytes) (λ x. Ok (Integer x.0, x.1)) (t, rest) e in
-    let p = pair_is (Integer s.0.0) s.0.1 t rest s.2 in
-    let r = integer_taken bytes s.0.0 s.0.1 s.1 in
-    record {
-      text = r.text;
-      whole = r.whole ∙ ap (λ x. r.text ++ x) p.1;
-      is = subst (λ x. IsTextOf limits (suc levels) r.text x) p.0 (AnInteger limits levels r.text s.0.0 r.is);
-      ends = subst (λ x. IsWhole r.text x) p.1 r.ends;
-    }
+  atom_taken : (levels b : ℕ) (bytes : List ℕ) → is_ascii_lowercase b ≡ true
+      → YieldsTerm limits (suc levels) (b ∷ bytes) (atom_at limits.characters (b ∷ bytes))
+  atom_taken levels b bytes h = bind_yields _ (name_yields limits.characters b bytes h) (λ x r. ok_yields (record {
+    text = x.0;
+    whole = r.whole;
+    is = AnAtom limits levels x.0 x.0 (Plain limits x.0 r.form r.few);
+    ends = r.ends;
+  }))
 
-at_byte : (limits : Limits) (levels b c : ℕ) (bytes : List ℕ) (t : Tree) (rest : List ℕ) → eqb b c ≡ true → IsTermAt limits levels (c ∷ bytes) t rest
-    → IsTermAt limits levels (b ∷ bytes) t rest
-at_byte limits levels b c bytes t rest e h = subst (λ x. IsTermAt limits levels (x ∷ bytes) t rest) (sym (eqb-true b c e)) h
+  integer_term_taken : (levels : ℕ) → ReadsTerms limits (suc levels) integer_term_at
+  integer_term_taken levels bytes = bind_yields _ (integer_taken bytes) (λ x r. ok_yields (record {
+    text = r.text;
+    whole = r.whole;
+    is = AnInteger limits levels r.text x.0 r.is;
+    ends = r.ends;
+  }))
 
-pub other_taken : (limits : Limits) (levels : ℕ) (element : List ℕ → Read Tree) → ReadsTerms limits levels element
-    → ReadsTerms limits (suc levels) (other_at limits element levels)
-unfolding other_at
-other_taken limits levels element sound [] t rest e = integer_term_taken limits levels [] t rest e
-other_taken limits levels element sound (b ∷ bytes) t rest e =
-    ⊎_elim (λ h. at_byte limits (suc levels) b open_brace bytes t rest h.0 (tuple_taken limits levels element sound bytes t rest h.1))
-    (λ h. ⊎_elim (λ i. at_byte limits (suc levels) b double_quote bytes t rest i.0 (string_taken limits levels bytes t rest i.1))
-    (λ i. ⊎_elim (λ j. at_byte limits (suc levels) b single_quote bytes t rest j.0 (quoted_taken limits levels bytes t rest j.1))
-    (λ j. ⊎_elim (λ k. at_byte limits (suc levels) b open_angle bytes t rest k.0 (binary_taken limits levels bytes t rest k.1))
-    (λ k. ⊎_elim (λ l. atom_taken limits levels b bytes t rest l.0 l.1) (λ l. integer_term_taken limits levels (b ∷ bytes) t rest l.1)
-    (chosen (is_ascii_lowercase b) _ _ (Ok (t, rest)) k.1))
-    (chosen (eqb b open_angle) _ _ (Ok (t, rest)) j.1))
-    (chosen (eqb b single_quote) _ _ (Ok (t, rest)) i.1))
-    (chosen (eqb b double_quote) _ _ (Ok (t, rest)) h.1))
-    (chosen (eqb b open_brace) _ _ (Ok (t, rest)) e)
+  at_byte : (levels b c : ℕ) (bytes : List ℕ) (r : Read Tree) → eqb b c ≡ true → YieldsTerm limits levels (c ∷ bytes) r → YieldsTerm limits levels (b ∷ bytes) r
+  at_byte levels b c bytes r e y = subst (λ x. YieldsTerm limits levels (x ∷ bytes) r) (sym (eqb-true b c e)) y
 
-none_deep : (limits : Limits) → ReadsTerms limits 0 too_deep
-none_deep limits [] t rest e = absurd cc
-none_deep limits (b ∷ bytes) t rest e = absurd (neither (begins_term b) _ _ (t, rest) e)
+  -- What is read as a term outside brackets is one.
+  pub other_taken : (levels : ℕ) (element : List ℕ → Read Tree) → ReadsTerms limits levels element
+      → ReadsTerms limits (suc levels) (other_at limits element levels)
+  unfolding other_at
+  other_taken levels element sound [] = integer_term_taken levels []
+  other_taken levels element sound (b ∷ bytes) =
+      if_yields (eqb b open_brace) (λ h. at_byte (suc levels) b open_brace bytes _ h (tuple_taken limits levels element sound bytes)) (λ h.
+      if_yields (eqb b double_quote) (λ i. at_byte (suc levels) b double_quote bytes _ i (string_taken levels bytes)) (λ i.
+      if_yields (eqb b single_quote) (λ j. at_byte (suc levels) b single_quote bytes _ j (quoted_taken levels bytes)) (λ j.
+      if_yields (eqb b open_angle) (λ k. at_byte (suc levels) b open_angle bytes _ k (binary_taken limits levels bytes)) (λ k.
+      if_yields (is_ascii_lowercase b) (λ l. atom_taken levels b bytes l) (λ l. integer_term_taken levels (b ∷ bytes))))))
 
-pub term_taken : (limits : Limits) (levels : ℕ) → ReadsTerms limits levels (term_at limits levels)
-unfolding term_at
-term_taken limits zero = none_deep limits
-term_taken limits (suc levels) =
-    bracketed_taken limits levels (term_at limits levels) (term_taken limits levels) (other_at limits (term_at limits levels) levels)
-    (other_taken limits levels (term_at limits levels) (term_taken limits levels))
+  none_deep : ReadsTerms limits 0 too_deep
+  none_deep [] = err_yields
+  none_deep (b ∷ bytes) = if_yields (begins_term b) (λ h. err_yields) (λ h. err_yields)
+
+  -- What is read as a term is a text of it.
+  pub term_taken : (levels : ℕ) → ReadsTerms limits levels (term_at limits levels)
+  unfolding term_at
+  term_taken zero = none_deep
+  term_taken (suc levels) =
+      bracketed_taken limits levels (term_at limits levels) (term_taken levels) (other_at limits (term_at limits levels) levels)
+      (other_taken levels (term_at limits levels) (term_taken levels))

@@ -5,6 +5,7 @@ use Rattle.std.specs.Char.{encode_utf8, IsScalar}
 use Rattle.std.specs.Str.{all_scalars, encode_utf8_all}
 use Rattle.ca_text.proofs.Tools.{both}
 
+-- Each of some scalar values is one.
 pub scalar_at : (cs : List ℕ) (i : ℕ) → all_scalars cs ≡ true → i < length cs → IsScalar (get_or cs i 0)
 scalar_at [] i h lt = absurd (omega arith)
 scalar_at (c ∷ cs) zero h lt = (both _ _ h).0
@@ -17,5 +18,6 @@ encode_next (c ∷ cs) (suc i) lt =
     ap (λ (bs : List ℕ). encode_utf8 c ++ bs) (encode_next cs i (omega arith))
     ∙ sym (append_assoc (encode_utf8 c) (encode_utf8_all (take i cs)) (encode_utf8 (get_or cs i 0)))
 
+-- One code point more at the end adds its UTF-8 at the end.
 pub encode_more : (cs : List ℕ) (i : ℕ) → i < length cs → encode_utf8_all (take (i + 1) cs) ≡ encode_utf8_all (take i cs) ++ encode_utf8 (get_or cs i 0)
 encode_more cs i lt = ap (λ n. encode_utf8_all (take n cs)) (add-one i) ∙ encode_next cs i lt

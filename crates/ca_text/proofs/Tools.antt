@@ -23,18 +23,12 @@ pub guarded : {A : Type 0} (b : Bool) (d : Fault) (x : Result A Fault) (y : A) �
 guarded true d x y e = (refl, e)
 guarded false d x y e = absurd cc
 
-pub spared : {A : Type 0} (b : Bool) (d : Fault) (x : Result A Fault) (y : A) → cond b (Err d) x ≡ Ok y → (b ≡ false) × (x ≡ Ok y)
-spared true d x y e = absurd cc
-spared false d x y e = (refl, e)
-
-pub neither : {A : Type 0} (b : Bool) (d f : Fault) (y : A) → cond b (Err d) (Err f) ≡ Ok y → ⊥
-neither true d f y e = cc
-neither false d f y e = cc
-
+-- Where two tests hold together, each holds.
 pub both : (a b : Bool) → (a && b) ≡ true → (a ≡ true) × (b ≡ true)
 both true b e = (refl, e)
 both false b e = absurd cc
 
+-- Where one of two tests holds, one does.
 pub either : (a b : Bool) → (a || b) ≡ true → (a ≡ true) ⊎ (b ≡ true)
 either true b e = inl refl
 either false b e = inr e
@@ -42,6 +36,7 @@ either false b e = inr e
 abbrev done : {A : Type 0} → A → Result A Fault
 done x = Ok x
 
+-- Equal values that were read are equal.
 pub ok_is : {A : Type 0} (x y : A) → done x ≡ done y → x ≡ y
 ok_is x y e = cc
 

@@ -8,6 +8,7 @@ abbrev pub raised_by : ℕ → ℕ → ℕ
 raised_by more zero = more
 raised_by more (suc levels) = suc (raised_by more levels)
 
+-- Levels raised by so many are their sum.
 pub raised_sum : (more levels : ℕ) → raised_by more levels ≡ levels + more
 raised_sum more zero = omega arith
 raised_sum more (suc levels) = omega (arith, raised_sum more levels)
@@ -22,6 +23,7 @@ atom_widened _ wider _ _ w (Plain limits name form few) = Plain wider name form 
 atom_widened _ wider _ _ w (Quoted limits text cs are few) = Quoted wider text cs are (omega (arith, few, w.characters))
 
 mutual
+  -- A text within some limits is one within wider limits.
   pub text_widened : (limits wider : Limits) (more levels : ℕ) (text : List ℕ) (t : Tree) → AtLeast limits wider → IsTextOf limits levels text t
       → IsTextOf wider (raised_by more levels) text t
   text_widened _ wider more _ _ _ w (AnInteger limits levels text n is) = AnInteger wider (raised_by more levels) text n is

@@ -61,7 +61,8 @@ pub data AreCharacters : ℕ → List ℕ → List ℕ → Type 0 where
 -- an atom, plain or in single quotes
 pub data IsAtom : Limits → List ℕ → List ℕ → Type 0 where
   Plain : (limits : Limits) (name : List ℕ) → has_plain_form name ≡ true → length name ≤ limits.characters → IsAtom limits name name
-  Quoted : (limits : Limits) (text cs : List ℕ) → AreCharacters single_quote text cs → length cs ≤ limits.characters → IsAtom limits (codes "'" ++ text) (encode_utf8_all cs)
+  Quoted : (limits : Limits) (text cs : List ℕ) → AreCharacters single_quote text cs → length cs ≤ limits.characters
+      → IsAtom limits (codes "'" ++ text) (encode_utf8_all cs)
 
 abbrev pub most_byte : ℕ
 most_byte = 255
@@ -88,7 +89,8 @@ mutual
   pub data IsTextOf : Limits → ℕ → List ℕ → Tree → Type 0 where
     AnInteger : (limits : Limits) (levels : ℕ) (text : List ℕ) (n : ℤ) → IsInteger text n → IsTextOf limits (suc levels) text (Integer n)
     AnAtom : (limits : Limits) (levels : ℕ) (text name : List ℕ) → IsAtom limits text name → IsTextOf limits (suc levels) text (Atom name)
-    NoElements : (limits : Limits) (levels : ℕ) (blanks : List ℕ) → AreBlanks blanks → IsTextOf limits (suc levels) (codes "{" ++ blanks ++ codes "}") (Tuple Ends)
+    NoElements : (limits : Limits) (levels : ℕ) (blanks : List ℕ) → AreBlanks blanks
+        → IsTextOf limits (suc levels) (codes "{" ++ blanks ++ codes "}") (Tuple Ends)
     ATuple : (limits : Limits) (levels : ℕ) (blanks rest : List ℕ) (row : Row) → AreBlanks blanks → AreElements limits levels rest row
         → size row ≤ limits.elements
         → IsTextOf limits (suc levels) (codes "{" ++ blanks ++ rest) (Tuple row)
@@ -99,7 +101,8 @@ mutual
     -- its code points stand one level below it, as a list's heads do
     AString : (limits : Limits) (levels c : ℕ) (text cs : List ℕ) → AreCharacters double_quote text (c ∷ cs)
         → IsTextOf limits (suc (suc levels)) (codes "\"" ++ text) (points (c ∷ cs))
-    NoBytes : (limits : Limits) (levels : ℕ) (blanks : List ℕ) → AreBlanks blanks → IsTextOf limits (suc levels) (codes "<<" ++ blanks ++ codes ">>") (Binary [])
+    NoBytes : (limits : Limits) (levels : ℕ) (blanks : List ℕ) → AreBlanks blanks
+        → IsTextOf limits (suc levels) (codes "<<" ++ blanks ++ codes ">>") (Binary [])
     ABinary : (limits : Limits) (levels : ℕ) (blanks rest bytes : List ℕ) → AreBlanks blanks → AreSegments rest bytes
         → IsTextOf limits (suc levels) (codes "<<" ++ blanks ++ rest) (Binary bytes)
 

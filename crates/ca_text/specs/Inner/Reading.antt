@@ -203,7 +203,8 @@ segment_step n bytes = segment_at bytes >>= λ x. after_segment_at (skip x.1) >>
 -- what stands behind the opening brackets of a binary and the blanks there; there are no more segments than bytes
 unfoldable pub bytes_at : List ℕ → Read (List ℕ)
 bytes_at [] = syntax_fault []
-bytes_at (b ∷ bytes) = if b == close_angle then (expect close_angle bytes >>= λ rest. Ok ([], rest)) else series_at segment_step (length (b ∷ bytes)) (b ∷ bytes)
+bytes_at (b ∷ bytes) = if b == close_angle then (expect close_angle bytes >>= λ rest. Ok ([], rest)) else series_at segment_step (length (b ∷ bytes))
+    (b ∷ bytes)
 
 -- what follows an element, where there may be so many more: a comma, or the closing brace
 unfoldable pub after_element_at : ℕ → List ℕ → Read Bool
@@ -281,7 +282,8 @@ with_heads heads owed read = read >>= λ x. brackets_at owed x.1 >>= λ rest. Ok
 
 -- whether a byte begins a term
 abbrev pub begins_term : ℕ → Bool
-begins_term b = ((b == open_brace || b == open_bracket) || (b == double_quote || b == single_quote)) || ((b == open_angle || b == minus_sign) || (is_ascii_digit b || is_ascii_lowercase b))
+begins_term b = ((b == open_brace || b == open_bracket) || (b == double_quote || b == single_quote)) ||
+    ((b == open_angle || b == minus_sign) || (is_ascii_digit b || is_ascii_lowercase b))
 
 abbrev pub string_points_at : List ℕ → Read Tree
 string_points_at bytes = string_at most_point bytes >>= λ x. Ok (points x.0, x.1)

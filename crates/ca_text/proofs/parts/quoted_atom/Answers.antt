@@ -6,6 +6,5 @@ use Rattle.ca_text.proofs.parts.quoted_atom.Goals as goal
 
 pub text_of-requires : goal.text_of-requires
 text_of-requires c =
-    let r = characters_taken _ single_quote most_point c.args.most c.args.bytes.now c.in_ok-points.points.items c.in_ok-points.rest.now (omega arith) (omega arith)
-    (λ h. refl) c.in_ok-points.ensures in
+    let r = (characters_taken single_quote most_point (omega arith) (omega arith) (λ h. refl) _ c.args.most c.args.bytes.now).is _ c.in_ok-points.ensures in
     rw c.as_slice.ensures.value (points_scalar most_point c.in_ok-points.points.items r.points)

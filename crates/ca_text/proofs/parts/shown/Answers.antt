@@ -6,6 +6,6 @@ use Rattle.ca_text.proofs.parts.shown.Goals as goal
 
 pub bytes_of-requires : goal.bytes_of-requires
 bytes_of-requires c =
-    let r = characters_taken _ double_quote most_shown (length c.args.bytes.now) c.args.bytes.now c.in_ok-points.points.items c.in_ok-points.rest.now (omega arith)
-    (omega arith) (λ h. absurd (omega arith)) c.in_ok-points.ensures in
+    let r = (characters_taken double_quote most_shown (omega arith) (omega arith) (λ h. absurd (omega arith)) _ (length c.args.bytes.now) c.args.bytes.now).is _
+    c.in_ok-points.ensures in
     rw c.as_slice.ensures.value r.points

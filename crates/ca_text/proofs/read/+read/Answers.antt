@@ -16,13 +16,15 @@ elements-returns-in_err-element t c =
 pub elements-returns-then-not-more : goal.elements-returns-then-not-more
 elements-returns-then-not-more t c =
     rw c.in_ok-push.ensures.ok (series_closed
-    (element_step (term_at standard c.args.levels)) MOST_ELEMENTS c.loop-i.i c.loop-i.items.items c.loop-i.rest.now _ _ c.in_ok-element.after.now c.loop-i-test.true
+    (element_step (term_at standard c.args.levels))
+        MOST_ELEMENTS c.loop-i.i c.loop-i.items.items c.loop-i.rest.now _ _ c.in_ok-element.after.now c.loop-i-test.true
     (rw c.if-not-more.true at c.in_ok-element.ensures) c.loop-i.invariant)
 
 pub elements-loop-i-preserved : goal.elements-loop-i-preserved
 elements-loop-i-preserved t c =
     rw c.in_ok-push.ensures.ok (series_goes_on
-    (element_step (term_at standard c.args.levels)) MOST_ELEMENTS c.loop-i.i c.loop-i.items.items c.loop-i.rest.now _ _ c.in_ok-element.after.now c.loop-i-test.true
+    (element_step (term_at standard c.args.levels))
+        MOST_ELEMENTS c.loop-i.i c.loop-i.items.items c.loop-i.rest.now _ _ c.in_ok-element.after.now c.loop-i-test.true
     (rw c.if-not-more.false at c.in_ok-element.ensures) c.loop-i.invariant)
 
 pub elements-returns : goal.elements-returns
@@ -60,7 +62,8 @@ cells-loop-preserved t c =
       | cells-in-Inner w ↦ record {
         read = rw (w.owed-is, w.rest-is, c.in_ok-push.ensures.ok)
             (inner_follows (term_at standard c.args.levels) (other_at standard (term_at standard c.args.levels) c.args.levels)
-            (length c.args.bytes.now) c.loop.counter c.loop.owed c.loop.heads.items c.loop.rest.now _ c.in_ok-head.head w.in-Inner.after.now c.loop-test.true (rw w.in-Inner.is at c.in_ok-head.ensures) c.loop.invariant.read);
+            (length c.args.bytes.now) c.loop.counter c.loop.owed c.loop.heads.items c.loop.rest.now _ c.in_ok-head.head w.in-Inner.after.now c.loop-test.true
+                (rw w.in-Inner.is at c.in_ok-head.ensures) c.loop.invariant.read);
         few = omega (arith, w.owed-is, c.loop.invariant.few);
       }
     ]

@@ -47,7 +47,8 @@ invariant-elements-loop-i l =
 
 abbrev pub invariant-cells-loop : goal.invariant-cells-loop
 invariant-cells-loop l = record {
-  read : with_heads l.heads.items l.owed (cells_at (term_at standard l.levels) (other_at standard (term_at standard l.levels) l.levels) (length l.bytes - l.counter) l.rest)
+  read : with_heads l.heads.items l.owed (cells_at (term_at standard l.levels) (other_at standard (term_at standard l.levels) l.levels)
+      (length l.bytes - l.counter) l.rest)
       ≡ cells_at (term_at standard l.levels) (other_at standard (term_at standard l.levels) l.levels) (length l.bytes) l.bytes;
   few : l.owed ≤ l.counter;
 }
