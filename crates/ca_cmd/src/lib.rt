@@ -11,11 +11,12 @@ mod line;
 mod output;
 mod put;
 mod reading;
+mod word;
 
 pub use answer::{Answer, show_reply};
 pub use fault::{FileFault, LineWhy};
 pub use laws::file_laws;
-pub use line::{Line, Lines};
+pub use line::{Line, Lines, MOST_LINE_BYTES};
 pub use output::show_run;
 pub use reading::read_file;
 
