@@ -1,51 +1,53 @@
--- The first line of some bytes, as a cut at the first LF gives it.
-use Rattle.std.proofs.Common.{◌≡◌, ℕ, ◌<◌, true, false, eqb, List, [], ◌∷◌, ◌++◌, length, refl, ap, arith}
+-- The first line of some bytes, as a search for the first LF gives it.
+use Rattle.std.proofs.Common.{◌≡◌, ℕ, zero, suc, ◌+◌, ◌-◌, ◌<◌, Bool, true, false, eqb, List, [], ◌∷◌, ◌++◌, length, take, drop, refl, ap, arith, add-one}
 use Rattle.std.proofs.lemmas.Bool.{eqb-true}
-use Rattle.ca_cmd.specs.Cut.{IsFree, IsCut}
-use Rattle.ca_cmd.specs.File.{cut_lines, without_cr, lines_of}
+use Rattle.std.proofs.lemmas.List.{take_rest}
+use Rattle.memchr.specs.Find.{Passes, NoneBefore, Nowhere, is_byte}
+use Rattle.ca_cmd.specs.File.{cut_lines, without_cr, lines_of, lf, cr}
 
-not_lf : (b : ℕ) → (b ≡ 10 → ⊥) → eqb b 10 ≡ false
-not_lf b h = elim (eqb b 10) as (λ x. eqb b 10 ≡ x → x ≡ false) [
-  | true ↦ λ e. absurd (h (eqb-true b 10 e))
-  | false ↦ λ e. refl
-] refl
+not_true : (b : Bool) → (b ≡ true → ⊥) → b ≡ false
+not_true true h = absurd (h refl)
+not_true false h = refl
 
-cut_front : (front rest : List ℕ) → IsFree 10 front → cut_lines (front ++ 10 ∷ rest) ≡ front ∷ cut_lines rest
+cut_front : (bytes : List ℕ) (k : ℕ) → k < length bytes → ((j : ℕ) → j < k → Passes (is_byte lf) bytes j → ⊥) → Passes (is_byte lf) bytes k
+    → cut_lines bytes ≡ take k bytes ∷ cut_lines (drop (suc k) bytes)
 unfolding cut_lines
-cut_front [] rest f = refl
-cut_front (b ∷ front) rest f = rw (not_lf b f.0, cut_front front rest f.1) refl
+cut_front [] k l h p = absurd (omega arith)
+cut_front (b ∷ bytes) zero l h p = rw p refl
+cut_front (b ∷ bytes) (suc k) l h p =
+    rw (not_true (eqb b lf) (h 0 (omega arith)), cut_front bytes k (omega arith) (λ j m. h (suc j) (omega arith)) p) refl
 
-cut_last : (b : ℕ) (line : List ℕ) → IsFree 10 (b ∷ line) → cut_lines (b ∷ line) ≡ (b ∷ line) ∷ []
+cut_last : (b : ℕ) (bytes : List ℕ) → ((j : ℕ) → j < length (b ∷ bytes) → Passes (is_byte lf) (b ∷ bytes) j → ⊥) → cut_lines (b ∷ bytes) ≡ (b ∷ bytes) ∷ []
 unfolding cut_lines
-cut_last b [] f = rw (not_lf b f.0) refl
-cut_last b (c ∷ line) f = rw (not_lf b f.0, cut_last c line f.1) refl
+cut_last b [] h = rw (not_true (eqb b lf) (h 0 (omega arith))) refl
+cut_last b (c ∷ bytes) h = rw (not_true (eqb b lf) (h 0 (omega arith)), cut_last c bytes (λ j m. h (suc j) (omega arith))) refl
 
-pub first_line : (bytes front rest : List ℕ) → IsCut bytes 10 front rest → lines_of bytes ≡ without_cr front ∷ lines_of rest
-first_line bytes front rest c = rw (c.whole, cut_front front rest c.free) refl
+-- The first line stands before the first LF, and the others stand behind it.
+pub first_line : (bytes : List ℕ) (k : ℕ) → NoneBefore (Passes (is_byte lf) bytes) 0 (length bytes) k → Passes (is_byte lf) bytes k
+    → lines_of bytes ≡ without_cr (take k bytes) ∷ lines_of (take (length bytes - (k + 1)) (drop (k + 1) bytes))
+first_line bytes k n p = rw (take_rest bytes (k + 1), add-one, cut_front bytes k n.high (λ j m. n.before j (omega arith) m) p) refl
 
 no_lines : cut_lines [] ≡ []
 unfolding cut_lines
 no_lines = refl
 
-pub last_line : (bytes : List ℕ) → IsFree 10 bytes → 0 < length bytes → lines_of bytes ≡ without_cr bytes ∷ lines_of []
-last_line [] f h = absurd (omega arith)
-last_line (b ∷ bytes) f h = rw (cut_last b bytes f, no_lines) refl
+-- Bytes without LF are one line.
+pub last_line : (bytes : List ℕ) → Nowhere (Passes (is_byte lf) bytes) 0 (length bytes) → 0 < length bytes → lines_of bytes ≡ without_cr bytes ∷ lines_of []
+last_line [] n h = absurd (omega arith)
+last_line (b ∷ bytes) n h = rw (cut_last b bytes (λ j m. n j (omega arith) m), no_lines) refl
 
--- a CR at the end
-pub with_cr : (front : List ℕ) → without_cr (front ++ 13 ∷ []) ≡ front
+-- A CR at the end is taken off.
+pub with_cr : (front : List ℕ) → without_cr (front ++ cr ∷ []) ≡ front
 unfolding without_cr
 with_cr [] = refl
 with_cr (b ∷ []) = refl
 with_cr (b ∷ c ∷ front) = ap (λ x. b ∷ x) (with_cr (c ∷ front))
 
-not_cr : (b : ℕ) → (b ≡ 13 → ⊥) → eqb b 13 ≡ false
-not_cr b h = elim (eqb b 13) as (λ x. eqb b 13 ≡ x → x ≡ false) [
-  | true ↦ λ e. absurd (h (eqb-true b 13 e))
-  | false ↦ λ e. refl
-] refl
+not_cr : (b : ℕ) → (b ≡ cr → ⊥) → eqb b cr ≡ false
+not_cr b h = not_true (eqb b cr) (λ e. h (eqb-true b cr e))
 
--- no CR at the end
-pub no_cr : (line : List ℕ) → ((front : List ℕ) → line ≡ front ++ 13 ∷ [] → ⊥) → without_cr line ≡ line
+-- A line without a CR at the end stays.
+pub no_cr : (line : List ℕ) → ((front : List ℕ) → line ≡ front ++ cr ∷ [] → ⊥) → without_cr line ≡ line
 unfolding without_cr
 no_cr [] h = refl
 no_cr (b ∷ []) h = rw (not_cr b (λ e. h [] (ap (λ x. x ∷ []) e))) refl

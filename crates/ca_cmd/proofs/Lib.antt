@@ -1,4 +1,4 @@
-mod Cuts
+pub mod Commands
 mod CutLines
 mod Files
 mod Same

@@ -6,9 +6,10 @@ use Rattle.ca_ets.specs.Command.{Command}
 use Rattle.ca_text.specs.declared.fault.TextFault.{TextFault}
 use Rattle.ca_text.specs.declared.fault.TextFault.TheVariants as text
 use Rattle.ca_cmd.proofs.TermTexts.{term_sure}
-use Rattle.ca_cmd.specs.Argument.{Refused, Found, IsThen, apart, IsTermRefused, IsTermAt, IsFirstTerm, IsArgument, IsEnd, place}
-use Rattle.ca_cmd.specs.Word.{Form, Bare, One, Two, Three, form_of, word_length, Filled, IsBare, IsNext, IsOne, IsTwo, IsThree, IsFilled, IsWhole, IsCommand}
-use Rattle.ca_cmd.specs.Content.{IsHeld, IsText, IsLine, text_in}
+use Rattle.ca_cmd.specs.Argument.{Refused, Found, IsThen, IsAfter, apart, IsTermRefused, IsTermAt, IsFirstTerm, IsArgument, IsEnd}
+use Rattle.ca_cmd.specs.Word.{word_of, command_with, word_length, IsWhole, IsOfWord, IsOfText, IsCommand}
+use Rattle.ca_cmd.specs.declared.word.Word.{Word}
+use Rattle.ca_cmd.specs.Content.{IsHeld, IsText, IsLine, text_in, percent}
 
 -- at most one value is found
 abbrev pub IsSure : {B : Type 0} → (Found B → Type 0) → Type 0
@@ -20,7 +21,7 @@ then_sure (Err e) Follows sure x y p q = p ∙ sym q
 
 -- what is found, and then what follows it
 after_sure : {A B : Type 0} (Is : Found A → Type 0) (Follows : A → Found B → Type 0) → IsSure Is → ((a : A) → IsSure (Follows a))
-    → IsSure (λ found. (first : Found A) × Is first × IsThen first Follows found)
+    → IsSure (IsAfter Is Follows)
 after_sure Is Follows sure follows x y p q =
     then_sure p.0 Follows follows x y p.2 (subst (λ f. IsThen f Follows y) (sym (sure p.0 q.0 p.1 q.1)) q.2)
 
@@ -55,45 +56,28 @@ argument_sure size bytes = then_sure (apart size bytes) (λ rest. IsFirstTerm si
 end_sure : (size : ℕ) (bytes : List ℕ) → IsSure (IsEnd size bytes)
 end_sure size bytes = then_sure (apart size bytes) _ (λ rest x y p q. p ∙ sym q)
 
-bare_sure : (command : Command) (bytes : List ℕ) → IsSure (IsBare command bytes)
-bare_sure command bytes x y p q = p ∙ sym q
-
-next_sure : (size : ℕ) (Follows : Tree → List ℕ → Filled → Type 0) → ((t : Tree) (bytes : List ℕ) → IsSure (Follows t bytes)) → (bytes : List ℕ)
-    → IsSure (IsNext size Follows bytes)
-next_sure size Follows sure bytes = after_sure (IsArgument size bytes) (λ x. Follows x.0 x.1) (argument_sure size bytes) (λ x. sure x.0 x.1)
-
-one_sure : (size : ℕ) (command : Tree → Command) (bytes : List ℕ) → IsSure (IsOne size command bytes)
-one_sure size command = next_sure size (λ t. IsBare (command t)) (λ t. bare_sure (command t))
-
-two_sure : (size : ℕ) (command : Tree → Tree → Command) (bytes : List ℕ) → IsSure (IsTwo size command bytes)
-two_sure size command = next_sure size (λ t. IsOne size (command t)) (λ t. one_sure size (command t))
-
-three_sure : (size : ℕ) (command : Tree → Tree → Tree → Command) (bytes : List ℕ) → IsSure (IsThree size command bytes)
-three_sure size command = next_sure size (λ t. IsTwo size (command t)) (λ t. two_sure size (command t))
-
-filled_sure : (size at : ℕ) (form : Option Form) (bytes : List ℕ) → IsSure (IsFilled size at form bytes)
-filled_sure size at None bytes x y p q = p ∙ sym q
-filled_sure size at (Some (Bare command)) bytes x y p q = p ∙ sym q
-filled_sure size at (Some (One command)) bytes x y p q = one_sure size command bytes x y p q
-filled_sure size at (Some (Two command)) bytes x y p q = two_sure size command bytes x y p q
-filled_sure size at (Some (Three command)) bytes x y p q = three_sure size command bytes x y p q
-
 whole_sure : (size : ℕ) (command : Command) (bytes : List ℕ) → IsSure (IsWhole size command bytes)
 whole_sure size command bytes = after_sure (IsEnd size bytes) (λ u whole. whole ≡ Ok command) (end_sure size bytes) (λ u x y p q. p ∙ sym q)
 
-command_sure : (size : ℕ) (bytes : List ℕ) → IsSure (IsCommand size bytes)
-command_sure size bytes =
-    after_sure (IsFilled size (place size bytes) (form_of (take (word_length bytes) bytes)) (drop (word_length bytes) bytes)) (λ x. IsWhole size x.0 x.1)
-    (filled_sure size (place size bytes) _ (drop (word_length bytes) bytes)) (λ x. whole_sure size x.0 x.1)
+word_sure : (size : ℕ) (word : Word) (rest : List ℕ) → IsSure (IsOfWord size word rest)
+word_sure size word rest =
+    after_sure (IsArgument size rest) (λ x. IsWhole size (command_with word x.0) x.1) (argument_sure size rest) (λ x. whole_sure size (command_with word x.0) x.1)
 
-held_sure : (size : ℕ) (bytes : List ℕ) → IsSure (λ found. (command : Found Command) × IsCommand size bytes command × IsThen command IsHeld found)
+of_text_sure : (size : ℕ) (text : List ℕ) (word : Option Word) (rest : List ℕ) → IsSure (IsOfText size text word rest)
+of_text_sure size text None rest x y p q = p ∙ sym q
+of_text_sure size text (Some word) rest x y p q = word_sure size word rest x y p q
+
+command_sure : (size : ℕ) (bytes : List ℕ) → IsSure (IsCommand size bytes)
+command_sure size bytes = of_text_sure size bytes (word_of (take (word_length bytes) bytes)) (drop (word_length bytes) bytes)
+
+held_sure : (size : ℕ) (bytes : List ℕ) → IsSure (IsAfter (IsCommand size bytes) IsHeld)
 held_sure size bytes = after_sure (IsCommand size bytes) IsHeld (command_sure size bytes) (λ c x y p q. p ∙ sym q)
 
 text_sure : (size : ℕ) (bytes : List ℕ) → IsSure (IsText size bytes)
 text_sure size [] x y p q = p ∙ sym q
 text_sure size (b ∷ bytes) x y p q =
-    elim (eqb b 37) as (λ z. MatchBool z (x ≡ Ok None) ((command : Found Command) × IsCommand size (b ∷ bytes) command × IsThen command IsHeld x)
-    → MatchBool z (y ≡ Ok None) ((command : Found Command) × IsCommand size (b ∷ bytes) command × IsThen command IsHeld y) → x ≡ y) [
+    elim (eqb b percent) as (λ z. MatchBool z (x ≡ Ok None) (IsAfter (IsCommand size (b ∷ bytes)) IsHeld x)
+    → MatchBool z (y ≡ Ok None) (IsAfter (IsCommand size (b ∷ bytes)) IsHeld y) → x ≡ y) [
       | true ↦ λ p q. p ∙ sym q
       | false ↦ λ p q. held_sure size (b ∷ bytes) x y p q
     ] p q

@@ -29,6 +29,10 @@ abbrev pub IsThen : {A B : Type 0} → Found A → (A → Found B → Type 0) �
 IsThen (Ok x) Follows found = Follows x found
 IsThen (Err e) Follows found = found ≡ Err e
 
+-- First something is found, and then what follows it.
+abbrev pub IsAfter : {A B : Type 0} → (Found A → Type 0) → (A → Found B → Type 0) → Found B → Type 0
+IsAfter {A} Is Follows found = (first : Found A) × Is first × IsThen first Follows found
+
 -- the bytes behind the blanks after a word or an argument
 abbrev pub apart : ℕ → List ℕ → Found (List ℕ)
 apart size [] = Ok []

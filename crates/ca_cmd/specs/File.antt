@@ -17,15 +17,22 @@ abbrev pub with_byte : ℕ → List (List ℕ) → List (List ℕ)
 with_byte b [] = (b ∷ []) ∷ []
 with_byte b (line ∷ lines) = (b ∷ line) ∷ lines
 
+-- the bytes LF and CR
+abbrev pub lf : ℕ
+lf = 10
+
+abbrev pub cr : ℕ
+cr = 13
+
 -- LF ends a line; what stands behind the last LF is a line where it isn't empty
 unfoldable pub cut_lines : List ℕ → List (List ℕ)
 cut_lines [] = []
-cut_lines (b ∷ bytes) = if b == 10 then [] ∷ cut_lines bytes else with_byte b (cut_lines bytes)
+cut_lines (b ∷ bytes) = if b == lf then [] ∷ cut_lines bytes else with_byte b (cut_lines bytes)
 
 -- one CR at a line's end doesn't belong to the line
 unfoldable pub without_cr : List ℕ → List ℕ
 without_cr [] = []
-without_cr (b ∷ []) = if b == 13 then [] else b ∷ []
+without_cr (b ∷ []) = if b == cr then [] else b ∷ []
 without_cr (b ∷ c ∷ line) = b ∷ without_cr (c ∷ line)
 
 abbrev pub lines_of : List ℕ → List (List ℕ)

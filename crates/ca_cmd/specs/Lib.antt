@@ -1,7 +1,6 @@
 pub mod Answers
 pub mod Argument
 pub mod Content
-pub mod Cut
 pub mod File
 pub mod Finds
 pub mod Lines

@@ -1,65 +1,52 @@
 -- Command words, and the commands that they make of their arguments.
 use Rattle.std.specs.Prelude.{◌≡◌, ℕ, suc, List, [], ◌∷◌, take, drop, codes, bytes_eq, Option, None, Some, Ok, if◌then◌else◌}
 use Rattle.ca_term.specs.Tree.{Tree}
-use Rattle.ca_ets.specs.Command.{Command, Insert, Lookup}
+use Rattle.ca_ets.specs.Command as command
+use Rattle.ca_ets.specs.Command.{Command}
 use Rattle.ca_text.specs.Grammar.{is_blank}
 use Rattle.ca_cmd.specs.declared.fault.LineWhy.TheVariants.{UnknownWord}
-use Rattle.ca_cmd.specs.Argument.{Found, IsThen, IsArgument, IsEnd, place, refused}
+use Rattle.ca_cmd.specs.declared.word.Word.{Word}
+use Rattle.ca_cmd.specs.declared.word.Word.TheVariants as word
+use Rattle.ca_cmd.specs.Argument.{Found, IsAfter, IsArgument, IsEnd, place, refused}
 
--- a word's command, by its arguments
-pub data Form : Type 0 where
-  Bare : Command → Form
-  One : (Tree → Command) → Form
-  Two : (Tree → Tree → Command) → Form
-  Three : (Tree → Tree → Tree → Command) → Form
+-- how each command word is spelled
+abbrev pub words : List (List ℕ × Word)
+words =
+    (codes "insert", word.Insert)
+    ∷ (codes "lookup", word.Lookup)
+    ∷ []
 
--- the command words
-unfoldable pub form_of : List ℕ → Option Form
-form_of word =
-    if bytes_eq word (codes "insert") then Some (One Insert)
-    else (if bytes_eq word (codes "lookup") then Some (One Lookup)
-    else None)
+-- the command of each word with its argument
+abbrev pub command_with : Word → Tree → Command
+command_with word.Insert o = command.Insert o
+command_with word.Lookup k = command.Lookup k
+
+-- the first word of this spelling
+abbrev pub word_in : List (List ℕ × Word) → List ℕ → Option Word
+word_in [] text = None
+word_in (entry ∷ others) text = if bytes_eq text entry.0 then Some entry.1 else word_in others text
+
+abbrev pub word_of : List ℕ → Option Word
+word_of text = word_in words text
 
 -- the longest run of bytes that aren't blanks
 unfoldable pub word_length : List ℕ → ℕ
 word_length [] = 0
 word_length (b ∷ bytes) = if is_blank b then 0 else suc (word_length bytes)
 
--- a command, and the bytes behind its last argument
-abbrev pub Filled : Type 0
-Filled = Found (Command × List ℕ)
-
-abbrev pub IsBare : Command → List ℕ → Filled → Type 0
-IsBare command bytes found = found ≡ Ok (command, bytes)
-
--- a further argument stands behind the word
-abbrev pub IsNext : ℕ → (Tree → List ℕ → Filled → Type 0) → List ℕ → Filled → Type 0
-IsNext size Follows bytes found = (first : Found (Tree × List ℕ)) × IsArgument size bytes first × IsThen first (λ x. Follows x.0 x.1) found
-
-abbrev pub IsOne : ℕ → (Tree → Command) → List ℕ → Filled → Type 0
-IsOne size command bytes found = IsNext size (λ t. IsBare (command t)) bytes found
-
-abbrev pub IsTwo : ℕ → (Tree → Tree → Command) → List ℕ → Filled → Type 0
-IsTwo size command bytes found = IsNext size (λ t. IsOne size (command t)) bytes found
-
-abbrev pub IsThree : ℕ → (Tree → Tree → Tree → Command) → List ℕ → Filled → Type 0
-IsThree size command bytes found = IsNext size (λ t. IsTwo size (command t)) bytes found
-
--- the command of a word at this place, by the bytes behind the word
-abbrev pub IsFilled : ℕ → ℕ → Option Form → List ℕ → Filled → Type 0
-IsFilled size at None bytes found = found ≡ refused UnknownWord at
-IsFilled size at (Some (Bare command)) bytes found = IsBare command bytes found
-IsFilled size at (Some (One command)) bytes found = IsOne size command bytes found
-IsFilled size at (Some (Two command)) bytes found = IsTwo size command bytes found
-IsFilled size at (Some (Three command)) bytes found = IsThree size command bytes found
-
--- nothing stands behind a command
+-- Nothing stands behind a command.
 abbrev pub IsWhole : ℕ → Command → List ℕ → Found Command → Type 0
-IsWhole size command bytes found = (end : Found (Unit {0})) × IsEnd size bytes end × IsThen end (λ u whole. whole ≡ Ok command) found
+IsWhole size command bytes found = IsAfter (IsEnd size bytes) (λ u whole. whole ≡ Ok command) found
+
+-- the word's command with its argument, and nothing more, in the rest of a line of this size
+abbrev pub IsOfWord : ℕ → Word → List ℕ → Found Command → Type 0
+IsOfWord size word rest found = IsAfter (IsArgument size rest) (λ x. IsWhole size (command_with word x.0) x.1) found
+
+-- A text that begins with no command word is refused where it begins.
+abbrev pub IsOfText : ℕ → List ℕ → Option Word → List ℕ → Found Command → Type 0
+IsOfText size text None rest found = found ≡ refused UnknownWord (place size text)
+IsOfText size text (Some word) rest found = IsOfWord size word rest found
 
 -- the command that stands at the end of a line of this size
 abbrev pub IsCommand : ℕ → List ℕ → Found Command → Type 0
-IsCommand size text found =
-    (filled : Filled)
-    × IsFilled size (place size text) (form_of (take (word_length text) text)) (drop (word_length text) text) filled
-    × IsThen filled (λ x. IsWhole size x.0 x.1) found
+IsCommand size text found = IsOfText size text (word_of (take (word_length text) text)) (drop (word_length text) text) found

@@ -6,6 +6,7 @@ ghost use Rattle.ca_cmd.specs.Argument.{apart, place, IsArgument, IsEnd, IsTermA
 ghost use Rattle.ca_cmd.specs.Finds.{Finds, IsTermFault};
 
 use crate::fault::{LineFault, LineWhy, refused};
+use crate::line::MOST_LINE_BYTES;
 use ca_term::Term;
 use ca_text::{TextFault, read_term};
 use std::alloc::Global;
@@ -25,7 +26,7 @@ pub(crate) fn skip(bytes: &[u8]) -> &[u8]
 
 // The bytes behind the blanks after a word or an argument.
 fn apart(size: usize, bytes: &[u8]) -> Result<&[u8], LineFault>
-    requires short { size ≤ 8192 }
+    requires short { size ≤ MOST_LINE_BYTES }
     requires ends_it { length bytes.now ≤ size }
     ensures value { Finds (λ rest. rest.now) (λ found. found ≡ apart size bytes.now) result }
     ensures within { IfOk result (λ rest. length rest.now ≤ length bytes.now) }
@@ -39,7 +40,7 @@ fn apart(size: usize, bytes: &[u8]) -> Result<&[u8], LineFault>
 
 // A line of this size is refused for the term text that begins with these bytes.
 fn term_refused(size: usize, bytes: &[u8], fault: TextFault) -> LineFault
-    requires short { size ≤ 8192 }
+    requires short { size ≤ MOST_LINE_BYTES }
     requires ends_it { length bytes.now ≤ size }
     requires place { fault_place fault ≤ length bytes.now }
     ensures { IsTermFault size bytes.now fault result }
@@ -55,7 +56,7 @@ fn term_refused(size: usize, bytes: &[u8], fault: TextFault) -> LineFault
 
 // The next argument, and the bytes behind it.
 pub(crate) fn argument(alloc: Global, size: usize, bytes: &[u8]) -> Result<(Term, &[u8]), LineFault>
-    requires short { size ≤ 8192 }
+    requires short { size ≤ MOST_LINE_BYTES }
     requires ends_it { length bytes.now ≤ size }
     ensures value { Finds (λ x. (x.0, x.1.now)) (IsArgument size bytes.now) result }
     ensures within { IfOk result (λ x. length x.1.now ≤ length bytes.now) }
@@ -69,7 +70,7 @@ pub(crate) fn argument(alloc: Global, size: usize, bytes: &[u8]) -> Result<(Term
 
 // The term text at the front of these bytes, and the bytes behind it.
 fn term(alloc: Global, size: usize, bytes: &[u8]) -> Result<(Term, &[u8]), LineFault>
-    requires short { size ≤ 8192 }
+    requires short { size ≤ MOST_LINE_BYTES }
     requires ends_it { length bytes.now ≤ size }
     ensures value { Finds (λ x. (x.0, x.1.now)) (IsTermAt size bytes.now) result }
     ensures within { IfOk result (λ x. length x.1.now ≤ length bytes.now) }
@@ -82,7 +83,7 @@ fn term(alloc: Global, size: usize, bytes: &[u8]) -> Result<(Term, &[u8]), LineF
 
 // Nothing more stands behind the last argument.
 pub(crate) fn end(size: usize, bytes: &[u8]) -> Result<(), LineFault>
-    requires short { size ≤ 8192 }
+    requires short { size ≤ MOST_LINE_BYTES }
     requires ends_it { length bytes.now ≤ size }
     ensures { Finds (λ u. tt) (IsEnd size bytes.now) result }
 {

@@ -1,25 +1,8 @@
-//! Bytes cut in two.
-ghost use Rattle.std.specs.Prelude.{◌≡◌, ◌==◌, ◌<◌, ◌∷◌, position, length, MatchOption};
-ghost use Rattle.ca_cmd.specs.Cut.{IsFree, IsCut};
+//! Lines cut off.
+ghost use Rattle.std.specs.Prelude.{◌≡◌, ◌<◌, ◌∷◌, length};
 ghost use Rattle.ca_cmd.specs.File.{without_cr, lines_of};
 
-// The place of the first byte of this value.
-fn place_of(bytes: &[u8], stop: u8) -> Option<usize>
-    ensures { result ≡ position (λ b. b == stop) bytes.now }
-{
-    bytes.iter().position(|b| *b == stop)
-}
-
-// What stands before the first byte of this value, and what stands after it.
-#[tactic(auto, using(crate::proofs::Cuts::place_none, crate::proofs::Cuts::place_bound, crate::proofs::Cuts::place_cut))]
-fn cut_at(bytes: &[u8], stop: u8) -> Option<(&[u8], &[u8])>
-    ensures { MatchOption result (IsFree stop bytes.now) (λ parts. IsCut bytes.now stop parts.0.now parts.1.now) }
-{
-    match place_of(bytes, stop) {
-        None => None,
-        Some(place) => Some((&bytes[..place], &bytes[place + 1..])),
-    }
-}
+use memchr::memchr;
 
 // The line without a CR at its end.
 fn without_cr(line: &[u8]) -> &[u8]
@@ -37,8 +20,8 @@ pub(crate) fn cut_line(bytes: &[u8]) -> (&[u8], &[u8])
     ensures line { lines_of bytes.now ≡ result.0.now ∷ lines_of result.1.now }
     ensures shorter { length result.1.now < length bytes.now }
 {
-    match cut_at(bytes, b'\n') {
-        Some((line, rest)) => (without_cr(line), rest),
+    match memchr(b'\n', bytes) {
+        Some(end) => (without_cr(&bytes[..end]), &bytes[end + 1..]),
         None => (without_cr(bytes), &[]),
     }
 }

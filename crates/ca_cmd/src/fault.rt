@@ -3,12 +3,13 @@ ghost use Rattle.std.specs.Prelude.{◌≡◌, ◌≤◌, length};
 ghost use Rattle.ca_cmd.specs.Argument.{place};
 ghost use Rattle.ca_cmd.specs.declared.fault.FileFault.TheVariants.{NoMemory};
 
+use crate::line::MOST_LINE_BYTES;
 use std::alloc::{AllocError, AllocFailed};
 
 /// Why a line was refused. Source: the rules of command files are this project's own.
 #[derive(Clone, Copy, Debug, PartialEq, Eq)]
 pub enum LineWhy {
-    /// The line has over 8,192 bytes.
+    /// The line has more than `MOST_LINE_BYTES` bytes.
     LineTooLong,
     /// The line is not UTF-8.
     NotUtf8,
@@ -63,7 +64,7 @@ pub(crate) enum LineFault {
 
 // A line of this size is refused at the first of these bytes, with which it ends.
 pub(crate) fn refused(why: LineWhy, size: usize, bytes: &[u8]) -> LineFault
-    requires short { size ≤ 8192 }
+    requires short { size ≤ MOST_LINE_BYTES }
     requires ends_it { length bytes.now ≤ size }
     ensures { result ≡ LineFault.Refused (place size bytes.now) why }
 {

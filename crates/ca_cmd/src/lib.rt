@@ -10,11 +10,12 @@ mod laws;
 mod line;
 mod output;
 mod reading;
+mod word;
 
 pub use answer::{Answer, show_reply};
 pub use fault::{FileFault, LineWhy};
 pub use laws::file_laws;
-pub use line::{Line, Lines};
+pub use line::{Line, Lines, MOST_LINE_BYTES};
 pub use output::{show_answer, show_client, show_table};
 pub use reading::read_file;
 

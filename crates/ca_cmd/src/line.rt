@@ -5,6 +5,9 @@ ghost use Rattle.ca_cmd.specs.declared.line.Line.{Line};
 use ca_ets::Cmd;
 use std::marker::Model;
 
+/// How many bytes a line may have, without its end. Source: the rules of command files are this project's own.
+pub const MOST_LINE_BYTES: usize = 8192;
+
 /// A command, with the number of its line, counted from 1.
 #[derive(Drop)]
 pub struct Line {

@@ -1,26 +1,17 @@
 use super::*;
 use ca_ets::{Cmd, Fault, Reply};
-use ca_term::{Terms, atom, int};
+use ca_term::{Term, Terms, atom, int};
 use ca_text::print_term;
 use std::alloc::{AllocError, Global};
 use std::process::Abort;
 use std::test::Fail;
 
-// A command as a line shows it.
-fn spelled(alloc: Global, cmd: &Cmd) -> Result<Vec<u8>, AllocError> {
-    let mut text = Vec::new(alloc);
+// A command's word and its argument.
+fn parts(cmd: &Cmd) -> (&'static [u8], &Term) {
     match cmd {
-        Cmd::Insert(object) => {
-            text.extend_from_slice(b"insert ")?;
-            print_term(object, &mut text)?;
-        }
-        Cmd::Lookup(key) => {
-            text.extend_from_slice(b"lookup ")?;
-            print_term(key, &mut text)?;
-        }
-        _ => {}
+        Cmd::Insert(object) => (b"insert", object),
+        Cmd::Lookup(key) => (b"lookup", key),
     }
-    Ok(text)
 }
 
 // The commands of a file, each with its line's number and a dot.
@@ -31,9 +22,11 @@ fn listed(alloc: Global, file: &[u8]) -> Result<Vec<u8>, Fail> {
     let lines = read_file(alloc, file)?;
     let mut text = Vec::new(alloc);
     for line in lines.as_slice() {
-        let cmd = spelled(alloc, &line.cmd)?;
+        let (word, argument) = parts(&line.cmd);
         text.extend_from_slice(format!(in alloc; "{} ", line.number)?.as_bytes())?;
-        text.extend_from_slice(cmd.as_slice())?;
+        text.extend_from_slice(word)?;
+        text.push(b' ')?;
+        print_term(argument, &mut text)?;
         text.push(b'.')?;
     }
     Ok(text)
@@ -138,6 +131,8 @@ fn repeated(
     Ok(text)
 }
 
+const MOST: u32 = MOST_LINE_BYTES as u32;
+
 #[test]
 fn refuses_long_lines(rt: HostRuntime) -> Result<(), Fail> {
     let alloc = rt.alloc();
@@ -145,15 +140,22 @@ fn refuses_long_lines(rt: HostRuntime) -> Result<(), Fail> {
         (
             b"".as_slice(),
             b"%".as_slice(),
-            8193,
+            MOST + 1,
             b"".as_slice(),
-            8193,
+            MOST + 1,
             LineWhy::LineTooLong,
         ),
-        (b"lookup 1", b" ", 8185, b"", 8193, LineWhy::LineTooLong),
-        (b"lookup 1", b" ", 8183, b"x", 8192, LineWhy::Extra),
-        (b"", b" ", 8191, b"?", 8192, LineWhy::UnknownWord),
-        (b"insert", b"\t", 8186, b"", 8193, LineWhy::Absent),
+        (
+            b"lookup 1",
+            b" ",
+            MOST - 7,
+            b"",
+            MOST + 1,
+            LineWhy::LineTooLong,
+        ),
+        (b"lookup 1", b" ", MOST - 9, b"x", MOST, LineWhy::Extra),
+        (b"", b" ", MOST - 1, b"?", MOST, LineWhy::UnknownWord),
+        (b"insert", b"\t", MOST - 6, b"", MOST + 1, LineWhy::Absent),
         (b"lookup ", b"a", 256, b"", 263, LineWhy::AtomTooLong),
         (b"lookup '", b"a", 256, b"'", 264, LineWhy::AtomTooLong),
         (b"lookup ", b"{", 64, b"1", 72, LineWhy::TooDeep),
@@ -163,9 +165,9 @@ fn refuses_long_lines(rt: HostRuntime) -> Result<(), Fail> {
         is_refused(&rt, text.as_slice(), at, why)?;
     }
     for (front, part, times) in [
-        (b"lookup 1".as_slice(), b" ".as_slice(), 8184),
-        (b"%", b"?", 8191),
-        (b"", b"\t", 8192),
+        (b"lookup 1".as_slice(), b" ".as_slice(), MOST - 8),
+        (b"%", b"?", MOST - 1),
+        (b"", b"\t", MOST),
     ] {
         let text = repeated(alloc, front, part, times, b"\r\n")?;
         assert_eq!(rt; refusal(alloc, text.as_slice()), None);

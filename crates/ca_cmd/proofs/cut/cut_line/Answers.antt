@@ -2,7 +2,7 @@ use Rattle.ca_cmd.proofs.CutLines.{first_line, last_line}
 use Rattle.ca_cmd.proofs.cut.cut_line.Goals as goal
 
 pub returns-in-Some-clause-line : goal.returns-in-Some-clause-line
-returns-in-Some-clause-line c = rw c.without_cr.ensures (first_line c.args.bytes.now c.in-Some.line.now c.in-Some.rest.now c.in-Some.ensures)
+returns-in-Some-clause-line c = rw c.without_cr.ensures (first_line c.args.bytes.now c.in-Some.end c.in-Some.ensures.0 c.in-Some.ensures.1)
 
 pub returns-in-None-clause-line : goal.returns-in-None-clause-line
 returns-in-None-clause-line c = rw c.without_cr-in-None.ensures (last_line c.args.bytes.now c.in-None.ensures c.requires)

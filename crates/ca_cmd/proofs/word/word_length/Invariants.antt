@@ -1,6 +1,6 @@
 use Rattle.std.proofs.Common.{◌≡◌, ◌+◌, length}
 use Rattle.ca_cmd.specs.Word.{word_length}
-use Rattle.ca_cmd.proofs.command.word_length.Given as goal
+use Rattle.ca_cmd.proofs.word.word_length.Given as goal
 
 abbrev pub invariant-loop-rest : goal.invariant-loop-rest
 invariant-loop-rest l = record {
