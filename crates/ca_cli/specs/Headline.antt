@@ -13,6 +13,11 @@ AreFilesOf [] (lines ∷ all) = ⊥
 AreFilesOf (file ∷ files) [] = ⊥
 AreFilesOf (file ∷ files) (lines ∷ all) = IsFileOf file lines × AreFilesOf files all
 
+-- These bytes are the text of these answers and this table, which are explained for the commands of these lines, a list a client.
+pub record IsAnswer (keypos : ℕ) (lines : List (List Numbered)) (answers : List (List Answered)) (table : List Tree) (bytes : List ℕ) : Type 0 where
+  pub explained : Explained keypos (map commands_in lines) answers table
+  pub written : bytes ≡ text_of_run lines answers table
+
 -- No command was refused.
 abbrev pub AreReplies : List Answered → Type 0
 AreReplies [] = Unit {0}
@@ -24,12 +29,3 @@ AreReplies (Worn ∷ answers) = ⊥
 abbrev pub AllAreReplies : List (List Answered) → Type 0
 AllAreReplies [] = Unit {0}
 AllAreReplies (answers ∷ all) = AreReplies answers × AllAreReplies all
-
--- These bytes are the text of answers and of a table that are explained for the commands of these lines, a list a client.
--- No line is answered by a refusal.
-pub record IsAnswer (keypos : ℕ) (lines : List (List Numbered)) (bytes : List ℕ) : Type 0 where
-  pub answers : List (List Answered)
-  pub table : List Tree
-  pub explained : Explained keypos (map commands_in lines) answers table
-  pub unrefused : AllAreReplies answers
-  pub written : bytes ≡ text_of_run lines answers table
