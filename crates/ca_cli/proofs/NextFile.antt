@@ -1,79 +1,98 @@
 -- The file that is next where the files of a call are read: what it comes to.
-use Rattle.std.proofs.Common.{◌≡◌, ℕ, ◌+◌, ◌-◌, ◌≤◌, ◌<◌, List, [], ◌∷◌, ◌++◌, length, map, take, drop, get_or, arith, refl, sym, ◌∙◌, ap, subst, Some}
+use Rattle.std.proofs.Common.{◌≡◌, ℕ, ◌+◌, ◌-◌, ◌≤◌, ◌<◌, List, [], ◌∷◌, ◌++◌, length, map, take, take_all, drop, get_or, arith, refl, sym, ◌∙◌, ap, subst, inr, inl, Some, Ok, Err}
 use Rattle.std.proofs.lemmas.List.{length-map, length-take-le}
-use Rattle.std.specs.Prelude.{Option}
+use Rattle.std.specs.Prelude.{Result}
 use Rattle.ca_outside.proofs.Counts.{risen_since}
+use Rattle.ca_outside.specs.Fetches.{Fetched, fetched}
+use Rattle.ca_outside.specs.Known.{Content, Holds}
+use Rattle.ca_outside.specs.declared.shelf.FetchFault.{FetchFault}
+use Rattle.ca_outside.specs.declared.shelf.FetchFault.TheVariants as fault
 use Rattle.ca_cmd.specs.File.{Numbered}
-use Rattle.ca_cli.specs.Outcome.{Call, call_of, IsReached, IsOutcome, IsWellFormed, most_bytes, total_length}
+use Rattle.ca_cli.specs.Call.{Call, Change, change_of, call_of, Adds}
+use Rattle.ca_cli.specs.Outcome.{IsReached, IsOutcome, IsWellFormed, AreRead, AreAccepted, most_bytes, total_length, all_well}
 use Rattle.ca_cli.specs.Reading.{wanted_of, IsRead, IsFault}
 use Rattle.ca_cli.specs.StatusText.{text_of_status}
-use Rattle.ca_cli.specs.Words.{named_files}
+use Rattle.ca_cli.specs.Words.{Request}
 use Rattle.ca_cli.specs.declared.status.Status.{Status}
 use Rattle.ca_cli.specs.declared.status.Status.TheVariants.{Done, Usage, ShelfFault, SinkFault, BadLine, NoMemory, TooLong}
-use Rattle.ca_cli.proofs.Accepted.{IsReading, HasNext, has_next, reads_on}
+use Rattle.ca_cli.proofs.Accepted.{IsReading, HasNext, has_next, reads_on, adds_more}
 use Rattle.ca_cli.proofs.Firsts.{first_more, split_here}
 
-named_same : (o : Option (List (List ℕ))) (names others : List (List ℕ)) → o ≡ Some names → o ≡ Some others → names ≡ others
-named_same o names others e f = cc
+some_same : (a b : Request) → Some a ≡ Some b → b ≡ a
+some_same a b e = cc
 
 -- The names, seen by f, and one of them, at a place before which all files were accepted.
 module _ {X : Type 0} (f : X → List ℕ) (names : List X) (i : ℕ) (name : X) (inside : i < length names) (here : name ≡ get_or names i name)
-    (content : List ℕ → Option (List ℕ)) (lines : List (List Numbered)) (room : ℕ) (h : IsReading content (map f (take i names)) lines room) where
-  pub reads_next : (own : List Numbered) (count : ℕ) → IsRead (content (f name)) room own count
-      → IsReading content (map f (take (i + 1) names)) (lines ++ own ∷ []) (room - count)
-  reads_next own count r =
-      subst (λ (x : List (List ℕ)). IsReading content x (lines ++ own ∷ []) (room - count)) (sym (first_more f names i name inside here))
-      (reads_on content (map f (take i names)) lines room (f name) own count h r)
+    (content : List ℕ → Content) (first next : Change Fetched) (joined : first.after ≡ next.before)
+    (lines : List (List Numbered)) (room : ℕ) (h : IsReading content first (map f (take i names)) lines room) where
+  abbrev whole : Change Fetched
+  whole = change_of first.before next.after first.faults_before next.faults_after
 
-  module _ (words : List (List ℕ)) (before after : ℕ) (n : named_files words ≡ Some (map f names)) where
+  pub reads_next : (own : List Numbered) (count : ℕ) → IsRead (content (f name)) room own count → Adds next (fetched (f name) (Ok tt) ∷ [])
+      → IsReading content whole (map f (take (i + 1) names)) (lines ++ own ∷ []) (room - count)
+  reads_next own count r g =
+      subst (λ (x : List (List ℕ)). IsReading content whole x (lines ++ own ∷ []) (room - count)) (sym (first_more f names i name inside here))
+      (reads_on content first next (map f (take i names)) lines room (f name) own count h joined g r)
+
+  module _ (request : Request) (n : request.names ≡ map f names) where
     abbrev call : Call
-    call = call_of words content before after
+    call = call_of (Some request) content whole
 
-    named : named_files words ≡ Some (map f (take i names) ++ f name ∷ map f (drop (i + 1) names))
-    named = n ∙ ap Some (split_here f names i name inside here)
-
-    place : length (map f (take i names)) ≡ i
-    place = length-map (take i names) f ∙ length-take-le i names (omega (arith, inside))
-
-    abbrev reached : (number : ℕ) → number ≡ i + 1 → IsReached call number
-    reached number e = record {
+    abbrev reached : (number : ℕ) (end : Result (Unit {0}) FetchFault) → number ≡ i + 1 → Adds next (fetched (f name) end ∷ []) → IsReached call number end
+    reached number end e g = record {
+      request = request;
+      asked = refl;
       earlier = map f (take i names);
       name = f name;
       later = map f (drop (i + 1) names);
-      named = named;
-      place = omega (arith, e, place);
+      named = n ∙ split_here f names i name inside here;
+      place = e ∙ ap (λ (k : ℕ). k + 1) (sym (length-map (take i names) f ∙ length-take-le i names (omega (arith, inside))));
       files = h.files;
       lines = lines;
       accepted = h.accepted;
+      fetches = adds_more first next (all_well (map f (take i names))) (fetched (f name) end ∷ []) joined h.fetches g;
     }
 
-    pub fault_outcome : (number between : ℕ) (status : Status) → number ≡ i + 1 → before ≤ between →
-        IsFault (wanted_of number (content (f name)) room between after) status → IsOutcome call status (text_of_status status)
-    fault_outcome number between Done e o f = absurd f
-    fault_outcome number between Usage e o f = absurd f
-    fault_outcome number between (ShelfFault file) e o f = (reached file (f.0 ∙ e), risen_since before between after o f.1, refl)
-    fault_outcome number between SinkFault e o f = absurd f
-    fault_outcome number between (BadLine file line at) e o f = (
+    pub fault_outcome : (number : ℕ) (status : Status) → number ≡ i + 1 → first.faults_before ≤ next.faults_before →
+        IsFault next (wanted_of number (f name) (content (f name)) room) status → IsOutcome call status (text_of_status status)
+    fault_outcome number Done e o b = absurd b
+    fault_outcome number Usage e o b = absurd b
+    fault_outcome number (ShelfFault file) e o b = (reached file (Err fault.Failed) (b.0 ∙ e) b.2, risen_since _ _ _ o b.1, refl)
+    fault_outcome number SinkFault e o b = absurd b
+    fault_outcome number (BadLine file line at) e o b = (
       record {
-        reached = reached file (f.0 ∙ e);
-        file = f.1.file;
-        fetched = f.1.fetched;
-        limit = omega (arith, h.left, f.1.fits);
-        why = f.1.why;
-        refused = f.1.refused;
+        reached = reached file (Ok tt) (b.0 ∙ e) b.2;
+        file = b.1.file;
+        fetched = b.1.fetched;
+        limit = omega (arith, h.left, b.1.fits);
+        why = b.1.why;
+        refused = b.1.refused;
       },
       refl,
     )
-    fault_outcome number between NoMemory e o f = refl
-    fault_outcome number between (TooLong file) e o f =
+    fault_outcome number NoMemory e o b = (inr (inl (number, b.0, reached number b.0 e b.1)), refl)
+    fault_outcome number (TooLong file) e o b =
         let left : room ≡ most_bytes - total_length h.files = omega (arith, h.left) in
-        (record { reached = reached file (f.0 ∙ e); over = rw left at f.1 }, refl)
+        (record { reached = reached file (Err fault.TooLong) (b.0 ∙ e) b.2; over = rw left at b.1 }, refl)
 
     -- the file of this name, where the call is well formed: there is room for it
-    pub next_file : (w : IsWellFormed call) → (next : HasNext content (f name) h.files w.files) × (length next.file ≤ room)
+    pub next_file : (w : IsWellFormed call) → (found : HasNext content (f name) h.files w.files) × (length found.file ≤ room)
     next_file w =
-        let same : w.names ≡ map f names = named_same (named_files words) w.names (map f names) w.named n in
-        let told : map content (map f (take i names) ++ f name ∷ map f (drop (i + 1) names)) ≡ map Some w.files =
+        let same : w.request.names ≡ map f names = ap (λ (r : Request). r.names) (some_same request w.request w.asked) ∙ n in
+        let told : map content (map f (take i names) ++ f name ∷ map f (drop (i + 1) names)) ≡ map Holds w.files =
         ap (map content) (sym (same ∙ split_here f names i name inside here)) ∙ w.told in
-        let next = has_next content (map f (take i names)) (f name) (map f (drop (i + 1) names)) h.files w.files w.lines h.accepted.fetched told w.read in
-        (next, omega (arith, next.total, w.limit, h.left))
+        let found = has_next content (map f (take i names)) (f name) (map f (drop (i + 1) names)) h.files w.files w.lines h.accepted.fetched told w.read in
+        (found, omega (arith, found.total, w.limit, h.left))
+
+-- behind the last name, all files were read
+pub all_read : {X : Type 0} (f : X → List ℕ) (names : List X) (i : ℕ) (content : List ℕ → Content) (shelf : Change Fetched) (lines : List (List Numbered)) (room : ℕ) →
+    length names ≤ i → IsReading content shelf (map f (take i names)) lines room → (request : Request) → request.names ≡ map f names →
+    AreRead (call_of (Some request) content shelf) request lines
+all_read f names i content shelf lines room e h request n =
+    let same : map f (take i names) ≡ request.names = ap (map f) (take_all i names e) ∙ sym n in
+    record {
+      asked = refl;
+      files = h.files;
+      accepted = subst (λ (x : List (List ℕ)). AreAccepted content x h.files lines) same h.accepted;
+      fetches = subst (λ (x : List (List ℕ)). Adds shelf (all_well x)) same h.fetches;
+    }

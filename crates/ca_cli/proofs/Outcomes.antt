@@ -1,17 +1,36 @@
 -- What a call of the program comes to.
-use Rattle.std.proofs.Common.{ℕ, ◌<◌, List, length, refl, inr, take}
-use Rattle.ca_outside.specs.Known.{HasRisen, Grows}
-use Rattle.ca_cli.specs.Outcome.{Call, IsOutcome}
-use Rattle.ca_cli.specs.Written.{Output, HasRun}
+use Rattle.std.proofs.Common.{◌≡◌, ℕ, ◌<◌, List, [], length, refl, inl, inr, take}
+use Rattle.std.specs.Prelude.{◌⊎◌}
+use Rattle.ca_cli.specs.Call.{Call, Change, Adds, HasFailed}
+use Rattle.ca_cli.specs.Outcome.{IsOutcome, IsStopped, IsDoneOrWant}
+use Rattle.ca_cli.specs.StatusText.{text_of_status}
+use Rattle.ca_cli.specs.Written.{HasRun}
 use Rattle.ca_cli.specs.declared.status.Status.{Status}
-use Rattle.ca_cli.specs.declared.status.Status.TheVariants.{SinkFault}
+use Rattle.ca_cli.specs.declared.status.Status.TheVariants.{Done, Usage, ShelfFault, SinkFault, BadLine, NoMemory, TooLong}
+
+-- whatever a call came to, it may have stopped there
+stopped : (call : Call) (status : Status) (bytes : List ℕ) → IsOutcome call status bytes → IsStopped call
+stopped call Done bytes h = inr (inr (h.2.request, h.2.lines, h.2.read))
+stopped call Usage bytes h = inl h.1
+stopped call (ShelfFault file) bytes h = inr (inl (file, _, h.0))
+stopped call SinkFault bytes h = absurd h
+stopped call (BadLine file line at) bytes h = inr (inl (file, _, h.0.reached))
+stopped call NoMemory bytes h = h.0
+stopped call (TooLong file) bytes h = inr (inl (file, _, h.0.reached))
+
+-- a status with its message, or want of memory
+pub told_outcome : (call : Call) (status result : Status) (bytes : List ℕ) → IsOutcome call status (text_of_status status) →
+    ((result ≡ status) × (bytes ≡ text_of_status status)) ⊎ ((result ≡ NoMemory) × (bytes ≡ [])) → IsOutcome call result bytes
+told_outcome call status result bytes h (inl t) = rw (t.0, t.1) h
+told_outcome call status result bytes h (inr t) = rw (t.0, t.1) (stopped call status (text_of_status status) h, refl)
+
+-- where memory was wanted, it was so with the message too
+pub told_want : (status result : Status) (bytes : List ℕ) → status ≡ NoMemory →
+    ((result ≡ status) × (bytes ≡ text_of_status status)) ⊎ ((result ≡ NoMemory) × (bytes ≡ [])) → IsDoneOrWant result
+told_want status result bytes e (inl t) = rw (t.0, e) tt
+told_want status result bytes e (inr t) = rw t.0 tt
 
 -- the sink failed after a part of the bytes
-pub cut_off : (call : Call) (output : Output) (status : Status) (bytes : List ℕ) → IsOutcome call status bytes → (n : ℕ) → n < length bytes
-    → Grows output.before output.after (take n bytes) → HasRisen output.faults_before output.faults_after → HasRun call output SinkFault
-cut_off call output status bytes h n p t r = record {
-  status = status;
-  bytes = bytes;
-  outcome = h;
-  written = inr (record { same = refl; count = n; part = p; taken = t; risen = r });
-}
+pub cut_off : (call : Call) (output : Change ℕ) (status : Status) (bytes : List ℕ) → IsOutcome call status bytes → (n : ℕ) → n < length bytes
+    → Adds output (take n bytes) → HasFailed output → HasRun call output SinkFault status bytes
+cut_off call output status bytes h n p t r = record { outcome = h; written = inr (record { same = refl; count = n; part = p; taken = t; risen = r }) }

@@ -13,6 +13,11 @@ AreFilesOf [] (lines ∷ all) = ⊥
 AreFilesOf (file ∷ files) [] = ⊥
 AreFilesOf (file ∷ files) (lines ∷ all) = IsFileOf file lines × AreFilesOf files all
 
+-- These bytes are the text of these answers and this table, which are explained for the commands of these lines, a list a client.
+pub record IsAnswer (keypos : ℕ) (lines : List (List Numbered)) (answers : List (List Answer)) (table : List Tree) (bytes : List ℕ) : Type 0 where
+  pub explained : Explained keypos (map commands_in lines) answers table
+  pub written : bytes ≡ text_of_run lines answers table
+
 -- No command was refused.
 abbrev pub AreReplies : List Answer → Type 0
 AreReplies [] = Unit {0}
@@ -22,8 +27,3 @@ AreReplies (Err refusal ∷ answers) = ⊥
 abbrev pub AllAreReplies : List (List Answer) → Type 0
 AllAreReplies [] = Unit {0}
 AllAreReplies (answers ∷ all) = AreReplies answers × AllAreReplies all
-
--- The answers and the table are explained for the commands of these lines, a list a client, and these bytes are their text.
-pub record IsAnswer (keypos : ℕ) (lines : List (List Numbered)) (answers : List (List Answer)) (table : List Tree) (bytes : List ℕ) : Type 0 where
-  pub explained : Explained keypos (map commands_in lines) answers table
-  pub written : bytes ≡ text_of_run lines answers table

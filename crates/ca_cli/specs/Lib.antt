@@ -1,3 +1,4 @@
+pub mod Call
 pub mod Headline
 pub mod InTurn
 pub mod Outcome

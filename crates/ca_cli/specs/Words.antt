@@ -1,7 +1,13 @@
--- The words of the command line.
+-- What the words of the command line ask for.
 use Rattle.std.specs.Prelude.{ℕ, Bool, false, not, nat_le, ◌&&◌, ◌==◌, List, [], ◌∷◌, length, Option, Some, None, codes, if◌then◌else◌}
 use Rattle.std.specs.List.{list_all}
 use Rattle.std.specs.Str.{bytes_eq}
+
+pub record Request : Type 0 where
+  -- which element of an object is its key, counted from 1
+  pub keypos : ℕ
+  -- the names of the files in order
+  pub names : List (List ℕ)
 
 abbrev pub begins_with_dash : List ℕ → Bool
 begins_with_dash [] = false
@@ -11,7 +17,7 @@ begins_with_dash (b ∷ bs) = b == 45
 abbrev pub are_names : List (List ℕ) → Bool
 are_names names = nat_le 1 (length names) && nat_le (length names) 64 && list_all (λ name. not (begins_with_dash name)) names
 
--- the names of the files, where the words are the word `run` and 1 to 64 names
-abbrev pub named_files : List (List ℕ) → Option (List (List ℕ))
-named_files [] = None
-named_files (run ∷ names) = if bytes_eq run (codes "run") && are_names names then Some names else None
+-- what is asked for, where the words are the word `run` and 1 to 64 names
+abbrev pub request_of : List (List ℕ) → Option Request
+request_of [] = None
+request_of (run ∷ names) = if bytes_eq run (codes "run") && are_names names then Some (record { keypos = 1; names = names }) else None

@@ -1,13 +1,15 @@
 //! The files of a call, fetched and read.
-ghost use Rattle.std.specs.Prelude.{◌≡◌, ◌≤◌, ℕ, List, Some, map, length, IfOk, IfErr};
+ghost use Rattle.std.specs.Prelude.{◌≡◌, ◌≤◌, ℕ, List, [], ◌∷◌, Some, Ok, map, length, IsSome, IfOk, IfErr, OnOk, IsErrOf};
 ghost use Rattle.std.specs.String.{string_bytes};
-ghost use Rattle.ca_outside.specs.Known.{HasRisen};
+ghost use Rattle.ca_outside.specs.Fetches.{fetched};
+ghost use Rattle.ca_outside.specs.Known.{Holds, HasRisen, Grows};
 ghost use Rattle.ca_cmd.specs.File.{Numbered, IsFileOf};
 ghost use Rattle.ca_cmd.specs.Lines.{numbered};
-ghost use Rattle.ca_cli.specs.Outcome.{call_of, most_bytes, AreAccepted, IsOutcome, IsWellFormed};
+ghost use Rattle.ca_cli.specs.Call.{change_of, call_of};
+ghost use Rattle.ca_cli.specs.Outcome.{most_bytes, AreRead, IsOutcome, IsWellFormed};
 ghost use Rattle.ca_cli.specs.Reading.{wanted_of, IsRead, IsFault};
 ghost use Rattle.ca_cli.specs.StatusText.{text_of_status};
-ghost use Rattle.ca_cli.specs.Words.{named_files};
+ghost use Rattle.ca_cli.specs.Words.{Request};
 
 use crate::status::Status;
 use ca_cmd::{FileFault, Lines, read_file};
@@ -28,8 +30,13 @@ fn read_one<F: Shelf>(
     requires { room ≤ most_bytes }
 
     ensures read { IfOk result (λ r. IsRead (F.content shelf.old name.now) room (numbered r.0) r.1) }
-    ensures refused { IfErr result (λ status. IsFault (wanted_of number (F.content shelf.old name.now) room (F.faults shelf.old) (F.faults shelf.new)) status) }
-    ensures complete { (file : List ℕ) → (lines : List Numbered) → F.content shelf.old name.now ≡ Some file → length file ≤ room → IsFileOf file lines
+    ensures fetched { OnOk result (Grows (F.fetches shelf.old) (F.fetches shelf.new) (fetched name.now (Ok tt) ∷ [])) }
+    ensures told { ¬ IsErrOf result Status.NoMemory → IsSome (F.fetches shelf.old) → IsSome (F.fetches shelf.new) }
+
+    ensures refused { IfErr result (λ status. IsFault
+        (change_of (F.fetches shelf.old) (F.fetches shelf.new) (F.faults shelf.old) (F.faults shelf.new))
+        (wanted_of number name.now (F.content shelf.old name.now) room) status) }
+    ensures complete { (file : List ℕ) → (lines : List Numbered) → F.content shelf.old name.now ≡ Holds file → length file ≤ room → IsFileOf file lines
         → ¬ HasRisen (F.faults shelf.old) (F.faults shelf.new) → IfErr result (λ status. status ≡ Status.NoMemory) }
 
     ensures later { F.faults shelf.old ≤ F.faults shelf.new }
@@ -62,15 +69,18 @@ pub fn read_all<F: Shelf>(
 ) -> Result<Vec<Lines>, Status>
     requires { length names.now ≤ 64 }
 
-    ensures read { IfOk result (λ all. (files : List (List ℕ)) × AreAccepted (F.content shelf.old) (map string_bytes names.now) files (map numbered all.items)) }
+    // What each call comes to that asks for these files.
+    ensures read { IfOk result (λ all. (request : Request) → request.names ≡ map string_bytes names.now → AreRead
+        (call_of (Some request) (F.content shelf.old) (change_of (F.fetches shelf.old) (F.fetches shelf.new) (F.faults shelf.old) (F.faults shelf.new)))
+        request (map numbered all.items)) }
+    ensures refused { IfErr result (λ status. (request : Request) → request.names ≡ map string_bytes names.now → IsOutcome
+        (call_of (Some request) (F.content shelf.old) (change_of (F.fetches shelf.old) (F.fetches shelf.new) (F.faults shelf.old) (F.faults shelf.new)))
+        status (text_of_status status)) }
+    ensures complete { (request : Request) → request.names ≡ map string_bytes names.now → IsWellFormed
+        (call_of (Some request) (F.content shelf.old) (change_of (F.fetches shelf.old) (F.fetches shelf.new) (F.faults shelf.old) (F.faults shelf.new)))
+        → ¬ HasRisen (F.faults shelf.old) (F.faults shelf.new) → IfErr result (λ status. status ≡ Status.NoMemory) }
 
-    // What a call comes to whose words name these files.
-    ensures refused { IfErr result (λ status. (words : List (List ℕ)) → named_files words ≡ Some (map string_bytes names.now)
-        → IsOutcome (call_of words (F.content shelf.old) (F.faults shelf.old) (F.faults shelf.new)) status (text_of_status status)) }
-    ensures complete { (words : List (List ℕ)) → named_files words ≡ Some (map string_bytes names.now) →
-        let call = call_of words (F.content shelf.old) (F.faults shelf.old) (F.faults shelf.new) in
-        IsWellFormed call → ¬ HasRisen call.faults_before call.faults_after → IfErr result (λ status. status ≡ Status.NoMemory) }
-
+    ensures told { ¬ IsErrOf result Status.NoMemory → IsSome (F.fetches shelf.old) → IsSome (F.fetches shelf.new) }
     ensures later { F.faults shelf.old ≤ F.faults shelf.new }
 {
     let mut all = Vec::new(alloc);

@@ -40,7 +40,7 @@ fn words_given(rt: &HostRuntime) -> Result<Vec<String>, Status>
 fn main(rt: HostRuntime) -> ExitCode {
     let status = match words_given(&rt) {
         Ok(words) => {
-            let mut shelf = DirShelf::new(&rt);
+            let mut shelf = DirShelf::new(rt.alloc(), &rt);
             let mut sink = OutSink::new(io::writer(&rt));
             run(rt.alloc(), words.as_slice(), &mut shelf, &mut sink)
         }

@@ -2,7 +2,7 @@
 //! project's table of messages.
 use crate::status::Status;
 use crate::top::run;
-use ca_outside::{Drawer, FetchFault, Shelf, SureDrawer, SureTape, Tape};
+use ca_outside::{Drawer, SureDrawer, SureTape, Tape};
 use std::alloc::{AllocError, Global};
 use std::process::Abort;
 use std::test::Fail;
@@ -35,7 +35,7 @@ fn answers<R: Abort + AllocGlobal>(
 ) -> Result<(), Fail> {
     let alloc = rt.alloc();
     let files = files_of(alloc, &[("a", a.as_bytes()), ("b", b.as_bytes())])?;
-    let mut shelf = SureDrawer::new(files);
+    let mut shelf = SureDrawer::new(alloc, files);
     let mut sink = SureTape::new(alloc, 1000)?;
     let status = run(
         alloc,
@@ -94,7 +94,11 @@ fn answers_several_files(rt: HostRuntime) -> Result<(), Fail> {
 
 // How a run of these words ends over a drawer with one file, `a`, and what it writes.
 fn ended(alloc: Global, words: &str, a: &str) -> Result<(Status, SureTape), AllocError> {
-    let mut shelf = Drawer::new(files_of(alloc, &[("a", a.as_bytes())])?, Vec::new(alloc));
+    let mut shelf = Drawer::new(
+        alloc,
+        files_of(alloc, &[("a", a.as_bytes())])?,
+        Vec::new(alloc),
+    );
     let mut sink = SureTape::new(alloc, 1000)?;
     let status = run(
         alloc,
@@ -126,7 +130,7 @@ fn takes_up_to_64_files(rt: HostRuntime) -> Result<(), Fail> {
         for _ in 0..count {
             words.push("a".to_string(alloc)?)?;
         }
-        let mut shelf = SureDrawer::new(Vec::new(alloc));
+        let mut shelf = SureDrawer::new(alloc, Vec::new(alloc));
         let mut sink = SureTape::new(alloc, 1000)?;
         let ended = run(alloc, words.as_slice(), &mut shelf, &mut sink);
         assert_eq!(rt; ended, status, "at {count}");
@@ -154,23 +158,23 @@ fn names_what_is_wrong(rt: HostRuntime) -> Result<(), Fail> {
 #[test]
 fn fetches_no_file_after_a_bad_one(rt: HostRuntime) -> Result<(), Fail> {
     let alloc = rt.alloc();
-    // The second fetch from this drawer fails, whatever it is of.
-    let mut shelf = Drawer::new(
-        files_of(alloc, &[("a", b"lookup\n".as_slice())])?,
-        [2].to_vec(alloc)?,
-    );
-    let mut sink = SureTape::new(alloc, 1000)?;
-    let status = run(
-        alloc,
-        words_of(alloc, "run a b")?.as_slice(),
-        &mut shelf,
-        &mut sink,
-    );
-    let (file, line, at) = (1, 1, 7);
-    assert_eq!(rt; status, Status::BadLine { file, line, at });
-    let mut bytes = Vec::new(alloc);
-    let second = shelf.fetch(alloc, "a", 100, &mut bytes);
-    assert_eq!(rt; second, Err(FetchFault::Failed));
+    for (words, a, names) in [
+        ("run a b a", "lookup 1\n", ["a", "b", "a"].as_slice()),
+        ("run b a b", "lookup\n", ["b", "a"].as_slice()),
+        ("run a c b", "lookup 1\n", ["a", "c"].as_slice()),
+        ("run", "lookup 1\n", [].as_slice()),
+    ] {
+        let files = [("a", a.as_bytes()), ("b", b"".as_slice())];
+        let mut shelf = Drawer::new(alloc, files_of(alloc, &files)?, Vec::new(alloc));
+        let mut sink = SureTape::new(alloc, 1000)?;
+        let words = words_of(alloc, words)?;
+        run(alloc, words.as_slice(), &mut shelf, &mut sink);
+        let log = shelf.log().unwrap_or(&[]);
+        assert_eq!(rt; log.len(), names.len());
+        for (fetch, name) in log.iter().zip(names) {
+            assert_eq!(rt; fetch.name.as_str(), *name);
+        }
+    }
     Ok(())
 }
 
@@ -186,7 +190,7 @@ fn reads_no_more_bytes_than_the_limit(rt: HostRuntime) -> Result<(), Fail> {
     ] {
         let bytes = vec![in alloc; b'x'; length]?;
         let files = [("a", b"lookup 1\n".as_slice()), ("b", bytes.as_slice())];
-        let mut shelf = SureDrawer::new(files_of(alloc, &files)?);
+        let mut shelf = SureDrawer::new(alloc, files_of(alloc, &files)?);
         let mut sink = SureTape::new(alloc, 1000)?;
         let ended = run(
             alloc,
@@ -203,7 +207,7 @@ fn reads_no_more_bytes_than_the_limit(rt: HostRuntime) -> Result<(), Fail> {
 fn stops_where_the_sink_fails(rt: HostRuntime) -> Result<(), Fail> {
     let alloc = rt.alloc();
     let files = [("a", b"insert {1,a}\nlookup 1\n".as_slice())];
-    let mut shelf = SureDrawer::new(files_of(alloc, &files)?);
+    let mut shelf = SureDrawer::new(alloc, files_of(alloc, &files)?);
     let mut sink = Tape::new(alloc, 9, 4, Vec::new(alloc))?;
     let status = run(
         alloc,

@@ -1,16 +1,21 @@
 //! The top call.
-ghost use Rattle.std.specs.Prelude.{◌≡◌, ◌≤◌, ◌⊎◌, [], map};
+ghost use Rattle.std.specs.Prelude.{◌≡◌, ◌≤◌, ◌⊎◌, ℕ, List, [], map, IsSome};
 ghost use Rattle.std.specs.String.{string_bytes};
 ghost use Rattle.ca_outside.specs.Known.{HasRisen};
-ghost use Rattle.ca_cli.specs.Outcome.{call_of, IsOutcome, IsWellFormed, IsDoneOrWant};
+ghost use Rattle.ca_term.specs.Tree.{Tree};
+ghost use Rattle.ca_ets.specs.Command.{Answer};
+ghost use Rattle.ca_cli.specs.Call.{change_of, call_of};
+ghost use Rattle.ca_cli.specs.Headline.{AllAreReplies};
+ghost use Rattle.ca_cli.specs.Outcome.{IsOutcome, IsWellFormed, IsDoneOrWant};
 ghost use Rattle.ca_cli.specs.StatusText.{text_of_status};
-ghost use Rattle.ca_cli.specs.Written.{output_of, HasRun, Prints, IsFaultless};
+ghost use Rattle.ca_cli.specs.Words.{request_of};
+ghost use Rattle.ca_cli.specs.Written.{HasRun, Prints, IsFaultless};
 
 use crate::answer::answer;
 use crate::files::read_all;
 use crate::message::message;
 use crate::status::Status;
-use crate::words::named_files;
+use crate::words::request_of;
 use ca_outside::{Shelf, Sink, write_out};
 use std::alloc::Global;
 
@@ -26,19 +31,24 @@ fn told(alloc: Global, status: Status) -> (Status, Vec<u8>)
 
 // What the call comes to, before anything is written: the status, and the bytes that go with it.
 fn outcome<F: Shelf>(alloc: Global, words: &[String], shelf: &mut F) -> (Status, Vec<u8>)
-    ensures outcome { IsOutcome (call_of (map string_bytes words.now) (F.content shelf.old) (F.faults shelf.old) (F.faults shelf.new)) result.0 result.1.items }
-    ensures complete { let call = call_of (map string_bytes words.now) (F.content shelf.old) (F.faults shelf.old) (F.faults shelf.new) in
-        IsWellFormed call → ¬ HasRisen call.faults_before call.faults_after → IsDoneOrWant result.0 }
+    ensures outcome { IsOutcome
+        (call_of (request_of (map string_bytes words.now)) (F.content shelf.old)
+        (change_of (F.fetches shelf.old) (F.fetches shelf.new) (F.faults shelf.old) (F.faults shelf.new)))
+        result.0 result.1.items }
+    ensures complete { let call = call_of (request_of (map string_bytes words.now)) (F.content shelf.old)
+        (change_of (F.fetches shelf.old) (F.fetches shelf.new) (F.faults shelf.old) (F.faults shelf.new)) in
+        IsWellFormed call → ¬ HasRisen (F.faults shelf.old) (F.faults shelf.new) → IsDoneOrWant result.0 }
+    ensures told { ¬ (result.0 ≡ Status.NoMemory) → IsSome (F.fetches shelf.old) → IsSome (F.fetches shelf.new) }
     ensures later { F.faults shelf.old ≤ F.faults shelf.new }
 {
-    let Some(names) = named_files(words) else {
+    let Some(request) = request_of(words) else {
         return told(alloc, Status::Usage);
     };
-    let files = match read_all(alloc, shelf, names) {
+    let files = match read_all(alloc, shelf, request.names) {
         Ok(files) => files,
         Err(status) => return told(alloc, status),
     };
-    let Ok(bytes) = answer(alloc, 1, files.as_slice()) else {
+    let Ok(bytes) = answer(alloc, request.keypos, files.as_slice()) else {
         return (Status::NoMemory, Vec::new(alloc));
     };
     (Status::Done, bytes)
@@ -55,20 +65,27 @@ pub fn run<F: Shelf, S: Sink>(
     shelf: &mut F,
     sink: &mut S,
 ) -> Status
-    // The cause of each status, the bytes that go with it, and which of them the sink took in this call.
-    ensures run { HasRun
-        (call_of (map string_bytes words.now) (F.content shelf.old) (F.faults shelf.old) (F.faults shelf.new))
-        (output_of (S.taken sink.old) (S.taken sink.new) (S.faults sink.old) (S.faults sink.new)) result }
+    // The cause of each status, the fetches that were made, the bytes that go with it, and which of them the sink took.
+    ensures run { let call = call_of (request_of (map string_bytes words.now)) (F.content shelf.old)
+        (change_of (F.fetches shelf.old) (F.fetches shelf.new) (F.faults shelf.old) (F.faults shelf.new)) in
+        let output = change_of (S.taken sink.old) (S.taken sink.new) (S.faults sink.old) (S.faults sink.new) in
+        (status : Status) × (bytes : List ℕ) × HasRun call output result status bytes }
 
-    // The headline: where the status is `Done`, the answers and the table are those of one thread.
-    ensures headline { result ≡ Status.Done → Prints
-        (call_of (map string_bytes words.now) (F.content shelf.old) (F.faults shelf.old) (F.faults shelf.new))
-        (output_of (S.taken sink.old) (S.taken sink.new) (S.faults sink.old) (S.faults sink.new)) }
+    // The headline: where the status is `Done`, the answers and the table are those of one thread. No command was refused.
+    ensures headline { let call = call_of (request_of (map string_bytes words.now)) (F.content shelf.old)
+        (change_of (F.fetches shelf.old) (F.fetches shelf.new) (F.faults shelf.old) (F.faults shelf.new)) in
+        let output = change_of (S.taken sink.old) (S.taken sink.new) (S.faults sink.old) (S.faults sink.new) in
+        result ≡ Status.Done → (answers : List (List Answer)) × (table : List Tree) × (bytes : List ℕ)
+        × Prints call output answers table bytes × AllAreReplies answers }
 
     // Right words, files of the form within the limit and no fault give the answers, or want of memory.
-    ensures complete { let call = call_of (map string_bytes words.now) (F.content shelf.old) (F.faults shelf.old) (F.faults shelf.new) in
-        let output = output_of (S.taken sink.old) (S.taken sink.new) (S.faults sink.old) (S.faults sink.new) in
+    ensures complete { let call = call_of (request_of (map string_bytes words.now)) (F.content shelf.old)
+        (change_of (F.fetches shelf.old) (F.fetches shelf.new) (F.faults shelf.old) (F.faults shelf.new)) in
+        let output = change_of (S.taken sink.old) (S.taken sink.new) (S.faults sink.old) (S.faults sink.new) in
         IsWellFormed call → IsFaultless call output → IsDoneOrWant result }
+
+    // The fetches are told, where they were, unless memory was wanted.
+    ensures told { ¬ (result ≡ Status.NoMemory) → IsSome (F.fetches shelf.old) → IsSome (F.fetches shelf.new) }
 
     ensures shelf_later { F.faults shelf.old ≤ F.faults shelf.new }
     ensures sink_later { S.faults sink.old ≤ S.faults sink.new }

@@ -1,11 +1,23 @@
-//! The words of the command line.
-ghost use Rattle.std.specs.Prelude.{◌≡◌, None, Some, map, not, MatchOption};
+//! What the words of the command line ask for.
+ghost use Rattle.std.specs.Prelude.{◌≡◌, ◌≤◌, None, Some, map, length, not, IfSome, MatchOption};
 ghost use Rattle.std.specs.List.{list_all};
 ghost use Rattle.std.specs.String.{string_bytes};
-ghost use Rattle.ca_cli.specs.Words.{begins_with_dash, are_names, named_files};
+ghost use Rattle.ca_cli.specs.Words.{begins_with_dash, are_names, request_of};
 
 // The most files that a call names.
 const MOST_FILES: usize = 64;
+
+// Which element of an object is its key, counted from 1.
+const KEYPOS: u32 = 1;
+
+/// What a call is asked for.
+#[derive(Clone, Copy)]
+pub struct Request<'a> {
+    /// Which element of an object is its key, counted from 1.
+    pub keypos: u32,
+    /// The names of the files in order.
+    pub names: &'a [String],
+}
 
 fn are_undashed(names: &[String]) -> bool
     ensures { result ≡ list_all (λ name. not (begins_with_dash (string_bytes name))) names.now }
@@ -20,14 +32,19 @@ fn are_names(names: &[String]) -> bool
     !names.is_empty() && names.len() <= MOST_FILES && are_undashed(names)
 }
 
-/// The names of the files, where the words are the word `run` and 1 to 64 words that don't begin with a dash.
-pub fn named_files(words: &[String]) -> Option<&[String]>
-    ensures { MatchOption result
-        (named_files (map string_bytes words.now) ≡ None)
-        (λ names. named_files (map string_bytes words.now) ≡ Some (map string_bytes names.now)) }
+/// What is asked for, where the words are the word `run` and 1 to 64 words that don't begin with a dash.
+pub fn request_of(words: &[String]) -> Option<Request<'_>>
+    ensures asked { MatchOption result
+        (request_of (map string_bytes words.now) ≡ None)
+        (λ request. request_of (map string_bytes words.now) ≡ Some (record { keypos = request.keypos; names = map string_bytes request.names.now })) }
+    ensures first { IfSome result (λ request. 1 ≤ request.keypos) }
+    ensures few { IfSome result (λ request. length request.names.now ≤ 64) }
 {
     match words {
-        [run, names @ ..] if run.as_str() == "run" && are_names(names) => Some(names),
+        [run, names @ ..] if run.as_str() == "run" && are_names(names) => Some(Request {
+            keypos: KEYPOS,
+            names,
+        }),
         _ => None,
     }
 }
