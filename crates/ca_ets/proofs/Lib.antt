@@ -1,4 +1,4 @@
-pub mod Inserts
+pub mod Exits
 pub mod Merges
 pub mod Objects
 pub mod OneClient

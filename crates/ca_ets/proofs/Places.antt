@@ -18,7 +18,8 @@ abbrev pub AreGreater : ℕ → List Tree → Tree → Type 0
 AreGreater p [] k = Unit {0}
 AreGreater p (o ∷ m) k = (term_cmp (key_of p o) k ≡ Greater) × AreGreater p m k
 
-none_below : (p : ℕ) (m : List Tree) (k : Tree) → AreGreater p m k → below p m k ≡ []
+-- Nothing stands below a key that is less than all.
+pub none_below : (p : ℕ) (m : List Tree) (k : Tree) → AreGreater p m k → below p m k ≡ []
 none_below p [] k g = refl
 none_below p (o ∷ m) k g = rw g.0 (none_below p m k g.1)
 

@@ -1,10 +1,9 @@
 //! A table as a list of objects in key order.
-ghost use Rattle.std.specs.Prelude.{◌≡◌, ◌≤◌, [], ◌∷◌, length, true, false, IfOk, OnOk, OnErr, MatchOption};
+ghost use Rattle.std.specs.Prelude.{◌≡◌, ◌≤◌, [], ◌∷◌, length, IfOk, OnOk, OnErr};
 ghost use Rattle.std.specs.List.Sorted.{IsSearchInRange};
-ghost use Rattle.ca_term.specs.Object.{fits};
 ghost use Rattle.ca_ets.specs.Command.{Continuation, IsContinuation, command_of, continuation_of};
 ghost use Rattle.ca_ets.specs.OrderedMap.{IsTable};
-ghost use Rattle.ca_ets.specs.Place.{IsPlace, placed};
+ghost use Rattle.ca_ets.specs.Place.{IsKeyPlace, IsPlace, placed};
 ghost use Rattle.ca_ets.specs.Step.{step, step_of_insert, step_of_lookup, step_of_reply};
 
 use crate::command::{Cmd, Cont, Fault, Reply};
@@ -13,6 +12,16 @@ use ca_term::{Term, Terms};
 use std::alloc::{AllocError, Global};
 use std::marker::Model;
 use std::mem;
+
+// Where the key of a command stands in a table.
+enum KeyPlace {
+    // It is too long, so no object has it.
+    TooLong,
+    // At this object.
+    At(usize),
+    // No object has it; here one would stand.
+    Before(usize),
+}
 
 /// An `ordered_set` kept as a list of its objects in key order. Contracts see its `keypos` and its objects.
 /// Source: the ets manual, the table type `ordered_set` and the option `keypos`.
@@ -83,7 +92,7 @@ impl ListTable {
     }
 
     // `insert`: the copy is made before the table is changed.
-    #[tactic(auto, using(crate::proofs::Inserts::not_an_object, crate::proofs::Inserts::too_long, crate::proofs::Inserts::put_is, crate::proofs::Inserts::put_keeps, crate::proofs::Places::place_range))]
+    #[tactic(auto, using(crate::proofs::Exits::not_an_object, crate::proofs::Exits::too_long, crate::proofs::Exits::put_is, crate::proofs::Exits::put_keeps, crate::proofs::Places::place_range))]
     fn insert(&mut self, alloc: Global, object: &Term) -> Result<Reply, AllocError>
         ensures step { (continuation : Continuation) → IfOk result (λ reply. step_of_insert self.old.keypos self.old.objects continuation object.now ≡ step_of_reply self.new.objects continuation reply) }
         ensures keypos { self.new.keypos ≡ self.old.keypos }
@@ -105,21 +114,24 @@ impl ListTable {
     fn lookup(&self, alloc: Global, k: &Term) -> Result<Reply, AllocError>
         ensures { (continuation : Continuation) → IfOk result (λ reply. step_of_lookup self.now.keypos self.now.objects continuation k.now ≡ step_of_reply self.now.objects continuation reply) }
     {
-        match self.place_of(k) {
-            None => Ok(Reply::Error(Fault::Size)),
-            Some(Ok(at)) => Ok(Reply::List(only(alloc, &self.objects[at])?)),
-            Some(Err(_)) => Ok(Reply::List(Terms::new(alloc))),
+        match self.key_place(k) {
+            KeyPlace::TooLong => Ok(Reply::Error(Fault::Size)),
+            KeyPlace::At(at) => Ok(Reply::List(only(alloc, &self.objects[at])?)),
+            KeyPlace::Before(_) => Ok(Reply::List(Terms::new(alloc))),
         }
     }
 
-    // Where the key of a command stands, or would stand; none for a key that is too long, since no object has it.
-    fn place_of(&self, k: &Term) -> Option<Result<usize, usize>>
-        ensures { MatchOption result (fits k.now ≡ false) (λ place. (fits k.now ≡ true) × IsPlace self.now.keypos self.now.objects k.now place) }
+    // Where the key of a command stands.
+    fn key_place(&self, k: &Term) -> KeyPlace
+        ensures { IsKeyPlace self.now.keypos self.now.objects k.now result }
     {
         if !fits(k) {
-            return None;
+            return KeyPlace::TooLong;
         }
-        Some(place(self.objects.as_slice(), self.keypos, k))
+        match place(self.objects.as_slice(), self.keypos, k) {
+            Ok(at) => KeyPlace::At(at),
+            Err(at) => KeyPlace::Before(at),
+        }
     }
 }
 

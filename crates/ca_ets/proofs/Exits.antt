@@ -1,4 +1,4 @@
--- What an insert leaves and answers, at each of its exits.
+-- What a command that changes the table leaves and replies, at each exit of its method.
 use Rattle.std.proofs.Common.{◌≡◌, ℕ, true, false, List, Result}
 use Rattle.ca_term.specs.Tree.{Tree}
 use Rattle.ca_ets.specs.Command.{Continuation, Error, Truth}
