@@ -55,14 +55,17 @@ hex_taken most [] = err_yields
 hex_taken most (b ∷ bytes) =
     let start : 0 * 16 + digit_value b ≡ digit_value b = omega arith in
     if_yields (is_ascii_hexdigit b)
-    (λ h. map_yields (hex_after_taken bytes most 5 (digit_value b)) (λ x r. (record {
-      digits = b ∷ r.digits;
-      whole = ap (λ y. b ∷ y) r.whole;
-      all = (is_hex b h, r.all);
-      few = omega (arith, r.few);
-      value_is = ap (λ c. digits_value_after 16 c r.digits) start ∙ r.value_is;
-      point = r.point;
-    }, omega arith)))
+    (λ h. map_yields (hex_after_taken bytes most 5 (digit_value b)) (λ x r. (
+      record {
+        digits = b ∷ r.digits;
+        whole = ap (λ y. b ∷ y) r.whole;
+        all = (is_hex b h, r.all);
+        few = omega (arith, r.few);
+        value_is = ap (λ c. digits_value_after 16 c r.digits) start ∙ r.value_is;
+        point = r.point;
+      },
+      omega arith,
+    )))
     (λ h. err_yields)
 
 -- a character is read at the front
@@ -115,8 +118,12 @@ module _ (close most : ℕ) (small : close < 128) (low : 127 ≤ most) (high : 1
   letter_taken : (b : ℕ) (bytes : List ℕ) (o : Option ℕ) → escape_of b ≡ o
       → Yields (λ (x : ℕ × List ℕ). IsCharacterAt close most (backslash ∷ b ∷ bytes) x.0 x.1) (or_fault o bytes (b ∷ bytes))
   letter_taken b bytes None e = err_yields
-  letter_taken b bytes (Some c) e = ok_yields (record { text = backslash ∷ b ∷ []; whole = refl; character = Escaped close b c e;
-      point = escape_small most b c low e })
+  letter_taken b bytes (Some c) e = ok_yields (record {
+    text = backslash ∷ b ∷ [];
+    whole = refl;
+    character = Escaped close b c e;
+    point = escape_small most b c low e;
+  })
 
   escape_taken : (bytes : List ℕ) → Yields (λ (x : ℕ × List ℕ). IsCharacterAt close most (backslash ∷ bytes) x.0 x.1) (escape_at most bytes)
   unfolding escape_at
@@ -140,7 +147,7 @@ module _ (close most : ℕ) (small : close < 128) (low : 127 ≤ most) (high : 1
       (λ t. let same : b ≡ t.1 = let w = p.whole in let s = t.3 in cc in
       let most_is : most ≡ most_point = high (parts.2 (omega (arith, same, t.4))) in
       itself (λ e. absurd (omega (arith, e, t.0))) (λ e. absurd (omega (arith, e, t.0))) (λ e. absurd (omega (arith, e, t.0)))
-          (rw most_is (scalar_point c p.scalar)))
+      (rw most_is (scalar_point c p.scalar)))
       (first_byte c p.scalar)
 
   -- What is read as a character is one.
@@ -150,7 +157,7 @@ module _ (close most : ℕ) (small : close < 128) (low : 127 ≤ most) (high : 1
   character_taken (b ∷ bytes) =
       if_yields (eqb b backslash)
       (λ t. subst (λ y. Yields (λ (x : ℕ × List ℕ). IsCharacterAt close most (y ∷ bytes) x.0 x.1) (escape_at most bytes)) (sym (eqb-true b backslash t))
-          (escape_taken bytes))
+      (escape_taken bytes))
       (λ t. if_yields (begins_character close most b)
       (λ g. map_yields (point_yields (b ∷ bytes)) (λ x p. point_begins b bytes x.0 x.1 g (eqb-false b backslash t) p))
       (λ g. err_yields))

@@ -99,14 +99,24 @@ character_again : (close most : ℕ) (text : List ℕ) (c : ℕ) (rest : List �
     → (character_at close most (text ++ rest) ≡ Ok (c, rest)) × BeginsApart close text
 unfolding character_at escape_at
 character_again _ most _ _ rest small slash (Itself close c is h i j) point = itself_again close most c rest small is h i j point
-character_again _ most _ _ rest small slash (Escaped close letter c e) point =
-    (rw (escape_letter letter c e, e) refl, record { first = backslash; others = letter ∷ []; is = refl;
-        apart = other_quote close backslash (λ x. slash (sym x)) })
+character_again _ most _ _ rest small slash (Escaped close letter c e) point = (
+  rw (escape_letter letter c e, e) refl,
+  record {
+    first = backslash;
+    others = letter ∷ [];
+    is = refl;
+    apart = other_quote close backslash (λ x. slash (sym x));
+  },
+)
 character_again _ most _ _ rest small slash (Hexadecimal close ds n few is) point =
     let regrouped : (ds ++ close_brace ∷ []) ++ rest ≡ ds ++ close_brace ∷ rest = append_assoc ds (close_brace ∷ []) rest in (
       rw (expect_again open_brace ((ds ++ close_brace ∷ []) ++ rest), regrouped, hex_again most ds rest n few point) refl,
-      record { first = backslash; others = letter_x ∷ open_brace ∷ ds ++ close_brace ∷ []; is = refl;
-          apart = other_quote close backslash (λ x. slash (sym x)) },
+      record {
+        first = backslash;
+        others = letter_x ∷ open_brace ∷ ds ++ close_brace ∷ [];
+        is = refl;
+        apart = other_quote close backslash (λ x. slash (sym x));
+      },
     )
 
 -- No character's text is empty.

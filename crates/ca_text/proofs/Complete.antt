@@ -114,8 +114,12 @@ unfolding series_at segment_step after_segment_at
 segments_again zero text bs rest are few = let b = segments_begin text bs are in absurd (omega (arith, few, ap (λ (x : List ℕ). length x) b.is))
 segments_again (suc n) _ _ rest (LastSegment text blanks bytes is are) few =
     let read = segment_again text bytes (blanks ++ close_angle ∷ close_angle ∷ rest) is (blanks_end blanks close_angle (close_angle ∷ rest) are refl) in
-    rw (ended_parts text blanks (close_angle ∷ close_angle ∷ []) rest, read, skip_again blanks close_angle (close_angle ∷ rest) are refl,
-        expect_again close_angle rest) refl
+    rw (
+      ended_parts text blanks (close_angle ∷ close_angle ∷ []) rest,
+      read,
+      skip_again blanks close_angle (close_angle ∷ rest) are refl,
+      expect_again close_angle rest,
+    ) refl
 segments_again (suc n) _ _ rest (MoreSegments text before after others bytes more is one two are) few =
     let tail = comma ∷ (after ++ (others ++ rest)) in
     let read = segment_again text bytes (before ++ tail) is (blanks_end before comma (after ++ (others ++ rest)) one refl) in
@@ -266,7 +270,7 @@ empty_tail limits levels k text t blanks rest are e =
     let front : skip ((e.blanks ++ close_bracket ∷ []) ++ behind) ≡ close_bracket ∷ behind =
     ap skip (append_assoc e.blanks (close_bracket ∷ []) behind) ∙ skip_again e.blanks close_bracket behind e.are refl in
     let step : tail_at other ((open_bracket ∷ e.blanks ++ close_bracket ∷ []) ++ behind) ≡ Ok (Last Nil rest) = ap inner_at front
-        ∙ closed_reads Nil blanks rest are in
+    ∙ closed_reads Nil blanks rest are in
     record { next = Last Nil rest; found = ap (λ x. tail_at other (x ++ behind)) e.is ∙ step; reads = λ head. ap (λ x. Ok (Cons head x, rest)) (sym e.nil) }
 
 inner_from : (b : ℕ) (bytes : List ℕ) → eqb b close_bracket ≡ false → inner_at (b ∷ bytes) ≡ Ok (Inner (b ∷ bytes))
@@ -363,7 +367,7 @@ quoted_again : (most : ℕ) (text cs rest : List ℕ) → AreCharacters single_q
     → quoted_at most (text ++ rest) ≡ Ok (Atom (encode_utf8_all cs), rest)
 quoted_again most text cs rest are few =
     rw (characters_again _ single_quote most_point most text cs rest (omega arith) (λ e. absurd (omega (arith, e))) are
-        (characters_points single_quote text cs are) few) refl
+    (characters_points single_quote text cs are) few) refl
 
 atom_shape : (limits : Limits) (levels : ℕ) (text name : List ℕ) → IsAtom limits text name → OtherShape limits levels text (Atom name)
 atom_shape _ levels _ _ (Plain limits [] form few) = absurd cc
@@ -609,7 +613,7 @@ barred_of : (limits : Limits) (levels : ℕ) (text before after last blanks : Li
     → AreBlanks after → Shape limits (suc levels) last tail → AreBlanks blanks → (k : ℕ)
     → length (text ++ (before ++ vertical_bar ∷ (after ++ (last ++ (blanks ++ close_bracket ∷ []))))) ≤ k → (rest : List ℕ)
     → cells_at (term_at limits levels) (others_of limits levels) k
-        ((text ++ (before ++ vertical_bar ∷ (after ++ (last ++ (blanks ++ close_bracket ∷ []))))) ++ rest) ≡ Ok (Cons head tail, rest)
+    ((text ++ (before ++ vertical_bar ∷ (after ++ (last ++ (blanks ++ close_bracket ∷ []))))) ++ rest) ≡ Ok (Cons head tail, rest)
 barred_of limits levels text before after last blanks head tail s one two l are zero few rest =
     absurd (omega (
       arith,
@@ -684,7 +688,7 @@ mutual
         apart = refl;
         reads =
             λ rest whole. binary_other limits (term_at limits levels) levels (open_angle ∷ ((blanks ++ inner) ++ rest))
-                ∙ some_bytes blanks inner bs rest are is;
+            ∙ some_bytes blanks inner bs rest are is;
       })
 
   rows_again : (limits : Limits) (levels : ℕ) (text : List ℕ) (row : Row) → AreElements limits levels text row → Rows limits levels text row

@@ -27,7 +27,7 @@ shown_halts : (bytes : List ℕ) (f : Fault) → string_at most_shown bytes ≡ 
 shown_halts bytes f e =
     halted_behind_as (AreWithin double_quote most_shown (length bytes)) IsSegment (double_quote ∷ []) bytes f
     (characters_halts Syntax double_quote most_shown (length bytes) (omega arith) (λ h. absurd (omega (arith, h))) (omega arith) (λ h. absurd (omega arith))
-        bytes f e)
+    bytes f e)
     (double_quote ∷ [], [], Shown (double_quote ∷ []) [] (Closed double_quote) refl)
     (λ text cs are. (cs, Shown text cs are.0 (shown_ascii cs are.1)))
 
@@ -54,7 +54,7 @@ after_segment_halts (b ∷ bytes) f e =
     (λ h. ⊎_elim
     (λ i. let stuck = expect_halts close_angle bytes f (done_err (expect close_angle bytes) (λ rest. (false, rest)) f i.1) in
     subst (λ x. Halted IsClosing (x ∷ bytes) f) (sym (eqb-true b close_angle i.0))
-        (halted_at IsClosing Syntax (close_angle ∷ []) bytes f stuck (close_angle ∷ [], 0, refl)))
+    (halted_at IsClosing Syntax (close_angle ∷ []) bytes f stuck (close_angle ∷ [], 0, refl)))
     (λ i. halted_here _ Syntax (b ∷ bytes) f (err_is _ f i.1))
     (chosen (eqb b close_angle) _ _ (Err f) h.1))
     (chosen (eqb b comma) _ _ (Err f) e)
@@ -65,7 +65,7 @@ unfolding segment_step
 step_halts n bytes f e =
     ⊎_elim
     (λ h. halted_map IsSegment AreSegments bytes f (segment_halts bytes f h)
-        (λ text bs is. (close_angle ∷ close_angle ∷ [], bs, LastSegment text [] bs is refl)))
+    (λ text bs is. (close_angle ∷ close_angle ∷ [], bs, LastSegment text [] bs is refl)))
     (λ s. let first = (segment_taken bytes).is s.0 s.1 in
     let gap = skipped s.0.1 in
     let halted = after_segment_halts (skip s.0.1) f (done_err (after_segment_at (skip s.0.1)) (λ y. ((s.0.0, y.0), y.1)) f s.2) in
@@ -73,7 +73,7 @@ step_halts n bytes f e =
     let whole : bytes ≡ taken ++ skip s.0.1 = first.whole ∙ ap (λ x. first.text ++ x) gap.whole ∙ sym (append_assoc first.text gap.blanks (skip s.0.1)) in
     let closed : AreSegments (taken ++ close_angle ∷ close_angle ∷ []) s.0.0 =
     subst (λ x. AreSegments x s.0.0) (sym (append_assoc first.text gap.blanks (close_angle ∷ close_angle ∷ [])))
-        (LastSegment first.text gap.blanks s.0.0 first.is gap.are) in
+    (LastSegment first.text gap.blanks s.0.0 first.is gap.are) in
     subst (λ x. Halted AreSegments x f) (sym whole)
     (halted_behind_as IsClosing AreSegments taken (skip s.0.1) f halted (close_angle ∷ close_angle ∷ [], s.0.0, closed)
     (λ part n is. (s.0.0, subst (λ x. AreSegments (taken ++ x) s.0.0) (sym is) closed))))
@@ -116,6 +116,6 @@ module _ (limits : Limits) (levels : ℕ) where
       let whole : bytes ≡ (open_angle ∷ gap.blanks) ++ skip s.0 = (expect_yields open_angle bytes).is s.0 s.1 ∙ ap (λ x. open_angle ∷ x) gap.whole in
       subst (λ x. Halted IsBinary x f) (sym whole)
       (halted_behind_as (IsInner gap.blanks) IsBinary (open_angle ∷ gap.blanks) (skip s.0) f halted
-          (close_angle ∷ close_angle ∷ [], Binary [], NoBytes limits levels gap.blanks gap.are)
+      (close_angle ∷ close_angle ∷ [], Binary [], NoBytes limits levels gap.blanks gap.are)
       (λ text t is. (t, is))))
       (bind_err (expect open_angle bytes) (λ rest. bytes_at (skip rest) >>= λ x. Ok (Binary x.0, x.1)) f e)

@@ -114,7 +114,7 @@ module _ (most : ℕ) (low : 127 ≤ most) (high : 128 ≤ most → most ≡ mos
   escape_halts (b ∷ bytes) f e =
       ⊎_elim
       (λ h. halted_cons (escape_at most) opened b bytes f (λ zs. rw h.0 refl) (open_brace ∷ digit_zero ∷ close_brace ∷ [], 0, opened_read)
-          (opened_halts bytes f h.1))
+      (opened_halts bytes f h.1))
       (λ h. halted_here _ Syntax (b ∷ bytes) f (or_stuck (escape_of b) bytes (b ∷ bytes) f h.1))
       (chosen (eqb b letter_x) _ _ (Err f) e)
 

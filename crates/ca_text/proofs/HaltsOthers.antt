@@ -45,7 +45,7 @@ module _ (limits : Limits) (levels : ℕ) where
       ⊎_elim
       (λ h. halted_behind (AreWithin single_quote most_point limits.characters) IsOne (single_quote ∷ []) bytes f
       (characters_halts AtomTooLong single_quote most_point limits.characters (omega arith) (λ x. absurd (omega (arith, x))) (omega arith)
-          (λ x. refl) bytes f h)
+      (λ x. refl) bytes f h)
       (single_quote ∷ [], Atom [], no_name)
       (λ part cs are. (
         [],

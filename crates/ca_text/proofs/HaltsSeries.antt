@@ -17,14 +17,14 @@ with_comma bytes text r before s tail behind after u e f g h i = rw (e, f, g, h,
 
 module _ {B : Type 0} (IsPart : List ℕ → List B → Type 0) (Are : ℕ → List ℕ → List B → Type 0) (closing : List ℕ)
     (another : (n : ℕ) (text before after rest : List ℕ) (b bs : List B) → IsPart text b → AreBlanks before → AreBlanks after → Are n rest bs
-        → Are (suc n) (text ++ (before ++ comma ∷ (after ++ rest))) (b ++ bs))
+    → Are (suc n) (text ++ (before ++ comma ∷ (after ++ rest))) (b ++ bs))
     (step : ℕ → List ℕ → Read (List B × Bool))
     (step_taken : (n : ℕ) (bytes : List ℕ)
-        → Yields (λ (x : (List B × Bool) × List ℕ). IsStep IsPart closing bytes x.0.0 x.0.1 x.1) (step n bytes))
+    → Yields (λ (x : (List B × Bool) × List ℕ). IsStep IsPart closing bytes x.0.0 x.0.1 x.1) (step n bytes))
     (step_halts : (n : ℕ) → Halts (step n) (Are (suc n)))
     -- behind a comma one more part may stand
     (once_more : (n : ℕ) (bytes : List ℕ) (b : List B) (after : List ℕ) → step n bytes ≡ Ok ((b, true), after) → (text : List ℕ) → IsPart text b
-        → (more : List ℕ) × (bs : List B) × Are n more bs) where
+    → (more : List ℕ) × (bs : List B) × Are n more bs) where
   behind_step : (n : ℕ) (bytes : List ℕ) (b : List B) (more : Bool) (after : List ℕ) (f : Fault) → Halts (series_at step n) (Are n)
       → step n bytes ≡ Ok ((b, more), after) → series_rest b (series_at step n) more after ≡ Err f → Halted (Are (suc n)) bytes f
   behind_step n bytes b false after f later e h = absurd cc
@@ -34,7 +34,7 @@ module _ {B : Type 0} (IsPart : List ℕ → List B → Type 0) (Are : ℕ → L
       let behind = skipped p.2.0 in
       let taken = p.1.text ++ (before.blanks ++ comma ∷ behind.blanks) in
       let whole = with_comma bytes p.1.text p.0 before.blanks (skip p.0) p.2.0 behind.blanks after
-          (skip p.2.0) p.1.whole before.whole p.2.1 behind.whole p.2.2 in
+      (skip p.2.0) p.1.whole before.whole p.2.1 behind.whole p.2.2 in
       let further : (text : List ℕ) (bs : List B) → Are n text bs → Are (suc n) (taken ++ text) (b ++ bs) = λ text bs are.
       let same : p.1.text ++ (before.blanks ++ comma ∷ (behind.blanks ++ text)) ≡ taken ++ text = simp append_assoc in
       subst (λ x. Are (suc n) x (b ++ bs)) same (another n p.1.text before.blanks behind.blanks text b bs p.1.is before.are behind.are are) in

@@ -46,9 +46,12 @@ module _ (limits : Limits) (levels : ℕ) (element : List ℕ → Read Tree) (so
 
   -- an element and the closing brace
   one_element : (n : ℕ) (text blanks : List ℕ) (t : Tree) → IsTextOf limits levels text t → AreBlanks blanks → GoesOn (IsRow (suc n)) (text ++ blanks)
-  one_element n text blanks t is are =
-      (close_brace ∷ [], t ∷ [], subst (λ x. IsRow (suc n) x (t ∷ [])) (sym (append_assoc text blanks (close_brace ∷ [])))
-      (last_most limits levels element sound n text blanks (t ∷ []) (t, refl, is) are))
+  one_element n text blanks t is are = (
+    close_brace ∷ [],
+    t ∷ [],
+    subst (λ x. IsRow (suc n) x (t ∷ [])) (sym (append_assoc text blanks (close_brace ∷ [])))
+        (last_most limits levels element sound n text blanks (t ∷ []) (t, refl, is) are),
+  )
 
   element_halts : (n : ℕ) (bytes : List ℕ) (f : Fault) → element_step element n bytes ≡ Err f → Halted (IsRow (suc n)) bytes f
   unfolding element_step
@@ -144,8 +147,12 @@ module _ (limits : Limits) (levels : ℕ) (element : List ℕ → Read Tree) (so
 
   -- behind a last tail and blanks the closing bracket goes on
   tail_goes : (last blanks : List ℕ) (tail : Tree) → IsTextOf limits (suc levels) last tail → AreBlanks blanks → GoesOn IsLast (last ++ blanks)
-  tail_goes last blanks tail is are = (close_bracket ∷ [], tail, subst (λ x. IsLast x tail) (sym (append_assoc last blanks (close_bracket ∷ [])))
-      (last_of last blanks tail is are))
+  tail_goes last blanks tail is are = (
+    close_bracket ∷ [],
+    tail,
+    subst (λ x. IsLast x tail) (sym (append_assoc last blanks (close_bracket ∷ [])))
+        (last_of last blanks tail is are),
+  )
 
   module _ (other : List ℕ → Read Tree) (others_sound : ReadsTerms limits (suc levels) other) (others_halt : Halts other (IsTextOf limits (suc levels))) where
     -- a last tail that was read, and no closing bracket behind it
@@ -166,7 +173,7 @@ module _ (limits : Limits) (levels : ℕ) (element : List ℕ → Read Tree) (so
     closed_halts bytes f e =
         ⊎_elim
         (λ h. halted_map (IsTextOf limits (suc levels)) IsLast bytes f (others_halt bytes f h)
-            (λ part t is. (close_bracket ∷ [], t, last_of part [] t is refl)))
+        (λ part t is. (close_bracket ∷ [], t, last_of part [] t is refl)))
         (λ h. unclosed bytes h.0.1 h.0.0 f ((others_sound bytes).is h.0 h.1) h.2)
         (bind_err (other bytes) (λ x. expect close_bracket (skip x.1) >>= λ rest. Ok (Last x.0 rest)) f e)
 
@@ -177,7 +184,7 @@ module _ (limits : Limits) (levels : ℕ) (element : List ℕ → Read Tree) (so
         ⊎_elim
         (λ h. let same : b ∷ inner ≡ (close_bracket ∷ []) ++ inner = ap (λ x. x ∷ inner) (eqb-true b close_bracket h.0) in
         let whole : open_bracket ∷ bytes ≡ (open_bracket ∷ blanks ++ close_bracket ∷ []) ++ inner =
-            ap (λ x. open_bracket ∷ x) (with_front_blanks bytes blanks (b ∷ inner) (close_bracket ∷ []) inner gap same) in
+        ap (λ x. open_bracket ∷ x) (with_front_blanks bytes blanks (b ∷ inner) (close_bracket ∷ []) inner gap same) in
         unclosed (open_bracket ∷ bytes) inner Nil f (record {
           text = open_bracket ∷ blanks ++ close_bracket ∷ [];
           whole = whole;
@@ -267,15 +274,15 @@ module _ (limits : Limits) (levels : ℕ) (element : List ℕ → Read Tree) (so
         → IsEnding ((vertical_bar ∷ (after ++ open_bracket ∷ blanks)) ++ (rest ++ close_bracket ∷ [])) t
     inner_ending after blanks rest t one two cells =
         let same : after ++ ((open_bracket ∷ blanks ++ rest) ++ close_bracket ∷ []) ≡ (after ++ open_bracket ∷ blanks) ++ (rest ++ close_bracket ∷ []) =
-            simp append_assoc in
+        simp append_assoc in
         subst (λ x. IsEnding (vertical_bar ∷ x) t) same
-            (bar after ((open_bracket ∷ blanks ++ rest) ++ close_bracket ∷ []) t one (inner_last blanks rest t two cells))
+        (bar after ((open_bracket ∷ blanks ++ rest) ++ close_bracket ∷ []) t one (inner_last blanks rest t two cells))
 
     empty_ending : (after blanks : List ℕ) → AreBlanks after → AreBlanks blanks
         → IsEnding ((vertical_bar ∷ (after ++ open_bracket ∷ blanks)) ++ close_bracket ∷ close_bracket ∷ []) Nil
     empty_ending after blanks one two =
         let same : after ++ ((open_bracket ∷ blanks ++ close_bracket ∷ []) ++ close_bracket ∷ []) ≡ (after ++ open_bracket ∷ blanks)
-            ++ close_bracket ∷ close_bracket ∷ [] = simp append_assoc in
+        ++ close_bracket ∷ close_bracket ∷ [] = simp append_assoc in
         subst (λ x. IsEnding (vertical_bar ∷ x) Nil) same (bar after ((open_bracket ∷ blanks ++ close_bracket ∷ []) ++ close_bracket ∷ []) Nil one
         (last_of (open_bracket ∷ blanks ++ close_bracket ∷ []) [] Nil (ANil limits levels blanks two) refl))
 
@@ -289,7 +296,7 @@ module _ (limits : Limits) (levels : ℕ) (element : List ℕ → Read Tree) (so
         let taken : List ℕ = vertical_bar ∷ (behind.blanks ++ open_bracket ∷ blanks.blanks) in
         let whole : skip r ≡ taken ++ after =
         bar ∙ ap (λ x. vertical_bar ∷ x) (behind.whole
-            ∙ ap (λ x. behind.blanks ++ x) (opens ∙ ap (λ x. open_bracket ∷ x) (blanks.whole ∙ ap (λ x. blanks.blanks ++ x) gap))
+        ∙ ap (λ x. behind.blanks ++ x) (opens ∙ ap (λ x. open_bracket ∷ x) (blanks.whole ∙ ap (λ x. blanks.blanks ++ x) gap))
         ∙ sym (append_assoc behind.blanks (open_bracket ∷ blanks.blanks) after)) in
         ended bytes r head f first (halted_whole IsEnding (skip r) (taken ++ after) f whole (halted_behind (AreCells limits levels) IsEnding taken after f h
         (close_bracket ∷ close_bracket ∷ [], Nil, empty_ending behind.blanks blanks.blanks behind.are blanks.are)
@@ -311,9 +318,12 @@ module _ (limits : Limits) (levels : ℕ) (element : List ℕ → Read Tree) (so
         let same : behind.blanks ++ ((last.text ++ gap.blanks) ++ goes.0) ≡ (behind.blanks ++ (last.text ++ gap.blanks)) ++ goes.0 =
         sym (append_assoc behind.blanks (last.text ++ gap.blanks) goes.0) in
         ended bytes r head f first (halted_whole IsEnding (skip r) (taken ++ skip after) f whole
-        (halted_at IsEnding Syntax taken (skip after) f (expect_halts close_bracket (skip after) f e)
-        (goes.0, goes.1, subst (λ x. IsEnding (vertical_bar ∷ x) goes.1) same
-            (bar behind.blanks ((last.text ++ gap.blanks) ++ goes.0) goes.1 behind.are goes.2))))
+        (halted_at IsEnding Syntax taken (skip after) f (expect_halts close_bracket (skip after) f e) (
+          goes.0,
+          goes.1,
+          subst (λ x. IsEnding (vertical_bar ∷ x) goes.1) same
+              (bar behind.blanks ((last.text ++ gap.blanks) ++ goes.0) goes.1 behind.are goes.2),
+        )))
 
     cells_behind : (cells : List ℕ → Read Tree) (bytes r : List ℕ) (head : Tree) (next : Next) (f : Fault) → Halts cells (AreCells limits levels)
         → Takes (AreCells limits levels) cells
@@ -373,8 +383,8 @@ module _ (limits : Limits) (levels : ℕ) (element : List ℕ → Read Tree) (so
         ⊎_elim
         (λ h. let gap = skipped bytes in
         let whole : b ∷ bytes ≡ (open_bracket ∷ gap.blanks) ++ skip bytes = ap (λ x. x ∷ bytes) (eqb-true b open_bracket h.0)
-            ∙ ap (λ x. open_bracket ∷ x) gap.whole in
+        ∙ ap (λ x. open_bracket ∷ x) gap.whole in
         halted_whole (IsTextOf limits (suc levels)) (b ∷ bytes) ((open_bracket ∷ gap.blanks) ++ skip bytes) f whole
-            (list_inner gap.blanks (skip bytes) f gap.are h.1))
+        (list_inner gap.blanks (skip bytes) f gap.are h.1))
         (λ h. others_halt (b ∷ bytes) f h.1)
         (chosen (eqb b open_bracket) _ _ (Err f) e)

@@ -51,22 +51,22 @@ one_raised : (w : Why) (bytes : List ℕ)
     → IsRaised (just w) (λ (x : Tree × List ℕ). x.1) (term_at standard MOST_LEVELS bytes) (term_at (limits_for w) (suc (levels_for w)) bytes)
 one_raised Syntax bytes =
     term_raised (just Syntax) refl standard standard MOST_LEVELS MOST_LEVELS (omega arith) (omega arith)
-        (stays (just Syntax) TooWide MOST_ELEMENTS MOST_ELEMENTS refl refl)
+    (stays (just Syntax) TooWide MOST_ELEMENTS MOST_ELEMENTS refl refl)
     (stays (just Syntax) AtomTooLong MOST_CODE_POINTS MOST_CODE_POINTS refl refl)
     (stays (just Syntax) TooDeep MOST_LEVELS MOST_LEVELS refl refl) bytes
 one_raised AtomTooLong bytes =
     term_raised (just AtomTooLong) refl standard longer_atoms MOST_LEVELS MOST_LEVELS (omega arith) (omega arith)
-        (stays (just AtomTooLong) TooWide MOST_ELEMENTS MOST_ELEMENTS refl refl)
+    (stays (just AtomTooLong) TooWide MOST_ELEMENTS MOST_ELEMENTS refl refl)
     (goes_up (just AtomTooLong) AtomTooLong MOST_CODE_POINTS (MOST_CODE_POINTS + 1) refl (omega arith))
-        (stays (just AtomTooLong) TooDeep MOST_LEVELS MOST_LEVELS refl refl) bytes
+    (stays (just AtomTooLong) TooDeep MOST_LEVELS MOST_LEVELS refl refl) bytes
 one_raised TooDeep bytes =
     term_raised (just TooDeep) refl standard standard MOST_LEVELS (MOST_LEVELS + 1) (omega arith) (omega arith)
-        (stays (just TooDeep) TooWide MOST_ELEMENTS MOST_ELEMENTS refl refl)
+    (stays (just TooDeep) TooWide MOST_ELEMENTS MOST_ELEMENTS refl refl)
     (stays (just TooDeep) AtomTooLong MOST_CODE_POINTS MOST_CODE_POINTS refl refl)
     (goes_up (just TooDeep) TooDeep MOST_LEVELS (MOST_LEVELS + 1) refl (omega arith)) bytes
 one_raised TooWide bytes =
     term_raised (just TooWide) refl standard wider_tuples MOST_LEVELS MOST_LEVELS (omega arith) (omega arith)
-        (goes_up (just TooWide) TooWide MOST_ELEMENTS (MOST_ELEMENTS + 1) refl (omega arith))
+    (goes_up (just TooWide) TooWide MOST_ELEMENTS (MOST_ELEMENTS + 1) refl (omega arith))
     (stays (just TooWide) AtomTooLong MOST_CODE_POINTS MOST_CODE_POINTS refl refl)
     (stays (just TooWide) TooDeep MOST_LEVELS MOST_LEVELS refl refl) bytes
 
@@ -121,7 +121,7 @@ grown_by raises v m n e le = record { more = λ h. ltb-true m n (sym e ∙ h); s
 
 all_raised : (limits : Limits) (levels : ℕ) (bytes : List ℕ)
     → IsRaised (grows limits levels) (λ (x : Tree × List ℕ). x.1) (term_at standard MOST_LEVELS bytes)
-        (term_at (widened limits) (raised_by MOST_LEVELS levels) bytes)
+    (term_at (widened limits) (raised_by MOST_LEVELS levels) bytes)
 all_raised limits levels bytes =
     term_raised (grows limits levels) refl standard (widened limits) MOST_LEVELS (raised_by MOST_LEVELS levels) (omega arith) (omega arith)
     (grown_by (grows limits levels) TooWide MOST_ELEMENTS (limits.elements + MOST_ELEMENTS) refl (omega arith))

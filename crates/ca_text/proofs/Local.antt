@@ -50,13 +50,16 @@ module _ {A : Type 0} (p : List ℕ → Read A) where
 
   -- An answer before this byte, whatever follows.
   stop_local : (answer : Result A Why) (b : ℕ) (bytes : List ℕ) → ((zs : List ℕ) → p (b ∷ zs) ≡ before answer (b ∷ zs)) → LocalAt p (b ∷ bytes)
-  stop_local answer b bytes e = (answer, record {
-    front = [];
-    behind = b ∷ bytes;
-    whole = refl;
-    is = e bytes;
-    again = λ c r s h. let first : b ≡ c = cc in subst (λ (x : ℕ). p (x ∷ s) ≡ before answer (x ∷ s)) first (e s);
-  })
+  stop_local answer b bytes e = (
+    answer,
+    record {
+      front = [];
+      behind = b ∷ bytes;
+      whole = refl;
+      is = e bytes;
+      again = λ c r s h. let first : b ≡ c = cc in subst (λ (x : ℕ). p (x ∷ s) ≡ before answer (x ∷ s)) first (e s);
+    },
+  )
 
   -- A fault at this byte, whatever follows.
   pub fault_local : (why : Why) (b : ℕ) (bytes : List ℕ) → ((zs : List ℕ) → p (b ∷ zs) ≡ before (Err why) (b ∷ zs)) → LocalAt p (b ∷ bytes)
@@ -72,13 +75,16 @@ module _ {A : Type 0} (p : List ℕ → Read A) where
 
   -- Behind this byte, another reader.
   pub cons_local : (q : List ℕ → Read A) (b : ℕ) (bytes : List ℕ) → ((zs : List ℕ) → p (b ∷ zs) ≡ q zs) → LocalAt q bytes → LocalAt p (b ∷ bytes)
-  cons_local q b bytes e (answer, t) = (answer, record {
-    front = b ∷ t.front;
-    behind = t.behind;
-    whole = ap (λ z. b ∷ z) t.whole;
-    is = e bytes ∙ t.is;
-    again = λ c r s h. e (t.front ++ c ∷ s) ∙ t.again c r s h;
-  })
+  cons_local q b bytes e (answer, t) = (
+    answer,
+    record {
+      front = b ∷ t.front;
+      behind = t.behind;
+      whole = ap (λ z. b ∷ z) t.whole;
+      is = e bytes ∙ t.is;
+      again = λ c r s h. e (t.front ++ c ∷ s) ∙ t.again c r s h;
+    },
+  )
 
   same_first : (q : List ℕ → Read A) (b : ℕ) (bytes : List ℕ) → ((zs : List ℕ) → p (b ∷ zs) ≡ q (b ∷ zs)) → (front behind : List ℕ) (c : ℕ) (r s : List ℕ)
       → b ∷ bytes ≡ front ++ behind → behind ≡ c ∷ r → p (front ++ c ∷ s) ≡ q (front ++ c ∷ s)
@@ -88,13 +94,16 @@ module _ {A : Type 0} (p : List ℕ → Read A) where
 
   -- The same as another reader wherever the first byte is the same.
   pub same_local : (q : List ℕ → Read A) (b : ℕ) (bytes : List ℕ) → ((zs : List ℕ) → p (b ∷ zs) ≡ q (b ∷ zs)) → LocalAt q (b ∷ bytes) → LocalAt p (b ∷ bytes)
-  same_local q b bytes e (answer, t) = (answer, record {
-    front = t.front;
-    behind = t.behind;
-    whole = t.whole;
-    is = e bytes ∙ t.is;
-    again = λ c r s h. same_first q b bytes e t.front t.behind c r s t.whole h ∙ t.again c r s h;
-  })
+  same_local q b bytes e (answer, t) = (
+    answer,
+    record {
+      front = t.front;
+      behind = t.behind;
+      whole = t.whole;
+      is = e bytes ∙ t.is;
+      again = λ c r s h. same_first q b bytes e t.front t.behind c r s t.whole h ∙ t.again c r s h;
+    },
+  )
 
   -- The same as another reader where there are no bytes.
   pub alike : (q : List ℕ → Read A) → p [] ≡ q [] → LocalAt q [] → LocalAt p []
@@ -102,13 +111,16 @@ module _ {A : Type 0} (p : List ℕ → Read A) where
 
   -- The same as another reader everywhere.
   pub equal_local : (q : List ℕ → Read A) → ((xs : List ℕ) → p xs ≡ q xs) → IsLocal q → IsLocal p
-  equal_local q e l xs = let t = (l xs).1 in ((l xs).0, record {
-    front = t.front;
-    behind = t.behind;
-    whole = t.whole;
-    is = e xs ∙ t.is;
-    again = λ c r s h. e (t.front ++ c ∷ s) ∙ t.again c r s h;
-  })
+  equal_local q e l xs = let t = (l xs).1 in (
+    (l xs).0,
+    record {
+      front = t.front;
+      behind = t.behind;
+      whole = t.whole;
+      is = e xs ∙ t.is;
+      again = λ c r s h. e (t.front ++ c ∷ s) ∙ t.again c r s h;
+    },
+  )
 
 -- A value and all bytes behind it.
 pub pure_local : {A : Type 0} (a : A) → IsLocal (λ ys. Ok (a, ys))
@@ -143,7 +155,7 @@ module _ {A : Type 0} (p : List ℕ → Read A) (xs : List ℕ) where
   pub no_longer : LocalAt p xs → (a : A) (ys : List ℕ) → p xs ≡ Ok (a, ys) → length ys ≤ length xs
   no_longer (Ok b, t) a ys e =
       let q = pair_is b t.behind a ys (sym t.is ∙ e) in
-          omega (arith, ap (λ (l : List ℕ). length l) t.whole, length-append t.front t.behind, ap (λ (l : List ℕ). length l) q.1)
+      omega (arith, ap (λ (l : List ℕ). length l) t.whole, length-append t.front t.behind, ap (λ (l : List ℕ). length l) q.1)
   no_longer (Err why, t) a ys e = let i = t.is in absurd cc
 
 -- ---- one reader behind another
@@ -159,14 +171,17 @@ module _ {A B : Type 0} (p : List ℕ → Read A) (q : A → List ℕ → Read B
   again_first xs a t (d ∷ front) behind c r s e h = t.again d (front ++ behind) (front ++ c ∷ s) e
 
   behind_first : (xs : List ℕ) → LocalAt p xs → LocalAt (λ ys. next (p ys)) xs
-  behind_first xs (Ok a, t) = let u = (second a t.behind).1 in ((second a t.behind).0, record {
-    front = t.front ++ u.front;
-    behind = u.behind;
-    whole = t.whole ∙ ap (λ x. t.front ++ x) u.whole ∙ sym (append_assoc t.front u.front u.behind);
-    is = ap next t.is ∙ u.is;
-    again = λ c r s h. ap (λ x. next (p x)) (append_assoc t.front u.front (c ∷ s)) ∙ ap next (again_first xs a t u.front u.behind c r s u.whole h)
-        ∙ u.again c r s h;
-  })
+  behind_first xs (Ok a, t) = let u = (second a t.behind).1 in (
+    (second a t.behind).0,
+    record {
+      front = t.front ++ u.front;
+      behind = u.behind;
+      whole = t.whole ∙ ap (λ x. t.front ++ x) u.whole ∙ sym (append_assoc t.front u.front u.behind);
+      is = ap next t.is ∙ u.is;
+      again = λ c r s h. ap (λ x. next (p x)) (append_assoc t.front u.front (c ∷ s)) ∙ ap next (again_first xs a t u.front u.behind c r s u.whole h)
+          ∙ u.again c r s h;
+    },
+  )
   behind_first xs (Err why, t) =
       (Err why, record { front = t.front; behind = t.behind; whole = t.whole; is = ap next t.is; again = λ c r s h. ap next (t.again c r s h) })
 

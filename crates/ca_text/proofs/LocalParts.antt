@@ -22,7 +22,7 @@ digits_local (b ∷ bytes) most n =
     either_way (is_ascii_digit b)
     (λ h. either_way (leb (n * 10 + (b - digit_zero)) most)
     (λ i. cons_local (digits_after most n) (digits_after most (n * 10 + (b - digit_zero))) b bytes (λ zs. rw (h, i) refl)
-        (digits_local bytes most (n * 10 + (b - digit_zero))))
+    (digits_local bytes most (n * 10 + (b - digit_zero))))
     (λ i. fault_local (digits_after most n) Syntax b bytes (λ zs. rw (h, i) refl)))
     (λ h. stay_local (digits_after most n) n b bytes (λ zs. rw h refl))
 

@@ -51,20 +51,23 @@ module _ {A : Type 0} (P : ℕ → List ℕ → Read A) (each : (k : ℕ) → Is
     (same : (k j : ℕ) (xs : List ℕ) → length xs ≤ k → length xs ≤ j → P k xs ≡ P j xs) where
   -- Such a reader is local.
   pub fuel_local : IsLocal (λ xs. P (length xs) xs)
-  fuel_local xs = let t = (each (length xs) xs).1 in ((each (length xs) xs).0, record {
-    front = t.front;
-    behind = t.behind;
-    whole = t.whole;
-    is = t.is;
-    again = λ c r s y.
-        let zs = t.front ++ c ∷ s in
-        let k = length xs + length zs in
-        let u = (each k xs).1 in
-        let answers = answers_same (each k xs).0 (each (length xs) xs).0 u.behind t.behind (sym u.is ∙ same k (length xs) xs (omega arith) (omega arith)
-            ∙ t.is) in
-        let parts = same_parts u.front t.front u.behind t.behind (sym u.whole ∙ t.whole) answers.0 in
-        same (length zs) k zs (omega arith) (omega arith) ∙ ap (λ x. P k (x ++ c ∷ s)) (sym parts.0) ∙ u.again c r s (parts.1 ∙ y) ∙ answers.1 (c ∷ s);
-  })
+  fuel_local xs = let t = (each (length xs) xs).1 in (
+    (each (length xs) xs).0,
+    record {
+      front = t.front;
+      behind = t.behind;
+      whole = t.whole;
+      is = t.is;
+      again = λ c r s y.
+          let zs = t.front ++ c ∷ s in
+          let k = length xs + length zs in
+          let u = (each k xs).1 in
+          let answers = answers_same (each k xs).0 (each (length xs) xs).0 u.behind t.behind (sym u.is ∙ same k (length xs) xs (omega arith) (omega arith)
+          ∙ t.is) in
+          let parts = same_parts u.front t.front u.behind t.behind (sym u.whole ∙ t.whole) answers.0 in
+          same (length zs) k zs (omega arith) (omega arith) ∙ ap (λ x. P k (x ++ c ∷ s)) (sym parts.0) ∙ u.again c r s (parts.1 ∙ y) ∙ answers.1 (c ∷ s);
+    },
+  )
 
 -- names
 names_to_next : (k b : ℕ) (bytes : List ℕ) → (k ≤ name_length bytes → list_all is_name_char (take k bytes) ≡ true) → suc k ≤ name_length (b ∷ bytes)
@@ -121,23 +124,29 @@ name_local most xs =
     let n = name_length xs in
     let within = name_within xs in
     either_way (leb n most)
-    (λ h. (Ok (take n xs), record {
-      front = take n xs;
-      behind = drop n xs;
-      whole = sym (take-append-drop n xs);
-      is = rw h refl;
-      again = λ c r s y.
-          let ends : is_name_char c ≡ false = subst EndsName y (names_end xs) in
-          name_of most (take n xs) (c ∷ s) (names_all xs) ends (omega (arith, length-take-le n xs within, leb-true n most h));
-    }))
-    (λ h. let less = leb-false n most h in (Err AtomTooLong, record {
-      front = take most xs;
-      behind = drop most xs;
-      whole = sym (take-append-drop most xs);
-      is = rw h refl;
-      again = λ c r s y. name_over most (take most xs) c s (names_to most xs (omega (arith, less))) (name_there most xs c r (omega (arith, less)) y)
-          (length-take-le most xs (omega (arith, less, within)));
-    }))
+    (λ h. (
+      Ok (take n xs),
+      record {
+        front = take n xs;
+        behind = drop n xs;
+        whole = sym (take-append-drop n xs);
+        is = rw h refl;
+        again = λ c r s y.
+            let ends : is_name_char c ≡ false = subst EndsName y (names_end xs) in
+            name_of most (take n xs) (c ∷ s) (names_all xs) ends (omega (arith, length-take-le n xs within, leb-true n most h));
+      },
+    ))
+    (λ h. let less = leb-false n most h in (
+      Err AtomTooLong,
+      record {
+        front = take most xs;
+        behind = drop most xs;
+        whole = sym (take-append-drop most xs);
+        is = rw h refl;
+        again = λ c r s y. name_over most (take most xs) c s (names_to most xs (omega (arith, less))) (name_there most xs c r (omega (arith, less)) y)
+            (length-take-le most xs (omega (arith, less, within)));
+      },
+    ))
 
 -- ---- strings and binaries
 
@@ -165,7 +174,7 @@ module _ (close most : ℕ) (small : close < 128) (low : 127 ≤ most) (high : 1
 string_local : (most : ℕ) → 127 ≤ most → (128 ≤ most → most ≡ most_point) → IsLocal (string_at most)
 string_local most low high =
     fuel_local (λ k. characters_at Syntax double_quote most k) (λ k. characters_local Syntax double_quote most k)
-        (characters_same double_quote most (omega arith) low high)
+    (characters_same double_quote most (omega arith) low high)
 
 one_byte_local : IsLocal one_byte_at
 one_byte_local = bind_local (number_at most_byte) (λ n ys. Ok (n ∷ [], ys)) (number_local most_byte) (λ n. pure_local (n ∷ []))
@@ -320,7 +329,7 @@ module _ (element : List ℕ → Read Tree) (local : IsLocal element) where
       bracket_local : (t : Tree) → IsLocal (λ ys. expect close_bracket (skip ys) >>= λ rest. Ok (Cons head t, rest))
       bracket_local t =
           skip_local (λ ys. expect close_bracket ys >>= λ rest. Ok (Cons head t, rest))
-              (expect_local (λ rest. Ok (Cons head t, rest)) (pure_local (Cons head t)) close_bracket)
+          (expect_local (λ rest. Ok (Cons head t, rest)) (pure_local (Cons head t)) close_bracket)
 
       abbrev follow : Result Next Fault → Read Tree
       follow r = r >>= λ next. cells_after head cells next
@@ -422,19 +431,19 @@ module _ (limits : Limits) (levels : ℕ) (element other : List ℕ → Read Tre
     (strict : (xs : List ℕ) (t : Tree) (ys : List ℕ) → element xs ≡ Ok (t, ys) → length ys < length xs) where
   step_regroup : (head : Tree) (cells : List ℕ → Read Tree) (r : Result Next Fault)
       → (◌>>=◌ {A = Tree × Next} {B = Tree × List ℕ} (r >>= λ next. Ok (head, next)) (λ x. cells_after x.0 cells x.1)) ≡
-          (◌>>=◌ {A = Next} {B = Tree × List ℕ} r (λ next. cells_after head cells next))
+      (◌>>=◌ {A = Next} {B = Tree × List ℕ} r (λ next. cells_after head cells next))
   step_regroup head cells (Ok next) = refl
   step_regroup head cells (Err f) = refl
 
   cells_regroup : (cells : List ℕ → Read Tree) (r : Read Tree)
       → (◌>>=◌ {A = Tree × Next} {B = Tree × List ℕ} (r >>= λ x. next_at other (skip x.1) >>= λ next. Ok (x.0, next)) (λ x. cells_after x.0 cells x.1)) ≡
-          (r >>= λ x. ◌>>=◌ {A = Next} {B = Tree × List ℕ} (next_at other (skip x.1)) (λ next. cells_after x.0 cells next))
+      (r >>= λ x. ◌>>=◌ {A = Next} {B = Tree × List ℕ} (next_at other (skip x.1)) (λ next. cells_after x.0 cells next))
   cells_regroup cells (Ok x) = step_regroup x.0 cells (next_at other (skip x.1))
   cells_regroup cells (Err f) = refl
 
   cells_is : (n : ℕ) (xs : List ℕ)
       → cells_at element other (suc n) xs ≡ (element xs >>= λ x. ◌>>=◌ {A = Next} {B = Tree × List ℕ} (next_at other (skip x.1))
-          (λ next. cells_after x.0 (cells_at element other n) next))
+      (λ next. cells_after x.0 (cells_at element other n) next))
   unfolding cells_at cell_step
   cells_is n xs = cells_regroup (cells_at element other n) (element xs)
 
@@ -456,7 +465,7 @@ module _ (limits : Limits) (levels : ℕ) (element other : List ℕ → Read Tre
   after_next_same : (head : Tree) (k j : ℕ) (xs : List ℕ) (r : Result Next Fault) → next_at other xs ≡ r → length xs ≤ k → length xs ≤ j
       → ((ys : List ℕ) → length ys ≤ k → length ys ≤ j → cells_at element other k ys ≡ cells_at element other j ys)
       → (◌>>=◌ {A = Next} {B = Tree × List ℕ} r (λ next. cells_after head (cells_at element other k) next)) ≡
-          (◌>>=◌ {A = Next} {B = Tree × List ℕ} r (λ next. cells_after head (cells_at element other j) next))
+      (◌>>=◌ {A = Next} {B = Tree × List ℕ} r (λ next. cells_after head (cells_at element other j) next))
   after_next_same head k j xs (Err f) e h i later = refl
   after_next_same head k j xs (Ok (Last t ys)) e h i later = refl
   after_next_same head k j xs (Ok (Head ys)) e h i later =
@@ -467,7 +476,7 @@ module _ (limits : Limits) (levels : ℕ) (element other : List ℕ → Read Tre
   after_head_same : (k j : ℕ) (xs : List ℕ) (r : Read Tree) → element xs ≡ r → length xs ≤ suc k → length xs ≤ suc j
       → ((ys : List ℕ) → length ys ≤ k → length ys ≤ j → cells_at element other k ys ≡ cells_at element other j ys)
       → (r >>= λ x. ◌>>=◌ {A = Next} {B = Tree × List ℕ} (next_at other (skip x.1)) (λ next. cells_after x.0 (cells_at element other k) next)) ≡
-          (r >>= λ x. ◌>>=◌ {A = Next} {B = Tree × List ℕ} (next_at other (skip x.1)) (λ next. cells_after x.0 (cells_at element other j) next))
+      (r >>= λ x. ◌>>=◌ {A = Next} {B = Tree × List ℕ} (next_at other (skip x.1)) (λ next. cells_after x.0 (cells_at element other j) next))
   after_head_same k j xs (Err f) e h i later = refl
   after_head_same k j xs (Ok (t, ys)) e h i later =
       let less = strict xs t ys e in
@@ -510,7 +519,7 @@ module _ (limits : Limits) (levels : ℕ) (element other : List ℕ → Read Tre
 quoted_local : (most : ℕ) → IsLocal (quoted_at most)
 quoted_local most =
     bind_local (characters_at AtomTooLong single_quote most_point most) (λ cs ys. Ok (Atom (encode_utf8_all cs), ys))
-        (characters_local AtomTooLong single_quote most_point most)
+    (characters_local AtomTooLong single_quote most_point most)
     (λ cs. pure_local (Atom (encode_utf8_all cs)))
 
 some_points_local : IsLocal string_points_at

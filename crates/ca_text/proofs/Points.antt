@@ -193,27 +193,33 @@ point_read bytes c rest e is = ap point_at e ∙ point_again c rest is
 pub point_local : IsLocal point_at
 point_local bytes =
     ⊎_elim
-    (λ (p : PointRead bytes). (Ok p.point, record {
-      front = encode_utf8 p.point;
-      behind = p.rest;
-      whole = p.is.whole;
-      is = p.read;
-      again = λ c r s h. point_again p.point (c ∷ s) p.is.scalar;
-    }))
-    (λ (k : PointStuck bytes). (Err Syntax, record {
-      front = k.front;
-      behind = k.behind;
-      whole = k.whole;
-      is = k.read;
-      again = λ c r s h. no_point k.front (c ∷ s) (record {
-        point = k.is.point;
-        scalar = k.is.scalar;
-        next = k.is.next;
-        rest = k.is.rest;
-        begins = k.is.begins;
-        ends = λ d t e. let first : c ≡ d = cc in rw (← first) (k.is.ends c r h);
-      });
-    }))
+    (λ (p : PointRead bytes). (
+      Ok p.point,
+      record {
+        front = encode_utf8 p.point;
+        behind = p.rest;
+        whole = p.is.whole;
+        is = p.read;
+        again = λ c r s h. point_again p.point (c ∷ s) p.is.scalar;
+      },
+    ))
+    (λ (k : PointStuck bytes). (
+      Err Syntax,
+      record {
+        front = k.front;
+        behind = k.behind;
+        whole = k.whole;
+        is = k.read;
+        again = λ c r s h. no_point k.front (c ∷ s) (record {
+          point = k.is.point;
+          scalar = k.is.scalar;
+          next = k.is.next;
+          rest = k.is.rest;
+          begins = k.is.begins;
+          ends = λ d t e. let first : c ≡ d = cc in rw (← first) (k.is.ends c r h);
+        });
+      },
+    ))
     (point_cases bytes)
 
 -- What is taken where no code point is read begins one.
@@ -244,7 +250,7 @@ first_byte c is =
     (λ h. inr (⊎_elim
     (λ i. (h, 192 + c / 64, _, two c h i, omega arith, omega arith))
     (λ i. ⊎_elim (λ j. (h, 224 + c / 4096, _, three c i j, omega arith, omega arith)) (λ j. (h, 240 + c / 262144, _, four c j, omega arith, omega arith))
-        (cases_lt c 65536))
+    (cases_lt c 65536))
     (cases_lt c 2048)))
     (cases_lt c 128)
 

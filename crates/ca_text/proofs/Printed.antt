@@ -108,13 +108,13 @@ unfolding escaped_byte encode_utf8
 byte_is b h =
     ⊎_elim
     (λ t. let e : (b ≡ double_quote) ⊎ (b ≡ backslash) = ⊎_elim (λ u. inl (eqb-true b double_quote u)) (λ u. inr (eqb-true b backslash u))
-        (either (eqb b double_quote) (eqb b backslash) t.0) in
+    (either (eqb b double_quote) (eqb b backslash) t.0) in
     rw t.0 (⊎_elim (λ u. rw u (Escaped double_quote double_quote double_quote refl)) (λ u. rw u (Escaped double_quote backslash backslash refl)) e))
     (λ t. let scalar : IsScalar b = grind (arith, nat_tests) in
     let one : ltb b 128 ≡ true = grind (arith, nat_tests) in
     let spelled : encode_utf8 b ≡ b ∷ [] = rw one refl in
     let apart : (b ≢ double_quote) × (b ≢ backslash) × (b ≢ line_feed) =
-        (λ e. grind (arith, nat_tests), λ e. grind (arith, nat_tests), λ e. grind (arith, nat_tests)) in
+    (λ e. grind (arith, nat_tests), λ e. grind (arith, nat_tests), λ e. grind (arith, nat_tests)) in
     rw t.0 (subst (λ x. IsCharacter double_quote x b) spelled (Itself double_quote b scalar apart.0 apart.1 apart.2)))
     (chosen (eqb b double_quote || eqb b backslash) true false (cond (eqb b double_quote || eqb b backslash) true false) refl)
 
@@ -131,7 +131,7 @@ shown_is : (bs : List ℕ) → list_all is_printable bs ≡ true
 shown_is bs h =
     let are = characters_are double_quote escaped_byte is_printable byte_is bs h in
     let last = LastSegment (double_quote ∷ flat_map escaped_byte bs ++ double_quote ∷ []) [] bs
-        (Shown (flat_map escaped_byte bs ++ double_quote ∷ []) bs are (printable_ascii bs h)) refl in
+    (Shown (flat_map escaped_byte bs ++ double_quote ∷ []) bs are (printable_ascii bs h)) refl in
     subst (λ x. AreSegments (double_quote ∷ x) bs) (append_assoc (flat_map escaped_byte bs) (double_quote ∷ []) (close_angle ∷ close_angle ∷ [])) last
 
 number_is : (b : ℕ) → b < 256 → IsSegment (decimal b) (b ∷ [])
@@ -149,9 +149,9 @@ numbers_are b (c ∷ cs) fits =
     let more = MoreSegments (decimal b) [] [] (decimal c ++ (flat_map with_comma cs ++ close_angle ∷ close_angle ∷ [])) (b ∷ []) (c ∷ cs)
     (number_is b (fits 0)) refl refl later in
     let whole : flat_map with_comma (c ∷ cs) ++ close_angle ∷ close_angle ∷ [] ≡ comma ∷
-        (decimal c ++ (flat_map with_comma cs ++ close_angle ∷ close_angle ∷ [])) =
+    (decimal c ++ (flat_map with_comma cs ++ close_angle ∷ close_angle ∷ [])) =
     ap (λ x. x ++ close_angle ∷ close_angle ∷ []) (flat_map-cons with_comma c cs) ∙ append_assoc (with_comma c) (flat_map with_comma cs)
-        (close_angle ∷ close_angle ∷ []) in
+    (close_angle ∷ close_angle ∷ []) in
     subst (λ x. AreSegments (decimal b ++ x) (b ∷ c ∷ cs)) (sym whole) more
 
 binary_is : (levels : ℕ) (bs : List ℕ) → AreBytes bs → IsTextOf standard (suc levels) (binary_text bs) (Binary bs)
@@ -163,10 +163,10 @@ binary_is levels (b ∷ bs) fits =
     (flat_map escaped_byte (b ∷ bs) ++ double_quote ∷ close_angle ∷ close_angle ∷ []) = refl in
     rw h.0 (subst (λ x. IsTextOf standard (suc levels) x (Binary (b ∷ bs))) (sym whole)
     (ABinary standard levels [] (double_quote ∷ flat_map escaped_byte (b ∷ bs) ++ double_quote ∷ close_angle ∷ close_angle ∷ []) (b ∷ bs) refl
-        (shown_is (b ∷ bs) h.0))))
+    (shown_is (b ∷ bs) h.0))))
     (λ h. let whole : ((codes "<<" ++ decimal b) ++ flat_map with_comma bs) ++ codes ">>" ≡ open_angle ∷ open_angle ∷
     (decimal b ++ (flat_map with_comma bs ++ close_angle ∷ close_angle ∷ [])) =
-        ap (λ x. open_angle ∷ open_angle ∷ x) (append_assoc (decimal b) (flat_map with_comma bs) (close_angle ∷ close_angle ∷ [])) in
+    ap (λ x. open_angle ∷ open_angle ∷ x) (append_assoc (decimal b) (flat_map with_comma bs) (close_angle ∷ close_angle ∷ [])) in
     rw h.0 (subst (λ x. IsTextOf standard (suc levels) x (Binary (b ∷ bs))) (sym whole)
     (ABinary standard levels [] (decimal b ++ (flat_map with_comma bs ++ close_angle ∷ close_angle ∷ [])) (b ∷ bs) refl (numbers_are b bs fits))))
     (chosen (list_all is_printable (b ∷ bs)) true false (cond (list_all is_printable (b ∷ bs)) true false) refl)

@@ -106,7 +106,7 @@ module _ (raises : Why → Bool) (plain : raises Syntax ≡ false) where
         if_beside (eqb b comma) (λ h. ok_beside (omega (arith, skip_shorter bytes))) (λ h.
         if_beside (eqb b close_bracket) (λ i. ok_beside (omega arith)) (λ i.
         if_beside (eqb b vertical_bar) (λ j. beside_more (omega arith) (skip_beside tail_beside bytes))
-            (λ j. syntax_beside raises plain (b ∷ bytes) (omega arith))))
+        (λ j. syntax_beside raises plain (b ∷ bytes) (omega arith))))
 
     module _ (element wide : List ℕ → Read Tree) (each : ReadsBeside raises element wide) where
       cell_beside : (bytes : List ℕ) → Beside raises (λ x. rest_of x.1) (length bytes) (cell_step element other bytes) (cell_step wide others bytes)

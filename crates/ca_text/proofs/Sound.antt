@@ -45,10 +45,10 @@ IsStep IsPart closing bytes part more rest = (after : List ℕ) × Stands IsPart
 module _ {B : Type 0} (IsPart : List ℕ → List B → Type 0) (Are : ℕ → List ℕ → List B → Type 0) (closing : List ℕ)
     (last : (n : ℕ) (text blanks : List ℕ) (b : List B) → IsPart text b → AreBlanks blanks → Are (suc n) (text ++ (blanks ++ closing)) b)
     (another : (n : ℕ) (text before after rest : List ℕ) (b bs : List B) → IsPart text b → AreBlanks before → AreBlanks after → Are n rest bs
-        → Are (suc n) (text ++ (before ++ comma ∷ (after ++ rest))) (b ++ bs))
+    → Are (suc n) (text ++ (before ++ comma ∷ (after ++ rest))) (b ++ bs))
     (step : ℕ → List ℕ → Read (List B × Bool))
     (step_taken : (n : ℕ) (bytes : List ℕ)
-        → Yields (λ (x : (List B × Bool) × List ℕ). IsStep IsPart closing bytes x.0.0 x.0.1 x.1) (step n bytes)) where
+    → Yields (λ (x : (List B × Bool) × List ℕ). IsStep IsPart closing bytes x.0.0 x.0.1 x.1) (step n bytes)) where
   rest_taken : (n : ℕ) (bytes : List ℕ) (part : List B) (more : Bool) (rest : List ℕ) → Takes (Are n) (series_at step n)
       → IsStep IsPart closing bytes part more rest
       → Yields (λ (x : List B × List ℕ). Stands (Are (suc n)) bytes x.0 x.1) (series_rest part (series_at step n) more rest)
@@ -100,7 +100,7 @@ segment_taken [] = one_byte_taken []
 segment_taken (b ∷ bytes) =
     if_yields (eqb b double_quote)
     (λ h. map_yields (characters_taken double_quote most_shown (omega arith) (omega arith) (λ x. absurd (omega arith)) Syntax (length bytes) bytes)
-        (λ x r. record {
+    (λ x r. record {
       text = double_quote ∷ r.text;
       whole = λ i. eqb-true b double_quote h i ∷ r.whole i;
       is = Shown r.text x.0 r.characters (shown_ascii x.0 r.points);
@@ -227,7 +227,7 @@ module _ (limits : Limits) (levels : ℕ) (element : List ℕ → Read Tree) (so
 
   elements_from : (bytes blanks inner : List ℕ) → bytes ≡ blanks ++ inner → AreBlanks blanks
       → Yields (λ (x : List Tree × List ℕ). IsTermAt limits (suc levels) (open_brace ∷ bytes) (Tuple (row_of x.0)) x.1)
-          (elements_at element limits.elements inner)
+      (elements_at element limits.elements inner)
   unfolding elements_at
   elements_from bytes blanks [] gap are = err_yields
   elements_from bytes blanks (b ∷ inner) gap are =
@@ -240,7 +240,7 @@ module _ (limits : Limits) (levels : ℕ) (element : List ℕ → Read Tree) (so
         ends = whole_by (open_brace ∷ blanks ++ close_brace ∷ []) inner (λ c. refl);
       }))
       (λ h. map_yields (series_taken IsElement AreMost (close_brace ∷ []) last_most another_most (element_step element) element_step_taken limits.elements
-          (b ∷ inner))
+      (b ∷ inner))
       (λ x r. record {
         text = open_brace ∷ blanks ++ r.text;
         whole = ap (λ y. open_brace ∷ y) (with_front_blanks bytes blanks (b ∷ inner) r.text x.1 gap r.whole);
@@ -412,7 +412,7 @@ module _ (limits : Limits) where
   quoted_taken : (levels : ℕ) (bytes : List ℕ) → YieldsTerm limits (suc levels) (single_quote ∷ bytes) (quoted_at limits.characters bytes)
   quoted_taken levels bytes =
       bind_yields _ (characters_taken single_quote most_point (omega arith) (omega arith) (λ h. refl) AtomTooLong limits.characters bytes)
-          (λ x r. ok_yields (record {
+      (λ x r. ok_yields (record {
         text = single_quote ∷ r.text;
         whole = ap (λ y. single_quote ∷ y) r.whole;
         is = AnAtom limits levels (single_quote ∷ r.text) (encode_utf8_all x.0) (Quoted limits r.text x.0 r.characters r.few);

@@ -1,7 +1,8 @@
-use Rattle.std.proofs.Common.{◌≡◌, ◌+◌, ◌*◌, ◌-◌, ◌≤◌, length}
+use Rattle.std.proofs.Common.{◌+◌, ◌*◌, length}
 use Rattle.ca_text.specs.Grammar.{standard}
-use Rattle.ca_text.specs.Inner.Reading.{term_at, other_at, series_at, element_step, cells_at, with_front, with_heads}
+use Rattle.ca_text.specs.Inner.Reading.{term_at, other_at, series_at, element_step, cells_at}
 use Rattle.ca_term.specs.declared.bounds.TheConstants.{MOST_ELEMENTS}
+use Rattle.ca_text.proofs.Loops.{CellsSoFar, SeriesSoFar}
 use Rattle.ca_text.proofs.read.+read.Given as goal
 
 abbrev pub decreases-term : goal.decreases-term
@@ -42,13 +43,10 @@ decreases-element_step l = 12 * l.levels + 1
 
 abbrev pub invariant-elements-loop-i : goal.invariant-elements-loop-i
 invariant-elements-loop-i l =
-    with_front l.items.items (series_at (element_step (term_at standard l.levels)) (MOST_ELEMENTS - l.i) l.rest) ≡ series_at
-    (element_step (term_at standard l.levels)) MOST_ELEMENTS l.bytes
+    let step = element_step (term_at standard l.levels) in SeriesSoFar step MOST_ELEMENTS l.i l.items.items l.rest (series_at step MOST_ELEMENTS l.bytes)
 
 abbrev pub invariant-cells-loop : goal.invariant-cells-loop
-invariant-cells-loop l = record {
-  read : with_heads l.heads.items l.owed (cells_at (term_at standard l.levels) (other_at standard (term_at standard l.levels) l.levels)
-      (length l.bytes - l.counter) l.rest)
-      ≡ cells_at (term_at standard l.levels) (other_at standard (term_at standard l.levels) l.levels) (length l.bytes) l.bytes;
-  few : l.owed ≤ l.counter;
-}
+invariant-cells-loop l =
+    let element = term_at standard l.levels in
+    let other = other_at standard element l.levels in
+    CellsSoFar element other (length l.bytes) l.counter l.owed l.heads.items l.rest (cells_at element other (length l.bytes) l.bytes)
