@@ -1,3 +1,4 @@
+mod Arguments
 pub mod Commands
 mod CutLines
 mod Files

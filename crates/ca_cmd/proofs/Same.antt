@@ -1,13 +1,13 @@
 -- One line has one content.
-use Rattle.std.proofs.Common.{◌≡◌, ℕ, true, false, List, [], ◌∷◌, length, drop, Option, None, Some, Result, Ok, Err, sym, ◌∙◌, ap, subst}
+use Rattle.std.proofs.Common.{◌≡◌, ℕ, zero, suc, true, false, List, [], ◌∷◌, ◌++◌, length, drop, Option, None, Some, Result, Ok, Err, sym, ◌∙◌, ap, subst}
 use Rattle.std.specs.Prelude.{MatchBool, eqb, take}
 use Rattle.ca_term.specs.Tree.{Tree}
 use Rattle.ca_ets.specs.Command.{Command}
 use Rattle.ca_text.specs.declared.fault.TextFault.{TextFault}
 use Rattle.ca_text.specs.declared.fault.TextFault.TheVariants as text
 use Rattle.ca_cmd.proofs.TermTexts.{term_sure}
-use Rattle.ca_cmd.specs.Argument.{Refused, Found, IsThen, IsAfter, apart, IsTermRefused, IsTermAt, IsFirstTerm, IsArgument, IsEnd}
-use Rattle.ca_cmd.specs.Word.{word_of, command_with, word_length, IsWhole, IsOfWord, IsOfText, IsCommand}
+use Rattle.ca_cmd.specs.Argument.{Refused, Found, IsThen, IsAfter, apart, IsTermRefused, IsTermAt, IsFirstTerm, IsArgument, AreArguments, IsEnd}
+use Rattle.ca_cmd.specs.Word.{Form, form_of, count_of, word_of, command_with, word_length, IsWhole, IsOfForm, IsOfText, IsCommand}
 use Rattle.ca_cmd.specs.declared.word.Word.{Word}
 use Rattle.ca_cmd.specs.Content.{IsHeld, IsText, IsLine, text_in, percent}
 
@@ -59,13 +59,20 @@ end_sure size bytes = then_sure (apart size bytes) _ (λ rest x y p q. p ∙ sym
 whole_sure : (size : ℕ) (command : Command) (bytes : List ℕ) → IsSure (IsWhole size command bytes)
 whole_sure size command bytes = after_sure (IsEnd size bytes) (λ u whole. whole ≡ Ok command) (end_sure size bytes) (λ u x y p q. p ∙ sym q)
 
-word_sure : (size : ℕ) (word : Word) (rest : List ℕ) → IsSure (IsOfWord size word rest)
-word_sure size word rest =
-    after_sure (IsArgument size rest) (λ x. IsWhole size (command_with word x.0) x.1) (argument_sure size rest) (λ x. whole_sure size (command_with word x.0) x.1)
+arguments_sure : (size : ℕ) (bytes : List ℕ) (count : ℕ) → IsSure (AreArguments size bytes count)
+arguments_sure size bytes zero x y p q = p ∙ sym q
+arguments_sure size bytes (suc count) x y p q =
+    after_sure (AreArguments size bytes count) (λ x. IsAfter (IsArgument size x.1) (λ y more. more ≡ Ok (x.0 ++ y.0 ∷ [], y.1))) (arguments_sure size bytes count)
+    (λ x. after_sure (IsArgument size x.1) (λ y more. more ≡ Ok (x.0 ++ y.0 ∷ [], y.1)) (argument_sure size x.1) (λ y a b p q. p ∙ sym q)) x y p q
+
+form_sure : (size : ℕ) (form : Form) (rest : List ℕ) → IsSure (IsOfForm size form rest)
+form_sure size form rest =
+    after_sure (AreArguments size rest (count_of form)) (λ x. IsWhole size (command_with form x.0) x.1) (arguments_sure size rest (count_of form))
+    (λ x. whole_sure size (command_with form x.0) x.1)
 
 of_text_sure : (size : ℕ) (text : List ℕ) (word : Option Word) (rest : List ℕ) → IsSure (IsOfText size text word rest)
 of_text_sure size text None rest x y p q = p ∙ sym q
-of_text_sure size text (Some word) rest x y p q = word_sure size word rest x y p q
+of_text_sure size text (Some word) rest x y p q = form_sure size (form_of word) rest x y p q
 
 command_sure : (size : ℕ) (bytes : List ℕ) → IsSure (IsCommand size bytes)
 command_sure size bytes = of_text_sure size bytes (word_of (take (word_length bytes) bytes)) (drop (word_length bytes) bytes)

@@ -1,5 +1,5 @@
 -- The arguments of a command word: terms, each parted from what stands before it by blanks.
-use Rattle.std.specs.Prelude.{◌≡◌, ℕ, ◌+◌, ◌-◌, List, [], ◌∷◌, length, drop, Result, Ok, Err, if◌then◌else◌}
+use Rattle.std.specs.Prelude.{◌≡◌, ℕ, zero, suc, ◌+◌, ◌-◌, List, [], ◌∷◌, ◌++◌, length, drop, Result, Ok, Err, if◌then◌else◌}
 use Rattle.ca_term.specs.Tree.{Tree}
 use Rattle.ca_text.specs.Grammar.{is_blank, IsRead, skip}
 use Rattle.ca_text.specs.Front.{IsNotRead}
@@ -62,6 +62,12 @@ IsFirstTerm size (b ∷ bytes) found = IsTermAt size (b ∷ bytes) found
 -- the next argument, and the bytes behind it
 abbrev pub IsArgument : ℕ → List ℕ → Found (Tree × List ℕ) → Type 0
 IsArgument size bytes found = IsThen (apart size bytes) (λ rest. IsFirstTerm size rest) found
+
+-- so many arguments one after another, and the bytes behind the last one
+abbrev pub AreArguments : ℕ → List ℕ → ℕ → Found (List Tree × List ℕ) → Type 0
+AreArguments size bytes zero found = found ≡ Ok ([], bytes)
+AreArguments size bytes (suc count) found =
+    IsAfter (AreArguments size bytes count) (λ x. IsAfter (IsArgument size x.1) (λ y more. more ≡ Ok (x.0 ++ y.0 ∷ [], y.1))) found
 
 -- Behind the last argument nothing else stands than blanks.
 abbrev pub nothing_more : ℕ → List ℕ → Found (Unit {0})

@@ -1,13 +1,13 @@
 -- Command words, and the commands that they make of their arguments.
-use Rattle.std.specs.Prelude.{◌≡◌, ℕ, suc, List, [], ◌∷◌, take, drop, codes, bytes_eq, Option, None, Some, Ok, if◌then◌else◌}
-use Rattle.ca_term.specs.Tree.{Tree}
+use Rattle.std.specs.Prelude.{◌≡◌, ℕ, suc, List, [], ◌∷◌, take, drop, slice_index_or, codes, bytes_eq, Option, None, Some, Ok, if◌then◌else◌}
+use Rattle.ca_term.specs.Tree.{Tree, Nil}
 use Rattle.ca_ets.specs.Command as command
 use Rattle.ca_ets.specs.Command.{Command}
 use Rattle.ca_text.specs.Grammar.{is_blank}
 use Rattle.ca_cmd.specs.declared.fault.LineWhy.TheVariants.{UnknownWord}
 use Rattle.ca_cmd.specs.declared.word.Word.{Word}
 use Rattle.ca_cmd.specs.declared.word.Word.TheVariants as word
-use Rattle.ca_cmd.specs.Argument.{Found, IsAfter, IsArgument, IsEnd, place, refused}
+use Rattle.ca_cmd.specs.Argument.{Found, IsAfter, AreArguments, IsEnd, place, refused}
 
 -- how each command word is spelled
 abbrev pub words : List (List ℕ × Word)
@@ -16,10 +16,35 @@ words =
     ∷ (codes "lookup", word.Lookup)
     ∷ []
 
--- the command of each word with its argument
-abbrev pub command_with : Word → Tree → Command
-command_with word.Insert o = command.Insert o
-command_with word.Lookup k = command.Lookup k
+-- a command by its arguments
+pub data Form : Type 0 where
+  Bare : Command → Form
+  One : (Tree → Command) → Form
+  Two : (Tree → Tree → Command) → Form
+  Three : (Tree → Tree → Tree → Command) → Form
+
+-- the command of each word
+abbrev pub form_of : Word → Form
+form_of word.Insert = One command.Insert
+form_of word.Lookup = One command.Lookup
+
+-- how many arguments a command has
+abbrev pub count_of : Form → ℕ
+count_of (Bare c) = 0
+count_of (One c) = 1
+count_of (Two c) = 2
+count_of (Three c) = 3
+
+-- the argument at this place, counted from 0
+abbrev pub at_place : List Tree → ℕ → Tree
+at_place arguments place = slice_index_or arguments place Nil
+
+-- the command with these arguments
+abbrev pub command_with : Form → List Tree → Command
+command_with (Bare c) arguments = c
+command_with (One c) arguments = c (at_place arguments 0)
+command_with (Two c) arguments = c (at_place arguments 0) (at_place arguments 1)
+command_with (Three c) arguments = c (at_place arguments 0) (at_place arguments 1) (at_place arguments 2)
 
 -- the first word of this spelling
 abbrev pub word_in : List (List ℕ × Word) → List ℕ → Option Word
@@ -38,14 +63,14 @@ word_length (b ∷ bytes) = if is_blank b then 0 else suc (word_length bytes)
 abbrev pub IsWhole : ℕ → Command → List ℕ → Found Command → Type 0
 IsWhole size command bytes found = IsAfter (IsEnd size bytes) (λ u whole. whole ≡ Ok command) found
 
--- the word's command with its argument, and nothing more, in the rest of a line of this size
-abbrev pub IsOfWord : ℕ → Word → List ℕ → Found Command → Type 0
-IsOfWord size word rest found = IsAfter (IsArgument size rest) (λ x. IsWhole size (command_with word x.0) x.1) found
+-- the command of this form with its arguments, and nothing more, in the rest of a line of this size
+abbrev pub IsOfForm : ℕ → Form → List ℕ → Found Command → Type 0
+IsOfForm size form rest found = IsAfter (AreArguments size rest (count_of form)) (λ x. IsWhole size (command_with form x.0) x.1) found
 
 -- A text that begins with no command word is refused where it begins.
 abbrev pub IsOfText : ℕ → List ℕ → Option Word → List ℕ → Found Command → Type 0
 IsOfText size text None rest found = found ≡ refused UnknownWord (place size text)
-IsOfText size text (Some word) rest found = IsOfWord size word rest found
+IsOfText size text (Some word) rest found = IsOfForm size (form_of word) rest found
 
 -- the command that stands at the end of a line of this size
 abbrev pub IsCommand : ℕ → List ℕ → Found Command → Type 0

@@ -1,28 +1,14 @@
 //! The arguments of a command word.
 ghost use Rattle.std.specs.Prelude.{◌≡◌, ◌≤◌, ◌+◌, length, IfOk};
 ghost use Rattle.ca_text.specs.Front.{fault_place};
-ghost use Rattle.ca_text.specs.Grammar.{skip};
-ghost use Rattle.ca_cmd.specs.Argument.{apart, place, IsArgument, IsEnd, IsTermAt};
+ghost use Rattle.ca_cmd.specs.Argument.{apart, place, AreArguments, IsArgument, IsEnd, IsTermAt};
 ghost use Rattle.ca_cmd.specs.Finds.{Finds, IsTermFault};
 
 use crate::fault::{LineFault, LineWhy, refused};
 use crate::line::MOST_LINE_BYTES;
 use ca_term::Term;
-use ca_text::{TextFault, read_term};
+use ca_text::{TextFault, read_term, skip};
 use std::alloc::Global;
-
-// The bytes after the blanks at the front.
-#[tactic(auto, unfolding(ca_text::specs::Grammar::skip))]
-pub(crate) fn skip(bytes: &[u8]) -> &[u8]
-    ensures value { result.now ≡ skip bytes.now }
-    ensures within { length result.now ≤ length bytes.now }
-{
-    let mut rest = bytes;
-    while let [b' ' | b'\t', after @ ..] = rest {
-        rest = after;
-    }
-    rest
-}
 
 // The bytes behind the blanks after a word or an argument.
 fn apart(size: usize, bytes: &[u8]) -> Result<&[u8], LineFault>
@@ -55,7 +41,7 @@ fn term_refused(size: usize, bytes: &[u8], fault: TextFault) -> LineFault
 }
 
 // The next argument, and the bytes behind it.
-pub(crate) fn argument(alloc: Global, size: usize, bytes: &[u8]) -> Result<(Term, &[u8]), LineFault>
+fn argument(alloc: Global, size: usize, bytes: &[u8]) -> Result<(Term, &[u8]), LineFault>
     requires short { size ≤ MOST_LINE_BYTES }
     requires ends_it { length bytes.now ≤ size }
     ensures value { Finds (λ x. (x.0, x.1.now)) (IsArgument size bytes.now) result }
@@ -79,6 +65,31 @@ fn term(alloc: Global, size: usize, bytes: &[u8]) -> Result<(Term, &[u8]), LineF
         Ok((term, n)) => Ok((term, &bytes[n..])),
         Err(fault) => Err(term_refused(size, bytes, fault)),
     }
+}
+
+// So many arguments one after another, and the bytes behind the last one.
+pub(crate) fn arguments(
+    alloc: Global,
+    size: usize,
+    count: usize,
+    bytes: &[u8],
+) -> Result<(Vec<Term>, &[u8]), LineFault>
+    requires short { size ≤ MOST_LINE_BYTES }
+    requires ends_it { length bytes.now ≤ size }
+    ensures value { Finds (λ x. (x.0.items, x.1.now)) (AreArguments size bytes.now count) result }
+    ensures within { IfOk result (λ x. length x.1.now ≤ length bytes.now) }
+    ensures many { IfOk result (λ x. length x.0.items ≡ count) }
+{
+    let mut terms = Vec::new(alloc);
+    let mut rest = bytes;
+    for _ in 0..count {
+        let (term, after) = argument(alloc, size, rest)?;
+        let Ok(()) = terms.push(term) else {
+            return Err(LineFault::NoMemory);
+        };
+        rest = after;
+    }
+    Ok((terms, rest))
 }
 
 // Nothing more stands behind the last argument.

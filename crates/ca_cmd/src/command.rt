@@ -5,11 +5,11 @@ ghost use Rattle.ca_cmd.specs.Content.{IsLine, IsText, text_in};
 ghost use Rattle.ca_cmd.specs.Finds.{Finds};
 ghost use Rattle.ca_cmd.specs.Word.{IsCommand};
 
-use crate::argument::skip;
 use crate::fault::{LineFault, LineWhy, refused};
 use crate::line::MOST_LINE_BYTES;
 use crate::word::{Word, word_length};
 use ca_ets::Cmd;
+use ca_text::skip;
 use std::alloc::Global;
 
 // The command with which a line of this size ends.

@@ -1,18 +1,18 @@
 //! Command words.
-ghost use Rattle.std.specs.Prelude.{◌≡◌, ◌≤◌, length};
+ghost use Rattle.std.specs.Prelude.{◌≡◌, ◌≤◌, ◌<◌, [], ◌∷◌, ◌++◌, length};
 ghost use Rattle.ca_ets.specs.Command.{command_of};
 ghost use Rattle.ca_text.specs.Grammar.{is_blank};
 ghost use Rattle.ca_cmd.specs.Finds.{Finds};
-ghost use Rattle.ca_cmd.specs.Word.{IsOfWord, command_with, word_length, word_of};
+ghost use Rattle.ca_cmd.specs.Word.{IsOfForm, command_with, count_of, form_of, word_length, word_of};
 
-use crate::argument::{argument, end};
+use crate::argument::{arguments, end};
 use crate::fault::LineFault;
 use crate::line::MOST_LINE_BYTES;
 use ca_ets::Cmd;
 use ca_term::Term;
 use std::alloc::Global;
 
-// The words of the commands with one argument.
+// The words of the commands.
 #[derive(Clone, Copy)]
 pub(crate) enum Word {
     Insert,
@@ -31,13 +31,24 @@ impl Word {
         }
     }
 
-    // The command of this word with this argument.
-    fn command(self, argument: Term) -> Cmd
-        ensures { command_of result ≡ command_with self argument }
+    // How many arguments the command of this word has.
+    fn count(self) -> usize
+        ensures { result ≡ count_of (form_of self) }
     {
         match self {
-            Word::Insert => Cmd::Insert(argument),
-            Word::Lookup => Cmd::Lookup(argument),
+            Word::Insert | Word::Lookup => 1,
+        }
+    }
+
+    // The command of this word with these arguments.
+    #[tactic(auto, using(crate::proofs::Arguments::last_argument))]
+    fn command(self, mut arguments: Vec<Term>) -> Cmd
+        requires { length arguments.items ≡ count_of (form_of self) }
+        ensures { command_of result ≡ command_with (form_of self) arguments.items }
+    {
+        match self {
+            Word::Insert => Cmd::Insert(take_last(&mut arguments)),
+            Word::Lookup => Cmd::Lookup(take_last(&mut arguments)),
         }
     }
 
@@ -45,12 +56,23 @@ impl Word {
     pub(crate) fn read(self, alloc: Global, size: usize, bytes: &[u8]) -> Result<Cmd, LineFault>
         requires short { size ≤ MOST_LINE_BYTES }
         requires ends_it { length bytes.now ≤ size }
-        ensures { Finds command_of (IsOfWord size self bytes.now) result }
+        ensures { Finds command_of (IsOfForm size (form_of self) bytes.now) result }
     {
-        let (argument, rest) = argument(alloc, size, bytes)?;
+        let (arguments, rest) = arguments(alloc, size, self.count(), bytes)?;
         end(size, rest)?;
-        Ok(self.command(argument))
+        Ok(self.command(arguments))
     }
+}
+
+// Takes the last of these terms.
+fn take_last(terms: &mut Vec<Term>) -> Term
+    requires { 0 < length terms.old.items }
+    ensures { terms.old.items ≡ terms.new.items ++ result ∷ [] }
+{
+    let Some(term) = terms.pop() else {
+        unreachable!()
+    };
+    term
 }
 
 // How many bytes stand before the first blank.

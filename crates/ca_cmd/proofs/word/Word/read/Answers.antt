@@ -1,13 +1,19 @@
 use Rattle.std.proofs.Common.{rules, refl}
-use Rattle.ca_cmd.proofs.Commands.{argument_refused, end_refused}
+use Rattle.ca_cmd.specs.Word.{form_of}
+use Rattle.ca_cmd.proofs.Commands.{arguments_refused, end_refused}
 use Rattle.ca_cmd.proofs.word.Word.read.Goals as goal
 
-pub returns-in_err-argument : goal.returns-in_err-argument
-returns-in_err-argument c = search (rules, argument_refused c.args.size c.args.self c.args.bytes.now c.in_err-argument.field-0.0 c.in_err-argument.ensures.value)
+pub returns-in_err-arguments : goal.returns-in_err-arguments
+returns-in_err-arguments c =
+    let refused = rw c.count.ensures at c.in_err-arguments.ensures.value in
+    search (rules, arguments_refused c.args.size (form_of c.args.self) c.args.bytes.now c.in_err-arguments.field-0.0 refused)
 
 pub returns-in_err-end : goal.returns-in_err-end
 returns-in_err-end c =
-    search (rules, end_refused c.args.size c.args.self c.args.bytes.now _ _ c.in_err-end.field-0.0 c.in_ok-argument.ensures.value c.in_err-end.ensures)
+    let read = rw c.count.ensures at c.in_ok-arguments.ensures.value in
+    search (rules, end_refused c.args.size (form_of c.args.self) c.args.bytes.now _ _ c.in_err-end.field-0.0 read c.in_err-end.ensures)
 
 pub returns : goal.returns
-returns c = rw c.command.ensures (_, c.in_ok-argument.ensures.value, (_, c.in_ok-end.ensures, refl))
+returns c =
+    let read = rw c.count.ensures at c.in_ok-arguments.ensures.value in
+    rw c.command.ensures (_, read, (_, c.in_ok-end.ensures, refl))
