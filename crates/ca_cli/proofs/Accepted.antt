@@ -1,5 +1,5 @@
 -- The files of a call, accepted one by one.
-use Rattle.std.proofs.Common.{◌≡◌, ℕ, ◌+◌, ◌-◌, ◌≤◌, List, [], ◌∷◌, ◌++◌, length, map, arith, zero-add, sym, ◌∙◌, ap, Ok}
+use Rattle.std.proofs.Common.{◌≡◌, ℕ, ◌+◌, ◌-◌, ◌≤◌, List, [], ◌∷◌, ◌++◌, length, map, arith, zero-add, sym, ◌∙◌, ap, subst, Ok}
 use Rattle.std.proofs.lemmas.List.{map-append}
 use Rattle.std.proofs.lemmas.List.Sums.{sum_by-append, sum_by-cons}
 use Rattle.ca_outside.proofs.Growth.{grows_more}
@@ -8,7 +8,7 @@ use Rattle.ca_outside.specs.Known.{Content, Untold, Missing, Holds, Tells, Grows
 use Rattle.ca_cmd.specs.File.{Numbered, IsFileOf}
 use Rattle.ca_cli.specs.Headline.{AreFilesOf}
 use Rattle.ca_cli.specs.Call.{Change, change_of, Adds}
-use Rattle.ca_cli.specs.Outcome.{AreFetched, AreAccepted, all_well, most_bytes, total_length}
+use Rattle.ca_cli.specs.Outcome.{AreFetched, AreAccepted, AreHeld, all_well, most_bytes, total_length}
 use Rattle.ca_cli.specs.Reading.{IsRead}
 
 -- The files of these names were fetched well and accepted, and they leave this room.
@@ -62,39 +62,42 @@ reads_on content first next names lines room name own count h e g r =
       left = omega (arith, total, h.left, r.fits);
     }
 
-told_same : (c : Content) (file found : List ℕ) → c ≡ Holds file → Tells c found → found ≡ file
-told_same Untold file found e t = cc
-told_same Missing file found e t = absurd t
-told_same (Holds x) file found e t = let s : x ≡ file = cc in sym t ∙ s
-
--- what a shelf has for the next name, where it has well-formed files for all names: it and the files before it are
--- among these files
-pub record HasNext (content : List ℕ → Content) (name : List ℕ) (found files : List (List ℕ)) : Type 0 where
+-- The first of the files that a shelf holds fits into the room, and it holds the others in the room that this one leaves.
+pub record HasFirst (content : List ℕ → Content) (name : List ℕ) (later : List (List ℕ)) (room : ℕ) : Type 0 where
   pub file : List ℕ
   pub own : List Numbered
   pub told : content name ≡ Holds file
-  pub total : total_length found + length file ≤ total_length files
+  pub fits : length file ≤ room
   pub read : IsFileOf file own
+  pub others : AreHeld content later (room - length file)
 
-pub has_next : (content : List ℕ → Content) (earlier : List (List ℕ)) (name : List ℕ) (later found files : List (List ℕ)) (lines : List (List Numbered)) →
-    AreFetched content earlier found → map content (earlier ++ name ∷ later) ≡ map Holds files → AreFilesOf files lines → HasNext content name found files
-has_next content [] name later [] [] lines h e r = cc
-has_next content [] name later [] (file ∷ files) [] h e r = absurd r
-has_next content [] name later [] (file ∷ files) (own ∷ lines) h e r =
-    record { file = file; own = own; told = cc; total = omega (arith, total_first file files); read = r.0 }
-has_next content [] name later (f ∷ found) files lines h e r = absurd h
-has_next content (n ∷ earlier) name later [] files lines h e r = absurd h
-has_next content (n ∷ earlier) name later (f ∷ found) [] lines h e r = cc
-has_next content (n ∷ earlier) name later (f ∷ found) (file ∷ files) [] h e r = absurd r
-has_next content (n ∷ earlier) name later (f ∷ found) (file ∷ files) (own ∷ lines) h e r =
-    let told : content n ≡ Holds file = cc in
-    let rest : map content (earlier ++ name ∷ later) ≡ map Holds files = cc in
-    let next = has_next content earlier name later found files lines h.1 rest r.1 in
-    let same : length f ≡ length file = ap (λ (x : List ℕ). length x) (told_same (content n) file f told h.0) in
+first_of : (content : List ℕ → Content) (name : List ℕ) (later : List (List ℕ)) (room : ℕ) (files : List (List ℕ)) (lines : List (List Numbered)) →
+    map content (name ∷ later) ≡ map Holds files → total_length files ≤ room → AreFilesOf files lines → HasFirst content name later room
+first_of content name later room [] lines e l r = cc
+first_of content name later room (file ∷ files) [] e l r = absurd r
+first_of content name later room (file ∷ files) (own ∷ lines) e l r =
+    let left : total_length files ≤ room - length file = omega (arith, l, total_first file files) in
     record {
-      file = next.file;
-      own = next.own;
-      told = next.told;
-      total = omega (arith, next.total, same, total_first f found, total_first file files);
-      read = next.read;
+      file = file;
+      own = own;
+      told = cc;
+      fits = omega (arith, l, total_first file files);
+      read = r.0;
+      others = record { files = files; told = cc; limit = left; lines = lines; read = r.1 };
     }
+
+pub has_first : (content : List ℕ → Content) (name : List ℕ) (later : List (List ℕ)) (room : ℕ) → AreHeld content (name ∷ later) room →
+    HasFirst content name later room
+has_first content name later room h = first_of content name later room h.files h.lines h.told h.limit h.read
+
+told_same : (c : Content) (file found : List ℕ) → c ≡ Holds file → Tells c found → file ≡ found
+told_same Untold file found e t = cc
+told_same Missing file found e t = absurd t
+told_same (Holds x) file found e t = let s : x ≡ file = cc in sym s ∙ t
+
+-- the room that the first of them left, once it was read
+pub held_on : (content : List ℕ → Content) (name : List ℕ) (later : List (List ℕ)) (room : ℕ) (own : List Numbered) (count : ℕ) →
+    IsRead (content name) room own count → HasFirst content name later room → AreHeld content later (room - count)
+held_on content name later room own count r h =
+    let same : length h.file ≡ count = ap (λ (x : List ℕ). length x) (told_same (content name) h.file r.file h.told r.fetched) ∙ sym r.counted in
+    subst (λ (n : ℕ). AreHeld content later (room - n)) same h.others

@@ -3,7 +3,6 @@ pub mod Clients
 pub mod Commands
 pub mod Firsts
 pub mod LineCommands
-pub mod Names
 pub mod NextFile
 pub mod Outcomes
 pub mod Plays

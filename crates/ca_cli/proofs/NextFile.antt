@@ -4,22 +4,25 @@ use Rattle.std.proofs.lemmas.List.{length-map, length-take-le}
 use Rattle.std.specs.Prelude.{Result}
 use Rattle.ca_outside.proofs.Counts.{risen_since}
 use Rattle.ca_outside.specs.Fetches.{Fetched, fetched}
-use Rattle.ca_outside.specs.Known.{Content, Holds}
+use Rattle.ca_outside.specs.Known.{Content}
 use Rattle.ca_outside.specs.declared.shelf.FetchFault.{FetchFault}
 use Rattle.ca_outside.specs.declared.shelf.FetchFault.TheVariants as fault
 use Rattle.ca_cmd.specs.File.{Numbered}
 use Rattle.ca_cli.specs.Call.{Call, Change, change_of, call_of, Adds}
-use Rattle.ca_cli.specs.Outcome.{IsReached, IsOutcome, IsWellFormed, AreRead, AreAccepted, most_bytes, total_length, all_well}
+use Rattle.ca_cli.specs.Outcome.{IsReached, IsOutcome, AreHeld, AreRead, AreAccepted, most_bytes, total_length, all_well}
 use Rattle.ca_cli.specs.Reading.{wanted_of, IsRead, IsFault}
 use Rattle.ca_cli.specs.StatusText.{text_of_status}
 use Rattle.ca_cli.specs.Words.{Request}
 use Rattle.ca_cli.specs.declared.status.Status.{Status}
 use Rattle.ca_cli.specs.declared.status.Status.TheVariants.{Done, Usage, ShelfFault, SinkFault, BadLine, NoMemory, TooLong}
-use Rattle.ca_cli.proofs.Accepted.{IsReading, HasNext, has_next, reads_on, adds_more}
-use Rattle.ca_cli.proofs.Firsts.{first_more, split_here}
+use Rattle.ca_cli.proofs.Accepted.{IsReading, HasFirst, has_first, reads_on, adds_more}
+use Rattle.ca_cli.proofs.Firsts.{first_more, rest_here, split_here}
 
-some_same : (a b : Request) → Some a ≡ Some b → b ≡ a
-some_same a b e = cc
+-- where the shelf holds the files from a place on: the one there, and those behind it
+pub first_held : {X : Type 0} (f : X → List ℕ) (names : List X) (i : ℕ) (name : X) → i < length names → name ≡ get_or names i name →
+    (content : List ℕ → Content) (room : ℕ) → AreHeld content (map f (drop i names)) room → HasFirst content (f name) (map f (drop (i + 1) names)) room
+first_held f names i name inside here content room w =
+    has_first content (f name) _ room (subst (λ (x : List (List ℕ)). AreHeld content x room) (rest_here f names i name inside here) w)
 
 -- The names, seen by f, and one of them, at a place before which all files were accepted.
 module _ {X : Type 0} (f : X → List ℕ) (names : List X) (i : ℕ) (name : X) (inside : i < length names) (here : name ≡ get_or names i name)
@@ -74,15 +77,6 @@ module _ {X : Type 0} (f : X → List ℕ) (names : List X) (i : ℕ) (name : X)
     fault_outcome number (TooLong file) e o b =
         let left : room ≡ most_bytes - total_length h.files = omega (arith, h.left) in
         (record { reached = reached file (Err fault.TooLong) (b.0 ∙ e) b.2; over = rw left at b.1 }, refl)
-
-    -- the file of this name, where the call is well formed: there is room for it
-    pub next_file : (w : IsWellFormed call) → (found : HasNext content (f name) h.files w.files) × (length found.file ≤ room)
-    next_file w =
-        let same : w.request.names ≡ map f names = ap (λ (r : Request). r.names) (some_same request w.request w.asked) ∙ n in
-        let told : map content (map f (take i names) ++ f name ∷ map f (drop (i + 1) names)) ≡ map Holds w.files =
-        ap (map content) (sym (same ∙ split_here f names i name inside here)) ∙ w.told in
-        let found = has_next content (map f (take i names)) (f name) (map f (drop (i + 1) names)) h.files w.files w.lines h.accepted.fetched told w.read in
-        (found, omega (arith, found.total, w.limit, h.left))
 
 -- behind the last name, all files were read
 pub all_read : {X : Type 0} (f : X → List ℕ) (names : List X) (i : ℕ) (content : List ℕ → Content) (shelf : Change Fetched) (lines : List (List Numbered)) (room : ℕ) →

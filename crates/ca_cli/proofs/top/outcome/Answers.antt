@@ -2,7 +2,7 @@ use Rattle.std.proofs.Common.{map, refl, inr}
 use Rattle.std.specs.String.{string_bytes}
 use Rattle.ca_cli.specs.Words.{Request}
 use Rattle.ca_cli.proofs.Commands.{all_built}
-use Rattle.ca_cli.proofs.Outcomes.{told_outcome, told_want}
+use Rattle.ca_cli.proofs.Outcomes.{held_asked, told_outcome, told_want}
 use Rattle.ca_cli.proofs.top.outcome.Goals as goal
 
 pub answer-requires-clause-built : goal.answer-requires-clause-built
@@ -18,7 +18,7 @@ returns-in-Err-clause-outcome g c =
 pub returns-in-Err-clause-complete : goal.returns-in-Err-clause-complete
 returns-in-Err-clause-complete g c w faultless =
     let asked : Request = record { keypos = c.in-Some.request.keypos; names = map string_bytes c.in-Some.request.names.now } in
-    told_want c.in-Err.status _ _ (c.in-Err.ensures.complete asked refl (rw c.in-Some.ensures.asked at w) faultless) c.told-in-Err.ensures
+    told_want c.in-Err.status _ _ (c.in-Err.ensures.complete (held_asked _ asked c.in-Some.ensures.asked w) faultless) c.told-in-Err.ensures
 
 pub returns-in_default-answer-clause-outcome : goal.returns-in_default-answer-clause-outcome
 returns-in_default-answer-clause-outcome g c =
