@@ -3,6 +3,5 @@ pub mod Clients
 pub mod Commands
 pub mod Firsts
 pub mod LineCommands
-pub mod NextFile
 pub mod Outcomes
 pub mod Plays

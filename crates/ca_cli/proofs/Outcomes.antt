@@ -1,11 +1,10 @@
 -- What a call of the program comes to.
-use Rattle.std.proofs.Common.{◌≡◌, ℕ, ◌<◌, List, [], length, refl, inl, inr, take, subst, Some}
+use Rattle.std.proofs.Common.{◌≡◌, ℕ, List, [], refl, inl, inr, subst, Some}
 use Rattle.std.specs.Prelude.{◌⊎◌, Option}
-use Rattle.ca_cli.specs.Call.{Call, Change, Adds, HasFailed}
+use Rattle.ca_cli.specs.Call.{Call}
 use Rattle.ca_cli.specs.Outcome.{IsOutcome, IsStopped, IsDoneOrWant, IsWellFormed, AreHeld, most_bytes}
 use Rattle.ca_cli.specs.StatusText.{text_of_status}
 use Rattle.ca_cli.specs.Words.{Request}
-use Rattle.ca_cli.specs.Written.{HasRun}
 use Rattle.ca_cli.specs.declared.status.Status.{Status}
 use Rattle.ca_cli.specs.declared.status.Status.TheVariants.{Done, Usage, ShelfFault, SinkFault, BadLine, NoMemory, TooLong}
 
@@ -39,8 +38,3 @@ pub told_want : (status result : Status) (bytes : List ℕ) → status ≡ NoMem
     ((result ≡ status) × (bytes ≡ text_of_status status)) ⊎ ((result ≡ NoMemory) × (bytes ≡ [])) → IsDoneOrWant result
 told_want status result bytes e (inl t) = rw (t.0, e) tt
 told_want status result bytes e (inr t) = rw t.0 tt
-
--- the sink failed after a part of the bytes
-pub cut_off : (call : Call) (output : Change ℕ) (status : Status) (bytes : List ℕ) → IsOutcome call status bytes → (n : ℕ) → n < length bytes
-    → Adds output (take n bytes) → HasFailed output → HasRun call output SinkFault status bytes
-cut_off call output status bytes h n p t r = record { outcome = h; written = inr (record { same = refl; count = n; part = p; taken = t; risen = r }) }

@@ -9,7 +9,7 @@ use Rattle.ca_ets.specs.Command.{Answered}
 use Rattle.ca_cmd.specs.File.{Numbered, IsRefusedAt}
 use Rattle.ca_cmd.specs.declared.fault.LineWhy.{LineWhy}
 use Rattle.ca_cli.specs.Call.{Call, Adds, HasFailed}
-use Rattle.ca_cli.specs.Headline.{AreFilesOf, IsAnswer, AllAreReplies}
+use Rattle.ca_cli.specs.Headline.{ArePairs, AreFilesOf, IsAnswer, AllAreReplies}
 use Rattle.ca_cli.specs.StatusText.{text_of_status}
 use Rattle.ca_cli.specs.Words.{Request}
 use Rattle.ca_cli.specs.declared.status.Status.{Status}
@@ -24,10 +24,7 @@ total_length files = sum_by (λ (file : List ℕ). length file) files
 
 -- the shelf's contents may be these files in order
 abbrev pub AreFetched : (List ℕ → Content) → List (List ℕ) → List (List ℕ) → Type 0
-AreFetched content [] [] = Unit {0}
-AreFetched content [] (file ∷ files) = ⊥
-AreFetched content (name ∷ names) [] = ⊥
-AreFetched content (name ∷ names) (file ∷ files) = Tells (content name) file × AreFetched content names files
+AreFetched content names files = ArePairs (λ (name file : List ℕ). Tells (content name) file) names files
 
 -- one fetch of each name in order, and each went well
 abbrev pub all_well : List (List ℕ) → List Fetched

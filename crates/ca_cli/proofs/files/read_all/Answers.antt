@@ -5,8 +5,7 @@ use Rattle.std.specs.String.{string_bytes}
 use Rattle.ca_outside.proofs.Counts.{risen_since}
 use Rattle.ca_cmd.specs.Lines.{numbered}
 use Rattle.ca_cli.specs.Call.{change_of}
-use Rattle.ca_cli.proofs.Accepted.{held_on}
-use Rattle.ca_cli.proofs.NextFile.{fault_outcome, first_held, reads_next}
+use Rattle.ca_cli.proofs.Accepted.{first_held, held_on, reads_next, fault_outcome}
 use Rattle.ca_cli.proofs.files.read_all.Goals as goal
 
 pub returns-in_err-lines-clause-refused : goal.returns-in_err-lines-clause-refused
@@ -18,7 +17,7 @@ returns-in_err-lines-clause-refused g c =
     (g.F.Shelf.faults c.read_one.new.shelf) in
     let fault = rw (c.loop-name.invariant.same c.as_str.result.now, c.as_str.ensures.value) at c.in_err-lines.ensures.refused in
     let p = err_from_is_err_and c.from_residual.result c.from_residual.ensures.1 in
-    rw (p.1, p.2) (λ request n. fault_outcome string_bytes names c.loop-name.name-index c.name-item.result within c.name-item.is content _ next refl _ _
+    rw (p.1, p.2) (λ request n. fault_outcome string_bytes names c.loop-name.name-index c.name-item.result within c.name-item.is content _ _ next refl _
     c.loop-name.invariant.reading request n (c.loop-name.number + 1) c.in_err-lines.field-0.0 (omega (arith, c.loop-name.invariant.number))
     c.loop-name.invariant.later fault)
 
@@ -41,15 +40,15 @@ loop-name-preserved g c =
     (g.F.Shelf.faults c.read_one.new.shelf) in
     let read = rw (c.loop-name.invariant.same c.as_str.result.now, c.as_str.ensures.value) at c.in_ok-lines.ensures.read in
     let fetched = rw c.as_str.ensures.value at c.in_ok-lines.ensures.fetched in
-    let more = reads_next string_bytes names c.loop-name.name-index c.name-item.result within c.name-item.is content _ next refl _ _ c.loop-name.invariant.reading
+    let more = reads_next string_bytes names c.loop-name.name-index c.name-item.result within c.name-item.is content _ _ next refl _ c.loop-name.invariant.reading
     (numbered c.in_ok-lines.lines) c.in_ok-lines.count read fetched in
-    let first = first_held string_bytes names c.loop-name.name-index c.name-item.result within c.name-item.is in
+    let held = held_on string_bytes names c.loop-name.name-index c.name-item.result within c.name-item.is content _ _ _ read in
     let pushed : map numbered c.push_reserved.new.self.items ≡ map numbered c.loop-name.all.items ++ numbered c.in_ok-lines.lines ∷ [] =
     ap (map numbered) c.push_reserved.ensures.items ∙ map-append numbered c.loop-name.all.items _ in
     record {
       number = omega (arith, c.loop-name.invariant.number);
       reading = rw pushed more;
-      held = λ w. held_on _ _ _ _ _ _ read (first content _ (c.loop-name.invariant.held w));
+      held = λ w. held (c.loop-name.invariant.held w);
       count = omega (arith, c.push_reserved.ensures.len);
       spare = omega (arith, c.push_reserved.ensures.capacity);
       later = omega (arith, c.loop-name.invariant.later, c.in_ok-lines.ensures.later);
