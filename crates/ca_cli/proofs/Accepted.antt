@@ -1,15 +1,24 @@
--- The files of a call, accepted one by one.
-use Rattle.std.proofs.Common.{◌≡◌, ℕ, ◌+◌, ◌-◌, ◌≤◌, List, [], ◌∷◌, ◌++◌, length, map, arith, zero-add, sym, ◌∙◌, ap, Ok}
-use Rattle.std.proofs.lemmas.List.{map-append}
+-- The files of a call, accepted one by one, and what the next one comes to.
+use Rattle.std.proofs.Common.{◌≡◌, ℕ, ◌+◌, ◌-◌, ◌≤◌, ◌<◌, List, [], ◌∷◌, ◌++◌, length, map, take, drop, get_or, arith, zero-add, refl, sym, ◌∙◌, ap, subst, inr, inl, Some, Ok, Err}
+use Rattle.std.proofs.lemmas.List.{length-map, length-take-le, map-append}
 use Rattle.std.proofs.lemmas.List.Sums.{sum_by-append, sum_by-cons}
+use Rattle.std.specs.Prelude.{Result}
+use Rattle.ca_outside.proofs.Counts.{risen_since}
 use Rattle.ca_outside.proofs.Growth.{grows_more}
 use Rattle.ca_outside.specs.Fetches.{Fetched, fetched}
 use Rattle.ca_outside.specs.Known.{Content, Untold, Missing, Holds, Tells, Grows}
+use Rattle.ca_outside.specs.declared.shelf.FetchFault.{FetchFault}
+use Rattle.ca_outside.specs.declared.shelf.FetchFault.TheVariants as fault
 use Rattle.ca_cmd.specs.File.{Numbered, IsFileOf}
-use Rattle.ca_cli.specs.Headline.{AreFilesOf}
-use Rattle.ca_cli.specs.Call.{Change, change_of, Adds}
-use Rattle.ca_cli.specs.Outcome.{AreFetched, AreAccepted, all_well, most_bytes, total_length}
-use Rattle.ca_cli.specs.Reading.{IsRead}
+use Rattle.ca_cli.specs.Call.{Call, Change, change_of, call_of, Adds}
+use Rattle.ca_cli.specs.Headline.{ArePairs, AreFilesOf}
+use Rattle.ca_cli.specs.Outcome.{AreAccepted, AreHeld, IsReached, IsOutcome, all_well, most_bytes, total_length}
+use Rattle.ca_cli.specs.Reading.{wanted_of, IsRead, IsFault}
+use Rattle.ca_cli.specs.StatusText.{text_of_status}
+use Rattle.ca_cli.specs.Words.{Request}
+use Rattle.ca_cli.specs.declared.status.Status.{Status}
+use Rattle.ca_cli.specs.declared.status.Status.TheVariants.{Done, Usage, ShelfFault, SinkFault, BadLine, NoMemory, TooLong}
+use Rattle.ca_cli.proofs.Firsts.{first_more, rest_here, split_here}
 
 -- The files of these names were fetched well and accepted, and they leave this room.
 pub record IsReading (content : List ℕ → Content) (shelf : Change Fetched) (names : List (List ℕ)) (lines : List (List Numbered)) (room : ℕ) : Type 0 where
@@ -18,24 +27,25 @@ pub record IsReading (content : List ℕ → Content) (shelf : Change Fetched) (
   pub accepted : AreAccepted content names files lines
   pub left : total_length files + room ≡ most_bytes
 
--- one change of a shelf or a sink after another
-pub adds_more : {A : Type 0} (first next : Change A) (xs ys : List A) → first.after ≡ next.before → Adds first xs → Adds next ys →
+-- The first of the files that a shelf holds fits into the room, and it holds the others in the room that this one leaves.
+pub record HasFirst (content : List ℕ → Content) (name : List ℕ) (later : List (List ℕ)) (room : ℕ) : Type 0 where
+  pub file : List ℕ
+  pub own : List Numbered
+  pub told : content name ≡ Holds file
+  pub fits : length file ≤ room
+  pub read : IsFileOf file own
+  pub others : AreHeld content later (room - length file)
+
+pairs_more : {X Y : Type 0} (R : X → Y → Type 0) (xs : List X) (ys : List Y) (x : X) (y : Y) → ArePairs R xs ys → R x y →
+    ArePairs R (xs ++ x ∷ []) (ys ++ y ∷ [])
+pairs_more R [] [] x y h r = (r, tt)
+pairs_more R [] (b ∷ ys) x y h r = absurd h
+pairs_more R (a ∷ xs) [] x y h r = absurd h
+pairs_more R (a ∷ xs) (b ∷ ys) x y h r = (h.0, pairs_more R xs ys x y h.1 r)
+
+adds_more : {A : Type 0} (first next : Change A) (xs ys : List A) → first.after ≡ next.before → Adds first xs → Adds next ys →
     Grows first.before next.after (xs ++ ys)
 adds_more first next xs ys e g h = grows_more first.before first.after next.after xs ys g (rw e h)
-
-fetched_more : (content : List ℕ → Content) (names files : List (List ℕ)) (name file : List ℕ) →
-    AreFetched content names files → Tells (content name) file → AreFetched content (names ++ name ∷ []) (files ++ file ∷ [])
-fetched_more content [] [] name file h t = (t, tt)
-fetched_more content [] (f ∷ files) name file h t = absurd h
-fetched_more content (n ∷ names) [] name file h t = absurd h
-fetched_more content (n ∷ names) (f ∷ files) name file h t = (h.0, fetched_more content names files name file h.1 t)
-
-read_more : (files : List (List ℕ)) (lines : List (List Numbered)) (file : List ℕ) (own : List Numbered) →
-    AreFilesOf files lines → IsFileOf file own → AreFilesOf (files ++ file ∷ []) (lines ++ own ∷ [])
-read_more [] [] file own h r = (r, tt)
-read_more [] (l ∷ lines) file own h r = absurd h
-read_more (f ∷ files) [] file own h r = absurd h
-read_more (f ∷ files) (l ∷ lines) file own h r = (h.0, read_more files lines file own h.1 r)
 
 total_first : (file : List ℕ) (files : List (List ℕ)) → total_length (file ∷ files) ≡ length file + total_length files
 total_first file files = sum_by-cons (λ (f : List ℕ). length f) file files
@@ -43,58 +53,99 @@ total_first file files = sum_by-cons (λ (f : List ℕ). length f) file files
 total_more : (files : List (List ℕ)) (file : List ℕ) → total_length (files ++ file ∷ []) ≡ total_length files + length file
 total_more files file = sum_by-append (λ (f : List ℕ). length f) files (file ∷ []) ∙ ap (λ (n : ℕ). total_length files + n) (zero-add (length file))
 
--- the next file, within the room that is left
-pub reads_on : (content : List ℕ → Content) (first next : Change Fetched) (names : List (List ℕ)) (lines : List (List Numbered)) (room : ℕ)
-    (name : List ℕ) (own : List Numbered) (count : ℕ) → IsReading content first names lines room →
-    first.after ≡ next.before → Adds next (fetched name (Ok tt) ∷ []) → IsRead (content name) room own count →
-    IsReading content (change_of first.before next.after first.faults_before next.faults_after) (names ++ name ∷ []) (lines ++ own ∷ []) (room - count)
-reads_on content first next names lines room name own count h e g r =
-    let total : total_length (h.files ++ r.file ∷ []) ≡ total_length h.files + count =
-    total_more h.files r.file ∙ ap (λ (n : ℕ). total_length h.files + n) (sym r.counted) in
-    record {
-      files = h.files ++ r.file ∷ [];
-      fetches = rw (map-append (λ (n : List ℕ). fetched n (Ok tt)) names (name ∷ [])) (adds_more first next (all_well names) (fetched name (Ok tt) ∷ []) e h.fetches g);
-      accepted = record {
-        fetched = fetched_more content names h.files name r.file h.accepted.fetched r.fetched;
-        limit = omega (arith, total, h.left, r.fits);
-        read = read_more h.files lines r.file own h.accepted.read r.read;
-      };
-      left = omega (arith, total, h.left, r.fits);
-    }
-
-told_same : (c : Content) (file found : List ℕ) → c ≡ Holds file → Tells c found → found ≡ file
+told_same : (c : Content) (file found : List ℕ) → c ≡ Holds file → Tells c found → file ≡ found
 told_same Untold file found e t = cc
 told_same Missing file found e t = absurd t
-told_same (Holds x) file found e t = let s : x ≡ file = cc in sym t ∙ s
+told_same (Holds x) file found e t = let s : x ≡ file = cc in sym s ∙ t
 
--- what a shelf has for the next name, where it has well-formed files for all names: it and the files before it are
--- among these files
-pub record HasNext (content : List ℕ → Content) (name : List ℕ) (found files : List (List ℕ)) : Type 0 where
-  pub file : List ℕ
-  pub own : List Numbered
-  pub told : content name ≡ Holds file
-  pub total : total_length found + length file ≤ total_length files
-  pub read : IsFileOf file own
+first_of : (content : List ℕ → Content) (name : List ℕ) (later : List (List ℕ)) (room : ℕ) (files : List (List ℕ)) (lines : List (List Numbered)) →
+    map content (name ∷ later) ≡ map Holds files → total_length files ≤ room → AreFilesOf files lines → HasFirst content name later room
+first_of content name later room [] lines e l r = cc
+first_of content name later room (file ∷ files) [] e l r = absurd r
+first_of content name later room (file ∷ files) (own ∷ lines) e l r =
+    let fits : length file ≤ room = omega (arith, l, total_first file files) in
+    let left : total_length files ≤ room - length file = omega (arith, l, total_first file files) in
+    record { file = file; own = own; told = cc; fits = fits; read = r.0; others = record { files = files; told = cc; limit = left; lines = lines; read = r.1 } }
 
-pub has_next : (content : List ℕ → Content) (earlier : List (List ℕ)) (name : List ℕ) (later found files : List (List ℕ)) (lines : List (List Numbered)) →
-    AreFetched content earlier found → map content (earlier ++ name ∷ later) ≡ map Holds files → AreFilesOf files lines → HasNext content name found files
-has_next content [] name later [] [] lines h e r = cc
-has_next content [] name later [] (file ∷ files) [] h e r = absurd r
-has_next content [] name later [] (file ∷ files) (own ∷ lines) h e r =
-    record { file = file; own = own; told = cc; total = omega (arith, total_first file files); read = r.0 }
-has_next content [] name later (f ∷ found) files lines h e r = absurd h
-has_next content (n ∷ earlier) name later [] files lines h e r = absurd h
-has_next content (n ∷ earlier) name later (f ∷ found) [] lines h e r = cc
-has_next content (n ∷ earlier) name later (f ∷ found) (file ∷ files) [] h e r = absurd r
-has_next content (n ∷ earlier) name later (f ∷ found) (file ∷ files) (own ∷ lines) h e r =
-    let told : content n ≡ Holds file = cc in
-    let rest : map content (earlier ++ name ∷ later) ≡ map Holds files = cc in
-    let next = has_next content earlier name later found files lines h.1 rest r.1 in
-    let same : length f ≡ length file = ap (λ (x : List ℕ). length x) (told_same (content n) file f told h.0) in
-    record {
-      file = next.file;
-      own = next.own;
-      told = next.told;
-      total = omega (arith, next.total, same, total_first f found, total_first file files);
-      read = next.read;
-    }
+-- The names, seen by f, one of them, and the room for its file.
+module _ {X : Type 0} (f : X → List ℕ) (names : List X) (i : ℕ) (name : X) (inside : i < length names) (here : name ≡ get_or names i name)
+    (content : List ℕ → Content) (room : ℕ) where
+  -- where the shelf holds the files from this one on
+  pub first_held : AreHeld content (map f (drop i names)) room → HasFirst content (f name) (map f (drop (i + 1) names)) room
+  first_held w =
+      let held = subst (λ (x : List (List ℕ)). AreHeld content x room) (rest_here f names i name inside here) w in
+      first_of content (f name) _ room held.files held.lines held.told held.limit held.read
+
+  -- once this one was read, the shelf holds those behind it in the room that is left
+  pub held_on : (own : List Numbered) (count : ℕ) → IsRead (content (f name)) room own count →
+      AreHeld content (map f (drop i names)) room → AreHeld content (map f (drop (i + 1) names)) (room - count)
+  held_on own count r w =
+      let h = first_held w in
+      let same : length h.file ≡ count = ap (λ (x : List ℕ). length x) (told_same (content (f name)) h.file r.file h.told r.fetched) ∙ sym r.counted in
+      subst (λ (n : ℕ). AreHeld content (map f (drop (i + 1) names)) (room - n)) same h.others
+
+  -- the files before this one were accepted, and then this one is fetched
+  module _ (first next : Change Fetched) (joined : first.after ≡ next.before) (lines : List (List Numbered))
+      (h : IsReading content first (map f (take i names)) lines room) where
+    abbrev whole : Change Fetched
+    whole = change_of first.before next.after first.faults_before next.faults_after
+
+    -- it was read
+    pub reads_next : (own : List Numbered) (count : ℕ) → IsRead (content (f name)) room own count → Adds next (fetched (f name) (Ok tt) ∷ [])
+        → IsReading content whole (map f (take (i + 1) names)) (lines ++ own ∷ []) (room - count)
+    reads_next own count r g =
+        let before = map f (take i names) in
+        let total : total_length (h.files ++ r.file ∷ []) ≡ total_length h.files + count =
+        total_more h.files r.file ∙ ap (λ (n : ℕ). total_length h.files + n) (sym r.counted) in
+        subst (λ (x : List (List ℕ)). IsReading content whole x (lines ++ own ∷ []) (room - count)) (sym (first_more f names i name inside here))
+        record {
+          files = h.files ++ r.file ∷ [];
+          fetches = rw (map-append (λ (n : List ℕ). fetched n (Ok tt)) before (f name ∷ [])) (adds_more first next _ _ joined h.fetches g);
+          accepted = record {
+            fetched = pairs_more _ before h.files (f name) r.file h.accepted.fetched r.fetched;
+            limit = omega (arith, total, h.left, r.fits);
+            read = pairs_more _ h.files lines r.file own h.accepted.read r.read;
+          };
+          left = omega (arith, total, h.left, r.fits);
+        }
+
+    module _ (request : Request) (n : request.names ≡ map f names) where
+      abbrev call : Call
+      call = call_of (Some request) content whole
+
+      abbrev reached : (number : ℕ) (end : Result (Unit {0}) FetchFault) → number ≡ i + 1 → Adds next (fetched (f name) end ∷ []) → IsReached call number end
+      reached number end e g = record {
+        request = request;
+        asked = refl;
+        earlier = map f (take i names);
+        name = f name;
+        later = map f (drop (i + 1) names);
+        named = n ∙ split_here f names i name inside here;
+        place = e ∙ ap (λ (k : ℕ). k + 1) (sym (length-map (take i names) f ∙ length-take-le i names (omega (arith, inside))));
+        files = h.files;
+        lines = lines;
+        accepted = h.accepted;
+        fetches = adds_more first next (all_well (map f (take i names))) (fetched (f name) end ∷ []) joined h.fetches g;
+      }
+
+      pub fault_outcome : (number : ℕ) (status : Status) → number ≡ i + 1 → first.faults_before ≤ next.faults_before →
+          IsFault next (wanted_of number (f name) (content (f name)) room) status → IsOutcome call status (text_of_status status)
+      fault_outcome number Done e o b = absurd b
+      fault_outcome number Usage e o b = absurd b
+      fault_outcome number (ShelfFault file) e o b = (reached file (Err fault.Failed) (b.0 ∙ e) b.2, risen_since _ _ _ o b.1, refl)
+      fault_outcome number SinkFault e o b = absurd b
+      fault_outcome number (BadLine file line at) e o b = (
+        record {
+          reached = reached file (Ok tt) (b.0 ∙ e) b.2;
+          file = b.1.file;
+          fetched = b.1.fetched;
+          limit = omega (arith, h.left, b.1.fits);
+          why = b.1.why;
+          refused = b.1.refused;
+        },
+        refl,
+      )
+      fault_outcome number NoMemory e o b = (inr (inl (number, b.0, reached number b.0 e b.1)), refl)
+      fault_outcome number (TooLong file) e o b =
+          let left : room ≡ most_bytes - total_length h.files = omega (arith, h.left) in
+          (record { reached = reached file (Err fault.TooLong) (b.0 ∙ e) b.2; over = rw left at b.1 }, refl)

@@ -1,12 +1,21 @@
 -- What a call of the program comes to.
-use Rattle.std.proofs.Common.{◌≡◌, ℕ, ◌<◌, List, [], length, refl, inl, inr, take}
-use Rattle.std.specs.Prelude.{◌⊎◌}
-use Rattle.ca_cli.specs.Call.{Call, Change, Adds, HasFailed}
-use Rattle.ca_cli.specs.Outcome.{IsOutcome, IsStopped, IsDoneOrWant}
+use Rattle.std.proofs.Common.{◌≡◌, ℕ, List, [], refl, inl, inr, subst, Some}
+use Rattle.std.specs.Prelude.{◌⊎◌, Option}
+use Rattle.ca_cli.specs.Call.{Call}
+use Rattle.ca_cli.specs.Outcome.{IsOutcome, IsStopped, IsDoneOrWant, IsWellFormed, AreHeld, most_bytes}
 use Rattle.ca_cli.specs.StatusText.{text_of_status}
-use Rattle.ca_cli.specs.Written.{HasRun}
+use Rattle.ca_cli.specs.Words.{Request}
 use Rattle.ca_cli.specs.declared.status.Status.{Status}
 use Rattle.ca_cli.specs.declared.status.Status.TheVariants.{Done, Usage, ShelfFault, SinkFault, BadLine, NoMemory, TooLong}
+
+some_same : (o : Option Request) (a b : Request) → o ≡ Some a → o ≡ Some b → a ≡ b
+some_same o a b e f = cc
+
+-- the files that a well-formed call asks for are held
+pub held_asked : (call : Call) (request : Request) → call.request ≡ Some request → IsWellFormed call → AreHeld call.content request.names most_bytes
+held_asked call request e w =
+    let same : w.request ≡ request = some_same _ w.request request w.asked e in
+    subst (λ (r : Request). AreHeld call.content r.names most_bytes) same w.held
 
 -- whatever a call came to, it may have stopped there
 stopped : (call : Call) (status : Status) (bytes : List ℕ) → IsOutcome call status bytes → IsStopped call
@@ -29,8 +38,3 @@ pub told_want : (status result : Status) (bytes : List ℕ) → status ≡ NoMem
     ((result ≡ status) × (bytes ≡ text_of_status status)) ⊎ ((result ≡ NoMemory) × (bytes ≡ [])) → IsDoneOrWant result
 told_want status result bytes e (inl t) = rw (t.0, e) tt
 told_want status result bytes e (inr t) = rw t.0 tt
-
--- the sink failed after a part of the bytes
-pub cut_off : (call : Call) (output : Change ℕ) (status : Status) (bytes : List ℕ) → IsOutcome call status bytes → (n : ℕ) → n < length bytes
-    → Adds output (take n bytes) → HasFailed output → HasRun call output SinkFault status bytes
-cut_off call output status bytes h n p t r = record { outcome = h; written = inr (record { same = refl; count = n; part = p; taken = t; risen = r }) }

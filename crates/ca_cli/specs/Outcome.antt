@@ -9,7 +9,7 @@ use Rattle.ca_ets.specs.Command.{Answer}
 use Rattle.ca_cmd.specs.File.{Numbered, IsRefusedAt}
 use Rattle.ca_cmd.specs.declared.fault.LineWhy.{LineWhy}
 use Rattle.ca_cli.specs.Call.{Call, Adds, HasFailed}
-use Rattle.ca_cli.specs.Headline.{AreFilesOf, IsAnswer, AllAreReplies}
+use Rattle.ca_cli.specs.Headline.{ArePairs, AreFilesOf, IsAnswer, AllAreReplies}
 use Rattle.ca_cli.specs.StatusText.{text_of_status}
 use Rattle.ca_cli.specs.Words.{Request}
 use Rattle.ca_cli.specs.declared.status.Status.{Status}
@@ -24,10 +24,7 @@ total_length files = sum_by (λ (file : List ℕ). length file) files
 
 -- the shelf's contents may be these files in order
 abbrev pub AreFetched : (List ℕ → Content) → List (List ℕ) → List (List ℕ) → Type 0
-AreFetched content [] [] = Unit {0}
-AreFetched content [] (file ∷ files) = ⊥
-AreFetched content (name ∷ names) [] = ⊥
-AreFetched content (name ∷ names) (file ∷ files) = Tells (content name) file × AreFetched content names files
+AreFetched content names files = ArePairs (λ (name file : List ℕ). Tells (content name) file) names files
 
 -- one fetch of each name in order, and each went well
 abbrev pub all_well : List (List ℕ) → List Fetched
@@ -98,15 +95,19 @@ IsOutcome call (BadLine file line at) bytes = IsRefused call file line at × (by
 IsOutcome call NoMemory bytes = IsStopped call × (bytes ≡ [])
 IsOutcome call (TooLong file) bytes = IsTooLong call file × (bytes ≡ text_of_status (TooLong file))
 
--- Files are asked for, the shelf tells their contents, these are within the limit together, and each line holds a command.
+-- The shelf tells the contents of these names, they are within this room together, and each line of them holds a command.
+pub record AreHeld (content : List ℕ → Content) (names : List (List ℕ)) (room : ℕ) : Type 0 where
+  pub files : List (List ℕ)
+  pub told : map content names ≡ map Holds files
+  pub limit : total_length files ≤ room
+  pub lines : List (List Numbered)
+  pub read : AreFilesOf files lines
+
+-- Files are asked for, and the shelf holds such files, within the limit.
 pub record IsWellFormed (call : Call) : Type 0 where
   pub request : Request
   pub asked : call.request ≡ Some request
-  pub files : List (List ℕ)
-  pub told : map call.content request.names ≡ map Holds files
-  pub limit : total_length files ≤ most_bytes
-  pub lines : List (List Numbered)
-  pub read : AreFilesOf files lines
+  pub held : AreHeld call.content request.names most_bytes
 
 -- The answers and the table were printed, or memory was not found.
 abbrev pub IsDoneOrWant : Status → Type 0

@@ -1,13 +1,19 @@
 -- What the words of the command line ask for.
-use Rattle.std.specs.Prelude.{ℕ, Bool, false, not, nat_le, ◌&&◌, ◌==◌, List, [], ◌∷◌, length, Option, Some, None, codes, if◌then◌else◌}
+use Rattle.std.specs.Prelude.{ℕ, Bool, false, map, not, nat_le, ◌&&◌, ◌==◌, List, [], ◌∷◌, length, Option, Some, None, codes, if◌then◌else◌}
 use Rattle.std.specs.List.{list_all}
 use Rattle.std.specs.Str.{bytes_eq}
+use Rattle.std.specs.String.{string_bytes}
+use Rattle.ca_cli.specs.declared.words.Request.{Request as Given}
 
 pub record Request : Type 0 where
   -- which element of an object is its key, counted from 1
   pub keypos : ℕ
   -- the names of the files in order
   pub names : List (List ℕ)
+
+-- a request of the program as plain data
+abbrev pub request_in : Given → Request
+request_in given = record { keypos = given.keypos; names = map string_bytes given.names.now }
 
 abbrev pub begins_with_dash : List ℕ → Bool
 begins_with_dash [] = false

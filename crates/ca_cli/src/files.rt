@@ -6,7 +6,7 @@ ghost use Rattle.ca_outside.specs.Known.{Holds, HasRisen, Grows};
 ghost use Rattle.ca_cmd.specs.File.{Numbered, IsFileOf};
 ghost use Rattle.ca_cmd.specs.Lines.{numbered};
 ghost use Rattle.ca_cli.specs.Call.{change_of, call_of};
-ghost use Rattle.ca_cli.specs.Outcome.{most_bytes, AreRead, IsOutcome, IsWellFormed};
+ghost use Rattle.ca_cli.specs.Outcome.{most_bytes, AreRead, AreHeld, IsOutcome};
 ghost use Rattle.ca_cli.specs.Reading.{wanted_of, IsRead, IsFault};
 ghost use Rattle.ca_cli.specs.StatusText.{text_of_status};
 ghost use Rattle.ca_cli.specs.Words.{Request};
@@ -76,23 +76,22 @@ pub fn read_all<F: Shelf>(
     ensures refused { IfErr result (λ status. (request : Request) → request.names ≡ map string_bytes names.now → IsOutcome
         (call_of (Some request) (F.content shelf.old) (change_of (F.fetches shelf.old) (F.fetches shelf.new) (F.faults shelf.old) (F.faults shelf.new)))
         status (text_of_status status)) }
-    ensures complete { (request : Request) → request.names ≡ map string_bytes names.now → IsWellFormed
-        (call_of (Some request) (F.content shelf.old) (change_of (F.fetches shelf.old) (F.fetches shelf.new) (F.faults shelf.old) (F.faults shelf.new)))
-        → ¬ HasRisen (F.faults shelf.old) (F.faults shelf.new) → IfErr result (λ status. status ≡ Status.NoMemory) }
+    ensures complete { AreHeld (F.content shelf.old) (map string_bytes names.now) most_bytes → ¬ HasRisen (F.faults shelf.old) (F.faults shelf.new)
+        → IfErr result (λ status. status ≡ Status.NoMemory) }
 
     ensures told { ¬ IsErrOf result Status.NoMemory → IsSome (F.fetches shelf.old) → IsSome (F.fetches shelf.new) }
     ensures later { F.faults shelf.old ≤ F.faults shelf.new }
 {
-    let mut all = Vec::new(alloc);
+    let Ok(mut all) = Vec::with_capacity(alloc, names.len()) else {
+        return Err(Status::NoMemory);
+    };
     let mut room = MOST_BYTES;
     let mut number = 0;
     for name in names {
         number += 1;
         let (lines, count) = read_one(alloc, shelf, name.as_str(), number, room)?;
         room -= count;
-        let Ok(()) = all.push(lines) else {
-            return Err(Status::NoMemory);
-        };
+        all.push_reserved(lines);
     }
     Ok(all)
 }

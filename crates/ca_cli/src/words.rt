@@ -2,7 +2,7 @@
 ghost use Rattle.std.specs.Prelude.{◌≡◌, ◌≤◌, None, Some, map, length, not, IfSome, MatchOption};
 ghost use Rattle.std.specs.List.{list_all};
 ghost use Rattle.std.specs.String.{string_bytes};
-ghost use Rattle.ca_cli.specs.Words.{begins_with_dash, are_names, request_of};
+ghost use Rattle.ca_cli.specs.Words.{begins_with_dash, are_names, request_in, request_of};
 
 // The most files that a call names.
 const MOST_FILES: usize = 64;
@@ -36,7 +36,7 @@ fn are_names(names: &[String]) -> bool
 pub fn request_of(words: &[String]) -> Option<Request<'_>>
     ensures asked { MatchOption result
         (request_of (map string_bytes words.now) ≡ None)
-        (λ request. request_of (map string_bytes words.now) ≡ Some (record { keypos = request.keypos; names = map string_bytes request.names.now })) }
+        (λ request. request_of (map string_bytes words.now) ≡ Some (request_in request)) }
     ensures first { IfSome result (λ request. 1 ≤ request.keypos) }
     ensures few { IfSome result (λ request. length request.names.now ≤ 64) }
 {
