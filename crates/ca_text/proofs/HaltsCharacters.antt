@@ -1,5 +1,5 @@
 -- Where the reading of characters between quotes halts, what it took begins such characters.
-use Rattle.std.proofs.Common.{◌≡◌, ◌≢◌, ℕ, zero, suc, ◌+◌, ◌-◌, ◌*◌, ◌<◌, ◌≤◌, true, false, ltb, leb, eqb, ◌&&◌, ◌||◌, List, [], ◌∷◌, ◌++◌, length, Option, None, Some, Ok, Err, refl, sym, subst, ◌∙◌, arith, lt-ltb, ⊎_elim}
+use Rattle.std.proofs.Common.{◌≡◌, ◌≢◌, ℕ, zero, suc, ◌+◌, ◌-◌, ◌*◌, ◌<◌, ◌≤◌, true, false, ltb, leb, eqb, ◌&&◌, ◌||◌, List, [], ◌∷◌, ◌++◌, length, Option, None, Some, Ok, refl, sym, subst, ◌∙◌, arith, lt-ltb, ⊎_elim}
 use Rattle.std.proofs.lemmas.List.{append-nil}
 use Rattle.std.proofs.lemmas.Bool.{leb-true, ltb-true, ltb-false}
 use Rattle.std.proofs.lemmas.Bool.Decides.{nat_tests}
@@ -7,18 +7,17 @@ use Rattle.std.specs.List.{list_all}
 use Rattle.std.specs.Char.{is_ascii_hexdigit, digit_value}
 use Rattle.ca_text.specs.Bytes.{backslash, close_brace, digit_zero, letter_n, letter_x, line_feed, open_brace}
 use Rattle.ca_text.specs.Grammar.{escape_of, IsCharacter, AreCharacters, Closed, OneMore}
-use Rattle.ca_text.specs.declared.fault.Fault.{Fault}
 use Rattle.ca_text.specs.declared.fault.Why.{Why}
 use Rattle.ca_text.specs.declared.fault.Why.TheVariants.{Syntax}
-use Rattle.ca_text.specs.Inner.Reading.{◌>>=◌, Read, syntax_fault, expect, point_at, is_point, may_stand, hex_after, hex_at, or_fault, escape_at, begins_character, character_at, next_point_at, closing_at, points_after, characters_at, most_point}
-use Rattle.ca_text.proofs.Tools.{chosen, both, either}
-use Rattle.ca_text.proofs.Local.{place, err_is}
+use Rattle.ca_text.specs.Inner.Reading.{◌>>=◌, Read, expect, point_at, is_point, may_stand, hex_after, hex_at, or_fault, escape_at, begins_character, character_at, next_point_at, closing_at, points_after, characters_at, most_point}
+use Rattle.ca_text.proofs.Yields.{expect_yields}
+use Rattle.ca_text.proofs.Tools.{both, either}
 use Rattle.ca_text.proofs.Tools.{either_way}
 use Rattle.ca_text.proofs.Points.{point_halts}
 use Rattle.ca_text.proofs.CharactersAgain.{hex_end}
 use Rattle.ca_text.proofs.Again.{expect_again}
 use Rattle.ca_text.proofs.Characters.{character_taken, next_taken}
-use Rattle.ca_text.proofs.Halts.{GoesOn, Halted, Halts, halted_here, halted_behind_as, halted_map, halted_as, bind_err, done_err, Reads, halted_cons, halted_same}
+use Rattle.ca_text.proofs.Halts.{GoesOn, HaltsAt, Halts, Reads, ok_halts, here_halts, if_halts, whole_halts, bind_halts, map_halts, behind_as, as_halts, cons_halts, same_halts, expect_halts}
 
 -- ---- what stands behind a backslash
 
@@ -57,33 +56,27 @@ module _ (most : ℕ) (low : 127 ≤ most) (high : 128 ≤ most → most ≡ mos
       let some : 0 < more = ⊎_elim (λ i. ltb-true 0 more i) (λ i. absurd cc) (either (ltb 0 more) (is_point most c) parts.1) in
       (digit_zero ∷ close_brace ∷ [], c * 16 + 0, hex_zero more c some (next_point c (leb-true c most parts.0) h)))
 
-  hex_after_halts : (bytes : List ℕ) (more c : ℕ) (f : Fault) → hex_after most more c bytes ≡ Err f → Halted (Reads (hex_after most more c)) bytes f
+  hex_after_halts : (bytes : List ℕ) (more c : ℕ) → HaltsAt (Reads (hex_after most more c)) bytes (hex_after most more c bytes)
   unfolding hex_after
-  hex_after_halts [] more c f e = halted_here _ Syntax [] f (err_is _ f e)
-  hex_after_halts (b ∷ bytes) more c f e =
+  hex_after_halts [] more c = here_halts Syntax []
+  hex_after_halts (b ∷ bytes) more c =
       let next = c * 16 + digit_value b in
-      ⊎_elim
-      (λ h. ⊎_elim
-      (λ i. let later = hex_after_halts bytes (more - 1) next f i.1 in
-      halted_cons (hex_after most more c) (hex_after most (more - 1) next) b bytes f (λ zs. rw (h.0, i.0) refl) (hex_goes (more - 1) next i.0) later)
-      (λ i. halted_here _ Syntax (b ∷ bytes) f (err_is _ f i.1))
-      (chosen (may_stand most (more - 1) next) _ _ (Err f) h.1))
-      (λ h. ⊎_elim
-      (λ i. let no = i.1 in absurd cc)
-      (λ i. halted_here _ Syntax (b ∷ bytes) f (err_is _ f i.1))
-      (chosen (eqb b close_brace && is_point most c) _ _ (Err f) h.1))
-      (chosen (is_ascii_hexdigit b && ltb 0 more) _ _ (Err f) e)
+      if_halts (is_ascii_hexdigit b && ltb 0 more)
+      (λ h. if_halts (may_stand most (more - 1) next)
+      (λ i. cons_halts (hex_after most more c) (hex_after most (more - 1) next) b (λ zs. rw (h, i) refl) (hex_goes (more - 1) next i)
+      (hex_after_halts bytes (more - 1) next))
+      (λ i. here_halts Syntax (b ∷ bytes)))
+      (λ h. if_halts (eqb b close_brace && is_point most c) (λ i. ok_halts) (λ i. here_halts Syntax (b ∷ bytes)))
 
   hex_halts : Halts (hex_at most) (Reads (hex_at most))
   unfolding hex_at
-  hex_halts [] f e = halted_here _ Syntax [] f (err_is _ f e)
-  hex_halts (b ∷ bytes) f e =
-      ⊎_elim
+  hex_halts [] = here_halts Syntax []
+  hex_halts (b ∷ bytes) =
+      if_halts (is_ascii_hexdigit b)
       (λ h. let n = digit_value b in
-      let closed = hex_end most 5 n [] (small_point n (digit_small b h.0)) in
-      halted_cons (hex_at most) (hex_after most 5 n) b bytes f (λ zs. rw h.0 refl) (close_brace ∷ [], n, closed) (hex_after_halts bytes 5 n f h.1))
-      (λ h. halted_here _ Syntax (b ∷ bytes) f (err_is _ f h.1))
-      (chosen (is_ascii_hexdigit b) _ _ (Err f) e)
+      let closed = hex_end most 5 n [] (small_point n (digit_small b h)) in
+      cons_halts (hex_at most) (hex_after most 5 n) b (λ zs. rw h refl) (close_brace ∷ [], n, closed) (hex_after_halts bytes 5 n))
+      (λ h. here_halts Syntax (b ∷ bytes))
 
   zero_read : hex_at most (digit_zero ∷ close_brace ∷ []) ≡ Ok (0, [])
   unfolding hex_at
@@ -92,31 +85,25 @@ module _ (most : ℕ) (low : 127 ≤ most) (high : 128 ≤ most → most ≡ mos
   abbrev opened : List ℕ → Read ℕ
   opened bytes = expect open_brace bytes >>= λ rest. hex_at most rest
 
-  opened_read : opened (open_brace ∷ digit_zero ∷ close_brace ∷ []) ≡ Ok (0, [])
-  opened_read = rw (expect_again open_brace (digit_zero ∷ close_brace ∷ [])) zero_read
+  opened_is : (zs : List ℕ) → opened (open_brace ∷ zs) ≡ hex_at most zs
+  opened_is zs = rw (expect_again open_brace zs) refl
 
   opened_halts : Halts opened (Reads opened)
-  unfolding expect
-  opened_halts [] f e = halted_here _ Syntax [] f (err_is _ f e)
-  opened_halts (b ∷ bytes) f e =
-      either_way (eqb b open_brace)
-      (λ h. let same : opened (b ∷ bytes) ≡ hex_at most bytes = rw h refl in
-      halted_cons opened (hex_at most) b bytes f (λ zs. rw h refl) (digit_zero ∷ close_brace ∷ [], 0, zero_read) (hex_halts bytes f (sym same ∙ e)))
-      (λ h. let same : opened (b ∷ bytes) ≡ syntax_fault (b ∷ bytes) = rw h refl in halted_here _ Syntax (b ∷ bytes) f (err_is _ f (sym same ∙ e)))
+  opened_halts bytes = bind_halts _ (expect_halts open_brace bytes) (λ rest e. whole_halts ((expect_yields open_brace bytes).is rest e)
+      (cons_halts opened (hex_at most) open_brace opened_is (digit_zero ∷ close_brace ∷ [], 0, zero_read) (hex_halts rest)))
 
-  or_stuck : (o : Option ℕ) (rest bytes : List ℕ) (f : Fault) → or_fault o rest bytes ≡ Err f → place Syntax bytes ≡ f
-  or_stuck None rest bytes f e = err_is _ f e
-  or_stuck (Some c) rest bytes f e = absurd cc
+  letter_halts : (o : Option ℕ) (b : ℕ) (bytes : List ℕ) → HaltsAt (Reads (escape_at most)) (b ∷ bytes) (or_fault o bytes (b ∷ bytes))
+  letter_halts None b bytes = here_halts Syntax (b ∷ bytes)
+  letter_halts (Some c) b bytes = ok_halts
 
   escape_halts : Halts (escape_at most) (Reads (escape_at most))
   unfolding escape_at
-  escape_halts [] f e = halted_here _ Syntax [] f (err_is _ f e)
-  escape_halts (b ∷ bytes) f e =
-      ⊎_elim
-      (λ h. halted_cons (escape_at most) opened b bytes f (λ zs. rw h.0 refl) (open_brace ∷ digit_zero ∷ close_brace ∷ [], 0, opened_read)
-      (opened_halts bytes f h.1))
-      (λ h. halted_here _ Syntax (b ∷ bytes) f (or_stuck (escape_of b) bytes (b ∷ bytes) f h.1))
-      (chosen (eqb b letter_x) _ _ (Err f) e)
+  escape_halts [] = here_halts Syntax []
+  escape_halts (b ∷ bytes) =
+      if_halts (eqb b letter_x)
+      (λ h. cons_halts (escape_at most) opened b (λ zs. rw h refl)
+      (open_brace ∷ digit_zero ∷ close_brace ∷ [], 0, opened_is (digit_zero ∷ close_brace ∷ []) ∙ zero_read) (opened_halts bytes))
+      (λ h. letter_halts (escape_of b) b bytes)
 
 -- ---- characters
 
@@ -134,41 +121,33 @@ module _ (close most : ℕ) (small : close < 128) (low : 127 ≤ most) (high : 1
 
   character_halts : Halts (character_at close most) (Reads (character_at close most))
   unfolding character_at
-  character_halts [] f e = halted_here _ Syntax [] f (err_is _ f e)
-  character_halts (b ∷ bytes) f e =
-      ⊎_elim
-      (λ h. halted_cons (character_at close most) (escape_at most) b bytes f (λ zs. rw h.0 refl) (letter_n ∷ [], line_feed, newline_read)
-      (escape_halts most low high bytes f h.1))
-      (λ h. ⊎_elim
-      (λ i. halted_same (character_at close most) point_at b bytes f (λ zs. rw (h.0, i.0) refl) (point_halts (b ∷ bytes) f i.1))
-      (λ i. halted_here _ Syntax (b ∷ bytes) f (err_is _ f i.1))
-      (chosen (begins_character close most b) _ _ (Err f) h.1))
-      (chosen (eqb b backslash) _ _ (Err f) e)
+  character_halts [] = here_halts Syntax []
+  character_halts (b ∷ bytes) =
+      if_halts (eqb b backslash)
+      (λ h. cons_halts (character_at close most) (escape_at most) b (λ zs. rw h refl) (letter_n ∷ [], line_feed, newline_read)
+      (escape_halts most low high bytes))
+      (λ h. if_halts (begins_character close most b)
+      (λ i. same_halts (character_at close most) point_at b (λ zs. rw (h, i) refl) (point_halts (b ∷ bytes)))
+      (λ i. here_halts Syntax (b ∷ bytes)))
 
   one_halts : Halts (character_at close most) (IsPointAt close most)
-  one_halts bytes f e =
-      halted_as (Reads (character_at close most)) (IsPointAt close most) bytes f (character_halts bytes f e)
-      (λ text c is. let r = (character_taken close most small low high text).is (c, []) is in
+  one_halts bytes =
+      as_halts (λ text c is. let r = (character_taken close most small low high text).is (c, []) is in
       let whole : r.text ≡ text = sym (r.whole ∙ append-nil r.text) in
       (c, subst (λ x. IsPointAt close most x c) whole (r.character, r.point)))
+      (character_halts bytes)
 
   next_halts : Halts (next_point_at close most) (IsPointAt close most)
   unfolding next_point_at
-  next_halts [] f e = halted_here _ Syntax [] f (err_is _ f e)
-  next_halts (b ∷ bytes) f e =
-      ⊎_elim
-      (λ h. let no = h.1 in absurd cc)
-      (λ h. one_halts (b ∷ bytes) f (done_err (character_at close most (b ∷ bytes)) (λ x. (Some x.0, x.1)) f h.1))
-      (chosen (eqb b close) _ _ (Err f) e)
+  next_halts [] = here_halts Syntax []
+  next_halts (b ∷ bytes) = if_halts (eqb b close) (λ h. ok_halts) (λ h. bind_halts _ (one_halts (b ∷ bytes)) (λ x e. ok_halts))
 
-  closing_stuck : (over : Why) (bytes : List ℕ) (f : Fault) → closing_at over close most bytes ≡ Err f → (why : Why) × (place why bytes ≡ f)
+  closing_halts : (over : Why) (n : ℕ) (bytes : List ℕ) → HaltsAt (AreWithin close most n) bytes (closing_at over close most bytes)
   unfolding closing_at
-  closing_stuck over [] f e = (Syntax, err_is _ f e)
-  closing_stuck over (b ∷ bytes) f e =
-      ⊎_elim
-      (λ h. let no = h.1 in absurd cc)
-      (λ h. ⊎_elim (λ i. (over, err_is _ f i.1)) (λ i. (Syntax, err_is _ f i.1)) (chosen (begins_character close most b) _ _ (Err f) h.1))
-      (chosen (eqb b close) _ _ (Err f) e)
+  closing_halts over n [] = here_halts Syntax []
+  closing_halts over n (b ∷ bytes) =
+      if_halts (eqb b close) (λ h. ok_halts)
+      (λ h. if_halts (begins_character close most b) (λ i. here_halts over (b ∷ bytes)) (λ i. here_halts Syntax (b ∷ bytes)))
 
   one_more : (n c : ℕ) (first rest cs : List ℕ) → IsPointAt close most first c → AreWithin close most n rest cs
       → AreWithin close most (suc n) (first ++ rest) (c ∷ cs)
@@ -178,31 +157,23 @@ module _ (close most : ℕ) (small : close < 128) (low : 127 ≤ most) (high : 1
   closed : (n : ℕ) → AreWithin close most n (close ∷ []) []
   closed n = (Closed close, refl, omega arith)
 
-  behind_next : (over : Why) (n : ℕ) (bytes : List ℕ) (o : Option ℕ) (after : List ℕ) (f : Fault)
-      → Halts (characters_at over close most n) (AreWithin close most n)
-      → next_point_at close most bytes ≡ Ok (o, after) → points_after (characters_at over close most n) (o, after) ≡ Err f
-      → Halted (AreWithin close most (suc n)) bytes f
-  behind_next over n bytes None after f later e h = absurd cc
-  behind_next over n bytes (Some c) after f later e h =
+  behind_next : (over : Why) (n : ℕ) (bytes : List ℕ) (o : Option ℕ) (after : List ℕ) → Halts (characters_at over close most n) (AreWithin close most n)
+      → next_point_at close most bytes ≡ Ok (o, after)
+      → HaltsAt (AreWithin close most (suc n)) bytes (points_after (characters_at over close most n) (o, after))
+  behind_next over n bytes None after later e = ok_halts
+  behind_next over n bytes (Some c) after later e =
       let first = (next_taken close most small low high bytes).is (Some c, after) e in
-      let halted = later after f (done_err (characters_at over close most n after) (λ y. (c ∷ y.0, y.1)) f h) in
       let is : IsPointAt close most first.text c = (first.character, first.point) in
-      subst (λ x. Halted (AreWithin close most (suc n)) x f) (sym first.whole)
-      (halted_behind_as (AreWithin close most n) (AreWithin close most (suc n)) first.text after f halted
-      (close ∷ [], c ∷ [], one_more n c first.text (close ∷ []) [] is (closed n))
-      (λ part cs are. (c ∷ cs, one_more n c first.text part cs is are)))
+      whole_halts first.whole
+      (behind_as first.text (close ∷ [], c ∷ [], one_more n c first.text (close ∷ []) [] is (closed n))
+      (λ part cs are. (c ∷ cs, one_more n c first.text part cs is are)) (bind_halts _ (later after) (λ x k. ok_halts)))
 
   within_halts : (over : Why) (n : ℕ) → Halts (characters_at over close most n) (AreWithin close most n)
   unfolding characters_at
-  within_halts over zero bytes f e =
-      let stuck = closing_stuck over bytes f (done_err (closing_at over close most bytes) (λ rest. ([], rest)) f e) in
-      halted_here _ stuck.0 bytes f stuck.1
-  within_halts over (suc n) bytes f e =
-      ⊎_elim
-      (λ h. halted_map (IsPointAt close most) (AreWithin close most (suc n)) bytes f (next_halts bytes f h)
-      (λ part c is. (close ∷ [], c ∷ [], one_more n c part (close ∷ []) [] is (closed n))))
-      (λ s. behind_next over n bytes s.0.0 s.0.1 f (within_halts over n) s.1 s.2)
-      (bind_err (next_point_at close most bytes) (λ x. points_after (characters_at over close most n) x) f e)
+  within_halts over zero bytes = bind_halts _ (closing_halts over 0 bytes) (λ x e. ok_halts)
+  within_halts over (suc n) bytes =
+      bind_halts _ (map_halts (λ part c is. (close ∷ [], c ∷ [], one_more n c part (close ∷ []) [] is (closed n))) (next_halts bytes))
+      (λ x e. behind_next over n bytes x.0 x.1 (within_halts over n) e)
 
 -- Where the reading of characters between quotes halts, what it took goes on to such characters.
 pub characters_halts : (over : Why) (close most n : ℕ) → close < 128 → close ≢ backslash → 127 ≤ most → (128 ≤ most → most ≡ most_point)

@@ -74,7 +74,7 @@ module _ (limits : Limits) (levels : ℕ) where
   pub begins_before : (bytes : List ℕ) (f : Fault) (k : ℕ) → term_at limits (suc levels) bytes ≡ Err f → k + f.left ≤ length bytes
       → Begins limits (suc levels) (take k bytes)
   begins_before bytes f k e few =
-      let h = term_halts limits (suc levels) bytes f e in
+      let h = (term_halts limits (suc levels) bytes).is f e in
       let long : length bytes ≡ length h.front + length h.behind = ap (λ (l : List ℕ). length l) h.whole ∙ length-append h.front h.behind in
       let zero_begins : Begins limits (suc levels) [] = (digit_zero ∷ [], Integer (pos 0), zero_text limits levels) in
       let goes : Begins limits (suc levels) h.front =

@@ -12,13 +12,12 @@ use Rattle.bstr.proofs.lemmas.PieceLemmas.{piece-bounds}
 use Rattle.bstr.proofs.lemmas.SoundLemmas.{SpellsChar-decoded}
 use Rattle.ca_term.specs.Character.{IsNoCharacter}
 use Rattle.ca_term.proofs.Characters.{no_lead, no_character}
-use Rattle.ca_text.specs.declared.fault.Fault.{Fault}
 use Rattle.ca_text.specs.declared.fault.Why.TheVariants.{Syntax}
 use Rattle.ca_text.specs.Inner.Reading.{syntax_fault, begun, point_of, point_at}
 use Rattle.ca_text.proofs.Yields.{Yields, ok_yields, err_yields}
 use Rattle.ca_text.proofs.Tools.{both, either_way, pair_is}
-use Rattle.ca_text.proofs.Halts.{Halts, Reads}
-use Rattle.ca_text.proofs.Local.{IsLocal, err_is, place}
+use Rattle.ca_text.proofs.Halts.{HaltsAt, Halts, Reads, ok_halts, fault_halts}
+use Rattle.ca_text.proofs.Local.{IsLocal, place}
 
 -- the code point c stands at the front
 pub record IsPointOf (bytes : List ℕ) (c : ℕ) (rest : List ℕ) : Type 0 where
@@ -224,19 +223,13 @@ point_local bytes =
 
 -- What is taken where no code point is read begins one.
 pub point_halts : Halts point_at (Reads point_at)
-point_halts bytes f e =
+point_halts bytes =
     ⊎_elim
-    (λ (p : PointRead bytes). let no = p.read in absurd cc)
+    (λ (p : PointRead bytes). subst (HaltsAt (Reads point_at) bytes) (sym p.read) ok_halts)
     (λ (k : PointStuck bytes).
     let again : point_at (k.front ++ k.is.next ∷ k.is.rest) ≡ Ok (k.is.point, []) =
     ap point_at (sym k.is.begins ∙ sym (append-nil (encode_utf8 k.is.point))) ∙ point_again k.is.point [] k.is.scalar in
-    record {
-      front = k.front;
-      behind = k.behind;
-      whole = k.whole;
-      left = ap (λ (g : Fault). g.left) (err_is {A = ℕ × List ℕ} f (place Syntax k.behind) (sym e ∙ k.read));
-      goes_on = inr (k.is.next ∷ k.is.rest, k.is.point, again);
-    })
+    subst (HaltsAt (Reads point_at) bytes) (sym k.read) (fault_halts Syntax k.front k.behind k.whole (inr (k.is.next ∷ k.is.rest, k.is.point, again))))
     (point_cases bytes)
 
 -- ---- how a code point begins

@@ -308,7 +308,7 @@ module _ (limits : Limits) (levels : ℕ) (element : List ℕ → Read Tree) (so
         (subst (λ x. YieldsTerm limits (suc levels) (skip tail) (other x)) gap (others_sound (skip tail))))
 
     -- What is read behind a head and blanks is what follows a head.
-    pub next_taken : (bytes : List ℕ) → Yields (IsNext bytes) (next_at other bytes)
+    next_taken : (bytes : List ℕ) → Yields (IsNext bytes) (next_at other bytes)
     unfolding next_at
     next_taken [] = err_yields
     next_taken (b ∷ bytes) =
@@ -363,14 +363,18 @@ module _ (limits : Limits) (levels : ℕ) (element : List ℕ → Read Tree) (so
         (λ h. barred bytes head tail r h.0 h.1 rest first h.2 h.3 h.4)
         next)
 
+    -- What is read as a head and what follows it is so.
+    pub cell_step_taken : (bytes : List ℕ)
+        → Yields (λ (x : Tree × Next). (r : List ℕ) × IsTermAt limits levels bytes x.0 r × IsNext (skip r) x.1) (cell_step element other bytes)
+    unfolding cell_step
+    cell_step_taken bytes = bind_yields _ (sound bytes) (λ x is. bind_yields _ (next_taken (skip x.1)) (λ next n. ok_yields (x.1, is, n)))
+
     -- What are read as cells are cells.
     pub cells_taken : (n : ℕ) → Takes (AreCells limits levels) (cells_at element other n)
-    unfolding cells_at cell_step
+    unfolding cells_at
     cells_taken zero bytes = err_yields
     cells_taken (suc n) bytes =
-        let step : Yields (λ (x : Tree × Next). (r : List ℕ) × IsTermAt limits levels bytes x.0 r × IsNext (skip r) x.1) (cell_step element other bytes) =
-        bind_yields _ (sound bytes) (λ x is. bind_yields _ (next_taken (skip x.1)) (λ next n. ok_yields (x.1, is, n))) in
-        bind_yields _ step (λ x p. cells_next (cells_at element other n) bytes x.0 p.0 x.1 (cells_taken n) p.1 p.2)
+        bind_yields _ (cell_step_taken bytes) (λ x p. cells_next (cells_at element other n) bytes x.0 p.0 x.1 (cells_taken n) p.1 p.2)
 
     list_from : (bytes blanks inner : List ℕ) → bytes ≡ blanks ++ inner → AreBlanks blanks
         → YieldsTerm limits (suc levels) (open_bracket ∷ bytes) (list_at element other inner)
