@@ -1,7 +1,7 @@
 -- Command words, and the commands that they make of their arguments.
 use Rattle.std.specs.Prelude.{◌≡◌, ℕ, suc, List, [], ◌∷◌, take, drop, slice_index_or, codes, bytes_eq, Option, None, Some, Ok, if◌then◌else◌}
 use Rattle.ca_term.specs.Tree.{Tree, Nil}
-use Rattle.ca_ets.specs.Command as command
+use Rattle.ca_ets.specs.declared.command.Cmd.TheVariants as command
 use Rattle.ca_ets.specs.Command.{Command}
 use Rattle.ca_text.specs.Grammar.{is_blank}
 use Rattle.ca_cmd.specs.declared.fault.LineWhy.TheVariants.{UnknownWord}

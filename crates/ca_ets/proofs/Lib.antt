@@ -1,4 +1,3 @@
-pub mod Exits
 pub mod Merges
 pub mod Objects
 pub mod OneClient

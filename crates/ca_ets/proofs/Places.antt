@@ -10,7 +10,7 @@ use Rattle.ca_term.specs.Tree.{Tree, Nil}
 use Rattle.ca_term.specs.Order.{term_cmp}
 use Rattle.ca_term.proofs.TotalOrder.{tree_flip, term_cmp_total}
 use Rattle.ca_term.specs.Object.{key_of}
-use Rattle.ca_ets.specs.OrderedMap.{below, get, above, put, AreAbove, IsTable}
+use Rattle.ca_ets.specs.OrderedMap.{below, get, above, put, del, AreAbove, IsTable}
 use Rattle.ca_ets.specs.Place.{IsAt, IsBefore, IsPlace, placed}
 
 -- the keys of all these are greater than k
@@ -18,8 +18,7 @@ abbrev pub AreGreater : ℕ → List Tree → Tree → Type 0
 AreGreater p [] k = Unit {0}
 AreGreater p (o ∷ m) k = (term_cmp (key_of p o) k ≡ Greater) × AreGreater p m k
 
--- Nothing stands below a key that is less than all.
-pub none_below : (p : ℕ) (m : List Tree) (k : Tree) → AreGreater p m k → below p m k ≡ []
+none_below : (p : ℕ) (m : List Tree) (k : Tree) → AreGreater p m k → below p m k ≡ []
 none_below p [] k g = refl
 none_below p (o ∷ m) k g = rw g.0 (none_below p m k g.1)
 
@@ -30,6 +29,10 @@ none_at p (o ∷ m) k g = rw g.0 (none_at p m k g.1)
 all_above : (p : ℕ) (m : List Tree) (k : Tree) → AreGreater p m k → above p m k ≡ m
 all_above p [] k g = refl
 all_above p (o ∷ m) k g = rw g.0 (ap (λ x. o ∷ x) (all_above p m k g.1))
+
+none_out : (p : ℕ) (m : List Tree) (k : Tree) → AreGreater p m k → del p m k ≡ m
+none_out p [] k g = refl
+none_out p (o ∷ m) k g = rw g.0 (ap (λ x. o ∷ x) (none_out p m k g.1))
 
 -- what stands above an object whose key is k
 greater_than : (p : ℕ) (o : Tree) (m : List Tree) (k : Tree) → term_cmp (key_of p o) k ≡ Equal → AreAbove p o m → AreGreater p m k
@@ -46,6 +49,7 @@ at_first p o m k a e =
       less = rw e (none_below p m k g);
       equal = rw e (ap (λ x. o ∷ x) (none_at p m k g));
       greater = rw e (all_above p m k g);
+      others = rw e (none_out p m k g);
     }
 
 at_more : (p : ℕ) (o : Tree) (m : List Tree) (k : Tree) (i : ℕ) → term_cmp (key_of p o) k ≡ Less → IsAt p m k i → IsAt p (o ∷ m) k (suc i)
@@ -56,13 +60,21 @@ at_more p o m k i e h =
       less = rw e (ap (λ x. o ∷ x) h.less);
       equal = rw e h.equal;
       greater = rw (e, s) h.greater;
+      others = rw e (ap (λ x. o ∷ x) h.others);
     }
 
 before_first : (p : ℕ) (m : List Tree) (k : Tree) → AreGreater p m k → IsBefore p m k 0
-before_first p m k g = record { in_range = omega arith; less = none_below p m k g; equal = none_at p m k g; greater = all_above p m k g }
+before_first p m k g =
+    record { in_range = omega arith; less = none_below p m k g; equal = none_at p m k g; greater = all_above p m k g; others = none_out p m k g }
 
 before_more : (p : ℕ) (o : Tree) (m : List Tree) (k : Tree) (i : ℕ) → term_cmp (key_of p o) k ≡ Less → IsBefore p m k i → IsBefore p (o ∷ m) k (suc i)
-before_more p o m k i e h = record { in_range = omega arith; less = rw e (ap (λ x. o ∷ x) h.less); equal = rw e h.equal; greater = rw e h.greater }
+before_more p o m k i e h = record {
+  in_range = omega arith;
+  less = rw e (ap (λ x. o ∷ x) h.less);
+  equal = rw e h.equal;
+  greater = rw e h.greater;
+  others = rw e (ap (λ x. o ∷ x) h.others);
+}
 
 -- an object of a table is less than a later one
 above_item : (p : ℕ) (o : Tree) (m : List Tree) (i : ℕ) (d : Tree) → AreAbove p o m → i < length m → term_cmp (key_of p o) (key_of p (get_or m i d)) ≡ Less

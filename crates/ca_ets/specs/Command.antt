@@ -3,17 +3,15 @@ use Rattle.std.specs.Prelude.{◌≡◌, ◌≤◌, ℕ, Bool, true, List, Resul
 use Rattle.ca_term.specs.Tree.{Tree}
 use Rattle.ca_term.specs.Object.{fits}
 use Rattle.ca_ets.specs.declared.command.Cmd.{Cmd}
-use Rattle.ca_ets.specs.declared.command.Cmd.TheVariants as cmd
 use Rattle.ca_ets.specs.declared.command.Reply.{Reply}
 use Rattle.ca_ets.specs.declared.command.Reply.TheVariants as reply
 use Rattle.ca_ets.specs.declared.command.Cont.{Cont}
 use Rattle.ca_ets.specs.declared.command.Cont.TheVariants as cont
 use Rattle.ca_ets.specs.declared.command.Fault.{Fault}
 
--- a call of one client
-pub data Command : Type 0 where
-  Insert : Tree → Command
-  Lookup : Tree → Command
+-- a call of one client: the terms of a `Cmd` are trees here
+abbrev pub Command : Type 0
+Command = Cmd
 
 -- the reply to a command
 pub data Response : Type 0 where
@@ -47,8 +45,7 @@ abbrev pub Answer : Type 0
 Answer = Result Response Refusal
 
 abbrev pub command_of : Cmd → Command
-command_of (cmd.Insert o) = Insert o
-command_of (cmd.Lookup k) = Lookup k
+command_of cmd = cmd
 
 abbrev pub response_of : Reply → Response
 response_of (reply.Truth b) = Truth b

@@ -1,11 +1,11 @@
 -- Where a key stands in a table, or would stand, and the lists that stand around it.
 use Rattle.std.specs.Prelude.{◌≡◌, ℕ, true, false, ◌+◌, ◌<◌, ◌≤◌, List, [], ◌∷◌, length, take, drop, slice_set, slice_index_or, Result, Ok, Err}
-use Rattle.std.specs.List.{insert}
+use Rattle.std.specs.List.{insert, remove}
 use Rattle.ca_term.specs.Tree.{Tree, Nil}
 use Rattle.ca_term.specs.Object.{fits}
 use Rattle.ca_ets.specs.declared.table.KeyPlace.{KeyPlace}
 use Rattle.ca_ets.specs.declared.table.KeyPlace.TheVariants.{TooLong, At, Before}
-use Rattle.ca_ets.specs.OrderedMap.{below, get, above}
+use Rattle.ca_ets.specs.OrderedMap.{below, get, above, del}
 
 -- The object at this place has the key.
 pub record IsAt (keypos : ℕ) (map : List Tree) (k : Tree) (at : ℕ) : Type 0 where
@@ -13,6 +13,7 @@ pub record IsAt (keypos : ℕ) (map : List Tree) (k : Tree) (at : ℕ) : Type 0 
   pub less : below keypos map k ≡ take at map
   pub equal : get keypos map k ≡ slice_index_or map at Nil ∷ []
   pub greater : above keypos map k ≡ drop (at + 1) map
+  pub others : del keypos map k ≡ remove map at
 
 -- No object has the key, and an object that had it would stand before this place.
 pub record IsBefore (keypos : ℕ) (map : List Tree) (k : Tree) (at : ℕ) : Type 0 where
@@ -20,6 +21,7 @@ pub record IsBefore (keypos : ℕ) (map : List Tree) (k : Tree) (at : ℕ) : Typ
   pub less : below keypos map k ≡ take at map
   pub equal : get keypos map k ≡ []
   pub greater : above keypos map k ≡ drop at map
+  pub others : del keypos map k ≡ map
 
 abbrev pub IsPlace : ℕ → List Tree → Tree → Result ℕ ℕ → Type 0
 IsPlace keypos map k (Ok at) = IsAt keypos map k at

@@ -4,7 +4,8 @@ use Rattle.std.specs.Prelude.{ℕ, true, List, if◌then◌else◌}
 use Rattle.ca_term.specs.Tree.{Tree}
 use Rattle.ca_term.specs.Object.{is_object, fits}
 use Rattle.ca_ets.specs.OrderedMap.{put, get}
-use Rattle.ca_ets.specs.Command.{Command, Insert, Lookup, Response, Truth, Items, Error, Continuation, response_of}
+use Rattle.ca_ets.specs.Command.{Command, Response, Truth, Items, Error, Continuation, response_of}
+use Rattle.ca_ets.specs.declared.command.Cmd.TheVariants.{Insert, Lookup}
 use Rattle.ca_ets.specs.declared.command.Fault.TheVariants.{BadArg, Size}
 use Rattle.ca_ets.specs.declared.command.Reply.{Reply}
 

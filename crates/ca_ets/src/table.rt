@@ -92,7 +92,7 @@ impl ListTable {
     }
 
     // `insert`: the copy is made before the table is changed.
-    #[tactic(auto, using(crate::proofs::Exits::not_an_object, crate::proofs::Exits::too_long, crate::proofs::Exits::put_is, crate::proofs::Exits::put_keeps, crate::proofs::Places::place_range))]
+    #[tactic(auto, using(crate::proofs::Steps::not_an_object, crate::proofs::Steps::too_long, crate::proofs::Steps::put_is, crate::proofs::Steps::put_keeps, crate::proofs::Places::place_range))]
     fn insert(&mut self, alloc: Global, object: &Term) -> Result<Reply, AllocError>
         ensures step { (continuation : Continuation) → IfOk result (λ reply. step_of_insert self.old.keypos self.old.objects continuation object.now ≡ step_of_reply self.new.objects continuation reply) }
         ensures keypos { self.new.keypos ≡ self.old.keypos }
