@@ -1,6 +1,5 @@
 //! One line of a command file.
-ghost use Rattle.std.specs.Prelude.{◌≡◌, ◌≤◌, length, option_map, IfOk, OnOk};
-ghost use Rattle.ca_ets.specs.Command.{command_of};
+ghost use Rattle.std.specs.Prelude.{◌≡◌, ◌≤◌, length, IfOk, OnOk};
 ghost use Rattle.ca_cmd.specs.Content.{IsLine, IsText, text_in};
 ghost use Rattle.ca_cmd.specs.Finds.{Finds};
 ghost use Rattle.ca_cmd.specs.Word.{IsCommand};
@@ -16,7 +15,7 @@ use std::alloc::Global;
 fn read_command(alloc: Global, size: usize, text: &[u8]) -> Result<Cmd, LineFault>
     requires short { size ≤ MOST_LINE_BYTES }
     requires ends_it { length text.now ≤ size }
-    ensures { Finds command_of (IsCommand size text.now) result }
+    ensures { Finds (λ cmd. cmd) (IsCommand size text.now) result }
 {
     let (word, rest) = text.split_at(word_length(text));
     match Word::of(word) {
@@ -45,7 +44,7 @@ fn text_in(line: &[u8]) -> Result<&[u8], LineFault>
 
 // The command that a line holds, if it holds one.
 pub(crate) fn read_line(alloc: Global, line: &[u8]) -> Result<Option<Cmd>, LineFault>
-    ensures { Finds (option_map command_of) (IsLine line.now) result }
+    ensures { Finds (λ held. held) (IsLine line.now) result }
 {
     let text = text_in(line)?;
     match text {

@@ -1,6 +1,5 @@
 //! Command words.
 ghost use Rattle.std.specs.Prelude.{◌≡◌, ◌≤◌, ◌<◌, [], ◌∷◌, ◌++◌, length};
-ghost use Rattle.ca_ets.specs.Command.{command_of};
 ghost use Rattle.ca_text.specs.Grammar.{is_blank};
 ghost use Rattle.ca_cmd.specs.Finds.{Finds};
 ghost use Rattle.ca_cmd.specs.Word.{IsOfForm, command_with, count_of, form_of, word_length, word_of};
@@ -44,7 +43,7 @@ impl Word {
     #[tactic(auto, using(crate::proofs::Arguments::last_argument))]
     fn command(self, mut arguments: Vec<Term>) -> Cmd
         requires { length arguments.items ≡ count_of (form_of self) }
-        ensures { command_of result ≡ command_with (form_of self) arguments.items }
+        ensures { result ≡ command_with (form_of self) arguments.items }
     {
         match self {
             Word::Insert => Cmd::Insert(take_last(&mut arguments)),
@@ -56,7 +55,7 @@ impl Word {
     pub(crate) fn read(self, alloc: Global, size: usize, bytes: &[u8]) -> Result<Cmd, LineFault>
         requires short { size ≤ MOST_LINE_BYTES }
         requires ends_it { length bytes.now ≤ size }
-        ensures { Finds command_of (IsOfForm size (form_of self) bytes.now) result }
+        ensures { Finds (λ cmd. cmd) (IsOfForm size (form_of self) bytes.now) result }
     {
         let (arguments, rest) = arguments(alloc, size, self.count(), bytes)?;
         end(size, rest)?;

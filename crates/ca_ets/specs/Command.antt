@@ -44,9 +44,6 @@ pub data Refusal : Type 0 where
 abbrev pub Answer : Type 0
 Answer = Result Response Refusal
 
-abbrev pub command_of : Cmd → Command
-command_of cmd = cmd
-
 abbrev pub response_of : Reply → Response
 response_of (reply.Truth b) = Truth b
 response_of (reply.Value t) = Value t

@@ -1,7 +1,7 @@
 //! A table as a list of objects in key order.
 ghost use Rattle.std.specs.Prelude.{◌≡◌, ◌≤◌, [], ◌∷◌, length, IfOk, OnOk, OnErr};
 ghost use Rattle.std.specs.List.Sorted.{IsSearchInRange};
-ghost use Rattle.ca_ets.specs.Command.{Continuation, IsContinuation, command_of, continuation_of};
+ghost use Rattle.ca_ets.specs.Command.{Continuation, IsContinuation, continuation_of};
 ghost use Rattle.ca_ets.specs.OrderedMap.{IsTable};
 ghost use Rattle.ca_ets.specs.Place.{IsKeyPlace, IsPlace, placed};
 ghost use Rattle.ca_ets.specs.Step.{step, step_of_insert, step_of_lookup, step_of_reply};
@@ -79,7 +79,7 @@ impl ListTable {
     /// Source: the ets manual's text on each call; the order of the checks and the error `Size` are this project's own.
     pub fn apply(&mut self, alloc: Global, cmd: &Cmd, cont: &mut Cont) -> Result<Reply, AllocError>
         requires { IsContinuation (continuation_of cont.old) }
-        ensures step { IfOk result (λ reply. step self.old.keypos self.old.objects (continuation_of cont.old) (command_of cmd.now) ≡ step_of_reply self.new.objects (continuation_of cont.new) reply) }
+        ensures step { IfOk result (λ reply. step self.old.keypos self.old.objects (continuation_of cont.old) cmd.now ≡ step_of_reply self.new.objects (continuation_of cont.new) reply) }
         ensures continuation { IsContinuation (continuation_of cont.new) }
         ensures keypos { self.new.keypos ≡ self.old.keypos }
         ensures table_unchanged { OnErr result (self.new ≡ self.old) }
