@@ -11,7 +11,8 @@ use Rattle.ca_cli.specs.Headline.{AreReplies, AllAreReplies}
 use Rattle.ca_cli.specs.InTurn.{answers_of, run_in_turn}
 
 -- Where each command has a reply, none is left out.
-all_replied : (commands : List Command) (replies : List Response) → length commands ≡ length replies → commands_of_replies commands (answers_of replies) ≡ commands
+all_replied : (commands : List Command) (replies : List Response) → length commands ≡ length replies
+    → commands_of_replies commands (answers_of replies) ≡ commands
 all_replied [] replies e = refl
 all_replied (c ∷ commands) [] e = absurd (omega arith)
 all_replied (c ∷ commands) (r ∷ replies) e = ap (λ x. c ∷ x) (all_replied commands replies (omega arith))
@@ -40,7 +41,8 @@ more_in_turn p done answers t (commands ∷ files) e =
     let own = answers_of run.replies in
     let all = all_replied commands run.replies (as_many p t Never commands) in
     let next = explained_more p done answers t run.table commands own e (as_many p t Never commands ∙ sym (length_answers run.replies))
-    (ap (λ (x : List Command). (run_in_order p t Never x).replies) all ∙ sym (replies_back run.replies)) (ap (λ (x : List Command). (run_in_order p t Never x).table) all) in
+    (ap (λ (x : List Command). (run_in_order p t Never x).replies) all ∙ sym (replies_back run.replies))
+    (ap (λ (x : List Command). (run_in_order p t Never x).table) all) in
     let rest = run_in_turn p run.table files in
     subst (λ (x : List (List Command)). Explained p x (answers ++ own ∷ rest.answers) rest.table) (append_assoc done (commands ∷ []) files)
     (subst (λ (x : List (List Answer)). Explained p ((done ++ commands ∷ []) ++ files) x rest.table) (append_assoc answers (own ∷ []) rest.answers)

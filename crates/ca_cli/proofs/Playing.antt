@@ -18,7 +18,7 @@ abbrev table_after : ℕ → List Tree → Continuation → List Numbered → Li
 table_after p m k lines = (run_in_order p m k (commands_in lines)).table
 
 -- These lines are left, and go on from this table, continuation and text to the table and the text that all lines come to.
-pub record IsPlaying (p : ℕ) (before : List Tree) (lines : List Numbered) (front : List ℕ) (m : List Tree) (k : Continuation) (left : List Numbered) (text : List ℕ) : Type 0 where
+pub record IsPlaying (p : ℕ) (before m : List Tree) (k : Continuation) (lines left : List Numbered) (front text : List ℕ) : Type 0 where
   pub valid : IsContinuation k
   pub table : table_after p m k left ≡ table_after p before Never lines
   pub whole : with_answers p m k left text ≡ with_answers p before Never lines front
@@ -31,6 +31,6 @@ abbrev table_of_clients : ℕ → List Tree → List (List Numbered) → List Tr
 table_of_clients p m files = (run_in_turn p m (map commands_in files)).table
 
 -- These clients are left, and go on from this table and text to the table and the text that all clients come to.
-pub record ArePlaying (p : ℕ) (before : List Tree) (files : List (List Numbered)) (front : List ℕ) (m : List Tree) (client : ℕ) (left : List (List Numbered)) (text : List ℕ) : Type 0 where
+pub record ArePlaying (p client : ℕ) (before m : List Tree) (files left : List (List Numbered)) (front text : List ℕ) : Type 0 where
   pub table : table_of_clients p m left ≡ table_of_clients p before files
   pub whole : with_clients p m client left text ≡ with_clients p before 1 files front

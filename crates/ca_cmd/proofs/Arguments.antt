@@ -29,8 +29,8 @@ still_refused size bytes count zero e p = p
 still_refused size bytes count (suc more) e p = (Err e, still_refused size bytes count more e p, refl)
 
 -- A fault of one more argument is a fault of all arguments.
-pub stays_refused : (size : ℕ) (bytes : List ℕ) (count whole : ℕ) (terms : List Tree) (rest : List ℕ) (e : LineFault) → AreArguments size bytes count (Ok (terms, rest))
-    → IsFault (IsArgument size rest) e → suc count ≤ whole → IsFault (AreArguments size bytes whole) e
+pub stays_refused : (size : ℕ) (bytes : List ℕ) (count whole : ℕ) (terms : List Tree) (rest : List ℕ) (e : LineFault)
+    → AreArguments size bytes count (Ok (terms, rest)) → IsFault (IsArgument size rest) e → suc count ≤ whole → IsFault (AreArguments size bytes whole) e
 stays_refused size bytes count whole terms rest (fault.Refused at why) p q h =
     let e : Refused = record { at = at; why = why } in
     let here : AreArguments size bytes (suc count) (Err e) = (Ok (terms, rest), p, (Err e, q, refl)) in

@@ -14,7 +14,7 @@ module _ (size : ℕ) (form : Form) (bytes : List ℕ) where
   arguments_refused NoMemory p = tt
 
   -- The line is refused behind the last argument.
-  pub end_refused : (terms : List Tree) (rest : List ℕ) (e : LineFault) → AreArguments size bytes (count_of form) (Ok (terms, rest)) → IsFault (IsEnd size rest) e
-      → IsFault (IsOfForm size form bytes) e
+  pub end_refused : (terms : List Tree) (rest : List ℕ) (e : LineFault) → AreArguments size bytes (count_of form) (Ok (terms, rest))
+      → IsFault (IsEnd size rest) e → IsFault (IsOfForm size form bytes) e
   end_refused terms rest (Refused at why) p q = (Ok (terms, rest), p, (Err (record { at = at; why = why }), q, refl))
   end_refused terms rest NoMemory p q = tt

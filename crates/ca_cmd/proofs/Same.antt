@@ -62,7 +62,8 @@ whole_sure size command bytes = after_sure (IsEnd size bytes) (λ u whole. whole
 arguments_sure : (size : ℕ) (bytes : List ℕ) (count : ℕ) → IsSure (AreArguments size bytes count)
 arguments_sure size bytes zero x y p q = p ∙ sym q
 arguments_sure size bytes (suc count) x y p q =
-    after_sure (AreArguments size bytes count) (λ x. IsAfter (IsArgument size x.1) (λ y more. more ≡ Ok (x.0 ++ y.0 ∷ [], y.1))) (arguments_sure size bytes count)
+    after_sure (AreArguments size bytes count) (λ x. IsAfter (IsArgument size x.1) (λ y more. more ≡ Ok (x.0 ++ y.0 ∷ [], y.1)))
+    (arguments_sure size bytes count)
     (λ x. after_sure (IsArgument size x.1) (λ y more. more ≡ Ok (x.0 ++ y.0 ∷ [], y.1)) (argument_sure size x.1) (λ y a b p q. p ∙ sym q)) x y p q
 
 form_sure : (size : ℕ) (form : Form) (rest : List ℕ) → IsSure (IsOfForm size form rest)

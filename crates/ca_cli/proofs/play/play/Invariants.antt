@@ -7,6 +7,6 @@ use Rattle.ca_cli.proofs.play.play.Given as goal
 abbrev pub invariant-loop-line : goal.invariant-loop-line
 invariant-loop-line l = record {
   keypos : l.table.keypos ≡ l.initial.table.keypos;
-  playing : IsPlaying l.initial.table.keypos l.initial.table.objects (numbered l.lines) l.initial.into.items l.table.objects (continuation_of l.cont)
-      (numbered (drop l.line-index l.lines)) l.into.items;
+  playing : IsPlaying l.initial.table.keypos l.initial.table.objects l.table.objects (continuation_of l.cont)
+      (numbered l.lines) (numbered (drop l.line-index l.lines)) l.initial.into.items l.into.items;
 }

@@ -5,8 +5,11 @@ use Rattle.ca_cmd.proofs.argument.arguments.Goals as goal
 pub returns-in_err-term-clause-value : goal.returns-in_err-term-clause-value
 returns-in_err-term-clause-value c =
     let further : suc c.loop.counter ≤ c.args.count = omega arith in
-    search (rules, stays_refused c.args.size c.args.bytes.now c.loop.counter c.args.count c.loop.terms.items c.loop.rest.now c.in_err-term.field-0.0
-    c.loop.invariant.read c.in_err-term.ensures.value further)
+    search (
+      rules,
+      stays_refused c.args.size c.args.bytes.now c.loop.counter c.args.count c.loop.terms.items c.loop.rest.now c.in_err-term.field-0.0
+          c.loop.invariant.read c.in_err-term.ensures.value further,
+    )
 
 pub loop-preserved : goal.loop-preserved
 loop-preserved c = record {
