@@ -19,7 +19,7 @@ then_sure : {A B : Type 0} (first : Found A) (Follows : A → Found B → Type 0
 then_sure (Ok a) Follows sure x y p q = sure a x y p q
 then_sure (Err e) Follows sure x y p q = p ∙ sym q
 
--- what is found, and then what follows it
+-- What is found, and then what follows it, is one.
 after_sure : {A B : Type 0} (Is : Found A → Type 0) (Follows : A → Found B → Type 0) → IsSure Is → ((a : A) → IsSure (Follows a))
     → IsSure (IsAfter Is Follows)
 after_sure Is Follows sure follows x y p q =
@@ -61,7 +61,8 @@ whole_sure size command bytes = after_sure (IsEnd size bytes) (λ u whole. whole
 
 word_sure : (size : ℕ) (word : Word) (rest : List ℕ) → IsSure (IsOfWord size word rest)
 word_sure size word rest =
-    after_sure (IsArgument size rest) (λ x. IsWhole size (command_with word x.0) x.1) (argument_sure size rest) (λ x. whole_sure size (command_with word x.0) x.1)
+    after_sure (IsArgument size rest) (λ x. IsWhole size (command_with word x.0) x.1) (argument_sure size rest)
+    (λ x. whole_sure size (command_with word x.0) x.1)
 
 of_text_sure : (size : ℕ) (text : List ℕ) (word : Option Word) (rest : List ℕ) → IsSure (IsOfText size text word rest)
 of_text_sure size text None rest x y p q = p ∙ sym q
@@ -82,5 +83,6 @@ text_sure size (b ∷ bytes) x y p q =
       | false ↦ λ p q. held_sure size (b ∷ bytes) x y p q
     ] p q
 
+-- A line has one content.
 pub line_sure : (line : List ℕ) → IsSure (IsLine line)
 line_sure line = then_sure (text_in line) (IsText (length line)) (text_sure (length line))
