@@ -22,6 +22,7 @@ refusal_same line a b p q = let e = line_sure line (Err a) (Err b) p q in cc
 held_or_refused : (line : List ℕ) (a : Option Command) (b : Refused) → IsLine line (Ok a) → IsLine line (Err b) → ⊥
 held_or_refused line a b p q = let e = line_sure line (Ok a) (Err b) p q in cc
 
+-- Lines hold one list of commands.
 pub lines_same : (n : ℕ) (lines : List (List ℕ)) (cs ds : List Numbered) → AreLines n lines cs → AreLines n lines ds → cs ≡ ds
 lines_same n [] cs ds p q = p ∙ sym q
 lines_same n (line ∷ lines) cs ds p q =
@@ -38,7 +39,7 @@ pub record IsBehind (lines : List (List ℕ)) (before : List (List ℕ)) (line :
 heads : {A : Type 0} (x y : A) (xs ys : List A) → x ∷ xs ≡ y ∷ ys → (x ≡ y) × (xs ≡ ys)
 heads x y xs ys e = (cc, cc)
 
--- the one refusal, and how many lines stand before it
+-- There is one refusal, and so many lines stand before it.
 behind_same : (n : ℕ) (lines before after : List (List ℕ)) (cs ds : List Numbered) (x y : List ℕ) (e f : Refused)
     → AreLines n before cs → AreLines n after ds → IsBehind lines before x e → IsBehind lines after y f → (length before ≡ length after) × (e ≡ f)
 behind_same n lines [] [] cs ds x y e f p q a b =
@@ -62,12 +63,15 @@ module _ (file : List ℕ) (line other at place : ℕ) (why reason : LineWhy) (a
       behind_same 1 (lines_of file) a.before b.before a.commands b.commands a.line b.line _ _ a.good b.good
       (record { after = a.after; whole = a.whole; bad = a.bad }) (record { after = b.after; whole = b.whole; bad = b.bad })
 
+  -- The refused line has one number.
   pub one_line : line ≡ other
   one_line = omega (arith, a.place, b.place, one_refusal.0)
 
+  -- It is refused at one byte.
   pub one_place : at ≡ place
   one_place = ap (λ (e : Refused). e.at) one_refusal.1
 
+  -- It is refused for one reason.
   pub one_reason : why ≡ reason
   one_reason = ap (λ (e : Refused). e.why) one_refusal.1
 
@@ -80,7 +84,7 @@ good_or_bad n lines (v ∷ before) cs ds x e p a q =
     let r = subst (λ z. AreLines n z ds) a.whole q in
     good_or_bad (n + 1) (before ++ x ∷ a.after) before p.1 r.1 x e p.3 (record { after = a.after; whole = refl; bad = a.bad }) r.3
 
--- a file isn't both read and refused
+-- A file isn't both read and refused.
 pub not_both : (file : List ℕ) (line at : ℕ) (why : LineWhy) (lines : List Numbered) → IsRefusedAt file line at why → IsFileOf file lines → ⊥
 not_both file line at why lines a f =
     good_or_bad 1 (lines_of file) a.before a.commands lines a.line _ a.good (record { after = a.after; whole = a.whole; bad = a.bad }) f
@@ -92,6 +96,7 @@ pub record AreReadLines (file : List ℕ) (lines : List Line) (count : ℕ) (res
   pub whole : lines_of file ≡ before ++ lines_of rest
   pub count_is : count ≡ length before
 
+-- One more line that is not refused adds what it holds.
 pub lines_push : (n : ℕ) (before : List (List ℕ)) (commands : List Numbered) (line : List ℕ) (held : Option Command)
     → AreLines n before commands → IsLine line (Ok held) → AreLines n (before ++ line ∷ []) (commands ++ held_at (n + length before) held)
 lines_push n [] commands line held p l =
@@ -106,6 +111,7 @@ lines_push n (v ∷ before) commands line held p l =
       ap (λ z. z ++ held_at (n + suc (length before)) held) p.4 ∙ append_assoc (held_at n p.0) p.1 (held_at (n + suc (length before)) held),
     )
 
+-- One more line is read.
 pub lines_more : (file rest line others : List ℕ) (lines after : List Line) (count : ℕ) → AreReadLines file lines count rest
     → lines_of rest ≡ line ∷ lines_of others → IsTaken (count + 1) line lines after
     → AreReadLines file after (count + 1) others
@@ -119,6 +125,7 @@ lines_more file rest line others lines after count r e t =
       count_is = simp length-append (omega (arith, r.count_is));
     }
 
+-- A refused line behind lines that were read is where the file is refused.
 pub line_refused : (file rest line others : List ℕ) (lines : List Line) (count at : ℕ) (why : LineWhy) → AreReadLines file lines count rest
     → lines_of rest ≡ line ∷ lines_of others
     → IsLine line (Err (record { at = at; why = why })) → IsRefusedAt file (count + 1) at why
@@ -137,6 +144,7 @@ no_lines : cut_lines [] ≡ []
 unfolding cut_lines
 no_lines = refl
 
+-- Where nothing is left the file is read.
 pub lines_done : (file rest : List ℕ) (lines : List Line) (count : ℕ) → AreReadLines file lines count rest → length rest ≡ 0 → IsFileOf file (numbered lines)
 lines_done file [] lines count r e =
     let all : r.before ≡ lines_of file = sym (append-nil r.before) ∙ sym (rw (no_lines) at r.whole) in
@@ -148,6 +156,7 @@ pub only_memory : (file : List ℕ) (commands : List Numbered) (e : FileFault) �
 only_memory file commands (BadLine line at why) f c = absurd (not_both file line at why commands c f)
 only_memory file commands NoMemory f c = refl
 
+-- What a line fails for the file fails for.
 pub line_cause : (file rest line others : List ℕ) (lines : List Line) (count : ℕ) (e : FileFault) → AreReadLines file lines count rest
     → lines_of rest ≡ line ∷ lines_of others → IsCauseAt (count + 1) line e
     → IsCauseIn file e

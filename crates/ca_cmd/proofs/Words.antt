@@ -12,6 +12,7 @@ use Rattle.ca_cmd.specs.Argument.{refused, place}
 use Rattle.ca_cmd.specs.Content.{text_in}
 use Rattle.ca_cmd.specs.declared.fault.LineWhy.TheVariants.{NotUtf8}
 
+-- A line of UTF-8 within the limit is read behind its blanks.
 pub text_well : (line : List ℕ) → length line ≤ MOST_LINE_BYTES → IsUtf8 line → text_in line ≡ Ok (skip line)
 text_well line short u =
     let within : nat_lt MOST_LINE_BYTES (length line) ≡ false = grind (arith, nat_tests) in
@@ -23,6 +24,7 @@ not_utf8 line h = elim (is_utf8 line) as (λ x. is_utf8 line ≡ x → x ≡ fal
   | false ↦ λ e. refl
 ] refl
 
+-- A line within the limit is refused at its first byte that is not UTF-8.
 pub text_ill : (line : List ℕ) (n : ℕ) → length line ≤ MOST_LINE_BYTES → (IsUtf8 line → ⊥) → n ≤ length line → n ≡ utf8_valid_len line
     → refused NotUtf8 (place (length line) (take (length line - n) (drop n line))) ≡ text_in line
 text_ill line n short u h e =

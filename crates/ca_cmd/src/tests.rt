@@ -136,6 +136,7 @@ const MOST: u32 = MOST_LINE_BYTES as u32;
 #[test]
 fn refuses_long_lines(rt: HostRuntime) -> Result<(), Fail> {
     let alloc = rt.alloc();
+    assert_eq!(rt; MOST, 8192);
     for (front, part, times, end, at, why) in [
         (
             b"".as_slice(),

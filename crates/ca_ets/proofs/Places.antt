@@ -34,7 +34,7 @@ none_out : (p : ℕ) (m : List Tree) (k : Tree) → AreGreater p m k → del p m
 none_out p [] k g = refl
 none_out p (o ∷ m) k g = rw g.0 (ap (λ x. o ∷ x) (none_out p m k g.1))
 
--- what stands above an object whose key is k
+-- What stands above an object whose key is k is greater than k.
 greater_than : (p : ℕ) (o : Tree) (m : List Tree) (k : Tree) → term_cmp (key_of p o) k ≡ Equal → AreAbove p o m → AreGreater p m k
 greater_than p o [] k e a = tt
 greater_than p o (q ∷ m) k e a =
@@ -76,12 +76,13 @@ before_more p o m k i e h = record {
   others = rw e (ap (λ x. o ∷ x) h.others);
 }
 
--- an object of a table is less than a later one
+-- An object of a table is less than a later one.
 above_item : (p : ℕ) (o : Tree) (m : List Tree) (i : ℕ) (d : Tree) → AreAbove p o m → i < length m → term_cmp (key_of p o) (key_of p (get_or m i d)) ≡ Less
 above_item p o [] i d a h = absurd (omega arith)
 above_item p o (q ∷ m) zero d a h = a.0
 above_item p o (q ∷ m) (suc i) d a h = above_item p o m i d a.1 (omega arith)
 
+-- An object with the key is found at its place.
 pub found : (p : ℕ) (m : List Tree) (k : Tree) (i : ℕ) → IsTable p m → i < length m → term_cmp (key_of p (get_or m i Nil)) k ≡ Equal → IsAt p m k i
 found p [] k i t h e = absurd (omega arith)
 found p (o ∷ m) k zero t h e = at_first p o m k t.1 e
@@ -93,11 +94,12 @@ found p (o ∷ m) k (suc i) t h e =
     alike_right : (a q k : Tree) → term_cmp q k ≡ Equal → term_cmp a q ≡ term_cmp a k
     alike_right a q k e = tree_flip a q ∙ ap ordering_reverse (term_cmp_total.congr q k a e) ∙ sym (tree_flip a k)
 
--- from a fact for each item
+-- Where each item is greater, all are.
 all_greater : (p : ℕ) (m : List Tree) (k : Tree) → ((j : ℕ) (d : Tree) → j < length m → term_cmp (key_of p (get_or m j d)) k ≡ Greater) → AreGreater p m k
 all_greater p [] k g = tt
 all_greater p (o ∷ m) k g = (g 0 Nil (omega arith), all_greater p m k (λ j d h. g (suc j) d (omega arith)))
 
+-- A key between the keys before a place and those from there on would stand there.
 pub not_found : (p : ℕ) (m : List Tree) (k : Tree) (i : ℕ) → i ≤ length m →
     ((j : ℕ) (d : Tree) → j < i → term_cmp (key_of p (get_or m j d)) k ≡ Less) →
     ((j : ℕ) (d : Tree) → i ≤ j → j < length m → term_cmp (key_of p (get_or m j d)) k ≡ Greater) →
@@ -108,7 +110,7 @@ not_found p (o ∷ m) k (suc i) h l g =
     before_more p o m k i (l 0 Nil (omega arith))
     (not_found p m k i (omega arith) (λ j d r. l (suc j) d (omega arith)) (λ j d r s. g (suc j) d (omega arith) (omega arith)))
 
--- the keys of a table rise
+-- The keys of a table rise.
 keys_rise : (p : ℕ) (m : List Tree) → IsTable p m → IsSortedBy (λ a b. is_lt (term_cmp (key_of p a) (key_of p b))) m
 keys_rise p m t i d l h = by (term_cmp (key_of p (get_or m i d)) (key_of p (get_or m (i + 1) d))) refl
   where
@@ -121,7 +123,7 @@ keys_rise p m t i d l h = by (term_cmp (key_of p (get_or m i d)) (key_of p (get_
         → is_lt (term_cmp (key_of p (get_or m (i + 1) d)) (key_of p (get_or m i d))) ≡ false
     by r e = ap is_lt (tree_flip (key_of p (get_or m (i + 1) d)) (key_of p (get_or m i d)) ∙ ap ordering_reverse (next m i t h))
 
--- what a binary search by the keys answers
+-- A binary search by the keys of a table finds the place of a key.
 pub searched : (p : ℕ) (m : List Tree) (k : Tree) (r : Result ℕ ℕ) → IsTable p m → IsSearchInRange r (length m)
     → IsBinarySearchResult (λ o. term_cmp (key_of p o) k) m r → IsPlace p m k r
 searched p m k (Ok i) t b s = found p m k i t b (s Nil)
@@ -130,6 +132,7 @@ searched p m k (Err i) t b s =
     let parts = s rises in
     not_found p m k i b (λ j d h. parts.0 j d (omega arith) h) (λ j d h l. parts.1 j d h l)
 
+-- A place lies in its list, or at the end.
 pub place_range : (p : ℕ) (m : List Tree) (k : Tree) (r : Result ℕ ℕ) → IsPlace p m k r → IsSearchInRange r (length m)
 place_range p m k (Ok i) h = h.in_range
 place_range p m k (Err i) h = h.in_range
@@ -137,7 +140,7 @@ place_range p m k (Err i) h = h.in_range
 set_is : (m : List Tree) (i : ℕ) (o : Tree) → i < length m → set m i o ≡ take i m ++ o ∷ drop (i + 1) m
 set_is m i o h = sym (take-append-drop i (set m i o)) ∙ rw (take-set m i o, drop-set m i o h)
 
--- an object at the place of its key
+-- An object at the place of its key makes a put.
 pub placed_is : (p : ℕ) (m : List Tree) (o : Tree) (r : Result ℕ ℕ) → IsPlace p m (key_of p o) r → placed m r o ≡ put p m o
 placed_is p m o (Ok i) h = rw (h.less, h.greater) (set_is m i o h.in_range)
 placed_is p m o (Err i) h = rw (h.less, h.greater)

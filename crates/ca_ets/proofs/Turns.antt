@@ -45,7 +45,8 @@ explained_more p files answers t u cs own (merge, e) same r s =
     let split = run-append p [] (λ _. Never) merge (turns_of n own_cs) in
     let play = run_turns p n (run_of p merge).table (left_by p [] (λ _. Never) merge) own_cs in
     let plays : run_in_order p (run_of p merge).table (left_by p [] (λ _. Never) merge n) own_cs ≡ run_in_order p t Never own_cs =
-    ap (λ (x : List Tree). run_in_order p x (left_by p [] (λ _. Never) merge n) own_cs) e.table_is ∙ ap (λ (k : Continuation). run_in_order p t k own_cs) begins in (
+    ap (λ (x : List Tree). run_in_order p x (left_by p [] (λ _. Never) merge n) own_cs) e.table_is
+    ∙ ap (λ (k : Continuation). run_in_order p t k own_cs) begins in (
       merge ++ turns_of n own_cs,
       record {
         answered = answered_more files answers cs own e.answered same;
