@@ -59,7 +59,6 @@ end_sure size bytes = then_sure (apart size bytes) _ (λ rest x y p q. p ∙ sym
 whole_sure : (size : ℕ) (command : Command) (bytes : List ℕ) → IsSure (IsWhole size command bytes)
 whole_sure size command bytes = after_sure (IsEnd size bytes) (λ u whole. whole ≡ Ok command) (end_sure size bytes) (λ u x y p q. p ∙ sym q)
 
-<<<<<<< HEAD
 arguments_sure : (size : ℕ) (bytes : List ℕ) (count : ℕ) → IsSure (AreArguments size bytes count)
 arguments_sure size bytes zero x y p q = p ∙ sym q
 arguments_sure size bytes (suc count) x y p q =
@@ -71,12 +70,6 @@ form_sure : (size : ℕ) (form : Form) (rest : List ℕ) → IsSure (IsOfForm si
 form_sure size form rest =
     after_sure (AreArguments size rest (count_of form)) (λ x. IsWhole size (command_with form x.0) x.1) (arguments_sure size rest (count_of form))
     (λ x. whole_sure size (command_with form x.0) x.1)
-=======
-word_sure : (size : ℕ) (word : Word) (rest : List ℕ) → IsSure (IsOfWord size word rest)
-word_sure size word rest =
-    after_sure (IsArgument size rest) (λ x. IsWhole size (command_with word x.0) x.1) (argument_sure size rest)
-    (λ x. whole_sure size (command_with word x.0) x.1)
->>>>>>> 5d7b3e403ec6a8b00d046c0f168afab18733640f
 
 of_text_sure : (size : ℕ) (text : List ℕ) (word : Option Word) (rest : List ℕ) → IsSure (IsOfText size text word rest)
 of_text_sure size text None rest x y p q = p ∙ sym q

@@ -9,26 +9,16 @@ use Rattle.ca_cmd.proofs.reading.read_file.Goals as goal
 pub returns-in_err-take_line-clause-complete : goal.returns-in_err-take_line-clause-complete
 returns-in_err-take_line-clause-complete c lines f =
     let cause : IsCauseIn c.args.bytes.now c.in_err-take_line.field-0.0 =
-<<<<<<< HEAD
-    line_cause c.args.bytes.now c.loop-rest.rest.now c.cut_line.result.0.now c.cut_line.result.1.now c.loop-rest.lines.items c.loop-rest.number
-    c.in_err-take_line.field-0.0 c.loop-rest.invariant.read c.cut_line.ensures.line c.in_err-take_line.ensures.refused in
-=======
     line_cause c.args.bytes.now c.loop-rest.rest.now _ c.cut_line.result.1.now c.loop-rest.lines.items c.loop-rest.number _ c.loop-rest.invariant.read
     c.cut_line.ensures.line c.in_err-take_line.ensures.refused in
->>>>>>> 5d7b3e403ec6a8b00d046c0f168afab18733640f
     let memory = only_memory c.args.bytes.now lines c.in_err-take_line.field-0.0 f cause in
     search (rules, memory)
 
 pub loop-rest-preserved : goal.loop-rest-preserved
 loop-rest-preserved c = record {
   read =
-<<<<<<< HEAD
-      lines_more c.args.bytes.now c.loop-rest.rest.now c.cut_line.result.0.now c.cut_line.result.1.now c.loop-rest.lines.items
-      c.take_line.new.lines.items c.loop-rest.number c.loop-rest.invariant.read c.cut_line.ensures.line c.in_ok-take_line.ensures.taken;
-=======
       lines_more c.args.bytes.now c.loop-rest.rest.now _ c.cut_line.result.1.now c.loop-rest.lines.items _ c.loop-rest.number c.loop-rest.invariant.read
       c.cut_line.ensures.line c.in_ok-take_line.ensures.taken;
->>>>>>> 5d7b3e403ec6a8b00d046c0f168afab18733640f
   fewer = omega (arith, c.loop-rest.invariant.fewer, c.cut_line.ensures.shorter);
 }
 

@@ -3,16 +3,10 @@ use Rattle.ca_cmd.specs.Word.{form_of}
 use Rattle.ca_cmd.proofs.Commands.{arguments_refused, end_refused}
 use Rattle.ca_cmd.proofs.word.Word.read.Goals as goal
 
-<<<<<<< HEAD
 pub returns-in_err-arguments : goal.returns-in_err-arguments
 returns-in_err-arguments c =
     let refused = rw c.count.ensures at c.in_err-arguments.ensures.value in
     search (rules, arguments_refused c.args.size (form_of c.args.self) c.args.bytes.now c.in_err-arguments.field-0.0 refused)
-=======
-pub returns-in_err-argument : goal.returns-in_err-argument
-returns-in_err-argument c =
-    search (rules, argument_refused c.args.size c.args.self c.args.bytes.now c.in_err-argument.field-0.0 c.in_err-argument.ensures.value)
->>>>>>> 5d7b3e403ec6a8b00d046c0f168afab18733640f
 
 pub returns-in_err-end : goal.returns-in_err-end
 returns-in_err-end c =
