@@ -91,7 +91,8 @@ zero_more k b bytes rest more e h f =
     shift (suc k) xs = ap (λ (y : List ℕ). 0 ∷ y) (shift k xs)
 
 -- Three zero bytes and a small byte are the four bytes of a size.
-pub size_all : (most n : ℕ) (bytes rest more : List ℕ) → most ≤ MOST_ELEMENTS → n ≤ most → bytes ≡ zero_bytes 3 ++ rest → rest ≡ n ∷ more → bytes ≡ four_bytes n ++ more
+pub size_all : (most n : ℕ) (bytes rest more : List ℕ) → most ≤ MOST_ELEMENTS → n ≤ most → bytes ≡ zero_bytes 3 ++ rest → rest ≡ n ∷ more
+    → bytes ≡ four_bytes n ++ more
 size_all most n bytes rest more h k e f = e ∙ ap (λ x. zero_bytes 3 ++ x) f ∙ ap (λ x. x ++ more) (sym (four_small n (omega arith)))
 
 -- ---- the size, and then the elements
