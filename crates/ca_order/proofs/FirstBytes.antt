@@ -11,7 +11,8 @@ use Rattle.ca_term.proofs.DigitBytes.{digits_number, number_word, are_digits}
 use Rattle.ca_term.proofs.Grammar.{deep, signed_pos, signed_neg}
 use Rattle.ca_term.proofs.IntCodes.{word}
 use Rattle.ca_term.specs.Grammar.{AreDigits, number}
-use Rattle.ca_order.specs.Languages.{HasTerm, HasRow, HasTuple, HasDigits, HasBytes, HasText}
+use Rattle.ca_term.specs.Levels.{HasTerm, HasRow}
+use Rattle.ca_order.specs.Languages.{HasTuple, HasDigits, HasBytes, HasText}
 use Rattle.ca_order.specs.Stuck.{IsRest}
 use Rattle.ca_order.proofs.Starts.{IsPrefixFree, Begins}
 

@@ -6,7 +6,8 @@ use Rattle.ca_term.specs.Tree.{Row, Ends, More, size, row_depth}
 use Rattle.ca_term.specs.Code.{four_bytes, row_code}
 use Rattle.ca_term.proofs.Grammar.{deep}
 use Rattle.ca_order.specs.Stuck.{IsStuck, IsRest}
-use Rattle.ca_order.specs.Languages.{HasSize, HasTuple, HasRow, zero_bytes, most_elements}
+use Rattle.ca_term.specs.Levels.{HasRow}
+use Rattle.ca_order.specs.Languages.{HasSize, HasTuple, zero_bytes, most_elements}
 use Rattle.ca_order.specs.Reads.{IsReadFault}
 use Rattle.ca_order.proofs.Starts.{IsPrefixFree, Begins, stuck_here}
 use Rattle.ca_order.proofs.Faults.{fault_behind, fault_first, fault_same}

@@ -3,7 +3,8 @@ use Rattle.std.proofs.lemmas.Result.{MatchResult-weaker}
 use Rattle.ca_term.specs.declared.bounds.TheConstants.{MOST_CODE_POINTS, MOST_ELEMENTS}
 use Rattle.ca_term.specs.Tree.{Integer}
 use Rattle.ca_term.specs.Code.{four_bytes}
-use Rattle.ca_order.specs.Languages.{HasTerm, HasTuple, HasRow, HasText, HasBytes}
+use Rattle.ca_term.specs.Levels.{HasTerm, HasRow}
+use Rattle.ca_order.specs.Languages.{HasTuple, HasText, HasBytes}
 use Rattle.ca_order.proofs.Faults.{refused, fault_at, fault_behind, fault_same}
 use Rattle.ca_order.proofs.FirstBytes.{IsNoTag, atom_rest, binary_rest, tuple_rest}
 use Rattle.ca_order.proofs.Lasts.{raise, tag_fault, stuck_no_tag, nil_term, pos_fault, neg_fault, pos_term, neg_term, digits_fit, cast_pos, cast_neg}
