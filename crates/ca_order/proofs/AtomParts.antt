@@ -252,7 +252,8 @@ begins_atom bytes body rest text t w o e =
     let inner : bytes ≡ escaped w.text ++ rest =
     w.parts ∙ ap (λ x. x ++ 0 ∷ 0 ∷ rest) w.body_is ∙ sym (append_assoc (opened w.text) (0 ∷ 0 ∷ []) rest)
     ∙ ap (λ x. x ++ rest) (sym (escaped_ends w.text)) in
-    begins_as 1 (0x30 ∷ bytes) rest t (Atom w.text) (e ∙ ap Atom same) (ap (λ (x : List ℕ). 0x30 ∷ x) inner ∙ ap (λ x. x ++ rest) (sym (at_atom (Atom w.text) w.text refl)))
+    begins_as 1 (0x30 ∷ bytes) rest t (Atom w.text) (e ∙ ap Atom same) (ap (λ (x : List ℕ). 0x30 ∷ x) inner ∙ ap (λ x. x ++ rest)
+    (sym (at_atom (Atom w.text) w.text refl)))
     (omega arith) (record { shallow = omega arith; narrow = w.narrow })
 
 -- A text that is read makes an atom within the bounds.

@@ -134,7 +134,8 @@ begins_binary bytes body rest inside t w o e =
     let inner : bytes ≡ escaped w.inside ++ rest =
     w.parts ∙ ap (λ x. x ++ 0 ∷ 0 ∷ rest) w.body_is ∙ sym (append_assoc (opened w.inside) (0 ∷ 0 ∷ []) rest)
     ∙ ap (λ x. x ++ rest) (sym (escaped_ends w.inside)) in
-    begins_as 1 (0x80 ∷ bytes) rest t (Binary w.inside) (e ∙ ap Binary same) (ap (λ (x : List ℕ). 0x80 ∷ x) inner ∙ ap (λ x. x ++ rest) (sym (at_binary (Binary w.inside) w.inside refl)))
+    begins_as 1 (0x80 ∷ bytes) rest t (Binary w.inside) (e ∙ ap Binary same) (ap (λ (x : List ℕ). 0x80 ∷ x) inner ∙ ap (λ x. x ++ rest)
+    (sym (at_binary (Binary w.inside) w.inside refl)))
     (omega arith) (record { shallow = omega arith; narrow = w.are_bytes })
 
 -- Bytes without an escape make the binary of themselves.

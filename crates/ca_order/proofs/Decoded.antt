@@ -7,7 +7,8 @@ use Rattle.ca_term.specs.Tree.{Tree}
 use Rattle.ca_term.specs.Code.{code_of}
 use Rattle.ca_term.proofs.Codes.{prefix_free}
 use Rattle.ca_order.specs.Stuck.{IsStuck, IsLongestStart}
-use Rattle.ca_order.specs.Languages.{HasTerm, IsTermCode}
+use Rattle.ca_term.specs.Levels.{HasTerm}
+use Rattle.ca_order.specs.Languages.{IsTermCode}
 use Rattle.ca_order.specs.Reads.{IsReadFault, IsDecodeFault, BeginsWithTerm}
 use Rattle.ca_order.proofs.Starts.{longest_start}
 use Rattle.ca_order.proofs.FirstBytes.{terms_prefix_free}

@@ -42,6 +42,7 @@ no_fault L bytes word rest (Stuck left) free w p f = stuck_no_word L bytes f.0 w
 no_fault L bytes word rest NoMemory free w p f = f
 
 -- What a `?` hands on is the fault that it met.
-pub refused : {T : Type 0} (P : T → Type 0) (Q : ReadFault → Type 0) (r : Result T ReadFault) (e : ReadFault) → IsErrAnd r (λ x. x ≡ e) → Q e → MatchResult r P Q
+pub refused : {T : Type 0} (P : T → Type 0) (Q : ReadFault → Type 0) (r : Result T ReadFault) (e : ReadFault) → IsErrAnd r (λ x. x ≡ e) → Q e
+    → MatchResult r P Q
 refused P Q (Ok x) e h q = absurd h
 refused P Q (Err x) e h q = subst Q (sym h) q

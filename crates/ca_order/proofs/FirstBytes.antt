@@ -11,7 +11,8 @@ use Rattle.ca_term.proofs.DigitBytes.{digits_number, number_word, are_digits}
 use Rattle.ca_term.proofs.Grammar.{deep, signed_pos, signed_neg}
 use Rattle.ca_term.proofs.IntCodes.{word}
 use Rattle.ca_term.specs.Grammar.{AreDigits, number}
-use Rattle.ca_order.specs.Languages.{HasTerm, HasRow, HasTuple, HasDigits, HasBytes, HasText}
+use Rattle.ca_term.specs.Levels.{HasTerm, HasRow}
+use Rattle.ca_order.specs.Languages.{HasTuple, HasDigits, HasBytes, HasText}
 use Rattle.ca_order.specs.Stuck.{IsRest}
 use Rattle.ca_order.proofs.Starts.{IsPrefixFree, Begins}
 
@@ -40,6 +41,26 @@ tagged Nil b x e = let p = first_same b 0x60 x [] e in is_nil p.0 p.1
 tagged (Cons head tail) b x e = let p = first_same b 0x70 x (code_of head ++ code_of tail) e in is_cons head tail p.0 p.1
 tagged (Binary bytes) b x e = let p = first_same b 0x80 x (escaped bytes) e in is_binary bytes p.0 p.1
 
+-- the first bytes of a kind
+abbrev IsOfKind : Tree → ℕ → Type 0
+IsOfKind (Integer (pos n)) b = (0x20 ≤ b) × (b ≤ 0x28)
+IsOfKind (Integer (negsuc m)) b = (0x17 ≤ b) × (b ≤ 0x1f)
+IsOfKind (Atom text) b = b ≡ 0x30
+IsOfKind (Tuple row) b = b ≡ 0x40
+IsOfKind Nil b = b ≡ 0x60
+IsOfKind (Cons head tail) b = b ≡ 0x70
+IsOfKind (Binary bytes) b = b ≡ 0x80
+
+-- The first byte of a code is one of its kind.
+pub of_kind : (b : ℕ) (x : List ℕ) (t : Tree) → Tagged b x t → IsOfKind t b
+of_kind b x _ (is_pos n e f) = (omega (arith, e), omega (arith, e, digits_shorter n))
+of_kind b x _ (is_neg m e f) = (omega (arith, e, digits_shorter m), omega (arith, e))
+of_kind b x _ (is_atom text e f) = e
+of_kind b x _ (is_tuple row e f) = e
+of_kind b x _ (is_nil e f) = e
+of_kind b x _ (is_cons head tail e f) = e
+of_kind b x _ (is_binary bytes e f) = e
+
 -- ---- atoms
 
 text_of : (text : List ℕ) (l : ℕ) → IsNarrow (Atom text) → HasText MOST_CODE_POINTS (escaped text)
@@ -49,13 +70,8 @@ text_of text l n =
     record { text = u.0; are_scalars = u.1.0; short = omega (arith, n.1, ap length same); code_is = ap escaped (sym u.1.1) }
 
 atom_by : (x : List ℕ) (t : Tree) → IsNarrow t → Tagged 0x30 x t → HasText MOST_CODE_POINTS x
-atom_by x _ n (is_pos k e f) = absurd (omega (arith, digits_shorter k, e))
-atom_by x _ n (is_neg k e f) = absurd (omega (arith, e))
 atom_by x _ n (is_atom text e f) = subst (HasText MOST_CODE_POINTS) (sym f) (text_of text 0 n)
-atom_by x _ n (is_tuple row e f) = absurd (omega (arith, e))
-atom_by x _ n (is_nil e f) = absurd (omega (arith, e))
-atom_by x _ n (is_cons head tail e f) = absurd (omega (arith, e))
-atom_by x _ n (is_binary bytes e f) = absurd (omega (arith, e))
+atom_by x t n g = absurd (omega (arith, of_kind 0x30 x t g))
 
 -- Behind the first byte of an atom's code stands an escaped text.
 pub atom_rest : (l : ℕ) → IsRest (HasTerm (suc l)) (0x30 ∷ []) (HasText MOST_CODE_POINTS)
@@ -75,13 +91,8 @@ atom_rest l = record {
 -- ---- binaries
 
 binary_by : (x : List ℕ) (t : Tree) → IsNarrow t → Tagged 0x80 x t → HasBytes x
-binary_by x _ n (is_pos k e f) = absurd (omega (arith, digits_shorter k, e))
-binary_by x _ n (is_neg k e f) = absurd (omega (arith, e))
-binary_by x _ n (is_atom text e f) = absurd (omega (arith, e))
-binary_by x _ n (is_tuple row e f) = absurd (omega (arith, e))
-binary_by x _ n (is_nil e f) = absurd (omega (arith, e))
-binary_by x _ n (is_cons head tail e f) = absurd (omega (arith, e))
 binary_by x _ n (is_binary bytes e f) = record { inside = bytes; are_bytes = n; code_is = f }
+binary_by x t n g = absurd (omega (arith, of_kind 0x80 x t g))
 
 -- Behind the first byte of a binary's code stand escaped bytes.
 pub binary_rest : (l : ℕ) → IsRest (HasTerm (suc l)) (0x80 ∷ []) HasBytes
@@ -95,22 +106,12 @@ binary_rest l = record {
 
 pos_by : (len : ℕ) (x : List ℕ) (t : Tree) → len ≤ 8 → IsNarrow t → Tagged (0x20 + len) x t → HasDigits false len x
 pos_by len x _ l n (is_pos k e f) = record { digits = digits k; are_digits = are_digits k (word (pos k) n); many = omega (arith, e); code_is = f }
-pos_by len x _ l n (is_neg k e f) = absurd (omega (arith, e))
-pos_by len x _ l n (is_atom text e f) = absurd (omega (arith, e))
-pos_by len x _ l n (is_tuple row e f) = absurd (omega (arith, e))
-pos_by len x _ l n (is_nil e f) = absurd (omega (arith, e))
-pos_by len x _ l n (is_cons head tail e f) = absurd (omega (arith, e))
-pos_by len x _ l n (is_binary bytes e f) = absurd (omega (arith, e))
+pos_by len x t l n g = absurd (omega (arith, of_kind (0x20 + len) x t g))
 
 neg_by : (len : ℕ) (x : List ℕ) (t : Tree) → len ≤ 8 → IsNarrow t → Tagged (0x1f - len) x t → HasDigits true len x
-neg_by len x _ l n (is_pos k e f) = absurd (omega (arith, e))
 neg_by len x _ l n (is_neg k e f) =
     record { digits = digits k; are_digits = are_digits k (word (negsuc k) n); many = omega (arith, e, digits_shorter k); code_is = f }
-neg_by len x _ l n (is_atom text e f) = absurd (omega (arith, e))
-neg_by len x _ l n (is_tuple row e f) = absurd (omega (arith, e))
-neg_by len x _ l n (is_nil e f) = absurd (omega (arith, e))
-neg_by len x _ l n (is_cons head tail e f) = absurd (omega (arith, e))
-neg_by len x _ l n (is_binary bytes e f) = absurd (omega (arith, e))
+neg_by len x t l n g = absurd (omega (arith, of_kind (0x1f - len) x t g))
 
 -- the code of the integer with these digits
 pub code_pos : (ds : List ℕ) (len : ℕ) → AreDigits ds → length ds ≡ len → (0x20 + len) ∷ ds ≡ code_of (Integer (pos (number ds)))
@@ -159,14 +160,9 @@ pub record HasCell (levels : ℕ) (bytes : List ℕ) : Type 0 where
   pub code_is : bytes ≡ code_of head ++ code_of tail
 
 cons_by : (l : ℕ) (x : List ℕ) (t : Tree) → depth t ≤ suc l → IsNarrow t → Tagged 0x70 x t → HasCell l x
-cons_by l x _ d n (is_pos k e f) = absurd (omega (arith, digits_shorter k, e))
-cons_by l x _ d n (is_neg k e f) = absurd (omega (arith, e))
-cons_by l x _ d n (is_atom text e f) = absurd (omega (arith, e))
-cons_by l x _ d n (is_tuple row e f) = absurd (omega (arith, e))
-cons_by l x _ d n (is_nil e f) = absurd (omega (arith, e))
 cons_by l x _ d n (is_cons head tail e f) =
     record { head = head; tail = tail; head_shallow = omega arith; tail_shallow = omega arith; head_narrow = n.0; tail_narrow = n.1; code_is = f }
-cons_by l x _ d n (is_binary bytes e f) = absurd (omega (arith, e))
+cons_by l x t d n g = absurd (omega (arith, of_kind 0x70 x t g))
 
 -- Behind the first byte of a list cell's code stand a head and a tail.
 pub cons_rest : (l : ℕ) → IsRest (HasTerm (suc l)) (0x70 ∷ []) (HasCell l)
@@ -231,9 +227,6 @@ cell_goes_on l u h = (
 -- ---- tuples
 
 tuple_by : (l : ℕ) (x : List ℕ) (t : Tree) → depth t ≤ suc l → IsNarrow t → Tagged 0x40 x t → HasTuple l x
-tuple_by l x _ d n (is_pos k e f) = absurd (omega (arith, digits_shorter k, e))
-tuple_by l x _ d n (is_neg k e f) = absurd (omega (arith, e))
-tuple_by l x _ d n (is_atom text e f) = absurd (omega (arith, e))
 tuple_by l x _ d n (is_tuple row e f) = record {
   count = size row;
   fits = n.0;
@@ -241,9 +234,7 @@ tuple_by l x _ d n (is_tuple row e f) = record {
   row = record { row = row; shallow = omega arith; narrow = n.1; many = refl; code_is = refl };
   code_is = f;
 }
-tuple_by l x _ d n (is_nil e f) = absurd (omega (arith, e))
-tuple_by l x _ d n (is_cons head tail e f) = absurd (omega (arith, e))
-tuple_by l x _ d n (is_binary bytes e f) = absurd (omega (arith, e))
+tuple_by l x t d n g = absurd (omega (arith, of_kind 0x40 x t g))
 
 -- Behind the first byte of a tuple's code stand a size and elements.
 pub tuple_rest : (l : ℕ) → IsRest (HasTerm (suc l)) (0x40 ∷ []) (HasTuple l)

@@ -7,8 +7,7 @@ use Rattle.ca_term.specs.Code.{code_of, row_code, four_bytes}
 use Rattle.ca_term.proofs.Codes.{same_code}
 use Rattle.ca_order.specs.KeyParts.{HasCodes, IsKeyParts, IsKeyPlace, IsNoObject, IsSplit}
 use Rattle.ca_order.specs.Languages.{IsTermCode}
-use Rattle.ca_order.proofs.FirstBytes.{first_same, Tagged, tagged, is_pos, is_neg, is_atom, is_tuple, is_nil, is_cons, is_binary}
-use Rattle.ca_term.proofs.Digits.{digits_shorter}
+use Rattle.ca_order.proofs.FirstBytes.{first_same, of_kind, Tagged, tagged, is_tuple}
 use Rattle.ca_term.proofs.Lengths.{length_tuple}
 use Rattle.ca_order.proofs.Skipped.{code_begun, row_app, one_code}
 
@@ -38,13 +37,8 @@ pub record IsObject (code inside : List ℕ) : Type 0 where
   pub inside_is : inside ≡ four_bytes (size row) ++ row_code row
 
 object_by : (t : Tree) (b : ℕ) (code inside : List ℕ) → IsTerm t → code ≡ code_of t → b ≡ 0x40 → Tagged b inside t → IsObject code inside
-object_by _ b code inside h c n (is_pos k e f) = absurd (omega (arith, n, e, digits_shorter k))
-object_by _ b code inside h c n (is_neg k e f) = absurd (omega (arith, n, e))
-object_by _ b code inside h c n (is_atom text e f) = absurd (omega (arith, n, e))
 object_by _ b code inside h c n (is_tuple row e f) = record { row = row; bounded = h; code_is = c; inside_is = f }
-object_by _ b code inside h c n (is_nil e f) = absurd (omega (arith, n, e))
-object_by _ b code inside h c n (is_cons k t e f) = absurd (omega (arith, n, e))
-object_by _ b code inside h c n (is_binary bytes e f) = absurd (omega (arith, n, e))
+object_by t b code inside h c n g = absurd (omega (arith, n, of_kind b inside t g))
 
 -- A code that begins with the byte 40 is a tuple's.
 pub object : (code inside : List ℕ) (b : ℕ) → IsTermCode code → code ≡ b ∷ inside → b ≡ 0x40 → IsObject code inside

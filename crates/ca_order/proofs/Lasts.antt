@@ -9,7 +9,8 @@ use Rattle.ca_term.specs.Code.{code_of, complement}
 use Rattle.ca_term.specs.Grammar.{number}
 use Rattle.ca_term.proofs.DigitBytes.{number_word}
 use Rattle.ca_order.specs.Stuck.{IsStuck, IsRest}
-use Rattle.ca_order.specs.Languages.{HasTerm, HasDigits}
+use Rattle.ca_term.specs.Levels.{HasTerm}
+use Rattle.ca_order.specs.Languages.{HasDigits}
 use Rattle.ca_order.specs.Reads.{IsReadFault, BeginsWithTerm, BeginsWithDigits}
 use Rattle.ca_order.proofs.Starts.{stuck_here}
 use Rattle.ca_order.proofs.Faults.{fault_behind, fault_same}

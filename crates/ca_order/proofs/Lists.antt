@@ -6,7 +6,7 @@ use Rattle.ca_term.specs.Tree.{Tree, Tuple, Cons, Ends, row_of, list_of, size, d
 use Rattle.ca_term.specs.Code.{code_of, row_code, four_bytes}
 use Rattle.ca_term.proofs.Rows.{size_row, narrow_row, AreTerms_push}
 use Rattle.ca_order.specs.Stuck.{IsRest}
-use Rattle.ca_order.specs.Languages.{HasTerm, HasRow}
+use Rattle.ca_term.specs.Levels.{HasTerm, HasRow}
 use Rattle.ca_order.specs.Reads.{IsReadFault, BeginsWithTerm, BeginsWithRow}
 use Rattle.ca_order.proofs.Parts.{at_cons, at_tuple, begins_as}
 use Rattle.ca_order.proofs.FirstBytes.{HasCell, cons_rest, tail_rest, terms_prefix_free, cell_begins, cell_goes_on, row_rest, row_begins, row_goes_on}

@@ -19,13 +19,15 @@ pub put_all : (written rest old whole new : List ℕ) → IsPut written rest old
 put_all written rest old whole new p e = e ∙ p.parts
 
 -- where a piece of the rest doesn't fit, the whole doesn't
-pub put_full : (written rest old whole piece left : List ℕ) → IsPut written rest old whole → rest ≡ piece ++ left → MOST_CODE_BYTES < length written + length piece
+pub put_full : (written rest old whole piece left : List ℕ) → IsPut written rest old whole → rest ≡ piece ++ left
+    → MOST_CODE_BYTES < length written + length piece
     → MOST_CODE_BYTES < length old + length whole
 put_full written rest old whole piece left p e h =
     omega (arith, ap length p.parts, ap length e, length-append written rest, length-append old whole, length-append piece left)
 
 -- where the rest doesn't fit, the whole doesn't
-pub rest_full : (written rest old whole : List ℕ) → IsPut written rest old whole → MOST_CODE_BYTES < length written + length rest → MOST_CODE_BYTES < length old + length whole
+pub rest_full : (written rest old whole : List ℕ) → IsPut written rest old whole → MOST_CODE_BYTES < length written + length rest
+    → MOST_CODE_BYTES < length old + length whole
 rest_full written rest old whole p h = omega (arith, ap length p.parts, length-append written rest, length-append old whole)
 
 -- at a last call

@@ -6,7 +6,8 @@ use Rattle.ca_term.specs.Tree.{Row, Ends, More, size, row_depth}
 use Rattle.ca_term.specs.Code.{four_bytes, row_code}
 use Rattle.ca_term.proofs.Grammar.{deep}
 use Rattle.ca_order.specs.Stuck.{IsStuck, IsRest}
-use Rattle.ca_order.specs.Languages.{HasSize, HasTuple, HasRow, zero_bytes, most_elements}
+use Rattle.ca_term.specs.Levels.{HasRow}
+use Rattle.ca_order.specs.Languages.{HasSize, HasTuple, zero_bytes, most_elements}
 use Rattle.ca_order.specs.Reads.{IsReadFault}
 use Rattle.ca_order.proofs.Starts.{IsPrefixFree, Begins, stuck_here}
 use Rattle.ca_order.proofs.Faults.{fault_behind, fault_first, fault_same}
@@ -91,7 +92,8 @@ zero_more k b bytes rest more e h f =
     shift (suc k) xs = ap (λ (y : List ℕ). 0 ∷ y) (shift k xs)
 
 -- Three zero bytes and a small byte are the four bytes of a size.
-pub size_all : (most n : ℕ) (bytes rest more : List ℕ) → most ≤ MOST_ELEMENTS → n ≤ most → bytes ≡ zero_bytes 3 ++ rest → rest ≡ n ∷ more → bytes ≡ four_bytes n ++ more
+pub size_all : (most n : ℕ) (bytes rest more : List ℕ) → most ≤ MOST_ELEMENTS → n ≤ most → bytes ≡ zero_bytes 3 ++ rest → rest ≡ n ∷ more
+    → bytes ≡ four_bytes n ++ more
 size_all most n bytes rest more h k e f = e ∙ ap (λ x. zero_bytes 3 ++ x) f ∙ ap (λ x. x ++ more) (sym (four_small n (omega arith)))
 
 -- ---- the size, and then the elements

@@ -6,7 +6,8 @@ use Rattle.ca_term.specs.Tree.{Tree, Row, Integer, Atom, Tuple, Nil, Cons, Binar
 use Rattle.ca_term.specs.Code.{code_of, row_code, int_code, digits, complement, escaped, four_bytes}
 use Rattle.ca_order.specs.KeyParts.{HasCodes}
 use Rattle.ca_order.specs.Stuck.{IsRest}
-use Rattle.ca_order.specs.Languages.{HasTerm, HasText, HasBytes, HasTuple, HasDigits}
+use Rattle.ca_term.specs.Levels.{HasTerm}
+use Rattle.ca_order.specs.Languages.{HasText, HasBytes, HasTuple, HasDigits}
 use Rattle.ca_order.proofs.Turned.{length_turned}
 use Rattle.ca_order.proofs.FirstBytes.{first_same, IsNoTag, no_tag, has_nil, HasCell, atom_rest, binary_rest, cons_rest, tuple_rest, pos_rest, neg_rest, terms_prefix_free}
 

@@ -3,8 +3,9 @@ use Rattle.std.specs.Prelude.{◌≡◌, ℕ, zero, suc, ◌<◌, ◌≤◌, ◌
 use Rattle.std.specs.Char.{IsScalar, encode_utf8}
 use Rattle.std.specs.Str.{encode_utf8_all, all_scalars}
 use Rattle.ca_term.specs.declared.bounds.TheConstants.{MOST_ELEMENTS}
-use Rattle.ca_term.specs.Tree.{Tree, Row, size, depth, row_depth, IsTerm, IsNarrow, IsNarrowRow, AreBytes}
-use Rattle.ca_term.specs.Code.{code_of, row_code, escaped, complement, four_bytes}
+use Rattle.ca_term.specs.Levels.{HasRow}
+use Rattle.ca_term.specs.Tree.{Tree, IsTerm, AreBytes}
+use Rattle.ca_term.specs.Code.{code_of, escaped, complement, four_bytes}
 use Rattle.ca_term.specs.Grammar.{AreDigits}
 
 abbrev pub zero_bytes : ℕ → List ℕ
@@ -19,21 +20,6 @@ most_elements (suc levels) = MOST_ELEMENTS
 -- the code of a term
 abbrev pub IsTermCode : List ℕ → Type 0
 IsTermCode bytes = (t : Tree) × IsTerm t × (bytes ≡ code_of t)
-
--- the code of a term of at most so many levels
-pub record HasTerm (levels : ℕ) (bytes : List ℕ) : Type 0 where
-  pub term : Tree
-  pub shallow : depth term ≤ levels
-  pub narrow : IsNarrow term
-  pub code_is : bytes ≡ code_of term
-
--- the codes of so many terms of at most so many levels
-pub record HasRow (levels count : ℕ) (bytes : List ℕ) : Type 0 where
-  pub row : Row
-  pub shallow : row_depth row ≤ levels
-  pub narrow : IsNarrowRow row
-  pub many : size row ≡ count
-  pub code_is : bytes ≡ row_code row
 
 -- so many zero bytes, and then a number of at most `most` in one byte
 pub record HasSize (zeros most : ℕ) (bytes : List ℕ) : Type 0 where

@@ -2,7 +2,8 @@
 ghost use Rattle.std.specs.Prelude.{◌≡◌, ◌≢◌, ◌≤◌, ◌<◌, ◌∷◌, ◌++◌, ◌+◌, slice_index, length, IfOk, IfErr, IsErr, MatchOption, MatchResult};
 ghost use Rattle.ca_term.specs.declared.bounds.TheConstants.{MOST_DEPTH, MOST_ELEMENTS};
 ghost use Rattle.ca_term.specs.Code.{code_of, four_bytes};
-ghost use Rattle.ca_order.specs.Languages.{IsTermCode, HasTerm, HasTuple, HasRow, HasSize, most_elements};
+ghost use Rattle.ca_term.specs.Levels.{HasTerm, HasRow};
+ghost use Rattle.ca_order.specs.Languages.{IsTermCode, HasTuple, HasSize, most_elements};
 ghost use Rattle.ca_order.specs.Reads.{IsReadFault, IsDecodeFault, BeginsWithTerm, BeginsWithRow};
 
 use crate::atoms::read_atom;

@@ -33,7 +33,8 @@ record GoesOn (front : List ℕ) : Type 0 where
   rest : List ℕ
   begins : encode_utf8 char ≡ front ++ next ∷ rest
 
-whole : (front : List ℕ) (next : ℕ) (rest : List ℕ) (c size : ℕ) → decoded (front ++ next ∷ rest) ≡ good c size → drop size (front ++ next ∷ rest) ≡ [] → GoesOn front
+whole : (front : List ℕ) (next : ℕ) (rest : List ℕ) (c size : ℕ) → decoded (front ++ next ∷ rest) ≡ good c size → drop size (front ++ next ∷ rest) ≡ []
+    → GoesOn front
 whole front next rest c size d e =
     let s = SpellsChar-decoded (front ++ next ∷ rest) c (ap (λ (r : Decoded). r.char) d) in
     let none : drop (decoded (front ++ next ∷ rest)).size (front ++ next ∷ rest) ≡ [] = ap (λ (r : Decoded). drop r.size (front ++ next ∷ rest)) d ∙ e in
@@ -55,7 +56,13 @@ goes_on_three b c d h k s t =
 goes_on_two : (b c : ℕ) → 0xE0 ≤ b → b ≤ 0xF4 → second b c ≡ true → GoesOn (b ∷ c ∷ [])
 goes_on_two b c h k s = ⊎_elim
     (λ l. whole (b ∷ c ∷ []) 0x80 [] (code_of_3 b c 0x80) 3 (value-9 3 b c 0x80 0 (omega arith, h, l, s, refl)) refl)
-    (λ l. let g = goes_on_three b c 0x80 l k s refl in record { char = g.char; is_scalar = g.is_scalar; next = 0x80; rest = g.next ∷ g.rest; begins = g.begins })
+    (λ l. let g = goes_on_three b c 0x80 l k s refl in record {
+      char = g.char;
+      is_scalar = g.is_scalar;
+      next = 0x80;
+      rest = g.next ∷ g.rest;
+      begins = g.begins;
+    })
     (cases_lt b 0xF0)
 
 -- a byte that may stand second
@@ -86,7 +93,8 @@ stops front s c more h e =
     let m = s more in
     cc
 
-stopped : (bs : List ℕ) (at : ℕ) (front : List ℕ) → at ≤ length bs → take at bs ≡ front → GoesOn front → (at < length bs → Stops (front ++ slice_index bs at ∷ []))
+stopped : (bs : List ℕ) (at : ℕ) (front : List ℕ) → at ≤ length bs → take at bs ≡ front → GoesOn front
+    → (at < length bs → Stops (front ++ slice_index bs at ∷ []))
     → IsNoCharacter bs at
 stopped bs at front l f g s = record {
   in_range = l;
@@ -109,8 +117,10 @@ no_lead bs h n =
     by-shape (length bs) b (slice_index bs 1) (slice_index bs 2) (slice_index bs 3)
     (λ p. at_none (λ k. absurd (omega arith)))
     (λ p. let k = ap (λ (r : Decoded). r.char) p.2 in cc)
-    (λ p. at_none (λ k more. ap (λ (r : Decoded). r.char) (value-2 (length (b ∷ more)) b (slice_index more 0) (slice_index more 1) (slice_index more 2) (omega arith, p.1, p.2))))
-    (λ p. at_none (λ k more. ap (λ (r : Decoded). r.char) (value-3 (length (b ∷ more)) b (slice_index more 0) (slice_index more 1) (slice_index more 2) (omega arith, p.1))))
+    (λ p. at_none (λ k more. ap (λ (r : Decoded). r.char) (value-2 (length (b ∷ more)) b (slice_index more 0) (slice_index more 1) (slice_index more 2)
+    (omega arith, p.1, p.2))))
+    (λ p. at_none (λ k more. ap (λ (r : Decoded). r.char) (value-3 (length (b ∷ more)) b (slice_index more 0) (slice_index more 1) (slice_index more 2)
+    (omega arith, p.1))))
     (λ p. absurd (n (p.1, p.2)))
     (λ p. absurd (n (p.1, p.2)))
     (λ p. let k = ap (λ (r : Decoded). r.char) p.4 in cc)

@@ -5,6 +5,7 @@ use Rattle.std.specs.Int.{w64}
 use Rattle.ca_term.proofs.DigitBytes.{digits_number, number_word, are_digits}
 use Rattle.ca_term.proofs.IntCodes.{word}
 use Rattle.ca_term.specs.declared.bounds.TheConstants.{MOST_DEPTH}
+use Rattle.ca_term.specs.Levels.{HasTerm, HasRow}
 use Rattle.ca_term.specs.Tree.{Tree, Row, Integer, Atom, Tuple, Nil, Cons, Binary, Ends, More, size, depth, row_depth, IsNarrow, IsNarrowRow}
 use Rattle.ca_term.specs.Code.{code_of, row_code, int_code, digits}
 use Rattle.ca_term.specs.Grammar.{number, IsCodeWithin, AreCodesWithin, FromZero, BelowZero, AnAtom, ATuple, ANil, ACons, ABinary, NoCode, OneMore, IsCode, AreCodesOfTerms}
@@ -46,20 +47,6 @@ signed_pos n h = record { sfits = h }
 -- So has -m - 1 for m below 2 ^ 63.
 pub signed_neg : (n : ℕ) → n < 2 ^ 63 → FitsSigned w64 (negsuc n)
 signed_neg n h = record { sfits = h }
-
--- a term of at most so many levels with this code
-pub record HasTerm (levels : ℕ) (bytes : List ℕ) : Type 0 where
-  pub term : Tree
-  pub shallow : depth term ≤ levels
-  pub narrow : IsNarrow term
-  pub code_is : bytes ≡ code_of term
-
-record HasRow (levels count : ℕ) (bytes : List ℕ) : Type 0 where
-  row : Row
-  shallow : row_depth row ≤ levels
-  narrow : IsNarrowRow row
-  many : size row ≡ count
-  code_is : bytes ≡ row_code row
 
 mutual
   unfolding code_of int_code

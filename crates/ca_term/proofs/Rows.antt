@@ -30,7 +30,8 @@ row_depth_done ts i d h e = let n : drop i ts ≡ [] = drop_all i ts h in omega 
 
 -- what two rows with more items at a place come to there
 pub row_cmp_drop : (r s : List Tree) (i : ℕ) (t u : Tree) → i < length r → i < length s
-    → row_cmp (row_of (drop i r)) (row_of (drop i s)) ≡ ordering_then (term_cmp (get_or r i t) (get_or s i u)) (row_cmp (row_of (drop (i + 1) r)) (row_of (drop (i + 1) s)))
+    → row_cmp (row_of (drop i r)) (row_of (drop i s)) ≡ ordering_then (term_cmp (get_or r i t) (get_or s i u))
+    (row_cmp (row_of (drop (i + 1) r)) (row_of (drop (i + 1) s)))
 row_cmp_drop r s i t u h k = rw (add-one, drop-cons r i t, drop-cons s i u)
 
 -- Sizes that compare as equal are the same.

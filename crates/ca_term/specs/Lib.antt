@@ -5,6 +5,7 @@ pub mod CodeLaws
 pub mod Falls
 pub mod Grammar
 pub mod Kind
+pub mod Levels
 pub mod Object
 pub mod Order
 pub mod Stored

@@ -22,4 +22,5 @@ atom_of-requires-2 c =
 
 pub returns : goal.returns
 returns c =
-    begins_atom c.args.bytes.now c.in_ok-body.body.now c.in_ok-body.rest.now c.in_ok-text.text.items c.in_ok-atom_of-2.field-0 c.in_ok-body.ensures c.in_ok-text.ensures (c.in_ok-atom_of-2.ensures ∙ ap Atom c.as_slice.ensures.value)
+    begins_atom c.args.bytes.now c.in_ok-body.body.now c.in_ok-body.rest.now c.in_ok-text.text.items c.in_ok-atom_of-2.field-0 c.in_ok-body.ensures
+    c.in_ok-text.ensures (c.in_ok-atom_of-2.ensures ∙ ap Atom c.as_slice.ensures.value)

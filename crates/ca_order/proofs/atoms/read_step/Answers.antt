@@ -16,14 +16,20 @@ returns-then-room-eq0 c =
     let bytes = c.args.bytes.now in
     fault_at (HasText c.args.room) bytes bytes c.stuck-then-room-eq0.result c.stuck-then-room-eq0.ensures
     (stuck_no_room bytes c.args.room c.if-room-eq0.true
-    (λ b more e z. let first : b ≡ c.in-Some.first.now = same_first b c.in-Some.first.now more c.in-Some.behind.now bytes e c.in-Some.ensures.cases.0 in c.if-first-ne0.true (sym first ∙ z)))
+    (λ b more e z. let first : b ≡ c.in-Some.first.now = same_first b c.in-Some.first.now more c.in-Some.behind.now bytes e c.in-Some.ensures.cases.0 in
+    c.if-first-ne0.true (sym first ∙ z)))
 
 pub returns-in-Ok : goal.returns-in-Ok
 returns-in-Ok c =
     let char = c.in-Ok.field-0-0 in
     let e = c.in-Ok.ensures.read in
-    let h = c.in-Ok.ensures.scalar in
-    (omega arith, char, h, char_step c.args.bytes.now c.in-Some.first.now c.in-Some.behind.now c.in-Ok.behind.now char c.in-Some.ensures.cases.0 c.if-first-ne0.true h e)
+    let h = c.in-Ok.ensures.scalar in (
+      omega arith,
+      char,
+      h,
+      char_step c.args.bytes.now c.in-Some.first.now c.in-Some.behind.now c.in-Ok.behind.now char c.in-Some.ensures.cases.0
+          c.if-first-ne0.true h e,
+    )
 
 pub returns-in-Err : goal.returns-in-Err
 returns-in-Err c =
@@ -32,7 +38,8 @@ returns-in-Err c =
     let s = stuck_char bytes at c.in-Err.ensures.refused in (
       drop at bytes,
       length-drop at bytes,
-      stuck_first HasChar (HasText c.args.room) bytes (drop at bytes) chars_prefix_free (text_begins c.args.room) (λ u h. text_goes_on c.args.room u (omega arith) h) s,
+      stuck_first HasChar (HasText c.args.room) bytes (drop at bytes) chars_prefix_free (text_begins c.args.room)
+          (λ u h. text_goes_on c.args.room u (omega arith) h) s,
     )
 
 pub returns-then-room-eq0-2 : goal.returns-then-room-eq0-2

@@ -5,14 +5,16 @@ use Rattle.ca_order.proofs.binaries.read_binary.Goals as goal
 
 pub returns-in_default : goal.returns-in_default
 returns-in_default c =
-    begins_plain_binary c.args.bytes.now c.in_ok-body.body.now c.in_ok-body.rest.now c.in_ok-bin.field-0 c.in_ok-body.ensures c.in_default.ensures c.in_ok-bin.ensures.ok
+    begins_plain_binary c.args.bytes.now c.in_ok-body.body.now c.in_ok-body.rest.now c.in_ok-bin.field-0 c.in_ok-body.ensures c.in_default.ensures
+    c.in_ok-bin.ensures.ok
 
 pub unescape-requires : goal.unescape-requires
 unescape-requires c = is_opened c.args.bytes.now c.in_ok-body.body.now c.in_ok-body.rest.now c.in_ok-body.ensures
 
 pub returns : goal.returns
 returns c =
-    begins_binary c.args.bytes.now c.in_ok-body.body.now c.in_ok-body.rest.now c.in_ok-inside.inside.items c.bin_of.result c.in_ok-body.ensures c.in_ok-inside.ensures c.bin_of.ensures
+    begins_binary c.args.bytes.now c.in_ok-body.body.now c.in_ok-body.rest.now c.in_ok-inside.inside.items c.bin_of.result c.in_ok-body.ensures
+    c.in_ok-inside.ensures c.bin_of.ensures
 
 pub returns-in_err-body : goal.returns-in_err-body
 returns-in_err-body c =

@@ -15,18 +15,26 @@ returns-then-size-before c = few c.args.code.now c.in_ok-size.elements.now c.in_
 pub skip-key-requires : goal.skip-key-requires
 skip-key-requires c =
     let lt : c.args.keypos - 1 < c.in_ok-size.size = omega arith in
-    let p = pd c.args.code.now c.in_ok-size.elements.now c.in_ok-size.size c.args.keypos c.in_ok-size.ensures c.requires.keypos lt in
-    (code_of p.key ++ row_code (row_of p.after), key_codes c.args.code.now c.in_ok-size.elements.now c.in_ok-size.size c.args.keypos c.in_ok-size.ensures c.requires.keypos lt)
+    let p = pd c.args.code.now c.in_ok-size.elements.now c.in_ok-size.size c.args.keypos c.in_ok-size.ensures c.requires.keypos lt in (
+      code_of p.key ++ row_code (row_of p.after),
+      key_codes c.args.code.now c.in_ok-size.elements.now c.in_ok-size.size c.args.keypos c.in_ok-size.ensures
+          c.requires.keypos lt,
+    )
 
 pub skip-behind-requires : goal.skip-behind-requires
 skip-behind-requires c =
     let lt : c.args.keypos - 1 < c.in_ok-size.size = omega arith in
     let p = pd c.args.code.now c.in_ok-size.elements.now c.in_ok-size.size c.args.keypos c.in_ok-size.ensures c.requires.keypos lt in
-    let k = c.skip-key.ensures.rest (code_of p.key ++ row_code (row_of p.after)) (key_codes c.args.code.now c.in_ok-size.elements.now c.in_ok-size.size c.args.keypos c.in_ok-size.ensures c.requires.keypos lt) in
-    (row_code (row_of p.after), behind_codes c.args.code.now c.in_ok-size.elements.now c.in_ok-size.size c.args.keypos c.in_ok-size.ensures c.requires.keypos lt c.skip-key.result.now k)
+    let k = c.skip-key.ensures.rest (code_of p.key ++ row_code (row_of p.after)) (key_codes c.args.code.now c.in_ok-size.elements.now c.in_ok-size.size
+    c.args.keypos c.in_ok-size.ensures c.requires.keypos lt) in (
+      row_code (row_of p.after),
+      behind_codes c.args.code.now c.in_ok-size.elements.now c.in_ok-size.size c.args.keypos c.in_ok-size.ensures c.requires.keypos
+          lt c.skip-key.result.now k,
+    )
 
 pub overflow_sub-result : goal.overflow_sub-result
-overflow_sub-result c = omega (arith, object_length c.args.code.now c.in_ok-size.elements.now c.in_ok-size.size c.in_ok-size.ensures, c.skip-key.ensures.shorter)
+overflow_sub-result c =
+    omega (arith, object_length c.args.code.now c.in_ok-size.elements.now c.in_ok-size.size c.in_ok-size.ensures, c.skip-key.ensures.shorter)
 
 pub overflow_sub-result-2 : goal.overflow_sub-result-2
 overflow_sub-result-2 c = omega (

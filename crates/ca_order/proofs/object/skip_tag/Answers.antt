@@ -40,7 +40,8 @@ returns-in-128-clause-shorter c = omega (arith, c.in-Some.ensures.cases.1, c.ski
 
 pub returns-in-64-clause-codes : goal.returns-in-64-clause-codes
 returns-in-64-clause-codes c =
-    λ n end h. tuple_codes n c.in-Some.tag.now c.args.bytes.now c.in-Some.inside.now end h c.in-Some.ensures.cases.0 c.split_size.result.0 c.split_size.result.1.now c.in-64.is c.split_size.ensures.size
+    λ n end h. tuple_codes n c.in-Some.tag.now c.args.bytes.now c.in-Some.inside.now end h c.in-Some.ensures.cases.0 c.split_size.result.0
+    c.split_size.result.1.now c.in-64.is c.split_size.ensures.size
 
 pub returns-in-64-clause-shorter : goal.returns-in-64-clause-shorter
 returns-in-64-clause-shorter c = omega (arith, c.in-Some.ensures.cases.1, c.split_size.ensures.shorter)

@@ -3,7 +3,8 @@ use Rattle.std.proofs.lemmas.Result.{MatchResult-weaker}
 use Rattle.ca_term.specs.declared.bounds.TheConstants.{MOST_CODE_POINTS, MOST_ELEMENTS}
 use Rattle.ca_term.specs.Tree.{Integer}
 use Rattle.ca_term.specs.Code.{four_bytes}
-use Rattle.ca_order.specs.Languages.{HasTerm, HasTuple, HasRow, HasText, HasBytes}
+use Rattle.ca_term.specs.Levels.{HasTerm, HasRow}
+use Rattle.ca_order.specs.Languages.{HasTuple, HasText, HasBytes}
 use Rattle.ca_order.proofs.Faults.{refused, fault_at, fault_behind, fault_same}
 use Rattle.ca_order.proofs.FirstBytes.{IsNoTag, atom_rest, binary_rest, tuple_rest}
 use Rattle.ca_order.proofs.Lasts.{raise, tag_fault, stuck_no_tag, nil_term, pos_fault, neg_fault, pos_term, neg_term, digits_fit, cast_pos, cast_neg}
@@ -19,11 +20,13 @@ read_items-loop-init t c = row_none c.args.levels c.args.bytes.now c.new-items.r
 
 pub read_items-returns-in_err-item : goal.read_items-returns-in_err-item
 read_items-returns-in_err-item t c =
-    refused _ _ _ _ c.from_residual.ensures.1 (item_fault c.args.levels c.loop.counter c.args.count c.args.bytes.now c.loop.items.items c.loop.rest.now c.in_err-item.field-0.0 c.loop-test.true c.loop.invariant c.in_err-item.ensures)
+    refused _ _ _ _ c.from_residual.ensures.1 (item_fault c.args.levels c.loop.counter c.args.count c.args.bytes.now c.loop.items.items c.loop.rest.now
+    c.in_err-item.field-0.0 c.loop-test.true c.loop.invariant c.in_err-item.ensures)
 
 pub read_items-loop-preserved : goal.read_items-loop-preserved
 read_items-loop-preserved t c =
-    row_more c.args.levels c.loop.counter c.args.bytes.now c.loop.items.items c.push.new.self.items c.loop.rest.now c.in_ok-item.item c.in_ok-item.behind.now c.loop.invariant c.in_ok-item.ensures c.in_ok-push.ensures.ok
+    row_more c.args.levels c.loop.counter c.args.bytes.now c.loop.items.items c.push.new.self.items c.loop.rest.now c.in_ok-item.item c.in_ok-item.behind.now
+    c.loop.invariant c.in_ok-item.ensures c.in_ok-push.ensures.ok
 
 -- ---- a term by its first byte
 
@@ -35,21 +38,29 @@ read_last-returns-in_default t c =
 
 pub read_last-returns-in_err-number-in-23-to-31 : goal.read_last-returns-in_err-number-in-23-to-31
 read_last-returns-in_err-number-in-23-to-31 t c =
-    refused _ _ _ _ c.from_residual.ensures.1 (neg_fault c.args.levels c.in-Some.tag.now c.args.bytes.now c.in-Some.inside.now c.in_err-number-in-23-to-31.field-0.0 c.requires.least
+    refused _ _ _ _ c.from_residual.ensures.1 (neg_fault c.args.levels c.in-Some.tag.now c.args.bytes.now c.in-Some.inside.now
+    c.in_err-number-in-23-to-31.field-0.0 c.requires.least
     (omega arith) (omega arith) c.in-Some.ensures.cases.0 c.in_err-number-in-23-to-31.ensures)
 
 pub read_last-overflow_cast-number : goal.read_last-overflow_cast-number
 read_last-overflow_cast-number t c =
-    record { sfits = digits_fit true (0x1f - c.in-Some.tag.now) c.in-Some.inside.now c.in_ok-number-in-23-to-31.number c.in_ok-number-in-23-to-31.rest.now c.in_ok-number-in-23-to-31.ensures }
+    record {
+      sfits = digits_fit true (0x1f - c.in-Some.tag.now) c.in-Some.inside.now c.in_ok-number-in-23-to-31.number c.in_ok-number-in-23-to-31.rest.now
+          c.in_ok-number-in-23-to-31.ensures;
+    }
 
 pub read_last-returns-in_err-number-in-32-to-40 : goal.read_last-returns-in_err-number-in-32-to-40
 read_last-returns-in_err-number-in-32-to-40 t c =
-    refused _ _ _ _ c.from_residual-in_err-number-in-32-to-40.ensures.1 (pos_fault c.args.levels c.in-Some.tag.now c.args.bytes.now c.in-Some.inside.now c.in_err-number-in-32-to-40.field-0.0 c.requires.least
+    refused _ _ _ _ c.from_residual-in_err-number-in-32-to-40.ensures.1 (pos_fault c.args.levels c.in-Some.tag.now c.args.bytes.now c.in-Some.inside.now
+    c.in_err-number-in-32-to-40.field-0.0 c.requires.least
     (omega arith) (omega arith) c.in-Some.ensures.cases.0 c.in_err-number-in-32-to-40.ensures)
 
 pub read_last-overflow_cast-number-in-32-to-40 : goal.read_last-overflow_cast-number-in-32-to-40
 read_last-overflow_cast-number-in-32-to-40 t c =
-    record { sfits = digits_fit false (c.in-Some.tag.now - 0x20) c.in-Some.inside.now c.in_ok-number-in-32-to-40.number c.in_ok-number-in-32-to-40.rest.now c.in_ok-number-in-32-to-40.ensures }
+    record {
+      sfits = digits_fit false (c.in-Some.tag.now - 0x20) c.in-Some.inside.now c.in_ok-number-in-32-to-40.number c.in_ok-number-in-32-to-40.rest.now
+          c.in_ok-number-in-32-to-40.ensures;
+    }
 
 pub read_last-returns-in-48 : goal.read_last-returns-in-48
 read_last-returns-in-48 t c =
@@ -95,7 +106,8 @@ pub read_last-returns-in_ok-number-in-32-to-40 : goal.read_last-returns-in_ok-nu
 read_last-returns-in_ok-number-in-32-to-40 t c =
     let n = c.in_ok-number-in-32-to-40.number in
     let small = digits_fit false (c.in-Some.tag.now - 0x20) c.in-Some.inside.now n c.in_ok-number-in-32-to-40.rest.now c.in_ok-number-in-32-to-40.ensures in
-    pos_term c.args.levels c.in-Some.tag.now c.args.bytes.now c.in-Some.inside.now n c.in_ok-number-in-32-to-40.rest.now c.int-in-32-to-40.result c.requires.least (omega arith) c.in-Some.ensures.cases.0 c.in_ok-number-in-32-to-40.ensures (c.int-in-32-to-40.ensures ∙ ap Integer (cast_pos n small))
+    pos_term c.args.levels c.in-Some.tag.now c.args.bytes.now c.in-Some.inside.now n c.in_ok-number-in-32-to-40.rest.now c.int-in-32-to-40.result
+    c.requires.least (omega arith) c.in-Some.ensures.cases.0 c.in_ok-number-in-32-to-40.ensures (c.int-in-32-to-40.ensures ∙ ap Integer (cast_pos n small))
 
 pub read_last-returns-in_default-tag : goal.read_last-returns-in_default-tag
 read_last-returns-in_default-tag t c =
@@ -120,26 +132,31 @@ pub read_term-returns-in_err-head : goal.read_term-returns-in_err-head
 read_term-returns-in_err-head t c =
     let e = c.in_err-head.field-0.0 in
     let rest = c.loop-inside.rest.now in
-    refused _ _ _ _ c.from_residual.ensures.1 (heads_fault c.args.levels c.args.bytes.now c.loop-inside.heads.items rest e c.requires.least c.loop-inside.invariant
+    refused _ _ _ _ c.from_residual.ensures.1 (heads_fault c.args.levels c.args.bytes.now c.loop-inside.heads.items rest e c.requires.least
+    c.loop-inside.invariant
     (head_fault c.args.levels rest c.in-Some.inside.now e c.requires.least c.in-Some.ensures.1 c.in_err-head.ensures))
 
 pub read_term-loop-inside-preserved : goal.read_term-loop-inside-preserved
 read_term-loop-inside-preserved t c =
-    heads_more c.args.levels c.args.bytes.now c.loop-inside.heads.items c.push.new.self.items c.loop-inside.rest.now c.in-Some.inside.now c.in_ok-head.head c.in_ok-head.behind.now c.loop-inside.invariant c.in-Some.ensures.1 c.in_ok-head.ensures c.in_ok-push.ensures.ok
+    heads_more c.args.levels c.args.bytes.now c.loop-inside.heads.items c.push.new.self.items c.loop-inside.rest.now c.in-Some.inside.now c.in_ok-head.head
+    c.in_ok-head.behind.now c.loop-inside.invariant c.in-Some.ensures.1 c.in_ok-head.ensures c.in_ok-push.ensures.ok
 
 pub read_term-returns-in_err-last : goal.read_term-returns-in_err-last
 read_term-returns-in_err-last t c =
-    refused _ _ _ _ c.from_residual-in_err-last.ensures.1 (heads_fault c.args.levels c.args.bytes.now c.loop-inside.heads.items c.loop-inside.rest.now c.in_err-last.field-0.0 c.requires.least c.loop-inside.invariant c.in_err-last.ensures)
+    refused _ _ _ _ c.from_residual-in_err-last.ensures.1 (heads_fault c.args.levels c.args.bytes.now c.loop-inside.heads.items c.loop-inside.rest.now
+    c.in_err-last.field-0.0 c.requires.least c.loop-inside.invariant c.in_err-last.ensures)
 
 pub read_term-returns : goal.read_term-returns
 read_term-returns t c =
-    heads_term c.args.levels c.args.bytes.now c.loop-inside.heads.items c.loop-inside.rest.now c.in_ok-last.last c.in_ok-list.field-0 c.in_ok-last.behind.now c.requires.least c.requires.most c.loop-inside.invariant c.in_ok-last.ensures c.in_ok-list.ensures.ok
+    heads_term c.args.levels c.args.bytes.now c.loop-inside.heads.items c.loop-inside.rest.now c.in_ok-last.last c.in_ok-list.field-0 c.in_ok-last.behind.now
+    c.requires.least c.requires.most c.loop-inside.invariant c.in_ok-last.ensures c.in_ok-list.ensures.ok
 
 -- ---- a tuple
 
 pub read_tuple-returns-in_err-count : goal.read_tuple-returns-in_err-count
 read_tuple-returns-in_err-count t c =
-    refused _ _ _ _ c.from_residual.ensures.1 (size_fault c.args.levels c.args.bytes.now c.in_err-count.field-0.0 (rw c.most_elements.ensures at c.in_err-count.ensures))
+    refused _ _ _ _ c.from_residual.ensures.1 (size_fault c.args.levels c.args.bytes.now c.in_err-count.field-0.0
+    (rw c.most_elements.ensures at c.in_err-count.ensures))
 
 pub read_tuple-returns-in_err-items : goal.read_tuple-returns-in_err-items
 read_tuple-returns-in_err-items t c =
@@ -156,4 +173,5 @@ read_tuple-returns t c =
     let l = c.args.levels in
     let n = c.in_ok-count.count in
     let fits : n ≤ MOST_ELEMENTS = omega (arith, c.in_ok-count.ensures.0, c.most_elements.ensures, most_fits l) in
-    begins_tuple l n c.args.bytes.now c.in_ok-count.inside.now c.in_ok-items.items.items c.in_ok-items.rest.now c.in_ok-tuple.field-0 c.requires fits c.in_ok-count.ensures.1 c.in_ok-items.ensures c.in_ok-tuple.ensures.ok
+    begins_tuple l n c.args.bytes.now c.in_ok-count.inside.now c.in_ok-items.items.items c.in_ok-items.rest.now c.in_ok-tuple.field-0 c.requires fits
+    c.in_ok-count.ensures.1 c.in_ok-items.ensures c.in_ok-tuple.ensures.ok

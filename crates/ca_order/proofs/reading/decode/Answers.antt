@@ -1,7 +1,7 @@
 use Rattle.std.proofs.Common.{◌<◌, length, arith, subst}
 use Rattle.std.proofs.lemmas.Bool.Decides.{nat_tests}
 use Rattle.ca_term.specs.declared.bounds.TheConstants.{MOST_DEPTH}
-use Rattle.ca_order.specs.Languages.{HasTerm}
+use Rattle.ca_term.specs.Levels.{HasTerm}
 use Rattle.ca_order.specs.Reads.{IsReadFault}
 use Rattle.ca_order.proofs.Decoded.{decode_stuck, decode_rest}
 use Rattle.ca_order.proofs.reading.decode.Goals as goal

@@ -15,4 +15,5 @@ pub returns-then-number-most : goal.returns-then-number-most
 returns-then-number-most c =
     let bytes = c.args.bytes.now in
     fault_at (HasSize 0 c.args.most) bytes bytes c.stuck-then-number-most.result c.stuck-then-number-most.ensures
-    (stuck_byte c.args.most bytes (λ b more e h. let first : b ≡ c.in-Some.byte.now = same_first b c.in-Some.byte.now more c.in-Some.rest.now bytes e c.in-Some.ensures.cases.0 in absurd (omega (arith, first, c.from-number.ensures))))
+    (stuck_byte c.args.most bytes (λ b more e h. let first : b ≡ c.in-Some.byte.now = same_first b c.in-Some.byte.now more c.in-Some.rest.now bytes e
+    c.in-Some.ensures.cases.0 in absurd (omega (arith, first, c.from-number.ensures))))

@@ -8,12 +8,14 @@ use Rattle.ca_order.proofs.reading.read_size.Goals as goal
 pub returns-in_err-rest : goal.returns-in_err-rest
 returns-in_err-rest c =
     let k = c.loop.counter in
-    refused _ _ _ _ c.from_residual.ensures.1 (zero_fault k (2 - k) c.args.most c.args.bytes.now c.loop.rest.now c.in_err-rest.field-0.0 (omega arith) c.loop.invariant c.in_err-rest.ensures)
+    refused _ _ _ _ c.from_residual.ensures.1 (zero_fault k (2 - k) c.args.most c.args.bytes.now c.loop.rest.now c.in_err-rest.field-0.0 (omega arith)
+    c.loop.invariant c.in_err-rest.ensures)
 
 pub loop-preserved : goal.loop-preserved
 loop-preserved c =
     let more : c.args.bytes.now ≡ zero_bytes (suc c.loop.counter) ++ c.in_ok-rest.field-0.1.now =
-    zero_more c.loop.counter c.in_ok-rest.field-0.0 c.args.bytes.now c.loop.rest.now c.in_ok-rest.field-0.1.now c.loop.invariant c.in_ok-rest.ensures.0 c.in_ok-rest.ensures.1 in
+    zero_more c.loop.counter c.in_ok-rest.field-0.0 c.args.bytes.now c.loop.rest.now c.in_ok-rest.field-0.1.now c.loop.invariant c.in_ok-rest.ensures.0
+    c.in_ok-rest.ensures.1 in
     more ∙ ap (λ k. zero_bytes k ++ c.in_ok-rest.field-0.1.now) (sym (add-one c.loop.counter))
 
 pub returns : goal.returns

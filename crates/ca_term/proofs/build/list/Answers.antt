@@ -4,4 +4,5 @@ use Rattle.ca_term.proofs.build.list.Goals as goal
 
 pub loop-head-preserved : goal.loop-head-preserved
 loop-head-preserved c =
-    rw c.in-Ok.ensures.ok (list_pop c.loop-head.heads.items c.pop.new.self.items c.in-Some.head c.loop-head.list c.in-Some.ensures.items ∙ c.loop-head.invariant)
+    rw c.in-Ok.ensures.ok (list_pop c.loop-head.heads.items c.pop.new.self.items c.in-Some.head c.loop-head.list c.in-Some.ensures.items
+    ∙ c.loop-head.invariant)

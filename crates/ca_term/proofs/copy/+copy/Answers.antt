@@ -16,7 +16,8 @@ try_copy-loop-rest-preserved t c =
 pub try_copy-invariant_of-copy : goal.try_copy-invariant_of-copy
 try_copy-invariant_of-copy t c =
     let popped : c.loop-head.heads.items ≡ c.pop.new.self.items ++ (c.in-Some.head, c.in-Some.depth) ∷ [] = rw (c.in-Some.is) at c.pop.ensures.items in
-    let k = kept_last c.pop.new.self.items c.loop-head.heads.items c.in-Some.head c.in-Some.depth c.loop-head.copy c.args.term.now c.loop-head.invariant popped in
+    let k = kept_last c.pop.new.self.items c.loop-head.heads.items c.in-Some.head c.in-Some.depth c.loop-head.copy c.args.term.now c.loop-head.invariant
+    popped in
     let h : c.in_ok-head-2.head.value ≡ c.in-Some.head = c.in_ok-head-2.ensures.ok in
     let l : c.in_ok-tail.tail.value ≡ c.loop-head.copy = c.in_ok-tail.ensures.ok in
     record { depth_is = rw (h, l) k.1; bounded = rw (h, l) k.2 }
@@ -24,7 +25,8 @@ try_copy-invariant_of-copy t c =
 pub try_copy-loop-head-preserved : goal.try_copy-loop-head-preserved
 try_copy-loop-head-preserved t c =
     let popped : c.loop-head.heads.items ≡ c.pop.new.self.items ++ (c.in-Some.head, c.in-Some.depth) ∷ [] = rw (c.in-Some.is) at c.pop.ensures.items in
-    let k = kept_last c.pop.new.self.items c.loop-head.heads.items c.in-Some.head c.in-Some.depth c.loop-head.copy c.args.term.now c.loop-head.invariant popped in
+    let k = kept_last c.pop.new.self.items c.loop-head.heads.items c.in-Some.head c.in-Some.depth c.loop-head.copy c.args.term.now c.loop-head.invariant
+    popped in
     let h : c.in_ok-head-2.head.value ≡ c.in-Some.head = c.in_ok-head-2.ensures.ok in
     let l : c.in_ok-tail.tail.value ≡ c.loop-head.copy = c.in_ok-tail.ensures.ok in
     rw (h, l) k.0

@@ -22,4 +22,5 @@ returns-in-None-clause-refused c =
 
 pub returns-in-None-2-clause-refused : goal.returns-in-None-2-clause-refused
 returns-in-None-2-clause-refused c =
-    no_lead c.args.bytes.now (sym c.decode-char.ensures.char ∙ c.in-None.is) (λ h. false≢true (sym c.if-begins_character.false ∙ c.begins_character.ensures.1 h))
+    no_lead c.args.bytes.now (sym c.decode-char.ensures.char ∙ c.in-None.is) (λ h. false≢true
+    (sym c.if-begins_character.false ∙ c.begins_character.ensures.1 h))
