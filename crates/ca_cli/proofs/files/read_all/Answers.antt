@@ -29,7 +29,7 @@ returns-in_err-lines-clause-complete g c w faultless =
     let held = first_held string_bytes names c.loop-name.name-index c.name-item.result within c.name-item.is content _ (c.loop-name.invariant.held w) in
     let complete = rw (c.loop-name.invariant.same c.as_str.result.now, c.as_str.ensures.value) at c.in_err-lines.ensures.complete in
     let p = err_from_is_err_and c.from_residual.result c.from_residual.ensures.1 in
-    rw (p.1, p.2) (complete held.file held.own held.told held.fits held.read (λ r. faultless (risen_since _ _ _ c.loop-name.invariant.later r)))
+    rw (p.1, p.2) (complete held.0 held.1 held.2 held.3 held.4 (λ r. faultless (risen_since _ _ _ c.loop-name.invariant.later r)))
 
 pub loop-name-preserved : goal.loop-name-preserved
 loop-name-preserved g c =
