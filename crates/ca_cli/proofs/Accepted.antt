@@ -104,6 +104,7 @@ module _ {X : Type 0} (f : X → List ℕ) (names : List X) (i : ℕ) (name : X)
         fetches = adds_both (all_well (map f (take i names))) (fetched (f name) end ∷ []) h.fetches g;
       }
 
+      -- it was not accepted: what the call comes to, where these files are asked for
       pub fault_outcome : (number : ℕ) (status : Status) → number ≡ i + 1 → first.faults_before ≤ next.faults_before →
           IsFault next (wanted_of number (f name) (content (f name)) room) status → IsOutcome call status (text_of_status status)
       fault_outcome number Done e o b = absurd b

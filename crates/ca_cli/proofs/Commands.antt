@@ -8,6 +8,7 @@ use Rattle.ca_cmd.specs.declared.line.Line.{Line}
 use Rattle.ca_cmd.proofs.Built.{are_built}
 use Rattle.ca_cli.specs.Headline.{AreFilesOf}
 
+-- the commands of well-formed files have a case in the step
 pub all_built : (files : List (List ℕ)) (all : List (List Line)) → AreFilesOf files (map numbered all)
     → All (λ lines. list_all is_built (commands_in (numbered lines)) ≡ true) all
 all_built [] [] h k d m = absurd (omega arith)

@@ -40,8 +40,8 @@ loop-name-preserved g c =
     (g.F.Shelf.faults c.read_one.new.shelf) in
     let read = rw (c.loop-name.invariant.same c.as_str.result.now, c.as_str.ensures.value) at c.in_ok-lines.ensures.read in
     let fetched = rw c.as_str.ensures.value at c.in_ok-lines.ensures.fetched in
-    let more = reads_next string_bytes names c.loop-name.name-index c.name-item.result within c.name-item.is content _ _ next refl _ c.loop-name.invariant.reading
-    (numbered c.in_ok-lines.lines) c.in_ok-lines.count read fetched in
+    let more = reads_next string_bytes names c.loop-name.name-index c.name-item.result within c.name-item.is content _ _ next refl _
+    c.loop-name.invariant.reading (numbered c.in_ok-lines.lines) c.in_ok-lines.count read fetched in
     let held = held_on string_bytes names c.loop-name.name-index c.name-item.result within c.name-item.is content _ _ _ read in
     let pushed : map numbered c.push_reserved.new.self.items ≡ map numbered c.loop-name.all.items ++ numbered c.in_ok-lines.lines ∷ [] =
     ap (map numbered) c.push_reserved.ensures.items ∙ map-append numbered c.loop-name.all.items _ in
