@@ -1,17 +1,17 @@
 -- The files of a call, accepted one by one, and what the next one comes to.
 use Rattle.std.proofs.Common.{◌≡◌, ℕ, ◌+◌, ◌-◌, ◌≤◌, ◌<◌, List, [], ◌∷◌, ◌++◌, length, map, take, drop, get_or, arith, zero-add, refl, sym, ◌∙◌, ap, subst, inr, inl, Some, Ok, Err}
 use Rattle.std.proofs.lemmas.List.{length-map, length-take-le, map-append}
-use Rattle.std.proofs.lemmas.List.Sums.{sum_by-append, sum_by-cons}
+use Rattle.std.proofs.lemmas.List.Sums.{sum_by-append}
 use Rattle.std.specs.Prelude.{Result}
 use Rattle.ca_outside.proofs.Counts.{risen_since}
 use Rattle.ca_outside.proofs.Growth.{grows_more}
 use Rattle.ca_outside.specs.Fetches.{Fetched, fetched}
-use Rattle.ca_outside.specs.Known.{Content, Untold, Missing, Holds, Tells, Grows}
+use Rattle.ca_outside.specs.Known.{Content, Untold, Missing, Holds, Tells}
 use Rattle.ca_outside.specs.declared.shelf.FetchFault.{FetchFault}
 use Rattle.ca_outside.specs.declared.shelf.FetchFault.TheVariants as fault
-use Rattle.ca_cmd.specs.File.{Numbered, IsFileOf}
+use Rattle.ca_cmd.specs.File.{Numbered}
 use Rattle.ca_cli.specs.Call.{Call, Change, change_of, call_of, Adds}
-use Rattle.ca_cli.specs.Headline.{ArePairs, AreFilesOf}
+use Rattle.ca_cli.specs.Headline.{ArePairs}
 use Rattle.ca_cli.specs.Outcome.{AreAccepted, AreHeld, IsReached, IsOutcome, all_well, most_bytes, total_length}
 use Rattle.ca_cli.specs.Reading.{wanted_of, IsRead, IsFault}
 use Rattle.ca_cli.specs.StatusText.{text_of_status}
@@ -27,28 +27,12 @@ pub record IsReading (content : List ℕ → Content) (shelf : Change Fetched) (
   pub accepted : AreAccepted content names files lines
   pub left : total_length files + room ≡ most_bytes
 
--- The first of the files that a shelf holds fits into the room, and it holds the others in the room that this one leaves.
-pub record HasFirst (content : List ℕ → Content) (name : List ℕ) (later : List (List ℕ)) (room : ℕ) : Type 0 where
-  pub file : List ℕ
-  pub own : List Numbered
-  pub told : content name ≡ Holds file
-  pub fits : length file ≤ room
-  pub read : IsFileOf file own
-  pub others : AreHeld content later (room - length file)
-
 pairs_more : {X Y : Type 0} (R : X → Y → Type 0) (xs : List X) (ys : List Y) (x : X) (y : Y) → ArePairs R xs ys → R x y →
     ArePairs R (xs ++ x ∷ []) (ys ++ y ∷ [])
 pairs_more R [] [] x y h r = (r, tt)
 pairs_more R [] (b ∷ ys) x y h r = absurd h
 pairs_more R (a ∷ xs) [] x y h r = absurd h
 pairs_more R (a ∷ xs) (b ∷ ys) x y h r = (h.0, pairs_more R xs ys x y h.1 r)
-
-adds_more : {A : Type 0} (first next : Change A) (xs ys : List A) → first.after ≡ next.before → Adds first xs → Adds next ys →
-    Grows first.before next.after (xs ++ ys)
-adds_more first next xs ys e g h = grows_more first.before first.after next.after xs ys g (rw e h)
-
-total_first : (file : List ℕ) (files : List (List ℕ)) → total_length (file ∷ files) ≡ length file + total_length files
-total_first file files = sum_by-cons (λ (f : List ℕ). length f) file files
 
 total_more : (files : List (List ℕ)) (file : List ℕ) → total_length (files ++ file ∷ []) ≡ total_length files + length file
 total_more files file = sum_by-append (λ (f : List ℕ). length f) files (file ∷ []) ∙ ap (λ (n : ℕ). total_length files + n) (zero-add (length file))
@@ -58,37 +42,29 @@ told_same Untold file found e t = cc
 told_same Missing file found e t = absurd t
 told_same (Holds x) file found e t = let s : x ≡ file = cc in sym s ∙ t
 
-first_of : (content : List ℕ → Content) (name : List ℕ) (later : List (List ℕ)) (room : ℕ) (files : List (List ℕ)) (lines : List (List Numbered)) →
-    map content (name ∷ later) ≡ map Holds files → total_length files ≤ room → AreFilesOf files lines → HasFirst content name later room
-first_of content name later room [] lines e l r = cc
-first_of content name later room (file ∷ files) [] e l r = absurd r
-first_of content name later room (file ∷ files) (own ∷ lines) e l r =
-    let fits : length file ≤ room = omega (arith, l, total_first file files) in
-    let left : total_length files ≤ room - length file = omega (arith, l, total_first file files) in
-    record { file = file; own = own; told = cc; fits = fits; read = r.0; others = record { files = files; told = cc; limit = left; lines = lines; read = r.1 } }
-
 -- The names, seen by f, one of them, and the room for its file.
 module _ {X : Type 0} (f : X → List ℕ) (names : List X) (i : ℕ) (name : X) (inside : i < length names) (here : name ≡ get_or names i name)
     (content : List ℕ → Content) (room : ℕ) where
   -- where the shelf holds the files from this one on
-  pub first_held : AreHeld content (map f (drop i names)) room → HasFirst content (f name) (map f (drop (i + 1) names)) room
-  first_held w =
-      let held = subst (λ (x : List (List ℕ)). AreHeld content x room) (rest_here f names i name inside here) w in
-      first_of content (f name) _ room held.files held.lines held.told held.limit held.read
+  pub first_held : AreHeld content (map f (drop i names)) room → AreHeld content (f name ∷ map f (drop (i + 1) names)) room
+  first_held w = subst (λ (x : List (List ℕ)). AreHeld content x room) (rest_here f names i name inside here) w
 
   -- once this one was read, the shelf holds those behind it in the room that is left
   pub held_on : (own : List Numbered) (count : ℕ) → IsRead (content (f name)) room own count →
       AreHeld content (map f (drop i names)) room → AreHeld content (map f (drop (i + 1) names)) (room - count)
   held_on own count r w =
       let h = first_held w in
-      let same : length h.file ≡ count = ap (λ (x : List ℕ). length x) (told_same (content (f name)) h.file r.file h.told r.fetched) ∙ sym r.counted in
-      subst (λ (n : ℕ). AreHeld content (map f (drop (i + 1) names)) (room - n)) same h.others
+      let same : length h.0 ≡ count = ap (λ (x : List ℕ). length x) (told_same (content (f name)) h.0 r.file h.2 r.fetched) ∙ sym r.counted in
+      subst (λ (n : ℕ). AreHeld content (map f (drop (i + 1) names)) (room - n)) same h.5
 
   -- the files before this one were accepted, and then this one is fetched
   module _ (first next : Change Fetched) (joined : first.after ≡ next.before) (lines : List (List Numbered))
       (h : IsReading content first (map f (take i names)) lines room) where
     abbrev whole : Change Fetched
     whole = change_of first.before next.after first.faults_before next.faults_after
+
+    adds_both : (xs ys : List Fetched) → Adds first xs → Adds next ys → Adds whole (xs ++ ys)
+    adds_both xs ys g k = grows_more first.before first.after next.after xs ys g (rw joined k)
 
     -- it was read
     pub reads_next : (own : List Numbered) (count : ℕ) → IsRead (content (f name)) room own count → Adds next (fetched (f name) (Ok tt) ∷ [])
@@ -100,7 +76,7 @@ module _ {X : Type 0} (f : X → List ℕ) (names : List X) (i : ℕ) (name : X)
         subst (λ (x : List (List ℕ)). IsReading content whole x (lines ++ own ∷ []) (room - count)) (sym (first_more f names i name inside here))
         record {
           files = h.files ++ r.file ∷ [];
-          fetches = rw (map-append (λ (n : List ℕ). fetched n (Ok tt)) before (f name ∷ [])) (adds_more first next _ _ joined h.fetches g);
+          fetches = rw (map-append (λ (n : List ℕ). fetched n (Ok tt)) before (f name ∷ [])) (adds_both (all_well before) _ h.fetches g);
           accepted = record {
             fetched = pairs_more _ before h.files (f name) r.file h.accepted.fetched r.fetched;
             limit = omega (arith, total, h.left, r.fits);
@@ -125,9 +101,10 @@ module _ {X : Type 0} (f : X → List ℕ) (names : List X) (i : ℕ) (name : X)
         files = h.files;
         lines = lines;
         accepted = h.accepted;
-        fetches = adds_more first next (all_well (map f (take i names))) (fetched (f name) end ∷ []) joined h.fetches g;
+        fetches = adds_both (all_well (map f (take i names))) (fetched (f name) end ∷ []) h.fetches g;
       }
 
+      -- it was not accepted: what the call comes to, where these files are asked for
       pub fault_outcome : (number : ℕ) (status : Status) → number ≡ i + 1 → first.faults_before ≤ next.faults_before →
           IsFault next (wanted_of number (f name) (content (f name)) room) status → IsOutcome call status (text_of_status status)
       fault_outcome number Done e o b = absurd b

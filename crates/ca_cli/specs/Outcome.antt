@@ -6,7 +6,7 @@ use Rattle.ca_outside.specs.declared.shelf.FetchFault.{FetchFault}
 use Rattle.ca_outside.specs.declared.shelf.FetchFault.TheVariants as fault
 use Rattle.ca_term.specs.Tree.{Tree}
 use Rattle.ca_ets.specs.Command.{Answer}
-use Rattle.ca_cmd.specs.File.{Numbered, IsRefusedAt}
+use Rattle.ca_cmd.specs.File.{Numbered, IsFileOf, IsRefusedAt}
 use Rattle.ca_cmd.specs.declared.fault.LineWhy.{LineWhy}
 use Rattle.ca_cli.specs.Call.{Call, Adds, HasFailed}
 use Rattle.ca_cli.specs.Headline.{ArePairs, AreFilesOf, IsAnswer, AllAreReplies}
@@ -95,13 +95,11 @@ IsOutcome call (BadLine file line at) bytes = IsRefused call file line at × (by
 IsOutcome call NoMemory bytes = IsStopped call × (bytes ≡ [])
 IsOutcome call (TooLong file) bytes = IsTooLong call file × (bytes ≡ text_of_status (TooLong file))
 
--- The shelf tells the contents of these names, they are within this room together, and each line of them holds a command.
-pub record AreHeld (content : List ℕ → Content) (names : List (List ℕ)) (room : ℕ) : Type 0 where
-  pub files : List (List ℕ)
-  pub told : map content names ≡ map Holds files
-  pub limit : total_length files ≤ room
-  pub lines : List (List Numbered)
-  pub read : AreFilesOf files lines
+-- The shelf tells a file for each of these names, which holds lines and fits into the room that those before it leave.
+abbrev pub AreHeld : (List ℕ → Content) → List (List ℕ) → ℕ → Type 0
+AreHeld content [] room = Unit {0}
+AreHeld content (name ∷ names) room = (file : List ℕ) × (lines : List Numbered)
+    × (content name ≡ Holds file) × (length file ≤ room) × IsFileOf file lines × AreHeld content names (room - length file)
 
 -- Files are asked for, and the shelf holds such files, within the limit.
 pub record IsWellFormed (call : Call) : Type 0 where

@@ -18,9 +18,11 @@ grows_more (Some x) None (Some z) xs ys g h = absurd h
 grows_more (Some x) (Some y) None xs ys g h = tt
 grows_more (Some x) (Some y) (Some z) xs ys g h = rw (h, g, append_assoc)
 
+-- a further part of the bytes
 pub grows_by : (a b c : Option (List ℕ)) (bytes : List ℕ) (at n : ℕ) → Grows a b (take at bytes) → Grows b c (take n (drop at bytes))
     → Grows a c (take (at + n) bytes)
 grows_by a b c bytes at n g h = rw (take-add at n bytes) (grows_more a b c (take at bytes) (take n (drop at bytes)) g h)
 
+-- the part that is the whole
 pub grows_whole : (a b : Option (List ℕ)) (bytes : List ℕ) (at : ℕ) → length bytes ≤ at → Grows a b (take at bytes) → Grows a b bytes
 grows_whole a b bytes at h g = rw (← take_all at bytes h) g

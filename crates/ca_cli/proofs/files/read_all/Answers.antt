@@ -29,7 +29,7 @@ returns-in_err-lines-clause-complete g c w faultless =
     let held = first_held string_bytes names c.loop-name.name-index c.name-item.result within c.name-item.is content _ (c.loop-name.invariant.held w) in
     let complete = rw (c.loop-name.invariant.same c.as_str.result.now, c.as_str.ensures.value) at c.in_err-lines.ensures.complete in
     let p = err_from_is_err_and c.from_residual.result c.from_residual.ensures.1 in
-    rw (p.1, p.2) (complete held.file held.own held.told held.fits held.read (λ r. faultless (risen_since _ _ _ c.loop-name.invariant.later r)))
+    rw (p.1, p.2) (complete held.0 held.1 held.2 held.3 held.4 (λ r. faultless (risen_since _ _ _ c.loop-name.invariant.later r)))
 
 pub loop-name-preserved : goal.loop-name-preserved
 loop-name-preserved g c =
@@ -40,8 +40,8 @@ loop-name-preserved g c =
     (g.F.Shelf.faults c.read_one.new.shelf) in
     let read = rw (c.loop-name.invariant.same c.as_str.result.now, c.as_str.ensures.value) at c.in_ok-lines.ensures.read in
     let fetched = rw c.as_str.ensures.value at c.in_ok-lines.ensures.fetched in
-    let more = reads_next string_bytes names c.loop-name.name-index c.name-item.result within c.name-item.is content _ _ next refl _ c.loop-name.invariant.reading
-    (numbered c.in_ok-lines.lines) c.in_ok-lines.count read fetched in
+    let more = reads_next string_bytes names c.loop-name.name-index c.name-item.result within c.name-item.is content _ _ next refl _
+    c.loop-name.invariant.reading (numbered c.in_ok-lines.lines) c.in_ok-lines.count read fetched in
     let held = held_on string_bytes names c.loop-name.name-index c.name-item.result within c.name-item.is content _ _ _ read in
     let pushed : map numbered c.push_reserved.new.self.items ≡ map numbered c.loop-name.all.items ++ numbered c.in_ok-lines.lines ∷ [] =
     ap (map numbered) c.push_reserved.ensures.items ∙ map-append numbered c.loop-name.all.items _ in

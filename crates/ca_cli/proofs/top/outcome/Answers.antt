@@ -9,7 +9,8 @@ returns-in-Err-clause-outcome g c =
 
 pub returns-in-Err-clause-complete : goal.returns-in-Err-clause-complete
 returns-in-Err-clause-complete g c w faultless =
-    told_want c.in-Err.status _ _ (c.in-Err.ensures.complete (held_asked _ (request_in c.in-Some.request) c.in-Some.ensures.asked w) faultless) c.told-in-Err.ensures
+    let want = c.in-Err.ensures.complete (held_asked _ (request_in c.in-Some.request) c.in-Some.ensures.asked w) faultless in
+    told_want c.in-Err.status _ _ want c.told-in-Err.ensures
 
 pub returns-in_default-answer-clause-outcome : goal.returns-in_default-answer-clause-outcome
 returns-in_default-answer-clause-outcome g c =

@@ -9,9 +9,7 @@ returns-in_default-clause-over c =
     λ n. (λ e. cc, λ over. absurd (rw nothing at over))
 
 pub returns-in_default-clause-after : goal.returns-in_default-clause-after
-returns-in_default-clause-after c =
-    let nothing : next_bytes c.args.self.now c.args.name.now ≡ None = grind (arith, common_steps) in
-    inl (grind (arith, common_steps))
+returns-in_default-clause-after c = inl (grind (arith, common_steps))
 
 pub returns-clause-fails : goal.returns-clause-fails
 returns-clause-fails c =
@@ -19,6 +17,4 @@ returns-clause-fails c =
     λ n. (λ e. absurd (c.fill-result.ensures.sure e), λ h. cc)
 
 pub returns-clause-after : goal.returns-clause-after
-returns-clause-after c =
-    let some : next_bytes c.args.self.now c.args.name.now ≡ Some c.in-Some.bytes.now = grind (arith, common_steps) in
-    inl (grind (arith, common_steps))
+returns-clause-after c = inl (grind (arith, common_steps))
