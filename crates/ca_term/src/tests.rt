@@ -14,12 +14,12 @@ fn integers(alloc: Global, values: &[i64]) -> Result<Term, TermFault> {
 }
 
 // The list of these integers and this tail.
-fn list(alloc: Global, values: &[i64], tail: Term) -> Result<Term, TermFault> {
-    let mut list = tail;
-    for value in values.iter().rev() {
-        list = cons(alloc, int(*value), list)?;
+fn integer_list(alloc: Global, values: &[i64], tail: Term) -> Result<Term, TermFault> {
+    let mut items = Terms::new(alloc);
+    for value in values {
+        items.push(int(*value))?;
     }
-    Ok(list)
+    list(alloc, items, tail)
 }
 
 // The empty tuple inside this many tuples of one element.
@@ -53,10 +53,10 @@ fn orders_all_kinds(rt: HostRuntime) -> Result<(), Fail> {
         ascending.push(integers(alloc, values)?)?;
     }
     ascending.push(nil())?;
-    ascending.push(list(alloc, &[1], int(7))?)?;
-    ascending.push(list(alloc, &[1], nil())?)?;
-    ascending.push(list(alloc, &[1, 2], nil())?)?;
-    ascending.push(list(alloc, &[2], nil())?)?;
+    ascending.push(integer_list(alloc, &[1], int(7))?)?;
+    ascending.push(integer_list(alloc, &[1], nil())?)?;
+    ascending.push(integer_list(alloc, &[1, 2], nil())?)?;
+    ascending.push(integer_list(alloc, &[2], nil())?)?;
     for bytes in [
         b"".as_slice(),
         b"\0".as_slice(),
@@ -104,7 +104,7 @@ fn keeps_the_bounds(rt: HostRuntime) -> Result<(), Fail> {
 fn goes_along_long_lists(rt: HostRuntime) -> Result<(), Fail> {
     let alloc = rt.alloc();
     let numbers = vec![in alloc; 5i64; 100_000]?;
-    let long = list(alloc, numbers.as_slice(), nil())?;
+    let long = integer_list(alloc, numbers.as_slice(), nil())?;
     let copy = try_copy(alloc, &long)?;
     assert_eq!(rt; term_order(&long, &copy), Ordering::Equal);
     assert_eq!(rt; code_length(&long), MOST_CODE_BYTES + 1);
@@ -121,4 +121,23 @@ fn pushes_into_room(rt: HostRuntime) -> Result<(), Fail> {
     terms.push(nil())?;
     assert_eq!(rt; terms.len(), 2);
     Ok(())
+}
+
+#[test]
+fn reads_characters(rt: HostRuntime) {
+    match character("é!".as_bytes()) {
+        Ok((char, rest)) => {
+            assert_eq!(rt; char, 'é');
+            assert_eq!(rt; rest, b"!".as_slice());
+        }
+        Err(_) => assert!(rt; false),
+    }
+    for (bytes, at) in [
+        (b"".as_slice(), 0),
+        (b"\xff".as_slice(), 0),
+        (b"\xed\xa0\x80".as_slice(), 1),
+        (b"\xe2\x82".as_slice(), 2),
+    ] {
+        assert_eq!(rt; character(bytes).err(), Some(at));
+    }
 }
