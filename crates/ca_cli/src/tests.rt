@@ -35,7 +35,7 @@ fn answers<R: Abort + AllocGlobal>(
 ) -> Result<(), Fail> {
     let alloc = rt.alloc();
     let files = files_of(alloc, &[("a", a.as_bytes()), ("b", b.as_bytes())])?;
-    let mut shelf = SureDrawer::new(alloc, files);
+    let mut shelf = SureDrawer::new(files);
     let mut sink = SureTape::new(alloc, 1000)?;
     let status = run(
         alloc,
@@ -94,11 +94,7 @@ fn answers_several_files(rt: HostRuntime) -> Result<(), Fail> {
 
 // How a run of these words ends over a drawer with one file, `a`, and what it writes.
 fn ended(alloc: Global, words: &str, a: &str) -> Result<(Status, SureTape), AllocError> {
-    let mut shelf = Drawer::new(
-        alloc,
-        files_of(alloc, &[("a", a.as_bytes())])?,
-        Vec::new(alloc),
-    );
+    let mut shelf = Drawer::new(files_of(alloc, &[("a", a.as_bytes())])?, Vec::new(alloc));
     let mut sink = SureTape::new(alloc, 1000)?;
     let status = run(
         alloc,
@@ -130,7 +126,7 @@ fn takes_up_to_64_files(rt: HostRuntime) -> Result<(), Fail> {
         for _ in 0..count {
             words.push("a".to_string(alloc)?)?;
         }
-        let mut shelf = SureDrawer::new(alloc, Vec::new(alloc));
+        let mut shelf = SureDrawer::new(Vec::new(alloc));
         let mut sink = SureTape::new(alloc, 1000)?;
         let ended = run(alloc, words.as_slice(), &mut shelf, &mut sink);
         assert_eq!(rt; ended, status, "at {count}");
@@ -165,7 +161,7 @@ fn fetches_no_file_after_a_bad_one(rt: HostRuntime) -> Result<(), Fail> {
         ("run", "lookup 1\n", [].as_slice()),
     ] {
         let files = [("a", a.as_bytes()), ("b", b"".as_slice())];
-        let mut shelf = Drawer::new(alloc, files_of(alloc, &files)?, Vec::new(alloc));
+        let mut shelf = Drawer::new(files_of(alloc, &files)?, Vec::new(alloc));
         let mut sink = SureTape::new(alloc, 1000)?;
         let words = words_of(alloc, words)?;
         run(alloc, words.as_slice(), &mut shelf, &mut sink);
@@ -190,7 +186,7 @@ fn reads_no_more_bytes_than_the_limit(rt: HostRuntime) -> Result<(), Fail> {
     ] {
         let bytes = vec![in alloc; b'x'; length]?;
         let files = [("a", b"lookup 1\n".as_slice()), ("b", bytes.as_slice())];
-        let mut shelf = SureDrawer::new(alloc, files_of(alloc, &files)?);
+        let mut shelf = SureDrawer::new(files_of(alloc, &files)?);
         let mut sink = SureTape::new(alloc, 1000)?;
         let ended = run(
             alloc,
@@ -207,7 +203,7 @@ fn reads_no_more_bytes_than_the_limit(rt: HostRuntime) -> Result<(), Fail> {
 fn stops_where_the_sink_fails(rt: HostRuntime) -> Result<(), Fail> {
     let alloc = rt.alloc();
     let files = [("a", b"insert {1,a}\nlookup 1\n".as_slice())];
-    let mut shelf = SureDrawer::new(alloc, files_of(alloc, &files)?);
+    let mut shelf = SureDrawer::new(files_of(alloc, &files)?);
     let mut sink = Tape::new(alloc, 9, 4, Vec::new(alloc))?;
     let status = run(
         alloc,

@@ -31,15 +31,16 @@ impl Model for Drawer {
 
 impl Drawer {
     /// A drawer of these files by their names. Fetches are numbered from 1, and those in `fails` fail.
-    pub fn new(alloc: Global, files: Vec<(String, Vec<u8>)>, fails: Vec<u64>) -> Drawer
+    pub fn new(files: Vec<(String, Vec<u8>)>, fails: Vec<u64>) -> Drawer
         ensures { result ≡ record { files = files_of files.items; fails = fails.items; fetches = 0; faults = 0; log = Some [] } }
     {
+        let log = FetchLog::new(*files.allocator());
         Drawer {
             files,
             fails,
             fetches: 0,
             faults: 0,
-            log: FetchLog::new(alloc),
+            log,
         }
     }
 
@@ -118,13 +119,11 @@ impl Model for SureDrawer {
 
 impl SureDrawer {
     /// A drawer of these files by their names.
-    pub fn new(alloc: Global, files: Vec<(String, Vec<u8>)>) -> SureDrawer
+    pub fn new(files: Vec<(String, Vec<u8>)>) -> SureDrawer
         ensures { result ≡ record { files = files_of files.items; log = Some [] } }
     {
-        SureDrawer {
-            files,
-            log: FetchLog::new(alloc),
-        }
+        let log = FetchLog::new(*files.allocator());
+        SureDrawer { files, log }
     }
 
     /// The fetches so far, as long as there was memory to log them.

@@ -28,8 +28,8 @@ fn assert_last<R: Abort>(rt: &R, log: Option<&[Fetch]>, name: &str, end: Result<
 #[test]
 fn drawers_are_fetched_from(rt: HostRuntime) -> Result<(), Fail> {
     let alloc = rt.alloc();
-    let mut drawer = Drawer::new(alloc, files(alloc)?, vec![in alloc; 2]?);
-    let mut sure_drawer = SureDrawer::new(alloc, files(alloc)?);
+    let mut drawer = Drawer::new(files(alloc)?, vec![in alloc; 2]?);
+    let mut sure_drawer = SureDrawer::new(files(alloc)?);
     let failed = Err(FetchFault::Failed);
     let too_long = Err(FetchFault::TooLong);
     let cases = [
