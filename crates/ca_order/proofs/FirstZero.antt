@@ -1,10 +1,7 @@
 -- Bytes up to their first zero.
-use Rattle.std.proofs.Common.{◌≡◌, ℕ, zero, suc, ◌<◌, ◌+◌, ◌-◌, ◌==◌, true, false, List, [], ◌∷◌, ◌++◌, length, take, drop, get_or, arith, add-one, refl, sym, ◌∙◌, ap, length-drop, take_all}
+use Rattle.std.proofs.Common.{◌≡◌, ℕ, zero, suc, ◌<◌, ◌+◌, ◌-◌, ◌==◌, Bool, true, false, List, [], ◌∷◌, ◌++◌, length, take, drop, get_or, arith, add-one, refl, sym, ◌∙◌, ap, length-drop, take_all}
 use Rattle.std.proofs.lemmas.Bool.Decides.{nat_tests}
-use Rattle.std.specs.Prelude.{Some, None}
-use Rattle.std.specs.List.{position, position_from}
-use Rattle.std.proofs.lemmas.Iterator.Adapters.{position_from-zero}
-use Rattle.std.proofs.lemmas.List.Quantifiers.{position-Some}
+use Rattle.memchr.specs.Find.{Passes, NoneBefore, Nowhere, is_byte}
 use Rattle.ca_term.specs.Code.{escaped}
 use Rattle.ca_term.proofs.Escapes.{escaped_zero, escaped_suc, escaped_nil}
 use Rattle.ca_order.specs.Zeros.{HasNoZero}
@@ -28,24 +25,22 @@ rest_is bs i =
     let e : take (length bs - (i + 1)) (drop (i + 1) bs) ≡ drop (i + 1) bs =
     take_all (length bs - (i + 1)) (drop (i + 1) bs) (omega (arith, length-drop (i + 1) bs)) in rw (e, add-one) refl
 
+not_true : (b : Bool) → (b ≡ true → ⊥) → b ≡ false
+not_true true h = absurd (h refl)
+not_true false h = refl
+
 -- Up to the first zero byte there is none.
-pub split_first : (bs : List ℕ) (i : ℕ) → Some i ≡ position (λ b. b == 0) bs
+pub split_first : (bs : List ℕ) (i : ℕ) → NoneBefore (Passes (is_byte 0) bs) 0 (length bs) i → Passes (is_byte 0) bs i
     → HasNoZero (take i bs) × (bs ≡ take i bs ++ 0 ∷ take (length bs - (i + 1)) (drop (i + 1) bs))
-split_first bs i e =
-    let p = position-Some (λ b. b == 0) bs i 0 (sym e) in
-    let r = first_zero_by bs i p.0 p.1 p.2 in
+split_first bs i n p =
+    let r = first_zero_by bs i n.high p (λ k l. not_true _ (n.before k (omega arith) l)) in
     (r.run, r.parts ∙ ap (λ (x : List ℕ). take i bs ++ 0 ∷ x) (sym (rest_is bs i)))
 
-no_zero_from : (bs : List ℕ) (i : ℕ) → position_from (λ b. b == 0) i bs ≡ None → HasNoZero bs
-no_zero_from [] i e = tt
-no_zero_from (zero ∷ bs) i e = cc
-no_zero_from (suc b ∷ bs) i e =
-    let n : (suc b == 0) ≡ false = grind (arith, nat_tests) in let f : position_from (λ b. b == 0) (i + 1) bs ≡ None = rw n at e in
-    (omega arith, no_zero_from bs (i + 1) f)
-
 -- Where none is found there is no zero byte.
-pub split_last : (bs : List ℕ) → None ≡ position (λ b. b == 0) bs → HasNoZero bs
-split_last bs e = no_zero_from bs 0 (sym (position_from-zero (λ b. b == 0) bs) ∙ sym e)
+pub split_last : (bs : List ℕ) → Nowhere (Passes (is_byte 0) bs) 0 (length bs) → HasNoZero bs
+split_last [] n = tt
+split_last (zero ∷ bs) n = absurd (n 0 (omega arith) (omega arith) refl)
+split_last (suc b ∷ bs) n = (omega arith, split_last bs (λ k low high p. n (suc k) (omega arith) (omega arith) p))
 
 -- up to its first zero a text is escaped as it stands
 pub escaped_run : (run rest : List ℕ) → HasNoZero run → escaped (run ++ 0 ∷ rest) ≡ run ++ (0 ∷ 0xff ∷ escaped rest)
