@@ -1,7 +1,6 @@
 -- Arguments one after another.
 use Rattle.std.proofs.Common.{◌≡◌, ℕ, zero, suc, ◌+◌, ◌-◌, ◌≤◌, List, [], ◌∷◌, ◌++◌, length, Ok, Err, refl, arith}
-use Rattle.std.specs.Prelude.{slice_index_or}
-use Rattle.ca_term.specs.Tree.{Tree, Nil}
+use Rattle.ca_term.specs.Tree.{Tree}
 use Rattle.ca_cmd.specs.Argument.{Refused, AreArguments, IsArgument}
 use Rattle.ca_cmd.specs.Finds.{IsFault}
 use Rattle.ca_cmd.specs.Word.{at_place}

@@ -1,4 +1,4 @@
-use Rattle.std.proofs.Common.{◌≡◌, ◌≤◌, ℕ, length, Ok}
+use Rattle.std.proofs.Common.{◌≡◌, ◌≤◌, length, Ok}
 use Rattle.ca_cmd.specs.Argument.{AreArguments}
 use Rattle.ca_cmd.proofs.argument.arguments.Given as goal
 

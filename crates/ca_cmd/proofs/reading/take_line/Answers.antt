@@ -1,5 +1,4 @@
 use Rattle.std.proofs.Common.{Some, Ok, ◌∷◌, [], ◌∙◌, ap, subst}
-use Rattle.std.specs.Prelude.{option_map}
 use Rattle.std.proofs.lemmas.List.{map-append}
 use Rattle.ca_cmd.specs.Content.{IsLine}
 use Rattle.ca_cmd.specs.Lines.{numbered, numbered_line}
