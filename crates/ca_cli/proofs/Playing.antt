@@ -1,13 +1,11 @@
 -- How far the play of one client's commands, or of several clients', has come: what is left goes on from here, and ends
 -- with the same table and the same text.
-use Rattle.std.proofs.Common.{◌≡◌, ℕ, ◌+◌, List, [], ◌∷◌, ◌++◌, map, refl, sym, ◌∙◌, ap, subst, append_assoc, append-nil}
-use Rattle.std.specs.Prelude.{Ok}
+use Rattle.std.proofs.Common.{◌≡◌, ℕ, List, ◌++◌, map}
 use Rattle.ca_term.specs.Tree.{Tree}
-use Rattle.ca_ets.specs.Command.{Continuation, IsContinuation, Never, Response}
+use Rattle.ca_ets.specs.Command.{Continuation, IsContinuation, Never}
 use Rattle.ca_ets.specs.InOrder.{run_in_order}
-use Rattle.ca_ets.specs.Step.{Step, step}
 use Rattle.ca_cmd.specs.File.{Numbered, commands_in}
-use Rattle.ca_cmd.specs.Output.{answer_line, answer_lines, client_line, client_lines}
+use Rattle.ca_cmd.specs.Output.{answer_lines, client_lines}
 use Rattle.ca_cli.specs.InTurn.{answers_of, run_in_turn}
 
 -- the text that ends with these lines' answers from this table and continuation on

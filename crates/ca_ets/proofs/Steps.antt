@@ -30,6 +30,9 @@ pub put_keeps : (p : ℕ) (m : List Tree) (o q : Tree) (r : Result ℕ ℕ) → 
     → IsTable p (placed m r o)
 put_keeps p m o q r t e f s h = rw (placed_is p m o r (rw s at h)) (table_put p m o t (record { object = e; fitting = f }))
 
+-- what each exit of an insert leaves
+pub ruleset inserting = (not_an_object, too_long, put_is, put_keeps)
+
 -- A step leaves a table and a continuation.
 abbrev pub Keeps : ℕ → Step → Type 0
 Keeps p s = IsTable p s.map × IsContinuation s.continuation

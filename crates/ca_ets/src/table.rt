@@ -79,7 +79,8 @@ impl ListTable {
     /// Source: the ets manual's text on each call; the order of the checks and the error `Size` are this project's own.
     pub fn apply(&mut self, alloc: Global, cmd: &Cmd, cont: &mut Cont) -> Result<Reply, AllocError>
         requires { IsContinuation (continuation_of cont.old) }
-        ensures step { IfOk result (λ reply. step self.old.keypos self.old.objects (continuation_of cont.old) cmd.now ≡ step_of_reply self.new.objects (continuation_of cont.new) reply) }
+        ensures step { IfOk result (λ reply. step self.old.keypos self.old.objects (continuation_of cont.old) cmd.now
+            ≡ step_of_reply self.new.objects (continuation_of cont.new) reply) }
         ensures continuation { IsContinuation (continuation_of cont.new) }
         ensures keypos { self.new.keypos ≡ self.old.keypos }
         ensures table_unchanged { OnErr result (self.new ≡ self.old) }
@@ -92,9 +93,10 @@ impl ListTable {
     }
 
     // `insert`: the copy is made before the table is changed.
-    #[tactic(auto, using(crate::proofs::Steps::not_an_object, crate::proofs::Steps::too_long, crate::proofs::Steps::put_is, crate::proofs::Steps::put_keeps, crate::proofs::Places::place_range))]
+    #[tactic(auto, using(crate::proofs::Steps::inserting, crate::proofs::Places::place_range))]
     fn insert(&mut self, alloc: Global, object: &Term) -> Result<Reply, AllocError>
-        ensures step { (continuation : Continuation) → IfOk result (λ reply. step_of_insert self.old.keypos self.old.objects continuation object.now ≡ step_of_reply self.new.objects continuation reply) }
+        ensures step { (continuation : Continuation) → IfOk result (λ reply. step_of_insert self.old.keypos self.old.objects continuation object.now
+            ≡ step_of_reply self.new.objects continuation reply) }
         ensures keypos { self.new.keypos ≡ self.old.keypos }
         ensures unchanged { OnErr result (self.new ≡ self.old) }
     {
@@ -112,7 +114,8 @@ impl ListTable {
 
     // `lookup`: the list of the key's object, or the empty list.
     fn lookup(&self, alloc: Global, k: &Term) -> Result<Reply, AllocError>
-        ensures { (continuation : Continuation) → IfOk result (λ reply. step_of_lookup self.now.keypos self.now.objects continuation k.now ≡ step_of_reply self.now.objects continuation reply) }
+        ensures { (continuation : Continuation) → IfOk result (λ reply. step_of_lookup self.now.keypos self.now.objects continuation k.now
+            ≡ step_of_reply self.now.objects continuation reply) }
     {
         match self.key_place(k) {
             KeyPlace::TooLong => Ok(Reply::Error(Fault::Size)),

@@ -26,3 +26,6 @@ grows_by a b c bytes at n g h = rw (take-add at n bytes) (grows_more a b c (take
 -- the part that is the whole
 pub grows_whole : (a b : Option (List ℕ)) (bytes : List ℕ) (at : ℕ) → length bytes ≤ at → Grows a b (take at bytes) → Grows a b bytes
 grows_whole a b bytes at h g = rw (← take_all at bytes h) g
+
+-- what a call that writes piece by piece adds
+pub ruleset growing = (grows_by, grows_none, grows_whole)

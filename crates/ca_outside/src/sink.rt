@@ -25,7 +25,7 @@ pub trait Sink {
 }
 
 /// Writes all of the bytes. Where the sink fails, it took some of them, and not all.
-#[tactic(auto, using(crate::proofs::Growth::grows_by, crate::proofs::Growth::grows_none, crate::proofs::Growth::grows_whole, crate::proofs::Counts::risen_since))]
+#[tactic(auto, using(crate::proofs::Growth::growing, crate::proofs::Counts::risen_since))]
 pub fn write_out<S: Sink>(sink: &mut S, bytes: &[u8]) -> Result<(), SinkFailed>
     ensures ok { OnOk result (Grows (S.taken sink.old) (S.taken sink.new) bytes.now) }
     ensures failed { OnErr result ((n : ℕ) × (n < length bytes.now)

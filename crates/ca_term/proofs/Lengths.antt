@@ -62,3 +62,6 @@ length_row ts i t h = ap length (row_code_at ts i t h) ∙ length-append (code_o
 pub length_no_row : (ts : List Tree) (i : ℕ) → length ts ≤ i → length (row_code (row_of (drop i ts))) ≡ 0
 unfolding code_of
 length_no_row ts i h = rw (drop_all i ts h)
+
+-- how long the code of each kind of term is
+pub ruleset code_lengths = (length_int, length_atom, length_binary, length_nil, length_cons, length_tuple)

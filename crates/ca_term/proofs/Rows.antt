@@ -69,3 +69,6 @@ pub nodes_item : (ts : List Tree) (i : ℕ) (d : Tree) → i < length ts → nod
 nodes_item [] i d h = absurd (omega arith)
 nodes_item (t ∷ ts) zero d h = omega arith
 nodes_item (t ∷ ts) (suc i) d h = omega (arith, nodes_item ts i d (omega arith))
+
+-- how tuples compare element by element
+pub ruleset compared_rows = (size_row, row_cmp_drop, same_size, tuple_cmp_same, row_cmp_done)

@@ -23,7 +23,7 @@ pub fn code_length(term: &Term) -> usize
 //
 // It goes along a list's tail in a loop: a list may be longer than the stack is deep.
 #[cycle(length)]
-#[tactic(auto, using(crate::proofs::Lengths::length_int, crate::proofs::Lengths::length_atom, crate::proofs::Lengths::length_binary, crate::proofs::Lengths::length_nil, crate::proofs::Lengths::length_cons, crate::proofs::Lengths::length_tuple))]
+#[tactic(auto, using(crate::proofs::Lengths::code_lengths))]
 fn room_behind(term: &Term, room: usize) -> Option<usize>
     ensures { MatchOption result (room < length (code_of term.now)) (λ left. left + length (code_of term.now) ≡ room) }
 {

@@ -24,7 +24,7 @@ impl Node {
 }
 
 /// How a term stands to another one in the term order of the Erlang reference manual. It takes no memory.
-#[tactic(auto, using(crate::proofs::Rows::size_row, crate::proofs::Rows::row_cmp_drop, crate::proofs::Rows::same_size, crate::proofs::Rows::tuple_cmp_same, crate::proofs::Rows::row_cmp_done))]
+#[tactic(auto, using(crate::proofs::Rows::compared_rows))]
 pub fn term_order(a: &Term, b: &Term) -> Ordering
     ensures { result ≡ term_cmp a.now b.now }
 {

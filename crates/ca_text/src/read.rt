@@ -242,7 +242,8 @@ fn end_list(
 // A tail after a bar is on the level of its list, so it is read in the same loop, with its closing bracket owed.
 #[cycle(read)]
 fn cells(alloc: Global, levels: u8, bytes: &[u8]) -> Result<(Term, &[u8]), Stop>
-    ensures { Gives (λ x. (x.0, x.1.now)) result (cells_at (term_at standard levels) (other_at standard (term_at standard levels) levels) (length bytes.now) bytes.now) }
+    ensures { Gives (λ x. (x.0, x.1.now)) result
+        (cells_at (term_at standard levels) (other_at standard (term_at standard levels) levels) (length bytes.now) bytes.now) }
 {
     let mut heads = Terms::new(alloc);
     let mut owed = 0;
@@ -278,7 +279,8 @@ fn list(alloc: Global, levels: u8, bytes: &[u8]) -> Result<(Term, &[u8]), Stop>
 // A term, so many levels above its elements.
 #[cycle(read)]
 fn bracketed(alloc: Global, levels: u8, bytes: &[u8]) -> Result<(Term, &[u8]), Stop>
-    ensures { Gives (λ x. (x.0, x.1.now)) result (bracketed (list_at (term_at standard levels) (other_at standard (term_at standard levels) levels)) (other_at standard (term_at standard levels) levels) bytes.now) }
+    ensures { let other = other_at standard (term_at standard levels) levels in
+        Gives (λ x. (x.0, x.1.now)) result (bracketed (list_at (term_at standard levels) other) other bytes.now) }
 {
     match bytes {
         [b'[', rest @ ..] => list(alloc, levels, skip(rest)),
@@ -324,7 +326,8 @@ pub fn read_term(alloc: Global, bytes: &[u8]) -> Result<(Term, usize), TextFault
 /// nothing that follows belongs to it. At the front of any bytes one text is read, or none for one reason.
 pub fn read_laws()
     ensures printed { (t : Tree) → IsTerm t → depth t ≤ MOST_LEVELS → IsText (text_of t) t }
-    ensures again { (t : Tree) (rest : List ℕ) → IsTerm t → depth t ≤ MOST_LEVELS → IsWhole (text_of t) rest → IsRead (text_of t ++ rest) t (length (text_of t)) }
+    ensures again { (t : Tree) (rest : List ℕ) → IsTerm t → depth t ≤ MOST_LEVELS → IsWhole (text_of t) rest
+        → IsRead (text_of t ++ rest) t (length (text_of t)) }
     ensures one_text { (bytes : List ℕ) (t u : Tree) (n m : ℕ) → IsRead bytes t n → IsRead bytes u m → (t ≡ u) × (n ≡ m) }
     ensures one_fault { (bytes : List ℕ) (e f : TextFault) → IsNotRead bytes e → IsNotRead bytes f → e ≡ f }
     ensures read_or_not { (bytes : List ℕ) (t : Tree) (n : ℕ) (e : TextFault) → IsRead bytes t n → IsNotRead bytes e → ⊥ }
