@@ -141,3 +141,12 @@ fn reads_characters(rt: HostRuntime) {
         assert_eq!(rt; character(bytes).err(), Some(at));
     }
 }
+
+// All else cites the bounds by name, so their numbers stand here.
+#[test]
+fn has_the_bounds_of_this_profile(rt: HostRuntime) {
+    assert_eq!(rt; MOST_CODE_POINTS, 255);
+    assert_eq!(rt; MOST_ELEMENTS, 120);
+    assert_eq!(rt; MOST_DEPTH, 192);
+    assert_eq!(rt; MOST_CODE_BYTES, 1000);
+}
