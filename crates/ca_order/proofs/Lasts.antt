@@ -1,5 +1,6 @@
 -- Terms that are no list cells, by their first byte.
 use Rattle.std.proofs.Common.{◌≡◌, ℕ, zero, suc, ◌≤◌, ◌<◌, ◌+◌, ◌-◌, ◌^◌, pos, negsuc, Bool, true, false, List, [], ◌∷◌, ◌++◌, arith, refl, sym, ◌∙◌, ap, subst, ◌-ℤ◌, to_z, of_z}
+use Rattle.std.specs.Prelude.{Result, Ok, Err, MatchResult}
 use Rattle.ca_term.proofs.Grammar.{signed_pos, signed_neg}
 use Rattle.std.proofs.lemmas.Int.{ints, to_z_pos, to_z-of_z}
 use Rattle.std.specs.Int.{w64}
@@ -10,6 +11,7 @@ use Rattle.ca_term.specs.Grammar.{number}
 use Rattle.ca_term.proofs.DigitBytes.{number_word}
 use Rattle.ca_order.specs.Stuck.{IsStuck, IsRest}
 use Rattle.ca_term.specs.Levels.{HasTerm}
+use Rattle.ca_order.specs.IntTag.{first_byte}
 use Rattle.ca_order.specs.Languages.{HasDigits}
 use Rattle.ca_order.specs.Reads.{IsReadFault, BeginsWithTerm, BeginsWithDigits}
 use Rattle.ca_order.proofs.Starts.{stuck_here}
@@ -17,19 +19,28 @@ use Rattle.ca_order.proofs.Faults.{fault_behind, fault_same}
 use Rattle.ca_order.proofs.FirstBytes.{IsNoTag, no_tag, has_nil, pos_rest, neg_rest, code_pos, code_neg}
 use Rattle.ca_order.proofs.Parts.{at_nil, begins_as}
 
--- A term of fewer levels is one of more levels.
-pub raise : (low levels : ℕ) (xs ys : List ℕ) (t : Tree) (rest : List ℕ) → xs ≡ ys → low ≤ levels → BeginsWithTerm low ys t rest
-    → BeginsWithTerm levels xs t rest
-raise low levels xs ys t rest e h w = record { parts = e ∙ w.parts; shallow = omega (arith, w.shallow); bounded = w.bounded }
+-- Bytes begin with a first byte, and behind it stand words of M in a term of so many levels; what was read there has at most `low` levels.
+pub record HasFirstByte (levels low tag : ℕ) (M : ℕ → List ℕ → Type 0) (bytes inside : List ℕ) : Type 0 where
+  pub least : 1 ≤ levels
+  pub within : low ≤ levels
+  pub parts : bytes ≡ tag ∷ inside
+  pub rest : (l : ℕ) → IsRest (HasTerm (suc l)) (tag ∷ []) (M l)
 
--- A fault behind a first byte is a fault of the term.
-pub tag_fault : (levels tag : ℕ) (M : ℕ → List ℕ → Type 0) (bytes inside : List ℕ) (e : ReadFault) → 1 ≤ levels → bytes ≡ tag ∷ inside
-    → ((l : ℕ) → IsRest (HasTerm (suc l)) (tag ∷ []) (M l)) → IsReadFault (M (levels - 1)) inside e → IsReadFault (HasTerm levels) bytes e
-tag_fault zero tag M bytes inside e h p q f = absurd (omega arith)
-tag_fault (suc l) tag M bytes inside e h p q f =
-    let n : suc l - 1 ≡ l = omega arith in
-    fault_same (HasTerm (suc l)) bytes (tag ∷ inside) e p
-    (fault_behind (HasTerm (suc l)) (M l) (tag ∷ []) inside e (q l) (subst (λ (x : ℕ). IsReadFault (M x) inside e) n f))
+module _ (levels low tag : ℕ) (M : ℕ → List ℕ → Type 0) (bytes inside : List ℕ) where
+  -- A fault behind a first byte is a fault of the term.
+  tag_fault : HasFirstByte levels low tag M bytes inside → (e : ReadFault) → IsReadFault (M (levels - 1)) inside e → IsReadFault (HasTerm levels) bytes e
+  tag_fault h e f =
+      let n : suc (levels - 1) ≡ levels = omega (arith, h.least) in
+      fault_same (HasTerm levels) bytes (tag ∷ inside) e h.parts
+      (subst (λ (x : ℕ). IsReadFault (HasTerm x) (tag ∷ inside) e) n
+      (fault_behind (HasTerm (suc (levels - 1))) (M (levels - 1)) (tag ∷ []) inside e (h.rest (levels - 1)) f))
+
+  -- What is read behind a first byte is read with it.
+  pub with_first_byte : {X : Type 0} (term : X → Tree) (behind : X → List ℕ) → HasFirstByte levels low tag M bytes inside → (r : Result X ReadFault)
+      → MatchResult r (λ x. BeginsWithTerm low (tag ∷ inside) (term x) (behind x)) (λ e. IsReadFault (M (levels - 1)) inside e)
+      → MatchResult r (λ x. BeginsWithTerm levels bytes (term x) (behind x)) (λ e. IsReadFault (HasTerm levels) bytes e)
+  with_first_byte term behind h (Ok x) w = record { parts = h.parts ∙ w.parts; shallow = omega (arith, w.shallow, h.within); bounded = w.bounded }
+  with_first_byte term behind h (Err e) f = tag_fault h e f
 
 -- A byte that is no tag is refused in front of it.
 pub stuck_no_tag : (levels : ℕ) (bytes : List ℕ) → 1 ≤ levels → ((b : ℕ) (more : List ℕ) → bytes ≡ b ∷ more → IsNoTag levels b)
@@ -43,45 +54,35 @@ nil_term levels bytes rest t h e f =
 
 -- ---- integers
 
--- A fault in the digits is a fault of the integer.
-pub pos_fault : (levels tag : ℕ) (bytes inside : List ℕ) (e : ReadFault) → 1 ≤ levels → 0x20 ≤ tag → tag ≤ 0x28 → bytes ≡ tag ∷ inside
-    → IsReadFault (HasDigits false (tag - 0x20)) inside e → IsReadFault (HasTerm levels) bytes e
-pos_fault levels tag bytes inside e h k m p f =
-    let n : 0x20 + (tag - 0x20) ≡ tag = omega arith in
-    tag_fault levels tag (λ l. HasDigits false (tag - 0x20)) bytes inside e h p
-    (λ l. subst (λ (x : ℕ). IsRest (HasTerm (suc l)) (x ∷ []) (HasDigits false (tag - 0x20))) n (pos_rest l (tag - 0x20) (omega arith))) f
-
--- So it is of a negative integer.
-pub neg_fault : (levels tag : ℕ) (bytes inside : List ℕ) (e : ReadFault) → 1 ≤ levels → 0x17 ≤ tag → tag ≤ 0x1f → bytes ≡ tag ∷ inside
-    → IsReadFault (HasDigits true (0x1f - tag)) inside e → IsReadFault (HasTerm levels) bytes e
-neg_fault levels tag bytes inside e h k m p f =
-    let n : 0x1f - (0x1f - tag) ≡ tag = omega arith in
-    tag_fault levels tag (λ l. HasDigits true (0x1f - tag)) bytes inside e h p
-    (λ l. subst (λ (x : ℕ). IsRest (HasTerm (suc l)) (x ∷ []) (HasDigits true (0x1f - tag))) n (neg_rest l (0x1f - tag) (omega arith))) f
+-- Behind the first byte of an integer's code stand its digits, or their complement.
+pub digits_rest : (negative : Bool) (len l : ℕ) → len ≤ 8 → IsRest (HasTerm (suc l)) (first_byte negative len ∷ []) (HasDigits negative len)
+digits_rest false len l h = pos_rest l len h
+digits_rest true len l h = neg_rest l len h
 
 -- The number of digits that were read is below 2 ^ 63.
 pub digits_fit : (neg : Bool) (len : ℕ) (bytes : List ℕ) (value : ℕ) (rest : List ℕ) → BeginsWithDigits neg len bytes value rest → value < 2 ^ 63
 digits_fit neg len bytes value rest w = omega (arith, w.value_is, number_word w.digits w.are_digits)
 
 -- Digits that were read make an integer.
-pub pos_term : (levels tag : ℕ) (bytes inside : List ℕ) (value : ℕ) (rest : List ℕ) (t : Tree) → 1 ≤ levels → 0x20 ≤ tag → bytes ≡ tag ∷ inside
-    → BeginsWithDigits false (tag - 0x20) inside value rest → t ≡ Integer (pos value) → BeginsWithTerm levels bytes t rest
-pos_term levels tag bytes inside value rest t h k p w f =
-    let n : 0x20 + (tag - 0x20) ≡ tag = omega arith in
+pub pos_term : (negative : Bool) (len : ℕ) (inside : List ℕ) (value : ℕ) (rest : List ℕ) (t : Tree) → negative ≡ false
+    → BeginsWithDigits negative len inside value rest → t ≡ Integer (pos value) → BeginsWithTerm 1 (first_byte negative len ∷ inside) t rest
+pos_term true len inside value rest t e w f = cc
+pos_term false len inside value rest t e w f =
     let u : Tree = Integer (pos (number w.digits)) in
-    let c : tag ∷ w.digits ≡ code_of u = ap (λ (x : ℕ). x ∷ w.digits) (sym n) ∙ code_pos w.digits (tag - 0x20) w.are_digits w.many in
-    begins_as levels bytes rest t u (f ∙ ap (λ (x : ℕ). Integer (pos x)) w.value_is) (p ∙ ap (λ (x : List ℕ). tag ∷ x) w.parts ∙ ap (λ x. x ++ rest) c) h
+    let c : (0x20 + len) ∷ w.digits ≡ code_of u = code_pos w.digits len w.are_digits w.many in
+    begins_as 1 ((0x20 + len) ∷ inside) rest t u (f ∙ ap (λ (x : ℕ). Integer (pos x)) w.value_is)
+    (ap (λ (x : List ℕ). (0x20 + len) ∷ x) w.parts ∙ ap (λ x. x ++ rest) c) (omega arith)
     (record { shallow = omega arith; narrow = signed_pos (number w.digits) (number_word w.digits w.are_digits) })
 
 -- Complemented digits that were read make a negative integer.
-pub neg_term : (levels tag : ℕ) (bytes inside : List ℕ) (value : ℕ) (rest : List ℕ) (t : Tree) → 1 ≤ levels → tag ≤ 0x1f → bytes ≡ tag ∷ inside
-    → BeginsWithDigits true (0x1f - tag) inside value rest → t ≡ Integer (negsuc value) → BeginsWithTerm levels bytes t rest
-neg_term levels tag bytes inside value rest t h k p w f =
-    let n : 0x1f - (0x1f - tag) ≡ tag = omega arith in
+pub neg_term : (negative : Bool) (len : ℕ) (inside : List ℕ) (value : ℕ) (rest : List ℕ) (t : Tree) → negative ≡ true
+    → BeginsWithDigits negative len inside value rest → t ≡ Integer (negsuc value) → BeginsWithTerm 1 (first_byte negative len ∷ inside) t rest
+neg_term false len inside value rest t e w f = cc
+neg_term true len inside value rest t e w f =
     let u : Tree = Integer (negsuc (number w.digits)) in
-    let c : tag ∷ complement w.digits ≡ code_of u =
-    ap (λ (x : ℕ). x ∷ complement w.digits) (sym n) ∙ code_neg w.digits (0x1f - tag) w.are_digits w.many in
-    begins_as levels bytes rest t u (f ∙ ap (λ (x : ℕ). Integer (negsuc x)) w.value_is) (p ∙ ap (λ (x : List ℕ). tag ∷ x) w.parts ∙ ap (λ x. x ++ rest) c) h
+    let c : (0x1f - len) ∷ complement w.digits ≡ code_of u = code_neg w.digits len w.are_digits w.many in
+    begins_as 1 ((0x1f - len) ∷ inside) rest t u (f ∙ ap (λ (x : ℕ). Integer (negsuc x)) w.value_is)
+    (ap (λ (x : List ℕ). (0x1f - len) ∷ x) w.parts ∙ ap (λ x. x ++ rest) c) (omega arith)
     (record { shallow = omega arith; narrow = signed_neg (number w.digits) (number_word w.digits w.are_digits) })
 
 -- what casts make of a value

@@ -3,7 +3,8 @@ ghost use Rattle.std.specs.Prelude.{◌≡◌, ◌≢◌, ◌≤◌, ◌<◌, �
 ghost use Rattle.ca_term.specs.declared.bounds.TheConstants.{MOST_DEPTH, MOST_ELEMENTS};
 ghost use Rattle.ca_term.specs.Code.{code_of, four_bytes};
 ghost use Rattle.ca_term.specs.Levels.{HasTerm, HasRow};
-ghost use Rattle.ca_order.specs.Languages.{IsTermCode, HasTuple, HasSize, most_elements};
+ghost use Rattle.ca_order.specs.IntTag.{first_byte};
+ghost use Rattle.ca_order.specs.Languages.{IsTermCode, HasDigits, HasTuple, HasSize, most_elements};
 ghost use Rattle.ca_order.specs.Reads.{IsReadFault, IsDecodeFault, BeginsWithTerm, BeginsWithRow};
 
 use crate::atoms::read_atom;
@@ -81,19 +82,26 @@ fn read_last(alloc: Global, bytes: &[u8], levels: u8) -> Result<(Term, &[u8]), R
         return Err(stuck(bytes));
     };
     match *tag {
-        0x17..=0x1f => {
-            let (number, rest) = read_digits(inside, 0x1f - *tag, true)?;
-            Ok((int(-1 - number as i64), rest))
-        }
-        0x20..=0x28 => {
-            let (number, rest) = read_digits(inside, *tag - 0x20, false)?;
-            Ok((int(number as i64), rest))
-        }
+        0x17..=0x1f => read_integer(inside, 0x1f - *tag, true),
+        0x20..=0x28 => read_integer(inside, *tag - 0x20, false),
         ATOM => read_atom(alloc, inside),
         TUPLE => read_tuple(alloc, inside, levels - 1),
         NIL => Ok((nil(), inside)),
         BINARY => read_binary(alloc, inside),
         _ => Err(stuck(bytes)),
+    }
+}
+
+// The integer whose digits these bytes begin with, so many and complemented for a negative one, and the bytes behind them.
+fn read_integer(bytes: &[u8], len: u8, negative: bool) -> Result<(Term, &[u8]), ReadFault>
+    requires { len ≤ 8 }
+    ensures { MatchResult result (λ p. BeginsWithTerm 1 (first_byte negative len ∷ bytes.now) p.0 p.1.now)
+        (λ e. IsReadFault (HasDigits negative len) bytes.now e) }
+{
+    let (number, rest) = read_digits(bytes, len, negative)?;
+    match negative {
+        true => Ok((int(-1 - number as i64), rest)),
+        false => Ok((int(number as i64), rest)),
     }
 }
 

@@ -1,13 +1,11 @@
 use Rattle.std.proofs.Common.{◌≡◌, ℕ, ◌≤◌, ◌+◌, ◌-◌, List, ◌∷◌, ◌++◌, length, slice_index, arith, sym, ◌∙◌, ap, subst, true, false}
-use Rattle.std.proofs.lemmas.Result.{MatchResult-weaker}
 use Rattle.ca_term.specs.declared.bounds.TheConstants.{MOST_CODE_POINTS, MOST_ELEMENTS}
-use Rattle.ca_term.specs.Tree.{Integer}
 use Rattle.ca_term.specs.Code.{four_bytes}
 use Rattle.ca_term.specs.Levels.{HasTerm, HasRow}
-use Rattle.ca_order.specs.Languages.{HasTuple, HasText, HasBytes}
+use Rattle.ca_order.specs.Languages.{HasDigits, HasTuple, HasText, HasBytes}
 use Rattle.ca_order.proofs.Faults.{refused, fault_at, fault_behind, fault_same}
 use Rattle.ca_order.proofs.FirstBytes.{IsNoTag, atom_rest, binary_rest, tuple_rest}
-use Rattle.ca_order.proofs.Lasts.{raise, tag_fault, stuck_no_tag, nil_term, pos_fault, neg_fault, pos_term, neg_term, digits_fit, cast_pos, cast_neg}
+use Rattle.ca_order.proofs.Lasts.{with_first_byte, digits_rest, stuck_no_tag, nil_term}
 use Rattle.ca_order.proofs.Lists.{heads_more, heads_fault, head_fault, heads_term, row_none, row_more, item_fault, begins_tuple}
 use Rattle.ca_order.proofs.Sizes.{size_fault, elements_rest, most_fits}
 use Rattle.ca_order.proofs.Turned.{same_first}
@@ -36,49 +34,49 @@ read_last-returns-in_default t c =
     fault_at (HasTerm c.args.levels) bytes bytes c.stuck.result c.stuck.ensures
     (stuck_no_tag c.args.levels bytes c.requires.least (λ b more e. absurd (omega (arith, ap length e, c.in_default.ensures.cases))))
 
-pub read_last-returns-in_err-number-in-23-to-31 : goal.read_last-returns-in_err-number-in-23-to-31
-read_last-returns-in_err-number-in-23-to-31 t c =
-    refused _ _ _ _ c.from_residual.ensures.1 (neg_fault c.args.levels c.in-Some.tag.now c.args.bytes.now c.in-Some.inside.now
-    c.in_err-number-in-23-to-31.field-0.0 c.requires.least
-    (omega arith) (omega arith) c.in-Some.ensures.cases.0 c.in_err-number-in-23-to-31.ensures)
+pub read_last-returns-in-23-to-31 : goal.read_last-returns-in-23-to-31
+read_last-returns-in-23-to-31 t c =
+    let len : ℕ = 0x1f - c.in-Some.tag.now in
+    let same : c.in-Some.tag.now ≡ 0x1f - len = omega arith in
+    with_first_byte c.args.levels 1 (0x1f - len) (λ l. HasDigits true len) _ _ (λ p. p.0) (λ p. p.1.now)
+    (record {
+      least = c.requires.least;
+      within = c.requires.least;
+      parts = c.in-Some.ensures.cases.0 ∙ ap (λ (x : ℕ). x ∷ c.in-Some.inside.now) same;
+      rest = λ l. digits_rest true len l (omega arith);
+    }) c.read_integer.result c.read_integer.ensures
 
-pub read_last-overflow_cast-number : goal.read_last-overflow_cast-number
-read_last-overflow_cast-number t c =
-    record {
-      sfits = digits_fit true (0x1f - c.in-Some.tag.now) c.in-Some.inside.now c.in_ok-number-in-23-to-31.number c.in_ok-number-in-23-to-31.rest.now
-          c.in_ok-number-in-23-to-31.ensures;
-    }
-
-pub read_last-returns-in_err-number-in-32-to-40 : goal.read_last-returns-in_err-number-in-32-to-40
-read_last-returns-in_err-number-in-32-to-40 t c =
-    refused _ _ _ _ c.from_residual-in_err-number-in-32-to-40.ensures.1 (pos_fault c.args.levels c.in-Some.tag.now c.args.bytes.now c.in-Some.inside.now
-    c.in_err-number-in-32-to-40.field-0.0 c.requires.least
-    (omega arith) (omega arith) c.in-Some.ensures.cases.0 c.in_err-number-in-32-to-40.ensures)
-
-pub read_last-overflow_cast-number-in-32-to-40 : goal.read_last-overflow_cast-number-in-32-to-40
-read_last-overflow_cast-number-in-32-to-40 t c =
-    record {
-      sfits = digits_fit false (c.in-Some.tag.now - 0x20) c.in-Some.inside.now c.in_ok-number-in-32-to-40.number c.in_ok-number-in-32-to-40.rest.now
-          c.in_ok-number-in-32-to-40.ensures;
-    }
+pub read_last-returns-in-32-to-40 : goal.read_last-returns-in-32-to-40
+read_last-returns-in-32-to-40 t c =
+    let len : ℕ = c.in-Some.tag.now - 0x20 in
+    let same : c.in-Some.tag.now ≡ 0x20 + len = omega arith in
+    with_first_byte c.args.levels 1 (0x20 + len) (λ l. HasDigits false len) _ _ (λ p. p.0) (λ p. p.1.now)
+    (record {
+      least = c.requires.least;
+      within = c.requires.least;
+      parts = c.in-Some.ensures.cases.0 ∙ ap (λ (x : ℕ). x ∷ c.in-Some.inside.now) same;
+      rest = λ l. digits_rest false len l (omega arith);
+    }) c.read_integer-in-32-to-40.result c.read_integer-in-32-to-40.ensures
 
 pub read_last-returns-in-48 : goal.read_last-returns-in-48
 read_last-returns-in-48 t c =
-    let bytes = c.args.bytes.now in
-    let inside = c.in-Some.inside.now in
-    let e : bytes ≡ 0x30 ∷ inside = c.in-Some.ensures.cases.0 ∙ ap (λ (x : ℕ). x ∷ inside) c.in-48.is in
-    MatchResult-weaker c.read_atom.result c.read_atom.ensures
-    (λ p w. raise 1 c.args.levels bytes (0x30 ∷ inside) p.0 p.1.now e c.requires.least w)
-    (λ f w. tag_fault c.args.levels 0x30 (λ l. HasText MOST_CODE_POINTS) bytes inside f c.requires.least e atom_rest w)
+    with_first_byte c.args.levels 1 0x30 (λ l. HasText MOST_CODE_POINTS) _ _ (λ p. p.0) (λ p. p.1.now)
+    (record {
+      least = c.requires.least;
+      within = c.requires.least;
+      parts = c.in-Some.ensures.cases.0 ∙ ap (λ (x : ℕ). x ∷ c.in-Some.inside.now) c.in-48.is;
+      rest = atom_rest;
+    }) c.read_atom.result c.read_atom.ensures
 
 pub read_last-returns-in-64 : goal.read_last-returns-in-64
 read_last-returns-in-64 t c =
-    let bytes = c.args.bytes.now in
-    let inside = c.in-Some.inside.now in
-    let e : bytes ≡ 0x40 ∷ inside = c.in-Some.ensures.cases.0 ∙ ap (λ (x : ℕ). x ∷ inside) c.in-64.is in
-    MatchResult-weaker c.read_tuple.result c.read_tuple.ensures
-    (λ p w. raise (c.args.levels - 1 + 1) c.args.levels bytes (0x40 ∷ inside) p.0 p.1.now e (omega (arith, c.requires.least)) w)
-    (λ f w. tag_fault c.args.levels 0x40 HasTuple bytes inside f c.requires.least e tuple_rest w)
+    with_first_byte c.args.levels (c.args.levels - 1 + 1) 0x40 HasTuple _ _ (λ p. p.0) (λ p. p.1.now)
+    (record {
+      least = c.requires.least;
+      within = omega (arith, c.requires.least);
+      parts = c.in-Some.ensures.cases.0 ∙ ap (λ (x : ℕ). x ∷ c.in-Some.inside.now) c.in-64.is;
+      rest = tuple_rest;
+    }) c.read_tuple.result c.read_tuple.ensures
 
 pub read_last-returns-in-96 : goal.read_last-returns-in-96
 read_last-returns-in-96 t c =
@@ -88,26 +86,13 @@ read_last-returns-in-96 t c =
 
 pub read_last-returns-in-128 : goal.read_last-returns-in-128
 read_last-returns-in-128 t c =
-    let bytes = c.args.bytes.now in
-    let inside = c.in-Some.inside.now in
-    let e : bytes ≡ 0x80 ∷ inside = c.in-Some.ensures.cases.0 ∙ ap (λ (x : ℕ). x ∷ inside) c.in-128.is in
-    MatchResult-weaker c.read_binary.result c.read_binary.ensures
-    (λ p w. raise 1 c.args.levels bytes (0x80 ∷ inside) p.0 p.1.now e c.requires.least w)
-    (λ f w. tag_fault c.args.levels 0x80 (λ l. HasBytes) bytes inside f c.requires.least e binary_rest w)
-
-pub read_last-returns-in_ok-number-in-23-to-31 : goal.read_last-returns-in_ok-number-in-23-to-31
-read_last-returns-in_ok-number-in-23-to-31 t c =
-    let n = c.in_ok-number-in-23-to-31.number in
-    let small = digits_fit true (0x1f - c.in-Some.tag.now) c.in-Some.inside.now n c.in_ok-number-in-23-to-31.rest.now c.in_ok-number-in-23-to-31.ensures in
-    neg_term c.args.levels c.in-Some.tag.now c.args.bytes.now c.in-Some.inside.now n c.in_ok-number-in-23-to-31.rest.now c.int.result c.requires.least
-    (omega arith) c.in-Some.ensures.cases.0 c.in_ok-number-in-23-to-31.ensures (c.int.ensures ∙ ap Integer (cast_neg n small))
-
-pub read_last-returns-in_ok-number-in-32-to-40 : goal.read_last-returns-in_ok-number-in-32-to-40
-read_last-returns-in_ok-number-in-32-to-40 t c =
-    let n = c.in_ok-number-in-32-to-40.number in
-    let small = digits_fit false (c.in-Some.tag.now - 0x20) c.in-Some.inside.now n c.in_ok-number-in-32-to-40.rest.now c.in_ok-number-in-32-to-40.ensures in
-    pos_term c.args.levels c.in-Some.tag.now c.args.bytes.now c.in-Some.inside.now n c.in_ok-number-in-32-to-40.rest.now c.int-in-32-to-40.result
-    c.requires.least (omega arith) c.in-Some.ensures.cases.0 c.in_ok-number-in-32-to-40.ensures (c.int-in-32-to-40.ensures ∙ ap Integer (cast_pos n small))
+    with_first_byte c.args.levels 1 0x80 (λ l. HasBytes) _ _ (λ p. p.0) (λ p. p.1.now)
+    (record {
+      least = c.requires.least;
+      within = c.requires.least;
+      parts = c.in-Some.ensures.cases.0 ∙ ap (λ (x : ℕ). x ∷ c.in-Some.inside.now) c.in-128.is;
+      rest = binary_rest;
+    }) c.read_binary.result c.read_binary.ensures
 
 pub read_last-returns-in_default-tag : goal.read_last-returns-in_default-tag
 read_last-returns-in_default-tag t c =
