@@ -4,9 +4,12 @@ use Rattle.ca_term.specs.Tree.{Tree}
 use Rattle.ca_ets.specs.Command.{Command, Response, Answer, Never}
 use Rattle.ca_ets.specs.InOrder.{run_in_order}
 
--- each reply as an answer
+-- a reply as an answer, and so each of several replies
+abbrev pub as_answer : Response → Answer
+as_answer reply = Ok reply
+
 abbrev pub answers_of : List Response → List Answer
-answers_of replies = map (λ (reply : Response). let answer : Answer = Ok reply in answer) replies
+answers_of replies = map as_answer replies
 
 -- each client's answers, and the table
 pub record RunInTurn : Type 0 where

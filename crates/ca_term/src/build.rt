@@ -1,5 +1,5 @@
 //! The builders of terms.
-ghost use Rattle.std.specs.Prelude.{◌≡◌, ◌≤◌, ◌<◌, ◌↔◌, length, IfOk, IfErr, IsErrOf};
+ghost use Rattle.std.specs.Prelude.{◌≡◌, ◌≤◌, ◌<◌, ◌↔◌, [], length, IfOk, IfErr, IsErrOf, IsOk};
 ghost use Rattle.std.specs.Str.{chars};
 ghost use Rattle.ca_term.specs.Cause.{IsCauseOfAtom, IsCauseOfCell, IsCauseOfTuple};
 ghost use Rattle.ca_term.specs.declared.bounds.TheConstants.{MOST_CODE_POINTS, MOST_DEPTH, MOST_ELEMENTS};
@@ -101,6 +101,7 @@ pub fn list(alloc: Global, items: Terms, tail: Term) -> Result<Term, TermFault>
     ensures ok { IfOk result (λ t. t ≡ list_of items.items tail) }
     ensures too_deep { MOST_DEPTH < depth (list_of items.items tail) → IsErrOf result TermFault.TooDeep }
     ensures causes { IfErr result (λ e. IsCauseOfCell (list_of items.items tail) e) }
+    ensures none { items.items ≡ [] → IsOk result }
 {
     if deepest(items.items.as_slice()) >= MOST_DEPTH {
         return Err(TermFault::TooDeep);
