@@ -12,4 +12,5 @@ pub mod Stored
 pub mod TermList
 pub mod TermListView
 pub mod Tree
+pub mod Updates
 pub mod View
