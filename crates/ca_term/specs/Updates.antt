@@ -2,7 +2,7 @@
 -- Source: the ets manual's text on the two calls; the order of the checks and the bounds on integers and codes are this project's own.
 use Rattle.std.specs.Prelude.{ℕ, ◌-◌, ◌^◌, ◌==◌, nat_lt, nat_le, int_lt, int_le, ℤ, pos, negsuc, ◌+ℤ◌, Bool, true, false, not, ◌&&◌, if◌then◌else◌, Option, None, Some, ok_or, Result, Ok, Err, List, [], ◌∷◌, length, slice_set, slice_index_or}
 use Rattle.ca_term.specs.Tree.{Tree, Integer, Atom, Tuple, Nil, Cons, Binary, row_of}
-use Rattle.ca_term.specs.Object.{fits}
+use Rattle.ca_term.specs.Object.{elements_of, fits}
 
 -- why no element is changed
 pub data ElementFault : Type 0 where
@@ -102,11 +102,11 @@ abbrev pub object_of : List Tree → Result Tree ElementFault
 object_of items = if fits (Tuple (row_of items)) then Ok (Tuple (row_of items)) else Err TooLarge
 
 -- `update_counter`: the object after the operations, and their values
-abbrev pub update_of_counters : ℕ → List Tree → List Addition → Result (Tree × List ℤ) ElementFault
-update_of_counters keypos items additions =
-    and_then (counts keypos items additions) (λ left. and_then (object_of left.0) (λ object. Ok (object, left.1)))
+abbrev pub update_of_counters : ℕ → Tree → List Addition → Result (Tree × List ℤ) ElementFault
+update_of_counters keypos object additions =
+    and_then (counts keypos (elements_of object) additions) (λ left. and_then (object_of left.0) (λ new. Ok (new, left.1)))
 
 -- `update_element`: the object with another element at a position
-abbrev pub update_of_element : List Tree → ℤ → Tree → Result Tree ElementFault
-update_of_element items position value =
-    and_then (ok_or (place_of (length items) position) BadArgument) (λ at. object_of (slice_set items at value))
+abbrev pub update_of_element : Tree → ℤ → Tree → Result Tree ElementFault
+update_of_element object position value =
+    and_then (ok_or (place_of (length (elements_of object)) position) BadArgument) (λ at. object_of (slice_set (elements_of object) at value))
