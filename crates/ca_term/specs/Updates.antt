@@ -106,6 +106,10 @@ abbrev pub update_of_counters : ℕ → Tree → List Addition → Result (Tree 
 update_of_counters keypos object additions =
     and_then (counts keypos (elements_of object) additions) (λ left. and_then (object_of left.0) (λ new. Ok (new, left.1)))
 
+-- the object alone
+abbrev pub object_in : Result (Tree × List ℤ) ElementFault → Result Tree ElementFault
+object_in update = and_then update (λ new. Ok new.0)
+
 -- `update_element`: the object with another element at a position
 abbrev pub update_of_element : Tree → ℤ → Tree → Result Tree ElementFault
 update_of_element object position value =
