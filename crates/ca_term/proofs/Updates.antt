@@ -66,7 +66,7 @@ not_key_by keypos size p at l e f = by (is_open keypos p) refl e
 
 module _ (keypos : ℕ) (least : 1 ≤ keypos) (old items : List Tree) (h : IsLeft keypos old items) (a : Addition) where
   by_word : (at : ℕ) → (at ≡ keypos - 1 → ⊥) → (v : ℤ) (b : Bool) → is_word v ≡ b
-      → IfOk (if b then Ok (set items at (Integer v), v) else Err OutOfRange) (λ first. IsLeft keypos old first.0)
+      → IfOk {T = List Tree × ℤ} {E = ElementFault} (if b then Ok (set items at (Integer v), v) else Err OutOfRange) (λ first. IsLeft keypos old first.0)
   by_word at n v true e = left_set keypos old items at (Integer v) h n (omega arith) (narrow_word v e)
   by_word at n v false e = tt
 
@@ -132,13 +132,13 @@ keeps_object : (keypos : ℕ) (row : Row) (left : List Tree) → IsTerm (Tuple r
 keeps_object keypos row left h o l = by_fit keypos row left h o l (fits (Tuple (row_of left))) refl
 
 by_object : (keypos : ℕ) (row : Row) (values : List ℤ) (r : Result Tree ElementFault) → IfOk r (KeepsKey keypos (Tuple row))
-    → IfOk (and_then r (λ new. Ok (new, values))) (λ new. KeepsKey keypos (Tuple row) new.0)
+    → IfOk {T = Tree × List ℤ} (and_then r (λ new. Ok (new, values))) (λ new. KeepsKey keypos (Tuple row) new.0)
 by_object keypos row values (Ok new) h = h
 by_object keypos row values (Err fault) h = tt
 
 by_counts : (keypos : ℕ) (row : Row) → IsTerm (Tuple row) → is_object keypos (Tuple row) ≡ true → (r : Result (List Tree × List ℤ) ElementFault)
     → IfOk r (λ left. IsLeft keypos (elements row) left.0)
-    → IfOk (and_then r (λ left. and_then (object_of left.0) (λ new. Ok (new, left.1)))) (λ new. KeepsKey keypos (Tuple row) new.0)
+    → IfOk {T = Tree × List ℤ} (and_then r (λ left. and_then (object_of left.0) (λ new. Ok (new, left.1)))) (λ new. KeepsKey keypos (Tuple row) new.0)
 by_counts keypos row h o (Ok left) l = by_object keypos row left.1 (object_of left.0) (keeps_object keypos row left.0 h o l)
 by_counts keypos row h o (Err fault) l = tt
 
