@@ -30,6 +30,13 @@ narrow_item (t ∷ ts) (suc i) h n = narrow_item ts i (omega (arith, h)) n.1
 pub tuple_code : (items ts : List Tree) → length ts ≡ length items → code_of (Tuple (row_of ts)) ≡ head items ++ row_code (row_of ts)
 tuple_code items ts e = at_tuple (Tuple (row_of ts)) ts refl ∙ ap (λ n. (0x40 ∷ four_bytes n) ++ row_code (row_of ts)) e
 
+-- bytes begin with the code of an element, and behind it stand those of the further ones
+pub record IsElementAt (items : List Tree) (i : ℕ) (rest element behind : List ℕ) : Type 0 where
+  pub narrow : IsNarrow (get_or items i Nil)
+  pub code_is : element ≡ code_of (get_or items i Nil)
+  pub parts : rest ≡ code_of (get_or items i Nil) ++ behind
+  pub behind_is : behind ≡ row_code (row_of (drop (i + 1) items))
+
 module _ (items : List Tree) (code : List ℕ) (h : HasItems items code) where
   -- There are no more elements than a tuple may have.
   pub few_items : length items ≤ MOST_ELEMENTS
@@ -63,16 +70,24 @@ module _ (items : List Tree) (code : List ℕ) (h : HasItems items code) where
   pub size_there : (bytes : List ℕ) → bytes ≡ drop 1 code → (n : ℕ) × (rest : List ℕ) × (n ≤ MOST_ELEMENTS) × (bytes ≡ four_bytes n ++ rest)
   size_there bytes e = (length items, row_code (row_of items), few_items, e ∙ inside)
 
-  -- Each element is within the bounds of width.
-  pub narrow_at : (i : ℕ) → i < length items → IsNarrow (get_or items i Nil)
+  narrow_at : (i : ℕ) → i < length items → IsNarrow (get_or items i Nil)
   narrow_at i l = narrow_item items i l h.bounded.narrow.1
 
-  -- The codes from an element on begin with its code.
-  pub next_is : (i : ℕ) (rest : List ℕ) → i < length items → rest ≡ row_code (row_of (drop i items))
+  next_is : (i : ℕ) (rest : List ℕ) → i < length items → rest ≡ row_code (row_of (drop i items))
       → rest ≡ code_of (get_or items i Nil) ++ row_code (row_of (drop (i + 1) items))
   next_is i rest l e = e ∙ row_code_at items i Nil l
 
-  -- So there is one.
+  -- The codes from an element on begin with a code.
   pub next_there : (i : ℕ) (rest : List ℕ) → i < length items → rest ≡ row_code (row_of (drop i items))
       → (t : Tree) × (end : List ℕ) × IsNarrow t × (rest ≡ code_of t ++ end)
   next_there i rest l e = (get_or items i Nil, row_code (row_of (drop (i + 1) items)), narrow_at i l, next_is i rest l e)
+
+  -- What is cut off there is the element's code.
+  pub element_at : (i : ℕ) (rest element behind : List ℕ) → i < length items → rest ≡ row_code (row_of (drop i items))
+      → ((t : Tree) (end : List ℕ) → IsNarrow t → rest ≡ code_of t ++ end → (element ≡ code_of t) × (behind ≡ end)) → IsElementAt items i rest element behind
+  element_at i rest element behind l e f =
+      let t : Tree = get_or items i Nil in
+      let end : List ℕ = row_code (row_of (drop (i + 1) items)) in
+      let r = next_is i rest l e in
+      let g = f t end (narrow_at i l) r in
+      record { narrow = narrow_at i l; code_is = g.0; parts = r ∙ ap (λ x. code_of t ++ x) (sym g.1); behind_is = g.1 }

@@ -10,7 +10,7 @@ use Rattle.ca_order.specs.declared.room.TooLong.{TooLong}
 use Rattle.ca_order.specs.Patches.{HasItems, with_number, with_numbers}
 use Rattle.ca_order.specs.Puts.{Puts}
 use Rattle.ca_order.proofs.Cuts.{front_is, back_fits}
-use Rattle.ca_order.proofs.Items.{head, tuple_code, parts, behind_head}
+use Rattle.ca_order.proofs.Items.{IsElementAt, head, tuple_code, parts, behind_head}
 use Rattle.ca_order.proofs.Parts.{at_int, no_item}
 use Rattle.ca_order.proofs.Put.{IsPut, put_more, puts_all, puts_err}
 
@@ -40,6 +40,15 @@ pub record IsKept (items : List Tree) (numbers : List (Option ℤ)) (i : ℕ) (k
   pub kept_is : kept ≡ stretch ++ rest
   pub put : IsPut written (stretch ++ codes_from items numbers i) old (new_code items numbers)
 
+-- The same of other names.
+pub kept_as : (items : List Tree) (numbers : List (Option ℤ)) (i : ℕ) (kept rest written old kept' rest' written' : List ℕ)
+    → IsKept items numbers i kept rest written old → kept' ≡ kept → rest' ≡ rest → written' ≡ written → IsKept items numbers i kept' rest' written' old
+kept_as items numbers i kept rest written old kept' rest' written' k e f g = record {
+  stretch = k.stretch;
+  kept_is = e ∙ k.kept_is ∙ ap (λ x. k.stretch ++ x) (sym f);
+  put = record { parts = ap (λ x. x ++ (k.stretch ++ codes_from items numbers i)) g ∙ k.put.parts };
+}
+
 -- At first nothing is written.
 pub kept_none : (items : List Tree) (code : List ℕ) (h : HasItems items code) (numbers : List (Option ℤ)) (rest old : List ℕ) → rest ≡ drop 5 code
     → IsKept items numbers 0 code rest old old
@@ -68,8 +77,7 @@ module _ (items : List Tree) (numbers : List (Option ℤ)) (i : ℕ) (kept rest 
       puts_err r written (k.stretch ++ codes_from items numbers i) old (new_code items numbers) (take (length kept - length rest) kept)
       (codes_from items numbers i) new e k.put whole f
 
-  module _ (behind : List ℕ) (l : length numbers ≡ length items) (lt : i < length numbers)
-      (r : rest ≡ code_of (get_or items i Nil) ++ behind) where
+  module _ (element behind : List ℕ) (l : length numbers ≡ length items) (lt : i < length numbers) (at : IsElementAt items i rest element behind) where
     next : codes_from items numbers i ≡ code_of (with_number (get_or items i Nil) (get_or numbers i None)) ++ codes_from items numbers (i + 1)
     next =
         row_code_at (with_numbers items numbers) i Nil (omega (arith, l, lt, length_numbered items numbers))
@@ -82,7 +90,7 @@ module _ (items : List Tree) (numbers : List (Option ℤ)) (i : ℕ) (kept rest 
         next ∙ ap (λ x. code_of x ++ codes_from items numbers (i + 1)) e in
         record {
           stretch = k.stretch ++ code_of (get_or items i Nil);
-          kept_is = k.kept_is ∙ ap (λ x. k.stretch ++ x) r ∙ sym (append_assoc k.stretch (code_of (get_or items i Nil)) behind);
+          kept_is = k.kept_is ∙ ap (λ x. k.stretch ++ x) at.parts ∙ sym (append_assoc k.stretch (code_of (get_or items i Nil)) behind);
           put = record {
             parts = ap (λ x. written ++ x) (append_assoc k.stretch (code_of (get_or items i Nil)) (codes_from items numbers (i + 1))
                 ∙ ap (λ x. k.stretch ++ x) (sym more)) ∙ k.put.parts;

@@ -1,8 +1,8 @@
-use Rattle.std.proofs.Common.{ℕ, ◌<◌, ◌+◌, List, drop, length, get_or, arith, ◌∙◌}
+use Rattle.std.proofs.Common.{◌≡◌, ℕ, ◌<◌, ◌+◌, List, length, get_or, arith, ◌∙◌}
 use Rattle.ca_term.specs.Tree.{Tree, Nil, row_of}
 use Rattle.ca_term.specs.Code.{row_code}
 use Rattle.ca_order.specs.Patches.{HasItems}
-use Rattle.ca_order.proofs.Items.{few_items, not_empty, inside, size_there, narrow_at, next_is, next_there}
+use Rattle.ca_order.proofs.Items.{IsElementAt, few_items, not_empty, inside, size_there, next_there, element_at}
 use Rattle.ca_order.proofs.ReadNumbers.{numbers_few, numbers_more, numbers_all}
 use Rattle.ca_order.proofs.counter.numbers_of.Goals as goal
 
@@ -14,6 +14,8 @@ split_size-size-requires c = size_there c.requires.0 c.args.code.now c.requires.
 
 pub loop-init : goal.loop-init
 loop-init c = record {
+  size = λ items h. (c.split_size-size.ensures.size (length items) (row_code (row_of items)) (few_items items c.args.code.now h)
+      (c.split_at.ensures.back ∙ inside items c.args.code.now h)).0;
   numbers = λ items h. c.new-numbers.ensures;
   rest = λ items h. (c.split_size-size.ensures.size (length items) (row_code (row_of items)) (few_items items c.args.code.now h)
       (c.split_at.ensures.back ∙ inside items c.args.code.now h)).1;
@@ -23,56 +25,44 @@ pub split_element-requires : goal.split_element-requires
 split_element-requires c =
     let items = c.requires.0 in
     let h = c.requires.1 in
-    let s = c.split_size-size.ensures.size (length items) (row_code (row_of items)) (few_items items c.args.code.now h)
-    (c.split_at.ensures.back ∙ inside items c.args.code.now h) in
-    next_there items c.args.code.now h c.loop.counter c.loop.rest.now (omega (arith, s.0)) (c.loop.invariant.rest items h)
+    next_there items c.args.code.now h c.loop.counter c.loop.rest.now (omega (arith, c.loop.invariant.size items h)) (c.loop.invariant.rest items h)
 
 pub integer_in-requires : goal.integer_in-requires
 integer_in-requires c =
     let items = c.requires.0 in
     let h = c.requires.1 in
-    let s = c.split_size-size.ensures.size (length items) (row_code (row_of items)) (few_items items c.args.code.now h)
-    (c.split_at.ensures.back ∙ inside items c.args.code.now h) in
-    let i : ℕ = c.loop.counter in
-    let l : i < length items = omega (arith, s.0) in
-    let n = narrow_at items c.args.code.now h i l in (
-      get_or items i Nil,
-      n,
-      (c.split_element.ensures (get_or items i Nil) (row_code (row_of (drop (i + 1) items))) n
-          (next_is items c.args.code.now h i c.loop.rest.now l (c.loop.invariant.rest items h))).0,
-    )
+    let at = element_at items c.args.code.now h c.loop.counter c.loop.rest.now c.split_element.result.0.now c.split_element.result.1.now
+    (omega (arith, c.loop.invariant.size items h)) (c.loop.invariant.rest items h) c.split_element.ensures in
+    (get_or items c.loop.counter Nil, at.narrow, at.code_is)
 
 pub push-requires : goal.push-requires
 push-requires c =
     let items = c.requires.0 in
-    let h = c.requires.1 in
-    let s = c.split_size-size.ensures.size (length items) (row_code (row_of items)) (few_items items c.args.code.now h)
-    (c.split_at.ensures.back ∙ inside items c.args.code.now h) in
-    (omega arith, numbers_few items c.args.code.now h c.loop.counter c.loop.numbers.items (omega (arith, s.0)) (c.loop.invariant.numbers items h))
+    let h = c.requires.1 in (
+      omega arith,
+      numbers_few items c.args.code.now h c.loop.counter c.loop.numbers.items (omega (arith, c.loop.invariant.size items h))
+          (c.loop.invariant.numbers items h),
+    )
 
 pub loop-preserved : goal.loop-preserved
 loop-preserved c =
     let i : ℕ = c.loop.counter in
-    let size_is : (items : List Tree) → HasItems items c.args.code.now → i < length items = λ items h.
-    let s = c.split_size-size.ensures.size (length items) (row_code (row_of items)) (few_items items c.args.code.now h)
-    (c.split_at.ensures.back ∙ inside items c.args.code.now h) in omega (arith, s.0) in
+    let at : (items : List Tree) → HasItems items c.args.code.now → (i < length items) × IsElementAt items i c.loop.rest.now c.split_element.result.0.now
+    c.split_element.result.1.now = λ items h.
+    let l : i < length items = omega (arith, c.loop.invariant.size items h) in (
+      l,
+      element_at items c.args.code.now h i c.loop.rest.now c.split_element.result.0.now c.split_element.result.1.now l (c.loop.invariant.rest items h)
+          c.split_element.ensures,
+    ) in
     record {
+      size = c.loop.invariant.size;
       numbers = λ items h.
-          let l = size_is items h in
-          let n = narrow_at items c.args.code.now h i l in
-          let e = c.split_element.ensures (get_or items i Nil) (row_code (row_of (drop (i + 1) items))) n
-          (next_is items c.args.code.now h i c.loop.rest.now l (c.loop.invariant.rest items h)) in
-          numbers_more items i c.loop.numbers.items c.push.new.self.items c.integer_in.result l (c.loop.invariant.numbers items h)
-          (c.integer_in.ensures (get_or items i Nil) n e.0) c.push.ensures.items;
-      rest = λ items h.
-          let l = size_is items h in
-          let n = narrow_at items c.args.code.now h i l in
-          (c.split_element.ensures (get_or items i Nil) (row_code (row_of (drop (i + 1) items))) n
-          (next_is items c.args.code.now h i c.loop.rest.now l (c.loop.invariant.rest items h))).1;
+          let e = at items h in
+          numbers_more items i c.loop.numbers.items c.push.new.self.items c.integer_in.result e.0 (c.loop.invariant.numbers items h)
+          (c.integer_in.ensures (get_or items i Nil) e.1.narrow e.1.code_is) c.push.ensures.items;
+      rest = λ items h. (at items h).1.behind_is;
     }
 
 pub returns : goal.returns
 returns c = λ items h.
-    let s = c.split_size-size.ensures.size (length items) (row_code (row_of items)) (few_items items c.args.code.now h)
-    (c.split_at.ensures.back ∙ inside items c.args.code.now h) in
-    numbers_all items c.loop.counter c.loop.numbers.items (omega (arith, s.0)) (c.loop.invariant.numbers items h)
+    numbers_all items c.loop.counter c.loop.numbers.items (omega (arith, c.loop.invariant.size items h)) (c.loop.invariant.numbers items h)

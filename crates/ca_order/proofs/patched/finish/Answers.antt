@@ -21,6 +21,6 @@ returns-in-Ok c = λ items p.
 pub returns-in-Err : goal.returns-in-Err
 returns-in-Err c = λ items p.
     let into = c.args.into.now.items in
-    let e : MOST_CODE_BYTES < length (code_of (Tuple (row_of items))) =
+    let e : MOST_CODE_BYTES < 0 + length (code_of (Tuple (row_of items))) =
     subst (λ (r : Result (Unit {0}) TooLong). Puts r [] (code_of (Tuple (row_of items))) into) c.in-Err.is p in
-    subst (λ (x : List ℕ). IsPatched (object_of items) answer.TooLong x) (sym c.clear.ensures) (fits_not items e)
+    subst (λ (x : List ℕ). IsPatched (object_of items) answer.TooLong x) (sym c.clear.ensures) (fits_not items (omega (arith, e)))
