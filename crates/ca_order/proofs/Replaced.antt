@@ -1,8 +1,11 @@
 -- What comes of replacing an element.
-use Rattle.std.proofs.Common.{◌≡◌, ℕ, zero, suc, ◌≤◌, ◌<◌, ◌-◌, true, false, List, [], length, set, arith, refl, sym, ◌∙◌, ap, ℤ, pos, negsuc, ◌≤ℤ◌, ◌<ℤ◌, nat_abs}
+use Rattle.std.proofs.Common.{◌≡◌, ℕ, zero, suc, ◌≤◌, ◌<◌, ◌-◌, true, false, List, [], length, set, arith, refl, sym, ◌∙◌, ap, ⊎_elim, ◌^◌, ℤ, pos, negsuc, ◌≤ℤ◌, ◌<ℤ◌, nat_abs}
 use Rattle.std.specs.Prelude.{nat_le, IsTrue, Some, None}
+use Rattle.std.specs.Int.{FitsUnsignedBits}
 use Rattle.std.proofs.lemmas.Int.{ints}
+use Rattle.std.proofs.lemmas.Bool.{cases_lt}
 use Rattle.std.proofs.lemmas.Bool.Decides.{nat_tests}
+use Rattle.ca_term.specs.declared.bounds.TheConstants.{MOST_ELEMENTS}
 use Rattle.ca_term.specs.Tree.{Tree, Row, Tuple, elements}
 use Rattle.ca_term.specs.Updates.{is_open, place_of, object_of, update_of_element}
 use Rattle.ca_order.specs.declared.patched.Patched.{Patched}
@@ -38,5 +41,18 @@ there size position p e h k =
 pub past : (size position : ℕ) (p : ℤ) → p ≡ pos position → size < position → place_of size p ≡ None
 past size zero p e h = absurd (omega (arith, h))
 past size (suc i) p e h =
+    let a : nat_le 1 (suc i) ≡ true = grind (arith, nat_tests) in
     let b : nat_le (suc i) size ≡ false = grind (arith, nat_tests, h) in
-    rw (e, b) refl
+    rw (e, a, b) refl
+
+-- So has one that has more than 32 bits.
+pub too_large : (p : ℤ) (size : ℕ) → (FitsUnsignedBits 32 p → ⊥) → size ≤ MOST_ELEMENTS → place_of size p ≡ None
+too_large (pos n) size f m =
+    let h : size < n = ⊎_elim (λ l. absurd (f l)) (λ l. omega (arith, l, m)) (cases_lt n (2 ^ 32)) in
+    past size n (pos n) refl h
+too_large (negsuc k) size f m = refl
+
+-- A position of at least 1 is a natural number.
+pub natural : (p : ℤ) → pos 1 ≤ℤ p → p ≡ pos (nat_abs p)
+natural (pos n) h = refl
+natural (negsuc k) h = absurd (omega (arith, ints, h))
