@@ -169,7 +169,11 @@ fn keys(rt: HostRuntime) {
 }
 
 const fn add(pos: i64, incr: i64) -> Add {
-    Add { pos, incr, cap: None }
+    Add {
+        pos,
+        incr,
+        cap: None,
+    }
 }
 
 const fn capped(pos: i64, incr: i64, threshold: i64, value: i64) -> Add {
@@ -211,7 +215,15 @@ fn element(value: Option<i64>) -> Option<Code>
 }
 
 // Whether the operations give this answer, object and values; an object that isn't changed has none.
-fn counts(alloc: Global, bytes: &[u8], keypos: u32, adds: &[Add], answer: Patched, new: &[u8], values: &[i64]) -> bool {
+fn counts(
+    alloc: Global,
+    bytes: &[u8],
+    keypos: u32,
+    adds: &[Add],
+    answer: Patched,
+    new: &[u8],
+    values: &[i64],
+) -> bool {
     let Some(code) = object(alloc, bytes) else {
         return false;
     };
@@ -227,7 +239,9 @@ fn counts(alloc: Global, bytes: &[u8], keypos: u32, adds: &[Add], answer: Patche
         Patched::TooLong => pass,
         _ => !pass,
     };
-    sums_agree && patch(code.as_slice(), keypos, adds, &mut into) == answer && into.as_slice() == new
+    sums_agree
+        && patch(code.as_slice(), keypos, adds, &mut into) == answer
+        && into.as_slice() == new
 }
 
 const SMALL: &[u8] = b"\x40\0\0\0\x02\x30k\0\0\x21\x01";
@@ -260,7 +274,10 @@ fn counters(rt: HostRuntime) {
             && let Some(code) = element(Some(last))
             && new.try_extend_from_slice(code.as_slice()).is_ok()
         {
-            assert!(rt; counts(alloc, SMALL, 1, adds, Patched::Done, new.as_slice(), values), "{adds:?}");
+            assert!(rt;
+                counts(alloc, SMALL, 1, adds, Patched::Done, new.as_slice(), values),
+                "{adds:?}"
+            );
         } else {
             assert!(rt; false);
         }
@@ -275,16 +292,43 @@ fn counters_at_the_ends(rt: HostRuntime) {
     let least = -9223372036854775808;
     let table: [(&[u8], &[Add], Patched, &[u8], &[i64]); 8] = [
         (LARGEST, &[add(2, 1)], Patched::Range, b"", &[]),
-        (LARGEST, &[capped(2, 1, largest, 1)], Patched::Done, SMALL, &[1]),
+        (
+            LARGEST,
+            &[capped(2, 1, largest, 1)],
+            Patched::Done,
+            SMALL,
+            &[1],
+        ),
         (LARGEST, &[add(2, 0)], Patched::Done, LARGEST, &[largest]),
         (LARGEST, &[add(2, 1), add(2, -1)], Patched::Range, b"", &[]),
-        (LARGEST, &[add(2, -1), add(2, 1)], Patched::Done, LARGEST, &[largest - 1, largest]),
+        (
+            LARGEST,
+            &[add(2, -1), add(2, 1)],
+            Patched::Done,
+            LARGEST,
+            &[largest - 1, largest],
+        ),
         (LEAST, &[add(2, -1)], Patched::Range, b"", &[]),
-        (LEAST, &[capped(2, -1, least, 1)], Patched::Done, SMALL, &[1]),
-        (LEAST, &[add(2, largest), add(2, 2)], Patched::Done, SMALL, &[-1, 1]),
+        (
+            LEAST,
+            &[capped(2, -1, least, 1)],
+            Patched::Done,
+            SMALL,
+            &[1],
+        ),
+        (
+            LEAST,
+            &[add(2, largest), add(2, 2)],
+            Patched::Done,
+            SMALL,
+            &[-1, 1],
+        ),
     ];
     for (object, adds, answer, new, values) in table {
-        assert!(rt; counts(alloc, object, 1, adds, answer, new, values), "{adds:?}");
+        assert!(rt;
+            counts(alloc, object, 1, adds, answer, new, values),
+            "{adds:?}"
+        );
     }
 }
 
@@ -310,7 +354,10 @@ fn counters_refused(rt: HostRuntime) {
         (2, &[add(1, -1), add(3, 1)], Patched::Range),
     ];
     for (keypos, adds, answer) in table {
-        assert!(rt; counts(alloc, object, keypos, adds, answer, b"", &[]), "{keypos} {adds:?}");
+        assert!(rt;
+            counts(alloc, object, keypos, adds, answer, b"", &[]),
+            "{keypos} {adds:?}"
+        );
     }
 }
 
@@ -323,39 +370,51 @@ fn long_object(number: &[u8], bytes: usize) -> Option<Code> {
     code.try_extend_from_slice(b"\x40\0\0\0\x03\x30k\0\0").ok()?;
     code.try_extend_from_slice(number).ok()?;
     code.try_push(0x80).ok()?;
-    code.try_extend_from_slice(&[7; MOST_CODE_BYTES][..bytes]).ok()?;
+    code.try_extend_from_slice(&[7; MOST_CODE_BYTES][..bytes])
+        .ok()?;
     code.try_extend_from_slice(&[0, 0]).ok()?;
     Some(code)
 }
 
-// Codes of 1,000 bytes fit, and of 1,001 bytes don't; a bad argument and a value past 64 bits come first.
+// A code of 1,000 bytes fits, and one of 1,001 bytes doesn't; a bad argument and a value past 64 bits come first.
 #[test]
 fn longest_objects(rt: HostRuntime) {
     let alloc = rt.alloc();
-    match (long_object(&[0x20], 986), long_object(&[0x21, 1], 986), long_object(&[0x20], 987)) {
-        (Some(old), Some(new), Some(full)) => {
-            assert_eq!(rt; new.len(), 1000);
-            assert_eq!(rt; full.len(), 1000);
-            let (old, new, full) = (old.as_slice(), new.as_slice(), full.as_slice());
-            let table: [(&[u8], &[Add], Patched, &[u8], &[i64]); 5] = [
-                (old, &[add(2, 1)], Patched::Done, new, &[1]),
-                (full, &[add(2, 0)], Patched::Done, full, &[0]),
-                (full, &[add(2, 1)], Patched::TooLong, b"", &[]),
-                (full, &[add(2, 1), add(3, 1)], Patched::BadArg, b"", &[]),
-                (full, &[add(2, 1), add(2, 9223372036854775807)], Patched::Range, b"", &[]),
-            ];
-            for (object, adds, answer, into, values) in table {
-                assert!(rt; counts(alloc, object, 1, adds, answer, into, values), "{adds:?}");
-            }
-            assert!(rt; sets(alloc, old, 1, 2, Some(1), Patched::Done, new));
-            assert!(rt; sets(alloc, full, 1, 2, Some(1), Patched::TooLong, b""));
-        }
-        _ => assert!(rt; false),
+    let (Some(old), Some(new), Some(full)) = (
+        long_object(&[0x20], 986),
+        long_object(&[0x21, 1], 986),
+        long_object(&[0x20], 987),
+    ) else {
+        assert!(rt; false);
+        return;
+    };
+    assert_eq!(rt; new.len(), 1000);
+    assert_eq!(rt; full.len(), 1000);
+    let (old, new, full) = (old.as_slice(), new.as_slice(), full.as_slice());
+    assert!(rt; counts(alloc, old, 1, &[add(2, 1)], Patched::Done, new, &[1]));
+    assert!(rt; counts(alloc, full, 1, &[add(2, 0)], Patched::Done, full, &[0]));
+    assert!(rt; sets(alloc, old, 1, 2, Some(1), Patched::Done, new));
+    assert!(rt; sets(alloc, full, 1, 2, Some(1), Patched::TooLong, b""));
+    let table: [(&[Add], Patched); 3] = [
+        (&[add(2, 1)], Patched::TooLong),
+        (&[add(2, 1), add(3, 1)], Patched::BadArg),
+        (&[add(2, 1), add(2, 9223372036854775807)], Patched::Range),
+    ];
+    for (adds, answer) in table {
+        assert!(rt; counts(alloc, full, 1, adds, answer, b"", &[]), "{adds:?}");
     }
 }
 
 // Whether an element gives this answer and object.
-fn sets(alloc: Global, bytes: &[u8], keypos: u32, pos: i64, value: Option<i64>, answer: Patched, new: &[u8]) -> bool {
+fn sets(
+    alloc: Global,
+    bytes: &[u8],
+    keypos: u32,
+    pos: i64,
+    value: Option<i64>,
+    answer: Patched,
+    new: &[u8],
+) -> bool {
     let (Some(code), Some(value)) = (object(alloc, bytes), element(value)) else {
         return false;
     };
@@ -363,18 +422,49 @@ fn sets(alloc: Global, bytes: &[u8], keypos: u32, pos: i64, value: Option<i64>, 
         return false;
     }
     let mut into = Code::new();
-    set(code.as_slice(), keypos, pos, value.as_slice(), &mut into) == answer && into.as_slice() == new
+    set(code.as_slice(), keypos, pos, value.as_slice(), &mut into) == answer
+        && into.as_slice() == new
 }
 
 #[test]
 fn elements(rt: HostRuntime) {
     let alloc = rt.alloc();
     let table: [(u32, i64, Option<i64>, Patched, &[u8]); 8] = [
-        (1, 2, None, Patched::Done, b"\x40\0\0\0\x03\x20\x60\x70\x60\x60"),
-        (1, 3, Some(5), Patched::Done, b"\x40\0\0\0\x03\x20\x30k\0\0\x21\x05"),
-        (2, 1, Some(-1), Patched::Done, b"\x40\0\0\0\x03\x1f\x30k\0\0\x70\x60\x60"),
-        (2, 3, None, Patched::Done, b"\x40\0\0\0\x03\x20\x30k\0\0\x60"),
-        (3, 2, Some(0), Patched::Done, b"\x40\0\0\0\x03\x20\x20\x70\x60\x60"),
+        (
+            1,
+            2,
+            None,
+            Patched::Done,
+            b"\x40\0\0\0\x03\x20\x60\x70\x60\x60",
+        ),
+        (
+            1,
+            3,
+            Some(5),
+            Patched::Done,
+            b"\x40\0\0\0\x03\x20\x30k\0\0\x21\x05",
+        ),
+        (
+            2,
+            1,
+            Some(-1),
+            Patched::Done,
+            b"\x40\0\0\0\x03\x1f\x30k\0\0\x70\x60\x60",
+        ),
+        (
+            2,
+            3,
+            None,
+            Patched::Done,
+            b"\x40\0\0\0\x03\x20\x30k\0\0\x60",
+        ),
+        (
+            3,
+            2,
+            Some(0),
+            Patched::Done,
+            b"\x40\0\0\0\x03\x20\x20\x70\x60\x60",
+        ),
         (1, 4, None, Patched::BadArg, b""),
         (1, 4294967298, None, Patched::BadArg, b""),
         (1, 9223372036854775807, None, Patched::BadArg, b""),
@@ -382,7 +472,10 @@ fn elements(rt: HostRuntime) {
     for (keypos, pos, value, answer, new) in table {
         // {0,k,[[]]}
         let object = b"\x40\0\0\0\x03\x20\x30k\0\0\x70\x60\x60";
-        assert!(rt; sets(alloc, object, keypos, pos, value, answer, new), "{keypos} {pos}");
+        assert!(rt;
+            sets(alloc, object, keypos, pos, value, answer, new),
+            "{keypos} {pos}"
+        );
     }
 }
 
@@ -394,10 +487,40 @@ fn widest_objects(rt: HostRuntime) {
     object[..5].copy_from_slice(b"\x40\0\0\0\x78");
     let mut new = object;
     new[MOST_ELEMENTS + 3] = 0x1f;
-    assert!(rt; counts(alloc, &object, 120, &[add(119, -1)], Patched::Done, &new, &[-1]));
+    assert!(rt;
+        counts(
+            alloc,
+            &object,
+            120,
+            &[add(119, -1)],
+            Patched::Done,
+            &new,
+            &[-1]
+        )
+    );
     assert!(rt; sets(alloc, &object, 120, 119, Some(-1), Patched::Done, &new));
-    assert!(rt; counts(alloc, &object, 120, &[add(120, 1)], Patched::BadArg, b"", &[]));
-    assert!(rt; counts(alloc, &object, 120, &[add(121, 1)], Patched::BadArg, b"", &[]));
+    assert!(rt;
+        counts(
+            alloc,
+            &object,
+            120,
+            &[add(120, 1)],
+            Patched::BadArg,
+            b"",
+            &[]
+        )
+    );
+    assert!(rt;
+        counts(
+            alloc,
+            &object,
+            120,
+            &[add(121, 1)],
+            Patched::BadArg,
+            b"",
+            &[]
+        )
+    );
     assert!(rt; sets(alloc, &object, 120, 121, None, Patched::BadArg, b""));
     let mut last = object;
     last[MOST_ELEMENTS + 4] = 0x60;

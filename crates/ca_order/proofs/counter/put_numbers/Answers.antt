@@ -70,33 +70,33 @@ loop-number-preserved c =
     element_at items c.args.code.now h i rest element behind (omega (arith, l, c.loop-number-test.true)) (c.loop-number.invariant.rest items h l)
     c.split_element.ensures in
     elim c.match-new_integer.branch [
-      in-Some+in_ok-put+in_ok-put_int w ↦
-        let v = w.in-Some.value in
-        let f : FitsSigned w64 v = search rules in
-        record {
-          rest = λ items h l. ap (λ x. x.now) w.rest-is ∙ (at items h l).behind_is;
-          kept = λ items h l.
-              let e = at items h l in
-              let new : w.put_int.new.into.items ≡ w.put.new.into.items ++ int_code v =
-              w.in_ok-put_int.ensures ∙ ap (λ x. w.put.new.into.items ++ int_code x) (to_z-of_z w64 v f) in
-              kept_as items numbers (i + 1) behind behind w.put_int.new.into.items old c.match-new_integer.kept.now c.match-new_integer.rest.now
-              c.match-new_integer.into.items
-              (kept_new items numbers i kept rest c.loop-number.into.items old (c.loop-number.invariant.kept items h l) element behind l
-              c.loop-number-test.true e v (w.in-Some.ensures (get_or items i Nil) e.narrow e.code_is) w.put.new.into.items
-              (w.in_ok-put.ensures ∙ ap (λ x. c.loop-number.into.items ++ x) w.split_at-in-Some.ensures.front) w.put_int.new.into.items new)
-              (ap (λ x. x.now) w.kept-is) (ap (λ x. x.now) w.rest-is) (ap (λ x. x.items) w.into-is);
-        } |
-      in_default w ↦
-        record {
-          rest = λ items h l. ap (λ x. x.now) w.rest-is ∙ (at items h l).behind_is;
-          kept = λ items h l.
-              let e = at items h l in
-              kept_as items numbers (i + 1) kept behind c.loop-number.into.items old c.match-new_integer.kept.now c.match-new_integer.rest.now
-              c.match-new_integer.into.items
-              (kept_same items numbers i kept rest c.loop-number.into.items old (c.loop-number.invariant.kept items h l) element behind l
-              c.loop-number-test.true e (w.in_default.ensures (get_or items i Nil) e.narrow e.code_is))
-              (ap (λ x. x.now) w.kept-is) (ap (λ x. x.now) w.rest-is) (ap (λ x. x.items) w.into-is);
-        }
+      | in-Some+in_ok-put+in_ok-put_int w ↦
+          let v = w.in-Some.value in
+          let f : FitsSigned w64 v = search rules in
+          record {
+            rest = λ items h l. ap (λ x. x.now) w.rest-is ∙ (at items h l).behind_is;
+            kept = λ items h l.
+                let e = at items h l in
+                let new : w.put_int.new.into.items ≡ w.put.new.into.items ++ int_code v =
+                w.in_ok-put_int.ensures ∙ ap (λ x. w.put.new.into.items ++ int_code x) (to_z-of_z w64 v f) in
+                kept_as items numbers (i + 1) behind behind w.put_int.new.into.items old c.match-new_integer.kept.now c.match-new_integer.rest.now
+                c.match-new_integer.into.items
+                (kept_new items numbers i kept rest c.loop-number.into.items old (c.loop-number.invariant.kept items h l) element behind l
+                c.loop-number-test.true e v (w.in-Some.ensures (get_or items i Nil) e.narrow e.code_is) w.put.new.into.items
+                (w.in_ok-put.ensures ∙ ap (λ x. c.loop-number.into.items ++ x) w.split_at-in-Some.ensures.front) w.put_int.new.into.items new)
+                (ap (λ x. x.now) w.kept-is) (ap (λ x. x.now) w.rest-is) (ap (λ x. x.items) w.into-is);
+          }
+      | in_default w ↦
+          record {
+            rest = λ items h l. ap (λ x. x.now) w.rest-is ∙ (at items h l).behind_is;
+            kept = λ items h l.
+                let e = at items h l in
+                kept_as items numbers (i + 1) kept behind c.loop-number.into.items old c.match-new_integer.kept.now c.match-new_integer.rest.now
+                c.match-new_integer.into.items
+                (kept_same items numbers i kept rest c.loop-number.into.items old (c.loop-number.invariant.kept items h l) element behind l
+                c.loop-number-test.true e (w.in_default.ensures (get_or items i Nil) e.narrow e.code_is))
+                (ap (λ x. x.now) w.kept-is) (ap (λ x. x.now) w.rest-is) (ap (λ x. x.items) w.into-is);
+          }
     ]
 
 pub returns : goal.returns
