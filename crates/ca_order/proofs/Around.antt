@@ -1,5 +1,5 @@
 -- An element of a tuple's code, and the code with another one in its place.
-use Rattle.std.proofs.Common.{◌≡◌, ℕ, ◌≤◌, ◌<◌, ◌+◌, ◌-◌, List, [], ◌∷◌, ◌++◌, length, take, drop, set, arith, refl, sym, ◌∙◌, ap, subst, append_assoc, length-append}
+use Rattle.std.proofs.Common.{◌≡◌, ℕ, ◌≤◌, ◌-◌, List, ◌∷◌, ◌++◌, length, take, drop, set, arith, sym, ◌∙◌, ap, append_assoc, length-append}
 use Rattle.std.proofs.Math.Seq.{take-append_seam, drop-append_seam, set-append_seam}
 use Rattle.ca_term.specs.Tree.{Tree, Tuple, row_of, elements}
 use Rattle.ca_term.specs.Code.{code_of, row_code}

@@ -1,5 +1,5 @@
 -- The integer that a code is of.
-use Rattle.std.proofs.Common.{◌≡◌, ℕ, suc, ◌≤◌, ◌<◌, ◌+◌, ◌-◌, ◌^◌, pos, negsuc, true, false, List, [], ◌∷◌, ◌++◌, length, arith, refl, sym, ◌∙◌, ap, subst}
+use Rattle.std.proofs.Common.{◌≡◌, ℕ, suc, ◌≤◌, ◌<◌, ◌+◌, ◌-◌, ◌^◌, pos, negsuc, true, false, List, [], ◌∷◌, ◌++◌, length, arith, refl, sym, ◌∙◌, ap}
 use Rattle.std.specs.Prelude.{None}
 use Rattle.ca_term.specs.Tree.{Tree, Integer, IsNarrow}
 use Rattle.ca_term.specs.Code.{code_of}
@@ -10,7 +10,7 @@ use Rattle.ca_term.specs.Tree.{AreBytes, depth}
 use Rattle.ca_term.proofs.Codes.{same_code}
 use Rattle.ca_term.proofs.DigitBytes.{number_word, no_bytes}
 use Rattle.ca_term.proofs.Digits.{digits_shorter, length_complement}
-use Rattle.ca_term.proofs.Grammar.{signed_pos, signed_neg, deep}
+use Rattle.ca_term.proofs.Grammar.{signed_pos, signed_neg}
 use Rattle.ca_order.specs.KeyParts.{HasCodes}
 use Rattle.ca_order.specs.Languages.{HasDigits, turned}
 use Rattle.ca_order.proofs.FirstBytes.{Tagged, tagged, pos_rest, neg_rest, code_pos, code_neg, is_pos, is_neg, is_atom, is_tuple, is_nil, is_cons, is_binary}

@@ -1,7 +1,6 @@
 -- A tuple's code is written with other numbers: stretches between elements that change stand as they were.
-use Rattle.std.proofs.Common.{◌≡◌, ℕ, zero, suc, ◌≤◌, ◌<◌, ◌+◌, ◌-◌, ℤ, List, [], ◌∷◌, ◌++◌, length, take, drop, get_or, arith, refl, sym, ◌∙◌, ap, append_assoc, append-nil, Option, None}
+use Rattle.std.proofs.Common.{◌≡◌, ℕ, zero, suc, ◌≤◌, ◌<◌, ◌+◌, ◌-◌, ℤ, List, [], ◌∷◌, ◌++◌, length, take, drop, get_or, arith, refl, sym, ◌∙◌, ap, append_assoc, Option, None}
 use Rattle.std.specs.Prelude.{Result, IsErr}
-use Rattle.std.proofs.lemmas.List.{drop_all}
 use Rattle.ca_term.specs.declared.bounds.TheConstants.{MOST_CODE_BYTES}
 use Rattle.ca_term.specs.Tree.{Tree, Tuple, Integer, Nil, row_of}
 use Rattle.ca_term.specs.Code.{code_of, row_code, int_code}

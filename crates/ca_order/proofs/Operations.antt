@@ -1,5 +1,5 @@
 -- One operation on a counter.
-use Rattle.std.proofs.Common.{◌≡◌, ℕ, zero, suc, ◌<◌, ◌^◌, true, false, List, [], ◌++◌, length, take, drop, map, set, get_or, arith, refl, sym, ◌∙◌, ap, ℤ, pos, negsuc, ◌+ℤ◌, FitsSigned, Option, Some, None, Ok, to_z, of_z, append-nil, take_all}
+use Rattle.std.proofs.Common.{◌≡◌, ℕ, ◌<◌, ◌^◌, true, false, List, [], ◌++◌, length, take, drop, map, set, get_or, arith, refl, sym, ◌∙◌, ap, ℤ, pos, negsuc, ◌+ℤ◌, FitsSigned, Option, Some, None, Ok, to_z, of_z, append-nil, take_all}
 use Rattle.std.specs.Prelude.{ok_or}
 use Rattle.std.specs.Int.{w64, w128}
 use Rattle.std.specs.List.{refill}

@@ -1,5 +1,5 @@
 -- What comes of replacing an element.
-use Rattle.std.proofs.Common.{◌≡◌, ℕ, zero, suc, ◌≤◌, ◌<◌, ◌-◌, true, false, List, [], length, set, arith, refl, sym, ◌∙◌, ap, ⊎_elim, ◌^◌, ℤ, pos, negsuc, ◌≤ℤ◌, ◌<ℤ◌, nat_abs}
+use Rattle.std.proofs.Common.{◌≡◌, ℕ, zero, suc, ◌≤◌, ◌<◌, ◌-◌, true, false, List, [], length, set, arith, refl, ⊎_elim, ◌^◌, ℤ, pos, negsuc, ◌≤ℤ◌, nat_abs}
 use Rattle.std.specs.Prelude.{nat_le, IsTrue, Some, None}
 use Rattle.std.specs.Int.{FitsUnsignedBits}
 use Rattle.std.proofs.lemmas.Int.{ints}
@@ -10,7 +10,7 @@ use Rattle.ca_term.specs.Tree.{Tree, Row, Tuple, elements}
 use Rattle.ca_term.specs.Updates.{is_open, place_of, object_of, update_of_element}
 use Rattle.ca_order.specs.declared.patched.Patched.{Patched}
 use Rattle.ca_order.specs.declared.patched.Patched.TheVariants as answer
-use Rattle.ca_order.specs.Patches.{IsPatched, IsAt, IsAround}
+use Rattle.ca_order.specs.Patches.{IsPatched}
 
 -- A position that may be changed is at least 1.
 pub open_least : (keypos : ℕ) (p : ℤ) → IsTrue (is_open keypos p) → pos 1 ≤ℤ p

@@ -1,13 +1,12 @@
 -- An update of an object keeps its key and the bounds of terms.
-use Rattle.std.proofs.Common.{◌≡◌, ℕ, zero, suc, ◌≤◌, ◌<◌, ◌+◌, ◌-◌, ◌^◌, max, Bool, true, false, List, [], ◌∷◌, length, set, get_or, arith, refl, sym, ◌∙◌, ap, subst, ℤ, pos, negsuc, FitsSigned, Option, Some, None, Ok, Err}
-use Rattle.std.specs.Prelude.{Result, ok_or, IfOk, IsTrue, nat_lt, nat_le, if◌then◌else◌}
-use Rattle.std.specs.Int.{w64}
+use Rattle.std.proofs.Common.{◌≡◌, ℕ, zero, suc, ◌≤◌, ◌<◌, ◌-◌, ◌^◌, Bool, true, false, List, [], ◌∷◌, length, set, get_or, arith, refl, sym, ◌∙◌, ap, subst, ℤ, pos, negsuc, Option, Some, None, Ok, Err}
+use Rattle.std.specs.Prelude.{Result, ok_or, IfOk, IsTrue, nat_le, if◌then◌else◌}
 use Rattle.std.proofs.lemmas.List.{length-set}
 use Rattle.std.proofs.lemmas.Bool.Decides.{nat_tests}
 use Rattle.ca_term.specs.declared.bounds.TheConstants.{MOST_DEPTH}
 use Rattle.ca_term.specs.Tree.{Tree, Row, Integer, Atom, Tuple, Nil, Cons, Binary, row_of, elements, size, depth, row_depth, IsTerm, IsNarrow, IsNarrowRow}
-use Rattle.ca_term.specs.Object.{is_object, key_of, fits}
-use Rattle.ca_term.specs.Updates.{ElementFault, BadArgument, OutOfRange, TooLarge, Addition, integer_of, is_word, is_open, place_of, counter_place, value_of, count_with, count_at, count, counts, with_value, object_of, and_then, update_of_counters, update_of_element}
+use Rattle.ca_term.specs.Object.{is_object, fits}
+use Rattle.ca_term.specs.Updates.{ElementFault, BadArgument, OutOfRange, TooLarge, Addition, integer_of, is_word, is_open, place_of, counter_place, value_of, count_with, count_at, count, counts, with_value, object_of, and_then}
 use Rattle.ca_term.specs.UpdateLaws.{KeepsKey, CountersKeepKeys, ElementsKeepKeys}
 use Rattle.ca_term.proofs.Rows.{size_row, row_again, elements_are, length_elements}
 

@@ -1,4 +1,4 @@
-use Rattle.std.proofs.Common.{◌≡◌, ℕ, ◌<◌, ◌+◌, List, length, get_or, arith, ◌∙◌}
+use Rattle.std.proofs.Common.{ℕ, ◌<◌, List, length, get_or, arith, ◌∙◌}
 use Rattle.ca_term.specs.Tree.{Tree, Nil, row_of}
 use Rattle.ca_term.specs.Code.{row_code}
 use Rattle.ca_order.specs.Patches.{HasItems}

@@ -1,9 +1,8 @@
-use Rattle.std.proofs.Common.{◌≡◌, ◌+◌, ◌++◌, [], ◌∷◌, ℤ, ℕ, List, map, length, arith, refl, sym, ◌∙◌, ap, subst}
-use Rattle.std.specs.Prelude.{Result}
-use Rattle.ca_term.specs.Tree.{Tree, Row, Tuple, row_of, elements}
+use Rattle.std.proofs.Common.{◌++◌, [], ◌∷◌, ℕ, List, map, length, ◌∙◌, ap, subst}
+use Rattle.ca_term.specs.Tree.{Tuple, row_of, elements}
 use Rattle.ca_term.specs.Code.{code_of}
-use Rattle.ca_term.specs.Updates.{ElementFault, Addition, object_of, object_in, and_then}
-use Rattle.ca_order.specs.Patches.{IsPatched, addition_of, with_numbers}
+use Rattle.ca_term.specs.Updates.{Addition}
+use Rattle.ca_order.specs.Patches.{addition_of, with_numbers}
 use Rattle.ca_order.specs.Puts.{Puts}
 use Rattle.ca_order.proofs.Counted.{IsCounting, counting_none, counting_many, more_at, stops_at, at_end, counts_are}
 use Rattle.ca_order.proofs.Items.{has_items}

@@ -1,12 +1,12 @@
-use Rattle.std.proofs.Common.{◌≡◌, ℕ, ◌<◌, ◌+◌, ◌-◌, ◌++◌, List, drop, take, length, get_or, None, FitsSigned, arith, rules, ap, subst, ◌∙◌, of_z, to_z}
+use Rattle.std.proofs.Common.{◌≡◌, ℕ, ◌<◌, ◌+◌, ◌-◌, ◌++◌, List, take, length, get_or, FitsSigned, arith, rules, ap, subst, ◌∙◌}
 use Rattle.std.specs.Int.{w64}
 use Rattle.std.proofs.lemmas.Int.{to_z-of_z}
-use Rattle.ca_term.specs.Tree.{Tree, Nil, row_of}
-use Rattle.ca_term.specs.Code.{row_code, int_code}
+use Rattle.ca_term.specs.Tree.{Tree, Nil}
+use Rattle.ca_term.specs.Code.{int_code}
 use Rattle.ca_term.specs.declared.bounds.TheConstants.{MOST_CODE_BYTES}
 use Rattle.ca_order.specs.Patches.{HasItems}
 use Rattle.ca_order.proofs.Items.{IsElementAt, head_there, behind_head, next_there, element_at}
-use Rattle.ca_order.proofs.NewNumbers.{IsKept, kept_none, kept_as, rest_fits, stretch_full, kept_same, kept_new, new_full, kept_all}
+use Rattle.ca_order.proofs.NewNumbers.{kept_none, kept_as, stretch_full, kept_same, kept_new, new_full, kept_all}
 use Rattle.ca_order.proofs.counter.put_numbers.Goals.{in-Some+in_ok-put+in_ok-put_int, in_default}
 use Rattle.ca_order.proofs.counter.put_numbers.Goals as goal
 

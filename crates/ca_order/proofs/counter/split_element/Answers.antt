@@ -1,4 +1,4 @@
-use Rattle.std.proofs.Common.{sym, ◌∙◌, ap, ◌++◌, arith}
+use Rattle.std.proofs.Common.{sym, ◌∙◌, ap, ◌++◌}
 use Rattle.ca_term.specs.Code.{code_of}
 use Rattle.ca_order.proofs.Cuts.{front_is, back_is}
 use Rattle.ca_order.proofs.Integers.{one_there}

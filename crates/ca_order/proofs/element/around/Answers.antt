@@ -1,11 +1,9 @@
-use Rattle.std.proofs.Common.{◌≡◌, ℕ, ◌<◌, ◌-◌, ℤ, List, length, take, drop, pos, nat_abs, arith, sym, ◌∙◌, ap, subst}
+use Rattle.std.proofs.Common.{◌≡◌, ℕ, ◌<◌, ◌-◌, List, length, take, pos, nat_abs, arith, sym, ◌∙◌, ap, subst}
 use Rattle.std.specs.Int.{w64, FitsUnsignedBits}
-use Rattle.std.specs.Prelude.{MatchOption, None}
 use Rattle.std.proofs.lemmas.Int.{to_z-of_z}
 use Rattle.ca_term.specs.Tree.{Tuple, row_of}
-use Rattle.ca_term.specs.Updates.{place_of}
 use Rattle.ca_term.proofs.Rows.{size_row}
-use Rattle.ca_order.specs.Patches.{IsAt, IsAround}
+use Rattle.ca_order.specs.Patches.{IsAround}
 use Rattle.ca_order.proofs.Around.{start_fits, end_fits, around, position_there}
 use Rattle.ca_order.proofs.Items.{few_items}
 use Rattle.ca_order.proofs.Replaced.{past, there, too_large, natural}
