@@ -1,13 +1,15 @@
 -- One step of one thread: what a command does to the map and to its client's continuation, and the reply.
 -- Source: the ets manual's text on each call; the order of the checks and the error `size` are this project's own.
-use Rattle.std.specs.Prelude.{ℕ, Bool, true, false, Option, None, Some, List, [], ◌∷◌, if◌then◌else◌}
-use Rattle.ca_term.specs.Tree.{Tree}
+use Rattle.std.specs.Prelude.{ℕ, ℤ, pos, Bool, true, false, Option, None, Some, Result, Ok, Err, List, [], ◌∷◌, map, slice_index_or, if◌then◌else◌}
+use Rattle.ca_term.specs.Tree.{Tree, Integer}
 use Rattle.ca_term.specs.Object.{is_object, key_of, fits}
+use Rattle.ca_term.specs.Updates.{ElementFault, BadArgument, OutOfRange, TooLarge, and_then, update_of_counters, update_of_element}
 use Rattle.ca_ets.specs.OrderedMap.{put, get, del}
-use Rattle.ca_ets.specs.Command.{Command, Response, Truth, Items, Error, Continuation, response_of}
+use Rattle.ca_ets.specs.Update.{Operations, One, Several, additions_of, operations_of, element_of}
+use Rattle.ca_ets.specs.Command.{Command, Response, Truth, Value, Items, Error, Continuation, response_of}
 use Rattle.ca_ets.specs.declared.command.Cmd.TheVariants.{Insert, InsertNew, Lookup, Member, Delete, Take}
 use Rattle.ca_ets.specs.declared.command.Fault.{Fault}
-use Rattle.ca_ets.specs.declared.command.Fault.TheVariants.{BadArg, Size}
+use Rattle.ca_ets.specs.declared.command.Fault.TheVariants.{BadArg, Range, Size}
 use Rattle.ca_ets.specs.declared.command.Reply.{Reply}
 
 -- what a step leaves, and its reply
@@ -69,6 +71,47 @@ step_of_delete keypos map continuation k = unless (fault_of_key k) map continuat
 -- `take`: it removes the key's object and answers with its list, or the empty list
 abbrev pub step_of_take : ℕ → List Tree → Continuation → Tree → Step
 step_of_take keypos map continuation k = unless (fault_of_key k) map continuation (with_map (del keypos map k) continuation (Items (get keypos map k)))
+
+-- the error of a change that is refused
+abbrev pub fault_of : ElementFault → Fault
+fault_of BadArgument = BadArg
+fault_of OutOfRange = Range
+fault_of TooLarge = Size
+
+-- a change of the key's object, with its reply, or why there is none
+abbrev pub step_of_change : ℕ → List Tree → Continuation → Result (Tree × Response) ElementFault → Step
+step_of_change keypos map continuation (Ok new) = with_map (put keypos map new.0) continuation new.1
+step_of_change keypos map continuation (Err fault) = no_change map continuation (Error (fault_of fault))
+
+-- the values that operations stored: that of one alone, or the list of several
+abbrev pub reply_of : Operations → List ℤ → Response
+reply_of (One a) values = Value (Integer (slice_index_or values 0 (pos 0)))
+reply_of (Several additions) values = Items (map Integer values)
+
+-- operations on the key's object, all or none; it must be there
+abbrev pub step_of_operations : ℕ → List Tree → Continuation → Operations → List Tree → Step
+step_of_operations keypos map continuation operations [] = no_change map continuation (Error BadArg)
+step_of_operations keypos map continuation operations (o ∷ found) =
+    step_of_change keypos map continuation
+    (and_then (update_of_counters keypos o (additions_of operations)) (λ new. Ok (new.0, reply_of operations new.1)))
+
+-- `update_counter`: first the form of the operations is checked, then the key, then the object
+abbrev pub step_of_update_counter : ℕ → List Tree → Continuation → Tree → Option Operations → Step
+step_of_update_counter keypos map continuation k None = no_change map continuation (Error BadArg)
+step_of_update_counter keypos map continuation k (Some operations) =
+    unless (fault_of_key k) map continuation (step_of_operations keypos map continuation operations (get keypos map k))
+
+-- another element of the key's object, if it is there
+abbrev pub step_of_element : ℕ → List Tree → Continuation → ℤ × Tree → List Tree → Step
+step_of_element keypos map continuation new [] = no_change map continuation (Truth false)
+step_of_element keypos map continuation new (o ∷ found) =
+    step_of_change keypos map continuation (and_then (update_of_element o new.0 new.1) (λ object. Ok (object, Truth true)))
+
+-- `update_element`: first the form of the argument is checked, then the key, then the object
+abbrev pub step_of_update_element : ℕ → List Tree → Continuation → Tree → Option (ℤ × Tree) → Step
+step_of_update_element keypos map continuation k None = no_change map continuation (Error BadArg)
+step_of_update_element keypos map continuation k (Some new) =
+    unless (fault_of_key k) map continuation (step_of_element keypos map continuation new (get keypos map k))
 
 abbrev pub step : ℕ → List Tree → Continuation → Command → Step
 step keypos map continuation (Insert o) = step_of_insert keypos map continuation o
