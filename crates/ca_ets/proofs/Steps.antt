@@ -1,5 +1,5 @@
 -- What a step leaves: at each exit of its command's method, and that it keeps a table and a continuation.
-use Rattle.std.proofs.Common.{◌≡◌, ℕ, Bool, true, false, List, Option, None, Some, refl, subst, if◌then◌else◌}
+use Rattle.std.proofs.Common.{◌≡◌, ℕ, Bool, true, false, List, Option, None, Some, refl, sym, ◌∙◌, subst, if◌then◌else◌}
 use Rattle.std.specs.List.{remove}
 use Rattle.std.specs.Ordering.{is_eq}
 use Rattle.std.specs.Prelude.{not}
@@ -11,8 +11,9 @@ use Rattle.ca_ets.specs.declared.command.Cmd.TheVariants.{Insert, InsertNew, Loo
 use Rattle.ca_ets.specs.declared.command.Fault.{Fault}
 use Rattle.ca_ets.specs.declared.command.Fault.TheVariants.{BadArg, Size}
 use Rattle.ca_ets.specs.declared.table.Place.{Place}
+use Rattle.ca_ets.specs.declared.table.Place.TheVariants.{At}
 use Rattle.ca_ets.specs.OrderedMap.{IsEntry, IsTable, get, del}
-use Rattle.ca_ets.specs.Place.{IsAt, IsPlace, placed}
+use Rattle.ca_ets.specs.Place.{IsPlace, placed}
 use Rattle.ca_ets.specs.Step.{Step, step, is_found, unless, fault_of_key, fault_of_object}
 use Rattle.ca_ets.proofs.Places.{placed_is}
 use Rattle.ca_ets.proofs.Puts.{table_filter, table_put}
@@ -33,10 +34,13 @@ good_object p o e f = rw (e, f)
 pub entry : (p : ℕ) (o : Tree) → fault_of_object p o ≡ None → IsEntry p o
 entry p o n = by (is_object p o) (fits o) refl refl n
   where
-    by : (b c : Bool) → is_object p o ≡ b → fits o ≡ c → (if b then (if c then None else Some Size) else Some BadArg) ≡ None {A = Fault} → IsEntry p o
+    fault : Bool → Bool → Option Fault
+    fault b c = if b then (if c then None else Some Size) else Some BadArg
+
+    by : (b c : Bool) → is_object p o ≡ b → fits o ≡ c → fault b c ≡ None → IsEntry p o
     by true true e f n = record { object = e; fitting = f }
-    by true false e f n = absurd n
-    by false c e f n = absurd n
+    by true false e f n = let no : fault true false ≡ None = n in cc
+    by false c e f n = let no : fault false c ≡ None = n in cc
 
 -- What a put leaves is a table.
 pub put_keeps : (p : ℕ) (m : List Tree) (o : Tree) (r : Place) → IsTable p m → fault_of_object p o ≡ None → IsPlace p m (key_of p o) r → IsTable p (placed m r o)
@@ -45,12 +49,15 @@ put_keeps p m o r t n h = rw (placed_is p m o r h) (table_put p m o t (entry p o
 table_without : (p : ℕ) (m : List Tree) (k : Tree) → IsTable p m → IsTable p (del p m k)
 table_without p m k t = table_filter p m (λ o. not (is_eq (term_cmp (key_of p o) k))) t
 
--- What is left without an object is a table.
-pub remove_keeps : (p : ℕ) (m : List Tree) (k : Tree) (i : ℕ) → IsTable p m → IsAt p m k i → IsTable p (remove m i)
-remove_keeps p m k i t h = subst (λ x. IsTable p x) h.others (table_without p m k t)
+-- What is left without the object at its key's place is a table.
+pub without_keeps : (p : ℕ) (m : List Tree) (k : Tree) (left : List Tree) (r : Place) (i : ℕ) → IsTable p m → IsPlace p m k r → r ≡ At i → left ≡ remove m i
+    → IsTable p left
+without_keeps p m k left r i t h e l =
+    let at : IsPlace p m k (At i) = subst (λ (x : Place). IsPlace p m k x) e h in
+    subst (λ (x : List Tree). IsTable p x) (at.others ∙ sym l) (table_without p m k t)
 
 -- what the exits of the methods leave
-pub ruleset leaving = (no_object, long_object, good_object, placed_is, put_keeps, remove_keeps)
+pub ruleset leaving = (no_object, long_object, good_object, placed_is, put_keeps, without_keeps)
 
 -- A step leaves a table and a continuation.
 abbrev pub Keeps : ℕ → Step → Type 0

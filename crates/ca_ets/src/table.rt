@@ -16,6 +16,7 @@ use std::marker::Model;
 use std::mem;
 
 // Where a key stands in a table.
+#[derive(Clone, Copy)]
 enum Place {
     // At this object.
     At(usize),
@@ -192,7 +193,7 @@ impl ListTable {
         if !fits(k) {
             return Err(Fault::Size);
         }
-        Ok(place(self.objects.as_slice(), self.keypos, k))
+        Ok(find(self.objects.as_slice(), self.keypos, k))
     }
 
     // Where the key of a command's object stands, or why the object is refused.
@@ -206,12 +207,12 @@ impl ListTable {
         if !fits(object) {
             return Err(Fault::Size);
         }
-        Ok(place(self.objects.as_slice(), self.keypos, k))
+        Ok(find(self.objects.as_slice(), self.keypos, k))
     }
 }
 
 // Where a key stands in a table, or would stand.
-fn place(objects: &[Term], keypos: u32, k: &Term) -> Place
+fn find(objects: &[Term], keypos: u32, k: &Term) -> Place
     requires { IsTable keypos objects.now }
     ensures { IsPlace keypos objects.now k.now result }
 {
