@@ -7,7 +7,7 @@ use Rattle.ca_term.specs.Updates.{ElementFault, BadArgument, OutOfRange, TooLarg
 use Rattle.ca_ets.specs.OrderedMap.{put, get, del}
 use Rattle.ca_ets.specs.Update.{Operations, One, Several, additions_of, operations_of, element_of}
 use Rattle.ca_ets.specs.Command.{Command, Response, Truth, Value, Items, Error, Continuation, response_of}
-use Rattle.ca_ets.specs.declared.command.Cmd.TheVariants.{Insert, InsertNew, Lookup, Member, Delete, Take}
+use Rattle.ca_ets.specs.declared.command.Cmd.TheVariants.{Insert, InsertNew, Lookup, Member, Delete, Take, UpdateCounter, UpdateElement}
 use Rattle.ca_ets.specs.declared.command.Fault.{Fault}
 use Rattle.ca_ets.specs.declared.command.Fault.TheVariants.{BadArg, Range, Size}
 use Rattle.ca_ets.specs.declared.command.Reply.{Reply}
@@ -120,6 +120,8 @@ step keypos map continuation (Lookup k) = step_of_lookup keypos map continuation
 step keypos map continuation (Member k) = step_of_member keypos map continuation k
 step keypos map continuation (Delete k) = step_of_delete keypos map continuation k
 step keypos map continuation (Take k) = step_of_take keypos map continuation k
+step keypos map continuation (UpdateCounter k op) = step_of_update_counter keypos map continuation k (operations_of keypos op)
+step keypos map continuation (UpdateElement k op) = step_of_update_element keypos map continuation k (element_of keypos op)
 
 -- the step that leaves this map and continuation, and gives this reply
 abbrev pub step_of_reply : List Tree → Continuation → Reply → Step

@@ -16,6 +16,10 @@ pub enum Cmd {
     Delete(Term),
     /// The key, whose object is the reply.
     Take(Term),
+    /// The key and the operations.
+    UpdateCounter(Term, Term),
+    /// The key, and the position with its new element.
+    UpdateElement(Term, Term),
 }
 
 /// The reply to a command.

@@ -6,10 +6,12 @@ mod command;
 mod laws;
 mod object;
 mod table;
+mod update;
 
 pub use command::{Cmd, Cont, Fault, Reply};
 pub use laws::{no_commands, no_files, one_client, steps_keep, tables_stay_ordered};
 pub use table::ListTable;
+pub use update::{Operations, element};
 
 #[cfg(test)]
 mod tests;

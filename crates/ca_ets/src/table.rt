@@ -94,6 +94,8 @@ impl ListTable {
             Cmd::Member(k) => Ok(self.member(k)),
             Cmd::Delete(k) => Ok(self.delete(k)),
             Cmd::Take(k) => self.take(alloc, k),
+            Cmd::UpdateCounter(k, op) => self.update_counter(alloc, k, op),
+            Cmd::UpdateElement(k, op) => self.update_element(alloc, k, op),
         }
     }
 

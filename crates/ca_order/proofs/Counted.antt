@@ -5,8 +5,9 @@ use Rattle.std.proofs.lemmas.List.{drop_all, length-map}
 use Rattle.ca_term.specs.Tree.{Tree, Integer, Atom, Tuple, Nil, Cons, Binary}
 use Rattle.ca_term.specs.Updates.{ElementFault, BadArgument, OutOfRange, Addition, integer_of, is_word, value_of, count, count_at, count_with, counter_place, counts, with_value, and_then}
 use Rattle.ca_order.specs.declared.patched.Patched.{Patched}
-use Rattle.ca_order.specs.declared.add.Add.{Add}
-use Rattle.ca_order.specs.Patches.{IsCount, addition_of, answer_of_fault, with_number, with_numbers}
+use Rattle.ca_term.specs.declared.add.Add.{Add}
+use Rattle.ca_term.specs.Add.{addition_of}
+use Rattle.ca_order.specs.Patches.{IsCount, answer_of_fault, with_number, with_numbers}
 
 -- ---- elements, some of which are other integers
 

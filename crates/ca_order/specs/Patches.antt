@@ -3,9 +3,8 @@ use Rattle.std.specs.Prelude.{◌≡◌, ℕ, ℤ, ◌<◌, Bool, true, false, O
 use Rattle.ca_term.specs.declared.bounds.TheConstants.{MOST_DEPTH}
 use Rattle.ca_term.specs.Tree.{Tree, Row, Integer, Tuple, row_of, depth, IsTerm}
 use Rattle.ca_term.specs.Code.{code_of, row_code, four_bytes}
-use Rattle.ca_term.specs.Updates.{ElementFault, BadArgument, OutOfRange, TooLarge, Addition, integer_of, place_of}
+use Rattle.ca_term.specs.Updates.{ElementFault, BadArgument, OutOfRange, TooLarge, integer_of, place_of}
 use Rattle.ca_term.specs.UpdateLaws.{KeepsKey}
-use Rattle.ca_order.specs.declared.add.Add.{Add}
 use Rattle.ca_order.specs.declared.patched.Patched.{Patched}
 use Rattle.ca_order.specs.declared.patched.Patched.TheVariants as answer
 
@@ -21,10 +20,6 @@ pub record IsElementCode (t : Tree) (code : List ℕ) : Type 0 where
   pub bounded : IsTerm t
   pub shallow : depth t < MOST_DEPTH
   pub code_is : code ≡ code_of t
-
--- an operation as plain data
-abbrev pub addition_of : Add → Addition
-addition_of a = record { position = a.pos; increment = a.incr; cap = a.cap }
 
 -- ---- what is answered
 

@@ -3,18 +3,18 @@ ghost use Rattle.std.specs.Prelude.{◌≡◌, ◌≤◌, ◌++◌, ℕ, true, L
 ghost use Rattle.ca_term.specs.Tree.{Tree, Row, Tuple, Integer, IsNarrow, row_of, elements};
 ghost use Rattle.ca_term.specs.Object.{is_object};
 ghost use Rattle.ca_term.specs.Code.{code_of};
-ghost use Rattle.ca_term.specs.Updates.{integer_of, counter_place, value_of, is_past, count, counts, update_of_counters, object_in};
-ghost use Rattle.ca_order.specs.Patches.{IsTupleCode, HasItems, HasSameKey, IsPatched, IsCount, AreSums, addition_of, with_number, with_numbers};
+ghost use Rattle.ca_term.specs.Updates.{integer_of, count, counts, update_of_counters, object_in};
+ghost use Rattle.ca_term.specs.Add.{addition_of};
+ghost use Rattle.ca_order.specs.Patches.{IsTupleCode, HasItems, HasSameKey, IsPatched, IsCount, AreSums, with_number, with_numbers};
 ghost use Rattle.ca_order.specs.Puts.{Puts};
 
-use crate::add::Add;
 use crate::digits::number_of;
 use crate::object::{skip, split_size};
 use crate::patched::{Patched, finish};
 use crate::room::{Code, TooLong};
 use crate::writing::{put, put_int};
 use arrayvec::ArrayVec;
-use ca_term::MOST_ELEMENTS;
+use ca_term::{Add, MOST_ELEMENTS};
 
 // The integer of each element, and None for an element that is no integer.
 type Numbers = ArrayVec<Option<i64>, MOST_ELEMENTS>;
@@ -64,56 +64,17 @@ fn count(numbers: &mut Numbers, keypos: u32, add: &Add) -> Result<i64, Patched>
     ensures { (items : List Tree) → numbers.old.items ≡ map integer_of items
         → IsCount (count keypos items (addition_of add.now)) result numbers.new.items }
 {
-    let Some(place) = place_of(numbers.len(), keypos, add.pos) else {
+    let Some(place) = add.place(keypos, numbers.len()) else {
         return Err(Patched::BadArg);
     };
     let Some(number) = numbers.as_slice()[place] else {
         return Err(Patched::BadArg);
     };
-    let Ok(value) = i64::try_from(value_of(number, add)) else {
+    let Ok(value) = i64::try_from(add.value(number)) else {
         return Err(Patched::Range);
     };
     numbers.as_mut_slice()[place] = Some(value);
     Ok(value)
-}
-
-// Where a position stands, counted from 0, if there is an element that isn't the key.
-fn place_of(size: usize, keypos: u32, pos: i64) -> Option<usize>
-    ensures { result ≡ counter_place keypos size pos }
-{
-    if pos < 1 || pos == i64::from(keypos) {
-        return None;
-    }
-    let place = pos as usize - 1;
-    if place < size { Some(place) } else { None }
-}
-
-// The sum, or what takes its place.
-fn value_of(number: i64, add: &Add) -> i128
-    ensures { result ≡ value_of (addition_of add.now) number }
-{
-    let sum = i128::from(number) + i128::from(add.incr);
-    match add.cap {
-        Some((threshold, value)) => {
-            if is_past(add.incr, threshold, sum) {
-                i128::from(value)
-            } else {
-                sum
-            }
-        }
-        None => sum,
-    }
-}
-
-// Whether a sum is past the threshold in the direction of the increment.
-fn is_past(incr: i64, threshold: i64, sum: i128) -> bool
-    ensures { result ≡ is_past incr threshold sum }
-{
-    if incr >= 0 {
-        sum > i128::from(threshold)
-    } else {
-        sum < i128::from(threshold)
-    }
 }
 
 // Appends the code of a tuple with these numbers in the place of its integers. What stands between two elements that change is appended

@@ -12,5 +12,6 @@ pub mod Lengths
 pub mod Lists
 pub mod Numbers
 pub mod Rows
+pub mod Sums
 pub mod TotalOrder
 pub mod Updates

@@ -1,3 +1,4 @@
+pub mod Add
 pub mod Cause
 pub mod Character
 pub mod Code

@@ -1,6 +1,7 @@
 //! Terms of Erlang in this project's profile: 64-bit integers, atoms, tuples, lists and binaries, with their order.
 #![tactic(auto)]
 
+mod add;
 mod bounds;
 mod build;
 mod code;
@@ -13,6 +14,7 @@ mod terms;
 mod update;
 mod utf8;
 
+pub use add::Add;
 pub use bounds::{MOST_CODE_BYTES, MOST_CODE_POINTS, MOST_DEPTH, MOST_ELEMENTS};
 pub use build::{atom, bin, bin_of, cons, int, list, nil, tuple};
 pub use code::code_laws;

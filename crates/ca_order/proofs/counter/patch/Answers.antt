@@ -2,7 +2,8 @@ use Rattle.std.proofs.Common.{◌++◌, [], ◌∷◌, ℕ, List, map, length, �
 use Rattle.ca_term.specs.Tree.{Tuple, row_of, elements}
 use Rattle.ca_term.specs.Code.{code_of}
 use Rattle.ca_term.specs.Updates.{Addition}
-use Rattle.ca_order.specs.Patches.{addition_of, with_numbers}
+use Rattle.ca_term.specs.Add.{addition_of}
+use Rattle.ca_order.specs.Patches.{with_numbers}
 use Rattle.ca_order.specs.Puts.{Puts}
 use Rattle.ca_order.proofs.Counted.{IsCounting, counting_none, counting_many, more_at, stops_at, at_end, counts_are}
 use Rattle.ca_order.proofs.Items.{has_items}

@@ -5,7 +5,8 @@ use Rattle.std.proofs.lemmas.List.{take_more_set, length-set}
 use Rattle.std.specs.Int.{w64}
 use Rattle.ca_term.specs.Tree.{Tree, elements}
 use Rattle.ca_term.specs.Updates.{ElementFault}
-use Rattle.ca_order.specs.Patches.{AreSums, addition_of}
+use Rattle.ca_term.specs.Add.{addition_of}
+use Rattle.ca_order.specs.Patches.{AreSums}
 use Rattle.ca_order.proofs.Counted.{IsCounting, counting_none, more_at, stops_at, at_end, counts_are}
 use Rattle.ca_order.proofs.Items.{has_items}
 use Rattle.ca_order.proofs.counter.sums.Goals as goal

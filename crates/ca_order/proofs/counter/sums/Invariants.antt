@@ -1,6 +1,7 @@
 use Rattle.std.proofs.Common.{◌≡◌, List, take, drop, map, length}
 use Rattle.ca_term.specs.Tree.{Tree}
-use Rattle.ca_order.specs.Patches.{HasItems, addition_of}
+use Rattle.ca_term.specs.Add.{addition_of}
+use Rattle.ca_order.specs.Patches.{HasItems}
 use Rattle.ca_order.proofs.Counted.{IsCounting}
 use Rattle.ca_order.proofs.counter.sums.Given as goal
 

@@ -2,14 +2,14 @@ use Rattle.std.proofs.Common.{◌≡◌, ◌+ℤ◌, FitsSigned, true, false, sy
 use Rattle.std.proofs.lemmas.Int.{to_z-of_z}
 use Rattle.std.specs.Int.{w64}
 use Rattle.ca_term.specs.Updates.{is_past}
-use Rattle.ca_order.specs.Patches.{addition_of}
-use Rattle.ca_order.proofs.Operations.{value_past, value_within, sum_is, widened}
-use Rattle.ca_order.proofs.counter.value_of.Goals as goal
+use Rattle.ca_term.specs.Add.{addition_of}
+use Rattle.ca_term.proofs.Sums.{value_past, value_within, sum_is, widened}
+use Rattle.ca_term.proofs.add.Add.value.Goals as goal
 
 pub returns-then-is_past : goal.returns-then-is_past
 returns-then-is_past c =
     let n = c.args.number in
-    let a = c.args.add.now in
+    let a = c.args.self.now in
     let fi : FitsSigned w64 a.incr = search rules in
     let ft : FitsSigned w64 c.in-Some.threshold = search rules in
     let fv : FitsSigned w64 c.in-Some.value = search rules in
@@ -22,7 +22,7 @@ returns-then-is_past c =
 pub returns-else-is_past : goal.returns-else-is_past
 returns-else-is_past c =
     let n = c.args.number in
-    let a = c.args.add.now in
+    let a = c.args.self.now in
     let fi : FitsSigned w64 a.incr = search rules in
     let ft : FitsSigned w64 c.in-Some.threshold = search rules in
     let es = sum_is n a.incr c.from.result c.from-2.result c.ranges.number fi c.from.ensures c.from-2.ensures in
