@@ -1,3 +1,6 @@
+pub mod Changes
+pub mod Counting
+pub mod ListedOperations
 pub mod Merges
 pub mod Objects
 pub mod OneClient
@@ -6,3 +9,4 @@ pub mod Puts
 pub mod Runs
 pub mod Steps
 pub mod Turns
+pub mod Updates

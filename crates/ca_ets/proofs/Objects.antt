@@ -1,14 +1,14 @@
 -- Whether a tuple is an object, and its key.
-use Rattle.std.proofs.Common.{◌≡◌, ℕ, zero, suc, ◌≤◌, ◌<◌, ◌-◌, true, false, List, [], ◌∷◌, length, get_or, arith, refl, ◌∙◌}
-use Rattle.ca_term.proofs.Rows.{size_row}
+use Rattle.std.proofs.Common.{◌≡◌, ℕ, zero, suc, ◌≤◌, ◌<◌, ◌-◌, true, false, List, [], ◌∷◌, length, get_or, arith, refl, sym, ◌∙◌}
+use Rattle.ca_term.proofs.Rows.{size_row, elements_are}
 use Rattle.std.proofs.lemmas.Bool.Decides.{nat_tests}
 use Rattle.std.proofs.lemmas.List.{get_or_default}
-use Rattle.ca_term.specs.Tree.{Tree, Tuple, Nil, row_of, elements}
-use Rattle.ca_term.specs.Object.{key_of, is_object}
+use Rattle.ca_term.specs.Tree.{Tree, Tuple, Nil, row_of}
+use Rattle.ca_term.specs.Object.{key_of, is_object, elements_of}
 
-elements_are : (ts : List Tree) → elements (row_of ts) ≡ ts
-elements_are [] = refl
-elements_are (t ∷ ts) = λ i. t ∷ elements_are ts i
+-- The elements of a tuple are those that it is made of.
+pub elements_is : (ts : List Tree) (o : Tree) → Tuple (row_of ts) ≡ o → ts ≡ elements_of o
+elements_is ts o is = rw (← is) (sym (elements_are ts))
 
 get_past : (ts : List Tree) (n : ℕ) (d : Tree) → length ts ≤ n → get_or ts n d ≡ d
 get_past [] n d h = refl

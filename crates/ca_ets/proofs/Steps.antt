@@ -1,20 +1,23 @@
 -- What a step leaves: at each exit of its command's method, and that it keeps a table and a continuation.
-use Rattle.std.proofs.Common.{◌≡◌, ℕ, Bool, true, false, List, Option, None, Some, refl, sym, ◌∙◌, subst, if◌then◌else◌}
+use Rattle.std.proofs.Common.{◌≡◌, ℕ, ◌≤◌, ◌<◌, Bool, true, false, List, [], ◌∷◌, ℤ, Option, None, Some, Result, Ok, Err, refl, sym, ◌∙◌, subst, if◌then◌else◌}
 use Rattle.std.specs.List.{remove}
 use Rattle.std.specs.Ordering.{is_eq}
-use Rattle.std.specs.Prelude.{not}
+use Rattle.std.specs.Prelude.{not, IfOk, IsTrue}
 use Rattle.ca_term.specs.Tree.{Tree}
 use Rattle.ca_term.specs.Object.{is_object, fits, key_of}
 use Rattle.ca_term.specs.Order.{term_cmp}
-use Rattle.ca_ets.specs.Command.{Command, Continuation, IsContinuation}
-use Rattle.ca_ets.specs.declared.command.Cmd.TheVariants.{Insert, InsertNew, Lookup, Member, Delete, Take}
+use Rattle.ca_ets.specs.Command.{Command, Response, Continuation, IsContinuation}
+use Rattle.ca_ets.specs.declared.command.Cmd.TheVariants.{Insert, InsertNew, Lookup, Member, Delete, Take, UpdateCounter, UpdateElement}
 use Rattle.ca_ets.specs.declared.command.Fault.{Fault}
 use Rattle.ca_ets.specs.declared.command.Fault.TheVariants.{BadArg, Size}
 use Rattle.ca_ets.specs.declared.table.Place.{Place}
 use Rattle.ca_ets.specs.declared.table.Place.TheVariants.{At}
 use Rattle.ca_ets.specs.OrderedMap.{IsEntry, IsTable, get, del}
 use Rattle.ca_ets.specs.Place.{IsPlace, placed}
-use Rattle.ca_ets.specs.Step.{Step, step, is_found, unless, fault_of_key, fault_of_object}
+use Rattle.ca_ets.specs.Step.{Step, step, step_of_change, step_of_operations, step_of_update_counter, step_of_element, step_of_update_element, is_found, unless, fault_of_key, fault_of_object}
+use Rattle.ca_term.specs.Updates.{ElementFault, is_open, update_of_counters, update_of_element}
+use Rattle.ca_ets.specs.Update.{Operations, additions_of, operations_of, element_of}
+use Rattle.ca_ets.proofs.Updates.{bind_ok, counters_entry, element_entry, KeepsEntry}
 use Rattle.ca_ets.proofs.Places.{placed_is}
 use Rattle.ca_ets.proofs.Puts.{table_filter, table_put}
 
@@ -73,6 +76,12 @@ either_keeps : (p : ℕ) (b : Bool) (s u : Step) → Keeps p s → Keeps p u →
 either_keeps p true s u x y = x
 either_keeps p false s u x y = y
 
+-- A change of an object keeps both where what it leaves may stand in a table.
+change_keeps : (p : ℕ) (m : List Tree) (k : Continuation) (r : Result (Tree × Response) ElementFault) → IsTable p m → IsContinuation k
+    → IfOk r (λ new. IsEntry p new.0) → Keeps p (step_of_change p m k r)
+change_keeps p m k (Ok new) t i h = (table_put p m new.0 t h, i)
+change_keeps p m k (Err fault) t i h = (t, i)
+
 -- A step keeps a table and a continuation.
 pub step_keeps : (p : ℕ) (m : List Tree) (k : Continuation) (c : Command) → IsTable p m → IsContinuation k → Keeps p (step p m k c)
 step_keeps p m k (Insert o) t i = unless_keeps p (fault_of_object p o) m k _ t i (λ n. (table_put p m o t (entry p o n), i))
@@ -82,3 +91,27 @@ step_keeps p m k (Lookup o) t i = unless_keeps p (fault_of_key o) m k _ t i (λ 
 step_keeps p m k (Member o) t i = unless_keeps p (fault_of_key o) m k _ t i (λ n. (t, i))
 step_keeps p m k (Delete o) t i = unless_keeps p (fault_of_key o) m k _ t i (λ n. (table_without p m o t, i))
 step_keeps p m k (Take o) t i = unless_keeps p (fault_of_key o) m k _ t i (λ n. (table_without p m o t, i))
+step_keeps p m k (UpdateCounter key op) t i = by_asked (operations_of p op)
+  where
+    by_found : (operations : Operations) (found : List Tree) → IsTable p found → Keeps p (step_of_operations p m k operations found)
+    by_found operations [] f = (t, i)
+    by_found operations (o ∷ others) f =
+        change_keeps p m k _ t i (bind_ok (update_of_counters p o (additions_of operations)) _ (λ new. IsEntry p new.0)
+          (λ new e. (subst (λ r. IfOk r (λ new. KeepsEntry (1 ≤ p) p o new.0)) e (counters_entry p o (additions_of operations) f.0.object)).entry))
+
+    by_asked : (asked : Option Operations) → Keeps p (step_of_update_counter p m k key asked)
+    by_asked None = (t, i)
+    by_asked (Some operations) =
+        unless_keeps p (fault_of_key key) m k _ t i (λ n. by_found operations (get p m key) (table_filter p m (λ o. is_eq (term_cmp (key_of p o) key)) t))
+step_keeps p m k (UpdateElement key op) t i = by_asked (element_of p op)
+  where
+    by_found : (new : ℤ × Tree) (found : List Tree) → IsTable p found → Keeps p (step_of_element p m k new found)
+    by_found new [] f = (t, i)
+    by_found new (o ∷ others) f =
+        change_keeps p m k _ t i (bind_ok (update_of_element o new.0 new.1) _ (λ new. IsEntry p new.0)
+          (λ object e. (subst (λ r. IfOk r (KeepsEntry ((1 ≤ p) × IsTrue (is_open p new.0)) p o)) e (element_entry p o new.0 new.1 f.0.object)).entry))
+
+    by_asked : (asked : Option (ℤ × Tree)) → Keeps p (step_of_update_element p m k key asked)
+    by_asked None = (t, i)
+    by_asked (Some new) =
+        unless_keeps p (fault_of_key key) m k _ t i (λ n. by_found new (get p m key) (table_filter p m (λ o. is_eq (term_cmp (key_of p o) key)) t))

@@ -1,4 +1,5 @@
 pub mod Asked
+pub mod Changed
 pub mod Command
 pub mod Explained
 pub mod InOrder

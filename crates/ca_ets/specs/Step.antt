@@ -1,6 +1,6 @@
 -- One step of one thread: what a command does to the map and to its client's continuation, and the reply.
 -- Source: the ets manual's text on each call; the order of the checks and the error `size` are this project's own.
-use Rattle.std.specs.Prelude.{ℕ, ℤ, pos, Bool, true, false, Option, None, Some, Result, Ok, Err, List, [], ◌∷◌, map, slice_index_or, if◌then◌else◌}
+use Rattle.std.specs.Prelude.{ℕ, ℤ, Bool, true, false, Option, None, Some, Result, Ok, Err, List, [], ◌∷◌, map, if◌then◌else◌}
 use Rattle.ca_term.specs.Tree.{Tree, Integer}
 use Rattle.ca_term.specs.Object.{is_object, key_of, fits}
 use Rattle.ca_term.specs.Updates.{ElementFault, BadArgument, OutOfRange, TooLarge, and_then, update_of_counters, update_of_element}
@@ -85,7 +85,8 @@ step_of_change keypos map continuation (Err fault) = no_change map continuation 
 
 -- the values that operations stored: that of one alone, or the list of several
 abbrev pub reply_of : Operations → List ℤ → Response
-reply_of (One a) values = Value (Integer (slice_index_or values 0 (pos 0)))
+reply_of (One a) [] = Items []
+reply_of (One a) (value ∷ values) = Value (Integer value)
 reply_of (Several additions) values = Items (map Integer values)
 
 -- operations on the key's object, all or none; it must be there

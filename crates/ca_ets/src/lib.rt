@@ -2,6 +2,7 @@
 //! clients' answers.
 #![tactic(auto)]
 
+mod change;
 mod command;
 mod laws;
 mod object;
@@ -11,7 +12,7 @@ mod update;
 pub use command::{Cmd, Cont, Fault, Reply};
 pub use laws::{no_commands, no_files, one_client, steps_keep, tables_stay_ordered};
 pub use table::ListTable;
-pub use update::{Operations, element};
+pub use update::{Operations, element, reply_of};
 
 #[cfg(test)]
 mod tests;

@@ -1,15 +1,18 @@
 //! A table as a list of objects in key order.
-ghost use Rattle.std.specs.Prelude.{◌≡◌, ◌≤◌, ◌<◌, [], ◌∷◌, length, slice_index_or, IfOk, OnOk, OnErr};
+ghost use Rattle.std.specs.Prelude.{◌≡◌, ◌≤◌, ◌<◌, [], ◌∷◌, length, slice_index_or, slice_set, IfOk, OnOk, OnErr};
 ghost use Rattle.std.specs.List.{remove};
 ghost use Rattle.ca_term.specs.Object.{key_of};
 ghost use Rattle.ca_term.specs.Tree.{Nil};
 ghost use Rattle.ca_ets.specs.Command.{Continuation, IsContinuation, continuation_of};
 ghost use Rattle.ca_ets.specs.OrderedMap.{IsTable};
 ghost use Rattle.ca_ets.specs.Place.{IsInRange, IsPlace, IsPlaceUnless, placed};
-ghost use Rattle.ca_ets.specs.Step.{fault_of_key, fault_of_object, step, step_of_delete, step_of_insert, step_of_insert_new, step_of_lookup, step_of_member, step_of_reply, step_of_take};
+ghost use Rattle.ca_ets.specs.Step.{fault_of_key, fault_of_object, step, step_of_delete, step_of_insert, step_of_insert_new, step_of_lookup, step_of_member, step_of_reply, step_of_take, step_of_update_counter, step_of_update_element};
+ghost use Rattle.ca_ets.specs.Update.{element_of, operations_of};
 
+use crate::change::{Stop, counters, with_element};
 use crate::command::{Cmd, Cont, Fault, Reply};
 use crate::object::{copied, fits, key, key_order};
+use crate::update::{Operations, element, reply_of};
 use ca_term::{Term, Terms};
 use std::alloc::{AllocError, Global};
 use std::marker::Model;
@@ -188,6 +191,57 @@ impl ListTable {
         }
     }
 
+    // `update_counter`: the arguments are checked first, then the key, then the object.
+    fn update_counter(&mut self, alloc: Global, k: &Term, op: &Term) -> Result<Reply, AllocError>
+        ensures step { (continuation : Continuation) → IfOk result (λ reply. step_of_update_counter self.old.keypos self.old.objects continuation k.now (operations_of self.old.keypos op.now)
+            ≡ step_of_reply self.new.objects continuation reply) }
+        ensures keypos { self.new.keypos ≡ self.old.keypos }
+        ensures unchanged { OnErr result (self.new ≡ self.old) }
+    {
+        let Some(operations) = Operations::of(alloc, self.keypos, op)? else {
+            return Ok(Reply::Error(Fault::BadArg));
+        };
+        let at = match self.key_place(k) {
+            Ok(Place::At(at)) => at,
+            Ok(Place::Before(_)) => return Ok(Reply::Error(Fault::BadArg)),
+            Err(fault) => return Ok(Reply::Error(fault)),
+        };
+        match counters(alloc, self.keypos, &self.objects[at], operations.as_slice()) {
+            Ok((object, values)) => {
+                let reply = reply_of(alloc, &operations, values.as_slice())?;
+                replace(&mut self.objects, at, object);
+                Ok(reply)
+            }
+            Err(Stop::Refused(fault)) => Ok(Reply::Error(fault)),
+            Err(Stop::NoMemory) => Err(AllocError),
+        }
+    }
+
+    // `update_element`: the arguments are checked first, then the key, then the object.
+    fn update_element(&mut self, alloc: Global, k: &Term, op: &Term) -> Result<Reply, AllocError>
+        ensures step { (continuation : Continuation) → IfOk result (λ reply. step_of_update_element self.old.keypos self.old.objects continuation k.now (element_of self.old.keypos op.now)
+            ≡ step_of_reply self.new.objects continuation reply) }
+        ensures keypos { self.new.keypos ≡ self.old.keypos }
+        ensures unchanged { OnErr result (self.new ≡ self.old) }
+    {
+        let Some((pos, value)) = element(self.keypos, op) else {
+            return Ok(Reply::Error(Fault::BadArg));
+        };
+        let at = match self.key_place(k) {
+            Ok(Place::At(at)) => at,
+            Ok(Place::Before(_)) => return Ok(Reply::Truth(false)),
+            Err(fault) => return Ok(Reply::Error(fault)),
+        };
+        match with_element(alloc, &self.objects[at], pos, value) {
+            Ok(object) => {
+                replace(&mut self.objects, at, object);
+                Ok(Reply::Truth(true))
+            }
+            Err(Stop::Refused(fault)) => Ok(Reply::Error(fault)),
+            Err(Stop::NoMemory) => Err(AllocError),
+        }
+    }
+
     // Where the key of a command stands, or why it is refused.
     fn key_place(&self, k: &Term) -> Result<Place, Fault>
         ensures { IsPlaceUnless (fault_of_key k.now) (IsPlace self.now.keypos self.now.objects k.now) result }
@@ -232,12 +286,18 @@ fn put_copy(alloc: Global, objects: &mut Vec<Term>, place: Place, object: &Term)
 {
     let copy = copied(alloc, object)?;
     match place {
-        Place::At(at) => {
-            let _old = mem::replace(&mut objects[at], copy);
-        }
+        Place::At(at) => replace(objects, at, copy),
         Place::Before(at) => objects.insert(at, copy)?,
     }
     Ok(())
+}
+
+// Puts an object in the place of another one.
+fn replace(objects: &mut Vec<Term>, at: usize, object: Term)
+    requires { at < length objects.old.items }
+    ensures { objects.new.items ≡ slice_set objects.old.items at object }
+{
+    let _old = mem::replace(&mut objects[at], object);
 }
 
 // Takes an object out, as a list of it alone. Room for the list is found before.

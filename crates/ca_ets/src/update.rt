@@ -3,11 +3,15 @@ ghost use Rattle.std.specs.Prelude.{◌≡◌, IfOk, map};
 ghost use Rattle.std.specs.Option.{option_map};
 ghost use Rattle.ca_term.specs.Add.{addition_of};
 ghost use Rattle.ca_term.specs.Object.{elements_of};
+ghost use Rattle.ca_term.specs.Tree.{Integer};
 ghost use Rattle.ca_term.specs.Updates.{integer_of};
 ghost use Rattle.ca_ets.specs.Asked.{operations_in};
+ghost use Rattle.ca_ets.specs.Command.{response_of};
+ghost use Rattle.ca_ets.specs.Step.{reply_of};
 ghost use Rattle.ca_ets.specs.Update.{Several, addition_in, additions_in, additions_of, element_of, operations_of};
 
-use ca_term::{Add, Kind, Term};
+use crate::command::Reply;
+use ca_term::{Add, Kind, Term, Terms, int};
 use std::alloc::{AllocError, Global};
 use std::slice;
 
@@ -57,7 +61,7 @@ fn several(alloc: Global, list: &Term) -> Result<Option<Operations>, AllocError>
     let mut adds = Vec::new(alloc);
     let mut rest = list;
     while let Kind::Cons(head, tail) = rest.kind() {
-        let Some(add) = operation(head) else {
+        let Some(add) = addition(elements(head)) else {
             return Ok(None);
         };
         adds.push(add)?;
@@ -69,13 +73,14 @@ fn several(alloc: Global, list: &Term) -> Result<Option<Operations>, AllocError>
     }
 }
 
-// The operation that a term is.
-fn operation(term: &Term) -> Option<Add>
-    ensures { option_map addition_of result ≡ addition_in (elements_of term.now) }
+// The elements of a tuple; any other term has none.
+#[tactic(auto, using(crate::proofs::Objects::elements_is))]
+pub(crate) fn elements(term: &Term) -> &[Term]
+    ensures { result.now ≡ elements_of term.now }
 {
     match term.kind() {
-        Kind::Tuple(items) => addition(items),
-        _ => None,
+        Kind::Tuple(items) => items,
+        _ => &[],
     }
 }
 
@@ -113,7 +118,7 @@ pub(crate) fn integer(term: &Term) -> Option<i64>
 pub fn element(keypos: u32, op: &Term) -> Option<(i64, &Term)>
     ensures { option_map (λ asked. (asked.0, asked.1.now)) result ≡ element_of keypos op.now }
 {
-    let Kind::Tuple([pos, value]) = op.kind() else {
+    let [pos, value] = elements(op) else {
         return None;
     };
     let pos = integer(pos)?;
@@ -121,4 +126,31 @@ pub fn element(keypos: u32, op: &Term) -> Option<(i64, &Term)>
         return None;
     }
     Some((pos, value))
+}
+
+/// The reply of an `update_counter` whose operations stored these values: the value of one operation alone, or the list of the values.
+/// Only a list takes memory. Source: the ets manual, `update_counter`.
+pub fn reply_of(alloc: Global, operations: &Operations, values: &[i64]) -> Result<Reply, AllocError>
+    ensures { IfOk result (λ reply. response_of reply ≡ reply_of (operations_in operations.now) values.now) }
+{
+    match operations {
+        Operations::One(_) => match values {
+            [value, ..] => Ok(Reply::Value(int(*value))),
+            [] => Ok(Reply::List(Terms::new(alloc))),
+        },
+        Operations::Several(_) => Ok(Reply::List(integers(alloc, values)?)),
+    }
+}
+
+// The terms of these integers.
+fn integers(alloc: Global, values: &[i64]) -> Result<Terms, AllocError>
+    ensures { IfOk result (λ terms. terms.items ≡ map Integer values.now) }
+{
+    let mut terms = Terms::new(alloc);
+    for value in values {
+        if terms.push(int(*value)).is_err() {
+            return Err(AllocError);
+        }
+    }
+    Ok(terms)
 }

@@ -7,6 +7,7 @@ use Rattle.ca_term.specs.Updates.{ElementFault, BadArgument, OutOfRange, Additio
 use Rattle.ca_order.specs.declared.patched.Patched.{Patched}
 use Rattle.ca_term.specs.declared.add.Add.{Add}
 use Rattle.ca_term.specs.Add.{addition_of}
+use Rattle.ca_term.proofs.Sums.{next_add}
 use Rattle.ca_order.specs.Patches.{IsCount, answer_of_fault, with_number, with_numbers}
 
 -- ---- elements, some of which are other integers
@@ -153,10 +154,6 @@ counting_many keypos items all numbers values further k =
     ap length k.numbers_are ∙ length-map k.left integer_of ∙ renewed_many items k.left k.renewed
 
 -- ---- at an operation's place
-
-next_add : (adds : List Add) (i : ℕ) (d : Add) → i < length adds
-    → map addition_of (drop i adds) ≡ addition_of (get_or adds i d) ∷ map addition_of (drop (i + 1) adds)
-next_add adds i d h = ap (map addition_of) (drop-cons adds i d h) ∙ ap (λ k. addition_of (get_or adds i d) ∷ map addition_of (drop k adds)) (sym (add-one i))
 
 module _ (keypos : ℕ) (items : List Tree) (adds : List Add) (numbers : List (Option ℤ)) (values : List ℤ) (i : ℕ) (d : Add) (h : i < length adds)
     (k : IsCounting keypos items (map addition_of adds) numbers values (map addition_of (drop i adds))) where

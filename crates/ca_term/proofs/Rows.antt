@@ -1,5 +1,5 @@
 -- Lists of terms.
-use Rattle.std.proofs.Common.{◌≡◌, ℕ, zero, suc, ◌≤◌, ◌<◌, ◌+◌, ◌*◌, max, List, [], ◌∷◌, ◌++◌, length, drop, get_or, arith, add-one, drop-cons, refl, sym, ◌∙◌, ap}
+use Rattle.std.proofs.Common.{◌≡◌, ℕ, zero, suc, ◌≤◌, ◌<◌, ◌+◌, ◌*◌, max, List, [], ◌∷◌, ◌++◌, length, drop, set, get_or, arith, add-one, drop-cons, refl, sym, ◌∙◌, ap}
 use Rattle.std.specs.declared.cmp.Ordering.{Ordering}
 use Rattle.std.specs.declared.cmp.Ordering.TheVariants.{Less, Equal, Greater}
 use Rattle.std.specs.FinMap.{nat_cmp-IsAntisymmetric}
@@ -13,6 +13,12 @@ use Rattle.ca_term.specs.Tree.{nodes, row_nodes, Tree, Row, Ends, More, IsTerm, 
 pub AreTerms_push : (ts : List Tree) (t : Tree) → AreTerms ts → IsTerm t → AreTerms (ts ++ t ∷ [])
 AreTerms_push [] t all one = (one, tt)
 AreTerms_push (u ∷ ts) t all one = (all.0, AreTerms_push ts t all.1 one)
+
+-- A term in the place of another one leaves terms.
+pub AreTerms_set : (ts : List Tree) (i : ℕ) (t : Tree) → AreTerms ts → IsTerm t → AreTerms (set ts i t)
+AreTerms_set [] i t all one = all
+AreTerms_set (u ∷ ts) zero t all one = (one, all.1)
+AreTerms_set (u ∷ ts) (suc i) t all one = (all.0, AreTerms_set ts i t all.1 one)
 
 -- A row of terms keeps the bounds of width.
 pub narrow_row : (ts : List Tree) → AreTerms ts → IsNarrowRow (row_of ts)

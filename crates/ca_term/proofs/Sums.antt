@@ -1,7 +1,9 @@
--- Sums of counters in a wider type, and what a threshold makes of them.
-use Rattle.std.proofs.Common.{◌≡◌, true, false, arith, refl, ◌∙◌, ap, ℤ, pos, negsuc, ◌+ℤ◌, FitsSigned, Some, to_z, of_z}
+-- Operations on counters: the next of several, their sums in a wider type, and what a threshold makes of these.
+use Rattle.std.proofs.Common.{◌≡◌, ℕ, ◌+◌, ◌<◌, List, ◌∷◌, length, drop, get_or, map, drop-cons, add-one, true, false, arith, refl, sym, ◌∙◌, ap, ℤ, pos, negsuc, ◌+ℤ◌, FitsSigned, Some, to_z, of_z}
 use Rattle.std.specs.Int.{w64, w128}
 use Rattle.std.proofs.lemmas.Int.{to_z-of_z}
+use Rattle.ca_term.specs.Add.{addition_of}
+use Rattle.ca_term.specs.declared.add.Add.{Add}
 use Rattle.ca_term.specs.Updates.{Addition, is_past, value_of}
 
 wide : (z : ℤ) → FitsSigned w64 z → FitsSigned w128 z
@@ -32,3 +34,8 @@ value_past n a threshold value sum e f h = rw (e, ← f, h) refl
 pub value_within : (n : ℤ) (a : Addition) (threshold value sum : ℤ) → a.cap ≡ Some (threshold, value) → sum ≡ n +ℤ a.increment
     → is_past a.increment threshold sum ≡ false → sum ≡ value_of a n
 value_within n a threshold value sum e f h = rw (e, ← f, h) refl
+
+-- The next operation, and those behind it.
+pub next_add : (adds : List Add) (i : ℕ) (d : Add) → i < length adds
+    → map addition_of (drop i adds) ≡ addition_of (get_or adds i d) ∷ map addition_of (drop (i + 1) adds)
+next_add adds i d h = ap (map addition_of) (drop-cons adds i d h) ∙ ap (λ k. addition_of (get_or adds i d) ∷ map addition_of (drop k adds)) (sym (add-one i))

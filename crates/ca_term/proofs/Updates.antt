@@ -12,7 +12,8 @@ use Rattle.ca_term.proofs.Rows.{size_row, row_again, elements_are, length_elemen
 
 -- ---- one element replaced
 
-other : (items : List Tree) (at k : ℕ) (t d : Tree) → (at ≡ k → ⊥) → get_or (set items at t) k d ≡ get_or items k d
+-- An element in another place stays.
+pub other : (items : List Tree) (at k : ℕ) (t d : Tree) → (at ≡ k → ⊥) → get_or (set items at t) k d ≡ get_or items k d
 other [] at k t d n = refl
 other (x ∷ xs) zero zero t d n = absurd (n refl)
 other (x ∷ xs) zero (suc k) t d n = refl
@@ -52,11 +53,13 @@ narrow_word : (v : ℤ) → is_word v ≡ true → IsNarrow (Integer v)
 narrow_word (pos n) e = let l : n < 2 ^ 63 = grind (arith, nat_tests, e) in record { sfits = l }
 narrow_word (negsuc m) e = let l : m < 2 ^ 63 = grind (arith, nat_tests, e) in record { sfits = l }
 
-not_key : (keypos size : ℕ) (p : ℤ) (at : ℕ) → 1 ≤ keypos → IsTrue (is_open keypos p) → place_of size p ≡ Some at → at ≡ keypos - 1 → ⊥
+-- A position that may be changed is not that of the key.
+pub not_key : (keypos size : ℕ) (p : ℤ) (at : ℕ) → 1 ≤ keypos → IsTrue (is_open keypos p) → place_of size p ≡ Some at → at ≡ keypos - 1 → ⊥
 not_key keypos size (pos n) at l h e f = grind (arith, nat_tests, h, e, f, l)
 not_key keypos size (negsuc m) at l h e f = cc
 
-not_key_by : (keypos size : ℕ) (p : ℤ) (at : ℕ) → 1 ≤ keypos → counter_place keypos size p ≡ Some at → at ≡ keypos - 1 → ⊥
+-- Nor is a counter's.
+pub not_key_by : (keypos size : ℕ) (p : ℤ) (at : ℕ) → 1 ≤ keypos → counter_place keypos size p ≡ Some at → at ≡ keypos - 1 → ⊥
 not_key_by keypos size p at l e f = by (is_open keypos p) refl e
   where
     by : (b : Bool) → is_open keypos p ≡ b → (if b then place_of size p else None) ≡ Some at → ⊥

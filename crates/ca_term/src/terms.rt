@@ -1,11 +1,12 @@
 //! A list of terms.
-ghost use Rattle.std.specs.Prelude.{◌≡◌, ◌≤◌, ◌<◌, ◌+◌, [], ◌∷◌, ◌++◌, length, slice_index_or, IsOk, IsTrue, OnOk, OnErr, IfErr, ◌↔◌};
+ghost use Rattle.std.specs.Prelude.{◌≡◌, ◌≤◌, ◌<◌, ◌+◌, [], ◌∷◌, ◌++◌, length, slice_index_or, slice_set, IsOk, IsTrue, OnOk, OnErr, IfErr, ◌↔◌};
 ghost use Rattle.ca_term.specs.TermList.{TermList};
 
 use crate::fault::TermFault;
 use crate::term::Term;
 use std::alloc::Global;
 use std::marker::Model;
+use std::mem;
 
 /// A list of terms that grows at its end. Contracts see its items, and how many more find room without memory.
 #[derive(Drop)]
@@ -66,6 +67,17 @@ impl Terms {
         }
         self.items.push_reserved(item);
         Ok(())
+    }
+
+    /// Puts a term in the place of the one at `i`, counted from 0, which is dropped. It takes no memory.
+    #[tactic(auto, using(crate::proofs::Rows::AreTerms_set))]
+    pub fn set(&mut self, i: usize, item: Term)
+        requires { i < length self.old.items }
+        ensures items { self.new.items ≡ slice_set self.old.items i item }
+        ensures spare { self.new.spare ≡ self.old.spare }
+    {
+        let _ = &item.depth;
+        let _old = mem::replace(&mut self.items[i], item);
     }
 
     /// How many terms there are.
