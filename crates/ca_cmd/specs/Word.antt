@@ -18,6 +18,8 @@ words =
     ∷ (codes "member", word.Member)
     ∷ (codes "delete", word.Delete)
     ∷ (codes "take", word.Take)
+    ∷ (codes "update_counter", word.UpdateCounter)
+    ∷ (codes "update_element", word.UpdateElement)
     ∷ []
 
 -- a command by its arguments
@@ -35,6 +37,8 @@ form_of word.Lookup = One command.Lookup
 form_of word.Member = One command.Member
 form_of word.Delete = One command.Delete
 form_of word.Take = One command.Take
+form_of word.UpdateCounter = Two command.UpdateCounter
+form_of word.UpdateElement = Two command.UpdateElement
 
 -- how many arguments a command has
 abbrev pub count_of : Form → ℕ

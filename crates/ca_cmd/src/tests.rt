@@ -6,15 +6,17 @@ use std::alloc::{AllocError, Global};
 use std::process::Abort;
 use std::test::Fail;
 
-// A command's word and its argument.
-fn parts(cmd: &Cmd) -> (&'static [u8], &Term) {
+// A command's word and its arguments.
+fn parts(cmd: &Cmd) -> (&'static [u8], &Term, Option<&Term>) {
     match cmd {
-        Cmd::Insert(object) => (b"insert", object),
-        Cmd::InsertNew(object) => (b"insert_new", object),
-        Cmd::Lookup(key) => (b"lookup", key),
-        Cmd::Member(key) => (b"member", key),
-        Cmd::Delete(key) => (b"delete", key),
-        Cmd::Take(key) => (b"take", key),
+        Cmd::Insert(object) => (b"insert", object, None),
+        Cmd::InsertNew(object) => (b"insert_new", object, None),
+        Cmd::Lookup(key) => (b"lookup", key, None),
+        Cmd::Member(key) => (b"member", key, None),
+        Cmd::Delete(key) => (b"delete", key, None),
+        Cmd::Take(key) => (b"take", key, None),
+        Cmd::UpdateCounter(key, op) => (b"update_counter", key, Some(op)),
+        Cmd::UpdateElement(key, op) => (b"update_element", key, Some(op)),
     }
 }
 
@@ -26,11 +28,15 @@ fn listed(alloc: Global, file: &[u8]) -> Result<Vec<u8>, Fail> {
     let lines = read_file(alloc, file)?;
     let mut text = Vec::new(alloc);
     for line in lines.as_slice() {
-        let (word, argument) = parts(&line.cmd);
+        let (word, argument, further) = parts(&line.cmd);
         text.extend_from_slice(format!(in alloc; "{} ", line.number)?.as_bytes())?;
         text.extend_from_slice(word)?;
         text.push(b' ')?;
         print_term(argument, &mut text)?;
+        if let Some(further) = further {
+            text.push(b' ')?;
+            print_term(further, &mut text)?;
+        }
         text.push(b'.')?;
     }
     Ok(text)
@@ -59,6 +65,10 @@ fn reads_commands(rt: HostRuntime) -> Result<(), Fail> {
         (
             b"member 1\ndelete a\ntake []\ninsert_new {1}",
             "1 member 1.2 delete a.3 take [].4 insert_new {1}.",
+        ),
+        (
+            b"update_counter k\t[ {2,1} ]  \nupdate_element {1} {2,a}",
+            "1 update_counter k [{2,1}].2 update_element {1} {2,a}.",
         ),
     ] {
         assert_eq!(rt; listed(alloc, file)?.as_slice(), commands.as_bytes());
@@ -117,6 +127,10 @@ fn refuses_lines(rt: HostRuntime) -> Result<(), Fail> {
         (b"lookup 1\r\r", 9, LineWhy::Syntax),
         (b"lookup 1 2", 10, LineWhy::Extra),
         (b"insert  {} \t% no", 13, LineWhy::Extra),
+        (b"update_counter k", 17, LineWhy::Absent),
+        (b"update_counter k ", 18, LineWhy::Absent),
+        (b"update_counter k1{2,1}", 18, LineWhy::Syntax),
+        (b"update_element k {2,1} 3", 24, LineWhy::Extra),
     ] {
         is_refused(&rt, text, at, why)?;
     }

@@ -20,6 +20,8 @@ pub(crate) enum Word {
     Member,
     Delete,
     Take,
+    UpdateCounter,
+    UpdateElement,
 }
 
 impl Word {
@@ -34,6 +36,8 @@ impl Word {
             _ if text == b"member".as_slice() => Some(Word::Member),
             _ if text == b"delete".as_slice() => Some(Word::Delete),
             _ if text == b"take".as_slice() => Some(Word::Take),
+            _ if text == b"update_counter".as_slice() => Some(Word::UpdateCounter),
+            _ if text == b"update_element".as_slice() => Some(Word::UpdateElement),
             _ => None,
         }
     }
@@ -49,6 +53,7 @@ impl Word {
             | Word::Member
             | Word::Delete
             | Word::Take => 1,
+            Word::UpdateCounter | Word::UpdateElement => 2,
         }
     }
 
@@ -65,6 +70,14 @@ impl Word {
             Word::Member => Cmd::Member(take_last(&mut arguments)),
             Word::Delete => Cmd::Delete(take_last(&mut arguments)),
             Word::Take => Cmd::Take(take_last(&mut arguments)),
+            Word::UpdateCounter => {
+                let op = take_last(&mut arguments);
+                Cmd::UpdateCounter(take_last(&mut arguments), op)
+            }
+            Word::UpdateElement => {
+                let op = take_last(&mut arguments);
+                Cmd::UpdateElement(take_last(&mut arguments), op)
+            }
         }
     }
 
