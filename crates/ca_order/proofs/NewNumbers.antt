@@ -8,7 +8,7 @@ use Rattle.ca_term.proofs.Lengths.{row_code_at}
 use Rattle.ca_order.specs.declared.room.TooLong.{TooLong}
 use Rattle.ca_order.specs.Patches.{HasItems, with_number, with_numbers}
 use Rattle.ca_order.specs.Puts.{Puts}
-use Rattle.ca_order.proofs.Cuts.{front_is, back_fits}
+use Rattle.ca_order.proofs.Cuts.{front_is}
 use Rattle.ca_order.proofs.Items.{IsElementAt, head, tuple_code, parts, behind_head}
 use Rattle.ca_order.proofs.Parts.{at_int, no_item}
 use Rattle.ca_order.proofs.Put.{IsPut, put_more, puts_all, puts_err}
@@ -61,10 +61,6 @@ module _ (items : List Tree) (numbers : List (Option ℤ)) (i : ℕ) (kept rest 
   -- The stretch is what is kept in front of the element.
   pub stretch_is : take (length kept - length rest) kept ≡ k.stretch
   stretch_is = front_is kept k.stretch rest k.kept_is
-
-  -- The element stands in what is kept.
-  pub rest_fits : length rest ≤ length kept
-  rest_fits = back_fits kept k.stretch rest k.kept_is
 
   whole : k.stretch ++ codes_from items numbers i ≡ take (length kept - length rest) kept ++ codes_from items numbers i
   whole = ap (λ x. x ++ codes_from items numbers i) (sym stretch_is)

@@ -21,8 +21,9 @@ type Numbers = ArrayVec<Option<i64>, MOST_ELEMENTS>;
 
 /// Carries out operations on counters of an object, each on what the one before left, and writes the code of the object that they leave into
 /// `into` in place of what it held. The first operation that fails decides: `BadArg` where its position is none of the object's or the key's,
-/// or the element is no integer, else `Range` where the value would have more than 64 bits. Where the answer isn't `Done`, `into` is empty. It
-/// takes no memory. (The ets manual, `update_counter`; the order of the checks is this project's own.)
+/// or the element is no integer, else `Range` where the value would have more than 64 bits. `TooLong` comes last, where the new code has over
+/// `MOST_CODE_BYTES` bytes. Where the answer isn't `Done`, `into` is empty. It takes no memory. (The ets manual, `update_counter`; the order
+/// of the checks is this project's own.)
 pub fn patch(code: &[u8], keypos: u32, adds: &[Add], into: &mut Code) -> Patched
     requires { (row : Row) × IsTupleCode row code.now }
     ensures object { (row : Row) → IsTupleCode row code.now

@@ -11,9 +11,10 @@ use crate::patched::{Patched, finish};
 use crate::room::{Code, TooLong};
 use crate::writing::put;
 
-/// Writes the code of an object with another element at position `pos`, counted from 1, where `value` is that element's code, into `into`
-/// in place of what it held. `BadArg` where the object has no element there. Where the answer isn't `Done`, `into` is empty. It takes no
-/// memory. (The ets manual, `update_element`.)
+/// Writes the code of an object with another element at position `pos`, counted from 1, into `into` in place of what it held. `value` is that
+/// element's code, and `keypos` the position of the key, which stays. `BadArg` where the object has no element there, else `TooLong` where the
+/// new code has over `MOST_CODE_BYTES` bytes; never `Range`. Where the answer isn't `Done`, `into` is empty. It takes no memory. (The ets
+/// manual, `update_element`.)
 pub fn set(code: &[u8], keypos: u32, pos: i64, value: &[u8], into: &mut Code) -> Patched
     requires code { (row : Row) × IsTupleCode row code.now }
     requires value { (v : Tree) × IsElementCode v value.now }

@@ -426,55 +426,28 @@ fn sets(
         && into.as_slice() == new
 }
 
+// {0,k,[[]]} with another element at a position.
 #[test]
 fn elements(rt: HostRuntime) {
     let alloc = rt.alloc();
-    let table: [(u32, i64, Option<i64>, Patched, &[u8]); 8] = [
-        (
-            1,
-            2,
-            None,
-            Patched::Done,
-            b"\x40\0\0\0\x03\x20\x60\x70\x60\x60",
-        ),
-        (
-            1,
-            3,
-            Some(5),
-            Patched::Done,
-            b"\x40\0\0\0\x03\x20\x30k\0\0\x21\x05",
-        ),
-        (
-            2,
-            1,
-            Some(-1),
-            Patched::Done,
-            b"\x40\0\0\0\x03\x1f\x30k\0\0\x70\x60\x60",
-        ),
-        (
-            2,
-            3,
-            None,
-            Patched::Done,
-            b"\x40\0\0\0\x03\x20\x30k\0\0\x60",
-        ),
-        (
-            3,
-            2,
-            Some(0),
-            Patched::Done,
-            b"\x40\0\0\0\x03\x20\x20\x70\x60\x60",
-        ),
-        (1, 4, None, Patched::BadArg, b""),
-        (1, 4294967298, None, Patched::BadArg, b""),
-        (1, 9223372036854775807, None, Patched::BadArg, b""),
+    let object = b"\x40\0\0\0\x03\x20\x30k\0\0\x70\x60\x60";
+    let table: [(u32, i64, Option<i64>, &[u8]); 5] = [
+        (1, 2, None, b"\x40\0\0\0\x03\x20\x60\x70\x60\x60"),
+        (1, 3, Some(5), b"\x40\0\0\0\x03\x20\x30k\0\0\x21\x05"),
+        (2, 1, Some(-1), b"\x40\0\0\0\x03\x1f\x30k\0\0\x70\x60\x60"),
+        (2, 3, None, b"\x40\0\0\0\x03\x20\x30k\0\0\x60"),
+        (3, 2, Some(0), b"\x40\0\0\0\x03\x20\x20\x70\x60\x60"),
     ];
-    for (keypos, pos, value, answer, new) in table {
-        // {0,k,[[]]}
-        let object = b"\x40\0\0\0\x03\x20\x30k\0\0\x70\x60\x60";
+    for (keypos, pos, value, new) in table {
         assert!(rt;
-            sets(alloc, object, keypos, pos, value, answer, new),
-            "{keypos} {pos}"
+            sets(alloc, object, keypos, pos, value, Patched::Done, new),
+            "{pos}"
+        );
+    }
+    for pos in [4, 4294967298, 9223372036854775807] {
+        assert!(rt;
+            sets(alloc, object, 1, pos, None, Patched::BadArg, b""),
+            "{pos}"
         );
     }
 }

@@ -11,7 +11,9 @@ returns-in_default c = λ t n e. absurd (no_empty_code t c.args.code.now c.in_de
 
 pub number_of-requires : goal.number_of-requires
 number_of-requires c =
-    (neg_integer c.requires.0 c.in-Some.tag.now c.in-Some.digits.now c.args.code.now c.requires.1 c.in-Some.ensures.cases.0 c.requires.2 (omega arith) (omega arith)).short
+    let i = neg_integer c.requires.0 c.in-Some.tag.now c.in-Some.digits.now c.args.code.now c.requires.1 c.in-Some.ensures.cases.0 c.requires.2
+    (omega arith) (omega arith) in
+    i.short
 
 pub overflow_cast-result : goal.overflow_cast-result
 overflow_cast-result c =
@@ -21,7 +23,9 @@ overflow_cast-result c =
 
 pub number_of-requires-in-32-to-40 : goal.number_of-requires-in-32-to-40
 number_of-requires-in-32-to-40 c =
-    (pos_integer c.requires.0 c.in-Some.tag.now c.in-Some.digits.now c.args.code.now c.requires.1 c.in-Some.ensures.cases.0 c.requires.2 (omega arith) (omega arith)).short
+    let i = pos_integer c.requires.0 c.in-Some.tag.now c.in-Some.digits.now c.args.code.now c.requires.1 c.in-Some.ensures.cases.0 c.requires.2
+    (omega arith) (omega arith) in
+    i.short
 
 pub overflow_cast-result-in-32-to-40 : goal.overflow_cast-result-in-32-to-40
 overflow_cast-result-in-32-to-40 c =

@@ -54,8 +54,8 @@ returns-clause-object c = λ row h.
     let k = c.loop-add.invariant items g in
     let e : IsCounting keypos items all numbers k.0 [] = at_end keypos items c.args.adds.now numbers k.0 c.loop-add.add-index c.loop-add-test.false k.1 in
     let many = ap length c.as_slice.ensures.value ∙ counting_many keypos items all numbers k.0 [] e in
-    let put : Puts c.put_numbers-put.result c.clear.new.self.items (code_of (Tuple (row_of (with_numbers items c.as_slice.result.now)))) c.put_numbers-put.new.into.items =
-    c.put_numbers-put.ensures items g many in
+    let put : Puts c.put_numbers-put.result c.clear.new.self.items (code_of (Tuple (row_of (with_numbers items c.as_slice.result.now))))
+    c.put_numbers-put.new.into.items = c.put_numbers-put.ensures items g many in
     let same : Puts c.put_numbers-put.result [] (code_of (Tuple (row_of (with_numbers items numbers)))) c.put_numbers-put.new.into.items =
     subst (λ (x : List ℕ). Puts c.put_numbers-put.result x (code_of (Tuple (row_of (with_numbers items numbers)))) c.put_numbers-put.new.into.items)
     c.clear.ensures

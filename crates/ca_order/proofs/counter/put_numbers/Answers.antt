@@ -36,9 +36,11 @@ new_integer-requires c =
 pub returns-in_err-put : goal.returns-in_err-put
 returns-in_err-put c = λ items h l.
     let front = c.split_at-in-Some.ensures.front in
-    let full : MOST_CODE_BYTES < length c.loop-number.into.items + length (take (length c.loop-number.kept.now - length c.loop-number.rest.now) c.loop-number.kept.now) =
-    omega (arith, c.in_err-put.ensures, ap length front) in
-    stretch_full items c.args.numbers.now c.loop-number.number-index c.loop-number.kept.now c.loop-number.rest.now c.loop-number.into.items c.args.into.now.items
+    let kept = c.loop-number.kept.now in
+    let rest = c.loop-number.rest.now in
+    let written = c.loop-number.into.items in
+    let full : MOST_CODE_BYTES < length written + length (take (length kept - length rest) kept) = omega (arith, c.in_err-put.ensures, ap length front) in
+    stretch_full items c.args.numbers.now c.loop-number.number-index kept rest written c.args.into.now.items
     (c.loop-number.invariant.kept items h l) c.from_residual.result c.put.new.into.items c.from_residual.ensures.0 full
 
 pub returns-in_err-put_int : goal.returns-in_err-put_int

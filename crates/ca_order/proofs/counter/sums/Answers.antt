@@ -17,7 +17,9 @@ numbers_of-numbers-requires c = (elements c.requires.code.0, has_items c.require
 pub loop-i-init : goal.loop-i-init
 loop-i-init c = record {
   many = c.requires.values;
-  counting = λ items h. counting_none c.args.keypos items (map addition_of c.args.adds.now) c.numbers_of-numbers.result.items (c.numbers_of-numbers.ensures items h);
+  counting = λ items h.
+      let numbers = c.numbers_of-numbers.result.items in
+      counting_none c.args.keypos items (map addition_of c.args.adds.now) numbers (c.numbers_of-numbers.ensures items h);
 }
 
 pub returns-in-Err : goal.returns-in-Err

@@ -22,7 +22,8 @@ around-requires-clause-pos c =
 pub returns-in_default-clause-object : goal.returns-in_default-clause-object
 returns-in_default-clause-object c = λ row v h t.
     no_element row c.args.pos v c.clear.new.self.items
-    (ap (place_of (length (elements row))) (sym (to_z-of_z w64 c.args.pos c.ranges.pos)) ∙ c.in_default.ensures (elements row) (has_items row c.args.code.now h))
+    (ap (place_of (length (elements row))) (sym (to_z-of_z w64 c.args.pos c.ranges.pos))
+    ∙ c.in_default.ensures (elements row) (has_items row c.args.code.now h))
     c.clear.ensures
 
 pub returns-clause-object : goal.returns-clause-object
