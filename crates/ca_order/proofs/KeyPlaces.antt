@@ -26,8 +26,12 @@ unfolding code_of
 no_object code inside b e n row f = n (first_same b 0x40 inside (four_bytes (size row) ++ row_code row) (sym e ∙ f)).0
 
 -- No code is empty.
+pub no_empty_code : (t : Tree) (code : List ℕ) → length code ≡ 0 → code ≡ code_of t → ⊥
+no_empty_code t code e f = omega (arith, e, ap length f, code_begun t)
+
+-- So no tuple has an empty code.
 pub no_empty_object : (code : List ℕ) → length code ≡ 0 → IsNoObject code
-no_empty_object code e row f = omega (arith, e, ap length f, code_begun (Tuple row))
+no_empty_object code e row f = no_empty_code (Tuple row) code e f
 
 -- a tuple by what stands behind the first byte of its code
 pub record IsObject (code inside : List ℕ) : Type 0 where

@@ -4,6 +4,7 @@ use Rattle.std.specs.Str.{encode_utf8_all}
 use Rattle.ca_term.specs.declared.bounds.TheConstants.{MOST_ELEMENTS, MOST_CODE_POINTS}
 use Rattle.ca_term.specs.Tree.{Tree, Row, Integer, Atom, Tuple, Nil, Cons, Binary, Ends, More, row_of, size, depth, elements, IsNarrowRow}
 use Rattle.ca_term.specs.Code.{code_of, row_code, int_code, digits, complement, escaped, four_bytes}
+use Rattle.ca_term.proofs.Rows.{length_elements}
 use Rattle.ca_order.specs.KeyParts.{HasCodes}
 use Rattle.ca_order.specs.Stuck.{IsRest}
 use Rattle.ca_term.specs.Levels.{HasTerm}
@@ -30,10 +31,6 @@ more_code t ts end = append_assoc (code_of t) (row_code (row_of ts)) end
 
 two_more : (h t : Tree) (ts : List Tree) (end : List ℕ) → code_of h ++ (code_of t ++ (row_code (row_of ts) ++ end)) ≡ row_code (row_of (h ∷ t ∷ ts)) ++ end
 two_more h t ts end = ap (λ x. code_of h ++ x) (sym (more_code t ts end)) ∙ sym (more_code h (t ∷ ts) end)
-
-length_elements : (row : Row) → length (elements row) ≡ size row
-length_elements Ends = refl
-length_elements (More t row) = omega (arith, length_elements row)
 
 narrow_both : (row : Row) (ts : List Tree) → IsNarrowRow row → IsNarrowRow (row_of ts) → IsNarrowRow (row_of (elements row ++ ts))
 narrow_both Ends ts h k = k

@@ -38,7 +38,8 @@ turned_back : (neg : Bool) (b : ℕ) → b < 256 → turned_byte neg (turned_byt
 turned_back true b h = omega arith
 turned_back false b h = refl
 
-turned_twice : (neg : Bool) (bs : List ℕ) → AreBytes bs → turned neg (turned neg bs) ≡ bs
+-- Digits turned twice are as they were.
+pub turned_twice : (neg : Bool) (bs : List ℕ) → AreBytes bs → turned neg (turned neg bs) ≡ bs
 turned_twice neg [] h = rw (turned_nil neg, turned_nil neg) refl
 turned_twice neg (b ∷ bs) h =
     let t : turned neg (turned neg bs) ≡ bs = turned_twice neg bs (tail_bytes b bs h) in

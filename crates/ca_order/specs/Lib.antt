@@ -2,6 +2,7 @@ pub mod Escapes
 pub mod IntTag
 pub mod KeyParts
 pub mod Languages
+pub mod Patches
 pub mod Puts
 pub mod Reads
 pub mod Stuck

@@ -39,7 +39,7 @@ fn split_object(code: &[u8]) -> Option<(usize, &[u8])>
 }
 
 // The bytes behind so many codes.
-fn skip(bytes: &[u8], count: usize) -> &[u8]
+pub(crate) fn skip(bytes: &[u8], count: usize) -> &[u8]
     requires { (end : List ℕ) × HasCodes count bytes.now end }
     ensures rest { (end : List ℕ) → HasCodes count bytes.now end → result.now ≡ end }
     ensures shorter { length result.now ≤ length bytes.now }
@@ -85,7 +85,7 @@ fn behind(bytes: &[u8], len: u8) -> &[u8]
 }
 
 // The number in the first four bytes, and the bytes behind them.
-fn split_size(bytes: &[u8]) -> (usize, &[u8])
+pub(crate) fn split_size(bytes: &[u8]) -> (usize, &[u8])
     requires { (n : ℕ) × (rest : List ℕ) × (n ≤ MOST_ELEMENTS) × (bytes.now ≡ four_bytes n ++ rest) }
     ensures size { (n : ℕ) (rest : List ℕ) → n ≤ MOST_ELEMENTS → bytes.now ≡ four_bytes n ++ rest → (result.0 ≡ n) × (result.1.now ≡ rest) }
     ensures shorter { length result.1.now ≤ length bytes.now }

@@ -28,7 +28,7 @@ pub fn encode(term: &Term, into: &mut Code) -> Result<(), TooLong>
 }
 
 // Appends these bytes.
-fn put(bytes: &[u8], into: &mut Code) -> Result<(), TooLong>
+pub(crate) fn put(bytes: &[u8], into: &mut Code) -> Result<(), TooLong>
     ensures { Puts result into.old.items bytes.now into.new.items }
 {
     match into.try_extend_from_slice(bytes) {
@@ -52,7 +52,7 @@ fn put_escaped(bytes: &[u8], into: &mut Code) -> Result<(), TooLong>
 }
 
 // Appends the code of an integer: the lowest bytes of its two's complement are the bytes of n, or those of m complemented.
-fn put_int(value: i64, into: &mut Code) -> Result<(), TooLong>
+pub(crate) fn put_int(value: i64, into: &mut Code) -> Result<(), TooLong>
     ensures { Puts result into.old.items (int_code value) into.new.items }
 {
     let len = int_code_length(value) - 1;

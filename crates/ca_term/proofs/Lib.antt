@@ -13,3 +13,4 @@ pub mod Lists
 pub mod Numbers
 pub mod Rows
 pub mod TotalOrder
+pub mod Updates

@@ -1,5 +1,5 @@
 -- Lists of terms.
-use Rattle.std.proofs.Common.{◌≡◌, ℕ, zero, suc, ◌≤◌, ◌<◌, ◌+◌, ◌*◌, max, List, [], ◌∷◌, ◌++◌, length, drop, get_or, arith, add-one, drop-cons, refl, sym, ◌∙◌}
+use Rattle.std.proofs.Common.{◌≡◌, ℕ, zero, suc, ◌≤◌, ◌<◌, ◌+◌, ◌*◌, max, List, [], ◌∷◌, ◌++◌, length, drop, get_or, arith, add-one, drop-cons, refl, sym, ◌∙◌, ap}
 use Rattle.std.specs.declared.cmp.Ordering.{Ordering}
 use Rattle.std.specs.declared.cmp.Ordering.TheVariants.{Less, Equal, Greater}
 use Rattle.std.specs.FinMap.{nat_cmp-IsAntisymmetric}
@@ -7,7 +7,7 @@ use Rattle.ca_term.specs.Order.{term_cmp, row_cmp}
 use Rattle.std.specs.Ordering.{ordering_then, nat_cmp}
 use Rattle.std.proofs.lemmas.List.{drop_all}
 use denote.Param.Weighed.{most}
-use Rattle.ca_term.specs.Tree.{nodes, row_nodes, Tree, IsTerm, IsNarrowRow, AreTerms, Tuple, row_of, row_depth, size}
+use Rattle.ca_term.specs.Tree.{nodes, row_nodes, Tree, Row, Ends, More, IsTerm, IsNarrowRow, AreTerms, Tuple, row_of, elements, row_depth, size}
 
 -- One more term at the end of terms makes terms.
 pub AreTerms_push : (ts : List Tree) (t : Tree) → AreTerms ts → IsTerm t → AreTerms (ts ++ t ∷ [])
@@ -69,6 +69,21 @@ pub nodes_item : (ts : List Tree) (i : ℕ) (d : Tree) → i < length ts → nod
 nodes_item [] i d h = absurd (omega arith)
 nodes_item (t ∷ ts) zero d h = omega arith
 nodes_item (t ∷ ts) (suc i) d h = omega (arith, nodes_item ts i d (omega arith))
+
+-- A list of a row's elements makes the row again.
+pub row_again : (row : Row) → row_of (elements row) ≡ row
+row_again Ends = refl
+row_again (More t row) = ap (More t) (row_again row)
+
+-- The elements of a list's row are the list.
+pub elements_are : (ts : List Tree) → elements (row_of ts) ≡ ts
+elements_are [] = refl
+elements_are (t ∷ ts) = ap (λ x. t ∷ x) (elements_are ts)
+
+-- A row has as many elements as its list.
+pub length_elements : (row : Row) → length (elements row) ≡ size row
+length_elements Ends = refl
+length_elements (More t row) = omega (arith, length_elements row)
 
 -- how tuples compare element by element
 pub ruleset compared_rows = (size_row, row_cmp_drop, same_size, tuple_cmp_same, row_cmp_done)

@@ -12,4 +12,6 @@ pub mod Stored
 pub mod TermList
 pub mod TermListView
 pub mod Tree
+pub mod UpdateLaws
+pub mod Updates
 pub mod View

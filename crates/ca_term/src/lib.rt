@@ -10,6 +10,7 @@ mod length;
 mod order;
 mod term;
 mod terms;
+mod update;
 mod utf8;
 
 pub use bounds::{MOST_CODE_BYTES, MOST_CODE_POINTS, MOST_DEPTH, MOST_ELEMENTS};
@@ -21,6 +22,7 @@ pub use length::{code_length, int_code_length};
 pub use order::{order_laws, term_order};
 pub use term::{Kind, Term};
 pub use terms::Terms;
+pub use update::update_laws;
 pub use utf8::character;
 
 #[cfg(test)]
