@@ -9,7 +9,7 @@ use Rattle.ca_model.specs.StoreMap.{IsPair}
 pub record StandsAt (key object : List ℕ) (at : ℕ) : Type 0 where
   pub before : List ℕ
   pub behind : List ℕ
-  pub bytes : object ≡ before ++ key ++ behind
+  pub bytes : object ≡ before ++ (key ++ behind)
   pub place : at ≡ length before
 
 -- A function of an object's bytes, a Code and a number: it answers, and may write into the Code and the number.

@@ -55,7 +55,7 @@ pub record IsPair (keypos : ℕ) (p : Pair) : Type 0 where
   pub codes_behind : List ℕ
   pub place : keypos ≡ before + 1
   pub narrow : before + 1 + behind ≤ MOST_ELEMENTS
-  pub bytes : p.1 ≡ 0x40 ∷ four_bytes (before + 1 + behind) ++ codes_before ++ p.0 ++ codes_behind
+  pub bytes : p.1 ≡ 0x40 ∷ four_bytes (before + 1 + behind) ++ (codes_before ++ (p.0 ++ codes_behind))
   pub are_before : AreCodesWithin (MOST_DEPTH - 1) before codes_before
   pub is_key : IsCodeWithin (MOST_DEPTH - 1) p.0
   pub are_behind : AreCodesWithin (MOST_DEPTH - 1) behind codes_behind
