@@ -1,0 +1,107 @@
+-- The logs of the worked history are lawful, and explain its answers.
+use Rattle.std.proofs.Common.{◌≡◌, ℕ, zero, suc, ◌≤◌, ◌<◌, ◌^◌, pos, true, List, [], ◌∷◌, length, arith, refl, Some, None}
+use Rattle.ca_term.specs.Tree.{Nil, IsTerm}
+use Rattle.ca_term.specs.Code.{code_of, row_code, int_code, digits, trim, four_bytes}
+use Rattle.ca_term.specs.Object.{fits}
+use Rattle.ca_term.proofs.Grammar.{signed_pos}
+use Rattle.ca_ets.specs.OrderedMap.{IsEntry}
+use Rattle.ca_ets.specs.Command.{Continuation, Never, Error}
+use Rattle.ca_ets.specs.declared.command.Cmd.TheVariants.{Insert}
+use Rattle.ca_ets.specs.declared.command.Fault.TheVariants.{BadArg}
+use Rattle.ca_model.specs.History.{state}
+use Rattle.ca_model.specs.StoreMap.{IsFound}
+use Rattle.ca_model.specs.Lawful.{IsLawful}
+use Rattle.ca_merge.specs.Stands.{Stands}
+use Rattle.ca_merge.specs.Carries.{IsFree}
+use Rattle.ca_merge.specs.Clients.{Client, Plays, log_of}
+use Rattle.ca_merge.specs.Explaining.{client_of}
+use Rattle.ca_merge.specs.Worked.{key, object, worked_history, worked_first, worked_second, worked_clients, HaveWorkedLogs}
+use Rattle.ca_merge.proofs.Filters.{empty_stands, put_stands, get_stands}
+use Rattle.ca_merge.proofs.Carrying.{insert_put, lookup_found}
+
+key_term : (n : ℕ) → n < 2 ^ 63 → IsTerm (key n)
+key_term n h = record { shallow = omega arith; narrow = signed_pos n h }
+
+object_term : (n : ℕ) → n < 2 ^ 63 → IsTerm (object n)
+object_term n h = record { shallow = omega arith; narrow = (omega arith, (signed_pos n h, tt)) }
+
+one_fits : fits (object 1) ≡ true
+unfolding code_of row_code int_code digits trim four_bytes
+one_fits = refl
+
+two_fits : fits (object 2) ≡ true
+unfolding code_of row_code int_code digits trim four_bytes
+two_fits = refl
+
+three_fits : fits (object 3) ≡ true
+unfolding code_of row_code int_code digits trim four_bytes
+three_fits = refl
+
+key_fits : fits (key 1) ≡ true
+unfolding code_of row_code int_code digits trim four_bytes
+key_fits = refl
+
+second_key_fits : fits (key 2) ≡ true
+unfolding code_of row_code int_code digits trim four_bytes
+second_key_fits = refl
+
+first_state : Stands 1 (state worked_history 1) (object 1 ∷ [])
+first_state = put_stands 1 [] [] (empty_stands 1) (object 1) (object_term 1 (omega arith)) (record { object = refl; fitting = one_fits })
+
+second_state : Stands 1 (state worked_history 2) (object 1 ∷ object 2 ∷ [])
+second_state = put_stands 1 _ _ first_state (object 2) (object_term 2 (omega arith)) (record { object = refl; fitting = two_fits })
+
+third_state : Stands 1 (state worked_history 3) (object 1 ∷ object 2 ∷ object 3 ∷ [])
+third_state = put_stands 1 _ _ second_state (object 3) (object_term 3 (omega arith)) (record { object = refl; fitting = three_fits })
+
+finds_one : IsFound (state worked_history 2) (code_of (key 1)) (Some (code_of (object 1)))
+finds_one = (get_stands 1 _ _ second_state (key 1) (key_term 1 (omega arith))).codes
+
+finds_two : IsFound (state worked_history 2) (code_of (key 2)) (Some (code_of (object 2)))
+finds_two = (get_stands 1 _ _ second_state (key 2) (key_term 2 (omega arith))).codes
+
+no_call : IsFree 1 Never (Insert Nil) (Error BadArg) Never
+no_call = record { at = λ t h b. refl }
+
+first_plays : Plays 1 Never worked_first.commands worked_first.answers worked_first.parts
+first_plays =
+    let one = insert_put 1 (object 1) (object_term 1 (omega arith)) refl one_fits Never in
+    let two = lookup_found 1 (key 2) (key_term 2 (omega arith)) second_key_fits Never (object 2) (object_term 2 (omega arith)) in
+    let three = insert_put 1 (object 3) (object_term 3 (omega arith)) refl three_fits Never in
+    (tt, (Never, no_call, (tt, (Never, one, (tt, (Never, two, (tt, (Never, no_call, (tt, (Never, three, tt))))))))))
+
+second_plays : Plays 1 Never worked_second.commands worked_second.answers worked_second.parts
+second_plays =
+    let one = insert_put 1 (object 2) (object_term 2 (omega arith)) refl two_fits Never in
+    let two = lookup_found 1 (key 1) (key_term 1 (omega arith)) key_fits Never (object 1) (object_term 1 (omega arith)) in
+    (tt, (Never, one, (tt, (Never, two, ((refl, tt), refl, (tt, (Never, no_call, tt)))))))
+
+plays : (i : ℕ) → 1 ≤ i → i ≤ 2
+    → Plays 1 Never (client_of worked_clients i).commands (client_of worked_clients i).answers (client_of worked_clients i).parts
+plays zero h k = absurd (omega arith)
+plays (suc zero) h k = first_plays
+plays (suc (suc zero)) h k = second_plays
+plays (suc (suc (suc n))) h k = absurd (omega arith)
+
+lawful : (i : ℕ) → 1 ≤ i → i ≤ 2 → IsLawful i worked_history (log_of (client_of worked_clients i).parts)
+lawful zero h k = absurd (omega arith)
+lawful (suc zero) h k = record {
+  entries = ((omega arith, omega arith, refl, tt), ((omega arith, finds_two), ((omega arith, omega arith, refl, tt), tt)));
+  places = (omega arith, (omega arith, (omega arith, tt)));
+  edits = refl;
+}
+lawful (suc (suc zero)) h k = record {
+  entries = ((omega arith, omega arith, refl, tt), ((omega arith, finds_one), ((omega arith, finds_one), tt)));
+  places = (omega arith, (omega arith, (omega arith, tt)));
+  edits = refl;
+}
+lawful (suc (suc (suc n))) h k = absurd (omega arith)
+
+-- The clients of the worked history have logs that are lawful for it.
+pub worked_logs : HaveWorkedLogs
+worked_logs = record {
+  enrolled = (omega arith, omega arith, (omega arith, omega arith, (omega arith, omega arith, tt)));
+  plays = plays;
+  lawful = lawful;
+  ends = third_state;
+}
