@@ -20,8 +20,8 @@ alone a b k c r l t (inl s) h st =
     let here : after s.earlier a.map ≡ a.map = ap (λ (z : History). after z a.map) none.0 in
     let done = s.carries.at a.map t st (subst (λ (m : StoreMap). IsAnswer s.event m) here s.answer) in
     let all : around a.pass s.earlier s.event s.later ≡ own =
-        ap (λ (z : History). z ++ own ++ s.later) none.0 ∙ ap (λ (z : History). own ++ z) none.1 ∙ append-nil own in
+    ap (λ (z : History). z ++ own ++ s.later) none.0 ∙ ap (λ (z : History). own ++ z) none.1 ∙ append-nil own in
     let map_is : b.map ≡ with_edits (effect s.event) a.map =
-        s.learns.map ∙ ap (λ (z : History). after z a.map) all ∙ by_pass_done a.pass (effect s.event) a.map in
+    s.learns.map ∙ ap (λ (z : History). after z a.map) all ∙ by_pass_done a.pass (effect s.event) a.map in
     (done.0, done.1, subst (λ (m : StoreMap). Stands a.keypos m done.0) (sym map_is) done.2)
 alone a b k c r l t (inr s) h st = (t, s.free.at t st.ordered st.bounded, subst (λ (m : StoreMap). Stands a.keypos m t) (sym s.stays.map) st)

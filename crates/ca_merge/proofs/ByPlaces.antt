@@ -13,7 +13,7 @@ use Rattle.ca_merge.specs.Stands.{Stands}
 use Rattle.ca_merge.specs.Places.{Turn, Waiting, with_turns, is_ready, is_ready_by, is_free, is_free_by, front, behind, by_client, fronts, behind_fronts, update_of, behind_update, turns_from, turns_by_place}
 use Rattle.ca_merge.proofs.Runs.{Runs, runs_same, one_more, same_number, flipped}
 use Rattle.ca_merge.proofs.Waits.{Waits, Taken, Stopped, behind_stopped, turns_at, turns_twice, pull}
-use Rattle.ca_merge.proofs.NextUpdates.{NextUpdate, is_update, waits_on, none_left}
+use Rattle.ca_merge.proofs.NextUpdates.{is_update, waits_on, none_left}
 use Rattle.ca_merge.proofs.TakenUpdates.{take_update}
 
 free_ready : (q : ℕ) (x : Turn) → is_free x ≡ true → is_ready q x ≡ true
@@ -179,9 +179,9 @@ module _ (p : ℕ) (history : History) (clients : ℕ) where
           → Runs p end u ls (behind_fronts (is_ready q) ws) []
       last u ls st' w' =
           let empty : (i : ℕ) → behind (is_ready q) (ws i) ≡ [] =
-              λ i. none_left p history i (ls i) (behind (is_ready q) (ws i))
-                  (subst (λ (n : ℕ). Waits p history n [] i (ls i) (behind (is_ready q) (ws i))) ends (w' i))
-                  (subst (λ (n : ℕ). Stopped (is_ready n) (behind (is_ready q) (ws i))) ends (behind_stopped (is_ready q) (ws i))) in
+          λ i. none_left p history i (ls i) (behind (is_ready q) (ws i))
+          (subst (λ (n : ℕ). Waits p history n [] i (ls i) (behind (is_ready q) (ws i))) ends (w' i))
+          (subst (λ (n : ℕ). Stopped (is_ready n) (behind (is_ready q) (ws i))) ends (behind_stopped (is_ready q) (ws i))) in
           record {
             commands = λ i. sym (ap (map (λ (x : Turn). x.command)) (empty i));
             responses = λ i. sym (ap (map (λ (x : Turn). x.response)) (empty i));

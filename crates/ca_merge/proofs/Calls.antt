@@ -1,5 +1,5 @@
 -- Calls of a store, one after the other, as one call of a table: reads, and then the call that makes the step or is refused.
-use Rattle.std.proofs.Common.{◌≡◌, ℕ, ◌+◌, true, List, [], ◌∷◌, ◌++◌, length, refl, sym, ◌∙◌, ap, subst, append_assoc}
+use Rattle.std.proofs.Common.{◌≡◌, ℕ, ◌+◌, true, List, [], ◌∷◌, ◌++◌, length, sym, ◌∙◌, ap, subst, append_assoc}
 use Rattle.std.specs.Prelude.{Option}
 use Rattle.ca_ets.specs.Command.{Command, Response, Continuation}
 use Rattle.ca_model.specs.StoreMap.{StoreMap}
@@ -84,15 +84,15 @@ then_call a b d event k l c r x m carries =
     let all = x.learnt ++ around b.pass m.earlier event m.later in
     let whole = learns_both a b d x.learnt (around b.pass m.earlier event m.later) x.left (entry ∷ []) x.learns m.learns in
     let grouped : all ≡ around a.pass (x.learnt ++ m.earlier) event m.later =
-        ap (λ (i : ℕ). x.learnt ++ around i m.earlier event m.later) x.learns.same.pass
-        ∙ sym (append_assoc x.learnt (m.earlier ++ own) m.later) ∙ ap (λ (z : History). z ++ m.later) (sym (append_assoc x.learnt m.earlier own)) in
+    ap (λ (i : ℕ). x.learnt ++ around i m.earlier event m.later) x.learns.same.pass
+    ∙ sym (append_assoc x.learnt (m.earlier ++ own) m.later) ∙ ap (λ (z : History). z ++ m.later) (sym (append_assoc x.learnt m.earlier own)) in
     let moved : after (x.learnt ++ m.earlier) a.map ≡ after m.earlier b.map =
-        after-append x.learnt m.earlier a.map ∙ ap (after m.earlier) (sym x.learns.map) in
+    after-append x.learnt m.earlier a.map ∙ ap (after m.earlier) (sym x.learns.map) in
     let seen : d.seen ≡ seen_with a.seen all (x.left ++ (event, place_of a (x.learnt ++ m.earlier) event) ∷ []) =
-        whole.seen
-        ∙ ap (λ (s : Option Seen). seen_with a.seen all (x.left ++ (event, place s + length m.earlier + n) ∷ []))
-            x.learns.seen
-        ∙ place_since a.seen x.learnt all m.earlier x.left event n in
+    whole.seen
+    ∙ ap (λ (s : Option Seen). seen_with a.seen all (x.left ++ (event, place s + length m.earlier + n) ∷ []))
+    x.learns.seen
+    ∙ place_since a.seen x.learnt all m.earlier x.left event n in
     record {
       left = x.left;
       reads = x.reads;

@@ -1,9 +1,9 @@
 -- Which calls of a store carry which commands.
-use Rattle.std.proofs.Common.{◌≡◌, ℕ, true, List, [], ◌∷◌, refl, Some, None}
+use Rattle.std.proofs.Common.{◌≡◌, ℕ, true, [], ◌∷◌, refl, Some, None}
 use Rattle.ca_term.specs.Tree.{Tree, IsTerm}
 use Rattle.ca_term.specs.Code.{code_of}
 use Rattle.ca_term.specs.Object.{is_object, key_of, fits}
-use Rattle.ca_ets.specs.OrderedMap.{IsEntry, get, put}
+use Rattle.ca_ets.specs.OrderedMap.{get, put}
 use Rattle.ca_ets.specs.Command.{Continuation, Items, Truth}
 use Rattle.ca_ets.specs.declared.command.Cmd.TheVariants.{Insert, Lookup}
 use Rattle.ca_model.specs.Event.{Get, Write}

@@ -2,14 +2,14 @@
 use Rattle.std.proofs.Common.{◌≡◌, ℕ, zero, suc, ◌≤◌, ◌<◌, ◌==◌, Bool, true, false, List, [], ◌∷◌, length, map, arith, refl, sym, ◌∙◌, ap, subst, if◌then◌else◌}
 use Rattle.std.specs.Prelude.{slice_index_or, nat_le}
 use Rattle.std.proofs.lemmas.Bool.Decides.{nat_tests}
-use Rattle.ca_ets.specs.Command.{Continuation, Never}
+use Rattle.ca_ets.specs.Command.{Never}
 use Rattle.ca_ets.specs.Explained.{AreAnswered, all_commands_of_replies, commands_of_replies, replies_of}
 use Rattle.ca_ets.specs.Merge.{list_of_client}
-use Rattle.ca_model.specs.History.{Edit, History, state, edits_of_pass, AreByPasses}
+use Rattle.ca_model.specs.History.{History, state, edits_of_pass, AreByPasses}
 use Rattle.ca_model.specs.Lawful.{IsLawful}
 use Rattle.ca_merge.specs.Clients.{Client, log_of, Plays}
-use Rattle.ca_merge.specs.Places.{Turn, turns_of}
-use Rattle.ca_merge.specs.Explaining.{nobody, client_of, all_turns, HaveLogs, LogsExplain}
+use Rattle.ca_merge.specs.Places.{turns_of}
+use Rattle.ca_merge.specs.Explaining.{nobody, client_of, all_turns, LogsExplain}
 use Rattle.ca_merge.proofs.Filters.{empty_stands, same_table}
 use Rattle.ca_merge.proofs.Waits.{Waits}
 use Rattle.ca_merge.proofs.ByPlaces.{merge_runs}
@@ -54,7 +54,7 @@ module _ (p : ℕ) (history : History) (clients : List Client) where
 
   module _ (enrolled : AreByPasses (length clients) history)
       (plays : (i : ℕ) → 1 ≤ i → i ≤ length clients
-        → Plays p Never (client_of clients i).commands (client_of clients i).answers (client_of clients i).parts)
+      → Plays p Never (client_of clients i).commands (client_of clients i).answers (client_of clients i).parts)
       (lawful : (i : ℕ) → 1 ≤ i → i ≤ length clients → IsLawful i history (log_of (client_of clients i).parts)) where
     known : (i : ℕ) → Known i
     known zero = known_nobody 0 refl (no_edits (length clients) 0 history enrolled (λ h k. absurd (omega arith)))

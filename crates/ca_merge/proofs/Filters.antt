@@ -1,6 +1,6 @@
 -- A map of bytes that stands for an ordered map of terms: what is filtered from the one stands for what is filtered from the other.
 use Rattle.std.proofs.Common.{◌≡◌, ℕ, Bool, true, false, List, [], ◌∷◌, ◌++◌, map, refl, sym, ◌∙◌, ap, if◌then◌else◌, append-nil}
-use Rattle.std.specs.Prelude.{filter, not, Option, None, Some}
+use Rattle.std.specs.Prelude.{filter, not}
 use Rattle.std.proofs.lemmas.List.{map-append}
 use Rattle.std.specs.declared.cmp.Ordering.{Ordering}
 use Rattle.std.specs.Ordering.{is_lt, is_eq, is_gt}

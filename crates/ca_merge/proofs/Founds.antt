@@ -1,6 +1,6 @@
 -- What a store map has at a key's code, as terms.
 use Rattle.std.proofs.Common.{◌≡◌, ◌≢◌, ℕ, Bool, true, false, List, [], ◌∷◌, map, refl, sym, ◌∙◌, ap, if◌then◌else◌}
-use Rattle.std.specs.Prelude.{not, Option, None, Some}
+use Rattle.std.specs.Prelude.{not, None, Some}
 use Rattle.std.specs.Ordering.{is_eq}
 use Rattle.ca_term.specs.Tree.{Tree, IsTerm, AreTerms}
 use Rattle.ca_term.specs.Order.{term_cmp}

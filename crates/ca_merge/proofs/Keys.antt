@@ -1,7 +1,7 @@
 -- An object's key is a term.
-use Rattle.std.proofs.Common.{ℕ, zero, suc, ◌-◌, ◌≤◌, List, [], ◌∷◌, arith}
+use Rattle.std.proofs.Common.{ℕ, zero, suc, ◌-◌, ◌≤◌, arith}
 use Rattle.std.specs.Prelude.{slice_index_or}
-use Rattle.ca_term.specs.Tree.{Tree, Row, Integer, Atom, Tuple, Nil, Cons, Binary, Ends, More, IsTerm, IsNarrow, IsNarrowRow, elements, depth, row_depth}
+use Rattle.ca_term.specs.Tree.{Tree, Row, Integer, Atom, Tuple, Nil, Cons, Binary, Ends, More, IsTerm, IsNarrowRow, elements, row_depth}
 use Rattle.ca_term.specs.Object.{key_of}
 use Rattle.ca_term.specs.declared.bounds.TheConstants.{MOST_DEPTH}
 

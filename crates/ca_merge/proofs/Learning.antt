@@ -1,7 +1,6 @@
 -- What two calls of a store learn, one after the other.
 use Rattle.std.proofs.Common.{◌≡◌, ℕ, ◌+◌, List, [], ◌∷◌, ◌++◌, length, arith, refl, sym, ◌∙◌, ap, subst, Some, None, append_assoc, length-append}
 use Rattle.std.specs.Prelude.{Option}
-use Rattle.ca_model.specs.StoreMap.{StoreMap}
 use Rattle.ca_model.specs.History.{History, after, AreEdits, AreByPasses, AreByOthers}
 use Rattle.ca_model.specs.Event.{Event, Entry}
 use Rattle.ca_model.specs.Known.{Known, Seen, IsSameStore, Learns, seen_with, place}
@@ -51,5 +50,5 @@ pub place_since : (s : Option Seen) (xs ys earlier : History) (left : List Entry
 place_since None xs ys earlier left event n = refl
 place_since (Some s) xs ys earlier left event n =
     let same : length (s.history ++ xs) + length earlier + n ≡ length s.history + length (xs ++ earlier) + n =
-        omega (arith, length-append s.history xs, length-append xs earlier) in
+    omega (arith, length-append s.history xs, length-append xs earlier) in
     ap (λ (i : ℕ). seen_with (Some s) ys (left ++ (event, i) ∷ [])) same

@@ -1,19 +1,18 @@
 -- The pairs that a store map may hold are those of the objects that fit.
-use Rattle.std.proofs.Common.{◌≡◌, ℕ, suc, ◌≤◌, ◌<◌, ◌+◌, ◌-◌, Bool, true, false, List, [], ◌∷◌, ◌++◌, length, arith, refl, sym, ◌∙◌, ap, subst, append_assoc}
+use Rattle.std.proofs.Common.{◌≡◌, ℕ, ◌≤◌, ◌<◌, ◌+◌, ◌-◌, true, false, List, ◌∷◌, ◌++◌, length, arith, refl, sym, ◌∙◌, ap, subst, append_assoc}
 use Rattle.std.specs.Prelude.{slice_index_or, nat_le}
 use Rattle.std.proofs.lemmas.Bool.Decides.{nat_tests}
-use Rattle.ca_term.specs.declared.bounds.TheConstants.{MOST_CODE_BYTES, MOST_DEPTH, MOST_ELEMENTS}
+use Rattle.ca_term.specs.declared.bounds.TheConstants.{MOST_CODE_BYTES, MOST_DEPTH}
 use Rattle.ca_term.specs.Tree.{Tree, Row, Integer, Atom, Tuple, Nil, Cons, Binary, More, IsTerm, IsNarrowRow, elements, size, row_depth}
 use Rattle.ca_term.specs.Code.{code_of, row_code, four_bytes}
 use Rattle.ca_term.specs.Grammar.{IsCodeWithin}
-use Rattle.ca_term.specs.Levels.{HasTerm, HasRow}
-use Rattle.ca_term.specs.Object.{is_object, key_of, fits}
+use Rattle.ca_term.specs.Object.{key_of}
 use Rattle.ca_term.proofs.Grammar.{code_within, codes_within, term_within, row_within}
 use Rattle.ca_ets.specs.OrderedMap.{IsEntry}
 use Rattle.ca_model.specs.StoreMap.{Pair, IsPair}
 use Rattle.ca_merge.specs.Stands.{pair_of}
 use Rattle.ca_merge.specs.Pairs.{HasObject, PairsAreObjects}
-use Rattle.ca_merge.proofs.Splits.{joined, Split, split, around_code, joined_size, joined_depth, joined_narrow, parts_narrow, element_at}
+use Rattle.ca_merge.proofs.Splits.{joined, split, around_code, joined_size, joined_depth, joined_narrow, parts_narrow, element_at}
 
 tuple_code : (row : Row) → code_of (Tuple row) ≡ 0x40 ∷ four_bytes (size row) ++ row_code row
 unfolding code_of
@@ -82,12 +81,12 @@ object_of_pair p pair h =
     let key : key_of p (Tuple row) ≡ t.term = key_at p r.row t.term s.row (omega (arith, h.place, r.many)) in
     let numbers : size r.row + 1 + size s.row ≡ h.before + 1 + h.behind = omega (arith, r.many, s.many) in
     let code : code_of (Tuple row) ≡ pair.1 =
-        tuple_parts r.row t.term s.row
-        ∙ ap (λ (n : ℕ). 0x40 ∷ four_bytes n ++ row_code r.row ++ code_of t.term ++ row_code s.row) numbers
-        ∙ ap (λ (x : List ℕ). 0x40 ∷ four_bytes (h.before + 1 + h.behind) ++ x ++ code_of t.term ++ row_code s.row) (sym r.code_is)
-        ∙ ap (λ (x : List ℕ). 0x40 ∷ four_bytes (h.before + 1 + h.behind) ++ h.codes_before ++ x ++ row_code s.row) (sym t.code_is)
-        ∙ ap (λ (x : List ℕ). 0x40 ∷ four_bytes (h.before + 1 + h.behind) ++ h.codes_before ++ pair.0 ++ x) (sym s.code_is)
-        ∙ sym h.bytes in
+    tuple_parts r.row t.term s.row
+    ∙ ap (λ (n : ℕ). 0x40 ∷ four_bytes n ++ row_code r.row ++ code_of t.term ++ row_code s.row) numbers
+    ∙ ap (λ (x : List ℕ). 0x40 ∷ four_bytes (h.before + 1 + h.behind) ++ x ++ code_of t.term ++ row_code s.row) (sym r.code_is)
+    ∙ ap (λ (x : List ℕ). 0x40 ∷ four_bytes (h.before + 1 + h.behind) ++ h.codes_before ++ x ++ row_code s.row) (sym t.code_is)
+    ∙ ap (λ (x : List ℕ). 0x40 ∷ four_bytes (h.before + 1 + h.behind) ++ h.codes_before ++ pair.0 ++ x) (sym s.code_is)
+    ∙ sym h.bytes in
     record {
       object = Tuple row;
       bounded = record {

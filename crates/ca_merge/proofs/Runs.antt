@@ -1,8 +1,8 @@
 -- A run over turns of several clients, built from its front.
-use Rattle.std.proofs.Common.{◌≡◌, ℕ, ◌==◌, Bool, true, false, List, [], ◌∷◌, map, arith, refl, sym, ◌∙◌, ap, subst}
+use Rattle.std.proofs.Common.{◌≡◌, ℕ, ◌==◌, Bool, true, false, List, ◌∷◌, map, arith, refl, sym, ◌∙◌, ap, subst}
 use Rattle.std.proofs.lemmas.Bool.Decides.{nat_tests}
 use Rattle.ca_term.specs.Tree.{Tree}
-use Rattle.ca_ets.specs.Command.{Command, Response, Continuation}
+use Rattle.ca_ets.specs.Command.{Continuation}
 use Rattle.ca_ets.specs.Step.{Step, step}
 use Rattle.ca_ets.specs.Merge.{Run, items_of, run_from, with_continuation}
 use Rattle.ca_model.specs.StoreMap.{StoreMap}

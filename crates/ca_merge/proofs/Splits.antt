@@ -1,7 +1,7 @@
 -- A row of terms is what stands before one of its elements, this element, and what stands behind it.
-use Rattle.std.proofs.Common.{◌≡◌, ℕ, zero, suc, ◌≤◌, ◌<◌, ◌+◌, max, List, ◌∷◌, ◌++◌, arith, refl, sym, ◌∙◌, ap, append_assoc}
+use Rattle.std.proofs.Common.{◌≡◌, ℕ, zero, suc, ◌<◌, ◌+◌, max, ◌∷◌, ◌++◌, arith, refl, sym, ◌∙◌, ap, append_assoc}
 use Rattle.std.specs.Prelude.{slice_index_or}
-use Rattle.ca_term.specs.Tree.{Tree, Row, Nil, Ends, More, elements, size, row_depth, depth, IsNarrow, IsNarrowRow}
+use Rattle.ca_term.specs.Tree.{Tree, Row, Nil, Ends, More, elements, size, row_depth, IsNarrowRow}
 use Rattle.ca_term.specs.Code.{code_of, row_code}
 
 -- a row and then another one

@@ -1,7 +1,7 @@
 -- What a client's play and its lawful log say of its turns, before the merge begins.
 use Rattle.std.proofs.Common.{◌≡◌, ℕ, suc, ◌≤◌, List, [], ◌∷◌, ◌++◌, length, map, arith, refl, sym, ◌∙◌, ap, subst, Some, None, Ok, Err}
 use Rattle.std.specs.Prelude.{Option}
-use Rattle.ca_ets.specs.Command.{Command, Response, Answer, Continuation}
+use Rattle.ca_ets.specs.Command.{Command, Answer, Continuation}
 use Rattle.ca_ets.specs.Explained.{commands_of_replies, replies_of}
 use Rattle.ca_model.specs.History.{Edit, History}
 use Rattle.ca_model.specs.Event.{Entry, effect}

@@ -1,5 +1,5 @@
 -- The update that makes the next edit of the history is taken: its step leads from the state before the edit to the one after it.
-use Rattle.std.proofs.Common.{◌≡◌, ℕ, suc, ◌-◌, ◌==◌, true, false, List, [], ◌∷◌, ◌++◌, length, take, arith, refl, sym, ◌∙◌, ap, subst, Some}
+use Rattle.std.proofs.Common.{◌≡◌, ℕ, suc, ◌-◌, ◌==◌, true, List, [], ◌∷◌, ◌++◌, length, take, arith, refl, sym, ◌∙◌, ap, subst}
 use Rattle.std.specs.Prelude.{Option}
 use Rattle.ca_term.specs.Tree.{Tree}
 use Rattle.ca_ets.specs.Command.{Continuation}
@@ -7,7 +7,7 @@ use Rattle.ca_ets.specs.Merge.{items_of}
 use Rattle.ca_ets.proofs.Merges.{itself}
 use Rattle.ca_model.specs.StoreMap.{StoreMap}
 use Rattle.ca_model.specs.History.{Edit, History, state, after, after_edit}
-use Rattle.ca_model.specs.Event.{Event, Entry, effect, IsAnswer}
+use Rattle.ca_model.specs.Event.{Entry, IsAnswer}
 use Rattle.ca_model.specs.Lawful.{AreEntries, IsEntryAt, PlacesRise}
 use Rattle.ca_merge.specs.Stands.{Stands}
 use Rattle.ca_merge.specs.Carries.{IsCarried, Carries, with_edits}
@@ -50,23 +50,23 @@ take_update p history before j edit steps e k t s up st waits =
     let eff = up.edits in
     let w : Waits p history q ((j, edit) ∷ steps) j k (x ∷ xs) = subst (λ (s : List Turn). Waits p history q ((j, edit) ∷ steps) j k s) up.is waits in
     let carries : Carries p event k x.command x.response w.turns.0 =
-        subst (λ (entry : Option Entry). IsCarried p entry k x.command x.response w.turns.0) up.entry w.turns.1 in
+    subst (λ (entry : Option Entry). IsCarried p entry k x.command x.response w.turns.0) up.entry w.turns.1 in
     let entries : AreEntries j history ((event, suc q) ∷ entries_of xs) =
-        subst (λ (entry : Option Entry). AreEntries j history (from_event entry (entries_of xs))) up.entry w.entries in
+    subst (λ (entry : Option Entry). AreEntries j history (from_event entry (entries_of xs))) up.entry w.entries in
     let entry : IsEntryAt j history event (suc q) (edit ∷ []) = subst (λ (es : List Edit). IsEntryAt j history event (suc q) es) eff entries.0 in
     let back : suc q - 1 ≡ q = omega arith in
     let answer : IsAnswer event (state history q) = subst (λ (n : ℕ). IsAnswer event (state history n)) back entry.3 in
     let done = carries.at (state history q) t st answer in
     let made : Stands p (with_edits (edit ∷ []) (state history q)) done.0 =
-        subst (λ (es : List Edit). Stands p (with_edits es (state history q)) done.0) eff done.2 in
+    subst (λ (es : List Edit). Stands p (with_edits es (state history q)) done.0) eff done.2 in
     let rise : PlacesRise q ((event, suc q) ∷ entries_of xs) =
-        subst (λ (entry : Option Entry). PlacesRise q (from_event entry (entries_of xs))) up.entry w.places in
+    subst (λ (entry : Option Entry). PlacesRise q (from_event entry (entries_of xs))) up.entry w.places in
     let here : (j == j) ≡ true = itself j in
     let own_edits : items_of j (numbered q ((j, edit) ∷ steps)) ≡ updates ((event, suc q) ∷ entries_of xs) =
-        subst (λ (entry : Option Entry). items_of j (numbered q ((j, edit) ∷ steps)) ≡ updates (from_event entry (entries_of xs))) up.entry w.edits in
+    subst (λ (entry : Option Entry). items_of j (numbered q ((j, edit) ∷ steps)) ≡ updates (from_event entry (entries_of xs))) up.entry w.edits in
     let first : (edit, suc q) ∷ items_of j (numbered (suc q) steps) ≡ updates ((event, suc q) ∷ entries_of xs) = rw here at own_edits in
     let second : (edit, suc q) ∷ items_of j (numbered (suc q) steps) ≡ (edit, suc q) ∷ updates (entries_of xs) =
-        subst (λ (es : List Edit). (edit, suc q) ∷ items_of j (numbered (suc q) steps) ≡ with_update es (suc q) (updates (entries_of xs))) eff first in
+    subst (λ (es : List Edit). (edit, suc q) ∷ items_of j (numbered (suc q) steps) ≡ with_update es (suc q) (updates (entries_of xs))) eff first in
     let rest : items_of j (numbered (suc q) steps) ≡ updates (entries_of xs) = cc in
     record {
       continuation = w.turns.0;

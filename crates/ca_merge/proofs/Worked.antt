@@ -1,11 +1,10 @@
 -- The logs of the worked history are lawful, and explain its answers.
-use Rattle.std.proofs.Common.{◌≡◌, ℕ, zero, suc, ◌≤◌, ◌<◌, ◌^◌, pos, true, List, [], ◌∷◌, length, arith, refl, Some, None}
+use Rattle.std.proofs.Common.{◌≡◌, ℕ, zero, suc, ◌≤◌, ◌<◌, ◌^◌, true, [], ◌∷◌, arith, refl, Some}
 use Rattle.ca_term.specs.Tree.{Nil, IsTerm}
 use Rattle.ca_term.specs.Code.{code_of, row_code, int_code, digits, trim, four_bytes}
 use Rattle.ca_term.specs.Object.{fits}
 use Rattle.ca_term.proofs.Grammar.{signed_pos}
-use Rattle.ca_ets.specs.OrderedMap.{IsEntry}
-use Rattle.ca_ets.specs.Command.{Continuation, Never, Error}
+use Rattle.ca_ets.specs.Command.{Never, Error}
 use Rattle.ca_ets.specs.declared.command.Cmd.TheVariants.{Insert}
 use Rattle.ca_ets.specs.declared.command.Fault.TheVariants.{BadArg}
 use Rattle.ca_model.specs.History.{state}
@@ -13,7 +12,7 @@ use Rattle.ca_model.specs.StoreMap.{IsFound}
 use Rattle.ca_model.specs.Lawful.{IsLawful}
 use Rattle.ca_merge.specs.Stands.{Stands}
 use Rattle.ca_merge.specs.Carries.{IsFree}
-use Rattle.ca_merge.specs.Clients.{Client, Plays, log_of}
+use Rattle.ca_merge.specs.Clients.{Plays, log_of}
 use Rattle.ca_merge.specs.Explaining.{client_of}
 use Rattle.ca_merge.specs.Worked.{key, object, worked_history, worked_first, worked_second, worked_clients, HaveWorkedLogs}
 use Rattle.ca_merge.proofs.Filters.{empty_stands, put_stands, get_stands}

@@ -1,6 +1,6 @@
 -- What a client's commands, their answers and the log of its pass have to do with one another.
 use Rattle.std.specs.Prelude.{◌≡◌, ℕ, List, [], ◌∷◌, ◌++◌, Option, None, Some, Ok, Err}
-use Rattle.ca_ets.specs.Command.{Command, Response, Answer, Continuation}
+use Rattle.ca_ets.specs.Command.{Command, Answer, Continuation}
 use Rattle.ca_model.specs.Event.{Entry, effect}
 use Rattle.ca_merge.specs.Carries.{IsCarried}
 

@@ -1,5 +1,5 @@
 -- What several clients' logs of one history explain.
-use Rattle.std.specs.Prelude.{◌≡◌, ℕ, zero, suc, ◌≤◌, List, [], ◌∷◌, length, map, slice_index_or}
+use Rattle.std.specs.Prelude.{ℕ, zero, suc, ◌≤◌, List, [], length, map, slice_index_or}
 use Rattle.ca_term.specs.Tree.{Tree}
 use Rattle.ca_ets.specs.Command.{Command, Never}
 use Rattle.ca_ets.specs.Explained.{ExplainedBy}

@@ -3,7 +3,7 @@ use Rattle.std.specs.Prelude.{ℕ, zero, suc, ◌==◌, Bool, true, false, nat_l
 use Rattle.ca_ets.specs.Command.{Command, Response, Answer}
 use Rattle.ca_model.specs.History.{Edit, History}
 use Rattle.ca_model.specs.Event.{Entry, effect}
-use Rattle.ca_merge.specs.Clients.{Part, Client}
+use Rattle.ca_merge.specs.Clients.{Part}
 
 -- a command that was answered by a reply, and the entry of the log that is its event, where it has one
 pub record Turn : Type 0 where

@@ -1,12 +1,12 @@
 -- A small history with two clients, and the merge of their commands by places, written out.
 use Rattle.std.specs.Prelude.{◌≡◌, ℕ, pos, true, List, [], ◌∷◌, None, Some, Ok, Err}
-use Rattle.ca_term.specs.Tree.{Tree, Row, Integer, Tuple, Nil, Ends, More}
+use Rattle.ca_term.specs.Tree.{Tree, Integer, Tuple, Nil, Ends, More}
 use Rattle.ca_term.specs.Code.{code_of}
-use Rattle.ca_ets.specs.Command.{Command, Truth, Items, Error, Full}
+use Rattle.ca_ets.specs.Command.{Truth, Items, Error, Full}
 use Rattle.ca_ets.specs.declared.command.Cmd.TheVariants.{Insert, Lookup}
 use Rattle.ca_ets.specs.declared.command.Fault.TheVariants.{BadArg}
 use Rattle.ca_model.specs.History.{Put, History}
-use Rattle.ca_model.specs.Event.{Event, Entry, Get, Write}
+use Rattle.ca_model.specs.Event.{Get, Write}
 use Rattle.ca_merge.specs.Clients.{Part, Client}
 use Rattle.ca_merge.specs.Explaining.{merge_of, HaveLogs}
 
