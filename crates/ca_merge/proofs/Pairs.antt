@@ -1,5 +1,5 @@
 -- The pairs that a store map may hold are those of the objects that fit.
-use Rattle.std.proofs.Common.{◌≡◌, ℕ, ◌≤◌, ◌<◌, ◌+◌, ◌-◌, true, false, List, ◌∷◌, ◌++◌, length, arith, refl, sym, ◌∙◌, ap, subst, append_assoc}
+use Rattle.std.proofs.Common.{◌≡◌, ℕ, ◌≤◌, ◌<◌, ◌+◌, ◌-◌, true, false, List, ◌∷◌, ◌++◌, length, arith, refl, sym, ◌∙◌, ap, subst}
 use Rattle.std.specs.Prelude.{slice_index_or, nat_le}
 use Rattle.std.proofs.lemmas.Bool.Decides.{nat_tests}
 use Rattle.ca_term.specs.declared.bounds.TheConstants.{MOST_CODE_BYTES, MOST_DEPTH}
@@ -20,15 +20,11 @@ tuple_code row = refl
 
 -- The code of a tuple by those of its elements before its key, its key's and those behind it.
 tuple_parts : (r : Row) (t : Tree) (s : Row)
-    → code_of (Tuple (joined r (More t s))) ≡ 0x40 ∷ four_bytes (size r + 1 + size s) ++ row_code r ++ code_of t ++ row_code s
+    → code_of (Tuple (joined r (More t s))) ≡ 0x40 ∷ four_bytes (size r + 1 + size s) ++ (row_code r ++ (code_of t ++ row_code s))
 tuple_parts r t s =
     let many : size (joined r (More t s)) ≡ size r + 1 + size s = omega (arith, joined_size r (More t s)) in
     tuple_code (joined r (More t s)) ∙ ap (λ (n : ℕ). 0x40 ∷ four_bytes n ++ row_code (joined r (More t s))) many
     ∙ ap (λ (x : List ℕ). 0x40 ∷ four_bytes (size r + 1 + size s) ++ x) (around_code r t s)
-    ∙ sym (append_assoc front (row_code r) (code_of t ++ row_code s)) ∙ sym (append_assoc (front ++ row_code r) (code_of t) (row_code s))
-  where
-    front : List ℕ
-    front = 0x40 ∷ four_bytes (size r + 1 + size s)
 
 key_at : (p : ℕ) (r : Row) (t : Tree) (s : Row) → size r ≡ p - 1 → key_of p (Tuple (joined r (More t s))) ≡ t
 key_at p r t s e = ap (λ (n : ℕ). slice_index_or (elements (joined r (More t s))) n Nil) (sym e) ∙ element_at r t s
@@ -53,7 +49,7 @@ pair_of_row p row positive b e =
       place = omega (arith, s.many);
       narrow = omega (arith, b.narrow.0, ap size s.row_is, joined_size s.before (More s.element s.behind));
       bytes = bytes
-          ∙ ap (λ (x : List ℕ). 0x40 ∷ four_bytes (size s.before + 1 + size s.behind) ++ row_code s.before ++ x ++ row_code s.behind) (sym code);
+          ∙ ap (λ (x : List ℕ). 0x40 ∷ four_bytes (size s.before + 1 + size s.behind) ++ (row_code s.before ++ (x ++ row_code s.behind))) (sym code);
       are_before = codes_within s.before (MOST_DEPTH - 1) (omega (arith, joined_depth s.before (More s.element s.behind))) parts.0;
       is_key = subst (λ (x : List ℕ). IsCodeWithin (MOST_DEPTH - 1) x) (sym code)
           (code_within s.element (MOST_DEPTH - 1) (omega (arith, joined_depth s.before (More s.element s.behind))) parts.1.0);
@@ -82,10 +78,10 @@ object_of_pair p pair h =
     let numbers : size r.row + 1 + size s.row ≡ h.before + 1 + h.behind = omega (arith, r.many, s.many) in
     let code : code_of (Tuple row) ≡ pair.1 =
     tuple_parts r.row t.term s.row
-    ∙ ap (λ (n : ℕ). 0x40 ∷ four_bytes n ++ row_code r.row ++ code_of t.term ++ row_code s.row) numbers
-    ∙ ap (λ (x : List ℕ). 0x40 ∷ four_bytes (h.before + 1 + h.behind) ++ x ++ code_of t.term ++ row_code s.row) (sym r.code_is)
-    ∙ ap (λ (x : List ℕ). 0x40 ∷ four_bytes (h.before + 1 + h.behind) ++ h.codes_before ++ x ++ row_code s.row) (sym t.code_is)
-    ∙ ap (λ (x : List ℕ). 0x40 ∷ four_bytes (h.before + 1 + h.behind) ++ h.codes_before ++ pair.0 ++ x) (sym s.code_is)
+    ∙ ap (λ (n : ℕ). 0x40 ∷ four_bytes n ++ (row_code r.row ++ (code_of t.term ++ row_code s.row))) numbers
+    ∙ ap (λ (x : List ℕ). 0x40 ∷ four_bytes (h.before + 1 + h.behind) ++ (x ++ (code_of t.term ++ row_code s.row))) (sym r.code_is)
+    ∙ ap (λ (x : List ℕ). 0x40 ∷ four_bytes (h.before + 1 + h.behind) ++ (h.codes_before ++ (x ++ row_code s.row))) (sym t.code_is)
+    ∙ ap (λ (x : List ℕ). 0x40 ∷ four_bytes (h.before + 1 + h.behind) ++ (h.codes_before ++ (pair.0 ++ x))) (sym s.code_is)
     ∙ sym h.bytes in
     record {
       object = Tuple row;
