@@ -10,11 +10,13 @@ use Rattle.ca_model.specs.StoreMap.{StoreMap}
 use Rattle.ca_model.specs.History.{Edit, History, state}
 use Rattle.ca_model.specs.Event.{Entry}
 use Rattle.ca_merge.specs.Stands.{Stands}
-use Rattle.ca_merge.specs.Places.{Turn, Waiting, with_turns, is_ready, is_ready_by, is_free, is_free_by, front, behind, by_client, fronts, behind_fronts, update_of, behind_update, turns_from, turns_by_place}
+use Rattle.ca_merge.specs.Places.{Moment, AtStart, AtUpdate, AtReads, turns_at, all_turns_at, moments_from, turns_through, Turn, by_client}
 use Rattle.ca_merge.proofs.Runs.{Runs, runs_same, one_more, same_number, flipped}
-use Rattle.ca_merge.proofs.Waits.{Waits, Taken, Stopped, behind_stopped, turns_at, turns_twice, pull}
-use Rattle.ca_merge.proofs.NextUpdates.{is_update, waits_on, none_left}
+use Rattle.ca_merge.proofs.Waits.{Waits, Taken, Stopped, behind_stopped, given_turns, turns_twice, pull}
+use Rattle.ca_merge.proofs.NextUpdates.{NextUpdate, is_update, waits_on, none_left}
 use Rattle.ca_merge.proofs.TakenUpdates.{take_update}
+use Rattle.ca_merge.proofs.Moments.{IsDue, IsLater, later_due, due_later, start_front, start_behind, reads_front, reads_behind, ready_held, no_update, update_front, update_behind, same_fronts, only_client}
+use Rattle.ca_merge.proofs.Fronts.{Waiting, with_turns, is_ready, is_ready_by, is_free, is_free_by, front, behind, fronts, behind_fronts, update_of, behind_update}
 
 free_ready : (q : ℕ) (x : Turn) → is_free x ≡ true → is_ready q x ≡ true
 free_ready q x e = by x.event e
@@ -104,115 +106,204 @@ module _ (p : ℕ) (history : History) (clients : ℕ) where
         begin : Given ws ws 1
         begin = record { done = first; still = λ i h. refl }
 
-  -- what is to be shown of the turns from a place on
-  abbrev RunsOn : History → ℕ → Type 0
-  RunsOn steps q = (t : List Tree) (ks : ℕ → Continuation) (ws : Waiting) → NoneElse ws → Stands p (state history q) t → AllWait q steps ks ws
-      → Runs p (state history (length history)) t ks ws (turns_from clients q steps ws)
+  -- the turns of the moments that are due are among those that are still to come
+  record Rest (due : Moment → Type 0) (full ws : Waiting) : Type 0 where
+    same : (i : ℕ) (here : Moment) → due here → turns_at here AtStart (full i) ≡ turns_at here AtStart (ws i)
+    held : (i : ℕ) → Stopped is_free (ws i)
 
-  -- the update that makes the next edit, with the turns behind it that made no call of the store
-  update_runs : (before : History) (j : ℕ) (edit : Edit) (steps : History) → history ≡ before ++ (j, edit) ∷ steps → RunsOn steps (suc (length before)) →
-      (u : List Tree) (ls : ℕ → Continuation) (zs : Waiting) → NoneElse zs → ((i : ℕ) → Stopped (is_ready (length before)) (zs i)) →
-      Stands p (state history (length before)) u → AllWait (length before) ((j, edit) ∷ steps) ls zs →
-      Runs p (state history (length history)) u ls zs
-      (by_client j (update_of (zs j)) ++ turns_from clients (suc (length before)) steps (with_turns zs j (behind_update (zs j))))
-  update_runs before j edit steps e rec u ls zs none stop st w =
-      let up = is_update p history q j edit steps (ls j) (zs j) (w j) (stop j) in
-      let taken = take_update p history before j edit steps e (ls j) u (zs j) up st (w j) in
-      subst (λ (s : List Turn). Runs p end u ls zs (by_client j (update_of s) ++ turns_from clients (suc q) steps (with_turns zs j (behind_update s))))
-      (sym up.is) (updated up.turn up.others up.is taken)
-    where
-      q : ℕ
-      q = length before
+  module _ (full : Waiting) where
+    -- what is to be shown of the moments from a place on
+    abbrev RunsOn : History → ℕ → Type 0
+    RunsOn steps q = (t : List Tree) (ks : ℕ → Continuation) (ws : Waiting) → NoneElse ws → Rest (IsDue q) full ws → Stands p (state history q) t
+        → AllWait q steps ks ws
+        → Runs p (state history (length history)) t ks ws (turns_through (moments_from q (length steps)) clients full)
 
-      end : StoreMap
-      end = state history (length history)
+    -- the update that makes the next edit, with the turns behind it that made no call of the store
+    update_runs : (before : History) (j : ℕ) (edit : Edit) (steps : History) → history ≡ before ++ (j, edit) ∷ steps → RunsOn steps (suc (length before)) →
+        (u : List Tree) (ls : ℕ → Continuation) (zs : Waiting) → NoneElse zs → ((i : ℕ) → Stopped (is_ready (length before)) (zs i)) →
+        Rest (IsLater (length before)) full zs →
+        Stands p (state history (length before)) u → AllWait (length before) ((j, edit) ∷ steps) ls zs →
+        Runs p (state history (length history)) u ls zs
+        (all_turns_at (AtUpdate (suc (length before))) clients 1 full ++ turns_through (moments_from (suc (length before)) (length steps)) clients full)
+    update_runs before j edit steps e rec u ls zs none stop rest st w =
+        subst (λ (turns : List (ℕ × Turn)). Runs p end u ls zs (turns ++ more)) (sym all_updates)
+        (subst (λ (s : List Turn). Runs p end u ls zs (by_client j (update_of s) ++ more)) (sym up.is) (updated up.turn up.others up.is taken left_rest))
+      where
+        q : ℕ
+        q = length before
 
-      updated : (x : Turn) (xs : List Turn) → zs j ≡ x ∷ xs → Taken p history (suc q) steps j (ls j) u x xs →
-          Runs p end u ls zs ((j, x) ∷ (by_client j (front is_free xs) ++ turns_from clients (suc q) steps (with_turns zs j (behind is_free xs))))
-      updated x xs is taken =
-          let l = taken.continuation in
-          let own_l : with_continuation ls j l j ≡ l = (rw (itself j) refl) in
-          let rest = behind is_free xs in
-          let turns = turns_from clients (suc q) steps (with_turns zs j rest) in
-          one_more p end u taken.table ls zs j x xs l (by_client j (front is_free xs) ++ turns) is taken.steps
-          (pull p history (suc q) steps j end is_free (free_ready (suc q)) xs taken.table (with_continuation ls j l) (with_turns zs j xs) turns
-          (turns_at zs j xs) taken.stands (subst (λ (m : Continuation). Waits p history (suc q) steps j m xs) (sym own_l) taken.waits)
-          (λ v ms same st2 w2. runs_same p end v ms (with_turns zs j rest) (with_turns (with_turns zs j xs) j rest) turns
-          (λ n. sym (turns_twice zs j xs rest n)) (rec v ms (with_turns zs j rest) (left rest) st2 (waiting l v ms same rest w2))))
-        where
-          waiting : (l : Continuation) (v : List Tree) (ms : ℕ → Continuation) → ((i : ℕ) → (i == j) ≡ false → ms i ≡ with_continuation ls j l i)
-              → (rest : List Turn) → Waits p history (suc q) steps j (ms j) rest → AllWait (suc q) steps ms (with_turns zs j rest)
-          waiting l v ms same rest w2 i = by (i == j) refl
-            where
-              by : (b : Bool) → (i == j) ≡ b → Waits p history (suc q) steps i (ms i) (if b then rest else zs i)
-              by true at = let here : i ≡ j = same_number i j at in subst (λ (k : ℕ). Waits p history (suc q) steps k (ms k) rest) (sym here) w2
-              by false at =
-                  let kept : ms i ≡ ls i = same i at ∙ (rw at refl) in
-                  subst (λ (k : Continuation). Waits p history (suc q) steps i k (zs i)) (sym kept)
-                  (waits_on p history q i j edit steps (ls i) (zs i) (flipped i j false at) (w i) (stop i))
+        end : StoreMap
+        end = state history (length history)
 
-          -- the client that makes the update is one of the clients
-          left : (rest : List Turn) → NoneElse (with_turns zs j rest)
-          left rest = record { before = by 0 (0 == j) refl none.before; past = λ i h. by i (i == j) refl (none.past i h) }
-            where
-              by : (i : ℕ) → (b : Bool) → (i == j) ≡ b → zs i ≡ [] → (if b then rest else zs i) ≡ []
-              by i true at nothing =
-                  let here : i ≡ j = same_number i j at in
-                  let no : x ∷ xs ≡ [] = sym is ∙ ap zs (sym here) ∙ nothing in cc
-              by i false at nothing = nothing
+        more : List (ℕ × Turn)
+        more = turns_through (moments_from (suc q) (length steps)) clients full
 
-  from_places : (steps before : History) → history ≡ before ++ steps → RunsOn steps (length before)
-  from_places [] before e t ks ws none st w =
-      subst (λ (turns : List (ℕ × Turn)). Runs p end t ks ws turns) (append-nil (fronts (is_ready q) clients 1 ws))
-      (all_fronts q [] end (is_ready q) (λ x h. h) t ks ws [] none st w last)
-    where
-      q : ℕ
-      q = length before
+        up : NextUpdate q edit (zs j)
+        up = is_update p history q j edit steps (ls j) (zs j) (w j) (stop j)
 
-      end : StoreMap
-      end = state history (length history)
+        taken : Taken p history (suc q) steps j (ls j) u up.turn up.others
+        taken = take_update p history before j edit steps e (ls j) u (zs j) up st (w j)
 
-      ends : length before ≡ length history
-      ends = sym (ap length e ∙ ap length (append-nil before))
+        others_wait : (i : ℕ) → (i == j) ≡ false → Waits p history (suc q) steps i (ls i) (zs i)
+        others_wait i at = waits_on p history q i j edit steps (ls i) (zs i) (flipped i j false at) (w i) (stop i)
 
-      last : (u : List Tree) (ls : ℕ → Continuation) → Stands p (state history q) u → AllWait q [] ls (behind_fronts (is_ready q) ws)
-          → Runs p end u ls (behind_fronts (is_ready q) ws) []
-      last u ls st' w' =
-          let empty : (i : ℕ) → behind (is_ready q) (ws i) ≡ [] =
-          λ i. none_left p history i (ls i) (behind (is_ready q) (ws i))
-          (subst (λ (n : ℕ). Waits p history n [] i (ls i) (behind (is_ready q) (ws i))) ends (w' i))
-          (subst (λ (n : ℕ). Stopped (is_ready n) (behind (is_ready q) (ws i))) ends (behind_stopped (is_ready q) (ws i))) in
-          record {
-            commands = λ i. sym (ap (map (λ (x : Turn). x.command)) (empty i));
-            responses = λ i. sym (ap (map (λ (x : Turn). x.response)) (empty i));
-            table = subst (λ (n : ℕ). Stands p (state history n) u) ends st';
-          }
-  from_places ((j, edit) ∷ steps) before e t ks ws none st w =
-      let rec : RunsOn steps (length (before ++ (j, edit) ∷ [])) = from_places steps (before ++ (j, edit) ∷ []) longer in
-      let update = by_client j (update_of (left j)) in
-      let others = turns_from clients (suc q) steps (with_turns left j (behind_update (left j))) in
-      subst (λ (turns : List (ℕ × Turn)). Runs p (state history (length history)) t ks ws turns)
-      (sym (append_assoc (fronts (is_ready q) clients 1 ws) update others))
-      (all_fronts q ((j, edit) ∷ steps) (state history (length history)) (is_ready q) (λ x h. h) t ks ws (update ++ others) none st w
-      (λ u ls st' w'. update_runs before j edit steps e (subst (λ (n : ℕ). RunsOn steps n) more rec) u ls left (none_behind (is_ready q) ws none)
-      (λ i. behind_stopped (is_ready q) (ws i)) st' w'))
-    where
-      q : ℕ
-      q = length before
+        update_due : IsLater q (AtUpdate (suc q))
+        update_due = omega arith
 
-      left : Waiting
-      left = behind_fronts (is_ready q) ws
+        -- the client that makes the update is one of the clients
+        owner : (1 ≤ j) × (j ≤ clients)
+        owner = by (nat_le 1 j) refl (nat_le j clients) refl
+          where
+            no_turn : zs j ≡ [] → ⊥
+            no_turn nothing = let wrong : up.turn ∷ up.others ≡ [] = sym up.is ∙ nothing in cc
 
-      longer : history ≡ (before ++ (j, edit) ∷ []) ++ steps
-      longer = e ∙ sym (append_assoc before ((j, edit) ∷ []) steps)
+            by : (b : Bool) → nat_le 1 j ≡ b → (c : Bool) → nat_le j clients ≡ c → (1 ≤ j) × (j ≤ clients)
+            by true low true high = (grind (arith, nat_tests), grind (arith, nat_tests))
+            by false low c high =
+                let zero_is : j ≡ 0 = (let less : j < 1 = grind (arith, nat_tests) in omega arith) in
+                absurd (no_turn (ap zs zero_is ∙ none.before))
+            by true low false high = let past : clients < j = grind (arith, nat_tests) in absurd (no_turn (none.past j past))
 
-      more : length (before ++ (j, edit) ∷ []) ≡ suc q
-      more = length-append before ((j, edit) ∷ []) ∙ add-one (length before)
+        all_updates : all_turns_at (AtUpdate (suc q)) clients 1 full ≡ by_client j (update_of (zs j))
+        all_updates =
+            only_client (AtUpdate (suc q)) full j
+            (λ i at. rest.same i (AtUpdate (suc q)) update_due ∙ no_update q (zs i) (others_wait i at).places) clients 1 owner.0 (omega (arith, owner.1))
+            ∙ ap (by_client j) (rest.same j (AtUpdate (suc q)) update_due ∙ update_front q edit (zs j) up taken.waits.places)
+
+        left_rest : Rest (IsDue (suc q)) full (with_turns zs j (behind is_free up.others))
+        left_rest = record { same = λ i here due. by i here due (i == j) refl; held = λ i. held i (i == j) refl }
+          where
+            behind_is : behind_update (zs j) ≡ behind is_free up.others
+            behind_is = ap behind_update up.is
+
+            by : (i : ℕ) (here : Moment) → IsDue (suc q) here → (b : Bool) → (i == j) ≡ b
+                → turns_at here AtStart (full i) ≡ turns_at here AtStart (if b then behind is_free up.others else zs i)
+            by i here due true at =
+                let same : i ≡ j = same_number i j at in
+                ap (λ (n : ℕ). turns_at here AtStart (full n)) same ∙ rest.same j here (due_later q here due) ∙ update_behind q edit (zs j) up here due
+                ∙ ap (turns_at here AtStart) behind_is
+            by i here due false at = rest.same i here (due_later q here due)
+
+            held : (i : ℕ) → (b : Bool) → (i == j) ≡ b → Stopped is_free (if b then behind is_free up.others else zs i)
+            held i true at = behind_stopped is_free up.others
+            held i false at = rest.held i
+
+        updated : (x : Turn) (xs : List Turn) → zs j ≡ x ∷ xs → Taken p history (suc q) steps j (ls j) u x xs →
+            Rest (IsDue (suc q)) full (with_turns zs j (behind is_free xs)) →
+            Runs p end u ls zs ((j, x) ∷ (by_client j (front is_free xs) ++ more))
+        updated x xs is taken rest' =
+            let l = taken.continuation in
+            let own_l : with_continuation ls j l j ≡ l = (rw (itself j) refl) in
+            let rest = behind is_free xs in
+            one_more p end u taken.table ls zs j x xs l (by_client j (front is_free xs) ++ more) is taken.steps
+            (pull p history (suc q) steps j end is_free (free_ready (suc q)) xs taken.table (with_continuation ls j l) (with_turns zs j xs) more
+            (given_turns zs j xs) taken.stands (subst (λ (m : Continuation). Waits p history (suc q) steps j m xs) (sym own_l) taken.waits)
+            (λ v ms same st2 w2. runs_same p end v ms (with_turns zs j rest) (with_turns (with_turns zs j xs) j rest) more
+            (λ n. sym (turns_twice zs j xs rest n)) (rec v ms (with_turns zs j rest) (left rest) rest' st2 (waiting l v ms same rest w2))))
+          where
+            waiting : (l : Continuation) (v : List Tree) (ms : ℕ → Continuation) → ((i : ℕ) → (i == j) ≡ false → ms i ≡ with_continuation ls j l i)
+                → (rest : List Turn) → Waits p history (suc q) steps j (ms j) rest → AllWait (suc q) steps ms (with_turns zs j rest)
+            waiting l v ms same rest w2 i = by (i == j) refl
+              where
+                by : (b : Bool) → (i == j) ≡ b → Waits p history (suc q) steps i (ms i) (if b then rest else zs i)
+                by true at = let here : i ≡ j = same_number i j at in subst (λ (k : ℕ). Waits p history (suc q) steps k (ms k) rest) (sym here) w2
+                by false at =
+                    let kept : ms i ≡ ls i = same i at ∙ (rw at refl) in
+                    subst (λ (k : Continuation). Waits p history (suc q) steps i k (zs i)) (sym kept) (others_wait i at)
+
+            left : (rest : List Turn) → NoneElse (with_turns zs j rest)
+            left rest = record { before = by 0 (0 == j) refl none.before; past = λ i h. by i (i == j) refl (none.past i h) }
+              where
+                by : (i : ℕ) → (b : Bool) → (i == j) ≡ b → zs i ≡ [] → (if b then rest else zs i) ≡ []
+                by i true at nothing =
+                    let here : i ≡ j = same_number i j at in
+                    let no : x ∷ xs ≡ [] = sym is ∙ ap zs (sym here) ∙ nothing in cc
+                by i false at nothing = nothing
+
+    from_places : (steps before : History) → history ≡ before ++ steps → RunsOn steps (length before)
+    from_places [] before e t ks ws none rest st w =
+        subst (λ (turns : List (ℕ × Turn)). Runs p end t ks ws (turns ++ [])) (sym (same_fronts (AtReads q) (is_ready q) full ws reads clients 1))
+        (all_fronts q [] end (is_ready q) (λ x h. h) t ks ws [] none st w last)
+      where
+        q : ℕ
+        q = length before
+
+        end : StoreMap
+        end = state history (length history)
+
+        due : IsDue q (AtReads q)
+        due = omega arith
+
+        reads : (i : ℕ) → turns_at (AtReads q) AtStart (full i) ≡ front (is_ready q) (ws i)
+        reads i = rest.same i (AtReads q) due ∙ reads_front q (ws i) (rest.held i) (w i).places
+
+        ends : length before ≡ length history
+        ends = sym (ap length e ∙ ap length (append-nil before))
+
+        last : (u : List Tree) (ls : ℕ → Continuation) → Stands p (state history q) u → AllWait q [] ls (behind_fronts (is_ready q) ws)
+            → Runs p end u ls (behind_fronts (is_ready q) ws) []
+        last u ls st' w' =
+            let empty : (i : ℕ) → behind (is_ready q) (ws i) ≡ [] =
+            λ i. none_left p history i (ls i) (behind (is_ready q) (ws i))
+            (subst (λ (n : ℕ). Waits p history n [] i (ls i) (behind (is_ready q) (ws i))) ends (w' i))
+            (subst (λ (n : ℕ). Stopped (is_ready n) (behind (is_ready q) (ws i))) ends (behind_stopped (is_ready q) (ws i))) in
+            record {
+              commands = λ i. sym (ap (map (λ (x : Turn). x.command)) (empty i));
+              responses = λ i. sym (ap (map (λ (x : Turn). x.response)) (empty i));
+              table = subst (λ (n : ℕ). Stands p (state history n) u) ends st';
+            }
+    from_places ((j, edit) ∷ steps) before e t ks ws none rest st w =
+        let rec : RunsOn steps (length (before ++ (j, edit) ∷ [])) = from_places steps (before ++ (j, edit) ∷ []) longer in
+        subst (λ (turns : List (ℕ × Turn)). Runs p end t ks ws (turns ++ others)) (sym (same_fronts (AtReads q) (is_ready q) full ws reads clients 1))
+        (all_fronts q ((j, edit) ∷ steps) end (is_ready q) (λ x h. h) t ks ws others none st w
+        (λ u ls st' w'. update_runs before j edit steps e (subst (λ (n : ℕ). RunsOn steps n) more rec) u ls (behind_fronts (is_ready q) ws)
+        (none_behind (is_ready q) ws none) (λ i. behind_stopped (is_ready q) (ws i)) later st' w'))
+      where
+        q : ℕ
+        q = length before
+
+        end : StoreMap
+        end = state history (length history)
+
+        others : List (ℕ × Turn)
+        others = all_turns_at (AtUpdate (suc q)) clients 1 full ++ turns_through (moments_from (suc q) (length steps)) clients full
+
+        due : IsDue q (AtReads q)
+        due = omega arith
+
+        reads : (i : ℕ) → turns_at (AtReads q) AtStart (full i) ≡ front (is_ready q) (ws i)
+        reads i = rest.same i (AtReads q) due ∙ reads_front q (ws i) (rest.held i) (w i).places
+
+        later : Rest (IsLater q) full (behind_fronts (is_ready q) ws)
+        later = record {
+          same = λ i here h. rest.same i here (later_due q here h) ∙ reads_behind q here h (ws i) (rest.held i) (w i).places;
+          held = λ i. ready_held q (ws i);
+        }
+
+        longer : history ≡ (before ++ (j, edit) ∷ []) ++ steps
+        longer = e ∙ sym (append_assoc before ((j, edit) ∷ []) steps)
+
+        more : length (before ++ (j, edit) ∷ []) ≡ suc q
+        more = length-append before ((j, edit) ∷ []) ∙ add-one (length before)
 
   -- The merge of all turns runs as they were answered, and ends with the table that the history's last state stands for.
   pub merge_runs : (t : List Tree) (ks : ℕ → Continuation) (ws : Waiting) → ws 0 ≡ [] → ((i : ℕ) → clients < i → ws i ≡ []) → Stands p [] t
-      → ((i : ℕ) → Waits p history 0 history i (ks i) (ws i)) → Runs p (state history (length history)) t ks ws (turns_by_place clients history ws)
+      → ((i : ℕ) → Waits p history 0 history i (ks i) (ws i))
+      → Runs p (state history (length history)) t ks ws (turns_through (AtStart ∷ moments_from 0 (length history)) clients ws)
   merge_runs t ks ws before past st w =
-      let none : NoneElse ws = record { before = before; past = past } in
-      all_fronts 0 history (state history (length history)) is_free (free_ready 0) t ks ws (turns_from clients 0 history (behind_fronts is_free ws)) none st w
-      (λ u ls st' w'. from_places history [] refl u ls (behind_fronts is_free ws) (none_behind is_free ws none) st' w')
+      subst (λ (turns : List (ℕ × Turn)). Runs p end t ks ws (turns ++ others))
+      (sym (same_fronts AtStart is_free ws ws (λ i. start_front (ws i) (w i).places) clients 1))
+      (all_fronts 0 history end is_free (free_ready 0) t ks ws others none st w
+      (λ u ls st' w'. from_places ws history [] refl u ls (behind_fronts is_free ws) (none_behind is_free ws none) begin st' w'))
+    where
+      end : StoreMap
+      end = state history (length history)
+
+      others : List (ℕ × Turn)
+      others = turns_through (moments_from 0 (length history)) clients ws
+
+      none : NoneElse ws
+      none = record { before = before; past = past }
+
+      begin : Rest (IsDue 0) ws (behind_fronts is_free ws)
+      begin = record { same = λ i here due. start_behind here due (ws i); held = λ i. behind_stopped is_free (ws i) }

@@ -5,8 +5,10 @@ pub mod Carrying
 pub mod Explains
 pub mod Filters
 pub mod Founds
+pub mod Fronts
 pub mod Keys
 pub mod Learning
+pub mod Moments
 pub mod NextUpdates
 pub mod Pairs
 pub mod Runs

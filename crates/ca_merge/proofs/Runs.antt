@@ -8,8 +8,9 @@ use Rattle.ca_ets.specs.Merge.{Run, items_of, run_from, with_continuation}
 use Rattle.ca_model.specs.StoreMap.{StoreMap}
 use Rattle.ca_merge.specs.Stands.{Stands}
 use Rattle.ca_merge.specs.Carries.{Gives}
-use Rattle.ca_merge.specs.Places.{Turn, Waiting, with_turns}
+use Rattle.ca_merge.specs.Places.{Turn}
 use Rattle.ca_merge.specs.Explaining.{commands_of}
+use Rattle.ca_merge.proofs.Fronts.{Waiting, with_turns}
 
 -- Numbers that are found equal are equal.
 pub same_number : (m n : ℕ) → (m == n) ≡ true → m ≡ n

@@ -14,9 +14,10 @@ use Rattle.ca_model.specs.Lawful.{AreEntries, PlacesRise}
 use Rattle.ca_merge.specs.Stands.{Stands}
 use Rattle.ca_merge.specs.Carries.{IsCarried, Gives}
 use Rattle.ca_merge.specs.Clients.{from_event}
-use Rattle.ca_merge.specs.Places.{Turn, Waiting, with_turns, is_ready, is_ready_by, is_read_by, front, behind, by_client}
+use Rattle.ca_merge.specs.Places.{Turn, by_client}
 use Rattle.ca_merge.proofs.Updates.{updates, numbered}
 use Rattle.ca_merge.proofs.Runs.{Runs, runs_same, one_more, same_number}
+use Rattle.ca_merge.proofs.Fronts.{Waiting, with_turns, is_ready, is_ready_by, is_read_by, front, behind}
 
 -- the log's entries of turns
 abbrev pub entries_of : List Turn → List Entry
@@ -50,8 +51,8 @@ behind_stopped test (x ∷ xs) = by (test x) refl (behind_stopped test xs)
     by false e rest = e
 
 -- The client has the turns that it was given.
-pub turns_at : (ws : Waiting) (j : ℕ) (s : List Turn) → with_turns ws j s j ≡ s
-turns_at ws j s = rw (itself j) refl
+pub given_turns : (ws : Waiting) (j : ℕ) (s : List Turn) → with_turns ws j s j ≡ s
+given_turns ws j s = rw (itself j) refl
 
 -- A client that is given its own turns changes nothing.
 pub turns_same : (ws : Waiting) (j : ℕ) (s : List Turn) → ws j ≡ s → (i : ℕ) → with_turns ws j s i ≡ ws i
@@ -144,7 +145,7 @@ module _ (p : ℕ) (history : History) (q : ℕ) (others : History) (i : ℕ) wh
           let own_l : with_continuation ks i l i ≡ l = (rw (itself i) refl) in
           let rest = behind test xs in
           one_more p end t taken.table ks ws i x xs l (by_client i (front test xs) ++ turns) e taken.steps
-          (rec taken.table (with_continuation ks i l) (with_turns ws i xs) (turns_at ws i xs) taken.stands
+          (rec taken.table (with_continuation ks i l) (with_turns ws i xs) (given_turns ws i xs) taken.stands
           (subst (λ (m : Continuation). Waits p history q others i m xs) (sym own_l) taken.waits)
           (λ u ls same st' w'. runs_same p end u ls (with_turns ws i rest) (with_turns (with_turns ws i xs) i rest) turns
           (λ n. sym (turns_twice ws i xs rest n)) (go u ls (λ n o. same n o ∙ (rw o refl)) st' w')))

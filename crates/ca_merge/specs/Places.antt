@@ -1,7 +1,7 @@
 -- The merge of several clients' commands by the places of their events in one history. Clients count from 1.
-use Rattle.std.specs.Prelude.{ℕ, zero, suc, ◌==◌, Bool, true, false, nat_le, List, [], ◌∷◌, ◌++◌, map, Option, None, Some, Ok, Err, if◌then◌else◌}
+use Rattle.std.specs.Prelude.{ℕ, zero, suc, ◌==◌, Bool, true, false, List, [], ◌∷◌, ◌++◌, map, Option, None, Some, Ok, Err, if◌then◌else◌}
 use Rattle.ca_ets.specs.Command.{Command, Response, Answer}
-use Rattle.ca_model.specs.History.{Edit, History}
+use Rattle.ca_model.specs.History.{Edit}
 use Rattle.ca_model.specs.Event.{Entry, effect}
 use Rattle.ca_merge.specs.Clients.{Part}
 
@@ -18,78 +18,51 @@ turns_of (command ∷ commands) (Ok response ∷ answers) (part ∷ parts) =
 turns_of (command ∷ commands) (Err refusal ∷ answers) (part ∷ parts) = turns_of commands answers parts
 turns_of commands answers parts = []
 
--- whether a turn made no call of the store
-abbrev pub is_free_by : Option Entry → Bool
-is_free_by None = true
-is_free_by (Some entry) = false
+-- when a turn comes in the merge: before its client's first call of the store, with the update at a place, or with the reads at a place
+pub data Moment : Type 0 where
+  AtStart : Moment
+  AtUpdate : ℕ → Moment
+  AtReads : ℕ → Moment
 
-abbrev pub is_free : Turn → Bool
-is_free turn = is_free_by turn.event
+-- whether two moments are one
+abbrev pub is_same : Moment → Moment → Bool
+is_same AtStart AtStart = true
+is_same (AtUpdate p) (AtUpdate q) = p == q
+is_same (AtReads p) (AtReads q) = p == q
+is_same moment other = false
 
--- whether a call with these edits is a read at a place up to this one
-abbrev pub is_read_by : List Edit → ℕ → ℕ → Bool
-is_read_by [] place here = nat_le place here
-is_read_by (edit ∷ edits) place here = false
+-- when a call of the store with these edits comes
+abbrev pub moment_of : List Edit → ℕ → Moment
+moment_of [] place = AtReads place
+moment_of (edit ∷ edits) place = AtUpdate place
 
-abbrev pub is_ready_by : ℕ → Option Entry → Bool
-is_ready_by here None = true
-is_ready_by here (Some entry) = is_read_by (effect entry.0) entry.1 here
+-- when a turn comes behind one of its client's: with its own event, or else right behind that one
+abbrev pub moment_after : Moment → Option Entry → Moment
+moment_after last None = last
+moment_after last (Some entry) = moment_of (effect entry.0) entry.1
 
--- whether a turn made no call of the store, or read at a place up to this one
-abbrev pub is_ready : ℕ → Turn → Bool
-is_ready here turn = is_ready_by here turn.event
-
--- the turns at the front that pass a test
-abbrev pub front : (Turn → Bool) → List Turn → List Turn
-front test [] = []
-front test (turn ∷ turns) = if test turn then turn ∷ front test turns else []
-
--- the turns behind those
-abbrev pub behind : (Turn → Bool) → List Turn → List Turn
-behind test [] = []
-behind test (turn ∷ turns) = if test turn then behind test turns else turn ∷ turns
-
--- the first turn, an update, and those behind it that made no call of the store
-abbrev pub update_of : List Turn → List Turn
-update_of [] = []
-update_of (turn ∷ turns) = turn ∷ front is_free turns
-
--- the turns behind those
-abbrev pub behind_update : List Turn → List Turn
-behind_update [] = []
-behind_update (turn ∷ turns) = behind is_free turns
-
--- the turns of each client that are still to come
-abbrev pub Waiting : Type 0
-Waiting = ℕ → List Turn
+-- the turns of this moment, among those behind a turn of the moment `last`
+abbrev pub turns_at : Moment → Moment → List Turn → List Turn
+turns_at here last [] = []
+turns_at here last (turn ∷ turns) =
+    let moment = moment_after last turn.event in
+    if is_same moment here then turn ∷ turns_at here moment turns else turns_at here moment turns
 
 -- these turns, each with its client
 abbrev pub by_client : ℕ → List Turn → List (ℕ × Turn)
 by_client client turns = map (λ turn. (client, turn)) turns
 
--- client by client, so many from this one on, the turns at the front that pass a test
-abbrev pub fronts : (Turn → Bool) → ℕ → ℕ → Waiting → List (ℕ × Turn)
-fronts test zero client waiting = []
-fronts test (suc count) client waiting = by_client client (front test (waiting client)) ++ fronts test count (suc client) waiting
+-- client by client, so many from this one on, the turns of this moment
+abbrev pub all_turns_at : Moment → ℕ → ℕ → (ℕ → List Turn) → List (ℕ × Turn)
+all_turns_at here zero client turns = []
+all_turns_at here (suc count) client turns = by_client client (turns_at here AtStart (turns client)) ++ all_turns_at here count (suc client) turns
 
--- each client's turns behind those
-abbrev pub behind_fronts : (Turn → Bool) → Waiting → Waiting
-behind_fronts test waiting client = behind test (waiting client)
+-- the moments from a place on, where so many edits follow: the reads at it, the update at the next place, the reads at that one, and so on
+abbrev pub moments_from : ℕ → ℕ → List Moment
+moments_from place zero = AtReads place ∷ []
+moments_from place (suc edits) = AtReads place ∷ AtUpdate (suc place) ∷ moments_from (suc place) edits
 
--- the turns to come, with these for one client
-abbrev pub with_turns : Waiting → ℕ → List Turn → Waiting
-with_turns waiting client turns other = if other == client then turns else waiting other
-
--- from a place on: the reads up to it, client by client, then the update that makes the next edit, and so on from its place
-abbrev pub turns_from : ℕ → ℕ → History → Waiting → List (ℕ × Turn)
-turns_from clients place [] waiting = fronts (is_ready place) clients 1 waiting
-turns_from clients place (step ∷ steps) waiting =
-    let left = behind_fronts (is_ready place) waiting in
-    fronts (is_ready place) clients 1 waiting
-    ++ by_client step.0 (update_of (left step.0))
-    ++ turns_from clients (suc place) steps (with_turns left step.0 (behind_update (left step.0)))
-
--- first, client by client, what came before a client's first call of the store; then all else, from place 0 on
-abbrev pub turns_by_place : ℕ → History → Waiting → List (ℕ × Turn)
-turns_by_place clients history waiting =
-    fronts is_free clients 1 waiting ++ turns_from clients 0 history (behind_fronts is_free waiting)
+-- moment by moment, the turns of each moment
+abbrev pub turns_through : List Moment → ℕ → (ℕ → List Turn) → List (ℕ × Turn)
+turns_through [] clients turns = []
+turns_through (moment ∷ moments) clients turns = all_turns_at moment clients 1 turns ++ turns_through moments clients turns
