@@ -40,6 +40,10 @@ key_fits : fits (key 1) ≡ true
 unfolding code_of row_code int_code digits trim four_bytes
 key_fits = refl
 
+third_key_fits : fits (key 3) ≡ true
+unfolding code_of row_code int_code digits trim four_bytes
+third_key_fits = refl
+
 second_key_fits : fits (key 2) ≡ true
 unfolding code_of row_code int_code digits trim four_bytes
 second_key_fits = refl
@@ -59,6 +63,9 @@ finds_one = (get_stands 1 _ _ second_state (key 1) (key_term 1 (omega arith))).c
 finds_two : IsFound (state worked_history 2) (code_of (key 2)) (Some (code_of (object 2)))
 finds_two = (get_stands 1 _ _ second_state (key 2) (key_term 2 (omega arith))).codes
 
+finds_three : IsFound (state worked_history 3) (code_of (key 3)) (Some (code_of (object 3)))
+finds_three = (get_stands 1 _ _ third_state (key 3) (key_term 3 (omega arith))).codes
+
 no_call : IsFree 1 Never (Insert Nil) (Error BadArg) Never
 no_call = record { at = λ t h b. refl }
 
@@ -73,7 +80,8 @@ second_plays : Plays 1 Never worked_second.commands worked_second.answers worked
 second_plays =
     let one = insert_put 1 (object 2) (object_term 2 (omega arith)) refl two_fits Never in
     let two = lookup_found 1 (key 1) (key_term 1 (omega arith)) key_fits Never (object 1) (object_term 1 (omega arith)) in
-    (tt, (Never, one, (tt, (Never, two, ((refl, tt), refl, (tt, (Never, no_call, tt)))))))
+    let three = lookup_found 1 (key 3) (key_term 3 (omega arith)) third_key_fits Never (object 3) (object_term 3 (omega arith)) in
+    (tt, (Never, one, (tt, (Never, two, ((refl, tt), refl, (tt, (Never, no_call, (tt, (Never, three, tt)))))))))
 
 plays : (i : ℕ) → 1 ≤ i → i ≤ 2
     → Plays 1 Never (client_of worked_clients i).commands (client_of worked_clients i).answers (client_of worked_clients i).parts
@@ -90,8 +98,8 @@ lawful (suc zero) h k = record {
   edits = refl;
 }
 lawful (suc (suc zero)) h k = record {
-  entries = ((omega arith, omega arith, refl, tt), ((omega arith, finds_one), ((omega arith, finds_one), tt)));
-  places = (omega arith, (omega arith, (omega arith, tt)));
+  entries = ((omega arith, omega arith, refl, tt), ((omega arith, finds_one), ((omega arith, finds_one), ((omega arith, finds_three), tt))));
+  places = (omega arith, (omega arith, (omega arith, (omega arith, tt))));
   edits = refl;
 }
 lawful (suc (suc (suc n))) h k = absurd (omega arith)

@@ -60,6 +60,14 @@ pub record Overtaken (a b : Known) (key : List ℕ) : Type 0 where
   pub refrains : Refrains a b a.counts
   pub put : HasPut key refrains.learnt
 
+-- A store that is sure refuses nothing.
+abbrev pub SureIsNeverRefused : Type 0
+SureIsNeverRefused = (a b : Known) (counts : Counts) → a.sure ≡ true → Refused a b counts → ⊥
+
+-- A call over a store that nobody else edits is never overtaken.
+abbrev pub AloneIsNeverOvertaken : Type 0
+AloneIsNeverOvertaken = (a b : Known) (key : List ℕ) → a.alone ≡ true → Overtaken a b key → ⊥
+
 -- Over a store that nobody else edits a step is the one-thread step on the table that the known map stands for.
 abbrev pub AloneSteps : Type 0
 AloneSteps = (a b : Known) (continuation : Continuation) (command : Command) (response : Response) (next : Continuation) (table : List Tree) →

@@ -47,12 +47,12 @@ worked_first = record {
   parts = makes_no_call ∷ writes 1 1 ∷ finds 2 2 ∷ makes_no_call ∷ writes 3 3 ∷ [];
 }
 
--- `insert {2}` at 2; `lookup 1` at 2; `insert {4}`, which is refused; `insert []`
+-- `insert {2}` at 2; `lookup 1` at 2; `insert {4}`, which is refused; `insert []`; `lookup 3` at 3
 abbrev pub worked_second : Client
 worked_second = record {
-  commands = Insert (object 2) ∷ Lookup (key 1) ∷ Insert (object 4) ∷ Insert Nil ∷ [];
-  answers = Ok (Truth true) ∷ Ok (Items (object 1 ∷ [])) ∷ Err Full ∷ Ok (Error BadArg) ∷ [];
-  parts = writes 2 2 ∷ finds 1 2 ∷ is_refused 1 2 ∷ makes_no_call ∷ [];
+  commands = Insert (object 2) ∷ Lookup (key 1) ∷ Insert (object 4) ∷ Insert Nil ∷ Lookup (key 3) ∷ [];
+  answers = Ok (Truth true) ∷ Ok (Items (object 1 ∷ [])) ∷ Err Full ∷ Ok (Error BadArg) ∷ Ok (Items (object 3 ∷ [])) ∷ [];
+  parts = writes 2 2 ∷ finds 1 2 ∷ is_refused 1 2 ∷ makes_no_call ∷ finds 3 3 ∷ [];
 }
 
 abbrev pub worked_clients : List Client
@@ -72,4 +72,5 @@ IsWorkedMerge = merge_of worked_history worked_clients ≡
     ∷ (1, Lookup (key 2)) ∷ (1, Insert Nil)
     ∷ (2, Lookup (key 1)) ∷ (2, Insert Nil)
     ∷ (1, Insert (object 3))
+    ∷ (2, Lookup (key 3))
     ∷ []

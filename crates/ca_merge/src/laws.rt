@@ -1,7 +1,7 @@
 //! What follows from the definitions alone.
 ghost use Rattle.ca_merge.specs.Explaining.{LogsExplain};
 ghost use Rattle.ca_merge.specs.Pairs.{PairsAreObjects};
-ghost use Rattle.ca_merge.specs.Steps.{AloneSteps};
+ghost use Rattle.ca_merge.specs.Steps.{AloneSteps, AloneIsNeverOvertaken, SureIsNeverRefused};
 ghost use Rattle.ca_merge.specs.Worked.{HaveWorkedLogs, IsWorkedMerge};
 
 /// The pairs that a store map may hold are exactly those of objects that fit, each under the code of its key.
@@ -9,9 +9,12 @@ pub fn pairs_are_objects()
     ensures { PairsAreObjects }
 {}
 
-/// Over a store that nobody else edits each step of a table is the one-thread step on the table that the known map stands for.
+/// Over a store that nobody else edits each step of a table is the one-thread step on the table that the known map stands for, and no call is
+/// overtaken; a store that is sure refuses nothing.
 pub fn alone_steps()
-    ensures { AloneSteps }
+    ensures steps { AloneSteps }
+    ensures never_overtaken { AloneIsNeverOvertaken }
+    ensures never_refused { SureIsNeverRefused }
 {}
 
 /// Where several clients played as their logs tell and the logs are lawful for one history, one thread that runs their commands, merged by
