@@ -29,33 +29,38 @@ tuple_parts r t s =
 key_at : (p : ℕ) (r : Row) (t : Tree) (s : Row) → size r ≡ p - 1 → key_of p (Tuple (joined r (More t s))) ≡ t
 key_at p r t s e = ap (λ (n : ℕ). slice_index_or (elements (joined r (More t s))) n Nil) (sym e) ∙ element_at r t s
 
+pair_around : (p : ℕ) (row before : Row) (t : Tree) (behind : Row) → row ≡ joined before (More t behind) → size before ≡ p - 1 → 1 ≤ p
+    → IsTerm (Tuple row) → IsEntry p (Tuple row) → IsPair p (pair_of p (Tuple row))
+pair_around p row before t behind is many positive b e =
+    let deep = b.shallow in
+    let fitting = e.fitting in
+    let depths = joined_depth before (More t behind) in
+    let shallow : row_depth (joined before (More t behind)) ≤ MOST_DEPTH - 1 = omega (arith, deep, ap row_depth is) in
+    let parts = parts_narrow before (More t behind) (subst IsNarrowRow is b.narrow.1) in
+    let key : key_of p (Tuple row) ≡ t = ap (λ (r : Row). key_of p (Tuple r)) is ∙ key_at p before t behind many in
+    let code : code_of (key_of p (Tuple row)) ≡ code_of t = ap code_of key in
+    record {
+      before = size before;
+      behind = size behind;
+      codes_before = row_code before;
+      codes_behind = row_code behind;
+      place = omega (arith, many);
+      narrow = omega (arith, b.narrow.0, ap size is, joined_size before (More t behind));
+      bytes = ap (λ (r : Row). code_of (Tuple r)) is ∙ tuple_parts before t behind
+          ∙ ap (λ (x : List ℕ). 0x40 ∷ four_bytes (size before + 1 + size behind) ++ (row_code before ++ (x ++ row_code behind))) (sym code);
+      are_before = codes_within before (MOST_DEPTH - 1) (omega (arith, depths, shallow)) parts.0;
+      is_key = subst (λ (x : List ℕ). IsCodeWithin (MOST_DEPTH - 1) x) (sym code)
+          (code_within t (MOST_DEPTH - 1) (omega (arith, depths, shallow)) parts.1.0);
+      are_behind = codes_within behind (MOST_DEPTH - 1) (omega (arith, depths, shallow)) parts.1.1;
+      short = grind (arith, nat_tests);
+    }
+
 pair_of_row : (p : ℕ) (row : Row) → 1 ≤ p → IsTerm (Tuple row) → IsEntry p (Tuple row) → IsPair p (pair_of p (Tuple row))
 pair_of_row p row positive b e =
     let many = e.object in
     let inside : p - 1 < size row = grind (arith, nat_tests) in
     let s = split row (p - 1) inside in
-    let whole = joined s.before (More s.element s.behind) in
-    let deep = b.shallow in
-    let depths : row_depth whole ≤ MOST_DEPTH - 1 = omega (arith, deep, ap row_depth s.row_is) in
-    let parts = parts_narrow s.before (More s.element s.behind) (subst IsNarrowRow s.row_is b.narrow.1) in
-    let key : key_of p (Tuple row) ≡ s.element = ap (λ (r : Row). key_of p (Tuple r)) s.row_is ∙ key_at p s.before s.element s.behind s.many in
-    let code : code_of (key_of p (Tuple row)) ≡ code_of s.element = ap code_of key in
-    let bytes = ap (λ (r : Row). code_of (Tuple r)) s.row_is ∙ tuple_parts s.before s.element s.behind in
-    record {
-      before = size s.before;
-      behind = size s.behind;
-      codes_before = row_code s.before;
-      codes_behind = row_code s.behind;
-      place = omega (arith, s.many);
-      narrow = omega (arith, b.narrow.0, ap size s.row_is, joined_size s.before (More s.element s.behind));
-      bytes = bytes
-          ∙ ap (λ (x : List ℕ). 0x40 ∷ four_bytes (size s.before + 1 + size s.behind) ++ (row_code s.before ++ (x ++ row_code s.behind))) (sym code);
-      are_before = codes_within s.before (MOST_DEPTH - 1) (omega (arith, joined_depth s.before (More s.element s.behind))) parts.0;
-      is_key = subst (λ (x : List ℕ). IsCodeWithin (MOST_DEPTH - 1) x) (sym code)
-          (code_within s.element (MOST_DEPTH - 1) (omega (arith, joined_depth s.before (More s.element s.behind))) parts.1.0);
-      are_behind = codes_within s.behind (MOST_DEPTH - 1) (omega (arith, joined_depth s.before (More s.element s.behind))) parts.1.1;
-      short = let fitting = e.fitting in grind (arith, nat_tests);
-    }
+    pair_around p row s.before s.element s.behind s.row_is s.many positive b e
 
 -- An object that fits and its key make a pair of a store map.
 pub pair_of_object : (p : ℕ) (o : Tree) → 1 ≤ p → IsTerm o → IsEntry p o → IsPair p (pair_of p o)
