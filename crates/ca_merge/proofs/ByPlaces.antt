@@ -220,9 +220,20 @@ module _ (p : ℕ) (history : History) (clients : ℕ) where
                     let no : x ∷ xs ≡ [] = sym is ∙ ap zs (sym here) ∙ nothing in cc
                 by i false at nothing = nothing
 
+    -- the turns of the reads at a place are those that are ready, client by client
+    all_reads : (q : ℕ) (others : History) (ks : ℕ → Continuation) (ws : Waiting) → Rest (IsDue q) full ws → AllWait q others ks ws
+        → all_turns_at (AtReads q) clients 1 full ≡ fronts (is_ready q) clients 1 ws
+    all_reads q others ks ws rest w = same_fronts (AtReads q) (is_ready q) full ws reads clients 1
+      where
+        due : IsDue q (AtReads q)
+        due = omega arith
+
+        reads : (i : ℕ) → turns_at (AtReads q) AtStart (full i) ≡ front (is_ready q) (ws i)
+        reads i = rest.same i (AtReads q) due ∙ reads_front q (ws i) (rest.held i) (w i).places
+
     from_places : (steps before : History) → history ≡ before ++ steps → RunsOn steps (length before)
     from_places [] before e t ks ws none rest st w =
-        subst (λ (turns : List (ℕ × Turn)). Runs p end t ks ws (turns ++ [])) (sym (same_fronts (AtReads q) (is_ready q) full ws reads clients 1))
+        subst (λ (turns : List (ℕ × Turn)). Runs p end t ks ws (turns ++ [])) (sym (all_reads q _ ks ws rest w))
         (all_fronts q [] end (is_ready q) (λ x h. h) t ks ws [] none st w last)
       where
         q : ℕ
@@ -230,12 +241,6 @@ module _ (p : ℕ) (history : History) (clients : ℕ) where
 
         end : StoreMap
         end = state history (length history)
-
-        due : IsDue q (AtReads q)
-        due = omega arith
-
-        reads : (i : ℕ) → turns_at (AtReads q) AtStart (full i) ≡ front (is_ready q) (ws i)
-        reads i = rest.same i (AtReads q) due ∙ reads_front q (ws i) (rest.held i) (w i).places
 
         ends : length before ≡ length history
         ends = sym (ap length e ∙ ap length (append-nil before))
@@ -254,7 +259,7 @@ module _ (p : ℕ) (history : History) (clients : ℕ) where
             }
     from_places ((j, edit) ∷ steps) before e t ks ws none rest st w =
         let rec : RunsOn steps (length (before ++ (j, edit) ∷ [])) = from_places steps (before ++ (j, edit) ∷ []) longer in
-        subst (λ (turns : List (ℕ × Turn)). Runs p end t ks ws (turns ++ others)) (sym (same_fronts (AtReads q) (is_ready q) full ws reads clients 1))
+        subst (λ (turns : List (ℕ × Turn)). Runs p end t ks ws (turns ++ others)) (sym (all_reads q _ ks ws rest w))
         (all_fronts q ((j, edit) ∷ steps) end (is_ready q) (λ x h. h) t ks ws others none st w
         (λ u ls st' w'. update_runs before j edit steps e (subst (λ (n : ℕ). RunsOn steps n) more rec) u ls (behind_fronts (is_ready q) ws)
         (none_behind (is_ready q) ws none) (λ i. behind_stopped (is_ready q) (ws i)) later st' w'))
@@ -267,12 +272,6 @@ module _ (p : ℕ) (history : History) (clients : ℕ) where
 
         others : List (ℕ × Turn)
         others = all_turns_at (AtUpdate (suc q)) clients 1 full ++ turns_through (moments_from (suc q) (length steps)) clients full
-
-        due : IsDue q (AtReads q)
-        due = omega arith
-
-        reads : (i : ℕ) → turns_at (AtReads q) AtStart (full i) ≡ front (is_ready q) (ws i)
-        reads i = rest.same i (AtReads q) due ∙ reads_front q (ws i) (rest.held i) (w i).places
 
         later : Rest (IsLater q) full (behind_fronts (is_ready q) ws)
         later = record {

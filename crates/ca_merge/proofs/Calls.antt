@@ -30,18 +30,29 @@ one_call a b event k l c r m carries = record {
   counts = m.counts;
 }
 
--- A read makes no edit.
-pub one_read : (a b : Known) (event : Event) → effect event ≡ [] → Meets a b event → Refrains a b a.counts
-one_read a b event none m = record {
-  left = (event, place_of a m.earlier event) ∷ [];
-  reads = (none, tt);
-  learnt = around a.pass m.earlier event m.later;
-  learns = m.learns;
-  others = subst (λ (es : List Edit). AreByOthers a.pass (m.earlier ++ by_pass a.pass es ++ m.later)) (sym none)
-      (others_both a.pass (m.earlier ++ []) m.later (others_both a.pass m.earlier [] m.others_earlier tt) m.others_later);
-  alone = λ h. ap (λ (es : List Edit). m.earlier ++ by_pass a.pass es ++ m.later) none ∙ ap (λ (z : History). z ++ [] ++ m.later) (m.alone h).0 ∙ (m.alone h).1;
-  counts_are = m.counts;
-}
+module _ (a b : Known) (event : Event) (none : effect event ≡ []) (m : Meets a b event) where
+  -- All that a read learns of was done by others.
+  pub read_others : AreByOthers a.pass (around a.pass m.earlier event m.later)
+  read_others =
+      subst (λ (es : List Edit). AreByOthers a.pass (m.earlier ++ by_pass a.pass es ++ m.later)) (sym none)
+      (others_both a.pass (m.earlier ++ []) m.later (others_both a.pass m.earlier [] m.others_earlier tt) m.others_later)
+
+  -- A read learns of nothing where nobody else edits the store.
+  pub read_alone : a.alone ≡ true → around a.pass m.earlier event m.later ≡ []
+  read_alone h =
+      ap (λ (es : List Edit). m.earlier ++ by_pass a.pass es ++ m.later) none ∙ ap (λ (z : History). z ++ [] ++ m.later) (m.alone h).0 ∙ (m.alone h).1
+
+  -- A read makes no edit.
+  pub one_read : Refrains a b a.counts
+  one_read = record {
+    left = (event, place_of a m.earlier event) ∷ [];
+    reads = (none, tt);
+    learnt = around a.pass m.earlier event m.later;
+    learns = m.learns;
+    others = read_others;
+    alone = read_alone;
+    counts_are = m.counts;
+  }
 
 -- A refused call makes no edit.
 pub one_refusal : (a b : Known) (counts : Counts) → Declines a b counts → Refused a b counts

@@ -10,6 +10,7 @@ pub mod Keys
 pub mod Learning
 pub mod Moments
 pub mod NextUpdates
+pub mod Overtaking
 pub mod Pairs
 pub mod Runs
 pub mod Splits

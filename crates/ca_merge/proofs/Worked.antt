@@ -24,38 +24,22 @@ key_term n h = record { shallow = omega arith; narrow = signed_pos n h }
 object_term : (n : ℕ) → n < 2 ^ 63 → IsTerm (object n)
 object_term n h = record { shallow = omega arith; narrow = (omega arith, (signed_pos n h, tt)) }
 
-one_fits : fits (object 1) ≡ true
+objects_fit : (fits (object 1) ≡ true) × (fits (object 2) ≡ true) × (fits (object 3) ≡ true)
 unfolding code_of row_code int_code digits trim four_bytes
-one_fits = refl
+objects_fit = (refl, refl, refl)
 
-two_fits : fits (object 2) ≡ true
+keys_fit : (fits (key 1) ≡ true) × (fits (key 2) ≡ true) × (fits (key 3) ≡ true)
 unfolding code_of row_code int_code digits trim four_bytes
-two_fits = refl
-
-three_fits : fits (object 3) ≡ true
-unfolding code_of row_code int_code digits trim four_bytes
-three_fits = refl
-
-key_fits : fits (key 1) ≡ true
-unfolding code_of row_code int_code digits trim four_bytes
-key_fits = refl
-
-third_key_fits : fits (key 3) ≡ true
-unfolding code_of row_code int_code digits trim four_bytes
-third_key_fits = refl
-
-second_key_fits : fits (key 2) ≡ true
-unfolding code_of row_code int_code digits trim four_bytes
-second_key_fits = refl
+keys_fit = (refl, refl, refl)
 
 first_state : Stands 1 (state worked_history 1) (object 1 ∷ [])
-first_state = put_stands 1 [] [] (empty_stands 1) (object 1) (object_term 1 (omega arith)) (record { object = refl; fitting = one_fits })
+first_state = put_stands 1 [] [] (empty_stands 1) (object 1) (object_term 1 (omega arith)) (record { object = refl; fitting = objects_fit.0 })
 
 second_state : Stands 1 (state worked_history 2) (object 1 ∷ object 2 ∷ [])
-second_state = put_stands 1 _ _ first_state (object 2) (object_term 2 (omega arith)) (record { object = refl; fitting = two_fits })
+second_state = put_stands 1 _ _ first_state (object 2) (object_term 2 (omega arith)) (record { object = refl; fitting = objects_fit.1 })
 
 third_state : Stands 1 (state worked_history 3) (object 1 ∷ object 2 ∷ object 3 ∷ [])
-third_state = put_stands 1 _ _ second_state (object 3) (object_term 3 (omega arith)) (record { object = refl; fitting = three_fits })
+third_state = put_stands 1 _ _ second_state (object 3) (object_term 3 (omega arith)) (record { object = refl; fitting = objects_fit.2 })
 
 finds_one : IsFound (state worked_history 2) (code_of (key 1)) (Some (code_of (object 1)))
 finds_one = (get_stands 1 _ _ second_state (key 1) (key_term 1 (omega arith))).codes
@@ -71,16 +55,16 @@ no_call = record { at = λ t h b. refl }
 
 first_plays : Plays 1 Never worked_first.commands worked_first.answers worked_first.parts
 first_plays =
-    let one = insert_put 1 (object 1) (object_term 1 (omega arith)) refl one_fits Never in
-    let two = lookup_found 1 (key 2) (key_term 2 (omega arith)) second_key_fits Never (object 2) (object_term 2 (omega arith)) in
-    let three = insert_put 1 (object 3) (object_term 3 (omega arith)) refl three_fits Never in
+    let one = insert_put 1 (object 1) (object_term 1 (omega arith)) refl objects_fit.0 Never in
+    let two = lookup_found 1 (key 2) (key_term 2 (omega arith)) keys_fit.1 Never (object 2) (object_term 2 (omega arith)) in
+    let three = insert_put 1 (object 3) (object_term 3 (omega arith)) refl objects_fit.2 Never in
     (tt, (Never, no_call, (tt, (Never, one, (tt, (Never, two, (tt, (Never, no_call, (tt, (Never, three, tt))))))))))
 
 second_plays : Plays 1 Never worked_second.commands worked_second.answers worked_second.parts
 second_plays =
-    let one = insert_put 1 (object 2) (object_term 2 (omega arith)) refl two_fits Never in
-    let two = lookup_found 1 (key 1) (key_term 1 (omega arith)) key_fits Never (object 1) (object_term 1 (omega arith)) in
-    let three = lookup_found 1 (key 3) (key_term 3 (omega arith)) third_key_fits Never (object 3) (object_term 3 (omega arith)) in
+    let one = insert_put 1 (object 2) (object_term 2 (omega arith)) refl objects_fit.1 Never in
+    let two = lookup_found 1 (key 1) (key_term 1 (omega arith)) keys_fit.0 Never (object 1) (object_term 1 (omega arith)) in
+    let three = lookup_found 1 (key 3) (key_term 3 (omega arith)) keys_fit.2 Never (object 3) (object_term 3 (omega arith)) in
     (tt, (Never, one, (tt, (Never, two, ((refl, tt), refl, (tt, (Never, no_call, (tt, (Never, three, tt)))))))))
 
 plays : (i : ℕ) → 1 ≤ i → i ≤ 2
