@@ -13,7 +13,11 @@ use Rattle.ca_cmd.specs.Argument.{Found, IsAfter, AreArguments, IsEnd, place, re
 abbrev pub words : List (List ℕ × Word)
 words =
     (codes "insert", word.Insert)
+    ∷ (codes "insert_new", word.InsertNew)
     ∷ (codes "lookup", word.Lookup)
+    ∷ (codes "member", word.Member)
+    ∷ (codes "delete", word.Delete)
+    ∷ (codes "take", word.Take)
     ∷ []
 
 -- a command by its arguments
@@ -26,7 +30,11 @@ pub data Form : Type 0 where
 -- the command of each word
 abbrev pub form_of : Word → Form
 form_of word.Insert = One command.Insert
+form_of word.InsertNew = One command.InsertNew
 form_of word.Lookup = One command.Lookup
+form_of word.Member = One command.Member
+form_of word.Delete = One command.Delete
+form_of word.Take = One command.Take
 
 -- how many arguments a command has
 abbrev pub count_of : Form → ℕ

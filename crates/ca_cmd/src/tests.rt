@@ -10,7 +10,11 @@ use std::test::Fail;
 fn parts(cmd: &Cmd) -> (&'static [u8], &Term) {
     match cmd {
         Cmd::Insert(object) => (b"insert", object),
+        Cmd::InsertNew(object) => (b"insert_new", object),
         Cmd::Lookup(key) => (b"lookup", key),
+        Cmd::Member(key) => (b"member", key),
+        Cmd::Delete(key) => (b"delete", key),
+        Cmd::Take(key) => (b"take", key),
     }
 }
 
@@ -52,6 +56,10 @@ fn reads_commands(rt: HostRuntime) -> Result<(), Fail> {
             "1 lookup 'end'.2 lookup -7.",
         ),
         ("lookup 'é'\n% é\n".as_bytes(), "1 lookup 'é'."),
+        (
+            b"member 1\ndelete a\ntake []\ninsert_new {1}",
+            "1 member 1.2 delete a.3 take [].4 insert_new {1}.",
+        ),
     ] {
         assert_eq!(rt; listed(alloc, file)?.as_slice(), commands.as_bytes());
     }

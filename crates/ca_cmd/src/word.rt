@@ -15,7 +15,11 @@ use std::alloc::Global;
 #[derive(Clone, Copy)]
 pub(crate) enum Word {
     Insert,
+    InsertNew,
     Lookup,
+    Member,
+    Delete,
+    Take,
 }
 
 impl Word {
@@ -25,7 +29,11 @@ impl Word {
     {
         match text {
             _ if text == b"insert".as_slice() => Some(Word::Insert),
+            _ if text == b"insert_new".as_slice() => Some(Word::InsertNew),
             _ if text == b"lookup".as_slice() => Some(Word::Lookup),
+            _ if text == b"member".as_slice() => Some(Word::Member),
+            _ if text == b"delete".as_slice() => Some(Word::Delete),
+            _ if text == b"take".as_slice() => Some(Word::Take),
             _ => None,
         }
     }
@@ -35,7 +43,12 @@ impl Word {
         ensures { result ≡ count_of (form_of self) }
     {
         match self {
-            Word::Insert | Word::Lookup => 1,
+            Word::Insert
+            | Word::InsertNew
+            | Word::Lookup
+            | Word::Member
+            | Word::Delete
+            | Word::Take => 1,
         }
     }
 
@@ -47,7 +60,11 @@ impl Word {
     {
         match self {
             Word::Insert => Cmd::Insert(take_last(&mut arguments)),
+            Word::InsertNew => Cmd::InsertNew(take_last(&mut arguments)),
             Word::Lookup => Cmd::Lookup(take_last(&mut arguments)),
+            Word::Member => Cmd::Member(take_last(&mut arguments)),
+            Word::Delete => Cmd::Delete(take_last(&mut arguments)),
+            Word::Take => Cmd::Take(take_last(&mut arguments)),
         }
     }
 

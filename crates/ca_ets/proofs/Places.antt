@@ -11,7 +11,9 @@ use Rattle.ca_term.specs.Order.{term_cmp}
 use Rattle.ca_term.proofs.TotalOrder.{tree_flip, term_cmp_total}
 use Rattle.ca_term.specs.Object.{key_of}
 use Rattle.ca_ets.specs.OrderedMap.{below, get, above, put, del, AreAbove, IsTable}
-use Rattle.ca_ets.specs.Place.{IsAt, IsBefore, IsPlace, placed}
+use Rattle.ca_ets.specs.Place.{IsAt, IsBefore, IsInRange, IsPlace, placed}
+use Rattle.ca_ets.specs.declared.table.Place.{Place}
+use Rattle.ca_ets.specs.declared.table.Place.TheVariants.{At, Before}
 
 -- the keys of all these are greater than k
 abbrev pub AreGreater : ℕ → List Tree → Tree → Type 0
@@ -123,9 +125,14 @@ keys_rise p m t i d l h = by (term_cmp (key_of p (get_or m i d)) (key_of p (get_
         → is_lt (term_cmp (key_of p (get_or m (i + 1) d)) (key_of p (get_or m i d))) ≡ false
     by r e = ap is_lt (tree_flip (key_of p (get_or m (i + 1) d)) (key_of p (get_or m i d)) ∙ ap ordering_reverse (next m i t h))
 
+-- the place that a search answers with
+abbrev pub place_of : Result ℕ ℕ → Place
+place_of (Ok i) = At i
+place_of (Err i) = Before i
+
 -- A binary search by the keys of a table finds the place of a key.
 pub searched : (p : ℕ) (m : List Tree) (k : Tree) (r : Result ℕ ℕ) → IsTable p m → IsSearchInRange r (length m)
-    → IsBinarySearchResult (λ o. term_cmp (key_of p o) k) m r → IsPlace p m k r
+    → IsBinarySearchResult (λ o. term_cmp (key_of p o) k) m r → IsPlace p m k (place_of r)
 searched p m k (Ok i) t b s = found p m k i t b (s Nil)
 searched p m k (Err i) t b s =
     let rises : IsNonDecreasingBy (λ o. ordering_index (term_cmp (key_of p o) k)) m = searchable_from_sorted term_cmp_total (key_of p) m k (keys_rise p m t) in
@@ -133,14 +140,14 @@ searched p m k (Err i) t b s =
     not_found p m k i b (λ j d h. parts.0 j d (omega arith) h) (λ j d h l. parts.1 j d h l)
 
 -- A place lies in its list, or at the end.
-pub place_range : (p : ℕ) (m : List Tree) (k : Tree) (r : Result ℕ ℕ) → IsPlace p m k r → IsSearchInRange r (length m)
-place_range p m k (Ok i) h = h.in_range
-place_range p m k (Err i) h = h.in_range
+pub place_range : (p : ℕ) (m : List Tree) (k : Tree) (r : Place) → IsPlace p m k r → IsInRange (length m) r
+place_range p m k (At i) h = h.in_range
+place_range p m k (Before i) h = h.in_range
 
 set_is : (m : List Tree) (i : ℕ) (o : Tree) → i < length m → set m i o ≡ take i m ++ o ∷ drop (i + 1) m
 set_is m i o h = sym (take-append-drop i (set m i o)) ∙ rw (take-set m i o, drop-set m i o h)
 
 -- An object at the place of its key makes a put.
-pub placed_is : (p : ℕ) (m : List Tree) (o : Tree) (r : Result ℕ ℕ) → IsPlace p m (key_of p o) r → placed m r o ≡ put p m o
-placed_is p m o (Ok i) h = rw (h.less, h.greater) (set_is m i o h.in_range)
-placed_is p m o (Err i) h = rw (h.less, h.greater)
+pub placed_is : (p : ℕ) (m : List Tree) (o : Tree) (r : Place) → IsPlace p m (key_of p o) r → placed m r o ≡ put p m o
+placed_is p m o (At i) h = rw (h.less, h.greater) (set_is m i o h.in_range)
+placed_is p m o (Before i) h = rw (h.less, h.greater)

@@ -7,3 +7,4 @@ pub mod OrderedMap
 pub mod Place
 pub mod Step
 pub mod Table
+pub mod Update

@@ -1,10 +1,10 @@
 -- Where a key stands in a table, or would stand, and the lists that stand around it.
-use Rattle.std.specs.Prelude.{◌≡◌, ℕ, true, false, ◌+◌, ◌<◌, ◌≤◌, List, [], ◌∷◌, length, take, drop, slice_set, slice_index_or, Result, Ok, Err}
+use Rattle.std.specs.Prelude.{◌≡◌, ℕ, ◌+◌, ◌<◌, ◌≤◌, List, [], ◌∷◌, length, take, drop, slice_set, slice_index_or, Option, None, Some, Result, Ok, Err}
 use Rattle.std.specs.List.{insert, remove}
 use Rattle.ca_term.specs.Tree.{Tree, Nil}
-use Rattle.ca_term.specs.Object.{fits}
-use Rattle.ca_ets.specs.declared.table.KeyPlace.{KeyPlace}
-use Rattle.ca_ets.specs.declared.table.KeyPlace.TheVariants.{TooLong, At, Before}
+use Rattle.ca_ets.specs.declared.command.Fault.{Fault}
+use Rattle.ca_ets.specs.declared.table.Place.{Place}
+use Rattle.ca_ets.specs.declared.table.Place.TheVariants.{At, Before}
 use Rattle.ca_ets.specs.OrderedMap.{below, get, above, del}
 
 -- The object at this place has the key.
@@ -23,17 +23,21 @@ pub record IsBefore (keypos : ℕ) (map : List Tree) (k : Tree) (at : ℕ) : Typ
   pub greater : above keypos map k ≡ drop at map
   pub others : del keypos map k ≡ map
 
-abbrev pub IsPlace : ℕ → List Tree → Tree → Result ℕ ℕ → Type 0
-IsPlace keypos map k (Ok at) = IsAt keypos map k at
-IsPlace keypos map k (Err at) = IsBefore keypos map k at
+abbrev pub IsPlace : ℕ → List Tree → Tree → Place → Type 0
+IsPlace keypos map k (At at) = IsAt keypos map k at
+IsPlace keypos map k (Before at) = IsBefore keypos map k at
 
--- Where the key of a command stands that fits, or that it is too long.
-abbrev pub IsKeyPlace : ℕ → List Tree → Tree → KeyPlace → Type 0
-IsKeyPlace keypos map k TooLong = fits k ≡ false
-IsKeyPlace keypos map k (At at) = (fits k ≡ true) × IsAt keypos map k at
-IsKeyPlace keypos map k (Before at) = (fits k ≡ true) × IsBefore keypos map k at
+-- A place that is so, or the fault for which none is looked for.
+abbrev pub IsPlaceUnless : Option Fault → (Place → Type 0) → Result Place Fault → Type 0
+IsPlaceUnless fault so (Ok place) = (fault ≡ None) × so place
+IsPlaceUnless fault so (Err found) = fault ≡ Some found
 
 -- the list with an object at this place: in the place of another one, or between two
-abbrev pub placed : List Tree → Result ℕ ℕ → Tree → List Tree
-placed map (Ok at) o = slice_set map at o
-placed map (Err at) o = insert map at o
+abbrev pub placed : List Tree → Place → Tree → List Tree
+placed map (At at) o = slice_set map at o
+placed map (Before at) o = insert map at o
+
+-- The place lies in a list of this length, or at its end.
+abbrev pub IsInRange : ℕ → Place → Type 0
+IsInRange len (At at) = at < len
+IsInRange len (Before at) = at ≤ len

@@ -1,12 +1,15 @@
 -- One step of one thread: what a command does to the map and to its client's continuation, and the reply.
 -- Source: the ets manual's text on each call; the order of the checks and the error `size` are this project's own.
-use Rattle.std.specs.Prelude.{ℕ, true, List, if◌then◌else◌}
-use Rattle.ca_term.specs.Tree.{Tree}
-use Rattle.ca_term.specs.Object.{is_object, fits}
-use Rattle.ca_ets.specs.OrderedMap.{put, get}
-use Rattle.ca_ets.specs.Command.{Command, Response, Truth, Items, Error, Continuation, response_of}
-use Rattle.ca_ets.specs.declared.command.Cmd.TheVariants.{Insert, Lookup}
-use Rattle.ca_ets.specs.declared.command.Fault.TheVariants.{BadArg, Size}
+use Rattle.std.specs.Prelude.{ℕ, ℤ, pos, Bool, true, false, Option, None, Some, Result, Ok, Err, List, [], ◌∷◌, map, slice_index_or, if◌then◌else◌}
+use Rattle.ca_term.specs.Tree.{Tree, Integer}
+use Rattle.ca_term.specs.Object.{is_object, key_of, fits}
+use Rattle.ca_term.specs.Updates.{ElementFault, BadArgument, OutOfRange, TooLarge, and_then, update_of_counters, update_of_element}
+use Rattle.ca_ets.specs.OrderedMap.{put, get, del}
+use Rattle.ca_ets.specs.Update.{Operations, One, Several, additions_of, operations_of, element_of}
+use Rattle.ca_ets.specs.Command.{Command, Response, Truth, Value, Items, Error, Continuation, response_of}
+use Rattle.ca_ets.specs.declared.command.Cmd.TheVariants.{Insert, InsertNew, Lookup, Member, Delete, Take}
+use Rattle.ca_ets.specs.declared.command.Fault.{Fault}
+use Rattle.ca_ets.specs.declared.command.Fault.TheVariants.{BadArg, Range, Size}
 use Rattle.ca_ets.specs.declared.command.Reply.{Reply}
 
 -- what a step leaves, and its reply
@@ -15,28 +18,108 @@ pub record Step : Type 0 where
   pub continuation : Continuation
   pub response : Response
 
+-- a step that leaves the continuation as it is
+abbrev pub with_map : List Tree → Continuation → Response → Step
+with_map map continuation response = record { map = map; continuation = continuation; response = response }
+
 -- a step that changes nothing
 abbrev pub no_change : List Tree → Continuation → Response → Step
-no_change map continuation response = record { map = map; continuation = continuation; response = response }
+no_change map continuation response = with_map map continuation response
 
--- a command with a key: its meaning, unless the key's code is too long
-abbrev pub with_key : List Tree → Continuation → Tree → Step → Step
-with_key map continuation k meaning = if fits k then meaning else no_change map continuation (Error Size)
+-- a command's meaning, unless an argument is refused
+abbrev pub unless : Option Fault → List Tree → Continuation → Step → Step
+unless None map continuation meaning = meaning
+unless (Some fault) map continuation meaning = no_change map continuation (Error fault)
+
+-- why a key is refused: its code is too long
+abbrev pub fault_of_key : Tree → Option Fault
+fault_of_key k = if fits k then None else Some Size
+
+-- why an object is refused: it is none, or its code is too long
+abbrev pub fault_of_object : ℕ → Tree → Option Fault
+fault_of_object keypos o = if is_object keypos o then (if fits o then None else Some Size) else Some BadArg
+
+-- whether an object was found
+abbrev pub is_found : List Tree → Bool
+is_found [] = false
+is_found (o ∷ found) = true
 
 -- `insert`: it replaces the object of an equal key
 abbrev pub step_of_insert : ℕ → List Tree → Continuation → Tree → Step
-step_of_insert keypos map continuation o =
-    if is_object keypos o
-    then (if fits o then record { map = put keypos map o; continuation = continuation; response = Truth true } else no_change map continuation (Error Size))
-    else no_change map continuation (Error BadArg)
+step_of_insert keypos map continuation o = unless (fault_of_object keypos o) map continuation (with_map (put keypos map o) continuation (Truth true))
+
+-- `insert_new`: it inserts where no object has the key
+abbrev pub step_of_insert_new : ℕ → List Tree → Continuation → Tree → Step
+step_of_insert_new keypos map continuation o =
+    unless (fault_of_object keypos o) map continuation
+    (if is_found (get keypos map (key_of keypos o))
+      then no_change map continuation (Truth false)
+      else with_map (put keypos map o) continuation (Truth true))
 
 -- `lookup`: the list of the key's object, or the empty list
 abbrev pub step_of_lookup : ℕ → List Tree → Continuation → Tree → Step
-step_of_lookup keypos map continuation k = with_key map continuation k (no_change map continuation (Items (get keypos map k)))
+step_of_lookup keypos map continuation k = unless (fault_of_key k) map continuation (no_change map continuation (Items (get keypos map k)))
+
+-- `member`: whether an object has the key
+abbrev pub step_of_member : ℕ → List Tree → Continuation → Tree → Step
+step_of_member keypos map continuation k = unless (fault_of_key k) map continuation (no_change map continuation (Truth (is_found (get keypos map k))))
+
+-- `delete`: no object has the key behind it, whether or not one had it before
+abbrev pub step_of_delete : ℕ → List Tree → Continuation → Tree → Step
+step_of_delete keypos map continuation k = unless (fault_of_key k) map continuation (with_map (del keypos map k) continuation (Truth true))
+
+-- `take`: it removes the key's object and answers with its list, or the empty list
+abbrev pub step_of_take : ℕ → List Tree → Continuation → Tree → Step
+step_of_take keypos map continuation k = unless (fault_of_key k) map continuation (with_map (del keypos map k) continuation (Items (get keypos map k)))
+
+-- the error of a change that is refused
+abbrev pub fault_of : ElementFault → Fault
+fault_of BadArgument = BadArg
+fault_of OutOfRange = Range
+fault_of TooLarge = Size
+
+-- a change of the key's object, with its reply, or why there is none
+abbrev pub step_of_change : ℕ → List Tree → Continuation → Result (Tree × Response) ElementFault → Step
+step_of_change keypos map continuation (Ok new) = with_map (put keypos map new.0) continuation new.1
+step_of_change keypos map continuation (Err fault) = no_change map continuation (Error (fault_of fault))
+
+-- the values that operations stored: that of one alone, or the list of several
+abbrev pub reply_of : Operations → List ℤ → Response
+reply_of (One a) values = Value (Integer (slice_index_or values 0 (pos 0)))
+reply_of (Several additions) values = Items (map Integer values)
+
+-- operations on the key's object, all or none; it must be there
+abbrev pub step_of_operations : ℕ → List Tree → Continuation → Operations → List Tree → Step
+step_of_operations keypos map continuation operations [] = no_change map continuation (Error BadArg)
+step_of_operations keypos map continuation operations (o ∷ found) =
+    step_of_change keypos map continuation
+    (and_then (update_of_counters keypos o (additions_of operations)) (λ new. Ok (new.0, reply_of operations new.1)))
+
+-- `update_counter`: first the form of the operations is checked, then the key, then the object
+abbrev pub step_of_update_counter : ℕ → List Tree → Continuation → Tree → Option Operations → Step
+step_of_update_counter keypos map continuation k None = no_change map continuation (Error BadArg)
+step_of_update_counter keypos map continuation k (Some operations) =
+    unless (fault_of_key k) map continuation (step_of_operations keypos map continuation operations (get keypos map k))
+
+-- another element of the key's object, if it is there
+abbrev pub step_of_element : ℕ → List Tree → Continuation → ℤ × Tree → List Tree → Step
+step_of_element keypos map continuation new [] = no_change map continuation (Truth false)
+step_of_element keypos map continuation new (o ∷ found) =
+    step_of_change keypos map continuation (and_then (update_of_element o new.0 new.1) (λ object. Ok (object, Truth true)))
+
+-- `update_element`: first the form of the argument is checked, then the key, then the object
+abbrev pub step_of_update_element : ℕ → List Tree → Continuation → Tree → Option (ℤ × Tree) → Step
+step_of_update_element keypos map continuation k None = no_change map continuation (Error BadArg)
+step_of_update_element keypos map continuation k (Some new) =
+    unless (fault_of_key k) map continuation (step_of_element keypos map continuation new (get keypos map k))
 
 abbrev pub step : ℕ → List Tree → Continuation → Command → Step
 step keypos map continuation (Insert o) = step_of_insert keypos map continuation o
+step keypos map continuation (InsertNew o) = step_of_insert_new keypos map continuation o
 step keypos map continuation (Lookup k) = step_of_lookup keypos map continuation k
+step keypos map continuation (Member k) = step_of_member keypos map continuation k
+step keypos map continuation (Delete k) = step_of_delete keypos map continuation k
+step keypos map continuation (Take k) = step_of_take keypos map continuation k
 
 -- the step that leaves this map and continuation, and gives this reply
 abbrev pub step_of_reply : List Tree → Continuation → Reply → Step

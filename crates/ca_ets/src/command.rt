@@ -4,10 +4,18 @@ use ca_term::{Term, Terms};
 /// A call of one client on the table. Source: the ets manual's calls of these names.
 #[derive(Drop)]
 pub enum Cmd {
-    /// The object.
+    /// The object. It replaces the object of an equal key.
     Insert(Term),
+    /// The object. Where its key is in the table, nothing changes.
+    InsertNew(Term),
     /// The key.
     Lookup(Term),
+    /// The key.
+    Member(Term),
+    /// The key.
+    Delete(Term),
+    /// The key, whose object is the reply.
+    Take(Term),
 }
 
 /// The reply to a command.

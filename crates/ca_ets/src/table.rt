@@ -1,10 +1,12 @@
 //! A table as a list of objects in key order.
-ghost use Rattle.std.specs.Prelude.{◌≡◌, ◌≤◌, [], ◌∷◌, length, IfOk, OnOk, OnErr};
-ghost use Rattle.std.specs.List.Sorted.{IsSearchInRange};
+ghost use Rattle.std.specs.Prelude.{◌≡◌, ◌≤◌, ◌<◌, [], ◌∷◌, length, slice_index_or, IfOk, OnOk, OnErr};
+ghost use Rattle.std.specs.List.{remove};
+ghost use Rattle.ca_term.specs.Object.{key_of};
+ghost use Rattle.ca_term.specs.Tree.{Nil};
 ghost use Rattle.ca_ets.specs.Command.{Continuation, IsContinuation, continuation_of};
 ghost use Rattle.ca_ets.specs.OrderedMap.{IsTable};
-ghost use Rattle.ca_ets.specs.Place.{IsKeyPlace, IsPlace, placed};
-ghost use Rattle.ca_ets.specs.Step.{step, step_of_insert, step_of_lookup, step_of_reply};
+ghost use Rattle.ca_ets.specs.Place.{IsInRange, IsPlace, IsPlaceUnless, placed};
+ghost use Rattle.ca_ets.specs.Step.{fault_of_key, fault_of_object, step, step_of_delete, step_of_insert, step_of_insert_new, step_of_lookup, step_of_member, step_of_reply, step_of_take};
 
 use crate::command::{Cmd, Cont, Fault, Reply};
 use crate::object::{copied, fits, key, key_order};
@@ -13,10 +15,9 @@ use std::alloc::{AllocError, Global};
 use std::marker::Model;
 use std::mem;
 
-// Where the key of a command stands in a table.
-enum KeyPlace {
-    // It is too long, so no object has it.
-    TooLong,
+// Where a key stands in a table.
+#[derive(Clone, Copy)]
+enum Place {
     // At this object.
     At(usize),
     // No object has it; here one would stand.
@@ -88,81 +89,170 @@ impl ListTable {
     {
         match cmd {
             Cmd::Insert(object) => self.insert(alloc, object),
+            Cmd::InsertNew(object) => self.insert_new(alloc, object),
             Cmd::Lookup(k) => self.lookup(alloc, k),
+            Cmd::Member(k) => Ok(self.member(k)),
+            Cmd::Delete(k) => Ok(self.delete(k)),
+            Cmd::Take(k) => self.take(alloc, k),
         }
     }
 
-    // `insert`: the copy is made before the table is changed.
-    #[tactic(auto, using(crate::proofs::Steps::inserting, crate::proofs::Places::place_range))]
+    // `insert`
+    #[tactic(auto, using(crate::proofs::Steps::leaving, crate::proofs::Places::place_range))]
     fn insert(&mut self, alloc: Global, object: &Term) -> Result<Reply, AllocError>
         ensures step { (continuation : Continuation) → IfOk result (λ reply. step_of_insert self.old.keypos self.old.objects continuation object.now
             ≡ step_of_reply self.new.objects continuation reply) }
         ensures keypos { self.new.keypos ≡ self.old.keypos }
         ensures unchanged { OnErr result (self.new ≡ self.old) }
     {
-        let Some(k) = key(object, self.keypos) else {
-            return Ok(Reply::Error(Fault::BadArg));
+        let place = match self.object_place(object) {
+            Ok(place) => place,
+            Err(fault) => return Ok(Reply::Error(fault)),
         };
-        if !fits(object) {
-            return Ok(Reply::Error(Fault::Size));
-        }
-        let copy = copied(alloc, object)?;
-        let at = place(self.objects.as_slice(), self.keypos, k);
-        put_at(&mut self.objects, at, copy)?;
+        put_copy(alloc, &mut self.objects, place, object)?;
         Ok(Reply::Truth(true))
     }
 
-    // `lookup`: the list of the key's object, or the empty list.
+    // `insert_new`: where an object has the key it takes no memory.
+    #[tactic(auto, using(crate::proofs::Steps::leaving, crate::proofs::Places::place_range))]
+    fn insert_new(&mut self, alloc: Global, object: &Term) -> Result<Reply, AllocError>
+        ensures step { (continuation : Continuation) → IfOk result (λ reply. step_of_insert_new self.old.keypos self.old.objects continuation object.now
+            ≡ step_of_reply self.new.objects continuation reply) }
+        ensures keypos { self.new.keypos ≡ self.old.keypos }
+        ensures unchanged { OnErr result (self.new ≡ self.old) }
+    {
+        let place = match self.object_place(object) {
+            Ok(Place::At(_)) => return Ok(Reply::Truth(false)),
+            Ok(place) => place,
+            Err(fault) => return Ok(Reply::Error(fault)),
+        };
+        put_copy(alloc, &mut self.objects, place, object)?;
+        Ok(Reply::Truth(true))
+    }
+
+    // `lookup`
     fn lookup(&self, alloc: Global, k: &Term) -> Result<Reply, AllocError>
         ensures { (continuation : Continuation) → IfOk result (λ reply. step_of_lookup self.now.keypos self.now.objects continuation k.now
             ≡ step_of_reply self.now.objects continuation reply) }
     {
         match self.key_place(k) {
-            KeyPlace::TooLong => Ok(Reply::Error(Fault::Size)),
-            KeyPlace::At(at) => Ok(Reply::List(only(alloc, &self.objects[at])?)),
-            KeyPlace::Before(_) => Ok(Reply::List(Terms::new(alloc))),
+            Ok(Place::At(at)) => Ok(Reply::List(only(alloc, &self.objects[at])?)),
+            Ok(Place::Before(_)) => Ok(Reply::List(Terms::new(alloc))),
+            Err(fault) => Ok(Reply::Error(fault)),
         }
     }
 
-    // Where the key of a command stands.
-    fn key_place(&self, k: &Term) -> KeyPlace
-        ensures { IsKeyPlace self.now.keypos self.now.objects k.now result }
+    // `member`
+    fn member(&self, k: &Term) -> Reply
+        ensures { (continuation : Continuation) → step_of_member self.now.keypos self.now.objects continuation k.now
+            ≡ step_of_reply self.now.objects continuation result }
+    {
+        match self.key_place(k) {
+            Ok(Place::At(_)) => Reply::Truth(true),
+            Ok(Place::Before(_)) => Reply::Truth(false),
+            Err(fault) => Reply::Error(fault),
+        }
+    }
+
+    // `delete`
+    #[tactic(auto, using(crate::proofs::Steps::leaving, crate::proofs::Places::place_range))]
+    fn delete(&mut self, k: &Term) -> Reply
+        ensures step { (continuation : Continuation) → step_of_delete self.old.keypos self.old.objects continuation k.now
+            ≡ step_of_reply self.new.objects continuation result }
+        ensures keypos { self.new.keypos ≡ self.old.keypos }
+    {
+        match self.key_place(k) {
+            Ok(Place::At(at)) => {
+                let _old = self.objects.remove(at);
+                Reply::Truth(true)
+            }
+            Ok(Place::Before(_)) => Reply::Truth(true),
+            Err(fault) => Reply::Error(fault),
+        }
+    }
+
+    // `take`
+    #[tactic(auto, using(crate::proofs::Steps::leaving, crate::proofs::Places::place_range))]
+    fn take(&mut self, alloc: Global, k: &Term) -> Result<Reply, AllocError>
+        ensures step { (continuation : Continuation) → IfOk result (λ reply. step_of_take self.old.keypos self.old.objects continuation k.now
+            ≡ step_of_reply self.new.objects continuation reply) }
+        ensures keypos { self.new.keypos ≡ self.old.keypos }
+        ensures unchanged { OnErr result (self.new ≡ self.old) }
+    {
+        match self.key_place(k) {
+            Ok(Place::At(at)) => Ok(Reply::List(take_at(alloc, &mut self.objects, at)?)),
+            Ok(Place::Before(_)) => Ok(Reply::List(Terms::new(alloc))),
+            Err(fault) => Ok(Reply::Error(fault)),
+        }
+    }
+
+    // Where the key of a command stands, or why it is refused.
+    fn key_place(&self, k: &Term) -> Result<Place, Fault>
+        ensures { IsPlaceUnless (fault_of_key k.now) (IsPlace self.now.keypos self.now.objects k.now) result }
     {
         if !fits(k) {
-            return KeyPlace::TooLong;
+            return Err(Fault::Size);
         }
-        match place(self.objects.as_slice(), self.keypos, k) {
-            Ok(at) => KeyPlace::At(at),
-            Err(at) => KeyPlace::Before(at),
+        Ok(find(self.objects.as_slice(), self.keypos, k))
+    }
+
+    // Where the key of a command's object stands, or why the object is refused.
+    #[tactic(auto, using(crate::proofs::Steps::leaving))]
+    fn object_place(&self, object: &Term) -> Result<Place, Fault>
+        ensures { IsPlaceUnless (fault_of_object self.now.keypos object.now) (IsPlace self.now.keypos self.now.objects (key_of self.now.keypos object.now)) result }
+    {
+        let Some(k) = key(object, self.keypos) else {
+            return Err(Fault::BadArg);
+        };
+        if !fits(object) {
+            return Err(Fault::Size);
         }
+        Ok(find(self.objects.as_slice(), self.keypos, k))
     }
 }
 
 // Where a key stands in a table, or would stand.
-fn place(objects: &[Term], keypos: u32, k: &Term) -> Result<usize, usize>
+fn find(objects: &[Term], keypos: u32, k: &Term) -> Place
     requires { IsTable keypos objects.now }
     ensures { IsPlace keypos objects.now k.now result }
 {
-    objects.binary_search_by(|object| key_order(object, keypos, k))
+    match objects.binary_search_by(|object| key_order(object, keypos, k)) {
+        Ok(at) => Place::At(at),
+        Err(at) => Place::Before(at),
+    }
 }
 
-// Puts an object at a place: at that of another one it takes no memory, and drops that one.
-fn put_at(
-    objects: &mut Vec<Term>,
-    place: Result<usize, usize>,
-    object: Term,
-) -> Result<(), AllocError>
-    requires { IsSearchInRange place (length objects.old.items) }
-    ensures ok { OnOk result (objects.new.items ≡ placed objects.old.items place object) }
+// Puts a copy of an object at a place. The copy is made before the list is changed; the place of another object needs no further memory.
+fn put_copy(alloc: Global, objects: &mut Vec<Term>, place: Place, object: &Term) -> Result<(), AllocError>
+    requires { IsInRange (length objects.old.items) place }
+    ensures ok { OnOk result (objects.new.items ≡ placed objects.old.items place object.now) }
     ensures err { OnErr result (objects.new.items ≡ objects.old.items) }
 {
+    let copy = copied(alloc, object)?;
     match place {
-        Ok(at) => {
-            let _old = mem::replace(&mut objects[at], object);
+        Place::At(at) => {
+            let _old = mem::replace(&mut objects[at], copy);
         }
-        Err(at) => objects.insert(at, object)?,
+        Place::Before(at) => objects.insert(at, copy)?,
     }
     Ok(())
+}
+
+// Takes an object out, as a list of it alone. Room for the list is found before.
+fn take_at(alloc: Global, objects: &mut Vec<Term>, at: usize) -> Result<Terms, AllocError>
+    requires { at < length objects.old.items }
+    ensures ok { IfOk result (λ terms. terms.items ≡ slice_index_or objects.old.items at Nil ∷ []) }
+    ensures others { OnOk result (objects.new.items ≡ remove objects.old.items at) }
+    ensures err { OnErr result (objects.new.items ≡ objects.old.items) }
+{
+    let mut terms = Terms::new(alloc);
+    let Ok(()) = terms.reserve(1) else {
+        return Err(AllocError);
+    };
+    let Ok(()) = terms.push(objects.remove(at)) else {
+        unreachable!()
+    };
+    Ok(terms)
 }
 
 // The list of a copy of this term alone.
