@@ -26,17 +26,20 @@ IsOvertaken a b (Take k) spent = (spent ≡ one_lost) × Overtaken a b (code_of 
 
 module _ (a b : Known) (command : Command) where
   -- A reply is that of the command's step, at every continuation, which stays as it was. A refusal is one of the store, whose count
-  -- rose by one, or `take` was overtaken. Where memory wasn't found, nothing but the room changed, or the
-  -- table only read.
-  abbrev pub ComesTo : {E : Type 0} → Result (Outcome Reply) E → Type 0
-  ComesTo (Ok (outcome.Done reply)) = (continuation : Continuation) → Steps a b continuation command (response_of reply) continuation
-  ComesTo (Ok (outcome.Busy spent)) = Refused a b (one_more_busy a.counts) ⊎ IsOvertaken a b command spent
-  ComesTo (Ok (outcome.Full cause)) = Refused a b (one_more_full a.counts)
-  ComesTo (Ok (outcome.Deep level)) = Refused a b (one_more_deep a.counts)
-  ComesTo (Ok (outcome.Worn counter)) = Refused a b (one_more_worn a.counts)
+  -- rose by one, or `take` was overtaken.
+  abbrev pub IsOutcome : Outcome Reply → Type 0
+  IsOutcome (outcome.Done reply) = (continuation : Continuation) → Steps a b continuation command (response_of reply) continuation
+  IsOutcome (outcome.Busy spent) = Refused a b (one_more_busy a.counts) ⊎ IsOvertaken a b command spent
+  IsOutcome (outcome.Full cause) = Refused a b (one_more_full a.counts)
+  IsOutcome (outcome.Deep level) = Refused a b (one_more_deep a.counts)
+  IsOutcome (outcome.Worn counter) = Refused a b (one_more_worn a.counts)
+
+  -- The call has such an outcome. Where memory wasn't found, nothing but the room changed, or the table only read.
+  abbrev pub ComesTo : {Lack : Type 0} → Result (Outcome Reply) Lack → Type 0
+  ComesTo (Ok outcome) = IsOutcome outcome
   ComesTo (Err lack) = Stays a b ⊎ Refrains a b a.counts
 
 -- Over a store that is sure and that nobody else edits, each call is done where memory is found.
 abbrev pub SureAndAloneIsDone : Type 0
-SureAndAloneIsDone = (a b : Known) (command : Command) (answer : Outcome Reply) → a.sure ≡ true → a.alone ≡ true
-    → ComesTo a b command {E = Unit {0}} (Ok answer) → IsDone answer
+SureAndAloneIsDone = (a b : Known) (command : Command) (outcome : Outcome Reply) → a.sure ≡ true → a.alone ≡ true → IsOutcome a b command outcome
+    → IsDone outcome

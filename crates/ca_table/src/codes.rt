@@ -60,10 +60,10 @@ fn is_object(object: &Term, keypos: u32) -> bool
 }
 
 // The list of the term that these bytes are the code of.
-pub(crate) fn only(alloc: Global, code: &[u8]) -> Result<Terms, AllocError>
-    ensures { IfOk result (λ terms. IsOnly code.now terms.items) }
+pub(crate) fn only(alloc: Global, code: &Code) -> Result<Terms, AllocError>
+    ensures { IfOk result (λ terms. IsOnly code.now.items terms.items) }
 {
-    let Ok(term) = decode(alloc, code) else {
+    let Ok(term) = decode(alloc, code.as_slice()) else {
         return Err(AllocError);
     };
     let _kind = term.kind();

@@ -2,8 +2,10 @@
 #![tactic(auto)]
 
 mod codes;
+mod laws;
 mod outcome;
 mod table;
 
+pub use laws::sure_and_alone_is_done;
 pub use outcome::Played;
 pub use table::Table;

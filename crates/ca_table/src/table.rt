@@ -119,7 +119,7 @@ impl<S: OrderedStore + Drop> Table<S> {
         if !self.get(&code, &mut object, budget) {
             return Ok(Outcome::Done(Reply::List(Terms::new(alloc))));
         }
-        let Ok(list) = only(alloc, object.as_slice()) else {
+        let Ok(list) = only(alloc, &object) else {
             return Err(AllocError);
         };
         Ok(Outcome::Done(Reply::List(list)))
@@ -171,7 +171,7 @@ impl<S: OrderedStore + Drop> Table<S> {
         if !self.get(&code, &mut object, budget) {
             return Ok(Outcome::Done(Reply::List(Terms::new(alloc))));
         }
-        let Ok(list) = only(alloc, object.as_slice()) else {
+        let Ok(list) = only(alloc, &object) else {
             return Err(AllocError);
         };
         match self.remove_same(&code, &object, budget) {

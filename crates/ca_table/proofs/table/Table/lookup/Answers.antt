@@ -14,4 +14,5 @@ returns-in_default-only-clause-comes g c =
     inr (only_read c.args.key.now _ c.in_default.ensures.1 c.args.self.now _ _ _ c.if-not-get.false c.get.ensures)
 
 pub returns-clause-comes : goal.returns-clause-comes
-returns-clause-comes g c = ?
+returns-clause-comes g c =
+    lookup_one c.args.key.now _ c.in_default.ensures.1 c.args.self.now _ _ _ _ c.if-not-get.false c.get.ensures c.in-Ok.ensures
