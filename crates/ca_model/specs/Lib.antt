@@ -7,6 +7,7 @@ pub mod Lawful
 pub mod Passes
 pub mod PlainView
 pub mod RowView
+pub mod Samples
 pub mod Slab
 pub mod SlabView
 pub mod StoreMap

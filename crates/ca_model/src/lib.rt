@@ -12,3 +12,6 @@ pub use laws::passes_meet;
 pub use outcome::{Changed, Code, Counter, FullCause, Outcome, Spent};
 pub use plain::Plain;
 pub use store::OrderedStore;
+
+#[cfg(test)]
+mod tests;

@@ -143,8 +143,8 @@ impl OrderedStore for Plain {
         if !f(old.as_slice(), &mut new, &mut start) {
             return Outcome::Done(Changed::Kept);
         }
-        self.objects
-            .put(Ok(at), new.as_slice(), start, start + key.len());
+        let end = start + key.len();
+        self.objects.put(Ok(at), new.as_slice(), start, end);
         Outcome::Done(Changed::Put)
     }
 }

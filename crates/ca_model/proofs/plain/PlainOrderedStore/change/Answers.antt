@@ -37,20 +37,25 @@ returns-then-not-f-clause-changed g c =
       read_met c.self.inside.keypos c.self.inside.objects.pairs _ c.args.self.now (Change c.args.key.now (Some c.copy.new.into.items) None) c.self.view_is c.self.invariant.ordered refl h.found,
     )
 
-may : (g : _) → (c : goal.After-as_slice-2 g) → MayLeave g.F.Fn c.args.f.now c.copy.new.into.items true c.f.new.arg3.items c.f.new.arg4
-may g c = may_leave g.F.Fn c.args.f.now c.copy.new.into.items c.f.result true _ _ _ _ _ c.if-not-f.false c.as_slice.ensures.value c.new-new.ensures c.f.ensures
-
-left : (g : _) → (c : goal.After-as_slice-2 g) → IsLeft c.self.inside.keypos c.args.key.now c.f.new.arg3.items c.f.new.arg4
+left : (g : _) → (c : goal.Else-not-f g) → IsLeft c.self.inside.keypos c.args.key.now c.f.new.arg3.items c.f.new.arg4
 left g c =
     let old : IsThere c.self.inside.keypos c.self.inside.objects.pairs c.args.key.now c.in-Ok.at c.copy.new.into.items =
     there _ _ _ c.find.result _ _ c.self.invariant.ordered c.find.ensures.bound c.find.ensures.position c.in-Ok.is (c.copy.ensures ∙ c.object.ensures) in
-    left_by g.F.Fn c.args.f.now _ _ _ _ _ _ (ap (λ (k : Known). k.keypos) c.self.view_is) c.requires.function old.pair (may g c)
+    let may = may_leave g.F.Fn c.args.f.now c.copy.new.into.items c.f.result true _ _ _ _ _ c.if-not-f.false c.as_slice.ensures.value c.new-new.ensures c.f.ensures in
+    left_by g.F.Fn c.args.f.now _ _ _ _ _ _ (ap (λ (k : Known). k.keypos) c.self.view_is) c.requires.function old.pair may
 
-pub overflow_add-start : goal.overflow_add-start
-overflow_add-start g c = let l = left g c in record { fits = omega (arith, l.inside, l.pair.short) }
+pub overflow_add-end : goal.overflow_add-end
+overflow_add-end g c = let l = left g c in record { fits = omega (arith, l.inside, l.pair.short) }
+
+left_at : (g : _) → (c : goal.After-as_slice-2 g) → IsLeft c.self.inside.keypos c.args.key.now c.f.new.arg3.items c.f.new.arg4
+left_at g c =
+    let old : IsThere c.self.inside.keypos c.self.inside.objects.pairs c.args.key.now c.in-Ok.at c.copy.new.into.items =
+    there _ _ _ c.find.result _ _ c.self.invariant.ordered c.find.ensures.bound c.find.ensures.position c.in-Ok.is (c.copy.ensures ∙ c.object.ensures) in
+    let may = may_leave g.F.Fn c.args.f.now c.copy.new.into.items c.f.result true _ _ _ _ _ c.if-not-f.false c.as_slice.ensures.value c.new-new.ensures c.f.ensures in
+    left_by g.F.Fn c.args.f.now _ _ _ _ _ _ (ap (λ (k : Known). k.keypos) c.self.view_is) c.requires.function old.pair may
 
 pub put-requires-clause-key : goal.put-requires-clause-key
-put-requires-clause-key g c = let l = left g c in (omega arith, omega (arith, l.inside, ap (λ (x : List ℕ). length x) c.as_slice-2.ensures.value))
+put-requires-clause-key g c = let l = left_at g c in (omega arith, omega (arith, l.inside, ap (λ (x : List ℕ). length x) c.as_slice-2.ensures.value))
 
 -- what the call comes to
 record Comes (g : _) (c : goal.After-put g) : Type 0 where
