@@ -1,5 +1,5 @@
 -- What a call of a plain store makes known.
-use Rattle.std.proofs.Common.{◌≡◌, ℕ, ◌+◌, ◌-◌, ◌≤◌, true, List, [], ◌∷◌, ◌++◌, length, length-append, take, drop, get_or, refl, sym, ◌∙◌, ap, subst, Result, Ok, Err, Some, None, arith}
+use Rattle.std.proofs.Common.{◌≡◌, ℕ, ◌+◌, ◌-◌, ◌≤◌, true, List, [], ◌∷◌, ◌++◌, length, length-append, take, drop, get_or, refl, sym, ◌∙◌, ap, subst, Result, Ok, Err, arith}
 use Rattle.std.specs.Prelude.{Bool}
 use Rattle.std.specs.List.Sorted.{IsBinarySearchResult, IsSearchInRange}
 use Rattle.std.specs.List.{slice_range}
@@ -8,9 +8,9 @@ use denote.Ref.{Bor, MutBor}
 use denote.Param.Members.{Shared}
 use Rattle.arrayvec.specs.ArrayVec.{ArrayVec}
 use Rattle.ca_model.specs.StoreMap.{Pair, StoreMap, bytes_cmp, get, put, IsPair, IsStoreMap}
-use Rattle.ca_model.specs.History.{Edit, Put, Del, after_edit, IsEdit}
+use Rattle.ca_model.specs.History.{Edit, after_edit, IsEdit}
 use Rattle.ca_model.specs.Event.{Event, IsAnswer, effect}
-use Rattle.ca_model.specs.Known.{Known, Meets, IsSameStore}
+use Rattle.ca_model.specs.Known.{Known, Meets}
 use Rattle.ca_model.specs.Function.{MayLeave, StandsAt, KeepsKey}
 use Rattle.ca_model.specs.Slab.{nothing, placed}
 use Rattle.ca_model.specs.PlainView.{known_alone}

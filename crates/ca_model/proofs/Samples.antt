@@ -1,10 +1,9 @@
 -- Objects that tests make.
-use Rattle.std.proofs.Common.{◌≡◌, ℕ, zero, suc, ◌+◌, ◌-◌, ◌/◌, ◌%◌, ◌<◌, ◌≤◌, List, [], ◌∷◌, ◌++◌, length, append-nil, append_assoc, length-append, arith, refl, sym, ◌∙◌, ap, subst}
-use Rattle.std.specs.Prelude.{slice_index}
-use Rattle.ca_term.specs.declared.bounds.TheConstants.{MOST_DEPTH, MOST_ELEMENTS, MOST_CODE_BYTES}
+use Rattle.std.proofs.Common.{◌≡◌, ℕ, zero, suc, ◌+◌, ◌-◌, ◌/◌, ◌%◌, ◌<◌, ◌≤◌, List, [], ◌∷◌, ◌++◌, length, append-nil, append_assoc, arith, refl, sym, ◌∙◌, ap, subst}
+use Rattle.ca_term.specs.declared.bounds.TheConstants.{MOST_ELEMENTS, MOST_CODE_BYTES}
 use Rattle.ca_term.specs.Tree.{AreBytes}
 use Rattle.ca_term.specs.Code.{four_bytes}
-use Rattle.ca_term.specs.Grammar.{AreDigits, IsCodeWithin, AreCodesWithin, FromZero, ANil, NoCode, OneMore}
+use Rattle.ca_term.specs.Grammar.{IsCodeWithin, AreCodesWithin, FromZero, ANil, NoCode, OneMore}
 use Rattle.ca_model.specs.StoreMap.{IsPair}
 use Rattle.ca_model.specs.Function.{StandsAt}
 use Rattle.ca_model.specs.Samples.{HasNils}

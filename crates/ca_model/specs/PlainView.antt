@@ -1,5 +1,5 @@
 -- What contracts know of a plain store: it is alone and sure, and its pass is the only one.
-use Rattle.std.specs.Prelude.{ℕ, ◌≤◌, List, true, None}
+use Rattle.std.specs.Prelude.{ℕ, ◌≤◌, true, None}
 use Rattle.ca_term.specs.declared.bounds.TheConstants.{MOST_ELEMENTS}
 use Rattle.ca_model.specs.StoreMap.{StoreMap, IsStoreMap}
 use Rattle.ca_model.specs.Known.{Known}

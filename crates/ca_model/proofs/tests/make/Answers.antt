@@ -1,4 +1,4 @@
-use Rattle.std.proofs.Common.{◌≡◌, ◌≤◌, ◌+◌, ◌++◌, length, ◌∙◌, sym, subst, ℕ, refl, arith}
+use Rattle.std.proofs.Common.{◌≡◌, ◌+◌, ◌++◌, sym, subst, ℕ, refl, arith}
 use Rattle.std.proofs.lemmas.Grind.{common_steps}
 use Rattle.ca_model.specs.Function.{StandsAt}
 use Rattle.ca_model.proofs.Samples.{made}

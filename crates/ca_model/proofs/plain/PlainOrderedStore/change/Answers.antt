@@ -1,5 +1,4 @@
-use Rattle.std.proofs.Common.{◌≡◌, ◌∙◌, ◌≤◌, ◌+◌, ℕ, List, ◌++◌, length, length-append, arith, ap, subst, refl, sym, Some, None, true, false, Ok, Result}
-use Rattle.std.specs.List.{slice_range}
+use Rattle.std.proofs.Common.{◌≡◌, ◌∙◌, ℕ, List, length, arith, ap, subst, refl, sym, Some, None, true, false, Ok, Result}
 use Rattle.ca_model.specs.StoreMap.{Pair, IsPair, put}
 use Rattle.ca_model.specs.History.{Put}
 use Rattle.ca_model.specs.Event.{Change}

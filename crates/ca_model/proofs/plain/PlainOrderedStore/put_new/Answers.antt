@@ -1,4 +1,4 @@
-use Rattle.std.proofs.Common.{◌≡◌, ◌∙◌, ℕ, List, refl, sym, ap, subst, true, false, Ok, Err, Result}
+use Rattle.std.proofs.Common.{◌≡◌, ◌∙◌, ℕ, List, refl, sym, ap, subst, true, false, Result}
 use Rattle.std.specs.List.{slice_range}
 use Rattle.ca_model.specs.StoreMap.{IsPair, put}
 use Rattle.ca_model.specs.History.{Put}
