@@ -18,7 +18,8 @@ use Rattle.ca_model.proofs.Places.{IsPlace, IsAt, IsBefore, searched, placed_is,
 use Rattle.ca_model.proofs.Edits.{map_after_edit, found_pair}
 
 -- A call that reads.
-pub read_met : (p : ℕ) (m : StoreMap) (s : ℕ) (a : Known) (event : Event) → known_alone p m s ≡ a → IsStoreMap p m → effect event ≡ [] → IsAnswer event m → Meets a a event
+pub read_met : (p : ℕ) (m : StoreMap) (s : ℕ) (a : Known) (event : Event) → known_alone p m s ≡ a → IsStoreMap p m → effect event ≡ [] → IsAnswer event m
+    → Meets a a event
 read_met p m s a event e t none answer = subst (λ (x : Known). Meets x x event) e (record {
   earlier = [];
   later = [];
@@ -87,8 +88,10 @@ pub kept : (p : ℕ) (m n : StoreMap) (edit : Edit) → IsStoreMap p m → IsEdi
 kept p m n edit t e is = subst (λ (x : StoreMap). IsStoreMap p x) (sym is) (map_after_edit p edit m e t)
 
 -- A function that was called at an object with an empty Code, and answered so, may leave what it left.
-pub may_leave : {F : Type 0} (g : Shared F (Bor (List ℕ) × (MutBor (ArrayVec ℕ) × (MutBor ℕ × Unit {0}))) (Bool × (MutBor (ArrayVec ℕ) × (MutBor ℕ × Unit {0})))) (f : F)
-    (object : List ℕ) (r answer : Bool) (shown : Bor (List ℕ)) (into into' : MutBor (ArrayVec ℕ)) (start start' : MutBor ℕ) → r ≡ answer → shown.now ≡ object → into.now.items ≡ []
+pub may_leave : {F : Type 0} (g : Shared F (Bor (List ℕ) × (MutBor (ArrayVec ℕ) × (MutBor ℕ × Unit {0}))) (Bool
+    × (MutBor (ArrayVec ℕ) × (MutBor ℕ × Unit {0})))) (f : F)
+    (object : List ℕ) (r answer : Bool) (shown : Bor (List ℕ)) (into into' : MutBor (ArrayVec ℕ)) (start start' : MutBor ℕ) → r ≡ answer
+        → shown.now ≡ object → into.now.items ≡ []
     → g.post f (shown, (into, (start, tt))) (r, (into', (start', tt))) → MayLeave g f object answer into'.now.items start'.now
 may_leave g f object r answer shown into into' start start' e s m post = record {
   shown = shown;
@@ -112,7 +115,8 @@ pub record IsLeft (p : ℕ) (k w : List ℕ) (start : ℕ) : Type 0 where
   pub inside : start + length k ≤ length w
   pub key : slice_range w start (start + length k) ≡ k
 
-pub left_by : {F : Type 0} (g : Shared F (Bor (List ℕ) × (MutBor (ArrayVec ℕ) × (MutBor ℕ × Unit {0}))) (Bool × (MutBor (ArrayVec ℕ) × (MutBor ℕ × Unit {0})))) (f : F)
+pub left_by : {F : Type 0} (g : Shared F (Bor (List ℕ) × (MutBor (ArrayVec ℕ) × (MutBor ℕ × Unit {0}))) (Bool
+    × (MutBor (ArrayVec ℕ) × (MutBor ℕ × Unit {0})))) (f : F)
     (p q : ℕ) (k o w : List ℕ) (start : ℕ) → p ≡ q → KeepsKey g f q k → IsPair p (k, o) → MayLeave g f o true w start → IsLeft p k w start
 left_by g f p q k o w start e keeps old may =
     let kept = keeps.keeps o w start (subst (λ (n : ℕ). IsPair n (k, o)) e old) may in
@@ -136,5 +140,6 @@ left_by g f p q k o w start e keeps old may =
         ap (λ (n : ℕ). take n (drop start w)) size ∙ ap (λ (x : List ℕ). take (length k) x) rest ∙ take_at k s.behind (length k) refl
 
 -- the pair that is cut out of bytes is the one of the key and the object that they are
-pub pair_of_bytes : (lent w k : List ℕ) (start : ℕ) → lent ≡ w → slice_range w start (start + length k) ≡ k → paired (slice_range lent start (start + length k)) lent ≡ paired k w
+pub pair_of_bytes : (lent w k : List ℕ) (start : ℕ) → lent ≡ w → slice_range w start (start + length k) ≡ k
+    → paired (slice_range lent start (start + length k)) lent ≡ paired k w
 pair_of_bytes lent w k start e h = ap (λ (x : List ℕ). paired (slice_range x start (start + length k)) x) e ∙ ap (λ (x : List ℕ). paired x w) h

@@ -21,7 +21,8 @@ after_all (x ∷ xs) m = after_all xs _
 
 take_past : (xs ys : History) (n : ℕ) → take (length xs + n) (xs ++ ys) ≡ xs ++ take n ys
 take_past [] ys n = let e : 0 + n ≡ n = omega arith in ap (λ (k : ℕ). take k ys) e
-take_past (x ∷ xs) ys n = let e : suc (length xs) + n ≡ suc (length xs + n) = omega arith in ap (λ (k : ℕ). take k (x ∷ (xs ++ ys))) e ∙ ap (λ (zs : History). x ∷ zs) (take_past xs ys n)
+take_past (x ∷ xs) ys n = let e : suc (length xs) + n ≡ suc (length xs + n) = omega arith in ap (λ (k : ℕ). take k (x ∷ (xs ++ ys))) e
+    ∙ ap (λ (zs : History). x ∷ zs) (take_past xs ys n)
 
 get_past : (xs ys : History) (n : ℕ) → slice_get (xs ++ ys) (length xs + n) ≡ slice_get ys n
 get_past [] ys n = let e : 0 + n ≡ n = omega arith in ap (λ (k : ℕ). slice_get ys k) e
@@ -40,7 +41,8 @@ took (x ∷ xs) (suc n) h = ap suc (took xs n (omega arith))
 
 -- the state at a place past what was seen
 state_past : (seen more : History) (p n : ℕ) → p ≡ length seen + n → state (seen ++ more) p ≡ after (take n more) (after seen [])
-state_past seen more p n e = ap (λ (k : ℕ). after (take k (seen ++ more)) []) e ∙ ap (λ (h : History). after h []) (take_past seen more n) ∙ after-append seen (take n more) []
+state_past seen more p n e = ap (λ (k : ℕ). after (take k (seen ++ more)) []) e ∙ ap (λ (h : History). after h []) (take_past seen more n)
+    ∙ after-append seen (take n more) []
 
 -- a call has one effect at most
 one_edit : (event : Event) (edit : Edit) (edits : List Edit) → effect event ≡ edit ∷ edits → edits ≡ []
@@ -55,20 +57,23 @@ one_edit (Change k (Some o) None) edit edits e = cc
 one_edit (Change k (Some o) (Some new)) edit edits e = cc
 
 -- the last entry of a log
-last_entry : (pass : ℕ) (history : History) (log : List Entry) (event : Event) (p : ℕ) → AreEntries pass history (log ++ (event, p) ∷ []) → IsEntryAt pass history event p (effect event)
+last_entry : (pass : ℕ) (history : History) (log : List Entry) (event : Event) (p : ℕ) → AreEntries pass history (log ++ (event, p) ∷ [])
+    → IsEntryAt pass history event p (effect event)
 last_entry pass history [] event p h = h.0
 last_entry pass history (entry ∷ log) event p h = last_entry pass history log event p h.1
 
 edits_of_log-append : (log : List Entry) (event : Event) (p : ℕ) → edits_of_log (log ++ (event, p) ∷ []) ≡ edits_of_log log ++ effect event
 edits_of_log-append [] event p = append-nil (effect event)
-edits_of_log-append (entry ∷ log) event p = ap (λ (es : List Edit). effect entry.0 ++ es) (edits_of_log-append log event p) ∙ sym (append_assoc (effect entry.0) (edits_of_log log) (effect event))
+edits_of_log-append (entry ∷ log) event p = ap (λ (es : List Edit). effect entry.0 ++ es) (edits_of_log-append log event p)
+    ∙ sym (append_assoc (effect entry.0) (edits_of_log log) (effect event))
 
 edits_of_pass-append : (pass : ℕ) (xs ys : History) → edits_of_pass pass (xs ++ ys) ≡ edits_of_pass pass xs ++ edits_of_pass pass ys
 edits_of_pass-append pass [] ys = refl
 edits_of_pass-append pass (x ∷ xs) ys = by (x.0 == pass) (edits_of_pass-append pass xs ys)
   where
     by : (own : Bool) → edits_of_pass pass (xs ++ ys) ≡ edits_of_pass pass xs ++ edits_of_pass pass ys
-        → (if own then x.1 ∷ edits_of_pass pass (xs ++ ys) else edits_of_pass pass (xs ++ ys)) ≡ (if own then x.1 ∷ edits_of_pass pass xs else edits_of_pass pass xs) ++ edits_of_pass pass ys
+        → (if own then x.1 ∷ edits_of_pass pass (xs ++ ys) else edits_of_pass pass (xs ++ ys)) ≡ (if own then x.1 ∷ edits_of_pass pass xs else
+            edits_of_pass pass xs) ++ edits_of_pass pass ys
     by true e = ap (λ (es : List Edit). x.1 ∷ es) e
     by false e = e
 
@@ -117,7 +122,8 @@ second_empty (x ∷ xs) ys e = cc
 own_first : (pass : ℕ) (edit : Edit) (xs : History) → length (edits_of_pass pass ((pass, edit) ∷ xs)) ≡ suc (length (edits_of_pass pass xs))
 own_first pass edit xs = by (pass == pass) refl
   where
-    by : (own : Bool) → (pass == pass) ≡ own → length (if own then edit ∷ edits_of_pass pass xs else edits_of_pass pass xs) ≡ suc (length (edits_of_pass pass xs))
+    by : (own : Bool) → (pass == pass) ≡ own → length (if own then edit ∷ edits_of_pass pass xs else edits_of_pass pass xs) ≡ suc
+        (length (edits_of_pass pass xs))
     by true is = refl
     by false is = absurd (grind (arith, nat_tests, is))
 
@@ -148,7 +154,8 @@ parts_of : (a : Known) (event : Event) (history more : History) (p : ℕ) → ed
     → IsEntryAt a.pass (history ++ more) event p (effect event) → IsPlaceFrom (length history) p (effect event) → Parts a event history more p
 parts_of a event history more p own entry from = by (effect event) refl own entry from
   where
-    counted : (n : ℕ) (edit : Edit) (edits : List Edit) → edits_of_pass a.pass (take n more) ++ edits_of_pass a.pass ((a.pass, edit) ∷ drop (suc n) more) ≡ edit ∷ edits → edits ≡ []
+    counted : (n : ℕ) (edit : Edit) (edits : List Edit) → edits_of_pass a.pass (take n more) ++ edits_of_pass a.pass ((a.pass, edit) ∷ drop (suc n) more) ≡
+        edit ∷ edits → edits ≡ []
         → length (edits_of_pass a.pass (take n more)) + length (edits_of_pass a.pass (drop (suc n) more)) ≡ 0
     counted n edit edits owns none =
         let first = own_first a.pass edit (drop (suc n) more) in
@@ -169,7 +176,8 @@ parts_of a event history more p own entry from = by (effect event) refl own entr
         record {
           earlier = take n more;
           later = drop n more;
-          whole = ap (λ (es : List Edit). take n more ++ by_pass a.pass es ++ drop n more) none ∙ ap (λ (h : History). h ++ drop n more) (append-nil (take n more)) ∙ split;
+          whole = ap (λ (es : List Edit). take n more ++ by_pass a.pass es ++ drop n more) none
+              ∙ ap (λ (h : History). h ++ drop n more) (append-nil (take n more)) ∙ split;
           place = omega (arith, took more n short, ap (λ (es : List Edit). length es) none);
           answer = subst (λ (m : StoreMap). IsAnswer event m) (state_past history more p n at) entry.1;
           others_earlier = by_others a.pass (take n more) (first_empty (edits_of_pass a.pass (take n more)) (edits_of_pass a.pass (drop n more)) owns);
@@ -178,13 +186,15 @@ parts_of a event history more p own entry from = by (effect event) refl own entr
     by (edit ∷ edits) one own entry low =
         let n = p - length history - 1 in
         let before : p - 1 ≡ length history + n = omega arith in
-        let here : slice_get more n ≡ Some (a.pass, edit) = sym (get_past history more n) ∙ ap (λ (k : ℕ). slice_get (history ++ more) k) (sym before) ∙ entry.2 in
+        let here : slice_get more n ≡ Some (a.pass, edit) = sym (get_past history more n) ∙ ap (λ (k : ℕ). slice_get (history ++ more) k) (sym before)
+            ∙ entry.2 in
         let short : n ≤ length more = omega (arith, entry.1, length-append history more) in
         let single : effect event ≡ edit ∷ [] = one ∙ ap (λ (es : List Edit). edit ∷ es) (one_edit event edit edits one) in
         let split : take n more ++ (a.pass, edit) ∷ drop (suc n) more ≡ more = parts_at more n (a.pass, edit) here in
         let owns : edits_of_pass a.pass (take n more) ++ edits_of_pass a.pass ((a.pass, edit) ∷ drop (suc n) more) ≡ edit ∷ edits =
         sym (edits_of_pass-append a.pass (take n more) ((a.pass, edit) ∷ drop (suc n) more)) ∙ ap (edits_of_pass a.pass) split ∙ own in
-        let alone : length (edits_of_pass a.pass (take n more)) + length (edits_of_pass a.pass (drop (suc n) more)) ≡ 0 = counted n edit edits owns (one_edit event edit edits one) in
+        let alone : length (edits_of_pass a.pass (take n more)) + length (edits_of_pass a.pass (drop (suc n) more)) ≡ 0 =
+            counted n edit edits owns (one_edit event edit edits one) in
         record {
           earlier = take n more;
           later = drop (suc n) more;
@@ -223,10 +233,12 @@ met a b event adv parts =
     }
   where
     learnt_edits : (a b : Known) (event : Event) (adv : Advances a b event) → AreEdits a.keypos adv.more
-    learnt_edits a b event adv = second_part a.keypos adv.history adv.more (subst (λ (n : ℕ). AreEdits n (adv.history ++ adv.more)) adv.same.keypos adv.behind.edits)
+    learnt_edits a b event adv = second_part a.keypos adv.history adv.more (subst (λ (n : ℕ). AreEdits n (adv.history ++ adv.more)) adv.same.keypos
+        adv.behind.edits)
 
     learnt_passes : (a b : Known) (event : Event) (adv : Advances a b event) → AreByPasses a.passes adv.more
-    learnt_passes a b event adv = second_passes a.passes adv.history adv.more (subst (λ (n : ℕ). AreByPasses n (adv.history ++ adv.more)) adv.same.passes adv.behind.passes)
+    learnt_passes a b event adv = second_passes a.passes adv.history adv.more (subst (λ (n : ℕ). AreByPasses n (adv.history ++ adv.more)) adv.same.passes
+        adv.behind.passes)
 
     none_else : a.alone ≡ true → (parts.earlier ≡ []) × (parts.later ≡ [])
     none_else h =

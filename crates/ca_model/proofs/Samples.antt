@@ -34,12 +34,14 @@ key_code x y z a b c = FromZero 190 (1 ∷ x ∷ y ∷ z ∷ []) (omega arith, o
     bytes (suc (suc (suc (suc k)))) = omega arith
 
 -- The parts of an object that is made.
-pub made : (keypos before behind size : ℕ) (key first second third new : List ℕ) → keypos ≡ before + 1 → size ≡ before + 1 + behind → size ≤ MOST_ELEMENTS → IsCodeWithin 191 key
+pub made : (keypos before behind size : ℕ) (key first second third new : List ℕ) → keypos ≡ before + 1 → size ≡ before + 1 + behind → size ≤ MOST_ELEMENTS
+    → IsCodeWithin 191 key
     → first ≡ 0x40 ∷ four_bytes size → HasNils before first second → third ≡ second ++ key → HasNils behind third new → length new ≤ MOST_CODE_BYTES
     → IsPair keypos (key, new) × StandsAt key new (length second)
 made keypos before behind size key first second third new k s m code f b t a l =
     let whole : new ≡ second ++ (key ++ a.codes) = a.is ∙ ap (λ (xs : List ℕ). xs ++ a.codes) t ∙ append_assoc second key a.codes in
-    let front : second ≡ 0x40 ∷ four_bytes (before + 1 + behind) ++ b.codes = b.is ∙ ap (λ (xs : List ℕ). xs ++ b.codes) (f ∙ ap (λ (n : ℕ). 0x40 ∷ four_bytes n) s) in (
+    let front : second ≡ 0x40 ∷ four_bytes (before + 1 + behind) ++ b.codes = b.is ∙ ap (λ (xs : List ℕ). xs ++ b.codes) (f
+        ∙ ap (λ (n : ℕ). 0x40 ∷ four_bytes n) s) in (
       record {
         before = before;
         behind = behind;
@@ -47,7 +49,8 @@ made keypos before behind size key first second third new k s m code f b t a l =
         codes_behind = a.codes;
         place = k;
         narrow = omega (arith, s, m);
-        bytes = whole ∙ ap (λ (xs : List ℕ). xs ++ (key ++ a.codes)) front ∙ ap (λ (xs : List ℕ). 0x40 ∷ xs) (append_assoc (four_bytes (before + 1 + behind)) b.codes (key ++ a.codes));
+        bytes = whole ∙ ap (λ (xs : List ℕ). xs ++ (key ++ a.codes)) front
+            ∙ ap (λ (xs : List ℕ). 0x40 ∷ xs) (append_assoc (four_bytes (before + 1 + behind)) b.codes (key ++ a.codes));
         are_before = b.are;
         is_key = code;
         are_behind = a.are;

@@ -122,7 +122,8 @@ pub pair_at : (rows : List Pair) (order : List ℕ) (len at : ℕ) → AreSlots 
     → get_or (list_in rows order len).pairs at nothing ≡ get_or rows (get_or order at 0) nothing
 pair_at rows order len at h l =
     let short = length-take-le len order h.within in
-    get_or-map (λ m. get_or rows m nothing) (take len order) at 0 nothing (omega (arith, short)) ∙ ap (λ (m : ℕ). get_or rows m nothing) (get_or-take len order at 0 l)
+    get_or-map (λ m. get_or rows m nothing) (take len order) at 0 nothing (omega (arith, short))
+        ∙ ap (λ (m : ℕ). get_or rows m nothing) (get_or-take len order at 0 l)
 
 -- The same rows and the same order.
 pub same_slots : (rows new : List Pair) (order other : List ℕ) (len : ℕ) → AreSlots rows order len → new ≡ rows → other ≡ order → AreSlots new other len
@@ -176,7 +177,8 @@ slots_inserted rows new order other len at p h l a e f =
     let slot = get_or order len 0 in
     let parts = order_parts order len l in
     let short = length-take-le len order h.within in
-    let same : (m : ℕ) → times m other ≡ times m order = λ m. ap (times m) f ∙ times_inserted m (take len order) (drop (len + 1) order) slot at ∙ ap (times m) parts in
+    let same : (m : ℕ) → times m other ≡ times m order = λ m. ap (times m) f ∙ times_inserted m (take len order) (drop (len + 1) order) slot at
+        ∙ ap (times m) parts in
     let long : length other ≡ length order = ap (λ (ms : List ℕ). length ms) f ∙ length_moved order len at a l in
     record {
       within = omega (arith, long, l);
@@ -191,17 +193,20 @@ list_inserted rows new order other len at p h l a e f =
     let slot = get_or order len 0 in
     let rest = drop (len + 1) order in
     let short : length ms ≡ len = length-take-le len order h.within in
-    let front : take (len + 1) (insert ms at slot ++ rest) ≡ insert ms at slot = take_at (insert ms at slot) rest (len + 1) (length-insert ms at slot (omega (arith, short, a)) ∙ ap (λ (n : ℕ). n + 1) short) in
+    let front : take (len + 1) (insert ms at slot ++ rest) ≡ insert ms at slot = take_at (insert ms at slot) rest (len + 1)
+        (length-insert ms at slot (omega (arith, short, a)) ∙ ap (λ (n : ℕ). n + 1) short) in
     let once : times slot (ms ++ slot ∷ rest) ≤ 1 = omega (arith, ap (times slot) (order_parts order len l), h.once slot) in
     ap (λ (o : List ℕ). pairs_in new (take (len + 1) o)) f ∙ ap (pairs_in new) front ∙ ap (λ (r : List Pair). pairs_in r (insert ms at slot)) e
     ∙ row_inserted rows p ms rest slot at (omega (arith, short, a)) (is_row rows order len len h l) once
 
 -- A pair is taken out.
-pub slots_removed : (rows : List Pair) (order other : List ℕ) (len at : ℕ) → AreSlots rows order len → at < len → other ≡ with_freed order len at → AreSlots rows other (len - 1)
+pub slots_removed : (rows : List Pair) (order other : List ℕ) (len at : ℕ) → AreSlots rows order len → at < len → other ≡ with_freed order len at
+    → AreSlots rows other (len - 1)
 slots_removed rows order other len at h a f =
     let ms = take len order in
     let short : length ms ≡ len = length-take-le len order h.within in
-    let same : (m : ℕ) → times m other ≡ times m order = λ m. ap (times m) f ∙ times_removed m ms (drop len order) at (omega (arith, short, a)) ∙ ap (times m) (take-append-drop len order) in
+    let same : (m : ℕ) → times m other ≡ times m order = λ m. ap (times m) f ∙ times_removed m ms (drop len order) at (omega (arith, short, a))
+        ∙ ap (times m) (take-append-drop len order) in
     let long : length other ≡ length order = ap (λ (ns : List ℕ). length ns) f ∙ length_freed order len at a h.within in
     record {
       within = omega (arith, long, h.within);
@@ -217,11 +222,13 @@ list_removed rows order other len at h a f =
     let short : length ms ≡ len = length-take-le len order h.within in
     let less = length-remove ms at (omega (arith, short, a)) in
     let front : take (len - 1) (remove ms at ++ last ∷ [] ++ drop len order) ≡ remove ms at =
-    ap (λ (ns : List ℕ). take (len - 1) ns) (append_assoc (remove ms at) (last ∷ []) (drop len order)) ∙ take_at (remove ms at) (last ∷ drop len order) (len - 1) (omega (arith, less, short)) in
+    ap (λ (ns : List ℕ). take (len - 1) ns) (append_assoc (remove ms at) (last ∷ []) (drop len order))
+        ∙ take_at (remove ms at) (last ∷ drop len order) (len - 1) (omega (arith, less, short)) in
     ap (λ (o : List ℕ). pairs_in rows (take (len - 1) o)) f ∙ ap (pairs_in rows) front ∙ map_remove (λ m. get_or rows m nothing) ms at
 
 -- A blank row is added, and its number as the last free one.
-pub slots_added : (rows new : List Pair) (order other : List ℕ) (len : ℕ) → AreSlots rows order len → new ≡ rows ++ nothing ∷ [] → other ≡ order ++ length rows ∷ [] → AreSlots new other len
+pub slots_added : (rows new : List Pair) (order other : List ℕ) (len : ℕ) → AreSlots rows order len → new ≡ rows ++ nothing ∷ []
+    → other ≡ order ++ length rows ∷ [] → AreSlots new other len
 slots_added rows new order other len h e f =
     let count : (m : ℕ) → times m other ≡ times m order + is m (length rows) =
     λ m. ap (times m) f ∙ sum_by-append (is m) order (length rows ∷ []) ∙ (let one = times_more m (length rows) [] in omega (arith, one)) in
@@ -249,7 +256,8 @@ slots_added rows new order other len h e f =
         is_differs : (m n : ℕ) → (m ≡ n → ⊥) → is m n ≡ 0
         is_differs m n d = grind (arith, nat_tests, d)
 
-pub list_added : (rows new : List Pair) (order other : List ℕ) (len : ℕ) → AreSlots rows order len → new ≡ rows ++ nothing ∷ [] → other ≡ order ++ length rows ∷ []
+pub list_added : (rows new : List Pair) (order other : List ℕ) (len : ℕ) → AreSlots rows order len → new ≡ rows ++ nothing ∷ []
+    → other ≡ order ++ length rows ∷ []
     → (list_in new other len).pairs ≡ (list_in rows order len).pairs
 list_added rows new order other len h e f =
     ap (λ (o : List ℕ). pairs_in new (take len o)) (f) ∙ ap (pairs_in new) (take-append-le len order (length rows ∷ []) h.within)
@@ -263,12 +271,14 @@ found_in rows ms k (Err i) b s = λ rises. let parts = s (λ a c d h l.
     let low = get_or-map (λ m. get_or rows m nothing) ms a d nothing (omega arith) in
     let high = get_or-map (λ m. get_or rows m nothing) ms c d nothing l in
     let more = length-map ms (λ m. get_or rows m nothing) in
-    let at : ordering_index (bytes_cmp (get_or (pairs_in rows ms) a nothing).0 k) ≤ ordering_index (bytes_cmp (get_or (pairs_in rows ms) c nothing).0 k) = rises a c nothing h (omega (arith, more, l)) in
+    let at : ordering_index (bytes_cmp (get_or (pairs_in rows ms) a nothing).0 k) ≤ ordering_index (bytes_cmp (get_or (pairs_in rows ms) c nothing).0 k) =
+        rises a c nothing h (omega (arith, more, l)) in
     subst (λ (p : Pair). ordering_index (bytes_cmp p.0 k) ≤ ordering_index (bytes_cmp (get_or rows (get_or ms c d) nothing).0 k)) low
     (subst (λ (p : Pair). ordering_index (bytes_cmp (get_or (pairs_in rows ms) a nothing).0 k) ≤ ordering_index (bytes_cmp p.0 k)) high at)) in (
       (λ j d l h. ap (λ (p : Pair). bytes_cmp p.0 k) (get_or-map (λ m. get_or rows m nothing) ms j 0 d (omega (arith, h, b))) ∙ parts.0 j 0 l h),
       (λ j d l h. let more = length-map ms (λ m. get_or rows m nothing) in
-          ap (λ (p : Pair). bytes_cmp p.0 k) (get_or-map (λ m. get_or rows m nothing) ms j 0 d (omega (arith, h, more))) ∙ parts.1 j 0 l (omega (arith, h, more))),
+          ap (λ (p : Pair). bytes_cmp p.0 k) (get_or-map (λ m. get_or rows m nothing) ms j 0 d (omega (arith, h, more)))
+              ∙ parts.1 j 0 l (omega (arith, h, more))),
     )
 
 -- what is read of the order at a place of the list
@@ -313,5 +323,6 @@ free_at rows order len now at x h v s l e =
     }
 
 -- A vector's numbers after its whole slice was written over.
-pub written_over : (order given whole : List ℕ) (n : ℕ) → given ≡ whole → length whole ≡ length order → n ≡ length order → take n (given ++ drop (length given) order) ≡ whole
+pub written_over : (order given whole : List ℕ) (n : ℕ) → given ≡ whole → length whole ≡ length order → n ≡ length order
+    → take n (given ++ drop (length given) order) ≡ whole
 written_over order given whole n e f g = take_at given (drop (length given) order) n (ap (λ (ms : List ℕ). length ms) e ∙ f ∙ sym g) ∙ e

@@ -10,7 +10,8 @@ use Rattle.ca_model.proofs.plain.PlainOrderedStore.remove_if.Goals as goal
 pub returns-in_default-clause-removed : goal.returns-in_default-clause-removed
 returns-in_default-clause-removed g c =
     let m = c.self.inside.objects.pairs in
-    let none = absent c.self.inside.keypos m c.args.key.now c.find.result c.in_default.field-0 c.self.invariant.ordered c.find.ensures.bound c.find.ensures.position c.in_default.is in
+    let none = absent c.self.inside.keypos m c.args.key.now c.find.result c.in_default.field-0 c.self.invariant.ordered c.find.ensures.bound
+        c.find.ensures.position c.in_default.is in
     (read_met c.self.inside.keypos m _ c.args.self.now (Get c.args.key.now None) c.self.view_is c.self.invariant.ordered refl none, c.clear.ensures)
 
 pub copy-requires : goal.copy-requires
@@ -32,7 +33,8 @@ returns-then-not-f-clause-removed g c =
     let h : IsThere c.self.inside.keypos c.self.inside.objects.pairs c.args.key.now c.in-Ok.at c.copy.new.into.items =
     there _ _ _ c.find.result _ _ c.self.invariant.ordered c.find.ensures.bound c.find.ensures.position c.in-Ok.is (c.copy.ensures ∙ c.object.ensures) in (
       record { shown = _; shows = c.as_slice.ensures.value; met = rw c.if-not-f.true at c.f.ensures },
-      read_met c.self.inside.keypos c.self.inside.objects.pairs _ c.args.self.now (Get c.args.key.now (Some c.copy.new.into.items)) c.self.view_is c.self.invariant.ordered refl h.found,
+      read_met c.self.inside.keypos c.self.inside.objects.pairs _ c.args.self.now (Get c.args.key.now (Some c.copy.new.into.items)) c.self.view_is
+          c.self.invariant.ordered refl h.found,
     )
 
 taken : (g : _) → (c : goal.After-remove g) → IsThere c.self.inside.keypos c.self.inside.objects.pairs c.args.key.now c.in-Ok.at c.copy.new.into.items

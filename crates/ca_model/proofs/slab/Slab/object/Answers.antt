@@ -15,4 +15,5 @@ index-requires-2 c = let s = (slot c).row in grind (arith, common_steps, s)
 pub returns : goal.returns
 returns c =
     let s = slot_at _ _ _ c.args.self.now c.args.at c.index.result.now c.self.invariant c.self.view_is c.requires c.index.ensures in
-    c.object.ensures ∙ ap (λ (p : Pair). p.1) (get_or_read c.self.inside.rows.items c.index.result.now c.index-2.result.now s.row c.index-2.ensures nothing ∙ sym s.pair)
+    c.object.ensures ∙ ap (λ (p : Pair). p.1) (get_or_read c.self.inside.rows.items c.index.result.now c.index-2.result.now s.row c.index-2.ensures nothing
+        ∙ sym s.pair)
