@@ -125,10 +125,6 @@ pair_at rows order len at h l =
     get_or-map (λ m. get_or rows m nothing) (take len order) at 0 nothing (omega (arith, short))
         ∙ ap (λ (m : ℕ). get_or rows m nothing) (get_or-take len order at 0 l)
 
--- The same rows and the same order.
-pub same_slots : (rows new : List Pair) (order other : List ℕ) (len : ℕ) → AreSlots rows order len → new ≡ rows → other ≡ order → AreSlots new other len
-same_slots rows new order other len h e f = subst (λ (r : List Pair). AreSlots r other len) (sym e) (subst (λ (o : List ℕ). AreSlots rows o len) (sym f) h)
-
 -- A pair is replaced.
 pub slots_set : (rows new : List Pair) (order : List ℕ) (len slot : ℕ) (p : Pair) → AreSlots rows order len → new ≡ set rows slot p → AreSlots new order len
 slots_set rows new order len slot p h e = record {
