@@ -5,7 +5,6 @@ use denote.Param.Members.{Shared}
 use Rattle.arrayvec.specs.ArrayVec.{ArrayVec}
 use Rattle.ca_model.specs.declared.outcome.Outcome.{Outcome}
 use Rattle.ca_model.specs.declared.outcome.Outcome.TheVariants as outcome
-use Rattle.ca_model.specs.declared.outcome.Spent.{Spent}
 use Rattle.ca_model.specs.declared.outcome.Changed.{Changed}
 use Rattle.ca_model.specs.declared.outcome.Changed.TheVariants as changed
 use Rattle.ca_model.specs.Event.{Get, Remove, Change}
@@ -62,7 +61,8 @@ abbrev pub Removed : Known → Known → List ℕ → Bool → List ℕ → Type
 Removed a b key true old = Meets a b (Remove key (Some old))
 Removed a b key false old = Meets a b (Remove key None) × (old ≡ [])
 
-module _ {F : Type 0} (g : Shared F (Bor (List ℕ) × (MutBor (ArrayVec ℕ) × (MutBor ℕ × Unit {0}))) (Bool × (MutBor (ArrayVec ℕ) × (MutBor ℕ × Unit {0})))) (f : F) (a b : Known) (key : List ℕ) where
+module _ {F : Type 0} (g : Shared F (Bor (List ℕ) × (MutBor (ArrayVec ℕ) × (MutBor ℕ × Unit {0}))) (Bool × (MutBor (ArrayVec ℕ) × (MutBor ℕ × Unit {0}))))
+    (f : F) (a b : Known) (key : List ℕ) where
   -- The object is these bytes. Where the function answered true on it, what it wrote replaced it; where it answered false nothing changed.
   abbrev pub Altered : Changed → List ℕ → Type 0
   Altered changed.Absent old = Meets a b (Change key None None) × (old ≡ [])

@@ -13,10 +13,12 @@ pub record StandsAt (key object : List ℕ) (at : ℕ) : Type 0 where
   pub place : at ≡ length before
 
 -- A function of an object's bytes, a Code and a number: it answers, and may write into the Code and the number.
-module _ {F : Type 0} (g : Shared F (Bor (List ℕ) × (MutBor (ArrayVec ℕ) × (MutBor ℕ × Unit {0}))) (Bool × (MutBor (ArrayVec ℕ) × (MutBor ℕ × Unit {0})))) (f : F) where
+module _ {F : Type 0} (g : Shared F (Bor (List ℕ) × (MutBor (ArrayVec ℕ) × (MutBor ℕ × Unit {0}))) (Bool × (MutBor (ArrayVec ℕ) × (MutBor ℕ × Unit {0}))))
+    (f : F) where
   -- The function may be called at these bytes, with an empty Code.
   abbrev pub MayBeShown : List ℕ → Type 0
-  MayBeShown object = (shown : Bor (List ℕ)) (into : MutBor (ArrayVec ℕ)) (start : MutBor ℕ) → shown.now ≡ object → into.now.items ≡ [] → g.pre f (shown, (into, (start, tt)))
+  MayBeShown object = (shown : Bor (List ℕ)) (into : MutBor (ArrayVec ℕ)) (start : MutBor ℕ) → shown.now ≡ object → into.now.items ≡ []
+      → g.pre f (shown, (into, (start, tt)))
 
   -- Called at these bytes, with an empty Code, it may answer so and leave these bytes and this number.
   pub record MayLeave (object : List ℕ) (answer : Bool) (left : List ℕ) (number : ℕ) : Type 0 where
