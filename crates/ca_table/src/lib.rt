@@ -9,3 +9,6 @@ mod table;
 pub use laws::sure_and_alone_is_done;
 pub use outcome::Played;
 pub use table::Table;
+
+#[cfg(test)]
+mod tests;
