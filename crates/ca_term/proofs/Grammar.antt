@@ -22,7 +22,8 @@ deep (Binary bytes) = omega arith
 mutual
   unfolding code_of int_code
 
-  code_within : (t : Tree) (levels : ℕ) → depth t ≤ levels → IsNarrow t → IsCodeWithin levels (code_of t)
+  -- The code of a term of at most so many levels is in the grammar with so many levels.
+  pub code_within : (t : Tree) (levels : ℕ) → depth t ≤ levels → IsNarrow t → IsCodeWithin levels (code_of t)
   code_within t zero d h = absurd (omega (arith, deep t))
   code_within (Integer (pos n)) (suc l) d h = FromZero l (digits n) (are_digits n (word (pos n) h))
   code_within (Integer (negsuc m)) (suc l) d h = BelowZero l (digits m) (are_digits m (word (negsuc m) h))
@@ -33,7 +34,8 @@ mutual
       ACons l (code_of head) (code_of tail) (code_within head l (omega arith) h.0) (code_within tail (suc l) (omega arith) h.1)
   code_within (Binary bytes) (suc l) d h = ABinary l bytes h
 
-  codes_within : (r : Row) (levels : ℕ) → row_depth r ≤ levels → IsNarrowRow r → AreCodesWithin levels (size r) (row_code r)
+  -- So are the codes of a row's terms.
+  pub codes_within : (r : Row) (levels : ℕ) → row_depth r ≤ levels → IsNarrowRow r → AreCodesWithin levels (size r) (row_code r)
   codes_within Ends l d h = NoCode l
   codes_within (More t r) l d h =
       let n : suc (size r) ≡ 1 + size r = omega arith in
@@ -51,7 +53,8 @@ signed_neg n h = record { sfits = h }
 mutual
   unfolding code_of int_code
 
-  term_within : (levels : ℕ) (bytes : List ℕ) → IsCodeWithin levels bytes → HasTerm levels bytes
+  -- What is in the grammar with so many levels is the code of a term of at most so many levels.
+  pub term_within : (levels : ℕ) (bytes : List ℕ) → IsCodeWithin levels bytes → HasTerm levels bytes
   term_within _ _ (FromZero l ds h) = record {
     term = Integer (pos (number ds));
     shallow = omega arith;
@@ -85,7 +88,8 @@ mutual
       }
   term_within _ _ (ABinary l bytes h) = record { term = Binary bytes; shallow = omega arith; narrow = h; code_is = refl }
 
-  row_within : (levels count : ℕ) (bytes : List ℕ) → AreCodesWithin levels count bytes → HasRow levels count bytes
+  -- So many codes are those of a row.
+  pub row_within : (levels count : ℕ) (bytes : List ℕ) → AreCodesWithin levels count bytes → HasRow levels count bytes
   row_within _ _ _ (NoCode l) = record { row = Ends; shallow = omega arith; narrow = tt; many = refl; code_is = refl }
   row_within _ _ _ (OneMore l count first rest h k) =
       let t = term_within l first h in

@@ -1,0 +1,6 @@
+pub mod Alone
+pub mod Edits
+pub mod Passing
+pub mod Places
+pub mod Samples
+pub mod Slots

@@ -1,0 +1,14 @@
+pub mod Answer
+pub mod Event
+pub mod Function
+pub mod History
+pub mod Known
+pub mod Lawful
+pub mod Passes
+pub mod PlainView
+pub mod RowView
+pub mod Samples
+pub mod Slab
+pub mod SlabView
+pub mod StoreMap
+pub mod Stored

@@ -1,0 +1,17 @@
+//! Maps of bytes, their histories and logs, and stores of them.
+#![tactic(auto)]
+
+mod laws;
+mod outcome;
+mod plain;
+mod row;
+mod slab;
+mod store;
+
+pub use laws::passes_meet;
+pub use outcome::{Changed, Code, Counter, FullCause, Outcome, Spent};
+pub use plain::Plain;
+pub use store::OrderedStore;
+
+#[cfg(test)]
+mod tests;

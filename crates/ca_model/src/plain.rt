@@ -1,0 +1,150 @@
+//! A store of one owner.
+ghost use Rattle.std.specs.Prelude.{◌≡◌, ◌≤◌, ◌<◌, ◌+◌, [], None, true, length};
+ghost use Rattle.ca_term.specs.declared.bounds.TheConstants.{MOST_ELEMENTS};
+
+use crate::outcome::{Changed, Code, Outcome};
+use crate::row::copy;
+use crate::slab::Slab;
+use crate::store::OrderedStore;
+use std::alloc::{AllocError, Global};
+use std::marker::Model;
+
+/// A store of one owner: nobody else edits its map, and it refuses nothing. Contracts see its map, and for how many new keys there is room.
+///
+/// An object stays where it is once put; what moves when a key comes or goes is a number of four bytes an object.
+#[derive(Drop)]
+pub struct Plain {
+    keypos: u32,
+    objects: Slab,
+}
+
+impl Model for Plain {
+    ghost use Rattle.ca_model.specs.Known.{Known};
+
+    ghost Value = { Known };
+
+    ghost use Rattle.ca_model.specs.PlainView.{known_of, IsKept};
+
+    ghost view = { known_of };
+
+    ghost invariant = { IsKept };
+}
+
+impl Plain {
+    /// A store with no objects; element number `keypos` of an object, counted from 1, is its key. It takes no memory.
+    pub fn new(alloc: Global, keypos: u32) -> Plain
+        requires { (1 ≤ keypos) × (keypos ≤ MOST_ELEMENTS) }
+        ensures keypos { result.keypos ≡ keypos }
+        ensures map { result.map ≡ [] }
+        ensures alone { result.alone ≡ true }
+        ensures sure { result.sure ≡ true }
+        ensures seen { result.seen ≡ None }
+    {
+        Plain {
+            keypos,
+            objects: Slab::new(alloc),
+        }
+    }
+
+    /// Which element of an object is its key, counted from 1.
+    pub fn keypos(&self) -> u32
+        ensures value { result ≡ self.now.keypos }
+        ensures range { (1 ≤ result) × (result ≤ MOST_ELEMENTS) }
+    {
+        self.keypos
+    }
+}
+
+impl OrderedStore for Plain {
+    ghost knows = { λ s. s };
+
+    fn reserve(&mut self) -> Result<(), AllocError> {
+        self.objects.reserve()
+    }
+
+    fn get(&mut self, key: &[u8], into: &mut Code, budget: u32) -> Outcome<bool> {
+        let _budget = budget;
+        let Ok(at) = self.objects.find(key) else {
+            into.clear();
+            return Outcome::Done(false);
+        };
+        copy(self.objects.object(at), into);
+        Outcome::Done(true)
+    }
+
+    fn put(&mut self, object: &[u8], key_at: usize, key_end: usize, budget: u32) -> Outcome<()> {
+        let _budget = budget;
+        let place = self.objects.find(&object[key_at..key_end]);
+        self.objects.put(place, object, key_at, key_end);
+        Outcome::Done(())
+    }
+
+    fn put_new(
+        &mut self,
+        object: &[u8],
+        key_at: usize,
+        key_end: usize,
+        budget: u32,
+    ) -> Outcome<bool> {
+        let _budget = budget;
+        let Err(at) = self.objects.find(&object[key_at..key_end]) else {
+            return Outcome::Done(false);
+        };
+        self.objects.put(Err(at), object, key_at, key_end);
+        Outcome::Done(true)
+    }
+
+    fn remove(&mut self, key: &[u8], old: &mut Code, budget: u32) -> Outcome<bool> {
+        let _budget = budget;
+        let Ok(at) = self.objects.find(key) else {
+            old.clear();
+            return Outcome::Done(false);
+        };
+        copy(self.objects.object(at), old);
+        self.objects.remove(at);
+        Outcome::Done(true)
+    }
+
+    fn remove_if<F: Fn(&[u8]) -> bool>(
+        &mut self,
+        key: &[u8],
+        f: &F,
+        old: &mut Code,
+        budget: u32,
+    ) -> Outcome<Changed> {
+        let _budget = budget;
+        let Ok(at) = self.objects.find(key) else {
+            old.clear();
+            return Outcome::Done(Changed::Absent);
+        };
+        copy(self.objects.object(at), old);
+        if !f(old.as_slice()) {
+            return Outcome::Done(Changed::Kept);
+        }
+        self.objects.remove(at);
+        Outcome::Done(Changed::Put)
+    }
+
+    fn change<F: Fn(&[u8], &mut Code, &mut usize) -> bool>(
+        &mut self,
+        key: &[u8],
+        f: &F,
+        old: &mut Code,
+        budget: u32,
+    ) -> Outcome<Changed> {
+        let _budget = budget;
+        let Ok(at) = self.objects.find(key) else {
+            old.clear();
+            return Outcome::Done(Changed::Absent);
+        };
+        copy(self.objects.object(at), old);
+        let mut new = Code::new();
+        let mut start = 0;
+        if !f(old.as_slice(), &mut new, &mut start) {
+            return Outcome::Done(Changed::Kept);
+        }
+        let end = start + key.len();
+        self.objects.put(Ok(at), new.as_slice(), start, end);
+        Outcome::Done(Changed::Put)
+    }
+}

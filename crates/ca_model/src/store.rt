@@ -1,0 +1,112 @@
+//! Stores of a map of bytes.
+ghost use Rattle.std.specs.Prelude.{◌≡◌, ℕ, ◌≤◌, [], List, length, OnOk, OnErr, slice_range};
+ghost use Rattle.ca_term.specs.declared.bounds.TheConstants.{MOST_CODE_BYTES};
+ghost use Rattle.ca_model.specs.StoreMap.{IsPair};
+ghost use Rattle.ca_model.specs.Event.{Write, WriteNew};
+ghost use Rattle.ca_model.specs.Known.{Known, Meets, Declines, Stays};
+ghost use Rattle.ca_model.specs.Function.{KeepsKey, MayBeAskedFor};
+ghost use Rattle.ca_model.specs.Answer.{IfDone, IfRefused, IfBusy, IsDone, IsNeverDeep, Got, Removed, Altered, RemovedIf};
+
+use crate::outcome::{Changed, Code, Outcome};
+use std::alloc::AllocError;
+
+/// A store of objects by their keys, both as byte codes. Objects are codes of tuples, and the key of one is the code of its element
+/// `keypos`, counted from 1; `keypos` never changes.
+///
+/// What a store knows of the map may grow by others' edits in each call. Each call reads or edits one state between what was known
+/// before it and what is known after it, and is one event there; its answer is the one of that state, and a store that tells its log
+/// has it there. With a refusal nothing was edited, the log is as it was, and of four counts that contracts alone see the one of this
+/// refusal rose by one; they change by nothing else. A store that is `sure` refuses nothing.
+///
+/// A budget, of at least 1, is how many turns a call may lose to others before it answers `Busy`. A Code that is handed in need not be
+/// empty; it is empty after a refusal. Only `reserve` takes memory.
+pub trait OrderedStore {
+    ghost knows: { Self → Known };
+
+    /// Makes room for a new key, so that the next `put` or `put_new` finds some. It makes no edit and learns of none, also where memory
+    /// is not found.
+    fn reserve(&mut self) -> Result<(), AllocError>
+        ensures room { OnOk result (1 ≤ (knows self.new).spare) }
+        ensures stays { Stays (knows self.old) (knows self.new) };
+
+    /// Whether an object has the key; then `into` is the object, else it is empty. It is never refused.
+    fn get(&mut self, key: &[u8], into: &mut Code, budget: u32) -> Outcome<bool>
+        requires budget { 1 ≤ budget }
+        requires key { (1 ≤ length key.now) × (length key.now ≤ MOST_CODE_BYTES) }
+        ensures done { IsDone result }
+        ensures got { IfDone result (λ found. Got (knows self.old) (knows self.new) key.now found into.new.items) };
+
+    /// Puts the object, in the place of its key's object where there is one. Its key stands in it from `key_at` to `key_end`.
+    fn put(&mut self, object: &[u8], key_at: usize, key_end: usize, budget: u32) -> Outcome<()>
+        requires budget { 1 ≤ budget }
+        requires room { 1 ≤ (knows self.old).spare }
+        requires place { (key_at ≤ key_end) × (key_end ≤ length object.now) }
+        requires pair { IsPair (knows self.old).keypos (slice_range object.now key_at key_end, object.now) }
+        ensures put { IfDone result (λ _. Meets (knows self.old) (knows self.new) (Write (slice_range object.now key_at key_end) object.now)) }
+        ensures refused { IfRefused result (λ rise. Declines (knows self.old) (knows self.new) (rise (knows self.old).counts)) }
+        ensures busy { IfBusy result (λ spent. budget ≤ spent) };
+
+    /// Puts the object where no object has its key, and answers whether it did. Its key stands in it from `key_at` to `key_end`.
+    fn put_new(
+        &mut self,
+        object: &[u8],
+        key_at: usize,
+        key_end: usize,
+        budget: u32,
+    ) -> Outcome<bool>
+        requires budget { 1 ≤ budget }
+        requires room { 1 ≤ (knows self.old).spare }
+        requires place { (key_at ≤ key_end) × (key_end ≤ length object.now) }
+        requires pair { IsPair (knows self.old).keypos (slice_range object.now key_at key_end, object.now) }
+        ensures put { IfDone result (λ new. Meets (knows self.old) (knows self.new) (WriteNew (slice_range object.now key_at key_end) object.now new)) }
+        ensures refused { IfRefused result (λ rise. Declines (knows self.old) (knows self.new) (rise (knows self.old).counts)) }
+        ensures busy { IfBusy result (λ spent. budget ≤ spent) };
+
+    /// Removes the key's object, and answers whether there was one; then `old` is the object, else it is empty.
+    fn remove(&mut self, key: &[u8], old: &mut Code, budget: u32) -> Outcome<bool>
+        requires budget { 1 ≤ budget }
+        requires key { (1 ≤ length key.now) × (length key.now ≤ MOST_CODE_BYTES) }
+        ensures removed { IfDone result (λ was. Removed (knows self.old) (knows self.new) key.now was old.new.items) }
+        ensures refused { IfRefused result (λ rise. Declines (knows self.old) (knows self.new) (rise (knows self.old).counts)) }
+        ensures emptied { IfRefused result (λ _. old.new.items ≡ []) }
+        ensures never_deep { IsNeverDeep result }
+        ensures busy { IfBusy result (λ spent. budget ≤ spent) };
+
+    /// Removes the key's object where `f` answers true on it: `Put`. Where it answers false the object stays: `Kept`. In both cases `old`
+    /// is the object; it is empty where no object has the key: `Absent`.
+    fn remove_if<F: Fn(&[u8]) -> bool>(
+        &mut self,
+        key: &[u8],
+        f: &F,
+        old: &mut Code,
+        budget: u32,
+    ) -> Outcome<Changed>
+        requires budget { 1 ≤ budget }
+        requires key { (1 ≤ length key.now) × (length key.now ≤ MOST_CODE_BYTES) }
+        requires function { MayBeAskedFor F.Fn f.now (knows self.old).keypos key.now }
+        ensures removed { IfDone result (λ changed. RemovedIf F.Fn f.now (knows self.old) (knows self.new) key.now changed old.new.items) }
+        ensures refused { IfRefused result (λ rise. Declines (knows self.old) (knows self.new) (rise (knows self.old).counts)) }
+        ensures emptied { IfRefused result (λ _. old.new.items ≡ []) }
+        ensures never_deep { IsNeverDeep result }
+        ensures busy { IfBusy result (λ spent. budget ≤ spent) };
+
+    /// Hands the key's object to `f`, with an empty Code and a number. Where it answers true, what it wrote into the Code replaces the
+    /// object: `Put`; it must be an object with the same key, and the number that it wrote the byte at which the key begins there. Where
+    /// it answers false the object stays: `Kept`. In both cases `old` is the object that was found; it is empty where no object has the
+    /// key: `Absent`.
+    fn change<F: Fn(&[u8], &mut Code, &mut usize) -> bool>(
+        &mut self,
+        key: &[u8],
+        f: &F,
+        old: &mut Code,
+        budget: u32,
+    ) -> Outcome<Changed>
+        requires budget { 1 ≤ budget }
+        requires key { (1 ≤ length key.now) × (length key.now ≤ MOST_CODE_BYTES) }
+        requires function { KeepsKey F.Fn f.now (knows self.old).keypos key.now }
+        ensures changed { IfDone result (λ changed. Altered F.Fn f.now (knows self.old) (knows self.new) key.now changed old.new.items) }
+        ensures refused { IfRefused result (λ rise. Declines (knows self.old) (knows self.new) (rise (knows self.old).counts)) }
+        ensures emptied { IfRefused result (λ _. old.new.items ≡ []) }
+        ensures never_deep { IsNeverDeep result }
+        ensures busy { IfBusy result (λ spent. budget ≤ spent) };
+}

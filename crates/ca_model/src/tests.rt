@@ -1,0 +1,299 @@
+//! Calls of a plain store, with objects that are made here: a key of four bytes, and empty lists before it and behind it.
+ghost use Rattle.std.specs.Prelude.{◌≡◌, ◌≤◌, ◌-◌, ◌∷◌, length, IfSome, IsTrue};
+ghost use Rattle.ca_term.specs.Code.{four_bytes};
+ghost use Rattle.ca_model.specs.Samples.{HasNils};
+ghost use Rattle.ca_term.specs.declared.bounds.TheConstants.{MOST_DEPTH};
+ghost use Rattle.ca_term.specs.Grammar.{IsCodeWithin};
+ghost use Rattle.ca_model.specs.StoreMap.{IsPair};
+ghost use Rattle.ca_model.specs.Function.{StandsAt};
+
+use super::*;
+use ca_term::{MOST_CODE_BYTES, MOST_ELEMENTS};
+
+const BUDGET: u32 = 1;
+
+// A call of a store, with how many empty lists stand behind the key of the object that is put.
+#[derive(Clone, Copy)]
+enum Call {
+    Get,
+    Put(u8),
+    PutNew(u8),
+    Remove,
+    RemoveIf(bool),
+    Change(Option<u8>),
+}
+
+#[derive(Clone, Copy, Debug, PartialEq, Eq)]
+enum Answer {
+    Done(bool),
+    Changed(Changed),
+    Refused,
+}
+
+// The code of the number 2 ^ 24 + n.
+fn key(n: u32) -> [u8; 5]
+    ensures { IsCodeWithin (MOST_DEPTH - 1) result }
+{
+    let [_, high, middle, low] = n.to_be_bytes();
+    [0x24, 1, high, middle, low]
+}
+
+// Writes so many empty lists, where there is room.
+fn push_nils(count: u8, into: &mut Code) -> bool
+    ensures { IsTrue result → HasNils count into.old.items into.new.items }
+{
+    if count == 0 {
+        return true;
+    }
+    into.try_push(0x60).is_ok() && push_nils(count - 1, into)
+}
+
+// Writes the tag and the size of a tuple.
+fn start(size: u32, into: &mut Code) -> bool
+    ensures { IsTrue result → into.new.items ≡ 0x40 ∷ four_bytes size }
+{
+    into.clear();
+    into.try_push(0x40).is_ok() && into.try_extend_from_slice(&size.to_be_bytes()).is_ok()
+}
+
+// Writes the object with this key behind so many empty lists, and with so many behind it. It tells where the key begins.
+fn make(keypos: u32, key: &[u8; 5], behind: u8, into: &mut Code) -> Option<usize>
+    requires positive { 1 ≤ keypos }
+    requires code { IsCodeWithin (MOST_DEPTH - 1) key.now }
+    ensures { IfSome result (λ at. IsPair keypos (key.now, into.new.items) × StandsAt key.now into.new.items at) }
+{
+    let before = u8::try_from(keypos - 1).ok()?;
+    let size = u32::from(before) + 1 + u32::from(behind);
+    if MOST_ELEMENTS < size as usize || !start(size, into) || !push_nils(before, into) {
+        return None;
+    }
+    let at = into.len();
+    if into.try_extend_from_slice(key).is_err() || !push_nils(behind, into) {
+        return None;
+    }
+    if MOST_CODE_BYTES < into.len() {
+        return None;
+    }
+    Some(at)
+}
+
+fn put(store: &mut Plain, key: &[u8; 5], behind: u8, new: bool) -> Answer
+    requires { IsCodeWithin (MOST_DEPTH - 1) key.now }
+{
+    let mut object = Code::new();
+    let Some(at) = make(store.keypos(), key, behind, &mut object) else {
+        return Answer::Refused;
+    };
+    if store.reserve().is_err() {
+        return Answer::Refused;
+    }
+    if new {
+        return match store.put_new(object.as_slice(), at, at + 5, BUDGET) {
+            Outcome::Done(put) => Answer::Done(put),
+            _ => Answer::Refused,
+        };
+    }
+    match store.put(object.as_slice(), at, at + 5, BUDGET) {
+        Outcome::Done(()) => Answer::Done(true),
+        _ => Answer::Refused,
+    }
+}
+
+fn change(store: &mut Plain, key: &[u8; 5], behind: Option<u8>, old: &mut Code) -> Answer
+    requires { IsCodeWithin (MOST_DEPTH - 1) key.now }
+{
+    let keypos = store.keypos();
+    let write = |_object: &[u8], into: &mut Code, at: &mut usize| -> bool
+        requires positive { 1 ≤ keypos }
+        requires code { IsCodeWithin (MOST_DEPTH - 1) key.now }
+        ensures { IsTrue result → IsPair keypos (key.entry.now, into.new.items) × StandsAt key.entry.now into.new.items at.new }
+    {
+        let Some(behind) = behind else { return false };
+        let Some(start) = make(keypos, key, behind, into) else {
+            return false
+        };
+        *at = start;
+        true
+    };
+    match store.change(key, &write, old, BUDGET) {
+        Outcome::Done(changed) => Answer::Changed(changed),
+        _ => Answer::Refused,
+    }
+}
+
+fn call_store(store: &mut Plain, call: Call, n: u32, object: &mut Code) -> Answer {
+    let key = key(n);
+    match call {
+        Call::Put(behind) => put(store, &key, behind, false),
+        Call::PutNew(behind) => put(store, &key, behind, true),
+        Call::Change(behind) => change(store, &key, behind, object),
+        Call::Get => match store.get(&key, object, BUDGET) {
+            Outcome::Done(found) => Answer::Done(found),
+            _ => Answer::Refused,
+        },
+        Call::Remove => match store.remove(&key, object, BUDGET) {
+            Outcome::Done(was) => Answer::Done(was),
+            _ => Answer::Refused,
+        },
+        Call::RemoveIf(yes) => match store.remove_if(&key, &|_object: &[u8]| yes, object, BUDGET) {
+            Outcome::Done(changed) => Answer::Changed(changed),
+            _ => Answer::Refused,
+        },
+    }
+}
+
+const ALONE: &[u8] = b"\x40\0\0\0\x01\x24\x01\0\0\x07";
+
+const LONG: &[u8] = b"\x40\0\0\0\x03\x24\x01\0\0\x07\x60\x60";
+
+const OTHER: &[u8] = b"\x40\0\0\0\x02\x24\x01\0\x01\0\x60";
+
+#[test]
+fn each_call_on_a_present_and_an_absent_key(rt: HostRuntime) {
+    let mut store = Plain::new(rt.alloc(), 1);
+    let rows: [(Call, u32, Answer, &[u8]); 23] = [
+        (Call::Get, 7, Answer::Done(false), b""),
+        (Call::Remove, 7, Answer::Done(false), b""),
+        (
+            Call::RemoveIf(true),
+            7,
+            Answer::Changed(Changed::Absent),
+            b"",
+        ),
+        (
+            Call::Change(Some(1)),
+            7,
+            Answer::Changed(Changed::Absent),
+            b"",
+        ),
+        (Call::PutNew(2), 7, Answer::Done(true), b""),
+        (Call::Put(1), 256, Answer::Done(true), b""),
+        (Call::Get, 7, Answer::Done(true), LONG),
+        (Call::PutNew(0), 7, Answer::Done(false), LONG),
+        (Call::Get, 7, Answer::Done(true), LONG),
+        (Call::Put(0), 7, Answer::Done(true), LONG),
+        (Call::Get, 7, Answer::Done(true), ALONE),
+        (Call::Get, 256, Answer::Done(true), OTHER),
+        (Call::Change(None), 7, Answer::Changed(Changed::Kept), ALONE),
+        (
+            Call::Change(Some(2)),
+            7,
+            Answer::Changed(Changed::Put),
+            ALONE,
+        ),
+        (Call::Get, 7, Answer::Done(true), LONG),
+        (
+            Call::RemoveIf(false),
+            7,
+            Answer::Changed(Changed::Kept),
+            LONG,
+        ),
+        (Call::RemoveIf(true), 7, Answer::Changed(Changed::Put), LONG),
+        (Call::Get, 7, Answer::Done(false), b""),
+        (Call::Remove, 256, Answer::Done(true), OTHER),
+        (Call::Remove, 256, Answer::Done(false), b""),
+        (Call::Put(0), 7, Answer::Done(true), b""),
+        (Call::Get, 7, Answer::Done(true), ALONE),
+        (Call::Get, 256, Answer::Done(false), b""),
+    ];
+    let mut object = Code::new();
+    let mut row = 0_u32;
+    for (call, n, want, bytes) in rows {
+        assert_eq!(rt;
+            call_store(&mut store, call, n, &mut object),
+            want,
+            "row {row}"
+        );
+        assert_eq!(rt; object.as_slice(), bytes, "row {row}");
+        row = row.wrapping_add(1);
+    }
+}
+
+#[test]
+fn key_at_the_second_and_at_the_last_element(rt: HostRuntime) {
+    for (keypos, size) in [(2, 7), (120, 125)] {
+        let mut store = Plain::new(rt.alloc(), keypos);
+        let mut object = Code::new();
+        assert_eq!(rt;
+            call_store(&mut store, Call::Put(0), 7, &mut object),
+            Answer::Done(true)
+        );
+        assert_eq!(rt;
+            call_store(&mut store, Call::Put(0), 8, &mut object),
+            Answer::Done(true)
+        );
+        assert_eq!(rt;
+            call_store(&mut store, Call::Get, 7, &mut object),
+            Answer::Done(true)
+        );
+        assert_eq!(rt; object.len(), size + 4);
+        assert_eq!(rt;
+            &object.as_slice()[size - 1..],
+            b"\x24\x01\0\0\x07".as_slice(),
+            "{keypos}"
+        );
+        assert_eq!(rt;
+            call_store(&mut store, Call::Remove, 8, &mut object),
+            Answer::Done(true)
+        );
+        assert_eq!(rt;
+            call_store(&mut store, Call::Get, 7, &mut object),
+            Answer::Done(true)
+        );
+    }
+}
+
+// Each number below 2 ^ 15 once, in an order without pattern.
+fn shuffled(i: u32) -> u32 {
+    i.wrapping_mul(20_507) % 32_768
+}
+
+#[test]
+fn many_keys_whose_slots_are_used_again(rt: HostRuntime) {
+    let mut store = Plain::new(rt.alloc(), 1);
+    let mut object = Code::new();
+    for i in 0..32_768 {
+        assert_eq!(rt;
+            call_store(&mut store, Call::PutNew(1), shuffled(i), &mut object),
+            Answer::Done(true),
+            "{i}"
+        );
+    }
+    for i in 0..16_384 {
+        assert_eq!(rt;
+            call_store(&mut store, Call::Remove, shuffled(i), &mut object),
+            Answer::Done(true),
+            "{i}"
+        );
+    }
+    for i in 0..16_384 {
+        assert_eq!(rt;
+            call_store(&mut store, Call::Put(0), shuffled(i), &mut object),
+            Answer::Done(true),
+            "{i}"
+        );
+    }
+    for i in 0..32_768 {
+        assert_eq!(rt;
+            call_store(&mut store, Call::Get, i, &mut object),
+            Answer::Done(true),
+            "{i}"
+        );
+        assert!(rt;
+            object.as_slice().ends_with(&[]) && object.len() >= 10,
+            "{i}"
+        );
+    }
+    for i in 0..32_768 {
+        assert_eq!(rt;
+            call_store(&mut store, Call::Remove, shuffled(i), &mut object),
+            Answer::Done(true),
+            "{i}"
+        );
+        assert_eq!(rt;
+            call_store(&mut store, Call::Get, shuffled(i), &mut object),
+            Answer::Done(false),
+            "{i}"
+        );
+    }
+}

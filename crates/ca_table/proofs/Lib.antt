@@ -1,0 +1,6 @@
+pub mod Carried
+pub mod Inserting
+pub mod Keyed
+pub mod KeyParts
+pub mod Refusing
+pub mod Sure

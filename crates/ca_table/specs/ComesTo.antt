@@ -1,0 +1,47 @@
+-- What a table's calls come to.
+use Rattle.std.specs.Prelude.{◌≡◌, ◌⊎◌, ℕ, true, Result, Ok, Err}
+use Rattle.ca_term.specs.Code.{code_of}
+use Rattle.ca_ets.specs.Command.{Command, Continuation, response_of}
+use Rattle.ca_ets.specs.declared.command.Cmd.TheVariants.{Insert, InsertNew, Lookup, Member, Delete, Take, UpdateCounter, UpdateElement}
+use Rattle.ca_ets.specs.declared.command.Reply.{Reply}
+use Rattle.ca_model.specs.declared.outcome.Outcome.{Outcome}
+use Rattle.ca_model.specs.declared.outcome.Outcome.TheVariants as outcome
+use Rattle.ca_model.specs.declared.outcome.Spent.{Spent}
+use Rattle.ca_model.specs.Answer.{IsDone}
+use Rattle.ca_model.specs.Known.{Known, Stays, one_more_busy, one_more_full, one_more_deep, one_more_worn}
+use Rattle.ca_merge.specs.Steps.{Steps, Refrains, Refused, Overtaken}
+
+-- one turn that was lost to others
+abbrev pub one_lost : Spent
+one_lost = record { lost = 1; helped = 0; passed = 0 }
+
+-- Another object was put under the command's key while the table worked: only `take` reads the object before it removes it.
+abbrev pub IsOvertaken : Known → Known → Command → Spent → Type 0
+IsOvertaken a b (Insert o) spent = ⊥
+IsOvertaken a b (InsertNew o) spent = ⊥
+IsOvertaken a b (Lookup k) spent = ⊥
+IsOvertaken a b (Member k) spent = ⊥
+IsOvertaken a b (Delete k) spent = ⊥
+IsOvertaken a b (Take k) spent = (spent ≡ one_lost) × Overtaken a b (code_of k)
+IsOvertaken a b (UpdateCounter k op) spent = ⊥
+IsOvertaken a b (UpdateElement k op) spent = ⊥
+
+module _ (a b : Known) (command : Command) where
+  -- A reply is that of the command's step, at every continuation, which stays as it was. A refusal is one of the store, whose count
+  -- rose by one, or `take` was overtaken.
+  abbrev pub IsOutcome : Outcome Reply → Type 0
+  IsOutcome (outcome.Done reply) = (continuation : Continuation) → Steps a b continuation command (response_of reply) continuation
+  IsOutcome (outcome.Busy spent) = Refused a b (one_more_busy a.counts) ⊎ IsOvertaken a b command spent
+  IsOutcome (outcome.Full cause) = Refused a b (one_more_full a.counts)
+  IsOutcome (outcome.Deep level) = Refused a b (one_more_deep a.counts)
+  IsOutcome (outcome.Worn counter) = Refused a b (one_more_worn a.counts)
+
+  -- The call has such an outcome. Where memory wasn't found, nothing but the room changed, or the table only read.
+  abbrev pub ComesTo : {Lack : Type 0} → Result (Outcome Reply) Lack → Type 0
+  ComesTo (Ok outcome) = IsOutcome outcome
+  ComesTo (Err lack) = Stays a b ⊎ Refrains a b a.counts
+
+-- Over a store that is sure and that nobody else edits, each call is done where memory is found.
+abbrev pub SureAndAloneIsDone : Type 0
+SureAndAloneIsDone = (a b : Known) (command : Command) (outcome : Outcome Reply) → a.sure ≡ true → a.alone ≡ true → IsOutcome a b command outcome
+    → IsDone outcome

@@ -1,0 +1,75 @@
+//! Keys and objects of commands as codes, and objects that were found as terms.
+ghost use Rattle.std.specs.Prelude.{◌≡◌, ◌≤◌, IfOk};
+ghost use Rattle.ca_term.specs.Object.{is_object};
+ghost use Rattle.ca_term.specs.Tree.{IsTerm};
+ghost use Rattle.ca_ets.specs.Step.{fault_of_key, fault_of_object};
+ghost use Rattle.ca_table.specs.Codes.{HasKeyCode, HasObjectCode, IsOnly, IsUnless};
+
+use ca_ets::Fault;
+use ca_model::Code;
+use ca_order::{decode, encode, object_parts};
+use ca_term::{Kind, Term, Terms};
+use std::alloc::{AllocError, Global};
+
+// Where an object's key stands in the object's code.
+#[derive(Clone, Copy)]
+pub(crate) struct KeyRange {
+    pub start: usize,
+    pub end: usize,
+}
+
+// Writes the code of a key into `into`, or tells why the key is refused.
+pub(crate) fn key_code(key: &Term, into: &mut Code) -> Result<(), Fault>
+    ensures { IsUnless (fault_of_key key.now) (λ _. HasKeyCode key.now into.new.items) result }
+{
+    let _kind = key.kind();
+    let Ok(()) = encode(key, into) else {
+        return Err(Fault::Size);
+    };
+    let _length = into.len();
+    Ok(())
+}
+
+// Writes the code of an object into `into`: where its key stands in it, or why the object is refused.
+pub(crate) fn object_code(object: &Term, keypos: u32, into: &mut Code) -> Result<KeyRange, Fault>
+    requires { 1 ≤ keypos }
+    ensures { IsUnless (fault_of_object keypos object.now) (λ key. HasObjectCode keypos object.now into.new.items key.start key.end) result }
+{
+    if !is_object(object, keypos) {
+        return Err(Fault::BadArg);
+    }
+    let Ok(()) = encode(object, into) else {
+        return Err(Fault::Size);
+    };
+    let Some((start, end)) = object_parts(into.as_slice(), keypos) else {
+        unreachable!()
+    };
+    Ok(KeyRange { start, end })
+}
+
+// Whether a term is a tuple with at least `keypos` elements.
+#[tactic(auto, using(crate::proofs::KeyParts::tuple_is))]
+fn is_object(object: &Term, keypos: u32) -> bool
+    ensures value { result ≡ is_object keypos object.now }
+    ensures bounded { IsTerm object.now }
+{
+    match object.kind() {
+        Kind::Tuple(items) => items.len() >= keypos as usize,
+        _ => false,
+    }
+}
+
+// The list of the term that these bytes are the code of.
+pub(crate) fn only(alloc: Global, code: &Code) -> Result<Terms, AllocError>
+    ensures { IfOk result (λ terms. IsOnly code.now.items terms.items) }
+{
+    let Ok(term) = decode(alloc, code.as_slice()) else {
+        return Err(AllocError);
+    };
+    let _kind = term.kind();
+    let mut terms = Terms::new(alloc);
+    let Ok(()) = terms.push(term) else {
+        return Err(AllocError);
+    };
+    Ok(terms)
+}

@@ -1,0 +1,7 @@
+//! What follows from the definitions alone.
+ghost use Rattle.ca_table.specs.ComesTo.{SureAndAloneIsDone};
+
+/// Over a store that refuses nothing and that nobody else edits, each call of a table answers `Done` or `Err`.
+pub fn sure_and_alone_is_done()
+    ensures { SureAndAloneIsDone }
+{}

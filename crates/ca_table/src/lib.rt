@@ -1,0 +1,14 @@
+//! The calls of an `ordered_set` of Erlang's `ets` over any store of bytes.
+#![tactic(auto)]
+
+mod codes;
+mod laws;
+mod outcome;
+mod table;
+
+pub use laws::sure_and_alone_is_done;
+pub use outcome::Played;
+pub use table::Table;
+
+#[cfg(test)]
+mod tests;

@@ -1,0 +1,264 @@
+//! A table over a store.
+ghost use Rattle.std.specs.Prelude.{◌≡◌, ◌≤◌, length, slice_range, IfOk, IfErr, IsOk, OnOk};
+ghost use Rattle.ca_ets.specs.declared.command.Cmd.TheVariants.{Insert, InsertNew, Lookup, Member, Delete, Take};
+ghost use Rattle.ca_model.specs.Known.{Known, Meets, Stays};
+ghost use Rattle.ca_model.specs.Event.{Write, WriteNew};
+ghost use Rattle.ca_model.specs.Answer.{Got, Removed, IsDone};
+ghost use Rattle.ca_model.specs.StoreMap.{IsPair};
+ghost use Rattle.ca_table.specs.ComesTo.{ComesTo};
+ghost use Rattle.ca_table.specs.Refusals.{IsRefusal, IsSame, RemovedSame};
+
+use crate::codes::{KeyRange, key_code, object_code, only};
+use crate::outcome::{ONE_LOST, Played, done};
+use ca_ets::{Cmd, Cont, Reply};
+use ca_model::{Changed, Code, OrderedStore, Outcome};
+use ca_term::{Term, Terms};
+use std::alloc::{AllocError, Global};
+use std::marker::Model;
+
+/// An `ordered_set` over a store of bytes. Contracts see what is known of the store.
+#[derive(Drop)]
+pub struct Table<S: OrderedStore + Drop> {
+    store: S,
+    keypos: u32,
+}
+
+impl<S: OrderedStore + Drop> Model for Table<S> {
+    ghost use Rattle.std.specs.Prelude.{◌≡◌, ◌≤◌};
+    ghost use Rattle.ca_model.specs.Known.{Known};
+
+    ghost Value = { Known };
+
+    ghost view = { λ t. S.knows t.store };
+
+    ghost invariant = { λ t. (t.keypos ≡ (S.knows t.store).keypos) × (1 ≤ t.keypos) };
+}
+
+impl<S: OrderedStore + Drop> Table<S> {
+    /// The table of a store whose `keypos` this is, counted from 1.
+    pub fn new(store: S, keypos: u32) -> Table<S>
+        requires keypos { keypos ≡ (S.knows store).keypos }
+        requires positive { 1 ≤ keypos }
+        ensures { result ≡ S.knows store }
+    {
+        Table { store, keypos }
+    }
+
+    /// The store.
+    pub fn into_store(self) -> S
+        ensures { S.knows result ≡ self }
+    {
+        self.store
+    }
+
+    /// One command. Each reply is that of the command's step; no command so far changes the continuation.
+    pub fn apply(&mut self, alloc: Global, cmd: &Cmd, cont: &mut Cont, budget: u32) -> Played
+        requires { 1 ≤ budget }
+        ensures comes { ComesTo self.old self.new cmd.now result }
+        ensures continuation { cont.new ≡ cont.old }
+    {
+        match cmd {
+            Cmd::Insert(object) => self.insert(object, budget),
+            Cmd::InsertNew(object) => self.insert_new(object, budget),
+            Cmd::Lookup(key) => self.lookup(alloc, key, budget),
+            Cmd::Member(key) => self.member(key, budget),
+            Cmd::Delete(key) => self.delete(key, budget),
+            Cmd::Take(key) => self.take(alloc, key, budget),
+        }
+    }
+
+    /// `insert`: it replaces the object of an equal key. `Err` where the store found no memory for a new key.
+    pub fn insert(&mut self, object: &Term, budget: u32) -> Played
+        requires { 1 ≤ budget }
+        ensures { ComesTo self.old self.new (Insert object.now) result }
+    {
+        let mut code = Code::new();
+        let key = match object_code(object, self.keypos(), &mut code) {
+            Ok(key) => key,
+            Err(fault) => return Ok(Outcome::Done(Reply::Error(fault))),
+        };
+        let Ok(()) = self.reserve() else {
+            return Err(AllocError);
+        };
+        match self.put(&code, key, budget) {
+            Ok(()) => return Ok(Outcome::Done(Reply::Truth(true))),
+            Err(refusal) => return Ok(refusal),
+        }
+    }
+
+    /// `insert_new`: it inserts where no object has the key. `Err` where the store found no memory for a new key.
+    pub fn insert_new(&mut self, object: &Term, budget: u32) -> Played
+        requires { 1 ≤ budget }
+        ensures { ComesTo self.old self.new (InsertNew object.now) result }
+    {
+        let mut code = Code::new();
+        let key = match object_code(object, self.keypos(), &mut code) {
+            Ok(key) => key,
+            Err(fault) => return Ok(Outcome::Done(Reply::Error(fault))),
+        };
+        let Ok(()) = self.reserve() else {
+            return Err(AllocError);
+        };
+        match self.put_new(&code, key, budget) {
+            Ok(new) => return Ok(Outcome::Done(Reply::Truth(new))),
+            Err(refusal) => return Ok(refusal),
+        }
+    }
+
+    /// `lookup`: the list of the key's object, or the empty list. It is never refused; `Err` where memory for the list wasn't found.
+    pub fn lookup(&mut self, alloc: Global, key: &Term, budget: u32) -> Played
+        requires { 1 ≤ budget }
+        ensures comes { ComesTo self.old self.new (Lookup key.now) result }
+        ensures done { IfOk result (λ outcome. IsDone outcome) }
+    {
+        let mut code = Code::new();
+        if let Err(fault) = key_code(key, &mut code) {
+            return Ok(Outcome::Done(Reply::Error(fault)));
+        }
+        let mut object = Code::new();
+        if !self.get(&code, &mut object, budget) {
+            return Ok(Outcome::Done(Reply::List(Terms::new(alloc))));
+        }
+        let Ok(list) = only(alloc, &object) else {
+            return Err(AllocError);
+        };
+        Ok(Outcome::Done(Reply::List(list)))
+    }
+
+    /// `member`: whether an object has the key. It is never refused, and takes no memory.
+    pub fn member(&mut self, key: &Term, budget: u32) -> Played
+        requires { 1 ≤ budget }
+        ensures comes { ComesTo self.old self.new (Member key.now) result }
+        ensures done { IfOk result (λ outcome. IsDone outcome) }
+        ensures ok { IsOk result }
+    {
+        let mut code = Code::new();
+        if let Err(fault) = key_code(key, &mut code) {
+            return Ok(Outcome::Done(Reply::Error(fault)));
+        }
+        let found = self.get(&code, &mut Code::new(), budget);
+        Ok(Outcome::Done(Reply::Truth(found)))
+    }
+
+    /// `delete`: no object has the key behind it. It takes no memory.
+    pub fn delete(&mut self, key: &Term, budget: u32) -> Played
+        requires { 1 ≤ budget }
+        ensures comes { ComesTo self.old self.new (Delete key.now) result }
+        ensures ok { IsOk result }
+    {
+        let mut code = Code::new();
+        if let Err(fault) = key_code(key, &mut code) {
+            return Ok(Outcome::Done(Reply::Error(fault)));
+        }
+        match self.remove(&code, &mut Code::new(), budget) {
+            Ok(_) => return Ok(Outcome::Done(Reply::Truth(true))),
+            Err(refusal) => return Ok(refusal),
+        }
+    }
+
+    /// `take`: the list of the key's object, which is removed, or the empty list. The list is made before the object is removed, which
+    /// goes only as long as the object is the one in the list: where another one was put in between, the answer is `Busy` with one lost
+    /// turn. `Err` where memory for the list wasn't found; then the object stays.
+    pub fn take(&mut self, alloc: Global, key: &Term, budget: u32) -> Played
+        requires { 1 ≤ budget }
+        ensures { ComesTo self.old self.new (Take key.now) result }
+    {
+        let mut code = Code::new();
+        if let Err(fault) = key_code(key, &mut code) {
+            return Ok(Outcome::Done(Reply::Error(fault)));
+        }
+        let mut object = Code::new();
+        if !self.get(&code, &mut object, budget) {
+            return Ok(Outcome::Done(Reply::List(Terms::new(alloc))));
+        }
+        let Ok(list) = only(alloc, &object) else {
+            return Err(AllocError);
+        };
+        match self.remove_same(&code, &object, budget) {
+            Ok(Changed::Put) => return Ok(Outcome::Done(Reply::List(list))),
+            Ok(Changed::Absent) => return Ok(Outcome::Done(Reply::List(Terms::new(alloc)))),
+            Ok(Changed::Kept) => return Ok(Outcome::Busy(ONE_LOST)),
+            Err(refusal) => return Ok(refusal),
+        }
+    }
+}
+
+// The calls of the store, with what is known of it in the table's words.
+impl<S: OrderedStore + Drop> Table<S> {
+    // Which element of an object is its key.
+    fn keypos(&self) -> u32
+        ensures value { result ≡ self.now.keypos }
+        ensures positive { 1 ≤ result }
+    {
+        self.keypos
+    }
+
+    // Makes room for a new key.
+    fn reserve(&mut self) -> Result<(), AllocError>
+        ensures room { OnOk result (1 ≤ self.new.spare) }
+        ensures stays { Stays self.old self.new }
+    {
+        self.store.reserve()
+    }
+
+    // Whether an object has the key; then `into` is the object.
+    fn get(&mut self, key: &Code, into: &mut Code, budget: u32) -> bool
+        requires budget { 1 ≤ budget }
+        requires key { 1 ≤ length key.now.items }
+        ensures { Got self.old self.new key.now.items result into.new.items }
+    {
+        let Outcome::Done(found) = self.store.get(key.as_slice(), into, budget) else {
+            unreachable!()
+        };
+        found
+    }
+
+    // Puts the object, in the place of its key's object where there is one.
+    fn put(&mut self, object: &Code, key: KeyRange, budget: u32) -> Result<(), Outcome<Reply>>
+        requires budget { 1 ≤ budget }
+        requires room { 1 ≤ self.old.spare }
+        requires place { (key.start ≤ key.end) × (key.end ≤ length object.now.items) }
+        requires pair { IsPair self.old.keypos (slice_range object.now.items key.start key.end, object.now.items) }
+        ensures put { OnOk result (Meets self.old self.new (Write (slice_range object.now.items key.start key.end) object.now.items)) }
+        ensures refused { IfErr result (λ refusal. IsRefusal self.old self.new refusal) }
+    {
+        done(self.store.put(object.as_slice(), key.start, key.end, budget))
+    }
+
+    // Puts the object where no object has its key, and answers whether it did.
+    fn put_new(&mut self, object: &Code, key: KeyRange, budget: u32) -> Result<bool, Outcome<Reply>>
+        requires budget { 1 ≤ budget }
+        requires room { 1 ≤ self.old.spare }
+        requires place { (key.start ≤ key.end) × (key.end ≤ length object.now.items) }
+        requires pair { IsPair self.old.keypos (slice_range object.now.items key.start key.end, object.now.items) }
+        ensures put { IfOk result (λ new. Meets self.old self.new (WriteNew (slice_range object.now.items key.start key.end) object.now.items new)) }
+        ensures refused { IfErr result (λ refusal. IsRefusal self.old self.new refusal) }
+    {
+        done(self.store.put_new(object.as_slice(), key.start, key.end, budget))
+    }
+
+    // Removes the key's object, and answers whether there was one; then `old` is the object.
+    fn remove(&mut self, key: &Code, old: &mut Code, budget: u32) -> Result<bool, Outcome<Reply>>
+        requires budget { 1 ≤ budget }
+        requires key { 1 ≤ length key.now.items }
+        ensures removed { IfOk result (λ was. Removed self.old self.new key.now.items was old.new.items) }
+        ensures refused { IfErr result (λ refusal. IsRefusal self.old self.new refusal) }
+    {
+        done(self.store.remove(key.as_slice(), old, budget))
+    }
+
+    // Removes the key's object where it is this one.
+    fn remove_same(&mut self, key: &Code, object: &Code, budget: u32) -> Result<Changed, Outcome<Reply>>
+        requires budget { 1 ≤ budget }
+        requires key { 1 ≤ length key.now.items }
+        ensures removed { IfOk result (λ changed. RemovedSame self.old self.new key.now.items object.now.items changed) }
+        ensures refused { IfErr result (λ refusal. IsRefusal self.old self.new refusal) }
+    {
+        let read = object.as_slice();
+        let same = |bytes: &[u8]| -> bool
+            ensures { IsSame result bytes.now read.entry.now }
+        { bytes == read };
+        let mut old = Code::new();
+        done(self.store.remove_if(key.as_slice(), &same, &mut old, budget))
+    }
+}
