@@ -2,7 +2,7 @@
 use Rattle.std.proofs.Common.{◌≡◌, ℕ, true, List, inl, inr}
 use Rattle.ca_term.specs.Code.{code_of}
 use Rattle.ca_ets.specs.Command.{Command}
-use Rattle.ca_ets.specs.declared.command.Cmd.TheVariants.{Insert, InsertNew, Lookup, Member, Delete, Take}
+use Rattle.ca_ets.specs.declared.command.Cmd.TheVariants.{Insert, InsertNew, Lookup, Member, Delete, Take, UpdateCounter, UpdateElement}
 use Rattle.ca_model.specs.declared.outcome.Outcome.TheVariants as outcome
 use Rattle.ca_model.specs.declared.outcome.Spent.{Spent}
 use Rattle.ca_model.specs.Known.{Known}
@@ -16,6 +16,8 @@ not_overtaken a b (Lookup k) spent alone h = h
 not_overtaken a b (Member k) spent alone h = h
 not_overtaken a b (Delete k) spent alone h = h
 not_overtaken a b (Take k) spent alone h = never_overtaken a b (code_of k) alone h.1
+not_overtaken a b (UpdateCounter k op) spent alone h = h
+not_overtaken a b (UpdateElement k op) spent alone h = h
 
 -- Each call is done.
 pub all_done : SureAndAloneIsDone

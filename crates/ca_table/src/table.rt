@@ -10,7 +10,7 @@ ghost use Rattle.ca_table.specs.Refusals.{IsRefusal, IsSame, RemovedSame};
 
 use crate::codes::{KeyRange, key_code, object_code, only};
 use crate::outcome::{ONE_LOST, Played, done};
-use ca_ets::{Cmd, Cont, Reply};
+use ca_ets::Reply;
 use ca_model::{Changed, Code, OrderedStore, Outcome};
 use ca_term::{Term, Terms};
 use std::alloc::{AllocError, Global};
@@ -49,22 +49,6 @@ impl<S: OrderedStore + Drop> Table<S> {
         ensures { S.knows result ≡ self }
     {
         self.store
-    }
-
-    /// One command. Each reply is that of the command's step; no command so far changes the continuation.
-    pub fn apply(&mut self, alloc: Global, cmd: &Cmd, cont: &mut Cont, budget: u32) -> Played
-        requires { 1 ≤ budget }
-        ensures comes { ComesTo self.old self.new cmd.now result }
-        ensures continuation { cont.new ≡ cont.old }
-    {
-        match cmd {
-            Cmd::Insert(object) => self.insert(object, budget),
-            Cmd::InsertNew(object) => self.insert_new(object, budget),
-            Cmd::Lookup(key) => self.lookup(alloc, key, budget),
-            Cmd::Member(key) => self.member(key, budget),
-            Cmd::Delete(key) => self.delete(key, budget),
-            Cmd::Take(key) => self.take(alloc, key, budget),
-        }
     }
 
     /// `insert`: it replaces the object of an equal key. `Err` where the store found no memory for a new key.
