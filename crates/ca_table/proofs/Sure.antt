@@ -19,9 +19,9 @@ not_overtaken a b (Take k) spent alone h = never_overtaken a b (code_of k) alone
 
 -- Each call is done.
 pub all_done : SureAndAloneIsDone
-all_done a b c (outcome.Done reply) sure alone h = tt
-all_done a b c (outcome.Busy spent) sure alone (inl h) = absurd (never_refused a b _ sure h)
-all_done a b c (outcome.Busy spent) sure alone (inr h) = absurd (not_overtaken a b c spent alone h)
-all_done a b c (outcome.Full cause) sure alone h = absurd (never_refused a b _ sure h)
-all_done a b c (outcome.Deep level) sure alone h = absurd (never_refused a b _ sure h)
-all_done a b c (outcome.Worn counter) sure alone h = absurd (never_refused a b _ sure h)
+all_done a b budget c (outcome.Done reply) sure alone h = tt
+all_done a b budget c (outcome.Busy spent) sure alone (inl h) = absurd (never_refused a b _ sure h.1)
+all_done a b budget c (outcome.Busy spent) sure alone (inr h) = absurd (not_overtaken a b c spent alone h)
+all_done a b budget c (outcome.Full cause) sure alone h = absurd (never_refused a b _ sure h.1)
+all_done a b budget c (outcome.Deep level) sure alone h = absurd (never_refused a b _ sure h.1)
+all_done a b budget c (outcome.Worn counter) sure alone h = absurd (never_refused a b _ sure h.1)

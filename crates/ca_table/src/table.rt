@@ -3,7 +3,7 @@ ghost use Rattle.std.specs.Prelude.{◌≡◌, ◌≤◌, length, slice_range, I
 ghost use Rattle.ca_ets.specs.declared.command.Cmd.TheVariants.{Insert, InsertNew, Lookup, Member, Delete, Take};
 ghost use Rattle.ca_model.specs.Known.{Known, Meets, Stays};
 ghost use Rattle.ca_model.specs.Event.{Write, WriteNew};
-ghost use Rattle.ca_model.specs.Answer.{Got, Removed, IsDone};
+ghost use Rattle.ca_model.specs.Answer.{Got, Removed, IsDone, IsNeverDeep};
 ghost use Rattle.ca_model.specs.StoreMap.{IsPair};
 ghost use Rattle.ca_table.specs.ComesTo.{ComesTo};
 ghost use Rattle.ca_table.specs.Refusals.{IsRefusal, IsSame, RemovedSame};
@@ -54,7 +54,7 @@ impl<S: OrderedStore + Drop> Table<S> {
     /// One command. Each reply is that of the command's step; no command so far changes the continuation.
     pub fn apply(&mut self, alloc: Global, cmd: &Cmd, cont: &mut Cont, budget: u32) -> Played
         requires { 1 ≤ budget }
-        ensures comes { ComesTo self.old self.new cmd.now result }
+        ensures comes { ComesTo self.old self.new budget cmd.now result }
         ensures continuation { cont.new ≡ cont.old }
     {
         match cmd {
@@ -70,7 +70,7 @@ impl<S: OrderedStore + Drop> Table<S> {
     /// `insert`: it replaces the object of an equal key. `Err` where the store found no memory for a new key.
     pub fn insert(&mut self, object: &Term, budget: u32) -> Played
         requires { 1 ≤ budget }
-        ensures { ComesTo self.old self.new (Insert object.now) result }
+        ensures { ComesTo self.old self.new budget (Insert object.now) result }
     {
         let mut code = Code::new();
         let key = match object_code(object, self.keypos(), &mut code) {
@@ -89,7 +89,7 @@ impl<S: OrderedStore + Drop> Table<S> {
     /// `insert_new`: it inserts where no object has the key. `Err` where the store found no memory for a new key.
     pub fn insert_new(&mut self, object: &Term, budget: u32) -> Played
         requires { 1 ≤ budget }
-        ensures { ComesTo self.old self.new (InsertNew object.now) result }
+        ensures { ComesTo self.old self.new budget (InsertNew object.now) result }
     {
         let mut code = Code::new();
         let key = match object_code(object, self.keypos(), &mut code) {
@@ -108,7 +108,7 @@ impl<S: OrderedStore + Drop> Table<S> {
     /// `lookup`: the list of the key's object, or the empty list. It is never refused; `Err` where memory for the list wasn't found.
     pub fn lookup(&mut self, alloc: Global, key: &Term, budget: u32) -> Played
         requires { 1 ≤ budget }
-        ensures comes { ComesTo self.old self.new (Lookup key.now) result }
+        ensures comes { ComesTo self.old self.new budget (Lookup key.now) result }
         ensures done { IfOk result (λ outcome. IsDone outcome) }
     {
         let mut code = Code::new();
@@ -128,7 +128,7 @@ impl<S: OrderedStore + Drop> Table<S> {
     /// `member`: whether an object has the key. It is never refused, and takes no memory.
     pub fn member(&mut self, key: &Term, budget: u32) -> Played
         requires { 1 ≤ budget }
-        ensures comes { ComesTo self.old self.new (Member key.now) result }
+        ensures comes { ComesTo self.old self.new budget (Member key.now) result }
         ensures done { IfOk result (λ outcome. IsDone outcome) }
         ensures ok { IsOk result }
     {
@@ -143,7 +143,7 @@ impl<S: OrderedStore + Drop> Table<S> {
     /// `delete`: no object has the key behind it. It takes no memory.
     pub fn delete(&mut self, key: &Term, budget: u32) -> Played
         requires { 1 ≤ budget }
-        ensures comes { ComesTo self.old self.new (Delete key.now) result }
+        ensures comes { ComesTo self.old self.new budget (Delete key.now) result }
         ensures ok { IsOk result }
     {
         let mut code = Code::new();
@@ -161,7 +161,7 @@ impl<S: OrderedStore + Drop> Table<S> {
     /// turn. `Err` where memory for the list wasn't found; then the object stays.
     pub fn take(&mut self, alloc: Global, key: &Term, budget: u32) -> Played
         requires { 1 ≤ budget }
-        ensures { ComesTo self.old self.new (Take key.now) result }
+        ensures { ComesTo self.old self.new budget (Take key.now) result }
     {
         let mut code = Code::new();
         if let Err(fault) = key_code(key, &mut code) {
@@ -220,7 +220,7 @@ impl<S: OrderedStore + Drop> Table<S> {
         requires place { (key.start ≤ key.end) × (key.end ≤ length object.now.items) }
         requires pair { IsPair self.old.keypos (slice_range object.now.items key.start key.end, object.now.items) }
         ensures put { OnOk result (Meets self.old self.new (Write (slice_range object.now.items key.start key.end) object.now.items)) }
-        ensures refused { IfErr result (λ refusal. IsRefusal self.old self.new refusal) }
+        ensures refused { IfErr result (λ refusal. IsRefusal self.old self.new budget refusal) }
     {
         done(self.store.put(object.as_slice(), key.start, key.end, budget))
     }
@@ -232,7 +232,7 @@ impl<S: OrderedStore + Drop> Table<S> {
         requires place { (key.start ≤ key.end) × (key.end ≤ length object.now.items) }
         requires pair { IsPair self.old.keypos (slice_range object.now.items key.start key.end, object.now.items) }
         ensures put { IfOk result (λ new. Meets self.old self.new (WriteNew (slice_range object.now.items key.start key.end) object.now.items new)) }
-        ensures refused { IfErr result (λ refusal. IsRefusal self.old self.new refusal) }
+        ensures refused { IfErr result (λ refusal. IsRefusal self.old self.new budget refusal) }
     {
         done(self.store.put_new(object.as_slice(), key.start, key.end, budget))
     }
@@ -242,7 +242,8 @@ impl<S: OrderedStore + Drop> Table<S> {
         requires budget { 1 ≤ budget }
         requires key { 1 ≤ length key.now.items }
         ensures removed { IfOk result (λ was. Removed self.old self.new key.now.items was old.new.items) }
-        ensures refused { IfErr result (λ refusal. IsRefusal self.old self.new refusal) }
+        ensures refused { IfErr result (λ refusal. IsRefusal self.old self.new budget refusal) }
+        ensures never_deep { IfErr result (λ refusal. IsNeverDeep refusal) }
     {
         done(self.store.remove(key.as_slice(), old, budget))
     }
@@ -252,7 +253,8 @@ impl<S: OrderedStore + Drop> Table<S> {
         requires budget { 1 ≤ budget }
         requires key { 1 ≤ length key.now.items }
         ensures removed { IfOk result (λ changed. RemovedSame self.old self.new key.now.items object.now.items changed) }
-        ensures refused { IfErr result (λ refusal. IsRefusal self.old self.new refusal) }
+        ensures refused { IfErr result (λ refusal. IsRefusal self.old self.new budget refusal) }
+        ensures never_deep { IfErr result (λ refusal. IsNeverDeep refusal) }
     {
         let read = object.as_slice();
         let same = |bytes: &[u8]| -> bool
