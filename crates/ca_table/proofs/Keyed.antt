@@ -1,5 +1,5 @@
 -- How the calls with a key end: `lookup`, `member`, `delete` and `take`.
-use Rattle.std.proofs.Common.{◌≡◌, ℕ, ◌≤◌, Bool, true, false, List, [], ◌∷◌, length, sym, refl, subst, ◌∙◌, ap, inl, inr, Some, None, arith}
+use Rattle.std.proofs.Common.{◌≡◌, ℕ, ◌≤◌, Bool, true, false, List, [], length, sym, refl, subst, ap, inl, Some, None, arith}
 use Rattle.ca_term.specs.Tree.{Tree}
 use Rattle.ca_term.specs.Code.{code_of}
 use Rattle.ca_ets.specs.Command.{Continuation, Truth, Items}
@@ -92,7 +92,8 @@ module _ (k : Tree) (bytes : List ℕ) (h : HasKeyCode k bytes) where
         (inl (then_call a m b _ l l _ _ (only_read a m found into e got) met (take_found a.keypos k h.bounded h.fitting l only.term only.bounded)))
 
     -- No object is there any more: `take` answers the empty list.
-    pub take_gone : RemovedSame m b bytes into changed.Absent → (none : List Tree) → none ≡ [] → (l : Continuation) → Steps a b l (Take k) (Items none) l
+    pub take_gone : RemovedSame m b bytes into changed.Absent → (none : List Tree) → none ≡ [] → (l : Continuation)
+        → Steps a b l (Take k) (Items none) l
     take_gone removed none empty l =
         let met = subst (λ (x : List ℕ). Meets m b (Get x None)) h.code_is removed in
         subst (λ (x : List Tree). Steps a b l (Take k) (Items x) l) (sym empty)

@@ -1,5 +1,5 @@
 -- Over a store that is sure and that nobody else edits each call is done.
-use Rattle.std.proofs.Common.{◌≡◌, ℕ, true, List, inl, inr}
+use Rattle.std.proofs.Common.{◌≡◌, true, inl, inr}
 use Rattle.ca_term.specs.Code.{code_of}
 use Rattle.ca_ets.specs.Command.{Command}
 use Rattle.ca_ets.specs.declared.command.Cmd.TheVariants.{Insert, InsertNew, Lookup, Member, Delete, Take}

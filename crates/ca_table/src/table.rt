@@ -5,12 +5,14 @@ ghost use Rattle.ca_model.specs.Known.{Known, Meets, Stays};
 ghost use Rattle.ca_model.specs.Event.{Write, WriteNew};
 ghost use Rattle.ca_model.specs.Answer.{Got, Removed, IsDone, IsNeverDeep};
 ghost use Rattle.ca_model.specs.StoreMap.{IsPair};
+ghost use Rattle.ca_ets.specs.Step.{fault_of_object};
+ghost use Rattle.ca_table.specs.Codes.{HasObjectCode, IsUnless};
 ghost use Rattle.ca_table.specs.ComesTo.{ComesTo};
 ghost use Rattle.ca_table.specs.Refusals.{IsRefusal, IsSame, RemovedSame};
 
 use crate::codes::{KeyRange, key_code, object_code, only};
 use crate::outcome::{ONE_LOST, Played, done};
-use ca_ets::{Cmd, Cont, Reply};
+use ca_ets::{Cmd, Cont, Fault, Reply};
 use ca_model::{Changed, Code, OrderedStore, Outcome};
 use ca_term::{Term, Terms};
 use std::alloc::{AllocError, Global};
@@ -73,7 +75,7 @@ impl<S: OrderedStore + Drop> Table<S> {
         ensures { ComesTo self.old self.new budget (Insert object.now) result }
     {
         let mut code = Code::new();
-        let key = match object_code(object, self.keypos(), &mut code) {
+        let key = match self.object_code(object, &mut code) {
             Ok(key) => key,
             Err(fault) => return Ok(Outcome::Done(Reply::Error(fault))),
         };
@@ -92,7 +94,7 @@ impl<S: OrderedStore + Drop> Table<S> {
         ensures { ComesTo self.old self.new budget (InsertNew object.now) result }
     {
         let mut code = Code::new();
-        let key = match object_code(object, self.keypos(), &mut code) {
+        let key = match self.object_code(object, &mut code) {
             Ok(key) => key,
             Err(fault) => return Ok(Outcome::Done(Reply::Error(fault))),
         };
@@ -185,12 +187,13 @@ impl<S: OrderedStore + Drop> Table<S> {
 
 // The calls of the store, with what is known of it in the table's words.
 impl<S: OrderedStore + Drop> Table<S> {
-    // Which element of an object is its key.
-    fn keypos(&self) -> u32
-        ensures value { result ≡ self.now.keypos }
-        ensures positive { 1 ≤ result }
+    // Writes the code of an object into `into`: where its key stands in it, or why the object is refused.
+    fn object_code(&self, object: &Term, into: &mut Code) -> Result<KeyRange, Fault>
+        ensures code { IsUnless (fault_of_object self.now.keypos object.now)
+            (λ key. HasObjectCode self.now.keypos object.now into.new.items key.start key.end) result }
+        ensures positive { 1 ≤ self.now.keypos }
     {
-        self.keypos
+        object_code(object, self.keypos, into)
     }
 
     // Makes room for a new key.
@@ -222,7 +225,10 @@ impl<S: OrderedStore + Drop> Table<S> {
         ensures put { OnOk result (Meets self.old self.new (Write (slice_range object.now.items key.start key.end) object.now.items)) }
         ensures refused { IfErr result (λ refusal. IsRefusal self.old self.new budget refusal) }
     {
-        done(self.store.put(object.as_slice(), key.start, key.end, budget))
+        done(
+            self.store
+                .put(object.as_slice(), key.start, key.end, budget),
+        )
     }
 
     // Puts the object where no object has its key, and answers whether it did.
@@ -234,7 +240,8 @@ impl<S: OrderedStore + Drop> Table<S> {
         ensures put { IfOk result (λ new. Meets self.old self.new (WriteNew (slice_range object.now.items key.start key.end) object.now.items new)) }
         ensures refused { IfErr result (λ refusal. IsRefusal self.old self.new budget refusal) }
     {
-        done(self.store.put_new(object.as_slice(), key.start, key.end, budget))
+        let KeyRange { start, end } = key;
+        done(self.store.put_new(object.as_slice(), start, end, budget))
     }
 
     // Removes the key's object, and answers whether there was one; then `old` is the object.
@@ -249,7 +256,12 @@ impl<S: OrderedStore + Drop> Table<S> {
     }
 
     // Removes the key's object where it is this one.
-    fn remove_same(&mut self, key: &Code, object: &Code, budget: u32) -> Result<Changed, Outcome<Reply>>
+    fn remove_same(
+        &mut self,
+        key: &Code,
+        object: &Code,
+        budget: u32,
+    ) -> Result<Changed, Outcome<Reply>>
         requires budget { 1 ≤ budget }
         requires key { 1 ≤ length key.now.items }
         ensures removed { IfOk result (λ changed. RemovedSame self.old self.new key.now.items object.now.items changed) }
@@ -261,6 +273,9 @@ impl<S: OrderedStore + Drop> Table<S> {
             ensures { IsSame result bytes.now read.entry.now }
         { bytes == read };
         let mut old = Code::new();
-        done(self.store.remove_if(key.as_slice(), &same, &mut old, budget))
+        done(
+            self.store
+                .remove_if(key.as_slice(), &same, &mut old, budget),
+        )
     }
 }

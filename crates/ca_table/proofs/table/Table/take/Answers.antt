@@ -32,8 +32,11 @@ returns-in-Ok-Absent g c =
 
 pub returns-in-Ok-Kept : goal.returns-in-Ok-Kept
 returns-in-Ok-Kept g c =
-    inr (refl, take_overtaken c.args.key.now _ c.in_default.ensures.1 c.args.self.now c.get.new.self _ _ _ _ c.if-not-get.false c.get.ensures c.in-Ok.ensures
-    (rw c.in-Ok-Kept.field-0-is at c.in-Ok-Kept.ensures.removed))
+    inr (
+      refl,
+      take_overtaken c.args.key.now _ c.in_default.ensures.1 c.args.self.now c.get.new.self _ _ _ _ c.if-not-get.false c.get.ensures c.in-Ok.ensures
+          (rw c.in-Ok-Kept.field-0-is at c.in-Ok-Kept.ensures.removed),
+    )
 
 pub returns-in-Err-remove_same : goal.returns-in-Err-remove_same
 returns-in-Err-remove_same g c =
