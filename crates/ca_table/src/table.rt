@@ -225,10 +225,8 @@ impl<S: OrderedStore + Drop> Table<S> {
         ensures put { OnOk result (Meets self.old self.new (Write (slice_range object.now.items key.start key.end) object.now.items)) }
         ensures refused { IfErr result (λ refusal. IsRefusal self.old self.new budget refusal) }
     {
-        done(
-            self.store
-                .put(object.as_slice(), key.start, key.end, budget),
-        )
+        let KeyRange { start, end } = key;
+        done(self.store.put(object.as_slice(), start, end, budget))
     }
 
     // Puts the object where no object has its key, and answers whether it did.
