@@ -1,11 +1,10 @@
 -- How `insert` and `insert_new` put an object's code.
-use Rattle.std.proofs.Common.{◌≡◌, ℕ, ◌≤◌, Bool, true, false, List, [], sym, refl, subst, inl}
+use Rattle.std.proofs.Common.{ℕ, ◌≤◌, Bool, true, List, sym, subst, inl}
 use Rattle.std.specs.List.{slice_range}
 use Rattle.ca_term.specs.Tree.{Tree}
 use Rattle.ca_term.specs.Code.{code_of}
 use Rattle.ca_term.specs.Object.{key_of}
 use Rattle.ca_ets.specs.Command.{Continuation, Truth}
-use Rattle.ca_ets.specs.OrderedMap.{IsEntry}
 use Rattle.ca_ets.specs.declared.command.Cmd.TheVariants.{Insert, InsertNew}
 use Rattle.ca_model.specs.StoreMap.{Pair, IsPair}
 use Rattle.ca_model.specs.Event.{Event, Write, WriteNew}

@@ -1,5 +1,5 @@
 -- Where the key's code stands in an object's code.
-use Rattle.std.proofs.Common.{◌≡◌, ℕ, suc, ◌≤◌, ◌<◌, ◌+◌, ◌-◌, true, List, [], ◌∷◌, ◌++◌, length, take, drop, arith, refl, sym, ◌∙◌, ap, subst, append_assoc, length-append, Some, None}
+use Rattle.std.proofs.Common.{◌≡◌, ℕ, ◌≤◌, ◌<◌, ◌+◌, ◌-◌, true, List, [], ◌∷◌, ◌++◌, length, take, drop, arith, refl, sym, ◌∙◌, ap, subst, append_assoc, length-append, Some, None}
 use Rattle.std.specs.Prelude.{slice_index_or, nat_le}
 use Rattle.std.specs.List.{slice_range}
 use Rattle.std.proofs.lemmas.Bool.Decides.{nat_tests}
@@ -54,7 +54,8 @@ tuple_place row p start end b k =
     let P : List ℕ = H ++ B in
     let rows : row_code row ≡ B ++ (K ++ A) = ap row_code k.row_is ∙ row_app k.before k.key k.after in
     let whole : code_of (Tuple row) ≡ P ++ (K ++ A) =
-    code_tuple row ∙ ap (λ (f : List ℕ). (0x40 ∷ []) ++ (f ++ row_code row)) four ∙ ap (λ (r : List ℕ). H ++ r) rows ∙ sym (append_assoc H B (K ++ A)) in
+    code_tuple row ∙ ap (λ (f : List ℕ). (0x40 ∷ []) ++ (f ++ row_code row)) four ∙ ap (λ (r : List ℕ). H ++ r) rows
+    ∙ sym (append_assoc H B (K ++ A)) in
     let long : length P ≡ 5 + length B = omega (arith, length-append H B) in
     let index : p - 1 ≡ length k.before = omega (arith, k.place) in
     let key : key_of p (Tuple row) ≡ k.key =
@@ -89,20 +90,22 @@ pub tuple_is : (p : ℕ) (ts : List Tree) (o : Tree) → Tuple (row_of ts) ≡ o
 tuple_is p ts o is = rw (← is, size_row ts) refl
 
 -- The code of an object that is short enough, with the place of its key: nothing refuses the object.
-pub has_code : (p : ℕ) (o : Tree) (bytes : List ℕ) (start end : ℕ) → IsTerm o → is_object p o ≡ true → bytes ≡ code_of o → length bytes ≤ MOST_CODE_BYTES
-    → IsKeyParts o p (Some (start, end)) → (fault_of_object p o ≡ None) × HasObjectCode p o bytes start end
+pub has_code : (p : ℕ) (o : Tree) (bytes : List ℕ) (start end : ℕ) → IsTerm o → is_object p o ≡ true → bytes ≡ code_of o
+    → length bytes ≤ MOST_CODE_BYTES → IsKeyParts o p (Some (start, end)) → (fault_of_object p o ≡ None) × HasObjectCode p o bytes start end
 has_code p o bytes start end b is e short parts =
     let k = key_stands o p start end b parts in
-    let fitting : fits o ≡ true = short_fits (subst (λ (x : List ℕ). length x ≤ MOST_CODE_BYTES) e short) in
-    (rw (is, fitting) refl, record {
-      bounded = b;
-      is = is;
-      fitting = fitting;
-      code_is = e;
-      rising = k.rising;
-      inside = subst (λ (x : List ℕ). end ≤ length x) (sym e) k.inside;
-      key_is = ap (λ (x : List ℕ). slice_range x start end) e ∙ k.key;
-    })
+    let fitting : fits o ≡ true = short_fits (subst (λ (x : List ℕ). length x ≤ MOST_CODE_BYTES) e short) in (
+      rw (is, fitting) refl,
+      record {
+        bounded = b;
+        is = is;
+        fitting = fitting;
+        code_is = e;
+        rising = k.rising;
+        inside = subst (λ (x : List ℕ). end ≤ length x) (sym e) k.inside;
+        key_is = ap (λ (x : List ℕ). slice_range x start end) e ∙ k.key;
+      },
+    )
   where
     short_fits : {n : ℕ} → n ≤ MOST_CODE_BYTES → nat_le n MOST_CODE_BYTES ≡ true
     short_fits l = grind (arith, nat_tests)

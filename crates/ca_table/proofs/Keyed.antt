@@ -1,9 +1,10 @@
 -- How the calls with a key end: `lookup`, `member`, `delete` and `take`.
-use Rattle.std.proofs.Common.{◌≡◌, ℕ, ◌≤◌, Bool, true, false, List, [], ◌∷◌, length, sym, refl, subst, ◌∙◌, ap, inl, inr, Some, None, arith}
+use Rattle.std.proofs.Common.{◌≡◌, ℕ, ◌≤◌, Bool, true, false, List, [], length, sym, refl, subst, ap, inl, Some, None, arith}
 use Rattle.ca_term.specs.Tree.{Tree}
 use Rattle.ca_term.specs.Code.{code_of}
 use Rattle.ca_ets.specs.Command.{Continuation, Truth, Items}
 use Rattle.ca_ets.specs.declared.command.Cmd.TheVariants.{Lookup, Member, Delete, Take}
+use Rattle.ca_order.specs.Languages.{IsTermCode}
 use Rattle.ca_order.proofs.Skipped.{code_begun}
 use Rattle.ca_model.specs.Event.{Get, Remove}
 use Rattle.ca_model.specs.Known.{Known, Meets}
@@ -15,6 +16,7 @@ use Rattle.ca_merge.proofs.Carrying.{lookup_found, lookup_absent}
 use Rattle.ca_merge.proofs.Overtaking.{overtaken}
 use Rattle.ca_table.specs.Codes.{HasKeyCode, IsOnly}
 use Rattle.ca_table.specs.Refusals.{RemovedSame}
+use Rattle.ca_table.proofs.ReadBack.{found_code}
 use Rattle.ca_table.proofs.Carried.{member_found, member_absent, delete_found, delete_absent, take_found, take_absent}
 
 module _ (k : Tree) (bytes : List ℕ) (h : HasKeyCode k bytes) where
@@ -47,6 +49,10 @@ module _ (k : Tree) (bytes : List ℕ) (h : HasKeyCode k bytes) where
         let met = subst (λ (x : List ℕ). Meets a b (Get (code_of k) (Some x))) only.code_is (got_some found into e got) in
         subst (λ (x : List Tree). Steps a b l (Lookup k) (Items x) l) (sym only.terms_are)
         (inl (one_call a b _ l l _ _ met (lookup_found a.keypos k h.bounded h.fitting l only.term only.bounded)))
+
+    -- What is found is the code of a term.
+    pub read_code : (found : Bool) (into : List ℕ) → found ≡ true → Got a b bytes found into → IsTermCode into
+    read_code found into e got = found_code a b (code_of k) into (got_some found into e got)
 
     -- An object was read, and no edit was made.
     pub only_read : (found : Bool) (into : List ℕ) → found ≡ true → Got a b bytes found into → Refrains a b a.counts
@@ -86,7 +92,8 @@ module _ (k : Tree) (bytes : List ℕ) (h : HasKeyCode k bytes) where
         (inl (then_call a m b _ l l _ _ (only_read a m found into e got) met (take_found a.keypos k h.bounded h.fitting l only.term only.bounded)))
 
     -- No object is there any more: `take` answers the empty list.
-    pub take_gone : RemovedSame m b bytes into changed.Absent → (none : List Tree) → none ≡ [] → (l : Continuation) → Steps a b l (Take k) (Items none) l
+    pub take_gone : RemovedSame m b bytes into changed.Absent → (none : List Tree) → none ≡ [] → (l : Continuation)
+        → Steps a b l (Take k) (Items none) l
     take_gone removed none empty l =
         let met = subst (λ (x : List ℕ). Meets m b (Get x None)) h.code_is removed in
         subst (λ (x : List Tree). Steps a b l (Take k) (Items x) l) (sym empty)

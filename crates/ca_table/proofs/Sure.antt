@@ -1,5 +1,5 @@
 -- Over a store that is sure and that nobody else edits each call is done.
-use Rattle.std.proofs.Common.{◌≡◌, ℕ, true, List, inl, inr}
+use Rattle.std.proofs.Common.{◌≡◌, true, inl, inr}
 use Rattle.ca_term.specs.Code.{code_of}
 use Rattle.ca_ets.specs.Command.{Command}
 use Rattle.ca_ets.specs.declared.command.Cmd.TheVariants.{Insert, InsertNew, Lookup, Member, Delete, Take, UpdateCounter, UpdateElement}
@@ -21,9 +21,9 @@ not_overtaken a b (UpdateElement k op) spent alone h = h
 
 -- Each call is done.
 pub all_done : SureAndAloneIsDone
-all_done a b c (outcome.Done reply) sure alone h = tt
-all_done a b c (outcome.Busy spent) sure alone (inl h) = absurd (never_refused a b _ sure h)
-all_done a b c (outcome.Busy spent) sure alone (inr h) = absurd (not_overtaken a b c spent alone h)
-all_done a b c (outcome.Full cause) sure alone h = absurd (never_refused a b _ sure h)
-all_done a b c (outcome.Deep level) sure alone h = absurd (never_refused a b _ sure h)
-all_done a b c (outcome.Worn counter) sure alone h = absurd (never_refused a b _ sure h)
+all_done a b budget c (outcome.Done reply) sure alone h = tt
+all_done a b budget c (outcome.Busy spent) sure alone (inl h) = absurd (never_refused a b _ sure h.1)
+all_done a b budget c (outcome.Busy spent) sure alone (inr h) = absurd (not_overtaken a b c spent alone h)
+all_done a b budget c (outcome.Full cause) sure alone h = absurd (never_refused a b _ sure h.1)
+all_done a b budget c (outcome.Deep level) sure alone h = absurd (never_refused a b _ sure h.1)
+all_done a b budget c (outcome.Worn counter) sure alone h = absurd (never_refused a b _ sure h.1)

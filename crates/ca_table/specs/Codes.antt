@@ -1,6 +1,5 @@
 -- Terms of commands as the bytes that a store is handed.
 use Rattle.std.specs.Prelude.{◌≡◌, ℕ, ◌≤◌, true, List, [], ◌∷◌, length, slice_range, Option, None, Some, Result, Ok, Err}
-use Rattle.ca_term.specs.declared.bounds.TheConstants.{MOST_CODE_BYTES}
 use Rattle.ca_term.specs.Tree.{Tree, IsTerm}
 use Rattle.ca_term.specs.Code.{code_of}
 use Rattle.ca_term.specs.Object.{is_object, key_of, fits}

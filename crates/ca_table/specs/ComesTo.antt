@@ -1,5 +1,5 @@
 -- What a table's calls come to.
-use Rattle.std.specs.Prelude.{◌≡◌, ◌⊎◌, ℕ, true, Result, Ok, Err}
+use Rattle.std.specs.Prelude.{◌≡◌, ◌⊎◌, ℕ, ◌+◌, ◌≤◌, true, Result, Ok, Err}
 use Rattle.ca_term.specs.Code.{code_of}
 use Rattle.ca_ets.specs.Command.{Command, Continuation, response_of}
 use Rattle.ca_ets.specs.declared.command.Cmd.TheVariants.{Insert, InsertNew, Lookup, Member, Delete, Take, UpdateCounter, UpdateElement}
@@ -26,22 +26,45 @@ IsOvertaken a b (Take k) spent = (spent ≡ one_lost) × Overtaken a b (code_of 
 IsOvertaken a b (UpdateCounter k op) spent = ⊥
 IsOvertaken a b (UpdateElement k op) spent = ⊥
 
-module _ (a b : Known) (command : Command) where
+-- Whether the store may refuse the command's call: it never refuses a read.
+abbrev pub MayBeRefused : Command → Type 0
+MayBeRefused (Insert o) = Unit {0}
+MayBeRefused (InsertNew o) = Unit {0}
+MayBeRefused (Lookup k) = ⊥
+MayBeRefused (Member k) = ⊥
+MayBeRefused (Delete k) = Unit {0}
+MayBeRefused (Take k) = Unit {0}
+MayBeRefused (UpdateCounter k op) = Unit {0}
+MayBeRefused (UpdateElement k op) = Unit {0}
+
+-- Whether it may be for want of levels: a new key alone needs one.
+abbrev pub MayBeDeep : Command → Type 0
+MayBeDeep (Insert o) = Unit {0}
+MayBeDeep (InsertNew o) = Unit {0}
+MayBeDeep (Lookup k) = ⊥
+MayBeDeep (Member k) = ⊥
+MayBeDeep (Delete k) = ⊥
+MayBeDeep (Take k) = ⊥
+MayBeDeep (UpdateCounter k op) = ⊥
+MayBeDeep (UpdateElement k op) = ⊥
+
+module _ (a b : Known) (budget : ℕ) (command : Command) where
   -- A reply is that of the command's step, at every continuation, which stays as it was. A refusal is one of the store, whose count
-  -- rose by one, or `take` was overtaken.
-  abbrev pub IsOutcome : Outcome Reply → Type 0
-  IsOutcome (outcome.Done reply) = (continuation : Continuation) → Steps a b continuation command (response_of reply) continuation
-  IsOutcome (outcome.Busy spent) = Refused a b (one_more_busy a.counts) ⊎ IsOvertaken a b command spent
-  IsOutcome (outcome.Full cause) = Refused a b (one_more_full a.counts)
-  IsOutcome (outcome.Deep level) = Refused a b (one_more_deep a.counts)
-  IsOutcome (outcome.Worn counter) = Refused a b (one_more_worn a.counts)
+  -- rose by one, and `Busy` spent the budget; or `take` was overtaken.
+  abbrev pub HasOutcome : Outcome Reply → Type 0
+  HasOutcome (outcome.Done reply) = (continuation : Continuation) → Steps a b continuation command (response_of reply) continuation
+  HasOutcome (outcome.Busy spent) =
+      (MayBeRefused command × Refused a b (one_more_busy a.counts) × (budget ≤ spent.lost + spent.helped + spent.passed)) ⊎ IsOvertaken a b command spent
+  HasOutcome (outcome.Full cause) = MayBeRefused command × Refused a b (one_more_full a.counts)
+  HasOutcome (outcome.Deep level) = MayBeDeep command × Refused a b (one_more_deep a.counts)
+  HasOutcome (outcome.Worn counter) = MayBeRefused command × Refused a b (one_more_worn a.counts)
 
   -- The call has such an outcome. Where memory wasn't found, nothing but the room changed, or the table only read.
   abbrev pub ComesTo : {Lack : Type 0} → Result (Outcome Reply) Lack → Type 0
-  ComesTo (Ok outcome) = IsOutcome outcome
+  ComesTo (Ok outcome) = HasOutcome outcome
   ComesTo (Err lack) = Stays a b ⊎ Refrains a b a.counts
 
 -- Over a store that is sure and that nobody else edits, each call is done where memory is found.
 abbrev pub SureAndAloneIsDone : Type 0
-SureAndAloneIsDone = (a b : Known) (command : Command) (outcome : Outcome Reply) → a.sure ≡ true → a.alone ≡ true → IsOutcome a b command outcome
-    → IsDone outcome
+SureAndAloneIsDone = (a b : Known) (budget : ℕ) (command : Command) (outcome : Outcome Reply) → a.sure ≡ true → a.alone ≡ true
+    → HasOutcome a b budget command outcome → IsDone outcome

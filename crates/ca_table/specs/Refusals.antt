@@ -1,5 +1,5 @@
 -- What a table passes on of its store's answers.
-use Rattle.std.specs.Prelude.{◌≡◌, ℕ, Bool, true, false, List, Result, Ok, Err, Some, None}
+use Rattle.std.specs.Prelude.{◌≡◌, ℕ, ◌+◌, ◌≤◌, Bool, true, false, List, Result, Ok, Err, Some, None}
 use Rattle.ca_ets.specs.declared.command.Reply.{Reply}
 use Rattle.ca_model.specs.declared.outcome.Outcome.{Outcome}
 use Rattle.ca_model.specs.declared.outcome.Outcome.TheVariants as outcome
@@ -16,15 +16,16 @@ IsParted (outcome.Full cause) parted = parted ≡ Err (outcome.Full cause)
 IsParted (outcome.Deep level) parted = parted ≡ Err (outcome.Deep level)
 IsParted (outcome.Worn counter) parted = parted ≡ Err (outcome.Worn counter)
 
-module _ (a b : Known) where
+module _ (a b : Known) (budget : ℕ) where
   -- The store refused its call so.
   abbrev pub IsRefusal : Outcome Reply → Type 0
   IsRefusal (outcome.Done reply) = ⊥
-  IsRefusal (outcome.Busy spent) = Declines a b (one_more_busy a.counts)
+  IsRefusal (outcome.Busy spent) = Declines a b (one_more_busy a.counts) × (budget ≤ spent.lost + spent.helped + spent.passed)
   IsRefusal (outcome.Full cause) = Declines a b (one_more_full a.counts)
   IsRefusal (outcome.Deep level) = Declines a b (one_more_deep a.counts)
   IsRefusal (outcome.Worn counter) = Declines a b (one_more_worn a.counts)
 
+module _ (a b : Known) where
   -- The key's object was these bytes and is removed, or is another one and stays, or there is none.
   abbrev pub RemovedSame : List ℕ → List ℕ → Changed → Type 0
   RemovedSame key object changed.Absent = Meets a b (Get key None)

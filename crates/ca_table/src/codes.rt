@@ -3,11 +3,12 @@ ghost use Rattle.std.specs.Prelude.{◌≡◌, ◌≤◌, IfOk};
 ghost use Rattle.ca_term.specs.Object.{is_object};
 ghost use Rattle.ca_term.specs.Tree.{IsTerm};
 ghost use Rattle.ca_ets.specs.Step.{fault_of_key, fault_of_object};
+ghost use Rattle.ca_order.specs.Languages.{IsTermCode};
 ghost use Rattle.ca_table.specs.Codes.{HasKeyCode, HasObjectCode, IsOnly, IsUnless};
 
 use ca_ets::Fault;
 use ca_model::Code;
-use ca_order::{decode, encode, object_parts};
+use ca_order::{DecodeFault, decode, encode, object_parts};
 use ca_term::{Kind, Term, Terms};
 use std::alloc::{AllocError, Global};
 
@@ -61,10 +62,13 @@ fn is_object(object: &Term, keypos: u32) -> bool
 
 // The list of the term that these bytes are the code of.
 pub(crate) fn only(alloc: Global, code: &Code) -> Result<Terms, AllocError>
+    requires { IsTermCode code.now.items }
     ensures { IfOk result (λ terms. IsOnly code.now.items terms.items) }
 {
-    let Ok(term) = decode(alloc, code.as_slice()) else {
-        return Err(AllocError);
+    let term = match decode(alloc, code.as_slice()) {
+        Ok(term) => term,
+        Err(DecodeFault::NoMemory) => return Err(AllocError),
+        Err(DecodeFault::NotACode { at: _ }) => unreachable!(),
     };
     let _kind = term.kind();
     let mut terms = Terms::new(alloc);

@@ -3,14 +3,16 @@ ghost use Rattle.std.specs.Prelude.{◌≡◌, ◌≤◌, length, slice_range, I
 ghost use Rattle.ca_ets.specs.declared.command.Cmd.TheVariants.{Insert, InsertNew, Lookup, Member, Delete, Take};
 ghost use Rattle.ca_model.specs.Known.{Known, Meets, Stays};
 ghost use Rattle.ca_model.specs.Event.{Write, WriteNew};
-ghost use Rattle.ca_model.specs.Answer.{Got, Removed, IsDone};
+ghost use Rattle.ca_model.specs.Answer.{Got, Removed, IsDone, IsNeverDeep};
 ghost use Rattle.ca_model.specs.StoreMap.{IsPair};
+ghost use Rattle.ca_ets.specs.Step.{fault_of_object};
+ghost use Rattle.ca_table.specs.Codes.{HasObjectCode, IsUnless};
 ghost use Rattle.ca_table.specs.ComesTo.{ComesTo};
 ghost use Rattle.ca_table.specs.Refusals.{IsRefusal, IsSame, RemovedSame};
 
 use crate::codes::{KeyRange, key_code, object_code, only};
 use crate::outcome::{ONE_LOST, Played, done};
-use ca_ets::Reply;
+use ca_ets::{Fault, Reply};
 use ca_model::{Changed, Code, OrderedStore, Outcome};
 use ca_term::{Term, Terms};
 use std::alloc::{AllocError, Global};
@@ -54,10 +56,10 @@ impl<S: OrderedStore + Drop> Table<S> {
     /// `insert`: it replaces the object of an equal key. `Err` where the store found no memory for a new key.
     pub fn insert(&mut self, object: &Term, budget: u32) -> Played
         requires { 1 ≤ budget }
-        ensures { ComesTo self.old self.new (Insert object.now) result }
+        ensures { ComesTo self.old self.new budget (Insert object.now) result }
     {
         let mut code = Code::new();
-        let key = match object_code(object, self.keypos(), &mut code) {
+        let key = match self.object_code(object, &mut code) {
             Ok(key) => key,
             Err(fault) => return Ok(Outcome::Done(Reply::Error(fault))),
         };
@@ -73,10 +75,10 @@ impl<S: OrderedStore + Drop> Table<S> {
     /// `insert_new`: it inserts where no object has the key. `Err` where the store found no memory for a new key.
     pub fn insert_new(&mut self, object: &Term, budget: u32) -> Played
         requires { 1 ≤ budget }
-        ensures { ComesTo self.old self.new (InsertNew object.now) result }
+        ensures { ComesTo self.old self.new budget (InsertNew object.now) result }
     {
         let mut code = Code::new();
-        let key = match object_code(object, self.keypos(), &mut code) {
+        let key = match self.object_code(object, &mut code) {
             Ok(key) => key,
             Err(fault) => return Ok(Outcome::Done(Reply::Error(fault))),
         };
@@ -92,7 +94,7 @@ impl<S: OrderedStore + Drop> Table<S> {
     /// `lookup`: the list of the key's object, or the empty list. It is never refused; `Err` where memory for the list wasn't found.
     pub fn lookup(&mut self, alloc: Global, key: &Term, budget: u32) -> Played
         requires { 1 ≤ budget }
-        ensures comes { ComesTo self.old self.new (Lookup key.now) result }
+        ensures comes { ComesTo self.old self.new budget (Lookup key.now) result }
         ensures done { IfOk result (λ outcome. IsDone outcome) }
     {
         let mut code = Code::new();
@@ -112,7 +114,7 @@ impl<S: OrderedStore + Drop> Table<S> {
     /// `member`: whether an object has the key. It is never refused, and takes no memory.
     pub fn member(&mut self, key: &Term, budget: u32) -> Played
         requires { 1 ≤ budget }
-        ensures comes { ComesTo self.old self.new (Member key.now) result }
+        ensures comes { ComesTo self.old self.new budget (Member key.now) result }
         ensures done { IfOk result (λ outcome. IsDone outcome) }
         ensures ok { IsOk result }
     {
@@ -127,7 +129,7 @@ impl<S: OrderedStore + Drop> Table<S> {
     /// `delete`: no object has the key behind it. It takes no memory.
     pub fn delete(&mut self, key: &Term, budget: u32) -> Played
         requires { 1 ≤ budget }
-        ensures comes { ComesTo self.old self.new (Delete key.now) result }
+        ensures comes { ComesTo self.old self.new budget (Delete key.now) result }
         ensures ok { IsOk result }
     {
         let mut code = Code::new();
@@ -145,7 +147,7 @@ impl<S: OrderedStore + Drop> Table<S> {
     /// turn. `Err` where memory for the list wasn't found; then the object stays.
     pub fn take(&mut self, alloc: Global, key: &Term, budget: u32) -> Played
         requires { 1 ≤ budget }
-        ensures { ComesTo self.old self.new (Take key.now) result }
+        ensures { ComesTo self.old self.new budget (Take key.now) result }
     {
         let mut code = Code::new();
         if let Err(fault) = key_code(key, &mut code) {
@@ -169,12 +171,13 @@ impl<S: OrderedStore + Drop> Table<S> {
 
 // The calls of the store, with what is known of it in the table's words.
 impl<S: OrderedStore + Drop> Table<S> {
-    // Which element of an object is its key.
-    fn keypos(&self) -> u32
-        ensures value { result ≡ self.now.keypos }
-        ensures positive { 1 ≤ result }
+    // Writes the code of an object into `into`: where its key stands in it, or why the object is refused.
+    fn object_code(&self, object: &Term, into: &mut Code) -> Result<KeyRange, Fault>
+        ensures code { IsUnless (fault_of_object self.now.keypos object.now)
+            (λ key. HasObjectCode self.now.keypos object.now into.new.items key.start key.end) result }
+        ensures positive { 1 ≤ self.now.keypos }
     {
-        self.keypos
+        object_code(object, self.keypos, into)
     }
 
     // Makes room for a new key.
@@ -204,9 +207,10 @@ impl<S: OrderedStore + Drop> Table<S> {
         requires place { (key.start ≤ key.end) × (key.end ≤ length object.now.items) }
         requires pair { IsPair self.old.keypos (slice_range object.now.items key.start key.end, object.now.items) }
         ensures put { OnOk result (Meets self.old self.new (Write (slice_range object.now.items key.start key.end) object.now.items)) }
-        ensures refused { IfErr result (λ refusal. IsRefusal self.old self.new refusal) }
+        ensures refused { IfErr result (λ refusal. IsRefusal self.old self.new budget refusal) }
     {
-        done(self.store.put(object.as_slice(), key.start, key.end, budget))
+        let KeyRange { start, end } = key;
+        done(self.store.put(object.as_slice(), start, end, budget))
     }
 
     // Puts the object where no object has its key, and answers whether it did.
@@ -216,9 +220,10 @@ impl<S: OrderedStore + Drop> Table<S> {
         requires place { (key.start ≤ key.end) × (key.end ≤ length object.now.items) }
         requires pair { IsPair self.old.keypos (slice_range object.now.items key.start key.end, object.now.items) }
         ensures put { IfOk result (λ new. Meets self.old self.new (WriteNew (slice_range object.now.items key.start key.end) object.now.items new)) }
-        ensures refused { IfErr result (λ refusal. IsRefusal self.old self.new refusal) }
+        ensures refused { IfErr result (λ refusal. IsRefusal self.old self.new budget refusal) }
     {
-        done(self.store.put_new(object.as_slice(), key.start, key.end, budget))
+        let KeyRange { start, end } = key;
+        done(self.store.put_new(object.as_slice(), start, end, budget))
     }
 
     // Removes the key's object, and answers whether there was one; then `old` is the object.
@@ -226,23 +231,33 @@ impl<S: OrderedStore + Drop> Table<S> {
         requires budget { 1 ≤ budget }
         requires key { 1 ≤ length key.now.items }
         ensures removed { IfOk result (λ was. Removed self.old self.new key.now.items was old.new.items) }
-        ensures refused { IfErr result (λ refusal. IsRefusal self.old self.new refusal) }
+        ensures refused { IfErr result (λ refusal. IsRefusal self.old self.new budget refusal) }
+        ensures never_deep { IfErr result (λ refusal. IsNeverDeep refusal) }
     {
         done(self.store.remove(key.as_slice(), old, budget))
     }
 
     // Removes the key's object where it is this one.
-    fn remove_same(&mut self, key: &Code, object: &Code, budget: u32) -> Result<Changed, Outcome<Reply>>
+    fn remove_same(
+        &mut self,
+        key: &Code,
+        object: &Code,
+        budget: u32,
+    ) -> Result<Changed, Outcome<Reply>>
         requires budget { 1 ≤ budget }
         requires key { 1 ≤ length key.now.items }
         ensures removed { IfOk result (λ changed. RemovedSame self.old self.new key.now.items object.now.items changed) }
-        ensures refused { IfErr result (λ refusal. IsRefusal self.old self.new refusal) }
+        ensures refused { IfErr result (λ refusal. IsRefusal self.old self.new budget refusal) }
+        ensures never_deep { IfErr result (λ refusal. IsNeverDeep refusal) }
     {
         let read = object.as_slice();
         let same = |bytes: &[u8]| -> bool
             ensures { IsSame result bytes.now read.entry.now }
         { bytes == read };
         let mut old = Code::new();
-        done(self.store.remove_if(key.as_slice(), &same, &mut old, budget))
+        done(
+            self.store
+                .remove_if(key.as_slice(), &same, &mut old, budget),
+        )
     }
 }

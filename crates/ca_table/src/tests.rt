@@ -1,6 +1,6 @@
 //! Calls of a table over a plain store.
 use super::*;
-use ca_ets::{Cmd, Cont, Fault, Reply};
+use ca_ets::{Fault, Reply};
 use ca_model::{Outcome, Plain};
 use ca_term::{Kind, Term, TermFault, Terms, bin, int, nil, tuple};
 use std::alloc::Global;
@@ -73,23 +73,35 @@ fn told(played: Played, place: usize) -> Answer {
 }
 
 // Plays a call with this term, an object's or a key's.
-fn play(alloc: Global, table: &mut Table<Plain>, call: Call, term: Result<Term, TermFault>, place: usize) -> Answer {
+fn play(
+    alloc: Global,
+    table: &mut Table<Plain>,
+    call: Call,
+    term: Result<Term, TermFault>,
+    place: usize,
+) -> Answer {
     let Ok(term) = term else {
         return Answer::Other;
     };
-    let command = match call {
-        Call::Insert => Cmd::Insert(term),
-        Call::InsertNew => Cmd::InsertNew(term),
-        Call::Lookup => Cmd::Lookup(term),
-        Call::Member => Cmd::Member(term),
-        Call::Delete => Cmd::Delete(term),
-        Call::Take => Cmd::Take(term),
+    let played = match call {
+        Call::Insert => table.insert(&term, BUDGET),
+        Call::InsertNew => table.insert_new(&term, BUDGET),
+        Call::Lookup => table.lookup(alloc, &term, BUDGET),
+        Call::Member => table.member(&term, BUDGET),
+        Call::Delete => table.delete(&term, BUDGET),
+        Call::Take => table.take(alloc, &term, BUDGET),
     };
-    told(table.apply(alloc, &command, &mut Cont::Never, BUDGET), place)
+    told(played, place)
 }
 
 // The term of a call: the object with this key and number, or the key alone.
-fn argument(alloc: Global, keypos: u32, call: Call, key: i64, number: i64) -> Result<Term, TermFault> {
+fn argument(
+    alloc: Global,
+    keypos: u32,
+    call: Call,
+    key: i64,
+    number: i64,
+) -> Result<Term, TermFault> {
     match call {
         Call::Insert | Call::InsertNew => object(alloc, keypos, int(key), number),
         Call::Lookup | Call::Member | Call::Delete | Call::Take => Ok(int(key)),
@@ -120,7 +132,11 @@ fn each_call_on_a_present_and_an_absent_key(rt: HostRuntime) {
             (Call::Member, 3, 0, Answer::Truth(false)),
         ] {
             let term = argument(alloc, keypos, call, key, number);
-            assert_eq!(rt; play(alloc, &mut table, call, term, place), answer, "keypos {keypos}, row {row}");
+            assert_eq!(rt;
+                play(alloc, &mut table, call, term, place),
+                answer,
+                "keypos {keypos}, row {row}"
+            );
             row = row.wrapping_add(1);
         }
     }

@@ -1,5 +1,5 @@
 use Rattle.std.proofs.Common.{inr}
-use Rattle.ca_table.proofs.Keyed.{key_begins, lookup_none, lookup_one, only_read}
+use Rattle.ca_table.proofs.Keyed.{key_begins, lookup_none, lookup_one, only_read, read_code}
 use Rattle.ca_table.proofs.table.Table.lookup.Goals as goal
 
 pub get-requires-clause-key : goal.get-requires-clause-key
@@ -8,6 +8,9 @@ get-requires-clause-key g c = key_begins c.args.key.now _ c.in_default.ensures.1
 pub returns-then-not-get-clause-comes : goal.returns-then-not-get-clause-comes
 returns-then-not-get-clause-comes g c =
     lookup_none c.args.key.now _ c.in_default.ensures.1 c.args.self.now _ _ _ _ c.if-not-get.true c.get.ensures c.new.ensures.items
+
+pub only-requires : goal.only-requires
+only-requires g c = read_code c.args.key.now _ c.in_default.ensures.1 c.args.self.now _ _ _ c.if-not-get.false c.get.ensures
 
 pub returns-in_default-only-clause-comes : goal.returns-in_default-only-clause-comes
 returns-in_default-only-clause-comes g c =

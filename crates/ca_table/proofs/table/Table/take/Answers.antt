@@ -1,7 +1,6 @@
 use Rattle.std.proofs.Common.{inr, refl}
-use Rattle.ca_ets.specs.declared.command.Cmd.TheVariants.{Take}
 use Rattle.ca_table.proofs.Refusing.{refused_behind_reads}
-use Rattle.ca_table.proofs.Keyed.{key_begins, take_none, take_put, take_gone, take_overtaken, only_read}
+use Rattle.ca_table.proofs.Keyed.{key_begins, take_none, take_put, take_gone, take_overtaken, only_read, read_code}
 use Rattle.ca_table.proofs.table.Table.take.Goals as goal
 
 pub get-requires-clause-key : goal.get-requires-clause-key
@@ -10,6 +9,9 @@ get-requires-clause-key g c = key_begins c.args.key.now _ c.in_default.ensures.1
 pub returns-then-not-get : goal.returns-then-not-get
 returns-then-not-get g c =
     take_none c.args.key.now _ c.in_default.ensures.1 c.args.self.now _ _ _ _ c.if-not-get.true c.get.ensures c.new.ensures.items
+
+pub only-requires : goal.only-requires
+only-requires g c = read_code c.args.key.now _ c.in_default.ensures.1 c.args.self.now _ _ _ c.if-not-get.false c.get.ensures
 
 pub returns-in_default-only : goal.returns-in_default-only
 returns-in_default-only g c =
@@ -30,10 +32,14 @@ returns-in-Ok-Absent g c =
 
 pub returns-in-Ok-Kept : goal.returns-in-Ok-Kept
 returns-in-Ok-Kept g c =
-    inr (refl, take_overtaken c.args.key.now _ c.in_default.ensures.1 c.args.self.now c.get.new.self _ _ _ _ c.if-not-get.false c.get.ensures c.in-Ok.ensures
-    (rw c.in-Ok-Kept.field-0-is at c.in-Ok-Kept.ensures.removed))
+    inr (
+      refl,
+      take_overtaken c.args.key.now _ c.in_default.ensures.1 c.args.self.now c.get.new.self _ _ _ _ c.if-not-get.false c.get.ensures c.in-Ok.ensures
+          (rw c.in-Ok-Kept.field-0-is at c.in-Ok-Kept.ensures.removed),
+    )
 
 pub returns-in-Err-remove_same : goal.returns-in-Err-remove_same
 returns-in-Err-remove_same g c =
-    refused_behind_reads c.args.self.now c.get.new.self _ (Take c.args.key.now) c.in-Err-remove_same.refusal
+    refused_behind_reads c.args.self.now c.get.new.self _ c.args.budget c.args.key.now c.in-Err-remove_same.refusal
     (only_read c.args.key.now _ c.in_default.ensures.1 c.args.self.now _ _ _ c.if-not-get.false c.get.ensures) c.in-Err-remove_same.ensures.refused
+    c.in-Err-remove_same.ensures.never_deep
