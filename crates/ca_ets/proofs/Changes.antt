@@ -42,7 +42,8 @@ module _ (p : ℕ) (l : 1 ≤ p) (m : List Tree) (k : Continuation) (key : Tree)
 
   module _ (operations : Operations) (new : Tree) (values : List ℤ) (up : update_of_counters p o (additions_of operations) ≡ Ok (new, values)) where
     kept : KeepsEntry (1 ≤ p) p o new
-    kept = subst (λ (r : Result (Tree × List ℤ) ElementFault). IfOk r (λ x. KeepsEntry (1 ≤ p) p o x.0)) up (counters_entry p o (additions_of operations) entry.object)
+    kept = subst (λ (r : Result (Tree × List ℤ) ElementFault). IfOk r (λ x. KeepsEntry (1 ≤ p) p o x.0)) up (counters_entry p o (additions_of
+        operations) entry.object)
 
     -- `update_counter` leaves a table.
     pub counters_keep : IsTable p (set m at new)
@@ -54,7 +55,8 @@ module _ (p : ℕ) (l : 1 ≤ p) (m : List Tree) (k : Continuation) (key : Tree)
 
   module _ (position : ℤ) (value new : Tree) (free : IsTrue (is_open p position)) (up : update_of_element o position value ≡ Ok new) where
     kept_element : KeepsEntry ((1 ≤ p) × IsTrue (is_open p position)) p o new
-    kept_element = subst (λ (r : Result Tree ElementFault). IfOk r (KeepsEntry ((1 ≤ p) × IsTrue (is_open p position)) p o)) up (element_entry p o position value entry.object)
+    kept_element = subst (λ (r : Result Tree ElementFault). IfOk r (KeepsEntry ((1 ≤ p) × IsTrue (is_open p position)) p o)) up (element_entry p o
+        position value entry.object)
 
     -- `update_element` leaves a table.
     pub element_keeps : IsTable p (set m at new)
@@ -84,29 +86,35 @@ open_in keypos (x ∷ []) new e = cc
 open_in keypos (x ∷ y ∷ []) new e = open_of keypos (integer_of x) y new e
 open_in keypos (x ∷ y ∷ z ∷ items) new e = cc
 
-module _ (p : ℕ) (m : List Tree) (seen : Table) (view : record { keypos = p; objects = m } ≡ seen) (l : 1 ≤ p) (t : IsTable p m) (key : Tree) (at : ℕ) (r : Place)
-    (h : IsPlaceUnless (fault_of_key key) (IsPlace seen.keypos seen.objects key) (Ok r)) (e : r ≡ At at) (o : Tree) (is : o ≡ get_or m at o) (left : List Tree) where
+module _ (p : ℕ) (m : List Tree) (seen : Table) (view : record {
+  keypos = p;
+  objects =
+      m;
+} ≡ seen) (l : 1 ≤ p) (t : IsTable p m) (key : Tree) (at : ℕ) (r : Place)
+    (h : IsPlaceUnless (fault_of_key key) (IsPlace seen.keypos seen.objects key) (Ok r)) (e : r ≡ At at) (o : Tree) (is : o ≡ get_or m at o) (left :
+    List Tree) where
   place : IsAt p m key at
   place = subst (λ (x : Table). IsAt x.keypos x.objects key at) (sym view) (subst (λ (x : Place). IsPlace seen.keypos seen.objects key x) e h.1)
 
   -- what `update_counter` leaves
   pub counters_exit : (op : Tree) (operations : Operations) (new : Tree) (values : List ℤ) (response : Response) → operations_of p op ≡ Some operations
       → update_of_counters p o (additions_of operations) ≡ Ok (new, values) → response ≡ reply_of operations values → left ≡ set m at new
-      → IsTable p left × ((k : Continuation) → step_of_update_counter seen.keypos seen.objects k key (operations_of seen.keypos op) ≡ with_map left k response)
+      → IsTable p left × ((k : Continuation) → step_of_update_counter seen.keypos seen.objects k key (operations_of seen.keypos op) ≡ with_map left k
+      response)
   counters_exit op operations new values response a up r s = (
     subst (IsTable p) (sym s) (counters_keep p l m Never key at t h.0 place o is operations new values up),
     λ k. subst (λ (x : Table). step_of_update_counter x.keypos x.objects k key (operations_of x.keypos op) ≡ with_map left k response) view
-      (rw a (counters_step p l m k key at t h.0 place o is operations new values up ∙ (λ i. with_map (sym s i) k (sym r i)))),
+        (rw a (counters_step p l m k key at t h.0 place o is operations new values up ∙ (λ i. with_map (sym s i) k (sym r i)))),
   )
 
   -- what `update_element` leaves
   pub element_exit : (op : Tree) (position : ℤ) (value new : Tree) → Some (position, value) ≡ element_of p op → update_of_element o position value ≡ Ok new
       → left ≡ set m at new
-      → IsTable p left × ((k : Continuation) → step_of_update_element seen.keypos seen.objects k key (element_of seen.keypos op) ≡ with_map left k (Truth true))
+      → IsTable p left × ((k : Continuation) → step_of_update_element seen.keypos seen.objects k key (element_of seen.keypos op) ≡ with_map left k
+      (Truth true))
   element_exit op position value new a up s =
-      let free : IsTrue (is_open p position) = open_in p (elements_of op) (position, value) (sym a) in
-      (
+      let free : IsTrue (is_open p position) = open_in p (elements_of op) (position, value) (sym a) in (
         subst (IsTable p) (sym s) (element_keeps p l m Never key at t h.0 place o is position value new free up),
         λ k. subst (λ (x : Table). step_of_update_element x.keypos x.objects k key (element_of x.keypos op) ≡ with_map left k (Truth true)) view
-          (rw (← a) (element_step p l m k key at t h.0 place o is position value new free up ∙ ap (λ x. with_map x k (Truth true)) (sym s))),
+            (rw (← a) (element_step p l m k key at t h.0 place o is position value new free up ∙ ap (λ x. with_map x k (Truth true)) (sym s))),
       )

@@ -1,5 +1,5 @@
 -- The operations of a list, read from the left.
-use Rattle.std.proofs.Common.{◌≡◌, List, [], ◌∷◌, ◌++◌, refl, sym, ◌∙◌, ap, append_assoc, append-nil, Option, None, Some}
+use Rattle.std.proofs.Common.{◌≡◌, List, [], ◌∷◌, ◌++◌, refl, sym, ap, append_assoc, append-nil, Option, None, Some}
 use Rattle.ca_term.specs.Updates.{Addition}
 use Rattle.ca_ets.specs.Update.{one_more}
 
@@ -14,7 +14,8 @@ behind_none (Some more) = refl
 behind_none None = refl
 
 -- One more was read.
-pub behind_more : (additions : List Addition) (a : Addition) (o : Option (List Addition)) → behind additions (one_more (Some a) o) ≡ behind (additions ++ a ∷ []) o
+pub behind_more : (additions : List Addition) (a : Addition) (o : Option (List Addition))
+    → behind additions (one_more (Some a) o) ≡ behind (additions ++ a ∷ []) o
 behind_more additions a (Some more) = ap Some (sym (append_assoc additions (a ∷ []) more))
 behind_more additions a None = refl
 

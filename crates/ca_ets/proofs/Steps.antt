@@ -1,5 +1,5 @@
 -- What a step leaves: at each exit of its command's method, and that it keeps a table and a continuation.
-use Rattle.std.proofs.Common.{◌≡◌, ℕ, ◌≤◌, ◌<◌, Bool, true, false, List, [], ◌∷◌, ℤ, Option, None, Some, Result, Ok, Err, refl, sym, ◌∙◌, subst, if◌then◌else◌}
+use Rattle.std.proofs.Common.{◌≡◌, ℕ, ◌≤◌, Bool, true, false, List, [], ◌∷◌, ℤ, Option, None, Some, Result, Ok, Err, refl, sym, ◌∙◌, subst, if◌then◌else◌}
 use Rattle.std.specs.List.{remove}
 use Rattle.std.specs.Ordering.{is_eq}
 use Rattle.std.specs.Prelude.{not, IfOk, IsTrue}
@@ -46,7 +46,8 @@ entry p o n = by (is_object p o) (fits o) refl refl n
     by false c e f n = let no : fault false c ≡ None = n in cc
 
 -- What a put leaves is a table.
-pub put_keeps : (p : ℕ) (m : List Tree) (o : Tree) (r : Place) → IsTable p m → fault_of_object p o ≡ None → IsPlace p m (key_of p o) r → IsTable p (placed m r o)
+pub put_keeps : (p : ℕ) (m : List Tree) (o : Tree) (r : Place) → IsTable p m → fault_of_object p o ≡ None → IsPlace p m (key_of p o) r
+    → IsTable p (placed m r o)
 put_keeps p m o r t n h = rw (placed_is p m o r h) (table_put p m o t (entry p o n))
 
 table_without : (p : ℕ) (m : List Tree) (k : Tree) → IsTable p m → IsTable p (del p m k)
@@ -97,7 +98,7 @@ step_keeps p m k (UpdateCounter key op) t i = by_asked (operations_of p op)
     by_found operations [] f = (t, i)
     by_found operations (o ∷ others) f =
         change_keeps p m k _ t i (bind_ok (update_of_counters p o (additions_of operations)) _ (λ new. IsEntry p new.0)
-          (λ new e. (subst (λ r. IfOk r (λ new. KeepsEntry (1 ≤ p) p o new.0)) e (counters_entry p o (additions_of operations) f.0.object)).entry))
+        (λ new e. (subst (λ r. IfOk r (λ new. KeepsEntry (1 ≤ p) p o new.0)) e (counters_entry p o (additions_of operations) f.0.object)).entry))
 
     by_asked : (asked : Option Operations) → Keeps p (step_of_update_counter p m k key asked)
     by_asked None = (t, i)
@@ -109,7 +110,7 @@ step_keeps p m k (UpdateElement key op) t i = by_asked (element_of p op)
     by_found new [] f = (t, i)
     by_found new (o ∷ others) f =
         change_keeps p m k _ t i (bind_ok (update_of_element o new.0 new.1) _ (λ new. IsEntry p new.0)
-          (λ object e. (subst (λ r. IfOk r (KeepsEntry ((1 ≤ p) × IsTrue (is_open p new.0)) p o)) e (element_entry p o new.0 new.1 f.0.object)).entry))
+        (λ object e. (subst (λ r. IfOk r (KeepsEntry ((1 ≤ p) × IsTrue (is_open p new.0)) p o)) e (element_entry p o new.0 new.1 f.0.object)).entry))
 
     by_asked : (asked : Option (ℤ × Tree)) → Keeps p (step_of_update_element p m k key asked)
     by_asked None = (t, i)

@@ -53,8 +53,8 @@ abbrev pub step_of_insert_new : ℕ → List Tree → Continuation → Tree → 
 step_of_insert_new keypos map continuation o =
     unless (fault_of_object keypos o) map continuation
     (if is_found (get keypos map (key_of keypos o))
-      then no_change map continuation (Truth false)
-      else with_map (put keypos map o) continuation (Truth true))
+    then no_change map continuation (Truth false)
+    else with_map (put keypos map o) continuation (Truth true))
 
 -- `lookup`: the list of the key's object, or the empty list
 abbrev pub step_of_lookup : ℕ → List Tree → Continuation → Tree → Step

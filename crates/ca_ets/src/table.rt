@@ -193,7 +193,8 @@ impl ListTable {
 
     // `update_counter`: the arguments are checked first, then the key, then the object.
     fn update_counter(&mut self, alloc: Global, k: &Term, op: &Term) -> Result<Reply, AllocError>
-        ensures step { (continuation : Continuation) → IfOk result (λ reply. step_of_update_counter self.old.keypos self.old.objects continuation k.now (operations_of self.old.keypos op.now)
+        ensures step { (continuation : Continuation) → IfOk result (λ reply.
+            step_of_update_counter self.old.keypos self.old.objects continuation k.now (operations_of self.old.keypos op.now)
             ≡ step_of_reply self.new.objects continuation reply) }
         ensures keypos { self.new.keypos ≡ self.old.keypos }
         ensures unchanged { OnErr result (self.new ≡ self.old) }
@@ -219,7 +220,8 @@ impl ListTable {
 
     // `update_element`: the arguments are checked first, then the key, then the object.
     fn update_element(&mut self, alloc: Global, k: &Term, op: &Term) -> Result<Reply, AllocError>
-        ensures step { (continuation : Continuation) → IfOk result (λ reply. step_of_update_element self.old.keypos self.old.objects continuation k.now (element_of self.old.keypos op.now)
+        ensures step { (continuation : Continuation) → IfOk result (λ reply.
+            step_of_update_element self.old.keypos self.old.objects continuation k.now (element_of self.old.keypos op.now)
             ≡ step_of_reply self.new.objects continuation reply) }
         ensures keypos { self.new.keypos ≡ self.old.keypos }
         ensures unchanged { OnErr result (self.new ≡ self.old) }
@@ -255,7 +257,8 @@ impl ListTable {
     // Where the key of a command's object stands, or why the object is refused.
     #[tactic(auto, using(crate::proofs::Steps::leaving))]
     fn object_place(&self, object: &Term) -> Result<Place, Fault>
-        ensures { IsPlaceUnless (fault_of_object self.now.keypos object.now) (IsPlace self.now.keypos self.now.objects (key_of self.now.keypos object.now)) result }
+        ensures { IsPlaceUnless (fault_of_object self.now.keypos object.now)
+            (IsPlace self.now.keypos self.now.objects (key_of self.now.keypos object.now)) result }
     {
         let Some(k) = key(object, self.keypos) else {
             return Err(Fault::BadArg);
@@ -279,7 +282,12 @@ fn find(objects: &[Term], keypos: u32, k: &Term) -> Place
 }
 
 // Puts a copy of an object at a place. The copy is made before the list is changed; the place of another object needs no further memory.
-fn put_copy(alloc: Global, objects: &mut Vec<Term>, place: Place, object: &Term) -> Result<(), AllocError>
+fn put_copy(
+    alloc: Global,
+    objects: &mut Vec<Term>,
+    place: Place,
+    object: &Term,
+) -> Result<(), AllocError>
     requires { IsInRange (length objects.old.items) place }
     ensures ok { OnOk result (objects.new.items ≡ placed objects.old.items place object.now) }
     ensures err { OnErr result (objects.new.items ≡ objects.old.items) }
