@@ -1,13 +1,12 @@
 -- One operation on a counter.
-use Rattle.std.proofs.Common.{◌≡◌, ℕ, ◌<◌, ◌^◌, true, false, List, [], ◌++◌, length, take, drop, map, set, get_or, arith, refl, sym, ◌∙◌, ap, ℤ, pos, negsuc, ◌+ℤ◌, FitsSigned, Option, Some, None, Ok, to_z, of_z, append-nil, take_all}
+use Rattle.std.proofs.Common.{◌≡◌, ℕ, ◌<◌, ◌^◌, true, List, [], ◌++◌, length, take, drop, map, set, get_or, arith, refl, sym, ◌∙◌, ap, ℤ, pos, negsuc, FitsSigned, Option, Some, None, Ok, append-nil, take_all}
 use Rattle.std.specs.Prelude.{ok_or}
-use Rattle.std.specs.Int.{w64, w128}
+use Rattle.std.specs.Int.{w64}
 use Rattle.std.specs.List.{refill}
 use Rattle.std.proofs.lemmas.List.{map-set, length-map, get_or-map, drop_all}
 use Rattle.std.proofs.lemmas.Bool.Decides.{nat_tests}
-use Rattle.std.proofs.lemmas.Int.{to_z-of_z}
 use Rattle.ca_term.specs.Tree.{Tree, Integer, Nil}
-use Rattle.ca_term.specs.Updates.{Addition, integer_of, is_past, is_word, value_of, count, count_at, counter_place, and_then, BadArgument}
+use Rattle.ca_term.specs.Updates.{Addition, integer_of, is_word, value_of, count, count_at, counter_place, and_then, BadArgument}
 use Rattle.ca_order.specs.Patches.{IsCount}
 
 word : (v : ℤ) → FitsSigned w64 v → is_word v ≡ true
