@@ -91,7 +91,7 @@ kept p m n edit t e is = subst (λ (x : StoreMap). IsStoreMap p x) (sym is) (map
 pub may_leave : {F : Type 0} (g : Shared F (Bor (List ℕ) × (MutBor (ArrayVec ℕ) × (MutBor ℕ × Unit {0}))) (Bool
     × (MutBor (ArrayVec ℕ) × (MutBor ℕ × Unit {0})))) (f : F)
     (object : List ℕ) (r answer : Bool) (shown : Bor (List ℕ)) (into into' : MutBor (ArrayVec ℕ)) (start start' : MutBor ℕ) → r ≡ answer
-        → shown.now ≡ object → into.now.items ≡ []
+    → shown.now ≡ object → into.now.items ≡ []
     → g.post f (shown, (into, (start, tt))) (r, (into', (start', tt))) → MayLeave g f object answer into'.now.items start'.now
 may_leave g f object r answer shown into into' start start' e s m post = record {
   shown = shown;

@@ -73,7 +73,7 @@ edits_of_pass-append pass (x ∷ xs) ys = by (x.0 == pass) (edits_of_pass-append
   where
     by : (own : Bool) → edits_of_pass pass (xs ++ ys) ≡ edits_of_pass pass xs ++ edits_of_pass pass ys
         → (if own then x.1 ∷ edits_of_pass pass (xs ++ ys) else edits_of_pass pass (xs ++ ys)) ≡ (if own then x.1 ∷ edits_of_pass pass xs else
-            edits_of_pass pass xs) ++ edits_of_pass pass ys
+        edits_of_pass pass xs) ++ edits_of_pass pass ys
     by true e = ap (λ (es : List Edit). x.1 ∷ es) e
     by false e = e
 
@@ -187,14 +187,14 @@ parts_of a event history more p own entry from = by (effect event) refl own entr
         let n = p - length history - 1 in
         let before : p - 1 ≡ length history + n = omega arith in
         let here : slice_get more n ≡ Some (a.pass, edit) = sym (get_past history more n) ∙ ap (λ (k : ℕ). slice_get (history ++ more) k) (sym before)
-            ∙ entry.2 in
+        ∙ entry.2 in
         let short : n ≤ length more = omega (arith, entry.1, length-append history more) in
         let single : effect event ≡ edit ∷ [] = one ∙ ap (λ (es : List Edit). edit ∷ es) (one_edit event edit edits one) in
         let split : take n more ++ (a.pass, edit) ∷ drop (suc n) more ≡ more = parts_at more n (a.pass, edit) here in
         let owns : edits_of_pass a.pass (take n more) ++ edits_of_pass a.pass ((a.pass, edit) ∷ drop (suc n) more) ≡ edit ∷ edits =
         sym (edits_of_pass-append a.pass (take n more) ((a.pass, edit) ∷ drop (suc n) more)) ∙ ap (edits_of_pass a.pass) split ∙ own in
         let alone : length (edits_of_pass a.pass (take n more)) + length (edits_of_pass a.pass (drop (suc n) more)) ≡ 0 =
-            counted n edit edits owns (one_edit event edit edits one) in
+        counted n edit edits owns (one_edit event edit edits one) in
         record {
           earlier = take n more;
           later = drop (suc n) more;

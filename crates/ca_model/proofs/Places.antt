@@ -145,7 +145,7 @@ pub searched : (p : ℕ) (m : StoreMap) (k : List ℕ) (r : Result ℕ ℕ) → 
 searched p m k (Ok i) t b s = at_key p m k i t b (s nothing)
 searched p m k (Err i) t b s =
     let rises : IsNonDecreasingBy (λ q. ordering_index (bytes_cmp q.0 k)) m = searchable_from_sorted nat_list_cmp_total (λ (x : Pair). x.0) m k
-        (keys_rise p m t) in
+    (keys_rise p m t) in
     let parts = s rises in
     before_key m k i b (λ j d h. parts.0 j d (omega arith) h) (λ j d h l. parts.1 j d h l)
 

@@ -41,7 +41,7 @@ pub made : (keypos before behind size : ℕ) (key first second third new : List 
 made keypos before behind size key first second third new k s m code f b t a l =
     let whole : new ≡ second ++ (key ++ a.codes) = a.is ∙ ap (λ (xs : List ℕ). xs ++ a.codes) t ∙ append_assoc second key a.codes in
     let front : second ≡ 0x40 ∷ four_bytes (before + 1 + behind) ++ b.codes = b.is ∙ ap (λ (xs : List ℕ). xs ++ b.codes) (f
-        ∙ ap (λ (n : ℕ). 0x40 ∷ four_bytes n) s) in (
+    ∙ ap (λ (n : ℕ). 0x40 ∷ four_bytes n) s) in (
       record {
         before = before;
         behind = behind;

@@ -123,7 +123,7 @@ pub pair_at : (rows : List Pair) (order : List ℕ) (len at : ℕ) → AreSlots 
 pair_at rows order len at h l =
     let short = length-take-le len order h.within in
     get_or-map (λ m. get_or rows m nothing) (take len order) at 0 nothing (omega (arith, short))
-        ∙ ap (λ (m : ℕ). get_or rows m nothing) (get_or-take len order at 0 l)
+    ∙ ap (λ (m : ℕ). get_or rows m nothing) (get_or-take len order at 0 l)
 
 -- A pair is replaced.
 pub slots_set : (rows new : List Pair) (order : List ℕ) (len slot : ℕ) (p : Pair) → AreSlots rows order len → new ≡ set rows slot p → AreSlots new order len
@@ -174,7 +174,7 @@ slots_inserted rows new order other len at p h l a e f =
     let parts = order_parts order len l in
     let short = length-take-le len order h.within in
     let same : (m : ℕ) → times m other ≡ times m order = λ m. ap (times m) f ∙ times_inserted m (take len order) (drop (len + 1) order) slot at
-        ∙ ap (times m) parts in
+    ∙ ap (times m) parts in
     let long : length other ≡ length order = ap (λ (ms : List ℕ). length ms) f ∙ length_moved order len at a l in
     record {
       within = omega (arith, long, l);
@@ -190,7 +190,7 @@ list_inserted rows new order other len at p h l a e f =
     let rest = drop (len + 1) order in
     let short : length ms ≡ len = length-take-le len order h.within in
     let front : take (len + 1) (insert ms at slot ++ rest) ≡ insert ms at slot = take_at (insert ms at slot) rest (len + 1)
-        (length-insert ms at slot (omega (arith, short, a)) ∙ ap (λ (n : ℕ). n + 1) short) in
+    (length-insert ms at slot (omega (arith, short, a)) ∙ ap (λ (n : ℕ). n + 1) short) in
     let once : times slot (ms ++ slot ∷ rest) ≤ 1 = omega (arith, ap (times slot) (order_parts order len l), h.once slot) in
     ap (λ (o : List ℕ). pairs_in new (take (len + 1) o)) f ∙ ap (pairs_in new) front ∙ ap (λ (r : List Pair). pairs_in r (insert ms at slot)) e
     ∙ row_inserted rows p ms rest slot at (omega (arith, short, a)) (is_row rows order len len h l) once
@@ -202,7 +202,7 @@ slots_removed rows order other len at h a f =
     let ms = take len order in
     let short : length ms ≡ len = length-take-le len order h.within in
     let same : (m : ℕ) → times m other ≡ times m order = λ m. ap (times m) f ∙ times_removed m ms (drop len order) at (omega (arith, short, a))
-        ∙ ap (times m) (take-append-drop len order) in
+    ∙ ap (times m) (take-append-drop len order) in
     let long : length other ≡ length order = ap (λ (ns : List ℕ). length ns) f ∙ length_freed order len at a h.within in
     record {
       within = omega (arith, long, h.within);
@@ -219,7 +219,7 @@ list_removed rows order other len at h a f =
     let less = length-remove ms at (omega (arith, short, a)) in
     let front : take (len - 1) (remove ms at ++ last ∷ [] ++ drop len order) ≡ remove ms at =
     ap (λ (ns : List ℕ). take (len - 1) ns) (append_assoc (remove ms at) (last ∷ []) (drop len order))
-        ∙ take_at (remove ms at) (last ∷ drop len order) (len - 1) (omega (arith, less, short)) in
+    ∙ take_at (remove ms at) (last ∷ drop len order) (len - 1) (omega (arith, less, short)) in
     ap (λ (o : List ℕ). pairs_in rows (take (len - 1) o)) f ∙ ap (pairs_in rows) front ∙ map_remove (λ m. get_or rows m nothing) ms at
 
 -- A blank row is added, and its number as the last free one.
@@ -268,13 +268,13 @@ found_in rows ms k (Err i) b s = λ rises. let parts = s (λ a c d h l.
     let high = get_or-map (λ m. get_or rows m nothing) ms c d nothing l in
     let more = length-map ms (λ m. get_or rows m nothing) in
     let at : ordering_index (bytes_cmp (get_or (pairs_in rows ms) a nothing).0 k) ≤ ordering_index (bytes_cmp (get_or (pairs_in rows ms) c nothing).0 k) =
-        rises a c nothing h (omega (arith, more, l)) in
+    rises a c nothing h (omega (arith, more, l)) in
     subst (λ (p : Pair). ordering_index (bytes_cmp p.0 k) ≤ ordering_index (bytes_cmp (get_or rows (get_or ms c d) nothing).0 k)) low
     (subst (λ (p : Pair). ordering_index (bytes_cmp (get_or (pairs_in rows ms) a nothing).0 k) ≤ ordering_index (bytes_cmp p.0 k)) high at)) in (
       (λ j d l h. ap (λ (p : Pair). bytes_cmp p.0 k) (get_or-map (λ m. get_or rows m nothing) ms j 0 d (omega (arith, h, b))) ∙ parts.0 j 0 l h),
       (λ j d l h. let more = length-map ms (λ m. get_or rows m nothing) in
           ap (λ (p : Pair). bytes_cmp p.0 k) (get_or-map (λ m. get_or rows m nothing) ms j 0 d (omega (arith, h, more)))
-              ∙ parts.1 j 0 l (omega (arith, h, more))),
+          ∙ parts.1 j 0 l (omega (arith, h, more))),
     )
 
 -- what is read of the order at a place of the list

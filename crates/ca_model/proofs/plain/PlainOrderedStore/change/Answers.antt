@@ -12,7 +12,7 @@ pub returns-in_default-clause-changed : goal.returns-in_default-clause-changed
 returns-in_default-clause-changed g c =
     let m = c.self.inside.objects.pairs in
     let none = absent c.self.inside.keypos m c.args.key.now c.find.result c.in_default.field-0 c.self.invariant.ordered c.find.ensures.bound
-        c.find.ensures.position c.in_default.is in
+    c.find.ensures.position c.in_default.is in
     (read_met c.self.inside.keypos m _ c.args.self.now (Change c.args.key.now None None) c.self.view_is c.self.invariant.ordered refl none, c.clear.ensures)
 
 pub copy-requires : goal.copy-requires
@@ -33,8 +33,12 @@ pub returns-then-not-f-clause-changed : goal.returns-then-not-f-clause-changed
 returns-then-not-f-clause-changed g c =
     let h : IsThere c.self.inside.keypos c.self.inside.objects.pairs c.args.key.now c.in-Ok.at c.copy.new.into.items =
     there _ _ _ c.find.result _ _ c.self.invariant.ordered c.find.ensures.bound c.find.ensures.position c.in-Ok.is (c.copy.ensures ∙ c.object.ensures) in (
-      (_, _, may_leave g.F.Fn c.args.f.now c.copy.new.into.items c.f.result false _ _ _ _ _ c.if-not-f.true c.as_slice.ensures.value c.new-new.ensures
-          c.f.ensures),
+      (
+        _,
+        _,
+        may_leave g.F.Fn c.args.f.now c.copy.new.into.items c.f.result false _ _ _ _ _ c.if-not-f.true c.as_slice.ensures.value c.new-new.ensures
+            c.f.ensures,
+      ),
       read_met c.self.inside.keypos c.self.inside.objects.pairs _ c.args.self.now (Change c.args.key.now (Some c.copy.new.into.items) None) c.self.view_is
           c.self.invariant.ordered refl h.found,
     )
@@ -44,7 +48,7 @@ left g c =
     let old : IsThere c.self.inside.keypos c.self.inside.objects.pairs c.args.key.now c.in-Ok.at c.copy.new.into.items =
     there _ _ _ c.find.result _ _ c.self.invariant.ordered c.find.ensures.bound c.find.ensures.position c.in-Ok.is (c.copy.ensures ∙ c.object.ensures) in
     let may = may_leave g.F.Fn c.args.f.now c.copy.new.into.items c.f.result true _ _ _ _ _ c.if-not-f.false c.as_slice.ensures.value c.new-new.ensures
-        c.f.ensures in
+    c.f.ensures in
     left_by g.F.Fn c.args.f.now _ _ _ _ _ _ (ap (λ (k : Known). k.keypos) c.self.view_is) c.requires.function old.pair may
 
 pub overflow_add-end : goal.overflow_add-end
@@ -55,7 +59,7 @@ left_at g c =
     let old : IsThere c.self.inside.keypos c.self.inside.objects.pairs c.args.key.now c.in-Ok.at c.copy.new.into.items =
     there _ _ _ c.find.result _ _ c.self.invariant.ordered c.find.ensures.bound c.find.ensures.position c.in-Ok.is (c.copy.ensures ∙ c.object.ensures) in
     let may = may_leave g.F.Fn c.args.f.now c.copy.new.into.items c.f.result true _ _ _ _ _ c.if-not-f.false c.as_slice.ensures.value c.new-new.ensures
-        c.f.ensures in
+    c.f.ensures in
     left_by g.F.Fn c.args.f.now _ _ _ _ _ _ (ap (λ (k : Known). k.keypos) c.self.view_is) c.requires.function old.pair may
 
 pub put-requires-clause-key : goal.put-requires-clause-key
@@ -74,9 +78,9 @@ comes g c =
     let old : IsThere c.self.inside.keypos m c.args.key.now c.in-Ok.at c.copy.new.into.items =
     there _ _ _ c.find.result _ _ c.self.invariant.ordered c.find.ensures.bound c.find.ensures.position c.in-Ok.is (c.copy.ensures ∙ c.object.ensures) in
     let may_be = may_leave g.F.Fn c.args.f.now c.copy.new.into.items c.f.result true _ _ _ _ _ c.if-not-f.false c.as_slice.ensures.value c.new-new.ensures
-        c.f.ensures in
+    c.f.ensures in
     let l = left_by g.F.Fn c.args.f.now _ _ c.args.key.now c.copy.new.into.items c.f.new.arg3.items c.f.new.arg4
-        (ap (λ (k : Known). k.keypos) c.self.view_is) c.requires.function old.pair may_be in
+    (ap (λ (k : Known). k.keypos) c.self.view_is) c.requires.function old.pair may_be in
     let own = pair_of_bytes c.as_slice-2.result.now c.f.new.arg3.items c.args.key.now c.f.new.arg4 c.as_slice-2.ensures.value l.key in
     record {
       may_be = may_be;
@@ -85,7 +89,7 @@ comes g c =
       map_is = put_is c.self.inside.keypos m c.put.new.self.pairs c.args.key.now c.f.new.arg3.items c.find.result c.self.invariant.ordered
           c.find.ensures.bound c.find.ensures.position
           (c.put.ensures ∙ ap (λ (q : Pair). placed m (Ok c.in-Ok.at) q) own ∙ ap (λ (r : Result ℕ ℕ). placed m r (c.args.key.now, c.f.new.arg3.items))
-              (sym c.in-Ok.is));
+          (sym c.in-Ok.is));
     }
 
 pub invariant_of-self : goal.invariant_of-self

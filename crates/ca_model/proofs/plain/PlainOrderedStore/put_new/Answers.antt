@@ -13,9 +13,9 @@ returns-in_default-clause-put c =
     let m = c.self.inside.objects.pairs in
     let key = slice_range c.args.object.now c.args.key_at c.args.key_end in
     let h = there c.self.inside.keypos m key c.find.result c.in_default.field-0 _ c.self.invariant.ordered c.find.ensures.bound c.find.ensures.position
-        c.in_default.is refl in
+    c.in_default.is refl in
     read_met c.self.inside.keypos m _ c.args.self.now (WriteNew key c.args.object.now false) c.self.view_is c.self.invariant.ordered refl (λ none. let no =
-        sym h.found ∙ none in cc)
+    sym h.found ∙ none in cc)
 
 abbrev key_of : goal.After-put → List ℕ
 key_of c = slice_range c.args.object.now c.args.key_at c.args.key_end
@@ -27,7 +27,7 @@ map_is : (c : goal.After-put) → c.put.new.self.pairs ≡ put c.self.inside.obj
 map_is c =
     let m = c.self.inside.objects.pairs in
     put_is c.self.inside.keypos m c.put.new.self.pairs (key_of c) c.args.object.now c.find.result c.self.invariant.ordered c.find.ensures.bound
-        c.find.ensures.position
+    c.find.ensures.position
     (c.put.ensures ∙ ap (λ (r : Result ℕ ℕ). placed m r (key_of c, c.args.object.now)) (sym c.in-Err.is))
 
 pub invariant_of-self : goal.invariant_of-self
@@ -41,6 +41,6 @@ pub returns-clause-put : goal.returns-clause-put
 returns-clause-put c =
     let m = c.self.inside.objects.pairs in
     let none = absent c.self.inside.keypos m (key_of c) c.find.result c.in-Err.at c.self.invariant.ordered c.find.ensures.bound c.find.ensures.position
-        c.in-Err.is in
+    c.in-Err.is in
     edit_met c.self.inside.keypos m c.put.new.self.pairs _ _ c.args.self.now (WriteNew (key_of c) c.args.object.now true)
     (Put (key_of c) c.args.object.now) c.self.view_is c.self.invariant.ordered refl (own_pair c) (map_is c) none

@@ -10,7 +10,7 @@ pub returns-in_default-clause-removed : goal.returns-in_default-clause-removed
 returns-in_default-clause-removed c =
     let m = c.self.inside.objects.pairs in
     let none = absent c.self.inside.keypos m c.args.key.now c.find.result c.in_default.field-0 c.self.invariant.ordered c.find.ensures.bound
-        c.find.ensures.position c.in_default.is in
+    c.find.ensures.position c.in_default.is in
     (read_met c.self.inside.keypos m _ c.args.self.now (Remove c.args.key.now None) c.self.view_is c.self.invariant.ordered refl none, c.clear.ensures)
 
 pub copy-requires : goal.copy-requires

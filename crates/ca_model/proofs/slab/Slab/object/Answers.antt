@@ -16,4 +16,4 @@ pub returns : goal.returns
 returns c =
     let s = slot_at _ _ _ c.args.self.now c.args.at c.index.result.now c.self.invariant c.self.view_is c.requires c.index.ensures in
     c.object.ensures ∙ ap (λ (p : Pair). p.1) (get_or_read c.self.inside.rows.items c.index.result.now c.index-2.result.now s.row c.index-2.ensures nothing
-        ∙ sym s.pair)
+    ∙ sym s.pair)

@@ -21,7 +21,7 @@ returns-in-Ok c =
     let rows = c.self.inside.rows.items in
     let own : Pair = (slice_range c.args.object.now c.args.key_at c.args.key_end, c.args.object.now) in
     let s = slot_at rows c.self.inside.order.items c.self.inside.len c.args.self.now c.in-Ok.at c.index.result.now c.self.invariant c.self.view_is
-        (rw c.in-Ok.is at c.requires.range) c.index.ensures in
+    (rw c.in-Ok.is at c.requires.range) c.index.ensures in
     let set_is = c.set_row.ensures ∙ ap (λ (m : ℕ). set rows m own) s.is in
     list_set rows c.set_row.new.rows.items c.self.inside.order.items c.self.inside.len c.in-Ok.at own c.self.invariant s.in_list set_is
     ∙ ap (λ (l : PairList). placed l.pairs (Ok c.in-Ok.at) own) c.self.view_is ∙ ap (λ (r : Result ℕ ℕ). placed c.args.self.now.pairs r own) (sym c.in-Ok.is)
@@ -49,7 +49,7 @@ writes c =
     let len = c.self.inside.len in
     let at = c.in-Err.at in
     let f = free_at c.self.inside.rows.items order len c.args.self.now at c.index-in-Err.result.now c.self.invariant c.self.view_is
-        (c.requires.room (rw c.in-Err.is refl)) (rw c.in-Err.is at c.requires.range) c.index-in-Err.ensures in
+    (c.requires.room (rw c.in-Err.is refl)) (rw c.in-Err.is at c.requires.range) c.index-in-Err.ensures in
     record {
       more = f.more;
       place = f.place;

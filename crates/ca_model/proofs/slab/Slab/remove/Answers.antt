@@ -11,13 +11,13 @@ in_list c =
 
 order_is : (c : goal.After-self-2-1)
     → take c.self.inside.order.len (c.set_free.new.order ++ drop (length c.set_free.new.order) c.self.inside.order.items) ≡ with_freed
-        c.self.inside.order.items c.self.inside.len c.args.at
+    c.self.inside.order.items c.self.inside.len c.args.at
 order_is c =
     let order = c.self.inside.order.items in
     let len = c.self.inside.len in
     written_over order c.set_free.new.order (with_freed order len c.args.at) c.self.inside.order.len
     (c.set_free.ensures ∙ ap (λ (o : List ℕ). with_freed o len c.args.at) c.as_mut_slice.ensures.value) (length_freed order len c.args.at (in_list c)
-        c.self.invariant.within)
+    c.self.invariant.within)
     (sym c.as_mut_slice.ensures.len ∙ ap (λ (ms : List ℕ). length ms) c.as_mut_slice.ensures.value)
 
 pub invariant_of-self : goal.invariant_of-self

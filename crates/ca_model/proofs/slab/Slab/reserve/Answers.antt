@@ -22,4 +22,4 @@ invariant_of-self-2 c = slots_added c.self.inside.rows.items _ c.self.inside.ord
 pub returns-clause-pairs : goal.returns-clause-pairs
 returns-clause-pairs c =
     list_added c.self.inside.rows.items _ c.self.inside.order.items _ c.self.inside.len c.self.invariant (rows_are c) (order_is c)
-        ∙ ap (λ (l : PairList). l.pairs) c.self.view_is
+    ∙ ap (λ (l : PairList). l.pairs) c.self.view_is
