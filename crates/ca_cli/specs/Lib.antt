@@ -2,6 +2,7 @@ pub mod Call
 pub mod Headline
 pub mod InTurn
 pub mod Outcome
+pub mod Played
 pub mod Reading
 pub mod StatusText
 pub mod Words

@@ -1,32 +1,48 @@
 //! The clients' commands on a table, and their answers as text. An answer is text as soon as it was given, so that its
 //! terms aren't kept.
-ghost use Rattle.std.specs.Prelude.{◌≡◌, ◌++◌, map, OnOk};
-ghost use Rattle.ca_ets.specs.Command.{Never};
-ghost use Rattle.ca_ets.specs.InOrder.{run_in_order};
-ghost use Rattle.ca_cmd.specs.File.{commands_in};
+ghost use Rattle.std.specs.Prelude.{◌≡◌, map, IfOk, OnOk};
+ghost use Rattle.ca_ets.specs.Command.{continuation_of, response_of};
 ghost use Rattle.ca_cmd.specs.Lines.{numbered};
-ghost use Rattle.ca_cmd.specs.Output.{answer_lines, client_lines};
-ghost use Rattle.ca_cli.specs.InTurn.{answers_of, run_in_turn};
+ghost use Rattle.ca_cli.specs.Played.{IsOwn, HasAnswered, HasPlayed, HavePlayed};
 
 use ca_cmd::{Answer, Line, Lines, show_answer, show_client};
-use ca_ets::{Cont, ListTable};
+use ca_ets::{Cmd, Cont, Reply};
+use ca_model::{Outcome, Plain};
+use ca_table::Table;
 use std::alloc::{AllocError, Global};
+
+// How many turns a call of the store may lose to others: it has none, so one is enough.
+const BUDGET: u32 = 1;
+
+// The reply to one command. A plain store refuses nothing.
+fn reply(
+    alloc: Global,
+    table: &mut Table<Plain>,
+    cmd: &Cmd,
+    cont: &mut Cont,
+) -> Result<Reply, AllocError>
+    requires { IsOwn table.old }
+    ensures { IfOk result (λ reply. HasAnswered table.old table.new (continuation_of cont.old) cmd.now (response_of reply) (continuation_of cont.new)) }
+{
+    let Outcome::Done(reply) = table.apply(alloc, cmd, cont, BUDGET)? else {
+        unreachable!()
+    };
+    Ok(reply)
+}
 
 // Gives a client's commands to a table, one after the other, and appends the lines of the answers.
 fn play(
     alloc: Global,
-    table: &mut ListTable,
+    table: &mut Table<Plain>,
     lines: &[Line],
     into: &mut Vec<u8>,
 ) -> Result<(), AllocError>
-    ensures keypos { table.new.keypos ≡ table.old.keypos }
-    ensures table { OnOk result (table.new.objects ≡ (run_in_order table.old.keypos table.old.objects Never (commands_in (numbered lines.now))).table) }
-    ensures text { OnOk result (into.new.items ≡ into.old.items
-        ++ answer_lines (numbered lines.now) (answers_of (run_in_order table.old.keypos table.old.objects Never (commands_in (numbered lines.now))).replies)) }
+    requires { IsOwn table.old }
+    ensures { OnOk result (HasPlayed table.old table.new (numbered lines.now) into.old.items into.new.items) }
 {
     let mut cont = Cont::Never;
     for line in lines {
-        let reply = table.apply(alloc, &line.cmd, &mut cont)?;
+        let reply = reply(alloc, table, &line.cmd, &mut cont)?;
         show_answer(line.number, &Answer::Replied(reply), into)?;
     }
     Ok(())
@@ -36,14 +52,12 @@ fn play(
 /// client's answers. Each command has one answer, and none is a refusal.
 pub fn play_all(
     alloc: Global,
-    table: &mut ListTable,
+    table: &mut Table<Plain>,
     files: &[Lines],
     into: &mut Vec<u8>,
 ) -> Result<(), AllocError>
-    ensures keypos { table.new.keypos ≡ table.old.keypos }
-    ensures table { OnOk result (table.new.objects ≡ (run_in_turn table.old.keypos table.old.objects (map commands_in (map numbered files.now))).table) }
-    ensures text { OnOk result (into.new.items ≡ into.old.items
-        ++ client_lines 1 (map numbered files.now) (run_in_turn table.old.keypos table.old.objects (map commands_in (map numbered files.now))).answers) }
+    requires { IsOwn table.old }
+    ensures { OnOk result (HavePlayed table.old table.new (map numbered files.now) into.old.items into.new.items) }
 {
     for (i, lines) in files.iter().enumerate() {
         show_client(i as u64 + 1, into)?;

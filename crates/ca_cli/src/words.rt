@@ -2,6 +2,7 @@
 ghost use Rattle.std.specs.Prelude.{◌≡◌, ◌≤◌, None, Some, map, length, not, IfSome, MatchOption};
 ghost use Rattle.std.specs.List.{list_all};
 ghost use Rattle.std.specs.String.{string_bytes};
+ghost use Rattle.ca_term.specs.declared.bounds.TheConstants.{MOST_ELEMENTS};
 ghost use Rattle.ca_cli.specs.Words.{begins_with_dash, are_names, request_in, request_of};
 
 // The most files that a call names.
@@ -37,7 +38,7 @@ pub fn request_of(words: &[String]) -> Option<Request<'_>>
     ensures asked { MatchOption result
         (request_of (map string_bytes words.now) ≡ None)
         (λ request. request_of (map string_bytes words.now) ≡ Some (request_in request)) }
-    ensures first { IfSome result (λ request. 1 ≤ request.keypos) }
+    ensures keypos { IfSome result (λ request. (1 ≤ request.keypos) × (request.keypos ≤ MOST_ELEMENTS)) }
     ensures few { IfSome result (λ request. length request.names.now ≤ 64) }
 {
     match words {

@@ -11,6 +11,11 @@ pub data Operations : Type 0 where
   One : Addition → Operations
   Several : List Addition → Operations
 
+-- There are several operations, or a list of none.
+abbrev pub AreSeveral : Operations → Type 0
+AreSeveral (One a) = ⊥
+AreSeveral (Several additions) = Unit {0}
+
 -- the operations, in order
 abbrev pub additions_of : Operations → List Addition
 additions_of (One a) = a ∷ []
@@ -55,6 +60,15 @@ additions_in (Tuple row) = None
 additions_in Nil = Some []
 additions_in (Cons head tail) = one_more (addition_in (elements_of head)) (additions_in tail)
 additions_in (Binary bytes) = None
+
+-- The argument is a list with an element, proper or not.
+abbrev pub IsFilledList : Tree → Type 0
+IsFilledList (Integer n) = ⊥
+IsFilledList (Atom text) = ⊥
+IsFilledList (Tuple row) = ⊥
+IsFilledList Nil = ⊥
+IsFilledList (Cons head tail) = Unit {0}
+IsFilledList (Binary bytes) = ⊥
 
 -- The operations that the argument of `update_counter` asks for, if it is of its form. An integer alone is added to the element behind the key.
 abbrev pub operations_of : ℕ → Tree → Option Operations

@@ -1,5 +1,5 @@
 //! What `update_counter` and `update_element` ask for.
-ghost use Rattle.std.specs.Prelude.{◌≡◌, IfOk, map};
+ghost use Rattle.std.specs.Prelude.{◌≡◌, ◌≤◌, IfOk, OnErr, length, map};
 ghost use Rattle.std.specs.Option.{option_map};
 ghost use Rattle.ca_term.specs.Add.{addition_of};
 ghost use Rattle.ca_term.specs.Object.{elements_of};
@@ -8,7 +8,7 @@ ghost use Rattle.ca_term.specs.Updates.{integer_of};
 ghost use Rattle.ca_ets.specs.Asked.{operations_in};
 ghost use Rattle.ca_ets.specs.Command.{response_of};
 ghost use Rattle.ca_ets.specs.Step.{reply_of};
-ghost use Rattle.ca_ets.specs.Update.{Several, addition_in, additions_in, additions_of, element_of, operations_of};
+ghost use Rattle.ca_ets.specs.Update.{AreSeveral, IsFilledList, Several, addition_in, additions_in, additions_of, element_of, operations_of};
 
 use crate::command::Reply;
 use ca_term::{Add, Kind, Term, Terms, int};
@@ -25,9 +25,10 @@ pub enum Operations {
 impl Operations {
     /// The operations that the argument of `update_counter` asks for, or `None` where it is not of its form: an integer, which is added to
     /// the element behind the key, a tuple `{Pos,Incr}` or `{Pos,Incr,Threshold,SetValue}` of integers, or a list of such tuples.
-    /// Only a list takes memory. Source: the ets manual, `update_counter`.
+    /// Only a list with an element takes memory. Source: the ets manual, `update_counter`.
     pub fn of(alloc: Global, keypos: u32, op: &Term) -> Result<Option<Operations>, AllocError>
-        ensures { IfOk result (λ operations. option_map operations_in operations ≡ operations_of keypos op.now) }
+        ensures asked { IfOk result (λ operations. option_map operations_in operations ≡ operations_of keypos op.now) }
+        ensures lack { OnErr result (IsFilledList op.now) }
     {
         match op.kind() {
             Kind::Int(incr) => Ok(Some(Operations::One(Add {
@@ -56,7 +57,8 @@ impl Operations {
 
 // The operations of a proper list.
 fn several(alloc: Global, list: &Term) -> Result<Option<Operations>, AllocError>
-    ensures { IfOk result (λ operations. option_map operations_in operations ≡ option_map Several (additions_in list.now)) }
+    ensures asked { IfOk result (λ operations. option_map operations_in operations ≡ option_map Several (additions_in list.now)) }
+    ensures lack { OnErr result (IsFilledList list.now) }
 {
     let mut adds = Vec::new(alloc);
     let mut rest = list;
@@ -129,9 +131,10 @@ pub fn element(keypos: u32, op: &Term) -> Option<(i64, &Term)>
 }
 
 /// The reply of an `update_counter` whose operations stored these values: the value of one operation alone, or the list of the values.
-/// Only a list takes memory. Source: the ets manual, `update_counter`.
+/// Only a list with a value takes memory. Source: the ets manual, `update_counter`.
 pub fn reply_of(alloc: Global, operations: &Operations, values: &[i64]) -> Result<Reply, AllocError>
-    ensures { IfOk result (λ reply. response_of reply ≡ reply_of (operations_in operations.now) values.now) }
+    ensures reply { IfOk result (λ reply. response_of reply ≡ reply_of (operations_in operations.now) values.now) }
+    ensures lack { OnErr result (AreSeveral (operations_in operations.now) × (1 ≤ length values.now)) }
 {
     match operations {
         Operations::One(_) => match values {
@@ -144,7 +147,8 @@ pub fn reply_of(alloc: Global, operations: &Operations, values: &[i64]) -> Resul
 
 // The terms of these integers.
 fn integers(alloc: Global, values: &[i64]) -> Result<Terms, AllocError>
-    ensures { IfOk result (λ terms. terms.items ≡ map Integer values.now) }
+    ensures terms { IfOk result (λ terms. terms.items ≡ map Integer values.now) }
+    ensures lack { OnErr result (1 ≤ length values.now) }
 {
     let mut terms = Terms::new(alloc);
     for value in values {

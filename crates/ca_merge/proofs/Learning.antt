@@ -23,7 +23,8 @@ seen_twice : (s : Option Seen) (xs ys : History) (es fs : List Entry) → seen_w
 seen_twice None xs ys es fs = refl
 seen_twice (Some s) xs ys es fs = rw (append_assoc s.history xs ys, append_assoc s.log es fs) refl
 
-same_store : (a b d : Known) → IsSameStore a b → IsSameStore b d → IsSameStore a d
+-- What never changed in two calls.
+pub same_store : (a b d : Known) → IsSameStore a b → IsSameStore b d → IsSameStore a d
 same_store a b d x y = record {
   keypos = y.keypos ∙ x.keypos;
   pass = y.pass ∙ x.pass;

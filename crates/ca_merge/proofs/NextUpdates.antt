@@ -9,7 +9,8 @@ use Rattle.ca_model.specs.Event.{Event, Entry, effect}
 use Rattle.ca_model.specs.Lawful.{AreEntries, IsEntryAt, PlacesRise, IsPlaceFrom}
 use Rattle.ca_merge.specs.Clients.{from_event}
 use Rattle.ca_merge.specs.Places.{Turn}
-use Rattle.ca_merge.proofs.Updates.{Updates, updates, with_update, numbered, one_edit, first_update, number_above}
+use Rattle.ca_model.proofs.Passing.{one_edit}
+use Rattle.ca_merge.proofs.Updates.{Updates, updates, with_update, numbered, first_update, number_above}
 use Rattle.ca_merge.proofs.Waits.{Waits, Stopped, entries_of}
 use Rattle.ca_merge.proofs.Fronts.{is_ready, is_ready_by, is_read_by}
 

@@ -6,6 +6,7 @@ use Rattle.ca_ets.specs.Merge.{items_of}
 use Rattle.ca_model.specs.History.{Edit, History, edits_of_pass}
 use Rattle.ca_model.specs.Event.{Event, Get, Write, WriteNew, Remove, Change, Entry, effect}
 use Rattle.ca_model.specs.Lawful.{AreEntries, IsEntryAt, PlacesRise, IsPlaceFrom, IsLawful, edits_of_log}
+use Rattle.ca_model.proofs.Passing.{one_edit}
 
 -- edits, each with its place
 abbrev pub Updates : Type 0
@@ -25,18 +26,6 @@ updates (entry ∷ log) = with_update (effect entry.0) entry.1 (updates log)
 abbrev pub numbered : ℕ → History → List (ℕ × (Edit × ℕ))
 numbered place [] = []
 numbered place (step ∷ steps) = (step.0, (step.1, suc place)) ∷ numbered (suc place) steps
-
--- A call makes one edit at most.
-pub one_edit : (event : Event) (edit : Edit) (edits : List Edit) → effect event ≡ edit ∷ edits → edits ≡ []
-one_edit (Get k found) edit edits e = cc
-one_edit (Write k o) edit edits e = cc
-one_edit (WriteNew k o true) edit edits e = cc
-one_edit (WriteNew k o false) edit edits e = cc
-one_edit (Remove k None) edit edits e = cc
-one_edit (Remove k (Some o)) edit edits e = cc
-one_edit (Change k None new) edit edits e = cc
-one_edit (Change k (Some o) None) edit edits e = cc
-one_edit (Change k (Some o) (Some new)) edit edits e = cc
 
 -- The first update of a log stands above the place that its places rise from.
 pub first_update : (es : List Entry) (low : ℕ) (edit : Edit) (place : ℕ) (rest : Updates) → PlacesRise low es → updates es ≡ (edit, place) ∷ rest

@@ -44,8 +44,8 @@ state_past : (seen more : History) (p n : ℕ) → p ≡ length seen + n → sta
 state_past seen more p n e = ap (λ (k : ℕ). after (take k (seen ++ more)) []) e ∙ ap (λ (h : History). after h []) (take_past seen more n)
     ∙ after-append seen (take n more) []
 
--- a call has one effect at most
-one_edit : (event : Event) (edit : Edit) (edits : List Edit) → effect event ≡ edit ∷ edits → edits ≡ []
+-- A call makes one edit at most.
+pub one_edit : (event : Event) (edit : Edit) (edits : List Edit) → effect event ≡ edit ∷ edits → edits ≡ []
 one_edit (Get k found) edit edits e = cc
 one_edit (Write k o) edit edits e = cc
 one_edit (WriteNew k o true) edit edits e = cc

@@ -1,6 +1,8 @@
 //! A store of one owner.
-ghost use Rattle.std.specs.Prelude.{◌≡◌, ◌≤◌, ◌<◌, ◌+◌, [], None, true, length};
+ghost use Rattle.std.specs.Prelude.{◌≡◌, ◌≤◌, ◌<◌, ◌+◌, ◌↔◌, [], None, IsTrue, true, length, slice_index_or};
 ghost use Rattle.ca_term.specs.declared.bounds.TheConstants.{MOST_ELEMENTS};
+ghost use Rattle.ca_model.specs.Slab.{nothing};
+ghost use Rattle.ca_model.specs.StoreMap.{IsStoreMap};
 
 use crate::outcome::{Changed, Code, Outcome};
 use crate::row::copy;
@@ -52,6 +54,29 @@ impl Plain {
         ensures range { (1 ≤ result) × (result ≤ MOST_ELEMENTS) }
     {
         self.keypos
+    }
+
+    /// How many objects there are. Their keys stand in order, each once.
+    pub fn len(&self) -> usize
+        ensures value { result ≡ length self.now.map }
+        ensures ordered { IsStoreMap self.now.keypos self.now.map }
+    {
+        self.objects.len()
+    }
+
+    /// Whether there are none.
+    pub fn is_empty(&self) -> bool
+        ensures { IsTrue result ↔ (self.now.map ≡ []) }
+    {
+        self.objects.len() == 0
+    }
+
+    /// The object whose key is greater than those of `at` others.
+    pub fn object(&self, at: usize) -> &[u8]
+        requires { at < length self.now.map }
+        ensures { result.now ≡ (slice_index_or self.now.map at nothing).1 }
+    {
+        self.objects.object(at)
     }
 }
 

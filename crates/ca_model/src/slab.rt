@@ -75,6 +75,13 @@ impl Slab {
         self.order[..self.len].binary_search_by(|slot| key_in(rows, *slot).cmp(key))
     }
 
+    // How many objects there are.
+    pub(crate) fn len(&self) -> usize
+        ensures { result ≡ length self.now.pairs }
+    {
+        self.len
+    }
+
     // The object at a place.
     pub(crate) fn object(&self, at: usize) -> &[u8]
         requires { at < length self.now.pairs }

@@ -248,52 +248,73 @@ fn shuffled(i: u32) -> u32 {
     i.wrapping_mul(20_507) % 32_768
 }
 
+// The object that `make` makes of the number with one empty list behind the key, or with none.
+fn sample(n: u32, behind: bool) -> ([u8; 11], usize)
+    ensures { result.1 ≤ 11 }
+{
+    let [_, high, middle, low] = n.to_be_bytes();
+    if behind {
+        return ([0x40, 0, 0, 0, 2, 0x24, 1, high, middle, low, 0x60], 11);
+    }
+    ([0x40, 0, 0, 0, 1, 0x24, 1, high, middle, low, 0], 10)
+}
+
+// Whether the call has this answer at the numbers that stand in these places of the order, and finds the object with so many empty
+// lists where one is told.
+fn all_answer(
+    store: &mut Plain,
+    call: Call,
+    places: (u32, u32),
+    want: Answer,
+    found: Option<bool>,
+) -> bool {
+    let mut object = Code::new();
+    for i in places.0..places.1 {
+        if call_store(store, call, shuffled(i), &mut object) != want {
+            return false;
+        }
+        if let Some(behind) = found {
+            let (bytes, count) = sample(shuffled(i), behind);
+            if object.as_slice() != &bytes[..count] {
+                return false;
+            }
+        }
+    }
+    true
+}
+
 #[test]
 fn many_keys_whose_slots_are_used_again(rt: HostRuntime) {
     let mut store = Plain::new(rt.alloc(), 1);
-    let mut object = Code::new();
-    for i in 0..32_768 {
-        assert_eq!(rt;
-            call_store(&mut store, Call::PutNew(1), shuffled(i), &mut object),
-            Answer::Done(true),
-            "{i}"
-        );
+    let mut row = 0_u32;
+    for (call, places, answer, found) in [
+        (Call::PutNew(1), (0, 32_768), true, None),
+        (Call::Remove, (0, 16_384), true, Some(true)),
+        (Call::Get, (0, 16_384), false, None),
+        (Call::Put(0), (0, 16_384), true, None),
+        (Call::Get, (0, 16_384), true, Some(false)),
+        (Call::Get, (16_384, 32_768), true, Some(true)),
+        (Call::PutNew(0), (0, 32_768), false, None),
+        (Call::Remove, (16_384, 32_768), true, Some(true)),
+        (Call::Get, (16_384, 32_768), false, None),
+        (Call::Get, (0, 16_384), true, Some(false)),
+    ] {
+        assert!(rt; all_answer(&mut store, call, places, Answer::Done(answer), found), "row {row}");
+        row = row.wrapping_add(1);
     }
-    for i in 0..16_384 {
-        assert_eq!(rt;
-            call_store(&mut store, Call::Remove, shuffled(i), &mut object),
-            Answer::Done(true),
-            "{i}"
-        );
+}
+
+#[test]
+fn objects_are_listed_in_the_order_of_their_keys(rt: HostRuntime) {
+    let mut store = Plain::new(rt.alloc(), 1);
+    assert!(rt; store.is_empty());
+    assert!(rt; all_answer(&mut store, Call::Put(0), (0, 32_768), Answer::Done(true), None));
+    assert!(rt; !store.is_empty());
+    let mut n = 0;
+    for at in 0..store.len() {
+        let (bytes, count) = sample(n, false);
+        assert_eq!(rt; store.object(at), &bytes[..count], "{at}");
+        n = n.wrapping_add(1);
     }
-    for i in 0..16_384 {
-        assert_eq!(rt;
-            call_store(&mut store, Call::Put(0), shuffled(i), &mut object),
-            Answer::Done(true),
-            "{i}"
-        );
-    }
-    for i in 0..32_768 {
-        assert_eq!(rt;
-            call_store(&mut store, Call::Get, i, &mut object),
-            Answer::Done(true),
-            "{i}"
-        );
-        assert!(rt;
-            object.as_slice().ends_with(&[]) && object.len() >= 10,
-            "{i}"
-        );
-    }
-    for i in 0..32_768 {
-        assert_eq!(rt;
-            call_store(&mut store, Call::Remove, shuffled(i), &mut object),
-            Answer::Done(true),
-            "{i}"
-        );
-        assert_eq!(rt;
-            call_store(&mut store, Call::Get, shuffled(i), &mut object),
-            Answer::Done(false),
-            "{i}"
-        );
-    }
+    assert_eq!(rt; n, 32_768);
 }

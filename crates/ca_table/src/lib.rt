@@ -3,10 +3,12 @@
 
 mod codes;
 mod laws;
+mod listing;
 mod outcome;
 mod table;
 
 pub use laws::sure_and_alone_is_done;
+pub use listing::objects;
 pub use outcome::Played;
 pub use table::Table;
 

@@ -19,9 +19,9 @@ leaves c =
     c.args.k.now c.in-Ok-At.at
     c.in-Ok-At.field-0 c.in-Ok-At.ensures c.in-Ok-At.field-0-is c.index.result.now (search rules) c.replace.new.objects.items c.args.op.now
     (operations_in c.in-Some.operations)
-    c.in-Ok.object c.in-Ok.values.items (response_of c.in_ok-reply-in-Ok.reply) (sym c.in_ok-operations.ensures ∙ ap (option_map operations_in) c.in-Some.is)
+    c.in-Ok.object c.in-Ok.values.items (response_of c.in_ok-reply-in-Ok.reply) (sym c.in_ok-operations.ensures.asked ∙ ap (option_map operations_in) c.in-Some.is)
     (ap (λ (x : List Addition). update_of_counters c.self.inside.keypos c.index.result.now x) (sym c.as_slice.ensures) ∙ c.in-Ok.ensures)
-    (c.in_ok-reply-in-Ok.ensures ∙ ap (reply_of (operations_in c.in-Some.operations)) c.as_slice-in-Ok.ensures.value) c.replace.ensures
+    (c.in_ok-reply-in-Ok.ensures.reply ∙ ap (reply_of (operations_in c.in-Some.operations)) c.as_slice-in-Ok.ensures.value) c.replace.ensures
 
 pub invariant_of-self : goal.invariant_of-self
 invariant_of-self c = record { keypos = c.self.invariant.keypos; objects = (leaves c).0 }
