@@ -4,9 +4,13 @@ pub mod Command
 pub mod Explained
 pub mod InOrder
 pub mod ListTableView
+pub mod Match
 pub mod Merge
+pub mod Operators
 pub mod OrderedMap
 pub mod Place
+pub mod Specification
 pub mod Step
 pub mod Table
 pub mod Update
+pub mod Variable
