@@ -1,9 +1,7 @@
 -- What commands come to on a table over a store that is alone and sure: at every table that the store's map stands for, their one-thread run.
 use Rattle.std.specs.Prelude.{◌≡◌, ℕ, true, List, ◌++◌, map}
 use Rattle.ca_term.specs.Tree.{Tree}
-use Rattle.ca_ets.specs.Command.{Command, Response, Continuation, Never, continuation_of, response_of}
-use Rattle.ca_ets.specs.declared.command.Reply.{Reply}
-use Rattle.ca_ets.specs.declared.command.Cont.{Cont}
+use Rattle.ca_ets.specs.Command.{Command, Response, Continuation, Never}
 use Rattle.ca_ets.specs.InOrder.{run_in_order}
 use Rattle.ca_ets.specs.Step.{step}
 use Rattle.ca_model.specs.Known.{Known, IsSameStore}

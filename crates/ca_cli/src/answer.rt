@@ -14,7 +14,7 @@ use std::alloc::{AllocError, Global};
 
 /// What is printed for the lines of files: the answers to their commands, a file a client, and the table. Element number
 /// `keypos` of an object, counted from 1, is its key.
-#[tactic(auto, using(crate::proofs::InTurn::all_replies, crate::proofs::Answered::answered))]
+#[tactic(auto, using(crate::proofs::InTurn::all_replies))]
 pub fn answer(alloc: Global, keypos: u32, files: &[Lines]) -> Result<Vec<u8>, AllocError>
     requires { (1 ≤ keypos) × (keypos ≤ MOST_ELEMENTS) }
     ensures answer { let run = run_in_turn keypos [] (map commands_in (map numbered files.now)) in
