@@ -1,6 +1,6 @@
 //! A table over a store.
 ghost use Rattle.std.specs.Prelude.{◌≡◌, ◌≤◌, length, slice_range, IfOk, IfErr, IsOk, OnOk};
-ghost use Rattle.ca_ets.specs.declared.command.Cmd.TheVariants.{Insert, InsertNew, Lookup, Member, Delete, Take};
+ghost use Rattle.ca_ets.specs.declared.command.Cmd.TheVariants.{Insert, InsertNew, Lookup, Member, Delete, Take, UpdateCounter, UpdateElement};
 ghost use Rattle.ca_model.specs.Known.{Known, Meets, Stays};
 ghost use Rattle.ca_model.specs.Event.{Write, WriteNew};
 ghost use Rattle.ca_model.specs.Answer.{Got, Removed, IsDone, IsNeverDeep};
@@ -12,7 +12,7 @@ ghost use Rattle.ca_table.specs.Refusals.{IsRefusal, IsSame, RemovedSame};
 
 use crate::codes::{KeyRange, key_code, object_code, only};
 use crate::outcome::{ONE_LOST, Played, done};
-use ca_ets::{Fault, Reply};
+use ca_ets::{Cmd, Cont, Fault, Reply};
 use ca_model::{Changed, Code, OrderedStore, Outcome};
 use ca_term::{Term, Terms};
 use std::alloc::{AllocError, Global};
@@ -51,6 +51,24 @@ impl<S: OrderedStore + Drop> Table<S> {
         ensures { S.knows result ≡ self }
     {
         self.store
+    }
+
+    /// The call that a command names. A reply is that of the command's step at every continuation, the one that is handed in among them; it stays.
+    pub fn apply(&mut self, alloc: Global, cmd: &Cmd, cont: &mut Cont, budget: u32) -> Played
+        requires { 1 ≤ budget }
+        ensures comes { ComesTo self.old self.new budget cmd.now result }
+        ensures continuation { cont.new ≡ cont.old }
+    {
+        match cmd {
+            Cmd::Insert(object) => self.insert(object, budget),
+            Cmd::InsertNew(object) => self.insert_new(object, budget),
+            Cmd::Lookup(key) => self.lookup(alloc, key, budget),
+            Cmd::Member(key) => self.member(key, budget),
+            Cmd::Delete(key) => self.delete(key, budget),
+            Cmd::Take(key) => self.take(alloc, key, budget),
+            Cmd::UpdateCounter(key, op) => self.update_counter(alloc, key, op, budget),
+            Cmd::UpdateElement(key, op) => self.update_element(key, op, budget),
+        }
     }
 
     /// `insert`: it replaces the object of an equal key. `Err` where the store found no memory for a new key.
@@ -166,6 +184,34 @@ impl<S: OrderedStore + Drop> Table<S> {
             Ok(Changed::Kept) => return Ok(Outcome::Busy(ONE_LOST)),
             Err(refusal) => return Ok(refusal),
         }
+    }
+
+    /// `update_counter`. Not built yet on this branch: it always lacks memory.
+    pub fn update_counter(
+        &mut self,
+        _alloc: Global,
+        _key: &Term,
+        _op: &Term,
+        _budget: u32,
+    ) -> Played
+        requires { 1 ≤ _budget }
+        ensures { ComesTo self.old self.new _budget (UpdateCounter _key.now _op.now) result }
+    {
+        let Ok(()) = self.reserve() else {
+            return Err(AllocError);
+        };
+        Err(AllocError)
+    }
+
+    /// `update_element`. Not built yet on this branch: it always lacks memory.
+    pub fn update_element(&mut self, _key: &Term, _op: &Term, _budget: u32) -> Played
+        requires { 1 ≤ _budget }
+        ensures { ComesTo self.old self.new _budget (UpdateElement _key.now _op.now) result }
+    {
+        let Ok(()) = self.reserve() else {
+            return Err(AllocError);
+        };
+        Err(AllocError)
     }
 }
 
