@@ -16,6 +16,11 @@ abbrev pub placed : List Pair → Result ℕ ℕ → Pair → List Pair
 placed pairs (Ok at) p = slice_set pairs at p
 placed pairs (Err at) p = insert pairs at p
 
+-- how many more pairs the list has then
+abbrev pub count_placed : Result ℕ ℕ → ℕ
+count_placed (Ok at) = 0
+count_placed (Err at) = 1
+
 -- the numbers, with the one behind the first `len` ones at this place among them
 abbrev pub with_moved : List ℕ → ℕ → ℕ → List ℕ
 with_moved order len at = insert (take len order) at (slice_index_or order len 0) ++ drop (len + 1) order

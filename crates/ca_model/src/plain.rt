@@ -1,8 +1,12 @@
 //! A store of one owner.
-ghost use Rattle.std.specs.Prelude.{◌≡◌, ◌≤◌, ◌<◌, ◌+◌, ◌↔◌, [], None, IsTrue, true, length, slice_index_or};
-ghost use Rattle.ca_term.specs.declared.bounds.TheConstants.{MOST_ELEMENTS};
+ghost use Rattle.std.specs.Prelude.{◌≡◌, ◌≤◌, ◌<◌, ◌+◌, ◌↔◌, [], None, IsTrue, OnOk, true, length, slice_index_or, slice_range};
+ghost use Rattle.ca_term.specs.declared.bounds.TheConstants.{MOST_CODE_BYTES, MOST_ELEMENTS};
 ghost use Rattle.ca_model.specs.Slab.{nothing};
-ghost use Rattle.ca_model.specs.StoreMap.{IsStoreMap};
+ghost use Rattle.ca_model.specs.StoreMap.{IsPair, IsStoreMap};
+ghost use Rattle.ca_model.specs.Event.{Write, WriteNew};
+ghost use Rattle.ca_model.specs.Known.{Meets, Declines, Stays};
+ghost use Rattle.ca_model.specs.Function.{KeepsKey, MayBeAskedFor};
+ghost use Rattle.ca_model.specs.Answer.{IfDone, IfRefused, IfBusy, IsDone, IsNeverDeep, Got, Removed, Altered, RemovedIf};
 
 use crate::outcome::{Changed, Code, Outcome};
 use crate::row::copy;
@@ -12,6 +16,8 @@ use std::alloc::{AllocError, Global};
 use std::marker::Model;
 
 /// A store of one owner: nobody else edits its map, and it refuses nothing. Contracts see its map, and for how many new keys there is room.
+///
+/// A new key takes one room, and no other call takes any.
 ///
 /// An object stays where it is once put; what moves when a key comes or goes is a number of four bytes an object.
 #[derive(Drop)]
@@ -78,6 +84,14 @@ impl Plain {
     {
         self.objects.object(at)
     }
+
+    /// Makes room for one more new key than there is room for, and changes nothing else, also where memory is not found.
+    pub fn add_room(&mut self) -> Result<(), AllocError>
+        ensures room { OnOk result (self.old.spare + 1 ≤ self.new.spare) }
+        ensures stays { Stays self.old self.new }
+    {
+        self.objects.add_room()
+    }
 }
 
 impl OrderedStore for Plain {
@@ -87,7 +101,14 @@ impl OrderedStore for Plain {
         self.objects.reserve()
     }
 
-    fn get(&mut self, key: &[u8], into: &mut Code, budget: u32) -> Outcome<bool> {
+    fn get(&mut self, key: &[u8], into: &mut Code, budget: u32) -> Outcome<bool>
+        requires budget { 1 ≤ budget }
+        requires key { (1 ≤ length key.now) × (length key.now ≤ MOST_CODE_BYTES) }
+        ensures done { IsDone result }
+        ensures got { IfDone result (λ found. Got self.old self.new key.now found into.new.items) }
+
+        ensures spare { self.old.spare ≤ self.new.spare }
+    {
         let _budget = budget;
         let Ok(at) = self.objects.find(key) else {
             into.clear();
@@ -97,7 +118,17 @@ impl OrderedStore for Plain {
         Outcome::Done(true)
     }
 
-    fn put(&mut self, object: &[u8], key_at: usize, key_end: usize, budget: u32) -> Outcome<()> {
+    fn put(&mut self, object: &[u8], key_at: usize, key_end: usize, budget: u32) -> Outcome<()>
+        requires budget { 1 ≤ budget }
+        requires room { 1 ≤ self.old.spare }
+        requires place { (key_at ≤ key_end) × (key_end ≤ length object.now) }
+        requires pair { IsPair self.old.keypos (slice_range object.now key_at key_end, object.now) }
+        ensures put { IfDone result (λ _. Meets self.old self.new (Write (slice_range object.now key_at key_end) object.now)) }
+        ensures refused { IfRefused result (λ rise. Declines self.old self.new (rise self.old.counts)) }
+        ensures busy { IfBusy result (λ spent. budget ≤ spent) }
+
+        ensures spare { self.old.spare ≤ self.new.spare + 1 }
+    {
         let _budget = budget;
         let place = self.objects.find(&object[key_at..key_end]);
         self.objects.put(place, object, key_at, key_end);
@@ -110,7 +141,17 @@ impl OrderedStore for Plain {
         key_at: usize,
         key_end: usize,
         budget: u32,
-    ) -> Outcome<bool> {
+    ) -> Outcome<bool>
+        requires budget { 1 ≤ budget }
+        requires room { 1 ≤ self.old.spare }
+        requires place { (key_at ≤ key_end) × (key_end ≤ length object.now) }
+        requires pair { IsPair self.old.keypos (slice_range object.now key_at key_end, object.now) }
+        ensures put { IfDone result (λ new. Meets self.old self.new (WriteNew (slice_range object.now key_at key_end) object.now new)) }
+        ensures refused { IfRefused result (λ rise. Declines self.old self.new (rise self.old.counts)) }
+        ensures busy { IfBusy result (λ spent. budget ≤ spent) }
+
+        ensures spare { self.old.spare ≤ self.new.spare + 1 }
+    {
         let _budget = budget;
         let Err(at) = self.objects.find(&object[key_at..key_end]) else {
             return Outcome::Done(false);
@@ -119,7 +160,17 @@ impl OrderedStore for Plain {
         Outcome::Done(true)
     }
 
-    fn remove(&mut self, key: &[u8], old: &mut Code, budget: u32) -> Outcome<bool> {
+    fn remove(&mut self, key: &[u8], old: &mut Code, budget: u32) -> Outcome<bool>
+        requires budget { 1 ≤ budget }
+        requires key { (1 ≤ length key.now) × (length key.now ≤ MOST_CODE_BYTES) }
+        ensures removed { IfDone result (λ was. Removed self.old self.new key.now was old.new.items) }
+        ensures refused { IfRefused result (λ rise. Declines self.old self.new (rise self.old.counts)) }
+        ensures emptied { IfRefused result (λ _. old.new.items ≡ []) }
+        ensures never_deep { IsNeverDeep result }
+        ensures busy { IfBusy result (λ spent. budget ≤ spent) }
+
+        ensures spare { self.old.spare ≤ self.new.spare }
+    {
         let _budget = budget;
         let Ok(at) = self.objects.find(key) else {
             old.clear();
@@ -136,7 +187,18 @@ impl OrderedStore for Plain {
         f: &F,
         old: &mut Code,
         budget: u32,
-    ) -> Outcome<Changed> {
+    ) -> Outcome<Changed>
+        requires budget { 1 ≤ budget }
+        requires key { (1 ≤ length key.now) × (length key.now ≤ MOST_CODE_BYTES) }
+        requires function { MayBeAskedFor F.Fn f.now self.old.keypos key.now }
+        ensures removed { IfDone result (λ changed. RemovedIf F.Fn f.now self.old self.new key.now changed old.new.items) }
+        ensures refused { IfRefused result (λ rise. Declines self.old self.new (rise self.old.counts)) }
+        ensures emptied { IfRefused result (λ _. old.new.items ≡ []) }
+        ensures never_deep { IsNeverDeep result }
+        ensures busy { IfBusy result (λ spent. budget ≤ spent) }
+
+        ensures spare { self.old.spare ≤ self.new.spare }
+    {
         let _budget = budget;
         let Ok(at) = self.objects.find(key) else {
             old.clear();
@@ -156,7 +218,18 @@ impl OrderedStore for Plain {
         f: &F,
         old: &mut Code,
         budget: u32,
-    ) -> Outcome<Changed> {
+    ) -> Outcome<Changed>
+        requires budget { 1 ≤ budget }
+        requires key { (1 ≤ length key.now) × (length key.now ≤ MOST_CODE_BYTES) }
+        requires function { KeepsKey F.Fn f.now self.old.keypos key.now }
+        ensures changed { IfDone result (λ changed. Altered F.Fn f.now self.old self.new key.now changed old.new.items) }
+        ensures refused { IfRefused result (λ rise. Declines self.old self.new (rise self.old.counts)) }
+        ensures emptied { IfRefused result (λ _. old.new.items ≡ []) }
+        ensures never_deep { IsNeverDeep result }
+        ensures busy { IfBusy result (λ spent. budget ≤ spent) }
+
+        ensures spare { self.old.spare ≤ self.new.spare }
+    {
         let _budget = budget;
         let Ok(at) = self.objects.find(key) else {
             old.clear();

@@ -4,7 +4,7 @@ ghost use Rattle.std.specs.List.{insert, remove};
 ghost use Rattle.std.specs.List.Sorted.{IsSearchInRange, IsBinarySearchResult};
 ghost use Rattle.ca_term.specs.declared.bounds.TheConstants.{MOST_CODE_BYTES};
 ghost use Rattle.ca_model.specs.StoreMap.{Pair, bytes_cmp};
-ghost use Rattle.ca_model.specs.Slab.{nothing, placed, with_moved, with_freed};
+ghost use Rattle.ca_model.specs.Slab.{nothing, placed, count_placed, with_moved, with_freed};
 
 use crate::row::Row;
 use std::alloc::{AllocError, Global};
@@ -56,6 +56,15 @@ impl Slab {
         if self.len < self.order.len() {
             return Ok(());
         }
+        self.add_room()
+    }
+
+    // Makes room for one more object than there is room for.
+    pub(crate) fn add_room(&mut self) -> Result<(), AllocError>
+        ensures pairs { self.new.pairs ≡ self.old.pairs }
+        ensures room { OnOk result (self.old.spare + 1 ≤ self.new.spare) }
+        ensures grows { self.old.spare ≤ self.new.spare }
+    {
         let Ok(slot) = u32::try_from(self.rows.len()) else {
             return Err(AllocError);
         };
@@ -102,7 +111,8 @@ impl Slab {
         requires room { IsErr place → 1 ≤ self.old.spare }
         requires key { (key_at ≤ key_end) × (key_end ≤ length object.now) }
         requires short { length object.now ≤ MOST_CODE_BYTES }
-        ensures { self.new.pairs ≡ placed self.old.pairs place (slice_range object.now key_at key_end, object.now) }
+        ensures pairs { self.new.pairs ≡ placed self.old.pairs place (slice_range object.now key_at key_end, object.now) }
+        ensures spare { self.old.spare ≤ self.new.spare + count_placed place }
     {
         match place {
             Ok(at) => {
@@ -121,7 +131,8 @@ impl Slab {
     // Takes the object at a place out; its slot is the next one that is used again.
     pub(crate) fn remove(&mut self, at: usize)
         requires { at < length self.old.pairs }
-        ensures { self.new.pairs ≡ remove self.old.pairs at }
+        ensures pairs { self.new.pairs ≡ remove self.old.pairs at }
+        ensures spare { self.old.spare ≤ self.new.spare }
     {
         set_free(self.order.as_mut_slice(), self.len, at);
         self.len -= 1;

@@ -88,7 +88,7 @@ comes g c =
       pair = l.pair;
       map_is = put_is c.self.inside.keypos m c.put.new.self.pairs c.args.key.now c.f.new.arg3.items c.find.result c.self.invariant.ordered
           c.find.ensures.bound c.find.ensures.position
-          (c.put.ensures ∙ ap (λ (q : Pair). placed m (Ok c.in-Ok.at) q) own ∙ ap (λ (r : Result ℕ ℕ). placed m r (c.args.key.now, c.f.new.arg3.items))
+          (c.put.ensures.pairs ∙ ap (λ (q : Pair). placed m (Ok c.in-Ok.at) q) own ∙ ap (λ (r : Result ℕ ℕ). placed m r (c.args.key.now, c.f.new.arg3.items))
           (sym c.in-Ok.is));
     }
 

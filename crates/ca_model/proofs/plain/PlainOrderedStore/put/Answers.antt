@@ -15,7 +15,7 @@ own_pair c = subst (λ (n : ℕ). IsPair n (key_of c, c.args.object.now)) (sym (
 
 map_is : (c : goal.After-put) → c.put.new.self.pairs ≡ put c.self.inside.objects.pairs (key_of c) c.args.object.now
 map_is c = put_is c.self.inside.keypos _ _ _ _ c.find-place.result c.self.invariant.ordered c.find-place.ensures.bound c.find-place.ensures.position
-    c.put.ensures
+    c.put.ensures.pairs
 
 pub invariant_of-self : goal.invariant_of-self
 invariant_of-self c = record {

@@ -28,7 +28,7 @@ map_is c =
     let m = c.self.inside.objects.pairs in
     put_is c.self.inside.keypos m c.put.new.self.pairs (key_of c) c.args.object.now c.find.result c.self.invariant.ordered c.find.ensures.bound
     c.find.ensures.position
-    (c.put.ensures ∙ ap (λ (r : Result ℕ ℕ). placed m r (key_of c, c.args.object.now)) (sym c.in-Err.is))
+    (c.put.ensures.pairs ∙ ap (λ (r : Result ℕ ℕ). placed m r (key_of c, c.args.object.now)) (sym c.in-Err.is))
 
 pub invariant_of-self : goal.invariant_of-self
 invariant_of-self c = record {

@@ -16,8 +16,8 @@ pub invariant_of-self : goal.invariant_of-self
 invariant_of-self c = slots_set c.self.inside.rows.items c.set_row.new.rows.items c.self.inside.order.items c.self.inside.len c.index.result.now _
     c.self.invariant c.set_row.ensures
 
-pub returns-in-Ok : goal.returns-in-Ok
-returns-in-Ok c =
+pub returns-in-Ok-clause-pairs : goal.returns-in-Ok-clause-pairs
+returns-in-Ok-clause-pairs c =
     let rows = c.self.inside.rows.items in
     let own : Pair = (slice_range c.args.object.now c.args.key_at c.args.key_end, c.args.object.now) in
     let s = slot_at rows c.self.inside.order.items c.self.inside.len c.args.self.now c.in-Ok.at c.index.result.now c.self.invariant c.self.view_is
@@ -64,8 +64,8 @@ pub invariant_of-self-in-Err : goal.invariant_of-self-in-Err
 invariant_of-self-in-Err c = let w = writes c in slots_inserted c.self.inside.rows.items _ c.self.inside.order.items _ c.self.inside.len c.in-Err.at _
     c.self.invariant w.more w.place w.rows_are w.order_is
 
-pub returns-in-Err : goal.returns-in-Err
-returns-in-Err c =
+pub returns-in-Err-clause-pairs : goal.returns-in-Err-clause-pairs
+returns-in-Err-clause-pairs c =
     let w = writes c in
     let own : Pair = (slice_range c.args.object.now c.args.key_at c.args.key_end, c.args.object.now) in
     list_inserted c.self.inside.rows.items _ c.self.inside.order.items _ c.self.inside.len c.in-Err.at own c.self.invariant w.more w.place w.rows_are w.order_is

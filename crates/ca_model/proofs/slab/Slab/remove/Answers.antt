@@ -23,7 +23,7 @@ order_is c =
 pub invariant_of-self : goal.invariant_of-self
 invariant_of-self c = slots_removed c.self.inside.rows.items c.self.inside.order.items _ c.self.inside.len c.args.at c.self.invariant (in_list c) (order_is c)
 
-pub returns : goal.returns
-returns c =
+pub returns-clause-pairs : goal.returns-clause-pairs
+returns-clause-pairs c =
     list_removed c.self.inside.rows.items c.self.inside.order.items _ c.self.inside.len c.args.at c.self.invariant (in_list c) (order_is c)
     ∙ ap (λ (l : PairList). remove l.pairs c.args.at) c.self.view_is

@@ -3,14 +3,14 @@ use Rattle.std.proofs.lemmas.Grind.{common_steps}
 use Rattle.ca_model.specs.StoreMap.{Pair}
 use Rattle.ca_model.specs.Slab.{PairList, nothing}
 use Rattle.ca_model.proofs.Slots.{slots_added, list_added}
-use Rattle.ca_model.proofs.slab.Slab.reserve.Goals as goal
+use Rattle.ca_model.proofs.slab.Slab.add_room.Goals as goal
 
 rows_are : (c : goal.After-push_reserved-2) → c.push_reserved.new.self.items ≡ c.self.inside.rows.items ++ nothing ∷ []
 rows_are c = c.push_reserved.ensures.items ∙ ap (λ (p : Pair). c.reserve.new.self.items ++ p ∷ []) c.new.ensures
     ∙ ap (λ (r : List Pair). r ++ nothing ∷ []) c.in_ok-reserve.ensures.items
 
 slot_is : (c : goal.After-push_reserved-2) → c.in-Ok.slot ≡ length c.self.inside.rows.items
-slot_is c = let e = c.in-Ok.ensures.1 in let l = c.len-2.ensures in grind (arith, common_steps, e, l)
+slot_is c = let e = c.in-Ok.ensures.1 in let l = c.len.ensures in grind (arith, common_steps, e, l)
 
 order_is : (c : goal.After-push_reserved-2) → c.push_reserved-2.new.self.items ≡ c.self.inside.order.items ++ length c.self.inside.rows.items ∷ []
 order_is c = c.push_reserved-2.ensures.items ∙ ap (λ (n : ℕ). c.reserve-2.new.self.items ++ n ∷ []) (slot_is c)

@@ -1,0 +1,55 @@
+//! Refusals of a script.
+ghost use Rattle.std.specs.Prelude.{◌≡◌};
+ghost use Rattle.ca_scripted.specs.Refusals.{refused};
+ghost use Rattle.ca_scripted.specs.Inner.{refusal_at};
+
+use ca_model::{Counter, FullCause, Outcome, Spent};
+
+/// How a call is refused. `Busy` loses the call's whole budget.
+#[derive(Clone, Copy, Debug, PartialEq, Eq)]
+pub enum Refusal {
+    Busy,
+    Full(FullCause),
+    Deep(u16),
+    Worn(Counter),
+}
+
+// What kind of call asks for its turn: one that is never refused, one that needs no level, or any other.
+#[derive(Clone, Copy)]
+pub(crate) enum Call {
+    Read,
+    Edit,
+    Put,
+}
+
+impl Refusal {
+    // The outcome of a refused call.
+    pub(crate) fn outcome<T>(self, budget: u32) -> Outcome<T>
+        ensures { result ≡ refused self budget }
+    {
+        match self {
+            Refusal::Busy => Outcome::Busy(Spent {
+                lost: budget,
+                helped: 0,
+                passed: 0,
+            }),
+            Refusal::Full(cause) => Outcome::Full(cause),
+            Refusal::Deep(level) => Outcome::Deep(level),
+            Refusal::Worn(counter) => Outcome::Worn(counter),
+        }
+    }
+}
+
+// How a call of this kind is refused.
+pub(crate) fn refusal_at(asked: Call, told: Option<Refusal>) -> Option<Refusal>
+    ensures { result ≡ refusal_at asked told }
+{
+    match asked {
+        Call::Read => None,
+        Call::Put => told,
+        Call::Edit => match told {
+            Some(Refusal::Deep(_)) => None,
+            other => other,
+        },
+    }
+}

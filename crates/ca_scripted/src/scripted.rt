@@ -1,0 +1,299 @@
+//! A store with a script.
+ghost use Rattle.std.specs.Prelude.{◌≡◌, ◌≤◌, ◌∷◌, ◌++◌, [], None, false, length, slice_range, IfOk, IfErr, OnOk, OnErr};
+ghost use Rattle.ca_term.specs.declared.bounds.TheConstants.{MOST_CODE_BYTES, MOST_ELEMENTS};
+ghost use Rattle.ca_model.specs.StoreMap.{IsPair};
+ghost use Rattle.ca_model.specs.Event.{Write, WriteNew};
+ghost use Rattle.ca_model.specs.Known.{Meets, Declines, Stays};
+ghost use Rattle.ca_model.specs.Function.{KeepsKey, MayBeAskedFor};
+ghost use Rattle.ca_model.specs.Answer.{IfDone, IfRefused, IfBusy, IsDone, IsNeverDeep, Got, Removed, Altered, RemovedIf};
+ghost use Rattle.ca_scripted.specs.Script.{next_turn, IsProperTurn};
+ghost use Rattle.ca_scripted.specs.Refusals.{IsAsTold, unless_deep};
+ghost use Rattle.ca_scripted.specs.Played.{Plays, Skips, GotSuch, RemovedSuch, RemovedIfSuch, AlteredSuch};
+ghost use Rattle.ca_scripted.specs.Inner.{Begins, Refuses};
+
+use crate::inner;
+use crate::refusal::{Call, Refusal};
+use crate::tally::Tally;
+use crate::turn::{Turn, take_turn};
+use ca_model::{Changed, Code, OrderedStore, Outcome, Plain};
+use std::alloc::{AllocError, Global};
+use std::collections::VecDeque;
+use std::marker::Model;
+
+/// A store whose map others edit by a script, and which refuses calls by it. It serves to run whatever stands over a store through every
+/// answer that a shared store may give.
+///
+/// Each call but `reserve` takes the script's next turn. It learns of the others' edits that the turn has before its own, makes its own or
+/// is refused, and learns of those that the turn has behind it. A read is never refused, and a call that puts no new key never for want of
+/// levels: their turns count as if they said no refusal there. Behind the last turn nothing is learnt and nothing refused. Contracts see
+/// what is known of the store, the turns that are left, and for how many objects there is room.
+#[derive(Drop)]
+pub struct Scripted {
+    alloc: Global,
+    objects: Plain,
+    turns: VecDeque<Turn>,
+    tally: Tally,
+    // for how many new keys of its own there is room, beside that for the script's
+    spare: usize,
+    // how many turns the script had in all
+    made: usize,
+}
+
+impl Model for Scripted {
+    ghost use Rattle.ca_scripted.specs.Script.{ScriptedStore};
+
+    ghost Value = { ScriptedStore };
+
+    ghost use Rattle.ca_scripted.specs.ScriptedView.{store_of, IsKept};
+
+    ghost view = { store_of };
+
+    ghost invariant = { IsKept };
+}
+
+impl Scripted {
+    /// A store with no objects and an empty script; element number `keypos` of an object, counted from 1, is its key. It takes no memory.
+    pub fn new(alloc: Global, keypos: u32) -> Scripted
+        requires { (1 ≤ keypos) × (keypos ≤ MOST_ELEMENTS) }
+        ensures keypos { result.known.keypos ≡ keypos }
+        ensures map { result.known.map ≡ [] }
+        ensures alone { result.known.alone ≡ false }
+        ensures sure { result.known.sure ≡ false }
+        ensures seen { result.known.seen ≡ None }
+        ensures counts { result.known.counts ≡ record { busy = 0; full = 0; deep = 0; worn = 0 } }
+        ensures turns { result.turns ≡ [] }
+    {
+        Scripted {
+            alloc,
+            objects: Plain::new(alloc, keypos),
+            turns: VecDeque::new(alloc),
+            tally: Tally::new(),
+            spare: 0,
+            made: 0,
+        }
+    }
+
+    /// Which element of an object is its key, counted from 1.
+    pub fn keypos(&self) -> u32
+        ensures value { result ≡ self.now.known.keypos }
+        ensures range { (1 ≤ result) × (result ≤ MOST_ELEMENTS) }
+    {
+        self.objects.keypos()
+    }
+
+    /// Adds a turn behind the others, and makes room for its edits. Without memory for them the script stays as it is.
+    pub fn add_turn(&mut self, turn: Turn) -> Result<(), AllocError>
+        requires { IsProperTurn self.old.known.keypos turn }
+        ensures added { OnOk result (self.new.turns ≡ self.old.turns ++ turn ∷ []) }
+        ensures not_added { OnErr result (self.new.turns ≡ self.old.turns) }
+        ensures stays { Stays self.old.known self.new.known }
+    {
+        let Some(made) = self.made.checked_add(1) else {
+            return Err(AllocError);
+        };
+        let Ok(()) = inner::add_rooms(&mut self.objects, turn.before().len()) else {
+            return Err(AllocError);
+        };
+        let Ok(()) = inner::add_rooms(&mut self.objects, turn.after().len()) else {
+            return Err(AllocError);
+        };
+        let Ok(()) = self.turns.push_back(turn) else {
+            return Err(AllocError);
+        };
+        self.made = made;
+        Ok(())
+    }
+
+    // Takes the next turn, and learns of the edits before the call's own; where it refuses a call of this kind, also of those behind it.
+    fn begin(&mut self, asked: Call) -> Result<Turn, Refusal>
+        ensures begins { IfOk result (λ turn. Begins self.old self.new asked turn) }
+        ensures refuses { IfErr result (λ refusal. Refuses self.old self.new asked refusal) }
+    {
+        let turn = take_turn(&mut self.turns, self.alloc);
+        inner::make(&mut self.objects, turn.before());
+        let Some(refusal) = turn.refusal_at(asked) else {
+            return Ok(turn);
+        };
+        self.tally.count(refusal);
+        inner::make(&mut self.objects, turn.after());
+        Err(refusal)
+    }
+}
+
+impl OrderedStore for Scripted {
+    ghost knows = { λ s. s.known };
+
+    fn reserve(&mut self) -> Result<(), AllocError>
+        ensures room { OnOk result (1 ≤ self.new.known.spare) }
+        ensures stays { Stays self.old.known self.new.known }
+
+        ensures turns { self.new.turns ≡ self.old.turns }
+    {
+        if self.spare > 0 {
+            return Ok(());
+        }
+        let Ok(()) = self.objects.add_room() else {
+            return Err(AllocError);
+        };
+        self.spare = 1;
+        Ok(())
+    }
+
+    fn get(&mut self, key: &[u8], into: &mut Code, budget: u32) -> Outcome<bool>
+        requires budget { 1 ≤ budget }
+        requires key { (1 ≤ length key.now) × (length key.now ≤ MOST_CODE_BYTES) }
+        ensures done { IsDone result }
+        ensures got { IfDone result (λ found. Got self.old.known self.new.known key.now found into.new.items) }
+
+        ensures played { IfDone result (λ found. GotSuch (Plays self.old self.new) key.now found into.new.items) }
+    {
+        let _budget = budget;
+        let Ok(turn) = self.begin(Call::Read) else {
+            unreachable!()
+        };
+        let found = inner::get(&mut self.objects, key, into);
+        inner::make(&mut self.objects, turn.after());
+        Outcome::Done(found)
+    }
+
+    fn put(&mut self, object: &[u8], key_at: usize, key_end: usize, budget: u32) -> Outcome<()>
+        requires budget { 1 ≤ budget }
+        requires room { 1 ≤ self.old.known.spare }
+        requires place { (key_at ≤ key_end) × (key_end ≤ length object.now) }
+        requires pair { IsPair self.old.known.keypos (slice_range object.now key_at key_end, object.now) }
+        ensures put { IfDone result (λ _. Meets self.old.known self.new.known (Write (slice_range object.now key_at key_end) object.now)) }
+        ensures refused { IfRefused result (λ rise. Declines self.old.known self.new.known (rise self.old.known.counts)) }
+        ensures busy { IfBusy result (λ spent. budget ≤ spent) }
+
+        ensures told { IsAsTold (next_turn self.old.turns).refusal budget result }
+        ensures played { IfDone result (λ _. Plays self.old self.new (Write (slice_range object.now key_at key_end) object.now)) }
+        ensures skipped { IfRefused result (λ _. Skips self.old self.new) }
+    {
+        let turn = match self.begin(Call::Put) {
+            Ok(turn) => turn,
+            Err(refusal) => return refusal.outcome(budget),
+        };
+        inner::put(&mut self.objects, object, key_at, key_end);
+        inner::make(&mut self.objects, turn.after());
+        self.spare -= 1;
+        Outcome::Done(())
+    }
+
+    fn put_new(
+        &mut self,
+        object: &[u8],
+        key_at: usize,
+        key_end: usize,
+        budget: u32,
+    ) -> Outcome<bool>
+        requires budget { 1 ≤ budget }
+        requires room { 1 ≤ self.old.known.spare }
+        requires place { (key_at ≤ key_end) × (key_end ≤ length object.now) }
+        requires pair { IsPair self.old.known.keypos (slice_range object.now key_at key_end, object.now) }
+        ensures put { IfDone result (λ new. Meets self.old.known self.new.known (WriteNew (slice_range object.now key_at key_end) object.now new)) }
+        ensures refused { IfRefused result (λ rise. Declines self.old.known self.new.known (rise self.old.known.counts)) }
+        ensures busy { IfBusy result (λ spent. budget ≤ spent) }
+
+        ensures told { IsAsTold (next_turn self.old.turns).refusal budget result }
+        ensures played { IfDone result (λ new. Plays self.old self.new (WriteNew (slice_range object.now key_at key_end) object.now new)) }
+        ensures skipped { IfRefused result (λ _. Skips self.old self.new) }
+    {
+        let turn = match self.begin(Call::Put) {
+            Ok(turn) => turn,
+            Err(refusal) => return refusal.outcome(budget),
+        };
+        let new = inner::put_new(&mut self.objects, object, key_at, key_end);
+        inner::make(&mut self.objects, turn.after());
+        self.spare -= 1;
+        Outcome::Done(new)
+    }
+
+    fn remove(&mut self, key: &[u8], old: &mut Code, budget: u32) -> Outcome<bool>
+        requires budget { 1 ≤ budget }
+        requires key { (1 ≤ length key.now) × (length key.now ≤ MOST_CODE_BYTES) }
+        ensures removed { IfDone result (λ was. Removed self.old.known self.new.known key.now was old.new.items) }
+        ensures refused { IfRefused result (λ rise. Declines self.old.known self.new.known (rise self.old.known.counts)) }
+        ensures emptied { IfRefused result (λ _. old.new.items ≡ []) }
+        ensures never_deep { IsNeverDeep result }
+        ensures busy { IfBusy result (λ spent. budget ≤ spent) }
+
+        ensures told { IsAsTold (unless_deep (next_turn self.old.turns).refusal) budget result }
+        ensures played { IfDone result (λ was. RemovedSuch (Plays self.old self.new) key.now was old.new.items) }
+        ensures skipped { IfRefused result (λ _. Skips self.old self.new) }
+    {
+        let turn = match self.begin(Call::Edit) {
+            Ok(turn) => turn,
+            Err(refusal) => {
+                old.clear();
+                return refusal.outcome(budget);
+            }
+        };
+        let was = inner::remove(&mut self.objects, key, old);
+        inner::make(&mut self.objects, turn.after());
+        Outcome::Done(was)
+    }
+
+    fn remove_if<F: Fn(&[u8]) -> bool>(
+        &mut self,
+        key: &[u8],
+        f: &F,
+        old: &mut Code,
+        budget: u32,
+    ) -> Outcome<Changed>
+        requires budget { 1 ≤ budget }
+        requires key { (1 ≤ length key.now) × (length key.now ≤ MOST_CODE_BYTES) }
+        requires function { MayBeAskedFor F.Fn f.now self.old.known.keypos key.now }
+        ensures removed { IfDone result (λ changed. RemovedIf F.Fn f.now self.old.known self.new.known key.now changed old.new.items) }
+        ensures refused { IfRefused result (λ rise. Declines self.old.known self.new.known (rise self.old.known.counts)) }
+        ensures emptied { IfRefused result (λ _. old.new.items ≡ []) }
+        ensures never_deep { IsNeverDeep result }
+        ensures busy { IfBusy result (λ spent. budget ≤ spent) }
+
+        ensures told { IsAsTold (unless_deep (next_turn self.old.turns).refusal) budget result }
+        ensures played { IfDone result (λ changed. RemovedIfSuch F.Fn f.now (Plays self.old self.new) key.now changed old.new.items) }
+        ensures skipped { IfRefused result (λ _. Skips self.old self.new) }
+    {
+        let turn = match self.begin(Call::Edit) {
+            Ok(turn) => turn,
+            Err(refusal) => {
+                old.clear();
+                return refusal.outcome(budget);
+            }
+        };
+        let changed = inner::remove_if(&mut self.objects, key, f, old);
+        inner::make(&mut self.objects, turn.after());
+        Outcome::Done(changed)
+    }
+
+    fn change<F: Fn(&[u8], &mut Code, &mut usize) -> bool>(
+        &mut self,
+        key: &[u8],
+        f: &F,
+        old: &mut Code,
+        budget: u32,
+    ) -> Outcome<Changed>
+        requires budget { 1 ≤ budget }
+        requires key { (1 ≤ length key.now) × (length key.now ≤ MOST_CODE_BYTES) }
+        requires function { KeepsKey F.Fn f.now self.old.known.keypos key.now }
+        ensures changed { IfDone result (λ changed. Altered F.Fn f.now self.old.known self.new.known key.now changed old.new.items) }
+        ensures refused { IfRefused result (λ rise. Declines self.old.known self.new.known (rise self.old.known.counts)) }
+        ensures emptied { IfRefused result (λ _. old.new.items ≡ []) }
+        ensures never_deep { IsNeverDeep result }
+        ensures busy { IfBusy result (λ spent. budget ≤ spent) }
+
+        ensures told { IsAsTold (unless_deep (next_turn self.old.turns).refusal) budget result }
+        ensures played { IfDone result (λ changed. AlteredSuch F.Fn f.now (Plays self.old self.new) key.now changed old.new.items) }
+        ensures skipped { IfRefused result (λ _. Skips self.old self.new) }
+    {
+        let turn = match self.begin(Call::Edit) {
+            Ok(turn) => turn,
+            Err(refusal) => {
+                old.clear();
+                return refusal.outcome(budget);
+            }
+        };
+        let changed = inner::change(&mut self.objects, key, f, old);
+        inner::make(&mut self.objects, turn.after());
+        Outcome::Done(changed)
+    }
+}
