@@ -9,7 +9,8 @@ use Rattle.ca_term.proofs.TotalOrder.{term_cmp_total}
 use Rattle.ca_term.specs.Updates.{ElementFault, integer_of, is_open, update_of_counters, update_of_element}
 use Rattle.ca_ets.specs.Command.{Response, Continuation, Never, Truth}
 use Rattle.ca_ets.specs.OrderedMap.{IsEntry, IsTable, put}
-use Rattle.ca_ets.specs.Place.{IsAt, IsPlace, IsPlaceUnless}
+use Rattle.ca_ets.specs.Place.{IsAt, IsPlace}
+use Rattle.ca_ets.specs.Unless.{IsUnless}
 use Rattle.ca_ets.specs.Step.{fault_of_key, reply_of, step_of_update_counter, step_of_update_element, with_map}
 use Rattle.ca_ets.specs.Update.{Operations, additions_of, operations_of, element_of, open_position, position_in}
 use Rattle.ca_ets.specs.Table.{Table}
@@ -91,7 +92,7 @@ module _ (p : ℕ) (m : List Tree) (seen : Table) (view : record {
   objects =
       m;
 } ≡ seen) (l : 1 ≤ p) (t : IsTable p m) (key : Tree) (at : ℕ) (r : Place)
-    (h : IsPlaceUnless (fault_of_key key) (IsPlace seen.keypos seen.objects key) (Ok r)) (e : r ≡ At at) (o : Tree) (is : o ≡ get_or m at o) (left :
+    (h : IsUnless (fault_of_key key) (IsPlace seen.keypos seen.objects key) (Ok r)) (e : r ≡ At at) (o : Tree) (is : o ≡ get_or m at o) (left :
     List Tree) where
   place : IsAt p m key at
   place = subst (λ (x : Table). IsAt x.keypos x.objects key at) (sym view) (subst (λ (x : Place). IsPlace seen.keypos seen.objects key x) e h.1)

@@ -12,5 +12,6 @@ pub mod Place
 pub mod Specification
 pub mod Step
 pub mod Table
+pub mod Unless
 pub mod Update
 pub mod Variable

@@ -1,8 +1,7 @@
 -- Where a key stands in a table, or would stand, and the lists that stand around it.
-use Rattle.std.specs.Prelude.{◌≡◌, ℕ, ◌+◌, ◌<◌, ◌≤◌, List, [], ◌∷◌, length, take, drop, slice_set, slice_index_or, Option, None, Some, Result, Ok, Err}
+use Rattle.std.specs.Prelude.{◌≡◌, ℕ, ◌+◌, ◌<◌, ◌≤◌, List, [], ◌∷◌, length, take, drop, slice_set, slice_index_or}
 use Rattle.std.specs.List.{insert, remove}
 use Rattle.ca_term.specs.Tree.{Tree, Nil}
-use Rattle.ca_ets.specs.declared.command.Fault.{Fault}
 use Rattle.ca_ets.specs.declared.table.Place.{Place}
 use Rattle.ca_ets.specs.declared.table.Place.TheVariants.{At, Before}
 use Rattle.ca_ets.specs.OrderedMap.{below, get, above, del}
@@ -26,11 +25,6 @@ pub record IsBefore (keypos : ℕ) (map : List Tree) (k : Tree) (at : ℕ) : Typ
 abbrev pub IsPlace : ℕ → List Tree → Tree → Place → Type 0
 IsPlace keypos map k (At at) = IsAt keypos map k at
 IsPlace keypos map k (Before at) = IsBefore keypos map k at
-
--- A place that is so, or the fault for which none is looked for.
-abbrev pub IsPlaceUnless : Option Fault → (Place → Type 0) → Result Place Fault → Type 0
-IsPlaceUnless fault so (Ok place) = (fault ≡ None) × so place
-IsPlaceUnless fault so (Err found) = fault ≡ Some found
 
 -- the list with an object at this place: in the place of another one, or between two
 abbrev pub placed : List Tree → Place → Tree → List Tree

@@ -5,7 +5,8 @@ ghost use Rattle.ca_term.specs.Object.{key_of};
 ghost use Rattle.ca_term.specs.Tree.{Nil};
 ghost use Rattle.ca_ets.specs.Command.{Continuation, IsContinuation, continuation_of};
 ghost use Rattle.ca_ets.specs.OrderedMap.{IsTable};
-ghost use Rattle.ca_ets.specs.Place.{IsInRange, IsPlace, IsPlaceUnless, placed};
+ghost use Rattle.ca_ets.specs.Place.{IsInRange, IsPlace, placed};
+ghost use Rattle.ca_ets.specs.Unless.{IsUnless};
 ghost use Rattle.ca_ets.specs.Step.{fault_of_key, fault_of_object, step, step_of_delete, step_of_insert, step_of_insert_new, step_of_lookup, step_of_member, step_of_reply, step_of_take, step_of_update_counter, step_of_update_element};
 ghost use Rattle.ca_ets.specs.Update.{element_of, operations_of};
 
@@ -246,7 +247,7 @@ impl ListTable {
 
     // Where the key of a command stands, or why it is refused.
     fn key_place(&self, k: &Term) -> Result<Place, Fault>
-        ensures { IsPlaceUnless (fault_of_key k.now) (IsPlace self.now.keypos self.now.objects k.now) result }
+        ensures { IsUnless (fault_of_key k.now) (IsPlace self.now.keypos self.now.objects k.now) result }
     {
         if !fits(k) {
             return Err(Fault::Size);
@@ -257,7 +258,7 @@ impl ListTable {
     // Where the key of a command's object stands, or why the object is refused.
     #[tactic(auto, using(crate::proofs::Steps::leaving))]
     fn object_place(&self, object: &Term) -> Result<Place, Fault>
-        ensures { IsPlaceUnless (fault_of_object self.now.keypos object.now)
+        ensures { IsUnless (fault_of_object self.now.keypos object.now)
             (IsPlace self.now.keypos self.now.objects (key_of self.now.keypos object.now)) result }
     {
         let Some(k) = key(object, self.keypos) else {

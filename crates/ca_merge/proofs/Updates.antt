@@ -4,7 +4,7 @@ use Rattle.std.specs.Prelude.{Option, slice_get}
 use Rattle.std.proofs.lemmas.Bool.Decides.{nat_tests}
 use Rattle.ca_ets.specs.Merge.{items_of}
 use Rattle.ca_model.specs.History.{Edit, History, edits_of_pass}
-use Rattle.ca_model.specs.Event.{Event, Get, Write, WriteNew, Remove, Change, Entry, effect}
+use Rattle.ca_model.specs.Event.{Entry, effect}
 use Rattle.ca_model.specs.Lawful.{AreEntries, IsEntryAt, PlacesRise, IsPlaceFrom, IsLawful, edits_of_log}
 use Rattle.ca_model.proofs.Passing.{one_edit}
 

@@ -299,7 +299,10 @@ fn many_keys_whose_slots_are_used_again(rt: HostRuntime) {
         (Call::Get, (16_384, 32_768), false, None),
         (Call::Get, (0, 16_384), true, Some(false)),
     ] {
-        assert!(rt; all_answer(&mut store, call, places, Answer::Done(answer), found), "row {row}");
+        assert!(rt;
+            all_answer(&mut store, call, places, Answer::Done(answer), found),
+            "row {row}"
+        );
         row = row.wrapping_add(1);
     }
 }
@@ -308,7 +311,15 @@ fn many_keys_whose_slots_are_used_again(rt: HostRuntime) {
 fn objects_are_listed_in_the_order_of_their_keys(rt: HostRuntime) {
     let mut store = Plain::new(rt.alloc(), 1);
     assert!(rt; store.is_empty());
-    assert!(rt; all_answer(&mut store, Call::Put(0), (0, 32_768), Answer::Done(true), None));
+    assert!(rt;
+        all_answer(
+            &mut store,
+            Call::Put(0),
+            (0, 32_768),
+            Answer::Done(true),
+            None
+        )
+    );
     assert!(rt; !store.is_empty());
     let mut n = 0;
     for at in 0..store.len() {

@@ -1,14 +1,8 @@
 -- Terms of commands as the bytes that a store is handed.
-use Rattle.std.specs.Prelude.{◌≡◌, ℕ, ◌≤◌, true, List, [], ◌∷◌, length, slice_range, Option, None, Some, Result, Ok, Err}
+use Rattle.std.specs.Prelude.{◌≡◌, ℕ, ◌≤◌, true, List, [], ◌∷◌, length, slice_range}
 use Rattle.ca_term.specs.Tree.{Tree, IsTerm}
 use Rattle.ca_term.specs.Code.{code_of}
 use Rattle.ca_term.specs.Object.{is_object, key_of, fits}
-use Rattle.ca_ets.specs.declared.command.Fault.{Fault}
-
--- This holds of the value, or the fault for which there is none.
-abbrev pub IsUnless : {T : Type 0} → Option Fault → (T → Type 0) → Result T Fault → Type 0
-IsUnless fault so (Ok value) = (fault ≡ None) × so value
-IsUnless fault so (Err found) = fault ≡ Some found
 
 -- The bytes are the code of a key that fits.
 pub record HasKeyCode (key : Tree) (bytes : List ℕ) : Type 0 where

@@ -4,7 +4,8 @@ ghost use Rattle.ca_term.specs.Object.{is_object};
 ghost use Rattle.ca_term.specs.Tree.{IsTerm};
 ghost use Rattle.ca_ets.specs.Step.{fault_of_key, fault_of_object};
 ghost use Rattle.ca_order.specs.Languages.{IsTermCode};
-ghost use Rattle.ca_table.specs.Codes.{HasKeyCode, HasObjectCode, IsOnly, IsUnless};
+ghost use Rattle.ca_table.specs.Codes.{HasKeyCode, HasObjectCode, IsOnly};
+ghost use Rattle.ca_ets.specs.Unless.{IsUnless};
 
 use ca_ets::Fault;
 use ca_model::Code;

@@ -6,7 +6,8 @@ ghost use Rattle.ca_model.specs.Event.{Write, WriteNew};
 ghost use Rattle.ca_model.specs.Answer.{Got, Removed, IsDone, IsNeverDeep};
 ghost use Rattle.ca_model.specs.StoreMap.{IsPair};
 ghost use Rattle.ca_ets.specs.Step.{fault_of_object};
-ghost use Rattle.ca_table.specs.Codes.{HasObjectCode, IsUnless};
+ghost use Rattle.ca_table.specs.Codes.{HasObjectCode};
+ghost use Rattle.ca_ets.specs.Unless.{IsUnless};
 ghost use Rattle.ca_table.specs.ComesTo.{ComesTo};
 ghost use Rattle.ca_table.specs.Refusals.{IsRefusal, IsSame, RemovedSame};
 

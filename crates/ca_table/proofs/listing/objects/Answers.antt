@@ -1,4 +1,4 @@
-use Rattle.std.proofs.Common.{◌<◌, ◌≡◌, ◌+◌, ℕ, List, length, sym, ◌∙◌, subst}
+use Rattle.std.proofs.Common.{◌<◌, ◌+◌, ℕ, List, length, sym, ◌∙◌, subst}
 use Rattle.ca_term.specs.Tree.{Tree}
 use Rattle.ca_order.specs.Languages.{IsTermCode}
 use Rattle.ca_table.proofs.Listed.{AreListed, code_in, listed_more}
