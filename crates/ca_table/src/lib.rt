@@ -5,7 +5,9 @@ mod codes;
 mod laws;
 mod listing;
 mod outcome;
+mod reply;
 mod table;
+mod update;
 
 pub use laws::sure_and_alone_is_done;
 pub use listing::objects;
