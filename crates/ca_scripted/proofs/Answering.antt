@@ -8,7 +8,7 @@ use Rattle.ca_model.specs.declared.outcome.Outcome.TheVariants.{Done}
 use Rattle.ca_model.specs.declared.outcome.Changed.{Changed}
 use Rattle.ca_model.specs.declared.outcome.Changed.TheVariants as changed
 use Rattle.ca_model.specs.StoreMap.{StoreMap, IsStoreMap}
-use Rattle.ca_model.specs.History.{Edit, History, Put, Del, after, after_edit, by_pass, AreEdits}
+use Rattle.ca_model.specs.History.{Edit, History, after, after_edit, by_pass, AreEdits}
 use Rattle.ca_model.specs.Event.{Event, Get, Remove, Change, IsAnswer, effect}
 use Rattle.ca_model.specs.Known.{Known, Meets, around}
 use Rattle.ca_model.specs.Answer.{IfDone, Got, Removed, Altered, RemovedIf}

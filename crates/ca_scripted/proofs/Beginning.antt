@@ -1,7 +1,7 @@
 -- A turn that was taken: its call begins, or is refused.
-use Rattle.std.proofs.Common.{◌≡◌, ℕ, ◌+◌, ◌≤◌, ◌<◌, ◌≢◌, true, false, List, [], ◌∷◌, ◌++◌, length, drop, arith, refl, sym, ◌∙◌, ap, subst, Some, None, Option}
-use Rattle.ca_model.specs.StoreMap.{StoreMap, IsStoreMap}
-use Rattle.ca_model.specs.History.{Edit, History, after, by_pass, AreEdits, AreByPasses, AreByOthers}
+use Rattle.std.proofs.Common.{◌≡◌, ℕ, ◌+◌, ◌≤◌, ◌<◌, ◌≢◌, true, false, List, ◌++◌, length, drop, arith, refl, sym, ◌∙◌, ap, subst, Some, None}
+use Rattle.ca_model.specs.StoreMap.{StoreMap}
+use Rattle.ca_model.specs.History.{Edit, by_pass}
 use Rattle.ca_model.specs.Known.{Known, Counts, Declines}
 use Rattle.ca_scripted.specs.declared.refusal.Refusal.{Refusal}
 use Rattle.ca_scripted.specs.declared.refusal.Call.{Call}

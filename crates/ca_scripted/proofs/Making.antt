@@ -1,10 +1,10 @@
 -- Edits of others that are made in the store inside, one after another.
-use Rattle.std.proofs.Common.{◌≡◌, ℕ, ◌+◌, ◌≤◌, Bool, true, false, List, [], ◌∷◌, length, arith, refl, sym, ◌∙◌, ap, subst, Some, None, if◌then◌else◌}
+use Rattle.std.proofs.Common.{◌≡◌, ℕ, Bool, true, false, List, [], ◌∷◌, arith, refl, sym, ◌∙◌, ap, subst, if◌then◌else◌}
 use Rattle.std.specs.Prelude.{not}
 use Rattle.std.specs.Ordering.{is_eq}
 use Rattle.ca_model.specs.StoreMap.{StoreMap, bytes_cmp, get, del}
-use Rattle.ca_model.specs.History.{Edit, Put, Del, after_edit}
-use Rattle.ca_model.specs.Event.{Write, Remove}
+use Rattle.ca_model.specs.History.{Edit, Put, Del}
+use Rattle.ca_model.specs.Event.{Write}
 use Rattle.ca_model.specs.Known.{Known}
 use Rattle.ca_scripted.specs.Script.{after_edits, AreProper}
 use Rattle.ca_scripted.specs.Played.{RemovedSuch}

@@ -1,7 +1,7 @@
 -- Edits of two passes as parts of a history.
-use Rattle.std.proofs.Common.{◌≡◌, ℕ, ◌≤◌, ◌≢◌, List, [], ◌∷◌, ◌++◌, arith, refl, sym, ◌∙◌, ap}
+use Rattle.std.proofs.Common.{◌≡◌, ℕ, ◌≤◌, ◌≢◌, List, [], ◌∷◌, ◌++◌, refl, ◌∙◌, ap}
 use Rattle.ca_model.specs.StoreMap.{StoreMap}
-use Rattle.ca_model.specs.History.{Edit, Put, Del, History, after, after_edit, by_pass, IsEdit, AreEdits, AreByPasses, AreByOthers}
+use Rattle.ca_model.specs.History.{Edit, Put, Del, History, after, after_edit, by_pass, AreEdits, AreByPasses, AreByOthers}
 use Rattle.ca_scripted.specs.Script.{after_edits, AreProper}
 use Rattle.ca_scripted.proofs.Answering.{after_pass}
 

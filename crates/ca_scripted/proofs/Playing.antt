@@ -1,13 +1,13 @@
 -- A call that was begun, answered inside, and followed by the edits behind it.
-use Rattle.std.proofs.Common.{◌≡◌, ℕ, ◌+◌, ◌≤◌, ◌≢◌, true, false, List, [], ◌∷◌, ◌++◌, length, arith, refl, sym, ◌∙◌, ap, subst, Some, None, Option}
-use Rattle.ca_model.specs.StoreMap.{StoreMap, IsStoreMap}
-use Rattle.ca_model.specs.History.{Edit, History, after, by_pass, AreEdits, AreByPasses, AreByOthers}
-use Rattle.ca_model.specs.Event.{Event, Entry, IsAnswer, effect}
-use Rattle.ca_model.specs.Known.{Known, Counts, Seen, Meets, around, seen_with, place_of, IsSameStore}
+use Rattle.std.proofs.Common.{◌≡◌, ℕ, ◌+◌, ◌≤◌, ◌≢◌, List, [], ◌∷◌, ◌++◌, length, arith, sym, ◌∙◌, ap, subst, Option}
+use Rattle.ca_model.specs.StoreMap.{StoreMap}
+use Rattle.ca_model.specs.History.{Edit, after, by_pass, AreEdits, AreByPasses}
+use Rattle.ca_model.specs.Event.{Event, IsAnswer, effect}
+use Rattle.ca_model.specs.Known.{Known, Counts, Seen, Meets, around, seen_with, place_of}
 use Rattle.ca_scripted.specs.declared.refusal.Call.{Call}
-use Rattle.ca_scripted.specs.Script.{ScriptTurn, ScriptedStore, next_turn, after_edits, AreProper, AreProperTurns, count_edits}
+use Rattle.ca_scripted.specs.Script.{ScriptTurn, ScriptedStore, after_edits, AreProper, AreProperTurns}
 use Rattle.ca_scripted.specs.Played.{Plays}
-use Rattle.ca_scripted.specs.Inner.{IsReady, HasMade, Answers, IsFirstOfTwo, Begins}
+use Rattle.ca_scripted.specs.Inner.{IsReady, HasMade, Answers, Begins}
 use Rattle.ca_scripted.specs.ScriptedView.{store_with, IsKeptWith}
 use Rattle.ca_scripted.proofs.Answering.{after_pass}
 use Rattle.ca_scripted.proofs.Passes.{after_three, edits_append, passes_append, proper_edits, passes_by, others_by}

@@ -1,14 +1,13 @@
 -- The next turn of a script that is kept.
-use Rattle.std.proofs.Common.{◌≡◌, ℕ, ◌+◌, ◌≤◌, ◌<◌, List, [], ◌∷◌, length, drop, arith, refl, sym, ◌∙◌, ap, subst, Option, Some, None}
-use Rattle.ca_model.specs.History.{Edit}
-use Rattle.ca_model.specs.Known.{Known, Counts}
+use Rattle.std.proofs.Common.{◌≡◌, ℕ, ◌+◌, ◌≤◌, ◌<◌, List, [], ◌∷◌, length, drop, arith, refl, sym, ◌∙◌, ap, subst, Some}
+use Rattle.ca_model.specs.Known.{Counts}
 use Rattle.ca_scripted.specs.declared.refusal.Refusal.{Refusal}
 use Rattle.ca_scripted.specs.declared.refusal.Refusal.TheVariants as refusal
 use Rattle.ca_scripted.specs.declared.refusal.Call.{Call}
 use Rattle.ca_scripted.specs.declared.refusal.Call.TheVariants as call
-use Rattle.ca_scripted.specs.Script.{ScriptTurn, next_turn, AreProper, IsProperTurn, AreProperTurns, count_edits}
-use Rattle.ca_scripted.specs.Inner.{IsReady, HasMade, AreBelow, refusal_at}
-use Rattle.ca_scripted.specs.ScriptedView.{AreCounted, IsKeptWith}
+use Rattle.ca_scripted.specs.Script.{ScriptTurn, next_turn, IsProperTurn, AreProperTurns, count_edits}
+use Rattle.ca_scripted.specs.Inner.{AreBelow, refusal_at}
+use Rattle.ca_scripted.specs.ScriptedView.{AreCounted}
 use Rattle.ca_scripted.specs.Refusals.{one_more}
 
 next_proper : (keypos : ℕ) (turns : List ScriptTurn) → AreProperTurns keypos turns → IsProperTurn keypos (next_turn turns)

@@ -1,4 +1,4 @@
-use Rattle.std.proofs.Common.{ℕ, List, sym, ◌∙◌, ap, subst, arith, length}
+use Rattle.std.proofs.Common.{sym, ◌∙◌, subst}
 use Rattle.ca_model.specs.History.{Edit}
 use Rattle.ca_table.specs.Codes.{HasObjectCode}
 use Rattle.ca_table.proofs.KeyParts.{has_code}

@@ -1,11 +1,8 @@
 use Rattle.std.proofs.Common.{◌-◌}
 use Rattle.std.specs.List.{slice_range}
-use Rattle.ca_model.specs.Event.{Event, WriteNew}
-use Rattle.ca_model.specs.Known.{Meets}
+use Rattle.ca_model.specs.Event.{WriteNew}
 use Rattle.ca_scripted.specs.declared.refusal.Call.TheVariants as call
-use Rattle.ca_scripted.specs.Inner.{Answers}
-use Rattle.ca_scripted.specs.ScriptedView.{store_with}
-use Rattle.ca_scripted.proofs.Playing.{Comes, comes}
+use Rattle.ca_scripted.proofs.Playing.{comes}
 use Rattle.ca_scripted.proofs.scripted.ScriptedOrderedStore.put_new.Goals as goal
 
 pub returns-clause-put : goal.returns-clause-put
