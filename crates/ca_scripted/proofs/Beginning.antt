@@ -25,6 +25,7 @@ module _ (o : Known) (turns left : List ScriptTurn) (counts : Counts) (spare mad
   was : IsTaken o.keypos turns turn left
   was = taken o.keypos turns turn left kept.proper next rest
 
+  -- The edits before the call may be made.
   pub may_begin : (edits : List Edit) → edits ≡ turn.before → IsReady o edits
   may_begin edits e =
       let t = was in
@@ -47,6 +48,7 @@ module _ (o : Known) (turns left : List ScriptTurn) (counts : Counts) (spare mad
         room = omega (arith, kept.room, t.counted, makes.spare, ap (λ (es : List Edit). length es) e);
       }
 
+  -- The store is kept where the call begins.
   pub begun_kept : (q : Known) (edits : List Edit) → edits ≡ turn.before → HasMade o q edits → IsKeptWith q left counts spare made
   begun_kept q edits e makes =
       let t = was in
@@ -61,6 +63,7 @@ module _ (o : Known) (turns left : List ScriptTurn) (counts : Counts) (spare mad
   first_map : (q : Known) (edits : List Edit) → edits ≡ turn.before → HasMade o q edits → q.map ≡ after_edits turn.before o.map
   first_map q edits e makes = makes.map ∙ ap (λ (es : List Edit). after_edits es o.map) e
 
+  -- The call begins.
   pub begun : (a : ScriptedStore) (q : Known) (edits : List Edit) → store_with o turns counts spare ≡ a → edits ≡ turn.before → HasMade o q edits
       → refusal_at asked turn.refusal ≡ None → Begins a (store_with q left counts spare) asked turn
   begun a q edits view e makes none =
@@ -80,6 +83,7 @@ module _ (o : Known) (turns left : List ScriptTurn) (counts : Counts) (spare mad
         room = k.room;
       })
 
+  -- The edits behind a refused call may be made.
   pub may_end : (q : Known) (edits behind : List Edit) → edits ≡ turn.before → behind ≡ turn.after → HasMade o q edits → IsReady q behind
   may_end q edits behind e f makes =
       let t = was in
@@ -94,11 +98,13 @@ module _ (o : Known) (turns left : List ScriptTurn) (counts : Counts) (spare mad
     fewer : length left < length turns
     fewer = fewer_left asked turns turn left found next rest refuses
 
+    -- The refusal may be counted.
     pub may_be_counted : AreBelow 0xffff_ffff_ffff_ffff counts
     may_be_counted = let f = fewer in may_count turns counts made kept.counted (omega (arith, f))
 
     module _ (q r : Known) (more : Counts) (edits behind : List Edit) (e : edits ≡ turn.before) (f : behind ≡ turn.after) (makes : HasMade o q edits)
         (ends : HasMade q r behind) (rises : more ≡ one_more found counts) where
+      -- The store is kept where the call was refused.
       pub refused_kept : IsKeptWith r left more spare made
       refused_kept =
           let t = was in
@@ -142,6 +148,7 @@ module _ (o : Known) (turns left : List ScriptTurn) (counts : Counts) (spare mad
         map = last_map ∙ ap (λ (x : ScriptTurn). after_edits x.after (after_edits x.before o.map)) next;
       }
 
+      -- The call was refused, and learnt of all edits of its turn.
       pub was_refused : (a : ScriptedStore) → store_with o turns counts spare ≡ a → Refuses a (store_with r left more spare) asked found
       was_refused a view = subst (λ (x : ScriptedStore). Refuses x (store_with r left more spare) asked found) view (record {
         refusal_is = ap (λ (x : ScriptTurn). refusal_at asked x.refusal) (sym next) ∙ refuses;

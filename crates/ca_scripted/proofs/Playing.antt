@@ -27,10 +27,11 @@ module _ (a m : ScriptedStore) (o q r : Known) (turns : List ScriptTurn) (counts
   first : Begins a (store_with o turns counts spare) asked turn
   first = subst (λ (x : ScriptedStore). Begins a x asked turn) (sym view) begins
 
-  -- The call may be made, and the edits behind it.
+  -- The store inside has the same key.
   pub keypos_is : o.keypos ≡ a.known.keypos
   keypos_is = first.same.keypos
 
+  -- The edits behind the call may be made.
   pub may_follow : (event : Event) → Answers o q room event → room ≤ spare → IsReady q edits
   may_follow event answers fits =
       let start = first in
@@ -41,6 +42,7 @@ module _ (a m : ScriptedStore) (o q r : Known) (turns : List ScriptTurn) (counts
         room = omega (arith, start.room, answers.spare, ap (λ (es : List Edit). length es) behind);
       }
 
+  -- The store is kept.
   pub stays_kept : (event : Event) → Answers o q room event → HasMade q r edits → left + room ≤ spare → IsKeptWith r turns counts left made
   stays_kept event answers makes fits =
       let start = first in
@@ -51,6 +53,7 @@ module _ (a m : ScriptedStore) (o q r : Known) (turns : List ScriptTurn) (counts
         counted = kept.counted;
       }
 
+  -- The call was its event at the state behind the edits before it.
   pub comes : (event : Event) → Answers o q room event → HasMade q r edits → Comes a (store_with r turns counts left) event
   comes event answers makes =
       let start = first in

@@ -34,6 +34,7 @@ pub record IsTaken (keypos : ℕ) (turns : List ScriptTurn) (turn : ScriptTurn) 
   pub counted : count_edits turns ≡ length turn.before + length turn.after + count_edits left
   pub fewer : length left ≤ length turns
 
+-- The turn that a call takes, and those that are left.
 pub taken : (keypos : ℕ) (turns : List ScriptTurn) (turn : ScriptTurn) (left : List ScriptTurn) → AreProperTurns keypos turns → turn ≡ next_turn turns
     → left ≡ drop 1 turns → IsTaken keypos turns turn left
 taken keypos turns turn left h t l =
@@ -52,6 +53,7 @@ refusing call.Edit [] found e = cc
 refusing call.Put [] found e = cc
 refusing asked (turn ∷ turns) found e = omega arith
 
+-- So fewer turns are left.
 pub fewer_left : (asked : Call) (turns : List ScriptTurn) (turn : ScriptTurn) (left : List ScriptTurn) (found : Refusal) → turn ≡ next_turn turns
     → left ≡ drop 1 turns → refusal_at asked turn.refusal ≡ Some found → length left < length turns
 fewer_left asked turns turn left found t l e =
@@ -65,6 +67,7 @@ pub may_count : (turns : List ScriptTurn) (counts : Counts) (made : ℕ) → Are
 may_count turns counts made h some =
     (omega (arith, h.busy, h.most), omega (arith, h.full, h.most), omega (arith, h.deep, h.most), omega (arith, h.worn, h.most))
 
+-- Where turns are taken the counts stay low enough.
 pub counted_left : (turns left : List ScriptTurn) (counts : Counts) (made : ℕ) → length left ≤ length turns → AreCounted turns counts made
     → AreCounted left counts made
 counted_left turns left counts made f h = record {
@@ -75,6 +78,7 @@ counted_left turns left counts made f h = record {
   most = h.most;
 }
 
+-- A turn that refuses is counted.
 pub counted_more : (turns left : List ScriptTurn) (counts : Counts) (made : ℕ) (found : Refusal) → length left < length turns → AreCounted turns counts made
     → AreCounted left (one_more found counts) made
 counted_more turns left counts made refusal.Busy f h = record {

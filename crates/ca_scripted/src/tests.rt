@@ -1,14 +1,18 @@
 //! Every way out of a table's calls, over a store that others edit and that refuses calls. The objects are `{Key, Number}`; at the start there
 //! are `{1, 10}` and `{2, 20}`, and what is told afterwards are the numbers of the keys 1, 2 and 3.
-ghost use Rattle.std.specs.Prelude.{◌≡◌, ◌≤◌, IfSome};
+ghost use Rattle.std.specs.Prelude.{◌≡◌, ◌≤◌, length, IfSome, IsTrue};
+ghost use Rattle.ca_term.specs.declared.bounds.TheConstants.{MOST_CODE_BYTES};
+ghost use Rattle.ca_model.specs.StoreMap.{IsPair};
+ghost use Rattle.ca_model.specs.Function.{StandsAt};
+ghost use Rattle.ca_scripted.specs.Samples.{HasKeyAt};
 ghost use Rattle.ca_term.specs.Object.{is_object};
 ghost use Rattle.ca_term.specs.Tree.{IsTerm};
 ghost use Rattle.ca_scripted.specs.Script.{IsProper, AreProper};
 
 use super::*;
 use ca_ets::{Fault, Reply};
-use ca_model::{Code, Counter, FullCause, Outcome};
-use ca_order::{encode, object_parts};
+use ca_model::{Changed, Code, Counter, FullCause, OrderedStore, Outcome};
+use ca_order::{decode, encode, object_parts};
 use ca_table::{Played, Table};
 use ca_term::{Kind, Term, TermFault, Terms, int, nil, tuple};
 use std::alloc::Global;
@@ -52,8 +56,8 @@ type TurnRow = (Edits, Option<Refusal>, Edits);
 
 const QUIET: TurnRow = (&[], None, &[]);
 
-// The numbers of the keys 1, 2 and 3.
-type Numbers = [Answer; 3];
+// The numbers of the keys 1, 2 and 3, with 0 where there is no object.
+type Numbers = [i64; 3];
 
 fn object(alloc: Global, key: i64, number: i64) -> Result<Term, TermFault> {
     let mut items = Terms::new(alloc);
@@ -73,19 +77,30 @@ fn is_object(object: &Term, keypos: u32) -> bool
     }
 }
 
+// Writes an object's code: where its key's code stands in it.
+fn place(object: &Term, keypos: u32, code: &mut Code) -> Option<(usize, usize)>
+    requires { 1 ≤ keypos }
+    ensures { IfSome result (λ key. HasKeyAt keypos code.new.items key.0 key.1) }
+{
+    if !is_object(object, keypos) {
+        return None;
+    }
+    let Ok(()) = encode(object, code) else {
+        return None;
+    };
+    let Some((start, end)) = object_parts(code.as_slice(), keypos) else {
+        return None;
+    };
+    Some((start, end))
+}
+
 // An edit that puts this object.
 fn put_edit(object: &Term, keypos: u32) -> Option<Foreign>
     requires { 1 ≤ keypos }
     ensures { IfSome result (λ edit. IsProper keypos edit) }
 {
-    if !is_object(object, keypos) {
-        return None;
-    }
     let mut code = Code::new();
-    let Ok(()) = encode(object, &mut code) else {
-        return None;
-    };
-    let Some((start, end)) = object_parts(code.as_slice(), keypos) else {
+    let Some((start, end)) = place(object, keypos, &mut code) else {
         return None;
     };
     Some(Foreign::put(code.as_slice(), start, end))
@@ -219,131 +234,111 @@ fn start(alloc: Global, rows: &[TurnRow]) -> Option<Table<Scripted>> {
     Some(Table::new(store, keypos))
 }
 
+fn number_now(alloc: Global, table: &mut Table<Scripted>, key: i64) -> i64 {
+    match play(alloc, table, Call::Lookup, key) {
+        Answer::Nothing => 0,
+        Answer::Number(number) => number,
+        _ => -1,
+    }
+}
+
 fn numbers(alloc: Global, table: &mut Table<Scripted>) -> Numbers {
     [
-        play(alloc, table, Call::Lookup, 1),
-        play(alloc, table, Call::Lookup, 2),
-        play(alloc, table, Call::Lookup, 3),
+        number_now(alloc, table, 1),
+        number_now(alloc, table, 2),
+        number_now(alloc, table, 3),
     ]
 }
 
 // What a call with this key comes to under this script, and the numbers afterwards.
 fn outcome(alloc: Global, rows: &[TurnRow], call: Call, key: i64) -> (Answer, Numbers) {
     let Some(mut table) = start(alloc, rows) else {
-        return (Answer::Other, [Answer::Other; 3]);
+        return (Answer::Other, [-1; 3]);
     };
     let answer = play(alloc, &mut table, call, key);
     (answer, numbers(alloc, &mut table))
 }
 
-const TEN: Answer = Answer::Number(10);
+const YES: Answer = Answer::Truth(true);
 
-const TWENTY: Answer = Answer::Number(20);
-
-const NINETY_NINE: Answer = Answer::Number(99);
+const NO: Answer = Answer::Truth(false);
 
 const NONE: Answer = Answer::Nothing;
+
+const TEN: Answer = Answer::Number(10);
+
+const LOST: Answer = Answer::Busy(1);
+
+const REFUSALS: [(Refusal, Answer); 4] = [
+    (Refusal::Busy, Answer::Busy(BUDGET)),
+    (Refusal::Full(CAUSE), Answer::Full(CAUSE)),
+    (Refusal::Deep(7), Answer::Deep(7)),
+    (Refusal::Worn(Counter::Epoch), Answer::Worn(Counter::Epoch)),
+];
+
+// The edits before a call and those behind it; afterwards the numbers are 10, none and 31.
+const BEFORE: Edits = &[(3, Some(30)), (2, None)];
+
+const AFTER: Edits = &[(3, Some(31))];
 
 #[test]
 fn a_call_that_is_refused_edits_nothing_and_learns_of_all_edits_of_its_turn(rt: HostRuntime) {
     let alloc = rt.alloc();
-    let before: Edits = &[(3, Some(30)), (2, None)];
-    let after: Edits = &[(3, Some(31))];
-    let learnt = [TEN, NONE, Answer::Number(31)];
-    for (refusal, answer) in [
-        (Refusal::Busy, Answer::Busy(BUDGET)),
-        (Refusal::Full(CAUSE), Answer::Full(CAUSE)),
-        (Refusal::Deep(7), Answer::Deep(7)),
-        (Refusal::Worn(Counter::Epoch), Answer::Worn(Counter::Epoch)),
-    ] {
-        let turn = (before, Some(refusal), after);
-        // A put may be refused by each.
-        for (call, key) in [
-            (Call::Insert, 1),
-            (Call::Insert, 4),
-            (Call::InsertNew, 1),
-            (Call::InsertNew, 4),
-        ] {
-            assert_eq!(rt;
-                outcome(alloc, &[turn], call, key),
-                (answer, learnt),
-                "{refusal:?}"
-            );
+    for (refusal, answer) in REFUSALS {
+        let turn = (BEFORE, Some(refusal), AFTER);
+        let deep = refusal == Refusal::Deep(7);
+        let refused = (answer, [10, 0, 31]);
+        for (call, key) in [(Call::Insert, 1), (Call::Insert, 4)] {
+            assert_eq!(rt; outcome(alloc, &[turn], call, key), refused);
+        }
+        for (call, key) in [(Call::InsertNew, 1), (Call::InsertNew, 4)] {
+            assert_eq!(rt; outcome(alloc, &[turn], call, key), refused);
         }
         // A removal is never refused for want of levels.
-        let mut removed = (answer, learnt);
-        let mut taken = (answer, learnt);
-        if let Refusal::Deep(_) = refusal {
-            removed = (Answer::Truth(true), [NONE, NONE, Answer::Number(31)]);
-            taken = (TEN, [NONE, NONE, Answer::Number(31)]);
+        let removed = if deep { (YES, [0, 0, 31]) } else { refused };
+        assert_eq!(rt; outcome(alloc, &[turn], Call::Delete, 1), removed);
+        let taken = if deep { (TEN, [0, 0, 31]) } else { refused };
+        assert_eq!(rt; outcome(alloc, &[QUIET, turn], Call::Take, 1), taken);
+    }
+}
+
+#[test]
+fn a_read_is_never_refused_and_learns_of_all_edits_of_its_turn(rt: HostRuntime) {
+    let alloc = rt.alloc();
+    for (refusal, _) in REFUSALS {
+        let turn = (BEFORE, Some(refusal), AFTER);
+        for (call, key, answer) in [
+            (Call::Lookup, 1, TEN),
+            (Call::Lookup, 2, NONE),
+            (Call::Lookup, 3, Answer::Number(30)),
+            (Call::Member, 2, NO),
+            (Call::Member, 3, YES),
+            (Call::Take, 2, NONE),
+        ] {
+            assert_eq!(rt; outcome(alloc, &[turn], call, key), (answer, [10, 0, 31]));
         }
-        assert_eq!(rt;
-            outcome(alloc, &[turn], Call::Delete, 1),
-            removed,
-            "{refusal:?}"
-        );
-        assert_eq!(rt;
-            outcome(alloc, &[QUIET, turn], Call::Take, 1),
-            taken,
-            "{refusal:?}"
-        );
-        // A read is never refused, also that of `take`.
-        assert_eq!(rt;
-            outcome(alloc, &[turn], Call::Lookup, 1),
-            (TEN, learnt),
-            "{refusal:?}"
-        );
-        assert_eq!(rt;
-            outcome(alloc, &[turn], Call::Member, 2),
-            (Answer::Truth(false), learnt),
-            "{refusal:?}"
-        );
-        assert_eq!(rt;
-            outcome(alloc, &[turn, QUIET], Call::Take, 1),
-            (TEN, [NONE, NONE, Answer::Number(31)]),
-            "{refusal:?}"
-        );
-        assert_eq!(rt;
-            outcome(alloc, &[turn], Call::Take, 4),
-            (NONE, learnt),
-            "{refusal:?}"
-        );
+        // The read of `take` isn't either; its removal has the next turn.
+        let taken = outcome(alloc, &[turn, QUIET], Call::Take, 1);
+        assert_eq!(rt; taken, (TEN, [0, 0, 31]));
     }
 }
 
 #[test]
 fn take_is_overtaken_by_another_object_under_its_key_and_by_nothing_else(rt: HostRuntime) {
     let alloc = rt.alloc();
-    let lost = Answer::Busy(1);
-    // The edits before the read, between the read and the removal (behind the one or before the other), and behind the removal.
+    // The edits before the read and behind it, and those before the removal and behind it.
     let rows: [(Edits, Edits, Edits, Edits, i64, Answer, Numbers); 14] = [
-        (&[], &[], &[], &[], 1, TEN, [NONE, TWENTY, NONE]),
-        (
-            &[],
-            &[(1, Some(11))],
-            &[],
-            &[],
-            1,
-            lost,
-            [Answer::Number(11), TWENTY, NONE],
-        ),
-        (
-            &[],
-            &[],
-            &[(1, Some(11))],
-            &[],
-            1,
-            lost,
-            [Answer::Number(11), TWENTY, NONE],
-        ),
+        (&[], &[], &[], &[], 1, TEN, [0, 20, 0]),
+        (&[], &[(1, Some(11))], &[], &[], 1, LOST, [11, 20, 0]),
+        (&[], &[], &[(1, Some(11))], &[], 1, LOST, [11, 20, 0]),
         (
             &[],
             &[(1, Some(11))],
             &[],
             &[(1, Some(10))],
             1,
-            lost,
-            [TEN, TWENTY, NONE],
+            LOST,
+            [10, 20, 0],
         ),
         (
             &[],
@@ -352,27 +347,19 @@ fn take_is_overtaken_by_another_object_under_its_key_and_by_nothing_else(rt: Hos
             &[],
             1,
             TEN,
-            [NONE, TWENTY, NONE],
+            [0, 20, 0],
         ),
-        (
-            &[],
-            &[(1, None)],
-            &[(1, Some(10))],
-            &[],
-            1,
-            TEN,
-            [NONE, TWENTY, NONE],
-        ),
+        (&[], &[(1, None)], &[(1, Some(10))], &[], 1, TEN, [0, 20, 0]),
         (
             &[],
             &[(1, None)],
             &[(1, Some(12))],
             &[],
             1,
-            lost,
-            [Answer::Number(12), TWENTY, NONE],
+            LOST,
+            [12, 20, 0],
         ),
-        (&[], &[(1, None)], &[], &[], 1, NONE, [NONE, TWENTY, NONE]),
+        (&[], &[(1, None)], &[], &[], 1, NONE, [0, 20, 0]),
         (
             &[],
             &[],
@@ -380,7 +367,7 @@ fn take_is_overtaken_by_another_object_under_its_key_and_by_nothing_else(rt: Hos
             &[(1, Some(12))],
             1,
             NONE,
-            [Answer::Number(12), TWENTY, NONE],
+            [12, 20, 0],
         ),
         (
             &[],
@@ -389,7 +376,7 @@ fn take_is_overtaken_by_another_object_under_its_key_and_by_nothing_else(rt: Hos
             &[],
             1,
             TEN,
-            [NONE, Answer::Number(21), Answer::Number(30)],
+            [0, 21, 30],
         ),
         (
             &[(1, Some(11))],
@@ -398,36 +385,17 @@ fn take_is_overtaken_by_another_object_under_its_key_and_by_nothing_else(rt: Hos
             &[],
             1,
             Answer::Number(11),
-            [NONE, TWENTY, NONE],
+            [0, 20, 0],
         ),
-        (&[(1, None)], &[], &[], &[], 1, NONE, [NONE, TWENTY, NONE]),
-        (
-            &[],
-            &[],
-            &[],
-            &[(1, Some(12))],
-            1,
-            TEN,
-            [Answer::Number(12), TWENTY, NONE],
-        ),
-        (
-            &[],
-            &[(3, Some(30))],
-            &[],
-            &[],
-            3,
-            NONE,
-            [TEN, TWENTY, Answer::Number(30)],
-        ),
+        (&[(1, None)], &[], &[], &[], 1, NONE, [0, 20, 0]),
+        (&[], &[], &[], &[(1, Some(12))], 1, TEN, [12, 20, 0]),
+        (&[], &[(3, Some(30))], &[], &[], 3, NONE, [10, 20, 30]),
     ];
     let mut row = 0_u32;
     for (first, behind, before, last, key, answer, left) in rows {
         let script = [(first, None, behind), (before, None, last)];
-        assert_eq!(rt;
-            outcome(alloc, &script, Call::Take, key),
-            (answer, left),
-            "row {row}"
-        );
+        let taken = outcome(alloc, &script, Call::Take, key);
+        assert_eq!(rt; taken, (answer, left), "row {row}");
         row = row.wrapping_add(1);
     }
 }
@@ -435,171 +403,67 @@ fn take_is_overtaken_by_another_object_under_its_key_and_by_nothing_else(rt: Hos
 #[test]
 fn each_call_answers_by_the_state_behind_the_edits_before_it(rt: HostRuntime) {
     let alloc = rt.alloc();
-    let yes = Answer::Truth(true);
-    let no = Answer::Truth(false);
-    let thirty = Answer::Number(30);
     let rows: [(Call, i64, Edits, Edits, Answer, Numbers); 20] = [
-        (
-            Call::Insert,
-            1,
-            &[(1, Some(11))],
-            &[],
-            yes,
-            [NINETY_NINE, TWENTY, NONE],
-        ),
-        (
-            Call::Insert,
-            1,
-            &[(1, None)],
-            &[],
-            yes,
-            [NINETY_NINE, TWENTY, NONE],
-        ),
-        (
-            Call::Insert,
-            1,
-            &[],
-            &[(1, Some(12))],
-            yes,
-            [Answer::Number(12), TWENTY, NONE],
-        ),
-        (Call::Insert, 3, &[], &[(3, None)], yes, [TEN, TWENTY, NONE]),
-        (
-            Call::InsertNew,
-            3,
-            &[],
-            &[],
-            yes,
-            [TEN, TWENTY, NINETY_NINE],
-        ),
-        (
-            Call::InsertNew,
-            3,
-            &[(3, Some(30))],
-            &[],
-            no,
-            [TEN, TWENTY, thirty],
-        ),
-        (
-            Call::InsertNew,
-            3,
-            &[],
-            &[(3, Some(30))],
-            yes,
-            [TEN, TWENTY, thirty],
-        ),
+        (Call::Insert, 1, &[(1, Some(11))], &[], YES, [99, 20, 0]),
+        (Call::Insert, 1, &[(1, None)], &[], YES, [99, 20, 0]),
+        (Call::Insert, 1, &[], &[(1, Some(12))], YES, [12, 20, 0]),
+        (Call::Insert, 3, &[], &[(3, None)], YES, [10, 20, 0]),
+        (Call::InsertNew, 3, &[], &[], YES, [10, 20, 99]),
+        (Call::InsertNew, 3, &[(3, Some(30))], &[], NO, [10, 20, 30]),
+        (Call::InsertNew, 3, &[], &[(3, Some(30))], YES, [10, 20, 30]),
         (
             Call::InsertNew,
             3,
             &[(3, Some(30)), (3, None)],
             &[],
-            yes,
-            [TEN, TWENTY, NINETY_NINE],
+            YES,
+            [10, 20, 99],
         ),
-        (
-            Call::InsertNew,
-            1,
-            &[(1, None)],
-            &[],
-            yes,
-            [NINETY_NINE, TWENTY, NONE],
-        ),
-        (
-            Call::InsertNew,
-            1,
-            &[],
-            &[(1, None)],
-            no,
-            [NONE, TWENTY, NONE],
-        ),
+        (Call::InsertNew, 1, &[(1, None)], &[], YES, [99, 20, 0]),
+        (Call::InsertNew, 1, &[], &[(1, None)], NO, [0, 20, 0]),
         (
             Call::Lookup,
             1,
             &[(1, Some(11))],
             &[(1, Some(12))],
             Answer::Number(11),
-            [Answer::Number(12), TWENTY, NONE],
+            [12, 20, 0],
         ),
-        (
-            Call::Lookup,
-            1,
-            &[(1, None)],
-            &[],
-            NONE,
-            [NONE, TWENTY, NONE],
-        ),
-        (
-            Call::Lookup,
-            3,
-            &[],
-            &[(3, Some(30))],
-            NONE,
-            [TEN, TWENTY, thirty],
-        ),
+        (Call::Lookup, 1, &[(1, None)], &[], NONE, [0, 20, 0]),
+        (Call::Lookup, 3, &[], &[(3, Some(30))], NONE, [10, 20, 30]),
         (
             Call::Member,
             3,
             &[(3, Some(30))],
             &[(3, None)],
-            yes,
-            [TEN, TWENTY, NONE],
+            YES,
+            [10, 20, 0],
         ),
         (
             Call::Member,
             1,
             &[(1, None)],
             &[(1, Some(12))],
-            no,
-            [Answer::Number(12), TWENTY, NONE],
+            NO,
+            [12, 20, 0],
         ),
-        (
-            Call::Delete,
-            1,
-            &[(1, Some(11))],
-            &[],
-            yes,
-            [NONE, TWENTY, NONE],
-        ),
-        (
-            Call::Delete,
-            1,
-            &[],
-            &[(1, Some(12))],
-            yes,
-            [Answer::Number(12), TWENTY, NONE],
-        ),
-        (
-            Call::Delete,
-            3,
-            &[(3, Some(30))],
-            &[],
-            yes,
-            [TEN, TWENTY, NONE],
-        ),
-        (
-            Call::Delete,
-            3,
-            &[],
-            &[(3, Some(30))],
-            yes,
-            [TEN, TWENTY, thirty],
-        ),
+        (Call::Delete, 1, &[(1, Some(11))], &[], YES, [0, 20, 0]),
+        (Call::Delete, 1, &[], &[(1, Some(12))], YES, [12, 20, 0]),
+        (Call::Delete, 3, &[(3, Some(30))], &[], YES, [10, 20, 0]),
+        (Call::Delete, 3, &[], &[(3, Some(30))], YES, [10, 20, 30]),
         (
             Call::Delete,
             3,
             &[(2, None), (4, None)],
             &[],
-            yes,
-            [TEN, NONE, NONE],
+            YES,
+            [10, 0, 0],
         ),
     ];
     let mut row = 0_u32;
     for (call, key, before, after, answer, left) in rows {
-        assert_eq!(rt;
-            outcome(alloc, &[(before, None, after)], call, key),
-            (answer, left),
-            "row {row}"
-        );
+        let done = outcome(alloc, &[(before, None, after)], call, key);
+        assert_eq!(rt; done, (answer, left), "row {row}");
         row = row.wrapping_add(1);
     }
 }
@@ -607,10 +471,10 @@ fn each_call_answers_by_the_state_behind_the_edits_before_it(rt: HostRuntime) {
 #[test]
 fn each_call_takes_one_turn_and_behind_the_last_one_nothing_is_learnt_or_refused(rt: HostRuntime) {
     let alloc = rt.alloc();
-    let script = [
+    let script: [TurnRow; 4] = [
         QUIET,
-        (&[] as Edits, Some(Refusal::Busy), &[] as Edits),
-        (&[], Some(Refusal::Full(CAUSE)), &[(3, Some(30))]),
+        (&[], Some(Refusal::Busy), &[]),
+        (&[], Some(Refusal::Full(CAUSE)), AFTER),
         (&[(2, None)], Some(Refusal::Busy), &[]),
     ];
     let Some(mut table) = start(alloc, &script) else {
@@ -618,23 +482,20 @@ fn each_call_takes_one_turn_and_behind_the_last_one_nothing_is_learnt_or_refused
         return;
     };
     for (call, key, answer) in [
-        (Call::Insert, 1, Answer::Truth(true)),
+        (Call::Insert, 1, YES),
         (Call::Insert, 1, Answer::Busy(BUDGET)),
         (Call::InsertNew, 4, Answer::Full(CAUSE)),
-        (Call::Lookup, 1, NINETY_NINE),
-        (Call::Insert, 4, Answer::Truth(true)),
-        (Call::Take, 4, NINETY_NINE),
+        (Call::Lookup, 1, Answer::Number(99)),
+        (Call::Insert, 4, YES),
+        (Call::Take, 4, Answer::Number(99)),
     ] {
         assert_eq!(rt; play(alloc, &mut table, call, key), answer);
     }
-    assert_eq!(rt;
-        numbers(alloc, &mut table),
-        [NINETY_NINE, NONE, Answer::Number(30)]
-    );
+    assert_eq!(rt; numbers(alloc, &mut table), [99, 0, 31]);
 }
 
 #[test]
-fn a_command_that_is_refused_by_the_table_takes_no_turn(rt: HostRuntime) {
+fn a_command_that_the_table_refuses_takes_no_turn(rt: HostRuntime) {
     let alloc = rt.alloc();
     let Some(mut table) = start(alloc, &[(&[(1, None)], Some(Refusal::Busy), &[])]) else {
         assert!(rt; false);
@@ -648,5 +509,96 @@ fn a_command_that_is_refused_by_the_table_takes_no_turn(rt: HostRuntime) {
         play(alloc, &mut table, Call::Delete, 1),
         Answer::Busy(BUDGET)
     );
-    assert_eq!(rt; numbers(alloc, &mut table), [NONE, TWENTY, NONE]);
+    assert_eq!(rt; numbers(alloc, &mut table), [0, 20, 0]);
+}
+
+// Writes this object in the place of its key's, where `yes` says so.
+fn change(
+    store: &mut Scripted,
+    key: &[u8],
+    object: &[u8],
+    start: usize,
+    yes: bool,
+    old: &mut Code,
+) -> Outcome<Changed>
+    requires pair { IsPair store.old.known.keypos (key.now, object.now) }
+    requires stands { StandsAt key.now object.now start }
+    requires length { (1 ≤ length key.now) × (length key.now ≤ MOST_CODE_BYTES) }
+{
+    let keypos = store.keypos();
+    let write = |_found: &[u8], into: &mut Code, at: &mut usize| -> bool
+        requires pair { IsPair keypos (key.now, object.now) }
+        requires stands { StandsAt key.now object.now start }
+        ensures { IsTrue result → IsPair keypos (key.entry.now, into.new.items) × StandsAt key.entry.now into.new.items at.new }
+    {
+        let _ = (keypos, key);
+        into.clear();
+        let Ok(()) = into.try_extend_from_slice(object) else {
+            return false;
+        };
+        *at = start;
+        yes
+    };
+    store.change(key, &write, old, BUDGET)
+}
+
+// What a change of this key's object to the number 77 comes to: the answer, the number of the object that it found, and the numbers afterwards.
+fn changed(alloc: Global, turn: TurnRow, key: i64, yes: bool) -> Option<(Answer, i64, Numbers)> {
+    let mut store = start(alloc, &[turn])?.into_store();
+    let object = object(alloc, key, 77).ok()?;
+    let keypos = store.keypos();
+    let mut code = Code::new();
+    let mut old = Code::new();
+    let Some((start, end)) = place(&object, keypos, &mut code) else {
+        return None;
+    };
+    let bytes = code.as_slice();
+    if start == end {
+        return None;
+    }
+    let answer = match change(&mut store, &bytes[start..end], bytes, start, yes, &mut old) {
+        Outcome::Done(Changed::Put) => YES,
+        Outcome::Done(Changed::Kept) => NO,
+        Outcome::Done(Changed::Absent) => NONE,
+        Outcome::Busy(spent) => Answer::Busy(spent.lost),
+        Outcome::Full(cause) => Answer::Full(cause),
+        Outcome::Deep(level) => Answer::Deep(level),
+        Outcome::Worn(counter) => Answer::Worn(counter),
+    };
+    let found = match decode(alloc, old.as_slice()) {
+        Ok(object) => number(&object),
+        Err(_) => Answer::Number(0),
+    };
+    let Answer::Number(found) = found else {
+        return None;
+    };
+    let mut table = Table::new(store, keypos);
+    Some((answer, found, numbers(alloc, &mut table)))
+}
+
+#[test]
+fn a_change_is_handed_the_object_that_the_edits_before_it_leave(rt: HostRuntime) {
+    let alloc = rt.alloc();
+    let rows: [(Edits, Edits, i64, bool, Answer, i64, Numbers); 6] = [
+        (&[], &[], 1, true, YES, 10, [77, 20, 0]),
+        (&[(1, Some(11))], &[], 1, true, YES, 11, [77, 20, 0]),
+        (&[], &[(1, Some(12))], 1, true, YES, 10, [12, 20, 0]),
+        (&[(1, Some(11))], &[], 1, false, NO, 11, [11, 20, 0]),
+        (&[(1, None)], &[], 1, true, NONE, 0, [0, 20, 0]),
+        (&[], &[(3, Some(30))], 3, true, NONE, 0, [10, 20, 30]),
+    ];
+    let mut row = 0_u32;
+    for (before, after, key, yes, answer, found, left) in rows {
+        let done = changed(alloc, (before, None, after), key, yes);
+        assert_eq!(rt; done, Some((answer, found, left)), "row {row}");
+        row = row.wrapping_add(1);
+    }
+    for (refusal, answer) in REFUSALS {
+        let done = changed(alloc, (BEFORE, Some(refusal), AFTER), 1, true);
+        let mut want = (answer, 0, [10, 0, 31]);
+        if refusal == Refusal::Deep(7) {
+            want = (YES, 10, [77, 0, 31]);
+        }
+        assert_eq!(rt; done, Some(want));
+    }
 }
