@@ -531,7 +531,8 @@ fn change(
         requires stands { StandsAt key.now object.now start }
         ensures { IsTrue result → IsPair keypos (key.entry.now, into.new.items) × StandsAt key.entry.now into.new.items at.new }
     {
-        let _ = (keypos, key);
+        let _keypos = keypos;
+        let _key = key;
         into.clear();
         let Ok(()) = into.try_extend_from_slice(object) else {
             return false;
@@ -540,6 +541,18 @@ fn change(
         yes
     };
     store.change(key, &write, old, BUDGET)
+}
+
+fn told_change(outcome: Outcome<Changed>) -> Answer {
+    match outcome {
+        Outcome::Done(Changed::Put) => YES,
+        Outcome::Done(Changed::Kept) => NO,
+        Outcome::Done(Changed::Absent) => NONE,
+        Outcome::Busy(spent) => Answer::Busy(spent.lost),
+        Outcome::Full(cause) => Answer::Full(cause),
+        Outcome::Deep(level) => Answer::Deep(level),
+        Outcome::Worn(counter) => Answer::Worn(counter),
+    }
 }
 
 // What a change of this key's object to the number 77 comes to: the answer, the number of the object that it found, and the numbers afterwards.
@@ -556,15 +569,7 @@ fn changed(alloc: Global, turn: TurnRow, key: i64, yes: bool) -> Option<(Answer,
     if start == end {
         return None;
     }
-    let answer = match change(&mut store, &bytes[start..end], bytes, start, yes, &mut old) {
-        Outcome::Done(Changed::Put) => YES,
-        Outcome::Done(Changed::Kept) => NO,
-        Outcome::Done(Changed::Absent) => NONE,
-        Outcome::Busy(spent) => Answer::Busy(spent.lost),
-        Outcome::Full(cause) => Answer::Full(cause),
-        Outcome::Deep(level) => Answer::Deep(level),
-        Outcome::Worn(counter) => Answer::Worn(counter),
-    };
+    let done = change(&mut store, &bytes[start..end], bytes, start, yes, &mut old);
     let found = match decode(alloc, old.as_slice()) {
         Ok(object) => number(&object),
         Err(_) => Answer::Number(0),
@@ -572,8 +577,9 @@ fn changed(alloc: Global, turn: TurnRow, key: i64, yes: bool) -> Option<(Answer,
     let Answer::Number(found) = found else {
         return None;
     };
+    let keypos = store.keypos();
     let mut table = Table::new(store, keypos);
-    Some((answer, found, numbers(alloc, &mut table)))
+    Some((told_change(done), found, numbers(alloc, &mut table)))
 }
 
 #[test]
