@@ -1,11 +1,11 @@
 -- A turn that is added to a script, with room for its edits.
-use Rattle.std.proofs.Common.{◌≡◌, ℕ, ◌+◌, ◌≤◌, ◌<◌, ◌^◌, List, [], ◌∷◌, ◌++◌, length, length-append, arith, refl, sym, ◌∙◌, ap, subst}
+use Rattle.std.proofs.Common.{◌≡◌, ℕ, ◌+◌, ◌≤◌, ◌<◌, ◌^◌, List, [], ◌∷◌, ◌++◌, length, length-append, arith, sym, ◌∙◌, ap, subst}
 use Rattle.ca_model.specs.StoreMap.{StoreMap, IsStoreMap}
 use Rattle.ca_model.specs.History.{Edit}
 use Rattle.ca_model.specs.Known.{Known, Counts, Stays}
-use Rattle.ca_scripted.specs.Script.{ScriptTurn, AreProper, IsProperTurn, AreProperTurns, count_edits}
+use Rattle.ca_scripted.specs.Script.{ScriptTurn, IsProperTurn, AreProperTurns, count_edits}
 use Rattle.ca_scripted.specs.Inner.{IsInner}
-use Rattle.ca_scripted.specs.ScriptedView.{AreCounted, IsKeptWith}
+use Rattle.ca_scripted.specs.ScriptedView.{IsKeptWith}
 
 stays_inner : (a b : Known) → Stays a b → IsInner a → IsInner b
 stays_inner a b stays inner = record {

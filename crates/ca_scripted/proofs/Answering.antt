@@ -8,7 +8,7 @@ use Rattle.ca_model.specs.declared.outcome.Outcome.TheVariants.{Done}
 use Rattle.ca_model.specs.declared.outcome.Changed.{Changed}
 use Rattle.ca_model.specs.declared.outcome.Changed.TheVariants as changed
 use Rattle.ca_model.specs.StoreMap.{StoreMap, IsStoreMap}
-use Rattle.ca_model.specs.History.{Edit, History, Put, Del, after, after_edit, by_pass, AreEdits}
+use Rattle.ca_model.specs.History.{Edit, History, after, after_edit, by_pass, AreEdits}
 use Rattle.ca_model.specs.Event.{Event, Get, Remove, Change, IsAnswer, effect}
 use Rattle.ca_model.specs.Known.{Known, Meets, around}
 use Rattle.ca_model.specs.Answer.{IfDone, Got, Removed, Altered, RemovedIf}
@@ -22,6 +22,7 @@ pub after_pass : (pass : ℕ) (edits : List Edit) (m : StoreMap) → after (by_p
 after_pass pass [] m = refl
 after_pass pass (edit ∷ edits) m = after_pass pass edits (after_edit edit m)
 
+-- Edits may be made whichever pass makes them.
 pub edits_pass : (keypos p q : ℕ) (edits : List Edit) → AreEdits keypos (by_pass p edits) → AreEdits keypos (by_pass q edits)
 edits_pass keypos p q [] h = tt
 edits_pass keypos p q (edit ∷ edits) h = (h.0, edits_pass keypos p q edits h.1)
@@ -30,6 +31,7 @@ edits_pass keypos p q (edit ∷ edits) h = (h.0, edits_pass keypos p q edits h.1
 pub done_value : {T : Type 0} (r : Outcome T) (x : T) (P : T → Type 0) → r ≡ Done x → IfDone r P → P x
 done_value {T} r x P e h = subst (λ (q : Outcome T). IfDone q P) e h
 
+-- What the contract of a store says of a call, where nobody else edits.
 pub answered : (a b : Known) (room : ℕ) (event : Event) → IsInner a → a.spare ≤ b.spare + room → Meets a b event → Answers a b room event
 answered a b room event inner spare met =
     let none = met.alone inner.alone in
@@ -52,6 +54,7 @@ answered a b room event inner spare met =
       spare = spare;
     }
 
+-- The same by the answer of a call.
 module _ (a b : Known) (inner : IsInner a) (spare : a.spare ≤ b.spare) (key : List ℕ) where
   met : (event : Event) → Meets a b event → Answers a b 0 event
   met event m = answered a b 0 event inner (omega (arith, spare)) m

@@ -1,10 +1,10 @@
 -- Edits of others that are made in the store inside, one after another.
-use Rattle.std.proofs.Common.{◌≡◌, ℕ, ◌+◌, ◌≤◌, Bool, true, false, List, [], ◌∷◌, length, arith, refl, sym, ◌∙◌, ap, subst, Some, None, if◌then◌else◌}
+use Rattle.std.proofs.Common.{◌≡◌, ℕ, Bool, true, false, List, [], ◌∷◌, arith, refl, sym, ◌∙◌, ap, subst, if◌then◌else◌}
 use Rattle.std.specs.Prelude.{not}
 use Rattle.std.specs.Ordering.{is_eq}
 use Rattle.ca_model.specs.StoreMap.{StoreMap, bytes_cmp, get, del}
-use Rattle.ca_model.specs.History.{Edit, Put, Del, after_edit}
-use Rattle.ca_model.specs.Event.{Write, Remove}
+use Rattle.ca_model.specs.History.{Edit, Put, Del}
+use Rattle.ca_model.specs.Event.{Write}
 use Rattle.ca_model.specs.Known.{Known}
 use Rattle.ca_scripted.specs.Script.{after_edits, AreProper}
 use Rattle.ca_scripted.specs.Played.{RemovedSuch}
@@ -19,9 +19,11 @@ del_none (p ∷ m) k e = by (is_eq (bytes_cmp p.0 k)) e (λ none. del_none m k n
     by true none rest = cc
     by false none rest = ap (λ (ms : StoreMap). p ∷ ms) (rest none)
 
+-- An object is put.
 pub put_made : (a b : Known) (k o : List ℕ) → Answers a b 1 (Write k o) → HasMade a b (Put k o ∷ [])
 put_made a b k o h = record { inner = h.inner; keypos = h.keypos; map = h.map; spare = h.spare }
 
+-- A key is removed.
 pub removed_made : (a b : Known) (k : List ℕ) (was : Bool) (old : List ℕ) → RemovedSuch (Answers a b 0) k was old → HasMade a b (Del k ∷ [])
 removed_made a b k true old h = record { inner = h.inner; keypos = h.keypos; map = h.map; spare = omega (arith, h.spare) }
 removed_made a b k false old h = record {
@@ -31,6 +33,7 @@ removed_made a b k false old h = record {
   spare = omega (arith, h.0.spare);
 }
 
+-- No edit is made.
 pub none_made : (a : Known) → IsInner a → HasMade a a []
 none_made a inner = record { inner = inner; keypos = refl; map = refl; spare = omega arith }
 
@@ -38,6 +41,7 @@ none_made a inner = record { inner = inner; keypos = refl; map = refl; spare = o
 pub first_ready : (a : Known) (edit : Edit) (edits : List Edit) → IsReady a (edit ∷ edits) → IsReady a (edit ∷ [])
 first_ready a edit edits h = record { inner = h.inner; proper = (h.proper.0, tt); room = omega (arith, h.room) }
 
+-- Behind the first one the others may be made.
 pub rest_ready : (a b : Known) (edit : Edit) (edits : List Edit) → IsReady a (edit ∷ edits) → HasMade a b (edit ∷ []) → IsReady b edits
 rest_ready a b edit edits h made = record {
   inner = made.inner;
@@ -45,6 +49,7 @@ rest_ready a b edit edits h made = record {
   room = omega (arith, h.room, made.spare);
 }
 
+-- One edit and then others.
 pub more_made : (a b z : Known) (edit : Edit) (edits : List Edit) → HasMade a b (edit ∷ []) → HasMade b z edits → HasMade a z (edit ∷ edits)
 more_made a b z edit edits one rest = record {
   inner = rest.inner;

@@ -1,7 +1,7 @@
 -- Edits of two passes as parts of a history.
-use Rattle.std.proofs.Common.{◌≡◌, ℕ, ◌≤◌, ◌≢◌, List, [], ◌∷◌, ◌++◌, arith, refl, sym, ◌∙◌, ap}
+use Rattle.std.proofs.Common.{◌≡◌, ℕ, ◌≤◌, ◌≢◌, List, [], ◌∷◌, ◌++◌, refl, ◌∙◌, ap}
 use Rattle.ca_model.specs.StoreMap.{StoreMap}
-use Rattle.ca_model.specs.History.{Edit, Put, Del, History, after, after_edit, by_pass, IsEdit, AreEdits, AreByPasses, AreByOthers}
+use Rattle.ca_model.specs.History.{Edit, Put, Del, History, after, after_edit, by_pass, AreEdits, AreByPasses, AreByOthers}
 use Rattle.ca_scripted.specs.Script.{after_edits, AreProper}
 use Rattle.ca_scripted.proofs.Answering.{after_pass}
 
@@ -19,12 +19,14 @@ after_three p q before own behind m =
     ∙ ap (after_edits behind) (after_pass q own (after (by_pass p before) m))
     ∙ ap (λ (n : StoreMap). after_edits behind (after_edits own n)) (after_pass p before m)
 
+-- The map after edits of one pass, and then more of it.
 pub after_two : (p : ℕ) (before behind : List Edit) (m : StoreMap)
     → after (by_pass p before ++ by_pass p behind) m ≡ after_edits behind (after_edits before m)
 after_two p before behind m =
     after-append (by_pass p before) (by_pass p behind) m ∙ after_pass p behind (after (by_pass p before) m)
     ∙ ap (after_edits behind) (after_pass p before m)
 
+-- What holds of two parts of a history holds of both together.
 pub edits_append : (keypos : ℕ) (xs ys : History) → AreEdits keypos xs → AreEdits keypos ys → AreEdits keypos (xs ++ ys)
 edits_append keypos [] ys a b = b
 edits_append keypos (x ∷ xs) ys a b = (a.0, edits_append keypos xs ys a.1 b)
@@ -43,6 +45,7 @@ proper_edits keypos p [] h = tt
 proper_edits keypos p (Put k o ∷ edits) h = (h.0, proper_edits keypos p edits h.1)
 proper_edits keypos p (Del k ∷ edits) h = (tt, proper_edits keypos p edits h.1)
 
+-- Edits of one pass are of a pass with such a number, and not of another one.
 pub passes_by : (n p : ℕ) (edits : List Edit) → 1 ≤ p → p ≤ n → AreByPasses n (by_pass p edits)
 passes_by n p [] low high = tt
 passes_by n p (edit ∷ edits) low high = (low, high, passes_by n p edits low high)

@@ -12,3 +12,6 @@ pub use foreign::Foreign;
 pub use refusal::Refusal;
 pub use scripted::Scripted;
 pub use turn::Turn;
+
+#[cfg(test)]
+mod tests;

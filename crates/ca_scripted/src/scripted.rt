@@ -57,6 +57,8 @@ impl Scripted {
         requires { (1 ≤ keypos) × (keypos ≤ MOST_ELEMENTS) }
         ensures keypos { result.known.keypos ≡ keypos }
         ensures map { result.known.map ≡ [] }
+        ensures pass { result.known.pass ≡ 1 }
+        ensures passes { result.known.passes ≡ 2 }
         ensures alone { result.known.alone ≡ false }
         ensures sure { result.known.sure ≡ false }
         ensures seen { result.known.seen ≡ None }

@@ -1,4 +1,4 @@
-use Rattle.std.proofs.Common.{List, ◌∷◌, sym, subst}
+use Rattle.std.proofs.Common.{List, sym, subst}
 use Rattle.ca_model.specs.History.{Edit}
 use Rattle.ca_scripted.specs.Inner.{IsReady, HasMade}
 use Rattle.ca_scripted.proofs.Making.{first_ready, rest_ready, more_made}

@@ -1,4 +1,4 @@
-use Rattle.std.proofs.Common.{◌≡◌, ℕ, List, [], ◌∷◌, sym, ◌∙◌, ap, subst}
+use Rattle.std.proofs.Common.{◌≡◌, [], ◌∷◌, sym, ◌∙◌, ap, subst}
 use Rattle.ca_model.specs.History.{Edit, Del}
 use Rattle.ca_scripted.specs.ForeignView.{edit_with}
 use Rattle.ca_scripted.specs.Inner.{HasMade}

@@ -1,5 +1,4 @@
-use Rattle.std.proofs.Common.{◌≡◌, sym, ◌∙◌, Some}
-use Rattle.ca_scripted.specs.Inner.{refusal_at}
+use Rattle.std.proofs.Common.{sym, ◌∙◌}
 use Rattle.ca_scripted.proofs.Beginning.{was_refused}
 use Rattle.ca_scripted.proofs.scripted.Scripted.begin.Goals as goal
 

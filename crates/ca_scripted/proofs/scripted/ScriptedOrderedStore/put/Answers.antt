@@ -1,16 +1,13 @@
 use Rattle.std.proofs.Common.{◌-◌}
 use Rattle.std.specs.List.{slice_range}
-use Rattle.ca_model.specs.Event.{Event, Write}
-use Rattle.ca_model.specs.Known.{Meets}
+use Rattle.ca_model.specs.Event.{Write}
 use Rattle.ca_scripted.specs.declared.refusal.Call.TheVariants as call
-use Rattle.ca_scripted.specs.Inner.{Answers}
-use Rattle.ca_scripted.specs.ScriptedView.{store_with}
-use Rattle.ca_scripted.proofs.Playing.{Comes, comes}
+use Rattle.ca_scripted.proofs.Playing.{plays_met}
 use Rattle.ca_scripted.proofs.scripted.ScriptedOrderedStore.put.Goals as goal
 
 pub returns-clause-put : goal.returns-clause-put
 returns-clause-put c =
-    (comes c.args.self.now c.begin.new.self c.self.inside.objects c.put.new.objects c.make.new.objects c.self.inside.turns.items
-    c.self.inside.tally c.self.inside.spare (c.self.inside.spare - 1) c.self.inside.made 1 call.Put c.in-Ok.turn c.after.result.now c.self.view_is
-    c.self.invariant c.in-Ok.ensures.begins c.after.ensures
-    (Write (slice_range c.args.object.now c.args.key_at c.args.key_end) c.args.object.now) c.put.ensures c.make.ensures).meets
+    plays_met c.args.self.now c.begin.new.self c.self.inside.objects c.put.new.objects c.make.new.objects c.self.inside.turns.items
+    c.self.inside.tally c.self.inside.spare (c.self.inside.spare - 1) 1 call.Put c.in-Ok.turn c.after.result.now c.self.view_is
+    c.in-Ok.ensures.begins c.after.ensures
+    (Write (slice_range c.args.object.now c.args.key_at c.args.key_end) c.args.object.now) c.put.ensures c.make.ensures
