@@ -16,3 +16,5 @@ pub use table::Table;
 
 #[cfg(test)]
 mod tests;
+#[cfg(test)]
+mod update_tests;
