@@ -25,12 +25,14 @@ module _ (k : Tree) (bytes : List ℕ) (h : HasKeyCode k bytes) where
   key_begins = omega (arith, code_begun k, ap length h.code_is)
 
   module _ (a b : Known) where
-    got_none : (found : Bool) (into : List ℕ) → found ≡ false → Got a b bytes found into → Meets a b (Get (code_of k) None)
+    -- What `get` tells where it finds nothing.
+    pub got_none : (found : Bool) (into : List ℕ) → found ≡ false → Got a b bytes found into → Meets a b (Get (code_of k) None)
     got_none found into e got =
         let none : Got a b bytes false into = subst (λ (f : Bool). Got a b bytes f into) e got in
         subst (λ (x : List ℕ). Meets a b (Get x None)) h.code_is none.0
 
-    got_some : (found : Bool) (into : List ℕ) → found ≡ true → Got a b bytes found into → Meets a b (Get (code_of k) (Some into))
+    -- What `get` tells where it finds an object.
+    pub got_some : (found : Bool) (into : List ℕ) → found ≡ true → Got a b bytes found into → Meets a b (Get (code_of k) (Some into))
     got_some found into e got =
         let some : Meets a b (Get bytes (Some into)) = subst (λ (f : Bool). Got a b bytes f into) e got in
         subst (λ (x : List ℕ). Meets a b (Get x (Some into))) h.code_is some

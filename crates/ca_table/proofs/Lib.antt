@@ -1,7 +1,14 @@
+pub mod Asked
 pub mod Carried
+pub mod CarriedUpdates
+pub mod Changing
 pub mod Inserting
 pub mod Keyed
 pub mod KeyParts
+pub mod LongElements
 pub mod ReadBack
 pub mod Refusing
+pub mod SamePut
 pub mod Sure
+pub mod Updating
+pub mod Written

@@ -1,8 +1,11 @@
 -- Terms of commands as the bytes that a store is handed.
-use Rattle.std.specs.Prelude.{◌≡◌, ℕ, ◌≤◌, true, List, [], ◌∷◌, length, slice_range, Option, None, Some, Result, Ok, Err}
-use Rattle.ca_term.specs.Tree.{Tree, IsTerm}
+use Rattle.std.specs.Prelude.{◌≡◌, ℕ, ◌≤◌, ◌<◌, ℤ, true, IsTrue, List, [], ◌∷◌, length, slice_range, Option, None, Some, Result, Ok, Err}
+use Rattle.ca_term.specs.Tree.{Tree, IsTerm, depth}
 use Rattle.ca_term.specs.Code.{code_of}
 use Rattle.ca_term.specs.Object.{is_object, key_of, fits}
+use Rattle.ca_term.specs.Updates.{is_open}
+use Rattle.ca_term.specs.declared.bounds.TheConstants.{MOST_DEPTH}
+use Rattle.ca_ets.specs.Update.{element_of}
 use Rattle.ca_ets.specs.declared.command.Fault.{Fault}
 
 -- This holds of the value, or the fault for which there is none.
@@ -25,6 +28,13 @@ pub record HasObjectCode (keypos : ℕ) (object : Tree) (bytes : List ℕ) (star
   pub rising : start ≤ end
   pub inside : end ≤ length bytes
   pub key_is : slice_range bytes start end ≡ code_of (key_of keypos object)
+
+-- The argument of `update_element` asks for this value at this position, which may be changed; the value may be an element.
+pub record IsAsked (keypos : ℕ) (op : Tree) (position : ℤ) (value : Tree) : Type 0 where
+  pub asked : element_of keypos op ≡ Some (position, value)
+  pub free : IsTrue (is_open keypos position)
+  pub bounded : IsTerm value
+  pub shallow : depth value < MOST_DEPTH
 
 -- The terms are one alone, and the bytes are its code.
 pub record IsOnly (bytes : List ℕ) (terms : List Tree) : Type 0 where

@@ -1,8 +1,9 @@
 -- What a table's calls come to.
-use Rattle.std.specs.Prelude.{◌≡◌, ◌⊎◌, ℕ, ◌+◌, ◌≤◌, true, Result, Ok, Err}
+use Rattle.std.specs.Prelude.{◌≡◌, ◌⊎◌, ℕ, ◌+◌, ◌≤◌, true, [], Some, Result, Ok, Err}
 use Rattle.ca_term.specs.Code.{code_of}
 use Rattle.ca_ets.specs.Command.{Command, Continuation, response_of}
 use Rattle.ca_ets.specs.declared.command.Cmd.TheVariants.{Insert, InsertNew, Lookup, Member, Delete, Take, UpdateCounter, UpdateElement}
+use Rattle.ca_ets.specs.Update.{Several, operations_of}
 use Rattle.ca_ets.specs.declared.command.Reply.{Reply}
 use Rattle.ca_model.specs.declared.outcome.Outcome.{Outcome}
 use Rattle.ca_model.specs.declared.outcome.Outcome.TheVariants as outcome
@@ -48,6 +49,21 @@ MayBeDeep (Take k) = ⊥
 MayBeDeep (UpdateCounter k op) = ⊥
 MayBeDeep (UpdateElement k op) = ⊥
 
+-- Nothing but the room changed, or the table only read.
+abbrev pub EditsNothing : Known → Known → Type 0
+EditsNothing a b = Stays a b ⊎ Refrains a b a.counts
+
+-- The command is an `update_counter` by a list of no operations, which is a read.
+abbrev pub IsEmptyUpdate : ℕ → Command → Type 0
+IsEmptyUpdate keypos (Insert o) = ⊥
+IsEmptyUpdate keypos (InsertNew o) = ⊥
+IsEmptyUpdate keypos (Lookup k) = ⊥
+IsEmptyUpdate keypos (Member k) = ⊥
+IsEmptyUpdate keypos (Delete k) = ⊥
+IsEmptyUpdate keypos (Take k) = ⊥
+IsEmptyUpdate keypos (UpdateCounter k op) = operations_of keypos op ≡ Some (Several [])
+IsEmptyUpdate keypos (UpdateElement k op) = ⊥
+
 module _ (a b : Known) (budget : ℕ) (command : Command) where
   -- A reply is that of the command's step, at every continuation, which stays as it was. A refusal is one of the store, whose count
   -- rose by one, and `Busy` spent the budget; or `take` was overtaken.
@@ -59,10 +75,10 @@ module _ (a b : Known) (budget : ℕ) (command : Command) where
   HasOutcome (outcome.Deep level) = MayBeDeep command × Refused a b (one_more_deep a.counts)
   HasOutcome (outcome.Worn counter) = MayBeRefused command × Refused a b (one_more_worn a.counts)
 
-  -- The call has such an outcome. Where memory wasn't found, nothing but the room changed, or the table only read.
+  -- The call has such an outcome. Where memory wasn't found, nothing was edited.
   abbrev pub ComesTo : {Lack : Type 0} → Result (Outcome Reply) Lack → Type 0
   ComesTo (Ok outcome) = HasOutcome outcome
-  ComesTo (Err lack) = Stays a b ⊎ Refrains a b a.counts
+  ComesTo (Err lack) = EditsNothing a b
 
 -- Over a store that is sure and that nobody else edits, each call is done where memory is found.
 abbrev pub SureAndAloneIsDone : Type 0

@@ -1,12 +1,13 @@
 //! Keys and objects of commands as codes, and objects that were found as terms.
-ghost use Rattle.std.specs.Prelude.{◌≡◌, ◌≤◌, IfOk};
+ghost use Rattle.std.specs.Prelude.{◌≡◌, ◌≤◌, IfOk, MatchOption, None};
 ghost use Rattle.ca_term.specs.Object.{is_object};
 ghost use Rattle.ca_term.specs.Tree.{IsTerm};
 ghost use Rattle.ca_ets.specs.Step.{fault_of_key, fault_of_object};
+ghost use Rattle.ca_ets.specs.Update.{element_of};
 ghost use Rattle.ca_order.specs.Languages.{IsTermCode};
-ghost use Rattle.ca_table.specs.Codes.{HasKeyCode, HasObjectCode, IsOnly, IsUnless};
+ghost use Rattle.ca_table.specs.Codes.{HasKeyCode, HasObjectCode, IsAsked, IsOnly, IsUnless};
 
-use ca_ets::Fault;
+use ca_ets::{Fault, element};
 use ca_model::Code;
 use ca_order::{DecodeFault, decode, encode, object_parts};
 use ca_term::{Kind, Term, Terms};
@@ -58,6 +59,14 @@ fn is_object(object: &Term, keypos: u32) -> bool
         Kind::Tuple(items) => items.len() >= keypos as usize,
         _ => false,
     }
+}
+
+// The position and the value that the argument of `update_element` asks for, if it is of its form.
+pub(crate) fn asked_element(keypos: u32, op: &Term) -> Option<(i64, &Term)>
+    ensures { MatchOption result (element_of keypos op.now ≡ None) (λ asked. IsAsked keypos op.now asked.0 asked.1.now) }
+{
+    let _kind = op.kind();
+    element(keypos, op)
 }
 
 // The list of the term that these bytes are the code of.

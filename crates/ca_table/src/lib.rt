@@ -4,7 +4,9 @@
 mod codes;
 mod laws;
 mod outcome;
+mod reply;
 mod table;
+mod update;
 
 pub use laws::sure_and_alone_is_done;
 pub use outcome::Played;

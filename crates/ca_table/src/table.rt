@@ -1,20 +1,28 @@
 //! A table over a store.
-ghost use Rattle.std.specs.Prelude.{◌≡◌, ◌≤◌, length, slice_range, IfOk, IfErr, IsOk, OnOk};
-ghost use Rattle.ca_ets.specs.declared.command.Cmd.TheVariants.{Insert, InsertNew, Lookup, Member, Delete, Take};
+ghost use Rattle.std.specs.Prelude.{◌≡◌, ◌≤◌, length, map, slice_range, IfOk, IfErr, IsOk, IsTrue, OnOk};
+ghost use Rattle.ca_term.specs.Add.{addition_of};
+ghost use Rattle.ca_term.specs.Tree.{Tree};
+ghost use Rattle.ca_term.specs.Updates.{is_open};
+ghost use Rattle.ca_order.specs.Patches.{IsElementCode};
+ghost use Rattle.ca_ets.specs.declared.command.Cmd.TheVariants.{Insert, InsertNew, Lookup, Member, Delete, Take, UpdateCounter, UpdateElement};
 ghost use Rattle.ca_model.specs.Known.{Known, Meets, Stays};
 ghost use Rattle.ca_model.specs.Event.{Write, WriteNew};
 ghost use Rattle.ca_model.specs.Answer.{Got, Removed, IsDone, IsNeverDeep};
 ghost use Rattle.ca_model.specs.StoreMap.{IsPair};
 ghost use Rattle.ca_ets.specs.Step.{fault_of_object};
 ghost use Rattle.ca_table.specs.Codes.{HasObjectCode, IsUnless};
-ghost use Rattle.ca_table.specs.ComesTo.{ComesTo};
+ghost use Rattle.ca_table.specs.ComesTo.{ComesTo, EditsNothing, IsEmptyUpdate};
+ghost use Rattle.ca_table.specs.Renewed.{Updated, by_element, by_operations};
 ghost use Rattle.ca_table.specs.Refusals.{IsRefusal, IsSame, RemovedSame};
 
-use crate::codes::{KeyRange, key_code, object_code, only};
+use crate::codes::{KeyRange, asked_element, key_code, object_code, only};
 use crate::outcome::{ONE_LOST, Played, done};
-use ca_ets::{Fault, Reply};
+use crate::reply::Room;
+use crate::update::{count, fault_of_counts, fault_of_element, fault_of_long_element, replace};
+use ca_ets::{Cmd, Cont, Fault, Operations, Reply};
 use ca_model::{Changed, Code, OrderedStore, Outcome};
-use ca_term::{Term, Terms};
+use ca_order::encode;
+use ca_term::{Add, Term, Terms};
 use std::alloc::{AllocError, Global};
 use std::marker::Model;
 
@@ -51,6 +59,25 @@ impl<S: OrderedStore + Drop> Table<S> {
         ensures { S.knows result ≡ self }
     {
         self.store
+    }
+
+    /// The call that a command names. A reply is that of the command's step at every continuation, the one that is handed in among them; it stays.
+    pub fn apply(&mut self, alloc: Global, cmd: &Cmd, cont: &mut Cont, budget: u32) -> Played
+        requires { 1 ≤ budget }
+        ensures comes { ComesTo self.old self.new budget cmd.now result }
+        ensures continuation { cont.new ≡ cont.old }
+        ensures read { IsEmptyUpdate self.old.keypos cmd.now → EditsNothing self.old self.new }
+    {
+        match cmd {
+            Cmd::Insert(object) => self.insert(object, budget),
+            Cmd::InsertNew(object) => self.insert_new(object, budget),
+            Cmd::Lookup(key) => self.lookup(alloc, key, budget),
+            Cmd::Member(key) => self.member(key, budget),
+            Cmd::Delete(key) => self.delete(key, budget),
+            Cmd::Take(key) => self.take(alloc, key, budget),
+            Cmd::UpdateCounter(key, op) => self.update_counter(alloc, key, op, budget),
+            Cmd::UpdateElement(key, op) => self.update_element(key, op, budget),
+        }
     }
 
     /// `insert`: it replaces the object of an equal key. `Err` where the store found no memory for a new key.
@@ -167,10 +194,98 @@ impl<S: OrderedStore + Drop> Table<S> {
             Err(refusal) => return Ok(refusal),
         }
     }
+
+    /// `update_counter`: operations on counters of the key's object, all or none, by its code. The reply's list is made before the update, and
+    /// a list of no operations only reads. `Err` where memory for a list of operations or for the reply's wasn't found; then nothing was edited.
+    pub fn update_counter(
+        &mut self,
+        alloc: Global,
+        key: &Term,
+        op: &Term,
+        budget: u32,
+    ) -> Played
+        requires { 1 ≤ budget }
+        ensures comes { ComesTo self.old self.new budget (UpdateCounter key.now op.now) result }
+        ensures read { IsEmptyUpdate self.old.keypos (UpdateCounter key.now op.now) → EditsNothing self.old self.new }
+        ensures done { IsEmptyUpdate self.old.keypos (UpdateCounter key.now op.now) → IfOk result (λ outcome. IsDone outcome) }
+    {
+        let keypos = self.keypos();
+        let Ok(asked) = Operations::of(alloc, keypos, op) else {
+            return Err(AllocError);
+        };
+        let Some(operations) = asked else {
+            return Ok(Outcome::Done(Reply::Error(Fault::BadArg)));
+        };
+        let mut code = Code::new();
+        if let Err(fault) = key_code(key, &mut code) {
+            return Ok(Outcome::Done(Reply::Error(fault)));
+        }
+        let adds = operations.as_slice();
+        if adds.is_empty() {
+            if self.get(&code, &mut Code::new(), budget) {
+                return Ok(Outcome::Done(Reply::List(Terms::new(alloc))));
+            }
+            return Ok(Outcome::Done(Reply::Error(Fault::BadArg)));
+        }
+        let Ok(room) = Room::new(alloc, &operations) else {
+            return Err(AllocError);
+        };
+        let mut object = Code::new();
+        match self.count(&code, adds, &mut object, budget) {
+            Ok(Changed::Put) => return Ok(Outcome::Done(room.reply(&object, keypos, &operations))),
+            Ok(Changed::Kept) => {
+                let fault = fault_of_counts(&object, keypos, adds);
+                return Ok(Outcome::Done(Reply::Error(fault)));
+            }
+            Ok(Changed::Absent) => return Ok(Outcome::Done(Reply::Error(Fault::BadArg))),
+            Err(refusal) => return Ok(refusal),
+        }
+    }
+
+    /// `update_element`: another element in the key's object, by its code. It takes no memory.
+    pub fn update_element(&mut self, key: &Term, op: &Term, budget: u32) -> Played
+        requires { 1 ≤ budget }
+        ensures comes { ComesTo self.old self.new budget (UpdateElement key.now op.now) result }
+        ensures ok { IsOk result }
+    {
+        let keypos = self.keypos();
+        let Some((pos, value)) = asked_element(keypos, op) else {
+            return Ok(Outcome::Done(Reply::Error(Fault::BadArg)));
+        };
+        let mut code = Code::new();
+        if let Err(fault) = key_code(key, &mut code) {
+            return Ok(Outcome::Done(Reply::Error(fault)));
+        }
+        let mut object = Code::new();
+        let mut element = Code::new();
+        let Ok(()) = encode(value, &mut element) else {
+            if self.get(&code, &mut object, budget) {
+                return Ok(Outcome::Done(Reply::Error(fault_of_long_element(&object, pos))));
+            }
+            return Ok(Outcome::Done(Reply::Truth(false)));
+        };
+        match self.replace(&code, pos, &element, &mut object, budget) {
+            Ok(Changed::Put) => return Ok(Outcome::Done(Reply::Truth(true))),
+            Ok(Changed::Kept) => {
+                let fault = fault_of_element(&object, keypos, pos, &element);
+                return Ok(Outcome::Done(Reply::Error(fault)));
+            }
+            Ok(Changed::Absent) => return Ok(Outcome::Done(Reply::Truth(false))),
+            Err(refusal) => return Ok(refusal),
+        }
+    }
 }
 
-// The calls of the store, with what is known of it in the table's words.
+// The table's `keypos`, and objects by it.
 impl<S: OrderedStore + Drop> Table<S> {
+    // Which element of an object is its key, counted from 1.
+    fn keypos(&self) -> u32
+        ensures value { result ≡ self.now.keypos }
+        ensures positive { 1 ≤ self.now.keypos }
+    {
+        self.keypos
+    }
+
     // Writes the code of an object into `into`: where its key stands in it, or why the object is refused.
     fn object_code(&self, object: &Term, into: &mut Code) -> Result<KeyRange, Fault>
         ensures code { IsUnless (fault_of_object self.now.keypos object.now)
@@ -179,6 +294,10 @@ impl<S: OrderedStore + Drop> Table<S> {
     {
         object_code(object, self.keypos, into)
     }
+}
+
+// The calls of the store, with what is known of it in the table's words.
+impl<S: OrderedStore + Drop> Table<S> {
 
     // Makes room for a new key.
     fn reserve(&mut self) -> Result<(), AllocError>
@@ -259,5 +378,44 @@ impl<S: OrderedStore + Drop> Table<S> {
             self.store
                 .remove_if(key.as_slice(), &same, &mut old, budget),
         )
+    }
+
+    // Carries out operations on counters of the key's object, if it is there; then `object` is the one before them.
+    fn count(
+        &mut self,
+        key: &Code,
+        adds: &[Add],
+        object: &mut Code,
+        budget: u32,
+    ) -> Result<Changed, Outcome<Reply>>
+        requires budget { 1 ≤ budget }
+        requires key { 1 ≤ length key.now.items }
+        ensures updated { IfOk result (λ changed. Updated self.old self.new key.now.items
+            (by_operations self.old.keypos (map addition_of adds.now)) changed object.new.items) }
+        ensures refused { IfErr result (λ refusal. IsRefusal self.old self.new budget refusal) }
+        ensures never_deep { IfErr result (λ refusal. IsNeverDeep refusal) }
+    {
+        done(count(&mut self.store, key, self.keypos, adds, object, budget))
+    }
+
+    // Puts another element, of this code, into the key's object, if it is there; then `object` is the one before it.
+    fn replace(
+        &mut self,
+        key: &Code,
+        pos: i64,
+        value: &Code,
+        object: &mut Code,
+        budget: u32,
+    ) -> Result<Changed, Outcome<Reply>>
+        requires budget { 1 ≤ budget }
+        requires key { 1 ≤ length key.now.items }
+        requires pos { IsTrue (is_open self.old.keypos pos) }
+        requires value { (v : Tree) × IsElementCode v value.now.items }
+        ensures updated { (v : Tree) → IsElementCode v value.now.items → IfOk result (λ changed.
+            Updated self.old self.new key.now.items (by_element pos v) changed object.new.items) }
+        ensures refused { IfErr result (λ refusal. IsRefusal self.old self.new budget refusal) }
+        ensures never_deep { IfErr result (λ refusal. IsNeverDeep refusal) }
+    {
+        done(replace(&mut self.store, key, self.keypos, pos, value, object, budget))
     }
 }

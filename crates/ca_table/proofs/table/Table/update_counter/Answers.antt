@@ -1,0 +1,54 @@
+use Rattle.std.proofs.Common.{inr, map}
+use Rattle.ca_term.specs.Add.{addition_of}
+use Rattle.ca_ets.specs.Asked.{operations_in}
+use Rattle.ca_table.proofs.Keyed.{key_begins, only_read}
+use Rattle.ca_table.proofs.Updating.{asked_for, none_asked, only_missed, counter_looks, counter_misses, counter_lacks, counter_fails, counter_passes}
+use Rattle.ca_table.proofs.table.Table.update_counter.Goals as goal
+
+pub get-requires-clause-key : goal.get-requires-clause-key
+get-requires-clause-key g c = key_begins c.args.key.now _ c.in_default-key_code.ensures.1
+
+pub returns-then-get-clause-comes : goal.returns-then-get-clause-comes
+returns-then-get-clause-comes g c =
+    counter_looks c.args.key.now c.args.op.now _ c.in_default-key_code.ensures.1 c.args.self.now c.get.new.self _ c.keypos-keypos.ensures.value (operations_in c.in-Some.operations)
+    (asked_for c.keypos-keypos.result c.args.op.now c.in-Ok.asked c.in-Some.operations c.in-Ok.ensures c.in-Some.is)
+    (none_asked (operations_in c.in-Some.operations) c.as_slice-adds.result.now c.is_empty.result c.as_slice-adds.ensures c.is_empty.ensures c.if-is_empty.true)
+    _ _ _ c.if-get.true c.get.ensures c.new-then-get.ensures.items
+
+pub returns-then-get-clause-read : goal.returns-then-get-clause-read
+returns-then-get-clause-read g c =
+    λ empty. inr (only_read c.args.key.now _ c.in_default-key_code.ensures.1 c.args.self.now _ _ _ c.if-get.true c.get.ensures)
+
+pub returns-then-is_empty-clause-comes : goal.returns-then-is_empty-clause-comes
+returns-then-is_empty-clause-comes g c =
+    counter_misses c.args.key.now c.args.op.now _ c.in_default-key_code.ensures.1 c.args.self.now c.get.new.self _ c.keypos-keypos.ensures.value (operations_in c.in-Some.operations)
+    (asked_for c.keypos-keypos.result c.args.op.now c.in-Ok.asked c.in-Some.operations c.in-Ok.ensures c.in-Some.is)
+    _ _ c.if-get.false c.get.ensures
+
+pub returns-then-is_empty-clause-read : goal.returns-then-is_empty-clause-read
+returns-then-is_empty-clause-read g c =
+    λ empty. inr (only_missed c.args.key.now c.args.op.now _ c.in_default-key_code.ensures.1 c.args.self.now _ _ _ c.if-get.false c.get.ensures)
+
+pub count-requires-clause-key : goal.count-requires-clause-key
+count-requires-clause-key g c = key_begins c.args.key.now _ c.in_default-key_code.ensures.1
+
+pub returns-in-Ok-Put-clause-comes : goal.returns-in-Ok-Put-clause-comes
+returns-in-Ok-Put-clause-comes g c =
+    let there = rw c.in-Ok-Put.field-0-is at c.in-Ok-Put.ensures.updated in
+    counter_passes c.args.key.now c.args.op.now _ c.in_default-key_code.ensures.1 c.args.self.now c.count.new.self _ c.keypos-keypos.ensures.value (operations_in c.in-Some.operations)
+    (asked_for c.keypos-keypos.result c.args.op.now c.in-Ok.asked c.in-Some.operations c.in-Ok.ensures c.in-Some.is)
+    (map addition_of c.as_slice-adds.result.now) c.as_slice-adds.ensures _ there _ c.reply.ensures
+
+pub returns-in-Ok-Kept-clause-comes : goal.returns-in-Ok-Kept-clause-comes
+returns-in-Ok-Kept-clause-comes g c =
+    let there = rw c.in-Ok-Kept.field-0-is at c.in-Ok-Kept.ensures.updated in
+    counter_fails c.args.key.now c.args.op.now _ c.in_default-key_code.ensures.1 c.args.self.now c.count.new.self _ c.keypos-keypos.ensures.value (operations_in c.in-Some.operations)
+    (asked_for c.keypos-keypos.result c.args.op.now c.in-Ok.asked c.in-Some.operations c.in-Ok.ensures c.in-Some.is)
+    (map addition_of c.as_slice-adds.result.now) c.as_slice-adds.ensures _ there _ c.fault_of_counts-fault.ensures
+
+pub returns-in-Ok-Absent-clause-comes : goal.returns-in-Ok-Absent-clause-comes
+returns-in-Ok-Absent-clause-comes g c =
+    let there = rw c.in-Ok-Absent.field-0-is at c.in-Ok-Absent.ensures.updated in
+    counter_lacks c.args.key.now c.args.op.now _ c.in_default-key_code.ensures.1 c.args.self.now c.count.new.self _ c.keypos-keypos.ensures.value (operations_in c.in-Some.operations)
+    (asked_for c.keypos-keypos.result c.args.op.now c.in-Ok.asked c.in-Some.operations c.in-Ok.ensures c.in-Some.is)
+    there
