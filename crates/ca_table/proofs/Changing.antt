@@ -53,10 +53,10 @@ on_false p old (Err fault) bytes at h = record { fault = fault; failed = refl }
 module _ {F : Type 0} (g : Shared F (Bor (List ℕ) × (MutBor (ArrayVec ℕ) × (MutBor ℕ × Unit {0}))) (Bool × (MutBor (ArrayVec ℕ) × (MutBor ℕ × Unit {0}))))
     (f : F) (p : ℕ) (positive : 1 ≤ p) (update : Update)
     (pre : (shown : Bor (List ℕ)) (into : MutBor (ArrayVec ℕ)) (start : MutBor ℕ) (row : Row) → IsObjectCode p row shown.now
-        → g.pre f (shown, (into, (start, tt))))
+    → g.pre f (shown, (into, (start, tt))))
     (post : (shown : Bor (List ℕ)) (into : MutBor (ArrayVec ℕ)) (start : MutBor ℕ) (answer : Bool) (left : MutBor (ArrayVec ℕ)) (number : MutBor ℕ)
-        → g.post f (shown, (into, (start, tt))) (answer, (left, (number, tt))) → (row : Row) → IsObjectCode p row shown.now
-        → Renews p (Tuple row) (update (Tuple row)) answer left.now.items number.now) where
+    → g.post f (shown, (into, (start, tt))) (answer, (left, (number, tt))) → (row : Row) → IsObjectCode p row shown.now
+    → Renews p (Tuple row) (update (Tuple row)) answer left.now.items number.now) where
   -- what the function does to an object
   renews : (row : Row) (o w : List ℕ) (answer : Bool) (at : ℕ) → IsObjectCode p row o → MayLeave g f o answer w at
       → Renews p (Tuple row) (update (Tuple row)) answer w at

@@ -14,3 +14,5 @@ pub use table::Table;
 
 #[cfg(test)]
 mod tests;
+#[cfg(test)]
+mod update_tests;

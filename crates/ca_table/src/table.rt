@@ -67,6 +67,7 @@ impl<S: OrderedStore + Drop> Table<S> {
         ensures comes { ComesTo self.old self.new budget cmd.now result }
         ensures continuation { cont.new ≡ cont.old }
         ensures read { IsEmptyUpdate self.old.keypos cmd.now → EditsNothing self.old self.new }
+        ensures done { IsEmptyUpdate self.old.keypos cmd.now → IfOk result (λ outcome. IsDone outcome) }
     {
         match cmd {
             Cmd::Insert(object) => self.insert(object, budget),
@@ -197,13 +198,7 @@ impl<S: OrderedStore + Drop> Table<S> {
 
     /// `update_counter`: operations on counters of the key's object, all or none, by its code. The reply's list is made before the update, and
     /// a list of no operations only reads. `Err` where memory for a list of operations or for the reply's wasn't found; then nothing was edited.
-    pub fn update_counter(
-        &mut self,
-        alloc: Global,
-        key: &Term,
-        op: &Term,
-        budget: u32,
-    ) -> Played
+    pub fn update_counter(&mut self, alloc: Global, key: &Term, op: &Term, budget: u32) -> Played
         requires { 1 ≤ budget }
         ensures comes { ComesTo self.old self.new budget (UpdateCounter key.now op.now) result }
         ensures read { IsEmptyUpdate self.old.keypos (UpdateCounter key.now op.now) → EditsNothing self.old self.new }
@@ -298,7 +293,6 @@ impl<S: OrderedStore + Drop> Table<S> {
 
 // The calls of the store, with what is known of it in the table's words.
 impl<S: OrderedStore + Drop> Table<S> {
-
     // Makes room for a new key.
     fn reserve(&mut self) -> Result<(), AllocError>
         ensures room { OnOk result (1 ≤ self.new.spare) }
@@ -416,6 +410,14 @@ impl<S: OrderedStore + Drop> Table<S> {
         ensures refused { IfErr result (λ refusal. IsRefusal self.old self.new budget refusal) }
         ensures never_deep { IfErr result (λ refusal. IsNeverDeep refusal) }
     {
-        done(replace(&mut self.store, key, self.keypos, pos, value, object, budget))
+        done(replace(
+            &mut self.store,
+            key,
+            self.keypos,
+            pos,
+            value,
+            object,
+            budget,
+        ))
     }
 }

@@ -142,7 +142,13 @@ pub(crate) fn fault_of_element(object: &Code, keypos: u32, pos: i64, value: &Cod
     ensures { (row : Row) (v : Tree) (fault : ElementFault) → IsTupleCode row object.now.items → IsElementCode v value.now.items
         → by_element pos v (Tuple row) ≡ Err fault → result ≡ fault_of fault }
 {
-    let answer = set(object.as_slice(), keypos, pos, value.as_slice(), &mut Code::new());
+    let answer = set(
+        object.as_slice(),
+        keypos,
+        pos,
+        value.as_slice(),
+        &mut Code::new(),
+    );
     fault_of(answer)
 }
 
