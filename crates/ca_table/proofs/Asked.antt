@@ -4,7 +4,6 @@ use Rattle.std.specs.Prelude.{IsTrue, MatchOption}
 use Rattle.std.specs.Option.{option_map}
 use denote.Bor.{Bor}
 use Rattle.ca_term.specs.Tree.{Tree, Row, Integer, Atom, Tuple, Nil, Cons, Binary, IsTerm, IsNarrowRow, row_of, elements, depth, row_depth}
-use Rattle.ca_term.specs.Object.{elements_of}
 use Rattle.ca_term.specs.Updates.{integer_of, is_open}
 use Rattle.ca_term.specs.declared.bounds.TheConstants.{MOST_DEPTH}
 use Rattle.ca_term.proofs.Rows.{row_again}

@@ -1,6 +1,6 @@
 -- Which calls of a store carry `update_counter` and `update_element`.
-use Rattle.std.proofs.Common.{◌≡◌, ℕ, ℤ, true, false, List, [], ◌∷◌, refl, sym, ◌∙◌, ap, subst, Option, None, Some}
-use Rattle.std.specs.Prelude.{Result, Ok, Err}
+use Rattle.std.proofs.Common.{◌≡◌, ℕ, ℤ, true, false, List, [], ◌∷◌, refl, sym, ◌∙◌, ap, subst, None, Some}
+use Rattle.std.specs.Prelude.{Ok, Err}
 use Rattle.ca_term.specs.Tree.{Tree, Integer, Atom, Tuple, Nil, Cons, Binary, IsTerm, row_of}
 use Rattle.ca_term.specs.Code.{code_of}
 use Rattle.ca_term.specs.Object.{is_object, key_of, elements_of, fits}

@@ -1,5 +1,5 @@
 -- A function that updates an object, handed to a store's `change`.
-use Rattle.std.proofs.Common.{◌≡◌, ℕ, ◌≤◌, Bool, true, false, List, Option, None, Some, refl, sym, ◌∙◌, ap, subst}
+use Rattle.std.proofs.Common.{◌≡◌, ℕ, ◌≤◌, Bool, true, false, List, None, Some, refl, sym, ◌∙◌, ap, subst}
 use Rattle.std.specs.Prelude.{Result, Ok, Err}
 use denote.Ref.{Bor, MutBor}
 use denote.Param.Members.{Shared}
@@ -19,8 +19,8 @@ use Rattle.ca_model.specs.Function.{KeepsKey, MayLeave, StandsAt}
 use Rattle.ca_model.specs.Known.{Known, Meets}
 use Rattle.ca_model.specs.Answer.{Altered, IfDone}
 use Rattle.ca_merge.proofs.Pairs.{pair_of_object}
-use Rattle.ca_table.specs.Renewed.{IsObjectCode, IsWritten, Renews, Update, IsPut, IsKept, Updated}
-use Rattle.ca_table.proofs.ReadBack.{IsRowPair, met_pair, row_of_pair}
+use Rattle.ca_table.specs.Renewed.{IsObjectCode, IsWritten, Renews, Update, Updated}
+use Rattle.ca_table.proofs.ReadBack.{met_pair, row_of_pair}
 
 -- Where one thing holds of a call's value, a weaker one holds too.
 if_done : {T : Type 0} (r : Outcome T) (P Q : T → Type 0) → ((x : T) → P x → Q x) → IfDone r P → IfDone r Q

@@ -1,6 +1,6 @@
 -- An element whose code is too long makes an object too long.
-use Rattle.std.proofs.Common.{◌≡◌, ℕ, zero, suc, ◌≤◌, ◌<◌, ◌+◌, ℤ, true, false, List, [], ◌∷◌, ◌++◌, length, set, arith, refl, sym, ◌∙◌, ap, length-append, None, Some}
-use Rattle.std.specs.Prelude.{nat_le, Err}
+use Rattle.std.proofs.Common.{◌≡◌, ℕ, zero, suc, ◌≤◌, ◌<◌, ◌+◌, ℤ, false, List, [], ◌∷◌, ◌++◌, length, set, arith, refl, ap, length-append, None, Some}
+use Rattle.std.specs.Prelude.{Err}
 use Rattle.std.proofs.lemmas.Bool.Decides.{nat_tests}
 use Rattle.ca_term.specs.declared.bounds.TheConstants.{MOST_CODE_BYTES}
 use Rattle.ca_term.specs.Tree.{Tree, Row, Tuple, row_of, elements}

@@ -1,5 +1,5 @@
 -- What a function writes that updates an object.
-use Rattle.std.proofs.Common.{◌≡◌, ℕ, ◌≤◌, ◌-◌, true, List, [], ◌++◌, length, take, drop, arith, refl, sym, ◌∙◌, ap, subst, Option, Some}
+use Rattle.std.proofs.Common.{◌≡◌, ℕ, ◌-◌, true, List, ◌++◌, take, drop, arith, refl, sym, ◌∙◌, ap, subst, Option, Some}
 use Rattle.std.specs.Prelude.{Result, Ok, Err, IfOk, IsTrue, ℤ}
 use Rattle.std.proofs.lemmas.List.{take-append-drop, length-take}
 use Rattle.ca_term.specs.Tree.{Tree, Row, Tuple, IsTerm}
@@ -13,7 +13,7 @@ use Rattle.ca_order.specs.Patches.{IsElementCode, IsPatched}
 use Rattle.ca_order.specs.declared.patched.Patched.{Patched}
 use Rattle.ca_order.specs.declared.patched.Patched.TheVariants as answer
 use Rattle.ca_model.specs.Function.{StandsAt}
-use Rattle.ca_table.specs.Renewed.{IsObjectCode, IsUpdate, IsWritten, Renews, by_element, by_operations}
+use Rattle.ca_table.specs.Renewed.{IsObjectCode, IsUpdate, Renews, by_element, by_operations}
 use Rattle.ca_table.proofs.KeyParts.{KeyStands, key_stands}
 
 -- Operations keep an object's key.

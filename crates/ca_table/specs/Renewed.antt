@@ -1,5 +1,5 @@
 -- Updates of a key's object, by the object's code.
-use Rattle.std.specs.Prelude.{◌≡◌, ℕ, ◌≤◌, ℤ, Bool, true, false, List, Option, None, Some, Result, Ok, Err, IfOk}
+use Rattle.std.specs.Prelude.{◌≡◌, ℕ, ◌≤◌, ℤ, Bool, true, false, List, None, Some, Result, Ok, Err, IfOk}
 use Rattle.ca_term.specs.Tree.{Tree, Row, Tuple}
 use Rattle.ca_term.specs.Code.{code_of}
 use Rattle.ca_term.specs.Object.{is_object, key_of}

@@ -1,5 +1,5 @@
 -- Room for a reply, made before the update that it tells of.
-use Rattle.std.specs.Prelude.{◌≡◌, ℕ, ◌≤◌, [], length}
+use Rattle.std.specs.Prelude.{◌≡◌, ◌≤◌, [], length}
 use Rattle.ca_ets.specs.Update.{Operations, One, Several}
 use Rattle.ca_table.specs.declared.reply.Room.{Room}
 use Rattle.ca_table.specs.declared.reply.Room.TheVariants as room

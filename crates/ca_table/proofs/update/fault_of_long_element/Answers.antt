@@ -1,4 +1,4 @@
-use Rattle.std.proofs.Common.{◌≡◌, ℕ, ◌<◌, ◌-◌, length, pos, nat_abs, arith, refl, sym, ◌∙◌, ap, subst, Option, None, Some}
+use Rattle.std.proofs.Common.{◌≡◌, ℕ, ◌<◌, ◌-◌, length, pos, nat_abs, arith, refl, sym, ◌∙◌, ap, subst, Option}
 use Rattle.std.specs.Int.{w64, FitsUnsignedBits}
 use Rattle.std.proofs.lemmas.Int.{to_z-of_z}
 use Rattle.ca_term.specs.Tree.{Row, Tuple, elements, size}

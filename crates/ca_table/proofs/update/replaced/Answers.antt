@@ -1,4 +1,4 @@
-use Rattle.std.proofs.Common.{◌≡◌, ℕ, ℤ, List, ◌∙◌, sym, subst}
+use Rattle.std.proofs.Common.{ℕ, ℤ, List, sym, subst}
 use Rattle.std.specs.Int.{w64}
 use Rattle.std.proofs.lemmas.Int.{to_z-of_z}
 use Rattle.ca_term.specs.Tree.{Tree, Row, Tuple}

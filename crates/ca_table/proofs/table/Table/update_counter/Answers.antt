@@ -10,9 +10,14 @@ get-requires-clause-key g c = key_begins c.args.key.now _ c.in_default-key_code.
 
 pub returns-then-get-clause-comes : goal.returns-then-get-clause-comes
 returns-then-get-clause-comes g c =
-    counter_looks c.args.key.now c.args.op.now _ c.in_default-key_code.ensures.1 c.args.self.now c.get.new.self _ c.keypos-keypos.ensures.value (operations_in c.in-Some.operations)
-    (asked_for c.keypos-keypos.result c.args.op.now c.in-Ok.asked c.in-Some.operations c.in-Ok.ensures c.in-Some.is)
-    (none_asked (operations_in c.in-Some.operations) c.as_slice-adds.result.now c.is_empty.result c.as_slice-adds.ensures c.is_empty.ensures c.if-is_empty.true)
+    let k = c.args.key.now in
+    let op = c.args.op.now in
+    let h = c.in_default-key_code.ensures.1 in
+    let a = c.args.self.now in
+    let operations = operations_in c.in-Some.operations in
+    let asked = asked_for c.keypos-keypos.result op c.in-Ok.asked c.in-Some.operations c.in-Ok.ensures c.in-Some.is in
+    let empty = none_asked operations c.as_slice-adds.result.now c.is_empty.result c.as_slice-adds.ensures c.is_empty.ensures c.if-is_empty.true in
+    counter_looks k op _ h a c.get.new.self _ c.keypos-keypos.ensures.value operations asked empty
     _ _ _ c.if-get.true c.get.ensures c.new-then-get.ensures.items
 
 pub returns-then-get-clause-read : goal.returns-then-get-clause-read
@@ -21,9 +26,13 @@ returns-then-get-clause-read g c =
 
 pub returns-then-is_empty-clause-comes : goal.returns-then-is_empty-clause-comes
 returns-then-is_empty-clause-comes g c =
-    counter_misses c.args.key.now c.args.op.now _ c.in_default-key_code.ensures.1 c.args.self.now c.get.new.self _ c.keypos-keypos.ensures.value (operations_in c.in-Some.operations)
-    (asked_for c.keypos-keypos.result c.args.op.now c.in-Ok.asked c.in-Some.operations c.in-Ok.ensures c.in-Some.is)
-    _ _ c.if-get.false c.get.ensures
+    let k = c.args.key.now in
+    let op = c.args.op.now in
+    let h = c.in_default-key_code.ensures.1 in
+    let a = c.args.self.now in
+    let operations = operations_in c.in-Some.operations in
+    let asked = asked_for c.keypos-keypos.result op c.in-Ok.asked c.in-Some.operations c.in-Ok.ensures c.in-Some.is in
+    counter_misses k op _ h a c.get.new.self _ c.keypos-keypos.ensures.value operations asked _ _ c.if-get.false c.get.ensures
 
 pub returns-then-is_empty-clause-read : goal.returns-then-is_empty-clause-read
 returns-then-is_empty-clause-read g c =
@@ -34,21 +43,36 @@ count-requires-clause-key g c = key_begins c.args.key.now _ c.in_default-key_cod
 
 pub returns-in-Ok-Put-clause-comes : goal.returns-in-Ok-Put-clause-comes
 returns-in-Ok-Put-clause-comes g c =
-    let there = rw c.in-Ok-Put.field-0-is at c.in-Ok-Put.ensures.updated in
-    counter_passes c.args.key.now c.args.op.now _ c.in_default-key_code.ensures.1 c.args.self.now c.count.new.self _ c.keypos-keypos.ensures.value (operations_in c.in-Some.operations)
-    (asked_for c.keypos-keypos.result c.args.op.now c.in-Ok.asked c.in-Some.operations c.in-Ok.ensures c.in-Some.is)
-    (map addition_of c.as_slice-adds.result.now) c.as_slice-adds.ensures _ there _ c.reply.ensures
+    let k = c.args.key.now in
+    let op = c.args.op.now in
+    let h = c.in_default-key_code.ensures.1 in
+    let a = c.args.self.now in
+    let operations = operations_in c.in-Some.operations in
+    let asked = asked_for c.keypos-keypos.result op c.in-Ok.asked c.in-Some.operations c.in-Ok.ensures c.in-Some.is in
+    let put = rw c.in-Ok-Put.field-0-is at c.in-Ok-Put.ensures.updated in
+    counter_passes k op _ h a c.count.new.self _ c.keypos-keypos.ensures.value operations asked
+    (map addition_of c.as_slice-adds.result.now) c.as_slice-adds.ensures _ put _ c.reply.ensures
 
 pub returns-in-Ok-Kept-clause-comes : goal.returns-in-Ok-Kept-clause-comes
 returns-in-Ok-Kept-clause-comes g c =
-    let there = rw c.in-Ok-Kept.field-0-is at c.in-Ok-Kept.ensures.updated in
-    counter_fails c.args.key.now c.args.op.now _ c.in_default-key_code.ensures.1 c.args.self.now c.count.new.self _ c.keypos-keypos.ensures.value (operations_in c.in-Some.operations)
-    (asked_for c.keypos-keypos.result c.args.op.now c.in-Ok.asked c.in-Some.operations c.in-Ok.ensures c.in-Some.is)
-    (map addition_of c.as_slice-adds.result.now) c.as_slice-adds.ensures _ there _ c.fault_of_counts-fault.ensures
+    let k = c.args.key.now in
+    let op = c.args.op.now in
+    let h = c.in_default-key_code.ensures.1 in
+    let a = c.args.self.now in
+    let operations = operations_in c.in-Some.operations in
+    let asked = asked_for c.keypos-keypos.result op c.in-Ok.asked c.in-Some.operations c.in-Ok.ensures c.in-Some.is in
+    let kept = rw c.in-Ok-Kept.field-0-is at c.in-Ok-Kept.ensures.updated in
+    counter_fails k op _ h a c.count.new.self _ c.keypos-keypos.ensures.value operations asked
+    (map addition_of c.as_slice-adds.result.now) c.as_slice-adds.ensures _ kept _
+    c.fault_of_counts-fault.ensures
 
 pub returns-in-Ok-Absent-clause-comes : goal.returns-in-Ok-Absent-clause-comes
 returns-in-Ok-Absent-clause-comes g c =
-    let there = rw c.in-Ok-Absent.field-0-is at c.in-Ok-Absent.ensures.updated in
-    counter_lacks c.args.key.now c.args.op.now _ c.in_default-key_code.ensures.1 c.args.self.now c.count.new.self _ c.keypos-keypos.ensures.value (operations_in c.in-Some.operations)
-    (asked_for c.keypos-keypos.result c.args.op.now c.in-Ok.asked c.in-Some.operations c.in-Ok.ensures c.in-Some.is)
-    there
+    let k = c.args.key.now in
+    let op = c.args.op.now in
+    let h = c.in_default-key_code.ensures.1 in
+    let a = c.args.self.now in
+    let operations = operations_in c.in-Some.operations in
+    let asked = asked_for c.keypos-keypos.result op c.in-Ok.asked c.in-Some.operations c.in-Ok.ensures c.in-Some.is in
+    let absent = rw c.in-Ok-Absent.field-0-is at c.in-Ok-Absent.ensures.updated in
+    counter_lacks k op _ h a c.count.new.self _ c.keypos-keypos.ensures.value operations asked absent

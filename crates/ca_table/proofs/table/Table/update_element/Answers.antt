@@ -19,12 +19,14 @@ pub returns-then-get-clause-comes : goal.returns-then-get-clause-comes
 returns-then-get-clause-comes g c =
     let fits : FitsSigned w64 c.in-Some.pos = search rules in
     let cast : to_z w64 (of_z w64 c.in-Some.pos) ≡ c.in-Some.pos = to_z-of_z w64 c.in-Some.pos fits in
-    element_reads c.args.key.now c.args.op.now _ c.in_default-key_code.ensures.1 c.args.self.now c.get.new.self _ c.keypos-keypos.ensures.value c.in-Some.pos c.in-Some.value.now c.in-Some.ensures _ cast c.keypos-keypos.ensures.positive _ _ c.if-get.true c.get.ensures _
+    element_reads c.args.key.now c.args.op.now _ c.in_default-key_code.ensures.1 c.args.self.now c.get.new.self _ c.keypos-keypos.ensures.value
+    c.in-Some.pos c.in-Some.value.now c.in-Some.ensures _ cast c.keypos-keypos.ensures.positive _ _ c.if-get.true c.get.ensures _
     (λ row code. c.fault_of_long_element.ensures row c.in-Some.value.now code (c.in_default-encode.ensures.too_long.0 refl))
 
 pub returns-in_default-encode-clause-comes : goal.returns-in_default-encode-clause-comes
 returns-in_default-encode-clause-comes g c =
-    element_misses c.args.key.now c.args.op.now _ c.in_default-key_code.ensures.1 c.args.self.now c.get.new.self _ c.keypos-keypos.ensures.value c.in-Some.pos c.in-Some.value.now c.in-Some.ensures _ _ c.if-get.false c.get.ensures
+    element_misses c.args.key.now c.args.op.now _ c.in_default-key_code.ensures.1 c.args.self.now c.get.new.self _ c.keypos-keypos.ensures.value
+    c.in-Some.pos c.in-Some.value.now c.in-Some.ensures _ _ c.if-get.false c.get.ensures
 
 pub replace-requires-clause-key : goal.replace-requires-clause-key
 replace-requires-clause-key g c = key_begins c.args.key.now _ c.in_default-key_code.ensures.1
@@ -36,7 +38,8 @@ returns-in-Ok-Put-clause-comes g c =
     let code : IsElementCode c.in-Some.value.now c.encode.new.into.items =
     record { bounded = c.in-Some.ensures.bounded; shallow = c.in-Some.ensures.shallow; code_is = c.in-Ok.ensures.ok } in
     let there = rw c.in-Ok-Put.field-0-is at (c.in-Ok-Put.ensures.updated c.in-Some.value.now code) in
-    element_passes c.args.key.now c.args.op.now _ c.in_default-key_code.ensures.1 c.args.self.now c.replace.new.self _ c.keypos-keypos.ensures.value c.in-Some.pos c.in-Some.value.now c.in-Some.ensures _ cast _ there
+    element_passes c.args.key.now c.args.op.now _ c.in_default-key_code.ensures.1 c.args.self.now c.replace.new.self _ c.keypos-keypos.ensures.value
+    c.in-Some.pos c.in-Some.value.now c.in-Some.ensures _ cast _ there
 
 pub returns-in-Ok-Kept-clause-comes : goal.returns-in-Ok-Kept-clause-comes
 returns-in-Ok-Kept-clause-comes g c =
@@ -45,7 +48,8 @@ returns-in-Ok-Kept-clause-comes g c =
     let code : IsElementCode c.in-Some.value.now c.encode.new.into.items =
     record { bounded = c.in-Some.ensures.bounded; shallow = c.in-Some.ensures.shallow; code_is = c.in-Ok.ensures.ok } in
     let there = rw c.in-Ok-Kept.field-0-is at (c.in-Ok-Kept.ensures.updated c.in-Some.value.now code) in
-    element_fails c.args.key.now c.args.op.now _ c.in_default-key_code.ensures.1 c.args.self.now c.replace.new.self _ c.keypos-keypos.ensures.value c.in-Some.pos c.in-Some.value.now c.in-Some.ensures _ cast _ there _
+    element_fails c.args.key.now c.args.op.now _ c.in_default-key_code.ensures.1 c.args.self.now c.replace.new.self _ c.keypos-keypos.ensures.value
+    c.in-Some.pos c.in-Some.value.now c.in-Some.ensures _ cast _ there _
     (λ row fault h failed. c.fault_of_element-fault.ensures row c.in-Some.value.now fault h code failed)
 
 pub returns-in-Ok-Absent-clause-comes : goal.returns-in-Ok-Absent-clause-comes
@@ -53,4 +57,5 @@ returns-in-Ok-Absent-clause-comes g c =
     let code : IsElementCode c.in-Some.value.now c.encode.new.into.items =
     record { bounded = c.in-Some.ensures.bounded; shallow = c.in-Some.ensures.shallow; code_is = c.in-Ok.ensures.ok } in
     let there = rw c.in-Ok-Absent.field-0-is at (c.in-Ok-Absent.ensures.updated c.in-Some.value.now code) in
-    element_lacks c.args.key.now c.args.op.now _ c.in_default-key_code.ensures.1 c.args.self.now c.replace.new.self _ c.keypos-keypos.ensures.value c.in-Some.pos c.in-Some.value.now c.in-Some.ensures there
+    element_lacks c.args.key.now c.args.op.now _ c.in_default-key_code.ensures.1 c.args.self.now c.replace.new.self _ c.keypos-keypos.ensures.value
+    c.in-Some.pos c.in-Some.value.now c.in-Some.ensures there
