@@ -1,5 +1,9 @@
 //! Updates by a table over a plain store.
 use super::*;
+use Answer::{Nothing, Number, Truth, Two};
+use Key::{Absent, Long, Present};
+use Op::{Empty, Increment, One, Pair};
+use Value::{Bytes, Letters, Word};
 use ca_ets::{Cmd, Cont, Fault, Reply};
 use ca_model::{Outcome, Plain};
 use ca_term::{Add, Kind, Term, TermFault, Terms, atom, bin, cons, int, nil, tuple};
@@ -17,10 +21,10 @@ enum Key {
 
 // Operations of an `update_counter`.
 #[derive(Clone, Copy)]
-enum Operations {
+enum Op {
     Increment(i64),
     One(Add),
-    Two(Add, Add),
+    Pair(Add, Add),
     Empty,
     // an atom
     Other,
@@ -93,16 +97,16 @@ fn operation(alloc: Global, add: Add) -> Result<Term, TermFault> {
     }
 }
 
-fn counter(alloc: Global, of: Key, operations: Operations) -> Result<Cmd, TermFault> {
-    let op = match operations {
-        Operations::Increment(incr) => int(incr),
-        Operations::One(add) => operation(alloc, add)?,
-        Operations::Two(first, second) => {
+fn counter(alloc: Global, of: Key, op: Op) -> Result<Cmd, TermFault> {
+    let op = match op {
+        Op::Increment(incr) => int(incr),
+        Op::One(add) => operation(alloc, add)?,
+        Op::Pair(first, second) => {
             let rest = cons(alloc, operation(alloc, second)?, nil())?;
             cons(alloc, operation(alloc, first)?, rest)?
         }
-        Operations::Empty => nil(),
-        Operations::Other => atom(alloc, "x")?,
+        Op::Empty => nil(),
+        Op::Other => atom(alloc, "x")?,
     };
     Ok(Cmd::UpdateCounter(key_term(alloc, of)?, op))
 }
@@ -187,82 +191,38 @@ fn lookup(alloc: Global, table: &mut Table<Plain>) -> Answer {
     play(alloc, table, Ok(Cmd::Lookup(int(1))))
 }
 
+const BADARG: Answer = Answer::Error(Fault::BadArg);
+
+const RANGE: Answer = Answer::Error(Fault::Range);
+
+const SIZE: Answer = Answer::Error(Fault::Size);
+
 #[test]
 fn counts_all_or_none(rt: HostRuntime) {
     let alloc = rt.alloc();
     let mut table = Table::new(Plain::new(alloc, 1), 1);
     let mut row = 0_u32;
-    for (start, of, operations, answer, left) in [
-        (
-            1,
-            Key::Present,
-            Operations::Two(add(2, 5), capped(2, -9, 0, 0)),
-            Answer::Two(6, 0),
-            0,
-        ),
-        (
-            0,
-            Key::Present,
-            Operations::Increment(3),
-            Answer::Number(3),
-            3,
-        ),
-        (3, Key::Present, Operations::Empty, Answer::Nothing, 3),
-        (
-            1,
-            Key::Present,
-            Operations::Two(add(2, 1), add(3, 1)),
-            Answer::Error(Fault::BadArg),
-            1,
-        ),
-        (
-            1,
-            Key::Present,
-            Operations::One(add(1, 1)),
-            Answer::Error(Fault::BadArg),
-            1,
-        ),
-        (
-            1,
-            Key::Absent,
-            Operations::Increment(1),
-            Answer::Error(Fault::BadArg),
-            1,
-        ),
-        (
-            1,
-            Key::Absent,
-            Operations::Empty,
-            Answer::Error(Fault::BadArg),
-            1,
-        ),
-        (
-            i64::MAX,
-            Key::Present,
-            Operations::Increment(1),
-            Answer::Error(Fault::Range),
-            i64::MAX,
-        ),
-        (
-            i64::MAX,
-            Key::Present,
-            Operations::One(capped(2, 1, i64::MAX, 0)),
-            Answer::Number(0),
-            0,
-        ),
+    let down = capped(2, -9, 0, 0);
+    let back = capped(2, 1, i64::MAX, 0);
+    for (start, of, op, answer, left) in [
+        (1, Present, Pair(add(2, 5), down), Two(6, 0), 0),
+        (0, Present, Increment(3), Number(3), 3),
+        (3, Present, Empty, Nothing, 3),
+        (1, Present, Pair(add(2, 1), add(3, 1)), BADARG, 1),
+        (1, Present, One(add(1, 1)), BADARG, 1),
+        (1, Absent, Increment(1), BADARG, 1),
+        (1, Absent, Empty, BADARG, 1),
+        (i64::MAX, Present, Increment(1), RANGE, i64::MAX),
+        (i64::MAX, Present, One(back), Number(0), 0),
     ] {
         assert_eq!(rt;
             insert(alloc, &mut table, &[1, start], 0),
-            Answer::Truth(true),
+            Truth(true),
             "row {row}"
         );
-        let cmd = counter(alloc, of, operations);
+        let cmd = counter(alloc, of, op);
         assert_eq!(rt; play(alloc, &mut table, cmd), answer, "row {row}");
-        assert_eq!(rt;
-            lookup(alloc, &mut table),
-            Answer::Number(left),
-            "row {row}"
-        );
+        assert_eq!(rt; lookup(alloc, &mut table), Number(left), "row {row}");
         row = row.wrapping_add(1);
     }
 }
@@ -272,48 +232,21 @@ fn the_first_check_of_operations_decides(rt: HostRuntime) {
     let alloc = rt.alloc();
     let mut table = Table::new(Plain::new(alloc, 1), 1);
     // Its code has 1,000 bytes, and a number of one digit more takes one byte more.
-    assert_eq!(rt;
-        insert(alloc, &mut table, &[1, 0], 989),
-        Answer::Truth(true)
-    );
+    assert_eq!(rt; insert(alloc, &mut table, &[1, 0], 989), Truth(true));
     let mut row = 0_u32;
-    for (of, operations, answer) in [
-        (Key::Long, Operations::Other, Answer::Error(Fault::BadArg)),
-        (
-            Key::Long,
-            Operations::Increment(1),
-            Answer::Error(Fault::Size),
-        ),
-        (Key::Long, Operations::Empty, Answer::Error(Fault::Size)),
-        (
-            Key::Absent,
-            Operations::One(add(9, 1)),
-            Answer::Error(Fault::BadArg),
-        ),
-        (
-            Key::Present,
-            Operations::Two(add(3, 1), add(2, i64::MAX)),
-            Answer::Error(Fault::BadArg),
-        ),
-        (
-            Key::Present,
-            Operations::Two(add(2, i64::MAX), add(2, 1)),
-            Answer::Error(Fault::Range),
-        ),
-        (
-            Key::Present,
-            Operations::One(add(2, 1)),
-            Answer::Error(Fault::Size),
-        ),
-        (
-            Key::Present,
-            Operations::Two(add(2, 1), add(2, -1)),
-            Answer::Two(1, 0),
-        ),
+    for (of, op, answer) in [
+        (Long, Op::Other, BADARG),
+        (Long, Increment(1), SIZE),
+        (Long, Empty, SIZE),
+        (Absent, One(add(9, 1)), BADARG),
+        (Present, Pair(add(3, 1), add(2, i64::MAX)), BADARG),
+        (Present, Pair(add(2, i64::MAX), add(2, 1)), RANGE),
+        (Present, One(add(2, 1)), SIZE),
+        (Present, Pair(add(2, 1), add(2, -1)), Two(1, 0)),
     ] {
-        let cmd = counter(alloc, of, operations);
+        let cmd = counter(alloc, of, op);
         assert_eq!(rt; play(alloc, &mut table, cmd), answer, "row {row}");
-        assert_eq!(rt; lookup(alloc, &mut table), Answer::Number(0), "row {row}");
+        assert_eq!(rt; lookup(alloc, &mut table), Number(0), "row {row}");
         row = row.wrapping_add(1);
     }
 }
@@ -322,86 +255,20 @@ fn the_first_check_of_operations_decides(rt: HostRuntime) {
 fn another_element_after_each_check(rt: HostRuntime) {
     let alloc = rt.alloc();
     let mut table = Table::new(Plain::new(alloc, 1), 1);
-    assert_eq!(rt; insert(alloc, &mut table, &[1, 5], 0), Answer::Truth(true));
+    assert_eq!(rt; insert(alloc, &mut table, &[1, 5], 0), Truth(true));
     let mut row = 0_u32;
     for (of, pos, value, answer, left) in [
-        (
-            Key::Present,
-            2,
-            Value::Letters,
-            Answer::Truth(true),
-            Answer::Two(97, 98),
-        ),
-        (
-            Key::Present,
-            1,
-            Value::Word,
-            Answer::Error(Fault::BadArg),
-            Answer::Two(97, 98),
-        ),
-        (
-            Key::Absent,
-            2,
-            Value::Word,
-            Answer::Truth(false),
-            Answer::Two(97, 98),
-        ),
-        (
-            Key::Present,
-            3,
-            Value::Word,
-            Answer::Error(Fault::BadArg),
-            Answer::Two(97, 98),
-        ),
-        (
-            Key::Long,
-            0,
-            Value::Word,
-            Answer::Error(Fault::BadArg),
-            Answer::Two(97, 98),
-        ),
-        (
-            Key::Long,
-            2,
-            Value::Word,
-            Answer::Error(Fault::Size),
-            Answer::Two(97, 98),
-        ),
-        (
-            Key::Absent,
-            9,
-            Value::Bytes(998),
-            Answer::Truth(false),
-            Answer::Two(97, 98),
-        ),
-        (
-            Key::Present,
-            3,
-            Value::Bytes(998),
-            Answer::Error(Fault::BadArg),
-            Answer::Two(97, 98),
-        ),
-        (
-            Key::Present,
-            2,
-            Value::Bytes(998),
-            Answer::Error(Fault::Size),
-            Answer::Two(97, 98),
-        ),
-        (
-            Key::Present,
-            2,
-            Value::Bytes(991),
-            Answer::Error(Fault::Size),
-            Answer::Two(97, 98),
-        ),
-        (
-            Key::Present,
-            2,
-            Value::Bytes(990),
-            Answer::Truth(true),
-            Answer::Other,
-        ),
+        (Present, 2, Letters, Truth(true), Two(97, 98)),
+        (Present, 1, Word, BADARG, Two(97, 98)),
+        (Absent, 2, Word, Truth(false), Two(97, 98)),
+        (Present, 3, Word, BADARG, Two(97, 98)),
+        (Long, 0, Word, BADARG, Two(97, 98)),
+        (Long, 2, Word, SIZE, Two(97, 98)),
+        (Absent, 9, Bytes(998), Truth(false), Two(97, 98)),
+        (Present, 3, Bytes(998), BADARG, Two(97, 98)),
+        (Present, 2, Bytes(998), SIZE, Two(97, 98)),
+        (Present, 2, Bytes(991), SIZE, Two(97, 98)),
+        (Present, 2, Bytes(990), Truth(true), Answer::Other),
     ] {
         let cmd = element(alloc, of, pos, value);
         assert_eq!(rt; play(alloc, &mut table, cmd), answer, "row {row}");
