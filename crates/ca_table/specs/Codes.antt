@@ -1,5 +1,5 @@
 -- Terms of commands as the bytes that a store is handed.
-use Rattle.std.specs.Prelude.{◌≡◌, ℕ, ◌≤◌, ◌<◌, ℤ, true, IsTrue, List, [], ◌∷◌, length, slice_range, Option, None, Some, Result, Ok, Err}
+use Rattle.std.specs.Prelude.{◌≡◌, ℕ, ◌≤◌, ◌<◌, ℤ, true, IsTrue, List, [], ◌∷◌, length, slice_range, Some}
 use Rattle.ca_term.specs.Tree.{Tree, IsTerm, depth}
 use Rattle.ca_term.specs.Code.{code_of}
 use Rattle.ca_term.specs.Object.{is_object, key_of, fits}
