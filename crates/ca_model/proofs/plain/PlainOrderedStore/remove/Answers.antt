@@ -23,7 +23,9 @@ found : (c : goal.After-remove) → IsThere c.self.inside.keypos c.self.inside.o
 found c = there _ _ _ c.find.result _ _ c.self.invariant.ordered c.find.ensures.bound c.find.ensures.position c.in-Ok.is (c.copy.ensures ∙ c.object.ensures)
 
 map_is : (c : goal.After-remove) → c.remove.new.self.pairs ≡ del c.self.inside.objects.pairs c.args.key.now
-map_is c = c.remove.ensures.pairs ∙ removed_is c.self.inside.keypos c.self.inside.objects.pairs c.args.key.now c.in-Ok.at c.self.invariant.ordered (found c).place
+map_is c =
+    c.remove.ensures.pairs
+    ∙ removed_is c.self.inside.keypos c.self.inside.objects.pairs c.args.key.now c.in-Ok.at c.self.invariant.ordered (found c).place
 
 pub invariant_of-self : goal.invariant_of-self
 invariant_of-self c = record {

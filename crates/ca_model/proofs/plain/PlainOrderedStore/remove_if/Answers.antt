@@ -41,7 +41,9 @@ taken : (g : _) → (c : goal.After-remove g) → IsThere c.self.inside.keypos c
 taken g c = there _ _ _ c.find.result _ _ c.self.invariant.ordered c.find.ensures.bound c.find.ensures.position c.in-Ok.is (c.copy.ensures ∙ c.object.ensures)
 
 map_is : (g : _) → (c : goal.After-remove g) → c.remove.new.self.pairs ≡ del c.self.inside.objects.pairs c.args.key.now
-map_is g c = c.remove.ensures.pairs ∙ removed_is c.self.inside.keypos c.self.inside.objects.pairs c.args.key.now c.in-Ok.at c.self.invariant.ordered (taken g c).place
+map_is g c =
+    c.remove.ensures.pairs
+    ∙ removed_is c.self.inside.keypos c.self.inside.objects.pairs c.args.key.now c.in-Ok.at c.self.invariant.ordered (taken g c).place
 
 pub invariant_of-self : goal.invariant_of-self
 invariant_of-self g c = record {
