@@ -1,7 +1,6 @@
 -- The objects of a store map, read one after another, are the table that it stands for.
 use Rattle.std.proofs.Common.{◌≡◌, ℕ, zero, suc, ◌+◌, ◌<◌, List, [], ◌∷◌, ◌++◌, length, map, take, get_or, arith, refl, sym, ◌∙◌, ap, subst}
 use Rattle.std.proofs.lemmas.List.{map-append, take_all, take_more}
-
 use Rattle.ca_term.specs.Tree.{Tree, IsTerm, AreTerms}
 use Rattle.ca_term.specs.Code.{code_of}
 use Rattle.ca_term.specs.Object.{key_of}

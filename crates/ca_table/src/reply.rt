@@ -1,12 +1,12 @@
 //! Replies of updates of counters, whose memory is found before the update.
-ghost use Rattle.std.specs.Prelude.{◌≡◌, ◌≤◌, ℤ, Ok, [], List, IfOk, length, map};
+ghost use Rattle.std.specs.Prelude.{◌≡◌, ◌≤◌, ℤ, Ok, [], List, IfOk, OnErr, length, map};
 ghost use Rattle.ca_term.specs.Tree.{Tree, Row, Integer, elements};
 ghost use Rattle.ca_term.specs.Updates.{counts};
 ghost use Rattle.ca_order.specs.Patches.{IsTupleCode};
 ghost use Rattle.ca_ets.specs.Asked.{operations_in};
 ghost use Rattle.ca_ets.specs.Command.{response_of};
 ghost use Rattle.ca_ets.specs.Step.{reply_of};
-ghost use Rattle.ca_ets.specs.Update.{additions_of};
+ghost use Rattle.ca_ets.specs.Update.{AreSeveral, additions_of};
 ghost use Rattle.ca_table.specs.Room.{IsRoom};
 
 use ca_ets::{Operations, Reply};
@@ -27,7 +27,8 @@ pub(crate) enum Room {
 impl Room {
     // Room for the reply to these operations. Only that of a list takes memory.
     pub(crate) fn new(alloc: Global, operations: &Operations) -> Result<Room, AllocError>
-        ensures { IfOk result (λ room. IsRoom (operations_in operations.now) room) }
+        ensures room { IfOk result (λ room. IsRoom (operations_in operations.now) room) }
+        ensures lack { OnErr result (AreSeveral (operations_in operations.now)) }
     {
         match operations {
             Operations::One(_) => Ok(Room::One),

@@ -1,5 +1,5 @@
 //! A table over a store.
-ghost use Rattle.std.specs.Prelude.{◌≡◌, ◌≤◌, length, map, slice_range, IfOk, IfErr, IsOk, IsTrue, OnOk};
+ghost use Rattle.std.specs.Prelude.{◌≡◌, ◌≤◌, length, map, slice_range, IfOk, IfErr, IsOk, IsTrue, OnOk, OnErr};
 ghost use Rattle.ca_term.specs.Add.{addition_of};
 ghost use Rattle.ca_term.specs.Tree.{Tree};
 ghost use Rattle.ca_term.specs.Updates.{is_open};
@@ -12,6 +12,7 @@ ghost use Rattle.ca_model.specs.StoreMap.{IsPair};
 ghost use Rattle.ca_ets.specs.Step.{fault_of_object};
 ghost use Rattle.ca_table.specs.Codes.{HasObjectCode};
 ghost use Rattle.ca_ets.specs.Unless.{IsUnless};
+ghost use Rattle.ca_ets.specs.Update.{IsFilledList};
 ghost use Rattle.ca_table.specs.ComesTo.{ComesTo, EditsNothing, IsEmptyUpdate};
 ghost use Rattle.ca_table.specs.Renewed.{Updated, by_element, by_operations};
 ghost use Rattle.ca_table.specs.Refusals.{IsRefusal, IsSame, RemovedSame};
@@ -204,6 +205,7 @@ impl<S: OrderedStore + Drop> Table<S> {
         ensures comes { ComesTo self.old self.new budget (UpdateCounter key.now op.now) result }
         ensures read { IsEmptyUpdate self.old.keypos (UpdateCounter key.now op.now) → EditsNothing self.old self.new }
         ensures done { IsEmptyUpdate self.old.keypos (UpdateCounter key.now op.now) → IfOk result (λ outcome. IsDone outcome) }
+        ensures lack { OnErr result (IsFilledList op.now) }
     {
         let keypos = self.keypos();
         let Ok(asked) = Operations::of(alloc, keypos, op) else {
