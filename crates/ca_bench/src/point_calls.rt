@@ -13,6 +13,7 @@ const BUDGET: u32 = 1;
 
 // How many calls are timed at once, and how often; the least time counts.
 const CALLS: u32 = 1_000_000;
+
 const RUNS: u32 = 5;
 
 #[derive(Clone, Copy)]
@@ -23,7 +24,14 @@ enum Call {
     UpdateCounter,
 }
 
-fn play(alloc: Global, table: &mut Table<Plain>, call: Call, key: &Term, object: &Term, by: &Term) -> Played {
+fn play(
+    alloc: Global,
+    table: &mut Table<Plain>,
+    call: Call,
+    key: &Term,
+    object: &Term,
+    by: &Term,
+) -> Played {
     match call {
         Call::Lookup => table.lookup(alloc, key, BUDGET),
         Call::Member => table.member(key, BUDGET),
@@ -46,7 +54,10 @@ fn play_many(alloc: Global, table: &mut Table<Plain>, call: Call, load: &Load) -
     let mut good = 0_u32;
     for i in 0..CALLS {
         let at = (i.wrapping_mul(7_919) % OBJECTS) as usize;
-        if let (Some(key), Some(object)) = (load.keys.as_slice().get(at), load.objects.as_slice().get(at)) {
+        if let (Some(key), Some(object)) = (
+            load.keys.as_slice().get(at),
+            load.objects.as_slice().get(at),
+        ) {
             if is_good(play(alloc, table, call, key, object, &by)) {
                 good = good.wrapping_add(1);
             }
