@@ -32,6 +32,12 @@ enum Call {
     Member,
     Delete,
     Take,
+    // adds 5 to the number
+    UpdateCounter,
+    // `update_counter` by no operations, a read
+    CountNothing,
+    // puts 99 in the place of the number
+    UpdateElement,
 }
 
 // What a call came to; a list of one object is told by the object's number.
@@ -171,10 +177,14 @@ fn number(object: &Term) -> Answer {
     let Kind::Tuple(items) = object.kind() else {
         return Answer::Other;
     };
-    let Some(item) = items.get(1) else {
-        return Answer::Other;
-    };
-    match item.kind() {
+    match items.get(1) {
+        Some(item) => integer(item),
+        None => Answer::Other,
+    }
+}
+
+fn integer(term: &Term) -> Answer {
+    match term.kind() {
         Kind::Int(value) => Answer::Number(value),
         _ => Answer::Other,
     }
@@ -193,6 +203,7 @@ fn told(played: Played) -> Answer {
     };
     match reply {
         Reply::Truth(truth) => Answer::Truth(truth),
+        Reply::Value(value) => integer(&value),
         Reply::Error(fault) => Answer::Error(fault),
         Reply::List(found) => match found.as_slice().first() {
             Some(object) => number(object),
@@ -202,9 +213,18 @@ fn told(played: Played) -> Answer {
     }
 }
 
+// The pair of the number's position and this value: an operation, or another element.
+fn second(alloc: Global, value: i64) -> Result<Term, TermFault> {
+    object(alloc, 2, value)
+}
+
 // Plays a call with this key; what is put has the number 99.
 fn play(alloc: Global, table: &mut Table<Scripted>, call: Call, key: i64) -> Answer {
-    let Ok(object) = object(alloc, key, 99) else {
+    let (Ok(object), Ok(five), Ok(other)) = (
+        object(alloc, key, 99),
+        second(alloc, 5),
+        second(alloc, 99),
+    ) else {
         return Answer::Other;
     };
     told(match call {
@@ -214,6 +234,9 @@ fn play(alloc: Global, table: &mut Table<Scripted>, call: Call, key: i64) -> Ans
         Call::Member => table.member(&int(key), BUDGET),
         Call::Delete => table.delete(&int(key), BUDGET),
         Call::Take => table.take(alloc, &int(key), BUDGET),
+        Call::UpdateCounter => table.update_counter(alloc, &int(key), &five, BUDGET),
+        Call::CountNothing => table.update_counter(alloc, &int(key), &nil(), BUDGET),
+        Call::UpdateElement => table.update_element(&int(key), &other, BUDGET),
     })
 }
 
@@ -458,6 +481,96 @@ fn each_call_answers_by_the_state_behind_the_edits_before_it(rt: HostRuntime) {
             &[],
             YES,
             [10, 0, 0],
+        ),
+    ];
+    let mut row = 0_u32;
+    for (call, key, before, after, answer, left) in rows {
+        let done = outcome(alloc, &[(before, None, after)], call, key);
+        assert_eq!(rt; done, (answer, left), "row {row}");
+        row = row.wrapping_add(1);
+    }
+}
+
+#[test]
+fn updates_are_refused_but_for_want_of_levels_and_one_by_no_operations_is_a_read(rt: HostRuntime) {
+    let alloc = rt.alloc();
+    for (refusal, answer) in REFUSALS {
+        let turn = (BEFORE, Some(refusal), AFTER);
+        let deep = refusal == Refusal::Deep(7);
+        for (call, done, left) in [
+            (Call::UpdateCounter, Answer::Number(15), 15),
+            (Call::UpdateElement, YES, 99),
+        ] {
+            let want = if deep {
+                (done, [left, 0, 31])
+            } else {
+                (answer, [10, 0, 31])
+            };
+            assert_eq!(rt; outcome(alloc, &[turn], call, 1), want);
+        }
+        for (key, read) in [(1, NONE), (2, Answer::Error(Fault::BadArg))] {
+            let done = outcome(alloc, &[turn], Call::CountNothing, key);
+            assert_eq!(rt; done, (read, [10, 0, 31]));
+        }
+    }
+}
+
+#[test]
+fn updates_answer_by_the_state_behind_the_edits_before_them(rt: HostRuntime) {
+    let alloc = rt.alloc();
+    let bad = Answer::Error(Fault::BadArg);
+    let fifteen = Answer::Number(15);
+    let rows: [(Call, i64, Edits, Edits, Answer, Numbers); 9] = [
+        (Call::UpdateCounter, 1, &[], &[], fifteen, [15, 20, 0]),
+        (
+            Call::UpdateCounter,
+            1,
+            &[(1, Some(11))],
+            &[(1, Some(12))],
+            Answer::Number(16),
+            [12, 20, 0],
+        ),
+        (Call::UpdateCounter, 1, &[(1, None)], &[], bad, [0, 20, 0]),
+        (
+            Call::UpdateCounter,
+            1,
+            &[],
+            &[(1, None)],
+            fifteen,
+            [0, 20, 0],
+        ),
+        (
+            Call::UpdateCounter,
+            3,
+            &[(3, Some(30))],
+            &[],
+            Answer::Number(35),
+            [10, 20, 35],
+        ),
+        (Call::UpdateElement, 1, &[(1, None)], &[], NO, [0, 20, 0]),
+        (
+            Call::UpdateElement,
+            3,
+            &[(3, Some(30))],
+            &[],
+            YES,
+            [10, 20, 99],
+        ),
+        (
+            Call::UpdateElement,
+            3,
+            &[],
+            &[(3, Some(30))],
+            NO,
+            [10, 20, 30],
+        ),
+        (
+            Call::CountNothing,
+            3,
+            &[(3, Some(30))],
+            &[(3, None)],
+            NONE,
+            [10, 20, 0],
         ),
     ];
     let mut row = 0_u32;
