@@ -4,6 +4,7 @@ pub mod ListedOperations
 pub mod Merges
 pub mod Objects
 pub mod OneClient
+pub mod OperatorRows
 pub mod Places
 pub mod Puts
 pub mod Runs

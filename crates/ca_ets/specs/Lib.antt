@@ -6,6 +6,7 @@ pub mod InOrder
 pub mod ListTableView
 pub mod Match
 pub mod Merge
+pub mod OperatorView
 pub mod Operators
 pub mod OrderedMap
 pub mod Place

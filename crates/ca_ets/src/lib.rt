@@ -6,11 +6,13 @@ mod change;
 mod command;
 mod laws;
 mod object;
+mod operator;
 mod table;
 mod update;
 
 pub use command::{Cmd, Cont, Fault, Reply};
 pub use laws::{no_commands, no_files, one_client, steps_keep, tables_stay_ordered};
+pub use operator::Operator;
 pub use table::ListTable;
 pub use update::{Operations, element, reply_of};
 
