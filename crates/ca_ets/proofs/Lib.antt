@@ -11,3 +11,4 @@ pub mod Runs
 pub mod Steps
 pub mod Turns
 pub mod Updates
+pub mod Words

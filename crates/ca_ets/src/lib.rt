@@ -5,6 +5,7 @@
 mod change;
 mod command;
 mod laws;
+mod number;
 mod object;
 mod operator;
 mod table;
