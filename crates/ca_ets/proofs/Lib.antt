@@ -5,6 +5,7 @@ pub mod Merges
 pub mod Objects
 pub mod OneClient
 pub mod OperatorRows
+pub mod Pieces
 pub mod Places
 pub mod Puts
 pub mod Runs

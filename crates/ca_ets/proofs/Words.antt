@@ -28,7 +28,8 @@ where_word z b = if b then Some (Integer z) else None
 pub word_of_word : (z : ℤ) → FitsSigned w64 z → word z ≡ Some (Integer z)
 word_of_word z h = ap (where_word z) (fits_is_word z h)
 
-no_word : (z : ℤ) → ¬ FitsSigned w64 z → None ≡ word z
+-- An integer that doesn't fit is none.
+pub no_word : (z : ℤ) → ¬ FitsSigned w64 z → None ≡ word z
 no_word z h = sym (ap (where_word z) (no_fit_no_word z h))
 
 -- Some integer exactly where it fits.

@@ -8,6 +8,7 @@ mod laws;
 mod number;
 mod object;
 mod operator;
+mod part;
 mod table;
 mod update;
 mod value;
