@@ -9,12 +9,14 @@ mod object;
 mod operator;
 mod table;
 mod update;
+mod variable;
 
 pub use command::{Cmd, Cont, Fault, Reply};
 pub use laws::{no_commands, no_files, one_client, steps_keep, tables_stay_ordered};
 pub use operator::Operator;
 pub use table::ListTable;
 pub use update::{Operations, element, reply_of};
+pub use variable::variable_number;
 
 #[cfg(test)]
 mod tests;

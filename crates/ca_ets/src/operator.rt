@@ -1,5 +1,5 @@
 //! The operators of match specifications' guards, by their names.
-ghost use Rattle.std.specs.Prelude.{◌≡◌};
+ghost use Rattle.std.specs.Prelude.{◌≡◌, IfSome};
 ghost use Rattle.std.specs.Option.{option_map};
 ghost use Rattle.ca_ets.specs.Operators.{count_of, operator_of};
 ghost use Rattle.ca_ets.specs.OperatorView.{meaning_of, name_of, named_in};
@@ -121,7 +121,8 @@ impl Operator {
     /// The operator of this name.
     #[tactic(auto, using(crate::proofs::OperatorRows::table_is))]
     pub fn of(name: &str) -> Option<Operator>
-        ensures { option_map meaning_of result ≡ operator_of name.now }
+        ensures value { option_map meaning_of result ≡ operator_of name.now }
+        ensures named { IfSome result (λ operator. name_of operator ≡ name.now) }
     {
         first_named(&OPERATORS, name)
     }
@@ -146,7 +147,8 @@ impl Operator {
 // The first one of these with this name.
 #[tactic(auto, using(crate::proofs::OperatorRows::row_found, crate::proofs::OperatorRows::row_passed))]
 fn first_named(operators: &[Operator], name: &str) -> Option<Operator>
-    ensures { option_map meaning_of result ≡ named_in operators.now name.now }
+    ensures value { option_map meaning_of result ≡ named_in operators.now name.now }
+    ensures named { IfSome result (λ operator. name_of operator ≡ name.now) }
 {
     for operator in operators {
         if name == operator.name() {
