@@ -1,9 +1,10 @@
 -- Parts and sizes of terms.
 use Rattle.std.proofs.Common.{◌≡◌, ℕ, suc, ◌+◌, ◌-◌, ◌<◌, ◌≤◌, ◌^◌, ℤ, pos, negsuc, List, [], ◌∷◌, length, get_or, slice_index_or, IsSome, Option, Some, None, refl, ap, sym, ◌∙◌, arith}
 use Rattle.std.specs.Option.{option_map}
-use Rattle.ca_term.specs.Tree.{Tree, Row, Integer, Tuple, Nil, Cons, Ends, More, elements, row_of, size}
+use Rattle.ca_term.specs.Tree.{Tree, Row, Integer, Atom, Tuple, Nil, Cons, Binary, Ends, More, elements, row_of, size}
 use Rattle.std.specs.Prelude.{FitsSigned}
 use Rattle.std.specs.Int.{w64}
+use Rattle.ca_term.specs.Updates.{integer_of}
 use Rattle.ca_ets.specs.Operators.{counted, either_size, element, list_length, tuple_size, word}
 use Rattle.ca_ets.proofs.Words.{no_word}
 use Rattle.ca_ets.specs.ValueView.{counted_from, element_at}
@@ -58,3 +59,25 @@ too_many all n t l h = none_counted n (list_length t) l ∙ sym h
 pub no_more : (all : Option Tree) (n : ℕ) (t : Tree) (r : Option ℤ) → Nil ≡ t → all ≡ counted_from n (list_length t) → option_map Integer r ≡ word (pos n)
     → option_map Integer r ≡ all
 no_more all n t r e h w = w ∙ ap (λ (m : ℕ). word (pos m)) (omega arith) ∙ ap (λ (u : Tree). counted_from n (list_length u)) e ∙ sym h
+
+-- ---- elements by a term
+
+some_is : (n m : ℤ) → Some n ≡ Some m → n ≡ m
+some_is n m h = cc
+
+-- The first argument is the place.
+pub element_of : (t u : Tree) (n : ℤ) → Some n ≡ integer_of t → element (Integer n) u ≡ element t u
+element_of (Integer m) u n h = ap (λ (k : ℤ). element (Integer k) u) (some_is n m h)
+element_of (Atom text) u n h = cc
+element_of (Tuple row) u n h = cc
+element_of Nil u n h = cc
+element_of (Cons head tail) u n h = cc
+element_of (Binary bytes) u n h = cc
+
+pub no_element : (t u : Tree) → None ≡ integer_of t → None ≡ element t u
+no_element (Integer m) u h = cc
+no_element (Atom text) u h = refl
+no_element (Tuple row) u h = refl
+no_element Nil u h = refl
+no_element (Cons head tail) u h = refl
+no_element (Binary bytes) u h = refl

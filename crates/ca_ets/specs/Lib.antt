@@ -11,6 +11,7 @@ pub mod Operators
 pub mod OrderedMap
 pub mod Place
 pub mod Specification
+pub mod Spelling
 pub mod Step
 pub mod Table
 pub mod Unless

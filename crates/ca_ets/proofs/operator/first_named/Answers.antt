@@ -5,8 +5,8 @@ use Rattle.ca_ets.proofs.OperatorRows.{row_found, row_passed}
 use Rattle.ca_ets.specs.declared.operator.Operator.TheVariants.{IsAtom}
 use Rattle.ca_ets.proofs.operator.first_named.Goals as goal
 
-pub returns-then-eq : goal.returns-then-eq
-returns-then-eq c =
+pub returns-then-eq-clause-value : goal.returns-then-eq-clause-value
+returns-then-eq-clause-value c =
     sym (c.loop-operator.invariant
     ∙ row_found c.args.operators.now c.loop-operator.operator-index IsAtom c.args.name.now c.loop-operator-test.true
     (sym (ap (bytes_eq c.args.name.now) c.name.ensures) ∙ sym c.eq.ensures ∙ c.if-eq.true))
