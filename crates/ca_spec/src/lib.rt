@@ -5,6 +5,7 @@ mod clause;
 mod expression;
 mod fault;
 mod held;
+mod matching;
 mod pattern;
 mod spec;
 
