@@ -1,15 +1,13 @@
 -- The code's words for why a term is no match specification, and those of the definition.
 use Rattle.std.specs.Prelude.{◌≡◌, ℕ, ◌-◌, ◌^◌, min, Option, Some, option_map}
 use Rattle.ca_term.specs.Tree.{Tree}
-use Rattle.ca_ets.specs.Specification.{Reason, NotAList, NotAClause, BadHead, BadGuard, BadBody, Unbound, Part, Guard, Body, first_fault}
+use Rattle.ca_ets.specs.Specification.{Reason, NotAList, NotAClause, BadHead, BadGuard, BadBody, Unbound, first_fault}
 use Rattle.ca_spec.specs.declared.fault.SpecWhy.{SpecWhy}
 use Rattle.ca_spec.specs.declared.fault.SpecWhy.TheVariants as why
 use Rattle.ca_spec.specs.declared.fault.SpecFault.{SpecFault}
 use Rattle.ca_spec.specs.declared.fault.SpecFault.TheVariants as spec_fault
 use Rattle.ca_spec.specs.declared.fault.Stop.{Stop}
 use Rattle.ca_spec.specs.declared.fault.Stop.TheVariants as stop
-use Rattle.ca_spec.specs.declared.fault.Part.{Part as Place}
-use Rattle.ca_spec.specs.declared.fault.Part.TheVariants as place
 
 abbrev pub reason_of : SpecWhy → Reason
 reason_of why.NotAList = NotAList
@@ -18,10 +16,6 @@ reason_of why.BadHead = BadHead
 reason_of why.BadGuard = BadGuard
 reason_of why.BadBody = BadBody
 reason_of why.Unbound = Unbound
-
-abbrev pub part_of : Place → Part
-part_of place.Guard = Guard
-part_of place.Body = Body
 
 -- Compiling a part that has this first fault stopped so; want of memory has no cause.
 abbrev pub IsStop : Option Reason → Stop → Type 0

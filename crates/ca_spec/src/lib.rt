@@ -3,9 +3,12 @@
 
 mod clause;
 mod expression;
+mod expressions;
 mod fault;
+mod heads;
 mod held;
 mod pattern;
+mod scope;
 mod spec;
 
 pub use fault::{SpecFault, SpecWhy};
