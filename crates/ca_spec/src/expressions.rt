@@ -173,7 +173,12 @@ fn operator(scope: &Scope, text: &str, count: usize) -> Result<Operator, Stop>
 // {Op,E1,..,En} by the operator and its arguments.
 #[cycle(expression)]
 #[tactic(auto, using(crate::proofs::Calls::operand_faults), unfolding(ca_ets::specs::Specification::faults))]
-fn operation(alloc: Global, scope: &Scope, operator: Operator, arguments: &[Term]) -> Result<Expression, Stop>
+fn operation(
+    alloc: Global,
+    scope: &Scope,
+    operator: Operator,
+    arguments: &[Term],
+) -> Result<Expression, Stop>
     requires scope { IsScope scope.now }
     requires counted { count_of (meaning_of operator) ≡ length arguments.now }
     ensures ok { IfOk result (λ expression. expression ≡ Tuple (More (Atom (name_of operator)) (row_of arguments.now))) }

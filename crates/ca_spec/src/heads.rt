@@ -100,7 +100,12 @@ fn parts(alloc: Global, items: &[Term], variables: &mut Variables) -> Result<Vec
 // A list by its first head and what stands behind it. It goes along the tail in a loop: a list may be longer than the stack is deep.
 #[cycle(part)]
 #[tactic(auto, using(ca_term::proofs::Lists::list_push))]
-fn cells(alloc: Global, first: &Term, behind: &Term, variables: &mut Variables) -> Result<Pattern, Stop>
+fn cells(
+    alloc: Global,
+    first: &Term,
+    behind: &Term,
+    variables: &mut Variables,
+) -> Result<Pattern, Stop>
     ensures ok { IfOk result (λ pattern. pattern ≡ Cons first.now behind.now) }
     ensures variables { OnOk result (variables.new ≡ with_variables (Cons first.now behind.now) variables.old) }
     ensures err { IfErr result (λ stop. stop ≡ Stop.NoMemory) }

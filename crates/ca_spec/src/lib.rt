@@ -2,6 +2,7 @@
 #![tactic(auto)]
 
 mod clause;
+mod compiler;
 mod expression;
 mod expressions;
 mod fault;
@@ -11,5 +12,6 @@ mod pattern;
 mod scope;
 mod spec;
 
+pub use compiler::compile;
 pub use fault::{SpecFault, SpecWhy};
 pub use spec::Spec;
