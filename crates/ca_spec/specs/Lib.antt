@@ -8,4 +8,5 @@ pub mod Parts
 pub mod Places
 pub mod PatternFalls
 pub mod PatternView
+pub mod ScopeView
 pub mod SpecView

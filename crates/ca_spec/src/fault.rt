@@ -50,13 +50,6 @@ impl<T: Drop> From<AllocFailed<T>> for SpecFault {
     }
 }
 
-// Where an expression stands.
-#[derive(Clone, Copy, Debug, PartialEq, Eq)]
-pub(crate) enum Part {
-    Guard,
-    Body,
-}
-
 // Why compiling a part stopped.
 #[derive(Clone, Copy, Debug, PartialEq, Eq)]
 pub(crate) enum Stop {

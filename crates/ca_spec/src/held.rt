@@ -4,6 +4,7 @@ ghost use Rattle.std.specs.Prelude.{◌≡◌, ◌<◌, ◌≤◌};
 use std::marker::Model;
 
 /// The variables of a head that were met so far.
+#[derive(Drop)]
 pub(crate) struct Variables {
     // which they are, by their numbers
     table: [bool; 100],

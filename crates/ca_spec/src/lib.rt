@@ -2,12 +2,17 @@
 #![tactic(auto)]
 
 mod clause;
+mod compiler;
 mod expression;
+mod expressions;
 mod fault;
+mod heads;
 mod held;
 mod matching;
 mod pattern;
+mod scope;
 mod spec;
 
+pub use compiler::compile;
 pub use fault::{SpecFault, SpecWhy};
 pub use spec::Spec;
