@@ -72,7 +72,8 @@ fn bind_cells<'a>(
     term: &'a Term,
     table: &mut [Option<&'a Term>],
 ) -> bool
-    requires { places (list_of heads.now tail.now) ≤ length table.old }
+    requires some { 0 < length heads.now }
+    requires room { places (list_of heads.now tail.now) ≤ length table.old }
     ensures { bind (list_of heads.now tail.now) term.now (table_of table.old) ≡ (if result then Some (table_of table.new) else None) }
 {
     let mut rest = term;

@@ -1,0 +1,44 @@
+-- Tables of places, and the bindings that they hold.
+use Rattle.std.proofs.Common.{◌≡◌, ℕ, zero, suc, ◌≤◌, ◌<◌, ◌+◌, ◌-◌, List, [], ◌∷◌, ◌++◌, length, set, get_or, map, replicate, Option, Some, None, Bor, refl, ap, sym, ◌∙◌, arith}
+use Rattle.std.proofs.lemmas.List.{length-set}
+use Rattle.ca_term.specs.Tree.{Tree}
+use Rattle.ca_ets.specs.Match.{Bindings, bind_variable, bound, no_bindings, where_equal}
+use Rattle.ca_spec.specs.Bound.{bound_at, table_of}
+
+abbrev Table : Type 0
+Table = List (Option (Bor Tree))
+
+get_front : (table : Table) (rest : Bindings) (n : ℕ) (d : Option (Bor Tree)) → n < length table
+    → get_or (map bound_at table ++ rest) n None ≡ bound_at (get_or table n d)
+get_front [] rest n d h = absurd (omega arith)
+get_front (x ∷ xs) rest zero d h = refl
+get_front (x ∷ xs) rest (suc n) d h = get_front xs rest n d (omega arith)
+
+-- What is bound to a variable stands at its place.
+pub bound_in : (table : List (Option (Bor Tree))) (n : ℕ) (d : Option (Bor Tree)) → n < length table
+    → bound (table_of table) n ≡ bound_at (get_or table n d)
+bound_in table n d h = get_front table (replicate (100 - length table) None) n d h
+
+set_front : (table : Table) (rest : Bindings) (n : ℕ) (v : Option (Bor Tree)) → n < length table
+    → set (map bound_at table ++ rest) n (bound_at v) ≡ map bound_at (set table n v) ++ rest
+set_front [] rest n v h = absurd (omega arith)
+set_front (x ∷ xs) rest zero v h = refl
+set_front (x ∷ xs) rest (suc n) v h = ap (λ (more : Bindings). bound_at x ∷ more) (set_front xs rest n v (omega arith))
+
+set_in : (table : Table) (n : ℕ) (v : Option (Bor Tree)) → n < length table → set (table_of table) n (bound_at v) ≡ table_of (set table n v)
+set_in table n v h =
+    set_front table (replicate (100 - length table) None) n v h
+    ∙ ap (λ (k : ℕ). map bound_at (set table n v) ++ replicate (100 - k) None) (sym (length-set table n v))
+
+-- A variable that isn't bound is bound to the term.
+pub variable_new : (table : List (Option (Bor Tree))) (n : ℕ) (d : Option (Bor Tree)) (term : Bor Tree) → n < length table → get_or table n d ≡ None
+    → bind_variable (table_of table) n (bound (table_of table) n) term.now ≡ Some (table_of (set table n (Some term)))
+variable_new table n d term h e =
+    ap (λ (b : Option Tree). bind_variable (table_of table) n b term.now) (bound_in table n d h ∙ ap bound_at e)
+    ∙ ap (λ (b : Bindings). Some b) (set_in table n (Some term) h)
+
+-- One that is bound meets an equal term.
+pub variable_old : (table : List (Option (Bor Tree))) (n : ℕ) (d : Option (Bor Tree)) (own : Bor Tree) (t : Tree) → n < length table
+    → get_or table n d ≡ Some own → bind_variable (table_of table) n (bound (table_of table) n) t ≡ where_equal (table_of table) own.now t
+variable_old table n d own t h e =
+    ap (λ (b : Option Tree). bind_variable (table_of table) n b t) (bound_in table n d h ∙ ap bound_at e)
