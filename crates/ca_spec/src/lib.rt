@@ -3,6 +3,7 @@
 
 mod clause;
 mod compiler;
+mod evaluation;
 mod expression;
 mod expressions;
 mod fault;
