@@ -13,7 +13,7 @@ use ca_term::{Term, TermFault, Terms, list, nil, try_copy, tuple};
 use std::alloc::{AllocError, Global};
 
 // A value, where the expression doesn't fail, or want of memory.
-type Evaluated<'a> = Result<Option<Value<'a>>, AllocError>;
+pub(crate) type Evaluated<'a> = Result<Option<Value<'a>>, AllocError>;
 
 // The value of an expression for an object with these bindings.
 #[cycle(value)]

@@ -1,6 +1,7 @@
 //! Match specifications of Erlang's `ets`, compiled once and applied to many objects.
 #![tactic(auto)]
 
+mod apply;
 mod clause;
 mod compiler;
 mod evaluation;
@@ -14,6 +15,7 @@ mod pattern;
 mod scope;
 mod spec;
 
+pub use apply::apply;
 pub use compiler::compile;
 pub use fault::{SpecFault, SpecWhy};
 pub use spec::Spec;
