@@ -1,8 +1,8 @@
 -- Parts of heads against terms.
-use Rattle.std.proofs.Common.{◌≡◌, ◌≢◌, ℕ, zero, suc, ◌≤◌, ◌<◌, ◌+◌, max, Bool, true, false, List, [], ◌∷◌, length, drop, get_or, Option, Some, None, refl, ap, sym, ◌∙◌, arith, add-one, drop-cons}
+use Rattle.std.proofs.Common.{◌≡◌, ◌≢◌, ℕ, zero, suc, ◌≤◌, ◌<◌, ◌+◌, Bool, true, false, List, [], ◌∷◌, length, drop, get_or, Option, Some, None, refl, ap, sym, ◌∙◌, arith, add-one, drop-cons}
 use Rattle.std.proofs.lemmas.List.{drop_all}
-use Rattle.std.specs.Prelude.{codes, if◌then◌else◌, option_and_then, option_map, is_none, not, ◌&&◌}
-use Rattle.ca_term.specs.Tree.{Tree, Row, Integer, Atom, Tuple, Nil, Cons, Binary, Ends, More, is_cell, list_of, nodes, row_nodes, row_of}
+use Rattle.std.specs.Prelude.{codes, if◌then◌else◌, option_and_then, is_none, not, ◌&&◌}
+use Rattle.ca_term.specs.Tree.{Tree, Row, Integer, Atom, Tuple, Nil, Cons, Binary, is_cell, list_of, nodes, row_of}
 use Rattle.ca_term.proofs.Rows.{nodes_item}
 use Rattle.ca_ets.specs.Match.{Bindings, bind, bind_name, bind_row, bind_variable, bound, where_equal}
 use Rattle.ca_ets.specs.Operators.{is_tuple}

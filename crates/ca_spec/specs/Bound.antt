@@ -1,5 +1,5 @@
 -- The bindings that a table of places holds.
-use Rattle.std.specs.Prelude.{ℕ, ◌-◌, List, ◌++◌, length, map, replicate, Option, None, option_map}
+use Rattle.std.specs.Prelude.{◌-◌, List, ◌++◌, length, map, replicate, Option, None, option_map}
 use Rattle.std.specs.Borrow.{Bor}
 use Rattle.ca_term.specs.Tree.{Tree}
 use Rattle.ca_ets.specs.Match.{Bindings, Scene}

@@ -163,9 +163,7 @@ fn terms<'a>(
     object: &'a Term,
     table: &[Option<&'a Term>],
 ) -> Result<Option<Terms>, AllocError>
-    ensures {
-        IfOk result (λ terms. option_map (λ ts. ts.items) terms ≡ all_values (values (scene_of object.now table.now) (row_of parts.now)))
-    }
+    ensures { IfOk result (λ terms. option_map (λ ts. ts.items) terms ≡ all_values (values (scene_of object.now table.now) (row_of parts.now))) }
 {
     let mut terms = Terms::new(alloc);
     for part in parts {
@@ -189,10 +187,8 @@ fn value_of_two<'a>(
     table: &[Option<&'a Term>],
 ) -> Evaluated<'a>
     requires { stop_of (meaning_of operator) ≡ None }
-    ensures {
-        let scene = scene_of object.now table.now in
-        IfOk result (λ v. option_map tree_of_value v ≡ applied (meaning_of operator) (value scene a.now ∷ value scene b.now ∷ []))
-    }
+    ensures { let scene = scene_of object.now table.now in
+        IfOk result (λ v. option_map tree_of_value v ≡ applied (meaning_of operator) (value scene a.now ∷ value scene b.now ∷ [])) }
 {
     let Some(a) = value(alloc, a, object, table)? else {
         return Ok(None);
@@ -214,10 +210,8 @@ fn short_value<'a>(
     object: &'a Term,
     table: &[Option<&'a Term>],
 ) -> Evaluated<'a>
-    ensures {
-        let scene = scene_of object.now table.now in
-        IfOk result (λ v. option_map tree_of_value v ≡ applied (Short stop) (value scene a.now ∷ value scene b.now ∷ []))
-    }
+    ensures { let scene = scene_of object.now table.now in
+        IfOk result (λ v. option_map tree_of_value v ≡ applied (Short stop) (value scene a.now ∷ value scene b.now ∷ [])) }
 {
     match truth(&value(alloc, a, object, table)?) {
         Some(first) => {

@@ -1,7 +1,6 @@
 //! Match specifications of Erlang's `ets`, compiled once and applied to many objects.
 #![tactic(auto)]
 
-mod apply;
 mod clause;
 mod compiler;
 mod evaluation;
@@ -12,10 +11,11 @@ mod heads;
 mod held;
 mod matching;
 mod pattern;
+mod results;
 mod scope;
 mod spec;
 
-pub use apply::apply;
 pub use compiler::compile;
 pub use fault::{SpecFault, SpecWhy};
+pub use results::apply;
 pub use spec::Spec;

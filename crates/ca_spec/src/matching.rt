@@ -32,9 +32,7 @@ pub(crate) fn bind<'a>(pattern: &Pattern, term: &'a Term, table: &mut [Option<&'
 #[tactic(auto, using(crate::proofs::Tables::variable_new, crate::proofs::Tables::variable_old))]
 fn bind_variable<'a>(number: usize, term: &'a Term, table: &mut [Option<&'a Term>]) -> bool
     requires { number < length table.old }
-    ensures {
-        bind_variable (table_of table.old) number (bound (table_of table.old) number) term.now ≡ (if result then Some (table_of table.new) else None)
-    }
+    ensures { bind_variable (table_of table.old) number (bound (table_of table.old) number) term.now ≡ (if result then Some (table_of table.new) else None) }
 {
     match table[number] {
         Some(own) => term_order(own, term).is_eq(),

@@ -1,9 +1,8 @@
 -- The exits of an expression's value.
-use Rattle.std.proofs.Common.{◌≡◌, List, [], ◌∷◌, Option, Some, None, ap, sym, ◌∙◌, arith, subst}
+use Rattle.std.proofs.Common.{◌≡◌, [], ◌∷◌, Option, ap, sym, ◌∙◌, subst}
 use Rattle.std.specs.Prelude.{IfOk, option_map}
-use Rattle.ca_term.specs.Tree.{Tree, Tuple, Atom, More, Ends, nodes, row_nodes, row_of}
+use Rattle.ca_term.specs.Tree.{Tree}
 use Rattle.ca_ets.specs.Match.{value}
-use Rattle.ca_ets.specs.OperatorView.{name_of}
 use Rattle.ca_ets.specs.Operators.{Short, applied}
 use Rattle.ca_ets.specs.ValueView.{tree_of_value}
 use Rattle.ca_spec.specs.Bound.{scene_of}
@@ -27,7 +26,7 @@ value-returns-in-Constant t c =
     (sym (ap tree_of_form c.in-Constant.is) ∙ c.expression.view_is)
 
 pub value-returns-in-None-2 : goal.value-returns-in-None-2
-value-returns-in-None-2 t c = 
+value-returns-in-None-2 t c =
     one_none (scene_of c.args.object.now c.args.table.now) c.args.expression.now c.in-One.operator c.in-One.a.value
     (sym (ap tree_of_form c.in-One.is) ∙ c.expression.view_is)
     (ap (option_map tree_of_value) (sym c.in-None-2.is) ∙ c.in_ok-a-in-One.ensures

@@ -1,5 +1,5 @@
 -- List cells.
-use Rattle.std.proofs.Common.{◌≡◌, ◌<◌, ◌≤◌, length, ap, sym, ◌∙◌, arith}
+use Rattle.std.proofs.Common.{◌<◌, ◌≤◌, length, ap, sym, ◌∙◌, arith}
 use Rattle.ca_term.specs.Tree.{Tree, list_of, nodes}
 use Rattle.ca_ets.specs.Match.{bind}
 use Rattle.ca_spec.specs.Bound.{table_of}
@@ -19,8 +19,12 @@ bind_cells-bind-requires t c =
     let n : nodes c.head-item.result < nodes (list_of c.args.heads.now c.args.tail.now) =
     omega (arith, ap nodes c.head-item.is, head_nodes c.args.heads.now c.args.tail.now c.loop-head.head-index c.head-item.result (omega arith)) in
     let p : places c.head-item.result ≤ length c.args.table.now =
-    omega (arith, ap places c.head-item.is, head_places c.args.heads.now c.args.tail.now c.loop-head.head-index (length c.args.table.now) c.head-item.result
-    (omega arith) c.requires.room) in
+    omega (
+      arith,
+      ap places c.head-item.is,
+      head_places c.args.heads.now c.args.tail.now c.loop-head.head-index (length c.args.table.now) c.head-item.result
+          (omega arith) c.requires.room,
+    ) in
     (omega (arith, c.decreases), omega arith)
 
 pub bind_cells-bind-requires-2 : goal.bind_cells-bind-requires-2

@@ -1,5 +1,5 @@
 -- What is left to fit, from the bindings so far.
-use Rattle.std.proofs.Common.{◌≡◌, ◌+◌, ◌*◌, ◌≤◌}
+use Rattle.std.proofs.Common.{◌≡◌, ◌+◌, ◌*◌}
 use Rattle.ca_term.specs.Tree.{list_of, nodes, row_nodes, row_of}
 use Rattle.ca_ets.specs.Match.{bind, bind_row}
 use Rattle.ca_spec.specs.Bound.{table_of}

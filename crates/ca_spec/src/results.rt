@@ -18,7 +18,7 @@ use std::alloc::{AllocError, Global};
 /// head fits, its guards all have the value true and its body doesn't fail. Memory is taken only for what is new: for tuples and list cells of
 /// expressions, parts of these, and the result.
 /// Source: the ERTS user's guide, "Match Specifications in Erlang"; that a value over `MOST_DEPTH` deep fails is this project's own.
-#[tactic(auto, using(crate::proofs::Results::of_source))]
+#[tactic(auto, using(crate::proofs::ClauseResults::of_source))]
 pub fn apply(alloc: Global, spec: &Spec, object: &Term) -> Result<Option<Term>, AllocError>
     ensures { IfOk result (λ found. found ≡ result_of spec.now object.now) }
 {
@@ -26,8 +26,12 @@ pub fn apply(alloc: Global, spec: &Spec, object: &Term) -> Result<Option<Term>, 
 }
 
 // The result of the first clause that holds.
-#[tactic(auto, using(crate::proofs::Results::first_results))]
-fn first_result(alloc: Global, clauses: &[Clause], object: &Term) -> Result<Option<Term>, AllocError>
+#[tactic(auto, using(crate::proofs::ClauseResults::first_results))]
+fn first_result(
+    alloc: Global,
+    clauses: &[Clause],
+    object: &Term,
+) -> Result<Option<Term>, AllocError>
     ensures { IfOk result (λ found. found ≡ result_of (list_of (trees_of_clauses clauses.now) Nil) object.now) }
 {
     for clause in clauses {
@@ -54,7 +58,7 @@ fn result_of_clause<'a>(alloc: Global, clause: &'a Clause, object: &'a Term) -> 
 }
 
 // The result of a clause where it holds, with this table, which is empty.
-#[tactic(auto, using(crate::proofs::Results::clause_results))]
+#[tactic(auto, using(crate::proofs::ClauseResults::clause_results))]
 fn result_with<'a>(
     alloc: Global,
     clause: &'a Clause,
