@@ -15,3 +15,6 @@ mod spec;
 pub use compiler::compile;
 pub use fault::{SpecFault, SpecWhy};
 pub use spec::Spec;
+
+#[cfg(test)]
+mod tests;
