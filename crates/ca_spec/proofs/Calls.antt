@@ -22,7 +22,8 @@ form_is_call scope t (u ∷ us) h =
 
 -- The arguments of an operator that stands there with so many have the fault of the call.
 pub call_well : (scope : Scope) (text : List ℕ) (arguments : List Tree) → bytes_eq text (codes "const") ≡ false
-    → true ≡ is_call (part_of scope.part) text (length arguments) → call_fault_in scope (Atom text) (row_of arguments) ≡ faults_in scope (row_of arguments)
+    → true ≡ is_call (part_of scope.part) text (length arguments)
+    → call_fault_in scope (Atom text) (row_of arguments) ≡ faults_in scope (row_of arguments)
 call_well scope text arguments other h = rw (other, size_row arguments, ← h)
 
 pub call_bad : (scope : Scope) (text : List ℕ) (arguments : List Tree) → bytes_eq text (codes "const") ≡ false

@@ -6,7 +6,8 @@ use Rattle.ca_spec.specs.declared.clause.Clause.{Clause}
 use Rattle.ca_spec.specs.ClauseView.{tree_of_clause, tree_of_parts, trees_of_clauses}
 
 -- One more clause at the end of the clauses may stand at the front of what is left.
-pub clauses_push : (cs : List Clause) (c : Clause) (t : Tree) → list_of (trees_of_clauses (cs ++ c ∷ [])) t ≡ list_of (trees_of_clauses cs) (Cons (tree_of_clause c) t)
+pub clauses_push : (cs : List Clause) (c : Clause) (t : Tree)
+    → list_of (trees_of_clauses (cs ++ c ∷ [])) t ≡ list_of (trees_of_clauses cs) (Cons (tree_of_clause c) t)
 clauses_push [] c t = refl
 clauses_push (d ∷ cs) c t = ap (Cons (tree_of_clause d)) (clauses_push cs c t)
 

@@ -1,13 +1,13 @@
 -- The variables that were met are those of the head.
 use Rattle.std.proofs.Common.{◌≡◌, ℕ, suc, ◌≤◌, ◌<◌, ◌+◌, max, Bool, true, false, List, [], ◌∷◌, length, set, get_or, replicate, Option, Some, None, refl, ap, sym, ◌∙◌, arith}
 use Rattle.std.proofs.lemmas.Bool.Decides.{nat_tests}
-use Rattle.std.proofs.lemmas.List.{get_or-replicate, get_or-set_same, get_or-set_other, length-set}
+use Rattle.std.proofs.lemmas.List.{get_or-replicate, get_or-set_same, get_or-set_other, length-replicate, length-set}
 use Rattle.std.proofs.Math.Bool.{or_assoc}
 use Rattle.std.specs.Prelude.{◌||◌, ◌==◌}
 use Rattle.ca_term.specs.Tree.{Tree, Row, Integer, Atom, Tuple, Nil, Cons, Binary, Ends, More}
 use Rattle.ca_ets.specs.Variable.{variable_of}
 use Rattle.ca_ets.specs.Specification.{holds, row_holds, is_variable}
-use Rattle.ca_spec.specs.Held.{Held, AreOf, with_variable, with_variables, with_row}
+use Rattle.ca_spec.specs.Held.{Held, AreOf, none_met, with_variable, with_variables, with_row}
 use Rattle.ca_spec.specs.Places.{places, row_places, places_of_variable}
 
 or_true : (b : Bool) → true ≡ (b || true)
@@ -61,7 +61,8 @@ mutual
   held_table (Tuple row) held n h = held_row row held n h
   held_table Nil held n h = or_false (get_or held.table n false)
   held_table (Cons head tail) held n h =
-      both (get_or held.table n false) (get_or (with_variables head held).table n false) (get_or (with_variables tail (with_variables head held)).table n false)
+      both (get_or held.table n false) (get_or (with_variables head held).table n false)
+      (get_or (with_variables tail (with_variables head held)).table n false)
       (holds n head) (holds n tail) (held_table tail (with_variables head held) n (rw (as_long head held) h)) (held_table head held n h)
   held_table (Binary bytes) held n h = or_false (get_or held.table n false)
 
@@ -89,12 +90,15 @@ mutual
   held_row_places Ends held = omega arith
   held_row_places (More t row) held = omega (arith, held_row_places row (with_variables t held), held_places t held)
 
+no_table : (head : Tree) (n : ℕ) → n < 100 → get_or (with_variables head none_met).table n false ≡ holds n head
+no_table head n h =
+    held_table head none_met n (omega (arith, length-replicate 100 false)) ∙ ap (λ (b : Bool). b || holds n head) (get_or-replicate 100 n false false h)
+
 -- From none on, the variables that a head adds are those of the head.
-pub none_held : (head : Tree) (none held : Held) → none.table ≡ replicate 100 false → none.places ≡ 0 → held ≡ with_variables head none → AreOf head held
-none_held head none held e f g = record {
-  table_is = λ n h.
-      let t : get_or none.table n false ≡ false = rw e (get_or-replicate 100 n false false h) in
-      let l : n < length none.table = rw e h in
-      ap (λ (x : Held). get_or x.table n false) g ∙ held_table head none n l ∙ ap (λ (b : Bool). b || holds n head) t;
-  places_are = ap (λ (x : Held). x.places) g ∙ omega (arith, held_places head none, f);
-}
+pub none_held : (head : Tree) (none held : Held) → none ≡ none_met → held ≡ with_variables head none → AreOf head held
+none_held head none held e f =
+    let g : held ≡ with_variables head none_met = f ∙ ap (with_variables head) e in
+    record {
+      table_is = λ n h. ap (λ (x : Held). get_or x.table n false) g ∙ no_table head n h;
+      places_are = ap (λ (x : Held). x.places) g ∙ omega (arith, held_places head none_met);
+    }

@@ -1,5 +1,5 @@
 -- The variables of a head, collected from the left.
-use Rattle.std.specs.Prelude.{◌≡◌, ℕ, ◌+◌, ◌<◌, max, Bool, true, false, List, slice_index_or, slice_set, Option, Some, None}
+use Rattle.std.specs.Prelude.{◌≡◌, ℕ, ◌+◌, ◌<◌, max, Bool, true, false, List, replicate, slice_index_or, slice_set, Option, Some, None}
 use Rattle.ca_term.specs.Tree.{Tree, Row, Integer, Atom, Tuple, Nil, Cons, Binary, Ends, More}
 use Rattle.ca_ets.specs.Variable.{variable_of}
 use Rattle.ca_ets.specs.Specification.{holds}
@@ -9,6 +9,9 @@ use Rattle.ca_spec.specs.Places.{places}
 pub record Held : Type 0 where
   pub table : List Bool
   pub places : ℕ
+
+abbrev pub none_met : Held
+none_met = record { table = replicate 100 false; places = 0 }
 
 abbrev pub with_variable : Option ℕ → Held → Held
 with_variable None held = held

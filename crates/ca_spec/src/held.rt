@@ -24,13 +24,12 @@ impl Model for Variables {
 }
 
 impl Variables {
-    ghost use Rattle.std.specs.Prelude.{Some, replicate, false, slice_index_or};
-    ghost use Rattle.ca_spec.specs.Held.{with_variable};
+    ghost use Rattle.std.specs.Prelude.{Some, false, slice_index_or};
+    ghost use Rattle.ca_spec.specs.Held.{none_met, with_variable};
 
     // None of them.
     pub(crate) fn none() -> Variables
-        ensures table { result.table ≡ replicate 100 false }
-        ensures places { result.places ≡ 0 }
+        ensures { result ≡ none_met }
     {
         Variables {
             table: [false; 100],

@@ -19,3 +19,6 @@ pub use compiler::compile;
 pub use fault::{SpecFault, SpecWhy};
 pub use results::apply;
 pub use spec::Spec;
+
+#[cfg(test)]
+mod tests;
