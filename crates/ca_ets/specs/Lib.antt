@@ -6,12 +6,15 @@ pub mod InOrder
 pub mod ListTableView
 pub mod Match
 pub mod Merge
+pub mod OperatorView
 pub mod Operators
 pub mod OrderedMap
 pub mod Place
 pub mod Specification
+pub mod Spelling
 pub mod Step
 pub mod Table
 pub mod Unless
 pub mod Update
+pub mod ValueView
 pub mod Variable

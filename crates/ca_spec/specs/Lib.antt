@@ -1,0 +1,12 @@
+pub mod Bound
+pub mod ClauseView
+pub mod ExpressionFalls
+pub mod ExpressionView
+pub mod Faults
+pub mod Held
+pub mod Parts
+pub mod Places
+pub mod PatternFalls
+pub mod PatternView
+pub mod ScopeView
+pub mod SpecView
