@@ -1,6 +1,6 @@
 #!/bin/sh
-# Compares with a real Erlang: the order of random terms, by the terms and by the bytes of their codes; and what is read of term texts; and the
-# replies to random command files.
+# Compares with a real Erlang: the order of random terms, by the terms and by the bytes of their codes; what is read of term texts; what random
+# match specifications choose; and the replies to random command files.
 # KIT is the kit's folder. Where there is no Erlang or no rustc it says so and passes.
 set -eu
 cd "$(dirname "$0")/../.."
@@ -20,6 +20,10 @@ tools/harness tests/otp/texts.rs "$OUT/texts"
 escript tests/otp/texts.escript make "${TEXTS:-2000}" >"$OUT/texts.txt"
 "$OUT/texts" <"$OUT/texts.txt" >"$OUT/answers.txt"
 escript tests/otp/texts.escript compare "$OUT/answers.txt"
+tools/harness tests/otp/specs.rs "$OUT/specs"
+escript tests/otp/specs.escript make "${SPECS:-2000}" >"$OUT/specs.txt"
+"$OUT/specs" <"$OUT/specs.txt" >"$OUT/chosen.txt"
+escript tests/otp/specs.escript compare "$OUT/chosen.txt"
 mkdir "$OUT/calls"
 escript tests/otp/calls.escript "${CALLS:-300}" "${SEED:-1}" "$OUT/calls"
 (cd crates/ca_cli && rt try --cases "$OUT/calls" -- run {})

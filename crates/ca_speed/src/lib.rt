@@ -1,12 +1,13 @@
 //! Calls of the crates of codes and of texts for programs that are not Rattle: the speed harness and the tests.
 //!
-//! But for `ca_speed_read` terms come in as their codes, and a call answers 0 where a code is no term's or memory is lacking.
+//! But for `ca_speed_read` and `ca_speed_choose` terms come in as their codes, and a call answers 0 where a code is no term's or memory is lacking.
 #![tactic(auto)]
 
 ghost use Rattle.std.specs.Prelude.{◌≤◌};
 
 use ca_order::{Code, compare, decode, encode};
-use ca_term::Terms;
+use ca_spec::{SpecFault, SpecWhy, apply, compile};
+use ca_term::{Term, Terms};
 use ca_text::{TextFault, print_term, read_term};
 use std::alloc::Global;
 use std::cmp::Ordering;
@@ -138,4 +139,75 @@ fn read(alloc: Global, bytes: &[u8], room: &mut [u8]) -> Reading {
 #[unsafe(no_mangle)]
 pub extern "C" fn ca_speed_read(alloc: Global, bytes: &[u8], room: &mut [u8], into: &mut Reading) {
     *into = read(alloc, bytes, room);
+}
+
+/// What a specification makes of an object.
+#[derive(Clone, Copy)]
+#[repr(C)]
+pub struct Choice {
+    /// 0 nothing is chosen, 1 a result, 2 to 7 the specification is refused: `NotAList`, `NotAClause`, `BadHead`, `BadGuard`, `BadBody`,
+    /// `Unbound`; 8 a text was not read, or memory or room for the result's text is lacking.
+    pub kind: u32,
+    /// The clause that is refused, counted from 1; 0 stands for the list.
+    pub clause: u32,
+    /// How many bytes of the result were printed.
+    pub printed: usize,
+}
+
+const fn choice(kind: u32, clause: u32, printed: usize) -> Choice {
+    Choice {
+        kind,
+        clause,
+        printed,
+    }
+}
+
+fn refused(fault: SpecFault) -> Choice {
+    let SpecFault::BadSpec { clause, why } = fault else {
+        return choice(8, 0, 0);
+    };
+    let kind = match why {
+        SpecWhy::NotAList => 2,
+        SpecWhy::NotAClause => 3,
+        SpecWhy::BadHead => 4,
+        SpecWhy::BadGuard => 5,
+        SpecWhy::BadBody => 6,
+        SpecWhy::Unbound => 7,
+    };
+    choice(kind, clause, 0)
+}
+
+fn chosen(alloc: Global, specification: &Term, object: &Term, room: &mut [u8]) -> Choice {
+    let spec = match compile(alloc, specification) {
+        Ok(spec) => spec,
+        Err(fault) => return refused(fault),
+    };
+    let result = match apply(alloc, &spec, object) {
+        Ok(Some(result)) => result,
+        Ok(None) => return choice(0, 0, 0),
+        Err(_) => return choice(8, 0, 0),
+    };
+    let mut text = Vec::new(alloc);
+    if print_term(&result, &mut text).is_err() || text.len() > room.len() {
+        return choice(8, 0, 0);
+    }
+    let printed = text.len();
+    room[..printed].copy_from_slice(text.as_slice());
+    choice(1, 0, printed)
+}
+
+/// Applies the specification of a text to the object of another one, and prints the result into the room.
+#[unsafe(no_mangle)]
+pub extern "C" fn ca_speed_choose(
+    alloc: Global,
+    specification: &[u8],
+    object: &[u8],
+    room: &mut [u8],
+    into: &mut Choice,
+) {
+    let read = (read_term(alloc, specification), read_term(alloc, object));
+    *into = match read {
+        (Ok((specification, _)), Ok((object, _))) => chosen(alloc, &specification, &object, room),
+        _ => choice(8, 0, 0),
+    };
 }
