@@ -21,4 +21,6 @@ pub use results::apply;
 pub use spec::Spec;
 
 #[cfg(test)]
+mod applied;
+#[cfg(test)]
 mod tests;
