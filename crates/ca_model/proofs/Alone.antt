@@ -1,6 +1,6 @@
 -- What a call of a plain store makes known.
 use Rattle.std.proofs.Common.{◌≡◌, ℕ, ◌+◌, ◌-◌, ◌≤◌, true, List, [], ◌∷◌, ◌++◌, length, length-append, take, drop, get_or, refl, sym, ◌∙◌, ap, subst, Result, Ok, Err, arith}
-use Rattle.std.specs.Prelude.{Bool}
+use Rattle.std.specs.Prelude.{Bool, Option}
 use Rattle.std.specs.List.Sorted.{IsBinarySearchResult, IsSearchInRange}
 use Rattle.std.specs.List.{slice_range}
 use Rattle.std.proofs.lemmas.List.{take_at, drop_at}
@@ -18,9 +18,9 @@ use Rattle.ca_model.proofs.Places.{IsPlace, IsAt, IsBefore, searched, placed_is,
 use Rattle.ca_model.proofs.Edits.{map_after_edit, found_pair}
 
 -- A call that reads.
-pub read_met : (p : ℕ) (m : StoreMap) (s : ℕ) (a : Known) (event : Event) → known_alone p m s ≡ a → IsStoreMap p m → effect event ≡ [] → IsAnswer event m
+pub read_met : (p : ℕ) (m : StoreMap) (r : Option (List (List ℕ))) (s : ℕ) (a : Known) (event : Event) → known_alone p m r s ≡ a → IsStoreMap p m → effect event ≡ [] → IsAnswer event m
     → Meets a a event
-read_met p m s a event e t none answer = subst (λ (x : Known). Meets x x event) e (record {
+read_met p m r s a event e t none answer = subst (λ (x : Known). Meets x x event) e (record {
   earlier = [];
   later = [];
   answer = answer;
@@ -39,9 +39,9 @@ read_met p m s a event e t none answer = subst (λ (x : Known). Meets x x event)
 })
 
 -- A call that edits.
-pub edit_met : (p : ℕ) (m n : StoreMap) (s z : ℕ) (a : Known) (event : Event) (edit : Edit) → known_alone p m s ≡ a → IsStoreMap p m → effect event ≡ edit ∷ []
-    → IsEdit p edit → n ≡ after_edit edit m → IsAnswer event m → Meets a (known_alone p n z) event
-edit_met p m n s z a event edit e t one fits is answer = subst (λ (x : Known). Meets x (known_alone p n z) event) e (record {
+pub edit_met : (p : ℕ) (m n : StoreMap) (r left : Option (List (List ℕ))) (s z : ℕ) (a : Known) (event : Event) (edit : Edit) → known_alone p m r s ≡ a → IsStoreMap p m → effect event ≡ edit ∷ []
+    → IsEdit p edit → n ≡ after_edit edit m → IsAnswer event m → Meets a (known_alone p n left z) event
+edit_met p m n r left s z a event edit e t one fits is answer = subst (λ (x : Known). Meets x (known_alone p n left z) event) e (record {
   earlier = [];
   later = [];
   answer = answer;

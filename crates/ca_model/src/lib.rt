@@ -1,13 +1,16 @@
 //! Maps of bytes, their histories and logs, and stores of them.
 #![tactic(auto)]
 
+mod edge;
 mod laws;
 mod outcome;
 mod plain;
 mod row;
+mod run;
 mod slab;
 mod store;
 
+pub use edge::Edge;
 pub use laws::passes_meet;
 pub use outcome::{Changed, Code, Counter, FullCause, Outcome, Spent};
 pub use plain::Plain;
