@@ -4,3 +4,5 @@ pub mod Passing
 pub mod Places
 pub mod Samples
 pub mod Slots
+pub mod Spots
+pub mod Walking

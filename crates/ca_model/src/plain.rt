@@ -270,7 +270,7 @@ impl OrderedStore for Plain {
         requires budget { 1 ≤ budget }
         requires closed { self.old.run ≡ None }
         requires edge { IsProperBound (bound_of lo) }
-        ensures found { IfDone result (λ found. FoundAbove self.old self.new (bound_of lo) found into.new.items) }
+        ensures found { IfDone result (λ found. FoundAbove self.old self.new (bound_of lo.entry) found into.new.items) }
         ensures refused { IfRefused result (λ rise. Declines self.old self.new (rise self.old.counts)) }
         ensures emptied { IfRefused result (λ _. into.new.items ≡ []) }
         ensures never_deep { IsNeverDeep result }
@@ -293,7 +293,7 @@ impl OrderedStore for Plain {
         requires budget { 1 ≤ budget }
         requires closed { self.old.run ≡ None }
         requires edge { IsProperBound (bound_of hi) }
-        ensures found { IfDone result (λ found. FoundBelow self.old self.new (bound_of hi) found into.new.items) }
+        ensures found { IfDone result (λ found. FoundBelow self.old self.new (bound_of hi.entry) found into.new.items) }
         ensures refused { IfRefused result (λ rise. Declines self.old self.new (rise self.old.counts)) }
         ensures emptied { IfRefused result (λ _. into.new.items ≡ []) }
         ensures never_deep { IsNeverDeep result }
@@ -325,7 +325,7 @@ impl OrderedStore for Plain {
         requires lower_edge { IsProperBound (bound_of lo) }
         requires upper_edge { IsProperBound (bound_of hi) }
         requires function { MayBeAskedForAll F.Fn counts.now self.old.keypos }
-        ensures opens { IfDone result (λ whole. Opens F.Fn counts.now self.old self.new (bound_of lo) (bound_of hi) want whole) }
+        ensures opens { IfDone result (λ whole. Opens F.Fn counts.now self.old self.new (bound_of lo.entry) (bound_of hi.entry) want whole) }
         ensures refused { IfRefused result (λ rise. Declines self.old self.new (rise self.old.counts)) }
         ensures closed { IfRefused result (λ _. self.new.run ≡ None) }
         ensures never_deep { IsNeverDeep result }
@@ -334,8 +334,10 @@ impl OrderedStore for Plain {
         ensures whole { IfDone result (λ whole. whole ≡ true) }
         ensures spare { self.old.spare ≤ self.new.spare }
     {
-        // A whole run costs two searches and no more, so none is cut.
-        let _ = (want, counts, budget);
+        // A whole run costs two searches and no more, so none is cut, and nothing is counted.
+        let _budget = budget;
+        let _want = want;
+        let _counts = counts;
         let end = end_of(&self.objects, hi);
         let next = start_of(&self.objects, lo).min(end);
         self.run = Some(Run { next, end });
@@ -349,17 +351,17 @@ impl OrderedStore for Plain {
 
         ensures spare { self.old.spare ≤ self.new.spare }
     {
-        let Some(Run { next, end }) = self.run else {
+        let Some(run) = self.run else {
             unreachable!()
         };
-        if next == end {
+        if run.next == run.end {
             into.clear();
             return false;
         }
-        copy(self.objects.object(next), into);
+        copy(self.objects.object(run.next), into);
         self.run = Some(Run {
-            next: next + 1,
-            end,
+            next: run.next + 1,
+            end: run.end,
         });
         true
     }

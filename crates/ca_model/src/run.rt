@@ -18,7 +18,7 @@ pub(crate) struct Run {
 pub(crate) fn start_of(objects: &Slab, lo: Edge<'_>) -> usize
     requires { (keypos : ℕ) × IsStoreMap keypos objects.now.pairs }
     ensures range { result ≤ length objects.now.pairs }
-    ensures start { from (bound_of lo) objects.now.pairs ≡ drop result objects.now.pairs }
+    ensures start { from (bound_of lo.entry) objects.now.pairs ≡ drop result objects.now.pairs }
 {
     match lo {
         Edge::Open => 0,
@@ -31,7 +31,7 @@ pub(crate) fn start_of(objects: &Slab, lo: Edge<'_>) -> usize
 pub(crate) fn end_of(objects: &Slab, hi: Edge<'_>) -> usize
     requires { (keypos : ℕ) × IsStoreMap keypos objects.now.pairs }
     ensures range { result ≤ length objects.now.pairs }
-    ensures end { up_to (bound_of hi) objects.now.pairs ≡ take result objects.now.pairs }
+    ensures end { up_to (bound_of hi.entry) objects.now.pairs ≡ take result objects.now.pairs }
 {
     match hi {
         Edge::Open => objects.len(),
@@ -45,6 +45,8 @@ fn places(objects: &Slab, key: &[u8]) -> (usize, usize)
     requires { (keypos : ℕ) × IsStoreMap keypos objects.now.pairs }
     ensures { ArePlaces objects.now.pairs key.now result.0 result.1 }
 {
+    // A place behind one that was found is at most this.
+    let _count = objects.len();
     match objects.find(key) {
         Ok(at) => (at, at + 1),
         Err(at) => (at, at),

@@ -134,7 +134,7 @@ pub trait OrderedStore {
         requires budget { 1 ≤ budget }
         requires closed { (knows self.old).run ≡ None }
         requires edge { IsProperBound (bound_of lo) }
-        ensures found { IfDone result (λ found. FoundAbove (knows self.old) (knows self.new) (bound_of lo) found into.new.items) }
+        ensures found { IfDone result (λ found. FoundAbove (knows self.old) (knows self.new) (bound_of lo.entry) found into.new.items) }
         ensures refused { IfRefused result (λ rise. Declines (knows self.old) (knows self.new) (rise (knows self.old).counts)) }
         ensures emptied { IfRefused result (λ _. into.new.items ≡ []) }
         ensures never_deep { IsNeverDeep result }
@@ -146,7 +146,7 @@ pub trait OrderedStore {
         requires budget { 1 ≤ budget }
         requires closed { (knows self.old).run ≡ None }
         requires edge { IsProperBound (bound_of hi) }
-        ensures found { IfDone result (λ found. FoundBelow (knows self.old) (knows self.new) (bound_of hi) found into.new.items) }
+        ensures found { IfDone result (λ found. FoundBelow (knows self.old) (knows self.new) (bound_of hi.entry) found into.new.items) }
         ensures refused { IfRefused result (λ rise. Declines (knows self.old) (knows self.new) (rise (knows self.old).counts)) }
         ensures emptied { IfRefused result (λ _. into.new.items ≡ []) }
         ensures never_deep { IsNeverDeep result }
@@ -168,7 +168,7 @@ pub trait OrderedStore {
         requires lower_edge { IsProperBound (bound_of lo) }
         requires upper_edge { IsProperBound (bound_of hi) }
         requires function { MayBeAskedForAll F.Fn counts.now (knows self.old).keypos }
-        ensures opens { IfDone result (λ whole. Opens F.Fn counts.now (knows self.old) (knows self.new) (bound_of lo) (bound_of hi) want whole) }
+        ensures opens { IfDone result (λ whole. Opens F.Fn counts.now (knows self.old) (knows self.new) (bound_of lo.entry) (bound_of hi.entry) want whole) }
         ensures refused { IfRefused result (λ rise. Declines (knows self.old) (knows self.new) (rise (knows self.old).counts)) }
         ensures closed { IfRefused result (λ _. (knows self.new).run ≡ None) }
         ensures never_deep { IsNeverDeep result }
