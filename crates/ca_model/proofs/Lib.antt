@@ -1,4 +1,5 @@
 pub mod Alone
+pub mod Cuts
 pub mod Edits
 pub mod Passing
 pub mod Places

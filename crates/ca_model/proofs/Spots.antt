@@ -94,7 +94,7 @@ last_there (q ∷ []) (suc i) h = absurd (omega arith)
 last_there (q ∷ x ∷ m) (suc i) h = last_there (x ∷ m) i (omega arith)
 
 -- Behind a key that is beyond an upper edge all keys are.
-none_behind : (hi : Bound) (q : Pair) (m : StoreMap) → is_up_to hi q.0 ≡ false → AreAbove q.0 m → up_to hi m ≡ []
+pub none_behind : (hi : Bound) (q : Pair) (m : StoreMap) → is_up_to hi q.0 ≡ false → AreAbove q.0 m → up_to hi m ≡ []
 none_behind Unbounded q m out a = cc
 none_behind (Included k) q m out a = by (bytes_cmp q.0 k) refl out
   where

@@ -1,11 +1,11 @@
 -- Edges of a part of the keys as data, and what a map has within them.
-use Rattle.std.specs.Prelude.{◌≡◌, ◌⊎◌, ℕ, ◌≤◌, Bool, true, false, not, List, [], ◌∷◌, filter, length, map, Option, None, Some}
+use Rattle.std.specs.Prelude.{◌≡◌, ◌⊎◌, ℕ, ◌≤◌, Bool, true, false, not, List, [], ◌∷◌, ◌++◌, filter, length, map, Option, None, Some}
 use Rattle.std.specs.declared.cmp.Ordering.{Ordering}
 use Rattle.std.specs.Ordering.{is_lt, is_gt}
 use Rattle.ca_term.specs.declared.bounds.TheConstants.{MOST_CODE_BYTES}
 use Rattle.ca_model.specs.declared.edge.Edge.{Edge}
 use Rattle.ca_model.specs.declared.edge.Edge.TheVariants as edge
-use Rattle.ca_model.specs.StoreMap.{StoreMap, bytes_cmp}
+use Rattle.ca_model.specs.StoreMap.{StoreMap, IsStoreMap, bytes_cmp}
 
 -- no bound, a key that is taken in, or a key that is left out
 pub data Bound : Type 0 where
@@ -76,3 +76,8 @@ IsLower (Excluded c) (Excluded k) = is_lt (bytes_cmp c k) ≡ true
 -- The cut of a run is its upper edge, or lower.
 abbrev pub IsCut : Bound → Bound → Type 0
 IsCut cut hi = (cut ≡ hi) ⊎ IsLower cut hi
+
+-- What a store map has up to a cut is the beginning of what it has up to the upper edge.
+abbrev pub CutsBegin : Type 0
+CutsBegin = (keypos : ℕ) (map : StoreMap) (lo cut hi : Bound) → IsStoreMap keypos map → IsCut cut hi
+    → (rest : StoreMap) × (within lo hi map ≡ within lo cut map ++ rest)

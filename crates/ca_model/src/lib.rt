@@ -11,7 +11,7 @@ mod slab;
 mod store;
 
 pub use edge::Edge;
-pub use laws::passes_meet;
+pub use laws::{cuts_begin, passes_meet};
 pub use outcome::{Changed, Code, Counter, FullCause, Outcome, Spent};
 pub use plain::Plain;
 pub use store::OrderedStore;
