@@ -12,7 +12,7 @@ returns-clause-removed g c =
     let b = store_with c.make.new.objects c.self.inside.turns.items c.self.inside.tally c.self.inside.spare in
     let come : (event : Event) → Answers c.self.inside.objects c.remove_if-changed.new.objects 0 event → Meets c.args.self.now.known b.known event =
     λ event answers. plays_met c.args.self.now c.begin.new.self c.self.inside.objects c.remove_if-changed.new.objects c.make.new.objects
-    c.self.inside.turns.items c.self.inside.tally c.self.inside.spare c.self.inside.spare 0 call.Edit c.in-Ok.turn c.after.result.now c.self.view_is
+    c.self.inside.turns.items c.self.inside.tally c.self.inside.spare c.self.inside.spare 0 call.Other c.in-Ok.turn c.after.result.now c.self.view_is
     c.in-Ok.ensures.begins c.after.ensures event answers c.make.ensures in
     as_removed_if c.args.self.now.known b.known c.args.key.now g.F.Fn c.args.f.now c.remove_if-changed.result c.remove_if-changed.new.old.items
     (removed_if (Answers c.self.inside.objects c.remove_if-changed.new.objects 0) (Meets c.args.self.now.known b.known) come
