@@ -351,9 +351,7 @@ impl OrderedStore for Plain {
 
         ensures spare { self.old.spare ≤ self.new.spare }
     {
-        let Some(run) = self.run else {
-            unreachable!()
-        };
+        let Some(run) = self.run else { unreachable!() };
         if run.next == run.end {
             into.clear();
             return false;

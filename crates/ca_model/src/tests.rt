@@ -471,18 +471,18 @@ fn hands_out(store: &mut Plain, sorted: &[u32], lo: (Side, u32), hi: (Side, u32)
 }
 
 // Whether a run between two edges is whole and hands out the objects of these numbers.
-fn is_run(
-    store: &mut Plain,
-    sorted: &[u32],
-    lo: (Side, u32),
-    hi: (Side, u32),
-    want: u32,
-) -> bool {
+fn is_run(store: &mut Plain, sorted: &[u32], lo: (Side, u32), hi: (Side, u32), want: u32) -> bool {
     store.close_run();
     let lower = key(lo.1);
     let upper = key(hi.1);
     let counts = |_object: &[u8]| true;
-    let Outcome::Done(whole) = store.range(edge(lo.0, &lower), edge(hi.0, &upper), want, &counts, BUDGET) else {
+    let Outcome::Done(whole) = store.range(
+        edge(lo.0, &lower),
+        edge(hi.0, &upper),
+        want,
+        &counts,
+        BUDGET,
+    ) else {
         return false;
     };
     whole && hands_out(store, sorted, lo, hi)

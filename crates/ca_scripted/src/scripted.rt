@@ -401,7 +401,7 @@ impl OrderedStore for Scripted {
     {
         let turn = match self.begin(Call::Other) {
             Ok(turn) => turn,
-            Err(refusal) => return refusal.outcome(budget),
+            Err(told) => return told.outcome(budget),
         };
         inner::range(&mut self.objects, lo, hi, want, counts);
         self.waiting = turn.into_after();

@@ -3,9 +3,11 @@ use Rattle.ca_model.proofs.Walking.{short_there, below_none, below_some}
 use Rattle.ca_model.proofs.plain.PlainOrderedStore.below.Goals as goal
 
 pub returns-then-end-eq0-clause-found : goal.returns-then-end-eq0-clause-found
-returns-then-end-eq0-clause-found c =
-    (below_none c.self.inside.keypos c.self.inside.objects.pairs _ _ c.args.self.now c.self.view_is c.self.invariant.ordered _ c.end_of-end.result
-    c.end_of-end.ensures.end c.if-end-eq0.true, c.clear.ensures)
+returns-then-end-eq0-clause-found c = (
+  below_none c.self.inside.keypos c.self.inside.objects.pairs _ _ c.args.self.now c.self.view_is c.self.invariant.ordered _ c.end_of-end.result
+      c.end_of-end.ensures.end c.if-end-eq0.true,
+  c.clear.ensures,
+)
 
 pub copy-requires : goal.copy-requires
 copy-requires c =
