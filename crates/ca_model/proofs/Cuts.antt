@@ -5,7 +5,7 @@ use Rattle.std.specs.declared.cmp.Ordering.{Ordering}
 use Rattle.std.specs.declared.cmp.Ordering.TheVariants.{Less, Equal, Greater}
 use Rattle.std.specs.Ordering.{is_lt, is_gt, ordering_reverse}
 use Rattle.std.specs.Cmp.Lexicographic.{nat_list_cmp_total}
-use Rattle.ca_model.specs.StoreMap.{Pair, StoreMap, bytes_cmp, IsStoreMap}
+use Rattle.ca_model.specs.StoreMap.{StoreMap, bytes_cmp, IsStoreMap}
 use Rattle.ca_model.specs.Edges.{Bound, Unbounded, Included, Excluded, is_from, is_up_to, from, up_to, IsLower, IsCut, CutsBegin}
 use Rattle.ca_model.proofs.Places.{bytes_flip, bytes_chain}
 use Rattle.ca_model.proofs.Edits.{map_filter}

@@ -1,6 +1,6 @@
 -- Where the parts of a store map begin and end that two edges give.
-use Rattle.std.proofs.Common.{◌≡◌, ◌≢◌, ℕ, zero, suc, ◌≤◌, ◌<◌, ◌+◌, ◌-◌, Bool, true, false, List, [], ◌∷◌, ◌++◌, if◌then◌else◌, length, append-nil, take, drop, get_or, arith, refl, sym, ◌∙◌, ap, subst, Ok, Err, Result, Some, None, inl, inr}
-use Rattle.std.specs.Prelude.{not, filter, Option, slice_range, min}
+use Rattle.std.proofs.Common.{◌≡◌, ◌≢◌, ℕ, zero, suc, ◌≤◌, ◌<◌, ◌+◌, ◌-◌, Bool, true, false, List, [], ◌∷◌, ◌++◌, if◌then◌else◌, length, append-nil, take, drop, get_or, arith, refl, sym, ◌∙◌, ap, subst, Ok, Err, Result, Some}
+use Rattle.std.specs.Prelude.{not, slice_range, min}
 use Rattle.std.proofs.Math.Decide.{ℕ_discrete}
 use Rattle.std.proofs.Math.Logic.{dite}
 use Rattle.std.specs.declared.cmp.Ordering.{Ordering}
@@ -11,7 +11,7 @@ use Rattle.ca_model.specs.StoreMap.{Pair, StoreMap, bytes_cmp, below, get, above
 use Rattle.ca_model.specs.Slab.{nothing}
 use Rattle.ca_model.specs.Edges.{Bound, Unbounded, Included, Excluded, is_up_to, from, up_to, within, objects_of, first_object, last_object}
 use Rattle.ca_model.specs.RunView.{ArePlaces}
-use Rattle.ca_model.proofs.Places.{IsAt, IsBefore, IsPlace, searched, AreGreater, greater, greater_than, none_below, none_at, all_above}
+use Rattle.ca_model.proofs.Places.{IsAt, IsBefore, IsPlace, searched, AreGreater, greater, greater_than, none_below, none_at}
 
 -- The parts of a map within an edge at a key are those that an edit knows.
 from_parts : (p : ℕ) (m : StoreMap) (k : List ℕ) → IsStoreMap p m → from (Included k) m ≡ get m k ++ above m k

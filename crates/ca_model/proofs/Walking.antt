@@ -1,20 +1,20 @@
 -- What walks and runs of a plain store come to.
-use Rattle.std.proofs.Common.{◌≡◌, ◌≢◌, ℕ, zero, suc, ◌≤◌, ◌<◌, ◌+◌, ◌-◌, Bool, true, false, List, [], ◌∷◌, length, take, drop, get_or, arith, refl, sym, ◌∙◌, ap, subst, Some, None, inl, inr}
+use Rattle.std.proofs.Common.{◌≡◌, ◌≢◌, ℕ, suc, ◌≤◌, ◌<◌, ◌+◌, Bool, true, List, [], ◌∷◌, length, take, drop, get_or, arith, refl, sym, ◌∙◌, ap, subst, Some, None, inl}
 use Rattle.std.specs.Prelude.{Option, min, slice_range, filter}
 use denote.Ref.{Bor}
 use denote.Param.Members.{Shared}
 use Rattle.ca_term.specs.declared.bounds.TheConstants.{MOST_CODE_BYTES}
-use Rattle.ca_model.specs.StoreMap.{Pair, StoreMap, IsPair, IsStoreMap}
+use Rattle.ca_model.specs.StoreMap.{Pair, StoreMap, IsStoreMap}
 use Rattle.ca_model.specs.Slab.{nothing}
-use Rattle.ca_model.specs.Edges.{Bound, Unbounded, from, up_to, objects_of, first_object, last_object}
-use Rattle.ca_model.specs.Event.{Event, Above, Below, Range}
+use Rattle.ca_model.specs.Edges.{Bound, from, up_to, objects_of, first_object, last_object}
+use Rattle.ca_model.specs.Event.{Above, Below, Range}
 use Rattle.ca_model.specs.Known.{Known, Meets}
-use Rattle.ca_model.specs.Runs.{Opens, IsOpen, HandedOut}
+use Rattle.ca_model.specs.Runs.{Opens}
 use Rattle.ca_model.specs.PlainView.{known_alone}
 use Rattle.ca_model.specs.RunView.{left_in, IsPart}
 use Rattle.ca_model.specs.declared.run.Run.{Run}
 use Rattle.ca_model.proofs.Alone.{read_met, read_leaves}
-use Rattle.ca_model.proofs.Spots.{pair_there, first_there, last_there, part_within, next_of_part, end_of_part}
+use Rattle.ca_model.proofs.Spots.{pair_there, first_there, last_there, part_within, next_of_part}
 
 -- All pairs are within no bound.
 pub all_pairs : (m : StoreMap) → filter (λ (p : Pair). true) m ≡ m

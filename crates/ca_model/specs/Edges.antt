@@ -1,6 +1,5 @@
 -- Edges of a part of the keys as data, and what a map has within them.
 use Rattle.std.specs.Prelude.{◌≡◌, ◌⊎◌, ℕ, ◌≤◌, Bool, true, false, not, List, [], ◌∷◌, ◌++◌, filter, length, map, Option, None, Some}
-use Rattle.std.specs.declared.cmp.Ordering.{Ordering}
 use Rattle.std.specs.Ordering.{is_lt, is_gt}
 use Rattle.ca_term.specs.declared.bounds.TheConstants.{MOST_CODE_BYTES}
 use Rattle.ca_model.specs.declared.edge.Edge.{Edge}

@@ -1,5 +1,5 @@
 -- Runs: the objects of one state from a lower edge up to a cut, handed out one by one.
-use Rattle.std.specs.Prelude.{◌≡◌, ◌⊎◌, ℕ, zero, suc, ◌≤◌, Bool, true, false, List, [], ◌∷◌, Option, None, Some}
+use Rattle.std.specs.Prelude.{◌≡◌, ◌⊎◌, ℕ, zero, suc, ◌≤◌, Bool, true, false, List, [], ◌∷◌, Some}
 use denote.Ref.{Bor}
 use denote.Param.Members.{Shared}
 use Rattle.ca_model.specs.Edges.{Bound, IsLower}

@@ -1,4 +1,4 @@
-use Rattle.std.proofs.Common.{◌∙◌, ℕ, arith, take, length, sym, ap}
+use Rattle.std.proofs.Common.{◌∙◌, ℕ, arith, take, sym, ap}
 use Rattle.std.proofs.lemmas.List.{take_all}
 use Rattle.ca_model.proofs.Walking.{all_pairs}
 use Rattle.ca_model.proofs.run.end_of.Goals as goal
