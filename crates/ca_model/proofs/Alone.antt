@@ -46,8 +46,9 @@ pub read_met : (p : ℕ) (m : StoreMap) (r : Option (List (List ℕ))) (s : ℕ)
 read_met p m r s a event e t none answer = subst (λ (x : Known). Meets a x event) e (read_leaves p m r r s a event e t none answer)
 
 -- A call that edits.
-pub edit_met : (p : ℕ) (m n : StoreMap) (r left : Option (List (List ℕ))) (s z : ℕ) (a : Known) (event : Event) (edit : Edit) → known_alone p m r s ≡ a → IsStoreMap p m → effect event ≡ edit ∷ []
-    → IsEdit p edit → n ≡ after_edit edit m → IsAnswer event m → Meets a (known_alone p n left z) event
+pub edit_met : (p : ℕ) (m n : StoreMap) (r left : Option (List (List ℕ))) (s z : ℕ) (a : Known) (event : Event) (edit : Edit)
+    → known_alone p m r s ≡ a → IsStoreMap p m → effect event ≡ edit ∷ [] → IsEdit p edit → n ≡ after_edit edit m
+    → IsAnswer event m → Meets a (known_alone p n left z) event
 edit_met p m n r left s z a event edit e t one fits is answer = subst (λ (x : Known). Meets x (known_alone p n left z) event) e (record {
   earlier = [];
   later = [];

@@ -25,7 +25,8 @@ count_added (t ∷ turns) turn = let rest = count_added turns turn in omega (ari
 
 -- The store inside got room at `q` for the edits before the turn's call, and at `r` for those behind it.
 pub added : (o q r : Known) (turns all : List ScriptTurn) (turn : ScriptTurn) (before after : List Edit) (counts : Counts) (spare made more : ℕ)
-    (waiting : List Edit) → IsKeptWith o turns counts spare made waiting → IsProperTurn o.keypos turn → Stays o q → o.spare + length before ≤ q.spare → before ≡ turn.before
+    (waiting : List Edit) → IsKeptWith o turns counts spare made waiting → IsProperTurn o.keypos turn
+    → Stays o q → o.spare + length before ≤ q.spare → before ≡ turn.before
     → Stays q r → q.spare + length after ≤ r.spare → after ≡ turn.after → all ≡ turns ++ turn ∷ [] → (made + 1 < 2 ^ 64) × (more ≡ made + 1)
     → IsKeptWith r all counts spare more waiting
 added o q r turns all turn before after counts spare made more waiting kept proper first room_before e second room_after f whole next =

@@ -26,11 +26,11 @@ use std::marker::Model;
 /// A store whose map others edit by a script, and which refuses calls by it. It serves to run whatever stands over a store through every
 /// answer that a shared store may give.
 ///
-/// Each call but `reserve`, `found` and `close_run` takes the script's next turn. It learns of the others' edits that the turn has before its own, makes its own or
-/// is refused, and learns of those that the turn has behind it. A `get` is never refused, and a call that puts no new key never for want of
-/// levels: their turns count as if they said no refusal there. A run is never cut, and the edits that the turn of its call has behind it don't
-/// show in it. Behind the last turn nothing is learnt and nothing refused. Contracts see
-/// what is known of the store, the turns that are left, and for how many objects there is room.
+/// Each call but `reserve`, `found` and `close_run` takes the script's next turn. It learns of the others' edits that the turn has before its own,
+/// makes its own or is refused, and learns of those that the turn has behind it. A `get` is never refused, and a call that puts no new key never
+/// for want of levels: their turns count as if they said no refusal there. A run is never cut, and the edits that the turn of its call has behind
+/// it don't show in it. Behind the last turn nothing is learnt and nothing refused. Contracts see what is known of the store, the turns that are
+/// left, and for how many objects there is room.
 #[derive(Drop)]
 pub struct Scripted {
     alloc: Global,

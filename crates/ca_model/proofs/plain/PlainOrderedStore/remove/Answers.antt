@@ -37,5 +37,5 @@ invariant_of-self c = record {
 
 pub returns-clause-removed : goal.returns-clause-removed
 returns-clause-removed c =
-    edit_met c.self.inside.keypos c.self.inside.objects.pairs c.remove.new.self.pairs _ _ _ _ c.args.self.now (Remove c.args.key.now (Some c.copy.new.into.items))
-    (Del c.args.key.now) c.self.view_is c.self.invariant.ordered refl tt (map_is c) (found c).found
+    edit_met c.self.inside.keypos c.self.inside.objects.pairs c.remove.new.self.pairs _ _ _ _ c.args.self.now
+    (Remove c.args.key.now (Some c.copy.new.into.items)) (Del c.args.key.now) c.self.view_is c.self.invariant.ordered refl tt (map_is c) (found c).found
