@@ -5,12 +5,12 @@ use Rattle.ca_ets.specs.Command.{Command, Response, Continuation}
 use Rattle.ca_model.specs.StoreMap.{StoreMap}
 use Rattle.ca_model.specs.History.{Edit, History, after, by_pass, AreByOthers}
 use Rattle.ca_model.specs.Event.{Event, Entry, IsAnswer, effect}
-use Rattle.ca_model.specs.Known.{Known, Seen, Counts, Learns, Meets, Declines, Stays, seen_with, place, around, place_of}
+use Rattle.ca_model.specs.Known.{Known, Seen, Counts, Learns, Meets, Declines, Stays, StaysBesideRun, seen_with, place, around, place_of}
 use Rattle.ca_merge.specs.Carries.{Carries}
 use Rattle.ca_merge.specs.Clients.{AreReads}
 use Rattle.ca_merge.specs.Steps.{ByCall, Refrains, Refused}
 use Rattle.ca_merge.proofs.TakenUpdates.{after-append}
-use Rattle.ca_merge.proofs.Learning.{learns_both, others_both, place_since}
+use Rattle.ca_merge.proofs.Learning.{same_store, learns_both, others_both, place_since}
 
 -- One call makes the step that it carries.
 pub one_call : (a b : Known) (event : Event) (k l : Continuation) (c : Command) (r : Response) → Meets a b event → Carries a.keypos event k c r l
@@ -142,6 +142,7 @@ same_but_room a b s = λ i. record {
   sure = s.same.sure i;
   map = s.map i;
   seen = s.seen i;
+  run = s.run i;
   spare = b.spare;
   counts = s.counts i;
 }
@@ -183,3 +184,32 @@ stays_declines a b d rise s declined =
       counts_are = n.counts_are;
       unsure = n.unsure;
     }
+
+-- A call with its run handed out and ended behind it is the same event up to then.
+pub beside_run_meets : (a b d : Known) (event : Event) → Meets a b event → StaysBesideRun b d → Meets a d event
+beside_run_meets a b d event m s = record {
+  earlier = m.earlier;
+  later = m.later;
+  answer = m.answer;
+  learns = record {
+    same = same_store a b d m.learns.same s.same;
+    map = s.map ∙ m.learns.map;
+    seen = s.seen ∙ m.learns.seen;
+    valid = m.learns.valid;
+    edits = m.learns.edits;
+    passes = m.learns.passes;
+  };
+  others_earlier = m.others_earlier;
+  others_later = m.others_later;
+  alone = m.alone;
+  counts = s.counts ∙ m.counts;
+}
+
+-- What is handed out of a run and then its end leave all else as it was.
+pub both_beside_run : (a b d : Known) → StaysBesideRun a b → StaysBesideRun b d → StaysBesideRun a d
+both_beside_run a b d x y = record {
+  same = same_store a b d x.same y.same;
+  map = y.map ∙ x.map;
+  seen = y.seen ∙ x.seen;
+  counts = y.counts ∙ x.counts;
+}

@@ -1,6 +1,6 @@
 -- What a call of a plain store makes known.
-use Rattle.std.proofs.Common.{◌≡◌, ℕ, ◌+◌, ◌-◌, ◌≤◌, true, List, [], ◌∷◌, ◌++◌, length, length-append, take, drop, get_or, refl, sym, ◌∙◌, ap, subst, Result, Ok, Err, arith}
-use Rattle.std.specs.Prelude.{Bool}
+use Rattle.std.proofs.Common.{◌≡◌, ℕ, ◌+◌, ◌-◌, ◌≤◌, true, List, [], ◌∷◌, ◌++◌, length, length-append, take, drop, get_or, refl, sym, ◌∙◌, ap, subst, Result, Ok, Err, Some, None, arith}
+use Rattle.std.specs.Prelude.{Bool, Option}
 use Rattle.std.specs.List.Sorted.{IsBinarySearchResult, IsSearchInRange}
 use Rattle.std.specs.List.{slice_range}
 use Rattle.std.proofs.lemmas.List.{take_at, drop_at}
@@ -14,13 +14,15 @@ use Rattle.ca_model.specs.Known.{Known, Meets}
 use Rattle.ca_model.specs.Function.{MayLeave, StandsAt, KeepsKey}
 use Rattle.ca_model.specs.Slab.{nothing, placed}
 use Rattle.ca_model.specs.PlainView.{known_alone}
+use Rattle.ca_model.specs.RunView.{left_in, IsPart}
+use Rattle.ca_model.specs.declared.run.Run.{Run}
 use Rattle.ca_model.proofs.Places.{IsPlace, IsAt, IsBefore, searched, placed_is, is_found}
 use Rattle.ca_model.proofs.Edits.{map_after_edit, found_pair}
 
--- A call that reads.
-pub read_met : (p : ℕ) (m : StoreMap) (s : ℕ) (a : Known) (event : Event) → known_alone p m s ≡ a → IsStoreMap p m → effect event ≡ [] → IsAnswer event m
-    → Meets a a event
-read_met p m s a event e t none answer = subst (λ (x : Known). Meets x x event) e (record {
+-- A call that reads, and leaves this run open or none.
+pub read_leaves : (p : ℕ) (m : StoreMap) (r left : Option (List (List ℕ))) (s : ℕ) (a : Known) (event : Event) → known_alone p m r s ≡ a
+    → IsStoreMap p m → effect event ≡ [] → IsAnswer event m → Meets a (known_alone p m left s) event
+read_leaves p m r left s a event e t none answer = subst (λ (x : Known). Meets x (known_alone p m left s) event) e (record {
   earlier = [];
   later = [];
   answer = answer;
@@ -38,10 +40,16 @@ read_met p m s a event e t none answer = subst (λ (x : Known). Meets x x event)
   counts = refl;
 })
 
+-- A call that reads.
+pub read_met : (p : ℕ) (m : StoreMap) (r : Option (List (List ℕ))) (s : ℕ) (a : Known) (event : Event) → known_alone p m r s ≡ a → IsStoreMap p m
+    → effect event ≡ [] → IsAnswer event m → Meets a a event
+read_met p m r s a event e t none answer = subst (λ (x : Known). Meets a x event) e (read_leaves p m r r s a event e t none answer)
+
 -- A call that edits.
-pub edit_met : (p : ℕ) (m n : StoreMap) (s z : ℕ) (a : Known) (event : Event) (edit : Edit) → known_alone p m s ≡ a → IsStoreMap p m → effect event ≡ edit ∷ []
-    → IsEdit p edit → n ≡ after_edit edit m → IsAnswer event m → Meets a (known_alone p n z) event
-edit_met p m n s z a event edit e t one fits is answer = subst (λ (x : Known). Meets x (known_alone p n z) event) e (record {
+pub edit_met : (p : ℕ) (m n : StoreMap) (r left : Option (List (List ℕ))) (s z : ℕ) (a : Known) (event : Event) (edit : Edit)
+    → known_alone p m r s ≡ a → IsStoreMap p m → effect event ≡ edit ∷ [] → IsEdit p edit → n ≡ after_edit edit m
+    → IsAnswer event m → Meets a (known_alone p n left z) event
+edit_met p m n r left s z a event edit e t one fits is answer = subst (λ (x : Known). Meets x (known_alone p n left z) event) e (record {
   earlier = [];
   later = [];
   answer = answer;
@@ -58,6 +66,20 @@ edit_met p m n s z a event edit e t one fits is answer = subst (λ (x : Known). 
   alone = λ h. (refl, refl);
   counts = refl;
 })
+
+no_run : (m : StoreMap) (r : Option Run) → left_in m r ≡ None → r ≡ None
+no_run m None e = refl
+no_run m (Some run) e = cc
+
+-- Where no run is open, none is a part of any list.
+pub closed_part : (p : ℕ) (m n : StoreMap) (r : Option Run) (s : ℕ) (a : Known) → known_alone p m (left_in m r) s ≡ a → a.run ≡ None → IsPart n r
+closed_part p m n r s a e none =
+    let no = no_run m r (ap (λ (k : Known). k.run) e ∙ none) in
+    subst (λ (x : Option Run). IsPart n x) (sym no) tt
+
+pub closed_left : (p : ℕ) (m n : StoreMap) (r : Option Run) (s : ℕ) (a : Known) → known_alone p m (left_in m r) s ≡ a → a.run ≡ None
+    → left_in n r ≡ None
+closed_left p m n r s a e none = ap (left_in n) (no_run m r (ap (λ (k : Known). k.run) e ∙ none))
 
 -- the object with a key, where a search found it
 pub record IsThere (p : ℕ) (m : StoreMap) (k : List ℕ) (at : ℕ) (o : List ℕ) : Type 0 where

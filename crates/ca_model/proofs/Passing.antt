@@ -5,7 +5,7 @@ use Rattle.std.proofs.lemmas.Bool.Decides.{nat_tests}
 use Rattle.std.proofs.lemmas.List.{take-append-drop}
 use Rattle.ca_model.specs.StoreMap.{StoreMap, IsStoreMap}
 use Rattle.ca_model.specs.History.{Edit, History, state, after, by_pass, edits_of_pass, AreEdits, AreByPasses, AreByOthers}
-use Rattle.ca_model.specs.Event.{Event, Entry, Get, Write, WriteNew, Remove, Change, IsAnswer, effect}
+use Rattle.ca_model.specs.Event.{Event, Entry, Get, Write, WriteNew, Remove, Change, Above, Below, Range, IsAnswer, effect}
 use Rattle.ca_model.specs.Lawful.{IsEntryAt, AreEntries, IsPlaceFrom, edits_of_log}
 use Rattle.ca_model.specs.Known.{Known, Seen, Meets, around, place, place_of, seen_with}
 use Rattle.ca_model.specs.Passes.{HasSeen, Advances, PassesMeet}
@@ -55,6 +55,9 @@ one_edit (Remove k (Some o)) edit edits e = cc
 one_edit (Change k None new) edit edits e = cc
 one_edit (Change k (Some o) None) edit edits e = cc
 one_edit (Change k (Some o) (Some new)) edit edits e = cc
+one_edit (Above lo found) edit edits e = cc
+one_edit (Below hi found) edit edits e = cc
+one_edit (Range lo hi cut objects) edit edits e = cc
 
 -- the last entry of a log
 last_entry : (pass : ℕ) (history : History) (log : List Entry) (event : Event) (p : ℕ) → AreEntries pass history (log ++ (event, p) ∷ [])

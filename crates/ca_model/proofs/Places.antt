@@ -40,31 +40,31 @@ pub bytes_chain : (a b c : List ℕ) → bytes_cmp a b ≡ Less → bytes_cmp b 
 bytes_chain a b c = nat_list_cmp_total.trans a b c
 
 -- the keys of all these are greater than k
-abbrev AreGreater : StoreMap → List ℕ → Type 0
+abbrev pub AreGreater : StoreMap → List ℕ → Type 0
 AreGreater [] k = Unit {0}
 AreGreater (q ∷ m) k = (bytes_cmp q.0 k ≡ Greater) × AreGreater m k
 
-none_below : (m : StoreMap) (k : List ℕ) → AreGreater m k → below m k ≡ []
+pub none_below : (m : StoreMap) (k : List ℕ) → AreGreater m k → below m k ≡ []
 none_below [] k g = refl
 none_below (q ∷ m) k g = rw g.0 (none_below m k g.1)
 
-none_at : (m : StoreMap) (k : List ℕ) → AreGreater m k → get m k ≡ []
+pub none_at : (m : StoreMap) (k : List ℕ) → AreGreater m k → get m k ≡ []
 none_at [] k g = refl
 none_at (q ∷ m) k g = rw g.0 (none_at m k g.1)
 
-all_above : (m : StoreMap) (k : List ℕ) → AreGreater m k → above m k ≡ m
+pub all_above : (m : StoreMap) (k : List ℕ) → AreGreater m k → above m k ≡ m
 all_above [] k g = refl
 all_above (q ∷ m) k g = rw g.0 (ap (λ x. q ∷ x) (all_above m k g.1))
 
 -- what stands above a pair whose key is k
-greater_than : (q : Pair) (m : StoreMap) (k : List ℕ) → bytes_cmp q.0 k ≡ Equal → AreAbove q.0 m → AreGreater m k
+pub greater_than : (q : Pair) (m : StoreMap) (k : List ℕ) → bytes_cmp q.0 k ≡ Equal → AreAbove q.0 m → AreGreater m k
 greater_than q [] k e a = tt
 greater_than q (x ∷ m) k e a =
     let less : bytes_cmp k x.0 ≡ Less = sym (nat_list_cmp_total.congr q.0 k x.0 e) ∙ a.0 in
     (bytes_flip x.0 k ∙ ap ordering_reverse less, greater_than q m k e a.1)
 
 -- what stands above a pair whose key is greater than k
-greater : (q : Pair) (m : StoreMap) (k : List ℕ) → bytes_cmp q.0 k ≡ Greater → AreAbove q.0 m → AreGreater m k
+pub greater : (q : Pair) (m : StoreMap) (k : List ℕ) → bytes_cmp q.0 k ≡ Greater → AreAbove q.0 m → AreGreater m k
 greater q [] k g a = tt
 greater q (x ∷ m) k g a =
     let less : bytes_cmp k q.0 ≡ Less = bytes_flip k q.0 ∙ ap ordering_reverse g in

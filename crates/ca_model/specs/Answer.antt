@@ -7,7 +7,8 @@ use Rattle.ca_model.specs.declared.outcome.Outcome.{Outcome}
 use Rattle.ca_model.specs.declared.outcome.Outcome.TheVariants as outcome
 use Rattle.ca_model.specs.declared.outcome.Changed.{Changed}
 use Rattle.ca_model.specs.declared.outcome.Changed.TheVariants as changed
-use Rattle.ca_model.specs.Event.{Get, Remove, Change}
+use Rattle.ca_model.specs.Edges.{Bound}
+use Rattle.ca_model.specs.Event.{Get, Remove, Change, Above, Below}
 use Rattle.ca_model.specs.Known.{Known, Counts, Meets, one_more_busy, one_more_full, one_more_deep, one_more_worn}
 use Rattle.ca_model.specs.Function.{MayLeave, MaySay}
 
@@ -75,3 +76,13 @@ module _ {F : Type 0} (g : Shared F (Bor (List ℕ) × Unit {0}) Bool) (f : F) (
   RemovedIf changed.Absent old = Meets a b (Get key None) × (old ≡ [])
   RemovedIf changed.Kept old = MaySay g f old false × Meets a b (Get key (Some old))
   RemovedIf changed.Put old = MaySay g f old true × Meets a b (Remove key (Some old))
+
+-- The first object within a lower edge is these bytes, or there is none and there are no bytes.
+abbrev pub FoundAbove : Known → Known → Bound → Bool → List ℕ → Type 0
+FoundAbove a b lo true into = Meets a b (Above lo (Some into))
+FoundAbove a b lo false into = Meets a b (Above lo None) × (into ≡ [])
+
+-- The last object within an upper edge is these bytes, or there is none and there are no bytes.
+abbrev pub FoundBelow : Known → Known → Bound → Bool → List ℕ → Type 0
+FoundBelow a b hi true into = Meets a b (Below hi (Some into))
+FoundBelow a b hi false into = Meets a b (Below hi None) × (into ≡ [])

@@ -3,7 +3,7 @@ use Rattle.std.specs.Prelude.{◌≡◌, ℕ, Bool, true, List, [], ◌++◌, le
 use denote.Ref.{Bor, MutBor}
 use denote.Param.Members.{Shared}
 use Rattle.arrayvec.specs.ArrayVec.{ArrayVec}
-use Rattle.ca_model.specs.StoreMap.{IsPair}
+use Rattle.ca_model.specs.StoreMap.{Pair, IsPair}
 
 -- The key's bytes stand in the object's, from this byte on.
 pub record StandsAt (key object : List ℕ) (at : ℕ) : Type 0 where
@@ -48,6 +48,10 @@ module _ {F : Type 0} (g : Shared F (Bor (List ℕ) × Unit {0}) Bool) (f : F) w
   -- The function may be called at each object with this key.
   abbrev pub MayBeAskedFor : ℕ → List ℕ → Type 0
   MayBeAskedFor keypos key = (o : List ℕ) → IsPair keypos (key, o) → MayBeAsked o
+
+  -- The function may be called at each object, whatever its key.
+  abbrev pub MayBeAskedForAll : ℕ → Type 0
+  MayBeAskedForAll keypos = (p : Pair) → IsPair keypos p → MayBeAsked p.1
 
   -- Called at these bytes it may answer so.
   pub record MaySay (object : List ℕ) (answer : Bool) : Type 0 where

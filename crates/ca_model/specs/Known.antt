@@ -30,6 +30,8 @@ pub record Known : Type 0 where
   pub map : StoreMap
   -- what was seen, where the store tells it
   pub seen : Option Seen
+  -- the objects that an open run has left, in key order, where one is open
+  pub run : Option (List (List ℕ))
   -- for how many new keys there is room
   pub spare : ℕ
   pub counts : Counts
@@ -108,5 +110,13 @@ pub record Stays (a b : Known) : Type 0 where
   pub same : IsSameStore a b
   pub map : b.map ≡ a.map
   pub seen : b.seen ≡ a.seen
+  pub run : b.run ≡ a.run
   pub counts : b.counts ≡ a.counts
   pub spare : a.spare ≤ b.spare
+
+-- Nothing changes but the open run and the room.
+pub record StaysBesideRun (a b : Known) : Type 0 where
+  pub same : IsSameStore a b
+  pub map : b.map ≡ a.map
+  pub seen : b.seen ≡ a.seen
+  pub counts : b.counts ≡ a.counts

@@ -1,4 +1,5 @@
 pub mod Answer
+pub mod Edges
 pub mod Event
 pub mod Function
 pub mod History
@@ -7,6 +8,8 @@ pub mod Lawful
 pub mod Passes
 pub mod PlainView
 pub mod RowView
+pub mod RunView
+pub mod Runs
 pub mod Samples
 pub mod Slab
 pub mod SlabView

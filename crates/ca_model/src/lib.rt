@@ -1,14 +1,17 @@
 //! Maps of bytes, their histories and logs, and stores of them.
 #![tactic(auto)]
 
+mod edge;
 mod laws;
 mod outcome;
 mod plain;
 mod row;
+mod run;
 mod slab;
 mod store;
 
-pub use laws::passes_meet;
+pub use edge::Edge;
+pub use laws::{cuts_begin, passes_meet};
 pub use outcome::{Changed, Code, Counter, FullCause, Outcome, Spent};
 pub use plain::Plain;
 pub use store::OrderedStore;

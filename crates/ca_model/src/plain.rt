@@ -3,13 +3,17 @@ ghost use Rattle.std.specs.Prelude.{◌≡◌, ◌≤◌, ◌<◌, ◌+◌, ◌�
 ghost use Rattle.ca_term.specs.declared.bounds.TheConstants.{MOST_CODE_BYTES, MOST_ELEMENTS};
 ghost use Rattle.ca_model.specs.Slab.{nothing};
 ghost use Rattle.ca_model.specs.StoreMap.{IsPair, IsStoreMap};
+ghost use Rattle.ca_model.specs.Edges.{bound_of, IsProperBound};
 ghost use Rattle.ca_model.specs.Event.{Write, WriteNew};
-ghost use Rattle.ca_model.specs.Known.{Meets, Declines, Stays};
-ghost use Rattle.ca_model.specs.Function.{KeepsKey, MayBeAskedFor};
-ghost use Rattle.ca_model.specs.Answer.{IfDone, IfRefused, IfBusy, IsDone, IsNeverDeep, Got, Removed, Altered, RemovedIf};
+ghost use Rattle.ca_model.specs.Known.{Meets, Declines, Stays, StaysBesideRun};
+ghost use Rattle.ca_model.specs.Function.{KeepsKey, MayBeAskedFor, MayBeAskedForAll};
+ghost use Rattle.ca_model.specs.Answer.{IfDone, IfRefused, IfBusy, IsDone, IsNeverDeep, Got, Removed, Altered, RemovedIf, FoundAbove, FoundBelow};
+ghost use Rattle.ca_model.specs.Runs.{IsOpen, HandedOut, Opens};
 
+use crate::edge::Edge;
 use crate::outcome::{Changed, Code, Outcome};
 use crate::row::copy;
+use crate::run::{Run, end_of, start_of};
 use crate::slab::Slab;
 use crate::store::OrderedStore;
 use std::alloc::{AllocError, Global};
@@ -24,6 +28,8 @@ use std::marker::Model;
 pub struct Plain {
     keypos: u32,
     objects: Slab,
+    // the open run, if there is one
+    run: Option<Run>,
 }
 
 impl Model for Plain {
@@ -47,10 +53,12 @@ impl Plain {
         ensures alone { result.alone ≡ true }
         ensures sure { result.sure ≡ true }
         ensures seen { result.seen ≡ None }
+        ensures closed { result.run ≡ None }
     {
         Plain {
             keypos,
             objects: Slab::new(alloc),
+            run: None,
         }
     }
 
@@ -103,9 +111,11 @@ impl OrderedStore for Plain {
 
     fn get(&mut self, key: &[u8], into: &mut Code, budget: u32) -> Outcome<bool>
         requires budget { 1 ≤ budget }
+        requires closed { self.old.run ≡ None }
         requires key { (1 ≤ length key.now) × (length key.now ≤ MOST_CODE_BYTES) }
         ensures done { IsDone result }
         ensures got { IfDone result (λ found. Got self.old self.new key.now found into.new.items) }
+        ensures closed { self.new.run ≡ None }
 
         ensures spare { self.old.spare ≤ self.new.spare }
     {
@@ -120,12 +130,14 @@ impl OrderedStore for Plain {
 
     fn put(&mut self, object: &[u8], key_at: usize, key_end: usize, budget: u32) -> Outcome<()>
         requires budget { 1 ≤ budget }
+        requires closed { self.old.run ≡ None }
         requires room { 1 ≤ self.old.spare }
         requires place { (key_at ≤ key_end) × (key_end ≤ length object.now) }
         requires pair { IsPair self.old.keypos (slice_range object.now key_at key_end, object.now) }
         ensures put { IfDone result (λ _. Meets self.old self.new (Write (slice_range object.now key_at key_end) object.now)) }
         ensures refused { IfRefused result (λ rise. Declines self.old self.new (rise self.old.counts)) }
         ensures busy { IfBusy result (λ spent. budget ≤ spent) }
+        ensures closed { self.new.run ≡ None }
 
         ensures spare { self.old.spare ≤ self.new.spare + 1 }
     {
@@ -143,12 +155,14 @@ impl OrderedStore for Plain {
         budget: u32,
     ) -> Outcome<bool>
         requires budget { 1 ≤ budget }
+        requires closed { self.old.run ≡ None }
         requires room { 1 ≤ self.old.spare }
         requires place { (key_at ≤ key_end) × (key_end ≤ length object.now) }
         requires pair { IsPair self.old.keypos (slice_range object.now key_at key_end, object.now) }
         ensures put { IfDone result (λ new. Meets self.old self.new (WriteNew (slice_range object.now key_at key_end) object.now new)) }
         ensures refused { IfRefused result (λ rise. Declines self.old self.new (rise self.old.counts)) }
         ensures busy { IfBusy result (λ spent. budget ≤ spent) }
+        ensures closed { self.new.run ≡ None }
 
         ensures spare { self.old.spare ≤ self.new.spare + 1 }
     {
@@ -162,12 +176,14 @@ impl OrderedStore for Plain {
 
     fn remove(&mut self, key: &[u8], old: &mut Code, budget: u32) -> Outcome<bool>
         requires budget { 1 ≤ budget }
+        requires closed { self.old.run ≡ None }
         requires key { (1 ≤ length key.now) × (length key.now ≤ MOST_CODE_BYTES) }
         ensures removed { IfDone result (λ was. Removed self.old self.new key.now was old.new.items) }
         ensures refused { IfRefused result (λ rise. Declines self.old self.new (rise self.old.counts)) }
         ensures emptied { IfRefused result (λ _. old.new.items ≡ []) }
         ensures never_deep { IsNeverDeep result }
         ensures busy { IfBusy result (λ spent. budget ≤ spent) }
+        ensures closed { self.new.run ≡ None }
 
         ensures spare { self.old.spare ≤ self.new.spare }
     {
@@ -189,6 +205,7 @@ impl OrderedStore for Plain {
         budget: u32,
     ) -> Outcome<Changed>
         requires budget { 1 ≤ budget }
+        requires closed { self.old.run ≡ None }
         requires key { (1 ≤ length key.now) × (length key.now ≤ MOST_CODE_BYTES) }
         requires function { MayBeAskedFor F.Fn f.now self.old.keypos key.now }
         ensures removed { IfDone result (λ changed. RemovedIf F.Fn f.now self.old self.new key.now changed old.new.items) }
@@ -196,6 +213,7 @@ impl OrderedStore for Plain {
         ensures emptied { IfRefused result (λ _. old.new.items ≡ []) }
         ensures never_deep { IsNeverDeep result }
         ensures busy { IfBusy result (λ spent. budget ≤ spent) }
+        ensures closed { self.new.run ≡ None }
 
         ensures spare { self.old.spare ≤ self.new.spare }
     {
@@ -220,6 +238,7 @@ impl OrderedStore for Plain {
         budget: u32,
     ) -> Outcome<Changed>
         requires budget { 1 ≤ budget }
+        requires closed { self.old.run ≡ None }
         requires key { (1 ≤ length key.now) × (length key.now ≤ MOST_CODE_BYTES) }
         requires function { KeepsKey F.Fn f.now self.old.keypos key.now }
         ensures changed { IfDone result (λ changed. Altered F.Fn f.now self.old self.new key.now changed old.new.items) }
@@ -227,6 +246,7 @@ impl OrderedStore for Plain {
         ensures emptied { IfRefused result (λ _. old.new.items ≡ []) }
         ensures never_deep { IsNeverDeep result }
         ensures busy { IfBusy result (λ spent. budget ≤ spent) }
+        ensures closed { self.new.run ≡ None }
 
         ensures spare { self.old.spare ≤ self.new.spare }
     {
@@ -244,5 +264,112 @@ impl OrderedStore for Plain {
         let end = start + key.len();
         self.objects.put(Ok(at), new.as_slice(), start, end);
         Outcome::Done(Changed::Put)
+    }
+
+    fn above(&mut self, lo: Edge<'_>, into: &mut Code, budget: u32) -> Outcome<bool>
+        requires budget { 1 ≤ budget }
+        requires closed { self.old.run ≡ None }
+        requires edge { IsProperBound (bound_of lo) }
+        ensures found { IfDone result (λ found. FoundAbove self.old self.new (bound_of lo.entry) found into.new.items) }
+        ensures refused { IfRefused result (λ rise. Declines self.old self.new (rise self.old.counts)) }
+        ensures emptied { IfRefused result (λ _. into.new.items ≡ []) }
+        ensures never_deep { IsNeverDeep result }
+        ensures busy { IfBusy result (λ spent. budget ≤ spent) }
+        ensures closed { self.new.run ≡ None }
+
+        ensures spare { self.old.spare ≤ self.new.spare }
+    {
+        let _budget = budget;
+        let at = start_of(&self.objects, lo);
+        if at == self.objects.len() {
+            into.clear();
+            return Outcome::Done(false);
+        }
+        copy(self.objects.object(at), into);
+        Outcome::Done(true)
+    }
+
+    fn below(&mut self, hi: Edge<'_>, into: &mut Code, budget: u32) -> Outcome<bool>
+        requires budget { 1 ≤ budget }
+        requires closed { self.old.run ≡ None }
+        requires edge { IsProperBound (bound_of hi) }
+        ensures found { IfDone result (λ found. FoundBelow self.old self.new (bound_of hi.entry) found into.new.items) }
+        ensures refused { IfRefused result (λ rise. Declines self.old self.new (rise self.old.counts)) }
+        ensures emptied { IfRefused result (λ _. into.new.items ≡ []) }
+        ensures never_deep { IsNeverDeep result }
+        ensures busy { IfBusy result (λ spent. budget ≤ spent) }
+        ensures closed { self.new.run ≡ None }
+
+        ensures spare { self.old.spare ≤ self.new.spare }
+    {
+        let _budget = budget;
+        let end = end_of(&self.objects, hi);
+        if end == 0 {
+            into.clear();
+            return Outcome::Done(false);
+        }
+        copy(self.objects.object(end - 1), into);
+        Outcome::Done(true)
+    }
+
+    fn range<F: Fn(&[u8]) -> bool>(
+        &mut self,
+        lo: Edge<'_>,
+        hi: Edge<'_>,
+        want: u32,
+        counts: &F,
+        budget: u32,
+    ) -> Outcome<bool>
+        requires budget { 1 ≤ budget }
+        requires closed { self.old.run ≡ None }
+        requires lower_edge { IsProperBound (bound_of lo) }
+        requires upper_edge { IsProperBound (bound_of hi) }
+        requires function { MayBeAskedForAll F.Fn counts.now self.old.keypos }
+        ensures opens { IfDone result (λ whole. Opens F.Fn counts.now self.old self.new (bound_of lo.entry) (bound_of hi.entry) want whole) }
+        ensures refused { IfRefused result (λ rise. Declines self.old self.new (rise self.old.counts)) }
+        ensures closed { IfRefused result (λ _. self.new.run ≡ None) }
+        ensures never_deep { IsNeverDeep result }
+        ensures busy { IfBusy result (λ spent. budget ≤ spent) }
+
+        ensures whole { IfDone result (λ whole. whole ≡ true) }
+        ensures spare { self.old.spare ≤ self.new.spare }
+    {
+        // A whole run costs two searches and no more, so none is cut, and nothing is counted.
+        let _budget = budget;
+        let _want = want;
+        let _counts = counts;
+        let end = end_of(&self.objects, hi);
+        let next = start_of(&self.objects, lo).min(end);
+        self.run = Some(Run { next, end });
+        Outcome::Done(true)
+    }
+
+    fn found(&mut self, into: &mut Code) -> bool
+        requires open { IsOpen self.old }
+        ensures handed_out { HandedOut self.old self.new result into.new.items }
+        ensures stays { StaysBesideRun self.old self.new }
+
+        ensures spare { self.old.spare ≤ self.new.spare }
+    {
+        let Some(run) = self.run else { unreachable!() };
+        if run.next == run.end {
+            into.clear();
+            return false;
+        }
+        copy(self.objects.object(run.next), into);
+        self.run = Some(Run {
+            next: run.next + 1,
+            end: run.end,
+        });
+        true
+    }
+
+    fn close_run(&mut self)
+        ensures closed { self.new.run ≡ None }
+        ensures stays { StaysBesideRun self.old self.new }
+
+        ensures spare { self.old.spare ≤ self.new.spare }
+    {
+        self.run = None;
     }
 }

@@ -1,10 +1,12 @@
 //! Calls of a plain store, with objects that are made here: a key of four bytes, and empty lists before it and behind it.
-ghost use Rattle.std.specs.Prelude.{◌≡◌, ◌≤◌, ◌-◌, ◌∷◌, length, IfSome, IsTrue};
+ghost use Rattle.std.specs.Prelude.{◌≡◌, ◌≤◌, ◌-◌, ◌∷◌, None, length, IfSome, IsTrue};
 ghost use Rattle.ca_term.specs.Code.{four_bytes};
 ghost use Rattle.ca_model.specs.Samples.{HasNils};
 ghost use Rattle.ca_term.specs.declared.bounds.TheConstants.{MOST_DEPTH};
 ghost use Rattle.ca_term.specs.Grammar.{IsCodeWithin};
 ghost use Rattle.ca_model.specs.StoreMap.{IsPair};
+ghost use Rattle.ca_model.specs.Edges.{bound_of, IsProperBound};
+ghost use Rattle.ca_model.specs.Runs.{IsOpen};
 ghost use Rattle.ca_model.specs.Function.{StandsAt};
 
 use super::*;
@@ -78,7 +80,8 @@ fn make(keypos: u32, key: &[u8; 5], behind: u8, into: &mut Code) -> Option<usize
 }
 
 fn put(store: &mut Plain, key: &[u8; 5], behind: u8, new: bool) -> Answer
-    requires { IsCodeWithin (MOST_DEPTH - 1) key.now }
+    requires key { IsCodeWithin (MOST_DEPTH - 1) key.now }
+    requires closed { store.old.run ≡ None }
 {
     let mut object = Code::new();
     let Some(at) = make(store.keypos(), key, behind, &mut object) else {
@@ -100,7 +103,8 @@ fn put(store: &mut Plain, key: &[u8; 5], behind: u8, new: bool) -> Answer
 }
 
 fn change(store: &mut Plain, key: &[u8; 5], behind: Option<u8>, old: &mut Code) -> Answer
-    requires { IsCodeWithin (MOST_DEPTH - 1) key.now }
+    requires key { IsCodeWithin (MOST_DEPTH - 1) key.now }
+    requires closed { store.old.run ≡ None }
 {
     let keypos = store.keypos();
     let write = |_object: &[u8], into: &mut Code, at: &mut usize| -> bool
@@ -121,8 +125,10 @@ fn change(store: &mut Plain, key: &[u8; 5], behind: Option<u8>, old: &mut Code) 
     }
 }
 
+// Ends the run that is open, if there is one, and makes the call.
 fn call_store(store: &mut Plain, call: Call, n: u32, object: &mut Code) -> Answer {
     let key = key(n);
+    store.close_run();
     match call {
         Call::Put(behind) => put(store, &key, behind, false),
         Call::PutNew(behind) => put(store, &key, behind, true),
@@ -328,4 +334,190 @@ fn objects_are_listed_in_the_order_of_their_keys(rt: HostRuntime) {
         n = n.wrapping_add(1);
     }
     assert_eq!(rt; n, 32_768);
+}
+
+// ---- walks and runs
+
+#[derive(Clone, Copy, Debug)]
+enum Side {
+    Open,
+    At,
+    Past,
+}
+
+const SIDES: [Side; 3] = [Side::Open, Side::At, Side::Past];
+
+fn edge<'a>(side: Side, key: &'a [u8; 5]) -> Edge<'a>
+    ensures { IsProperBound (bound_of result) }
+{
+    match side {
+        Side::Open => Edge::Open,
+        Side::At => Edge::At(key),
+        Side::Past => Edge::Past(key),
+    }
+}
+
+// Whether a number is within a lower edge at another one.
+fn is_from(side: Side, at: u32, n: u32) -> bool {
+    match side {
+        Side::Open => true,
+        Side::At => at <= n,
+        Side::Past => at < n,
+    }
+}
+
+// Whether a number is within an upper edge at another one.
+fn is_up_to(side: Side, at: u32, n: u32) -> bool {
+    match side {
+        Side::Open => true,
+        Side::At => n <= at,
+        Side::Past => n < at,
+    }
+}
+
+fn first_from(numbers: &[u32], side: Side, at: u32) -> Option<u32> {
+    let mut first = None;
+    for n in numbers {
+        if is_from(side, at, *n) && first.is_none_or(|m| *n < m) {
+            first = Some(*n);
+        }
+    }
+    first
+}
+
+fn last_up_to(numbers: &[u32], side: Side, at: u32) -> Option<u32> {
+    let mut last = None;
+    for n in numbers {
+        if is_up_to(side, at, *n) && last.is_none_or(|m| *n > m) {
+            last = Some(*n);
+        }
+    }
+    last
+}
+
+// Puts an object for each of these numbers.
+fn fill(store: &mut Plain, numbers: &[u32]) -> bool {
+    let mut object = Code::new();
+    for n in numbers {
+        if call_store(store, Call::PutNew(0), *n, &mut object) != Answer::Done(true) {
+            return false;
+        }
+    }
+    true
+}
+
+// Whether a walk came to this: the object of this number, or none and an empty Code.
+fn is_object(found: &Outcome<bool>, object: &Code, want: Option<u32>) -> bool {
+    let Some(n) = want else {
+        return *found == Outcome::Done(false) && object.is_empty();
+    };
+    let (bytes, count) = sample(n, false);
+    *found == Outcome::Done(true) && object.as_slice() == &bytes[..count]
+}
+
+fn above(store: &mut Plain, side: Side, at: u32, object: &mut Code) -> Outcome<bool> {
+    store.close_run();
+    store.above(edge(side, &key(at)), object, BUDGET)
+}
+
+fn below(store: &mut Plain, side: Side, at: u32, object: &mut Code) -> Outcome<bool> {
+    store.close_run();
+    store.below(edge(side, &key(at)), object, BUDGET)
+}
+
+// Numbers as they are put, and in order; edges stand at each of them, between them and outside.
+const SETS: [(&[u32], &[u32]); 4] = [
+    (&[], &[]),
+    (&[5], &[5]),
+    (&[9, 1, 5], &[1, 5, 9]),
+    (&[700, 2, 300, 255, 256, 8], &[2, 8, 255, 256, 300, 700]),
+];
+
+const PLACES: [u32; 12] = [0, 1, 2, 5, 6, 9, 10, 255, 256, 257, 700, 701];
+
+#[test]
+fn the_first_object_within_a_lower_edge_and_the_last_within_an_upper_one(rt: HostRuntime) {
+    let mut object = Code::new();
+    for (numbers, _) in SETS {
+        let mut store = Plain::new(rt.alloc(), 1);
+        assert!(rt; fill(&mut store, numbers));
+        for side in SIDES {
+            for at in PLACES {
+                let found = above(&mut store, side, at, &mut object);
+                let first = first_from(numbers, side, at);
+                assert!(rt; is_object(&found, &object, first), "above {side:?} {at}");
+                let found = below(&mut store, side, at, &mut object);
+                let last = last_up_to(numbers, side, at);
+                assert!(rt; is_object(&found, &object, last), "below {side:?} {at}");
+            }
+        }
+    }
+}
+
+// Whether the open run hands out the objects of those of these numbers that are within both edges, in this order, and then no more.
+fn hands_out(store: &mut Plain, sorted: &[u32], lo: (Side, u32), hi: (Side, u32)) -> bool
+    requires { IsOpen store.old }
+{
+    let mut object = Code::new();
+    for n in sorted {
+        if is_from(lo.0, lo.1, *n) && is_up_to(hi.0, hi.1, *n) {
+            let (bytes, count) = sample(*n, false);
+            if !store.found(&mut object) || object.as_slice() != &bytes[..count] {
+                return false;
+            }
+        }
+    }
+    !store.found(&mut object) && object.is_empty() && !store.found(&mut object)
+}
+
+// Whether a run between two edges is whole and hands out the objects of these numbers.
+fn is_run(store: &mut Plain, sorted: &[u32], lo: (Side, u32), hi: (Side, u32), want: u32) -> bool {
+    store.close_run();
+    let lower = key(lo.1);
+    let upper = key(hi.1);
+    let counts = |_object: &[u8]| true;
+    let Outcome::Done(whole) = store.range(
+        edge(lo.0, &lower),
+        edge(hi.0, &upper),
+        want,
+        &counts,
+        BUDGET,
+    ) else {
+        return false;
+    };
+    whole && hands_out(store, sorted, lo, hi)
+}
+
+#[test]
+fn a_run_hands_out_the_objects_between_two_edges_in_order(rt: HostRuntime) {
+    for (numbers, sorted) in SETS {
+        let mut store = Plain::new(rt.alloc(), 1);
+        assert!(rt; fill(&mut store, numbers));
+        for lo in PLACES {
+            for hi in PLACES {
+                for lower in SIDES {
+                    for upper in SIDES {
+                        let want = lo % 3;
+                        assert!(rt;
+                            is_run(&mut store, sorted, (lower, lo), (upper, hi), want),
+                            "{lower:?} {lo} {upper:?} {hi}"
+                        );
+                    }
+                }
+            }
+        }
+    }
+}
+
+#[test]
+fn a_run_that_is_ended_leaves_the_store_as_it_was(rt: HostRuntime) {
+    let mut store = Plain::new(rt.alloc(), 1);
+    let (numbers, sorted) = SETS[3];
+    assert!(rt; fill(&mut store, numbers));
+    let all = ((Side::Open, 0), (Side::Open, 0));
+    assert!(rt; is_run(&mut store, sorted, all.0, all.1, 0));
+    store.close_run();
+    store.close_run();
+    assert!(rt; is_run(&mut store, sorted, (Side::Past, 8), (Side::At, 300), 1));
+    assert!(rt; is_run(&mut store, sorted, all.0, all.1, 2));
 }

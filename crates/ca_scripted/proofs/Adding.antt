@@ -3,15 +3,15 @@ use Rattle.std.proofs.Common.{◌≡◌, ℕ, ◌+◌, ◌≤◌, ◌<◌, ◌^�
 use Rattle.ca_model.specs.StoreMap.{StoreMap, IsStoreMap}
 use Rattle.ca_model.specs.History.{Edit}
 use Rattle.ca_model.specs.Known.{Known, Counts, Stays}
-use Rattle.ca_scripted.specs.Script.{ScriptTurn, IsProperTurn, AreProperTurns, count_edits}
-use Rattle.ca_scripted.specs.Inner.{IsInner}
+use Rattle.ca_scripted.specs.Script.{ScriptTurn, AreProper, IsProperTurn, AreProperTurns, count_edits}
+use Rattle.ca_scripted.specs.Inner.{IsOwned}
 use Rattle.ca_scripted.specs.ScriptedView.{IsKeptWith}
 
-stays_inner : (a b : Known) → Stays a b → IsInner a → IsInner b
-stays_inner a b stays inner = record {
-  alone = stays.same.alone ∙ inner.alone;
-  sure = stays.same.sure ∙ inner.sure;
-  ordered = subst (λ (n : ℕ). IsStoreMap n b.map) (sym stays.same.keypos) (subst (λ (m : StoreMap). IsStoreMap a.keypos m) (sym stays.map) inner.ordered);
+stays_owned : (a b : Known) → Stays a b → IsOwned a → IsOwned b
+stays_owned a b stays owned = record {
+  alone = stays.same.alone ∙ owned.alone;
+  sure = stays.same.sure ∙ owned.sure;
+  ordered = subst (λ (n : ℕ). IsStoreMap n b.map) (sym stays.same.keypos) (subst (λ (m : StoreMap). IsStoreMap a.keypos m) (sym stays.map) owned.ordered);
 }
 
 proper_added : (keypos : ℕ) (turns : List ScriptTurn) (turn : ScriptTurn) → AreProperTurns keypos turns → IsProperTurn keypos turn
@@ -25,19 +25,22 @@ count_added (t ∷ turns) turn = let rest = count_added turns turn in omega (ari
 
 -- The store inside got room at `q` for the edits before the turn's call, and at `r` for those behind it.
 pub added : (o q r : Known) (turns all : List ScriptTurn) (turn : ScriptTurn) (before after : List Edit) (counts : Counts) (spare made more : ℕ)
-    → IsKeptWith o turns counts spare made → IsProperTurn o.keypos turn → Stays o q → o.spare + length before ≤ q.spare → before ≡ turn.before
+    (waiting : List Edit) → IsKeptWith o turns counts spare made waiting → IsProperTurn o.keypos turn
+    → Stays o q → o.spare + length before ≤ q.spare → before ≡ turn.before
     → Stays q r → q.spare + length after ≤ r.spare → after ≡ turn.after → all ≡ turns ++ turn ∷ [] → (made + 1 < 2 ^ 64) × (more ≡ made + 1)
-    → IsKeptWith r all counts spare more
-added o q r turns all turn before after counts spare made more kept proper first room_before e second room_after f whole next =
+    → IsKeptWith r all counts spare more waiting
+added o q r turns all turn before after counts spare made more waiting kept proper first room_before e second room_after f whole next =
     let long = ap (λ (ts : List ScriptTurn). length ts) whole in
     let longer = length-append turns (turn ∷ []) in
     let many = ap count_edits whole in
     let more_edits = count_added turns turn in
     record {
-      inner = stays_inner q r second (stays_inner o q first kept.inner);
+      owned = stays_owned q r second (stays_owned o q first kept.owned);
       proper = subst (λ (ts : List ScriptTurn). AreProperTurns r.keypos ts) (sym whole)
           (subst (λ (n : ℕ). AreProperTurns n (turns ++ turn ∷ [])) (sym (second.same.keypos ∙ first.same.keypos))
           (proper_added o.keypos turns turn kept.proper proper));
+      waiting_proper = subst (λ (n : ℕ). AreProper n waiting) (sym (second.same.keypos ∙ first.same.keypos)) kept.waiting_proper;
+      closed = λ none. kept.closed (sym (second.run ∙ first.run) ∙ none);
       room = omega (arith, many, more_edits, kept.room, room_before, room_after, ap (λ (es : List Edit). length es) e, ap (λ (es : List Edit). length es) f);
       counted = record {
         busy = omega (arith, long, longer, kept.counted.busy, next.1);

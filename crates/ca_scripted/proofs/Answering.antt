@@ -9,13 +9,15 @@ use Rattle.ca_model.specs.declared.outcome.Changed.{Changed}
 use Rattle.ca_model.specs.declared.outcome.Changed.TheVariants as changed
 use Rattle.ca_model.specs.StoreMap.{StoreMap, IsStoreMap}
 use Rattle.ca_model.specs.History.{Edit, History, after, after_edit, by_pass, AreEdits}
-use Rattle.ca_model.specs.Event.{Event, Get, Remove, Change, IsAnswer, effect}
+use Rattle.ca_model.specs.Event.{Event, Get, Remove, Change, Above, Below, Range, IsAnswer, effect}
 use Rattle.ca_model.specs.Known.{Known, Meets, around}
-use Rattle.ca_model.specs.Answer.{IfDone, Got, Removed, Altered, RemovedIf}
+use Rattle.ca_model.specs.Answer.{IfDone, Got, Removed, Altered, RemovedIf, FoundAbove, FoundBelow}
+use Rattle.ca_model.specs.Edges.{Bound}
+use Rattle.ca_model.specs.Runs.{Opens}
 use Rattle.ca_model.proofs.Edits.{map_after}
 use Rattle.ca_scripted.specs.Script.{after_edits}
-use Rattle.ca_scripted.specs.Played.{GotSuch, RemovedSuch, RemovedIfSuch, AlteredSuch}
-use Rattle.ca_scripted.specs.Inner.{IsInner, Answers}
+use Rattle.ca_scripted.specs.Played.{GotSuch, RemovedSuch, RemovedIfSuch, AlteredSuch, AboveSuch, BelowSuch}
+use Rattle.ca_scripted.specs.Inner.{IsInner, Answers, InnerOpens}
 
 -- The map after edits is the same whichever pass made them.
 pub after_pass : (pass : ℕ) (edits : List Edit) (m : StoreMap) → after (by_pass pass edits) m ≡ after_edits edits m
@@ -32,9 +34,10 @@ pub done_value : {T : Type 0} (r : Outcome T) (x : T) (P : T → Type 0) → r �
 done_value {T} r x P e h = subst (λ (q : Outcome T). IfDone q P) e h
 
 -- What the contract of a store says of a call, where nobody else edits.
-pub answered : (a b : Known) (room : ℕ) (event : Event) → IsInner a → a.spare ≤ b.spare + room → Meets a b event → Answers a b room event
-answered a b room event inner spare met =
-    let none = met.alone inner.alone in
+pub answered : (a b : Known) (room : ℕ) (event : Event) → IsInner a → a.spare ≤ b.spare + room → b.run ≡ None
+    → Meets a b event → Answers a b room event
+answered a b room event inner spare closed met =
+    let none = met.alone inner.owned.alone in
     let own = by_pass a.pass (effect event) in
     let learnt : around a.pass met.earlier event met.later ≡ own =
     ap (λ (h : History). h ++ own ++ met.later) none.0 ∙ ap (λ (h : History). own ++ h) none.1 ∙ append-nil own in
@@ -43,9 +46,12 @@ answered a b room event inner spare met =
     (map_after a.keypos (around a.pass met.earlier event met.later) a.map met.learns.edits met.learns.valid) in
     record {
       inner = record {
-        alone = met.learns.same.alone ∙ inner.alone;
-        sure = met.learns.same.sure ∙ inner.sure;
-        ordered = subst (λ (n : ℕ). IsStoreMap n b.map) (sym met.learns.same.keypos) map;
+        owned = record {
+          alone = met.learns.same.alone ∙ inner.owned.alone;
+          sure = met.learns.same.sure ∙ inner.owned.sure;
+          ordered = subst (λ (n : ℕ). IsStoreMap n b.map) (sym met.learns.same.keypos) map;
+        };
+        closed = closed;
       };
       keypos = met.learns.same.keypos;
       answer = subst (λ (h : History). IsAnswer event (after h a.map)) none.0 met.answer;
@@ -55,9 +61,9 @@ answered a b room event inner spare met =
     }
 
 -- The same by the answer of a call.
-module _ (a b : Known) (inner : IsInner a) (spare : a.spare ≤ b.spare) (key : List ℕ) where
+module _ (a b : Known) (inner : IsInner a) (spare : a.spare ≤ b.spare) (closed : b.run ≡ None) (key : List ℕ) where
   met : (event : Event) → Meets a b event → Answers a b 0 event
-  met event m = answered a b 0 event inner (omega (arith, spare)) m
+  met event m = answered a b 0 event inner (omega (arith, spare)) closed m
 
   pub got : (found : Bool) (into : List ℕ) → Got a b key found into → GotSuch (Answers a b 0) key found into
   got true into m = met (Get key (Some into)) m
@@ -79,3 +85,43 @@ module _ (a b : Known) (inner : IsInner a) (spare : a.spare ≤ b.spare) (key : 
   altered g f changed.Absent old m = (met (Change key None None) m.0, m.1)
   altered g f changed.Kept old m = (m.0, met (Change key (Some old) None) m.1)
   altered g f changed.Put old m = (m.0, m.1, m.2, met (Change key (Some old) (Some m.0)) m.3)
+
+-- The same of a walk, by its edge.
+module _ (a b : Known) (inner : IsInner a) (spare : a.spare ≤ b.spare) (closed : b.run ≡ None) (edge : Bound) where
+  walked : (event : Event) → Meets a b event → Answers a b 0 event
+  walked event m = answered a b 0 event inner (omega (arith, spare)) closed m
+
+  pub above : (found : Bool) (into : List ℕ) → FoundAbove a b edge found into → AboveSuch (Answers a b 0) edge found into
+  above true into m = walked (Above edge (Some into)) m
+  above false into m = (walked (Above edge None) m.0, m.1)
+
+  pub below : (found : Bool) (into : List ℕ) → FoundBelow a b edge found into → BelowSuch (Answers a b 0) edge found into
+  below true into m = walked (Below edge (Some into)) m
+  below false into m = (walked (Below edge None) m.0, m.1)
+
+-- The same of a run that is whole.
+pub opened : {F : Type 0} (g : Shared F (Bor (List ℕ) × Unit {0}) Bool) (f : F) (a b : Known) (lo hi : Bound) (want : ℕ) (whole : Bool)
+    → IsInner a → a.spare ≤ b.spare → whole ≡ true → Opens g f a b lo hi want whole → (objects : List (List ℕ)) × InnerOpens a b lo hi objects
+opened g f a b lo hi want true inner spare is opens =
+    let none = opens.met.alone inner.owned.alone in
+    let event = Range lo hi opens.cut opens.objects in
+    let learnt : around a.pass opens.met.earlier event opens.met.later ≡ [] =
+    ap (λ (h : History). h ++ [] ++ opens.met.later) none.0 ∙ none.1 in
+    let same : b.map ≡ a.map = opens.met.learns.map ∙ ap (λ (h : History). after h a.map) learnt in
+    let answer : IsAnswer event a.map = subst (λ (h : History). IsAnswer event (after h a.map)) none.0 opens.met.answer in (
+      opens.objects,
+      record {
+        owned = record {
+          alone = opens.met.learns.same.alone ∙ inner.owned.alone;
+          sure = opens.met.learns.same.sure ∙ inner.owned.sure;
+          ordered = subst (λ (n : ℕ). IsStoreMap n b.map) (sym opens.met.learns.same.keypos)
+              (subst (λ (m : StoreMap). IsStoreMap a.keypos m) (sym same) inner.owned.ordered);
+        };
+        keypos = opens.met.learns.same.keypos;
+        answer = subst (λ (cut : Bound). IsAnswer (Range lo hi cut opens.objects) a.map) opens.reaches answer;
+        map = same;
+        spare = spare;
+        run = opens.run;
+      },
+    )
+opened g f a b lo hi want false inner spare is opens = absurd (let no : false ≡ true = is in cc)

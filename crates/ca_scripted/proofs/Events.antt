@@ -5,10 +5,11 @@ use denote.Param.Members.{Shared}
 use Rattle.arrayvec.specs.ArrayVec.{ArrayVec}
 use Rattle.ca_model.specs.declared.outcome.Changed.{Changed}
 use Rattle.ca_model.specs.declared.outcome.Changed.TheVariants as changed
-use Rattle.ca_model.specs.Event.{Event, Get, Remove, Change}
+use Rattle.ca_model.specs.Edges.{Bound}
+use Rattle.ca_model.specs.Event.{Event, Get, Remove, Change, Above, Below}
 use Rattle.ca_model.specs.Known.{Known, Meets}
-use Rattle.ca_model.specs.Answer.{Got, Removed, Altered, RemovedIf}
-use Rattle.ca_scripted.specs.Played.{GotSuch, RemovedSuch, RemovedIfSuch, AlteredSuch}
+use Rattle.ca_model.specs.Answer.{Got, Removed, Altered, RemovedIf, FoundAbove, FoundBelow}
+use Rattle.ca_scripted.specs.Played.{GotSuch, RemovedSuch, RemovedIfSuch, AlteredSuch, AboveSuch, BelowSuch}
 
 module _ (P Q : Event → Type 0) (so : (event : Event) → P event → Q event) (key : List ℕ) where
   pub got : (found : Bool) (into : List ℕ) → GotSuch P key found into → GotSuch Q key found into
@@ -54,3 +55,13 @@ module _ (a b : Known) (key : List ℕ) where
   as_altered g f changed.Absent old h = h
   as_altered g f changed.Kept old h = h
   as_altered g f changed.Put old h = h
+
+-- A walk's answer tells a store's contract of its event, where it tells another kind of that event.
+module _ (P : Event → Type 0) (a b : Known) (so : (event : Event) → P event → Meets a b event) (edge : Bound) where
+  pub above : (found : Bool) (into : List ℕ) → AboveSuch P edge found into → FoundAbove a b edge found into
+  above true into h = so (Above edge (Some into)) h
+  above false into h = (so (Above edge None) h.0, h.1)
+
+  pub below : (found : Bool) (into : List ℕ) → BelowSuch P edge found into → FoundBelow a b edge found into
+  below true into h = so (Below edge (Some into)) h
+  below false into h = (so (Below edge None) h.0, h.1)

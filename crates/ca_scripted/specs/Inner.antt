@@ -2,7 +2,8 @@
 use Rattle.std.specs.Prelude.{◌≡◌, ℕ, ◌+◌, ◌≤◌, ◌<◌, true, false, List, drop, length, Option, None, Some}
 use Rattle.ca_model.specs.StoreMap.{IsStoreMap}
 use Rattle.ca_model.specs.History.{Edit, by_pass, AreEdits}
-use Rattle.ca_model.specs.Event.{Event, IsAnswer, effect}
+use Rattle.ca_model.specs.Edges.{Bound}
+use Rattle.ca_model.specs.Event.{Event, Range, IsAnswer, effect}
 use Rattle.ca_model.specs.Known.{Known, Counts, Declines, IsSameStore}
 use Rattle.ca_scripted.specs.declared.refusal.Refusal.{Refusal}
 use Rattle.ca_scripted.specs.declared.refusal.Call.{Call}
@@ -12,10 +13,15 @@ use Rattle.ca_scripted.specs.Refusals.{one_more, unless_deep}
 use Rattle.ca_scripted.specs.Played.{Skips}
 
 -- The store inside has one owner.
-pub record IsInner (k : Known) : Type 0 where
+pub record IsOwned (k : Known) : Type 0 where
   pub alone : k.alone ≡ true
   pub sure : k.sure ≡ true
   pub ordered : IsStoreMap k.keypos k.map
+
+-- It has no run open either.
+pub record IsInner (k : Known) : Type 0 where
+  pub owned : IsOwned k
+  pub closed : k.run ≡ None
 
 -- These edits may be made in it.
 pub record IsReady (k : Known) (edits : List Edit) : Type 0 where
@@ -39,10 +45,19 @@ pub record Answers (a b : Known) (room : ℕ) (event : Event) : Type 0 where
   pub edits : AreEdits a.keypos (by_pass 1 (effect event))
   pub spare : a.spare ≤ b.spare + room
 
+-- A run of it is open, of all objects within these edges, and nothing else changed.
+pub record InnerOpens (a b : Known) (lo hi : Bound) (objects : List (List ℕ)) : Type 0 where
+  pub owned : IsOwned b
+  pub keypos : b.keypos ≡ a.keypos
+  pub answer : IsAnswer (Range lo hi hi objects) a.map
+  pub map : b.map ≡ a.map
+  pub spare : a.spare ≤ b.spare
+  pub run : b.run ≡ Some objects
+
 -- how a call of this kind is refused
 abbrev pub refusal_at : Call → Option Refusal → Option Refusal
-refusal_at call.Read told = None
-refusal_at call.Edit told = unless_deep told
+refusal_at call.Get told = None
+refusal_at call.Other told = unless_deep told
 refusal_at call.Put told = told
 
 -- What is the same in every store with a script: it is the first of two passes, and tells no history.
@@ -59,6 +74,7 @@ pub record Begins (a b : ScriptedStore) (asked : Call) (turn : ScriptTurn) : Typ
   pub turns : b.turns ≡ drop 1 a.turns
   pub refusal : refusal_at asked turn.refusal ≡ None
   pub first : IsFirstOfTwo a.known
+  pub closed : b.known.run ≡ None
   pub same : IsSameStore a.known b.known
   pub map : b.known.map ≡ after_edits turn.before a.known.map
   pub counts : b.known.counts ≡ a.known.counts
@@ -72,6 +88,7 @@ pub record Begins (a b : ScriptedStore) (asked : Call) (turn : ScriptTurn) : Typ
 pub record Refuses (a b : ScriptedStore) (asked : Call) (refusal : Refusal) : Type 0 where
   pub refusal_is : refusal_at asked (next_turn a.turns).refusal ≡ Some refusal
   pub skips : Skips a b
+  pub closed : b.known.run ≡ None
   pub declines : Declines a.known b.known (one_more refusal a.known.counts)
 
 abbrev pub AreBelow : ℕ → Counts → Type 0

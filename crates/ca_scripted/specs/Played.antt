@@ -5,7 +5,8 @@ use denote.Param.Members.{Shared}
 use Rattle.arrayvec.specs.ArrayVec.{ArrayVec}
 use Rattle.ca_model.specs.declared.outcome.Changed.{Changed}
 use Rattle.ca_model.specs.declared.outcome.Changed.TheVariants as changed
-use Rattle.ca_model.specs.Event.{Event, Get, Remove, Change, IsAnswer, effect}
+use Rattle.ca_model.specs.Edges.{Bound}
+use Rattle.ca_model.specs.Event.{Event, Get, Remove, Change, Above, Below, Range, IsAnswer, effect}
 use Rattle.ca_model.specs.Function.{MayLeave, MaySay}
 use Rattle.ca_scripted.specs.Script.{ScriptedStore, next_turn, after_edits}
 
@@ -29,6 +30,22 @@ module _ (Such : Event → Type 0) (key : List ℕ) where
   abbrev pub RemovedSuch : Bool → List ℕ → Type 0
   RemovedSuch true old = Such (Remove key (Some old))
   RemovedSuch false old = Such (Remove key None) × (old ≡ [])
+
+-- The event of a walk with this answer and these bytes is such a one.
+module _ (Such : Event → Type 0) (edge : Bound) where
+  abbrev pub AboveSuch : Bool → List ℕ → Type 0
+  AboveSuch true into = Such (Above edge (Some into))
+  AboveSuch false into = Such (Above edge None) × (into ≡ [])
+
+  abbrev pub BelowSuch : Bool → List ℕ → Type 0
+  BelowSuch true into = Such (Below edge (Some into))
+  BelowSuch false into = Such (Below edge None) × (into ≡ [])
+
+-- A run of all objects within these edges is open, and nothing of it was handed out yet.
+pub record OpensWhole (a b : ScriptedStore) (lo hi : Bound) : Type 0 where
+  pub objects : List (List ℕ)
+  pub plays : Plays a b (Range lo hi hi objects)
+  pub run : b.known.run ≡ Some objects
 
 module _ {F : Type 0} (g : Shared F (Bor (List ℕ) × Unit {0}) Bool) (f : F) (Such : Event → Type 0) (key : List ℕ) where
   abbrev pub RemovedIfSuch : Changed → List ℕ → Type 0

@@ -1,17 +1,18 @@
 //! Calls of the plain store inside, which are always done.
-ghost use Rattle.std.specs.Prelude.{◌≡◌, ◌≤◌, ◌+◌, ◌∷◌, [], length, slice_range, OnOk};
+ghost use Rattle.std.specs.Prelude.{ℕ, List, ◌≡◌, ◌≤◌, ◌+◌, ◌∷◌, [], length, slice_range, OnOk};
 ghost use Rattle.ca_term.specs.declared.bounds.TheConstants.{MOST_CODE_BYTES};
 ghost use Rattle.ca_model.specs.declared.outcome.Outcome.TheVariants.{Done};
 ghost use Rattle.ca_model.specs.StoreMap.{IsPair};
 ghost use Rattle.ca_model.specs.Event.{Write, WriteNew};
 ghost use Rattle.ca_model.specs.Answer.{IsDone};
 ghost use Rattle.ca_model.specs.Known.{Stays};
-ghost use Rattle.ca_model.specs.Function.{KeepsKey, MayBeAskedFor};
-ghost use Rattle.ca_scripted.specs.Played.{GotSuch, RemovedSuch, RemovedIfSuch, AlteredSuch};
-ghost use Rattle.ca_scripted.specs.Inner.{IsInner, IsReady, HasMade, Answers};
+ghost use Rattle.ca_model.specs.Edges.{bound_of, IsProperBound};
+ghost use Rattle.ca_model.specs.Function.{KeepsKey, MayBeAskedFor, MayBeAskedForAll};
+ghost use Rattle.ca_scripted.specs.Played.{GotSuch, RemovedSuch, RemovedIfSuch, AlteredSuch, AboveSuch, BelowSuch};
+ghost use Rattle.ca_scripted.specs.Inner.{IsInner, IsReady, HasMade, Answers, InnerOpens};
 
 use crate::foreign::{Foreign, ForeignEdit};
-use ca_model::{Changed, Code, OrderedStore, Outcome, Plain};
+use ca_model::{Changed, Code, Edge, OrderedStore, Outcome, Plain};
 use std::alloc::AllocError;
 
 const BUDGET: u32 = 1;
@@ -141,4 +142,39 @@ pub(crate) fn change<F: Fn(&[u8], &mut Code, &mut usize) -> bool>(
     ensures { AlteredSuch F.Fn f.now (Answers objects.old objects.new 0) key.now result old.new.items }
 {
     value(objects.change(key, f, old, BUDGET))
+}
+
+// Whether an object is within the lower edge; then `into` is the first one.
+pub(crate) fn above(objects: &mut Plain, lo: Edge<'_>, into: &mut Code) -> bool
+    requires inner { IsInner objects.old }
+    requires edge { IsProperBound (bound_of lo) }
+    ensures { AboveSuch (Answers objects.old objects.new 0) (bound_of lo.entry) result into.new.items }
+{
+    value(objects.above(lo, into, BUDGET))
+}
+
+// Whether an object is within the upper edge; then `into` is the last one.
+pub(crate) fn below(objects: &mut Plain, hi: Edge<'_>, into: &mut Code) -> bool
+    requires inner { IsInner objects.old }
+    requires edge { IsProperBound (bound_of hi) }
+    ensures { BelowSuch (Answers objects.old objects.new 0) (bound_of hi.entry) result into.new.items }
+{
+    value(objects.below(hi, into, BUDGET))
+}
+
+// Opens a run of the objects within both edges.
+pub(crate) fn range<F: Fn(&[u8]) -> bool>(
+    objects: &mut Plain,
+    lo: Edge<'_>,
+    hi: Edge<'_>,
+    want: u32,
+    counts: &F,
+)
+    requires inner { IsInner objects.old }
+    requires lower_edge { IsProperBound (bound_of lo) }
+    requires upper_edge { IsProperBound (bound_of hi) }
+    requires function { MayBeAskedForAll F.Fn counts.now objects.old.keypos }
+    ensures { (found : List (List ℕ)) × InnerOpens objects.old objects.new (bound_of lo.entry) (bound_of hi.entry) found }
+{
+    value(objects.range(lo, hi, want, counts, BUDGET));
 }

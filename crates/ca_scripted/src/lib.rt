@@ -15,3 +15,5 @@ pub use turn::Turn;
 
 #[cfg(test)]
 mod tests;
+#[cfg(test)]
+mod walk_tests;

@@ -14,12 +14,12 @@ pub enum Refusal {
     Worn(Counter),
 }
 
-// What kind of call asks for its turn: one that is never refused, one that needs no level, or any other.
+// What kind of call asks for its turn: one that is never refused, one that may want a level for a new key, or any other.
 #[derive(Clone, Copy)]
 pub(crate) enum Call {
-    Read,
-    Edit,
+    Get,
     Put,
+    Other,
 }
 
 impl Refusal {
@@ -45,9 +45,9 @@ pub(crate) fn refusal_at(asked: Call, told: Option<Refusal>) -> Option<Refusal>
     ensures { result ≡ refusal_at asked told }
 {
     match asked {
-        Call::Read => None,
+        Call::Get => None,
         Call::Put => told,
-        Call::Edit => match told {
+        Call::Other => match told {
             Some(Refusal::Deep(_)) => None,
             other => other,
         },

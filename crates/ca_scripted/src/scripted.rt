@@ -1,21 +1,24 @@
 //! A store with a script.
-ghost use Rattle.std.specs.Prelude.{◌≡◌, ◌≤◌, ◌∷◌, ◌++◌, [], None, false, length, slice_range, IfOk, IfErr, OnOk, OnErr};
+ghost use Rattle.std.specs.Prelude.{◌≡◌, ◌≤◌, ◌∷◌, ◌++◌, [], None, false, true, length, slice_range, IfOk, IfErr, OnOk, OnErr};
 ghost use Rattle.ca_term.specs.declared.bounds.TheConstants.{MOST_CODE_BYTES, MOST_ELEMENTS};
 ghost use Rattle.ca_model.specs.StoreMap.{IsPair};
+ghost use Rattle.ca_model.specs.Edges.{bound_of, IsProperBound};
 ghost use Rattle.ca_model.specs.Event.{Write, WriteNew};
-ghost use Rattle.ca_model.specs.Known.{Meets, Declines, Stays};
-ghost use Rattle.ca_model.specs.Function.{KeepsKey, MayBeAskedFor};
-ghost use Rattle.ca_model.specs.Answer.{IfDone, IfRefused, IfBusy, IsDone, IsNeverDeep, Got, Removed, Altered, RemovedIf};
+ghost use Rattle.ca_model.specs.Known.{Meets, Declines, Stays, StaysBesideRun};
+ghost use Rattle.ca_model.specs.Function.{KeepsKey, MayBeAskedFor, MayBeAskedForAll};
+ghost use Rattle.ca_model.specs.Answer.{IfDone, IfRefused, IfBusy, IsDone, IsNeverDeep, Got, Removed, Altered, RemovedIf, FoundAbove, FoundBelow};
+ghost use Rattle.ca_model.specs.Runs.{IsOpen, HandedOut, Opens};
 ghost use Rattle.ca_scripted.specs.Script.{next_turn, IsProperTurn};
 ghost use Rattle.ca_scripted.specs.Refusals.{IsAsTold, unless_deep};
-ghost use Rattle.ca_scripted.specs.Played.{Plays, Skips, GotSuch, RemovedSuch, RemovedIfSuch, AlteredSuch};
+ghost use Rattle.ca_scripted.specs.Played.{Plays, Skips, GotSuch, RemovedSuch, RemovedIfSuch, AlteredSuch, AboveSuch, BelowSuch, OpensWhole};
 ghost use Rattle.ca_scripted.specs.Inner.{Begins, Refuses};
 
+use crate::foreign::Foreign;
 use crate::inner;
 use crate::refusal::{Call, Refusal};
 use crate::tally::Tally;
 use crate::turn::{Turn, take_turn};
-use ca_model::{Changed, Code, OrderedStore, Outcome, Plain};
+use ca_model::{Changed, Code, Edge, OrderedStore, Outcome, Plain};
 use std::alloc::{AllocError, Global};
 use std::collections::VecDeque;
 use std::marker::Model;
@@ -23,10 +26,11 @@ use std::marker::Model;
 /// A store whose map others edit by a script, and which refuses calls by it. It serves to run whatever stands over a store through every
 /// answer that a shared store may give.
 ///
-/// Each call but `reserve` takes the script's next turn. It learns of the others' edits that the turn has before its own, makes its own or
-/// is refused, and learns of those that the turn has behind it. A read is never refused, and a call that puts no new key never for want of
-/// levels: their turns count as if they said no refusal there. Behind the last turn nothing is learnt and nothing refused. Contracts see
-/// what is known of the store, the turns that are left, and for how many objects there is room.
+/// Each call but `reserve`, `found` and `close_run` takes the script's next turn. It learns of the others' edits that the turn has before its own,
+/// makes its own or is refused, and learns of those that the turn has behind it. A `get` is never refused, and a call that puts no new key never
+/// for want of levels: their turns count as if they said no refusal there. A run is never cut, and the edits that the turn of its call has behind
+/// it don't show in it. Behind the last turn nothing is learnt and nothing refused. Contracts see what is known of the store, the turns that are
+/// left, and for how many objects there is room.
 #[derive(Drop)]
 pub struct Scripted {
     alloc: Global,
@@ -37,6 +41,8 @@ pub struct Scripted {
     spare: usize,
     // how many turns the script had in all
     made: usize,
+    // others' edits behind the state of the open run: they are known, and made in `objects` once the run is ended
+    waiting: Vec<Foreign>,
 }
 
 impl Model for Scripted {
@@ -63,6 +69,7 @@ impl Scripted {
         ensures sure { result.known.sure ≡ false }
         ensures seen { result.known.seen ≡ None }
         ensures counts { result.known.counts ≡ record { busy = 0; full = 0; deep = 0; worn = 0 } }
+        ensures closed { result.known.run ≡ None }
         ensures turns { result.turns ≡ [] }
     {
         Scripted {
@@ -72,6 +79,7 @@ impl Scripted {
             tally: Tally::new(),
             spare: 0,
             made: 0,
+            waiting: Vec::new(alloc),
         }
     }
 
@@ -108,6 +116,7 @@ impl Scripted {
 
     // Takes the next turn, and learns of the edits before the call's own; where it refuses a call of this kind, also of those behind it.
     fn begin(&mut self, asked: Call) -> Result<Turn, Refusal>
+        requires { self.old.known.run ≡ None }
         ensures begins { IfOk result (λ turn. Begins self.old self.new asked turn) }
         ensures refuses { IfErr result (λ refusal. Refuses self.old self.new asked refusal) }
     {
@@ -126,6 +135,7 @@ impl OrderedStore for Scripted {
     ghost knows = { λ s. s.known };
 
     fn reserve(&mut self) -> Result<(), AllocError>
+        requires closed { self.old.known.run ≡ None }
         ensures room { OnOk result (1 ≤ self.new.known.spare) }
         ensures stays { Stays self.old.known self.new.known }
 
@@ -143,14 +153,16 @@ impl OrderedStore for Scripted {
 
     fn get(&mut self, key: &[u8], into: &mut Code, budget: u32) -> Outcome<bool>
         requires budget { 1 ≤ budget }
+        requires closed { self.old.known.run ≡ None }
         requires key { (1 ≤ length key.now) × (length key.now ≤ MOST_CODE_BYTES) }
         ensures done { IsDone result }
         ensures got { IfDone result (λ found. Got self.old.known self.new.known key.now found into.new.items) }
+        ensures closed { self.new.known.run ≡ None }
 
         ensures played { IfDone result (λ found. GotSuch (Plays self.old self.new) key.now found into.new.items) }
     {
         let _budget = budget;
-        let Ok(turn) = self.begin(Call::Read) else {
+        let Ok(turn) = self.begin(Call::Get) else {
             unreachable!()
         };
         let found = inner::get(&mut self.objects, key, into);
@@ -160,12 +172,14 @@ impl OrderedStore for Scripted {
 
     fn put(&mut self, object: &[u8], key_at: usize, key_end: usize, budget: u32) -> Outcome<()>
         requires budget { 1 ≤ budget }
+        requires closed { self.old.known.run ≡ None }
         requires room { 1 ≤ self.old.known.spare }
         requires place { (key_at ≤ key_end) × (key_end ≤ length object.now) }
         requires pair { IsPair self.old.known.keypos (slice_range object.now key_at key_end, object.now) }
         ensures put { IfDone result (λ _. Meets self.old.known self.new.known (Write (slice_range object.now key_at key_end) object.now)) }
         ensures refused { IfRefused result (λ rise. Declines self.old.known self.new.known (rise self.old.known.counts)) }
         ensures busy { IfBusy result (λ spent. budget ≤ spent) }
+        ensures closed { self.new.known.run ≡ None }
 
         ensures told { IsAsTold (next_turn self.old.turns).refusal budget result }
         ensures played { IfDone result (λ _. Plays self.old self.new (Write (slice_range object.now key_at key_end) object.now)) }
@@ -189,12 +203,14 @@ impl OrderedStore for Scripted {
         budget: u32,
     ) -> Outcome<bool>
         requires budget { 1 ≤ budget }
+        requires closed { self.old.known.run ≡ None }
         requires room { 1 ≤ self.old.known.spare }
         requires place { (key_at ≤ key_end) × (key_end ≤ length object.now) }
         requires pair { IsPair self.old.known.keypos (slice_range object.now key_at key_end, object.now) }
         ensures put { IfDone result (λ new. Meets self.old.known self.new.known (WriteNew (slice_range object.now key_at key_end) object.now new)) }
         ensures refused { IfRefused result (λ rise. Declines self.old.known self.new.known (rise self.old.known.counts)) }
         ensures busy { IfBusy result (λ spent. budget ≤ spent) }
+        ensures closed { self.new.known.run ≡ None }
 
         ensures told { IsAsTold (next_turn self.old.turns).refusal budget result }
         ensures played { IfDone result (λ new. Plays self.old self.new (WriteNew (slice_range object.now key_at key_end) object.now new)) }
@@ -212,18 +228,20 @@ impl OrderedStore for Scripted {
 
     fn remove(&mut self, key: &[u8], old: &mut Code, budget: u32) -> Outcome<bool>
         requires budget { 1 ≤ budget }
+        requires closed { self.old.known.run ≡ None }
         requires key { (1 ≤ length key.now) × (length key.now ≤ MOST_CODE_BYTES) }
         ensures removed { IfDone result (λ was. Removed self.old.known self.new.known key.now was old.new.items) }
         ensures refused { IfRefused result (λ rise. Declines self.old.known self.new.known (rise self.old.known.counts)) }
         ensures emptied { IfRefused result (λ _. old.new.items ≡ []) }
         ensures never_deep { IsNeverDeep result }
         ensures busy { IfBusy result (λ spent. budget ≤ spent) }
+        ensures closed { self.new.known.run ≡ None }
 
         ensures told { IsAsTold (unless_deep (next_turn self.old.turns).refusal) budget result }
         ensures played { IfDone result (λ was. RemovedSuch (Plays self.old self.new) key.now was old.new.items) }
         ensures skipped { IfRefused result (λ _. Skips self.old self.new) }
     {
-        let turn = match self.begin(Call::Edit) {
+        let turn = match self.begin(Call::Other) {
             Ok(turn) => turn,
             Err(refusal) => {
                 old.clear();
@@ -243,6 +261,7 @@ impl OrderedStore for Scripted {
         budget: u32,
     ) -> Outcome<Changed>
         requires budget { 1 ≤ budget }
+        requires closed { self.old.known.run ≡ None }
         requires key { (1 ≤ length key.now) × (length key.now ≤ MOST_CODE_BYTES) }
         requires function { MayBeAskedFor F.Fn f.now self.old.known.keypos key.now }
         ensures removed { IfDone result (λ changed. RemovedIf F.Fn f.now self.old.known self.new.known key.now changed old.new.items) }
@@ -250,12 +269,13 @@ impl OrderedStore for Scripted {
         ensures emptied { IfRefused result (λ _. old.new.items ≡ []) }
         ensures never_deep { IsNeverDeep result }
         ensures busy { IfBusy result (λ spent. budget ≤ spent) }
+        ensures closed { self.new.known.run ≡ None }
 
         ensures told { IsAsTold (unless_deep (next_turn self.old.turns).refusal) budget result }
         ensures played { IfDone result (λ changed. RemovedIfSuch F.Fn f.now (Plays self.old self.new) key.now changed old.new.items) }
         ensures skipped { IfRefused result (λ _. Skips self.old self.new) }
     {
-        let turn = match self.begin(Call::Edit) {
+        let turn = match self.begin(Call::Other) {
             Ok(turn) => turn,
             Err(refusal) => {
                 old.clear();
@@ -275,6 +295,7 @@ impl OrderedStore for Scripted {
         budget: u32,
     ) -> Outcome<Changed>
         requires budget { 1 ≤ budget }
+        requires closed { self.old.known.run ≡ None }
         requires key { (1 ≤ length key.now) × (length key.now ≤ MOST_CODE_BYTES) }
         requires function { KeepsKey F.Fn f.now self.old.known.keypos key.now }
         ensures changed { IfDone result (λ changed. Altered F.Fn f.now self.old.known self.new.known key.now changed old.new.items) }
@@ -282,12 +303,13 @@ impl OrderedStore for Scripted {
         ensures emptied { IfRefused result (λ _. old.new.items ≡ []) }
         ensures never_deep { IsNeverDeep result }
         ensures busy { IfBusy result (λ spent. budget ≤ spent) }
+        ensures closed { self.new.known.run ≡ None }
 
         ensures told { IsAsTold (unless_deep (next_turn self.old.turns).refusal) budget result }
         ensures played { IfDone result (λ changed. AlteredSuch F.Fn f.now (Plays self.old self.new) key.now changed old.new.items) }
         ensures skipped { IfRefused result (λ _. Skips self.old self.new) }
     {
-        let turn = match self.begin(Call::Edit) {
+        let turn = match self.begin(Call::Other) {
             Ok(turn) => turn,
             Err(refusal) => {
                 old.clear();
@@ -297,5 +319,113 @@ impl OrderedStore for Scripted {
         let changed = inner::change(&mut self.objects, key, f, old);
         inner::make(&mut self.objects, turn.after());
         Outcome::Done(changed)
+    }
+
+    fn above(&mut self, lo: Edge<'_>, into: &mut Code, budget: u32) -> Outcome<bool>
+        requires budget { 1 ≤ budget }
+        requires closed { self.old.known.run ≡ None }
+        requires edge { IsProperBound (bound_of lo) }
+        ensures found { IfDone result (λ found. FoundAbove self.old.known self.new.known (bound_of lo.entry) found into.new.items) }
+        ensures refused { IfRefused result (λ rise. Declines self.old.known self.new.known (rise self.old.known.counts)) }
+        ensures emptied { IfRefused result (λ _. into.new.items ≡ []) }
+        ensures never_deep { IsNeverDeep result }
+        ensures busy { IfBusy result (λ spent. budget ≤ spent) }
+        ensures closed { self.new.known.run ≡ None }
+
+        ensures told { IsAsTold (unless_deep (next_turn self.old.turns).refusal) budget result }
+        ensures played { IfDone result (λ found. AboveSuch (Plays self.old self.new) (bound_of lo.entry) found into.new.items) }
+        ensures skipped { IfRefused result (λ _. Skips self.old self.new) }
+    {
+        let turn = match self.begin(Call::Other) {
+            Ok(turn) => turn,
+            Err(refusal) => {
+                into.clear();
+                return refusal.outcome(budget);
+            }
+        };
+        let found = inner::above(&mut self.objects, lo, into);
+        inner::make(&mut self.objects, turn.after());
+        Outcome::Done(found)
+    }
+
+    fn below(&mut self, hi: Edge<'_>, into: &mut Code, budget: u32) -> Outcome<bool>
+        requires budget { 1 ≤ budget }
+        requires closed { self.old.known.run ≡ None }
+        requires edge { IsProperBound (bound_of hi) }
+        ensures found { IfDone result (λ found. FoundBelow self.old.known self.new.known (bound_of hi.entry) found into.new.items) }
+        ensures refused { IfRefused result (λ rise. Declines self.old.known self.new.known (rise self.old.known.counts)) }
+        ensures emptied { IfRefused result (λ _. into.new.items ≡ []) }
+        ensures never_deep { IsNeverDeep result }
+        ensures busy { IfBusy result (λ spent. budget ≤ spent) }
+        ensures closed { self.new.known.run ≡ None }
+
+        ensures told { IsAsTold (unless_deep (next_turn self.old.turns).refusal) budget result }
+        ensures played { IfDone result (λ found. BelowSuch (Plays self.old self.new) (bound_of hi.entry) found into.new.items) }
+        ensures skipped { IfRefused result (λ _. Skips self.old self.new) }
+    {
+        let turn = match self.begin(Call::Other) {
+            Ok(turn) => turn,
+            Err(refusal) => {
+                into.clear();
+                return refusal.outcome(budget);
+            }
+        };
+        let found = inner::below(&mut self.objects, hi, into);
+        inner::make(&mut self.objects, turn.after());
+        Outcome::Done(found)
+    }
+
+    fn range<F: Fn(&[u8]) -> bool>(
+        &mut self,
+        lo: Edge<'_>,
+        hi: Edge<'_>,
+        want: u32,
+        counts: &F,
+        budget: u32,
+    ) -> Outcome<bool>
+        requires budget { 1 ≤ budget }
+        requires closed { self.old.known.run ≡ None }
+        requires lower_edge { IsProperBound (bound_of lo) }
+        requires upper_edge { IsProperBound (bound_of hi) }
+        requires function { MayBeAskedForAll F.Fn counts.now self.old.known.keypos }
+        ensures opens { IfDone result (λ whole.
+            Opens F.Fn counts.now self.old.known self.new.known (bound_of lo.entry) (bound_of hi.entry) want whole) }
+        ensures refused { IfRefused result (λ rise. Declines self.old.known self.new.known (rise self.old.known.counts)) }
+        ensures closed { IfRefused result (λ _. self.new.known.run ≡ None) }
+        ensures never_deep { IsNeverDeep result }
+        ensures busy { IfBusy result (λ spent. budget ≤ spent) }
+
+        ensures told { IsAsTold (unless_deep (next_turn self.old.turns).refusal) budget result }
+        ensures played { IfDone result (λ whole. (whole ≡ true) × OpensWhole self.old self.new (bound_of lo.entry) (bound_of hi.entry)) }
+        ensures skipped { IfRefused result (λ _. Skips self.old self.new) }
+    {
+        let turn = match self.begin(Call::Other) {
+            Ok(turn) => turn,
+            Err(told) => return told.outcome(budget),
+        };
+        inner::range(&mut self.objects, lo, hi, want, counts);
+        self.waiting = turn.into_after();
+        Outcome::Done(true)
+    }
+
+    fn found(&mut self, into: &mut Code) -> bool
+        requires open { IsOpen self.old.known }
+        ensures handed_out { HandedOut self.old.known self.new.known result into.new.items }
+        ensures stays { StaysBesideRun self.old.known self.new.known }
+
+        ensures turns { self.new.turns ≡ self.old.turns }
+    {
+        self.objects.found(into)
+    }
+
+    fn close_run(&mut self)
+        ensures closed { self.new.known.run ≡ None }
+        ensures stays { StaysBesideRun self.old.known self.new.known }
+
+        ensures turns { self.new.turns ≡ self.old.turns }
+    {
+        self.objects.close_run();
+        inner::make(&mut self.objects, self.waiting.as_slice());
+        self.waiting.clear();
     }
 }

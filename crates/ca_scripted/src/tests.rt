@@ -1,6 +1,6 @@
 //! Every way out of a table's calls, over a store that others edit and that refuses calls. The objects are `{Key, Number}`; at the start there
 //! are `{1, 10}` and `{2, 20}`, and what is told afterwards are the numbers of the keys 1, 2 and 3.
-ghost use Rattle.std.specs.Prelude.{◌≡◌, ◌≤◌, length, IfSome, IsTrue};
+ghost use Rattle.std.specs.Prelude.{◌≡◌, ◌≤◌, None, length, IfSome, IsTrue};
 ghost use Rattle.ca_term.specs.declared.bounds.TheConstants.{MOST_CODE_BYTES};
 ghost use Rattle.ca_model.specs.StoreMap.{IsPair};
 ghost use Rattle.ca_model.specs.Function.{StandsAt};
@@ -17,9 +17,9 @@ use ca_table::{Played, Table};
 use ca_term::{Kind, Term, TermFault, Terms, int, nil, tuple};
 use std::alloc::Global;
 
-const BUDGET: u32 = 3;
+pub(crate) const BUDGET: u32 = 3;
 
-const CAUSE: FullCause = FullCause {
+pub(crate) const CAUSE: FullCause = FullCause {
     kept: 64,
     lag: Some(2),
 };
@@ -42,7 +42,7 @@ enum Call {
 
 // What a call came to; a list of one object is told by the object's number.
 #[derive(Clone, Copy, Debug, PartialEq, Eq)]
-enum Answer {
+pub(crate) enum Answer {
     Truth(bool),
     Nothing,
     Number(i64),
@@ -55,15 +55,15 @@ enum Answer {
 }
 
 // Edits of others: a key with the number of the object that is put, or with none where the key is removed.
-type Edits = &'static [(i64, Option<i64>)];
+pub(crate) type Edits = &'static [(i64, Option<i64>)];
 
 // A turn's edits before its call, its refusal, and its edits behind its call.
-type TurnRow = (Edits, Option<Refusal>, Edits);
+pub(crate) type TurnRow = (Edits, Option<Refusal>, Edits);
 
 const QUIET: TurnRow = (&[], None, &[]);
 
 // The numbers of the keys 1, 2 and 3, with 0 where there is no object.
-type Numbers = [i64; 3];
+pub(crate) type Numbers = [i64; 3];
 
 fn object(alloc: Global, key: i64, number: i64) -> Result<Term, TermFault> {
     let mut items = Terms::new(alloc);
@@ -173,7 +173,7 @@ fn add_turns(alloc: Global, store: &mut Scripted, rows: &[TurnRow]) -> bool {
 }
 
 // The number of an object.
-fn number(object: &Term) -> Answer {
+pub(crate) fn number(object: &Term) -> Answer {
     let Kind::Tuple(items) = object.kind() else {
         return Answer::Other;
     };
@@ -240,8 +240,16 @@ fn play(alloc: Global, table: &mut Table<Scripted>, call: Call, key: i64) -> Ans
     })
 }
 
+// The table of a store, whose run is ended if one is open.
+pub(crate) fn table_over(store: Scripted) -> Table<Scripted> {
+    let mut store = store;
+    store.close_run();
+    let keypos = store.keypos();
+    Table::new(store, keypos)
+}
+
 // A table with the two objects, over a store with this script.
-fn start(alloc: Global, rows: &[TurnRow]) -> Option<Table<Scripted>> {
+pub(crate) fn start(alloc: Global, rows: &[TurnRow]) -> Option<Table<Scripted>> {
     let mut table = Table::new(Scripted::new(alloc, 1), 1);
     for (key, number) in [(1, 10), (2, 20)] {
         let object = object(alloc, key, number).ok()?;
@@ -253,8 +261,7 @@ fn start(alloc: Global, rows: &[TurnRow]) -> Option<Table<Scripted>> {
     if !add_turns(alloc, &mut store, rows) {
         return None;
     }
-    let keypos = store.keypos();
-    Some(Table::new(store, keypos))
+    Some(table_over(store))
 }
 
 fn number_now(alloc: Global, table: &mut Table<Scripted>, key: i64) -> i64 {
@@ -265,7 +272,7 @@ fn number_now(alloc: Global, table: &mut Table<Scripted>, key: i64) -> i64 {
     }
 }
 
-fn numbers(alloc: Global, table: &mut Table<Scripted>) -> Numbers {
+pub(crate) fn numbers(alloc: Global, table: &mut Table<Scripted>) -> Numbers {
     [
         number_now(alloc, table, 1),
         number_now(alloc, table, 2),
@@ -292,7 +299,7 @@ const TEN: Answer = Answer::Number(10);
 
 const LOST: Answer = Answer::Busy(1);
 
-const REFUSALS: [(Refusal, Answer); 4] = [
+pub(crate) const REFUSALS: [(Refusal, Answer); 4] = [
     (Refusal::Busy, Answer::Busy(BUDGET)),
     (Refusal::Full(CAUSE), Answer::Full(CAUSE)),
     (Refusal::Deep(7), Answer::Deep(7)),
@@ -300,9 +307,9 @@ const REFUSALS: [(Refusal, Answer); 4] = [
 ];
 
 // The edits before a call and those behind it; afterwards the numbers are 10, none and 31.
-const BEFORE: Edits = &[(3, Some(30)), (2, None)];
+pub(crate) const BEFORE: Edits = &[(3, Some(30)), (2, None)];
 
-const AFTER: Edits = &[(3, Some(31))];
+pub(crate) const AFTER: Edits = &[(3, Some(31))];
 
 #[test]
 fn a_call_that_is_refused_edits_nothing_and_learns_of_all_edits_of_its_turn(rt: HostRuntime) {
@@ -637,6 +644,7 @@ fn change(
     requires pair { IsPair store.old.known.keypos (key.now, object.now) }
     requires stands { StandsAt key.now object.now start }
     requires length { (1 ≤ length key.now) × (length key.now ≤ MOST_CODE_BYTES) }
+    requires closed { store.old.known.run ≡ None }
 {
     let keypos = store.keypos();
     let write = |_found: &[u8], into: &mut Code, at: &mut usize| -> bool
@@ -690,8 +698,7 @@ fn changed(alloc: Global, turn: TurnRow, key: i64, yes: bool) -> Option<(Answer,
     let Answer::Number(found) = found else {
         return None;
     };
-    let keypos = store.keypos();
-    let mut table = Table::new(store, keypos);
+    let mut table = table_over(store);
     Some((told_change(done), found, numbers(alloc, &mut table)))
 }
 

@@ -49,6 +49,12 @@ impl Turn {
         self.after.as_slice()
     }
 
+    pub(crate) fn into_after(self) -> Vec<Foreign>
+        ensures { result.items ≡ self.after }
+    {
+        self.after
+    }
+
     // How a call of this kind is refused.
     pub(crate) fn refusal_at(&self, asked: Call) -> Option<Refusal>
         ensures { result ≡ refusal_at asked self.now.refusal }

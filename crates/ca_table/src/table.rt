@@ -1,5 +1,5 @@
 //! A table over a store.
-ghost use Rattle.std.specs.Prelude.{◌≡◌, ◌≤◌, length, map, slice_range, IfOk, IfErr, IsOk, IsTrue, OnOk, OnErr};
+ghost use Rattle.std.specs.Prelude.{◌≡◌, ◌≤◌, None, length, map, slice_range, IfOk, IfErr, IsOk, IsTrue, OnOk, OnErr};
 ghost use Rattle.ca_term.specs.Add.{addition_of};
 ghost use Rattle.ca_term.specs.Tree.{Tree};
 ghost use Rattle.ca_term.specs.Updates.{is_open};
@@ -36,29 +36,31 @@ pub struct Table<S: OrderedStore + Drop> {
 }
 
 impl<S: OrderedStore + Drop> Model for Table<S> {
-    ghost use Rattle.std.specs.Prelude.{◌≡◌, ◌≤◌};
+    ghost use Rattle.std.specs.Prelude.{◌≡◌, ◌≤◌, None};
     ghost use Rattle.ca_model.specs.Known.{Known};
 
     ghost Value = { Known };
 
     ghost view = { λ t. S.knows t.store };
 
-    ghost invariant = { λ t. (t.keypos ≡ (S.knows t.store).keypos) × (1 ≤ t.keypos) };
+    ghost invariant = { λ t. (t.keypos ≡ (S.knows t.store).keypos) × (1 ≤ t.keypos) × ((S.knows t.store).run ≡ None) };
 }
 
 impl<S: OrderedStore + Drop> Table<S> {
-    /// The table of a store whose `keypos` this is, counted from 1.
+    /// The table of a store whose `keypos` this is, counted from 1. The store has no run open.
     pub fn new(store: S, keypos: u32) -> Table<S>
         requires keypos { keypos ≡ (S.knows store).keypos }
         requires positive { 1 ≤ keypos }
+        requires closed { (S.knows store).run ≡ None }
         ensures { result ≡ S.knows store }
     {
         Table { store, keypos }
     }
 
-    /// The store.
+    /// The store. It has no run open.
     pub fn into_store(self) -> S
-        ensures { S.knows result ≡ self }
+        ensures store { S.knows result ≡ self }
+        ensures closed { (S.knows result).run ≡ None }
     {
         self.store
     }

@@ -1,5 +1,5 @@
 //! Updates of a key's object through a store, by the object's code.
-ghost use Rattle.std.specs.Prelude.{◌≡◌, ◌≤◌, ◌≤ℤ◌, ◌<◌, ℕ, ℤ, Result, Err, List, FitsSigned, IsTrue, length, map, pos as whole};
+ghost use Rattle.std.specs.Prelude.{◌≡◌, None, ◌≤◌, ◌≤ℤ◌, ◌<◌, ℕ, ℤ, Result, Err, List, FitsSigned, IsTrue, length, map, pos as whole};
 ghost use Rattle.std.specs.Int.{w64};
 ghost use Rattle.ca_term.specs.declared.bounds.TheConstants.{MOST_CODE_BYTES};
 ghost use Rattle.ca_term.specs.Tree.{Tree, Row, Tuple};
@@ -28,6 +28,7 @@ pub(crate) fn count<S: OrderedStore>(
 ) -> Outcome<Changed>
     requires positive { 1 ≤ keypos }
     requires keypos { keypos ≡ (S.knows store.old).keypos }
+    requires closed { (S.knows store.old).run ≡ None }
     requires budget { 1 ≤ budget }
     requires key { 1 ≤ length key.now.items }
     ensures updated { IfDone result (λ changed. Updated (S.knows store.old) (S.knows store.new) key.now.items
@@ -35,6 +36,7 @@ pub(crate) fn count<S: OrderedStore>(
     ensures refused { IfRefused result (λ rise. Declines (S.knows store.old) (S.knows store.new) (rise (S.knows store.old).counts)) }
     ensures never_deep { IsNeverDeep result }
     ensures busy { IfBusy result (λ spent. budget ≤ spent) }
+    ensures closed { (S.knows store.new).run ≡ None }
 {
     let renew = |object: &[u8], into: &mut Code, at: &mut usize| -> bool
         requires { (row : Row) × IsObjectCode keypos row object.now }
@@ -56,6 +58,7 @@ pub(crate) fn replace<S: OrderedStore>(
 ) -> Outcome<Changed>
     requires positive { 1 ≤ keypos }
     requires keypos { keypos ≡ (S.knows store.old).keypos }
+    requires closed { (S.knows store.old).run ≡ None }
     requires budget { 1 ≤ budget }
     requires key { 1 ≤ length key.now.items }
     requires pos { IsTrue (is_open keypos pos) }
@@ -65,6 +68,7 @@ pub(crate) fn replace<S: OrderedStore>(
     ensures refused { IfRefused result (λ rise. Declines (S.knows store.old) (S.knows store.new) (rise (S.knows store.old).counts)) }
     ensures never_deep { IsNeverDeep result }
     ensures busy { IfBusy result (λ spent. budget ≤ spent) }
+    ensures closed { (S.knows store.new).run ≡ None }
 {
     let renew = |object: &[u8], into: &mut Code, at: &mut usize| -> bool
         requires object { (row : Row) × IsObjectCode keypos row object.now }

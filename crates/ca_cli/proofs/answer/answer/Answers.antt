@@ -21,7 +21,7 @@ returns-clause-answer c =
     let keypos : a.keypos ≡ c.args.keypos = ap (λ (k : Known). k.keypos) c.new-table.ensures ∙ c.new.ensures.keypos in
     let played : HavePlayed a b files [] c.play_all.new.into.items =
     subst (λ (text : List ℕ). HavePlayed a b files text c.play_all.new.into.items) c.new-bytes.ensures.items c.in_ok-play_all.ensures in
-    let stands : Stands b.keypos b.map objects = subst (λ (k : Known). Stands k.keypos k.map objects) c.into_store.ensures c.in_ok-objects.ensures in
+    let stands : Stands b.keypos b.map objects = subst (λ (k : Known). Stands k.keypos k.map objects) c.into_store.ensures.store c.in_ok-objects.ensures in
     let written : c.show_table.new.into.items ≡ c.play_all.new.into.items ++ table_text objects =
     c.in_ok-show_table.ensures.ok ∙ ap (λ (t : List Tree). c.play_all.new.into.items ++ table_text t) c.as_slice.ensures in
     subst (λ (n : ℕ). let run = run_in_turn n [] (map commands_in files) in IsAnswer n files run.answers run.table c.show_table.new.into.items) keypos

@@ -4,7 +4,8 @@ use Rattle.ca_scripted.proofs.inner.remove_if.Goals as goal
 
 pub returns : goal.returns
 returns g c =
-    removed_if c.args.objects.now c.remove_if.new.self c.requires.inner c.remove_if.ensures.spare c.args.key.now g.F.Fn c.args.f.now c.value.result
+    removed_if c.args.objects.now c.remove_if.new.self c.requires.inner c.remove_if.ensures.spare c.remove_if.ensures.closed
+    c.args.key.now g.F.Fn c.args.f.now c.value.result
     c.remove_if.new.old.items
     (done_value c.remove_if.result c.value.result
     (λ changed. RemovedIf g.F.Fn c.args.f.now c.args.objects.now c.remove_if.new.self c.args.key.now changed c.remove_if.new.old.items)

@@ -5,7 +5,7 @@ use Rattle.ca_model.specs.Event.{Change}
 use Rattle.ca_model.specs.Known.{Known}
 use Rattle.ca_model.specs.Function.{MayLeave}
 use Rattle.ca_model.specs.Slab.{placed}
-use Rattle.ca_model.proofs.Alone.{read_met, edit_met, IsThere, there, absent, put_is, kept, may_leave, IsLeft, left_by, pair_of_bytes}
+use Rattle.ca_model.proofs.Alone.{read_met, edit_met, IsThere, there, absent, put_is, kept, may_leave, IsLeft, left_by, pair_of_bytes, closed_part}
 use Rattle.ca_model.proofs.plain.PlainOrderedStore.change.Goals as goal
 
 pub returns-in_default-clause-changed : goal.returns-in_default-clause-changed
@@ -13,7 +13,7 @@ returns-in_default-clause-changed g c =
     let m = c.self.inside.objects.pairs in
     let none = absent c.self.inside.keypos m c.args.key.now c.find.result c.in_default.field-0 c.self.invariant.ordered c.find.ensures.bound
     c.find.ensures.position c.in_default.is in
-    (read_met c.self.inside.keypos m _ c.args.self.now (Change c.args.key.now None None) c.self.view_is c.self.invariant.ordered refl none, c.clear.ensures)
+    (read_met c.self.inside.keypos m _ _ c.args.self.now (Change c.args.key.now None None) c.self.view_is c.self.invariant.ordered refl none, c.clear.ensures)
 
 pub copy-requires : goal.copy-requires
 copy-requires g c =
@@ -39,7 +39,7 @@ returns-then-not-f-clause-changed g c =
         may_leave g.F.Fn c.args.f.now c.copy.new.into.items c.f.result false _ _ _ _ _ c.if-not-f.true c.as_slice.ensures.value c.new-new.ensures
             c.f.ensures,
       ),
-      read_met c.self.inside.keypos c.self.inside.objects.pairs _ c.args.self.now (Change c.args.key.now (Some c.copy.new.into.items) None) c.self.view_is
+      read_met c.self.inside.keypos c.self.inside.objects.pairs _ _ c.args.self.now (Change c.args.key.now (Some c.copy.new.into.items) None) c.self.view_is
           c.self.invariant.ordered refl h.found,
     )
 
@@ -99,6 +99,7 @@ invariant_of-self g c =
       from_one = c.self.invariant.from_one;
       narrow = c.self.invariant.narrow;
       ordered = kept _ c.self.inside.objects.pairs _ (Put c.args.key.now c.f.new.arg3.items) c.self.invariant.ordered e.pair e.map_is;
+      part = closed_part c.self.inside.keypos c.self.inside.objects.pairs _ c.self.inside.run _ c.args.self.now c.self.view_is c.requires.closed;
     }
 
 pub returns-clause-changed : goal.returns-clause-changed
@@ -107,7 +108,7 @@ returns-clause-changed g c =
       c.f.new.arg3.items,
       c.f.new.arg4,
       e.may_be,
-      edit_met c.self.inside.keypos c.self.inside.objects.pairs c.put.new.self.pairs _ _ c.args.self.now
+      edit_met c.self.inside.keypos c.self.inside.objects.pairs c.put.new.self.pairs _ _ _ _ c.args.self.now
           (Change c.args.key.now (Some c.copy.new.into.items) (Some c.f.new.arg3.items))
           (Put c.args.key.now c.f.new.arg3.items) c.self.view_is c.self.invariant.ordered refl e.pair e.map_is e.old.found,
     )

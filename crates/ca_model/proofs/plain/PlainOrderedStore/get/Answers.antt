@@ -8,7 +8,7 @@ returns-in_default-clause-got c =
     let m = c.self.inside.objects.pairs in
     let none = absent c.self.inside.keypos m c.args.key.now c.find.result c.in_default.field-0 c.self.invariant.ordered c.find.ensures.bound
     c.find.ensures.position c.in_default.is in
-    (read_met c.self.inside.keypos m _ c.args.self.now (Get c.args.key.now None) c.self.view_is c.self.invariant.ordered refl none, c.clear.ensures)
+    (read_met c.self.inside.keypos m _ _ c.args.self.now (Get c.args.key.now None) c.self.view_is c.self.invariant.ordered refl none, c.clear.ensures)
 
 found : (c : goal.After-copy-arg-1) → IsThere c.self.inside.keypos c.self.inside.objects.pairs c.args.key.now c.in-Ok.at c.object.result.now
 found c = there _ _ _ c.find.result _ _ c.self.invariant.ordered c.find.ensures.bound c.find.ensures.position c.in-Ok.is c.object.ensures
@@ -21,4 +21,4 @@ returns-clause-got c =
     let m = c.self.inside.objects.pairs in
     let h = there c.self.inside.keypos m c.args.key.now c.find.result c.in-Ok.at c.copy.new.into.items c.self.invariant.ordered c.find.ensures.bound
     c.find.ensures.position c.in-Ok.is (c.copy.ensures ∙ c.object.ensures) in
-    read_met c.self.inside.keypos m _ c.args.self.now (Get c.args.key.now (Some c.copy.new.into.items)) c.self.view_is c.self.invariant.ordered refl h.found
+    read_met c.self.inside.keypos m _ _ c.args.self.now (Get c.args.key.now (Some c.copy.new.into.items)) c.self.view_is c.self.invariant.ordered refl h.found

@@ -4,7 +4,7 @@ use Rattle.ca_model.specs.StoreMap.{IsPair, put}
 use Rattle.ca_model.specs.History.{Put}
 use Rattle.ca_model.specs.Event.{Write}
 use Rattle.ca_model.specs.Known.{Known}
-use Rattle.ca_model.proofs.Alone.{edit_met, put_is, kept}
+use Rattle.ca_model.proofs.Alone.{edit_met, put_is, kept, closed_part}
 use Rattle.ca_model.proofs.plain.PlainOrderedStore.put.Goals as goal
 
 abbrev key_of : goal.After-put → List ℕ
@@ -22,9 +22,10 @@ invariant_of-self c = record {
   from_one = c.self.invariant.from_one;
   narrow = c.self.invariant.narrow;
   ordered = kept _ c.self.inside.objects.pairs _ (Put (key_of c) c.args.object.now) c.self.invariant.ordered (own_pair c) (map_is c);
+  part = closed_part c.self.inside.keypos c.self.inside.objects.pairs _ c.self.inside.run _ c.args.self.now c.self.view_is c.requires.closed;
 }
 
 pub returns-clause-put : goal.returns-clause-put
 returns-clause-put c =
-    edit_met c.self.inside.keypos c.self.inside.objects.pairs c.put.new.self.pairs _ _ c.args.self.now (Write (key_of c) c.args.object.now)
+    edit_met c.self.inside.keypos c.self.inside.objects.pairs c.put.new.self.pairs _ _ _ _ c.args.self.now (Write (key_of c) c.args.object.now)
     (Put (key_of c) c.args.object.now) c.self.view_is c.self.invariant.ordered refl (own_pair c) (map_is c) tt

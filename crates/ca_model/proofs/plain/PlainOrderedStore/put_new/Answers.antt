@@ -5,7 +5,7 @@ use Rattle.ca_model.specs.History.{Put}
 use Rattle.ca_model.specs.Event.{WriteNew}
 use Rattle.ca_model.specs.Known.{Known}
 use Rattle.ca_model.specs.Slab.{placed}
-use Rattle.ca_model.proofs.Alone.{read_met, edit_met, there, absent, put_is, kept}
+use Rattle.ca_model.proofs.Alone.{read_met, edit_met, there, absent, put_is, kept, closed_part}
 use Rattle.ca_model.proofs.plain.PlainOrderedStore.put_new.Goals as goal
 
 pub returns-in_default-clause-put : goal.returns-in_default-clause-put
@@ -14,7 +14,7 @@ returns-in_default-clause-put c =
     let key = slice_range c.args.object.now c.args.key_at c.args.key_end in
     let h = there c.self.inside.keypos m key c.find.result c.in_default.field-0 _ c.self.invariant.ordered c.find.ensures.bound c.find.ensures.position
     c.in_default.is refl in
-    read_met c.self.inside.keypos m _ c.args.self.now (WriteNew key c.args.object.now false) c.self.view_is c.self.invariant.ordered refl (λ none. let no =
+    read_met c.self.inside.keypos m _ _ c.args.self.now (WriteNew key c.args.object.now false) c.self.view_is c.self.invariant.ordered refl (λ none. let no =
     sym h.found ∙ none in cc)
 
 abbrev key_of : goal.After-put → List ℕ
@@ -35,6 +35,7 @@ invariant_of-self c = record {
   from_one = c.self.invariant.from_one;
   narrow = c.self.invariant.narrow;
   ordered = kept _ c.self.inside.objects.pairs _ (Put (key_of c) c.args.object.now) c.self.invariant.ordered (own_pair c) (map_is c);
+  part = closed_part c.self.inside.keypos c.self.inside.objects.pairs _ c.self.inside.run _ c.args.self.now c.self.view_is c.requires.closed;
 }
 
 pub returns-clause-put : goal.returns-clause-put
@@ -42,5 +43,5 @@ returns-clause-put c =
     let m = c.self.inside.objects.pairs in
     let none = absent c.self.inside.keypos m (key_of c) c.find.result c.in-Err.at c.self.invariant.ordered c.find.ensures.bound c.find.ensures.position
     c.in-Err.is in
-    edit_met c.self.inside.keypos m c.put.new.self.pairs _ _ c.args.self.now (WriteNew (key_of c) c.args.object.now true)
+    edit_met c.self.inside.keypos m c.put.new.self.pairs _ _ _ _ c.args.self.now (WriteNew (key_of c) c.args.object.now true)
     (Put (key_of c) c.args.object.now) c.self.view_is c.self.invariant.ordered refl (own_pair c) (map_is c) none

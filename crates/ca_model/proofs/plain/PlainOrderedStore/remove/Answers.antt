@@ -3,7 +3,7 @@ use Rattle.ca_model.specs.StoreMap.{del}
 use Rattle.ca_model.specs.History.{Del}
 use Rattle.ca_model.specs.Event.{Remove}
 use Rattle.ca_model.proofs.Places.{removed_is}
-use Rattle.ca_model.proofs.Alone.{read_met, edit_met, IsThere, there, absent, kept}
+use Rattle.ca_model.proofs.Alone.{read_met, edit_met, IsThere, there, absent, kept, closed_part}
 use Rattle.ca_model.proofs.plain.PlainOrderedStore.remove.Goals as goal
 
 pub returns-in_default-clause-removed : goal.returns-in_default-clause-removed
@@ -11,7 +11,7 @@ returns-in_default-clause-removed c =
     let m = c.self.inside.objects.pairs in
     let none = absent c.self.inside.keypos m c.args.key.now c.find.result c.in_default.field-0 c.self.invariant.ordered c.find.ensures.bound
     c.find.ensures.position c.in_default.is in
-    (read_met c.self.inside.keypos m _ c.args.self.now (Remove c.args.key.now None) c.self.view_is c.self.invariant.ordered refl none, c.clear.ensures)
+    (read_met c.self.inside.keypos m _ _ c.args.self.now (Remove c.args.key.now None) c.self.view_is c.self.invariant.ordered refl none, c.clear.ensures)
 
 pub copy-requires : goal.copy-requires
 copy-requires c =
@@ -32,9 +32,10 @@ invariant_of-self c = record {
   from_one = c.self.invariant.from_one;
   narrow = c.self.invariant.narrow;
   ordered = kept _ c.self.inside.objects.pairs _ (Del c.args.key.now) c.self.invariant.ordered tt (map_is c);
+  part = closed_part c.self.inside.keypos c.self.inside.objects.pairs _ c.self.inside.run _ c.args.self.now c.self.view_is c.requires.closed;
 }
 
 pub returns-clause-removed : goal.returns-clause-removed
 returns-clause-removed c =
-    edit_met c.self.inside.keypos c.self.inside.objects.pairs c.remove.new.self.pairs _ _ c.args.self.now (Remove c.args.key.now (Some c.copy.new.into.items))
-    (Del c.args.key.now) c.self.view_is c.self.invariant.ordered refl tt (map_is c) (found c).found
+    edit_met c.self.inside.keypos c.self.inside.objects.pairs c.remove.new.self.pairs _ _ _ _ c.args.self.now
+    (Remove c.args.key.now (Some c.copy.new.into.items)) (Del c.args.key.now) c.self.view_is c.self.invariant.ordered refl tt (map_is c) (found c).found

@@ -4,7 +4,7 @@ use Rattle.ca_model.specs.History.{Del}
 use Rattle.ca_model.specs.Event.{Get, Remove}
 use Rattle.ca_model.specs.Known.{Known}
 use Rattle.ca_model.proofs.Places.{removed_is}
-use Rattle.ca_model.proofs.Alone.{read_met, edit_met, IsThere, there, absent, kept}
+use Rattle.ca_model.proofs.Alone.{read_met, edit_met, IsThere, there, absent, kept, closed_part}
 use Rattle.ca_model.proofs.plain.PlainOrderedStore.remove_if.Goals as goal
 
 pub returns-in_default-clause-removed : goal.returns-in_default-clause-removed
@@ -12,7 +12,7 @@ returns-in_default-clause-removed g c =
     let m = c.self.inside.objects.pairs in
     let none = absent c.self.inside.keypos m c.args.key.now c.find.result c.in_default.field-0 c.self.invariant.ordered c.find.ensures.bound
     c.find.ensures.position c.in_default.is in
-    (read_met c.self.inside.keypos m _ c.args.self.now (Get c.args.key.now None) c.self.view_is c.self.invariant.ordered refl none, c.clear.ensures)
+    (read_met c.self.inside.keypos m _ _ c.args.self.now (Get c.args.key.now None) c.self.view_is c.self.invariant.ordered refl none, c.clear.ensures)
 
 pub copy-requires : goal.copy-requires
 copy-requires g c =
@@ -33,7 +33,7 @@ returns-then-not-f-clause-removed g c =
     let h : IsThere c.self.inside.keypos c.self.inside.objects.pairs c.args.key.now c.in-Ok.at c.copy.new.into.items =
     there _ _ _ c.find.result _ _ c.self.invariant.ordered c.find.ensures.bound c.find.ensures.position c.in-Ok.is (c.copy.ensures ∙ c.object.ensures) in (
       record { shown = _; shows = c.as_slice.ensures.value; met = rw c.if-not-f.true at c.f.ensures },
-      read_met c.self.inside.keypos c.self.inside.objects.pairs _ c.args.self.now (Get c.args.key.now (Some c.copy.new.into.items)) c.self.view_is
+      read_met c.self.inside.keypos c.self.inside.objects.pairs _ _ c.args.self.now (Get c.args.key.now (Some c.copy.new.into.items)) c.self.view_is
           c.self.invariant.ordered refl h.found,
     )
 
@@ -50,11 +50,12 @@ invariant_of-self g c = record {
   from_one = c.self.invariant.from_one;
   narrow = c.self.invariant.narrow;
   ordered = kept _ c.self.inside.objects.pairs _ (Del c.args.key.now) c.self.invariant.ordered tt (map_is g c);
+  part = closed_part c.self.inside.keypos c.self.inside.objects.pairs _ c.self.inside.run _ c.args.self.now c.self.view_is c.requires.closed;
 }
 
 pub returns-clause-removed : goal.returns-clause-removed
 returns-clause-removed g c = (
   record { shown = _; shows = c.as_slice.ensures.value; met = rw c.if-not-f.false at c.f.ensures },
-  edit_met c.self.inside.keypos c.self.inside.objects.pairs c.remove.new.self.pairs _ _ c.args.self.now (Remove c.args.key.now (Some c.copy.new.into.items))
+  edit_met c.self.inside.keypos c.self.inside.objects.pairs c.remove.new.self.pairs _ _ _ _ c.args.self.now (Remove c.args.key.now (Some c.copy.new.into.items))
       (Del c.args.key.now) c.self.view_is c.self.invariant.ordered refl tt (map_is g c) (taken g c).found,
 )
