@@ -1,0 +1,3 @@
+pub mod Orders
+mod Places
+mod Sample
