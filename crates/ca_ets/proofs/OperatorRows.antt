@@ -19,10 +19,13 @@ at_row : (codes : List Code) (k : ℕ) (d : Code) (name : List ℕ) → k < leng
     ≡ (if bytes_eq name (name_of (get_or codes k d)) then Some (meaning_of (get_or codes k d)) else named_in (drop (suc k) codes) name)
 at_row codes k d name h = ap (λ (l : List Code). named_in l name) (drop-cons codes k d h)
 
+-- The search ends at the row of the name.
 pub row_found : (codes : List Code) (k : ℕ) (d : Code) (name : List ℕ) → k < length codes → bytes_eq name (name_of (get_or codes k d)) ≡ true
     → named_in (drop k codes) name ≡ Some (meaning_of (get_or codes k d))
-row_found codes k d name h e = at_row codes k d name h ∙ ap (λ (b : Bool). if b then Some (meaning_of (get_or codes k d)) else named_in (drop (suc k) codes) name) e
+row_found codes k d name h e =
+    at_row codes k d name h ∙ ap (λ (b : Bool). if b then Some (meaning_of (get_or codes k d)) else named_in (drop (suc k) codes) name) e
 
+-- A row of another name is passed.
 pub row_passed : (codes : List Code) (k : ℕ) (d : Code) (name : List ℕ) → k < length codes → bytes_eq name (name_of (get_or codes k d)) ≡ false
     → named_in (drop k codes) name ≡ named_in (drop (k + 1) codes) name
 row_passed codes k d name h e =
