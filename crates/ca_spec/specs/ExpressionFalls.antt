@@ -1,8 +1,7 @@
 -- Each part of an expression has fewer nodes than the expression.
-use Rattle.std.specs.Prelude.{◌≤◌, ◌<◌, ◌+◌, max, List, [], ◌∷◌, length}
+use Rattle.std.specs.Prelude.{◌≤◌, max}
 use Rattle.std.proofs.Common.{arith}
-use denote.Param.Weighed.{most}
-use Rattle.ca_term.specs.Tree.{Tree, row_of, list_of, nodes, row_nodes}
+use Rattle.ca_term.specs.Tree.{nodes}
 use Rattle.ca_spec.specs.ExpressionView.{tree_of_form, IsForm}
 use Rattle.ca_spec.specs.Parts.{most_le-row, most_le-list, tail_le-list}
 use Rattle.ca_spec.specs.declared.expression.Form.{Form}

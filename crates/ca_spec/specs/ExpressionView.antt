@@ -1,5 +1,5 @@
 -- The expression that a compiled one was made from.
-use Rattle.std.specs.Prelude.{◌≡◌, ℕ, ◌<◌, Bool, true, false, not, ◌&&◌, ◌||◌, length, List, codes, is_none, if◌then◌else◌}
+use Rattle.std.specs.Prelude.{◌≡◌, ◌<◌, Bool, true, false, not, ◌&&◌, ◌||◌, length, codes, is_none}
 use Rattle.ca_term.specs.Tree.{Tree, Integer, Atom, Tuple, Nil, Cons, Binary, Ends, More, row_of, list_of}
 use Rattle.ca_ets.specs.OperatorView.{meaning_of, name_of}
 use Rattle.ca_ets.specs.Operators.{count_of}

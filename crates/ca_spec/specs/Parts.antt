@@ -1,5 +1,5 @@
 -- The nodes of a term's parts.
-use Rattle.std.specs.Prelude.{◌≤◌, ◌<◌, ◌+◌, List, [], ◌∷◌, length}
+use Rattle.std.specs.Prelude.{◌≤◌, ◌+◌, List, [], ◌∷◌, length}
 use Rattle.std.proofs.Common.{arith}
 use denote.Param.Weighed.{most}
 use Rattle.ca_term.specs.Tree.{Tree, row_of, list_of, nodes, row_nodes}

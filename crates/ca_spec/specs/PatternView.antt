@@ -1,5 +1,5 @@
 -- The part of a head that a pattern was compiled from.
-use Rattle.std.specs.Prelude.{◌≡◌, ℕ, ◌<◌, Bool, true, false, not, ◌&&◌, length, List, codes, is_none}
+use Rattle.std.specs.Prelude.{◌≡◌, ◌<◌, Bool, true, false, not, ◌&&◌, length, codes, is_none}
 use Rattle.ca_term.specs.Tree.{Tree, Integer, Atom, Tuple, Nil, Cons, Binary, row_of, list_of}
 use Rattle.ca_ets.specs.Spelling.{variable_name}
 use Rattle.ca_ets.specs.Variable.{is_wildcard, variable_of}
