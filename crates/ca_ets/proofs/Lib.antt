@@ -5,9 +5,11 @@ pub mod Merges
 pub mod Objects
 pub mod OneClient
 pub mod OperatorRows
+pub mod Pieces
 pub mod Places
 pub mod Puts
 pub mod Runs
 pub mod Steps
 pub mod Turns
 pub mod Updates
+pub mod Words

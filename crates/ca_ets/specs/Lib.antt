@@ -16,4 +16,5 @@ pub mod Step
 pub mod Table
 pub mod Unless
 pub mod Update
+pub mod ValueView
 pub mod Variable

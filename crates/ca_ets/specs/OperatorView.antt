@@ -1,5 +1,5 @@
 -- The operators of the code and those of the definition.
-use Rattle.std.specs.Prelude.{ℕ, List, codes, map, Option, pos, ◌-ℤ◌, neg_ℤ, ◌+ℤ◌, ◌*ℤ◌, int_div, int_rem, unsigned_abs, true, false, ◌&&◌, ◌||◌}
+use Rattle.std.specs.Prelude.{ℕ, Bool, None, Some, List, codes, map, Option, pos, ◌-ℤ◌, neg_ℤ, ◌+ℤ◌, ◌*ℤ◌, int_div, int_rem, unsigned_abs, true, false, ◌&&◌, ◌||◌}
 use Rattle.std.specs.Int.{w64, int_bit_and, int_bit_or, int_bit_xor}
 use Rattle.std.specs.Ordering.{is_eq, is_ne, is_lt, is_gt, is_le, is_ge}
 use Rattle.ca_ets.specs.declared.operator.Operator.{Operator as Code}
@@ -89,3 +89,9 @@ name_of code.ByteSize = codes "byte_size"
 -- the meaning of the first one of these with a name
 abbrev pub named_in : List Code → List ℕ → Option Operator
 named_in operators name = operator_in (map (λ c. (name_of c, meaning_of c)) operators) name
+
+-- the truth value of the first argument at which the second one isn't evaluated
+abbrev pub stop_of : Operator → Option Bool
+stop_of (One f) = None
+stop_of (Two f) = None
+stop_of (Short stop) = Some stop

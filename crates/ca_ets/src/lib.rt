@@ -5,10 +5,13 @@
 mod change;
 mod command;
 mod laws;
+mod number;
 mod object;
 mod operator;
+mod part;
 mod table;
 mod update;
+mod value;
 mod variable;
 
 pub use command::{Cmd, Cont, Fault, Reply};
@@ -16,6 +19,7 @@ pub use laws::{no_commands, no_files, one_client, steps_keep, tables_stay_ordere
 pub use operator::Operator;
 pub use table::ListTable;
 pub use update::{Operations, element, reply_of};
+pub use value::{Value, value_order};
 pub use variable::variable_number;
 
 #[cfg(test)]

@@ -1,3 +1,4 @@
+pub mod Bound
 pub mod ClauseView
 pub mod ExpressionFalls
 pub mod ExpressionView

@@ -3,18 +3,24 @@
 
 mod clause;
 mod compiler;
+mod evaluation;
 mod expression;
 mod expressions;
 mod fault;
 mod heads;
 mod held;
+mod matching;
 mod pattern;
+mod results;
 mod scope;
 mod spec;
 
 pub use compiler::compile;
 pub use fault::{SpecFault, SpecWhy};
+pub use results::apply;
 pub use spec::Spec;
 
+#[cfg(test)]
+mod applied;
 #[cfg(test)]
 mod tests;

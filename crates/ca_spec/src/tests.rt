@@ -6,7 +6,7 @@ use std::cmp::Ordering;
 use std::test::Fail;
 
 // The term of a text that has blanks between all its parts, and no commas: brackets, integers and atoms.
-fn term(alloc: Global, text: &str) -> Result<Term, Fail> {
+pub(crate) fn term(alloc: Global, text: &str) -> Result<Term, Fail> {
     let mut around = Vec::new(alloc);
     let mut items = Terms::new(alloc);
     for word in text.split_whitespace() {
@@ -152,7 +152,7 @@ fn names_no_clause_where_there_is_no_list(rt: HostRuntime) -> Result<(), Fail> {
 }
 
 // The list of this many integers.
-fn long(alloc: Global, count: usize) -> Result<Term, Fail> {
+pub(crate) fn long(alloc: Global, count: usize) -> Result<Term, Fail> {
     let mut items = Terms::new(alloc);
     for _ in 0..count {
         items.push(int(7))?;
@@ -161,7 +161,7 @@ fn long(alloc: Global, count: usize) -> Result<Term, Fail> {
 }
 
 // {const,T}
-fn constant(alloc: Global, term: Term) -> Result<Term, Fail> {
+pub(crate) fn constant(alloc: Global, term: Term) -> Result<Term, Fail> {
     let mut items = Terms::new(alloc);
     items.push(atom(alloc, "const")?)?;
     items.push(term)?;
@@ -169,7 +169,7 @@ fn constant(alloc: Global, term: Term) -> Result<Term, Fail> {
 }
 
 // The list of this term alone.
-fn alone(alloc: Global, term: Term) -> Result<Term, Fail> {
+pub(crate) fn alone(alloc: Global, term: Term) -> Result<Term, Fail> {
     Ok(cons(alloc, term, nil())?)
 }
 

@@ -1,0 +1,97 @@
+-- Tables of places, and the bindings that they hold.
+use Rattle.std.proofs.Common.{◌≡◌, ℕ, zero, suc, ◌≤◌, ◌<◌, ◌+◌, ◌-◌, List, [], ◌∷◌, ◌++◌, length, set, get_or, map, replicate, Option, Some, None, Bor, drop, add-one, drop-cons, append_assoc, append-nil, refl, ap, sym, ◌∙◌, arith}
+use Rattle.std.proofs.lemmas.List.{drop_all, length-set}
+use Rattle.std.specs.Prelude.{filter_map}
+use Rattle.ca_term.specs.Tree.{Nil, list_of}
+use Rattle.ca_term.specs.Tree.{Tree}
+use Rattle.ca_ets.specs.Match.{Bindings, all_bound, bind_variable, bound, where_equal}
+use Rattle.ca_spec.specs.Bound.{bound_at, table_of}
+
+abbrev Table : Type 0
+Table = List (Option (Bor Tree))
+
+get_front : (table : Table) (rest : Bindings) (n : ℕ) (d : Option (Bor Tree)) → n < length table
+    → get_or (map bound_at table ++ rest) n None ≡ bound_at (get_or table n d)
+get_front [] rest n d h = absurd (omega arith)
+get_front (x ∷ xs) rest zero d h = refl
+get_front (x ∷ xs) rest (suc n) d h = get_front xs rest n d (omega arith)
+
+-- What is bound to a variable stands at its place.
+pub bound_in : (table : List (Option (Bor Tree))) (n : ℕ) (d : Option (Bor Tree)) → n < length table
+    → bound (table_of table) n ≡ bound_at (get_or table n d)
+bound_in table n d h = get_front table (replicate (100 - length table) None) n d h
+
+set_front : (table : Table) (rest : Bindings) (n : ℕ) (v : Option (Bor Tree)) → n < length table
+    → set (map bound_at table ++ rest) n (bound_at v) ≡ map bound_at (set table n v) ++ rest
+set_front [] rest n v h = absurd (omega arith)
+set_front (x ∷ xs) rest zero v h = refl
+set_front (x ∷ xs) rest (suc n) v h = ap (λ (more : Bindings). bound_at x ∷ more) (set_front xs rest n v (omega arith))
+
+set_in : (table : Table) (n : ℕ) (v : Option (Bor Tree)) → n < length table → set (table_of table) n (bound_at v) ≡ table_of (set table n v)
+set_in table n v h =
+    set_front table (replicate (100 - length table) None) n v h
+    ∙ ap (λ (k : ℕ). map bound_at (set table n v) ++ replicate (100 - k) None) (sym (length-set table n v))
+
+-- A variable that isn't bound is bound to the term.
+pub variable_new : (table : List (Option (Bor Tree))) (n : ℕ) (d : Option (Bor Tree)) (term : Bor Tree) → n < length table → get_or table n d ≡ None
+    → bind_variable (table_of table) n (bound (table_of table) n) term.now ≡ Some (table_of (set table n (Some term)))
+variable_new table n d term h e =
+    ap (λ (b : Option Tree). bind_variable (table_of table) n b term.now) (bound_in table n d h ∙ ap bound_at e)
+    ∙ ap (λ (b : Bindings). Some b) (set_in table n (Some term) h)
+
+-- One that is bound meets an equal term.
+pub variable_old : (table : List (Option (Bor Tree))) (n : ℕ) (d : Option (Bor Tree)) (own : Bor Tree) (t : Tree) → n < length table
+    → get_or table n d ≡ Some own → bind_variable (table_of table) n (bound (table_of table) n) t ≡ where_equal (table_of table) own.now t
+variable_old table n d own t h e =
+    ap (λ (b : Option Tree). bind_variable (table_of table) n b t) (bound_in table n d h ∙ ap bound_at e)
+
+get_none : (m k : ℕ) → get_or (replicate {A = Option Tree} m None) k None ≡ None
+get_none zero k = refl
+get_none (suc m) zero = refl
+get_none (suc m) (suc k) = get_none m k
+
+behind_front : (table : Table) (m n : ℕ) → length table ≤ n → get_or (map bound_at table ++ replicate m None) n None ≡ None
+behind_front [] m n h = get_none m n
+behind_front (x ∷ xs) m zero h = absurd (omega arith)
+behind_front (x ∷ xs) m (suc n) h = behind_front xs m n (omega arith)
+
+-- Nothing is bound behind the last place.
+pub none_behind : (table : List (Option (Bor Tree))) (n : ℕ) → length table ≤ n → bound (table_of table) n ≡ None
+none_behind table n h = behind_front table (100 - length table) n h
+
+-- ---- what is bound
+
+-- the terms that are bound from a place on
+abbrev pub bound_from : List (Option (Bor Tree)) → ℕ → List Tree
+bound_from table k = filter_map (λ b. b) (map bound_at (drop k table) ++ replicate (100 - length table) None)
+
+bound_head : (table : Table) (k : ℕ) (d : Option (Bor Tree)) → k < length table
+    → bound_from table k ≡ filter_map (λ b. b) (bound_at (get_or table k d) ∷ (map bound_at (drop (k + 1) table) ++ replicate (100 - length table) None))
+bound_head table k d h = rw (add-one, drop-cons table k d) refl
+
+pub one_bound : (table : List (Option (Bor Tree))) (k : ℕ) (d : Option (Bor Tree)) (t : Bor Tree) (ts all : List Tree) → k < length table
+    → all ≡ ts ++ bound_from table k → get_or table k d ≡ Some t → all ≡ (ts ++ t.now ∷ []) ++ bound_from table (k + 1)
+one_bound table k d t ts all h a e =
+    a ∙ ap (λ (x : List Tree). ts ++ x) (bound_head table k d h
+    ∙ ap (λ (x : Option (Bor Tree)). filter_map (λ b. b) (bound_at x ∷ (map bound_at (drop (k + 1) table) ++ replicate (100 - length table) None))) e)
+    ∙ sym (append_assoc ts (t.now ∷ []) (bound_from table (k + 1)))
+
+pub not_bound : (table : List (Option (Bor Tree))) (k : ℕ) (d : Option (Bor Tree)) (ts all : List Tree) → k < length table
+    → all ≡ ts ++ bound_from table k → get_or table k d ≡ None → all ≡ ts ++ bound_from table (k + 1)
+not_bound table k d ts all h a e =
+    a ∙ ap (λ (x : List Tree). ts ++ x) (bound_head table k d h
+    ∙ ap (λ (x : Option (Bor Tree)). filter_map (λ b. b) (bound_at x ∷ (map bound_at (drop (k + 1) table) ++ replicate (100 - length table) None))) e)
+
+nothing : (m : ℕ) → filter_map (λ (b : Option Tree). b) (replicate m None) ≡ []
+nothing zero = refl
+nothing (suc m) = nothing m
+
+bound_end : (table : Table) (k : ℕ) → length table ≤ k → bound_from table k ≡ []
+bound_end table k h = rw (drop_all k table h) (nothing (100 - length table))
+
+pub all_are_bound : (table : List (Option (Bor Tree))) (k : ℕ) (ts : List Tree) → length table ≤ k → bound_from table 0 ≡ ts ++ bound_from table k
+    → list_of ts Nil ≡ all_bound (table_of table)
+all_are_bound table k ts h a =
+    ap (λ (x : List Tree). list_of x Nil) (sym (a ∙ ap (λ (x : List Tree). ts ++ x) (bound_end table k h) ∙ append-nil ts))
+
+pub ruleset bound_table = (one_bound, not_bound, all_are_bound)
