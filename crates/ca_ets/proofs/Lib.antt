@@ -1,6 +1,7 @@
 pub mod Changes
 pub mod Counting
 pub mod ListedOperations
+pub mod Matching
 pub mod Merges
 pub mod Objects
 pub mod OneClient

@@ -5,6 +5,7 @@ pub mod Explained
 pub mod InOrder
 pub mod ListTableView
 pub mod Match
+pub mod MatcherView
 pub mod Merge
 pub mod OperatorView
 pub mod Operators

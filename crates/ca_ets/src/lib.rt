@@ -5,6 +5,7 @@
 mod change;
 mod command;
 mod laws;
+mod matcher;
 mod number;
 mod object;
 mod operator;
@@ -16,6 +17,7 @@ mod variable;
 
 pub use command::{Cmd, Cont, Fault, Reply};
 pub use laws::{no_commands, no_files, one_client, steps_keep, tables_stay_ordered};
+pub use matcher::match_result;
 pub use operator::Operator;
 pub use table::ListTable;
 pub use update::{Operations, element, reply_of};

@@ -1,7 +1,7 @@
 //! The operators of match specifications' guards, by their names.
 ghost use Rattle.std.specs.Prelude.{◌≡◌, [], ◌∷◌, None, Some, ◌&&◌, ◌||◌, IfOk, IfSome};
 ghost use Rattle.std.specs.Option.{option_map};
-ghost use Rattle.ca_ets.specs.Operators.{applied, count_of, exclusive, operator_of};
+ghost use Rattle.ca_ets.specs.Operators.{applied, count_of, exclusive, operator_of, truth};
 ghost use Rattle.ca_ets.specs.OperatorView.{meaning_of, name_of, named_in, stop_of};
 ghost use Rattle.ca_ets.specs.ValueView.{tree_of_value};
 ghost use Rattle.ca_term.specs.Tree.{Integer};
@@ -223,6 +223,21 @@ macro_rules! value_of_two {
     };
 }
 
+macro_rules! comparisons {
+    ($operator:ident $a:ident $b:ident; $($name:literal $count:tt $variant:ident $value:tt,)*) => {
+        match $operator {
+            $(Operator::$variant => compared!($value $a $b),)*
+        }
+    };
+}
+
+macro_rules! compared {
+    ((order $holds:ident) $a:ident $b:ident) => {
+        Some(value_order($a, $b).$holds())
+    };
+    ($value:tt $a:ident $b:ident) => { None };
+}
+
 macro_rules! stops {
     ($operator:ident; $($name:literal $count:tt $variant:ident $value:tt,)*) => {
         match $operator {
@@ -286,8 +301,32 @@ impl Operator {
     }
 
     /// The value at the values of two arguments, where it is defined. Memory is taken only for a part of a value that is owned.
-    #[tactic(auto, using(crate::proofs::Pieces::element_of, crate::proofs::Pieces::no_element))]
     pub fn value_of_two<'a>(
+        self,
+        alloc: Global,
+        a: Value<'a>,
+        b: Value<'a>,
+    ) -> Result<Option<Value<'a>>, AllocError>
+        requires { stop_of (meaning_of self) ≡ None }
+        ensures { IfOk result (λ v. option_map tree_of_value v ≡ applied (meaning_of self) (Some (tree_of_value a.entry) ∷ Some (tree_of_value b.entry) ∷ [])) }
+    {
+        // Comparisons are frequent, and apart from the others they need little room on the stack, which is cleared at each call.
+        if let Some(holds) = self.compared(&a, &b) {
+            return Ok(Some(Value::Truth(holds)));
+        }
+        self.combined(alloc, a, b)
+    }
+
+    // Whether a comparison holds, or None for other operators.
+    fn compared(self, a: &Value<'_>, b: &Value<'_>) -> Option<bool>
+        ensures { IfSome result (λ holds. Some (truth holds) ≡ applied (meaning_of self) (Some (tree_of_value a.now) ∷ Some (tree_of_value b.now) ∷ [])) }
+    {
+        let operator = self;
+        operators!(comparisons operator a b)
+    }
+
+    #[tactic(auto, using(crate::proofs::Pieces::element_of, crate::proofs::Pieces::no_element))]
+    fn combined<'a>(
         self,
         alloc: Global,
         a: Value<'a>,

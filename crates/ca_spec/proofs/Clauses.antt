@@ -1,9 +1,9 @@
 -- Clauses and lists of clauses.
-use Rattle.std.proofs.Common.{◌≡◌, ℕ, ◌≤◌, ◌<◌, ◌+◌, List, [], ◌∷◌, ◌++◌, length, map, get_or, Some, refl, ap, sym, ◌∙◌, arith}
-use Rattle.ca_term.specs.Tree.{Tree, Row, Tuple, Cons, Ends, More, list_of, row_of}
+use Rattle.std.proofs.Common.{◌≡◌, ◌≤◌, ◌<◌, List, [], ◌∷◌, ◌++◌, length, Some, refl, ap, arith}
+use Rattle.ca_term.specs.Tree.{Tree, Tuple, Cons, list_of, row_of}
 use Rattle.ca_ets.specs.Specification.{NotAClause, clause_fault}
 use Rattle.ca_spec.specs.declared.clause.Clause.{Clause}
-use Rattle.ca_spec.specs.ClauseView.{tree_of_clause, tree_of_parts, trees_of_clauses}
+use Rattle.ca_spec.specs.ClauseView.{tree_of_clause, trees_of_clauses}
 
 -- One more clause at the end of the clauses may stand at the front of what is left.
 pub clauses_push : (cs : List Clause) (c : Clause) (t : Tree)
