@@ -1,5 +1,5 @@
 -- Matching by a walk of the term.
-use Rattle.std.proofs.Common.{◌≡◌, ◌≢◌, ℕ, zero, suc, ◌≤◌, ◌<◌, ◌+◌, ◌-◌, Bool, true, false, List, [], ◌∷◌, ◌++◌, length, set, get_or, map, take, drop, Option, Some, None, Bor, add-one, drop-cons, append_assoc, append-nil, refl, ap, sym, ◌∙◌, arith, nat_le}
+use Rattle.std.proofs.Common.{◌≡◌, ◌≢◌, ℕ, ◌≤◌, ◌<◌, ◌+◌, ◌-◌, Bool, true, false, List, [], ◌∷◌, ◌++◌, length, set, get_or, take, drop, Option, Some, None, Bor, add-one, drop-cons, append_assoc, append-nil, refl, ap, sym, ◌∙◌, arith, nat_le}
 use Rattle.std.proofs.lemmas.Bool.Decides.{nat_tests}
 use Rattle.std.proofs.lemmas.List.{drop_all, get_or-map, map-set, take_all}
 use Rattle.std.specs.Prelude.{filter_map, if◌then◌else◌, option_and_then, option_map}

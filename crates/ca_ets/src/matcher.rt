@@ -58,11 +58,9 @@ fn clause_with<'a>(
     body: &'a Term,
     object: &'a Term,
 ) -> Evaluated<'a>
-    ensures {
-        IfOk result (λ v.
+    ensures { IfOk result (λ v.
         option_map tree_of_value v
-        ≡ option_and_then (λ bindings. guarded (record { object = object.now; bindings = bindings }) guards.now body.now) (fitted head.now object.now))
-    }
+        ≡ option_and_then (λ bindings. guarded (record { object = object.now; bindings = bindings }) guards.now body.now) (fitted head.now object.now)) }
 {
     let mut table: Table<'a> = [None; 100];
     if !bind(head, object, &mut table) {
@@ -168,10 +166,8 @@ fn bind_atom<'a>(text: &str, own: &Term, term: &'a Term, table: &mut Table<'a>) 
 #[tactic(auto, using(crate::proofs::Matching::variable_new))]
 fn bind_variable<'a>(number: usize, term: &'a Term, table: &mut Table<'a>) -> bool
     requires { number < 100 }
-    ensures {
-        bind_variable (bindings_of table.old) number (bound (bindings_of table.old) number) term.now
-        ≡ (if result then Some (bindings_of table.new) else None)
-    }
+    ensures { bind_variable (bindings_of table.old) number (bound (bindings_of table.old) number) term.now
+        ≡ (if result then Some (bindings_of table.new) else None) }
 {
     match table[number] {
         Some(own) => term_order(own, term).is_eq(),
@@ -185,7 +181,12 @@ fn bind_variable<'a>(number: usize, term: &'a Term, table: &mut Table<'a>) -> bo
 // The value of an expression for an object with these bindings.
 #[cycle(value)]
 #[tactic(auto, unfolding(crate::specs::Match::value))]
-fn value<'a>(alloc: Global, expression: &'a Term, object: &'a Term, table: &Table<'a>) -> Evaluated<'a>
+fn value<'a>(
+    alloc: Global,
+    expression: &'a Term,
+    object: &'a Term,
+    table: &Table<'a>,
+) -> Evaluated<'a>
     ensures { IfOk result (λ v. option_map tree_of_value v ≡ value (scene_of object.now table.now) expression.now) }
 {
     match expression.kind() {
@@ -311,7 +312,12 @@ fn cells<'a>(alloc: Global, heads: Vec<Term>, tail: Term) -> Evaluated<'a>
 // The value of a tuple: one that makes a tuple, a constant, or an operator with its arguments.
 #[cycle(value)]
 #[tactic(auto, unfolding(crate::specs::Match::form_value, crate::specs::Match::values))]
-fn form_value<'a>(alloc: Global, items: &'a [Term], object: &'a Term, table: &Table<'a>) -> Evaluated<'a>
+fn form_value<'a>(
+    alloc: Global,
+    items: &'a [Term],
+    object: &'a Term,
+    table: &Table<'a>,
+) -> Evaluated<'a>
     ensures { IfOk result (λ v. option_map tree_of_value v ≡ form_value (scene_of object.now table.now) (row_of items.now)) }
 {
     match items {
@@ -324,7 +330,12 @@ fn form_value<'a>(alloc: Global, items: &'a [Term], object: &'a Term, table: &Ta
 // {{E1,..,En}} by its one element.
 #[cycle(value)]
 #[tactic(auto, using(crate::proofs::Matching::tuples_built), unfolding(crate::specs::Match::tuple_value))]
-fn tuple_value<'a>(alloc: Global, only: &'a Term, object: &'a Term, table: &Table<'a>) -> Evaluated<'a>
+fn tuple_value<'a>(
+    alloc: Global,
+    only: &'a Term,
+    object: &'a Term,
+    table: &Table<'a>,
+) -> Evaluated<'a>
     ensures { IfOk result (λ v. option_map tree_of_value v ≡ tuple_value (scene_of object.now table.now) only.now) }
 {
     let Kind::Tuple(items) = only.kind() else {
@@ -349,9 +360,7 @@ fn terms<'a>(
     object: &'a Term,
     table: &Table<'a>,
 ) -> Result<Option<Terms>, AllocError>
-    ensures {
-        IfOk result (λ terms. option_map (λ ts. ts.items) terms ≡ all_values (values (scene_of object.now table.now) (row_of items.now)))
-    }
+    ensures { IfOk result (λ terms. option_map (λ ts. ts.items) terms ≡ all_values (values (scene_of object.now table.now) (row_of items.now))) }
 {
     let mut terms = Terms::new(alloc);
     for item in items {
@@ -373,10 +382,8 @@ fn call_value<'a>(
     object: &'a Term,
     table: &Table<'a>,
 ) -> Evaluated<'a>
-    ensures {
-        IfOk result (λ v.
-        option_map tree_of_value v ≡ call_value name.now (row_of arguments.now) (values (scene_of object.now table.now) (row_of arguments.now)))
-    }
+    ensures { IfOk result (λ v.
+        option_map tree_of_value v ≡ call_value name.now (row_of arguments.now) (values (scene_of object.now table.now) (row_of arguments.now))) }
 {
     let Kind::Atom(text) = name.kind() else {
         return Ok(None);
@@ -404,9 +411,7 @@ fn operator_value<'a>(
     object: &'a Term,
     table: &Table<'a>,
 ) -> Evaluated<'a>
-    ensures {
-        IfOk result (λ v. option_map tree_of_value v ≡ applied (meaning_of operator) (values (scene_of object.now table.now) (row_of arguments.now)))
-    }
+    ensures { IfOk result (λ v. option_map tree_of_value v ≡ applied (meaning_of operator) (values (scene_of object.now table.now) (row_of arguments.now))) }
 {
     match arguments {
         [a] => match value(alloc, a, object, table)? {
@@ -433,10 +438,8 @@ fn value_of_two<'a>(
     table: &Table<'a>,
 ) -> Evaluated<'a>
     requires { stop_of (meaning_of operator) ≡ None }
-    ensures {
-        let scene = scene_of object.now table.now in
-        IfOk result (λ v. option_map tree_of_value v ≡ applied (meaning_of operator) (value scene a.now ∷ value scene b.now ∷ []))
-    }
+    ensures { let scene = scene_of object.now table.now in
+        IfOk result (λ v. option_map tree_of_value v ≡ applied (meaning_of operator) (value scene a.now ∷ value scene b.now ∷ [])) }
 {
     let Some(a) = value(alloc, a, object, table)? else {
         return Ok(None);
@@ -457,10 +460,8 @@ fn short_value<'a>(
     object: &'a Term,
     table: &Table<'a>,
 ) -> Evaluated<'a>
-    ensures {
-        let scene = scene_of object.now table.now in
-        IfOk result (λ v. option_map tree_of_value v ≡ applied (Short stop) (value scene a.now ∷ value scene b.now ∷ []))
-    }
+    ensures { let scene = scene_of object.now table.now in
+        IfOk result (λ v. option_map tree_of_value v ≡ applied (Short stop) (value scene a.now ∷ value scene b.now ∷ [])) }
 {
     match truth(&value(alloc, a, object, table)?) {
         Some(first) => {
@@ -494,7 +495,12 @@ fn truth_value<'a>(known: Option<bool>) -> Option<Value<'a>>
 
 // Whether all guards of a list have the value true.
 #[tactic(auto, unfolding(crate::specs::Match::pass))]
-fn pass<'a>(alloc: Global, guards: &'a Term, object: &'a Term, table: &Table<'a>) -> Result<bool, AllocError>
+fn pass<'a>(
+    alloc: Global,
+    guards: &'a Term,
+    object: &'a Term,
+    table: &Table<'a>,
+) -> Result<bool, AllocError>
     ensures { IfOk result (λ passed. passed ≡ pass (scene_of object.now table.now) guards.now) }
 {
     let mut rest = guards;

@@ -1,4 +1,4 @@
-use Rattle.std.proofs.Common.{arith, ap, sym}
+use Rattle.std.proofs.Common.{arith}
 use Rattle.ca_term.specs.Tree.{nodes, row_nodes, row_of}
 use Rattle.ca_ets.proofs.matcher.+bind.Goals as goal
 use Rattle.ca_term.proofs.Rows.{nodes_item}

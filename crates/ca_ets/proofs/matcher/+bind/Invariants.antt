@@ -1,4 +1,4 @@
-use Rattle.std.proofs.Common.{◌≡◌, ◌+◌, ◌*◌, ◌≤◌, length, drop}
+use Rattle.std.proofs.Common.{◌≡◌, ◌+◌, ◌*◌, ◌≤◌}
 use Rattle.ca_term.specs.Tree.{nodes, row_nodes, row_of}
 use Rattle.ca_ets.specs.Match.{bind, bind_row}
 use Rattle.ca_ets.specs.MatcherView.{bindings_of}

@@ -1,4 +1,4 @@
-use Rattle.std.proofs.Common.{◌≡◌, ◌+◌, ◌*◌, ◌≤◌, length, drop}
+use Rattle.std.proofs.Common.{◌≡◌, ◌+◌, ◌*◌, ◌≤◌}
 use Rattle.ca_term.specs.Tree.{Cons, nodes, row_nodes, row_of}
 use Rattle.ca_ets.specs.Match.{all_values, value, values}
 use Rattle.ca_ets.proofs.Matching.{behind, values_from}
