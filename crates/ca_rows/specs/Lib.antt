@@ -1,0 +1,9 @@
+pub mod Account
+pub mod Calls
+pub mod Chain
+pub mod Claims
+pub mod Laws
+pub mod Pins
+pub mod Rule
+pub mod Told
+pub mod Words

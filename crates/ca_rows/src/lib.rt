@@ -1,0 +1,15 @@
+//! Rows of words that passes share without a lock: a pool of free rows, and whose each row is.
+#![tactic(auto)]
+
+mod plays;
+mod rule;
+mod sizes;
+mod space;
+mod taken;
+mod view;
+
+pub use rule::{RowRule, Rows};
+pub use sizes::{Sizes, Starts};
+pub use space::{Half, Pass, Space};
+pub use taken::Taken;
+pub use view::{Claim, Claimed, Pin, Stage, View};
