@@ -1,0 +1,5 @@
+mod Accounts
+mod Chains
+mod Claiming
+mod Rules
+mod Steps

@@ -21,10 +21,10 @@ abbrev pub claimed : ℕ → Claim → List Claimed → List Claimed
 claimed row c xs = record { row = row; claim = c } ∷ dropped row xs
 
 module _ {U : Type 0} where
-  abbrev of_seat : Option (View U) → ℕ → Option Claim
-  of_seat none row = none
-  of_seat (some d) row = claim_of d.claims row
+  abbrev pub claim_from : Option (View U) → ℕ → Option Claim
+  claim_from none row = none
+  claim_from (some d) row = claim_of d.claims row
 
   -- why the row is that of the seat with this number, if it is
   abbrev pub claim_at : List (View U) → ℕ → ℕ → Option Claim
-  claim_at views seat row = of_seat (get_elem? views seat) row
+  claim_at views seat row = claim_from (get_elem? views seat) row

@@ -3,6 +3,7 @@
 
 mod plays;
 mod rule;
+mod scratch;
 mod sizes;
 mod space;
 mod taken;
