@@ -1,4 +1,5 @@
 mod Accounts
+mod Calling
 mod Chains
 mod Claiming
 mod Rules
