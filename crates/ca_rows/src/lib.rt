@@ -1,6 +1,7 @@
 //! Rows of words that passes share without a lock: a pool of free rows, and whose each row is.
 #![tactic(auto)]
 
+mod opening;
 mod plays;
 mod rule;
 mod scratch;
