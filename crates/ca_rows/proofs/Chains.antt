@@ -23,7 +23,7 @@ put_else f i c j n = ap (λ b. cond b c (f j)) (ne_eqb j i n)
 pub in_head : (t q : ℕ) → q < 65536 → ((t * 65536 + q) / 65536 ≡ t) × ((t * 65536 + q) % 65536 ≡ q)
 in_head t q l = (omega arith, omega arith)
 
-same_height : (k m : ℕ) → Free k ≡ Free m → k ≡ m
+pub same_height : (k m : ℕ) → Free k ≡ Free m → k ≡ m
 same_height k m e = cc
 
 module _ (rows : ℕ) (owner : ℕ → Owner) where

@@ -2,5 +2,7 @@ mod Accounts
 mod Calling
 mod Chains
 mod Claiming
+mod Making
 mod Rules
+mod Starting
 mod Steps
