@@ -4,6 +4,7 @@ pub mod Chain
 pub mod Claims
 pub mod Laws
 pub mod Opening
+pub mod Owned
 pub mod Pins
 pub mod Rule
 pub mod Told

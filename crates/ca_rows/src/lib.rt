@@ -1,8 +1,11 @@
 //! Rows of words that passes share without a lock: a pool of free rows, and whose each row is.
 #![tactic(auto)]
 
+mod fault;
+mod make;
 mod opening;
 mod plays;
+mod rest;
 mod rule;
 mod scratch;
 mod sizes;
@@ -10,6 +13,7 @@ mod space;
 mod taken;
 mod view;
 
+pub use fault::RowsFault;
 pub use rule::{RowRule, Rows};
 pub use sizes::{Sizes, Starts};
 pub use space::{Half, Pass, Space};

@@ -1,8 +1,12 @@
 //! What each step of the rows tells.
+ghost use Rattle.std.specs.Prelude.{◌+◌};
+ghost use Rattle.ca_rows.specs.Rule.{fresh};
 ghost use Rattle.ca_rows.specs.Told.{Looked, Peeked, Took, Wrote, Gave};
 
+use crate::rule::RowRule;
 use crate::view::View;
-use atomic_table::Play;
+use atomic_table::{Play, Split};
+use std::marker::PhantomData;
 
 /// A load of the pool's head.
 pub struct Look;
@@ -37,4 +41,15 @@ pub struct Give;
 
 impl<U> Play<(), View<U>> for Give {
     ghost then = { Gave };
+}
+
+/// The step that makes a pass.
+pub struct Make<R> {
+    rule: PhantomData<R>,
+}
+
+impl<R: RowRule> Split<View<R::Upper>> for Make<R> {
+    ghost left = { λ v. record v { made = v.made + 1 } };
+
+    ghost right = { λ v. fresh v.rows (v.made + 1) (R.begins (v.made + 1)) };
 }

@@ -1,15 +1,18 @@
 //! The words of a space, its passes, and their steps.
-ghost use Rattle.std.specs.Prelude.{◌≡◌, ◌==◌, ℕ, ◌+◌, ◌*◌, ◌<◌, ◌≤◌, [], List, length};
+ghost use Rattle.std.specs.Prelude.{◌≡◌, ◌==◌, ℕ, ◌+◌, ◌*◌, ◌<◌, ◌≤◌, [], List, length, IsSome};
 ghost use mathlib.Core.Option.{none, some};
 ghost use prog.Atomic.{either};
 ghost use Rattle.atomic_table.specs.Table.{step, Allows, Splits, Joins};
 ghost use Rattle.ca_rows.specs.declared.view.Claim.TheVariants.{Holds as IsHeld};
 ghost use Rattle.ca_rows.specs.Claims.{claim_of, claimed};
 ghost use Rattle.ca_rows.specs.Calls.{IsOf, IsSame, TakesRow, PutsRow};
+ghost use Rattle.ca_rows.specs.Owned.{IsOwnSeat};
 ghost use Rattle.ca_rows.specs.Rule.{Ruled};
+ghost use Rattle.std.specs.Option.{ForSome};
 ghost use Rattle.std.specs.Prelude.{slice_set};
 
 use crate::plays::{Give, Look, Peek, Take, Write};
+use crate::rest::Rest;
 use crate::rule::{RowRule, Rows};
 use crate::sizes::Sizes;
 use crate::taken::Taken;
@@ -20,13 +23,21 @@ use std::alloc::Global;
 /// The words of a space, which threads share.
 pub struct Space<R: RowRule> {
     pub(crate) table: Table<(), View<R::Upper>, Sizes, Rows<R>, Global>,
+    pub(crate) own: Option<Rest<(), View<R::Upper>>>,
+    pub(crate) sizes: Sizes,
+    pub(crate) made: u32,
+    pub ghost same: { sizes ≡ table.shared.key },
     pub ghost sized: { table.shared.table_id.words ≡ 136 * table.shared.key.rows + 136 },
     pub ghost few: { (0 < table.shared.key.rows) × (table.shared.key.rows < 65536) },
+    pub ghost passes: { (made ≤ sizes.passes) × (sizes.passes ≤ 64) },
+    pub ghost has: { IsSome own },
+    pub ghost mine: { ForSome own (λ rest. IsOwnSeat table.shared.table_id sizes.rows made rest.seat) },
 }
 
 /// A pass: the right to take steps on a space. It carries what it knows.
 pub struct Pass<R: RowRule> {
     pub(crate) seat: Seat<(), View<R::Upper>>,
+    pub(crate) number: u32,
 }
 
 /// What a pass knew when it was split off.
@@ -36,15 +47,10 @@ pub struct Half<R: RowRule> {
 
 impl<R: RowRule> Drop for Pass<R> {
     fn drop(self) {
-        let Self { seat: _ } = self;
+        let Self { seat: _, number: _ } = self;
     }
 }
 
-impl<R: RowRule> Drop for Half<R> {
-    fn drop(self) {
-        let Self { seat: _ } = self;
-    }
-}
 
 impl<R: RowRule> Half<R> {
     fn into_seat(self) -> Seat<(), View<R::Upper>>
