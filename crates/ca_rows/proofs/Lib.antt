@@ -3,6 +3,7 @@ mod Calling
 mod Chains
 mod Claiming
 mod Making
+mod Pinned
 mod Resting
 mod Rules
 mod Starting

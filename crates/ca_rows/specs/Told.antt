@@ -1,8 +1,9 @@
 -- What each step of the rows tells.
-use Rattle.std.specs.Prelude.{◌≡◌, ◌≢◌, ℕ, ◌+◌, ◌*◌, ◌/◌, ◌%◌, ◌<◌, ◌≤◌, List, length, slice_set}
+use Rattle.std.specs.Prelude.{◌≡◌, ◌≢◌, ℕ, ◌+◌, ◌*◌, ◌/◌, ◌%◌, ◌<◌, ◌≤◌, true, false, List, length, slice_set}
 use mathlib.Core.Option.{some, none}
 use Rattle.atomic_table.specs.Table.{Me, Step}
-use Rattle.ca_rows.specs.declared.view.Claim.TheVariants.{Holds}
+use Rattle.ca_rows.specs.declared.view.Claim.TheVariants.{Holds, Keeps}
+use Rattle.ca_rows.specs.declared.view.Pin.{Pin}
 use Rattle.ca_rows.specs.declared.view.Stage.{Stage}
 use Rattle.ca_rows.specs.declared.view.Stage.TheVariants.{Idle, Saw, Knew}
 use Rattle.ca_rows.specs.declared.view.Claimed.{Claimed}
@@ -45,3 +46,23 @@ module _ {U : Type 0} where
   -- A held row was put back, or the exchange lost.
   abbrev pub Gave : Step (Unit {0}) → Mine U → ℕ → Mine U → Type 0
   Gave st m n m' = (n ≡ st.first → m' ≡ with_claims m (dropped (st.second % 65536) m.0.claims)) × (n ≢ st.first → m' ≡ missed m)
+
+module _ {U : Type 0} where
+  abbrev pub with_pin : Mine U → Pin → Mine U
+  with_pin m e = (record m.0 { pin = e }, m.1)
+
+  -- The epoch was loaded, to announce it.
+  abbrev pub Asked : Step (Unit {0}) → Mine U → ℕ → Mine U → Type 0
+  Asked st m n m' = (n ≤ 4611686018427387904) × (m.0.pin.pinned ≡ false → m' ≡ with_pin m (record m.0.pin { told = n }))
+
+  -- It was announced, at an epoch that isn't lower.
+  abbrev pub Announced : (U → U) → Step (Unit {0}) → Mine U → ℕ → Mine U → Type 0
+  Announced enters st m n m' = (moment : ℕ) × (m.0.pin.told ≤ moment) × (m' ≡ (record m.0 { pin = record m.0.pin { pinned = true; moment = moment }; upper = enters m.0.upper }, m.1))
+
+  -- The announcement was taken back.
+  abbrev pub Left : (U → U) → Step (Unit {0}) → Mine U → ℕ → Mine U → Type 0
+  Left leaves st m n m' = m' ≡ (record m.0 { pin = record m.0.pin { pinned = false }; upper = leaves m.0.upper }, m.1)
+
+  -- The row is kept, since the epoch that was loaded.
+  abbrev pub Retired : ℕ → Step (Unit {0}) → Mine U → ℕ → Mine U → Type 0
+  Retired q st m n m' = m' ≡ (record m.0 { claims = claimed q (Keeps n) m.0.claims }, m.1)
