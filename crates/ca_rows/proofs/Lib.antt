@@ -3,6 +3,7 @@ mod Calling
 mod Chains
 mod Claiming
 mod Making
+mod PinSteps
 mod Pinned
 mod Resting
 mod Rules

@@ -6,6 +6,7 @@ use Rattle.atomic_table.specs.Seated.{TableId}
 use Rattle.ca_rows.specs.declared.taken.Taken.{Taken}
 use Rattle.ca_rows.specs.declared.taken.Taken.TheVariants.{Row, Empty, Lost, Worn}
 use Rattle.ca_rows.specs.declared.view.Claim.TheVariants.{Holds}
+use Rattle.ca_rows.specs.declared.view.Pin.{Pin}
 use Rattle.ca_rows.specs.declared.view.Stage.TheVariants.{Saw}
 use Rattle.ca_rows.specs.declared.view.View.{View}
 use Rattle.ca_rows.specs.Claims.{claim_of, claimed, dropped}
@@ -30,3 +31,7 @@ module _ {U : Type 0} where
   abbrev pub PutsRow : Bool → ℕ → Mine U → Mine U → Type 0
   PutsRow true r m m' = m' ≡ with_claims m (dropped r m.0.claims)
   PutsRow false r m m' = (its : List ℕ) × (length its ≡ 136) × (m' ≡ missed (with_claims m (claimed r (Holds its) m.0.claims)))
+
+-- The pass has this number, which its announcement goes by.
+abbrev pub IsNumbered : ℕ → Pin → Type 0
+IsNumbered number e = (e.number ≡ number) × (0 < number) × (number ≤ 64)

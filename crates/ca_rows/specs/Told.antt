@@ -53,7 +53,7 @@ module _ {U : Type 0} where
 
   -- The epoch was loaded, to announce it.
   abbrev pub Asked : Step (Unit {0}) → Mine U → ℕ → Mine U → Type 0
-  Asked st m n m' = (n ≤ 4611686018427387904) × (m.0.pin.pinned ≡ false → m' ≡ with_pin m (record m.0.pin { told = n }))
+  Asked st m n m' = (n ≤ 4611686018427387904) × (m' ≡ with_pin m (record m.0.pin { told = n }))
 
   -- It was announced, at an epoch that isn't lower.
   abbrev pub Announced : (U → U) → Step (Unit {0}) → Mine U → ℕ → Mine U → Type 0

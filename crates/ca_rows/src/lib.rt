@@ -4,6 +4,7 @@
 mod fault;
 mod make;
 mod opening;
+mod pin;
 mod plays;
 mod rest;
 mod rule;

@@ -1,7 +1,7 @@
 //! What each step of the rows tells.
 ghost use Rattle.std.specs.Prelude.{◌+◌};
 ghost use Rattle.ca_rows.specs.Rule.{fresh};
-ghost use Rattle.ca_rows.specs.Told.{Looked, Peeked, Took, Wrote, Gave};
+ghost use Rattle.ca_rows.specs.Told.{Looked, Peeked, Took, Wrote, Gave, Asked, Announced, Left};
 
 use crate::rule::RowRule;
 use crate::view::View;
@@ -52,4 +52,29 @@ impl<R: RowRule> Split<View<R::Upper>> for Make<R> {
     ghost left = { λ v. record v { made = v.made + 1 } };
 
     ghost right = { λ v. fresh v.rows (v.made + 1) (R.begins (v.made + 1)) };
+}
+
+/// A load of the epoch, to announce it.
+pub struct Ask;
+
+impl<U> Play<(), View<U>> for Ask {
+    ghost then = { Asked };
+}
+
+/// The store of an announcement.
+pub struct Announce<R> {
+    rule: PhantomData<R>,
+}
+
+impl<R: RowRule> Play<(), View<R::Upper>> for Announce<R> {
+    ghost then = { Announced R.enters };
+}
+
+/// The store that takes it back.
+pub struct Leave<R> {
+    rule: PhantomData<R>,
+}
+
+impl<R: RowRule> Play<(), View<R::Upper>> for Leave<R> {
+    ghost then = { Left R.leaves };
 }

@@ -1,5 +1,5 @@
 use Rattle.std.proofs.Common.{rules}
-use Rattle.ca_rows.proofs.Pinned.{pins_step, repinned}
+use Rattle.ca_rows.proofs.PinSteps.{asks, announces, unpins}
 use Rattle.ca_rows.proofs.scratch.scratch.Goals as goal
 
 pub returns : goal.returns
