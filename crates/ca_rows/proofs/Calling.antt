@@ -35,3 +35,8 @@ row_put {U} a b c d one q q' n old its long looked wrote same gave lost = let no
     (λ hit. subst (λ (x : Bool). PutsRow x q a d) (sym (eq-eqb n old hit))
     (gave hit ∙ (ap (λ (y : ℕ). with_claims c (dropped y c.0.claims)) same ∙ (ap (λ (m : Mine U). with_claims m (dropped q m.0.claims)) now ∙ ap (λ (xs : List Claimed). with_claims a xs) (dropped_claimed a.0.claims q (Holds its))))))
     (λ miss. subst (λ (x : Bool). PutsRow x q a d) (sym (ne_eqb n old miss)) (its, long, lost miss ∙ ap missed now))
+
+-- Where only the pool's part of a view changed, its size, its pin and its upper part are as they were.
+pub still : {U : Type 0} (m m' : Mine U) (st : Stage) (xs : List Claimed) (lost : ℕ) → m' ≡ (record m.0 { stage = st; claims = xs; lost = lost }, m.1)
+    → (m'.0.rows ≡ m.0.rows) × (m'.0.pin ≡ m.0.pin) × (m'.0.upper ≡ m.0.upper)
+still {U} m m' st xs lost e = (ap (λ (x : Mine U). x.0.rows) e, ap (λ (x : Mine U). x.0.pin) e, ap (λ (x : Mine U). x.0.upper) e)

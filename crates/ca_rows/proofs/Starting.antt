@@ -76,7 +76,7 @@ module _ {U : Type 0} (linked lent : List ℕ → ℕ → Type 0) (noted : List 
   own = fresh z.rows 0 first
 
   opened : Opened linked lent noted fact z first words
-  opened = law z words is.wide is.above
+  opened = law z words bounds is.wide is.above
 
   nobodys : (j r : ℕ) → claim_at (own ∷ []) j r ≡ none
   nobodys zero r = refl

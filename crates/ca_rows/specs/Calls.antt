@@ -20,6 +20,10 @@ module _ {U : Type 0} where
   abbrev pub IsSame : Seat (Unit {0}) (View U) → Seat (Unit {0}) (View U) → Type 0
   IsSame p q = (q.table_id ≡ p.table_id) × (q.id ≡ p.id)
 
+  -- The seat is the same one, and only what it knows of the pool and what it holds changed.
+  abbrev pub IsStill : Seat (Unit {0}) (View U) → Seat (Unit {0}) (View U) → Type 0
+  IsStill p q = (q.table_id ≡ p.table_id) × (q.id ≡ p.id) × (q.me.0.rows ≡ p.me.0.rows) × (q.me.0.pin ≡ p.me.0.pin) × (q.me.0.upper ≡ p.me.0.upper)
+
   -- `Empty` where the head was empty as it was loaded, `Worn` where it wasn't and its tag was at the last value, `Lost` where the exchange lost.
   abbrev pub TakesRow : Taken → Mine U → Mine U → Type 0
   TakesRow (Row r) m m' = (0 < r) × (r ≤ m.0.rows) × (claim_of m.0.claims r ≡ none) × ((its : List ℕ) × (length its ≡ 136) × (m' ≡ with_claims m (claimed r (Holds its) m.0.claims)))

@@ -6,6 +6,7 @@ pub mod Laws
 pub mod Opening
 pub mod Owned
 pub mod Pins
+pub mod Register
 pub mod Rule
 pub mod Told
 pub mod Words

@@ -20,3 +20,6 @@ pub use sizes::{Sizes, Starts};
 pub use space::{Half, Pass, Space};
 pub use taken::Taken;
 pub use view::{Claim, Claimed, Pin, Stage, View};
+
+#[cfg(test)]
+mod tests;

@@ -5,7 +5,7 @@ ghost use prog.Atomic.{either};
 ghost use Rattle.atomic_table.specs.Table.{step, Allows, Splits, Joins};
 ghost use Rattle.ca_rows.specs.declared.view.Claim.TheVariants.{Holds as IsHeld};
 ghost use Rattle.ca_rows.specs.Claims.{claim_of, claimed};
-ghost use Rattle.ca_rows.specs.Calls.{IsOf, IsSame, TakesRow, PutsRow};
+ghost use Rattle.ca_rows.specs.Calls.{IsOf, IsSame, IsStill, TakesRow, PutsRow};
 ghost use Rattle.ca_rows.specs.Owned.{IsOwnSeat};
 ghost use Rattle.ca_rows.specs.Rule.{Ruled};
 ghost use Rattle.std.specs.Option.{ForSome};
@@ -45,6 +45,17 @@ pub struct Half<R: RowRule> {
     pub(crate) seat: Seat<(), View<R::Upper>>,
 }
 
+impl<R: RowRule> Drop for Space<R> {
+    fn drop(self) {
+        let Self {
+            table: _,
+            own: _,
+            sizes: _,
+            made: _,
+        } = self;
+    }
+}
+
 impl<R: RowRule> Drop for Pass<R> {
     fn drop(self) {
         let Self { seat: _, number: _ } = self;
@@ -68,6 +79,7 @@ impl<R: RowRule> Space<R> {
         requires word { word < self.now.table.shared.table_id.words }
         requires rule { Allows (Ruled R.linked R.lent R.noted R.fact self.now.table.shared.key) self.now.table.shared.table_id.slots pass.old.seat.id pass.old.seat.me word (λ n. n) (M.then (step self.now.table.shared.table_id.slots word 0 0 none) pass.old.seat.me) }
         ensures same { IsSame pass.old.seat pass.new.seat }
+        ensures number { pass.new.number ≡ pass.old.number }
         ensures told { M.then (step self.now.table.shared.table_id.slots word 0 0 none) pass.old.seat.me result pass.new.seat.me }
     {
         self.table.shared.load::<M>(&mut pass.seat, word as usize)
@@ -79,6 +91,7 @@ impl<R: RowRule> Space<R> {
         requires word { word < self.now.table.shared.table_id.words }
         requires rule { Allows (Ruled R.linked R.lent R.noted R.fact self.now.table.shared.key) self.now.table.shared.table_id.slots pass.old.seat.id pass.old.seat.me word (λ _. value) (λ _. M.then (step self.now.table.shared.table_id.slots word value 0 none) pass.old.seat.me value) }
         ensures same { IsSame pass.old.seat pass.new.seat }
+        ensures number { pass.new.number ≡ pass.old.number }
         ensures told { M.then (step self.now.table.shared.table_id.slots word value 0 none) pass.old.seat.me value pass.new.seat.me }
     {
         self.table.shared.store::<M>(&mut pass.seat, word as usize, value);
@@ -96,6 +109,7 @@ impl<R: RowRule> Space<R> {
         requires word { word < self.now.table.shared.table_id.words }
         requires rule { Allows (Ruled R.linked R.lent R.noted R.fact self.now.table.shared.key) self.now.table.shared.table_id.slots pass.old.seat.id pass.old.seat.me word (λ n. either (n == old) new n) (M.then (step self.now.table.shared.table_id.slots word old new none) pass.old.seat.me) }
         ensures same { IsSame pass.old.seat pass.new.seat }
+        ensures number { pass.new.number ≡ pass.old.number }
         ensures told { (n : ℕ) × M.then (step self.now.table.shared.table_id.slots word old new none) pass.old.seat.me n pass.new.seat.me × (result ≡ (n == old)) }
     {
         self.table
@@ -109,6 +123,7 @@ impl<R: RowRule> Space<R> {
         requires table { pass.old.seat.table_id ≡ self.now.table.shared.table_id }
         requires rule { Splits (Ruled R.linked R.lent R.noted R.fact self.now.table.shared.key) pass.old.seat.id pass.old.seat.me.0 (M.left pass.old.seat.me.0) (M.right pass.old.seat.me.0) }
         ensures same { IsSame pass.old.seat pass.new.seat }
+        ensures number { pass.new.number ≡ pass.old.number }
         ensures left { pass.new.seat.me ≡ (M.left pass.old.seat.me.0, pass.old.seat.me.1) }
         ensures right { (result.seat.table_id ≡ pass.old.seat.table_id) × (result.seat.me ≡ (M.right pass.old.seat.me.0, [])) }
     {
@@ -122,6 +137,7 @@ impl<R: RowRule> Space<R> {
         requires table { (pass.old.seat.table_id ≡ self.now.table.shared.table_id) × (half.seat.table_id ≡ self.now.table.shared.table_id) × (half.seat.me.1 ≡ []) }
         requires rule { Joins (Ruled R.linked R.lent R.noted R.fact self.now.table.shared.key) pass.old.seat.id pass.old.seat.me.0 half.seat.id half.seat.me.0 (M.both pass.old.seat.me.0 half.seat.me.0) M.spent }
         ensures same { IsSame pass.old.seat pass.new.seat }
+        ensures number { pass.new.number ≡ pass.old.number }
         ensures both { pass.new.seat.me ≡ (M.both pass.old.seat.me.0 half.seat.me.0, pass.old.seat.me.1) }
     {
         self.table
@@ -132,7 +148,8 @@ impl<R: RowRule> Space<R> {
     /// Takes a free row.
     pub fn take_row(&self, pass: &mut Pass<R>) -> Taken
         requires own { IsOf self.now.table.shared.table_id self.now.table.shared.key.rows pass.old.seat }
-        ensures same { IsSame pass.old.seat pass.new.seat }
+        ensures same { IsStill pass.old.seat pass.new.seat }
+        ensures number { pass.new.number ≡ pass.old.number }
         ensures row { TakesRow result pass.old.seat.me pass.new.seat.me }
     {
         let head = self.table.shared.load::<Look>(&mut pass.seat, 0);
@@ -160,7 +177,8 @@ impl<R: RowRule> Space<R> {
         requires own { IsOf self.now.table.shared.table_id self.now.table.shared.key.rows pass.old.seat }
         requires held { (its : List ℕ) × (claim_of pass.old.seat.me.0.claims row ≡ some (IsHeld its)) }
         requires inside { (row ≤ self.now.table.shared.key.rows) × (index < 136) }
-        ensures same { IsSame pass.old.seat pass.new.seat }
+        ensures same { IsStill pass.old.seat pass.new.seat }
+        ensures number { pass.new.number ≡ pass.old.number }
         ensures written { (its : List ℕ) → claim_of pass.old.seat.me.0.claims row ≡ some (IsHeld its) → pass.new.seat.me ≡ (record pass.old.seat.me.0 { claims = claimed row (IsHeld (slice_set its index value)) pass.old.seat.me.0.claims }, pass.old.seat.me.1) }
     {
         self.table
@@ -173,7 +191,8 @@ impl<R: RowRule> Space<R> {
         requires own { IsOf self.now.table.shared.table_id self.now.table.shared.key.rows pass.old.seat }
         requires held { (its : List ℕ) × (length its ≡ 136) × (claim_of pass.old.seat.me.0.claims row ≡ some (IsHeld its)) }
         requires inside { row ≤ self.now.table.shared.key.rows }
-        ensures same { IsSame pass.old.seat pass.new.seat }
+        ensures same { IsStill pass.old.seat pass.new.seat }
+        ensures number { pass.new.number ≡ pass.old.number }
         ensures given { PutsRow result row pass.old.seat.me pass.new.seat.me }
     {
         let head = self.table.shared.load::<Look>(&mut pass.seat, 0);

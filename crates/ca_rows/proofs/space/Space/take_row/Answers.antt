@@ -1,7 +1,7 @@
-use Rattle.std.proofs.Common.{rules, ℕ, ◌/◌, ◌%◌, ◌≡◌, ◌≢◌, ◌+◌, ◌*◌, arith, ap, refl}
+use Rattle.std.proofs.Common.{rules, ℕ, ◌/◌, ◌%◌, ◌≡◌, ◌≢◌, ◌+◌, ◌*◌, ◌∙◌, arith, ap, refl}
 use Rattle.std.proofs.lemmas.Bool.Decides.{nat_tests}
 use Rattle.ca_rows.specs.Told.{Mine}
-use Rattle.ca_rows.proofs.Calling.{row_taken, row_missed}
+use Rattle.ca_rows.proofs.Calling.{row_taken, row_missed, still}
 use Rattle.ca_rows.proofs.Steps.{looks, peeks, takes}
 use Rattle.ca_rows.proofs.space.Space.take_row.Goals as goal
 
@@ -48,3 +48,14 @@ returns-else-found-old-clause-row g c =
     let next = c.load-next.ensures.2 t' q (ap (λ (m : Mine g.row.R-Upper.Denot). m.0.stage) saw.1) in
     let took = (c.compare_exchange-found.ensures.2 t' q c.load-next.result (ap (λ (m : Mine g.row.R-Upper.Denot). m.0.stage) next)).1 c.if-found-old.false in
     row_missed c.args.pass.now.seat.me c.load-head.new.seat.me c.load-next.new.seat.me c.compare_exchange-found.new.seat.me _ _ saw.1 next took
+
+pub returns-then-found-old-clause-same : goal.returns-then-found-old-clause-same
+returns-then-found-old-clause-same g c =
+    let row = returns-then-found-old-clause-row g c in
+    let rest = still c.args.pass.now.seat.me c.compare_exchange-found.new.seat.me _ _ _ row.3.2 in
+    (c.compare_exchange-found.ensures.0 ∙ (c.load-next.ensures.0 ∙ c.load-head.ensures.0), c.compare_exchange-found.ensures.1 ∙ (c.load-next.ensures.1 ∙ c.load-head.ensures.1), rest.0, rest.1, rest.2)
+
+pub returns-else-found-old-clause-same : goal.returns-else-found-old-clause-same
+returns-else-found-old-clause-same g c =
+    let rest = still c.args.pass.now.seat.me c.compare_exchange-found.new.seat.me _ _ _ (returns-else-found-old-clause-row g c) in
+    (c.compare_exchange-found.ensures.0 ∙ (c.load-next.ensures.0 ∙ c.load-head.ensures.0), c.compare_exchange-found.ensures.1 ∙ (c.load-next.ensures.1 ∙ c.load-head.ensures.1), rest.0, rest.1, rest.2)
