@@ -1,10 +1,10 @@
 -- The account of one row through a step.
-use Rattle.std.proofs.Common.{◌≡◌, ◌≢◌, ◌⊎◌, ℕ, ◌+◌, ◌*◌, ◌<◌, ◌≤◌, List, length, get_or, sym, refl, ap, ◌∙◌, subst, inl, inr, ⊎_elim, arith}
-use mathlib.Core.Option.{Option, some, none}
+use Rattle.std.proofs.Common.{◌≡◌, ℕ, ◌+◌, ◌*◌, ◌<◌, ◌≤◌, List, get_or, ◌∙◌, inl, inr, ⊎_elim, arith}
+use mathlib.Core.Option.{Option}
 use Rattle.ca_rows.specs.declared.view.Claim.{Claim}
 use Rattle.ca_rows.specs.declared.view.Claim.TheVariants.{Holds, Lends, Unlinked, Keeps, Returns}
 use Rattle.ca_rows.specs.Chain.{Owner, Free, Linked, Of}
-use Rattle.ca_rows.specs.Words.{epoch, Spells}
+use Rattle.ca_rows.specs.Words.{epoch}
 use Rattle.ca_rows.specs.Account.{IsAlone, IsOut, IsClaim, IsRow}
 
 module _ (words words' : List ℕ) (L L' B B' : ℕ → Type 0) (N N' : ℕ → ℕ → Type 0) (claim claim' : ℕ → ℕ → Option Claim) where

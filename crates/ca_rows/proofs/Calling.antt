@@ -1,7 +1,7 @@
 -- What the steps of one call come to together.
-use Rattle.std.proofs.Common.{◌≡◌, ◌≢◌, ℕ, ◌+◌, ◌*◌, ◌%◌, eqb, Bool, true, false, List, length, set, sym, refl, ap, ◌∙◌, subst, eq-eqb, ne_eqb, length-set}
+use Rattle.std.proofs.Common.{◌≡◌, ◌≢◌, ℕ, eqb, Bool, List, length, sym, ap, ◌∙◌, subst, eq-eqb, ne_eqb}
 use mathlib.Core.Logic.{dite}
-use mathlib.Core.Option.{some, none}
+use mathlib.Core.Option.{none}
 use native.Mathlib.Decide.{ℕ_discrete}
 use Rattle.ca_rows.specs.declared.view.Claim.TheVariants.{Holds}
 use Rattle.ca_rows.specs.declared.view.Claimed.{Claimed}

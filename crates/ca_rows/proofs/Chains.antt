@@ -1,11 +1,11 @@
 -- The chain of the free rows as one is taken or put back.
-use Rattle.std.proofs.Common.{◌≡◌, ◌≢◌, ℕ, zero, suc, ◌+◌, ◌*◌, ◌/◌, ◌%◌, ◌<◌, ◌≤◌, eqb, cond, List, length, get_or, set, sym, refl, ap, ◌∙◌, subst, arith, eq-eqb, ne_eqb, get_or-set_other, get_or-set_same}
+use Rattle.std.proofs.Common.{◌≡◌, ◌≢◌, ℕ, zero, suc, ◌+◌, ◌*◌, ◌/◌, ◌%◌, ◌<◌, ◌≤◌, eqb, cond, List, sym, refl, ap, ◌∙◌, subst, arith, eq-eqb, ne_eqb}
 use mathlib.Core.Logic.{dite}
 use native.Mathlib.Decide.{ℕ_discrete}
 use Rattle.ca_rows.specs.declared.view.Stage.{Stage}
 use Rattle.ca_rows.specs.declared.view.Stage.TheVariants.{Idle, Saw, Knew}
-use Rattle.ca_rows.specs.Chain.{Owner, Free, Linked, Of, IsTop, IsChain, IsFree, IsStage}
-use Rattle.ca_rows.specs.Words.{IsWide, head_tag, head_row, next_of}
+use Rattle.ca_rows.specs.Chain.{Owner, Free, IsTop, IsChain, IsFree, IsStage}
+use Rattle.ca_rows.specs.Words.{head_tag, head_row, next_of}
 
 -- a function changed at one place
 pub put : (ℕ → Owner) → ℕ → Owner → ℕ → Owner
@@ -104,5 +104,8 @@ module _ (rows : ℕ) (owner : ℕ → Owner) where
         → (st : Stage) → IsStage rows owner words st → IsStage rows owner' words' st
     stage_stays owner' up same Idle k = tt
     stage_stays owner' up same (Saw t r) k = let a = k.0 in (omega arith, λ e lo. let z : head_tag words ≡ head_tag words' = omega arith in let f = k.1 (e ∙ sym z) lo in (same z r f.0 f.1 f.2 f.3).0)
-    stage_stays owner' up same (Knew t r x) k = let a = k.0 in (omega arith, λ e. let z : head_tag words ≡ head_tag words' = omega arith in let w = k.1 (e ∙ sym z) in let f = w.0 in
-        let now = same z r f.0 f.1 f.2 f.3 in (now.0, now.1 ∙ w.1))
+    stage_stays owner' up same (Knew t r x) k = let a = k.0 in (
+      omega arith,
+      λ e. let z : head_tag words ≡ head_tag words' = omega arith in let w = k.1 (e ∙ sym z) in let f = w.0 in
+          let now = same z r f.0 f.1 f.2 f.3 in (now.0, now.1 ∙ w.1),
+    )

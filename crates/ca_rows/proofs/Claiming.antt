@@ -1,10 +1,10 @@
 -- Lists of claims, and the claims of all seats after one seat's step.
-use Rattle.std.proofs.Common.{◌≡◌, ◌≢◌, ℕ, zero, suc, eqb, cond, List, [], ◌∷◌, ◌++◌, set, sym, refl, ap, ◌∙◌, eq-eqb, ne_eqb}
+use Rattle.std.proofs.Common.{◌≡◌, ◌≢◌, ℕ, zero, suc, eqb, cond, List, [], ◌∷◌, set, sym, refl, ap, ◌∙◌, eq-eqb, ne_eqb}
 use mathlib.Core.Logic.{dite}
-use mathlib.Core.Option.{Option, some, none, some-injective}
+use mathlib.Core.Option.{Option, some, none}
 use native.Mathlib.Decide.{ℕ_discrete}
 use lib.ListN.{get_elem?}
-use Rattle.atomic_table.proofs.Lists.{at_set, set_else}
+use Rattle.atomic_table.proofs.Lists.{set_else}
 use Rattle.ca_rows.specs.declared.view.Claim.{Claim}
 use Rattle.ca_rows.specs.declared.view.Claimed.{Claimed}
 use Rattle.ca_rows.specs.declared.view.View.{View}

@@ -1,23 +1,21 @@
 -- A pass is made: the space's own seat is cut in two.
-use Rattle.std.proofs.Common.{◌≡◌, ◌≢◌, ◌⊎◌, ℕ, zero, suc, ◌+◌, ◌<◌, ◌≤◌, false, true, List, [], ◌∷◌, ◌++◌, map, length, get_or, set, sym, refl, ap, ◌∙◌, subst, inl, inr, ⊎_elim, arith, le_refl, length-set}
+use Rattle.std.proofs.Common.{◌≡◌, ◌≢◌, ◌⊎◌, ℕ, zero, suc, ◌+◌, ◌<◌, false, true, List, [], ◌∷◌, ◌++◌, map, length, set, sym, refl, ap, ◌∙◌, subst, inl, inr, ⊎_elim, arith, le_refl, length-set}
 use Rattle.std.proofs.lemmas.List.{map-set, map-append}
 use mathlib.Core.Logic.{dite}
-use mathlib.Core.Option.{Option, some, none, some-injective, some-ne-none}
+use mathlib.Core.Option.{some, none, some-injective, some-ne-none}
 use native.Mathlib.Decide.{ℕ_discrete}
 use lib.ListN.{get_elem?}
 use Rattle.atomic_table.specs.Table.{State, Splits}
 use Rattle.atomic_table.proofs.Lists.{at_set, at_map, set_again}
 use Rattle.ca_rows.specs.declared.sizes.Sizes.{Sizes}
-use Rattle.ca_rows.specs.declared.view.Claim.{Claim}
 use Rattle.ca_rows.specs.declared.view.Pin.{Pin}
 use Rattle.ca_rows.specs.declared.view.View.{View}
-use Rattle.ca_rows.specs.Account.{IsRow}
-use Rattle.ca_rows.specs.Claims.{claim_of, claim_from, claim_at}
-use Rattle.ca_rows.specs.Laws.{Frames, Making}
+use Rattle.ca_rows.specs.Claims.{claim_of, claim_at}
+use Rattle.ca_rows.specs.Laws.{Making}
 use Rattle.ca_rows.specs.Pins.{ArePins, IsPin, unpinned}
 use Rattle.ca_rows.specs.Rule.{fresh, upper_of, pin_of, NotedAt, Knows, Ruled}
 use Rattle.ca_rows.proofs.Accounts.{row_stays}
-use Rattle.ca_rows.proofs.Claiming.{claim_mine, claim_others, claim_there, there}
+use Rattle.ca_rows.proofs.Claiming.{claim_mine, claim_others, claim_there}
 use Rattle.ca_rows.proofs.Rules.{all_seats}
 
 -- What stands in a list with one more behind.
@@ -106,16 +104,16 @@ module _ {U : Type 0} (linked lent : List ℕ → ℕ → Type 0) (noted : List 
     notes_before : (m c : ℕ) → NotedAt noted s.words grown m c → NotedAt noted s.words s.views m c
     notes_before m c n = ⊎_elim
         (λ (e : get_elem? (set s.views 0 (made_one v)) n.seat ≡ some n.d). ⊎_elim
-          (λ (t : (n.seat ≡ 0) × (made_one v ≡ n.d)). record { seat = 0; d = v; here = at; note = subst (λ (d : View U). noted s.words d.upper c) (sym t.1) n.note; at = ap (λ (d : View U). d.pin.moment) t.1 ∙ n.at })
-          (λ (t : (n.seat ≢ 0) × (get_elem? s.views n.seat ≡ some n.d)). record { seat = n.seat; d = n.d; here = t.1; note = n.note; at = n.at }) (at_set s.views 0 n.seat (made_one v) n.d e))
+        (λ (t : (n.seat ≡ 0) × (made_one v ≡ n.d)). record { seat = 0; d = v; here = at; note = subst (λ (d : View U). noted s.words d.upper c) (sym t.1) n.note; at = ap (λ (d : View U). d.pin.moment) t.1 ∙ n.at })
+        (λ (t : (n.seat ≢ 0) × (get_elem? s.views n.seat ≡ some n.d)). record { seat = n.seat; d = n.d; here = t.1; note = n.note; at = n.at }) (at_set s.views 0 n.seat (made_one v) n.d e))
         (λ (t : (n.seat ≡ length (set s.views 0 (made_one v))) × (new_pass v ≡ n.d)). absurd (law.making_notes s.words (v.made + 1) c (subst (λ (d : View U). noted s.words d.upper c) (sym t.1) n.note)))
         (at_place (set s.views 0 (made_one v)) (new_pass v) n.d n.seat n.here)
 
     knows : (j : ℕ) (d : View U) → get_elem? grown j ≡ some d → Knows noted z.rows (r.made + 1) r.owner s.words j d
     knows j d here = let mine = r.seat 0 v at in ⊎_elim
         (all_seats (Knows noted z.rows (r.made + 1) r.owner s.words) s.views 0 (made_one v)
-          record { rows_are = mine.rows_are; made_are = λ e. ap (λ n. n + 1) (mine.made_are e); stage_is = mine.stage_is; in_range = mine.in_range; noted_pinned = mine.noted_pinned }
-          (λ i x n e. let k = r.seat i x e in record { rows_are = k.rows_are; made_are = λ f. absurd (n f); stage_is = k.stage_is; in_range = k.in_range; noted_pinned = k.noted_pinned }) j d)
+        record { rows_are = mine.rows_are; made_are = λ e. ap (λ n. n + 1) (mine.made_are e); stage_is = mine.stage_is; in_range = mine.in_range; noted_pinned = mine.noted_pinned }
+        (λ i x n e. let k = r.seat i x e in record { rows_are = k.rows_are; made_are = λ f. absurd (n f); stage_is = k.stage_is; in_range = k.in_range; noted_pinned = k.noted_pinned }) j d)
         (λ (t : (j ≡ length (set s.views 0 (made_one v))) × (new_pass v ≡ d)). subst (Knows noted z.rows (r.made + 1) r.owner s.words j) t.1 record {
           rows_are = mine.rows_are;
           made_are = λ e. let long = some_long s.views 0 v at in let same = length-set s.views 0 (made_one v) in let is = t.0 in absurd (omega arith);

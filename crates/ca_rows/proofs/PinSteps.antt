@@ -1,5 +1,5 @@
 -- Announcing the epoch and taking the announcement back keep the rule.
-use Rattle.std.proofs.Common.{◌≡◌, ◌≢◌, ◌⊎◌, ℕ, ◌+◌, ◌*◌, ◌<◌, ◌≤◌, true, false, List, map, length, get_or, set, sym, refl, ap, ◌∙◌, subst, inl, inr, ⊎_elim, arith, le_refl, length-set, get_or-set_other, get_or-set_same}
+use Rattle.std.proofs.Common.{◌≡◌, ◌≢◌, ℕ, ◌+◌, ◌*◌, ◌<◌, ◌≤◌, true, false, List, map, get_or, set, sym, refl, ap, ◌∙◌, subst, inr, ⊎_elim, arith, le_refl, length-set, get_or-set_other, get_or-set_same}
 use Rattle.std.proofs.lemmas.List.{set-get_or}
 use mathlib.Core.Option.{some, none}
 use lib.ListN.{get_elem?}
@@ -9,11 +9,11 @@ use Rattle.ca_rows.specs.declared.sizes.Sizes.{Sizes}
 use Rattle.ca_rows.specs.declared.view.Pin.{Pin}
 use Rattle.ca_rows.specs.declared.view.View.{View}
 use Rattle.ca_rows.specs.Laws.{Agrees, Framed, Frames, Pinning}
-use Rattle.ca_rows.specs.Pins.{IsPin, ArePins}
+use Rattle.ca_rows.specs.Pins.{IsPin}
 use Rattle.ca_rows.specs.Rule.{upper_of, pin_of, Ruled}
-use Rattle.ca_rows.specs.Told.{Mine, with_pin, Asked, Announced, Left}
+use Rattle.ca_rows.specs.Told.{Mine, Asked, Announced, Left}
 use Rattle.ca_rows.specs.Words.{epoch, announced}
-use Rattle.ca_rows.proofs.Pinned.{NewPin, pins_step, Repins, repinned}
+use Rattle.ca_rows.proofs.Pinned.{NewPin, pins_step, repinned}
 
 module _ {U : Type 0} (linked lent : List ℕ → ℕ → Type 0) (noted : List ℕ → U → ℕ → Type 0) (fact : Sizes → List ℕ → List U → Type 0) (frames : Frames linked lent noted fact) (z : Sizes) where
   abbrev R : State (Unit {0}) (View U) → Type 0
@@ -122,8 +122,11 @@ module _ {U : Type 0} (linked lent : List ℕ → ℕ → Type 0) (noted : List 
       framed_now = frames z (map upper_of s.views) s.words new_words r.above agrees
 
     module _ (enters leaves : U → U) (law : Pinning linked lent noted fact enters leaves) (lo : 0 < d.pin.number) where
-      announce_step : d.pin.pinned ≡ false → R record { words = set s.words (d.pin.number + 1) (d.pin.told + 1); homes = s.homes;
-          views = set s.views id (record d { pin = record d.pin { pinned = true; moment = epoch s.words }; upper = enters d.upper }) }
+      announce_step : d.pin.pinned ≡ false → R record {
+        words = set s.words (d.pin.number + 1) (d.pin.told + 1);
+        homes = s.homes;
+        views = set s.views id (record d { pin = record d.pin { pinned = true; moment = epoch s.words }; upper = enters d.upper });
+      }
       announce_step un = let e' : Pin = record d.pin { pinned = true; moment = epoch s.words } in stores lo (d.pin.told + 1) e' (enters d.upper)
           record {
             number_is = refl;

@@ -1,24 +1,22 @@
 -- Pins and the epoch through one seat's step.
-use Rattle.std.proofs.Common.{◌≡◌, ◌≢◌, ◌⊎◌, ℕ, ◌+◌, ◌*◌, ◌/◌, ◌%◌, ◌<◌, ◌≤◌, true, false, List, map, get_or, set, sym, refl, ap, ◌∙◌, subst, inl, inr, ⊎_elim, arith, le_refl}
+use Rattle.std.proofs.Common.{◌≡◌, ◌≢◌, ◌⊎◌, ℕ, ◌+◌, ◌*◌, ◌/◌, ◌%◌, ◌<◌, ◌≤◌, true, false, List, map, get_or, set, sym, refl, ap, ◌∙◌, subst, ⊎_elim, arith, le_refl}
 use Rattle.std.proofs.lemmas.List.{map-set}
 use mathlib.Core.Logic.{dite}
-use mathlib.Core.Option.{Option, some, none}
+use mathlib.Core.Option.{some}
 use native.Mathlib.Decide.{ℕ_discrete}
 use lib.ListN.{get_elem?}
 use Rattle.atomic_table.specs.Table.{State}
 use Rattle.atomic_table.proofs.Lists.{at_set, at_map}
 use Rattle.ca_rows.specs.declared.sizes.Sizes.{Sizes}
-use Rattle.ca_rows.specs.declared.view.Claim.{Claim}
 use Rattle.ca_rows.specs.declared.view.Pin.{Pin}
 use Rattle.ca_rows.specs.declared.view.Stage.{Stage}
 use Rattle.ca_rows.specs.declared.view.View.{View}
-use Rattle.ca_rows.specs.Account.{IsRow}
 use Rattle.ca_rows.specs.Chain.{IsStage}
 use Rattle.ca_rows.specs.Claims.{claim_of, claim_at}
 use Rattle.ca_rows.specs.Laws.{Agrees, Framed, Frames}
 use Rattle.ca_rows.specs.Pins.{IsPin, ArePins}
 use Rattle.ca_rows.specs.Rule.{upper_of, pin_of, NotedAt, Knows, Ruled}
-use Rattle.ca_rows.specs.Words.{epoch, announced, head_tag, head_row, next_of}
+use Rattle.ca_rows.specs.Words.{epoch, announced, head_tag, next_of}
 use Rattle.ca_rows.proofs.Accounts.{row_stays}
 use Rattle.ca_rows.proofs.Chains.{chain_stays, stage_stays}
 use Rattle.ca_rows.proofs.Claiming.{claim_mine, claim_others, claim_there}
@@ -80,10 +78,10 @@ module _ (made : ℕ) (words words' : List ℕ) (pins : List Pin) (p : ArePins m
         scan_past = subst (λ m. x.scan ≤ m) (sym n.same_epoch) k.scan_past;
         scanned = λ y i d there low pinned. ⊎_elim
             (λ (t : (i ≡ id) × (e' ≡ d)). let now = y ∙ n.same_epoch in ⊎_elim
-              (λ (m : (e.pinned ≡ true) × (e'.moment ≡ e.moment)). subst (λ z. x.scan ≤ z) (sym m.1 ∙ ap (λ (y : Pin). y.moment) t.1)
-                (k.scanned now id e at (subst (λ z. z ≤ x.upto) (ap (λ (y : Pin). y.number) (sym t.1) ∙ n.number_is) low) m.0))
-              (λ (m : e'.moment ≡ epoch words). subst (λ z. x.scan ≤ z) (now ∙ (sym m ∙ ap (λ (y : Pin). y.moment) t.1)) (le_refl x.scan))
-              (n.moments (ap (λ (y : Pin). y.pinned) t.1 ∙ pinned)))
+            (λ (m : (e.pinned ≡ true) × (e'.moment ≡ e.moment)). subst (λ z. x.scan ≤ z) (sym m.1 ∙ ap (λ (y : Pin). y.moment) t.1)
+            (k.scanned now id e at (subst (λ z. z ≤ x.upto) (ap (λ (y : Pin). y.number) (sym t.1) ∙ n.number_is) low) m.0))
+            (λ (m : e'.moment ≡ epoch words). subst (λ z. x.scan ≤ z) (now ∙ (sym m ∙ ap (λ (y : Pin). y.moment) t.1)) (le_refl x.scan))
+            (n.moments (ap (λ (y : Pin). y.pinned) t.1 ∙ pinned)))
             (λ (t : (i ≢ id) × (get_elem? pins i ≡ some d)). k.scanned (y ∙ n.same_epoch) i d t.1 low pinned) (at_set pins id i e' d there);
       }
         where

@@ -1,8 +1,8 @@
 -- A step of one seat, which the rule above the rows doesn't see, keeps the whole rule.
-use Rattle.std.proofs.Common.{◌≡◌, ◌≢◌, ◌⊎◌, ℕ, ◌+◌, ◌*◌, ◌<◌, ◌≤◌, List, map, length, get_or, set, sym, refl, ap, ◌∙◌, subst, inl, inr, ⊎_elim, arith, le_refl}
+use Rattle.std.proofs.Common.{◌≡◌, ◌≢◌, ◌⊎◌, ℕ, ◌+◌, ◌*◌, ◌<◌, ◌≤◌, List, map, get_or, set, sym, ap, ◌∙◌, subst, ⊎_elim, arith, le_refl}
 use Rattle.std.proofs.lemmas.List.{map-set}
 use mathlib.Core.Logic.{dite}
-use mathlib.Core.Option.{Option, some, none}
+use mathlib.Core.Option.{some}
 use native.Mathlib.Decide.{ℕ_discrete}
 use lib.ListN.{get_elem?}
 use Rattle.atomic_table.specs.Table.{State}
@@ -13,13 +13,13 @@ use Rattle.ca_rows.specs.declared.view.Pin.{Pin}
 use Rattle.ca_rows.specs.declared.view.Stage.{Stage}
 use Rattle.ca_rows.specs.declared.view.View.{View}
 use Rattle.ca_rows.specs.Account.{IsAlone, IsRow}
-use Rattle.ca_rows.specs.Chain.{Owner, Free, Linked, Of, IsChain, IsStage}
+use Rattle.ca_rows.specs.Chain.{Owner, IsChain, IsStage}
 use Rattle.ca_rows.specs.Claims.{claim_of, claim_at}
 use Rattle.ca_rows.specs.Laws.{Agrees, Framed, Frames}
-use Rattle.ca_rows.specs.Pins.{IsPin, ArePins}
+use Rattle.ca_rows.specs.Pins.{ArePins}
 use Rattle.ca_rows.specs.Rule.{upper_of, pin_of, NotedAt, Knows, Ruled}
-use Rattle.ca_rows.specs.Words.{IsWide, epoch, announced, head_tag, head_row, next_of}
-use Rattle.ca_rows.proofs.Accounts.{IsAsItWas, row_stays}
+use Rattle.ca_rows.specs.Words.{epoch}
+use Rattle.ca_rows.proofs.Accounts.{row_stays}
 use Rattle.ca_rows.proofs.Claiming.{claim_mine, claim_others, claim_there}
 
 -- What holds of each seat holds after a step of one.

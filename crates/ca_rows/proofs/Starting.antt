@@ -1,17 +1,15 @@
 -- The words at the start meet the rule.
-use Rattle.std.proofs.Common.{◌≡◌, ◌≢◌, ◌⊎◌, ℕ, zero, suc, ◌+◌, ◌-◌, ◌*◌, ◌/◌, ◌%◌, ◌<◌, ◌≤◌, eqb, cond, true, false, List, [], ◌∷◌, map, length, get_or, sym, refl, ap, ◌∙◌, subst, inl, inr, arith, eq-eqb, ne_eqb}
+use Rattle.std.proofs.Common.{◌≡◌, ◌≢◌, ℕ, zero, suc, ◌+◌, ◌-◌, ◌%◌, ◌<◌, ◌≤◌, eqb, cond, true, false, List, [], ◌∷◌, get_or, sym, refl, ap, ◌∙◌, subst, inr, arith, eq-eqb, ne_eqb}
 use mathlib.Core.Logic.{dite}
-use mathlib.Core.Option.{Option, some, none, some-injective, some-ne-none}
+use mathlib.Core.Option.{some, none, some-injective, some-ne-none}
 use native.Mathlib.Decide.{ℕ_discrete}
 use lib.ListN.{get_elem?}
-use Rattle.atomic_table.specs.Table.{State}
 use Rattle.ca_rows.specs.declared.sizes.Sizes.{Sizes}
-use Rattle.ca_rows.specs.declared.view.Claim.{Claim}
 use Rattle.ca_rows.specs.declared.view.Pin.{Pin}
 use Rattle.ca_rows.specs.declared.view.View.{View}
 use Rattle.ca_rows.specs.Account.{IsRow}
-use Rattle.ca_rows.specs.Chain.{Owner, Free, Linked, Of, IsTop, IsChain, IsStage}
-use Rattle.ca_rows.specs.Claims.{claim_of, claim_at}
+use Rattle.ca_rows.specs.Chain.{Owner, Free, Linked, IsTop, IsChain}
+use Rattle.ca_rows.specs.Claims.{claim_at}
 use Rattle.ca_rows.specs.Laws.{Opened, Opening}
 use Rattle.ca_rows.specs.Opening.{AreInBounds, IsOpening, row_behind}
 use Rattle.ca_rows.specs.Pins.{ArePins, IsPin, unpinned}

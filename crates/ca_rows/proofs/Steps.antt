@@ -1,29 +1,28 @@
 -- Each step of the pool keeps the rule, and tells what it should.
-use Rattle.std.proofs.Common.{◌≡◌, ◌≢◌, ◌⊎◌, ℕ, zero, suc, ◌+◌, ◌*◌, ◌/◌, ◌%◌, ◌<◌, ◌≤◌, eqb, List, [], ◌∷◌, map, length, take, drop, get_or, set, sym, refl, ap, ◌∙◌, subst, inl, inr, ⊎_elim, arith, le_refl, length-set, length-drop, eq-eqb, ne_eqb, get_or-set_other, get_or-set_same}
-use Rattle.std.proofs.lemmas.List.{set-get_or, set-set, get_or-take, get_or-drop, length-take-le}
+use Rattle.std.proofs.Common.{◌≡◌, ◌≢◌, ℕ, zero, suc, ◌+◌, ◌*◌, ◌/◌, ◌%◌, ◌<◌, ◌≤◌, eqb, List, [], ◌∷◌, map, length, take, drop, get_or, set, sym, refl, ap, ◌∙◌, subst, ⊎_elim, arith, le_refl, length-set, length-drop, eq-eqb, ne_eqb, get_or-set_other, get_or-set_same}
+use Rattle.std.proofs.lemmas.List.{set-get_or, get_or-take, get_or-drop, length-take-le}
 use mathlib.Core.Logic.{dite}
-use mathlib.Core.Option.{Option, some, none, some-injective, some-ne-none}
+use mathlib.Core.Option.{some, none, some-injective, some-ne-none}
 use native.Mathlib.Decide.{ℕ_discrete}
 use lib.ListN.{get_elem?}
 use prog.Atomic.{either}
-use Rattle.atomic_table.specs.Table.{State, step, keeps, stepped, Allows}
+use Rattle.atomic_table.specs.Table.{step, keeps, stepped, Allows}
 use Rattle.ca_rows.specs.declared.sizes.Sizes.{Sizes}
 use Rattle.ca_rows.specs.declared.view.Claim.{Claim}
 use Rattle.ca_rows.specs.declared.view.Claim.TheVariants.{Holds}
-use Rattle.ca_rows.specs.declared.view.Claimed.{Claimed}
 use Rattle.ca_rows.specs.declared.view.Stage.{Stage}
 use Rattle.ca_rows.specs.declared.view.Stage.TheVariants.{Idle, Saw, Knew}
 use Rattle.ca_rows.specs.declared.view.View.{View}
-use Rattle.ca_rows.specs.Account.{IsAlone, IsClaim, IsRow}
-use Rattle.ca_rows.specs.Chain.{Owner, Free, Linked, Of, IsTop, IsChain, IsFree, IsStage}
+use Rattle.ca_rows.specs.Account.{IsClaim, IsRow}
+use Rattle.ca_rows.specs.Chain.{Owner, Free, Linked, Of, IsTop, IsStage}
 use Rattle.ca_rows.specs.Claims.{claim_of, claimed, dropped, claim_at}
 use Rattle.ca_rows.specs.Laws.{IsNoted, Agrees, Frames}
-use Rattle.ca_rows.specs.Rule.{upper_of, NotedAt, Knows, Ruled}
-use Rattle.ca_rows.specs.Told.{Mine, with_stage, with_claims, missed, Looked, Peeked, Took, Wrote, Gave}
+use Rattle.ca_rows.specs.Rule.{upper_of, NotedAt}
+use Rattle.ca_rows.specs.Told.{Mine, with_stage, with_claims, Looked, Peeked, Took, Wrote, Gave}
 use Rattle.ca_rows.specs.Words.{IsWide, Spells, head_tag, head_row, next_of}
 use Rattle.ca_rows.proofs.Chains.{put, put_here, put_else, in_head, top_free, top_in_range, chain_stays, chain_takes, chain_gives, stage_stays}
 use Rattle.ca_rows.proofs.Claiming.{claim_mine, claim_others, claim_there, claimed_here, claimed_else, dropped_here, dropped_else}
-use Rattle.ca_rows.proofs.Rules.{St, Rule, uppers, after, Is, Elsewhere, alone_now, keeps_rule}
+use Rattle.ca_rows.proofs.Rules.{St, Rule, uppers, Is, alone_now, keeps_rule}
 
 -- the words of a row
 pub row_of : List ℕ → ℕ → List ℕ
@@ -125,9 +124,13 @@ module _ {U : Type 0} (linked lent : List ℕ → ℕ → Type 0) (noted : List 
         by (Free k) is x = absurd (some-ne-none c (sym here ∙ x.1 id))
         by Linked is x = absurd (some-ne-none c (sym here ∙ x.2 id))
         by (Of i) is x = dite (ℕ_discrete id i)
-            (λ (same : id ≡ i). let w = x.0 in let c' : w.0 ≡ c = some-injective w.0 c (sym w.1 ∙ (ap (λ y. claim_at s.views y q) (sym same) ∙ here)) in
-            (let range = (r.seat id d at).in_range q c e in range.0, (let range = (r.seat id d at).in_range q c e in range.1), is ∙ ap Of (sym same), subst (IsClaim s.words (linked s.words) (lent s.words) (NotedAt noted s.words s.views) q) c' w.2,
-              λ j n. x.1 j (λ f. n (f ∙ sym same))))
+            (λ (same : id ≡ i). let w = x.0 in let c' : w.0 ≡ c = some-injective w.0 c (sym w.1 ∙ (ap (λ y. claim_at s.views y q) (sym same) ∙ here)) in (
+              let range = (r.seat id d at).in_range q c e in range.0,
+              (let range = (r.seat id d at).in_range q c e in range.1),
+              is ∙ ap Of (sym same),
+              subst (IsClaim s.words (linked s.words) (lent s.words) (NotedAt noted s.words s.views) q) c' w.2,
+              λ j n. x.1 j (λ f. n (f ∙ sym same)),
+            ))
             (λ other. absurd (some-ne-none c (sym here ∙ x.1 id other)))
 
     -- Where a seat has a note on a row, a pass that is pinned has.
@@ -153,11 +156,18 @@ module _ {U : Type 0} (linked lent : List ℕ → ℕ → Type 0) (noted : List 
           (put r.owner q (Of id)) m
           (chain_takes z.rows r.owner s.words new_head r.count r.chain q m (Of id) (λ k e. cc) lo hi is count row' (λ c l. head_else s.words _ (136 * c) (omega arith)))
           (λ c l _ n. record { owner_is = put_else r.owner q (Of id) c n; claim_is = claimed_else d.claims q c _ n; words_are = λ _ k _. head_else s.words _ (136 * c + k) (omega arith) })
-          (λ _ _. subst (Is linked lent noted fact frames z s r id d taken at refl refl new_head (head_agrees (uppers linked lent noted fact frames z s) s.words _) q) (sym (put_here r.owner q (Of id) q refl))
-          ((Holds (row_of s.words q), claim_mine s.views id d taken at q ∙ claimed_here d.claims q _,
-            (row_of_long s.words z.rows q r.wide hi, (λ k l. head_else s.words _ (136 * q + k) (omega arith) ∙ row_of_spells s.words q k l),
-              alone_now linked lent noted fact frames z s r id d taken at refl refl new_head (head_agrees (uppers linked lent noted fact frames z s) s.words _) q free.0)),
-            λ j n. claim_others s.views id d taken at j q n ∙ free.1 j))
+          (λ _ _. subst (Is linked lent noted fact frames z s r id d taken at refl refl new_head (head_agrees (uppers linked lent noted fact frames z s) s.words _) q) (sym (put_here r.owner q (Of id) q refl)) (
+            (
+              Holds (row_of s.words q),
+              claim_mine s.views id d taken at q ∙ claimed_here d.claims q _,
+              (
+                row_of_long s.words z.rows q r.wide hi,
+                (λ k l. head_else s.words _ (136 * q + k) (omega arith) ∙ row_of_spells s.words q k l),
+                alone_now linked lent noted fact frames z s r id d taken at refl refl new_head (head_agrees (uppers linked lent noted fact frames z s) s.words _) q free.0,
+              ),
+            ),
+            λ j n. claim_others s.views id d taken at j q n ∙ free.1 j,
+          ))
           (λ _ _. (lo, hi)) (λ c n. claimed_else d.claims q c _ n)
           (stage_stays z.rows r.owner s.words new_head r.count r.chain (put r.owner q (Of id)) (omega arith) (λ e. absurd (omega arith))) tt
 
@@ -198,14 +208,18 @@ module _ {U : Type 0} (linked lent : List ℕ → ℕ → Type 0) (noted : List 
           r.owner r.count
           (chain_stays z.rows r.owner s.words new_words r.count r.chain r.owner (ap (λ n. n % 65536) (low_word 0 (omega arith))) (λ c j _ _ e. (e, free_next c j e)) (λ c j _ _ e. e))
           (λ c _ _ n. record { owner_is = refl; claim_is = claimed_else d.claims q c _ n; words_are = λ _ i l. else_word c i l n })
-          (λ _ _. subst (Is linked lent noted fact frames z s r id d written at refl refl new_words write_agrees q) (sym o.2)
-          ((Holds (set its k v), claim_mine s.views id d written at q ∙ claimed_here d.claims q _,
-            (length-set its k v ∙ o.3.0, spells_now, alone_now linked lent noted fact frames z s r id d written at refl refl new_words write_agrees q o.3.2)),
-            λ j n. claim_others s.views id d written at j q n ∙ o.4 j n))
+          (λ _ _. subst (Is linked lent noted fact frames z s r id d written at refl refl new_words write_agrees q) (sym o.2) (
+            (
+              Holds (set its k v),
+              claim_mine s.views id d written at q ∙ claimed_here d.claims q _,
+              (length-set its k v ∙ o.3.0, spells_now, alone_now linked lent noted fact frames z s r id d written at refl refl new_words write_agrees q o.3.2),
+            ),
+            λ j n. claim_others s.views id d written at j q n ∙ o.4 j n,
+          ))
           (λ _ _. (o.0, o.1)) (λ c n. claimed_else d.claims q c _ n)
           (stage_stays z.rows r.owner s.words new_words r.count r.chain r.owner (subst (λ x. head_tag s.words ≤ x) (sym same_tag) (le_refl (head_tag s.words))) (λ _ c j lo hi e. ((j, lo, hi, e), free_next c j e)))
           (stage_stays z.rows r.owner s.words new_words r.count r.chain r.owner (subst (λ x. head_tag s.words ≤ x) (sym same_tag) (le_refl (head_tag s.words))) (λ _ c j lo hi e. ((j, lo, hi, e), free_next c j e))
-            d.stage (r.seat id d at).stage_is)
+          d.stage (r.seat id d at).stage_is)
         where
           same_tag : head_tag new_words ≡ head_tag s.words
           same_tag = ap (λ n. n / 65536) (low_word 0 (omega arith))
@@ -232,13 +246,14 @@ module _ {U : Type 0} (linked lent : List ℕ → ℕ → Type 0) (noted : List 
           (put r.owner q (Free r.count)) (suc r.count)
           (chain_gives z.rows r.owner s.words head_with r.count r.chain q not_free o.0 hi (ap (λ n. n % 65536) head ∙ parts.1) next' (λ c l _. head_else s.words _ (136 * c) (omega arith)))
           (λ c l _ n. record { owner_is = put_else r.owner q (Free r.count) c n; claim_is = dropped_else d.claims q c n; words_are = λ _ k _. head_else s.words _ (136 * c + k) (omega arith) })
-          (λ _ _. subst (Is linked lent noted fact frames z s r id d given at refl refl head_with agrees q) (sym (put_here r.owner q (Free r.count) q refl))
-          (alone_now linked lent noted fact frames z s r id d given at refl refl head_with agrees q o.3.2,
+          (λ _ _. subst (Is linked lent noted fact frames z s r id d given at refl refl head_with agrees q) (sym (put_here r.owner q (Free r.count) q refl)) (
+            alone_now linked lent noted fact frames z s r id d given at refl refl head_with agrees q o.3.2,
             λ j. dite (ℕ_discrete j id) (λ (e : j ≡ id). ap (λ (x : ℕ). claim_at (set s.views id given) x q) e ∙ (claim_mine s.views id d given at q ∙ dropped_here d.claims q))
-              (λ n. claim_others s.views id d given at j q n ∙ o.4 j n)))
+                (λ n. claim_others s.views id d given at j q n ∙ o.4 j n),
+          ))
           (λ _ _. (o.0, hi)) (λ c n. dropped_else d.claims q c n)
           (stage_stays z.rows r.owner s.words head_with r.count r.chain (put r.owner q (Free r.count)) (subst (λ x. head_tag s.words ≤ x) (sym tag) (le_refl (head_tag s.words)))
-            (λ _ c j lo hi' e. ((j, lo, hi', put_else r.owner q (Free r.count) c (λ f. not_free j (ap r.owner (sym f) ∙ e)) ∙ e), head_else s.words _ (136 * c) (omega arith)))) tt
+          (λ _ c j lo hi' e. ((j, lo, hi', put_else r.owner q (Free r.count) c (λ f. not_free j (ap r.owner (sym f) ∙ e)) ∙ e), head_else s.words _ (136 * c) (omega arith)))) tt
 
   at_hit : (n old new : ℕ) → n ≡ old → either (eqb n old) new n ≡ new
   at_hit n old new e = ap (λ b. either b new n) (eq-eqb n old e)
@@ -260,7 +275,7 @@ module _ {U : Type 0} (linked lent : List ℕ → ℕ → Type 0) (noted : List 
         tt,
         subst (λ (n : ℕ). R (stepped s 0 n id me.1 (taken s r id d at t q x top.0 hit small lo top.2 top.1 top.3 knew.1) keeps)) (sym (at_hit head old new hit)) (take_step s r id d at t q x top.0 hit small lo top.2 top.1 top.3 knew.1),
         λ t' q' x' is'. let same : q ≡ q' = ap (λ (y : ℕ × ℕ × ℕ). y.1) (ap seen_in (sym is ∙ is')) in
-        ((λ _. (ap (claim_of d.claims) (sym same) ∙ (sym (claim_there s.views id d d at q) ∙ (free_row s r id d at q top.0 lo top.2 top.3).1 id), (row_of s.words q, row_of_long s.words z.rows q r.wide top.2, ap (λ y. with_claims me (claimed y (Holds (row_of s.words q)) d.claims)) same))), λ not. absurd (not hit)),
+            ((λ _. (ap (claim_of d.claims) (sym same) ∙ (sym (claim_there s.views id d d at q) ∙ (free_row s r id d at q top.0 lo top.2 top.3).1 id), (row_of s.words q, row_of_long s.words z.rows q r.wide top.2, ap (λ y. with_claims me (claimed y (Holds (row_of s.words q)) d.claims)) same))), λ not. absurd (not hit)),
       ))
       (λ miss. (
         w0,
@@ -278,9 +293,9 @@ module _ {U : Type 0} (linked lent : List ℕ → ℕ → Type 0) (noted : List 
     tt,
     subst (λ (j : ℕ). R record { words = set s.words j v; homes = s.homes; views = set s.views id (written s r id me.0 at q k v its held inside) }) (sym is) (write_step s r id me.0 at q k v its held inside),
     λ q' k' its' is' inside' held'. let same = apart q q' k k' inside inside' (sym is ∙ is') in
-    let claims : Holds its ≡ Holds its' = some-injective (Holds its) (Holds its') (sym held ∙ (ap (claim_of me.0.claims) same.0 ∙ held')) in
-    let its_same : its ≡ its' = cc in
-    ap (λ (y : ℕ × ℕ × List ℕ). (record me.0 { claims = claimed y.0 (Holds (set y.2 y.1 v)) me.0.claims }, me.1)) (λ j. (same.0 j, same.1 j, its_same j)),
+        let claims : Holds its ≡ Holds its' = some-injective (Holds its) (Holds its') (sym held ∙ (ap (claim_of me.0.claims) same.0 ∙ held')) in
+        let its_same : its ≡ its' = cc in
+        ap (λ (y : ℕ × ℕ × List ℕ). (record me.0 { claims = claimed y.0 (Holds (set y.2 y.1 v)) me.0.claims }, me.1)) (λ j. (same.0 j, same.1 j, its_same j)),
   )
 
   pub gives : (slots id : ℕ) (me : Mine U) (t h q : ℕ) (its : List ℕ) → h < 65536 → q < 65536 → claim_of me.0.claims q ≡ some (Holds its) → get_or its 0 0 ≡ h

@@ -1,5 +1,5 @@
 -- A register of one row, for tests: word 130 names the row that is linked. Nobody reads it, and nothing is lent.
-use Rattle.std.proofs.Common.{◌≡◌, ◌==◌, ◌⊎◌, ℕ, ◌<◌, ◌≤◌, cond, List, get_or, inl, sym, ◌∙◌, subst, arith}
+use Rattle.std.proofs.Common.{◌≡◌, ◌==◌, ℕ, ◌<◌, ◌≤◌, cond, List, get_or, inl, sym, ◌∙◌, subst, arith}
 use Rattle.ca_rows.specs.declared.sizes.Sizes.{Sizes}
 use Rattle.ca_rows.specs.Laws.{Frames, Lends, Pinning, Making, Closing, Opening}
 

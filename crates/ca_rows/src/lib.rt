@@ -8,7 +8,6 @@ mod pin;
 mod plays;
 mod rest;
 mod rule;
-mod scratch;
 mod sizes;
 mod space;
 mod taken;

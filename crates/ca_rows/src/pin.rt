@@ -33,8 +33,6 @@ impl<R: RowRule> Space<R> {
         ensures unpinned { pass.new.seat.me ≡ (record pass.old.seat.me.0 { pin = record pass.old.seat.me.0.pin { pinned = false }; upper = R.leaves pass.old.seat.me.0.upper }, pass.old.seat.me.1) }
     {
         let word = pass.number as usize + 1;
-        self.table
-            .shared
-            .store::<Leave<R>>(&mut pass.seat, word, 0);
+        self.table.shared.store::<Leave<R>>(&mut pass.seat, word, 0);
     }
 }

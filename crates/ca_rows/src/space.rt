@@ -62,7 +62,6 @@ impl<R: RowRule> Drop for Pass<R> {
     }
 }
 
-
 impl<R: RowRule> Half<R> {
     fn into_seat(self) -> Seat<(), View<R::Upper>>
         ensures { result ≡ self.seat }
@@ -94,7 +93,9 @@ impl<R: RowRule> Space<R> {
         ensures number { pass.new.number ≡ pass.old.number }
         ensures told { M.then (step self.now.table.shared.table_id.slots word value 0 none) pass.old.seat.me value pass.new.seat.me }
     {
-        self.table.shared.store::<M>(&mut pass.seat, word as usize, value);
+        self.table
+            .shared
+            .store::<M>(&mut pass.seat, word as usize, value);
     }
 
     /// One exchange of a word, where it is `old`; false exactly where it wasn't.
@@ -161,10 +162,16 @@ impl<R: RowRule> Space<R> {
         if tag == (1 << 48) - 1 {
             return Taken::Worn;
         }
-        let next = self.table.shared.load::<Peek>(&mut pass.seat, 136 * row as usize);
+        let next = self
+            .table
+            .shared
+            .load::<Peek>(&mut pass.seat, 136 * row as usize);
         let old = tag * 65_536 + row;
         let new = (tag + 1) * 65_536 + next % 65_536;
-        let found = self.table.shared.compare_exchange::<Take>(&mut pass.seat, 0, old, new);
+        let found = self
+            .table
+            .shared
+            .compare_exchange::<Take>(&mut pass.seat, 0, old, new);
         if found == old {
             Taken::Row(row as u32)
         } else {
@@ -201,6 +208,9 @@ impl<R: RowRule> Space<R> {
         self.write_word(pass, row, 0, first);
         let old = tag * 65_536 + first;
         let new = tag * 65_536 + row as u64;
-        self.table.shared.compare_exchange::<Give>(&mut pass.seat, 0, old, new) == old
+        self.table
+            .shared
+            .compare_exchange::<Give>(&mut pass.seat, 0, old, new)
+            == old
     }
 }

@@ -4,7 +4,7 @@ ghost use Rattle.ca_rows.specs.Calls.{IsOf};
 ghost use Rattle.std.specs.Thread.{IsSync};
 
 use super::*;
-use std::thread::{join, Threads};
+use std::thread::{Threads, join};
 
 // A register: the row that word 130 names is linked.
 struct Register;
@@ -113,11 +113,7 @@ fn take_and_put(space: &Space<Register>, pass: &mut Pass<Register>, value: u64) 
 }
 
 // Does so many times, and gives the pass back with how many rows it holds.
-fn work(
-    space: &Space<Register>,
-    mut pass: Pass<Register>,
-    times: u64,
-) -> (Pass<Register>, u32)
+fn work(space: &Space<Register>, mut pass: Pass<Register>, times: u64) -> (Pass<Register>, u32)
     requires { IsOf space.now.table.shared.table_id space.now.table.shared.key.rows pass.seat }
     ensures { IsOf space.now.table.shared.table_id space.now.table.shared.key.rows result.0.seat }
 {

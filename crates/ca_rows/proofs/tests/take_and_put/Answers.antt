@@ -13,6 +13,8 @@ put_row-requires-clause-held c =
     let row : ℕ = c.in-Row.row in
     let had : claim_of c.take_row.new.pass.seat.me.0.claims row ≡ some (Holds its) =
     ap (λ (m : Mine ℕ). claim_of m.0.claims row) took.2 ∙ claimed_here c.args.pass.now.seat.me.0.claims row (Holds its) in
-    let wrote = c.write_word.ensures.written its had in
-    (set its 5 c.args.value, length-set its 5 c.args.value ∙ took.1,
-      ap (λ (m : Mine ℕ). claim_of m.0.claims row) wrote ∙ claimed_here c.take_row.new.pass.seat.me.0.claims row (Holds (set its 5 c.args.value)))
+    let wrote = c.write_word.ensures.written its had in (
+      set its 5 c.args.value,
+      length-set its 5 c.args.value ∙ took.1,
+      ap (λ (m : Mine ℕ). claim_of m.0.claims row) wrote ∙ claimed_here c.take_row.new.pass.seat.me.0.claims row (Holds (set its 5 c.args.value)),
+    )

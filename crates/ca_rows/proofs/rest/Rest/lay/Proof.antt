@@ -17,7 +17,7 @@ lay_spec 𝓤 𝓛 𝓜 𝓡 wired S V _ _ =
     let hs : Stays En.signature.params En.kept = (stay_dropped (plain (λ _. Lr)) no, tt) in
     proved 𝓛 En hs c 𝓜 𝓡 (Goes-dropped 𝓛 2 (plain (λ _. Lr)) no (λ κs x f. refl), tt) (#self inst) fn (code.unfolded 𝓤 H 𝓜 𝓡 wired (S, (V, tt)))
     (λ κs. ((λ x. token_val ∷ []), tt)) (λ κs. ((λ x vs so. seat_told Row View x vs so), tt)) (λ κs qs bounds a gh are.
-    let x : Lr.Denot = a.0 in let v : Val = token_val in let u : Val = rest_val in 
+    let x : Lr.Denot = a.0 in let v : Val = token_val in let u : Val = rest_val in
     let r : Rr.Denot = record { seat = x } in let y : (walk_of 𝓛 En hs c).Ghost = ((κs, qs, bounds, a, (v ∷ [], tt)), gh) in let Post : Val → SProp 𝓤 = (walk_of 𝓛 En hs c).post y in
     qed 𝓛 ((raw (alive 𝓛 En.signature κs qs) ⊛ ‵ (owns (types_at En.signature.params κs) a y.0.4)) ∷ raw ((c κs a).requires gh) ∷ []) ∵
     split ! $ keep ! (1 ∷ 0 ∷ []) $ feq_i ! (List Val) (u ∷ []) (u ∷ []) refl $ fjoin ! $

@@ -1,4 +1,4 @@
-use Rattle.std.proofs.Common.{rules, ◌≡◌, ◌+◌, ◌<◌, ◌∙◌, ap, sym, subst, arith, ℕ}
+use Rattle.std.proofs.Common.{rules, ◌+◌, ◌<◌, sym, subst, arith, ℕ}
 use Rattle.atomic_table.specs.declared.shared.Seat.{Seat}
 use Rattle.atomic_table.specs.Table.{Splits}
 use Rattle.ca_rows.specs.declared.view.View.{View}
@@ -21,6 +21,6 @@ split_seat-new-requires g c =
       mine.0,
       omega arith,
       subst (λ (id : ℕ). Splits (Ruled g.R.RowRule.linked g.R.RowRule.lent g.R.RowRule.noted g.R.RowRule.fact space.table.shared.key) id seat.me.0
-        (record seat.me.0 { made = seat.me.0.made + 1 }) (fresh seat.me.0.rows (seat.me.0.made + 1) (g.R.RowRule.begins (seat.me.0.made + 1)))) (sym mine.1)
-        (splits g.R.RowRule.linked g.R.RowRule.lent g.R.RowRule.noted g.R.RowRule.fact g.R.RowRule.begins g.met.R.RowRule.making space.table.shared.key seat.me.0 few),
+          (record seat.me.0 { made = seat.me.0.made + 1 }) (fresh seat.me.0.rows (seat.me.0.made + 1) (g.R.RowRule.begins (seat.me.0.made + 1)))) (sym mine.1)
+          (splits g.R.RowRule.linked g.R.RowRule.lent g.R.RowRule.noted g.R.RowRule.fact g.R.RowRule.begins g.met.R.RowRule.making space.table.shared.key seat.me.0 few),
     )

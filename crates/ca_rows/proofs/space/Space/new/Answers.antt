@@ -1,4 +1,4 @@
-use Rattle.std.proofs.Common.{rules, ◌≡◌, sym, subst, List, [], ℕ}
+use Rattle.std.proofs.Common.{rules, sym, subst, List, [], ℕ}
 use Rattle.atomic_table.specs.Table.{opening}
 use Rattle.ca_rows.specs.declared.sizes.Sizes.{Sizes}
 use Rattle.ca_rows.specs.Opening.{AreInBounds, IsOpening}

@@ -1,4 +1,4 @@
-use Rattle.std.proofs.Common.{rules, ◌≡◌, ℕ, ◌*◌, ◌+◌, ◌/◌, ◌%◌, List, set, arith, ap, ◌∙◌, get_or-set_same, length-set}
+use Rattle.std.proofs.Common.{rules, ◌≡◌, ℕ, ◌/◌, ◌%◌, List, set, arith, ap, ◌∙◌, get_or-set_same, length-set}
 use mathlib.Core.Option.{some}
 use Rattle.ca_rows.specs.declared.view.Claim.TheVariants.{Holds}
 use Rattle.ca_rows.specs.Claims.{claim_of}
@@ -28,7 +28,7 @@ compare_exchange-requires g c =
       search rules,
       omega arith,
       gives g.R.RowRule.linked g.R.RowRule.lent g.R.RowRule.noted g.R.RowRule.fact g.met.R.RowRule.frames c.args.self.now.table.shared.key _ _ _ (c.load-head.result / 65536) h c.args.row (set its 0 h)
-        (omega arith) (omega arith) has (get_or-set_same its 0 h 0 (omega arith)),
+          (omega arith) (omega arith) has (get_or-set_same its 0 h 0 (omega arith)),
     )
 
 pub returns-clause-given : goal.returns-clause-given

@@ -1,5 +1,4 @@
-use Rattle.std.proofs.Common.{rules, ℕ, ◌/◌, ◌%◌, ◌≡◌, ◌≢◌, ◌+◌, ◌*◌, ◌∙◌, arith, ap, refl}
-use Rattle.std.proofs.lemmas.Bool.Decides.{nat_tests}
+use Rattle.std.proofs.Common.{rules, ℕ, ◌/◌, ◌%◌, ◌∙◌, arith, ap}
 use Rattle.ca_rows.specs.Told.{Mine}
 use Rattle.ca_rows.proofs.Calling.{row_taken, row_missed, still}
 use Rattle.ca_rows.proofs.Steps.{looks, peeks, takes}
@@ -14,7 +13,7 @@ load-next-requires g c = let sized = c.args.self.now.sized in let few = c.args.s
   search rules,
   (let same = c.requires.own.1 in let some_rows = c.args.self.now.few.0 in let lim = saw.0 (omega arith) in omega arith),
   peeks g.R.RowRule.linked g.R.RowRule.lent g.R.RowRule.noted g.R.RowRule.fact g.met.R.RowRule.frames c.args.self.now.table.shared.key _ _ _ (c.load-head.result / 65536) (c.load-head.result % 65536)
-    (ap (λ (m : Mine g.row.R-Upper.Denot). m.0.stage) saw.1) (omega arith),
+      (ap (λ (m : Mine g.row.R-Upper.Denot). m.0.stage) saw.1) (omega arith),
 )
 
 pub compare_exchange-found-requires : goal.compare_exchange-found-requires
@@ -23,7 +22,7 @@ compare_exchange-found-requires g c = let sized = c.args.self.now.sized in let s
       search rules,
       omega arith,
       takes g.R.RowRule.linked g.R.RowRule.lent g.R.RowRule.noted g.R.RowRule.fact g.met.R.RowRule.frames c.args.self.now.table.shared.key _ _ _ (c.load-head.result / 65536) (c.load-head.result % 65536) c.load-next.result
-        (ap (λ (m : Mine g.row.R-Upper.Denot). m.0.stage) next) (omega arith) (omega arith),
+          (ap (λ (m : Mine g.row.R-Upper.Denot). m.0.stage) next) (omega arith) (omega arith),
     )
 
 pub returns-then-found-old-clause-row : goal.returns-then-found-old-clause-row

@@ -1,4 +1,4 @@
-use Rattle.std.proofs.Common.{rules, ◌≡◌, ◌+◌, sym, ap, arith, ℕ}
+use Rattle.std.proofs.Common.{rules, ◌+◌, arith}
 use Rattle.ca_rows.proofs.PinSteps.{unpins}
 use Rattle.ca_rows.proofs.space.Space.unpin.Goals as goal
 
@@ -12,5 +12,5 @@ store-requires g c =
       search rules,
       omega arith,
       unpins g.R.RowRule.linked g.R.RowRule.lent g.R.RowRule.noted g.R.RowRule.fact g.met.R.RowRule.frames c.args.self.now.table.shared.key g.R.RowRule.enters g.R.RowRule.leaves g.met.R.RowRule.pinning
-        _ _ _ (c.args.pass.now.number + 1) (omega arith) (omega arith),
+          _ _ _ (c.args.pass.now.number + 1) (omega arith) (omega arith),
     )

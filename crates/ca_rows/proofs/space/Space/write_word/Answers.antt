@@ -1,4 +1,4 @@
-use Rattle.std.proofs.Common.{rules, arith, ap, refl}
+use Rattle.std.proofs.Common.{rules, arith, refl}
 use Rattle.ca_rows.proofs.Calling.{still}
 use Rattle.ca_rows.proofs.Steps.{writes}
 use Rattle.ca_rows.proofs.space.Space.write_word.Goals as goal
