@@ -2,6 +2,7 @@ mod Accounts
 mod Calling
 mod Chains
 mod Claiming
+mod Closing
 mod Making
 mod PinSteps
 mod Pinned

@@ -2,6 +2,7 @@ pub mod Account
 pub mod Calls
 pub mod Chain
 pub mod Claims
+pub mod Closed
 pub mod Laws
 pub mod Opening
 pub mod Owned

@@ -1,6 +1,7 @@
 //! Rows of words that passes share without a lock: a pool of free rows, and whose each row is.
 #![tactic(auto)]
 
+mod close;
 mod fault;
 mod make;
 mod opening;
@@ -12,6 +13,7 @@ mod sizes;
 mod space;
 mod taken;
 mod view;
+mod words;
 
 pub use fault::RowsFault;
 pub use rule::{RowRule, Rows};
@@ -19,6 +21,7 @@ pub use sizes::{Sizes, Starts};
 pub use space::{Half, Pass, Space};
 pub use taken::Taken;
 pub use view::{Claim, Claimed, Pin, Stage, View};
+pub use words::Words;
 
 #[cfg(test)]
 mod tests;

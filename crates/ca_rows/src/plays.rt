@@ -1,11 +1,12 @@
 //! What each step of the rows tells.
 ghost use Rattle.std.specs.Prelude.{◌+◌};
+ghost use Rattle.ca_rows.specs.Closed.{joined};
 ghost use Rattle.ca_rows.specs.Rule.{fresh};
 ghost use Rattle.ca_rows.specs.Told.{Looked, Peeked, Took, Wrote, Gave, Asked, Announced, Left};
 
 use crate::rule::RowRule;
 use crate::view::View;
-use atomic_table::{Play, Split};
+use atomic_table::{Join, Play, Split};
 use std::marker::PhantomData;
 
 /// A load of the pool's head.
@@ -77,4 +78,15 @@ pub struct Leave<R> {
 
 impl<R: RowRule> Play<(), View<R::Upper>> for Leave<R> {
     ghost then = { Left R.leaves };
+}
+
+/// The step that joins a pass's seat into the space's own one.
+pub struct Close<R> {
+    rule: PhantomData<R>,
+}
+
+impl<R: RowRule> Join<View<R::Upper>> for Close<R> {
+    ghost both = { joined R.both };
+
+    ghost spent = { fresh 0 0 R.spent };
 }

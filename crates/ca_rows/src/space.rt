@@ -28,6 +28,7 @@ pub struct Space<R: RowRule> {
     pub(crate) made: u32,
     pub ghost same: { sizes ≡ table.shared.key },
     pub ghost sized: { table.shared.table_id.words ≡ 136 * table.shared.key.rows + 136 },
+    pub ghost no_slots: { table.shared.table_id.slots ≡ 0 },
     pub ghost few: { (0 < table.shared.key.rows) × (table.shared.key.rows < 65536) },
     pub ghost passes: { (made ≤ sizes.passes) × (sizes.passes ≤ 64) },
     pub ghost has: { IsSome own },
@@ -59,6 +60,35 @@ impl<R: RowRule> Drop for Space<R> {
 impl<R: RowRule> Drop for Pass<R> {
     fn drop(self) {
         let Self { seat: _, number: _ } = self;
+    }
+}
+
+impl<R: RowRule> Space<R> {
+    // The table and the space's own seat.
+    pub(crate) fn into_parts(
+        self,
+    ) -> (
+        Table<(), View<R::Upper>, Sizes, Rows<R>, Global>,
+        Option<Rest<(), View<R::Upper>>>,
+    )
+        ensures { (result.0 ≡ self.table) × (result.1 ≡ self.own) }
+    {
+        let Self {
+            table,
+            own,
+            sizes: _,
+            made: _,
+        } = self;
+        (table, own)
+    }
+}
+
+impl<R: RowRule> Pass<R> {
+    pub(crate) fn into_seat(self) -> Seat<(), View<R::Upper>>
+        ensures { result ≡ self.seat }
+    {
+        let Self { seat, number: _ } = self;
+        seat
     }
 }
 

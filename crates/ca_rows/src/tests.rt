@@ -160,3 +160,36 @@ fn no_row_is_lost_between_two_threads(rt: HostRuntime) {
     let (held, free) = work_both(&rt, &space, first, second);
     assert_eq!(rt; free, 383_u32.checked_sub(held));
 }
+
+#[test]
+fn a_pass_pins_and_unpins(rt: HostRuntime) {
+    let Ok(mut space) = Space::<Register>::new(rt.alloc(), 384, 1, 1, 120, 4096, STARTS) else {
+        panic!(rt; "no memory")
+    };
+    let Ok(mut pass) = space.enroll() else {
+        panic!(rt; "no pass")
+    };
+    space.pin(&mut pass);
+    space.unpin(&mut pass);
+    assert_eq!(rt; pass.number(), 1);
+}
+
+#[test]
+fn begins_with_these_words(rt: HostRuntime) {
+    let Ok(space) = Space::<Register>::new(rt.alloc(), 384, 2, 1, 120, 4096, STARTS) else {
+        panic!(rt; "no memory")
+    };
+    let words = space.close(Vec::new(rt.alloc()));
+    for (word, value) in [
+        (0, 2),
+        (1, 0),
+        (130, 1),
+        (2 * 136, 3),
+        (383 * 136, 384),
+        (384 * 136, 0),
+    ] {
+        if word < 52_360 {
+            assert_eq!(rt; words.at(word), value, "in {word}");
+        }
+    }
+}
