@@ -1,0 +1,12 @@
+mod Accounts
+mod Calling
+mod Chains
+mod Claiming
+mod Closing
+mod Making
+mod PinSteps
+mod Pinned
+mod Resting
+mod Rules
+mod Starting
+mod Steps

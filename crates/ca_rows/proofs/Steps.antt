@@ -1,0 +1,318 @@
+-- Each step of the pool keeps the rule, and tells what it should.
+use Rattle.std.proofs.Common.{◌≡◌, ◌≢◌, ℕ, zero, suc, ◌+◌, ◌*◌, ◌/◌, ◌%◌, ◌<◌, ◌≤◌, eqb, List, [], ◌∷◌, map, length, take, drop, get_or, set, sym, refl, ap, ◌∙◌, subst, ⊎_elim, arith, le_refl, length-set, length-drop, eq-eqb, ne_eqb, get_or-set_other, get_or-set_same}
+use Rattle.std.proofs.lemmas.List.{set-get_or, get_or-take, get_or-drop, length-take-le}
+use mathlib.Core.Logic.{dite}
+use mathlib.Core.Option.{some, none, some-injective, some-ne-none}
+use native.Mathlib.Decide.{ℕ_discrete}
+use lib.ListN.{get_elem?}
+use prog.Atomic.{either}
+use Rattle.atomic_table.specs.Table.{step, keeps, stepped, Allows}
+use Rattle.ca_rows.specs.declared.sizes.Sizes.{Sizes}
+use Rattle.ca_rows.specs.declared.view.Claim.{Claim}
+use Rattle.ca_rows.specs.declared.view.Claim.TheVariants.{Holds}
+use Rattle.ca_rows.specs.declared.view.Stage.{Stage}
+use Rattle.ca_rows.specs.declared.view.Stage.TheVariants.{Idle, Saw, Knew}
+use Rattle.ca_rows.specs.declared.view.View.{View}
+use Rattle.ca_rows.specs.Account.{IsClaim, IsRow}
+use Rattle.ca_rows.specs.Chain.{Owner, Free, Linked, Of, IsTop, IsStage}
+use Rattle.ca_rows.specs.Claims.{claim_of, claimed, dropped, claim_at}
+use Rattle.ca_rows.specs.Laws.{IsNoted, Agrees, Frames}
+use Rattle.ca_rows.specs.Rule.{upper_of, NotedAt}
+use Rattle.ca_rows.specs.Told.{Mine, with_stage, with_claims, Looked, Peeked, Took, Wrote, Gave}
+use Rattle.ca_rows.specs.Words.{IsWide, Spells, head_tag, head_row, next_of}
+use Rattle.ca_rows.proofs.Chains.{put, put_here, put_else, in_head, top_free, top_in_range, chain_stays, chain_takes, chain_gives, stage_stays}
+use Rattle.ca_rows.proofs.Claiming.{claim_mine, claim_others, claim_there, claimed_here, claimed_else, dropped_here, dropped_else}
+use Rattle.ca_rows.proofs.Rules.{St, Rule, uppers, Is, alone_now, keeps_rule}
+
+-- the words of a row
+pub row_of : List ℕ → ℕ → List ℕ
+row_of words r = take 136 (drop (136 * r) words)
+
+row_of_spells : (words : List ℕ) (r : ℕ) → Spells words r (row_of words r)
+unfolding row_of
+row_of_spells words r k l = sym (get_or-take 136 (drop (136 * r) words) k 0 l ∙ get_or-drop (136 * r) words k 0)
+
+row_of_long : (words : List ℕ) (rows r : ℕ) → IsWide rows words → r ≤ rows → length (row_of words r) ≡ 136
+unfolding row_of
+row_of_long words rows r wide hi = length-take-le 136 (drop (136 * r) words) (omega (arith, length-drop (136 * r) words))
+
+-- The place of a word tells its row and its index.
+apart : (r q k i : ℕ) → k < 136 → i < 136 → 136 * r + k ≡ 136 * q + i → (r ≡ q) × (k ≡ i)
+apart r q k i a b e = (omega arith, omega arith)
+
+at_map_back : {A B : Type 0} (f : A → B) (l : List A) (i : ℕ) (b : B) → get_elem? (map f l) i ≡ some b → (a : A) × (get_elem? l i ≡ some a) × (f a ≡ b)
+at_map_back f [] i b e = absurd (some-ne-none b (sym e))
+at_map_back f (x ∷ xs) zero b e = (x, refl, some-injective (f x) b e)
+at_map_back f (x ∷ xs) (suc i) b e = at_map_back f xs i b e
+
+module _ {U : Type 0} (linked lent : List ℕ → ℕ → Type 0) (noted : List ℕ → U → ℕ → Type 0) (fact : Sizes → List ℕ → List U → Type 0) (frames : Frames linked lent noted fact) (z : Sizes) where
+  abbrev S : Type 0
+  S = St linked lent noted fact frames z
+
+  abbrev R : S → Type 0
+  R = Rule linked lent noted fact frames z
+
+  nothing : (us : List U) (words : List ℕ) → Agrees linked lent noted fact us words words
+  nothing us words = record { wide = refl; control = λ i _ _. refl; seen = λ r k _ _ _. refl }
+
+  -- A load after which the seat knows something else of the head, or counts a loss.
+  loaded : (s : S) (r : R s) (i id : ℕ) (d : View U) (st : Stage) (lost : ℕ) → get_elem? s.views id ≡ some d → IsStage z.rows r.owner s.words st
+      → R record { words = set s.words i (get_or s.words i 0); homes = s.homes; views = set s.views id (record d { stage = st; lost = lost }) }
+  loaded s r i id d st lost at ok = let w : View U = record d { stage = st; lost = lost } in
+      subst (λ (ws : List ℕ). R record { words = ws; homes = s.homes; views = set s.views id w }) (sym (set-get_or s.words i 0))
+      (keeps_rule linked lent noted fact frames z s r id d w at refl refl s.words (nothing (uppers linked lent noted fact frames z s) s.words) (λ i _ _. refl) refl refl 0
+      r.owner r.count r.chain (λ c _ _ _. record { owner_is = refl; claim_is = refl; words_are = λ _ _ _. refl }) (λ lo _. absurd (omega arith)) (λ c e. absurd (let x = (r.seat id d at).in_range 0 c e in let y = x.0 in omega arith))
+      (λ _ _. refl) (λ _ k. k) ok)
+
+  pub looks : (slots id : ℕ) (me : Mine U) → Allows R slots id me 0 (λ x. x) (Looked (step slots 0 0 0 none) me)
+  looks slots id me s r _ at small = let x : ℕ = get_or s.words 0 0 in (
+    record me.0 { stage = Saw (x / 65536) (x % 65536) },
+    keeps,
+    tt,
+    loaded s r 0 id me.0 (Saw (x / 65536) (x % 65536)) me.0.lost at (le_refl (x / 65536), λ _ lo. let t = top_free z.rows r.owner r.count (x % 65536) lo r.chain.top in (t.0, lo, t.2, t.3)),
+    (λ known. let top = top_in_range z.rows r.owner r.count (x % 65536) r.chain.top in ⊎_elim (λ (e : me.0.rows ≡ 0). absurd (omega arith)) (λ (e : me.0.rows ≡ z.rows). subst (λ y. x % 65536 ≤ y) (sym e) top) (r.seat id me.0 at).rows_are, refl),
+  )
+
+  abbrev seen_in : Stage → ℕ × ℕ × ℕ
+  seen_in Idle = (0, 0, 0)
+  seen_in (Saw t q) = (t, q, 0)
+  seen_in (Knew t q x) = (t, q, x)
+
+  pub peeks : (slots id : ℕ) (me : Mine U) (t q : ℕ) → me.0.stage ≡ Saw t q → 0 < q → Allows R slots id me (136 * q) (λ x. x) (Peeked (step slots (136 * q) 0 0 none) me)
+  peeks slots id me t q is lo s r _ at small = let x : ℕ = get_or s.words (136 * q) 0 in let k = subst (IsStage z.rows r.owner s.words) is (r.seat id me.0 at).stage_is in (
+    record me.0 { stage = Knew t q x },
+    keeps,
+    tt,
+    loaded s r (136 * q) id me.0 (Knew t q x) me.0.lost at (k.0, λ e. (k.1 e lo, refl)),
+    λ t' q' is'. ap (λ (y : ℕ × ℕ × ℕ). with_stage me (Knew y.0 y.1 x)) (ap seen_in (sym is ∙ is')),
+  )
+
+  -- An exchange of the head that was lost.
+  misses : (s : S) (r : R s) (id : ℕ) (d : View U) → get_elem? s.views id ≡ some d
+      → R record { words = set s.words 0 (get_or s.words 0 0); homes = s.homes; views = set s.views id (record d { stage = Idle; lost = d.lost + 1 }) }
+  misses s r id d at = loaded s r 0 id d Idle (d.lost + 1) at tt
+
+  head_agrees : (us : List U) (words : List ℕ) (x : ℕ) → Agrees linked lent noted fact us words (set words 0 x)
+  head_agrees us words x = record {
+    wide = length-set words 0 x;
+    control = λ i lo hi. get_or-set_other words 0 i x 0 (λ e. omega arith);
+    seen = λ r k lo _ _. get_or-set_other words 0 (136 * r + k) x 0 (λ e. omega arith);
+  }
+
+  head_else : (words : List ℕ) (x i : ℕ) → 0 < i → get_or (set words 0 x) i 0 ≡ get_or words i 0
+  head_else words x i l = get_or-set_other words 0 i x 0 (λ e. omega arith)
+
+  head_is : (s : S) (r : R s) (x : ℕ) → get_or (set s.words 0 x) 0 0 ≡ x
+  head_is s r x = let w = r.wide in get_or-set_same s.words 0 x 0 (omega arith)
+
+  -- Nobody's row but a free one has no claim: the account of a row that is free.
+  module _ (s : S) (r : R s) (id : ℕ) (d : View U) (at : get_elem? s.views id ≡ some d) where
+    free_row : (q k : ℕ) → 0 < q → q ≤ z.rows → r.owner q ≡ Free k
+        → IsRow s.words (linked s.words) (lent s.words) (NotedAt noted s.words s.views) (claim_at s.views) q (Free k)
+    free_row q k lo hi is = subst (IsRow s.words (linked s.words) (lent s.words) (NotedAt noted s.words s.views) (claim_at s.views) q) is (r.row q lo hi)
+
+    -- The row that a seat claims is its own.
+    pub owned : (q : ℕ) (c : Claim) → claim_of d.claims q ≡ some c → (0 < q) × (q ≤ z.rows) × (r.owner q ≡ Of id)
+        × IsClaim s.words (linked s.words) (lent s.words) (NotedAt noted s.words s.views) q c × ((j : ℕ) → j ≢ id → claim_at s.views j q ≡ none)
+    owned q c e = let range = (r.seat id d at).in_range q c e in by (r.owner q) refl (r.row q range.0 range.1)
+      where
+        here : claim_at s.views id q ≡ some c
+        here = claim_there s.views id d d at q ∙ e
+
+        by : (o : Owner) → r.owner q ≡ o → IsRow s.words (linked s.words) (lent s.words) (NotedAt noted s.words s.views) (claim_at s.views) q o → (0 < q) × (q ≤ z.rows) × (r.owner q ≡ Of id)
+            × IsClaim s.words (linked s.words) (lent s.words) (NotedAt noted s.words s.views) q c × ((j : ℕ) → j ≢ id → claim_at s.views j q ≡ none)
+        by (Free k) is x = absurd (some-ne-none c (sym here ∙ x.1 id))
+        by Linked is x = absurd (some-ne-none c (sym here ∙ x.2 id))
+        by (Of i) is x = dite (ℕ_discrete id i)
+            (λ (same : id ≡ i). let w = x.0 in let c' : w.0 ≡ c = some-injective w.0 c (sym w.1 ∙ (ap (λ y. claim_at s.views y q) (sym same) ∙ here)) in (
+              let range = (r.seat id d at).in_range q c e in range.0,
+              (let range = (r.seat id d at).in_range q c e in range.1),
+              is ∙ ap Of (sym same),
+              subst (IsClaim s.words (linked s.words) (lent s.words) (NotedAt noted s.words s.views) q) c' w.2,
+              λ j n. x.1 j (λ f. n (f ∙ sym same)),
+            ))
+            (λ other. absurd (some-ne-none c (sym here ∙ x.1 id other)))
+
+    -- Where a seat has a note on a row, a pass that is pinned has.
+    noted_at : (q : ℕ) → IsNoted linked lent noted fact s.words (uppers linked lent noted fact frames z s) q → (m : ℕ) × NotedAt noted s.words s.views m q
+    noted_at q n = let x = at_map_back upper_of s.views n.0 n.1 n.2 in (x.0.pin.moment, record { seat = n.0; d = x.0; here = x.1; note = subst (λ (u : U). noted s.words u q) (sym x.2) n.3; at = refl })
+
+    module _ (t q x m : ℕ) (found : get_or s.words 0 0 ≡ t * 65536 + q) (small : q < 65536) (lo : 0 < q) (hi : q ≤ z.rows) (count : r.count ≡ suc m) (is : r.owner q ≡ Free m) (next : next_of s.words q ≡ x) where
+      abbrev taken : View U
+      taken = record d { stage = Idle; claims = claimed q (Holds (row_of s.words q)) d.claims }
+
+      abbrev new_head : List ℕ
+      new_head = set s.words 0 ((t + 1) * 65536 + x % 65536)
+
+      take_step : R record { words = new_head; homes = s.homes; views = set s.views id taken }
+      take_step = let few = r.few in let free = free_row q m lo hi is in
+          let x_in : x ≤ z.rows = subst (λ y. y ≤ z.rows) next (top_in_range z.rows r.owner m (next_of s.words q) (r.chain.below q m lo hi is).1) in
+          let head : get_or new_head 0 0 ≡ (t + 1) * 65536 + x % 65536 = head_is s r ((t + 1) * 65536 + x % 65536) in
+          let parts = in_head (t + 1) (x % 65536) (omega arith) in
+          let tag : head_tag s.words ≡ t = ap (λ n. n / 65536) found ∙ (in_head t q small).0 in
+          let tag' : head_tag new_head ≡ t + 1 = ap (λ n. n / 65536) head ∙ parts.0 in
+          let row' : head_row new_head ≡ next_of s.words q = ap (λ n. n % 65536) head ∙ (parts.1 ∙ (omega arith ∙ sym next)) in
+          keeps_rule linked lent noted fact frames z s r id d taken at refl refl new_head (head_agrees (uppers linked lent noted fact frames z s) s.words _) (λ i l _. head_else s.words _ i l) refl refl q
+          (put r.owner q (Of id)) m
+          (chain_takes z.rows r.owner s.words new_head r.count r.chain q m (Of id) (λ k e. cc) lo hi is count row' (λ c l. head_else s.words _ (136 * c) (omega arith)))
+          (λ c l _ n. record { owner_is = put_else r.owner q (Of id) c n; claim_is = claimed_else d.claims q c _ n; words_are = λ _ k _. head_else s.words _ (136 * c + k) (omega arith) })
+          (λ _ _. subst (Is linked lent noted fact frames z s r id d taken at refl refl new_head (head_agrees (uppers linked lent noted fact frames z s) s.words _) q) (sym (put_here r.owner q (Of id) q refl)) (
+            (
+              Holds (row_of s.words q),
+              claim_mine s.views id d taken at q ∙ claimed_here d.claims q _,
+              (
+                row_of_long s.words z.rows q r.wide hi,
+                (λ k l. head_else s.words _ (136 * q + k) (omega arith) ∙ row_of_spells s.words q k l),
+                alone_now linked lent noted fact frames z s r id d taken at refl refl new_head (head_agrees (uppers linked lent noted fact frames z s) s.words _) q free.0,
+              ),
+            ),
+            λ j n. claim_others s.views id d taken at j q n ∙ free.1 j,
+          ))
+          (λ _ _. (lo, hi)) (λ c n. claimed_else d.claims q c _ n)
+          (stage_stays z.rows r.owner s.words new_head r.count r.chain (put r.owner q (Of id)) (omega arith) (λ e. absurd (omega arith))) tt
+
+    -- A row that the seat holds is written.
+    module _ (q k v : ℕ) (its : List ℕ) (held : claim_of d.claims q ≡ some (Holds its)) (inside : k < 136) where
+      abbrev written : View U
+      written = record d { claims = claimed q (Holds (set its k v)) d.claims }
+
+      abbrev new_words : List ℕ
+      new_words = set s.words (136 * q + k) v
+
+      else_word : (c i : ℕ) → i < 136 → c ≢ q → get_or new_words (136 * c + i) 0 ≡ get_or s.words (136 * c + i) 0
+      else_word c i l n = get_or-set_other s.words (136 * q + k) (136 * c + i) v 0 (λ e. n (apart c q i k l inside e).0)
+
+      low_word : (i : ℕ) → i < 136 → get_or new_words i 0 ≡ get_or s.words i 0
+      low_word i l = let o = owned q (Holds its) held in let some_q = o.0 in get_or-set_other s.words (136 * q + k) i v 0 (λ e. omega arith)
+
+      write_agrees : Agrees linked lent noted fact (uppers linked lent noted fact frames z s) s.words new_words
+      write_agrees = let o = owned q (Holds its) held in let alone = o.3.2 in record {
+        wide = length-set s.words (136 * q + k) v;
+        control = λ i _ l. low_word i l;
+        seen = λ c i _ who l. else_word c i l (λ (e : c ≡ q). ⊎_elim (λ (y : linked s.words c). alone.0 (subst (linked s.words) e y))
+            (λ (y : IsNoted linked lent noted fact s.words (uppers linked lent noted fact frames z s) c). let n = noted_at c y in alone.1 n.0 (subst (NotedAt noted s.words s.views n.0) e n.1)) who);
+      }
+
+      free_next : (c j : ℕ) → r.owner c ≡ Free j → next_of new_words c ≡ next_of s.words c
+      free_next c j is = let o = owned q (Holds its) held in let n : c ≢ q = λ f. let y : Of id ≡ Free j = sym o.2 ∙ (ap r.owner (sym f) ∙ is) in cc in
+          let zero_is : 136 * c + 0 ≡ 136 * c = omega arith in subst (λ i. get_or new_words i 0 ≡ get_or s.words i 0) zero_is (else_word c 0 (omega arith) n)
+
+      spells_now : Spells new_words q (set its k v)
+      spells_now i l = let o = owned q (Holds its) held in let hi = o.1 in let wide = r.wide in let long : length its ≡ 136 = o.3.0 in dite (ℕ_discrete i k)
+          (λ (e : i ≡ k). ap (λ (j : ℕ). get_or new_words (136 * q + j) 0) e ∙ (get_or-set_same s.words (136 * q + k) v 0 (omega arith) ∙ sym (ap (λ (j : ℕ). get_or (set its k v) j 0) e ∙ get_or-set_same its k v 0 (omega arith))))
+          (λ n. get_or-set_other s.words (136 * q + k) (136 * q + i) v 0 (λ e. n (omega arith)) ∙ (o.3.1 i l ∙ sym (get_or-set_other its k i v 0 n)))
+
+      write_step : R record { words = new_words; homes = s.homes; views = set s.views id written }
+      write_step = let o = owned q (Holds its) held in
+          keeps_rule linked lent noted fact frames z s r id d written at refl refl new_words write_agrees (λ i _ l. low_word i (omega arith)) refl refl q
+          r.owner r.count
+          (chain_stays z.rows r.owner s.words new_words r.count r.chain r.owner (ap (λ n. n % 65536) (low_word 0 (omega arith))) (λ c j _ _ e. (e, free_next c j e)) (λ c j _ _ e. e))
+          (λ c _ _ n. record { owner_is = refl; claim_is = claimed_else d.claims q c _ n; words_are = λ _ i l. else_word c i l n })
+          (λ _ _. subst (Is linked lent noted fact frames z s r id d written at refl refl new_words write_agrees q) (sym o.2) (
+            (
+              Holds (set its k v),
+              claim_mine s.views id d written at q ∙ claimed_here d.claims q _,
+              (length-set its k v ∙ o.3.0, spells_now, alone_now linked lent noted fact frames z s r id d written at refl refl new_words write_agrees q o.3.2),
+            ),
+            λ j n. claim_others s.views id d written at j q n ∙ o.4 j n,
+          ))
+          (λ _ _. (o.0, o.1)) (λ c n. claimed_else d.claims q c _ n)
+          (stage_stays z.rows r.owner s.words new_words r.count r.chain r.owner (subst (λ x. head_tag s.words ≤ x) (sym same_tag) (le_refl (head_tag s.words))) (λ _ c j lo hi e. ((j, lo, hi, e), free_next c j e)))
+          (stage_stays z.rows r.owner s.words new_words r.count r.chain r.owner (subst (λ x. head_tag s.words ≤ x) (sym same_tag) (le_refl (head_tag s.words))) (λ _ c j lo hi e. ((j, lo, hi, e), free_next c j e))
+          d.stage (r.seat id d at).stage_is)
+        where
+          same_tag : head_tag new_words ≡ head_tag s.words
+          same_tag = ap (λ n. n / 65536) (low_word 0 (omega arith))
+
+    -- A row that the seat holds, whose first word names the free row at the head, is put on top.
+    module _ (t h q : ℕ) (its : List ℕ) (found : get_or s.words 0 0 ≡ t * 65536 + h) (small : h < 65536) (held : claim_of d.claims q ≡ some (Holds its)) (next : get_or its 0 0 ≡ h) where
+      abbrev given : View U
+      given = record d { stage = Idle; claims = dropped q d.claims }
+
+      abbrev head_with : List ℕ
+      head_with = set s.words 0 (t * 65536 + q)
+
+      give_step : R record { words = head_with; homes = s.homes; views = set s.views id given }
+      give_step = let o = owned q (Holds its) held in let few = r.few in let hi = o.1 in
+          let head : get_or head_with 0 0 ≡ t * 65536 + q = head_is s r (t * 65536 + q) in
+          let parts = in_head t q (omega arith) in
+          let tag : head_tag head_with ≡ head_tag s.words = ap (λ n. n / 65536) head ∙ (parts.0 ∙ sym (ap (λ n. n / 65536) found ∙ (in_head t h small).0)) in
+          let zero_is : 136 * q + 0 ≡ 136 * q = omega arith in
+          let its_next : next_of s.words q ≡ get_or its 0 0 = subst (λ i. get_or s.words i 0 ≡ get_or its 0 0) zero_is (o.3.1 0 (omega arith)) in
+          let next' : next_of head_with q ≡ head_row s.words = head_else s.words _ (136 * q) (let some_q = o.0 in omega arith) ∙ (its_next ∙ (next ∙ sym (ap (λ n. n % 65536) found ∙ (in_head t h small).1))) in
+          let not_free : (k : ℕ) → r.owner q ≢ Free k = λ k e. let y : Of id ≡ Free k = sym o.2 ∙ e in cc in
+          let agrees = head_agrees (uppers linked lent noted fact frames z s) s.words (t * 65536 + q) in
+          keeps_rule linked lent noted fact frames z s r id d given at refl refl head_with agrees (λ i l _. head_else s.words _ i l) refl refl q
+          (put r.owner q (Free r.count)) (suc r.count)
+          (chain_gives z.rows r.owner s.words head_with r.count r.chain q not_free o.0 hi (ap (λ n. n % 65536) head ∙ parts.1) next' (λ c l _. head_else s.words _ (136 * c) (omega arith)))
+          (λ c l _ n. record { owner_is = put_else r.owner q (Free r.count) c n; claim_is = dropped_else d.claims q c n; words_are = λ _ k _. head_else s.words _ (136 * c + k) (omega arith) })
+          (λ _ _. subst (Is linked lent noted fact frames z s r id d given at refl refl head_with agrees q) (sym (put_here r.owner q (Free r.count) q refl)) (
+            alone_now linked lent noted fact frames z s r id d given at refl refl head_with agrees q o.3.2,
+            λ j. dite (ℕ_discrete j id) (λ (e : j ≡ id). ap (λ (x : ℕ). claim_at (set s.views id given) x q) e ∙ (claim_mine s.views id d given at q ∙ dropped_here d.claims q))
+                (λ n. claim_others s.views id d given at j q n ∙ o.4 j n),
+          ))
+          (λ _ _. (o.0, hi)) (λ c n. dropped_else d.claims q c n)
+          (stage_stays z.rows r.owner s.words head_with r.count r.chain (put r.owner q (Free r.count)) (subst (λ x. head_tag s.words ≤ x) (sym tag) (le_refl (head_tag s.words)))
+          (λ _ c j lo hi' e. ((j, lo, hi', put_else r.owner q (Free r.count) c (λ f. not_free j (ap r.owner (sym f) ∙ e)) ∙ e), head_else s.words _ (136 * c) (omega arith)))) tt
+
+  at_hit : (n old new : ℕ) → n ≡ old → either (eqb n old) new n ≡ new
+  at_hit n old new e = ap (λ b. either b new n) (eq-eqb n old e)
+
+  at_miss : (n old new : ℕ) → n ≢ old → either (eqb n old) new n ≡ n
+  at_miss n old new e = ap (λ b. either b new n) (ne_eqb n old e)
+
+  pub takes : (slots id : ℕ) (me : Mine U) (t q x : ℕ) → me.0.stage ≡ Knew t q x → 0 < q → q < 65536
+      → Allows R slots id me 0 (λ n. either (eqb n (t * 65536 + q)) ((t + 1) * 65536 + x % 65536) n) (Took (step slots 0 (t * 65536 + q) ((t + 1) * 65536 + x % 65536) none) me)
+  takes slots id me t q x is lo small s r _ at _ = let head : ℕ = get_or s.words 0 0 in let old : ℕ = t * 65536 + q in let new : ℕ = (t + 1) * 65536 + x % 65536 in let d = me.0 in
+      let w0 : View U = record d { stage = Idle; lost = d.lost + 1 } in dite (ℕ_discrete head old)
+      (λ hit.
+      let tag : head_tag s.words ≡ t = ap (λ n. n / 65536) hit ∙ (in_head t q small).0 in
+      let row : head_row s.words ≡ q = ap (λ n. n % 65536) hit ∙ (in_head t q small).1 in
+      let k = subst (IsStage z.rows r.owner s.words) is (r.seat id d at).stage_is in let knew = k.1 (sym tag) in
+      let top = top_free z.rows r.owner r.count q lo (subst (IsTop z.rows r.owner r.count) row r.chain.top) in (
+        taken s r id d at t q x top.0 hit small lo top.2 top.1 top.3 knew.1,
+        keeps,
+        tt,
+        subst (λ (n : ℕ). R (stepped s 0 n id me.1 (taken s r id d at t q x top.0 hit small lo top.2 top.1 top.3 knew.1) keeps)) (sym (at_hit head old new hit)) (take_step s r id d at t q x top.0 hit small lo top.2 top.1 top.3 knew.1),
+        λ t' q' x' is'. let same : q ≡ q' = ap (λ (y : ℕ × ℕ × ℕ). y.1) (ap seen_in (sym is ∙ is')) in
+            ((λ _. (ap (claim_of d.claims) (sym same) ∙ (sym (claim_there s.views id d d at q) ∙ (free_row s r id d at q top.0 lo top.2 top.3).1 id), (row_of s.words q, row_of_long s.words z.rows q r.wide top.2, ap (λ y. with_claims me (claimed y (Holds (row_of s.words q)) d.claims)) same))), λ not. absurd (not hit)),
+      ))
+      (λ miss. (
+        w0,
+        keeps,
+        tt,
+        subst (λ (n : ℕ). R (stepped s 0 n id me.1 w0 keeps)) (sym (at_miss head old new miss)) (misses s r id d at),
+        λ t' q' x' is'. ((λ hit. absurd (miss hit)), λ _. refl),
+      ))
+
+  pub writes : (slots id : ℕ) (me : Mine U) (i q k v : ℕ) (its : List ℕ) → i ≡ 136 * q + k → claim_of me.0.claims q ≡ some (Holds its) → k < 136
+      → Allows R slots id me i (λ _. v) (λ _. Wrote (step slots i v 0 none) me v)
+  writes slots id me i q k v its is held inside s r _ at _ = (
+    written s r id me.0 at q k v its held inside,
+    keeps,
+    tt,
+    subst (λ (j : ℕ). R record { words = set s.words j v; homes = s.homes; views = set s.views id (written s r id me.0 at q k v its held inside) }) (sym is) (write_step s r id me.0 at q k v its held inside),
+    λ q' k' its' is' inside' held'. let same = apart q q' k k' inside inside' (sym is ∙ is') in
+        let claims : Holds its ≡ Holds its' = some-injective (Holds its) (Holds its') (sym held ∙ (ap (claim_of me.0.claims) same.0 ∙ held')) in
+        let its_same : its ≡ its' = cc in
+        ap (λ (y : ℕ × ℕ × List ℕ). (record me.0 { claims = claimed y.0 (Holds (set y.2 y.1 v)) me.0.claims }, me.1)) (λ j. (same.0 j, same.1 j, its_same j)),
+  )
+
+  pub gives : (slots id : ℕ) (me : Mine U) (t h q : ℕ) (its : List ℕ) → h < 65536 → q < 65536 → claim_of me.0.claims q ≡ some (Holds its) → get_or its 0 0 ≡ h
+      → Allows R slots id me 0 (λ n. either (eqb n (t * 65536 + h)) (t * 65536 + q) n) (Gave (step slots 0 (t * 65536 + h) (t * 65536 + q) none) me)
+  gives slots id me t h q its small small_q held next s r _ at _ = let head : ℕ = get_or s.words 0 0 in let old : ℕ = t * 65536 + h in let new : ℕ = t * 65536 + q in let d = me.0 in
+      let w0 : View U = record d { stage = Idle; lost = d.lost + 1 } in dite (ℕ_discrete head old)
+      (λ hit. (
+        given s r id d at t h q its hit small held next,
+        keeps,
+        tt,
+        subst (λ (n : ℕ). R (stepped s 0 n id me.1 (given s r id d at t h q its hit small held next) keeps)) (sym (at_hit head old new hit)) (give_step s r id d at t h q its hit small held next),
+        ((λ _. ap (λ y. with_claims me (dropped y d.claims)) (sym (in_head t q small_q).1)), λ not. absurd (not hit)),
+      ))
+      (λ miss. (
+        w0,
+        keeps,
+        tt,
+        subst (λ (n : ℕ). R (stepped s 0 n id me.1 w0 keeps)) (sym (at_miss head old new miss)) (misses s r id d at),
+        ((λ hit. absurd (miss hit)), λ _. refl),
+      ))

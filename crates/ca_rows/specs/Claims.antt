@@ -1,0 +1,30 @@
+-- Which rows are a seat's, and why.
+use Rattle.std.specs.Prelude.{◌==◌, ℕ, cond, List, [], ◌∷◌}
+use mathlib.Core.Option.{Option, some, none}
+use lib.ListN.{get_elem?}
+use Rattle.ca_rows.specs.declared.view.Claim.{Claim}
+use Rattle.ca_rows.specs.declared.view.Claimed.{Claimed}
+use Rattle.ca_rows.specs.declared.view.View.{View}
+
+-- why the row is the seat's, if it is
+abbrev pub claim_of : List Claimed → ℕ → Option Claim
+claim_of [] row = none
+claim_of (x ∷ xs) row = cond (x.row == row) (some x.claim) (claim_of xs row)
+
+-- the claims on the other rows
+abbrev pub dropped : ℕ → List Claimed → List Claimed
+dropped row [] = []
+dropped row (x ∷ xs) = cond (x.row == row) (dropped row xs) (x ∷ dropped row xs)
+
+-- the claims, with this one on the row
+abbrev pub claimed : ℕ → Claim → List Claimed → List Claimed
+claimed row c xs = record { row = row; claim = c } ∷ dropped row xs
+
+module _ {U : Type 0} where
+  abbrev pub claim_from : Option (View U) → ℕ → Option Claim
+  claim_from none row = none
+  claim_from (some d) row = claim_of d.claims row
+
+  -- why the row is that of the seat with this number, if it is
+  abbrev pub claim_at : List (View U) → ℕ → ℕ → Option Claim
+  claim_at views seat row = claim_from (get_elem? views seat) row

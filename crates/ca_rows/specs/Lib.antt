@@ -1,0 +1,13 @@
+pub mod Account
+pub mod Calls
+pub mod Chain
+pub mod Claims
+pub mod Closed
+pub mod Laws
+pub mod Opening
+pub mod Owned
+pub mod Pins
+pub mod Register
+pub mod Rule
+pub mod Told
+pub mod Words

@@ -1,0 +1,59 @@
+-- The rule of the rows, which holds between any two steps.
+use Rattle.std.specs.Prelude.{◌≡◌, ◌⊎◌, ℕ, ◌<◌, ◌≤◌, true, List, [], map}
+use mathlib.Core.Option.{some}
+use lib.ListN.{get_elem?}
+use Rattle.atomic_table.specs.Table.{State}
+use Rattle.ca_rows.specs.declared.sizes.Sizes.{Sizes}
+use Rattle.ca_rows.specs.declared.view.Claim.{Claim}
+use Rattle.ca_rows.specs.declared.view.Pin.{Pin}
+use Rattle.ca_rows.specs.declared.view.View.{View}
+use Rattle.ca_rows.specs.declared.view.Stage.TheVariants.{Idle}
+use Rattle.ca_rows.specs.Account.{IsRow}
+use Rattle.ca_rows.specs.Chain.{Owner, IsChain, IsStage}
+use Rattle.ca_rows.specs.Claims.{claim_of, claim_at}
+use Rattle.ca_rows.specs.Pins.{ArePins, unpinned}
+use Rattle.ca_rows.specs.Words.{IsWide}
+
+abbrev pub upper_of : {U : Type 0} → View U → U
+upper_of d = d.upper
+
+abbrev pub pin_of : {U : Type 0} → View U → Pin
+pin_of d = d.pin
+
+-- a seat that knows nothing and has no row
+abbrev pub fresh : {U : Type 0} → ℕ → ℕ → U → View U
+fresh rows number u = record { rows = rows; made = 0; stage = Idle; claims = []; pin = unpinned number; lost = 0; back = 0; upper = u }
+
+module _ {U : Type 0} (noted : List ℕ → U → ℕ → Type 0) (words : List ℕ) (views : List (View U)) where
+  -- A pass that was pinned at this epoch has a note on the row.
+  pub record NotedAt (moment r : ℕ) : Type 0 where
+    pub seat : ℕ
+    pub d : View U
+    pub here : get_elem? views seat ≡ some d
+    pub note : noted words d.upper r
+    pub at : d.pin.moment ≡ moment
+
+module _ {U : Type 0} (noted : List ℕ → U → ℕ → Type 0) (rows made : ℕ) (owner : ℕ → Owner) (words : List ℕ) where
+  -- what the seat number j knows
+  pub record Knows (j : ℕ) (d : View U) : Type 0 where
+    pub rows_are : d.rows ≡ 0 ⊎ d.rows ≡ rows
+    pub made_are : j ≡ 0 → d.made ≡ made
+    pub stage_is : IsStage rows owner words d.stage
+    pub in_range : (r : ℕ) (c : Claim) → claim_of d.claims r ≡ some c → (0 < r) × (r ≤ rows)
+    -- Only a pinned pass has notes.
+    pub noted_pinned : (r : ℕ) → noted words d.upper r → d.pin.pinned ≡ true
+
+module _ {U : Type 0} (linked lent : List ℕ → ℕ → Type 0) (noted : List ℕ → U → ℕ → Type 0) (fact : Sizes → List ℕ → List U → Type 0) where
+  pub record Ruled (z : Sizes) (s : State (Unit {0}) (View U)) : Type 0 where
+    pub owner : ℕ → Owner
+    -- how many rows are free, and how many passes were made
+    pub count : ℕ
+    pub made : ℕ
+    pub few : z.rows < 65536
+    pub wide : IsWide z.rows s.words
+    pub chain : IsChain z.rows owner s.words count
+    pub row : (r : ℕ) → 0 < r → r ≤ z.rows → IsRow s.words (linked s.words) (lent s.words) (NotedAt noted s.words s.views) (claim_at s.views) r (owner r)
+    pub seat : (j : ℕ) (d : View U) → get_elem? s.views j ≡ some d → Knows noted z.rows made owner s.words j d
+    pub pins : ArePins made s.words (map pin_of s.views)
+    -- the upper fact
+    pub above : fact z s.words (map upper_of s.views)

@@ -1,0 +1,68 @@
+-- What each step of the rows tells.
+use Rattle.std.specs.Prelude.{◌≡◌, ◌≢◌, ℕ, ◌+◌, ◌*◌, ◌/◌, ◌%◌, ◌<◌, ◌≤◌, true, false, List, length, slice_set}
+use mathlib.Core.Option.{some, none}
+use Rattle.atomic_table.specs.Table.{Me, Step}
+use Rattle.ca_rows.specs.declared.view.Claim.TheVariants.{Holds, Keeps}
+use Rattle.ca_rows.specs.declared.view.Pin.{Pin}
+use Rattle.ca_rows.specs.declared.view.Stage.{Stage}
+use Rattle.ca_rows.specs.declared.view.Stage.TheVariants.{Idle, Saw, Knew}
+use Rattle.ca_rows.specs.declared.view.Claimed.{Claimed}
+use Rattle.ca_rows.specs.declared.view.View.{View}
+use Rattle.ca_rows.specs.Claims.{claim_of, claimed, dropped}
+
+abbrev pub Mine : Type 0 → Type 0
+Mine U = Me (Unit {0}) (View U)
+
+module _ {U : Type 0} where
+  abbrev pub with_stage : Mine U → Stage → Mine U
+  with_stage m st = (record m.0 { stage = st }, m.1)
+
+  abbrev pub with_claims : Mine U → List Claimed → Mine U
+  with_claims m xs = (record m.0 { stage = Idle; claims = xs }, m.1)
+
+  -- an exchange of the head was lost
+  abbrev pub missed : Mine U → Mine U
+  missed m = (record m.0 { stage = Idle; lost = m.0.lost + 1 }, m.1)
+
+  -- The head was loaded.
+  abbrev pub Looked : Step (Unit {0}) → Mine U → ℕ → Mine U → Type 0
+  Looked st m n m' = (0 < m.0.rows → n % 65536 ≤ m.0.rows) × (m' ≡ with_stage m (Saw (n / 65536) (n % 65536)))
+
+  -- The next row was loaded from the row that the head named.
+  abbrev pub Peeked : Step (Unit {0}) → Mine U → ℕ → Mine U → Type 0
+  Peeked st m n m' = (t q : ℕ) → m.0.stage ≡ Saw t q → m' ≡ with_stage m (Knew t q n)
+
+  -- The row was taken, or the exchange lost.
+  abbrev pub Took : Step (Unit {0}) → Mine U → ℕ → Mine U → Type 0
+  Took st m n m' = (t q x : ℕ) → m.0.stage ≡ Knew t q x →
+      (n ≡ st.first → (claim_of m.0.claims q ≡ none) × ((its : List ℕ) × (length its ≡ 136) × (m' ≡ with_claims m (claimed q (Holds its) m.0.claims))))
+      × (n ≢ st.first → m' ≡ missed m)
+
+  -- A word of a held row was written.
+  abbrev pub Wrote : Step (Unit {0}) → Mine U → ℕ → Mine U → Type 0
+  Wrote st m n m' = (q k : ℕ) (its : List ℕ) → st.word ≡ 136 * q + k → k < 136 → claim_of m.0.claims q ≡ some (Holds its)
+      → m' ≡ (record m.0 { claims = claimed q (Holds (slice_set its k n)) m.0.claims }, m.1)
+
+  -- A held row was put back, or the exchange lost.
+  abbrev pub Gave : Step (Unit {0}) → Mine U → ℕ → Mine U → Type 0
+  Gave st m n m' = (n ≡ st.first → m' ≡ with_claims m (dropped (st.second % 65536) m.0.claims)) × (n ≢ st.first → m' ≡ missed m)
+
+module _ {U : Type 0} where
+  abbrev pub with_pin : Mine U → Pin → Mine U
+  with_pin m e = (record m.0 { pin = e }, m.1)
+
+  -- The epoch was loaded, to announce it.
+  abbrev pub Asked : Step (Unit {0}) → Mine U → ℕ → Mine U → Type 0
+  Asked st m n m' = (n ≤ 4611686018427387904) × (m' ≡ with_pin m (record m.0.pin { told = n }))
+
+  -- It was announced, at an epoch that isn't lower.
+  abbrev pub Announced : (U → U) → Step (Unit {0}) → Mine U → ℕ → Mine U → Type 0
+  Announced enters st m n m' = (moment : ℕ) × (m.0.pin.told ≤ moment) × (m' ≡ (record m.0 { pin = record m.0.pin { pinned = true; moment = moment }; upper = enters m.0.upper }, m.1))
+
+  -- The announcement was taken back.
+  abbrev pub Left : (U → U) → Step (Unit {0}) → Mine U → ℕ → Mine U → Type 0
+  Left leaves st m n m' = m' ≡ (record m.0 { pin = record m.0.pin { pinned = false }; upper = leaves m.0.upper }, m.1)
+
+  -- The row is kept, since the epoch that was loaded.
+  abbrev pub Retired : ℕ → Step (Unit {0}) → Mine U → ℕ → Mine U → Type 0
+  Retired q st m n m' = m' ≡ (record m.0 { claims = claimed q (Keeps n) m.0.claims }, m.1)

@@ -1,0 +1,10 @@
+//! Why a space or a pass wasn't made.
+
+#[derive(Clone, Copy, Debug, PartialEq, Eq)]
+pub enum RowsFault {
+    /// The rows, the passes or a start are out of their bounds.
+    BadSize,
+    /// As many passes were made as the space is for.
+    NoPass,
+    NoMemory,
+}

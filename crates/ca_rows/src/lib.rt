@@ -1,0 +1,27 @@
+//! Rows of words that passes share without a lock: a pool of free rows, and whose each row is.
+#![tactic(auto)]
+
+mod close;
+mod fault;
+mod make;
+mod opening;
+mod pin;
+mod plays;
+mod rest;
+mod rule;
+mod sizes;
+mod space;
+mod taken;
+mod view;
+mod words;
+
+pub use fault::RowsFault;
+pub use rule::{RowRule, Rows};
+pub use sizes::{Sizes, Starts};
+pub use space::{Half, Pass, Space};
+pub use taken::Taken;
+pub use view::{Claim, Claimed, Pin, Stage, View};
+pub use words::Words;
+
+#[cfg(test)]
+mod tests;

@@ -1,0 +1,123 @@
+//! Spaces and passes are made.
+ghost use Rattle.std.specs.Prelude.{◌≡◌, ◌≢◌, ◌↔◌, IsTrue, ℕ, ◌+◌, ◌<◌, ◌≤◌, [], IfOk, OnOk, OnErr, Err};
+ghost use Rattle.ca_rows.specs.declared.fault.RowsFault.TheVariants.{BadSize as IsBadSize, NoPass as IsNoPass};
+ghost use Rattle.ca_rows.specs.Opening.{AreInBounds, AreUsable};
+ghost use Rattle.ca_rows.specs.Rule.{fresh};
+
+use crate::fault::RowsFault;
+use crate::opening::opening;
+use crate::plays::Make;
+use crate::rest::Rest;
+use crate::rule::RowRule;
+use crate::sizes::{Sizes, Starts};
+use crate::space::{Pass, Space};
+use atomic_table::Table;
+use std::alloc::Global;
+
+impl Sizes {
+    /// Whether rows, passes and starts are within their bounds.
+    pub fn are_in_bounds(&self) -> bool
+        ensures { IsTrue result ↔ AreInBounds self.now }
+    {
+        384 <= self.rows
+            && self.rows <= 65_535
+            && 1 <= self.passes
+            && self.passes <= 64
+            && self.starts.tag <= (1 << 48) - 1
+            && self.starts.epoch <= 1 << 62
+            && self.starts.sequence <= (1 << 46) - 1
+            && self.starts.attempt <= (1 << 62) - 1
+    }
+}
+
+impl<R: RowRule> Space<R> {
+    /// A space whose rows but row 1 are free, and which no pass was made for.
+    pub fn new(
+        alloc: Global,
+        rows: u32,
+        passes: u32,
+        keypos: u32,
+        leaf: u8,
+        levels: u16,
+        starts: Starts,
+    ) -> Result<Space<R>, RowsFault>
+        requires { AreUsable (record { rows = rows; passes = passes; keypos = keypos; leaf = leaf; levels = levels; starts = starts }) }
+        ensures bad { (result ≡ Err IsBadSize) ↔ ¬ AreInBounds (record { rows = rows; passes = passes; keypos = keypos; leaf = leaf; levels = levels; starts = starts }) }
+        ensures never { result ≢ Err IsNoPass }
+        ensures sizes { IfOk result (λ space. space.sizes ≡ record { rows = rows; passes = passes; keypos = keypos; leaf = leaf; levels = levels; starts = starts }) }
+        ensures none { IfOk result (λ space. space.made ≡ 0) }
+    {
+        let sizes = Sizes {
+            rows,
+            passes,
+            keypos,
+            leaf,
+            levels,
+            starts,
+        };
+        if !sizes.are_in_bounds() {
+            return Err(RowsFault::BadSize);
+        }
+        let Ok(words) = opening::<R>(alloc, &sizes) else {
+            return Err(RowsFault::NoMemory);
+        };
+        let Ok((table, seat)) = Table::of_words(alloc, words.as_slice(), &sizes) else {
+            return Err(RowsFault::NoMemory);
+        };
+        Ok(Space {
+            table,
+            own: Some(Rest::lay(seat)),
+            sizes,
+            made: 0,
+        })
+    }
+
+    /// How many passes were made.
+    pub fn enrolled(&self) -> u32
+        ensures { result ≡ self.now.made }
+    {
+        self.made
+    }
+
+    /// With which numbers the counters began.
+    pub fn starts(&self) -> Starts
+        ensures { result ≡ self.now.sizes.starts }
+    {
+        self.sizes.starts
+    }
+
+    /// Makes a pass. Its number is that of the passes made until then, and it, together.
+    pub fn enroll(&mut self) -> Result<Pass<R>, RowsFault>
+        ensures full { (result ≡ Err IsNoPass) ↔ (self.old.made ≡ self.old.sizes.passes) }
+        ensures never { result ≢ Err IsBadSize }
+        ensures same { (self.new.table.shared ≡ self.old.table.shared) × (self.new.sizes ≡ self.old.sizes) }
+        ensures counted { OnOk result (self.new.made ≡ self.old.made + 1) }
+        ensures refused { OnErr result (self.new.made ≡ self.old.made) }
+        ensures number { IfOk result (λ pass. pass.number ≡ self.new.made) }
+        ensures begins { IfOk result (λ pass. (pass.seat.table_id ≡ self.old.table.shared.table_id) × (pass.seat.me ≡ (fresh self.old.sizes.rows pass.number (R.begins pass.number), []))) }
+    {
+        if self.made == self.sizes.passes {
+            return Err(RowsFault::NoPass);
+        }
+        let Some(rest) = self.own.take() else {
+            return Err(RowsFault::NoMemory);
+        };
+        let mut seat = rest.take_up();
+        let new = self.table.shared.split_seat::<Make<R>>(&mut seat);
+        self.own = Some(Rest::lay(seat));
+        self.made += 1;
+        Ok(Pass {
+            seat: new,
+            number: self.made,
+        })
+    }
+}
+
+impl<R: RowRule> Pass<R> {
+    /// The number of the pass, counted from 1.
+    pub fn number(&self) -> u32
+        ensures { result ≡ self.now.number }
+    {
+        self.number
+    }
+}

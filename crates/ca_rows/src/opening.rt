@@ -1,0 +1,60 @@
+//! The words of a space at the start.
+ghost use Rattle.std.specs.Prelude.{◌≡◌, ℕ, ◌+◌, ◌*◌, ◌<◌, ◌≤◌, length, slice_index, IfOk};
+ghost use Rattle.ca_rows.specs.Opening.{AreInBounds, IsOpening};
+
+use crate::rule::RowRule;
+use crate::sizes::Sizes;
+use std::alloc::{AllocError, Global};
+
+// The words at the start.
+pub(crate) fn opening<R: RowRule>(alloc: Global, sizes: &Sizes) -> Result<Vec<u64>, AllocError>
+    requires { AreInBounds sizes.now }
+    ensures { IfOk result (λ words. IsOpening R.opens sizes.now words.items) }
+{
+    let mut words = Vec::from_elem(alloc, 0_u64, 136 * sizes.rows as usize + 136)?;
+    fill::<R>(words.as_mut_slice(), sizes);
+    Ok(words)
+}
+
+// Fills words that are all 0.
+fn fill<R: RowRule>(words: &mut [u64], sizes: &Sizes)
+    requires bounds { AreInBounds sizes.now }
+    requires wide { length words.old ≡ 136 * sizes.now.rows + 136 }
+    requires zeros { (i : ℕ) → slice_index words.old i ≡ 0 }
+    ensures { IsOpening R.opens sizes.now words.new }
+{
+    words[0] = sizes.starts.tag * 65_536 + 2;
+    words[1] = sizes.starts.epoch;
+    fill_above::<R>(words, sizes);
+    chain(words, sizes.rows as usize);
+}
+
+// Writes the words of the rule above the rows.
+fn fill_above<R: RowRule>(words: &mut [u64], sizes: &Sizes)
+    requires { 272 ≤ length words.old }
+    ensures length { length words.new ≡ length words.old }
+    ensures above { (i : ℕ) → 66 ≤ i → i < 272 → slice_index words.new i ≡ R.opens sizes.now i }
+    ensures below { (i : ℕ) → i < 66 → slice_index words.new i ≡ slice_index words.old i }
+    ensures behind { (i : ℕ) → 272 ≤ i → slice_index words.new i ≡ slice_index words.old i }
+{
+    let mut word = 66_u32;
+    while word < 272 {
+        words[word as usize] = R::open(sizes, word);
+        word += 1;
+    }
+}
+
+// Chains the rows from 2 on, in rising order.
+fn chain(words: &mut [u64], rows: usize)
+    requires { (length words.old ≡ 136 * rows + 136) × (2 ≤ rows) × (rows ≤ 65535) }
+    ensures length { length words.new ≡ length words.old }
+    ensures next { (r : ℕ) → 2 ≤ r → r < rows → slice_index words.new (136 * r) ≡ r + 1 }
+    ensures before { (i : ℕ) → i < 272 → slice_index words.new i ≡ slice_index words.old i }
+    ensures last { slice_index words.new (136 * rows) ≡ slice_index words.old (136 * rows) }
+{
+    let mut row = 2;
+    while row < rows {
+        words[136 * row] = row as u64 + 1;
+        row += 1;
+    }
+}

@@ -1,0 +1,92 @@
+//! What each step of the rows tells.
+ghost use Rattle.std.specs.Prelude.{◌+◌};
+ghost use Rattle.ca_rows.specs.Closed.{joined};
+ghost use Rattle.ca_rows.specs.Rule.{fresh};
+ghost use Rattle.ca_rows.specs.Told.{Looked, Peeked, Took, Wrote, Gave, Asked, Announced, Left};
+
+use crate::rule::RowRule;
+use crate::view::View;
+use atomic_table::{Join, Play, Split};
+use std::marker::PhantomData;
+
+/// A load of the pool's head.
+pub struct Look;
+
+impl<U> Play<(), View<U>> for Look {
+    ghost then = { Looked };
+}
+
+/// A load of the next free row.
+pub struct Peek;
+
+impl<U> Play<(), View<U>> for Peek {
+    ghost then = { Peeked };
+}
+
+/// The exchange that takes a row.
+pub struct Take;
+
+impl<U> Play<(), View<U>> for Take {
+    ghost then = { Took };
+}
+
+/// A store in a held row.
+pub struct Write;
+
+impl<U> Play<(), View<U>> for Write {
+    ghost then = { Wrote };
+}
+
+/// The exchange that puts a row back.
+pub struct Give;
+
+impl<U> Play<(), View<U>> for Give {
+    ghost then = { Gave };
+}
+
+/// The step that makes a pass.
+pub struct Make<R> {
+    rule: PhantomData<R>,
+}
+
+impl<R: RowRule> Split<View<R::Upper>> for Make<R> {
+    ghost left = { λ v. record v { made = v.made + 1 } };
+
+    ghost right = { λ v. fresh v.rows (v.made + 1) (R.begins (v.made + 1)) };
+}
+
+/// A load of the epoch, to announce it.
+pub struct Ask;
+
+impl<U> Play<(), View<U>> for Ask {
+    ghost then = { Asked };
+}
+
+/// The store of an announcement.
+pub struct Announce<R> {
+    rule: PhantomData<R>,
+}
+
+impl<R: RowRule> Play<(), View<R::Upper>> for Announce<R> {
+    ghost then = { Announced R.enters };
+}
+
+/// The store that takes it back.
+pub struct Leave<R> {
+    rule: PhantomData<R>,
+}
+
+impl<R: RowRule> Play<(), View<R::Upper>> for Leave<R> {
+    ghost then = { Left R.leaves };
+}
+
+/// The step that joins a pass's seat into the space's own one.
+pub struct Close<R> {
+    rule: PhantomData<R>,
+}
+
+impl<R: RowRule> Join<View<R::Upper>> for Close<R> {
+    ghost both = { joined R.both };
+
+    ghost spent = { fresh 0 0 R.spent };
+}

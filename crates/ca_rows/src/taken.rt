@@ -1,0 +1,12 @@
+//! What came of taking a row.
+
+#[derive(Clone, Copy, Debug, PartialEq, Eq)]
+pub enum Taken {
+    Row(u32),
+    /// No row was free.
+    Empty,
+    /// The exchange was lost to another pass.
+    Lost,
+    /// The head's tag can rise no more.
+    Worn,
+}

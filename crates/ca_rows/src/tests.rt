@@ -1,0 +1,195 @@
+//! Rows under a register of one row, by one pass and by two on threads.
+ghost use Rattle.std.specs.Prelude.{◌≡◌, ℕ, ◌+◌, ◌<◌, ◌≤◌};
+ghost use Rattle.ca_rows.specs.Calls.{IsOf};
+ghost use Rattle.std.specs.Thread.{IsSync};
+
+use super::*;
+use std::thread::{Threads, join};
+
+// A register: the row that word 130 names is linked.
+struct Register;
+
+impl RowRule for Register {
+    type Upper = u64;
+
+    ghost use Rattle.ca_rows.specs.Register.{is_linked, is_lent, is_noted, names_a_row, opens_at};
+    ghost use Rattle.ca_rows.specs.Register as register;
+
+    ghost first = { 0 };
+
+    ghost opens = { opens_at };
+
+    ghost linked = { is_linked };
+
+    ghost lent = { is_lent };
+
+    ghost noted = { is_noted };
+
+    ghost fact = { names_a_row };
+
+    ghost begins = { λ pass. 0 };
+
+    ghost enters = { λ u. u };
+
+    ghost leaves = { λ u. u };
+
+    ghost both = { λ v w. v };
+
+    ghost spent = { 0 };
+
+    fn open(sizes: &Sizes, word: u32) -> u64 {
+        let _sizes = sizes;
+        u64::from(word == 130)
+    }
+
+    ghost frames = { register.frames };
+
+    ghost lends = { register.lends };
+
+    ghost pinning = { register.pinning };
+
+    ghost making = { register.making };
+
+    ghost closing = { register.closing };
+
+    ghost opening = { register.opening };
+}
+
+const STARTS: Starts = Starts {
+    tag: 0,
+    epoch: 0,
+    sequence: 0,
+    attempt: 0,
+};
+
+// How many free rows there are, each of which is taken once; none, where a row comes twice.
+fn take_each(space: &Space<Register>, pass: &mut Pass<Register>) -> Option<u32>
+    requires { IsOf space.now.table.shared.table_id space.now.table.shared.key.rows pass.old.seat }
+{
+    let mut seen = [false; 512];
+    let mut count = 0_u32;
+    for _ in 0..1000 {
+        match space.take_row(pass) {
+            Taken::Row(row) => {
+                if row >= 512 || seen[row as usize] {
+                    return None;
+                }
+                seen[row as usize] = true;
+                count = count.saturating_add(1);
+            }
+            Taken::Empty => return Some(count),
+            Taken::Lost => {}
+            Taken::Worn => return None,
+        }
+    }
+    None
+}
+
+#[test]
+fn takes_each_free_row_once(rt: HostRuntime) {
+    let Ok(mut space) = Space::<Register>::new(rt.alloc(), 384, 2, 1, 120, 4096, STARTS) else {
+        panic!(rt; "no memory")
+    };
+    let Ok(mut pass) = space.enroll() else {
+        panic!(rt; "no pass")
+    };
+    assert_eq!(rt; pass.number(), 1);
+    assert_eq!(rt; take_each(&space, &mut pass), Some(383));
+    assert!(rt; space.enrolled() == 1 && space.starts() == STARTS);
+}
+
+// Takes a row, writes into it and puts it back, where it can. It answers how many rows the pass holds more.
+fn take_and_put(space: &Space<Register>, pass: &mut Pass<Register>, value: u64) -> u32
+    requires { IsOf space.now.table.shared.table_id space.now.table.shared.key.rows pass.old.seat }
+    ensures { IsOf space.now.table.shared.table_id space.now.table.shared.key.rows pass.new.seat }
+{
+    match space.take_row(pass) {
+        Taken::Row(row) => {
+            space.write_word(pass, row, 5, value);
+            u32::from(!space.put_row(pass, row))
+        }
+        _ => 0,
+    }
+}
+
+// Does so many times, and gives the pass back with how many rows it holds.
+fn work(space: &Space<Register>, mut pass: Pass<Register>, times: u64) -> (Pass<Register>, u32)
+    requires { IsOf space.now.table.shared.table_id space.now.table.shared.key.rows pass.seat }
+    ensures { IsOf space.now.table.shared.table_id space.now.table.shared.key.rows result.0.seat }
+{
+    let mut held = 0_u32;
+    let mut time = 0;
+    while time < times {
+        held = held.saturating_add(take_and_put(space, &mut pass, time));
+        time += 1;
+    }
+    (pass, held)
+}
+
+// What two passes hold after each took and put rows on a thread of its own, and how many rows are free then.
+fn work_both<T: Threads + Sync>(
+    rt: &T,
+    space: &Space<Register>,
+    first: Pass<Register>,
+    second: Pass<Register>,
+) -> (u32, Option<u32>)
+    requires { IsOf space.now.table.shared.table_id space.now.table.shared.key.rows first.seat × IsOf space.now.table.shared.table_id space.now.table.shared.key.rows second.seat }
+{
+    let ((mut first, one), (_second, two)) = join(
+        rt,
+        || -> (Pass<Register>, u32)
+            requires { IsOf space.now.table.shared.table_id space.now.table.shared.key.rows first.seat }
+            ensures { IsOf space.entry.now.table.shared.table_id space.entry.now.table.shared.key.rows result.0.seat }
+        { work(space, first, 20_000) },
+        || -> (Pass<Register>, u32)
+            requires { IsOf space.now.table.shared.table_id space.now.table.shared.key.rows second.seat }
+        { work(space, second, 20_000) },
+    );
+    (one.saturating_add(two), take_each(space, &mut first))
+}
+
+#[test]
+fn no_row_is_lost_between_two_threads(rt: HostRuntime) {
+    let Ok(mut space) = Space::<Register>::new(rt.alloc(), 384, 2, 1, 120, 4096, STARTS) else {
+        panic!(rt; "no memory")
+    };
+    let (Ok(first), Ok(second)) = (space.enroll(), space.enroll()) else {
+        panic!(rt; "no pass")
+    };
+    assert!(rt; matches!(space.enroll(), Err(RowsFault::NoPass)));
+    let (held, free) = work_both(&rt, &space, first, second);
+    assert_eq!(rt; free, 383_u32.checked_sub(held));
+}
+
+#[test]
+fn a_pass_pins_and_unpins(rt: HostRuntime) {
+    let Ok(mut space) = Space::<Register>::new(rt.alloc(), 384, 1, 1, 120, 4096, STARTS) else {
+        panic!(rt; "no memory")
+    };
+    let Ok(mut pass) = space.enroll() else {
+        panic!(rt; "no pass")
+    };
+    space.pin(&mut pass);
+    space.unpin(&mut pass);
+    assert_eq!(rt; pass.number(), 1);
+}
+
+#[test]
+fn begins_with_these_words(rt: HostRuntime) {
+    let Ok(space) = Space::<Register>::new(rt.alloc(), 384, 2, 1, 120, 4096, STARTS) else {
+        panic!(rt; "no memory")
+    };
+    let words = space.close(Vec::new(rt.alloc()));
+    for (word, value) in [
+        (0, 2),
+        (1, 0),
+        (130, 1),
+        (2 * 136, 3),
+        (383 * 136, 384),
+        (384 * 136, 0),
+    ] {
+        if word < 52_360 {
+            assert_eq!(rt; words.at(word), value, "in {word}");
+        }
+    }
+}

@@ -1,0 +1,64 @@
+//! What a seat of the table knows. It exists in proofs alone: no value of these types is made.
+use std::collections::LinkedList;
+
+/// How far a seat is with the pool's head.
+pub enum Stage {
+    Idle,
+    /// It saw this tag and this row at the head.
+    Saw(u64, u64),
+    /// It saw them, and then this next row in the row's first word.
+    Knew(u64, u64, u64),
+}
+
+/// Why a row is a seat's.
+pub enum Claim {
+    /// Taken from the pool, or to be put back. It has these words.
+    Holds(LinkedList<u64>),
+    /// Lent to an operation, which anybody may end.
+    Lends,
+    /// Unlinked by this seat.
+    Unlinked,
+    /// Kept since this epoch, until nobody can have a note on it.
+    Keeps(u64),
+    /// Kept since this epoch, and on the way back to the pool. It has these words.
+    Returns(u64, LinkedList<u64>),
+}
+
+pub struct Claimed {
+    pub row: u64,
+    pub claim: Claim,
+}
+
+/// What a seat announces, and what it saw of others' announcements.
+pub struct Pin {
+    /// The number of its pass, or 0.
+    pub number: u64,
+    pub pinned: bool,
+    /// The epoch that it announces.
+    pub told: u64,
+    /// The epoch as it announced.
+    pub moment: u64,
+    /// The epoch as its last look at the others began.
+    pub scan: u64,
+    /// How many passes it looked at since.
+    pub upto: u64,
+    /// A pass that it found behind.
+    pub lag: u64,
+}
+
+pub struct View<U> {
+    /// How many rows there are, or 0 where the seat doesn't know.
+    pub rows: u64,
+    /// How many passes were made, where this is the space's own seat.
+    pub made: u64,
+    pub stage: Stage,
+    /// Each row that is this seat's, once.
+    pub claims: LinkedList<Claimed>,
+    pub pin: Pin,
+    /// Exchanges of the pool's head and of the epoch that were lost.
+    pub lost: u64,
+    /// Kept rows that were given back.
+    pub back: u64,
+    /// What the rule above the rows knows.
+    pub upper: U,
+}
