@@ -154,7 +154,7 @@ pub ruleset tuples_built = (tuple_shallow, tuple_deep, no_values)
 
 -- ---- calls
 
--- {const,T1,T2,..} fails.
+-- {const,..} of more than one term fails.
 pub no_constant : (items : List Tree) → 2 ≤ length items → None ≡ constant (row_of items)
 no_constant [] h = absurd (omega arith)
 no_constant (t ∷ []) h = absurd (omega arith)

@@ -1,4 +1,5 @@
-//! What specifications make of objects. Expected values come from Erlang/OTP 25, but where a bound of this project decides.
+//! What specifications make of objects. Expected values of operators come from Erlang/OTP 25, those of whole specifications from the manual's
+//! rules by hand, and a bound of this project decides where one is reached.
 use crate::tests::{alone, constant, long, term};
 use crate::*;
 use ca_term::{Term, Terms, bin, cons, int, term_order, tuple};

@@ -5,7 +5,8 @@ use Rattle.ca_ets.proofs.matcher.+value.Goals as goal
 
 pub form_value-returns-in-len1 : goal.form_value-returns-in-len1
 form_value-returns-in-len1 t c =
-    rw (only_form (scene_of c.args.object.now c.args.table.now) c.args.items.now c.only-item.result (omega arith) (omega arith) c.only-item.is) c.tuple_value.ensures
+    let form = only_form (scene_of c.args.object.now c.args.table.now) c.args.items.now c.only-item.result (omega arith) (omega arith) c.only-item.is in
+    rw form c.tuple_value.ensures
 
 pub form_value-returns-in-len1-up : goal.form_value-returns-in-len1-up
 form_value-returns-in-len1-up t c =
