@@ -249,11 +249,6 @@ variable_some s e t n h f b = b ∙ variable_value s e n h f
 pub variable_none : (s : Scene) (e : Tree) (n : ℕ) → n < 100 → Atom (variable_name n) ≡ e → None ≡ bound s.bindings n → None ≡ value s e
 variable_none s e n h f b = b ∙ variable_value s e n h f
 
-pub one_none : (s : Scene) (e : Tree) (operator : Code) (a : Tree) → Tuple (More (Atom (name_of operator)) (More a Ends)) ≡ e → None ≡ value s a
-    → None ≡ value s e
-one_none s e operator a f b =
-    none_of_one (meaning_of operator) ∙ ap (λ (x : Option Tree). applied (meaning_of operator) (x ∷ [])) b ∙ one_value s e operator a f
-
 pub short_is_value : (s : Scene) (e : Tree) (operator : Code) (stop : Bool) (a b : Tree)
     → Tuple (More (Atom (name_of operator)) (More a (More b Ends))) ≡ e → Some stop ≡ stop_of (meaning_of operator)
     → applied (Short stop) (value s a ∷ value s b ∷ []) ≡ value s e

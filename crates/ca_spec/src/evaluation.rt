@@ -37,15 +37,31 @@ pub(crate) fn value<'a>(
         Form::Constant(term) => Ok(Some(Value::Lent(term))),
         Form::Tuple(parts) => tuple_value(alloc, parts.as_slice(), object, table),
         Form::List(heads, tail) => list_value(alloc, heads.as_slice(), tail, object, table),
-        Form::One(operator, a) => match value(alloc, a, object, table)? {
-            Some(a) => operator.value_of_one(alloc, a),
-            None => Ok(None),
-        },
+        Form::One(operator, a) => value_of_one(alloc, *operator, a, object, table),
         Form::Two(operator, a, b) => match operator.stop() {
             Some(stop) => short_value(alloc, stop, a, b, object, table),
             None => value_of_two(alloc, *operator, a, b, object, table),
         },
     }
+}
+
+// The value of an operator of one argument. It stands apart, since a function clears the room of all its arms' values at each call.
+#[cycle(value)]
+#[tactic(auto, using(crate::proofs::Values::two_values))]
+fn value_of_one<'a>(
+    alloc: Global,
+    operator: Operator,
+    a: &'a Expression,
+    object: &'a Term,
+    table: &[Option<&'a Term>],
+) -> Evaluated<'a>
+    ensures { let scene = scene_of object.now table.now in
+        IfOk result (λ v. option_map tree_of_value v ≡ applied (meaning_of operator) (value scene a.now ∷ [])) }
+{
+    let Some(a) = value(alloc, a, object, table)? else {
+        return Ok(None);
+    };
+    operator.value_of_one(alloc, a)
 }
 
 // What is bound to a variable.

@@ -7,7 +7,7 @@ use Rattle.ca_ets.specs.Operators.{Short, applied}
 use Rattle.ca_ets.specs.ValueView.{tree_of_value}
 use Rattle.ca_spec.specs.Bound.{scene_of}
 use Rattle.ca_spec.specs.ExpressionView.{IsForm, tree_of_form}
-use Rattle.ca_spec.proofs.Values.{constant_value, one_none, short_is_value, variable_none, variable_some}
+use Rattle.ca_spec.proofs.Values.{constant_value, short_is_value, variable_none, variable_some}
 use Rattle.ca_spec.proofs.evaluation.+value.Goals as goal
 
 pub value-returns-in-Some : goal.value-returns-in-Some
@@ -24,13 +24,6 @@ pub value-returns-in-Constant : goal.value-returns-in-Constant
 value-returns-in-Constant t c =
     constant_value (scene_of c.args.object.now c.args.table.now) c.args.expression.now c.in-Constant.term
     (sym (ap tree_of_form c.in-Constant.is) ∙ c.expression.view_is)
-
-pub value-returns-in-None-2 : goal.value-returns-in-None-2
-value-returns-in-None-2 t c =
-    one_none (scene_of c.args.object.now c.args.table.now) c.args.expression.now c.in-One.operator c.in-One.a.value
-    (sym (ap tree_of_form c.in-One.is) ∙ c.expression.view_is)
-    (ap (option_map tree_of_value) (sym c.in-None-2.is) ∙ c.in_ok-a-in-One.ensures
-    ∙ ap (value (scene_of c.args.object.now c.args.table.now)) c.deref-in-One.ensures)
 
 pub value-returns-in-Some-stop : goal.value-returns-in-Some-stop
 value-returns-in-Some-stop t c =

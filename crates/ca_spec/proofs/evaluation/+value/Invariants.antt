@@ -18,6 +18,9 @@ decreases-list_value l = 5 * nodes (list_of l.heads.now l.tail.now) - 1
 abbrev pub decreases-terms : goal.decreases-terms
 decreases-terms l = 5 * row_nodes (row_of l.parts.now) + 3
 
+abbrev pub decreases-value_of_one : goal.decreases-value_of_one
+decreases-value_of_one l = 5 * nodes l.a.now + 1
+
 abbrev pub decreases-value_of_two : goal.decreases-value_of_two
 decreases-value_of_two l = 5 * (nodes l.a.now + nodes l.b.now) + 1
 
