@@ -154,17 +154,19 @@ pub struct Choice {
     pub printed: usize,
 }
 
-const fn choice(kind: u32, clause: u32, printed: usize) -> Choice {
-    Choice {
-        kind,
-        clause,
-        printed,
+impl Choice {
+    const fn new(kind: u32, clause: u32, printed: usize) -> Choice {
+        Choice {
+            kind,
+            clause,
+            printed,
+        }
     }
 }
 
 fn refused(fault: SpecFault) -> Choice {
     let SpecFault::BadSpec { clause, why } = fault else {
-        return choice(8, 0, 0);
+        return Choice::new(8, 0, 0);
     };
     let kind = match why {
         SpecWhy::NotAList => 2,
@@ -174,7 +176,7 @@ fn refused(fault: SpecFault) -> Choice {
         SpecWhy::BadBody => 6,
         SpecWhy::Unbound => 7,
     };
-    choice(kind, clause, 0)
+    Choice::new(kind, clause, 0)
 }
 
 fn chosen(alloc: Global, specification: &Term, object: &Term, room: &mut [u8]) -> Choice {
@@ -184,16 +186,26 @@ fn chosen(alloc: Global, specification: &Term, object: &Term, room: &mut [u8]) -
     };
     let result = match apply(alloc, &spec, object) {
         Ok(Some(result)) => result,
-        Ok(None) => return choice(0, 0, 0),
-        Err(_) => return choice(8, 0, 0),
+        Ok(None) => return Choice::new(0, 0, 0),
+        Err(_) => return Choice::new(8, 0, 0),
     };
     let mut text = Vec::new(alloc);
     if print_term(&result, &mut text).is_err() || text.len() > room.len() {
-        return choice(8, 0, 0);
+        return Choice::new(8, 0, 0);
     }
     let printed = text.len();
     room[..printed].copy_from_slice(text.as_slice());
-    choice(1, 0, printed)
+    Choice::new(1, 0, printed)
+}
+
+fn choose(alloc: Global, specification: &[u8], object: &[u8], room: &mut [u8]) -> Choice {
+    let Ok((specification, _)) = read_term(alloc, specification) else {
+        return Choice::new(8, 0, 0);
+    };
+    let Ok((object, _)) = read_term(alloc, object) else {
+        return Choice::new(8, 0, 0);
+    };
+    chosen(alloc, &specification, &object, room)
 }
 
 /// Applies the specification of a text to the object of another one, and prints the result into the room.
@@ -205,9 +217,5 @@ pub extern "C" fn ca_speed_choose(
     room: &mut [u8],
     into: &mut Choice,
 ) {
-    let read = (read_term(alloc, specification), read_term(alloc, object));
-    *into = match read {
-        (Ok((specification, _)), Ok((object, _))) => chosen(alloc, &specification, &object, room),
-        _ => choice(8, 0, 0),
-    };
+    *into = choose(alloc, specification, object, room);
 }
