@@ -81,7 +81,7 @@ names([Head | Tail]) -> names(Head) ++ names(Tail);
 names(Atom) when is_atom(Atom) -> [Atom];
 names(_) -> [].
 
-is_variable(Name) -> lists:member(Name, ['$0', '$1', '$2', '$3', '$7', '$10', '$99']).
+is_variable(Name) -> lists:member(Name, ['$0', '$1', '$2', '$3', '$5', '$7', '$10', '$99']).
 
 %% A guard: most have a truth value.
 guard(Variables) ->
@@ -244,7 +244,9 @@ differences() ->
      {"numbers of arguments", fun(Specification, Erlang, Here) -> is_choice(Erlang) andalso is_fault(Here, ['BadGuard'])
         andalso has_other_count(Specification) end},
      {"last arguments of andalso and orelse", fun(Specification, Erlang, Here) -> is_choice(Erlang) andalso is_choice(Here)
-        andalso has_inner_short(Specification) end}].
+        andalso has_inner_short(Specification) end},
+     {"variables in constants", fun(Specification, Erlang, Here) -> is_choice(Erlang) andalso is_choice(Here)
+        andalso lists:member('$99', names(Specification)) andalso lists:any(fun is_variable/1, names(constants(Specification))) end}].
 
 is_choice({chosen, _}) -> true;
 is_choice(_) -> false.
@@ -261,7 +263,8 @@ has_call(Tuple) when is_tuple(Tuple) -> true;
 has_call([Head | Tail]) -> has_call(Head) orelse has_call(Tail);
 has_call(_) -> false.
 
-%% Whether one of and, or, andalso, orelse has another number of arguments than two.
+%% Whether one of and, or, andalso, orelse has another number of arguments than two, or one of + and - has one.
+has_other_count({Sign, _}) when Sign =:= '+'; Sign =:= '-' -> true;
 has_other_count(Tuple) when is_tuple(Tuple) ->
     tuple_size(Tuple) =/= 3 andalso tuple_size(Tuple) > 1 andalso lists:member(element(1, Tuple), ['and', 'or', 'andalso', 'orelse'])
         orelse lists:any(fun has_other_count/1, tuple_to_list(Tuple));
@@ -277,6 +280,12 @@ inner_short(_, Tuple) when is_tuple(Tuple) -> lists:any(fun(Part) -> inner_short
 inner_short(Inside, [Head | Tail]) -> inner_short(Inside, Head) orelse inner_short(Inside, Tail);
 inner_short(_, _) -> false.
 
+%% The terms of all {const,T}.
+constants({const, Term}) -> [Term];
+constants(Tuple) when is_tuple(Tuple) -> lists:append([constants(Part) || Part <- tuple_to_list(Tuple)]);
+constants([Head | Tail]) -> constants(Head) ++ constants(Tail);
+constants(_) -> [].
+
 %% ---- The table of differences: its name, a specification, an object, Erlang's choice and the one here.
 
 rows() ->
@@ -290,7 +299,9 @@ rows() ->
      {"operators in bodies", [{{'$1', '_', '_', '_'}, [], [{'+', '$1', 1}]}], Object, {chosen, [2]}, {refused, 1, 'BadBody'}},
      {"numbers of arguments", [{'_', [{'and', true, true, true}], [x]}], Object, {chosen, [x]}, {refused, 1, 'BadGuard'}},
      {"numbers of arguments", [{'_', [{'orelse', true}], [x]}], Object, {chosen, [x]}, {refused, 1, 'BadGuard'}},
+     {"numbers of arguments", [{'_', [{'==', {'-', 2}, -2}], [x]}], Object, {chosen, [x]}, {refused, 1, 'BadGuard'}},
      {"last arguments of andalso and orelse", [{'_', [{'==', {'andalso', true, 1}, 1}], [x]}], Object, {chosen, [x]}, {chosen, []}},
+     {"variables in constants", [{{'$25', '$5', '_', '_'}, [], [{{'$25', {const, '$5'}}}]}], Object, {chosen, [{1, '$0'}]}, {chosen, [{1, '$5'}]}},
      {"tuple_size", [{'_', [{'==', {tuple_size, '$_'}, 4}], [x]}], Object, refused, {chosen, [x]}},
      {"other functions", [{'_', [{is_pid, '$_'}], [x]}], Object, {chosen, []}, {refused, 1, 'BadGuard'}},
      {"other functions", [{'_', [], [{self}]}], Object, {chosen, [self()]}, {refused, 1, 'BadBody'}},
