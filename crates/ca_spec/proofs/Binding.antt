@@ -15,6 +15,7 @@ use Rattle.ca_spec.proofs.Names.{no_wildcard, number_of_name}
 
 -- ---- one part
 
+-- The wildcard fits each term and binds nothing.
 pub anything_fits : (p t : Tree) (b : Bindings) → Atom (codes "_") ≡ p → bind p t b ≡ Some b
 unfolding bind
 anything_fits p t b e = ap (λ (x : Tree). bind x t b) (sym e)
@@ -23,6 +24,7 @@ variable_at : (n : ℕ) (t : Tree) (b : Bindings) → n < 100 → bind (Atom (va
 unfolding bind
 variable_at n t b h = rw (no_wildcard n, number_of_name n h) refl
 
+-- A variable fits as what is bound to its number says.
 pub variable_fits : (p t : Tree) (b : Bindings) (n : ℕ) → n < 100 → Atom (variable_name n) ≡ p → bind p t b ≡ bind_variable b n (bound b n) t
 variable_fits p t b n h e = ap (λ (x : Tree). bind x t b) (sym e) ∙ variable_at n t b h
 
@@ -32,6 +34,7 @@ equal_name text t b true v h = cc
 equal_name text t b false None h = refl
 equal_name text t b false (Some n) h = cc
 
+-- A part that is no variable, tuple or list cell fits an equal term.
 pub equal_fits : (p t : Tree) (b : Bindings) → fits_equal p ≡ true → bind p t b ≡ where_equal b p t
 unfolding bind
 equal_fits (Integer n) t b h = refl
@@ -41,6 +44,7 @@ equal_fits Nil t b h = refl
 equal_fits (Cons head tail) t b h = cc
 equal_fits (Binary bytes) t b h = refl
 
+-- A tuple fits a tuple as its elements do.
 pub tuple_fits : (p t : Tree) (row elements : Row) (b : Bindings) → Tuple row ≡ p → t ≡ Tuple elements → bind p t b ≡ bind_row row elements b
 unfolding bind
 tuple_fits p t row elements b e f = rw (← e, f) refl
@@ -54,6 +58,7 @@ no_tuple row Nil b h = refl
 no_tuple row (Cons head tail) b h = refl
 no_tuple row (Binary bytes) b h = refl
 
+-- A tuple fits no term of another kind.
 pub no_tuple_fits : (p t : Tree) (row : Row) (b : Bindings) → Tuple row ≡ p → is_tuple t ≡ false → bind p t b ≡ None
 no_tuple_fits p t row b e h = ap (λ (x : Tree). bind x t b) (sym e) ∙ no_tuple row t b h
 
@@ -63,6 +68,7 @@ none_then : (f : Bindings → Option Bindings) (o : Option Bindings) → ((b : B
 none_then f None h = refl
 none_then f (Some b) h = h b
 
+-- Tuples of different sizes do not fit.
 pub sizes_differ : (parts items : List Tree) (b : Bindings) → length parts ≢ length items → bind_row (row_of parts) (row_of items) b ≡ None
 unfolding bind_row
 sizes_differ [] [] b h = absurd (h refl)
@@ -71,6 +77,7 @@ sizes_differ (t ∷ ts) [] b h = refl
 sizes_differ (t ∷ ts) (u ∷ us) b h =
     none_then (bind_row (row_of ts) (row_of us)) (bind t u b) (λ c. sizes_differ ts us c (λ e. h (omega arith)))
 
+-- What matching the parts of a tuple from a place on does.
 abbrev pub rows_from : List Tree → List Tree → ℕ → Bindings → Option Bindings
 rows_from parts items k b = bind_row (row_of (drop k parts)) (row_of (drop k items)) b
 
@@ -80,6 +87,7 @@ row_at : (parts items : List Tree) (k : ℕ) (d e : Tree) (b : Bindings) → k <
 unfolding bind_row
 row_at parts items k d e b h i = rw (add-one, drop-cons parts k d, drop-cons items k e) refl
 
+-- Where an element fits, the elements behind it decide.
 pub row_step : (parts items : List Tree) (k : ℕ) (d e : Tree) (all : Option Bindings) (b c : Bindings) (r : Bool) → k < length parts → k < length items
     → all ≡ rows_from parts items k b → bind (get_or parts k d) (get_or items k e) b ≡ (if r then Some c else None) → r ≡ true
     → all ≡ rows_from parts items (k + 1) c
@@ -87,6 +95,7 @@ row_step parts items k d e all b c r h i a f t =
     a ∙ row_at parts items k d e b h i
     ∙ ap (option_and_then (rows_from parts items (k + 1))) (f ∙ ap (λ (x : Bool). if x then Some c else None) t)
 
+-- Where an element does not fit, the tuple does not.
 pub row_stop : (parts items : List Tree) (k : ℕ) (d e : Tree) (all : Option Bindings) (b c : Bindings) (r : Bool) → k < length parts → k < length items
     → all ≡ rows_from parts items k b → bind (get_or parts k d) (get_or items k e) b ≡ (if r then Some c else None) → r ≡ false
     → all ≡ None
@@ -94,6 +103,7 @@ row_stop parts items k d e all b c r h i a f t =
     a ∙ row_at parts items k d e b h i
     ∙ ap (option_and_then (rows_from parts items (k + 1))) (f ∙ ap (λ (x : Bool). if x then Some c else None) t)
 
+-- Behind the last element the bindings are those so far.
 pub row_end : (parts items : List Tree) (k : ℕ) (all : Option Bindings) (b : Bindings) → length parts ≤ k → length items ≤ k
     → all ≡ rows_from parts items k b → all ≡ Some b
 unfolding bind_row
@@ -101,6 +111,7 @@ row_end parts items k all b h i a = a ∙ (rw (drop_all k parts h, drop_all k it
 
 -- ---- list cells
 
+-- What matching a list from a head on does.
 abbrev pub cells_from : List Tree → Tree → Tree → ℕ → Bindings → Option Bindings
 cells_from heads tail rest k b = bind (list_of (drop k heads) tail) rest b
 
@@ -109,6 +120,7 @@ cell_at : (heads : List Tree) (tail first behind : Tree) (k : ℕ) (d : Tree) (b
 unfolding bind
 cell_at heads tail first behind k d b h = rw (add-one, drop-cons heads k d) refl
 
+-- Where a head fits the first element, the heads behind it decide.
 pub cell_step : (heads : List Tree) (tail rest first behind : Tree) (k : ℕ) (d : Tree) (all : Option Bindings) (b c : Bindings) (r : Bool) → k < length heads
     → rest ≡ Cons first behind → all ≡ cells_from heads tail rest k b → bind (get_or heads k d) first b ≡ (if r then Some c else None) → r ≡ true
     → all ≡ cells_from heads tail behind (k + 1) c
@@ -116,6 +128,7 @@ cell_step heads tail rest first behind k d all b c r h e a f t =
     a ∙ ap (λ (x : Tree). cells_from heads tail x k b) e ∙ cell_at heads tail first behind k d b h
     ∙ ap (option_and_then (cells_from heads tail behind (k + 1))) (f ∙ ap (λ (x : Bool). if x then Some c else None) t)
 
+-- Where a head does not fit the first element, the list fits nothing.
 pub cell_stop : (heads : List Tree) (tail rest first behind : Tree) (k : ℕ) (d : Tree) (all : Option Bindings) (b c : Bindings) (r : Bool) → k < length heads
     → rest ≡ Cons first behind → all ≡ cells_from heads tail rest k b → bind (get_or heads k d) first b ≡ (if r then Some c else None) → r ≡ false
     → all ≡ None
@@ -132,38 +145,47 @@ no_cell p q Nil b h = refl
 no_cell p q (Cons head tail) b h = cc
 no_cell p q (Binary bytes) b h = refl
 
+-- Where a head is left and no cell, the list does not fit.
 pub cell_none : (heads : List Tree) (tail rest : Tree) (k : ℕ) (d : Tree) (all : Option Bindings) (b : Bindings) → k < length heads
     → is_cell rest ≡ false → all ≡ cells_from heads tail rest k b → all ≡ None
 cell_none heads tail rest k d all b h n a =
     a ∙ ap (λ (x : List Tree). bind (list_of x tail) rest b) (drop-cons heads k d h) ∙ no_cell (get_or heads k d) (list_of (drop (suc k) heads) tail) rest b n
 
+-- Behind the last head the tail decides.
 pub cell_end : (heads : List Tree) (tail rest : Tree) (k : ℕ) (all : Option Bindings) (b c : Bindings) (r : Bool) → length heads ≤ k
     → all ≡ cells_from heads tail rest k b → bind tail rest b ≡ (if r then Some c else None) → all ≡ (if r then Some c else None)
 cell_end heads tail rest k all b c r h a f = a ∙ ap (λ (x : List Tree). bind (list_of x tail) rest b) (drop_all k heads h) ∙ f
 
 -- ---- places and nodes of parts
 
+-- A table with room for a tuple has room for each of its elements.
 pub part_places : (parts : List Tree) (k n : ℕ) (d : Tree) → k < length parts → row_places (row_of parts) ≤ n → places (get_or parts k d) ≤ n
 part_places [] k n d h l = absurd (omega arith)
 part_places (t ∷ ts) zero n d h l = omega arith
 part_places (t ∷ ts) (suc k) n d h l = part_places ts k n d (omega arith) (omega arith)
 
+-- A table with room for a list has room for each of its heads.
 pub head_places : (heads : List Tree) (tail : Tree) (k n : ℕ) (d : Tree) → k < length heads → places (list_of heads tail) ≤ n → places (get_or heads k d) ≤ n
 head_places [] tail k n d h l = absurd (omega arith)
 head_places (t ∷ ts) tail zero n d h l = omega arith
 head_places (t ∷ ts) tail (suc k) n d h l = head_places ts tail k n d (omega arith) (omega arith)
 
+-- A table with room for a list has room for its tail.
 pub tail_places : (heads : List Tree) (tail : Tree) (n : ℕ) → places (list_of heads tail) ≤ n → places tail ≤ n
 tail_places [] tail n l = l
 tail_places (t ∷ ts) tail n l = tail_places ts tail n (omega arith)
 
+-- A head of a list has fewer nodes than the list.
 pub head_nodes : (heads : List Tree) (tail : Tree) (k : ℕ) (d : Tree) → k < length heads → nodes (get_or heads k d) < nodes (list_of heads tail)
 head_nodes [] tail k d h = absurd (omega arith)
 head_nodes (t ∷ ts) tail zero d h = omega arith
 head_nodes (t ∷ ts) tail (suc k) d h = omega (arith, head_nodes ts tail k d (omega arith))
 
+-- How each shape of a part fits a term.
 pub ruleset part_fits = (anything_fits, variable_fits, equal_fits, tuple_fits, no_tuple_fits)
 
+-- How the parts of a tuple fit its elements, one after the other.
 pub ruleset rows_fit = (sizes_differ, row_step, row_stop, row_end, part_places, nodes_item)
 
+-- How the heads and the tail of a list fit its cells, one after the other.
 pub ruleset cells_fit = (cell_step, cell_stop, cell_none, cell_end, head_places, tail_places, head_nodes, tail_le-list)

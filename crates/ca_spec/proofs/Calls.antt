@@ -26,26 +26,30 @@ pub call_well : (scope : Scope) (text : List ℕ) (arguments : List Tree) → by
     → call_fault_in scope (Atom text) (row_of arguments) ≡ faults_in scope (row_of arguments)
 call_well scope text arguments other h = rw (other, size_row arguments, ← h)
 
+-- A call of an operator that does not stand there with so many arguments is no expression.
 pub call_bad : (scope : Scope) (text : List ℕ) (arguments : List Tree) → bytes_eq text (codes "const") ≡ false
     → false ≡ is_call (part_of scope.part) text (length arguments) → call_fault_in scope (Atom text) (row_of arguments) ≡ bad_in scope
 call_bad scope text arguments other h = rw (other, size_row arguments, ← h)
 
+-- What fault the call of an operator has, by whether it may stand there with so many arguments.
 pub ruleset operator_faults = (call_well, call_bad)
 
--- An operator has one argument or two.
+-- An operator has at least one argument.
 pub count_from : (operator : Operator) → 1 ≤ count_of operator
 count_from (One f) = omega arith
 count_from (Two f) = omega arith
 count_from (Short stop) = omega arith
 
+-- An operator has at most two arguments.
 pub count_to : (operator : Operator) → count_of operator ≤ 2
 count_to (One f) = omega arith
 count_to (Two f) = omega arith
 count_to (Short stop) = omega arith
 
+-- An operator has one argument or two.
 pub ruleset operand_faults = (count_from, count_to)
 
--- A tuple of one element.
+-- A tuple of one element has the fault of a tuple that makes a tuple.
 pub only_form : (scope : Scope) (items : List Tree) (t : Tree) → 1 ≤ length items → length items < 2 → t ≡ get_or items 0 t
     → form_fault_in scope (row_of items) ≡ tuple_fault_in scope t
 unfolding form_fault
@@ -53,7 +57,7 @@ only_form scope [] t h k e = absurd (omega arith)
 only_form scope (u ∷ []) t h k e = ap (tuple_fault_in scope) (sym e)
 only_form scope (u ∷ v ∷ us) t h k e = absurd (omega arith)
 
--- A tuple of more elements.
+-- A tuple of more elements has the fault of a call.
 pub call_form : (scope : Scope) (items : List Tree) (t : Tree) → 2 ≤ length items → t ≡ get_or items 0 t
     → form_fault_in scope (row_of items) ≡ call_fault_in scope t (row_of (take (length items - 1) (drop 1 items)))
 call_form scope [] t h e = absurd (omega arith)

@@ -24,11 +24,13 @@ bound_result : (head guards body object : Tree) (b c : Bindings) (r : Bool) → 
 bound_result head guards body object b c r e f =
     ap (on object guards (Cons body Nil)) (sym f ∙ ap (bind head object) e)
 
+-- A clause whose head does not fit has no result.
 pub no_fit : (head guards body object : Tree) (b c : Bindings) (r : Bool) → b ≡ no_bindings → bind head object b ≡ (if r then Some c else None)
     → r ≡ false → None ≡ clause_result (Tuple (More head (More guards (More (Cons body Nil) Ends)))) object
 no_fit head guards body object b c r e f n =
     ap (λ (x : Bool). on object guards (Cons body Nil) (if x then Some c else None)) (sym n) ∙ bound_result head guards body object b c r e f
 
+-- A clause with a guard that is not true has no result.
 pub no_pass : (head guards body object : Tree) (b c : Bindings) (r p : Bool) → b ≡ no_bindings → bind head object b ≡ (if r then Some c else None)
     → r ≡ true → p ≡ pass (record { object = object; bindings = c }) guards → p ≡ false
     → None ≡ clause_result (Tuple (More head (More guards (More (Cons body Nil) Ends)))) object
@@ -36,6 +38,7 @@ no_pass head guards body object b c r p e f n g q =
     ap (λ (x : Bool). if x then value (scene object c) body else None) (sym q ∙ g)
     ∙ ap (λ (x : Bool). on object guards (Cons body Nil) (if x then Some c else None)) (sym n) ∙ bound_result head guards body object b c r e f
 
+-- A clause whose head fits and whose guards hold has the value of its body as its result.
 pub holds : (head guards body object : Tree) (b c : Bindings) (r p : Bool) → b ≡ no_bindings → bind head object b ≡ (if r then Some c else None)
     → r ≡ true → p ≡ pass (record { object = object; bindings = c }) guards → p ≡ true
     → value (record { object = object; bindings = c }) body ≡ clause_result (Tuple (More head (More guards (More (Cons body Nil) Ends)))) object
@@ -43,10 +46,12 @@ holds head guards body object b c r p e f n g q =
     ap (λ (x : Bool). if x then value (scene object c) body else None) (sym q ∙ g)
     ∙ ap (λ (x : Bool). on object guards (Cons body Nil) (if x then Some c else None)) (sym n) ∙ bound_result head guards body object b c r e f
 
+-- The result of a clause, by whether its head fits and its guards hold.
 pub ruleset clause_results = (no_fit, no_pass, holds)
 
 -- ---- clauses
 
+-- The result that the clauses from one on give.
 abbrev pub result_from : List Clause → Tree → ℕ → Option Tree
 result_from clauses object k = result_of (list_of (map tree_of_clause (drop k clauses)) Nil) object
 
@@ -55,21 +60,25 @@ clause_at : (clauses : List Clause) (object : Tree) (k : ℕ) (d : Clause) → k
 unfolding result_of
 clause_at clauses object k d h = rw (add-one, drop-cons clauses k d) refl
 
+-- The result of the next clause is that of all clauses where that clause holds.
 pub clause_holds : (clauses : List Clause) (object : Tree) (k : ℕ) (d : Clause) (t : Tree) (all : Option Tree) → k < length clauses
     → all ≡ result_from clauses object k → Some t ≡ clause_result (tree_of_clause (get_or clauses k d)) object → Some t ≡ all
 clause_holds clauses object k d t all h a e =
     sym (a ∙ clause_at clauses object k d h ∙ ap (λ (x : Option Tree). option_or x (result_from clauses object (k + 1))) (sym e))
 
+-- Where the next clause has no result, the clauses behind it decide.
 pub clause_fails : (clauses : List Clause) (object : Tree) (k : ℕ) (d : Clause) (all : Option Tree) → k < length clauses
     → all ≡ result_from clauses object k → None ≡ clause_result (tree_of_clause (get_or clauses k d)) object → all ≡ result_from clauses object (k + 1)
 clause_fails clauses object k d all h a e =
     a ∙ clause_at clauses object k d h ∙ ap (λ (x : Option Tree). option_or x (result_from clauses object (k + 1))) (sym e)
 
+-- Where no clause is left there is no result.
 pub no_clause : (clauses : List Clause) (object : Tree) (k : ℕ) (all : Option Tree) → length clauses ≤ k
     → all ≡ result_from clauses object k → None ≡ all
 unfolding result_of
 no_clause clauses object k all h a = sym (a ∙ (rw (drop_all k clauses h) refl))
 
+-- The result of all clauses is that of the first one that holds.
 pub ruleset first_results = (clause_holds, clause_fails, no_clause)
 
 -- The clauses are those of the specification.

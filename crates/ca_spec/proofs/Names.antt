@@ -35,11 +35,14 @@ all_by : (b : Bool) (n : ℕ) → b ≡ nat_lt n 10 → is_all_bound (spelled b 
 all_by true n e = grind (arith, nat_tests)
 all_by false n e = grind (arith, nat_tests)
 
+-- No variable is the wildcard.
 pub no_wildcard : (n : ℕ) → is_wildcard (variable_name n) ≡ false
 no_wildcard n = wildcard_by (nat_lt n 10) n
 
+-- No variable is the name of the whole object.
 pub not_whole : (n : ℕ) → is_whole (variable_name n) ≡ false
 not_whole n = whole_by (nat_lt n 10) n refl
 
+-- No variable is the name of all that is bound.
 pub not_all_bound : (n : ℕ) → is_all_bound (variable_name n) ≡ false
 not_all_bound n = all_by (nat_lt n 10) n refl

@@ -61,7 +61,7 @@ none_behind table n h = behind_front table (100 - length table) n h
 
 -- ---- what is bound
 
--- the terms that are bound from a place on
+-- The terms that are bound from a place on.
 abbrev pub bound_from : List (Option (Bor Tree)) → ℕ → List Tree
 bound_from table k = filter_map (λ b. b) (map bound_at (drop k table) ++ replicate (100 - length table) None)
 
@@ -69,6 +69,7 @@ bound_head : (table : Table) (k : ℕ) (d : Option (Bor Tree)) → k < length ta
     → bound_from table k ≡ filter_map (λ b. b) (bound_at (get_or table k d) ∷ (map bound_at (drop (k + 1) table) ++ replicate (100 - length table) None))
 bound_head table k d h = rw (add-one, drop-cons table k d) refl
 
+-- A place with a term adds that term to what is bound.
 pub one_bound : (table : List (Option (Bor Tree))) (k : ℕ) (d : Option (Bor Tree)) (t : Bor Tree) (ts all : List Tree) → k < length table
     → all ≡ ts ++ bound_from table k → get_or table k d ≡ Some t → all ≡ (ts ++ t.now ∷ []) ++ bound_from table (k + 1)
 one_bound table k d t ts all h a e =
@@ -76,6 +77,7 @@ one_bound table k d t ts all h a e =
     ∙ ap (λ (x : Option (Bor Tree)). filter_map (λ b. b) (bound_at x ∷ (map bound_at (drop (k + 1) table) ++ replicate (100 - length table) None))) e)
     ∙ sym (append_assoc ts (t.now ∷ []) (bound_from table (k + 1)))
 
+-- An empty place adds nothing to what is bound.
 pub not_bound : (table : List (Option (Bor Tree))) (k : ℕ) (d : Option (Bor Tree)) (ts all : List Tree) → k < length table
     → all ≡ ts ++ bound_from table k → get_or table k d ≡ None → all ≡ ts ++ bound_from table (k + 1)
 not_bound table k d ts all h a e =
@@ -89,9 +91,11 @@ nothing (suc m) = nothing m
 bound_end : (table : Table) (k : ℕ) → length table ≤ k → bound_from table k ≡ []
 bound_end table k h = rw (drop_all k table h) (nothing (100 - length table))
 
+-- Behind the last place all that is bound was gathered.
 pub all_are_bound : (table : List (Option (Bor Tree))) (k : ℕ) (ts : List Tree) → length table ≤ k → bound_from table 0 ≡ ts ++ bound_from table k
     → list_of ts Nil ≡ all_bound (table_of table)
 all_are_bound table k ts h a =
     ap (λ (x : List Tree). list_of x Nil) (sym (a ∙ ap (λ (x : List Tree). ts ++ x) (bound_end table k h) ∙ append-nil ts))
 
+-- Going over the places in order gathers what is bound in the order of the numbers.
 pub ruleset bound_table = (one_bound, not_bound, all_are_bound)

@@ -27,8 +27,11 @@ fn pair(alloc: Global, first: Term, second: Term) -> Result<Term, Fail> {
     Ok(tuple(items)?)
 }
 
-// Calls of operators with their values, or `None` where they fail. '$1' is [1|2], and '$2' is <<7,8,9>>.
-const CALLS: [(&str, Option<&str>); 99] = [
+// Calls of operators with their values, or `None` where they fail. '$1' is [1|2], and '$2' is <<7,8,9>>. They stand in several tables since the
+// proof of a test grows fast with the table that it goes over.
+type Call = (&'static str, Option<&'static str>);
+
+const TRUTHS: [Call; 30] = [
     ("{ is_atom a }", Some("true")),
     ("{ is_atom 1 }", Some("false")),
     ("{ is_integer 9223372036854775807 }", Some("true")),
@@ -59,6 +62,9 @@ const CALLS: [(&str, Option<&str>); 99] = [
     ("{ orelse false true }", Some("true")),
     ("{ orelse false { div 1 0 } }", None),
     ("{ and false { div 1 0 } }", None),
+];
+
+const COMPARISONS: [Call; 16] = [
     ("{ > a 9223372036854775807 }", Some("true")),
     ("{ > 1 1 }", Some("false")),
     ("{ >= 1 1 }", Some("true")),
@@ -81,6 +87,9 @@ const CALLS: [(&str, Option<&str>); 99] = [
     ("{ /= $2 $2 }", Some("false")),
     ("{ =/= a true }", Some("true")),
     ("{ =/= [ ] [ ] }", Some("false")),
+];
+
+const NUMBERS: [Call; 31] = [
     ("{ + 9223372036854775807 -1 }", Some("9223372036854775806")),
     ("{ + 9223372036854775807 1 }", None),
     ("{ + 1 a }", None),
@@ -124,6 +133,9 @@ const CALLS: [(&str, Option<&str>); 99] = [
     ("{ bnot 9223372036854775807 }", Some("-9223372036854775808")),
     ("{ bnot -9223372036854775808 }", Some("9223372036854775807")),
     ("{ bnot a }", None),
+];
+
+const PARTS: [Call; 22] = [
     ("{ element 2 { const { 1 2 } } }", Some("2")),
     ("{ element 3 { const { 1 2 } } }", None),
     ("{ element 0 { const { 1 2 } } }", None),
@@ -148,28 +160,64 @@ const CALLS: [(&str, Option<&str>); 99] = [
     ("{ byte_size { const { 1 2 } } }", None),
 ];
 
-#[test]
-fn operators_have_their_values(rt: HostRuntime) -> Result<(), Fail> {
-    let alloc = rt.alloc();
-    let object = pair(alloc, cons(alloc, int(1), int(2))?, bin(alloc, &[7, 8, 9])?)?;
+// Whether a guard finds two expressions exactly equal for an object.
+fn found_equal(alloc: Global, object: &Term, first: &str, second: &str) -> Result<bool, Fail> {
+    let text = format!(in alloc; "[ {{ {{ $1 $2 }} [ {{ =:= {first} {second} }} ] [ true ] }} ]")?;
+    let spec = term(alloc, text.as_str())?;
     let yes = term(alloc, "true")?;
-    for (call, value) in CALLS {
-        // A call that fails isn't equal to itself.
-        let text = format!(in alloc; "[ {{ {{ $1 $2 }} [ {{ =:= {call} {call} }} ] [ true ] }} ]")?;
-        let defined = if value.is_some() { Some(&yes) } else { None };
-        assert!(rt;
-            gives(alloc, &term(alloc, text.as_str())?, &object, defined)?,
-            "{call}"
-        );
-        if let Some(value) = value {
-            let text = format!(in alloc;
-                "[ {{ {{ $1 $2 }} [ {{ =:= {call} {value} }} ] [ true ] }} ]"
-            )?;
-            assert!(rt;
-                gives(alloc, &term(alloc, text.as_str())?, &object, Some(&yes))?,
-                "{call}"
-            );
-        }
+    gives(alloc, &spec, object, Some(&yes))
+}
+
+// Whether a call has this value for an object, or fails where none is given. A call that fails isn't equal to itself.
+fn has_value(alloc: Global, object: &Term, call: &str, value: Option<&str>) -> Result<bool, Fail> {
+    let defined = found_equal(alloc, object, call, call)?;
+    match value {
+        Some(value) => Ok(defined && found_equal(alloc, object, call, value)?),
+        None => Ok(!defined),
+    }
+}
+
+// '$1' and '$2' in one object.
+fn two_parts(alloc: Global) -> Result<Term, Fail> {
+    pair(alloc, cons(alloc, int(1), int(2))?, bin(alloc, &[7, 8, 9])?)
+}
+
+#[test]
+fn tests_and_connectives_have_their_values(rt: HostRuntime) -> Result<(), Fail> {
+    let alloc = rt.alloc();
+    let object = two_parts(alloc)?;
+    for (call, value) in TRUTHS {
+        assert!(rt; has_value(alloc, &object, call, value)?, "{call}");
+    }
+    Ok(())
+}
+
+#[test]
+fn comparisons_have_their_values(rt: HostRuntime) -> Result<(), Fail> {
+    let alloc = rt.alloc();
+    let object = two_parts(alloc)?;
+    for (call, value) in COMPARISONS {
+        assert!(rt; has_value(alloc, &object, call, value)?, "{call}");
+    }
+    Ok(())
+}
+
+#[test]
+fn arithmetic_has_its_values(rt: HostRuntime) -> Result<(), Fail> {
+    let alloc = rt.alloc();
+    let object = two_parts(alloc)?;
+    for (call, value) in NUMBERS {
+        assert!(rt; has_value(alloc, &object, call, value)?, "{call}");
+    }
+    Ok(())
+}
+
+#[test]
+fn parts_and_sizes_have_their_values(rt: HostRuntime) -> Result<(), Fail> {
+    let alloc = rt.alloc();
+    let object = two_parts(alloc)?;
+    for (call, value) in PARTS {
+        assert!(rt; has_value(alloc, &object, call, value)?, "{call}");
     }
     Ok(())
 }

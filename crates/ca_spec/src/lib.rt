@@ -21,6 +21,8 @@ pub use results::apply;
 pub use spec::Spec;
 
 #[cfg(test)]
+mod alike;
+#[cfg(test)]
 mod applied;
 #[cfg(test)]
 mod tests;

@@ -12,12 +12,14 @@ use Rattle.ca_spec.proofs.evaluation.+value.Goals as goal
 
 pub value-returns-in-Some : goal.value-returns-in-Some
 value-returns-in-Some t c =
-    variable_some (scene_of c.args.object.now c.args.table.now) c.args.expression.now c.in-Some.term.now c.in-Variable.number (subst IsForm c.in-Variable.is c.expression.invariant)
+    variable_some (scene_of c.args.object.now c.args.table.now) c.args.expression.now c.in-Some.term.now c.in-Variable.number
+    (subst IsForm c.in-Variable.is c.expression.invariant)
     (sym (ap tree_of_form c.in-Variable.is) ∙ c.expression.view_is) c.in-Some.ensures
 
 pub value-returns-in-None : goal.value-returns-in-None
 value-returns-in-None t c =
-    variable_none (scene_of c.args.object.now c.args.table.now) c.args.expression.now c.in-Variable.number (subst IsForm c.in-Variable.is c.expression.invariant)
+    variable_none (scene_of c.args.object.now c.args.table.now) c.args.expression.now c.in-Variable.number
+    (subst IsForm c.in-Variable.is c.expression.invariant)
     (sym (ap tree_of_form c.in-Variable.is) ∙ c.expression.view_is) c.in-None.ensures
 
 pub value-returns-in-Constant : goal.value-returns-in-Constant
