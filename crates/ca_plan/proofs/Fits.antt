@@ -11,14 +11,17 @@ use Rattle.ca_ets.specs.Match.{Bindings, bind, bind_name, bind_row, where_equal}
 use Rattle.ca_ets.specs.Variable.{is_wildcard, variable_of}
 use Rattle.ca_plan.specs.Plan.{is_fixed, is_fixed_row}
 
+-- Where two tests hold, the first does.
 pub both_first : (a b : Bool) → (a && b) ≡ true → a ≡ true
 both_first true b e = refl
 both_first false b e = cc
 
+-- And the second does.
 pub both_second : (a b : Bool) → (a && b) ≡ true → b ≡ true
 both_second true b e = e
 both_second false b e = cc
 
+-- Terms that compare as equal are one.
 pub same_by : (o : Ordering) (p t : Tree) → term_cmp p t ≡ o → is_eq o ≡ true → p ≡ t
 same_by Less p t e h = cc
 same_by Equal p t e h = tree_same p t e
@@ -62,6 +65,7 @@ mutual
   fixed_fits (Cons head tail) t b c f e = cc
   fixed_fits (Binary bytes) t b c f e = equal_fits (Binary bytes) t b c e
 
+  -- Elements without them fit equal elements alone.
   pub fixed_row_fits : (row us : Row) (b c : Bindings) → is_fixed_row row ≡ true → bind_row row us b ≡ Some c → row ≡ us
   fixed_row_fits Ends Ends b c f e = refl
   fixed_row_fits Ends (More u us) b c f e = cc
