@@ -2,6 +2,7 @@
 use Rattle.std.specs.Prelude.{◌≡◌, ◌≤◌, ℕ, Bool, true, List, Result}
 use Rattle.ca_term.specs.Tree.{Tree}
 use Rattle.ca_term.specs.Object.{fits}
+use Rattle.ca_ets.specs.Specification.{IsSpecification}
 use Rattle.ca_ets.specs.declared.command.Cmd.{Cmd}
 use Rattle.ca_ets.specs.declared.command.Reply.{Reply}
 use Rattle.ca_ets.specs.declared.command.Reply.TheVariants as reply
@@ -28,10 +29,10 @@ pub data Continuation : Type 0 where
   At : Tree → ℕ → Tree → Continuation
   AtEnd : Continuation
 
--- A batch has at least one result, and goes on behind a key that fits.
+-- A batch is of a specification, has at least one result, and goes on behind a key that fits.
 abbrev pub IsContinuation : Continuation → Type 0
 IsContinuation Never = Unit {0}
-IsContinuation (At spec limit key) = (1 ≤ limit) × (fits key ≡ true)
+IsContinuation (At spec limit key) = IsSpecification spec × (1 ≤ limit) × (fits key ≡ true)
 IsContinuation AtEnd = Unit {0}
 
 -- why a command has no reply: the table has no room, no depth or no numbers left

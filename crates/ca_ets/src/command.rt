@@ -20,6 +20,24 @@ pub enum Cmd {
     UpdateCounter(Term, Term),
     /// The key, and the position with its new element.
     UpdateElement(Term, Term),
+    /// The least key is the reply.
+    First,
+    /// The greatest key is the reply.
+    Last,
+    /// The key, which need not be in the table. The least key above it is the reply.
+    Next(Term),
+    /// The key, which need not be in the table. The greatest key below it is the reply.
+    Prev(Term),
+    /// The match specification. The results of all objects are the reply.
+    Select(Term),
+    /// The least key, the greatest key, and the match specification. The results of the objects from the one to the other are the reply;
+    /// this call is the project's own.
+    SelectRange(Term, Term, Term),
+    /// The match specification, and the number of results, at least 1. The first so many results are the reply; the manual's call is
+    /// `select` with a limit.
+    Batch(Term, Term),
+    /// The next batch of the client's continuation is the reply; the manual's call is `select` of a continuation.
+    More,
 }
 
 /// The reply to a command.
@@ -55,7 +73,7 @@ pub enum Fault {
 pub enum Cont {
     /// No batch was asked for yet.
     Never,
-    /// Behind a key that fits, with the specification and the number of results, at least 1, of the batch that began.
+    /// Behind a key that fits, with the match specification and the number of results, at least 1, of the batch that began.
     At { spec: Term, limit: u64, key: Term },
     /// At the table's end.
     AtEnd,

@@ -100,6 +100,7 @@ impl ListTable {
             Cmd::Take(k) => self.take(alloc, k),
             Cmd::UpdateCounter(k, op) => self.update_counter(alloc, k, op),
             Cmd::UpdateElement(k, op) => self.update_element(alloc, k, op),
+            _ => unreachable!(),
         }
     }
 

@@ -2,7 +2,7 @@
 use Rattle.std.specs.Prelude.{◌≡◌, ◌⊎◌, ℕ, ◌+◌, ◌≤◌, true, [], Some, Result, Ok, Err}
 use Rattle.ca_term.specs.Code.{code_of}
 use Rattle.ca_ets.specs.Command.{Command, Continuation, response_of}
-use Rattle.ca_ets.specs.declared.command.Cmd.TheVariants.{Insert, InsertNew, Lookup, Member, Delete, Take, UpdateCounter, UpdateElement}
+use Rattle.ca_ets.specs.declared.command.Cmd.TheVariants.{Insert, InsertNew, Lookup, Member, Delete, Take, UpdateCounter, UpdateElement, First, Last, Next, Prev, Select, SelectRange, Batch, More}
 use Rattle.ca_ets.specs.Update.{Several, operations_of}
 use Rattle.ca_ets.specs.declared.command.Reply.{Reply}
 use Rattle.ca_model.specs.declared.outcome.Outcome.{Outcome}
@@ -26,8 +26,16 @@ IsOvertaken a b (Delete k) spent = ⊥
 IsOvertaken a b (Take k) spent = (spent ≡ one_lost) × Overtaken a b (code_of k)
 IsOvertaken a b (UpdateCounter k op) spent = ⊥
 IsOvertaken a b (UpdateElement k op) spent = ⊥
+IsOvertaken a b First spent = ⊥
+IsOvertaken a b Last spent = ⊥
+IsOvertaken a b (Next k) spent = ⊥
+IsOvertaken a b (Prev k) spent = ⊥
+IsOvertaken a b (Select s) spent = ⊥
+IsOvertaken a b (SelectRange lo hi s) spent = ⊥
+IsOvertaken a b (Batch s n) spent = ⊥
+IsOvertaken a b More spent = ⊥
 
--- Whether the store may refuse the command's call: it never refuses a read.
+-- Whether the store may refuse the command's call: it never refuses a read of one key.
 abbrev pub MayBeRefused : Command → Type 0
 MayBeRefused (Insert o) = Unit {0}
 MayBeRefused (InsertNew o) = Unit {0}
@@ -37,6 +45,14 @@ MayBeRefused (Delete k) = Unit {0}
 MayBeRefused (Take k) = Unit {0}
 MayBeRefused (UpdateCounter k op) = Unit {0}
 MayBeRefused (UpdateElement k op) = Unit {0}
+MayBeRefused First = Unit {0}
+MayBeRefused Last = Unit {0}
+MayBeRefused (Next k) = Unit {0}
+MayBeRefused (Prev k) = Unit {0}
+MayBeRefused (Select s) = Unit {0}
+MayBeRefused (SelectRange lo hi s) = Unit {0}
+MayBeRefused (Batch s n) = Unit {0}
+MayBeRefused More = Unit {0}
 
 -- Whether it may be for want of levels: a new key alone needs one.
 abbrev pub MayBeDeep : Command → Type 0
@@ -48,6 +64,14 @@ MayBeDeep (Delete k) = ⊥
 MayBeDeep (Take k) = ⊥
 MayBeDeep (UpdateCounter k op) = ⊥
 MayBeDeep (UpdateElement k op) = ⊥
+MayBeDeep First = ⊥
+MayBeDeep Last = ⊥
+MayBeDeep (Next k) = ⊥
+MayBeDeep (Prev k) = ⊥
+MayBeDeep (Select s) = ⊥
+MayBeDeep (SelectRange lo hi s) = ⊥
+MayBeDeep (Batch s n) = ⊥
+MayBeDeep More = ⊥
 
 -- Nothing but the room changed, or the table only read.
 abbrev pub EditsNothing : Known → Known → Type 0
@@ -63,6 +87,14 @@ IsEmptyUpdate keypos (Delete k) = ⊥
 IsEmptyUpdate keypos (Take k) = ⊥
 IsEmptyUpdate keypos (UpdateCounter k op) = operations_of keypos op ≡ Some (Several [])
 IsEmptyUpdate keypos (UpdateElement k op) = ⊥
+IsEmptyUpdate keypos First = ⊥
+IsEmptyUpdate keypos Last = ⊥
+IsEmptyUpdate keypos (Next k) = ⊥
+IsEmptyUpdate keypos (Prev k) = ⊥
+IsEmptyUpdate keypos (Select s) = ⊥
+IsEmptyUpdate keypos (SelectRange lo hi s) = ⊥
+IsEmptyUpdate keypos (Batch s n) = ⊥
+IsEmptyUpdate keypos More = ⊥
 
 module _ (a b : Known) (budget : ℕ) (command : Command) where
   -- A reply is that of the command's step, at every continuation, which stays as it was. A refusal is one of the store, whose count
@@ -79,6 +111,18 @@ module _ (a b : Known) (budget : ℕ) (command : Command) where
   abbrev pub ComesTo : {Lack : Type 0} → Result (Outcome Reply) Lack → Type 0
   ComesTo (Ok outcome) = HasOutcome outcome
   ComesTo (Err lack) = EditsNothing a b
+
+  -- The same of a call of a client whose batches stood here before it and stand there behind it: a reply alone moves them.
+  abbrev pub HasOutcomeFrom : Continuation → Continuation → Outcome Reply → Type 0
+  HasOutcomeFrom before behind (outcome.Done reply) = Steps a b before command (response_of reply) behind
+  HasOutcomeFrom before behind (outcome.Busy spent) = HasOutcome (outcome.Busy spent) × (behind ≡ before)
+  HasOutcomeFrom before behind (outcome.Full cause) = HasOutcome (outcome.Full cause) × (behind ≡ before)
+  HasOutcomeFrom before behind (outcome.Deep level) = HasOutcome (outcome.Deep level) × (behind ≡ before)
+  HasOutcomeFrom before behind (outcome.Worn counter) = HasOutcome (outcome.Worn counter) × (behind ≡ before)
+
+  abbrev pub ComesToFrom : {Lack : Type 0} → Continuation → Continuation → Result (Outcome Reply) Lack → Type 0
+  ComesToFrom before behind (Ok outcome) = HasOutcomeFrom before behind outcome
+  ComesToFrom before behind (Err lack) = EditsNothing a b × (behind ≡ before)
 
 -- Over a store that is sure and that nobody else edits, each call is done where memory is found.
 abbrev pub SureAndAloneIsDone : Type 0
