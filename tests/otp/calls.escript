@@ -1,8 +1,9 @@
 #!/usr/bin/env escript
-%% Command files of the point calls, and what a real `ets` table of the type `ordered_set` answers.
+%% Command files of all calls, and what a real `ets` table of the type `ordered_set` answers.
 %%   calls.escript COUNT SEED FOLDER   writes so many command files, 1, 2 and so on, into FOLDER, and beside each, as N.stdout, what a program must print.
-%% The replies are those of `ets` itself. Two things are this project's own and are told from what `ets` answers: the error `range`, where a value has
-%% more than 64 bits, and that the other arguments are checked before the key is looked for.
+%% The replies are those of `ets` itself. What is this project's own is told from what `ets` answers: the error `range`, where a value has more than 64
+%% bits; that the other arguments are checked before the key is looked for; `select_range`, which is a `select` of a table of the objects between the keys;
+%% and `batch` and `more`, which are `select` with a limit and of the continuation that it gave.
 -mode(compile).
 
 main([Count, Seed, Folder]) ->
@@ -10,10 +11,13 @@ main([Count, Seed, Folder]) ->
     [file(filename:join(Folder, integer_to_list(Number))) || Number <- lists:seq(1, list_to_integer(Count))].
 
 file(Name) ->
-    Commands = [command() || _ <- lists:seq(1, rand:uniform(40) - 1)],
+    Commands = [{insert, object()} || _ <- lists:seq(1, rand:uniform(12) - 1)] ++ [command() || _ <- lists:seq(1, rand:uniform(40) - 1)],
     Table = ets:new(table, [ordered_set]),
     Lines = lists:zip(lists:seq(1, length(Commands)), Commands),
-    Answers = [[integer_to_list(N), $\s, show_reply(answer(Table, C)), $\n] || {N, C} <- Lines],
+    {Answers, _} = lists:mapfoldl(fun({N, C}, Continuation) ->
+        {Reply, Next} = answer(Table, Continuation, C),
+        {[integer_to_list(N), $\s, show_reply(Reply), $\n], Next}
+    end, never, Lines),
     Objects = ets:tab2list(Table),
     ets:delete(Table),
     End = ["table\n", [[show(O), ".\n"] || O <- Objects], "end ", integer_to_list(length(Objects)), $\n],
@@ -23,16 +27,55 @@ file(Name) ->
 %% ---- Random commands: few keys, so that calls meet, and numbers at the ends of 64 bits.
 
 command() ->
-    case rand:uniform(12) of
-        N when N =< 2 -> {insert, object()};
-        3 -> {insert_new, object()};
-        4 -> {lookup, key()};
-        5 -> {member, key()};
-        6 -> {delete, key()};
-        7 -> {take, key()};
-        N when N =< 10 -> {update_counter, key(), operations()};
-        _ -> {update_element, key(), element()}
+    case rand:uniform(26) of
+        N when N =< 5 -> {insert, object()};
+        6 -> {insert_new, object()};
+        7 -> {lookup, key()};
+        8 -> {member, key()};
+        9 -> {delete, key()};
+        10 -> {take, key()};
+        N when N =< 12 -> {update_counter, key(), operations()};
+        N when N =< 14 -> {update_element, key(), element()};
+        15 -> {one_of([first, last])};
+        N when N =< 17 -> {one_of([next, prev]), key()};
+        N when N =< 19 -> {select, specification()};
+        N when N =< 21 -> {select_range, key(), key(), specification()};
+        N when N =< 23 -> {batch, specification(), limit()};
+        _ -> {more}
     end.
+
+limit() ->
+    case rand:uniform(10) of
+        1 -> one_of([0, -1, a, {1}, []]);
+        _ -> rand:uniform(4)
+    end.
+
+specification() ->
+    case rand:uniform(8) of
+        1 -> one_of([a, 1, {}, [a], [{}], [{'_', []}], [{1, [], ['$_']}], [{a, [], ['$_']}], [{'_', a, ['$_']}], [{'_', [], []}], [{'_', [], a}],
+            [{'_', [{foo, 1}], ['$_']}], [{'_', [{'>', 1}], ['$_']}], [{'_', [], ['$1']}], [{'_', [{'>', '$2', 1}], ['$_']}], [{'_', [], [{a}]}],
+            [{'_', [], ['$_']} | a]]);
+        _ -> [clause() || _ <- lists:seq(1, rand:uniform(2))]
+    end.
+
+clause() ->
+    {Head, Variables} = one_of([
+        {'_', []}, {'$1', ['$1']}, {{'$1'}, ['$1']}, {{'$1', '$2'}, ['$1', '$2']}, {{'$1', '_'}, ['$1']}, {{'$2', '$1', '_'}, ['$1', '$2']},
+        {{'$1', '$1'}, ['$1']}, {{key(), '$1'}, ['$1']}, {{key(), '$1', '_'}, ['$1']}, {{key()}, []}, {{'$1', value()}, ['$1']}]),
+    {Head, [guard(Variables) || _ <- lists:seq(1, max(0, rand:uniform(4) - 2))], [body(Variables)]}.
+
+guard(Variables) ->
+    Variable = one_of(Variables ++ ['$_']),
+    case rand:uniform(5) of
+        1 -> {is_integer, Variable};
+        2 -> {is_atom, Variable};
+        3 -> {'not', {is_tuple, Variable}};
+        _ -> {one_of(['>', '<', '>=', '=<', '=:=', '/=']), Variable, {const, value()}}
+    end.
+
+body(Variables) ->
+    Variable = one_of(Variables ++ ['$_']),
+    one_of([Variable, Variable, '$_', '$$', {{Variable, '$_'}}, [Variable, a], [Variable | 1], {const, key()}, 7, a, <<"ab">>]).
 
 object() ->
     case rand:uniform(20) of
@@ -82,11 +125,35 @@ one_of(List) -> lists:nth(rand:uniform(length(List)), List).
 
 %% ---- The answers of `ets`.
 
+%% The reply, and the client's continuation behind it: `never`, the end, or the limit with what `ets` gave.
+answer(_, never, {more}) -> {{error, badarg}, never};
+answer(_, '$end_of_table', {more}) -> {'$end_of_table', '$end_of_table'};
+answer(_, {Limit, Continuation}, {more}) -> batch({Limit, Continuation}, Limit, fun() -> ets:select(Continuation) end);
+answer(Table, Continuation, {batch, Specification, Limit}) -> batch(Continuation, Limit, fun() -> ets:select(Table, Specification, Limit) end);
+answer(Table, Continuation, Command) -> {answer(Table, Command), Continuation}.
+
+%% Where a specification fixes the key, `ets` tells a full batch as the last one; here a full batch is never told so.
+batch(Continuation, Limit, Select) ->
+    try Select() of
+        '$end_of_table' -> {'$end_of_table', '$end_of_table'};
+        {Results, '$end_of_table'} when length(Results) =:= Limit -> {{Results, more}, '$end_of_table'};
+        {Results, '$end_of_table'} -> {{Results, '$end_of_table'}, '$end_of_table'};
+        {Results, Next} -> {{Results, more}, {Limit, Next}}
+    catch error:badarg -> {{error, badarg}, Continuation}
+    end.
+
 answer(Table, {update_counter, Key, Operations}) -> counted(Table, Key, Operations, are_operations(Operations));
 answer(Table, {update_element, Key, Element}) -> replaced(Table, Key, Element, is_element(Element));
 answer(Table, {take, Key}) -> ets:take(Table, Key);
-answer(Table, {Call, Argument}) ->
-    try ets:Call(Table, Argument)
+answer(Table, {select_range, Least, Greatest, Specification}) ->
+    Between = ets:new(between, [ordered_set]),
+    ets:insert(Between, [O || O <- ets:tab2list(Table), Least =< element(1, O), element(1, O) =< Greatest]),
+    Reply = answer(Between, {select, Specification}),
+    ets:delete(Between),
+    Reply;
+answer(Table, Command) ->
+    [Call | Arguments] = tuple_to_list(Command),
+    try apply(ets, Call, [Table | Arguments])
     catch error:badarg -> {error, badarg}
     end.
 

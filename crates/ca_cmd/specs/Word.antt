@@ -20,6 +20,14 @@ words =
     ∷ (codes "take", word.Take)
     ∷ (codes "update_counter", word.UpdateCounter)
     ∷ (codes "update_element", word.UpdateElement)
+    ∷ (codes "first", word.First)
+    ∷ (codes "last", word.Last)
+    ∷ (codes "next", word.Next)
+    ∷ (codes "prev", word.Prev)
+    ∷ (codes "select", word.Select)
+    ∷ (codes "select_range", word.SelectRange)
+    ∷ (codes "batch", word.Batch)
+    ∷ (codes "more", word.More)
     ∷ []
 
 -- a command by its arguments
@@ -39,6 +47,14 @@ form_of word.Delete = One command.Delete
 form_of word.Take = One command.Take
 form_of word.UpdateCounter = Two command.UpdateCounter
 form_of word.UpdateElement = Two command.UpdateElement
+form_of word.First = Bare command.First
+form_of word.Last = Bare command.Last
+form_of word.Next = One command.Next
+form_of word.Prev = One command.Prev
+form_of word.Select = One command.Select
+form_of word.SelectRange = Three command.SelectRange
+form_of word.Batch = Two command.Batch
+form_of word.More = Bare command.More
 
 -- how many arguments a command has
 abbrev pub count_of : Form → ℕ

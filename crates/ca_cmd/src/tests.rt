@@ -7,16 +7,24 @@ use std::process::Abort;
 use std::test::Fail;
 
 // A command's word and its arguments.
-fn parts(cmd: &Cmd) -> (&'static [u8], &Term, Option<&Term>) {
+fn parts(cmd: &Cmd) -> (&'static [u8], [Option<&Term>; 3]) {
     match cmd {
-        Cmd::Insert(object) => (b"insert", object, None),
-        Cmd::InsertNew(object) => (b"insert_new", object, None),
-        Cmd::Lookup(key) => (b"lookup", key, None),
-        Cmd::Member(key) => (b"member", key, None),
-        Cmd::Delete(key) => (b"delete", key, None),
-        Cmd::Take(key) => (b"take", key, None),
-        Cmd::UpdateCounter(key, op) => (b"update_counter", key, Some(op)),
-        Cmd::UpdateElement(key, op) => (b"update_element", key, Some(op)),
+        Cmd::Insert(object) => (b"insert", [Some(object), None, None]),
+        Cmd::InsertNew(object) => (b"insert_new", [Some(object), None, None]),
+        Cmd::Lookup(key) => (b"lookup", [Some(key), None, None]),
+        Cmd::Member(key) => (b"member", [Some(key), None, None]),
+        Cmd::Delete(key) => (b"delete", [Some(key), None, None]),
+        Cmd::Take(key) => (b"take", [Some(key), None, None]),
+        Cmd::UpdateCounter(key, op) => (b"update_counter", [Some(key), Some(op), None]),
+        Cmd::UpdateElement(key, op) => (b"update_element", [Some(key), Some(op), None]),
+        Cmd::First => (b"first", [None, None, None]),
+        Cmd::Last => (b"last", [None, None, None]),
+        Cmd::Next(key) => (b"next", [Some(key), None, None]),
+        Cmd::Prev(key) => (b"prev", [Some(key), None, None]),
+        Cmd::Select(spec) => (b"select", [Some(spec), None, None]),
+        Cmd::SelectRange(lo, hi, spec) => (b"select_range", [Some(lo), Some(hi), Some(spec)]),
+        Cmd::Batch(spec, limit) => (b"batch", [Some(spec), Some(limit), None]),
+        Cmd::More => (b"more", [None, None, None]),
     }
 }
 
@@ -28,14 +36,14 @@ fn listed(alloc: Global, file: &[u8]) -> Result<Vec<u8>, Fail> {
     let lines = read_file(alloc, file)?;
     let mut text = Vec::new(alloc);
     for line in lines.as_slice() {
-        let (word, argument, further) = parts(&line.cmd);
+        let (word, arguments) = parts(&line.cmd);
         text.extend_from_slice(format!(in alloc; "{} ", line.number)?.as_bytes())?;
         text.extend_from_slice(word)?;
-        text.push(b' ')?;
-        print_term(argument, &mut text)?;
-        if let Some(further) = further {
-            text.push(b' ')?;
-            print_term(further, &mut text)?;
+        for argument in arguments {
+            if let Some(term) = argument {
+                text.push(b' ')?;
+                print_term(term, &mut text)?;
+            }
         }
         text.push(b'.')?;
     }
@@ -69,6 +77,14 @@ fn reads_commands(rt: HostRuntime) -> Result<(), Fail> {
         (
             b"update_counter k\t[ {2,1} ]  \nupdate_element {1} {2,a}",
             "1 update_counter k [{2,1}].2 update_element {1} {2,a}.",
+        ),
+        (
+            b"first\nlast \nnext 1\nprev {1}\nmore\t\r\n",
+            "1 first.2 last.3 next 1.4 prev {1}.5 more.",
+        ),
+        (
+            b"select [s]\nselect_range 1 b [{s}]\nbatch [] 3",
+            "1 select [s].2 select_range 1 b [{s}].3 batch [] 3.",
         ),
     ] {
         assert_eq!(rt; listed(alloc, file)?.as_slice(), commands.as_bytes());
@@ -131,6 +147,12 @@ fn refuses_lines(rt: HostRuntime) -> Result<(), Fail> {
         (b"update_counter k ", 18, LineWhy::Absent),
         (b"update_counter k1{2,1}", 18, LineWhy::Syntax),
         (b"update_element k {2,1} 3", 24, LineWhy::Extra),
+        (b"first 1", 7, LineWhy::Extra),
+        (b"next\t", 6, LineWhy::Absent),
+        (b"select_range 1 2", 17, LineWhy::Absent),
+        (b"select_range 1 2 [] x", 21, LineWhy::Extra),
+        (b"batch []1", 9, LineWhy::Syntax),
+        (b"more more", 6, LineWhy::Extra),
     ] {
         is_refused(&rt, text, at, why)?;
     }

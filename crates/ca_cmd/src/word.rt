@@ -22,6 +22,14 @@ pub(crate) enum Word {
     Take,
     UpdateCounter,
     UpdateElement,
+    First,
+    Last,
+    Next,
+    Prev,
+    Select,
+    SelectRange,
+    Batch,
+    More,
 }
 
 impl Word {
@@ -38,6 +46,14 @@ impl Word {
             _ if text == b"take".as_slice() => Some(Word::Take),
             _ if text == b"update_counter".as_slice() => Some(Word::UpdateCounter),
             _ if text == b"update_element".as_slice() => Some(Word::UpdateElement),
+            _ if text == b"first".as_slice() => Some(Word::First),
+            _ if text == b"last".as_slice() => Some(Word::Last),
+            _ if text == b"next".as_slice() => Some(Word::Next),
+            _ if text == b"prev".as_slice() => Some(Word::Prev),
+            _ if text == b"select".as_slice() => Some(Word::Select),
+            _ if text == b"select_range".as_slice() => Some(Word::SelectRange),
+            _ if text == b"batch".as_slice() => Some(Word::Batch),
+            _ if text == b"more".as_slice() => Some(Word::More),
             _ => None,
         }
     }
@@ -47,13 +63,18 @@ impl Word {
         ensures { result ≡ count_of (form_of self) }
     {
         match self {
+            Word::First | Word::Last | Word::More => 0,
             Word::Insert
             | Word::InsertNew
             | Word::Lookup
             | Word::Member
             | Word::Delete
-            | Word::Take => 1,
-            Word::UpdateCounter | Word::UpdateElement => 2,
+            | Word::Take
+            | Word::Next
+            | Word::Prev
+            | Word::Select => 1,
+            Word::UpdateCounter | Word::UpdateElement | Word::Batch => 2,
+            Word::SelectRange => 3,
         }
     }
 
@@ -78,6 +99,21 @@ impl Word {
                 let op = take_last(&mut arguments);
                 Cmd::UpdateElement(take_last(&mut arguments), op)
             }
+            Word::First => Cmd::First,
+            Word::Last => Cmd::Last,
+            Word::Next => Cmd::Next(take_last(&mut arguments)),
+            Word::Prev => Cmd::Prev(take_last(&mut arguments)),
+            Word::Select => Cmd::Select(take_last(&mut arguments)),
+            Word::SelectRange => {
+                let spec = take_last(&mut arguments);
+                let hi = take_last(&mut arguments);
+                Cmd::SelectRange(take_last(&mut arguments), hi, spec)
+            }
+            Word::Batch => {
+                let limit = take_last(&mut arguments);
+                Cmd::Batch(take_last(&mut arguments), limit)
+            }
+            Word::More => Cmd::More,
         }
     }
 

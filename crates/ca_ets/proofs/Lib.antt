@@ -1,5 +1,6 @@
 pub mod Changes
 pub mod Counting
+pub mod Keys
 pub mod ListedOperations
 pub mod Matching
 pub mod Merges
@@ -9,8 +10,12 @@ pub mod OperatorRows
 pub mod Pieces
 pub mod Places
 pub mod Puts
+pub mod Results
 pub mod Runs
 pub mod Steps
+pub mod Selected
+pub mod Specifications
 pub mod Turns
 pub mod Updates
+pub mod Walks
 pub mod Words

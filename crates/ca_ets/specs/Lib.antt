@@ -11,7 +11,9 @@ pub mod OperatorView
 pub mod Operators
 pub mod OrderedMap
 pub mod Place
+pub mod Selected
 pub mod Specification
+pub mod SpecificationView
 pub mod Spelling
 pub mod Step
 pub mod Table

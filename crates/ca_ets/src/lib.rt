@@ -10,6 +10,8 @@ mod number;
 mod object;
 mod operator;
 mod part;
+mod selection;
+mod specification;
 mod table;
 mod update;
 mod value;

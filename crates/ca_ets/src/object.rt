@@ -1,5 +1,5 @@
 //! Objects of a table: their keys, and what fits.
-ghost use Rattle.std.specs.Prelude.{◌≡◌, ◌≤◌, IfOk, IsNone, IfSome, is_some};
+ghost use Rattle.std.specs.Prelude.{◌≡◌, ◌≤◌, true, IfOk, IsNone, IfSome, is_some};
 ghost use Rattle.ca_term.specs.Order.{term_cmp};
 ghost use Rattle.ca_term.specs.Tree.{Nil};
 ghost use Rattle.ca_term.specs.Object.{is_object, key_of, fits};
@@ -18,6 +18,18 @@ pub(crate) fn key(object: &Term, keypos: u32) -> Option<&Term>
     match object.kind() {
         Kind::Tuple(items) => items.get((keypos as usize).saturating_sub(1)),
         _ => None,
+    }
+}
+
+// The key of an object.
+pub(crate) fn own_key(object: &Term, keypos: u32) -> &Term
+    requires positive { 1 ≤ keypos }
+    requires object { is_object keypos object.now ≡ true }
+    ensures { result.now ≡ key_of keypos object.now }
+{
+    match key(object, keypos) {
+        Some(own) => own,
+        None => unreachable!(),
     }
 }
 

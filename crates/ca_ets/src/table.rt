@@ -1,18 +1,21 @@
 //! A table as a list of objects in key order.
-ghost use Rattle.std.specs.Prelude.{◌≡◌, ◌≤◌, ◌<◌, [], ◌∷◌, length, slice_index_or, slice_set, IfOk, OnOk, OnErr};
+ghost use Rattle.std.specs.Prelude.{◌≡◌, ◌≤◌, ◌<◌, List, [], ◌∷◌, length, take, drop, slice_index_or, slice_set, IfOk, OnOk, OnErr};
 ghost use Rattle.std.specs.List.{remove};
 ghost use Rattle.ca_term.specs.Object.{key_of};
-ghost use Rattle.ca_term.specs.Tree.{Nil};
-ghost use Rattle.ca_ets.specs.Command.{Continuation, IsContinuation, continuation_of};
-ghost use Rattle.ca_ets.specs.OrderedMap.{IsTable};
+ghost use Rattle.ca_term.specs.Tree.{Nil, Tree};
+ghost use Rattle.ca_ets.specs.Command.{Continuation, IsContinuation, continuation_of, response_of};
+ghost use Rattle.ca_ets.specs.OrderedMap.{IsTable, above};
 ghost use Rattle.ca_ets.specs.Place.{IsInRange, IsPlace, placed};
+ghost use Rattle.ca_ets.specs.Specification.{IsSpecification};
 ghost use Rattle.ca_ets.specs.Unless.{IsUnless};
-ghost use Rattle.ca_ets.specs.Step.{fault_of_key, fault_of_object, step, step_of_delete, step_of_insert, step_of_insert_new, step_of_lookup, step_of_member, step_of_reply, step_of_take, step_of_update_counter, step_of_update_element};
+ghost use Rattle.ca_ets.specs.Step.{fault_of_key, fault_of_object, step, step_of_delete, step_of_insert, step_of_insert_new, step_of_lookup, step_of_member, step_of_reply, step_of_take, step_of_update_counter, step_of_update_element, step_of_first, step_of_last, step_of_next, step_of_prev, step_of_select, step_of_select_range, step_of_batch, step_of_more, step_of_results, keyed_results, first_key, last_key, limit_of};
 ghost use Rattle.ca_ets.specs.Update.{element_of, operations_of};
 
 use crate::change::{Stop, counters, with_element};
 use crate::command::{Cmd, Cont, Fault, Reply};
-use crate::object::{copied, fits, key, key_order};
+use crate::object::{copied, fits, key, key_order, own_key};
+use crate::selection::{batch, limit_of, results, results_between};
+use crate::specification::is_specification;
 use crate::update::{Operations, element, reply_of};
 use ca_term::{Term, Terms};
 use std::alloc::{AllocError, Global};
@@ -100,7 +103,14 @@ impl ListTable {
             Cmd::Take(k) => self.take(alloc, k),
             Cmd::UpdateCounter(k, op) => self.update_counter(alloc, k, op),
             Cmd::UpdateElement(k, op) => self.update_element(alloc, k, op),
-            _ => unreachable!(),
+            Cmd::First => self.first(alloc),
+            Cmd::Last => self.last(alloc),
+            Cmd::Next(k) => self.next(alloc, k),
+            Cmd::Prev(k) => self.prev(alloc, k),
+            Cmd::Select(spec) => self.select(alloc, spec),
+            Cmd::SelectRange(lo, hi, spec) => self.select_range(alloc, lo, hi, spec),
+            Cmd::Batch(spec, limit) => self.batch(alloc, spec, limit, cont),
+            Cmd::More => self.more(alloc, cont),
         }
     }
 
@@ -246,6 +256,151 @@ impl ListTable {
         }
     }
 
+    // `first`
+    fn first(&self, alloc: Global) -> Result<Reply, AllocError>
+        ensures { (continuation : Continuation) → IfOk result (λ reply. step_of_first self.now.keypos self.now.objects continuation
+            ≡ step_of_reply self.now.objects continuation reply) }
+    {
+        key_from(alloc, self.keypos, self.objects.as_slice(), 0)
+    }
+
+    // `last`
+    fn last(&self, alloc: Global) -> Result<Reply, AllocError>
+        ensures { (continuation : Continuation) → IfOk result (λ reply. step_of_last self.now.keypos self.now.objects continuation
+            ≡ step_of_reply self.now.objects continuation reply) }
+    {
+        key_before(
+            alloc,
+            self.keypos,
+            self.objects.as_slice(),
+            self.objects.len(),
+        )
+    }
+
+    // `next`
+    #[tactic(auto, using(crate::proofs::Places::place_range))]
+    fn next(&self, alloc: Global, k: &Term) -> Result<Reply, AllocError>
+        ensures { (continuation : Continuation) → IfOk result (λ reply. step_of_next self.now.keypos self.now.objects continuation k.now
+            ≡ step_of_reply self.now.objects continuation reply) }
+    {
+        let objects = self.objects.as_slice();
+        match self.key_place(k) {
+            Ok(Place::At(at)) => key_from(alloc, self.keypos, objects, at + 1),
+            Ok(Place::Before(at)) => key_from(alloc, self.keypos, objects, at),
+            Err(fault) => Ok(Reply::Error(fault)),
+        }
+    }
+
+    // `prev`
+    #[tactic(auto, using(crate::proofs::Places::place_range))]
+    fn prev(&self, alloc: Global, k: &Term) -> Result<Reply, AllocError>
+        ensures { (continuation : Continuation) → IfOk result (λ reply. step_of_prev self.now.keypos self.now.objects continuation k.now
+            ≡ step_of_reply self.now.objects continuation reply) }
+    {
+        let objects = self.objects.as_slice();
+        match self.key_place(k) {
+            Ok(Place::At(at) | Place::Before(at)) => key_before(alloc, self.keypos, objects, at),
+            Err(fault) => Ok(Reply::Error(fault)),
+        }
+    }
+
+    // `select`
+    fn select(&self, alloc: Global, spec: &Term) -> Result<Reply, AllocError>
+        ensures { (continuation : Continuation) → IfOk result (λ reply. step_of_select self.now.objects continuation spec.now
+            ≡ step_of_reply self.now.objects continuation reply) }
+    {
+        if !is_specification(spec) {
+            return Ok(Reply::Error(Fault::BadArg));
+        }
+        Ok(Reply::List(results(alloc, spec, self.objects.as_slice())?))
+    }
+
+    // `select_range`: the specification is checked first, then the keys.
+    fn select_range(
+        &self,
+        alloc: Global,
+        lo: &Term,
+        hi: &Term,
+        spec: &Term,
+    ) -> Result<Reply, AllocError>
+        ensures { (continuation : Continuation) → IfOk result (λ reply.
+            step_of_select_range self.now.keypos self.now.objects continuation lo.now hi.now spec.now
+            ≡ step_of_reply self.now.objects continuation reply) }
+    {
+        if !is_specification(spec) {
+            return Ok(Reply::Error(Fault::BadArg));
+        }
+        if !fits(lo) || !fits(hi) {
+            return Ok(Reply::Error(Fault::Size));
+        }
+        let objects = self.objects.as_slice();
+        let found = results_between(alloc, self.keypos, spec, objects, lo, hi)?;
+        Ok(Reply::List(found))
+    }
+
+    // `batch`
+    #[tactic(auto, using(crate::proofs::Specifications::no_fault))]
+    fn batch(
+        &self,
+        alloc: Global,
+        spec: &Term,
+        limit: &Term,
+        cont: &mut Cont,
+    ) -> Result<Reply, AllocError>
+        ensures step { IfOk result (λ reply.
+            step_of_batch self.now.keypos self.now.objects (continuation_of cont.old) spec.now (limit_of limit.now)
+            ≡ step_of_reply self.now.objects (continuation_of cont.new) reply) }
+        ensures continuation { IsContinuation (continuation_of cont.old) → IsContinuation (continuation_of cont.new) }
+        ensures unchanged { OnErr result (cont.new ≡ cont.old) }
+    {
+        let Some(limit) = limit_of(limit) else {
+            return Ok(Reply::Error(Fault::BadArg));
+        };
+        if !is_specification(spec) {
+            return Ok(Reply::Error(Fault::BadArg));
+        }
+        let (reply, next) = batch(alloc, self.keypos, spec, limit, self.objects.as_slice())?;
+        *cont = next;
+        Ok(reply)
+    }
+
+    // `more`
+    fn more(&self, alloc: Global, cont: &mut Cont) -> Result<Reply, AllocError>
+        requires { IsContinuation (continuation_of cont.old) }
+        ensures step { IfOk result (λ reply. step_of_more self.now.keypos self.now.objects (continuation_of cont.old)
+            ≡ step_of_reply self.now.objects (continuation_of cont.new) reply) }
+        ensures continuation { IsContinuation (continuation_of cont.new) }
+        ensures unchanged { OnErr result (cont.new ≡ cont.old) }
+    {
+        let (reply, next) = match cont {
+            Cont::Never => return Ok(Reply::Error(Fault::BadArg)),
+            Cont::AtEnd => return Ok(Reply::End),
+            Cont::At { spec, limit, key } => self.batch_behind(alloc, spec, *limit, key)?,
+        };
+        *cont = next;
+        Ok(reply)
+    }
+
+    // The batch behind a key: the reply, and where it leaves the client.
+    #[tactic(auto, using(crate::proofs::Steps::table_above))]
+    fn batch_behind(
+        &self,
+        alloc: Global,
+        spec: &Term,
+        limit: u64,
+        k: &Term,
+    ) -> Result<(Reply, Cont), AllocError>
+        requires specification { IsSpecification spec.now }
+        requires limit { 1 ≤ limit }
+        ensures continuation { IfOk result (λ made. IsContinuation (continuation_of made.1)) }
+        ensures step { (map : List Tree) → IfOk result (λ made.
+            step_of_results map spec.now limit (keyed_results self.now.keypos spec.now (above self.now.keypos self.now.objects k.now))
+            ≡ step_of_reply map (continuation_of made.1) made.0) }
+    {
+        let behind = behind(self.objects.as_slice(), self.keypos, k);
+        batch(alloc, self.keypos, spec, limit, behind)
+    }
+
     // Where the key of a command stands, or why it is refused.
     fn key_place(&self, k: &Term) -> Result<Place, Fault>
         ensures { IsUnless (fault_of_key k.now) (IsPlace self.now.keypos self.now.objects k.now) result }
@@ -281,6 +436,54 @@ fn find(objects: &[Term], keypos: u32, k: &Term) -> Place
         Ok(at) => Place::At(at),
         Err(at) => Place::Before(at),
     }
+}
+
+// The objects of a table whose keys are greater than a key.
+#[tactic(auto, using(crate::proofs::Places::place_range))]
+fn behind<'a>(objects: &'a [Term], keypos: u32, k: &Term) -> &'a [Term]
+    requires { IsTable keypos objects.now }
+    ensures { result.now ≡ above keypos objects.now k.now }
+{
+    match find(objects, keypos, k) {
+        Place::At(at) => {
+            let (_, greater) = objects.split_at(at + 1);
+            greater
+        }
+        Place::Before(at) => {
+            let (_, greater) = objects.split_at(at);
+            greater
+        }
+    }
+}
+
+// The first key of objects from a place on.
+#[tactic(auto, using(crate::proofs::Walks::walking))]
+fn key_from(alloc: Global, keypos: u32, objects: &[Term], at: usize) -> Result<Reply, AllocError>
+    requires positive { 1 ≤ keypos }
+    requires table { IsTable keypos objects.now }
+    requires range { at ≤ length objects.now }
+    ensures { IfOk result (λ reply. response_of reply ≡ first_key keypos (drop at objects.now)) }
+{
+    if at == objects.len() {
+        return Ok(Reply::End);
+    }
+    let own = own_key(&objects[at], keypos);
+    Ok(Reply::Value(copied(alloc, own)?))
+}
+
+// The last key of objects before a place.
+#[tactic(auto, using(crate::proofs::Walks::walking))]
+fn key_before(alloc: Global, keypos: u32, objects: &[Term], at: usize) -> Result<Reply, AllocError>
+    requires positive { 1 ≤ keypos }
+    requires table { IsTable keypos objects.now }
+    requires range { at ≤ length objects.now }
+    ensures { IfOk result (λ reply. response_of reply ≡ last_key keypos (take at objects.now)) }
+{
+    if at == 0 {
+        return Ok(Reply::End);
+    }
+    let own = own_key(&objects[at - 1], keypos);
+    Ok(Reply::Value(copied(alloc, own)?))
 }
 
 // Puts a copy of an object at a place. The copy is made before the list is changed; the place of another object needs no further memory.

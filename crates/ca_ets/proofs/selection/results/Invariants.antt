@@ -1,0 +1,6 @@
+use Rattle.std.proofs.Common.{◌≡◌, take}
+use Rattle.ca_ets.specs.Match.{chosen}
+use Rattle.ca_ets.proofs.selection.results.Given as goal
+
+abbrev pub invariant-loop-object : goal.invariant-loop-object
+invariant-loop-object l = l.terms.items ≡ chosen l.spec (take l.object-index l.objects)
