@@ -1,11 +1,14 @@
 //! The calls of an `ordered_set` of Erlang's `ets` over any store of bytes.
 #![tactic(auto)]
 
+mod batch;
 mod codes;
 mod laws;
 mod listing;
 mod outcome;
 mod reply;
+mod run;
+mod select;
 mod table;
 mod update;
 

@@ -10,7 +10,9 @@ ghost use Rattle.ca_model.specs.Event.{Write, WriteNew};
 ghost use Rattle.ca_model.specs.Answer.{Got, Removed, IsDone, IsNeverDeep};
 ghost use Rattle.ca_model.specs.StoreMap.{IsPair};
 ghost use Rattle.ca_ets.specs.Step.{fault_of_object};
+ghost use Rattle.ca_model.specs.Edges.{IsProperBound, bound_of};
 ghost use Rattle.ca_table.specs.Codes.{HasObjectCode};
+ghost use Rattle.ca_table.specs.Collected.{AreWithin, IsStopped};
 ghost use Rattle.ca_ets.specs.Unless.{IsUnless};
 ghost use Rattle.ca_ets.specs.Update.{IsFilledList};
 ghost use Rattle.ca_table.specs.ComesTo.{ComesTo, EditsNothing, IsEmptyUpdate};
@@ -18,12 +20,14 @@ ghost use Rattle.ca_table.specs.Renewed.{Updated, by_element, by_operations};
 ghost use Rattle.ca_table.specs.Refusals.{IsRefusal, IsSame, RemovedSame};
 
 use crate::codes::{KeyRange, asked_element, key_code, object_code, only};
-use crate::outcome::{ONE_LOST, Played, done};
+use crate::outcome::{ONE_LOST, Played, Stop, done};
 use crate::reply::Room;
+use crate::run::{Collected, results_within};
 use crate::update::{count, fault_of_counts, fault_of_element, fault_of_long_element, replace};
 use ca_ets::{Cmd, Cont, Fault, Operations, Reply};
-use ca_model::{Changed, Code, OrderedStore, Outcome};
+use ca_model::{Changed, Code, Edge, OrderedStore, Outcome};
 use ca_order::encode;
+use ca_spec::Spec;
 use ca_term::{Add, Term, Terms};
 use std::alloc::{AllocError, Global};
 use std::marker::Model;
@@ -279,7 +283,7 @@ impl<S: OrderedStore + Drop> Table<S> {
 // The table's `keypos`, and objects by it.
 impl<S: OrderedStore + Drop> Table<S> {
     // Which element of an object is its key, counted from 1.
-    fn keypos(&self) -> u32
+    pub(crate) fn keypos(&self) -> u32
         ensures value { result ≡ self.now.keypos }
         ensures positive { 1 ≤ self.now.keypos }
     {
@@ -307,7 +311,7 @@ impl<S: OrderedStore + Drop> Table<S> {
     }
 
     // Whether an object has the key; then `into` is the object.
-    fn get(&mut self, key: &Code, into: &mut Code, budget: u32) -> bool
+    pub(crate) fn get(&mut self, key: &Code, into: &mut Code, budget: u32) -> bool
         requires budget { 1 ≤ budget }
         requires key { 1 ≤ length key.now.items }
         ensures { Got self.old self.new key.now.items result into.new.items }
@@ -424,5 +428,25 @@ impl<S: OrderedStore + Drop> Table<S> {
             object,
             budget,
         ))
+    }
+
+    // The results of the objects within two edges at one state, as many as are wanted, or all.
+    pub(crate) fn within(
+        &mut self,
+        alloc: Global,
+        spec: &Spec,
+        lo: Edge<'_>,
+        hi: Edge<'_>,
+        limit: Option<u64>,
+        budget: u32,
+    ) -> Result<Collected, Stop>
+        requires budget { 1 ≤ budget }
+        requires lower_edge { IsProperBound (bound_of lo) }
+        requires upper_edge { IsProperBound (bound_of hi) }
+        ensures within { IfOk result (λ c. AreWithin self.old self.new (bound_of lo.entry) (bound_of hi.entry) spec.now limit c.results.items c.last) }
+        ensures stopped { IfErr result (λ stop. IsStopped self.old self.new budget stop) }
+        ensures positive { 1 ≤ self.old.keypos }
+    {
+        results_within(&mut self.store, alloc, spec, lo, hi, limit, budget)
     }
 }
