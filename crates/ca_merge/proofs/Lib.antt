@@ -2,6 +2,7 @@ pub mod Alone
 pub mod ByPlaces
 pub mod Calls
 pub mod Carrying
+pub mod Edged
 pub mod Explains
 pub mod Filters
 pub mod Founds
@@ -18,4 +19,5 @@ pub mod Starts
 pub mod TakenUpdates
 pub mod Updates
 pub mod Waits
+pub mod Walks
 pub mod Worked
