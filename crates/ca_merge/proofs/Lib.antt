@@ -13,6 +13,7 @@ pub mod Moments
 pub mod NextUpdates
 pub mod Overtaking
 pub mod Pairs
+pub mod Results
 pub mod Runs
 pub mod Splits
 pub mod Starts
@@ -20,4 +21,5 @@ pub mod TakenUpdates
 pub mod Updates
 pub mod Waits
 pub mod Walks
+pub mod Within
 pub mod Worked

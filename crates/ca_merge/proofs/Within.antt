@@ -1,86 +1,20 @@
--- What a store map has within edges, as terms; a run of objects that is cut, or handed out in part, is the beginning of that.
-use Rattle.std.proofs.Common.{◌≡◌, ◌⊎◌, ℕ, ◌≤◌, Bool, true, false, List, [], ◌∷◌, ◌++◌, map, refl, sym, ◌∙◌, ap, subst, inl, inr, append_assoc, append-nil, if◌then◌else◌}
-use Rattle.std.specs.Prelude.{filter, not, ◌&&◌}
+-- A run of objects that is cut, or handed out in part, is the beginning of what stands within its edges.
+use Rattle.std.proofs.Common.{◌≡◌, ℕ, ◌≤◌, List, [], ◌∷◌, ◌++◌, map, refl, sym, ◌∙◌, ap, subst, append_assoc}
 use Rattle.std.proofs.lemmas.List.{map-append}
-use Rattle.std.specs.declared.cmp.Ordering.{Ordering}
-use Rattle.std.specs.declared.cmp.Ordering.TheVariants.{Less, Equal, Greater}
-use Rattle.std.specs.Ordering.{is_lt, is_le, is_gt, ordering_reverse}
 use Rattle.ca_term.specs.Tree.{Tree, IsTerm, AreTerms}
-use Rattle.ca_term.specs.Order.{term_cmp}
 use Rattle.ca_term.specs.Code.{code_of}
 use Rattle.ca_term.specs.Object.{key_of}
 use Rattle.ca_term.proofs.Codes.{compare_as_terms}
-use Rattle.ca_term.proofs.TotalOrder.{tree_flip}
 use Rattle.ca_ets.specs.OrderedMap as terms
 use Rattle.ca_ets.specs.OrderedMap.{IsTable}
-use Rattle.ca_model.specs.StoreMap.{Pair, StoreMap, IsStoreMap, AreAbove, bytes_cmp}
-use Rattle.ca_model.specs.Edges.{Bound, Unbounded, Included, Excluded, IsCut, from, up_to, within, objects_of}
+use Rattle.ca_model.specs.StoreMap.{Pair, StoreMap, IsStoreMap, AreAbove}
+use Rattle.ca_model.specs.Edges.{Bound, within, objects_of}
 use Rattle.ca_model.specs.Event.{Range, IsAnswer}
 use Rattle.ca_model.proofs.Cuts.{cuts_begin}
 use Rattle.ca_merge.specs.Stands.{Stands, pair_of}
-use Rattle.ca_merge.proofs.Filters.{filter_stands, same_code, above_stands}
+use Rattle.ca_merge.proofs.Filters.{same_code}
 use Rattle.ca_merge.proofs.Keys.{key_is_term}
 use Rattle.ca_merge.proofs.Pairs.{pair_of_object}
-
--- ---- edges
-
-all_of : {T : Type 0} (xs : List T) → filter (λ x. true) xs ≡ xs
-all_of [] = refl
-all_of (x ∷ xs) = ap (λ ys. x ∷ ys) (all_of xs)
-
--- Without a bound everything is within.
-pub from_unbounded : (m : StoreMap) → from Unbounded m ≡ m
-from_unbounded m = all_of m
-
-pub up_to_unbounded : (m : StoreMap) → up_to Unbounded m ≡ m
-up_to_unbounded m = all_of m
-
--- what is filtered twice
-filter_twice : (f g h : Tree → Bool) → ((x : Tree) → h x ≡ (f x && g x)) → (t : List Tree) → filter g (filter f t) ≡ filter h t
-filter_twice f g h same [] = refl
-filter_twice f g h same (x ∷ t) = by (f x) (g x) (h x) refl (same x) (filter_twice f g h same t)
-  where
-    by : (b c d : Bool) → g x ≡ c → d ≡ (b && c) → filter g (filter f t) ≡ filter h t
-        → filter g (if b then x ∷ filter f t else filter f t) ≡ (if d then x ∷ filter h t else filter h t)
-    by true true d is e rest = rw (is, e) (ap (λ y. x ∷ y) rest)
-    by true false d is e rest = rw (is, e) rest
-    by false c d is e rest = rw e rest
-
-low_end : (lo k : Tree) → is_le (term_cmp lo k) ≡ not (is_lt (term_cmp k lo))
-low_end lo k = by (term_cmp k lo) (tree_flip lo k)
-  where
-    by : (r : Ordering) → term_cmp lo k ≡ ordering_reverse r → is_le (term_cmp lo k) ≡ not (is_lt r)
-    by Less e = rw e refl
-    by Equal e = rw e refl
-    by Greater e = rw e refl
-
-high_end : (r : Ordering) → is_le r ≡ not (is_gt r)
-high_end Less = refl
-high_end Equal = refl
-high_end Greater = refl
-
-module _ (p : ℕ) (m : StoreMap) (t : List Tree) (st : Stands p m t) where
-  -- Without bounds the whole map stands for the whole table.
-  pub all_within : Stands p (within Unbounded Unbounded m) t
-  all_within = subst (λ (x : StoreMap). Stands p x t) (sym (up_to_unbounded (from Unbounded m) ∙ from_unbounded m)) st
-
-  -- What is past a key's code stands for the objects above the key.
-  pub past_within : (k : Tree) → IsTerm k → Stands p (within (Excluded (code_of k)) Unbounded m) (terms.above p t k)
-  past_within k b = subst (λ (x : StoreMap). Stands p x (terms.above p t k)) (sym (up_to_unbounded (from (Excluded (code_of k)) m))) (above_stands p m t st k b)
-
-  -- What is from one key's code to another's stands for the objects from the one key to the other.
-  pub between_within : (lo hi : Tree) → IsTerm lo → IsTerm hi
-      → Stands p (within (Included (code_of lo)) (Included (code_of hi)) m) (terms.between p t lo hi)
-  between_within lo hi b c =
-      let low = filter_stands p m t st lo b (λ r. not (is_lt r)) in
-      let both = filter_stands p _ _ low hi c (λ r. not (is_gt r)) in
-      let same : filter (λ o. not (is_gt (term_cmp (key_of p o) hi))) (filter (λ o. not (is_lt (term_cmp (key_of p o) lo))) t) ≡ terms.between p t lo hi =
-      filter_twice (λ o. not (is_lt (term_cmp (key_of p o) lo))) (λ o. not (is_gt (term_cmp (key_of p o) hi)))
-      (λ o. is_le (term_cmp lo (key_of p o)) && is_le (term_cmp (key_of p o) hi))
-      (λ o. rw (low_end lo (key_of p o), high_end (term_cmp (key_of p o) hi)) refl) t in
-      subst (λ (x : List Tree). Stands p (within (Included (code_of lo)) (Included (code_of hi)) m) x) same both
-
--- ---- runs
 
 -- The objects of a map that stands for a table are the codes of the table's.
 pub objects_stand : (p : ℕ) (t : List Tree) → objects_of (map (pair_of p) t) ≡ map code_of t
@@ -127,7 +61,7 @@ above_stand p o (q ∷ t) b c a =
 table_map : (p : ℕ) (t : List Tree) → 1 ≤ p → AreTerms t → IsTable p t → IsStoreMap p (map (pair_of p) t)
 table_map p [] positive b h = tt
 table_map p (o ∷ t) positive b h =
-    (pair_of_object p o positive b.0 h.0, (above_stand p o t b.0 b.1 h.1, table_map p t positive b.1 h.2))
+    (pair_of_object p o positive b.0 h.0, above_stand p o t b.0 b.1 h.1, table_map p t positive b.1 h.2)
 
 -- What stands for a table is a store map.
 pub stands_map : (p : ℕ) (m : StoreMap) (t : List Tree) → 1 ≤ p → Stands p m t → IsStoreMap p m
