@@ -2,14 +2,16 @@ pub mod Asked
 pub mod Carried
 pub mod CarriedUpdates
 pub mod Changing
+pub mod Collecting
 pub mod Inserting
 pub mod Keyed
 pub mod KeyParts
+pub mod Listed
 pub mod LongElements
 pub mod ReadBack
 pub mod Refusing
 pub mod SamePut
+pub mod Selecting
 pub mod Sure
 pub mod Updating
 pub mod Written
-pub mod Listed

@@ -13,7 +13,8 @@ use Rattle.ca_model.proofs.Edits.{map_after, found_pair}
 use Rattle.ca_merge.proofs.Pairs.{object_of_pair}
 use Rattle.ca_table.specs.Renewed.{IsObjectCode}
 
-first_part : (p : ℕ) (xs ys : History) → AreEdits p (xs ++ ys) → AreEdits p xs
+-- The first edits of a history of edits.
+pub first_part : (p : ℕ) (xs ys : History) → AreEdits p (xs ++ ys) → AreEdits p xs
 first_part p [] ys h = tt
 first_part p (x ∷ xs) ys h = (h.0, first_part p xs ys h.1)
 

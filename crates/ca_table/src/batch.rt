@@ -76,7 +76,7 @@ impl<S: OrderedStore + Drop> Table<S> {
         ensures continuation { IsContinuation (continuation_of cont.new) }
     {
         let mut code = Code::new();
-        let (spec, limit) = match place(alloc, cont, &mut code) {
+        let (spec, limit) = match place_of(alloc, cont, &mut code) {
             Ok(Place::Behind { spec, limit }) => (spec, limit),
             Ok(Place::Nowhere) => return Ok(Outcome::Done(Reply::Error(Fault::BadArg))),
             Ok(Place::AtEnd) => return Ok(Outcome::Done(Reply::End)),
@@ -133,7 +133,7 @@ fn limit_of(limit: &Term) -> Option<u64>
 }
 
 // Where a client's batches go on; then `code` is the code of the key that they stand behind.
-fn place(alloc: Global, cont: &Cont, code: &mut Code) -> Result<Place, AllocError>
+fn place_of(alloc: Global, cont: &Cont, code: &mut Code) -> Result<Place, AllocError>
     requires { IsContinuation (continuation_of cont.now) }
     ensures { IfOk result (λ place. IsPlaceOf (continuation_of cont.now) place code.new.items) }
 {
@@ -179,7 +179,7 @@ fn next_of(
     requires keypos { 1 ≤ keypos }
     requires last { full ≡ true → is_some last ≡ true }
     requires object { IfSome last (λ o. is_object keypos o ≡ true) }
-    ensures { IfOk result (λ next. IsNextOf keypos spec.now limit last.entry full (continuation_of next)) }
+    ensures { IfOk result (λ next. IsNextOf keypos spec.now limit last full (continuation_of next)) }
 {
     if !full {
         return Ok(Cont::AtEnd);

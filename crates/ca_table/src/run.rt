@@ -72,7 +72,7 @@ fn collect<S: OrderedStore>(
 {
     let mut collected = Collected::new(alloc);
     let mut code = Code::new();
-    while !is_full(limit, collected.results.len()) {
+    'objects: while !is_full(limit, collected.results.len()) {
         if !store.found(&mut code) {
             return Ok(collected);
         }
