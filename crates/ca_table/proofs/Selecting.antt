@@ -1,29 +1,40 @@
 -- How selections and batches end.
 use Rattle.std.proofs.Common.{◌≡◌, ◌≢◌, ◌⊎◌, ℕ, zero, suc, ◌+◌, ◌≤◌, Bool, true, false, List, [], ◌∷◌, ◌++◌, length, map, arith, refl, sym, ◌∙◌, ap, subst, inl, inr, append-nil, if◌then◌else◌, Option, None, Some, length-append}
-use Rattle.std.specs.Prelude.{nat_le}
+use Rattle.std.specs.Prelude.{nat_le, is_some, IfSome}
 use Rattle.std.proofs.lemmas.Bool.Decides.{nat_tests}
 use Rattle.std.specs.declared.cmp.Ordering.{Ordering}
 use Rattle.std.specs.declared.cmp.Ordering.TheVariants.{Less, Equal, Greater}
-use Rattle.std.specs.Ordering.{is_eq}
+use Rattle.std.specs.Ordering.{is_eq, ordering_reverse}
 use Rattle.ca_term.specs.Tree.{Tree, IsTerm, AreTerms}
-use Rattle.ca_term.specs.Code.{code_of}
-use Rattle.ca_term.specs.Object.{fits, key_of}
+use Rattle.ca_term.specs.Code.{code_of, four_bytes}
+use Rattle.ca_term.specs.declared.bounds.TheConstants.{MOST_CODE_BYTES}
+use Rattle.ca_term.proofs.TotalOrder.{tree_flip}
+use Rattle.ca_term.specs.Object.{fits, is_object, key_of}
 use Rattle.ca_term.specs.Order.{term_cmp}
-use Rattle.ca_ets.specs.Command.{Continuation, Response, Items, At, AtEnd, Results, End}
+use Rattle.ca_ets.specs.Command.{Continuation, IsContinuation, Response, Items, At, AtEnd, Results, End}
 use Rattle.ca_ets.specs.declared.command.Cmd.TheVariants.{Select, SelectRange, Batch, More}
 use Rattle.ca_ets.specs.Match.{chosen, result_of}
-use Rattle.ca_ets.specs.OrderedMap.{above, between, get, IsTable}
+use Rattle.ca_ets.specs.OrderedMap.{above, between, get, IsEntry, IsTable}
 use Rattle.ca_ets.specs.Specification.{IsSpecification}
-use Rattle.ca_ets.specs.Step.{keyed_results, results_in, last_found, limit_of, step_of_results}
+use Rattle.ca_ets.specs.Step.{fault_of_key, keyed_results, results_in, last_found, limit_of, step_of_results, with_map}
 use Rattle.ca_model.specs.StoreMap.{StoreMap}
 use Rattle.ca_model.specs.Edges.{Bound, Unbounded, Included, Excluded, within}
 use Rattle.ca_model.specs.Event.{Range, IsAnswer}
+use Rattle.ca_ets.specs.declared.command.Fault.{Fault}
+use Rattle.ca_ets.specs.declared.command.Fault.TheVariants.{Size}
+use Rattle.ca_model.specs.Answer.{Got}
+use Rattle.ca_model.specs.Event.{Get}
 use Rattle.ca_model.specs.Known.{Known}
+use Rattle.ca_table.specs.Collected.{Adds, AddsObject}
+use Rattle.ca_table.proofs.Keyed.{got_none, got_some}
 use Rattle.ca_merge.specs.Carries.{Carries, Gives}
 use Rattle.ca_merge.specs.Stands.{Stands}
 use Rattle.ca_merge.specs.Steps.{Steps, Refrains}
 use Rattle.ca_merge.proofs.Calls.{one_call, one_read}
 use Rattle.ca_merge.proofs.Edged.{within_all, within_between, within_past}
+use Rattle.ca_merge.specs.Steps.{ByNone}
+use Rattle.ca_merge.proofs.Founds.{absent, found_object}
+use Rattle.ca_merge.proofs.Pairs.{pair_of_object}
 use Rattle.ca_merge.proofs.Results.{keyed_append, results_chosen, batch_full, batch_last, batch_none}
 use Rattle.ca_merge.proofs.Within.{run_begins, run_is}
 use Rattle.ca_table.proofs.Collecting.{length_values}
@@ -37,7 +48,7 @@ module _ (a d : Known) (positive : 1 ≤ a.keypos) (lo hi : Bound) (s : Tree) wh
   all_results rs last w m t u st answer here = by w.collected.ended
     where
       by : (false ≡ true) ⊎ ((w.collected.left ≡ []) × (false ≡ false)) → rs ≡ chosen s u
-      by (inl no) = cc
+      by (inl wrong) = cc
       by (inr h) =
           let are = w.collected.are in
           let all : w.objects ≡ map code_of are.objects =
@@ -73,6 +84,21 @@ module _ (a d : Known) (positive : 1 ≤ a.keypos) (s : Tree) (accepted : IsSpec
         (t, rw (accepted, h.fitting, k.fitting, same) refl, st);
   }))
 
+-- The key of an object that fits does.
+pub key_fits : (p : ℕ) (o : Tree) → 1 ≤ p → IsTerm o → IsEntry p o → fits (key_of p o) ≡ true
+key_fits p o positive b e =
+    let pair = pair_of_object p o positive b e in
+    let key = code_of (key_of p o) in
+    let long : length (code_of o) ≡ suc (length (four_bytes (pair.before + 1 + pair.behind)) + (length pair.codes_before + (length key + length pair.codes_behind))) =
+    ap length pair.bytes
+    ∙ ap suc (length-append (four_bytes (pair.before + 1 + pair.behind)) (pair.codes_before ++ (key ++ pair.codes_behind))
+    ∙ ap (λ (n : ℕ). length (four_bytes (pair.before + 1 + pair.behind)) + n) (length-append pair.codes_before (key ++ pair.codes_behind)
+    ∙ ap (λ (n : ℕ). length pair.codes_before + n) (length-append key pair.codes_behind))) in
+    short (length key) (omega (arith, long, pair.short))
+  where
+    short : (n : ℕ) → n ≤ MOST_CODE_BYTES → nat_le n MOST_CODE_BYTES ≡ true
+    short n l = grind (arith, nat_tests)
+
 exactly : (limit found : ℕ) → nat_le limit found ≡ true → found ≤ limit → found ≡ limit
 exactly limit found e l = grind (arith, nat_tests)
 
@@ -94,14 +120,14 @@ module _ (a d : Known) (positive : 1 ≤ a.keypos) (lo : Bound) (s : Tree) (limi
       ∙ goes last are.last_is is
     where
       goes : (l : Option Tree) → IsLastOf a.keypos s w.collected.are.objects l → IsNextOf a.keypos s limit l true next
-          → record { map = t; continuation = At s limit (last_found (keyed_results a.keypos s w.collected.are.objects));
-            response = Results (results_in (keyed_results a.keypos s w.collected.are.objects)) true }
-          ≡ record { map = t; continuation = next; response = Results rs true }
+          → Gives (with_map t (At s limit (last_found (keyed_results a.keypos s w.collected.are.objects)))
+          (Results (results_in (keyed_results a.keypos s w.collected.are.objects)) true)) t (Results rs true) next
       goes None h is = absurd is
       goes (Some o) h is =
           let there : At s limit (last_found (keyed_results a.keypos s w.collected.are.objects)) ≡ next =
           ap (λ (k : Tree). At s limit k) h.0 ∙ sym is in
-          λ i. record { map = t; continuation = there i; response = Results (w.collected.are.results_are (~ i)) true }
+          let same : results_in (keyed_results a.keypos s w.collected.are.objects) ≡ rs = sym w.collected.are.results_are in
+          λ i. record { map = t; continuation = there i; response = Results (same i) true }
 
   last_batch : nat_le limit (length rs) ≡ false
       → (m : StoreMap) (t u : List Tree) → Stands a.keypos m t → IsAnswer (Range lo Unbounded w.cut w.objects) m
@@ -111,7 +137,7 @@ module _ (a d : Known) (positive : 1 ≤ a.keypos) (lo : Bound) (s : Tree) (limi
     where
       by : (nat_le limit (length rs) ≡ true) ⊎ ((w.collected.left ≡ []) × (nat_le limit (length rs) ≡ false))
           → Gives (step_of_results t s limit (keyed_results a.keypos s u)) t (reply_of_batch false rs) AtEnd
-      by (inl full) = let no : false ≡ true = sym under ∙ full in cc
+      by (inl full) = let wrong : false ≡ true = sym under ∙ full in cc
       by (inr h) =
           let are = w.collected.are in
           let all : w.objects ≡ map code_of are.objects =
@@ -151,15 +177,32 @@ module _ (a d : Known) (positive : 1 ≤ a.keypos) (lo : Bound) (s : Tree) (limi
   }
 
   -- Where there are as many results as were wanted, some object gave the last one.
-  pub some_last : 1 ≤ limit → is_full (Some limit) (length rs) ≡ true → (o : Tree) × (last ≡ Some o)
-  some_last least full = by last refl w.collected.are.last_is
+  pub some_last : 1 ≤ limit → is_full (Some limit) (length rs) ≡ true → is_some last ≡ true
+  some_last least full = by last w.collected.are.last_is
     where
-      by : (l : Option Tree) → last ≡ l → IsLastOf a.keypos s w.collected.are.objects l → (o : Tree) × (last ≡ Some o)
-      by None e h =
+      by : (l : Option Tree) → IsLastOf a.keypos s w.collected.are.objects l → is_some l ≡ true
+      by None h =
           let none : length rs ≡ 0 = ap length (w.collected.are.results_are ∙ ap results_in h) in
-          let no : 1 ≤ 0 = (grind (arith, nat_tests)) in
-          absurd (omega (arith, no))
-      by (Some o) e h = (o, e)
+          let few : nat_le limit 0 ≡ true = sym (ap (nat_le limit) none) ∙ full in
+          grind (arith, nat_tests)
+      by (Some o) h = refl
+
+  -- It is an object.
+  pub last_object : IfSome last (λ o. is_object a.keypos o ≡ true)
+  last_object = by last w.collected.are.last_is
+    where
+      by : (l : Option Tree) → IsLastOf a.keypos s w.collected.are.objects l → IfSome l (λ o. is_object a.keypos o ≡ true)
+      by None h = tt
+      by (Some o) h = h.2.object
+
+  -- Where the next batch goes on is a continuation.
+  pub next_continues : IsSpecification s → 1 ≤ limit → (full : Bool) (next : Continuation) → IsNextOf a.keypos s limit last full next → IsContinuation next
+  next_continues accepted least full next goes = by full last w.collected.are.last_is goes
+    where
+      by : (b : Bool) (l : Option Tree) → IsLastOf a.keypos s w.collected.are.objects l → IsNextOf a.keypos s limit l b next → IsContinuation next
+      by false l h goes = subst IsContinuation (sym goes) tt
+      by true None h goes = absurd goes
+      by true (Some o) h goes = subst IsContinuation (sym goes) (accepted, least, key_fits a.keypos o positive h.1 h.2)
 
 module _ (a d : Known) (s : Tree) (accepted : IsSpecification s) (limit : ℕ) (response : Response) (next : Continuation) where
   -- `batch` answers the batch from the first object on.
@@ -179,3 +222,97 @@ module _ (a d : Known) (s : Tree) (accepted : IsSpecification s) (limit : ℕ) (
         (within_past a.keypos m t st k h.bounded) in
         (t, b.gives m t (above a.keypos t k) st answer here, st);
   }))
+
+-- ---- the object of one key
+
+same_key : (k : Tree) → is_eq (term_cmp k k) ≡ true
+same_key k = by (term_cmp k k) (tree_flip k k)
+  where
+    by : (r : Ordering) → r ≡ ordering_reverse r → is_eq r ≡ true
+    by Less e = cc
+    by Equal e = refl
+    by Greater e = cc
+
+module _ (p : ℕ) (s k : Tree) (covers : (o : Tree) → result_of s o ≢ None → key_of p o ≡ k) where
+  -- Where objects with another key have no result, the key's object alone has one.
+  pub chosen_alone : (t : List Tree) → chosen s t ≡ chosen s (get p t k)
+  chosen_alone [] = refl
+  chosen_alone (o ∷ t) = by (is_eq (term_cmp (key_of p o) k)) refl (result_of s o) refl (chosen_alone t)
+    where
+      by : (b : Bool) → is_eq (term_cmp (key_of p o) k) ≡ b → (r : Option Tree) → result_of s o ≡ r → chosen s t ≡ chosen s (get p t k)
+          → chosen s (o ∷ t) ≡ chosen s (if b then o ∷ get p t k else get p t k)
+      by true e None f rest = rw f rest
+      by true e (Some v) f rest = rw f (ap (λ (x : List Tree). v ∷ x) rest)
+      by false e None f rest = rw f rest
+      by false e (Some v) f rest =
+          let key : key_of p o ≡ k = covers o (λ none. let wrong : Some v ≡ None = sym f ∙ none in cc) in
+          let wrong : true ≡ false = sym (rw key (same_key k)) ∙ e in
+          cc
+
+  -- A table has no object whose key doesn't fit.
+  pub chosen_none : fits k ≡ false → 1 ≤ p → (t : List Tree) → IsTable p t → AreTerms t → chosen s t ≡ []
+  chosen_none long positive [] h b = refl
+  chosen_none long positive (o ∷ t) h b = by (result_of s o) refl (chosen_none long positive t h.2 b.1)
+    where
+      by : (r : Option Tree) → result_of s o ≡ r → chosen s t ≡ [] → chosen s (o ∷ t) ≡ []
+      by None f rest = rw f rest
+      by (Some v) f rest =
+          let key : key_of p o ≡ k = covers o (λ none. let wrong : Some v ≡ None = sym f ∙ none in cc) in
+          let wrong : true ≡ false = sym (key_fits p o positive b.0 h.0) ∙ ap fits key ∙ long in
+          cc
+
+unfit : (k : Tree) (fault : Fault) → fault_of_key k ≡ Some fault → fits k ≡ false
+unfit k fault e = by (fits k) refl e
+  where
+    by : (b : Bool) → fits k ≡ b → (if b then None else Some Size) ≡ Some fault → fits k ≡ false
+    by true is e = cc
+    by false is e = is
+
+module _ (a b : Known) (s k : Tree) (accepted : IsSpecification s) (covers : (o : Tree) → result_of s o ≢ None → key_of a.keypos o ≡ k) where
+  -- The key doesn't fit: no object has it.
+  pub select_unfit : (fault : Fault) → 1 ≤ a.keypos → fault_of_key k ≡ Some fault → (ts : List Tree) → ts ≡ [] → (l : Continuation)
+      → Steps a a l (Select s) (Items ts) l
+  select_unfit fault positive e ts none l =
+      subst (λ (x : List Tree). Steps a a l (Select s) (Items x) l) (sym none) (inr (record {
+        stays = record {
+          same = record { keypos = refl; pass = refl; passes = refl; alone = refl; sure = refl };
+          map = refl;
+          seen = refl;
+          run = refl;
+          counts = refl;
+          spare = omega arith;
+        };
+        free = record {
+          at = λ t h terms.
+              let empty : chosen s t ≡ [] = chosen_none a.keypos s k covers (unfit k fault e) positive t h terms in rw (accepted, empty) refl;
+        };
+      }))
+
+  module _ (bytes : List ℕ) (h : HasKeyCode k bytes) (found : Bool) (into : List ℕ) where
+    -- No object has the key.
+    pub select_absent : found ≡ false → Got a b bytes found into → (ts : List Tree) → ts ≡ [] → (l : Continuation)
+        → Steps a b l (Select s) (Items ts) l
+    select_absent e got ts none l =
+        subst (λ (x : List Tree). Steps a b l (Select s) (Items x) l) (sym none)
+        (inl (one_call a b (Get (code_of k) None) l l (Select s) (Items []) (got_none k bytes h a b found into e got) (record {
+          at = λ m t st answer.
+              let empty : get a.keypos t k ≡ [] = absent a.keypos m t st k h.bounded answer in
+              let same : chosen s t ≡ [] = chosen_alone a.keypos s k covers t ∙ ap (chosen s) empty in
+              (t, rw (accepted, same) refl, st);
+        })))
+
+    -- The key's object has a result, or none.
+    pub select_present : found ≡ true → Got a b bytes found into → (none : List Tree) (last : Option Tree) → none ≡ [] → (ts : List Tree) (next : Option Tree)
+        → AddsObject s into none last ts next → (l : Continuation) → Steps a b l (Select s) (Items ts) l
+    select_present e got none last empty ts next adds l =
+        inl (one_call a b (Get (code_of k) (Some into)) l l (Select s) (Items ts) (got_some k bytes h a b found into e got) (record {
+          at = λ m t st answer.
+              let o = found_object a.keypos m t st k h.bounded into answer in
+              let same : chosen s t ≡ ts =
+              chosen_alone a.keypos s k covers t ∙ ap (chosen s) o.got ∙ one (result_of s o.object) o.object refl (adds o.object o.bounded o.code_is) in
+              (t, rw (accepted, same) refl, st);
+        }))
+      where
+        one : (r : Option Tree) (o : Tree) → result_of s o ≡ r → Adds r o none last ts next → chosen s (o ∷ []) ≡ ts
+        one None o f h = rw f (sym (h.0 ∙ empty))
+        one (Some v) o f h = rw f (sym (h.0 ∙ ap (λ (x : List Tree). x ++ v ∷ []) empty))

@@ -111,6 +111,7 @@ impl<S: OrderedStore + Drop> Table<S> {
     fn select_key(&mut self, alloc: Global, spec: &Spec, key: &Term, budget: u32) -> Played
         requires budget { 1 ≤ budget }
         requires specification { IsSpecification spec.now }
+        requires positive { 1 ≤ self.old.keypos }
         requires covers { (object : Tree) → result_of spec.now object ≢ None → key_of self.old.keypos object ≡ key.now }
         ensures comes { ComesTo self.old self.new budget (Select spec.now) result }
         ensures done { IfOk result (λ outcome. IsDone outcome) }
