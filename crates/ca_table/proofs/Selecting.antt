@@ -11,7 +11,7 @@ use Rattle.ca_term.specs.declared.bounds.TheConstants.{MOST_CODE_BYTES}
 use Rattle.ca_term.proofs.TotalOrder.{tree_flip}
 use Rattle.ca_term.specs.Object.{fits, is_object, key_of}
 use Rattle.ca_term.specs.Order.{term_cmp}
-use Rattle.ca_ets.specs.Command.{Continuation, IsContinuation, Response, Items, At, AtEnd, Results, End}
+use Rattle.ca_ets.specs.Command.{Continuation, IsContinuation, Response, Items, Never, At, AtEnd, Results, End}
 use Rattle.ca_ets.specs.declared.command.Cmd.TheVariants.{Select, SelectRange, Batch, More}
 use Rattle.ca_ets.specs.Match.{chosen, result_of}
 use Rattle.ca_ets.specs.OrderedMap.{above, between, get, IsEntry, IsTable}
@@ -25,7 +25,8 @@ use Rattle.ca_ets.specs.declared.command.Fault.TheVariants.{Size}
 use Rattle.ca_model.specs.Answer.{Got}
 use Rattle.ca_model.specs.Event.{Get}
 use Rattle.ca_model.specs.Known.{Known}
-use Rattle.ca_table.specs.Collected.{Adds, AddsObject}
+use Rattle.ca_table.specs.Collected.{Adds, AddsObject, IsPlaceOf}
+use Rattle.ca_table.specs.declared.batch.Place.TheVariants as place
 use Rattle.ca_table.proofs.Keyed.{got_none, got_some}
 use Rattle.ca_merge.specs.Carries.{Carries, Gives}
 use Rattle.ca_merge.specs.Stands.{Stands}
@@ -316,3 +317,21 @@ module _ (a b : Known) (s k : Tree) (accepted : IsSpecification s) (covers : (o 
         one : (r : Option Tree) (o : Tree) → result_of s o ≡ r → Adds r o none last ts next → chosen s (o ∷ []) ≡ ts
         one None o f h = rw f (sym (h.0 ∙ empty))
         one (Some v) o f h = rw f (sym (h.0 ∙ ap (λ (x : List Tree). x ++ v ∷ []) empty))
+
+-- ---- where batches go on
+
+-- the key that a client's batches stand behind, with its code
+pub record IsBehind (k : Continuation) (s : Tree) (limit : ℕ) (code : List ℕ) : Type 0 where
+  pub key : Tree
+  pub is : k ≡ At s limit key
+  pub code_is : HasKeyCode key code
+  pub accepted : IsSpecification s
+
+pub behind_place : (k : Continuation) (s : Tree) (limit : ℕ) (code : List ℕ) → IsContinuation k → IsPlaceOf k (place.Behind s limit) code
+    → IsBehind k s limit code
+behind_place Never s limit code h p = absurd p
+behind_place (At t n key) s limit code h p =
+    let spec : t ≡ s = sym p.0 in
+    let many : n ≡ limit = sym p.1 in
+    record { key = key; is = λ i. At (spec i) (many i) key; code_is = p.2; accepted = subst IsSpecification spec h.0 }
+behind_place AtEnd s limit code h p = absurd p
