@@ -5,11 +5,13 @@ pub mod Changing
 pub mod Inserting
 pub mod Keyed
 pub mod KeyParts
+pub mod KeyRead
 pub mod LongElements
 pub mod ReadBack
 pub mod Refusing
 pub mod SamePut
 pub mod Sure
 pub mod Updating
+pub mod Walked
 pub mod Written
 pub mod Listed

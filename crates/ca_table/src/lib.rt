@@ -9,7 +9,7 @@ mod reply;
 mod table;
 mod update;
 
-pub use laws::sure_and_alone_is_done;
+pub use laws::{sure_and_alone_is_done, sure_and_alone_is_done_from};
 pub use listing::objects;
 pub use outcome::Played;
 pub use table::Table;
