@@ -18,3 +18,5 @@ pub use table::Table;
 mod tests;
 #[cfg(test)]
 mod update_tests;
+#[cfg(test)]
+mod walk_tests;
