@@ -1,18 +1,17 @@
 -- How walks by key end: `first`, `last`, `next` and `prev`.
 use Rattle.std.proofs.Common.{◌≡◌, ℕ, ◌≤◌, Bool, true, false, List, length, refl, sym, ◌∙◌, ap, subst, inl, inr, Some, None, arith}
-use Rattle.std.specs.Prelude.{Option, nat_le}
+use Rattle.std.specs.Prelude.{nat_le}
 use Rattle.std.proofs.lemmas.Bool.Decides.{nat_tests}
 use Rattle.ca_term.specs.Tree.{Tree, Row, Tuple}
 use Rattle.ca_term.specs.Code.{code_of}
-use Rattle.ca_term.specs.Object.{key_of, fits}
+use Rattle.ca_term.specs.Object.{key_of}
 use Rattle.ca_term.specs.declared.bounds.TheConstants.{MOST_CODE_BYTES}
-use Rattle.ca_ets.specs.Command.{Command, Response, Continuation, Value, End}
+use Rattle.ca_ets.specs.Command.{Continuation, Value, End}
 use Rattle.ca_ets.specs.declared.command.Cmd.TheVariants.{First, Last, Next, Prev}
 use Rattle.ca_model.specs.Edges.{Bound, Unbounded, Excluded, IsProperBound}
-use Rattle.ca_model.specs.Event.{Event, Above, Below}
+use Rattle.ca_model.specs.Event.{Above, Below}
 use Rattle.ca_model.specs.Known.{Known, Meets}
 use Rattle.ca_model.specs.Answer.{FoundAbove, FoundBelow}
-use Rattle.ca_merge.specs.Carries.{Carries}
 use Rattle.ca_merge.specs.Steps.{Steps}
 use Rattle.ca_merge.proofs.Calls.{one_call, one_read}
 use Rattle.ca_merge.proofs.Walks.{IsKeyFound, first_call, last_call, next_call, prev_call}
