@@ -6,6 +6,7 @@ pub mod Collecting
 pub mod Inserting
 pub mod Keyed
 pub mod KeyParts
+pub mod KeyRead
 pub mod Listed
 pub mod LongElements
 pub mod ReadBack
@@ -14,4 +15,5 @@ pub mod SamePut
 pub mod Selecting
 pub mod Sure
 pub mod Updating
+pub mod Walked
 pub mod Written

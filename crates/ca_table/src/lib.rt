@@ -12,7 +12,7 @@ mod select;
 mod table;
 mod update;
 
-pub use laws::sure_and_alone_is_done;
+pub use laws::{sure_and_alone_is_done, sure_and_alone_is_done_from};
 pub use listing::objects;
 pub use outcome::Played;
 pub use table::Table;
@@ -21,3 +21,5 @@ pub use table::Table;
 mod tests;
 #[cfg(test)]
 mod update_tests;
+#[cfg(test)]
+mod walk_tests;

@@ -4,10 +4,12 @@ ghost use Rattle.ca_term.specs.Add.{addition_of};
 ghost use Rattle.ca_term.specs.Tree.{Tree};
 ghost use Rattle.ca_term.specs.Updates.{is_open};
 ghost use Rattle.ca_order.specs.Patches.{IsElementCode};
-ghost use Rattle.ca_ets.specs.declared.command.Cmd.TheVariants.{Insert, InsertNew, Lookup, Member, Delete, Take, UpdateCounter, UpdateElement};
+ghost use Rattle.ca_ets.specs.declared.command.Cmd.TheVariants.{Insert, InsertNew, Lookup, Member, Delete, Take, UpdateCounter, UpdateElement, First, Last, Next, Prev};
+ghost use Rattle.ca_ets.specs.Command.{IsContinuation, continuation_of};
 ghost use Rattle.ca_model.specs.Known.{Known, Meets, Stays};
+ghost use Rattle.ca_model.specs.Edges.{bound_of, IsProperBound};
 ghost use Rattle.ca_model.specs.Event.{Write, WriteNew};
-ghost use Rattle.ca_model.specs.Answer.{Got, Removed, IsDone, IsNeverDeep};
+ghost use Rattle.ca_model.specs.Answer.{FoundAbove, FoundBelow, Got, Removed, IsDone, IsNeverDeep};
 ghost use Rattle.ca_model.specs.StoreMap.{IsPair};
 ghost use Rattle.ca_ets.specs.Step.{fault_of_object};
 ghost use Rattle.ca_model.specs.Edges.{IsProperBound, bound_of};
@@ -15,11 +17,11 @@ ghost use Rattle.ca_table.specs.Codes.{HasObjectCode};
 ghost use Rattle.ca_table.specs.Collected.{AreWithin, IsStopped};
 ghost use Rattle.ca_ets.specs.Unless.{IsUnless};
 ghost use Rattle.ca_ets.specs.Update.{IsFilledList};
-ghost use Rattle.ca_table.specs.ComesTo.{ComesTo, EditsNothing, IsEmptyUpdate};
+ghost use Rattle.ca_table.specs.ComesTo.{ComesTo, ComesToFrom, EditsNothing, IsEmptyUpdate};
 ghost use Rattle.ca_table.specs.Renewed.{Updated, by_element, by_operations};
 ghost use Rattle.ca_table.specs.Refusals.{IsRefusal, IsSame, RemovedSame};
 
-use crate::codes::{KeyRange, asked_element, key_code, object_code, only};
+use crate::codes::{KeyRange, asked_element, key_code, key_of, object_code, only};
 use crate::outcome::{ONE_LOST, Played, Stop, done};
 use crate::reply::Room;
 use crate::run::{Collected, results_within};
@@ -69,11 +71,14 @@ impl<S: OrderedStore + Drop> Table<S> {
         self.store
     }
 
-    /// The call that a command names. A reply is that of the command's step at every continuation, the one that is handed in among them; it stays.
+    /// The call that a command names, of a client whose batches stand where `cont` tells. A reply is that of the command's step from there on,
+    /// and `cont` tells then where they stand behind it; where there is no reply it stays.
+    #[tactic(auto, using(crate::proofs::Sure::unmoved))]
     pub fn apply(&mut self, alloc: Global, cmd: &Cmd, cont: &mut Cont, budget: u32) -> Played
-        requires { 1 ≤ budget }
-        ensures comes { ComesTo self.old self.new budget cmd.now result }
-        ensures continuation { cont.new ≡ cont.old }
+        requires budget { 1 ≤ budget }
+        requires continuation { IsContinuation (continuation_of cont.old) }
+        ensures comes { ComesToFrom self.old self.new budget cmd.now (continuation_of cont.old) (continuation_of cont.new) result }
+        ensures continuation { IsContinuation (continuation_of cont.new) }
         ensures read { IsEmptyUpdate self.old.keypos cmd.now → EditsNothing self.old self.new }
         ensures done { IsEmptyUpdate self.old.keypos cmd.now → IfOk result (λ outcome. IsDone outcome) }
     {
@@ -86,6 +91,12 @@ impl<S: OrderedStore + Drop> Table<S> {
             Cmd::Take(key) => self.take(alloc, key, budget),
             Cmd::UpdateCounter(key, op) => self.update_counter(alloc, key, op, budget),
             Cmd::UpdateElement(key, op) => self.update_element(key, op, budget),
+            Cmd::First => self.first(alloc, budget),
+            Cmd::Last => self.last(alloc, budget),
+            Cmd::Next(key) => self.next(alloc, key, budget),
+            Cmd::Prev(key) => self.prev(alloc, key, budget),
+            // to be filled at the merge: Select, SelectRange, Batch and More
+            _ => unreachable!(),
         }
     }
 
@@ -278,6 +289,91 @@ impl<S: OrderedStore + Drop> Table<S> {
             Err(refusal) => return Ok(refusal),
         }
     }
+
+    /// `first`: the least key of the table, or its end. `Err` where memory for the key wasn't found.
+    pub fn first(&mut self, alloc: Global, budget: u32) -> Played
+        requires { 1 ≤ budget }
+        ensures { ComesTo self.old self.new budget First result }
+    {
+        let keypos = self.keypos();
+        let mut object = Code::new();
+        match self.above(Edge::Open, &mut object, budget) {
+            Ok(true) => {
+                let Ok(found) = key_of(alloc, &object, keypos) else {
+                    return Err(AllocError);
+                };
+                return Ok(Outcome::Done(Reply::Value(found)));
+            }
+            Ok(false) => return Ok(Outcome::Done(Reply::End)),
+            Err(refusal) => return Ok(refusal),
+        }
+    }
+
+    /// `last`: the greatest key of the table, or its end. `Err` where memory for the key wasn't found.
+    pub fn last(&mut self, alloc: Global, budget: u32) -> Played
+        requires { 1 ≤ budget }
+        ensures { ComesTo self.old self.new budget Last result }
+    {
+        let keypos = self.keypos();
+        let mut object = Code::new();
+        match self.below(Edge::Open, &mut object, budget) {
+            Ok(true) => {
+                let Ok(found) = key_of(alloc, &object, keypos) else {
+                    return Err(AllocError);
+                };
+                return Ok(Outcome::Done(Reply::Value(found)));
+            }
+            Ok(false) => return Ok(Outcome::Done(Reply::End)),
+            Err(refusal) => return Ok(refusal),
+        }
+    }
+
+    /// `next`: the least key above this one, which need not be in the table, or the table's end. `Err` where memory for the key wasn't found.
+    pub fn next(&mut self, alloc: Global, key: &Term, budget: u32) -> Played
+        requires { 1 ≤ budget }
+        ensures { ComesTo self.old self.new budget (Next key.now) result }
+    {
+        let keypos = self.keypos();
+        let mut code = Code::new();
+        if let Err(fault) = key_code(key, &mut code) {
+            return Ok(Outcome::Done(Reply::Error(fault)));
+        }
+        let mut object = Code::new();
+        match self.above(Edge::Past(code.as_slice()), &mut object, budget) {
+            Ok(true) => {
+                let Ok(found) = key_of(alloc, &object, keypos) else {
+                    return Err(AllocError);
+                };
+                return Ok(Outcome::Done(Reply::Value(found)));
+            }
+            Ok(false) => return Ok(Outcome::Done(Reply::End)),
+            Err(refusal) => return Ok(refusal),
+        }
+    }
+
+    /// `prev`: the greatest key below this one, which need not be in the table, or the table's end. `Err` where memory for the key wasn't
+    /// found.
+    pub fn prev(&mut self, alloc: Global, key: &Term, budget: u32) -> Played
+        requires { 1 ≤ budget }
+        ensures { ComesTo self.old self.new budget (Prev key.now) result }
+    {
+        let keypos = self.keypos();
+        let mut code = Code::new();
+        if let Err(fault) = key_code(key, &mut code) {
+            return Ok(Outcome::Done(Reply::Error(fault)));
+        }
+        let mut object = Code::new();
+        match self.below(Edge::Past(code.as_slice()), &mut object, budget) {
+            Ok(true) => {
+                let Ok(found) = key_of(alloc, &object, keypos) else {
+                    return Err(AllocError);
+                };
+                return Ok(Outcome::Done(Reply::Value(found)));
+            }
+            Ok(false) => return Ok(Outcome::Done(Reply::End)),
+            Err(refusal) => return Ok(refusal),
+        }
+    }
 }
 
 // The table's `keypos`, and objects by it.
@@ -381,6 +477,28 @@ impl<S: OrderedStore + Drop> Table<S> {
             self.store
                 .remove_if(key.as_slice(), &same, &mut old, budget),
         )
+    }
+
+    // Whether an object is within the lower edge; then `into` is the first one.
+    fn above(&mut self, lo: Edge<'_>, into: &mut Code, budget: u32) -> Result<bool, Outcome<Reply>>
+        requires budget { 1 ≤ budget }
+        requires edge { IsProperBound (bound_of lo) }
+        ensures found { IfOk result (λ found. FoundAbove self.old self.new (bound_of lo.entry) found into.new.items) }
+        ensures refused { IfErr result (λ refusal. IsRefusal self.old self.new budget refusal) }
+        ensures never_deep { IfErr result (λ refusal. IsNeverDeep refusal) }
+    {
+        done(self.store.above(lo, into, budget))
+    }
+
+    // Whether an object is within the upper edge; then `into` is the last one.
+    fn below(&mut self, hi: Edge<'_>, into: &mut Code, budget: u32) -> Result<bool, Outcome<Reply>>
+        requires budget { 1 ≤ budget }
+        requires edge { IsProperBound (bound_of hi) }
+        ensures found { IfOk result (λ found. FoundBelow self.old self.new (bound_of hi.entry) found into.new.items) }
+        ensures refused { IfErr result (λ refusal. IsRefusal self.old self.new budget refusal) }
+        ensures never_deep { IfErr result (λ refusal. IsNeverDeep refusal) }
+    {
+        done(self.store.below(hi, into, budget))
     }
 
     // Carries out operations on counters of the key's object, if it is there; then `object` is the one before them.
