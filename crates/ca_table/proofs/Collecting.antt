@@ -1,6 +1,6 @@
 -- Collecting the results of a run, object by object.
 use Rattle.std.proofs.Common.{◌≡◌, ◌⊎◌, ℕ, zero, suc, ◌+◌, ◌≤◌, ◌<◌, Bool, true, false, List, [], ◌∷◌, ◌++◌, length, map, arith, refl, sym, ◌∙◌, ap, subst, inl, inr, append_assoc, append-nil, length-append, Option, None, Some}
-use Rattle.std.specs.Prelude.{nat_le, unwrap_or, Result, Ok, Err}
+use Rattle.std.specs.Prelude.{nat_le, unwrap_or, Result, Err}
 use Rattle.std.proofs.lemmas.Bool.Decides.{nat_tests}
 use Rattle.std.proofs.lemmas.List.{map-append}
 use denote.Ref.{Bor}
@@ -22,7 +22,7 @@ use Rattle.ca_model.specs.declared.outcome.Outcome.TheVariants as outcome
 use Rattle.ca_model.specs.Answer.{IfDone}
 use Rattle.ca_merge.proofs.Filters.{same_code}
 use Rattle.ca_table.specs.Refusals.{IsParted}
-use Rattle.ca_model.specs.Runs.{HandedOut, HasCounted, IsOpen, Opens, Reaches}
+use Rattle.ca_model.specs.Runs.{HandedOut, HasCounted, Opens, Reaches}
 use Rattle.ca_model.proofs.Edits.{map_after, map_filter}
 use Rattle.ca_merge.proofs.Calls.{beside_run_meets, both_beside_run, one_read}
 use Rattle.ca_merge.proofs.Pairs.{object_of_pair}

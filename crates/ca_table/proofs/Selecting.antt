@@ -1,5 +1,5 @@
 -- How selections and batches end.
-use Rattle.std.proofs.Common.{◌≡◌, ◌≢◌, ◌⊎◌, ℕ, zero, suc, ◌+◌, ◌≤◌, Bool, true, false, List, [], ◌∷◌, ◌++◌, length, map, arith, refl, sym, ◌∙◌, ap, subst, inl, inr, append-nil, if◌then◌else◌, Option, None, Some, length-append}
+use Rattle.std.proofs.Common.{◌≡◌, ◌≢◌, ◌⊎◌, ℕ, suc, ◌+◌, ◌≤◌, Bool, true, false, List, [], ◌∷◌, ◌++◌, length, map, arith, refl, sym, ◌∙◌, ap, subst, inl, inr, append-nil, if◌then◌else◌, Option, None, Some, length-append}
 use Rattle.std.specs.Prelude.{nat_le, is_some, IfSome}
 use Rattle.std.proofs.lemmas.Bool.Decides.{nat_tests}
 use Rattle.std.specs.declared.cmp.Ordering.{Ordering}
@@ -11,7 +11,7 @@ use Rattle.ca_term.specs.declared.bounds.TheConstants.{MOST_CODE_BYTES}
 use Rattle.ca_term.proofs.TotalOrder.{tree_flip}
 use Rattle.ca_term.specs.Object.{fits, is_object, key_of}
 use Rattle.ca_term.specs.Order.{term_cmp}
-use Rattle.ca_ets.specs.Command.{Continuation, IsContinuation, Response, Items, Never, At, AtEnd, Results, End}
+use Rattle.ca_ets.specs.Command.{Continuation, IsContinuation, Response, Items, Never, At, AtEnd, Results}
 use Rattle.ca_ets.specs.declared.command.Cmd.TheVariants.{Select, SelectRange, Batch, More}
 use Rattle.ca_ets.specs.Match.{chosen, result_of}
 use Rattle.ca_ets.specs.OrderedMap.{above, between, get, IsEntry, IsTable}
@@ -28,19 +28,18 @@ use Rattle.ca_model.specs.Known.{Known}
 use Rattle.ca_table.specs.Collected.{Adds, AddsObject, IsPlaceOf}
 use Rattle.ca_table.specs.declared.batch.Place.TheVariants as place
 use Rattle.ca_table.proofs.Keyed.{got_none, got_some}
-use Rattle.ca_merge.specs.Carries.{Carries, Gives}
+use Rattle.ca_merge.specs.Carries.{Gives}
 use Rattle.ca_merge.specs.Stands.{Stands}
 use Rattle.ca_merge.specs.Steps.{Steps, Refrains}
 use Rattle.ca_merge.proofs.Calls.{one_call, one_read}
 use Rattle.ca_merge.proofs.Edged.{within_all, within_between, within_past}
-use Rattle.ca_merge.specs.Steps.{ByNone}
 use Rattle.ca_merge.proofs.Founds.{absent, found_object}
 use Rattle.ca_merge.proofs.Pairs.{pair_of_object}
 use Rattle.ca_merge.proofs.Results.{keyed_append, results_chosen, batch_full, batch_last, batch_none}
 use Rattle.ca_merge.proofs.Within.{run_begins, run_is}
 use Rattle.ca_table.proofs.Collecting.{length_values}
 use Rattle.ca_table.specs.Codes.{HasKeyCode}
-use Rattle.ca_table.specs.Collected.{AreCollected, AreWithin, AreUpTo, IsBatch, IsLastOf, IsNextOf, is_full, reply_of_batch}
+use Rattle.ca_table.specs.Collected.{AreWithin, IsBatch, IsLastOf, IsNextOf, is_full, reply_of_batch}
 
 module _ (a d : Known) (positive : 1 ≤ a.keypos) (lo hi : Bound) (s : Tree) where
   -- The results of a whole run are those of all objects that stand within its edges.

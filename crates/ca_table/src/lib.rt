@@ -18,6 +18,8 @@ pub use outcome::Played;
 pub use table::Table;
 
 #[cfg(test)]
+mod select_tests;
+#[cfg(test)]
 mod tests;
 #[cfg(test)]
 mod update_tests;

@@ -1,8 +1,6 @@
-use Rattle.std.proofs.Common.{◌∙◌, sym, ap, subst, Option}
-use Rattle.ca_term.specs.Tree.{Tree}
+use Rattle.std.proofs.Common.{◌∙◌, sym, ap}
 use Rattle.ca_table.specs.Collected.{is_full, left_of}
-use Rattle.ca_model.specs.Runs.{HandedOut}
-use Rattle.ca_table.proofs.Collecting.{collecting_none, collecting_more, collected_all, collected_full, handed_code, run_falls, IsCollecting}
+use Rattle.ca_table.proofs.Collecting.{collecting_none, collecting_more, collected_all, collected_full, handed_code, run_falls}
 use Rattle.ca_merge.proofs.Calls.{both_beside_run}
 use Rattle.ca_table.proofs.run.collect.Goals as goal
 

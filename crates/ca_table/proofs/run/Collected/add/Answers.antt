@@ -1,4 +1,4 @@
-use Rattle.std.proofs.Common.{◌∙◌, sym, refl, Option, Some}
+use Rattle.std.proofs.Common.{◌∙◌, sym, refl}
 use Rattle.ca_table.proofs.Collecting.{adds_read}
 use Rattle.ca_table.proofs.run.Collected.add.Goals as goal
 

@@ -1,4 +1,4 @@
-use Rattle.std.proofs.Common.{inr, None}
+use Rattle.std.proofs.Common.{inr}
 use Rattle.ca_table.proofs.Keyed.{key_begins, read_code, only_read}
 use Rattle.ca_table.proofs.Selecting.{select_unfit, select_absent, select_present}
 use Rattle.ca_table.proofs.table.Table.select_key.Goals as goal
