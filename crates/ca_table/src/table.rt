@@ -94,8 +94,10 @@ impl<S: OrderedStore + Drop> Table<S> {
             Cmd::Last => self.last(alloc, budget),
             Cmd::Next(key) => self.next(alloc, key, budget),
             Cmd::Prev(key) => self.prev(alloc, key, budget),
-            // to be filled at the merge: Select, SelectRange, Batch and More
-            _ => unreachable!(),
+            Cmd::Select(spec) => self.select(alloc, spec, budget),
+            Cmd::SelectRange(lo, hi, spec) => self.select_range(alloc, lo, hi, spec, budget),
+            Cmd::Batch(spec, limit) => self.batch(alloc, spec, limit, cont, budget),
+            Cmd::More => self.more(alloc, cont, budget),
         }
     }
 
