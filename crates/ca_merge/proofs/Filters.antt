@@ -58,7 +58,8 @@ pub empty_stands : (p : ℕ) → Stands p [] []
 empty_stands p = record { codes = refl; ordered = tt; bounded = tt }
 
 module _ (p : ℕ) (m : StoreMap) (t : List Tree) (st : Stands p m t) where
-  filter_stands : (k : Tree) → IsTerm k → (test : Ordering → Bool) →
+  -- The pairs whose key compares so with a key's code stand for the objects whose key does with the key.
+  pub filter_stands : (k : Tree) → IsTerm k → (test : Ordering → Bool) →
       Stands p (filter (λ q. test (bytes_cmp q.0 (code_of k))) m) (filter (λ o. test (term_cmp (key_of p o) k)) t)
   filter_stands k b test = record {
     codes = ap (λ (x : StoreMap). filter (λ q. test (bytes_cmp q.0 (code_of k))) x) st.codes ∙ filtered p k b test t st.bounded;

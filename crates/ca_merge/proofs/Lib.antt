@@ -2,6 +2,7 @@ pub mod Alone
 pub mod ByPlaces
 pub mod Calls
 pub mod Carrying
+pub mod Edged
 pub mod Explains
 pub mod Filters
 pub mod Founds
@@ -12,10 +13,13 @@ pub mod Moments
 pub mod NextUpdates
 pub mod Overtaking
 pub mod Pairs
+pub mod Results
 pub mod Runs
 pub mod Splits
 pub mod Starts
 pub mod TakenUpdates
 pub mod Updates
 pub mod Waits
+pub mod Walks
+pub mod Within
 pub mod Worked

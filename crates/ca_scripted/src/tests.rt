@@ -25,7 +25,7 @@ pub(crate) const CAUSE: FullCause = FullCause {
 };
 
 #[derive(Clone, Copy)]
-enum Call {
+pub(crate) enum Call {
     Insert,
     InsertNew,
     Lookup,
@@ -38,14 +38,19 @@ enum Call {
     CountNothing,
     // puts 99 in the place of the number
     UpdateElement,
+    First,
+    Last,
+    Next,
+    Prev,
 }
 
-// What a call came to; a list of one object is told by the object's number.
+// What a call came to; a list of one object is told by the object's number, and a key by itself.
 #[derive(Clone, Copy, Debug, PartialEq, Eq)]
 pub(crate) enum Answer {
     Truth(bool),
     Nothing,
     Number(i64),
+    End,
     Error(Fault),
     Busy(u32),
     Full(FullCause),
@@ -204,6 +209,7 @@ fn told(played: Played) -> Answer {
     match reply {
         Reply::Truth(truth) => Answer::Truth(truth),
         Reply::Value(value) => integer(&value),
+        Reply::End => Answer::End,
         Reply::Error(fault) => Answer::Error(fault),
         Reply::List(found) => match found.as_slice().first() {
             Some(object) => number(object),
@@ -237,6 +243,10 @@ fn play(alloc: Global, table: &mut Table<Scripted>, call: Call, key: i64) -> Ans
         Call::UpdateCounter => table.update_counter(alloc, &int(key), &five, BUDGET),
         Call::CountNothing => table.update_counter(alloc, &int(key), &nil(), BUDGET),
         Call::UpdateElement => table.update_element(&int(key), &other, BUDGET),
+        Call::First => table.first(alloc, BUDGET),
+        Call::Last => table.last(alloc, BUDGET),
+        Call::Next => table.next(alloc, &int(key), BUDGET),
+        Call::Prev => table.prev(alloc, &int(key), BUDGET),
     })
 }
 
@@ -281,7 +291,7 @@ pub(crate) fn numbers(alloc: Global, table: &mut Table<Scripted>) -> Numbers {
 }
 
 // What a call with this key comes to under this script, and the numbers afterwards.
-fn outcome(alloc: Global, rows: &[TurnRow], call: Call, key: i64) -> (Answer, Numbers) {
+pub(crate) fn outcome(alloc: Global, rows: &[TurnRow], call: Call, key: i64) -> (Answer, Numbers) {
     let Some(mut table) = start(alloc, rows) else {
         return (Answer::Other, [-1; 3]);
     };

@@ -5,7 +5,8 @@ ghost use Rattle.ca_model.specs.Runs.{IsOpen};
 
 use super::*;
 use crate::tests::{
-    AFTER, Answer, BEFORE, BUDGET, Edits, Numbers, REFUSALS, number, numbers, start, table_over,
+    AFTER, Answer, BEFORE, BUDGET, Call, Edits, Numbers, REFUSALS, number, numbers, outcome, start,
+    table_over,
 };
 use ca_model::{Code, Edge, OrderedStore, Outcome};
 use ca_order::{decode, encode};
@@ -305,5 +306,66 @@ fn a_walk_or_a_run_that_is_refused_finds_nothing_and_learns_of_all_edits_of_its_
         let want = if deep { Answer::Truth(true) } else { answer };
         assert_eq!(rt; run_from(alloc, &mut store, state, all, all, 0), Some(want));
         assert_eq!(rt; end_of(alloc, store), [10, 0, 31]);
+    }
+}
+
+// A table's walks, each with the walk of its store.
+const WALKS: [(Call, Walk, Side); 4] = [
+    (Call::First, Walk::Above, Side::Open),
+    (Call::Last, Walk::Below, Side::Open),
+    (Call::Next, Walk::Above, Side::Past),
+    (Call::Prev, Walk::Below, Side::Past),
+];
+
+// The key with this number, or the table's end.
+fn key_with(state: State, wanted: i64) -> Answer {
+    for (key, number) in KEYS.iter().zip(state.iter()) {
+        if wanted != 0 && *number == wanted {
+            return Answer::Number(*key);
+        }
+    }
+    Answer::End
+}
+
+#[test]
+fn a_walk_of_a_table_answers_the_key_of_the_state_behind_the_edits_before_it(rt: HostRuntime) {
+    let alloc = rt.alloc();
+    for (before, after) in SCRIPTS {
+        let state = edited(FIRST, before);
+        let left = three(edited(state, after));
+        for (call, walk, side) in WALKS {
+            for at in KEYS {
+                let found = key_with(state, walked(state, walk, side, at));
+                let script = [(before, None, after)];
+                assert_eq!(rt;
+                    outcome(alloc, &script, call, at),
+                    (found, left),
+                    "{side:?} {at}"
+                );
+            }
+        }
+    }
+}
+
+#[test]
+fn a_walk_of_a_table_that_is_refused_answers_the_refusal(rt: HostRuntime) {
+    let alloc = rt.alloc();
+    let state = edited(FIRST, BEFORE);
+    for (refusal, answer) in REFUSALS {
+        let deep = refusal == Refusal::Deep(7);
+        for (call, walk, side) in WALKS {
+            // A walk is never refused for want of levels.
+            let want = if deep {
+                key_with(state, walked(state, walk, side, 2))
+            } else {
+                answer
+            };
+            let script = [(BEFORE, Some(refusal), AFTER)];
+            assert_eq!(rt;
+                outcome(alloc, &script, call, 2),
+                (want, [10, 0, 31]),
+                "{side:?}"
+            );
+        }
     }
 }

@@ -37,7 +37,8 @@ same_pair p q t h b e =
     let key : q.0 ≡ code_of (key_of p t) = f.key_is ∙ ap (λ (x : Tree). code_of (key_of p x)) same in
     λ i. (key i, e i)
 
-terms_more : (ts : List Tree) (t : Tree) → AreTerms ts → IsTerm t → AreTerms (ts ++ t ∷ [])
+-- One more term.
+pub terms_more : (ts : List Tree) (t : Tree) → AreTerms ts → IsTerm t → AreTerms (ts ++ t ∷ [])
 terms_more [] t h b = (b, tt)
 terms_more (x ∷ ts) t h b = (h.0, terms_more ts t h.1 b)
 

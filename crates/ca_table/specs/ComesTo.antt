@@ -128,3 +128,8 @@ module _ (a b : Known) (budget : ℕ) (command : Command) where
 abbrev pub SureAndAloneIsDone : Type 0
 SureAndAloneIsDone = (a b : Known) (budget : ℕ) (command : Command) (outcome : Outcome Reply) → a.sure ≡ true → a.alone ≡ true
     → HasOutcome a b budget command outcome → IsDone outcome
+
+-- The same of calls of a client whose batches may move.
+abbrev pub SureAndAloneIsDoneFrom : Type 0
+SureAndAloneIsDoneFrom = (a b : Known) (budget : ℕ) (command : Command) (before behind : Continuation) (outcome : Outcome Reply) → a.sure ≡ true
+    → a.alone ≡ true → HasOutcomeFrom a b budget command before behind outcome → IsDone outcome

@@ -1,4 +1,5 @@
 pub mod Codes
+pub mod Collected
 pub mod ComesTo
 pub mod Refusals
 pub mod Renewed

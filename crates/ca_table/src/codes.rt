@@ -1,11 +1,12 @@
 //! Keys and objects of commands as codes, and objects that were found as terms.
-ghost use Rattle.std.specs.Prelude.{◌≡◌, ◌≤◌, IfOk, MatchOption, None};
-ghost use Rattle.ca_term.specs.Object.{is_object};
-ghost use Rattle.ca_term.specs.Tree.{IsTerm};
+ghost use Rattle.std.specs.Prelude.{◌≡◌, ◌≤◌, IfOk, MatchOption, None, length, slice_range};
+ghost use Rattle.ca_term.specs.Object.{is_object, key_of};
+ghost use Rattle.ca_term.specs.Tree.{IsTerm, Row, Tuple};
 ghost use Rattle.ca_ets.specs.Step.{fault_of_key, fault_of_object};
 ghost use Rattle.ca_ets.specs.Update.{element_of};
 ghost use Rattle.ca_order.specs.Languages.{IsTermCode};
 ghost use Rattle.ca_table.specs.Codes.{HasKeyCode, HasObjectCode, IsAsked, IsOnly};
+ghost use Rattle.ca_table.specs.Renewed.{IsObjectCode};
 ghost use Rattle.ca_ets.specs.Unless.{IsUnless};
 
 use ca_ets::{Fault, element};
@@ -68,6 +69,34 @@ pub(crate) fn asked_element(keypos: u32, op: &Term) -> Option<(i64, &Term)>
 {
     let _kind = op.kind();
     element(keypos, op)
+}
+
+// The key of the object whose code these bytes are. Only the key's part of them is read as a term.
+pub(crate) fn key_of(alloc: Global, object: &Code, keypos: u32) -> Result<Term, AllocError>
+    requires { (row : Row) × IsObjectCode keypos row object.now.items }
+    ensures { IfOk result (λ key. (row : Row) → IsObjectCode keypos row object.now.items → key ≡ key_of keypos (Tuple row)) }
+{
+    let bytes = object.as_slice();
+    let Some((start, end)) = object_parts(bytes, keypos) else {
+        unreachable!()
+    };
+    let inside = part(bytes, start, end);
+    let key = match decode(alloc, inside) {
+        Ok(key) => key,
+        Err(DecodeFault::NoMemory) => return Err(AllocError),
+        Err(DecodeFault::NotACode { at: _ }) => unreachable!(),
+    };
+    let _kind = key.kind();
+    Ok(key)
+}
+
+// The bytes from one place up to another one.
+fn part(bytes: &[u8], start: usize, end: usize) -> &[u8]
+    requires rising { start ≤ end }
+    requires inside { end ≤ length bytes.now }
+    ensures { result.now ≡ slice_range bytes.now start end }
+{
+    &bytes[start..end]
 }
 
 // The list of the term that these bytes are the code of.

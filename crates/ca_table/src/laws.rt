@@ -1,7 +1,12 @@
 //! What follows from the definitions alone.
-ghost use Rattle.ca_table.specs.ComesTo.{SureAndAloneIsDone};
+ghost use Rattle.ca_table.specs.ComesTo.{SureAndAloneIsDone, SureAndAloneIsDoneFrom};
 
 /// Over a store that refuses nothing and that nobody else edits, each call of a table answers `Done` or `Err`.
 pub fn sure_and_alone_is_done()
     ensures { SureAndAloneIsDone }
+{}
+
+/// The same of each call of a client whose batches may move.
+pub fn sure_and_alone_is_done_from()
+    ensures { SureAndAloneIsDoneFrom }
 {}

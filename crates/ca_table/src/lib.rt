@@ -1,20 +1,27 @@
 //! The calls of an `ordered_set` of Erlang's `ets` over any store of bytes.
 #![tactic(auto)]
 
+mod batch;
 mod codes;
 mod laws;
 mod listing;
 mod outcome;
 mod reply;
+mod run;
+mod select;
 mod table;
 mod update;
 
-pub use laws::sure_and_alone_is_done;
+pub use laws::{sure_and_alone_is_done, sure_and_alone_is_done_from};
 pub use listing::objects;
 pub use outcome::Played;
 pub use table::Table;
 
 #[cfg(test)]
+mod select_tests;
+#[cfg(test)]
 mod tests;
 #[cfg(test)]
 mod update_tests;
+#[cfg(test)]
+mod walk_tests;

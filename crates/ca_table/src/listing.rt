@@ -26,7 +26,7 @@ pub fn objects(alloc: Global, store: &Plain) -> Result<Terms, AllocError>
 }
 
 // The term that these bytes are the code of.
-fn term_of(alloc: Global, code: &[u8]) -> Result<Term, AllocError>
+pub(crate) fn term_of(alloc: Global, code: &[u8]) -> Result<Term, AllocError>
     requires { IsTermCode code.now }
     ensures code { IfOk result (λ term. code.now ≡ code_of term) }
     ensures bounded { IfOk result (λ term. IsTerm term) }

@@ -15,6 +15,14 @@ pub(crate) const ONE_LOST: Spent = Spent {
     passed: 0,
 };
 
+// Why nothing was found.
+#[derive(Drop)]
+pub(crate) enum Stop {
+    // The store refused its call: this is the table's answer.
+    Refused(Outcome<Reply>),
+    NoMemory,
+}
+
 // The value of a call that was done, or its refusal as the table's answer.
 pub(crate) fn done<T>(outcome: Outcome<T>) -> Result<T, Outcome<Reply>>
     ensures { IsParted outcome result }

@@ -4,26 +4,31 @@ ghost use Rattle.ca_term.specs.Add.{addition_of};
 ghost use Rattle.ca_term.specs.Tree.{Tree};
 ghost use Rattle.ca_term.specs.Updates.{is_open};
 ghost use Rattle.ca_order.specs.Patches.{IsElementCode};
-ghost use Rattle.ca_ets.specs.declared.command.Cmd.TheVariants.{Insert, InsertNew, Lookup, Member, Delete, Take, UpdateCounter, UpdateElement};
+ghost use Rattle.ca_ets.specs.declared.command.Cmd.TheVariants.{Insert, InsertNew, Lookup, Member, Delete, Take, UpdateCounter, UpdateElement, First, Last, Next, Prev};
+ghost use Rattle.ca_ets.specs.Command.{IsContinuation, continuation_of};
 ghost use Rattle.ca_model.specs.Known.{Known, Meets, Stays};
+ghost use Rattle.ca_model.specs.Edges.{bound_of, IsProperBound};
 ghost use Rattle.ca_model.specs.Event.{Write, WriteNew};
-ghost use Rattle.ca_model.specs.Answer.{Got, Removed, IsDone, IsNeverDeep};
+ghost use Rattle.ca_model.specs.Answer.{FoundAbove, FoundBelow, Got, Removed, IsDone, IsNeverDeep};
 ghost use Rattle.ca_model.specs.StoreMap.{IsPair};
 ghost use Rattle.ca_ets.specs.Step.{fault_of_object};
 ghost use Rattle.ca_table.specs.Codes.{HasObjectCode};
+ghost use Rattle.ca_table.specs.Collected.{AreWithin, IsStopped};
 ghost use Rattle.ca_ets.specs.Unless.{IsUnless};
 ghost use Rattle.ca_ets.specs.Update.{IsFilledList};
-ghost use Rattle.ca_table.specs.ComesTo.{ComesTo, EditsNothing, IsEmptyUpdate};
+ghost use Rattle.ca_table.specs.ComesTo.{ComesTo, ComesToFrom, EditsNothing, IsEmptyUpdate};
 ghost use Rattle.ca_table.specs.Renewed.{Updated, by_element, by_operations};
 ghost use Rattle.ca_table.specs.Refusals.{IsRefusal, IsSame, RemovedSame};
 
-use crate::codes::{KeyRange, asked_element, key_code, object_code, only};
-use crate::outcome::{ONE_LOST, Played, done};
+use crate::codes::{KeyRange, asked_element, key_code, key_of, object_code, only};
+use crate::outcome::{ONE_LOST, Played, Stop, done};
 use crate::reply::Room;
+use crate::run::{Collected, results_within};
 use crate::update::{count, fault_of_counts, fault_of_element, fault_of_long_element, replace};
 use ca_ets::{Cmd, Cont, Fault, Operations, Reply};
-use ca_model::{Changed, Code, OrderedStore, Outcome};
+use ca_model::{Changed, Code, Edge, OrderedStore, Outcome};
 use ca_order::encode;
+use ca_spec::Spec;
 use ca_term::{Add, Term, Terms};
 use std::alloc::{AllocError, Global};
 use std::marker::Model;
@@ -65,11 +70,14 @@ impl<S: OrderedStore + Drop> Table<S> {
         self.store
     }
 
-    /// The call that a command names. A reply is that of the command's step at every continuation, the one that is handed in among them; it stays.
+    /// The call that a command names, of a client whose batches stand where `cont` tells. A reply is that of the command's step from there on,
+    /// and `cont` tells then where they stand behind it; where there is no reply it stays.
+    #[tactic(auto, using(crate::proofs::Sure::unmoved))]
     pub fn apply(&mut self, alloc: Global, cmd: &Cmd, cont: &mut Cont, budget: u32) -> Played
-        requires { 1 ≤ budget }
-        ensures comes { ComesTo self.old self.new budget cmd.now result }
-        ensures continuation { cont.new ≡ cont.old }
+        requires budget { 1 ≤ budget }
+        requires continuation { IsContinuation (continuation_of cont.old) }
+        ensures comes { ComesToFrom self.old self.new budget cmd.now (continuation_of cont.old) (continuation_of cont.new) result }
+        ensures continuation { IsContinuation (continuation_of cont.new) }
         ensures read { IsEmptyUpdate self.old.keypos cmd.now → EditsNothing self.old self.new }
         ensures done { IsEmptyUpdate self.old.keypos cmd.now → IfOk result (λ outcome. IsDone outcome) }
     {
@@ -82,6 +90,14 @@ impl<S: OrderedStore + Drop> Table<S> {
             Cmd::Take(key) => self.take(alloc, key, budget),
             Cmd::UpdateCounter(key, op) => self.update_counter(alloc, key, op, budget),
             Cmd::UpdateElement(key, op) => self.update_element(key, op, budget),
+            Cmd::First => self.first(alloc, budget),
+            Cmd::Last => self.last(alloc, budget),
+            Cmd::Next(key) => self.next(alloc, key, budget),
+            Cmd::Prev(key) => self.prev(alloc, key, budget),
+            Cmd::Select(spec) => self.select(alloc, spec, budget),
+            Cmd::SelectRange(lo, hi, spec) => self.select_range(alloc, lo, hi, spec, budget),
+            Cmd::Batch(spec, limit) => self.batch(alloc, spec, limit, cont, budget),
+            Cmd::More => self.more(alloc, cont, budget),
         }
     }
 
@@ -274,12 +290,97 @@ impl<S: OrderedStore + Drop> Table<S> {
             Err(refusal) => return Ok(refusal),
         }
     }
+
+    /// `first`: the least key of the table, or its end. `Err` where memory for the key wasn't found.
+    pub fn first(&mut self, alloc: Global, budget: u32) -> Played
+        requires { 1 ≤ budget }
+        ensures { ComesTo self.old self.new budget First result }
+    {
+        let keypos = self.keypos();
+        let mut object = Code::new();
+        match self.above(Edge::Open, &mut object, budget) {
+            Ok(true) => {
+                let Ok(found) = key_of(alloc, &object, keypos) else {
+                    return Err(AllocError);
+                };
+                return Ok(Outcome::Done(Reply::Value(found)));
+            }
+            Ok(false) => return Ok(Outcome::Done(Reply::End)),
+            Err(refusal) => return Ok(refusal),
+        }
+    }
+
+    /// `last`: the greatest key of the table, or its end. `Err` where memory for the key wasn't found.
+    pub fn last(&mut self, alloc: Global, budget: u32) -> Played
+        requires { 1 ≤ budget }
+        ensures { ComesTo self.old self.new budget Last result }
+    {
+        let keypos = self.keypos();
+        let mut object = Code::new();
+        match self.below(Edge::Open, &mut object, budget) {
+            Ok(true) => {
+                let Ok(found) = key_of(alloc, &object, keypos) else {
+                    return Err(AllocError);
+                };
+                return Ok(Outcome::Done(Reply::Value(found)));
+            }
+            Ok(false) => return Ok(Outcome::Done(Reply::End)),
+            Err(refusal) => return Ok(refusal),
+        }
+    }
+
+    /// `next`: the least key above this one, which need not be in the table, or the table's end. `Err` where memory for the key wasn't found.
+    pub fn next(&mut self, alloc: Global, key: &Term, budget: u32) -> Played
+        requires { 1 ≤ budget }
+        ensures { ComesTo self.old self.new budget (Next key.now) result }
+    {
+        let keypos = self.keypos();
+        let mut code = Code::new();
+        if let Err(fault) = key_code(key, &mut code) {
+            return Ok(Outcome::Done(Reply::Error(fault)));
+        }
+        let mut object = Code::new();
+        match self.above(Edge::Past(code.as_slice()), &mut object, budget) {
+            Ok(true) => {
+                let Ok(found) = key_of(alloc, &object, keypos) else {
+                    return Err(AllocError);
+                };
+                return Ok(Outcome::Done(Reply::Value(found)));
+            }
+            Ok(false) => return Ok(Outcome::Done(Reply::End)),
+            Err(refusal) => return Ok(refusal),
+        }
+    }
+
+    /// `prev`: the greatest key below this one, which need not be in the table, or the table's end. `Err` where memory for the key wasn't
+    /// found.
+    pub fn prev(&mut self, alloc: Global, key: &Term, budget: u32) -> Played
+        requires { 1 ≤ budget }
+        ensures { ComesTo self.old self.new budget (Prev key.now) result }
+    {
+        let keypos = self.keypos();
+        let mut code = Code::new();
+        if let Err(fault) = key_code(key, &mut code) {
+            return Ok(Outcome::Done(Reply::Error(fault)));
+        }
+        let mut object = Code::new();
+        match self.below(Edge::Past(code.as_slice()), &mut object, budget) {
+            Ok(true) => {
+                let Ok(found) = key_of(alloc, &object, keypos) else {
+                    return Err(AllocError);
+                };
+                return Ok(Outcome::Done(Reply::Value(found)));
+            }
+            Ok(false) => return Ok(Outcome::Done(Reply::End)),
+            Err(refusal) => return Ok(refusal),
+        }
+    }
 }
 
 // The table's `keypos`, and objects by it.
 impl<S: OrderedStore + Drop> Table<S> {
     // Which element of an object is its key, counted from 1.
-    fn keypos(&self) -> u32
+    pub(crate) fn keypos(&self) -> u32
         ensures value { result ≡ self.now.keypos }
         ensures positive { 1 ≤ self.now.keypos }
     {
@@ -307,7 +408,7 @@ impl<S: OrderedStore + Drop> Table<S> {
     }
 
     // Whether an object has the key; then `into` is the object.
-    fn get(&mut self, key: &Code, into: &mut Code, budget: u32) -> bool
+    pub(crate) fn get(&mut self, key: &Code, into: &mut Code, budget: u32) -> bool
         requires budget { 1 ≤ budget }
         requires key { 1 ≤ length key.now.items }
         ensures { Got self.old self.new key.now.items result into.new.items }
@@ -379,6 +480,28 @@ impl<S: OrderedStore + Drop> Table<S> {
         )
     }
 
+    // Whether an object is within the lower edge; then `into` is the first one.
+    fn above(&mut self, lo: Edge<'_>, into: &mut Code, budget: u32) -> Result<bool, Outcome<Reply>>
+        requires budget { 1 ≤ budget }
+        requires edge { IsProperBound (bound_of lo) }
+        ensures found { IfOk result (λ found. FoundAbove self.old self.new (bound_of lo.entry) found into.new.items) }
+        ensures refused { IfErr result (λ refusal. IsRefusal self.old self.new budget refusal) }
+        ensures never_deep { IfErr result (λ refusal. IsNeverDeep refusal) }
+    {
+        done(self.store.above(lo, into, budget))
+    }
+
+    // Whether an object is within the upper edge; then `into` is the last one.
+    fn below(&mut self, hi: Edge<'_>, into: &mut Code, budget: u32) -> Result<bool, Outcome<Reply>>
+        requires budget { 1 ≤ budget }
+        requires edge { IsProperBound (bound_of hi) }
+        ensures found { IfOk result (λ found. FoundBelow self.old self.new (bound_of hi.entry) found into.new.items) }
+        ensures refused { IfErr result (λ refusal. IsRefusal self.old self.new budget refusal) }
+        ensures never_deep { IfErr result (λ refusal. IsNeverDeep refusal) }
+    {
+        done(self.store.below(hi, into, budget))
+    }
+
     // Carries out operations on counters of the key's object, if it is there; then `object` is the one before them.
     fn count(
         &mut self,
@@ -424,5 +547,25 @@ impl<S: OrderedStore + Drop> Table<S> {
             object,
             budget,
         ))
+    }
+
+    // The results of the objects within two edges at one state, as many as are wanted, or all.
+    pub(crate) fn within(
+        &mut self,
+        alloc: Global,
+        spec: &Spec,
+        lo: Edge<'_>,
+        hi: Edge<'_>,
+        limit: Option<u64>,
+        budget: u32,
+    ) -> Result<Collected, Stop>
+        requires budget { 1 ≤ budget }
+        requires lower_edge { IsProperBound (bound_of lo) }
+        requires upper_edge { IsProperBound (bound_of hi) }
+        ensures within { IfOk result (λ c. AreWithin self.old self.new (bound_of lo.entry) (bound_of hi.entry) spec.now limit c.results.items c.last) }
+        ensures stopped { IfErr result (λ stop. IsStopped self.old self.new budget stop) }
+        ensures positive { 1 ≤ self.old.keypos }
+    {
+        results_within(&mut self.store, alloc, spec, lo, hi, limit, budget)
     }
 }

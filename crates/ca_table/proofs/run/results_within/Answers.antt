@@ -1,0 +1,28 @@
+use Rattle.ca_model.specs.Edges.{bound_of}
+use Rattle.ca_table.proofs.Collecting.{opened_run, range_opens, run_within, run_lacks}
+use Rattle.ca_table.proofs.run.results_within.Goals as goal
+
+pub collect-collected-requires : goal.collect-collected-requires
+collect-collected-requires g c =
+    let a = g.S.OrderedStore.knows c.args.store.now in
+    let b = g.S.OrderedStore.knows c.range.new.self in
+    let o = range_opens _ _ a b (bound_of c.args.lo) (bound_of c.args.hi) c.wanted.result c.range.result c.done.result c.done.ensures
+    c.in_default.not-Err c.range.ensures.opens in
+    record { run = opened_run _ _ a b (bound_of c.args.lo) (bound_of c.args.hi) c.wanted.result o.0 o.1 }
+
+pub returns-in-Ok-clause-within : goal.returns-in-Ok-clause-within
+returns-in-Ok-clause-within g c =
+    let a = g.S.OrderedStore.knows c.args.store.now in
+    let b = g.S.OrderedStore.knows c.range.new.self in
+    let o = range_opens _ _ a b (bound_of c.args.lo) (bound_of c.args.hi) c.wanted.result c.range.result c.done.result c.done.ensures
+    c.in_default.not-Err c.range.ensures.opens in
+    run_within _ _ c.args.spec.now (λ shown answer met. met) a b _ _ (bound_of c.args.lo) (bound_of c.args.hi) c.wanted.result c.args.limit o.0 _ _
+    c.wanted.ensures o.1 c.in-Ok.ensures.collected c.collect-collected.ensures.stays c.close_run.ensures.stays
+
+pub returns-in-Err-collected-clause-stopped : goal.returns-in-Err-collected-clause-stopped
+returns-in-Err-collected-clause-stopped g c =
+    let a = g.S.OrderedStore.knows c.args.store.now in
+    let b = g.S.OrderedStore.knows c.range.new.self in
+    let o = range_opens _ _ a b (bound_of c.args.lo) (bound_of c.args.hi) c.wanted.result c.range.result c.done.result c.done.ensures
+    c.in_default.not-Err c.range.ensures.opens in
+    run_lacks _ _ a b (bound_of c.args.lo) (bound_of c.args.hi) c.wanted.result _ _ o.0 o.1 c.collect-collected.ensures.stays c.close_run.ensures.stays

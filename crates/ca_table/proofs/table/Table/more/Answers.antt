@@ -1,0 +1,23 @@
+use Rattle.std.proofs.Common.{List, ℕ, arith, length, sym, ap, subst}
+use Rattle.ca_ets.specs.declared.command.Cmd.TheVariants.{More}
+use Rattle.ca_ets.specs.Command.{Continuation, continuation_of, response_of}
+use Rattle.ca_merge.specs.Steps.{Steps}
+use Rattle.ca_table.specs.Codes.{HasKeyCode}
+use Rattle.ca_table.proofs.Keyed.{key_begins}
+use Rattle.ca_table.proofs.Selecting.{behind_place, more_done}
+use Rattle.ca_table.proofs.table.Table.more.Goals as goal
+
+pub next_batch-requires-clause-edge : goal.next_batch-requires-clause-edge
+next_batch-requires-clause-edge g c =
+    let b = behind_place (continuation_of c.args.cont.now) c.in-Ok-Behind.spec c.in-Ok-Behind.limit c.place_of.new.code.items c.requires.continuation
+    (rw c.in-Ok-Behind.field-0-is at c.in-Ok-Behind.ensures) in
+    (omega (arith, key_begins b.key _ b.code_is, ap length c.as_slice.ensures.value), c.as_slice.ensures.fits)
+
+pub returns-in-Ok-clause-comes : goal.returns-in-Ok-clause-comes
+returns-in-Ok-clause-comes g c =
+    let b = behind_place (continuation_of c.args.cont.now) c.in-Ok-Behind.spec c.in-Ok-Behind.limit c.place_of.new.code.items c.requires.continuation
+    (rw c.in-Ok-Behind.field-0-is at c.in-Ok-Behind.ensures) in
+    let code = subst (λ (x : List ℕ). HasKeyCode b.key x) (sym c.as_slice.ensures.value) b.code_is in
+    subst (λ (k : Continuation). Steps c.args.self.now c.next_batch.new.self k More (response_of c.in-Ok.reply) (continuation_of c.in-Ok.next)) (sym b.is)
+    (more_done c.args.self.now c.next_batch.new.self c.in-Ok-Behind.spec b.accepted c.in-Ok-Behind.limit (response_of c.in-Ok.reply)
+    (continuation_of c.in-Ok.next) b.key c.as_slice.result.now code c.in-Ok.ensures.batch)

@@ -1,0 +1,208 @@
+//! Batches of a table over a store.
+ghost use Rattle.std.specs.Prelude.{◌≡◌, ◌≤◌, IfErr, IfOk, IfSome, is_some, true};
+ghost use Rattle.ca_term.specs.Object.{is_object, key_of};
+ghost use Rattle.ca_ets.specs.Command.{IsContinuation, continuation_of, response_of};
+ghost use Rattle.ca_ets.specs.declared.command.Cmd.TheVariants.{Batch, More};
+ghost use Rattle.ca_ets.specs.Specification.{IsSpecification};
+ghost use Rattle.ca_ets.specs.Step.{limit_of};
+ghost use Rattle.ca_model.specs.Edges.{IsProperBound, bound_of};
+ghost use Rattle.ca_table.specs.Collected.{IsBatch, IsNextOf, IsPlaceOf, IsStopped, reply_of_batch};
+ghost use Rattle.ca_table.specs.ComesTo.{ComesToFrom};
+
+use crate::codes::key_code;
+use crate::outcome::{Played, Stop};
+use crate::run::is_full;
+use crate::select::specification;
+use crate::table::Table;
+use ca_ets::{Cont, Fault, Reply};
+use ca_model::{Code, Edge, OrderedStore, Outcome};
+use ca_spec::Spec;
+use ca_term::{Kind, Term, Terms, try_copy};
+use std::alloc::{AllocError, Global};
+
+// Where a client's batches go on.
+#[derive(Drop)]
+pub(crate) enum Place {
+    // No batch was asked for yet.
+    Nowhere,
+    // Behind a key, whose code is beside it.
+    Behind { spec: Spec, limit: u64 },
+    AtEnd,
+}
+
+impl<S: OrderedStore + Drop> Table<S> {
+    /// `batch`: the first results, as many as `limit` says, at one state, and whether there may be more; the manual's call is `select` with a limit.
+    /// The next batch goes on behind the last object that gave one. It is refused as `badarg` where the specification is none, or the limit is no
+    /// integer of at least 1. A batch alone moves the continuation: with an error, a refusal or `Err`, where memory wasn't found, it stays.
+    pub fn batch(
+        &mut self,
+        alloc: Global,
+        spec: &Term,
+        limit: &Term,
+        cont: &mut Cont,
+        budget: u32,
+    ) -> Played
+        requires budget { 1 ≤ budget }
+        requires continuation { IsContinuation (continuation_of cont.old) }
+        ensures comes { ComesToFrom self.old self.new budget (Batch spec.now limit.now) (continuation_of cont.old) (continuation_of cont.new) result }
+        ensures continuation { IsContinuation (continuation_of cont.new) }
+    {
+        let Some(limit) = limit_of(limit) else {
+            return Ok(Outcome::Done(Reply::Error(Fault::BadArg)));
+        };
+        let Ok(compiled) = specification(alloc, spec) else {
+            return Err(AllocError);
+        };
+        let Some(spec) = compiled else {
+            return Ok(Outcome::Done(Reply::Error(Fault::BadArg)));
+        };
+        match self.next_batch(alloc, &spec, limit, Edge::Open, budget) {
+            Ok((reply, next)) => {
+                *cont = next;
+                Ok(Outcome::Done(reply))
+            }
+            Err(Stop::Refused(refusal)) => Ok(refusal),
+            Err(Stop::NoMemory) => Err(AllocError),
+        }
+    }
+
+    /// `more`: the next batch, behind the key where the client's last one ended; the manual's call is `select` of a continuation. It is refused as
+    /// `badarg` where the client asked for no batch yet. A batch alone moves the continuation: with an error, a refusal or `Err`, where
+    /// memory wasn't found, it stays.
+    pub fn more(&mut self, alloc: Global, cont: &mut Cont, budget: u32) -> Played
+        requires budget { 1 ≤ budget }
+        requires continuation { IsContinuation (continuation_of cont.old) }
+        ensures comes { ComesToFrom self.old self.new budget More (continuation_of cont.old) (continuation_of cont.new) result }
+        ensures continuation { IsContinuation (continuation_of cont.new) }
+    {
+        let mut code = Code::new();
+        let (spec, limit) = match place_of(alloc, cont, &mut code) {
+            Ok(Place::Behind { spec, limit }) => (spec, limit),
+            Ok(Place::Nowhere) => return Ok(Outcome::Done(Reply::Error(Fault::BadArg))),
+            Ok(Place::AtEnd) => return Ok(Outcome::Done(Reply::End)),
+            Err(_) => return Err(AllocError),
+        };
+        match self.next_batch(alloc, &spec, limit, Edge::Past(code.as_slice()), budget) {
+            Ok((reply, next)) => {
+                *cont = next;
+                Ok(Outcome::Done(reply))
+            }
+            Err(Stop::Refused(refusal)) => Ok(refusal),
+            Err(Stop::NoMemory) => Err(AllocError),
+        }
+    }
+
+    // The batch of the objects within a lower edge, and where the next one goes on.
+    fn next_batch(
+        &mut self,
+        alloc: Global,
+        spec: &Spec,
+        limit: u64,
+        lo: Edge<'_>,
+        budget: u32,
+    ) -> Result<(Reply, Cont), Stop>
+        requires budget { 1 ≤ budget }
+        requires edge { IsProperBound (bound_of lo) }
+        requires limit { 1 ≤ limit }
+        requires specification { IsSpecification spec.now }
+        ensures batch { IfOk result (λ b. IsBatch self.old self.new (bound_of lo.entry) spec.now limit (response_of b.0) (continuation_of b.1)) }
+        ensures next { IfOk result (λ b. IsContinuation (continuation_of b.1)) }
+        ensures stopped { IfErr result (λ stop. IsStopped self.old self.new budget stop) }
+    {
+        let keypos = self.keypos();
+        let found = match self.within(alloc, spec, lo, Edge::Open, Some(limit), budget) {
+            Ok(found) => found,
+            Err(stop) => return Err(stop),
+        };
+        let full = is_full(Some(limit), found.results.len());
+        let Ok(next) = next_of(alloc, spec, limit, keypos, found.last, full) else {
+            return Err(Stop::NoMemory);
+        };
+        Ok((reply_of(found.results, full), next))
+    }
+}
+
+// How many results a batch asks for: an integer of at least 1.
+fn limit_of(limit: &Term) -> Option<u64>
+    ensures { result ≡ limit_of limit.now }
+{
+    match limit.kind() {
+        Kind::Int(count) if count >= 1 => Some(count as u64),
+        _ => None,
+    }
+}
+
+// Where a client's batches go on; then `code` is the code of the key that they stand behind.
+fn place_of(alloc: Global, cont: &Cont, code: &mut Code) -> Result<Place, AllocError>
+    requires { IsContinuation (continuation_of cont.now) }
+    ensures { IfOk result (λ place. IsPlaceOf (continuation_of cont.now) place code.new.items) }
+{
+    match cont {
+        Cont::Never => Ok(Place::Nowhere),
+        Cont::AtEnd => Ok(Place::AtEnd),
+        Cont::At { spec, limit, key } => {
+            let Ok(()) = key_code(key, code) else {
+                unreachable!()
+            };
+            let Ok(compiled) = specification(alloc, spec) else {
+                return Err(AllocError);
+            };
+            let Some(spec) = compiled else { unreachable!() };
+            Ok(Place::Behind {
+                spec,
+                limit: *limit,
+            })
+        }
+    }
+}
+
+// The reply with the results of a batch, which are as many as were wanted, or the last ones.
+fn reply_of(results: Terms, full: bool) -> Reply
+    ensures { response_of result ≡ reply_of_batch full results.items }
+{
+    if !full && results.is_empty() {
+        Reply::End
+    } else {
+        Reply::Batch(results, full)
+    }
+}
+
+// Where the next batch goes on: behind the last object with a result where there are as many as were wanted.
+fn next_of(
+    alloc: Global,
+    spec: &Spec,
+    limit: u64,
+    keypos: u32,
+    last: Option<Term>,
+    full: bool,
+) -> Result<Cont, AllocError>
+    requires keypos { 1 ≤ keypos }
+    requires last { full ≡ true → is_some last ≡ true }
+    requires object { IfSome last (λ o. is_object keypos o ≡ true) }
+    ensures { IfOk result (λ next. IsNextOf keypos spec.now limit last full (continuation_of next)) }
+{
+    if !full {
+        return Ok(Cont::AtEnd);
+    }
+    let Some(object) = last else { unreachable!() };
+    let (Ok(spec), Ok(key)) = (
+        try_copy(alloc, spec.source()),
+        try_copy(alloc, key(&object, keypos)),
+    ) else {
+        return Err(AllocError);
+    };
+    Ok(Cont::At { spec, limit, key })
+}
+
+// An object's key.
+#[tactic(auto, using(ca_term::proofs::Rows::elements_are, ca_term::proofs::Rows::size_row))]
+fn key(object: &Term, keypos: u32) -> &Term
+    requires keypos { 1 ≤ keypos }
+    requires object { is_object keypos object.now ≡ true }
+    ensures { result.now ≡ key_of keypos object.now }
+{
+    let Kind::Tuple(items) = object.kind() else {
+        unreachable!()
+    };
+    &items[keypos as usize - 1]
+}

@@ -1,0 +1,137 @@
+//! Results of the objects of a run.
+ghost use Rattle.std.specs.Prelude.{◌≡◌, ◌⊎◌, ◌≤◌, [], IfErr, IfOk, OnOk, None, Some};
+ghost use Rattle.ca_order.specs.Languages.{IsTermCode};
+ghost use Rattle.ca_model.specs.Edges.{IsProperBound, bound_of};
+ghost use Rattle.ca_model.specs.Known.{StaysBesideRun};
+ghost use Rattle.ca_table.specs.Collected.{AddsObject, AreCollected, AreWithin, CountsOnly, IsOpenRun, IsStopped, is_full, left_of};
+
+use crate::listing::term_of;
+use crate::outcome::{Stop, done};
+use ca_model::{Code, Edge, OrderedStore};
+use ca_order::decode;
+use ca_spec::{Spec, apply};
+use ca_term::{Term, Terms};
+use std::alloc::{AllocError, Global};
+
+// What is collected of a run: results in key order, and the last object that gave one.
+#[derive(Drop)]
+pub(crate) struct Collected {
+    pub results: Terms,
+    pub last: Option<Term>,
+}
+
+impl Collected {
+    // Nothing yet.
+    pub(crate) fn new(alloc: Global) -> Collected
+        ensures results { result.results.items ≡ [] }
+        ensures last { result.last ≡ None }
+    {
+        Collected {
+            results: Terms::new(alloc),
+            last: None,
+        }
+    }
+
+    // With the result of the object of this code, if the specification gives it one.
+    pub(crate) fn add(&mut self, alloc: Global, spec: &Spec, code: &Code) -> Result<(), AllocError>
+        requires { IsTermCode code.now.items }
+        ensures { OnOk result (AddsObject spec.now code.now.items self.old.results.items self.old.last self.new.results.items self.new.last) }
+    {
+        let object = term_of(alloc, code.as_slice())?;
+        let Some(found) = apply(alloc, spec, &object)? else {
+            return Ok(());
+        };
+        let Ok(()) = self.results.push(found) else {
+            return Err(AllocError);
+        };
+        self.last = Some(object);
+        Ok(())
+    }
+}
+
+// Whether so many results are as many as are wanted; without a limit none are.
+pub(crate) fn is_full(limit: Option<u64>, found: usize) -> bool
+    ensures { result ≡ is_full limit found }
+{
+    match limit {
+        Some(limit) => limit <= found as u64,
+        None => false,
+    }
+}
+
+// Collects the results of the open run, as many as are wanted, or all. Only objects are handed out.
+fn collect<S: OrderedStore>(
+    store: &mut S,
+    alloc: Global,
+    spec: &Spec,
+    limit: Option<u64>,
+) -> Result<Collected, AllocError>
+    requires run { IsOpenRun (S.knows store.old) }
+    ensures collected { IfOk result (λ c. AreCollected (S.knows store.old).keypos spec.now limit (left_of (S.knows store.old)) c.results.items c.last) }
+    ensures stays { StaysBesideRun (S.knows store.old) (S.knows store.new) }
+{
+    let mut collected = Collected::new(alloc);
+    let mut code = Code::new();
+    'objects: while !is_full(limit, collected.results.len()) {
+        if !store.found(&mut code) {
+            return Ok(collected);
+        }
+        collected.add(alloc, spec, &code)?;
+    }
+    Ok(collected)
+}
+
+// Whether a specification gives the object of this code a result; also false where memory wasn't found, since a run is only longer then.
+fn gives_result(alloc: Global, spec: &Spec, code: &[u8]) -> bool
+    ensures { CountsOnly spec.now code.now result }
+{
+    let Ok(object) = decode(alloc, code) else {
+        return false;
+    };
+    let _kind = object.kind();
+    matches!(apply(alloc, spec, &object), Ok(Some(_)))
+}
+
+// How many results a run wants that may be cut; 0 where it may not.
+fn wanted(limit: Option<u64>) -> u32
+    ensures { (result ≡ 0) ⊎ (limit ≡ Some result) }
+{
+    match limit {
+        Some(limit) => u32::try_from(limit).unwrap_or(0),
+        None => 0,
+    }
+}
+
+// The results of the objects within two edges at one state, as many as are wanted, or all. The run is closed on every way out.
+pub(crate) fn results_within<S: OrderedStore>(
+    store: &mut S,
+    alloc: Global,
+    spec: &Spec,
+    lo: Edge<'_>,
+    hi: Edge<'_>,
+    limit: Option<u64>,
+    budget: u32,
+) -> Result<Collected, Stop>
+    requires budget { 1 ≤ budget }
+    requires closed { (S.knows store.old).run ≡ None }
+    requires lower_edge { IsProperBound (bound_of lo) }
+    requires upper_edge { IsProperBound (bound_of hi) }
+    requires keypos { 1 ≤ (S.knows store.old).keypos }
+    ensures within { IfOk result (λ c.
+        AreWithin (S.knows store.old) (S.knows store.new) (bound_of lo.entry) (bound_of hi.entry) spec.now limit c.results.items c.last) }
+    ensures stopped { IfErr result (λ stop. IsStopped (S.knows store.old) (S.knows store.new) budget stop) }
+    ensures closed { (S.knows store.new).run ≡ None }
+{
+    let counts = |code: &[u8]| -> bool
+        ensures { CountsOnly spec.entry.now code.now result }
+    { gives_result(alloc, spec, code) };
+    if let Err(refusal) = done(store.range(lo, hi, wanted(limit), &counts, budget)) {
+        return Err(Stop::Refused(refusal));
+    }
+    let collected = collect(store, alloc, spec, limit);
+    store.close_run();
+    match collected {
+        Ok(collected) => Ok(collected),
+        Err(_) => Err(Stop::NoMemory),
+    }
+}
