@@ -1,7 +1,7 @@
 //! The clients' commands on a table, and their answers as text. An answer is text as soon as it was given, so that its
 //! terms aren't kept.
 ghost use Rattle.std.specs.Prelude.{◌≡◌, map, IfOk, OnOk};
-ghost use Rattle.ca_ets.specs.Command.{continuation_of, response_of};
+ghost use Rattle.ca_ets.specs.Command.{IsContinuation, continuation_of, response_of};
 ghost use Rattle.ca_cmd.specs.Lines.{numbered};
 ghost use Rattle.ca_cli.specs.Played.{IsOwn, HasAnswered, HasPlayed, HavePlayed};
 
@@ -21,8 +21,11 @@ fn reply(
     cmd: &Cmd,
     cont: &mut Cont,
 ) -> Result<Reply, AllocError>
-    requires { IsOwn table.old }
-    ensures { IfOk result (λ reply. HasAnswered table.old table.new (continuation_of cont.old) cmd.now (response_of reply) (continuation_of cont.new)) }
+    requires own { IsOwn table.old }
+    requires continuation { IsContinuation (continuation_of cont.old) }
+    ensures continuation { IsContinuation (continuation_of cont.new) }
+    ensures answered { IfOk result (λ reply.
+        HasAnswered table.old table.new (continuation_of cont.old) cmd.now (response_of reply) (continuation_of cont.new)) }
 {
     let Outcome::Done(reply) = table.apply(alloc, cmd, cont, BUDGET)? else {
         unreachable!()
