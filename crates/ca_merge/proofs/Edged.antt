@@ -1,5 +1,5 @@
 -- What a store map has within edges stands for what the table has from a key on, up to a key, or between two keys.
-use Rattle.std.proofs.Common.{◌≡◌, ℕ, Bool, true, false, List, [], ◌∷◌, map, refl, sym, ◌∙◌, ap, subst, if◌then◌else◌}
+use Rattle.std.proofs.Common.{◌≡◌, ℕ, Bool, true, false, List, [], ◌∷◌, refl, sym, ap, subst, if◌then◌else◌}
 use Rattle.std.specs.Prelude.{filter, not, ◌&&◌}
 use Rattle.std.specs.declared.cmp.Ordering.{Ordering}
 use Rattle.std.specs.declared.cmp.Ordering.TheVariants.{Less, Equal, Greater}
@@ -11,7 +11,7 @@ use Rattle.ca_term.specs.Object.{key_of}
 use Rattle.ca_term.proofs.TotalOrder.{tree_flip}
 use Rattle.ca_ets.specs.OrderedMap.{above, below, between}
 use Rattle.ca_model.specs.StoreMap.{StoreMap}
-use Rattle.ca_model.specs.Edges.{Bound, Unbounded, Included, Excluded, from, up_to, within}
+use Rattle.ca_model.specs.Edges.{Unbounded, Included, Excluded, from, up_to, within}
 use Rattle.ca_merge.specs.Stands.{Stands}
 use Rattle.ca_merge.proofs.Filters.{above_stands, below_stands, filter_stands}
 

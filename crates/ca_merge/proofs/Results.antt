@@ -1,14 +1,14 @@
 -- The results that a specification gives the first objects of a table, and a batch of them.
-use Rattle.std.proofs.Common.{◌≡◌, ℕ, zero, suc, ◌+◌, ◌≤◌, Bool, true, false, List, [], ◌∷◌, ◌++◌, length, map, take, arith, refl, sym, ◌∙◌, ap, subst, Option, None, Some, length-append}
-use Rattle.std.specs.Prelude.{filter_map, nat_le}
+use Rattle.std.proofs.Common.{◌≡◌, ℕ, ◌≤◌, true, false, List, [], ◌∷◌, ◌++◌, length, take, arith, refl, sym, ◌∙◌, ap, Option, None, Some, length-append}
+use Rattle.std.specs.Prelude.{nat_le}
 use Rattle.std.specs.Option.{option_map}
 use Rattle.std.proofs.lemmas.Bool.Decides.{nat_tests}
 use Rattle.std.proofs.lemmas.List.Elements.{filter_map-append}
-use Rattle.ca_term.specs.Tree.{Tree, Nil}
+use Rattle.ca_term.specs.Tree.{Tree}
 use Rattle.ca_term.specs.Object.{key_of}
 use Rattle.ca_ets.specs.Match.{chosen, result_of}
 use Rattle.ca_ets.specs.Command.{At, AtEnd, Results, End}
-use Rattle.ca_ets.specs.Step.{Step, keyed_results, results_in, last_found, step_of_results, with_map}
+use Rattle.ca_ets.specs.Step.{keyed_results, results_in, last_found, step_of_results, with_map}
 
 module _ (p : ℕ) (s : Tree) where
   -- Results of more objects stand behind those of the first ones.

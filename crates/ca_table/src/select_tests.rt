@@ -280,3 +280,51 @@ fn two_clients_take_batches_in_turn(rt: HostRuntime) {
     );
     assert_eq!(rt; told(table.more(alloc, &mut two, BUDGET)), End);
 }
+
+// [{{'$1','$1'},[{'>','$1',1}],['$$']}]
+fn equal_elements(alloc: Global) -> Result<Term, TermFault> {
+    let mut guard = Terms::new(alloc);
+    guard.push(atom(alloc, ">")?)?;
+    guard.push(atom(alloc, "$1")?)?;
+    guard.push(int(1))?;
+    let mut parts = Terms::new(alloc);
+    parts.push(pair(atom(alloc, "$1")?, atom(alloc, "$1")?, alloc)?)?;
+    parts.push(list_of_one(alloc, tuple(guard)?)?)?;
+    parts.push(list_of_one(alloc, atom(alloc, "$$")?)?)?;
+    list_of_one(alloc, tuple(parts)?)
+}
+
+// The one number of the one list that a selection gave; -1 where it gave another reply.
+fn number_in_list(played: Played) -> i64 {
+    let Ok(Outcome::Done(Reply::List(terms))) = played else {
+        return -1;
+    };
+    let [only] = terms.as_slice() else {
+        return -1;
+    };
+    match only.kind() {
+        Kind::Cons(head, tail) if matches!(tail.kind(), Kind::Nil) => number(Some(head)),
+        _ => -1,
+    }
+}
+
+#[test]
+fn a_variable_that_stands_twice_meets_an_equal_element(rt: HostRuntime) {
+    let alloc = rt.alloc();
+    let mut table = Table::new(Plain::new(alloc, 2), 2);
+    for (first, key) in [(1, 1), (2, 2), (2, 3)] {
+        let put = match pair(int(first), int(key), alloc) {
+            Ok(object) => matches!(
+                table.insert(&object, BUDGET),
+                Ok(Outcome::Done(Reply::Truth(true)))
+            ),
+            Err(_) => false,
+        };
+        assert_eq!(rt; put, true);
+    }
+    let found = match equal_elements(alloc) {
+        Ok(spec) => number_in_list(table.select(alloc, &spec, BUDGET)),
+        Err(_) => -1,
+    };
+    assert_eq!(rt; found, 2);
+}
