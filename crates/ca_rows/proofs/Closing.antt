@@ -228,3 +228,11 @@ front_is (y ∷ ys) x (suc k) d l = front_is ys x k d (omega arith)
 -- What holds of all holds of all but the last.
 pub all_front : {A : Type 0} (P : A → Type 0) (xs : List A) (x : A) → All P (xs ++ x ∷ []) → All P xs
 all_front P xs x all k d l = subst P (front_is xs x k d l) (all k d (omega (arith, length-append xs (x ∷ []))))
+
+last_is : {A : Type 0} (xs : List A) (x d : A) → get_or (xs ++ x ∷ []) (length xs) d ≡ x
+last_is [] x d = refl
+last_is (y ∷ ys) x d = last_is ys x d
+
+-- It holds of the last.
+pub all_last : {A : Type 0} (P : A → Type 0) (xs : List A) (x : A) → All P (xs ++ x ∷ []) → P x
+all_last P xs x all = subst P (last_is xs x x) (all (length xs) x (omega (arith, length-append xs (x ∷ []))))

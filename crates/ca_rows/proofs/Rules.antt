@@ -78,7 +78,7 @@ module _ {U : Type 0} (linked lent : List ℕ → ℕ → Type 0) (noted : List 
     note_back j x here q n = framed.notes j x.upper (at_map upper_of s.views j x here) q n
 
     -- Who has a note after the step had it before.
-    notes_back : (m q : ℕ) → NotedAt noted words' after.views m q → NotedAt noted s.words s.views m q
+    pub notes_back : (m q : ℕ) → NotedAt noted words' after.views m q → NotedAt noted s.words s.views m q
     notes_back m q n = ⊎_elim
         (λ (t : (n.seat ≡ id) × (d' ≡ n.d)). record {
           seat = id;

@@ -65,4 +65,4 @@ module _ {U : Type 0} where
 
   -- The row is kept, since the epoch that was loaded.
   abbrev pub Retired : ℕ → Step (Unit {0}) → Mine U → ℕ → Mine U → Type 0
-  Retired q st m n m' = m' ≡ (record m.0 { claims = claimed q (Keeps n) m.0.claims }, m.1)
+  Retired q st m n m' = (0 < q) × (0 < m.0.rows → q ≤ m.0.rows) × (n ≤ 4611686018427387904) × (m' ≡ (record m.0 { claims = claimed q (Keeps n) m.0.claims }, m.1))

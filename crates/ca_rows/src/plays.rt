@@ -1,13 +1,13 @@
 //! What each step of the rows tells.
-ghost use Rattle.std.specs.Prelude.{◌+◌};
+ghost use Rattle.std.specs.Prelude.{ℕ, ◌+◌};
 ghost use Rattle.ca_rows.specs.Closed.{joined};
 ghost use Rattle.ca_rows.specs.Rule.{fresh};
-ghost use Rattle.ca_rows.specs.Told.{Looked, Peeked, Took, Wrote, Gave, Asked, Announced, Left};
+ghost use Rattle.ca_rows.specs.Told.{Looked, Peeked, Took, Wrote, Gave, Asked, Announced, Left, Retired};
 
 use crate::rule::RowRule;
 use crate::view::View;
 use atomic_table::{Join, Play, Split};
-use std::marker::PhantomData;
+use std::marker::{Brand, PhantomData};
 
 /// A load of the pool's head.
 pub struct Look;
@@ -78,6 +78,24 @@ pub struct Leave<R> {
 
 impl<R: RowRule> Play<(), View<R::Upper>> for Leave<R> {
     ghost then = { Left R.leaves };
+}
+
+/// Which row a step is about, where its word doesn't tell. It exists in proofs alone.
+pub trait Named {
+    ghost about: { ℕ };
+}
+
+impl Named for Brand {
+    ghost about = { 0 };
+}
+
+/// The load of the epoch that a row is retired with.
+pub struct Retire<K> {
+    named: PhantomData<K>,
+}
+
+impl<K: Named, U> Play<(), View<U>> for Retire<K> {
+    ghost then = { λ st m n m'. Retired K.about st m n m' };
 }
 
 /// The step that joins a pass's seat into the space's own one.

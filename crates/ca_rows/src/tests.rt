@@ -1,6 +1,7 @@
 //! Rows under a register of one row, by one pass and by two on threads.
 ghost use Rattle.std.specs.Prelude.{◌≡◌, ℕ, ◌+◌, ◌<◌, ◌≤◌};
 ghost use Rattle.ca_rows.specs.Calls.{IsOf};
+ghost use Rattle.ca_rows.specs.Kept.{AreKept};
 ghost use Rattle.std.specs.Thread.{IsSync};
 
 use super::*;
@@ -90,7 +91,7 @@ fn takes_each_free_row_once(rt: HostRuntime) {
     let Ok(mut space) = Space::<Register>::new(rt.alloc(), 384, 2, 1, 120, 4096, STARTS) else {
         panic!(rt; "no memory")
     };
-    let Ok(mut pass) = space.enroll() else {
+    let Ok(mut pass) = space.enroll(rt.alloc()) else {
         panic!(rt; "no pass")
     };
     assert_eq!(rt; pass.number(), 1);
@@ -153,10 +154,10 @@ fn no_row_is_lost_between_two_threads(rt: HostRuntime) {
     let Ok(mut space) = Space::<Register>::new(rt.alloc(), 384, 2, 1, 120, 4096, STARTS) else {
         panic!(rt; "no memory")
     };
-    let (Ok(first), Ok(second)) = (space.enroll(), space.enroll()) else {
+    let (Ok(first), Ok(second)) = (space.enroll(rt.alloc()), space.enroll(rt.alloc())) else {
         panic!(rt; "no pass")
     };
-    assert!(rt; matches!(space.enroll(), Err(RowsFault::NoPass)));
+    assert!(rt; matches!(space.enroll(rt.alloc()), Err(RowsFault::NoPass)));
     let (held, free) = work_both(&rt, &space, first, second);
     assert_eq!(rt; free, 383_u32.checked_sub(held));
 }
@@ -166,7 +167,7 @@ fn a_pass_pins_and_unpins(rt: HostRuntime) {
     let Ok(mut space) = Space::<Register>::new(rt.alloc(), 384, 1, 1, 120, 4096, STARTS) else {
         panic!(rt; "no memory")
     };
-    let Ok(mut pass) = space.enroll() else {
+    let Ok(mut pass) = space.enroll(rt.alloc()) else {
         panic!(rt; "no pass")
     };
     space.pin(&mut pass);
@@ -192,4 +193,29 @@ fn begins_with_these_words(rt: HostRuntime) {
             assert_eq!(rt; words.at(word), value, "in {word}");
         }
     }
+}
+
+// Takes a row and retires it. It answers how many rows the pass keeps then.
+fn take_and_retire(space: &Space<Register>, pass: &mut Pass<Register>) -> u32
+    requires own { IsOf space.now.table.shared.table_id space.now.table.shared.key.rows pass.old.seat }
+    requires list { AreKept space.now.table.shared.key.rows pass.old.seat.me.0.claims pass.old.kept.rows }
+    ensures { IsOf space.now.table.shared.table_id space.now.table.shared.key.rows pass.new.seat }
+{
+    if let Taken::Row(row) = space.take_row(pass) {
+        space.retire(pass, row);
+    }
+    pass.kept()
+}
+
+#[test]
+fn a_row_that_is_retired_is_kept(rt: HostRuntime) {
+    let Ok(mut space) = Space::<Register>::new(rt.alloc(), 384, 1, 1, 120, 4096, STARTS) else {
+        panic!(rt; "no memory")
+    };
+    let Ok(mut pass) = space.enroll(rt.alloc()) else {
+        panic!(rt; "no pass")
+    };
+    assert_eq!(rt; pass.kept(), 0);
+    assert_eq!(rt; take_and_retire(&space, &mut pass), 1);
+    assert_eq!(rt; take_each(&space, &mut pass), Some(382));
 }
