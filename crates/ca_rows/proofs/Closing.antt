@@ -90,7 +90,7 @@ passed_free seat k (Of i) e = dite (ℕ_discrete i seat)
     (λ f. let no : Of 0 ≡ Free k = sym (ap (λ b. cond b (Of 0) (Of i)) (eq-eqb i seat f)) ∙ e in absurd cc)
     (λ n. let no : Of i ≡ Free k = sym (ap (λ b. cond b (Of 0) (Of i)) (ne_eqb i seat n)) ∙ e in absurd cc)
 
-module _ {U : Type 0} (linked lent : List ℕ → ℕ → Type 0) (noted : List ℕ → U → ℕ → Type 0) (fact : Sizes → List ℕ → List U → Type 0) (both : U → U → U) (spent : U) (law : Closing linked lent noted fact both spent) (z : Sizes) where
+module _ {U : Type 0} (linked lent : List ℕ → ℕ → Type 0) (noted : List ℕ → U → ℕ → Type 0) (fact : Sizes → ℕ → List ℕ → List U → Type 0) (both : U → U → U) (spent : U) (law : Closing linked lent noted fact both spent) (z : Sizes) where
   abbrev pub joined : View U → View U → View U
   joined v w = record v { claims = v.claims ++ w.claims; upper = both v.upper w.upper }
 
@@ -201,8 +201,8 @@ module _ {U : Type 0} (linked lent : List ℕ → ℕ → Type 0) (noted : List 
           (λ n m there. let k = r.seat j d there in record { rows_are = k.rows_are; made_are = k.made_are; stage_is = stages d.stage k.stage_is; in_range = k.in_range; noted_pinned = k.noted_pinned });
       pins = subst (ArePins r.made s.words) (sym (map-set pin_of (set s.views 0 (joined v w)) seat left_over ∙ ap (λ xs. set xs seat (unpinned 0)) (map-set pin_of s.views 0 (joined v w) ∙ set_again (map pin_of s.views) 0 v.pin (at_map pin_of s.views 0 v at))))
           (pins_fewer r.made s.words (map pin_of s.views) seat r.pins);
-      above = subst (fact z s.words) (sym (map-set upper_of (set s.views 0 (joined v w)) seat left_over ∙ ap (λ xs. set xs seat spent) (map-set upper_of s.views 0 (joined v w))))
-          (law.keeps_closing z (map upper_of s.views) s.words 0 seat v.upper w.upper r.above (at_map upper_of s.views 0 v at) apart (at_map upper_of s.views seat w was_there));
+      above = subst (fact z r.made s.words) (sym (map-set upper_of (set s.views 0 (joined v w)) seat left_over ∙ ap (λ xs. set xs seat spent) (map-set upper_of s.views 0 (joined v w))))
+          (law.keeps_closing z r.made (map upper_of s.views) s.words 0 seat v.upper w.upper r.above (at_map upper_of s.views 0 v at) apart (at_map upper_of s.views seat w was_there));
     }
       where
         stages : (st : Stage) → IsStage z.rows r.owner s.words st → IsStage z.rows (λ c. passed seat (r.owner c)) s.words st

@@ -167,7 +167,7 @@ taken_too {U} rows kept kept' m m' q its k free took same = subst (λ (x : Mine 
     (claimed_too rows m.0.claims kept.rows k q (Holds its) (λ t e. cc) (λ t e. some-ne-none (Keeps t) (sym e ∙ free)))
 
 -- What may be retired isn't kept yet.
-pub released : {U : Type 0} (lent : List ℕ → ℕ → Type 0) (fact : Sizes → List ℕ → List U → Type 0) (z : Sizes) (id : ℕ) (d : View U) (q : ℕ) → MayRetire lent fact z id d q → (t : ℕ) → claim_of d.claims q ≢ some (Keeps t)
+pub released : {U : Type 0} (lent : List ℕ → ℕ → Type 0) (fact : Sizes → ℕ → List ℕ → List U → Type 0) (z : Sizes) (id : ℕ) (d : View U) (q : ℕ) → MayRetire lent fact z id d q → (t : ℕ) → claim_of d.claims q ≢ some (Keeps t)
 released lent fact z id d q may t e = by may.0 may.2 (some-injective may.0 (Keeps t) (sym may.1 ∙ e))
   where
     by : (c : Claim) → IsReleased lent fact z id d q c → c ≡ Keeps t → ⊥
@@ -178,7 +178,7 @@ released lent fact z id d q may t e = by may.0 may.2 (some-injective may.0 (Keep
     by (Returns u its) free is = free
 
 -- It isn't in the list, and finds room there.
-pub finds_room : {U : Type 0} (lent : List ℕ → ℕ → Type 0) (fact : Sizes → List ℕ → List U → Type 0) (z : Sizes) (id : ℕ) (d : View U) (kept : Vec Kept Global) (q : ℕ) → AreKept z.rows d.claims kept → MayRetire lent fact z id d q → 0 < q → q ≤ z.rows
+pub finds_room : {U : Type 0} (lent : List ℕ → ℕ → Type 0) (fact : Sizes → ℕ → List ℕ → List U → Type 0) (z : Sizes) (id : ℕ) (d : View U) (kept : Vec Kept Global) (q : ℕ) → AreKept z.rows d.claims kept → MayRetire lent fact z id d q → 0 < q → q ≤ z.rows
     → (vec_len kept < z.rows) × (kept_of kept.items q ≡ none)
 finds_room lent fact z id d kept q k may lo hi = let new = not_kept z.rows d.claims kept k q (released lent fact z id d q may) in let less = has_room z.rows d.claims kept k q lo hi new in let long = kept.ok.0 in (omega arith, new)
 

@@ -1,15 +1,15 @@
 mod Accounts
 mod Calling
 mod Chains
-mod Claiming
+pub mod Claiming
 mod Closing
-mod Keeping
+pub mod Keeping
 mod Making
 mod PinSteps
 mod Pinned
 pub mod Relinking
 mod Resting
 mod Retiring
-mod Rules
+pub mod Rules
 mod Starting
-mod Steps
+pub mod Steps

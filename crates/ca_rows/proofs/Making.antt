@@ -75,7 +75,7 @@ pins_grow made words pins few p = record {
       scanned = λ now i d at low pinned. ⊎_elim (λ f. let k = (p.each i d f).is_pass pinned in absurd (omega arith)) (λ (t : (i ≡ length pins) × (unpinned (made + 1) ≡ d)). absurd (is_unpinned d t.1 pinned)) (at_place pins (unpinned (made + 1)) d i at);
     }
 
-module _ {U : Type 0} (linked lent : List ℕ → ℕ → Type 0) (noted : List ℕ → U → ℕ → Type 0) (fact : Sizes → List ℕ → List U → Type 0) (begins : ℕ → U) (law : Making linked lent noted fact begins) (z : Sizes) where
+module _ {U : Type 0} (linked lent : List ℕ → ℕ → Type 0) (noted : List ℕ → U → ℕ → Type 0) (fact : Sizes → ℕ → List ℕ → List U → Type 0) (begins : ℕ → U) (law : Making linked lent noted fact begins) (z : Sizes) where
   abbrev made_one : View U → View U
   made_one v = record v { made = v.made + 1 }
 
@@ -89,8 +89,9 @@ module _ {U : Type 0} (linked lent : List ℕ → ℕ → Type 0) (noted : List 
     count_is : v.made ≡ r.made
     count_is = (r.seat 0 v at).made_are refl
 
-    uppers_are : map upper_of grown ≡ map upper_of s.views ++ begins (v.made + 1) ∷ []
-    uppers_are = map-append upper_of (set s.views 0 (made_one v)) (new_pass v ∷ []) ∙ ap (λ xs. xs ++ begins (v.made + 1) ∷ []) (map-set upper_of s.views 0 (made_one v) ∙ set_again (map upper_of s.views) 0 v.upper (at_map upper_of s.views 0 v at))
+    uppers_are : map upper_of grown ≡ map upper_of s.views ++ begins (r.made + 1) ∷ []
+    uppers_are = map-append upper_of (set s.views 0 (made_one v)) (new_pass v ∷ []) ∙ (ap (λ xs. xs ++ begins (v.made + 1) ∷ []) (map-set upper_of s.views 0 (made_one v) ∙ set_again (map upper_of s.views) 0 v.upper (at_map upper_of s.views 0 v at))
+        ∙ ap (λ n. map upper_of s.views ++ begins (n + 1) ∷ []) count_is)
 
     pins_are : map pin_of grown ≡ map pin_of s.views ++ unpinned (r.made + 1) ∷ []
     pins_are = map-append pin_of (set s.views 0 (made_one v)) (new_pass v ∷ []) ∙ (ap (λ xs. xs ++ unpinned (v.made + 1) ∷ []) (map-set pin_of s.views 0 (made_one v) ∙ set_again (map pin_of s.views) 0 v.pin (at_map pin_of s.views 0 v at))
@@ -135,7 +136,7 @@ module _ {U : Type 0} (linked lent : List ℕ → ℕ → Type 0) (noted : List 
           (le_refl _) c record { words_are = λ _ _ _. refl; links = ((λ l. l), (λ l. l)); lents = ((λ l. l), (λ l. l)); notes = λ _ m n. notes_before m c n; claims = λ j. same_claims j c } (r.owner c) (r.row c lo hi);
       seat = knows;
       pins = subst (ArePins (r.made + 1) s.words) (sym pins_are) (pins_grow r.made s.words (map pin_of s.views) (subst (λ n. n < 64) count_is few) r.pins);
-      above = subst (fact z s.words) (sym uppers_are) (law.keeps_making z (map upper_of s.views) s.words (v.made + 1) r.above);
+      above = subst (fact z (r.made + 1) s.words) (sym uppers_are) (law.keeps_making z r.made (map upper_of s.views) s.words r.above);
     }
 
   pub splits : (v : View U) → v.made < 64 → Splits (Ruled linked lent noted fact z) 0 v (made_one v) (new_pass v)

@@ -15,7 +15,7 @@ use Rattle.ca_rows.specs.Told.{Mine, Asked, Announced, Left}
 use Rattle.ca_rows.specs.Words.{epoch, announced}
 use Rattle.ca_rows.proofs.Pinned.{NewPin, pins_step, repinned}
 
-module _ {U : Type 0} (linked lent : List ℕ → ℕ → Type 0) (noted : List ℕ → U → ℕ → Type 0) (fact : Sizes → List ℕ → List U → Type 0) (frames : Frames linked lent noted fact) (z : Sizes) where
+module _ {U : Type 0} (linked lent : List ℕ → ℕ → Type 0) (noted : List ℕ → U → ℕ → Type 0) (fact : Sizes → ℕ → List ℕ → List U → Type 0) (frames : Frames linked lent noted fact) (z : Sizes) where
   abbrev R : State (Unit {0}) (View U) → Type 0
   R = Ruled linked lent noted fact z
 
@@ -79,7 +79,7 @@ module _ {U : Type 0} (linked lent : List ℕ → ℕ → Type 0) (noted : List 
             later = le_refl (epoch s.words);
             notes = λ q n. (n, refl, (r.seat id d at).noted_pinned q n);
             pins = pins_step r.made s.words s.words (map pin_of s.views) r.pins id d.pin (record d.pin { told = epoch s.words }) pin_at asks_pin;
-            above = subst (fact z s.words) (sym (set_again (map upper_of s.views) id d.upper upper_at)) r.above;
+            above = subst (fact z r.made s.words) (sym (set_again (map upper_of s.views) id d.upper upper_at)) r.above;
           })
 
     -- A store of the seat's own announcement.
@@ -103,7 +103,7 @@ module _ {U : Type 0} (linked lent : List ℕ → ℕ → Type 0) (noted : List 
       same_epoch = else_word 1 (λ e. omega arith)
 
       -- The seat's pin and upper part become these.
-      stores : (e' : Pin) (u' : U) → NewPin r.made s.words new_words (map pin_of s.views) r.pins id d.pin e' pin_at → ((q : ℕ) → ¬ noted new_words u' q) → fact z new_words (set (map upper_of s.views) id u')
+      stores : (e' : Pin) (u' : U) → NewPin r.made s.words new_words (map pin_of s.views) r.pins id d.pin e' pin_at → ((q : ℕ) → ¬ noted new_words u' q) → fact z r.made new_words (set (map upper_of s.views) id u')
           → R record { words = new_words; homes = s.homes; views = set s.views id (record d { pin = e'; upper = u' }) }
       stores e' u' pin unnoted above = repinned linked lent noted fact frames z s r id d (record d { pin = e'; upper = u' }) at new_words agrees record {
         same_rows = refl;
@@ -118,8 +118,8 @@ module _ {U : Type 0} (linked lent : List ℕ → ℕ → Type 0) (noted : List 
         above = above;
       }
 
-      framed_now : Framed linked lent noted fact z (map upper_of s.views) s.words new_words
-      framed_now = frames z (map upper_of s.views) s.words new_words r.above agrees
+      framed_now : Framed linked lent noted fact z r.made (map upper_of s.views) s.words new_words
+      framed_now = frames z r.made (map upper_of s.views) s.words new_words r.above agrees
 
     module _ (enters leaves : U → U) (law : Pinning linked lent noted fact enters leaves) (lo : 0 < d.pin.number) where
       announce_step : d.pin.pinned ≡ false → R record {
@@ -143,7 +143,7 @@ module _ {U : Type 0} (linked lent : List ℕ → ℕ → Type 0) (noted : List 
                 (λ (t : (i ≢ id) × (get_elem? (map pin_of s.views) i ≡ some y)). own.scanned now i y t.1 low p) (at_set (map pin_of s.views) id i e' y there);
           }
           (λ q n. let before = (framed_now lo (d.pin.told + 1)).notes id d.upper upper_at q (law.entering_notes (new_words lo (d.pin.told + 1)) d.upper q n) in not_pinned un ((r.seat id d at).noted_pinned q before))
-          (law.keeps_entering z (map upper_of s.views) (new_words lo (d.pin.told + 1)) id d.upper (framed_now lo (d.pin.told + 1)).stays upper_at)
+          (law.keeps_entering z r.made (map upper_of s.views) (new_words lo (d.pin.told + 1)) id d.upper (framed_now lo (d.pin.told + 1)).stays upper_at)
 
       leave_step : R record { words = set s.words (d.pin.number + 1) 0; homes = s.homes; views = set s.views id (record d { pin = record d.pin { pinned = false }; upper = leaves d.upper }) }
       leave_step = let e' : Pin = record d.pin { pinned = false } in stores lo 0 e' (leaves d.upper)
@@ -161,7 +161,7 @@ module _ {U : Type 0} (linked lent : List ℕ → ℕ → Type 0) (noted : List 
             scanned = λ now i y there low p. own.scanned now i y (others_pinned e' refl i y there p) low p;
           }
           (λ q n. law.leaving_notes (new_words lo 0) d.upper q n)
-          (law.keeps_leaving z (map upper_of s.views) (new_words lo 0) id d.upper (framed_now lo 0).stays upper_at)
+          (law.keeps_leaving z r.made (map upper_of s.views) (new_words lo 0) id d.upper (framed_now lo 0).stays upper_at)
 
   pub asks : (slots id : ℕ) (me : Mine U) → me.0.pin.pinned ≡ false → Allows R slots id me 1 (λ x. x) (Asked (step slots 1 0 0 none) me)
   asks slots id me un s r _ at _ = (

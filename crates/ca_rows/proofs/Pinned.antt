@@ -88,10 +88,10 @@ module _ (made : ℕ) (words words' : List ℕ) (pins : List Pin) (p : ArePins m
           not_mine : 0 < x.number → x.number ≢ e.number
           not_mine lo f = ne (sym ((p.each j x here).alone lo id e at (sym f)))
 
-module _ {U : Type 0} (linked lent : List ℕ → ℕ → Type 0) (noted : List ℕ → U → ℕ → Type 0) (fact : Sizes → List ℕ → List U → Type 0) (frames : Frames linked lent noted fact) (z : Sizes)
+module _ {U : Type 0} (linked lent : List ℕ → ℕ → Type 0) (noted : List ℕ → U → ℕ → Type 0) (fact : Sizes → ℕ → List ℕ → List U → Type 0) (frames : Frames linked lent noted fact) (z : Sizes)
     (s : State (Unit {0}) (View U)) (r : Ruled linked lent noted fact z s) (id : ℕ) (d d' : View U) (at : get_elem? s.views id ≡ some d) (words' : List ℕ) (agrees : Agrees linked lent noted fact (map upper_of s.views) s.words words') where
-  framed : Framed linked lent noted fact z (map upper_of s.views) s.words words'
-  framed = frames z (map upper_of s.views) s.words words' r.above agrees
+  framed : Framed linked lent noted fact z r.made (map upper_of s.views) s.words words'
+  framed = frames z r.made (map upper_of s.views) s.words words' r.above agrees
 
   -- what a step says that changes the pin, and perhaps the upper part, but no row
   pub record Repins : Type 0 where
@@ -105,7 +105,7 @@ module _ {U : Type 0} (linked lent : List ℕ → ℕ → Type 0) (noted : List 
     -- A note that the seat has now it had before, with the same pin.
     pub notes : (q : ℕ) → noted words' d'.upper q → noted s.words d.upper q × (d'.pin.moment ≡ d.pin.moment) × (d'.pin.pinned ≡ true)
     pub pins : ArePins r.made words' (set (map pin_of s.views) id d'.pin)
-    pub above : fact z words' (set (map upper_of s.views) id d'.upper)
+    pub above : fact z r.made words' (set (map upper_of s.views) id d'.upper)
 
   pub repinned : Repins → Ruled linked lent noted fact z record { words = words'; homes = s.homes; views = set s.views id d' }
   repinned n = record {
@@ -131,7 +131,7 @@ module _ {U : Type 0} (linked lent : List ℕ → ℕ → Type 0) (noted : List 
       noted_pinned = λ c m. k.noted_pinned c (framed.notes j x.upper (at_map upper_of s.views j x e) c m);
     });
     pins = subst (ArePins r.made words') (sym (map-set pin_of s.views id d')) n.pins;
-    above = subst (fact z words') (sym (map-set upper_of s.views id d')) n.above;
+    above = subst (fact z r.made words') (sym (map-set upper_of s.views id d')) n.above;
   }
     where
       next : (c : ℕ) → 0 < c → next_of words' c ≡ next_of s.words c

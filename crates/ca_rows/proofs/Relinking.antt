@@ -38,7 +38,7 @@ pub data Change : Type 0 where
   -- It is unlinked.
   Goes : Change
 
-module _ {U : Type 0} (linked lent : List ℕ → ℕ → Type 0) (noted : List ℕ → U → ℕ → Type 0) (fact : Sizes → List ℕ → List U → Type 0) (lends : LendsLaw linked lent noted fact) (z : Sizes)
+module _ {U : Type 0} (linked lent : List ℕ → ℕ → Type 0) (noted : List ℕ → U → ℕ → Type 0) (fact : Sizes → ℕ → List ℕ → List U → Type 0) (lends : LendsLaw linked lent noted fact) (z : Sizes)
     (s : State (Unit {0}) (View U)) (r : Ruled linked lent noted fact z s) (id : ℕ) (d d' : View U) (words' : List ℕ) (kind : ℕ → Change) where
   abbrev pub after : State (Unit {0}) (View U)
   after = record { words = words'; homes = s.homes; views = set s.views id d' }
@@ -81,7 +81,7 @@ module _ {U : Type 0} (linked lent : List ℕ → ℕ → Type 0) (noted : List 
     pub in_range : (c : ℕ) (x : Claim) → claim_of d'.claims c ≡ some x → (0 < c) × (c ≤ z.rows)
     -- A new note is a pinned pass's, and on a row that is linked now.
     pub notes : (j : ℕ) (x : View U) → get_elem? (set s.views id d') j ≡ some x → (c : ℕ) → noted words' x.upper c → WasNoted j c ⊎ (linked words' c × (x.pin.pinned ≡ true))
-    pub above : fact z words' (map upper_of (set s.views id d'))
+    pub above : fact z r.made words' (map upper_of (set s.views id d'))
 
   module _ (m : Relinks) where
     abbrev L : ℕ → Type 0
@@ -109,10 +109,10 @@ module _ {U : Type 0} (linked lent : List ℕ → ℕ → Type 0) (noted : List 
     head = m.low 0 (omega arith)
 
     lent_linked : (c : ℕ) → lent s.words c → L c
-    lent_linked c b = lends z (map upper_of s.views) s.words r.above c b
+    lent_linked c b = lends z r.made (map upper_of s.views) s.words r.above c b
 
     lent_linked' : (c : ℕ) → lent words' c → L' c
-    lent_linked' c b = lends z (map upper_of (set s.views id d')) words' m.above c b
+    lent_linked' c b = lends z r.made (map upper_of (set s.views id d')) words' m.above c b
 
     was : (c : ℕ) (o : Owner) → 0 < c → c ≤ z.rows → r.owner c ≡ o → Was c o
     was c o lo hi is = subst (Was c) is (r.row c lo hi)

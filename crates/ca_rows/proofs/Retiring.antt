@@ -20,7 +20,7 @@ use Rattle.ca_rows.proofs.Claiming.{claim_mine, claim_others, claimed_here, clai
 use Rattle.ca_rows.proofs.Rules.{St, Rule, uppers, Is, notes_back, keeps_rule}
 use Rattle.ca_rows.proofs.Steps.{owned}
 
-module _ {U : Type 0} (linked lent : List ℕ → ℕ → Type 0) (noted : List ℕ → U → ℕ → Type 0) (fact : Sizes → List ℕ → List U → Type 0) (frames : Frames linked lent noted fact) (z : Sizes) where
+module _ {U : Type 0} (linked lent : List ℕ → ℕ → Type 0) (noted : List ℕ → U → ℕ → Type 0) (fact : Sizes → ℕ → List ℕ → List U → Type 0) (frames : Frames linked lent noted fact) (z : Sizes) where
   abbrev S : Type 0
   S = St linked lent noted fact frames z
 
@@ -37,7 +37,7 @@ module _ {U : Type 0} (linked lent : List ℕ → ℕ → Type 0) (noted : List 
     -- A row that may be retired was unlinked, or nobody knows it.
     is_out : (c : Claim) → IsClaim s.words (linked s.words) (lent s.words) (NotedAt noted s.words s.views) q c → IsReleased lent fact z id d q c → (age : ℕ) × Out age
     is_out (Holds its) k free = (0, (k.2.0, omega arith, λ m n. absurd (k.2.1 m n)))
-    is_out Lends k free = ⊎_elim (λ b. absurd (free s.words (uppers linked lent noted fact frames z s) r.above (at_map upper_of s.views id d at) b)) (λ (o : (age : ℕ) × Out age). o) k
+    is_out Lends k free = ⊎_elim (λ b. absurd (free r.made s.words (uppers linked lent noted fact frames z s) r.above (at_map upper_of s.views id d at) b)) (λ (o : (age : ℕ) × Out age). o) k
     is_out Unlinked k free = k
     is_out (Keeps t) k free = absurd free
     is_out (Returns t its) k free = absurd free

@@ -50,7 +50,7 @@ pins_stay made words words' pins same p = record {
     now : epoch words' ≡ epoch words
     now = same 1 (omega arith) (omega arith)
 
-module _ {U : Type 0} (linked lent : List ℕ → ℕ → Type 0) (noted : List ℕ → U → ℕ → Type 0) (fact : Sizes → List ℕ → List U → Type 0) (frames : Frames linked lent noted fact) (z : Sizes) where
+module _ {U : Type 0} (linked lent : List ℕ → ℕ → Type 0) (noted : List ℕ → U → ℕ → Type 0) (fact : Sizes → ℕ → List ℕ → List U → Type 0) (frames : Frames linked lent noted fact) (z : Sizes) where
   abbrev pub St : Type 0
   St = State (Unit {0}) (View U)
 
@@ -65,8 +65,8 @@ module _ {U : Type 0} (linked lent : List ℕ → ℕ → Type 0) (noted : List 
     abbrev pub after : St
     after = record { words = words'; homes = s.homes; views = set s.views id d' }
 
-    framed : Framed linked lent noted fact z (uppers s) s.words words'
-    framed = frames z (uppers s) s.words words' r.above agrees
+    framed : Framed linked lent noted fact z r.made (uppers s) s.words words'
+    framed = frames z r.made (uppers s) s.words words' r.above agrees
 
     same_uppers : map upper_of (set s.views id d') ≡ uppers s
     same_uppers = map-set upper_of s.views id d' ∙ (ap (set (uppers s) id) same_upper ∙ set_again (uppers s) id d.upper (at_map upper_of s.views id d at))
@@ -138,7 +138,7 @@ module _ {U : Type 0} (linked lent : List ℕ → ℕ → Type 0) (noted : List 
           noted_pinned = λ c m. k.noted_pinned c (note_back j x e c m);
         });
         pins = subst (ArePins r.made words') (sym same_pins) (pins_stay r.made s.words words' (map pin_of s.views) low r.pins);
-        above = subst (fact z words') (sym same_uppers) framed.stays;
+        above = subst (fact z r.made words') (sym same_uppers) framed.stays;
       }
         where
           now : epoch words' ≡ epoch s.words

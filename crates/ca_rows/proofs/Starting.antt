@@ -68,7 +68,7 @@ first_pins words small absent = record {
   unused = λ i lo hi. absent (i + 1) (omega arith) (omega arith);
 }
 
-module _ {U : Type 0} (linked lent : List ℕ → ℕ → Type 0) (noted : List ℕ → U → ℕ → Type 0) (fact : Sizes → List ℕ → List U → Type 0) (opens : Sizes → ℕ → ℕ) (first : U)
+module _ {U : Type 0} (linked lent : List ℕ → ℕ → Type 0) (noted : List ℕ → U → ℕ → Type 0) (fact : Sizes → ℕ → List ℕ → List U → Type 0) (opens : Sizes → ℕ → ℕ) (first : U)
     (law : Opening linked lent noted fact opens first) (z : Sizes) (words : List ℕ) (bounds : AreInBounds z) (is : IsOpening opens z words) where
   abbrev own : View U
   own = fresh z.rows 0 first

@@ -45,7 +45,7 @@ at_map_back f [] i b e = absurd (some-ne-none b (sym e))
 at_map_back f (x ∷ xs) zero b e = (x, refl, some-injective (f x) b e)
 at_map_back f (x ∷ xs) (suc i) b e = at_map_back f xs i b e
 
-module _ {U : Type 0} (linked lent : List ℕ → ℕ → Type 0) (noted : List ℕ → U → ℕ → Type 0) (fact : Sizes → List ℕ → List U → Type 0) (frames : Frames linked lent noted fact) (z : Sizes) where
+module _ {U : Type 0} (linked lent : List ℕ → ℕ → Type 0) (noted : List ℕ → U → ℕ → Type 0) (fact : Sizes → ℕ → List ℕ → List U → Type 0) (frames : Frames linked lent noted fact) (z : Sizes) where
   abbrev S : Type 0
   S = St linked lent noted fact frames z
 

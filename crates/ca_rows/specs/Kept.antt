@@ -28,10 +28,10 @@ pub record AreKept (rows : ℕ) (claims : List Claimed) (kept : Vec Kept Global)
   pub are_listed : (r t : ℕ) → claim_of claims r ≡ some (Keeps t) → kept_of kept.items r ≡ some t
   pub are_claimed : (r t : ℕ) → kept_of kept.items r ≡ some t → (0 < r) × (r ≤ rows) × (claim_of claims r ≡ some (Keeps t))
 
-module _ {U : Type 0} (lent : List ℕ → ℕ → Type 0) (fact : Sizes → List ℕ → List U → Type 0) (z : Sizes) (id : ℕ) (d : View U) (row : ℕ) where
+module _ {U : Type 0} (lent : List ℕ → ℕ → Type 0) (fact : Sizes → ℕ → List ℕ → List U → Type 0) (z : Sizes) (id : ℕ) (d : View U) (row : ℕ) where
   -- No operation names the row, as far as the seat knows.
   abbrev pub IsOver : Type 0
-  IsOver = (words : List ℕ) (uppers : List U) → fact z words uppers → get_elem? uppers id ≡ some d.upper → ¬ lent words row
+  IsOver = (made : ℕ) (words : List ℕ) (uppers : List U) → fact z made words uppers → get_elem? uppers id ≡ some d.upper → ¬ lent words row
 
   abbrev pub IsReleased : Claim → Type 0
   IsReleased (Holds its) = Unit {0}

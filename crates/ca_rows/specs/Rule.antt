@@ -43,7 +43,7 @@ module _ {U : Type 0} (noted : List ℕ → U → ℕ → Type 0) (rows made : �
     -- Only a pinned pass has notes.
     pub noted_pinned : (r : ℕ) → noted words d.upper r → d.pin.pinned ≡ true
 
-module _ {U : Type 0} (linked lent : List ℕ → ℕ → Type 0) (noted : List ℕ → U → ℕ → Type 0) (fact : Sizes → List ℕ → List U → Type 0) where
+module _ {U : Type 0} (linked lent : List ℕ → ℕ → Type 0) (noted : List ℕ → U → ℕ → Type 0) (fact : Sizes → ℕ → List ℕ → List U → Type 0) where
   pub record Ruled (z : Sizes) (s : State (Unit {0}) (View U)) : Type 0 where
     pub owner : ℕ → Owner
     -- how many rows are free, and how many passes were made
@@ -56,4 +56,4 @@ module _ {U : Type 0} (linked lent : List ℕ → ℕ → Type 0) (noted : List 
     pub seat : (j : ℕ) (d : View U) → get_elem? s.views j ≡ some d → Knows noted z.rows made owner s.words j d
     pub pins : ArePins made s.words (map pin_of s.views)
     -- the upper fact
-    pub above : fact z s.words (map upper_of s.views)
+    pub above : fact z made s.words (map upper_of s.views)

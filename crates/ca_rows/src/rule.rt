@@ -29,8 +29,8 @@ pub trait RowRule {
     /// Which rows a pass has a note on. The words tell it too: what others do may give a pass a note.
     ghost noted: { List ℕ → Self.Upper → ℕ → Type 0 };
 
-    /// What holds of the words and of all that is known: the upper fact.
-    ghost fact: { TheSizes → List ℕ → List Self.Upper → Type 0 };
+    /// What holds of the sizes, the number of passes that were made, the words, and all that is known: the upper fact.
+    ghost fact: { TheSizes → ℕ → List ℕ → List Self.Upper → Type 0 };
 
     /// What a pass knows as it is made, by its number, after it pinned, and after it unpinned.
     ghost begins: { ℕ → Self.Upper };
