@@ -4,7 +4,7 @@ mod Chains
 pub mod Claiming
 mod Closing
 pub mod Keeping
-mod Making
+pub mod Making
 mod PinSteps
 mod Pinned
 pub mod Relinking

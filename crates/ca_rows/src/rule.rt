@@ -2,6 +2,7 @@
 ghost use Rattle.std.specs.Prelude.{◌≡◌, ℕ, ◌<◌, ◌≤◌, List};
 ghost use Rattle.ca_rows.specs.declared.sizes.Sizes.{Sizes as TheSizes};
 ghost use Rattle.ca_rows.specs.Laws.{Frames, Lends, Pinning, Making, Closing, Opening};
+ghost use Rattle.ca_rows.specs.Opening.{AreInBounds};
 ghost use Rattle.ca_rows.specs.Rule.{Ruled, fresh};
 
 use crate::sizes::Sizes;
@@ -46,7 +47,8 @@ pub trait RowRule {
 
     /// A word at the start.
     fn open(sizes: &Sizes, word: u32) -> u64
-        requires { (66 ≤ word) × (word < 272) }
+        requires bounds { AreInBounds sizes.now }
+        requires word { (66 ≤ word) × (word < 272) }
         ensures { result ≡ opens sizes.now word };
 
     ghost frames: { Frames linked lent noted fact };
