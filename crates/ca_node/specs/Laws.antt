@@ -334,4 +334,4 @@ module _ (z : Sizes) (words : List ℕ) (bounds : AreInBounds z) (wide : IsWide 
   }
 
 pub tree_opening : Opening IsLinked IsLent IsNoted IsTree opens_at (blank 0)
-tree_opening z words bounds wide above = opened z words bounds wide above
+tree_opening z words bounds usable wide above = opened z words bounds wide above

@@ -38,5 +38,5 @@ row_put {U} a b c d one q q' n old its long looked wrote same gave lost = let no
 
 -- Where only the pool's part of a view changed, its size, its pin and its upper part are as they were.
 pub still : {U : Type 0} (m m' : Mine U) (st : Stage) (xs : List Claimed) (lost : ℕ) → m' ≡ (record m.0 { stage = st; claims = xs; lost = lost }, m.1)
-    → (m'.0.rows ≡ m.0.rows) × (m'.0.pin ≡ m.0.pin) × (m'.0.upper ≡ m.0.upper)
-still {U} m m' st xs lost e = (ap (λ (x : Mine U). x.0.rows) e, ap (λ (x : Mine U). x.0.pin) e, ap (λ (x : Mine U). x.0.upper) e)
+    → (m'.0.sizes ≡ m.0.sizes) × (m'.0.pin ≡ m.0.pin) × (m'.0.upper ≡ m.0.upper)
+still {U} m m' st xs lost e = (ap (λ (x : Mine U). x.0.sizes) e, ap (λ (x : Mine U). x.0.pin) e, ap (λ (x : Mine U). x.0.upper) e)

@@ -21,7 +21,7 @@ use Rattle.ca_rows.specs.Claims.{claim_of, claim_at}
 use Rattle.ca_rows.specs.Closed.{joined as join_views, joined_from}
 use Rattle.ca_rows.specs.Laws.{Closing}
 use Rattle.ca_rows.specs.Pins.{IsPin, ArePins, unpinned}
-use Rattle.ca_rows.specs.Rule.{fresh, upper_of, pin_of, NotedAt, Knows, Ruled}
+use Rattle.ca_rows.specs.Rule.{fresh, no_sizes, upper_of, pin_of, NotedAt, Knows, Ruled}
 use Rattle.ca_rows.specs.Words.{head_tag}
 use Rattle.ca_rows.proofs.Accounts.{claim_fewer}
 use Rattle.ca_rows.proofs.Chains.{chain_stays, stage_stays}
@@ -95,7 +95,7 @@ module _ {U : Type 0} (linked lent : List ℕ → ℕ → Type 0) (noted : List 
   joined v w = record v { claims = v.claims ++ w.claims; upper = both v.upper w.upper }
 
   abbrev pub left_over : View U
-  left_over = fresh 0 0 spent
+  left_over = fresh no_sizes 0 spent
 
   module _ (s : State (Unit {0}) (View U)) (r : Ruled linked lent noted fact z s) (v w : View U) (seat : ℕ) (at : get_elem? s.views 0 ≡ some v) (apart : ¬ (seat ≡ 0)) (at_seat : get_elem? (set s.views 0 (joined v w)) seat ≡ some w)
       (out : v.pin.pinned ≡ false) (out' : w.pin.pinned ≡ false) where
@@ -183,22 +183,22 @@ module _ {U : Type 0} (linked lent : List ℕ → ℕ → Type 0) (noted : List 
       wide = r.wide;
       chain = chain_stays z.rows r.owner s.words s.words r.count r.chain (λ c. passed seat (r.owner c)) refl (λ c k _ _ e. (ap (passed seat) e, refl)) (λ c k _ _ e. passed_free seat k (r.owner c) e);
       row = λ c lo hi. row_passed c (r.owner c) (r.row c lo hi);
-      seat = λ j d e. let mine = r.seat 0 v at in each (Knows noted z.rows r.made (λ c. passed seat (r.owner c)) s.words j d) j d e
-          (λ is same. subst (λ (x : View U). Knows noted z.rows r.made (λ c. passed seat (r.owner c)) s.words j x) same record {
-            rows_are = mine.rows_are;
+      seat = λ j d e. let mine = r.seat 0 v at in each (Knows noted z r.made (λ c. passed seat (r.owner c)) s.words j d) j d e
+          (λ is same. subst (λ (x : View U). Knows noted z r.made (λ c. passed seat (r.owner c)) s.words j x) same record {
+            sizes_are = mine.sizes_are;
             made_are = λ _. mine.made_are refl;
             stage_is = stages v.stage mine.stage_is;
             in_range = λ c x f. by_claims c x f (claim_of v.claims c) refl;
             noted_pinned = λ c n. absurd (joined_unnoted c n);
           })
-          (λ is same. subst (λ (x : View U). Knows noted z.rows r.made (λ c. passed seat (r.owner c)) s.words j x) same record {
-            rows_are = inl refl;
+          (λ is same. subst (λ (x : View U). Knows noted z r.made (λ c. passed seat (r.owner c)) s.words j x) same record {
+            sizes_are = inl refl;
             made_are = λ f. absurd (apart (sym is ∙ f));
             stage_is = tt;
             in_range = λ c x f. absurd (some-ne-none x (sym f));
             noted_pinned = λ c n. absurd (law.spent_notes s.words c n);
           })
-          (λ n m there. let k = r.seat j d there in record { rows_are = k.rows_are; made_are = k.made_are; stage_is = stages d.stage k.stage_is; in_range = k.in_range; noted_pinned = k.noted_pinned });
+          (λ n m there. let k = r.seat j d there in record { sizes_are = k.sizes_are; made_are = k.made_are; stage_is = stages d.stage k.stage_is; in_range = k.in_range; noted_pinned = k.noted_pinned });
       pins = subst (ArePins r.made s.words) (sym (map-set pin_of (set s.views 0 (joined v w)) seat left_over ∙ ap (λ xs. set xs seat (unpinned 0)) (map-set pin_of s.views 0 (joined v w) ∙ set_again (map pin_of s.views) 0 v.pin (at_map pin_of s.views 0 v at))))
           (pins_fewer r.made s.words (map pin_of s.views) seat r.pins);
       above = subst (fact z r.made s.words) (sym (map-set upper_of (set s.views 0 (joined v w)) seat left_over ∙ ap (λ xs. set xs seat spent) (map-set upper_of s.views 0 (joined v w))))

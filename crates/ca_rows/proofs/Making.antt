@@ -80,7 +80,7 @@ module _ {U : Type 0} (linked lent : List ℕ → ℕ → Type 0) (noted : List 
   made_one v = record v { made = v.made + 1 }
 
   abbrev new_pass : View U → View U
-  new_pass v = fresh v.rows (v.made + 1) (begins (v.made + 1))
+  new_pass v = fresh v.sizes (v.made + 1) (begins (v.made + 1))
 
   module _ (s : State (Unit {0}) (View U)) (r : Ruled linked lent noted fact z s) (v : View U) (at : get_elem? s.views 0 ≡ some v) (few : v.made < 64) where
     abbrev grown : List (View U)
@@ -110,13 +110,13 @@ module _ {U : Type 0} (linked lent : List ℕ → ℕ → Type 0) (noted : List 
         (λ (t : (n.seat ≡ length (set s.views 0 (made_one v))) × (new_pass v ≡ n.d)). absurd (law.making_notes s.words (v.made + 1) c (subst (λ (d : View U). noted s.words d.upper c) (sym t.1) n.note)))
         (at_place (set s.views 0 (made_one v)) (new_pass v) n.d n.seat n.here)
 
-    knows : (j : ℕ) (d : View U) → get_elem? grown j ≡ some d → Knows noted z.rows (r.made + 1) r.owner s.words j d
+    knows : (j : ℕ) (d : View U) → get_elem? grown j ≡ some d → Knows noted z (r.made + 1) r.owner s.words j d
     knows j d here = let mine = r.seat 0 v at in ⊎_elim
-        (all_seats (Knows noted z.rows (r.made + 1) r.owner s.words) s.views 0 (made_one v)
-        record { rows_are = mine.rows_are; made_are = λ e. ap (λ n. n + 1) (mine.made_are e); stage_is = mine.stage_is; in_range = mine.in_range; noted_pinned = mine.noted_pinned }
-        (λ i x n e. let k = r.seat i x e in record { rows_are = k.rows_are; made_are = λ f. absurd (n f); stage_is = k.stage_is; in_range = k.in_range; noted_pinned = k.noted_pinned }) j d)
-        (λ (t : (j ≡ length (set s.views 0 (made_one v))) × (new_pass v ≡ d)). subst (Knows noted z.rows (r.made + 1) r.owner s.words j) t.1 record {
-          rows_are = mine.rows_are;
+        (all_seats (Knows noted z (r.made + 1) r.owner s.words) s.views 0 (made_one v)
+        record { sizes_are = mine.sizes_are; made_are = λ e. ap (λ n. n + 1) (mine.made_are e); stage_is = mine.stage_is; in_range = mine.in_range; noted_pinned = mine.noted_pinned }
+        (λ i x n e. let k = r.seat i x e in record { sizes_are = k.sizes_are; made_are = λ f. absurd (n f); stage_is = k.stage_is; in_range = k.in_range; noted_pinned = k.noted_pinned }) j d)
+        (λ (t : (j ≡ length (set s.views 0 (made_one v))) × (new_pass v ≡ d)). subst (Knows noted z (r.made + 1) r.owner s.words j) t.1 record {
+          sizes_are = mine.sizes_are;
           made_are = λ e. let long = some_long s.views 0 v at in let same = length-set s.views 0 (made_one v) in let is = t.0 in absurd (omega arith);
           stage_is = tt;
           in_range = λ c x e. absurd (some-ne-none x (sym e));

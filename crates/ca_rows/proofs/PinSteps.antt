@@ -70,7 +70,7 @@ module _ {U : Type 0} (linked lent : List ℕ → ℕ → Type 0) (noted : List 
       ask_step = let w : View U = record d { pin = record d.pin { told = epoch s.words } } in
           subst (λ (ws : List ℕ). R record { words = ws; homes = s.homes; views = set s.views id w }) (sym (set-get_or s.words 1 0))
           (repinned linked lent noted fact frames z s r id d w at s.words (nothing (map upper_of s.views) s.words) record {
-            same_rows = refl;
+            same_sizes = refl;
             same_made = refl;
             same_stage = refl;
             same_claims = refl;
@@ -106,7 +106,7 @@ module _ {U : Type 0} (linked lent : List ℕ → ℕ → Type 0) (noted : List 
       stores : (e' : Pin) (u' : U) → NewPin r.made s.words new_words (map pin_of s.views) r.pins id d.pin e' pin_at → ((q : ℕ) → ¬ noted new_words u' q) → fact z r.made new_words (set (map upper_of s.views) id u')
           → R record { words = new_words; homes = s.homes; views = set s.views id (record d { pin = e'; upper = u' }) }
       stores e' u' pin unnoted above = repinned linked lent noted fact frames z s r id d (record d { pin = e'; upper = u' }) at new_words agrees record {
-        same_rows = refl;
+        same_sizes = refl;
         same_made = refl;
         same_stage = refl;
         same_claims = refl;

@@ -95,7 +95,7 @@ module _ {U : Type 0} (linked lent : List ℕ → ℕ → Type 0) (noted : List 
 
   -- what a step says that changes the pin, and perhaps the upper part, but no row
   pub record Repins : Type 0 where
-    pub same_rows : d'.rows ≡ d.rows
+    pub same_sizes : d'.sizes ≡ d.sizes
     pub same_made : d'.made ≡ d.made
     pub same_stage : d'.stage ≡ d.stage
     pub same_claims : d'.claims ≡ d.claims
@@ -117,14 +117,14 @@ module _ {U : Type 0} (linked lent : List ℕ → ℕ → Type 0) (noted : List 
     chain = chain_stays z.rows r.owner s.words words' r.count r.chain r.owner (ap (λ x. x % 65536) n.head) (λ c k lo _ e. (e, next c lo)) (λ c k _ _ e. e);
     row = λ c lo hi. row_stays s.words words' (linked s.words) (linked words') (lent s.words) (lent words') (NotedAt noted s.words s.views) (NotedAt noted words' (set s.views id d')) (claim_at s.views) (claim_at (set s.views id d')) n.later c
         record { words_are = λ _ k _. n.rows_are (136 * c + k) (omega arith); links = framed.links c; lents = framed.lents c; notes = λ _ m x. notes_back m c x; claims = λ j. claims_are j c } (r.owner c) (r.row c lo hi);
-    seat = let mine = r.seat id d at in all_seats (Knows noted z.rows r.made r.owner words') s.views id d' record {
-      rows_are = subst (λ x. (x ≡ 0) ⊎ (x ≡ z.rows)) (sym n.same_rows) mine.rows_are;
+    seat = let mine = r.seat id d at in all_seats (Knows noted z r.made r.owner words') s.views id d' record {
+      sizes_are = subst (λ (x : Sizes). (x.rows ≡ 0) ⊎ (x ≡ z)) (sym n.same_sizes) mine.sizes_are;
       made_are = λ e. n.same_made ∙ mine.made_are e;
       stage_is = subst (IsStage z.rows r.owner words') (sym n.same_stage) (stages d.stage mine.stage_is);
       in_range = λ c x e. mine.in_range c x (ap (λ xs. claim_of xs c) (sym n.same_claims) ∙ e);
       noted_pinned = λ c x. (n.notes c x).2;
     } (λ j x ne e. let k = r.seat j x e in record {
-      rows_are = k.rows_are;
+      sizes_are = k.sizes_are;
       made_are = k.made_are;
       stage_is = stages x.stage k.stage_is;
       in_range = k.in_range;

@@ -69,7 +69,7 @@ module _ {U : Type 0} (linked lent : List ℕ → ℕ → Type 0) (noted : List 
 
   pub record Relinks : Type 0 where
     pub at : get_elem? s.views id ≡ some d
-    pub same_rows : d'.rows ≡ d.rows
+    pub same_sizes : d'.sizes ≡ d.sizes
     pub same_made : d'.made ≡ d.made
     pub same_stage : d'.stage ≡ d.stage
     pub same_pin : d'.pin ≡ d.pin
@@ -237,15 +237,15 @@ module _ {U : Type 0} (linked lent : List ℕ → ℕ → Type 0) (noted : List 
       wide = m.wide ∙ r.wide;
       chain = chain_stays z.rows r.owner s.words words' r.count r.chain owner' (ap (λ x. x % 65536) head) (λ c j lo hi e. (free_stays c j lo hi e (kind c) (m.changes c lo hi), next c j lo hi e)) (λ c j _ _ e. free_was c j (kind c) e);
       row = λ c lo hi. row_now c lo hi (kind c) (m.changes c lo hi);
-      seat = λ j x here. all_seats (λ i y. (get_elem? (set s.views id d') i ≡ some y) → Knows noted z.rows r.made owner' words' i y) s.views id d'
+      seat = λ j x here. all_seats (λ i y. (get_elem? (set s.views id d') i ≡ some y) → Knows noted z r.made owner' words' i y) s.views id d'
           (λ here'. record {
-            rows_are = subst (λ y. (y ≡ 0) ⊎ (y ≡ z.rows)) (sym m.same_rows) own.rows_are;
+            sizes_are = subst (λ (y : Sizes). (y.rows ≡ 0) ⊎ (y ≡ z)) (sym m.same_sizes) own.sizes_are;
             made_are = λ e. m.same_made ∙ own.made_are e;
             stage_is = subst (IsStage z.rows owner' words') (sym m.same_stage) (stages d.stage own.stage_is);
             in_range = m.in_range;
             noted_pinned = pinned_now id d' here';
           })
-          (λ i y n e here'. let k = r.seat i y e in record { rows_are = k.rows_are; made_are = k.made_are; stage_is = stages y.stage k.stage_is; in_range = k.in_range; noted_pinned = pinned_now i y here' })
+          (λ i y n e here'. let k = r.seat i y e in record { sizes_are = k.sizes_are; made_are = k.made_are; stage_is = stages y.stage k.stage_is; in_range = k.in_range; noted_pinned = pinned_now i y here' })
           j x here here;
       pins = subst (ArePins r.made words') (sym same_pins) (pins_stay r.made s.words words' (map pin_of s.views) (λ i _ l. m.low i l) r.pins);
       above = m.above;

@@ -69,5 +69,5 @@ module _ {U : Type 0} (linked lent : List ℕ → ℕ → Type 0) (noted : List 
     keeps,
     tt,
     retire_step s r id me.0 at q may.0 may.1 may.2,
-    (o.0, (λ some_rows. ⊎_elim (λ (e : me.0.rows ≡ 0). absurd (omega arith)) (λ (e : me.0.rows ≡ z.rows). subst (λ y. q ≤ y) (sym e) o.1) (r.seat id me.0 at).rows_are), r.pins.small, refl),
+    (o.0, (λ some_rows. ⊎_elim (λ (e : me.0.sizes.rows ≡ 0). absurd (omega arith)) (λ (e : me.0.sizes ≡ z). subst (λ (y : Sizes). q ≤ y.rows) (sym e) o.1) (r.seat id me.0 at).sizes_are), r.pins.small, refl),
   )

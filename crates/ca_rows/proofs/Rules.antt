@@ -100,7 +100,7 @@ module _ {U : Type 0} (linked lent : List ℕ → ℕ → Type 0) (noted : List 
     pub alone_now : (q : ℕ) → IsAlone s.words (linked s.words) (lent s.words) (NotedAt noted s.words s.views) q → IsAlone words' (linked words') (lent words') (NotedAt noted words' after.views) q
     alone_now q a = ((λ l. a.0 ((framed.links q).0 l)), (λ m n. a.1 m (notes_back m q n)))
 
-    module _ (low : (i : ℕ) → 0 < i → i < 66 → get_or words' i 0 ≡ get_or s.words i 0) (same_rows : d'.rows ≡ d.rows) (same_made : d'.made ≡ d.made) (q : ℕ) where
+    module _ (low : (i : ℕ) → 0 < i → i < 66 → get_or words' i 0 ≡ get_or s.words i 0) (same_sizes : d'.sizes ≡ d.sizes) (same_made : d'.made ≡ d.made) (q : ℕ) where
       -- what a step says of each row but q
       pub record Elsewhere (owner' : ℕ → Owner) (c : ℕ) : Type 0 where
         pub owner_is : owner' c ≡ r.owner c
@@ -123,15 +123,15 @@ module _ {U : Type 0} (linked lent : List ℕ → ℕ → Type 0) (noted : List 
         row = λ c lo hi. dite (ℕ_discrete c q)
             (λ (e : c ≡ q). subst (λ (x : ℕ). Is x (owner' x)) (sym e) (here (subst (λ x. 0 < x) e lo) (subst (λ x. x ≤ z.rows) e hi)))
             (λ n. other c lo hi (else c lo hi n));
-        seat = all_seats (Knows noted z.rows r.made owner' words') s.views id d' record {
-          rows_are = subst (λ x. (x ≡ 0) ⊎ (x ≡ z.rows)) (sym same_rows) mine.rows_are;
+        seat = all_seats (Knows noted z r.made owner' words') s.views id d' record {
+          sizes_are = subst (λ (x : Sizes). (x.rows ≡ 0) ⊎ (x ≡ z)) (sym same_sizes) mine.sizes_are;
           made_are = λ e. same_made ∙ mine.made_are e;
           stage_is = stage;
           in_range = λ c x e. dite (ℕ_discrete c q) (λ (f : c ≡ q). subst (λ y. (0 < y) × (y ≤ z.rows)) (sym f) (in_range x (subst (λ y. claim_of d'.claims y ≡ some x) f e)))
               (λ n. mine.in_range c x (sym (claims c n) ∙ e));
           noted_pinned = λ c n. ap (λ (e : Pin). e.pinned) same_pin ∙ mine.noted_pinned c (note_back id d at c (subst (λ (u : U). noted words' u c) same_upper n));
         } (λ j x n e. let k = r.seat j x e in record {
-          rows_are = k.rows_are;
+          sizes_are = k.sizes_are;
           made_are = k.made_are;
           stage_is = stages x.stage k.stage_is;
           in_range = k.in_range;

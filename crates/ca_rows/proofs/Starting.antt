@@ -11,7 +11,7 @@ use Rattle.ca_rows.specs.Account.{IsRow}
 use Rattle.ca_rows.specs.Chain.{Owner, Free, Linked, IsTop, IsChain}
 use Rattle.ca_rows.specs.Claims.{claim_at}
 use Rattle.ca_rows.specs.Laws.{Opened, Opening}
-use Rattle.ca_rows.specs.Opening.{AreInBounds, IsOpening, row_behind}
+use Rattle.ca_rows.specs.Opening.{AreInBounds, AreUsable, IsOpening, row_behind}
 use Rattle.ca_rows.specs.Pins.{ArePins, IsPin, unpinned}
 use Rattle.ca_rows.specs.Rule.{fresh, NotedAt, Knows, Ruled}
 use Rattle.ca_rows.specs.Words.{head_row, next_of}
@@ -69,12 +69,12 @@ first_pins words small absent = record {
 }
 
 module _ {U : Type 0} (linked lent : List ℕ → ℕ → Type 0) (noted : List ℕ → U → ℕ → Type 0) (fact : Sizes → ℕ → List ℕ → List U → Type 0) (opens : Sizes → ℕ → ℕ) (first : U)
-    (law : Opening linked lent noted fact opens first) (z : Sizes) (words : List ℕ) (bounds : AreInBounds z) (is : IsOpening opens z words) where
+    (law : Opening linked lent noted fact opens first) (z : Sizes) (words : List ℕ) (bounds : AreInBounds z) (usable : AreUsable z) (is : IsOpening opens z words) where
   abbrev own : View U
-  own = fresh z.rows 0 first
+  own = fresh z 0 first
 
   opened : Opened linked lent noted fact z first words
-  opened = law z words bounds is.wide is.above
+  opened = law z words bounds usable is.wide is.above
 
   nobodys : (j r : ℕ) → claim_at (own ∷ []) j r ≡ none
   nobodys zero r = refl
@@ -97,8 +97,8 @@ module _ {U : Type 0} (linked lent : List ℕ → ℕ → Type 0) (noted : List 
     wide = is.wide;
     chain = first_chain z.rows words (omega arith) (ap (λ n. n % 65536) is.head ∙ (in_head z.starts.tag 2 (omega arith)).1) is.free;
     row = first_row;
-    seat = λ j d here. let same = (only_seat own d j here).1 in subst (Knows noted z.rows 0 (first_owner z.rows) words j) same record {
-      rows_are = inr refl;
+    seat = λ j d here. let same = (only_seat own d j here).1 in subst (Knows noted z 0 (first_owner z.rows) words j) same record {
+      sizes_are = inr refl;
       made_are = λ _. refl;
       stage_is = tt;
       in_range = λ r c e. absurd (some-ne-none c (sym e));

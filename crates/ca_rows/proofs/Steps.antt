@@ -70,7 +70,7 @@ module _ {U : Type 0} (linked lent : List ℕ → ℕ → Type 0) (noted : List 
     keeps,
     tt,
     loaded s r 0 id me.0 (Saw (x / 65536) (x % 65536)) me.0.lost at (le_refl (x / 65536), λ _ lo. let t = top_free z.rows r.owner r.count (x % 65536) lo r.chain.top in (t.0, lo, t.2, t.3)),
-    (λ known. let top = top_in_range z.rows r.owner r.count (x % 65536) r.chain.top in ⊎_elim (λ (e : me.0.rows ≡ 0). absurd (omega arith)) (λ (e : me.0.rows ≡ z.rows). subst (λ y. x % 65536 ≤ y) (sym e) top) (r.seat id me.0 at).rows_are, refl),
+    (λ known. let top = top_in_range z.rows r.owner r.count (x % 65536) r.chain.top in ⊎_elim (λ (e : me.0.sizes.rows ≡ 0). absurd (omega arith)) (λ (e : me.0.sizes ≡ z). subst (λ (y : Sizes). x % 65536 ≤ y.rows) (sym e) top) (r.seat id me.0 at).sizes_are, refl),
   )
 
   abbrev seen_in : Stage → ℕ × ℕ × ℕ

@@ -3,7 +3,7 @@ use Rattle.std.specs.Prelude.{◌≡◌, ◌⊎◌, ◌≢◌, ℕ, ◌+◌, ◌
 use mathlib.Core.Option.{some}
 use lib.ListN.{get_elem?}
 use Rattle.ca_rows.specs.declared.sizes.Sizes.{Sizes}
-use Rattle.ca_rows.specs.Opening.{AreInBounds}
+use Rattle.ca_rows.specs.Opening.{AreInBounds, AreUsable}
 use Rattle.ca_rows.specs.Words.{IsWide}
 
 module _ {U : Type 0} (linked lent : List ℕ → ℕ → Type 0) (noted : List ℕ → U → ℕ → Type 0) (fact : Sizes → ℕ → List ℕ → List U → Type 0) where
@@ -59,4 +59,4 @@ module _ {U : Type 0} (linked lent : List ℕ → ℕ → Type 0) (noted : List 
     pub notes : (r : ℕ) → ¬ noted words first r
 
   abbrev pub Opening : (Sizes → ℕ → ℕ) → U → Type 0
-  Opening opens first = (z : Sizes) (words : List ℕ) → AreInBounds z → IsWide z.rows words → ((i : ℕ) → 66 ≤ i → i < 272 → slice_index words i ≡ opens z i) → Opened z first words
+  Opening opens first = (z : Sizes) (words : List ℕ) → AreInBounds z → AreUsable z → IsWide z.rows words → ((i : ℕ) → 66 ≤ i → i < 272 → slice_index words i ≡ opens z i) → Opened z first words

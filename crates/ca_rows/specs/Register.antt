@@ -44,7 +44,7 @@ pub closing : Closing is_linked is_lent is_noted names_a_row (λ v w. v) 0
 closing = record { keeps_closing = λ z made uppers words i j v w fact at ne there. fact; closing_notes = λ words v w r n. inl n; spent_notes = λ words r n. n }
 
 pub opening : Opening is_linked is_lent is_noted names_a_row opens_at 0
-opening z words bounds wide above = let is = above 130 (omega arith) (omega arith) in let least = bounds.least_rows in record {
+opening z words bounds usable wide above = let is = above 130 (omega arith) (omega arith) in let least = bounds.least_rows in record {
   stands = (omega arith, omega arith);
   links = λ r. ((λ l. l ∙ is), (λ e. e ∙ sym is));
   lents = λ r b. b;

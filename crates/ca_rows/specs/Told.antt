@@ -26,7 +26,7 @@ module _ {U : Type 0} where
 
   -- The head was loaded.
   abbrev pub Looked : Step (Unit {0}) → Mine U → ℕ → Mine U → Type 0
-  Looked st m n m' = (0 < m.0.rows → n % 65536 ≤ m.0.rows) × (m' ≡ with_stage m (Saw (n / 65536) (n % 65536)))
+  Looked st m n m' = (0 < m.0.sizes.rows → n % 65536 ≤ m.0.sizes.rows) × (m' ≡ with_stage m (Saw (n / 65536) (n % 65536)))
 
   -- The next row was loaded from the row that the head named.
   abbrev pub Peeked : Step (Unit {0}) → Mine U → ℕ → Mine U → Type 0
@@ -65,4 +65,4 @@ module _ {U : Type 0} where
 
   -- The row is kept, since the epoch that was loaded.
   abbrev pub Retired : ℕ → Step (Unit {0}) → Mine U → ℕ → Mine U → Type 0
-  Retired q st m n m' = (0 < q) × (0 < m.0.rows → q ≤ m.0.rows) × (n ≤ 4611686018427387904) × (m' ≡ (record m.0 { claims = claimed q (Keeps n) m.0.claims }, m.1))
+  Retired q st m n m' = (0 < q) × (0 < m.0.sizes.rows → q ≤ m.0.sizes.rows) × (n ≤ 4611686018427387904) × (m' ≡ (record m.0 { claims = claimed q (Keeps n) m.0.claims }, m.1))

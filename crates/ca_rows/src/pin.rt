@@ -9,7 +9,7 @@ use crate::space::{Pass, Space};
 impl<R: RowRule> Space<R> {
     /// Announces the epoch that is loaded: rows that are unlinked from then on stay until the pass unpins.
     pub fn pin(&self, pass: &mut Pass<R>)
-        requires own { IsOf self.now.table.shared.table_id self.now.table.shared.key.rows pass.old.seat }
+        requires own { IsOf self.now.table.shared.table_id self.now.table.shared.key pass.old.seat }
         requires number { IsNumbered pass.old.number pass.old.seat.me.0.pin }
         requires unpinned { pass.old.seat.me.0.pin.pinned ≡ false }
         ensures same { IsSame pass.old.seat pass.new.seat }
@@ -26,7 +26,7 @@ impl<R: RowRule> Space<R> {
 
     /// Takes the announcement back. The pass has no note from then on.
     pub fn unpin(&self, pass: &mut Pass<R>)
-        requires own { IsOf self.now.table.shared.table_id self.now.table.shared.key.rows pass.old.seat }
+        requires own { IsOf self.now.table.shared.table_id self.now.table.shared.key pass.old.seat }
         requires number { IsNumbered pass.old.number pass.old.seat.me.0.pin }
         requires pinned { pass.old.seat.me.0.pin.pinned ≡ true }
         ensures same { IsSame pass.old.seat pass.new.seat }

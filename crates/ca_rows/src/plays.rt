@@ -1,7 +1,7 @@
 //! What each step of the rows tells.
 ghost use Rattle.std.specs.Prelude.{ℕ, ◌+◌};
 ghost use Rattle.ca_rows.specs.Closed.{joined};
-ghost use Rattle.ca_rows.specs.Rule.{fresh};
+ghost use Rattle.ca_rows.specs.Rule.{fresh, no_sizes};
 ghost use Rattle.ca_rows.specs.Told.{Looked, Peeked, Took, Wrote, Gave, Asked, Announced, Left, Retired};
 
 use crate::rule::RowRule;
@@ -52,7 +52,7 @@ pub struct Make<R> {
 impl<R: RowRule> Split<View<R::Upper>> for Make<R> {
     ghost left = { λ v. record v { made = v.made + 1 } };
 
-    ghost right = { λ v. fresh v.rows (v.made + 1) (R.begins (v.made + 1)) };
+    ghost right = { λ v. fresh v.sizes (v.made + 1) (R.begins (v.made + 1)) };
 }
 
 /// A load of the epoch, to announce it.
@@ -106,5 +106,5 @@ pub struct Close<R> {
 impl<R: RowRule> Join<View<R::Upper>> for Close<R> {
     ghost both = { joined R.both };
 
-    ghost spent = { fresh 0 0 R.spent };
+    ghost spent = { fresh no_sizes 0 R.spent };
 }

@@ -13,7 +13,7 @@ use std::marker::Brand;
 impl<R: RowRule> Space<R> {
     // Loads the epoch, since which the row is kept that K names.
     fn retire_as<K: Named>(&self, pass: &mut Pass<R>, _row: u32) -> u64
-        requires own { IsOf self.now.table.shared.table_id self.now.table.shared.key.rows pass.old.seat }
+        requires own { IsOf self.now.table.shared.table_id self.now.table.shared.key pass.old.seat }
         requires mine { MayRetire R.lent R.fact self.now.table.shared.key pass.old.seat.id pass.old.seat.me.0 K.about }
         ensures same { IsSame pass.old.seat pass.new.seat }
         ensures number { pass.new.number ≡ pass.old.number }
@@ -27,7 +27,7 @@ impl<R: RowRule> Space<R> {
 
     /// Keeps a row that the pass holds, that it unlinked, or that it lent to an operation which is finished, with the epoch that is loaded.
     pub fn retire(&self, pass: &mut Pass<R>, row: u32)
-        requires own { IsOf self.now.table.shared.table_id self.now.table.shared.key.rows pass.old.seat }
+        requires own { IsOf self.now.table.shared.table_id self.now.table.shared.key pass.old.seat }
         requires list { AreKept self.now.table.shared.key.rows pass.old.seat.me.0.claims pass.old.kept.rows }
         requires mine { MayRetire R.lent R.fact self.now.table.shared.key pass.old.seat.id pass.old.seat.me.0 row }
         ensures same { IsSame pass.old.seat pass.new.seat }

@@ -72,5 +72,5 @@ pub struct Rows<R> {
 impl<R: RowRule> TableRule<(), View<R::Upper>, Sizes> for Rows<R> {
     ghost holds = { Ruled R.linked R.lent R.noted R.fact };
 
-    ghost first = { λ z. fresh z.rows 0 R.first };
+    ghost first = { λ z. fresh z 0 R.first };
 }

@@ -33,7 +33,7 @@ pub struct Space<R: RowRule> {
     pub ghost few: { (0 < table.shared.key.rows) × (table.shared.key.rows < 65536) },
     pub ghost passes: { (made ≤ sizes.passes) × (sizes.passes ≤ 64) },
     pub ghost has: { IsSome own },
-    pub ghost mine: { ForSome own (λ rest. IsOwnSeat table.shared.table_id sizes.rows made rest.seat) },
+    pub ghost mine: { ForSome own (λ rest. IsOwnSeat table.shared.table_id sizes made rest.seat) },
 }
 
 /// A pass: the right to take steps on a space. It carries what it knows.
@@ -193,7 +193,7 @@ impl<R: RowRule> Space<R> {
 
     /// Takes a free row.
     pub fn take_row(&self, pass: &mut Pass<R>) -> Taken
-        requires own { IsOf self.now.table.shared.table_id self.now.table.shared.key.rows pass.old.seat }
+        requires own { IsOf self.now.table.shared.table_id self.now.table.shared.key pass.old.seat }
         ensures same { IsStill pass.old.seat pass.new.seat }
         ensures number { pass.new.number ≡ pass.old.number }
         ensures kept { pass.new.kept ≡ pass.old.kept }
@@ -227,7 +227,7 @@ impl<R: RowRule> Space<R> {
 
     /// Writes a word of a row that the pass holds.
     pub fn write_word(&self, pass: &mut Pass<R>, row: u32, index: u32, value: u64)
-        requires own { IsOf self.now.table.shared.table_id self.now.table.shared.key.rows pass.old.seat }
+        requires own { IsOf self.now.table.shared.table_id self.now.table.shared.key pass.old.seat }
         requires held { (its : List ℕ) × (claim_of pass.old.seat.me.0.claims row ≡ some (IsHeld its)) }
         requires inside { (row ≤ self.now.table.shared.key.rows) × (index < 136) }
         ensures same { IsStill pass.old.seat pass.new.seat }
@@ -242,7 +242,7 @@ impl<R: RowRule> Space<R> {
 
     /// Puts a row back that the pass holds. False exactly where the exchange lost: the pass holds the row still.
     pub fn put_row(&self, pass: &mut Pass<R>, row: u32) -> bool
-        requires own { IsOf self.now.table.shared.table_id self.now.table.shared.key.rows pass.old.seat }
+        requires own { IsOf self.now.table.shared.table_id self.now.table.shared.key pass.old.seat }
         requires held { (its : List ℕ) × (length its ≡ 136) × (claim_of pass.old.seat.me.0.claims row ≡ some (IsHeld its)) }
         requires inside { row ≤ self.now.table.shared.key.rows }
         ensures same { IsStill pass.old.seat pass.new.seat }

@@ -65,7 +65,7 @@ const STARTS: Starts = Starts {
 
 // How many free rows there are, each of which is taken once; none, where a row comes twice.
 fn take_each(space: &Space<Register>, pass: &mut Pass<Register>) -> Option<u32>
-    requires { IsOf space.now.table.shared.table_id space.now.table.shared.key.rows pass.old.seat }
+    requires { IsOf space.now.table.shared.table_id space.now.table.shared.key pass.old.seat }
 {
     let mut seen = [false; 512];
     let mut count = 0_u32;
@@ -101,8 +101,8 @@ fn takes_each_free_row_once(rt: HostRuntime) {
 
 // Takes a row, writes into it and puts it back, where it can. It answers how many rows the pass holds more.
 fn take_and_put(space: &Space<Register>, pass: &mut Pass<Register>, value: u64) -> u32
-    requires { IsOf space.now.table.shared.table_id space.now.table.shared.key.rows pass.old.seat }
-    ensures { IsOf space.now.table.shared.table_id space.now.table.shared.key.rows pass.new.seat }
+    requires { IsOf space.now.table.shared.table_id space.now.table.shared.key pass.old.seat }
+    ensures { IsOf space.now.table.shared.table_id space.now.table.shared.key pass.new.seat }
 {
     match space.take_row(pass) {
         Taken::Row(row) => {
@@ -115,8 +115,8 @@ fn take_and_put(space: &Space<Register>, pass: &mut Pass<Register>, value: u64) 
 
 // Does so many times, and gives the pass back with how many rows it holds.
 fn work(space: &Space<Register>, mut pass: Pass<Register>, times: u64) -> (Pass<Register>, u32)
-    requires { IsOf space.now.table.shared.table_id space.now.table.shared.key.rows pass.seat }
-    ensures { IsOf space.now.table.shared.table_id space.now.table.shared.key.rows result.0.seat }
+    requires { IsOf space.now.table.shared.table_id space.now.table.shared.key pass.seat }
+    ensures { IsOf space.now.table.shared.table_id space.now.table.shared.key result.0.seat }
 {
     let mut held = 0_u32;
     let mut time = 0;
@@ -134,16 +134,16 @@ fn work_both<T: Threads + Sync>(
     first: Pass<Register>,
     second: Pass<Register>,
 ) -> (u32, Option<u32>)
-    requires { IsOf space.now.table.shared.table_id space.now.table.shared.key.rows first.seat × IsOf space.now.table.shared.table_id space.now.table.shared.key.rows second.seat }
+    requires { IsOf space.now.table.shared.table_id space.now.table.shared.key first.seat × IsOf space.now.table.shared.table_id space.now.table.shared.key second.seat }
 {
     let ((mut first, one), (_second, two)) = join(
         rt,
         || -> (Pass<Register>, u32)
-            requires { IsOf space.now.table.shared.table_id space.now.table.shared.key.rows first.seat }
-            ensures { IsOf space.entry.now.table.shared.table_id space.entry.now.table.shared.key.rows result.0.seat }
+            requires { IsOf space.now.table.shared.table_id space.now.table.shared.key first.seat }
+            ensures { IsOf space.entry.now.table.shared.table_id space.entry.now.table.shared.key result.0.seat }
         { work(space, first, 20_000) },
         || -> (Pass<Register>, u32)
-            requires { IsOf space.now.table.shared.table_id space.now.table.shared.key.rows second.seat }
+            requires { IsOf space.now.table.shared.table_id space.now.table.shared.key second.seat }
         { work(space, second, 20_000) },
     );
     (one.saturating_add(two), take_each(space, &mut first))
@@ -197,9 +197,9 @@ fn begins_with_these_words(rt: HostRuntime) {
 
 // Takes a row and retires it. It answers how many rows the pass keeps then.
 fn take_and_retire(space: &Space<Register>, pass: &mut Pass<Register>) -> u32
-    requires own { IsOf space.now.table.shared.table_id space.now.table.shared.key.rows pass.old.seat }
+    requires own { IsOf space.now.table.shared.table_id space.now.table.shared.key pass.old.seat }
     requires list { AreKept space.now.table.shared.key.rows pass.old.seat.me.0.claims pass.old.kept.rows }
-    ensures { IsOf space.now.table.shared.table_id space.now.table.shared.key.rows pass.new.seat }
+    ensures { IsOf space.now.table.shared.table_id space.now.table.shared.key pass.new.seat }
 {
     if let Taken::Row(row) = space.take_row(pass) {
         space.retire(pass, row);

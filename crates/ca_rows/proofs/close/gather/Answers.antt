@@ -5,7 +5,7 @@ use Rattle.atomic_table.specs.declared.shared.Seat.{Seat}
 use Rattle.ca_rows.specs.declared.space.Pass.{Pass}
 use Rattle.ca_rows.specs.declared.view.View.{View}
 use Rattle.ca_rows.specs.Closed.{IsClosable, joined, joined_from}
-use Rattle.ca_rows.specs.Rule.{Ruled, fresh}
+use Rattle.ca_rows.specs.Rule.{Ruled, fresh, no_sizes}
 use Rattle.ca_rows.proofs.Closing.{joins, joined_behind, all_front, all_last}
 use Rattle.ca_rows.proofs.close.gather.Goals as goal
 
@@ -23,7 +23,7 @@ join_seat-requires g c =
       it.1,
       c.requires.words,
       subst (λ (id : ℕ). Joins (Ruled g.R.RowRule.linked g.R.RowRule.lent g.R.RowRule.noted g.R.RowRule.fact table.key) id own.me.0 c.into_seat.result.id c.into_seat.result.me.0
-          (joined g.R.RowRule.both own.me.0 c.into_seat.result.me.0) (fresh 0 0 g.R.RowRule.spent)) (sym (inv.1 ∙ c.requires.seat.1))
+          (joined g.R.RowRule.both own.me.0 c.into_seat.result.me.0) (fresh no_sizes 0 g.R.RowRule.spent)) (sym (inv.1 ∙ c.requires.seat.1))
           (joins g.R.RowRule.linked g.R.RowRule.lent g.R.RowRule.noted g.R.RowRule.fact g.R.RowRule.both g.R.RowRule.spent g.met.R.RowRule.closing table.key own.me.0 c.into_seat.result.me.0 c.into_seat.result.id inv.2 it.2),
     )
 
