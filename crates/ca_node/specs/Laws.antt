@@ -8,7 +8,7 @@ use Rattle.ca_model.specs.History.{History, after, edits_of_pass, AreByPasses}
 use Rattle.ca_model.specs.Lawful.{IsLawful}
 use Rattle.ca_rows.specs.declared.sizes.Sizes.{Sizes}
 use Rattle.ca_rows.specs.Laws.{Agrees, Framed, Frames, Lends, Pinning, Making, Closing, Opened, Opening}
-use Rattle.ca_rows.specs.Opening.{AreInBounds}
+use Rattle.ca_rows.specs.Opening.{AreInBounds, AreUsable}
 use Rattle.ca_rows.specs.Words.{IsWide}
 use Rattle.ca_rows.proofs.Making.{at_place}
 use Rattle.ca_rows.proofs.Rules.{all_seats}
@@ -115,6 +115,7 @@ module _ (z : Sizes) (made : ℕ) (uppers : List TreeView) (words others : List 
 
   tree_now : IsTree z made others uppers
   tree_now = record {
+    usable = f.usable;
     history = f.history;
     edits = f.edits;
     by_passes = f.by_passes;
@@ -175,6 +176,7 @@ relisted rows made words uppers uppers' history j u n k = record {
 pub seat_changed : (z : Sizes) (made : ℕ) (words : List ℕ) (uppers : List TreeView) (id : ℕ) (u u' : TreeView) (f : IsTree z made words uppers) → get_elem? uppers id ≡ some u → (0 < u'.number → u'.number ≡ u.number)
     → Knows z.rows made words (set uppers id u') f.history id u' → IsTree z made words (set uppers id u')
 seat_changed z made words uppers id u u' f at same k = record {
+  usable = f.usable;
   history = f.history;
   edits = f.edits;
   by_passes = f.by_passes;
@@ -244,6 +246,7 @@ knows_nothing rows made words uppers history j number before alone unmade = reco
 pub tree_making : Making IsLinked IsLent IsNoted IsTree blank
 tree_making = record {
   keeps_making = λ z made uppers words f. let next : List TreeView = uppers ++ blank (made + 1) ∷ [] in record {
+    usable = f.usable;
     history = f.history;
     edits = f.edits;
     by_passes = one_more made f.history f.by_passes;
@@ -282,7 +285,7 @@ tree_closing = record {
 }
 
 -- The words at the start.
-module _ (z : Sizes) (words : List ℕ) (bounds : AreInBounds z) (wide : IsWide z.rows words) (above : (i : ℕ) → 66 ≤ i → i < 272 → get_or words i 0 ≡ opens_at z i) where
+module _ (z : Sizes) (words : List ℕ) (bounds : AreInBounds z) (usable : AreUsable z) (wide : IsWide z.rows words) (above : (i : ℕ) → 66 ≤ i → i < 272 → get_or words i 0 ≡ opens_at z i) where
   root_is : root words ≡ 1
   root_is = above 130 (omega arith) (omega arith)
 
@@ -317,6 +320,7 @@ module _ (z : Sizes) (words : List ℕ) (bounds : AreInBounds z) (wide : IsWide 
   opened : Opened IsLinked IsLent IsNoted IsTree z (blank 0) words
   opened = record {
     stands = record {
+      usable = usable;
       history = [];
       edits = tt;
       by_passes = tt;
@@ -334,4 +338,4 @@ module _ (z : Sizes) (words : List ℕ) (bounds : AreInBounds z) (wide : IsWide 
   }
 
 pub tree_opening : Opening IsLinked IsLent IsNoted IsTree opens_at (blank 0)
-tree_opening z words bounds usable wide above = opened z words bounds wide above
+tree_opening z words bounds usable wide above = opened z words bounds usable wide above

@@ -6,6 +6,7 @@ use Rattle.ca_model.specs.Event.{Entry}
 use Rattle.ca_model.specs.History.{History, after, AreEdits, AreByPasses}
 use Rattle.ca_model.specs.Lawful.{IsLawful}
 use Rattle.ca_rows.specs.declared.sizes.Sizes.{Sizes}
+use Rattle.ca_rows.specs.Opening.{AreUsable}
 use Rattle.ca_rows.specs.Words.{IsWide}
 use Rattle.ca_node.specs.Links.{root, IsIn}
 use Rattle.ca_node.specs.Row.{row_at, IsObjectRow, IsBaseRow, count, level, items, mark, objects_in}
@@ -61,6 +62,7 @@ pub record Knows (rows made : ℕ) (words : List ℕ) (uppers : List TreeView) (
 
 -- The tree is one base under the root link, which has the last state of the one history.
 pub record IsTree (z : Sizes) (made : ℕ) (words : List ℕ) (uppers : List TreeView) : Type 0 where
+  pub usable : AreUsable z
   pub history : History
   pub edits : AreEdits z.keypos history
   pub by_passes : AreByPasses made history

@@ -1,8 +1,15 @@
-//! The tree over the rows: what their words spell, and its rule.
+//! The tree over the rows: what their words spell, its rule, and its single steps.
 #![tactic(auto)]
 
+mod cursor;
+mod link;
+mod plays;
 mod rule;
+mod steps;
 mod view;
 
+pub use link::Link;
 pub use rule::{TreePass, TreeRule, TreeSpace};
+pub use steps::{load_link, load_word, replace_link};
 pub use view::Knowledge;
+pub use cursor::{Cursor, Spot, walk};
