@@ -2,7 +2,8 @@ mod Accounts
 mod Calling
 mod Chains
 pub mod Claiming
-mod Closing
+pub mod Closing
+pub mod Forking
 pub mod Keeping
 pub mod Making
 mod PinSteps

@@ -25,13 +25,13 @@ at_place [] a b (suc j) e = absurd (some-ne-none b (sym e))
 at_place (x ∷ xs) a b zero e = inl e
 at_place (x ∷ xs) a b (suc j) e = ⊎_elim (λ f. inl f) (λ (t : (j ≡ length xs) × (a ≡ b)). inr (ap suc t.0, t.1)) (at_place xs a b j e)
 
-some_long : {A : Type 0} (l : List A) (i : ℕ) (a : A) → get_elem? l i ≡ some a → i < length l
+pub some_long : {A : Type 0} (l : List A) (i : ℕ) (a : A) → get_elem? l i ≡ some a → i < length l
 some_long [] i a e = absurd (some-ne-none a (sym e))
 some_long (x ∷ xs) zero a e = omega arith
 some_long (x ∷ xs) (suc i) a e = let z = some_long xs i a e in omega arith
 
 -- A seat with no claims changes nobody's.
-claims_behind : {U : Type 0} (l : List (View U)) (x : View U) (j r : ℕ) → claim_of x.claims r ≡ none → claim_at (l ++ x ∷ []) j r ≡ claim_at l j r
+pub claims_behind : {U : Type 0} (l : List (View U)) (x : View U) (j r : ℕ) → claim_of x.claims r ≡ none → claim_at (l ++ x ∷ []) j r ≡ claim_at l j r
 claims_behind [] x zero r e = e
 claims_behind [] x (suc j) r e = refl
 claims_behind (y ∷ ys) x zero r e = refl
