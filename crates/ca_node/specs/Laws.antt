@@ -192,7 +192,7 @@ seat_changed z made words uppers id u u' f at same k = record {
 pub starts_whole : (h : History) → StartsWith h h
 starts_whole h = ([], sym (append-nil h))
 
-no_notes : (words : List ℕ) (u : TreeView) (row : ℕ) → u.notes ≡ [] → u.ways ≡ [] → ¬ IsNoted words u row
+pub no_notes : (words : List ℕ) (u : TreeView) (row : ℕ) → u.notes ≡ [] → u.ways ≡ [] → ¬ IsNoted words u row
 no_notes words u _ empty empty_too (by_note note row i e) = in_nothing note u.notes empty i
 no_notes words u _ empty empty_too (by_item note row i b k) = in_nothing note u.notes empty i
 no_notes words u _ empty empty_too (by_way way row i e) = in_nothing way u.ways empty_too i
@@ -219,7 +219,7 @@ tree_pinning = record {
 }
 
 -- A pass that wasn't made yet has no edit in the history.
-none_made : (made pass : ℕ) (h : History) → AreByPasses made h → (pass ≡ 0) ⊎ (made < pass) → edits_of_pass pass h ≡ []
+pub none_made : (made pass : ℕ) (h : History) → AreByPasses made h → (pass ≡ 0) ⊎ (made < pass) → edits_of_pass pass h ≡ []
 none_made made pass [] b w = refl
 none_made made pass (step ∷ steps) b w = let lo = b.0 in let hi = b.1 in
     let n : step.0 ≢ pass = λ e. ⊎_elim (λ (z : pass ≡ 0). omega arith) (λ (l : made < pass). omega arith) w in
@@ -230,7 +230,7 @@ one_more made [] b = tt
 one_more made (step ∷ steps) b = let hi = b.1 in (b.0, omega arith, one_more made steps b.2)
 
 -- what a seat knows that knows nothing yet
-knows_nothing : (rows made : ℕ) (words : List ℕ) (uppers : List TreeView) (history : History) (j number : ℕ) → number ≤ made → (0 < number → (i : ℕ) (v : TreeView) → get_elem? uppers i ≡ some v → v.number ≡ number → i ≡ j) → edits_of_pass number history ≡ []
+pub knows_nothing : (rows made : ℕ) (words : List ℕ) (uppers : List TreeView) (history : History) (j number : ℕ) → number ≤ made → (0 < number → (i : ℕ) (v : TreeView) → get_elem? uppers i ≡ some v → v.number ≡ number → i ≡ j) → edits_of_pass number history ≡ []
     → Knows rows made words uppers history j (blank number)
 knows_nothing rows made words uppers history j number before alone unmade = record {
   made_before = before;

@@ -1,16 +1,17 @@
 -- What each step of the tree tells.
-use Rattle.std.specs.Prelude.{◌≡◌, ◌⊎◌, ℕ, ◌+◌, ◌*◌, ◌<◌, ◌≤◌, List, [], ◌∷◌, ◌++◌, length, map, slice_index}
+use Rattle.std.specs.Prelude.{◌≡◌, ◌⊎◌, ℕ, ◌+◌, ◌*◌, ◌<◌, ◌≤◌, List, [], ◌∷◌, ◌++◌, length, map, nat_lt, cond, slice_index}
 use mathlib.Core.Option.{some}
 use lib.ListN.{get_elem?}
 use Rattle.atomic_table.specs.Table.{Step}
 use Rattle.ca_model.specs.History.{History, after, AreEdits, AreByPasses}
 use Rattle.ca_model.specs.Lawful.{IsLawful}
 use Rattle.ca_rows.specs.declared.sizes.Sizes.{Sizes}
+use Rattle.ca_rows.specs.Rule.{fresh, no_sizes}
 use Rattle.ca_rows.specs.Told.{Mine}
 use Rattle.ca_node.specs.Links.{IsIn}
 use Rattle.ca_node.specs.Row.{IsBaseRow, count, level, items, mark, pair}
 use Rattle.ca_node.specs.Tree.{ArePast}
-use Rattle.ca_node.specs.TreeView.{Note, TreeView}
+use Rattle.ca_node.specs.TreeView.{Note, TreeView, blank}
 
 abbrev pub MyTree : Type 0
 MyTree = Mine TreeView
@@ -58,3 +59,19 @@ IsShown u row its = (note : Note) × IsIn note u.notes
 -- A word of a row was loaded: where the row was shown, it is the word that was shown.
 abbrev pub Reads : Step (Unit {0}) → MyTree → ℕ → MyTree → Type 0
 Reads st m n m' = (m' ≡ m) × ((row index : ℕ) (its : List ℕ) → st.word ≡ 136 * row + index → index < 136 → IsShown m.0.upper row its → n ≡ slice_index its index)
+
+-- what a front knows: the history that the pass has seen
+abbrev pub front_of : TreeView → TreeView
+front_of u = record (blank 0) { seen = u.seen }
+
+-- the longer one of two histories
+abbrev pub longer : History → History → History
+longer a b = cond (nat_lt (length a) (length b)) b a
+
+-- what a pass knows that learnt of a front
+abbrev pub learnt : TreeView → TreeView → TreeView
+learnt u v = record u { seen = longer u.seen v.seen }
+
+-- A front's half knows a history and nothing else.
+abbrev pub IsFront : MyTree → Type 0
+IsFront m = m ≡ (fresh no_sizes 0 (front_of m.0.upper), [])

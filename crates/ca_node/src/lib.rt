@@ -2,14 +2,18 @@
 #![tactic(auto)]
 
 mod cursor;
+mod handed;
+mod handing;
 mod link;
 mod plays;
 mod rule;
 mod steps;
 mod view;
 
+pub use cursor::{Cursor, Spot, walk};
+pub use handed::Front;
+pub use handing::{front, learn};
 pub use link::Link;
 pub use rule::{TreePass, TreeRule, TreeSpace};
 pub use steps::{load_link, load_word, replace_link};
 pub use view::Knowledge;
-pub use cursor::{Cursor, Spot, walk};

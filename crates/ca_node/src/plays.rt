@@ -1,8 +1,11 @@
 //! What each step of the tree tells.
-ghost use Rattle.ca_node.specs.Told.{Leads, Reads};
+ghost use Rattle.ca_node.specs.Told.{Leads, Reads, front_of, learnt};
+ghost use Rattle.ca_node.specs.TreeView.{blank};
+ghost use Rattle.ca_rows.specs.Closed.{joined};
+ghost use Rattle.ca_rows.specs.Rule.{fresh, no_sizes};
 
 use crate::view::Knowledge;
-use atomic_table::Play;
+use atomic_table::{Join, Play, Split};
 use ca_rows::View;
 
 /// A load of the root link.
@@ -17,4 +20,22 @@ pub struct Read;
 
 impl Play<(), View<Knowledge>> for Read {
     ghost then = { Reads };
+}
+
+/// The step that makes a front.
+pub struct Fork;
+
+impl Split<View<Knowledge>> for Fork {
+    ghost left = { λ v. v };
+
+    ghost right = { λ v. fresh no_sizes 0 (front_of v.upper) };
+}
+
+/// The step that takes a front in.
+pub struct Learn;
+
+impl Join<View<Knowledge>> for Learn {
+    ghost both = { joined learnt };
+
+    ghost spent = { fresh no_sizes 0 (blank 0) };
 }

@@ -69,6 +69,12 @@ impl<R: RowRule> Drop for Pass<R> {
     }
 }
 
+impl<R: RowRule> Drop for Half<R> {
+    fn drop(self) {
+        let Self { seat: _ } = self;
+    }
+}
+
 impl<R: RowRule> Space<R> {
     // The table and the space's own seat.
     pub(crate) fn into_parts(
