@@ -5,8 +5,8 @@ use mathlib.Core.Option.{Option, some, none, some-injective, some-ne-none}
 use lib.ListN.{get_elem?}
 use Rattle.atomic_table.specs.Table.{State, step, keeps, Allows}
 use Rattle.atomic_table.proofs.Lists.{at_set, at_map, set_again}
-use Rattle.ca_model.specs.Event.{Entry}
-use Rattle.ca_model.specs.History.{History, after, AreEdits, AreByPasses}
+use Rattle.ca_model.specs.Event.{Event, Entry, IsAnswer}
+use Rattle.ca_model.specs.History.{History, after, state, AreEdits, AreByPasses}
 use Rattle.ca_model.specs.Lawful.{IsLawful}
 use Rattle.ca_rows.specs.declared.sizes.Sizes.{Sizes}
 use Rattle.ca_rows.specs.declared.view.View.{View}
@@ -16,9 +16,10 @@ use Rattle.ca_node.specs.Laws.{tree_lends, numbered, relisted, seat_changed, in_
 use Rattle.ca_node.specs.Links.{root, IsIn, IsLinked, by_root, by_base, IsLent, IsNoted, by_note, by_item, by_way, by_link, by_link_item}
 use Rattle.ca_node.specs.Row.{row_at, IsBaseRow, items, pair, objects_in}
 use Rattle.ca_node.specs.Stays.{word_at, row_long, map_same}
-use Rattle.ca_node.specs.Told.{MyTree, with_upper, IsBaseNote, IsKnown, led, IsLed, Leads, IsShown, Reads}
+use Rattle.ca_node.specs.Told.{MyTree, with_upper, IsBaseNote, IsKnown, led, IsLed, Leads, IsShown, Reads, IsReadNow, entered, ReadsLast}
 use Rattle.ca_node.specs.Tree.{StartsWith, ArePast, IsTrue, Knows, IsTree}
 use Rattle.ca_node.specs.TreeView.{Note, TreeView}
+use Rattle.ca_node.proofs.Logs.{state_there, read_lawful, past_more}
 
 module _ (z : Sizes) where
   abbrev pub R : State (Unit {0}) (View TreeView) → Type 0
@@ -85,6 +86,13 @@ new_notes words u more note here named empty _ (by_item n row i b m) = ⊎_elim
 new_notes words u more note here named empty _ (by_way way row i e) = absurd (in_nothing way u.ways empty i)
 new_notes words u more note here named empty _ (by_link way row i e) = absurd (in_nothing way u.ways empty i)
 new_notes words u more note here named empty _ (by_link_item way base row i e f m) = absurd (in_nothing way u.ways empty i)
+
+pub entered_notes : (words : List ℕ) (u : TreeView) (event : Event) (row : ℕ) → IsNoted words (entered u event) row → IsNoted words u row
+entered_notes words u event _ (by_note note row i e) = by_note note row i e
+entered_notes words u event _ (by_item note row i b k) = by_item note row i b k
+entered_notes words u event _ (by_way way row i e) = by_way way row i e
+entered_notes words u event _ (by_link way row i e) = by_link way row i e
+entered_notes words u event _ (by_link_item way base row i e f k) = by_link_item way base row i e f k
 
 -- What the root link reaches, as a note.
 module _ (z : Sizes) (made : ℕ) (words : List ℕ) (uppers : List TreeView) (f : IsTree z made words uppers) where
@@ -172,5 +180,28 @@ module _ (z : Sizes) where
         keeps,
         tt,
         looked z s r i id d d.upper at (λ row n. inl n) (subst (IsTree z r.made s.words) (sym (set_again us id d.upper first)) f),
+        (refl, λ row index its is inside shown. ap (λ y. get_or s.words y 0) is ∙ shown_word z r.made s.words us f id d.upper k row index its inside shown),
+      )
+
+  -- The same load, which ends a call that edits nothing.
+  pub reads_last : (slots id : ℕ) (me : MyTree) (i : ℕ) (event : Event) → IsReadNow event me.0.upper → Allows (R z) slots id me i (λ x. x) (ReadsLast event (step slots i 0 0 none) me)
+  reads_last slots id me i event now s r _ at _ = let f = r.above in let d = me.0 in let k = knows_upper z s r id d at in let us : List TreeView = map upper_of s.views in
+      let first = at_map upper_of s.views id d at in let u' : TreeView = entered d.upper event in let p : ℕ = length d.upper.seen in
+      let low = starts_shorter f.history d.upper.seen k.seen_first in
+      let k' = relisted z.rows r.made s.words us (set us id u') f.history id d.upper (numbered us id d.upper u' first (λ _. refl)) k in
+      let there : state f.history p ≡ after d.upper.seen [] = ap (λ h. state h p) k.seen_first.1 ∙ state_there d.upper.seen k.seen_first.0 in (
+        record d { upper = u' },
+        keeps,
+        tt,
+        looked z s r i id d u' at (λ row n. inl (entered_notes s.words d.upper event row n)) (seat_changed z r.made s.words us id d.upper u' f first (λ _. refl) record {
+          made_before = k'.made_before;
+          alone = k'.alone;
+          seen_first = k'.seen_first;
+          since_first = k'.since_first;
+          lawful = read_lawful d.upper.number event f.history p d.upper.log now.0 low (subst (IsAnswer event) (sym there) now.1) k.past k.lawful;
+          past = past_more p d.upper.log (event, p) k.past (omega arith);
+          notes = k'.notes;
+          no_ways = k'.no_ways;
+        }),
         (refl, λ row index its is inside shown. ap (λ y. get_or s.words y 0) is ∙ shown_word z r.made s.words us f id d.upper k row index its inside shown),
       )

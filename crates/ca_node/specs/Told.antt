@@ -1,15 +1,19 @@
 -- What each step of the tree tells.
-use Rattle.std.specs.Prelude.{◌≡◌, ◌⊎◌, ℕ, ◌+◌, ◌*◌, ◌<◌, ◌≤◌, List, [], ◌∷◌, ◌++◌, length, map, nat_lt, cond, slice_index}
+use Rattle.std.specs.Prelude.{◌≡◌, ◌≢◌, ◌⊎◌, true, ℕ, ◌+◌, ◌*◌, ◌<◌, ◌≤◌, List, [], ◌∷◌, ◌++◌, length, map, nat_lt, cond, slice_index}
 use mathlib.Core.Option.{some}
 use lib.ListN.{get_elem?}
 use Rattle.atomic_table.specs.Table.{Step}
-use Rattle.ca_model.specs.History.{History, after, AreEdits, AreByPasses}
+use Rattle.ca_model.specs.Event.{Event, IsAnswer, effect}
+use Rattle.ca_model.specs.History.{Edit, History, after, after_edit, IsEdit, AreEdits, AreByPasses}
 use Rattle.ca_model.specs.Lawful.{IsLawful}
 use Rattle.ca_rows.specs.declared.sizes.Sizes.{Sizes}
+use Rattle.ca_rows.specs.declared.view.Claim.TheVariants.{Holds, Unlinked}
+use Rattle.ca_rows.specs.declared.view.Claimed.{Claimed}
+use Rattle.ca_rows.specs.Claims.{claim_of, claimed, dropped}
 use Rattle.ca_rows.specs.Rule.{fresh, no_sizes}
 use Rattle.ca_rows.specs.Told.{Mine}
 use Rattle.ca_node.specs.Links.{IsIn}
-use Rattle.ca_node.specs.Row.{IsBaseRow, count, level, items, mark, pair}
+use Rattle.ca_node.specs.Row.{IsObjectRow, IsBaseRow, count, level, items, mark, pair}
 use Rattle.ca_node.specs.Tree.{ArePast}
 use Rattle.ca_node.specs.TreeView.{Note, TreeView, blank}
 
@@ -59,6 +63,78 @@ IsShown u row its = (note : Note) × IsIn note u.notes
 -- A word of a row was loaded: where the row was shown, it is the word that was shown.
 abbrev pub Reads : Step (Unit {0}) → MyTree → ℕ → MyTree → Type 0
 Reads st m n m' = (m' ≡ m) × ((row index : ℕ) (its : List ℕ) → st.word ≡ 136 * row + index → index < 136 → IsShown m.0.upper row its → n ≡ slice_index its index)
+
+-- The call is one that edits nothing, and its answer is that of the last state that the seat has seen.
+abbrev pub IsReadNow : Event → TreeView → Type 0
+IsReadNow event u = (effect event ≡ []) × IsAnswer event (after u.seen [])
+
+-- what a seat knows once its log has this call, at the place as far as which it has seen the history
+abbrev pub entered : TreeView → Event → TreeView
+entered u event = record u { log = u.log ++ (event, length u.seen) ∷ [] }
+
+-- A word of a row was loaded, and the call that it ends was entered in the log.
+abbrev pub ReadsLast : Event → Step (Unit {0}) → MyTree → ℕ → MyTree → Type 0
+ReadsLast event st m n m' = (m' ≡ with_upper m (entered m.0.upper event)) × ((row index : ℕ) (its : List ℕ) → st.word ≡ 136 * row + index → index < 136 → IsShown m.0.upper row its → n ≡ slice_index its index)
+
+-- An update: the base that it takes the place of, the new base's words and those of the objects that it names, which held object rows come
+-- and which object rows go, the call, and its edit.
+pub record Update : Type 0 where
+  pub old : Note
+  pub its : List ℕ
+  pub objects : List (List ℕ)
+  pub comes : List ℕ
+  pub goes : List ℕ
+  pub event : Event
+  pub edit : Edit
+
+-- the claims once these rows are linked, or are unlinked by the seat
+abbrev pub given : List ℕ → List Claimed → List Claimed
+given [] claims = claims
+given (row ∷ rows) claims = dropped row (given rows claims)
+
+abbrev pub taken_out : List ℕ → List Claimed → List Claimed
+taken_out [] claims = claims
+taken_out (row ∷ rows) claims = claimed row Unlinked (taken_out rows claims)
+
+-- The object row with these words was named by the old base, or is one that the seat holds.
+abbrev pub IsObjectOf : MyTree → Update → ℕ → List ℕ → Type 0
+IsObjectOf m x row its = ((i : ℕ) × (get_elem? (items x.old.its) i ≡ some row) × (get_elem? x.old.objects i ≡ some its)) ⊎ (IsIn row x.comes × (claim_of m.0.claims row ≡ some (Holds its)) × IsObjectRow its)
+
+-- The seat may put the new row in the place of the old base: it is pinned, was shown that base, and holds the new one.
+pub record IsUpdate (z : Sizes) (m : MyTree) (new : ℕ) (x : Update) : Type 0 where
+  pub is_pinned : m.0.pin.pinned ≡ true
+  pub is_pass : 0 < m.0.upper.number
+  pub shown : IsIn x.old m.0.upper.notes
+  pub old_base : IsBaseRow x.old.its
+  pub held : claim_of m.0.claims new ≡ some (Holds x.its)
+  pub is_base : IsBaseRow x.its
+  pub level_is : level x.its ≡ 0
+  pub few : count x.its ≤ z.leaf
+  pub unmarked : mark x.its ≡ 0
+  pub as_many : length x.objects ≡ length (items x.its)
+  pub are_objects : (k row : ℕ) (its : List ℕ) → get_elem? (items x.its) k ≡ some row → get_elem? x.objects k ≡ some its → IsObjectOf m x row its
+  pub come : (row : ℕ) → IsIn row x.comes → IsIn row (items x.its) × ((its : List ℕ) × (claim_of m.0.claims row ≡ some (Holds its)))
+  pub go : (row : ℕ) → IsIn row x.goes → IsIn row (items x.old.its) × ¬ IsIn row (items x.its)
+  pub stay : (row : ℕ) → IsIn row (items x.old.its) → IsIn row (items x.its) ⊎ IsIn row x.goes
+  -- What the new base has is what the old one had after the edit, which is what the call does.
+  pub map_is : map pair x.objects ≡ after_edit x.edit (map pair x.old.objects)
+  pub does : effect x.event ≡ x.edit ∷ []
+  pub answer : IsAnswer x.event (map pair x.old.objects)
+  pub is_edit : IsEdit z.keypos x.edit
+
+-- what a seat knows after it carried out the update: its edit is the last one of the history
+abbrev pub updated : TreeView → History → ℕ → Update → TreeView
+updated u more new x = record u {
+  seen = u.seen ++ more ++ (u.number, x.edit) ∷ [];
+  log = u.log ++ (x.event, length (u.seen ++ more) + 1) ∷ [];
+  notes = record { row = new; its = x.its; objects = x.objects } ∷ u.notes;
+}
+
+-- The root link was exchanged, and the update is carried out; or the exchange was lost, and nothing changed.
+abbrev pub Updates : Update → Step (Unit {0}) → MyTree → ℕ → MyTree → Type 0
+Updates x st m n m' =
+    (n ≡ st.first → (more : History) × (m' ≡ (record m.0 { claims = taken_out (x.old.row ∷ x.goes) (given (st.second ∷ x.comes) m.0.claims); upper = updated m.0.upper more st.second x }, m.1)))
+    × (n ≢ st.first → m' ≡ m)
 
 -- what a front knows: the history that the pass has seen
 abbrev pub front_of : TreeView → TreeView
