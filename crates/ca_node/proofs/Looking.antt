@@ -205,3 +205,7 @@ module _ (z : Sizes) where
         }),
         (refl, λ row index its is inside shown. ap (λ y. get_or s.words y 0) is ∙ shown_word z r.made s.words us f id d.upper k row index its inside shown),
       )
+
+-- After a load of the root link the row that it names was shown.
+pub led_shows : (m m' : MyTree) (n : ℕ) → IsLed m n m' → (its : List ℕ) × IsShown m'.0.upper n its
+led_shows m m' n shown = (shown.0.its, subst (λ (y : MyTree). IsShown y.0.upper n shown.0.its) (sym shown.2) (shown.0, (0, refl), inl (shown.3, refl)))

@@ -17,3 +17,6 @@ pub use link::Link;
 pub use rule::{TreePass, TreeRule, TreeSpace};
 pub use steps::{load_link, load_word, replace_link};
 pub use view::Knowledge;
+
+#[cfg(test)]
+mod tests;

@@ -5,6 +5,7 @@ ghost use Rattle.ca_rows.specs.Kept.{AreKept};
 ghost use Rattle.std.specs.Thread.{IsSync};
 
 use super::*;
+use std::alloc::Global;
 use std::thread::{Threads, join};
 
 // A register: the row that word 130 names is linked.
@@ -218,4 +219,82 @@ fn a_row_that_is_retired_is_kept(rt: HostRuntime) {
     assert_eq!(rt; pass.kept(), 0);
     assert_eq!(rt; take_and_retire(&space, &mut pass), 1);
     assert_eq!(rt; take_each(&space, &mut pass), Some(382));
+}
+
+// Whether a space of these sizes is refused.
+fn is_bad(alloc: Global, rows: u32, passes: u32, starts: Starts) -> bool {
+    matches!(
+        Space::<Register>::new(alloc, rows, passes, 1, 120, 0, starts),
+        Err(RowsFault::BadSize)
+    )
+}
+
+// Starts with one number each that isn't 0.
+fn starts(tag: u64, epoch: u64, sequence: u64, attempt: u64) -> Starts {
+    Starts {
+        tag,
+        epoch,
+        sequence,
+        attempt,
+    }
+}
+
+#[test]
+fn rows_and_passes_outside_the_bounds_are_refused(rt: HostRuntime) {
+    for (rows, passes, bad) in [
+        (383, 1, true),
+        (384, 1, false),
+        (65_535, 1, false),
+        (65_536, 1, true),
+        (384, 0, true),
+        (384, 64, false),
+        (384, 65, true),
+    ] {
+        assert_eq!(rt; is_bad(rt.alloc(), rows, passes, STARTS), bad, "{rows} rows, {passes} passes");
+    }
+}
+
+#[test]
+fn starts_past_the_last_values_are_refused(rt: HostRuntime) {
+    for (tag, epoch, sequence, attempt, bad) in [
+        ((1 << 48) - 1, 0, 0, 0, false),
+        (1 << 48, 0, 0, 0, true),
+        (0, 1 << 62, 0, 0, false),
+        (0, (1 << 62) + 1, 0, 0, true),
+        (0, 0, (1 << 46) - 1, 0, false),
+        (0, 0, 1 << 46, 0, true),
+        (0, 0, 0, (1 << 62) - 1, false),
+        (0, 0, 0, 1 << 62, true),
+    ] {
+        let refused = is_bad(rt.alloc(), 384, 1, starts(tag, epoch, sequence, attempt));
+        assert_eq!(rt; refused, bad, "{tag}, {epoch}, {sequence}, {attempt}");
+    }
+}
+
+#[test]
+fn makes_as_many_passes_as_it_is_for(rt: HostRuntime) {
+    let Ok(mut space) = Space::<Register>::new(rt.alloc(), 384, 64, 1, 120, 0, STARTS) else {
+        panic!(rt; "no memory")
+    };
+    for number in 1..65_u32 {
+        let Ok(pass) = space.enroll(rt.alloc()) else {
+            panic!(rt; "no pass")
+        };
+        assert_eq!(rt; pass.number(), number);
+    }
+    assert!(rt; matches!(space.enroll(rt.alloc()), Err(RowsFault::NoPass)));
+    assert_eq!(rt; space.enrolled(), 64);
+}
+
+#[test]
+fn a_tag_at_its_last_value_is_worn(rt: HostRuntime) {
+    let last = starts((1 << 48) - 2, 0, 0, 0);
+    let Ok(mut space) = Space::<Register>::new(rt.alloc(), 384, 1, 1, 120, 0, last) else {
+        panic!(rt; "no memory")
+    };
+    let Ok(mut pass) = space.enroll(rt.alloc()) else {
+        panic!(rt; "no pass")
+    };
+    assert_eq!(rt; space.take_row(&mut pass), Taken::Row(2));
+    assert_eq!(rt; space.take_row(&mut pass), Taken::Worn);
 }
