@@ -1,5 +1,6 @@
 //! Walks from the root to a base.
-ghost use Rattle.std.specs.Prelude.{◌≡◌, ℕ, true};
+ghost use Rattle.std.specs.Prelude.{◌≡◌, true, None};
+ghost use Rattle.ca_node.specs.declared.link.Link.TheVariants.{Root as IsRoot};
 ghost use Rattle.ca_node.specs.Told.{IsLed};
 ghost use Rattle.ca_rows.specs.Calls.{IsOf, IsSame};
 
@@ -42,6 +43,8 @@ pub fn walk(space: &TreeSpace, pass: &mut TreePass, spot: Spot<'_>) -> Cursor
     ensures number { pass.new.number ≡ pass.old.number }
     ensures kept { pass.new.kept ≡ pass.old.kept }
     ensures led { IsLed pass.old.seat.me result.base pass.new.seat.me }
+    ensures place { (result.link ≡ IsRoot) × (result.above ≡ None) × (result.level ≡ 0) }
+    ensures unbounded { (result.low ≡ None) × (result.high ≡ None) }
 {
     let _spot = spot;
     let base = load_link(space, pass, Link::Root);
