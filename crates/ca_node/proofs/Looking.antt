@@ -7,16 +7,17 @@ use Rattle.atomic_table.specs.Table.{State, step, keeps, Allows}
 use Rattle.atomic_table.proofs.Lists.{at_set, at_map, set_again}
 use Rattle.ca_model.specs.Event.{Event, Entry, IsAnswer}
 use Rattle.ca_model.specs.History.{History, after, state, AreEdits, AreByPasses}
+use Rattle.ca_model.specs.Known.{Counts}
 use Rattle.ca_model.specs.Lawful.{IsLawful}
 use Rattle.ca_rows.specs.declared.sizes.Sizes.{Sizes}
 use Rattle.ca_rows.specs.declared.view.View.{View}
 use Rattle.ca_rows.specs.Rule.{upper_of, Ruled}
 use Rattle.ca_rows.proofs.Relinking.{Change, Stays, Relinks, WasNoted, relinks}
-use Rattle.ca_node.specs.Laws.{tree_lends, numbered, relisted, seat_changed, in_nothing, starts_whole, linked_range}
+use Rattle.ca_node.specs.Laws.{tree_lends, numbered, relisted, seat_changed, in_nothing, notes_by, starts_whole, linked_range}
 use Rattle.ca_node.specs.Links.{root, IsIn, IsLinked, by_root, by_base, IsLent, IsNoted, by_note, by_item, by_way, by_link, by_link_item}
 use Rattle.ca_node.specs.Row.{row_at, IsBaseRow, items, pair, objects_in}
 use Rattle.ca_node.specs.Stays.{word_at, row_long, map_same}
-use Rattle.ca_node.specs.Told.{MyTree, with_upper, IsBaseNote, IsKnown, led, IsLed, Leads, IsShown, Reads, IsReadNow, entered, ReadsLast}
+use Rattle.ca_node.specs.Told.{MyTree, with_upper, IsBaseNote, IsKnown, led, IsLed, Leads, IsShown, Reads, IsReadNow, entered, ReadsLast, Refuses}
 use Rattle.ca_node.specs.Tree.{StartsWith, ArePast, IsTrue, Knows, IsTree}
 use Rattle.ca_node.specs.TreeView.{Note, TreeView}
 use Rattle.ca_node.proofs.Logs.{state_there, read_lawful, past_more}
@@ -204,6 +205,27 @@ module _ (z : Sizes) where
           no_ways = k'.no_ways;
         }),
         (refl, λ row index its is inside shown. ap (λ y. get_or s.words y 0) is ∙ shown_word z r.made s.words us f id d.upper k row index its inside shown),
+      )
+
+  -- A load that ends a refused call.
+  pub refuses : (slots id : ℕ) (me : MyTree) (i : ℕ) (one_more : Counts → Counts) → Allows (R z) slots id me i (λ x. x) (Refuses one_more (step slots i 0 0 none) me)
+  refuses slots id me i one_more s r _ at _ = let f = r.above in let d = me.0 in let us : List TreeView = map upper_of s.views in
+      let first = at_map upper_of s.views id d at in let u' : TreeView = record d.upper { counts = one_more d.upper.counts } in
+      let k = relisted z.rows r.made s.words us (set us id u') f.history id d.upper (numbered us id d.upper u' first (λ _. refl)) (knows_upper z s r id d at) in (
+        record d { upper = u' },
+        keeps,
+        tt,
+        looked z s r i id d u' at (λ row n. inl (notes_by s.words s.words d.upper u' row k.no_ways (λ note j. j) n)) (seat_changed z r.made s.words us id d.upper u' f first (λ _. refl) record {
+          made_before = k.made_before;
+          alone = k.alone;
+          seen_first = k.seen_first;
+          since_first = k.since_first;
+          lawful = k.lawful;
+          past = k.past;
+          notes = k.notes;
+          no_ways = k.no_ways;
+        }),
+        refl,
       )
 
 -- After a load of the root link the row that it names was shown.

@@ -1,5 +1,5 @@
 -- An update: one base takes the place of another under the root link.
-use Rattle.std.proofs.Common.{◌≡◌, ◌≢◌, ◌⊎◌, ℕ, zero, suc, ◌+◌, ◌*◌, ◌<◌, ◌≤◌, true, eqb, List, [], ◌∷◌, ◌++◌, length, map, get_or, set, sym, refl, ap, ◌∙◌, subst, inl, inr, ⊎_elim, arith, length-set, length-append, eq-eqb, ne_eqb, get_or-set_other, get_or-set_same}
+use Rattle.std.proofs.Common.{◌≡◌, ◌≢◌, ◌⊎◌, ℕ, zero, suc, ◌+◌, ◌*◌, ◌<◌, ◌≤◌, Bool, true, eqb, List, [], ◌∷◌, ◌++◌, length, map, get_or, set, sym, refl, ap, ◌∙◌, subst, inl, inr, ⊎_elim, arith, length-set, length-append, eq-eqb, ne_eqb, get_or-set_other, get_or-set_same}
 use Rattle.std.proofs.lemmas.List.{map-set, append_assoc}
 use Rattle.std.proofs.lemmas.Grind.{same_number_lists}
 use mathlib.Core.Logic.{dite}
@@ -27,7 +27,7 @@ use Rattle.ca_node.specs.Laws.{tree_frames, tree_lends, numbered, relisted, in_n
 use Rattle.ca_node.specs.Links.{root, IsIn, IsLinked, by_root, by_base, IsLent, IsNoted, by_note, by_item, by_way, by_link, by_link_item}
 use Rattle.ca_node.specs.Row.{row_at, form, IsObjectRow, IsBaseRow, items, count, level, mark, pair, objects_in}
 use Rattle.ca_node.specs.Stays.{row_same, row_long, word_at, map_same}
-use Rattle.ca_node.specs.Told.{MyTree, Update, IsUpdate, IsObjectOf, given, taken_out, updated, Updates, led}
+use Rattle.ca_node.specs.Told.{MyTree, Update, IsUpdate, IsObjectOf, given, taken_out, updated, Updates, HasUpdated, led}
 use Rattle.ca_node.specs.Tree.{Place, root_place, IsBaseAt, StartsWith, ArePast, IsTrue, Knows, IsTree}
 use Rattle.ca_node.specs.TreeView.{Note, TreeView}
 use Rattle.ca_node.proofs.Logs.{after_more, others_lawful, own_lawful, past_more}
@@ -336,3 +336,13 @@ module _ (z : Sizes) where
             (looked z s r 130 id d d.upper at (λ row y. inl y) (subst (IsTree z r.made s.words) (sym (set_again (map upper_of s.views) id d.upper (at_map upper_of s.views id d at))) r.above)),
         ((λ hit. absurd (miss hit)), λ _. refl),
       ))
+
+  -- The same, where the old row has another name.
+  pub updates_from : (slots id : ℕ) (me : MyTree) (old new : ℕ) (x : Update) → IsUpdate z me new x → x.old.row ≡ old → Allows (R z) slots id me 130 (λ n. either (eqb n old) new n) (Updates x (step slots 130 old new none) me)
+  updates_from slots id me old new x u same = subst (λ (o : ℕ). Allows (R z) slots id me 130 (λ n. either (eqb n o) new n) (Updates x (step slots 130 o new none) me)) same (updates slots id me new x u)
+
+-- The two ways that the exchange goes.
+pub has_updated : (n old new : ℕ) (x : Update) (m m' : MyTree) (slots : ℕ) → Updates x (step slots 130 old new none) m n m' → HasUpdated (eqb n old) new x m m'
+has_updated n old new x m m' slots told = dite (ℕ_discrete n old)
+    (λ hit. subst (λ (b : Bool). HasUpdated b new x m m') (sym (eq-eqb n old hit)) (told.0 hit))
+    (λ miss. subst (λ (b : Bool). HasUpdated b new x m m') (sym (ne_eqb n old miss)) (told.1 miss))

@@ -1,10 +1,11 @@
 -- What each step of the tree tells.
-use Rattle.std.specs.Prelude.{◌≡◌, ◌≢◌, ◌⊎◌, true, ℕ, ◌+◌, ◌*◌, ◌<◌, ◌≤◌, List, [], ◌∷◌, ◌++◌, length, map, nat_lt, cond, slice_index}
+use Rattle.std.specs.Prelude.{◌≡◌, ◌≢◌, ◌⊎◌, None, Bool, true, false, ℕ, ◌+◌, ◌*◌, ◌<◌, ◌≤◌, List, [], ◌∷◌, ◌++◌, length, map, nat_lt, cond, slice_index}
 use mathlib.Core.Option.{some}
 use lib.ListN.{get_elem?}
 use Rattle.atomic_table.specs.Table.{Step}
-use Rattle.ca_model.specs.Event.{Event, IsAnswer, effect}
-use Rattle.ca_model.specs.History.{Edit, History, after, after_edit, IsEdit, AreEdits, AreByPasses}
+use Rattle.ca_model.specs.Event.{Event, Get, IsAnswer, effect}
+use Rattle.ca_model.specs.History.{Edit, Del, History, after, after_edit, IsEdit, AreEdits, AreByPasses}
+use Rattle.ca_model.specs.Known.{Counts}
 use Rattle.ca_model.specs.Lawful.{IsLawful}
 use Rattle.ca_rows.specs.declared.sizes.Sizes.{Sizes}
 use Rattle.ca_rows.specs.declared.view.Claim.TheVariants.{Holds, Unlinked}
@@ -87,6 +88,9 @@ pub record Update : Type 0 where
   pub event : Event
   pub edit : Edit
 
+abbrev pub no_update : Update
+no_update = record { old = record { row = 0; its = []; objects = [] }; its = []; objects = []; comes = []; goes = []; event = Get [] None; edit = Del [] }
+
 -- the claims once these rows are linked, or are unlinked by the seat
 abbrev pub given : List ℕ → List Claimed → List Claimed
 given [] claims = claims
@@ -135,6 +139,15 @@ abbrev pub Updates : Update → Step (Unit {0}) → MyTree → ℕ → MyTree �
 Updates x st m n m' =
     (n ≡ st.first → (more : History) × (m' ≡ (record m.0 { claims = taken_out (x.old.row ∷ x.goes) (given (st.second ∷ x.comes) m.0.claims); upper = updated m.0.upper more st.second x }, m.1)))
     × (n ≢ st.first → m' ≡ m)
+
+-- What the exchange of the root link came to: the update is carried out, or nothing changed.
+abbrev pub HasUpdated : Bool → ℕ → Update → MyTree → MyTree → Type 0
+HasUpdated true new x m m' = (more : History) × (m' ≡ (record m.0 { claims = taken_out (x.old.row ∷ x.goes) (given (new ∷ x.comes) m.0.claims); upper = updated m.0.upper more new x }, m.1))
+HasUpdated false new x m m' = m' ≡ m
+
+-- A word was loaded as a call was refused, and the call is counted so.
+abbrev pub Refuses : (Counts → Counts) → Step (Unit {0}) → MyTree → ℕ → MyTree → Type 0
+Refuses one_more st m n m' = m' ≡ with_upper m (record m.0.upper { counts = one_more m.0.upper.counts })
 
 -- what a front knows: the history that the pass has seen
 abbrev pub front_of : TreeView → TreeView

@@ -2,6 +2,7 @@
 #![tactic(auto)]
 
 mod cursor;
+mod exchange;
 mod handed;
 mod handing;
 mod link;
@@ -14,8 +15,10 @@ pub use cursor::{Cursor, Spot, walk};
 pub use handed::Front;
 pub use handing::{front, learn};
 pub use link::Link;
+pub use plays::Intent;
 pub use rule::{TreePass, TreeRule, TreeSpace};
 pub use steps::{load_link, load_word, replace_link};
+pub use exchange::replace_base;
 pub use view::Knowledge;
 
 #[cfg(test)]

@@ -1,5 +1,5 @@
 //! What each step of the tree tells.
-ghost use Rattle.ca_node.specs.Told.{Leads, Reads, front_of, learnt};
+ghost use Rattle.ca_node.specs.Told.{Leads, Reads, Update, Updates, no_update, front_of, learnt};
 ghost use Rattle.ca_node.specs.TreeView.{blank};
 ghost use Rattle.ca_rows.specs.Closed.{joined};
 ghost use Rattle.ca_rows.specs.Rule.{fresh, no_sizes};
@@ -7,6 +7,7 @@ ghost use Rattle.ca_rows.specs.Rule.{fresh, no_sizes};
 use crate::view::Knowledge;
 use atomic_table::{Join, Play, Split};
 use ca_rows::View;
+use std::marker::{Brand, PhantomData};
 
 /// A load of the root link.
 pub struct Lead;
@@ -38,4 +39,22 @@ impl Join<View<Knowledge>> for Learn {
     ghost both = { joined learnt };
 
     ghost spent = { fresh no_sizes 0 (blank 0) };
+}
+
+/// Which update a step carries out. It exists in proofs alone.
+pub trait Intent {
+    ghost update: { Update };
+}
+
+impl Intent for Brand {
+    ghost update = { no_update };
+}
+
+/// The exchange of the root link that carries out an update.
+pub struct Replace<K> {
+    updating: PhantomData<K>,
+}
+
+impl<K: Intent> Play<(), View<Knowledge>> for Replace<K> {
+    ghost then = { λ st m n m'. Updates K.update st m n m' };
 }
