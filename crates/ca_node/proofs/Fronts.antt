@@ -53,7 +53,8 @@ longer_second a b = by_bool (nat_lt (length a) (length b))
 -- Where both are beginnings of a history, so is it, and the first is its beginning.
 longer_is : (h a b : History) → StartsWith h a → StartsWith h b → StartsWith h (longer a b) × StartsWith (longer a b) a
 longer_is h a b s t = by_bool (nat_lt (length a) (length b))
-    (λ e. subst (λ (c : Bool). StartsWith h (cond c b a) × StartsWith (cond c b a) a) (sym e) (t, two_first a b s.0 t.0 (sym s.1 ∙ t.1) (let l = less_is (length a) (length b) e in omega arith)))
+    (λ e. subst (λ (c : Bool). StartsWith h (cond c b a) × StartsWith (cond c b a) a) (sym e)
+    (t, two_first a b s.0 t.0 (sym s.1 ∙ t.1) (let l = less_is (length a) (length b) e in omega arith)))
     (λ e. subst (λ (c : Bool). StartsWith h (cond c b a) × StartsWith (cond c b a) a) (sym e) (s, ([], sym (append-nil a))))
 
 -- A note of a pass that learnt is one that it had.
@@ -80,13 +81,15 @@ tree_learning = record {
         no_ways = k.no_ways;
       } in
       seat_changed z made words us j w (blank 0) g (set_else uppers i j u' ne ∙ there) (λ lo. absurd (omega arith))
-      (knows_nothing z.rows made words (set us j (blank 0)) g.history j 0 (omega arith) (λ lo. absurd (omega arith)) (none_made made 0 g.history g.by_passes (inl refl)));
+      (knows_nothing z.rows made words (set us j (blank 0)) g.history j 0 (omega arith) (λ lo. absurd (omega arith))
+      (none_made made 0 g.history g.by_passes (inl refl)));
   closing_notes = λ words v w r n. inl (learnt_notes words v w r n);
   spent_notes = λ words r. no_notes words (blank 0) r refl refl;
 }
 
 -- A front more.
-front_more : (z : Sizes) (made : ℕ) (words : List ℕ) (uppers : List TreeView) (id : ℕ) (u : TreeView) → IsTree z made words uppers → get_elem? uppers id ≡ some u → IsTree z made words (uppers ++ front_of u ∷ [])
+front_more : (z : Sizes) (made : ℕ) (words : List ℕ) (uppers : List TreeView) (id : ℕ) (u : TreeView) → IsTree z made words uppers
+    → get_elem? uppers id ≡ some u → IsTree z made words (uppers ++ front_of u ∷ [])
 front_more z made words uppers id u f at = let next : List TreeView = uppers ++ front_of u ∷ [] in record {
   usable = f.usable;
   history = f.history;
@@ -101,7 +104,9 @@ front_more z made words uppers id u f at = let next : List TreeView = uppers ++ 
   each_seat = λ j v here. ⊎_elim
       (λ (was : get_elem? uppers j ≡ some v). let k = f.each_seat j v was in record {
         made_before = k.made_before;
-        alone = λ lo i y there same. ⊎_elim (λ (old : get_elem? uppers i ≡ some y). k.alone lo i y old same) (λ (t : (i ≡ length uppers) × (front_of u ≡ y)). let n : 0 ≡ y.number = ap (λ (x : TreeView). x.number) t.1 in absurd (omega arith)) (at_place uppers (front_of u) y i there);
+        alone = λ lo i y there same. ⊎_elim (λ (old : get_elem? uppers i ≡ some y). k.alone lo i y old same)
+            (λ (t : (i ≡ length uppers) × (front_of u ≡ y)). let n : 0 ≡ y.number = ap (λ (x : TreeView). x.number) t.1 in absurd (omega arith))
+            (at_place uppers (front_of u) y i there);
         seen_first = k.seen_first;
         since_first = k.since_first;
         lawful = k.lawful;
@@ -130,5 +135,6 @@ module _ (z : Sizes) where
   fronts id v s r at = forks IsLinked IsLent IsNoted IsTree z s r id v at (front_of v.upper) (λ q. no_notes s.words (front_of v.upper) q refl refl)
       (front_more z r.made s.words (map upper_of s.views) id v.upper r.above (at_map upper_of s.views id v at))
 
-  pub learns : (id : ℕ) (v : View TreeView) (seat : ℕ) (w : View TreeView) → v.pin.pinned ≡ false → w.pin.pinned ≡ false → w.made ≡ 0 → Joins (R z) id v seat w (joined learnt v w) (fresh no_sizes 0 (blank 0))
+  pub learns : (id : ℕ) (v : View TreeView) (seat : ℕ) (w : View TreeView) → v.pin.pinned ≡ false → w.pin.pinned ≡ false → w.made ≡ 0
+      → Joins (R z) id v seat w (joined learnt v w) (fresh no_sizes 0 (blank 0))
   learns id v seat w out out' none_made_is = joins IsLinked IsLent IsNoted IsTree learnt (blank 0) tree_learning z id v w seat out out' (λ _ _. none_made_is)

@@ -42,7 +42,8 @@ pub entries_stay : (pass : ℕ) (h t : History) (log : List Entry) → AreEntrie
 entries_stay pass h t [] e = tt
 entries_stay pass h t (x ∷ xs) e = (entry_stays pass h t x.0 x.1 (effect x.0) e.0, entries_stay pass h t xs e.1)
 
-entries_more : (pass : ℕ) (h : History) (log : List Entry) (x : Entry) → AreEntries pass h log → IsEntryAt pass h x.0 x.1 (effect x.0) → AreEntries pass h (log ++ x ∷ [])
+entries_more : (pass : ℕ) (h : History) (log : List Entry) (x : Entry) → AreEntries pass h log → IsEntryAt pass h x.0 x.1 (effect x.0)
+    → AreEntries pass h (log ++ x ∷ [])
 entries_more pass h [] x e n = (n, tt)
 entries_more pass h (y ∷ ys) x e n = (e.0, entries_more pass h ys x e.1 n)
 
@@ -55,7 +56,8 @@ edits_own : (n : ℕ) (e : Edit) (h : History) → edits_of_pass n (h ++ (n, e) 
 edits_own n e [] = ap (λ c. if c then e ∷ [] else []) (eq-eqb n n refl)
 edits_own n e (x ∷ xs) = dite (ℕ_discrete x.0 n)
     (λ f. ap (λ c. if c then x.1 ∷ edits_of_pass n (xs ++ (n, e) ∷ []) else edits_of_pass n (xs ++ (n, e) ∷ [])) (eq-eqb x.0 n f)
-    ∙ (ap (λ (es : List Edit). x.1 ∷ es) (edits_own n e xs) ∙ sym (ap (λ c. (if c then x.1 ∷ edits_of_pass n xs else edits_of_pass n xs) ++ e ∷ []) (eq-eqb x.0 n f))))
+    ∙ (ap (λ (es : List Edit). x.1 ∷ es) (edits_own n e xs)
+    ∙ sym (ap (λ c. (if c then x.1 ∷ edits_of_pass n xs else edits_of_pass n xs) ++ e ∷ []) (eq-eqb x.0 n f))))
     (λ m. ap (λ c. if c then x.1 ∷ edits_of_pass n (xs ++ (n, e) ∷ []) else edits_of_pass n (xs ++ (n, e) ∷ [])) (ne_eqb x.0 n m)
     ∙ (edits_own n e xs ∙ sym (ap (λ c. (if c then x.1 ∷ edits_of_pass n xs else edits_of_pass n xs) ++ e ∷ []) (ne_eqb x.0 n m))))
 
@@ -67,7 +69,8 @@ log_more [] x = append_none (effect x.0)
     append_none (e ∷ es) = ap (λ xs. e ∷ xs) (append_none es)
 log_more (y ∷ ys) x = ap (λ es. effect y.0 ++ es) (log_more ys x) ∙ sym (append_assoc (effect y.0) (edits_of_log ys) (effect x.0))
 
-places_more : (low top : ℕ) (log : List Entry) (x : Entry) → low ≤ top → PlacesRise low log → ArePast top log → IsPlaceFrom top x.1 (effect x.0) → PlacesRise low (log ++ x ∷ [])
+places_more : (low top : ℕ) (log : List Entry) (x : Entry) → low ≤ top → PlacesRise low log → ArePast top log → IsPlaceFrom top x.1 (effect x.0)
+    → PlacesRise low (log ++ x ∷ [])
 places_more low top [] x l p a n = (weaker low top x.1 (effect x.0) l n, tt)
   where
     weaker : (low top p : ℕ) (es : List Edit) → low ≤ top → IsPlaceFrom top p es → IsPlaceFrom low p es
@@ -81,20 +84,36 @@ past_more top (y ∷ ys) x a l = (a.0, past_more top ys x a.1 l)
 
 -- Another pass's edit keeps a log lawful.
 pub others_lawful : (pass n : ℕ) (e : Edit) (h : History) (log : List Entry) → n ≢ pass → IsLawful pass h log → IsLawful pass (h ++ (n, e) ∷ []) log
-others_lawful pass n e h log other l = record { entries = entries_stay pass h ((n, e) ∷ []) log l.entries; places = l.places; edits = edits_else pass n e h other ∙ l.edits }
-
--- A pass's own edit, with the entry of the call that made it.
-pub own_lawful : (n : ℕ) (e : Edit) (event : Event) (h : History) (log : List Entry) → effect event ≡ e ∷ [] → IsAnswer event (after h []) → ArePast (length h) log → IsLawful n h log
-    → IsLawful n (h ++ (n, e) ∷ []) (log ++ (event, length h + 1) ∷ [])
-own_lawful n e event h log does answer past l = let whole : History = h ++ (n, e) ∷ [] in let long = length-append h ((n, e) ∷ []) in let back : length h ≡ length h + 1 - 1 = omega arith in record {
-  entries = entries_more n whole log (event, length h + 1) (entries_stay n h ((n, e) ∷ []) log l.entries)
-      (subst (IsEntryAt n whole event (length h + 1)) (sym does) (omega arith, omega arith, subst (λ i. slice_get whole i ≡ Some (n, e)) back (get_last h [] (n, e)), subst (λ i. IsAnswer event (state whole i)) back (subst (IsAnswer event) (sym (state_there h ((n, e) ∷ []))) answer)));
-  places = places_more 0 (length h) log (event, length h + 1) (omega arith) l.places past (subst (IsPlaceFrom (length h) (length h + 1)) (sym does) (omega arith));
-  edits = edits_own n e h ∙ (ap (λ es. es ++ e ∷ []) l.edits ∙ sym (log_more log (event, length h + 1) ∙ ap (λ es. edits_of_log log ++ es) does));
+others_lawful pass n e h log other l = record {
+  entries = entries_stay pass h ((
+    n,
+    e,
+  ) ∷ []) log l.entries;
+  places = l.places;
+  edits = edits_else pass n e h other ∙ l.edits;
 }
 
+-- A pass's own edit, with the entry of the call that made it.
+pub own_lawful : (n : ℕ) (e : Edit) (event : Event) (h : History) (log : List Entry) → effect event ≡ e ∷ [] → IsAnswer event (after h [])
+    → ArePast (length h) log → IsLawful n h log
+    → IsLawful n (h ++ (n, e) ∷ []) (log ++ (event, length h + 1) ∷ [])
+own_lawful n e event h log does answer past l = let whole : History = h ++ (n, e) ∷ [] in let long = length-append h ((n, e) ∷ []) in
+    let back : length h ≡ length h + 1 - 1 = omega arith in record {
+      entries = entries_more n whole log (event, length h + 1) (entries_stay n h ((n, e) ∷ []) log l.entries)
+          (subst (IsEntryAt n whole event (length h + 1)) (sym does) (
+            omega arith,
+            omega arith,
+            subst (λ i. slice_get whole i ≡ Some (n, e)) back (get_last h [] (n, e)),
+            subst (λ i. IsAnswer event (state whole i)) back (subst (IsAnswer event) (sym (state_there h ((n, e) ∷ []))) answer),
+          ));
+      places = places_more 0 (length h) log (event, length h + 1)
+          (omega arith) l.places past (subst (IsPlaceFrom (length h) (length h + 1)) (sym does) (omega arith));
+      edits = edits_own n e h ∙ (ap (λ es. es ++ e ∷ []) l.edits ∙ sym (log_more log (event, length h + 1) ∙ ap (λ es. edits_of_log log ++ es) does));
+    }
+
 -- A call that edits nothing, at a place that the pass has seen.
-pub read_lawful : (n : ℕ) (event : Event) (h : History) (p : ℕ) (log : List Entry) → effect event ≡ [] → p ≤ length h → IsAnswer event (state h p) → ArePast p log → IsLawful n h log → IsLawful n h (log ++ (event, p) ∷ [])
+pub read_lawful : (n : ℕ) (event : Event) (h : History) (p : ℕ) (log : List Entry) → effect event ≡ [] → p ≤ length h → IsAnswer event (state h p)
+    → ArePast p log → IsLawful n h log → IsLawful n h (log ++ (event, p) ∷ [])
 read_lawful n event h p log does l answer past k = record {
   entries = entries_more n h log (event, p) k.entries (subst (IsEntryAt n h event p) (sym does) (l, answer));
   places = places_more 0 p log (event, p) (omega arith) k.places past (subst (IsPlaceFrom p p) (sym does) (omega arith));

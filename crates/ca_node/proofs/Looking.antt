@@ -53,7 +53,8 @@ module _ (z : Sizes) where
         above = subst (IsTree z r.made s.words) (sym (map-set upper_of s.views id d')) above;
       })
 
-  pub knows_upper : (s : State (Unit {0}) (View TreeView)) (r : R s) (id : ℕ) (d : View TreeView) → get_elem? s.views id ≡ some d → Knows z.rows r.made s.words (map upper_of s.views) r.above.history id d.upper
+  pub knows_upper : (s : State (Unit {0}) (View TreeView)) (r : R s) (id : ℕ) (d : View TreeView) → get_elem? s.views id ≡ some d
+      → Knows z.rows r.made s.words (map upper_of s.views) r.above.history id d.upper
   knows_upper s r id d at = r.above.each_seat id d.upper (at_map upper_of s.views id d at)
 
 -- A member of a list with one more in front.
@@ -79,8 +80,11 @@ pub further : (a b c : History) → StartsWith a b → StartsWith b c → Starts
 further a b c x y = (y.0 ++ x.0, x.1 ∙ (ap (λ h. h ++ x.0) y.1 ∙ append_assoc c y.0 x.0))
 
 -- A note more: on a row that is linked, and whose items are.
-pub new_notes : (words : List ℕ) (u : TreeView) (more : History) (note : Note) → IsLinked words note.row → (IsBaseRow note.its → (r : ℕ) → IsIn r (items note.its) → IsLinked words r) → u.ways ≡ [] → (row : ℕ) → IsNoted words (led u more note) row → IsNoted words u row ⊎ IsLinked words row
-new_notes words u more note here named empty _ (by_note n row i e) = ⊎_elim (λ (same : note ≡ n). inr (subst (IsLinked words) (ap (λ (x : Note). x.row) same ∙ e) here)) (λ (o : IsIn n u.notes). inl (by_note n row o e)) (in_more note n u.notes i)
+pub new_notes : (words : List ℕ) (u : TreeView) (more : History) (note : Note) → IsLinked words note.row
+    → (IsBaseRow note.its → (r : ℕ) → IsIn r (items note.its) → IsLinked words r) → u.ways ≡ [] → (row : ℕ) → IsNoted words (led u more note) row
+    → IsNoted words u row ⊎ IsLinked words row
+new_notes words u more note here named empty _ (by_note n row i e) = ⊎_elim (λ (same : note ≡ n). inr (subst (IsLinked words)
+    (ap (λ (x : Note). x.row) same ∙ e) here)) (λ (o : IsIn n u.notes). inl (by_note n row o e)) (in_more note n u.notes i)
 new_notes words u more note here named empty _ (by_item n row i b m) = ⊎_elim
     (λ (same : note ≡ n). inr (named (subst (λ (x : Note). IsBaseRow x.its) (sym same) b) row (subst (λ (x : Note). IsIn row (items x.its)) (sym same) m)))
     (λ (o : IsIn n u.notes). inl (by_item n row o b m)) (in_more note n u.notes i)
@@ -101,7 +105,14 @@ module _ (z : Sizes) (made : ℕ) (words : List ℕ) (uppers : List TreeView) (f
   root_note = record { row = root words; its = row_at words (root words); objects = map (λ r. row_at words r) (items (row_at words (root words))) }
 
   pub root_true : IsTrue z.rows words root_note
-  root_true = let b = f.base in record { some_row = b.some_row; in_range = b.in_range; spells = refl; named = λ _ r i. let o = b.are_objects r i in (o.0, o.1); objects_are = λ _. refl }
+  root_true = let b = f.base in record {
+    some_row = b.some_row;
+    in_range = b.in_range;
+    spells = refl;
+    named = λ _ r i. let o = b.are_objects r i in
+        (o.0, o.1);
+    objects_are = λ _. refl;
+  }
 
   pub root_base : IsBaseNote z root_note
   root_base = let b = f.base in record {
@@ -124,7 +135,8 @@ module _ (z : Sizes) (made : ℕ) (words : List ℕ) (uppers : List TreeView) (f
   root_map = twice (items (row_at words (root words))) ∙ f.map_is
 
   -- Of a row that was shown, a load gives the word that was shown.
-  pub shown_word : (j : ℕ) (u : TreeView) → Knows z.rows made words uppers f.history j u → (row index : ℕ) (its : List ℕ) → index < 136 → IsShown u row its → get_or words (136 * row + index) 0 ≡ get_or its index 0
+  pub shown_word : (j : ℕ) (u : TreeView) → Knows z.rows made words uppers f.history j u → (row index : ℕ) (its : List ℕ) → index < 136 → IsShown u row its
+      → get_or words (136 * row + index) 0 ≡ get_or its index 0
   shown_word j u k row index its inside shown = sym (word_at words row index inside) ∙ ap (λ (x : List ℕ). get_or x index 0) (⊎_elim
       (λ (t : (shown.0.row ≡ row) × (shown.0.its ≡ its)). ap (row_at words) (sym t.0) ∙ ((k.notes shown.0 shown.1).spells ∙ t.1))
       (λ (t : IsBaseRow shown.0.its × ((i : ℕ) × (get_elem? (items shown.0.its) i ≡ some row) × (get_elem? shown.0.objects i ≡ some its))).
@@ -134,7 +146,8 @@ module _ (z : Sizes) (made : ℕ) (words : List ℕ) (uppers : List TreeView) (f
 
 module _ (z : Sizes) where
   pub leads : (slots id : ℕ) (me : MyTree) → me.0.pin.pinned ≡ true → Allows (R z) slots id me 130 (λ x. x) (Leads (step slots 130 0 0 none) me)
-  leads slots id me is_pinned s r _ at _ = let f = r.above in let d = me.0 in let k = knows_upper z s r id d at in let us : List TreeView = map upper_of s.views in
+  leads slots id me is_pinned s r _ at _ = let f = r.above in let d = me.0 in let k = knows_upper z s r id d at in
+      let us : List TreeView = map upper_of s.views in
       let note = root_note z r.made s.words us f in let u' : TreeView = led d.upper k.seen_first.0 note in
       let whole : f.history ≡ d.upper.seen ++ k.seen_first.0 = k.seen_first.1 in
       let first = at_map upper_of s.views id d at in
@@ -144,15 +157,19 @@ module _ (z : Sizes) where
         record d { upper = u' },
         keeps,
         tt,
-        looked z s r 130 id d u' at (λ row n. ⊎_elim (λ o. inl o) (λ l. inr (l, is_pinned)) (new_notes s.words d.upper k.seen_first.0 note (by_root (root s.words) refl) (λ b x i. by_base (root s.words) x (by_root (root s.words) refl) b i) k.no_ways row n))
+        looked z s r 130 id d u' at (λ row n. ⊎_elim (λ o. inl o) (λ l. inr (l, is_pinned))
+            (new_notes s.words d.upper k.seen_first.0 note (by_root (root s.words) refl)
+            (λ b x i. by_base (root s.words) x (by_root (root s.words) refl) b i) k.no_ways row n))
             (seat_changed z r.made s.words us id d.upper u' f first (λ _. refl) record {
               made_before = k'.made_before;
               alone = k'.alone;
               seen_first = subst (StartsWith f.history) whole (starts_whole f.history);
               since_first = subst (λ (h : History). StartsWith h d.upper.since) whole (further f.history d.upper.seen d.upper.since k.seen_first k.since_first);
               lawful = k'.lawful;
-              past = subst (λ (h : History). ArePast (length h) d.upper.log) whole (longer_past (length d.upper.seen) (length f.history) d.upper.log longer k.past);
-              notes = λ n i. ⊎_elim (λ (e : note ≡ n). subst (IsTrue z.rows s.words) e (root_true z r.made s.words us f)) (λ (o : IsIn n d.upper.notes). k.notes n o) (in_more note n d.upper.notes i);
+              past = subst (λ (h : History). ArePast (length h) d.upper.log) whole (longer_past (length d.upper.seen)
+                  (length f.history) d.upper.log longer k.past);
+              notes = λ n i. ⊎_elim (λ (e : note ≡ n). subst (IsTrue z.rows s.words) e (root_true z r.made s.words us f))
+                  (λ (o : IsIn n d.upper.notes). k.notes n o) (in_more note n d.upper.notes i);
               no_ways = k'.no_ways;
             }),
         (
@@ -166,7 +183,8 @@ module _ (z : Sizes) where
                 root_base z r.made s.words us f,
                 record {
                   lawful = subst (λ (h : History). IsLawful d.upper.number h d.upper.log) whole k.lawful;
-                  past = subst (λ (h : History). ArePast (length h) d.upper.log) whole (longer_past (length d.upper.seen) (length f.history) d.upper.log longer k.past);
+                  past = subst (λ (h : History). ArePast (length h) d.upper.log) whole (longer_past (length d.upper.seen)
+                      (length f.history) d.upper.log longer k.past);
                   edits = subst (AreEdits z.keypos) whole f.edits;
                   by_passes = subst (AreByPasses 64) whole (fewer_passes r.made 64 f.history few f.by_passes);
                 },
@@ -185,8 +203,10 @@ module _ (z : Sizes) where
       )
 
   -- The same load, which ends a call that edits nothing.
-  pub reads_last : (slots id : ℕ) (me : MyTree) (i : ℕ) (event : Event) → IsReadNow event me.0.upper → Allows (R z) slots id me i (λ x. x) (ReadsLast event (step slots i 0 0 none) me)
-  reads_last slots id me i event now s r _ at _ = let f = r.above in let d = me.0 in let k = knows_upper z s r id d at in let us : List TreeView = map upper_of s.views in
+  pub reads_last : (slots id : ℕ) (me : MyTree) (i : ℕ) (event : Event) → IsReadNow event me.0.upper
+      → Allows (R z) slots id me i (λ x. x) (ReadsLast event (step slots i 0 0 none) me)
+  reads_last slots id me i event now s r _ at _ = let f = r.above in let d = me.0 in let k = knows_upper z s r id d at in
+      let us : List TreeView = map upper_of s.views in
       let first = at_map upper_of s.views id d at in let u' : TreeView = entered d.upper event in let p : ℕ = length d.upper.seen in
       let low = starts_shorter f.history d.upper.seen k.seen_first in
       let k' = relisted z.rows r.made s.words us (set us id u') f.history id d.upper (numbered us id d.upper u' first (λ _. refl)) k in
@@ -194,37 +214,40 @@ module _ (z : Sizes) where
         record d { upper = u' },
         keeps,
         tt,
-        looked z s r i id d u' at (λ row n. inl (entered_notes s.words d.upper event row n)) (seat_changed z r.made s.words us id d.upper u' f first (λ _. refl) record {
-          made_before = k'.made_before;
-          alone = k'.alone;
-          seen_first = k'.seen_first;
-          since_first = k'.since_first;
-          lawful = read_lawful d.upper.number event f.history p d.upper.log now.0 low (subst (IsAnswer event) (sym there) now.1) k.past k.lawful;
-          past = past_more p d.upper.log (event, p) k.past (omega arith);
-          notes = k'.notes;
-          no_ways = k'.no_ways;
-        }),
+        looked z s r i id d u' at (λ row n. inl (entered_notes s.words d.upper event row n))
+            (seat_changed z r.made s.words us id d.upper u' f first (λ _. refl) record {
+              made_before = k'.made_before;
+              alone = k'.alone;
+              seen_first = k'.seen_first;
+              since_first = k'.since_first;
+              lawful = read_lawful d.upper.number event f.history p d.upper.log now.0 low (subst (IsAnswer event) (sym there) now.1) k.past k.lawful;
+              past = past_more p d.upper.log (event, p) k.past (omega arith);
+              notes = k'.notes;
+              no_ways = k'.no_ways;
+            }),
         (refl, λ row index its is inside shown. ap (λ y. get_or s.words y 0) is ∙ shown_word z r.made s.words us f id d.upper k row index its inside shown),
       )
 
   -- A load that ends a refused call.
-  pub refuses : (slots id : ℕ) (me : MyTree) (i : ℕ) (one_more : Counts → Counts) → Allows (R z) slots id me i (λ x. x) (Refuses one_more (step slots i 0 0 none) me)
+  pub refuses : (slots id : ℕ) (me : MyTree) (i : ℕ) (one_more : Counts → Counts)
+      → Allows (R z) slots id me i (λ x. x) (Refuses one_more (step slots i 0 0 none) me)
   refuses slots id me i one_more s r _ at _ = let f = r.above in let d = me.0 in let us : List TreeView = map upper_of s.views in
       let first = at_map upper_of s.views id d at in let u' : TreeView = record d.upper { counts = one_more d.upper.counts } in
       let k = relisted z.rows r.made s.words us (set us id u') f.history id d.upper (numbered us id d.upper u' first (λ _. refl)) (knows_upper z s r id d at) in (
         record d { upper = u' },
         keeps,
         tt,
-        looked z s r i id d u' at (λ row n. inl (notes_by s.words s.words d.upper u' row k.no_ways (λ note j. j) n)) (seat_changed z r.made s.words us id d.upper u' f first (λ _. refl) record {
-          made_before = k.made_before;
-          alone = k.alone;
-          seen_first = k.seen_first;
-          since_first = k.since_first;
-          lawful = k.lawful;
-          past = k.past;
-          notes = k.notes;
-          no_ways = k.no_ways;
-        }),
+        looked z s r i id d u' at (λ row n. inl (notes_by s.words s.words d.upper u' row k.no_ways (λ note j. j) n))
+            (seat_changed z r.made s.words us id d.upper u' f first (λ _. refl) record {
+              made_before = k.made_before;
+              alone = k.alone;
+              seen_first = k.seen_first;
+              since_first = k.since_first;
+              lawful = k.lawful;
+              past = k.past;
+              notes = k.notes;
+              no_ways = k.no_ways;
+            }),
         refl,
       )
 

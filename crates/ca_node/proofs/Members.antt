@@ -44,18 +44,22 @@ taken_here (x ∷ xs) claims r i = dite (ℕ_discrete r x)
 
 pub taken_else : (rows : List ℕ) (claims : List Claimed) (r : ℕ) → ¬ IsIn r rows → claim_of (taken_out rows claims) r ≡ claim_of claims r
 taken_else [] claims r n = refl
-taken_else (x ∷ xs) claims r n = claimed_else (taken_out xs claims) x r Unlinked (λ e. n (0, ap some (sym e))) ∙ taken_else xs claims r (λ i. n (in_rest r x xs i))
+taken_else (x ∷ xs) claims r n = claimed_else (taken_out xs claims) x r Unlinked (λ e. n (0, ap some (sym e)))
+    ∙ taken_else xs claims r (λ i. n (in_rest r x xs i))
 
 -- Of two lists that are as long, one has something where the other has.
-pub other_has : {A B : Type 0} (xs : List A) (ys : List B) (k : ℕ) (a : A) → length ys ≡ length xs → get_elem? xs k ≡ some a → (b : B) × (get_elem? ys k ≡ some b)
+pub other_has : {A B : Type 0} (xs : List A) (ys : List B) (k : ℕ) (a : A) → length ys ≡ length xs → get_elem? xs k ≡ some a → (b : B)
+    × (get_elem? ys k ≡ some b)
 other_has [] ys k a e here = absurd (some-ne-none a (sym here))
 other_has (x ∷ xs) [] k a e here = absurd (omega arith)
 other_has (x ∷ xs) (y ∷ ys) zero a e here = (y, refl)
 other_has (x ∷ xs) (y ∷ ys) (suc k) a e here = other_has xs ys k a (omega arith) here
 
 -- A list is what a function gives on another one, if it is so at each place.
-pub map_is_list : {A B : Type 0} (f : A → B) (xs : List A) (ys : List B) → length ys ≡ length xs → ((k : ℕ) (a : A) (b : B) → get_elem? xs k ≡ some a → get_elem? ys k ≡ some b → f a ≡ b) → map f xs ≡ ys
+pub map_is_list : {A B : Type 0} (f : A → B) (xs : List A) (ys : List B) → length ys ≡ length xs
+    → ((k : ℕ) (a : A) (b : B) → get_elem? xs k ≡ some a → get_elem? ys k ≡ some b → f a ≡ b) → map f xs ≡ ys
 map_is_list f [] [] e each = refl
 map_is_list f [] (y ∷ ys) e each = absurd (omega arith)
 map_is_list f (x ∷ xs) [] e each = absurd (omega arith)
-map_is_list f (x ∷ xs) (y ∷ ys) e each = ap (λ z. z ∷ map f xs) (each 0 x y refl refl) ∙ ap (λ zs. y ∷ zs) (map_is_list f xs ys (omega arith) (λ k a b. each (suc k) a b))
+map_is_list f (x ∷ xs) (y ∷ ys) e each = ap (λ z. z ∷ map f xs) (each 0 x y refl refl)
+    ∙ ap (λ zs. y ∷ zs) (map_is_list f xs ys (omega arith) (λ k a b. each (suc k) a b))

@@ -42,7 +42,8 @@ passes_more : (made : ℕ) (h : History) (n : ℕ) (e : Edit) → AreByPasses ma
 passes_more made [] n e a lo hi = (lo, hi, tt)
 passes_more made (x ∷ xs) n e a lo hi = (a.0, a.1, passes_more made xs n e a.2 lo hi)
 
-module _ (z : Sizes) (s : State (Unit {0}) (View TreeView)) (r : R z s) (id : ℕ) (me : MyTree) (at : get_elem? s.views id ≡ some me.0) (new : ℕ) (x : Update) (u : IsUpdate z me new x) (hit : root s.words ≡ x.old.row) where
+module _ (z : Sizes) (s : State (Unit {0}) (View TreeView)) (r : R z s) (id : ℕ) (me : MyTree) (at : get_elem? s.views id ≡ some me.0) (new : ℕ) (x : Update)
+    (u : IsUpdate z me new x) (hit : root s.words ≡ x.old.row) where
   abbrev d : View TreeView
   d = me.0
 
@@ -53,8 +54,10 @@ module _ (z : Sizes) (s : State (Unit {0}) (View TreeView)) (r : R z s) (id : �
   words' = set s.words 130 new
 
   -- What the seat holds: a row in range, with these words, that nobody can reach.
-  held_row : (row : ℕ) (its : List ℕ) → claim_of d.claims row ≡ some (Holds its) → (0 < row) × (row ≤ z.rows) × (row_at s.words row ≡ its) × ¬ IsLinked s.words row
-  held_row row its e = let o = owned IsLinked IsLent IsNoted IsTree tree_frames z s r id d at row (Holds its) e in let long = row_long s.words z.rows row r.wide o.1 in let long' = o.3.0 in
+  held_row : (row : ℕ) (its : List ℕ) → claim_of d.claims row ≡ some (Holds its) → (0 < row) × (row ≤ z.rows) × (row_at s.words row ≡ its)
+      × ¬ IsLinked s.words row
+  held_row row its e = let o = owned IsLinked IsLent IsNoted IsTree tree_frames z s r id d at row (Holds its) e in
+      let long = row_long s.words z.rows row r.wide o.1 in let long' = o.3.0 in
       (o.0, o.1, same_number_lists (row_at s.words row) its (long ∙ sym long') (λ k l. word_at s.words row k (omega arith) ∙ o.3.1 k (omega arith)), o.3.2.0)
 
   new_row : (0 < new) × (new ≤ z.rows) × (row_at s.words new ≡ x.its) × ¬ IsLinked s.words new
@@ -92,11 +95,14 @@ module _ (z : Sizes) (s : State (Unit {0}) (View TreeView)) (r : R z s) (id : �
   old_item row i = by_base (root s.words) row root_linked f.base.is_base (subst (λ its. IsIn row (items its)) (sym old_its) i)
 
   -- An item of the new base: its words, and that it is an object in range.
-  item_is : (k row : ℕ) (its : List ℕ) → get_elem? (items x.its) k ≡ some row → get_elem? x.objects k ≡ some its → (0 < row) × (row ≤ z.rows) × (row_at s.words row ≡ its) × IsObjectRow its
+  item_is : (k row : ℕ) (its : List ℕ) → get_elem? (items x.its) k ≡ some row → get_elem? x.objects k ≡ some its → (0 < row) × (row ≤ z.rows)
+      × (row_at s.words row ≡ its) × IsObjectRow its
   item_is k row its a b = ⊎_elim
-      (λ (o : (i : ℕ) × (get_elem? (items x.old.its) i ≡ some row) × (get_elem? x.old.objects i ≡ some its)). let range = old_true.named u.old_base row (o.0, o.1) in
+      (λ (o : (i : ℕ) × (get_elem? (items x.old.its) i ≡ some row)
+      × (get_elem? x.old.objects i ≡ some its)). let range = old_true.named u.old_base row (o.0, o.1) in
       let there = at_map (λ c. row_at s.words c) (items x.old.its) o.0 row o.1 in
-      let same : row_at s.words row ≡ its = some-injective (row_at s.words row) its (sym there ∙ (ap (λ xs. get_elem? xs o.0) (old_true.objects_are u.old_base) ∙ o.2)) in
+      let same : row_at s.words row ≡ its = some-injective (row_at s.words row) its (sym there
+      ∙ (ap (λ xs. get_elem? xs o.0) (old_true.objects_are u.old_base) ∙ o.2)) in
       (range.0, range.1, same, subst IsObjectRow same (f.base.are_objects row (subst (λ w. IsIn row (items w)) (sym old_its) (o.0, o.1))).2))
       (λ (o : IsIn row x.comes × (claim_of d.claims row ≡ some (Holds its)) × IsObjectRow its). let h = held_row row its o.1 in (h.0, h.1, h.2, o.2))
       (u.are_objects k row its a b)
@@ -122,14 +128,17 @@ module _ (z : Sizes) (s : State (Unit {0}) (View TreeView)) (r : R z s) (id : �
     level_is = subst (λ its. level its ≡ 0) (sym new_its) u.level_is;
     few = subst (λ its. count its ≤ z.leaf) (sym new_its) u.few;
     unmarked = subst (λ its. mark its ≡ 0) (sym new_its) u.unmarked;
-    are_objects = λ row i. let w = words_of row (subst (λ its. IsIn row (items its)) new_its i) in (w.1, w.2, subst IsObjectRow (sym (row_stays row w.1 w.2 ∙ w.3)) w.4);
+    are_objects = λ row i. let w = words_of row (subst (λ its. IsIn row (items its)) new_its i) in
+        (w.1, w.2, subst IsObjectRow (sym (row_stays row w.1 w.2 ∙ w.3)) w.4);
   }
 
   linked_now : (row : ℕ) → IsLinked words' row → (row ≡ new) ⊎ IsIn row (items x.its)
-  linked_now row l = ⊎_elim (λ (e : row ≡ root words'). inl (e ∙ root')) (λ i. inr (subst (λ its. IsIn row (items its)) (ap (row_at words') root' ∙ new_its) i)) (reached z words' base' row l)
+  linked_now row l = ⊎_elim (λ (e : row ≡ root words'). inl (e ∙ root'))
+      (λ i. inr (subst (λ its. IsIn row (items its)) (ap (row_at words') root' ∙ new_its) i)) (reached z words' base' row l)
 
   linked_was : (row : ℕ) → IsLinked s.words row → (row ≡ x.old.row) ⊎ IsIn row (items x.old.its)
-  linked_was row l = ⊎_elim (λ (e : row ≡ root s.words). inl (e ∙ hit)) (λ i. inr (subst (λ its. IsIn row (items its)) old_its i)) (reached z s.words f.base row l)
+  linked_was row l = ⊎_elim (λ (e : row ≡ root s.words). inl (e ∙ hit)) (λ i. inr (subst (λ its. IsIn row (items its)) old_its i))
+      (reached z s.words f.base row l)
 
   item_now : (row : ℕ) → IsIn row (items x.its) → IsLinked words' row
   item_now row i = by_base new row (by_root new root') (subst IsBaseRow (sym new_its) u.is_base) (subst (λ its. IsIn row (items its)) (sym new_its) i)
@@ -186,11 +195,19 @@ module _ (z : Sizes) (s : State (Unit {0}) (View TreeView)) (r : R z s) (id : �
 
   changed : (row : ℕ) (a : IsIn row ins ⊎ ¬ IsIn row ins) (b : IsIn row outs ⊎ ¬ IsIn row outs) → IsSo row (kind_by row a b)
   unfolding kind_by
-  changed row (inl i) b = (in_linked row i, nothing_lent z words' base' row, held_in row i, taken_else outs (given ins d.claims) row (apart row i) ∙ given_here ins d.claims row i)
+  changed row (inl i) b = (
+    in_linked row i,
+    nothing_lent z words' base' row,
+    held_in row i,
+    taken_else outs (given ins d.claims) row (apart row i)
+        ∙ given_here ins d.claims row i,
+  )
   changed row (inr n) (inl o) = (out_linked row o, nothing_lent z s.words f.base row, out_unlinked row o n, taken_here outs (given ins d.claims) row o)
   changed row (inr n) (inr m) = (
-    (λ l. ⊎_elim (λ (e : row ≡ new). absurd (n (0, ap some (sym e)))) (λ i. ⊎_elim (λ j. old_item row j) (λ j. absurd (n (in_rest row new x.comes j))) (was_item row i)) (linked_now row l)),
-    (λ l. ⊎_elim (λ (e : row ≡ x.old.row). absurd (m (0, ap some (sym e)))) (λ i. ⊎_elim (λ j. item_now row j) (λ j. absurd (m (in_rest row x.old.row x.goes j))) (u.stay row i)) (linked_was row l)),
+    (λ l. ⊎_elim (λ (e : row ≡ new). absurd (n (0, ap some (sym e))))
+        (λ i. ⊎_elim (λ j. old_item row j) (λ j. absurd (n (in_rest row new x.comes j))) (was_item row i)) (linked_now row l)),
+    (λ l. ⊎_elim (λ (e : row ≡ x.old.row). absurd (m (0, ap some (sym e))))
+        (λ i. ⊎_elim (λ j. item_now row j) (λ j. absurd (m (in_rest row x.old.row x.goes j))) (u.stay row i)) (linked_was row l)),
     (λ b. absurd (nothing_lent z words' base' row b)),
     (λ b. absurd (nothing_lent z s.words f.base row b)),
     taken_else outs (given ins d.claims) row m ∙ given_else ins d.claims row n,
@@ -200,8 +217,10 @@ module _ (z : Sizes) (s : State (Unit {0}) (View TreeView)) (r : R z s) (id : �
   new_note = record { row = new; its = x.its; objects = x.objects }
 
   notes_now : (row : ℕ) → IsNoted words' u' row → IsNoted s.words d.upper row ⊎ IsLinked words' row
-  notes_now _ (by_note n row i e) = ⊎_elim (λ (same : new_note ≡ n). inr (by_root row (root' ∙ (ap (λ (y : Note). y.row) same ∙ e)))) (λ (o : IsIn n d.upper.notes). inl (by_note n row o e)) (in_more new_note n d.upper.notes i)
-  notes_now _ (by_item n row i b k) = ⊎_elim (λ (same : new_note ≡ n). inr (item_now row (subst (λ (y : Note). IsIn row (items y.its)) (sym same) k))) (λ (o : IsIn n d.upper.notes). inl (by_item n row o b k)) (in_more new_note n d.upper.notes i)
+  notes_now _ (by_note n row i e) = ⊎_elim (λ (same : new_note ≡ n). inr (by_root row (root' ∙ (ap (λ (y : Note). y.row) same ∙ e))))
+      (λ (o : IsIn n d.upper.notes). inl (by_note n row o e)) (in_more new_note n d.upper.notes i)
+  notes_now _ (by_item n row i b k) = ⊎_elim (λ (same : new_note ≡ n). inr (item_now row (subst (λ (y : Note). IsIn row (items y.its)) (sym same) k)))
+      (λ (o : IsIn n d.upper.notes). inl (by_item n row o b k)) (in_more new_note n d.upper.notes i)
   notes_now _ (by_way way row i e) = absurd (in_nothing way d.upper.ways knows.no_ways i)
   notes_now _ (by_link way row i e) = absurd (in_nothing way d.upper.ways knows.no_ways i)
   notes_now _ (by_link_item way base row i e g k) = absurd (in_nothing way d.upper.ways knows.no_ways i)
@@ -211,17 +230,20 @@ module _ (z : Sizes) (s : State (Unit {0}) (View TreeView)) (r : R z s) (id : �
   in_turn ws (y ∷ ys) = ap (λ zs. pair (row_at ws y) ∷ zs) (in_turn ws ys)
 
   objects_now : map (λ row. row_at words' row) (items x.its) ≡ x.objects
-  objects_now = map_is_list (λ row. row_at words' row) (items x.its) x.objects u.as_many (λ k row its a b. let e = item_is k row its a b in row_stays row e.0 e.1 ∙ e.2)
+  objects_now = map_is_list (λ row. row_at words' row)
+      (items x.its) x.objects u.as_many (λ k row its a b. let e = item_is k row its a b in row_stays row e.0 e.1 ∙ e.2)
 
   -- The old base has the last state.
   old_map : map pair x.old.objects ≡ after f.history []
-  old_map = ap (map pair) (sym (old_true.objects_are u.old_base)) ∙ (sym (in_turn s.words (items x.old.its)) ∙ (ap (λ its. map (λ row. pair (row_at s.words row)) (items its)) (sym old_its) ∙ f.map_is))
+  old_map = ap (map pair) (sym (old_true.objects_are u.old_base))
+      ∙ (sym (in_turn s.words (items x.old.its)) ∙ (ap (λ its. map (λ row. pair (row_at s.words row)) (items its)) (sym old_its) ∙ f.map_is))
 
   abbrev own : ℕ × Edit
   own = (d.upper.number, x.edit)
 
   map_now : objects_in words' (root words') ≡ after (f.history ++ own ∷ []) []
-  map_now = ap (objects_in words') root' ∙ (ap (λ its. map (λ row. pair (row_at words' row)) (items its)) new_its ∙ (in_turn words' (items x.its) ∙ (ap (map pair) objects_now
+  map_now = ap (objects_in words') root' ∙ (ap (λ its. map (λ row. pair (row_at words' row)) (items its)) new_its
+      ∙ (in_turn words' (items x.its) ∙ (ap (map pair) objects_now
       ∙ (u.map_is ∙ (ap (after_edit x.edit) old_map ∙ sym (after_more f.history (own ∷ []) []))))))
 
   note_stays : (note : Note) → IsTrue z.rows s.words note → IsTrue z.rows words' note
@@ -230,11 +252,19 @@ module _ (z : Sizes) (s : State (Unit {0}) (View TreeView)) (r : R z s) (id : �
     in_range = t.in_range;
     spells = row_stays note.row t.some_row t.in_range ∙ t.spells;
     named = t.named;
-    objects_are = λ b. map_same (λ row. row_at words' row) (λ row. row_at s.words row) (items note.its) (λ row i. let o = t.named b row i in row_stays row o.0 o.1) ∙ t.objects_are b;
+    objects_are = λ b. map_same (λ row. row_at words' row) (λ row. row_at s.words row) (items note.its)
+        (λ row i. let o = t.named b row i in row_stays row o.0 o.1) ∙ t.objects_are b;
   }
 
   new_true : IsTrue z.rows words' new_note
-  new_true = record { some_row = new_row.0; in_range = new_row.1; spells = new_its; named = λ _ row i. let w = words_of row i in (w.1, w.2); objects_are = λ _. objects_now }
+  new_true = record {
+    some_row = new_row.0;
+    in_range = new_row.1;
+    spells = new_its;
+    named = λ _ row i. let w = words_of row i in
+        (w.1, w.2);
+    objects_are = λ _. objects_now;
+  }
 
   uppers : List TreeView
   uppers = map upper_of s.views
@@ -246,30 +276,39 @@ module _ (z : Sizes) (s : State (Unit {0}) (View TreeView)) (r : R z s) (id : �
   long = starts_shorter f.history d.upper.seen knows.seen_first
 
   own_knows : Knows z.rows r.made words' (set (map upper_of s.views) id u') (f.history ++ own ∷ []) id u'
-  own_knows = let k' = relisted z.rows r.made s.words (map upper_of s.views) (set (map upper_of s.views) id u') f.history id d.upper (numbered (map upper_of s.views) id d.upper u' first (λ _. refl)) knows in record {
-    made_before = k'.made_before;
-    alone = k'.alone;
-    seen_first = subst (λ (h : History). StartsWith (h ++ own ∷ []) u'.seen) (sym whole) (starts_whole u'.seen);
-    since_first = further u'.seen d.upper.seen d.upper.since (knows.seen_first.0 ++ own ∷ [], append_assoc d.upper.seen knows.seen_first.0 (own ∷ [])) knows.since_first;
-    lawful = subst (λ (h : History). IsLawful d.upper.number (f.history ++ own ∷ []) (d.upper.log ++ (x.event, length h + 1) ∷ [])) whole
-        (own_lawful d.upper.number x.edit x.event f.history d.upper.log u.does (subst (IsAnswer x.event) old_map u.answer) (longer_past (length d.upper.seen) (length f.history) d.upper.log long knows.past) knows.lawful);
-    past = let l = length-append (d.upper.seen ++ knows.seen_first.0) (own ∷ []) in let m = length-append d.upper.seen knows.seen_first.0 in
-        past_more (length u'.seen) d.upper.log (x.event, length (d.upper.seen ++ knows.seen_first.0) + 1) (longer_past (length d.upper.seen) (length u'.seen) d.upper.log (omega arith) knows.past) (omega arith);
-    notes = λ note i. ⊎_elim (λ (e : new_note ≡ note). subst (IsTrue z.rows words') e new_true) (λ (o : IsIn note d.upper.notes). note_stays note (knows.notes note o)) (in_more new_note note d.upper.notes i);
-    no_ways = knows.no_ways;
-  }
+  own_knows = let k' = relisted z.rows r.made s.words (map upper_of s.views)
+      (set (map upper_of s.views) id u') f.history id d.upper (numbered (map upper_of s.views) id d.upper u' first (λ _. refl)) knows in record {
+        made_before = k'.made_before;
+        alone = k'.alone;
+        seen_first = subst (λ (h : History). StartsWith (h ++ own ∷ []) u'.seen) (sym whole) (starts_whole u'.seen);
+        since_first = further u'.seen d.upper.seen d.upper.since (
+          knows.seen_first.0 ++ own ∷ [],
+          append_assoc d.upper.seen knows.seen_first.0 (own ∷ []),
+        ) knows.since_first;
+        lawful = subst (λ (h : History). IsLawful d.upper.number (f.history ++ own ∷ []) (d.upper.log ++ (x.event, length h + 1) ∷ [])) whole
+            (own_lawful d.upper.number x.edit x.event f.history d.upper.log u.does (subst (IsAnswer x.event) old_map u.answer)
+            (longer_past (length d.upper.seen) (length f.history) d.upper.log long knows.past) knows.lawful);
+        past = let l = length-append (d.upper.seen ++ knows.seen_first.0) (own ∷ []) in let m = length-append d.upper.seen knows.seen_first.0 in
+            past_more (length u'.seen) d.upper.log (x.event, length (d.upper.seen ++ knows.seen_first.0) + 1)
+            (longer_past (length d.upper.seen) (length u'.seen) d.upper.log (omega arith) knows.past) (omega arith);
+        notes = λ note i. ⊎_elim (λ (e : new_note ≡ note). subst (IsTrue z.rows words') e new_true)
+            (λ (o : IsIn note d.upper.notes). note_stays note (knows.notes note o)) (in_more new_note note d.upper.notes i);
+        no_ways = knows.no_ways;
+      }
 
-  others_know : (j : ℕ) (v : TreeView) → j ≢ id → get_elem? (map upper_of s.views) j ≡ some v → Knows z.rows r.made words' (set (map upper_of s.views) id u') (f.history ++ own ∷ []) j v
-  others_know j v ne here = let k = relisted z.rows r.made s.words (map upper_of s.views) (set (map upper_of s.views) id u') f.history j v (numbered (map upper_of s.views) id d.upper u' first (λ _. refl)) (f.each_seat j v here) in record {
-    made_before = k.made_before;
-    alone = k.alone;
-    seen_first = further (f.history ++ own ∷ []) f.history v.seen (own ∷ [], refl) k.seen_first;
-    since_first = k.since_first;
-    lawful = others_lawful v.number d.upper.number x.edit f.history v.log (λ same. ne (knows.alone u.is_pass j v here (sym same))) k.lawful;
-    past = k.past;
-    notes = λ note i. note_stays note (k.notes note i);
-    no_ways = k.no_ways;
-  }
+  others_know : (j : ℕ) (v : TreeView) → j ≢ id → get_elem? (map upper_of s.views) j ≡ some v
+      → Knows z.rows r.made words' (set (map upper_of s.views) id u') (f.history ++ own ∷ []) j v
+  others_know j v ne here = let k = relisted z.rows r.made s.words (map upper_of s.views)
+      (set (map upper_of s.views) id u') f.history j v (numbered (map upper_of s.views) id d.upper u' first (λ _. refl)) (f.each_seat j v here) in record {
+        made_before = k.made_before;
+        alone = k.alone;
+        seen_first = further (f.history ++ own ∷ []) f.history v.seen (own ∷ [], refl) k.seen_first;
+        since_first = k.since_first;
+        lawful = others_lawful v.number d.upper.number x.edit f.history v.log (λ same. ne (knows.alone u.is_pass j v here (sym same))) k.lawful;
+        past = k.past;
+        notes = λ note i. note_stays note (k.notes note i);
+        no_ways = k.no_ways;
+      }
 
   tree_now : IsTree z r.made words' (set (map upper_of s.views) id u')
   tree_now = record {
@@ -283,7 +322,8 @@ module _ (z : Sizes) (s : State (Unit {0}) (View TreeView)) (r : R z s) (id : �
     wide = wide';
     base = base';
     map_is = map_now;
-    each_seat = all_seats (Knows z.rows r.made words' (set (map upper_of s.views) id u') (f.history ++ own ∷ [])) (map upper_of s.views) id u' own_knows others_know;
+    each_seat = all_seats (Knows z.rows r.made words' (set (map upper_of s.views) id u') (f.history ++ own ∷ []))
+        (map upper_of s.views) id u' own_knows others_know;
   }
 
   changed_now : (c : ℕ) → IsSo c (kind c)
@@ -293,7 +333,8 @@ module _ (z : Sizes) (s : State (Unit {0}) (View TreeView)) (r : R z s) (id : �
   claims_in : (row : ℕ) (c : Claim) → claim_of (taken_out outs (given ins d.claims)) row ≡ some c → (0 < row) × (row ≤ z.rows)
   claims_in row c e = ⊎_elim (λ o. linked_range z s.words f.base row (out_linked row o))
       (λ m. ⊎_elim (λ i. let h = held_in row i in let w = held_row row h.0 h.1 in (w.0, w.1))
-      (λ n. (r.seat id d at).in_range row c (sym (taken_else outs (given ins d.claims) row m ∙ given_else ins d.claims row n) ∙ e)) (has ins row)) (has outs row)
+      (λ n. (r.seat id d at).in_range row c (sym (taken_else outs (given ins d.claims) row m ∙ given_else ins d.claims row n) ∙ e)) (has ins row))
+      (has outs row)
 
   pub update_step : R z record { words = words'; homes = s.homes; views = set s.views id d' }
   update_step = relinks IsLinked IsLent IsNoted IsTree tree_lends z s r id d d' words' kind record {
@@ -312,20 +353,27 @@ module _ (z : Sizes) (s : State (Unit {0}) (View TreeView)) (r : R z s) (id : �
         (λ (o : IsNoted s.words d.upper c). inl (d, ap (get_elem? s.views) t.0 ∙ at, o))
         (λ (l : IsLinked words' c). inr (l, ap (λ (w : View TreeView). w.pin.pinned) (sym t.1) ∙ u.is_pinned))
         (notes_now c (subst (λ (w : View TreeView). IsNoted words' w.upper c) (sym t.1) n)))
-        (λ (t : (j ≢ id) × (get_elem? s.views j ≡ some y)). inl (y, t.1, notes_by s.words words' y.upper y.upper c (f.each_seat j y.upper (at_map upper_of s.views j y t.1)).no_ways (λ note i. i) n)) (at_set s.views id j d' y here);
+        (λ (t : (j ≢ id) × (get_elem? s.views j ≡ some y)). inl (
+          y,
+          t.1,
+          notes_by s.words words' y.upper y.upper c (f.each_seat j y.upper (at_map upper_of s.views j y t.1)).no_ways (λ note i. i) n,
+        ))
+        (at_set s.views id j d' y here);
     above = subst (IsTree z r.made words') (sym (map-set upper_of s.views id d')) tree_now;
   }
 
 module _ (z : Sizes) where
   -- The exchange of the root link that carries out an update.
-  pub updates : (slots id : ℕ) (me : MyTree) (new : ℕ) (x : Update) → IsUpdate z me new x → Allows (R z) slots id me 130 (λ n. either (eqb n x.old.row) new n) (Updates x (step slots 130 x.old.row new none) me)
+  pub updates : (slots id : ℕ) (me : MyTree) (new : ℕ) (x : Update) → IsUpdate z me new x
+      → Allows (R z) slots id me 130 (λ n. either (eqb n x.old.row) new n) (Updates x (step slots 130 x.old.row new none) me)
   updates slots id me new x u s r _ at _ = let n : ℕ = root s.words in let d = me.0 in dite (ℕ_discrete n x.old.row)
       (λ (hit : n ≡ x.old.row). let w = (knows_upper z s r id d at).seen_first.0 in
       let d' : View TreeView = record d { claims = taken_out (x.old.row ∷ x.goes) (given (new ∷ x.comes) d.claims); upper = updated d.upper w new x } in (
         d',
         keeps,
         tt,
-        subst (λ (y : ℕ). R z (stepped s 130 y id me.1 d' keeps)) (sym (ap (λ b. either b new n) (eq-eqb n x.old.row hit))) (update_step z s r id me at new x u hit),
+        subst (λ (y : ℕ). R z (stepped s 130 y id me.1 d' keeps)) (sym (ap (λ b. either b new n) (eq-eqb n x.old.row hit)))
+            (update_step z s r id me at new x u hit),
         ((λ _. (w, refl)), λ miss. absurd (miss hit)),
       ))
       (λ miss. (
@@ -333,13 +381,16 @@ module _ (z : Sizes) where
         keeps,
         tt,
         subst (λ (y : ℕ). R z (stepped s 130 y id me.1 d keeps)) (sym (ap (λ b. either b new n) (ne_eqb n x.old.row miss)))
-            (looked z s r 130 id d d.upper at (λ row y. inl y) (subst (IsTree z r.made s.words) (sym (set_again (map upper_of s.views) id d.upper (at_map upper_of s.views id d at))) r.above)),
+            (looked z s r 130 id d d.upper at (λ row y. inl y)
+            (subst (IsTree z r.made s.words) (sym (set_again (map upper_of s.views) id d.upper (at_map upper_of s.views id d at))) r.above)),
         ((λ hit. absurd (miss hit)), λ _. refl),
       ))
 
   -- The same, where the old row has another name.
-  pub updates_from : (slots id : ℕ) (me : MyTree) (old new : ℕ) (x : Update) → IsUpdate z me new x → x.old.row ≡ old → Allows (R z) slots id me 130 (λ n. either (eqb n old) new n) (Updates x (step slots 130 old new none) me)
-  updates_from slots id me old new x u same = subst (λ (o : ℕ). Allows (R z) slots id me 130 (λ n. either (eqb n o) new n) (Updates x (step slots 130 o new none) me)) same (updates slots id me new x u)
+  pub updates_from : (slots id : ℕ) (me : MyTree) (old new : ℕ) (x : Update) → IsUpdate z me new x → x.old.row ≡ old
+      → Allows (R z) slots id me 130 (λ n. either (eqb n old) new n) (Updates x (step slots 130 old new none) me)
+  updates_from slots id me old new x u same = subst (λ (o : ℕ). Allows (R z) slots id me 130 (λ n. either (eqb n o) new n)
+      (Updates x (step slots 130 o new none) me)) same (updates slots id me new x u)
 
 -- The two ways that the exchange goes.
 pub has_updated : (n old new : ℕ) (x : Update) (m m' : MyTree) (slots : ℕ) → Updates x (step slots 130 old new none) m n m' → HasUpdated (eqb n old) new x m m'

@@ -29,7 +29,8 @@ module _ (z : Sizes) (words : List ℕ) (base : IsBaseAt z words root_place (roo
 
   not_route : (row : ℕ) → IsOfBase row → ¬ IsRouteRow (row_at words row)
   not_route row w f = ⊎_elim
-      (λ (e : row ≡ root words). let g : form (row_at words (root words)) ≡ 3 = subst (λ r. IsRouteRow (row_at words r)) e f in let h = base.is_base in omega arith)
+      (λ (e : row ≡ root words). let g : form (row_at words (root words)) ≡ 3 = subst (λ r. IsRouteRow (row_at words r)) e f in let h = base.is_base in
+      omega arith)
       (λ i. let h = (base.are_objects row i).2 in omega arith) w
 
   is_root : (row : ℕ) → IsOfBase row → IsBaseRow (row_at words row) → row ≡ root words
@@ -39,16 +40,20 @@ module _ (z : Sizes) (words : List ℕ) (base : IsBaseAt z words root_place (roo
   reached _ (by_root row e) = inl (sym e)
   reached _ (by_route route row l f u) = absurd (not_route route (reached route l) f)
   reached _ (by_base b row l f i) = inr (subst (λ r. IsIn row (items (row_at words r))) (is_root b (reached b l) f) i)
-  reached _ (by_range b row l f x) = let e = is_root b (reached b l) f in let m : mark (row_at words (root words)) ≡ 1 = subst (λ r. mark (row_at words r) ≡ 1) e x.0 in let u = base.unmarked in absurd (omega arith)
+  reached _ (by_range b row l f x) = let e = is_root b (reached b l) f in
+      let m : mark (row_at words (root words)) ≡ 1 = subst (λ r. mark (row_at words r) ≡ 1) e x.0 in let u = base.unmarked in absurd (omega arith)
 
   pub linked_range : (row : ℕ) → IsLinked words row → (0 < row) × (row ≤ z.rows)
-  linked_range row l = ⊎_elim (λ (e : row ≡ root words). subst (λ r. (0 < r) × (r ≤ z.rows)) (sym e) (base.some_row, base.in_range)) (λ i. let o = base.are_objects row i in (o.0, o.1)) (reached row l)
+  linked_range row l = ⊎_elim (λ (e : row ≡ root words). subst (λ r. (0 < r) × (r ≤ z.rows)) (sym e) (base.some_row, base.in_range))
+      (λ i. let o = base.are_objects row i in (o.0, o.1)) (reached row l)
 
   pub nothing_lent : (row : ℕ) → ¬ IsLent words row
-  nothing_lent row x = let e = is_root x.0 (reached x.0 x.1) x.2 in let m : mark (row_at words (root words)) ≡ 1 = subst (λ r. mark (row_at words r) ≡ 1) e x.3.0 in let u = base.unmarked in omega arith
+  nothing_lent row x = let e = is_root x.0 (reached x.0 x.1) x.2 in
+      let m : mark (row_at words (root words)) ≡ 1 = subst (λ r. mark (row_at words r) ≡ 1) e x.3.0 in let u = base.unmarked in omega arith
 
 -- A note on the rows by other words, where no route was shown.
-pub notes_by : (words others : List ℕ) (u v : TreeView) (row : ℕ) → v.ways ≡ [] → ((note : Note) → IsIn note v.notes → IsIn note u.notes) → IsNoted others v row → IsNoted words u row
+pub notes_by : (words others : List ℕ) (u v : TreeView) (row : ℕ) → v.ways ≡ [] → ((note : Note) → IsIn note v.notes → IsIn note u.notes)
+    → IsNoted others v row → IsNoted words u row
 notes_by words others u v _ empty more (by_note note row i e) = by_note note row (more note i) e
 notes_by words others u v _ empty more (by_item note row i b k) = by_item note row (more note i) b k
 notes_by words others u v _ empty more (by_way way row i e) = absurd (in_nothing way v.ways empty i)
@@ -56,7 +61,8 @@ notes_by words others u v _ empty more (by_link way row i e) = absurd (in_nothin
 notes_by words others u v _ empty more (by_link_item way base row i e f k) = absurd (in_nothing way v.ways empty i)
 
 -- The rows are the same where a table agrees with another on what is linked or noted.
-module _ (z : Sizes) (made : ℕ) (uppers : List TreeView) (words others : List ℕ) (f : IsTree z made words uppers) (a : Agrees IsLinked IsLent IsNoted IsTree uppers words others) where
+module _ (z : Sizes) (made : ℕ) (uppers : List TreeView) (words others : List ℕ) (f : IsTree z made words uppers)
+    (a : Agrees IsLinked IsLent IsNoted IsTree uppers words others) where
   wide' : IsWide z.rows others
   wide' = a.wide ∙ f.wide
 
@@ -96,18 +102,25 @@ module _ (z : Sizes) (made : ℕ) (uppers : List TreeView) (words others : List 
     level_is = subst (λ its. level its ≡ 0) e b.level_is;
     few = subst (λ its. count its ≤ z.leaf) e b.few;
     unmarked = subst (λ its. mark its ≡ 0) e b.unmarked;
-    are_objects = λ r i. let was = subst (λ its. IsIn r (items its)) (sym e) i in let o = b.are_objects r was in (o.0, o.1, subst IsObjectRow (sym (its_same r (item_linked r was))) o.2);
+    are_objects = λ r i. let was = subst (λ its. IsIn r (items its)) (sym e) i in let o = b.are_objects r was in
+        (o.0, o.1, subst IsObjectRow (sym (its_same r (item_linked r was))) o.2);
   }
 
   map_now : objects_in others (root others) ≡ objects_in words (root words)
   map_now = ap (objects_in others) same_root ∙ (ap (λ its. map (λ row. pair (row_at others row)) (items its)) (its_same (root words) root_linked)
-      ∙ map_same (λ row. pair (row_at others row)) (λ row. pair (row_at words row)) (items (row_at words (root words))) (λ r i. ap pair (its_same r (item_linked r i))))
+      ∙ map_same (λ row. pair (row_at others row)) (λ row. pair (row_at words row)) (items (row_at words (root words)))
+      (λ r i. ap pair (its_same r (item_linked r i))))
 
   note_now : (j : ℕ) (u : TreeView) → get_elem? uppers j ≡ some u → (note : Note) → IsIn note u.notes → IsTrue z.rows words note → IsTrue z.rows others note
   note_now j u at note i t = record {
     some_row = t.some_row;
     in_range = t.in_range;
-    spells = row_same words others z.rows note.row f.wide wide' t.in_range (λ k l. a.seen note.row k t.some_row (inr (j, u, at, by_note note note.row i refl)) l) ∙ t.spells;
+    spells = row_same words others z.rows note.row f.wide wide' t.in_range (λ k l. a.seen note.row k t.some_row (inr (
+      j,
+      u,
+      at,
+      by_note note note.row i refl,
+    )) l) ∙ t.spells;
     named = t.named;
     objects_are = λ b. map_same (λ r. row_at others r) (λ r. row_at words r) (items note.its) (λ r n. let o = t.named b r n in
         row_same words others z.rows r f.wide wide' o.1 (λ k l. a.seen r k o.0 (inr (j, u, at, by_item note r i b n)) l)) ∙ t.objects_are b;
@@ -140,8 +153,14 @@ module _ (z : Sizes) (made : ℕ) (uppers : List TreeView) (words others : List 
   framed : Framed IsLinked IsLent IsNoted IsTree z made uppers words others
   framed = record {
     stays = tree_now;
-    links = λ r. (linked_back z.rows words others f.wide wide' same_root active in_range same r, linked_on z.rows words others f.wide wide' same_root active in_range same r);
-    lents = λ r. (lent_back z.rows words others f.wide wide' same_root active in_range same r, lent_on z.rows words others f.wide wide' same_root active in_range same r);
+    links = λ r. (
+      linked_back z.rows words others f.wide wide' same_root active in_range same r,
+      linked_on z.rows words others f.wide wide' same_root active in_range same r,
+    );
+    lents = λ r. (
+      lent_back z.rows words others f.wide wide' same_root active in_range same r,
+      lent_on z.rows words others f.wide wide' same_root active in_range same r,
+    );
     notes = λ j u at r n. notes_by words others u u r (f.each_seat j u at).no_ways (λ note i. i) n;
   }
 
@@ -153,14 +172,17 @@ tree_lends z made uppers words f r x = by_range x.0 r x.1 x.2 x.3
 
 -- Who is there now was there with this number.
 abbrev pub IsNumbered : List TreeView → List TreeView → Type 0
-IsNumbered uppers uppers' = (i : ℕ) (v : TreeView) → get_elem? uppers' i ≡ some v → 0 < v.number → (y : TreeView) × (get_elem? uppers i ≡ some y) × (y.number ≡ v.number)
+IsNumbered uppers uppers' = (i : ℕ) (v : TreeView) → get_elem? uppers' i ≡ some v → 0 < v.number → (y : TreeView) × (get_elem? uppers i ≡ some y)
+    × (y.number ≡ v.number)
 
-pub numbered : (uppers : List TreeView) (id : ℕ) (u u' : TreeView) → get_elem? uppers id ≡ some u → (0 < u'.number → u'.number ≡ u.number) → IsNumbered uppers (set uppers id u')
+pub numbered : (uppers : List TreeView) (id : ℕ) (u u' : TreeView) → get_elem? uppers id ≡ some u → (0 < u'.number → u'.number ≡ u.number)
+    → IsNumbered uppers (set uppers id u')
 numbered uppers id u u' at same i v here lo = ⊎_elim
     (λ (t : (i ≡ id) × (u' ≡ v)). let n = ap (λ (y : TreeView). y.number) t.1 in (u, ap (get_elem? uppers) t.0 ∙ at, sym (same (omega arith)) ∙ n))
     (λ (t : (i ≢ id) × (get_elem? uppers i ≡ some v)). (v, t.1, refl)) (at_set uppers id i u' v here)
 
-pub relisted : (rows made : ℕ) (words : List ℕ) (uppers uppers' : List TreeView) (history : History) (j : ℕ) (u : TreeView) → IsNumbered uppers uppers' → Knows rows made words uppers history j u → Knows rows made words uppers' history j u
+pub relisted : (rows made : ℕ) (words : List ℕ) (uppers uppers' : List TreeView) (history : History) (j : ℕ) (u : TreeView) → IsNumbered uppers uppers'
+    → Knows rows made words uppers history j u → Knows rows made words uppers' history j u
 relisted rows made words uppers uppers' history j u n k = record {
   made_before = k.made_before;
   alone = λ lo i v here same. let y = n i v here (omega arith) in k.alone lo i y.0 y.1 (y.2 ∙ same);
@@ -173,7 +195,8 @@ relisted rows made words uppers uppers' history j u n k = record {
 }
 
 -- One seat's view is another.
-pub seat_changed : (z : Sizes) (made : ℕ) (words : List ℕ) (uppers : List TreeView) (id : ℕ) (u u' : TreeView) (f : IsTree z made words uppers) → get_elem? uppers id ≡ some u → (0 < u'.number → u'.number ≡ u.number)
+pub seat_changed : (z : Sizes) (made : ℕ) (words : List ℕ) (uppers : List TreeView) (id : ℕ) (u u' : TreeView) (f : IsTree z made words uppers)
+    → get_elem? uppers id ≡ some u → (0 < u'.number → u'.number ≡ u.number)
     → Knows z.rows made words (set uppers id u') f.history id u' → IsTree z made words (set uppers id u')
 seat_changed z made words uppers id u u' f at same k = record {
   usable = f.usable;
@@ -230,7 +253,8 @@ one_more made [] b = tt
 one_more made (step ∷ steps) b = let hi = b.1 in (b.0, omega arith, one_more made steps b.2)
 
 -- what a seat knows that knows nothing yet
-pub knows_nothing : (rows made : ℕ) (words : List ℕ) (uppers : List TreeView) (history : History) (j number : ℕ) → number ≤ made → (0 < number → (i : ℕ) (v : TreeView) → get_elem? uppers i ≡ some v → v.number ≡ number → i ≡ j) → edits_of_pass number history ≡ []
+pub knows_nothing : (rows made : ℕ) (words : List ℕ) (uppers : List TreeView) (history : History) (j number : ℕ) → number ≤ made
+    → (0 < number → (i : ℕ) (v : TreeView) → get_elem? uppers i ≡ some v → v.number ≡ number → i ≡ j) → edits_of_pass number history ≡ []
     → Knows rows made words uppers history j (blank number)
 knows_nothing rows made words uppers history j number before alone unmade = record {
   made_before = before;
@@ -260,7 +284,8 @@ tree_making = record {
         (λ (was : get_elem? uppers j ≡ some u). let k = f.each_seat j u was in let low = k.made_before in record {
           made_before = omega arith;
           alone = λ lo i v at same. ⊎_elim (λ (old : get_elem? uppers i ≡ some v). k.alone lo i v old same)
-              (λ (t : (i ≡ length uppers) × (blank (made + 1) ≡ v)). let n : made + 1 ≡ v.number = ap (λ (y : TreeView). y.number) t.1 in absurd (omega arith)) (at_place uppers (blank (made + 1)) v i at);
+              (λ (t : (i ≡ length uppers) × (blank (made + 1) ≡ v)). let n : made + 1 ≡ v.number = ap (λ (y : TreeView). y.number) t.1 in
+              absurd (omega arith)) (at_place uppers (blank (made + 1)) v i at);
           seen_first = k.seen_first;
           since_first = k.since_first;
           lawful = k.lawful;
@@ -269,7 +294,8 @@ tree_making = record {
           no_ways = k.no_ways;
         })
         (λ (t : (j ≡ length uppers) × (blank (made + 1) ≡ u)). subst (Knows z.rows (made + 1) words next f.history j) t.1 (knows_nothing z.rows (made + 1) words next f.history j (made + 1) (omega arith)
-        (λ _ i v at same. ⊎_elim (λ (old : get_elem? uppers i ≡ some v). let low = (f.each_seat i v old).made_before in absurd (omega arith)) (λ (y : (i ≡ length uppers) × (blank (made + 1) ≡ v)). y.0 ∙ sym t.0) (at_place uppers (blank (made + 1)) v i at))
+        (λ _ i v at same. ⊎_elim (λ (old : get_elem? uppers i ≡ some v). let low = (f.each_seat i v old).made_before in absurd (omega arith))
+        (λ (y : (i ≡ length uppers) × (blank (made + 1) ≡ v)). y.0 ∙ sym t.0) (at_place uppers (blank (made + 1)) v i at))
         (none_made made (made + 1) f.history f.by_passes (inr (omega arith)))))
         (at_place uppers (blank (made + 1)) u j here);
   };
@@ -279,13 +305,16 @@ tree_making = record {
 pub tree_closing : Closing IsLinked IsLent IsNoted IsTree (λ v w. v) (blank 0)
 tree_closing = record {
   keeps_closing = λ z made uppers words i j v w f at ne there. subst (λ us. IsTree z made words (set us j (blank 0))) (sym (set_again uppers i v at))
-      (seat_changed z made words uppers j w (blank 0) f there (λ lo. absurd (omega arith)) (knows_nothing z.rows made words (set uppers j (blank 0)) f.history j 0 (omega arith) (λ lo. absurd (omega arith)) (none_made made 0 f.history f.by_passes (inl refl))));
+      (seat_changed z made words uppers j w (blank 0) f there (λ lo. absurd (omega arith))
+      (knows_nothing z.rows made words (set uppers j (blank 0)) f.history j 0 (omega arith) (λ lo. absurd (omega arith))
+      (none_made made 0 f.history f.by_passes (inl refl))));
   closing_notes = λ words v w r n. inl n;
   spent_notes = λ words r. no_notes words (blank 0) r refl refl;
 }
 
 -- The words at the start.
-module _ (z : Sizes) (words : List ℕ) (bounds : AreInBounds z) (usable : AreUsable z) (wide : IsWide z.rows words) (above : (i : ℕ) → 66 ≤ i → i < 272 → get_or words i 0 ≡ opens_at z i) where
+module _ (z : Sizes) (words : List ℕ) (bounds : AreInBounds z) (usable : AreUsable z) (wide : IsWide z.rows words)
+    (above : (i : ℕ) → 66 ≤ i → i < 272 → get_or words i 0 ≡ opens_at z i) where
   root_is : root words ≡ 1
   root_is = above 130 (omega arith) (omega arith)
 
@@ -314,7 +343,8 @@ module _ (z : Sizes) (words : List ℕ) (bounds : AreInBounds z) (usable : AreUs
   nothing_there = ap (objects_in words) root_is ∙ ap (map (λ row. pair (row_at words row))) no_items
 
   only : (j : ℕ) (u : TreeView) → get_elem? (blank 0 ∷ []) j ≡ some u → Knows z.rows 0 words (blank 0 ∷ []) [] j u
-  only zero u e = subst (Knows z.rows 0 words (blank 0 ∷ []) [] 0) (some-injective (blank 0) u e) (knows_nothing z.rows 0 words (blank 0 ∷ []) [] 0 0 (omega arith) (λ lo. absurd (omega arith)) refl)
+  only zero u e = subst (Knows z.rows 0 words (blank 0 ∷ []) [] 0) (some-injective (blank 0) u e)
+      (knows_nothing z.rows 0 words (blank 0 ∷ []) [] 0 0 (omega arith) (λ lo. absurd (omega arith)) refl)
   only (suc j) u e = absurd (some-ne-none u (sym e))
 
   opened : Opened IsLinked IsLent IsNoted IsTree z (blank 0) words
@@ -332,7 +362,11 @@ module _ (z : Sizes) (words : List ℕ) (bounds : AreInBounds z) (usable : AreUs
       map_is = nothing_there;
       each_seat = only;
     };
-    links = λ r. ((λ l. ⊎_elim (λ (e : r ≡ root words). e ∙ root_is) (λ i. absurd (in_nothing r (items (row_at words (root words))) (ap (λ x. items (row_at words x)) root_is ∙ no_items) i)) (reached z words base r l)), (λ e. by_root r (root_is ∙ sym e)));
+    links = λ r. (
+      (λ l. ⊎_elim (λ (e : r ≡ root words). e ∙ root_is)
+          (λ i. absurd (in_nothing r (items (row_at words (root words))) (ap (λ x. items (row_at words x)) root_is ∙ no_items) i)) (reached z words base r l)),
+      (λ e. by_root r (root_is ∙ sym e)),
+    );
     lents = nothing_lent z words base;
     notes = λ r. no_notes words (blank 0) r refl refl;
   }

@@ -22,7 +22,8 @@ IsActive words pass sequence = (0 < pass) × (pass ≤ 64) × (slice_index words
 
 -- An active range marked the base, and ends where this row says.
 abbrev pub IsBoundOf : List ℕ → ℕ → ℕ → Type 0
-IsBoundOf words base row = (mark (row_at words base) ≡ 1) × IsActive words (mark_owner (row_at words base)) (mark_number (row_at words base)) × (mark_bound (row_at words base) ≡ row)
+IsBoundOf words base row = (mark (row_at words base) ≡ 1) × IsActive words (mark_owner (row_at words base)) (mark_number (row_at words base))
+    × (mark_bound (row_at words base) ≡ row)
 
 -- The root link reaches the row: a route leads to what its links name, a base to the object rows that it names, and while the range is
 -- active that marked it, to the row that says where the range ends.
@@ -43,4 +44,5 @@ pub data IsNoted (words : List ℕ) (u : TreeView) : ℕ → Type 0 where
   by_item : (note : Note) (row : ℕ) → IsIn note u.notes → IsBaseRow note.its → IsIn row (items note.its) → IsNoted words u row
   by_way : (way : Way) (row : ℕ) → IsIn way u.ways → way.row ≡ row → IsNoted words u row
   by_link : (way : Way) (row : ℕ) → IsIn way u.ways → IsUnder words way.row row → IsNoted words u row
-  by_link_item : (way : Way) (base row : ℕ) → IsIn way u.ways → IsUnder words way.row base → IsBaseRow (row_at words base) → IsIn row (items (row_at words base)) → IsNoted words u row
+  by_link_item : (way : Way) (base row : ℕ) → IsIn way u.ways → IsUnder words way.row base → IsBaseRow (row_at words base)
+      → IsIn row (items (row_at words base)) → IsNoted words u row

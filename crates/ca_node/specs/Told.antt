@@ -50,7 +50,8 @@ led u more note = record u { seen = u.seen ++ more; notes = note ∷ u.notes; lo
 
 -- The root link was loaded: it names this base, whose objects are the last state of the history, all of which the seat has seen now.
 abbrev pub IsLed : MyTree → ℕ → MyTree → Type 0
-IsLed m n m' = (note : Note) × (more : History) × (m' ≡ with_upper m (led m.0.upper more note)) × (note.row ≡ n) × (map pair note.objects ≡ after (m.0.upper.seen ++ more) [])
+IsLed m n m' = (note : Note) × (more : History) × (m' ≡ with_upper m (led m.0.upper more note)) × (note.row ≡ n)
+    × (map pair note.objects ≡ after (m.0.upper.seen ++ more) [])
     × (0 < m.0.sizes.rows → IsBaseNote m.0.sizes note × IsKnown m.0.sizes (led m.0.upper more note))
 
 abbrev pub Leads : Step (Unit {0}) → MyTree → ℕ → MyTree → Type 0
@@ -59,11 +60,13 @@ Leads st m n m' = IsLed m n m'
 -- The row was shown, with these words: it is one that a note is on, or an object row that such a base names.
 abbrev pub IsShown : TreeView → ℕ → List ℕ → Type 0
 IsShown u row its = (note : Note) × IsIn note u.notes
-    × (((note.row ≡ row) × (note.its ≡ its)) ⊎ (IsBaseRow note.its × ((k : ℕ) × (get_elem? (items note.its) k ≡ some row) × (get_elem? note.objects k ≡ some its))))
+    × (((note.row ≡ row) × (note.its ≡ its)) ⊎ (IsBaseRow note.its
+    × ((k : ℕ) × (get_elem? (items note.its) k ≡ some row) × (get_elem? note.objects k ≡ some its))))
 
 -- A word of a row was loaded: where the row was shown, it is the word that was shown.
 abbrev pub Reads : Step (Unit {0}) → MyTree → ℕ → MyTree → Type 0
-Reads st m n m' = (m' ≡ m) × ((row index : ℕ) (its : List ℕ) → st.word ≡ 136 * row + index → index < 136 → IsShown m.0.upper row its → n ≡ slice_index its index)
+Reads st m n m' = (m' ≡ m) × ((row index : ℕ) (its : List ℕ) → st.word ≡ 136 * row + index → index < 136 → IsShown m.0.upper row its
+    → n ≡ slice_index its index)
 
 -- The call is one that edits nothing, and its answer is that of the last state that the seat has seen.
 abbrev pub IsReadNow : Event → TreeView → Type 0
@@ -75,7 +78,8 @@ entered u event = record u { log = u.log ++ (event, length u.seen) ∷ [] }
 
 -- A word of a row was loaded, and the call that it ends was entered in the log.
 abbrev pub ReadsLast : Event → Step (Unit {0}) → MyTree → ℕ → MyTree → Type 0
-ReadsLast event st m n m' = (m' ≡ with_upper m (entered m.0.upper event)) × ((row index : ℕ) (its : List ℕ) → st.word ≡ 136 * row + index → index < 136 → IsShown m.0.upper row its → n ≡ slice_index its index)
+ReadsLast event st m n m' = (m' ≡ with_upper m (entered m.0.upper event))
+    × ((row index : ℕ) (its : List ℕ) → st.word ≡ 136 * row + index → index < 136 → IsShown m.0.upper row its → n ≡ slice_index its index)
 
 -- An update: the base that it takes the place of, the new base's words and those of the objects that it names, which held object rows come
 -- and which object rows go, the call, and its edit.
@@ -102,7 +106,8 @@ taken_out (row ∷ rows) claims = claimed row Unlinked (taken_out rows claims)
 
 -- The object row with these words was named by the old base, or is one that the seat holds.
 abbrev pub IsObjectOf : MyTree → Update → ℕ → List ℕ → Type 0
-IsObjectOf m x row its = ((i : ℕ) × (get_elem? (items x.old.its) i ≡ some row) × (get_elem? x.old.objects i ≡ some its)) ⊎ (IsIn row x.comes × (claim_of m.0.claims row ≡ some (Holds its)) × IsObjectRow its)
+IsObjectOf m x row its = ((i : ℕ) × (get_elem? (items x.old.its) i ≡ some row) × (get_elem? x.old.objects i ≡ some its)) ⊎ (IsIn row x.comes
+    × (claim_of m.0.claims row ≡ some (Holds its)) × IsObjectRow its)
 
 -- The seat may put the new row in the place of the old base: it is pinned, was shown that base, and holds the new one.
 pub record IsUpdate (z : Sizes) (m : MyTree) (new : ℕ) (x : Update) : Type 0 where
@@ -137,12 +142,20 @@ updated u more new x = record u {
 -- The root link was exchanged, and the update is carried out; or the exchange was lost, and nothing changed.
 abbrev pub Updates : Update → Step (Unit {0}) → MyTree → ℕ → MyTree → Type 0
 Updates x st m n m' =
-    (n ≡ st.first → (more : History) × (m' ≡ (record m.0 { claims = taken_out (x.old.row ∷ x.goes) (given (st.second ∷ x.comes) m.0.claims); upper = updated m.0.upper more st.second x }, m.1)))
+    (n ≡ st.first → (more : History) × (m' ≡ (
+      record m.0 {
+        claims = taken_out (x.old.row ∷ x.goes)
+            (given (st.second ∷ x.comes) m.0.claims);
+        upper = updated m.0.upper more st.second x;
+      },
+      m.1,
+    )))
     × (n ≢ st.first → m' ≡ m)
 
 -- What the exchange of the root link came to: the update is carried out, or nothing changed.
 abbrev pub HasUpdated : Bool → ℕ → Update → MyTree → MyTree → Type 0
-HasUpdated true new x m m' = (more : History) × (m' ≡ (record m.0 { claims = taken_out (x.old.row ∷ x.goes) (given (new ∷ x.comes) m.0.claims); upper = updated m.0.upper more new x }, m.1))
+HasUpdated true new x m m' = (more : History)
+    × (m' ≡ (record m.0 { claims = taken_out (x.old.row ∷ x.goes) (given (new ∷ x.comes) m.0.claims); upper = updated m.0.upper more new x }, m.1))
 HasUpdated false new x m m' = m' ≡ m
 
 -- A word was loaded as a call was refused, and the call is counted so.

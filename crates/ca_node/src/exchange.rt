@@ -4,7 +4,7 @@ ghost use Rattle.ca_node.specs.Told.{IsUpdate, HasUpdated};
 ghost use Rattle.ca_rows.specs.Calls.{IsOf, IsSame};
 
 use crate::link::Link;
-use crate::plays::{Replace, Intent};
+use crate::plays::{Intent, Replace};
 use crate::rule::{TreePass, TreeSpace};
 use crate::steps::replace_link;
 

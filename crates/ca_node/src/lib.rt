@@ -12,13 +12,13 @@ mod steps;
 mod view;
 
 pub use cursor::{Cursor, Spot, walk};
+pub use exchange::replace_base;
 pub use handed::Front;
 pub use handing::{front, learn};
 pub use link::Link;
 pub use plays::Intent;
 pub use rule::{TreePass, TreeRule, TreeSpace};
 pub use steps::{load_link, load_word, replace_link};
-pub use exchange::replace_base;
 pub use view::Knowledge;
 
 #[cfg(test)]
