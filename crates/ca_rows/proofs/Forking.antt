@@ -19,7 +19,9 @@ pins_more : (made : ℕ) (words : List ℕ) (pins : List Pin) → ArePins made w
 pins_more made words pins p = record {
   few = p.few;
   small = p.small;
-  each = λ j e here. ⊎_elim (old j e) (λ (t : (j ≡ length pins) × (unpinned 0 ≡ e)). subst (λ (x : ℕ × Pin). IsPin made words (pins ++ unpinned 0 ∷ []) x.0 x.1) (λ i. (sym t.0 i, t.1 i)) new) (at_place pins (unpinned 0) e j here);
+  each = λ j e here. ⊎_elim (old j e) (λ (t : (j ≡ length pins)
+      × (unpinned 0 ≡ e)). subst (λ (x : ℕ × Pin). IsPin made words (pins ++ unpinned 0 ∷ []) x.0 x.1) (λ i. (sym t.0 i, t.1 i)) new)
+      (at_place pins (unpinned 0) e j here);
   unused = p.unused;
 }
   where
@@ -30,13 +32,16 @@ pins_more made words pins p = record {
     old j e here = let k = p.each j e here in record {
       in_range = k.in_range;
       is_pass = k.is_pass;
-      alone = λ lo i d at same. ⊎_elim (λ f. k.alone lo i d f same) (λ (t : (i ≡ length pins) × (unpinned 0 ≡ d)). let n : 0 ≡ d.number = ap (λ (y : Pin). y.number) t.1 in absurd (omega arith)) (at_place pins (unpinned 0) d i at);
+      alone = λ lo i d at same. ⊎_elim (λ f. k.alone lo i d f same)
+          (λ (t : (i ≡ length pins) × (unpinned 0 ≡ d)). let n : 0 ≡ d.number = ap (λ (y : Pin). y.number) t.1 in absurd (omega arith))
+          (at_place pins (unpinned 0) d i at);
       absent = k.absent;
       present = k.present;
       pinned_at = k.pinned_at;
       told_past = k.told_past;
       scan_past = k.scan_past;
-      scanned = λ now i d at low pinned. ⊎_elim (λ f. k.scanned now i d f low pinned) (λ (t : (i ≡ length pins) × (unpinned 0 ≡ d)). absurd (is_unpinned d t.1 pinned)) (at_place pins (unpinned 0) d i at);
+      scanned = λ now i d at low pinned. ⊎_elim (λ f. k.scanned now i d f low pinned)
+          (λ (t : (i ≡ length pins) × (unpinned 0 ≡ d)). absurd (is_unpinned d t.1 pinned)) (at_place pins (unpinned 0) d i at);
     }
 
     new : IsPin made words (pins ++ unpinned 0 ∷ []) (length pins) (unpinned 0)
@@ -49,14 +54,16 @@ pins_more made words pins p = record {
       pinned_at = λ pinned. absurd cc;
       told_past = omega arith;
       scan_past = omega arith;
-      scanned = λ now i d at low pinned. ⊎_elim (λ f. let k = (p.each i d f).is_pass pinned in absurd (omega arith)) (λ (t : (i ≡ length pins) × (unpinned 0 ≡ d)). absurd (is_unpinned d t.1 pinned)) (at_place pins (unpinned 0) d i at);
+      scanned = λ now i d at low pinned. ⊎_elim (λ f. let k = (p.each i d f).is_pass pinned in absurd (omega arith))
+          (λ (t : (i ≡ length pins) × (unpinned 0 ≡ d)). absurd (is_unpinned d t.1 pinned)) (at_place pins (unpinned 0) d i at);
     }
 
 module _ {U : Type 0} (linked lent : List ℕ → ℕ → Type 0) (noted : List ℕ → U → ℕ → Type 0) (fact : Sizes → ℕ → List ℕ → List U → Type 0) (z : Sizes) where
   abbrev pub half : U → View U
   half u = fresh no_sizes 0 u
 
-  module _ (s : State (Unit {0}) (View U)) (r : Ruled linked lent noted fact z s) (id : ℕ) (d : View U) (at : get_elem? s.views id ≡ some d) (u : U) (unnoted : (q : ℕ) → ¬ noted s.words u q) (above : fact z r.made s.words (map upper_of s.views ++ u ∷ [])) where
+  module _ (s : State (Unit {0}) (View U)) (r : Ruled linked lent noted fact z s) (id : ℕ) (d : View U) (at : get_elem? s.views id ≡ some d) (u : U)
+      (unnoted : (q : ℕ) → ¬ noted s.words u q) (above : fact z r.made s.words (map upper_of s.views ++ u ∷ [])) where
     abbrev grown : List (View U)
     grown = s.views ++ half u ∷ []
 
@@ -82,16 +89,27 @@ module _ {U : Type 0} (linked lent : List ℕ → ℕ → Type 0) (noted : List 
         no_seats e = let l = some_long s.views id d at in absurd (omega arith)
 
     pub forks : Ruled linked lent noted fact z record { words = s.words; homes = s.homes; views = set s.views id d ++ half u ∷ [] }
-    forks = subst (λ (vs : List (View U)). Ruled linked lent noted fact z record { words = s.words; homes = s.homes; views = vs ++ half u ∷ [] }) (sym (set_again s.views id d at)) record {
-      owner = r.owner;
-      count = r.count;
-      made = r.made;
-      few = r.few;
-      wide = r.wide;
-      chain = r.chain;
-      row = λ c lo hi. row_stays s.words s.words (linked s.words) (linked s.words) (lent s.words) (lent s.words) (NotedAt noted s.words s.views) (NotedAt noted s.words grown) (claim_at s.views) (claim_at grown)
-          (le_refl _) c record { words_are = λ _ _ _. refl; links = ((λ l. l), (λ l. l)); lents = ((λ l. l), (λ l. l)); notes = λ _ m n. notes_before m c n; claims = λ j. claims_behind s.views (half u) j c refl } (r.owner c) (r.row c lo hi);
-      seat = knows;
-      pins = subst (ArePins r.made s.words) (sym (map-append pin_of s.views (half u ∷ []))) (pins_more r.made s.words (map pin_of s.views) r.pins);
-      above = subst (fact z r.made s.words) (sym (map-append upper_of s.views (half u ∷ []))) above;
-    }
+    forks = subst (λ (vs : List (View U)). Ruled linked lent noted fact z record { words = s.words; homes = s.homes; views = vs ++ half u ∷ [] })
+        (sym (set_again s.views id d at)) record {
+          owner = r.owner;
+          count = r.count;
+          made = r.made;
+          few = r.few;
+          wide = r.wide;
+          chain = r.chain;
+          row = λ c lo hi. row_stays s.words s.words (linked s.words) (linked s.words) (lent s.words) (lent s.words) (NotedAt noted s.words s.views)
+              (NotedAt noted s.words grown) (claim_at s.views) (claim_at grown)
+              (le_refl _) c record {
+                words_are = λ _ _ _. refl;
+                links = ((λ l. l), (λ l. l));
+                lents = (
+                  (λ l. l),
+                  (λ l. l),
+                );
+                notes = λ _ m n. notes_before m c n;
+                claims = λ j. claims_behind s.views (half u) j c refl;
+              } (r.owner c) (r.row c lo hi);
+          seat = knows;
+          pins = subst (ArePins r.made s.words) (sym (map-append pin_of s.views (half u ∷ []))) (pins_more r.made s.words (map pin_of s.views) r.pins);
+          above = subst (fact z r.made s.words) (sym (map-append upper_of s.views (half u ∷ []))) above;
+        }

@@ -71,8 +71,8 @@ without_else [] q r m = ap (λ ys. kept_of ys r) (without_nothing q)
 without_else (x ∷ xs) q r m = dite (ℕ_discrete x.row q)
     (λ e. ap (λ ys. kept_of ys r) (without_this x xs q e) ∙ (without_else xs q r m ∙ sym (else_is x xs r (λ f. m (sym f ∙ e)))))
     (λ n. ap (λ ys. kept_of ys r) (without_other x xs q n) ∙ dite (ℕ_discrete x.row r)
-        (λ e. here_is x (without q xs) r e ∙ sym (here_is x xs r e))
-        (λ k. else_is x (without q xs) r k ∙ (without_else xs q r m ∙ sym (else_is x xs r k))))
+    (λ e. here_is x (without q xs) r e ∙ sym (here_is x xs r e))
+    (λ k. else_is x (without q xs) r k ∙ (without_else xs q r m ∙ sym (else_is x xs r k))))
 
 still_none : (xs : List Kept) (q r : ℕ) → kept_of xs r ≡ none → kept_of (without q xs) r ≡ none
 still_none xs q r e = dite (ℕ_discrete r q) (λ f. ap (kept_of (without q xs)) f ∙ without_here xs q) (λ n. without_else xs q r n ∙ e)
@@ -118,23 +118,26 @@ module _ (rows : ℕ) (claims : List Claimed) (kept : Vec Kept Global) (k : AreK
   pub has_room : (q : ℕ) → 0 < q → q ≤ rows → kept_of kept.items q ≡ none → length kept.items < rows
   has_room q lo hi none_is = let one : Kept = record { row = q; at = 0 } in
       let all = as_many rows (kept.items ++ one ∷ []) (apart_more kept.items one k.apart none_is) (λ r t e. dite (ℕ_discrete q r)
-          (λ f. subst (λ (x : ℕ). (0 < x) × (x ≤ rows)) f (lo, hi))
-          (λ n. let c = k.are_claimed r t (sym (kept_front kept.items one r n) ∙ e) in (c.0, c.1))) in
+      (λ f. subst (λ (x : ℕ). (0 < x) × (x ≤ rows)) f (lo, hi))
+      (λ n. let c = k.are_claimed r t (sym (kept_front kept.items one r n) ∙ e) in (c.0, c.1))) in
       let more = length-append kept.items (one ∷ []) in omega arith
 
   -- The row is retired, and stands behind the others.
-  pub retired_too : (q t : ℕ) (kept' : Vec Kept Global) → 0 < q → q ≤ rows → kept_of kept.items q ≡ none → kept'.items ≡ kept.items ++ record { row = q; at = t } ∷ [] → rows ≤ vec_capacity kept'
+  pub retired_too : (q t : ℕ) (kept' : Vec Kept Global) → 0 < q → q ≤ rows → kept_of kept.items q ≡ none
+      → kept'.items ≡ kept.items ++ record { row = q; at = t } ∷ [] → rows ≤ vec_capacity kept'
       → AreKept rows (claimed q (Keeps t) claims) kept'
   retired_too q t kept' lo hi none_is grown wide = let one : Kept = record { row = q; at = t } in record {
     apart = subst AreApart (sym grown) (apart_more kept.items one k.apart none_is);
     room = wide;
     are_listed = λ r u e. ap (λ xs. kept_of xs r) grown ∙ dite (ℕ_discrete q r)
-        (λ f. let same : Keeps t ≡ Keeps u = some-injective (Keeps t) (Keeps u) (sym (ap (claim_of (claimed q (Keeps t) claims)) (sym f) ∙ claimed_here claims q (Keeps t)) ∙ e) in let is : t ≡ u = cc in
+        (λ f. let same : Keeps t ≡ Keeps u = some-injective (Keeps t) (Keeps u)
+        (sym (ap (claim_of (claimed q (Keeps t) claims)) (sym f) ∙ claimed_here claims q (Keeps t)) ∙ e) in let is : t ≡ u = cc in
         subst (λ (x : ℕ × ℕ). kept_of (kept.items ++ one ∷ []) x.0 ≡ some x.1) (λ i. (f i, is i)) (kept_last kept.items one none_is))
         (λ n. kept_front kept.items one r n ∙ k.are_listed r u (sym (claimed_else claims q r (Keeps t) (λ f. n (sym f))) ∙ e));
     are_claimed = λ r u e. let now : kept_of (kept.items ++ one ∷ []) r ≡ some u = sym (ap (λ xs. kept_of xs r) grown) ∙ e in dite (ℕ_discrete q r)
         (λ f. let is : t ≡ u = some-injective t u (sym (ap (kept_of (kept.items ++ one ∷ [])) (sym f) ∙ kept_last kept.items one none_is) ∙ now) in
-        subst (λ (x : ℕ × ℕ). (0 < x.0) × (x.0 ≤ rows) × (claim_of (claimed q (Keeps t) claims) x.0 ≡ some (Keeps x.1))) (λ i. (f i, is i)) (lo, hi, claimed_here claims q (Keeps t)))
+        subst (λ (x : ℕ × ℕ). (0 < x.0) × (x.0 ≤ rows) × (claim_of (claimed q (Keeps t) claims) x.0 ≡ some (Keeps x.1))) (λ i. (f i, is i))
+        (lo, hi, claimed_here claims q (Keeps t)))
         (λ n. let c = k.are_claimed r u (sym (kept_front kept.items one r n) ∙ now) in (c.0, c.1, claimed_else claims q r (Keeps t) (λ f. n (sym f)) ∙ c.2));
   }
 
@@ -146,7 +149,8 @@ module _ (rows : ℕ) (claims : List Claimed) (kept : Vec Kept Global) (k : AreK
     are_listed = λ r t e. dite (ℕ_discrete r q)
         (λ f. absurd (new t (some-injective c (Keeps t) (sym (ap (claim_of (claimed q c claims)) f ∙ claimed_here claims q c) ∙ e))))
         (λ n. k.are_listed r t (sym (claimed_else claims q r c n) ∙ e));
-    are_claimed = λ r t e. let was = k.are_claimed r t e in (was.0, was.1, claimed_else claims q r c (λ f. old t (ap (claim_of claims) (sym f) ∙ was.2)) ∙ was.2);
+    are_claimed = λ r t e. let was = k.are_claimed r t e in
+        (was.0, was.1, claimed_else claims q r c (λ f. old t (ap (claim_of claims) (sym f) ∙ was.2)) ∙ was.2);
   }
 
   -- A claim goes from a row that isn't kept.
@@ -161,13 +165,16 @@ module _ (rows : ℕ) (claims : List Claimed) (kept : Vec Kept Global) (k : AreK
   }
 
 -- A row that was taken isn't kept.
-pub taken_too : {U : Type 0} (rows : ℕ) (kept kept' : KeptRows) (m m' : Mine U) (q : ℕ) (its : List ℕ) → AreKept rows m.0.claims kept.rows → claim_of m.0.claims q ≡ none → m' ≡ with_claims m (claimed q (Holds its) m.0.claims) → kept' ≡ kept
+pub taken_too : {U : Type 0} (rows : ℕ) (kept kept' : KeptRows) (m m' : Mine U) (q : ℕ) (its : List ℕ) → AreKept rows m.0.claims kept.rows
+    → claim_of m.0.claims q ≡ none → m' ≡ with_claims m (claimed q (Holds its) m.0.claims) → kept' ≡ kept
     → AreKept rows m'.0.claims kept'.rows
-taken_too {U} rows kept kept' m m' q its k free took same = subst (λ (x : Mine U × KeptRows). AreKept rows x.0.0.claims x.1.rows) (λ i. (sym took i, sym same i))
+taken_too {U} rows kept kept' m m' q its k free took same = subst (λ (x : Mine U × KeptRows). AreKept rows x.0.0.claims x.1.rows)
+    (λ i. (sym took i, sym same i))
     (claimed_too rows m.0.claims kept.rows k q (Holds its) (λ t e. cc) (λ t e. some-ne-none (Keeps t) (sym e ∙ free)))
 
 -- What may be retired isn't kept yet.
-pub released : {U : Type 0} (lent : List ℕ → ℕ → Type 0) (fact : Sizes → ℕ → List ℕ → List U → Type 0) (z : Sizes) (id : ℕ) (d : View U) (q : ℕ) → MayRetire lent fact z id d q → (t : ℕ) → claim_of d.claims q ≢ some (Keeps t)
+pub released : {U : Type 0} (lent : List ℕ → ℕ → Type 0) (fact : Sizes → ℕ → List ℕ → List U → Type 0) (z : Sizes) (id : ℕ) (d : View U) (q : ℕ)
+    → MayRetire lent fact z id d q → (t : ℕ) → claim_of d.claims q ≢ some (Keeps t)
 released lent fact z id d q may t e = by may.0 may.2 (some-injective may.0 (Keeps t) (sym may.1 ∙ e))
   where
     by : (c : Claim) → IsReleased lent fact z id d q c → c ≡ Keeps t → ⊥
@@ -178,9 +185,11 @@ released lent fact z id d q may t e = by may.0 may.2 (some-injective may.0 (Keep
     by (Returns u its) free is = free
 
 -- It isn't in the list, and finds room there.
-pub finds_room : {U : Type 0} (lent : List ℕ → ℕ → Type 0) (fact : Sizes → ℕ → List ℕ → List U → Type 0) (z : Sizes) (id : ℕ) (d : View U) (kept : Vec Kept Global) (q : ℕ) → AreKept z.rows d.claims kept → MayRetire lent fact z id d q → 0 < q → q ≤ z.rows
+pub finds_room : {U : Type 0} (lent : List ℕ → ℕ → Type 0) (fact : Sizes → ℕ → List ℕ → List U → Type 0) (z : Sizes) (id : ℕ) (d : View U)
+    (kept : Vec Kept Global) (q : ℕ) → AreKept z.rows d.claims kept → MayRetire lent fact z id d q → 0 < q → q ≤ z.rows
     → (vec_len kept < z.rows) × (kept_of kept.items q ≡ none)
-finds_room lent fact z id d kept q k may lo hi = let new = not_kept z.rows d.claims kept k q (released lent fact z id d q may) in let less = has_room z.rows d.claims kept k q lo hi new in let long = kept.ok.0 in (omega arith, new)
+finds_room lent fact z id d kept q k may lo hi = let new = not_kept z.rows d.claims kept k q (released lent fact z id d q may) in
+    let less = has_room z.rows d.claims kept k q lo hi new in let long = kept.ok.0 in (omega arith, new)
 
 -- A pass that was just made keeps nothing.
 pub none_kept : (rows : ℕ) (kept : Vec Kept Global) → kept.items ≡ [] → rows ≤ vec_capacity kept → AreKept rows [] kept

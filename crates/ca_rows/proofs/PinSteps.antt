@@ -15,7 +15,8 @@ use Rattle.ca_rows.specs.Told.{Mine, Asked, Announced, Left}
 use Rattle.ca_rows.specs.Words.{epoch, announced}
 use Rattle.ca_rows.proofs.Pinned.{NewPin, pins_step, repinned}
 
-module _ {U : Type 0} (linked lent : List ℕ → ℕ → Type 0) (noted : List ℕ → U → ℕ → Type 0) (fact : Sizes → ℕ → List ℕ → List U → Type 0) (frames : Frames linked lent noted fact) (z : Sizes) where
+module _ {U : Type 0} (linked lent : List ℕ → ℕ → Type 0) (noted : List ℕ → U → ℕ → Type 0) (fact : Sizes → ℕ → List ℕ → List U → Type 0)
+    (frames : Frames linked lent noted fact) (z : Sizes) where
   abbrev R : State (Unit {0}) (View U) → Type 0
   R = Ruled linked lent noted fact z
 
@@ -40,8 +41,10 @@ module _ {U : Type 0} (linked lent : List ℕ → ℕ → Type 0) (noted : List 
     own = r.pins.each id d.pin pin_at
 
     -- Where the seat isn't pinned afterwards, what it saw of the others is so still.
-    others_pinned : (e' : Pin) → e'.pinned ≡ false → (i : ℕ) (x : Pin) → get_elem? (set (map pin_of s.views) id e') i ≡ some x → x.pinned ≡ true → get_elem? (map pin_of s.views) i ≡ some x
-    others_pinned e' un i x there pinned = ⊎_elim (λ (t : (i ≡ id) × (e' ≡ x)). let no : false ≡ true = sym un ∙ (ap (λ (y : Pin). y.pinned) t.1 ∙ pinned) in absurd cc) (λ (t : (i ≢ id) × (get_elem? (map pin_of s.views) i ≡ some x)). t.1)
+    others_pinned : (e' : Pin) → e'.pinned ≡ false → (i : ℕ) (x : Pin) → get_elem? (set (map pin_of s.views) id e') i ≡ some x → x.pinned ≡ true
+        → get_elem? (map pin_of s.views) i ≡ some x
+    others_pinned e' un i x there pinned = ⊎_elim (λ (t : (i ≡ id) × (e' ≡ x)). let no : false ≡ true = sym un ∙ (ap (λ (y : Pin). y.pinned) t.1 ∙ pinned) in
+        absurd cc) (λ (t : (i ≢ id) × (get_elem? (map pin_of s.views) i ≡ some x)). t.1)
         (at_set (map pin_of s.views) id i e' x there)
 
     module _ (un : d.pin.pinned ≡ false) where
@@ -103,7 +106,8 @@ module _ {U : Type 0} (linked lent : List ℕ → ℕ → Type 0) (noted : List 
       same_epoch = else_word 1 (λ e. omega arith)
 
       -- The seat's pin and upper part become these.
-      stores : (e' : Pin) (u' : U) → NewPin r.made s.words new_words (map pin_of s.views) r.pins id d.pin e' pin_at → ((q : ℕ) → ¬ noted new_words u' q) → fact z r.made new_words (set (map upper_of s.views) id u')
+      stores : (e' : Pin) (u' : U) → NewPin r.made s.words new_words (map pin_of s.views) r.pins id d.pin e' pin_at → ((q : ℕ) → ¬ noted new_words u' q)
+          → fact z r.made new_words (set (map upper_of s.views) id u')
           → R record { words = new_words; homes = s.homes; views = set s.views id (record d { pin = e'; upper = u' }) }
       stores e' u' pin unnoted above = repinned linked lent noted fact frames z s r id d (record d { pin = e'; upper = u' }) at new_words agrees record {
         same_sizes = refl;
@@ -142,7 +146,8 @@ module _ {U : Type 0} (linked lent : List ℕ → ℕ → Type 0) (noted : List 
             scanned = λ now i y there low p. ⊎_elim (λ (t : (i ≡ id) × (e' ≡ y)). subst (λ (w : Pin). d.pin.scan ≤ w.moment) t.1 own.scan_past)
                 (λ (t : (i ≢ id) × (get_elem? (map pin_of s.views) i ≡ some y)). own.scanned now i y t.1 low p) (at_set (map pin_of s.views) id i e' y there);
           }
-          (λ q n. let before = (framed_now lo (d.pin.told + 1)).notes id d.upper upper_at q (law.entering_notes (new_words lo (d.pin.told + 1)) d.upper q n) in not_pinned un ((r.seat id d at).noted_pinned q before))
+          (λ q n. let before = (framed_now lo (d.pin.told + 1)).notes id d.upper upper_at q (law.entering_notes (new_words lo (d.pin.told + 1)) d.upper q n) in
+          not_pinned un ((r.seat id d at).noted_pinned q before))
           (law.keeps_entering z r.made (map upper_of s.views) (new_words lo (d.pin.told + 1)) id d.upper (framed_now lo (d.pin.told + 1)).stays upper_at)
 
       leave_step : R record { words = set s.words (d.pin.number + 1) 0; homes = s.homes; views = set s.views id (record d { pin = record d.pin { pinned = false }; upper = leaves d.upper }) }
@@ -179,15 +184,18 @@ module _ {U : Type 0} (linked lent : List ℕ → ℕ → Type 0) (noted : List 
       w,
       keeps,
       tt,
-      subst (λ (y : ℕ × ℕ). R record { words = set s.words y.0 y.1; homes = s.homes; views = set s.views id w }) (λ j. (sym is_i j, sym is_x j)) (announce_step s r id me.0 at enters leaves law lo un),
+      subst (λ (y : ℕ × ℕ). R record { words = set s.words y.0 y.1; homes = s.homes; views = set s.views id w }) (λ j. (sym is_i j, sym is_x j))
+          (announce_step s r id me.0 at enters leaves law lo un),
       (epoch s.words, (own s r id me.0 at).told_past, refl),
     )
 
-    pub unpins : (slots id : ℕ) (me : Mine U) (i : ℕ) → i ≡ me.0.pin.number + 1 → 0 < me.0.pin.number → Allows R slots id me i (λ _. 0) (λ _. Left leaves (step slots i 0 0 none) me 0)
+    pub unpins : (slots id : ℕ) (me : Mine U) (i : ℕ) → i ≡ me.0.pin.number + 1 → 0 < me.0.pin.number
+        → Allows R slots id me i (λ _. 0) (λ _. Left leaves (step slots i 0 0 none) me 0)
     unpins slots id me i is_i lo s r _ at _ = let w : View U = record me.0 { pin = record me.0.pin { pinned = false }; upper = leaves me.0.upper } in (
       w,
       keeps,
       tt,
-      subst (λ (y : ℕ). R record { words = set s.words y 0; homes = s.homes; views = set s.views id w }) (sym is_i) (leave_step s r id me.0 at enters leaves law lo),
+      subst (λ (y : ℕ). R record { words = set s.words y 0; homes = s.homes; views = set s.views id w }) (sym is_i)
+          (leave_step s r id me.0 at enters leaves law lo),
       refl,
     )

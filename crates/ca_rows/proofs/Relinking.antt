@@ -38,7 +38,8 @@ pub data Change : Type 0 where
   -- It is unlinked.
   Goes : Change
 
-module _ {U : Type 0} (linked lent : List ℕ → ℕ → Type 0) (noted : List ℕ → U → ℕ → Type 0) (fact : Sizes → ℕ → List ℕ → List U → Type 0) (lends : LendsLaw linked lent noted fact) (z : Sizes)
+module _ {U : Type 0} (linked lent : List ℕ → ℕ → Type 0) (noted : List ℕ → U → ℕ → Type 0) (fact : Sizes → ℕ → List ℕ → List U → Type 0)
+    (lends : LendsLaw linked lent noted fact) (z : Sizes)
     (s : State (Unit {0}) (View U)) (r : Ruled linked lent noted fact z s) (id : ℕ) (d d' : View U) (words' : List ℕ) (kind : ℕ → Change) where
   abbrev pub after : State (Unit {0}) (View U)
   after = record { words = words'; homes = s.homes; views = set s.views id d' }
@@ -57,7 +58,8 @@ module _ {U : Type 0} (linked lent : List ℕ → ℕ → Type 0) (noted : List 
   IsHeldRow c = (its : List ℕ) × (claim_of d.claims c ≡ some (Holds its))
 
   abbrev pub IsChange : ℕ → Change → Type 0
-  IsChange c Stays = (linked words' c → linked s.words c) × (linked s.words c → linked words' c) × (lent words' c → lent s.words c) × (lent s.words c → lent words' c) × (claim_of d'.claims c ≡ claim_of d.claims c)
+  IsChange c Stays = (linked words' c → linked s.words c) × (linked s.words c → linked words' c) × (lent words' c → lent s.words c)
+      × (lent s.words c → lent words' c) × (claim_of d'.claims c ≡ claim_of d.claims c)
   IsChange c Comes = linked words' c × ¬ lent words' c × IsHeldRow c × (claim_of d'.claims c ≡ none)
   IsChange c Serves = lent words' c × IsHeldRow c × (claim_of d'.claims c ≡ some Lends)
   IsChange c Ends = lent s.words c × ¬ linked words' c × (claim_of d'.claims c ≡ claim_of d.claims c)
@@ -80,7 +82,8 @@ module _ {U : Type 0} (linked lent : List ℕ → ℕ → Type 0) (noted : List 
     pub changes : (c : ℕ) → 0 < c → c ≤ z.rows → IsChange c (kind c)
     pub in_range : (c : ℕ) (x : Claim) → claim_of d'.claims c ≡ some x → (0 < c) × (c ≤ z.rows)
     -- A new note is a pinned pass's, and on a row that is linked now.
-    pub notes : (j : ℕ) (x : View U) → get_elem? (set s.views id d') j ≡ some x → (c : ℕ) → noted words' x.upper c → WasNoted j c ⊎ (linked words' c × (x.pin.pinned ≡ true))
+    pub notes : (j : ℕ) (x : View U) → get_elem? (set s.views id d') j ≡ some x → (c : ℕ) → noted words' x.upper c
+        → WasNoted j c ⊎ (linked words' c × (x.pin.pinned ≡ true))
     pub above : fact z r.made words' (map upper_of (set s.views id d'))
 
   module _ (m : Relinks) where
@@ -132,7 +135,8 @@ module _ {U : Type 0} (linked lent : List ℕ → ℕ → Type 0) (noted : List 
 
     -- who has a note was pinned no later than now
     note_past : (moment c : ℕ) → N moment c → moment ≤ epoch s.words
-    note_past moment c n = let k = r.seat n.seat n.d n.here in let p = (r.pins.each n.seat n.d.pin (at_map pin_of s.views n.seat n.d n.here)).pinned_at (k.noted_pinned c n.note) in
+    note_past moment c n = let k = r.seat n.seat n.d n.here in
+        let p = (r.pins.each n.seat n.d.pin (at_map pin_of s.views n.seat n.d n.here)).pinned_at (k.noted_pinned c n.note) in
         subst (λ x. x ≤ epoch s.words) n.at p.1
 
     out_now : (c : ℕ) → ¬ L' c → IsOut words' L' (lent words') N' c (epoch s.words)
@@ -153,7 +157,8 @@ module _ {U : Type 0} (linked lent : List ℕ → ℕ → Type 0) (noted : List 
 
     claims_are : (c j : ℕ) → claim_of d'.claims c ≡ claim_of d.claims c → claim_at (set s.views id d') j c ≡ claim_at s.views j c
     claims_are c j same = dite (ℕ_discrete j id)
-        (λ (e : j ≡ id). ap (λ (x : ℕ). claim_at (set s.views id d') x c) e ∙ (claim_mine s.views id d d' m.at c ∙ (same ∙ (sym (claim_there s.views id d d' m.at c) ∙ sym (ap (λ (x : ℕ). claim_at s.views x c) e)))))
+        (λ (e : j ≡ id). ap (λ (x : ℕ). claim_at (set s.views id d') x c) e
+        ∙ (claim_mine s.views id d d' m.at c ∙ (same ∙ (sym (claim_there s.views id d d' m.at c) ∙ sym (ap (λ (x : ℕ). claim_at s.views x c) e)))))
         (λ n. claim_others s.views id d d' m.at j c n)
 
     own_claim : (c : ℕ) (o : Option Claim) → claim_of d'.claims c ≡ o → claim_at (set s.views id d') id c ≡ o
@@ -184,18 +189,25 @@ module _ {U : Type 0} (linked lent : List ℕ → ℕ → Type 0) (noted : List 
         by (Returns t its) k = absurd (k.3.0 (lent_linked c b))
 
     row_now : (c : ℕ) → 0 < c → c ≤ z.rows → (x : Change) → IsChange c x → Is c (owner_by c x)
-    row_now c lo hi Stays k = row_stays s.words words' L L' (lent s.words) (lent words') N N' (claim_at s.views) (claim_at (set s.views id d')) (subst (λ y. epoch s.words ≤ y) (sym now) (le_refl (epoch s.words))) c record {
-      words_are = λ n i l. m.unlinked_rows c i lo hi n l;
-      links = (k.0, k.1);
-      lents = (k.2, k.3);
-      notes = λ n moment y. note_was moment c (λ l. n (k.0 l)) y;
-      claims = λ j. claims_are c j k.4;
-    } (r.owner c) (r.row c lo hi)
-    row_now c lo hi Comes k = let o = mine c (r.owner c) k.2 (r.row c lo hi) in (k.0, k.1, λ j. dite (ℕ_discrete j id)
-        (λ (e : j ≡ id). ap (λ (x : ℕ). claim_at (set s.views id d') x c) e ∙ own_claim c none k.3) (λ n. others_none c j n (o.1 j n)))
-    row_now c lo hi Serves k = let o = mine c (r.owner c) k.1 (r.row c lo hi) in ((Lends, own_claim c (some Lends) k.2, inl k.0), λ j n. others_none c j n (o.1 j n))
+    row_now c lo hi Stays k = row_stays s.words words' L L' (lent s.words) (lent words') N N' (claim_at s.views) (claim_at (set s.views id d'))
+        (subst (λ y. epoch s.words ≤ y) (sym now) (le_refl (epoch s.words))) c record {
+          words_are = λ n i l. m.unlinked_rows c i lo hi n l;
+          links = (k.0, k.1);
+          lents = (k.2, k.3);
+          notes = λ n moment y. note_was moment c (λ l. n (k.0 l)) y;
+          claims = λ j. claims_are c j k.4;
+        } (r.owner c) (r.row c lo hi)
+    row_now c lo hi Comes k = let o = mine c (r.owner c) k.2 (r.row c lo hi) in (
+      k.0,
+      k.1,
+      λ j. dite (ℕ_discrete j id)
+          (λ (e : j ≡ id). ap (λ (x : ℕ). claim_at (set s.views id d') x c) e ∙ own_claim c none k.3) (λ n. others_none c j n (o.1 j n)),
+    )
+    row_now c lo hi Serves k = let o = mine c (r.owner c) k.1 (r.row c lo hi) in
+        ((Lends, own_claim c (some Lends) k.2, inl k.0), λ j n. others_none c j n (o.1 j n))
     row_now c lo hi Ends k = ended c (r.owner c) k.0 k.1 (λ j. claims_are c j k.2) (r.row c lo hi)
-    row_now c lo hi Goes k = let free = nobodys c (r.owner c) k.0 k.1 (r.row c lo hi) in ((Unlinked, own_claim c (some Unlinked) k.3, (epoch s.words, out_now c k.2)), λ j n. others_none c j n (free j))
+    row_now c lo hi Goes k = let free = nobodys c (r.owner c) k.0 k.1 (r.row c lo hi) in
+        ((Unlinked, own_claim c (some Unlinked) k.3, (epoch s.words, out_now c k.2)), λ j n. others_none c j n (free j))
 
     free_stays : (c j : ℕ) → 0 < c → c ≤ z.rows → r.owner c ≡ Free j → (x : Change) → IsChange c x → owner_by c x ≡ Free j
     free_stays c j lo hi is Stays k = is
@@ -216,11 +228,13 @@ module _ {U : Type 0} (linked lent : List ℕ → ℕ → Type 0) (noted : List 
         subst (λ i. get_or words' i 0 ≡ get_or s.words i 0) zero_is (m.unlinked_rows c 0 lo hi (was c (Free j) lo hi is).0.0 (omega arith))
 
     stages : (st : Stage) → IsStage z.rows r.owner s.words st → IsStage z.rows owner' words' st
-    stages = let same = ap (λ x. x / 65536) head in stage_stays z.rows r.owner s.words words' r.count r.chain owner' (subst (λ x. head_tag s.words ≤ x) (sym same) (le_refl (head_tag s.words)))
+    stages = let same = ap (λ x. x / 65536) head in
+        stage_stays z.rows r.owner s.words words' r.count r.chain owner' (subst (λ x. head_tag s.words ≤ x) (sym same) (le_refl (head_tag s.words)))
         (λ _ c j lo hi e. ((j, lo, hi, free_stays c j lo hi e (kind c) (m.changes c lo hi)), next c j lo hi e))
 
     same_pins : map pin_of (set s.views id d') ≡ map pin_of s.views
-    same_pins = map-set pin_of s.views id d' ∙ (ap (set (map pin_of s.views) id) m.same_pin ∙ set_again (map pin_of s.views) id d.pin (at_map pin_of s.views id d m.at))
+    same_pins = map-set pin_of s.views id d' ∙ (ap (set (map pin_of s.views) id) m.same_pin
+        ∙ set_again (map pin_of s.views) id d.pin (at_map pin_of s.views id d m.at))
 
     pinned_now : (j : ℕ) (x : View U) → get_elem? (set s.views id d') j ≡ some x → (c : ℕ) → noted words' x.upper c → x.pin.pinned ≡ true
     pinned_now j x here c n = ⊎_elim
@@ -235,7 +249,8 @@ module _ {U : Type 0} (linked lent : List ℕ → ℕ → Type 0) (noted : List 
       made = r.made;
       few = r.few;
       wide = m.wide ∙ r.wide;
-      chain = chain_stays z.rows r.owner s.words words' r.count r.chain owner' (ap (λ x. x % 65536) head) (λ c j lo hi e. (free_stays c j lo hi e (kind c) (m.changes c lo hi), next c j lo hi e)) (λ c j _ _ e. free_was c j (kind c) e);
+      chain = chain_stays z.rows r.owner s.words words' r.count r.chain owner' (ap (λ x. x % 65536) head)
+          (λ c j lo hi e. (free_stays c j lo hi e (kind c) (m.changes c lo hi), next c j lo hi e)) (λ c j _ _ e. free_was c j (kind c) e);
       row = λ c lo hi. row_now c lo hi (kind c) (m.changes c lo hi);
       seat = λ j x here. all_seats (λ i y. (get_elem? (set s.views id d') i ≡ some y) → Knows noted z r.made owner' words' i y) s.views id d'
           (λ here'. record {

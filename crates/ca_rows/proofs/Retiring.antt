@@ -20,7 +20,8 @@ use Rattle.ca_rows.proofs.Claiming.{claim_mine, claim_others, claimed_here, clai
 use Rattle.ca_rows.proofs.Rules.{St, Rule, uppers, Is, notes_back, keeps_rule}
 use Rattle.ca_rows.proofs.Steps.{owned}
 
-module _ {U : Type 0} (linked lent : List ℕ → ℕ → Type 0) (noted : List ℕ → U → ℕ → Type 0) (fact : Sizes → ℕ → List ℕ → List U → Type 0) (frames : Frames linked lent noted fact) (z : Sizes) where
+module _ {U : Type 0} (linked lent : List ℕ → ℕ → Type 0) (noted : List ℕ → U → ℕ → Type 0) (fact : Sizes → ℕ → List ℕ → List U → Type 0)
+    (frames : Frames linked lent noted fact) (z : Sizes) where
   abbrev S : Type 0
   S = St linked lent noted fact frames z
 
@@ -35,9 +36,11 @@ module _ {U : Type 0} (linked lent : List ℕ → ℕ → Type 0) (noted : List 
     Out = IsOut s.words (linked s.words) (lent s.words) (NotedAt noted s.words s.views) q
 
     -- A row that may be retired was unlinked, or nobody knows it.
-    is_out : (c : Claim) → IsClaim s.words (linked s.words) (lent s.words) (NotedAt noted s.words s.views) q c → IsReleased lent fact z id d q c → (age : ℕ) × Out age
+    is_out : (c : Claim) → IsClaim s.words (linked s.words) (lent s.words) (NotedAt noted s.words s.views) q c → IsReleased lent fact z id d q c → (age : ℕ)
+        × Out age
     is_out (Holds its) k free = (0, (k.2.0, omega arith, λ m n. absurd (k.2.1 m n)))
-    is_out Lends k free = ⊎_elim (λ b. absurd (free r.made s.words (uppers linked lent noted fact frames z s) r.above (at_map upper_of s.views id d at) b)) (λ (o : (age : ℕ) × Out age). o) k
+    is_out Lends k free = ⊎_elim (λ b. absurd (free r.made s.words (uppers linked lent noted fact frames z s) r.above (at_map upper_of s.views id d at) b))
+        (λ (o : (age : ℕ) × Out age). o) k
     is_out Unlinked k free = k
     is_out (Keeps t) k free = absurd free
     is_out (Returns t its) k free = absurd free
@@ -47,7 +50,8 @@ module _ {U : Type 0} (linked lent : List ℕ → ℕ → Type 0) (noted : List 
       keeping = record d { claims = claimed q (Keeps (epoch s.words)) d.claims }
 
       retire_step : R record { words = set s.words 1 (get_or s.words 1 0); homes = s.homes; views = set s.views id (record d { claims = claimed q (Keeps (epoch s.words)) d.claims }) }
-      retire_step = let o = owned linked lent noted fact frames z s r id d at q c mine in let out = is_out c o.3 free in let w : View U = record d { claims = claimed q (Keeps (epoch s.words)) d.claims } in
+      retire_step = let o = owned linked lent noted fact frames z s r id d at q c mine in let out = is_out c o.3 free in
+          let w : View U = record d { claims = claimed q (Keeps (epoch s.words)) d.claims } in
           let agrees = same (uppers linked lent noted fact frames z s) s.words in
           subst (λ (ws : List ℕ). R record { words = ws; homes = s.homes; views = set s.views id w }) (sym (set-get_or s.words 1 0))
           (keeps_rule linked lent noted fact frames z s r id d w at refl refl s.words agrees (λ i _ _. refl) refl refl q
@@ -56,7 +60,16 @@ module _ {U : Type 0} (linked lent : List ℕ → ℕ → Type 0) (noted : List 
             (
               Keeps (epoch s.words),
               claim_mine s.views id d w at q ∙ claimed_here d.claims q _,
-              (out.0, out.1.1, le_refl (epoch s.words), (out.1.0, out.1.1, λ m n. out.1.2 m (notes_back linked lent noted fact frames z s r id d w at refl refl s.words agrees m q n))),
+              (
+                out.0,
+                out.1.1,
+                le_refl (epoch s.words),
+                (
+                  out.1.0,
+                  out.1.1,
+                  λ m n. out.1.2 m (notes_back linked lent noted fact frames z s r id d w at refl refl s.words agrees m q n),
+                ),
+              ),
             ),
             λ j n. claim_others s.views id d w at j q n ∙ o.4 j n,
           ))
@@ -69,5 +82,11 @@ module _ {U : Type 0} (linked lent : List ℕ → ℕ → Type 0) (noted : List 
     keeps,
     tt,
     retire_step s r id me.0 at q may.0 may.1 may.2,
-    (o.0, (λ some_rows. ⊎_elim (λ (e : me.0.sizes.rows ≡ 0). absurd (omega arith)) (λ (e : me.0.sizes ≡ z). subst (λ (y : Sizes). q ≤ y.rows) (sym e) o.1) (r.seat id me.0 at).sizes_are), r.pins.small, refl),
+    (
+      o.0,
+      (λ some_rows. ⊎_elim (λ (e : me.0.sizes.rows ≡ 0). absurd (omega arith)) (λ (e : me.0.sizes ≡ z). subst (λ (y : Sizes). q ≤ y.rows) (sym e) o.1)
+          (r.seat id me.0 at).sizes_are),
+      r.pins.small,
+      refl,
+    ),
   )

@@ -27,7 +27,8 @@ module _ {U : Type 0} where
 
   -- `Empty` where the head was empty as it was loaded, `Worn` where it wasn't and its tag was at the last value, `Lost` where the exchange lost.
   abbrev pub TakesRow : Taken → Mine U → Mine U → Type 0
-  TakesRow (Row r) m m' = (0 < r) × (r ≤ m.0.sizes.rows) × (claim_of m.0.claims r ≡ none) × ((its : List ℕ) × (length its ≡ 136) × (m' ≡ with_claims m (claimed r (Holds its) m.0.claims)))
+  TakesRow (Row r) m m' = (0 < r) × (r ≤ m.0.sizes.rows) × (claim_of m.0.claims r ≡ none)
+      × ((its : List ℕ) × (length its ≡ 136) × (m' ≡ with_claims m (claimed r (Holds its) m.0.claims)))
   TakesRow Empty m m' = (t : ℕ) × (m' ≡ with_stage m (Saw t 0))
   TakesRow Lost m m' = m' ≡ missed m
   TakesRow Worn m m' = (r : ℕ) × (0 < r) × (m' ≡ with_stage m (Saw 281474976710655 r))

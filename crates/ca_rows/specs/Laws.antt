@@ -26,7 +26,8 @@ module _ {U : Type 0} (linked lent : List ℕ → ℕ → Type 0) (noted : List 
 
   -- Each step of the rows by themselves: loads, and stores and exchanges that the rule above doesn't see.
   abbrev pub Frames : Type 0
-  Frames = (z : Sizes) (made : ℕ) (uppers : List U) (words others : List ℕ) → fact z made words uppers → Agrees uppers words others → Framed z made uppers words others
+  Frames = (z : Sizes) (made : ℕ) (uppers : List U) (words others : List ℕ) → fact z made words uppers → Agrees uppers words others
+      → Framed z made uppers words others
 
   -- What is lent is linked.
   abbrev pub Lends : Type 0
@@ -34,19 +35,23 @@ module _ {U : Type 0} (linked lent : List ℕ → ℕ → Type 0) (noted : List 
 
   -- A pass that pins or unpins: its upper part becomes that of `enters` or `leaves`. It has no note more, and none after it unpinned.
   pub record Pinning (enters leaves : U → U) : Type 0 where
-    pub keeps_entering : (z : Sizes) (made : ℕ) (uppers : List U) (words : List ℕ) (i : ℕ) (u : U) → fact z made words uppers → get_elem? uppers i ≡ some u → fact z made words (slice_set uppers i (enters u))
+    pub keeps_entering : (z : Sizes) (made : ℕ) (uppers : List U) (words : List ℕ) (i : ℕ) (u : U) → fact z made words uppers → get_elem? uppers i ≡ some u
+        → fact z made words (slice_set uppers i (enters u))
     pub entering_notes : (words : List ℕ) (u : U) (r : ℕ) → noted words (enters u) r → noted words u r
-    pub keeps_leaving : (z : Sizes) (made : ℕ) (uppers : List U) (words : List ℕ) (i : ℕ) (u : U) → fact z made words uppers → get_elem? uppers i ≡ some u → fact z made words (slice_set uppers i (leaves u))
+    pub keeps_leaving : (z : Sizes) (made : ℕ) (uppers : List U) (words : List ℕ) (i : ℕ) (u : U) → fact z made words uppers → get_elem? uppers i ≡ some u
+        → fact z made words (slice_set uppers i (leaves u))
     pub leaving_notes : (words : List ℕ) (u : U) (r : ℕ) → ¬ noted words (leaves u) r
 
   -- A pass that is made, and has the next number, begins with this upper part, and with no note.
   pub record Making (begins : ℕ → U) : Type 0 where
-    pub keeps_making : (z : Sizes) (made : ℕ) (uppers : List U) (words : List ℕ) → fact z made words uppers → fact z (made + 1) words (uppers ++ begins (made + 1) ∷ [])
+    pub keeps_making : (z : Sizes) (made : ℕ) (uppers : List U) (words : List ℕ) → fact z made words uppers
+        → fact z (made + 1) words (uppers ++ begins (made + 1) ∷ [])
     pub making_notes : (words : List ℕ) (pass r : ℕ) → ¬ noted words (begins pass) r
 
   -- A seat is joined into the space's own one, and is spent.
   pub record Closing (both : U → U → U) (spent : U) : Type 0 where
-    pub keeps_closing : (z : Sizes) (made : ℕ) (uppers : List U) (words : List ℕ) (i j : ℕ) (v w : U) → fact z made words uppers → get_elem? uppers i ≡ some v → j ≢ i → get_elem? uppers j ≡ some w
+    pub keeps_closing : (z : Sizes) (made : ℕ) (uppers : List U) (words : List ℕ) (i j : ℕ) (v w : U) → fact z made words uppers
+        → get_elem? uppers i ≡ some v → j ≢ i → get_elem? uppers j ≡ some w
         → fact z made words (slice_set (slice_set uppers i (both v w)) j spent)
     pub closing_notes : (words : List ℕ) (v w : U) (r : ℕ) → noted words (both v w) r → noted words v r ⊎ noted words w r
     pub spent_notes : (words : List ℕ) (r : ℕ) → ¬ noted words spent r
@@ -59,4 +64,5 @@ module _ {U : Type 0} (linked lent : List ℕ → ℕ → Type 0) (noted : List 
     pub notes : (r : ℕ) → ¬ noted words first r
 
   abbrev pub Opening : (Sizes → ℕ → ℕ) → U → Type 0
-  Opening opens first = (z : Sizes) (words : List ℕ) → AreInBounds z → AreUsable z → IsWide z.rows words → ((i : ℕ) → 66 ≤ i → i < 272 → slice_index words i ≡ opens z i) → Opened z first words
+  Opening opens first = (z : Sizes) (words : List ℕ) → AreInBounds z → AreUsable z → IsWide z.rows words
+      → ((i : ℕ) → 66 ≤ i → i < 272 → slice_index words i ≡ opens z i) → Opened z first words

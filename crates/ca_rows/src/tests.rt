@@ -250,7 +250,11 @@ fn rows_and_passes_outside_the_bounds_are_refused(rt: HostRuntime) {
         (384, 64, false),
         (384, 65, true),
     ] {
-        assert_eq!(rt; is_bad(rt.alloc(), rows, passes, STARTS), bad, "{rows} rows, {passes} passes");
+        assert_eq!(rt;
+            is_bad(rt.alloc(), rows, passes, STARTS),
+            bad,
+            "{rows} rows, {passes} passes"
+        );
     }
 }
 

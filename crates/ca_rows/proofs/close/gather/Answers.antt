@@ -17,7 +17,8 @@ join_seat-requires g c =
     let list : c.loop-pass.passes.items ≡ c.pop.new.self.items ++ c.in-Some.pass ∷ [] = search rules in
     let ok : IsClosable table.table_id c.in-Some.pass.seat = all_last (λ (pass : Pass g.row.R.Denot g.row.R-Upper.Denot). IsClosable table.table_id pass.seat) c.pop.new.self.items c.in-Some.pass
     (subst (λ (xs : List (Pass g.row.R.Denot g.row.R-Upper.Denot)). All (λ pass. IsClosable table.table_id pass.seat) xs) list inv.3) in
-    let it : IsClosable table.table_id c.into_seat.result = subst (λ (p : Seat (Unit {0}) (View g.row.R-Upper.Denot)). IsClosable table.table_id p) (sym c.into_seat.ensures) ok in (
+    let it : IsClosable table.table_id c.into_seat.result = subst (λ (p : Seat (Unit {0}) (View g.row.R-Upper.Denot)). IsClosable table.table_id p)
+    (sym c.into_seat.ensures) ok in (
       inv.0 ∙ c.requires.seat.0,
       it.0,
       it.1,

@@ -10,7 +10,11 @@ use Rattle.ca_rows.specs.Rule.{Ruled}
 use Rattle.ca_rows.proofs.space.Space.close.Goals as goal
 
 pub of-requires-2 : goal.of-requires-2
-of-requires-2 g c = (c.close_with.ensures.values.0, c.close_with.ensures.counts.1 ∙ (ap (λ t. t.shared.table_id.slots) c.into_parts-table.ensures.0 ∙ c.args.self.no_slots))
+of-requires-2 g c = (
+  c.close_with.ensures.values.0,
+  c.close_with.ensures.counts.1
+      ∙ (ap (λ t. t.shared.table_id.slots) c.into_parts-table.ensures.0 ∙ c.args.self.no_slots),
+)
 
 same_rest : {S U : Type 0} (a b : Rest S U) → Some a ≡ Some b → a ≡ b
 same_rest a b e = cc

@@ -13,7 +13,8 @@ split_seat-new-requires g c =
     let seat = c.take_up-seat.result in
     let own : IsOwnSeat space.table.shared.table_id space.sizes space.made c.in-Some.rest.seat = search rules in
     let mine : IsOwnSeat space.table.shared.table_id space.sizes space.made seat =
-    subst (λ (p : Seat (Unit {0}) (View g.row.R-Upper.Denot)). IsOwnSeat space.table.shared.table_id space.sizes space.made p) (sym c.take_up-seat.ensures) own in
+    subst (λ (p : Seat (Unit {0}) (View g.row.R-Upper.Denot)). IsOwnSeat space.table.shared.table_id space.sizes space.made p)
+    (sym c.take_up-seat.ensures) own in
     let left = c.if-self.false in
     let bounds = space.passes in
     let sized = space.sized in
