@@ -1,26 +1,25 @@
 -- Fronts: what a pass has seen is handed to another one.
-use Rattle.std.proofs.Common.{◌≡◌, ◌≢◌, ◌⊎◌, ℕ, zero, suc, ◌+◌, ◌<◌, ◌≤◌, Bool, true, false, nat_lt, cond, List, [], ◌∷◌, ◌++◌, length, map, set, sym, refl, ap, ◌∙◌, subst, inl, inr, ⊎_elim, arith, append-nil}
+use Rattle.std.proofs.Common.{◌≡◌, ℕ, ◌<◌, ◌≤◌, Bool, true, false, nat_lt, cond, List, [], ◌∷◌, ◌++◌, length, map, set, sym, refl, ap, ◌∙◌, subst, inl, ⊎_elim, arith, append-nil}
 use Rattle.std.proofs.lemmas.Bool.Decides.{nat_tests}
-use mathlib.Core.Option.{some, none}
+use mathlib.Core.Option.{some}
 use lib.ListN.{get_elem?}
-use Rattle.atomic_table.specs.Table.{State, Splits, Joins}
+use Rattle.atomic_table.specs.Table.{Splits, Joins}
 use Rattle.atomic_table.proofs.Lists.{at_map, set_else}
-use Rattle.ca_model.specs.Event.{Entry}
 use Rattle.ca_model.specs.History.{History, edits_of_pass}
 use Rattle.ca_rows.specs.declared.sizes.Sizes.{Sizes}
 use Rattle.ca_rows.specs.declared.view.View.{View}
 use Rattle.ca_rows.specs.Closed.{joined}
 use Rattle.ca_rows.specs.Laws.{Closing}
-use Rattle.ca_rows.specs.Rule.{fresh, no_sizes, upper_of, Ruled}
+use Rattle.ca_rows.specs.Rule.{fresh, no_sizes, upper_of}
 use Rattle.ca_rows.proofs.Closing.{joins}
 use Rattle.ca_rows.proofs.Forking.{forks}
 use Rattle.ca_rows.proofs.Making.{at_place}
 use Rattle.ca_node.specs.Laws.{numbered, relisted, seat_changed, no_notes, knows_nothing, none_made, in_nothing}
-use Rattle.ca_node.specs.Links.{IsIn, IsLinked, IsLent, IsNoted, by_note, by_item, by_way, by_link, by_link_item}
-use Rattle.ca_node.specs.Told.{MyTree, front_of, longer, learnt}
-use Rattle.ca_node.specs.Tree.{StartsWith, ArePast, Knows, IsTree}
-use Rattle.ca_node.specs.TreeView.{Note, TreeView, blank}
-use Rattle.ca_node.proofs.Looking.{R, knows_upper, further, longer_past}
+use Rattle.ca_node.specs.Links.{IsLinked, IsLent, IsNoted, by_note, by_item, by_way, by_link, by_link_item}
+use Rattle.ca_node.specs.Told.{front_of, longer, learnt}
+use Rattle.ca_node.specs.Tree.{StartsWith, Knows, IsTree}
+use Rattle.ca_node.specs.TreeView.{TreeView, blank}
+use Rattle.ca_node.proofs.Looking.{R, further, longer_past}
 
 -- Of two beginnings of one list the shorter one is the beginning of the longer one.
 two_first : (a b x y : History) → a ++ x ≡ b ++ y → length a ≤ length b → StartsWith b a
@@ -45,6 +44,7 @@ longer_first a b = by_bool (nat_lt (length a) (length b))
     (λ t. subst (λ (c : Bool). length a ≤ length (cond c b a)) (sym t) (let l = less_is (length a) (length b) t in omega arith))
     (λ t. subst (λ (c : Bool). length a ≤ length (cond c b a)) (sym t) (omega arith))
 
+-- The longer one is as long as the second, too.
 pub longer_second : (a b : History) → length b ≤ length (longer a b)
 longer_second a b = by_bool (nat_lt (length a) (length b))
     (λ t. subst (λ (c : Bool). length b ≤ length (cond c b a)) (sym t) (omega arith))
@@ -65,6 +65,7 @@ learnt_notes words u v _ (by_way way row i e) = by_way way row i e
 learnt_notes words u v _ (by_link way row i e) = by_link way row i e
 learnt_notes words u v _ (by_link_item way base row i e f k) = by_link_item way base row i e f k
 
+-- Taking a front in keeps the rule of the tree.
 pub tree_learning : Closing IsLinked IsLent IsNoted IsTree learnt (blank 0)
 tree_learning = record {
   keeps_closing = λ z made uppers words i j v w f at ne there. let u' : TreeView = learnt v w in let us : List TreeView = set uppers i u' in
@@ -131,10 +132,12 @@ front_more z made words uppers id u f at = let next : List TreeView = uppers ++ 
     }
 
 module _ (z : Sizes) where
+  -- A pass is cut in two: what it has seen goes into a front.
   pub fronts : (id : ℕ) (v : View TreeView) → Splits (R z) id v v (fresh no_sizes 0 (front_of v.upper))
   fronts id v s r at = forks IsLinked IsLent IsNoted IsTree z s r id v at (front_of v.upper) (λ q. no_notes s.words (front_of v.upper) q refl refl)
       (front_more z r.made s.words (map upper_of s.views) id v.upper r.above (at_map upper_of s.views id v at))
 
+  -- A pass takes a front in.
   pub learns : (id : ℕ) (v : View TreeView) (seat : ℕ) (w : View TreeView) → v.pin.pinned ≡ false → w.pin.pinned ≡ false → w.made ≡ 0
       → Joins (R z) id v seat w (joined learnt v w) (fresh no_sizes 0 (blank 0))
   learns id v seat w out out' none_made_is = joins IsLinked IsLent IsNoted IsTree learnt (blank 0) tree_learning z id v w seat out out' (λ _ _. none_made_is)

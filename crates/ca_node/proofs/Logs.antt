@@ -9,6 +9,7 @@ use Rattle.ca_model.specs.Lawful.{IsEntryAt, AreEntries, IsPlaceFrom, PlacesRise
 use Rattle.ca_model.specs.StoreMap.{StoreMap}
 use Rattle.ca_node.specs.Tree.{ArePast}
 
+-- The map after a history and some more of it.
 pub after_more : (xs ys : History) (m : StoreMap) → after (xs ++ ys) m ≡ after ys (after xs m)
 after_more [] ys m = refl
 after_more (x ∷ xs) ys m = after_more xs ys (after_edit x.1 m)
@@ -21,6 +22,7 @@ take_whole (x ∷ xs) ys = ap (λ zs. x ∷ zs) (take_whole xs ys)
 pub state_there : (xs ys : History) → state (xs ++ ys) (length xs) ≡ after xs []
 state_there xs ys = ap (λ h. after h []) (take_whole xs ys)
 
+-- A state within a history stays as it grows.
 pub state_stays : (h t : History) (p : ℕ) → p ≤ length h → state (h ++ t) p ≡ state h p
 state_stays h t p l = ap (λ x. after x []) (take-append-le p h t l)
 
@@ -38,6 +40,7 @@ entry_stays pass h t event p [] e = let l = e.0 in let long = length-append h t 
 entry_stays pass h t event p (edit ∷ edits) e = let lo = e.0 in let l = e.1 in let long = length-append h t in
     (e.0, omega arith, get_stays h t (p - 1) (omega arith) ∙ e.2, subst (IsAnswer event) (sym (state_stays h t (p - 1) (omega arith))) e.3)
 
+-- Entries stay right as the history grows.
 pub entries_stay : (pass : ℕ) (h t : History) (log : List Entry) → AreEntries pass h log → AreEntries pass (h ++ t) log
 entries_stay pass h t [] e = tt
 entries_stay pass h t (x ∷ xs) e = (entry_stays pass h t x.0 x.1 (effect x.0) e.0, entries_stay pass h t xs e.1)
@@ -78,6 +81,7 @@ places_more low top [] x l p a n = (weaker low top x.1 (effect x.0) l n, tt)
     weaker low top p (e ∷ es) l n = omega arith
 places_more low top (y ∷ ys) x l p a n = (p.0, places_more y.1 top ys x a.0 p.1 a.1 n)
 
+-- A log with one entry more.
 pub past_more : (top : ℕ) (log : List Entry) (x : Entry) → ArePast top log → x.1 ≤ top → ArePast top (log ++ x ∷ [])
 past_more top [] x a l = (l, tt)
 past_more top (y ∷ ys) x a l = (a.0, past_more top ys x a.1 l)

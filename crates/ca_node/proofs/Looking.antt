@@ -1,7 +1,7 @@
 -- Loads: of the root link, and of words of rows that were shown.
-use Rattle.std.proofs.Common.{◌≡◌, ◌≢◌, ◌⊎◌, ℕ, zero, suc, ◌+◌, ◌*◌, ◌<◌, ◌≤◌, true, List, [], ◌∷◌, ◌++◌, length, map, get_or, set, sym, refl, ap, ◌∙◌, subst, inl, inr, ⊎_elim, arith, length-append, append-nil}
+use Rattle.std.proofs.Common.{◌≡◌, ◌≢◌, ◌⊎◌, ℕ, zero, suc, ◌+◌, ◌*◌, ◌<◌, ◌≤◌, true, List, [], ◌∷◌, ◌++◌, length, map, get_or, set, sym, refl, ap, ◌∙◌, subst, inl, inr, ⊎_elim, arith, length-append}
 use Rattle.std.proofs.lemmas.List.{map-set, set-get_or, append_assoc, length-map}
-use mathlib.Core.Option.{Option, some, none, some-injective, some-ne-none}
+use mathlib.Core.Option.{some, none, some-injective}
 use lib.ListN.{get_elem?}
 use Rattle.atomic_table.specs.Table.{State, step, keeps, Allows}
 use Rattle.atomic_table.proofs.Lists.{at_set, at_map, set_again}
@@ -12,12 +12,12 @@ use Rattle.ca_model.specs.Lawful.{IsLawful}
 use Rattle.ca_rows.specs.declared.sizes.Sizes.{Sizes}
 use Rattle.ca_rows.specs.declared.view.View.{View}
 use Rattle.ca_rows.specs.Rule.{upper_of, Ruled}
-use Rattle.ca_rows.proofs.Relinking.{Change, Stays, Relinks, WasNoted, relinks}
-use Rattle.ca_node.specs.Laws.{tree_lends, numbered, relisted, seat_changed, in_nothing, notes_by, starts_whole, linked_range}
+use Rattle.ca_rows.proofs.Relinking.{Stays, relinks}
+use Rattle.ca_node.specs.Laws.{tree_lends, numbered, relisted, seat_changed, in_nothing, notes_by, starts_whole}
 use Rattle.ca_node.specs.Links.{root, IsIn, IsLinked, by_root, by_base, IsLent, IsNoted, by_note, by_item, by_way, by_link, by_link_item}
-use Rattle.ca_node.specs.Row.{row_at, IsBaseRow, items, pair, objects_in}
-use Rattle.ca_node.specs.Stays.{word_at, row_long, map_same}
-use Rattle.ca_node.specs.Told.{MyTree, with_upper, IsBaseNote, IsKnown, led, IsLed, Leads, IsShown, Reads, IsReadNow, entered, ReadsLast, Refuses}
+use Rattle.ca_node.specs.Row.{row_at, IsBaseRow, items, pair}
+use Rattle.ca_node.specs.Stays.{word_at, row_long}
+use Rattle.ca_node.specs.Told.{MyTree, IsBaseNote, IsKnown, led, IsLed, Leads, IsShown, Reads, IsReadNow, entered, ReadsLast, Refuses}
 use Rattle.ca_node.specs.Tree.{StartsWith, ArePast, IsTrue, Knows, IsTree}
 use Rattle.ca_node.specs.TreeView.{Note, TreeView}
 use Rattle.ca_node.proofs.Logs.{state_there, read_lawful, past_more}
@@ -53,6 +53,7 @@ module _ (z : Sizes) where
         above = subst (IsTree z r.made s.words) (sym (map-set upper_of s.views id d')) above;
       })
 
+  -- What a seat knows of the tree, by its view.
   pub knows_upper : (s : State (Unit {0}) (View TreeView)) (r : R s) (id : ℕ) (d : View TreeView) → get_elem? s.views id ≡ some d
       → Knows z.rows r.made s.words (map upper_of s.views) r.above.history id d.upper
   knows_upper s r id d at = r.above.each_seat id d.upper (at_map upper_of s.views id d at)
@@ -65,17 +66,21 @@ in_more x y xs i = by i.0 i.1
     by zero e = inl (some-injective x y e)
     by (suc k) e = inr (k, e)
 
+-- Edits by some passes are edits by more.
 pub fewer_passes : (made most : ℕ) (h : History) → made ≤ most → AreByPasses made h → AreByPasses most h
 fewer_passes made most [] l b = tt
 fewer_passes made most (x ∷ xs) l b = let hi = b.1 in (b.0, omega arith, fewer_passes made most xs l b.2)
 
+-- Places that are not behind one place are not behind a later one.
 pub longer_past : (n m : ℕ) (log : List Entry) → n ≤ m → ArePast n log → ArePast m log
 longer_past n m [] l p = tt
 longer_past n m (x ∷ xs) l p = let hi = p.0 in (omega arith, longer_past n m xs l p.1)
 
+-- The beginning of a history is no longer than the history.
 pub starts_shorter : (h seen : History) → StartsWith h seen → length seen ≤ length h
 starts_shorter h seen s = let e = ap (λ (x : History). length x) s.1 in let m = length-append seen s.0 in omega arith
 
+-- The beginning of a beginning.
 pub further : (a b c : History) → StartsWith a b → StartsWith b c → StartsWith a c
 further a b c x y = (y.0 ++ x.0, x.1 ∙ (ap (λ h. h ++ x.0) y.1 ∙ append_assoc c y.0 x.0))
 
@@ -92,6 +97,7 @@ new_notes words u more note here named empty _ (by_way way row i e) = absurd (in
 new_notes words u more note here named empty _ (by_link way row i e) = absurd (in_nothing way u.ways empty i)
 new_notes words u more note here named empty _ (by_link_item way base row i e f m) = absurd (in_nothing way u.ways empty i)
 
+-- An entry in the log gives no note.
 pub entered_notes : (words : List ℕ) (u : TreeView) (event : Event) (row : ℕ) → IsNoted words (entered u event) row → IsNoted words u row
 entered_notes words u event _ (by_note note row i e) = by_note note row i e
 entered_notes words u event _ (by_item note row i b k) = by_item note row i b k
@@ -104,6 +110,7 @@ module _ (z : Sizes) (made : ℕ) (words : List ℕ) (uppers : List TreeView) (f
   abbrev pub root_note : Note
   root_note = record { row = root words; its = row_at words (root words); objects = map (λ r. row_at words r) (items (row_at words (root words))) }
 
+  -- That note says what the words spell.
   pub root_true : IsTrue z.rows words root_note
   root_true = let b = f.base in record {
     some_row = b.some_row;
@@ -114,6 +121,7 @@ module _ (z : Sizes) (made : ℕ) (words : List ℕ) (uppers : List TreeView) (f
     objects_are = λ _. refl;
   }
 
+  -- It is on a base.
   pub root_base : IsBaseNote z root_note
   root_base = let b = f.base in record {
     some_row = b.some_row;
@@ -131,6 +139,7 @@ module _ (z : Sizes) (made : ℕ) (words : List ℕ) (uppers : List TreeView) (f
   twice [] = refl
   twice (x ∷ xs) = ap (λ ys. pair (row_at words x) ∷ ys) (twice xs)
 
+  -- Its objects are the last state.
   pub root_map : map pair root_note.objects ≡ after f.history []
   root_map = twice (items (row_at words (root words))) ∙ f.map_is
 
@@ -145,6 +154,7 @@ module _ (z : Sizes) (made : ℕ) (words : List ℕ) (uppers : List TreeView) (f
       shown.2)
 
 module _ (z : Sizes) where
+  -- The load of the root link.
   pub leads : (slots id : ℕ) (me : MyTree) → me.0.pin.pinned ≡ true → Allows (R z) slots id me 130 (λ x. x) (Leads (step slots 130 0 0 none) me)
   leads slots id me is_pinned s r _ at _ = let f = r.above in let d = me.0 in let k = knows_upper z s r id d at in
       let us : List TreeView = map upper_of s.views in
@@ -192,6 +202,7 @@ module _ (z : Sizes) where
         ),
       )
 
+  -- The load of a word of a row that was shown.
   pub reads : (slots id : ℕ) (me : MyTree) (i : ℕ) → Allows (R z) slots id me i (λ x. x) (Reads (step slots i 0 0 none) me)
   reads slots id me i s r _ at _ = let f = r.above in let d = me.0 in let k = knows_upper z s r id d at in let us : List TreeView = map upper_of s.views in
       let first = at_map upper_of s.views id d at in (

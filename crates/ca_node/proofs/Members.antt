@@ -1,7 +1,7 @@
 -- Members of lists, claims on lists of rows, and rows of a list one by one.
-use Rattle.std.proofs.Common.{◌≡◌, ◌≢◌, ◌⊎◌, ℕ, zero, suc, ◌+◌, ◌<◌, ◌≤◌, List, [], ◌∷◌, length, map, sym, refl, ap, ◌∙◌, inl, inr, ⊎_elim, arith}
+use Rattle.std.proofs.Common.{◌≡◌, ◌⊎◌, ℕ, zero, suc, List, [], ◌∷◌, length, map, sym, refl, ap, ◌∙◌, inl, inr, ⊎_elim, arith}
 use mathlib.Core.Logic.{dite}
-use mathlib.Core.Option.{some, none, some-injective, some-ne-none}
+use mathlib.Core.Option.{some, none, some-ne-none}
 use native.Mathlib.Decide.{ℕ_discrete}
 use lib.ListN.{get_elem?}
 use Rattle.ca_rows.specs.declared.view.Claim.TheVariants.{Unlinked}
@@ -13,9 +13,11 @@ use Rattle.ca_node.specs.Links.{IsIn}
 use Rattle.ca_node.specs.Told.{given, taken_out}
 use Rattle.ca_node.proofs.Looking.{in_more}
 
+-- The first row is in the list.
 pub in_first : (r : ℕ) (xs : List ℕ) → IsIn r (r ∷ xs)
 in_first r xs = (0, refl)
 
+-- A row of the rest is.
 pub in_rest : (r x : ℕ) (xs : List ℕ) → IsIn r xs → IsIn r (x ∷ xs)
 in_rest r x xs i = (suc i.0, i.1)
 
@@ -26,22 +28,26 @@ has (x ∷ xs) r = dite (ℕ_discrete x r)
     (λ e. inl (0, ap some e))
     (λ n. ⊎_elim (λ (i : IsIn r xs). inl (in_rest r x xs i)) (λ (m : ¬ IsIn r xs). inr (λ i. ⊎_elim n m (in_more x r xs i))) (has xs r))
 
+-- A row that was given has no claim.
 pub given_here : (rows : List ℕ) (claims : List Claimed) (r : ℕ) → IsIn r rows → claim_of (given rows claims) r ≡ none
 given_here [] claims r i = absurd (in_nothing r [] refl i)
 given_here (x ∷ xs) claims r i = dite (ℕ_discrete r x)
     (λ e. ap (claim_of (given (x ∷ xs) claims)) e ∙ dropped_here (given xs claims) x)
     (λ n. dropped_else (given xs claims) x r n ∙ given_here xs claims r (⊎_elim (λ e. absurd (n (sym e))) (λ j. j) (in_more x r xs i)))
 
+-- Another one has the claim that it had.
 pub given_else : (rows : List ℕ) (claims : List Claimed) (r : ℕ) → ¬ IsIn r rows → claim_of (given rows claims) r ≡ claim_of claims r
 given_else [] claims r n = refl
 given_else (x ∷ xs) claims r n = dropped_else (given xs claims) x r (λ e. n (0, ap some (sym e))) ∙ given_else xs claims r (λ i. n (in_rest r x xs i))
 
+-- A row that was taken out is unlinked by the seat.
 pub taken_here : (rows : List ℕ) (claims : List Claimed) (r : ℕ) → IsIn r rows → claim_of (taken_out rows claims) r ≡ some Unlinked
 taken_here [] claims r i = absurd (in_nothing r [] refl i)
 taken_here (x ∷ xs) claims r i = dite (ℕ_discrete r x)
     (λ e. ap (claim_of (taken_out (x ∷ xs) claims)) e ∙ claimed_here (taken_out xs claims) x Unlinked)
     (λ n. claimed_else (taken_out xs claims) x r Unlinked n ∙ taken_here xs claims r (⊎_elim (λ e. absurd (n (sym e))) (λ j. j) (in_more x r xs i)))
 
+-- Another one has the claim that it had.
 pub taken_else : (rows : List ℕ) (claims : List Claimed) (r : ℕ) → ¬ IsIn r rows → claim_of (taken_out rows claims) r ≡ claim_of claims r
 taken_else [] claims r n = refl
 taken_else (x ∷ xs) claims r n = claimed_else (taken_out xs claims) x r Unlinked (λ e. n (0, ap some (sym e)))

@@ -1,9 +1,9 @@
 -- An update: one base takes the place of another under the root link.
-use Rattle.std.proofs.Common.{◌≡◌, ◌≢◌, ◌⊎◌, ℕ, zero, suc, ◌+◌, ◌*◌, ◌<◌, ◌≤◌, Bool, true, eqb, List, [], ◌∷◌, ◌++◌, length, map, get_or, set, sym, refl, ap, ◌∙◌, subst, inl, inr, ⊎_elim, arith, length-set, length-append, eq-eqb, ne_eqb, get_or-set_other, get_or-set_same}
+use Rattle.std.proofs.Common.{◌≡◌, ◌≢◌, ◌⊎◌, ℕ, ◌+◌, ◌*◌, ◌<◌, ◌≤◌, Bool, eqb, List, [], ◌∷◌, ◌++◌, length, map, get_or, set, sym, refl, ap, ◌∙◌, subst, inl, inr, ⊎_elim, arith, length-set, length-append, eq-eqb, ne_eqb, get_or-set_other, get_or-set_same}
 use Rattle.std.proofs.lemmas.List.{map-set, append_assoc}
 use Rattle.std.proofs.lemmas.Grind.{same_number_lists}
 use mathlib.Core.Logic.{dite}
-use mathlib.Core.Option.{some, none, some-injective, some-ne-none}
+use mathlib.Core.Option.{some, none, some-injective}
 use native.Mathlib.Decide.{ℕ_discrete}
 use lib.ListN.{get_elem?}
 use prog.Atomic.{either}
@@ -14,25 +14,24 @@ use Rattle.ca_model.specs.History.{History, Edit, after, after_edit, IsEdit, Are
 use Rattle.ca_model.specs.Lawful.{IsLawful}
 use Rattle.ca_rows.specs.declared.sizes.Sizes.{Sizes}
 use Rattle.ca_rows.specs.declared.view.Claim.{Claim}
-use Rattle.ca_rows.specs.declared.view.Claim.TheVariants.{Holds, Unlinked}
+use Rattle.ca_rows.specs.declared.view.Claim.TheVariants.{Holds}
 use Rattle.ca_rows.specs.declared.view.View.{View}
-use Rattle.ca_rows.specs.Account.{IsClaim}
-use Rattle.ca_rows.specs.Claims.{claim_of, claimed, dropped}
-use Rattle.ca_rows.specs.Rule.{upper_of, Ruled, NotedAt}
-use Rattle.ca_rows.specs.Words.{IsWide, Spells}
-use Rattle.ca_rows.proofs.Relinking.{Change, Stays, Comes, Goes, IsChange, Relinks, WasNoted, relinks}
+use Rattle.ca_rows.specs.Claims.{claim_of}
+use Rattle.ca_rows.specs.Rule.{upper_of}
+use Rattle.ca_rows.specs.Words.{IsWide}
+use Rattle.ca_rows.proofs.Relinking.{Change, Stays, Comes, Goes, IsChange, relinks}
 use Rattle.ca_rows.proofs.Rules.{all_seats}
 use Rattle.ca_rows.proofs.Steps.{owned}
 use Rattle.ca_node.specs.Laws.{tree_frames, tree_lends, numbered, relisted, in_nothing, reached, linked_range, notes_by, nothing_lent, starts_whole}
 use Rattle.ca_node.specs.Links.{root, IsIn, IsLinked, by_root, by_base, IsLent, IsNoted, by_note, by_item, by_way, by_link, by_link_item}
 use Rattle.ca_node.specs.Row.{row_at, form, IsObjectRow, IsBaseRow, items, count, level, mark, pair, objects_in}
 use Rattle.ca_node.specs.Stays.{row_same, row_long, word_at, map_same}
-use Rattle.ca_node.specs.Told.{MyTree, Update, IsUpdate, IsObjectOf, given, taken_out, updated, Updates, HasUpdated, led}
-use Rattle.ca_node.specs.Tree.{Place, root_place, IsBaseAt, StartsWith, ArePast, IsTrue, Knows, IsTree}
+use Rattle.ca_node.specs.Told.{MyTree, Update, IsUpdate, given, taken_out, updated, Updates, HasUpdated}
+use Rattle.ca_node.specs.Tree.{root_place, IsBaseAt, StartsWith, IsTrue, Knows, IsTree}
 use Rattle.ca_node.specs.TreeView.{Note, TreeView}
 use Rattle.ca_node.proofs.Logs.{after_more, others_lawful, own_lawful, past_more}
-use Rattle.ca_node.proofs.Looking.{R, looked, knows_upper, further, longer_past, starts_shorter, in_more, new_notes}
-use Rattle.ca_node.proofs.Members.{in_first, in_rest, has, given_here, given_else, taken_here, taken_else, other_has, map_is_list}
+use Rattle.ca_node.proofs.Looking.{R, looked, knows_upper, further, longer_past, starts_shorter, in_more}
+use Rattle.ca_node.proofs.Members.{in_rest, has, given_here, given_else, taken_here, taken_else, other_has, map_is_list}
 
 edits_more : (keypos : ℕ) (h : History) (n : ℕ) (e : Edit) → AreEdits keypos h → IsEdit keypos e → AreEdits keypos (h ++ (n, e) ∷ [])
 edits_more keypos [] n e a is = (is, tt)
@@ -336,6 +335,7 @@ module _ (z : Sizes) (s : State (Unit {0}) (View TreeView)) (r : R z s) (id : �
       (λ n. (r.seat id d at).in_range row c (sym (taken_else outs (given ins d.claims) row m ∙ given_else ins d.claims row n) ∙ e)) (has ins row))
       (has outs row)
 
+  -- Where the root link names the old base, the exchange carries out the update.
   pub update_step : R z record { words = words'; homes = s.homes; views = set s.views id d' }
   update_step = relinks IsLinked IsLent IsNoted IsTree tree_lends z s r id d d' words' kind record {
     at = at;

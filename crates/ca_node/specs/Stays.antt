@@ -1,9 +1,7 @@
 -- What stays where two tables agree on rows.
-use Rattle.std.proofs.Common.{◌≡◌, ◌⊎◌, ℕ, zero, suc, ◌+◌, ◌*◌, ◌<◌, ◌≤◌, List, [], ◌∷◌, length, map, take, drop, get_or, sym, refl, ap, ◌∙◌, subst, inl, inr, ⊎_elim, arith, length-drop}
+use Rattle.std.proofs.Common.{◌≡◌, ℕ, suc, ◌+◌, ◌*◌, ◌<◌, ◌≤◌, List, [], ◌∷◌, length, map, drop, get_or, sym, refl, ap, ◌∙◌, subst, inl, inr, ⊎_elim, arith, length-drop}
 use Rattle.std.proofs.lemmas.List.{get_or-take, get_or-drop, length-take-le}
 use Rattle.std.proofs.lemmas.Grind.{same_number_lists}
-use mathlib.Core.Option.{some, some-injective}
-use lib.ListN.{get_elem?}
 use Rattle.ca_rows.specs.Words.{IsWide}
 use Rattle.ca_node.specs.Links.{root, IsIn, IsUnder, IsActive, IsBoundOf, IsLinked, by_root, by_route, by_base, by_range, IsLent}
 use Rattle.ca_node.specs.Row.{row_at, IsBaseRow, IsRouteRow, items, mark, mark_owner, mark_number, mark_bound}

@@ -1,14 +1,14 @@
 -- A seat is cut in two: it stays as it was, and a new one knows something of the rule above, and nothing of the rows.
-use Rattle.std.proofs.Common.{◌≡◌, ◌≢◌, ◌⊎◌, ℕ, ◌<◌, ◌≤◌, false, true, List, [], ◌∷◌, ◌++◌, map, length, set, sym, refl, ap, ◌∙◌, subst, inl, inr, ⊎_elim, arith, le_refl}
+use Rattle.std.proofs.Common.{◌≡◌, ℕ, false, true, List, [], ◌∷◌, ◌++◌, map, length, set, sym, refl, ap, ◌∙◌, subst, inl, ⊎_elim, arith, le_refl}
 use Rattle.std.proofs.lemmas.List.{map-append}
-use mathlib.Core.Option.{some, none, some-ne-none}
+use mathlib.Core.Option.{some, some-ne-none}
 use lib.ListN.{get_elem?}
-use Rattle.atomic_table.specs.Table.{State, Splits}
+use Rattle.atomic_table.specs.Table.{State}
 use Rattle.atomic_table.proofs.Lists.{set_again}
 use Rattle.ca_rows.specs.declared.sizes.Sizes.{Sizes}
 use Rattle.ca_rows.specs.declared.view.Pin.{Pin}
 use Rattle.ca_rows.specs.declared.view.View.{View}
-use Rattle.ca_rows.specs.Claims.{claim_of, claim_at}
+use Rattle.ca_rows.specs.Claims.{claim_at}
 use Rattle.ca_rows.specs.Pins.{ArePins, IsPin, unpinned}
 use Rattle.ca_rows.specs.Rule.{fresh, no_sizes, upper_of, pin_of, NotedAt, Knows, Ruled}
 use Rattle.ca_rows.proofs.Accounts.{row_stays}

@@ -1,9 +1,9 @@
 -- A row is retired: a load of the epoch, since which the seat keeps the row.
-use Rattle.std.proofs.Common.{◌≡◌, ℕ, ◌+◌, ◌<◌, ◌≤◌, List, get_or, set, sym, refl, ◌∙◌, subst, ⊎_elim, arith, le_refl}
+use Rattle.std.proofs.Common.{◌≡◌, ℕ, ◌≤◌, List, get_or, set, sym, refl, ◌∙◌, subst, ⊎_elim, arith, le_refl}
 use Rattle.std.proofs.lemmas.List.{set-get_or}
 use mathlib.Core.Option.{some, none}
 use lib.ListN.{get_elem?}
-use Rattle.atomic_table.specs.Table.{State, step, keeps, Allows}
+use Rattle.atomic_table.specs.Table.{step, keeps, Allows}
 use Rattle.atomic_table.proofs.Lists.{at_map}
 use Rattle.ca_rows.specs.declared.sizes.Sizes.{Sizes}
 use Rattle.ca_rows.specs.declared.view.Claim.{Claim}
@@ -13,7 +13,7 @@ use Rattle.ca_rows.specs.Account.{IsOut, IsClaim}
 use Rattle.ca_rows.specs.Claims.{claim_of, claimed}
 use Rattle.ca_rows.specs.Kept.{IsReleased, MayRetire}
 use Rattle.ca_rows.specs.Laws.{Agrees, Frames}
-use Rattle.ca_rows.specs.Rule.{upper_of, NotedAt, Ruled}
+use Rattle.ca_rows.specs.Rule.{upper_of, NotedAt}
 use Rattle.ca_rows.specs.Told.{Mine, Retired}
 use Rattle.ca_rows.specs.Words.{epoch}
 use Rattle.ca_rows.proofs.Claiming.{claim_mine, claim_others, claimed_here, claimed_else}

@@ -1,4 +1,4 @@
-use Rattle.std.proofs.Common.{◌≡◌, Bool, refl, inl, sym, subst}
+use Rattle.std.proofs.Common.{Bool, refl, inl, sym, subst}
 use Rattle.ca_node.specs.Told.{HasUpdated}
 use Rattle.ca_node.proofs.Updating.{updates_from, has_updated}
 use Rattle.ca_node.proofs.exchange.replace_base.Goals as goal
