@@ -37,9 +37,11 @@ module _ (words words' : List ℕ) (L L' B B' : ℕ → Type 0) (N N' : ℕ → 
     row_stays (Of i) x = ((x.0.0, same.claims i ∙ x.0.1, claim_stays x.0.0 x.0.2), λ j n. same.claims j ∙ x.1 j n)
 
 -- With fewer notes a claim holds too.
-pub claim_fewer : (words : List ℕ) (L B : ℕ → Type 0) (N N' : ℕ → ℕ → Type 0) (r : ℕ) → ((m : ℕ) → N' m r → N m r) → (c : Claim) → IsClaim words L B N r c → IsClaim words L B N' r c
+pub claim_fewer : (words : List ℕ) (L B : ℕ → Type 0) (N N' : ℕ → ℕ → Type 0) (r : ℕ) → ((m : ℕ) → N' m r → N m r) → (c : Claim) → IsClaim words L B N r c
+    → IsClaim words L B N' r c
 claim_fewer words L B N N' r fewer (Holds its) c = (c.0, c.1, (c.2.0, λ m n. c.2.1 m (fewer m n)))
-claim_fewer words L B N N' r fewer Lends c = ⊎_elim (λ b. inl b) (λ (o : (age : ℕ) × IsOut words L B N r age). inr (o.0, (o.1.0, o.1.1, λ m n. o.1.2 m (fewer m n)))) c
+claim_fewer words L B N N' r fewer Lends c = ⊎_elim (λ b. inl b)
+    (λ (o : (age : ℕ) × IsOut words L B N r age). inr (o.0, (o.1.0, o.1.1, λ m n. o.1.2 m (fewer m n)))) c
 claim_fewer words L B N N' r fewer Unlinked c = (c.0, (c.1.0, c.1.1, λ m n. c.1.2 m (fewer m n)))
 claim_fewer words L B N N' r fewer (Keeps t) c = (c.0, c.1, c.2, (c.3.0, c.3.1, λ m n. c.3.2 m (fewer m n)))
 claim_fewer words L B N N' r fewer (Returns t its) c = (c.0, c.1, c.2, (c.3.0, λ m n. c.3.1 m (fewer m n)))

@@ -37,13 +37,15 @@ module _ (rows : ℕ) (owner : ℕ → Owner) where
   top_in_range (suc m) row t = t.1
 
   -- where another function says the same of the rows below n
-  top_as : (owner' : ℕ → Owner) (n row : ℕ) → ((r k : ℕ) → 0 < r → r ≤ rows → owner r ≡ Free k → k < n → owner' r ≡ Free k) → IsTop rows owner n row → IsTop rows owner' n row
+  top_as : (owner' : ℕ → Owner) (n row : ℕ) → ((r k : ℕ) → 0 < r → r ≤ rows → owner r ≡ Free k → k < n → owner' r ≡ Free k) → IsTop rows owner n row
+      → IsTop rows owner' n row
   top_as owner' zero row same t = t
   top_as owner' (suc m) row same t = (t.0, t.1, same row m t.0 t.1 t.2 (omega arith))
 
   module _ (words words' : List ℕ) (n : ℕ) (chain : IsChain rows owner words n) where
     -- The chain stays where head, free rows and their next rows do.
-    pub chain_stays : (owner' : ℕ → Owner) → head_row words' ≡ head_row words → ((r k : ℕ) → 0 < r → r ≤ rows → owner r ≡ Free k → (owner' r ≡ Free k) × (next_of words' r ≡ next_of words r))
+    pub chain_stays : (owner' : ℕ → Owner) → head_row words' ≡ head_row words
+        → ((r k : ℕ) → 0 < r → r ≤ rows → owner r ≡ Free k → (owner' r ≡ Free k) × (next_of words' r ≡ next_of words r))
         → ((r k : ℕ) → 0 < r → r ≤ rows → owner' r ≡ Free k → owner r ≡ Free k) → IsChain rows owner' words' n
     chain_stays owner' head same back = record {
       top = subst (IsTop rows owner' n) (sym head) (top_as owner' n _ (λ r k lo hi e _. (same r k lo hi e).0) chain.top);
@@ -57,8 +59,11 @@ module _ (rows : ℕ) (owner : ℕ → Owner) where
         → ((r : ℕ) → 0 < r → next_of words' r ≡ next_of words r) → IsChain rows (put owner q o) words' m
     chain_takes q m o not_free lo_q hi_q is count head same = record {
       top = subst (IsTop rows (put owner q o) m) (sym head) (top_as (put owner q o) m _ stays (chain.below q m lo_q hi_q is).1);
-      below = λ r k lo hi e. let w = was r k e in let b = chain.below r k lo hi w.1 in
-          (lower r k lo hi w.0 w.1, subst (IsTop rows (put owner q o) k) (sym (same r lo)) (top_as (put owner q o) k _ (λ c j l h f s. stays c j l h f (let z = lower r k lo hi w.0 w.1 in omega arith)) b.1));
+      below = λ r k lo hi e. let w = was r k e in let b = chain.below r k lo hi w.1 in (
+        lower r k lo hi w.0 w.1,
+        subst (IsTop rows (put owner q o) k) (sym (same r lo))
+            (top_as (put owner q o) k _ (λ c j l h f s. stays c j l h f (let z = lower r k lo hi w.0 w.1 in omega arith)) b.1),
+      );
       apart = λ r c k lo hi lo' hi' e f. chain.apart r c k lo hi lo' hi' (was r k e).1 (was c k f).1;
     }
       where
@@ -79,12 +84,19 @@ module _ (rows : ℕ) (owner : ℕ → Owner) where
     chain_gives q not_free lo_q hi_q head next same = record {
       top = (subst (λ x. 0 < x) (sym head) lo_q, subst (λ x. x ≤ rows) (sym head) hi_q, put_here owner q (Free n) _ head);
       below = λ r k lo hi e. dite (ℕ_discrete r q)
-          (λ (s : r ≡ q). let h : n ≡ k = same_height n k (sym (put_here owner q (Free n) r s) ∙ e) in
-          (omega arith, subst (λ (x : ℕ × ℕ). IsTop rows (put owner q (Free n)) x.0 x.1) (λ i. (h i, sym (ap (next_of words') s ∙ next) i)) (top_as (put owner q (Free n)) n _ stays chain.top)))
-          (λ ne. let w = was r k ne e in let b = chain.below r k lo hi w in
-          ((let z = b.0 in omega arith), subst (IsTop rows (put owner q (Free n)) k) (sym (same r lo ne)) (top_as (put owner q (Free n)) k _ (λ c j l h f x. stays c j l h f (let z = b.0 in omega arith)) b.1)));
+          (λ (s : r ≡ q). let h : n ≡ k = same_height n k (sym (put_here owner q (Free n) r s) ∙ e) in (
+            omega arith,
+            subst (λ (x : ℕ × ℕ). IsTop rows (put owner q (Free n)) x.0 x.1) (λ i. (h i, sym (ap (next_of words') s ∙ next) i))
+                (top_as (put owner q (Free n)) n _ stays chain.top),
+          ))
+          (λ ne. let w = was r k ne e in let b = chain.below r k lo hi w in (
+            (let z = b.0 in omega arith),
+            subst (IsTop rows (put owner q (Free n)) k) (sym (same r lo ne))
+                (top_as (put owner q (Free n)) k _ (λ c j l h f x. stays c j l h f (let z = b.0 in omega arith)) b.1),
+          ));
       apart = λ r c k lo hi lo' hi' e f. dite (ℕ_discrete r q)
-          (λ (s : r ≡ q). dite (ℕ_discrete c q) (λ (t : c ≡ q). s ∙ sym t) (λ ne. absurd (too_high c k lo' hi' ne f (same_height n k (sym (put_here owner q (Free n) r s) ∙ e)))))
+          (λ (s : r ≡ q). dite (ℕ_discrete c q) (λ (t : c ≡ q). s ∙ sym t)
+          (λ ne. absurd (too_high c k lo' hi' ne f (same_height n k (sym (put_here owner q (Free n) r s) ∙ e)))))
           (λ ne. dite (ℕ_discrete c q) (λ (t : c ≡ q). absurd (too_high r k lo hi ne e (same_height n k (sym (put_here owner q (Free n) c t) ∙ f))))
           (λ ne'. chain.apart r c k lo hi lo' hi' (was r k ne e) (was c k ne' f)));
     }
@@ -103,7 +115,8 @@ module _ (rows : ℕ) (owner : ℕ → Owner) where
         → (head_tag words ≡ head_tag words' → (r k : ℕ) → 0 < r → r ≤ rows → owner r ≡ Free k → IsFree rows owner' r × (next_of words' r ≡ next_of words r))
         → (st : Stage) → IsStage rows owner words st → IsStage rows owner' words' st
     stage_stays owner' up same Idle k = tt
-    stage_stays owner' up same (Saw t r) k = let a = k.0 in (omega arith, λ e lo. let z : head_tag words ≡ head_tag words' = omega arith in let f = k.1 (e ∙ sym z) lo in (same z r f.0 f.1 f.2 f.3).0)
+    stage_stays owner' up same (Saw t r) k = let a = k.0 in
+        (omega arith, λ e lo. let z : head_tag words ≡ head_tag words' = omega arith in let f = k.1 (e ∙ sym z) lo in (same z r f.0 f.1 f.2 f.3).0)
     stage_stays owner' up same (Knew t r x) k = let a = k.0 in (
       omega arith,
       λ e. let z : head_tag words ≡ head_tag words' = omega arith in let w = k.1 (e ∙ sym z) in let f = w.0 in

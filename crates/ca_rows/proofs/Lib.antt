@@ -1,12 +1,16 @@
 mod Accounts
 mod Calling
 mod Chains
-mod Claiming
-mod Closing
-mod Making
+pub mod Claiming
+pub mod Closing
+pub mod Forking
+pub mod Keeping
+pub mod Making
 mod PinSteps
 mod Pinned
+pub mod Relinking
 mod Resting
-mod Rules
+mod Retiring
+pub mod Rules
 mod Starting
-mod Steps
+pub mod Steps

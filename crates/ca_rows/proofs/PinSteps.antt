@@ -15,7 +15,8 @@ use Rattle.ca_rows.specs.Told.{Mine, Asked, Announced, Left}
 use Rattle.ca_rows.specs.Words.{epoch, announced}
 use Rattle.ca_rows.proofs.Pinned.{NewPin, pins_step, repinned}
 
-module _ {U : Type 0} (linked lent : List ℕ → ℕ → Type 0) (noted : List ℕ → U → ℕ → Type 0) (fact : Sizes → List ℕ → List U → Type 0) (frames : Frames linked lent noted fact) (z : Sizes) where
+module _ {U : Type 0} (linked lent : List ℕ → ℕ → Type 0) (noted : List ℕ → U → ℕ → Type 0) (fact : Sizes → ℕ → List ℕ → List U → Type 0)
+    (frames : Frames linked lent noted fact) (z : Sizes) where
   abbrev R : State (Unit {0}) (View U) → Type 0
   R = Ruled linked lent noted fact z
 
@@ -40,8 +41,10 @@ module _ {U : Type 0} (linked lent : List ℕ → ℕ → Type 0) (noted : List 
     own = r.pins.each id d.pin pin_at
 
     -- Where the seat isn't pinned afterwards, what it saw of the others is so still.
-    others_pinned : (e' : Pin) → e'.pinned ≡ false → (i : ℕ) (x : Pin) → get_elem? (set (map pin_of s.views) id e') i ≡ some x → x.pinned ≡ true → get_elem? (map pin_of s.views) i ≡ some x
-    others_pinned e' un i x there pinned = ⊎_elim (λ (t : (i ≡ id) × (e' ≡ x)). let no : false ≡ true = sym un ∙ (ap (λ (y : Pin). y.pinned) t.1 ∙ pinned) in absurd cc) (λ (t : (i ≢ id) × (get_elem? (map pin_of s.views) i ≡ some x)). t.1)
+    others_pinned : (e' : Pin) → e'.pinned ≡ false → (i : ℕ) (x : Pin) → get_elem? (set (map pin_of s.views) id e') i ≡ some x → x.pinned ≡ true
+        → get_elem? (map pin_of s.views) i ≡ some x
+    others_pinned e' un i x there pinned = ⊎_elim (λ (t : (i ≡ id) × (e' ≡ x)). let no : false ≡ true = sym un ∙ (ap (λ (y : Pin). y.pinned) t.1 ∙ pinned) in
+        absurd cc) (λ (t : (i ≢ id) × (get_elem? (map pin_of s.views) i ≡ some x)). t.1)
         (at_set (map pin_of s.views) id i e' x there)
 
     module _ (un : d.pin.pinned ≡ false) where
@@ -70,7 +73,7 @@ module _ {U : Type 0} (linked lent : List ℕ → ℕ → Type 0) (noted : List 
       ask_step = let w : View U = record d { pin = record d.pin { told = epoch s.words } } in
           subst (λ (ws : List ℕ). R record { words = ws; homes = s.homes; views = set s.views id w }) (sym (set-get_or s.words 1 0))
           (repinned linked lent noted fact frames z s r id d w at s.words (nothing (map upper_of s.views) s.words) record {
-            same_rows = refl;
+            same_sizes = refl;
             same_made = refl;
             same_stage = refl;
             same_claims = refl;
@@ -79,7 +82,7 @@ module _ {U : Type 0} (linked lent : List ℕ → ℕ → Type 0) (noted : List 
             later = le_refl (epoch s.words);
             notes = λ q n. (n, refl, (r.seat id d at).noted_pinned q n);
             pins = pins_step r.made s.words s.words (map pin_of s.views) r.pins id d.pin (record d.pin { told = epoch s.words }) pin_at asks_pin;
-            above = subst (fact z s.words) (sym (set_again (map upper_of s.views) id d.upper upper_at)) r.above;
+            above = subst (fact z r.made s.words) (sym (set_again (map upper_of s.views) id d.upper upper_at)) r.above;
           })
 
     -- A store of the seat's own announcement.
@@ -103,10 +106,11 @@ module _ {U : Type 0} (linked lent : List ℕ → ℕ → Type 0) (noted : List 
       same_epoch = else_word 1 (λ e. omega arith)
 
       -- The seat's pin and upper part become these.
-      stores : (e' : Pin) (u' : U) → NewPin r.made s.words new_words (map pin_of s.views) r.pins id d.pin e' pin_at → ((q : ℕ) → ¬ noted new_words u' q) → fact z new_words (set (map upper_of s.views) id u')
+      stores : (e' : Pin) (u' : U) → NewPin r.made s.words new_words (map pin_of s.views) r.pins id d.pin e' pin_at → ((q : ℕ) → ¬ noted new_words u' q)
+          → fact z r.made new_words (set (map upper_of s.views) id u')
           → R record { words = new_words; homes = s.homes; views = set s.views id (record d { pin = e'; upper = u' }) }
       stores e' u' pin unnoted above = repinned linked lent noted fact frames z s r id d (record d { pin = e'; upper = u' }) at new_words agrees record {
-        same_rows = refl;
+        same_sizes = refl;
         same_made = refl;
         same_stage = refl;
         same_claims = refl;
@@ -118,8 +122,8 @@ module _ {U : Type 0} (linked lent : List ℕ → ℕ → Type 0) (noted : List 
         above = above;
       }
 
-      framed_now : Framed linked lent noted fact z (map upper_of s.views) s.words new_words
-      framed_now = frames z (map upper_of s.views) s.words new_words r.above agrees
+      framed_now : Framed linked lent noted fact z r.made (map upper_of s.views) s.words new_words
+      framed_now = frames z r.made (map upper_of s.views) s.words new_words r.above agrees
 
     module _ (enters leaves : U → U) (law : Pinning linked lent noted fact enters leaves) (lo : 0 < d.pin.number) where
       announce_step : d.pin.pinned ≡ false → R record {
@@ -142,8 +146,9 @@ module _ {U : Type 0} (linked lent : List ℕ → ℕ → Type 0) (noted : List 
             scanned = λ now i y there low p. ⊎_elim (λ (t : (i ≡ id) × (e' ≡ y)). subst (λ (w : Pin). d.pin.scan ≤ w.moment) t.1 own.scan_past)
                 (λ (t : (i ≢ id) × (get_elem? (map pin_of s.views) i ≡ some y)). own.scanned now i y t.1 low p) (at_set (map pin_of s.views) id i e' y there);
           }
-          (λ q n. let before = (framed_now lo (d.pin.told + 1)).notes id d.upper upper_at q (law.entering_notes (new_words lo (d.pin.told + 1)) d.upper q n) in not_pinned un ((r.seat id d at).noted_pinned q before))
-          (law.keeps_entering z (map upper_of s.views) (new_words lo (d.pin.told + 1)) id d.upper (framed_now lo (d.pin.told + 1)).stays upper_at)
+          (λ q n. let before = (framed_now lo (d.pin.told + 1)).notes id d.upper upper_at q (law.entering_notes (new_words lo (d.pin.told + 1)) d.upper q n) in
+          not_pinned un ((r.seat id d at).noted_pinned q before))
+          (law.keeps_entering z r.made (map upper_of s.views) (new_words lo (d.pin.told + 1)) id d.upper (framed_now lo (d.pin.told + 1)).stays upper_at)
 
       leave_step : R record { words = set s.words (d.pin.number + 1) 0; homes = s.homes; views = set s.views id (record d { pin = record d.pin { pinned = false }; upper = leaves d.upper }) }
       leave_step = let e' : Pin = record d.pin { pinned = false } in stores lo 0 e' (leaves d.upper)
@@ -161,7 +166,7 @@ module _ {U : Type 0} (linked lent : List ℕ → ℕ → Type 0) (noted : List 
             scanned = λ now i y there low p. own.scanned now i y (others_pinned e' refl i y there p) low p;
           }
           (λ q n. law.leaving_notes (new_words lo 0) d.upper q n)
-          (law.keeps_leaving z (map upper_of s.views) (new_words lo 0) id d.upper (framed_now lo 0).stays upper_at)
+          (law.keeps_leaving z r.made (map upper_of s.views) (new_words lo 0) id d.upper (framed_now lo 0).stays upper_at)
 
   pub asks : (slots id : ℕ) (me : Mine U) → me.0.pin.pinned ≡ false → Allows R slots id me 1 (λ x. x) (Asked (step slots 1 0 0 none) me)
   asks slots id me un s r _ at _ = (
@@ -179,15 +184,18 @@ module _ {U : Type 0} (linked lent : List ℕ → ℕ → Type 0) (noted : List 
       w,
       keeps,
       tt,
-      subst (λ (y : ℕ × ℕ). R record { words = set s.words y.0 y.1; homes = s.homes; views = set s.views id w }) (λ j. (sym is_i j, sym is_x j)) (announce_step s r id me.0 at enters leaves law lo un),
+      subst (λ (y : ℕ × ℕ). R record { words = set s.words y.0 y.1; homes = s.homes; views = set s.views id w }) (λ j. (sym is_i j, sym is_x j))
+          (announce_step s r id me.0 at enters leaves law lo un),
       (epoch s.words, (own s r id me.0 at).told_past, refl),
     )
 
-    pub unpins : (slots id : ℕ) (me : Mine U) (i : ℕ) → i ≡ me.0.pin.number + 1 → 0 < me.0.pin.number → Allows R slots id me i (λ _. 0) (λ _. Left leaves (step slots i 0 0 none) me 0)
+    pub unpins : (slots id : ℕ) (me : Mine U) (i : ℕ) → i ≡ me.0.pin.number + 1 → 0 < me.0.pin.number
+        → Allows R slots id me i (λ _. 0) (λ _. Left leaves (step slots i 0 0 none) me 0)
     unpins slots id me i is_i lo s r _ at _ = let w : View U = record me.0 { pin = record me.0.pin { pinned = false }; upper = leaves me.0.upper } in (
       w,
       keeps,
       tt,
-      subst (λ (y : ℕ). R record { words = set s.words y 0; homes = s.homes; views = set s.views id w }) (sym is_i) (leave_step s r id me.0 at enters leaves law lo),
+      subst (λ (y : ℕ). R record { words = set s.words y 0; homes = s.homes; views = set s.views id w }) (sym is_i)
+          (leave_step s r id me.0 at enters leaves law lo),
       refl,
     )

@@ -48,9 +48,11 @@ module _ (made : ℕ) (words words' : List ℕ) (pins : List Pin) (p : ArePins m
     where
       -- the pin with this number stands where the old one stood
       number_at : (i : ℕ) (d : Pin) → get_elem? (set pins id e') i ≡ some d → (x : Pin) × (get_elem? pins i ≡ some x) × (x.number ≡ d.number)
-      number_at i d here = ⊎_elim (λ (t : (i ≡ id) × (e' ≡ d)). (e, ap (get_elem? pins) t.0 ∙ at, sym n.number_is ∙ ap (λ (y : Pin). y.number) t.1)) (λ (t : (i ≢ id) × (get_elem? pins i ≡ some d)). (d, t.1, refl)) (at_set pins id i e' d here)
+      number_at i d here = ⊎_elim (λ (t : (i ≡ id) × (e' ≡ d)). (e, ap (get_elem? pins) t.0 ∙ at, sym n.number_is ∙ ap (λ (y : Pin). y.number) t.1))
+          (λ (t : (i ≢ id) × (get_elem? pins i ≡ some d)). (d, t.1, refl)) (at_set pins id i e' d here)
 
-      alone_now : (j : ℕ) (x : Pin) → get_elem? pins j ≡ some x → 0 < x.number → (i : ℕ) (d : Pin) → get_elem? (set pins id e') i ≡ some d → d.number ≡ x.number → i ≡ j
+      alone_now : (j : ℕ) (x : Pin) → get_elem? pins j ≡ some x → 0 < x.number → (i : ℕ) (d : Pin) → get_elem? (set pins id e') i ≡ some d
+          → d.number ≡ x.number → i ≡ j
       alone_now j x here lo i d there same = let y = number_at i d there in (p.each j x here).alone lo i y.0 y.1 (y.2 ∙ same)
 
       mine : IsPin made words' (set pins id e') id e'
@@ -88,14 +90,16 @@ module _ (made : ℕ) (words words' : List ℕ) (pins : List Pin) (p : ArePins m
           not_mine : 0 < x.number → x.number ≢ e.number
           not_mine lo f = ne (sym ((p.each j x here).alone lo id e at (sym f)))
 
-module _ {U : Type 0} (linked lent : List ℕ → ℕ → Type 0) (noted : List ℕ → U → ℕ → Type 0) (fact : Sizes → List ℕ → List U → Type 0) (frames : Frames linked lent noted fact) (z : Sizes)
-    (s : State (Unit {0}) (View U)) (r : Ruled linked lent noted fact z s) (id : ℕ) (d d' : View U) (at : get_elem? s.views id ≡ some d) (words' : List ℕ) (agrees : Agrees linked lent noted fact (map upper_of s.views) s.words words') where
-  framed : Framed linked lent noted fact z (map upper_of s.views) s.words words'
-  framed = frames z (map upper_of s.views) s.words words' r.above agrees
+module _ {U : Type 0} (linked lent : List ℕ → ℕ → Type 0) (noted : List ℕ → U → ℕ → Type 0) (fact : Sizes → ℕ → List ℕ → List U → Type 0)
+    (frames : Frames linked lent noted fact) (z : Sizes)
+    (s : State (Unit {0}) (View U)) (r : Ruled linked lent noted fact z s) (id : ℕ) (d d' : View U) (at : get_elem? s.views id ≡ some d) (words' : List ℕ)
+    (agrees : Agrees linked lent noted fact (map upper_of s.views) s.words words') where
+  framed : Framed linked lent noted fact z r.made (map upper_of s.views) s.words words'
+  framed = frames z r.made (map upper_of s.views) s.words words' r.above agrees
 
   -- what a step says that changes the pin, and perhaps the upper part, but no row
   pub record Repins : Type 0 where
-    pub same_rows : d'.rows ≡ d.rows
+    pub same_sizes : d'.sizes ≡ d.sizes
     pub same_made : d'.made ≡ d.made
     pub same_stage : d'.stage ≡ d.stage
     pub same_claims : d'.claims ≡ d.claims
@@ -105,7 +109,7 @@ module _ {U : Type 0} (linked lent : List ℕ → ℕ → Type 0) (noted : List 
     -- A note that the seat has now it had before, with the same pin.
     pub notes : (q : ℕ) → noted words' d'.upper q → noted s.words d.upper q × (d'.pin.moment ≡ d.pin.moment) × (d'.pin.pinned ≡ true)
     pub pins : ArePins r.made words' (set (map pin_of s.views) id d'.pin)
-    pub above : fact z words' (set (map upper_of s.views) id d'.upper)
+    pub above : fact z r.made words' (set (map upper_of s.views) id d'.upper)
 
   pub repinned : Repins → Ruled linked lent noted fact z record { words = words'; homes = s.homes; views = set s.views id d' }
   repinned n = record {
@@ -115,23 +119,32 @@ module _ {U : Type 0} (linked lent : List ℕ → ℕ → Type 0) (noted : List 
     few = r.few;
     wide = agrees.wide ∙ r.wide;
     chain = chain_stays z.rows r.owner s.words words' r.count r.chain r.owner (ap (λ x. x % 65536) n.head) (λ c k lo _ e. (e, next c lo)) (λ c k _ _ e. e);
-    row = λ c lo hi. row_stays s.words words' (linked s.words) (linked words') (lent s.words) (lent words') (NotedAt noted s.words s.views) (NotedAt noted words' (set s.views id d')) (claim_at s.views) (claim_at (set s.views id d')) n.later c
-        record { words_are = λ _ k _. n.rows_are (136 * c + k) (omega arith); links = framed.links c; lents = framed.lents c; notes = λ _ m x. notes_back m c x; claims = λ j. claims_are j c } (r.owner c) (r.row c lo hi);
-    seat = let mine = r.seat id d at in all_seats (Knows noted z.rows r.made r.owner words') s.views id d' record {
-      rows_are = subst (λ x. (x ≡ 0) ⊎ (x ≡ z.rows)) (sym n.same_rows) mine.rows_are;
+    row = λ c lo hi. row_stays s.words words' (linked s.words) (linked words') (lent s.words) (lent words') (NotedAt noted s.words s.views)
+        (NotedAt noted words' (set s.views id d')) (claim_at s.views) (claim_at (set s.views id d')) n.later c
+        record {
+          words_are = λ _ k _. n.rows_are (136 * c + k)
+              (omega arith);
+          links = framed.links c;
+          lents = framed.lents c;
+          notes = λ _ m x. notes_back m c x;
+          claims = λ j. claims_are j c;
+        } (r.owner c)
+        (r.row c lo hi);
+    seat = let mine = r.seat id d at in all_seats (Knows noted z r.made r.owner words') s.views id d' record {
+      sizes_are = subst (λ (x : Sizes). (x.rows ≡ 0) ⊎ (x ≡ z)) (sym n.same_sizes) mine.sizes_are;
       made_are = λ e. n.same_made ∙ mine.made_are e;
       stage_is = subst (IsStage z.rows r.owner words') (sym n.same_stage) (stages d.stage mine.stage_is);
       in_range = λ c x e. mine.in_range c x (ap (λ xs. claim_of xs c) (sym n.same_claims) ∙ e);
       noted_pinned = λ c x. (n.notes c x).2;
     } (λ j x ne e. let k = r.seat j x e in record {
-      rows_are = k.rows_are;
+      sizes_are = k.sizes_are;
       made_are = k.made_are;
       stage_is = stages x.stage k.stage_is;
       in_range = k.in_range;
       noted_pinned = λ c m. k.noted_pinned c (framed.notes j x.upper (at_map upper_of s.views j x e) c m);
     });
     pins = subst (ArePins r.made words') (sym (map-set pin_of s.views id d')) n.pins;
-    above = subst (fact z words') (sym (map-set upper_of s.views id d')) n.above;
+    above = subst (fact z r.made words') (sym (map-set upper_of s.views id d')) n.above;
   }
     where
       next : (c : ℕ) → 0 < c → next_of words' c ≡ next_of s.words c
@@ -139,11 +152,14 @@ module _ {U : Type 0} (linked lent : List ℕ → ℕ → Type 0) (noted : List 
 
       stages : (st : Stage) → IsStage z.rows r.owner s.words st → IsStage z.rows r.owner words' st
       stages = let same = ap (λ x. x / 65536) n.head in
-          stage_stays z.rows r.owner s.words words' r.count r.chain r.owner (subst (λ x. head_tag s.words ≤ x) (sym same) (le_refl (head_tag s.words))) (λ _ c k lo hi e. ((k, lo, hi, e), next c lo))
+          stage_stays z.rows r.owner s.words words' r.count r.chain r.owner (subst (λ x. head_tag s.words ≤ x) (sym same) (le_refl (head_tag s.words)))
+          (λ _ c k lo hi e. ((k, lo, hi, e), next c lo))
 
       claims_are : (j c : ℕ) → claim_at (set s.views id d') j c ≡ claim_at s.views j c
       claims_are j c = dite (ℕ_discrete j id)
-          (λ (e : j ≡ id). ap (λ x. claim_at (set s.views id d') x c) e ∙ (claim_mine s.views id d d' at c ∙ (ap (λ xs. claim_of xs c) n.same_claims ∙ (sym (claim_there s.views id d d' at c) ∙ ap (λ x. claim_at s.views x c) (sym e)))))
+          (λ (e : j ≡ id). ap (λ x. claim_at (set s.views id d') x c) e
+          ∙ (claim_mine s.views id d d' at c ∙ (ap (λ xs. claim_of xs c) n.same_claims
+          ∙ (sym (claim_there s.views id d d' at c) ∙ ap (λ x. claim_at s.views x c) (sym e)))))
           (λ ne. claim_others s.views id d d' at j c ne)
 
       notes_back : (m q : ℕ) → NotedAt noted words' (set s.views id d') m q → NotedAt noted s.words s.views m q

@@ -29,7 +29,8 @@ all_seats {A} K l me w mine others j d e = ⊎_elim (λ (t : (j ≡ me) × (w �
     (λ (t : (j ≢ me) × (get_elem? l j ≡ some d)). others j d t.0 t.1) (at_set l me j w d e)
 
 -- A step on other words keeps pins.
-pub pins_stay : (made : ℕ) (words words' : List ℕ) (pins : List Pin) → ((i : ℕ) → 0 < i → i < 66 → get_or words' i 0 ≡ get_or words i 0) → ArePins made words pins → ArePins made words' pins
+pub pins_stay : (made : ℕ) (words words' : List ℕ) (pins : List Pin) → ((i : ℕ) → 0 < i → i < 66 → get_or words' i 0 ≡ get_or words i 0)
+    → ArePins made words pins → ArePins made words' pins
 pins_stay made words words' pins same p = record {
   few = p.few;
   small = subst (λ x. x ≤ 4611686018427387904) (sym now) p.small;
@@ -50,7 +51,8 @@ pins_stay made words words' pins same p = record {
     now : epoch words' ≡ epoch words
     now = same 1 (omega arith) (omega arith)
 
-module _ {U : Type 0} (linked lent : List ℕ → ℕ → Type 0) (noted : List ℕ → U → ℕ → Type 0) (fact : Sizes → List ℕ → List U → Type 0) (frames : Frames linked lent noted fact) (z : Sizes) where
+module _ {U : Type 0} (linked lent : List ℕ → ℕ → Type 0) (noted : List ℕ → U → ℕ → Type 0) (fact : Sizes → ℕ → List ℕ → List U → Type 0)
+    (frames : Frames linked lent noted fact) (z : Sizes) where
   abbrev pub St : Type 0
   St = State (Unit {0}) (View U)
 
@@ -65,20 +67,21 @@ module _ {U : Type 0} (linked lent : List ℕ → ℕ → Type 0) (noted : List 
     abbrev pub after : St
     after = record { words = words'; homes = s.homes; views = set s.views id d' }
 
-    framed : Framed linked lent noted fact z (uppers s) s.words words'
-    framed = frames z (uppers s) s.words words' r.above agrees
+    framed : Framed linked lent noted fact z r.made (uppers s) s.words words'
+    framed = frames z r.made (uppers s) s.words words' r.above agrees
 
     same_uppers : map upper_of (set s.views id d') ≡ uppers s
     same_uppers = map-set upper_of s.views id d' ∙ (ap (set (uppers s) id) same_upper ∙ set_again (uppers s) id d.upper (at_map upper_of s.views id d at))
 
     same_pins : map pin_of (set s.views id d') ≡ map pin_of s.views
-    same_pins = map-set pin_of s.views id d' ∙ (ap (set (map pin_of s.views) id) same_pin ∙ set_again (map pin_of s.views) id d.pin (at_map pin_of s.views id d at))
+    same_pins = map-set pin_of s.views id d' ∙ (ap (set (map pin_of s.views) id) same_pin
+        ∙ set_again (map pin_of s.views) id d.pin (at_map pin_of s.views id d at))
 
     note_back : (j : ℕ) (x : View U) → get_elem? s.views j ≡ some x → (q : ℕ) → noted words' x.upper q → noted s.words x.upper q
     note_back j x here q n = framed.notes j x.upper (at_map upper_of s.views j x here) q n
 
     -- Who has a note after the step had it before.
-    notes_back : (m q : ℕ) → NotedAt noted words' after.views m q → NotedAt noted s.words s.views m q
+    pub notes_back : (m q : ℕ) → NotedAt noted words' after.views m q → NotedAt noted s.words s.views m q
     notes_back m q n = ⊎_elim
         (λ (t : (n.seat ≡ id) × (d' ≡ n.d)). record {
           seat = id;
@@ -97,10 +100,12 @@ module _ {U : Type 0} (linked lent : List ℕ → ℕ → Type 0) (noted : List 
     Is = IsRow words' (linked words') (lent words') (NotedAt noted words' after.views) (claim_at after.views)
 
     -- A row that nobody could reach, and nobody read, is so still.
-    pub alone_now : (q : ℕ) → IsAlone s.words (linked s.words) (lent s.words) (NotedAt noted s.words s.views) q → IsAlone words' (linked words') (lent words') (NotedAt noted words' after.views) q
+    pub alone_now : (q : ℕ) → IsAlone s.words (linked s.words) (lent s.words) (NotedAt noted s.words s.views) q
+        → IsAlone words' (linked words') (lent words') (NotedAt noted words' after.views) q
     alone_now q a = ((λ l. a.0 ((framed.links q).0 l)), (λ m n. a.1 m (notes_back m q n)))
 
-    module _ (low : (i : ℕ) → 0 < i → i < 66 → get_or words' i 0 ≡ get_or s.words i 0) (same_rows : d'.rows ≡ d.rows) (same_made : d'.made ≡ d.made) (q : ℕ) where
+    module _ (low : (i : ℕ) → 0 < i → i < 66 → get_or words' i 0 ≡ get_or s.words i 0) (same_sizes : d'.sizes ≡ d.sizes) (same_made : d'.made ≡ d.made)
+        (q : ℕ) where
       -- what a step says of each row but q
       pub record Elsewhere (owner' : ℕ → Owner) (c : ℕ) : Type 0 where
         pub owner_is : owner' c ≡ r.owner c
@@ -123,22 +128,24 @@ module _ {U : Type 0} (linked lent : List ℕ → ℕ → Type 0) (noted : List 
         row = λ c lo hi. dite (ℕ_discrete c q)
             (λ (e : c ≡ q). subst (λ (x : ℕ). Is x (owner' x)) (sym e) (here (subst (λ x. 0 < x) e lo) (subst (λ x. x ≤ z.rows) e hi)))
             (λ n. other c lo hi (else c lo hi n));
-        seat = all_seats (Knows noted z.rows r.made owner' words') s.views id d' record {
-          rows_are = subst (λ x. (x ≡ 0) ⊎ (x ≡ z.rows)) (sym same_rows) mine.rows_are;
+        seat = all_seats (Knows noted z r.made owner' words') s.views id d' record {
+          sizes_are = subst (λ (x : Sizes). (x.rows ≡ 0) ⊎ (x ≡ z)) (sym same_sizes) mine.sizes_are;
           made_are = λ e. same_made ∙ mine.made_are e;
           stage_is = stage;
-          in_range = λ c x e. dite (ℕ_discrete c q) (λ (f : c ≡ q). subst (λ y. (0 < y) × (y ≤ z.rows)) (sym f) (in_range x (subst (λ y. claim_of d'.claims y ≡ some x) f e)))
+          in_range = λ c x e. dite (ℕ_discrete c q) (λ (f : c ≡ q). subst (λ y. (0 < y) × (y ≤ z.rows)) (sym f)
+              (in_range x (subst (λ y. claim_of d'.claims y ≡ some x) f e)))
               (λ n. mine.in_range c x (sym (claims c n) ∙ e));
-          noted_pinned = λ c n. ap (λ (e : Pin). e.pinned) same_pin ∙ mine.noted_pinned c (note_back id d at c (subst (λ (u : U). noted words' u c) same_upper n));
+          noted_pinned = λ c n. ap (λ (e : Pin). e.pinned) same_pin
+              ∙ mine.noted_pinned c (note_back id d at c (subst (λ (u : U). noted words' u c) same_upper n));
         } (λ j x n e. let k = r.seat j x e in record {
-          rows_are = k.rows_are;
+          sizes_are = k.sizes_are;
           made_are = k.made_are;
           stage_is = stages x.stage k.stage_is;
           in_range = k.in_range;
           noted_pinned = λ c m. k.noted_pinned c (note_back j x e c m);
         });
         pins = subst (ArePins r.made words') (sym same_pins) (pins_stay r.made s.words words' (map pin_of s.views) low r.pins);
-        above = subst (fact z words') (sym same_uppers) framed.stays;
+        above = subst (fact z r.made words') (sym same_uppers) framed.stays;
       }
         where
           now : epoch words' ≡ epoch s.words
@@ -149,11 +156,13 @@ module _ {U : Type 0} (linked lent : List ℕ → ℕ → Type 0) (noted : List 
 
           claims_are : (c j : ℕ) → claim_of d'.claims c ≡ claim_of d.claims c → claim_at after.views j c ≡ claim_at s.views j c
           claims_are c j same = dite (ℕ_discrete j id)
-              (λ (e : j ≡ id). ap (λ (x : ℕ). claim_at after.views x c) e ∙ (claim_mine s.views id d d' at c ∙ (same ∙ (was_mine c ∙ sym (ap (λ (x : ℕ). claim_at s.views x c) e)))))
+              (λ (e : j ≡ id). ap (λ (x : ℕ). claim_at after.views x c) e
+              ∙ (claim_mine s.views id d d' at c ∙ (same ∙ (was_mine c ∙ sym (ap (λ (x : ℕ). claim_at s.views x c) e)))))
               (λ n. claim_others s.views id d d' at j c n)
 
           other : (c : ℕ) → 0 < c → c ≤ z.rows → Elsewhere owner' c → Is c (owner' c)
           other c lo hi e = subst (Is c) (sym e.owner_is)
-              (row_stays s.words words' (linked s.words) (linked words') (lent s.words) (lent words') (NotedAt noted s.words s.views) (NotedAt noted words' after.views) (claim_at s.views) (claim_at after.views)
+              (row_stays s.words words' (linked s.words) (linked words') (lent s.words) (lent words') (NotedAt noted s.words s.views)
+              (NotedAt noted words' after.views) (claim_at s.views) (claim_at after.views)
               (subst (λ x. epoch s.words ≤ x) (sym now) (le_refl (epoch s.words))) c
               record { words_are = e.words_are; links = framed.links c; lents = framed.lents c; notes = λ _ m n. notes_back m c n; claims = λ j. claims_are c j e.claim_is } (r.owner c) (r.row c lo hi))

@@ -11,7 +11,7 @@ use Rattle.ca_rows.specs.Account.{IsRow}
 use Rattle.ca_rows.specs.Chain.{Owner, Free, Linked, IsTop, IsChain}
 use Rattle.ca_rows.specs.Claims.{claim_at}
 use Rattle.ca_rows.specs.Laws.{Opened, Opening}
-use Rattle.ca_rows.specs.Opening.{AreInBounds, IsOpening, row_behind}
+use Rattle.ca_rows.specs.Opening.{AreInBounds, AreUsable, IsOpening, row_behind}
 use Rattle.ca_rows.specs.Pins.{ArePins, IsPin, unpinned}
 use Rattle.ca_rows.specs.Rule.{fresh, NotedAt, Knows, Ruled}
 use Rattle.ca_rows.specs.Words.{head_row, next_of}
@@ -35,7 +35,8 @@ module _ (rows : ℕ) where
   height : (r k : ℕ) → first_owner rows r ≡ Free k → (r ≢ 1) × (rows - r ≡ k)
   height r k e = let n : r ≢ 1 = λ f. let x : Linked ≡ Free k = sym (is_linked r f) ∙ e in cc in (n, same_height (rows - r) k (sym (is_free r n) ∙ e))
 
-  first_chain : (words : List ℕ) → 2 ≤ rows → head_row words ≡ 2 → ((r : ℕ) → 2 ≤ r → r ≤ rows → next_of words r ≡ row_behind rows r) → IsChain rows (first_owner rows) words (suc (rows - 2))
+  first_chain : (words : List ℕ) → 2 ≤ rows → head_row words ≡ 2 → ((r : ℕ) → 2 ≤ r → r ≤ rows → next_of words r ≡ row_behind rows r)
+      → IsChain rows (first_owner rows) words (suc (rows - 2))
   first_chain words two head next = record {
     top = subst (IsTop rows (first_owner rows) (suc (rows - 2))) (sym head) (omega arith, two, refl);
     below = λ r k lo hi e. let h = height r k e in let n = h.0 in let same = h.1 in (omega arith, below r k (omega arith) hi same);
@@ -46,7 +47,8 @@ module _ (rows : ℕ) where
       below r k lo hi same = dite (ℕ_discrete r rows)
           (λ (e : r ≡ rows). let z : 0 ≡ k = omega arith in let x : 0 ≡ next_of words r = sym (next r lo hi ∙ ap (λ b. cond b 0 (r + 1)) (eq-eqb r rows e)) in
           subst (λ (y : ℕ × ℕ). IsTop rows (first_owner rows) y.0 y.1) (λ i. (z i, x i)) refl)
-          (λ n. let z : suc (rows - (r + 1)) ≡ k = omega arith in let x : r + 1 ≡ next_of words r = sym (next r lo hi ∙ ap (λ b. cond b 0 (r + 1)) (ne_eqb r rows n)) in
+          (λ n. let z : suc (rows - (r + 1)) ≡ k = omega arith in
+          let x : r + 1 ≡ next_of words r = sym (next r lo hi ∙ ap (λ b. cond b 0 (r + 1)) (ne_eqb r rows n)) in
           subst (λ (y : ℕ × ℕ). IsTop rows (first_owner rows) y.0 y.1) (λ i. (z i, x i)) (omega arith, omega arith, is_free (r + 1) (λ f. omega arith)))
 
 -- Nobody is pinned, and no pass was made.
@@ -68,13 +70,15 @@ first_pins words small absent = record {
   unused = λ i lo hi. absent (i + 1) (omega arith) (omega arith);
 }
 
-module _ {U : Type 0} (linked lent : List ℕ → ℕ → Type 0) (noted : List ℕ → U → ℕ → Type 0) (fact : Sizes → List ℕ → List U → Type 0) (opens : Sizes → ℕ → ℕ) (first : U)
-    (law : Opening linked lent noted fact opens first) (z : Sizes) (words : List ℕ) (bounds : AreInBounds z) (is : IsOpening opens z words) where
+module _ {U : Type 0} (linked lent : List ℕ → ℕ → Type 0) (noted : List ℕ → U → ℕ → Type 0) (fact : Sizes → ℕ → List ℕ → List U → Type 0)
+    (opens : Sizes → ℕ → ℕ) (first : U)
+    (law : Opening linked lent noted fact opens first) (z : Sizes) (words : List ℕ) (bounds : AreInBounds z) (usable : AreUsable z)
+    (is : IsOpening opens z words) where
   abbrev own : View U
-  own = fresh z.rows 0 first
+  own = fresh z 0 first
 
   opened : Opened linked lent noted fact z first words
-  opened = law z words bounds is.wide is.above
+  opened = law z words bounds usable is.wide is.above
 
   nobodys : (j r : ℕ) → claim_at (own ∷ []) j r ≡ none
   nobodys zero r = refl
@@ -83,10 +87,13 @@ module _ {U : Type 0} (linked lent : List ℕ → ℕ → Type 0) (noted : List 
   no_notes : (m r : ℕ) → ¬ NotedAt noted words (own ∷ []) m r
   no_notes m r n = let same = (only_seat own n.d n.seat n.here).1 in opened.notes r (subst (λ (d : View U). noted words d.upper r) (sym same) n.note)
 
-  first_row : (r : ℕ) → 0 < r → r ≤ z.rows → IsRow words (linked words) (lent words) (NotedAt noted words (own ∷ [])) (claim_at (own ∷ [])) r (first_owner z.rows r)
+  first_row : (r : ℕ) → 0 < r → r ≤ z.rows → IsRow words (linked words) (lent words) (NotedAt noted words (own ∷ []))
+      (claim_at (own ∷ [])) r (first_owner z.rows r)
   first_row r lo hi = dite (ℕ_discrete r 1)
-      (λ (e : r ≡ 1). subst (IsRow words (linked words) (lent words) (NotedAt noted words (own ∷ [])) (claim_at (own ∷ [])) r) (sym (is_linked z.rows r e)) ((opened.links r).1 e, opened.lents r, λ j. nobodys j r))
-      (λ n. subst (IsRow words (linked words) (lent words) (NotedAt noted words (own ∷ [])) (claim_at (own ∷ [])) r) (sym (is_free z.rows r n)) (((λ l. n ((opened.links r).0 l)), (λ m. no_notes m r)), λ j. nobodys j r))
+      (λ (e : r ≡ 1). subst (IsRow words (linked words) (lent words) (NotedAt noted words (own ∷ [])) (claim_at (own ∷ [])) r) (sym (is_linked z.rows r e))
+      ((opened.links r).1 e, opened.lents r, λ j. nobodys j r))
+      (λ n. subst (IsRow words (linked words) (lent words) (NotedAt noted words (own ∷ [])) (claim_at (own ∷ [])) r) (sym (is_free z.rows r n))
+      (((λ l. n ((opened.links r).0 l)), (λ m. no_notes m r)), λ j. nobodys j r))
 
   pub starts_ruled : Ruled linked lent noted fact z record { words = words; homes = []; views = own ∷ [] }
   starts_ruled = let least = bounds.least_rows in let most = bounds.most_rows in record {
@@ -97,8 +104,8 @@ module _ {U : Type 0} (linked lent : List ℕ → ℕ → Type 0) (noted : List 
     wide = is.wide;
     chain = first_chain z.rows words (omega arith) (ap (λ n. n % 65536) is.head ∙ (in_head z.starts.tag 2 (omega arith)).1) is.free;
     row = first_row;
-    seat = λ j d here. let same = (only_seat own d j here).1 in subst (Knows noted z.rows 0 (first_owner z.rows) words j) same record {
-      rows_are = inr refl;
+    seat = λ j d here. let same = (only_seat own d j here).1 in subst (Knows noted z 0 (first_owner z.rows) words j) same record {
+      sizes_are = inr refl;
       made_are = λ _. refl;
       stage_is = tt;
       in_range = λ r c e. absurd (some-ne-none c (sym e));

@@ -45,7 +45,8 @@ at_map_back f [] i b e = absurd (some-ne-none b (sym e))
 at_map_back f (x ∷ xs) zero b e = (x, refl, some-injective (f x) b e)
 at_map_back f (x ∷ xs) (suc i) b e = at_map_back f xs i b e
 
-module _ {U : Type 0} (linked lent : List ℕ → ℕ → Type 0) (noted : List ℕ → U → ℕ → Type 0) (fact : Sizes → List ℕ → List U → Type 0) (frames : Frames linked lent noted fact) (z : Sizes) where
+module _ {U : Type 0} (linked lent : List ℕ → ℕ → Type 0) (noted : List ℕ → U → ℕ → Type 0) (fact : Sizes → ℕ → List ℕ → List U → Type 0)
+    (frames : Frames linked lent noted fact) (z : Sizes) where
   abbrev S : Type 0
   S = St linked lent noted fact frames z
 
@@ -60,8 +61,10 @@ module _ {U : Type 0} (linked lent : List ℕ → ℕ → Type 0) (noted : List 
       → R record { words = set s.words i (get_or s.words i 0); homes = s.homes; views = set s.views id (record d { stage = st; lost = lost }) }
   loaded s r i id d st lost at ok = let w : View U = record d { stage = st; lost = lost } in
       subst (λ (ws : List ℕ). R record { words = ws; homes = s.homes; views = set s.views id w }) (sym (set-get_or s.words i 0))
-      (keeps_rule linked lent noted fact frames z s r id d w at refl refl s.words (nothing (uppers linked lent noted fact frames z s) s.words) (λ i _ _. refl) refl refl 0
-      r.owner r.count r.chain (λ c _ _ _. record { owner_is = refl; claim_is = refl; words_are = λ _ _ _. refl }) (λ lo _. absurd (omega arith)) (λ c e. absurd (let x = (r.seat id d at).in_range 0 c e in let y = x.0 in omega arith))
+      (keeps_rule linked lent noted fact frames z s r id d w at refl refl s.words (nothing (uppers linked lent noted fact frames z s) s.words)
+      (λ i _ _. refl) refl refl 0
+      r.owner r.count r.chain (λ c _ _ _. record { owner_is = refl; claim_is = refl; words_are = λ _ _ _. refl }) (λ lo _. absurd (omega arith))
+      (λ c e. absurd (let x = (r.seat id d at).in_range 0 c e in let y = x.0 in omega arith))
       (λ _ _. refl) (λ _ k. k) ok)
 
   pub looks : (slots id : ℕ) (me : Mine U) → Allows R slots id me 0 (λ x. x) (Looked (step slots 0 0 0 none) me)
@@ -69,8 +72,16 @@ module _ {U : Type 0} (linked lent : List ℕ → ℕ → Type 0) (noted : List 
     record me.0 { stage = Saw (x / 65536) (x % 65536) },
     keeps,
     tt,
-    loaded s r 0 id me.0 (Saw (x / 65536) (x % 65536)) me.0.lost at (le_refl (x / 65536), λ _ lo. let t = top_free z.rows r.owner r.count (x % 65536) lo r.chain.top in (t.0, lo, t.2, t.3)),
-    (λ known. let top = top_in_range z.rows r.owner r.count (x % 65536) r.chain.top in ⊎_elim (λ (e : me.0.rows ≡ 0). absurd (omega arith)) (λ (e : me.0.rows ≡ z.rows). subst (λ y. x % 65536 ≤ y) (sym e) top) (r.seat id me.0 at).rows_are, refl),
+    loaded s r 0 id me.0 (Saw (x / 65536) (x % 65536)) me.0.lost at (
+      le_refl (x / 65536),
+      λ _ lo. let t = top_free z.rows r.owner r.count (x % 65536) lo r.chain.top in (t.0, lo, t.2, t.3),
+    ),
+    (
+      λ known. let top = top_in_range z.rows r.owner r.count (x % 65536) r.chain.top in
+          ⊎_elim (λ (e : me.0.sizes.rows ≡ 0). absurd (omega arith)) (λ (e : me.0.sizes ≡ z). subst (λ (y : Sizes). x % 65536 ≤ y.rows) (sym e) top)
+          (r.seat id me.0 at).sizes_are,
+      refl,
+    ),
   )
 
   abbrev seen_in : Stage → ℕ × ℕ × ℕ
@@ -78,14 +89,16 @@ module _ {U : Type 0} (linked lent : List ℕ → ℕ → Type 0) (noted : List 
   seen_in (Saw t q) = (t, q, 0)
   seen_in (Knew t q x) = (t, q, x)
 
-  pub peeks : (slots id : ℕ) (me : Mine U) (t q : ℕ) → me.0.stage ≡ Saw t q → 0 < q → Allows R slots id me (136 * q) (λ x. x) (Peeked (step slots (136 * q) 0 0 none) me)
-  peeks slots id me t q is lo s r _ at small = let x : ℕ = get_or s.words (136 * q) 0 in let k = subst (IsStage z.rows r.owner s.words) is (r.seat id me.0 at).stage_is in (
-    record me.0 { stage = Knew t q x },
-    keeps,
-    tt,
-    loaded s r (136 * q) id me.0 (Knew t q x) me.0.lost at (k.0, λ e. (k.1 e lo, refl)),
-    λ t' q' is'. ap (λ (y : ℕ × ℕ × ℕ). with_stage me (Knew y.0 y.1 x)) (ap seen_in (sym is ∙ is')),
-  )
+  pub peeks : (slots id : ℕ) (me : Mine U) (t q : ℕ) → me.0.stage ≡ Saw t q → 0 < q
+      → Allows R slots id me (136 * q) (λ x. x) (Peeked (step slots (136 * q) 0 0 none) me)
+  peeks slots id me t q is lo s r _ at small = let x : ℕ = get_or s.words (136 * q) 0 in
+      let k = subst (IsStage z.rows r.owner s.words) is (r.seat id me.0 at).stage_is in (
+        record me.0 { stage = Knew t q x },
+        keeps,
+        tt,
+        loaded s r (136 * q) id me.0 (Knew t q x) me.0.lost at (k.0, λ e. (k.1 e lo, refl)),
+        λ t' q' is'. ap (λ (y : ℕ × ℕ × ℕ). with_stage me (Knew y.0 y.1 x)) (ap seen_in (sym is ∙ is')),
+      )
 
   -- An exchange of the head that was lost.
   misses : (s : S) (r : R s) (id : ℕ) (d : View U) → get_elem? s.views id ≡ some d
@@ -119,7 +132,8 @@ module _ {U : Type 0} (linked lent : List ℕ → ℕ → Type 0) (noted : List 
         here : claim_at s.views id q ≡ some c
         here = claim_there s.views id d d at q ∙ e
 
-        by : (o : Owner) → r.owner q ≡ o → IsRow s.words (linked s.words) (lent s.words) (NotedAt noted s.words s.views) (claim_at s.views) q o → (0 < q) × (q ≤ z.rows) × (r.owner q ≡ Of id)
+        by : (o : Owner) → r.owner q ≡ o → IsRow s.words (linked s.words) (lent s.words) (NotedAt noted s.words s.views) (claim_at s.views) q o → (0 < q)
+            × (q ≤ z.rows) × (r.owner q ≡ Of id)
             × IsClaim s.words (linked s.words) (lent s.words) (NotedAt noted s.words s.views) q c × ((j : ℕ) → j ≢ id → claim_at s.views j q ≡ none)
         by (Free k) is x = absurd (some-ne-none c (sym here ∙ x.1 id))
         by Linked is x = absurd (some-ne-none c (sym here ∙ x.2 id))
@@ -135,9 +149,11 @@ module _ {U : Type 0} (linked lent : List ℕ → ℕ → Type 0) (noted : List 
 
     -- Where a seat has a note on a row, a pass that is pinned has.
     noted_at : (q : ℕ) → IsNoted linked lent noted fact s.words (uppers linked lent noted fact frames z s) q → (m : ℕ) × NotedAt noted s.words s.views m q
-    noted_at q n = let x = at_map_back upper_of s.views n.0 n.1 n.2 in (x.0.pin.moment, record { seat = n.0; d = x.0; here = x.1; note = subst (λ (u : U). noted s.words u q) (sym x.2) n.3; at = refl })
+    noted_at q n = let x = at_map_back upper_of s.views n.0 n.1 n.2 in
+        (x.0.pin.moment, record { seat = n.0; d = x.0; here = x.1; note = subst (λ (u : U). noted s.words u q) (sym x.2) n.3; at = refl })
 
-    module _ (t q x m : ℕ) (found : get_or s.words 0 0 ≡ t * 65536 + q) (small : q < 65536) (lo : 0 < q) (hi : q ≤ z.rows) (count : r.count ≡ suc m) (is : r.owner q ≡ Free m) (next : next_of s.words q ≡ x) where
+    module _ (t q x m : ℕ) (found : get_or s.words 0 0 ≡ t * 65536 + q) (small : q < 65536) (lo : 0 < q) (hi : q ≤ z.rows) (count : r.count ≡ suc m)
+        (is : r.owner q ≡ Free m) (next : next_of s.words q ≡ x) where
       abbrev taken : View U
       taken = record d { stage = Idle; claims = claimed q (Holds (row_of s.words q)) d.claims }
 
@@ -152,9 +168,11 @@ module _ {U : Type 0} (linked lent : List ℕ → ℕ → Type 0) (noted : List 
           let tag : head_tag s.words ≡ t = ap (λ n. n / 65536) found ∙ (in_head t q small).0 in
           let tag' : head_tag new_head ≡ t + 1 = ap (λ n. n / 65536) head ∙ parts.0 in
           let row' : head_row new_head ≡ next_of s.words q = ap (λ n. n % 65536) head ∙ (parts.1 ∙ (omega arith ∙ sym next)) in
-          keeps_rule linked lent noted fact frames z s r id d taken at refl refl new_head (head_agrees (uppers linked lent noted fact frames z s) s.words _) (λ i l _. head_else s.words _ i l) refl refl q
+          keeps_rule linked lent noted fact frames z s r id d taken at refl refl new_head (head_agrees (uppers linked lent noted fact frames z s) s.words _)
+          (λ i l _. head_else s.words _ i l) refl refl q
           (put r.owner q (Of id)) m
-          (chain_takes z.rows r.owner s.words new_head r.count r.chain q m (Of id) (λ k e. cc) lo hi is count row' (λ c l. head_else s.words _ (136 * c) (omega arith)))
+          (chain_takes z.rows r.owner s.words new_head r.count r.chain q m (Of id)
+          (λ k e. cc) lo hi is count row' (λ c l. head_else s.words _ (136 * c) (omega arith)))
           (λ c l _ n. record { owner_is = put_else r.owner q (Of id) c n; claim_is = claimed_else d.claims q c _ n; words_are = λ _ k _. head_else s.words _ (136 * c + k) (omega arith) })
           (λ _ _. subst (Is linked lent noted fact frames z s r id d taken at refl refl new_head (head_agrees (uppers linked lent noted fact frames z s) s.words _) q) (sym (put_here r.owner q (Of id) q refl)) (
             (
@@ -190,7 +208,8 @@ module _ {U : Type 0} (linked lent : List ℕ → ℕ → Type 0) (noted : List 
         wide = length-set s.words (136 * q + k) v;
         control = λ i _ l. low_word i l;
         seen = λ c i _ who l. else_word c i l (λ (e : c ≡ q). ⊎_elim (λ (y : linked s.words c). alone.0 (subst (linked s.words) e y))
-            (λ (y : IsNoted linked lent noted fact s.words (uppers linked lent noted fact frames z s) c). let n = noted_at c y in alone.1 n.0 (subst (NotedAt noted s.words s.views n.0) e n.1)) who);
+            (λ (y : IsNoted linked lent noted fact s.words (uppers linked lent noted fact frames z s) c). let n = noted_at c y in
+            alone.1 n.0 (subst (NotedAt noted s.words s.views n.0) e n.1)) who);
       }
 
       free_next : (c j : ℕ) → r.owner c ≡ Free j → next_of new_words c ≡ next_of s.words c
@@ -199,14 +218,17 @@ module _ {U : Type 0} (linked lent : List ℕ → ℕ → Type 0) (noted : List 
 
       spells_now : Spells new_words q (set its k v)
       spells_now i l = let o = owned q (Holds its) held in let hi = o.1 in let wide = r.wide in let long : length its ≡ 136 = o.3.0 in dite (ℕ_discrete i k)
-          (λ (e : i ≡ k). ap (λ (j : ℕ). get_or new_words (136 * q + j) 0) e ∙ (get_or-set_same s.words (136 * q + k) v 0 (omega arith) ∙ sym (ap (λ (j : ℕ). get_or (set its k v) j 0) e ∙ get_or-set_same its k v 0 (omega arith))))
+          (λ (e : i ≡ k). ap (λ (j : ℕ). get_or new_words (136 * q + j) 0) e
+          ∙ (get_or-set_same s.words (136 * q + k) v 0 (omega arith)
+          ∙ sym (ap (λ (j : ℕ). get_or (set its k v) j 0) e ∙ get_or-set_same its k v 0 (omega arith))))
           (λ n. get_or-set_other s.words (136 * q + k) (136 * q + i) v 0 (λ e. n (omega arith)) ∙ (o.3.1 i l ∙ sym (get_or-set_other its k i v 0 n)))
 
       write_step : R record { words = new_words; homes = s.homes; views = set s.views id written }
       write_step = let o = owned q (Holds its) held in
           keeps_rule linked lent noted fact frames z s r id d written at refl refl new_words write_agrees (λ i _ l. low_word i (omega arith)) refl refl q
           r.owner r.count
-          (chain_stays z.rows r.owner s.words new_words r.count r.chain r.owner (ap (λ n. n % 65536) (low_word 0 (omega arith))) (λ c j _ _ e. (e, free_next c j e)) (λ c j _ _ e. e))
+          (chain_stays z.rows r.owner s.words new_words r.count r.chain r.owner (ap (λ n. n % 65536) (low_word 0 (omega arith)))
+          (λ c j _ _ e. (e, free_next c j e)) (λ c j _ _ e. e))
           (λ c _ _ n. record { owner_is = refl; claim_is = claimed_else d.claims q c _ n; words_are = λ _ i l. else_word c i l n })
           (λ _ _. subst (Is linked lent noted fact frames z s r id d written at refl refl new_words write_agrees q) (sym o.2) (
             (
@@ -217,15 +239,18 @@ module _ {U : Type 0} (linked lent : List ℕ → ℕ → Type 0) (noted : List 
             λ j n. claim_others s.views id d written at j q n ∙ o.4 j n,
           ))
           (λ _ _. (o.0, o.1)) (λ c n. claimed_else d.claims q c _ n)
-          (stage_stays z.rows r.owner s.words new_words r.count r.chain r.owner (subst (λ x. head_tag s.words ≤ x) (sym same_tag) (le_refl (head_tag s.words))) (λ _ c j lo hi e. ((j, lo, hi, e), free_next c j e)))
-          (stage_stays z.rows r.owner s.words new_words r.count r.chain r.owner (subst (λ x. head_tag s.words ≤ x) (sym same_tag) (le_refl (head_tag s.words))) (λ _ c j lo hi e. ((j, lo, hi, e), free_next c j e))
+          (stage_stays z.rows r.owner s.words new_words r.count r.chain r.owner (subst (λ x. head_tag s.words ≤ x) (sym same_tag)
+          (le_refl (head_tag s.words))) (λ _ c j lo hi e. ((j, lo, hi, e), free_next c j e)))
+          (stage_stays z.rows r.owner s.words new_words r.count r.chain r.owner (subst (λ x. head_tag s.words ≤ x) (sym same_tag)
+          (le_refl (head_tag s.words))) (λ _ c j lo hi e. ((j, lo, hi, e), free_next c j e))
           d.stage (r.seat id d at).stage_is)
         where
           same_tag : head_tag new_words ≡ head_tag s.words
           same_tag = ap (λ n. n / 65536) (low_word 0 (omega arith))
 
     -- A row that the seat holds, whose first word names the free row at the head, is put on top.
-    module _ (t h q : ℕ) (its : List ℕ) (found : get_or s.words 0 0 ≡ t * 65536 + h) (small : h < 65536) (held : claim_of d.claims q ≡ some (Holds its)) (next : get_or its 0 0 ≡ h) where
+    module _ (t h q : ℕ) (its : List ℕ) (found : get_or s.words 0 0 ≡ t * 65536 + h) (small : h < 65536) (held : claim_of d.claims q ≡ some (Holds its))
+        (next : get_or its 0 0 ≡ h) where
       abbrev given : View U
       given = record d { stage = Idle; claims = dropped q d.claims }
 
@@ -239,21 +264,28 @@ module _ {U : Type 0} (linked lent : List ℕ → ℕ → Type 0) (noted : List 
           let tag : head_tag head_with ≡ head_tag s.words = ap (λ n. n / 65536) head ∙ (parts.0 ∙ sym (ap (λ n. n / 65536) found ∙ (in_head t h small).0)) in
           let zero_is : 136 * q + 0 ≡ 136 * q = omega arith in
           let its_next : next_of s.words q ≡ get_or its 0 0 = subst (λ i. get_or s.words i 0 ≡ get_or its 0 0) zero_is (o.3.1 0 (omega arith)) in
-          let next' : next_of head_with q ≡ head_row s.words = head_else s.words _ (136 * q) (let some_q = o.0 in omega arith) ∙ (its_next ∙ (next ∙ sym (ap (λ n. n % 65536) found ∙ (in_head t h small).1))) in
+          let next' : next_of head_with q ≡ head_row s.words = head_else s.words _ (136 * q) (let some_q = o.0 in omega arith)
+          ∙ (its_next ∙ (next ∙ sym (ap (λ n. n % 65536) found ∙ (in_head t h small).1))) in
           let not_free : (k : ℕ) → r.owner q ≢ Free k = λ k e. let y : Of id ≡ Free k = sym o.2 ∙ e in cc in
           let agrees = head_agrees (uppers linked lent noted fact frames z s) s.words (t * 65536 + q) in
           keeps_rule linked lent noted fact frames z s r id d given at refl refl head_with agrees (λ i l _. head_else s.words _ i l) refl refl q
           (put r.owner q (Free r.count)) (suc r.count)
-          (chain_gives z.rows r.owner s.words head_with r.count r.chain q not_free o.0 hi (ap (λ n. n % 65536) head ∙ parts.1) next' (λ c l _. head_else s.words _ (136 * c) (omega arith)))
+          (chain_gives z.rows r.owner s.words head_with r.count r.chain q not_free o.0 hi (ap (λ n. n % 65536) head
+          ∙ parts.1) next' (λ c l _. head_else s.words _ (136 * c) (omega arith)))
           (λ c l _ n. record { owner_is = put_else r.owner q (Free r.count) c n; claim_is = dropped_else d.claims q c n; words_are = λ _ k _. head_else s.words _ (136 * c + k) (omega arith) })
           (λ _ _. subst (Is linked lent noted fact frames z s r id d given at refl refl head_with agrees q) (sym (put_here r.owner q (Free r.count) q refl)) (
             alone_now linked lent noted fact frames z s r id d given at refl refl head_with agrees q o.3.2,
-            λ j. dite (ℕ_discrete j id) (λ (e : j ≡ id). ap (λ (x : ℕ). claim_at (set s.views id given) x q) e ∙ (claim_mine s.views id d given at q ∙ dropped_here d.claims q))
+            λ j. dite (ℕ_discrete j id) (λ (e : j ≡ id). ap (λ (x : ℕ). claim_at (set s.views id given) x q) e
+                ∙ (claim_mine s.views id d given at q ∙ dropped_here d.claims q))
                 (λ n. claim_others s.views id d given at j q n ∙ o.4 j n),
           ))
           (λ _ _. (o.0, hi)) (λ c n. dropped_else d.claims q c n)
-          (stage_stays z.rows r.owner s.words head_with r.count r.chain (put r.owner q (Free r.count)) (subst (λ x. head_tag s.words ≤ x) (sym tag) (le_refl (head_tag s.words)))
-          (λ _ c j lo hi' e. ((j, lo, hi', put_else r.owner q (Free r.count) c (λ f. not_free j (ap r.owner (sym f) ∙ e)) ∙ e), head_else s.words _ (136 * c) (omega arith)))) tt
+          (stage_stays z.rows r.owner s.words head_with r.count r.chain (put r.owner q (Free r.count))
+          (subst (λ x. head_tag s.words ≤ x) (sym tag) (le_refl (head_tag s.words)))
+          (λ _ c j lo hi' e. (
+            (j, lo, hi', put_else r.owner q (Free r.count) c (λ f. not_free j (ap r.owner (sym f) ∙ e)) ∙ e),
+            head_else s.words _ (136 * c) (omega arith),
+          ))) tt
 
   at_hit : (n old new : ℕ) → n ≡ old → either (eqb n old) new n ≡ new
   at_hit n old new e = ap (λ b. either b new n) (eq-eqb n old e)
@@ -262,8 +294,10 @@ module _ {U : Type 0} (linked lent : List ℕ → ℕ → Type 0) (noted : List 
   at_miss n old new e = ap (λ b. either b new n) (ne_eqb n old e)
 
   pub takes : (slots id : ℕ) (me : Mine U) (t q x : ℕ) → me.0.stage ≡ Knew t q x → 0 < q → q < 65536
-      → Allows R slots id me 0 (λ n. either (eqb n (t * 65536 + q)) ((t + 1) * 65536 + x % 65536) n) (Took (step slots 0 (t * 65536 + q) ((t + 1) * 65536 + x % 65536) none) me)
-  takes slots id me t q x is lo small s r _ at _ = let head : ℕ = get_or s.words 0 0 in let old : ℕ = t * 65536 + q in let new : ℕ = (t + 1) * 65536 + x % 65536 in let d = me.0 in
+      → Allows R slots id me 0 (λ n. either (eqb n (t * 65536 + q)) ((t + 1) * 65536 + x % 65536) n)
+      (Took (step slots 0 (t * 65536 + q) ((t + 1) * 65536 + x % 65536) none) me)
+  takes slots id me t q x is lo small s r _ at _ = let head : ℕ = get_or s.words 0 0 in let old : ℕ = t * 65536 + q in
+      let new : ℕ = (t + 1) * 65536 + x % 65536 in let d = me.0 in
       let w0 : View U = record d { stage = Idle; lost = d.lost + 1 } in dite (ℕ_discrete head old)
       (λ hit.
       let tag : head_tag s.words ≡ t = ap (λ n. n / 65536) hit ∙ (in_head t q small).0 in
@@ -273,9 +307,20 @@ module _ {U : Type 0} (linked lent : List ℕ → ℕ → Type 0) (noted : List 
         taken s r id d at t q x top.0 hit small lo top.2 top.1 top.3 knew.1,
         keeps,
         tt,
-        subst (λ (n : ℕ). R (stepped s 0 n id me.1 (taken s r id d at t q x top.0 hit small lo top.2 top.1 top.3 knew.1) keeps)) (sym (at_hit head old new hit)) (take_step s r id d at t q x top.0 hit small lo top.2 top.1 top.3 knew.1),
-        λ t' q' x' is'. let same : q ≡ q' = ap (λ (y : ℕ × ℕ × ℕ). y.1) (ap seen_in (sym is ∙ is')) in
-            ((λ _. (ap (claim_of d.claims) (sym same) ∙ (sym (claim_there s.views id d d at q) ∙ (free_row s r id d at q top.0 lo top.2 top.3).1 id), (row_of s.words q, row_of_long s.words z.rows q r.wide top.2, ap (λ y. with_claims me (claimed y (Holds (row_of s.words q)) d.claims)) same))), λ not. absurd (not hit)),
+        subst (λ (n : ℕ). R (stepped s 0 n id me.1 (taken s r id d at t q x top.0 hit small lo top.2 top.1 top.3 knew.1) keeps))
+            (sym (at_hit head old new hit)) (take_step s r id d at t q x top.0 hit small lo top.2 top.1 top.3 knew.1),
+        λ t' q' x' is'. let same : q ≡ q' = ap (λ (y : ℕ × ℕ × ℕ). y.1) (ap seen_in (sym is ∙ is')) in (
+          (λ _. (
+            ap (claim_of d.claims) (sym same)
+                ∙ (sym (claim_there s.views id d d at q) ∙ (free_row s r id d at q top.0 lo top.2 top.3).1 id),
+            (
+              row_of s.words q,
+              row_of_long s.words z.rows q r.wide top.2,
+              ap (λ y. with_claims me (claimed y (Holds (row_of s.words q)) d.claims)) same,
+            ),
+          )),
+          λ not. absurd (not hit),
+        ),
       ))
       (λ miss. (
         w0,
@@ -291,7 +336,8 @@ module _ {U : Type 0} (linked lent : List ℕ → ℕ → Type 0) (noted : List 
     written s r id me.0 at q k v its held inside,
     keeps,
     tt,
-    subst (λ (j : ℕ). R record { words = set s.words j v; homes = s.homes; views = set s.views id (written s r id me.0 at q k v its held inside) }) (sym is) (write_step s r id me.0 at q k v its held inside),
+    subst (λ (j : ℕ). R record { words = set s.words j v; homes = s.homes; views = set s.views id (written s r id me.0 at q k v its held inside) }) (sym is)
+        (write_step s r id me.0 at q k v its held inside),
     λ q' k' its' is' inside' held'. let same = apart q q' k k' inside inside' (sym is ∙ is') in
         let claims : Holds its ≡ Holds its' = some-injective (Holds its) (Holds its') (sym held ∙ (ap (claim_of me.0.claims) same.0 ∙ held')) in
         let its_same : its ≡ its' = cc in
@@ -300,13 +346,15 @@ module _ {U : Type 0} (linked lent : List ℕ → ℕ → Type 0) (noted : List 
 
   pub gives : (slots id : ℕ) (me : Mine U) (t h q : ℕ) (its : List ℕ) → h < 65536 → q < 65536 → claim_of me.0.claims q ≡ some (Holds its) → get_or its 0 0 ≡ h
       → Allows R slots id me 0 (λ n. either (eqb n (t * 65536 + h)) (t * 65536 + q) n) (Gave (step slots 0 (t * 65536 + h) (t * 65536 + q) none) me)
-  gives slots id me t h q its small small_q held next s r _ at _ = let head : ℕ = get_or s.words 0 0 in let old : ℕ = t * 65536 + h in let new : ℕ = t * 65536 + q in let d = me.0 in
+  gives slots id me t h q its small small_q held next s r _ at _ = let head : ℕ = get_or s.words 0 0 in let old : ℕ = t * 65536 + h in
+      let new : ℕ = t * 65536 + q in let d = me.0 in
       let w0 : View U = record d { stage = Idle; lost = d.lost + 1 } in dite (ℕ_discrete head old)
       (λ hit. (
         given s r id d at t h q its hit small held next,
         keeps,
         tt,
-        subst (λ (n : ℕ). R (stepped s 0 n id me.1 (given s r id d at t h q its hit small held next) keeps)) (sym (at_hit head old new hit)) (give_step s r id d at t h q its hit small held next),
+        subst (λ (n : ℕ). R (stepped s 0 n id me.1 (given s r id d at t h q its hit small held next) keeps)) (sym (at_hit head old new hit))
+            (give_step s r id d at t h q its hit small held next),
         ((λ _. ap (λ y. with_claims me (dropped y d.claims)) (sym (in_head t q small_q).1)), λ not. absurd (not hit)),
       ))
       (λ miss. (

@@ -3,6 +3,7 @@ use Rattle.std.specs.Prelude.{◌≡◌, ℕ, ◌<◌, ◌≤◌, Bool, true, fa
 use mathlib.Core.Option.{none}
 use Rattle.atomic_table.specs.declared.shared.Seat.{Seat}
 use Rattle.atomic_table.specs.Seated.{TableId}
+use Rattle.ca_rows.specs.declared.sizes.Sizes.{Sizes}
 use Rattle.ca_rows.specs.declared.taken.Taken.{Taken}
 use Rattle.ca_rows.specs.declared.taken.Taken.TheVariants.{Row, Empty, Lost, Worn}
 use Rattle.ca_rows.specs.declared.view.Claim.TheVariants.{Holds}
@@ -13,20 +14,21 @@ use Rattle.ca_rows.specs.Claims.{claim_of, claimed, dropped}
 use Rattle.ca_rows.specs.Told.{Mine, with_stage, with_claims, missed}
 
 module _ {U : Type 0} where
-  -- The seat is one of this table, and knows how many rows there are.
-  abbrev pub IsOf : TableId → ℕ → Seat (Unit {0}) (View U) → Type 0
-  IsOf table rows p = (p.table_id ≡ table) × (p.me.0.rows ≡ rows)
+  -- The seat is one of this table, and knows what the space was made with.
+  abbrev pub IsOf : TableId → Sizes → Seat (Unit {0}) (View U) → Type 0
+  IsOf table z p = (p.table_id ≡ table) × (p.me.0.sizes ≡ z)
 
   abbrev pub IsSame : Seat (Unit {0}) (View U) → Seat (Unit {0}) (View U) → Type 0
   IsSame p q = (q.table_id ≡ p.table_id) × (q.id ≡ p.id)
 
   -- The seat is the same one, and only what it knows of the pool and what it holds changed.
   abbrev pub IsStill : Seat (Unit {0}) (View U) → Seat (Unit {0}) (View U) → Type 0
-  IsStill p q = (q.table_id ≡ p.table_id) × (q.id ≡ p.id) × (q.me.0.rows ≡ p.me.0.rows) × (q.me.0.pin ≡ p.me.0.pin) × (q.me.0.upper ≡ p.me.0.upper)
+  IsStill p q = (q.table_id ≡ p.table_id) × (q.id ≡ p.id) × (q.me.0.sizes ≡ p.me.0.sizes) × (q.me.0.pin ≡ p.me.0.pin) × (q.me.0.upper ≡ p.me.0.upper)
 
   -- `Empty` where the head was empty as it was loaded, `Worn` where it wasn't and its tag was at the last value, `Lost` where the exchange lost.
   abbrev pub TakesRow : Taken → Mine U → Mine U → Type 0
-  TakesRow (Row r) m m' = (0 < r) × (r ≤ m.0.rows) × (claim_of m.0.claims r ≡ none) × ((its : List ℕ) × (length its ≡ 136) × (m' ≡ with_claims m (claimed r (Holds its) m.0.claims)))
+  TakesRow (Row r) m m' = (0 < r) × (r ≤ m.0.sizes.rows) × (claim_of m.0.claims r ≡ none)
+      × ((its : List ℕ) × (length its ≡ 136) × (m' ≡ with_claims m (claimed r (Holds its) m.0.claims)))
   TakesRow Empty m m' = (t : ℕ) × (m' ≡ with_stage m (Saw t 0))
   TakesRow Lost m m' = m' ≡ missed m
   TakesRow Worn m m' = (r : ℕ) × (0 < r) × (m' ≡ with_stage m (Saw 281474976710655 r))

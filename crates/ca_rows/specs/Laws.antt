@@ -1,12 +1,12 @@
--- What a rule above the rows has to show.
+-- What a rule above the rows has to show. Its fact knows the sizes, how many passes were made, the words, and what each seat knows.
 use Rattle.std.specs.Prelude.{◌≡◌, ◌⊎◌, ◌≢◌, ℕ, ◌+◌, ◌*◌, ◌<◌, ◌≤◌, List, [], ◌∷◌, ◌++◌, length, slice_index, slice_set}
 use mathlib.Core.Option.{some}
 use lib.ListN.{get_elem?}
 use Rattle.ca_rows.specs.declared.sizes.Sizes.{Sizes}
-use Rattle.ca_rows.specs.Opening.{AreInBounds}
+use Rattle.ca_rows.specs.Opening.{AreInBounds, AreUsable}
 use Rattle.ca_rows.specs.Words.{IsWide}
 
-module _ {U : Type 0} (linked lent : List ℕ → ℕ → Type 0) (noted : List ℕ → U → ℕ → Type 0) (fact : Sizes → List ℕ → List U → Type 0) where
+module _ {U : Type 0} (linked lent : List ℕ → ℕ → Type 0) (noted : List ℕ → U → ℕ → Type 0) (fact : Sizes → ℕ → List ℕ → List U → Type 0) where
   -- A seat has a note on the row.
   abbrev pub IsNoted : List ℕ → List U → ℕ → Type 0
   IsNoted words uppers r = (j : ℕ) × (u : U) × (get_elem? uppers j ≡ some u) × noted words u r
@@ -18,45 +18,51 @@ module _ {U : Type 0} (linked lent : List ℕ → ℕ → Type 0) (noted : List 
     pub seen : (r k : ℕ) → 0 < r → linked words r ⊎ IsNoted words uppers r → k < 136 → slice_index others (136 * r + k) ≡ slice_index words (136 * r + k)
 
   -- The upper fact stays, the same rows are linked and lent, and nobody has a note more.
-  pub record Framed (z : Sizes) (uppers : List U) (words others : List ℕ) : Type 0 where
-    pub stays : fact z others uppers
+  pub record Framed (z : Sizes) (made : ℕ) (uppers : List U) (words others : List ℕ) : Type 0 where
+    pub stays : fact z made others uppers
     pub links : (r : ℕ) → (linked others r → linked words r) × (linked words r → linked others r)
     pub lents : (r : ℕ) → (lent others r → lent words r) × (lent words r → lent others r)
     pub notes : (j : ℕ) (u : U) → get_elem? uppers j ≡ some u → (r : ℕ) → noted others u r → noted words u r
 
   -- Each step of the rows by themselves: loads, and stores and exchanges that the rule above doesn't see.
   abbrev pub Frames : Type 0
-  Frames = (z : Sizes) (uppers : List U) (words others : List ℕ) → fact z words uppers → Agrees uppers words others → Framed z uppers words others
+  Frames = (z : Sizes) (made : ℕ) (uppers : List U) (words others : List ℕ) → fact z made words uppers → Agrees uppers words others
+      → Framed z made uppers words others
 
   -- What is lent is linked.
   abbrev pub Lends : Type 0
-  Lends = (z : Sizes) (uppers : List U) (words : List ℕ) → fact z words uppers → (r : ℕ) → lent words r → linked words r
+  Lends = (z : Sizes) (made : ℕ) (uppers : List U) (words : List ℕ) → fact z made words uppers → (r : ℕ) → lent words r → linked words r
 
   -- A pass that pins or unpins: its upper part becomes that of `enters` or `leaves`. It has no note more, and none after it unpinned.
   pub record Pinning (enters leaves : U → U) : Type 0 where
-    pub keeps_entering : (z : Sizes) (uppers : List U) (words : List ℕ) (i : ℕ) (u : U) → fact z words uppers → get_elem? uppers i ≡ some u → fact z words (slice_set uppers i (enters u))
+    pub keeps_entering : (z : Sizes) (made : ℕ) (uppers : List U) (words : List ℕ) (i : ℕ) (u : U) → fact z made words uppers → get_elem? uppers i ≡ some u
+        → fact z made words (slice_set uppers i (enters u))
     pub entering_notes : (words : List ℕ) (u : U) (r : ℕ) → noted words (enters u) r → noted words u r
-    pub keeps_leaving : (z : Sizes) (uppers : List U) (words : List ℕ) (i : ℕ) (u : U) → fact z words uppers → get_elem? uppers i ≡ some u → fact z words (slice_set uppers i (leaves u))
+    pub keeps_leaving : (z : Sizes) (made : ℕ) (uppers : List U) (words : List ℕ) (i : ℕ) (u : U) → fact z made words uppers → get_elem? uppers i ≡ some u
+        → fact z made words (slice_set uppers i (leaves u))
     pub leaving_notes : (words : List ℕ) (u : U) (r : ℕ) → ¬ noted words (leaves u) r
 
-  -- A pass that is made begins with this upper part, and with no note.
+  -- A pass that is made, and has the next number, begins with this upper part, and with no note.
   pub record Making (begins : ℕ → U) : Type 0 where
-    pub keeps_making : (z : Sizes) (uppers : List U) (words : List ℕ) (pass : ℕ) → fact z words uppers → fact z words (uppers ++ begins pass ∷ [])
+    pub keeps_making : (z : Sizes) (made : ℕ) (uppers : List U) (words : List ℕ) → fact z made words uppers
+        → fact z (made + 1) words (uppers ++ begins (made + 1) ∷ [])
     pub making_notes : (words : List ℕ) (pass r : ℕ) → ¬ noted words (begins pass) r
 
   -- A seat is joined into the space's own one, and is spent.
   pub record Closing (both : U → U → U) (spent : U) : Type 0 where
-    pub keeps_closing : (z : Sizes) (uppers : List U) (words : List ℕ) (i j : ℕ) (v w : U) → fact z words uppers → get_elem? uppers i ≡ some v → j ≢ i → get_elem? uppers j ≡ some w
-        → fact z words (slice_set (slice_set uppers i (both v w)) j spent)
+    pub keeps_closing : (z : Sizes) (made : ℕ) (uppers : List U) (words : List ℕ) (i j : ℕ) (v w : U) → fact z made words uppers
+        → get_elem? uppers i ≡ some v → j ≢ i → get_elem? uppers j ≡ some w
+        → fact z made words (slice_set (slice_set uppers i (both v w)) j spent)
     pub closing_notes : (words : List ℕ) (v w : U) (r : ℕ) → noted words (both v w) r → noted words v r ⊎ noted words w r
     pub spent_notes : (words : List ℕ) (r : ℕ) → ¬ noted words spent r
 
   -- The start: the control words and row 1 are as the rule says, and row 1 alone is linked.
   pub record Opened (z : Sizes) (first : U) (words : List ℕ) : Type 0 where
-    pub stands : fact z words (first ∷ [])
+    pub stands : fact z 0 words (first ∷ [])
     pub links : (r : ℕ) → (linked words r → r ≡ 1) × (r ≡ 1 → linked words r)
     pub lents : (r : ℕ) → ¬ lent words r
     pub notes : (r : ℕ) → ¬ noted words first r
 
   abbrev pub Opening : (Sizes → ℕ → ℕ) → U → Type 0
-  Opening opens first = (z : Sizes) (words : List ℕ) → AreInBounds z → IsWide z.rows words → ((i : ℕ) → 66 ≤ i → i < 272 → slice_index words i ≡ opens z i) → Opened z first words
+  Opening opens first = (z : Sizes) (words : List ℕ) → AreInBounds z → AreUsable z → IsWide z.rows words
+      → ((i : ℕ) → 66 ≤ i → i < 272 → slice_index words i ≡ opens z i) → Opened z first words

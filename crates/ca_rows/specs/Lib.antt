@@ -3,6 +3,7 @@ pub mod Calls
 pub mod Chain
 pub mod Claims
 pub mod Closed
+pub mod Kept
 pub mod Laws
 pub mod Opening
 pub mod Owned

@@ -20,9 +20,13 @@ upper_of d = d.upper
 abbrev pub pin_of : {U : Type 0} → View U → Pin
 pin_of d = d.pin
 
+-- the sizes in a view that knows none
+abbrev pub no_sizes : Sizes
+no_sizes = record { rows = 0; passes = 0; keypos = 0; leaf = 0; levels = 0; starts = record { tag = 0; epoch = 0; sequence = 0; attempt = 0 } }
+
 -- a seat that knows nothing and has no row
-abbrev pub fresh : {U : Type 0} → ℕ → ℕ → U → View U
-fresh rows number u = record { rows = rows; made = 0; stage = Idle; claims = []; pin = unpinned number; lost = 0; back = 0; upper = u }
+abbrev pub fresh : {U : Type 0} → Sizes → ℕ → U → View U
+fresh z number u = record { sizes = z; made = 0; stage = Idle; claims = []; pin = unpinned number; lost = 0; back = 0; upper = u }
 
 module _ {U : Type 0} (noted : List ℕ → U → ℕ → Type 0) (words : List ℕ) (views : List (View U)) where
   -- A pass that was pinned at this epoch has a note on the row.
@@ -33,17 +37,17 @@ module _ {U : Type 0} (noted : List ℕ → U → ℕ → Type 0) (words : List 
     pub note : noted words d.upper r
     pub at : d.pin.moment ≡ moment
 
-module _ {U : Type 0} (noted : List ℕ → U → ℕ → Type 0) (rows made : ℕ) (owner : ℕ → Owner) (words : List ℕ) where
+module _ {U : Type 0} (noted : List ℕ → U → ℕ → Type 0) (z : Sizes) (made : ℕ) (owner : ℕ → Owner) (words : List ℕ) where
   -- what the seat number j knows
   pub record Knows (j : ℕ) (d : View U) : Type 0 where
-    pub rows_are : d.rows ≡ 0 ⊎ d.rows ≡ rows
+    pub sizes_are : d.sizes.rows ≡ 0 ⊎ d.sizes ≡ z
     pub made_are : j ≡ 0 → d.made ≡ made
-    pub stage_is : IsStage rows owner words d.stage
-    pub in_range : (r : ℕ) (c : Claim) → claim_of d.claims r ≡ some c → (0 < r) × (r ≤ rows)
+    pub stage_is : IsStage z.rows owner words d.stage
+    pub in_range : (r : ℕ) (c : Claim) → claim_of d.claims r ≡ some c → (0 < r) × (r ≤ z.rows)
     -- Only a pinned pass has notes.
     pub noted_pinned : (r : ℕ) → noted words d.upper r → d.pin.pinned ≡ true
 
-module _ {U : Type 0} (linked lent : List ℕ → ℕ → Type 0) (noted : List ℕ → U → ℕ → Type 0) (fact : Sizes → List ℕ → List U → Type 0) where
+module _ {U : Type 0} (linked lent : List ℕ → ℕ → Type 0) (noted : List ℕ → U → ℕ → Type 0) (fact : Sizes → ℕ → List ℕ → List U → Type 0) where
   pub record Ruled (z : Sizes) (s : State (Unit {0}) (View U)) : Type 0 where
     pub owner : ℕ → Owner
     -- how many rows are free, and how many passes were made
@@ -53,7 +57,7 @@ module _ {U : Type 0} (linked lent : List ℕ → ℕ → Type 0) (noted : List 
     pub wide : IsWide z.rows s.words
     pub chain : IsChain z.rows owner s.words count
     pub row : (r : ℕ) → 0 < r → r ≤ z.rows → IsRow s.words (linked s.words) (lent s.words) (NotedAt noted s.words s.views) (claim_at s.views) r (owner r)
-    pub seat : (j : ℕ) (d : View U) → get_elem? s.views j ≡ some d → Knows noted z.rows made owner s.words j d
+    pub seat : (j : ℕ) (d : View U) → get_elem? s.views j ≡ some d → Knows noted z made owner s.words j d
     pub pins : ArePins made s.words (map pin_of s.views)
     -- the upper fact
-    pub above : fact z s.words (map upper_of s.views)
+    pub above : fact z made s.words (map upper_of s.views)

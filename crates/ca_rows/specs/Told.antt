@@ -26,7 +26,7 @@ module _ {U : Type 0} where
 
   -- The head was loaded.
   abbrev pub Looked : Step (Unit {0}) → Mine U → ℕ → Mine U → Type 0
-  Looked st m n m' = (0 < m.0.rows → n % 65536 ≤ m.0.rows) × (m' ≡ with_stage m (Saw (n / 65536) (n % 65536)))
+  Looked st m n m' = (0 < m.0.sizes.rows → n % 65536 ≤ m.0.sizes.rows) × (m' ≡ with_stage m (Saw (n / 65536) (n % 65536)))
 
   -- The next row was loaded from the row that the head named.
   abbrev pub Peeked : Step (Unit {0}) → Mine U → ℕ → Mine U → Type 0
@@ -57,7 +57,8 @@ module _ {U : Type 0} where
 
   -- It was announced, at an epoch that isn't lower.
   abbrev pub Announced : (U → U) → Step (Unit {0}) → Mine U → ℕ → Mine U → Type 0
-  Announced enters st m n m' = (moment : ℕ) × (m.0.pin.told ≤ moment) × (m' ≡ (record m.0 { pin = record m.0.pin { pinned = true; moment = moment }; upper = enters m.0.upper }, m.1))
+  Announced enters st m n m' = (moment : ℕ) × (m.0.pin.told ≤ moment)
+      × (m' ≡ (record m.0 { pin = record m.0.pin { pinned = true; moment = moment }; upper = enters m.0.upper }, m.1))
 
   -- The announcement was taken back.
   abbrev pub Left : (U → U) → Step (Unit {0}) → Mine U → ℕ → Mine U → Type 0
@@ -65,4 +66,5 @@ module _ {U : Type 0} where
 
   -- The row is kept, since the epoch that was loaded.
   abbrev pub Retired : ℕ → Step (Unit {0}) → Mine U → ℕ → Mine U → Type 0
-  Retired q st m n m' = m' ≡ (record m.0 { claims = claimed q (Keeps n) m.0.claims }, m.1)
+  Retired q st m n m' = (0 < q) × (0 < m.0.sizes.rows → q ≤ m.0.sizes.rows) × (n ≤ 4611686018427387904)
+      × (m' ≡ (record m.0 { claims = claimed q (Keeps n) m.0.claims }, m.1))

@@ -3,11 +3,13 @@
 
 mod close;
 mod fault;
+mod kept;
 mod make;
 mod opening;
 mod pin;
 mod plays;
 mod rest;
+mod retire;
 mod rule;
 mod sizes;
 mod space;
@@ -16,6 +18,7 @@ mod view;
 mod words;
 
 pub use fault::RowsFault;
+pub use kept::{Kept, KeptRows};
 pub use rule::{RowRule, Rows};
 pub use sizes::{Sizes, Starts};
 pub use space::{Half, Pass, Space};

@@ -1,10 +1,12 @@
 //! Spaces and passes are made.
-ghost use Rattle.std.specs.Prelude.{◌≡◌, ◌≢◌, ◌↔◌, IsTrue, ℕ, ◌+◌, ◌<◌, ◌≤◌, [], IfOk, OnOk, OnErr, Err};
+ghost use Rattle.std.specs.Prelude.{◌≡◌, ◌≢◌, ◌↔◌, IsTrue, ℕ, ◌+◌, ◌<◌, ◌≤◌, [], IfOk, OnOk, OnErr, Err, vec_len};
 ghost use Rattle.ca_rows.specs.declared.fault.RowsFault.TheVariants.{BadSize as IsBadSize, NoPass as IsNoPass};
+ghost use Rattle.ca_rows.specs.Kept.{AreKept};
 ghost use Rattle.ca_rows.specs.Opening.{AreInBounds, AreUsable};
 ghost use Rattle.ca_rows.specs.Rule.{fresh};
 
 use crate::fault::RowsFault;
+use crate::kept::KeptRows;
 use crate::opening::opening;
 use crate::plays::Make;
 use crate::rest::Rest;
@@ -86,19 +88,23 @@ impl<R: RowRule> Space<R> {
         self.sizes.starts
     }
 
-    /// Makes a pass. Its number is that of the passes made until then, and it, together.
-    pub fn enroll(&mut self) -> Result<Pass<R>, RowsFault>
+    /// Makes a pass, with a list that has room for all rows. Its number is that of the passes made until then, and it, together.
+    pub fn enroll(&mut self, alloc: Global) -> Result<Pass<R>, RowsFault>
         ensures full { (result ≡ Err IsNoPass) ↔ (self.old.made ≡ self.old.sizes.passes) }
         ensures never { result ≢ Err IsBadSize }
         ensures same { (self.new.table.shared ≡ self.old.table.shared) × (self.new.sizes ≡ self.old.sizes) }
         ensures counted { OnOk result (self.new.made ≡ self.old.made + 1) }
         ensures refused { OnErr result (self.new.made ≡ self.old.made) }
         ensures number { IfOk result (λ pass. pass.number ≡ self.new.made) }
-        ensures begins { IfOk result (λ pass. (pass.seat.table_id ≡ self.old.table.shared.table_id) × (pass.seat.me ≡ (fresh self.old.sizes.rows pass.number (R.begins pass.number), []))) }
+        ensures nothing_kept { IfOk result (λ pass. AreKept self.old.sizes.rows pass.seat.me.0.claims pass.kept.rows × (pass.kept.rows.items ≡ [])) }
+        ensures begins { IfOk result (λ pass. (pass.seat.table_id ≡ self.old.table.shared.table_id) × (pass.seat.me ≡ (fresh self.old.sizes pass.number (R.begins pass.number), []))) }
     {
         if self.made == self.sizes.passes {
             return Err(RowsFault::NoPass);
         }
+        let Ok(kept) = KeptRows::with_room(alloc, self.sizes.rows) else {
+            return Err(RowsFault::NoMemory);
+        };
         let Some(rest) = self.own.take() else {
             return Err(RowsFault::NoMemory);
         };
@@ -109,6 +115,7 @@ impl<R: RowRule> Space<R> {
         Ok(Pass {
             seat: new,
             number: self.made,
+            kept,
         })
     }
 }
@@ -119,5 +126,12 @@ impl<R: RowRule> Pass<R> {
         ensures { result ≡ self.now.number }
     {
         self.number
+    }
+
+    /// How many rows it keeps: those that were retired and aren't given back yet.
+    pub fn kept(&self) -> u32
+        ensures { result ≡ vec_len self.now.kept.rows }
+    {
+        self.kept.len()
     }
 }

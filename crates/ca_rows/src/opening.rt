@@ -31,7 +31,8 @@ fn fill<R: RowRule>(words: &mut [u64], sizes: &Sizes)
 
 // Writes the words of the rule above the rows.
 fn fill_above<R: RowRule>(words: &mut [u64], sizes: &Sizes)
-    requires { 272 ≤ length words.old }
+    requires bounds { AreInBounds sizes.now }
+    requires wide { 272 ≤ length words.old }
     ensures length { length words.new ≡ length words.old }
     ensures above { (i : ℕ) → 66 ≤ i → i < 272 → slice_index words.new i ≡ R.opens sizes.now i }
     ensures below { (i : ℕ) → i < 66 → slice_index words.new i ≡ slice_index words.old i }

@@ -1,13 +1,13 @@
 //! What each step of the rows tells.
-ghost use Rattle.std.specs.Prelude.{◌+◌};
+ghost use Rattle.std.specs.Prelude.{ℕ, ◌+◌};
 ghost use Rattle.ca_rows.specs.Closed.{joined};
-ghost use Rattle.ca_rows.specs.Rule.{fresh};
-ghost use Rattle.ca_rows.specs.Told.{Looked, Peeked, Took, Wrote, Gave, Asked, Announced, Left};
+ghost use Rattle.ca_rows.specs.Rule.{fresh, no_sizes};
+ghost use Rattle.ca_rows.specs.Told.{Looked, Peeked, Took, Wrote, Gave, Asked, Announced, Left, Retired};
 
 use crate::rule::RowRule;
 use crate::view::View;
 use atomic_table::{Join, Play, Split};
-use std::marker::PhantomData;
+use std::marker::{Brand, PhantomData};
 
 /// A load of the pool's head.
 pub struct Look;
@@ -52,7 +52,7 @@ pub struct Make<R> {
 impl<R: RowRule> Split<View<R::Upper>> for Make<R> {
     ghost left = { λ v. record v { made = v.made + 1 } };
 
-    ghost right = { λ v. fresh v.rows (v.made + 1) (R.begins (v.made + 1)) };
+    ghost right = { λ v. fresh v.sizes (v.made + 1) (R.begins (v.made + 1)) };
 }
 
 /// A load of the epoch, to announce it.
@@ -80,6 +80,24 @@ impl<R: RowRule> Play<(), View<R::Upper>> for Leave<R> {
     ghost then = { Left R.leaves };
 }
 
+/// Which row a step is about, where its word doesn't tell. It exists in proofs alone.
+pub trait Named {
+    ghost about: { ℕ };
+}
+
+impl Named for Brand {
+    ghost about = { 0 };
+}
+
+/// The load of the epoch that a row is retired with.
+pub struct Retire<K> {
+    named: PhantomData<K>,
+}
+
+impl<K: Named, U> Play<(), View<U>> for Retire<K> {
+    ghost then = { λ st m n m'. Retired K.about st m n m' };
+}
+
 /// The step that joins a pass's seat into the space's own one.
 pub struct Close<R> {
     rule: PhantomData<R>,
@@ -88,5 +106,5 @@ pub struct Close<R> {
 impl<R: RowRule> Join<View<R::Upper>> for Close<R> {
     ghost both = { joined R.both };
 
-    ghost spent = { fresh 0 0 R.spent };
+    ghost spent = { fresh no_sizes 0 R.spent };
 }

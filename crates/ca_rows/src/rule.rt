@@ -2,6 +2,7 @@
 ghost use Rattle.std.specs.Prelude.{◌≡◌, ℕ, ◌<◌, ◌≤◌, List};
 ghost use Rattle.ca_rows.specs.declared.sizes.Sizes.{Sizes as TheSizes};
 ghost use Rattle.ca_rows.specs.Laws.{Frames, Lends, Pinning, Making, Closing, Opening};
+ghost use Rattle.ca_rows.specs.Opening.{AreInBounds};
 ghost use Rattle.ca_rows.specs.Rule.{Ruled, fresh};
 
 use crate::sizes::Sizes;
@@ -29,8 +30,8 @@ pub trait RowRule {
     /// Which rows a pass has a note on. The words tell it too: what others do may give a pass a note.
     ghost noted: { List ℕ → Self.Upper → ℕ → Type 0 };
 
-    /// What holds of the words and of all that is known: the upper fact.
-    ghost fact: { TheSizes → List ℕ → List Self.Upper → Type 0 };
+    /// What holds of the sizes, the number of passes that were made, the words, and all that is known: the upper fact.
+    ghost fact: { TheSizes → ℕ → List ℕ → List Self.Upper → Type 0 };
 
     /// What a pass knows as it is made, by its number, after it pinned, and after it unpinned.
     ghost begins: { ℕ → Self.Upper };
@@ -46,7 +47,8 @@ pub trait RowRule {
 
     /// A word at the start.
     fn open(sizes: &Sizes, word: u32) -> u64
-        requires { (66 ≤ word) × (word < 272) }
+        requires bounds { AreInBounds sizes.now }
+        requires word { (66 ≤ word) × (word < 272) }
         ensures { result ≡ opens sizes.now word };
 
     ghost frames: { Frames linked lent noted fact };
@@ -70,5 +72,5 @@ pub struct Rows<R> {
 impl<R: RowRule> TableRule<(), View<R::Upper>, Sizes> for Rows<R> {
     ghost holds = { Ruled R.linked R.lent R.noted R.fact };
 
-    ghost first = { λ z. fresh z.rows 0 R.first };
+    ghost first = { λ z. fresh z 0 R.first };
 }

@@ -11,6 +11,7 @@ ghost use Rattle.ca_rows.specs.Rule.{Ruled};
 ghost use Rattle.std.specs.Option.{ForSome};
 ghost use Rattle.std.specs.Prelude.{slice_set};
 
+use crate::kept::KeptRows;
 use crate::plays::{Give, Look, Peek, Take, Write};
 use crate::rest::Rest;
 use crate::rule::{RowRule, Rows};
@@ -32,13 +33,14 @@ pub struct Space<R: RowRule> {
     pub ghost few: { (0 < table.shared.key.rows) × (table.shared.key.rows < 65536) },
     pub ghost passes: { (made ≤ sizes.passes) × (sizes.passes ≤ 64) },
     pub ghost has: { IsSome own },
-    pub ghost mine: { ForSome own (λ rest. IsOwnSeat table.shared.table_id sizes.rows made rest.seat) },
+    pub ghost mine: { ForSome own (λ rest. IsOwnSeat table.shared.table_id sizes made rest.seat) },
 }
 
 /// A pass: the right to take steps on a space. It carries what it knows.
 pub struct Pass<R: RowRule> {
     pub(crate) seat: Seat<(), View<R::Upper>>,
     pub(crate) number: u32,
+    pub(crate) kept: KeptRows,
 }
 
 /// What a pass knew when it was split off.
@@ -59,7 +61,17 @@ impl<R: RowRule> Drop for Space<R> {
 
 impl<R: RowRule> Drop for Pass<R> {
     fn drop(self) {
-        let Self { seat: _, number: _ } = self;
+        let Self {
+            seat: _,
+            number: _,
+            kept: _,
+        } = self;
+    }
+}
+
+impl<R: RowRule> Drop for Half<R> {
+    fn drop(self) {
+        let Self { seat: _ } = self;
     }
 }
 
@@ -87,7 +99,11 @@ impl<R: RowRule> Pass<R> {
     pub(crate) fn into_seat(self) -> Seat<(), View<R::Upper>>
         ensures { result ≡ self.seat }
     {
-        let Self { seat, number: _ } = self;
+        let Self {
+            seat,
+            number: _,
+            kept: _,
+        } = self;
         seat
     }
 }
@@ -109,6 +125,7 @@ impl<R: RowRule> Space<R> {
         requires rule { Allows (Ruled R.linked R.lent R.noted R.fact self.now.table.shared.key) self.now.table.shared.table_id.slots pass.old.seat.id pass.old.seat.me word (λ n. n) (M.then (step self.now.table.shared.table_id.slots word 0 0 none) pass.old.seat.me) }
         ensures same { IsSame pass.old.seat pass.new.seat }
         ensures number { pass.new.number ≡ pass.old.number }
+        ensures kept { pass.new.kept ≡ pass.old.kept }
         ensures told { M.then (step self.now.table.shared.table_id.slots word 0 0 none) pass.old.seat.me result pass.new.seat.me }
     {
         self.table.shared.load::<M>(&mut pass.seat, word as usize)
@@ -121,6 +138,7 @@ impl<R: RowRule> Space<R> {
         requires rule { Allows (Ruled R.linked R.lent R.noted R.fact self.now.table.shared.key) self.now.table.shared.table_id.slots pass.old.seat.id pass.old.seat.me word (λ _. value) (λ _. M.then (step self.now.table.shared.table_id.slots word value 0 none) pass.old.seat.me value) }
         ensures same { IsSame pass.old.seat pass.new.seat }
         ensures number { pass.new.number ≡ pass.old.number }
+        ensures kept { pass.new.kept ≡ pass.old.kept }
         ensures told { M.then (step self.now.table.shared.table_id.slots word value 0 none) pass.old.seat.me value pass.new.seat.me }
     {
         self.table
@@ -141,6 +159,7 @@ impl<R: RowRule> Space<R> {
         requires rule { Allows (Ruled R.linked R.lent R.noted R.fact self.now.table.shared.key) self.now.table.shared.table_id.slots pass.old.seat.id pass.old.seat.me word (λ n. either (n == old) new n) (M.then (step self.now.table.shared.table_id.slots word old new none) pass.old.seat.me) }
         ensures same { IsSame pass.old.seat pass.new.seat }
         ensures number { pass.new.number ≡ pass.old.number }
+        ensures kept { pass.new.kept ≡ pass.old.kept }
         ensures told { (n : ℕ) × M.then (step self.now.table.shared.table_id.slots word old new none) pass.old.seat.me n pass.new.seat.me × (result ≡ (n == old)) }
     {
         self.table
@@ -155,6 +174,7 @@ impl<R: RowRule> Space<R> {
         requires rule { Splits (Ruled R.linked R.lent R.noted R.fact self.now.table.shared.key) pass.old.seat.id pass.old.seat.me.0 (M.left pass.old.seat.me.0) (M.right pass.old.seat.me.0) }
         ensures same { IsSame pass.old.seat pass.new.seat }
         ensures number { pass.new.number ≡ pass.old.number }
+        ensures kept { pass.new.kept ≡ pass.old.kept }
         ensures left { pass.new.seat.me ≡ (M.left pass.old.seat.me.0, pass.old.seat.me.1) }
         ensures right { (result.seat.table_id ≡ pass.old.seat.table_id) × (result.seat.me ≡ (M.right pass.old.seat.me.0, [])) }
     {
@@ -169,6 +189,7 @@ impl<R: RowRule> Space<R> {
         requires rule { Joins (Ruled R.linked R.lent R.noted R.fact self.now.table.shared.key) pass.old.seat.id pass.old.seat.me.0 half.seat.id half.seat.me.0 (M.both pass.old.seat.me.0 half.seat.me.0) M.spent }
         ensures same { IsSame pass.old.seat pass.new.seat }
         ensures number { pass.new.number ≡ pass.old.number }
+        ensures kept { pass.new.kept ≡ pass.old.kept }
         ensures both { pass.new.seat.me ≡ (M.both pass.old.seat.me.0 half.seat.me.0, pass.old.seat.me.1) }
     {
         self.table
@@ -178,9 +199,10 @@ impl<R: RowRule> Space<R> {
 
     /// Takes a free row.
     pub fn take_row(&self, pass: &mut Pass<R>) -> Taken
-        requires own { IsOf self.now.table.shared.table_id self.now.table.shared.key.rows pass.old.seat }
+        requires own { IsOf self.now.table.shared.table_id self.now.table.shared.key pass.old.seat }
         ensures same { IsStill pass.old.seat pass.new.seat }
         ensures number { pass.new.number ≡ pass.old.number }
+        ensures kept { pass.new.kept ≡ pass.old.kept }
         ensures row { TakesRow result pass.old.seat.me pass.new.seat.me }
     {
         let head = self.table.shared.load::<Look>(&mut pass.seat, 0);
@@ -211,11 +233,12 @@ impl<R: RowRule> Space<R> {
 
     /// Writes a word of a row that the pass holds.
     pub fn write_word(&self, pass: &mut Pass<R>, row: u32, index: u32, value: u64)
-        requires own { IsOf self.now.table.shared.table_id self.now.table.shared.key.rows pass.old.seat }
+        requires own { IsOf self.now.table.shared.table_id self.now.table.shared.key pass.old.seat }
         requires held { (its : List ℕ) × (claim_of pass.old.seat.me.0.claims row ≡ some (IsHeld its)) }
         requires inside { (row ≤ self.now.table.shared.key.rows) × (index < 136) }
         ensures same { IsStill pass.old.seat pass.new.seat }
         ensures number { pass.new.number ≡ pass.old.number }
+        ensures kept { pass.new.kept ≡ pass.old.kept }
         ensures written { (its : List ℕ) → claim_of pass.old.seat.me.0.claims row ≡ some (IsHeld its) → pass.new.seat.me ≡ (record pass.old.seat.me.0 { claims = claimed row (IsHeld (slice_set its index value)) pass.old.seat.me.0.claims }, pass.old.seat.me.1) }
     {
         self.table
@@ -225,11 +248,12 @@ impl<R: RowRule> Space<R> {
 
     /// Puts a row back that the pass holds. False exactly where the exchange lost: the pass holds the row still.
     pub fn put_row(&self, pass: &mut Pass<R>, row: u32) -> bool
-        requires own { IsOf self.now.table.shared.table_id self.now.table.shared.key.rows pass.old.seat }
+        requires own { IsOf self.now.table.shared.table_id self.now.table.shared.key pass.old.seat }
         requires held { (its : List ℕ) × (length its ≡ 136) × (claim_of pass.old.seat.me.0.claims row ≡ some (IsHeld its)) }
         requires inside { row ≤ self.now.table.shared.key.rows }
         ensures same { IsStill pass.old.seat pass.new.seat }
         ensures number { pass.new.number ≡ pass.old.number }
+        ensures kept { pass.new.kept ≡ pass.old.kept }
         ensures given { PutsRow result row pass.old.seat.me pass.new.seat.me }
     {
         let head = self.table.shared.load::<Look>(&mut pass.seat, 0);

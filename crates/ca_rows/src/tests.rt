@@ -1,9 +1,11 @@
 //! Rows under a register of one row, by one pass and by two on threads.
 ghost use Rattle.std.specs.Prelude.{◌≡◌, ℕ, ◌+◌, ◌<◌, ◌≤◌};
 ghost use Rattle.ca_rows.specs.Calls.{IsOf};
+ghost use Rattle.ca_rows.specs.Kept.{AreKept};
 ghost use Rattle.std.specs.Thread.{IsSync};
 
 use super::*;
+use std::alloc::Global;
 use std::thread::{Threads, join};
 
 // A register: the row that word 130 names is linked.
@@ -64,7 +66,7 @@ const STARTS: Starts = Starts {
 
 // How many free rows there are, each of which is taken once; none, where a row comes twice.
 fn take_each(space: &Space<Register>, pass: &mut Pass<Register>) -> Option<u32>
-    requires { IsOf space.now.table.shared.table_id space.now.table.shared.key.rows pass.old.seat }
+    requires { IsOf space.now.table.shared.table_id space.now.table.shared.key pass.old.seat }
 {
     let mut seen = [false; 512];
     let mut count = 0_u32;
@@ -90,7 +92,7 @@ fn takes_each_free_row_once(rt: HostRuntime) {
     let Ok(mut space) = Space::<Register>::new(rt.alloc(), 384, 2, 1, 120, 4096, STARTS) else {
         panic!(rt; "no memory")
     };
-    let Ok(mut pass) = space.enroll() else {
+    let Ok(mut pass) = space.enroll(rt.alloc()) else {
         panic!(rt; "no pass")
     };
     assert_eq!(rt; pass.number(), 1);
@@ -100,8 +102,8 @@ fn takes_each_free_row_once(rt: HostRuntime) {
 
 // Takes a row, writes into it and puts it back, where it can. It answers how many rows the pass holds more.
 fn take_and_put(space: &Space<Register>, pass: &mut Pass<Register>, value: u64) -> u32
-    requires { IsOf space.now.table.shared.table_id space.now.table.shared.key.rows pass.old.seat }
-    ensures { IsOf space.now.table.shared.table_id space.now.table.shared.key.rows pass.new.seat }
+    requires { IsOf space.now.table.shared.table_id space.now.table.shared.key pass.old.seat }
+    ensures { IsOf space.now.table.shared.table_id space.now.table.shared.key pass.new.seat }
 {
     match space.take_row(pass) {
         Taken::Row(row) => {
@@ -114,8 +116,8 @@ fn take_and_put(space: &Space<Register>, pass: &mut Pass<Register>, value: u64) 
 
 // Does so many times, and gives the pass back with how many rows it holds.
 fn work(space: &Space<Register>, mut pass: Pass<Register>, times: u64) -> (Pass<Register>, u32)
-    requires { IsOf space.now.table.shared.table_id space.now.table.shared.key.rows pass.seat }
-    ensures { IsOf space.now.table.shared.table_id space.now.table.shared.key.rows result.0.seat }
+    requires { IsOf space.now.table.shared.table_id space.now.table.shared.key pass.seat }
+    ensures { IsOf space.now.table.shared.table_id space.now.table.shared.key result.0.seat }
 {
     let mut held = 0_u32;
     let mut time = 0;
@@ -133,16 +135,16 @@ fn work_both<T: Threads + Sync>(
     first: Pass<Register>,
     second: Pass<Register>,
 ) -> (u32, Option<u32>)
-    requires { IsOf space.now.table.shared.table_id space.now.table.shared.key.rows first.seat × IsOf space.now.table.shared.table_id space.now.table.shared.key.rows second.seat }
+    requires { IsOf space.now.table.shared.table_id space.now.table.shared.key first.seat × IsOf space.now.table.shared.table_id space.now.table.shared.key second.seat }
 {
     let ((mut first, one), (_second, two)) = join(
         rt,
         || -> (Pass<Register>, u32)
-            requires { IsOf space.now.table.shared.table_id space.now.table.shared.key.rows first.seat }
-            ensures { IsOf space.entry.now.table.shared.table_id space.entry.now.table.shared.key.rows result.0.seat }
+            requires { IsOf space.now.table.shared.table_id space.now.table.shared.key first.seat }
+            ensures { IsOf space.entry.now.table.shared.table_id space.entry.now.table.shared.key result.0.seat }
         { work(space, first, 20_000) },
         || -> (Pass<Register>, u32)
-            requires { IsOf space.now.table.shared.table_id space.now.table.shared.key.rows second.seat }
+            requires { IsOf space.now.table.shared.table_id space.now.table.shared.key second.seat }
         { work(space, second, 20_000) },
     );
     (one.saturating_add(two), take_each(space, &mut first))
@@ -153,10 +155,10 @@ fn no_row_is_lost_between_two_threads(rt: HostRuntime) {
     let Ok(mut space) = Space::<Register>::new(rt.alloc(), 384, 2, 1, 120, 4096, STARTS) else {
         panic!(rt; "no memory")
     };
-    let (Ok(first), Ok(second)) = (space.enroll(), space.enroll()) else {
+    let (Ok(first), Ok(second)) = (space.enroll(rt.alloc()), space.enroll(rt.alloc())) else {
         panic!(rt; "no pass")
     };
-    assert!(rt; matches!(space.enroll(), Err(RowsFault::NoPass)));
+    assert!(rt; matches!(space.enroll(rt.alloc()), Err(RowsFault::NoPass)));
     let (held, free) = work_both(&rt, &space, first, second);
     assert_eq!(rt; free, 383_u32.checked_sub(held));
 }
@@ -166,7 +168,7 @@ fn a_pass_pins_and_unpins(rt: HostRuntime) {
     let Ok(mut space) = Space::<Register>::new(rt.alloc(), 384, 1, 1, 120, 4096, STARTS) else {
         panic!(rt; "no memory")
     };
-    let Ok(mut pass) = space.enroll() else {
+    let Ok(mut pass) = space.enroll(rt.alloc()) else {
         panic!(rt; "no pass")
     };
     space.pin(&mut pass);
@@ -192,4 +194,111 @@ fn begins_with_these_words(rt: HostRuntime) {
             assert_eq!(rt; words.at(word), value, "in {word}");
         }
     }
+}
+
+// Takes a row and retires it. It answers how many rows the pass keeps then.
+fn take_and_retire(space: &Space<Register>, pass: &mut Pass<Register>) -> u32
+    requires own { IsOf space.now.table.shared.table_id space.now.table.shared.key pass.old.seat }
+    requires list { AreKept space.now.table.shared.key.rows pass.old.seat.me.0.claims pass.old.kept.rows }
+    ensures { IsOf space.now.table.shared.table_id space.now.table.shared.key pass.new.seat }
+{
+    if let Taken::Row(row) = space.take_row(pass) {
+        space.retire(pass, row);
+    }
+    pass.kept()
+}
+
+#[test]
+fn a_row_that_is_retired_is_kept(rt: HostRuntime) {
+    let Ok(mut space) = Space::<Register>::new(rt.alloc(), 384, 1, 1, 120, 4096, STARTS) else {
+        panic!(rt; "no memory")
+    };
+    let Ok(mut pass) = space.enroll(rt.alloc()) else {
+        panic!(rt; "no pass")
+    };
+    assert_eq!(rt; pass.kept(), 0);
+    assert_eq!(rt; take_and_retire(&space, &mut pass), 1);
+    assert_eq!(rt; take_each(&space, &mut pass), Some(382));
+}
+
+// Whether a space of these sizes is refused.
+fn is_bad(alloc: Global, rows: u32, passes: u32, starts: Starts) -> bool {
+    matches!(
+        Space::<Register>::new(alloc, rows, passes, 1, 120, 0, starts),
+        Err(RowsFault::BadSize)
+    )
+}
+
+// Starts with one number each that isn't 0.
+fn starts(tag: u64, epoch: u64, sequence: u64, attempt: u64) -> Starts {
+    Starts {
+        tag,
+        epoch,
+        sequence,
+        attempt,
+    }
+}
+
+#[test]
+fn rows_and_passes_outside_the_bounds_are_refused(rt: HostRuntime) {
+    for (rows, passes, bad) in [
+        (383, 1, true),
+        (384, 1, false),
+        (65_535, 1, false),
+        (65_536, 1, true),
+        (384, 0, true),
+        (384, 64, false),
+        (384, 65, true),
+    ] {
+        assert_eq!(rt;
+            is_bad(rt.alloc(), rows, passes, STARTS),
+            bad,
+            "{rows} rows, {passes} passes"
+        );
+    }
+}
+
+#[test]
+fn starts_past_the_last_values_are_refused(rt: HostRuntime) {
+    for (tag, epoch, sequence, attempt, bad) in [
+        ((1 << 48) - 1, 0, 0, 0, false),
+        (1 << 48, 0, 0, 0, true),
+        (0, 1 << 62, 0, 0, false),
+        (0, (1 << 62) + 1, 0, 0, true),
+        (0, 0, (1 << 46) - 1, 0, false),
+        (0, 0, 1 << 46, 0, true),
+        (0, 0, 0, (1 << 62) - 1, false),
+        (0, 0, 0, 1 << 62, true),
+    ] {
+        let refused = is_bad(rt.alloc(), 384, 1, starts(tag, epoch, sequence, attempt));
+        assert_eq!(rt; refused, bad, "{tag}, {epoch}, {sequence}, {attempt}");
+    }
+}
+
+#[test]
+fn makes_as_many_passes_as_it_is_for(rt: HostRuntime) {
+    let Ok(mut space) = Space::<Register>::new(rt.alloc(), 384, 64, 1, 120, 0, STARTS) else {
+        panic!(rt; "no memory")
+    };
+    for number in 1..65_u32 {
+        let Ok(pass) = space.enroll(rt.alloc()) else {
+            panic!(rt; "no pass")
+        };
+        assert_eq!(rt; pass.number(), number);
+    }
+    assert!(rt; matches!(space.enroll(rt.alloc()), Err(RowsFault::NoPass)));
+    assert_eq!(rt; space.enrolled(), 64);
+}
+
+#[test]
+fn a_tag_at_its_last_value_is_worn(rt: HostRuntime) {
+    let last = starts((1 << 48) - 2, 0, 0, 0);
+    let Ok(mut space) = Space::<Register>::new(rt.alloc(), 384, 1, 1, 120, 0, last) else {
+        panic!(rt; "no memory")
+    };
+    let Ok(mut pass) = space.enroll(rt.alloc()) else {
+        panic!(rt; "no pass")
+    };
+    assert_eq!(rt; space.take_row(&mut pass), Taken::Row(2));
+    assert_eq!(rt; space.take_row(&mut pass), Taken::Worn);
 }

@@ -1,4 +1,5 @@
 //! What a seat of the table knows. It exists in proofs alone: no value of these types is made.
+use crate::sizes::Sizes;
 use std::collections::LinkedList;
 
 /// How far a seat is with the pool's head.
@@ -47,8 +48,8 @@ pub struct Pin {
 }
 
 pub struct View<U> {
-    /// How many rows there are, or 0 where the seat doesn't know.
-    pub rows: u64,
+    /// What the space was made with; no rows, where the seat doesn't know.
+    pub sizes: Sizes,
     /// How many passes were made, where this is the space's own seat.
     pub made: u64,
     pub stage: Stage,

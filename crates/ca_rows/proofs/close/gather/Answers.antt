@@ -5,8 +5,8 @@ use Rattle.atomic_table.specs.declared.shared.Seat.{Seat}
 use Rattle.ca_rows.specs.declared.space.Pass.{Pass}
 use Rattle.ca_rows.specs.declared.view.View.{View}
 use Rattle.ca_rows.specs.Closed.{IsClosable, joined, joined_from}
-use Rattle.ca_rows.specs.Rule.{Ruled, fresh}
-use Rattle.ca_rows.proofs.Closing.{joins, joined_behind, all_front}
+use Rattle.ca_rows.specs.Rule.{Ruled, fresh, no_sizes}
+use Rattle.ca_rows.proofs.Closing.{joins, joined_behind, all_front, all_last}
 use Rattle.ca_rows.proofs.close.gather.Goals as goal
 
 pub join_seat-requires : goal.join_seat-requires
@@ -14,15 +14,18 @@ join_seat-requires g c =
     let table = c.args.table.now.shared in
     let inv = c.loop-pass.invariant in
     let own = c.loop-pass.seat in
-    let ok : IsClosable table.table_id c.in-Some.pass.seat = search rules in
-    let it : IsClosable table.table_id c.into_seat.result = subst (λ (p : Seat (Unit {0}) (View g.row.R-Upper.Denot)). IsClosable table.table_id p) (sym c.into_seat.ensures) ok in (
+    let list : c.loop-pass.passes.items ≡ c.pop.new.self.items ++ c.in-Some.pass ∷ [] = search rules in
+    let ok : IsClosable table.table_id c.in-Some.pass.seat = all_last (λ (pass : Pass g.row.R.Denot g.row.R-Upper.Denot). IsClosable table.table_id pass.seat) c.pop.new.self.items c.in-Some.pass
+    (subst (λ (xs : List (Pass g.row.R.Denot g.row.R-Upper.Denot)). All (λ pass. IsClosable table.table_id pass.seat) xs) list inv.3) in
+    let it : IsClosable table.table_id c.into_seat.result = subst (λ (p : Seat (Unit {0}) (View g.row.R-Upper.Denot)). IsClosable table.table_id p)
+    (sym c.into_seat.ensures) ok in (
       inv.0 ∙ c.requires.seat.0,
       it.0,
       it.1,
       c.requires.words,
       subst (λ (id : ℕ). Joins (Ruled g.R.RowRule.linked g.R.RowRule.lent g.R.RowRule.noted g.R.RowRule.fact table.key) id own.me.0 c.into_seat.result.id c.into_seat.result.me.0
-          (joined g.R.RowRule.both own.me.0 c.into_seat.result.me.0) (fresh 0 0 g.R.RowRule.spent)) (sym (inv.1 ∙ c.requires.seat.1))
-          (joins g.R.RowRule.linked g.R.RowRule.lent g.R.RowRule.noted g.R.RowRule.fact g.R.RowRule.both g.R.RowRule.spent g.met.R.RowRule.closing table.key own.me.0 c.into_seat.result.me.0 c.into_seat.result.id inv.2 it.2),
+          (joined g.R.RowRule.both own.me.0 c.into_seat.result.me.0) (fresh no_sizes 0 g.R.RowRule.spent)) (sym (inv.1 ∙ c.requires.seat.1))
+          (joins g.R.RowRule.linked g.R.RowRule.lent g.R.RowRule.noted g.R.RowRule.fact g.R.RowRule.both g.R.RowRule.spent g.met.R.RowRule.closing table.key 0 own.me.0 c.into_seat.result.me.0 c.into_seat.result.id inv.2 it.2 (λ apart same. absurd (apart same))),
     )
 
 pub loop-pass-preserved : goal.loop-pass-preserved

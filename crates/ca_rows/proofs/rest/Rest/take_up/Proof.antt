@@ -12,8 +12,10 @@ use Rattle.ca_rows.proofs.rest.Rest.take_up.Code as code
 
 pub take_up_spec : {M : Type 1} → statement M
 take_up_spec 𝓤 𝓛 𝓜 𝓡 wired S V _ _ =
-    let H = 𝓛.H in let 𝓣 = tables 𝓤 H 𝓜 𝓡 𝓡.env in let Row : RattleType = param 0 S in let View : RattleType = param 1 V in let En = ended S V in let c = clauses S V 𝓛 𝓜.mem 𝓡.returns in
-    let inst = layouts (a_type ∷ a_type ∷ []) (S, (V, tt)) in let fn = inst_fn inst code.function in let Lr : RattleType = seat.the_row Row View in let Rr : RattleType = rest.the_row Row View in
+    let H = 𝓛.H in let 𝓣 = tables 𝓤 H 𝓜 𝓡 𝓡.env in let Row : RattleType = param 0 S in let View : RattleType = param 1 V in let En = ended S V in
+    let c = clauses S V 𝓛 𝓜.mem 𝓡.returns in
+    let inst = layouts (a_type ∷ a_type ∷ []) (S, (V, tt)) in let fn = inst_fn inst code.function in let Lr : RattleType = seat.the_row Row View in
+    let Rr : RattleType = rest.the_row Row View in
     let hs : Stays En.signature.params En.kept = (stay_dropped (plain (λ _. Rr)) no, tt) in
     proved 𝓛 En hs c 𝓜 𝓡 (Goes-blank 𝓛 2 (plain (λ _. Rr)) no (λ κs x f. tt), tt) (#self inst) fn (code.unfolded 𝓤 H 𝓜 𝓡 wired (S, (V, tt)))
     (λ κs. ((λ x. rest_val ∷ []), tt)) (λ κs. ((λ x vs so. rest_told Row View x vs so), tt)) (λ κs qs bounds a gh are.

@@ -10,7 +10,11 @@ use Rattle.ca_rows.specs.Rule.{Ruled}
 use Rattle.ca_rows.proofs.space.Space.close.Goals as goal
 
 pub of-requires-2 : goal.of-requires-2
-of-requires-2 g c = (c.close_with.ensures.values.0, c.close_with.ensures.counts.1 ∙ (ap (λ t. t.shared.table_id.slots) c.into_parts-table.ensures.0 ∙ c.args.self.no_slots))
+of-requires-2 g c = (
+  c.close_with.ensures.values.0,
+  c.close_with.ensures.counts.1
+      ∙ (ap (λ t. t.shared.table_id.slots) c.into_parts-table.ensures.0 ∙ c.args.self.no_slots),
+)
 
 same_rest : {S U : Type 0} (a b : Rest S U) → Some a ≡ Some b → a ≡ b
 same_rest a b e = cc
@@ -20,7 +24,7 @@ returns-clause-words g c rest is =
     let space = c.args.self in
     let here : space.own ≡ Some c.in-Some.rest = sym c.into_parts-table.ensures.1 ∙ c.in-Some.is in
     let same : c.in-Some.rest ≡ rest = same_rest c.in-Some.rest rest (sym here ∙ is) in
-    let own : IsOwnSeat space.table.shared.table_id space.sizes.rows space.made c.in-Some.rest.seat = search rules in
+    let own : IsOwnSeat space.table.shared.table_id space.sizes space.made c.in-Some.rest.seat = search rules in
     let seat : c.take_up-seat.result ≡ c.in-Some.rest.seat = c.take_up-seat.ensures in
     let last = c.close_with.ensures.values.2 in
     let id : c.gather.new.seat.id ≡ 0 = c.gather.ensures.same.1 ∙ (ap (λ (p : Seat (Unit {0}) (View g.row.R-Upper.Denot)). p.id) seat ∙ own.1) in

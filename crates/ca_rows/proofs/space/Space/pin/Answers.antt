@@ -21,5 +21,6 @@ store-requires g c =
       search rules,
       omega arith,
       announces g.R.RowRule.linked g.R.RowRule.lent g.R.RowRule.noted g.R.RowRule.fact g.met.R.RowRule.frames c.args.self.now.table.shared.key g.R.RowRule.enters g.R.RowRule.leaves g.met.R.RowRule.pinning
-          _ _ _ (c.args.pass.now.number + 1) (c.load-epoch.result + 1) (omega arith) (omega arith) (omega arith) (ap (λ (e : Pin). e.pinned) same ∙ c.requires.unpinned),
+          _ _ _ (c.args.pass.now.number + 1) (c.load-epoch.result + 1) (omega arith) (omega arith) (omega arith)
+          (ap (λ (e : Pin). e.pinned) same ∙ c.requires.unpinned),
     )

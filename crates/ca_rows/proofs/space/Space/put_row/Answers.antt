@@ -24,7 +24,8 @@ compare_exchange-requires g c =
     let had : claim_of c.load-head.new.seat.me.0.claims c.args.row ≡ some (Holds its) = ap (λ (m : Mine g.row.R-Upper.Denot). claim_of m.0.claims c.args.row) saw ∙ c.requires.held.2 in
     let wrote = c.write_word.ensures.written its had in
     let has : claim_of c.write_word.new.pass.seat.me.0.claims c.args.row ≡ some (Holds (set its 0 h)) =
-    ap (λ (m : Mine g.row.R-Upper.Denot). claim_of m.0.claims c.args.row) wrote ∙ claimed_here c.load-head.new.seat.me.0.claims c.args.row (Holds (set its 0 h)) in (
+    ap (λ (m : Mine g.row.R-Upper.Denot). claim_of m.0.claims c.args.row) wrote
+    ∙ claimed_here c.load-head.new.seat.me.0.claims c.args.row (Holds (set its 0 h)) in (
       search rules,
       omega arith,
       gives g.R.RowRule.linked g.R.RowRule.lent g.R.RowRule.noted g.R.RowRule.fact g.met.R.RowRule.frames c.args.self.now.table.shared.key _ _ _ (c.load-head.result / 65536) h c.args.row (set its 0 h)

@@ -1,4 +1,5 @@
 use Rattle.std.proofs.Common.{rules, ℕ, ◌/◌, ◌%◌, ◌∙◌, arith, ap}
+use Rattle.ca_rows.specs.declared.sizes.Sizes.{Sizes}
 use Rattle.ca_rows.specs.Told.{Mine}
 use Rattle.ca_rows.proofs.Calling.{row_taken, row_missed, still}
 use Rattle.ca_rows.proofs.Steps.{looks, peeks, takes}
@@ -9,12 +10,13 @@ load-head-requires g c = let sized = c.args.self.now.sized in
     (search rules, omega arith, looks g.R.RowRule.linked g.R.RowRule.lent g.R.RowRule.noted g.R.RowRule.fact g.met.R.RowRule.frames c.args.self.now.table.shared.key _ _ _)
 
 pub load-next-requires : goal.load-next-requires
-load-next-requires g c = let sized = c.args.self.now.sized in let few = c.args.self.now.few.1 in let saw = c.load-head.ensures.2 in let t = c.if-row-eq0.false in (
-  search rules,
-  (let same = c.requires.own.1 in let some_rows = c.args.self.now.few.0 in let lim = saw.0 (omega arith) in omega arith),
-  peeks g.R.RowRule.linked g.R.RowRule.lent g.R.RowRule.noted g.R.RowRule.fact g.met.R.RowRule.frames c.args.self.now.table.shared.key _ _ _ (c.load-head.result / 65536) (c.load-head.result % 65536)
-      (ap (λ (m : Mine g.row.R-Upper.Denot). m.0.stage) saw.1) (omega arith),
-)
+load-next-requires g c = let sized = c.args.self.now.sized in let few = c.args.self.now.few.1 in let saw = c.load-head.ensures.2 in
+    let t = c.if-row-eq0.false in (
+      search rules,
+      (let same = ap (λ (z : Sizes). z.rows) c.requires.own.1 in let some_rows = c.args.self.now.few.0 in let lim = saw.0 (omega arith) in omega arith),
+      peeks g.R.RowRule.linked g.R.RowRule.lent g.R.RowRule.noted g.R.RowRule.fact g.met.R.RowRule.frames c.args.self.now.table.shared.key _ _ _ (c.load-head.result / 65536) (c.load-head.result % 65536)
+          (ap (λ (m : Mine g.row.R-Upper.Denot). m.0.stage) saw.1) (omega arith),
+    )
 
 pub compare_exchange-found-requires : goal.compare_exchange-found-requires
 compare_exchange-found-requires g c = let sized = c.args.self.now.sized in let saw = c.load-head.ensures.2 in let t = c.if-row-eq0.false in
@@ -34,7 +36,7 @@ returns-then-found-old-clause-row g c =
     let next = c.load-next.ensures.2 t' q (ap (λ (m : Mine g.row.R-Upper.Denot). m.0.stage) saw.1) in
     let took = (c.compare_exchange-found.ensures.2 t' q c.load-next.result (ap (λ (m : Mine g.row.R-Upper.Denot). m.0.stage) next)).0 c.if-found-old.true in
     let same = row_taken c.args.pass.now.seat.me c.load-head.new.seat.me c.load-next.new.seat.me c.compare_exchange-found.new.seat.me _ _ saw.1 q took.1.0 next took.0 took.1.2 in
-    let rows = c.requires.own.1 in
+    let rows = ap (λ (z : Sizes). z.rows) c.requires.own.1 in
     let some_rows = c.args.self.now.few.0 in
     let bound = saw.0 (omega arith) in
     (omega arith, bound, same.0, (took.1.0, took.1.1, same.1))
@@ -51,10 +53,22 @@ returns-else-found-old-clause-row g c =
 pub returns-then-found-old-clause-same : goal.returns-then-found-old-clause-same
 returns-then-found-old-clause-same g c =
     let row = returns-then-found-old-clause-row g c in
-    let rest = still c.args.pass.now.seat.me c.compare_exchange-found.new.seat.me _ _ _ row.3.2 in
-    (c.compare_exchange-found.ensures.0 ∙ (c.load-next.ensures.0 ∙ c.load-head.ensures.0), c.compare_exchange-found.ensures.1 ∙ (c.load-next.ensures.1 ∙ c.load-head.ensures.1), rest.0, rest.1, rest.2)
+    let rest = still c.args.pass.now.seat.me c.compare_exchange-found.new.seat.me _ _ _ row.3.2 in (
+      c.compare_exchange-found.ensures.0 ∙ (c.load-next.ensures.0 ∙ c.load-head.ensures.0),
+      c.compare_exchange-found.ensures.1
+          ∙ (c.load-next.ensures.1 ∙ c.load-head.ensures.1),
+      rest.0,
+      rest.1,
+      rest.2,
+    )
 
 pub returns-else-found-old-clause-same : goal.returns-else-found-old-clause-same
 returns-else-found-old-clause-same g c =
-    let rest = still c.args.pass.now.seat.me c.compare_exchange-found.new.seat.me _ _ _ (returns-else-found-old-clause-row g c) in
-    (c.compare_exchange-found.ensures.0 ∙ (c.load-next.ensures.0 ∙ c.load-head.ensures.0), c.compare_exchange-found.ensures.1 ∙ (c.load-next.ensures.1 ∙ c.load-head.ensures.1), rest.0, rest.1, rest.2)
+    let rest = still c.args.pass.now.seat.me c.compare_exchange-found.new.seat.me _ _ _ (returns-else-found-old-clause-row g c) in (
+      c.compare_exchange-found.ensures.0 ∙ (c.load-next.ensures.0 ∙ c.load-head.ensures.0),
+      c.compare_exchange-found.ensures.1
+          ∙ (c.load-next.ensures.1 ∙ c.load-head.ensures.1),
+      rest.0,
+      rest.1,
+      rest.2,
+    )

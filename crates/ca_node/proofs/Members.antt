@@ -1,0 +1,71 @@
+-- Members of lists, claims on lists of rows, and rows of a list one by one.
+use Rattle.std.proofs.Common.{◌≡◌, ◌⊎◌, ℕ, zero, suc, List, [], ◌∷◌, length, map, sym, refl, ap, ◌∙◌, inl, inr, ⊎_elim, arith}
+use mathlib.Core.Logic.{dite}
+use mathlib.Core.Option.{some, none, some-ne-none}
+use native.Mathlib.Decide.{ℕ_discrete}
+use lib.ListN.{get_elem?}
+use Rattle.ca_rows.specs.declared.view.Claim.TheVariants.{Unlinked}
+use Rattle.ca_rows.specs.declared.view.Claimed.{Claimed}
+use Rattle.ca_rows.specs.Claims.{claim_of}
+use Rattle.ca_rows.proofs.Claiming.{claimed_here, claimed_else, dropped_here, dropped_else}
+use Rattle.ca_node.specs.Laws.{in_nothing}
+use Rattle.ca_node.specs.Links.{IsIn}
+use Rattle.ca_node.specs.Told.{given, taken_out}
+use Rattle.ca_node.proofs.Looking.{in_more}
+
+-- The first row is in the list.
+pub in_first : (r : ℕ) (xs : List ℕ) → IsIn r (r ∷ xs)
+in_first r xs = (0, refl)
+
+-- A row of the rest is.
+pub in_rest : (r x : ℕ) (xs : List ℕ) → IsIn r xs → IsIn r (x ∷ xs)
+in_rest r x xs i = (suc i.0, i.1)
+
+-- Whether a row is in a list.
+pub has : (xs : List ℕ) (r : ℕ) → IsIn r xs ⊎ ¬ IsIn r xs
+has [] r = inr (in_nothing r [] refl)
+has (x ∷ xs) r = dite (ℕ_discrete x r)
+    (λ e. inl (0, ap some e))
+    (λ n. ⊎_elim (λ (i : IsIn r xs). inl (in_rest r x xs i)) (λ (m : ¬ IsIn r xs). inr (λ i. ⊎_elim n m (in_more x r xs i))) (has xs r))
+
+-- A row that was given has no claim.
+pub given_here : (rows : List ℕ) (claims : List Claimed) (r : ℕ) → IsIn r rows → claim_of (given rows claims) r ≡ none
+given_here [] claims r i = absurd (in_nothing r [] refl i)
+given_here (x ∷ xs) claims r i = dite (ℕ_discrete r x)
+    (λ e. ap (claim_of (given (x ∷ xs) claims)) e ∙ dropped_here (given xs claims) x)
+    (λ n. dropped_else (given xs claims) x r n ∙ given_here xs claims r (⊎_elim (λ e. absurd (n (sym e))) (λ j. j) (in_more x r xs i)))
+
+-- Another one has the claim that it had.
+pub given_else : (rows : List ℕ) (claims : List Claimed) (r : ℕ) → ¬ IsIn r rows → claim_of (given rows claims) r ≡ claim_of claims r
+given_else [] claims r n = refl
+given_else (x ∷ xs) claims r n = dropped_else (given xs claims) x r (λ e. n (0, ap some (sym e))) ∙ given_else xs claims r (λ i. n (in_rest r x xs i))
+
+-- A row that was taken out is unlinked by the seat.
+pub taken_here : (rows : List ℕ) (claims : List Claimed) (r : ℕ) → IsIn r rows → claim_of (taken_out rows claims) r ≡ some Unlinked
+taken_here [] claims r i = absurd (in_nothing r [] refl i)
+taken_here (x ∷ xs) claims r i = dite (ℕ_discrete r x)
+    (λ e. ap (claim_of (taken_out (x ∷ xs) claims)) e ∙ claimed_here (taken_out xs claims) x Unlinked)
+    (λ n. claimed_else (taken_out xs claims) x r Unlinked n ∙ taken_here xs claims r (⊎_elim (λ e. absurd (n (sym e))) (λ j. j) (in_more x r xs i)))
+
+-- Another one has the claim that it had.
+pub taken_else : (rows : List ℕ) (claims : List Claimed) (r : ℕ) → ¬ IsIn r rows → claim_of (taken_out rows claims) r ≡ claim_of claims r
+taken_else [] claims r n = refl
+taken_else (x ∷ xs) claims r n = claimed_else (taken_out xs claims) x r Unlinked (λ e. n (0, ap some (sym e)))
+    ∙ taken_else xs claims r (λ i. n (in_rest r x xs i))
+
+-- Of two lists that are as long, one has something where the other has.
+pub other_has : {A B : Type 0} (xs : List A) (ys : List B) (k : ℕ) (a : A) → length ys ≡ length xs → get_elem? xs k ≡ some a → (b : B)
+    × (get_elem? ys k ≡ some b)
+other_has [] ys k a e here = absurd (some-ne-none a (sym here))
+other_has (x ∷ xs) [] k a e here = absurd (omega arith)
+other_has (x ∷ xs) (y ∷ ys) zero a e here = (y, refl)
+other_has (x ∷ xs) (y ∷ ys) (suc k) a e here = other_has xs ys k a (omega arith) here
+
+-- A list is what a function gives on another one, if it is so at each place.
+pub map_is_list : {A B : Type 0} (f : A → B) (xs : List A) (ys : List B) → length ys ≡ length xs
+    → ((k : ℕ) (a : A) (b : B) → get_elem? xs k ≡ some a → get_elem? ys k ≡ some b → f a ≡ b) → map f xs ≡ ys
+map_is_list f [] [] e each = refl
+map_is_list f [] (y ∷ ys) e each = absurd (omega arith)
+map_is_list f (x ∷ xs) [] e each = absurd (omega arith)
+map_is_list f (x ∷ xs) (y ∷ ys) e each = ap (λ z. z ∷ map f xs) (each 0 x y refl refl)
+    ∙ ap (λ zs. y ∷ zs) (map_is_list f xs ys (omega arith) (λ k a b. each (suc k) a b))

@@ -1,0 +1,9 @@
+use Rattle.std.proofs.Common.{refl}
+use Rattle.ca_node.proofs.Looking.{reads}
+use Rattle.ca_node.proofs.steps.load_word.Goals as goal
+
+pub load-requires-clause-rule : goal.load-requires-clause-rule
+load-requires-clause-rule c = reads c.args.space.now.table.shared.key _ _ _ _
+
+pub returns-clause-word : goal.returns-clause-word
+returns-clause-word c its shown = c.load.ensures.told.1 c.args.row c.args.index its refl c.requires.inside.1 shown

@@ -1,0 +1,48 @@
+-- What the root link reaches, what is lent to an operation, and which rows a seat has a note on: each by the words.
+use Rattle.std.specs.Prelude.{◌≡◌, ◌⊎◌, ℕ, ◌+◌, ◌*◌, ◌<◌, ◌≤◌, List, slice_index}
+use mathlib.Core.Option.{some}
+use lib.ListN.{get_elem?}
+use Rattle.ca_node.specs.Row.{row_at, IsBaseRow, IsRouteRow, items, mark, mark_owner, mark_number, mark_bound}
+use Rattle.ca_node.specs.TreeView.{Note, Way, TreeView}
+
+-- the row that the root link names
+abbrev pub root : List ℕ → ℕ
+root words = slice_index words 130
+
+abbrev pub IsIn : {A : Type 0} → A → List A → Type 0
+IsIn x xs = (k : ℕ) × (get_elem? xs k ≡ some x)
+
+-- The row is named by a link of this route.
+abbrev pub IsUnder : List ℕ → ℕ → ℕ → Type 0
+IsUnder words route row = (slice_index words (136 * route + 1) ≡ row) ⊎ (slice_index words (136 * route + 2) ≡ row)
+
+-- The range with this sequence of this pass is active.
+abbrev pub IsActive : List ℕ → ℕ → ℕ → Type 0
+IsActive words pass sequence = (0 < pass) × (pass ≤ 64) × (slice_index words (65 + pass) ≡ 262144 * sequence + 65536)
+
+-- An active range marked the base, and ends where this row says.
+abbrev pub IsBoundOf : List ℕ → ℕ → ℕ → Type 0
+IsBoundOf words base row = (mark (row_at words base) ≡ 1) × IsActive words (mark_owner (row_at words base)) (mark_number (row_at words base))
+    × (mark_bound (row_at words base) ≡ row)
+
+-- The root link reaches the row: a route leads to what its links name, a base to the object rows that it names, and while the range is
+-- active that marked it, to the row that says where the range ends.
+pub data IsLinked (words : List ℕ) : ℕ → Type 0 where
+  by_root : (row : ℕ) → root words ≡ row → IsLinked words row
+  by_route : (route row : ℕ) → IsLinked words route → IsRouteRow (row_at words route) → IsUnder words route row → IsLinked words row
+  by_base : (base row : ℕ) → IsLinked words base → IsBaseRow (row_at words base) → IsIn row (items (row_at words base)) → IsLinked words row
+  by_range : (base row : ℕ) → IsLinked words base → IsBaseRow (row_at words base) → IsBoundOf words base row → IsLinked words row
+
+-- The row says where an active range ends: its operation isn't finished.
+abbrev pub IsLent : List ℕ → ℕ → Type 0
+IsLent words row = (base : ℕ) × IsLinked words base × IsBaseRow (row_at words base) × IsBoundOf words base row
+
+-- A seat has a note on each row that it was shown, on the object rows that a noted base names, and on what the links of a route name
+-- that it was shown, with the object rows of such a base.
+pub data IsNoted (words : List ℕ) (u : TreeView) : ℕ → Type 0 where
+  by_note : (note : Note) (row : ℕ) → IsIn note u.notes → note.row ≡ row → IsNoted words u row
+  by_item : (note : Note) (row : ℕ) → IsIn note u.notes → IsBaseRow note.its → IsIn row (items note.its) → IsNoted words u row
+  by_way : (way : Way) (row : ℕ) → IsIn way u.ways → way.row ≡ row → IsNoted words u row
+  by_link : (way : Way) (row : ℕ) → IsIn way u.ways → IsUnder words way.row row → IsNoted words u row
+  by_link_item : (way : Way) (base row : ℕ) → IsIn way u.ways → IsUnder words way.row base → IsBaseRow (row_at words base)
+      → IsIn row (items (row_at words base)) → IsNoted words u row

@@ -1,0 +1,76 @@
+-- What the words of a row spell.
+use Rattle.std.specs.Prelude.{◌≡◌, ℕ, ◌*◌, ◌/◌, ◌%◌, List, [], ◌∷◌, ◌++◌, take, drop, map, slice_index}
+use Rattle.std.specs.Int.{to_be_bytes, w64}
+use Rattle.ca_model.specs.StoreMap.{Pair, StoreMap}
+
+-- the 136 words of a row
+abbrev pub row_at : List ℕ → ℕ → List ℕ
+row_at words row = take 136 (drop (136 * row) words)
+
+-- the form, in the first word
+abbrev pub form : List ℕ → ℕ
+form its = slice_index its 0 / 72057594037927936
+
+abbrev pub IsObjectRow : List ℕ → Type 0
+IsObjectRow its = form its ≡ 1
+
+abbrev pub IsBaseRow : List ℕ → Type 0
+IsBaseRow its = form its ≡ 2
+
+abbrev pub IsRouteRow : List ℕ → Type 0
+IsRouteRow its = form its ≡ 3
+
+-- the number in the last two bytes of the first word: of a base the number of its items, of the other forms a length
+abbrev pub count : List ℕ → ℕ
+count its = slice_index its 0 % 65536
+
+-- of a base: the level that it stands at
+abbrev pub level : List ℕ → ℕ
+level its = slice_index its 0 / 65536 % 1099511627776
+
+-- of a base: the object rows that it names, in the order of their keys
+abbrev pub items : List ℕ → List ℕ
+items its = take (count its) (drop 11 its)
+
+-- of a base: which kind of operation marked it (0 none, 1 a range, 2 a join), whose (a pass or a route), which one (a sequence or an
+-- attempt), the row to its left in the same range, and the row that tells where the range ends
+abbrev pub mark : List ℕ → ℕ
+mark its = slice_index its 2
+
+abbrev pub mark_owner : List ℕ → ℕ
+mark_owner its = slice_index its 3
+
+abbrev pub mark_number : List ℕ → ℕ
+mark_number its = slice_index its 4
+
+abbrev pub mark_back : List ℕ → ℕ
+mark_back its = slice_index its 5
+
+abbrev pub mark_bound : List ℕ → ℕ
+mark_bound its = slice_index its 6
+
+-- the bytes of words, eight a word, the highest first
+abbrev pub bytes_in : List ℕ → List ℕ
+bytes_in [] = []
+bytes_in (word ∷ words) = to_be_bytes w64 word ++ bytes_in words
+
+-- of an object: its bytes, and where its key stands in them
+abbrev pub object : List ℕ → List ℕ
+object its = take (count its) (bytes_in (drop 11 its))
+
+abbrev pub key_place : List ℕ → ℕ
+key_place its = slice_index its 0 / 65536 % 65536
+
+abbrev pub key_length : List ℕ → ℕ
+key_length its = slice_index its 0 / 4294967296 % 16777216
+
+abbrev pub key : List ℕ → List ℕ
+key its = take (key_length its) (drop (key_place its) (object its))
+
+-- an object's key and its bytes
+abbrev pub pair : List ℕ → Pair
+pair its = (key its, object its)
+
+-- what a base has: the objects that it names
+abbrev pub objects_in : List ℕ → ℕ → StoreMap
+objects_in words base = map (λ row. pair (row_at words row)) (items (row_at words base))

@@ -1,0 +1,48 @@
+-- What a seat knows of the tree. It is data of proofs alone: lists, since a function is no value.
+use Rattle.std.specs.Prelude.{ℕ, List, []}
+use Rattle.ca_model.specs.Event.{Entry}
+use Rattle.ca_model.specs.History.{History}
+use Rattle.ca_model.specs.Known.{Counts}
+
+-- A row that was shown, with its words, and of a base the words of the object rows that it names. They stay as long as the note does.
+pub record Note : Type 0 where
+  pub row : ℕ
+  pub its : List ℕ
+  pub objects : List (List ℕ)
+
+-- A route that was shown, with its key and its level: its other words change.
+pub record Way : Type 0 where
+  pub row : ℕ
+  pub key : List ℕ
+  pub level : ℕ
+
+pub record TreeView : Type 0 where
+  -- the number of its pass; 0 of a seat that is no pass's
+  pub number : ℕ
+  -- the history that it has seen, and what it had seen when it was last pinned
+  pub seen : History
+  pub since : History
+  -- its calls, with their answers and places, and how many were refused
+  pub log : List Entry
+  pub counts : Counts
+  -- what it was shown since it was pinned
+  pub notes : List Note
+  pub ways : List Way
+  -- how many links it loaded, and how many splits and joins it carried out
+  pub loads : ℕ
+  pub splits : ℕ
+  pub joins : ℕ
+
+abbrev pub no_refusals : Counts
+no_refusals = record { busy = 0; full = 0; deep = 0; worn = 0 }
+
+-- what a seat with this number knows at first
+abbrev pub blank : ℕ → TreeView
+blank number = record { number = number; seen = []; since = []; log = []; counts = no_refusals; notes = []; ways = []; loads = 0; splits = 0; joins = 0 }
+
+-- It is pinned, or not any more.
+abbrev pub pinned : TreeView → TreeView
+pinned u = record u { since = u.seen }
+
+abbrev pub unpinned : TreeView → TreeView
+unpinned u = record u { notes = []; ways = [] }

@@ -1,0 +1,25 @@
+//! The tree over the rows: what their words spell, its rule, and its single steps.
+#![tactic(auto)]
+
+mod cursor;
+mod exchange;
+mod handed;
+mod handing;
+mod link;
+mod plays;
+mod rule;
+mod steps;
+mod view;
+
+pub use cursor::{Cursor, Spot, walk};
+pub use exchange::replace_base;
+pub use handed::Front;
+pub use handing::{front, learn};
+pub use link::Link;
+pub use plays::Intent;
+pub use rule::{TreePass, TreeRule, TreeSpace};
+pub use steps::{load_link, load_word, replace_link};
+pub use view::Knowledge;
+
+#[cfg(test)]
+mod tests;

@@ -1,0 +1,13 @@
+//! Links: the words that name a child.
+ghost use Rattle.std.specs.Prelude.{◌≡◌, ◌+◌, ◌*◌};
+
+/// A word that names a base or a route.
+#[derive(Clone, Copy, Debug, PartialEq, Eq)]
+pub enum Link {
+    /// The root word.
+    Root,
+    /// The left link of this route.
+    Left(u32),
+    /// The right one.
+    Right(u32),
+}

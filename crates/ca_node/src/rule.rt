@@ -1,0 +1,67 @@
+//! The rule of the tree.
+ghost use Rattle.ca_node.specs.Laws.{tree_frames, tree_lends, tree_pinning, tree_making, tree_closing, tree_opening};
+ghost use Rattle.ca_node.specs.Links.{IsLinked, IsLent, IsNoted};
+ghost use Rattle.ca_node.specs.Opened.{opens_at};
+ghost use Rattle.ca_node.specs.Tree.{IsTree};
+ghost use Rattle.ca_node.specs.TreeView.{blank, pinned, unpinned};
+
+use crate::view::Knowledge;
+use ca_rows::{Pass, RowRule, Sizes, Space};
+
+/// The rule of the tree over the rows: one base under the root link.
+pub struct TreeRule;
+
+pub type TreeSpace = Space<TreeRule>;
+
+pub type TreePass = Pass<TreeRule>;
+
+impl RowRule for TreeRule {
+    type Upper = Knowledge;
+
+    ghost first = { blank 0 };
+
+    ghost opens = { opens_at };
+
+    ghost linked = { IsLinked };
+
+    ghost lent = { IsLent };
+
+    ghost noted = { IsNoted };
+
+    ghost fact = { IsTree };
+
+    ghost begins = { blank };
+
+    ghost enters = { pinned };
+
+    ghost leaves = { unpinned };
+
+    ghost both = { λ v w. v };
+
+    ghost spent = { blank 0 };
+
+    fn open(sizes: &Sizes, word: u32) -> u64 {
+        match word {
+            0..130 => 262_144 * sizes.starts.sequence,
+            130 => 1,
+            131 => sizes.keypos as u64,
+            132 => sizes.leaf as u64,
+            133 => sizes.levels as u64,
+            136 => 2 << 56,
+            137 => 1 << 32,
+            _ => 0,
+        }
+    }
+
+    ghost frames = { tree_frames };
+
+    ghost lends = { tree_lends };
+
+    ghost pinning = { tree_pinning };
+
+    ghost making = { tree_making };
+
+    ghost closing = { tree_closing };
+
+    ghost opening = { tree_opening };
+}

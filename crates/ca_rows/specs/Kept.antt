@@ -1,0 +1,45 @@
+-- The rows that a pass keeps, until nobody can have a note on them.
+use Rattle.std.specs.Prelude.{◌≡◌, ◌==◌, ℕ, ◌<◌, ◌≤◌, cond, List, [], ◌∷◌, Vec, vec_capacity}
+use Rattle.std.specs.Global.{Global}
+use mathlib.Core.Option.{Option, some, none}
+use lib.ListN.{get_elem?}
+use Rattle.ca_rows.specs.declared.kept.Kept.{Kept}
+use Rattle.ca_rows.specs.declared.sizes.Sizes.{Sizes}
+use Rattle.ca_rows.specs.declared.view.Claim.{Claim}
+use Rattle.ca_rows.specs.declared.view.Claim.TheVariants.{Holds, Lends, Unlinked, Keeps, Returns}
+use Rattle.ca_rows.specs.declared.view.Claimed.{Claimed}
+use Rattle.ca_rows.specs.declared.view.View.{View}
+use Rattle.ca_rows.specs.Claims.{claim_of}
+
+-- the epoch that a row was retired at, where it is in the list
+abbrev pub kept_of : List Kept → ℕ → Option ℕ
+kept_of [] row = none
+kept_of (x ∷ xs) row = cond (x.row == row) (some x.at) (kept_of xs row)
+
+-- No row is in the list twice.
+abbrev pub AreApart : List Kept → Type 0
+AreApart [] = Unit {0}
+AreApart (x ∷ xs) = (kept_of xs x.row ≡ none) × AreApart xs
+
+-- The list is that of the rows that these claims keep, each once, and all rows have room in it.
+pub record AreKept (rows : ℕ) (claims : List Claimed) (kept : Vec Kept Global) : Type 0 where
+  pub apart : AreApart kept.items
+  pub room : rows ≤ vec_capacity kept
+  pub are_listed : (r t : ℕ) → claim_of claims r ≡ some (Keeps t) → kept_of kept.items r ≡ some t
+  pub are_claimed : (r t : ℕ) → kept_of kept.items r ≡ some t → (0 < r) × (r ≤ rows) × (claim_of claims r ≡ some (Keeps t))
+
+module _ {U : Type 0} (lent : List ℕ → ℕ → Type 0) (fact : Sizes → ℕ → List ℕ → List U → Type 0) (z : Sizes) (id : ℕ) (d : View U) (row : ℕ) where
+  -- No operation names the row, as far as the seat knows.
+  abbrev pub IsOver : Type 0
+  IsOver = (made : ℕ) (words : List ℕ) (uppers : List U) → fact z made words uppers → get_elem? uppers id ≡ some d.upper → ¬ lent words row
+
+  abbrev pub IsReleased : Claim → Type 0
+  IsReleased (Holds its) = Unit {0}
+  IsReleased Lends = IsOver
+  IsReleased Unlinked = Unit {0}
+  IsReleased (Keeps t) = ⊥
+  IsReleased (Returns t its) = ⊥
+
+  -- The seat may retire the row: it holds it, unlinked it, or lent it to an operation that is finished, and doesn't keep it yet.
+  abbrev pub MayRetire : Type 0
+  MayRetire = (c : Claim) × (claim_of d.claims row ≡ some c) × IsReleased c

@@ -1,0 +1,53 @@
+//! The rows that a pass keeps.
+ghost use Rattle.std.specs.Prelude.{◌≡◌, ◌<◌, ◌≤◌, ◌+◌, ◌++◌, ◌∷◌, [], vec_len, vec_capacity, IfOk};
+
+use std::alloc::{AllocError, Global};
+
+/// A row that was retired and isn't given back yet.
+#[derive(Clone, Copy, Debug, PartialEq, Eq)]
+pub struct Kept {
+    pub row: u32,
+    /// The epoch that was loaded as it was retired.
+    pub at: u64,
+}
+
+/// The rows that a pass keeps, from the one that was retired first.
+pub struct KeptRows {
+    pub(crate) rows: Vec<Kept>,
+    pub ghost few: { vec_len rows < 65536 },
+}
+
+impl KeptRows {
+    // A list with room for so many.
+    pub(crate) fn with_room(alloc: Global, room: u32) -> Result<KeptRows, AllocError>
+        ensures empty { IfOk result (λ kept. kept.rows.items ≡ []) }
+        ensures room { IfOk result (λ kept. vec_capacity kept.rows ≡ room) }
+    {
+        let rows = Vec::with_capacity(alloc, room as usize)?;
+        Ok(KeptRows { rows })
+    }
+
+    // One more row, for which there is room.
+    pub(crate) fn push(&mut self, row: u32, at: u64)
+        requires room { vec_len self.old.rows < vec_capacity self.old.rows }
+        requires few { vec_len self.old.rows + 1 < 65536 }
+        ensures rows { self.new.rows.items ≡ self.old.rows.items ++ record { row = row; at = at } ∷ [] }
+        ensures room { vec_capacity self.old.rows ≤ vec_capacity self.new.rows }
+    {
+        if let Err(full) = self.rows.push(Kept { row, at }) {
+            drop(full);
+        }
+    }
+
+    pub(crate) fn len(&self) -> u32
+        ensures { result ≡ vec_len self.now.rows }
+    {
+        self.rows.len() as u32
+    }
+}
+
+impl Drop for KeptRows {
+    fn drop(self) {
+        let Self { rows: _ } = self;
+    }
+}
