@@ -230,7 +230,8 @@ module _ {F : Type 0} (g : Shared F (Bor (List ℕ) × Unit {0}) Bool) (f : F) (
           c.are.whole_is ∙ ap (λ (x : List (List ℕ)). map code_of c.are.objects ++ x) h.0 ∙ append-nil (map code_of c.are.objects) in
           let many = counted p want c.are.objects c.are.bounded (subst (λ (x : List (List ℕ)). HasCounted g f want x) all reaches.2) in
           let few : nat_le want (length results) ≡ false = sym (ap (λ (l : Option ℕ). is_full l (length results)) is) ∙ under in
-          let same : length results ≡ length (keyed_results p s c.are.objects) = ap length c.are.results_are ∙ length_values (keyed_results p s c.are.objects) in
+          let same : length results ≡ length (keyed_results p s c.are.objects) =
+          ap length c.are.results_are ∙ length_values (keyed_results p s c.are.objects) in
           grind (arith, nat_tests)
 
   -- The results of a run that was opened, collected and closed.

@@ -70,7 +70,8 @@ last_pair p (q ∷ []) o h e = let same : q.1 ≡ o = cc in (q.0, subst (λ (x :
 last_pair p (q ∷ r ∷ m) o h e = last_pair p (r ∷ m) o h.2 e
 
 -- The first object within a lower edge is the code of an object.
-pub above_row : (a b : Known) (lo : Bound) (object : List ℕ) → 1 ≤ a.keypos → Meets a b (Above lo (Some object)) → (row : Row) × IsObjectCode a.keypos row object
+pub above_row : (a b : Known) (lo : Bound) (object : List ℕ) → 1 ≤ a.keypos → Meets a b (Above lo (Some object))
+    → (row : Row) × IsObjectCode a.keypos row object
 above_row a b lo object positive met =
     let map = after met.earlier a.map in
     let valid = map_filter a.keypos map (λ q. is_from lo q.0) (met_map a b (Above lo (Some object)) met) in
@@ -79,7 +80,8 @@ above_row a b lo object positive met =
     (r.row, r.code)
 
 -- The last object within an upper edge is the code of an object.
-pub below_row : (a b : Known) (hi : Bound) (object : List ℕ) → 1 ≤ a.keypos → Meets a b (Below hi (Some object)) → (row : Row) × IsObjectCode a.keypos row object
+pub below_row : (a b : Known) (hi : Bound) (object : List ℕ) → 1 ≤ a.keypos → Meets a b (Below hi (Some object))
+    → (row : Row) × IsObjectCode a.keypos row object
 below_row a b hi object positive met =
     let map = after met.earlier a.map in
     let valid = map_filter a.keypos map (λ q. is_up_to hi q.0) (met_map a b (Below hi (Some object)) met) in

@@ -73,23 +73,25 @@ module _ (a d : Known) (positive : 1 ≤ a.keypos) (s : Tree) (accepted : IsSpec
   -- `select_range` answers the results of the objects between two keys.
   pub select_range_done : (lo hi : Tree) (low high : List ℕ) → HasKeyCode lo low → HasKeyCode hi high
       → AreWithin a d (Included low) (Included high) s None rs last → Steps a d l (SelectRange lo hi s) (Items rs) l
-  select_range_done lo hi low high h k w = inl (one_call a d (Range (Included low) (Included high) w.cut w.objects) l l (SelectRange lo hi s) (Items rs) w.met (record {
-    at = λ m t st answer.
-        let here : Stands a.keypos (within (Included low) (Included high) m) (between a.keypos t lo hi) =
-        subst (λ (x : List ℕ). Stands a.keypos (within (Included x) (Included high) m) (between a.keypos t lo hi)) (sym h.code_is)
-        (subst (λ (x : List ℕ). Stands a.keypos (within (Included (code_of lo)) (Included x) m) (between a.keypos t lo hi)) (sym k.code_is)
-        (within_between a.keypos m t st lo hi h.bounded k.bounded)) in
-        let same : rs ≡ chosen s (between a.keypos t lo hi) =
-        all_results a d positive (Included low) (Included high) s rs last w m t (between a.keypos t lo hi) st answer here in
-        (t, rw (accepted, h.fitting, k.fitting, same) refl, st);
-  }))
+  select_range_done lo hi low high h k w =
+      inl (one_call a d (Range (Included low) (Included high) w.cut w.objects) l l (SelectRange lo hi s) (Items rs) w.met (record {
+        at = λ m t st answer.
+            let here : Stands a.keypos (within (Included low) (Included high) m) (between a.keypos t lo hi) =
+            subst (λ (x : List ℕ). Stands a.keypos (within (Included x) (Included high) m) (between a.keypos t lo hi)) (sym h.code_is)
+            (subst (λ (x : List ℕ). Stands a.keypos (within (Included (code_of lo)) (Included x) m) (between a.keypos t lo hi)) (sym k.code_is)
+            (within_between a.keypos m t st lo hi h.bounded k.bounded)) in
+            let same : rs ≡ chosen s (between a.keypos t lo hi) =
+            all_results a d positive (Included low) (Included high) s rs last w m t (between a.keypos t lo hi) st answer here in
+            (t, rw (accepted, h.fitting, k.fitting, same) refl, st);
+      }))
 
 -- The key of an object that fits does.
 pub key_fits : (p : ℕ) (o : Tree) → 1 ≤ p → IsTerm o → IsEntry p o → fits (key_of p o) ≡ true
 key_fits p o positive b e =
     let pair = pair_of_object p o positive b e in
     let key = code_of (key_of p o) in
-    let long : length (code_of o) ≡ suc (length (four_bytes (pair.before + 1 + pair.behind)) + (length pair.codes_before + (length key + length pair.codes_behind))) =
+    let long : length (code_of o)
+    ≡ suc (length (four_bytes (pair.before + 1 + pair.behind)) + (length pair.codes_before + (length key + length pair.codes_behind))) =
     ap length pair.bytes
     ∙ ap suc (length-append (four_bytes (pair.before + 1 + pair.behind)) (pair.codes_before ++ (key ++ pair.codes_behind))
     ∙ ap (λ (n : ℕ). length (four_bytes (pair.before + 1 + pair.behind)) + n) (length-append pair.codes_before (key ++ pair.codes_behind)

@@ -12,6 +12,8 @@ term_of-requires c = subst (λ (b : List ℕ). IsTermCode b) (sym c.object.ensur
     (code_in c.args.store.now.keypos c.args.store.now.map c.loop-at.at c.len-at-end.ensures.ordered (inside c))
 
 pub loop-at-preserved : goal.loop-at-preserved
-loop-at-preserved c = subst (λ (ts : List Tree). AreListed c.args.store.now.keypos c.args.store.now.map (c.loop-at.at + 1) ts) (sym (rw c.in-Ok.is at c.push.ensures.ok))
-    (listed_more c.args.store.now.keypos c.args.store.now.map c.loop-at.at c.loop-at.objects.items c.in_ok-object.object c.len-at-end.ensures.ordered (subst (λ (n : ℕ). c.loop-at.at < n) c.len-at-end.ensures.value c.loop-at-test.true)
+loop-at-preserved c =
+    subst (λ (ts : List Tree). AreListed c.args.store.now.keypos c.args.store.now.map (c.loop-at.at + 1) ts) (sym (rw c.in-Ok.is at c.push.ensures.ok))
+    (listed_more c.args.store.now.keypos c.args.store.now.map c.loop-at.at c.loop-at.objects.items c.in_ok-object.object c.len-at-end.ensures.ordered
+    (subst (λ (n : ℕ). c.loop-at.at < n) c.len-at-end.ensures.value c.loop-at-test.true)
     c.loop-at.invariant c.in_ok-object.ensures.bounded (sym c.object.ensures ∙ c.in_ok-object.ensures.code))

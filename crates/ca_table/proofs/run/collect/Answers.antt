@@ -5,7 +5,9 @@ use Rattle.ca_merge.proofs.Calls.{both_beside_run}
 use Rattle.ca_table.proofs.run.collect.Goals as goal
 
 pub objects-init : goal.objects-init
-objects-init g c = rw (c.new-collected.ensures.results, c.new-collected.ensures.last) (collecting_none c.args.spec.now c.args.limit (g.S.OrderedStore.knows c.args.store.now) c.requires.run)
+objects-init g c =
+    rw (c.new-collected.ensures.results, c.new-collected.ensures.last)
+    (collecting_none c.args.spec.now c.args.limit (g.S.OrderedStore.knows c.args.store.now) c.requires.run)
 
 pub found-requires : goal.found-requires
 found-requires g c = record { «open» = (left_of (g.S.OrderedStore.knows c.objects.store), c.objects.invariant.run) }

@@ -5,7 +5,8 @@ use Rattle.ca_table.proofs.run.collect.Given as goal
 
 -- the results of the objects that were handed out so far were collected
 abbrev pub invariant-objects : goal.invariant-objects
-invariant-objects g l = IsCollecting l.spec l.limit (g.S.OrderedStore.knows l.fn.store) (g.S.OrderedStore.knows l.store) l.collected.results.items l.collected.last
+invariant-objects g l =
+    IsCollecting l.spec l.limit (g.S.OrderedStore.knows l.fn.store) (g.S.OrderedStore.knows l.store) l.collected.results.items l.collected.last
 
 -- the objects that the run has left
 abbrev pub decreases-objects : goal.decreases-objects
