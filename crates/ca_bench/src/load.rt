@@ -3,7 +3,7 @@ use ca_term::{Term, TermFault, Terms, atom, bin, cons, int, nil, tuple};
 use std::alloc::Global;
 use std::fmt::Write;
 
-/// How many objects a table has.
+/// How many objects a table has, where nothing else is said.
 pub const OBJECTS: u32 = 10_000;
 
 /// The key `<<"userN">>`.
@@ -33,10 +33,10 @@ pub struct Load {
 }
 
 /// So many objects of the usual kind, with their keys.
-pub fn usual_load(alloc: Global) -> Result<Load, TermFault> {
+pub fn usual_load(alloc: Global, count: u32) -> Result<Load, TermFault> {
     let mut keys = Terms::new(alloc);
     let mut objects = Terms::new(alloc);
-    for number in 0..OBJECTS {
+    for number in 0..count {
         keys.push(user(alloc, number)?)?;
         objects.push(usual(alloc, number)?)?;
     }

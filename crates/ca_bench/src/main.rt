@@ -1,14 +1,16 @@
 //! Times calls by the clock. With no words it prints nothing; `point-calls` prints a line for each kind of call on a table of 10,000 objects over
-//! a plain store, and `selections` a line for a match specification on 1,000 objects. `bench/table.sh` and `bench/select.sh` run it beside others
-//! that do the same.
+//! a plain store, `selections` a line for a match specification on 1,000 objects, and `walks` a line for each kind of walk, selection and batch on
+//! tables of three sizes. `bench/table.sh`, `bench/select.sh` and `bench/walks.sh` run it beside others that do the same.
 #![tactic(auto)]
 
 mod load;
 mod point_calls;
 mod selections;
+mod walks;
 
 use crate::point_calls::time_point_calls;
 use crate::selections::time_selections;
+use crate::walks::time_walks;
 use std::{env, io};
 
 fn main(rt: HostRuntime) -> io::Result<()> {
@@ -16,6 +18,7 @@ fn main(rt: HostRuntime) -> io::Result<()> {
         match word.as_str() {
             "point-calls" => time_point_calls(&rt)?,
             "selections" => time_selections(&rt)?,
+            "walks" => time_walks(&rt)?,
             _ => {}
         }
     }

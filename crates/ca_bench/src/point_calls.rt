@@ -66,7 +66,8 @@ fn play_many(alloc: Global, table: &mut Table<Plain>, call: Call, load: &Load) -
     good
 }
 
-fn filled(alloc: Global, load: &Load) -> Table<Plain> {
+/// A table of these objects.
+pub fn filled(alloc: Global, load: &Load) -> Table<Plain> {
     let mut table = Table::new(Plain::new(alloc, 1), 1);
     for object in load.objects.as_slice() {
         let _ = table.insert(object, BUDGET);
@@ -77,7 +78,7 @@ fn filled(alloc: Global, load: &Load) -> Table<Plain> {
 /// Prints a line for each kind of call: its name, and the nanoseconds of one.
 pub fn time_point_calls<R: Clock + Print + Alloc<A = Global>>(rt: &R) -> io::Result<()> {
     let alloc = rt.alloc();
-    let Ok(load) = usual_load(alloc) else {
+    let Ok(load) = usual_load(alloc, OBJECTS) else {
         return println!(rt; "no memory");
     };
     let mut table = filled(alloc, &load);
