@@ -2,6 +2,7 @@ mod Arguments
 pub mod Commands
 mod CutLines
 mod Files
+mod Generating
 mod Same
 mod TermTexts
 mod Words

@@ -3,6 +3,7 @@ pub mod Argument
 pub mod Content
 pub mod File
 pub mod Finds
+pub mod Generator
 pub mod Lines
 pub mod Output
 pub mod Refusal

@@ -6,6 +6,7 @@ mod argument;
 mod command;
 mod cut;
 mod fault;
+mod generator;
 mod laws;
 mod line;
 mod output;
@@ -14,6 +15,7 @@ mod word;
 
 pub use answer::{Answer, show_reply};
 pub use fault::{FileFault, LineWhy};
+pub use generator::generate;
 pub use laws::file_laws;
 pub use line::{Line, Lines, MOST_LINE_BYTES};
 pub use output::{show_answer, show_client, show_table};

@@ -1,3 +1,4 @@
+use super::generator::{drawn, next_number, start_of};
 use super::*;
 use ca_ets::{Cmd, Fault, Reply};
 use ca_term::{Term, Terms, atom, int};
@@ -28,12 +29,8 @@ fn parts(cmd: &Cmd) -> (&'static [u8], [Option<&Term>; 3]) {
     }
 }
 
-// The commands of a file, each with its line's number and a dot.
-fn listed(alloc: Global, file: &[u8]) -> Result<Vec<u8>, Fail> {
-    if file.len() > 1000 {
-        return Ok(Vec::new(alloc));
-    }
-    let lines = read_file(alloc, file)?;
+// The commands of these lines, each with its line's number and a dot.
+fn text_of(alloc: Global, lines: &Lines) -> Result<Vec<u8>, Fail> {
     let mut text = Vec::new(alloc);
     for line in lines.as_slice() {
         let (word, arguments) = parts(&line.cmd);
@@ -48,6 +45,14 @@ fn listed(alloc: Global, file: &[u8]) -> Result<Vec<u8>, Fail> {
         text.push(b'.')?;
     }
     Ok(text)
+}
+
+// The commands of a file.
+fn listed(alloc: Global, file: &[u8]) -> Result<Vec<u8>, Fail> {
+    if file.len() > 1000 {
+        return Ok(Vec::new(alloc));
+    }
+    text_of(alloc, &read_file(alloc, file)?)
 }
 
 #[test]
@@ -292,5 +297,45 @@ fn shows_a_run(rt: HostRuntime) -> Result<(), Fail> {
         text.as_slice(),
         b"client 1\n1 true\n12 refused full\nclient 2\ntable\n1.\n-2.\nend 2\n".as_slice()
     );
+    Ok(())
+}
+
+// The numbers of a client's draws, from its seed on.
+#[test]
+fn draws_from_a_seed(rt: HostRuntime) -> Result<(), Fail> {
+    let mut x = start_of(1, 1);
+    for draw in [
+        16_838, 5_758, 10_113, 17_515, 31_051, 5_627, 23_010, 7_419, 16_212, 4_086, 2_749,
+    ] {
+        x = next_number(x);
+        assert_eq!(rt; drawn(x), draw);
+    }
+    Ok(())
+}
+
+#[test]
+fn generates_lines(rt: HostRuntime) -> Result<(), Fail> {
+    let alloc = rt.alloc();
+    for (seed, client, lines, text) in [
+        (1, 1, 0, ""),
+        (
+            1,
+            1,
+            4,
+            "1 update_counter {1,258} 1.2 lookup {1,51}.3 insert_new {{1,419},212}.4 update_counter {1,249} 1.",
+        ),
+        (1, 2, 1, "1 insert {{2,1},779}."),
+        (2_147_483_649, 2, 1, "1 insert {{2,1},779}."),
+    ] {
+        let made = text_of(alloc, &generate(alloc, seed, client, lines)?)?;
+        assert_eq!(rt;
+            made.as_slice(),
+            text.as_bytes(),
+            "at {seed} {client} {lines}"
+        );
+    }
+    let made = text_of(alloc, &generate(alloc, 1, 1, 16)?)?;
+    let last = b"16 select_range {1,165} {1,185} [{'_',[],['$_']}].";
+    assert_eq!(rt; made.as_slice().ends_with(last), true);
     Ok(())
 }
