@@ -1,4 +1,6 @@
 //! Selections and batches by a table over a plain store.
+ghost use Rattle.ca_ets.specs.Command.{IsContinuation, continuation_of};
+
 use super::*;
 use Answer::{Batch, End, Items};
 use Asked::{All, Fixed, FixedLong, NoSpecification, Over};
@@ -138,7 +140,10 @@ fn batch(
     asked: Asked,
     limit: i64,
     cont: &mut Cont,
-) -> Answer {
+) -> Answer
+    requires { IsContinuation (continuation_of cont.old) }
+    ensures { IsContinuation (continuation_of cont.new) }
+{
     let Ok(spec) = specification_of(alloc, asked) else {
         return Answer::Other;
     };
@@ -199,7 +204,7 @@ fn selects_between_two_keys(rt: HostRuntime) {
 }
 
 #[test]
-fn batches_up_to_the_end(rt: HostRuntime) {
+fn a_client_without_a_batch_has_no_next_one(rt: HostRuntime) {
     let alloc = rt.alloc();
     let mut table = Table::new(Plain::new(alloc, 1), 1);
     let mut cont = Cont::Never;
@@ -212,9 +217,16 @@ fn batches_up_to_the_end(rt: HostRuntime) {
     assert_eq!(rt; told(table.more(alloc, &mut cont, BUDGET)), BADARG);
     assert_eq!(rt; batch(alloc, &mut table, All, 1, &mut cont), End);
     assert_eq!(rt; told(table.more(alloc, &mut cont, BUDGET)), End);
+}
+
+#[test]
+fn batches_up_to_the_end(rt: HostRuntime) {
+    let alloc = rt.alloc();
+    let mut table = Table::new(Plain::new(alloc, 1), 1);
     for key in [1, 2, 3, 4] {
         assert_eq!(rt; put(alloc, &mut table, key), true);
     }
+    let mut cont = Cont::Never;
     // A full batch at the end still tells of more.
     assert_eq!(rt;
         batch(alloc, &mut table, All, 4, &mut cont),
