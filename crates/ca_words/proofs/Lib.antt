@@ -1,4 +1,4 @@
+pub mod Choices
 pub mod Numbers
 pub mod Sound
 pub mod Spelled
-pub mod Tests

@@ -11,7 +11,7 @@ use Rattle.ca_words.specs.declared.words.Options.{Options}
 use Rattle.ca_words.specs.declared.words.Turn.TheVariants.{Parting, File}
 use Rattle.ca_words.specs.Grammar.{Values, IsValue, AreOptions, NoOption, InOneWord, InTwoWords, IsAsked, ForFiles, ForGenerated, IsLine, WithoutParting, WithParting, Request, Files, Generated, are_undashed, begins_with_dash, least_of, most_of, number_after, no_values, spelling_of, value_named, with_named}
 use Rattle.ca_words.specs.Words.{is_value, name_of, option_turn, options_of, name_length, request_after, request_behind, request_of, request_with, start_of, value_in, value_of, with_value}
-use Rattle.ca_words.proofs.Tests.{chosen, tested, tested_not, neither, under}
+use Rattle.ca_words.proofs.Choices.{chosen, tested, tested_not, neither, under}
 
 -- a value that is read is one of the grammar
 pub value_told : (name : Name) (text : List ℕ) (value : ℕ) → value_in name text ≡ Some value → IsValue name text value
@@ -94,7 +94,7 @@ same_value given waiting Lines = refl
 taken : (given : Values) (waiting : Option Name) (name : Name) (slot found : Option ℕ) (o : Options) (word : List ℕ) (rest : List (List ℕ))
     (behind : Options → Option Request) (request : Request)
     → request_after (option_turn (if is_some slot then None else option_map (λ v. with_value (state given waiting) name v) found)) o word rest behind
-        ≡ Some request
+    ≡ Some request
     → (value : ℕ) × (slot ≡ None) × (found ≡ Some value) × (behind (with_value (state given waiting) name value) ≡ Some request)
 taken given waiting name (Some other) found o word rest behind request h = absurd cc
 taken given waiting name None None o word rest behind request h = absurd cc
@@ -103,9 +103,9 @@ taken given waiting name None (Some value) o word rest behind request h = (value
 -- Behind these words, which are options, what is read is what the whole line asks for; and so it is where an option waits for its value.
 abbrev IsToldBehind : List (List ℕ) → Type 0
 IsToldBehind rest = ((before : List (List ℕ)) (given : Values) (request : Request) → AreOptions before given
-        → request_behind (options_of given) rest ≡ Some request → IsLine (codes "run" ∷ (before ++ rest)) request)
+    → request_behind (options_of given) rest ≡ Some request → IsLine (codes "run" ∷ (before ++ rest)) request)
     × ((before : List (List ℕ)) (given : Values) (name : Name) (request : Request) → AreOptions before given
-        → request_behind (state given (Some name)) rest ≡ Some request → IsLine (codes "run" ∷ (before ++ spelling_of name ∷ rest)) request)
+    → request_behind (state given (Some name)) rest ≡ Some request → IsLine (codes "run" ∷ (before ++ spelling_of name ∷ rest)) request)
 
 parts_of : (n : ℕ) (word first behind : List ℕ) → take n word ≡ first → drop n word ≡ behind → word ≡ first ++ behind
 parts_of n word first behind f b = sym (take-append-drop n word) ∙ rw (f, b) refl
@@ -134,8 +134,8 @@ at_word : (word : List ℕ) (rest : List (List ℕ)) (next : IsToldBehind rest) 
     (written : AreOptions before given) (parting dashed : Bool) (found : Option Name) → bytes_eq word (codes "--") ≡ parting
     → begins_with_dash word ≡ dashed → name_of (take (name_length word) word) ≡ found
     → request_after (if parting then Parting else (if not dashed then File
-        else option_turn (start_of (options_of given) found (drop (name_length word) word)))) (options_of given) word rest (λ more. request_behind more rest)
-        ≡ Some request
+    else option_turn (start_of (options_of given) found (drop (name_length word) word)))) (options_of given) word rest (λ more. request_behind more rest)
+    ≡ Some request
     → IsLine (codes "run" ∷ (before ++ word ∷ rest)) request
 at_word word rest next before given request written true dashed found p d f h =
     subst (λ w. IsLine (codes "run" ∷ (before ++ w ∷ rest)) request) (sym ((bytes_decides word (codes "--")).0 p))
@@ -160,9 +160,9 @@ behind_told (word ∷ rest) = (
       (begins_with_dash word) (name_of (take (name_length word) word)) refl refl refl h,
   λ before given name request written h.
       let t = taken given (Some name) name (value_of (state given (Some name)) name) (value_in name word) (state given (Some name)) word rest
-          (λ more. request_behind more rest) request h in
+      (λ more. request_behind more rest) request h in
       let after : request_behind (options_of (with_named given name t.0)) rest ≡ Some request =
-          subst (λ o. request_behind o rest ≡ Some request) (renewed given (Some name) name t.0) t.3 in
+      subst (λ o. request_behind o rest ≡ Some request) (renewed given (Some name) name t.0) t.3 in
       let more = InTwoWords before given name word t.0 written (sym (same_value given (Some name) name) ∙ t.1) (value_told name word t.0 t.2) in
       subst (λ l. IsLine (codes "run" ∷ l) request) (append_assoc before (spelling_of name ∷ word ∷ []) rest)
       ((behind_told rest).0 (before ++ spelling_of name ∷ word ∷ []) (with_named given name t.0) request more after),

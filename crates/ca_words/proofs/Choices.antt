@@ -1,4 +1,4 @@
--- What tests tell.
+-- What a choice by a test tells.
 use Rattle.std.proofs.Common.{◌≡◌, ◌⊎◌, true, false, Some, None, refl, sym, inl, inr}
 use Rattle.std.proofs.lemmas.Bool.{false≢true}
 use Rattle.std.specs.Prelude.{Bool, Option, ◌&&◌, not, if◌then◌else◌}
