@@ -16,7 +16,8 @@ use Rattle.ca_words.proofs.Choices.{chosen, tested, tested_not, neither, under}
 -- a value that is read is one of the grammar
 pub value_told : (name : Name) (text : List ℕ) (value : ℕ) → value_in name text ≡ Some value → IsValue name text value
 value_told name text value h =
-    let t = tested (is_value text && nat_le (least_of name) (number_after 0 text) && nat_le (number_after 0 text) (most_of name)) (number_after 0 text) value h in
+    let t = tested (is_value text && nat_le (least_of name) (number_after 0 text) && nat_le (number_after 0 text) (most_of name))
+    (number_after 0 text) value h in
     record {
       some = grind (t.0, arith, nat_tests, common_steps);
       few = grind (t.0, arith, nat_tests, common_steps);
@@ -60,7 +61,8 @@ pub asked_told : (keypos seed clients lines : Option ℕ) (names : List (List �
 asked_told keypos (Some seed) (Some clients) (Some lines) [] request h =
     let t = tested (unwrap_or keypos 1 == 1) (Generated seed clients lines) request h in
     let one : unwrap_or keypos 1 ≡ 1 = grind (t.0, arith, nat_tests) in
-    subst (λ r. IsAsked (record { keypos = keypos; seed = Some seed; clients = Some clients; lines = Some lines }) [] r) t.1 (ForGenerated keypos seed clients lines one)
+    subst (λ r. IsAsked (record { keypos = keypos; seed = Some seed; clients = Some clients; lines = Some lines }) [] r) t.1
+    (ForGenerated keypos seed clients lines one)
 asked_told keypos None clients lines [] request h = neither (unwrap_or keypos 1 == 1) request h
 asked_told keypos (Some seed) None lines [] request h = neither (unwrap_or keypos 1 == 1) request h
 asked_told keypos (Some seed) (Some clients) None [] request h = neither (unwrap_or keypos 1 == 1) request h
@@ -114,16 +116,20 @@ parts_of n word first behind f b = sym (take-append-drop n word) ∙ rw (f, b) r
 at_option : (word : List ℕ) (rest : List (List ℕ)) (next : IsToldBehind rest) (before : List (List ℕ)) (given : Values) (request : Request)
     (written : AreOptions before given) (name : Name) (behind : List ℕ) → take (name_length word) word ≡ spelling_of name
     → drop (name_length word) word ≡ behind
-    → request_after (option_turn (start_of (options_of given) (Some name) behind)) (options_of given) word rest (λ more. request_behind more rest) ≡ Some request
+    → request_after (option_turn (start_of (options_of given) (Some name) behind)) (options_of given) word rest (λ more. request_behind more rest)
+    ≡ Some request
     → IsLine (codes "run" ∷ (before ++ word ∷ rest)) request
 at_option word rest next before given request written name [] f b h =
     let whole : word ≡ spelling_of name = parts_of _ word (spelling_of name) [] f b ∙ append-nil (spelling_of name) in
     subst (λ w. IsLine (codes "run" ∷ (before ++ w ∷ rest)) request) (sym whole) (next.1 before given name request written h)
 at_option word rest next before given request written name (equals ∷ text) f b h =
     let sign : equals ≡ 61 = equals_told word equals text b in
-    let whole : word ≡ spelling_of name ++ (codes "=" ++ text) = parts_of _ word (spelling_of name) (equals ∷ text) f b ∙ ap (λ e. spelling_of name ++ e ∷ text) sign in
-    let t = taken given None name (value_of (options_of given) name) (value_in name text) (options_of given) word rest (λ more. request_behind more rest) request h in
-    let after : request_behind (options_of (with_named given name t.0)) rest ≡ Some request = subst (λ o. request_behind o rest ≡ Some request) (renewed given None name t.0) t.3 in
+    let whole : word ≡ spelling_of name ++ (codes "=" ++ text) = parts_of _ word (spelling_of name) (equals ∷ text) f b
+    ∙ ap (λ e. spelling_of name ++ e ∷ text) sign in
+    let t = taken given None name (value_of (options_of given) name) (value_in name text) (options_of given) word rest
+    (λ more. request_behind more rest) request h in
+    let after : request_behind (options_of (with_named given name t.0)) rest ≡ Some request =
+    subst (λ o. request_behind o rest ≡ Some request) (renewed given None name t.0) t.3 in
     let more = InOneWord before given name text t.0 written (sym (same_value given None name) ∙ t.1) (value_told name text t.0 t.2) in
     let line = next.0 (before ++ (spelling_of name ++ (codes "=" ++ text)) ∷ []) (with_named given name t.0) request more after in
     let joined = subst (λ l. IsLine (codes "run" ∷ l) request) (append_assoc before ((spelling_of name ++ (codes "=" ++ text)) ∷ []) rest) line in
