@@ -1,0 +1,9 @@
+//! The words of the program's command line.
+#![tactic(auto)]
+
+mod words;
+
+pub use words::{Request, request_of};
+
+#[cfg(test)]
+mod tests;
