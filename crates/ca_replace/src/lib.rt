@@ -1,0 +1,11 @@
+//! The store on the tree, which passes share without a lock.
+#![tactic(auto)]
+
+mod fault;
+mod tree;
+
+pub use fault::TreeFault;
+pub use tree::Tree;
+
+#[cfg(test)]
+mod tests;
