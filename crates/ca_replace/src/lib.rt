@@ -2,9 +2,11 @@
 #![tactic(auto)]
 
 mod fault;
+mod store;
 mod tree;
 
 pub use fault::TreeFault;
+pub use store::TreeStore;
 pub use tree::Tree;
 
 #[cfg(test)]

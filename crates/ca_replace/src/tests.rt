@@ -1,4 +1,4 @@
-//! Trees at the bounds of their sizes and tunings, and their passes.
+//! Trees at the bounds of their sizes and tunings, their passes, and stores of passes.
 use super::*;
 use ca_adapt::Tuning;
 use ca_rows::Starts;
@@ -158,4 +158,27 @@ fn makes_as_many_passes_as_it_is_for(rt: HostRuntime) {
         };
         assert_eq!(rt; made, expected);
     }
+}
+
+#[test]
+fn a_pass_becomes_a_store_and_comes_back(rt: HostRuntime) {
+    let Ok(mut tree) = Tree::new(rt.alloc(), 384, 2, 1, TUNING, STARTS) else {
+        panic!(rt; "no memory")
+    };
+    let (Ok(one), Ok(two)) = (tree.enroll(rt.alloc()), tree.enroll(rt.alloc())) else {
+        panic!(rt; "no pass")
+    };
+    let mut giver = TreeStore::new(&tree, one);
+    let mut taker = TreeStore::new(&tree, two);
+    let seen = giver.front();
+    taker.learn(seen);
+    let seen = taker.front();
+    giver.learn(seen);
+    let (one, two) = (giver.into_pass(), taker.into_pass());
+    assert_eq!(rt; (one.number(), two.number()), (1, 2));
+    assert_eq!(rt; (one.kept(), two.kept()), (0, 0));
+    let mut again = TreeStore::new(&tree, one);
+    let seen = again.front();
+    again.learn(seen);
+    assert_eq!(rt; again.into_pass().number(), 1);
 }

@@ -4,6 +4,7 @@ ghost use Rattle.ca_adapt.specs.Allowed.{IsAllowed};
 ghost use Rattle.ca_node.specs.TreeView.{blank};
 ghost use Rattle.ca_replace.specs.declared.fault.TreeFault.TheVariants.{BadSize as IsBadSize, BadTuning as IsBadTuning, NoPass as IsNoPass};
 ghost use Rattle.ca_replace.specs.Made.{IsTuned, sizes_with};
+ghost use Rattle.ca_replace.specs.Resting.{IsResting};
 ghost use Rattle.ca_rows.specs.Kept.{AreKept};
 ghost use Rattle.ca_rows.specs.Opening.{AreInBounds};
 ghost use Rattle.ca_rows.specs.Rule.{fresh};
@@ -77,7 +78,9 @@ impl Tree {
         Ok(Tree { space, tuning })
     }
 
-    /// Makes a pass: the right to read and edit the map. Its number is that of the passes made until then, and it, together.
+    /// Makes a pass: the right to read and edit the map. Its number is that of the passes made until then, and it, together. A store can be
+    /// made of it.
+    #[tactic(auto, using(crate::proofs::Fresh::rests))]
     pub fn enroll(&mut self, alloc: Global) -> Result<TreePass, TreeFault>
         ensures full { (result ≡ Err IsNoPass) ↔ (self.old.space.made ≡ self.old.space.sizes.passes) }
         ensures never { (result ≢ Err IsBadSize) × (result ≢ Err IsBadTuning) }
@@ -87,6 +90,7 @@ impl Tree {
         ensures number { IfOk result (λ pass. pass.number ≡ self.new.space.made) }
         ensures nothing_kept { IfOk result (λ pass. AreKept self.old.space.sizes.rows pass.seat.me.0.claims pass.kept.rows × (pass.kept.rows.items ≡ [])) }
         ensures begins { IfOk result (λ pass. (pass.seat.table_id ≡ self.old.space.table.shared.table_id) × (pass.seat.me ≡ (fresh self.old.space.sizes pass.number (blank pass.number), []))) }
+        ensures resting { IfOk result (λ pass. IsResting self.old.space.table.shared.table_id self.old.space.table.shared.key pass.number pass.kept.rows pass.seat) }
     {
         match self.space.enroll(alloc) {
             Ok(pass) => Ok(pass),
