@@ -1,0 +1,34 @@
+-- Passes that were just made.
+use Rattle.std.proofs.Common.{◌≡◌, ℕ, ◌<◌, ◌≤◌, [], Vec, sym, refl, ap, ◌∙◌, subst}
+use Rattle.std.specs.Global.{Global}
+use mathlib.Core.Option.{some-ne-none}
+use Rattle.atomic_table.specs.declared.shared.Seat.{Seat}
+use Rattle.atomic_table.specs.Seated.{TableId}
+use Rattle.ca_node.specs.Told.{MyTree, IsKnown}
+use Rattle.ca_node.specs.TreeView.{TreeView, blank}
+use Rattle.ca_replace.specs.Resting.{IsResting}
+use Rattle.ca_rows.specs.declared.kept.Kept.{Kept}
+use Rattle.ca_rows.specs.declared.sizes.Sizes.{Sizes}
+use Rattle.ca_rows.specs.declared.view.View.{View}
+use Rattle.ca_rows.specs.Claims.{claim_of}
+use Rattle.ca_rows.specs.Kept.{AreKept}
+use Rattle.ca_rows.specs.Rule.{fresh}
+
+-- Such a pass rests: it knows nothing yet, and keeps nothing.
+pub rests : (table : TableId) (z : Sizes) (number : ℕ) (kept : Vec Kept Global) (seat : Seat (Unit {0}) (View TreeView)) → 0 < number → number ≤ 64
+    → AreKept z.rows seat.me.0.claims kept → (seat.table_id ≡ table) × (seat.me ≡ (fresh z number (blank number), []))
+    → IsResting table z number kept seat
+rests table z number kept seat low few keeps is = record {
+  of = (is.0, ap (λ (m : MyTree). m.0.sizes) is.1);
+  numbered = (ap (λ (m : MyTree). m.0.pin.number) is.1, low, few);
+  same_number = ap (λ (m : MyTree). m.0.upper.number) is.1;
+  is_unpinned = ap (λ (m : MyTree). m.0.pin.pinned) is.1;
+  only_keeps = λ row c e. absurd (some-ne-none c (sym e ∙ ap (λ (m : MyTree). claim_of m.0.claims row) is.1));
+  are_kept = keeps;
+  known = subst (λ (m : MyTree). IsKnown z m.0.upper) (sym is.1) record {
+    lawful = record { entries = tt; places = tt; edits = refl };
+    past = tt;
+    edits = tt;
+    by_passes = tt;
+  };
+}

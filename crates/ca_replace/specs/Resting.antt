@@ -1,0 +1,60 @@
+-- Passes between two calls, and what is known of them.
+use Rattle.std.specs.Prelude.{◌≡◌, ℕ, false, [], Some, None, Vec}
+use Rattle.std.specs.Global.{Global}
+use mathlib.Core.Option.{some}
+use Rattle.atomic_table.specs.declared.shared.Seat.{Seat}
+use Rattle.atomic_table.specs.Seated.{TableId}
+use Rattle.ca_model.specs.History.{after}
+use Rattle.ca_model.specs.Known.{Known}
+use Rattle.ca_node.specs.Told.{IsKnown}
+use Rattle.ca_node.specs.TreeView.{TreeView}
+use Rattle.ca_rows.specs.declared.kept.Kept.{Kept}
+use Rattle.ca_rows.specs.declared.sizes.Sizes.{Sizes}
+use Rattle.ca_rows.specs.declared.view.Claim.{Claim}
+use Rattle.ca_rows.specs.declared.view.Claim.TheVariants.{Keeps}
+use Rattle.ca_rows.specs.declared.view.View.{View}
+use Rattle.ca_rows.specs.Calls.{IsOf, IsNumbered}
+use Rattle.ca_rows.specs.Claims.{claim_of}
+use Rattle.ca_rows.specs.Kept.{AreKept}
+
+-- The pass with this number is one of this table. It isn't pinned, has no rows but those that it keeps, and its log is lawful for the
+-- history that it has seen.
+pub record IsResting (table : TableId) (z : Sizes) (number : ℕ) (kept : Vec Kept Global) (seat : Seat (Unit {0}) (View TreeView)) : Type 0 where
+  pub of : IsOf table z seat
+  pub numbered : IsNumbered number seat.me.0.pin
+  pub same_number : seat.me.0.upper.number ≡ number
+  pub is_unpinned : seat.me.0.pin.pinned ≡ false
+  pub only_keeps : (row : ℕ) (c : Claim) → claim_of seat.me.0.claims row ≡ some c → (at : ℕ) × (c ≡ Keeps at)
+  pub are_kept : AreKept z.rows seat.me.0.claims kept
+  pub known : IsKnown z seat.me.0.upper
+
+-- what contracts see of a pass on a tree: the tree's table, what it was made with, and the pass
+pub record StoreView : Type 0 where
+  pub table : TableId
+  pub z : Sizes
+  pub number : ℕ
+  pub kept : Vec Kept Global
+  pub seat : Seat (Unit {0}) (View TreeView)
+
+-- The pass is one of that table, and rests.
+abbrev pub Rests : StoreView → Type 0
+Rests s = IsResting s.table s.z s.number s.kept s.seat
+
+-- What a pass knows of the map, as a store: each of the 64 passes that there may be may edit it, any call may be refused, and each finds
+-- its own room.
+abbrev pub known_of : Sizes → TreeView → Known
+known_of z u = record {
+  keypos = z.keypos;
+  pass = u.number;
+  passes = 64;
+  alone = false;
+  sure = false;
+  map = after u.seen [];
+  seen = Some (record { history = u.seen; log = u.log });
+  run = None;
+  spare = 1;
+  counts = u.counts;
+}
+
+abbrev pub knows : StoreView → Known
+knows s = known_of s.z s.seat.me.0.upper

@@ -1,0 +1,15 @@
+-- What contracts see of a pass as a store.
+use Rattle.ca_replace.specs.declared.store.TreeStore.TheInside.{Inside}
+use Rattle.ca_replace.specs.Resting.{StoreView, Rests}
+
+abbrev pub view_of : Inside → StoreView
+view_of store = record {
+  table = store.tree.now.space.table.shared.table_id;
+  z = store.tree.now.space.table.shared.key;
+  number = store.pass.number;
+  kept = store.pass.kept.rows;
+  seat = store.pass.seat;
+}
+
+abbrev pub IsStore : Inside → Type 0
+IsStore store = Rests (view_of store)

@@ -1,0 +1,12 @@
+//! Why a tree or a pass wasn't made.
+
+#[derive(Clone, Copy, Debug, PartialEq, Eq)]
+pub enum TreeFault {
+    /// The rows, the passes or a start are out of their bounds.
+    BadSize,
+    /// The sizes are within their bounds, and the tuning isn't allowed.
+    BadTuning,
+    /// As many passes were made as the tree is for.
+    NoPass,
+    NoMemory,
+}

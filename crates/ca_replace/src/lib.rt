@@ -1,0 +1,13 @@
+//! The store on the tree, which passes share without a lock.
+#![tactic(auto)]
+
+mod fault;
+mod store;
+mod tree;
+
+pub use fault::TreeFault;
+pub use store::TreeStore;
+pub use tree::Tree;
+
+#[cfg(test)]
+mod tests;

@@ -1,0 +1,91 @@
+//! A pass as a store.
+ghost use Rattle.std.specs.Prelude.{◌≡◌, ◌≤◌, None, OnOk, length};
+ghost use Rattle.ca_model.specs.Known.{Stays};
+ghost use Rattle.ca_replace.specs.Resting.{IsResting, knows};
+
+use crate::tree::Tree;
+use ca_node::{Front, Link, TreePass, front, learn, load_link};
+use std::alloc::AllocError;
+use std::marker::Model;
+
+/// A pass on a tree, as a store of the tree's map. Between two calls it isn't pinned. Contracts see the tree's table and the pass.
+pub struct TreeStore<'t> {
+    tree: &'t Tree,
+    pass: TreePass,
+}
+
+impl<'t> Model for TreeStore<'t> {
+    ghost use Rattle.ca_replace.specs.Resting.{StoreView};
+
+    ghost Value = { StoreView };
+
+    ghost use Rattle.ca_replace.specs.StoreView.{view_of, IsStore};
+
+    ghost view = { view_of };
+
+    ghost invariant = { IsStore };
+}
+
+impl Drop for TreeStore<'_> {
+    fn drop(self) {
+        let Self { tree: _, pass: _ } = self;
+    }
+}
+
+impl TreeStore<'_> {
+    /// The store of a pass of this tree that holds no row and isn't pinned, as one that was just made.
+    pub fn new(tree: &Tree, pass: TreePass) -> TreeStore<'_>
+        requires { IsResting tree.now.space.table.shared.table_id tree.now.space.table.shared.key pass.number pass.kept.rows pass.seat }
+        ensures tree { (result.table ≡ tree.now.space.table.shared.table_id) × (result.z ≡ tree.now.space.table.shared.key) }
+        ensures pass { (result.number ≡ pass.number) × (result.kept ≡ pass.kept.rows) × (result.seat ≡ pass.seat) }
+    {
+        TreeStore { tree, pass }
+    }
+
+    /// The pass, which may be made a store again.
+    pub fn into_pass(self) -> TreePass
+        ensures same { (result.number ≡ self.entry.number) × (result.kept.rows ≡ self.entry.kept) × (result.seat ≡ self.entry.seat) }
+        ensures resting { IsResting self.entry.table self.entry.z result.number result.kept.rows result.seat }
+    {
+        let Self { tree: _, pass } = self;
+        pass
+    }
+
+    /// Each call finds its own room among the tree's rows, so this takes no memory and does nothing.
+    pub fn reserve(&mut self) -> Result<(), AllocError>
+        requires closed { (knows self.old).run ≡ None }
+        ensures room { OnOk result (1 ≤ (knows self.new).spare) }
+        ensures stays { Stays (knows self.old) (knows self.new) }
+        ensures same { self.new ≡ self.old }
+    {
+        Ok(())
+    }
+
+    /// A copy of what the pass has seen of the tree's history.
+    pub fn front(&mut self) -> Front
+        ensures tree { (self.new.table ≡ self.old.table) × (self.new.z ≡ self.old.z) }
+        ensures pass { (self.new.number ≡ self.old.number) × (self.new.kept ≡ self.old.kept) × (self.new.seat.me ≡ self.old.seat.me) }
+        ensures table { result.half.seat.table_id ≡ self.old.table }
+        ensures seen { result.half.seat.me.0.upper.seen ≡ self.old.seat.me.0.upper.seen }
+    {
+        front(&self.tree.space, &mut self.pass)
+    }
+
+    /// Takes a front of the same tree in: from then on the pass has seen what the pass had seen that gave it, and no later call of this
+    /// pass has a place before that. One load of the root link ends the call: it tells that what was taken in is a beginning of the
+    /// tree's history, for which the log is lawful.
+    pub fn learn(&mut self, front: Front)
+        requires table { front.half.seat.table_id ≡ self.old.table }
+        ensures tree { (self.new.table ≡ self.old.table) × (self.new.z ≡ self.old.z) }
+        ensures pass { (self.new.number ≡ self.old.number) × (self.new.kept ≡ self.old.kept) }
+        ensures log { self.new.seat.me.0.upper.log ≡ self.old.seat.me.0.upper.log }
+        ensures counts { self.new.seat.me.0.upper.counts ≡ self.old.seat.me.0.upper.counts }
+        ensures seen { length front.half.seat.me.0.upper.seen ≤ length self.new.seat.me.0.upper.seen }
+        ensures seen_before { length self.old.seat.me.0.upper.seen ≤ length self.new.seat.me.0.upper.seen }
+    {
+        learn(&self.tree.space, &mut self.pass, front);
+        self.tree.space.pin(&mut self.pass);
+        load_link(&self.tree.space, &mut self.pass, Link::Root);
+        self.tree.space.unpin(&mut self.pass);
+    }
+}

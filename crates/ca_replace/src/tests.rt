@@ -1,0 +1,184 @@
+//! Trees at the bounds of their sizes and tunings, their passes, and stores of passes.
+use super::*;
+use ca_adapt::Tuning;
+use ca_rows::Starts;
+use std::alloc::Global;
+
+const STARTS: Starts = Starts {
+    tag: 0,
+    epoch: 0,
+    sequence: 0,
+    attempt: 0,
+};
+
+const LAST: Starts = Starts {
+    tag: (1 << 48) - 1,
+    epoch: 1 << 62,
+    sequence: (1 << 46) - 1,
+    attempt: (1 << 62) - 1,
+};
+
+const TUNING: Tuning = Tuning {
+    leaf: 120,
+    levels: 0,
+    lost: 1_000,
+    calm: -1,
+    range: -100,
+    high: 1_000,
+    low: -1_000,
+};
+
+// Why no tree is made, where none is.
+fn refusal(
+    alloc: Global,
+    rows: u32,
+    passes: u32,
+    tuning: Tuning,
+    starts: Starts,
+) -> Option<TreeFault> {
+    match Tree::new(alloc, rows, passes, 1, tuning, starts) {
+        Ok(_) => None,
+        Err(fault) => Some(fault),
+    }
+}
+
+#[test]
+fn is_made_at_each_bound(rt: HostRuntime) {
+    for (passes, tuning, starts) in [
+        (1, TUNING, STARTS),
+        (64, TUNING, LAST),
+        (1, Tuning { leaf: 2, ..TUNING }, STARTS),
+        (
+            1,
+            Tuning {
+                levels: 4_096,
+                ..TUNING
+            },
+            STARTS,
+        ),
+    ] {
+        assert_eq!(rt; refusal(rt.alloc(), 384, passes, tuning, starts), None);
+    }
+}
+
+#[test]
+fn is_not_made_past_each_bound_of_its_size(rt: HostRuntime) {
+    let bad_too = Tuning { leaf: 1, ..TUNING };
+    for tuning in [TUNING, bad_too] {
+        for (rows, passes, starts) in [
+            (383, 1, STARTS),
+            (65_536, 1, STARTS),
+            (384, 0, STARTS),
+            (384, 65, STARTS),
+            (
+                384,
+                1,
+                Starts {
+                    tag: 1 << 48,
+                    ..STARTS
+                },
+            ),
+            (
+                384,
+                1,
+                Starts {
+                    epoch: (1 << 62) + 1,
+                    ..STARTS
+                },
+            ),
+            (
+                384,
+                1,
+                Starts {
+                    sequence: 1 << 46,
+                    ..STARTS
+                },
+            ),
+            (
+                384,
+                1,
+                Starts {
+                    attempt: 1 << 62,
+                    ..STARTS
+                },
+            ),
+        ] {
+            assert_eq!(rt;
+                refusal(rt.alloc(), rows, passes, tuning, starts),
+                Some(TreeFault::BadSize),
+                "{rows} rows, {passes} passes"
+            );
+        }
+    }
+}
+
+#[test]
+fn is_not_made_past_each_bound_of_its_tuning(rt: HostRuntime) {
+    for tuning in [
+        Tuning { leaf: 1, ..TUNING },
+        Tuning {
+            leaf: 121,
+            ..TUNING
+        },
+        Tuning {
+            levels: 4_097,
+            ..TUNING
+        },
+        Tuning { lost: -1, ..TUNING },
+        Tuning {
+            calm: 1_000_001,
+            ..TUNING
+        },
+        Tuning { range: 1, ..TUNING },
+        Tuning { high: -1, ..TUNING },
+        Tuning { low: 1, ..TUNING },
+    ] {
+        assert_eq!(rt;
+            refusal(rt.alloc(), 384, 1, tuning, STARTS),
+            Some(TreeFault::BadTuning),
+            "{tuning:?}"
+        );
+    }
+}
+
+#[test]
+fn makes_as_many_passes_as_it_is_for(rt: HostRuntime) {
+    let Ok(mut tree) = Tree::new(rt.alloc(), 384, 64, 1, TUNING, STARTS) else {
+        panic!(rt; "no memory")
+    };
+    for number in 1..66 {
+        let made = match tree.enroll(rt.alloc()) {
+            Ok(pass) => Ok(pass.number()),
+            Err(fault) => Err(fault),
+        };
+        let expected = if number <= 64 {
+            Ok(number)
+        } else {
+            Err(TreeFault::NoPass)
+        };
+        assert_eq!(rt; made, expected);
+    }
+}
+
+#[test]
+fn a_pass_becomes_a_store_and_comes_back(rt: HostRuntime) {
+    let Ok(mut tree) = Tree::new(rt.alloc(), 384, 2, 1, TUNING, STARTS) else {
+        panic!(rt; "no memory")
+    };
+    let (Ok(one), Ok(two)) = (tree.enroll(rt.alloc()), tree.enroll(rt.alloc())) else {
+        panic!(rt; "no pass")
+    };
+    let mut giver = TreeStore::new(&tree, one);
+    let mut taker = TreeStore::new(&tree, two);
+    let seen = giver.front();
+    taker.learn(seen);
+    let seen = taker.front();
+    giver.learn(seen);
+    let (one, two) = (giver.into_pass(), taker.into_pass());
+    assert_eq!(rt; (one.number(), two.number()), (1, 2));
+    assert_eq!(rt; (one.kept(), two.kept()), (0, 0));
+    let mut again = TreeStore::new(&tree, one);
+    let seen = again.front();
+    again.learn(seen);
+    assert_eq!(rt; again.into_pass().number(), 1);
+}
