@@ -15,7 +15,7 @@ use Rattle.ca_cli.specs.Headline.{ArePairs}
 use Rattle.ca_cli.specs.Outcome.{AreAccepted, AreHeld, IsReached, IsOutcome, all_well, most_bytes, total_length}
 use Rattle.ca_cli.specs.Reading.{wanted_of, IsRead, IsFault}
 use Rattle.ca_cli.specs.StatusText.{text_of_status}
-use Rattle.ca_cli.specs.Words.{Request}
+use Rattle.ca_words.specs.Grammar.{IsLine, Files}
 use Rattle.ca_cli.specs.declared.status.Status.{Status}
 use Rattle.ca_cli.specs.declared.status.Status.TheVariants.{Done, Usage, ShelfFault, SinkFault, BadLine, NoMemory, TooLong}
 use Rattle.ca_cli.proofs.Firsts.{first_more, rest_here, split_here}
@@ -85,18 +85,19 @@ module _ {X : Type 0} (f : X → List ℕ) (names : List X) (i : ℕ) (name : X)
           left = omega (arith, total, h.left, r.fits);
         }
 
-    module _ (request : Request) (n : request.names ≡ map f names) where
+    module _ (words : List (List ℕ)) (keypos : ℕ) (asked : IsLine words (Files keypos (map f names))) where
       abbrev call : Call
-      call = call_of (Some request) content whole
+      call = call_of words content whole
 
       abbrev reached : (number : ℕ) (end : Result (Unit {0}) FetchFault) → number ≡ i + 1 → Adds next (fetched (f name) end ∷ []) → IsReached call number end
       reached number end e g = record {
-        request = request;
-        asked = refl;
+        keypos = keypos;
+        names = map f names;
+        asked = asked;
         earlier = map f (take i names);
         name = f name;
         later = map f (drop (i + 1) names);
-        named = n ∙ split_here f names i name inside here;
+        named = split_here f names i name inside here;
         place = e ∙ ap (λ (k : ℕ). k + 1) (sym (length-map (take i names) f ∙ length-take-le i names (omega (arith, inside))));
         files = h.files;
         lines = lines;

@@ -1,5 +1,6 @@
 pub mod Accepted
 pub mod Answered
+pub mod Bounds
 pub mod Firsts
 pub mod InTurn
 pub mod Outcomes

@@ -2,24 +2,28 @@
 use Rattle.std.proofs.Common.{◌≡◌, ℕ, List, [], refl, inl, inr, subst, Some}
 use Rattle.std.specs.Prelude.{◌⊎◌, Option}
 use Rattle.ca_cli.specs.Call.{Call}
-use Rattle.ca_cli.specs.Outcome.{IsOutcome, IsStopped, IsDoneOrWant, IsWellFormed, AreHeld, most_bytes}
+use Rattle.ca_term.specs.Tree.{Tree}
+use Rattle.ca_ets.specs.Command.{Answer}
+use Rattle.ca_words.specs.Grammar.{Request}
+use Rattle.ca_cli.specs.Outcome.{IsOutcome, IsPlayed, IsStopped, IsDoneOrWant, IsWellFormed, IsThere}
 use Rattle.ca_cli.specs.StatusText.{text_of_status}
-use Rattle.ca_cli.specs.Words.{Request}
 use Rattle.ca_cli.specs.declared.status.Status.{Status}
 use Rattle.ca_cli.specs.declared.status.Status.TheVariants.{Done, Usage, ShelfFault, SinkFault, BadLine, NoMemory, TooLong}
 
-some_same : (o : Option Request) (a b : Request) → o ≡ Some a → o ≡ Some b → a ≡ b
-some_same o a b e f = cc
-
--- the files that a well-formed call asks for are held
-pub held_asked : (call : Call) (request : Request) → call.request ≡ Some request → IsWellFormed call → AreHeld call.content request.names most_bytes
-held_asked call request e w =
-    let same : w.request ≡ request = some_same _ w.request request w.asked e in
-    subst (λ (r : Request). AreHeld call.content r.names most_bytes) same w.held
+-- What a well-formed call asks for is there, where the reader of the words found that request.
+pub there_asked : (call : Call) (found : Option Request) (request : Request) → found ≡ Some request → (w : IsWellFormed call) → found ≡ Some w.request
+    → IsThere call.content request
+there_asked call found request e w f =
+    let same : w.request ≡ request = cc in
+    subst (IsThere call.content) same w.there
 
 -- whatever a call came to, it may have stopped there
+played_stopped : (call : Call) (answers : List (List Answer)) (table : List Tree) (bytes : List ℕ) → IsPlayed call answers table bytes → IsStopped call
+played_stopped call answers table bytes (inl h) = inr (inr (h.keypos, h.names, h.lines, h.read))
+played_stopped call answers table bytes (inr h) = inl h.fetches
+
 stopped : (call : Call) (status : Status) (bytes : List ℕ) → IsOutcome call status bytes → IsStopped call
-stopped call Done bytes h = inr (inr (h.2.request, h.2.lines, h.2.read))
+stopped call Done bytes h = played_stopped call h.0 h.1 bytes h.2
 stopped call Usage bytes h = inl h.1
 stopped call (ShelfFault file) bytes h = inr (inl (file, _, h.0))
 stopped call SinkFault bytes h = absurd h

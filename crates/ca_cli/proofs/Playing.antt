@@ -59,3 +59,15 @@ pub record ArePlaying (a b : Known) (client : ℕ) (files left : List (List Numb
   pub same : IsSameStore a b
   pub at : (objects : List Tree) → Stands a.keypos a.map objects
       → (m : List Tree) × Stands a.keypos b.map m × GoOn a.keypos client objects m files left front text
+
+-- These lines of a client are left, where no text is kept.
+pub record IsCarried (a b : Known) (k : Continuation) (lines left : List Numbered) : Type 0 where
+  pub same : IsSameStore a b
+  pub at : (objects : List Tree) → Stands a.keypos a.map objects
+      → (m : List Tree) × Stands a.keypos b.map m × (table_after a.keypos m k left ≡ table_after a.keypos objects Never lines)
+
+-- So it is with clients.
+pub record AreCarried (a b : Known) (files left : List (List Numbered)) : Type 0 where
+  pub same : IsSameStore a b
+  pub at : (objects : List Tree) → Stands a.keypos a.map objects
+      → (m : List Tree) × Stands a.keypos b.map m × (table_of_clients a.keypos m left ≡ table_of_clients a.keypos objects files)

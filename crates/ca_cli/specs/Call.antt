@@ -2,7 +2,7 @@
 use Rattle.std.specs.Prelude.{ℕ, List, Option}
 use Rattle.ca_outside.specs.Fetches.{Fetched}
 use Rattle.ca_outside.specs.Known.{Content, Grows, HasRisen}
-use Rattle.ca_cli.specs.Words.{Request}
+use Rattle.ca_words.specs.Grammar.{Request, IsLine}
 
 -- of a shelf's fetches or a sink's bytes: those so far, where they are told, and the count of faults, before and after
 pub record Change (A : Type 0) : Type 0 where
@@ -22,11 +22,15 @@ Adds change more = Grows change.before change.after more
 abbrev pub HasFailed : {A : Type 0} → Change A → Type 0
 HasFailed change = HasRisen change.faults_before change.faults_after
 
--- what the words ask for, where they are a command line; the shelf's contents by name, and its fetches
+-- the words behind the program's name; the shelf's contents by name, and its fetches
 pub record Call : Type 0 where
-  pub request : Option Request
+  pub words : List (List ℕ)
   pub content : List ℕ → Content
   pub shelf : Change Fetched
 
-abbrev pub call_of : Option Request → (List ℕ → Content) → Change Fetched → Call
-call_of request content shelf = record { request = request; content = content; shelf = shelf }
+abbrev pub call_of : List (List ℕ) → (List ℕ → Content) → Change Fetched → Call
+call_of words content shelf = record { words = words; content = content; shelf = shelf }
+
+-- The words are a command line, which asks for this.
+abbrev pub Asks : Call → Request → Type 0
+Asks call request = IsLine call.words request

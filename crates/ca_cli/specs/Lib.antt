@@ -5,5 +5,5 @@ pub mod Outcome
 pub mod Played
 pub mod Reading
 pub mod StatusText
-pub mod Words
+pub mod Summary
 pub mod Written

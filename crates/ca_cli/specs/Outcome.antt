@@ -1,5 +1,5 @@
 -- What a call of the program comes to, before anything is written.
-use Rattle.std.specs.Prelude.{◌≡◌, ◌⊎◌, ℕ, ◌+◌, ◌-◌, ◌≤◌, List, [], ◌∷◌, ◌++◌, length, sum_by, map, Some, None, Result, Ok, Err}
+use Rattle.std.specs.Prelude.{◌≡◌, ◌⊎◌, ℕ, ◌+◌, ◌-◌, ◌≤◌, List, [], ◌∷◌, ◌++◌, length, sum_by, map, Result, Ok, Err}
 use Rattle.ca_outside.specs.Fetches.{Fetched, fetched}
 use Rattle.ca_outside.specs.Known.{Content, Holds, Tells, IsOver}
 use Rattle.ca_outside.specs.declared.shelf.FetchFault.{FetchFault}
@@ -8,10 +8,11 @@ use Rattle.ca_term.specs.Tree.{Tree}
 use Rattle.ca_ets.specs.Command.{Answer}
 use Rattle.ca_cmd.specs.File.{Numbered, IsFileOf, IsRefusedAt}
 use Rattle.ca_cmd.specs.declared.fault.LineWhy.{LineWhy}
-use Rattle.ca_cli.specs.Call.{Call, Adds, HasFailed}
+use Rattle.ca_words.specs.Grammar.{Request, Files, Generated}
+use Rattle.ca_cli.specs.Call.{Call, Adds, Asks, HasFailed}
 use Rattle.ca_cli.specs.Headline.{ArePairs, AreFilesOf, IsAnswer, AllAreReplies}
 use Rattle.ca_cli.specs.StatusText.{text_of_status}
-use Rattle.ca_cli.specs.Words.{Request}
+use Rattle.ca_cli.specs.Summary.{IsSummary}
 use Rattle.ca_cli.specs.declared.status.Status.{Status}
 use Rattle.ca_cli.specs.declared.status.Status.TheVariants.{Done, Usage, ShelfFault, SinkFault, BadLine, NoMemory, TooLong}
 
@@ -38,12 +39,13 @@ pub record AreAccepted (content : List ℕ → Content) (names files : List (Lis
 
 -- The files before this one were fetched well and accepted. This one was fetched last, and the fetch ended so.
 pub record IsReached (call : Call) (number : ℕ) (end : Result (Unit {0}) FetchFault) : Type 0 where
-  pub request : Request
-  pub asked : call.request ≡ Some request
+  pub keypos : ℕ
+  pub names : List (List ℕ)
+  pub asked : Asks call (Files keypos names)
   pub earlier : List (List ℕ)
   pub name : List ℕ
   pub later : List (List ℕ)
-  pub named : request.names ≡ earlier ++ name ∷ later
+  pub named : names ≡ earlier ++ name ∷ later
   pub place : number ≡ length earlier + 1
   pub files : List (List ℕ)
   pub lines : List (List Numbered)
@@ -51,18 +53,32 @@ pub record IsReached (call : Call) (number : ℕ) (end : Result (Unit {0}) Fetch
   pub fetches : Adds call.shelf (all_well earlier ++ fetched name end ∷ [])
 
 -- All files were fetched well, each once, and accepted, and they hold these lines.
-pub record AreRead (call : Call) (request : Request) (lines : List (List Numbered)) : Type 0 where
-  pub asked : call.request ≡ Some request
+pub record AreRead (call : Call) (keypos : ℕ) (names : List (List ℕ)) (lines : List (List Numbered)) : Type 0 where
+  pub asked : Asks call (Files keypos names)
   pub files : List (List ℕ)
-  pub accepted : AreAccepted call.content request.names files lines
-  pub fetches : Adds call.shelf (all_well request.names)
+  pub accepted : AreAccepted call.content names files lines
+  pub fetches : Adds call.shelf (all_well names)
 
 -- All files were read, and these bytes tell these answers to them and this table.
-pub record IsPlayed (call : Call) (answers : List (List Answer)) (table : List Tree) (bytes : List ℕ) : Type 0 where
-  pub request : Request
+pub record AreAnswered (call : Call) (answers : List (List Answer)) (table : List Tree) (bytes : List ℕ) : Type 0 where
+  pub keypos : ℕ
+  pub names : List (List ℕ)
   pub lines : List (List Numbered)
-  pub read : AreRead call request lines
-  pub answer : IsAnswer request.keypos lines answers table bytes
+  pub read : AreRead call keypos names lines
+  pub answer : IsAnswer keypos lines answers table bytes
+
+-- Lines were made from a seed, nothing was fetched, and these bytes sum up these answers to them and this table.
+pub record AreSummedUp (call : Call) (answers : List (List Answer)) (table : List Tree) (bytes : List ℕ) : Type 0 where
+  pub seed : ℕ
+  pub clients : ℕ
+  pub count : ℕ
+  pub asked : Asks call (Generated seed clients count)
+  pub fetches : Adds call.shelf []
+  pub summary : IsSummary seed clients count answers table bytes
+
+-- What the words ask for was played, and the bytes tell of these answers and this table.
+abbrev pub IsPlayed : Call → List (List Answer) → List Tree → List ℕ → Type 0
+IsPlayed call answers table bytes = AreAnswered call answers table bytes ⊎ AreSummedUp call answers table bytes
 
 -- This file was fetched, within the limit, and is refused at this byte of this line.
 pub record IsRefused (call : Call) (number line at : ℕ) : Type 0 where
@@ -82,12 +98,12 @@ pub record IsTooLong (call : Call) (number : ℕ) : Type 0 where
 abbrev pub IsStopped : Call → Type 0
 IsStopped call = Adds call.shelf []
     ⊎ ((number : ℕ) × (end : Result (Unit {0}) FetchFault) × IsReached call number end)
-    ⊎ ((request : Request) × (lines : List (List Numbered)) × AreRead call request lines)
+    ⊎ ((keypos : ℕ) × (names : List (List ℕ)) × (lines : List (List Numbered)) × AreRead call keypos names lines)
 
 -- the cause of each status, the fetches that were made, and the bytes that go with it
 abbrev pub IsOutcome : Call → Status → List ℕ → Type 0
 IsOutcome call Done bytes = (answers : List (List Answer)) × (table : List Tree) × IsPlayed call answers table bytes × AllAreReplies answers
-IsOutcome call Usage bytes = (call.request ≡ None) × Adds call.shelf [] × (bytes ≡ text_of_status Usage)
+IsOutcome call Usage bytes = ((request : Request) → ¬ Asks call request) × Adds call.shelf [] × (bytes ≡ text_of_status Usage)
 IsOutcome call (ShelfFault file) bytes =
     IsReached call file (Err fault.Failed) × HasFailed call.shelf × (bytes ≡ text_of_status (ShelfFault file))
 IsOutcome call SinkFault bytes = ⊥
@@ -101,11 +117,16 @@ AreHeld content [] room = Unit {0}
 AreHeld content (name ∷ names) room = (file : List ℕ) × (lines : List Numbered)
     × (content name ≡ Holds file) × (length file ≤ room) × IsFileOf file lines × AreHeld content names (room - length file)
 
--- Files are asked for, and the shelf holds such files, within the limit.
+-- The shelf holds the files that are asked for, within the limit.
+abbrev pub IsThere : (List ℕ → Content) → Request → Type 0
+IsThere content (Files keypos names) = AreHeld content names most_bytes
+IsThere content (Generated seed clients count) = Unit {0}
+
+-- The words are a command line, and the shelf holds what they ask for.
 pub record IsWellFormed (call : Call) : Type 0 where
   pub request : Request
-  pub asked : call.request ≡ Some request
-  pub held : AreHeld call.content request.names most_bytes
+  pub asked : Asks call request
+  pub there : IsThere call.content request
 
 -- The answers and the table were printed, or memory was not found.
 abbrev pub IsDoneOrWant : Status → Type 0

@@ -22,6 +22,18 @@ pub record HasAnswered (a b : Known) (before : Continuation) (command : Command)
   pub stepped : (objects : List Tree) → Stands a.keypos a.map objects
       → (left : List Tree) × Gives (step a.keypos objects before command) left reply after × Stands a.keypos b.map left
 
+-- One client's commands were played.
+pub record HasLeft (a b : Known) (commands : List Command) : Type 0 where
+  pub same : IsSameStore a b
+  pub table : (objects : List Tree) → Stands a.keypos a.map objects
+      → Stands a.keypos b.map (run_in_order a.keypos objects Never commands).table
+
+-- Several clients' commands were played in turn.
+pub record HaveLeft (a b : Known) (clients : List (List Command)) : Type 0 where
+  pub same : IsSameStore a b
+  pub table : (objects : List Tree) → Stands a.keypos a.map objects
+      → Stands a.keypos b.map (run_in_turn a.keypos objects clients).table
+
 -- One client's commands were played, and the lines of their answers stand behind the text that was there.
 pub record HasPlayed (a b : Known) (lines : List Numbered) (before after : List ℕ) : Type 0 where
   pub same : IsSameStore a b

@@ -25,8 +25,8 @@ pub record HasRun (call : Call) (output : Change ℕ) (result status : Status) (
   pub outcome : IsOutcome call status bytes
   pub written : IsTakenWhole output bytes status result ⊎ IsCutOff output bytes result
 
--- The headline: files are asked for, all were read, and in this call the sink took the text of these answers and this table,
--- which one thread gives that runs a merge of the files' commands on an ordered set.
+-- The headline: files are asked for and all were read, or lines were made, and in this call the sink took the text of these answers and this
+-- table, or their summary; they are what one thread gives that runs a merge of the clients' commands on an ordered set.
 pub record Prints (call : Call) (output : Change ℕ) (answers : List (List Answer)) (table : List Tree) (bytes : List ℕ) : Type 0 where
   pub played : IsPlayed call answers table bytes
   pub taken : Adds output bytes

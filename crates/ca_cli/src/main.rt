@@ -1,5 +1,6 @@
-//! `ca run FILE...`: reads command files, runs their commands on one table that behaves as an `ordered_set` of Erlang's
-//! `ets`, a file a client, one client after the other, and prints every answer and the final table.
+//! `ca run [OPTIONS] [--] FILE...`: reads command files, runs their commands on one table that behaves as an `ordered_set` of Erlang's
+//! `ets`, a file a client, one client after the other, and prints every answer and the final table. `ca run --seed S --clients C --lines L`
+//! makes the commands itself, and prints a summary.
 #![tactic(auto)]
 
 ghost use Rattle.std.specs.Prelude.{◌≡◌, IfErr};
@@ -9,8 +10,8 @@ mod files;
 mod message;
 mod play;
 mod status;
+mod summary;
 mod top;
-mod words;
 
 use crate::status::Status;
 use crate::top::run;

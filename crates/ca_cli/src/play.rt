@@ -2,10 +2,12 @@
 //! terms aren't kept.
 ghost use Rattle.std.specs.Prelude.{◌≡◌, map, IfOk, OnOk};
 ghost use Rattle.ca_ets.specs.Command.{IsContinuation, continuation_of, response_of};
+ghost use Rattle.ca_cmd.specs.File.{commands_in};
 ghost use Rattle.ca_cmd.specs.Lines.{numbered};
-ghost use Rattle.ca_cli.specs.Played.{IsOwn, HasAnswered, HasPlayed, HavePlayed};
+ghost use Rattle.ca_cli.specs.Played.{IsOwn, HasAnswered, HasLeft, HasPlayed, HaveLeft, HavePlayed};
+ghost use Rattle.ca_cli.specs.Summary.{clients_from};
 
-use ca_cmd::{Answer, Line, Lines, show_answer, show_client};
+use ca_cmd::{Answer, Line, Lines, generate, show_answer, show_client};
 use ca_ets::{Cmd, Cont, Reply};
 use ca_model::{Outcome, Plain};
 use ca_table::Table;
@@ -65,6 +67,37 @@ pub fn play_all(
     for (i, lines) in files.iter().enumerate() {
         show_client(i as u64 + 1, into)?;
         play(alloc, table, lines.as_slice(), into)?;
+    }
+    Ok(())
+}
+
+// Gives a client's commands to a table, one after the other. The replies aren't kept.
+fn carry_out(alloc: Global, table: &mut Table<Plain>, lines: &[Line]) -> Result<(), AllocError>
+    requires { IsOwn table.old }
+    ensures { OnOk result (HasLeft table.old table.new (commands_in (numbered lines.now))) }
+{
+    let mut cont = Cont::Never;
+    for line in lines {
+        reply(alloc, table, &line.cmd, &mut cont)?;
+    }
+    Ok(())
+}
+
+/// Makes so many lines for each of so many clients from a seed and gives their commands to a table, all of the first client's, then all of
+/// the second's, and so on. A client's lines are made when its turn comes, and no reply is kept. None is a refusal.
+pub fn play_made(
+    alloc: Global,
+    table: &mut Table<Plain>,
+    seed: u32,
+    clients: u32,
+    lines: u32,
+) -> Result<(), AllocError>
+    requires { IsOwn table.old }
+    ensures { OnOk result (HaveLeft table.old table.new (map commands_in (clients_from seed lines 1 clients))) }
+{
+    for i in 0..clients {
+        let made = generate(alloc, seed, i + 1, lines)?;
+        carry_out(alloc, table, made.as_slice())?;
     }
     Ok(())
 }

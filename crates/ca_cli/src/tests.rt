@@ -2,7 +2,10 @@
 //! project's table of messages.
 use crate::status::Status;
 use crate::top::run;
+use ca_cmd::generate;
+use ca_ets::{Cont, ListTable};
 use ca_outside::{Drawer, SureDrawer, SureTape, Tape};
+use ca_term::{Kind, Term};
 use std::alloc::{AllocError, Global};
 use std::process::Abort;
 use std::test::Fail;
@@ -107,7 +110,22 @@ fn ended(alloc: Global, words: &str, a: &str) -> Result<(Status, SureTape), Allo
 
 #[test]
 fn takes_no_other_words(rt: HostRuntime) -> Result<(), Fail> {
-    for words in ["", "run", "run -a", "run a -a", "walk a", "Run a", "a run"] {
+    for words in [
+        "",
+        "run",
+        "run -a",
+        "run a -a",
+        "walk a",
+        "Run a",
+        "a run",
+        "run a --keypos 2",
+        "run --keypos 2 --keypos 2 a",
+        "run --keypos 121 a",
+        "run --seed 1 a",
+        "run --seed 1 --clients 2",
+        "run --seed 1 --clients 65 --lines 1",
+        "run --seed 1 --clients 1 --lines 1 --keypos 2",
+    ] {
         let (status, sink) = ended(rt.alloc(), words, "")?;
         assert_eq!(rt; status, Status::Usage, "at {words}");
         assert_eq!(rt;
@@ -116,6 +134,101 @@ fn takes_no_other_words(rt: HostRuntime) -> Result<(), Fail> {
         );
     }
     Ok(())
+}
+
+#[test]
+fn takes_the_key_place_that_is_asked_for(rt: HostRuntime) -> Result<(), Fail> {
+    let alloc = rt.alloc();
+    let file = b"insert {a,1}\ninsert {b,1}\nlookup 1\n".as_slice();
+    for (words, output) in [
+        (
+            "run --keypos=02 -- -f",
+            "client 1\n1 true\n2 true\n3 [{b,1}]\ntable\n{b,1}.\nend 1\n",
+        ),
+        (
+            "run --keypos 1 -- -f",
+            "client 1\n1 true\n2 true\n3 []\ntable\n{a,1}.\n{b,1}.\nend 2\n",
+        ),
+    ] {
+        let mut shelf = SureDrawer::new(files_of(alloc, &[("-f", file)])?);
+        let mut sink = SureTape::new(alloc, 1000)?;
+        let words = words_of(alloc, words)?;
+        let status = run(alloc, words.as_slice(), &mut shelf, &mut sink);
+        assert_eq!(rt; status, Status::Done);
+        assert_eq!(rt; sink.taken(), output.as_bytes());
+    }
+    Ok(())
+}
+
+// A run of these words fetches no file and writes this.
+fn sums_up<R: Abort + AllocGlobal>(rt: &R, words: &str, output: &str) -> Result<(), Fail> {
+    let alloc = rt.alloc();
+    let mut shelf = Drawer::new(Vec::new(alloc), Vec::new(alloc));
+    let mut sink = SureTape::new(alloc, 1000)?;
+    let status = run(
+        alloc,
+        words_of(alloc, words)?.as_slice(),
+        &mut shelf,
+        &mut sink,
+    );
+    assert_eq!(rt; status, Status::Done, "at {words}");
+    assert_eq!(rt; sink.taken(), output.as_bytes(), "at {words}");
+    assert_eq!(rt; shelf.log().unwrap_or(&[]).len(), 0);
+    Ok(())
+}
+
+#[test]
+fn makes_lines_from_a_seed(rt: HostRuntime) -> Result<(), Fail> {
+    for (words, output) in [
+        (
+            "run --seed 1 --clients 2 --lines 1",
+            "generated 2 1\nrefused 0\nend 1\nsum 779\n",
+        ),
+        (
+            "run --lines=4 --keypos=1 --clients 01 --seed 1 --",
+            "generated 1 4\nrefused 0\nend 1\nsum 212\n",
+        ),
+    ] {
+        sums_up(&rt, words, output)?;
+    }
+    Ok(())
+}
+
+// The table that a list comes to by so many lines of each of four clients, one client after the other.
+fn listed(alloc: Global, seed: u32, lines: u32) -> Result<ListTable, AllocError> {
+    let mut table = ListTable::new(alloc, 1);
+    for client in 1..5 {
+        for line in generate(alloc, seed, client, lines)?.as_slice() {
+            // No line goes on with a batch, so each may begin without one.
+            table.apply(alloc, &line.cmd, &mut Cont::Never)?;
+        }
+    }
+    Ok(table)
+}
+
+// The value of an object that a generated line put there.
+fn value(object: &Term) -> i64 {
+    if let Kind::Tuple([_, value]) = object.kind()
+        && let Kind::Int(value) = value.kind()
+    {
+        return value;
+    }
+    0
+}
+
+#[test]
+fn sums_up_as_a_list_does(rt: HostRuntime) -> Result<(), Fail> {
+    let alloc = rt.alloc();
+    let table = listed(alloc, 7, 2000)?;
+    let mut sum = 0i64;
+    for object in table.objects() {
+        sum = sum.wrapping_add(value(object));
+    }
+    let end = table.objects().len();
+    let output = format!(in alloc; "generated 4 2000\nrefused 0\nend {end}\nsum {sum}\n")?;
+    let words = "run --seed 7 --clients 4 --lines 2000";
+    sums_up(&rt, words, output.as_str())?;
+    sums_up(&rt, words, output.as_str())
 }
 
 #[test]

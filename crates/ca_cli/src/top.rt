@@ -1,5 +1,5 @@
 //! The top call.
-ghost use Rattle.std.specs.Prelude.{◌≡◌, ◌≤◌, ◌⊎◌, ℕ, List, [], map, IsSome};
+ghost use Rattle.std.specs.Prelude.{◌≡◌, ◌≤◌, ◌⊎◌, ℕ, List, [], map, IsSome, IfOk, IfErr, IsErrOf};
 ghost use Rattle.std.specs.String.{string_bytes};
 ghost use Rattle.ca_outside.specs.Known.{HasRisen};
 ghost use Rattle.ca_term.specs.Tree.{Tree};
@@ -8,15 +8,15 @@ ghost use Rattle.ca_cli.specs.Call.{change_of, call_of};
 ghost use Rattle.ca_cli.specs.Headline.{AllAreReplies};
 ghost use Rattle.ca_cli.specs.Outcome.{IsOutcome, IsWellFormed, IsDoneOrWant};
 ghost use Rattle.ca_cli.specs.StatusText.{text_of_status};
-ghost use Rattle.ca_cli.specs.Words.{request_of};
 ghost use Rattle.ca_cli.specs.Written.{HasRun, Prints, IsFaultless};
 
 use crate::answer::answer;
 use crate::files::read_all;
 use crate::message::message;
 use crate::status::Status;
-use crate::words::request_of;
+use crate::summary::summary;
 use ca_outside::{Shelf, Sink, write_out};
+use ca_words::{Request, request_of};
 use std::alloc::Global;
 
 // A status with its message, or want of memory.
@@ -29,34 +29,60 @@ fn told(alloc: Global, status: Status) -> (Status, Vec<u8>)
     }
 }
 
+// The whole output of the words, or how the call ends early.
+fn output<F: Shelf>(alloc: Global, words: &[String], shelf: &mut F) -> Result<Vec<u8>, Status>
+    ensures output { let call = call_of (map string_bytes words.now) (F.content shelf.old)
+        (change_of (F.fetches shelf.old) (F.fetches shelf.new) (F.faults shelf.old) (F.faults shelf.new)) in
+        IfOk result (λ bytes. IsOutcome call Status.Done bytes.items) }
+    ensures early { let call = call_of (map string_bytes words.now) (F.content shelf.old)
+        (change_of (F.fetches shelf.old) (F.fetches shelf.new) (F.faults shelf.old) (F.faults shelf.new)) in
+        IfErr result (λ status. IsOutcome call status (text_of_status status)) }
+    ensures complete { let call = call_of (map string_bytes words.now) (F.content shelf.old)
+        (change_of (F.fetches shelf.old) (F.fetches shelf.new) (F.faults shelf.old) (F.faults shelf.new)) in
+        IsWellFormed call → ¬ HasRisen (F.faults shelf.old) (F.faults shelf.new) → IfErr result (λ status. status ≡ Status.NoMemory) }
+    ensures told { ¬ IsErrOf result Status.NoMemory → IsSome (F.fetches shelf.old) → IsSome (F.fetches shelf.new) }
+    ensures later { F.faults shelf.old ≤ F.faults shelf.new }
+{
+    let made = match request_of(words) {
+        None => return Err(Status::Usage),
+        Some(Request::Files { keypos, names }) => {
+            let files = read_all(alloc, shelf, names)?;
+            answer(alloc, keypos, files.as_slice())
+        }
+        Some(Request::Generated {
+            seed,
+            clients,
+            lines,
+        }) => summary(alloc, seed, clients, lines),
+    };
+    match made {
+        Ok(bytes) => Ok(bytes),
+        Err(_) => Err(Status::NoMemory),
+    }
+}
+
 // What the call comes to, before anything is written: the status, and the bytes that go with it.
 fn outcome<F: Shelf>(alloc: Global, words: &[String], shelf: &mut F) -> (Status, Vec<u8>)
     ensures outcome { IsOutcome
-        (call_of (request_of (map string_bytes words.now)) (F.content shelf.old)
+        (call_of (map string_bytes words.now) (F.content shelf.old)
         (change_of (F.fetches shelf.old) (F.fetches shelf.new) (F.faults shelf.old) (F.faults shelf.new)))
         result.0 result.1.items }
-    ensures complete { let call = call_of (request_of (map string_bytes words.now)) (F.content shelf.old)
+    ensures complete { let call = call_of (map string_bytes words.now) (F.content shelf.old)
         (change_of (F.fetches shelf.old) (F.fetches shelf.new) (F.faults shelf.old) (F.faults shelf.new)) in
         IsWellFormed call → ¬ HasRisen (F.faults shelf.old) (F.faults shelf.new) → IsDoneOrWant result.0 }
     ensures told { ¬ (result.0 ≡ Status.NoMemory) → IsSome (F.fetches shelf.old) → IsSome (F.fetches shelf.new) }
     ensures later { F.faults shelf.old ≤ F.faults shelf.new }
 {
-    let Some(request) = request_of(words) else {
-        return told(alloc, Status::Usage);
-    };
-    let files = match read_all(alloc, shelf, request.names) {
-        Ok(files) => files,
-        Err(status) => return told(alloc, status),
-    };
-    let Ok(bytes) = answer(alloc, request.keypos, files.as_slice()) else {
-        return (Status::NoMemory, Vec::new(alloc));
-    };
-    (Status::Done, bytes)
+    match output(alloc, words, shelf) {
+        Ok(bytes) => (Status::Done, bytes),
+        Err(status) => told(alloc, status),
+    }
 }
 
 /// Reads the files that the words name, gives their commands to an empty table, all of the first file's, then all of the
 /// second's, and so on, and writes every answer and the final table. `words` are the words after the program's name. All
-/// files are read before the first command is given.
+/// files are read before the first command is given. Where the words ask for lines that are made from a seed, these take the place of the
+/// files', and a summary is written.
 ///
 /// The whole output is made before its first byte is written, so without memory nothing is written.
 pub fn run<F: Shelf, S: Sink>(
@@ -66,20 +92,20 @@ pub fn run<F: Shelf, S: Sink>(
     sink: &mut S,
 ) -> Status
     // The cause of each status, the fetches that were made, the bytes that go with it, and which of them the sink took.
-    ensures run { let call = call_of (request_of (map string_bytes words.now)) (F.content shelf.old)
+    ensures run { let call = call_of (map string_bytes words.now) (F.content shelf.old)
         (change_of (F.fetches shelf.old) (F.fetches shelf.new) (F.faults shelf.old) (F.faults shelf.new)) in
         let output = change_of (S.taken sink.old) (S.taken sink.new) (S.faults sink.old) (S.faults sink.new) in
         (status : Status) × (bytes : List ℕ) × HasRun call output result status bytes }
 
     // The headline: where the status is `Done`, the answers and the table are those of one thread. No command was refused.
-    ensures headline { let call = call_of (request_of (map string_bytes words.now)) (F.content shelf.old)
+    ensures headline { let call = call_of (map string_bytes words.now) (F.content shelf.old)
         (change_of (F.fetches shelf.old) (F.fetches shelf.new) (F.faults shelf.old) (F.faults shelf.new)) in
         let output = change_of (S.taken sink.old) (S.taken sink.new) (S.faults sink.old) (S.faults sink.new) in
         result ≡ Status.Done → (answers : List (List Answer)) × (table : List Tree) × (bytes : List ℕ)
         × Prints call output answers table bytes × AllAreReplies answers }
 
     // Right words, files of the form within the limit and no fault give the answers, or want of memory.
-    ensures complete { let call = call_of (request_of (map string_bytes words.now)) (F.content shelf.old)
+    ensures complete { let call = call_of (map string_bytes words.now) (F.content shelf.old)
         (change_of (F.fetches shelf.old) (F.fetches shelf.new) (F.faults shelf.old) (F.faults shelf.new)) in
         let output = change_of (S.taken sink.old) (S.taken sink.new) (S.faults sink.old) (S.faults sink.new) in
         IsWellFormed call → IsFaultless call output → IsDoneOrWant result }
