@@ -1,5 +1,5 @@
 -- The summary of a run of generated lines.
-use Rattle.std.specs.Prelude.{◌≡◌, ℕ, zero, suc, ◌+◌, ℤ, pos, List, [], ◌∷◌, ◌++◌, length, map, fold, sum_by, codes, decimal, Ok, Err}
+use Rattle.std.specs.Prelude.{◌≡◌, ℕ, zero, suc, ◌+◌, ℤ, pos, ◌+ℤ◌, List, [], ◌∷◌, ◌++◌, length, map, fold, sum_by, codes, decimal, Ok, Err}
 use Rattle.std.specs.Fmt.{signed_decimal}
 use Rattle.ca_term.specs.Tree.{Tree, Integer, Tuple, elements}
 use Rattle.ca_ets.specs.Command.{Answer}
@@ -30,7 +30,7 @@ second_of _ = pos 0
 
 -- the sum of the second elements of a table's objects
 abbrev pub sum_of : List Tree → ℤ
-sum_of table = fold (λ sum object. sum + second_of object) (pos 0) table
+sum_of table = fold (λ sum object. sum +ℤ second_of object) (pos 0) table
 
 abbrev pub summary_text : ℕ → ℕ → ℕ → List Tree → List ℕ
 summary_text clients count refused table = codes "generated " ++ decimal clients ++ codes " " ++ decimal count ++ codes "\n"

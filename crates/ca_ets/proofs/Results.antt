@@ -6,9 +6,9 @@ use Rattle.std.proofs.lemmas.Bool.Decides.{nat_tests}
 use Rattle.ca_term.specs.Tree.{Tree, Integer, Atom, Tuple, Nil, Cons, Binary}
 use Rattle.ca_term.specs.Object.{key_of, fits}
 use Rattle.ca_ets.specs.declared.command.Fault.TheVariants.{BadArg}
-use Rattle.ca_ets.specs.Match.{result_of}
+use Rattle.ca_match.specs.Match.{result_of}
 use Rattle.ca_ets.specs.OrderedMap.{IsTable}
-use Rattle.ca_ets.specs.Specification.{Reason, IsSpecification, first_fault}
+use Rattle.ca_match.specs.Specification.{Reason, IsSpecification, first_fault}
 use Rattle.ca_ets.specs.Step.{fault_of_specification, keyed_results, last_found, limit_of}
 use Rattle.ca_ets.proofs.Keys.{key_fits, nil_fits}
 

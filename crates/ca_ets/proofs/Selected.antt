@@ -9,7 +9,7 @@ use Rattle.ca_term.specs.Tree.{Tree}
 use Rattle.ca_term.specs.Object.{key_of}
 use Rattle.ca_term.specs.Order.{term_cmp}
 use Rattle.ca_ets.specs.Command.{At, AtEnd, End, Results}
-use Rattle.ca_ets.specs.Match.{chosen, result_of}
+use Rattle.ca_match.specs.Match.{chosen, result_of}
 use Rattle.ca_ets.specs.OrderedMap.{between}
 use Rattle.ca_ets.specs.Selected.{HasFound}
 use Rattle.ca_ets.specs.Step.{keyed_results, last_found, results_in, step_of_results, step_of_full_batch, step_of_last_batch, with_map}

@@ -14,7 +14,7 @@ use Rattle.ca_ets.specs.declared.table.Place.{Place}
 use Rattle.ca_ets.specs.declared.table.Place.TheVariants.{At}
 use Rattle.ca_ets.specs.OrderedMap.{IsEntry, IsTable, get, del, above}
 use Rattle.ca_ets.specs.Place.{IsPlace, placed}
-use Rattle.ca_ets.specs.Specification.{IsSpecification}
+use Rattle.ca_match.specs.Specification.{IsSpecification}
 use Rattle.ca_ets.specs.Step.{Step, step, step_of_change, step_of_operations, step_of_update_counter, step_of_element, step_of_update_element, is_found, unless, fault_of_key, fault_of_object, fault_of_specification, limit_of, keyed_results, last_found, step_of_results, step_of_full_batch, step_of_last_batch, step_of_batch}
 use Rattle.ca_term.specs.Updates.{ElementFault, is_open, update_of_counters, update_of_element}
 use Rattle.ca_ets.specs.Update.{Operations, additions_of, operations_of, element_of}

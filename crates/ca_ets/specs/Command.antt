@@ -2,7 +2,7 @@
 use Rattle.std.specs.Prelude.{◌≡◌, ◌≤◌, ℕ, Bool, true, List, Result}
 use Rattle.ca_term.specs.Tree.{Tree}
 use Rattle.ca_term.specs.Object.{fits}
-use Rattle.ca_ets.specs.Specification.{IsSpecification}
+use Rattle.ca_match.specs.Specification.{IsSpecification}
 use Rattle.ca_ets.specs.declared.command.Cmd.{Cmd}
 use Rattle.ca_ets.specs.declared.command.Reply.{Reply}
 use Rattle.ca_ets.specs.declared.command.Reply.TheVariants as reply

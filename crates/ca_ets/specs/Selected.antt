@@ -1,7 +1,7 @@
 -- What an object gives.
 use Rattle.std.specs.Prelude.{◌≡◌, Bool, is_some}
 use Rattle.ca_term.specs.Tree.{Tree}
-use Rattle.ca_ets.specs.Match.{result_of}
+use Rattle.ca_match.specs.Match.{result_of}
 
 -- Whether a specification gives an object a result.
 abbrev pub HasFound : Tree → Tree → Bool → Type 0

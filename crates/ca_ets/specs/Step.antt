@@ -4,9 +4,9 @@ use Rattle.std.specs.Prelude.{ℕ, ℤ, pos, negsuc, Bool, true, false, nat_le, 
 use Rattle.ca_term.specs.Tree.{Tree, Integer, Atom, Tuple, Nil, Cons, Binary}
 use Rattle.ca_term.specs.Object.{is_object, key_of, fits}
 use Rattle.ca_term.specs.Updates.{ElementFault, BadArgument, OutOfRange, TooLarge, and_then, update_of_counters, update_of_element}
-use Rattle.ca_ets.specs.Match.{chosen, result_of}
+use Rattle.ca_match.specs.Match.{chosen, result_of}
 use Rattle.ca_ets.specs.OrderedMap.{put, get, del, above, below, between}
-use Rattle.ca_ets.specs.Specification.{first_fault}
+use Rattle.ca_match.specs.Specification.{first_fault}
 use Rattle.ca_ets.specs.Update.{Operations, One, Several, additions_of, operations_of, element_of}
 use Rattle.ca_ets.specs.Command.{Command, Response, Truth, Value, Items, Results, End, Error, Continuation, Never, At, AtEnd, response_of}
 use Rattle.ca_ets.specs.declared.command.Cmd.TheVariants.{Insert, InsertNew, Lookup, Member, Delete, Take, UpdateCounter, UpdateElement, First, Last, Next, Prev, Select, SelectRange, Batch, More}

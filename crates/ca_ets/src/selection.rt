@@ -5,14 +5,14 @@ ghost use Rattle.ca_term.specs.Object.{is_object, key_of};
 ghost use Rattle.ca_term.specs.Order.{term_cmp};
 ghost use Rattle.ca_term.specs.Tree.{Tree};
 ghost use Rattle.ca_ets.specs.Command.{IsContinuation, continuation_of};
-ghost use Rattle.ca_ets.specs.Match.{chosen};
+ghost use Rattle.ca_match.specs.Match.{chosen};
 ghost use Rattle.ca_ets.specs.OrderedMap.{IsTable, between};
 ghost use Rattle.ca_ets.specs.Selected.{HasFound};
-ghost use Rattle.ca_ets.specs.Specification.{IsSpecification};
+ghost use Rattle.ca_match.specs.Specification.{IsSpecification};
 ghost use Rattle.ca_ets.specs.Step.{keyed_results, last_found, limit_of, results_in, step_of_reply, step_of_results};
 
 use crate::command::{Cont, Reply};
-use crate::matcher::match_result;
+use ca_match::match_result;
 use crate::object::{copied, own_key};
 use ca_term::{Kind, Term, Terms, term_order};
 use std::alloc::{AllocError, Global};

@@ -6,7 +6,7 @@ ghost use Rattle.ca_term.specs.Tree.{Nil, Tree};
 ghost use Rattle.ca_ets.specs.Command.{Continuation, IsContinuation, continuation_of, response_of};
 ghost use Rattle.ca_ets.specs.OrderedMap.{IsTable, above};
 ghost use Rattle.ca_ets.specs.Place.{IsInRange, IsPlace, placed};
-ghost use Rattle.ca_ets.specs.Specification.{IsSpecification};
+ghost use Rattle.ca_match.specs.Specification.{IsSpecification};
 ghost use Rattle.ca_ets.specs.Unless.{IsUnless};
 ghost use Rattle.ca_ets.specs.Step.{fault_of_key, fault_of_object, step, step_of_delete, step_of_insert, step_of_insert_new, step_of_lookup, step_of_member, step_of_reply, step_of_take, step_of_update_counter, step_of_update_element, step_of_first, step_of_last, step_of_next, step_of_prev, step_of_select, step_of_select_range, step_of_batch, step_of_more, step_of_results, keyed_results, first_key, last_key, limit_of};
 ghost use Rattle.ca_ets.specs.Update.{element_of, operations_of};
@@ -15,7 +15,7 @@ use crate::change::{Stop, counters, with_element};
 use crate::command::{Cmd, Cont, Fault, Reply};
 use crate::object::{copied, fits, key, key_order, own_key};
 use crate::selection::{batch, limit_of, results, results_between};
-use crate::specification::is_specification;
+use ca_match::is_specification;
 use crate::update::{Operations, element, reply_of};
 use ca_term::{Term, Terms};
 use std::alloc::{AllocError, Global};
@@ -339,7 +339,7 @@ impl ListTable {
     }
 
     // `batch`
-    #[tactic(auto, using(crate::proofs::Specifications::no_fault))]
+    #[tactic(auto, using(ca_match::proofs::Specifications::no_fault))]
     fn batch(
         &self,
         alloc: Global,

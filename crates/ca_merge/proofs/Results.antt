@@ -6,7 +6,7 @@ use Rattle.std.proofs.lemmas.Bool.Decides.{nat_tests}
 use Rattle.std.proofs.lemmas.List.Elements.{filter_map-append}
 use Rattle.ca_term.specs.Tree.{Tree}
 use Rattle.ca_term.specs.Object.{key_of}
-use Rattle.ca_ets.specs.Match.{chosen, result_of}
+use Rattle.ca_match.specs.Match.{chosen, result_of}
 use Rattle.ca_ets.specs.Command.{At, AtEnd, Results, End}
 use Rattle.ca_ets.specs.Step.{keyed_results, results_in, last_found, step_of_results, with_map}
 

@@ -7,8 +7,8 @@ use Rattle.std.specs.Prelude.{if◌then◌else◌, option_and_then, is_none, not
 use Rattle.ca_term.specs.Tree.{Tree, Row, Integer, Atom, Tuple, Nil, Cons, Binary, Ends, More, elements, size}
 use Rattle.ca_term.specs.Order.{term_cmp}
 use Rattle.ca_term.proofs.TotalOrder.{tree_same}
-use Rattle.ca_ets.specs.Match.{Bindings, bind, bind_name, bind_row, where_equal}
-use Rattle.ca_ets.specs.Variable.{is_wildcard, variable_of}
+use Rattle.ca_match.specs.Match.{Bindings, bind, bind_name, bind_row, where_equal}
+use Rattle.ca_match.specs.Variable.{is_wildcard, variable_of}
 use Rattle.ca_plan.specs.Plan.{is_fixed, is_fixed_row}
 
 -- Where two tests hold, the first does.

@@ -6,7 +6,7 @@ use Rattle.std.specs.Option.{option_or}
 use Rattle.ca_term.specs.Tree.{Tree, Row, Tuple, Nil, Cons, Ends, More, elements, size}
 use Rattle.ca_term.specs.Object.{key_of}
 use Rattle.ca_term.specs.Order.{term_cmp}
-use Rattle.ca_ets.specs.Match.{Bindings, bind, bind_row, clause_result, fitted, guarded, no_bindings, result_of}
+use Rattle.ca_match.specs.Match.{Bindings, bind, bind_row, clause_result, fitted, guarded, no_bindings, result_of}
 use Rattle.ca_plan.specs.Plan.{all_fix, clause_key, fixes, head_key, is_fixed, is_key, shared_key}
 use Rattle.ca_plan.proofs.Fits.{both_first, both_second, element_fits, same_by}
 

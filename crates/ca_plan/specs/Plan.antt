@@ -5,8 +5,8 @@ use Rattle.std.specs.Ordering.{is_eq}
 use Rattle.ca_term.specs.Tree.{Tree, Row, Integer, Atom, Tuple, Nil, Cons, Binary, Ends, More}
 use Rattle.ca_term.specs.Object.{is_object, key_of}
 use Rattle.ca_term.specs.Order.{term_cmp}
-use Rattle.ca_ets.specs.Match.{result_of}
-use Rattle.ca_ets.specs.Variable.{is_wildcard, variable_of}
+use Rattle.ca_match.specs.Match.{result_of}
+use Rattle.ca_match.specs.Variable.{is_wildcard, variable_of}
 use Rattle.ca_plan.specs.declared.answer.Plan.{Plan}
 use Rattle.ca_plan.specs.declared.answer.Plan.TheVariants as plan
 

@@ -3,7 +3,7 @@ ghost use Rattle.std.specs.Prelude.{◌≡◌};
 ghost use Rattle.ca_term.specs.Tree.{row_of};
 ghost use Rattle.ca_plan.specs.Plan.{is_fixed, is_fixed_row};
 
-use ca_ets::variable_number;
+use ca_match::variable_number;
 use ca_term::{Kind, Term};
 
 // Whether a part of a head holds no variable and no '_'. It goes along the tail in a loop: a list may be longer than the stack is deep.

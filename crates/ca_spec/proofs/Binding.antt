@@ -4,10 +4,10 @@ use Rattle.std.proofs.lemmas.List.{drop_all}
 use Rattle.std.specs.Prelude.{codes, if◌then◌else◌, option_and_then, is_none, not, ◌&&◌}
 use Rattle.ca_term.specs.Tree.{Tree, Row, Integer, Atom, Tuple, Nil, Cons, Binary, is_cell, list_of, nodes, row_of}
 use Rattle.ca_term.proofs.Rows.{nodes_item}
-use Rattle.ca_ets.specs.Match.{Bindings, bind, bind_name, bind_row, bind_variable, bound, where_equal}
-use Rattle.ca_ets.specs.Operators.{is_tuple}
-use Rattle.ca_ets.specs.Spelling.{variable_name}
-use Rattle.ca_ets.specs.Variable.{is_wildcard, variable_of}
+use Rattle.ca_match.specs.Match.{Bindings, bind, bind_name, bind_row, bind_variable, bound, where_equal}
+use Rattle.ca_match.specs.Operators.{is_tuple}
+use Rattle.ca_match.specs.Spelling.{variable_name}
+use Rattle.ca_match.specs.Variable.{is_wildcard, variable_of}
 use Rattle.ca_spec.specs.Parts.{tail_le-list}
 use Rattle.ca_spec.specs.PatternView.{fits_equal}
 use Rattle.ca_spec.specs.Places.{places, row_places}

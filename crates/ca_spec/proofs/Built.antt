@@ -4,7 +4,7 @@ use Rattle.std.proofs.lemmas.Bool.Decides.{nat_tests}
 use Rattle.std.specs.Prelude.{if◌then◌else◌, option_and_then, option_map}
 use Rattle.ca_term.specs.declared.bounds.TheConstants.{MOST_DEPTH, MOST_ELEMENTS}
 use Rattle.ca_term.specs.Tree.{Tree, Tuple, Cons, depth, list_of, row_of}
-use Rattle.ca_ets.specs.Match.{all_values, cell_of, tuple_of, within}
+use Rattle.ca_match.specs.Match.{all_values, cell_of, tuple_of, within}
 
 abbrev where_shallow : Tree → Bool → Option Tree
 where_shallow t b = if b then Some t else None

@@ -2,8 +2,8 @@
 use Rattle.std.proofs.Common.{◌≡◌, ℕ, suc, ◌≤◌, ◌<◌, ◌+◌, ◌-◌, true, false, List, [], ◌∷◌, length, take, drop, get_or, ap, sym, ◌∙◌, arith}
 use Rattle.std.specs.Prelude.{bytes_eq, codes}
 use Rattle.ca_term.specs.Tree.{Tree, Atom, More, row_of, size}
-use Rattle.ca_ets.specs.Operators.{Operator, One, Two, Short, count_of}
-use Rattle.ca_ets.specs.Specification.{faults, form_fault, call_fault, is_call}
+use Rattle.ca_match.specs.Operators.{Operator, One, Two, Short, count_of}
+use Rattle.ca_match.specs.Specification.{faults, form_fault, call_fault, is_call}
 use Rattle.ca_spec.specs.ScopeView.{part_of, bad_in, form_fault_in, call_fault_in, faults_in, tuple_fault_in}
 use Rattle.ca_spec.specs.declared.scope.Scope.{Scope}
 use Rattle.std.proofs.lemmas.List.{take_all}

@@ -4,7 +4,7 @@ use Rattle.std.proofs.lemmas.List.{drop_all}
 use Rattle.std.specs.Prelude.{if◌then◌else◌, option_and_then}
 use Rattle.std.specs.Option.{option_or}
 use Rattle.ca_term.specs.Tree.{Tree, Tuple, Nil, Cons, Ends, More, list_of}
-use Rattle.ca_ets.specs.Match.{Bindings, Scene, bind, clause_result, guarded, no_bindings, pass, result_of, value}
+use Rattle.ca_match.specs.Match.{Bindings, Scene, bind, clause_result, guarded, no_bindings, pass, result_of, value}
 use Rattle.ca_spec.specs.ClauseView.{tree_of_clause, trees_of_clauses}
 use Rattle.ca_spec.specs.declared.clause.Clause.{Clause}
 

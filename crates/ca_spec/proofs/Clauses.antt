@@ -1,7 +1,7 @@
 -- Clauses and lists of clauses.
 use Rattle.std.proofs.Common.{◌≡◌, ◌≤◌, ◌<◌, List, [], ◌∷◌, ◌++◌, length, Some, refl, ap, arith}
 use Rattle.ca_term.specs.Tree.{Tree, Tuple, Cons, list_of, row_of}
-use Rattle.ca_ets.specs.Specification.{NotAClause, clause_fault}
+use Rattle.ca_match.specs.Specification.{NotAClause, clause_fault}
 use Rattle.ca_spec.specs.declared.clause.Clause.{Clause}
 use Rattle.ca_spec.specs.ClauseView.{tree_of_clause, trees_of_clauses}
 

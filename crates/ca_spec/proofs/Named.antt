@@ -1,10 +1,10 @@
 -- Operators by their names.
 use Rattle.std.proofs.Common.{◌≡◌, false, Some, refl}
 use Rattle.std.specs.Prelude.{bytes_eq, codes}
-use Rattle.ca_ets.specs.declared.operator.Operator.{Operator}
-use Rattle.ca_ets.specs.declared.operator.Operator.TheVariants as code
-use Rattle.ca_ets.specs.OperatorView.{meaning_of, name_of}
-use Rattle.ca_ets.specs.Operators.{operator_of}
+use Rattle.ca_match.specs.declared.operator.Operator.{Operator}
+use Rattle.ca_match.specs.declared.operator.Operator.TheVariants as code
+use Rattle.ca_match.specs.OperatorView.{meaning_of, name_of}
+use Rattle.ca_match.specs.Operators.{operator_of}
 
 -- No operator is called const.
 pub not_const : (operator : Operator) → bytes_eq (name_of operator) (codes "const") ≡ false

@@ -2,8 +2,8 @@
 use Rattle.std.proofs.Common.{◌≡◌, ℕ, ◌<◌, ◌≤◌, ◌+◌, ◌/◌, ◌%◌, Bool, true, false, List, [], ◌∷◌, Some, refl, ap, arith, nat_lt}
 use Rattle.std.proofs.lemmas.Bool.Decides.{nat_tests}
 use Rattle.std.specs.Prelude.{if◌then◌else◌}
-use Rattle.ca_ets.specs.Spelling.{variable_name}
-use Rattle.ca_ets.specs.Variable.{is_all_bound, is_digit_from, is_whole, is_wildcard, variable_of}
+use Rattle.ca_match.specs.Spelling.{variable_name}
+use Rattle.ca_match.specs.Variable.{is_all_bound, is_digit_from, is_whole, is_wildcard, variable_of}
 
 abbrev spelled : Bool → ℕ → List ℕ
 spelled b n = if b then 36 ∷ (48 + n) ∷ [] else 36 ∷ (48 + n / 10) ∷ (48 + n % 10) ∷ []

@@ -4,7 +4,7 @@ use Rattle.std.proofs.lemmas.List.{drop_all, length-set}
 use Rattle.std.specs.Prelude.{filter_map}
 use Rattle.ca_term.specs.Tree.{Nil, list_of}
 use Rattle.ca_term.specs.Tree.{Tree}
-use Rattle.ca_ets.specs.Match.{Bindings, all_bound, bind_variable, bound, where_equal}
+use Rattle.ca_match.specs.Match.{Bindings, all_bound, bind_variable, bound, where_equal}
 use Rattle.ca_spec.specs.Bound.{bound_at, table_of}
 
 abbrev Table : Type 0

@@ -3,12 +3,12 @@ use Rattle.std.proofs.Common.{◌≡◌, ◌≢◌, ℕ, ◌≤◌, ◌<◌, ◌
 use Rattle.std.proofs.lemmas.List.{drop_all}
 use Rattle.std.specs.Prelude.{codes, if◌then◌else◌, is_none, not, option_and_then, option_map, ◌&&◌, ◌||◌}
 use Rattle.ca_term.specs.Tree.{Tree, Row, Integer, Atom, Tuple, Nil, Cons, Binary, Ends, More, list_of, nodes, row_nodes, row_of}
-use Rattle.ca_ets.specs.Match.{Scene, all_bound, all_values, bound, is_truth, name_value, pass, tuple_of, value, values, within}
-use Rattle.ca_ets.specs.declared.operator.Operator.{Operator as Code}
-use Rattle.ca_ets.specs.OperatorView.{meaning_of, name_of, stop_of}
-use Rattle.ca_ets.specs.Operators.{Operator, One, Two, Short, applied, short, truth, truth_of}
-use Rattle.ca_ets.specs.Spelling.{variable_name}
-use Rattle.ca_ets.specs.Variable.{is_all_bound, is_whole, variable_of}
+use Rattle.ca_match.specs.Match.{Scene, all_bound, all_values, bound, is_truth, name_value, pass, tuple_of, value, values, within}
+use Rattle.ca_match.specs.declared.operator.Operator.{Operator as Code}
+use Rattle.ca_match.specs.OperatorView.{meaning_of, name_of, stop_of}
+use Rattle.ca_match.specs.Operators.{Operator, One, Two, Short, applied, short, truth, truth_of}
+use Rattle.ca_match.specs.Spelling.{variable_name}
+use Rattle.ca_match.specs.Variable.{is_all_bound, is_whole, variable_of}
 use Rattle.ca_term.proofs.Rows.{nodes_item}
 use Rattle.ca_spec.specs.Parts.{tail_le-list}
 use Rattle.ca_spec.specs.ExpressionView.{is_itself}

@@ -5,8 +5,8 @@ use Rattle.std.proofs.lemmas.List.{get_or-replicate, get_or-set_same, get_or-set
 use Rattle.std.proofs.Math.Bool.{or_assoc}
 use Rattle.std.specs.Prelude.{◌||◌, ◌==◌}
 use Rattle.ca_term.specs.Tree.{Tree, Row, Integer, Atom, Tuple, Nil, Cons, Binary, Ends, More}
-use Rattle.ca_ets.specs.Variable.{variable_of}
-use Rattle.ca_ets.specs.Specification.{holds, row_holds, is_variable}
+use Rattle.ca_match.specs.Variable.{variable_of}
+use Rattle.ca_match.specs.Specification.{holds, row_holds, is_variable}
 use Rattle.ca_spec.specs.Held.{Held, AreOf, none_met, with_variable, with_variables, with_row}
 use Rattle.ca_spec.specs.Places.{places, row_places, places_of_variable}
 

@@ -2,7 +2,7 @@
 use Rattle.std.specs.Prelude.{◌-◌, List, ◌++◌, length, map, replicate, Option, None, option_map}
 use Rattle.std.specs.Borrow.{Bor}
 use Rattle.ca_term.specs.Tree.{Tree}
-use Rattle.ca_ets.specs.Match.{Bindings, Scene}
+use Rattle.ca_match.specs.Match.{Bindings, Scene}
 
 -- the term that is bound at a place
 abbrev pub bound_at : Option (Bor Tree) → Option Tree

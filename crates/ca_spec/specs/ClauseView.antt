@@ -1,7 +1,7 @@
 -- The clause that a compiled one was made from.
 use Rattle.std.specs.Prelude.{List, map, Option}
 use Rattle.ca_term.specs.Tree.{Tree, Tuple, Nil, Cons, Ends, More, list_of}
-use Rattle.ca_ets.specs.Specification.{Reason, clause_fault}
+use Rattle.ca_match.specs.Specification.{Reason, clause_fault}
 use Rattle.ca_spec.specs.declared.clause.Clause.{Clause}
 
 -- {Head,Guards,Body}

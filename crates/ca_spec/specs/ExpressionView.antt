@@ -1,10 +1,10 @@
 -- The expression that a compiled one was made from.
 use Rattle.std.specs.Prelude.{◌≡◌, ◌<◌, Bool, true, false, not, ◌&&◌, ◌||◌, length, codes, is_none}
 use Rattle.ca_term.specs.Tree.{Tree, Integer, Atom, Tuple, Nil, Cons, Binary, Ends, More, row_of, list_of}
-use Rattle.ca_ets.specs.OperatorView.{meaning_of, name_of}
-use Rattle.ca_ets.specs.Operators.{count_of}
-use Rattle.ca_ets.specs.Spelling.{variable_name}
-use Rattle.ca_ets.specs.Variable.{is_all_bound, is_whole, variable_of}
+use Rattle.ca_match.specs.OperatorView.{meaning_of, name_of}
+use Rattle.ca_match.specs.Operators.{count_of}
+use Rattle.ca_match.specs.Spelling.{variable_name}
+use Rattle.ca_match.specs.Variable.{is_all_bound, is_whole, variable_of}
 use Rattle.ca_spec.specs.declared.expression.Form.{Form}
 use Rattle.ca_spec.specs.declared.expression.Form.TheVariants as form
 use Rattle.ca_spec.specs.declared.expression.Expression.TheInside.{Inside}

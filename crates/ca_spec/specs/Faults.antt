@@ -1,7 +1,7 @@
 -- The code's words for why a term is no match specification, and those of the definition.
 use Rattle.std.specs.Prelude.{◌≡◌, ℕ, ◌-◌, ◌^◌, min, Option, Some, option_map}
 use Rattle.ca_term.specs.Tree.{Tree}
-use Rattle.ca_ets.specs.Specification.{Reason, NotAList, NotAClause, BadHead, BadGuard, BadBody, Unbound, first_fault}
+use Rattle.ca_match.specs.Specification.{Reason, NotAList, NotAClause, BadHead, BadGuard, BadBody, Unbound, first_fault}
 use Rattle.ca_spec.specs.declared.fault.SpecWhy.{SpecWhy}
 use Rattle.ca_spec.specs.declared.fault.SpecWhy.TheVariants as why
 use Rattle.ca_spec.specs.declared.fault.SpecFault.{SpecFault}

@@ -1,8 +1,8 @@
 -- The variables of a head, collected from the left.
 use Rattle.std.specs.Prelude.{◌≡◌, ℕ, ◌+◌, ◌<◌, max, Bool, true, false, List, replicate, slice_index_or, slice_set, Option, Some, None}
 use Rattle.ca_term.specs.Tree.{Tree, Row, Integer, Atom, Tuple, Nil, Cons, Binary, Ends, More}
-use Rattle.ca_ets.specs.Variable.{variable_of}
-use Rattle.ca_ets.specs.Specification.{holds}
+use Rattle.ca_match.specs.Variable.{variable_of}
+use Rattle.ca_match.specs.Specification.{holds}
 use Rattle.ca_spec.specs.Places.{places}
 
 -- the variables by their numbers, and how many places a table needs that has them all

@@ -1,8 +1,8 @@
 -- The part of a head that a pattern was compiled from.
 use Rattle.std.specs.Prelude.{◌≡◌, ◌<◌, Bool, true, false, not, ◌&&◌, length, codes, is_none}
 use Rattle.ca_term.specs.Tree.{Tree, Integer, Atom, Tuple, Nil, Cons, Binary, row_of, list_of}
-use Rattle.ca_ets.specs.Spelling.{variable_name}
-use Rattle.ca_ets.specs.Variable.{is_wildcard, variable_of}
+use Rattle.ca_match.specs.Spelling.{variable_name}
+use Rattle.ca_match.specs.Variable.{is_wildcard, variable_of}
 use Rattle.ca_spec.specs.declared.pattern.Shape.{Shape}
 use Rattle.ca_spec.specs.declared.pattern.Shape.TheVariants as shape
 use Rattle.ca_spec.specs.declared.pattern.Pattern.TheInside.{Inside}

@@ -1,7 +1,7 @@
 -- How many places a table needs that has all variables of a part of a head at the places of their numbers.
 use Rattle.std.specs.Prelude.{ℕ, ◌+◌, max, Option, Some, None}
 use Rattle.ca_term.specs.Tree.{Tree, Row, Integer, Atom, Tuple, Nil, Cons, Binary, Ends, More}
-use Rattle.ca_ets.specs.Variable.{variable_of}
+use Rattle.ca_match.specs.Variable.{variable_of}
 
 abbrev pub places_of_variable : Option ℕ → ℕ
 places_of_variable None = 0

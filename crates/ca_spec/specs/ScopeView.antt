@@ -1,7 +1,7 @@
 -- The faults of expressions, by what the code knows of the clause where they stand.
 use Rattle.std.specs.Prelude.{Option}
 use Rattle.ca_term.specs.Tree.{Tree, Row, size}
-use Rattle.ca_ets.specs.Specification.{Reason, Part, Guard, Body, bad, call_fault, fault, faults, form_fault, tuple_fault}
+use Rattle.ca_match.specs.Specification.{Reason, Part, Guard, Body, bad, call_fault, fault, faults, form_fault, tuple_fault}
 use Rattle.ca_spec.specs.declared.scope.Scope.{Scope}
 use Rattle.ca_spec.specs.declared.scope.Part.{Part as Place}
 use Rattle.ca_spec.specs.declared.scope.Part.TheVariants as place

@@ -1,7 +1,7 @@
 -- The specification that a compiled one was made from.
 use Rattle.std.specs.Prelude.{◌≡◌}
 use Rattle.ca_term.specs.Tree.{Nil, list_of}
-use Rattle.ca_ets.specs.Specification.{IsSpecification}
+use Rattle.ca_match.specs.Specification.{IsSpecification}
 use Rattle.ca_spec.specs.declared.spec.Spec.TheInside.{Inside}
 use Rattle.ca_spec.specs.ClauseView.{trees_of_clauses}
 

@@ -1,7 +1,7 @@
 //! Compiled specifications against the plain matcher of their definition, on random specifications and objects.
 use crate::tests::{alone, constant};
 use crate::*;
-use ca_ets::match_result;
+use ca_match::match_result;
 use ca_term::{Term, Terms, atom, int, list, nil, term_order, tuple};
 use std::alloc::Global;
 use std::cmp::Ordering;

@@ -1,7 +1,7 @@
 //! Match specifications, compiled.
 ghost use Rattle.std.specs.Prelude.{◌≡◌, ◌+◌, true, None, IfErr, IfOk, OnOk};
 ghost use Rattle.ca_term.specs.Tree.{Cons, Nil, Tuple, list_of, row_of};
-ghost use Rattle.ca_ets.specs.Specification.{IsSpecification, body_fault, clause_fault, clauses_fault, each_fault, guards_fault, is_proper};
+ghost use Rattle.ca_match.specs.Specification.{IsSpecification, body_fault, clause_fault, clauses_fault, each_fault, guards_fault, is_proper};
 ghost use Rattle.ca_spec.specs.ClauseView.{parts_fault, tree_of_clause, tree_of_parts, trees_of_clauses};
 ghost use Rattle.ca_spec.specs.Faults.{IsNamed, IsRefusal, IsStop, in_clause};
 ghost use Rattle.ca_spec.specs.Held.{AreOf};
@@ -49,7 +49,7 @@ fn is_proper(term: &Term) -> bool
 }
 
 // The clauses of a proper list.
-#[tactic(auto, using(crate::proofs::Clauses::clauses_push), unfolding(ca_ets::specs::Specification::clauses_fault))]
+#[tactic(auto, using(crate::proofs::Clauses::clauses_push), unfolding(ca_match::specs::Specification::clauses_fault))]
 fn clauses(alloc: Global, list: &Term) -> Result<Vec<Clause>, SpecFault>
     requires { is_proper list.now ≡ true }
     ensures ok { IfOk result (λ clauses. list_of (trees_of_clauses clauses.items) Nil ≡ list.now) }
@@ -146,7 +146,7 @@ fn guards(
 }
 
 // The guards of a proper list.
-#[tactic(auto, using(ca_term::proofs::Lists::list_push), unfolding(ca_ets::specs::Specification::each_fault))]
+#[tactic(auto, using(ca_term::proofs::Lists::list_push), unfolding(ca_match::specs::Specification::each_fault))]
 fn each_guard(
     alloc: Global,
     head: &Term,

@@ -1,14 +1,14 @@
 //! Values of expressions.
 ghost use Rattle.std.specs.Prelude.{◌≡◌, [], ◌∷◌, ◌++◌, ◌<◌, IfOk, OnOk, None, Some, length, option_and_then, option_map};
 ghost use Rattle.ca_term.specs.Tree.{Nil, list_of, row_of};
-ghost use Rattle.ca_ets.specs.Match.{all_bound, all_values, bound, is_truth, pass, tuple_of, value, values, within};
-ghost use Rattle.ca_ets.specs.OperatorView.{meaning_of, stop_of};
-ghost use Rattle.ca_ets.specs.Operators.{Short, applied, truth, truth_of};
-ghost use Rattle.ca_ets.specs.ValueView.{tree_of_value};
+ghost use Rattle.ca_match.specs.Match.{all_bound, all_values, bound, is_truth, pass, tuple_of, value, values, within};
+ghost use Rattle.ca_match.specs.OperatorView.{meaning_of, stop_of};
+ghost use Rattle.ca_match.specs.Operators.{Short, applied, truth, truth_of};
+ghost use Rattle.ca_match.specs.ValueView.{tree_of_value};
 ghost use Rattle.ca_spec.specs.Bound.{scene_of, table_of};
 
 use crate::expression::{Expression, Form};
-use ca_ets::{Operator, Value};
+use ca_match::{Operator, Value};
 use ca_term::{Term, TermFault, Terms, list, nil, try_copy, tuple};
 use std::alloc::{AllocError, Global};
 

@@ -1,6 +1,6 @@
 //! Expressions of guards and bodies, compiled.
 
-use ca_ets::Operator;
+use ca_match::Operator;
 use ca_term::Term;
 use std::marker::Model;
 

@@ -1,9 +1,9 @@
 //! Expressions, compiled.
 ghost use Rattle.std.specs.Prelude.{◌≡◌, ◌<◌, true, None, is_ok, length, codes, OnOk, IfOk, IfErr};
 ghost use Rattle.ca_term.specs.Tree.{Atom, Cons, Tuple, Ends, More, row_of};
-ghost use Rattle.ca_ets.specs.OperatorView.{meaning_of, name_of};
-ghost use Rattle.ca_ets.specs.Operators.{count_of};
-ghost use Rattle.ca_ets.specs.Specification.{is_call};
+ghost use Rattle.ca_match.specs.OperatorView.{meaning_of, name_of};
+ghost use Rattle.ca_match.specs.Operators.{count_of};
+ghost use Rattle.ca_match.specs.Specification.{is_call};
 ghost use Rattle.ca_spec.specs.ExpressionView.{is_itself};
 ghost use Rattle.ca_spec.specs.Faults.{IsStop};
 ghost use Rattle.ca_spec.specs.ScopeView.{IsScope, bad_in, call_fault_in, fault_in, faults_in, form_fault_in, part_of, tuple_fault_in};
@@ -11,13 +11,13 @@ ghost use Rattle.ca_spec.specs.ScopeView.{IsScope, bad_in, call_fault_in, fault_
 use crate::expression::{Expression, Form};
 use crate::fault::{SpecWhy, Stop};
 use crate::scope::{Part, Scope};
-use ca_ets::{Operator, variable_number};
+use ca_match::{Operator, variable_number};
 use ca_term::{Kind, Term, try_copy};
 use std::alloc::Global;
 
 // An expression of a guard or a body.
 #[cycle(expression)]
-#[tactic(auto, unfolding(ca_ets::specs::Specification::fault))]
+#[tactic(auto, unfolding(ca_match::specs::Specification::fault))]
 pub(crate) fn expression(alloc: Global, scope: &Scope, term: &Term) -> Result<Expression, Stop>
     requires { IsScope scope.now }
     ensures ok { IfOk result (λ expression. expression ≡ term.now) }
@@ -33,7 +33,7 @@ pub(crate) fn expression(alloc: Global, scope: &Scope, term: &Term) -> Result<Ex
 }
 
 // An atom.
-#[tactic(auto, unfolding(ca_ets::specs::Specification::fault))]
+#[tactic(auto, unfolding(ca_match::specs::Specification::fault))]
 fn name(alloc: Global, scope: &Scope, term: &Term, text: &str) -> Result<Expression, Stop>
     requires scope { IsScope scope.now }
     requires atom { term.now ≡ Atom text.now }
@@ -71,7 +71,7 @@ fn itself(alloc: Global, term: &Term) -> Result<Expression, Stop>
 
 // A tuple: one that makes a tuple, a constant, or an operator with its arguments.
 #[cycle(expression)]
-#[tactic(auto, unfolding(ca_ets::specs::Specification::form_fault))]
+#[tactic(auto, unfolding(ca_match::specs::Specification::form_fault))]
 fn tuple(alloc: Global, scope: &Scope, items: &[Term]) -> Result<Expression, Stop>
     requires { IsScope scope.now }
     ensures ok { IfOk result (λ expression. expression ≡ Tuple (row_of items.now)) }
@@ -87,7 +87,7 @@ fn tuple(alloc: Global, scope: &Scope, items: &[Term]) -> Result<Expression, Sto
 
 // {{E1,..,En}} by its one element.
 #[cycle(expression)]
-#[tactic(auto, unfolding(ca_ets::specs::Specification::tuple_fault))]
+#[tactic(auto, unfolding(ca_match::specs::Specification::tuple_fault))]
 fn inner_tuple(alloc: Global, scope: &Scope, only: &Term) -> Result<Expression, Stop>
     requires { IsScope scope.now }
     ensures ok { IfOk result (λ expression. expression ≡ Tuple (More only.now Ends)) }
@@ -106,7 +106,7 @@ fn inner_tuple(alloc: Global, scope: &Scope, only: &Term) -> Result<Expression, 
 
 // Expressions, in order.
 #[cycle(expression)]
-#[tactic(auto, using(ca_term::proofs::Rows::nodes_item), unfolding(ca_ets::specs::Specification::faults))]
+#[tactic(auto, using(ca_term::proofs::Rows::nodes_item), unfolding(ca_match::specs::Specification::faults))]
 fn expressions(alloc: Global, scope: &Scope, items: &[Term]) -> Result<Vec<Expression>, Stop>
     requires { IsScope scope.now }
     ensures ok { IfOk result (λ expressions. expressions.items ≡ items.now) }
@@ -172,7 +172,7 @@ fn operator(scope: &Scope, text: &str, count: usize) -> Result<Operator, Stop>
 
 // {Op,E1,..,En} by the operator and its arguments.
 #[cycle(expression)]
-#[tactic(auto, using(crate::proofs::Calls::operand_faults), unfolding(ca_ets::specs::Specification::faults))]
+#[tactic(auto, using(crate::proofs::Calls::operand_faults), unfolding(ca_match::specs::Specification::faults))]
 fn operation(
     alloc: Global,
     scope: &Scope,
@@ -205,7 +205,7 @@ fn operation(
 
 // A list by its first head and what stands behind it. It goes along the tail in a loop: a list may be longer than the stack is deep.
 #[cycle(expression)]
-#[tactic(auto, using(ca_term::proofs::Lists::list_push), unfolding(ca_ets::specs::Specification::fault))]
+#[tactic(auto, using(ca_term::proofs::Lists::list_push), unfolding(ca_match::specs::Specification::fault))]
 fn cells(alloc: Global, scope: &Scope, first: &Term, behind: &Term) -> Result<Expression, Stop>
     requires { IsScope scope.now }
     ensures ok { IfOk result (λ expression. expression ≡ Cons first.now behind.now) }

@@ -1,7 +1,7 @@
 //! Heads, compiled.
 ghost use Rattle.std.specs.Prelude.{◌≡◌, true, OnOk, IfOk, IfErr};
 ghost use Rattle.ca_term.specs.Tree.{Atom, Cons, Tuple, row_of};
-ghost use Rattle.ca_ets.specs.Specification.{head_fault};
+ghost use Rattle.ca_match.specs.Specification.{head_fault};
 ghost use Rattle.ca_spec.specs.Faults.{IsStop};
 ghost use Rattle.ca_spec.specs.Held.{with_variables, with_row};
 ghost use Rattle.ca_spec.specs.PatternView.{fits_equal};
@@ -9,7 +9,7 @@ ghost use Rattle.ca_spec.specs.PatternView.{fits_equal};
 use crate::fault::{SpecWhy, Stop};
 use crate::held::Variables;
 use crate::pattern::{Pattern, Shape};
-use ca_ets::variable_number;
+use ca_match::variable_number;
 use ca_term::{Kind, Term, try_copy};
 use std::alloc::Global;
 

@@ -1,8 +1,8 @@
 //! Heads against objects.
 ghost use Rattle.std.specs.Prelude.{◌≡◌, ◌≤◌, ◌<◌, None, Some, MatchOption, false, length, if◌then◌else◌};
 ghost use Rattle.ca_term.specs.Tree.{Cons, Tuple, is_cell, list_of, row_of};
-ghost use Rattle.ca_ets.specs.Match.{bind, bind_row, bind_variable, bound};
-ghost use Rattle.ca_ets.specs.Operators.{is_tuple};
+ghost use Rattle.ca_match.specs.Match.{bind, bind_row, bind_variable, bound};
+ghost use Rattle.ca_match.specs.Operators.{is_tuple};
 ghost use Rattle.ca_spec.specs.Bound.{table_of};
 ghost use Rattle.ca_spec.specs.Places.{places, row_places};
 

@@ -1,8 +1,8 @@
 //! What a specification makes of an object.
 ghost use Rattle.std.specs.Prelude.{◌≡◌, ◌≤◌, IfOk, length, option_map};
 ghost use Rattle.ca_term.specs.Tree.{Nil, list_of};
-ghost use Rattle.ca_ets.specs.Match.{clause_result, no_bindings, result_of};
-ghost use Rattle.ca_ets.specs.ValueView.{tree_of_value};
+ghost use Rattle.ca_match.specs.Match.{clause_result, no_bindings, result_of};
+ghost use Rattle.ca_match.specs.ValueView.{tree_of_value};
 ghost use Rattle.ca_spec.specs.Bound.{table_of};
 ghost use Rattle.ca_spec.specs.ClauseView.{tree_of_clause, trees_of_clauses};
 ghost use Rattle.ca_spec.specs.Places.{places};

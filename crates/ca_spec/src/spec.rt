@@ -28,7 +28,7 @@ impl Model for Spec {
 
 impl Spec {
     ghost use Rattle.std.specs.Prelude.{◌≡◌};
-    ghost use Rattle.ca_ets.specs.Specification.{IsSpecification};
+    ghost use Rattle.ca_match.specs.Specification.{IsSpecification};
 
     /// The term that it was compiled from, which is a match specification.
     pub fn source(&self) -> &Term

@@ -8,7 +8,7 @@ use denote.Param.Members.{Shared}
 use Rattle.ca_term.specs.Tree.{Tree, IsTerm, AreTerms}
 use Rattle.ca_term.specs.Code.{code_of}
 use Rattle.ca_term.specs.Object.{key_of}
-use Rattle.ca_ets.specs.Match.{result_of}
+use Rattle.ca_match.specs.Match.{result_of}
 use Rattle.ca_ets.specs.Step.{keyed_results, results_in, last_found}
 use Rattle.ca_order.specs.Languages.{IsTermCode}
 use Rattle.ca_model.specs.StoreMap.{StoreMap, IsStoreMap}

@@ -13,9 +13,9 @@ use Rattle.ca_term.specs.Object.{fits, is_object, key_of}
 use Rattle.ca_term.specs.Order.{term_cmp}
 use Rattle.ca_ets.specs.Command.{Continuation, IsContinuation, Response, Items, Never, At, AtEnd, Results}
 use Rattle.ca_ets.specs.declared.command.Cmd.TheVariants.{Select, SelectRange, Batch, More}
-use Rattle.ca_ets.specs.Match.{chosen, result_of}
+use Rattle.ca_match.specs.Match.{chosen, result_of}
 use Rattle.ca_ets.specs.OrderedMap.{above, between, get, IsEntry, IsTable}
-use Rattle.ca_ets.specs.Specification.{IsSpecification}
+use Rattle.ca_match.specs.Specification.{IsSpecification}
 use Rattle.ca_ets.specs.Step.{fault_of_key, keyed_results, results_in, last_found, limit_of, step_of_results, with_map}
 use Rattle.ca_model.specs.StoreMap.{StoreMap}
 use Rattle.ca_model.specs.Edges.{Bound, Unbounded, Included, Excluded, within}

@@ -4,7 +4,7 @@ use Rattle.ca_term.specs.Tree.{Tree, IsTerm, AreTerms}
 use Rattle.ca_term.specs.Code.{code_of}
 use Rattle.ca_term.specs.Object.{key_of}
 use Rattle.ca_ets.specs.Command.{Response, Results, End, Continuation, Never, At, AtEnd}
-use Rattle.ca_ets.specs.Match.{result_of}
+use Rattle.ca_match.specs.Match.{result_of}
 use Rattle.ca_ets.specs.OrderedMap.{IsEntry}
 use Rattle.ca_ets.specs.Step.{keyed_results, results_in, last_found, step_of_results}
 use Rattle.ca_model.specs.StoreMap.{StoreMap}

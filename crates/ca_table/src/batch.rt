@@ -3,7 +3,7 @@ ghost use Rattle.std.specs.Prelude.{◌≡◌, ◌≤◌, IfErr, IfOk, IfSome, i
 ghost use Rattle.ca_term.specs.Object.{is_object, key_of};
 ghost use Rattle.ca_ets.specs.Command.{IsContinuation, continuation_of, response_of};
 ghost use Rattle.ca_ets.specs.declared.command.Cmd.TheVariants.{Batch, More};
-ghost use Rattle.ca_ets.specs.Specification.{IsSpecification};
+ghost use Rattle.ca_match.specs.Specification.{IsSpecification};
 ghost use Rattle.ca_ets.specs.Step.{limit_of};
 ghost use Rattle.ca_model.specs.Edges.{IsProperBound, bound_of};
 ghost use Rattle.ca_table.specs.Collected.{IsBatch, IsNextOf, IsPlaceOf, IsStopped, reply_of_batch};

@@ -1,5 +1,5 @@
 use Rattle.std.proofs.Common.{◌≡◌, take}
-use Rattle.ca_ets.specs.Match.{chosen}
+use Rattle.ca_match.specs.Match.{chosen}
 use Rattle.ca_ets.proofs.selection.results.Given as goal
 
 abbrev pub invariant-loop-object : goal.invariant-loop-object

@@ -1,6 +1,6 @@
 use Rattle.std.proofs.Common.{◌≡◌, ◌+◌, length, true}
 use Rattle.ca_term.specs.Tree.{list_of, nodes}
-use Rattle.ca_ets.specs.Specification.{clauses_fault, is_proper}
+use Rattle.ca_match.specs.Specification.{clauses_fault, is_proper}
 use Rattle.ca_spec.specs.ClauseView.{trees_of_clauses}
 use Rattle.ca_spec.proofs.compiler.clauses.Given as goal
 

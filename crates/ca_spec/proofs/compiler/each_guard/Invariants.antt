@@ -1,6 +1,6 @@
 use Rattle.std.proofs.Common.{◌≡◌, true}
 use Rattle.ca_term.specs.Tree.{list_of, nodes}
-use Rattle.ca_ets.specs.Specification.{each_fault, is_proper}
+use Rattle.ca_match.specs.Specification.{each_fault, is_proper}
 use Rattle.ca_spec.proofs.compiler.each_guard.Given as goal
 
 abbrev pub invariant-loop-guard : goal.invariant-loop-guard

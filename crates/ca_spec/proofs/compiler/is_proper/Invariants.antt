@@ -1,6 +1,6 @@
 use Rattle.std.proofs.Common.{◌≡◌}
 use Rattle.ca_term.specs.Tree.{nodes}
-use Rattle.ca_ets.specs.Specification.{is_proper}
+use Rattle.ca_match.specs.Specification.{is_proper}
 use Rattle.ca_spec.proofs.compiler.is_proper.Given as goal
 
 abbrev pub invariant-loop-tail : goal.invariant-loop-tail

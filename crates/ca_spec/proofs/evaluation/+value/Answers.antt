@@ -2,9 +2,9 @@
 use Rattle.std.proofs.Common.{◌≡◌, [], ◌∷◌, Option, ap, sym, ◌∙◌, subst}
 use Rattle.std.specs.Prelude.{IfOk, option_map}
 use Rattle.ca_term.specs.Tree.{Tree}
-use Rattle.ca_ets.specs.Match.{value}
-use Rattle.ca_ets.specs.Operators.{Short, applied}
-use Rattle.ca_ets.specs.ValueView.{tree_of_value}
+use Rattle.ca_match.specs.Match.{value}
+use Rattle.ca_match.specs.Operators.{Short, applied}
+use Rattle.ca_match.specs.ValueView.{tree_of_value}
 use Rattle.ca_spec.specs.Bound.{scene_of}
 use Rattle.ca_spec.specs.ExpressionView.{IsForm, tree_of_form}
 use Rattle.ca_spec.proofs.Values.{constant_value, short_is_value, variable_none, variable_some}

@@ -1,7 +1,7 @@
 -- The parts so far have these values.
 use Rattle.std.proofs.Common.{◌≡◌, ◌+◌, ◌-◌, ◌*◌}
 use Rattle.ca_term.specs.Tree.{list_of, nodes, row_nodes, row_of}
-use Rattle.ca_ets.specs.Match.{all_values, values}
+use Rattle.ca_match.specs.Match.{all_values, values}
 use Rattle.ca_spec.specs.Bound.{scene_of}
 use Rattle.ca_spec.proofs.Values.{behind, values_from}
 use Rattle.ca_spec.proofs.evaluation.+value.Given as goal

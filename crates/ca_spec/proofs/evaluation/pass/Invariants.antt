@@ -1,7 +1,7 @@
 -- The guards so far hold.
 use Rattle.std.proofs.Common.{◌≡◌}
 use Rattle.ca_term.specs.Tree.{Nil, list_of}
-use Rattle.ca_ets.specs.Match.{pass}
+use Rattle.ca_match.specs.Match.{pass}
 use Rattle.ca_spec.specs.Bound.{scene_of}
 use Rattle.ca_spec.proofs.Values.{pass_from}
 use Rattle.ca_spec.proofs.evaluation.pass.Given as goal

@@ -1,7 +1,7 @@
 -- List cells.
 use Rattle.std.proofs.Common.{◌<◌, ◌≤◌, length, ap, sym, ◌∙◌, arith}
 use Rattle.ca_term.specs.Tree.{Tree, list_of, nodes}
-use Rattle.ca_ets.specs.Match.{bind}
+use Rattle.ca_match.specs.Match.{bind}
 use Rattle.ca_spec.specs.Bound.{table_of}
 use Rattle.ca_spec.specs.Parts.{tail_le-list}
 use Rattle.ca_spec.specs.Places.{places}

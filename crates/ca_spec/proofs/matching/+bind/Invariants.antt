@@ -1,7 +1,7 @@
 -- What is left to fit, from the bindings so far.
 use Rattle.std.proofs.Common.{◌≡◌, ◌+◌, ◌*◌}
 use Rattle.ca_term.specs.Tree.{list_of, nodes, row_nodes, row_of}
-use Rattle.ca_ets.specs.Match.{bind, bind_row}
+use Rattle.ca_match.specs.Match.{bind, bind_row}
 use Rattle.ca_spec.specs.Bound.{table_of}
 use Rattle.ca_spec.proofs.Binding.{cells_from, rows_from}
 use Rattle.ca_spec.proofs.matching.+bind.Given as goal

@@ -2,8 +2,8 @@
 use Rattle.std.proofs.Common.{Some, ap, sym, ◌∙◌}
 use Rattle.std.specs.Prelude.{option_map}
 use Rattle.ca_term.specs.Tree.{Tree}
-use Rattle.ca_ets.specs.Match.{clause_result}
-use Rattle.ca_ets.specs.ValueView.{tree_of_value}
+use Rattle.ca_match.specs.Match.{clause_result}
+use Rattle.ca_match.specs.ValueView.{tree_of_value}
 use Rattle.ca_spec.specs.ClauseView.{tree_of_clause}
 use Rattle.ca_spec.specs.declared.clause.Clause.{Clause}
 use Rattle.ca_spec.proofs.ClauseResults.{clause_holds}

@@ -1,7 +1,7 @@
 -- The clauses so far don't hold.
 use Rattle.std.proofs.Common.{◌≡◌}
 use Rattle.ca_term.specs.Tree.{Nil, list_of}
-use Rattle.ca_ets.specs.Match.{result_of}
+use Rattle.ca_match.specs.Match.{result_of}
 use Rattle.ca_spec.specs.ClauseView.{trees_of_clauses}
 use Rattle.ca_spec.proofs.ClauseResults.{result_from}
 use Rattle.ca_spec.proofs.results.first_result.Given as goal

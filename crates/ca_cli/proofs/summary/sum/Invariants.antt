@@ -1,0 +1,8 @@
+use Rattle.std.proofs.Common.{◌≡◌, ◌*◌, take, pos, neg_ℤ, ◌≤ℤ◌}
+use Rattle.ca_cli.specs.Summary.{sum_of}
+use Rattle.ca_cli.proofs.summary.sum.Given as goal
+
+-- the sum so far, and how far from 0 it may be
+abbrev pub invariant-loop-object : goal.invariant-loop-object
+invariant-loop-object l = (l.sum ≡ sum_of (take l.object-index l.table))
+    × (neg_ℤ (pos (9223372036854775808 * l.object-index)) ≤ℤ l.sum) × (l.sum ≤ℤ pos (9223372036854775808 * l.object-index))

@@ -1,6 +1,0 @@
-use Rattle.std.proofs.Common.{◌≡◌, ◌++◌}
-use Rattle.ca_ets.proofs.Matching.{bound_from}
-use Rattle.ca_ets.proofs.matcher.all_bound.Given as goal
-
-abbrev pub invariant-loop-place : goal.invariant-loop-place
-invariant-loop-place l = bound_from l.table 0 ≡ l.terms.items ++ bound_from l.table l.place-index

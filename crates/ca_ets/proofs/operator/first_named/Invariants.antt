@@ -1,7 +1,0 @@
--- The operators up to here have other names.
-use Rattle.std.proofs.Common.{◌≡◌, drop}
-use Rattle.ca_ets.specs.OperatorView.{named_in}
-use Rattle.ca_ets.proofs.operator.first_named.Given as goal
-
-abbrev pub invariant-loop-operator : goal.invariant-loop-operator
-invariant-loop-operator l = named_in l.operators l.name ≡ named_in (drop l.operator-index l.operators) l.name

@@ -1,0 +1,5 @@
+pub mod Matching
+pub mod OperatorRows
+pub mod Pieces
+pub mod Specifications
+pub mod Words

@@ -1,0 +1,9 @@
+pub mod Match
+pub mod MatcherView
+pub mod OperatorView
+pub mod Operators
+pub mod Specification
+pub mod SpecificationView
+pub mod Spelling
+pub mod ValueView
+pub mod Variable

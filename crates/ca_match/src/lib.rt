@@ -1,0 +1,16 @@
+//! Match specifications of Erlang's `ets`: which terms are ones, the operators of their guards, and what one makes of an object.
+#![tactic(auto)]
+
+mod matcher;
+mod number;
+mod operator;
+mod part;
+mod specification;
+mod value;
+mod variable;
+
+pub use matcher::match_result;
+pub use operator::Operator;
+pub use specification::is_specification;
+pub use value::{Value, value_order};
+pub use variable::variable_number;
