@@ -1,6 +1,6 @@
 #!/bin/sh
 # Compares with a real Erlang: the order of random terms, by the terms and by the bytes of their codes; what is read of term texts; what random
-# match specifications choose; and the replies to random command files.
+# match specifications choose; the replies to random command files; and the summaries of lines that are made from a seed.
 # KIT is the kit's folder. Where there is no Erlang or no rustc it says so and passes.
 set -eu
 cd "$(dirname "$0")/../.."
@@ -27,3 +27,10 @@ escript tests/otp/specs.escript compare "$OUT/chosen.txt"
 mkdir "$OUT/calls"
 escript tests/otp/calls.escript "${CALLS:-300}" "${SEED:-1}" "$OUT/calls"
 (cd crates/ca_cli && rt try --cases "$OUT/calls" -- run {})
+for numbers in "1 1 4" "7 4 2000" "2147483647 64 500"; do
+    # shellcheck disable=SC2086
+    set -- $numbers
+    escript tests/otp/generated.escript "$@" >"$OUT/summary.txt"
+    ./ca run --seed "$1" --clients "$2" --lines "$3" | cmp - "$OUT/summary.txt"
+    echo "lines from the seed $1: as a real ets"
+done
