@@ -12,8 +12,8 @@ ghost use Rattle.ca_match.specs.Specification.{IsSpecification};
 ghost use Rattle.ca_ets.specs.Step.{keyed_results, last_found, limit_of, results_in, step_of_reply, step_of_results};
 
 use crate::command::{Cont, Reply};
-use ca_match::match_result;
 use crate::object::{copied, own_key};
+use ca_match::match_result;
 use ca_term::{Kind, Term, Terms, term_order};
 use std::alloc::{AllocError, Global};
 
