@@ -43,19 +43,20 @@ fn output<F: Shelf>(alloc: Global, words: &[String], shelf: &mut F) -> Result<Ve
     ensures told { ¬ IsErrOf result Status.NoMemory → IsSome (F.fetches shelf.old) → IsSome (F.fetches shelf.new) }
     ensures later { F.faults shelf.old ≤ F.faults shelf.new }
 {
-    let made = match request_of(words) {
+    let Ok(request) = request_of(alloc, words) else {
+        return Err(Status::NoMemory);
+    };
+    let made = match request {
         None => return Err(Status::Usage),
         Some(Request::Files { keypos, names }) => {
             let files = read_all(alloc, shelf, names)?;
             answer(alloc, keypos, files.as_slice())
         }
-        Some(
-            Request::Generated {
-                seed,
-                clients,
-                lines,
-            },
-        ) => summary(alloc, seed, clients, lines),
+        Some(Request::Generated {
+            seed,
+            clients,
+            lines,
+        }) => summary(alloc, seed, clients, lines),
     };
     match made {
         Ok(bytes) => Ok(bytes),
