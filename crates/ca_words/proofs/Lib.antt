@@ -1,4 +1,2 @@
 pub mod Choices
 pub mod Numbers
-pub mod Sound
-pub mod Spelled
