@@ -1,2 +1,4 @@
 pub mod Choices
 pub mod Numbers
+pub mod Parsing
+pub mod Rows
