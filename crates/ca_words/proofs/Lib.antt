@@ -2,3 +2,5 @@ pub mod Choices
 pub mod Numbers
 pub mod Parsing
 pub mod Rows
+pub mod Steps
+pub mod Taken

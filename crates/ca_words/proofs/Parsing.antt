@@ -115,6 +115,11 @@ matches_are words = all_kept all_names (rows_at_end (clean []) words)
 
 -- ---- one step
 
+-- at the end what is pending is used
+pub at_end_alone : (w : Walk) → faults w [] ≡ settle_fault rules false w.held
+unfolding walk_fault
+at_end_alone w = refl
+
 pub step : (w after : Walk) (word : Text) (words : List Text) → turn_fault shape [] w word ≡ [] → walked rules [] w word ≡ after
     → (faults w (word ∷ words) ≡ faults after words) × (rows_at_end w (word ∷ words) ≡ rows_at_end after words)
 unfolding walk_fault
