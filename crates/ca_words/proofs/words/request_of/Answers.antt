@@ -1,4 +1,4 @@
-use Rattle.ca_words.proofs.Taken.{are_written}
+use Rattle.ca_words.proofs.Sound.{line_told}
 use Rattle.ca_words.proofs.words.request_of.Goals as goal
 
 pub returns-clause-sound : goal.returns-clause-sound
