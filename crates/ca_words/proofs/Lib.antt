@@ -1,4 +1,8 @@
 pub mod Choices
+pub mod Given
 pub mod Numbers
+pub mod Parsing
+pub mod Rows
 pub mod Sound
-pub mod Spelled
+pub mod Steps
+pub mod Taken

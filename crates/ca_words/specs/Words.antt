@@ -1,82 +1,101 @@
--- How the reader takes the words of a command line, one after another. What a command line is stands in `Grammar`.
-use Rattle.std.specs.Prelude.{ℕ, suc, ◌==◌, ◌&&◌, ◌||◌, Bool, not, nat_le, nat_lt, List, [], ◌∷◌, length, map, take, drop, Option, None, Some, option_map, unwrap_or, is_some, codes, if◌then◌else◌}
-use Rattle.std.specs.List.{list_all}
+-- How the reader takes the words of a command line. What a command line is stands in `Grammar`.
+use Rattle.std.specs.Prelude.{ℕ, suc, ◌==◌, ◌&&◌, ◌||◌, Bool, true, false, not, nat_le, nat_lt, List, [], ◌∷◌, length, map, take, drop, Option, None, Some, option_map, option_and_then, unwrap_or, is_some, codes, if◌then◌else◌, String}
+use Rattle.std.specs.List.{list_all, list_any}
+use Rattle.std.specs.Borrow.{Bor}
 use Rattle.std.specs.Str.{bytes_eq}
 use Rattle.std.specs.String.{string_bytes}
+use Rattle.clap.specs.Words.{App, Rule, fault_of, first_of, matches_of, new_app, new_rule, with_rule}
+use Rattle.ca_words.specs.declared.options.Options.{Options}
 use Rattle.ca_words.specs.declared.words.Name.{Name}
 use Rattle.ca_words.specs.declared.words.Name.TheVariants.{Keypos, Seed, Clients, Lines}
-use Rattle.ca_words.specs.declared.words.Options.{Options}
-use Rattle.ca_words.specs.declared.words.Turn.{Turn}
-use Rattle.ca_words.specs.declared.words.Turn.TheVariants.{Parting, File, Refused, More}
 use Rattle.ca_words.specs.declared.words.Request.{Request as Asked}
 use Rattle.ca_words.specs.declared.words.Request.TheVariants as asked
-use Rattle.ca_words.specs.Grammar.{Request, Files, Generated, Values, are_undashed, begins_with_dash, is_digit, least_of, most_of, number_after, spelling_of}
+use Rattle.ca_words.specs.Grammar.{Request, Files, Generated, are_undashed, begins_with_dash, is_digit, least_of, most_of, number_after}
+
+-- the texts of words behind a reference
+abbrev pub texts_of : {Z : Type 0} → Bor (List (String Z)) → List (List ℕ)
+texts_of words = map string_bytes words.now
 
 -- the reader's result as a request of the grammar
 abbrev pub request_in : Asked → Request
-request_in (asked.Files keypos names) = Files keypos (map string_bytes names.now)
+request_in (asked.Files keypos names) = Files keypos (texts_of names)
 request_in (asked.Generated seed clients lines) = Generated seed clients lines
 
--- the option of this spelling
-abbrev pub name_of : List ℕ → Option Name
-name_of text =
-    if bytes_eq text (spelling_of Keypos) then Some Keypos
-    else (if bytes_eq text (spelling_of Seed) then Some Seed
-    else (if bytes_eq text (spelling_of Clients) then Some Clients
-    else (if bytes_eq text (spelling_of Lines) then Some Lines else None)))
+-- ---- the words before the files
+
+-- two dashes and more
+abbrev pub is_option : List ℕ → Bool
+is_option (a ∷ b ∷ c ∷ bytes) = a == 45 && b == 45
+is_option _ = false
+
+abbrev pub has_equals : List ℕ → Bool
+has_equals word = list_any (λ b. b == 61) word
+
+-- a word of the options, where `waits` says that the word before it is an option without its value
+abbrev pub is_part : Bool → List ℕ → Bool
+is_part waits word = is_option word || (waits && not (begins_with_dash word))
+
+-- the value of the option in this word is the next word
+abbrev pub waits_behind : List ℕ → Bool
+waits_behind word = is_option word && not (has_equals word)
+
+-- how many words are words of the options
+unfoldable pub options_end : Bool → List (List ℕ) → ℕ
+options_end waits [] = 0
+options_end waits (word ∷ words) = if is_part waits word then suc (options_end (waits_behind word) words) else 0
+
+-- Behind `--` all words are files. Without it no file begins with a dash, so no option follows a file.
+abbrev pub names_in : List (List ℕ) → Option (List (List ℕ))
+names_in [] = Some []
+names_in (word ∷ words) =
+    if bytes_eq word (codes "--") then Some words else (if are_undashed (word ∷ words) then Some (word ∷ words) else None)
+
+-- ---- the options, which `clap` takes apart
+
+abbrev pub bare : Name → List ℕ
+bare Keypos = codes "keypos"
+bare Seed = codes "seed"
+bare Clients = codes "clients"
+bare Lines = codes "lines"
+
+-- the option `--name` with one value
+abbrev pub rule : Name → Rule
+rule name = record (new_rule (bare name)) { long = Some (bare name) }
+
+-- a command without a name in its words, without help and version
+abbrev pub empty_command : App
+empty_command = let a = new_app (codes "run") in
+    record a { top = record a.top { no_binary_name = true; disable_help_flag = true; disable_version_flag = true } }
+
+-- the command of the four options alone
+abbrev pub command : App
+command = with_rule (with_rule (with_rule (with_rule empty_command (rule Keypos)) (rule Seed)) (rule Clients)) (rule Lines)
 
 -- 1 to 10 decimal digits, of which the first ones may be 0
 abbrev pub is_value : List ℕ → Bool
 is_value text = nat_le 1 (length text) && nat_le (length text) 10 && list_all is_digit text
 
--- the value that a word writes for an option: within its bounds
+-- the value that a text writes for an option: within its bounds
 abbrev pub value_in : Name → List ℕ → Option ℕ
 value_in name text =
     if is_value text && nat_le (least_of name) (number_after 0 text) && nat_le (number_after 0 text) (most_of name) then Some (number_after 0 text) else None
 
--- the value of an option, where it was given
-abbrev pub value_of : Options → Name → Option ℕ
-value_of given Keypos = given.keypos
-value_of given Seed = given.seed
-value_of given Clients = given.clients
-value_of given Lines = given.lines
+-- the value of an option that was given, or not; `None` where its text is no value
+abbrev pub value_told : Name → Option (List ℕ) → Option (Option ℕ)
+value_told name None = Some None
+value_told name (Some text) = option_map (λ value. Some value) (value_in name text)
 
--- the options with this value; no value is waited for
-abbrev pub with_value : Options → Name → ℕ → Options
-with_value given Keypos value = record given { keypos = Some value; waiting = None }
-with_value given Seed value = record given { seed = Some value; waiting = None }
-with_value given Clients value = record given { clients = Some value; waiting = None }
-with_value given Lines value = record given { lines = Some value; waiting = None }
+-- the values of the options, whose texts these are
+abbrev pub given_in : (Name → Option (List ℕ)) → Option Options
+given_in texts = option_and_then (λ keypos. option_and_then (λ seed. option_and_then (λ clients. option_and_then (λ lines.
+    Some (record { keypos = keypos; seed = seed; clients = clients; lines = lines }))
+    (value_told Lines (texts Lines))) (value_told Clients (texts Clients))) (value_told Seed (texts Seed))) (value_told Keypos (texts Keypos))
 
--- options that give these values, and wait for no more
-abbrev pub options_of : Values → Options
-options_of given = record { keypos = given.keypos; seed = given.seed; clients = given.clients; lines = given.lines; waiting = None }
+-- the values that words give the options, where `clap` takes the words and each text is a value
+abbrev pub options_in : List (List ℕ) → Option Options
+options_in words = if length (fault_of command words) == 0 then given_in (λ name. first_of (bare name) (matches_of command words)) else None
 
-abbrev pub no_options : Options
-no_options = record { keypos = None; seed = None; clients = None; lines = None; waiting = None }
-
--- the options with one more, which was not given before, of the value that this word writes
-abbrev pub add : Options → Name → List ℕ → Option Options
-add given name text = if is_some (value_of given name) then None else option_map (λ value. with_value given name value) (value_in name text)
-
--- how many bytes stand before the first `=`
-unfoldable pub name_length : List ℕ → ℕ
-name_length [] = 0
-name_length (b ∷ bytes) = if b == 61 then 0 else suc (name_length bytes)
-
--- an option of this name: the next word is its value, or what stands behind `=`
-abbrev pub start : Options → Name → List ℕ → Option Options
-start given name [] = Some (record given { waiting = Some name })
-start given name (equals ∷ text) = add given name text
-
-abbrev pub start_of : Options → Option Name → List ℕ → Option Options
-start_of given None text = None
-start_of given (Some name) text = start given name text
-
--- the options after one more word of theirs
-abbrev pub with_word : Options → Option Name → List ℕ → Option Options
-with_word given None word = start_of given (name_of (take (name_length word) word)) (drop (name_length word) word)
-with_word given (Some name) word = add given name word
+-- ---- the request
 
 -- all of the three, and the first element is the key
 abbrev pub generated_with : Option ℕ → Option ℕ → Option ℕ → Option Request
@@ -90,28 +109,14 @@ request_with given (name ∷ names) =
     if is_some given.seed || is_some given.clients || is_some given.lines || nat_lt 64 (length (name ∷ names)) then None
     else Some (Files (unwrap_or given.keypos 1) (name ∷ names))
 
--- what a word is behind these options: `--`, which parts files from options; a file; more of the options; or none of these
-abbrev pub option_turn : Option Options → Turn
-option_turn None = Refused
-option_turn (Some more) = More more
+-- what is asked for by words of options and by the words behind them
+abbrev pub request_between : List (List ℕ) → List (List ℕ) → Option Request
+request_between options rest = option_and_then (λ names. option_and_then (λ given. request_with given names) (options_in options)) (names_in rest)
 
-abbrev pub turn_of : Options → List ℕ → Turn
-turn_of given word =
-    if not (is_some given.waiting) && bytes_eq word (codes "--") then Parting
-    else (if not (is_some given.waiting) && not (begins_with_dash word) then File else option_turn (with_word given given.waiting word))
-
--- Behind `--` all words are files. Without it no file begins with a dash, so no option follows a file.
-abbrev pub request_after : Turn → Options → List ℕ → List (List ℕ) → (Options → Option Request) → Option Request
-request_after Parting given word words behind = request_with given words
-request_after File given word words behind = if are_undashed words then request_with given (word ∷ words) else None
-request_after Refused given word words behind = None
-request_after (More more) given word words behind = behind more
-
--- what is asked for by words behind the word `run` and these options
-unfoldable pub request_behind : Options → List (List ℕ) → Option Request
-request_behind given [] = if is_some given.waiting then None else request_with given []
-request_behind given (word ∷ words) = request_after (turn_of given word) given word words (λ more. request_behind more words)
+-- what is asked for by words behind the word `run`
+abbrev pub request_behind : List (List ℕ) → Option Request
+request_behind words = request_between (take (options_end false words) words) (drop (options_end false words) words)
 
 abbrev pub request_of : List (List ℕ) → Option Request
 request_of [] = None
-request_of (run ∷ words) = if bytes_eq run (codes "run") then request_behind no_options words else None
+request_of (run ∷ words) = if bytes_eq run (codes "run") then request_behind words else None

@@ -13,7 +13,7 @@ fn words_of(alloc: Global, line: &str) -> Result<Vec<String>, AllocError> {
 
 // What words ask for, as text.
 fn told(alloc: Global, words: &[String]) -> Result<String, AllocError> {
-    match request_of(words) {
+    match request_of(alloc, words)? {
         None => "usage".to_string(alloc),
         Some(
             Request::Generated {
@@ -100,8 +100,8 @@ fn takes_64_files(rt: HostRuntime) -> Result<(), Fail> {
     for _ in 1..64 {
         words.push("a".to_string(alloc)?)?;
     }
-    assert_eq!(rt; request_of(words.as_slice()).is_some(), true);
+    assert_eq!(rt; request_of(alloc, words.as_slice())?.is_some(), true);
     words.push("a".to_string(alloc)?)?;
-    assert_eq!(rt; request_of(words.as_slice()).is_some(), false);
+    assert_eq!(rt; request_of(alloc, words.as_slice())?.is_some(), false);
     Ok(())
 }
