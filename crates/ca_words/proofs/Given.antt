@@ -1,15 +1,14 @@
 -- What the rows of `clap` give the options.
-use Rattle.std.proofs.Common.{◌≡◌, ◌⊎◌, ℕ, ◌≤◌, Bool, true, false, List, [], ◌∷◌, ◌++◌, length, Option, Some, None, refl, sym, arith, ap, ◌∙◌, subst, inl, inr}
+use Rattle.std.proofs.Common.{◌≡◌, ◌⊎◌, ℕ, Bool, true, false, List, [], ◌∷◌, ◌++◌, Option, Some, None, refl, sym, arith, ap, ◌∙◌, subst, inl, inr}
 use Rattle.std.proofs.lemmas.Bool.Decides.{nat_tests}
 use Rattle.std.proofs.lemmas.Grind.{common_steps}
-use Rattle.std.specs.Prelude.{◌==◌, ◌&&◌, ◌||◌, nat_le, is_some, option_map, option_and_then}
-use Rattle.std.specs.List.{list_all}
+use Rattle.std.specs.Prelude.{◌&&◌, ◌||◌, nat_le, is_some, option_map, option_and_then}
 use Rattle.std.specs.Str.{bytes_eq}
 use Rattle.clap.specs.Walk.{Row, Text, first_of, has_row}
 use Rattle.ca_words.specs.declared.words.Name.{Name}
 use Rattle.ca_words.specs.declared.words.Name.TheVariants.{Keypos, Seed, Clients, Lines}
 use Rattle.ca_words.specs.declared.options.Options.{Options}
-use Rattle.ca_words.specs.Grammar.{Values, IsValue, begins_with_dash, is_digit, least_of, most_of, no_values, number_after, value_named, with_named}
+use Rattle.ca_words.specs.Grammar.{Values, IsValue, begins_with_dash, least_of, most_of, no_values, number_after, value_named, with_named}
 use Rattle.ca_words.specs.Words.{bare, given_in, is_option, is_value, value_in, value_told}
 use Rattle.ca_words.proofs.Choices.{tested}
 use Rattle.ca_words.proofs.Rows.{found_before, found_behind, has_row_more, none_found, row}

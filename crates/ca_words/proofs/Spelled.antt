@@ -10,9 +10,9 @@ use Rattle.clap.specs.Walk.{Row, Text, has_row}
 use Rattle.clap.specs.Words.{fault_of}
 use Rattle.ca_words.specs.declared.words.Name.{Name}
 use Rattle.ca_words.specs.declared.words.Name.TheVariants.{Keypos, Seed, Clients, Lines}
-use Rattle.ca_words.specs.Grammar.{Values, IsValue, AreOptions, NoOption, InOneWord, InTwoWords, IsAsked, ForFiles, ForGenerated, IsLine, WithoutParting, WithParting, Request, are_undashed, begins_with_dash, no_values, spelling_of, value_named, with_named}
+use Rattle.ca_words.specs.Grammar.{Values, IsValue, AreOptions, NoOption, InOneWord, InTwoWords, IsAsked, ForFiles, ForGenerated, IsLine, WithoutParting, WithParting, Request, are_undashed, begins_with_dash, spelling_of, value_named, with_named}
 use Rattle.ca_words.specs.Words.{bare, command, names_in, options_end, options_in, request_behind, request_between, request_of, request_with}
-use Rattle.ca_words.proofs.Choices.{first_holds, not_holds, second_holds}
+use Rattle.ca_words.proofs.Choices.{first_holds, not_holds}
 use Rattle.ca_words.proofs.Given.{AreSame, Hold, given_read, hold_more, none_hold, none_same, not_option, options_of, same_more, value_read, value_undashed}
 use Rattle.ca_words.proofs.Parsing.{at_end_alone, clean, fault_is, joined, matches_are}
 use Rattle.ca_words.proofs.Rows.{row}

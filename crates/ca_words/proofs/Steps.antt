@@ -1,14 +1,14 @@
 -- Each option, in one word or in two, takes the walk of `clap` one row further.
-use Rattle.std.proofs.Common.{◌≡◌, ℕ, Bool, true, false, List, [], ◌∷◌, ◌++◌, Some, None, refl, sym, ap, ap₂, ◌∙◌, subst, inl, inr, ◌⊎◌}
+use Rattle.std.proofs.Common.{◌≡◌, false, List, [], ◌∷◌, ◌++◌, None, sym, ap, ap₂, ◌∙◌, subst, inl, inr}
 use Rattle.std.specs.Prelude.{⊤}
 use Rattle.clap.specs.Kinds.{or_else}
-use Rattle.clap.specs.Walk.{Row, Text, Walk, has_row, idle, settled, used}
-use Rattle.clap.specs.Faults.{settle_fault, turn_fault, use_fault}
+use Rattle.clap.specs.Walk.{Row, Text, Walk, has_row, settled, used}
+use Rattle.clap.specs.Faults.{settle_fault, use_fault}
 use Rattle.ca_words.specs.declared.words.Name.{Name}
 use Rattle.ca_words.specs.Grammar.{begins_with_dash, spelling_of}
 use Rattle.ca_words.specs.Words.{bare}
 use Rattle.ca_words.proofs.Rows.{filled_rule, row, used_once}
-use Rattle.ca_words.proofs.Parsing.{IsKnown, alike, at_end_alone, between, clean, faults, held_fault, held_of, held_used, holding, joined, joined_fault, joined_walked, once, rows_at_end, rules, shape, spelled_fault, spelled_walked, step, value_fault, value_walked, wanting}
+use Rattle.ca_words.proofs.Parsing.{IsKnown, alike, at_end_alone, clean, faults, held_fault, held_of, held_used, holding, joined, joined_fault, joined_walked, once, rows_at_end, rules, spelled_fault, spelled_walked, step, value_fault, value_walked, wanting}
 
 -- the walk fails and ends here as there
 abbrev pub IsAsGood : Walk → List Text → Walk → List Text → Type 0

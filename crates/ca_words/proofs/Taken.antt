@@ -1,15 +1,15 @@
 -- Words that `clap` takes are options one after another, each of another name; their texts are its rows.
-use Rattle.std.proofs.Common.{◌≡◌, ◌⊎◌, ℕ, Bool, true, false, List, [], ◌∷◌, ◌++◌, map, take, suc, Some, None, refl, sym, ap, ◌∙◌, subst, inl, inr, append_assoc, append-nil}
+use Rattle.std.proofs.Common.{◌≡◌, Bool, true, false, List, [], ◌∷◌, ◌++◌, map, take, suc, Some, None, refl, sym, ap, ◌∙◌, subst, inl, inr, append_assoc, append-nil}
 use Rattle.std.specs.Prelude.{⊤, ◌&&◌, ◌||◌, not, if◌then◌else◌}
 use Rattle.clap.specs.Walk.{Row, Text, has_row, idle, option}
-use Rattle.clap.specs.Faults.{settle_fault, turn_fault}
+use Rattle.clap.specs.Faults.{settle_fault}
 use Rattle.ca_words.specs.declared.words.Name.{Name}
 use Rattle.ca_words.specs.declared.words.Name.TheVariants.{Keypos, Seed, Clients, Lines}
 use Rattle.ca_words.specs.Grammar.{begins_with_dash, spelling_of}
 use Rattle.ca_words.specs.Words.{bare, is_option, is_part, options_end, waits_behind}
 use Rattle.ca_words.proofs.Choices.{first_holds, not_holds, second_holds}
 use Rattle.ca_words.proofs.Rows.{row}
-use Rattle.ca_words.proofs.Parsing.{IsKnown, at_end_alone, between, clean, faults, held_fault, held_of, holding, joined, joined_fault, no_value, option_passed, rows_at_end, rules, turn_passes, wanting, was_fresh}
+use Rattle.ca_words.proofs.Parsing.{IsKnown, at_end_alone, clean, faults, held_fault, held_of, holding, joined, joined_fault, no_value, option_passed, rows_at_end, rules, turn_passes, wanting, was_fresh}
 use Rattle.ca_words.proofs.Steps.{Follows, name_alone, one_word, used_by_next, value_behind}
 
 -- all words are words of options
