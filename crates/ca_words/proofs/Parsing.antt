@@ -291,8 +291,11 @@ parts_behind : (b : ℕ) (bytes : Text) (equals : Bool) → (b == 61) ≡ equals
 parts_behind b bytes true e p = let sign : b ≡ 61 = grind (e, arith, nat_tests) in inl (rw e refl, rw e (ap (λ c. c ∷ bytes) sign))
 parts_behind b bytes false e (inl p) =
     let place = next_place b bytes e in
-    inl (rw e p.0, one_more b bytes (position_or_len is_equals bytes) (position_or_len is_equals bytes + 1) (position_or_len is_equals (b ∷ bytes))
-    (position_or_len is_equals (b ∷ bytes) + 1) place (omega (arith, place)) p.1)
+    inl (
+      rw e p.0,
+      one_more b bytes (position_or_len is_equals bytes) (position_or_len is_equals bytes + 1) (position_or_len is_equals (b ∷ bytes))
+          (position_or_len is_equals (b ∷ bytes) + 1) place (omega (arith, place)) p.1,
+    )
 parts_behind b bytes false e (inr p) = inr (rw e p.0, one_taken b bytes (position_or_len is_equals bytes) _ (next_place b bytes e) p.1)
 
 parts : (text : Text) → HasParts text
@@ -316,8 +319,11 @@ joined_from Clients text = refl
 joined_from Lines text = refl
 
 known_by : (text : Text) → ((n : Name) × (before_first is_equals text ≡ bare n)) → HasParts text → IsKnown (45 ∷ 45 ∷ text)
-known_by text k (inl p) = inl (k.0, after_first is_equals text,
-    ap (λ l. 45 ∷ 45 ∷ l) (p.1 ∙ ap (λ l. l ++ 61 ∷ after_first is_equals text) k.1) ∙ joined_from k.0 _)
+known_by text k (inl p) = inl (
+  k.0,
+  after_first is_equals text,
+  ap (λ l. 45 ∷ 45 ∷ l) (p.1 ∙ ap (λ l. l ++ 61 ∷ after_first is_equals text) k.1) ∙ joined_from k.0 _,
+)
 known_by text k (inr p) = inr (k.0, ap (λ l. 45 ∷ 45 ∷ l) (sym p.1 ∙ k.1) ∙ spelled_from k.0)
 
 -- what passes as an option is a known one, and what was pending is used well
