@@ -23,6 +23,7 @@ parts_behind : (waits : Bool) (word : Text) (words : List Text) (part : Bool) �
 parts_behind waits word words true e h = rw (e, h) refl
 parts_behind waits word words false e h = refl
 
+-- the words up to where the options end are words of options
 pub parts_taken : (waits : Bool) (words : List Text) → are_parts waits (take (options_end waits words) words) ≡ true
 unfolding options_end
 parts_taken waits [] = refl
@@ -34,6 +35,7 @@ pub record Written : Type 0 where
   pub text : Text
   pub is_joined : Bool
 
+-- the words of an option, and of options one after another
 abbrev pub words_of : Written → List Text
 words_of o = if o.is_joined then joined o.name o.text ∷ [] else spelling_of o.name ∷ o.text ∷ []
 
@@ -41,6 +43,7 @@ abbrev pub all_words : List Written → List Text
 all_words [] = []
 all_words (o ∷ options) = words_of o ++ all_words options
 
+-- its row
 abbrev pub row_of : Written → Row
 row_of o = row o.name o.text
 
@@ -49,6 +52,7 @@ abbrev pub AreFresh : List Row → List Written → Type 0
 AreFresh rows [] = ⊤
 AreFresh rows (o ∷ options) = (has_row (bare o.name) rows ≡ false) × AreFresh (rows ++ row_of o ∷ []) options
 
+-- the words are options, which add their rows
 pub record AreWritten (rows : List Row) (words : List Text) (end : List Row) : Type 0 where
   pub options : List Written
   pub words_are : words ≡ all_words options
