@@ -1,15 +1,14 @@
 -- What the rows of `clap` give the options.
-use Rattle.std.proofs.Common.{◌≡◌, ◌⊎◌, ℕ, ◌≤◌, Bool, true, false, List, [], ◌∷◌, ◌++◌, length, Option, Some, None, refl, sym, arith, ap, ◌∙◌, subst, inl, inr}
+use Rattle.std.proofs.Common.{◌≡◌, ◌⊎◌, ℕ, Bool, true, false, List, [], ◌∷◌, ◌++◌, Option, Some, None, refl, sym, arith, ap, ◌∙◌, subst, inl, inr}
 use Rattle.std.proofs.lemmas.Bool.Decides.{nat_tests}
 use Rattle.std.proofs.lemmas.Grind.{common_steps}
-use Rattle.std.specs.Prelude.{◌==◌, ◌&&◌, ◌||◌, nat_le, is_some, option_map, option_and_then}
-use Rattle.std.specs.List.{list_all}
+use Rattle.std.specs.Prelude.{◌&&◌, ◌||◌, nat_le, is_some, option_map, option_and_then}
 use Rattle.std.specs.Str.{bytes_eq}
 use Rattle.clap.specs.Walk.{Row, Text, first_of, has_row}
 use Rattle.ca_words.specs.declared.words.Name.{Name}
 use Rattle.ca_words.specs.declared.words.Name.TheVariants.{Keypos, Seed, Clients, Lines}
 use Rattle.ca_words.specs.declared.options.Options.{Options}
-use Rattle.ca_words.specs.Grammar.{Values, IsValue, begins_with_dash, is_digit, least_of, most_of, no_values, number_after, value_named, with_named}
+use Rattle.ca_words.specs.Grammar.{Values, IsValue, begins_with_dash, least_of, most_of, no_values, number_after, value_named, with_named}
 use Rattle.ca_words.specs.Words.{bare, given_in, is_option, is_value, value_in, value_told}
 use Rattle.ca_words.proofs.Choices.{tested}
 use Rattle.ca_words.proofs.Rows.{found_before, found_behind, has_row_more, none_found, row}
@@ -39,6 +38,7 @@ pub value_undashed : (name : Name) (text : Text) (value : ℕ) → IsValue name 
 value_undashed name [] value v = refl
 value_undashed name (b ∷ bytes) value v = grind (v.digits, arith, nat_tests, common_steps)
 
+-- a word without a dash is no option
 pub not_option : (text : Text) → begins_with_dash text ≡ false → is_option text ≡ false
 not_option [] d = refl
 not_option (a ∷ []) d = refl
@@ -47,18 +47,21 @@ not_option (a ∷ b ∷ c ∷ text) d = rw d refl
 
 -- ---- the four options
 
+-- the values as the grammar has them, and back
 abbrev pub values_of : Options → Values
 values_of given = record { keypos = given.keypos; seed = given.seed; clients = given.clients; lines = given.lines }
 
 abbrev pub options_of : Values → Options
 options_of given = record { keypos = given.keypos; seed = given.seed; clients = given.clients; lines = given.lines }
 
+-- a name is its own
 pub same_bare : (name : Name) → bytes_eq (bare name) (bare name) ≡ true
 same_bare Keypos = refl
 same_bare Seed = refl
 same_bare Clients = refl
 same_bare Lines = refl
 
+-- a value that is set is there
 pub set_named : (given : Values) (name : Name) (value : ℕ) → value_named (with_named given name value) name ≡ Some value
 set_named given Keypos value = refl
 set_named given Seed value = refl
@@ -88,6 +91,7 @@ same_or_other Lines Seed = inr (refl, λ given value. refl)
 same_or_other Lines Clients = inr (refl, λ given value. refl)
 same_or_other Lines Lines = inl refl
 
+-- values that are the same for each option are the same
 pub same_values : (a b : Values) → ((name : Name) → value_named a name ≡ value_named b name) → a ≡ b
 same_values a b same =
     ap (λ v. record { keypos = v; seed = a.seed; clients = a.clients; lines = a.lines }) (same Keypos)
@@ -101,6 +105,7 @@ same_values a b same =
 abbrev pub Hold : List Row → Values → Type 0
 Hold rows given = (name : Name) → value_told name (first_of (bare name) rows) ≡ Some (value_named given name)
 
+-- no rows give no values
 pub none_hold : Hold [] no_values
 none_hold Keypos = refl
 none_hold Seed = refl
@@ -112,6 +117,7 @@ pub found_here : (name : Name) (text : Text) (rows more : List Row) → has_row 
     → first_of (bare name) (rows ++ row name text ∷ more) ≡ Some text
 found_here name text rows more fresh = found_behind (bare name) rows (row name text ∷ more) fresh ∙ rw (same_bare name) refl
 
+-- the row of one more option gives its value
 pub hold_more : (rows : List Row) (given : Values) (name : Name) (text : Text) (value : ℕ) → has_row (bare name) rows ≡ false
     → value_in name text ≡ Some value → Hold rows given → Hold (rows ++ row name text ∷ []) (with_named given name value)
 hold_more rows given name text value fresh read hold other = elim (same_or_other name other) [
@@ -120,6 +126,7 @@ hold_more rows given name text value fresh read hold other = elim (same_or_other
   | inr o ↦ ap (value_told other) (found_before (bare other) rows (row name text) o.0) ∙ hold other ∙ ap (λ v. Some v) (sym (o.1 given value))
 ]
 
+-- an option without a row has no value
 pub not_given : (rows : List Row) (given : Values) (name : Name) → Hold rows given → has_row (bare name) rows ≡ false → value_named given name ≡ None
 not_given rows given name hold fresh =
     let same : Some None ≡ Some (value_named given name) = sym (ap (value_told name) (none_found (bare name) rows fresh)) ∙ hold name in
@@ -146,6 +153,7 @@ or_false : (a : Bool) → (a || false) ≡ a
 or_false true = refl
 or_false false = refl
 
+-- one more option
 pub same_more : (rows : List Row) (given : Values) (name : Name) (text : Text) (value : ℕ) → AreSame rows given
     → AreSame (rows ++ row name text ∷ []) (with_named given name value)
 same_more rows given name text value same other = elim (same_or_other name other) [
@@ -173,18 +181,19 @@ all_told (Some k) None clients lines given h = absurd cc
 all_told (Some k) (Some s) None lines given h = absurd cc
 all_told (Some k) (Some s) (Some c) None given h = absurd cc
 
+-- where all texts are values, the rows give them
 pub given_told : (rows : List Row) (given : Options) → given_in (λ name. first_of (bare name) rows) ≡ Some given → Hold rows (values_of given)
-given_told rows given h name = by name
-    (all_told (value_told Keypos (first_of (bare Keypos) rows)) (value_told Seed (first_of (bare Seed) rows)) (value_told Clients (first_of (bare Clients) rows))
-    (value_told Lines (first_of (bare Lines) rows)) given h)
+given_told rows given h = by (all_told (told Keypos) (told Seed) (told Clients) (told Lines) given h)
   where
-    by : (n : Name) → IsAll (value_told Keypos (first_of (bare Keypos) rows)) (value_told Seed (first_of (bare Seed) rows))
-        (value_told Clients (first_of (bare Clients) rows)) (value_told Lines (first_of (bare Lines) rows)) given
-        → value_told n (first_of (bare n) rows) ≡ Some (value_named (values_of given) n)
-    by Keypos t = t.0
-    by Seed t = t.1
-    by Clients t = t.2
-    by Lines t = t.3
+    told : Name → Option (Option ℕ)
+    told name = value_told name (first_of (bare name) rows)
 
+    by : IsAll (told Keypos) (told Seed) (told Clients) (told Lines) given → (name : Name) → told name ≡ Some (value_named (values_of given) name)
+    by t Keypos = t.0
+    by t Seed = t.1
+    by t Clients = t.2
+    by t Lines = t.3
+
+-- what the rows give is what is read of them
 pub given_read : (rows : List Row) (given : Values) → Hold rows given → given_in (λ name. first_of (bare name) rows) ≡ Some (options_of given)
 given_read rows given hold = rw (hold Keypos, hold Seed, hold Clients, hold Lines) refl

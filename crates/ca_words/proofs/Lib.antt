@@ -4,5 +4,6 @@ pub mod Numbers
 pub mod Parsing
 pub mod Rows
 pub mod Sound
+pub mod Spelled
 pub mod Steps
 pub mod Taken

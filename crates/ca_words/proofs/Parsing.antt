@@ -3,24 +3,27 @@ use Rattle.std.proofs.Common.{◌≡◌, ◌⊎◌, ℕ, Bool, true, false, suc,
 use Rattle.std.proofs.lemmas.Bool.Decides.{nat_tests}
 use Rattle.std.proofs.lemmas.Grind.{common_steps}
 use Rattle.std.specs.Cmp.Lexicographic.{bytes_decides}
-use Rattle.std.specs.Prelude.{◌==◌, ◌||◌, ◌&&◌, not, codes, if◌then◌else◌}
+use Rattle.std.specs.Prelude.{◌==◌, codes, if◌then◌else◌}
 use Rattle.std.specs.List.{fold, before_first, after_first, position_or_len}
 use Rattle.std.specs.Str.{bytes_eq}
 use Rattle.clap.specs.Lexer.{has_byte, name_and_value}
 use Rattle.clap.specs.Kinds.{Kinds, or_else}
-use Rattle.clap.specs.Walk.{Held, Row, Rule, Text, Waiting, Walk, arg_by_long, finished, has_row, idle, option, positional, settled, used, walk_from, walked, with_default}
+use Rattle.clap.specs.Walk.{Held, Row, Rule, Text, Waiting, Walk, arg_by_long, finished, has_row, idle, option, positional, settled, used, walked, with_default}
 use Rattle.clap.specs.Simple.{Shape, built}
 use Rattle.clap.specs.Faults.{check_fault, default_fault, defaults_fault, entered_fault, fault_of, long_fault, react_fault, settle_fault, turn_fault, use_fault, walk_fault}
 use Rattle.clap.specs.Words.{matches_of}
+use Rattle.clap.specs.declared.error.kind.ErrorKind.TheVariants.{ArgumentConflict}
 use Rattle.ca_words.specs.declared.words.Name.{Name}
 use Rattle.ca_words.specs.declared.words.Name.TheVariants.{Keypos, Seed, Clients, Lines}
 use Rattle.ca_words.specs.Grammar.{begins_with_dash, spelling_of}
 use Rattle.ca_words.specs.Words.{bare, command, is_option}
 use Rattle.ca_words.proofs.Rows.{filled_rule}
 
+-- the command as `clap` builds it
 abbrev pub shape : Shape
 shape = (built command).top
 
+-- the four options as it builds them
 abbrev pub rules : List Rule
 rules = shape.rules
 
@@ -28,6 +31,7 @@ rules = shape.rules
 abbrev pub between : Held → Waiting → Walk
 between held waiting = record { held = held; waiting = waiting; position = 1; is_trailing = false; stopped = None }
 
+-- rows, and what is pending
 abbrev pub held_of : List Row → Option (Text × List Text) → Held
 held_of rows pending = record { rows = rows; pending = pending; skip = 0 }
 
@@ -43,6 +47,7 @@ wanting name rows = between (held_of rows (Some (bare name, []))) (option (bare 
 abbrev pub holding : Name → Text → List Row → Walk
 holding name text rows = between (held_of rows (Some (bare name, text ∷ []))) idle
 
+-- what is held behind the words
 abbrev pub end_of : Walk → List Text → Held
 end_of w words = (fold (walked rules []) w words).held
 
@@ -50,15 +55,18 @@ end_of w words = (fold (walked rules []) w words).held
 abbrev pub faults : Walk → List Text → Kinds
 faults w words = or_else (walk_fault shape [] w words) (settle_fault rules false (end_of w words))
 
+-- the rows at their end
 abbrev pub rows_at_end : Walk → List Text → List Row
 rows_at_end w words = (settled rules (end_of w words)).rows
 
 -- ---- faults in turn
 
+-- behind the first nothing fails
 pub or_nil : (a : Kinds) → or_else a [] ≡ a
 or_nil [] = refl
 or_nil (k ∷ ks) = refl
 
+-- where nothing fails, the first doesn't
 pub or_first : (a b : Kinds) → or_else a b ≡ [] → a ≡ []
 or_first [] b h = refl
 or_first (k ∷ ks) b h = h
@@ -110,6 +118,7 @@ fault_is words =
     in_turn (walk_fault shape [] (clean []) words) _ (settle_fault rules false (end_of (clean []) words)) _ _ (not_entered _)
     (no_defaults all_names (rows_at_end (clean []) words)) (not_checked (finished rules (end_of (clean []) words)) _)
 
+-- the matches are the rows at the end
 pub matches_are : (words : List Text) → matches_of command words ≡ rows_at_end (clean []) words
 matches_are words = all_kept all_names (rows_at_end (clean []) words)
 
@@ -120,6 +129,7 @@ pub at_end_alone : (w : Walk) → faults w [] ≡ settle_fault rules false w.hel
 unfolding walk_fault
 at_end_alone w = refl
 
+-- a word that passes
 pub step : (w after : Walk) (word : Text) (words : List Text) → turn_fault shape [] w word ≡ [] → walked rules [] w word ≡ after
     → (faults w (word ∷ words) ≡ faults after words) × (rows_at_end w (word ∷ words) ≡ rows_at_end after words)
 unfolding walk_fault
@@ -143,23 +153,25 @@ pub turn_passes : (w : Walk) (word : Text) (words : List Text) → faults w (wor
 unfolding walk_fault
 turn_passes w word words h = or_first (turn_fault shape [] w word) _ (or_first _ (settle_fault rules false (end_of w (word ∷ words))) h)
 
--- one use of an option
+-- the first use of an option passes
 pub once : (name : Name) (text : Text) (rows : List Row) → has_row (bare name) rows ≡ false → use_fault false (filled_rule name) (text ∷ []) rows ≡ []
 once name text rows fresh = rw fresh refl
 
+-- where the use passes, it is the first one
 pub was_fresh : (name : Name) (text : Text) (rows : List Row) → use_fault false (filled_rule name) (text ∷ []) rows ≡ [] → has_row (bare name) rows ≡ false
 was_fresh name text rows h = go (has_row (bare name) rows) refl
   where
     go : (b : Bool) → has_row (bare name) rows ≡ b → has_row (bare name) rows ≡ false
     go false e = e
-    go true e = let again : use_fault false (filled_rule name) (text ∷ []) rows ≡ Rattle.clap.specs.declared.error.kind.ErrorKind.TheVariants.ArgumentConflict ∷ [] = rw e refl in
-        absurd cc
+    go true e = let again : use_fault false (filled_rule name) (text ∷ []) rows ≡ ArgumentConflict ∷ [] = rw e refl in absurd cc
 
 -- ---- the words of options
 
+-- an option with its value in one word
 abbrev pub joined : Name → Text → Text
 joined name text = spelling_of name ++ (codes "=" ++ text)
 
+-- an option in one word uses what is pending, and then its own value
 pub joined_fault : (name : Name) (text : Text) (h : Held)
     → turn_fault shape [] (between h idle) (joined name text) ≡ react_fault rules false (filled_rule name) (text ∷ []) h
 joined_fault Keypos text h = or_nil _
@@ -167,6 +179,7 @@ joined_fault Seed text h = or_nil _
 joined_fault Clients text h = or_nil _
 joined_fault Lines text h = or_nil _
 
+-- and stands in the rows at once
 pub joined_walked : (name : Name) (text : Text) (h : Held) → walked rules [] (between h idle) (joined name text)
     ≡ between (record h { rows = used (filled_rule name) (text ∷ []) (settled rules h).rows; pending = None }) idle
 unfolding walked
@@ -175,12 +188,14 @@ joined_walked Seed text h = refl
 joined_walked Clients text h = refl
 joined_walked Lines text h = refl
 
+-- the name of an option alone uses what is pending
 pub spelled_fault : (name : Name) (h : Held) → turn_fault shape [] (between h idle) (spelling_of name) ≡ settle_fault rules false h
 spelled_fault Keypos h = or_nil _
 spelled_fault Seed h = or_nil _
 spelled_fault Clients h = or_nil _
 spelled_fault Lines h = or_nil _
 
+-- and waits for its value
 pub spelled_walked : (name : Name) (h : Held) → walked rules [] (between h idle) (spelling_of name)
     ≡ between (record (settled rules h) { pending = Some (bare name, []) }) (option (bare name))
 unfolding walked
@@ -189,7 +204,7 @@ spelled_walked Seed h = refl
 spelled_walked Clients h = refl
 spelled_walked Lines h = refl
 
--- a value behind its option
+-- a value behind its option never fails
 pub value_fault : (name : Name) (text : Text) (rows : List Row) → begins_with_dash text ≡ false → turn_fault shape [] (wanting name rows) text ≡ []
 value_fault Keypos [] rows d = refl
 value_fault Seed [] rows d = refl
@@ -200,6 +215,7 @@ value_fault Seed (b ∷ bytes) rows d = rw d (rw d refl)
 value_fault Clients (b ∷ bytes) rows d = rw d (rw d refl)
 value_fault Lines (b ∷ bytes) rows d = rw d (rw d refl)
 
+-- and is held, since the option takes no more
 pub value_walked : (name : Name) (text : Text) (rows : List Row) → begins_with_dash text ≡ false
     → walked rules [] (wanting name rows) text ≡ holding name text rows
 unfolding walked
@@ -220,6 +236,7 @@ held_fault Seed text rows = refl
 held_fault Clients text rows = refl
 held_fault Lines text rows = refl
 
+-- then it stands in the rows
 pub held_used : (name : Name) (text : Text) (rows : List Row)
     → settled rules (holding name text rows).held ≡ held_of (used (filled_rule name) (text ∷ []) rows) None
 held_used Keypos text rows = refl
@@ -227,7 +244,7 @@ held_used Seed text rows = refl
 held_used Clients text rows = refl
 held_used Lines text rows = refl
 
--- an option without a value
+-- an option without a value fails
 pub no_value : (name : Name) (rows : List Row) → settle_fault rules false (wanting name rows).held ≡ [] → ⊥
 no_value Keypos rows h = absurd cc
 no_value Seed rows h = absurd cc
@@ -291,8 +308,11 @@ parts_behind : (b : ℕ) (bytes : Text) (equals : Bool) → (b == 61) ≡ equals
 parts_behind b bytes true e p = let sign : b ≡ 61 = grind (e, arith, nat_tests) in inl (rw e refl, rw e (ap (λ c. c ∷ bytes) sign))
 parts_behind b bytes false e (inl p) =
     let place = next_place b bytes e in
-    inl (rw e p.0, one_more b bytes (position_or_len is_equals bytes) (position_or_len is_equals bytes + 1) (position_or_len is_equals (b ∷ bytes))
-    (position_or_len is_equals (b ∷ bytes) + 1) place (omega (arith, place)) p.1)
+    inl (
+      rw e p.0,
+      one_more b bytes (position_or_len is_equals bytes) (position_or_len is_equals bytes + 1) (position_or_len is_equals (b ∷ bytes))
+          (position_or_len is_equals (b ∷ bytes) + 1) place (omega (arith, place)) p.1,
+    )
 parts_behind b bytes false e (inr p) = inr (rw e p.0, one_taken b bytes (position_or_len is_equals bytes) _ (next_place b bytes e) p.1)
 
 parts : (text : Text) → HasParts text
@@ -316,8 +336,11 @@ joined_from Clients text = refl
 joined_from Lines text = refl
 
 known_by : (text : Text) → ((n : Name) × (before_first is_equals text ≡ bare n)) → HasParts text → IsKnown (45 ∷ 45 ∷ text)
-known_by text k (inl p) = inl (k.0, after_first is_equals text,
-    ap (λ l. 45 ∷ 45 ∷ l) (p.1 ∙ ap (λ l. l ++ 61 ∷ after_first is_equals text) k.1) ∙ joined_from k.0 _)
+known_by text k (inl p) = inl (
+  k.0,
+  after_first is_equals text,
+  ap (λ l. 45 ∷ 45 ∷ l) (p.1 ∙ ap (λ l. l ++ 61 ∷ after_first is_equals text) k.1) ∙ joined_from k.0 _,
+)
 known_by text k (inr p) = inr (k.0, ap (λ l. 45 ∷ 45 ∷ l) (sym p.1 ∙ k.1) ∙ spelled_from k.0)
 
 -- what passes as an option is a known one, and what was pending is used well
@@ -336,6 +359,7 @@ long_passed x xs h waiting f =
     by (option id) f = or_first _ _ f
     by positional f = or_first _ _ f
 
+-- the same of any word that is one of an option
 pub option_passed : (word : Text) (h : Held) (waiting : Waiting) → is_option word ≡ true → turn_fault shape [] (between h waiting) word ≡ [] → Passed h word
 option_passed [] h waiting o f = absurd cc
 option_passed (a ∷ []) h waiting o f = absurd cc

@@ -1,6 +1,6 @@
 -- What `clap` keeps of an option that was not used before, and what is found in its rows.
-use Rattle.std.proofs.Common.{◌≡◌, ℕ, Bool, true, false, List, [], ◌∷◌, ◌++◌, Option, Some, None, refl, sym, ap, ◌∙◌, append-nil}
-use Rattle.std.specs.Prelude.{◌||◌, if◌then◌else◌}
+use Rattle.std.proofs.Common.{◌≡◌, Bool, true, false, List, [], ◌∷◌, ◌++◌, Some, None, refl, sym, ap, ◌∙◌, append-nil}
+use Rattle.std.specs.Prelude.{◌||◌}
 use Rattle.std.specs.Str.{bytes_eq}
 use Rattle.clap.specs.Walk.{Row, Rule, Text, at_row, first_of, has_row, more_values, used}
 use Rattle.clap.specs.Simple.{filled, with_index}
@@ -23,6 +23,7 @@ row name text = record {
   reading = AsWritten;
 }
 
+-- where neither of two holds
 pub first_not : (a b : Bool) → (a || b) ≡ false → a ≡ false
 first_not true b h = h
 first_not false b h = refl
@@ -38,19 +39,21 @@ at_end id change missing (r ∷ rows) fresh =
     let other = first_not (bytes_eq r.id id) (has_row id rows) fresh in
     rw other (ap (λ l. r ∷ l) (at_end id change missing rows (second_not (bytes_eq r.id id) (has_row id rows) fresh)))
 
+-- the first use of an option adds its row at the end
 pub used_once : (name : Name) (text : Text) (rows : List Row) → has_row (bare name) rows ≡ false
     → used (filled_rule name) (text ∷ []) rows ≡ rows ++ row name text ∷ []
 used_once name text rows fresh =
     ap (at_row (bare name) (more_values CommandLine (text ∷ [])) (row name text ∷ [])) (at_end (bare name) (λ _. []) [] rows fresh ∙ append-nil rows)
     ∙ at_end (bare name) (more_values CommandLine (text ∷ [])) (row name text ∷ []) rows fresh
 
--- what is found behind rows of other names, and before them
+-- behind rows of other names the first one is found
 pub found_behind : (id : Text) (rows more : List Row) → has_row id rows ≡ false → first_of id (rows ++ more) ≡ first_of id more
 found_behind id [] more fresh = refl
 found_behind id (r ∷ rows) more fresh =
     let other = first_not (bytes_eq r.id id) (has_row id rows) fresh in
     rw other (found_behind id rows more (second_not (bytes_eq r.id id) (has_row id rows) fresh))
 
+-- where there is no row, nothing is found
 pub none_found : (id : Text) (rows : List Row) → has_row id rows ≡ false → first_of id rows ≡ None
 none_found id rows fresh = ap (first_of id) (sym (append-nil rows)) ∙ found_behind id rows [] fresh
 
@@ -59,6 +62,7 @@ at_first : (id : Text) (r : Row) (rows more : List Row) (b : Bool) → bytes_eq 
 at_first id r rows more true e next = rw e refl
 at_first id r rows more false e next = rw e next
 
+-- a row of another name behind the rows changes nothing
 pub found_before : (id : Text) (rows : List Row) (r : Row) → bytes_eq r.id id ≡ false → first_of id (rows ++ r ∷ []) ≡ first_of id rows
 found_before id [] r other = rw other refl
 found_before id (s ∷ rows) r other = at_first id s rows (r ∷ []) (bytes_eq s.id id) refl (found_before id rows r other)
@@ -67,6 +71,7 @@ or_assoc : (a b c : Bool) → (a || (b || c)) ≡ ((a || b) || c)
 or_assoc true b c = refl
 or_assoc false b c = refl
 
+-- one row more
 pub has_row_more : (id : Text) (rows : List Row) (r : Row) → has_row id (rows ++ r ∷ []) ≡ (has_row id rows || bytes_eq r.id id)
 has_row_more id [] r = or_none (bytes_eq r.id id)
   where

@@ -10,7 +10,7 @@ use Rattle.clap.specs.Words.{fault_of, matches_of}
 use Rattle.ca_words.specs.declared.words.Name.{Name}
 use Rattle.ca_words.specs.declared.options.Options.{Options}
 use Rattle.ca_words.specs.Grammar.{Values, IsValue, AreOptions, NoOption, InOneWord, InTwoWords, IsAsked, ForFiles, ForGenerated, IsLine, WithoutParting, WithParting, Request, Files, Generated, are_undashed, no_values, spelling_of, value_named, with_named}
-use Rattle.ca_words.specs.Words.{bare, command, given_in, names_in, options_end, options_in, request_behind, request_between, request_of, request_with, value_in, value_told}
+use Rattle.ca_words.specs.Words.{bare, command, given_in, options_end, options_in, request_behind, request_between, request_of, request_with, value_in, value_told}
 use Rattle.ca_words.proofs.Choices.{tested, tested_not, neither, under}
 use Rattle.ca_words.proofs.Given.{Hold, found_here, given_told, hold_more, none_hold, not_given, same_values, value_is, values_of}
 use Rattle.ca_words.proofs.Parsing.{fault_is, joined, matches_are}

@@ -1,19 +1,20 @@
 -- Each option, in one word or in two, takes the walk of `clap` one row further.
-use Rattle.std.proofs.Common.{◌≡◌, ℕ, Bool, true, false, List, [], ◌∷◌, ◌++◌, Some, None, refl, sym, ap, ap₂, ◌∙◌, subst, inl, inr, ◌⊎◌}
+use Rattle.std.proofs.Common.{◌≡◌, false, List, [], ◌∷◌, ◌++◌, None, sym, ap, ap₂, ◌∙◌, subst, inl, inr}
 use Rattle.std.specs.Prelude.{⊤}
 use Rattle.clap.specs.Kinds.{or_else}
-use Rattle.clap.specs.Walk.{Row, Text, Walk, has_row, idle, settled, used}
-use Rattle.clap.specs.Faults.{settle_fault, turn_fault, use_fault}
+use Rattle.clap.specs.Walk.{Row, Text, Walk, has_row, settled, used}
+use Rattle.clap.specs.Faults.{settle_fault, use_fault}
 use Rattle.ca_words.specs.declared.words.Name.{Name}
 use Rattle.ca_words.specs.Grammar.{begins_with_dash, spelling_of}
 use Rattle.ca_words.specs.Words.{bare}
 use Rattle.ca_words.proofs.Rows.{filled_rule, row, used_once}
-use Rattle.ca_words.proofs.Parsing.{IsKnown, alike, at_end_alone, between, clean, faults, held_fault, held_of, held_used, holding, joined, joined_fault, joined_walked, once, rows_at_end, rules, shape, spelled_fault, spelled_walked, step, value_fault, value_walked, wanting}
+use Rattle.ca_words.proofs.Parsing.{IsKnown, alike, at_end_alone, clean, faults, held_fault, held_of, held_used, holding, joined, joined_fault, joined_walked, once, rows_at_end, rules, spelled_fault, spelled_walked, step, value_fault, value_walked, wanting}
 
 -- the walk fails and ends here as there
 abbrev pub IsAsGood : Walk → List Text → Walk → List Text → Type 0
 IsAsGood w words v rest = (faults w words ≡ faults v rest) × (rows_at_end w words ≡ rows_at_end v rest)
 
+-- one step behind another
 pub as_good : (w v u : Walk) (words rest more : List Text) → IsAsGood w words v rest → IsAsGood v rest u more → IsAsGood w words u more
 as_good w v u words rest more a b = (a.0 ∙ b.0, a.1 ∙ b.1)
 
@@ -40,7 +41,7 @@ pub value_behind : (name : Name) (text : Text) (rows : List Row) (words : List T
 value_behind name text rows words undashed =
     step (wanting name rows) (holding name text rows) text words (value_fault name text rows undashed) (value_walked name text rows undashed)
 
--- the value that is held is used where something follows
+-- the value that is held is used well
 fine : (name : Name) (text : Text) (rows : List Row) → has_row (bare name) rows ≡ false → settle_fault rules false (holding name text rows).held ≡ []
 fine name text rows fresh = held_fault name text rows ∙ once name text rows fresh
 
@@ -54,8 +55,8 @@ then_joined name text rows n value words fresh =
     let h = (holding name text rows).held in
     let more = held_of (rows ++ row name text ∷ []) None in
     alike (holding name text rows) (clean (rows ++ row name text ∷ [])) (joined n value) words
-    (joined_fault n value h ∙ ap₂ (λ k x. or_else k (use_fault false (filled_rule n) (value ∷ []) x.rows)) (fine name text rows fresh) (used_up name text rows fresh)
-    ∙ sym (joined_fault n value more))
+    (joined_fault n value h ∙ ap₂ (λ k x. or_else k (use_fault false (filled_rule n) (value ∷ []) x.rows)) (fine name text rows fresh)
+    (used_up name text rows fresh) ∙ sym (joined_fault n value more))
     (joined_walked n value h ∙ ap (λ x. clean (used (filled_rule n) (value ∷ []) x.rows)) (used_up name text rows fresh) ∙ sym (joined_walked n value more))
 
 then_spelled : (name : Name) (text : Text) (rows : List Row) (n : Name) (words : List Text) → has_row (bare name) rows ≡ false
@@ -67,9 +68,13 @@ then_spelled name text rows n words fresh =
     (spelled_fault n h ∙ fine name text rows fresh ∙ sym (spelled_fault n more))
     (spelled_walked n h ∙ ap (λ x. wanting n x.rows) (used_up name text rows fresh) ∙ sym (spelled_walked n more))
 
+-- the value that is held is used by the next option, or at the end
 pub used_by_next : (name : Name) (text : Text) (rows : List Row) (words : List Text) → has_row (bare name) rows ≡ false → Follows words
     → IsAsGood (holding name text rows) words (clean (rows ++ row name text ∷ [])) words
-used_by_next name text rows [] fresh follows = (at_end_alone (holding name text rows) ∙ fine name text rows fresh ∙ sym (at_end_alone (clean (rows ++ row name text ∷ []))), ap (λ x. x.rows) (used_up name text rows fresh))
+used_by_next name text rows [] fresh follows = (
+  at_end_alone (holding name text rows) ∙ fine name text rows fresh ∙ sym (at_end_alone (clean (rows ++ row name text ∷ []))),
+  ap (λ x. x.rows) (used_up name text rows fresh),
+)
 used_by_next name text rows (word ∷ words) fresh (inl k) =
     subst (λ w. IsAsGood (holding name text rows) (w ∷ words) (clean (rows ++ row name text ∷ [])) (w ∷ words)) (sym k.2)
     (then_joined name text rows k.0 k.1 words fresh)

@@ -1,15 +1,15 @@
 -- Words that `clap` takes are options one after another, each of another name; their texts are its rows.
-use Rattle.std.proofs.Common.{◌≡◌, ◌⊎◌, ℕ, Bool, true, false, List, [], ◌∷◌, ◌++◌, map, take, suc, Some, None, refl, sym, ap, ◌∙◌, subst, inl, inr, append_assoc, append-nil}
+use Rattle.std.proofs.Common.{◌≡◌, Bool, true, false, List, [], ◌∷◌, ◌++◌, map, take, suc, Some, None, refl, sym, ap, ◌∙◌, subst, inl, inr, append_assoc, append-nil}
 use Rattle.std.specs.Prelude.{⊤, ◌&&◌, ◌||◌, not, if◌then◌else◌}
 use Rattle.clap.specs.Walk.{Row, Text, has_row, idle, option}
-use Rattle.clap.specs.Faults.{settle_fault, turn_fault}
+use Rattle.clap.specs.Faults.{settle_fault}
 use Rattle.ca_words.specs.declared.words.Name.{Name}
 use Rattle.ca_words.specs.declared.words.Name.TheVariants.{Keypos, Seed, Clients, Lines}
 use Rattle.ca_words.specs.Grammar.{begins_with_dash, spelling_of}
 use Rattle.ca_words.specs.Words.{bare, is_option, is_part, options_end, waits_behind}
 use Rattle.ca_words.proofs.Choices.{first_holds, not_holds, second_holds}
 use Rattle.ca_words.proofs.Rows.{row}
-use Rattle.ca_words.proofs.Parsing.{IsKnown, at_end_alone, between, clean, faults, held_fault, held_of, holding, joined, joined_fault, no_value, option_passed, rows_at_end, rules, turn_passes, wanting, was_fresh}
+use Rattle.ca_words.proofs.Parsing.{IsKnown, at_end_alone, clean, faults, held_fault, held_of, holding, joined, joined_fault, no_value, option_passed, rows_at_end, rules, turn_passes, wanting, was_fresh}
 use Rattle.ca_words.proofs.Steps.{Follows, name_alone, one_word, used_by_next, value_behind}
 
 -- all words are words of options
@@ -23,6 +23,7 @@ parts_behind : (waits : Bool) (word : Text) (words : List Text) (part : Bool) �
 parts_behind waits word words true e h = rw (e, h) refl
 parts_behind waits word words false e h = refl
 
+-- the words up to where the options end are words of options
 pub parts_taken : (waits : Bool) (words : List Text) → are_parts waits (take (options_end waits words) words) ≡ true
 unfolding options_end
 parts_taken waits [] = refl
@@ -34,6 +35,7 @@ pub record Written : Type 0 where
   pub text : Text
   pub is_joined : Bool
 
+-- the words of an option, and of options one after another
 abbrev pub words_of : Written → List Text
 words_of o = if o.is_joined then joined o.name o.text ∷ [] else spelling_of o.name ∷ o.text ∷ []
 
@@ -41,6 +43,7 @@ abbrev pub all_words : List Written → List Text
 all_words [] = []
 all_words (o ∷ options) = words_of o ++ all_words options
 
+-- its row
 abbrev pub row_of : Written → Row
 row_of o = row o.name o.text
 
@@ -49,6 +52,7 @@ abbrev pub AreFresh : List Row → List Written → Type 0
 AreFresh rows [] = ⊤
 AreFresh rows (o ∷ options) = (has_row (bare o.name) rows ≡ false) × AreFresh (rows ++ row_of o ∷ []) options
 
+-- the words are options, which add their rows
 pub record AreWritten (rows : List Row) (words : List Text) (end : List Row) : Type 0 where
   pub options : List Written
   pub words_are : words ≡ all_words options

@@ -1,6 +1,6 @@
-use Rattle.std.proofs.Common.{rules, ap, ap₂, codes, true, Some, ◌≡◌, ◌∙◌}
+use Rattle.std.proofs.Common.{rules, ap, ap₂, true, ◌≡◌, ◌∙◌}
 use Rattle.std.proofs.lemmas.Result.{IfOk-weaker}
-use Rattle.clap.specs.Words.{App, app_of, rule_of, with_rule}
+use Rattle.clap.specs.Words.{app_of, rule_of, with_rule}
 use Rattle.clap.specs.Simple.{app_of_fields, on_top}
 use Rattle.ca_words.specs.declared.words.Name.TheVariants.{Keypos, Seed, Clients, Lines}
 use Rattle.ca_words.specs.Words.{empty_command, rule}

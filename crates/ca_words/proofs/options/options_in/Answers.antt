@@ -1,12 +1,10 @@
-use Rattle.std.proofs.Common.{rules, ◌≡◌, ◌∙◌, sym, ap, refl, map, length, true, [], List, Option, ℕ}
+use Rattle.std.proofs.Common.{rules, ◌≡◌, ◌∙◌, sym, ap, refl, map, true, List, Option, ℕ}
 use Rattle.std.specs.String.{string_bytes}
-use Rattle.clap.specs.Words.{app_of, fault_of, first_of, first_value, found_of, is_simple, is_simple_and_free, matches_of, rows_of}
-use Rattle.clap.proofs.OnLiterals.{clap_on_literals}
+use Rattle.clap.specs.Words.{app_of, fault_of, first_of, found_of, is_simple, is_simple_and_free, matches_of}
 use Rattle.clap.proofs.WalkLemmas.{first_value-rows}
 use Rattle.ca_words.specs.declared.words.Name.{Name}
 use Rattle.ca_words.specs.declared.words.Name.TheVariants.{Keypos, Seed, Clients, Lines}
-use Rattle.ca_words.specs.Words.{bare, command, given_in, options_in}
-use Rattle.ca_words.proofs.Parsing.{fault_is, matches_are}
+use Rattle.ca_words.specs.Words.{bare, command, given_in}
 use Rattle.ca_words.proofs.options.options_in.Goals as goal
 
 same_texts : (f g : Name → Option (List ℕ)) → ((n : Name) → f n ≡ g n) → given_in f ≡ given_in g
