@@ -1,9 +1,6 @@
 //! Runs of lines that are made from a seed, and what is printed of them.
-ghost use Rattle.std.specs.Prelude.{◌≡◌, ◌++◌, ◌≤◌, ◌×◌, codes, decimal, map, sum_by, IfOk, OnOk};
-ghost use Rattle.std.specs.Fmt.{signed_decimal};
-ghost use Rattle.ca_text.specs.Written.{BeginsWith};
+ghost use Rattle.std.specs.Prelude.{◌≡◌, ◌++◌, [], map, IfOk, OnOk};
 ghost use Rattle.ca_cmd.specs.File.{commands_in};
-ghost use Rattle.ca_cmd.specs.Output.{end_line};
 ghost use Rattle.ca_cli.specs.Headline.{AllAreReplies};
 ghost use Rattle.ca_cli.specs.InTurn.{run_in_turn};
 ghost use Rattle.ca_cli.specs.Summary.{IsSummary, clients_from, second_of, sum_of, summary_text};
