@@ -52,11 +52,13 @@ fn output<F: Shelf>(alloc: Global, words: &[String], shelf: &mut F) -> Result<Ve
             let files = read_all(alloc, shelf, names)?;
             answer(alloc, keypos, files.as_slice())
         }
-        Some(Request::Generated {
-            seed,
-            clients,
-            lines,
-        }) => summary(alloc, seed, clients, lines),
+        Some(
+            Request::Generated {
+                seed,
+                clients,
+                lines,
+            },
+        ) => summary(alloc, seed, clients, lines),
     };
     match made {
         Ok(bytes) => Ok(bytes),
