@@ -1,6 +1,5 @@
 pub mod Accepted
 pub mod Answered
-pub mod Bounds
 pub mod Firsts
 pub mod InTurn
 pub mod Outcomes

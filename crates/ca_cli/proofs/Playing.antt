@@ -1,17 +1,20 @@
 -- How far the play of one client's commands, or of several clients', has come: what is left goes on from here, and ends
 -- with the same table and the same text.
-use Rattle.std.proofs.Common.{◌≡◌, ℕ, List, ◌++◌, map, refl, inl, inr, true}
+use Rattle.std.proofs.Common.{◌≡◌, ℕ, suc, ◌+◌, ◌-◌, ◌<◌, List, ◌∷◌, ◌++◌, map, refl, sym, ap, subst, arith, inl, inr, true}
 use Rattle.ca_term.specs.Tree.{Tree}
 use Rattle.ca_ets.specs.Command.{Command, Response, Continuation, Never}
 use Rattle.ca_ets.specs.InOrder.{run_in_order}
 use Rattle.ca_model.specs.Known.{Known, IsSameStore}
 use Rattle.ca_merge.specs.Steps.{Steps}
 use Rattle.ca_merge.proofs.Alone.{alone}
+use Rattle.ca_merge.proofs.Learning.{same_store}
 use Rattle.ca_merge.specs.Stands.{Stands}
 use Rattle.ca_cmd.specs.File.{Numbered, commands_in}
+use Rattle.ca_cmd.specs.Generator.{generated}
 use Rattle.ca_cmd.specs.Output.{answer_lines, client_lines}
 use Rattle.ca_cli.specs.InTurn.{answers_of, run_in_turn}
-use Rattle.ca_cli.specs.Played.{HasAnswered}
+use Rattle.ca_cli.specs.Played.{HasAnswered, HasLeft}
+use Rattle.ca_cli.specs.Summary.{clients_from}
 
 -- the text that ends with these lines' answers from this table and continuation on
 abbrev with_answers : ℕ → List Tree → Continuation → List Numbered → List ℕ → List ℕ
@@ -71,3 +74,21 @@ pub record AreCarried (a b : Known) (files left : List (List Numbered)) : Type 0
   pub same : IsSameStore a b
   pub at : (objects : List Tree) → Stands a.keypos a.map objects
       → (m : List Tree) × Stands a.keypos b.map m × (table_of_clients a.keypos m left ≡ table_of_clients a.keypos objects files)
+
+module _ (a b c : Known) (files rest : List (List Numbered)) (own : List Numbered) where
+  -- The next client was played.
+  pub carries_next : AreCarried a b files (own ∷ rest) → HasLeft b c (commands_in own) → AreCarried a c files rest
+  carries_next k h = record {
+    same = same_store a b c k.same h.same;
+    at = λ objects st. let here = k.at objects st in
+        let now : Stands b.keypos b.map here.0 = subst (λ (n : ℕ). Stands n b.map here.0) (sym k.same.keypos) here.1 in
+        ((run_in_order a.keypos here.0 Never (commands_in own)).table,
+        subst (λ (n : ℕ). Stands n c.map (run_in_order n here.0 Never (commands_in own)).table) k.same.keypos (h.table here.0 now),
+        here.2);
+  }
+
+-- The lines of the clients that are left are the next one's and those behind it.
+pub next_made : (seed count client i clients : ℕ) → i < clients
+    → clients_from seed count client (clients - i) ≡ generated seed client count ∷ clients_from seed count (client + 1) (clients - (i + 1))
+next_made seed count client i clients h =
+    let e : clients - i ≡ suc (clients - (i + 1)) = omega (arith, h) in ap (λ (n : ℕ). clients_from seed count client n) e

@@ -1,3 +1,4 @@
+pub mod Bounds
 pub mod Choices
 pub mod Given
 pub mod Numbers
