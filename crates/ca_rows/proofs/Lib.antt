@@ -10,7 +10,9 @@ mod PinSteps
 mod Pinned
 pub mod Relinking
 mod Resting
+mod Regaining
 mod Retiring
 pub mod Rules
+mod Scanning
 mod Starting
 pub mod Steps
