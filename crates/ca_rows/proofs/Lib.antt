@@ -4,7 +4,9 @@ mod Chains
 pub mod Claiming
 pub mod Closing
 pub mod Forking
+mod GivingBack
 pub mod Keeping
+mod Listing
 pub mod Making
 mod PinSteps
 mod Pinned
@@ -12,6 +14,7 @@ pub mod Relinking
 mod Resting
 mod Regaining
 mod Retiring
+mod Rounding
 pub mod Rules
 mod Scanning
 mod Starting

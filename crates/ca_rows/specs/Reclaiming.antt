@@ -1,5 +1,5 @@
 -- What giving kept rows back comes to.
-use Rattle.std.specs.Prelude.{◌≡◌, ◌≢◌, ◌⊎◌, ℕ, ◌+◌, ◌<◌, ◌≤◌, Bool, true, false, List, [], length}
+use Rattle.std.specs.Prelude.{◌≡◌, ◌≢◌, ◌⊎◌, ℕ, ◌+◌, ◌<◌, ◌≤◌, Bool, true, false, List, [], ◌++◌, length, take, drop}
 use Rattle.std.specs.declared.option.Option.{Option as Answer}
 use Rattle.std.specs.declared.option.Option.TheVariants.{None, Some}
 use mathlib.Core.Option.{some, none}
@@ -32,7 +32,15 @@ module _ {U : Type 0} where
     pub others : (r : ℕ) → ((t : ℕ) → claim_of m.0.claims r ≢ some (Keeps t)) → claim_of m'.0.claims r ≡ claim_of m.0.claims r
     -- A row that was given back was kept for two epochs at least; one that is kept still is kept as before, unless an exchange lost.
     pub kept : (r t : ℕ) → claim_of m.0.claims r ≡ some (Keeps t) → (claim_of m'.0.claims r ≡ none) × (t + 2 ≤ m'.0.pin.scan)
-        ⊎ ((t' : ℕ) × (claim_of m'.0.claims r ≡ some (Keeps t')) × (m'.0.lost ≡ m.0.lost → t' ≡ t))
+        ⊎ ((t' : ℕ) × (t ≤ t') × (claim_of m'.0.claims r ≡ some (Keeps t')) × (m'.0.lost ≡ m.0.lost → t' ≡ t))
+
+-- The row at this place of the list was given back, or the exchange lost, and it is kept since another epoch, behind the others.
+module _ {U : Type 0} where
+  pub record GivesBack (given : Bool) (at : ℕ) (m m' : Mine U) (ks ks' : List Kept) : Type 0 where
+    pub reclaims : Reclaims m m'
+    pub same_pin : m'.0.pin ≡ m.0.pin
+    pub rows_given : given ≡ true → (ks' ≡ take at ks ++ drop (at + 1) ks) × (m'.0.lost ≡ m.0.lost)
+    pub rows_kept : given ≡ false → (length ks' ≡ length ks) × (m'.0.lost ≡ m.0.lost + 1)
 
 -- The pass with this number was found to lag, or none was.
 abbrev pub IsLag : ℕ → ℕ → Answer ℕ → Pin → Type 0

@@ -64,9 +64,9 @@ module _ {U : Type 0} where
   abbrev pub Left : (U → U) → Step (Unit {0}) → Mine U → ℕ → Mine U → Type 0
   Left leaves st m n m' = m' ≡ (record m.0 { pin = record m.0.pin { pinned = false }; upper = leaves m.0.upper }, m.1)
 
-  -- The row is kept, since the epoch that was loaded.
+  -- The row is kept, since the epoch that was loaded. It isn't below that of the last look.
   abbrev pub Retired : ℕ → Step (Unit {0}) → Mine U → ℕ → Mine U → Type 0
-  Retired q st m n m' = (0 < q) × (0 < m.0.sizes.rows → q ≤ m.0.sizes.rows) × (n ≤ 4611686018427387904)
+  Retired q st m n m' = (0 < q) × (0 < m.0.sizes.rows → q ≤ m.0.sizes.rows) × (n ≤ 4611686018427387904) × (m.0.pin.scan ≤ n)
       × (m' ≡ (record m.0 { claims = claimed q (Keeps n) m.0.claims }, m.1))
 
   -- A look at the others began: the epoch was loaded. It isn't below that of the look before, and no row is kept since a later one.
