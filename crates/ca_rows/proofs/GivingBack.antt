@@ -1,5 +1,5 @@
 -- What the steps that give kept rows back come to together.
-use Rattle.std.proofs.Common.{◌≡◌, ◌≢◌, ◌⊎◌, ℕ, suc, ◌+◌, ◌<◌, ◌≤◌, Bool, true, false, List, [], ◌∷◌, ◌++◌, length, take, drop, get_or, vec_len, vec_capacity, sym, refl, ap, ◌∙◌, subst, inl, inr, ⊎_elim, arith, le_refl}
+use Rattle.std.proofs.Common.{◌≡◌, ◌≢◌, ◌⊎◌, ℕ, ◌+◌, ◌<◌, ◌≤◌, List, ◌++◌, take, drop, get_or, vec_len, vec_capacity, sym, refl, ap, ◌∙◌, subst, inl, inr, ⊎_elim, arith, le_refl}
 use mathlib.Core.Logic.{dite}
 use mathlib.Core.Option.{Option, some, none, some-injective, some-ne-none}
 use native.Mathlib.Decide.{ℕ_discrete}
@@ -11,7 +11,7 @@ use Rattle.ca_rows.specs.declared.view.Claimed.{Claimed}
 use Rattle.ca_rows.specs.declared.view.Stage.TheVariants.{Idle}
 use Rattle.ca_rows.specs.Claims.{claim_of, claimed, dropped}
 use Rattle.ca_rows.specs.Kept.{AreKept}
-use Rattle.ca_rows.specs.Reclaiming.{Losses, Reclaims}
+use Rattle.ca_rows.specs.Reclaiming.{Reclaims}
 use Rattle.ca_rows.specs.Told.{Mine, with_claims, missed}
 use Rattle.ca_rows.proofs.Claiming.{claimed_here, claimed_else, dropped_here, dropped_else}
 use Rattle.ca_rows.proofs.Keeping.{claimed_too, dropped_too}
@@ -69,6 +69,18 @@ module _ {U : Type 0} where
         (y.kept r s.0 s.2))
         (x.kept r t e);
   }
+
+  -- What is kept after was kept before.
+  pub was_kept : (m m' : Mine U) → Reclaims m m' → (r t' : ℕ) → claim_of m'.0.claims r ≡ some (Keeps t')
+      → (t : ℕ) × (claim_of m.0.claims r ≡ some (Keeps t)) × (m'.0.lost ≡ m.0.lost → t' ≡ t)
+  was_kept m m' x r t' e = ⊎_elim
+      (λ (k : (t : ℕ) × (claim_of m.0.claims r ≡ some (Keeps t))). ⊎_elim
+      (λ (g : (claim_of m'.0.claims r ≡ none) × (k.0 + 2 ≤ m'.0.pin.scan)). absurd (some-ne-none (Keeps t') (sym e ∙ g.0)))
+      (λ (s : (u : ℕ) × (k.0 ≤ u) × (claim_of m'.0.claims r ≡ some (Keeps u)) × (m'.0.lost ≡ m.0.lost → u ≡ k.0)).
+      (k.0, k.1, λ same. kept_same t' s.0 (sym e ∙ s.2) ∙ s.3 same))
+      (x.kept r k.0 k.1))
+      (λ n. absurd (n t' (sym (x.others r n) ∙ e)))
+      (kept_or_not (claim_of m.0.claims r))
 
   -- One kept row was given back, or is kept since another epoch, and an exchange lost.
   module _ (m m' : Mine U) (q t : ℕ) (was : claim_of m.0.claims q ≡ some (Keeps t)) (old : t + 2 ≤ m.0.pin.scan) where

@@ -1,16 +1,18 @@
 -- What one round of giving kept rows back comes to, and three of them.
-use Rattle.std.proofs.Common.{◌≡◌, ◌≢◌, ◌⊎◌, ℕ, ◌+◌, ◌<◌, ◌≤◌, Bool, true, false, List, [], ◌∷◌, length, sym, refl, ap, ◌∙◌, subst, inr, ⊎_elim, arith, le_refl}
-use mathlib.Core.Option.{some, some-ne-none}
+use Rattle.std.proofs.Common.{◌≡◌, ◌⊎◌, ℕ, ◌+◌, ◌<◌, ◌≤◌, Bool, true, false, List, [], ◌∷◌, length, cond, Vec, Global, ◌-◌, sym, refl, ap, ◌∙◌, subst, inl, inr, ⊎_elim, arith, le_refl}
+use mathlib.Core.Option.{some}
 use Rattle.std.specs.declared.option.Option.TheVariants.{None, Some}
 use Rattle.ca_rows.specs.declared.kept.Kept.{Kept}
 use Rattle.ca_rows.specs.declared.reclaimed.Round.{Round}
 use Rattle.ca_rows.specs.declared.view.Claim.TheVariants.{Keeps}
 use Rattle.ca_rows.specs.declared.view.Pin.{Pin}
 use Rattle.ca_rows.specs.Claims.{claim_of}
-use Rattle.ca_rows.specs.Kept.{kept_of}
-use Rattle.ca_rows.specs.Reclaiming.{Losses, Reclaims, IsLag, IsLook, Moves, Rounds}
+use Rattle.ca_rows.specs.Kept.{kept_of, AreKept}
+use Rattle.ca_rows.specs.Reclaiming.{Losses, Reclaims, IsLook, Moves, Rounds}
 use Rattle.ca_rows.specs.Told.{Mine, with_pin}
-use Rattle.ca_rows.proofs.GivingBack.{reclaims_trans}
+use Rattle.ca_rows.proofs.GivingBack.{reclaims_trans, was_kept}
+use Rattle.ca_rows.proofs.Keeping.{no_rows}
+use Rattle.ca_rows.proofs.Scanning.{less_or_not}
 
 nothing_in : (xs : List Kept) → length xs ≡ 0 → xs ≡ []
 nothing_in [] e = refl
@@ -129,3 +131,56 @@ module _ {U : Type 0} where
           goes_on = λ _ f. let clash : true ≡ false = sym is ∙ f in absurd cc;
           ends = λ f _ _ _. absurd cc;
         }
+
+true_or_false : (b : Bool) → (b ≡ true) ⊎ (b ≡ false)
+true_or_false true = inl refl
+true_or_false false = inr refl
+
+-- c tells whether a or b does.
+abbrev pub Either : Bool → Bool → Bool → Type 0
+Either a b c = ((a ≡ true) × (c ≡ true)) ⊎ ((a ≡ false) × (c ≡ b))
+
+pub neither : (a b c : Bool) → Either a b c → c ≡ false → (a ≡ false) × (b ≡ false)
+neither a b c x e = ⊎_elim (λ (t : (a ≡ true) × (c ≡ true)). let clash : true ≡ false = sym t.1 ∙ e in absurd cc)
+    (λ (f : (a ≡ false) × (c ≡ b)). (f.0, sym f.1 ∙ e)) x
+
+not_fewer : (b : Bool) (n n' : ℕ) → Losses b n n' → n ≤ n'
+not_fewer true n n' l = omega arith
+not_fewer false n n' l = omega arith
+
+pub losses_together : (a b c : Bool) (n n' n'' : ℕ) → Either a b c → Losses a n n' → Losses b n' n'' → Losses c n n''
+losses_together a b c n n' n'' x one two = ⊎_elim
+    (λ (t : (a ≡ true) × (c ≡ true)). let some_lost : n < n' = subst (λ (y : Bool). Losses y n n') t.0 one in let more = not_fewer b n' n'' two in
+    let all : n < n'' = omega arith in subst (λ (y : Bool). Losses y n n'') (sym t.1) all)
+    (λ (f : (a ≡ false) × (c ≡ b)). let none_lost : n' ≡ n = subst (λ (y : Bool). Losses y n n') f.0 one in
+    subst (λ (y : Bool × ℕ). Losses y.0 y.1 n'') (λ i. (sym f.1 i, none_lost i)) two) x
+
+pub fewer : (more : Bool) (left left' : ℕ) → left ≤ 3 → left' ≡ cond more (left - 1) 0 → left' ≤ 3
+fewer true left left' l e = omega arith
+fewer false left left' l e = omega arith
+
+-- One round more of three, of which so many were left.
+module _ {U : Type 0} (rows passes number : ℕ) (m m' : Mine U) (kept kept' : Vec Kept Global) (k : AreKept rows m.0.claims kept)
+    (k' : AreKept rows m'.0.claims kept') (answer : Round) (x : Rounds passes number answer m m' kept.items kept'.items) (left left' : ℕ) (few : left ≤ 3)
+    (go_on : answer.more ≡ true → left' ≡ left - 1) (stop : answer.more ≡ false → left' ≡ 0)
+    (older : left < 3 → (r t : ℕ) → kept_of kept.items r ≡ some t → t + 3 ≤ m.0.pin.scan + left) (some_left : 0 < left) (none_lost : answer.lost ≡ false) where
+  -- What is kept still was kept before, since the same epoch.
+  same_epoch : (r t : ℕ) → kept_of kept'.items r ≡ some t → claim_of m.0.claims r ≡ some (Keeps t)
+  same_epoch r t e = let was = was_kept m m' x.reclaims r t (k'.are_claimed r t e).2 in
+      let same : m'.0.lost ≡ m.0.lost = subst (λ (y : Bool). Losses y m.0.lost m'.0.lost) none_lost x.lost in
+      subst (λ y. claim_of m.0.claims r ≡ some (Keeps y)) (sym (was.2 same)) was.1
+
+  -- since an epoch below that of this round, by the number of rounds before it
+  before : (r t : ℕ) → kept_of kept'.items r ≡ some t → t + 3 ≤ x.e + left
+  before r t e = let claimed_too = same_epoch r t e in let past = x.past r t claimed_too in let later = x.later in ⊎_elim
+      (λ (l : left < 3). let low = older l r t (k.are_listed r t claimed_too) in omega arith) (λ (l : 3 ≤ left). omega arith) (less_or_not left 3)
+
+  pub older_still : 0 < left' → (r t : ℕ) → kept_of kept'.items r ≡ some t → t + 3 ≤ m'.0.pin.scan + left'
+  older_still lo r t e = let low = before r t e in ⊎_elim
+      (λ more. let scan = x.goes_on more none_lost in let less = go_on more in omega arith)
+      (λ more. let zero_is = stop more in absurd (omega arith)) (true_or_false answer.more)
+
+  pub none_left : left' ≡ 0 → answer.lag ≡ None → m'.0.pin.scan < 4611686018427387904 → kept'.items ≡ []
+  none_left zero_is lag room = ⊎_elim
+      (λ more. let less = go_on more in nothing_in kept'.items (no_rows kept'.items (λ r t e. let low = before r t e in let young = x.young none_lost r t e in omega arith)))
+      (λ more. x.ends more lag none_lost room) (true_or_false answer.more)

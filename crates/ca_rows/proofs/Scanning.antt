@@ -1,5 +1,5 @@
 -- Looks at the others' announcements, and moving the epoch, keep the rule.
-use Rattle.std.proofs.Common.{◌≡◌, ◌≢◌, ◌⊎◌, ℕ, ◌+◌, ◌*◌, ◌<◌, ◌≤◌, true, false, eqb, List, map, get_or, set, sym, refl, ap, ◌∙◌, subst, inl, inr, ⊎_elim, arith, le_refl, eq-eqb, ne_eqb, get_or-set_other, get_or-set_same}
+use Rattle.std.proofs.Common.{◌≡◌, ◌≢◌, ◌⊎◌, ℕ, ◌+◌, ◌<◌, ◌≤◌, true, false, eqb, List, map, get_or, set, sym, refl, ap, ◌∙◌, subst, inl, inr, ⊎_elim, arith, le_refl, eq-eqb, ne_eqb, get_or-set_other, get_or-set_same}
 use Rattle.std.proofs.lemmas.Bool.{cases_order}
 use Rattle.std.proofs.lemmas.List.{set-get_or}
 use mathlib.Core.Logic.{dite}
@@ -13,17 +13,16 @@ use Rattle.ca_rows.specs.declared.sizes.Sizes.{Sizes}
 use Rattle.ca_rows.specs.declared.view.Claim.TheVariants.{Keeps}
 use Rattle.ca_rows.specs.declared.view.Pin.{Pin}
 use Rattle.ca_rows.specs.declared.view.View.{View}
-use Rattle.ca_rows.specs.Claims.{claim_of}
-use Rattle.ca_rows.specs.Laws.{Agrees, Frames}
+use Rattle.ca_rows.specs.Laws.{Frames}
 use Rattle.ca_rows.specs.Pins.{IsPin, ArePins}
 use Rattle.ca_rows.specs.Rule.{upper_of, pin_of, Ruled}
-use Rattle.ca_rows.specs.Told.{Mine, with_pin, Began, Scanned, Moved}
+use Rattle.ca_rows.specs.Told.{Mine, Began, Scanned, Moved}
 use Rattle.ca_rows.specs.Words.{epoch, announced}
 use Rattle.ca_rows.proofs.Pinned.{NewPin, pins_step, framed, repinned}
 use Rattle.ca_rows.proofs.PinSteps.{nothing, low_agrees, pin_at, upper_at, own}
 use Rattle.ca_rows.proofs.Steps.{owned}
 
-less_or_not : (a b : ℕ) → (a < b) ⊎ (b ≤ a)
+pub less_or_not : (a b : ℕ) → (a < b) ⊎ (b ≤ a)
 less_or_not a b = ⊎_elim (λ (e : a ≡ b). inr (omega arith)) (λ t. ⊎_elim (λ l. inl l) (λ (l : b < a). inr (omega arith)) t) (cases_order a b)
 
 -- The epoch moves by one, past no pass that is pinned.

@@ -1,5 +1,5 @@
 //! Passes give back the rows that they keep, once nobody can have a note on them.
-ghost use Rattle.std.specs.Prelude.{◌≡◌, ◌≢◌, ℕ, ◌+◌, ◌<◌, ◌≤◌, true, false, List, length, slice_index_or, vec_len};
+ghost use Rattle.std.specs.Prelude.{◌≡◌, ◌≢◌, ℕ, ◌+◌, ◌-◌, ◌<◌, ◌≤◌, cond, true, false, List, length, slice_index_or, vec_len};
 ghost use Rattle.std.specs.declared.option.Option.TheVariants.{None, Some};
 ghost use mathlib.Core.Option.{some};
 ghost use Rattle.ca_rows.specs.declared.view.Claim.TheVariants.{Holds as IsHeld, Keeps as IsKept};
@@ -153,4 +153,48 @@ impl<R: RowRule> Space<R> {
             more: true,
         }
     }
+
+    /// Gives back rows that the pass keeps, in up to three rounds. Each loads the epoch, gives back the rows that were retired two epochs before or earlier,
+    /// loads all announcements, and moves the epoch by one where each is absent or equal to it. A row whose putting back lost its exchange is retired anew.
+    pub fn reclaim(&self, pass: &mut Pass<R>) -> Reclaimed
+        requires own { IsOf self.now.table.shared.table_id self.now.table.shared.key pass.old.seat }
+        requires number { IsNumbered pass.old.number pass.old.seat.me.0.pin }
+        requires unpinned { pass.old.seat.me.0.pin.pinned ≡ false }
+        requires list { AreKept self.now.table.shared.key.rows pass.old.seat.me.0.claims pass.old.kept.rows }
+        ensures same { IsSame pass.old.seat pass.new.seat }
+        ensures number { pass.new.number ≡ pass.old.number }
+        ensures list { AreKept self.now.table.shared.key.rows pass.new.seat.me.0.claims pass.new.kept.rows }
+        ensures reclaims { Reclaims pass.old.seat.me pass.new.seat.me }
+        ensures freed { result.freed + vec_len pass.new.kept.rows ≡ vec_len pass.old.kept.rows }
+        ensures kept { result.kept ≡ vec_len pass.new.kept.rows }
+        ensures lag { IsLag self.now.table.shared.key.passes pass.old.number result.lag pass.new.seat.me.0.pin }
+        ensures lost { Losses result.lost pass.old.seat.me.0.lost pass.new.seat.me.0.lost }
+        ensures all { result.lag ≡ None → result.lost ≡ false → pass.new.seat.me.0.pin.scan < 4611686018427387904 → result.kept ≡ 0 }
+    {
+        let mut freed = 0;
+        let mut lag = None;
+        let mut lost = false;
+        let mut left = 3;
+        while left > 0 {
+            let round = self.round(pass);
+            freed += round.freed;
+            lag = round.lag;
+            lost = lost || round.lost;
+            left = rounds_left(left, round.more);
+        }
+        Reclaimed {
+            freed,
+            kept: pass.kept.len(),
+            lag,
+            lost,
+        }
+    }
+}
+
+// How many rounds are left after one.
+fn rounds_left(left: u32, more: bool) -> u32
+    requires { 0 < left }
+    ensures { result ≡ cond more (left - 1) 0 }
+{
+    if more { left - 1 } else { 0 }
 }

@@ -1,16 +1,12 @@
-use Rattle.std.proofs.Common.{◌≡◌, ℕ, suc, ◌+◌, ◌<◌, ◌≤◌, ◌++◌, ◌∷◌, [], List, length, length-append, take, drop, get_or, vec_len, vec_capacity, sym, ap, ◌∙◌, subst, arith}
-use mathlib.Core.Option.{some}
+use Rattle.std.proofs.Common.{ℕ, ◌≤◌, ◌∷◌, [], List, length, length-append, get_or, sym, ap, ◌∙◌, subst, arith}
 use Rattle.ca_rows.specs.declared.kept.Kept.{Kept}
 use Rattle.ca_rows.specs.declared.kept.KeptRows.{KeptRows}
-use Rattle.ca_rows.specs.declared.view.Claim.TheVariants.{Holds, Keeps}
-use Rattle.ca_rows.specs.declared.view.Claimed.{Claimed}
-use Rattle.ca_rows.specs.Claims.{claim_of, claimed, dropped}
-use Rattle.ca_rows.specs.Kept.{AreKept}
+use Rattle.ca_rows.specs.declared.view.Claim.TheVariants.{Holds}
+use Rattle.ca_rows.specs.Claims.{claim_of}
 use Rattle.ca_rows.specs.Told.{Mine}
 use Rattle.ca_rows.proofs.Claiming.{claimed_here}
 use Rattle.ca_rows.proofs.GivingBack.{put_back, kept_again, list_given, list_lost}
-use Rattle.ca_rows.proofs.Keeping.{claimed_too, dropped_too}
-use Rattle.ca_rows.proofs.Listing.{place_claimed, left_out}
+use Rattle.ca_rows.proofs.Listing.{place_claimed}
 use Rattle.ca_rows.proofs.space.Space.give_back.Goals as goal
 
 abbrev nobody : Kept

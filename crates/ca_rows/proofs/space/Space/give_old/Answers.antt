@@ -1,9 +1,9 @@
-use Rattle.std.proofs.Common.{rules, ◌≡◌, ℕ, ◌+◌, ◌-◌, ◌<◌, ◌≤◌, sym, ap, drop, ◌∙◌, subst, refl, arith}
+use Rattle.std.proofs.Common.{◌≡◌, ℕ, sym, ap, drop, ◌∙◌, subst, refl, arith}
 use Rattle.ca_rows.specs.declared.kept.Kept.{Kept}
 use Rattle.ca_rows.specs.Kept.{kept_of}
 use Rattle.ca_rows.specs.Reclaiming.{Losses}
 use Rattle.ca_rows.proofs.GivingBack.{reclaims_trans}
-use Rattle.ca_rows.proofs.Listing.{row_less, young_too}
+use Rattle.ca_rows.proofs.Listing.{row_less}
 use Rattle.ca_rows.proofs.space.Space.give_old.Goals as goal
 
 abbrev nobody : Kept

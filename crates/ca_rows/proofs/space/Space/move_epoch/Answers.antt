@@ -1,7 +1,4 @@
-use Rattle.std.proofs.Common.{rules, arith, sym, subst, eq-eqb, ne_eqb}
-use mathlib.Core.Logic.{dite}
-use native.Mathlib.Decide.{ℕ_discrete}
-use Rattle.ca_rows.specs.Reclaiming.{Moves}
+use Rattle.std.proofs.Common.{rules, arith}
 use Rattle.ca_rows.proofs.Scanning.{moves}
 use Rattle.ca_rows.proofs.space.Space.move_epoch.Goals as goal
 

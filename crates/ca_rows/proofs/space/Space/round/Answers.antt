@@ -1,6 +1,5 @@
-use Rattle.std.proofs.Common.{rules, ◌≡◌, ◌⊎◌, length, inl, inr, sym, ap, ◌∙◌, ℕ, arith}
-use Rattle.ca_rows.specs.Told.{Mine}
-use Rattle.ca_rows.proofs.Rounding.{round_ends, round_lags, round_goes_on}
+use Rattle.std.proofs.Common.{rules, ◌≡◌, ◌⊎◌, length, inl, inr, arith}
+use Rattle.ca_rows.proofs.Rounding.{round_ends}
 use Rattle.ca_rows.proofs.Scanning.{begins}
 use Rattle.ca_rows.proofs.space.Space.round.Goals as goal
 use Rattle.ca_rows.proofs.space.Space.round.Goals.{then-len-eq0-via-then-len-eq0, then-len-eq0-via-else-len-eq0+then-epoch}
