@@ -79,6 +79,7 @@ module _ {U : Type 0} where
       lag = ap (λ (p : Pin). p.lag) pin_is;
       young = young;
       goes_on = λ go _. absurd cc;
+      stops = λ _. ap (λ (p : Pin). p.scan) pin_is;
       ends = λ _ _ _ room. ⊎_elim (λ n. nothing_in ks' n) (λ (last : e ≡ 4611686018427387904). let scan = ap (λ (p : Pin). p.scan) pin_is in absurd (omega arith)) why;
     }
 
@@ -95,6 +96,7 @@ module _ {U : Type 0} where
       lag = (look.0, look.1, (λ f. look.2 (f ∙ sym is)), ap (λ (x : Mine U). x.0.pin.lag) saw);
       young = young;
       goes_on = λ go _. absurd cc;
+      stops = λ _. ap (λ (x : Mine U). x.0.pin.scan) saw ∙ ap (λ (p : Pin). p.scan) pin_is;
       ends = λ _ f _ _. absurd cc;
     }
 
@@ -115,6 +117,7 @@ module _ {U : Type 0} where
           lag = ap (λ (x : Mine U). x.0.pin.lag) move ∙ (ap (λ (x : Mine U). x.0.pin.lag) look ∙ ap (λ (p : Pin). p.lag) pin_is);
           young = λ f. young (sym is ∙ f);
           goes_on = λ _ _. ap (λ (x : Mine U). x.0.pin.scan) move;
+          stops = λ f. absurd cc;
           ends = λ f _ _ _. absurd cc;
         }
     round_goes_on false m3 m4 look move all_lost won missed = let to_3 = saw_more m2 m3 m2.0.pin.scan passes m2.0.pin.lag look (le_refl m2.0.pin.scan) in
@@ -129,6 +132,7 @@ module _ {U : Type 0} where
           lag = ap (λ (x : Mine U). x.0.pin.lag) move ∙ (ap (λ (x : Mine U). x.0.pin.lag) look ∙ ap (λ (p : Pin). p.lag) pin_is);
           young = λ f. let clash : true ≡ false = sym is ∙ f in absurd cc;
           goes_on = λ _ f. let clash : true ≡ false = sym is ∙ f in absurd cc;
+          stops = λ f. absurd cc;
           ends = λ f _ _ _. absurd cc;
         }
 
@@ -184,3 +188,8 @@ module _ {U : Type 0} (rows passes number : ℕ) (m m' : Mine U) (kept kept' : V
   none_left zero_is lag room = ⊎_elim
       (λ more. let less = go_on more in nothing_in kept'.items (no_rows kept'.items (λ r t e. let low = before r t e in let young = x.young none_lost r t e in omega arith)))
       (λ more. x.ends more lag none_lost room) (true_or_false answer.more)
+
+  pub young_left : left' ≡ 0 → (r t : ℕ) → kept_of kept'.items r ≡ some t → m'.0.pin.scan < t + 2
+  young_left zero_is r t e = let young = x.young none_lost r t e in ⊎_elim
+      (λ more. let less = go_on more in let low = before r t e in absurd (omega arith))
+      (λ more. let scan = x.stops more in omega arith) (true_or_false answer.more)

@@ -70,4 +70,5 @@ pub record Rounds {U : Type 0} (passes number : ℕ) (answer : Round) (m m' : Mi
   -- Where no exchange lost, only rows are kept still that were kept for less than two epochs.
   pub young : answer.lost ≡ false → (r t : ℕ) → kept_of ks' r ≡ some t → e < t + 2
   pub goes_on : answer.more ≡ true → answer.lost ≡ false → m'.0.pin.scan ≡ e + 1
+  pub stops : answer.more ≡ false → m'.0.pin.scan ≡ e
   pub ends : answer.more ≡ false → answer.lag ≡ None → answer.lost ≡ false → m'.0.pin.scan < 4611686018427387904 → ks' ≡ []

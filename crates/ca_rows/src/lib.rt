@@ -21,7 +21,7 @@ mod words;
 
 pub use fault::RowsFault;
 pub use kept::{Kept, KeptRows};
-pub use reclaimed::{Reclaimed, Round};
+pub use reclaimed::Reclaimed;
 pub use rule::{RowRule, Rows};
 pub use sizes::{Sizes, Starts};
 pub use space::{Half, Pass, Space};

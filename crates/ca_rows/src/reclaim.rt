@@ -169,6 +169,7 @@ impl<R: RowRule> Space<R> {
         ensures kept { result.kept ≡ vec_len pass.new.kept.rows }
         ensures lag { IsLag self.now.table.shared.key.passes pass.old.number result.lag pass.new.seat.me.0.pin }
         ensures lost { Losses result.lost pass.old.seat.me.0.lost pass.new.seat.me.0.lost }
+        ensures young { result.lost ≡ false → (r t : ℕ) → kept_of pass.new.kept.rows.items r ≡ some t → pass.new.seat.me.0.pin.scan < t + 2 }
         ensures all { result.lag ≡ None → result.lost ≡ false → pass.new.seat.me.0.pin.scan < 4611686018427387904 → result.kept ≡ 0 }
     {
         let mut freed = 0;

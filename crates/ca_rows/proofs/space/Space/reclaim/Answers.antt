@@ -1,7 +1,7 @@
 use Rattle.std.proofs.Common.{◌≡◌, ◌-◌, true, false, cond, inl, inr, ap, ◌∙◌, ℕ, subst, arith}
 use Rattle.ca_rows.specs.Reclaiming.{IsLag}
 use Rattle.ca_rows.proofs.GivingBack.{reclaims_trans}
-use Rattle.ca_rows.proofs.Rounding.{Either, neither, fewer, losses_together, older_still, none_left}
+use Rattle.ca_rows.proofs.Rounding.{Either, neither, fewer, losses_together, older_still, none_left, young_left}
 use Rattle.ca_rows.proofs.space.Space.reclaim.Goals as goal
 use Rattle.ca_rows.proofs.space.Space.reclaim.Goals.{then-lost, else-lost}
 
@@ -29,6 +29,9 @@ loop-left-preserved g c = let inv = c.loop-left.invariant in let some_left = c.l
       older = λ lo _ f. let not = neither c.loop-left.lost answer.lost c.if-lost.lost either f in
           older_still c.args.self.now.table.shared.key.rows c.args.self.now.table.shared.key.passes c.loop-left.pass.number m1 m2 kept1 kept2 inv.list told.list answer x left left' few go_on stop
           (λ l r t e. inv.older some_left l not.0 r t e) some_left not.1 lo;
+      young = λ zero_is f. let not = neither c.loop-left.lost answer.lost c.if-lost.lost either f in
+          young_left c.args.self.now.table.shared.key.rows c.args.self.now.table.shared.key.passes c.loop-left.pass.number m1 m2 kept1 kept2 inv.list told.list answer x left left' few go_on stop
+          (λ l r t e. inv.older some_left l not.0 r t e) some_left not.1 zero_is;
       ended = λ zero_is lag f room. let not = neither c.loop-left.lost answer.lost c.if-lost.lost either f in
           none_left c.args.self.now.table.shared.key.rows c.args.self.now.table.shared.key.passes c.loop-left.pass.number m1 m2 kept1 kept2 inv.list told.list answer x left left' few go_on stop
           (λ l r t e. inv.older some_left l not.0 r t e) some_left not.1 zero_is lag room;

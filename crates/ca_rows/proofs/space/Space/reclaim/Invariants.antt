@@ -17,6 +17,7 @@ invariant-loop-left g l = record {
   few : l.left ≤ 3;
   lag : l.left < 3 → IsLag l.self.table.shared.key.passes l.fn.pass.number l.lag l.pass.seat.me.0.pin;
   older : 0 < l.left → l.left < 3 → l.lost ≡ false → (r t : ℕ) → kept_of l.pass.kept.rows.items r ≡ some t → t + 3 ≤ l.pass.seat.me.0.pin.scan + l.left;
+  young : l.left ≡ 0 → l.lost ≡ false → (r t : ℕ) → kept_of l.pass.kept.rows.items r ≡ some t → l.pass.seat.me.0.pin.scan < t + 2;
   ended : l.left ≡ 0 → l.lag ≡ None → l.lost ≡ false → l.pass.seat.me.0.pin.scan < 4611686018427387904 → l.pass.kept.rows.items ≡ [];
 }
 
