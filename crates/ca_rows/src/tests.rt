@@ -331,7 +331,11 @@ fn a_kept_row_goes_back_after_two_epochs(rt: HostRuntime) {
             panic!(rt; "no pass")
         };
         assert_eq!(rt; take_and_retire(&space, &mut pass), 1);
-        assert_eq!(rt; space.reclaim(&mut pass), given(freed, kept), "from {epoch}");
+        assert_eq!(rt;
+            space.reclaim(&mut pass),
+            given(freed, kept),
+            "from {epoch}"
+        );
         assert_eq!(rt; pass.kept(), kept);
         assert_eq!(rt; take_each(&space, &mut pass), 383_u32.checked_sub(kept));
     }

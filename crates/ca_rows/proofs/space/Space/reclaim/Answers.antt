@@ -11,7 +11,7 @@ loop-left-preserved g c = let inv = c.loop-left.invariant in let some_left = c.l
     let kept1 = c.loop-left.pass.kept.rows in let kept2 = c.round-round.new.pass.kept.rows in let long1 = kept1.ok.0 in let long2 = kept2.ok.0 in
     let answer = c.round-round.result in let left : ℕ = c.loop-left.left in let left' : ℕ = c.rounds_left-left.result in
     let either : Either c.loop-left.lost answer.lost c.if-lost.lost = elim c.if-lost.branch [
-      then-lost w ↦ inl (w.if-lost.true, w.lost-is ∙ w.if-lost.true)
+      | then-lost w ↦ inl (w.if-lost.true, w.lost-is ∙ w.if-lost.true)
       | else-lost w ↦ inr (w.if-lost.false, w.lost-is)
     ] in
     let go_on = λ (e : answer.more ≡ true). c.rounds_left-left.ensures ∙ ap (λ b. cond b (left - 1) 0) e in

@@ -18,7 +18,7 @@ returns-then-len-eq0-clause-rounds g c = let began = c.load-epoch.ensures.2 in l
     let ks = c.args.pass.now.kept.rows in let ks' = c.give_old-freed.new.pass.kept.rows in let long = ks.ok.0 in let long' = ks'.ok.0 in
     let count = gave.freed in let n = c.len.ensures in
     let why : (length ks'.items ≡ 0) ⊎ (c.load-epoch.result ≡ 4611686018427387904) = elim c.then-len-eq0.branch [
-      then-len-eq0-via-then-len-eq0 w ↦ (let none_left = w.if-len-eq0.true in inl (omega arith))
+      | then-len-eq0-via-then-len-eq0 w ↦ (let none_left = w.if-len-eq0.true in inl (omega arith))
       | then-len-eq0-via-else-len-eq0+then-epoch w ↦ inr w.if-epoch.true
     ] in
     round_ends c.args.self.now.table.shared.key.passes c.args.pass.now.number c.args.pass.now.seat.me c.load-epoch.new.seat.me c.give_old-freed.new.pass.seat.me
