@@ -204,6 +204,7 @@ module _ {U : Type 0} (linked lent : List ℕ → ℕ → Type 0) (noted : List 
       count = r.count;
       made = r.made;
       few = r.few;
+      within = r.within;
       wide = r.wide;
       chain = chain_stays z.rows r.owner s.words s.words r.count r.chain (λ c. passed own seat (r.owner c)) refl (λ c k _ _ e. (ap (passed own seat) e, refl))
           (λ c k _ _ e. passed_free own seat k (r.owner c) e);

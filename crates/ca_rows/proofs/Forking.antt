@@ -95,6 +95,7 @@ module _ {U : Type 0} (linked lent : List ℕ → ℕ → Type 0) (noted : List 
           count = r.count;
           made = r.made;
           few = r.few;
+          within = r.within;
           wide = r.wide;
           chain = r.chain;
           row = λ c lo hi. row_stays s.words s.words (linked s.words) (linked s.words) (lent s.words) (lent s.words) (NotedAt noted s.words s.views)

@@ -15,13 +15,13 @@ use Rattle.ca_rows.specs.Kept.{kept_of, AreApart, AreKept, IsReleased, MayRetire
 use Rattle.ca_rows.specs.Told.{Mine, with_claims}
 use Rattle.ca_rows.proofs.Claiming.{claimed_here, claimed_else, dropped_else, dropped_here}
 
-here_is : (x : Kept) (xs : List Kept) (r : ℕ) → x.row ≡ r → kept_of (x ∷ xs) r ≡ some x.at
+pub here_is : (x : Kept) (xs : List Kept) (r : ℕ) → x.row ≡ r → kept_of (x ∷ xs) r ≡ some x.at
 here_is x xs r e = ap (λ b. cond b (some x.at) (kept_of xs r)) (eq-eqb x.row r e)
 
-else_is : (x : Kept) (xs : List Kept) (r : ℕ) → x.row ≢ r → kept_of (x ∷ xs) r ≡ kept_of xs r
+pub else_is : (x : Kept) (xs : List Kept) (r : ℕ) → x.row ≢ r → kept_of (x ∷ xs) r ≡ kept_of xs r
 else_is x xs r n = ap (λ b. cond b (some x.at) (kept_of xs r)) (ne_eqb x.row r n)
 
-not_here : (x : Kept) (xs : List Kept) (r : ℕ) → kept_of (x ∷ xs) r ≡ none → (x.row ≢ r) × (kept_of xs r ≡ none)
+pub not_here : (x : Kept) (xs : List Kept) (r : ℕ) → kept_of (x ∷ xs) r ≡ none → (x.row ≢ r) × (kept_of xs r ≡ none)
 not_here x xs r e = let n : x.row ≢ r = λ f. some-ne-none x.at (sym (here_is x xs r f) ∙ e) in (n, sym (else_is x xs r n) ∙ e)
 
 -- One more row behind a list that hasn't it.
@@ -40,15 +40,15 @@ apart_more [] y a e = (refl, tt)
 apart_more (x ∷ xs) y a e = let n = not_here x xs y.row e in (kept_front xs y x.row (λ f. n.0 (sym f)) ∙ a.0, apart_more xs y a.1 n.1)
 
 -- the list without a row
-without : ℕ → List Kept → List Kept
+pub without : ℕ → List Kept → List Kept
 without q [] = []
 without q (x ∷ xs) = cond (eqb x.row q) (without q xs) (x ∷ without q xs)
 
-without_this : (x : Kept) (xs : List Kept) (q : ℕ) → x.row ≡ q → without q (x ∷ xs) ≡ without q xs
+pub without_this : (x : Kept) (xs : List Kept) (q : ℕ) → x.row ≡ q → without q (x ∷ xs) ≡ without q xs
 unfolding without
 without_this x xs q e = ap (λ b. cond b (without q xs) (x ∷ without q xs)) (eq-eqb x.row q e)
 
-without_other : (x : Kept) (xs : List Kept) (q : ℕ) → x.row ≢ q → without q (x ∷ xs) ≡ x ∷ without q xs
+pub without_other : (x : Kept) (xs : List Kept) (q : ℕ) → x.row ≢ q → without q (x ∷ xs) ≡ x ∷ without q xs
 unfolding without
 without_other x xs q n = ap (λ b. cond b (without q xs) (x ∷ without q xs)) (ne_eqb x.row q n)
 
@@ -56,17 +56,17 @@ without_nothing : (q : ℕ) → without q [] ≡ []
 unfolding without
 without_nothing q = refl
 
-without_none : (xs : List Kept) (q : ℕ) → kept_of xs q ≡ none → without q xs ≡ xs
+pub without_none : (xs : List Kept) (q : ℕ) → kept_of xs q ≡ none → without q xs ≡ xs
 without_none [] q e = without_nothing q
 without_none (x ∷ xs) q e = let n = not_here x xs q e in without_other x xs q n.0 ∙ ap (λ ys. x ∷ ys) (without_none xs q n.1)
 
-without_here : (xs : List Kept) (q : ℕ) → kept_of (without q xs) q ≡ none
+pub without_here : (xs : List Kept) (q : ℕ) → kept_of (without q xs) q ≡ none
 without_here [] q = ap (λ ys. kept_of ys q) (without_nothing q)
 without_here (x ∷ xs) q = dite (ℕ_discrete x.row q)
     (λ e. ap (λ ys. kept_of ys q) (without_this x xs q e) ∙ without_here xs q)
     (λ n. ap (λ ys. kept_of ys q) (without_other x xs q n) ∙ (else_is x (without q xs) q n ∙ without_here xs q))
 
-without_else : (xs : List Kept) (q r : ℕ) → r ≢ q → kept_of (without q xs) r ≡ kept_of xs r
+pub without_else : (xs : List Kept) (q r : ℕ) → r ≢ q → kept_of (without q xs) r ≡ kept_of xs r
 without_else [] q r m = ap (λ ys. kept_of ys r) (without_nothing q)
 without_else (x ∷ xs) q r m = dite (ℕ_discrete x.row q)
     (λ e. ap (λ ys. kept_of ys r) (without_this x xs q e) ∙ (without_else xs q r m ∙ sym (else_is x xs r (λ f. m (sym f ∙ e)))))
@@ -77,7 +77,7 @@ without_else (x ∷ xs) q r m = dite (ℕ_discrete x.row q)
 still_none : (xs : List Kept) (q r : ℕ) → kept_of xs r ≡ none → kept_of (without q xs) r ≡ none
 still_none xs q r e = dite (ℕ_discrete r q) (λ f. ap (kept_of (without q xs)) f ∙ without_here xs q) (λ n. without_else xs q r n ∙ e)
 
-apart_less : (xs : List Kept) (q : ℕ) → AreApart xs → AreApart (without q xs)
+pub apart_less : (xs : List Kept) (q : ℕ) → AreApart xs → AreApart (without q xs)
 apart_less [] q a = subst AreApart (sym (without_nothing q)) tt
 apart_less (x ∷ xs) q a = dite (ℕ_discrete x.row q)
     (λ e. subst AreApart (sym (without_this x xs q e)) (apart_less xs q a.1))
@@ -89,7 +89,7 @@ one_less (x ∷ xs) q a = dite (ℕ_discrete x.row q)
     (λ e. let n = ap (λ (ys : List Kept). length ys) (without_this x xs q e ∙ without_none xs q (ap (kept_of xs) (sym e) ∙ a.0)) in omega arith)
     (λ m. let n = ap (λ (ys : List Kept). length ys) (without_other x xs q m) in let r = one_less xs q a.1 in omega arith)
 
-no_rows : (xs : List Kept) → ((r t : ℕ) → kept_of xs r ≡ some t → ⊥) → length xs ≡ 0
+pub no_rows : (xs : List Kept) → ((r t : ℕ) → kept_of xs r ≡ some t → ⊥) → length xs ≡ 0
 no_rows [] none_is = refl
 no_rows (x ∷ xs) none_is = absurd (none_is x.row x.at (here_is x xs x.row refl))
 

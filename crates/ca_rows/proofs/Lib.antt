@@ -4,13 +4,18 @@ mod Chains
 pub mod Claiming
 pub mod Closing
 pub mod Forking
+mod GivingBack
 pub mod Keeping
+mod Listing
 pub mod Making
 mod PinSteps
 mod Pinned
 pub mod Relinking
 mod Resting
+mod Regaining
 mod Retiring
+mod Rounding
 pub mod Rules
+mod Scanning
 mod Starting
 pub mod Steps

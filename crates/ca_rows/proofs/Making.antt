@@ -1,5 +1,5 @@
 -- A pass is made: the space's own seat is cut in two.
-use Rattle.std.proofs.Common.{◌≡◌, ◌≢◌, ◌⊎◌, ℕ, zero, suc, ◌+◌, ◌<◌, false, true, List, [], ◌∷◌, ◌++◌, map, length, set, sym, refl, ap, ◌∙◌, subst, inl, inr, ⊎_elim, arith, le_refl, length-set}
+use Rattle.std.proofs.Common.{◌≡◌, ◌≢◌, ◌⊎◌, ℕ, zero, suc, ◌+◌, ◌<◌, ◌≤◌, false, true, List, [], ◌∷◌, ◌++◌, map, length, set, sym, refl, ap, ◌∙◌, subst, inl, inr, ⊎_elim, arith, le_refl, length-set}
 use Rattle.std.proofs.lemmas.List.{map-set, map-append}
 use mathlib.Core.Logic.{dite}
 use mathlib.Core.Option.{some, none, some-injective, some-ne-none}
@@ -90,7 +90,8 @@ module _ {U : Type 0} (linked lent : List ℕ → ℕ → Type 0) (noted : List 
   abbrev new_pass : View U → View U
   new_pass v = fresh v.sizes (v.made + 1) (begins (v.made + 1))
 
-  module _ (s : State (Unit {0}) (View U)) (r : Ruled linked lent noted fact z s) (v : View U) (at : get_elem? s.views 0 ≡ some v) (few : v.made < 64) where
+  module _ (s : State (Unit {0}) (View U)) (r : Ruled linked lent noted fact z s) (v : View U) (at : get_elem? s.views 0 ≡ some v) (few : v.made < 64)
+      (left : v.made < z.passes) where
     abbrev grown : List (View U)
     grown = set s.views 0 (made_one v) ++ new_pass v ∷ []
 
@@ -160,6 +161,7 @@ module _ {U : Type 0} (linked lent : List ℕ → ℕ → Type 0) (noted : List 
       count = r.count;
       made = r.made + 1;
       few = r.few;
+      within = subst (λ n. n + 1 ≤ z.passes) count_is (omega arith);
       wide = r.wide;
       chain = r.chain;
       row = λ c lo hi. row_stays s.words s.words (linked s.words) (linked s.words) (lent s.words) (lent s.words) (NotedAt noted s.words s.views)
@@ -179,5 +181,5 @@ module _ {U : Type 0} (linked lent : List ℕ → ℕ → Type 0) (noted : List 
       above = subst (fact z (r.made + 1) s.words) (sym uppers_are) (law.keeps_making z r.made (map upper_of s.views) s.words r.above);
     }
 
-  pub splits : (v : View U) → v.made < 64 → Splits (Ruled linked lent noted fact z) 0 v (made_one v) (new_pass v)
-  splits v few s r at = makes s r v at few
+  pub splits : (v : View U) → v.made < 64 → v.made < z.passes → Splits (Ruled linked lent noted fact z) 0 v (made_one v) (new_pass v)
+  splits v few left s r at = makes s r v at few left

@@ -20,10 +20,10 @@ module _ {U : Type 0} (linked lent : List ℕ → ℕ → Type 0) (noted : List 
   abbrev R : State (Unit {0}) (View U) → Type 0
   R = Ruled linked lent noted fact z
 
-  nothing : (us : List U) (words : List ℕ) → Agrees linked lent noted fact us words words
+  pub nothing : (us : List U) (words : List ℕ) → Agrees linked lent noted fact us words words
   nothing us words = record { wide = refl; control = λ i _ _. refl; seen = λ r k _ _ _. refl }
 
-  low_agrees : (us : List U) (words : List ℕ) (i x : ℕ) → i < 66 → Agrees linked lent noted fact us words (set words i x)
+  pub low_agrees : (us : List U) (words : List ℕ) (i x : ℕ) → i < 66 → Agrees linked lent noted fact us words (set words i x)
   low_agrees us words i x l = record {
     wide = length-set words i x;
     control = λ j lo _. get_or-set_other words i j x 0 (λ e. omega arith);
@@ -31,13 +31,13 @@ module _ {U : Type 0} (linked lent : List ℕ → ℕ → Type 0) (noted : List 
   }
 
   module _ (s : State (Unit {0}) (View U)) (r : R s) (id : ℕ) (d : View U) (at : get_elem? s.views id ≡ some d) where
-    pin_at : get_elem? (map pin_of s.views) id ≡ some d.pin
+    pub pin_at : get_elem? (map pin_of s.views) id ≡ some d.pin
     pin_at = at_map pin_of s.views id d at
 
-    upper_at : get_elem? (map upper_of s.views) id ≡ some d.upper
+    pub upper_at : get_elem? (map upper_of s.views) id ≡ some d.upper
     upper_at = at_map upper_of s.views id d at
 
-    own : IsPin r.made s.words (map pin_of s.views) id d.pin
+    pub own : IsPin r.made s.words (map pin_of s.views) id d.pin
     own = r.pins.each id d.pin pin_at
 
     -- Where the seat isn't pinned afterwards, what it saw of the others is so still.

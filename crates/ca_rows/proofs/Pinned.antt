@@ -94,7 +94,7 @@ module _ {U : Type 0} (linked lent : List ℕ → ℕ → Type 0) (noted : List 
     (frames : Frames linked lent noted fact) (z : Sizes)
     (s : State (Unit {0}) (View U)) (r : Ruled linked lent noted fact z s) (id : ℕ) (d d' : View U) (at : get_elem? s.views id ≡ some d) (words' : List ℕ)
     (agrees : Agrees linked lent noted fact (map upper_of s.views) s.words words') where
-  framed : Framed linked lent noted fact z r.made (map upper_of s.views) s.words words'
+  pub framed : Framed linked lent noted fact z r.made (map upper_of s.views) s.words words'
   framed = frames z r.made (map upper_of s.views) s.words words' r.above agrees
 
   -- what a step says that changes the pin, and perhaps the upper part, but no row
@@ -117,6 +117,7 @@ module _ {U : Type 0} (linked lent : List ℕ → ℕ → Type 0) (noted : List 
     count = r.count;
     made = r.made;
     few = r.few;
+    within = r.within;
     wide = agrees.wide ∙ r.wide;
     chain = chain_stays z.rows r.owner s.words words' r.count r.chain r.owner (ap (λ x. x % 65536) n.head) (λ c k lo _ e. (e, next c lo)) (λ c k _ _ e. e);
     row = λ c lo hi. row_stays s.words words' (linked s.words) (linked words') (lent s.words) (lent words') (NotedAt noted s.words s.views)

@@ -248,6 +248,7 @@ module _ {U : Type 0} (linked lent : List ℕ → ℕ → Type 0) (noted : List 
       count = r.count;
       made = r.made;
       few = r.few;
+      within = r.within;
       wide = m.wide ∙ r.wide;
       chain = chain_stays z.rows r.owner s.words words' r.count r.chain owner' (ap (λ x. x % 65536) head)
           (λ c j lo hi e. (free_stays c j lo hi e (kind c) (m.changes c lo hi), next c j lo hi e)) (λ c j _ _ e. free_was c j (kind c) e);

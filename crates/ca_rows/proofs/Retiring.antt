@@ -13,7 +13,7 @@ use Rattle.ca_rows.specs.Account.{IsOut, IsClaim}
 use Rattle.ca_rows.specs.Claims.{claim_of, claimed}
 use Rattle.ca_rows.specs.Kept.{IsReleased, MayRetire}
 use Rattle.ca_rows.specs.Laws.{Agrees, Frames}
-use Rattle.ca_rows.specs.Rule.{upper_of, NotedAt}
+use Rattle.ca_rows.specs.Rule.{upper_of, pin_of, NotedAt}
 use Rattle.ca_rows.specs.Told.{Mine, Retired}
 use Rattle.ca_rows.specs.Words.{epoch}
 use Rattle.ca_rows.proofs.Claiming.{claim_mine, claim_others, claimed_here, claimed_else}
@@ -87,6 +87,7 @@ module _ {U : Type 0} (linked lent : List ℕ → ℕ → Type 0) (noted : List 
       (λ some_rows. ⊎_elim (λ (e : me.0.sizes.rows ≡ 0). absurd (omega arith)) (λ (e : me.0.sizes ≡ z). subst (λ (y : Sizes). q ≤ y.rows) (sym e) o.1)
           (r.seat id me.0 at).sizes_are),
       r.pins.small,
+      (r.pins.each id me.0.pin (at_map pin_of s.views id me.0 at)).scan_past,
       refl,
     ),
   )

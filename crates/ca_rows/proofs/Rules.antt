@@ -123,6 +123,7 @@ module _ {U : Type 0} (linked lent : List ℕ → ℕ → Type 0) (noted : List 
         count = count';
         made = r.made;
         few = r.few;
+        within = r.within;
         wide = agrees.wide ∙ r.wide;
         chain = chain;
         row = λ c lo hi. dite (ℕ_discrete c q)

@@ -101,6 +101,7 @@ module _ {U : Type 0} (linked lent : List ℕ → ℕ → Type 0) (noted : List 
     count = suc (z.rows - 2);
     made = 0;
     few = omega arith;
+    within = omega arith;
     wide = is.wide;
     chain = first_chain z.rows words (omega arith) (ap (λ n. n % 65536) is.head ∙ (in_head z.starts.tag 2 (omega arith)).1) is.free;
     row = first_row;

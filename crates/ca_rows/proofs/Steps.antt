@@ -28,11 +28,11 @@ use Rattle.ca_rows.proofs.Rules.{St, Rule, uppers, Is, alone_now, keeps_rule}
 pub row_of : List ℕ → ℕ → List ℕ
 row_of words r = take 136 (drop (136 * r) words)
 
-row_of_spells : (words : List ℕ) (r : ℕ) → Spells words r (row_of words r)
+pub row_of_spells : (words : List ℕ) (r : ℕ) → Spells words r (row_of words r)
 unfolding row_of
 row_of_spells words r k l = sym (get_or-take 136 (drop (136 * r) words) k 0 l ∙ get_or-drop (136 * r) words k 0)
 
-row_of_long : (words : List ℕ) (rows r : ℕ) → IsWide rows words → r ≤ rows → length (row_of words r) ≡ 136
+pub row_of_long : (words : List ℕ) (rows r : ℕ) → IsWide rows words → r ≤ rows → length (row_of words r) ≡ 136
 unfolding row_of
 row_of_long words rows r wide hi = length-take-le 136 (drop (136 * r) words) (omega (arith, length-drop (136 * r) words))
 

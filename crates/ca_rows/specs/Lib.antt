@@ -8,6 +8,7 @@ pub mod Laws
 pub mod Opening
 pub mod Owned
 pub mod Pins
+pub mod Reclaiming
 pub mod Register
 pub mod Rule
 pub mod Told

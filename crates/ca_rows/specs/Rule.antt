@@ -50,10 +50,11 @@ module _ {U : Type 0} (noted : List ℕ → U → ℕ → Type 0) (z : Sizes) (m
 module _ {U : Type 0} (linked lent : List ℕ → ℕ → Type 0) (noted : List ℕ → U → ℕ → Type 0) (fact : Sizes → ℕ → List ℕ → List U → Type 0) where
   pub record Ruled (z : Sizes) (s : State (Unit {0}) (View U)) : Type 0 where
     pub owner : ℕ → Owner
-    -- how many rows are free, and how many passes were made
+    -- how many rows are free, and how many passes were made, of those that the space is for
     pub count : ℕ
     pub made : ℕ
     pub few : z.rows < 65536
+    pub within : made ≤ z.passes
     pub wide : IsWide z.rows s.words
     pub chain : IsChain z.rows owner s.words count
     pub row : (r : ℕ) → 0 < r → r ≤ z.rows → IsRow s.words (linked s.words) (lent s.words) (NotedAt noted s.words s.views) (claim_at s.views) r (owner r)

@@ -1,5 +1,5 @@
 -- What each step of the rows tells.
-use Rattle.std.specs.Prelude.{◌≡◌, ◌≢◌, ℕ, ◌+◌, ◌*◌, ◌/◌, ◌%◌, ◌<◌, ◌≤◌, true, false, List, length, slice_set}
+use Rattle.std.specs.Prelude.{◌≡◌, ◌≢◌, ◌⊎◌, ℕ, ◌+◌, ◌*◌, ◌/◌, ◌%◌, ◌<◌, ◌≤◌, true, false, List, length, slice_set}
 use mathlib.Core.Option.{some, none}
 use Rattle.atomic_table.specs.Table.{Me, Step}
 use Rattle.ca_rows.specs.declared.view.Claim.TheVariants.{Holds, Keeps}
@@ -64,7 +64,25 @@ module _ {U : Type 0} where
   abbrev pub Left : (U → U) → Step (Unit {0}) → Mine U → ℕ → Mine U → Type 0
   Left leaves st m n m' = m' ≡ (record m.0 { pin = record m.0.pin { pinned = false }; upper = leaves m.0.upper }, m.1)
 
-  -- The row is kept, since the epoch that was loaded.
+  -- The row is kept, since the epoch that was loaded. It isn't below that of the last look.
   abbrev pub Retired : ℕ → Step (Unit {0}) → Mine U → ℕ → Mine U → Type 0
-  Retired q st m n m' = (0 < q) × (0 < m.0.sizes.rows → q ≤ m.0.sizes.rows) × (n ≤ 4611686018427387904)
+  Retired q st m n m' = (0 < q) × (0 < m.0.sizes.rows → q ≤ m.0.sizes.rows) × (n ≤ 4611686018427387904) × (m.0.pin.scan ≤ n)
       × (m' ≡ (record m.0 { claims = claimed q (Keeps n) m.0.claims }, m.1))
+
+  -- A look at the others began: the epoch was loaded. It isn't below that of the look before, and no row is kept since a later one.
+  abbrev pub Began : Step (Unit {0}) → Mine U → ℕ → Mine U → Type 0
+  Began st m n m' = (n ≤ 4611686018427387904) × (m.0.pin.scan ≤ n) × ((r t : ℕ) → claim_of m.0.claims r ≡ some (Keeps t) → t ≤ n)
+      × (m' ≡ with_pin m (record m.0.pin { scan = n; upto = 0; lag = 0 }))
+
+  -- The next pass's announcement was loaded: it is absent or not older than the look, or the pass lags. A pass that isn't pinned doesn't lag itself.
+  abbrev pub Scanned : Step (Unit {0}) → Mine U → ℕ → Mine U → Type 0
+  Scanned st m n m' = (n ≡ 0 ⊎ m.0.pin.scan < n → m' ≡ with_pin m (record m.0.pin { upto = m.0.pin.upto + 1 }))
+      × (0 < n → n ≤ m.0.pin.scan → (m.0.pin.pinned ≡ false → m.0.pin.upto + 1 ≢ m.0.pin.number) × (m' ≡ with_pin m (record m.0.pin { lag = m.0.pin.upto + 1 })))
+
+  -- The epoch moved by one, or the exchange lost.
+  abbrev pub Moved : Step (Unit {0}) → Mine U → ℕ → Mine U → Type 0
+  Moved st m n m' = (n ≡ st.first → m' ≡ with_pin m (record m.0.pin { scan = st.second; upto = 0 })) × (n ≢ st.first → m' ≡ (record m.0 { lost = m.0.lost + 1 }, m.1))
+
+  -- The pass holds a row that it kept.
+  abbrev pub Regained : ℕ → Step (Unit {0}) → Mine U → ℕ → Mine U → Type 0
+  Regained q st m n m' = (its : List ℕ) × (length its ≡ 136) × (m' ≡ (record m.0 { claims = claimed q (Holds its) m.0.claims }, m.1))

@@ -1,5 +1,5 @@
 //! The rows that a pass keeps.
-ghost use Rattle.std.specs.Prelude.{◌≡◌, ◌<◌, ◌≤◌, ◌+◌, ◌++◌, ◌∷◌, [], vec_len, vec_capacity, IfOk};
+ghost use Rattle.std.specs.Prelude.{◌≡◌, ◌↔◌, IsTrue, ◌<◌, ◌≤◌, ◌+◌, ◌++◌, ◌∷◌, [], take, drop, slice_index_or, vec_len, vec_capacity, IfOk};
 
 use std::alloc::{AllocError, Global};
 
@@ -37,6 +37,25 @@ impl KeptRows {
         if let Err(full) = self.rows.push(Kept { row, at }) {
             drop(full);
         }
+    }
+
+    // Whether the row at a place was retired two epochs before this one, or earlier.
+    pub(crate) fn is_old(&self, at: u32, epoch: u64) -> bool
+        requires { at < vec_len self.now.rows }
+        ensures { IsTrue result ↔ (slice_index_or self.now.rows.items at (record { row = 0; at = 0 })).at + 2 ≤ epoch }
+    {
+        epoch >= 2 && self.rows[at as usize].at <= epoch - 2
+    }
+
+    // Takes the row at a place out; those behind it move up.
+    pub(crate) fn remove(&mut self, at: u32) -> u32
+        requires { at < vec_len self.old.rows }
+        ensures row { result ≡ (slice_index_or self.old.rows.items at (record { row = 0; at = 0 })).row }
+        ensures rows { self.new.rows.items ≡ take at self.old.rows.items ++ drop (at + 1) self.old.rows.items }
+        ensures len { vec_len self.new.rows + 1 ≡ vec_len self.old.rows }
+        ensures room { vec_capacity self.new.rows ≡ vec_capacity self.old.rows }
+    {
+        self.rows.remove(at as usize).row
     }
 
     pub(crate) fn len(&self) -> u32

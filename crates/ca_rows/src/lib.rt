@@ -8,6 +8,8 @@ mod make;
 mod opening;
 mod pin;
 mod plays;
+mod reclaim;
+mod reclaimed;
 mod rest;
 mod retire;
 mod rule;
@@ -19,6 +21,7 @@ mod words;
 
 pub use fault::RowsFault;
 pub use kept::{Kept, KeptRows};
+pub use reclaimed::Reclaimed;
 pub use rule::{RowRule, Rows};
 pub use sizes::{Sizes, Starts};
 pub use space::{Half, Pass, Space};

@@ -2,7 +2,7 @@
 ghost use Rattle.std.specs.Prelude.{ℕ, ◌+◌};
 ghost use Rattle.ca_rows.specs.Closed.{joined};
 ghost use Rattle.ca_rows.specs.Rule.{fresh, no_sizes};
-ghost use Rattle.ca_rows.specs.Told.{Looked, Peeked, Took, Wrote, Gave, Asked, Announced, Left, Retired};
+ghost use Rattle.ca_rows.specs.Told.{Looked, Peeked, Took, Wrote, Gave, Asked, Announced, Left, Retired, Regained, Began, Scanned, Moved};
 
 use crate::rule::RowRule;
 use crate::view::View;
@@ -96,6 +96,36 @@ pub struct Retire<K> {
 
 impl<K: Named, U> Play<(), View<U>> for Retire<K> {
     ghost then = { λ st m n m'. Retired K.about st m n m' };
+}
+
+/// The load after which a pass holds a row that it kept.
+pub struct Regain<K> {
+    named: PhantomData<K>,
+}
+
+impl<K: Named, U> Play<(), View<U>> for Regain<K> {
+    ghost then = { λ st m n m'. Regained K.about st m n m' };
+}
+
+/// The load of the epoch that begins a look at the others.
+pub struct Begin;
+
+impl<U> Play<(), View<U>> for Begin {
+    ghost then = { Began };
+}
+
+/// The load of the next announcement.
+pub struct Scan;
+
+impl<U> Play<(), View<U>> for Scan {
+    ghost then = { Scanned };
+}
+
+/// The exchange that moves the epoch by one.
+pub struct Move;
+
+impl<U> Play<(), View<U>> for Move {
+    ghost then = { Moved };
 }
 
 /// The step that joins a pass's seat into the space's own one.

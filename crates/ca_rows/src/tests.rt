@@ -200,7 +200,9 @@ fn begins_with_these_words(rt: HostRuntime) {
 fn take_and_retire(space: &Space<Register>, pass: &mut Pass<Register>) -> u32
     requires own { IsOf space.now.table.shared.table_id space.now.table.shared.key pass.old.seat }
     requires list { AreKept space.now.table.shared.key.rows pass.old.seat.me.0.claims pass.old.kept.rows }
-    ensures { IsOf space.now.table.shared.table_id space.now.table.shared.key pass.new.seat }
+    ensures own { IsOf space.now.table.shared.table_id space.now.table.shared.key pass.new.seat }
+    ensures same { (pass.new.number ≡ pass.old.number) × (pass.new.seat.me.0.pin ≡ pass.old.seat.me.0.pin) }
+    ensures list { AreKept space.now.table.shared.key.rows pass.new.seat.me.0.claims pass.new.kept.rows }
 {
     if let Taken::Row(row) = space.take_row(pass) {
         space.retire(pass, row);
@@ -301,4 +303,63 @@ fn a_tag_at_its_last_value_is_worn(rt: HostRuntime) {
     };
     assert_eq!(rt; space.take_row(&mut pass), Taken::Row(2));
     assert_eq!(rt; space.take_row(&mut pass), Taken::Worn);
+}
+
+// The answer where no pass lags and no exchange lost.
+fn given(freed: u32, kept: u32) -> Reclaimed {
+    Reclaimed {
+        freed,
+        kept,
+        lag: None,
+        lost: false,
+    }
+}
+
+#[test]
+fn a_kept_row_goes_back_after_two_epochs(rt: HostRuntime) {
+    for (epoch, freed, kept) in [
+        (0, 1, 0),
+        ((1 << 62) - 2, 1, 0),
+        ((1 << 62) - 1, 0, 1),
+        (1 << 62, 0, 1),
+    ] {
+        let at = starts(0, epoch, 0, 0);
+        let Ok(mut space) = Space::<Register>::new(rt.alloc(), 384, 1, 1, 120, 0, at) else {
+            panic!(rt; "no memory")
+        };
+        let Ok(mut pass) = space.enroll(rt.alloc()) else {
+            panic!(rt; "no pass")
+        };
+        assert_eq!(rt; take_and_retire(&space, &mut pass), 1);
+        assert_eq!(rt;
+            space.reclaim(&mut pass),
+            given(freed, kept),
+            "from {epoch}"
+        );
+        assert_eq!(rt; pass.kept(), kept);
+        assert_eq!(rt; take_each(&space, &mut pass), 383_u32.checked_sub(kept));
+    }
+}
+
+#[test]
+fn a_pass_that_stays_pinned_lags(rt: HostRuntime) {
+    let Ok(mut space) = Space::<Register>::new(rt.alloc(), 384, 2, 1, 120, 0, STARTS) else {
+        panic!(rt; "no memory")
+    };
+    let (Ok(mut first), Ok(mut second)) = (space.enroll(rt.alloc()), space.enroll(rt.alloc()))
+    else {
+        panic!(rt; "no pass")
+    };
+    space.pin(&mut second);
+    assert_eq!(rt; take_and_retire(&space, &mut first), 1);
+    let behind = Reclaimed {
+        lag: Some(2),
+        ..given(0, 1)
+    };
+    assert_eq!(rt; space.reclaim(&mut first), behind);
+    assert_eq!(rt; space.reclaim(&mut first), behind);
+    space.unpin(&mut second);
+    assert_eq!(rt; take_and_retire(&space, &mut first), 2);
+    assert_eq!(rt; space.reclaim(&mut first), given(2, 0));
+    assert_eq!(rt; space.reclaim(&mut second), given(0, 0));
 }

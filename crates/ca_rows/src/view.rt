@@ -39,11 +39,11 @@ pub struct Pin {
     pub told: u64,
     /// The epoch as it announced.
     pub moment: u64,
-    /// The epoch as its last look at the others began.
+    /// The epoch as its last look at the others began, or to which it moved it then.
     pub scan: u64,
     /// How many passes it looked at since.
     pub upto: u64,
-    /// A pass that it found behind.
+    /// A pass that it found behind, or 0.
     pub lag: u64,
 }
 

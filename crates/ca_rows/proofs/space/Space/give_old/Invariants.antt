@@ -1,0 +1,22 @@
+use Rattle.std.proofs.Common.{◌≡◌, ℕ, ◌+◌, ◌<◌, ◌≤◌, false, drop, vec_len}
+use mathlib.Core.Option.{some}
+use Rattle.ca_rows.specs.Kept.{AreKept, kept_of}
+use Rattle.ca_rows.specs.Reclaiming.{Losses, Reclaims}
+use Rattle.ca_rows.proofs.space.Space.give_old.Given as goal
+
+abbrev pub invariant-loop-at : goal.invariant-loop-at
+invariant-loop-at g l = record {
+  table : l.pass.seat.table_id ≡ l.fn.pass.seat.table_id;
+  id : l.pass.seat.id ≡ l.fn.pass.seat.id;
+  number : l.pass.number ≡ l.fn.pass.number;
+  list : AreKept l.self.table.shared.key.rows l.pass.seat.me.0.claims l.pass.kept.rows;
+  pin : l.pass.seat.me.0.pin ≡ l.fn.pass.seat.me.0.pin;
+  reclaims : Reclaims l.fn.pass.seat.me l.pass.seat.me;
+  freed : l.freed + vec_len l.pass.kept.rows ≡ vec_len l.fn.pass.kept.rows;
+  lost : Losses l.lost l.fn.pass.seat.me.0.lost l.pass.seat.me.0.lost;
+  young : l.lost ≡ false → (r t : ℕ) → kept_of (drop l.at l.pass.kept.rows.items) r ≡ some t → l.epoch < t + 2;
+  within : l.at ≤ vec_len l.pass.kept.rows;
+}
+
+abbrev pub decreases-loop-at : goal.decreases-loop-at
+decreases-loop-at g l = l.at

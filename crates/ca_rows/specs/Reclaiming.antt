@@ -1,0 +1,74 @@
+-- What giving kept rows back comes to.
+use Rattle.std.specs.Prelude.{◌≡◌, ◌≢◌, ◌⊎◌, ℕ, ◌+◌, ◌<◌, ◌≤◌, Bool, true, false, List, [], ◌++◌, length, take, drop}
+use Rattle.std.specs.declared.option.Option.{Option as Answer}
+use Rattle.std.specs.declared.option.Option.TheVariants.{None, Some}
+use mathlib.Core.Option.{some, none}
+use Rattle.ca_rows.specs.declared.kept.Kept.{Kept}
+use Rattle.ca_rows.specs.declared.reclaimed.Round.{Round}
+use Rattle.ca_rows.specs.declared.view.Claim.TheVariants.{Keeps}
+use Rattle.ca_rows.specs.declared.view.Pin.{Pin}
+use Rattle.ca_rows.specs.Claims.{claim_of}
+use Rattle.ca_rows.specs.Kept.{kept_of}
+use Rattle.ca_rows.specs.Told.{Mine, with_pin}
+
+-- Exchanges were lost, or none was, by the counts before and after.
+abbrev pub Losses : Bool → ℕ → ℕ → Type 0
+Losses true before after = before < after
+Losses false before after = after ≡ before
+
+module _ {U : Type 0} where
+  -- Kept rows were given back. Nothing else of the pass changed but what it saw of the pool and of the epoch.
+  pub record Reclaims (m m' : Mine U) : Type 0 where
+    pub same_sizes : m'.0.sizes ≡ m.0.sizes
+    pub same_made : m'.0.made ≡ m.0.made
+    pub same_number : m'.0.pin.number ≡ m.0.pin.number
+    pub same_pinned : m'.0.pin.pinned ≡ m.0.pin.pinned
+    pub same_told : m'.0.pin.told ≡ m.0.pin.told
+    pub same_moment : m'.0.pin.moment ≡ m.0.pin.moment
+    pub same_upper : m'.0.upper ≡ m.0.upper
+    pub same_slots : m'.1 ≡ m.1
+    pub later : m.0.pin.scan ≤ m'.0.pin.scan
+    pub more_lost : m.0.lost ≤ m'.0.lost
+    pub others : (r : ℕ) → ((t : ℕ) → claim_of m.0.claims r ≢ some (Keeps t)) → claim_of m'.0.claims r ≡ claim_of m.0.claims r
+    -- A row that was given back was kept for two epochs at least; one that is kept still is kept as before, unless an exchange lost.
+    pub kept : (r t : ℕ) → claim_of m.0.claims r ≡ some (Keeps t) → (claim_of m'.0.claims r ≡ none) × (t + 2 ≤ m'.0.pin.scan)
+        ⊎ ((t' : ℕ) × (t ≤ t') × (claim_of m'.0.claims r ≡ some (Keeps t')) × (m'.0.lost ≡ m.0.lost → t' ≡ t))
+
+-- The row at this place of the list was given back, or the exchange lost, and it is kept since another epoch, behind the others.
+module _ {U : Type 0} where
+  pub record GivesBack (given : Bool) (at : ℕ) (m m' : Mine U) (ks ks' : List Kept) : Type 0 where
+    pub reclaims : Reclaims m m'
+    pub same_pin : m'.0.pin ≡ m.0.pin
+    pub rows_given : given ≡ true → (ks' ≡ take at ks ++ drop (at + 1) ks) × (m'.0.lost ≡ m.0.lost)
+    pub rows_kept : given ≡ false → (length ks' ≡ length ks) × (m'.0.lost ≡ m.0.lost + 1)
+
+-- The pass with this number was found to lag, or none was.
+abbrev pub IsLag : ℕ → ℕ → Answer ℕ → Pin → Type 0
+IsLag passes number None e = e.lag ≡ 0
+IsLag passes number (Some j) e = (0 < j) × (j ≤ passes) × (j ≢ number) × (e.lag ≡ j)
+
+-- All passes were looked at, or one lags.
+abbrev pub IsLook : {U : Type 0} → ℕ → Answer ℕ → Mine U → Mine U → Type 0
+IsLook passes None m m' = m' ≡ with_pin m (record m.0.pin { upto = passes })
+IsLook passes (Some j) m m' = (0 < j) × (j ≤ passes) × (j ≢ m.0.pin.number) × ((upto : ℕ) × (m' ≡ with_pin m (record m.0.pin { upto = upto; lag = j })))
+
+-- The epoch moved by one, or the exchange lost.
+abbrev pub Moves : {U : Type 0} → Bool → ℕ → Mine U → Mine U → Type 0
+Moves true e m m' = m' ≡ with_pin m (record m.0.pin { scan = e + 1; upto = 0 })
+Moves false e m m' = m' ≡ (record m.0 { lost = m.0.lost + 1 }, m.1)
+
+-- One round, by its answer and by the lists of kept rows before and after.
+pub record Rounds {U : Type 0} (passes number : ℕ) (answer : Round) (m m' : Mine U) (ks ks' : List Kept) : Type 0 where
+  -- the epoch that was loaded
+  pub e : ℕ
+  pub later : m.0.pin.scan ≤ e
+  pub past : (r t : ℕ) → claim_of m.0.claims r ≡ some (Keeps t) → t ≤ e
+  pub reclaims : Reclaims m m'
+  pub freed : answer.freed + length ks' ≡ length ks
+  pub lost : Losses answer.lost m.0.lost m'.0.lost
+  pub lag : IsLag passes number answer.lag m'.0.pin
+  -- Where no exchange lost, only rows are kept still that were kept for less than two epochs.
+  pub young : answer.lost ≡ false → (r t : ℕ) → kept_of ks' r ≡ some t → e < t + 2
+  pub goes_on : answer.more ≡ true → answer.lost ≡ false → m'.0.pin.scan ≡ e + 1
+  pub stops : answer.more ≡ false → m'.0.pin.scan ≡ e
+  pub ends : answer.more ≡ false → answer.lag ≡ None → answer.lost ≡ false → m'.0.pin.scan < 4611686018427387904 → ks' ≡ []

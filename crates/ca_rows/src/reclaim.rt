@@ -1,0 +1,201 @@
+//! Passes give back the rows that they keep, once nobody can have a note on them.
+ghost use Rattle.std.specs.Prelude.{◌≡◌, ◌≢◌, ℕ, ◌+◌, ◌-◌, ◌<◌, ◌≤◌, cond, true, false, List, length, slice_index_or, vec_len};
+ghost use Rattle.std.specs.declared.option.Option.TheVariants.{None, Some};
+ghost use mathlib.Core.Option.{some};
+ghost use Rattle.ca_rows.specs.declared.view.Claim.TheVariants.{Holds as IsHeld, Keeps as IsKept};
+ghost use Rattle.ca_rows.specs.Calls.{IsOf, IsSame, IsNumbered};
+ghost use Rattle.ca_rows.specs.Claims.{claim_of, claimed};
+ghost use Rattle.ca_rows.specs.Kept.{AreKept, kept_of};
+ghost use Rattle.ca_rows.specs.Reclaiming.{Losses, Reclaims, GivesBack, IsLag, IsLook, Moves, Rounds};
+ghost use Rattle.ca_rows.specs.Told.{with_pin};
+
+use crate::plays::{Begin, Move, Named, Regain, Scan};
+use crate::reclaimed::{Reclaimed, Round};
+use crate::rule::RowRule;
+use crate::space::{Pass, Space};
+use std::marker::Brand;
+
+impl<R: RowRule> Space<R> {
+    // The pass holds the row again that K names.
+    fn regain_as<K: Named>(&self, pass: &mut Pass<R>, _row: u32)
+        requires own { IsOf self.now.table.shared.table_id self.now.table.shared.key pass.old.seat }
+        requires old { (t : ℕ) × (claim_of pass.old.seat.me.0.claims K.about ≡ some (IsKept t)) × (t + 2 ≤ pass.old.seat.me.0.pin.scan) }
+        ensures same { IsSame pass.old.seat pass.new.seat }
+        ensures number { pass.new.number ≡ pass.old.number }
+        ensures kept { pass.new.kept ≡ pass.old.kept }
+        ensures held { (its : List ℕ) × (length its ≡ 136) × (pass.new.seat.me ≡ (record pass.old.seat.me.0 { claims = claimed K.about (IsHeld its) pass.old.seat.me.0.claims }, pass.old.seat.me.1)) }
+    {
+        self.table.shared.load::<Regain<K>>(&mut pass.seat, 1);
+    }
+
+    // Gives back the kept row at this place of the list. False exactly where the exchange lost: the row is kept since now then, behind the others.
+    fn give_back(&self, pass: &mut Pass<R>, at: u32) -> bool
+        requires own { IsOf self.now.table.shared.table_id self.now.table.shared.key pass.old.seat }
+        requires list { AreKept self.now.table.shared.key.rows pass.old.seat.me.0.claims pass.old.kept.rows }
+        requires place { at < vec_len pass.old.kept.rows }
+        requires old { (slice_index_or pass.old.kept.rows.items at (record { row = 0; at = 0 })).at + 2 ≤ pass.old.seat.me.0.pin.scan }
+        ensures same { IsSame pass.old.seat pass.new.seat }
+        ensures number { pass.new.number ≡ pass.old.number }
+        ensures list { AreKept self.now.table.shared.key.rows pass.new.seat.me.0.claims pass.new.kept.rows }
+        ensures given { GivesBack result at pass.old.seat.me pass.new.seat.me pass.old.kept.rows.items pass.new.kept.rows.items }
+    {
+        let row = pass.kept.remove(at);
+        self.regain_as::<Brand>(pass, row);
+        if self.put_row(pass, row) {
+            return true;
+        }
+        self.retire(pass, row);
+        false
+    }
+
+    // Gives back the rows that were kept two epochs before this one, from the last: how many, and whether an exchange lost.
+    fn give_old(&self, pass: &mut Pass<R>, epoch: u64) -> (u32, bool)
+        requires own { IsOf self.now.table.shared.table_id self.now.table.shared.key pass.old.seat }
+        requires list { AreKept self.now.table.shared.key.rows pass.old.seat.me.0.claims pass.old.kept.rows }
+        requires epoch { pass.old.seat.me.0.pin.scan ≡ epoch }
+        ensures same { IsSame pass.old.seat pass.new.seat }
+        ensures number { pass.new.number ≡ pass.old.number }
+        ensures list { AreKept self.now.table.shared.key.rows pass.new.seat.me.0.claims pass.new.kept.rows }
+        ensures pin { pass.new.seat.me.0.pin ≡ pass.old.seat.me.0.pin }
+        ensures reclaims { Reclaims pass.old.seat.me pass.new.seat.me }
+        ensures freed { result.0 + vec_len pass.new.kept.rows ≡ vec_len pass.old.kept.rows }
+        ensures lost { Losses result.1 pass.old.seat.me.0.lost pass.new.seat.me.0.lost }
+        ensures young { result.1 ≡ false → (r t : ℕ) → kept_of pass.new.kept.rows.items r ≡ some t → epoch < t + 2 }
+    {
+        let mut freed = 0;
+        let mut lost = false;
+        let mut at = pass.kept.len();
+        while at > 0 {
+            at -= 1;
+            if pass.kept.is_old(at, epoch) {
+                if self.give_back(pass, at) {
+                    freed += 1;
+                } else {
+                    lost = true;
+                }
+            }
+        }
+        (freed, lost)
+    }
+
+    // The first pass whose announcement is older than the epoch that the look began with.
+    fn lagging(&self, pass: &mut Pass<R>, epoch: u64) -> Option<u32>
+        requires own { IsOf self.now.table.shared.table_id self.now.table.shared.key pass.old.seat }
+        requires begun { (pass.old.seat.me.0.pin.scan ≡ epoch) × (pass.old.seat.me.0.pin.upto ≡ 0) }
+        requires unpinned { pass.old.seat.me.0.pin.pinned ≡ false }
+        ensures same { IsSame pass.old.seat pass.new.seat }
+        ensures number { pass.new.number ≡ pass.old.number }
+        ensures kept { pass.new.kept ≡ pass.old.kept }
+        ensures look { IsLook self.now.table.shared.key.passes result pass.old.seat.me pass.new.seat.me }
+    {
+        let mut seen = 0;
+        while seen < self.sizes.passes {
+            let word = seen as usize + 2;
+            let announced = self.table.shared.load::<Scan>(&mut pass.seat, word);
+            if announced != 0 && announced <= epoch {
+                return Some(seen + 1);
+            }
+            seen += 1;
+        }
+        None
+    }
+
+    // Moves the epoch, at which all passes were found, by one. False exactly where the exchange lost.
+    fn move_epoch(&self, pass: &mut Pass<R>, epoch: u64) -> bool
+        requires own { IsOf self.now.table.shared.table_id self.now.table.shared.key pass.old.seat }
+        requires seen { (pass.old.seat.me.0.pin.scan ≡ epoch) × (pass.old.seat.me.0.pin.upto ≡ self.now.table.shared.key.passes) }
+        requires room { epoch < 4611686018427387904 }
+        ensures same { IsSame pass.old.seat pass.new.seat }
+        ensures number { pass.new.number ≡ pass.old.number }
+        ensures kept { pass.new.kept ≡ pass.old.kept }
+        ensures moves { Moves result epoch pass.old.seat.me pass.new.seat.me }
+    {
+        self.table
+            .shared
+            .compare_exchange::<Move>(&mut pass.seat, 1, epoch, epoch + 1)
+            == epoch
+    }
+
+    // Loads the epoch, gives back what is kept since two epochs, and moves the epoch by one where all passes are absent or at it.
+    fn round(&self, pass: &mut Pass<R>) -> Round
+        requires own { IsOf self.now.table.shared.table_id self.now.table.shared.key pass.old.seat }
+        requires number { IsNumbered pass.old.number pass.old.seat.me.0.pin }
+        requires unpinned { pass.old.seat.me.0.pin.pinned ≡ false }
+        requires list { AreKept self.now.table.shared.key.rows pass.old.seat.me.0.claims pass.old.kept.rows }
+        ensures same { IsSame pass.old.seat pass.new.seat }
+        ensures number { pass.new.number ≡ pass.old.number }
+        ensures list { AreKept self.now.table.shared.key.rows pass.new.seat.me.0.claims pass.new.kept.rows }
+        ensures rounds { Rounds self.now.table.shared.key.passes pass.old.number result pass.old.seat.me pass.new.seat.me pass.old.kept.rows.items pass.new.kept.rows.items }
+    {
+        let epoch = self.table.shared.load::<Begin>(&mut pass.seat, 1);
+        let (freed, lost) = self.give_old(pass, epoch);
+        if pass.kept.len() == 0 || epoch == 1 << 62 {
+            return Round {
+                freed,
+                lag: None,
+                lost,
+                more: false,
+            };
+        }
+        if let Some(number) = self.lagging(pass, epoch) {
+            return Round {
+                freed,
+                lag: Some(number),
+                lost,
+                more: false,
+            };
+        }
+        let moved = self.move_epoch(pass, epoch);
+        Round {
+            freed,
+            lag: None,
+            lost: lost || !moved,
+            more: true,
+        }
+    }
+
+    /// Gives back rows that the pass keeps, in up to three rounds. Each loads the epoch, gives back the rows that were retired two epochs before or earlier,
+    /// loads all announcements, and moves the epoch by one where each is absent or equal to it. A row whose putting back lost its exchange is retired anew.
+    pub fn reclaim(&self, pass: &mut Pass<R>) -> Reclaimed
+        requires own { IsOf self.now.table.shared.table_id self.now.table.shared.key pass.old.seat }
+        requires number { IsNumbered pass.old.number pass.old.seat.me.0.pin }
+        requires unpinned { pass.old.seat.me.0.pin.pinned ≡ false }
+        requires list { AreKept self.now.table.shared.key.rows pass.old.seat.me.0.claims pass.old.kept.rows }
+        ensures same { IsSame pass.old.seat pass.new.seat }
+        ensures number { pass.new.number ≡ pass.old.number }
+        ensures list { AreKept self.now.table.shared.key.rows pass.new.seat.me.0.claims pass.new.kept.rows }
+        ensures reclaims { Reclaims pass.old.seat.me pass.new.seat.me }
+        ensures freed { result.freed + vec_len pass.new.kept.rows ≡ vec_len pass.old.kept.rows }
+        ensures kept { result.kept ≡ vec_len pass.new.kept.rows }
+        ensures lag { IsLag self.now.table.shared.key.passes pass.old.number result.lag pass.new.seat.me.0.pin }
+        ensures lost { Losses result.lost pass.old.seat.me.0.lost pass.new.seat.me.0.lost }
+        ensures young { result.lost ≡ false → (r t : ℕ) → kept_of pass.new.kept.rows.items r ≡ some t → pass.new.seat.me.0.pin.scan < t + 2 }
+        ensures all { result.lag ≡ None → result.lost ≡ false → pass.new.seat.me.0.pin.scan < 4611686018427387904 → result.kept ≡ 0 }
+    {
+        let mut freed = 0;
+        let mut lag = None;
+        let mut lost = false;
+        let mut left = 3;
+        while left > 0 {
+            let round = self.round(pass);
+            freed += round.freed;
+            lag = round.lag;
+            lost = lost || round.lost;
+            left = rounds_left(left, round.more);
+        }
+        Reclaimed {
+            freed,
+            kept: pass.kept.len(),
+            lag,
+            lost,
+        }
+    }
+}
+
+// How many rounds are left after one.
+fn rounds_left(left: u32, more: bool) -> u32
+    requires { 0 < left }
+    ensures { result ≡ cond more (left - 1) 0 }
+{
+    if more { left - 1 } else { 0 }
+}

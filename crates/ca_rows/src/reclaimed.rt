@@ -1,0 +1,23 @@
+//! What came of giving kept rows back.
+
+#[derive(Clone, Copy, Debug, PartialEq, Eq)]
+pub struct Reclaimed {
+    /// How many rows the call gave back.
+    pub freed: u32,
+    /// How many rows the pass keeps still.
+    pub kept: u32,
+    /// A pass whose announcement was older than the epoch that the call had loaded.
+    pub lag: Option<u32>,
+    /// Whether one of the call's exchanges lost.
+    pub lost: bool,
+}
+
+/// What came of one round of it.
+#[derive(Clone, Copy, Debug, PartialEq, Eq)]
+pub struct Round {
+    pub freed: u32,
+    pub lag: Option<u32>,
+    pub lost: bool,
+    /// Whether the next round may give back more.
+    pub more: bool,
+}
