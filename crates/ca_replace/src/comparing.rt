@@ -10,12 +10,7 @@ use ca_term::MOST_CODE_BYTES;
 use std::cmp::Ordering;
 
 // How the key of an object that the pass was shown stands to this key. It loads no word behind the first difference.
-pub(crate) fn compare(
-    space: &TreeSpace,
-    pass: &mut TreePass,
-    row: u32,
-    key: &[u8],
-) -> Ordering
+pub(crate) fn compare(space: &TreeSpace, pass: &mut TreePass, row: u32, key: &[u8]) -> Ordering
     requires own { IsOf space.now.table.shared.table_id space.now.table.shared.key pass.old.seat }
     requires pinned { pass.old.seat.me.0.pin.pinned ≡ true }
     requires inside { row ≤ space.now.table.shared.key.rows }

@@ -24,10 +24,8 @@ invariant_of-self c = let tree = c.self.inside.tree.now in let z : Sizes = tree.
     let e1 = ap (λ (m : MyTree). m.0.upper) pin in let e4 = ap (λ (m : MyTree). m.0.upper) unpin in
     rests_again tree.space.table.shared.table_id z pass.number c.unpin.new.pass.number pass.kept.rows c.unpin.new.pass.kept.rows pass.seat c.unpin.new.pass.seat i
     (c.unpin.ensures.same.0 ∙ (c.look_up-found.ensures.same.0 ∙ (c.walk-base.ensures.same.0 ∙ c.pin.ensures.same.0)))
-    
-    (ap (λ (m : MyTree). m.0.sizes) unpin ∙ (ap (λ (m : MyTree). m.0.sizes) entered ∙ (ap (λ (m : MyTree). m.0.sizes) led ∙ ap (λ (m : MyTree). m.0.sizes) pin))) 
+    (ap (λ (m : MyTree). m.0.sizes) unpin ∙ (ap (λ (m : MyTree). m.0.sizes) entered ∙ (ap (λ (m : MyTree). m.0.sizes) led ∙ ap (λ (m : MyTree). m.0.sizes) pin)))
     (ap (λ (m : MyTree). m.0.claims) unpin ∙ (ap (λ (m : MyTree). m.0.claims) entered ∙ (ap (λ (m : MyTree). m.0.claims) led ∙ ap (λ (m : MyTree). m.0.claims) pin)))
-    
     (ap (λ (m : MyTree). m.0.pin.number) unpin ∙ (ap (λ (m : MyTree). m.0.pin.number) entered ∙ (ap (λ (m : MyTree). m.0.pin.number) led ∙ ap (λ (m : MyTree). m.0.pin.number) pin))) (ap (λ (m : MyTree). m.0.pin.pinned) unpin)
     (same_pass z pass.seat.me m1 m2 m3 m4 c.walk-base.result.base event same tree.space.few.0 i.known e1 c.walk-base.ensures.led
     c.look_up-found.ensures.answer entered e4)
