@@ -1,1 +1,6 @@
-pub mod Fresh
+pub mod Entries
+mod Fresh
+pub mod Items
+mod KeyOrder
+pub mod ObjectBytes
+pub mod Searching

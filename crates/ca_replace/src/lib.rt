@@ -1,7 +1,12 @@
 //! The store on the tree, which passes share without a lock.
 #![tactic(auto)]
 
+mod comparing;
+mod ending;
 mod fault;
+mod looking;
+mod reading;
+mod search;
 mod store;
 mod tree;
 
