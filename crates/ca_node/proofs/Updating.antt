@@ -14,11 +14,14 @@ use Rattle.ca_model.specs.History.{History, Edit, after, after_edit, IsEdit, Are
 use Rattle.ca_model.specs.Lawful.{IsLawful}
 use Rattle.ca_rows.specs.declared.sizes.Sizes.{Sizes}
 use Rattle.ca_rows.specs.declared.view.Claim.{Claim}
-use Rattle.ca_rows.specs.declared.view.Claim.TheVariants.{Holds}
+use Rattle.ca_rows.specs.declared.view.Claim.TheVariants.{Holds, Lends, Unlinked, Keeps, Returns}
 use Rattle.ca_rows.specs.declared.view.View.{View}
-use Rattle.ca_rows.specs.Claims.{claim_of}
-use Rattle.ca_rows.specs.Rule.{upper_of}
+use Rattle.ca_rows.specs.Account.{IsOut, IsClaim, IsRow}
+use Rattle.ca_rows.specs.Chain.{Owner, Free, Linked, Of}
+use Rattle.ca_rows.specs.Claims.{claim_of, claim_at}
+use Rattle.ca_rows.specs.Rule.{upper_of, NotedAt}
 use Rattle.ca_rows.specs.Words.{IsWide}
+use Rattle.ca_rows.proofs.Claiming.{claim_there}
 use Rattle.ca_rows.proofs.Relinking.{Change, Stays, Comes, Goes, IsChange, relinks}
 use Rattle.ca_rows.proofs.Rules.{all_seats}
 use Rattle.ca_rows.proofs.Steps.{owned}
@@ -26,11 +29,11 @@ use Rattle.ca_node.specs.Laws.{tree_frames, tree_lends, numbered, relisted, in_n
 use Rattle.ca_node.specs.Links.{root, IsIn, IsLinked, by_root, by_base, IsLent, IsNoted, by_note, by_item, by_way, by_link, by_link_item}
 use Rattle.ca_node.specs.Row.{row_at, form, IsObjectRow, IsBaseRow, items, count, level, mark, pair, objects_in}
 use Rattle.ca_node.specs.Stays.{row_same, row_long, word_at, map_same}
-use Rattle.ca_node.specs.Told.{MyTree, Update, IsUpdate, given, taken_out, updated, Updates, HasUpdated}
+use Rattle.ca_node.specs.Told.{MyTree, IsKnown, Update, IsUpdate, given, taken_out, updated, IsUpdated, Updates, HasUpdated}
 use Rattle.ca_node.specs.Tree.{root_place, IsBaseAt, StartsWith, IsTrue, Knows, IsTree}
 use Rattle.ca_node.specs.TreeView.{Note, TreeView}
 use Rattle.ca_node.proofs.Logs.{after_more, others_lawful, own_lawful, past_more}
-use Rattle.ca_node.proofs.Looking.{R, looked, knows_upper, further, longer_past, starts_shorter, in_more}
+use Rattle.ca_node.proofs.Looking.{R, looked, knows_upper, fewer_passes, further, longer_past, starts_shorter, in_more}
 use Rattle.ca_node.proofs.Members.{in_rest, has, given_here, given_else, taken_here, taken_else, other_has, map_is_list}
 
 edits_more : (keypos : ℕ) (h : History) (n : ℕ) (e : Edit) → AreEdits keypos h → IsEdit keypos e → AreEdits keypos (h ++ (n, e) ∷ [])
@@ -362,6 +365,47 @@ module _ (z : Sizes) (s : State (Unit {0}) (View TreeView)) (r : R z s) (id : �
     above = subst (IsTree z r.made words') (sym (map-set upper_of s.views id d')) tree_now;
   }
 
+  abbrev N : ℕ → ℕ → Type 0
+  N = NotedAt IsNoted s.words s.views
+
+  -- A row that is linked is nobody's.
+  nobodys : (row : ℕ) (o : Owner) → IsLinked s.words row → IsRow s.words (IsLinked s.words) (IsLent s.words) N (claim_at s.views) row o
+      → claim_at s.views id row ≡ none
+  nobodys row (Free k) l w = absurd (w.0.0 l)
+  nobodys row Linked l w = w.2 id
+  nobodys row (Of i) l w = absurd (by w.0.0 w.0.2)
+    where
+      by : (c : Claim) → IsClaim s.words (IsLinked s.words) (IsLent s.words) N row c → ⊥
+      by (Holds its) k = k.2.0 l
+      by Lends k = ⊎_elim (λ b. nothing_lent z s.words f.base row b)
+          (λ (o : (age : ℕ) × IsOut s.words (IsLinked s.words) (IsLent s.words) N row age). o.1.0 l) k
+      by Unlinked k = k.1.0 l
+      by (Keeps t) k = k.3.0 l
+      by (Returns t its) k = k.3.0 l
+
+  unclaimed : (row : ℕ) → IsIn row outs → claim_of d.claims row ≡ none
+  unclaimed row o = let l = out_linked row o in let range = linked_range z s.words f.base row l in
+      sym (claim_there s.views id d d at row) ∙ nobodys row (r.owner row) l (r.row row range.0 range.1)
+
+  -- What the seat has seen then is the whole history.
+  known_now : IsKnown z u'
+  unfolding tree_now
+  known_now = let few : r.made ≤ 64 = r.pins.few in let same : f.history ++ own ∷ [] ≡ u'.seen = ap (λ (h : History). h ++ own ∷ []) whole in record {
+    lawful = subst (λ (h : History). IsLawful d.upper.number h u'.log) same own_knows.lawful;
+    past = own_knows.past;
+    edits = subst (AreEdits z.keypos) same tree_now.edits;
+    by_passes = subst (AreByPasses 64) same (fewer_passes r.made 64 (f.history ++ own ∷ []) few tree_now.by_passes);
+  }
+
+  updated_now : IsUpdated new x me (d', me.1)
+  updated_now = record {
+    more = knows.seen_first.0;
+    now = refl;
+    unclaimed = unclaimed;
+    known = λ some_rows. let same : d.sizes ≡ z = ⊎_elim (λ (e : d.sizes.rows ≡ 0). absurd (omega arith)) (λ (e : d.sizes ≡ z). e)
+        (r.seat id d at).sizes_are in subst (λ (y : Sizes). IsKnown y u') (sym same) known_now;
+  }
+
 module _ (z : Sizes) where
   -- The exchange of the root link that carries out an update.
   pub updates : (slots id : ℕ) (me : MyTree) (new : ℕ) (x : Update) → IsUpdate z me new x
@@ -374,7 +418,7 @@ module _ (z : Sizes) where
         tt,
         subst (λ (y : ℕ). R z (stepped s 130 y id me.1 d' keeps)) (sym (ap (λ b. either b new n) (eq-eqb n x.old.row hit)))
             (update_step z s r id me at new x u hit),
-        ((λ _. (w, refl)), λ miss. absurd (miss hit)),
+        ((λ _. updated_now z s r id me at new x u hit), λ miss. absurd (miss hit)),
       ))
       (λ miss. (
         d,

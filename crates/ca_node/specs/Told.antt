@@ -1,6 +1,6 @@
 -- What each step of the tree tells.
 use Rattle.std.specs.Prelude.{◌≡◌, ◌≢◌, ◌⊎◌, None, Bool, true, false, ℕ, ◌+◌, ◌*◌, ◌<◌, ◌≤◌, List, [], ◌∷◌, ◌++◌, length, map, nat_lt, cond, slice_index}
-use mathlib.Core.Option.{some}
+use mathlib.Core.Option.{some, none}
 use lib.ListN.{get_elem?}
 use Rattle.atomic_table.specs.Table.{Step}
 use Rattle.ca_model.specs.Event.{Event, Get, IsAnswer, effect}
@@ -139,23 +139,21 @@ updated u more new x = record u {
   notes = record { row = new; its = x.its; objects = x.objects } ∷ u.notes;
 }
 
+-- The update is carried out: the rows that came are linked, and those that went, which nobody claimed until then, are unlinked by the seat.
+-- What the seat has seen now is a history as it may know it.
+pub record IsUpdated (new : ℕ) (x : Update) (m m' : MyTree) : Type 0 where
+  pub more : History
+  pub now : m' ≡ (record m.0 { claims = taken_out (x.old.row ∷ x.goes) (given (new ∷ x.comes) m.0.claims); upper = updated m.0.upper more new x }, m.1)
+  pub unclaimed : (row : ℕ) → IsIn row (x.old.row ∷ x.goes) → claim_of m.0.claims row ≡ none
+  pub known : 0 < m.0.sizes.rows → IsKnown m.0.sizes (updated m.0.upper more new x)
+
 -- The root link was exchanged, and the update is carried out; or the exchange was lost, and nothing changed.
 abbrev pub Updates : Update → Step (Unit {0}) → MyTree → ℕ → MyTree → Type 0
-Updates x st m n m' =
-    (n ≡ st.first → (more : History) × (m' ≡ (
-      record m.0 {
-        claims = taken_out (x.old.row ∷ x.goes)
-            (given (st.second ∷ x.comes) m.0.claims);
-        upper = updated m.0.upper more st.second x;
-      },
-      m.1,
-    )))
-    × (n ≢ st.first → m' ≡ m)
+Updates x st m n m' = (n ≡ st.first → IsUpdated st.second x m m') × (n ≢ st.first → m' ≡ m)
 
 -- What the exchange of the root link came to: the update is carried out, or nothing changed.
 abbrev pub HasUpdated : Bool → ℕ → Update → MyTree → MyTree → Type 0
-HasUpdated true new x m m' = (more : History)
-    × (m' ≡ (record m.0 { claims = taken_out (x.old.row ∷ x.goes) (given (new ∷ x.comes) m.0.claims); upper = updated m.0.upper more new x }, m.1))
+HasUpdated true new x m m' = IsUpdated new x m m'
 HasUpdated false new x m m' = m' ≡ m
 
 -- A word was loaded as a call was refused, and the call is counted so.
