@@ -1,3 +1,4 @@
 pub mod Made
 pub mod Resting
 pub mod StoreView
+pub mod Writing

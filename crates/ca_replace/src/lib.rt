@@ -4,6 +4,7 @@
 mod fault;
 mod store;
 mod tree;
+mod writing;
 
 pub use fault::TreeFault;
 pub use store::TreeStore;
