@@ -1,7 +1,7 @@
 -- Loads: of the root link, and of words of rows that were shown.
 use Rattle.std.proofs.Common.{◌≡◌, ◌≢◌, ◌⊎◌, ℕ, zero, suc, ◌+◌, ◌*◌, ◌<◌, ◌≤◌, true, List, [], ◌∷◌, ◌++◌, length, map, get_or, set, sym, refl, ap, ◌∙◌, subst, inl, inr, ⊎_elim, arith, length-append}
 use Rattle.std.proofs.lemmas.List.{map-set, set-get_or, append_assoc, length-map}
-use mathlib.Core.Option.{some, none, some-injective}
+use mathlib.Core.Option.{some, none, some-injective, some-ne-none}
 use lib.ListN.{get_elem?}
 use Rattle.atomic_table.specs.Table.{State, step, keeps, Allows}
 use Rattle.atomic_table.proofs.Lists.{at_set, at_map, set_again}
@@ -15,7 +15,7 @@ use Rattle.ca_rows.specs.Rule.{upper_of, Ruled}
 use Rattle.ca_rows.proofs.Relinking.{Stays, relinks}
 use Rattle.ca_node.specs.Laws.{tree_lends, numbered, relisted, seat_changed, in_nothing, notes_by, starts_whole}
 use Rattle.ca_node.specs.Links.{root, IsIn, IsLinked, by_root, by_base, IsLent, IsNoted, by_note, by_item, by_way, by_link, by_link_item}
-use Rattle.ca_node.specs.Row.{row_at, IsBaseRow, items, pair}
+use Rattle.ca_node.specs.Row.{row_at, IsObjectRow, IsBaseRow, items, pair}
 use Rattle.ca_node.specs.Stays.{word_at, row_long}
 use Rattle.ca_node.specs.Told.{MyTree, IsBaseNote, IsKnown, led, IsLed, Leads, IsShown, Reads, IsReadNow, entered, ReadsLast, Refuses}
 use Rattle.ca_node.specs.Tree.{StartsWith, ArePast, IsTrue, Knows, IsTree}
@@ -65,6 +65,13 @@ in_more x y xs i = by i.0 i.1
     by : (k : ℕ) → get_elem? (x ∷ xs) k ≡ some y → (x ≡ y) ⊎ IsIn y xs
     by zero e = inl (some-injective x y e)
     by (suc k) e = inr (k, e)
+
+-- A member of what a function gives a list comes from a member of the list.
+pub of_map : {A B : Type 0} (f : A → B) (xs : List A) (k : ℕ) (y : B) → get_elem? (map f xs) k ≡ some y
+    → (x : A) × (get_elem? xs k ≡ some x) × (f x ≡ y)
+of_map f [] k y e = absurd (some-ne-none y (sym e))
+of_map f (x ∷ xs) zero y e = (x, refl, some-injective (f x) y e)
+of_map f (x ∷ xs) (suc k) y e = of_map f xs k y e
 
 -- Edits by some passes are edits by more.
 pub fewer_passes : (made most : ℕ) (h : History) → made ≤ most → AreByPasses made h → AreByPasses most h
@@ -133,6 +140,9 @@ module _ (z : Sizes) (made : ℕ) (words : List ℕ) (uppers : List TreeView) (f
     unmarked = b.unmarked;
     named = λ r i. let o = b.are_objects r i in (o.0, o.1);
     as_many = length-map (items (row_at words (root words))) (λ r. row_at words r);
+    objects_long = λ its i. let from = of_map (λ r. row_at words r) (items (row_at words (root words))) i.0 its i.1 in
+        let o = b.are_objects from.0 (i.0, from.1) in
+        subst (λ (x : List ℕ). (length x ≡ 136) × IsObjectRow x) from.2 (row_long words z.rows from.0 f.wide o.1, o.2);
   }
 
   twice : (xs : List ℕ) → map pair (map (λ r. row_at words r) xs) ≡ map (λ r. pair (row_at words r)) xs

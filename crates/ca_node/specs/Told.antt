@@ -33,9 +33,10 @@ pub record IsBaseNote (z : Sizes) (note : Note) : Type 0 where
   pub level_is : level note.its ≡ 0
   pub few : count note.its ≤ z.leaf
   pub unmarked : mark note.its ≡ 0
-  -- as many objects as items, each in range
+  -- as many objects as items, each in range, with the words of an object row
   pub named : (r : ℕ) → IsIn r (items note.its) → (0 < r) × (r ≤ z.rows)
   pub as_many : length note.objects ≡ length (items note.its)
+  pub objects_long : (its : List ℕ) → IsIn its note.objects → (length its ≡ 136) × IsObjectRow its
 
 -- This is a history as a pass may know it: what it edited is told by its log, whose places are in it.
 pub record IsKnown (z : Sizes) (u : TreeView) : Type 0 where
