@@ -60,12 +60,15 @@ pub begins : (table : TableId) (z : Sizes) (row at : ℕ) (says : ℕ → ℕ �
     → IsFilling table z row at says first first 0
 begins table z row at says first of held = record { of = of; still = (refl, refl, refl, refl, refl); held = held; filled = none_filled row at says first.me }
 
-pub goes_on : (table : TableId) (z : Sizes) (row at : ℕ) (says : ℕ → ℕ → Type 0) (first a b : MySeat) (count v : ℕ) → at + count < 136 → says count v
-    → IsFilling table z row at says first a count → IsStill a b
+-- One more word was written, at its place.
+pub goes_on : (table : TableId) (z : Sizes) (row at : ℕ) (says : ℕ → ℕ → Type 0) (first a b : MySeat) (count place v : ℕ) → place ≡ at + count
+    → place < 136 → says count v → IsFilling table z row at says first a count → IsStill a b
     → ((its : List ℕ) → claim_of a.me.0.claims row ≡ some (Holds its)
-    → b.me ≡ (record a.me.0 { claims = claimed row (Holds (set its (at + count) v)) a.me.0.claims }, a.me.1))
+    → b.me ≡ (record a.me.0 { claims = claimed row (Holds (set its place v)) a.me.0.claims }, a.me.1))
     → IsFilling table z row at says first b (count + 1)
-goes_on table z row at says first a b count v l say f s wrote = let h = f.held in
+goes_on table z row at says first a b count place v is l say f s wrote' = let h = f.held in
+    let wrote = λ (its : List ℕ) (has : claim_of a.me.0.claims row ≡ some (Holds its)). subst (λ (y : ℕ).
+    b.me ≡ (record a.me.0 { claims = claimed row (Holds (set its y v)) a.me.0.claims }, a.me.1)) is (wrote' its has) in
     let w = rewritten row (set h.0 (at + count) v) a.me b.me (wrote h.0 h.2) in record {
       of = (s.0 ∙ f.of.0, s.2 ∙ f.of.1);
       still = (s.0 ∙ f.still.0, s.1 ∙ f.still.1, s.2 ∙ f.still.2, s.3 ∙ f.still.3, s.4 ∙ f.still.4);

@@ -1,2 +1,4 @@
 pub mod Filling
 pub mod Fresh
+pub mod Spelling
+pub mod Words
