@@ -1,4 +1,5 @@
 pub mod Filling
 pub mod Fresh
+pub mod Held
 pub mod Spelling
 pub mod Words

@@ -3,6 +3,7 @@
 
 mod fault;
 mod store;
+mod taking;
 mod tree;
 mod writing;
 
