@@ -1,4 +1,6 @@
 pub mod Made
+pub mod Progress
+pub mod Refusals
 pub mod Resting
 pub mod StoreView
 pub mod Taking

@@ -2,6 +2,7 @@
 #![tactic(auto)]
 
 mod fault;
+mod refusing;
 mod store;
 mod taking;
 mod tree;
