@@ -12,6 +12,8 @@ use Rattle.atomic_table.proofs.Lists.{at_set, at_map, set_again}
 use Rattle.ca_model.specs.Event.{IsAnswer}
 use Rattle.ca_model.specs.History.{History, Edit, after, after_edit, IsEdit, AreEdits, AreByPasses}
 use Rattle.ca_model.specs.Lawful.{IsLawful}
+use Rattle.ca_model.specs.StoreMap.{IsStoreMap}
+use Rattle.ca_model.proofs.Edits.{map_after}
 use Rattle.ca_rows.specs.declared.sizes.Sizes.{Sizes}
 use Rattle.ca_rows.specs.declared.view.Claim.{Claim}
 use Rattle.ca_rows.specs.declared.view.Claim.TheVariants.{Holds, Lends, Unlinked, Keeps, Returns}
@@ -34,7 +36,7 @@ use Rattle.ca_node.specs.Tree.{root_place, IsBaseAt, StartsWith, IsTrue, Knows, 
 use Rattle.ca_node.specs.TreeView.{Note, TreeView}
 use Rattle.ca_node.proofs.Logs.{after_more, others_lawful, own_lawful, past_more}
 use Rattle.ca_node.proofs.Looking.{R, looked, knows_upper, fewer_passes, further, longer_past, starts_shorter, in_more}
-use Rattle.ca_node.proofs.Members.{in_rest, has, given_here, given_else, taken_here, taken_else, other_has, map_is_list}
+use Rattle.ca_node.proofs.Members.{in_rest, has, once, given_here, given_else, taken_here, taken_else, other_has, map_is_list}
 
 edits_more : (keypos : ℕ) (h : History) (n : ℕ) (e : Edit) → AreEdits keypos h → IsEdit keypos e → AreEdits keypos (h ++ (n, e) ∷ [])
 edits_more keypos [] n e a is = (is, tt)
@@ -158,7 +160,7 @@ module _ (z : Sizes) (s : State (Unit {0}) (View TreeView)) (r : R z s) (id : �
   in_linked row i = ⊎_elim (λ (e : new ≡ row). by_root row (root' ∙ e)) (λ j. item_now row (u.come row j).0) (in_more new row x.comes i)
 
   out_linked : (row : ℕ) → IsIn row outs → IsLinked s.words row
-  out_linked row i = ⊎_elim (λ (e : x.old.row ≡ row). by_root row (hit ∙ e)) (λ j. old_item row (u.go row j).0) (in_more x.old.row row x.goes i)
+  out_linked row i = ⊎_elim (λ (e : x.old.row ≡ row). by_root row (hit ∙ e)) (λ j. let w = u.go row j in old_item row (w.0, w.1)) (in_more x.old.row row x.goes i)
 
   apart : (row : ℕ) → IsIn row ins → ¬ IsIn row outs
   apart row i o = let h = held_in row i in (held_row row h.0 h.1).3 (out_linked row o)
@@ -168,9 +170,27 @@ module _ (z : Sizes) (s : State (Unit {0}) (View TreeView)) (r : R z s) (id : �
   old_no_item row e i = let w = words_of row i in let a : form (row_at s.words row) ≡ 1 = ap form w.3 ∙ w.4 in
       let b : form (row_at s.words row) ≡ 2 = ap (λ c. form (row_at s.words c)) (sym e) ∙ (ap form old_true.spells ∙ u.old_base) in omega arith
 
+  -- No object stands in two places of the old base, since keys ascend.
+  old_once : (row i j : ℕ) → get_elem? (items x.old.its) i ≡ some row → get_elem? (items x.old.its) j ≡ some row → i ≡ j
+  old_once row i j a b = once z.keypos (λ c. pair (row_at s.words c)) (items x.old.its)
+      (subst (IsStoreMap z.keypos) (sym (ap (λ its. map (λ c. pair (row_at s.words c)) (items its)) (sym old_its) ∙ f.map_is))
+      (map_after z.keypos f.history [] f.edits tt)) i j row a b
+
+  -- What goes is no item of the new base: it isn't held, and stood in one place of the old base.
+  goes_out : (row : ℕ) → IsIn row x.goes → ¬ IsIn row (items x.its)
+  goes_out row g i = let w = u.go row g in ⊎_elim
+      (λ (c : IsIn row x.comes). let h = (u.come row c).1 in (held_row row h.0 h.1).3 (old_item row (w.0, w.1)))
+      (λ (o : (j : ℕ) × (j ≢ w.0) × (get_elem? (items x.old.its) j ≡ some row)). o.1 (old_once row o.0 w.0 o.2 w.1)) (w.2 i)
+
+  -- The old base is none of its objects.
+  old_apart : ¬ IsIn x.old.row x.goes
+  old_apart g = let w = u.go x.old.row g in
+      let o = f.base.are_objects x.old.row (subst (λ its. IsIn x.old.row (items its)) (sym old_its) (w.0, w.1)) in
+      let a : form (row_at s.words x.old.row) ≡ 1 = o.2 in let b : form (row_at s.words x.old.row) ≡ 2 = ap form old_true.spells ∙ u.old_base in omega arith
+
   out_unlinked : (row : ℕ) → IsIn row outs → ¬ IsIn row ins → ¬ IsLinked words' row
   out_unlinked row o n l = ⊎_elim (λ (e : row ≡ new). n (0, ap some (sym e)))
-      (λ i. ⊎_elim (λ (e : x.old.row ≡ row). old_no_item row e i) (λ j. (u.go row j).1 i) (in_more x.old.row row x.goes o)) (linked_now row l)
+      (λ i. ⊎_elim (λ (e : x.old.row ≡ row). old_no_item row e i) (λ j. goes_out row j i) (in_more x.old.row row x.goes o)) (linked_now row l)
 
   more : History
   more = knows.seen_first.0
@@ -402,6 +422,7 @@ module _ (z : Sizes) (s : State (Unit {0}) (View TreeView)) (r : R z s) (id : �
     more = knows.seen_first.0;
     now = refl;
     unclaimed = unclaimed;
+    apart = old_apart;
     known = λ some_rows. let same : d.sizes ≡ z = ⊎_elim (λ (e : d.sizes.rows ≡ 0). absurd (omega arith)) (λ (e : d.sizes ≡ z). e)
         (r.seat id d at).sizes_are in subst (λ (y : Sizes). IsKnown y u') (sym same) known_now;
   }
