@@ -1,5 +1,6 @@
 pub mod Made
 pub mod Progress
+pub mod Putting
 pub mod Refusals
 pub mod Resting
 pub mod StoreView

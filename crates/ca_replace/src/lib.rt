@@ -6,6 +6,7 @@ mod refusing;
 mod store;
 mod taking;
 mod tree;
+mod updating;
 mod writing;
 
 pub use fault::TreeFault;

@@ -1,0 +1,79 @@
+-- Updates that put an object: what becomes of a base, and which call it is.
+use Rattle.std.specs.Prelude.{◌≡◌, ℕ, ◌<◌, true, List, [], ◌∷◌, slice_index, slice_index_or, slice_set, Some, Result, Ok, Err}
+use Rattle.std.specs.List.{insert}
+use mathlib.Core.Option.{Option, some, none}
+use Rattle.ca_model.specs.Event.{Event, Write, WriteNew, Change}
+use Rattle.ca_model.specs.History.{Put}
+use Rattle.ca_node.specs.Row.{items, object, key}
+use Rattle.ca_node.specs.Told.{MyTree, Update}
+use Rattle.ca_node.specs.TreeView.{Note}
+use Rattle.ca_replace.specs.declared.updating.Putting.{Putting}
+use Rattle.ca_replace.specs.declared.updating.Putting.TheVariants as putting
+use Rattle.ca_rows.specs.declared.view.Claim.{Claim}
+use Rattle.ca_rows.specs.declared.view.Claim.TheVariants.{Holds, Lends, Unlinked, Keeps, Returns}
+use Rattle.ca_rows.specs.Claims.{claim_of}
+
+-- the elements with this one at the place: in that of another one, or between two
+abbrev pub put_in : {A : Type 0} → List A → Result ℕ ℕ → A → List A
+put_in xs (Ok at) x = slice_set xs at x
+put_in xs (Err at) x = insert xs at x
+
+-- the item whose place it is, if one's
+abbrev pub gone : Result ℕ ℕ → List ℕ → List ℕ
+gone (Ok at) these = slice_index these at ∷ []
+gone (Err at) these = []
+
+-- the bytes of the object whose place it is, if one's
+abbrev pub object_at : Result ℕ ℕ → List (List ℕ) → List ℕ
+object_at (Ok at) objects = object (slice_index_or objects at [])
+object_at (Err at) objects = []
+
+-- There is room for one item more, where it isn't put in the place of another one.
+abbrev pub IsRoom : Result ℕ ℕ → ℕ → ℕ → Type 0
+IsRoom (Ok at) count leaf = Unit {0}
+IsRoom (Err at) count leaf = count < leaf
+
+-- the call that puts the object under the key, where this one was
+abbrev pub put_event : Putting → List ℕ → List ℕ → List ℕ → Event
+put_event putting.Put k was o = Write k o
+put_event putting.PutNew k was o = WriteNew k o true
+put_event putting.Change k was o = Change k (Some was) (Some o)
+
+-- The call may put its object there: a new one where there is none, and a changed one where there is one.
+abbrev pub IsFor : Putting → Result ℕ ℕ → Type 0
+IsFor putting.Put place = Unit {0}
+IsFor putting.PutNew (Ok at) = ⊥
+IsFor putting.PutNew (Err at) = Unit {0}
+IsFor putting.Change (Ok at) = Unit {0}
+IsFor putting.Change (Err at) = ⊥
+
+-- the update of a base by an object row and a new base row with these words
+abbrev pub put_update : Note → ℕ → List ℕ → List ℕ → Result ℕ ℕ → Putting → Update
+put_update note row its new place why = record {
+  old = note;
+  its = new;
+  objects = put_in note.objects place its;
+  comes = row ∷ [];
+  goes = gone place (items note.its);
+  event = put_event why (key its) (object_at place note.objects) (object its);
+  edit = Put (key its) (object its);
+}
+
+-- the base that was shown last
+abbrev pub first_note : List Note → Note
+first_note [] = record { row = 0; its = []; objects = [] }
+first_note (note ∷ notes) = note
+
+-- the words of a row that is held
+abbrev pub words_of : Option Claim → List ℕ
+words_of none = []
+words_of (some (Holds its)) = its
+words_of (some Lends) = []
+words_of (some Unlinked) = []
+words_of (some (Keeps t)) = []
+words_of (some (Returns t its)) = []
+
+-- the update by rows that the seat holds, of the base that it was shown last
+abbrev pub put_update_of : MyTree → ℕ → ℕ → Result ℕ ℕ → Putting → Update
+put_update_of m row new place why = put_update (first_note m.0.upper.notes) row
+    (words_of (claim_of m.0.claims row)) (words_of (claim_of m.0.claims new)) place why
