@@ -4,5 +4,7 @@ pub mod Held
 pub mod Inserting
 pub mod Meeting
 pub mod Putting
+pub mod Readying
 pub mod Spelling
+pub mod Unlinking
 pub mod Words

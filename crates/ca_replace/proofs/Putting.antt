@@ -21,7 +21,7 @@ use Rattle.ca_node.proofs.Members.{in_first}
 use Rattle.ca_node.specs.Laws.{in_nothing}
 use Rattle.ca_replace.specs.declared.updating.Putting.{Putting}
 use Rattle.ca_replace.specs.declared.updating.Putting.TheVariants as putting
-use Rattle.ca_replace.specs.Putting.{put_in, gone, object_at, IsRoom, put_event, IsFor, put_update, put_update_of, words_of, first_note}
+use Rattle.ca_replace.specs.Putting.{put_in, gone, object_at, IsRoom, put_event, IsFor, IsPut, put_update, put_update_of, words_of, first_note}
 use Rattle.ca_replace.specs.Writing.{SpellsObject, SpellsBase}
 use Rattle.ca_replace.proofs.Inserting.{IsInRange, put_length, elem_or, within, put_both, length_put, map_put, here_put, in_inserted}
 use Rattle.ca_rows.specs.declared.sizes.Sizes.{Sizes}
@@ -75,24 +75,8 @@ few_enough : (place : Result ℕ ℕ) (n leaf : ℕ) → n ≤ leaf → IsRoom p
 few_enough (Ok at) n leaf l r = l
 few_enough (Err at) n leaf l r = omega arith
 
--- The seat is pinned, was shown the base, and holds both rows, which spell the object and the base with it put at the key's place.
-pub record IsPut (z : Sizes) (m : MyTree) (note : Note) (row new : ℕ) (place : Result ℕ ℕ) (why : Putting) (bytes : List ℕ) (key_at key_end statistic : ℕ)
-    (a b : List ℕ) : Type 0 where
-  pub is_pinned : m.0.pin.pinned ≡ true
-  pub is_pass : 0 < m.0.upper.number
-  pub shown : IsIn note m.0.upper.notes
-  pub is_base : IsBaseNote z note
-  pub object_held : claim_of m.0.claims row ≡ some (Holds a)
-  pub object_spells : SpellsObject bytes key_at key_end a
-  pub base_held : claim_of m.0.claims new ≡ some (Holds b)
-  pub base_spells : SpellsBase (put_in (items note.its) place row) statistic b
-  pub place_is : IsPlace (map pair note.objects) (key a) place
-  pub room : IsRoom place (length (items note.its)) z.leaf
-  pub pair_is : IsPair z.keypos (key a, object a)
-  pub is_for : IsFor why place
-
-module _ (z : Sizes) (m : MyTree) (note : Note) (row new : ℕ) (place : Result ℕ ℕ) (why : Putting) (bytes : List ℕ) (key_at key_end statistic : ℕ)
-    (a b : List ℕ) (h : IsPut z m note row new place why bytes key_at key_end statistic a b) where
+module _ (z : Sizes) (m : MyTree) (note : Note) (row new : ℕ) (place : Result ℕ ℕ) (why : Putting) (statistic : ℕ) (a b : List ℕ)
+    (h : IsPut z m note row new place why statistic a b) where
   abbrev x : Update
   x = put_update note row a b place why
 
@@ -123,7 +107,7 @@ module _ (z : Sizes) (m : MyTree) (note : Note) (row new : ℕ) (place : Result 
         (λ (s : (row ≡ r) × (a ≡ its)). inr (
           (0, ap some s.0),
           subst (λ (y : ℕ × List ℕ). claim_of m.0.claims y.0 ≡ some (Holds y.1)) (λ i. (s.0 i, s.1 i)) h.object_held,
-          subst (λ (y : List ℕ). IsObjectRow y) s.1 h.object_spells.is_object,
+          subst (λ (y : List ℕ). IsObjectRow y) s.1 h.is_object,
         ))
         (λ (o : (i : ℕ) × (get_elem? (items note.its) i ≡ some r) × (get_elem? note.objects i ≡ some its)). inl o)
         (put_both place (items note.its) note.objects k row r a its h.is_base.as_many range (ap (λ (xs : List ℕ). get_elem? xs k) (sym items_are) ∙ p) q);

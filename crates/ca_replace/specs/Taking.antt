@@ -6,7 +6,7 @@ use Rattle.ca_node.specs.Links.{IsIn}
 use Rattle.ca_replace.specs.declared.taking.NoRow.{NoRow}
 use Rattle.ca_rows.specs.declared.kept.Kept.{Kept}
 use Rattle.ca_rows.specs.declared.view.Claim.{Claim}
-use Rattle.ca_rows.specs.declared.view.Claim.TheVariants.{Holds, Keeps}
+use Rattle.ca_rows.specs.declared.view.Claim.TheVariants.{Holds, Unlinked, Keeps}
 use Rattle.ca_rows.specs.declared.view.Claimed.{Claimed}
 use Rattle.ca_rows.specs.Claims.{claim_of}
 use Rattle.ca_rows.specs.Kept.{AreKept}
@@ -26,3 +26,9 @@ HasTaken (Err why) held Now = Now held
 abbrev pub HasTakenTwo : Result (ℕ × ℕ) NoRow → (List ℕ → Type 0) → Type 0
 HasTakenTwo (Ok two) Now = (two.0 ≢ two.1) × Now (two.0 ∷ two.1 ∷ [])
 HasTakenTwo (Err why) Now = Now []
+
+-- By these claims a seat unlinked these rows, and has no others but those that it keeps, which are those of the list.
+pub record AreUnlinked (rows : ℕ) (kept : Vec Kept Global) (claims : List Claimed) (out : List ℕ) : Type 0 where
+  pub are_kept : AreKept rows claims kept
+  pub only : (row : ℕ) (c : Claim) → claim_of claims row ≡ some c → ((at : ℕ) × (c ≡ Keeps at)) ⊎ IsIn row out
+  pub each : (row : ℕ) → IsIn row out → claim_of claims row ≡ some Unlinked
