@@ -5,6 +5,7 @@ pub mod Inserting
 pub mod Meeting
 pub mod Putting
 pub mod Readying
+pub mod Showing
 pub mod Spelling
 pub mod Unlinking
 pub mod Words

@@ -1,3 +1,4 @@
+pub mod Attempting
 pub mod Made
 pub mod Progress
 pub mod Putting

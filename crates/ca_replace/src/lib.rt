@@ -1,6 +1,7 @@
 //! The store on the tree, which passes share without a lock.
 #![tactic(auto)]
 
+mod attempting;
 mod fault;
 mod refusing;
 mod store;
