@@ -1,10 +1,15 @@
+pub mod Entries
 pub mod Filling
 pub mod Fresh
 pub mod Held
 pub mod Inserting
+pub mod Items
+pub mod KeyOrder
 pub mod Meeting
+pub mod ObjectBytes
 pub mod Putting
 pub mod Readying
+pub mod Searching
 pub mod Showing
 pub mod Spelling
 pub mod Unlinking

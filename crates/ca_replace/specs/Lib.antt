@@ -1,7 +1,9 @@
 pub mod Attempting
+pub mod Finding
 pub mod Made
 pub mod Progress
 pub mod Putting
+pub mod Reads
 pub mod Refusals
 pub mod Resting
 pub mod StoreView

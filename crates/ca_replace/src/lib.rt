@@ -4,6 +4,12 @@
 mod attempting;
 mod fault;
 mod refusing;
+mod comparing;
+mod ending;
+mod fault;
+mod looking;
+mod reading;
+mod search;
 mod store;
 mod taking;
 mod tree;

@@ -1,10 +1,14 @@
 //! A pass as a store.
 ghost use Rattle.std.specs.Prelude.{◌≡◌, ◌≤◌, None, OnOk, length};
+ghost use Rattle.ca_model.specs.Answer.{IfDone, IsDone, Got};
 ghost use Rattle.ca_model.specs.Known.{Stays};
 ghost use Rattle.ca_replace.specs.Resting.{IsResting, knows};
+ghost use Rattle.ca_term.specs.declared.bounds.TheConstants.{MOST_CODE_BYTES};
 
+use crate::looking::look_up;
 use crate::tree::Tree;
-use ca_node::{Front, Link, TreePass, front, learn, load_link};
+use ca_model::{Code, Outcome};
+use ca_node::{Front, Link, Spot, TreePass, front, learn, load_link, walk};
 use std::alloc::AllocError;
 use std::marker::Model;
 
@@ -59,6 +63,27 @@ impl TreeStore<'_> {
         ensures same { self.new ≡ self.old }
     {
         Ok(())
+    }
+
+    /// Whether an object has the key; then `into` is the object, else it is empty. It is never refused, and it loses no turn: it makes one
+    /// load of a link.
+    pub fn get(&mut self, key: &[u8], into: &mut Code, budget: u32) -> Outcome<bool>
+        requires budget { 1 ≤ budget }
+        requires closed { (knows self.old).run ≡ None }
+        requires key { (1 ≤ length key.now) × (length key.now ≤ MOST_CODE_BYTES) }
+        ensures done { IsDone result }
+        ensures got { IfDone result (λ found. Got (knows self.old) (knows self.new) key.now found into.new.items) }
+        ensures closed { (knows self.new).run ≡ None }
+        ensures tree { (self.new.table ≡ self.old.table) × (self.new.z ≡ self.old.z) }
+        ensures pass { (self.new.number ≡ self.old.number) × (self.new.kept ≡ self.old.kept) }
+    {
+        let _budget = budget;
+        let space = &self.tree.space;
+        space.pin(&mut self.pass);
+        let base = walk(space, &mut self.pass, Spot::At(key)).base;
+        let found = look_up(space, &mut self.pass, base, key, into);
+        space.unpin(&mut self.pass);
+        Outcome::Done(found)
     }
 
     /// A copy of what the pass has seen of the tree's history.

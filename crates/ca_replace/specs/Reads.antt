@@ -1,0 +1,15 @@
+-- Calls that edit nothing, as events.
+use Rattle.std.specs.Prelude.{ℕ, Bool, true, false, List, Some, None}
+use Rattle.ca_model.specs.Event.{Event, Get}
+use Rattle.ca_replace.specs.declared.ending.Read.{Read}
+use Rattle.ca_replace.specs.declared.ending.Read.TheVariants as read
+
+-- the event that the call is
+abbrev pub event_of : Read → Event
+event_of (read.Got key object) = Get key.now (Some object.now)
+event_of (read.GotNothing key) = Get key.now None
+
+-- the read of a key, given whether an object was found, and which
+abbrev pub get_event : List ℕ → Bool → List ℕ → Event
+get_event key true object = Get key (Some object)
+get_event key false object = Get key None

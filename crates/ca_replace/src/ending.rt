@@ -1,0 +1,65 @@
+//! Ends of calls that edit nothing.
+ghost use Rattle.std.specs.Prelude.{◌≡◌, ◌≤◌, [], None};
+ghost use Rattle.ca_model.specs.Event.{Event, Get};
+ghost use Rattle.ca_node.specs.Told.{IsReadNow, ReadsLast, with_upper, entered};
+ghost use Rattle.ca_replace.specs.Reads.{event_of};
+ghost use Rattle.ca_rows.specs.Calls.{IsOf, IsSame};
+
+use atomic_table::Play;
+use ca_node::{Knowledge, TreePass, TreeSpace};
+use ca_rows::View;
+use std::marker::{Brand, PhantomData};
+
+// A call that edits nothing, with its answer.
+#[derive(Clone, Copy)]
+pub(crate) enum Read<'a> {
+    // The key, and the object that has it.
+    Got(&'a [u8], &'a [u8]),
+    // A key that no object has.
+    GotNothing(&'a [u8]),
+}
+
+// Which event a step enters in the log. It exists in proofs alone.
+pub(crate) trait Entered {
+    ghost event: { Event };
+}
+
+impl Entered for Brand {
+    ghost event = { Get [] None };
+}
+
+// A load that enters a call in the log.
+pub(crate) struct ReadLast<K> {
+    entered: PhantomData<K>,
+}
+
+impl<K: Entered> Play<(), View<Knowledge>> for ReadLast<K> {
+    ghost then = { λ st m n m'. ReadsLast K.event st m n m' };
+}
+
+// Ends a call that edits nothing, by one load of a row's first word: the call is entered in the log, at the place as far as which the pass
+// has seen the history. Its answer must be that of the last state seen.
+pub(crate) fn enter(space: &TreeSpace, pass: &mut TreePass, row: u32, read: Read<'_>)
+    requires own { IsOf space.now.table.shared.table_id space.now.table.shared.key pass.old.seat }
+    requires inside { row ≤ space.now.table.shared.key.rows }
+    requires answer { IsReadNow (event_of read) pass.old.seat.me.0.upper }
+    ensures same { IsSame pass.old.seat pass.new.seat }
+    ensures number { pass.new.number ≡ pass.old.number }
+    ensures kept { pass.new.kept ≡ pass.old.kept }
+    ensures entered { pass.new.seat.me ≡ with_upper pass.old.seat.me (entered pass.old.seat.me.0.upper (event_of read.entry)) }
+{
+    enter_as::<Brand>(space, pass, row, read);
+}
+
+// The load that enters the event which K names.
+fn enter_as<K: Entered>(space: &TreeSpace, pass: &mut TreePass, row: u32, _read: Read<'_>)
+    requires own { IsOf space.now.table.shared.table_id space.now.table.shared.key pass.old.seat }
+    requires inside { row ≤ space.now.table.shared.key.rows }
+    requires answer { IsReadNow K.event pass.old.seat.me.0.upper }
+    ensures same { IsSame pass.old.seat pass.new.seat }
+    ensures number { pass.new.number ≡ pass.old.number }
+    ensures kept { pass.new.kept ≡ pass.old.kept }
+    ensures entered { pass.new.seat.me ≡ with_upper pass.old.seat.me (entered pass.old.seat.me.0.upper K.event) }
+{
+    space.load::<ReadLast<K>>(pass, 136 * row);
+}

@@ -1,0 +1,45 @@
+//! Reads of one key.
+ghost use Rattle.std.specs.Prelude.{◌≡◌, [], true, false, map};
+ghost use Rattle.ca_model.specs.History.{after};
+ghost use Rattle.ca_node.specs.Row.{pair};
+ghost use Rattle.ca_node.specs.Told.{IsReadNow, with_upper, entered};
+ghost use Rattle.ca_node.specs.TreeView.{Note};
+ghost use Rattle.ca_replace.specs.Finding.{IsReadable};
+ghost use Rattle.ca_replace.specs.Reads.{get_event};
+ghost use Rattle.ca_rows.specs.Calls.{IsOf, IsSame};
+
+use crate::ending::{Read, enter};
+use crate::reading::{copy_object, item};
+use crate::search::search;
+use ca_model::Code;
+use ca_node::{TreePass, TreeSpace};
+
+// Whether a base that the pass was shown has an object with this key; then `into` is the object, else it is empty. The base is that of the
+// last state which the pass has seen, and the call is entered in the log.
+pub(crate) fn look_up(
+    space: &TreeSpace,
+    pass: &mut TreePass,
+    base: u32,
+    key: &[u8],
+    into: &mut Code,
+) -> bool
+    requires own { IsOf space.now.table.shared.table_id space.now.table.shared.key pass.old.seat }
+    requires pinned { pass.old.seat.me.0.pin.pinned ≡ true }
+    requires readable { (note : Note) × IsReadable space.now.table.shared.key pass.old.seat.me.0.upper base note × (map pair note.objects ≡ after pass.old.seat.me.0.upper.seen []) }
+    ensures same { IsSame pass.old.seat pass.new.seat }
+    ensures number { pass.new.number ≡ pass.old.number }
+    ensures kept { pass.new.kept ≡ pass.old.kept }
+    ensures answer { IsReadNow (get_event key.now result into.new.items) pass.old.seat.me.0.upper }
+    ensures entered { pass.new.seat.me ≡ with_upper pass.old.seat.me (entered pass.old.seat.me.0.upper (get_event key.now result into.new.items)) }
+    ensures emptied { result ≡ false → into.new.items ≡ [] }
+{
+    let Ok(place) = search(space, pass, base, key) else {
+        into.clear();
+        enter(space, pass, base, Read::GotNothing(key));
+        return false;
+    };
+    let row = item(space, pass, base, place);
+    copy_object(space, pass, row, into);
+    enter(space, pass, base, Read::Got(key, into.as_slice()));
+    true
+}
