@@ -2,13 +2,13 @@
 #![tactic(auto)]
 
 mod attempting;
-mod fault;
-mod refusing;
 mod comparing;
 mod ending;
 mod fault;
 mod looking;
+mod puts;
 mod reading;
+mod refusing;
 mod search;
 mod store;
 mod taking;
