@@ -1,17 +1,24 @@
 -- What an attempt of a call looks at, and what it comes to.
-use Rattle.std.proofs.Common.{◌≡◌, ℕ, zero, suc, ◌+◌, ◌<◌, ◌≤◌, List, [], ◌∷◌, ◌++◌, length, map, take, sym, refl, ap, ◌∙◌, subst, arith}
+use Rattle.std.proofs.Common.{◌≡◌, ℕ, zero, suc, ◌+◌, false, ◌<◌, ◌≤◌, List, [], ◌∷◌, ◌++◌, length, map, take, Result, Ok, Err, sym, refl, ap, ◌∙◌, subst, arith}
 use mathlib.Core.Option.{some, some-injective, some-ne-none}
 use lib.ListN.{get_elem?}
 use Rattle.ca_model.specs.History.{after}
-use Rattle.ca_model.specs.StoreMap.{IsStoreMap}
+use Rattle.ca_model.specs.Event.{Event, Entry, WriteNew}
+use Rattle.ca_model.specs.Lawful.{IsPlaceFrom}
+use Rattle.ca_model.specs.StoreMap.{StoreMap, IsStoreMap, get}
 use Rattle.ca_model.proofs.Edits.{map_after}
+use Rattle.ca_model.proofs.Places.{IsPlace}
 use Rattle.ca_node.specs.Laws.{starts_whole}
 use Rattle.ca_node.specs.Row.{items, pair}
-use Rattle.ca_node.specs.Told.{MyTree, IsBaseNote, IsKnown, led, IsLed}
+use Rattle.ca_node.specs.Told.{MyTree, IsBaseNote, IsKnown, led, IsLed, IsReadNow, entered}
 use Rattle.ca_node.specs.TreeView.{TreeView}
-use Rattle.ca_replace.specs.Attempting.{IsLooking}
-use Rattle.ca_replace.specs.Finding.{IsReadable}
-use Rattle.ca_replace.specs.Progress.{IsFurther}
+use Rattle.ca_node.proofs.Looking.{starts_shorter}
+use Rattle.ca_replace.specs.declared.attempting.Stop.{Stop}
+use Rattle.ca_replace.specs.Attempting.{IsLooking, HasTriedTo}
+use Rattle.ca_replace.specs.Finding.{IsReadable, IsPlaceIn}
+use Rattle.ca_replace.specs.Progress.{IsFurther, HasDone}
+use Rattle.ca_replace.proofs.Entries.{known_read}
+use Rattle.ca_replace.proofs.Meeting.{further_on, done_on}
 use Rattle.ca_replace.specs.Putting.{first_note, IsShownLast}
 use Rattle.ca_rows.specs.declared.sizes.Sizes.{Sizes}
 
@@ -48,3 +55,35 @@ shown_last z u base these l is = record { noted = l.readable.noted; here = l.rea
 pub stopped : (z : Sizes) (u v : TreeView) → IsKnown z u → v ≡ u → IsFurther u v × IsKnown z v
 stopped z u v k same = subst (λ (y : TreeView). IsFurther u y × IsKnown z y) (sym same)
     (record { number = refl; seen = starts_whole u.seen; log = refl; counts = refl }, k)
+
+-- A call that edits nothing was entered in the log.
+pub entered_done : (z : Sizes) (u w v : TreeView) (event : Event) → IsFurther u w → IsKnown z w → IsReadNow event w → v ≡ entered w event
+    → HasDone event u v × IsKnown z v
+entered_done z u w v event f k now same = subst (λ (y : TreeView). HasDone event u y × IsKnown z y) (sym same) (record {
+  number = f.number;
+  seen = f.seen;
+  at = length w.seen;
+  from = subst (IsPlaceFrom (length u.seen) (length w.seen)) (sym now.0) (starts_shorter w.seen u.seen f.seen);
+  log = ap (λ (l : List Entry). l ++ (event, length w.seen) ∷ []) f.log;
+  counts = f.counts;
+}, known_read z w event k now)
+
+-- What was tried after a look.
+pub tried_on : {T : Type 0} (event : T → Event) (z : Sizes) (r : Result T Stop) (u w v : TreeView) → IsFurther u w → HasTriedTo event z r w v
+    → HasTriedTo event z r u v
+tried_on event z (Ok x) u w v f h = (done_on u w v (event x) f h.0, h.1)
+tried_on event z (Err stop) u w v f h = (further_on u w v f h.0, h.1)
+
+-- The object that was found has the key: a new one isn't put.
+pub not_new : (z : Sizes) (u : TreeView) (base at : ℕ) (k o : List ℕ) → IsLooking z u base → IsPlaceIn z u base k (Ok at) → IsReadNow (WriteNew k o false) u
+not_new z u base at k o l p = let here = p (first_note u.notes) l.readable in (
+  refl,
+  λ none. let found = here.equal in let same : get (map pair (first_note u.notes).objects) k ≡ [] = ap (λ (m : StoreMap). get m k) l.map_is ∙ none in
+      absurd cc,
+)
+
+-- The place that was found is one among the objects of the base that was shown last.
+pub place_still : (z : Sizes) (m m' : MyTree) (base : ℕ) (k : List ℕ) (place : Result ℕ ℕ) → m' ≡ m → IsLooking z m.0.upper base
+    → IsPlaceIn z m.0.upper base k place → IsPlace (map pair (first_note m'.0.upper.notes).objects) k place
+place_still z m m' base k place same l p = subst (λ (x : MyTree). IsPlace (map pair (first_note x.0.upper.notes).objects) k place) (sym same)
+    (p (first_note m.0.upper.notes) l.readable)
