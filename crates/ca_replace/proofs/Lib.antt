@@ -12,5 +12,6 @@ pub mod Readying
 pub mod Searching
 pub mod Showing
 pub mod Spelling
+pub mod Turns
 pub mod Unlinking
 pub mod Words

@@ -2,6 +2,7 @@
 #![tactic(auto)]
 
 mod attempting;
+mod calls;
 mod comparing;
 mod ending;
 mod fault;

@@ -16,7 +16,7 @@ use crate::updating::Putting;
 use ca_node::{TreePass, TreeSpace};
 
 // One attempt to put an object where there is none with its key. True where it was put.
-fn try_put_new(
+pub(crate) fn try_put_new(
     space: &TreeSpace,
     pass: &mut TreePass,
     leaf: u8,
@@ -55,7 +55,7 @@ fn try_put_new(
 }
 
 // One attempt to put an object.
-fn try_put(
+pub(crate) fn try_put(
     space: &TreeSpace,
     pass: &mut TreePass,
     leaf: u8,
