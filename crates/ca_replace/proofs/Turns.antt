@@ -7,7 +7,7 @@ use Rattle.ca_model.specs.declared.outcome.Outcome.{Outcome}
 use Rattle.ca_model.specs.declared.outcome.Outcome.TheVariants as outcome
 use Rattle.ca_model.specs.Answer.{IfDone, IfRefused, IfBusy}
 use Rattle.ca_model.specs.Event.{Event}
-use Rattle.ca_model.specs.Known.{Counts, one_more_busy, one_more_full, one_more_deep, one_more_worn}
+use Rattle.ca_model.specs.Known.{Counts, Meets, Declines, one_more_busy, one_more_full, one_more_deep, one_more_worn}
 use Rattle.ca_node.specs.Laws.{in_nothing, starts_whole}
 use Rattle.ca_node.specs.Links.{IsIn}
 use Rattle.ca_node.specs.Told.{MyTree, IsKnown}
@@ -16,7 +16,7 @@ use Rattle.ca_replace.specs.declared.attempting.Stop.{Stop}
 use Rattle.ca_replace.specs.declared.attempting.Stop.TheVariants as stop
 use Rattle.ca_replace.specs.Attempting.{HasTriedTo, IsEnd}
 use Rattle.ca_replace.specs.Progress.{IsFurther, HasDone, IsRefused}
-use Rattle.ca_replace.specs.Resting.{IsResting}
+use Rattle.ca_replace.specs.Resting.{IsResting, known_of}
 use Rattle.ca_replace.specs.Taking.{AreHeld}
 use Rattle.ca_rows.specs.declared.kept.Kept.{Kept}
 use Rattle.ca_rows.specs.declared.kept.KeptRows.{KeptRows}
@@ -25,7 +25,7 @@ use Rattle.ca_rows.specs.declared.view.Pin.{Pin}
 use Rattle.ca_rows.specs.declared.view.View.{View}
 use Rattle.ca_rows.specs.Claims.{claim_of}
 use Rattle.ca_rows.specs.Kept.{AreKept}
-use Rattle.ca_replace.proofs.Meeting.{refused_on}
+use Rattle.ca_replace.proofs.Meeting.{refused_on, meets, declines}
 
 abbrev pub MySeat : Type 0
 MySeat = Seat (Unit {0}) (View TreeView)
@@ -126,3 +126,29 @@ pub none_pinned : (table : TableId) (z : Sizes) (number : ℕ) (kept kept' : Kep
     → AreHeld z.rows kept'.rows one.me.0.claims []
 none_pinned table z number kept kept' seat one e u r is same = subst (λ (x : MyTree × KeptRows). AreHeld z.rows x.1.rows x.0.0.claims [])
     (λ i. (sym is i, sym same i)) (holds_none table z number kept.rows seat r)
+
+-- A lost attempt learnt of others' edits alone.
+pub lost_further : {T : Type 0} (event : T → Event) (z : Sizes) (r : Result T Stop) (u v : TreeView) → r ≡ Err stop.Lost → HasTriedTo event z r u v
+    → IsFurther u v
+lost_further event z r u v e h = (subst (λ (x : Result _ Stop). HasTriedTo event z x u v) e h).0
+
+pub no_further : (u : TreeView) → IsFurther u u
+no_further u = record { number = refl; seen = starts_whole u.seen; log = refl; counts = refl }
+
+-- A call that is done meets its definition.
+pub if_met : {T : Type 0} (event : T → Event) (z : Sizes) (o : Outcome T) (u v : TreeView) → IsKnown z u → IsKnown z v → IfDone o (λ x. HasDone (event x) u v)
+    → IfDone o (λ x. Meets (known_of z u) (known_of z v) (event x))
+if_met event z (outcome.Done x) u v a b h = meets z u v a b (event x) h
+if_met event z (outcome.Busy s) u v a b h = tt
+if_met event z (outcome.Full s) u v a b h = tt
+if_met event z (outcome.Deep s) u v a b h = tt
+if_met event z (outcome.Worn s) u v a b h = tt
+
+-- One that is refused declines.
+pub if_declined : {T : Type 0} (z : Sizes) (o : Outcome T) (u v : TreeView) → IsKnown z u → IsKnown z v → IfRefused o (λ rise. IsRefused rise u v)
+    → IfRefused o (λ rise. Declines (known_of z u) (known_of z v) (rise u.counts))
+if_declined z (outcome.Done x) u v a b h = tt
+if_declined z (outcome.Busy s) u v a b h = declines z u v a b one_more_busy h
+if_declined z (outcome.Full s) u v a b h = declines z u v a b one_more_full h
+if_declined z (outcome.Deep s) u v a b h = declines z u v a b one_more_deep h
+if_declined z (outcome.Worn s) u v a b h = declines z u v a b one_more_worn h

@@ -1,8 +1,9 @@
 //! Calls of a pass that rests: attempts, as many as the budget allows, and how they end.
-ghost use Rattle.std.specs.Prelude.{◌≡◌, ◌≤◌, length, slice_range};
+ghost use Rattle.std.specs.Prelude.{◌≡◌, ◌≤◌, Err, IsTrue, length, slice_range};
 ghost use Rattle.ca_model.specs.Answer.{IfBusy, IfDone, IfRefused};
 ghost use Rattle.ca_model.specs.Event.{WriteNew};
 ghost use Rattle.ca_model.specs.StoreMap.{IsPair};
+ghost use Rattle.ca_replace.specs.declared.attempting.Stop.TheVariants.{Lost as IsLost};
 ghost use Rattle.ca_replace.specs.Attempting.{HasTriedTo, IsEnd};
 ghost use Rattle.ca_replace.specs.Progress.{HasDone, IsRefused};
 ghost use Rattle.ca_replace.specs.Refusals.{risen};
@@ -55,12 +56,19 @@ fn put_new_tries(
     ensures tried { HasTriedTo (λ new. WriteNew (slice_range object.now key_at key_end) object.now new) tree.now.space.table.shared.key result pass.old.seat.me.0.upper pass.new.seat.me.0.upper }
 {
     for _turn in 0..budget {
-        match put_new_once(tree, pass, object, key_at, key_end) {
-            Err(Stop::Lost) => {}
-            tried => return tried,
+        let tried = put_new_once(tree, pass, object, key_at, key_end);
+        if !is_lost(&tried) {
+            return tried;
         }
     }
     Err(Stop::Lost)
+}
+
+// Whether an attempt was lost to another pass.
+fn is_lost<T>(tried: &Result<T, Stop>) -> bool
+    ensures { IsTrue result → tried.now ≡ Err IsLost }
+{
+    matches!(tried, Err(Stop::Lost))
 }
 
 // One attempt, while the pass is pinned.
