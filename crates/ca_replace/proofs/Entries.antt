@@ -88,49 +88,88 @@ led_readable z m m' base shown same some_rows most = let note = shown.0 in let m
       shown.4,
     )
 
--- Such a call from its pin to its end: pinned, shown a base, entered, unpinned.
-module _ (z : Sizes) (m m1 m2 m3 m4 : MyTree) (base : ℕ) (event : Event) (same : m1.0.sizes ≡ z) (some_rows : 0 < z.rows) (before : IsKnown z m.0.upper)
-    (e1 : m1.0.upper ≡ pinned m.0.upper) (shown : IsLed m1 base m2) (now : IsReadNow event m2.0.upper)
-    (e3 : m3 ≡ with_upper m2 (entered m2.0.upper event)) (e4 : m4.0.upper ≡ unpinned m3.0.upper) where
-  e2 : m2.0.upper ≡ led (pinned m.0.upper) shown.1 shown.0
-  e2 = ap (λ (x : MyTree). x.0.upper) shown.2 ∙ ap (λ (v : TreeView). led v shown.1 shown.0) e1
+-- A call that edits nothing, step by step: the pass was pinned, was shown a base, entered the event as its answer, and was unpinned.
+pub record IsRead (m m' : MyTree) (event : Event) : Type 0 where
+  pub told : ℕ
+  pub moment : ℕ
+  pub base : ℕ
+  pub at_pin : MyTree
+  pub at_base : MyTree
+  pub at_end : MyTree
+  pub is_pinned : at_pin ≡ (record m.0 { pin = record m.0.pin { pinned = true; told = told; moment = moment }; upper = pinned m.0.upper }, m.1)
+  pub is_shown : IsLed at_pin base at_base
+  pub answer : IsReadNow event at_base.0.upper
+  pub is_entered : at_end ≡ with_upper at_base (entered at_base.0.upper event)
+  pub is_unpinned : m' ≡ (record at_end.0 { pin = record at_end.0.pin { pinned = false }; upper = unpinned at_end.0.upper }, at_end.1)
 
-  is : m4.0.upper ≡ read_of m.0.upper shown.1 shown.0 event
-  is = e4 ∙ ap unpinned (ap (λ (x : MyTree). x.0.upper) e3 ∙ ap (λ (v : TreeView). entered v event) e2)
+module _ (z : Sizes) (m m' : MyTree) (event : Event) (r : IsRead m m' event) where
+  same_upper : r.at_pin.0.upper ≡ pinned m.0.upper
+  same_upper = ap (λ (x : MyTree). x.0.upper) r.is_pinned
 
-  behind : IsKnown z (led (pinned m.0.upper) shown.1 shown.0)
-  behind = subst (λ (v : TreeView). IsKnown z (led v shown.1 shown.0)) e1 (subst (λ (y : Sizes). IsKnown y (led m1.0.upper shown.1 shown.0)) same
-      (shown.5 (subst (λ (y : Sizes). 0 < y.rows) (sym same) some_rows)).1)
+  shown_is : r.at_base.0.upper ≡ led (pinned m.0.upper) r.is_shown.1 r.is_shown.0
+  shown_is = ap (λ (x : MyTree). x.0.upper) r.is_shown.2 ∙ ap (λ (v : TreeView). led v r.is_shown.1 r.is_shown.0) same_upper
 
-  then_now : IsReadNow event (led (pinned m.0.upper) shown.1 shown.0)
-  then_now = subst (IsReadNow event) e2 now
+  ends_as : m'.0.upper ≡ read_of m.0.upper r.is_shown.1 r.is_shown.0 event
+  ends_as = ap (λ (x : MyTree). x.0.upper) r.is_unpinned
+      ∙ ap unpinned (ap (λ (x : MyTree). x.0.upper) r.is_entered ∙ ap (λ (v : TreeView). entered v event) shown_is)
 
-  behind_pinned : IsKnown z (led m.0.upper shown.1 shown.0)
-  behind_pinned = let k = behind in record { lawful = k.lawful; past = k.past; edits = k.edits; by_passes = k.by_passes }
+  -- What no step of it changes.
+  pub same_sizes : m'.0.sizes ≡ m.0.sizes
+  same_sizes = ap (λ (x : MyTree). x.0.sizes) r.is_unpinned ∙ (ap (λ (x : MyTree). x.0.sizes) r.is_entered
+      ∙ (ap (λ (x : MyTree). x.0.sizes) r.is_shown.2 ∙ ap (λ (x : MyTree). x.0.sizes) r.is_pinned))
 
-  pub stays_known : IsKnown z m4.0.upper
-  stays_known = subst (IsKnown z) (sym is) (read_known z m.0.upper shown.1 shown.0 event before behind_pinned then_now)
+  pub same_claims : m'.0.claims ≡ m.0.claims
+  same_claims = ap (λ (x : MyTree). x.0.claims) r.is_unpinned ∙ (ap (λ (x : MyTree). x.0.claims) r.is_entered
+      ∙ (ap (λ (x : MyTree). x.0.claims) r.is_shown.2 ∙ ap (λ (x : MyTree). x.0.claims) r.is_pinned))
 
-  pub meets : Meets (known_of z m.0.upper) (known_of z m4.0.upper) event
-  meets = subst (λ (v : TreeView). Meets (known_of z m.0.upper) (known_of z v) event) (sym is)
-      (read_meets z m.0.upper shown.1 shown.0 event before behind_pinned then_now)
+  pub same_number : m'.0.pin.number ≡ m.0.pin.number
+  same_number = ap (λ (x : MyTree). x.0.pin.number) r.is_unpinned ∙ (ap (λ (x : MyTree). x.0.pin.number) r.is_entered
+      ∙ (ap (λ (x : MyTree). x.0.pin.number) r.is_shown.2 ∙ ap (λ (x : MyTree). x.0.pin.number) r.is_pinned))
 
-  pub same_pass : m4.0.upper.number ≡ m.0.upper.number
-  same_pass = ap (λ (v : TreeView). v.number) is
+  pub same_pass : m'.0.upper.number ≡ m.0.upper.number
+  same_pass = ap (λ (v : TreeView). v.number) ends_as
 
--- A pass rests again.
+  module _ (sizes : m.0.sizes ≡ z) (some_rows : 0 < z.rows) (before : IsKnown z m.0.upper) where
+    sizes_there : r.at_pin.0.sizes ≡ z
+    sizes_there = ap (λ (x : MyTree). x.0.sizes) r.is_pinned ∙ sizes
+
+    known_there : IsKnown z (led (pinned m.0.upper) r.is_shown.1 r.is_shown.0)
+    known_there = subst (λ (v : TreeView). IsKnown z (led v r.is_shown.1 r.is_shown.0)) same_upper
+        (subst (λ (y : Sizes). IsKnown y (led r.at_pin.0.upper r.is_shown.1 r.is_shown.0)) sizes_there
+        (r.is_shown.5 (subst (λ (y : Sizes). 0 < y.rows) (sym sizes_there) some_rows)).1)
+
+    behind : IsKnown z (led m.0.upper r.is_shown.1 r.is_shown.0)
+    behind = let k = known_there in record { lawful = k.lawful; past = k.past; edits = k.edits; by_passes = k.by_passes }
+
+    answer_there : IsReadNow event (led (pinned m.0.upper) r.is_shown.1 r.is_shown.0)
+    answer_there = subst (IsReadNow event) shown_is r.answer
+
+    pub stays_known : IsKnown z m'.0.upper
+    stays_known = subst (IsKnown z) (sym ends_as) (read_known z m.0.upper r.is_shown.1 r.is_shown.0 event before behind answer_there)
+
+    -- It meets a store's contract.
+    pub meets : Meets (known_of z m.0.upper) (known_of z m'.0.upper) event
+    meets = subst (λ (v : TreeView). Meets (known_of z m.0.upper) (known_of z v) event) (sym ends_as)
+        (read_meets z m.0.upper r.is_shown.1 r.is_shown.0 event before behind answer_there)
+
+-- The pass rests again.
 pub rests_again : (table : TableId) (z : Sizes) (number number' : ℕ) (kept kept' : Vec Kept Global) (seat seat' : Seat (Unit {0}) (View TreeView))
-    → IsResting table z number kept seat → seat'.table_id ≡ seat.table_id → seat'.me.0.sizes ≡ seat.me.0.sizes → seat'.me.0.claims ≡ seat.me.0.claims
-    → seat'.me.0.pin.number ≡ seat.me.0.pin.number → seat'.me.0.pin.pinned ≡ false → seat'.me.0.upper.number ≡ seat.me.0.upper.number
-    → number' ≡ number → kept' ≡ kept → IsKnown z seat'.me.0.upper → IsResting table z number' kept' seat'
-rests_again table z number number' kept kept' seat seat' r t s claims pin unpin upper n k known = record {
-  of = (t ∙ r.of.0, s ∙ r.of.1);
-  numbered = (pin ∙ (r.numbered.0 ∙ sym n), subst (λ (i : ℕ). 0 < i) (sym n) r.numbered.1, subst (λ (i : ℕ). i ≤ 64) (sym n) r.numbered.2);
-  same_number = upper ∙ (r.same_number ∙ sym n);
-  is_unpinned = unpin;
-  only_keeps = subst (λ (xs : List Claimed). (row : ℕ) (c : Claim) → claim_of xs row ≡ some c → (at : ℕ) × (c ≡ Keeps at)) (sym claims) r.only_keeps;
-  are_kept = subst (λ (xs : List Claimed). AreKept z.rows xs kept') (sym claims) (subst (AreKept z.rows seat.me.0.claims) (sym k) r.are_kept);
-  known = known;
+    (event : Event) → 0 < z.rows → IsResting table z number kept seat → IsRead seat.me seat'.me event → seat'.table_id ≡ seat.table_id
+    → number' ≡ number → kept' ≡ kept → IsResting table z number' kept' seat'
+rests_again table z number number' kept kept' seat seat' event some_rows rests r t n k = record {
+  of = (t ∙ rests.of.0, same_sizes z seat.me seat'.me event r ∙ rests.of.1);
+  numbered = (
+    same_number z seat.me seat'.me event r ∙ (rests.numbered.0 ∙ sym n),
+    subst (λ (i : ℕ). 0 < i) (sym n) rests.numbered.1,
+    subst (λ (i : ℕ). i ≤ 64) (sym n) rests.numbered.2,
+  );
+  same_number = same_pass z seat.me seat'.me event r ∙ (rests.same_number ∙ sym n);
+  is_unpinned = ap (λ (x : MyTree). x.0.pin.pinned) r.is_unpinned;
+  only_keeps = subst (λ (xs : List Claimed). (row : ℕ) (c : Claim) → claim_of xs row ≡ some c → (at : ℕ) × (c ≡ Keeps at))
+      (sym (same_claims z seat.me seat'.me event r)) rests.only_keeps;
+  are_kept = subst (λ (xs : List Claimed). AreKept z.rows xs kept') (sym (same_claims z seat.me seat'.me event r))
+      (subst (AreKept z.rows seat.me.0.claims) (sym k) rests.are_kept);
+  known = stays_known z seat.me seat'.me event r rests.of.1 some_rows rests.known;
 }
 
 -- What such a call answers.

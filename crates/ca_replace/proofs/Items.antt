@@ -29,7 +29,8 @@ module _ (z : Sizes) (u : TreeView) (base : ℕ) (note : Note) (r : IsReadable z
   many = let few = r.few in let long = r.is_base.long in length-take-le (count note.its) (drop 11 note.its) (omega (arith, length-drop 11 note.its))
 
   -- Its first word says how many objects it has.
-  pub count_is : (word : ℕ) → ((its : List ℕ) → IsShown u base its → word ≡ get_or its 0 0) → (word % 65536 ≡ length note.objects) × (word % 65536 ≤ 120)
+  pub count_is : (word : ℕ) → ((its : List ℕ) → IsShown u base its → word ≡ get_or its 0 0)
+      → (word % 65536 ≡ length note.objects) × (word % 65536 ≤ 120)
   count_is word is = let first : count note.its ≡ word % 65536 = ap (λ (n : ℕ). n % 65536) (sym (is note.its shows)) in
       let few = r.few in (sym first ∙ (sym many ∙ sym r.is_base.as_many), omega arith)
 

@@ -90,7 +90,8 @@ module _ (bytes key : List ℕ) (start end : ℕ) where
           → min (length key) (to - start) - (at - start) ≡ min (to - at) (length (drop (at - start) key))
       fewer e = omega arith
 
-  pub decided : (at to : ℕ) → start ≤ at → at ≤ to → to ≤ end → IsLeft at → (o : Ordering) → o ≡ bytes_cmp (part at to) (other at to) → o ≢ Equal
+  pub decided : (at to : ℕ) → start ≤ at → at ≤ to → to ≤ end → IsLeft at → (o : Ordering)
+      → o ≡ bytes_cmp (part at to) (other at to) → o ≢ Equal
       → o ≡ bytes_cmp (take (end - start) (drop start bytes)) key
   decided at to low l high left o is not = let whole : List ℕ = take (end - at) (drop at bytes) in let rest : List ℕ = drop (at - start) key in
       let fronts : bytes_cmp (part at to) (other at to) ≡ bytes_cmp (take (to - at) whole) (take (to - at) rest) =
@@ -113,7 +114,8 @@ module _ (bytes key : List ℕ) (start end : ℕ) where
       ∙ (ap (λ (xs : List ℕ). bytes_cmp xs (drop (to - at) rest)) a ∙ ap (λ (ys : List ℕ). bytes_cmp (take (end - to) (drop to bytes)) ys) b))
 
   -- So the other key is no shorter.
-  pub long_enough : (at to : ℕ) → start ≤ at → at ≤ to → to ≤ length bytes → bytes_cmp (part at to) (other at to) ≡ Equal → to - start ≤ length key ⊎ to ≡ at
+  pub long_enough : (at to : ℕ) → start ≤ at → at ≤ to → to ≤ length bytes → bytes_cmp (part at to) (other at to) ≡ Equal
+      → to - start ≤ length key ⊎ to ≡ at
   long_enough at to low l inside is = let same = ap (λ (xs : List ℕ). length xs) (same_bytes (part at to) (other at to) is) in
       let rest = length-drop at bytes in let here : length (part at to) ≡ to - at = length-take-le (to - at) (drop at bytes) (omega arith) in
       let there = length-take (min (length key) (to - start) - (at - start)) (drop (at - start) key) in ⊎_elim

@@ -16,7 +16,8 @@ bytes_long [] = refl
 bytes_long (x ∷ xs) = let one = word_long x in let rest = bytes_long xs in omega (arith, length-append (to_be_bytes w64 x) (bytes_in xs))
 
 -- Each byte is one of its word's.
-pub byte_at : (words : List ℕ) (i j : ℕ) → i < length words → j < 8 → get_or (bytes_in words) (8 * i + j) 0 ≡ get_or (to_be_bytes w64 (get_or words i 0)) j 0
+pub byte_at : (words : List ℕ) (i j : ℕ) → i < length words → j < 8
+    → get_or (bytes_in words) (8 * i + j) 0 ≡ get_or (to_be_bytes w64 (get_or words i 0)) j 0
 byte_at [] i j l h = absurd (omega arith)
 byte_at (x ∷ xs) zero j l h = let long = word_long x in ap (λ (k : ℕ). get_or (to_be_bytes w64 x ++ bytes_in xs) k 0) (first j)
     ∙ get_or_append_left (to_be_bytes w64 x) (bytes_in xs) 0 j (omega arith)
@@ -39,23 +40,24 @@ part_is words from to some one inside = let w : List ℕ = to_be_bytes w64 (get_
     let b : length (take (to - from) (drop from (bytes_in words))) ≡ to - from =
     length-take-le (to - from) (drop from (bytes_in words)) (omega (arith, length-drop from (bytes_in words))) in
     same_number_lists _ _ (a ∙ sym b) (λ k l. let low : k < to - from = omega arith in
-        let place : from + k ≡ 8 * (from / 8) + (from % 8 + k) = omega arith in
-        get_or-take (to - from) (drop (from % 8) w) k 0 low ∙ (get_or-drop (from % 8) w k 0
-        ∙ (sym (byte_at words (from / 8) (from % 8 + k) (omega arith) (omega arith))
-        ∙ (ap (λ (i : ℕ). get_or (bytes_in words) i 0) (sym place)
-        ∙ sym (get_or-take (to - from) (drop from (bytes_in words)) k 0 low ∙ get_or-drop from (bytes_in words) k 0)))))
+    let place : from + k ≡ 8 * (from / 8) + (from % 8 + k) = omega arith in
+    get_or-take (to - from) (drop (from % 8) w) k 0 low ∙ (get_or-drop (from % 8) w k 0
+    ∙ (sym (byte_at words (from / 8) (from % 8 + k) (omega arith) (omega arith))
+    ∙ (ap (λ (i : ℕ). get_or (bytes_in words) i 0) (sym place)
+    ∙ sym (get_or-take (to - from) (drop from (bytes_in words)) k 0 low ∙ get_or-drop from (bytes_in words) k 0)))))
 
 -- A part of the first bytes of a list, where the numbers that say which part may be past its end.
-pub clipped : (bytes : List ℕ) (count place some end start len : ℕ) → end ≡ min (length bytes) count → start ≡ min end place → len ≡ min (end - start) some
+pub clipped : (bytes : List ℕ) (count place some end start len : ℕ) → end ≡ min (length bytes) count
+    → start ≡ min end place → len ≡ min (end - start) some
     → take some (drop place (take count bytes)) ≡ take len (drop start bytes)
 clipped bytes count place some end start len e s n =
     let first = length-take count bytes in let behind = length-drop place (take count bytes) in let rest = length-drop start bytes in
     let a : length (take some (drop place (take count bytes))) ≡ len = omega (arith, length-take some (drop place (take count bytes))) in
     let b : length (take len (drop start bytes)) ≡ len = length-take-le len (drop start bytes) (omega arith) in
     same_number_lists _ _ (a ∙ sym b) (λ k l. let low : k < len = omega arith in let same : place ≡ start = omega arith in
-        get_or-take some (drop place (take count bytes)) k 0 (omega arith) ∙ (get_or-drop place (take count bytes) k 0
-        ∙ (get_or-take count bytes (place + k) 0 (omega arith) ∙ (ap (λ (i : ℕ). get_or bytes (i + k) 0) same
-        ∙ sym (get_or-take len (drop start bytes) k 0 low ∙ get_or-drop start bytes k 0)))))
+    get_or-take some (drop place (take count bytes)) k 0 (omega arith) ∙ (get_or-drop place (take count bytes) k 0
+    ∙ (get_or-take count bytes (place + k) 0 (omega arith) ∙ (ap (λ (i : ℕ). get_or bytes (i + k) 0) same
+    ∙ sym (get_or-take len (drop start bytes) k 0 low ∙ get_or-drop start bytes k 0)))))
 
 -- One word's bytes more, up to the end.
 pub one_more : (words : List ℕ) (len i n : ℕ) → 8 * i < len → len ≤ 8 * length words → n ≡ min (len - 8 * i) 8

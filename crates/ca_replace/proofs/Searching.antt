@@ -29,7 +29,8 @@ pub record IsLeft (note : Note) (key : List ℕ) (low high : ℕ) : Type 0 where
 pub left_first : (note : Note) (key : List ℕ) (high : ℕ) → high ≡ length note.objects → IsLeft note key 0 high
 left_first note key high e = record { inside = omega arith; less = λ l. absurd (omega arith); greater = λ l. absurd (omega arith) }
 
-pub less_on : (note : Note) (key : List ℕ) (low high middle : ℕ) → IsLeft note key low high → stands note key middle ≡ Less → IsLeft note key (middle + 1) high
+pub less_on : (note : Note) (key : List ℕ) (low high middle : ℕ) → IsLeft note key low high → stands note key middle ≡ Less
+    → IsLeft note key (middle + 1) high
 less_on note key low high middle left is = let back : middle + 1 - 1 ≡ middle = omega arith in record {
   inside = left.inside;
   less = λ _. ap (stands note key) back ∙ is;
@@ -62,15 +63,16 @@ module _ (keypos : ℕ) (note : Note) (key : List ℕ) (ordered : IsStoreMap key
   found at l is = let m = long in searched keypos (map pair note.objects) key (Ok at) ordered (omega arith) (λ d. compared at d l ∙ is)
 
   pub absent : (low high : ℕ) → low ≤ high → high ≤ low → IsLeft note key low high → IsPlace (map pair note.objects) key (Err low)
-  absent low high a b left = let m = long in let inside = left.inside in searched keypos (map pair note.objects) key (Err low) ordered (omega arith) (λ rises. (
-    (λ k d l h. no_more (bytes_cmp (get_or (map pair note.objects) k d).0 key) (subst (λ (o : Ordering). ordering_index
-        (bytes_cmp (get_or (map pair note.objects) k d).0 key) ≤ ordering_index o)
-        (compared (low - 1) d (omega arith) ∙ left.less (omega arith)) (rises k (low - 1) d (omega arith) (omega arith)))),
-    (λ k d l h. let same : high ≡ low = omega arith in
-        no_less (bytes_cmp (get_or (map pair note.objects) k d).0 key) (subst (λ (o : Ordering). ordering_index o ≤ ordering_index
-        (bytes_cmp (get_or (map pair note.objects) k d).0 key))
-        (compared high d (omega arith) ∙ left.greater (omega arith)) (rises high k d (omega arith) (omega arith)))),
-  ))
+  absent low high a b left = let m = long in let inside = left.inside in
+      searched keypos (map pair note.objects) key (Err low) ordered (omega arith) (λ rises. (
+        (λ k d l h. no_more (bytes_cmp (get_or (map pair note.objects) k d).0 key) (subst (λ (o : Ordering). ordering_index
+            (bytes_cmp (get_or (map pair note.objects) k d).0 key) ≤ ordering_index o)
+            (compared (low - 1) d (omega arith) ∙ left.less (omega arith)) (rises k (low - 1) d (omega arith) (omega arith)))),
+        (λ k d l h. let same : high ≡ low = omega arith in
+            no_less (bytes_cmp (get_or (map pair note.objects) k d).0 key) (subst (λ (o : Ordering). ordering_index o ≤ ordering_index
+            (bytes_cmp (get_or (map pair note.objects) k d).0 key))
+            (compared high d (omega arith) ∙ left.greater (omega arith)) (rises high k d (omega arith) (omega arith)))),
+      ))
 
 -- The object at the key's place is what the map has at the key.
 pub found_object : (note : Note) (key object : List ℕ) (at : ℕ) → IsPlace (map pair note.objects) key (Ok at)

@@ -1,9 +1,12 @@
 -- Bases and objects that a pass was shown, and where a key stands among the objects of a base.
-use Rattle.std.specs.Prelude.{◌≡◌, ℕ, ◌≤◌, List, length, map, Result}
+use Rattle.std.specs.Prelude.{◌≡◌, ℕ, ◌<◌, ◌≤◌, List, [], length, map, drop, slice_index_or, Result}
+use mathlib.Core.Option.{some}
+use lib.ListN.{get_elem?}
+use Rattle.ca_model.specs.History.{after}
 use Rattle.ca_model.specs.StoreMap.{IsStoreMap}
 use Rattle.ca_model.proofs.Places.{IsPlace}
 use Rattle.ca_node.specs.Links.{IsIn}
-use Rattle.ca_node.specs.Row.{count, pair}
+use Rattle.ca_node.specs.Row.{bytes_in, count, items, pair}
 use Rattle.ca_node.specs.Told.{IsBaseNote, IsShown}
 use Rattle.ca_node.specs.TreeView.{Note, TreeView}
 use Rattle.ca_rows.specs.declared.sizes.Sizes.{Sizes}
@@ -16,10 +19,27 @@ pub record IsReadable (z : Sizes) (u : TreeView) (base : ℕ) (note : Note) : Ty
   pub few : count note.its ≤ 120
   pub ordered : IsStoreMap z.keypos (map pair note.objects)
 
+-- The pass was shown the base, whose objects are the last state that it has seen.
+abbrev pub IsLastState : Sizes → TreeView → ℕ → Type 0
+IsLastState z u base = (note : Note) × IsReadable z u base note × (map pair note.objects ≡ after u.seen [])
+
 -- The pass was shown the object row with these words.
 pub record IsObjectShown (u : TreeView) (row : ℕ) (its : List ℕ) : Type 0 where
   pub shown : IsShown u row its
   pub long : length its ≡ 136
+
+-- all bytes that an object row has room for; the object's are the first of them
+abbrev pub all_bytes : List ℕ → List ℕ
+all_bytes its = bytes_in (drop 11 its)
+
+-- The pass was shown the base, which has an object at this place.
+abbrev pub HasPlace : Sizes → TreeView → ℕ → ℕ → Type 0
+HasPlace z u base place = (note : Note) × IsReadable z u base note × (place < length note.objects)
+
+-- The base that it was shown names this object row at this place, and it was shown that object, too.
+abbrev pub IsItem : Sizes → TreeView → ℕ → ℕ → ℕ → Type 0
+IsItem z u base place row = (note : Note) → IsReadable z u base note → place < length note.objects
+    → (get_elem? (items note.its) place ≡ some row) × IsObjectShown u row (slice_index_or note.objects place [])
 
 -- Among the objects of the base that it was shown this is the key's place: that of the object which has the key, or where one would stand.
 abbrev pub IsPlaceIn : Sizes → TreeView → ℕ → List ℕ → Result ℕ ℕ → Type 0

@@ -1,8 +1,8 @@
 //! How the key of an object that was shown stands to another key.
-ghost use Rattle.std.specs.Prelude.{◌≡◌, ℕ, ◌+◌, ◌-◌, ◌*◌, ◌/◌, ◌<◌, ◌≤◌, List, true, length, take, drop};
+ghost use Rattle.std.specs.Prelude.{◌≡◌, ℕ, ◌+◌, ◌*◌, ◌/◌, ◌<◌, ◌≤◌, List, true, slice_range};
 ghost use Rattle.ca_model.specs.StoreMap.{bytes_cmp};
-ghost use Rattle.ca_node.specs.Row.{bytes_in, pair};
-ghost use Rattle.ca_replace.specs.Finding.{IsObjectShown};
+ghost use Rattle.ca_node.specs.Row.{pair};
+ghost use Rattle.ca_replace.specs.Finding.{IsObjectShown, all_bytes};
 ghost use Rattle.ca_rows.specs.Calls.{IsOf, IsSame};
 
 use ca_node::{TreePass, TreeSpace, load_word};
@@ -10,12 +10,7 @@ use ca_term::MOST_CODE_BYTES;
 use std::cmp::Ordering;
 
 // How the key of an object that the pass was shown stands to this key. It loads no word behind the first difference.
-pub(crate) fn compare(
-    space: &TreeSpace,
-    pass: &mut TreePass,
-    row: u32,
-    key: &[u8],
-) -> Ordering
+pub(crate) fn compare(space: &TreeSpace, pass: &mut TreePass, row: u32, key: &[u8]) -> Ordering
     requires own { IsOf space.now.table.shared.table_id space.now.table.shared.key pass.old.seat }
     requires pinned { pass.old.seat.me.0.pin.pinned ≡ true }
     requires inside { row ≤ space.now.table.shared.key.rows }
@@ -51,7 +46,7 @@ fn key_bytes(space: &TreeSpace, pass: &mut TreePass, row: u32) -> (usize, usize)
     ensures kept { pass.new.kept ≡ pass.old.kept }
     ensures still { pass.new.seat.me ≡ pass.old.seat.me }
     ensures range { (result.0 ≤ result.1) × (result.1 ≤ 1000) }
-    ensures key { (its : List ℕ) → IsObjectShown pass.old.seat.me.0.upper row its → (pair its).0 ≡ take (result.1 - result.0) (drop result.0 (bytes_in (drop 11 its))) }
+    ensures key { (its : List ℕ) → IsObjectShown pass.old.seat.me.0.upper row its → (pair its).0 ≡ slice_range (all_bytes its) result.0 result.1 }
 {
     let word = load_word(space, pass, row, 0);
     let end = MOST_CODE_BYTES.min((word % 65_536) as usize);
@@ -78,7 +73,7 @@ fn compare_word(
     ensures number { pass.new.number ≡ pass.old.number }
     ensures kept { pass.new.kept ≡ pass.old.kept }
     ensures still { pass.new.seat.me ≡ pass.old.seat.me }
-    ensures order { (its : List ℕ) → IsObjectShown pass.old.seat.me.0.upper row its → result ≡ bytes_cmp (take (to - from) (drop from (bytes_in (drop 11 its)))) part.now }
+    ensures order { (its : List ℕ) → IsObjectShown pass.old.seat.me.0.upper row its → result ≡ bytes_cmp (slice_range (all_bytes its) from to) part.now }
 {
     let word = load_word(space, pass, row, (11 + from / 8) as u32);
     let bytes = word.to_be_bytes();

@@ -1,10 +1,7 @@
 //! Reads of one key.
-ghost use Rattle.std.specs.Prelude.{◌≡◌, [], true, false, map};
-ghost use Rattle.ca_model.specs.History.{after};
-ghost use Rattle.ca_node.specs.Row.{pair};
+ghost use Rattle.std.specs.Prelude.{◌≡◌, [], true, false};
 ghost use Rattle.ca_node.specs.Told.{IsReadNow, with_upper, entered};
-ghost use Rattle.ca_node.specs.TreeView.{Note};
-ghost use Rattle.ca_replace.specs.Finding.{IsReadable};
+ghost use Rattle.ca_replace.specs.Finding.{IsLastState};
 ghost use Rattle.ca_replace.specs.Reads.{get_event};
 ghost use Rattle.ca_rows.specs.Calls.{IsOf, IsSame};
 
@@ -25,7 +22,7 @@ pub(crate) fn look_up(
 ) -> bool
     requires own { IsOf space.now.table.shared.table_id space.now.table.shared.key pass.old.seat }
     requires pinned { pass.old.seat.me.0.pin.pinned ≡ true }
-    requires readable { (note : Note) × IsReadable space.now.table.shared.key pass.old.seat.me.0.upper base note × (map pair note.objects ≡ after pass.old.seat.me.0.upper.seen []) }
+    requires readable { IsLastState space.now.table.shared.key pass.old.seat.me.0.upper base }
     ensures same { IsSame pass.old.seat pass.new.seat }
     ensures number { pass.new.number ≡ pass.old.number }
     ensures kept { pass.new.kept ≡ pass.old.kept }

@@ -1,11 +1,9 @@
 //! What bases and objects that were shown say.
-ghost use Rattle.std.specs.Prelude.{◌≡◌, ℕ, ◌+◌, ◌<◌, ◌≤◌, ◌++◌, List, true, length, slice_index_or, []};
-ghost use mathlib.Core.Option.{some};
-ghost use lib.ListN.{get_elem?};
+ghost use Rattle.std.specs.Prelude.{◌≡◌, ℕ, ◌+◌, ◌<◌, ◌≤◌, ◌++◌, List, true, length};
 ghost use Rattle.arrayvec.specs.ArrayVec.{array_vec_len};
-ghost use Rattle.ca_node.specs.Row.{items, pair};
+ghost use Rattle.ca_node.specs.Row.{pair};
 ghost use Rattle.ca_node.specs.TreeView.{Note};
-ghost use Rattle.ca_replace.specs.Finding.{IsReadable, IsObjectShown};
+ghost use Rattle.ca_replace.specs.Finding.{IsReadable, IsObjectShown, HasPlace, IsItem};
 ghost use Rattle.ca_rows.specs.Calls.{IsOf, IsSame};
 ghost use Rattle.ca_term.specs.declared.bounds.TheConstants.{MOST_CODE_BYTES};
 
@@ -32,14 +30,13 @@ pub(crate) fn count(space: &TreeSpace, pass: &mut TreePass, base: u32) -> u32
 pub(crate) fn item(space: &TreeSpace, pass: &mut TreePass, base: u32, place: u32) -> u32
     requires own { IsOf space.now.table.shared.table_id space.now.table.shared.key pass.old.seat }
     requires pinned { pass.old.seat.me.0.pin.pinned ≡ true }
-    requires readable { (note : Note) × IsReadable space.now.table.shared.key pass.old.seat.me.0.upper base note × (place < length note.objects) }
+    requires readable { HasPlace space.now.table.shared.key pass.old.seat.me.0.upper base place }
     ensures same { IsSame pass.old.seat pass.new.seat }
     ensures number { pass.new.number ≡ pass.old.number }
     ensures kept { pass.new.kept ≡ pass.old.kept }
     ensures still { pass.new.seat.me ≡ pass.old.seat.me }
     ensures inside { (0 < result) × (result ≤ space.now.table.shared.key.rows) }
-    ensures item { (note : Note) → IsReadable space.now.table.shared.key pass.old.seat.me.0.upper base note → place < length note.objects → get_elem? (items note.its) place ≡ some result }
-    ensures object { (note : Note) → IsReadable space.now.table.shared.key pass.old.seat.me.0.upper base note → place < length note.objects → IsObjectShown pass.old.seat.me.0.upper result (slice_index_or note.objects place []) }
+    ensures item { IsItem space.now.table.shared.key pass.old.seat.me.0.upper base place result }
 {
     load_word(space, pass, base, 11 + place) as u32
 }

@@ -1,6 +1,7 @@
 //! Trees at the bounds of their sizes and tunings, their passes, and stores of passes.
 use super::*;
 use ca_adapt::Tuning;
+use ca_model::{Code, Outcome};
 use ca_rows::Starts;
 use std::alloc::Global;
 
@@ -181,4 +182,26 @@ fn a_pass_becomes_a_store_and_comes_back(rt: HostRuntime) {
     let seen = again.front();
     again.learn(seen);
     assert_eq!(rt; again.into_pass().number(), 1);
+}
+
+#[test]
+fn an_empty_tree_has_no_object(rt: HostRuntime) {
+    let Ok(mut tree) = Tree::new(rt.alloc(), 384, 1, 1, TUNING, STARTS) else {
+        panic!(rt; "no memory")
+    };
+    let Ok(pass) = tree.enroll(rt.alloc()) else {
+        panic!(rt; "no pass")
+    };
+    let mut store = TreeStore::new(&tree, pass);
+    let mut into = Code::new();
+    for len in [1, 7, 8, 9, 1_000] {
+        let key = [0x80_u8; 1_000];
+        let _ = into.try_push(7);
+        assert_eq!(rt;
+            store.get(&key[..len], &mut into, 1),
+            Outcome::Done(false),
+            "a key of {len} bytes"
+        );
+        assert!(rt; into.is_empty());
+    }
 }

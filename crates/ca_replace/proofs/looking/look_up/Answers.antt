@@ -12,9 +12,9 @@ use Rattle.ca_replace.proofs.looking.look_up.Goals as goal
 pub returns-clause-answer : goal.returns-clause-answer
 returns-clause-answer c = let note = c.requires.readable.0 in let r = c.requires.readable.1 in let its : List ℕ = get_or note.objects c.in-Ok.place [] in
     let at = subst (λ (p : Result ℕ ℕ). IsPlace (map pair note.objects) c.args.key.now p) c.in-Ok.is (c.search.ensures.place note r) in
-    let object = c.item-row.ensures.object note
+    let object = (c.item-row.ensures.item note
     (subst (λ (m : MyTree). IsReadable c.args.space.now.table.shared.key m.0.upper c.args.base note) (sym c.search.ensures.still) r)
-    (place_inside note c.args.key.now c.in-Ok.place at) in
+    (place_inside note c.args.key.now c.in-Ok.place at)).1 in
     let copied = c.copy_object.ensures.object its (subst (λ (m : MyTree). IsObjectShown m.0.upper c.item-row.result its) (sym c.item-row.ensures.still) object) in (
       refl,
       subst (λ (m : StoreMap). IsFound m c.args.key.now (Some c.copy_object.new.into.items)) c.requires.readable.2
@@ -25,9 +25,9 @@ pub enter-requires-2-clause-answer : goal.enter-requires-2-clause-answer
 enter-requires-2-clause-answer c = let note = c.requires.readable.0 in let r = c.requires.readable.1 in
     let its : List ℕ = get_or note.objects c.in-Ok.place [] in
     let at = subst (λ (p : Result ℕ ℕ). IsPlace (map pair note.objects) c.args.key.now p) c.in-Ok.is (c.search.ensures.place note r) in
-    let object = c.item-row.ensures.object note
+    let object = (c.item-row.ensures.item note
     (subst (λ (m : MyTree). IsReadable c.args.space.now.table.shared.key m.0.upper c.args.base note) (sym c.search.ensures.still) r)
-    (place_inside note c.args.key.now c.in-Ok.place at) in
+    (place_inside note c.args.key.now c.in-Ok.place at)).1 in
     let copied = c.copy_object.ensures.object its (subst (λ (m : MyTree). IsObjectShown m.0.upper c.item-row.result its) (sym c.item-row.ensures.still) object) in
     let still = c.copy_object.ensures.still ∙ (c.item-row.ensures.still ∙ c.search.ensures.still) in (
       refl,

@@ -15,7 +15,5 @@ returns-clause-inside c =
     item_inside _ _ _ c.requires.readable.0 c.requires.readable.1 c.args.place c.load_word.result c.load_word.ensures.word c.requires.readable.2
 
 pub returns-clause-item : goal.returns-clause-item
-returns-clause-item c note r l = item_is _ _ _ note r c.args.place c.load_word.result c.load_word.ensures.word l
-
-pub returns-clause-object : goal.returns-clause-object
-returns-clause-object c note r l = object_is _ _ _ note r c.args.place c.load_word.result c.load_word.ensures.word l
+returns-clause-item c note r l = let word = c.load_word.result in
+    (item_is _ _ _ note r c.args.place word c.load_word.ensures.word l, object_is _ _ _ note r c.args.place word c.load_word.ensures.word l)

@@ -10,8 +10,8 @@ loop-low-preserved-in-Less c = let middle : ℕ = c.loop-low.low + (c.loop-low.h
     let more = c.loop-low-test.true in let i = c.loop-low.invariant in
     let told = λ (note : Note) (r : IsReadable c.args.space.now.table.shared.key c.args.pass.now.seat.me.0.upper c.args.base note).
     let inside = (i.left note r).inside in let l : middle < length note.objects = omega arith in
-    let object = c.item-row.ensures.object note
-    (subst (λ (m : MyTree). IsReadable c.args.space.now.table.shared.key m.0.upper c.args.base note) (sym i.still) r) l in
+    let object = (c.item-row.ensures.item note
+    (subst (λ (m : MyTree). IsReadable c.args.space.now.table.shared.key m.0.upper c.args.base note) (sym i.still) r) l).1 in
     c.compare.ensures.order (get_or note.objects middle [])
     (subst (λ (m : MyTree). IsObjectShown m.0.upper c.item-row.result (get_or note.objects middle [])) (sym c.item-row.ensures.still) object) in
     record {
@@ -29,8 +29,8 @@ pub returns-in-Equal-clause-place : goal.returns-in-Equal-clause-place
 returns-in-Equal-clause-place c note r = let middle : ℕ = c.loop-low.low + (c.loop-low.high - c.loop-low.low) / 2 in
     let more = c.loop-low-test.true in let i = c.loop-low.invariant in
     let inside = (i.left note r).inside in let l : middle < length note.objects = omega arith in
-    let object = c.item-row.ensures.object note
-    (subst (λ (m : MyTree). IsReadable c.args.space.now.table.shared.key m.0.upper c.args.base note) (sym i.still) r) l in
+    let object = (c.item-row.ensures.item note
+    (subst (λ (m : MyTree). IsReadable c.args.space.now.table.shared.key m.0.upper c.args.base note) (sym i.still) r) l).1 in
     let told = c.compare.ensures.order (get_or note.objects middle [])
     (subst (λ (m : MyTree). IsObjectShown m.0.upper c.item-row.result (get_or note.objects middle [])) (sym c.item-row.ensures.still) object) in
     found c.args.space.now.table.shared.key.keypos note c.args.key.now r.ordered middle l (sym told ∙ c.in-Equal.is)
@@ -40,8 +40,8 @@ loop-low-preserved c = let middle : ℕ = c.loop-low.low + (c.loop-low.high - c.
     let more = c.loop-low-test.true in let i = c.loop-low.invariant in
     let told = λ (note : Note) (r : IsReadable c.args.space.now.table.shared.key c.args.pass.now.seat.me.0.upper c.args.base note).
     let inside = (i.left note r).inside in let l : middle < length note.objects = omega arith in
-    let object = c.item-row.ensures.object note
-    (subst (λ (m : MyTree). IsReadable c.args.space.now.table.shared.key m.0.upper c.args.base note) (sym i.still) r) l in
+    let object = (c.item-row.ensures.item note
+    (subst (λ (m : MyTree). IsReadable c.args.space.now.table.shared.key m.0.upper c.args.base note) (sym i.still) r) l).1 in
     c.compare.ensures.order (get_or note.objects middle [])
     (subst (λ (m : MyTree). IsObjectShown m.0.upper c.item-row.result (get_or note.objects middle [])) (sym c.item-row.ensures.still) object) in
     record {

@@ -1,11 +1,11 @@
-use Rattle.std.proofs.Common.{◌≡◌, ap, subst, ◌∙◌, arith}
+use Rattle.std.proofs.Common.{Bool, ℕ, List, ap, subst, ◌∙◌, arith}
 use Rattle.ca_model.specs.Answer.{Got}
 use Rattle.ca_node.specs.Told.{MyTree}
 use Rattle.ca_rows.specs.declared.kept.KeptRows.{KeptRows}
 use Rattle.ca_rows.specs.declared.sizes.Sizes.{Sizes}
 use Rattle.ca_replace.specs.Reads.{get_event}
 use Rattle.ca_replace.specs.Resting.{StoreView, known_of, knows}
-use Rattle.ca_replace.proofs.Entries.{led_readable, stays_known, meets, same_pass, rests_again, got_is}
+use Rattle.ca_replace.proofs.Entries.{led_readable, IsRead, meets, rests_again, got_is}
 use Rattle.ca_replace.proofs.store.TreeStore.get.Goals as goal
 
 pub look_up-found-requires-clause-readable : goal.look_up-found-requires-clause-readable
@@ -17,33 +17,43 @@ look_up-found-requires-clause-readable c = let tree = c.self.inside.tree.now in 
 pub invariant_of-self : goal.invariant_of-self
 invariant_of-self c = let tree = c.self.inside.tree.now in let z : Sizes = tree.space.table.shared.key in let pass = c.self.inside.pass in
     let event = get_event c.args.key.now c.look_up-found.result c.look_up-found.new.into.items in
-    let m1 = c.pin.new.pass.seat.me in let m2 = c.walk-base.new.pass.seat.me in let m3 = c.look_up-found.new.pass.seat.me in let m4 = c.unpin.new.pass.seat.me in
-    let i = c.self.invariant in let pin = c.pin.ensures.pinned.3 in let led = c.walk-base.ensures.led.2 in let entered = c.look_up-found.ensures.entered in
-    let unpin = c.unpin.ensures.unpinned in
-    let same : m1.0.sizes ≡ z = ap (λ (m : MyTree). m.0.sizes) pin ∙ i.of.1 in
-    let e1 = ap (λ (m : MyTree). m.0.upper) pin in let e4 = ap (λ (m : MyTree). m.0.upper) unpin in
-    rests_again tree.space.table.shared.table_id z pass.number c.unpin.new.pass.number pass.kept.rows c.unpin.new.pass.kept.rows pass.seat c.unpin.new.pass.seat i
+    let read : IsRead pass.seat.me c.unpin.new.pass.seat.me event = record {
+      told = c.pin.ensures.pinned.0;
+      moment = c.pin.ensures.pinned.1;
+      base = c.walk-base.result.base;
+      at_pin = c.pin.new.pass.seat.me;
+      at_base = c.walk-base.new.pass.seat.me;
+      at_end = c.look_up-found.new.pass.seat.me;
+      is_pinned = c.pin.ensures.pinned.3;
+      is_shown = c.walk-base.ensures.led;
+      answer = c.look_up-found.ensures.answer;
+      is_entered = c.look_up-found.ensures.entered;
+      is_unpinned = c.unpin.ensures.unpinned;
+    } in
+    rests_again tree.space.table.shared.table_id z pass.number c.unpin.new.pass.number pass.kept.rows c.unpin.new.pass.kept.rows
+    pass.seat c.unpin.new.pass.seat event tree.space.few.0 c.self.invariant read
     (c.unpin.ensures.same.0 ∙ (c.look_up-found.ensures.same.0 ∙ (c.walk-base.ensures.same.0 ∙ c.pin.ensures.same.0)))
-    
-    (ap (λ (m : MyTree). m.0.sizes) unpin ∙ (ap (λ (m : MyTree). m.0.sizes) entered ∙ (ap (λ (m : MyTree). m.0.sizes) led ∙ ap (λ (m : MyTree). m.0.sizes) pin))) 
-    (ap (λ (m : MyTree). m.0.claims) unpin ∙ (ap (λ (m : MyTree). m.0.claims) entered ∙ (ap (λ (m : MyTree). m.0.claims) led ∙ ap (λ (m : MyTree). m.0.claims) pin)))
-    
-    (ap (λ (m : MyTree). m.0.pin.number) unpin ∙ (ap (λ (m : MyTree). m.0.pin.number) entered ∙ (ap (λ (m : MyTree). m.0.pin.number) led ∙ ap (λ (m : MyTree). m.0.pin.number) pin))) (ap (λ (m : MyTree). m.0.pin.pinned) unpin)
-    (same_pass z pass.seat.me m1 m2 m3 m4 c.walk-base.result.base event same tree.space.few.0 i.known e1 c.walk-base.ensures.led
-    c.look_up-found.ensures.answer entered e4)
     (c.unpin.ensures.number ∙ (c.look_up-found.ensures.number ∙ (c.walk-base.ensures.number ∙ c.pin.ensures.number)))
     (ap (λ (k : KeptRows). k.rows) (c.unpin.ensures.kept ∙ (c.look_up-found.ensures.kept ∙ (c.walk-base.ensures.kept ∙ c.pin.ensures.kept))))
-    (stays_known z pass.seat.me m1 m2 m3 m4 c.walk-base.result.base event same tree.space.few.0 i.known e1 c.walk-base.ensures.led
-    c.look_up-found.ensures.answer entered e4)
 
 pub returns-clause-got : goal.returns-clause-got
 returns-clause-got c = let tree = c.self.inside.tree.now in let z : Sizes = tree.space.table.shared.key in let pass = c.self.inside.pass in
+    let behind = c.unpin.new.pass.seat.me.0.upper in let found : Bool = c.look_up-found.result in let into : List ℕ = c.look_up-found.new.into.items in
     let event = get_event c.args.key.now c.look_up-found.result c.look_up-found.new.into.items in
-    let m1 = c.pin.new.pass.seat.me in let m2 = c.walk-base.new.pass.seat.me in let m3 = c.look_up-found.new.pass.seat.me in let m4 = c.unpin.new.pass.seat.me in
-    let i = c.self.invariant in let pin = c.pin.ensures.pinned.3 in
-    let same : m1.0.sizes ≡ z = ap (λ (m : MyTree). m.0.sizes) pin ∙ i.of.1 in
-    let e1 = ap (λ (m : MyTree). m.0.upper) pin in let e4 = ap (λ (m : MyTree). m.0.upper) c.unpin.ensures.unpinned in
-    subst (λ (s : StoreView). Got (knows s) (known_of z m4.0.upper) c.args.key.now c.look_up-found.result c.look_up-found.new.into.items) c.self.view_is
-    (got_is (known_of z pass.seat.me.0.upper) (known_of z m4.0.upper) c.args.key.now c.look_up-found.new.into.items c.look_up-found.result
-    (meets z pass.seat.me m1 m2 m3 m4 c.walk-base.result.base event same tree.space.few.0 i.known e1 c.walk-base.ensures.led
-    c.look_up-found.ensures.answer c.look_up-found.ensures.entered e4) c.look_up-found.ensures.emptied)
+    let read : IsRead pass.seat.me c.unpin.new.pass.seat.me event = record {
+      told = c.pin.ensures.pinned.0;
+      moment = c.pin.ensures.pinned.1;
+      base = c.walk-base.result.base;
+      at_pin = c.pin.new.pass.seat.me;
+      at_base = c.walk-base.new.pass.seat.me;
+      at_end = c.look_up-found.new.pass.seat.me;
+      is_pinned = c.pin.ensures.pinned.3;
+      is_shown = c.walk-base.ensures.led;
+      answer = c.look_up-found.ensures.answer;
+      is_entered = c.look_up-found.ensures.entered;
+      is_unpinned = c.unpin.ensures.unpinned;
+    } in
+    subst (λ (s : StoreView). Got (knows s) (known_of z behind) c.args.key.now found into) c.self.view_is
+    (got_is (known_of z pass.seat.me.0.upper) (known_of z behind) c.args.key.now into found
+    (meets z pass.seat.me c.unpin.new.pass.seat.me event read c.self.invariant.of.1 tree.space.few.0 c.self.invariant.known)
+    c.look_up-found.ensures.emptied)
