@@ -9,7 +9,7 @@ pub loop-place-preserved : goal.loop-place-preserved
 loop-place-preserved c = let i = c.loop-place.invariant in let note = first_note c.args.pass.now.seat.me.0.upper.notes in
     let less = c.loop-place-test.true in
     let shown = subst (λ (m : MyTree). IsReadable c.args.space.now.table.shared.key m.0.upper c.args.base note) (sym i.still) c.requires.looking.readable in
-    let row = c.item-row.ensures.item note shown (omega (arith, i.many)) in record {
+    let row = (c.item-row.ensures.item note shown (omega (arith, i.many))).0 in record {
       own = search rules;
       same = search rules;
       number = c.item-row.ensures.number ∙ i.number;
