@@ -9,6 +9,7 @@ pub mod Meeting
 pub mod ObjectBytes
 pub mod Putting
 pub mod Readying
+pub mod SampleObjects
 pub mod Searching
 pub mod Showing
 pub mod Spelling
