@@ -1,5 +1,5 @@
 -- The rows that a pass holds, as it takes, writes, puts back and retires.
-use Rattle.std.proofs.Common.{◌≡◌, ◌≢◌, ◌⊎◌, ℕ, true, false, ◌<◌, ◌≤◌, List, [], ◌∷◌, length, Vec, sym, refl, ap, ◌∙◌, subst, inl, inr, ⊎_elim}
+use Rattle.std.proofs.Common.{◌≡◌, ◌≢◌, ℕ, true, false, ◌<◌, ◌≤◌, List, ◌∷◌, length, Vec, sym, ap, ◌∙◌, subst, inl, inr, ⊎_elim}
 use Rattle.std.specs.Global.{Global}
 use mathlib.Core.Logic.{dite}
 use mathlib.Core.Option.{some, none, some-injective, some-ne-none}
@@ -11,7 +11,6 @@ use Rattle.ca_node.proofs.Members.{in_first, in_rest}
 use Rattle.ca_replace.specs.Taking.{AreHeld}
 use Rattle.ca_replace.specs.Writing.{IsRewritten}
 use Rattle.ca_rows.specs.declared.kept.Kept.{Kept}
-use Rattle.ca_rows.specs.declared.view.Claim.{Claim}
 use Rattle.ca_rows.specs.declared.view.Claim.TheVariants.{Holds, Keeps}
 use Rattle.ca_rows.specs.declared.view.Claimed.{Claimed}
 use Rattle.ca_rows.specs.declared.kept.KeptRows.{KeptRows}
@@ -19,7 +18,7 @@ use Rattle.ca_rows.specs.declared.taken.Taken.TheVariants.{Row}
 use Rattle.ca_rows.specs.Calls.{TakesRow, PutsRow}
 use Rattle.ca_rows.specs.Claims.{claim_of, claimed, dropped}
 use Rattle.ca_rows.specs.Told.{with_claims}
-use Rattle.ca_rows.specs.Kept.{AreKept, kept_of}
+use Rattle.ca_rows.specs.Kept.{AreKept}
 use Rattle.ca_rows.proofs.Claiming.{claimed_here, claimed_else, dropped_here, dropped_else}
 use Rattle.ca_rows.proofs.Keeping.{claimed_too, dropped_too}
 
@@ -43,17 +42,20 @@ module _ (rows : ℕ) (kept : Vec Kept Global) where
   -- A row that nobody claimed was taken.
   pub took : (claims : List Claimed) (held : List ℕ) (row : ℕ) (its : List ℕ) → AreHeld rows kept claims held → claim_of claims row ≡ none → 0 < row
       → row ≤ rows → length its ≡ 136 → (¬ IsIn row held) × AreHeld rows kept (claimed row (Holds its) claims) (row ∷ held)
-  took claims held row its h free lo hi long = (new, record {
-    are_kept = claimed_too rows claims kept h.are_kept row (Holds its) (λ t e. cc) (λ t e. some-ne-none (Keeps t) (sym e ∙ free));
-    only = λ r c e. dite (ℕ_discrete r row) (λ (f : r ≡ row). inr (0, ap some (sym f)))
-        (λ n. ⊎_elim (λ k. inl k) (λ i. inr (in_rest r row held i)) (h.only r c (sym (claimed_else claims row r (Holds its) n) ∙ e)));
-    each = λ r i. ⊎_elim
-        (λ (f : row ≡ r). subst (λ (y : ℕ). (0 < y) × (y ≤ rows) × ((x : List ℕ) × (length x ≡ 136)
-        × (claim_of (claimed row (Holds its) claims) y ≡ some (Holds x)))) f (lo, hi, (its, long, claimed_here claims row (Holds its))))
-        (λ (j : IsIn r held). let w = h.each r j in
-        (w.0, w.1, (w.2.0, w.2.1, claimed_else claims row r (Holds its) (λ f. new (subst (λ (y : ℕ). IsIn y held) f j)) ∙ w.2.2)))
-        (in_more row r held i);
-  })
+  took claims held row its h free lo hi long = (
+    new,
+    record {
+      are_kept = claimed_too rows claims kept h.are_kept row (Holds its) (λ t e. cc) (λ t e. some-ne-none (Keeps t) (sym e ∙ free));
+      only = λ r c e. dite (ℕ_discrete r row) (λ (f : r ≡ row). inr (0, ap some (sym f)))
+          (λ n. ⊎_elim (λ k. inl k) (λ i. inr (in_rest r row held i)) (h.only r c (sym (claimed_else claims row r (Holds its) n) ∙ e)));
+      each = λ r i. ⊎_elim
+          (λ (f : row ≡ r). subst (λ (y : ℕ). (0 < y) × (y ≤ rows) × ((x : List ℕ) × (length x ≡ 136)
+          × (claim_of (claimed row (Holds its) claims) y ≡ some (Holds x)))) f (lo, hi, (its, long, claimed_here claims row (Holds its))))
+          (λ (j : IsIn r held). let w = h.each r j in
+          (w.0, w.1, (w.2.0, w.2.1, claimed_else claims row r (Holds its) (λ f. new (subst (λ (y : ℕ). IsIn y held) f j)) ∙ w.2.2)))
+          (in_more row r held i);
+    },
+  )
     where
       new : ¬ IsIn row held
       new i = let w = h.each row i in some-ne-none (Holds w.2.0) (sym w.2.2 ∙ free)

@@ -1,12 +1,10 @@
 -- Lists with an element put in the place of another one, or between two.
-use Rattle.std.proofs.Common.{◌≡◌, ◌≢◌, ◌⊎◌, ℕ, zero, suc, ◌+◌, ◌<◌, ◌≤◌, List, [], ◌∷◌, ◌++◌, length, map, take, drop, get_or, set, Result, Ok, Err, sym, refl, ap, ◌∙◌, subst, inl, inr, ⊎_elim, arith, length-set, length-append, length-drop}
+use Rattle.std.proofs.Common.{◌≡◌, ◌≢◌, ◌⊎◌, ℕ, zero, suc, ◌+◌, ◌<◌, ◌≤◌, List, [], ◌∷◌, length, map, take, drop, get_or, Result, Ok, Err, sym, refl, ap, inl, inr, ⊎_elim, arith, length-set, length-append, length-drop}
 use Rattle.std.specs.List.{insert}
 use Rattle.std.proofs.lemmas.List.{map-set, length-take-le}
-use mathlib.Core.Logic.{dite}
 use mathlib.Core.Option.{some, some-injective, some-ne-none}
-use native.Mathlib.Decide.{ℕ_discrete}
 use lib.ListN.{get_elem?}
-use Rattle.atomic_table.proofs.Lists.{at_set, set_else}
+use Rattle.atomic_table.proofs.Lists.{at_set}
 use Rattle.ca_model.specs.StoreMap.{Pair}
 use Rattle.ca_model.specs.Slab.{placed}
 use Rattle.ca_node.specs.Links.{IsIn}
@@ -65,10 +63,17 @@ pub put_both : {A B : Type 0} (place : Result ℕ ℕ) (xs : List A) (ys : List 
     → ((x ≡ a) × (y ≡ b)) ⊎ ((i : ℕ) × (get_elem? xs i ≡ some a) × (get_elem? ys i ≡ some b))
 put_both (Err at) xs ys k x a y b e l p q = inserted_both xs ys at k x a y b e l p q
 put_both (Ok at) xs ys k x a y b e l p q = ⊎_elim
-    (λ (s : (k ≡ at) × (x ≡ a)). inl (s.1, ⊎_elim (λ (t : (k ≡ at) × (y ≡ b)). t.1) (λ (t : (k ≢ at) × (get_elem? ys k ≡ some b)). absurd (t.0 s.0))
-    (at_set ys at k y b q)))
-    (λ (s : (k ≢ at) × (get_elem? xs k ≡ some a)). inr (k, s.1, ⊎_elim (λ (t : (k ≡ at) × (y ≡ b)). absurd (s.0 t.0))
-    (λ (t : (k ≢ at) × (get_elem? ys k ≡ some b)). t.1) (at_set ys at k y b q)))
+    (λ (s : (k ≡ at) × (x ≡ a)). inl (
+      s.1,
+      ⊎_elim (λ (t : (k ≡ at) × (y ≡ b)). t.1) (λ (t : (k ≢ at) × (get_elem? ys k ≡ some b)). absurd (t.0 s.0))
+          (at_set ys at k y b q),
+    ))
+    (λ (s : (k ≢ at) × (get_elem? xs k ≡ some a)). inr (
+      k,
+      s.1,
+      ⊎_elim (λ (t : (k ≡ at) × (y ≡ b)). absurd (s.0 t.0))
+          (λ (t : (k ≢ at) × (get_elem? ys k ≡ some b)). t.1) (at_set ys at k y b q),
+    ))
     (at_set xs at k x a p)
 
 -- how long a list is then

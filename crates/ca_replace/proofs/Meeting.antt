@@ -1,17 +1,15 @@
 -- What a pass knows more after a call meets a store's contract.
-use Rattle.std.proofs.Common.{◌≡◌, ◌≢◌, ℕ, ◌+◌, ◌<◌, ◌≤◌, ◌==◌, Bool, true, false, List, [], ◌∷◌, ◌++◌, if◌then◌else◌, length, Some, sym, refl, ap, ◌∙◌, subst, arith, append-nil, append_assoc, length-append}
-use Rattle.std.specs.Prelude.{Option}
+use Rattle.std.proofs.Common.{◌≡◌, ℕ, ◌≤◌, ◌==◌, Bool, true, false, List, [], ◌∷◌, ◌++◌, if◌then◌else◌, length, Some, sym, refl, ap, ◌∙◌, subst, arith, append-nil}
 use Rattle.std.proofs.lemmas.Bool.{false≢true}
 use Rattle.std.proofs.lemmas.Bool.Decides.{nat_tests}
 use Rattle.ca_model.specs.Event.{Event, Entry, effect}
 use Rattle.ca_model.specs.History.{Edit, History, state, after, edits_of_pass, AreEdits, AreByPasses, AreByOthers}
-use Rattle.ca_model.specs.Known.{Known, Seen, Counts, Meets, Declines, seen_with}
-use Rattle.ca_model.specs.Lawful.{IsPlaceFrom, IsLawful, edits_of_log}
+use Rattle.ca_model.specs.Known.{Counts, Meets, Declines}
+use Rattle.ca_model.specs.Lawful.{IsPlaceFrom, edits_of_log}
 use Rattle.ca_model.specs.Passes.{HasSeen}
 use Rattle.ca_model.proofs.Edits.{map_after}
 use Rattle.ca_model.proofs.Passing.{passes_meet}
 use Rattle.ca_node.specs.Told.{IsKnown}
-use Rattle.ca_node.specs.Tree.{StartsWith}
 use Rattle.ca_node.specs.TreeView.{TreeView}
 use Rattle.ca_node.proofs.Logs.{after_more, state_there}
 use Rattle.ca_node.proofs.Looking.{further, starts_shorter}

@@ -1,31 +1,27 @@
 -- A base with an object put is an update of the base that was shown.
-use Rattle.std.proofs.Common.{◌≡◌, ◌≢◌, ◌⊎◌, ℕ, ◌+◌, ◌<◌, ◌≤◌, true, false, List, [], ◌∷◌, length, map, drop, get_or, set, Some, Result, Ok, Err, sym, refl, ap, ◌∙◌, subst, inl, inr, ⊎_elim, arith}
+use Rattle.std.proofs.Common.{◌≡◌, ◌≢◌, ◌⊎◌, ℕ, ◌≤◌, List, [], ◌∷◌, length, map, drop, get_or, set, Some, Result, Ok, Err, sym, refl, ap, ◌∙◌, subst, inl, inr, ⊎_elim, arith}
 use Rattle.std.proofs.lemmas.List.{get_or-map, length-map, length-take}
-use Rattle.std.specs.List.{insert}
 use mathlib.Core.Logic.{dite}
-use mathlib.Core.Option.{Option, some, none, some-injective}
+use mathlib.Core.Option.{some}
 use native.Mathlib.Decide.{ℕ_discrete}
 use lib.ListN.{get_elem?}
 use Rattle.atomic_table.proofs.Lists.{at_set, set_else}
 use Rattle.ca_model.specs.Event.{IsAnswer, effect}
-use Rattle.ca_model.specs.History.{Put, after_edit}
-use Rattle.ca_model.specs.StoreMap.{Pair, StoreMap, IsPair, IsFound}
+use Rattle.ca_model.specs.History.{Put}
+use Rattle.ca_model.specs.StoreMap.{Pair, StoreMap, IsFound}
 use Rattle.ca_model.specs.Slab.{nothing}
-use Rattle.ca_model.proofs.Places.{IsPlace, IsAt, IsBefore, placed_is, is_found}
+use Rattle.ca_model.proofs.Places.{IsPlace, placed_is, is_found}
 use Rattle.ca_node.specs.Links.{IsIn}
 use Rattle.ca_node.specs.Row.{IsObjectRow, items, count, object, key, pair}
-use Rattle.ca_node.specs.Told.{MyTree, IsBaseNote, Update, IsUpdate, IsNotFrom, IsObjectOf}
+use Rattle.ca_node.specs.Told.{MyTree, Update, IsUpdate, IsNotFrom}
 use Rattle.ca_node.specs.TreeView.{Note}
 use Rattle.ca_node.proofs.Looking.{in_more}
-use Rattle.ca_node.proofs.Members.{in_first}
 use Rattle.ca_node.specs.Laws.{in_nothing}
 use Rattle.ca_replace.specs.declared.updating.Putting.{Putting}
 use Rattle.ca_replace.specs.declared.updating.Putting.TheVariants as putting
-use Rattle.ca_replace.specs.Putting.{put_in, gone, object_at, IsRoom, put_event, IsFor, IsPut, put_update, put_update_of, words_of, first_note}
-use Rattle.ca_replace.specs.Writing.{SpellsObject, SpellsBase}
+use Rattle.ca_replace.specs.Putting.{put_in, gone, object_at, IsRoom, put_event, IsFor, IsPut, put_update}
 use Rattle.ca_replace.proofs.Inserting.{IsInRange, put_length, elem_or, within, put_both, length_put, map_put, here_put, in_inserted}
 use Rattle.ca_rows.specs.declared.sizes.Sizes.{Sizes}
-use Rattle.ca_rows.specs.declared.view.Claim.{Claim}
 use Rattle.ca_rows.specs.declared.view.Claim.TheVariants.{Holds}
 use Rattle.ca_rows.specs.Claims.{claim_of}
 

@@ -2,21 +2,20 @@
 use Rattle.std.proofs.Common.{◌≡◌, ◌≢◌, ℕ, ◌<◌, ◌≤◌, true, Bool, List, length, map, Result, Ok, Err, sym, ap, ◌∙◌, subst, arith}
 use Rattle.std.specs.Prelude.{slice_range}
 use Rattle.std.proofs.lemmas.List.{length-map}
-use mathlib.Core.Option.{Option, some}
+use mathlib.Core.Option.{some}
 use Rattle.ca_model.specs.Event.{Event}
 use Rattle.ca_model.specs.StoreMap.{IsPair}
 use Rattle.ca_model.proofs.Places.{IsPlace}
 use Rattle.ca_node.specs.Links.{IsIn}
-use Rattle.ca_node.specs.Row.{items, object, key, pair}
-use Rattle.ca_node.specs.Told.{MyTree, IsBaseNote}
+use Rattle.ca_node.specs.Row.{object, key, pair}
+use Rattle.ca_node.specs.Told.{MyTree}
 use Rattle.ca_node.specs.TreeView.{Note, TreeView}
 use Rattle.ca_replace.specs.declared.updating.Putting.{Putting}
-use Rattle.ca_replace.specs.Putting.{put_in, object_at, IsRoom, IsPlaceFor, IsFor, IsPut, IsReady, IsShownLast, HasPut, HasTried, first_note, words_of, put_event, put_update_of}
+use Rattle.ca_replace.specs.Putting.{put_in, object_at, IsRoom, IsPlaceFor, IsFor, IsPut, IsReady, IsShownLast, HasPut, first_note, words_of, put_event, put_update_of}
 use Rattle.ca_replace.specs.Writing.{IsRewritten, SpellsObject, SpellsBase}
 use Rattle.ca_replace.proofs.Putting.{in_range_of}
 use Rattle.ca_replace.proofs.Inserting.{IsInRange}
 use Rattle.ca_rows.specs.declared.sizes.Sizes.{Sizes}
-use Rattle.ca_rows.specs.declared.view.Claim.{Claim}
 use Rattle.ca_rows.specs.declared.view.Claim.TheVariants.{Holds}
 use Rattle.ca_rows.specs.declared.view.Pin.{Pin}
 use Rattle.ca_rows.specs.Claims.{claim_of}

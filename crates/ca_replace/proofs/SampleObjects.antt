@@ -1,5 +1,5 @@
 -- The objects that tests put.
-use Rattle.std.proofs.Common.{◌≡◌, ℕ, ◌<◌, ◌≤◌, List, [], ◌∷◌, refl, arith}
+use Rattle.std.proofs.Common.{ℕ, ◌<◌, [], ◌∷◌, refl, arith}
 use Rattle.ca_term.specs.Code.{four_bytes}
 use Rattle.ca_term.specs.Grammar.{ANil, NoCode, OneMore}
 use Rattle.ca_model.specs.StoreMap.{IsPair}

@@ -2,7 +2,6 @@
 use Rattle.std.proofs.Common.{◌≡◌, ℕ, zero, suc, ◌+◌, false, ◌<◌, ◌≤◌, List, [], ◌∷◌, ◌++◌, length, map, take, Result, Ok, Err, sym, refl, ap, ◌∙◌, subst, arith}
 use mathlib.Core.Option.{some, some-injective, some-ne-none}
 use lib.ListN.{get_elem?}
-use Rattle.ca_model.specs.History.{after}
 use Rattle.ca_model.specs.Event.{Event, Entry, WriteNew}
 use Rattle.ca_model.specs.Lawful.{IsPlaceFrom}
 use Rattle.ca_model.specs.StoreMap.{StoreMap, IsStoreMap, get}
@@ -15,7 +14,7 @@ use Rattle.ca_node.specs.TreeView.{TreeView}
 use Rattle.ca_node.proofs.Looking.{starts_shorter}
 use Rattle.ca_replace.specs.declared.attempting.Stop.{Stop}
 use Rattle.ca_replace.specs.Attempting.{IsLooking, HasTriedTo}
-use Rattle.ca_replace.specs.Finding.{IsReadable, IsPlaceIn}
+use Rattle.ca_replace.specs.Finding.{IsPlaceIn}
 use Rattle.ca_replace.specs.Progress.{IsFurther, HasDone}
 use Rattle.ca_replace.proofs.Entries.{known_read}
 use Rattle.ca_replace.proofs.Meeting.{further_on, done_on}
@@ -59,14 +58,17 @@ stopped z u v k same = subst (λ (y : TreeView). IsFurther u y × IsKnown z y) (
 -- A call that edits nothing was entered in the log.
 pub entered_done : (z : Sizes) (u w v : TreeView) (event : Event) → IsFurther u w → IsKnown z w → IsReadNow event w → v ≡ entered w event
     → HasDone event u v × IsKnown z v
-entered_done z u w v event f k now same = subst (λ (y : TreeView). HasDone event u y × IsKnown z y) (sym same) (record {
-  number = f.number;
-  seen = f.seen;
-  at = length w.seen;
-  from = subst (IsPlaceFrom (length u.seen) (length w.seen)) (sym now.0) (starts_shorter w.seen u.seen f.seen);
-  log = ap (λ (l : List Entry). l ++ (event, length w.seen) ∷ []) f.log;
-  counts = f.counts;
-}, known_read z w event k now)
+entered_done z u w v event f k now same = subst (λ (y : TreeView). HasDone event u y × IsKnown z y) (sym same) (
+  record {
+    number = f.number;
+    seen = f.seen;
+    at = length w.seen;
+    from = subst (IsPlaceFrom (length u.seen) (length w.seen)) (sym now.0) (starts_shorter w.seen u.seen f.seen);
+    log = ap (λ (l : List Entry). l ++ (event, length w.seen) ∷ []) f.log;
+    counts = f.counts;
+  },
+  known_read z w event k now,
+)
 
 -- What was tried after a look.
 pub tried_on : {T : Type 0} (event : T → Event) (z : Sizes) (r : Result T Stop) (u w v : TreeView) → IsFurther u w → HasTriedTo event z r w v

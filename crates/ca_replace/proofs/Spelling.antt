@@ -1,8 +1,8 @@
 -- What the words of a row spell once it was filled.
-use Rattle.std.proofs.Common.{◌≡◌, ℕ, ◌+◌, ◌*◌, ◌-◌, ◌/◌, ◌%◌, ◌<◌, ◌≤◌, List, [], ◌∷◌, length, take, drop, get_or, sym, ap, ◌∙◌, subst, arith, length-drop}
+use Rattle.std.proofs.Common.{◌≡◌, ℕ, ◌+◌, ◌-◌, ◌/◌, ◌%◌, ◌<◌, ◌≤◌, List, [], ◌∷◌, length, take, drop, get_or, sym, ap, ◌∙◌, subst, arith, length-drop}
 use Rattle.std.proofs.lemmas.Grind.{same_number_lists}
 use Rattle.std.proofs.lemmas.List.{length-take-le, get_or-take, get_or-drop}
-use Rattle.ca_node.specs.Row.{bytes_in, object, key, key_length, key_place, items, count}
+use Rattle.ca_node.specs.Row.{bytes_in, object, key_place, count}
 use Rattle.ca_replace.specs.Writing.{HasEight, IsFilled, SpellsObject, SpellsBase}
 use Rattle.ca_replace.proofs.Words.{packed}
 

@@ -1,5 +1,5 @@
 -- A call's attempts, one after another, and its end.
-use Rattle.std.proofs.Common.{◌≡◌, ℕ, ◌<◌, ◌≤◌, Bool, true, false, List, [], ◌∷◌, ◌++◌, length, Result, Ok, Err, Vec, sym, refl, ap, ◌∙◌, subst, arith, inl, ⊎_elim}
+use Rattle.std.proofs.Common.{◌≡◌, ℕ, ◌≤◌, false, [], Result, Ok, Err, Vec, sym, refl, ap, ◌∙◌, subst, arith, inl, ⊎_elim}
 use Rattle.std.specs.Global.{Global}
 use Rattle.atomic_table.specs.declared.shared.Seat.{Seat}
 use Rattle.atomic_table.specs.Seated.{TableId}
@@ -46,14 +46,17 @@ holds_none table z number kept seat r = record {
 -- What was tried while the pass was pinned.
 pub tried_pinned : {T : Type 0} (event : T → Event) (z : Sizes) (r : Result T Stop) (u v w : TreeView) → w ≡ unpinned v → HasTriedTo event z r (pinned u) v
     → HasTriedTo event z r u w
-tried_pinned event z (Ok x) u v w same h = subst (λ (y : TreeView). HasDone (event x) u y × IsKnown z y) (sym same) (record {
-  number = h.0.number;
-  seen = h.0.seen;
-  at = h.0.at;
-  from = h.0.from;
-  log = h.0.log;
-  counts = h.0.counts;
-}, known_unpinned z v h.1)
+tried_pinned event z (Ok x) u v w same h = subst (λ (y : TreeView). HasDone (event x) u y × IsKnown z y) (sym same) (
+  record {
+    number = h.0.number;
+    seen = h.0.seen;
+    at = h.0.at;
+    from = h.0.from;
+    log = h.0.log;
+    counts = h.0.counts;
+  },
+  known_unpinned z v h.1,
+)
 tried_pinned event z (Err stop) u v w same h = subst (λ (y : TreeView). IsFurther u y × IsKnown z y) (sym same)
     (record { number = h.0.number; seen = h.0.seen; log = h.0.log; counts = h.0.counts }, known_unpinned z v h.1)
 

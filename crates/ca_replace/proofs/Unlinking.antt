@@ -1,18 +1,17 @@
 -- The rows that a pass has after an update, as it retires what went.
-use Rattle.std.proofs.Common.{◌≡◌, ◌≢◌, ◌⊎◌, ℕ, ◌+◌, ◌<◌, ◌≤◌, List, [], ◌∷◌, ◌++◌, length, Vec, sym, refl, ap, ◌∙◌, subst, inl, inr, ⊎_elim, arith, append_assoc, length-append}
+use Rattle.std.proofs.Common.{◌≡◌, ◌⊎◌, ℕ, ◌+◌, ◌<◌, List, [], ◌∷◌, ◌++◌, length, Vec, sym, refl, ap, ◌∙◌, subst, inl, inr, ⊎_elim, arith, append_assoc, length-append}
 use Rattle.std.specs.Global.{Global}
 use mathlib.Core.Logic.{dite}
 use mathlib.Core.Option.{some, none, some-injective, some-ne-none}
 use native.Mathlib.Decide.{ℕ_discrete}
 use Rattle.ca_model.specs.Event.{effect}
-use Rattle.ca_model.specs.History.{Edit, History}
 use Rattle.ca_model.specs.Lawful.{IsPlaceFrom}
 use Rattle.ca_node.specs.Laws.{in_nothing}
 use Rattle.ca_node.specs.Links.{IsIn}
 use Rattle.ca_node.specs.Told.{MyTree, IsKnown, Update, IsUpdated, given, taken_out, updated}
 use Rattle.ca_node.specs.TreeView.{TreeView}
 use Rattle.ca_node.proofs.Looking.{in_more}
-use Rattle.ca_node.proofs.Members.{in_first, in_rest, has, given_here, given_else, taken_here, taken_else}
+use Rattle.ca_node.proofs.Members.{in_rest, has, given_here, given_else, taken_here, taken_else}
 use Rattle.ca_replace.specs.Progress.{HasDone}
 use Rattle.ca_replace.specs.Taking.{AreHeld, AreUnlinked}
 use Rattle.ca_replace.specs.Writing.{IsRewritten}
@@ -74,8 +73,11 @@ retired_too rows kept kept' m m' row t told k rest out h = let is = ap (λ (x : 
     subst (λ (xs : List Claimed). AreUnlinked rows kept' xs rest) (sym is) record {
       are_kept = subst (λ (xs : List Claimed). AreKept rows xs kept') is k;
       only = λ r c e. dite (ℕ_discrete r row)
-          (λ (f : r ≡ row). inl (t, some-injective c (Keeps t) (sym e ∙ (ap (claim_of (claimed row (Keeps t) m.0.claims)) f
-          ∙ claimed_here m.0.claims row (Keeps t)))))
+          (λ (f : r ≡ row). inl (
+            t,
+            some-injective c (Keeps t) (sym e ∙ (ap (claim_of (claimed row (Keeps t) m.0.claims)) f
+                ∙ claimed_here m.0.claims row (Keeps t))),
+          ))
           (λ n. ⊎_elim (λ y. inl y) (λ i. inr (⊎_elim (λ (f : row ≡ r). absurd (n (sym f))) (λ (j : IsIn r rest). j) (in_more row r rest i)))
           (h.only r c (sym (claimed_else m.0.claims row r (Keeps t) n) ∙ e)));
       each = λ r i. claimed_else m.0.claims row r (Keeps t) (λ f. out (subst (λ (y : ℕ). IsIn y rest) f i)) ∙ h.each r (in_rest r row rest i);
@@ -103,15 +105,18 @@ pub is_done : (z : Sizes) (new : ℕ) (x : Update) (m m' : MyTree) (v : TreeView
     → v ≡ m'.0.upper → HasDone x.event m.0.upper v × IsKnown z v
 is_done z new x m m' v sizes some_rows does u same = let w : v ≡ updated m.0.upper u.more new x = same ∙ ap (λ (y : MyTree). y.0.upper) u.now in
     let some_rows' : 0 < m.0.sizes.rows = subst (λ (y : Sizes). 0 < y.rows) (sym sizes) some_rows in
-    subst (λ (y : TreeView). HasDone x.event m.0.upper y × IsKnown z y) (sym w) (record {
-      number = refl;
-      seen = (u.more ++ (m.0.upper.number, x.edit) ∷ [], append_assoc m.0.upper.seen u.more ((m.0.upper.number, x.edit) ∷ []));
-      at = length (m.0.upper.seen ++ u.more) + 1;
-      from = subst (IsPlaceFrom (length m.0.upper.seen) (length (m.0.upper.seen ++ u.more) + 1)) (sym does)
-          (omega (arith, length-append m.0.upper.seen u.more));
-      log = refl;
-      counts = refl;
-    }, subst (λ (y : Sizes). IsKnown y (updated m.0.upper u.more new x)) sizes (u.known some_rows'))
+    subst (λ (y : TreeView). HasDone x.event m.0.upper y × IsKnown z y) (sym w) (
+      record {
+        number = refl;
+        seen = (u.more ++ (m.0.upper.number, x.edit) ∷ [], append_assoc m.0.upper.seen u.more ((m.0.upper.number, x.edit) ∷ []));
+        at = length (m.0.upper.seen ++ u.more) + 1;
+        from = subst (IsPlaceFrom (length m.0.upper.seen) (length (m.0.upper.seen ++ u.more) + 1)) (sym does)
+            (omega (arith, length-append m.0.upper.seen u.more));
+        log = refl;
+        counts = refl;
+      },
+      subst (λ (y : Sizes). IsKnown y (updated m.0.upper u.more new x)) sizes (u.known some_rows'),
+    )
 
 -- A row that is held was written: the same rows are held.
 pub written_row : (rows : ℕ) (kept kept' : KeptRows) (m m' : MyTree) (held : List ℕ) (row : ℕ) (its : List ℕ) → IsIn row held → length its ≡ 136

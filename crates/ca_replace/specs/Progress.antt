@@ -1,5 +1,5 @@
 -- What a pass knows more of the tree, from one moment of a call to a later one.
-use Rattle.std.specs.Prelude.{◌≡◌, ℕ, List, [], ◌∷◌, ◌++◌, length}
+use Rattle.std.specs.Prelude.{◌≡◌, ℕ, [], ◌∷◌, ◌++◌, length}
 use Rattle.ca_model.specs.Event.{Event, effect}
 use Rattle.ca_model.specs.Known.{Counts}
 use Rattle.ca_model.specs.Lawful.{IsPlaceFrom}

@@ -1,5 +1,5 @@
 -- Rows that a seat holds, and what is written into them.
-use Rattle.std.specs.Prelude.{◌≡◌, ◌≢◌, ◌⊎◌, ℕ, ◌+◌, ◌*◌, ◌-◌, ◌<◌, ◌≤◌, List, length, take, drop, slice_index, slice_range}
+use Rattle.std.specs.Prelude.{◌≡◌, ◌≢◌, ℕ, ◌+◌, ◌*◌, ◌<◌, ◌≤◌, List, length, take, drop, slice_index, slice_range}
 use Rattle.std.specs.Int.{to_be_bytes, w64}
 use mathlib.Core.Option.{some}
 use Rattle.ca_rows.specs.declared.view.Claim.TheVariants.{Holds}

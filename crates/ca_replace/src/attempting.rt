@@ -96,7 +96,9 @@ pub(crate) fn put_there(
     if !has_room(&items, place, leaf) {
         return Err(Stop::Deep);
     }
-    match put_at(space, pass, base, &items, place, why, object, key_at, key_end) {
+    match put_at(
+        space, pass, base, &items, place, why, object, key_at, key_end,
+    ) {
         Ok(true) => Ok(()),
         Ok(false) => Err(Stop::Lost),
         Err(NoRow::Lost) => Err(Stop::Lost),

@@ -46,7 +46,17 @@ pub(crate) fn try_put_new(
         }
         Err(at) => {
             let why = Putting::PutNew;
-            match put_there(space, pass, leaf, base, Err(at), why, object, key_at, key_end) {
+            match put_there(
+                space,
+                pass,
+                leaf,
+                base,
+                Err(at),
+                why,
+                object,
+                key_at,
+                key_end,
+            ) {
                 Ok(()) => Ok(true),
                 Err(stop) => Err(stop),
             }

@@ -92,13 +92,7 @@ impl TreeStore<'_> {
     /// Puts the object, in the place of its key's object where there is one. Its key stands in it from `key_at` to `key_end`. It is refused
     /// where no row is free, where the base that must take a new key has as many objects as it may, and where each of its attempts, as
     /// many as the budget, was lost to another pass.
-    pub fn put(
-        &mut self,
-        object: &[u8],
-        key_at: usize,
-        key_end: usize,
-        budget: u32,
-    ) -> Outcome<()>
+    pub fn put(&mut self, object: &[u8], key_at: usize, key_end: usize, budget: u32) -> Outcome<()>
         requires budget { 1 ≤ budget }
         requires closed { (knows self.old).run ≡ None }
         requires room { 1 ≤ (knows self.old).spare }

@@ -262,7 +262,10 @@ fn each_put_takes_two_rows_until_none_is_free(rt: HostRuntime) {
     };
     assert_eq!(rt; put_on(&mut store, 1), (191, Outcome::Full(full)));
     let mut into = Code::new();
-    assert_eq!(rt; store.get(&[0x24, 1, 0, 0, 1], &mut into, 1), Outcome::Done(true));
+    assert_eq!(rt;
+        store.get(&[0x24, 1, 0, 0, 1], &mut into, 1),
+        Outcome::Done(true)
+    );
     assert!(rt; into.as_slice() == object(1).as_slice());
     assert_eq!(rt; put_new(&mut store, 1), Outcome::Done(false));
     assert_eq!(rt; put_new(&mut store, 2), Outcome::Full(full));
@@ -280,7 +283,10 @@ fn no_row_is_taken_once_the_tag_is_worn(rt: HostRuntime) {
     let mut into = Code::new();
     assert_eq!(rt; put(&mut store, 1), Outcome::Worn(Counter::PoolTag));
     assert_eq!(rt; put_new(&mut store, 1), Outcome::Worn(Counter::PoolTag));
-    assert_eq!(rt; store.get(&[0x24, 1, 0, 0, 1], &mut into, 1), Outcome::Done(false));
+    assert_eq!(rt;
+        store.get(&[0x24, 1, 0, 0, 1], &mut into, 1),
+        Outcome::Done(false)
+    );
 }
 
 #[test]

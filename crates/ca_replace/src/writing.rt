@@ -8,6 +8,7 @@ use ca_node::{TreePass, TreeSpace};
 
 // The form of an object row and that of a base, in the first word.
 const OBJECT: u64 = 1 << 56;
+
 const BASE: u64 = 2 << 56;
 
 /// Writes an object row: the first word, and the object's bytes, eight a word, with zeros behind their end in the last one. Its key stands in

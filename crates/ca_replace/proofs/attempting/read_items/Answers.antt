@@ -1,4 +1,4 @@
-use Rattle.std.proofs.Common.{rules, ◌≡◌, ℕ, List, ◌∷◌, ◌++◌, [], sym, ap, ◌∙◌, subst, arith}
+use Rattle.std.proofs.Common.{rules, ℕ, List, ◌∷◌, ◌++◌, [], sym, ap, ◌∙◌, subst, arith}
 use Rattle.ca_node.specs.Told.{MyTree}
 use Rattle.ca_replace.specs.Finding.{IsReadable}
 use Rattle.ca_replace.specs.Putting.{first_note}

@@ -1,4 +1,4 @@
-use Rattle.std.proofs.Common.{◌≡◌, Bool, refl, ◌∙◌}
+use Rattle.std.proofs.Common.{Bool, refl, ◌∙◌}
 use Rattle.std.specs.Prelude.{slice_range}
 use Rattle.ca_model.specs.Event.{WriteNew}
 use Rattle.ca_replace.proofs.Meeting.{further_on}

@@ -1,4 +1,3 @@
-use Rattle.std.proofs.Common.{ℕ, List}
 use Rattle.ca_node.proofs.Members.{in_first}
 use Rattle.ca_replace.proofs.Held.{kept_row, gone_row, retired_row}
 use Rattle.ca_rows.specs.declared.view.Claim.TheVariants.{Holds}

@@ -1,7 +1,6 @@
-use Rattle.std.proofs.Common.{ℕ, List, [], ◌∷◌, ap, refl, sym}
+use Rattle.std.proofs.Common.{[], ◌∷◌, ap, refl, sym}
 use mathlib.Core.Option.{some}
 use Rattle.ca_node.specs.Laws.{in_nothing}
-use Rattle.ca_node.proofs.Members.{in_first}
 use Rattle.ca_replace.proofs.taking.take_two.Goals as goal
 
 pub returns-in-Err-clause-taken : goal.returns-in-Err-clause-taken

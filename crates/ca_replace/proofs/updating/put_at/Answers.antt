@@ -1,9 +1,8 @@
-use Rattle.std.proofs.Common.{◌≡◌, ℕ, List, [], ◌∷◌, sym, ap, ◌∙◌, refl, subst, arith}
-use Rattle.ca_node.specs.Links.{IsIn}
+use Rattle.std.proofs.Common.{◌≡◌, ℕ, List, [], ◌∷◌, sym, ◌∙◌, subst}
 use Rattle.ca_node.proofs.Members.{in_first, in_rest}
 use Rattle.ca_replace.specs.Putting.{put_in}
 use Rattle.ca_replace.specs.Writing.{SpellsBase}
-use Rattle.ca_replace.proofs.Readying.{finds_place, place_in, ready, tried}
+use Rattle.ca_replace.proofs.Readying.{finds_place, place_in, ready}
 use Rattle.ca_replace.proofs.Unlinking.{written_row}
 use Rattle.ca_replace.proofs.updating.put_at.Goals as goal
 

@@ -1,6 +1,5 @@
-use Rattle.std.proofs.Common.{◌≡◌, ℕ, List, [], ◌∷◌, get_or, Ok, Err, Result, sym, ap, ◌∙◌, refl, subst, arith}
+use Rattle.std.proofs.Common.{◌≡◌, ℕ, List, [], ◌∷◌, get_or, Result, sym, ap, ◌∙◌, refl, subst}
 use Rattle.ca_node.specs.Laws.{in_nothing}
-use Rattle.ca_node.specs.Links.{IsIn}
 use Rattle.ca_replace.specs.Putting.{gone, put_update_of}
 use Rattle.ca_replace.specs.Taking.{AreUnlinked}
 use Rattle.ca_replace.proofs.Putting.{is_put}

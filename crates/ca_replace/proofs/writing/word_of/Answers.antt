@@ -1,4 +1,4 @@
-use Rattle.std.proofs.Common.{◌≡◌, ℕ, List, [], ◌∷◌, take}
+use Rattle.std.proofs.Common.{◌≡◌, [], ◌∷◌}
 use Rattle.std.specs.Int.{from_be_bytes, w64}
 use borrow.Rule.Slice.PartMut.{put_mid}
 use Rattle.ca_replace.proofs.Words.{word_has}

@@ -1,4 +1,4 @@
-use Rattle.std.proofs.Common.{◌≡◌, refl, ◌∙◌, arith}
+use Rattle.std.proofs.Common.{refl, ◌∙◌, arith}
 use Rattle.ca_replace.specs.Writing.{HasEight}
 use Rattle.ca_replace.proofs.Filling.{begins, goes_on}
 use Rattle.ca_replace.proofs.Words.{eight_at}

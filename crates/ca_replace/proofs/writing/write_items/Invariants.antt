@@ -1,5 +1,4 @@
 use Rattle.std.proofs.Common.{◌≡◌, get_or}
-use Rattle.ca_replace.specs.Writing.{HasEight}
 use Rattle.ca_replace.proofs.Filling.{IsFilling}
 use Rattle.ca_replace.proofs.writing.write_items.Given as goal
 

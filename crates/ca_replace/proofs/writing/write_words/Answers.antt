@@ -1,5 +1,4 @@
 use Rattle.std.proofs.Common.{◌≡◌, get_or, refl, ◌∙◌, arith}
-use Rattle.ca_replace.specs.Writing.{HasEight}
 use Rattle.ca_replace.proofs.Filling.{begins, goes_on}
 use Rattle.ca_replace.proofs.writing.write_words.Goals as goal
 
