@@ -173,6 +173,7 @@ rests_again table z number number' kept kept' seat seat' event some_rows rests r
 }
 
 -- What such a call answers.
-pub got_is : (a b : Known) (key object : List ℕ) (found : Bool) → Meets a b (get_event key found object) → (found ≡ false → object ≡ []) → Got a b key found object
+pub got_is : (a b : Known) (key object : List ℕ) (found : Bool) → Meets a b (get_event key found object) → (found ≡ false → object ≡ [])
+    → Got a b key found object
 got_is a b key object true meets none = meets
 got_is a b key object false meets none = (meets, none refl)

@@ -27,7 +27,8 @@ returns-then-is_ne-clause-order c its shown = let start : ℕ = c.key_bytes-star
     let i = c.loop-at.invariant in let low = i.low in let high = i.high in let more = c.loop-at-test.true in let m = c.min-to.ensures in
     let told = λ (xs : List ℕ) (shown : IsObjectShown c.args.pass.now.seat.me.0.upper c.args.row xs).
     c.compare_word-order.ensures.order xs (subst (λ (m : MyTree). IsObjectShown m.0.upper c.args.row xs) (sym c.loop-at.invariant.still) shown)
-    ∙ ap (λ (n : ℕ). bytes_cmp (take (to - at) (drop at (bytes_in (drop 11 xs)))) (take (n - (at - start)) (drop (at - start) c.args.key.now))) c.min.ensures in
+    ∙ ap (λ (n : ℕ). bytes_cmp (take (to - at) (drop at (bytes_in (drop 11 xs))))
+    (take (n - (at - start)) (drop (at - start) c.args.key.now))) c.min.ensures in
     let not : c.compare_word-order.result ≢ Equal = is_other c.compare_word-order.result (sym c.is_ne.ensures ∙ c.if-is_ne.true) in
     decided bytes c.args.key.now start end at to low (omega arith) (omega arith) (i.left its shown) c.compare_word-order.result (told its shown) not
     ∙ ap (λ (k : List ℕ). bytes_cmp k c.args.key.now) (sym (c.key_bytes-start.ensures.key its shown))
@@ -38,7 +39,8 @@ loop-at-preserved c = let start : ℕ = c.key_bytes-start.result.0 in let end : 
     let i = c.loop-at.invariant in let low = i.low in let high = i.high in let more = c.loop-at-test.true in let m = c.min-to.ensures in
     let told = λ (xs : List ℕ) (shown : IsObjectShown c.args.pass.now.seat.me.0.upper c.args.row xs).
     c.compare_word-order.ensures.order xs (subst (λ (m : MyTree). IsObjectShown m.0.upper c.args.row xs) (sym c.loop-at.invariant.still) shown)
-    ∙ ap (λ (n : ℕ). bytes_cmp (take (to - at) (drop at (bytes_in (drop 11 xs)))) (take (n - (at - start)) (drop (at - start) c.args.key.now))) c.min.ensures in
+    ∙ ap (λ (n : ℕ). bytes_cmp (take (to - at) (drop at (bytes_in (drop 11 xs))))
+    (take (n - (at - start)) (drop (at - start) c.args.key.now))) c.min.ensures in
     let same : c.compare_word-order.result ≡ Equal = is_equal c.compare_word-order.result (sym c.is_ne.ensures ∙ c.if-is_ne.false) in
     let l : at ≤ to = omega arith in let under : to ≤ end = omega arith in
     record {

@@ -11,7 +11,8 @@ returns-clause-order c its shown = let from : ℕ = c.args.from in let to : ℕ 
     c.load_word-word.ensures.word its shown.shown ∙ sym (get_or-drop 11 its (from / 8) 0) in
     let long = shown.long in let in_bytes = c.requires.bytes in
     let part = part_is (drop 11 its) from to in_bytes.0 in_bytes.1 (omega (arith, length-drop 11 its)) in
-    let bytes : c.to_be_bytes-bytes.result ≡ to_be_bytes w64 (get_or (drop 11 its) (from / 8) 0) = c.to_be_bytes-bytes.ensures ∙ ap (to_be_bytes w64) word in
+    let bytes : c.to_be_bytes-bytes.result ≡ to_be_bytes w64 (get_or (drop 11 its) (from / 8) 0) =
+    c.to_be_bytes-bytes.ensures ∙ ap (to_be_bytes w64) word in
     let n : from % 8 + (to - from) - from % 8 ≡ to - from = omega arith in
     c.cmp.ensures ∙ (ap (λ (bs : List ℕ). bytes_cmp (take (from % 8 + (to - from) - from % 8) (drop (from % 8) bs)) c.args.part.now) bytes
     ∙ (ap (λ (k : ℕ). bytes_cmp (take k (drop (from % 8) (to_be_bytes w64 (get_or (drop 11 its) (from / 8) 0)))) c.args.part.now) n

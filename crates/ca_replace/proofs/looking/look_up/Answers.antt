@@ -15,7 +15,8 @@ returns-clause-answer c = let note = c.requires.readable.0 in let r = c.requires
     let object = (c.item-row.ensures.item note
     (subst (λ (m : MyTree). IsReadable c.args.space.now.table.shared.key m.0.upper c.args.base note) (sym c.search.ensures.still) r)
     (place_inside note c.args.key.now c.in-Ok.place at)).1 in
-    let copied = c.copy_object.ensures.object its (subst (λ (m : MyTree). IsObjectShown m.0.upper c.item-row.result its) (sym c.item-row.ensures.still) object) in (
+    let copied = c.copy_object.ensures.object its
+    (subst (λ (m : MyTree). IsObjectShown m.0.upper c.item-row.result its) (sym c.item-row.ensures.still) object) in (
       refl,
       subst (λ (m : StoreMap). IsFound m c.args.key.now (Some c.copy_object.new.into.items)) c.requires.readable.2
           (found_object note c.args.key.now c.copy_object.new.into.items c.in-Ok.place at copied),
@@ -28,7 +29,8 @@ enter-requires-2-clause-answer c = let note = c.requires.readable.0 in let r = c
     let object = (c.item-row.ensures.item note
     (subst (λ (m : MyTree). IsReadable c.args.space.now.table.shared.key m.0.upper c.args.base note) (sym c.search.ensures.still) r)
     (place_inside note c.args.key.now c.in-Ok.place at)).1 in
-    let copied = c.copy_object.ensures.object its (subst (λ (m : MyTree). IsObjectShown m.0.upper c.item-row.result its) (sym c.item-row.ensures.still) object) in
+    let copied = c.copy_object.ensures.object its
+    (subst (λ (m : MyTree). IsObjectShown m.0.upper c.item-row.result its) (sym c.item-row.ensures.still) object) in
     let still = c.copy_object.ensures.still ∙ (c.item-row.ensures.still ∙ c.search.ensures.still) in (
       refl,
       subst (λ (m : MyTree). IsFound (after m.0.upper.seen []) c.args.key.now (Some c.as_slice.result.now)) (sym still)

@@ -52,7 +52,8 @@ loop-low-preserved c = let middle : ℕ = c.loop-low.low + (c.loop-low.high - c.
       still = search rules;
       order = omega arith;
       few = omega arith;
-      left = λ note r. greater_on note c.args.key.now c.loop-low.low c.loop-low.high middle (omega arith) (i.left note r) (sym (told note r) ∙ c.in-Greater.is);
+      left = λ note r. greater_on note c.args.key.now c.loop-low.low c.loop-low.high middle (omega arith) (i.left note r)
+          (sym (told note r) ∙ c.in-Greater.is);
     }
 
 pub returns-clause-place : goal.returns-clause-place
