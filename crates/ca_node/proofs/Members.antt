@@ -1,9 +1,13 @@
 -- Members of lists, claims on lists of rows, and rows of a list one by one.
-use Rattle.std.proofs.Common.{◌≡◌, ◌⊎◌, ℕ, zero, suc, List, [], ◌∷◌, length, map, sym, refl, ap, ◌∙◌, inl, inr, ⊎_elim, arith}
+use Rattle.std.proofs.Common.{◌≡◌, ◌≢◌, ◌⊎◌, ℕ, zero, suc, List, [], ◌∷◌, length, map, sym, refl, ap, ◌∙◌, subst, inl, inr, ⊎_elim, arith}
 use mathlib.Core.Logic.{dite}
-use mathlib.Core.Option.{some, none, some-ne-none}
+use mathlib.Core.Option.{some, none, some-injective, some-ne-none}
 use native.Mathlib.Decide.{ℕ_discrete}
 use lib.ListN.{get_elem?}
+use Rattle.std.specs.Cmp.Lexicographic.{nat_list_cmp_total}
+use Rattle.std.specs.declared.cmp.Ordering.TheVariants.{Less}
+use Rattle.atomic_table.proofs.Lists.{at_map}
+use Rattle.ca_model.specs.StoreMap.{Pair, StoreMap, bytes_cmp, AreAbove, IsStoreMap}
 use Rattle.ca_rows.specs.declared.view.Claim.TheVariants.{Unlinked}
 use Rattle.ca_rows.specs.declared.view.Claimed.{Claimed}
 use Rattle.ca_rows.specs.Claims.{claim_of}
@@ -69,3 +73,23 @@ map_is_list f [] (y ∷ ys) e each = absurd (omega arith)
 map_is_list f (x ∷ xs) [] e each = absurd (omega arith)
 map_is_list f (x ∷ xs) (y ∷ ys) e each = ap (λ z. z ∷ map f xs) (each 0 x y refl refl)
     ∙ ap (λ zs. y ∷ zs) (map_is_list f xs ys (omega arith) (λ k a b. each (suc k) a b))
+
+-- A key isn't less than itself.
+not_less : (k : List ℕ) → bytes_cmp k k ≢ Less
+not_less k l = let r = nat_list_cmp_total.antisymm k k in cc
+
+-- The first pair's key is less than that of another one.
+less_than_all : (p : ℕ) (k : List ℕ) (m : StoreMap) (j : ℕ) (q : Pair) → AreAbove k m → get_elem? m j ≡ some q → bytes_cmp k q.0 ≡ Less
+less_than_all p k [] j q a e = absurd (some-ne-none q (sym e))
+less_than_all p k (x ∷ m) zero q a e = subst (λ (y : Pair). bytes_cmp k y.0 ≡ Less) (some-injective x q e) a.0
+less_than_all p k (x ∷ m) (suc j) q a e = less_than_all p k m j q a.1 e
+
+-- Rows whose pairs ascend are each in one place.
+pub once : (p : ℕ) (f : ℕ → Pair) (xs : List ℕ) → IsStoreMap p (map f xs) → (i j row : ℕ) → get_elem? xs i ≡ some row → get_elem? xs j ≡ some row → i ≡ j
+once p f [] m i j row a b = absurd (some-ne-none row (sym a))
+once p f (x ∷ xs) m zero zero row a b = refl
+once p f (x ∷ xs) m zero (suc j) row a b = absurd (not_less (f row).0 (subst (λ (y : ℕ). bytes_cmp (f y).0 (f row).0 ≡ Less) (some-injective x row a)
+    (less_than_all p (f x).0 (map f xs) j (f row) m.1 (at_map f xs j row b))))
+once p f (x ∷ xs) m (suc i) zero row a b = absurd (not_less (f row).0 (subst (λ (y : ℕ). bytes_cmp (f y).0 (f row).0 ≡ Less) (some-injective x row b)
+    (less_than_all p (f x).0 (map f xs) i (f row) m.1 (at_map f xs i row a))))
+once p f (x ∷ xs) m (suc i) (suc j) row a b = ap suc (once p f xs m.2 i j row a b)

@@ -12,13 +12,18 @@ use Rattle.atomic_table.proofs.Lists.{at_set, at_map, set_again}
 use Rattle.ca_model.specs.Event.{IsAnswer}
 use Rattle.ca_model.specs.History.{History, Edit, after, after_edit, IsEdit, AreEdits, AreByPasses}
 use Rattle.ca_model.specs.Lawful.{IsLawful}
+use Rattle.ca_model.specs.StoreMap.{IsStoreMap}
+use Rattle.ca_model.proofs.Edits.{map_after}
 use Rattle.ca_rows.specs.declared.sizes.Sizes.{Sizes}
 use Rattle.ca_rows.specs.declared.view.Claim.{Claim}
-use Rattle.ca_rows.specs.declared.view.Claim.TheVariants.{Holds}
+use Rattle.ca_rows.specs.declared.view.Claim.TheVariants.{Holds, Lends, Unlinked, Keeps, Returns}
 use Rattle.ca_rows.specs.declared.view.View.{View}
-use Rattle.ca_rows.specs.Claims.{claim_of}
-use Rattle.ca_rows.specs.Rule.{upper_of}
+use Rattle.ca_rows.specs.Account.{IsOut, IsClaim, IsRow}
+use Rattle.ca_rows.specs.Chain.{Owner, Free, Linked, Of}
+use Rattle.ca_rows.specs.Claims.{claim_of, claim_at}
+use Rattle.ca_rows.specs.Rule.{upper_of, NotedAt}
 use Rattle.ca_rows.specs.Words.{IsWide}
+use Rattle.ca_rows.proofs.Claiming.{claim_there}
 use Rattle.ca_rows.proofs.Relinking.{Change, Stays, Comes, Goes, IsChange, relinks}
 use Rattle.ca_rows.proofs.Rules.{all_seats}
 use Rattle.ca_rows.proofs.Steps.{owned}
@@ -26,12 +31,12 @@ use Rattle.ca_node.specs.Laws.{tree_frames, tree_lends, numbered, relisted, in_n
 use Rattle.ca_node.specs.Links.{root, IsIn, IsLinked, by_root, by_base, IsLent, IsNoted, by_note, by_item, by_way, by_link, by_link_item}
 use Rattle.ca_node.specs.Row.{row_at, form, IsObjectRow, IsBaseRow, items, count, level, mark, pair, objects_in}
 use Rattle.ca_node.specs.Stays.{row_same, row_long, word_at, map_same}
-use Rattle.ca_node.specs.Told.{MyTree, Update, IsUpdate, given, taken_out, updated, Updates, HasUpdated}
+use Rattle.ca_node.specs.Told.{MyTree, IsKnown, Update, IsUpdate, given, taken_out, updated, IsUpdated, Updates, HasUpdated}
 use Rattle.ca_node.specs.Tree.{root_place, IsBaseAt, StartsWith, IsTrue, Knows, IsTree}
 use Rattle.ca_node.specs.TreeView.{Note, TreeView}
 use Rattle.ca_node.proofs.Logs.{after_more, others_lawful, own_lawful, past_more}
-use Rattle.ca_node.proofs.Looking.{R, looked, knows_upper, further, longer_past, starts_shorter, in_more}
-use Rattle.ca_node.proofs.Members.{in_rest, has, given_here, given_else, taken_here, taken_else, other_has, map_is_list}
+use Rattle.ca_node.proofs.Looking.{R, looked, knows_upper, fewer_passes, further, longer_past, starts_shorter, in_more}
+use Rattle.ca_node.proofs.Members.{in_rest, has, once, given_here, given_else, taken_here, taken_else, other_has, map_is_list}
 
 edits_more : (keypos : ℕ) (h : History) (n : ℕ) (e : Edit) → AreEdits keypos h → IsEdit keypos e → AreEdits keypos (h ++ (n, e) ∷ [])
 edits_more keypos [] n e a is = (is, tt)
@@ -155,7 +160,7 @@ module _ (z : Sizes) (s : State (Unit {0}) (View TreeView)) (r : R z s) (id : �
   in_linked row i = ⊎_elim (λ (e : new ≡ row). by_root row (root' ∙ e)) (λ j. item_now row (u.come row j).0) (in_more new row x.comes i)
 
   out_linked : (row : ℕ) → IsIn row outs → IsLinked s.words row
-  out_linked row i = ⊎_elim (λ (e : x.old.row ≡ row). by_root row (hit ∙ e)) (λ j. old_item row (u.go row j).0) (in_more x.old.row row x.goes i)
+  out_linked row i = ⊎_elim (λ (e : x.old.row ≡ row). by_root row (hit ∙ e)) (λ j. let w = u.go row j in old_item row (w.0, w.1)) (in_more x.old.row row x.goes i)
 
   apart : (row : ℕ) → IsIn row ins → ¬ IsIn row outs
   apart row i o = let h = held_in row i in (held_row row h.0 h.1).3 (out_linked row o)
@@ -165,9 +170,27 @@ module _ (z : Sizes) (s : State (Unit {0}) (View TreeView)) (r : R z s) (id : �
   old_no_item row e i = let w = words_of row i in let a : form (row_at s.words row) ≡ 1 = ap form w.3 ∙ w.4 in
       let b : form (row_at s.words row) ≡ 2 = ap (λ c. form (row_at s.words c)) (sym e) ∙ (ap form old_true.spells ∙ u.old_base) in omega arith
 
+  -- No object stands in two places of the old base, since keys ascend.
+  old_once : (row i j : ℕ) → get_elem? (items x.old.its) i ≡ some row → get_elem? (items x.old.its) j ≡ some row → i ≡ j
+  old_once row i j a b = once z.keypos (λ c. pair (row_at s.words c)) (items x.old.its)
+      (subst (IsStoreMap z.keypos) (sym (ap (λ its. map (λ c. pair (row_at s.words c)) (items its)) (sym old_its) ∙ f.map_is))
+      (map_after z.keypos f.history [] f.edits tt)) i j row a b
+
+  -- What goes is no item of the new base: it isn't held, and stood in one place of the old base.
+  goes_out : (row : ℕ) → IsIn row x.goes → ¬ IsIn row (items x.its)
+  goes_out row g i = let w = u.go row g in ⊎_elim
+      (λ (c : IsIn row x.comes). let h = (u.come row c).1 in (held_row row h.0 h.1).3 (old_item row (w.0, w.1)))
+      (λ (o : (j : ℕ) × (j ≢ w.0) × (get_elem? (items x.old.its) j ≡ some row)). o.1 (old_once row o.0 w.0 o.2 w.1)) (w.2 i)
+
+  -- The old base is none of its objects.
+  old_apart : ¬ IsIn x.old.row x.goes
+  old_apart g = let w = u.go x.old.row g in
+      let o = f.base.are_objects x.old.row (subst (λ its. IsIn x.old.row (items its)) (sym old_its) (w.0, w.1)) in
+      let a : form (row_at s.words x.old.row) ≡ 1 = o.2 in let b : form (row_at s.words x.old.row) ≡ 2 = ap form old_true.spells ∙ u.old_base in omega arith
+
   out_unlinked : (row : ℕ) → IsIn row outs → ¬ IsIn row ins → ¬ IsLinked words' row
   out_unlinked row o n l = ⊎_elim (λ (e : row ≡ new). n (0, ap some (sym e)))
-      (λ i. ⊎_elim (λ (e : x.old.row ≡ row). old_no_item row e i) (λ j. (u.go row j).1 i) (in_more x.old.row row x.goes o)) (linked_now row l)
+      (λ i. ⊎_elim (λ (e : x.old.row ≡ row). old_no_item row e i) (λ j. goes_out row j i) (in_more x.old.row row x.goes o)) (linked_now row l)
 
   more : History
   more = knows.seen_first.0
@@ -362,6 +385,48 @@ module _ (z : Sizes) (s : State (Unit {0}) (View TreeView)) (r : R z s) (id : �
     above = subst (IsTree z r.made words') (sym (map-set upper_of s.views id d')) tree_now;
   }
 
+  abbrev N : ℕ → ℕ → Type 0
+  N = NotedAt IsNoted s.words s.views
+
+  -- A row that is linked is nobody's.
+  nobodys : (row : ℕ) (o : Owner) → IsLinked s.words row → IsRow s.words (IsLinked s.words) (IsLent s.words) N (claim_at s.views) row o
+      → claim_at s.views id row ≡ none
+  nobodys row (Free k) l w = absurd (w.0.0 l)
+  nobodys row Linked l w = w.2 id
+  nobodys row (Of i) l w = absurd (by w.0.0 w.0.2)
+    where
+      by : (c : Claim) → IsClaim s.words (IsLinked s.words) (IsLent s.words) N row c → ⊥
+      by (Holds its) k = k.2.0 l
+      by Lends k = ⊎_elim (λ b. nothing_lent z s.words f.base row b)
+          (λ (o : (age : ℕ) × IsOut s.words (IsLinked s.words) (IsLent s.words) N row age). o.1.0 l) k
+      by Unlinked k = k.1.0 l
+      by (Keeps t) k = k.3.0 l
+      by (Returns t its) k = k.3.0 l
+
+  unclaimed : (row : ℕ) → IsIn row outs → claim_of d.claims row ≡ none
+  unclaimed row o = let l = out_linked row o in let range = linked_range z s.words f.base row l in
+      sym (claim_there s.views id d d at row) ∙ nobodys row (r.owner row) l (r.row row range.0 range.1)
+
+  -- What the seat has seen then is the whole history.
+  known_now : IsKnown z u'
+  unfolding tree_now
+  known_now = let few : r.made ≤ 64 = r.pins.few in let same : f.history ++ own ∷ [] ≡ u'.seen = ap (λ (h : History). h ++ own ∷ []) whole in record {
+    lawful = subst (λ (h : History). IsLawful d.upper.number h u'.log) same own_knows.lawful;
+    past = own_knows.past;
+    edits = subst (AreEdits z.keypos) same tree_now.edits;
+    by_passes = subst (AreByPasses 64) same (fewer_passes r.made 64 (f.history ++ own ∷ []) few tree_now.by_passes);
+  }
+
+  updated_now : IsUpdated new x me (d', me.1)
+  updated_now = record {
+    more = knows.seen_first.0;
+    now = refl;
+    unclaimed = unclaimed;
+    apart = old_apart;
+    known = λ some_rows. let same : d.sizes ≡ z = ⊎_elim (λ (e : d.sizes.rows ≡ 0). absurd (omega arith)) (λ (e : d.sizes ≡ z). e)
+        (r.seat id d at).sizes_are in subst (λ (y : Sizes). IsKnown y u') (sym same) known_now;
+  }
+
 module _ (z : Sizes) where
   -- The exchange of the root link that carries out an update.
   pub updates : (slots id : ℕ) (me : MyTree) (new : ℕ) (x : Update) → IsUpdate z me new x
@@ -374,7 +439,7 @@ module _ (z : Sizes) where
         tt,
         subst (λ (y : ℕ). R z (stepped s 130 y id me.1 d' keeps)) (sym (ap (λ b. either b new n) (eq-eqb n x.old.row hit)))
             (update_step z s r id me at new x u hit),
-        ((λ _. (w, refl)), λ miss. absurd (miss hit)),
+        ((λ _. updated_now z s r id me at new x u hit), λ miss. absurd (miss hit)),
       ))
       (λ miss. (
         d,

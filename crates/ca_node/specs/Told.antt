@@ -1,6 +1,6 @@
 -- What each step of the tree tells.
 use Rattle.std.specs.Prelude.{◌≡◌, ◌≢◌, ◌⊎◌, None, Bool, true, false, ℕ, ◌+◌, ◌*◌, ◌<◌, ◌≤◌, List, [], ◌∷◌, ◌++◌, length, map, nat_lt, cond, slice_index}
-use mathlib.Core.Option.{some}
+use mathlib.Core.Option.{some, none}
 use lib.ListN.{get_elem?}
 use Rattle.atomic_table.specs.Table.{Step}
 use Rattle.ca_model.specs.Event.{Event, Get, IsAnswer, effect}
@@ -110,6 +110,10 @@ abbrev pub IsObjectOf : MyTree → Update → ℕ → List ℕ → Type 0
 IsObjectOf m x row its = ((i : ℕ) × (get_elem? (items x.old.its) i ≡ some row) × (get_elem? x.old.objects i ≡ some its)) ⊎ (IsIn row x.comes
     × (claim_of m.0.claims row ≡ some (Holds its)) × IsObjectRow its)
 
+-- Where the new base has the row, it is one that comes, or stood in another place of the old base.
+abbrev pub IsNotFrom : Update → ℕ → ℕ → Type 0
+IsNotFrom x i row = IsIn row (items x.its) → IsIn row x.comes ⊎ ((j : ℕ) × (j ≢ i) × (get_elem? (items x.old.its) j ≡ some row))
+
 -- The seat may put the new row in the place of the old base: it is pinned, was shown that base, and holds the new one.
 pub record IsUpdate (z : Sizes) (m : MyTree) (new : ℕ) (x : Update) : Type 0 where
   pub is_pinned : m.0.pin.pinned ≡ true
@@ -124,7 +128,8 @@ pub record IsUpdate (z : Sizes) (m : MyTree) (new : ℕ) (x : Update) : Type 0 w
   pub as_many : length x.objects ≡ length (items x.its)
   pub are_objects : (k row : ℕ) (its : List ℕ) → get_elem? (items x.its) k ≡ some row → get_elem? x.objects k ≡ some its → IsObjectOf m x row its
   pub come : (row : ℕ) → IsIn row x.comes → IsIn row (items x.its) × ((its : List ℕ) × (claim_of m.0.claims row ≡ some (Holds its)))
-  pub go : (row : ℕ) → IsIn row x.goes → IsIn row (items x.old.its) × ¬ IsIn row (items x.its)
+  -- What goes stood in one place of the old base, and no item of the new one is from there.
+  pub go : (row : ℕ) → IsIn row x.goes → (i : ℕ) × (get_elem? (items x.old.its) i ≡ some row) × IsNotFrom x i row
   pub stay : (row : ℕ) → IsIn row (items x.old.its) → IsIn row (items x.its) ⊎ IsIn row x.goes
   -- What the new base has is what the old one had after the edit, which is what the call does.
   pub map_is : map pair x.objects ≡ after_edit x.edit (map pair x.old.objects)
@@ -140,23 +145,23 @@ updated u more new x = record u {
   notes = record { row = new; its = x.its; objects = x.objects } ∷ u.notes;
 }
 
+-- The update is carried out: the rows that came are linked, and those that went, which nobody claimed until then, are unlinked by the seat;
+-- the old base is none of its objects.
+-- What the seat has seen now is a history as it may know it.
+pub record IsUpdated (new : ℕ) (x : Update) (m m' : MyTree) : Type 0 where
+  pub more : History
+  pub now : m' ≡ (record m.0 { claims = taken_out (x.old.row ∷ x.goes) (given (new ∷ x.comes) m.0.claims); upper = updated m.0.upper more new x }, m.1)
+  pub unclaimed : (row : ℕ) → IsIn row (x.old.row ∷ x.goes) → claim_of m.0.claims row ≡ none
+  pub apart : ¬ IsIn x.old.row x.goes
+  pub known : 0 < m.0.sizes.rows → IsKnown m.0.sizes (updated m.0.upper more new x)
+
 -- The root link was exchanged, and the update is carried out; or the exchange was lost, and nothing changed.
 abbrev pub Updates : Update → Step (Unit {0}) → MyTree → ℕ → MyTree → Type 0
-Updates x st m n m' =
-    (n ≡ st.first → (more : History) × (m' ≡ (
-      record m.0 {
-        claims = taken_out (x.old.row ∷ x.goes)
-            (given (st.second ∷ x.comes) m.0.claims);
-        upper = updated m.0.upper more st.second x;
-      },
-      m.1,
-    )))
-    × (n ≢ st.first → m' ≡ m)
+Updates x st m n m' = (n ≡ st.first → IsUpdated st.second x m m') × (n ≢ st.first → m' ≡ m)
 
 -- What the exchange of the root link came to: the update is carried out, or nothing changed.
 abbrev pub HasUpdated : Bool → ℕ → Update → MyTree → MyTree → Type 0
-HasUpdated true new x m m' = (more : History)
-    × (m' ≡ (record m.0 { claims = taken_out (x.old.row ∷ x.goes) (given (new ∷ x.comes) m.0.claims); upper = updated m.0.upper more new x }, m.1))
+HasUpdated true new x m m' = IsUpdated new x m m'
 HasUpdated false new x m m' = m' ≡ m
 
 -- A word was loaded as a call was refused, and the call is counted so.

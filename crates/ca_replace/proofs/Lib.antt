@@ -1,6 +1,18 @@
 pub mod Entries
-mod Fresh
+pub mod Filling
+pub mod Fresh
+pub mod Held
+pub mod Inserting
 pub mod Items
-mod KeyOrder
+pub mod KeyOrder
+pub mod Meeting
 pub mod ObjectBytes
+pub mod Putting
+pub mod Readying
+pub mod SampleObjects
 pub mod Searching
+pub mod Showing
+pub mod Spelling
+pub mod Turns
+pub mod Unlinking
+pub mod Words

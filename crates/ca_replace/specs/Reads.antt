@@ -1,6 +1,6 @@
 -- Calls that edit nothing, as events.
 use Rattle.std.specs.Prelude.{ℕ, Bool, true, false, List, Some, None}
-use Rattle.ca_model.specs.Event.{Event, Get}
+use Rattle.ca_model.specs.Event.{Event, Get, WriteNew, Remove, Change}
 use Rattle.ca_replace.specs.declared.ending.Read.{Read}
 use Rattle.ca_replace.specs.declared.ending.Read.TheVariants as read
 
@@ -8,6 +8,10 @@ use Rattle.ca_replace.specs.declared.ending.Read.TheVariants as read
 abbrev pub event_of : Read → Event
 event_of (read.Got key object) = Get key.now (Some object.now)
 event_of (read.GotNothing key) = Get key.now None
+event_of (read.NotNew key object) = WriteNew key.now object.now false
+event_of (read.NothingToRemove key) = Remove key.now None
+event_of (read.NothingToChange key) = Change key.now None None
+event_of (read.Unchanged key object) = Change key.now (Some object.now) None
 
 -- the read of a key, given whether an object was found, and which
 abbrev pub get_event : List ℕ → Bool → List ℕ → Event

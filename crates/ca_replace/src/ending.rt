@@ -17,6 +17,14 @@ pub(crate) enum Read<'a> {
     Got(&'a [u8], &'a [u8]),
     // A key that no object has.
     GotNothing(&'a [u8]),
+    // The key of an object that was to be put, and that object: there is one with the key.
+    NotNew(&'a [u8], &'a [u8]),
+    // A key of which the object was to be removed: there is none.
+    NothingToRemove(&'a [u8]),
+    // A key of which the object was to be changed: there is none.
+    NothingToChange(&'a [u8]),
+    // The key, and the object that has it, which was not changed.
+    Unchanged(&'a [u8], &'a [u8]),
 }
 
 // Which event a step enters in the log. It exists in proofs alone.

@@ -1,10 +1,13 @@
 //! A pass as a store.
-ghost use Rattle.std.specs.Prelude.{◌≡◌, ◌≤◌, None, OnOk, length};
-ghost use Rattle.ca_model.specs.Answer.{IfDone, IsDone, Got};
-ghost use Rattle.ca_model.specs.Known.{Stays};
+ghost use Rattle.std.specs.Prelude.{◌≡◌, ◌≤◌, None, OnOk, length, slice_range};
+ghost use Rattle.ca_model.specs.Answer.{IfBusy, IfDone, IfRefused, IsDone, Got};
+ghost use Rattle.ca_model.specs.Event.{Write, WriteNew};
+ghost use Rattle.ca_model.specs.Known.{Declines, Meets, Stays};
+ghost use Rattle.ca_model.specs.StoreMap.{IsPair};
 ghost use Rattle.ca_replace.specs.Resting.{IsResting, knows};
 ghost use Rattle.ca_term.specs.declared.bounds.TheConstants.{MOST_CODE_BYTES};
 
+use crate::calls;
 use crate::looking::look_up;
 use crate::tree::Tree;
 use ca_model::{Code, Outcome};
@@ -84,6 +87,50 @@ impl TreeStore<'_> {
         let found = look_up(space, &mut self.pass, base, key, into);
         space.unpin(&mut self.pass);
         Outcome::Done(found)
+    }
+
+    /// Puts the object, in the place of its key's object where there is one. Its key stands in it from `key_at` to `key_end`. It is refused
+    /// where no row is free, where the base that must take a new key has as many objects as it may, and where each of its attempts, as
+    /// many as the budget, was lost to another pass.
+    pub fn put(&mut self, object: &[u8], key_at: usize, key_end: usize, budget: u32) -> Outcome<()>
+        requires budget { 1 ≤ budget }
+        requires closed { (knows self.old).run ≡ None }
+        requires room { 1 ≤ (knows self.old).spare }
+        requires place { (key_at ≤ key_end) × (key_end ≤ length object.now) }
+        requires pair { IsPair (knows self.old).keypos (slice_range object.now key_at key_end, object.now) }
+        ensures put { IfDone result (λ _. Meets (knows self.old) (knows self.new) (Write (slice_range object.now key_at key_end) object.now)) }
+        ensures refused { IfRefused result (λ rise. Declines (knows self.old) (knows self.new) (rise (knows self.old).counts)) }
+        ensures busy { IfBusy result (λ spent. budget ≤ spent) }
+        ensures closed { (knows self.new).run ≡ None }
+        ensures tree { (self.new.table ≡ self.old.table) × (self.new.z ≡ self.old.z) }
+        ensures number { self.new.number ≡ self.old.number }
+    {
+        calls::put(self.tree, &mut self.pass, object, key_at, key_end, budget)
+    }
+
+    /// Puts the object where no object has its key, and answers whether it did. Its key stands in it from `key_at` to `key_end`. It is
+    /// refused where no row is free, where the base that must take it has as many objects as it may, and where each of its attempts, as
+    /// many as the budget, was lost to another pass.
+    pub fn put_new(
+        &mut self,
+        object: &[u8],
+        key_at: usize,
+        key_end: usize,
+        budget: u32,
+    ) -> Outcome<bool>
+        requires budget { 1 ≤ budget }
+        requires closed { (knows self.old).run ≡ None }
+        requires room { 1 ≤ (knows self.old).spare }
+        requires place { (key_at ≤ key_end) × (key_end ≤ length object.now) }
+        requires pair { IsPair (knows self.old).keypos (slice_range object.now key_at key_end, object.now) }
+        ensures put { IfDone result (λ new. Meets (knows self.old) (knows self.new) (WriteNew (slice_range object.now key_at key_end) object.now new)) }
+        ensures refused { IfRefused result (λ rise. Declines (knows self.old) (knows self.new) (rise (knows self.old).counts)) }
+        ensures busy { IfBusy result (λ spent. budget ≤ spent) }
+        ensures closed { (knows self.new).run ≡ None }
+        ensures tree { (self.new.table ≡ self.old.table) × (self.new.z ≡ self.old.z) }
+        ensures number { self.new.number ≡ self.old.number }
+    {
+        calls::put_new(self.tree, &mut self.pass, object, key_at, key_end, budget)
     }
 
     /// A copy of what the pass has seen of the tree's history.

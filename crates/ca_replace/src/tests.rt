@@ -1,7 +1,10 @@
 //! Trees at the bounds of their sizes and tunings, their passes, and stores of passes.
+ghost use Rattle.std.specs.Prelude.{◌≡◌, slice_range};
+ghost use Rattle.ca_model.specs.StoreMap.{IsPair};
+
 use super::*;
 use ca_adapt::Tuning;
-use ca_model::{Code, Outcome};
+use ca_model::{Code, Counter, FullCause, Outcome};
 use ca_rows::Starts;
 use std::alloc::Global;
 
@@ -204,4 +207,102 @@ fn an_empty_tree_has_no_object(rt: HostRuntime) {
         );
         assert!(rt; into.is_empty());
     }
+}
+
+// The code of the tuple of the number 2 ^ 24 + n and an empty list. Its key is that of five bytes from the sixth one on.
+fn object(n: u32) -> [u8; 11]
+    ensures { IsPair 1 (slice_range result 5 10, result) }
+{
+    let [_, high, middle, low] = n.to_be_bytes();
+    [0x40, 0, 0, 0, 2, 0x24, 1, high, middle, low, 0x60]
+}
+
+// Puts an object.
+fn put(store: &mut TreeStore<'_>, n: u32) -> Outcome<()>
+    requires { store.old.z.keypos ≡ 1 }
+    ensures { store.new.z ≡ store.old.z }
+{
+    store.put(&object(n), 5, 10, 1)
+}
+
+// Puts an object where there is none with its key.
+fn put_new(store: &mut TreeStore<'_>, n: u32) -> Outcome<bool>
+    requires { store.old.z.keypos ≡ 1 }
+    ensures { store.new.z ≡ store.old.z }
+{
+    store.put_new(&object(n), 5, 10, 1)
+}
+
+// How many puts of an object are done, until one isn't, and what that one came to.
+fn put_on(store: &mut TreeStore<'_>, n: u32) -> (u32, Outcome<()>)
+    requires { store.old.z.keypos ≡ 1 }
+    ensures { store.new.z ≡ store.old.z }
+{
+    for count in 0..1_000 {
+        let outcome = put(store, n);
+        if outcome != Outcome::Done(()) {
+            return (count, outcome);
+        }
+    }
+    (1_000, Outcome::Done(()))
+}
+
+#[test]
+fn each_put_takes_two_rows_until_none_is_free(rt: HostRuntime) {
+    let Ok(mut tree) = Tree::new(rt.alloc(), 384, 1, 1, TUNING, STARTS) else {
+        panic!(rt; "no memory")
+    };
+    let Ok(pass) = tree.enroll(rt.alloc()) else {
+        panic!(rt; "no pass")
+    };
+    let mut store = TreeStore::new(&tree, pass);
+    let full = FullCause {
+        kept: 381,
+        lag: None,
+    };
+    assert_eq!(rt; put_on(&mut store, 1), (191, Outcome::Full(full)));
+    let mut into = Code::new();
+    assert_eq!(rt;
+        store.get(&[0x24, 1, 0, 0, 1], &mut into, 1),
+        Outcome::Done(true)
+    );
+    assert!(rt; into.as_slice() == object(1).as_slice());
+    assert_eq!(rt; put_new(&mut store, 1), Outcome::Done(false));
+    assert_eq!(rt; put_new(&mut store, 2), Outcome::Full(full));
+}
+
+#[test]
+fn no_row_is_taken_once_the_tag_is_worn(rt: HostRuntime) {
+    let Ok(mut tree) = Tree::new(rt.alloc(), 384, 1, 1, TUNING, LAST) else {
+        panic!(rt; "no memory")
+    };
+    let Ok(pass) = tree.enroll(rt.alloc()) else {
+        panic!(rt; "no pass")
+    };
+    let mut store = TreeStore::new(&tree, pass);
+    let mut into = Code::new();
+    assert_eq!(rt; put(&mut store, 1), Outcome::Worn(Counter::PoolTag));
+    assert_eq!(rt; put_new(&mut store, 1), Outcome::Worn(Counter::PoolTag));
+    assert_eq!(rt;
+        store.get(&[0x24, 1, 0, 0, 1], &mut into, 1),
+        Outcome::Done(false)
+    );
+}
+
+#[test]
+fn a_new_key_finds_no_place_in_a_base_that_has_as_many_as_it_may(rt: HostRuntime) {
+    let few = Tuning { leaf: 2, ..TUNING };
+    let Ok(mut tree) = Tree::new(rt.alloc(), 384, 1, 1, few, STARTS) else {
+        panic!(rt; "no memory")
+    };
+    let Ok(pass) = tree.enroll(rt.alloc()) else {
+        panic!(rt; "no pass")
+    };
+    let mut store = TreeStore::new(&tree, pass);
+    assert_eq!(rt; put_new(&mut store, 2), Outcome::Done(true));
+    assert_eq!(rt; put_new(&mut store, 1), Outcome::Done(true));
+    assert_eq!(rt; put_new(&mut store, 3), Outcome::Deep(0));
+    assert_eq!(rt; put(&mut store, 3), Outcome::Deep(0));
+    assert_eq!(rt; put(&mut store, 1), Outcome::Done(()));
+    assert_eq!(rt; put_new(&mut store, 2), Outcome::Done(false));
 }

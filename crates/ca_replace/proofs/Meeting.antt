@@ -1,0 +1,135 @@
+-- What a pass knows more after a call meets a store's contract.
+use Rattle.std.proofs.Common.{◌≡◌, ℕ, ◌≤◌, ◌==◌, Bool, true, false, List, [], ◌∷◌, ◌++◌, if◌then◌else◌, length, Some, sym, refl, ap, ◌∙◌, subst, arith, append-nil}
+use Rattle.std.proofs.lemmas.Bool.{false≢true}
+use Rattle.std.proofs.lemmas.Bool.Decides.{nat_tests}
+use Rattle.ca_model.specs.Event.{Event, Entry, effect}
+use Rattle.ca_model.specs.History.{Edit, History, state, after, edits_of_pass, AreEdits, AreByPasses, AreByOthers}
+use Rattle.ca_model.specs.Known.{Counts, Meets, Declines}
+use Rattle.ca_model.specs.Lawful.{IsPlaceFrom, edits_of_log}
+use Rattle.ca_model.specs.Passes.{HasSeen}
+use Rattle.ca_model.proofs.Edits.{map_after}
+use Rattle.ca_model.proofs.Passing.{passes_meet}
+use Rattle.ca_node.specs.Told.{IsKnown}
+use Rattle.ca_node.specs.TreeView.{TreeView}
+use Rattle.ca_node.proofs.Logs.{after_more, state_there}
+use Rattle.ca_node.proofs.Looking.{further, starts_shorter}
+use Rattle.ca_replace.specs.Progress.{IsFurther, HasDone, IsRefused}
+use Rattle.ca_replace.specs.Resting.{known_of}
+use Rattle.ca_rows.specs.declared.sizes.Sizes.{Sizes}
+
+-- The edits of a pass in two parts of a history.
+edits_in_parts : (pass : ℕ) (xs ys : History) → edits_of_pass pass (xs ++ ys) ≡ edits_of_pass pass xs ++ edits_of_pass pass ys
+edits_in_parts pass [] ys = refl
+edits_in_parts pass (x ∷ xs) ys = by (x.0 == pass) (edits_in_parts pass xs ys)
+  where
+    by : (own : Bool) → edits_of_pass pass (xs ++ ys) ≡ edits_of_pass pass xs ++ edits_of_pass pass ys
+        → (if own then x.1 ∷ edits_of_pass pass (xs ++ ys) else edits_of_pass pass (xs ++ ys)) ≡ (if own then x.1 ∷ edits_of_pass pass xs else
+        edits_of_pass pass xs) ++ edits_of_pass pass ys
+    by true e = ap (λ (es : List Edit). x.1 ∷ es) e
+    by false e = e
+
+-- A history without edits of a pass was made by others.
+by_others : (pass : ℕ) (xs : History) → edits_of_pass pass xs ≡ [] → AreByOthers pass xs
+by_others pass [] e = tt
+by_others pass (x ∷ xs) e = by (x.0 == pass) refl e (λ none. by_others pass xs none)
+  where
+    differs : x.0 ≡ pass → (x.0 == pass) ≡ false → ⊥
+    differs same is = grind (arith, nat_tests, same, is)
+
+    by : (own : Bool) → (x.0 == pass) ≡ own → (if own then x.1 ∷ edits_of_pass pass xs else edits_of_pass pass xs) ≡ []
+        → (edits_of_pass pass xs ≡ [] → AreByOthers pass xs) → AreByOthers pass (x ∷ xs)
+    by true is e rest = cc
+    by false is e rest = (λ same. differs same is, rest e)
+
+second_edits : (p : ℕ) (xs ys : History) → AreEdits p (xs ++ ys) → AreEdits p ys
+second_edits p [] ys h = h
+second_edits p (x ∷ xs) ys h = second_edits p xs ys h.1
+
+second_passes : (n : ℕ) (xs ys : History) → AreByPasses n (xs ++ ys) → AreByPasses n ys
+second_passes n [] ys h = h
+second_passes n (x ∷ xs) ys h = second_passes n xs ys h.2
+
+nothing_behind : (xs ys : List Edit) → xs ++ ys ≡ xs → ys ≡ []
+nothing_behind [] ys e = e
+nothing_behind (x ∷ xs) ys e = nothing_behind xs ys cc
+
+-- What is known is what was seen.
+has_seen : (z : Sizes) (u : TreeView) → IsKnown z u → HasSeen (known_of z u) u.seen u.log
+has_seen z u k = record {
+  seen = refl;
+  map = sym (ap (λ h. state h (length u.seen)) (sym (append-nil u.seen)) ∙ state_there u.seen []);
+  lawful = k.lawful;
+  edits = k.edits;
+  passes = k.by_passes;
+}
+
+module _ (z : Sizes) (u v : TreeView) (before : IsKnown z u) (behind : IsKnown z v) where
+  -- A call that was entered in the log.
+  pub meets : (event : Event) → HasDone event u v → Meets (known_of z u) (known_of z v) event
+  meets event d = passes_meet (known_of z u) (known_of z v) event record {
+    history = u.seen;
+    more = d.seen.0;
+    log = u.log;
+    at = d.at;
+    same = record { keypos = refl; pass = d.number; passes = refl; alone = refl; sure = refl };
+    before = has_seen z u before;
+    behind = subst (λ (x : History × List Entry). HasSeen (known_of z v) x.0 x.1) (λ i. (d.seen.1 i, d.log i)) (has_seen z v behind);
+    from = d.from;
+    alone = λ e. absurd (false≢true e);
+    counts = d.counts;
+  }
+
+  -- One that was refused.
+  pub declines : (rise : Counts → Counts) → IsRefused rise u v → Declines (known_of z u) (known_of z v) (rise u.counts)
+  declines rise d = let whole = d.seen.1 in
+      let own : edits_of_pass u.number v.seen ≡ edits_of_pass u.number u.seen = ap (λ n. edits_of_pass n v.seen) (sym d.number)
+      ∙ (behind.lawful.edits ∙ (ap edits_of_log d.log ∙ sym before.lawful.edits)) in
+      let none = nothing_behind (edits_of_pass u.number u.seen) (edits_of_pass u.number d.seen.0)
+      (sym (edits_in_parts u.number u.seen d.seen.0) ∙ (ap (edits_of_pass u.number) (sym whole) ∙ own)) in record {
+        learnt = d.seen.0;
+        learns = record {
+          same = record { keypos = refl; pass = d.number; passes = refl; alone = refl; sure = refl };
+          map = ap (λ (h : History). after h []) whole ∙ after_more u.seen d.seen.0 [];
+          seen = ap (λ (x : History × List Entry). Some (record { history = x.0; log = x.1 })) (λ i. (whole i, (d.log ∙ sym (append-nil u.log)) i));
+          valid = map_after z.keypos u.seen [] before.edits tt;
+          edits = second_edits z.keypos u.seen d.seen.0 (subst (AreEdits z.keypos) whole behind.edits);
+          passes = second_passes 64 u.seen d.seen.0 (subst (AreByPasses 64) whole behind.by_passes);
+        };
+        others = by_others u.number d.seen.0 none;
+        alone = λ e. absurd (false≢true e);
+        counts_are = d.counts;
+        unsure = refl;
+      }
+
+-- Going further, and further still.
+pub further_on : (u v w : TreeView) → IsFurther u v → IsFurther v w → IsFurther u w
+further_on u v w a b = record {
+  number = b.number ∙ a.number;
+  seen = further w.seen v.seen u.seen b.seen a.seen;
+  log = b.log ∙ a.log;
+  counts = b.counts ∙ a.counts;
+}
+
+-- A call that is done after that.
+pub done_on : (u v w : TreeView) (event : Event) → IsFurther u v → HasDone event v w → HasDone event u w
+done_on u v w event a b = record {
+  number = b.number ∙ a.number;
+  seen = further w.seen v.seen u.seen b.seen a.seen;
+  at = b.at;
+  from = lower (effect event) (starts_shorter v.seen u.seen a.seen) b.from;
+  log = b.log ∙ ap (λ (l : List Entry). l ++ (event, b.at) ∷ []) a.log;
+  counts = b.counts ∙ a.counts;
+}
+  where
+    lower : (edits : List Edit) → length u.seen ≤ length v.seen → IsPlaceFrom (length v.seen) b.at edits → IsPlaceFrom (length u.seen) b.at edits
+    lower [] l p = omega arith
+    lower (e ∷ es) l p = omega arith
+
+-- One that is refused after that.
+pub refused_on : (u v w : TreeView) (rise : Counts → Counts) → IsFurther u v → IsRefused rise v w → IsRefused rise u w
+refused_on u v w rise a b = record {
+  number = b.number ∙ a.number;
+  seen = further w.seen v.seen u.seen b.seen a.seen;
+  log = b.log ∙ a.log;
+  counts = b.counts ∙ ap rise a.counts;
+}

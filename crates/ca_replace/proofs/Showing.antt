@@ -1,0 +1,91 @@
+-- What an attempt of a call looks at, and what it comes to.
+use Rattle.std.proofs.Common.{◌≡◌, ℕ, zero, suc, ◌+◌, false, ◌<◌, ◌≤◌, List, [], ◌∷◌, ◌++◌, length, map, take, Result, Ok, Err, sym, refl, ap, ◌∙◌, subst, arith}
+use mathlib.Core.Option.{some, some-injective, some-ne-none}
+use lib.ListN.{get_elem?}
+use Rattle.ca_model.specs.Event.{Event, Entry, WriteNew}
+use Rattle.ca_model.specs.Lawful.{IsPlaceFrom}
+use Rattle.ca_model.specs.StoreMap.{StoreMap, IsStoreMap, get}
+use Rattle.ca_model.proofs.Edits.{map_after}
+use Rattle.ca_model.proofs.Places.{IsPlace}
+use Rattle.ca_node.specs.Laws.{starts_whole}
+use Rattle.ca_node.specs.Row.{items, pair}
+use Rattle.ca_node.specs.Told.{MyTree, IsBaseNote, IsKnown, led, IsLed, IsReadNow, entered}
+use Rattle.ca_node.specs.TreeView.{TreeView}
+use Rattle.ca_node.proofs.Looking.{starts_shorter}
+use Rattle.ca_replace.specs.declared.attempting.Stop.{Stop}
+use Rattle.ca_replace.specs.Attempting.{IsLooking, HasTriedTo}
+use Rattle.ca_replace.specs.Finding.{IsPlaceIn}
+use Rattle.ca_replace.specs.Progress.{IsFurther, HasDone}
+use Rattle.ca_replace.proofs.Entries.{known_read}
+use Rattle.ca_replace.proofs.Meeting.{further_on, done_on}
+use Rattle.ca_replace.specs.Putting.{first_note, IsShownLast}
+use Rattle.ca_rows.specs.declared.sizes.Sizes.{Sizes}
+
+-- After a load of the root link the base is shown last.
+pub looking : (z : Sizes) (m m' : MyTree) (base : ℕ) → IsLed m base m' → m.0.sizes ≡ z → 0 < z.rows → z.leaf ≤ 120 → IsLooking z m'.0.upper base
+looking z m m' base shown same some_rows most = let note = shown.0 in let more = shown.1 in
+    let both = subst (λ (y : Sizes). IsBaseNote y note × IsKnown y (led m.0.upper more note)) same
+    (shown.5 (subst (λ (y : Sizes). 0 < y.rows) (sym same) some_rows)) in let few = both.0.few in
+    subst (λ (x : MyTree). IsLooking z x.0.upper base) (sym shown.2) record {
+      readable = record {
+        noted = (0, refl);
+        here = shown.3;
+        is_base = both.0;
+        few = omega arith;
+        ordered = subst (IsStoreMap z.keypos) (sym shown.4) (map_after z.keypos (m.0.upper.seen ++ more) [] both.1.edits tt);
+      };
+      map_is = shown.4;
+      known = both.1;
+    }
+
+-- One more item was read.
+pub one_more_item : (xs : List ℕ) (k row : ℕ) → get_elem? xs k ≡ some row → take (k + 1) xs ≡ take k xs ++ row ∷ []
+one_more_item [] k row e = absurd (some-ne-none row (sym e))
+one_more_item (x ∷ xs) zero row e = ap (λ y. y ∷ []) (some-injective x row e)
+one_more_item (x ∷ xs) (suc k) row e = let next : suc k + 1 ≡ suc (k + 1) = omega arith in
+    ap (λ n. take n (x ∷ xs)) next ∙ ap (λ ys. x ∷ ys) (one_more_item xs k row e)
+
+-- What was read is the base that is shown last.
+pub shown_last : (z : Sizes) (u : TreeView) (base : ℕ) (these : List ℕ) → IsLooking z u base → these ≡ items (first_note u.notes).its
+    → IsShownLast z u base these
+shown_last z u base these l is = record { noted = l.readable.noted; here = l.readable.here; is_base = l.readable.is_base; items_are = sym is }
+
+-- Nothing changed.
+pub stopped : (z : Sizes) (u v : TreeView) → IsKnown z u → v ≡ u → IsFurther u v × IsKnown z v
+stopped z u v k same = subst (λ (y : TreeView). IsFurther u y × IsKnown z y) (sym same)
+    (record { number = refl; seen = starts_whole u.seen; log = refl; counts = refl }, k)
+
+-- A call that edits nothing was entered in the log.
+pub entered_done : (z : Sizes) (u w v : TreeView) (event : Event) → IsFurther u w → IsKnown z w → IsReadNow event w → v ≡ entered w event
+    → HasDone event u v × IsKnown z v
+entered_done z u w v event f k now same = subst (λ (y : TreeView). HasDone event u y × IsKnown z y) (sym same) (
+  record {
+    number = f.number;
+    seen = f.seen;
+    at = length w.seen;
+    from = subst (IsPlaceFrom (length u.seen) (length w.seen)) (sym now.0) (starts_shorter w.seen u.seen f.seen);
+    log = ap (λ (l : List Entry). l ++ (event, length w.seen) ∷ []) f.log;
+    counts = f.counts;
+  },
+  known_read z w event k now,
+)
+
+-- What was tried after a look.
+pub tried_on : {T : Type 0} (event : T → Event) (z : Sizes) (r : Result T Stop) (u w v : TreeView) → IsFurther u w → HasTriedTo event z r w v
+    → HasTriedTo event z r u v
+tried_on event z (Ok x) u w v f h = (done_on u w v (event x) f h.0, h.1)
+tried_on event z (Err stop) u w v f h = (further_on u w v f h.0, h.1)
+
+-- The object that was found has the key: a new one isn't put.
+pub not_new : (z : Sizes) (u : TreeView) (base at : ℕ) (k o : List ℕ) → IsLooking z u base → IsPlaceIn z u base k (Ok at) → IsReadNow (WriteNew k o false) u
+not_new z u base at k o l p = let here = p (first_note u.notes) l.readable in (
+  refl,
+  λ none. let found = here.equal in let same : get (map pair (first_note u.notes).objects) k ≡ [] = ap (λ (m : StoreMap). get m k) l.map_is ∙ none in
+      absurd cc,
+)
+
+-- The place that was found is one among the objects of the base that was shown last.
+pub place_still : (z : Sizes) (m m' : MyTree) (base : ℕ) (k : List ℕ) (place : Result ℕ ℕ) → m' ≡ m → IsLooking z m.0.upper base
+    → IsPlaceIn z m.0.upper base k place → IsPlace (map pair (first_note m'.0.upper.notes).objects) k place
+place_still z m m' base k place same l p = subst (λ (x : MyTree). IsPlace (map pair (first_note x.0.upper.notes).objects) k place) (sym same)
+    (p (first_note m.0.upper.notes) l.readable)

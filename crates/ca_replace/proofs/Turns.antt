@@ -1,0 +1,157 @@
+-- A call's attempts, one after another, and its end.
+use Rattle.std.proofs.Common.{◌≡◌, ℕ, ◌≤◌, false, [], Result, Ok, Err, Vec, sym, refl, ap, ◌∙◌, subst, arith, inl, ⊎_elim}
+use Rattle.std.specs.Global.{Global}
+use Rattle.atomic_table.specs.declared.shared.Seat.{Seat}
+use Rattle.atomic_table.specs.Seated.{TableId}
+use Rattle.ca_model.specs.declared.outcome.Outcome.{Outcome}
+use Rattle.ca_model.specs.declared.outcome.Outcome.TheVariants as outcome
+use Rattle.ca_model.specs.Answer.{IfDone, IfRefused, IfBusy}
+use Rattle.ca_model.specs.Event.{Event}
+use Rattle.ca_model.specs.Known.{Counts, Meets, Declines, one_more_busy, one_more_full, one_more_deep, one_more_worn}
+use Rattle.ca_node.specs.Laws.{in_nothing, starts_whole}
+use Rattle.ca_node.specs.Links.{IsIn}
+use Rattle.ca_node.specs.Told.{MyTree, IsKnown}
+use Rattle.ca_node.specs.TreeView.{TreeView, pinned, unpinned}
+use Rattle.ca_replace.specs.declared.attempting.Stop.{Stop}
+use Rattle.ca_replace.specs.declared.attempting.Stop.TheVariants as stop
+use Rattle.ca_replace.specs.Attempting.{HasTriedTo, IsEnd}
+use Rattle.ca_replace.specs.Progress.{IsFurther, HasDone, IsRefused}
+use Rattle.ca_replace.specs.Resting.{IsResting, known_of}
+use Rattle.ca_replace.specs.Taking.{AreHeld}
+use Rattle.ca_rows.specs.declared.kept.Kept.{Kept}
+use Rattle.ca_rows.specs.declared.kept.KeptRows.{KeptRows}
+use Rattle.ca_rows.specs.declared.sizes.Sizes.{Sizes}
+use Rattle.ca_rows.specs.declared.view.Pin.{Pin}
+use Rattle.ca_rows.specs.declared.view.View.{View}
+use Rattle.ca_rows.specs.Claims.{claim_of}
+use Rattle.ca_rows.specs.Kept.{AreKept}
+use Rattle.ca_replace.proofs.Meeting.{refused_on, meets, declines}
+
+abbrev pub MySeat : Type 0
+MySeat = Seat (Unit {0}) (View TreeView)
+
+-- What is known stays known as the pass unpins.
+pub known_unpinned : (z : Sizes) (u : TreeView) → IsKnown z u → IsKnown z (unpinned u)
+known_unpinned z u k = record { lawful = k.lawful; past = k.past; edits = k.edits; by_passes = k.by_passes }
+
+-- A pass that rests holds no row.
+pub holds_none : (table : TableId) (z : Sizes) (number : ℕ) (kept : Vec Kept Global) (seat : MySeat) → IsResting table z number kept seat
+    → AreHeld z.rows kept seat.me.0.claims []
+holds_none table z number kept seat r = record {
+  are_kept = r.are_kept;
+  only = λ row c e. inl (r.only_keeps row c e);
+  each = λ row i. absurd (in_nothing row [] refl i);
+}
+
+-- What was tried while the pass was pinned.
+pub tried_pinned : {T : Type 0} (event : T → Event) (z : Sizes) (r : Result T Stop) (u v w : TreeView) → w ≡ unpinned v → HasTriedTo event z r (pinned u) v
+    → HasTriedTo event z r u w
+tried_pinned event z (Ok x) u v w same h = subst (λ (y : TreeView). HasDone (event x) u y × IsKnown z y) (sym same) (
+  record {
+    number = h.0.number;
+    seen = h.0.seen;
+    at = h.0.at;
+    from = h.0.from;
+    log = h.0.log;
+    counts = h.0.counts;
+  },
+  known_unpinned z v h.1,
+)
+tried_pinned event z (Err stop) u v w same h = subst (λ (y : TreeView). IsFurther u y × IsKnown z y) (sym same)
+    (record { number = h.0.number; seen = h.0.seen; log = h.0.log; counts = h.0.counts }, known_unpinned z v h.1)
+
+-- Whatever was tried, its history is known, and the pass has its number.
+pub tried_known : {T : Type 0} (event : T → Event) (z : Sizes) (r : Result T Stop) (u v : TreeView) → HasTriedTo event z r u v
+    → IsKnown z v × (v.number ≡ u.number)
+tried_known event z (Ok x) u v h = (h.1, h.0.number)
+tried_known event z (Err stop) u v h = (h.1, h.0.number)
+
+-- A pass that was pinned, tried, and unpinned rests again.
+pub rests_again : (table : TableId) (z : Sizes) (number : ℕ) (kept kept' : Vec Kept Global) (seat one two last : MySeat) → IsResting table z number kept seat
+    → (one.me.0.sizes ≡ seat.me.0.sizes) × (one.me.0.pin.number ≡ seat.me.0.pin.number) × (one.me.0.upper.number ≡ seat.me.0.upper.number)
+    → two.table_id ≡ seat.table_id → (two.me.0.sizes ≡ one.me.0.sizes) × (two.me.0.pin ≡ one.me.0.pin) → AreHeld z.rows kept' two.me.0.claims []
+    → IsKnown z two.me.0.upper × (two.me.0.upper.number ≡ one.me.0.upper.number) → last.table_id ≡ two.table_id
+    → last.me ≡ (record two.me.0 { pin = record two.me.0.pin { pinned = false }; upper = unpinned two.me.0.upper }, two.me.1)
+    → IsResting table z number kept' last
+rests_again table z number kept kept' seat one two last r pin table_two work held known table_last unpin = record {
+  of = (table_last ∙ (table_two ∙ r.of.0), ap (λ (m : MyTree). m.0.sizes) unpin ∙ (work.0 ∙ (pin.0 ∙ r.of.1)));
+  numbered = (ap (λ (m : MyTree). m.0.pin.number) unpin ∙ (ap (λ (e : Pin). e.number) work.1 ∙ (pin.1 ∙ r.numbered.0)), r.numbered.1, r.numbered.2);
+  same_number = ap (λ (m : MyTree). m.0.upper.number) unpin ∙ (known.1 ∙ (pin.2 ∙ r.same_number));
+  is_unpinned = ap (λ (m : MyTree). m.0.pin.pinned) unpin;
+  only_keeps = λ row c e. ⊎_elim (λ k. k) (λ (i : IsIn row []). absurd (in_nothing row [] refl i))
+      (held.only row c (sym (ap (λ (m : MyTree). claim_of m.0.claims row) unpin) ∙ e));
+  are_kept = subst (λ (m : MyTree). AreKept z.rows m.0.claims kept') (sym unpin) held.are_kept;
+  known = subst (λ (m : MyTree). IsKnown z m.0.upper) (sym unpin) (known_unpinned z two.me.0.upper known.0);
+}
+
+-- A call's end is what its contract promises.
+pub ended : {T : Type 0} (event : T → Event) (z : Sizes) (r : Result T Stop) (o : Outcome T) (kept budget : ℕ) (u w v : TreeView) → HasTriedTo event z r u w
+    → IsEnd r o kept budget w v → (IfDone o (λ x. HasDone (event x) u v) × IfRefused o (λ rise. IsRefused rise u v)) × IfBusy o (λ spent. budget ≤ spent)
+ended {T} event z (Ok x) o kept budget u w v h e = subst (λ (y : Outcome T). (IfDone y (λ x'. HasDone (event x') u v) × IfRefused y (λ rise. IsRefused rise u v))
+    × IfBusy y (λ spent. budget ≤ spent)) (sym e.0) ((subst (HasDone (event x) u) (sym e.1) h.0, tt), tt)
+ended {T} event z (Err stop.Lost) o kept budget u w v h e = subst (λ (y : Outcome T). (IfDone y (λ x'. HasDone (event x') u v)
+    × IfRefused y (λ rise. IsRefused rise u v)) × IfBusy y (λ spent. budget ≤ spent)) (sym e.0) ((tt, refused_on u w v one_more_busy h.0 e.1), omega arith)
+ended {T} event z (Err stop.Empty) o kept budget u w v h e = subst (λ (y : Outcome T). (IfDone y (λ x'. HasDone (event x') u v)
+    × IfRefused y (λ rise. IsRefused rise u v)) × IfBusy y (λ spent. budget ≤ spent)) (sym e.0) ((tt, refused_on u w v one_more_full h.0 e.1), tt)
+ended {T} event z (Err stop.Worn) o kept budget u w v h e = subst (λ (y : Outcome T). (IfDone y (λ x'. HasDone (event x') u v)
+    × IfRefused y (λ rise. IsRefused rise u v)) × IfBusy y (λ spent. budget ≤ spent)) (sym e.0) ((tt, refused_on u w v one_more_worn h.0 e.1), tt)
+ended {T} event z (Err stop.Deep) o kept budget u w v h e = subst (λ (y : Outcome T). (IfDone y (λ x'. HasDone (event x') u v)
+    × IfRefused y (λ rise. IsRefused rise u v)) × IfBusy y (λ spent. budget ≤ spent)) (sym e.0) ((tt, refused_on u w v one_more_deep h.0 e.1), tt)
+
+-- A pass that rests and is counted a refusal rests.
+pub rests_refused : (table : TableId) (z : Sizes) (number : ℕ) (kept : Vec Kept Global) (seat last : MySeat) (counts : Counts) → IsResting table z number kept seat
+    → last.table_id ≡ seat.table_id → last.me ≡ (record seat.me.0 { upper = record seat.me.0.upper { counts = counts } }, seat.me.1)
+    → IsResting table z number kept last
+rests_refused table z number kept seat last counts r same is = record {
+  of = (same ∙ r.of.0, ap (λ (m : MyTree). m.0.sizes) is ∙ r.of.1);
+  numbered = (ap (λ (m : MyTree). m.0.pin.number) is ∙ r.numbered.0, r.numbered.1, r.numbered.2);
+  same_number = ap (λ (m : MyTree). m.0.upper.number) is ∙ r.same_number;
+  is_unpinned = ap (λ (m : MyTree). m.0.pin.pinned) is ∙ r.is_unpinned;
+  only_keeps = λ row c e. r.only_keeps row c (sym (ap (λ (m : MyTree). claim_of m.0.claims row) is) ∙ e);
+  are_kept = subst (λ (m : MyTree). AreKept z.rows m.0.claims kept) (sym is) r.are_kept;
+  known = subst (λ (m : MyTree). IsKnown z m.0.upper) (sym is)
+      record { lawful = r.known.lawful; past = r.known.past; edits = r.known.edits; by_passes = r.known.by_passes };
+}
+
+pub is_refused : (rise : Counts → Counts) (m m' : MyTree) → m' ≡ (record m.0 { upper = record m.0.upper { counts = rise m.0.upper.counts } }, m.1)
+    → IsRefused rise m.0.upper m'.0.upper
+is_refused rise m m' is = subst (λ (y : MyTree). IsRefused rise m.0.upper y.0.upper) (sym is)
+    record { number = refl; seen = starts_whole m.0.upper.seen; log = refl; counts = refl }
+
+-- The same pass, by the names that it has now.
+pub rests_as : (table : TableId) (z : Sizes) (number number' : ℕ) (kept kept' : KeptRows) (seat : MySeat) → number' ≡ number → kept' ≡ kept
+    → IsResting table z number kept.rows seat → IsResting table z number' kept'.rows seat
+rests_as table z number number' kept kept' seat a b r = subst (λ (x : ℕ × KeptRows). IsResting table z x.0 x.1.rows seat) (λ i. (sym a i, sym b i)) r
+
+-- After it pinned it holds no row.
+pub none_pinned : (table : TableId) (z : Sizes) (number : ℕ) (kept kept' : KeptRows) (seat one : MySeat) (e : Pin) (u : TreeView)
+    → IsResting table z number kept.rows seat → one.me ≡ (record seat.me.0 { pin = e; upper = u }, seat.me.1) → kept' ≡ kept
+    → AreHeld z.rows kept'.rows one.me.0.claims []
+none_pinned table z number kept kept' seat one e u r is same = subst (λ (x : MyTree × KeptRows). AreHeld z.rows x.1.rows x.0.0.claims [])
+    (λ i. (sym is i, sym same i)) (holds_none table z number kept.rows seat r)
+
+-- A lost attempt learnt of others' edits alone.
+pub lost_further : {T : Type 0} (event : T → Event) (z : Sizes) (r : Result T Stop) (u v : TreeView) → r ≡ Err stop.Lost → HasTriedTo event z r u v
+    → IsFurther u v
+lost_further event z r u v e h = (subst (λ (x : Result _ Stop). HasTriedTo event z x u v) e h).0
+
+pub no_further : (u : TreeView) → IsFurther u u
+no_further u = record { number = refl; seen = starts_whole u.seen; log = refl; counts = refl }
+
+-- A call that is done meets its definition.
+pub if_met : {T : Type 0} (event : T → Event) (z : Sizes) (o : Outcome T) (u v : TreeView) → IsKnown z u → IsKnown z v → IfDone o (λ x. HasDone (event x) u v)
+    → IfDone o (λ x. Meets (known_of z u) (known_of z v) (event x))
+if_met event z (outcome.Done x) u v a b h = meets z u v a b (event x) h
+if_met event z (outcome.Busy s) u v a b h = tt
+if_met event z (outcome.Full s) u v a b h = tt
+if_met event z (outcome.Deep s) u v a b h = tt
+if_met event z (outcome.Worn s) u v a b h = tt
+
+-- One that is refused declines.
+pub if_declined : {T : Type 0} (z : Sizes) (o : Outcome T) (u v : TreeView) → IsKnown z u → IsKnown z v → IfRefused o (λ rise. IsRefused rise u v)
+    → IfRefused o (λ rise. Declines (known_of z u) (known_of z v) (rise u.counts))
+if_declined z (outcome.Done x) u v a b h = tt
+if_declined z (outcome.Busy s) u v a b h = declines z u v a b one_more_busy h
+if_declined z (outcome.Full s) u v a b h = declines z u v a b one_more_full h
+if_declined z (outcome.Deep s) u v a b h = declines z u v a b one_more_deep h
+if_declined z (outcome.Worn s) u v a b h = declines z u v a b one_more_worn h

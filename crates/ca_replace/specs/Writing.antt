@@ -1,0 +1,59 @@
+-- Rows that a seat holds, and what is written into them.
+use Rattle.std.specs.Prelude.{◌≡◌, ◌≢◌, ℕ, ◌+◌, ◌*◌, ◌<◌, ◌≤◌, List, length, take, drop, slice_index, slice_range}
+use Rattle.std.specs.Int.{to_be_bytes, w64}
+use mathlib.Core.Option.{some}
+use Rattle.ca_rows.specs.declared.view.Claim.TheVariants.{Holds}
+use Rattle.ca_rows.specs.Claims.{claim_of}
+use Rattle.ca_node.specs.Told.{MyTree}
+use Rattle.ca_node.specs.Row.{IsObjectRow, IsBaseRow, items, count, level, mark, object, key}
+
+-- The seat holds the row.
+abbrev pub IsHeld : MyTree → ℕ → Type 0
+IsHeld m row = (its : List ℕ) × (length its ≡ 136) × (claim_of m.0.claims row ≡ some (Holds its))
+
+-- The seat holds the row with these words now, and its other rows as before.
+pub record IsRewritten (row : ℕ) (its : List ℕ) (m m' : MyTree) : Type 0 where
+  pub here : claim_of m'.0.claims row ≡ some (Holds its)
+  pub others : (r : ℕ) → r ≢ row → claim_of m'.0.claims r ≡ claim_of m.0.claims r
+
+-- Of the words so many were written, from one on: the one at each place is as said, and the words before and behind are as they were.
+pub record IsFilled (at count : ℕ) (says : ℕ → ℕ → Type 0) (its new : List ℕ) : Type 0 where
+  pub long : length new ≡ length its
+  pub inside : (k : ℕ) → k < count → says k (slice_index new (at + k))
+  pub before : (k : ℕ) → k < at → slice_index new k ≡ slice_index its k
+  pub behind : (k : ℕ) → at + count ≤ k → slice_index new k ≡ slice_index its k
+
+-- So the row was filled.
+abbrev pub HasFilled : ℕ → ℕ → ℕ → (ℕ → ℕ → Type 0) → MyTree → MyTree → Type 0
+HasFilled row at count says m m' = (its : List ℕ) → length its ≡ 136 → claim_of m.0.claims row ≡ some (Holds its)
+    → (new : List ℕ) × IsFilled at count says its new × IsRewritten row new m m'
+
+-- The word has the eight bytes at the front, with zeros behind their end.
+pub record HasBytes (bytes : List ℕ) (word : ℕ) : Type 0 where
+  pub front : take (length bytes) (to_be_bytes w64 word) ≡ take 8 bytes
+  pub zeros : (k : ℕ) → length bytes ≤ k → slice_index (to_be_bytes w64 word) k ≡ 0
+
+-- the word that has the k-th eight of the bytes
+abbrev pub HasEight : List ℕ → ℕ → ℕ → Type 0
+HasEight bytes k word = HasBytes (drop (8 * k) bytes) word
+
+-- The words are an object row's: these bytes, in which the key stands there.
+pub record SpellsObject (bytes : List ℕ) (key_at key_end : ℕ) (its : List ℕ) : Type 0 where
+  pub long : length its ≡ 136
+  pub is_object : IsObjectRow its
+  pub object_is : object its ≡ bytes
+  pub key_is : key its ≡ slice_range bytes key_at key_end
+
+-- The words are a base's: these items, at level 0, with this word for the statistic, and no mark.
+pub record SpellsBase (these : List ℕ) (statistic : ℕ) (its : List ℕ) : Type 0 where
+  pub long : length its ≡ 136
+  pub is_base : IsBaseRow its
+  pub items_are : items its ≡ these
+  pub level_is : level its ≡ 0
+  pub count_is : count its ≡ length these
+  pub unmarked : mark its ≡ 0
+  pub statistic_is : slice_index its 1 ≡ statistic
+
+-- The seat holds the row with such words, and its other rows as before.
+abbrev pub HasWritten : ℕ → (List ℕ → Type 0) → MyTree → MyTree → Type 0
+HasWritten row Spells m m' = (its : List ℕ) × Spells its × IsRewritten row its m m'

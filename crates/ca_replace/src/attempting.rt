@@ -1,0 +1,118 @@
+//! Attempts of a call that edits.
+ghost use Rattle.std.specs.Prelude.{◌≡◌, ◌<◌, ◌≤◌, ◌↔◌, [], length, map, slice_range, true, IsTrue};
+ghost use Rattle.arrayvec.specs.ArrayVec.{array_vec_len};
+ghost use Rattle.ca_model.proofs.Places.{IsPlace};
+ghost use Rattle.ca_model.specs.StoreMap.{IsPair};
+ghost use Rattle.ca_node.specs.Row.{items as items_of, pair};
+ghost use Rattle.ca_replace.specs.Attempting.{IsLooking, HasTriedTo};
+ghost use Rattle.ca_replace.specs.Progress.{IsFurther};
+ghost use Rattle.ca_replace.specs.Putting.{object_at, IsRoom, IsFor, first_note, put_event};
+ghost use Rattle.ca_replace.specs.Taking.{AreHeld};
+ghost use Rattle.ca_rows.specs.Calls.{IsOf, IsSame};
+
+use crate::reading::{count, item};
+use crate::taking::NoRow;
+use crate::updating::{Putting, put_at};
+use ca_leaf::Items;
+use ca_node::{Spot, TreePass, TreeSpace, walk};
+
+/// Why an attempt came to nothing.
+#[derive(Clone, Copy, Debug, PartialEq, Eq)]
+pub(crate) enum Stop {
+    /// An exchange was lost to another pass.
+    Lost,
+    /// No row was free.
+    Empty,
+    /// The pool's tag can rise no more.
+    Worn,
+    /// The base that must take a new key has as many as it may.
+    Deep,
+}
+
+/// The base that has the key. It is shown to the pass, which has seen the whole history then.
+pub(crate) fn look(space: &TreeSpace, pass: &mut TreePass, key: &[u8]) -> u32
+    requires own { IsOf space.now.table.shared.table_id space.now.table.shared.key pass.old.seat }
+    requires pinned { pass.old.seat.me.0.pin.pinned ≡ true }
+    requires leaf { space.now.table.shared.key.leaf ≤ 120 }
+    ensures same { IsSame pass.old.seat pass.new.seat }
+    ensures number { pass.new.number ≡ pass.old.number }
+    ensures kept { pass.new.kept ≡ pass.old.kept }
+    ensures still { (pass.new.seat.me.0.sizes ≡ pass.old.seat.me.0.sizes) × (pass.new.seat.me.0.pin ≡ pass.old.seat.me.0.pin) × (pass.new.seat.me.0.claims ≡ pass.old.seat.me.0.claims) }
+    ensures looking { IsLooking space.now.table.shared.key pass.new.seat.me.0.upper result }
+    ensures further { IsFurther pass.old.seat.me.0.upper pass.new.seat.me.0.upper }
+{
+    walk(space, pass, Spot::At(key)).base
+}
+
+/// The items of the base that was shown last.
+pub(crate) fn read_items(space: &TreeSpace, pass: &mut TreePass, base: u32) -> Items
+    requires own { IsOf space.now.table.shared.table_id space.now.table.shared.key pass.old.seat }
+    requires pinned { pass.old.seat.me.0.pin.pinned ≡ true }
+    requires looking { IsLooking space.now.table.shared.key pass.old.seat.me.0.upper base }
+    ensures same { IsSame pass.old.seat pass.new.seat }
+    ensures number { pass.new.number ≡ pass.old.number }
+    ensures kept { pass.new.kept ≡ pass.old.kept }
+    ensures still { pass.new.seat.me ≡ pass.old.seat.me }
+    ensures items { result.items ≡ items_of (first_note pass.old.seat.me.0.upper.notes).its }
+{
+    let many = count(space, pass, base);
+    let mut items = Items::new();
+    for place in 0..many {
+        let row = item(space, pass, base, place);
+        items.push(row);
+    }
+    items
+}
+
+/// Puts an object at its key's place in the base that was shown last, where there is room.
+pub(crate) fn put_there(
+    space: &TreeSpace,
+    pass: &mut TreePass,
+    leaf: u8,
+    base: u32,
+    place: Result<u32, u32>,
+    why: Putting,
+    object: &[u8],
+    key_at: usize,
+    key_end: usize,
+) -> Result<(), Stop>
+    requires own { IsOf space.now.table.shared.table_id space.now.table.shared.key pass.old.seat }
+    requires pinned { pass.old.seat.me.0.pin.pinned ≡ true }
+    requires number { 0 < pass.old.seat.me.0.upper.number }
+    requires none { AreHeld space.now.table.shared.key.rows pass.old.kept.rows pass.old.seat.me.0.claims [] }
+    requires leaf { (leaf ≡ space.now.table.shared.key.leaf) × (leaf ≤ 120) }
+    requires looking { IsLooking space.now.table.shared.key pass.old.seat.me.0.upper base }
+    requires within { (key_at ≤ key_end) × (key_end ≤ length object.now) }
+    requires pair { IsPair space.now.table.shared.key.keypos (slice_range object.now key_at key_end, object.now) }
+    requires place { IsPlace (map pair (first_note pass.old.seat.me.0.upper.notes).objects) (slice_range object.now key_at key_end) place }
+    requires call { IsFor why place }
+    ensures same { IsSame pass.old.seat pass.new.seat }
+    ensures number { pass.new.number ≡ pass.old.number }
+    ensures pin { (pass.new.seat.me.0.sizes ≡ pass.old.seat.me.0.sizes) × (pass.new.seat.me.0.pin ≡ pass.old.seat.me.0.pin) }
+    ensures none { AreHeld space.now.table.shared.key.rows pass.new.kept.rows pass.new.seat.me.0.claims [] }
+    ensures tried { HasTriedTo (λ _. put_event why (slice_range object.now key_at key_end) (object_at place (first_note pass.old.seat.me.0.upper.notes).objects) object.now) space.now.table.shared.key result pass.old.seat.me.0.upper pass.new.seat.me.0.upper }
+{
+    let items = read_items(space, pass, base);
+    if !has_room(&items, place, leaf) {
+        return Err(Stop::Deep);
+    }
+    match put_at(
+        space, pass, base, &items, place, why, object, key_at, key_end,
+    ) {
+        Ok(true) => Ok(()),
+        Ok(false) => Err(Stop::Lost),
+        Err(NoRow::Lost) => Err(Stop::Lost),
+        Err(NoRow::Empty) => Err(Stop::Empty),
+        Err(NoRow::Worn) => Err(Stop::Worn),
+    }
+}
+
+// Whether there is room for one item more, where it isn't put in the place of another one.
+fn has_room(items: &Items, place: Result<u32, u32>, leaf: u8) -> bool
+    ensures { IsTrue result ↔ IsRoom place (array_vec_len items.now) leaf }
+{
+    match place {
+        Ok(_at) => true,
+        Err(_between) => items.len() < leaf as usize,
+    }
+}

@@ -1,0 +1,67 @@
+//! Ends of calls that are refused.
+ghost use Rattle.std.specs.Prelude.{◌≡◌};
+ghost use Rattle.ca_model.specs.Known.{Counts, one_more_busy};
+ghost use Rattle.ca_node.specs.Told.{Refuses, with_upper};
+ghost use Rattle.ca_replace.specs.Refusals.{risen};
+ghost use Rattle.ca_rows.specs.Calls.{IsOf, IsSame};
+
+use atomic_table::Play;
+use ca_node::{Knowledge, TreePass, TreeSpace};
+use ca_rows::View;
+use std::marker::{Brand, PhantomData};
+
+// The word that a refused call loads last.
+const LAST: u32 = 0;
+
+/// Why a call is refused.
+#[derive(Clone, Copy, Debug, PartialEq, Eq)]
+pub(crate) enum Refusal {
+    /// Its budget was spent.
+    Busy,
+    /// No row was free.
+    Full,
+    /// The base that must take a new key has as many as it may.
+    Deep,
+    /// A counter can rise no more.
+    Worn,
+}
+
+/// How a step changes the counts of refusals. It exists in proofs alone.
+pub(crate) trait Counting {
+    ghost rise: { Counts → Counts };
+}
+
+impl Counting for Brand {
+    ghost rise = { one_more_busy };
+}
+
+/// A load that ends a refused call.
+pub(crate) struct CountRefusal<K> {
+    counting: PhantomData<K>,
+}
+
+impl<K: Counting> Play<(), View<Knowledge>> for CountRefusal<K> {
+    ghost then = { λ st m n m'. Refuses K.rise st m n m' };
+}
+
+/// Ends a refused call by one load of the pool's head, at which the refusal is counted.
+pub(crate) fn refuse(space: &TreeSpace, pass: &mut TreePass, why: Refusal)
+    requires own { IsOf space.now.table.shared.table_id space.now.table.shared.key pass.old.seat }
+    ensures same { IsSame pass.old.seat pass.new.seat }
+    ensures number { pass.new.number ≡ pass.old.number }
+    ensures kept { pass.new.kept ≡ pass.old.kept }
+    ensures counted { pass.new.seat.me ≡ with_upper pass.old.seat.me (record pass.old.seat.me.0.upper { counts = risen why pass.old.seat.me.0.upper.counts }) }
+{
+    refuse_as::<Brand>(space, pass, why);
+}
+
+// The load at which the counts change as K names.
+fn refuse_as<K: Counting>(space: &TreeSpace, pass: &mut TreePass, _why: Refusal)
+    requires own { IsOf space.now.table.shared.table_id space.now.table.shared.key pass.old.seat }
+    ensures same { IsSame pass.old.seat pass.new.seat }
+    ensures number { pass.new.number ≡ pass.old.number }
+    ensures kept { pass.new.kept ≡ pass.old.kept }
+    ensures counted { pass.new.seat.me ≡ with_upper pass.old.seat.me (record pass.old.seat.me.0.upper { counts = K.rise pass.old.seat.me.0.upper.counts }) }
+{
+    space.load::<CountRefusal<K>>(pass, LAST);
+}
