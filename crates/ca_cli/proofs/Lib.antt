@@ -4,3 +4,4 @@ pub mod Firsts
 pub mod InTurn
 pub mod Outcomes
 pub mod Playing
+pub mod Summed

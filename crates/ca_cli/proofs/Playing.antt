@@ -81,10 +81,11 @@ module _ (a b c : Known) (files rest : List (List Numbered)) (own : List Numbere
   carries_next k h = record {
     same = same_store a b c k.same h.same;
     at = λ objects st. let here = k.at objects st in
-        let now : Stands b.keypos b.map here.0 = subst (λ (n : ℕ). Stands n b.map here.0) (sym k.same.keypos) here.1 in
-        ((run_in_order a.keypos here.0 Never (commands_in own)).table,
-        subst (λ (n : ℕ). Stands n c.map (run_in_order n here.0 Never (commands_in own)).table) k.same.keypos (h.table here.0 now),
-        here.2);
+        let now : Stands b.keypos b.map here.0 = subst (λ (n : ℕ). Stands n b.map here.0) (sym k.same.keypos) here.1 in (
+          (run_in_order a.keypos here.0 Never (commands_in own)).table,
+          subst (λ (n : ℕ). Stands n c.map (run_in_order n here.0 Never (commands_in own)).table) k.same.keypos (h.table here.0 now),
+          here.2,
+        );
   }
 
 -- The lines of the clients that are left are the next one's and those behind it.

@@ -1,12 +1,14 @@
 //! The top call.
-ghost use Rattle.std.specs.Prelude.{◌≡◌, ◌≤◌, ◌⊎◌, ℕ, List, [], map, IsSome, IfOk, IfErr, IsErrOf};
+ghost use Rattle.std.specs.Prelude.{◌≡◌, ◌≤◌, ◌⊎◌, ℕ, List, [], length, map, IsSome, IfOk, IfErr, IsErrOf};
 ghost use Rattle.std.specs.String.{string_bytes};
 ghost use Rattle.ca_outside.specs.Known.{HasRisen};
 ghost use Rattle.ca_term.specs.Tree.{Tree};
 ghost use Rattle.ca_ets.specs.Command.{Answer};
-ghost use Rattle.ca_cli.specs.Call.{change_of, call_of};
+ghost use Rattle.ca_term.specs.declared.bounds.TheConstants.{MOST_ELEMENTS};
+ghost use Rattle.ca_words.specs.Grammar.{IsLine, Files, Generated};
+ghost use Rattle.ca_cli.specs.Call.{Adds, Asks, Call, change_of, call_of};
 ghost use Rattle.ca_cli.specs.Headline.{AllAreReplies};
-ghost use Rattle.ca_cli.specs.Outcome.{IsOutcome, IsWellFormed, IsDoneOrWant};
+ghost use Rattle.ca_cli.specs.Outcome.{AreHeld, IsOutcome, IsWellFormed, IsDoneOrWant, most_bytes};
 ghost use Rattle.ca_cli.specs.StatusText.{text_of_status};
 ghost use Rattle.ca_cli.specs.Written.{HasRun, Prints, IsFaultless};
 
@@ -29,7 +31,45 @@ fn told(alloc: Global, status: Status) -> (Status, Vec<u8>)
     }
 }
 
-// The whole output of the words, or how the call ends early.
+// The whole output for files of these names, or how the call ends early.
+fn output_of_files<F: Shelf>(
+    alloc: Global,
+    keypos: u32,
+    names: &[String],
+    shelf: &mut F,
+) -> Result<Vec<u8>, Status>
+    requires { (1 ≤ keypos) × (keypos ≤ MOST_ELEMENTS) × (length names.now ≤ 64) }
+    ensures output { IfOk result (λ bytes. (words : List (List ℕ)) → IsLine words (Files keypos (map string_bytes names.now)) → IsOutcome
+        (call_of words (F.content shelf.old) (change_of (F.fetches shelf.old) (F.fetches shelf.new) (F.faults shelf.old) (F.faults shelf.new)))
+        Status.Done bytes.items) }
+    ensures early { IfErr result (λ status. (words : List (List ℕ)) → IsLine words (Files keypos (map string_bytes names.now)) → IsOutcome
+        (call_of words (F.content shelf.old) (change_of (F.fetches shelf.old) (F.fetches shelf.new) (F.faults shelf.old) (F.faults shelf.new)))
+        status (text_of_status status)) }
+    ensures complete { AreHeld (F.content shelf.old) (map string_bytes names.now) most_bytes → ¬ HasRisen (F.faults shelf.old) (F.faults shelf.new)
+        → IfErr result (λ status. status ≡ Status.NoMemory) }
+    ensures told { ¬ IsErrOf result Status.NoMemory → IsSome (F.fetches shelf.old) → IsSome (F.fetches shelf.new) }
+    ensures later { F.faults shelf.old ≤ F.faults shelf.new }
+{
+    let files = read_all(alloc, shelf, names)?;
+    let Ok(bytes) = answer(alloc, keypos, files.as_slice()) else {
+        return Err(Status::NoMemory);
+    };
+    Ok(bytes)
+}
+
+// The whole output for lines that are made from a seed, or want of memory.
+fn output_of_seed(alloc: Global, seed: u32, clients: u32, lines: u32) -> Result<Vec<u8>, Status>
+    ensures output { IfOk result (λ bytes. (call : Call) → Asks call (Generated seed clients lines) → Adds call.shelf []
+        → IsOutcome call Status.Done bytes.items) }
+    ensures want { IfErr result (λ status. status ≡ Status.NoMemory) }
+{
+    match summary(alloc, seed, clients, lines) {
+        Ok(bytes) => Ok(bytes),
+        Err(_) => Err(Status::NoMemory),
+    }
+}
+
+// The whole output of what the words ask for, or how the call ends early.
 fn output<F: Shelf>(alloc: Global, words: &[String], shelf: &mut F) -> Result<Vec<u8>, Status>
     ensures output { let call = call_of (map string_bytes words.now) (F.content shelf.old)
         (change_of (F.fetches shelf.old) (F.fetches shelf.new) (F.faults shelf.old) (F.faults shelf.new)) in
@@ -46,23 +86,16 @@ fn output<F: Shelf>(alloc: Global, words: &[String], shelf: &mut F) -> Result<Ve
     let Ok(request) = request_of(alloc, words) else {
         return Err(Status::NoMemory);
     };
-    let made = match request {
-        None => return Err(Status::Usage),
-        Some(Request::Files { keypos, names }) => {
-            let files = read_all(alloc, shelf, names)?;
-            answer(alloc, keypos, files.as_slice())
-        }
+    match request {
+        None => Err(Status::Usage),
+        Some(Request::Files { keypos, names }) => output_of_files(alloc, keypos, names, shelf),
         Some(
             Request::Generated {
                 seed,
                 clients,
                 lines,
             },
-        ) => summary(alloc, seed, clients, lines),
-    };
-    match made {
-        Ok(bytes) => Ok(bytes),
-        Err(_) => Err(Status::NoMemory),
+        ) => output_of_seed(alloc, seed, clients, lines),
     }
 }
 
