@@ -1,5 +1,5 @@
 -- What the command lines bound.
-use Rattle.std.proofs.Common.{ℕ, ◌≤◌, List, length, None, Some}
+use Rattle.std.proofs.Common.{ℕ, ◌≤◌, List, length, None, Some, arith, le_refl}
 use Rattle.std.specs.Prelude.{Option}
 use Rattle.ca_words.specs.Grammar.{Request, Files, Generated, Values, AreOptions, NoOption, InOneWord, InTwoWords, IsAsked, ForFiles, ForGenerated, IsLine, WithoutParting, WithParting}
 use Rattle.ca_words.specs.declared.words.Name.TheVariants.{Keypos, Seed, Clients, Lines}
@@ -26,7 +26,7 @@ IsWithin (Files keypos names) = (1 ≤ keypos) × (keypos ≤ 120) × (length na
 IsWithin (Generated seed clients count) = Unit {0}
 
 asked_within : (given : Values) (names : List (List ℕ)) (request : Request) → IsKeypos given.keypos → IsAsked given names request → IsWithin request
-asked_within _ _ _ k (ForFiles None names some few) = (tt, tt, few)
+asked_within _ _ _ k (ForFiles None names some few) = let most : 1 ≤ 120 = omega arith in (le_refl 1, most, few)
 asked_within _ _ _ k (ForFiles (Some n) names some few) = (k.0, k.1, few)
 asked_within _ _ _ k (ForGenerated keypos seed clients lines first) = tt
 
