@@ -45,12 +45,12 @@ second_of (Binary bytes) = pos 0
 abbrev pub sum_of : List Tree → ℤ
 sum_of table = fold (λ sum object. sum +ℤ second_of object) (pos 0) table
 
--- a line of two words, the second of which is a number
+-- a text and a number, up to the end of the line
 abbrev pub number_line : List ℕ → ℕ → List ℕ
 number_line name n = name ++ decimal n ++ codes "\n"
 
 abbrev pub generated_line : ℕ → ℕ → List ℕ
-generated_line clients count = codes "generated " ++ decimal clients ++ codes " " ++ decimal count ++ codes "\n"
+generated_line clients count = codes "generated " ++ decimal clients ++ number_line (codes " ") count
 
 abbrev pub sum_line : ℤ → List ℕ
 sum_line sum = codes "sum " ++ signed_decimal sum ++ codes "\n"

@@ -61,9 +61,7 @@ fn put_generated(clients: u32, lines: u32, into: &mut Vec<u8>) -> Result<(), All
 {
     put(b"generated ", into)?;
     put_number(u64::from(clients), into)?;
-    put(b" ", into)?;
-    put_number(u64::from(lines), into)?;
-    put(b"\n", into)
+    put_number_line(b" ", u64::from(lines), into)
 }
 
 fn put_number_line(name: &[u8], n: u64, into: &mut Vec<u8>) -> Result<(), AllocError>
