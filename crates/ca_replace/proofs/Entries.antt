@@ -17,7 +17,7 @@ use Rattle.ca_node.specs.Row.{pair}
 use Rattle.ca_node.specs.Told.{MyTree, with_upper, IsBaseNote, IsKnown, led, IsLed, IsReadNow, entered}
 use Rattle.ca_node.specs.TreeView.{Note, TreeView, pinned, unpinned}
 use Rattle.ca_node.proofs.Logs.{state_there, read_lawful, past_more}
-use Rattle.ca_replace.specs.Finding.{IsReadable}
+use Rattle.ca_base.specs.Finding.{IsReadable}
 use Rattle.ca_replace.specs.Reads.{get_event}
 use Rattle.ca_replace.specs.Resting.{IsResting, known_of}
 use Rattle.ca_rows.specs.declared.kept.Kept.{Kept}

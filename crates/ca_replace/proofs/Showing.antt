@@ -14,11 +14,11 @@ use Rattle.ca_node.specs.TreeView.{TreeView}
 use Rattle.ca_node.proofs.Looking.{starts_shorter}
 use Rattle.ca_replace.specs.declared.attempting.Stop.{Stop}
 use Rattle.ca_replace.specs.Attempting.{IsLooking, HasTriedTo}
-use Rattle.ca_replace.specs.Finding.{IsPlaceIn}
-use Rattle.ca_replace.specs.Progress.{IsFurther, HasDone}
+use Rattle.ca_base.specs.Finding.{IsPlaceIn}
+use Rattle.ca_base.specs.Progress.{IsFurther, HasDone}
 use Rattle.ca_replace.proofs.Entries.{known_read}
 use Rattle.ca_replace.proofs.Meeting.{further_on, done_on}
-use Rattle.ca_replace.specs.Putting.{first_note, IsShownLast}
+use Rattle.ca_base.specs.Putting.{first_note, IsShownLast}
 use Rattle.ca_rows.specs.declared.sizes.Sizes.{Sizes}
 
 -- After a load of the root link the base is shown last.

@@ -15,9 +15,9 @@ use Rattle.ca_node.specs.TreeView.{TreeView, pinned, unpinned}
 use Rattle.ca_replace.specs.declared.attempting.Stop.{Stop}
 use Rattle.ca_replace.specs.declared.attempting.Stop.TheVariants as stop
 use Rattle.ca_replace.specs.Attempting.{HasTriedTo, IsEnd}
-use Rattle.ca_replace.specs.Progress.{IsFurther, HasDone, IsRefused}
+use Rattle.ca_base.specs.Progress.{IsFurther, HasDone, IsRefused}
 use Rattle.ca_replace.specs.Resting.{IsResting, known_of}
-use Rattle.ca_replace.specs.Taking.{AreHeld}
+use Rattle.ca_base.specs.Taking.{AreHeld}
 use Rattle.ca_rows.specs.declared.kept.Kept.{Kept}
 use Rattle.ca_rows.specs.declared.kept.KeptRows.{KeptRows}
 use Rattle.ca_rows.specs.declared.sizes.Sizes.{Sizes}

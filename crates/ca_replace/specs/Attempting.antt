@@ -11,9 +11,9 @@ use Rattle.ca_node.specs.TreeView.{TreeView}
 use Rattle.ca_model.specs.Known.{one_more_busy, one_more_full, one_more_deep, one_more_worn}
 use Rattle.ca_replace.specs.declared.attempting.Stop.{Stop}
 use Rattle.ca_replace.specs.declared.attempting.Stop.TheVariants as stop
-use Rattle.ca_replace.specs.Finding.{IsReadable}
-use Rattle.ca_replace.specs.Progress.{IsFurther, HasDone, IsRefused}
-use Rattle.ca_replace.specs.Putting.{first_note}
+use Rattle.ca_base.specs.Finding.{IsReadable}
+use Rattle.ca_base.specs.Progress.{IsFurther, HasDone, IsRefused}
+use Rattle.ca_base.specs.Putting.{first_note}
 use Rattle.ca_rows.specs.declared.sizes.Sizes.{Sizes}
 
 -- The base was shown last, and has the last state that was seen, of a history that is known.

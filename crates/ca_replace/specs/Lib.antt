@@ -1,11 +1,6 @@
 pub mod Attempting
-pub mod Finding
 pub mod Made
-pub mod Progress
-pub mod Putting
 pub mod Reads
 pub mod Refusals
 pub mod Resting
 pub mod StoreView
-pub mod Taking
-pub mod Writing

@@ -5,14 +5,12 @@ ghost use Rattle.ca_model.proofs.Places.{IsPlace};
 ghost use Rattle.ca_model.specs.StoreMap.{IsPair};
 ghost use Rattle.ca_node.specs.Row.{items as items_of, pair};
 ghost use Rattle.ca_replace.specs.Attempting.{IsLooking, HasTriedTo};
-ghost use Rattle.ca_replace.specs.Progress.{IsFurther};
-ghost use Rattle.ca_replace.specs.Putting.{object_at, IsRoom, IsFor, first_note, put_event};
-ghost use Rattle.ca_replace.specs.Taking.{AreHeld};
+ghost use Rattle.ca_base.specs.Progress.{IsFurther};
+ghost use Rattle.ca_base.specs.Putting.{object_at, IsRoom, IsFor, first_note, put_event};
+ghost use Rattle.ca_base.specs.Taking.{AreHeld};
 ghost use Rattle.ca_rows.specs.Calls.{IsOf, IsSame};
 
-use crate::reading::{count, item};
-use crate::taking::NoRow;
-use crate::updating::{Putting, put_at};
+use ca_base::{NoRow, Putting, count, item, put_at};
 use ca_leaf::Items;
 use ca_node::{Spot, TreePass, TreeSpace, walk};
 

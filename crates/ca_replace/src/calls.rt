@@ -5,7 +5,7 @@ ghost use Rattle.ca_model.specs.Event.{Write, WriteNew};
 ghost use Rattle.ca_model.specs.StoreMap.{IsPair};
 ghost use Rattle.ca_replace.specs.declared.attempting.Stop.TheVariants.{Lost as IsLost};
 ghost use Rattle.ca_replace.specs.Attempting.{HasTriedTo, IsEnd};
-ghost use Rattle.ca_replace.specs.Progress.{HasDone, IsRefused};
+ghost use Rattle.ca_base.specs.Progress.{HasDone, IsRefused};
 ghost use Rattle.ca_replace.specs.Refusals.{risen};
 ghost use Rattle.ca_replace.specs.Resting.{IsResting};
 

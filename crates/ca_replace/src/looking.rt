@@ -1,13 +1,12 @@
 //! Reads of one key.
 ghost use Rattle.std.specs.Prelude.{◌≡◌, [], true, false};
 ghost use Rattle.ca_node.specs.Told.{IsReadNow, with_upper, entered};
-ghost use Rattle.ca_replace.specs.Finding.{IsLastState};
+ghost use Rattle.ca_base.specs.Finding.{IsLastState};
 ghost use Rattle.ca_replace.specs.Reads.{get_event};
 ghost use Rattle.ca_rows.specs.Calls.{IsOf, IsSame};
 
 use crate::ending::{Read, enter};
-use crate::reading::{copy_object, item};
-use crate::search::search;
+use ca_base::{copy_object, item, search};
 use ca_model::Code;
 use ca_node::{TreePass, TreeSpace};
 

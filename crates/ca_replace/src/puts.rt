@@ -4,15 +4,14 @@ ghost use Rattle.ca_model.specs.Answer.{IfBusy, IfDone, IfRefused};
 ghost use Rattle.ca_model.specs.Event.{Write, WriteNew};
 ghost use Rattle.ca_model.specs.StoreMap.{IsPair};
 ghost use Rattle.ca_replace.specs.Attempting.{HasTriedTo};
-ghost use Rattle.ca_replace.specs.Progress.{HasDone, IsRefused};
+ghost use Rattle.ca_base.specs.Progress.{HasDone, IsRefused};
 ghost use Rattle.ca_replace.specs.Resting.{IsResting};
-ghost use Rattle.ca_replace.specs.Taking.{AreHeld};
+ghost use Rattle.ca_base.specs.Taking.{AreHeld};
 ghost use Rattle.ca_rows.specs.Calls.{IsOf, IsSame};
 
 use crate::attempting::{Stop, look, put_there};
 use crate::ending::{Read, enter};
-use crate::search::search;
-use crate::updating::Putting;
+use ca_base::{Putting, search};
 use ca_node::{TreePass, TreeSpace};
 
 // One attempt to put an object where there is none with its key. True where it was put.

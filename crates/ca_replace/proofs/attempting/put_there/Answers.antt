@@ -1,6 +1,6 @@
 use Rattle.std.proofs.Common.{sym, subst}
 use Rattle.ca_node.specs.Told.{MyTree}
-use Rattle.ca_replace.specs.Putting.{IsShownLast}
+use Rattle.ca_base.specs.Putting.{IsShownLast}
 use Rattle.ca_replace.proofs.Showing.{shown_last}
 use Rattle.ca_replace.proofs.attempting.put_there.Goals as goal
 

@@ -1,7 +1,7 @@
 use Rattle.std.proofs.Common.{rules, ℕ, List, ◌∷◌, ◌++◌, [], sym, ap, ◌∙◌, subst, arith}
 use Rattle.ca_node.specs.Told.{MyTree}
-use Rattle.ca_replace.specs.Finding.{IsReadable}
-use Rattle.ca_replace.specs.Putting.{first_note}
+use Rattle.ca_base.specs.Finding.{IsReadable}
+use Rattle.ca_base.specs.Putting.{first_note}
 use Rattle.ca_replace.proofs.Showing.{one_more_item}
 use Rattle.ca_replace.proofs.attempting.read_items.Goals as goal
 

@@ -1,6 +1,6 @@
 use Rattle.std.proofs.Common.{◌≡◌, ◌≤◌, length, take}
 use Rattle.ca_node.specs.Row.{items}
-use Rattle.ca_replace.specs.Putting.{first_note}
+use Rattle.ca_base.specs.Putting.{first_note}
 use Rattle.ca_rows.specs.Calls.{IsOf, IsSame}
 use Rattle.ca_replace.proofs.attempting.read_items.Given as goal
 

@@ -1,5 +1,5 @@
 use Rattle.std.proofs.Common.{◌≡◌}
-use Rattle.ca_replace.specs.Progress.{IsFurther}
+use Rattle.ca_base.specs.Progress.{IsFurther}
 use Rattle.ca_replace.specs.Resting.{IsResting}
 use Rattle.ca_replace.proofs.calls.put_new_tries.Given as goal
 

@@ -5,8 +5,8 @@ use Rattle.ca_model.specs.History.{after}
 use Rattle.ca_model.proofs.Places.{IsPlace}
 use Rattle.ca_node.specs.Row.{pair}
 use Rattle.ca_node.specs.Told.{MyTree}
-use Rattle.ca_replace.specs.Finding.{IsReadable, IsObjectShown}
-use Rattle.ca_replace.proofs.Searching.{found_object, place_inside}
+use Rattle.ca_base.specs.Finding.{IsReadable, IsObjectShown}
+use Rattle.ca_base.proofs.Searching.{found_object, place_inside}
 use Rattle.ca_replace.proofs.looking.look_up.Goals as goal
 
 pub returns-clause-answer : goal.returns-clause-answer

@@ -3,8 +3,8 @@ use Rattle.std.specs.Prelude.{slice_range}
 use Rattle.ca_model.specs.Event.{Write}
 use Rattle.ca_node.specs.Told.{MyTree}
 use Rattle.ca_replace.specs.Attempting.{IsLooking}
-use Rattle.ca_replace.specs.Progress.{IsFurther}
-use Rattle.ca_replace.specs.Putting.{first_note}
+use Rattle.ca_base.specs.Progress.{IsFurther}
+use Rattle.ca_base.specs.Putting.{first_note}
 use Rattle.ca_replace.proofs.Showing.{tried_on, place_still}
 use Rattle.ca_replace.proofs.puts.try_put.Goals as goal
 

@@ -3,7 +3,7 @@ use Rattle.std.specs.Prelude.{slice_range}
 use Rattle.ca_model.specs.Event.{WriteNew}
 use Rattle.ca_node.specs.Told.{MyTree, IsReadNow, entered}
 use Rattle.ca_replace.specs.Attempting.{IsLooking}
-use Rattle.ca_replace.specs.Putting.{first_note}
+use Rattle.ca_base.specs.Putting.{first_note}
 use Rattle.ca_replace.proofs.Showing.{entered_done, not_new, place_still}
 use Rattle.ca_replace.proofs.puts.try_put_new.Goals as goal
 

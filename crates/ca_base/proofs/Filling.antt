@@ -1,0 +1,81 @@
+-- A row that a seat holds is filled word by word.
+use Rattle.std.proofs.Common.{◌≡◌, ℕ, ◌+◌, ◌<◌, List, length, get_or, set, sym, refl, ap, ◌∙◌, subst, arith, length-set, get_or-set_other, get_or-set_same}
+use mathlib.Core.Logic.{dite}
+use mathlib.Core.Option.{some}
+use native.Mathlib.Decide.{ℕ_discrete}
+use Rattle.atomic_table.specs.declared.shared.Seat.{Seat}
+use Rattle.atomic_table.specs.Seated.{TableId}
+use Rattle.ca_node.specs.Told.{MyTree}
+use Rattle.ca_node.specs.TreeView.{TreeView}
+use Rattle.ca_base.specs.Writing.{IsHeld, IsRewritten, IsFilled, HasFilled}
+use Rattle.ca_rows.specs.declared.sizes.Sizes.{Sizes}
+use Rattle.ca_rows.specs.declared.view.Claim.TheVariants.{Holds}
+use Rattle.ca_rows.specs.declared.view.View.{View}
+use Rattle.ca_rows.specs.Calls.{IsOf, IsStill}
+use Rattle.ca_rows.specs.Claims.{claim_of, claimed}
+use Rattle.ca_rows.proofs.Claiming.{claimed_here, claimed_else}
+
+abbrev pub MySeat : Type 0
+MySeat = Seat (Unit {0}) (View TreeView)
+
+-- A word of the row was written.
+pub rewritten : (row : ℕ) (its : List ℕ) (m m' : MyTree) → m' ≡ (record m.0 { claims = claimed row (Holds its) m.0.claims }, m.1) → IsRewritten row its m m'
+rewritten row its m m' is = record {
+  here = ap (λ (y : MyTree). claim_of y.0.claims row) is ∙ claimed_here m.0.claims row (Holds its);
+  others = λ r n. ap (λ (y : MyTree). claim_of y.0.claims r) is ∙ claimed_else m.0.claims row r (Holds its) n;
+}
+
+pub rewritten_again : (row : ℕ) (its new : List ℕ) (a b c : MyTree) → IsRewritten row its a b → IsRewritten row new b c → IsRewritten row new a c
+rewritten_again row its new a b c x y = record { here = y.here; others = λ r n. y.others r n ∙ x.others r n }
+
+-- Nothing was filled yet.
+pub none_filled : (row at : ℕ) (says : ℕ → ℕ → Type 0) (m : MyTree) → HasFilled row at 0 says m m
+none_filled row at says m its long has = (
+  its,
+  record { long = refl; inside = λ k l. absurd (omega arith); before = λ k l. refl; behind = λ k l. refl },
+  record { here = has; others = λ r n. refl },
+)
+
+-- One more word was.
+pub one_more : (at count v : ℕ) (says : ℕ → ℕ → Type 0) (its new : List ℕ) → at + count < length its → says count v → IsFilled at count says its new
+    → IsFilled at (count + 1) says its (set new (at + count) v)
+one_more at count v says its new l say f = let long = f.long in record {
+  long = length-set new (at + count) v ∙ f.long;
+  inside = λ k small. dite (ℕ_discrete k count)
+      (λ e. subst (λ (y : ℕ). says y (get_or (set new (at + count) v) (at + y) 0)) (sym e)
+      (subst (says count) (sym (get_or-set_same new (at + count) v 0 (omega arith))) say))
+      (λ n. subst (says k) (sym (get_or-set_other new (at + count) (at + k) v 0 (λ e. n (omega arith)))) (f.inside k (omega arith)));
+  before = λ k small. get_or-set_other new (at + count) k v 0 (λ e. omega arith) ∙ f.before k small;
+  behind = λ k large. get_or-set_other new (at + count) k v 0 (λ e. omega arith) ∙ f.behind k (omega arith);
+}
+
+-- A pass fills a row: so many words of it were filled since.
+pub record IsFilling (table : TableId) (z : Sizes) (row at : ℕ) (says : ℕ → ℕ → Type 0) (first now : MySeat) (count : ℕ) : Type 0 where
+  pub of : IsOf table z now
+  pub still : IsStill first now
+  pub held : IsHeld now.me row
+  pub filled : HasFilled row at count says first.me now.me
+
+pub begins : (table : TableId) (z : Sizes) (row at : ℕ) (says : ℕ → ℕ → Type 0) (first : MySeat) → IsOf table z first → IsHeld first.me row
+    → IsFilling table z row at says first first 0
+begins table z row at says first of held = record { of = of; still = (refl, refl, refl, refl, refl); held = held; filled = none_filled row at says first.me }
+
+-- One more word was written, at its place.
+pub goes_on : (table : TableId) (z : Sizes) (row at : ℕ) (says : ℕ → ℕ → Type 0) (first a b : MySeat) (count place v : ℕ) → place ≡ at + count
+    → place < 136 → says count v → IsFilling table z row at says first a count → IsStill a b
+    → ((its : List ℕ) → claim_of a.me.0.claims row ≡ some (Holds its)
+    → b.me ≡ (record a.me.0 { claims = claimed row (Holds (set its place v)) a.me.0.claims }, a.me.1))
+    → IsFilling table z row at says first b (count + 1)
+goes_on table z row at says first a b count place v is l say f s wrote' = let h = f.held in
+    let wrote = λ (its : List ℕ) (has : claim_of a.me.0.claims row ≡ some (Holds its)). subst (λ (y : ℕ).
+    b.me ≡ (record a.me.0 { claims = claimed row (Holds (set its y v)) a.me.0.claims }, a.me.1)) is (wrote' its has) in
+    let w = rewritten row (set h.0 (at + count) v) a.me b.me (wrote h.0 h.2) in record {
+      of = (s.0 ∙ f.of.0, s.2 ∙ f.of.1);
+      still = (s.0 ∙ f.still.0, s.1 ∙ f.still.1, s.2 ∙ f.still.2, s.3 ∙ f.still.3, s.4 ∙ f.still.4);
+      held = (set h.0 (at + count) v, length-set h.0 (at + count) v ∙ h.1, w.here);
+      filled = λ its long has. let x = f.filled its long has in let new = rewritten row (set x.0 (at + count) v) a.me b.me (wrote x.0 x.2.here) in (
+        set x.0 (at + count) v,
+        one_more at count v says its x.0 (omega arith) say x.1,
+        rewritten_again row x.0 (set x.0 (at + count) v) first.me a.me b.me x.2 new,
+      );
+    }

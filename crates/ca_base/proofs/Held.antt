@@ -1,0 +1,128 @@
+-- The rows that a pass holds, as it takes, writes, puts back and retires.
+use Rattle.std.proofs.Common.{◌≡◌, ◌≢◌, ℕ, true, false, ◌<◌, ◌≤◌, List, ◌∷◌, length, Vec, sym, ap, ◌∙◌, subst, inl, inr, ⊎_elim}
+use Rattle.std.specs.Global.{Global}
+use mathlib.Core.Logic.{dite}
+use mathlib.Core.Option.{some, none, some-injective, some-ne-none}
+use native.Mathlib.Decide.{ℕ_discrete}
+use Rattle.ca_node.specs.Links.{IsIn}
+use Rattle.ca_node.specs.Told.{MyTree}
+use Rattle.ca_node.proofs.Looking.{in_more}
+use Rattle.ca_node.proofs.Members.{in_first, in_rest}
+use Rattle.ca_base.specs.Taking.{AreHeld}
+use Rattle.ca_base.specs.Writing.{IsRewritten}
+use Rattle.ca_rows.specs.declared.kept.Kept.{Kept}
+use Rattle.ca_rows.specs.declared.view.Claim.TheVariants.{Holds, Keeps}
+use Rattle.ca_rows.specs.declared.view.Claimed.{Claimed}
+use Rattle.ca_rows.specs.declared.kept.KeptRows.{KeptRows}
+use Rattle.ca_rows.specs.declared.taken.Taken.TheVariants.{Row}
+use Rattle.ca_rows.specs.Calls.{TakesRow, PutsRow}
+use Rattle.ca_rows.specs.Claims.{claim_of, claimed, dropped}
+use Rattle.ca_rows.specs.Told.{with_claims}
+use Rattle.ca_rows.specs.Kept.{AreKept}
+use Rattle.ca_rows.proofs.Claiming.{claimed_here, claimed_else, dropped_here, dropped_else}
+use Rattle.ca_rows.proofs.Keeping.{claimed_too, dropped_too}
+
+not_kept : (claims : List Claimed) (row : ℕ) (its : List ℕ) (t : ℕ) → claim_of claims row ≡ some (Holds its) → claim_of claims row ≢ some (Keeps t)
+not_kept claims row its t e f = let g = some-injective (Holds its) (Keeps t) (sym e ∙ f) in absurd cc
+
+-- Claims that differ on one row alone, which isn't kept.
+kept_still : (rows : ℕ) (kept : Vec Kept Global) (claims claims' : List Claimed) (row : ℕ) (its new : List ℕ) → AreKept rows claims kept
+    → claim_of claims row ≡ some (Holds its) → claim_of claims' row ≡ some (Holds new) → ((r : ℕ) → r ≢ row → claim_of claims' r ≡ claim_of claims r)
+    → AreKept rows claims' kept
+kept_still rows kept claims claims' row its new k was now others = record {
+  apart = k.apart;
+  room = k.room;
+  are_listed = λ r t e. dite (ℕ_discrete r row) (λ f. absurd (not_kept claims' row new t now (ap (claim_of claims') (sym f) ∙ e)))
+      (λ n. k.are_listed r t (sym (others r n) ∙ e));
+  are_claimed = λ r t e. let w = k.are_claimed r t e in
+      (w.0, w.1, others r (λ f. not_kept claims row its t was (ap (claim_of claims) (sym f) ∙ w.2)) ∙ w.2);
+}
+
+module _ (rows : ℕ) (kept : Vec Kept Global) where
+  -- A row that nobody claimed was taken.
+  pub took : (claims : List Claimed) (held : List ℕ) (row : ℕ) (its : List ℕ) → AreHeld rows kept claims held → claim_of claims row ≡ none → 0 < row
+      → row ≤ rows → length its ≡ 136 → (¬ IsIn row held) × AreHeld rows kept (claimed row (Holds its) claims) (row ∷ held)
+  took claims held row its h free lo hi long = (
+    new,
+    record {
+      are_kept = claimed_too rows claims kept h.are_kept row (Holds its) (λ t e. cc) (λ t e. some-ne-none (Keeps t) (sym e ∙ free));
+      only = λ r c e. dite (ℕ_discrete r row) (λ (f : r ≡ row). inr (0, ap some (sym f)))
+          (λ n. ⊎_elim (λ k. inl k) (λ i. inr (in_rest r row held i)) (h.only r c (sym (claimed_else claims row r (Holds its) n) ∙ e)));
+      each = λ r i. ⊎_elim
+          (λ (f : row ≡ r). subst (λ (y : ℕ). (0 < y) × (y ≤ rows) × ((x : List ℕ) × (length x ≡ 136)
+          × (claim_of (claimed row (Holds its) claims) y ≡ some (Holds x)))) f (lo, hi, (its, long, claimed_here claims row (Holds its))))
+          (λ (j : IsIn r held). let w = h.each r j in
+          (w.0, w.1, (w.2.0, w.2.1, claimed_else claims row r (Holds its) (λ f. new (subst (λ (y : ℕ). IsIn y held) f j)) ∙ w.2.2)))
+          (in_more row r held i);
+    },
+  )
+    where
+      new : ¬ IsIn row held
+      new i = let w = h.each row i in some-ne-none (Holds w.2.0) (sym w.2.2 ∙ free)
+
+  -- A row that was held was put back.
+  pub put_back : (claims : List Claimed) (held : List ℕ) (row : ℕ) → ¬ IsIn row held → AreHeld rows kept claims (row ∷ held)
+      → AreHeld rows kept (dropped row claims) held
+  put_back claims held row out h = let own = h.each row (in_first row held) in record {
+    are_kept = dropped_too rows claims kept h.are_kept row (λ t. not_kept claims row own.2.0 t own.2.2);
+    only = λ r c e. dite (ℕ_discrete r row)
+        (λ (f : r ≡ row). absurd (some-ne-none c (sym e ∙ (ap (claim_of (dropped row claims)) f ∙ dropped_here claims row))))
+        (λ n. ⊎_elim (λ k. inl k) (λ i. inr (⊎_elim (λ (f : row ≡ r). absurd (n (sym f))) (λ (j : IsIn r held). j) (in_more row r held i)))
+        (h.only r c (sym (dropped_else claims row r n) ∙ e)));
+    each = λ r i. let w = h.each r (in_rest r row held i) in
+        (w.0, w.1, (w.2.0, w.2.1, dropped_else claims row r (λ f. out (subst (λ (y : ℕ). IsIn y held) f i)) ∙ w.2.2));
+  }
+
+  -- A row that was held was written.
+  pub wrote : (m m' : MyTree) (held : List ℕ) (row : ℕ) (its : List ℕ) → IsIn row held → length its ≡ 136 → AreHeld rows kept m.0.claims held
+      → IsRewritten row its m m' → AreHeld rows kept m'.0.claims held
+  wrote m m' held row its i long h w = let own = h.each row i in record {
+    are_kept = kept_still rows kept m.0.claims m'.0.claims row own.2.0 its h.are_kept own.2.2 w.here w.others;
+    only = λ r c e. dite (ℕ_discrete r row) (λ (f : r ≡ row). inr (subst (λ (y : ℕ). IsIn y held) (sym f) i))
+        (λ n. h.only r c (sym (w.others r n) ∙ e));
+    each = λ r j. dite (ℕ_discrete r row)
+        (λ (f : r ≡ row). subst (λ (y : ℕ). (0 < y) × (y ≤ rows) × ((x : List ℕ) × (length x ≡ 136)
+        × (claim_of m'.0.claims y ≡ some (Holds x)))) (sym f) (own.0, own.1, (its, long, w.here)))
+        (λ n. let k = h.each r j in (k.0, k.1, (k.2.0, k.2.1, w.others r n ∙ k.2.2)));
+  }
+
+-- A row that was held was retired.
+pub retired : (rows : ℕ) (kept kept' : Vec Kept Global) (claims : List Claimed) (held : List ℕ) (row t : ℕ) → ¬ IsIn row held
+    → AreHeld rows kept claims (row ∷ held) → AreKept rows (claimed row (Keeps t) claims) kept' → AreHeld rows kept' (claimed row (Keeps t) claims) held
+retired rows kept kept' claims held row t out h k = record {
+  are_kept = k;
+  only = λ r c e. dite (ℕ_discrete r row)
+      (λ (f : r ≡ row). inl (t, some-injective c (Keeps t) (sym e ∙ (ap (claim_of (claimed row (Keeps t) claims)) f ∙ claimed_here claims row (Keeps t)))))
+      (λ n. ⊎_elim (λ y. inl y) (λ i. inr (⊎_elim (λ (f : row ≡ r). absurd (n (sym f))) (λ (j : IsIn r held). j) (in_more row r held i)))
+      (h.only r c (sym (claimed_else claims row r (Keeps t) n) ∙ e)));
+  each = λ r i. let w = h.each r (in_rest r row held i) in
+      (w.0, w.1, (w.2.0, w.2.1, claimed_else claims row r (Keeps t) (λ f. out (subst (λ (y : ℕ). IsIn y held) f i)) ∙ w.2.2));
+}
+
+-- By what taking a row told.
+pub took_row : (rows : ℕ) (kept kept' : KeptRows) (m m' : MyTree) (row : ℕ) → m.0.sizes.rows ≡ rows → TakesRow (Row row) m m' → kept' ≡ kept → (held : List ℕ)
+    → AreHeld rows kept.rows m.0.claims held → (¬ IsIn row held) × AreHeld rows kept'.rows m'.0.claims (row ∷ held)
+took_row rows kept kept' m m' row size told same held h = let lo = told.0 in let hi = told.1 in
+    subst (λ (x : MyTree × KeptRows). (¬ IsIn row held) × AreHeld rows x.1.rows x.0.0.claims (row ∷ held)) (λ i. (sym told.3.2 i, sym same i))
+    (took rows kept.rows m.0.claims held row told.3.0 h told.2 lo (subst (λ (y : ℕ). row ≤ y) size hi) told.3.1)
+
+-- By what a lost putting back told: the row is held still.
+pub kept_row : (rows : ℕ) (kept kept' : KeptRows) (m m' : MyTree) (row : ℕ) → PutsRow false row m m' → kept' ≡ kept → (rest : List ℕ)
+    → AreHeld rows kept.rows m.0.claims (row ∷ rest) → AreHeld rows kept'.rows m'.0.claims (row ∷ rest)
+kept_row rows kept kept' m m' row told same rest h = subst (λ (x : MyTree × KeptRows). AreHeld rows x.1.rows x.0.0.claims (row ∷ rest))
+    (λ i. (sym told.2 i, sym same i))
+    (wrote rows kept.rows m (with_claims m (claimed row (Holds told.0) m.0.claims)) (row ∷ rest) row told.0 (in_first row rest) told.1 h
+    record { here = claimed_here m.0.claims row (Holds told.0); others = λ r n. claimed_else m.0.claims row r (Holds told.0) n })
+
+-- By what one that won told.
+pub gone_row : (rows : ℕ) (kept kept' : KeptRows) (m m' : MyTree) (row : ℕ) → PutsRow true row m m' → kept' ≡ kept → (rest : List ℕ) → ¬ IsIn row rest
+    → AreHeld rows kept.rows m.0.claims (row ∷ rest) → AreHeld rows kept'.rows m'.0.claims rest
+gone_row rows kept kept' m m' row told same rest out h = subst (λ (x : MyTree × KeptRows). AreHeld rows x.1.rows x.0.0.claims rest)
+    (λ i. (sym told i, sym same i)) (put_back rows kept.rows m.0.claims rest row out h)
+
+-- By what retiring told.
+pub retired_row : (rows : ℕ) (kept kept' : Vec Kept Global) (m m' : MyTree) (row t : ℕ) → m' ≡ (record m.0 { claims = claimed row (Keeps t) m.0.claims }, m.1)
+    → AreKept rows m'.0.claims kept' → (rest : List ℕ) → ¬ IsIn row rest → AreHeld rows kept m.0.claims (row ∷ rest) → AreHeld rows kept' m'.0.claims rest
+retired_row rows kept kept' m m' row t told k rest out h = let is = ap (λ (x : MyTree). x.0.claims) told in
+    subst (λ (xs : List Claimed). AreHeld rows kept' xs rest) (sym is)
+    (retired rows kept kept' m.0.claims rest row t out h (subst (λ (xs : List Claimed). AreKept rows xs kept') is k))

@@ -1,0 +1,53 @@
+-- What the words of a base say that a pass was shown.
+use Rattle.std.proofs.Common.{◌≡◌, ℕ, zero, suc, ◌+◌, ◌%◌, ◌<◌, ◌≤◌, List, [], ◌∷◌, length, get_or, drop, sym, refl, ap, ◌∙◌, inl, inr, arith, length-drop}
+use Rattle.std.proofs.lemmas.List.{get_or-take, get_or-drop, length-take-le}
+use mathlib.Core.Option.{some}
+use lib.ListN.{get_elem?}
+use Rattle.ca_node.specs.Row.{count, items}
+use Rattle.ca_node.specs.Told.{IsShown}
+use Rattle.ca_node.specs.TreeView.{Note, TreeView}
+use Rattle.ca_base.specs.Finding.{IsReadable, IsObjectShown}
+use Rattle.ca_rows.specs.declared.sizes.Sizes.{Sizes}
+
+-- What stands at a place of a list.
+pub at_place : {A : Type 0} (xs : List A) (k : ℕ) (d : A) → k < length xs → get_elem? xs k ≡ some (get_or xs k d)
+at_place [] k d l = absurd (omega arith)
+at_place (x ∷ xs) zero d l = refl
+at_place (x ∷ xs) (suc k) d l = at_place xs k d (omega arith)
+
+module _ (z : Sizes) (u : TreeView) (base : ℕ) (note : Note) (r : IsReadable z u base note) where
+  shows : IsShown u base note.its
+  shows = (note, r.noted, inl (r.here, refl))
+
+  pub base_shown : (its : List ℕ) × IsShown u base its
+  base_shown = (note.its, shows)
+
+  pub base_inside : (0 < base) × (base ≤ z.rows)
+  base_inside = let here = r.here in let low = r.is_base.some_row in let high = r.is_base.in_range in (omega arith, omega arith)
+
+  many : length (items note.its) ≡ count note.its
+  many = let few = r.few in let long = r.is_base.long in length-take-le (count note.its) (drop 11 note.its) (omega (arith, length-drop 11 note.its))
+
+  -- Its first word says how many objects it has.
+  pub count_is : (word : ℕ) → ((its : List ℕ) → IsShown u base its → word ≡ get_or its 0 0)
+      → (word % 65536 ≡ length note.objects) × (word % 65536 ≤ 120)
+  count_is word is = let first : count note.its ≡ word % 65536 = ap (λ (n : ℕ). n % 65536) (sym (is note.its shows)) in
+      let few = r.few in (sym first ∙ (sym many ∙ sym r.is_base.as_many), omega arith)
+
+  -- The word of an item names its object row.
+  pub item_is : (place word : ℕ) → ((its : List ℕ) → IsShown u base its → word ≡ get_or its (11 + place) 0) → place < length note.objects
+      → get_elem? (items note.its) place ≡ some word
+  item_is place word is l = let m = many in let a = r.is_base.as_many in let in_range : place < count note.its = omega arith in
+      at_place (items note.its) place 0 (omega arith) ∙ ap some (get_or-take (count note.its) (drop 11 note.its) place 0 in_range
+      ∙ (get_or-drop 11 note.its place 0 ∙ sym (is note.its shows)))
+
+  pub item_inside : (place word : ℕ) → ((its : List ℕ) → IsShown u base its → word ≡ get_or its (11 + place) 0) → place < length note.objects
+      → (0 < word) × (word ≤ z.rows)
+  item_inside place word is l = r.is_base.named word (place, item_is place word is l)
+
+  pub object_is : (place word : ℕ) → ((its : List ℕ) → IsShown u base its → word ≡ get_or its (11 + place) 0) → place < length note.objects
+      → IsObjectShown u word (get_or note.objects place [])
+  object_is place word is l = let its : List ℕ = get_or note.objects place [] in let here = at_place note.objects place [] l in record {
+    shown = (note, r.noted, inr (r.is_base.is_base, (place, item_is place word is l, here)));
+    long = (r.is_base.objects_long its (place, here)).0;
+  }

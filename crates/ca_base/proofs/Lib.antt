@@ -1,0 +1,12 @@
+pub mod Filling
+pub mod Held
+pub mod Inserting
+pub mod Items
+pub mod KeyOrder
+pub mod ObjectBytes
+pub mod Replacing
+pub mod Readying
+pub mod Searching
+pub mod Spelling
+pub mod Unlinking
+pub mod Words

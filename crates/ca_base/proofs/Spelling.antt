@@ -1,0 +1,59 @@
+-- What the words of a row spell once it was filled.
+use Rattle.std.proofs.Common.{◌≡◌, ℕ, ◌+◌, ◌-◌, ◌/◌, ◌%◌, ◌<◌, ◌≤◌, List, [], ◌∷◌, length, take, drop, get_or, sym, ap, ◌∙◌, subst, arith, length-drop}
+use Rattle.std.proofs.lemmas.Grind.{same_number_lists}
+use Rattle.std.proofs.lemmas.List.{length-take-le, get_or-take, get_or-drop}
+use Rattle.ca_node.specs.Row.{bytes_in, object, key_place, count}
+use Rattle.ca_base.specs.Writing.{HasEight, IsFilled, SpellsObject, SpellsBase}
+use Rattle.ca_base.proofs.Words.{packed}
+
+-- An object row: its first word, and its bytes from word 11 on.
+pub spells_object : (bytes : List ℕ) (key_at key_end form : ℕ) (its new : List ℕ) → length its ≡ 136 → get_or its 0 0 ≡ form
+    → form / 72057594037927936 ≡ 1 → form / 4294967296 % 16777216 ≡ key_end - key_at → form / 65536 % 65536 ≡ key_at → form % 65536 ≡ length bytes
+    → length bytes ≤ 1000 → IsFilled 11 ((length bytes + 7) / 8) (HasEight bytes) its new → SpellsObject bytes key_at key_end new
+spells_object bytes key_at key_end form its new long first is_object is_length is_place is_count short f = record {
+  long = f.long ∙ long;
+  is_object = ap (λ x. x / 72057594037927936) first' ∙ is_object;
+  object_is = object_is;
+  key_is = ap (λ n. take n (drop (key_place new) (object new))) (ap (λ x. x / 4294967296 % 16777216) first' ∙ is_length)
+      ∙ (ap (λ n. take (key_end - key_at) (drop n (object new))) (ap (λ x. x / 65536 % 65536) first' ∙ is_place)
+      ∙ ap (λ (o : List ℕ). take (key_end - key_at) (drop key_at o)) object_is);
+}
+  where
+    first' : get_or new 0 0 ≡ form
+    first' = f.before 0 (omega arith) ∙ first
+
+    wide : length new ≡ 136
+    wide = f.long ∙ long
+
+    object_is : object new ≡ bytes
+    object_is = ap (λ n. take n (bytes_in (drop 11 new))) (ap (λ x. x % 65536) first' ∙ is_count)
+        ∙ packed (drop 11 new) bytes ((length bytes + 7) / 8) (omega arith) (omega (arith, length-drop 11 new, wide))
+        (λ k l. subst (HasEight bytes k) (sym (get_or-drop 11 new k 0)) (f.inside k l))
+
+-- A base row: the words up to its mark, and its items from word 11 on.
+pub spells_base : (these : List ℕ) (form statistic : ℕ) (its one new : List ℕ) → length its ≡ 136 → form ≡ 144115188075855872 + length these
+    → length these ≤ 120 → IsFilled 0 7 (λ k word. word ≡ get_or (form ∷ statistic ∷ 0 ∷ 0 ∷ 0 ∷ 0 ∷ 0 ∷ []) k 0) its one
+    → IsFilled 11 (length these) (λ k word. word ≡ get_or these k 0) one new → SpellsBase these statistic new
+spells_base these form statistic its one new long is few f g = record {
+  long = wide;
+  is_base = let h = first in omega arith;
+  items_are = ap (λ n. take n (drop 11 new)) count_is ∙ same_number_lists (take (length these) (drop 11 new)) these wide_items
+      (λ k l. let small : k < length these = omega (arith, wide_items) in
+      get_or-take (length these) (drop 11 new) k 0 small ∙ (get_or-drop 11 new k 0 ∙ g.inside k small));
+  level_is = let h = first in omega arith;
+  count_is = count_is;
+  unmarked = g.before 2 (omega arith) ∙ f.inside 2 (omega arith);
+  statistic_is = g.before 1 (omega arith) ∙ f.inside 1 (omega arith);
+}
+  where
+    wide : length new ≡ 136
+    wide = g.long ∙ (f.long ∙ long)
+
+    first : get_or new 0 0 ≡ form
+    first = g.before 0 (omega arith) ∙ f.inside 0 (omega arith)
+
+    count_is : count new ≡ length these
+    count_is = let h = first in omega arith
+
+    wide_items : length (take (length these) (drop 11 new)) ≡ length these
+    wide_items = length-take-le (length these) (drop 11 new) (omega (arith, length-drop 11 new, wide))

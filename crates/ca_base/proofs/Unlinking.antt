@@ -1,0 +1,124 @@
+-- The rows that a pass has after an update, as it retires what went.
+use Rattle.std.proofs.Common.{◌≡◌, ◌⊎◌, ℕ, ◌+◌, ◌<◌, List, [], ◌∷◌, ◌++◌, length, Vec, sym, refl, ap, ◌∙◌, subst, inl, inr, ⊎_elim, arith, append_assoc, length-append}
+use Rattle.std.specs.Global.{Global}
+use mathlib.Core.Logic.{dite}
+use mathlib.Core.Option.{some, none, some-injective, some-ne-none}
+use native.Mathlib.Decide.{ℕ_discrete}
+use Rattle.ca_model.specs.Event.{effect}
+use Rattle.ca_model.specs.Lawful.{IsPlaceFrom}
+use Rattle.ca_node.specs.Laws.{in_nothing}
+use Rattle.ca_node.specs.Links.{IsIn}
+use Rattle.ca_node.specs.Told.{MyTree, IsKnown, Update, IsUpdated, given, taken_out, updated}
+use Rattle.ca_node.specs.TreeView.{TreeView}
+use Rattle.ca_node.proofs.Looking.{in_more}
+use Rattle.ca_node.proofs.Members.{in_rest, has, given_here, given_else, taken_here, taken_else}
+use Rattle.ca_base.specs.Progress.{HasDone}
+use Rattle.ca_base.specs.Taking.{AreHeld, AreUnlinked}
+use Rattle.ca_base.specs.Writing.{IsRewritten}
+use Rattle.ca_base.proofs.Held.{wrote}
+use Rattle.ca_rows.specs.declared.kept.Kept.{Kept}
+use Rattle.ca_rows.specs.declared.kept.KeptRows.{KeptRows}
+use Rattle.ca_rows.specs.declared.sizes.Sizes.{Sizes}
+use Rattle.ca_rows.specs.declared.view.Claim.{Claim}
+use Rattle.ca_rows.specs.declared.view.Claim.TheVariants.{Holds, Unlinked, Keeps}
+use Rattle.ca_rows.specs.declared.view.Claimed.{Claimed}
+use Rattle.ca_rows.specs.Claims.{claim_of, claimed}
+use Rattle.ca_rows.specs.Kept.{AreKept}
+use Rattle.ca_rows.proofs.Claiming.{claimed_here, claimed_else}
+
+module _ (rows : ℕ) (kept : Vec Kept Global) (claims : List Claimed) (ins outs : List ℕ) (h : AreHeld rows kept claims ins)
+    (free : (r : ℕ) → IsIn r outs → claim_of claims r ≡ none) where
+  abbrev now : List Claimed
+  now = taken_out outs (given ins claims)
+
+  else_now : (r : ℕ) → ¬ IsIn r outs → ¬ IsIn r ins → claim_of now r ≡ claim_of claims r
+  else_now r n m = taken_else outs (given ins claims) r n ∙ given_else ins claims r m
+
+  kept_out : (r t : ℕ) → claim_of claims r ≡ some (Keeps t) → ¬ IsIn r outs
+  kept_out r t e o = some-ne-none (Keeps t) (sym e ∙ free r o)
+
+  kept_else : (r t : ℕ) → claim_of claims r ≡ some (Keeps t) → ¬ IsIn r ins
+  kept_else r t e i = let w = (h.each r i).2 in let same = some-injective (Holds w.0) (Keeps t) (sym w.2 ∙ e) in absurd cc
+
+  -- A claim that is left is one on a row that went, or was there before.
+  left : (r : ℕ) (c : Claim) → claim_of now r ≡ some c → ((c ≡ Unlinked) × IsIn r outs) ⊎ ((claim_of claims r ≡ some c) × ¬ IsIn r ins)
+  left r c e = ⊎_elim
+      (λ (o : IsIn r outs). inl (some-injective c Unlinked (sym e ∙ taken_here outs (given ins claims) r o), o))
+      (λ (n : ¬ IsIn r outs). ⊎_elim
+      (λ (i : IsIn r ins). absurd (some-ne-none c (sym e ∙ (taken_else outs (given ins claims) r n ∙ given_here ins claims r i))))
+      (λ (m : ¬ IsIn r ins). inr (sym (else_now r n m) ∙ e, m)) (has ins r)) (has outs r)
+
+  -- The rows that the seat held came, and others went that nobody claimed: those it has unlinked.
+  pub unlinked_then : AreUnlinked rows kept now outs
+  unlinked_then = record {
+    are_kept = record {
+      apart = h.are_kept.apart;
+      room = h.are_kept.room;
+      are_listed = λ r t e. ⊎_elim
+          (λ (o : (Keeps t ≡ Unlinked) × IsIn r outs). let same = o.0 in absurd cc)
+          (λ (o : (claim_of claims r ≡ some (Keeps t)) × ¬ IsIn r ins). h.are_kept.are_listed r t o.0) (left r (Keeps t) e);
+      are_claimed = λ r t e. let w = h.are_kept.are_claimed r t e in
+          (w.0, w.1, else_now r (kept_out r t w.2) (kept_else r t w.2) ∙ w.2);
+    };
+    only = λ r c e. ⊎_elim (λ (o : (c ≡ Unlinked) × IsIn r outs). inr o.1)
+        (λ (o : (claim_of claims r ≡ some c) × ¬ IsIn r ins). ⊎_elim (λ k. inl k) (λ (i : IsIn r ins). absurd (o.1 i)) (h.only r c o.0)) (left r c e);
+    each = λ r o. taken_here outs (given ins claims) r o;
+  }
+
+-- A row that was unlinked was retired.
+pub retired_too : (rows : ℕ) (kept kept' : Vec Kept Global) (m m' : MyTree) (row t : ℕ) → m' ≡ (record m.0 { claims = claimed row (Keeps t) m.0.claims }, m.1)
+    → AreKept rows m'.0.claims kept' → (rest : List ℕ) → ¬ IsIn row rest → AreUnlinked rows kept m.0.claims (row ∷ rest)
+    → AreUnlinked rows kept' m'.0.claims rest
+retired_too rows kept kept' m m' row t told k rest out h = let is = ap (λ (x : MyTree). x.0.claims) told in
+    subst (λ (xs : List Claimed). AreUnlinked rows kept' xs rest) (sym is) record {
+      are_kept = subst (λ (xs : List Claimed). AreKept rows xs kept') is k;
+      only = λ r c e. dite (ℕ_discrete r row)
+          (λ (f : r ≡ row). inl (
+            t,
+            some-injective c (Keeps t) (sym e ∙ (ap (claim_of (claimed row (Keeps t) m.0.claims)) f
+                ∙ claimed_here m.0.claims row (Keeps t))),
+          ))
+          (λ n. ⊎_elim (λ y. inl y) (λ i. inr (⊎_elim (λ (f : row ≡ r). absurd (n (sym f))) (λ (j : IsIn r rest). j) (in_more row r rest i)))
+          (h.only r c (sym (claimed_else m.0.claims row r (Keeps t) n) ∙ e)));
+      each = λ r i. claimed_else m.0.claims row r (Keeps t) (λ f. out (subst (λ (y : ℕ). IsIn y rest) f i)) ∙ h.each r (in_rest r row rest i);
+    }
+
+-- Where none is left, none is held either.
+pub none_left : (rows : ℕ) (kept : Vec Kept Global) (claims : List Claimed) → AreUnlinked rows kept claims [] → AreHeld rows kept claims []
+none_left rows kept claims h = record { are_kept = h.are_kept; only = h.only; each = λ r i. absurd (in_nothing r [] refl i) }
+
+pub held_moved : (rows : ℕ) (kept kept' : KeptRows) (m m' : MyTree) (held : List ℕ) → m' ≡ m → kept' ≡ kept → AreHeld rows kept.rows m.0.claims held
+    → AreHeld rows kept'.rows m'.0.claims held
+held_moved rows kept kept' m m' held same too h = subst (λ (x : MyTree × KeptRows). AreHeld rows x.1.rows x.0.0.claims held) (λ i. (sym same i, sym too i)) h
+
+-- After an update the old base and what went with it are unlinked, and apart.
+pub swapped : (rows : ℕ) (kept kept' : KeptRows) (m m' : MyTree) (new : ℕ) (x : Update) (base : ℕ) (ins outs : List ℕ) → new ∷ x.comes ≡ ins
+    → x.old.row ≡ base → x.goes ≡ outs → IsUpdated new x m m' → kept' ≡ kept → AreHeld rows kept.rows m.0.claims ins
+    → (¬ IsIn base outs) × AreUnlinked rows kept'.rows m'.0.claims (base ∷ outs)
+swapped rows kept kept' m m' new x base ins outs comes same goes u too h = let held = subst (AreHeld rows kept.rows m.0.claims) (sym comes) h in
+    let then = unlinked_then rows kept.rows m.0.claims (new ∷ x.comes) (x.old.row ∷ x.goes) held u.unclaimed in
+    let now = subst (λ (y : MyTree × KeptRows). AreUnlinked rows y.1.rows y.0.0.claims (x.old.row ∷ x.goes)) (λ i. (sym u.now i, sym too i)) then in
+    subst (λ (y : ℕ × List ℕ). (¬ IsIn y.0 y.1) × AreUnlinked rows kept'.rows m'.0.claims (y.0 ∷ y.1)) (λ i. (same i, goes i)) (u.apart, now)
+
+-- The call that carried out an update is done.
+pub is_done : (z : Sizes) (new : ℕ) (x : Update) (m m' : MyTree) (v : TreeView) → m.0.sizes ≡ z → 0 < z.rows → effect x.event ≡ x.edit ∷ [] → IsUpdated new x m m'
+    → v ≡ m'.0.upper → HasDone x.event m.0.upper v × IsKnown z v
+is_done z new x m m' v sizes some_rows does u same = let w : v ≡ updated m.0.upper u.more new x = same ∙ ap (λ (y : MyTree). y.0.upper) u.now in
+    let some_rows' : 0 < m.0.sizes.rows = subst (λ (y : Sizes). 0 < y.rows) (sym sizes) some_rows in
+    subst (λ (y : TreeView). HasDone x.event m.0.upper y × IsKnown z y) (sym w) (
+      record {
+        number = refl;
+        seen = (u.more ++ (m.0.upper.number, x.edit) ∷ [], append_assoc m.0.upper.seen u.more ((m.0.upper.number, x.edit) ∷ []));
+        at = length (m.0.upper.seen ++ u.more) + 1;
+        from = subst (IsPlaceFrom (length m.0.upper.seen) (length (m.0.upper.seen ++ u.more) + 1)) (sym does)
+            (omega (arith, length-append m.0.upper.seen u.more));
+        log = refl;
+        counts = refl;
+      },
+      subst (λ (y : Sizes). IsKnown y (updated m.0.upper u.more new x)) sizes (u.known some_rows'),
+    )
+
+-- A row that is held was written: the same rows are held.
+pub written_row : (rows : ℕ) (kept kept' : KeptRows) (m m' : MyTree) (held : List ℕ) (row : ℕ) (its : List ℕ) → IsIn row held → length its ≡ 136
+    → IsRewritten row its m m' → kept' ≡ kept → AreHeld rows kept.rows m.0.claims held → AreHeld rows kept'.rows m'.0.claims held
+written_row rows kept kept' m m' held row its i long w too h = held_moved rows kept kept' m' m' held refl too (wrote rows kept.rows m m' held row its i long h w)

@@ -1,0 +1,5 @@
+pub mod Finding
+pub mod Progress
+pub mod Putting
+pub mod Taking
+pub mod Writing

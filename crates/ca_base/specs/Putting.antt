@@ -1,0 +1,128 @@
+-- Updates that put an object: what becomes of a base, and which call it is.
+use Rattle.std.specs.Prelude.{◌≡◌, ℕ, ◌<◌, ◌≤◌, Bool, true, false, List, [], ◌∷◌, length, map, slice_index, slice_index_or, slice_set, Some, Result, Ok, Err}
+use Rattle.std.specs.List.{insert}
+use mathlib.Core.Option.{Option, some, none}
+use Rattle.ca_model.specs.Event.{Event, Write, WriteNew, Change}
+use Rattle.ca_model.specs.History.{Put}
+use Rattle.ca_model.specs.StoreMap.{IsPair}
+use Rattle.ca_model.proofs.Places.{IsPlace}
+use Rattle.ca_node.specs.Links.{IsIn}
+use Rattle.ca_node.specs.Row.{IsObjectRow, items, object, key, pair}
+use Rattle.ca_node.specs.Told.{MyTree, IsBaseNote, IsKnown, Update}
+use Rattle.ca_node.specs.TreeView.{Note, TreeView}
+use Rattle.ca_base.specs.declared.taking.NoRow.{NoRow}
+use Rattle.ca_base.specs.declared.updating.Putting.{Putting}
+use Rattle.ca_base.specs.declared.updating.Putting.TheVariants as putting
+use Rattle.ca_base.specs.Progress.{HasDone}
+use Rattle.ca_base.specs.Writing.{SpellsBase}
+use Rattle.ca_rows.specs.declared.sizes.Sizes.{Sizes}
+use Rattle.ca_rows.specs.declared.view.Claim.{Claim}
+use Rattle.ca_rows.specs.declared.view.Claim.TheVariants.{Holds, Lends, Unlinked, Keeps, Returns}
+use Rattle.ca_rows.specs.Claims.{claim_of}
+
+-- the elements with this one at the place: in that of another one, or between two
+abbrev pub put_in : {A : Type 0} → List A → Result ℕ ℕ → A → List A
+put_in xs (Ok at) x = slice_set xs at x
+put_in xs (Err at) x = insert xs at x
+
+-- the item whose place it is, if one's
+abbrev pub gone : Result ℕ ℕ → List ℕ → List ℕ
+gone (Ok at) these = slice_index these at ∷ []
+gone (Err at) these = []
+
+-- the bytes of the object whose place it is, if one's
+abbrev pub object_at : Result ℕ ℕ → List (List ℕ) → List ℕ
+object_at (Ok at) objects = object (slice_index_or objects at [])
+object_at (Err at) objects = []
+
+-- There is room for one item more, where it isn't put in the place of another one.
+abbrev pub IsRoom : Result ℕ ℕ → ℕ → ℕ → Type 0
+IsRoom (Ok at) count leaf = Unit {0}
+IsRoom (Err at) count leaf = count < leaf
+
+-- An item can be put there, where there are so many.
+abbrev pub IsPlaceFor : Result ℕ ℕ → ℕ → Type 0
+IsPlaceFor (Ok at) count = at < count
+IsPlaceFor (Err at) count = (at ≤ count) × (count < 120)
+
+-- the call that puts the object under the key, where this one was
+abbrev pub put_event : Putting → List ℕ → List ℕ → List ℕ → Event
+put_event putting.Put k was o = Write k o
+put_event putting.PutNew k was o = WriteNew k o true
+put_event putting.Change k was o = Change k (Some was) (Some o)
+
+-- The call may put its object there: a new one where there is none, and a changed one where there is one.
+abbrev pub IsFor : Putting → Result ℕ ℕ → Type 0
+IsFor putting.Put place = Unit {0}
+IsFor putting.PutNew (Ok at) = ⊥
+IsFor putting.PutNew (Err at) = Unit {0}
+IsFor putting.Change (Ok at) = Unit {0}
+IsFor putting.Change (Err at) = ⊥
+
+-- the update of a base by an object row and a new base row with these words
+abbrev pub put_update : Note → ℕ → List ℕ → List ℕ → Result ℕ ℕ → Putting → Update
+put_update note row its new place why = record {
+  old = note;
+  its = new;
+  objects = put_in note.objects place its;
+  comes = row ∷ [];
+  goes = gone place (items note.its);
+  event = put_event why (key its) (object_at place note.objects) (object its);
+  edit = Put (key its) (object its);
+}
+
+-- the base that was shown last
+abbrev pub first_note : List Note → Note
+first_note [] = record { row = 0; its = []; objects = [] }
+first_note (note ∷ notes) = note
+
+-- the words of a row that is held
+abbrev pub words_of : Option Claim → List ℕ
+words_of none = []
+words_of (some (Holds its)) = its
+words_of (some Lends) = []
+words_of (some Unlinked) = []
+words_of (some (Keeps t)) = []
+words_of (some (Returns t its)) = []
+
+-- the update by rows that the seat holds, of the base that it was shown last
+abbrev pub put_update_of : MyTree → ℕ → ℕ → Result ℕ ℕ → Putting → Update
+put_update_of m row new place why = put_update (first_note m.0.upper.notes) row
+    (words_of (claim_of m.0.claims row)) (words_of (claim_of m.0.claims new)) place why
+
+-- The seat is pinned, was shown the base last, and holds both rows. Their words are those of an object and of the base with it put at the key's place.
+pub record IsPut (z : Sizes) (m : MyTree) (note : Note) (row new : ℕ) (place : Result ℕ ℕ) (why : Putting) (statistic : ℕ) (a b : List ℕ) : Type 0 where
+  pub is_pinned : m.0.pin.pinned ≡ true
+  pub is_pass : 0 < m.0.upper.number
+  pub shown : IsIn note m.0.upper.notes
+  pub is_base : IsBaseNote z note
+  pub object_held : claim_of m.0.claims row ≡ some (Holds a)
+  pub is_object : IsObjectRow a
+  pub base_held : claim_of m.0.claims new ≡ some (Holds b)
+  pub base_spells : SpellsBase (put_in (items note.its) place row) statistic b
+  pub place_is : IsPlace (map pair note.objects) (key a) place
+  pub room : IsRoom place (length (items note.its)) z.leaf
+  pub pair_is : IsPair z.keypos (key a, object a)
+  pub is_for : IsFor why place
+
+-- the same, by what the seat holds
+abbrev pub IsReady : Sizes → MyTree → ℕ → ℕ → Result ℕ ℕ → Putting → ℕ → Type 0
+IsReady z m row new place why statistic = IsPut z m (first_note m.0.upper.notes) row new place why statistic
+    (words_of (claim_of m.0.claims row)) (words_of (claim_of m.0.claims new))
+
+-- The base with this row and these items was shown last.
+pub record IsShownLast (z : Sizes) (u : TreeView) (base : ℕ) (these : List ℕ) : Type 0 where
+  pub noted : IsIn (first_note u.notes) u.notes
+  pub here : (first_note u.notes).row ≡ base
+  pub is_base : IsBaseNote z (first_note u.notes)
+  pub items_are : items (first_note u.notes).its ≡ these
+
+-- The call is done, and what the pass has seen then is known of a history; or nothing changed, since an exchange was lost.
+abbrev pub HasPut : Event → Sizes → Bool → TreeView → TreeView → Type 0
+HasPut event z true u v = HasDone event u v × IsKnown z v
+HasPut event z false u v = v ≡ u
+
+-- The same, or no row was free.
+abbrev pub HasTried : Event → Sizes → Result Bool NoRow → TreeView → TreeView → Type 0
+HasTried event z (Ok won) u v = HasPut event z won u v
+HasTried event z (Err why) u v = v ≡ u

@@ -1,0 +1,34 @@
+-- Rows that a pass holds for a call.
+use Rattle.std.specs.Prelude.{◌≡◌, ◌≢◌, ◌⊎◌, ℕ, ◌<◌, ◌≤◌, List, [], ◌∷◌, length, Vec, Result, Ok, Err}
+use Rattle.std.specs.Global.{Global}
+use mathlib.Core.Option.{some}
+use Rattle.ca_node.specs.Links.{IsIn}
+use Rattle.ca_base.specs.declared.taking.NoRow.{NoRow}
+use Rattle.ca_rows.specs.declared.kept.Kept.{Kept}
+use Rattle.ca_rows.specs.declared.view.Claim.{Claim}
+use Rattle.ca_rows.specs.declared.view.Claim.TheVariants.{Holds, Unlinked, Keeps}
+use Rattle.ca_rows.specs.declared.view.Claimed.{Claimed}
+use Rattle.ca_rows.specs.Claims.{claim_of}
+use Rattle.ca_rows.specs.Kept.{AreKept}
+
+-- By these claims a seat holds these rows, and has no others but those that it keeps, which are those of the list.
+pub record AreHeld (rows : ℕ) (kept : Vec Kept Global) (claims : List Claimed) (held : List ℕ) : Type 0 where
+  pub are_kept : AreKept rows claims kept
+  pub only : (row : ℕ) (c : Claim) → claim_of claims row ≡ some c → ((at : ℕ) × (c ≡ Keeps at)) ⊎ IsIn row held
+  pub each : (row : ℕ) → IsIn row held → (0 < row) × (row ≤ rows) × ((its : List ℕ) × (length its ≡ 136) × (claim_of claims row ≡ some (Holds its)))
+
+-- One row more is held, or none.
+abbrev pub HasTaken : Result ℕ NoRow → List ℕ → (List ℕ → Type 0) → Type 0
+HasTaken (Ok row) held Now = (¬ IsIn row held) × Now (row ∷ held)
+HasTaken (Err why) held Now = Now held
+
+-- Two rows are held, or none.
+abbrev pub HasTakenTwo : Result (ℕ × ℕ) NoRow → (List ℕ → Type 0) → Type 0
+HasTakenTwo (Ok two) Now = (two.0 ≢ two.1) × Now (two.0 ∷ two.1 ∷ [])
+HasTakenTwo (Err why) Now = Now []
+
+-- By these claims a seat unlinked these rows, and has no others but those that it keeps, which are those of the list.
+pub record AreUnlinked (rows : ℕ) (kept : Vec Kept Global) (claims : List Claimed) (out : List ℕ) : Type 0 where
+  pub are_kept : AreKept rows claims kept
+  pub only : (row : ℕ) (c : Claim) → claim_of claims row ≡ some c → ((at : ℕ) × (c ≡ Keeps at)) ⊎ IsIn row out
+  pub each : (row : ℕ) → IsIn row out → claim_of claims row ≡ some Unlinked

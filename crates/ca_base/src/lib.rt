@@ -1,0 +1,17 @@
+//! A base and its objects: keys are looked for in a base that a pass was shown, rows are taken and written, and a new base takes the place of an
+//! old one.
+#![tactic(auto)]
+
+mod comparing;
+mod place;
+mod reading;
+mod taking;
+mod updating;
+mod writing;
+
+pub use comparing::compare;
+pub use place::search;
+pub use reading::{copy_object, count, item};
+pub use taking::{NoRow, give_back, take, take_two};
+pub use updating::{Putting, put_at};
+pub use writing::{write_base, write_object};

@@ -1,0 +1,72 @@
+//! What bases and objects that were shown say.
+ghost use Rattle.std.specs.Prelude.{◌≡◌, ℕ, ◌+◌, ◌<◌, ◌≤◌, ◌++◌, List, true, length};
+ghost use Rattle.arrayvec.specs.ArrayVec.{array_vec_len};
+ghost use Rattle.ca_node.specs.Row.{pair};
+ghost use Rattle.ca_node.specs.TreeView.{Note};
+ghost use Rattle.ca_base.specs.Finding.{IsReadable, IsObjectShown, HasPlace, IsItem};
+ghost use Rattle.ca_rows.specs.Calls.{IsOf, IsSame};
+ghost use Rattle.ca_term.specs.declared.bounds.TheConstants.{MOST_CODE_BYTES};
+
+use ca_model::Code;
+use ca_node::{TreePass, TreeSpace, load_word};
+use ca_term::MOST_CODE_BYTES;
+
+// How many objects a base names that the pass was shown.
+pub fn count(space: &TreeSpace, pass: &mut TreePass, base: u32) -> u32
+    requires own { IsOf space.now.table.shared.table_id space.now.table.shared.key pass.old.seat }
+    requires pinned { pass.old.seat.me.0.pin.pinned ≡ true }
+    requires readable { (note : Note) × IsReadable space.now.table.shared.key pass.old.seat.me.0.upper base note }
+    ensures same { IsSame pass.old.seat pass.new.seat }
+    ensures number { pass.new.number ≡ pass.old.number }
+    ensures kept { pass.new.kept ≡ pass.old.kept }
+    ensures still { pass.new.seat.me ≡ pass.old.seat.me }
+    ensures few { result ≤ 120 }
+    ensures count { (note : Note) → IsReadable space.now.table.shared.key pass.old.seat.me.0.upper base note → result ≡ length note.objects }
+{
+    (load_word(space, pass, base, 0) % 65_536) as u32
+}
+
+// The object row that a base names at a place.
+pub fn item(space: &TreeSpace, pass: &mut TreePass, base: u32, place: u32) -> u32
+    requires own { IsOf space.now.table.shared.table_id space.now.table.shared.key pass.old.seat }
+    requires pinned { pass.old.seat.me.0.pin.pinned ≡ true }
+    requires readable { HasPlace space.now.table.shared.key pass.old.seat.me.0.upper base place }
+    ensures same { IsSame pass.old.seat pass.new.seat }
+    ensures number { pass.new.number ≡ pass.old.number }
+    ensures kept { pass.new.kept ≡ pass.old.kept }
+    ensures still { pass.new.seat.me ≡ pass.old.seat.me }
+    ensures inside { (0 < result) × (result ≤ space.now.table.shared.key.rows) }
+    ensures item { IsItem space.now.table.shared.key pass.old.seat.me.0.upper base place result }
+{
+    load_word(space, pass, base, 11 + place) as u32
+}
+
+// Copies an object that the pass was shown, eight bytes at a time.
+pub fn copy_object(space: &TreeSpace, pass: &mut TreePass, row: u32, into: &mut Code)
+    requires own { IsOf space.now.table.shared.table_id space.now.table.shared.key pass.old.seat }
+    requires pinned { pass.old.seat.me.0.pin.pinned ≡ true }
+    requires inside { row ≤ space.now.table.shared.key.rows }
+    requires shown { (its : List ℕ) × IsObjectShown pass.old.seat.me.0.upper row its }
+    ensures same { IsSame pass.old.seat pass.new.seat }
+    ensures number { pass.new.number ≡ pass.old.number }
+    ensures kept { pass.new.kept ≡ pass.old.kept }
+    ensures still { pass.new.seat.me ≡ pass.old.seat.me }
+    ensures object { (its : List ℕ) → IsObjectShown pass.old.seat.me.0.upper row its → into.new.items ≡ (pair its).1 }
+{
+    let len = MOST_CODE_BYTES.min((load_word(space, pass, row, 0) % 65_536) as usize);
+    into.clear();
+    for i in 0..(len + 7) / 8 {
+        let bytes = load_word(space, pass, row, 11 + i as u32).to_be_bytes();
+        append(into, &bytes[..(len - 8 * i).min(8)]);
+    }
+}
+
+// Appends bytes, for which there is room.
+fn append(into: &mut Code, more: &[u8])
+    requires { array_vec_len into.old + length more.now ≤ MOST_CODE_BYTES }
+    ensures { into.new.items ≡ into.old.items ++ more.now }
+{
+    let Ok(()) = into.try_extend_from_slice(more) else {
+        return;
+    };
+}

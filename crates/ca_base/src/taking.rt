@@ -1,0 +1,69 @@
+//! Rows are taken for a call, and put back.
+ghost use Rattle.std.specs.Prelude.{◌≡◌, ◌≤◌, ℕ, List, [], ◌∷◌};
+ghost use Rattle.ca_node.specs.Links.{IsIn};
+ghost use Rattle.ca_rows.specs.Calls.{IsOf, IsStill};
+ghost use Rattle.ca_base.specs.Taking.{AreHeld, HasTaken, HasTakenTwo};
+
+use ca_node::{TreePass, TreeSpace};
+use ca_rows::Taken;
+
+/// Why no row was taken.
+#[derive(Clone, Copy, Debug, PartialEq, Eq)]
+pub enum NoRow {
+    /// No row was free.
+    Empty,
+    /// An exchange was lost to another pass.
+    Lost,
+    /// The pool's tag can rise no more.
+    Worn,
+}
+
+/// Takes a free row.
+pub fn take(space: &TreeSpace, pass: &mut TreePass) -> Result<u32, NoRow>
+    requires own { IsOf space.now.table.shared.table_id space.now.table.shared.key pass.old.seat }
+    ensures same { IsStill pass.old.seat pass.new.seat }
+    ensures number { pass.new.number ≡ pass.old.number }
+    ensures kept { pass.new.kept ≡ pass.old.kept }
+    ensures taken { (held : List ℕ) → AreHeld space.now.table.shared.key.rows pass.old.kept.rows pass.old.seat.me.0.claims held → HasTaken result held (AreHeld space.now.table.shared.key.rows pass.new.kept.rows pass.new.seat.me.0.claims) }
+{
+    match space.take_row(pass) {
+        Taken::Row(row) => Ok(row),
+        Taken::Empty => Err(NoRow::Empty),
+        Taken::Lost => Err(NoRow::Lost),
+        Taken::Worn => Err(NoRow::Worn),
+    }
+}
+
+/// Takes two free rows. Where it finds but one, that one is put back.
+pub fn take_two(space: &TreeSpace, pass: &mut TreePass) -> Result<(u32, u32), NoRow>
+    requires own { IsOf space.now.table.shared.table_id space.now.table.shared.key pass.old.seat }
+    requires none { AreHeld space.now.table.shared.key.rows pass.old.kept.rows pass.old.seat.me.0.claims [] }
+    ensures same { IsStill pass.old.seat pass.new.seat }
+    ensures number { pass.new.number ≡ pass.old.number }
+    ensures taken { HasTakenTwo result (AreHeld space.now.table.shared.key.rows pass.new.kept.rows pass.new.seat.me.0.claims) }
+{
+    let first = match take(space, pass) {
+        Ok(row) => row,
+        Err(why) => return Err(why),
+    };
+    match take(space, pass) {
+        Ok(second) => Ok((second, first)),
+        Err(why) => {
+            give_back(space, pass, first);
+            Err(why)
+        }
+    }
+}
+
+/// Puts a row back that the pass holds. Where that is lost to another pass the row is retired, and so it is kept.
+pub fn give_back(space: &TreeSpace, pass: &mut TreePass, row: u32)
+    requires own { IsOf space.now.table.shared.table_id space.now.table.shared.key pass.old.seat }
+    requires held { (rest : List ℕ) × (¬ IsIn row rest) × AreHeld space.now.table.shared.key.rows pass.old.kept.rows pass.old.seat.me.0.claims (row ∷ rest) }
+    ensures same { IsStill pass.old.seat pass.new.seat }
+    ensures number { pass.new.number ≡ pass.old.number }
+    ensures given { (rest : List ℕ) → ¬ IsIn row rest → AreHeld space.now.table.shared.key.rows pass.old.kept.rows pass.old.seat.me.0.claims (row ∷ rest) → AreHeld space.now.table.shared.key.rows pass.new.kept.rows pass.new.seat.me.0.claims rest }
+{
+    if !space.put_row(pass, row) {
+        space.retire(pass, row);
+    }
+}

@@ -1,0 +1,123 @@
+//! Rows that a pass holds are written: objects and bases.
+ghost use Rattle.std.specs.Prelude.{◌≡◌, ◌+◌, ◌-◌, ◌*◌, ◌/◌, ◌%◌, ◌<◌, ◌≤◌, ℕ, List, length, slice_index};
+ghost use Rattle.ca_node.specs.Row.{IsBaseRow};
+ghost use Rattle.ca_rows.specs.Calls.{IsOf, IsStill};
+ghost use Rattle.ca_base.specs.Writing.{IsHeld, HasFilled, HasBytes, HasEight, SpellsObject, SpellsBase, HasWritten};
+
+use ca_node::{TreePass, TreeSpace};
+
+// The form of an object row and that of a base, in the first word.
+const OBJECT: u64 = 1 << 56;
+
+const BASE: u64 = 2 << 56;
+
+/// Writes an object row: the first word, and the object's bytes, eight a word, with zeros behind their end in the last one. Its key stands in
+/// it from `key_at` to `key_end`.
+pub fn write_object(
+    space: &TreeSpace,
+    pass: &mut TreePass,
+    row: u32,
+    object: &[u8],
+    key_at: usize,
+    key_end: usize,
+)
+    requires own { IsOf space.now.table.shared.table_id space.now.table.shared.key pass.old.seat }
+    requires held { IsHeld pass.old.seat.me row }
+    requires inside { row ≤ space.now.table.shared.key.rows }
+    requires place { (key_at ≤ key_end) × (key_end ≤ length object.now) × (length object.now ≤ 1000) }
+    ensures same { IsStill pass.old.seat pass.new.seat }
+    ensures number { pass.new.number ≡ pass.old.number }
+    ensures kept { pass.new.kept ≡ pass.old.kept }
+    ensures written { HasWritten row (SpellsObject object.now key_at key_end) pass.old.seat.me pass.new.seat.me }
+{
+    let form = object_form(object.len(), key_at, key_end);
+    space.write_word(pass, row, 0, form);
+    write_bytes(space, pass, row, object);
+}
+
+/// Writes a base row of level 0 without a mark: its items, and the word for its statistic.
+pub fn write_base(space: &TreeSpace, pass: &mut TreePass, row: u32, items: &[u32], statistic: u64)
+    requires own { IsOf space.now.table.shared.table_id space.now.table.shared.key pass.old.seat }
+    requires held { IsHeld pass.old.seat.me row }
+    requires inside { row ≤ space.now.table.shared.key.rows }
+    requires few { length items.now ≤ 120 }
+    ensures same { IsStill pass.old.seat pass.new.seat }
+    ensures number { pass.new.number ≡ pass.old.number }
+    ensures kept { pass.new.kept ≡ pass.old.kept }
+    ensures written { HasWritten row (SpellsBase items.now statistic) pass.old.seat.me pass.new.seat.me }
+{
+    let form = BASE + items.len() as u64;
+    write_words(space, pass, row, &[form, statistic, 0, 0, 0, 0, 0]);
+    write_items(space, pass, row, items);
+}
+
+// The first word of an object row.
+fn object_form(length: usize, key_at: usize, key_end: usize) -> u64
+    requires { (key_at ≤ key_end) × (key_end ≤ length) × (length ≤ 1000) }
+    ensures form { result / 72057594037927936 ≡ 1 }
+    ensures key_length { result / 4294967296 % 16777216 ≡ key_end - key_at }
+    ensures key_place { result / 65536 % 65536 ≡ key_at }
+    ensures count { result % 65536 ≡ length }
+{
+    let key_length = (key_end - key_at) as u64;
+    OBJECT + key_length * 4_294_967_296 + key_at as u64 * 65_536 + length as u64
+}
+
+// Writes words from the first one on.
+fn write_words(space: &TreeSpace, pass: &mut TreePass, row: u32, words: &[u64])
+    requires own { IsOf space.now.table.shared.table_id space.now.table.shared.key pass.old.seat }
+    requires held { IsHeld pass.old.seat.me row }
+    requires inside { row ≤ space.now.table.shared.key.rows }
+    requires few { length words.now ≤ 136 }
+    ensures same { IsStill pass.old.seat pass.new.seat }
+    ensures number { pass.new.number ≡ pass.old.number }
+    ensures kept { pass.new.kept ≡ pass.old.kept }
+    ensures filled { HasFilled row 0 (length words.now) (λ k word. word ≡ slice_index words.now k) pass.old.seat.me pass.new.seat.me }
+{
+    for place in 0..words.len() {
+        space.write_word(pass, row, place as u32, words[place]);
+    }
+}
+
+// Writes a base's items.
+fn write_items(space: &TreeSpace, pass: &mut TreePass, row: u32, items: &[u32])
+    requires own { IsOf space.now.table.shared.table_id space.now.table.shared.key pass.old.seat }
+    requires held { IsHeld pass.old.seat.me row }
+    requires inside { row ≤ space.now.table.shared.key.rows }
+    requires few { length items.now ≤ 120 }
+    ensures same { IsStill pass.old.seat pass.new.seat }
+    ensures number { pass.new.number ≡ pass.old.number }
+    ensures kept { pass.new.kept ≡ pass.old.kept }
+    ensures filled { HasFilled row 11 (length items.now) (λ k word. word ≡ slice_index items.now k) pass.old.seat.me pass.new.seat.me }
+{
+    for place in 0..items.len() {
+        space.write_word(pass, row, 11 + place as u32, items[place] as u64);
+    }
+}
+
+// Writes an object's bytes.
+fn write_bytes(space: &TreeSpace, pass: &mut TreePass, row: u32, bytes: &[u8])
+    requires own { IsOf space.now.table.shared.table_id space.now.table.shared.key pass.old.seat }
+    requires held { IsHeld pass.old.seat.me row }
+    requires inside { row ≤ space.now.table.shared.key.rows }
+    requires short { length bytes.now ≤ 1000 }
+    ensures same { IsStill pass.old.seat pass.new.seat }
+    ensures number { pass.new.number ≡ pass.old.number }
+    ensures kept { pass.new.kept ≡ pass.old.kept }
+    ensures filled { HasFilled row 11 ((length bytes.now + 7) / 8) (HasEight bytes.now) pass.old.seat.me pass.new.seat.me }
+{
+    for place in 0..bytes.len().div_ceil(8) {
+        let word = word_of(&bytes[8 * place..]);
+        space.write_word(pass, row, 11 + place as u32, word);
+    }
+}
+
+// The eight bytes at the front as a word, the highest first, with zeros behind their end.
+fn word_of(bytes: &[u8]) -> u64
+    ensures { HasBytes bytes.now result }
+{
+    let mut eight = [0; 8];
+    let count = bytes.len().min(8);
+    eight[..count].copy_from_slice(&bytes[..count]);
+    u64::from_be_bytes(eight)
+}

@@ -1,8 +1,0 @@
-use Rattle.std.proofs.Common.{ap}
-use Rattle.ca_replace.proofs.Held.{took_row}
-use Rattle.ca_rows.specs.declared.sizes.Sizes.{Sizes}
-use Rattle.ca_replace.proofs.taking.take.Goals as goal
-
-pub returns-in-Row-clause-taken : goal.returns-in-Row-clause-taken
-returns-in-Row-clause-taken c held h = took_row c.args.space.now.table.shared.key.rows c.args.pass.now.kept c.take_row.new.pass.kept c.args.pass.now.seat.me
-    c.take_row.new.pass.seat.me c.in-Row.row (ap (λ (z : Sizes). z.rows) c.requires.own.1) c.in-Row.ensures.row c.take_row.ensures.kept held h

@@ -1,8 +1,0 @@
-use Rattle.std.proofs.Common.{◌≡◌}
-use Rattle.ca_replace.specs.Writing.{HasEight}
-use Rattle.ca_replace.proofs.Filling.{IsFilling}
-use Rattle.ca_replace.proofs.writing.write_bytes.Given as goal
-
-abbrev pub invariant-loop-place : goal.invariant-loop-place
-invariant-loop-place l = IsFilling l.space.table.shared.table_id l.space.table.shared.key l.row 11 (HasEight l.bytes) l.fn.pass.seat l.pass.seat l.place
-    × (l.pass.number ≡ l.fn.pass.number) × (l.pass.kept ≡ l.fn.pass.kept)
