@@ -1,0 +1,135 @@
+//! A client of a tree, which plays a mix of calls.
+ghost use Rattle.std.specs.Prelude.{◌≡◌};
+
+use crate::coded::Coded;
+use ca_model::{Code, Outcome};
+use ca_replace::TreeStore;
+
+// How many turns a call may lose to other clients, and how often one that is refused is tried again.
+const BUDGET: u32 = 1_000_000;
+
+const TRIES: u32 = 1_000;
+
+/// Which calls are played.
+#[derive(Clone, Copy)]
+pub enum Mix {
+    /// Lookups of present keys.
+    Lookups,
+    /// Puts of present keys.
+    Puts,
+    /// Half lookups and half puts of present keys.
+    Mixed,
+}
+
+/// A pass on a tree, and what it plays with.
+pub struct Client<'t> {
+    store: TreeStore<'t>,
+    present: &'t [Coded],
+    drawn: u32,
+    good: u32,
+    into: Code,
+    pub ghost first: { store.z.keypos ≡ 1 },
+}
+
+impl Drop for Client<'_> {
+    fn drop(self) {
+        let Self {
+            store: _,
+            present: _,
+            drawn: _,
+            good: _,
+            into: _,
+        } = self;
+    }
+}
+
+impl<'t> Client<'t> {
+    /// A client that plays with these objects. Clients of other numbers play in another order.
+    pub fn new(store: TreeStore<'t>, present: &'t [Coded], number: u32) -> Client<'t>
+        requires { store.z.keypos ≡ 1 }
+    {
+        Client {
+            store,
+            present,
+            drawn: number,
+            good: 0,
+            into: Code::new(),
+        }
+    }
+
+    /// How many calls were answered as they must be.
+    pub fn good(&self) -> u32 {
+        self.good
+    }
+
+    /// Puts each of the objects once.
+    pub fn fill(&mut self) {
+        for place in 0..self.present.len() {
+            let done = self.put(place);
+            self.count(done);
+        }
+    }
+
+    /// Plays so many calls.
+    pub fn play(&mut self, mix: Mix, calls: u32) {
+        for _ in 0..calls {
+            let done = self.call(mix);
+            self.count(done);
+        }
+    }
+
+    fn count(&mut self, done: bool) {
+        if done {
+            self.good = self.good.wrapping_add(1);
+        }
+    }
+
+    fn call(&mut self, mix: Mix) -> bool {
+        let drawn = self.draw();
+        let place = (drawn / 16) as usize % self.present.len().max(1);
+        match mix {
+            Mix::Lookups => self.get(place),
+            Mix::Puts => self.put(place),
+            Mix::Mixed => {
+                if drawn % 4 < 2 {
+                    self.get(place)
+                } else {
+                    self.put(place)
+                }
+            }
+        }
+    }
+
+    // The next number of an order without pattern.
+    fn draw(&mut self) -> u32 {
+        let next = u64::from(self.drawn).wrapping_mul(16_807) % 2_147_483_647;
+        self.drawn = next as u32;
+        self.drawn
+    }
+
+    fn get(&mut self, place: usize) -> bool {
+        let Some(coded) = self.present.get(place) else {
+            return false;
+        };
+        self.store.get(coded.key(), &mut self.into, BUDGET) == Outcome::Done(true)
+    }
+
+    fn put(&mut self, place: usize) -> bool {
+        for _ in 0..TRIES {
+            if self.try_put(place) {
+                return true;
+            }
+        }
+        false
+    }
+
+    fn try_put(&mut self, place: usize) -> bool {
+        let Some(coded) = self.present.get(place) else {
+            return false;
+        };
+        let object = coded.code.as_slice();
+        self.store
+            .put(object, coded.key_at, coded.key_end, BUDGET)
+            == Outcome::Done(())
+    }
+}

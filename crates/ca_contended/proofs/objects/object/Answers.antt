@@ -1,0 +1,9 @@
+use Rattle.std.proofs.Common.{◌/◌, ◌%◌, arith}
+use Rattle.ca_contended.proofs.SampleObjects.{sample}
+use Rattle.ca_contended.proofs.objects.object.Goals as goal
+
+pub returns : goal.returns
+returns c =
+    rw (c.to_be_bytes-key.ensures, c.to_be_bytes-value.ensures)
+    (sample (c.args.key / 65536 % 256) (c.args.key / 256 % 256) (c.args.key % 256) (c.args.value / 65536 % 256) (c.args.value / 256 % 256) (c.args.value % 256)
+    (omega arith) (omega arith) (omega arith) (omega arith) (omega arith) (omega arith))
