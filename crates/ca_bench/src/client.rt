@@ -2,12 +2,10 @@
 ghost use Rattle.std.specs.Prelude.{◌≡◌};
 
 use crate::coded::Coded;
-use ca_model::{Code, Outcome};
+use ca_model::Code;
 use ca_replace::TreeStore;
 
-// How many turns a call may lose to other clients, and how often one that is refused is tried again.
-const BUDGET: u32 = 1_000_000;
-
+// How often a call that is refused is tried again.
 const TRIES: u32 = 1_000;
 
 /// Which calls are played.
@@ -108,10 +106,10 @@ impl<'t> Client<'t> {
     }
 
     fn get(&mut self, place: usize) -> bool {
-        let Some(coded) = self.present.get(place) else {
-            return false;
-        };
-        self.store.get(coded.key(), &mut self.into, BUDGET) == Outcome::Done(true)
+        match self.present.get(place) {
+            Some(coded) => coded.is_in(&mut self.store, &mut self.into),
+            None => false,
+        }
     }
 
     fn put(&mut self, place: usize) -> bool {
@@ -124,12 +122,9 @@ impl<'t> Client<'t> {
     }
 
     fn try_put(&mut self, place: usize) -> bool {
-        let Some(coded) = self.present.get(place) else {
-            return false;
-        };
-        let object = coded.code.as_slice();
-        self.store
-            .put(object, coded.key_at, coded.key_end, BUDGET)
-            == Outcome::Done(())
+        match self.present.get(place) {
+            Some(coded) => coded.put_into(&mut self.store),
+            None => false,
+        }
     }
 }

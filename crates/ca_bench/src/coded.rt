@@ -1,31 +1,53 @@
-//! Objects of a load as stores take them.
-ghost use Rattle.std.specs.Prelude.{◌≡◌, ◌<◌, ◌≤◌, length, slice_range};
+//! Objects of a load as a tree takes them.
+ghost use Rattle.std.specs.Prelude.{◌≡◌, ◌<◌, ◌≤◌, length};
 ghost use Rattle.ca_term.specs.Object.{is_object};
 ghost use Rattle.ca_term.specs.Tree.{IsTerm};
-ghost use Rattle.ca_term.specs.declared.bounds.TheConstants.{MOST_CODE_BYTES};
-ghost use Rattle.ca_model.specs.StoreMap.{IsPair};
 
-use ca_model::Code;
+use ca_model::{Code, Outcome};
 use ca_order::{encode, object_parts};
+use ca_replace::TreeStore;
 use ca_term::{Kind, Term};
 use std::alloc::{AllocError, Global};
+use std::marker::Model;
 
-/// The code of an object, whose first element is its key, and where the key's code stands in it.
+// How many turns a call may lose to other clients.
+const BUDGET: u32 = 1_000_000;
+
+/// The code of an object, whose first element is its key, and where the key's code stands in it. Contracts see a pair of both.
 #[derive(Drop)]
 pub struct Coded {
-    pub code: Code,
-    pub key_at: usize,
-    pub key_end: usize,
-    pub ghost within: { (key_at < key_end) × (key_end ≤ length code.items) },
-    pub ghost pair: { IsPair 1 (slice_range code.items key_at key_end, code.items) },
+    code: Code,
+    key_at: usize,
+    key_end: usize,
+}
+
+impl Model for Coded {
+    ghost use Rattle.ca_model.specs.StoreMap.{Pair};
+
+    ghost Value = { Pair };
+
+    ghost use Rattle.ca_bench.specs.CodedView.{pair_of, IsPlaced};
+
+    ghost view = { pair_of };
+
+    ghost invariant = { IsPlaced };
 }
 
 impl Coded {
-    /// The key's code.
-    pub fn key(&self) -> &[u8]
-        ensures { (1 ≤ length result.now) × (length result.now ≤ MOST_CODE_BYTES) }
+    /// Whether a store has an object with this key; then `into` is that object.
+    pub fn is_in(&self, store: &mut TreeStore<'_>, into: &mut Code) -> bool
+        ensures { store.new.z ≡ store.old.z }
     {
-        &self.code.as_slice()[self.key_at..self.key_end]
+        let key = &self.code.as_slice()[self.key_at..self.key_end];
+        store.get(key, into, BUDGET) == Outcome::Done(true)
+    }
+
+    /// Puts it, and answers whether it wasn't refused.
+    pub fn put_into(&self, store: &mut TreeStore<'_>) -> bool
+        requires { store.old.z.keypos ≡ 1 }
+        ensures { store.new.z ≡ store.old.z }
+    {
+        store.put(self.code.as_slice(), self.key_at, self.key_end, BUDGET) == Outcome::Done(())
     }
 }
 

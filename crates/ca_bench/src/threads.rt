@@ -68,9 +68,12 @@ fn play_all<R: Clock + Threads + Sync>(
 ) -> io::Result<u128> {
     let threads = clients.len().max(1);
     let start = Instant::now(rt)?;
-    for_each_mut(rt, clients, threads, &|_number, client: &mut Client<'_>| {
-        client.play(mix, calls)
-    });
+    for_each_mut(
+        rt,
+        clients,
+        threads,
+        &|_number, client: &mut Client<'_>| { client.play(mix, calls) },
+    );
     Ok(start.elapsed(rt)?.as_nanos())
 }
 
