@@ -17,13 +17,7 @@ impl Event {
     /// What the key has behind the event where it had this before; `None` where the event can't be then.
     pub(crate) fn follows(self, before: Option<u32>) -> Option<Option<u32>> {
         match self {
-            Event::Got(found) => {
-                if found == before {
-                    Some(before)
-                } else {
-                    None
-                }
-            }
+            Event::Got(found) => { if found == before { Some(before) } else { None } }
             Event::Put(value) => Some(Some(value)),
             Event::PutNew(value) => match before {
                 None => Some(Some(value)),

@@ -34,9 +34,7 @@ impl May {
     fn has(self, state: Option<u32>, last: Last) -> bool {
         match state {
             None => self.nothing,
-            Some(_) => {
-                self.first && last.first == state || self.second && last.second == state
-            }
+            Some(_) => { self.first && last.first == state || self.second && last.second == state }
         }
     }
 

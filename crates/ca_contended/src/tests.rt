@@ -1,5 +1,5 @@
 //! Two clients on threads.
-ghost use Rattle.std.specs.Prelude.{◌≡◌};
+ghost use Rattle.std.specs.Prelude.{◌≡◌, IfOk};
 
 use crate::events::{Entry, Event};
 use crate::merges::{events_of, is_explained};
@@ -11,12 +11,14 @@ use std::alloc::{AllocError, Global};
 use std::thread::{Threads, join_mut};
 
 // How many turns each client plays, and how many keys they share.
-const TURNS: u32 = 3_000;
+const TURNS: u32 = 8_000;
 
 const SHARED: u32 = 6;
 
 // A tree of one leaf of at most 120 objects, on so many rows.
-fn one_leaf(alloc: Global, rows: u32, passes: u32) -> Result<Tree, TreeFault> {
+fn one_leaf(alloc: Global, rows: u32, passes: u32) -> Result<Tree, TreeFault>
+    ensures { IfOk result (λ tree. tree.space.sizes.keypos ≡ 1) }
+{
     let tuning = Tuning {
         leaf: 120,
         levels: 0,

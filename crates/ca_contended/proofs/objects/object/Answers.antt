@@ -4,6 +4,6 @@ use Rattle.ca_contended.proofs.objects.object.Goals as goal
 
 pub returns : goal.returns
 returns c =
-    rw (c.to_be_bytes-key.ensures, c.to_be_bytes-value.ensures)
+    rw (c.to_be_bytes.ensures, c.to_be_bytes-2.ensures)
     (sample (c.args.key / 65536 % 256) (c.args.key / 256 % 256) (c.args.key % 256) (c.args.value / 65536 % 256) (c.args.value / 256 % 256) (c.args.value % 256)
     (omega arith) (omega arith) (omega arith) (omega arith) (omega arith) (omega arith))
