@@ -8,7 +8,8 @@ use std::time::Instant;
 
 // How many objects a leaf of the tree may have, and how many there are.
 const LEAVES: [(u32, u32); 4] = [(12, 10), (24, 20), (60, 45), (120, 90)];
-const RUNS: u32 = 5;
+// How often a measure is taken, each time on a new map; the times are added.
+const RUNS: u32 = 3;
 // How many calls all clients together play in a run.
 const CALLS: u32 = 2_000_000;
 
@@ -107,8 +108,8 @@ fn main() {
         for mix in ["lookups", "puts", "mixed"] {
             for threads in [1, 2, 4] {
                 let calls = CALLS / threads;
-                let least = (0..RUNS).map(|_| run(mix, &load, threads, calls)).min().unwrap();
-                println!("map,{mix},{leaf},{count},{threads},{}", u128::from(calls * threads) * 1_000_000 / least);
+                let nanos: u128 = (0..RUNS).map(|_| run(mix, &load, threads, calls)).sum();
+                println!("map,{mix},{leaf},{count},{threads},{}", u128::from(calls * threads * RUNS) * 1_000_000 / nanos);
             }
         }
     }

@@ -17,8 +17,8 @@ use std::time::Instant;
 // As many rows as a tree may have.
 const ROWS: u32 = 65_535;
 
-// How often a measure is taken, each time on a new tree; the least time counts.
-const RUNS: u32 = 5;
+// How often a measure is taken, each time on a new tree; the times are added.
+const RUNS: u32 = 3;
 
 // How many calls all clients together play in a run, of lookups alone and of mixes with puts. A put takes two rows for good.
 const LOOKUPS: u32 = 2_000_000;
@@ -133,14 +133,15 @@ fn time_mix<R: Clock + Print + Threads + Sync + Alloc<A = Global>>(
 ) -> io::Result<()> {
     let count = objects.len();
     let each = calls / threads.max(1);
-    let mut least = u128::MAX;
+    let mut nanos = 0_u128;
     for _ in 0..RUNS {
-        let Some(nanos) = run(rt, leaf, objects, (mix, each), threads as usize)? else {
+        let Some(more) = run(rt, leaf, objects, (mix, each), threads as usize)? else {
             return println!(rt; "tree,{name},{leaf},{count},{threads},failed");
         };
-        least = least.min(nanos);
+        nanos = nanos.saturating_add(more);
     }
-    let rate = u128::from(each) * u128::from(threads) * 1_000_000 / least.max(1);
+    let all = u128::from(each) * u128::from(threads) * u128::from(RUNS);
+    let rate = all * 1_000_000 / nanos.max(1);
     println!(rt; "tree,{name},{leaf},{count},{threads},{rate}")
 }
 
