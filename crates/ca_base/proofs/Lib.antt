@@ -6,7 +6,10 @@ pub mod KeyOrder
 pub mod ObjectBytes
 pub mod Replacing
 pub mod Readying
+pub mod Rebasing
+pub mod Rest
 pub mod Searching
 pub mod Spelling
+pub mod TakingOut
 pub mod Unlinking
 pub mod Words

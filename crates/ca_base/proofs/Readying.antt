@@ -6,18 +6,17 @@ use mathlib.Core.Option.{some}
 use Rattle.ca_model.specs.Event.{Event}
 use Rattle.ca_model.specs.StoreMap.{IsPair}
 use Rattle.ca_model.proofs.Places.{IsPlace}
-use Rattle.ca_node.specs.Links.{IsIn}
-use Rattle.ca_node.specs.Row.{object, key, pair}
-use Rattle.ca_node.specs.Told.{MyTree}
+use Rattle.ca_node.specs.Row.{items, object, key, pair}
+use Rattle.ca_node.specs.Told.{MyTree, IsUpdate}
 use Rattle.ca_node.specs.TreeView.{Note, TreeView}
 use Rattle.ca_base.specs.declared.updating.Putting.{Putting}
-use Rattle.ca_base.specs.Putting.{put_in, object_at, IsRoom, IsPlaceFor, IsFor, IsPut, IsReady, IsShownLast, HasPut, first_note, words_of, put_event, put_update_of}
+use Rattle.ca_base.specs.Putting.{put_in, object_at, IsRoom, IsPlaceFor, IsFor, IsShownLast, HasSwapped, first_note, words_of, put_event, put_update, put_update_of}
 use Rattle.ca_base.specs.Writing.{IsRewritten, SpellsObject, SpellsBase}
-use Rattle.ca_base.proofs.Replacing.{in_range_of}
+use Rattle.ca_base.proofs.Rebasing.{new_base, note_is, words_are}
+use Rattle.ca_base.proofs.Replacing.{in_range_of, is_put}
 use Rattle.ca_base.proofs.Inserting.{IsInRange}
 use Rattle.ca_rows.specs.declared.sizes.Sizes.{Sizes}
 use Rattle.ca_rows.specs.declared.view.Claim.TheVariants.{Holds}
-use Rattle.ca_rows.specs.declared.view.Pin.{Pin}
 use Rattle.ca_rows.specs.Claims.{claim_of}
 
 -- An item finds its place and room.
@@ -38,39 +37,34 @@ module _ (z : Sizes) (m0 m1 m2 m3 : MyTree) (row new base : ℕ) (these : List �
   is_a : words_of (claim_of m3.0.claims row) ≡ a
   is_a = ap words_of object_held
 
-  is_b : words_of (claim_of m3.0.claims new) ≡ b
-  is_b = ap words_of wrote_too.here
-
   is_note : first_note m3.0.upper.notes ≡ note
-  is_note = ap (λ (u : TreeView). first_note u.notes) upper
+  is_note = note_is m0 m3 upper
 
   pub ready : m0.0.pin.pinned ≡ true → 0 < m0.0.upper.number → IsRoom place (length these) z.leaf → IsPair z.keypos (slice_range bytes key_at key_end, bytes)
       → IsPlace (map pair note.objects) (slice_range bytes key_at key_end) place → IsFor why place → m3.0.pin ≡ m0.0.pin
-      → IsReady z m3 row new place why statistic
-  ready is_pinned is_pass room is_pair is_place is_for pin = subst (λ (x : Note × List ℕ × List ℕ). IsPut z m3 x.0 row new place why statistic x.1 x.2)
-      (λ i. (sym is_note i, sym is_a i, sym is_b i)) record {
-        is_pinned = ap (λ (e : Pin). e.pinned) pin ∙ is_pinned;
-        is_pass = subst (λ (u : TreeView). 0 < u.number) (sym upper) is_pass;
-        shown = subst (λ (u : TreeView). IsIn note u.notes) (sym upper) shown.noted;
-        is_base = shown.is_base;
+      → IsUpdate z m3 new (put_update_of m3 row new place why)
+  ready is_pinned is_pass room is_pair is_place is_for pin = subst (λ (x : Note × List ℕ × List ℕ). IsUpdate z m3 new (put_update x.0 row x.1 x.2 place why))
+      (λ i. (sym is_note i, sym is_a i, sym (words_are new b m2 m3 wrote_too) i))
+      (is_put z m3 note row new place why statistic a b
+      (new_base z m0 m2 m3 new base these (put_in (items note.its) place row) statistic b shown is_pinned is_pass upper pin
+      (subst (λ (xs : List ℕ). SpellsBase (put_in xs place row) statistic b) (sym shown.items_are) two) wrote_too)
+      record {
         object_held = object_held;
         is_object = one.is_object;
-        base_held = wrote_too.here;
-        base_spells = subst (λ (xs : List ℕ). SpellsBase (put_in xs place row) statistic b) (sym shown.items_are) two;
         place_is = subst (λ (k : List ℕ). IsPlace (map pair note.objects) k place) (sym one.key_is) is_place;
         room = subst (λ (xs : List ℕ). IsRoom place (length xs) z.leaf) (sym shown.items_are) room;
         pair_is = subst (λ (x : List ℕ × List ℕ). IsPair z.keypos x) (λ i. (sym one.key_is i, sym one.object_is i)) is_pair;
         is_for = is_for;
-      }
+      })
 
   -- The event is that of the object.
   pub is_event : (put_update_of m3 row new place why).event ≡ put_event why (slice_range bytes key_at key_end) (object_at place note.objects) bytes
   is_event = ap (λ (x : Note × List ℕ). put_event why (key x.1) (object_at place x.0.objects) (object x.1)) (λ i. (is_note i, is_a i))
       ∙ ap (λ (x : List ℕ × List ℕ). put_event why x.0 (object_at place note.objects) x.1) (λ i. (one.key_is i, one.object_is i))
 
-  pub tried : (won : Bool) (v : TreeView) → HasPut (put_update_of m3 row new place why).event z won m3.0.upper v
-      → HasPut (put_event why (slice_range bytes key_at key_end) (object_at place note.objects) bytes) z won m0.0.upper v
-  tried won v h = subst (λ (x : Event × TreeView). HasPut x.0 z won x.1 v) (λ i. (is_event i, upper i)) h
+  pub tried : (won : Bool) (v : TreeView) → HasSwapped (put_update_of m3 row new place why).event z won m3.0.upper v
+      → HasSwapped (put_event why (slice_range bytes key_at key_end) (object_at place note.objects) bytes) z won m0.0.upper v
+  tried won v h = subst (λ (x : Event × TreeView). HasSwapped x.0 z won x.1 v) (λ i. (is_event i, upper i)) h
 
 -- The place is one of the items of the base.
 pub place_in : (z : Sizes) (u : TreeView) (base : ℕ) (these : List ℕ) (place : Result ℕ ℕ) (k : List ℕ) → IsShownLast z u base these

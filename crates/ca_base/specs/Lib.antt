@@ -1,5 +1,6 @@
 pub mod Finding
 pub mod Progress
 pub mod Putting
+pub mod Removing
 pub mod Taking
 pub mod Writing

@@ -1,20 +1,17 @@
 -- Updates that put an object: what becomes of a base, and which call it is.
-use Rattle.std.specs.Prelude.{◌≡◌, ℕ, ◌<◌, ◌≤◌, Bool, true, false, List, [], ◌∷◌, length, map, slice_index, slice_index_or, slice_set, Some, Result, Ok, Err}
+use Rattle.std.specs.Prelude.{◌≡◌, ℕ, ◌<◌, ◌≤◌, Bool, true, false, List, [], ◌∷◌, slice_index, slice_index_or, slice_set, Some, Result, Ok, Err}
 use Rattle.std.specs.List.{insert}
 use mathlib.Core.Option.{Option, some, none}
 use Rattle.ca_model.specs.Event.{Event, Write, WriteNew, Change}
 use Rattle.ca_model.specs.History.{Put}
-use Rattle.ca_model.specs.StoreMap.{IsPair}
-use Rattle.ca_model.proofs.Places.{IsPlace}
 use Rattle.ca_node.specs.Links.{IsIn}
-use Rattle.ca_node.specs.Row.{IsObjectRow, items, object, key, pair}
+use Rattle.ca_node.specs.Row.{items, object, key}
 use Rattle.ca_node.specs.Told.{MyTree, IsBaseNote, IsKnown, Update}
 use Rattle.ca_node.specs.TreeView.{Note, TreeView}
 use Rattle.ca_base.specs.declared.taking.NoRow.{NoRow}
 use Rattle.ca_base.specs.declared.updating.Putting.{Putting}
 use Rattle.ca_base.specs.declared.updating.Putting.TheVariants as putting
 use Rattle.ca_base.specs.Progress.{HasDone}
-use Rattle.ca_base.specs.Writing.{SpellsBase}
 use Rattle.ca_rows.specs.declared.sizes.Sizes.{Sizes}
 use Rattle.ca_rows.specs.declared.view.Claim.{Claim}
 use Rattle.ca_rows.specs.declared.view.Claim.TheVariants.{Holds, Lends, Unlinked, Keeps, Returns}
@@ -90,26 +87,6 @@ abbrev pub put_update_of : MyTree → ℕ → ℕ → Result ℕ ℕ → Putting
 put_update_of m row new place why = put_update (first_note m.0.upper.notes) row
     (words_of (claim_of m.0.claims row)) (words_of (claim_of m.0.claims new)) place why
 
--- The seat is pinned, was shown the base last, and holds both rows. Their words are those of an object and of the base with it put at the key's place.
-pub record IsPut (z : Sizes) (m : MyTree) (note : Note) (row new : ℕ) (place : Result ℕ ℕ) (why : Putting) (statistic : ℕ) (a b : List ℕ) : Type 0 where
-  pub is_pinned : m.0.pin.pinned ≡ true
-  pub is_pass : 0 < m.0.upper.number
-  pub shown : IsIn note m.0.upper.notes
-  pub is_base : IsBaseNote z note
-  pub object_held : claim_of m.0.claims row ≡ some (Holds a)
-  pub is_object : IsObjectRow a
-  pub base_held : claim_of m.0.claims new ≡ some (Holds b)
-  pub base_spells : SpellsBase (put_in (items note.its) place row) statistic b
-  pub place_is : IsPlace (map pair note.objects) (key a) place
-  pub room : IsRoom place (length (items note.its)) z.leaf
-  pub pair_is : IsPair z.keypos (key a, object a)
-  pub is_for : IsFor why place
-
--- the same, by what the seat holds
-abbrev pub IsReady : Sizes → MyTree → ℕ → ℕ → Result ℕ ℕ → Putting → ℕ → Type 0
-IsReady z m row new place why statistic = IsPut z m (first_note m.0.upper.notes) row new place why statistic
-    (words_of (claim_of m.0.claims row)) (words_of (claim_of m.0.claims new))
-
 -- The base with this row and these items was shown last.
 pub record IsShownLast (z : Sizes) (u : TreeView) (base : ℕ) (these : List ℕ) : Type 0 where
   pub noted : IsIn (first_note u.notes) u.notes
@@ -117,12 +94,12 @@ pub record IsShownLast (z : Sizes) (u : TreeView) (base : ℕ) (these : List ℕ
   pub is_base : IsBaseNote z (first_note u.notes)
   pub items_are : items (first_note u.notes).its ≡ these
 
--- The call is done, and what the pass has seen then is known of a history; or nothing changed, since an exchange was lost.
-abbrev pub HasPut : Event → Sizes → Bool → TreeView → TreeView → Type 0
-HasPut event z true u v = HasDone event u v × IsKnown z v
-HasPut event z false u v = v ≡ u
+-- The exchange of a base: the call is done, and what the pass has seen then is known of a history; or nothing changed, since the exchange was lost.
+abbrev pub HasSwapped : Event → Sizes → Bool → TreeView → TreeView → Type 0
+HasSwapped event z true u v = HasDone event u v × IsKnown z v
+HasSwapped event z false u v = v ≡ u
 
 -- The same, or no row was free.
 abbrev pub HasTried : Event → Sizes → Result Bool NoRow → TreeView → TreeView → Type 0
-HasTried event z (Ok won) u v = HasPut event z won u v
+HasTried event z (Ok won) u v = HasSwapped event z won u v
 HasTried event z (Err why) u v = v ≡ u

@@ -17,6 +17,11 @@ pub record AreHeld (rows : ℕ) (kept : Vec Kept Global) (claims : List Claimed)
   pub only : (row : ℕ) (c : Claim) → claim_of claims row ≡ some c → ((at : ℕ) × (c ≡ Keeps at)) ⊎ IsIn row held
   pub each : (row : ℕ) → IsIn row held → (0 < row) × (row ≤ rows) × ((its : List ℕ) × (length its ≡ 136) × (claim_of claims row ≡ some (Holds its)))
 
+-- No row of the list is in it twice.
+abbrev pub AreApart : List ℕ → Type 0
+AreApart [] = Unit {0}
+AreApart (row ∷ rows) = (¬ IsIn row rows) × AreApart rows
+
 -- One row more is held, or none.
 abbrev pub HasTaken : Result ℕ NoRow → List ℕ → (List ℕ → Type 0) → Type 0
 HasTaken (Ok row) held Now = (¬ IsIn row held) × Now (row ∷ held)

@@ -5,6 +5,8 @@
 mod comparing;
 mod place;
 mod reading;
+mod removing;
+mod swapping;
 mod taking;
 mod updating;
 mod writing;
@@ -12,6 +14,7 @@ mod writing;
 pub use comparing::compare;
 pub use place::search;
 pub use reading::{copy_object, count, item};
+pub use removing::remove_at;
 pub use taking::{NoRow, give_back, take, take_two};
 pub use updating::{Putting, put_at};
 pub use writing::{write_base, write_object};

@@ -36,8 +36,8 @@ swap_in-requires-clause-held c = let t = c.in-Ok.ensures.taken in let w = c.writ
     c.write_object.new.pass.seat.me rows c.in-Ok.rows.1 w.0 (in_rest c.in-Ok.rows.1 c.in-Ok.rows.0 (c.in-Ok.rows.1 ∷ []) (in_first c.in-Ok.rows.1 [])) w.1.long w.2
     c.write_object.ensures.kept t.1)
 
-pub swap_in-requires-clause-ready : goal.swap_in-requires-clause-ready
-swap_in-requires-clause-ready c = let t = c.in-Ok.ensures.taken in let w = c.write_object.ensures.written in let v = c.write_base.ensures.written in
+pub swap_in-requires-clause-update : goal.swap_in-requires-clause-update
+swap_in-requires-clause-update c = let t = c.in-Ok.ensures.taken in let w = c.write_object.ensures.written in let v = c.write_base.ensures.written in
     let r = c.requires in let one = c.take_two.ensures.same in let two = c.write_object.ensures.same in let three = c.write_base.ensures.same in
     let items : c.as_slice.result.now ≡ put_in c.args.items.now.items c.args.place c.in-Ok.rows.1 = c.as_slice.ensures.value ∙ c.put_item-more.ensures in
     ready c.args.space.now.table.shared.key c.args.pass.now.seat.me c.take_two.new.pass.seat.me c.write_object.new.pass.seat.me c.write_base.new.pass.seat.me

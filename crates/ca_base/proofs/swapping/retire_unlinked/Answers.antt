@@ -1,5 +1,5 @@
 use Rattle.ca_base.proofs.Unlinking.{retired_too}
-use Rattle.ca_base.proofs.updating.retire_unlinked.Goals as goal
+use Rattle.ca_base.proofs.swapping.retire_unlinked.Goals as goal
 
 pub returns-clause-retired : goal.returns-clause-retired
 returns-clause-retired c rest out h = let told = c.retire.ensures.retired in

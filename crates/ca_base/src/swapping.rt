@@ -1,0 +1,97 @@
+//! A base that a pass wrote takes the place of the one that it was shown last.
+ghost use Rattle.std.specs.Prelude.{◌≡◌, ◌<◌, ◌≤◌, ℕ, List, [], ◌∷◌};
+ghost use Rattle.ca_node.specs.Links.{IsIn};
+ghost use Rattle.ca_node.specs.Told.{IsUpdate};
+ghost use Rattle.ca_base.specs.Putting.{HasSwapped};
+ghost use Rattle.ca_base.specs.Taking.{AreApart, AreHeld, AreUnlinked};
+ghost use Rattle.ca_rows.specs.Calls.{IsOf, IsSame, IsStill};
+
+use crate::taking::give_back;
+use crate::updating::Putting;
+use ca_node::{Intent, TreePass, TreeSpace, replace_base};
+
+/// What an update does. The code hands it on and never looks at it: a proof names the update by it.
+#[derive(Clone, Copy, Debug, PartialEq, Eq)]
+pub enum Deed {
+    /// By this call, an object is put at a place of the base, and its row is the last one here.
+    Put(Putting, Result<u32, u32>, u32),
+    /// The object at a place of the base is taken away.
+    Remove(u32),
+}
+
+// The word of a new base for a statistic of 0.
+pub(crate) const STATISTIC: u64 = 1 << 32;
+
+// Carries out the update that `K` names, by one exchange of the base that was shown last against a new one, and retires what goes by that. Where
+// the exchange is lost, the rows that were written are put back.
+pub(crate) fn swap_in<K: Intent>(
+    space: &TreeSpace,
+    pass: &mut TreePass,
+    base: u32,
+    new: u32,
+    comes: &[u32],
+    goes: &[u32],
+    _deed: Deed,
+) -> bool
+    requires own { IsOf space.now.table.shared.table_id space.now.table.shared.key pass.old.seat }
+    requires update { IsUpdate space.now.table.shared.key pass.old.seat.me new K.update }
+    requires rows { (K.update.old.row ≡ base) × (K.update.comes ≡ comes.now) × (K.update.goes ≡ goes.now) }
+    requires apart { AreApart (new ∷ comes.now) × AreApart goes.now }
+    requires held { AreHeld space.now.table.shared.key.rows pass.old.kept.rows pass.old.seat.me.0.claims (new ∷ comes.now) }
+    ensures same { IsSame pass.old.seat pass.new.seat }
+    ensures number { pass.new.number ≡ pass.old.number }
+    ensures pin { (pass.new.seat.me.0.sizes ≡ pass.old.seat.me.0.sizes) × (pass.new.seat.me.0.pin ≡ pass.old.seat.me.0.pin) }
+    ensures none { AreHeld space.now.table.shared.key.rows pass.new.kept.rows pass.new.seat.me.0.claims [] }
+    ensures done { HasSwapped K.update.event space.now.table.shared.key result pass.old.seat.me.0.upper pass.new.seat.me.0.upper }
+{
+    if !replace_base::<K>(space, pass, base, new) {
+        give_back(space, pass, new);
+        give_back_all(space, pass, comes);
+        return false;
+    }
+    retire_unlinked(space, pass, base);
+    retire_all(space, pass, goes);
+    true
+}
+
+// Puts rows back that the pass holds.
+fn give_back_all(space: &TreeSpace, pass: &mut TreePass, rows: &[u32])
+    requires own { IsOf space.now.table.shared.table_id space.now.table.shared.key pass.old.seat }
+    requires apart { AreApart rows.now }
+    requires held { AreHeld space.now.table.shared.key.rows pass.old.kept.rows pass.old.seat.me.0.claims rows.now }
+    ensures same { IsStill pass.old.seat pass.new.seat }
+    ensures number { pass.new.number ≡ pass.old.number }
+    ensures none { AreHeld space.now.table.shared.key.rows pass.new.kept.rows pass.new.seat.me.0.claims [] }
+{
+    for at in 0..rows.len() {
+        give_back(space, pass, rows[at]);
+    }
+}
+
+// Retires rows that the pass unlinked.
+fn retire_all(space: &TreeSpace, pass: &mut TreePass, rows: &[u32])
+    requires own { IsOf space.now.table.shared.table_id space.now.table.shared.key pass.old.seat }
+    requires apart { AreApart rows.now }
+    requires unlinked { AreUnlinked space.now.table.shared.key.rows pass.old.kept.rows pass.old.seat.me.0.claims rows.now }
+    ensures same { IsStill pass.old.seat pass.new.seat }
+    ensures number { pass.new.number ≡ pass.old.number }
+    ensures none { AreHeld space.now.table.shared.key.rows pass.new.kept.rows pass.new.seat.me.0.claims [] }
+{
+    for at in 0..rows.len() {
+        retire_unlinked(space, pass, rows[at]);
+    }
+}
+
+// Retires a row that the pass unlinked.
+fn retire_unlinked(space: &TreeSpace, pass: &mut TreePass, row: u32)
+    requires own { IsOf space.now.table.shared.table_id space.now.table.shared.key pass.old.seat }
+    requires unlinked { (rest : List ℕ) × (¬ IsIn row rest)
+        × AreUnlinked space.now.table.shared.key.rows pass.old.kept.rows pass.old.seat.me.0.claims (row ∷ rest) }
+    ensures same { IsStill pass.old.seat pass.new.seat }
+    ensures number { pass.new.number ≡ pass.old.number }
+    ensures retired { (rest : List ℕ) → ¬ IsIn row rest
+        → AreUnlinked space.now.table.shared.key.rows pass.old.kept.rows pass.old.seat.me.0.claims (row ∷ rest)
+        → AreUnlinked space.now.table.shared.key.rows pass.new.kept.rows pass.new.seat.me.0.claims rest }
+{
+    space.retire(pass, row);
+}
