@@ -1,5 +1,5 @@
 -- What an attempt of a call looks at, and what it comes to.
-use Rattle.std.proofs.Common.{◌≡◌, ℕ, zero, suc, ◌+◌, false, ◌<◌, ◌≤◌, List, [], ◌∷◌, ◌++◌, length, map, take, Result, Ok, Err, sym, refl, ap, ◌∙◌, subst, arith}
+use Rattle.std.proofs.Common.{◌≡◌, ℕ, zero, suc, ◌+◌, false, ◌<◌, ◌≤◌, List, [], ◌∷◌, ◌++◌, length, map, take, Result, Ok, Err, IsOk, sym, refl, ap, ◌∙◌, subst, arith}
 use mathlib.Core.Option.{some, some-injective, some-ne-none}
 use lib.ListN.{get_elem?}
 use Rattle.ca_model.specs.Event.{Event, Entry, WriteNew}
@@ -71,18 +71,25 @@ entered_done z u w v event f k now same = subst (λ (y : TreeView). HasDone even
 )
 
 -- What was tried after a look.
-pub tried_on : {T : Type 0} (event : T → Event) (z : Sizes) (r : Result T Stop) (u w v : TreeView) → IsFurther u w → HasTriedTo event z r w v
-    → HasTriedTo event z r u v
-tried_on event z (Ok x) u w v f h = (done_on u w v (event x) f h.0, h.1)
-tried_on event z (Err stop) u w v f h = (further_on u w v f h.0, h.1)
+pub tried_on : {T : Type 0} (tells : T → Event → Type 0) (z : Sizes) (r : Result T Stop) (u w v : TreeView) → IsFurther u w → HasTriedTo tells z r w v
+    → HasTriedTo tells z r u v
+tried_on tells z (Ok x) u w v f h = ((h.0.0, h.0.1, done_on u w v h.0.0 f h.0.2), h.1)
+tried_on tells z (Err stop) u w v f h = (further_on u w v f h.0, h.1)
 
 -- The object that was found has the key: a new one isn't put.
-pub not_new : (z : Sizes) (u : TreeView) (base at : ℕ) (k o : List ℕ) → IsLooking z u base → IsPlaceIn z u base k (Ok at) → IsReadNow (WriteNew k o false) u
-not_new z u base at k o l p = let here = p (first_note u.notes) l.readable in (
+pub not_new : (z : Sizes) (u : TreeView) (base : ℕ) (k o : List ℕ) (place : Result ℕ ℕ) → IsOk place → IsLooking z u base
+    → IsPlace (map pair (first_note u.notes).objects) k place → IsReadNow (WriteNew k o false) u
+not_new z u base k o (Ok at) ok l p = (
   refl,
-  λ none. let found = here.equal in let same : get (map pair (first_note u.notes).objects) k ≡ [] = ap (λ (m : StoreMap). get m k) l.map_is ∙ none in
+  λ none. let found = p.equal in let same : get (map pair (first_note u.notes).objects) k ≡ [] = ap (λ (m : StoreMap). get m k) l.map_is ∙ none in
       absurd cc,
 )
+not_new z u base k o (Err at) ok l p = absurd cc
+
+-- A call that edits nothing is done.
+pub read_done : {T : Type 0} (tells : T → Event → Type 0) (z : Sizes) (base : ℕ) (u w v : TreeView) (x : T) (event : Event) → tells x event → IsFurther u w
+    → IsLooking z w base → IsReadNow event w → v ≡ entered w event → HasTriedTo tells z (Ok x) u v
+read_done tells z base u w v x event t f l now same = let d = entered_done z u w v event f l.known now same in ((event, t, d.0), d.1)
 
 -- The place that was found is one among the objects of the base that was shown last.
 pub place_still : (z : Sizes) (m m' : MyTree) (base : ℕ) (k : List ℕ) (place : Result ℕ ℕ) → m' ≡ m → IsLooking z m.0.upper base

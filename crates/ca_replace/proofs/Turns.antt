@@ -14,7 +14,7 @@ use Rattle.ca_node.specs.Told.{MyTree, IsKnown}
 use Rattle.ca_node.specs.TreeView.{TreeView, pinned, unpinned}
 use Rattle.ca_replace.specs.declared.attempting.Stop.{Stop}
 use Rattle.ca_replace.specs.declared.attempting.Stop.TheVariants as stop
-use Rattle.ca_replace.specs.Attempting.{HasTriedTo, IsEnd}
+use Rattle.ca_replace.specs.Attempting.{HasDoneAs, HasTriedTo, IfDeep, IsEnd}
 use Rattle.ca_base.specs.Progress.{IsFurther, HasDone, IsRefused}
 use Rattle.ca_replace.specs.Resting.{IsResting, known_of}
 use Rattle.ca_base.specs.Taking.{AreHeld}
@@ -44,27 +44,31 @@ holds_none table z number kept seat r = record {
 }
 
 -- What was tried while the pass was pinned.
-pub tried_pinned : {T : Type 0} (event : T → Event) (z : Sizes) (r : Result T Stop) (u v w : TreeView) → w ≡ unpinned v → HasTriedTo event z r (pinned u) v
-    → HasTriedTo event z r u w
-tried_pinned event z (Ok x) u v w same h = subst (λ (y : TreeView). HasDone (event x) u y × IsKnown z y) (sym same) (
-  record {
-    number = h.0.number;
-    seen = h.0.seen;
-    at = h.0.at;
-    from = h.0.from;
-    log = h.0.log;
-    counts = h.0.counts;
-  },
+pub tried_pinned : {T : Type 0} (tells : T → Event → Type 0) (z : Sizes) (r : Result T Stop) (u v w : TreeView) → w ≡ unpinned v
+    → HasTriedTo tells z r (pinned u) v → HasTriedTo tells z r u w
+tried_pinned tells z (Ok x) u v w same h = let d = h.0.2 in subst (λ (y : TreeView). HasDoneAs (tells x) u y × IsKnown z y) (sym same) (
+  (
+    h.0.0,
+    h.0.1,
+    record {
+      number = d.number;
+      seen = d.seen;
+      at = d.at;
+      from = d.from;
+      log = d.log;
+      counts = d.counts;
+    },
+  ),
   known_unpinned z v h.1,
 )
-tried_pinned event z (Err stop) u v w same h = subst (λ (y : TreeView). IsFurther u y × IsKnown z y) (sym same)
+tried_pinned tells z (Err stop) u v w same h = subst (λ (y : TreeView). IsFurther u y × IsKnown z y) (sym same)
     (record { number = h.0.number; seen = h.0.seen; log = h.0.log; counts = h.0.counts }, known_unpinned z v h.1)
 
 -- Whatever was tried, its history is known, and the pass has its number.
-pub tried_known : {T : Type 0} (event : T → Event) (z : Sizes) (r : Result T Stop) (u v : TreeView) → HasTriedTo event z r u v
+pub tried_known : {T : Type 0} (tells : T → Event → Type 0) (z : Sizes) (r : Result T Stop) (u v : TreeView) → HasTriedTo tells z r u v
     → IsKnown z v × (v.number ≡ u.number)
-tried_known event z (Ok x) u v h = (h.1, h.0.number)
-tried_known event z (Err stop) u v h = (h.1, h.0.number)
+tried_known tells z (Ok x) u v h = (h.1, h.0.2.number)
+tried_known tells z (Err stop) u v h = (h.1, h.0.number)
 
 -- A pass that was pinned, tried, and unpinned rests again.
 pub rests_again : (table : TableId) (z : Sizes) (number : ℕ) (kept kept' : Vec Kept Global) (seat one two last : MySeat) → IsResting table z number kept seat
@@ -84,19 +88,23 @@ rests_again table z number kept kept' seat one two last r pin table_two work hel
   known = subst (λ (m : MyTree). IsKnown z m.0.upper) (sym unpin) (known_unpinned z two.me.0.upper known.0);
 }
 
+-- what a call's contract promises of its end
+abbrev pub IsEnded : {T : Type 0} → (T → Event → Type 0) → Outcome T → ℕ → TreeView → TreeView → Type 0 → Type 0
+IsEnded tells o budget u v D = IfDone o (λ x. HasDoneAs (tells x) u v) × IfRefused o (λ rise. IsRefused rise u v) × IfBusy o (λ spent. budget ≤ spent) × IfDeep o D
+
 -- A call's end is what its contract promises.
-pub ended : {T : Type 0} (event : T → Event) (z : Sizes) (r : Result T Stop) (o : Outcome T) (kept budget : ℕ) (u w v : TreeView) → HasTriedTo event z r u w
-    → IsEnd r o kept budget w v → (IfDone o (λ x. HasDone (event x) u v) × IfRefused o (λ rise. IsRefused rise u v)) × IfBusy o (λ spent. budget ≤ spent)
-ended {T} event z (Ok x) o kept budget u w v h e = subst (λ (y : Outcome T). (IfDone y (λ x'. HasDone (event x') u v) × IfRefused y (λ rise. IsRefused rise u v))
-    × IfBusy y (λ spent. budget ≤ spent)) (sym e.0) ((subst (HasDone (event x) u) (sym e.1) h.0, tt), tt)
-ended {T} event z (Err stop.Lost) o kept budget u w v h e = subst (λ (y : Outcome T). (IfDone y (λ x'. HasDone (event x') u v)
-    × IfRefused y (λ rise. IsRefused rise u v)) × IfBusy y (λ spent. budget ≤ spent)) (sym e.0) ((tt, refused_on u w v one_more_busy h.0 e.1), omega arith)
-ended {T} event z (Err stop.Empty) o kept budget u w v h e = subst (λ (y : Outcome T). (IfDone y (λ x'. HasDone (event x') u v)
-    × IfRefused y (λ rise. IsRefused rise u v)) × IfBusy y (λ spent. budget ≤ spent)) (sym e.0) ((tt, refused_on u w v one_more_full h.0 e.1), tt)
-ended {T} event z (Err stop.Worn) o kept budget u w v h e = subst (λ (y : Outcome T). (IfDone y (λ x'. HasDone (event x') u v)
-    × IfRefused y (λ rise. IsRefused rise u v)) × IfBusy y (λ spent. budget ≤ spent)) (sym e.0) ((tt, refused_on u w v one_more_worn h.0 e.1), tt)
-ended {T} event z (Err stop.Deep) o kept budget u w v h e = subst (λ (y : Outcome T). (IfDone y (λ x'. HasDone (event x') u v)
-    × IfRefused y (λ rise. IsRefused rise u v)) × IfBusy y (λ spent. budget ≤ spent)) (sym e.0) ((tt, refused_on u w v one_more_deep h.0 e.1), tt)
+pub ended : {T : Type 0} (tells : T → Event → Type 0) (z : Sizes) (r : Result T Stop) (o : Outcome T) (kept budget : ℕ) (u w v : TreeView) (D : Type 0)
+    → (r ≡ Err stop.Deep → D) → HasTriedTo tells z r u w → IsEnd r o kept budget w v → IsEnded tells o budget u v D
+ended {T} tells z (Ok x) o kept budget u w v D d h e = subst (λ (y : Outcome T). IsEnded tells y budget u v D) (sym e.0)
+    (subst (HasDoneAs (tells x) u) (sym e.1) h.0, tt, tt, tt)
+ended {T} tells z (Err stop.Lost) o kept budget u w v D d h e = subst (λ (y : Outcome T). IsEnded tells y budget u v D) (sym e.0)
+    (tt, refused_on u w v one_more_busy h.0 e.1, omega arith, tt)
+ended {T} tells z (Err stop.Empty) o kept budget u w v D d h e = subst (λ (y : Outcome T). IsEnded tells y budget u v D) (sym e.0)
+    (tt, refused_on u w v one_more_full h.0 e.1, tt, tt)
+ended {T} tells z (Err stop.Worn) o kept budget u w v D d h e = subst (λ (y : Outcome T). IsEnded tells y budget u v D) (sym e.0)
+    (tt, refused_on u w v one_more_worn h.0 e.1, tt, tt)
+ended {T} tells z (Err stop.Deep) o kept budget u w v D d h e = subst (λ (y : Outcome T). IsEnded tells y budget u v D) (sym e.0)
+    (tt, refused_on u w v one_more_deep h.0 e.1, tt, d refl)
 
 -- A pass that rests and is counted a refusal rests.
 pub rests_refused : (table : TableId) (z : Sizes) (number : ℕ) (kept : Vec Kept Global) (seat last : MySeat) (counts : Counts) → IsResting table z number kept seat
@@ -131,9 +139,9 @@ none_pinned table z number kept kept' seat one e u r is same = subst (λ (x : My
     (λ i. (sym is i, sym same i)) (holds_none table z number kept.rows seat r)
 
 -- A lost attempt learnt of others' edits alone.
-pub lost_further : {T : Type 0} (event : T → Event) (z : Sizes) (r : Result T Stop) (u v : TreeView) → r ≡ Err stop.Lost → HasTriedTo event z r u v
+pub lost_further : {T : Type 0} (tells : T → Event → Type 0) (z : Sizes) (r : Result T Stop) (u v : TreeView) → r ≡ Err stop.Lost → HasTriedTo tells z r u v
     → IsFurther u v
-lost_further event z r u v e h = (subst (λ (x : Result _ Stop). HasTriedTo event z x u v) e h).0
+lost_further tells z r u v e h = (subst (λ (x : Result _ Stop). HasTriedTo tells z x u v) e h).0
 
 pub no_further : (u : TreeView) → IsFurther u u
 no_further u = record { number = refl; seen = starts_whole u.seen; log = refl; counts = refl }
@@ -146,6 +154,15 @@ if_met event z (outcome.Busy s) u v a b h = tt
 if_met event z (outcome.Full s) u v a b h = tt
 if_met event z (outcome.Deep s) u v a b h = tt
 if_met event z (outcome.Worn s) u v a b h = tt
+
+-- One that is told to be this event is this event.
+pub if_done : {T : Type 0} (event : T → Event) (o : Outcome T) (u v : TreeView) → IfDone o (λ x. HasDoneAs (λ e. e ≡ event x) u v)
+    → IfDone o (λ x. HasDone (event x) u v)
+if_done event (outcome.Done x) u v h = subst (λ (e : Event). HasDone e u v) h.1 h.2
+if_done event (outcome.Busy s) u v h = tt
+if_done event (outcome.Full s) u v h = tt
+if_done event (outcome.Deep s) u v h = tt
+if_done event (outcome.Worn s) u v h = tt
 
 -- One that is refused declines.
 pub if_declined : {T : Type 0} (z : Sizes) (o : Outcome T) (u v : TreeView) → IsKnown z u → IsKnown z v → IfRefused o (λ rise. IsRefused rise u v)

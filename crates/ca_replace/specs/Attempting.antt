@@ -1,10 +1,11 @@
 -- Attempts of a call: each looks at the tree anew.
-use Rattle.std.specs.Prelude.{◌≡◌, ℕ, [], map, None, Result, Ok, Err}
+use Rattle.std.specs.Prelude.{◌≡◌, ℕ, ◌≤◌, List, [], length, map, slice_range, None, Result, Ok, Err}
 use Rattle.ca_model.specs.declared.outcome.Counter.TheVariants as counter
 use Rattle.ca_model.specs.declared.outcome.Outcome.{Outcome}
 use Rattle.ca_model.specs.declared.outcome.Outcome.TheVariants as outcome
 use Rattle.ca_model.specs.Event.{Event}
 use Rattle.ca_model.specs.History.{after}
+use Rattle.ca_model.specs.StoreMap.{IsPair}
 use Rattle.ca_node.specs.Row.{pair}
 use Rattle.ca_node.specs.Told.{IsKnown}
 use Rattle.ca_node.specs.TreeView.{TreeView}
@@ -30,7 +31,23 @@ IsEnd (Err stop.Empty) r kept budget u v = (r ≡ outcome.Full (record { kept = 
 IsEnd (Err stop.Worn) r kept budget u v = (r ≡ outcome.Worn counter.PoolTag) × IsRefused one_more_worn u v
 IsEnd (Err stop.Deep) r kept budget u v = (r ≡ outcome.Deep 0) × IsRefused one_more_deep u v
 
--- The attempt did the call, which is this event; or it came to a stop, and learnt of others' edits alone.
-abbrev pub HasTriedTo : {T : Type 0} → (T → Event) → Sizes → Result T Stop → TreeView → TreeView → Type 0
-HasTriedTo event z (Ok x) u v = HasDone (event x) u v × IsKnown z v
-HasTriedTo event z (Err stop) u v = IsFurther u v × IsKnown z v
+-- A call was entered in the log, one that is told so.
+abbrev pub HasDoneAs : (Event → Type 0) → TreeView → TreeView → Type 0
+HasDoneAs tells u v = (event : Event) × tells event × HasDone event u v
+
+-- The attempt did the call, which is told so; or it came to a stop, and learnt of others' edits alone.
+abbrev pub HasTriedTo : {T : Type 0} → (T → Event → Type 0) → Sizes → Result T Stop → TreeView → TreeView → Type 0
+HasTriedTo tells z (Ok x) u v = HasDoneAs (tells x) u v × IsKnown z v
+HasTriedTo tells z (Err stop) u v = IsFurther u v × IsKnown z v
+
+-- Where the call is refused for want of levels, this holds.
+abbrev pub IfDeep : {T : Type 0} → Outcome T → Type 0 → Type 0
+IfDeep (outcome.Done x) P = Unit {0}
+IfDeep (outcome.Busy s) P = Unit {0}
+IfDeep (outcome.Full s) P = Unit {0}
+IfDeep (outcome.Deep s) P = P
+IfDeep (outcome.Worn s) P = Unit {0}
+
+-- The object has its key between these bytes.
+abbrev pub HasKeyAt : ℕ → List ℕ → ℕ → ℕ → Type 0
+HasKeyAt keypos object key_at key_end = ((key_at ≤ key_end) × (key_end ≤ length object)) × IsPair keypos (slice_range object key_at key_end, object)

@@ -1,16 +1,19 @@
 //! Attempts of a call that edits.
-ghost use Rattle.std.specs.Prelude.{◌≡◌, ◌<◌, ◌≤◌, ◌↔◌, [], length, map, slice_range, true, IsTrue};
+ghost use Rattle.std.specs.Prelude.{◌≡◌, ◌≢◌, ◌<◌, ◌≤◌, ◌↔◌, Bool, Err, OnOk, [], length, map, slice_range, true, IsTrue};
 ghost use Rattle.arrayvec.specs.ArrayVec.{array_vec_len};
 ghost use Rattle.ca_model.proofs.Places.{IsPlace};
+ghost use Rattle.ca_model.specs.Event.{Event};
 ghost use Rattle.ca_model.specs.StoreMap.{IsPair};
 ghost use Rattle.ca_node.specs.Row.{items as items_of, pair};
+ghost use Rattle.ca_replace.specs.declared.attempting.Stop.TheVariants.{Deep as IsDeep};
 ghost use Rattle.ca_replace.specs.Attempting.{IsLooking, HasTriedTo};
 ghost use Rattle.ca_base.specs.Progress.{IsFurther};
 ghost use Rattle.ca_base.specs.Putting.{object_at, IsRoom, IsFor, first_note, put_event};
 ghost use Rattle.ca_base.specs.Taking.{AreHeld};
+ghost use Rattle.ca_rows.specs.declared.sizes.Sizes.{Sizes};
 ghost use Rattle.ca_rows.specs.Calls.{IsOf, IsSame};
 
-use ca_base::{NoRow, Putting, count, item, put_at};
+use ca_base::{NoRow, Putting, count, item, put_at, search};
 use ca_leaf::Items;
 use ca_node::{Spot, TreePass, TreeSpace, walk};
 
@@ -27,8 +30,69 @@ pub(crate) enum Stop {
     Deep,
 }
 
-/// The base that has the key. It is shown to the pass, which has seen the whole history then.
-pub(crate) fn look(space: &TreeSpace, pass: &mut TreePass, key: &[u8]) -> u32
+/// A call that may edit, and what one attempt of it does.
+pub(crate) trait Attempt {
+    /// What the call answers.
+    type Answer: Copy;
+
+    /// What it leaves with its caller beside the answer.
+    type Left;
+
+    /// Where its attempts write what they need for themselves.
+    type Room;
+
+    /// Whether the call may be made on a tree of these sizes.
+    ghost may: { Self → Sizes → Type 0 };
+
+    /// Whether the call is this event, given its answer and what it left.
+    ghost tells: { Self → Self.Answer → Self.Left → Event → Type 0 };
+
+    /// Whether it may add a key, for which a base may have no room.
+    ghost adds: { Bool };
+
+    /// One attempt, of a pass that is pinned and holds no row.
+    fn attempt(
+        &self,
+        space: &TreeSpace,
+        pass: &mut TreePass,
+        leaf: u8,
+        left: &mut Self::Left,
+        room: &mut Self::Room,
+    ) -> Result<Self::Answer, Stop>
+        requires own { IsOf space.now.table.shared.table_id space.now.table.shared.key pass.old.seat }
+        requires pinned { pass.old.seat.me.0.pin.pinned ≡ true }
+        requires number { 0 < pass.old.seat.me.0.upper.number }
+        requires none { AreHeld space.now.table.shared.key.rows pass.old.kept.rows pass.old.seat.me.0.claims [] }
+        requires leaf { (leaf ≡ space.now.table.shared.key.leaf) × (leaf ≤ 120) }
+        requires may { may self.now space.now.table.shared.key }
+        ensures same { IsSame pass.old.seat pass.new.seat }
+        ensures number { pass.new.number ≡ pass.old.number }
+        ensures pin { (pass.new.seat.me.0.sizes ≡ pass.old.seat.me.0.sizes) × (pass.new.seat.me.0.pin ≡ pass.old.seat.me.0.pin) }
+        ensures none { AreHeld space.now.table.shared.key.rows pass.new.kept.rows pass.new.seat.me.0.claims [] }
+        ensures tried { HasTriedTo (λ answer. tells self.now answer left.new) space.now.table.shared.key result pass.old.seat.me.0.upper pass.new.seat.me.0.upper }
+        ensures deep { result ≡ Err IsDeep → adds ≡ true };
+}
+
+/// The base that has the key, and the key's place among its objects. It is shown to the pass, which has seen the whole history then.
+pub(crate) fn find(space: &TreeSpace, pass: &mut TreePass, key: &[u8]) -> (u32, Result<u32, u32>)
+    requires own { IsOf space.now.table.shared.table_id space.now.table.shared.key pass.old.seat }
+    requires pinned { pass.old.seat.me.0.pin.pinned ≡ true }
+    requires leaf { space.now.table.shared.key.leaf ≤ 120 }
+    ensures same { IsSame pass.old.seat pass.new.seat }
+    ensures number { pass.new.number ≡ pass.old.number }
+    ensures kept { pass.new.kept ≡ pass.old.kept }
+    ensures still { (pass.new.seat.me.0.sizes ≡ pass.old.seat.me.0.sizes) × (pass.new.seat.me.0.pin ≡ pass.old.seat.me.0.pin) × (pass.new.seat.me.0.claims ≡ pass.old.seat.me.0.claims) }
+    ensures looking { IsLooking space.now.table.shared.key pass.new.seat.me.0.upper result.0 }
+    ensures place { IsPlace (map pair (first_note pass.new.seat.me.0.upper.notes).objects) key.now result.1 }
+    ensures further { IsFurther pass.old.seat.me.0.upper pass.new.seat.me.0.upper }
+{
+    let base = look(space, pass, key);
+    let place = search(space, pass, base, key);
+    (base, place)
+}
+
+// The base that has the key.
+fn look(space: &TreeSpace, pass: &mut TreePass, key: &[u8]) -> u32
     requires own { IsOf space.now.table.shared.table_id space.now.table.shared.key pass.old.seat }
     requires pinned { pass.old.seat.me.0.pin.pinned ≡ true }
     requires leaf { space.now.table.shared.key.leaf ≤ 120 }
@@ -88,7 +152,8 @@ pub(crate) fn put_there(
     ensures number { pass.new.number ≡ pass.old.number }
     ensures pin { (pass.new.seat.me.0.sizes ≡ pass.old.seat.me.0.sizes) × (pass.new.seat.me.0.pin ≡ pass.old.seat.me.0.pin) }
     ensures none { AreHeld space.now.table.shared.key.rows pass.new.kept.rows pass.new.seat.me.0.claims [] }
-    ensures tried { HasTriedTo (λ _. put_event why (slice_range object.now key_at key_end) (object_at place (first_note pass.old.seat.me.0.upper.notes).objects) object.now) space.now.table.shared.key result pass.old.seat.me.0.upper pass.new.seat.me.0.upper }
+    ensures tried { HasTriedTo (λ _ event. event ≡ put_event why (slice_range object.now key_at key_end) (object_at place (first_note pass.old.seat.me.0.upper.notes).objects) object.now) space.now.table.shared.key result pass.old.seat.me.0.upper pass.new.seat.me.0.upper }
+    ensures deep { OnOk place (result ≢ Err IsDeep) }
 {
     let items = read_items(space, pass, base);
     if !has_room(&items, place, leaf) {

@@ -1,62 +1,59 @@
 //! Calls of a pass that rests: attempts, as many as the budget allows, and how they end.
-ghost use Rattle.std.specs.Prelude.{◌≡◌, ◌≤◌, Err, IsTrue, length, slice_range};
+ghost use Rattle.std.specs.Prelude.{◌≡◌, ◌≤◌, Err, IsTrue, true};
 ghost use Rattle.ca_model.specs.Answer.{IfBusy, IfDone, IfRefused};
-ghost use Rattle.ca_model.specs.Event.{Write, WriteNew};
-ghost use Rattle.ca_model.specs.StoreMap.{IsPair};
-ghost use Rattle.ca_replace.specs.declared.attempting.Stop.TheVariants.{Lost as IsLost};
-ghost use Rattle.ca_replace.specs.Attempting.{HasTriedTo, IsEnd};
-ghost use Rattle.ca_base.specs.Progress.{HasDone, IsRefused};
+ghost use Rattle.ca_replace.specs.declared.attempting.Stop.TheVariants.{Deep as IsDeep, Lost as IsLost};
+ghost use Rattle.ca_replace.specs.Attempting.{HasDoneAs, HasTriedTo, IfDeep, IsEnd};
+ghost use Rattle.ca_base.specs.Progress.{IsRefused};
 ghost use Rattle.ca_replace.specs.Refusals.{risen};
 ghost use Rattle.ca_replace.specs.Resting.{IsResting};
 
-use crate::attempting::Stop;
-use crate::puts::{try_put, try_put_new};
+use crate::attempting::{Attempt, Stop};
 use crate::refusing::{Refusal, refuse};
 use crate::tree::Tree;
 use ca_model::{Counter, FullCause, Outcome, Spent};
 use ca_node::TreePass;
 
-/// Puts an object where there is none with its key.
-pub(crate) fn put_new(
+/// Makes a call: attempts of it, as many as the budget allows, until one isn't lost to another pass.
+pub(crate) fn call<A: Attempt>(
     tree: &Tree,
     pass: &mut TreePass,
-    object: &[u8],
-    key_at: usize,
-    key_end: usize,
+    what: &A,
+    left: &mut A::Left,
+    room: &mut A::Room,
     budget: u32,
-) -> Outcome<bool>
+) -> Outcome<A::Answer>
     requires resting { IsResting tree.now.space.table.shared.table_id tree.now.space.table.shared.key pass.old.number pass.old.kept.rows pass.old.seat }
-    requires within { (key_at ≤ key_end) × (key_end ≤ length object.now) }
-    requires pair { IsPair tree.now.space.table.shared.key.keypos (slice_range object.now key_at key_end, object.now) }
+    requires may { A.may what.now tree.now.space.table.shared.key }
     ensures number { pass.new.number ≡ pass.old.number }
     ensures resting { IsResting tree.now.space.table.shared.table_id tree.now.space.table.shared.key pass.new.number pass.new.kept.rows pass.new.seat }
-    ensures put { IfDone result (λ new. HasDone (WriteNew (slice_range object.now key_at key_end) object.now new) pass.old.seat.me.0.upper pass.new.seat.me.0.upper) }
+    ensures done { IfDone result (λ answer. HasDoneAs (A.tells what.now answer left.new) pass.old.seat.me.0.upper pass.new.seat.me.0.upper) }
     ensures refused { IfRefused result (λ rise. IsRefused rise pass.old.seat.me.0.upper pass.new.seat.me.0.upper) }
+    ensures deep { IfDeep result (A.adds ≡ true) }
     ensures busy { IfBusy result (λ spent. budget ≤ spent) }
 {
     let kept = pass.kept();
-    let tried = put_new_tries(tree, pass, object, key_at, key_end, budget);
+    let tried = tries(tree, pass, what, left, room, budget);
     finish(tree, pass, tried, kept, budget)
 }
 
-// Attempts to put an object where there is none with its key, until one isn't lost to another pass.
-fn put_new_tries(
+// Attempts of a call, until one isn't lost to another pass.
+fn tries<A: Attempt>(
     tree: &Tree,
     pass: &mut TreePass,
-    object: &[u8],
-    key_at: usize,
-    key_end: usize,
+    what: &A,
+    left: &mut A::Left,
+    room: &mut A::Room,
     budget: u32,
-) -> Result<bool, Stop>
+) -> Result<A::Answer, Stop>
     requires resting { IsResting tree.now.space.table.shared.table_id tree.now.space.table.shared.key pass.old.number pass.old.kept.rows pass.old.seat }
-    requires within { (key_at ≤ key_end) × (key_end ≤ length object.now) }
-    requires pair { IsPair tree.now.space.table.shared.key.keypos (slice_range object.now key_at key_end, object.now) }
+    requires may { A.may what.now tree.now.space.table.shared.key }
     ensures number { pass.new.number ≡ pass.old.number }
     ensures resting { IsResting tree.now.space.table.shared.table_id tree.now.space.table.shared.key pass.new.number pass.new.kept.rows pass.new.seat }
-    ensures tried { HasTriedTo (λ new. WriteNew (slice_range object.now key_at key_end) object.now new) tree.now.space.table.shared.key result pass.old.seat.me.0.upper pass.new.seat.me.0.upper }
+    ensures tried { HasTriedTo (λ answer. A.tells what.now answer left.new) tree.now.space.table.shared.key result pass.old.seat.me.0.upper pass.new.seat.me.0.upper }
+    ensures deep { result ≡ Err IsDeep → A.adds ≡ true }
 {
     for _turn in 0..budget {
-        let tried = put_new_once(tree, pass, object, key_at, key_end);
+        let tried = once(tree, pass, what, left, room);
         if !is_lost(&tried) {
             return tried;
         }
@@ -71,94 +68,24 @@ fn is_lost<T>(tried: &Result<T, Stop>) -> bool
     matches!(tried, Err(Stop::Lost))
 }
 
-// One attempt to put an object where there is none with its key, while the pass is pinned.
-fn put_new_once(
+// One attempt of a call, while the pass is pinned.
+fn once<A: Attempt>(
     tree: &Tree,
     pass: &mut TreePass,
-    object: &[u8],
-    key_at: usize,
-    key_end: usize,
-) -> Result<bool, Stop>
+    what: &A,
+    left: &mut A::Left,
+    room: &mut A::Room,
+) -> Result<A::Answer, Stop>
     requires resting { IsResting tree.now.space.table.shared.table_id tree.now.space.table.shared.key pass.old.number pass.old.kept.rows pass.old.seat }
-    requires within { (key_at ≤ key_end) × (key_end ≤ length object.now) }
-    requires pair { IsPair tree.now.space.table.shared.key.keypos (slice_range object.now key_at key_end, object.now) }
+    requires may { A.may what.now tree.now.space.table.shared.key }
     ensures number { pass.new.number ≡ pass.old.number }
     ensures resting { IsResting tree.now.space.table.shared.table_id tree.now.space.table.shared.key pass.new.number pass.new.kept.rows pass.new.seat }
-    ensures tried { HasTriedTo (λ new. WriteNew (slice_range object.now key_at key_end) object.now new) tree.now.space.table.shared.key result pass.old.seat.me.0.upper pass.new.seat.me.0.upper }
+    ensures tried { HasTriedTo (λ answer. A.tells what.now answer left.new) tree.now.space.table.shared.key result pass.old.seat.me.0.upper pass.new.seat.me.0.upper }
+    ensures deep { result ≡ Err IsDeep → A.adds ≡ true }
 {
     let space = &tree.space;
     space.pin(pass);
-    let tried = try_put_new(space, pass, tree.tuning.leaf, object, key_at, key_end);
-    space.unpin(pass);
-    tried
-}
-
-/// Puts an object.
-pub(crate) fn put(
-    tree: &Tree,
-    pass: &mut TreePass,
-    object: &[u8],
-    key_at: usize,
-    key_end: usize,
-    budget: u32,
-) -> Outcome<()>
-    requires resting { IsResting tree.now.space.table.shared.table_id tree.now.space.table.shared.key pass.old.number pass.old.kept.rows pass.old.seat }
-    requires within { (key_at ≤ key_end) × (key_end ≤ length object.now) }
-    requires pair { IsPair tree.now.space.table.shared.key.keypos (slice_range object.now key_at key_end, object.now) }
-    ensures number { pass.new.number ≡ pass.old.number }
-    ensures resting { IsResting tree.now.space.table.shared.table_id tree.now.space.table.shared.key pass.new.number pass.new.kept.rows pass.new.seat }
-    ensures put { IfDone result (λ _. HasDone (Write (slice_range object.now key_at key_end) object.now) pass.old.seat.me.0.upper pass.new.seat.me.0.upper) }
-    ensures refused { IfRefused result (λ rise. IsRefused rise pass.old.seat.me.0.upper pass.new.seat.me.0.upper) }
-    ensures busy { IfBusy result (λ spent. budget ≤ spent) }
-{
-    let kept = pass.kept();
-    let tried = put_tries(tree, pass, object, key_at, key_end, budget);
-    finish(tree, pass, tried, kept, budget)
-}
-
-// Attempts to put an object, until one isn't lost to another pass.
-fn put_tries(
-    tree: &Tree,
-    pass: &mut TreePass,
-    object: &[u8],
-    key_at: usize,
-    key_end: usize,
-    budget: u32,
-) -> Result<(), Stop>
-    requires resting { IsResting tree.now.space.table.shared.table_id tree.now.space.table.shared.key pass.old.number pass.old.kept.rows pass.old.seat }
-    requires within { (key_at ≤ key_end) × (key_end ≤ length object.now) }
-    requires pair { IsPair tree.now.space.table.shared.key.keypos (slice_range object.now key_at key_end, object.now) }
-    ensures number { pass.new.number ≡ pass.old.number }
-    ensures resting { IsResting tree.now.space.table.shared.table_id tree.now.space.table.shared.key pass.new.number pass.new.kept.rows pass.new.seat }
-    ensures tried { HasTriedTo (λ _. Write (slice_range object.now key_at key_end) object.now) tree.now.space.table.shared.key result pass.old.seat.me.0.upper pass.new.seat.me.0.upper }
-{
-    for _turn in 0..budget {
-        let tried = put_once(tree, pass, object, key_at, key_end);
-        if !is_lost(&tried) {
-            return tried;
-        }
-    }
-    Err(Stop::Lost)
-}
-
-// One attempt to put an object, while the pass is pinned.
-fn put_once(
-    tree: &Tree,
-    pass: &mut TreePass,
-    object: &[u8],
-    key_at: usize,
-    key_end: usize,
-) -> Result<(), Stop>
-    requires resting { IsResting tree.now.space.table.shared.table_id tree.now.space.table.shared.key pass.old.number pass.old.kept.rows pass.old.seat }
-    requires within { (key_at ≤ key_end) × (key_end ≤ length object.now) }
-    requires pair { IsPair tree.now.space.table.shared.key.keypos (slice_range object.now key_at key_end, object.now) }
-    ensures number { pass.new.number ≡ pass.old.number }
-    ensures resting { IsResting tree.now.space.table.shared.table_id tree.now.space.table.shared.key pass.new.number pass.new.kept.rows pass.new.seat }
-    ensures tried { HasTriedTo (λ _. Write (slice_range object.now key_at key_end) object.now) tree.now.space.table.shared.key result pass.old.seat.me.0.upper pass.new.seat.me.0.upper }
-{
-    let space = &tree.space;
-    space.pin(pass);
-    let tried = try_put(space, pass, tree.tuning.leaf, object, key_at, key_end);
+    let tried = what.attempt(space, pass, tree.tuning.leaf, left, room);
     space.unpin(pass);
     tried
 }

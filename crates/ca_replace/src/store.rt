@@ -7,8 +7,8 @@ ghost use Rattle.ca_model.specs.StoreMap.{IsPair};
 ghost use Rattle.ca_replace.specs.Resting.{IsResting, knows};
 ghost use Rattle.ca_term.specs.declared.bounds.TheConstants.{MOST_CODE_BYTES};
 
-use crate::calls;
 use crate::looking::look_up;
+use crate::puts;
 use crate::tree::Tree;
 use ca_model::{Code, Outcome};
 use ca_node::{Front, Link, Spot, TreePass, front, learn, load_link, walk};
@@ -105,7 +105,7 @@ impl TreeStore<'_> {
         ensures tree { (self.new.table ≡ self.old.table) × (self.new.z ≡ self.old.z) }
         ensures number { self.new.number ≡ self.old.number }
     {
-        calls::put(self.tree, &mut self.pass, object, key_at, key_end, budget)
+        puts::put(self.tree, &mut self.pass, object, key_at, key_end, budget)
     }
 
     /// Puts the object where no object has its key, and answers whether it did. Its key stands in it from `key_at` to `key_end`. It is
@@ -130,7 +130,7 @@ impl TreeStore<'_> {
         ensures tree { (self.new.table ≡ self.old.table) × (self.new.z ≡ self.old.z) }
         ensures number { self.new.number ≡ self.old.number }
     {
-        calls::put_new(self.tree, &mut self.pass, object, key_at, key_end, budget)
+        puts::put_new(self.tree, &mut self.pass, object, key_at, key_end, budget)
     }
 
     /// A copy of what the pass has seen of the tree's history.

@@ -1,0 +1,38 @@
+use Rattle.std.proofs.Common.{sym, ap, ◌∙◌, subst, arith}
+use Rattle.ca_node.specs.Told.{MyTree}
+use Rattle.ca_replace.specs.Attempting.{HasTriedTo}
+use Rattle.ca_rows.specs.declared.sizes.Sizes.{Sizes}
+use Rattle.ca_replace.proofs.Turns.{rests_as, rests_again, none_pinned, tried_pinned, tried_known}
+use Rattle.ca_replace.proofs.calls.once.Goals as goal
+
+pub attempt-tried-requires-clause-number : goal.attempt-tried-requires-clause-number
+attempt-tried-requires-clause-number g c = let n = c.requires.resting.numbered.1 in
+    omega (arith, ap (λ (m : MyTree). m.0.upper.number) c.pin.ensures.pinned.3, c.requires.resting.same_number)
+
+pub attempt-tried-requires-clause-none : goal.attempt-tried-requires-clause-none
+attempt-tried-requires-clause-none g c = none_pinned c.args.tree.now.space.table.shared.table_id c.args.tree.now.space.table.shared.key c.args.pass.now.number
+    c.args.pass.now.kept c.pin.new.pass.kept c.args.pass.now.seat c.pin.new.pass.seat _ _ c.requires.resting c.pin.ensures.pinned.3 c.pin.ensures.kept
+
+pub attempt-tried-requires-clause-leaf : goal.attempt-tried-requires-clause-leaf
+attempt-tried-requires-clause-leaf g c = let tree = c.args.tree.now in let most = tree.tuned.allowed.most_leaf in
+    (sym tree.tuned.leaf ∙ ap (λ (y : Sizes). y.leaf) tree.space.same, omega arith)
+
+pub returns-clause-resting : goal.returns-clause-resting
+returns-clause-resting g c = let space = c.args.tree.now.space.table.shared in let pin = c.pin.ensures.pinned.3 in let two = c.attempt-tried.ensures in
+    let tells = λ (x : _). g.A.Attempt.tells c.args.what.now x c.attempt-tried.new.left in
+    rests_as space.table_id space.key c.args.pass.now.number c.unpin.new.pass.number c.attempt-tried.new.pass.kept c.unpin.new.pass.kept c.unpin.new.pass.seat
+    (c.unpin.ensures.number ∙ (two.number ∙ c.pin.ensures.number)) c.unpin.ensures.kept
+    (rests_again space.table_id space.key c.args.pass.now.number c.args.pass.now.kept.rows c.attempt-tried.new.pass.kept.rows c.args.pass.now.seat c.pin.new.pass.seat
+    c.attempt-tried.new.pass.seat c.unpin.new.pass.seat c.requires.resting
+    (ap (λ (m : MyTree). m.0.sizes) pin, ap (λ (m : MyTree). m.0.pin.number) pin, ap (λ (m : MyTree). m.0.upper.number) pin)
+    (two.same.0 ∙ c.pin.ensures.same.0) two.pin two.none
+    (tried_known tells space.key c.attempt-tried.result c.pin.new.pass.seat.me.0.upper c.attempt-tried.new.pass.seat.me.0.upper two.tried)
+    c.unpin.ensures.same.0 c.unpin.ensures.unpinned)
+
+pub returns-clause-tried : goal.returns-clause-tried
+returns-clause-tried g c = let z = c.args.tree.now.space.table.shared.key in
+    let tells = λ (x : _). g.A.Attempt.tells c.args.what.now x c.attempt-tried.new.left in
+    tried_pinned tells z c.attempt-tried.result c.args.pass.now.seat.me.0.upper c.attempt-tried.new.pass.seat.me.0.upper c.unpin.new.pass.seat.me.0.upper
+    (ap (λ (m : MyTree). m.0.upper) c.unpin.ensures.unpinned)
+    (subst (λ (m : MyTree). HasTriedTo tells z c.attempt-tried.result m.0.upper c.attempt-tried.new.pass.seat.me.0.upper) c.pin.ensures.pinned.3
+    c.attempt-tried.ensures.tried)
