@@ -1,21 +1,22 @@
 -- What an attempt of a call looks at, and what it comes to.
-use Rattle.std.proofs.Common.{◌≡◌, ℕ, zero, suc, ◌+◌, false, ◌<◌, ◌≤◌, List, [], ◌∷◌, ◌++◌, length, map, take, Result, Ok, Err, IsOk, sym, refl, ap, ◌∙◌, subst, arith}
+use Rattle.std.proofs.Common.{◌≡◌, ℕ, zero, suc, ◌+◌, false, ◌<◌, ◌≤◌, List, [], ◌∷◌, ◌++◌, length, map, take, get_or, Result, Ok, Err, IsOk, Some, sym, refl, ap, ◌∙◌, subst, arith}
 use mathlib.Core.Option.{some, some-injective, some-ne-none}
 use lib.ListN.{get_elem?}
 use Rattle.ca_model.specs.Event.{Event, Entry, WriteNew}
 use Rattle.ca_model.specs.Lawful.{IsPlaceFrom}
-use Rattle.ca_model.specs.StoreMap.{StoreMap, IsStoreMap, get}
-use Rattle.ca_model.proofs.Edits.{map_after}
+use Rattle.ca_model.specs.StoreMap.{StoreMap, IsFound, IsStoreMap, get}
+use Rattle.ca_model.proofs.Edits.{map_after, found_pair}
 use Rattle.ca_model.proofs.Places.{IsPlace}
 use Rattle.ca_node.specs.Laws.{starts_whole}
-use Rattle.ca_node.specs.Row.{items, pair}
+use Rattle.ca_node.specs.Row.{items, object, pair}
 use Rattle.ca_node.specs.Told.{MyTree, IsBaseNote, IsKnown, led, IsLed, IsReadNow, entered}
 use Rattle.ca_node.specs.TreeView.{TreeView}
 use Rattle.ca_node.proofs.Looking.{starts_shorter}
 use Rattle.ca_replace.specs.declared.attempting.Stop.{Stop}
-use Rattle.ca_replace.specs.Attempting.{IsLooking, HasTriedTo}
+use Rattle.ca_replace.specs.Attempting.{IsLooking, HasFetched, HasDoneAs, HasTriedTo}
 use Rattle.ca_base.specs.Finding.{IsPlaceIn}
 use Rattle.ca_base.specs.Progress.{IsFurther, HasDone}
+use Rattle.ca_base.proofs.Searching.{found_object}
 use Rattle.ca_replace.proofs.Entries.{known_read}
 use Rattle.ca_replace.proofs.Meeting.{further_on, done_on}
 use Rattle.ca_base.specs.Putting.{first_note, IsShownLast}
@@ -96,3 +97,17 @@ pub place_still : (z : Sizes) (m m' : MyTree) (base : ℕ) (k : List ℕ) (place
     → IsPlaceIn z m.0.upper base k place → IsPlace (map pair (first_note m'.0.upper.notes).objects) k place
 place_still z m m' base k place same l p = subst (λ (x : MyTree). IsPlace (map pair (first_note x.0.upper.notes).objects) k place) (sym same)
     (p (first_note m.0.upper.notes) l.readable)
+
+-- A call that was told as this event is done, after a look.
+pub did : {T : Type 0} (tells : T → Event → Type 0) (z : Sizes) (event : Event) (x : T) (u w v : TreeView) → tells x event → IsFurther u w
+    → HasDoneAs (λ e. e ≡ event) w v × IsKnown z v → HasTriedTo tells z (Ok x) u v
+did tells z event x u w v t f h = ((event, t, done_on u w v event f (subst (λ (e : Event). HasDone e w v) h.0.1 h.0.2)), h.1)
+
+-- What was copied is the key's object.
+pub fetched : (z : Sizes) (u : TreeView) (base at : ℕ) (key old : List ℕ) → IsLooking z u base → IsPlace (map pair (first_note u.notes).objects) key (Ok at)
+    → old ≡ object (get_or (first_note u.notes).objects at []) → HasFetched z u key (Ok at) old
+fetched z u base at key old l p e = let note = first_note u.notes in let found = found_object note key old at p e in (
+  subst (λ (m : StoreMap). IsFound m key (Some old)) l.map_is found,
+  found_pair z.keypos (map pair note.objects) key old l.readable.ordered found,
+  sym e,
+)

@@ -1,11 +1,11 @@
 -- Attempts of a call: each looks at the tree anew.
-use Rattle.std.specs.Prelude.{◌≡◌, ℕ, ◌≤◌, List, [], length, map, slice_range, None, Result, Ok, Err}
+use Rattle.std.specs.Prelude.{◌≡◌, ℕ, ◌≤◌, List, [], length, map, slice_range, None, Some, Result, Ok, Err}
 use Rattle.ca_model.specs.declared.outcome.Counter.TheVariants as counter
 use Rattle.ca_model.specs.declared.outcome.Outcome.{Outcome}
 use Rattle.ca_model.specs.declared.outcome.Outcome.TheVariants as outcome
 use Rattle.ca_model.specs.Event.{Event}
 use Rattle.ca_model.specs.History.{after}
-use Rattle.ca_model.specs.StoreMap.{IsPair}
+use Rattle.ca_model.specs.StoreMap.{IsFound, IsPair}
 use Rattle.ca_node.specs.Row.{pair}
 use Rattle.ca_node.specs.Told.{IsKnown}
 use Rattle.ca_node.specs.TreeView.{TreeView}
@@ -14,7 +14,7 @@ use Rattle.ca_replace.specs.declared.attempting.Stop.{Stop}
 use Rattle.ca_replace.specs.declared.attempting.Stop.TheVariants as stop
 use Rattle.ca_base.specs.Finding.{IsReadable}
 use Rattle.ca_base.specs.Progress.{IsFurther, HasDone, IsRefused}
-use Rattle.ca_base.specs.Putting.{first_note}
+use Rattle.ca_base.specs.Putting.{first_note, object_at}
 use Rattle.ca_rows.specs.declared.sizes.Sizes.{Sizes}
 
 -- The base was shown last, and has the last state that was seen, of a history that is known.
@@ -22,6 +22,11 @@ pub record IsLooking (z : Sizes) (u : TreeView) (base : ℕ) : Type 0 where
   pub readable : IsReadable z u base (first_note u.notes)
   pub map_is : map pair (first_note u.notes).objects ≡ after u.seen []
   pub known : IsKnown z u
+
+-- The key's object was copied, or there is none.
+abbrev pub HasFetched : Sizes → TreeView → List ℕ → Result ℕ ℕ → List ℕ → Type 0
+HasFetched z u key (Ok at) o = IsFound (after u.seen []) key (Some o) × IsPair z.keypos (key, o) × (object_at (Ok at) (first_note u.notes).objects ≡ o)
+HasFetched z u key (Err at) o = IsFound (after u.seen []) key None × (o ≡ [])
 
 -- How a call ends, by what its last attempt came to: it is done, and nothing changes; or it is refused, and counted so.
 abbrev pub IsEnd : {T : Type 0} → Result T Stop → Outcome T → ℕ → ℕ → TreeView → TreeView → Type 0

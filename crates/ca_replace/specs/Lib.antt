@@ -4,3 +4,4 @@ pub mod Reads
 pub mod Refusals
 pub mod Resting
 pub mod StoreView
+pub mod Tells

@@ -6,15 +6,17 @@ ghost use Rattle.ca_model.specs.Event.{Event};
 ghost use Rattle.ca_model.specs.StoreMap.{IsPair};
 ghost use Rattle.ca_node.specs.Row.{items as items_of, pair};
 ghost use Rattle.ca_replace.specs.declared.attempting.Stop.TheVariants.{Deep as IsDeep};
-ghost use Rattle.ca_replace.specs.Attempting.{IsLooking, HasTriedTo};
+ghost use Rattle.ca_replace.specs.Attempting.{IsLooking, HasFetched, HasTriedTo};
 ghost use Rattle.ca_base.specs.Progress.{IsFurther};
 ghost use Rattle.ca_base.specs.Putting.{object_at, IsRoom, IsFor, first_note, put_event};
 ghost use Rattle.ca_base.specs.Taking.{AreHeld};
 ghost use Rattle.ca_rows.specs.declared.sizes.Sizes.{Sizes};
 ghost use Rattle.ca_rows.specs.Calls.{IsOf, IsSame};
 
+use crate::looking::copy_at;
 use ca_base::{NoRow, Putting, count, item, put_at, search};
 use ca_leaf::Items;
+use ca_model::Code;
 use ca_node::{Spot, TreePass, TreeSpace, walk};
 
 /// Why an attempt came to nothing.
@@ -88,6 +90,33 @@ pub(crate) fn find(space: &TreeSpace, pass: &mut TreePass, key: &[u8]) -> (u32, 
 {
     let base = look(space, pass, key);
     let place = search(space, pass, base, key);
+    (base, place)
+}
+
+/// The base that has the key, and the key's place among its objects; then `old` is the key's object, or it is empty where there is none.
+pub(crate) fn fetch(
+    space: &TreeSpace,
+    pass: &mut TreePass,
+    key: &[u8],
+    old: &mut Code,
+) -> (u32, Result<u32, u32>)
+    requires own { IsOf space.now.table.shared.table_id space.now.table.shared.key pass.old.seat }
+    requires pinned { pass.old.seat.me.0.pin.pinned ≡ true }
+    requires leaf { space.now.table.shared.key.leaf ≤ 120 }
+    ensures same { IsSame pass.old.seat pass.new.seat }
+    ensures number { pass.new.number ≡ pass.old.number }
+    ensures kept { pass.new.kept ≡ pass.old.kept }
+    ensures still { (pass.new.seat.me.0.sizes ≡ pass.old.seat.me.0.sizes) × (pass.new.seat.me.0.pin ≡ pass.old.seat.me.0.pin) × (pass.new.seat.me.0.claims ≡ pass.old.seat.me.0.claims) }
+    ensures looking { IsLooking space.now.table.shared.key pass.new.seat.me.0.upper result.0 }
+    ensures place { IsPlace (map pair (first_note pass.new.seat.me.0.upper.notes).objects) key.now result.1 }
+    ensures further { IsFurther pass.old.seat.me.0.upper pass.new.seat.me.0.upper }
+    ensures fetched { HasFetched space.now.table.shared.key pass.new.seat.me.0.upper key.now result.1 old.new.items }
+{
+    let (base, place) = find(space, pass, key);
+    match place {
+        Ok(at) => copy_at(space, pass, base, at, old),
+        Err(_between) => old.clear(),
+    }
     (base, place)
 }
 

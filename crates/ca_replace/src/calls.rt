@@ -1,5 +1,5 @@
 //! Calls of a pass that rests: attempts, as many as the budget allows, and how they end.
-ghost use Rattle.std.specs.Prelude.{◌≡◌, ◌≤◌, Err, IsTrue, true};
+ghost use Rattle.std.specs.Prelude.{◌≡◌, ◌≤◌, Err, [], IsTrue, true};
 ghost use Rattle.ca_model.specs.Answer.{IfBusy, IfDone, IfRefused};
 ghost use Rattle.ca_replace.specs.declared.attempting.Stop.TheVariants.{Deep as IsDeep, Lost as IsLost};
 ghost use Rattle.ca_replace.specs.Attempting.{HasDoneAs, HasTriedTo, IfDeep, IsEnd};
@@ -10,7 +10,7 @@ ghost use Rattle.ca_replace.specs.Resting.{IsResting};
 use crate::attempting::{Attempt, Stop};
 use crate::refusing::{Refusal, refuse};
 use crate::tree::Tree;
-use ca_model::{Counter, FullCause, Outcome, Spent};
+use ca_model::{Code, Counter, FullCause, Outcome, Spent};
 use ca_node::TreePass;
 
 /// Makes a call: attempts of it, as many as the budget allows, until one isn't lost to another pass.
@@ -34,6 +34,16 @@ pub(crate) fn call<A: Attempt>(
     let kept = pass.kept();
     let tried = tries(tree, pass, what, left, room, budget);
     finish(tree, pass, tried, kept, budget)
+}
+
+/// Empties the Code of a call that was refused.
+pub(crate) fn empty_if_refused<T>(outcome: &Outcome<T>, old: &mut Code)
+    ensures done { IfDone outcome.now (λ _. old.new ≡ old.old) }
+    ensures refused { IfRefused outcome.now (λ _. old.new.items ≡ []) }
+{
+    if !matches!(outcome, Outcome::Done(_)) {
+        old.clear();
+    }
 }
 
 // Attempts of a call, until one isn't lost to another pass.

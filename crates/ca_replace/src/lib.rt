@@ -3,6 +3,7 @@
 
 mod attempting;
 mod calls;
+mod changing;
 mod ending;
 mod fault;
 mod looking;

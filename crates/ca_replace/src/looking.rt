@@ -1,7 +1,9 @@
 //! Reads of one key.
-ghost use Rattle.std.specs.Prelude.{◌≡◌, [], true, false};
+ghost use Rattle.std.specs.Prelude.{◌≡◌, ◌<◌, [], length, slice_index_or, true, false};
+ghost use Rattle.ca_node.specs.Row.{object};
 ghost use Rattle.ca_node.specs.Told.{IsReadNow, with_upper, entered};
-ghost use Rattle.ca_base.specs.Finding.{IsLastState};
+ghost use Rattle.ca_node.specs.TreeView.{Note};
+ghost use Rattle.ca_base.specs.Finding.{HasPlace, IsLastState, IsReadable};
 ghost use Rattle.ca_replace.specs.Reads.{get_event};
 ghost use Rattle.ca_rows.specs.Calls.{IsOf, IsSame};
 
@@ -34,8 +36,28 @@ pub(crate) fn look_up(
         enter(space, pass, base, Read::GotNothing(key));
         return false;
     };
-    let row = item(space, pass, base, place);
-    copy_object(space, pass, row, into);
+    copy_at(space, pass, base, place, into);
     enter(space, pass, base, Read::Got(key, into.as_slice()));
     true
+}
+
+// Copies the object that a base which the pass was shown has at this place.
+pub(crate) fn copy_at(
+    space: &TreeSpace,
+    pass: &mut TreePass,
+    base: u32,
+    place: u32,
+    into: &mut Code,
+)
+    requires own { IsOf space.now.table.shared.table_id space.now.table.shared.key pass.old.seat }
+    requires pinned { pass.old.seat.me.0.pin.pinned ≡ true }
+    requires readable { HasPlace space.now.table.shared.key pass.old.seat.me.0.upper base place }
+    ensures same { IsSame pass.old.seat pass.new.seat }
+    ensures number { pass.new.number ≡ pass.old.number }
+    ensures kept { pass.new.kept ≡ pass.old.kept }
+    ensures still { pass.new.seat.me ≡ pass.old.seat.me }
+    ensures object { (note : Note) → IsReadable space.now.table.shared.key pass.old.seat.me.0.upper base note → place < length note.objects → into.new.items ≡ object (slice_index_or note.objects place []) }
+{
+    let row = item(space, pass, base, place);
+    copy_object(space, pass, row, into);
 }

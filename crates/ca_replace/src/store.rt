@@ -1,16 +1,17 @@
 //! A pass as a store.
-ghost use Rattle.std.specs.Prelude.{◌≡◌, ◌≤◌, None, OnOk, length, slice_range};
-ghost use Rattle.ca_model.specs.Answer.{IfBusy, IfDone, IfRefused, IsDone, Got};
+ghost use Rattle.std.specs.Prelude.{◌≡◌, ◌≤◌, [], None, OnOk, length, slice_range};
+ghost use Rattle.ca_model.specs.Answer.{Altered, Got, IfBusy, IfDone, IfRefused, IsDone, IsNeverDeep};
 ghost use Rattle.ca_model.specs.Event.{Write, WriteNew};
+ghost use Rattle.ca_model.specs.Function.{KeepsKey};
 ghost use Rattle.ca_model.specs.Known.{Declines, Meets, Stays};
 ghost use Rattle.ca_model.specs.StoreMap.{IsPair};
 ghost use Rattle.ca_replace.specs.Resting.{IsResting, knows};
 ghost use Rattle.ca_term.specs.declared.bounds.TheConstants.{MOST_CODE_BYTES};
 
 use crate::looking::look_up;
-use crate::puts;
 use crate::tree::Tree;
-use ca_model::{Code, Outcome};
+use crate::{changing, puts};
+use ca_model::{Changed, Code, Outcome};
 use ca_node::{Front, Link, Spot, TreePass, front, learn, load_link, walk};
 use std::alloc::AllocError;
 use std::marker::Model;
@@ -131,6 +132,34 @@ impl TreeStore<'_> {
         ensures number { self.new.number ≡ self.old.number }
     {
         puts::put_new(self.tree, &mut self.pass, object, key_at, key_end, budget)
+    }
+
+    /// Hands the key's object to `f`, with an empty Code and a number. Where it answers true, what it wrote into the Code replaces the
+    /// object: `Put`; it must be an object with the same key, and the number that it wrote the byte at which the key begins there. Where
+    /// it answers false the object stays: `Kept`. In both cases `old` is the object that was found; it is empty where no object has the
+    /// key: `Absent`. It is refused where no row is free, and where each of its attempts, as many as the budget, was lost to another pass;
+    /// each attempt asks `f` anew, of the object that it finds.
+    pub fn change<F: Fn(&[u8], &mut Code, &mut usize) -> bool>(
+        &mut self,
+        key: &[u8],
+        f: &F,
+        old: &mut Code,
+        budget: u32,
+    ) -> Outcome<Changed>
+        requires budget { 1 ≤ budget }
+        requires closed { (knows self.old).run ≡ None }
+        requires key { (1 ≤ length key.now) × (length key.now ≤ MOST_CODE_BYTES) }
+        requires function { KeepsKey F.Fn f.now (knows self.old).keypos key.now }
+        ensures changed { IfDone result (λ changed. Altered F.Fn f.now (knows self.old) (knows self.new) key.now changed old.new.items) }
+        ensures refused { IfRefused result (λ rise. Declines (knows self.old) (knows self.new) (rise (knows self.old).counts)) }
+        ensures emptied { IfRefused result (λ _. old.new.items ≡ []) }
+        ensures never_deep { IsNeverDeep result }
+        ensures busy { IfBusy result (λ spent. budget ≤ spent) }
+        ensures closed { (knows self.new).run ≡ None }
+        ensures tree { (self.new.table ≡ self.old.table) × (self.new.z ≡ self.old.z) }
+        ensures number { self.new.number ≡ self.old.number }
+    {
+        changing::change(self.tree, &mut self.pass, key, f, old, budget)
     }
 
     /// A copy of what the pass has seen of the tree's history.

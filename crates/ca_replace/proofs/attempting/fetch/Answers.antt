@@ -1,0 +1,23 @@
+use Rattle.std.proofs.Common.{ℕ, map, Ok, sym, subst}
+use Rattle.std.specs.Prelude.{Result}
+use Rattle.ca_model.proofs.Places.{IsPlace}
+use Rattle.ca_node.specs.Row.{pair}
+use Rattle.ca_node.specs.Told.{MyTree}
+use Rattle.ca_base.specs.Putting.{first_note}
+use Rattle.ca_base.proofs.Searching.{place_inside}
+use Rattle.ca_replace.specs.Attempting.{HasFetched}
+use Rattle.ca_replace.proofs.Showing.{fetched}
+use Rattle.ca_replace.proofs.attempting.fetch.Goals as goal
+
+pub copy_at-requires-clause-readable : goal.copy_at-requires-clause-readable
+copy_at-requires-clause-readable c = let note = first_note c.find-base.new.pass.seat.me.0.upper.notes in
+    let at = subst (λ (p : Result ℕ ℕ). IsPlace (map pair note.objects) c.args.key.now p) c.in-Ok.is c.find-base.ensures.place in
+    (note, c.find-base.ensures.looking.readable, place_inside note c.args.key.now c.in-Ok.at at)
+
+pub returns-in-Ok-clause-fetched : goal.returns-in-Ok-clause-fetched
+returns-in-Ok-clause-fetched c = let z = c.args.space.now.table.shared.key in let w = c.find-base.new.pass.seat.me.0.upper in let note = first_note w.notes in
+    let old = c.copy_at.new.into.items in
+    let at = subst (λ (p : Result ℕ ℕ). IsPlace (map pair note.objects) c.args.key.now p) c.in-Ok.is c.find-base.ensures.place in
+    subst (λ (m : MyTree). HasFetched z m.0.upper c.args.key.now (Ok c.in-Ok.at) old) (sym c.copy_at.ensures.still)
+    (fetched z w c.find-base.result.0 c.in-Ok.at c.args.key.now old c.find-base.ensures.looking at
+    (c.copy_at.ensures.object note c.find-base.ensures.looking.readable (place_inside note c.args.key.now c.in-Ok.at at)))

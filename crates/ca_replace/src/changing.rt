@@ -1,0 +1,101 @@
+//! The call that changes a key's object.
+ghost use Rattle.std.specs.Prelude.{◌≡◌, ◌≤◌, [], length, false};
+ghost use Rattle.ca_model.specs.Answer.{IfBusy, IfDone, IfRefused, IsNeverDeep};
+ghost use Rattle.ca_model.specs.Function.{KeepsKey};
+ghost use Rattle.ca_replace.specs.Attempting.{HasDoneAs};
+ghost use Rattle.ca_base.specs.Progress.{IsRefused};
+ghost use Rattle.ca_replace.specs.Resting.{IsResting};
+ghost use Rattle.ca_replace.specs.Tells.{Alters};
+
+use crate::attempting::{Attempt, Stop, fetch, put_there};
+use crate::calls::{call, empty_if_refused};
+use crate::ending::{Read, enter};
+use crate::tree::Tree;
+use ca_base::Putting;
+use ca_model::{Changed, Code, Outcome};
+use ca_node::{TreePass, TreeSpace};
+
+// A key, and the function that is handed its object.
+#[derive(Drop)]
+struct ChangeCall<'a, F> {
+    key: &'a [u8],
+    f: &'a F,
+}
+
+impl<F: Fn(&[u8], &mut Code, &mut usize) -> bool> Attempt for ChangeCall<'_, F> {
+    type Answer = Changed;
+
+    type Left = Code;
+
+    type Room = Code;
+
+    ghost may = { λ call z. KeepsKey F.Fn call.f.now z.keypos call.key.now };
+
+    ghost tells = { λ call changed old event. Alters F.Fn call.f.now call.key.now changed old.items event };
+
+    ghost adds = { false };
+
+    fn attempt(
+        &self,
+        space: &TreeSpace,
+        pass: &mut TreePass,
+        leaf: u8,
+        old: &mut Code,
+        new: &mut Code,
+    ) -> Result<Changed, Stop> {
+        let (key, f) = (self.key, self.f);
+        let (base, place) = fetch(space, pass, key, old);
+        let Ok(at) = place else {
+            enter(space, pass, base, Read::NothingToChange(key));
+            return Ok(Changed::Absent);
+        };
+        new.clear();
+        let mut start = 0;
+        if !f(old.as_slice(), &mut *new, &mut start) {
+            enter(space, pass, base, Read::Unchanged(key, old.as_slice()));
+            return Ok(Changed::Kept);
+        }
+        let end = start + key.len();
+        let why = Putting::Change;
+        match put_there(
+            space,
+            pass,
+            leaf,
+            base,
+            Ok(at),
+            why,
+            new.as_slice(),
+            start,
+            end,
+        ) {
+            Ok(()) => Ok(Changed::Put),
+            Err(stop) => Err(stop),
+        }
+    }
+}
+
+/// Hands the key's object to a function, and puts what that wrote in its place where it answered true.
+pub(crate) fn change<F: Fn(&[u8], &mut Code, &mut usize) -> bool>(
+    tree: &Tree,
+    pass: &mut TreePass,
+    key: &[u8],
+    f: &F,
+    old: &mut Code,
+    budget: u32,
+) -> Outcome<Changed>
+    requires resting { IsResting tree.now.space.table.shared.table_id tree.now.space.table.shared.key pass.old.number pass.old.kept.rows pass.old.seat }
+    requires function { KeepsKey F.Fn f.now tree.now.space.table.shared.key.keypos key.now }
+    ensures number { pass.new.number ≡ pass.old.number }
+    ensures resting { IsResting tree.now.space.table.shared.table_id tree.now.space.table.shared.key pass.new.number pass.new.kept.rows pass.new.seat }
+    ensures changed { IfDone result (λ changed. HasDoneAs (Alters F.Fn f.now key.now changed old.new.items) pass.old.seat.me.0.upper pass.new.seat.me.0.upper) }
+    ensures refused { IfRefused result (λ rise. IsRefused rise pass.old.seat.me.0.upper pass.new.seat.me.0.upper) }
+    ensures emptied { IfRefused result (λ _. old.new.items ≡ []) }
+    ensures never_deep { IsNeverDeep result }
+    ensures busy { IfBusy result (λ spent. budget ≤ spent) }
+{
+    let what = ChangeCall { key, f };
+    let mut new = Code::new();
+    let outcome = call(tree, pass, &what, &mut *old, &mut new, budget);
+    empty_if_refused(&outcome, old);
+    outcome
+}
