@@ -1,5 +1,5 @@
 -- What an attempt of a call looks at, and what it comes to.
-use Rattle.std.proofs.Common.{◌≡◌, ℕ, zero, suc, ◌+◌, false, ◌<◌, ◌≤◌, List, [], ◌∷◌, ◌++◌, length, map, take, get_or, Result, Ok, Err, IsOk, Some, sym, refl, ap, ◌∙◌, subst, arith}
+use Rattle.std.proofs.Common.{◌≡◌, ℕ, zero, suc, ◌+◌, Bool, true, false, ◌<◌, ◌≤◌, List, [], ◌∷◌, ◌++◌, length, map, take, get_or, Result, Ok, Err, IsOk, Some, sym, refl, ap, ◌∙◌, subst, arith}
 use mathlib.Core.Option.{some, some-injective, some-ne-none}
 use lib.ListN.{get_elem?}
 use Rattle.ca_model.specs.Event.{Event, Entry, WriteNew}
@@ -13,13 +13,15 @@ use Rattle.ca_node.specs.Told.{MyTree, IsBaseNote, IsKnown, led, IsLed, IsReadNo
 use Rattle.ca_node.specs.TreeView.{TreeView}
 use Rattle.ca_node.proofs.Looking.{starts_shorter}
 use Rattle.ca_replace.specs.declared.attempting.Stop.{Stop}
-use Rattle.ca_replace.specs.Attempting.{IsLooking, HasFetched, HasDoneAs, HasTriedTo}
+use Rattle.ca_replace.specs.Attempting.{IsLooking, HasFetched, HasDoneAs, HasTriedTo, come_to}
+use Rattle.ca_base.specs.declared.taking.NoRow.{NoRow}
+use Rattle.ca_base.specs.declared.taking.NoRow.TheVariants as norow
 use Rattle.ca_base.specs.Finding.{IsPlaceIn}
 use Rattle.ca_base.specs.Progress.{IsFurther, HasDone}
 use Rattle.ca_base.proofs.Searching.{found_object}
 use Rattle.ca_replace.proofs.Entries.{known_read}
 use Rattle.ca_replace.proofs.Meeting.{further_on, done_on}
-use Rattle.ca_base.specs.Putting.{first_note, IsShownLast}
+use Rattle.ca_base.specs.Putting.{first_note, IsShownLast, HasTried}
 use Rattle.ca_rows.specs.declared.sizes.Sizes.{Sizes}
 
 -- After a load of the root link the base is shown last.
@@ -111,3 +113,17 @@ fetched z u base at key old l p e = let note = first_note u.notes in let found =
   found_pair z.keypos (map pair note.objects) key old l.readable.ordered found,
   sym e,
 )
+
+tried_from : (z : Sizes) (event : Event) (r : Result Bool NoRow) (u v : TreeView) → IsKnown z u → HasTried event z r u v
+    → HasTriedTo (λ _ e. e ≡ event) z (come_to r) u v
+tried_from z event (Ok true) u v k h = ((event, refl, h.0), h.1)
+tried_from z event (Ok false) u v k h = stopped z u v k h
+tried_from z event (Err norow.Lost) u v k h = stopped z u v k h
+tried_from z event (Err norow.Empty) u v k h = stopped z u v k h
+tried_from z event (Err norow.Worn) u v k h = stopped z u v k h
+
+-- What was tried, by what became of its exchange.
+pub tried_by : (z : Sizes) (event : TreeView → Event) (r : Result Bool NoRow) (x : Result (Unit {0}) Stop) (u w v : TreeView) → w ≡ u → x ≡ come_to r
+    → IsKnown z u → HasTried (event w) z r w v → HasTriedTo (λ _ e. e ≡ event u) z x u v
+tried_by z event r x u w v same is k h = subst (λ (y : Result (Unit {0}) Stop). HasTriedTo (λ _ e. e ≡ event u) z y u v) (sym is)
+    (tried_from z (event u) r u v k (subst (λ (y : TreeView). HasTried (event y) z r y v) same h))

@@ -1,5 +1,5 @@
 -- Attempts of a call: each looks at the tree anew.
-use Rattle.std.specs.Prelude.{◌≡◌, ℕ, ◌≤◌, List, [], length, map, slice_range, None, Some, Result, Ok, Err}
+use Rattle.std.specs.Prelude.{◌≡◌, ℕ, ◌≤◌, Bool, true, false, List, [], length, map, slice_range, None, Some, Result, Ok, Err}
 use Rattle.ca_model.specs.declared.outcome.Counter.TheVariants as counter
 use Rattle.ca_model.specs.declared.outcome.Outcome.{Outcome}
 use Rattle.ca_model.specs.declared.outcome.Outcome.TheVariants as outcome
@@ -12,6 +12,8 @@ use Rattle.ca_node.specs.TreeView.{TreeView}
 use Rattle.ca_model.specs.Known.{one_more_busy, one_more_full, one_more_deep, one_more_worn}
 use Rattle.ca_replace.specs.declared.attempting.Stop.{Stop}
 use Rattle.ca_replace.specs.declared.attempting.Stop.TheVariants as stop
+use Rattle.ca_base.specs.declared.taking.NoRow.{NoRow}
+use Rattle.ca_base.specs.declared.taking.NoRow.TheVariants as norow
 use Rattle.ca_base.specs.Finding.{IsReadable}
 use Rattle.ca_base.specs.Progress.{IsFurther, HasDone, IsRefused}
 use Rattle.ca_base.specs.Putting.{first_note, object_at}
@@ -44,6 +46,14 @@ HasDoneAs tells u v = (event : Event) × tells event × HasDone event u v
 abbrev pub HasTriedTo : {T : Type 0} → (T → Event → Type 0) → Sizes → Result T Stop → TreeView → TreeView → Type 0
 HasTriedTo tells z (Ok x) u v = HasDoneAs (tells x) u v × IsKnown z v
 HasTriedTo tells z (Err stop) u v = IsFurther u v × IsKnown z v
+
+-- what an attempt comes to, given what became of its exchange
+abbrev pub come_to : Result Bool NoRow → Result (Unit {0}) Stop
+come_to (Ok true) = Ok tt
+come_to (Ok false) = Err stop.Lost
+come_to (Err norow.Lost) = Err stop.Lost
+come_to (Err norow.Empty) = Err stop.Empty
+come_to (Err norow.Worn) = Err stop.Worn
 
 -- Where the call is refused for want of levels, this holds.
 abbrev pub IfDeep : {T : Type 0} → Outcome T → Type 0 → Type 0

@@ -1,12 +1,12 @@
 //! Attempts of a call that edits.
-ghost use Rattle.std.specs.Prelude.{◌≡◌, ◌≢◌, ◌<◌, ◌≤◌, ◌↔◌, Bool, Err, OnOk, [], length, map, slice_range, true, IsTrue};
+ghost use Rattle.std.specs.Prelude.{◌≡◌, ◌≢◌, ◌<◌, ◌≤◌, ◌↔◌, Bool, Err, Ok, OnOk, Some, [], length, map, slice_range, true, IsTrue};
 ghost use Rattle.arrayvec.specs.ArrayVec.{array_vec_len};
 ghost use Rattle.ca_model.proofs.Places.{IsPlace};
-ghost use Rattle.ca_model.specs.Event.{Event};
+ghost use Rattle.ca_model.specs.Event.{Event, Remove};
 ghost use Rattle.ca_model.specs.StoreMap.{IsPair};
 ghost use Rattle.ca_node.specs.Row.{items as items_of, pair};
 ghost use Rattle.ca_replace.specs.declared.attempting.Stop.TheVariants.{Deep as IsDeep};
-ghost use Rattle.ca_replace.specs.Attempting.{IsLooking, HasFetched, HasTriedTo};
+ghost use Rattle.ca_replace.specs.Attempting.{IsLooking, HasFetched, HasTriedTo, come_to};
 ghost use Rattle.ca_base.specs.Progress.{IsFurther};
 ghost use Rattle.ca_base.specs.Putting.{object_at, IsRoom, IsFor, first_note, put_event};
 ghost use Rattle.ca_base.specs.Taking.{AreHeld};
@@ -14,7 +14,7 @@ ghost use Rattle.ca_rows.specs.declared.sizes.Sizes.{Sizes};
 ghost use Rattle.ca_rows.specs.Calls.{IsOf, IsSame};
 
 use crate::looking::copy_at;
-use ca_base::{NoRow, Putting, count, item, put_at, search};
+use ca_base::{NoRow, Putting, count, item, put_at, remove_at, search};
 use ca_leaf::Items;
 use ca_model::Code;
 use ca_node::{Spot, TreePass, TreeSpace, walk};
@@ -188,9 +188,45 @@ pub(crate) fn put_there(
     if !has_room(&items, place, leaf) {
         return Err(Stop::Deep);
     }
-    match put_at(
+    let tried = put_at(
         space, pass, base, &items, place, why, object, key_at, key_end,
-    ) {
+    );
+    outcome_of(tried)
+}
+
+/// Removes the object at its key's place in the base that was shown last.
+pub(crate) fn remove_there(
+    space: &TreeSpace,
+    pass: &mut TreePass,
+    base: u32,
+    at: u32,
+    key: &[u8],
+) -> Result<(), Stop>
+    requires own { IsOf space.now.table.shared.table_id space.now.table.shared.key pass.old.seat }
+    requires pinned { pass.old.seat.me.0.pin.pinned ≡ true }
+    requires number { 0 < pass.old.seat.me.0.upper.number }
+    requires none { AreHeld space.now.table.shared.key.rows pass.old.kept.rows pass.old.seat.me.0.claims [] }
+    requires leaf { space.now.table.shared.key.leaf ≤ 120 }
+    requires looking { IsLooking space.now.table.shared.key pass.old.seat.me.0.upper base }
+    requires place { IsPlace (map pair (first_note pass.old.seat.me.0.upper.notes).objects) key.now (Ok at) }
+    ensures same { IsSame pass.old.seat pass.new.seat }
+    ensures number { pass.new.number ≡ pass.old.number }
+    ensures pin { (pass.new.seat.me.0.sizes ≡ pass.old.seat.me.0.sizes) × (pass.new.seat.me.0.pin ≡ pass.old.seat.me.0.pin) }
+    ensures none { AreHeld space.now.table.shared.key.rows pass.new.kept.rows pass.new.seat.me.0.claims [] }
+    ensures tried { HasTriedTo (λ _ event. event ≡ Remove key.now (Some (object_at (Ok at) (first_note pass.old.seat.me.0.upper.notes).objects))) space.now.table.shared.key result pass.old.seat.me.0.upper pass.new.seat.me.0.upper }
+    ensures deep { result ≢ Err IsDeep }
+{
+    let items = read_items(space, pass, base);
+    let tried = remove_at(space, pass, base, &items, at, key);
+    outcome_of(tried)
+}
+
+// What an attempt comes to, by what became of its exchange.
+fn outcome_of(tried: Result<bool, NoRow>) -> Result<(), Stop>
+    ensures value { result ≡ come_to tried }
+    ensures deep { result ≢ Err IsDeep }
+{
+    match tried {
         Ok(true) => Ok(()),
         Ok(false) => Err(Stop::Lost),
         Err(NoRow::Lost) => Err(Stop::Lost),

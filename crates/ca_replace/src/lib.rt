@@ -9,6 +9,7 @@ mod fault;
 mod looking;
 mod puts;
 mod refusing;
+mod removing;
 mod store;
 mod tree;
 

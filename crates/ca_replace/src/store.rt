@@ -1,8 +1,8 @@
 //! A pass as a store.
 ghost use Rattle.std.specs.Prelude.{◌≡◌, ◌≤◌, [], None, OnOk, length, slice_range};
-ghost use Rattle.ca_model.specs.Answer.{Altered, Got, IfBusy, IfDone, IfRefused, IsDone, IsNeverDeep};
+ghost use Rattle.ca_model.specs.Answer.{Altered, Got, IfBusy, IfDone, IfRefused, IsDone, IsNeverDeep, Removed, RemovedIf};
 ghost use Rattle.ca_model.specs.Event.{Write, WriteNew};
-ghost use Rattle.ca_model.specs.Function.{KeepsKey};
+ghost use Rattle.ca_model.specs.Function.{KeepsKey, MayBeAskedFor};
 ghost use Rattle.ca_model.specs.Known.{Declines, Meets, Stays};
 ghost use Rattle.ca_model.specs.StoreMap.{IsPair};
 ghost use Rattle.ca_replace.specs.Resting.{IsResting, knows};
@@ -10,7 +10,7 @@ ghost use Rattle.ca_term.specs.declared.bounds.TheConstants.{MOST_CODE_BYTES};
 
 use crate::looking::look_up;
 use crate::tree::Tree;
-use crate::{changing, puts};
+use crate::{changing, puts, removing};
 use ca_model::{Changed, Code, Outcome};
 use ca_node::{Front, Link, Spot, TreePass, front, learn, load_link, walk};
 use std::alloc::AllocError;
@@ -132,6 +132,50 @@ impl TreeStore<'_> {
         ensures number { self.new.number ≡ self.old.number }
     {
         puts::put_new(self.tree, &mut self.pass, object, key_at, key_end, budget)
+    }
+
+    /// Removes the key's object, and answers whether there was one; then `old` is the object, else it is empty. It is refused where no row
+    /// is free, and where each of its attempts, as many as the budget, was lost to another pass.
+    pub fn remove(&mut self, key: &[u8], old: &mut Code, budget: u32) -> Outcome<bool>
+        requires budget { 1 ≤ budget }
+        requires closed { (knows self.old).run ≡ None }
+        requires key { (1 ≤ length key.now) × (length key.now ≤ MOST_CODE_BYTES) }
+        ensures removed { IfDone result (λ was. Removed (knows self.old) (knows self.new) key.now was old.new.items) }
+        ensures refused { IfRefused result (λ rise. Declines (knows self.old) (knows self.new) (rise (knows self.old).counts)) }
+        ensures emptied { IfRefused result (λ _. old.new.items ≡ []) }
+        ensures never_deep { IsNeverDeep result }
+        ensures busy { IfBusy result (λ spent. budget ≤ spent) }
+        ensures closed { (knows self.new).run ≡ None }
+        ensures tree { (self.new.table ≡ self.old.table) × (self.new.z ≡ self.old.z) }
+        ensures number { self.new.number ≡ self.old.number }
+    {
+        removing::remove(self.tree, &mut self.pass, key, old, budget)
+    }
+
+    /// Removes the key's object where `f` answers true on it: `Put`. Where it answers false the object stays: `Kept`. In both cases `old`
+    /// is the object; it is empty where no object has the key: `Absent`. It is refused where no row is free, and where each of its attempts,
+    /// as many as the budget, was lost to another pass; each attempt asks `f` anew, of the object that it finds.
+    pub fn remove_if<F: Fn(&[u8]) -> bool>(
+        &mut self,
+        key: &[u8],
+        f: &F,
+        old: &mut Code,
+        budget: u32,
+    ) -> Outcome<Changed>
+        requires budget { 1 ≤ budget }
+        requires closed { (knows self.old).run ≡ None }
+        requires key { (1 ≤ length key.now) × (length key.now ≤ MOST_CODE_BYTES) }
+        requires function { MayBeAskedFor F.Fn f.now (knows self.old).keypos key.now }
+        ensures removed { IfDone result (λ changed. RemovedIf F.Fn f.now (knows self.old) (knows self.new) key.now changed old.new.items) }
+        ensures refused { IfRefused result (λ rise. Declines (knows self.old) (knows self.new) (rise (knows self.old).counts)) }
+        ensures emptied { IfRefused result (λ _. old.new.items ≡ []) }
+        ensures never_deep { IsNeverDeep result }
+        ensures busy { IfBusy result (λ spent. budget ≤ spent) }
+        ensures closed { (knows self.new).run ≡ None }
+        ensures tree { (self.new.table ≡ self.old.table) × (self.new.z ≡ self.old.z) }
+        ensures number { self.new.number ≡ self.old.number }
+    {
+        removing::remove_if(self.tree, &mut self.pass, key, f, old, budget)
     }
 
     /// Hands the key's object to `f`, with an empty Code and a number. Where it answers true, what it wrote into the Code replaces the

@@ -1,10 +1,11 @@
 //! Trees at the bounds of their sizes and tunings, their passes, and stores of passes.
-ghost use Rattle.std.specs.Prelude.{◌≡◌, slice_range};
+ghost use Rattle.std.specs.Prelude.{◌≡◌, IsTrue, slice_range};
+ghost use Rattle.ca_model.specs.Function.{StandsAt};
 ghost use Rattle.ca_model.specs.StoreMap.{IsPair};
 
 use super::*;
 use ca_adapt::Tuning;
-use ca_model::{Code, Counter, FullCause, Outcome};
+use ca_model::{Changed, Code, Counter, FullCause, Outcome};
 use ca_rows::Starts;
 use std::alloc::Global;
 
@@ -217,6 +218,15 @@ fn object(n: u32) -> [u8; 11]
     [0x40, 0, 0, 0, 2, 0x24, 1, high, middle, low, 0x60]
 }
 
+// The code of the tuple of the same number and two empty lists.
+fn other(n: u32) -> [u8; 12]
+    ensures pair { IsPair 1 (slice_range result 5 10, result) }
+    ensures key { StandsAt (slice_range result 5 10) result 5 }
+{
+    let [_, high, middle, low] = n.to_be_bytes();
+    [0x40, 0, 0, 0, 3, 0x24, 1, high, middle, low, 0x60, 0x60]
+}
+
 // Puts an object.
 fn put(store: &mut TreeStore<'_>, n: u32) -> Outcome<()>
     requires { store.old.z.keypos ≡ 1 }
@@ -305,4 +315,159 @@ fn a_new_key_finds_no_place_in_a_base_that_has_as_many_as_it_may(rt: HostRuntime
     assert_eq!(rt; put(&mut store, 3), Outcome::Deep(0));
     assert_eq!(rt; put(&mut store, 1), Outcome::Done(()));
     assert_eq!(rt; put_new(&mut store, 2), Outcome::Done(false));
+}
+
+// Whether there is an object with the key; then `into` is that object.
+fn get(store: &mut TreeStore<'_>, n: u32, into: &mut Code) -> Outcome<bool>
+    requires { store.old.z.keypos ≡ 1 }
+    ensures { store.new.z ≡ store.old.z }
+{
+    store.get(&object(n)[5..10], into, 1)
+}
+
+// Removes an object.
+fn remove(store: &mut TreeStore<'_>, n: u32, old: &mut Code) -> Outcome<bool>
+    requires { store.old.z.keypos ≡ 1 }
+    ensures { store.new.z ≡ store.old.z }
+{
+    store.remove(&object(n)[5..10], old, 1)
+}
+
+// Removes an object where told so.
+fn remove_if(store: &mut TreeStore<'_>, n: u32, yes: bool, old: &mut Code) -> Outcome<Changed>
+    requires { store.old.z.keypos ≡ 1 }
+    ensures { store.new.z ≡ store.old.z }
+{
+    store.remove_if(&object(n)[5..10], &|_object: &[u8]| yes, old, 1)
+}
+
+// Puts the other object in the place of one where told so.
+fn change(store: &mut TreeStore<'_>, n: u32, yes: bool, old: &mut Code) -> Outcome<Changed>
+    requires { store.old.z.keypos ≡ 1 }
+    ensures { store.new.z ≡ store.old.z }
+{
+    let new = other(n);
+    let write = |_object: &[u8], into: &mut Code, at: &mut usize| -> bool
+        requires pair { IsPair 1 (slice_range new 5 10, new) }
+        requires key { StandsAt (slice_range new 5 10) new 5 }
+        ensures { IsTrue result → IsPair 1 (slice_range new 5 10, into.new.items) × StandsAt (slice_range new 5 10) into.new.items at.new }
+    {
+        into.clear();
+        *at = 5;
+        yes && into.try_extend_from_slice(&new).is_ok()
+    };
+    store.change(&new[5..10], &write, old, 1)
+}
+
+#[test]
+fn an_object_is_removed_once(rt: HostRuntime) {
+    let Ok(mut tree) = Tree::new(rt.alloc(), 384, 1, 1, TUNING, STARTS) else {
+        panic!(rt; "no memory")
+    };
+    let Ok(pass) = tree.enroll(rt.alloc()) else {
+        panic!(rt; "no pass")
+    };
+    let mut store = TreeStore::new(&tree, pass);
+    let mut old = Code::new();
+    assert_eq!(rt; remove(&mut store, 2, &mut old), Outcome::Done(false));
+    assert_eq!(rt; put_new(&mut store, 3), Outcome::Done(true));
+    assert_eq!(rt; put_new(&mut store, 2), Outcome::Done(true));
+    assert_eq!(rt; remove(&mut store, 2, &mut old), Outcome::Done(true));
+    assert!(rt; old.as_slice() == object(2).as_slice());
+    assert_eq!(rt; remove(&mut store, 2, &mut old), Outcome::Done(false));
+    assert!(rt; old.is_empty());
+    assert_eq!(rt; get(&mut store, 3, &mut old), Outcome::Done(true));
+}
+
+#[test]
+fn a_function_says_whether_an_object_is_removed(rt: HostRuntime) {
+    let Ok(mut tree) = Tree::new(rt.alloc(), 384, 1, 1, TUNING, STARTS) else {
+        panic!(rt; "no memory")
+    };
+    let Ok(pass) = tree.enroll(rt.alloc()) else {
+        panic!(rt; "no pass")
+    };
+    let mut store = TreeStore::new(&tree, pass);
+    let mut old = Code::new();
+    assert_eq!(rt; put(&mut store, 1), Outcome::Done(()));
+    assert_eq!(rt;
+        remove_if(&mut store, 1, false, &mut old),
+        Outcome::Done(Changed::Kept)
+    );
+    assert!(rt; old.as_slice() == object(1).as_slice());
+    assert_eq!(rt;
+        remove_if(&mut store, 1, true, &mut old),
+        Outcome::Done(Changed::Put)
+    );
+    assert!(rt; old.as_slice() == object(1).as_slice());
+    assert_eq!(rt;
+        remove_if(&mut store, 1, true, &mut old),
+        Outcome::Done(Changed::Absent)
+    );
+    assert!(rt; old.is_empty());
+    assert_eq!(rt; get(&mut store, 1, &mut old), Outcome::Done(false));
+}
+
+#[test]
+fn a_function_changes_an_object(rt: HostRuntime) {
+    let Ok(mut tree) = Tree::new(rt.alloc(), 384, 1, 1, TUNING, STARTS) else {
+        panic!(rt; "no memory")
+    };
+    let Ok(pass) = tree.enroll(rt.alloc()) else {
+        panic!(rt; "no pass")
+    };
+    let mut store = TreeStore::new(&tree, pass);
+    let mut old = Code::new();
+    assert_eq!(rt;
+        change(&mut store, 1, true, &mut old),
+        Outcome::Done(Changed::Absent)
+    );
+    assert!(rt; old.is_empty());
+    assert_eq!(rt; put(&mut store, 1), Outcome::Done(()));
+    assert_eq!(rt;
+        change(&mut store, 1, false, &mut old),
+        Outcome::Done(Changed::Kept)
+    );
+    assert!(rt; old.as_slice() == object(1).as_slice());
+    assert_eq!(rt;
+        change(&mut store, 1, true, &mut old),
+        Outcome::Done(Changed::Put)
+    );
+    assert!(rt; old.as_slice() == object(1).as_slice());
+    assert_eq!(rt; get(&mut store, 1, &mut old), Outcome::Done(true));
+    assert!(rt; old.as_slice() == other(1).as_slice());
+}
+
+#[test]
+fn a_refusal_leaves_each_object_and_nothing_to_the_caller(rt: HostRuntime) {
+    let Ok(mut tree) = Tree::new(rt.alloc(), 384, 1, 1, TUNING, STARTS) else {
+        panic!(rt; "no memory")
+    };
+    let Ok(pass) = tree.enroll(rt.alloc()) else {
+        panic!(rt; "no pass")
+    };
+    let mut store = TreeStore::new(&tree, pass);
+    let mut old = Code::new();
+    assert_eq!(rt; put(&mut store, 2), Outcome::Done(()));
+    let _puts = put_on(&mut store, 1);
+    assert_eq!(rt; remove(&mut store, 1, &mut old), Outcome::Done(true));
+    let full = FullCause {
+        kept: 382,
+        lag: None,
+    };
+    assert_eq!(rt; remove(&mut store, 2, &mut old), Outcome::Full(full));
+    assert!(rt; old.is_empty());
+    assert_eq!(rt;
+        remove_if(&mut store, 2, true, &mut old),
+        Outcome::Full(full)
+    );
+    assert!(rt; old.is_empty());
+    assert_eq!(rt; change(&mut store, 2, true, &mut old), Outcome::Full(full));
+    assert!(rt; old.is_empty());
+    assert_eq!(rt;
+        change(&mut store, 2, false, &mut old),
+        Outcome::Done(Changed::Kept)
+    );
+    assert_eq!(rt; get(&mut store, 1, &mut old), Outcome::Done(false));
+    assert_eq!(rt; get(&mut store, 2, &mut old), Outcome::Done(true));
 }

@@ -1,11 +1,21 @@
-use Rattle.std.proofs.Common.{sym, subst}
+use Rattle.std.proofs.Common.{sym, ap, subst}
+use Rattle.std.specs.Prelude.{slice_range}
 use Rattle.ca_node.specs.Told.{MyTree}
-use Rattle.ca_base.specs.Putting.{IsShownLast}
-use Rattle.ca_replace.proofs.Showing.{shown_last}
+use Rattle.ca_node.specs.TreeView.{TreeView}
+use Rattle.ca_base.specs.Putting.{IsShownLast, first_note, object_at, put_event}
+use Rattle.ca_replace.proofs.Showing.{shown_last, tried_by}
 use Rattle.ca_replace.proofs.attempting.put_there.Goals as goal
 
-pub put_at-requires-clause-shown : goal.put_at-requires-clause-shown
-put_at-requires-clause-shown c = subst (λ (m : MyTree). IsShownLast c.args.space.now.table.shared.key m.0.upper c.args.base c.read_items-items.result.items)
+pub put_at-tried-requires-clause-shown : goal.put_at-tried-requires-clause-shown
+put_at-tried-requires-clause-shown c = subst (λ (m : MyTree). IsShownLast c.args.space.now.table.shared.key m.0.upper c.args.base c.read_items-items.result.items)
     (sym c.read_items-items.ensures.still)
     (shown_last c.args.space.now.table.shared.key c.args.pass.now.seat.me.0.upper c.args.base c.read_items-items.result.items c.requires.looking
     c.read_items-items.ensures.items)
+
+pub returns-clause-tried : goal.returns-clause-tried
+returns-clause-tried c = tried_by c.args.space.now.table.shared.key
+    (λ (u : TreeView). put_event c.args.why (slice_range c.args.object.now c.args.key_at c.args.key_end) (object_at c.args.place (first_note u.notes).objects)
+    c.args.object.now)
+    c.put_at-tried.result c.outcome_of.result c.args.pass.now.seat.me.0.upper c.read_items-items.new.pass.seat.me.0.upper
+    c.put_at-tried.new.pass.seat.me.0.upper (ap (λ (m : MyTree). m.0.upper) c.read_items-items.ensures.still) c.outcome_of.ensures.value
+    c.requires.looking.known c.put_at-tried.ensures.put

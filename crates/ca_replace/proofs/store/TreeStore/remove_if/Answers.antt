@@ -1,0 +1,24 @@
+use Rattle.std.proofs.Common.{ℕ, List, subst}
+use Rattle.ca_model.specs.Answer.{RemovedIf, IfDone, IfRefused}
+use Rattle.ca_model.specs.Known.{Declines}
+use Rattle.ca_model.specs.declared.outcome.Changed.{Changed}
+use Rattle.ca_replace.specs.Attempting.{HasDoneAs}
+use Rattle.ca_replace.specs.Resting.{StoreView, known_of, knows}
+use Rattle.ca_replace.specs.Tells.{RemovesIf}
+use Rattle.ca_replace.proofs.Telling.{removed_if, if_then}
+use Rattle.ca_replace.proofs.Turns.{if_declined}
+use Rattle.ca_replace.proofs.store.TreeStore.remove_if.Goals as goal
+
+pub returns-clause-removed : goal.returns-clause-removed
+returns-clause-removed g c = let z = c.self.inside.tree.now.space.table.shared.key in let u = c.self.inside.pass.seat.me.0.upper in
+    let v = c.remove_if.new.pass.seat.me.0.upper in let key : List ℕ = c.args.key.now in let old : List ℕ = c.remove_if.new.old.items in
+    subst (λ (s : StoreView). IfDone c.remove_if.result (λ x. RemovedIf g.F.Fn c.args.f.now (knows s) (known_of z v) key x old)) c.self.view_is
+    (if_then (λ (x : Changed). HasDoneAs (RemovesIf g.F.Fn c.args.f.now key x old) u v)
+    (λ (x : Changed). RemovedIf g.F.Fn c.args.f.now (known_of z u) (known_of z v) key x old) c.remove_if.result
+    (removed_if z u v c.self.invariant.known c.remove_if.ensures.resting.known key old g.F.Fn c.args.f.now) c.remove_if.ensures.removed)
+
+pub returns-clause-refused : goal.returns-clause-refused
+returns-clause-refused g c = let z = c.self.inside.tree.now.space.table.shared.key in let u = c.self.inside.pass.seat.me.0.upper in
+    let v = c.remove_if.new.pass.seat.me.0.upper in
+    subst (λ (s : StoreView). IfRefused c.remove_if.result (λ rise. Declines (knows s) (known_of z v) (rise (knows s).counts))) c.self.view_is
+    (if_declined z c.remove_if.result u v c.self.invariant.known c.remove_if.ensures.resting.known c.remove_if.ensures.refused)

@@ -1,0 +1,148 @@
+//! Calls that remove a key's object.
+ghost use Rattle.std.specs.Prelude.{◌≡◌, ◌≤◌, [], false};
+ghost use Rattle.ca_model.specs.Answer.{IfBusy, IfDone, IfRefused, IsNeverDeep};
+ghost use Rattle.ca_model.specs.Function.{MayBeAskedFor};
+ghost use Rattle.ca_replace.specs.Attempting.{HasDoneAs};
+ghost use Rattle.ca_base.specs.Progress.{IsRefused};
+ghost use Rattle.ca_replace.specs.Resting.{IsResting};
+ghost use Rattle.ca_replace.specs.Tells.{Removes, RemovesIf};
+
+use crate::attempting::{Attempt, Stop, fetch, remove_there};
+use crate::calls::{call, empty_if_refused};
+use crate::ending::{Read, enter};
+use crate::tree::Tree;
+use ca_model::{Changed, Code, Outcome};
+use ca_node::{TreePass, TreeSpace};
+
+// A key, the object of which is removed.
+#[derive(Clone, Copy)]
+struct RemoveCall<'a> {
+    key: &'a [u8],
+}
+
+impl Attempt for RemoveCall<'_> {
+    type Answer = bool;
+
+    type Left = Code;
+
+    type Room = ();
+
+    ghost may = { λ call z. Unit {0} };
+
+    ghost tells = { λ call was old event. Removes call.key.now was old.items event };
+
+    ghost adds = { false };
+
+    fn attempt(
+        &self,
+        space: &TreeSpace,
+        pass: &mut TreePass,
+        _leaf: u8,
+        old: &mut Code,
+        _room: &mut (),
+    ) -> Result<bool, Stop> {
+        let key = self.key;
+        let (base, place) = fetch(space, pass, key, old);
+        let Ok(at) = place else {
+            enter(space, pass, base, Read::NothingToRemove(key));
+            return Ok(false);
+        };
+        match remove_there(space, pass, base, at, key) {
+            Ok(()) => Ok(true),
+            Err(stop) => Err(stop),
+        }
+    }
+}
+
+/// Removes the key's object.
+pub(crate) fn remove(
+    tree: &Tree,
+    pass: &mut TreePass,
+    key: &[u8],
+    old: &mut Code,
+    budget: u32,
+) -> Outcome<bool>
+    requires resting { IsResting tree.now.space.table.shared.table_id tree.now.space.table.shared.key pass.old.number pass.old.kept.rows pass.old.seat }
+    ensures number { pass.new.number ≡ pass.old.number }
+    ensures resting { IsResting tree.now.space.table.shared.table_id tree.now.space.table.shared.key pass.new.number pass.new.kept.rows pass.new.seat }
+    ensures removed { IfDone result (λ was. HasDoneAs (Removes key.now was old.new.items) pass.old.seat.me.0.upper pass.new.seat.me.0.upper) }
+    ensures refused { IfRefused result (λ rise. IsRefused rise pass.old.seat.me.0.upper pass.new.seat.me.0.upper) }
+    ensures emptied { IfRefused result (λ _. old.new.items ≡ []) }
+    ensures never_deep { IsNeverDeep result }
+    ensures busy { IfBusy result (λ spent. budget ≤ spent) }
+{
+    let what = RemoveCall { key };
+    let outcome = call(tree, pass, &what, &mut *old, &mut (), budget);
+    empty_if_refused(&outcome, old);
+    outcome
+}
+
+// A key, and the function that says whether its object is removed.
+#[derive(Drop)]
+struct RemoveIfCall<'a, F> {
+    key: &'a [u8],
+    f: &'a F,
+}
+
+impl<F: Fn(&[u8]) -> bool> Attempt for RemoveIfCall<'_, F> {
+    type Answer = Changed;
+
+    type Left = Code;
+
+    type Room = ();
+
+    ghost may = { λ call z. MayBeAskedFor F.Fn call.f.now z.keypos call.key.now };
+
+    ghost tells = { λ call changed old event. RemovesIf F.Fn call.f.now call.key.now changed old.items event };
+
+    ghost adds = { false };
+
+    fn attempt(
+        &self,
+        space: &TreeSpace,
+        pass: &mut TreePass,
+        _leaf: u8,
+        old: &mut Code,
+        _room: &mut (),
+    ) -> Result<Changed, Stop> {
+        let (key, f) = (self.key, self.f);
+        let (base, place) = fetch(space, pass, key, old);
+        let Ok(at) = place else {
+            enter(space, pass, base, Read::GotNothing(key));
+            return Ok(Changed::Absent);
+        };
+        if !f(old.as_slice()) {
+            enter(space, pass, base, Read::Got(key, old.as_slice()));
+            return Ok(Changed::Kept);
+        }
+        match remove_there(space, pass, base, at, key) {
+            Ok(()) => Ok(Changed::Put),
+            Err(stop) => Err(stop),
+        }
+    }
+}
+
+/// Removes the key's object where a function answers true on it.
+pub(crate) fn remove_if<F: Fn(&[u8]) -> bool>(
+    tree: &Tree,
+    pass: &mut TreePass,
+    key: &[u8],
+    f: &F,
+    old: &mut Code,
+    budget: u32,
+) -> Outcome<Changed>
+    requires resting { IsResting tree.now.space.table.shared.table_id tree.now.space.table.shared.key pass.old.number pass.old.kept.rows pass.old.seat }
+    requires function { MayBeAskedFor F.Fn f.now tree.now.space.table.shared.key.keypos key.now }
+    ensures number { pass.new.number ≡ pass.old.number }
+    ensures resting { IsResting tree.now.space.table.shared.table_id tree.now.space.table.shared.key pass.new.number pass.new.kept.rows pass.new.seat }
+    ensures removed { IfDone result (λ changed. HasDoneAs (RemovesIf F.Fn f.now key.now changed old.new.items) pass.old.seat.me.0.upper pass.new.seat.me.0.upper) }
+    ensures refused { IfRefused result (λ rise. IsRefused rise pass.old.seat.me.0.upper pass.new.seat.me.0.upper) }
+    ensures emptied { IfRefused result (λ _. old.new.items ≡ []) }
+    ensures never_deep { IsNeverDeep result }
+    ensures busy { IfBusy result (λ spent. budget ≤ spent) }
+{
+    let what = RemoveIfCall { key, f };
+    let outcome = call(tree, pass, &what, &mut *old, &mut (), budget);
+    empty_if_refused(&outcome, old);
+    outcome
+}
