@@ -1,6 +1,7 @@
 pub mod Asking
 pub mod Entries
 pub mod Fresh
+pub mod Reclaiming
 pub mod Meeting
 pub mod SampleObjects
 pub mod Showing

@@ -6,6 +6,7 @@ mod calls;
 mod changing;
 mod ending;
 mod fault;
+mod giving;
 mod looking;
 mod puts;
 mod refusing;
