@@ -1,4 +1,5 @@
 pub mod Asking
+pub mod Causing
 pub mod Entries
 pub mod Fresh
 pub mod Reclaiming

@@ -14,7 +14,7 @@ use Rattle.ca_node.specs.Told.{MyTree, IsKnown}
 use Rattle.ca_node.specs.TreeView.{TreeView, pinned, unpinned}
 use Rattle.ca_replace.specs.declared.attempting.Stop.{Stop}
 use Rattle.ca_replace.specs.declared.attempting.Stop.TheVariants as stop
-use Rattle.ca_replace.specs.Attempting.{HasDoneAs, HasTriedTo, IfDeep, IsEnd}
+use Rattle.ca_replace.specs.Attempting.{HasDoneAs, HasTriedTo}
 use Rattle.ca_base.specs.Progress.{IsFurther, HasDone, IsRefused}
 use Rattle.ca_replace.specs.Resting.{IsResting, known_of}
 use Rattle.ca_base.specs.Taking.{AreHeld}
@@ -88,24 +88,6 @@ rests_again table z number kept kept' seat one two last r pin table_two work hel
   known = subst (λ (m : MyTree). IsKnown z m.0.upper) (sym unpin) (known_unpinned z two.me.0.upper known.0);
 }
 
--- what a call's contract promises of its end
-abbrev pub IsEnded : {T : Type 0} → (T → Event → Type 0) → Outcome T → ℕ → TreeView → TreeView → Type 0 → Type 0
-IsEnded tells o budget u v D = IfDone o (λ x. HasDoneAs (tells x) u v) × IfRefused o (λ rise. IsRefused rise u v) × IfBusy o (λ spent. budget ≤ spent) × IfDeep o D
-
--- A call's end is what its contract promises.
-pub ended : {T : Type 0} (tells : T → Event → Type 0) (z : Sizes) (r : Result T Stop) (o : Outcome T) (kept budget : ℕ) (u w v : TreeView) (D : Type 0)
-    → (r ≡ Err stop.Deep → D) → HasTriedTo tells z r u w → IsEnd r o kept budget w v → IsEnded tells o budget u v D
-ended {T} tells z (Ok x) o kept budget u w v D d h e = subst (λ (y : Outcome T). IsEnded tells y budget u v D) (sym e.0)
-    (subst (HasDoneAs (tells x) u) (sym e.1) h.0, tt, tt, tt)
-ended {T} tells z (Err stop.Lost) o kept budget u w v D d h e = subst (λ (y : Outcome T). IsEnded tells y budget u v D) (sym e.0)
-    (tt, refused_on u w v one_more_busy h.0 e.1, omega arith, tt)
-ended {T} tells z (Err stop.Empty) o kept budget u w v D d h e = subst (λ (y : Outcome T). IsEnded tells y budget u v D) (sym e.0)
-    (tt, refused_on u w v one_more_full h.0 e.1, tt, tt)
-ended {T} tells z (Err stop.Worn) o kept budget u w v D d h e = subst (λ (y : Outcome T). IsEnded tells y budget u v D) (sym e.0)
-    (tt, refused_on u w v one_more_worn h.0 e.1, tt, tt)
-ended {T} tells z (Err stop.Deep) o kept budget u w v D d h e = subst (λ (y : Outcome T). IsEnded tells y budget u v D) (sym e.0)
-    (tt, refused_on u w v one_more_deep h.0 e.1, tt, d refl)
-
 -- A pass that rests and is counted a refusal rests.
 pub rests_refused : (table : TableId) (z : Sizes) (number : ℕ) (kept : Vec Kept Global) (seat last : MySeat) (counts : Counts) → IsResting table z number kept seat
     → last.table_id ≡ seat.table_id → last.me ≡ (record seat.me.0 { upper = record seat.me.0.upper { counts = counts } }, seat.me.1)
@@ -138,10 +120,10 @@ pub none_pinned : (table : TableId) (z : Sizes) (number : ℕ) (kept kept' : Kep
 none_pinned table z number kept kept' seat one e u r is same = subst (λ (x : MyTree × KeptRows). AreHeld z.rows x.1.rows x.0.0.claims [])
     (λ i. (sym is i, sym same i)) (holds_none table z number kept.rows seat r)
 
--- A lost attempt learnt of others' edits alone.
-pub lost_further : {T : Type 0} (tells : T → Event → Type 0) (z : Sizes) (r : Result T Stop) (u v : TreeView) → r ≡ Err stop.Lost → HasTriedTo tells z r u v
-    → IsFurther u v
-lost_further tells z r u v e h = (subst (λ (x : Result _ Stop). HasTriedTo tells z x u v) e h).0
+-- An attempt that came to a stop learnt of others' edits alone.
+pub stopped_further : {T : Type 0} (tells : T → Event → Type 0) (z : Sizes) (r : Result T Stop) (why : Stop) (u v : TreeView) → r ≡ Err why
+    → HasTriedTo tells z r u v → IsFurther u v
+stopped_further tells z r why u v e h = (subst (λ (x : Result _ Stop). HasTriedTo tells z x u v) e h).0
 
 pub no_further : (u : TreeView) → IsFurther u u
 no_further u = record { number = refl; seen = starts_whole u.seen; log = refl; counts = refl }

@@ -3,13 +3,15 @@ use Rattle.std.specs.Prelude.{◌≡◌, ℕ, ◌≤◌, Bool, true, false, List
 use Rattle.ca_model.specs.declared.outcome.Counter.TheVariants as counter
 use Rattle.ca_model.specs.declared.outcome.Outcome.{Outcome}
 use Rattle.ca_model.specs.declared.outcome.Outcome.TheVariants as outcome
+use Rattle.ca_model.specs.declared.outcome.Spent.{Spent}
 use Rattle.ca_model.specs.Event.{Event}
 use Rattle.ca_model.specs.History.{after}
 use Rattle.ca_model.specs.StoreMap.{IsFound, IsPair}
 use Rattle.ca_node.specs.Row.{pair}
 use Rattle.ca_node.specs.Told.{IsKnown}
 use Rattle.ca_node.specs.TreeView.{TreeView}
-use Rattle.ca_model.specs.Known.{one_more_busy, one_more_full, one_more_deep, one_more_worn}
+use Rattle.ca_replace.specs.declared.refusing.Refusal.{Refusal}
+use Rattle.ca_replace.specs.declared.refusing.Refusal.TheVariants as refusal
 use Rattle.ca_replace.specs.declared.attempting.Stop.{Stop}
 use Rattle.ca_replace.specs.declared.attempting.Stop.TheVariants as stop
 use Rattle.ca_base.specs.declared.taking.NoRow.{NoRow}
@@ -30,14 +32,6 @@ abbrev pub HasFetched : Sizes → TreeView → List ℕ → Result ℕ ℕ → L
 HasFetched z u key (Ok at) o = IsFound (after u.seen []) key (Some o) × IsPair z.keypos (key, o) × (object_at (Ok at) (first_note u.notes).objects ≡ o)
 HasFetched z u key (Err at) o = IsFound (after u.seen []) key None × (o ≡ [])
 
--- How a call ends, by what its last attempt came to: it is done, and nothing changes; or it is refused, and counted so.
-abbrev pub IsEnd : {T : Type 0} → Result T Stop → Outcome T → ℕ → ℕ → TreeView → TreeView → Type 0
-IsEnd (Ok x) r kept budget u v = (r ≡ outcome.Done x) × (v ≡ u)
-IsEnd (Err stop.Lost) r kept budget u v = (r ≡ outcome.Busy (record { lost = budget; helped = 0; passed = 0 })) × IsRefused one_more_busy u v
-IsEnd (Err stop.Empty) r kept budget u v = (r ≡ outcome.Full (record { kept = kept; lag = None })) × IsRefused one_more_full u v
-IsEnd (Err stop.Worn) r kept budget u v = (r ≡ outcome.Worn counter.PoolTag) × IsRefused one_more_worn u v
-IsEnd (Err stop.Deep) r kept budget u v = (r ≡ outcome.Deep 0) × IsRefused one_more_deep u v
-
 -- A call was entered in the log, one that is told so.
 abbrev pub HasDoneAs : (Event → Type 0) → TreeView → TreeView → Type 0
 HasDoneAs tells u v = (event : Event) × tells event × HasDone event u v
@@ -54,6 +48,19 @@ come_to (Ok false) = Err stop.Lost
 come_to (Err norow.Lost) = Err stop.Lost
 come_to (Err norow.Empty) = Err stop.Empty
 come_to (Err norow.Worn) = Err stop.Worn
+
+-- Attempts did the call, which is told so; or it is refused, and they learnt of others' edits alone.
+abbrev pub HasAttempted : {T : Type 0} → (T → Event → Type 0) → Result T Refusal → TreeView → TreeView → Type 0
+HasAttempted tells (Ok x) u v = HasDoneAs (tells x) u v
+HasAttempted tells (Err why) u v = IsFurther u v
+
+-- what a call comes to by its last attempt, which found the rows that it wanted, given what was spent
+abbrev pub refused_as : {T : Type 0} → Result T Stop → Spent → Result T Refusal
+refused_as (Ok x) spent = Ok x
+refused_as (Err stop.Lost) spent = Err (refusal.Busy spent)
+refused_as (Err stop.Empty) spent = Err (refusal.Busy spent)
+refused_as (Err stop.Worn) spent = Err (refusal.Worn counter.PoolTag)
+refused_as (Err stop.Deep) spent = Err (refusal.Deep 0)
 
 -- Where the call is refused for want of levels, this holds.
 abbrev pub IfDeep : {T : Type 0} → Outcome T → Type 0 → Type 0

@@ -1,4 +1,5 @@
 pub mod Attempting
+pub mod Causes
 pub mod Made
 pub mod Reads
 pub mod Refusals

@@ -1,19 +1,22 @@
-//! Calls of a pass that rests: attempts, as many as the budget allows, and how they end.
-ghost use Rattle.std.specs.Prelude.{◌≡◌, ◌≤◌, Err, [], IsTrue, true};
+//! Calls of a pass that rests: attempts, the turns of each, and how a call ends.
+ghost use Rattle.std.specs.Prelude.{◌≡◌, ◌≢◌, ◌↔◌, ◌<◌, ◌≤◌, Err, [], IfErr, IsTrue, true};
 ghost use Rattle.ca_model.specs.Answer.{IfBusy, IfDone, IfRefused};
-ghost use Rattle.ca_replace.specs.declared.attempting.Stop.TheVariants.{Deep as IsDeep, Lost as IsLost};
-ghost use Rattle.ca_replace.specs.Attempting.{HasDoneAs, HasTriedTo, IfDeep, IsEnd};
+ghost use Rattle.ca_replace.specs.declared.attempting.Stop.TheVariants.{Deep as IsDeep, Empty as IsEmpty, Lost as IsLost};
+ghost use Rattle.ca_node.specs.Told.{with_upper};
+ghost use Rattle.ca_replace.specs.Attempting.{HasAttempted, HasDoneAs, HasTriedTo, IfDeep, refused_as};
+ghost use Rattle.ca_replace.specs.Causes.{IfRefusedAs, IsCaused, KeepsFew};
 ghost use Rattle.ca_base.specs.Progress.{IsRefused};
-ghost use Rattle.ca_replace.specs.Refusals.{risen};
+ghost use Rattle.ca_replace.specs.Refusals.{outcome_of, risen};
 ghost use Rattle.ca_replace.specs.Resting.{IsResting};
 
 use crate::attempting::{Attempt, Stop};
+use crate::giving::{keep_few, one_more, refill};
 use crate::refusing::{Refusal, refuse};
 use crate::tree::Tree;
-use ca_model::{Code, Counter, FullCause, Outcome, Spent};
+use ca_model::{Code, Counter, Outcome, Spent};
 use ca_node::TreePass;
 
-/// Makes a call: attempts of it, as many as the budget allows, until one isn't lost to another pass.
+/// Makes a call: attempts of it, until one isn't stopped by want of rows that the pass may give back itself.
 pub(crate) fn call<A: Attempt>(
     tree: &Tree,
     pass: &mut TreePass,
@@ -30,10 +33,21 @@ pub(crate) fn call<A: Attempt>(
     ensures refused { IfRefused result (λ rise. IsRefused rise pass.old.seat.me.0.upper pass.new.seat.me.0.upper) }
     ensures deep { IfDeep result (A.adds ≡ true) }
     ensures busy { IfBusy result (λ spent. budget ≤ spent) }
+    ensures caused { IfRefusedAs result (λ why. IsCaused tree.now.space.table.shared.key.passes pass.old.number budget A.adds why pass.old.seat.me pass.new.seat.me pass.new.kept.rows) }
+    ensures few { KeepsFew pass.old.seat.me pass.new.seat.me pass.new.kept.rows }
 {
-    let kept = pass.kept();
-    let tried = tries(tree, pass, what, left, room, budget);
-    finish(tree, pass, tried, kept, budget)
+    let mut spent = Spent {
+        lost: 0,
+        helped: 0,
+        passed: 0,
+    };
+    match attempts(tree, pass, what, left, room, budget, &mut spent) {
+        Ok(answer) => Outcome::Done(answer),
+        Err(why) => {
+            give_up(tree, pass, why);
+            why.outcome()
+        }
+    }
 }
 
 /// Empties the Code of a call that was refused.
@@ -46,14 +60,68 @@ pub(crate) fn empty_if_refused<T>(outcome: &Outcome<T>, old: &mut Code)
     }
 }
 
-// Attempts of a call, until one isn't lost to another pass.
-fn tries<A: Attempt>(
+// Attempts of a call: one that finds no free row is followed by another one, where rows could be given back.
+fn attempts<A: Attempt>(
     tree: &Tree,
     pass: &mut TreePass,
     what: &A,
     left: &mut A::Left,
     room: &mut A::Room,
     budget: u32,
+    spent: &mut Spent,
+) -> Result<A::Answer, Refusal>
+    requires resting { IsResting tree.now.space.table.shared.table_id tree.now.space.table.shared.key pass.old.number pass.old.kept.rows pass.old.seat }
+    requires may { A.may what.now tree.now.space.table.shared.key }
+    requires none { (spent.old.helped ≡ 0) × (spent.old.passed ≡ 0) }
+    ensures number { pass.new.number ≡ pass.old.number }
+    ensures resting { IsResting tree.now.space.table.shared.table_id tree.now.space.table.shared.key pass.new.number pass.new.kept.rows pass.new.seat }
+    ensures come { HasAttempted (λ answer. A.tells what.now answer left.new) result pass.old.seat.me.0.upper pass.new.seat.me.0.upper }
+    ensures caused { IfErr result (λ why. IsCaused tree.now.space.table.shared.key.passes pass.old.number budget A.adds why pass.old.seat.me pass.new.seat.me pass.new.kept.rows) }
+    ensures few { KeepsFew pass.old.seat.me pass.new.seat.me pass.new.kept.rows }
+{
+    loop {
+        let kept = pass.kept();
+        let come = turns(tree, pass, what, left, room, budget, spent);
+        if is_empty(&come) {
+            if let Err(why) = refill(tree, pass, kept, budget, spent) {
+                return Err(why);
+            }
+        } else {
+            keep_few(tree, pass, spent);
+            return or_refusal(come, *spent);
+        }
+    }
+}
+
+// Whether an attempt found no free row.
+fn is_empty<T>(tried: &Result<T, Stop>) -> bool
+    ensures { IsTrue result ↔ (tried.now ≡ Err IsEmpty) }
+{
+    matches!(tried, Err(Stop::Empty))
+}
+
+// What an attempt came to that found the rows it wanted.
+fn or_refusal<T>(tried: Result<T, Stop>, spent: Spent) -> Result<T, Refusal>
+    requires { tried ≢ Err IsEmpty }
+    ensures { result ≡ refused_as tried spent }
+{
+    match tried {
+        Ok(answer) => Ok(answer),
+        Err(Stop::Lost | Stop::Empty) => Err(Refusal::Busy(spent)),
+        Err(Stop::Deep) => Err(Refusal::Deep(0)),
+        Err(Stop::Worn) => Err(Refusal::Worn(Counter::PoolTag)),
+    }
+}
+
+// The turns of an attempt, until one isn't lost to another pass or the budget is spent.
+fn turns<A: Attempt>(
+    tree: &Tree,
+    pass: &mut TreePass,
+    what: &A,
+    left: &mut A::Left,
+    room: &mut A::Room,
+    budget: u32,
+    spent: &mut Spent,
 ) -> Result<A::Answer, Stop>
     requires resting { IsResting tree.now.space.table.shared.table_id tree.now.space.table.shared.key pass.old.number pass.old.kept.rows pass.old.seat }
     requires may { A.may what.now tree.now.space.table.shared.key }
@@ -61,19 +129,24 @@ fn tries<A: Attempt>(
     ensures resting { IsResting tree.now.space.table.shared.table_id tree.now.space.table.shared.key pass.new.number pass.new.kept.rows pass.new.seat }
     ensures tried { HasTriedTo (λ answer. A.tells what.now answer left.new) tree.now.space.table.shared.key result pass.old.seat.me.0.upper pass.new.seat.me.0.upper }
     ensures deep { result ≡ Err IsDeep → A.adds ≡ true }
+    ensures more { spent.old.lost ≤ spent.new.lost }
+    ensures others { (spent.new.helped ≡ spent.old.helped) × (spent.new.passed ≡ spent.old.passed) }
+    ensures lost { result ≡ Err IsLost → budget ≤ spent.new.lost }
+    ensures less { result ≡ Err IsEmpty → spent.new.lost < budget }
 {
-    for _turn in 0..budget {
+    while spent.lost < budget {
         let tried = once(tree, pass, what, left, room);
         if !is_lost(&tried) {
             return tried;
         }
+        spent.lost = one_more(spent.lost);
     }
     Err(Stop::Lost)
 }
 
 // Whether an attempt was lost to another pass.
 fn is_lost<T>(tried: &Result<T, Stop>) -> bool
-    ensures { IsTrue result → tried.now ≡ Err IsLost }
+    ensures { IsTrue result ↔ (tried.now ≡ Err IsLost) }
 {
     matches!(tried, Err(Stop::Lost))
 }
@@ -100,49 +173,13 @@ fn once<A: Attempt>(
     tried
 }
 
-// Ends a call by what its last attempt came to: a refusal is counted. A call that lost an exchange at each attempt spent its budget.
-fn finish<T>(
-    tree: &Tree,
-    pass: &mut TreePass,
-    tried: Result<T, Stop>,
-    kept: u32,
-    budget: u32,
-) -> Outcome<T>
-    requires resting { IsResting tree.now.space.table.shared.table_id tree.now.space.table.shared.key pass.old.number pass.old.kept.rows pass.old.seat }
-    ensures number { pass.new.number ≡ pass.old.number }
-    ensures resting { IsResting tree.now.space.table.shared.table_id tree.now.space.table.shared.key pass.new.number pass.new.kept.rows pass.new.seat }
-    ensures end { IsEnd tried result kept budget pass.old.seat.me.0.upper pass.new.seat.me.0.upper }
-{
-    match tried {
-        Ok(value) => Outcome::Done(value),
-        Err(Stop::Lost) => {
-            give_up(tree, pass, Refusal::Busy);
-            Outcome::Busy(Spent {
-                lost: budget,
-                helped: 0,
-                passed: 0,
-            })
-        }
-        Err(Stop::Empty) => {
-            give_up(tree, pass, Refusal::Full);
-            Outcome::Full(FullCause { kept, lag: None })
-        }
-        Err(Stop::Worn) => {
-            give_up(tree, pass, Refusal::Worn);
-            Outcome::Worn(Counter::PoolTag)
-        }
-        Err(Stop::Deep) => {
-            give_up(tree, pass, Refusal::Deep);
-            Outcome::Deep(0)
-        }
-    }
-}
-
 // Counts a refusal.
 fn give_up(tree: &Tree, pass: &mut TreePass, why: Refusal)
     requires resting { IsResting tree.now.space.table.shared.table_id tree.now.space.table.shared.key pass.old.number pass.old.kept.rows pass.old.seat }
     ensures number { pass.new.number ≡ pass.old.number }
     ensures resting { IsResting tree.now.space.table.shared.table_id tree.now.space.table.shared.key pass.new.number pass.new.kept.rows pass.new.seat }
+    ensures kept { pass.new.kept ≡ pass.old.kept }
+    ensures counted { pass.new.seat.me ≡ with_upper pass.old.seat.me (record pass.old.seat.me.0.upper { counts = risen why pass.old.seat.me.0.upper.counts }) }
     ensures refused { IsRefused (risen why) pass.old.seat.me.0.upper pass.new.seat.me.0.upper }
 {
     refuse(&tree.space, pass, why);

@@ -1,15 +1,73 @@
 //! Passes between two calls give back the rows that they keep.
-ghost use Rattle.std.specs.Prelude.{◌≡◌, false, ◌<◌, vec_len};
+ghost use Rattle.std.specs.Prelude.{◌≡◌, ◌⊎◌, true, false, ◌<◌, ◌≤◌, IfErr, IsErr, IsOk, vec_len};
 ghost use Rattle.std.specs.declared.option.Option.TheVariants.{None};
+ghost use Rattle.ca_replace.specs.Causes.{IsCaused, IsMore, KeepsFew};
 ghost use Rattle.ca_replace.specs.Resting.{IsResting};
 ghost use Rattle.ca_rows.specs.Reclaiming.{IsLag, Losses, Reclaims};
 
+use crate::refusing::Refusal;
 use crate::tree::Tree;
+use ca_model::{Counter, FullCause, Spent};
 use ca_node::TreePass;
 use ca_rows::Reclaimed;
 
-/// Gives back rows that a pass keeps between two calls.
-pub(crate) fn reclaim(tree: &Tree, pass: &mut TreePass) -> Reclaimed
+// From so many kept rows on a call gives rows back as it ends.
+const MANY: u32 = 48;
+
+/// Gives rows back where the pass keeps many.
+pub(crate) fn keep_few(tree: &Tree, pass: &mut TreePass, spent: &mut Spent)
+    requires resting { IsResting tree.now.space.table.shared.table_id tree.now.space.table.shared.key pass.old.number pass.old.kept.rows pass.old.seat }
+    ensures number { pass.new.number ≡ pass.old.number }
+    ensures resting { IsResting tree.now.space.table.shared.table_id tree.now.space.table.shared.key pass.new.number pass.new.kept.rows pass.new.seat }
+    ensures upper { pass.new.seat.me.0.upper ≡ pass.old.seat.me.0.upper }
+    ensures few { KeepsFew pass.old.seat.me pass.new.seat.me pass.new.kept.rows }
+    ensures more { spent.old.lost ≤ spent.new.lost }
+    ensures others { (spent.new.helped ≡ spent.old.helped) × (spent.new.passed ≡ spent.old.passed) }
+{
+    if pass.kept() >= MANY {
+        give_back_kept(tree, pass, spent);
+    }
+}
+
+/// What becomes of a call whose attempt found no free row, and began with so many rows kept: rows are given back, and another attempt
+/// may begin, or the call is refused.
+pub(crate) fn refill(
+    tree: &Tree,
+    pass: &mut TreePass,
+    kept: u32,
+    budget: u32,
+    spent: &mut Spent,
+) -> Result<(), Refusal>
+    requires resting { IsResting tree.now.space.table.shared.table_id tree.now.space.table.shared.key pass.old.number pass.old.kept.rows pass.old.seat }
+    requires before { spent.old.lost < budget }
+    requires none { (spent.old.helped ≡ 0) × (spent.old.passed ≡ 0) }
+    ensures number { pass.new.number ≡ pass.old.number }
+    ensures resting { IsResting tree.now.space.table.shared.table_id tree.now.space.table.shared.key pass.new.number pass.new.kept.rows pass.new.seat }
+    ensures upper { pass.new.seat.me.0.upper ≡ pass.old.seat.me.0.upper }
+    ensures more { spent.old.lost ≤ spent.new.lost }
+    ensures others { (spent.new.helped ≡ spent.old.helped) × (spent.new.passed ≡ spent.old.passed) }
+    ensures again { IsOk result → (0 < kept) × (spent.new.lost < budget) × ((vec_len pass.new.kept.rows ≡ 0) ⊎ (spent.old.lost < spent.new.lost)) }
+    ensures caused { IfErr result (λ why. IsCaused tree.now.space.table.shared.key.passes pass.old.number budget false why pass.old.seat.me pass.new.seat.me pass.new.kept.rows) }
+    ensures few { IsErr result → KeepsFew pass.old.seat.me pass.new.seat.me pass.new.kept.rows }
+{
+    let given = give_back_kept(tree, pass, spent);
+    if spent.lost >= budget {
+        return Err(Refusal::Busy(*spent));
+    }
+    if kept == 0 || given.lag.is_some() {
+        return Err(Refusal::Full(FullCause {
+            kept,
+            lag: given.lag,
+        }));
+    }
+    if !given.lost && given.kept > 0 {
+        return Err(Refusal::Worn(Counter::Epoch));
+    }
+    Ok(())
+}
+
+// Gives back rows that a pass keeps between two calls, and counts what it lost.
+fn give_back_kept(tree: &Tree, pass: &mut TreePass, spent: &mut Spent) -> Reclaimed
     requires resting { IsResting tree.now.space.table.shared.table_id tree.now.space.table.shared.key pass.old.number pass.old.kept.rows pass.old.seat }
     ensures number { pass.new.number ≡ pass.old.number }
     ensures resting { IsResting tree.now.space.table.shared.table_id tree.now.space.table.shared.key pass.new.number pass.new.kept.rows pass.new.seat }
@@ -18,6 +76,19 @@ pub(crate) fn reclaim(tree: &Tree, pass: &mut TreePass) -> Reclaimed
     ensures lag { IsLag tree.now.space.table.shared.key.passes pass.old.number result.lag pass.new.seat.me.0.pin }
     ensures lost { Losses result.lost pass.old.seat.me.0.lost pass.new.seat.me.0.lost }
     ensures all { result.lag ≡ None → result.lost ≡ false → pass.new.seat.me.0.pin.scan < 4611686018427387904 → result.kept ≡ 0 }
+    ensures counted { IsMore result.lost spent.old.lost spent.new.lost }
+    ensures others { (spent.new.helped ≡ spent.old.helped) × (spent.new.passed ≡ spent.old.passed) }
 {
-    tree.space.reclaim(pass)
+    let given = tree.space.reclaim(pass);
+    if given.lost {
+        spent.lost = one_more(spent.lost);
+    }
+    given
+}
+
+/// One more is counted, up to the last value of a count.
+pub(crate) fn one_more(count: u32) -> u32
+    ensures { IsMore true count result }
+{
+    count.saturating_add(1)
 }

@@ -2,10 +2,11 @@
 ghost use Rattle.std.specs.Prelude.{◌≡◌};
 ghost use Rattle.ca_model.specs.Known.{Counts, one_more_busy};
 ghost use Rattle.ca_node.specs.Told.{Refuses, with_upper};
-ghost use Rattle.ca_replace.specs.Refusals.{risen};
+ghost use Rattle.ca_replace.specs.Refusals.{outcome_of, risen};
 ghost use Rattle.ca_rows.specs.Calls.{IsOf, IsSame};
 
 use atomic_table::Play;
+use ca_model::{Counter, FullCause, Outcome, Spent};
 use ca_node::{Knowledge, TreePass, TreeSpace};
 use ca_rows::View;
 use std::marker::{Brand, PhantomData};
@@ -16,14 +17,28 @@ const LAST: u32 = 0;
 /// Why a call is refused.
 #[derive(Clone, Copy, Debug, PartialEq, Eq)]
 pub(crate) enum Refusal {
-    /// Its budget was spent.
-    Busy,
+    /// Its budget was spent, by these turns.
+    Busy(Spent),
     /// No row was free.
-    Full,
-    /// The base that must take a new key has as many as it may.
-    Deep,
+    Full(FullCause),
+    /// The base at this level that must take a new key has as many as it may.
+    Deep(u16),
     /// A counter can rise no more.
-    Worn,
+    Worn(Counter),
+}
+
+impl Refusal {
+    /// What the call comes to.
+    pub(crate) fn outcome<T>(self) -> Outcome<T>
+        ensures { result ≡ outcome_of self }
+    {
+        match self {
+            Refusal::Busy(spent) => Outcome::Busy(spent),
+            Refusal::Full(cause) => Outcome::Full(cause),
+            Refusal::Deep(level) => Outcome::Deep(level),
+            Refusal::Worn(counter) => Outcome::Worn(counter),
+        }
+    }
 }
 
 /// How a step changes the counts of refusals. It exists in proofs alone.

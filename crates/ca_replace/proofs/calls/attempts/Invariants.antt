@@ -1,0 +1,16 @@
+use Rattle.std.proofs.Common.{◌≡◌, ◌+◌, ◌-◌, ◌*◌, min, vec_len}
+use Rattle.ca_base.specs.Progress.{IsFurther}
+use Rattle.ca_replace.specs.Resting.{IsResting}
+use Rattle.ca_replace.proofs.calls.attempts.Given as goal
+
+abbrev pub invariant-loop-come : goal.invariant-loop-come
+invariant-loop-come g l = record {
+  number : l.pass.number ≡ l.fn.pass.number;
+  resting : IsResting l.tree.space.table.shared.table_id l.tree.space.table.shared.key l.pass.number l.pass.kept.rows l.pass.seat;
+  further : IsFurther l.fn.pass.seat.me.0.upper l.pass.seat.me.0.upper;
+  helped : l.spent.helped ≡ 0;
+  passed : l.spent.passed ≡ 0;
+}
+
+abbrev pub decreases-loop-come : goal.decreases-loop-come
+decreases-loop-come g l = 2 * (l.budget - l.spent.lost) + min (vec_len l.pass.kept.rows) 1
