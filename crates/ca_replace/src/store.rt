@@ -1,5 +1,5 @@
 //! A pass as a store.
-ghost use Rattle.std.specs.Prelude.{◌≡◌, ◌≤◌, [], None, OnOk, length, slice_range};
+ghost use Rattle.std.specs.Prelude.{◌≡◌, ◌≤◌, [], None, OnOk, length, slice_range, vec_len};
 ghost use Rattle.ca_model.specs.Answer.{Altered, Got, IfBusy, IfDone, IfRefused, IsDone, IsNeverDeep, Removed, RemovedIf};
 ghost use Rattle.ca_model.specs.Event.{Write, WriteNew};
 ghost use Rattle.ca_model.specs.Function.{KeepsKey, MayBeAskedFor};
@@ -57,6 +57,13 @@ impl TreeStore<'_> {
     {
         let Self { tree: _, pass } = self;
         pass
+    }
+
+    /// How many rows the pass keeps that were unlinked, until no other pass can be reading them.
+    pub fn kept(&self) -> u32
+        ensures { result ≡ vec_len self.now.kept }
+    {
+        self.pass.kept()
     }
 
     /// Each call finds its own room among the tree's rows, so this takes no memory and does nothing.

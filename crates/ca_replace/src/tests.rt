@@ -243,7 +243,7 @@ fn put_new(store: &mut TreeStore<'_>, n: u32) -> Outcome<bool>
     store.put_new(&object(n), 5, 10, 1)
 }
 
-// How many puts of an object are done, until one isn't, and what that one came to.
+// How many puts of an object are done, until one isn't or a thousand are, and what the last one came to.
 fn put_on(store: &mut TreeStore<'_>, n: u32) -> (u32, Outcome<()>)
     requires { store.old.z.keypos ≡ 1 }
     ensures { store.new.z ≡ store.old.z }
@@ -257,8 +257,23 @@ fn put_on(store: &mut TreeStore<'_>, n: u32) -> (u32, Outcome<()>)
     (1_000, Outcome::Done(()))
 }
 
+// The most rows that a pass keeps behind one of so many puts of an object.
+fn most_kept(store: &mut TreeStore<'_>, n: u32) -> u32
+    requires { store.old.z.keypos ≡ 1 }
+    ensures { store.new.z ≡ store.old.z }
+{
+    let mut most = 0;
+    for _put in 0..1_000 {
+        if put(store, n) != Outcome::Done(()) {
+            return u32::MAX;
+        }
+        most = most.max(store.kept());
+    }
+    most
+}
+
 #[test]
-fn each_put_takes_two_rows_until_none_is_free(rt: HostRuntime) {
+fn a_thousand_puts_find_their_rows_again(rt: HostRuntime) {
     let Ok(mut tree) = Tree::new(rt.alloc(), 384, 1, 1, TUNING, STARTS) else {
         panic!(rt; "no memory")
     };
@@ -266,19 +281,51 @@ fn each_put_takes_two_rows_until_none_is_free(rt: HostRuntime) {
         panic!(rt; "no pass")
     };
     let mut store = TreeStore::new(&tree, pass);
+    assert!(rt; most_kept(&mut store, 1) <= 64);
+    let mut into = Code::new();
+    assert_eq!(rt; get(&mut store, 1, &mut into), Outcome::Done(true));
+    assert!(rt; into.as_slice() == object(1).as_slice());
+}
+
+#[test]
+fn no_row_is_given_again_while_another_pass_reads(rt: HostRuntime) {
+    let Ok(mut tree) = Tree::new(rt.alloc(), 384, 2, 1, TUNING, STARTS) else {
+        panic!(rt; "no memory")
+    };
+    let (Ok(one), Ok(mut two)) = (tree.enroll(rt.alloc()), tree.enroll(rt.alloc())) else {
+        panic!(rt; "no pass")
+    };
+    tree.space().pin(&mut two);
+    let mut store = TreeStore::new(&tree, one);
     let full = FullCause {
         kept: 381,
-        lag: None,
+        lag: Some(2),
     };
     assert_eq!(rt; put_on(&mut store, 1), (191, Outcome::Full(full)));
     let mut into = Code::new();
-    assert_eq!(rt;
-        store.get(&[0x24, 1, 0, 0, 1], &mut into, 1),
-        Outcome::Done(true)
-    );
+    assert_eq!(rt; get(&mut store, 1, &mut into), Outcome::Done(true));
     assert!(rt; into.as_slice() == object(1).as_slice());
     assert_eq!(rt; put_new(&mut store, 1), Outcome::Done(false));
     assert_eq!(rt; put_new(&mut store, 2), Outcome::Full(full));
+    tree.space().unpin(&mut two);
+    assert_eq!(rt; put(&mut store, 1), Outcome::Done(()));
+    assert!(rt; store.kept() <= 64);
+}
+
+#[test]
+fn no_row_is_given_again_once_the_epoch_is_worn(rt: HostRuntime) {
+    let worn = Starts {
+        epoch: 1 << 62,
+        ..STARTS
+    };
+    let Ok(mut tree) = Tree::new(rt.alloc(), 384, 1, 1, TUNING, worn) else {
+        panic!(rt; "no memory")
+    };
+    let Ok(pass) = tree.enroll(rt.alloc()) else {
+        panic!(rt; "no pass")
+    };
+    let mut store = TreeStore::new(&tree, pass);
+    assert_eq!(rt; put_on(&mut store, 1), (191, Outcome::Worn(Counter::Epoch)));
 }
 
 #[test]
@@ -440,20 +487,21 @@ fn a_function_changes_an_object(rt: HostRuntime) {
 
 #[test]
 fn a_refusal_leaves_each_object_and_nothing_to_the_caller(rt: HostRuntime) {
-    let Ok(mut tree) = Tree::new(rt.alloc(), 384, 1, 1, TUNING, STARTS) else {
+    let Ok(mut tree) = Tree::new(rt.alloc(), 384, 2, 1, TUNING, STARTS) else {
         panic!(rt; "no memory")
     };
-    let Ok(pass) = tree.enroll(rt.alloc()) else {
+    let (Ok(one), Ok(mut two)) = (tree.enroll(rt.alloc()), tree.enroll(rt.alloc())) else {
         panic!(rt; "no pass")
     };
-    let mut store = TreeStore::new(&tree, pass);
+    tree.space().pin(&mut two);
+    let mut store = TreeStore::new(&tree, one);
     let mut old = Code::new();
     assert_eq!(rt; put(&mut store, 2), Outcome::Done(()));
     let _puts = put_on(&mut store, 1);
     assert_eq!(rt; remove(&mut store, 1, &mut old), Outcome::Done(true));
     let full = FullCause {
         kept: 382,
-        lag: None,
+        lag: Some(2),
     };
     assert_eq!(rt; remove(&mut store, 2, &mut old), Outcome::Full(full));
     assert!(rt; old.is_empty());

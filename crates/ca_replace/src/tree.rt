@@ -78,6 +78,13 @@ impl Tree {
         Ok(Tree { space, tuning })
     }
 
+    /// The words that the passes share.
+    pub fn space(&self) -> &TreeSpace
+        ensures { result.now ≡ self.now.space }
+    {
+        &self.space
+    }
+
     /// Makes a pass: the right to read and edit the map. Its number is that of the passes made until then, and it, together. A store can be
     /// made of it.
     #[tactic(auto, using(crate::proofs::Fresh::rests))]
