@@ -15,8 +15,8 @@ main([]) ->
      || {Leaf, Count} <- [{12, 10}, {24, 20}, {60, 45}, {120, 90}], Mix <- [lookups, puts, mixed], Threads <- [1, 2, 4]].
 
 line(Mix, Leaf, Count, Threads) ->
-    Keys = list_to_tuple([key(N) || N <- lists:seq(0, Count - 1)]),
-    Objects = list_to_tuple([{key(N), 1700000000, [{ip, <<"10.0.0.7">>}]} || N <- lists:seq(0, Count - 1)]),
+    Keys = list_to_tuple([key(N) || N <- lists:seq(0, Leaf - 1)]),
+    Objects = list_to_tuple([{key(N), 1700000000, [{ip, <<"10.0.0.7">>}]} || N <- lists:seq(0, Leaf - 1)]),
     Calls = ?CALLS div Threads,
     Nanos = lists:sum([run(Mix, Keys, Objects, Count, Threads, Calls) || _ <- lists:seq(1, ?RUNS)]),
     io:format("ets,~s,~b,~b,~b,~b~n", [Mix, Leaf, Count, Threads, Calls * Threads * ?RUNS * 1000000 div Nanos]).
@@ -51,6 +51,11 @@ play(Mix, Table, Keys, Objects, Count, Drawn, Left) ->
         lookups -> [_] = ets:lookup(Table, element(Place, Keys));
         puts -> true = ets:insert(Table, element(Place, Objects));
         mixed when Next band 3 < 2 -> [_] = ets:lookup(Table, element(Place, Keys));
-        mixed -> true = ets:insert(Table, element(Place, Objects))
+        mixed when Next band 3 =:= 2 -> true = ets:insert(Table, element(Place, Objects));
+        mixed -> come_or_go(Table, Keys, Objects, Next band 4, Count + 1 + Next div 16 rem (tuple_size(Keys) - Count))
     end,
     play(Mix, Table, Keys, Objects, Count, Next, Left - 1).
+
+%% Puts an object that isn't there from the start on, where it is absent, or removes one.
+come_or_go(Table, _Keys, Objects, 0, Place) -> ets:insert_new(Table, element(Place, Objects));
+come_or_go(Table, Keys, _Objects, _, Place) -> ets:take(Table, element(Place, Keys)).

@@ -63,8 +63,20 @@ impl Client {
         let place = (drawn / 16 % load.present) as usize;
         match (mix, drawn % 4) {
             ("lookups", _) | ("mixed", 0 | 1) => self.get(map, &load.keys[place]),
+            ("mixed", 3) => self.come_or_go(map, load, drawn),
             _ => map.write().unwrap().insert(load.keys[place].clone(), load.objects[place].clone()).is_some(),
         }
+    }
+
+    // Puts an object that isn't there from the start on, where it is absent, or removes one.
+    fn come_or_go(&mut self, map: &Map, load: &Load, drawn: u32) -> bool {
+        let place = (load.present + drawn / 16 % (load.keys.len() as u32 - load.present)) as usize;
+        if drawn / 4 % 2 == 0 {
+            map.write().unwrap().entry(load.keys[place].clone()).or_insert_with(|| load.objects[place].clone());
+        } else if let Some(object) = map.write().unwrap().remove(&load.keys[place]) {
+            self.into = object;
+        }
+        true
     }
 
     fn play(&mut self, mix: &str, map: &Map, load: &Load, calls: u32) {
@@ -104,7 +116,7 @@ fn run(mix: &str, load: &Load, threads: u32, calls: u32) -> u128 {
 
 fn main() {
     for (leaf, count) in LEAVES {
-        let load = Load { keys: (0..count).map(key).collect(), objects: (0..count).map(object).collect(), present: count };
+        let load = Load { keys: (0..leaf).map(key).collect(), objects: (0..leaf).map(object).collect(), present: count };
         for mix in ["lookups", "puts", "mixed"] {
             for threads in [1, 2, 4] {
                 let calls = CALLS / threads;

@@ -15,14 +15,15 @@ pub enum Mix {
     Lookups,
     /// Puts of present keys.
     Puts,
-    /// Half lookups and half puts of present keys.
+    /// Half lookups and a quarter puts of present keys, and a quarter calls at keys that come and go.
     Mixed,
 }
 
-/// A pass on a tree, and what it plays with.
+/// A pass on a tree, and what it plays with: objects that are there from the start on, and others.
 pub struct Client<'t> {
     store: TreeStore<'t>,
     present: &'t [Coded],
+    others: &'t [Coded],
     drawn: u32,
     good: u32,
     into: Code,
@@ -34,6 +35,7 @@ impl Drop for Client<'_> {
         let Self {
             store: _,
             present: _,
+            others: _,
             drawn: _,
             good: _,
             into: _,
@@ -43,12 +45,18 @@ impl Drop for Client<'_> {
 
 impl<'t> Client<'t> {
     /// A client that plays with these objects. Clients of other numbers play in another order.
-    pub fn new(store: TreeStore<'t>, present: &'t [Coded], number: u32) -> Client<'t>
+    pub fn new(
+        store: TreeStore<'t>,
+        present: &'t [Coded],
+        others: &'t [Coded],
+        number: u32,
+    ) -> Client<'t>
         requires { store.z.keypos ≡ 1 }
     {
         Client {
             store,
             present,
+            others,
             drawn: number,
             good: 0,
             into: Code::new(),
@@ -60,7 +68,7 @@ impl<'t> Client<'t> {
         self.good
     }
 
-    /// Puts each of the objects once.
+    /// Puts each of the objects that are there from the start on.
     pub fn fill(&mut self) {
         for place in 0..self.present.len() {
             let done = self.put(place);
@@ -88,13 +96,30 @@ impl<'t> Client<'t> {
         match mix {
             Mix::Lookups => self.get(place),
             Mix::Puts => self.put(place),
-            Mix::Mixed => {
-                if drawn % 4 < 2 {
-                    self.get(place)
-                } else {
-                    self.put(place)
-                }
+            Mix::Mixed => match drawn % 4 {
+                0 | 1 => self.get(place),
+                2 => self.put(place),
+                _ => self.come_or_go(drawn),
+            },
+        }
+    }
+
+    // Puts one of the other objects, where it is absent, or removes it.
+    fn come_or_go(&mut self, drawn: u32) -> bool {
+        let place = (drawn / 16) as usize % self.others.len().max(1);
+        for _ in 0..TRIES {
+            if self.try_come_or_go(place, drawn / 4 % 2 == 0) {
+                return true;
             }
+        }
+        false
+    }
+
+    fn try_come_or_go(&mut self, place: usize, comes: bool) -> bool {
+        match self.others.get(place) {
+            Some(coded) if comes => coded.put_new_into(&mut self.store),
+            Some(coded) => coded.remove_from(&mut self.store, &mut self.into),
+            None => false,
         }
     }
 

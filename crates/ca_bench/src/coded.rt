@@ -49,6 +49,23 @@ impl Coded {
     {
         store.put(self.code.as_slice(), self.key_at, self.key_end, BUDGET) == Outcome::Done(())
     }
+
+    /// Puts it where the store has no object with its key, and answers whether the call wasn't refused.
+    pub fn put_new_into(&self, store: &mut TreeStore<'_>) -> bool
+        requires { store.old.z.keypos ≡ 1 }
+        ensures { store.new.z ≡ store.old.z }
+    {
+        let outcome = store.put_new(self.code.as_slice(), self.key_at, self.key_end, BUDGET);
+        matches!(outcome, Outcome::Done(_))
+    }
+
+    /// Removes the object with this key, where the store has one, and answers whether the call wasn't refused. `into` is that object.
+    pub fn remove_from(&self, store: &mut TreeStore<'_>, into: &mut Code) -> bool
+        ensures { store.new.z ≡ store.old.z }
+    {
+        let key = &self.code.as_slice()[self.key_at..self.key_end];
+        matches!(store.remove(key, into, BUDGET), Outcome::Done(_))
+    }
 }
 
 /// The codes of these objects, without those that are too long.

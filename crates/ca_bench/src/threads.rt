@@ -20,10 +20,8 @@ const ROWS: u32 = 65_535;
 // How often a measure is taken, each time on a new tree; the times are added.
 const RUNS: u32 = 3;
 
-// How many calls all clients together play in a run, of lookups alone and of mixes with puts. A put takes two rows for good.
-const LOOKUPS: u32 = 2_000_000;
-
-const CALLS: u32 = 16_000;
+// How many calls all clients together play in a run.
+const CALLS: u32 = 2_000_000;
 
 const STARTS: Starts = Starts {
     tag: 0,
@@ -33,12 +31,12 @@ const STARTS: Starts = Starts {
 };
 
 // How many objects a leaf may have, and how many it has.
-const LEAVES: [(u8, u32); 4] = [(12, 10), (24, 20), (60, 45), (120, 90)];
+const LEAVES: [(u8, usize); 4] = [(12, 10), (24, 20), (60, 45), (120, 90)];
 
-const MIXES: [(&str, Mix, u32); 3] = [
-    ("lookups", Mix::Lookups, LOOKUPS),
-    ("puts", Mix::Puts, CALLS),
-    ("mixed", Mix::Mixed, CALLS),
+const MIXES: [(&str, Mix); 3] = [
+    ("lookups", Mix::Lookups),
+    ("puts", Mix::Puts),
+    ("mixed", Mix::Mixed),
 ];
 
 const THREADS: [u32; 3] = [1, 2, 4];
@@ -90,7 +88,7 @@ fn good_calls(clients: &[Client<'_>]) -> u32 {
 fn run<R: Clock + Threads + Sync + Alloc<A = Global>>(
     rt: &R,
     leaf: u8,
-    objects: &[Coded],
+    (present, others): (&[Coded], &[Coded]),
     (mix, calls): (Mix, u32),
     threads: usize,
 ) -> io::Result<Option<u128>> {
@@ -107,15 +105,15 @@ fn run<R: Clock + Threads + Sync + Alloc<A = Global>>(
         return Ok(None);
     };
     let mut clients = [
-        Client::new(TreeStore::new(&tree, a), objects, 1),
-        Client::new(TreeStore::new(&tree, b), objects, 2),
-        Client::new(TreeStore::new(&tree, c), objects, 3),
-        Client::new(TreeStore::new(&tree, d), objects, 4),
+        Client::new(TreeStore::new(&tree, a), present, others, 1),
+        Client::new(TreeStore::new(&tree, b), present, others, 2),
+        Client::new(TreeStore::new(&tree, c), present, others, 3),
+        Client::new(TreeStore::new(&tree, d), present, others, 4),
     ];
     clients[0].fill();
     let threads = threads.min(4);
     let nanos = play_all(rt, &mut clients[..threads], mix, calls)?;
-    let wanted = calls as usize * threads + objects.len();
+    let wanted = calls as usize * threads + present.len();
     if good_calls(&clients) as usize == wanted {
         Ok(Some(nanos))
     } else {
@@ -127,12 +125,12 @@ fn run<R: Clock + Threads + Sync + Alloc<A = Global>>(
 fn time_mix<R: Clock + Print + Threads + Sync + Alloc<A = Global>>(
     rt: &R,
     leaf: u8,
-    objects: &[Coded],
-    (name, mix, calls): (&str, Mix, u32),
+    objects: (&[Coded], &[Coded]),
+    (name, mix): (&str, Mix),
     threads: u32,
 ) -> io::Result<()> {
-    let count = objects.len();
-    let each = calls / threads.max(1);
+    let count = objects.0.len();
+    let each = CALLS / threads.max(1);
     let mut nanos = 0_u128;
     for _ in 0..RUNS {
         let Some(more) = run(rt, leaf, objects, (mix, each), threads as usize)? else {
@@ -152,15 +150,16 @@ pub fn time_threads<R: Clock + Print + Threads + Sync + Alloc<A = Global>>(
 ) -> io::Result<()> {
     let alloc = rt.alloc();
     for (leaf, count) in LEAVES {
-        let Ok(load) = usual_load(alloc, count) else {
+        let Ok(load) = usual_load(alloc, u32::from(leaf)) else {
             return println!(rt; "no memory");
         };
         let Ok(objects) = coded_load(alloc, load.objects.as_slice()) else {
             return println!(rt; "no memory");
         };
+        let parts = objects.as_slice().split_at(count.min(objects.len()));
         for mix in MIXES {
             for threads in THREADS {
-                time_mix(rt, leaf, objects.as_slice(), mix, threads)?;
+                time_mix(rt, leaf, parts, mix, threads)?;
             }
         }
     }

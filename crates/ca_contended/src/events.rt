@@ -11,22 +11,22 @@ pub(crate) enum Event {
     PutNew(u32),
     /// It found an object, where it would have put one if there was none.
     NotNew,
+    /// It removed this object, or found none.
+    Removed(Option<u32>),
+    /// It put the object of the next value in the place of this one, or found none.
+    Raised(Option<u32>),
 }
 
 impl Event {
     /// What the key has behind the event where it had this before; `None` where the event can't be then.
     pub(crate) fn follows(self, before: Option<u32>) -> Option<Option<u32>> {
         match self {
-            Event::Got(found) => { if found == before { Some(before) } else { None } }
+            Event::Got(found) => then(found == before, before),
             Event::Put(value) => Some(Some(value)),
-            Event::PutNew(value) => match before {
-                None => Some(Some(value)),
-                Some(_) => None,
-            },
-            Event::NotNew => match before {
-                None => None,
-                Some(_) => Some(before),
-            },
+            Event::PutNew(value) => then(before.is_none(), Some(value)),
+            Event::NotNew => then(before.is_some(), before),
+            Event::Removed(found) => then(found == before, None),
+            Event::Raised(found) => then(found == before, next(before)),
         }
     }
 
@@ -34,7 +34,8 @@ impl Event {
     pub(crate) fn written(self) -> Option<u32> {
         match self {
             Event::Put(value) | Event::PutNew(value) => Some(value),
-            Event::Got(_) | Event::NotNew => None,
+            Event::Raised(found) => next(found),
+            Event::Got(_) | Event::NotNew | Event::Removed(_) => None,
         }
     }
 }
@@ -44,4 +45,17 @@ impl Event {
 pub(crate) struct Entry {
     pub key: u32,
     pub event: Event,
+}
+
+// This state, where it can be.
+fn then(can: bool, state: Option<u32>) -> Option<Option<u32>> {
+    if can { Some(state) } else { None }
+}
+
+// The next value.
+fn next(value: Option<u32>) -> Option<u32> {
+    match value {
+        Some(value) => Some(value.wrapping_add(1)),
+        None => None,
+    }
 }

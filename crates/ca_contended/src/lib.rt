@@ -12,4 +12,6 @@ mod objects;
 #[cfg(test)]
 mod player;
 #[cfg(test)]
+mod sums;
+#[cfg(test)]
 mod tests;

@@ -1,8 +1,10 @@
 //! The objects that clients put.
-ghost use Rattle.std.specs.Prelude.{◌≡◌, slice_range};
+ghost use Rattle.std.specs.Prelude.{◌≡◌, IsTrue, slice_range};
 ghost use Rattle.ca_model.specs.Function.{StandsAt};
 ghost use Rattle.ca_model.specs.StoreMap.{IsPair};
 ghost use Rattle.ca_contended.specs.Objects.{number_code};
+
+use ca_model::Code;
 
 /// The code of the tuple of the numbers 2 ^ 24 + key and 2 ^ 24 + value, of both of which the lower 24 bits count. Its key stands from byte 5 to
 /// byte 10.
@@ -36,4 +38,14 @@ pub(crate) fn value_of(bytes: &[u8], key: u32) -> u32 {
     } else {
         u32::MAX
     }
+}
+
+/// Writes the object with the next value, as `change` wants it.
+pub(crate) fn write_next(old: &[u8], key: u32, into: &mut Code, at: &mut usize) -> bool
+    ensures { IsTrue result → IsPair 1 (number_code key, into.new.items) × StandsAt (number_code key) into.new.items at.new }
+{
+    let next = object(key, value_of(old, key).wrapping_add(1));
+    into.clear();
+    *at = 5;
+    into.try_extend_from_slice(&next).is_ok()
 }

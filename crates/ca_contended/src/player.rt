@@ -1,9 +1,12 @@
 //! Clients, each with a pass of its own, which note what their calls were answered.
-ghost use Rattle.std.specs.Prelude.{◌≡◌};
+ghost use Rattle.std.specs.Prelude.{◌≡◌, IsTrue};
+ghost use Rattle.ca_contended.specs.Objects.{number_code};
+ghost use Rattle.ca_model.specs.Function.{StandsAt};
+ghost use Rattle.ca_model.specs.StoreMap.{IsPair};
 
 use crate::events::{Entry, Event};
-use crate::objects::{key_code, object, value_of};
-use ca_model::{Code, Outcome};
+use crate::objects::{key_code, object, value_of, write_next};
+use ca_model::{Changed, Code, Outcome};
 use ca_replace::TreeStore;
 use std::alloc::Global;
 
@@ -71,23 +74,41 @@ impl<'t> Player<'t> {
         }
     }
 
-    /// Plays so many turns. In each it draws a key, of this many that it shares and one of its own, whose number is its own and 100, and a call.
+    /// Plays so many turns. In each it draws a key, of this many that it shares and one of its own, and a call. A key with an odd number is never
+    /// overwritten.
     pub(crate) fn play(&mut self, turns: u32, shared: u32) {
         for _ in 0..turns {
             let drawn = self.draw();
             let at = drawn / 16 % shared.saturating_add(1);
             let key = if at < shared { at } else { self.own_key() };
-            match drawn % 4 {
-                0 => self.put(key),
-                1 => self.put_new(key),
+            match drawn % 8 {
+                0 if key % 2 == 0 => self.put(key),
+                0 | 1 => self.put_new(key),
+                2 | 3 => self.remove(key),
                 _ => self.get(key),
             }
         }
     }
 
+    /// Raises the value of a counter so many times.
+    pub(crate) fn count(&mut self, turns: u32, counter: u32) {
+        for _ in 0..turns {
+            self.raise(counter);
+        }
+    }
+
+    /// Puts a counter of value 0.
+    pub(crate) fn start_counter(&mut self, counter: u32) {
+        if self.store.put(&object(counter, 0), 5, 10, BUDGET) == Outcome::Done(()) {
+            self.note(counter, Event::Put(0));
+        } else {
+            self.refuse();
+        }
+    }
+
     /// The key that no other client uses.
     pub(crate) fn own_key(&self) -> u32 {
-        self.number.saturating_add(100)
+        self.number.saturating_add(200)
     }
 
     // The next number of an order without pattern.
@@ -139,4 +160,45 @@ impl<'t> Player<'t> {
         }
         self.refuse();
     }
+
+    fn remove(&mut self, key: u32) {
+        let mut old = Code::new();
+        for _ in 0..TRIES {
+            match self.store.remove(&key_code(key), &mut old, BUDGET) {
+                Outcome::Done(true) => {
+                    let value = value_of(old.as_slice(), key);
+                    return self.note(key, Event::Removed(Some(value)));
+                }
+                Outcome::Done(false) => return self.note(key, Event::Removed(None)),
+                _ => {}
+            }
+        }
+        self.refuse();
+    }
+
+    fn raise(&mut self, key: u32) {
+        let mut old = Code::new();
+        for _ in 0..TRIES {
+            match raise(&mut self.store, key, &mut old) {
+                Outcome::Done(Changed::Put) => {
+                    let value = value_of(old.as_slice(), key);
+                    return self.note(key, Event::Raised(Some(value)));
+                }
+                Outcome::Done(_) => return self.note(key, Event::Raised(None)),
+                _ => {}
+            }
+        }
+        self.refuse();
+    }
+}
+
+// Puts the object of the next value in the place of the key's object.
+fn raise(store: &mut TreeStore<'_>, key: u32, old: &mut Code) -> Outcome<Changed>
+    requires { store.old.z.keypos ≡ 1 }
+    ensures { store.new.z ≡ store.old.z }
+{
+    let write = |object: &[u8], into: &mut Code, at: &mut usize| -> bool
+        ensures { IsTrue result → IsPair 1 (number_code key, into.new.items) × StandsAt (number_code key) into.new.items at.new }
+    { write_next(object, key, into, at) };
+    store.change(&key_code(key), &write, old, BUDGET)
 }
