@@ -8,7 +8,7 @@
 %% How often a measure is taken, each time on a new table; the times are added.
 -define(RUNS, 3).
 %% How many calls all clients together play in a run.
--define(CALLS, 1000000).
+-define(CALLS, 500000).
 
 main([]) ->
     [line(Mix, Leaf, Count, Threads)

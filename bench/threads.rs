@@ -11,7 +11,7 @@ const LEAVES: [(u32, u32); 4] = [(12, 10), (24, 20), (60, 45), (120, 90)];
 // How often a measure is taken, each time on a new map; the times are added.
 const RUNS: u32 = 3;
 // How many calls all clients together play in a run.
-const CALLS: u32 = 2_000_000;
+const CALLS: u32 = 1_000_000;
 
 type Map = RwLock<BTreeMap<Vec<u8>, Vec<u8>>>;
 

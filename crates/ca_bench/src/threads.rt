@@ -21,7 +21,7 @@ const ROWS: u32 = 65_535;
 const RUNS: u32 = 3;
 
 // How many calls all clients together play in a run.
-const CALLS: u32 = 2_000_000;
+const CALLS: u32 = 1_000_000;
 
 const STARTS: Starts = Starts {
     tag: 0,

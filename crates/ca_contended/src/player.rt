@@ -10,10 +10,10 @@ use ca_model::{Changed, Code, Outcome};
 use ca_replace::TreeStore;
 use std::alloc::Global;
 
-// How many turns a call may lose to others, and how often one that is refused is tried again.
+// How many turns a call may lose to others, and how often one that is refused is tried again: as long as another client may be kept from going on.
 const BUDGET: u32 = 1_000;
 
-const TRIES: u32 = 1_000;
+const TRIES: u32 = 1_000_000;
 
 /// A client of a tree, what it noted, and how many of its calls were refused for good.
 pub(crate) struct Player<'t> {

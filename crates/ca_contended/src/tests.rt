@@ -112,7 +112,7 @@ fn a_counter_ends_with_as_much_as_it_was_raised(rt: HostRuntime) {
 }
 
 // How many turns each of four clients plays, and how many keys they share.
-const LONG: u32 = 200_000;
+const LONG: u32 = 100_000;
 
 const HUNDRED: u32 = 100;
 
@@ -126,17 +126,23 @@ fn play_all<T: Threads + Sync>(rt: &T, clients: &mut [Player<'_>]) {
     );
 }
 
-// Whether the clients' replies are such as any history demands. None was refused for good.
+// How many calls were refused for good.
+fn refused(clients: &[Player<'_>]) -> u32 {
+    let mut refused = 0_u32;
+    for client in clients {
+        refused = refused.saturating_add(client.refused());
+    }
+    refused
+}
+
+// Whether the clients' replies are such as any history demands.
 fn are_explained(alloc: Global, clients: &[Player<'_>]) -> Result<bool, AllocError> {
     let mut values = Values::new(alloc)?;
     for client in clients {
         values.add(client.log());
     }
     for client in clients {
-        if client.refused() != 0
-            || !values.explain(client.log())
-            || !is_rising(alloc, client.log())?
-        {
+        if !values.explain(client.log()) || !is_rising(alloc, client.log())? {
             return Ok(false);
         }
     }
@@ -172,6 +178,7 @@ fn four_clients_share_a_hundred_keys_on_few_rows(rt: HostRuntime) {
         Player::new(rt.alloc(), TreeStore::new(&tree, d), 4),
     ];
     play_all(&rt, &mut clients);
+    assert_eq!(rt; refused(&clients), 0);
     assert!(rt; matches!(are_explained(rt.alloc(), &clients), Ok(true)));
     for key in 0..HUNDRED {
         let end = clients[0].value(key);
