@@ -89,8 +89,9 @@ rests_again table z number kept kept' seat one two last r pin table_two work hel
 }
 
 -- A pass that rests and is counted a refusal rests.
-pub rests_refused : (table : TableId) (z : Sizes) (number : ℕ) (kept : Vec Kept Global) (seat last : MySeat) (counts : Counts) → IsResting table z number kept seat
-    → last.table_id ≡ seat.table_id → last.me ≡ (record seat.me.0 { upper = record seat.me.0.upper { counts = counts } }, seat.me.1)
+pub rests_refused : (table : TableId) (z : Sizes) (number : ℕ) (kept : Vec Kept Global) (seat last : MySeat) (counts : Counts)
+    → IsResting table z number kept seat → last.table_id ≡ seat.table_id
+    → last.me ≡ (record seat.me.0 { upper = record seat.me.0.upper { counts = counts } }, seat.me.1)
     → IsResting table z number kept last
 rests_refused table z number kept seat last counts r same is = record {
   of = (same ∙ r.of.0, ap (λ (m : MyTree). m.0.sizes) is ∙ r.of.1);

@@ -71,7 +71,8 @@ pub(crate) trait Attempt {
         ensures number { pass.new.number ≡ pass.old.number }
         ensures pin { (pass.new.seat.me.0.sizes ≡ pass.old.seat.me.0.sizes) × (pass.new.seat.me.0.pin ≡ pass.old.seat.me.0.pin) }
         ensures none { AreHeld space.now.table.shared.key.rows pass.new.kept.rows pass.new.seat.me.0.claims [] }
-        ensures tried { HasTriedTo (λ answer. tells self.now answer left.new) space.now.table.shared.key result pass.old.seat.me.0.upper pass.new.seat.me.0.upper }
+        ensures tried { HasTriedTo (λ answer. tells self.now answer left.new) space.now.table.shared.key result pass.old.seat.me.0.upper
+            pass.new.seat.me.0.upper }
         ensures deep { result ≡ Err IsDeep → adds ≡ true };
 }
 
@@ -83,7 +84,8 @@ pub(crate) fn find(space: &TreeSpace, pass: &mut TreePass, key: &[u8]) -> (u32, 
     ensures same { IsSame pass.old.seat pass.new.seat }
     ensures number { pass.new.number ≡ pass.old.number }
     ensures kept { pass.new.kept ≡ pass.old.kept }
-    ensures still { (pass.new.seat.me.0.sizes ≡ pass.old.seat.me.0.sizes) × (pass.new.seat.me.0.pin ≡ pass.old.seat.me.0.pin) × (pass.new.seat.me.0.claims ≡ pass.old.seat.me.0.claims) }
+    ensures still { (pass.new.seat.me.0.sizes ≡ pass.old.seat.me.0.sizes) × (pass.new.seat.me.0.pin ≡ pass.old.seat.me.0.pin)
+        × (pass.new.seat.me.0.claims ≡ pass.old.seat.me.0.claims) }
     ensures looking { IsLooking space.now.table.shared.key pass.new.seat.me.0.upper result.0 }
     ensures place { IsPlace (map pair (first_note pass.new.seat.me.0.upper.notes).objects) key.now result.1 }
     ensures further { IsFurther pass.old.seat.me.0.upper pass.new.seat.me.0.upper }
@@ -106,7 +108,8 @@ pub(crate) fn fetch(
     ensures same { IsSame pass.old.seat pass.new.seat }
     ensures number { pass.new.number ≡ pass.old.number }
     ensures kept { pass.new.kept ≡ pass.old.kept }
-    ensures still { (pass.new.seat.me.0.sizes ≡ pass.old.seat.me.0.sizes) × (pass.new.seat.me.0.pin ≡ pass.old.seat.me.0.pin) × (pass.new.seat.me.0.claims ≡ pass.old.seat.me.0.claims) }
+    ensures still { (pass.new.seat.me.0.sizes ≡ pass.old.seat.me.0.sizes) × (pass.new.seat.me.0.pin ≡ pass.old.seat.me.0.pin)
+        × (pass.new.seat.me.0.claims ≡ pass.old.seat.me.0.claims) }
     ensures looking { IsLooking space.now.table.shared.key pass.new.seat.me.0.upper result.0 }
     ensures place { IsPlace (map pair (first_note pass.new.seat.me.0.upper.notes).objects) key.now result.1 }
     ensures further { IsFurther pass.old.seat.me.0.upper pass.new.seat.me.0.upper }
@@ -128,7 +131,8 @@ fn look(space: &TreeSpace, pass: &mut TreePass, key: &[u8]) -> u32
     ensures same { IsSame pass.old.seat pass.new.seat }
     ensures number { pass.new.number ≡ pass.old.number }
     ensures kept { pass.new.kept ≡ pass.old.kept }
-    ensures still { (pass.new.seat.me.0.sizes ≡ pass.old.seat.me.0.sizes) × (pass.new.seat.me.0.pin ≡ pass.old.seat.me.0.pin) × (pass.new.seat.me.0.claims ≡ pass.old.seat.me.0.claims) }
+    ensures still { (pass.new.seat.me.0.sizes ≡ pass.old.seat.me.0.sizes) × (pass.new.seat.me.0.pin ≡ pass.old.seat.me.0.pin)
+        × (pass.new.seat.me.0.claims ≡ pass.old.seat.me.0.claims) }
     ensures looking { IsLooking space.now.table.shared.key pass.new.seat.me.0.upper result }
     ensures further { IsFurther pass.old.seat.me.0.upper pass.new.seat.me.0.upper }
 {
@@ -181,7 +185,9 @@ pub(crate) fn put_there(
     ensures number { pass.new.number ≡ pass.old.number }
     ensures pin { (pass.new.seat.me.0.sizes ≡ pass.old.seat.me.0.sizes) × (pass.new.seat.me.0.pin ≡ pass.old.seat.me.0.pin) }
     ensures none { AreHeld space.now.table.shared.key.rows pass.new.kept.rows pass.new.seat.me.0.claims [] }
-    ensures tried { HasTriedTo (λ _ event. event ≡ put_event why (slice_range object.now key_at key_end) (object_at place (first_note pass.old.seat.me.0.upper.notes).objects) object.now) space.now.table.shared.key result pass.old.seat.me.0.upper pass.new.seat.me.0.upper }
+    ensures tried { HasTriedTo (λ _ event. event ≡ put_event why (slice_range object.now key_at key_end)
+        (object_at place (first_note pass.old.seat.me.0.upper.notes).objects) object.now) space.now.table.shared.key result pass.old.seat.me.0.upper
+        pass.new.seat.me.0.upper }
     ensures deep { OnOk place (result ≢ Err IsDeep) }
 {
     let items = read_items(space, pass, base);
@@ -213,7 +219,8 @@ pub(crate) fn remove_there(
     ensures number { pass.new.number ≡ pass.old.number }
     ensures pin { (pass.new.seat.me.0.sizes ≡ pass.old.seat.me.0.sizes) × (pass.new.seat.me.0.pin ≡ pass.old.seat.me.0.pin) }
     ensures none { AreHeld space.now.table.shared.key.rows pass.new.kept.rows pass.new.seat.me.0.claims [] }
-    ensures tried { HasTriedTo (λ _ event. event ≡ Remove key.now (Some (object_at (Ok at) (first_note pass.old.seat.me.0.upper.notes).objects))) space.now.table.shared.key result pass.old.seat.me.0.upper pass.new.seat.me.0.upper }
+    ensures tried { HasTriedTo (λ _ event. event ≡ Remove key.now (Some (object_at (Ok at) (first_note pass.old.seat.me.0.upper.notes).objects)))
+        space.now.table.shared.key result pass.old.seat.me.0.upper pass.new.seat.me.0.upper }
     ensures deep { result ≢ Err IsDeep }
 {
     let items = read_items(space, pass, base);

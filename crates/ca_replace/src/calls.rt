@@ -127,7 +127,8 @@ fn turns<A: Attempt>(
     requires may { A.may what.now tree.now.space.table.shared.key }
     ensures number { pass.new.number ≡ pass.old.number }
     ensures resting { IsResting tree.now.space.table.shared.table_id tree.now.space.table.shared.key pass.new.number pass.new.kept.rows pass.new.seat }
-    ensures tried { HasTriedTo (λ answer. A.tells what.now answer left.new) tree.now.space.table.shared.key result pass.old.seat.me.0.upper pass.new.seat.me.0.upper }
+    ensures tried { HasTriedTo (λ answer. A.tells what.now answer left.new) tree.now.space.table.shared.key result pass.old.seat.me.0.upper
+        pass.new.seat.me.0.upper }
     ensures deep { result ≡ Err IsDeep → A.adds ≡ true }
     ensures more { spent.old.lost ≤ spent.new.lost }
     ensures others { (spent.new.helped ≡ spent.old.helped) × (spent.new.passed ≡ spent.old.passed) }
@@ -163,7 +164,8 @@ fn once<A: Attempt>(
     requires may { A.may what.now tree.now.space.table.shared.key }
     ensures number { pass.new.number ≡ pass.old.number }
     ensures resting { IsResting tree.now.space.table.shared.table_id tree.now.space.table.shared.key pass.new.number pass.new.kept.rows pass.new.seat }
-    ensures tried { HasTriedTo (λ answer. A.tells what.now answer left.new) tree.now.space.table.shared.key result pass.old.seat.me.0.upper pass.new.seat.me.0.upper }
+    ensures tried { HasTriedTo (λ answer. A.tells what.now answer left.new) tree.now.space.table.shared.key result pass.old.seat.me.0.upper
+        pass.new.seat.me.0.upper }
     ensures deep { result ≡ Err IsDeep → A.adds ≡ true }
 {
     let space = &tree.space;

@@ -56,7 +56,8 @@ pub(crate) fn copy_at(
     ensures number { pass.new.number ≡ pass.old.number }
     ensures kept { pass.new.kept ≡ pass.old.kept }
     ensures still { pass.new.seat.me ≡ pass.old.seat.me }
-    ensures object { (note : Note) → IsReadable space.now.table.shared.key pass.old.seat.me.0.upper base note → place < length note.objects → into.new.items ≡ object (slice_index_or note.objects place []) }
+    ensures object { (note : Note) → IsReadable space.now.table.shared.key pass.old.seat.me.0.upper base note → place < length note.objects
+        → into.new.items ≡ object (slice_index_or note.objects place []) }
 {
     let row = item(space, pass, base, place);
     copy_object(space, pass, row, into);

@@ -136,7 +136,8 @@ pub(crate) fn put_new(
     requires pair { IsPair tree.now.space.table.shared.key.keypos (slice_range object.now key_at key_end, object.now) }
     ensures number { pass.new.number ≡ pass.old.number }
     ensures resting { IsResting tree.now.space.table.shared.table_id tree.now.space.table.shared.key pass.new.number pass.new.kept.rows pass.new.seat }
-    ensures put { IfDone result (λ new. HasDone (WriteNew (slice_range object.now key_at key_end) object.now new) pass.old.seat.me.0.upper pass.new.seat.me.0.upper) }
+    ensures put { IfDone result (λ new. HasDone (WriteNew (slice_range object.now key_at key_end) object.now new) pass.old.seat.me.0.upper
+        pass.new.seat.me.0.upper) }
     ensures refused { IfRefused result (λ rise. IsRefused rise pass.old.seat.me.0.upper pass.new.seat.me.0.upper) }
     ensures busy { IfBusy result (λ spent. budget ≤ spent) }
 {

@@ -135,7 +135,8 @@ pub(crate) fn remove_if<F: Fn(&[u8]) -> bool>(
     requires function { MayBeAskedFor F.Fn f.now tree.now.space.table.shared.key.keypos key.now }
     ensures number { pass.new.number ≡ pass.old.number }
     ensures resting { IsResting tree.now.space.table.shared.table_id tree.now.space.table.shared.key pass.new.number pass.new.kept.rows pass.new.seat }
-    ensures removed { IfDone result (λ changed. HasDoneAs (RemovesIf F.Fn f.now key.now changed old.new.items) pass.old.seat.me.0.upper pass.new.seat.me.0.upper) }
+    ensures removed { IfDone result (λ changed. HasDoneAs (RemovesIf F.Fn f.now key.now changed old.new.items) pass.old.seat.me.0.upper
+        pass.new.seat.me.0.upper) }
     ensures refused { IfRefused result (λ rise. IsRefused rise pass.old.seat.me.0.upper pass.new.seat.me.0.upper) }
     ensures emptied { IfRefused result (λ _. old.new.items ≡ []) }
     ensures never_deep { IsNeverDeep result }

@@ -17,5 +17,6 @@ loop-place-preserved c = let i = c.loop-place.invariant in let note = first_note
       still = c.item-row.ensures.still ∙ i.still;
       many = i.many;
       few = i.few;
-      copied = c.push.ensures.items ∙ (ap (λ (xs : List ℕ). xs ++ c.item-row.result ∷ []) i.copied ∙ sym (one_more_item _ c.loop-place.place c.item-row.result row));
+      copied = c.push.ensures.items ∙ (ap (λ (xs : List ℕ). xs ++ c.item-row.result ∷ []) i.copied
+          ∙ sym (one_more_item _ c.loop-place.place c.item-row.result row));
     }

@@ -7,7 +7,8 @@ use Rattle.ca_replace.proofs.Showing.{shown_last, tried_by}
 use Rattle.ca_replace.proofs.attempting.remove_there.Goals as goal
 
 pub remove_at-tried-requires-clause-shown : goal.remove_at-tried-requires-clause-shown
-remove_at-tried-requires-clause-shown c = subst (λ (m : MyTree). IsShownLast c.args.space.now.table.shared.key m.0.upper c.args.base c.read_items-items.result.items)
+remove_at-tried-requires-clause-shown c = subst (λ (m : MyTree). IsShownLast c.args.space.now.table.shared.key m.0.upper c.args.base
+    c.read_items-items.result.items)
     (sym c.read_items-items.ensures.still)
     (shown_last c.args.space.now.table.shared.key c.args.pass.now.seat.me.0.upper c.args.base c.read_items-items.result.items c.requires.looking
     c.read_items-items.ensures.items)

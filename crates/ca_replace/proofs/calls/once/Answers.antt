@@ -22,7 +22,8 @@ returns-clause-resting g c = let space = c.args.tree.now.space.table.shared in l
     let tells = λ (x : _). g.A.Attempt.tells c.args.what.now x c.attempt-tried.new.left in
     rests_as space.table_id space.key c.args.pass.now.number c.unpin.new.pass.number c.attempt-tried.new.pass.kept c.unpin.new.pass.kept c.unpin.new.pass.seat
     (c.unpin.ensures.number ∙ (two.number ∙ c.pin.ensures.number)) c.unpin.ensures.kept
-    (rests_again space.table_id space.key c.args.pass.now.number c.args.pass.now.kept.rows c.attempt-tried.new.pass.kept.rows c.args.pass.now.seat c.pin.new.pass.seat
+    (rests_again space.table_id space.key c.args.pass.now.number c.args.pass.now.kept.rows c.attempt-tried.new.pass.kept.rows c.args.pass.now.seat
+    c.pin.new.pass.seat
     c.attempt-tried.new.pass.seat c.unpin.new.pass.seat c.requires.resting
     (ap (λ (m : MyTree). m.0.sizes) pin, ap (λ (m : MyTree). m.0.pin.number) pin, ap (λ (m : MyTree). m.0.upper.number) pin)
     (two.same.0 ∙ c.pin.ensures.same.0) two.pin two.none

@@ -55,7 +55,8 @@ put_there-requires-clause-within g c = let l = left g c in (omega arith, omega (
 
 pub put_there-requires-clause-pair : goal.put_there-requires-clause-pair
 put_there-requires-clause-pair g c = let l = left g c in
-    subst (λ (q : Pair). IsPair c.args.space.now.table.shared.key.keypos q) (sym (pair_of_bytes c.as_slice-2.result.now c.f.new.arg3.items c.args.self.now.key.now
+    subst (λ (q : Pair). IsPair c.args.space.now.table.shared.key.keypos q)
+    (sym (pair_of_bytes c.as_slice-2.result.now c.f.new.arg3.items c.args.self.now.key.now
     c.f.new.arg4 c.as_slice-2.ensures.value l.key)) l.pair
 
 pub put_there-requires-clause-place : goal.put_there-requires-clause-place

@@ -7,11 +7,13 @@ use Rattle.ca_replace.proofs.puts.PutNewCallAttempt.attempt.Goals as goal
 
 pub enter-requires-clause-answer : goal.enter-requires-clause-answer
 enter-requires-clause-answer c = let o = c.args.self.now in
-    not_new c.args.space.now.table.shared.key c.find-base.new.pass.seat.me.0.upper c.find-base.result.0 (slice_range o.object.now o.key_at o.key_end) o.object.now
+    not_new c.args.space.now.table.shared.key c.find-base.new.pass.seat.me.0.upper c.find-base.result.0
+    (slice_range o.object.now o.key_at o.key_end) o.object.now
     c.find-base.result.1 (sym c.is_ok.ensures.value ∙ c.if-is_ok.true) c.find-base.ensures.looking c.find-base.ensures.place
 
 pub returns-then-is_ok-clause-tried : goal.returns-then-is_ok-clause-tried
-returns-then-is_ok-clause-tried c = let o = c.args.self.now in let k = slice_range o.object.now o.key_at o.key_end in let z = c.args.space.now.table.shared.key in
+returns-then-is_ok-clause-tried c = let o = c.args.self.now in let k = slice_range o.object.now o.key_at o.key_end in
+    let z = c.args.space.now.table.shared.key in
     let w = c.find-base.new.pass.seat.me.0.upper in
     let event = WriteNew k o.object.now false in
     read_done (λ (new : Bool) (e : Event). e ≡ WriteNew k o.object.now new) z c.find-base.result.0 c.args.pass.now.seat.me.0.upper w

@@ -48,5 +48,6 @@ returns-in-Ok-remove_there-clause-tried g c = let key : List ℕ = c.args.self.n
     did (λ (x : Changed) (e : Event). RemovesIf g.F.Fn c.args.self.now.f.now key x old e) z
     (Remove key (Some (object_at (Ok c.in-Ok.at) (first_note w.notes).objects))) changed.Put
     c.args.pass.now.seat.me.0.upper w c.remove_there.new.pass.seat.me.0.upper
-    (record { shown = _; shows = c.as_slice.ensures.value; met = rw c.if-not-f.false at c.f.ensures }, λ i. Remove key (Some (found.2 i))) c.fetch-base.ensures.further
+    (record { shown = _; shows = c.as_slice.ensures.value; met = rw c.if-not-f.false at c.f.ensures }, λ i. Remove key (Some (found.2 i)))
+    c.fetch-base.ensures.further
     c.in-Ok-remove_there.ensures.tried
