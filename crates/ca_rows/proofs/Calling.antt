@@ -8,7 +8,7 @@ use Rattle.ca_rows.specs.declared.view.Claimed.{Claimed}
 use Rattle.ca_rows.specs.declared.view.Stage.{Stage}
 use Rattle.ca_rows.specs.Calls.{PutsRow}
 use Rattle.ca_rows.specs.Claims.{claim_of, claimed, dropped}
-use Rattle.ca_rows.specs.Told.{Mine, with_stage, with_claims, missed}
+use Rattle.ca_rows.specs.Told.{Mine, with_stage, with_claims, with_most, missed}
 use Rattle.ca_rows.proofs.Claiming.{dropped_claimed}
 
 module _ {U : Type 0} (a b c d : Mine U) (one two : Stage) (looked : b ≡ with_stage a one) where
@@ -16,10 +16,10 @@ module _ {U : Type 0} (a b c d : Mine U) (one two : Stage) (looked : b ≡ with_
   peeked_too peeked = peeked ∙ ap (λ (m : Mine U). with_stage m two) looked
 
   -- Two loads and an exchange that took the row.
-  pub row_taken : (q : ℕ) (its : List ℕ) → c ≡ with_stage b two → claim_of c.0.claims q ≡ none → d ≡ with_claims c (claimed q (Holds its) c.0.claims)
-      → (claim_of a.0.claims q ≡ none) × (d ≡ with_claims a (claimed q (Holds its) a.0.claims))
+  pub row_taken : (q : ℕ) (its : List ℕ) → c ≡ with_stage b two → claim_of c.0.claims q ≡ none → d ≡ with_most (with_claims c (claimed q (Holds its) c.0.claims))
+      → (claim_of a.0.claims q ≡ none) × (d ≡ with_most (with_claims a (claimed q (Holds its) a.0.claims)))
   row_taken q its peeked free took = let e = peeked_too peeked in
-      (ap (λ (m : Mine U). claim_of m.0.claims q) (sym e) ∙ free, took ∙ ap (λ (m : Mine U). with_claims m (claimed q (Holds its) m.0.claims)) e)
+      (ap (λ (m : Mine U). claim_of m.0.claims q) (sym e) ∙ free, took ∙ ap (λ (m : Mine U). with_most (with_claims m (claimed q (Holds its) m.0.claims))) e)
 
   -- Two loads and an exchange that lost.
   pub row_missed : c ≡ with_stage b two → d ≡ missed c → d ≡ missed a
@@ -41,6 +41,7 @@ row_put {U} a b c d one q q' n old its long looked wrote same gave lost = let no
     (λ miss. subst (λ (x : Bool). PutsRow x q a d) (sym (ne_eqb n old miss)) (its, long, lost miss ∙ ap missed now))
 
 -- Where only the pool's part of a view changed, its size, its pin and its upper part are as they were.
-pub still : {U : Type 0} (m m' : Mine U) (st : Stage) (xs : List Claimed) (lost : ℕ) → m' ≡ (record m.0 { stage = st; claims = xs; lost = lost }, m.1)
+pub still : {U : Type 0} (m m' : Mine U) (st : Stage) (xs : List Claimed) (lost empty worn most : ℕ)
+    → m' ≡ (record m.0 { stage = st; claims = xs; lost = lost; empty = empty; worn = worn; most = most }, m.1)
     → (m'.0.sizes ≡ m.0.sizes) × (m'.0.pin ≡ m.0.pin) × (m'.0.upper ≡ m.0.upper)
-still {U} m m' st xs lost e = (ap (λ (x : Mine U). x.0.sizes) e, ap (λ (x : Mine U). x.0.pin) e, ap (λ (x : Mine U). x.0.upper) e)
+still {U} m m' st xs lost empty worn most e = (ap (λ (x : Mine U). x.0.sizes) e, ap (λ (x : Mine U). x.0.pin) e, ap (λ (x : Mine U). x.0.upper) e)

@@ -1,5 +1,5 @@
 -- What the steps that give kept rows back come to together.
-use Rattle.std.proofs.Common.{◌≡◌, ◌≢◌, ◌⊎◌, ℕ, ◌+◌, ◌<◌, ◌≤◌, List, ◌++◌, take, drop, get_or, vec_len, vec_capacity, sym, refl, ap, ◌∙◌, subst, inl, inr, ⊎_elim, arith, le_refl}
+use Rattle.std.proofs.Common.{◌≡◌, ◌≢◌, ◌⊎◌, ℕ, ◌+◌, ◌<◌, ◌≤◌, max, List, ◌++◌, take, drop, get_or, vec_len, vec_capacity, sym, refl, ap, ◌∙◌, subst, inl, inr, ⊎_elim, arith, le_refl}
 use mathlib.Core.Logic.{dite}
 use mathlib.Core.Option.{Option, some, none, some-injective, some-ne-none}
 use native.Mathlib.Decide.{ℕ_discrete}
@@ -9,11 +9,12 @@ use Rattle.ca_rows.specs.declared.view.Claim.{Claim}
 use Rattle.ca_rows.specs.declared.view.Claim.TheVariants.{Holds, Lends, Unlinked, Keeps, Returns}
 use Rattle.ca_rows.specs.declared.view.Claimed.{Claimed}
 use Rattle.ca_rows.specs.declared.view.Stage.TheVariants.{Idle}
-use Rattle.ca_rows.specs.Claims.{claim_of, claimed, dropped}
+use Rattle.ca_rows.specs.Claims.{claim_of, claimed, dropped, held_count}
 use Rattle.ca_rows.specs.Kept.{AreKept}
 use Rattle.ca_rows.specs.Reclaiming.{Reclaims}
-use Rattle.ca_rows.specs.Told.{Mine, with_claims, missed}
-use Rattle.ca_rows.proofs.Claiming.{claimed_here, claimed_else, dropped_here, dropped_else}
+use Rattle.ca_rows.specs.Told.{Mine, with_claims, with_most, missed}
+use Rattle.ca_rows.proofs.Claiming.{claimed_here, claimed_else, claimed_again, dropped_here, dropped_else, dropped_claimed}
+use Rattle.ca_rows.proofs.HeldCount.{dropped_no_more, held_one_more, claimed_no_more}
 use Rattle.ca_rows.proofs.Keeping.{claimed_too, dropped_too}
 use Rattle.ca_rows.proofs.Listing.{left_out}
 
@@ -42,6 +43,11 @@ module _ {U : Type 0} where
     same_slots = refl;
     later = le_refl m.0.pin.scan;
     more_lost = le_refl m.0.lost;
+    same_empty = refl;
+    same_worn = refl;
+    no_more_held = le_refl (held_count m.0.claims);
+    more_most = le_refl m.0.most;
+    least_most = omega arith;
     others = λ r n. refl;
     kept = λ r t e. inr (t, le_refl t, e, λ _. refl);
   }
@@ -58,6 +64,11 @@ module _ {U : Type 0} where
     same_slots = y.same_slots ∙ x.same_slots;
     later = omega arith;
     more_lost = omega arith;
+    same_empty = y.same_empty ∙ x.same_empty;
+    same_worn = y.same_worn ∙ x.same_worn;
+    no_more_held = let held = x.no_more_held in let held' = y.no_more_held in omega arith;
+    more_most = let most = x.more_most in let most' = y.more_most in omega arith;
+    least_most = let held = x.no_more_held in let least = x.least_most in let least' = y.least_most in omega arith;
     others = λ r n. y.others r (λ t e. n t (sym (x.others r n) ∙ e)) ∙ x.others r n;
     kept = λ r t e. ⊎_elim
         (λ (g : (claim_of b.0.claims r ≡ none) × (t + 2 ≤ b.0.pin.scan)). let two = g.1 in
@@ -84,11 +95,12 @@ module _ {U : Type 0} where
 
   -- One kept row was given back, or is kept since another epoch, and an exchange lost.
   module _ (m m' : Mine U) (q t : ℕ) (was : claim_of m.0.claims q ≡ some (Keeps t)) (old : t + 2 ≤ m.0.pin.scan) where
-    only : (xs : List Claimed) (lost : ℕ) → m' ≡ (record m.0 { stage = Idle; claims = xs; lost = lost }, m.1) → m.0.lost ≤ lost
+    only : (xs : List Claimed) (lost most : ℕ) → m' ≡ (record m.0 { stage = Idle; claims = xs; lost = lost; most = most }, m.1) → m.0.lost ≤ lost
+        → held_count xs ≤ held_count m.0.claims → m.0.most ≤ most → most ≤ max m.0.most (held_count m.0.claims + 1)
         → ((r : ℕ) → r ≢ q → claim_of xs r ≡ claim_of m.0.claims r)
         → (claim_of xs q ≡ none) × (t + 2 ≤ m.0.pin.scan) ⊎ ((t' : ℕ) × (t ≤ t') × (claim_of xs q ≡ some (Keeps t')) × (lost ≡ m.0.lost → t' ≡ t))
         → Reclaims m m'
-    only xs lost e more else here = subst (λ x. Reclaims m x) (sym e) record {
+    only xs lost most e more held more_most least_most else here = subst (λ x. Reclaims m x) (sym e) record {
       same_sizes = refl;
       same_made = refl;
       same_number = refl;
@@ -99,6 +111,11 @@ module _ {U : Type 0} where
       same_slots = refl;
       later = le_refl m.0.pin.scan;
       more_lost = more;
+      same_empty = refl;
+      same_worn = refl;
+      no_more_held = held;
+      more_most = more_most;
+      least_most = least_most;
       others = λ r n. else r (λ f. n t (ap (claim_of m.0.claims) f ∙ was));
       kept = λ r u is. dite (ℕ_discrete r q)
           (λ (f : r ≡ q). let same : t ≡ u = kept_same t u (sym was ∙ (ap (claim_of m.0.claims) (sym f) ∙ is)) in
@@ -107,12 +124,27 @@ module _ {U : Type 0} where
           (λ n. inr (u, le_refl u, else r n ∙ is, λ _. refl));
     }
 
-    module _ (m1 m2 : Mine U) (its : List ℕ) (held : m1 ≡ (record m.0 { claims = claimed q (Holds its) m.0.claims }, m.1)) where
+    module _ (m1 m2 : Mine U) (its : List ℕ) (held : m1 ≡ with_most (record m.0 { claims = claimed q (Holds its) m.0.claims }, m.1)) where
+      -- the most rows that are held at once
+      most_now : ℕ
+      most_now = max m.0.most (held_count (claimed q (Holds its) m.0.claims))
+
+      least_now : most_now ≤ max m.0.most (held_count m.0.claims + 1)
+      unfolding most_now
+      least_now = let one_more = held_one_more q its m.0.claims in omega arith
+
+      more_now : m.0.most ≤ most_now
+      unfolding most_now
+      more_now = omega arith
+
       -- held, and put back
       pub put_back : m' ≡ with_claims m1 (dropped q m1.0.claims) → Reclaims m m' × (m'.0.pin ≡ m.0.pin) × (m'.0.lost ≡ m.0.lost)
-      put_back put = let now : m' ≡ (record m.0 { stage = Idle; claims = dropped q (claimed q (Holds its) m.0.claims); lost = m.0.lost }, m.1) =
+      unfolding most_now
+      put_back put = let xs : List Claimed = dropped q (claimed q (Holds its) m.0.claims) in
+          let fewer = ap held_count (dropped_claimed m.0.claims q (Holds its)) in let fewer' = dropped_no_more q m.0.claims in
+          let now : m' ≡ (record m.0 { stage = Idle; claims = xs; lost = m.0.lost; most = most_now }, m.1) =
           put ∙ ap (λ (x : Mine U). with_claims x (dropped q x.0.claims)) held in (
-            only (dropped q (claimed q (Holds its) m.0.claims)) m.0.lost now (le_refl m.0.lost)
+            only xs m.0.lost most_now now (le_refl m.0.lost) (omega arith) more_now least_now
                 (λ r n. dropped_else (claimed q (Holds its) m.0.claims) q r n ∙ claimed_else m.0.claims q r (Holds its) n)
                 (inl (dropped_here (claimed q (Holds its) m.0.claims) q, old)),
             ap (λ (x : Mine U). x.0.pin) now,
@@ -123,14 +155,17 @@ module _ {U : Type 0} where
       pub kept_again : (its' : List ℕ) (e : ℕ) → m2 ≡ missed (with_claims m1 (claimed q (Holds its') m1.0.claims))
           → m' ≡ (record m2.0 { claims = claimed q (Keeps e) m2.0.claims }, m2.1) → m2.0.pin.scan ≤ e
           → Reclaims m m' × (m'.0.pin ≡ m.0.pin) × (m'.0.lost ≡ m.0.lost + 1)
+      unfolding most_now
       kept_again its' e lost retired after =
           let xs : List Claimed = claimed q (Holds its') (claimed q (Holds its) m.0.claims) in
-          let missed_is : m2 ≡ (record m.0 { stage = Idle; claims = xs; lost = m.0.lost + 1 }, m.1) =
+          let fewer = ap held_count (claimed_again (claimed q (Holds its) m.0.claims) q (Holds its') (Keeps e)
+          ∙ claimed_again m.0.claims q (Holds its) (Keeps e)) in let fewer' = claimed_no_more q (Keeps e) m.0.claims refl in
+          let missed_is : m2 ≡ (record m.0 { stage = Idle; claims = xs; lost = m.0.lost + 1; most = most_now }, m.1) =
           lost ∙ ap (λ (x : Mine U). missed (with_claims x (claimed q (Holds its') x.0.claims))) held in
-          let now : m' ≡ (record m.0 { stage = Idle; claims = claimed q (Keeps e) xs; lost = m.0.lost + 1 }, m.1) =
+          let now : m' ≡ (record m.0 { stage = Idle; claims = claimed q (Keeps e) xs; lost = m.0.lost + 1; most = most_now }, m.1) =
           retired ∙ ap (λ (x : Mine U). (record x.0 { claims = claimed q (Keeps e) x.0.claims }, x.1)) missed_is in
           let same : m2.0.pin.scan ≡ m.0.pin.scan = ap (λ (x : Mine U). x.0.pin.scan) missed_is in (
-            only (claimed q (Keeps e) xs) (m.0.lost + 1) now (omega arith)
+            only (claimed q (Keeps e) xs) (m.0.lost + 1) most_now now (omega arith) (omega arith) more_now least_now
                 (λ r n. claimed_else xs q r (Keeps e) n ∙ (claimed_else (claimed q (Holds its) m.0.claims) q r (Holds its') n ∙ claimed_else m.0.claims q r (Holds its) n))
                 (inr (e, omega arith, claimed_here xs q (Keeps e), λ f. absurd (omega arith))),
             ap (λ (x : Mine U). x.0.pin) now,
@@ -141,7 +176,7 @@ module _ {U : Type 0} where
 module _ {U : Type 0} (rows : ℕ) (m m1 m2 : Mine U) (kept kept1 kept2 : KeptRows) (k : AreKept rows m.0.claims kept.rows) (at : ℕ) (d : Kept)
     (inside : at < vec_len kept.rows) (q : ℕ) (is : q ≡ (get_or kept.rows.items at d).row)
     (list : kept1.rows.items ≡ take at kept.rows.items ++ drop (at + 1) kept.rows.items) (room : vec_capacity kept1.rows ≡ vec_capacity kept.rows)
-    (its : List ℕ) (held : m1 ≡ (record m.0 { claims = claimed q (Holds its) m.0.claims }, m.1)) (same : kept2 ≡ kept1) where
+    (its : List ℕ) (held : m1 ≡ with_most (record m.0 { claims = claimed q (Holds its) m.0.claims }, m.1)) (same : kept2 ≡ kept1) where
   list_held : AreKept rows m1.0.claims kept1.rows
   list_held = subst (λ (x : Mine U). AreKept rows x.0.claims kept1.rows) (sym held)
       (left_out rows m.0.claims kept.rows k at d (let long = kept.rows.ok.0 in omega arith) q (Holds its) kept1.rows is (λ t e. cc) list room)

@@ -12,7 +12,7 @@ use Rattle.ca_rows.specs.declared.view.Claimed.{Claimed}
 use Rattle.ca_rows.specs.declared.view.View.{View}
 use Rattle.ca_rows.specs.Claims.{claim_of, claimed, dropped}
 use Rattle.ca_rows.specs.Kept.{kept_of, AreApart, AreKept, IsReleased, MayRetire}
-use Rattle.ca_rows.specs.Told.{Mine, with_claims}
+use Rattle.ca_rows.specs.Told.{Mine, with_claims, with_most}
 use Rattle.ca_rows.proofs.Claiming.{claimed_here, claimed_else, dropped_else, dropped_here}
 
 pub here_is : (x : Kept) (xs : List Kept) (r : ℕ) → x.row ≡ r → kept_of (x ∷ xs) r ≡ some x.at
@@ -166,7 +166,7 @@ module _ (rows : ℕ) (claims : List Claimed) (kept : Vec Kept Global) (k : AreK
 
 -- A row that was taken isn't kept.
 pub taken_too : {U : Type 0} (rows : ℕ) (kept kept' : KeptRows) (m m' : Mine U) (q : ℕ) (its : List ℕ) → AreKept rows m.0.claims kept.rows
-    → claim_of m.0.claims q ≡ none → m' ≡ with_claims m (claimed q (Holds its) m.0.claims) → kept' ≡ kept
+    → claim_of m.0.claims q ≡ none → m' ≡ with_most (with_claims m (claimed q (Holds its) m.0.claims)) → kept' ≡ kept
     → AreKept rows m'.0.claims kept'.rows
 taken_too {U} rows kept kept' m m' q its k free took same = subst (λ (x : Mine U × KeptRows). AreKept rows x.0.0.claims x.1.rows)
     (λ i. (sym took i, sym same i))

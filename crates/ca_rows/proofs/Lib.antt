@@ -5,6 +5,7 @@ pub mod Claiming
 pub mod Closing
 pub mod Forking
 mod GivingBack
+pub mod HeldCount
 pub mod Keeping
 mod Listing
 pub mod Making

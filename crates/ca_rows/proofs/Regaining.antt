@@ -1,5 +1,5 @@
 -- A row that is kept since two epochs is held again: nobody has a note on it.
-use Rattle.std.proofs.Common.{◌≡◌, ℕ, ◌+◌, ◌≤◌, List, get_or, set, sym, refl, ◌∙◌, subst, arith}
+use Rattle.std.proofs.Common.{◌≡◌, ℕ, ◌+◌, ◌≤◌, max, List, get_or, set, sym, refl, ◌∙◌, subst, arith}
 use Rattle.std.proofs.lemmas.List.{set-get_or}
 use mathlib.Core.Option.{some, none}
 use lib.ListN.{get_elem?}
@@ -9,7 +9,7 @@ use Rattle.ca_rows.specs.declared.sizes.Sizes.{Sizes}
 use Rattle.ca_rows.specs.declared.view.Claim.TheVariants.{Holds, Keeps}
 use Rattle.ca_rows.specs.declared.view.View.{View}
 use Rattle.ca_rows.specs.Account.{IsAlone}
-use Rattle.ca_rows.specs.Claims.{claim_of, claimed}
+use Rattle.ca_rows.specs.Claims.{claim_of, claimed, held_count}
 use Rattle.ca_rows.specs.Laws.{Agrees, Frames}
 use Rattle.ca_rows.specs.Rule.{pin_of, NotedAt}
 use Rattle.ca_rows.specs.Told.{Mine, Regained}
@@ -46,11 +46,11 @@ module _ {U : Type 0} (linked lent : List ℕ → ℕ → Type 0) (noted : List 
     alone = ((owned linked lent noted fact frames z s r id d at q (Keeps t) kept).3.3.0, unnoted)
 
     abbrev holding : View U
-    holding = record d { claims = claimed q (Holds (row_of s.words q)) d.claims }
+    holding = let xs = claimed q (Holds (row_of s.words q)) d.claims in record d { claims = xs; most = max d.most (held_count xs) }
 
-    regain_step : R record { words = set s.words 1 (get_or s.words 1 0); homes = s.homes; views = set s.views id (record d { claims = claimed q (Holds (row_of s.words q)) d.claims }) }
+    regain_step : R record { words = set s.words 1 (get_or s.words 1 0); homes = s.homes; views = set s.views id holding }
     regain_step = let o = owned linked lent noted fact frames z s r id d at q (Keeps t) kept in
-        let w : View U = record d { claims = claimed q (Holds (row_of s.words q)) d.claims } in
+        let w : View U = holding in
         let agrees = same (uppers linked lent noted fact frames z s) s.words in
         subst (λ (ws : List ℕ). R record { words = ws; homes = s.homes; views = set s.views id w }) (sym (set-get_or s.words 1 0))
         (keeps_rule linked lent noted fact frames z s r id d w at refl refl s.words agrees (λ i _ _. refl) refl refl q
@@ -73,7 +73,7 @@ module _ {U : Type 0} (linked lent : List ℕ → ℕ → Type 0) (noted : List 
   pub regains : (slots id : ℕ) (me : Mine U) (q t : ℕ) → claim_of me.0.claims q ≡ some (Keeps t) → t + 2 ≤ me.0.pin.scan
       → Allows R slots id me 1 (λ x. x) (Regained q (step slots 1 0 0 none) me)
   regains slots id me q t kept old s r _ at _ = let o = owned linked lent noted fact frames z s r id me.0 at q (Keeps t) kept in (
-    record me.0 { claims = claimed q (Holds (row_of s.words q)) me.0.claims },
+    holding s r id me.0 at q t kept old,
     keeps,
     tt,
     regain_step s r id me.0 at q t kept old,

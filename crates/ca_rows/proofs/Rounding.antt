@@ -6,7 +6,7 @@ use Rattle.ca_rows.specs.declared.kept.Kept.{Kept}
 use Rattle.ca_rows.specs.declared.reclaimed.Round.{Round}
 use Rattle.ca_rows.specs.declared.view.Claim.TheVariants.{Keeps}
 use Rattle.ca_rows.specs.declared.view.Pin.{Pin}
-use Rattle.ca_rows.specs.Claims.{claim_of}
+use Rattle.ca_rows.specs.Claims.{claim_of, held_count}
 use Rattle.ca_rows.specs.Kept.{kept_of, AreKept}
 use Rattle.ca_rows.specs.Reclaiming.{Losses, Reclaims, IsLook, Moves, Rounds}
 use Rattle.ca_rows.specs.Told.{Mine, with_pin}
@@ -32,6 +32,11 @@ module _ {U : Type 0} where
     same_slots = refl;
     later = up;
     more_lost = le_refl m.0.lost;
+    same_empty = refl;
+    same_worn = refl;
+    no_more_held = le_refl (held_count m.0.claims);
+    more_most = le_refl m.0.most;
+    least_most = omega arith;
     others = λ r n. refl;
     kept = λ r t e. inr (t, le_refl t, e, λ _. refl);
   }
@@ -48,6 +53,11 @@ module _ {U : Type 0} where
     same_slots = refl;
     later = le_refl m.0.pin.scan;
     more_lost = omega arith;
+    same_empty = refl;
+    same_worn = refl;
+    no_more_held = le_refl (held_count m.0.claims);
+    more_most = le_refl m.0.most;
+    least_most = omega arith;
     others = λ r n. refl;
     kept = λ r t e. inr (t, le_refl t, e, λ _. refl);
   }

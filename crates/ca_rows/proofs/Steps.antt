@@ -1,5 +1,5 @@
 -- Each step of the pool keeps the rule, and tells what it should.
-use Rattle.std.proofs.Common.{◌≡◌, ◌≢◌, ℕ, zero, suc, ◌+◌, ◌*◌, ◌/◌, ◌%◌, ◌<◌, ◌≤◌, eqb, List, [], ◌∷◌, map, length, take, drop, get_or, set, sym, refl, ap, ◌∙◌, subst, ⊎_elim, arith, le_refl, length-set, length-drop, eq-eqb, ne_eqb, get_or-set_other, get_or-set_same}
+use Rattle.std.proofs.Common.{◌≡◌, ◌≢◌, ℕ, zero, suc, ◌+◌, ◌*◌, ◌/◌, ◌%◌, ◌<◌, ◌≤◌, max, eqb, List, [], ◌∷◌, map, length, take, drop, get_or, set, sym, refl, ap, ◌∙◌, subst, ⊎_elim, arith, le_refl, length-set, length-drop, eq-eqb, ne_eqb, get_or-set_other, get_or-set_same}
 use Rattle.std.proofs.lemmas.List.{set-get_or, get_or-take, get_or-drop, length-take-le}
 use mathlib.Core.Logic.{dite}
 use mathlib.Core.Option.{some, none, some-injective, some-ne-none}
@@ -15,10 +15,10 @@ use Rattle.ca_rows.specs.declared.view.Stage.TheVariants.{Idle, Saw, Knew}
 use Rattle.ca_rows.specs.declared.view.View.{View}
 use Rattle.ca_rows.specs.Account.{IsClaim, IsRow}
 use Rattle.ca_rows.specs.Chain.{Owner, Free, Linked, Of, IsTop, IsStage}
-use Rattle.ca_rows.specs.Claims.{claim_of, claimed, dropped, claim_at}
+use Rattle.ca_rows.specs.Claims.{claim_of, claimed, dropped, held_count, claim_at}
 use Rattle.ca_rows.specs.Laws.{IsNoted, Agrees, Frames}
 use Rattle.ca_rows.specs.Rule.{upper_of, NotedAt}
-use Rattle.ca_rows.specs.Told.{Mine, with_stage, with_claims, Looked, Peeked, Took, Wrote, Gave}
+use Rattle.ca_rows.specs.Told.{Mine, with_stage, with_claims, with_most, Looked, Glanced, Peeked, Took, Wrote, Gave}
 use Rattle.ca_rows.specs.Words.{IsWide, Spells, head_tag, head_row, next_of}
 use Rattle.ca_rows.proofs.Chains.{put, put_here, put_else, in_head, top_free, top_in_range, chain_stays, chain_takes, chain_gives, stage_stays}
 use Rattle.ca_rows.proofs.Claiming.{claim_mine, claim_others, claim_there, claimed_here, claimed_else, dropped_here, dropped_else}
@@ -56,10 +56,10 @@ module _ {U : Type 0} (linked lent : List ℕ → ℕ → Type 0) (noted : List 
   nothing : (us : List U) (words : List ℕ) → Agrees linked lent noted fact us words words
   nothing us words = record { wide = refl; control = λ i _ _. refl; seen = λ r k _ _ _. refl }
 
-  -- A load after which the seat knows something else of the head, or counts a loss.
-  loaded : (s : S) (r : R s) (i id : ℕ) (d : View U) (st : Stage) (lost : ℕ) → get_elem? s.views id ≡ some d → IsStage z.rows r.owner s.words st
-      → R record { words = set s.words i (get_or s.words i 0); homes = s.homes; views = set s.views id (record d { stage = st; lost = lost }) }
-  loaded s r i id d st lost at ok = let w : View U = record d { stage = st; lost = lost } in
+  -- A load after which the seat knows something else of the head, or counts a loss, an empty head or a worn one.
+  loaded : (s : S) (r : R s) (i id : ℕ) (d : View U) (st : Stage) (lost empty worn : ℕ) → get_elem? s.views id ≡ some d → IsStage z.rows r.owner s.words st
+      → R record { words = set s.words i (get_or s.words i 0); homes = s.homes; views = set s.views id (record d { stage = st; lost = lost; empty = empty; worn = worn }) }
+  loaded s r i id d st lost empty worn at ok = let w : View U = record d { stage = st; lost = lost; empty = empty; worn = worn } in
       subst (λ (ws : List ℕ). R record { words = ws; homes = s.homes; views = set s.views id w }) (sym (set-get_or s.words i 0))
       (keeps_rule linked lent noted fact frames z s r id d w at refl refl s.words (nothing (uppers linked lent noted fact frames z s) s.words)
       (λ i _ _. refl) refl refl 0
@@ -67,22 +67,53 @@ module _ {U : Type 0} (linked lent : List ℕ → ℕ → Type 0) (noted : List 
       (λ c e. absurd (let x = (r.seat id d at).in_range 0 c e in let y = x.0 in omega arith))
       (λ _ _. refl) (λ _ k. k) ok)
 
-  pub looks : (slots id : ℕ) (me : Mine U) → Allows R slots id me 0 (λ x. x) (Looked (step slots 0 0 0 none) me)
-  looks slots id me s r _ at small = let x : ℕ = get_or s.words 0 0 in (
-    record me.0 { stage = Saw (x / 65536) (x % 65536) },
+  -- The row at the head is one of those that the seat knows of.
+  row_inside : (s : S) (r : R s) (id : ℕ) (d : View U) → get_elem? s.views id ≡ some d → 0 < d.sizes.rows → head_row s.words ≤ d.sizes.rows
+  row_inside s r id d at known = let top = top_in_range z.rows r.owner r.count (head_row s.words) r.chain.top in
+      ⊎_elim (λ (e : d.sizes.rows ≡ 0). absurd (omega arith)) (λ (e : d.sizes ≡ z). subst (λ (y : Sizes). head_row s.words ≤ y.rows) (sym e) top)
+      (r.seat id d at).sizes_are
+
+  -- What was seen of the head is so.
+  saw_head : (s : S) (r : R s) → IsStage z.rows r.owner s.words (Saw (head_tag s.words) (head_row s.words))
+  saw_head s r = (
+    le_refl (head_tag s.words),
+    λ _ lo. let t = top_free z.rows r.owner r.count (head_row s.words) lo r.chain.top in (t.0, lo, t.2, t.3),
+  )
+
+  pub glances : (slots id : ℕ) (me : Mine U) → Allows R slots id me 0 (λ x. x) (Glanced (step slots 0 0 0 none) me)
+  glances slots id me s r _ at small = (
+    record me.0 { stage = Saw (head_tag s.words) (head_row s.words) },
     keeps,
     tt,
-    loaded s r 0 id me.0 (Saw (x / 65536) (x % 65536)) me.0.lost at (
-      le_refl (x / 65536),
-      λ _ lo. let t = top_free z.rows r.owner r.count (x % 65536) lo r.chain.top in (t.0, lo, t.2, t.3),
-    ),
-    (
-      λ known. let top = top_in_range z.rows r.owner r.count (x % 65536) r.chain.top in
-          ⊎_elim (λ (e : me.0.sizes.rows ≡ 0). absurd (omega arith)) (λ (e : me.0.sizes ≡ z). subst (λ (y : Sizes). x % 65536 ≤ y.rows) (sym e) top)
-          (r.seat id me.0 at).sizes_are,
-      refl,
-    ),
+    loaded s r 0 id me.0 (Saw (head_tag s.words) (head_row s.words)) me.0.lost me.0.empty me.0.worn at (saw_head s r),
+    (row_inside s r id me.0 at, refl),
   )
+
+  pub looks : (slots id : ℕ) (me : Mine U) → Allows R slots id me 0 (λ x. x) (Looked (step slots 0 0 0 none) me)
+  looks slots id me s r _ at small = let t : ℕ = head_tag s.words in let q : ℕ = head_row s.words in let d = me.0 in dite (ℕ_discrete q 0)
+      (λ (none_free : q ≡ 0). (
+        record d { stage = Saw t 0; empty = d.empty + 1 },
+        keeps,
+        tt,
+        loaded s r 0 id d (Saw t 0) d.lost (d.empty + 1) d.worn at (subst (λ (y : ℕ). IsStage z.rows r.owner s.words (Saw t y)) none_free (saw_head s r)),
+        (row_inside s r id d at, (λ _. refl), (λ lo. absurd (omega arith)), λ lo. absurd (omega arith)),
+      ))
+      (λ free. dite (ℕ_discrete t 281474976710655)
+      (λ (last : t ≡ 281474976710655). (
+        record d { stage = Saw 281474976710655 q; worn = d.worn + 1 },
+        keeps,
+        tt,
+        loaded s r 0 id d (Saw 281474976710655 q) d.lost d.empty (d.worn + 1) at
+            (subst (λ (y : ℕ). IsStage z.rows r.owner s.words (Saw y q)) last (saw_head s r)),
+        (row_inside s r id d at, (λ e. absurd (free e)), (λ _ _. refl), λ _ n. absurd (n last)),
+      ))
+      (λ young. (
+        record d { stage = Saw t q },
+        keeps,
+        tt,
+        loaded s r 0 id d (Saw t q) d.lost d.empty d.worn at (saw_head s r),
+        (row_inside s r id d at, (λ e. absurd (free e)), (λ _ e. absurd (young e)), λ _ _. refl),
+      )))
 
   abbrev seen_in : Stage → ℕ × ℕ × ℕ
   seen_in Idle = (0, 0, 0)
@@ -96,14 +127,14 @@ module _ {U : Type 0} (linked lent : List ℕ → ℕ → Type 0) (noted : List 
         record me.0 { stage = Knew t q x },
         keeps,
         tt,
-        loaded s r (136 * q) id me.0 (Knew t q x) me.0.lost at (k.0, λ e. (k.1 e lo, refl)),
+        loaded s r (136 * q) id me.0 (Knew t q x) me.0.lost me.0.empty me.0.worn at (k.0, λ e. (k.1 e lo, refl)),
         λ t' q' is'. ap (λ (y : ℕ × ℕ × ℕ). with_stage me (Knew y.0 y.1 x)) (ap seen_in (sym is ∙ is')),
       )
 
   -- An exchange of the head that was lost.
   misses : (s : S) (r : R s) (id : ℕ) (d : View U) → get_elem? s.views id ≡ some d
       → R record { words = set s.words 0 (get_or s.words 0 0); homes = s.homes; views = set s.views id (record d { stage = Idle; lost = d.lost + 1 }) }
-  misses s r id d at = loaded s r 0 id d Idle (d.lost + 1) at tt
+  misses s r id d at = loaded s r 0 id d Idle (d.lost + 1) d.empty d.worn at tt
 
   head_agrees : (us : List U) (words : List ℕ) (x : ℕ) → Agrees linked lent noted fact us words (set words 0 x)
   head_agrees us words x = record {
@@ -155,7 +186,7 @@ module _ {U : Type 0} (linked lent : List ℕ → ℕ → Type 0) (noted : List 
     module _ (t q x m : ℕ) (found : get_or s.words 0 0 ≡ t * 65536 + q) (small : q < 65536) (lo : 0 < q) (hi : q ≤ z.rows) (count : r.count ≡ suc m)
         (is : r.owner q ≡ Free m) (next : next_of s.words q ≡ x) where
       abbrev taken : View U
-      taken = record d { stage = Idle; claims = claimed q (Holds (row_of s.words q)) d.claims }
+      taken = let xs = claimed q (Holds (row_of s.words q)) d.claims in record d { stage = Idle; claims = xs; most = max d.most (held_count xs) }
 
       abbrev new_head : List ℕ
       new_head = set s.words 0 ((t + 1) * 65536 + x % 65536)
@@ -316,7 +347,7 @@ module _ {U : Type 0} (linked lent : List ℕ → ℕ → Type 0) (noted : List 
             (
               row_of s.words q,
               row_of_long s.words z.rows q r.wide top.2,
-              ap (λ y. with_claims me (claimed y (Holds (row_of s.words q)) d.claims)) same,
+              ap (λ y. with_most (with_claims me (claimed y (Holds (row_of s.words q)) d.claims))) same,
             ),
           )),
           λ not. absurd (not hit),

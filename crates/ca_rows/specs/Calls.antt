@@ -8,10 +8,9 @@ use Rattle.ca_rows.specs.declared.taken.Taken.{Taken}
 use Rattle.ca_rows.specs.declared.taken.Taken.TheVariants.{Row, Empty, Lost, Worn}
 use Rattle.ca_rows.specs.declared.view.Claim.TheVariants.{Holds}
 use Rattle.ca_rows.specs.declared.view.Pin.{Pin}
-use Rattle.ca_rows.specs.declared.view.Stage.TheVariants.{Saw}
 use Rattle.ca_rows.specs.declared.view.View.{View}
 use Rattle.ca_rows.specs.Claims.{claim_of, claimed, dropped}
-use Rattle.ca_rows.specs.Told.{Mine, with_stage, with_claims, missed}
+use Rattle.ca_rows.specs.Told.{Mine, with_claims, with_most, found_empty, found_worn, missed}
 
 module _ {U : Type 0} where
   -- The seat is one of this table, and knows what the space was made with.
@@ -25,13 +24,14 @@ module _ {U : Type 0} where
   abbrev pub IsStill : Seat (Unit {0}) (View U) → Seat (Unit {0}) (View U) → Type 0
   IsStill p q = (q.table_id ≡ p.table_id) × (q.id ≡ p.id) × (q.me.0.sizes ≡ p.me.0.sizes) × (q.me.0.pin ≡ p.me.0.pin) × (q.me.0.upper ≡ p.me.0.upper)
 
-  -- `Empty` where the head was empty as it was loaded, `Worn` where it wasn't and its tag was at the last value, `Lost` where the exchange lost.
+  -- `Empty` where the head was empty as it was loaded, `Worn` where it wasn't and its tag was at the last value, `Lost` where the exchange lost:
+  -- each is counted, once and nowhere else.
   abbrev pub TakesRow : Taken → Mine U → Mine U → Type 0
   TakesRow (Row r) m m' = (0 < r) × (r ≤ m.0.sizes.rows) × (claim_of m.0.claims r ≡ none)
-      × ((its : List ℕ) × (length its ≡ 136) × (m' ≡ with_claims m (claimed r (Holds its) m.0.claims)))
-  TakesRow Empty m m' = (t : ℕ) × (m' ≡ with_stage m (Saw t 0))
+      × ((its : List ℕ) × (length its ≡ 136) × (m' ≡ with_most (with_claims m (claimed r (Holds its) m.0.claims))))
+  TakesRow Empty m m' = (t : ℕ) × (m' ≡ found_empty m t)
   TakesRow Lost m m' = m' ≡ missed m
-  TakesRow Worn m m' = (r : ℕ) × (0 < r) × (m' ≡ with_stage m (Saw 281474976710655 r))
+  TakesRow Worn m m' = (r : ℕ) × (0 < r) × (m' ≡ found_worn m r)
 
   -- The row is the pool's again, or the exchange lost, and the pass holds it still.
   abbrev pub PutsRow : Bool → ℕ → Mine U → Mine U → Type 0

@@ -1,8 +1,9 @@
 -- Which rows are a seat's, and why.
-use Rattle.std.specs.Prelude.{◌==◌, ℕ, cond, List, [], ◌∷◌}
+use Rattle.std.specs.Prelude.{◌==◌, ℕ, ◌+◌, cond, List, [], ◌∷◌}
 use mathlib.Core.Option.{Option, some, none}
 use lib.ListN.{get_elem?}
 use Rattle.ca_rows.specs.declared.view.Claim.{Claim}
+use Rattle.ca_rows.specs.declared.view.Claim.TheVariants.{Holds, Lends, Unlinked, Keeps, Returns}
 use Rattle.ca_rows.specs.declared.view.Claimed.{Claimed}
 use Rattle.ca_rows.specs.declared.view.View.{View}
 
@@ -19,6 +20,19 @@ dropped row (x ∷ xs) = cond (x.row == row) (dropped row xs) (x ∷ dropped row
 -- the claims, with this one on the row
 abbrev pub claimed : ℕ → Claim → List Claimed → List Claimed
 claimed row c xs = record { row = row; claim = c } ∷ dropped row xs
+
+-- 1 of a claim by which a row is held
+abbrev pub is_held : Claim → ℕ
+is_held (Holds its) = 1
+is_held Lends = 0
+is_held Unlinked = 0
+is_held (Keeps t) = 0
+is_held (Returns t its) = 0
+
+-- how many rows are held
+abbrev pub held_count : List Claimed → ℕ
+held_count [] = 0
+held_count (x ∷ xs) = is_held x.claim + held_count xs
 
 module _ {U : Type 0} where
   abbrev pub claim_from : Option (View U) → ℕ → Option Claim

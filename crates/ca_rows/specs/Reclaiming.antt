@@ -1,5 +1,5 @@
 -- What giving kept rows back comes to.
-use Rattle.std.specs.Prelude.{◌≡◌, ◌≢◌, ◌⊎◌, ℕ, ◌+◌, ◌<◌, ◌≤◌, Bool, true, false, List, [], ◌++◌, length, take, drop}
+use Rattle.std.specs.Prelude.{◌≡◌, ◌≢◌, ◌⊎◌, ℕ, ◌+◌, ◌<◌, ◌≤◌, max, Bool, true, false, List, [], ◌++◌, length, take, drop}
 use Rattle.std.specs.declared.option.Option.{Option as Answer}
 use Rattle.std.specs.declared.option.Option.TheVariants.{None, Some}
 use mathlib.Core.Option.{some, none}
@@ -7,7 +7,7 @@ use Rattle.ca_rows.specs.declared.kept.Kept.{Kept}
 use Rattle.ca_rows.specs.declared.reclaimed.Round.{Round}
 use Rattle.ca_rows.specs.declared.view.Claim.TheVariants.{Keeps}
 use Rattle.ca_rows.specs.declared.view.Pin.{Pin}
-use Rattle.ca_rows.specs.Claims.{claim_of}
+use Rattle.ca_rows.specs.Claims.{claim_of, held_count}
 use Rattle.ca_rows.specs.Kept.{kept_of}
 use Rattle.ca_rows.specs.Told.{Mine, with_pin}
 
@@ -29,6 +29,12 @@ module _ {U : Type 0} where
     pub same_slots : m'.1 ≡ m.1
     pub later : m.0.pin.scan ≤ m'.0.pin.scan
     pub more_lost : m.0.lost ≤ m'.0.lost
+    pub same_empty : m'.0.empty ≡ m.0.empty
+    pub same_worn : m'.0.worn ≡ m.0.worn
+    -- No row more is held than before, and in between it was one more at most.
+    pub no_more_held : held_count m'.0.claims ≤ held_count m.0.claims
+    pub more_most : m.0.most ≤ m'.0.most
+    pub least_most : m'.0.most ≤ max m.0.most (held_count m.0.claims + 1)
     pub others : (r : ℕ) → ((t : ℕ) → claim_of m.0.claims r ≢ some (Keeps t)) → claim_of m'.0.claims r ≡ claim_of m.0.claims r
     -- A row that was given back was kept for two epochs at least; one that is kept still is kept as before, unless an exchange lost.
     pub kept : (r t : ℕ) → claim_of m.0.claims r ≡ some (Keeps t) → (claim_of m'.0.claims r ≡ none) × (t + 2 ≤ m'.0.pin.scan)

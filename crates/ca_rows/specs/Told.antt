@@ -1,5 +1,5 @@
 -- What each step of the rows tells.
-use Rattle.std.specs.Prelude.{◌≡◌, ◌≢◌, ◌⊎◌, ℕ, ◌+◌, ◌*◌, ◌/◌, ◌%◌, ◌<◌, ◌≤◌, true, false, List, length, slice_set}
+use Rattle.std.specs.Prelude.{◌≡◌, ◌≢◌, ◌⊎◌, ℕ, ◌+◌, ◌*◌, ◌/◌, ◌%◌, ◌<◌, ◌≤◌, max, true, false, List, length, slice_set}
 use mathlib.Core.Option.{some, none}
 use Rattle.atomic_table.specs.Table.{Me, Step}
 use Rattle.ca_rows.specs.declared.view.Claim.TheVariants.{Holds, Keeps}
@@ -8,7 +8,7 @@ use Rattle.ca_rows.specs.declared.view.Stage.{Stage}
 use Rattle.ca_rows.specs.declared.view.Stage.TheVariants.{Idle, Saw, Knew}
 use Rattle.ca_rows.specs.declared.view.Claimed.{Claimed}
 use Rattle.ca_rows.specs.declared.view.View.{View}
-use Rattle.ca_rows.specs.Claims.{claim_of, claimed, dropped}
+use Rattle.ca_rows.specs.Claims.{claim_of, claimed, dropped, held_count}
 
 abbrev pub Mine : Type 0 → Type 0
 Mine U = Me (Unit {0}) (View U)
@@ -24,9 +24,28 @@ module _ {U : Type 0} where
   abbrev pub missed : Mine U → Mine U
   missed m = (record m.0 { stage = Idle; lost = m.0.lost + 1 }, m.1)
 
-  -- The head was loaded.
+  -- The head was empty as a row was to be taken, and had this tag.
+  abbrev pub found_empty : Mine U → ℕ → Mine U
+  found_empty m t = (record m.0 { stage = Saw t 0; empty = m.0.empty + 1 }, m.1)
+
+  -- It had this row, but its tag was at the last value.
+  abbrev pub found_worn : Mine U → ℕ → Mine U
+  found_worn m r = (record m.0 { stage = Saw 281474976710655 r; worn = m.0.worn + 1 }, m.1)
+
+  -- The rows that are held now are counted: they may be the most so far.
+  abbrev pub with_most : Mine U → Mine U
+  with_most m = (record m.0 { most = max m.0.most (held_count m.0.claims) }, m.1)
+
+  -- The head was loaded to take a row. It is counted where it can't be taken: there is none, or the tag can rise no more.
   abbrev pub Looked : Step (Unit {0}) → Mine U → ℕ → Mine U → Type 0
-  Looked st m n m' = (0 < m.0.sizes.rows → n % 65536 ≤ m.0.sizes.rows) × (m' ≡ with_stage m (Saw (n / 65536) (n % 65536)))
+  Looked st m n m' = (0 < m.0.sizes.rows → n % 65536 ≤ m.0.sizes.rows)
+      × (n % 65536 ≡ 0 → m' ≡ found_empty m (n / 65536))
+      × (0 < n % 65536 → n / 65536 ≡ 281474976710655 → m' ≡ found_worn m (n % 65536))
+      × (0 < n % 65536 → n / 65536 ≢ 281474976710655 → m' ≡ with_stage m (Saw (n / 65536) (n % 65536)))
+
+  -- The head was loaded to put a row back: nothing is counted.
+  abbrev pub Glanced : Step (Unit {0}) → Mine U → ℕ → Mine U → Type 0
+  Glanced st m n m' = (0 < m.0.sizes.rows → n % 65536 ≤ m.0.sizes.rows) × (m' ≡ with_stage m (Saw (n / 65536) (n % 65536)))
 
   -- The next row was loaded from the row that the head named.
   abbrev pub Peeked : Step (Unit {0}) → Mine U → ℕ → Mine U → Type 0
@@ -35,7 +54,7 @@ module _ {U : Type 0} where
   -- The row was taken, or the exchange lost.
   abbrev pub Took : Step (Unit {0}) → Mine U → ℕ → Mine U → Type 0
   Took st m n m' = (t q x : ℕ) → m.0.stage ≡ Knew t q x →
-      (n ≡ st.first → (claim_of m.0.claims q ≡ none) × ((its : List ℕ) × (length its ≡ 136) × (m' ≡ with_claims m (claimed q (Holds its) m.0.claims))))
+      (n ≡ st.first → (claim_of m.0.claims q ≡ none) × ((its : List ℕ) × (length its ≡ 136) × (m' ≡ with_most (with_claims m (claimed q (Holds its) m.0.claims)))))
       × (n ≢ st.first → m' ≡ missed m)
 
   -- A word of a held row was written.
@@ -85,4 +104,4 @@ module _ {U : Type 0} where
 
   -- The pass holds a row that it kept.
   abbrev pub Regained : ℕ → Step (Unit {0}) → Mine U → ℕ → Mine U → Type 0
-  Regained q st m n m' = (its : List ℕ) × (length its ≡ 136) × (m' ≡ (record m.0 { claims = claimed q (Holds its) m.0.claims }, m.1))
+  Regained q st m n m' = (its : List ℕ) × (length its ≡ 136) × (m' ≡ with_most (record m.0 { claims = claimed q (Holds its) m.0.claims }, m.1))

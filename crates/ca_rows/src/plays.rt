@@ -2,18 +2,25 @@
 ghost use Rattle.std.specs.Prelude.{ℕ, ◌+◌};
 ghost use Rattle.ca_rows.specs.Closed.{joined};
 ghost use Rattle.ca_rows.specs.Rule.{fresh, no_sizes};
-ghost use Rattle.ca_rows.specs.Told.{Looked, Peeked, Took, Wrote, Gave, Asked, Announced, Left, Retired, Regained, Began, Scanned, Moved};
+ghost use Rattle.ca_rows.specs.Told.{Looked, Glanced, Peeked, Took, Wrote, Gave, Asked, Announced, Left, Retired, Regained, Began, Scanned, Moved};
 
 use crate::rule::RowRule;
 use crate::view::View;
 use atomic_table::{Join, Play, Split};
 use std::marker::{Brand, PhantomData};
 
-/// A load of the pool's head.
+/// The load of the pool's head with which a row is taken.
 pub struct Look;
 
 impl<U> Play<(), View<U>> for Look {
     ghost then = { Looked };
+}
+
+/// The load of the pool's head with which a row is put back.
+pub struct Glance;
+
+impl<U> Play<(), View<U>> for Glance {
+    ghost then = { Glanced };
 }
 
 /// A load of the next free row.

@@ -7,7 +7,7 @@ ghost use Rattle.ca_rows.specs.Calls.{IsOf, IsSame, IsNumbered};
 ghost use Rattle.ca_rows.specs.Claims.{claim_of, claimed};
 ghost use Rattle.ca_rows.specs.Kept.{AreKept, kept_of};
 ghost use Rattle.ca_rows.specs.Reclaiming.{Losses, Reclaims, GivesBack, IsLag, IsLook, Moves, Rounds};
-ghost use Rattle.ca_rows.specs.Told.{with_pin};
+ghost use Rattle.ca_rows.specs.Told.{with_most};
 
 use crate::plays::{Begin, Move, Named, Regain, Scan};
 use crate::reclaimed::{Reclaimed, Round};
@@ -23,7 +23,7 @@ impl<R: RowRule> Space<R> {
         ensures same { IsSame pass.old.seat pass.new.seat }
         ensures number { pass.new.number ≡ pass.old.number }
         ensures kept { pass.new.kept ≡ pass.old.kept }
-        ensures held { (its : List ℕ) × (length its ≡ 136) × (pass.new.seat.me ≡ (record pass.old.seat.me.0 { claims = claimed K.about (IsHeld its) pass.old.seat.me.0.claims }, pass.old.seat.me.1)) }
+        ensures held { (its : List ℕ) × (length its ≡ 136) × (pass.new.seat.me ≡ with_most (record pass.old.seat.me.0 { claims = claimed K.about (IsHeld its) pass.old.seat.me.0.claims }, pass.old.seat.me.1)) }
     {
         self.table.shared.load::<Regain<K>>(&mut pass.seat, 1);
     }

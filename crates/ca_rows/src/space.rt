@@ -12,7 +12,7 @@ ghost use Rattle.std.specs.Option.{ForSome};
 ghost use Rattle.std.specs.Prelude.{slice_set};
 
 use crate::kept::KeptRows;
-use crate::plays::{Give, Look, Peek, Take, Write};
+use crate::plays::{Give, Glance, Look, Peek, Take, Write};
 use crate::rest::Rest;
 use crate::rule::{RowRule, Rows};
 use crate::sizes::Sizes;
@@ -256,7 +256,7 @@ impl<R: RowRule> Space<R> {
         ensures kept { pass.new.kept ≡ pass.old.kept }
         ensures given { PutsRow result row pass.old.seat.me pass.new.seat.me }
     {
-        let head = self.table.shared.load::<Look>(&mut pass.seat, 0);
+        let head = self.table.shared.load::<Glance>(&mut pass.seat, 0);
         let tag = head / 65_536;
         let first = head % 65_536;
         self.write_word(pass, row, 0, first);

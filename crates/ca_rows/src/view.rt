@@ -60,6 +60,12 @@ pub struct View<U> {
     pub lost: u64,
     /// Kept rows that were given back.
     pub back: u64,
+    /// How often it found the pool's head empty as it was to take a row.
+    pub empty: u64,
+    /// How often it found, as it was to take a row, a free one at the head, but the head's tag at its last value.
+    pub worn: u64,
+    /// The most rows that it held at once, counted as it took one or held a kept one again.
+    pub most: u64,
     /// What the rule above the rows knows.
     pub upper: U,
 }

@@ -5,12 +5,12 @@ use Rattle.ca_rows.specs.Claims.{claim_of}
 use Rattle.ca_rows.specs.Told.{Mine}
 use Rattle.ca_rows.proofs.Calling.{row_put}
 use Rattle.ca_rows.proofs.Claiming.{claimed_here}
-use Rattle.ca_rows.proofs.Steps.{looks, gives}
+use Rattle.ca_rows.proofs.Steps.{glances, gives}
 use Rattle.ca_rows.proofs.space.Space.put_row.Goals as goal
 
 pub load-head-requires : goal.load-head-requires
 load-head-requires g c = let sized = c.args.self.now.sized in
-    (search rules, omega arith, looks g.R.RowRule.linked g.R.RowRule.lent g.R.RowRule.noted g.R.RowRule.fact g.met.R.RowRule.frames c.args.self.now.table.shared.key _ _ _)
+    (search rules, omega arith, glances g.R.RowRule.linked g.R.RowRule.lent g.R.RowRule.noted g.R.RowRule.fact g.met.R.RowRule.frames c.args.self.now.table.shared.key _ _ _)
 
 pub compare_exchange-requires : goal.compare_exchange-requires
 compare_exchange-requires g c =

@@ -10,17 +10,17 @@ load-head-requires g c = let sized = c.args.self.now.sized in
     (search rules, omega arith, looks g.R.RowRule.linked g.R.RowRule.lent g.R.RowRule.noted g.R.RowRule.fact g.met.R.RowRule.frames c.args.self.now.table.shared.key _ _ _)
 
 pub load-next-requires : goal.load-next-requires
-load-next-requires g c = let sized = c.args.self.now.sized in let few = c.args.self.now.few.1 in let saw = c.load-head.ensures.2 in
-    let t = c.if-row-eq0.false in (
+load-next-requires g c = let sized = c.args.self.now.sized in let few = c.args.self.now.few.1 in let some_free = c.if-row-eq0.false in let saw = c.load-head.ensures.2.3 (omega arith) c.if-tag.false in
+     (
       search rules,
-      (let same = ap (λ (z : Sizes). z.rows) c.requires.own.1 in let some_rows = c.args.self.now.few.0 in let lim = saw.0 (omega arith) in omega arith),
+      (let same = ap (λ (z : Sizes). z.rows) c.requires.own.1 in let some_rows = c.args.self.now.few.0 in let lim = c.load-head.ensures.2.0 (omega arith) in omega arith),
       peeks g.R.RowRule.linked g.R.RowRule.lent g.R.RowRule.noted g.R.RowRule.fact g.met.R.RowRule.frames c.args.self.now.table.shared.key _ _ _ (c.load-head.result / 65536) (c.load-head.result % 65536)
-          (ap (λ (m : Mine g.row.R-Upper.Denot). m.0.stage) saw.1) (omega arith),
+          (ap (λ (m : Mine g.row.R-Upper.Denot). m.0.stage) saw) (omega arith),
     )
 
 pub compare_exchange-found-requires : goal.compare_exchange-found-requires
-compare_exchange-found-requires g c = let sized = c.args.self.now.sized in let saw = c.load-head.ensures.2 in let t = c.if-row-eq0.false in
-    let next = c.load-next.ensures.2 (c.load-head.result / 65536) (c.load-head.result % 65536) (ap (λ (m : Mine g.row.R-Upper.Denot). m.0.stage) saw.1) in (
+compare_exchange-found-requires g c = let sized = c.args.self.now.sized in let some_free = c.if-row-eq0.false in let saw = c.load-head.ensures.2.3 (omega arith) c.if-tag.false in 
+    let next = c.load-next.ensures.2 (c.load-head.result / 65536) (c.load-head.result % 65536) (ap (λ (m : Mine g.row.R-Upper.Denot). m.0.stage) saw) in (
       search rules,
       omega arith,
       takes g.R.RowRule.linked g.R.RowRule.lent g.R.RowRule.noted g.R.RowRule.fact g.met.R.RowRule.frames c.args.self.now.table.shared.key _ _ _ (c.load-head.result / 65536) (c.load-head.result % 65536) c.load-next.result
@@ -29,31 +29,31 @@ compare_exchange-found-requires g c = let sized = c.args.self.now.sized in let s
 
 pub returns-then-found-old-clause-row : goal.returns-then-found-old-clause-row
 returns-then-found-old-clause-row g c =
-    let saw = c.load-head.ensures.2 in
-    let t = c.if-row-eq0.false in
+    let some_free = c.if-row-eq0.false in let saw = c.load-head.ensures.2.3 (omega arith) c.if-tag.false in
+    
     let t' : ℕ = c.load-head.result / 65536 in
     let q : ℕ = c.load-head.result % 65536 in
-    let next = c.load-next.ensures.2 t' q (ap (λ (m : Mine g.row.R-Upper.Denot). m.0.stage) saw.1) in
+    let next = c.load-next.ensures.2 t' q (ap (λ (m : Mine g.row.R-Upper.Denot). m.0.stage) saw) in
     let took = (c.compare_exchange-found.ensures.2 t' q c.load-next.result (ap (λ (m : Mine g.row.R-Upper.Denot). m.0.stage) next)).0 c.if-found-old.true in
-    let same = row_taken c.args.pass.now.seat.me c.load-head.new.seat.me c.load-next.new.seat.me c.compare_exchange-found.new.seat.me _ _ saw.1 q took.1.0 next took.0 took.1.2 in
+    let same = row_taken c.args.pass.now.seat.me c.load-head.new.seat.me c.load-next.new.seat.me c.compare_exchange-found.new.seat.me _ _ saw q took.1.0 next took.0 took.1.2 in
     let rows = ap (λ (z : Sizes). z.rows) c.requires.own.1 in
     let some_rows = c.args.self.now.few.0 in
-    let bound = saw.0 (omega arith) in
+    let bound = c.load-head.ensures.2.0 (omega arith) in
     (omega arith, bound, same.0, (took.1.0, took.1.1, same.1))
 
 pub returns-else-found-old-clause-row : goal.returns-else-found-old-clause-row
 returns-else-found-old-clause-row g c =
-    let saw = c.load-head.ensures.2 in
+    let some_free = c.if-row-eq0.false in let saw = c.load-head.ensures.2.3 (omega arith) c.if-tag.false in
     let t' : ℕ = c.load-head.result / 65536 in
     let q : ℕ = c.load-head.result % 65536 in
-    let next = c.load-next.ensures.2 t' q (ap (λ (m : Mine g.row.R-Upper.Denot). m.0.stage) saw.1) in
+    let next = c.load-next.ensures.2 t' q (ap (λ (m : Mine g.row.R-Upper.Denot). m.0.stage) saw) in
     let took = (c.compare_exchange-found.ensures.2 t' q c.load-next.result (ap (λ (m : Mine g.row.R-Upper.Denot). m.0.stage) next)).1 c.if-found-old.false in
-    row_missed c.args.pass.now.seat.me c.load-head.new.seat.me c.load-next.new.seat.me c.compare_exchange-found.new.seat.me _ _ saw.1 next took
+    row_missed c.args.pass.now.seat.me c.load-head.new.seat.me c.load-next.new.seat.me c.compare_exchange-found.new.seat.me _ _ saw next took
 
 pub returns-then-found-old-clause-same : goal.returns-then-found-old-clause-same
 returns-then-found-old-clause-same g c =
     let row = returns-then-found-old-clause-row g c in
-    let rest = still c.args.pass.now.seat.me c.compare_exchange-found.new.seat.me _ _ _ row.3.2 in (
+    let rest = still c.args.pass.now.seat.me c.compare_exchange-found.new.seat.me _ _ _ _ _ _ row.3.2 in (
       c.compare_exchange-found.ensures.0 ∙ (c.load-next.ensures.0 ∙ c.load-head.ensures.0),
       c.compare_exchange-found.ensures.1
           ∙ (c.load-next.ensures.1 ∙ c.load-head.ensures.1),
@@ -64,7 +64,7 @@ returns-then-found-old-clause-same g c =
 
 pub returns-else-found-old-clause-same : goal.returns-else-found-old-clause-same
 returns-else-found-old-clause-same g c =
-    let rest = still c.args.pass.now.seat.me c.compare_exchange-found.new.seat.me _ _ _ (returns-else-found-old-clause-row g c) in (
+    let rest = still c.args.pass.now.seat.me c.compare_exchange-found.new.seat.me _ _ _ _ _ _ (returns-else-found-old-clause-row g c) in (
       c.compare_exchange-found.ensures.0 ∙ (c.load-next.ensures.0 ∙ c.load-head.ensures.0),
       c.compare_exchange-found.ensures.1
           ∙ (c.load-next.ensures.1 ∙ c.load-head.ensures.1),
