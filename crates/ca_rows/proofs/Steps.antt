@@ -18,7 +18,7 @@ use Rattle.ca_rows.specs.Chain.{Owner, Free, Linked, Of, IsTop, IsStage}
 use Rattle.ca_rows.specs.Claims.{claim_of, claimed, dropped, held_count, claim_at}
 use Rattle.ca_rows.specs.Laws.{IsNoted, Agrees, Frames}
 use Rattle.ca_rows.specs.Rule.{upper_of, NotedAt}
-use Rattle.ca_rows.specs.Told.{Mine, with_stage, with_claims, with_most, Looked, Glanced, Peeked, Took, Wrote, Gave}
+use Rattle.ca_rows.specs.Told.{Mine, with_stage, with_claims, with_most, Looked, Glanced, Peeked, Took, Recalled, Wrote, Gave}
 use Rattle.ca_rows.specs.Words.{IsWide, Spells, head_tag, head_row, next_of}
 use Rattle.ca_rows.proofs.Chains.{put, put_here, put_else, in_head, top_free, top_in_range, chain_stays, chain_takes, chain_gives, stage_stays}
 use Rattle.ca_rows.proofs.Claiming.{claim_mine, claim_others, claim_there, claimed_here, claimed_else, dropped_here, dropped_else}
@@ -360,6 +360,15 @@ module _ {U : Type 0} (linked lent : List ℕ → ℕ → Type 0) (noted : List 
         subst (λ (n : ℕ). R (stepped s 0 n id me.1 w0 keeps)) (sym (at_miss head old new miss)) (misses s r id d at),
         λ t' q' x' is'. ((λ hit. absurd (miss hit)), λ _. refl),
       ))
+
+  pub recalls : (slots id : ℕ) (me : Mine U) (i : ℕ) → Allows R slots id me i (λ n. n) (Recalled (step slots i 0 0 none) me)
+  recalls slots id me i s r _ at small = (
+    me.0,
+    keeps,
+    tt,
+    loaded s r i id me.0 me.0.stage me.0.lost me.0.empty me.0.worn at (r.seat id me.0 at).stage_is,
+    (refl, λ q k its is inside held. let o = owned s r id me.0 at q (Holds its) held in ap (λ (j : ℕ). get_or s.words j 0) is ∙ o.3.1 k inside),
+  )
 
   pub writes : (slots id : ℕ) (me : Mine U) (i q k v : ℕ) (its : List ℕ) → i ≡ 136 * q + k → claim_of me.0.claims q ≡ some (Holds its) → k < 136
       → Allows R slots id me i (λ _. v) (λ _. Wrote (step slots i v 0 none) me v)

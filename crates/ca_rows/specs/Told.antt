@@ -1,5 +1,5 @@
 -- What each step of the rows tells.
-use Rattle.std.specs.Prelude.{◌≡◌, ◌≢◌, ◌⊎◌, ℕ, ◌+◌, ◌*◌, ◌/◌, ◌%◌, ◌<◌, ◌≤◌, max, true, false, List, length, slice_set}
+use Rattle.std.specs.Prelude.{◌≡◌, ◌≢◌, ◌⊎◌, ℕ, ◌+◌, ◌*◌, ◌/◌, ◌%◌, ◌<◌, ◌≤◌, max, true, false, List, length, slice_index, slice_set}
 use mathlib.Core.Option.{some, none}
 use Rattle.atomic_table.specs.Table.{Me, Step}
 use Rattle.ca_rows.specs.declared.view.Claim.TheVariants.{Holds, Keeps}
@@ -56,6 +56,11 @@ module _ {U : Type 0} where
   Took st m n m' = (t q x : ℕ) → m.0.stage ≡ Knew t q x →
       (n ≡ st.first → (claim_of m.0.claims q ≡ none) × ((its : List ℕ) × (length its ≡ 136) × (m' ≡ with_most (with_claims m (claimed q (Holds its) m.0.claims)))))
       × (n ≢ st.first → m' ≡ missed m)
+
+  -- A word of a held row was loaded: it is the one that the seat knows.
+  abbrev pub Recalled : Step (Unit {0}) → Mine U → ℕ → Mine U → Type 0
+  Recalled st m n m' = (m' ≡ m) × ((q k : ℕ) (its : List ℕ) → st.word ≡ 136 * q + k → k < 136 → claim_of m.0.claims q ≡ some (Holds its)
+      → n ≡ slice_index its k)
 
   -- A word of a held row was written.
   abbrev pub Wrote : Step (Unit {0}) → Mine U → ℕ → Mine U → Type 0

@@ -2,7 +2,7 @@
 ghost use Rattle.std.specs.Prelude.{ℕ, ◌+◌};
 ghost use Rattle.ca_rows.specs.Closed.{joined};
 ghost use Rattle.ca_rows.specs.Rule.{fresh, no_sizes};
-ghost use Rattle.ca_rows.specs.Told.{Looked, Glanced, Peeked, Took, Wrote, Gave, Asked, Announced, Left, Retired, Regained, Began, Scanned, Moved};
+ghost use Rattle.ca_rows.specs.Told.{Looked, Glanced, Peeked, Took, Recalled, Wrote, Gave, Asked, Announced, Left, Retired, Regained, Began, Scanned, Moved};
 
 use crate::rule::RowRule;
 use crate::view::View;
@@ -35,6 +35,13 @@ pub struct Take;
 
 impl<U> Play<(), View<U>> for Take {
     ghost then = { Took };
+}
+
+/// A load of a word of a held row.
+pub struct Recall;
+
+impl<U> Play<(), View<U>> for Recall {
+    ghost then = { Recalled };
 }
 
 /// A store in a held row.

@@ -9,10 +9,10 @@ ghost use Rattle.ca_rows.specs.Calls.{IsOf, IsSame, IsStill, TakesRow, PutsRow};
 ghost use Rattle.ca_rows.specs.Owned.{IsOwnSeat};
 ghost use Rattle.ca_rows.specs.Rule.{Ruled};
 ghost use Rattle.std.specs.Option.{ForSome};
-ghost use Rattle.std.specs.Prelude.{slice_set};
+ghost use Rattle.std.specs.Prelude.{slice_index, slice_set};
 
 use crate::kept::KeptRows;
-use crate::plays::{Give, Glance, Look, Peek, Take, Write};
+use crate::plays::{Give, Glance, Look, Peek, Recall, Take, Write};
 use crate::rest::Rest;
 use crate::rule::{RowRule, Rows};
 use crate::sizes::Sizes;
@@ -229,6 +229,22 @@ impl<R: RowRule> Space<R> {
         } else {
             Taken::Lost
         }
+    }
+
+    /// Reads a word of a row that the pass holds.
+    pub fn read_word(&self, pass: &mut Pass<R>, row: u32, index: u32) -> u64
+        requires own { IsOf self.now.table.shared.table_id self.now.table.shared.key pass.old.seat }
+        requires held { (its : List ℕ) × (claim_of pass.old.seat.me.0.claims row ≡ some (IsHeld its)) }
+        requires inside { (row ≤ self.now.table.shared.key.rows) × (index < 136) }
+        ensures same { IsSame pass.old.seat pass.new.seat }
+        ensures number { pass.new.number ≡ pass.old.number }
+        ensures kept { pass.new.kept ≡ pass.old.kept }
+        ensures still { pass.new.seat.me ≡ pass.old.seat.me }
+        ensures word { (its : List ℕ) → claim_of pass.old.seat.me.0.claims row ≡ some (IsHeld its) → result ≡ slice_index its index }
+    {
+        self.table
+            .shared
+            .load::<Recall>(&mut pass.seat, 136 * row as usize + index as usize)
     }
 
     /// Writes a word of a row that the pass holds.
