@@ -8,7 +8,7 @@ use Rattle.ca_rows.specs.declared.view.Claim.TheVariants.{Keeps}
 use Rattle.ca_rows.specs.declared.view.Pin.{Pin}
 use Rattle.ca_rows.specs.Claims.{claim_of, held_count}
 use Rattle.ca_rows.specs.Kept.{kept_of, AreKept}
-use Rattle.ca_rows.specs.Reclaiming.{Losses, Reclaims, IsLook, Moves, Rounds}
+use Rattle.ca_rows.specs.Reclaiming.{Reclaims, IsLook, Moves, Rounds}
 use Rattle.ca_rows.specs.Told.{Mine, with_pin}
 use Rattle.ca_rows.proofs.GivingBack.{reclaims_trans, was_kept}
 use Rattle.ca_rows.proofs.Keeping.{no_rows}
@@ -65,27 +65,29 @@ module _ {U : Type 0} where
   -- A round that loaded the epoch e and gave rows back.
   module _ (passes number : ℕ) (m m1 m2 : Mine U) (e : ℕ) (later : m.0.pin.scan ≤ e)
       (past : (r t : ℕ) → claim_of m.0.claims r ≡ some (Keeps t) → t ≤ e)
-      (began : m1 ≡ with_pin m (record m.0.pin { scan = e; upto = 0; lag = 0 })) (gave : Reclaims m1 m2) (same : m2.0.pin ≡ m1.0.pin) (freed : ℕ) (lost : Bool)
-      (ks ks' : List Kept) (count : freed + length ks' ≡ length ks) (losses : Losses lost m1.0.lost m2.0.lost)
-      (young : lost ≡ false → (r t : ℕ) → kept_of ks' r ≡ some t → e < t + 2) where
+      (began : m1 ≡ with_pin m (record m.0.pin { scan = e; upto = 0; lag = 0 })) (gave : Reclaims m1 m2) (same : m2.0.pin ≡ m1.0.pin) (freed losses : ℕ)
+      (ks ks' : List Kept) (count : freed + length ks' ≡ length ks) (lost : m2.0.lost ≡ m1.0.lost + losses) (few : freed + losses ≤ length ks)
+      (young : losses ≡ 0 → (r t : ℕ) → kept_of ks' r ≡ some t → e < t + 2) where
     pin_is : m2.0.pin ≡ record m.0.pin { scan = e; upto = 0; lag = 0 }
     pin_is = same ∙ ap (λ (x : Mine U). x.0.pin) began
 
     so_far : Reclaims m m2
     so_far = reclaims_trans m m1 m2 (saw_more m m1 e 0 0 began later) gave
 
-    losses_so_far : Losses lost m.0.lost m2.0.lost
-    losses_so_far = subst (λ n. Losses lost n m2.0.lost) (ap (λ (x : Mine U). x.0.lost) began) losses
+    lost_so_far : m2.0.lost ≡ m.0.lost + losses
+    lost_so_far = let before = ap (λ (x : Mine U). x.0.lost) began in omega arith
 
     -- It left nothing, or found the epoch at its last value.
-    pub round_ends : (length ks' ≡ 0) ⊎ (e ≡ 4611686018427387904) → Rounds passes number (record { freed = freed; lag = None; lost = lost; more = false }) m m2 ks ks'
+    pub round_ends : (length ks' ≡ 0) ⊎ (e ≡ 4611686018427387904) → Rounds passes number (record { freed = freed; lag = None; losses = losses; epoch = e; more = false }) m m2 ks ks'
     round_ends why = record {
       e = e;
       later = later;
       past = past;
       reclaims = so_far;
       freed = count;
-      lost = losses_so_far;
+      lost = lost_so_far;
+      few = omega arith;
+      epoch_is = sym (ap (λ (p : Pin). p.scan) pin_is);
       lag = ap (λ (p : Pin). p.lag) pin_is;
       young = young;
       goes_on = λ go _. absurd cc;
@@ -95,14 +97,16 @@ module _ {U : Type 0} where
 
     -- A pass lags.
     pub round_lags : (j : ℕ) (m3 : Mine U) → m2.0.pin.number ≡ number → IsLook passes (Some j) m2 m3
-        → Rounds passes number (record { freed = freed; lag = Some j; lost = lost; more = false }) m m3 ks ks'
+        → Rounds passes number (record { freed = freed; lag = Some j; losses = losses; epoch = e; more = false }) m m3 ks ks'
     round_lags j m3 is look = let saw = look.3.1 in record {
       e = e;
       later = later;
       past = past;
       reclaims = reclaims_trans m m2 m3 so_far (saw_more m2 m3 m2.0.pin.scan look.3.0 j saw (le_refl m2.0.pin.scan));
       freed = count;
-      lost = subst (λ n. Losses lost m.0.lost n) (sym (ap (λ (x : Mine U). x.0.lost) saw)) losses_so_far;
+      lost = ap (λ (x : Mine U). x.0.lost) saw ∙ lost_so_far;
+      few = omega arith;
+      epoch_is = sym (ap (λ (x : Mine U). x.0.pin.scan) saw ∙ ap (λ (p : Pin). p.scan) pin_is);
       lag = (look.0, look.1, (λ f. look.2 (f ∙ sym is)), ap (λ (x : Mine U). x.0.pin.lag) saw);
       young = young;
       goes_on = λ go _. absurd cc;
@@ -110,38 +114,44 @@ module _ {U : Type 0} where
       ends = λ _ f _ _. absurd cc;
     }
 
-    -- None does, and the epoch moved by one, or the exchange lost.
-    pub round_goes_on : (moved : Bool) (m3 m4 : Mine U) → IsLook passes None m2 m3 → Moves moved e m3 m4 → (all_lost : Bool)
-        → (moved ≡ true → all_lost ≡ lost) → (moved ≡ false → all_lost ≡ true)
-        → Rounds passes number (record { freed = freed; lag = None; lost = all_lost; more = true }) m m4 ks ks'
-    round_goes_on true m3 m4 look move all_lost won missed = let scan = ap (λ (p : Pin). p.scan) pin_is in
+    -- None does, and the epoch moved by one.
+    pub round_moves : (m3 m4 : Mine U) → IsLook passes None m2 m3 → Moves true e m3 m4
+        → Rounds passes number (record { freed = freed; lag = None; losses = losses; epoch = e + 1; more = true }) m m4 ks ks'
+    round_moves m3 m4 look move = let scan = ap (λ (p : Pin). p.scan) pin_is in
         let scan' = ap (λ (x : Mine U). x.0.pin.scan) look in
         let to_3 = saw_more m2 m3 m2.0.pin.scan passes m2.0.pin.lag look (le_refl m2.0.pin.scan) in
-        let to_4 = saw_more m3 m4 (e + 1) 0 m3.0.pin.lag move (omega arith) in let is = won refl in record {
+        let to_4 = saw_more m3 m4 (e + 1) 0 m3.0.pin.lag move (omega arith) in record {
           e = e;
           later = later;
           past = past;
           reclaims = reclaims_trans m m2 m4 so_far (reclaims_trans m2 m3 m4 to_3 to_4);
           freed = count;
-          lost = subst (λ (x : Bool × ℕ). Losses x.0 m.0.lost x.1) (λ i. (sym is i, sym (ap (λ (x : Mine U). x.0.lost) move ∙ ap (λ (x : Mine U). x.0.lost) look) i)) losses_so_far;
+          lost = ap (λ (x : Mine U). x.0.lost) move ∙ (ap (λ (x : Mine U). x.0.lost) look ∙ lost_so_far);
+          few = omega arith;
+          epoch_is = sym (ap (λ (x : Mine U). x.0.pin.scan) move);
           lag = ap (λ (x : Mine U). x.0.pin.lag) move ∙ (ap (λ (x : Mine U). x.0.pin.lag) look ∙ ap (λ (p : Pin). p.lag) pin_is);
-          young = λ f. young (sym is ∙ f);
+          young = young;
           goes_on = λ _ _. ap (λ (x : Mine U). x.0.pin.scan) move;
           stops = λ f. absurd cc;
           ends = λ f _ _ _. absurd cc;
         }
-    round_goes_on false m3 m4 look move all_lost won missed = let to_3 = saw_more m2 m3 m2.0.pin.scan passes m2.0.pin.lag look (le_refl m2.0.pin.scan) in
-        let is = missed refl in let more = so_far.more_lost in
-        let count_3 = ap (λ (x : Mine U). x.0.lost) look in let count_4 = ap (λ (x : Mine U). x.0.lost) move in record {
+
+    -- None does, and the exchange of the epoch lost.
+    pub round_misses : (m3 m4 : Mine U) → IsLook passes None m2 m3 → Moves false e m3 m4
+        → Rounds passes number (record { freed = freed; lag = None; losses = losses + 1; epoch = e; more = true }) m m4 ks ks'
+    round_misses m3 m4 look move = let to_3 = saw_more m2 m3 m2.0.pin.scan passes m2.0.pin.lag look (le_refl m2.0.pin.scan) in
+        let count_2 = lost_so_far in let count_3 = ap (λ (x : Mine U). x.0.lost) look in let count_4 = ap (λ (x : Mine U). x.0.lost) move in record {
           e = e;
           later = later;
           past = past;
           reclaims = reclaims_trans m m2 m4 so_far (reclaims_trans m2 m3 m4 to_3 (lost_one m3 m4 move));
           freed = count;
-          lost = let up : m.0.lost < m4.0.lost = omega arith in subst (λ (b : Bool). Losses b m.0.lost m4.0.lost) (sym is) up;
+          lost = omega arith;
+          few = omega arith;
+          epoch_is = sym (ap (λ (x : Mine U). x.0.pin.scan) move ∙ (ap (λ (x : Mine U). x.0.pin.scan) look ∙ ap (λ (p : Pin). p.scan) pin_is));
           lag = ap (λ (x : Mine U). x.0.pin.lag) move ∙ (ap (λ (x : Mine U). x.0.pin.lag) look ∙ ap (λ (p : Pin). p.lag) pin_is);
-          young = λ f. let clash : true ≡ false = sym is ∙ f in absurd cc;
-          goes_on = λ _ f. let clash : true ≡ false = sym is ∙ f in absurd cc;
+          young = λ f. absurd (omega arith);
+          goes_on = λ _ f. absurd (omega arith);
           stops = λ f. absurd cc;
           ends = λ f _ _ _. absurd cc;
         }
@@ -150,38 +160,23 @@ true_or_false : (b : Bool) → (b ≡ true) ⊎ (b ≡ false)
 true_or_false true = inl refl
 true_or_false false = inr refl
 
--- c tells whether a or b does.
-abbrev pub Either : Bool → Bool → Bool → Type 0
-Either a b c = ((a ≡ true) × (c ≡ true)) ⊎ ((a ≡ false) × (c ≡ b))
-
-pub neither : (a b c : Bool) → Either a b c → c ≡ false → (a ≡ false) × (b ≡ false)
-neither a b c x e = ⊎_elim (λ (t : (a ≡ true) × (c ≡ true)). let clash : true ≡ false = sym t.1 ∙ e in absurd cc)
-    (λ (f : (a ≡ false) × (c ≡ b)). (f.0, sym f.1 ∙ e)) x
-
-not_fewer : (b : Bool) (n n' : ℕ) → Losses b n n' → n ≤ n'
-not_fewer true n n' l = omega arith
-not_fewer false n n' l = omega arith
-
-pub losses_together : (a b c : Bool) (n n' n'' : ℕ) → Either a b c → Losses a n n' → Losses b n' n'' → Losses c n n''
-losses_together a b c n n' n'' x one two = ⊎_elim
-    (λ (t : (a ≡ true) × (c ≡ true)). let some_lost : n < n' = subst (λ (y : Bool). Losses y n n') t.0 one in let more = not_fewer b n' n'' two in
-    let all : n < n'' = omega arith in subst (λ (y : Bool). Losses y n n'') (sym t.1) all)
-    (λ (f : (a ≡ false) × (c ≡ b)). let none_lost : n' ≡ n = subst (λ (y : Bool). Losses y n n') f.0 one in
-    subst (λ (y : Bool × ℕ). Losses y.0 y.1 n'') (λ i. (sym f.1 i, none_lost i)) two) x
-
 pub fewer : (more : Bool) (left left' : ℕ) → left ≤ 3 → left' ≡ cond more (left - 1) 0 → left' ≤ 3
 fewer true left left' l e = omega arith
 fewer false left left' l e = omega arith
+
+pub one_less : (more : Bool) (left left' : ℕ) → 0 < left → left' ≡ cond more (left - 1) 0 → left' + 1 ≤ left
+one_less true left left' lo e = omega arith
+one_less false left left' lo e = omega arith
 
 -- One round more of three, of which so many were left.
 module _ {U : Type 0} (rows passes number : ℕ) (m m' : Mine U) (kept kept' : Vec Kept Global) (k : AreKept rows m.0.claims kept)
     (k' : AreKept rows m'.0.claims kept') (answer : Round) (x : Rounds passes number answer m m' kept.items kept'.items) (left left' : ℕ) (few : left ≤ 3)
     (go_on : answer.more ≡ true → left' ≡ left - 1) (stop : answer.more ≡ false → left' ≡ 0)
-    (older : left < 3 → (r t : ℕ) → kept_of kept.items r ≡ some t → t + 3 ≤ m.0.pin.scan + left) (some_left : 0 < left) (none_lost : answer.lost ≡ false) where
+    (older : left < 3 → (r t : ℕ) → kept_of kept.items r ≡ some t → t + 3 ≤ m.0.pin.scan + left) (some_left : 0 < left) (none_lost : answer.losses ≡ 0) where
   -- What is kept still was kept before, since the same epoch.
   same_epoch : (r t : ℕ) → kept_of kept'.items r ≡ some t → claim_of m.0.claims r ≡ some (Keeps t)
   same_epoch r t e = let was = was_kept m m' x.reclaims r t (k'.are_claimed r t e).2 in
-      let same : m'.0.lost ≡ m.0.lost = subst (λ (y : Bool). Losses y m.0.lost m'.0.lost) none_lost x.lost in
+      let lost = x.lost in let same : m'.0.lost ≡ m.0.lost = omega arith in
       subst (λ y. claim_of m.0.claims r ≡ some (Keeps y)) (sym (was.2 same)) was.1
 
   -- since an epoch below that of this round, by the number of rounds before it

@@ -11,11 +11,6 @@ use Rattle.ca_rows.specs.Claims.{claim_of, held_count}
 use Rattle.ca_rows.specs.Kept.{kept_of}
 use Rattle.ca_rows.specs.Told.{Mine, with_pin}
 
--- Exchanges were lost, or none was, by the counts before and after.
-abbrev pub Losses : Bool → ℕ → ℕ → Type 0
-Losses true before after = before < after
-Losses false before after = after ≡ before
-
 module _ {U : Type 0} where
   -- Kept rows were given back. Nothing else of the pass changed but what it saw of the pool and of the epoch.
   pub record Reclaims (m m' : Mine U) : Type 0 where
@@ -71,10 +66,13 @@ pub record Rounds {U : Type 0} (passes number : ℕ) (answer : Round) (m m' : Mi
   pub past : (r t : ℕ) → claim_of m.0.claims r ≡ some (Keeps t) → t ≤ e
   pub reclaims : Reclaims m m'
   pub freed : answer.freed + length ks' ≡ length ks
-  pub lost : Losses answer.lost m.0.lost m'.0.lost
+  -- how many exchanges lost: one of each row that isn't given back, at most, and that of the epoch
+  pub lost : m'.0.lost ≡ m.0.lost + answer.losses
+  pub few : answer.losses ≤ length ks + 1
+  pub epoch_is : answer.epoch ≡ m'.0.pin.scan
   pub lag : IsLag passes number answer.lag m'.0.pin
   -- Where no exchange lost, only rows are kept still that were kept for less than two epochs.
-  pub young : answer.lost ≡ false → (r t : ℕ) → kept_of ks' r ≡ some t → e < t + 2
-  pub goes_on : answer.more ≡ true → answer.lost ≡ false → m'.0.pin.scan ≡ e + 1
+  pub young : answer.losses ≡ 0 → (r t : ℕ) → kept_of ks' r ≡ some t → e < t + 2
+  pub goes_on : answer.more ≡ true → answer.losses ≡ 0 → m'.0.pin.scan ≡ e + 1
   pub stops : answer.more ≡ false → m'.0.pin.scan ≡ e
-  pub ends : answer.more ≡ false → answer.lag ≡ None → answer.lost ≡ false → m'.0.pin.scan < 4611686018427387904 → ks' ≡ []
+  pub ends : answer.more ≡ false → answer.lag ≡ None → answer.losses ≡ 0 → m'.0.pin.scan < 4611686018427387904 → ks' ≡ []

@@ -1,12 +1,12 @@
 //! Passes give back the rows that they keep, once nobody can have a note on them.
-ghost use Rattle.std.specs.Prelude.{◌≡◌, ◌≢◌, ℕ, ◌+◌, ◌-◌, ◌<◌, ◌≤◌, cond, true, false, List, length, slice_index_or, vec_len};
+ghost use Rattle.std.specs.Prelude.{◌≡◌, ◌≢◌, ◌↔◌, IsTrue, ℕ, ◌+◌, ◌-◌, ◌<◌, ◌≤◌, cond, true, false, List, length, slice_index_or, vec_len};
 ghost use Rattle.std.specs.declared.option.Option.TheVariants.{None, Some};
 ghost use mathlib.Core.Option.{some};
 ghost use Rattle.ca_rows.specs.declared.view.Claim.TheVariants.{Holds as IsHeld, Keeps as IsKept};
 ghost use Rattle.ca_rows.specs.Calls.{IsOf, IsSame, IsNumbered};
 ghost use Rattle.ca_rows.specs.Claims.{claim_of, claimed};
 ghost use Rattle.ca_rows.specs.Kept.{AreKept, kept_of};
-ghost use Rattle.ca_rows.specs.Reclaiming.{Losses, Reclaims, GivesBack, IsLag, IsLook, Moves, Rounds};
+ghost use Rattle.ca_rows.specs.Reclaiming.{Reclaims, GivesBack, IsLag, IsLook, Moves, Rounds};
 ghost use Rattle.ca_rows.specs.Told.{with_most};
 
 use crate::plays::{Begin, Move, Named, Regain, Scan};
@@ -48,8 +48,8 @@ impl<R: RowRule> Space<R> {
         false
     }
 
-    // Gives back the rows that were kept two epochs before this one, from the last: how many, and whether an exchange lost.
-    fn give_old(&self, pass: &mut Pass<R>, epoch: u64) -> (u32, bool)
+    // Gives back the rows that were kept two epochs before this one, from the last: how many, and how many exchanges lost.
+    fn give_old(&self, pass: &mut Pass<R>, epoch: u64) -> (u32, u32)
         requires own { IsOf self.now.table.shared.table_id self.now.table.shared.key pass.old.seat }
         requires list { AreKept self.now.table.shared.key.rows pass.old.seat.me.0.claims pass.old.kept.rows }
         requires epoch { pass.old.seat.me.0.pin.scan ≡ epoch }
@@ -59,11 +59,12 @@ impl<R: RowRule> Space<R> {
         ensures pin { pass.new.seat.me.0.pin ≡ pass.old.seat.me.0.pin }
         ensures reclaims { Reclaims pass.old.seat.me pass.new.seat.me }
         ensures freed { result.0 + vec_len pass.new.kept.rows ≡ vec_len pass.old.kept.rows }
-        ensures lost { Losses result.1 pass.old.seat.me.0.lost pass.new.seat.me.0.lost }
-        ensures young { result.1 ≡ false → (r t : ℕ) → kept_of pass.new.kept.rows.items r ≡ some t → epoch < t + 2 }
+        ensures lost { pass.new.seat.me.0.lost ≡ pass.old.seat.me.0.lost + result.1 }
+        ensures few { result.0 + result.1 ≤ vec_len pass.old.kept.rows }
+        ensures young { result.1 ≡ 0 → (r t : ℕ) → kept_of pass.new.kept.rows.items r ≡ some t → epoch < t + 2 }
     {
         let mut freed = 0;
-        let mut lost = false;
+        let mut losses = 0;
         let mut at = pass.kept.len();
         while at > 0 {
             at -= 1;
@@ -71,11 +72,11 @@ impl<R: RowRule> Space<R> {
                 if self.give_back(pass, at) {
                     freed += 1;
                 } else {
-                    lost = true;
+                    losses += 1;
                 }
             }
         }
-        (freed, lost)
+        (freed, losses)
     }
 
     // The first pass whose announcement is older than the epoch that the look began with.
@@ -128,29 +129,35 @@ impl<R: RowRule> Space<R> {
         ensures rounds { Rounds self.now.table.shared.key.passes pass.old.number result pass.old.seat.me pass.new.seat.me pass.old.kept.rows.items pass.new.kept.rows.items }
     {
         let epoch = self.table.shared.load::<Begin>(&mut pass.seat, 1);
-        let (freed, lost) = self.give_old(pass, epoch);
+        let (freed, losses) = self.give_old(pass, epoch);
+        let round = Round {
+            freed,
+            lag: None,
+            losses,
+            epoch,
+            more: false,
+        };
         if pass.kept.len() == 0 || epoch == 1 << 62 {
-            return Round {
-                freed,
-                lag: None,
-                lost,
-                more: false,
-            };
+            return round;
         }
         if let Some(number) = self.lagging(pass, epoch) {
             return Round {
-                freed,
                 lag: Some(number),
-                lost,
-                more: false,
+                ..round
             };
         }
-        let moved = self.move_epoch(pass, epoch);
-        Round {
-            freed,
-            lag: None,
-            lost: lost || !moved,
-            more: true,
+        if self.move_epoch(pass, epoch) {
+            Round {
+                epoch: epoch + 1,
+                more: true,
+                ..round
+            }
+        } else {
+            Round {
+                losses: losses + 1,
+                more: true,
+                ..round
+            }
         }
     }
 
@@ -168,26 +175,33 @@ impl<R: RowRule> Space<R> {
         ensures freed { result.freed + vec_len pass.new.kept.rows ≡ vec_len pass.old.kept.rows }
         ensures kept { result.kept ≡ vec_len pass.new.kept.rows }
         ensures lag { IsLag self.now.table.shared.key.passes pass.old.number result.lag pass.new.seat.me.0.pin }
-        ensures lost { Losses result.lost pass.old.seat.me.0.lost pass.new.seat.me.0.lost }
+        ensures losses { pass.new.seat.me.0.lost ≡ pass.old.seat.me.0.lost + result.losses }
+        ensures few { result.losses ≤ 196608 }
+        ensures lost { IsTrue result.lost ↔ 0 < result.losses }
+        ensures epoch { result.epoch ≡ pass.new.seat.me.0.pin.scan }
         ensures young { result.lost ≡ false → (r t : ℕ) → kept_of pass.new.kept.rows.items r ≡ some t → pass.new.seat.me.0.pin.scan < t + 2 }
         ensures all { result.lag ≡ None → result.lost ≡ false → pass.new.seat.me.0.pin.scan < 4611686018427387904 → result.kept ≡ 0 }
     {
         let mut freed = 0;
         let mut lag = None;
-        let mut lost = false;
+        let mut losses = 0;
+        let mut epoch = 0;
         let mut left = 3;
         while left > 0 {
             let round = self.round(pass);
             freed += round.freed;
             lag = round.lag;
-            lost = lost || round.lost;
+            losses += round.losses;
+            epoch = round.epoch;
             left = rounds_left(left, round.more);
         }
         Reclaimed {
             freed,
             kept: pass.kept.len(),
             lag,
-            lost,
+            lost: losses > 0,
+            losses,
+            epoch,
         }
     }
 }

@@ -10,6 +10,10 @@ pub struct Reclaimed {
     pub lag: Option<u32>,
     /// Whether one of the call's exchanges lost.
     pub lost: bool,
+    /// How many of them did.
+    pub losses: u32,
+    /// The epoch that the call loaded last, or the one that it moved to since.
+    pub epoch: u64,
 }
 
 /// What came of one round of it.
@@ -17,7 +21,8 @@ pub struct Reclaimed {
 pub struct Round {
     pub freed: u32,
     pub lag: Option<u32>,
-    pub lost: bool,
+    pub losses: u32,
+    pub epoch: u64,
     /// Whether the next round may give back more.
     pub more: bool,
 }

@@ -114,6 +114,32 @@ fn take_and_put(space: &Space<Register>, pass: &mut Pass<Register>, value: u64) 
     }
 }
 
+// The words 4 to 6 of a row that was taken and written in word 5, where it could be taken.
+fn write_and_read(space: &Space<Register>, pass: &mut Pass<Register>, value: u64) -> Option<[u64; 3]>
+    requires { IsOf space.now.table.shared.table_id space.now.table.shared.key pass.old.seat }
+{
+    let Taken::Row(row) = space.take_row(pass) else {
+        return None;
+    };
+    space.write_word(pass, row, 5, value);
+    Some([
+        space.read_word(pass, row, 4),
+        space.read_word(pass, row, 5),
+        space.read_word(pass, row, 6),
+    ])
+}
+
+#[test]
+fn a_held_row_is_read_as_it_was_written(rt: HostRuntime) {
+    let Ok(mut space) = Space::<Register>::new(rt.alloc(), 384, 1, 1, 120, 4096, STARTS) else {
+        panic!(rt; "no memory")
+    };
+    let Ok(mut pass) = space.enroll(rt.alloc()) else {
+        panic!(rt; "no pass")
+    };
+    assert_eq!(rt; write_and_read(&space, &mut pass, 7), Some([0, 7, 0]));
+}
+
 // Does so many times, and gives the pass back with how many rows it holds.
 fn work(space: &Space<Register>, mut pass: Pass<Register>, times: u64) -> (Pass<Register>, u32)
     requires { IsOf space.now.table.shared.table_id space.now.table.shared.key pass.seat }
@@ -306,22 +332,24 @@ fn a_tag_at_its_last_value_is_worn(rt: HostRuntime) {
 }
 
 // The answer where no pass lags and no exchange lost.
-fn given(freed: u32, kept: u32) -> Reclaimed {
+fn given(freed: u32, kept: u32, epoch: u64) -> Reclaimed {
     Reclaimed {
         freed,
         kept,
         lag: None,
         lost: false,
+        losses: 0,
+        epoch,
     }
 }
 
 #[test]
 fn a_kept_row_goes_back_after_two_epochs(rt: HostRuntime) {
-    for (epoch, freed, kept) in [
-        (0, 1, 0),
-        ((1 << 62) - 2, 1, 0),
-        ((1 << 62) - 1, 0, 1),
-        (1 << 62, 0, 1),
+    for (epoch, freed, kept, last) in [
+        (0, 1, 0, 2),
+        ((1 << 62) - 2, 1, 0, 1 << 62),
+        ((1 << 62) - 1, 0, 1, 1 << 62),
+        (1 << 62, 0, 1, 1 << 62),
     ] {
         let at = starts(0, epoch, 0, 0);
         let Ok(mut space) = Space::<Register>::new(rt.alloc(), 384, 1, 1, 120, 0, at) else {
@@ -333,7 +361,7 @@ fn a_kept_row_goes_back_after_two_epochs(rt: HostRuntime) {
         assert_eq!(rt; take_and_retire(&space, &mut pass), 1);
         assert_eq!(rt;
             space.reclaim(&mut pass),
-            given(freed, kept),
+            given(freed, kept, last),
             "from {epoch}"
         );
         assert_eq!(rt; pass.kept(), kept);
@@ -354,12 +382,12 @@ fn a_pass_that_stays_pinned_lags(rt: HostRuntime) {
     assert_eq!(rt; take_and_retire(&space, &mut first), 1);
     let behind = Reclaimed {
         lag: Some(2),
-        ..given(0, 1)
+        ..given(0, 1, 1)
     };
     assert_eq!(rt; space.reclaim(&mut first), behind);
     assert_eq!(rt; space.reclaim(&mut first), behind);
     space.unpin(&mut second);
     assert_eq!(rt; take_and_retire(&space, &mut first), 2);
-    assert_eq!(rt; space.reclaim(&mut first), given(2, 0));
-    assert_eq!(rt; space.reclaim(&mut second), given(0, 0));
+    assert_eq!(rt; space.reclaim(&mut first), given(2, 0, 3));
+    assert_eq!(rt; space.reclaim(&mut second), given(0, 0, 3));
 }

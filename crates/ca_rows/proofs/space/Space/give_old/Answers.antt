@@ -1,7 +1,6 @@
-use Rattle.std.proofs.Common.{◌≡◌, ℕ, sym, ap, drop, ◌∙◌, subst, refl, arith}
+use Rattle.std.proofs.Common.{◌≡◌, ℕ, sym, ap, drop, ◌∙◌, refl, arith}
 use Rattle.ca_rows.specs.declared.kept.Kept.{Kept}
 use Rattle.ca_rows.specs.Kept.{kept_of}
-use Rattle.ca_rows.specs.Reclaiming.{Losses}
 use Rattle.ca_rows.proofs.GivingBack.{reclaims_trans}
 use Rattle.ca_rows.proofs.Listing.{row_less}
 use Rattle.ca_rows.proofs.space.Space.give_old.Goals as goal
@@ -21,7 +20,8 @@ loop-at-preserved-then-give_back g c = let inv = c.loop-at.invariant in let told
       pin = told.given.same_pin ∙ inv.pin;
       reclaims = reclaims_trans c.args.pass.now.seat.me c.loop-at.pass.seat.me c.give_back.new.pass.seat.me inv.reclaims told.given.reclaims;
       freed = omega arith;
-      lost = subst (Losses c.loop-at.lost c.args.pass.now.seat.me.0.lost) (sym hit.1) inv.lost;
+      lost = hit.1 ∙ inv.lost;
+      few = let few = inv.few in omega arith;
       young = λ f r t e. inv.young f r t (ap (λ xs. kept_of xs r) (sym less.1) ∙ e);
       within = omega arith;
     }

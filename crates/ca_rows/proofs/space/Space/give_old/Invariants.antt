@@ -1,7 +1,7 @@
-use Rattle.std.proofs.Common.{◌≡◌, ℕ, ◌+◌, ◌<◌, ◌≤◌, false, drop, vec_len}
+use Rattle.std.proofs.Common.{◌≡◌, ℕ, ◌+◌, ◌<◌, ◌≤◌, drop, vec_len}
 use mathlib.Core.Option.{some}
 use Rattle.ca_rows.specs.Kept.{AreKept, kept_of}
-use Rattle.ca_rows.specs.Reclaiming.{Losses, Reclaims}
+use Rattle.ca_rows.specs.Reclaiming.{Reclaims}
 use Rattle.ca_rows.proofs.space.Space.give_old.Given as goal
 
 abbrev pub invariant-loop-at : goal.invariant-loop-at
@@ -13,8 +13,9 @@ invariant-loop-at g l = record {
   pin : l.pass.seat.me.0.pin ≡ l.fn.pass.seat.me.0.pin;
   reclaims : Reclaims l.fn.pass.seat.me l.pass.seat.me;
   freed : l.freed + vec_len l.pass.kept.rows ≡ vec_len l.fn.pass.kept.rows;
-  lost : Losses l.lost l.fn.pass.seat.me.0.lost l.pass.seat.me.0.lost;
-  young : l.lost ≡ false → (r t : ℕ) → kept_of (drop l.at l.pass.kept.rows.items) r ≡ some t → l.epoch < t + 2;
+  lost : l.pass.seat.me.0.lost ≡ l.fn.pass.seat.me.0.lost + l.losses;
+  few : l.freed + l.losses + l.at ≤ vec_len l.fn.pass.kept.rows;
+  young : l.losses ≡ 0 → (r t : ℕ) → kept_of (drop l.at l.pass.kept.rows.items) r ≡ some t → l.epoch < t + 2;
   within : l.at ≤ vec_len l.pass.kept.rows;
 }
 

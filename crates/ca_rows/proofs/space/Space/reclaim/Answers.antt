@@ -1,19 +1,14 @@
-use Rattle.std.proofs.Common.{◌≡◌, ◌-◌, true, false, cond, inl, inr, ap, ◌∙◌, ℕ, subst, arith}
+use Rattle.std.proofs.Common.{◌≡◌, ◌-◌, true, false, cond, ap, ◌∙◌, ℕ, subst, arith}
 use Rattle.ca_rows.specs.Reclaiming.{IsLag}
 use Rattle.ca_rows.proofs.GivingBack.{reclaims_trans}
-use Rattle.ca_rows.proofs.Rounding.{Either, neither, fewer, losses_together, older_still, none_left, young_left}
+use Rattle.ca_rows.proofs.Rounding.{fewer, one_less, older_still, none_left, young_left}
 use Rattle.ca_rows.proofs.space.Space.reclaim.Goals as goal
-use Rattle.ca_rows.proofs.space.Space.reclaim.Goals.{then-lost, else-lost}
 
 pub loop-left-preserved : goal.loop-left-preserved
 loop-left-preserved g c = let inv = c.loop-left.invariant in let some_left = c.loop-left-test.true in let told = c.round-round.ensures in let x = told.rounds in
     let m = c.args.pass.now.seat.me in let m1 = c.loop-left.pass.seat.me in let m2 = c.round-round.new.pass.seat.me in let few = inv.few in
     let kept1 = c.loop-left.pass.kept.rows in let kept2 = c.round-round.new.pass.kept.rows in let long1 = kept1.ok.0 in let long2 = kept2.ok.0 in
     let answer = c.round-round.result in let left : ℕ = c.loop-left.left in let left' : ℕ = c.rounds_left-left.result in
-    let either : Either c.loop-left.lost answer.lost c.if-lost.lost = elim c.if-lost.branch [
-      | then-lost w ↦ inl (w.if-lost.true, w.lost-is ∙ w.if-lost.true)
-      | else-lost w ↦ inr (w.if-lost.false, w.lost-is)
-    ] in
     let go_on = λ (e : answer.more ≡ true). c.rounds_left-left.ensures ∙ ap (λ b. cond b (left - 1) 0) e in
     let stop = λ (e : answer.more ≡ false). c.rounds_left-left.ensures ∙ ap (λ b. cond b (left - 1) 0) e in
     let freed = inv.freed in let freed' = x.freed in record {
@@ -23,16 +18,18 @@ loop-left-preserved g c = let inv = c.loop-left.invariant in let some_left = c.l
       list = told.list;
       reclaims = reclaims_trans m m1 m2 inv.reclaims x.reclaims;
       freed = omega arith;
-      lost = losses_together c.loop-left.lost answer.lost c.if-lost.lost m.0.lost m1.0.lost m2.0.lost either inv.lost x.lost;
+      lost = let lost = inv.lost in let lost' = x.lost in omega arith;
       few = fewer answer.more left left' inv.few c.rounds_left-left.ensures;
+      bound = let bound = inv.bound in let more = x.few in let fewer_left = one_less answer.more left left' some_left c.rounds_left-left.ensures in omega arith;
+      epoch = λ _. x.epoch_is;
       lag = λ _. subst (λ (n : ℕ). IsLag c.args.self.now.table.shared.key.passes n answer.lag m2.0.pin) inv.number x.lag;
-      older = λ lo _ f. let not = neither c.loop-left.lost answer.lost c.if-lost.lost either f in
+      older = λ lo _ f. let before : c.loop-left.losses ≡ 0 = omega arith in let now : answer.losses ≡ 0 = omega arith in
           older_still c.args.self.now.table.shared.key.rows c.args.self.now.table.shared.key.passes c.loop-left.pass.number m1 m2 kept1 kept2 inv.list told.list answer x left left' few go_on stop
-          (λ l r t e. inv.older some_left l not.0 r t e) some_left not.1 lo;
-      young = λ zero_is f. let not = neither c.loop-left.lost answer.lost c.if-lost.lost either f in
+          (λ l r t e. inv.older some_left l before r t e) some_left now lo;
+      young = λ zero_is f. let before : c.loop-left.losses ≡ 0 = omega arith in let now : answer.losses ≡ 0 = omega arith in
           young_left c.args.self.now.table.shared.key.rows c.args.self.now.table.shared.key.passes c.loop-left.pass.number m1 m2 kept1 kept2 inv.list told.list answer x left left' few go_on stop
-          (λ l r t e. inv.older some_left l not.0 r t e) some_left not.1 zero_is;
-      ended = λ zero_is lag f room. let not = neither c.loop-left.lost answer.lost c.if-lost.lost either f in
+          (λ l r t e. inv.older some_left l before r t e) some_left now zero_is;
+      ended = λ zero_is lag f room. let before : c.loop-left.losses ≡ 0 = omega arith in let now : answer.losses ≡ 0 = omega arith in
           none_left c.args.self.now.table.shared.key.rows c.args.self.now.table.shared.key.passes c.loop-left.pass.number m1 m2 kept1 kept2 inv.list told.list answer x left left' few go_on stop
-          (λ l r t e. inv.older some_left l not.0 r t e) some_left not.1 zero_is lag room;
+          (λ l r t e. inv.older some_left l before r t e) some_left now zero_is lag room;
     }

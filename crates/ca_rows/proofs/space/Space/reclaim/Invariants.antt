@@ -1,8 +1,8 @@
-use Rattle.std.proofs.Common.{◌≡◌, ℕ, ◌+◌, ◌<◌, ◌≤◌, false, [], vec_len}
+use Rattle.std.proofs.Common.{◌≡◌, ℕ, ◌+◌, ◌*◌, ◌<◌, ◌≤◌, [], vec_len}
 use Rattle.std.specs.declared.option.Option.TheVariants.{None}
 use mathlib.Core.Option.{some}
 use Rattle.ca_rows.specs.Kept.{AreKept, kept_of}
-use Rattle.ca_rows.specs.Reclaiming.{Losses, Reclaims, IsLag}
+use Rattle.ca_rows.specs.Reclaiming.{Reclaims, IsLag}
 use Rattle.ca_rows.proofs.space.Space.reclaim.Given as goal
 
 abbrev pub invariant-loop-left : goal.invariant-loop-left
@@ -13,12 +13,14 @@ invariant-loop-left g l = record {
   list : AreKept l.self.table.shared.key.rows l.pass.seat.me.0.claims l.pass.kept.rows;
   reclaims : Reclaims l.fn.pass.seat.me l.pass.seat.me;
   freed : l.freed + vec_len l.pass.kept.rows ≡ vec_len l.fn.pass.kept.rows;
-  lost : Losses l.lost l.fn.pass.seat.me.0.lost l.pass.seat.me.0.lost;
+  lost : l.pass.seat.me.0.lost ≡ l.fn.pass.seat.me.0.lost + l.losses;
   few : l.left ≤ 3;
+  bound : l.losses + 65536 * l.left ≤ 196608;
+  epoch : l.left < 3 → l.epoch ≡ l.pass.seat.me.0.pin.scan;
   lag : l.left < 3 → IsLag l.self.table.shared.key.passes l.fn.pass.number l.lag l.pass.seat.me.0.pin;
-  older : 0 < l.left → l.left < 3 → l.lost ≡ false → (r t : ℕ) → kept_of l.pass.kept.rows.items r ≡ some t → t + 3 ≤ l.pass.seat.me.0.pin.scan + l.left;
-  young : l.left ≡ 0 → l.lost ≡ false → (r t : ℕ) → kept_of l.pass.kept.rows.items r ≡ some t → l.pass.seat.me.0.pin.scan < t + 2;
-  ended : l.left ≡ 0 → l.lag ≡ None → l.lost ≡ false → l.pass.seat.me.0.pin.scan < 4611686018427387904 → l.pass.kept.rows.items ≡ [];
+  older : 0 < l.left → l.left < 3 → l.losses ≡ 0 → (r t : ℕ) → kept_of l.pass.kept.rows.items r ≡ some t → t + 3 ≤ l.pass.seat.me.0.pin.scan + l.left;
+  young : l.left ≡ 0 → l.losses ≡ 0 → (r t : ℕ) → kept_of l.pass.kept.rows.items r ≡ some t → l.pass.seat.me.0.pin.scan < t + 2;
+  ended : l.left ≡ 0 → l.lag ≡ None → l.losses ≡ 0 → l.pass.seat.me.0.pin.scan < 4611686018427387904 → l.pass.kept.rows.items ≡ [];
 }
 
 abbrev pub decreases-loop-left : goal.decreases-loop-left
