@@ -249,28 +249,35 @@ module _ (z : Sizes) where
         (refl, λ row index its is inside shown. ap (λ y. get_or s.words y 0) is ∙ shown_word z r.made s.words us f id d.upper k row index its inside shown),
       )
 
+  -- A load after which the seat counts otherwise, and knows what it knew.
+  pub recounted : (s : State (Unit {0}) (View TreeView)) (r : R z s) (i id : ℕ) (d : View TreeView) (counts : Counts) (lost : ℕ)
+      → get_elem? s.views id ≡ some d
+      → R z record { words = set s.words i (get_or s.words i 0); homes = s.homes; views = set s.views id (record d { upper = record d.upper { counts = counts; lost = lost } }) }
+  recounted s r i id d counts lost at = let f = r.above in let us : List TreeView = map upper_of s.views in
+      let first = at_map upper_of s.views id d at in let u' : TreeView = record d.upper { counts = counts; lost = lost } in
+      let k = relisted z.rows r.made s.words us (set us id u') f.history id d.upper (numbered us id d.upper u' first (λ _. refl)) (knows_upper z s r id d at) in
+      looked z s r i id d u' at (λ row n. inl (notes_by s.words s.words d.upper u' row k.no_ways (λ note j. j) n))
+      (seat_changed z r.made s.words us id d.upper u' f first (λ _. refl) record {
+        made_before = k.made_before;
+        alone = k.alone;
+        seen_first = k.seen_first;
+        since_first = k.since_first;
+        lawful = k.lawful;
+        past = k.past;
+        notes = k.notes;
+        no_ways = k.no_ways;
+      })
+
   -- A load that ends a refused call.
   pub refuses : (slots id : ℕ) (me : MyTree) (i : ℕ) (one_more : Counts → Counts)
       → Allows (R z) slots id me i (λ x. x) (Refuses one_more (step slots i 0 0 none) me)
-  refuses slots id me i one_more s r _ at _ = let f = r.above in let d = me.0 in let us : List TreeView = map upper_of s.views in
-      let first = at_map upper_of s.views id d at in let u' : TreeView = record d.upper { counts = one_more d.upper.counts } in
-      let k = relisted z.rows r.made s.words us (set us id u') f.history id d.upper (numbered us id d.upper u' first (λ _. refl)) (knows_upper z s r id d at) in (
-        record d { upper = u' },
-        keeps,
-        tt,
-        looked z s r i id d u' at (λ row n. inl (notes_by s.words s.words d.upper u' row k.no_ways (λ note j. j) n))
-            (seat_changed z r.made s.words us id d.upper u' f first (λ _. refl) record {
-              made_before = k.made_before;
-              alone = k.alone;
-              seen_first = k.seen_first;
-              since_first = k.since_first;
-              lawful = k.lawful;
-              past = k.past;
-              notes = k.notes;
-              no_ways = k.no_ways;
-            }),
-        refl,
-      )
+  refuses slots id me i one_more s r _ at _ = let d = me.0 in (
+    record d { upper = record d.upper { counts = one_more d.upper.counts } },
+    keeps,
+    tt,
+    recounted s r i id d (one_more d.upper.counts) d.upper.lost at,
+    refl,
+  )
 
 -- After a load of the root link the row that it names was shown.
 pub led_shows : (m m' : MyTree) (n : ℕ) → IsLed m n m' → (its : List ℕ) × IsShown m'.0.upper n its

@@ -8,7 +8,7 @@ use native.Mathlib.Decide.{ℕ_discrete}
 use lib.ListN.{get_elem?}
 use prog.Atomic.{either}
 use Rattle.atomic_table.specs.Table.{State, step, keeps, stepped, Allows}
-use Rattle.atomic_table.proofs.Lists.{at_set, at_map, set_again}
+use Rattle.atomic_table.proofs.Lists.{at_set, at_map}
 use Rattle.ca_model.specs.Event.{IsAnswer}
 use Rattle.ca_model.specs.History.{History, Edit, after, after_edit, IsEdit, AreEdits, AreByPasses}
 use Rattle.ca_model.specs.Lawful.{IsLawful}
@@ -31,12 +31,16 @@ use Rattle.ca_node.specs.Laws.{tree_frames, tree_lends, numbered, relisted, in_n
 use Rattle.ca_node.specs.Links.{root, IsIn, IsLinked, by_root, by_base, IsLent, IsNoted, by_note, by_item, by_way, by_link, by_link_item}
 use Rattle.ca_node.specs.Row.{row_at, form, IsObjectRow, IsBaseRow, items, count, level, mark, pair, objects_in}
 use Rattle.ca_node.specs.Stays.{row_same, row_long, word_at, map_same}
-use Rattle.ca_node.specs.Told.{MyTree, IsKnown, Update, IsUpdate, given, taken_out, updated, IsUpdated, Updates, HasUpdated}
+use Rattle.ca_node.specs.Told.{MyTree, IsKnown, Update, IsUpdate, given, taken_out, updated, one_more_lost, IsUpdated, Updates, HasUpdated}
 use Rattle.ca_node.specs.Tree.{root_place, IsBaseAt, StartsWith, IsTrue, Knows, IsTree}
 use Rattle.ca_node.specs.TreeView.{Note, TreeView}
 use Rattle.ca_node.proofs.Logs.{after_more, others_lawful, own_lawful, past_more}
-use Rattle.ca_node.proofs.Looking.{R, looked, knows_upper, fewer_passes, further, longer_past, starts_shorter, in_more}
+use Rattle.ca_node.proofs.Looking.{R, recounted, knows_upper, fewer_passes, further, longer_past, starts_shorter, in_more}
 use Rattle.ca_node.proofs.Members.{in_rest, has, once, given_here, given_else, taken_here, taken_else, other_has, map_is_list}
+
+-- The old base of an update is among the seat's notes.
+pub was_shown : (z : Sizes) (m : MyTree) (new : ℕ) (x : Update) → IsUpdate z m new x → IsIn x.old m.0.upper.notes
+was_shown z m new x u = (0, ap (λ (notes : List Note). get_elem? notes 0) u.shown.1)
 
 edits_more : (keypos : ℕ) (h : History) (n : ℕ) (e : Edit) → AreEdits keypos h → IsEdit keypos e → AreEdits keypos (h ++ (n, e) ∷ [])
 edits_more keypos [] n e a is = (is, tt)
@@ -83,7 +87,7 @@ module _ (z : Sizes) (s : State (Unit {0}) (View TreeView)) (r : R z s) (id : �
   knows = knows_upper z s r id d at
 
   old_true : IsTrue z.rows s.words x.old
-  old_true = knows.notes x.old u.shown
+  old_true = knows.notes x.old (was_shown z me new x u)
 
   -- The old base is the one under the root link.
   old_its : row_at s.words (root s.words) ≡ x.old.its
@@ -441,13 +445,12 @@ module _ (z : Sizes) where
             (update_step z s r id me at new x u hit),
         ((λ _. updated_now z s r id me at new x u hit), λ miss. absurd (miss hit)),
       ))
-      (λ miss. (
-        d,
+      (λ miss. let lost : View TreeView = record d { upper = one_more_lost d.upper } in (
+        lost,
         keeps,
         tt,
-        subst (λ (y : ℕ). R z (stepped s 130 y id me.1 d keeps)) (sym (ap (λ b. either b new n) (ne_eqb n x.old.row miss)))
-            (looked z s r 130 id d d.upper at (λ row y. inl y)
-            (subst (IsTree z r.made s.words) (sym (set_again (map upper_of s.views) id d.upper (at_map upper_of s.views id d at))) r.above)),
+        subst (λ (y : ℕ). R z (stepped s 130 y id me.1 lost keeps)) (sym (ap (λ b. either b new n) (ne_eqb n x.old.row miss)))
+            (recounted z s r 130 id d d.upper.counts (d.upper.lost + 1) at),
         ((λ hit. absurd (miss hit)), λ _. refl),
       ))
 

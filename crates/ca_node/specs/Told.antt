@@ -118,7 +118,8 @@ IsNotFrom x i row = IsIn row (items x.its) → IsIn row x.comes ⊎ ((j : ℕ) �
 pub record IsUpdate (z : Sizes) (m : MyTree) (new : ℕ) (x : Update) : Type 0 where
   pub is_pinned : m.0.pin.pinned ≡ true
   pub is_pass : 0 < m.0.upper.number
-  pub shown : IsIn x.old m.0.upper.notes
+  -- The old base is the one that the seat was shown last.
+  pub shown : (rest : List Note) × (m.0.upper.notes ≡ x.old ∷ rest)
   pub old_base : IsBaseRow x.old.its
   pub held : claim_of m.0.claims new ≡ some (Holds x.its)
   pub is_base : IsBaseRow x.its
@@ -155,14 +156,18 @@ pub record IsUpdated (new : ℕ) (x : Update) (m m' : MyTree) : Type 0 where
   pub apart : ¬ IsIn x.old.row x.goes
   pub known : 0 < m.0.sizes.rows → IsKnown m.0.sizes (updated m.0.upper more new x)
 
--- The root link was exchanged, and the update is carried out; or the exchange was lost, and nothing changed.
-abbrev pub Updates : Update → Step (Unit {0}) → MyTree → ℕ → MyTree → Type 0
-Updates x st m n m' = (n ≡ st.first → IsUpdated st.second x m m') × (n ≢ st.first → m' ≡ m)
+-- what a seat knows that lost an exchange of a link
+abbrev pub one_more_lost : TreeView → TreeView
+one_more_lost u = record u { lost = u.lost + 1 }
 
--- What the exchange of the root link came to: the update is carried out, or nothing changed.
+-- The root link was exchanged, and the update is carried out; or the exchange was lost, which is counted, and nothing else changed.
+abbrev pub Updates : Update → Step (Unit {0}) → MyTree → ℕ → MyTree → Type 0
+Updates x st m n m' = (n ≡ st.first → IsUpdated st.second x m m') × (n ≢ st.first → m' ≡ with_upper m (one_more_lost m.0.upper))
+
+-- What the exchange of the root link came to: the update is carried out, or one exchange more was lost.
 abbrev pub HasUpdated : Bool → ℕ → Update → MyTree → MyTree → Type 0
 HasUpdated true new x m m' = IsUpdated new x m m'
-HasUpdated false new x m m' = m' ≡ m
+HasUpdated false new x m m' = m' ≡ with_upper m (one_more_lost m.0.upper)
 
 -- A word was loaded as a call was refused, and the call is counted so.
 abbrev pub Refuses : (Counts → Counts) → Step (Unit {0}) → MyTree → ℕ → MyTree → Type 0

@@ -9,7 +9,8 @@ use crate::rule::{TreePass, TreeSpace};
 use crate::steps::replace_link;
 
 /// One exchange of the root link, of the old base against one that the pass wrote: it carries out the update that `K` names, which is the
-/// last edit of the history then, and enters the call in the log. False exactly where the exchange was lost; then nothing changed.
+/// last edit of the history then, and enters the call in the log. The old base is the one that the pass was shown last. False exactly where
+/// the exchange was lost, which is counted; then nothing else changed.
 pub fn replace_base<K: Intent>(space: &TreeSpace, pass: &mut TreePass, old: u32, new: u32) -> bool
     requires own { IsOf space.now.table.shared.table_id space.now.table.shared.key pass.old.seat }
     requires update { IsUpdate space.now.table.shared.key pass.old.seat.me new K.update }

@@ -115,7 +115,11 @@ fn take_and_put(space: &Space<Register>, pass: &mut Pass<Register>, value: u64) 
 }
 
 // The words 4 to 6 of a row that was taken and written in word 5, where it could be taken.
-fn write_and_read(space: &Space<Register>, pass: &mut Pass<Register>, value: u64) -> Option<[u64; 3]>
+fn write_and_read(
+    space: &Space<Register>,
+    pass: &mut Pass<Register>,
+    value: u64,
+) -> Option<[u64; 3]>
     requires { IsOf space.now.table.shared.table_id space.now.table.shared.key pass.old.seat }
 {
     let Taken::Row(row) = space.take_row(pass) else {

@@ -10,16 +10,15 @@ load-head-requires g c = let sized = c.args.self.now.sized in
     (search rules, omega arith, looks g.R.RowRule.linked g.R.RowRule.lent g.R.RowRule.noted g.R.RowRule.fact g.met.R.RowRule.frames c.args.self.now.table.shared.key _ _ _)
 
 pub load-next-requires : goal.load-next-requires
-load-next-requires g c = let sized = c.args.self.now.sized in let few = c.args.self.now.few.1 in let some_free = c.if-row-eq0.false in let saw = c.load-head.ensures.2.3 (omega arith) c.if-tag.false in
-     (
-      search rules,
-      (let same = ap (λ (z : Sizes). z.rows) c.requires.own.1 in let some_rows = c.args.self.now.few.0 in let lim = c.load-head.ensures.2.0 (omega arith) in omega arith),
-      peeks g.R.RowRule.linked g.R.RowRule.lent g.R.RowRule.noted g.R.RowRule.fact g.met.R.RowRule.frames c.args.self.now.table.shared.key _ _ _ (c.load-head.result / 65536) (c.load-head.result % 65536)
-          (ap (λ (m : Mine g.row.R-Upper.Denot). m.0.stage) saw) (omega arith),
-    )
+load-next-requires g c = let sized = c.args.self.now.sized in let few = c.args.self.now.few.1 in let some_free = c.if-row-eq0.false in let saw = c.load-head.ensures.2.3 (omega arith) c.if-tag.false in (
+  search rules,
+  (let same = ap (λ (z : Sizes). z.rows) c.requires.own.1 in let some_rows = c.args.self.now.few.0 in let lim = c.load-head.ensures.2.0 (omega arith) in omega arith),
+  peeks g.R.RowRule.linked g.R.RowRule.lent g.R.RowRule.noted g.R.RowRule.fact g.met.R.RowRule.frames c.args.self.now.table.shared.key _ _ _ (c.load-head.result / 65536) (c.load-head.result % 65536)
+      (ap (λ (m : Mine g.row.R-Upper.Denot). m.0.stage) saw) (omega arith),
+)
 
 pub compare_exchange-found-requires : goal.compare_exchange-found-requires
-compare_exchange-found-requires g c = let sized = c.args.self.now.sized in let some_free = c.if-row-eq0.false in let saw = c.load-head.ensures.2.3 (omega arith) c.if-tag.false in 
+compare_exchange-found-requires g c = let sized = c.args.self.now.sized in let some_free = c.if-row-eq0.false in let saw = c.load-head.ensures.2.3 (omega arith) c.if-tag.false in
     let next = c.load-next.ensures.2 (c.load-head.result / 65536) (c.load-head.result % 65536) (ap (λ (m : Mine g.row.R-Upper.Denot). m.0.stage) saw) in (
       search rules,
       omega arith,
@@ -30,7 +29,6 @@ compare_exchange-found-requires g c = let sized = c.args.self.now.sized in let s
 pub returns-then-found-old-clause-row : goal.returns-then-found-old-clause-row
 returns-then-found-old-clause-row g c =
     let some_free = c.if-row-eq0.false in let saw = c.load-head.ensures.2.3 (omega arith) c.if-tag.false in
-    
     let t' : ℕ = c.load-head.result / 65536 in
     let q : ℕ = c.load-head.result % 65536 in
     let next = c.load-next.ensures.2 t' q (ap (λ (m : Mine g.row.R-Upper.Denot). m.0.stage) saw) in
