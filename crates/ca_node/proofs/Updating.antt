@@ -171,7 +171,7 @@ module _ (z : Sizes) (s : State (Unit {0}) (View TreeView)) (r : R z s) (id : �
 
   -- The old base is no object.
   old_no_item : (row : ℕ) → x.old.row ≡ row → ¬ IsIn row (items x.its)
-  old_no_item row e i = let w = words_of row i in let a : form (row_at s.words row) ≡ 1 = ap form w.3 ∙ w.4 in
+  old_no_item row e i = let w = words_of row i in let a : form (row_at s.words row) ≡ 1 = ap form w.3 ∙ w.4.0 in
       let b : form (row_at s.words row) ≡ 2 = ap (λ c. form (row_at s.words c)) (sym e) ∙ (ap form old_true.spells ∙ u.old_base) in omega arith
 
   -- No object stands in two places of the old base, since keys ascend.
@@ -190,7 +190,7 @@ module _ (z : Sizes) (s : State (Unit {0}) (View TreeView)) (r : R z s) (id : �
   old_apart : ¬ IsIn x.old.row x.goes
   old_apart g = let w = u.go x.old.row g in
       let o = f.base.are_objects x.old.row (subst (λ its. IsIn x.old.row (items its)) (sym old_its) (w.0, w.1)) in
-      let a : form (row_at s.words x.old.row) ≡ 1 = o.2 in let b : form (row_at s.words x.old.row) ≡ 2 = ap form old_true.spells ∙ u.old_base in omega arith
+      let a : form (row_at s.words x.old.row) ≡ 1 = o.2.0 in let b : form (row_at s.words x.old.row) ≡ 2 = ap form old_true.spells ∙ u.old_base in omega arith
 
   out_unlinked : (row : ℕ) → IsIn row outs → ¬ IsIn row ins → ¬ IsLinked words' row
   out_unlinked row o n l = ⊎_elim (λ (e : row ≡ new). n (0, ap some (sym e)))

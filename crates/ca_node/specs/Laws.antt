@@ -29,10 +29,10 @@ module _ (z : Sizes) (words : List ℕ) (base : IsBaseAt z words root_place (roo
   not_route row w f = ⊎_elim
       (λ (e : row ≡ root words). let g : form (row_at words (root words)) ≡ 3 = subst (λ r. IsRouteRow (row_at words r)) e f in let h = base.is_base in
       omega arith)
-      (λ i. let h = (base.are_objects row i).2 in omega arith) w
+      (λ i. let h = (base.are_objects row i).2.0 in omega arith) w
 
   is_root : (row : ℕ) → IsOfBase row → IsBaseRow (row_at words row) → row ≡ root words
-  is_root row w f = ⊎_elim (λ e. e) (λ i. let h = (base.are_objects row i).2 in absurd (omega arith)) w
+  is_root row w f = ⊎_elim (λ e. e) (λ i. let h = (base.are_objects row i).2.0 in absurd (omega arith)) w
 
   pub reached : (row : ℕ) → IsLinked words row → IsOfBase row
   reached _ (by_root row e) = inl (sym e)

@@ -1,5 +1,5 @@
 -- What the words of a row spell.
-use Rattle.std.specs.Prelude.{◌≡◌, ℕ, ◌*◌, ◌/◌, ◌%◌, List, [], ◌∷◌, ◌++◌, take, drop, map, slice_index}
+use Rattle.std.specs.Prelude.{◌≡◌, ℕ, ◌*◌, ◌/◌, ◌%◌, ◌≤◌, List, [], ◌∷◌, ◌++◌, take, drop, map, slice_index}
 use Rattle.std.specs.Int.{to_be_bytes, w64}
 use Rattle.ca_model.specs.StoreMap.{Pair, StoreMap}
 
@@ -10,9 +10,6 @@ row_at words row = take 136 (drop (136 * row) words)
 -- the form, in the first word
 abbrev pub form : List ℕ → ℕ
 form its = slice_index its 0 / 72057594037927936
-
-abbrev pub IsObjectRow : List ℕ → Type 0
-IsObjectRow its = form its ≡ 1
 
 abbrev pub IsBaseRow : List ℕ → Type 0
 IsBaseRow its = form its ≡ 2
@@ -57,6 +54,13 @@ bytes_in (word ∷ words) = to_be_bytes w64 word ++ bytes_in words
 -- of an object: its bytes, and where its key stands in them
 abbrev pub object : List ℕ → List ℕ
 object its = take (count its) (bytes_in (drop 11 its))
+
+-- The bytes behind the object are 0, to the end of the row.
+abbrev pub IsPadded : List ℕ → Type 0
+IsPadded its = (i : ℕ) → count its ≤ i → slice_index (bytes_in (drop 11 its)) i ≡ 0
+
+abbrev pub IsObjectRow : List ℕ → Type 0
+IsObjectRow its = (form its ≡ 1) × IsPadded its
 
 abbrev pub key_place : List ℕ → ℕ
 key_place its = slice_index its 0 / 65536 % 65536
