@@ -115,7 +115,8 @@ front_more z made words uppers id u f at = let next : List TreeView = uppers ++ 
         notes = k.notes;
         no_ways = k.no_ways;
       })
-      (λ (t : (j ≡ length uppers) × (front_of u ≡ v)). subst (Knows z.rows made words next f.history j) t.1 (front_knows next f.history (f.each_seat id u at).seen_first (none_made made 0 f.history f.by_passes (inl refl)) j))
+      (λ (t : (j ≡ length uppers) × (front_of u ≡ v)). subst (Knows z.rows made words next f.history j) t.1
+      (front_knows next f.history (f.each_seat id u at).seen_first (none_made made 0 f.history f.by_passes (inl refl)) j))
       (at_place uppers (front_of u) v j here);
 }
   where

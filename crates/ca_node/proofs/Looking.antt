@@ -252,7 +252,11 @@ module _ (z : Sizes) where
   -- A load after which the seat counts otherwise, and knows what it knew.
   pub recounted : (s : State (Unit {0}) (View TreeView)) (r : R z s) (i id : ℕ) (d : View TreeView) (counts : Counts) (lost : ℕ)
       → get_elem? s.views id ≡ some d
-      → R z record { words = set s.words i (get_or s.words i 0); homes = s.homes; views = set s.views id (record d { upper = record d.upper { counts = counts; lost = lost } }) }
+      → R z record {
+        words = set s.words i (get_or s.words i 0);
+        homes = s.homes;
+        views = set s.views id (record d { upper = record d.upper { counts = counts; lost = lost } });
+      }
   recounted s r i id d counts lost at = let f = r.above in let us : List TreeView = map upper_of s.views in
       let first = at_map upper_of s.views id d at in let u' : TreeView = record d.upper { counts = counts; lost = lost } in
       let k = relisted z.rows r.made s.words us (set us id u') f.history id d.upper (numbered us id d.upper u' first (λ _. refl)) (knows_upper z s r id d at) in

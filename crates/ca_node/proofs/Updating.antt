@@ -164,7 +164,8 @@ module _ (z : Sizes) (s : State (Unit {0}) (View TreeView)) (r : R z s) (id : �
   in_linked row i = ⊎_elim (λ (e : new ≡ row). by_root row (root' ∙ e)) (λ j. item_now row (u.come row j).0) (in_more new row x.comes i)
 
   out_linked : (row : ℕ) → IsIn row outs → IsLinked s.words row
-  out_linked row i = ⊎_elim (λ (e : x.old.row ≡ row). by_root row (hit ∙ e)) (λ j. let w = u.go row j in old_item row (w.0, w.1)) (in_more x.old.row row x.goes i)
+  out_linked row i = ⊎_elim (λ (e : x.old.row ≡ row). by_root row (hit ∙ e)) (λ j. let w = u.go row j in old_item row (w.0, w.1))
+      (in_more x.old.row row x.goes i)
 
   apart : (row : ℕ) → IsIn row ins → ¬ IsIn row outs
   apart row i o = let h = held_in row i in (held_row row h.0 h.1).3 (out_linked row o)

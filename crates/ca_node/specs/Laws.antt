@@ -207,7 +207,8 @@ seat_changed z made words uppers id u u' f at same k = record {
   wide = f.wide;
   base = f.base;
   map_is = f.map_is;
-  each_seat = all_seats (Knows z.rows made words (set uppers id u') f.history) uppers id u' k (λ j v n here. relisted z.rows made words uppers (set uppers id u') f.history j v (numbered uppers id u u' at same) (f.each_seat j v here));
+  each_seat = all_seats (Knows z.rows made words (set uppers id u') f.history) uppers id u' k
+      (λ j v n here. relisted z.rows made words uppers (set uppers id u') f.history j v (numbered uppers id u u' at same) (f.each_seat j v here));
 }
 
 pub starts_whole : (h : History) → StartsWith h h
@@ -229,13 +230,33 @@ same_notes words u _ (by_link_item way base row i e f k) = by_link_item way base
 
 pub tree_pinning : Pinning IsLinked IsLent IsNoted IsTree pinned unpinned
 tree_pinning = record {
-  keeps_entering = λ z made uppers words i u f at. let k = relisted z.rows made words uppers (set uppers i (pinned u)) f.history i u (numbered uppers i u (pinned u) at (λ _. refl)) (f.each_seat i u at) in
+  keeps_entering = λ z made uppers words i u f at. let k = relisted z.rows made words uppers (set uppers i (pinned u)) f.history i u
+      (numbered uppers i u (pinned u) at (λ _. refl)) (f.each_seat i u at) in
       seat_changed z made words uppers i u (pinned u) f at (λ _. refl)
-      record { made_before = k.made_before; alone = k.alone; seen_first = k.seen_first; since_first = starts_whole u.seen; lawful = k.lawful; past = k.past; notes = k.notes; no_ways = k.no_ways };
+      record {
+        made_before = k.made_before;
+        alone = k.alone;
+        seen_first = k.seen_first;
+        since_first = starts_whole u.seen;
+        lawful = k.lawful;
+        past = k.past;
+        notes = k.notes;
+        no_ways = k.no_ways;
+      };
   entering_notes = same_notes;
-  keeps_leaving = λ z made uppers words i u f at. let k = relisted z.rows made words uppers (set uppers i (unpinned u)) f.history i u (numbered uppers i u (unpinned u) at (λ _. refl)) (f.each_seat i u at) in
+  keeps_leaving = λ z made uppers words i u f at. let k = relisted z.rows made words uppers (set uppers i (unpinned u)) f.history i u
+      (numbered uppers i u (unpinned u) at (λ _. refl)) (f.each_seat i u at) in
       seat_changed z made words uppers i u (unpinned u) f at (λ _. refl)
-      record { made_before = k.made_before; alone = k.alone; seen_first = k.seen_first; since_first = k.since_first; lawful = k.lawful; past = k.past; notes = λ note i. absurd (in_nothing note [] refl i); no_ways = refl };
+      record {
+        made_before = k.made_before;
+        alone = k.alone;
+        seen_first = k.seen_first;
+        since_first = k.since_first;
+        lawful = k.lawful;
+        past = k.past;
+        notes = λ note i. absurd (in_nothing note [] refl i);
+        no_ways = refl;
+      };
   leaving_notes = λ words u r. no_notes words (unpinned u) r refl refl;
 }
 
@@ -291,7 +312,8 @@ tree_making = record {
           notes = k.notes;
           no_ways = k.no_ways;
         })
-        (λ (t : (j ≡ length uppers) × (blank (made + 1) ≡ u)). subst (Knows z.rows (made + 1) words next f.history j) t.1 (knows_nothing z.rows (made + 1) words next f.history j (made + 1) (omega arith)
+        (λ (t : (j ≡ length uppers) × (blank (made + 1) ≡ u)). subst (Knows z.rows (made + 1) words next f.history j) t.1
+        (knows_nothing z.rows (made + 1) words next f.history j (made + 1) (omega arith)
         (λ _ i v at same. ⊎_elim (λ (old : get_elem? uppers i ≡ some v). let low = (f.each_seat i v old).made_before in absurd (omega arith))
         (λ (y : (i ≡ length uppers) × (blank (made + 1) ≡ v)). y.0 ∙ sym t.0) (at_place uppers (blank (made + 1)) v i at))
         (none_made made (made + 1) f.history f.by_passes (inr (omega arith)))))

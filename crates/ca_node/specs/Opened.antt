@@ -4,4 +4,5 @@ use Rattle.ca_rows.specs.declared.sizes.Sizes.{Sizes}
 
 abbrev pub opens_at : Sizes → ℕ → ℕ
 opens_at z i = cond (nat_lt i 130) (262144 * z.starts.sequence)
-    (cond (i == 130) 1 (cond (i == 131) z.keypos (cond (i == 132) z.leaf (cond (i == 133) z.levels (cond (i == 136) 144115188075855872 (cond (i == 137) 4294967296 0))))))
+    (cond (i == 130) 1 (cond (i == 131) z.keypos (cond (i == 132) z.leaf
+    (cond (i == 133) z.levels (cond (i == 136) 144115188075855872 (cond (i == 137) 4294967296 0))))))

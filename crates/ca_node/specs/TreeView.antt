@@ -40,7 +40,19 @@ no_refusals = record { busy = 0; full = 0; deep = 0; worn = 0 }
 
 -- what a seat with this number knows at first
 abbrev pub blank : ℕ → TreeView
-blank number = record { number = number; seen = []; since = []; log = []; counts = no_refusals; notes = []; ways = []; loads = 0; splits = 0; joins = 0; lost = 0 }
+blank number = record {
+  number = number;
+  seen = [];
+  since = [];
+  log = [];
+  counts = no_refusals;
+  notes = [];
+  ways = [];
+  loads = 0;
+  splits = 0;
+  joins = 0;
+  lost = 0;
+}
 
 -- It is pinned, or not any more.
 abbrev pub pinned : TreeView → TreeView

@@ -63,7 +63,8 @@ pub fn replace_link<M: Play<(), View<Knowledge>>>(
     requires pinned { pass.old.seat.me.0.pin.pinned ≡ true }
     requires root { link ≡ IsRoot }
     requires shown { (its : List ℕ) × IsShown pass.old.seat.me.0.upper old its }
-    requires rule { Allows (Ruled IsLinked IsLent IsNoted IsTree space.now.table.shared.key) space.now.table.shared.table_id.slots pass.old.seat.id pass.old.seat.me 130 (λ n. either (n == old) new n) (M.then (step space.now.table.shared.table_id.slots 130 old new none) pass.old.seat.me) }
+    requires rule { Allows (Ruled IsLinked IsLent IsNoted IsTree space.now.table.shared.key) space.now.table.shared.table_id.slots pass.old.seat.id
+        pass.old.seat.me 130 (λ n. either (n == old) new n) (M.then (step space.now.table.shared.table_id.slots 130 old new none) pass.old.seat.me) }
     ensures same { IsSame pass.old.seat pass.new.seat }
     ensures number { pass.new.number ≡ pass.old.number }
     ensures kept { pass.new.kept ≡ pass.old.kept }

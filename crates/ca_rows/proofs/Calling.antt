@@ -16,7 +16,8 @@ module _ {U : Type 0} (a b c d : Mine U) (one two : Stage) (looked : b ≡ with_
   peeked_too peeked = peeked ∙ ap (λ (m : Mine U). with_stage m two) looked
 
   -- Two loads and an exchange that took the row.
-  pub row_taken : (q : ℕ) (its : List ℕ) → c ≡ with_stage b two → claim_of c.0.claims q ≡ none → d ≡ with_most (with_claims c (claimed q (Holds its) c.0.claims))
+  pub row_taken : (q : ℕ) (its : List ℕ) → c ≡ with_stage b two → claim_of c.0.claims q ≡ none
+      → d ≡ with_most (with_claims c (claimed q (Holds its) c.0.claims))
       → (claim_of a.0.claims q ≡ none) × (d ≡ with_most (with_claims a (claimed q (Holds its) a.0.claims)))
   row_taken q its peeked free took = let e = peeked_too peeked in
       (ap (λ (m : Mine U). claim_of m.0.claims q) (sym e) ∙ free, took ∙ ap (λ (m : Mine U). with_most (with_claims m (claimed q (Holds its) m.0.claims))) e)

@@ -46,7 +46,12 @@ claim_second (x ∷ xs) ys r e = dite (ℕ_discrete x.row r)
 
 -- A pass's pin goes away, where it isn't pinned.
 pins_fewer : (made : ℕ) (words : List ℕ) (pins : List Pin) (id : ℕ) → ArePins made words pins → ArePins made words (set pins id (unpinned 0))
-pins_fewer made words pins id p = record { few = p.few; small = p.small; each = all_seats (IsPin made words (set pins id (unpinned 0))) pins id (unpinned 0) mine other; unused = p.unused }
+pins_fewer made words pins id p = record {
+  few = p.few;
+  small = p.small;
+  each = all_seats (IsPin made words (set pins id (unpinned 0))) pins id (unpinned 0) mine other;
+  unused = p.unused;
+}
   where
     blank : (d : Pin) → unpinned 0 ≡ d → d.pinned ≡ true → ⊥
     blank d e pinned = let no : false ≡ true = ap (λ (y : Pin). y.pinned) e ∙ pinned in cc
@@ -224,14 +229,21 @@ module _ {U : Type 0} (linked lent : List ℕ → ℕ → Type 0) (noted : List 
             in_range = λ c x f. absurd (some-ne-none x (sym f));
             noted_pinned = λ c n. absurd (law.spent_notes s.words c n);
           })
-          (λ n m there. let k = r.seat j d there in record { sizes_are = k.sizes_are; made_are = k.made_are; stage_is = stages d.stage k.stage_is; in_range = k.in_range; noted_pinned = k.noted_pinned });
+          (λ n m there. let k = r.seat j d there in record {
+            sizes_are = k.sizes_are;
+            made_are = k.made_are;
+            stage_is = stages d.stage k.stage_is;
+            in_range = k.in_range;
+            noted_pinned = k.noted_pinned;
+          });
       pins = subst (ArePins r.made s.words) (sym (map-set pin_of (set s.views own (joined v w)) seat left_over
           ∙ ap (λ xs. set xs seat (unpinned 0)) (map-set pin_of s.views own (joined v w)
           ∙ set_again (map pin_of s.views) own v.pin (at_map pin_of s.views own v at))))
           (pins_fewer r.made s.words (map pin_of s.views) seat r.pins);
       above = subst (fact z r.made s.words) (sym (map-set upper_of (set s.views own (joined v w)) seat left_over
           ∙ ap (λ xs. set xs seat spent) (map-set upper_of s.views own (joined v w))))
-          (law.keeps_closing z r.made (map upper_of s.views) s.words own seat v.upper w.upper r.above (at_map upper_of s.views own v at) apart (at_map upper_of s.views seat w was_there));
+          (law.keeps_closing z r.made (map upper_of s.views) s.words own seat v.upper w.upper r.above (at_map upper_of s.views own v at) apart
+          (at_map upper_of s.views seat w was_there));
     }
       where
         stages : (st : Stage) → IsStage z.rows r.owner s.words st → IsStage z.rows (λ c. passed own seat (r.owner c)) s.words st

@@ -166,7 +166,8 @@ module _ {U : Type 0} where
           retired ∙ ap (λ (x : Mine U). (record x.0 { claims = claimed q (Keeps e) x.0.claims }, x.1)) missed_is in
           let same : m2.0.pin.scan ≡ m.0.pin.scan = ap (λ (x : Mine U). x.0.pin.scan) missed_is in (
             only (claimed q (Keeps e) xs) (m.0.lost + 1) most_now now (omega arith) (omega arith) more_now least_now
-                (λ r n. claimed_else xs q r (Keeps e) n ∙ (claimed_else (claimed q (Holds its) m.0.claims) q r (Holds its') n ∙ claimed_else m.0.claims q r (Holds its) n))
+                (λ r n. claimed_else xs q r (Keeps e) n ∙ (claimed_else (claimed q (Holds its) m.0.claims) q r (Holds its') n
+                ∙ claimed_else m.0.claims q r (Holds its) n))
                 (inr (e, omega arith, claimed_here xs q (Keeps e), λ f. absurd (omega arith))),
             ap (λ (x : Mine U). x.0.pin) now,
             ap (λ (x : Mine U). x.0.lost) now,

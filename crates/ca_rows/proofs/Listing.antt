@@ -37,7 +37,8 @@ behind_cut (x ∷ xs) (suc i) l = behind_cut xs i (omega arith)
 pub from_place : (ks : List Kept) (i : ℕ) (d : Kept) (r t : ℕ) → i < length ks → kept_of (drop i ks) r ≡ some t
     → (kept_of (drop (suc i) ks) r ≡ some t) ⊎ ((get_or ks i d).at ≡ t)
 from_place [] i d r t l e = absurd (omega arith)
-from_place (x ∷ xs) zero d r t l e = dite (ℕ_discrete x.row r) (λ f. inr (some-injective x.at t (sym (here_is x xs r f) ∙ e))) (λ n. inl (sym (else_is x xs r n) ∙ e))
+from_place (x ∷ xs) zero d r t l e = dite (ℕ_discrete x.row r) (λ f. inr (some-injective x.at t (sym (here_is x xs r f) ∙ e)))
+    (λ n. inl (sym (else_is x xs r n) ∙ e))
 from_place (x ∷ xs) (suc i) d r t l e = from_place xs i d r t (omega arith) e
 
 module _ (rows : ℕ) (claims : List Claimed) (kept : Vec Kept Global) (k : AreKept rows claims kept) (i : ℕ) (d : Kept) (inside : i < length kept.items) where

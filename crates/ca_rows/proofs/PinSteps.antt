@@ -69,7 +69,11 @@ module _ {U : Type 0} (linked lent : List ℕ → ℕ → Type 0) (noted : List 
         scanned = λ now i x there low p. own.scanned now i x (others_pinned (record d.pin { told = epoch s.words }) un i x there p) low p;
       }
 
-      ask_step : R record { words = set s.words 1 (get_or s.words 1 0); homes = s.homes; views = set s.views id (record d { pin = record d.pin { told = epoch s.words } }) }
+      ask_step : R record {
+        words = set s.words 1 (get_or s.words 1 0);
+        homes = s.homes;
+        views = set s.views id (record d { pin = record d.pin { told = epoch s.words } });
+      }
       ask_step = let w : View U = record d { pin = record d.pin { told = epoch s.words } } in
           subst (λ (ws : List ℕ). R record { words = ws; homes = s.homes; views = set s.views id w }) (sym (set-get_or s.words 1 0))
           (repinned linked lent noted fact frames z s r id d w at s.words (nothing (map upper_of s.views) s.words) record {
@@ -150,7 +154,11 @@ module _ {U : Type 0} (linked lent : List ℕ → ℕ → Type 0) (noted : List 
           not_pinned un ((r.seat id d at).noted_pinned q before))
           (law.keeps_entering z r.made (map upper_of s.views) (new_words lo (d.pin.told + 1)) id d.upper (framed_now lo (d.pin.told + 1)).stays upper_at)
 
-      leave_step : R record { words = set s.words (d.pin.number + 1) 0; homes = s.homes; views = set s.views id (record d { pin = record d.pin { pinned = false }; upper = leaves d.upper }) }
+      leave_step : R record {
+        words = set s.words (d.pin.number + 1) 0;
+        homes = s.homes;
+        views = set s.views id (record d { pin = record d.pin { pinned = false }; upper = leaves d.upper });
+      }
       leave_step = let e' : Pin = record d.pin { pinned = false } in stores lo 0 e' (leaves d.upper)
           record {
             number_is = refl;
@@ -180,14 +188,15 @@ module _ {U : Type 0} (linked lent : List ℕ → ℕ → Type 0) (noted : List 
   module _ (enters leaves : U → U) (law : Pinning linked lent noted fact enters leaves) where
     pub announces : (slots id : ℕ) (me : Mine U) (i x : ℕ) → i ≡ me.0.pin.number + 1 → x ≡ me.0.pin.told + 1 → 0 < me.0.pin.number → me.0.pin.pinned ≡ false
         → Allows R slots id me i (λ _. x) (λ _. Announced enters (step slots i x 0 none) me x)
-    announces slots id me i x is_i is_x lo un s r _ at _ = let w : View U = record me.0 { pin = record me.0.pin { pinned = true; moment = epoch s.words }; upper = enters me.0.upper } in (
-      w,
-      keeps,
-      tt,
-      subst (λ (y : ℕ × ℕ). R record { words = set s.words y.0 y.1; homes = s.homes; views = set s.views id w }) (λ j. (sym is_i j, sym is_x j))
-          (announce_step s r id me.0 at enters leaves law lo un),
-      (epoch s.words, (own s r id me.0 at).told_past, refl),
-    )
+    announces slots id me i x is_i is_x lo un s r _ at _ = let w : View U =
+        record me.0 { pin = record me.0.pin { pinned = true; moment = epoch s.words }; upper = enters me.0.upper } in (
+          w,
+          keeps,
+          tt,
+          subst (λ (y : ℕ × ℕ). R record { words = set s.words y.0 y.1; homes = s.homes; views = set s.views id w }) (λ j. (sym is_i j, sym is_x j))
+              (announce_step s r id me.0 at enters leaves law lo un),
+          (epoch s.words, (own s r id me.0 at).told_past, refl),
+        )
 
     pub unpins : (slots id : ℕ) (me : Mine U) (i : ℕ) → i ≡ me.0.pin.number + 1 → 0 < me.0.pin.number
         → Allows R slots id me i (λ _. 0) (λ _. Left leaves (step slots i 0 0 none) me 0)

@@ -261,7 +261,13 @@ module _ {U : Type 0} (linked lent : List ℕ → ℕ → Type 0) (noted : List 
             in_range = m.in_range;
             noted_pinned = pinned_now id d' here';
           })
-          (λ i y n e here'. let k = r.seat i y e in record { sizes_are = k.sizes_are; made_are = k.made_are; stage_is = stages y.stage k.stage_is; in_range = k.in_range; noted_pinned = pinned_now i y here' })
+          (λ i y n e here'. let k = r.seat i y e in record {
+            sizes_are = k.sizes_are;
+            made_are = k.made_are;
+            stage_is = stages y.stage k.stage_is;
+            in_range = k.in_range;
+            noted_pinned = pinned_now i y here';
+          })
           j x here here;
       pins = subst (ArePins r.made words') (sym same_pins) (pins_stay r.made s.words words' (map pin_of s.views) (λ i _ l. m.low i l) r.pins);
       above = m.above;

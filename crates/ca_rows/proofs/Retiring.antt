@@ -49,7 +49,11 @@ module _ {U : Type 0} (linked lent : List ℕ → ℕ → Type 0) (noted : List 
       abbrev keeping : View U
       keeping = record d { claims = claimed q (Keeps (epoch s.words)) d.claims }
 
-      retire_step : R record { words = set s.words 1 (get_or s.words 1 0); homes = s.homes; views = set s.views id (record d { claims = claimed q (Keeps (epoch s.words)) d.claims }) }
+      retire_step : R record {
+        words = set s.words 1 (get_or s.words 1 0);
+        homes = s.homes;
+        views = set s.views id (record d { claims = claimed q (Keeps (epoch s.words)) d.claims });
+      }
       retire_step = let o = owned linked lent noted fact frames z s r id d at q c mine in let out = is_out c o.3 free in
           let w : View U = record d { claims = claimed q (Keeps (epoch s.words)) d.claims } in
           let agrees = same (uppers linked lent noted fact frames z s) s.words in

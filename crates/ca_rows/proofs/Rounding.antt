@@ -20,7 +20,8 @@ nothing_in (x ∷ xs) e = absurd (omega arith)
 
 module _ {U : Type 0} where
   -- The seat saw more of the others, in an epoch that isn't lower.
-  pub saw_more : (m m' : Mine U) (scan upto lag : ℕ) → m' ≡ with_pin m (record m.0.pin { scan = scan; upto = upto; lag = lag }) → m.0.pin.scan ≤ scan → Reclaims m m'
+  pub saw_more : (m m' : Mine U) (scan upto lag : ℕ) → m' ≡ with_pin m (record m.0.pin { scan = scan; upto = upto; lag = lag }) → m.0.pin.scan ≤ scan
+      → Reclaims m m'
   saw_more m m' scan upto lag e up = subst (λ x. Reclaims m x) (sym e) record {
     same_sizes = refl;
     same_made = refl;
@@ -78,7 +79,8 @@ module _ {U : Type 0} where
     lost_so_far = let before = ap (λ (x : Mine U). x.0.lost) began in omega arith
 
     -- It left nothing, or found the epoch at its last value.
-    pub round_ends : (length ks' ≡ 0) ⊎ (e ≡ 4611686018427387904) → Rounds passes number (record { freed = freed; lag = None; losses = losses; epoch = e; more = false }) m m2 ks ks'
+    pub round_ends : (length ks' ≡ 0) ⊎ (e ≡ 4611686018427387904)
+        → Rounds passes number (record { freed = freed; lag = None; losses = losses; epoch = e; more = false }) m m2 ks ks'
     round_ends why = record {
       e = e;
       later = later;
@@ -92,7 +94,8 @@ module _ {U : Type 0} where
       young = young;
       goes_on = λ go _. absurd cc;
       stops = λ _. ap (λ (p : Pin). p.scan) pin_is;
-      ends = λ _ _ _ room. ⊎_elim (λ n. nothing_in ks' n) (λ (last : e ≡ 4611686018427387904). let scan = ap (λ (p : Pin). p.scan) pin_is in absurd (omega arith)) why;
+      ends = λ _ _ _ room. ⊎_elim (λ n. nothing_in ks' n) (λ (last : e ≡ 4611686018427387904). let scan = ap (λ (p : Pin). p.scan) pin_is in
+          absurd (omega arith)) why;
     }
 
     -- A pass lags.
@@ -191,7 +194,8 @@ module _ {U : Type 0} (rows passes number : ℕ) (m m' : Mine U) (kept kept' : V
 
   pub none_left : left' ≡ 0 → answer.lag ≡ None → m'.0.pin.scan < 4611686018427387904 → kept'.items ≡ []
   none_left zero_is lag room = ⊎_elim
-      (λ more. let less = go_on more in nothing_in kept'.items (no_rows kept'.items (λ r t e. let low = before r t e in let young = x.young none_lost r t e in omega arith)))
+      (λ more. let less = go_on more in nothing_in kept'.items
+      (no_rows kept'.items (λ r t e. let low = before r t e in let young = x.young none_lost r t e in omega arith)))
       (λ more. x.ends more lag none_lost room) (true_or_false answer.more)
 
   pub young_left : left' ≡ 0 → (r t : ℕ) → kept_of kept'.items r ≡ some t → m'.0.pin.scan < t + 2

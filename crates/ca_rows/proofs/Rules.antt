@@ -90,7 +90,13 @@ module _ {U : Type 0} (linked lent : List ℕ → ℕ → Type 0) (noted : List 
           note = note_back id d at q (subst (λ (u : U). noted words' u q) (ap upper_of (sym t.1) ∙ same_upper) n.note);
           at = ap (λ (e : Pin). e.moment) (sym same_pin ∙ ap pin_of t.1) ∙ n.at;
         })
-        (λ (t : (n.seat ≢ id) × (get_elem? s.views n.seat ≡ some n.d)). record { seat = n.seat; d = n.d; here = t.1; note = note_back n.seat n.d t.1 q n.note; at = n.at })
+        (λ (t : (n.seat ≢ id) × (get_elem? s.views n.seat ≡ some n.d)). record {
+          seat = n.seat;
+          d = n.d;
+          here = t.1;
+          note = note_back n.seat n.d t.1 q n.note;
+          at = n.at;
+        })
         (at_set s.views id n.seat d' n.d n.here)
 
     abbrev Was : ℕ → Owner → Type 0
@@ -166,4 +172,10 @@ module _ {U : Type 0} (linked lent : List ℕ → ℕ → Type 0) (noted : List 
               (row_stays s.words words' (linked s.words) (linked words') (lent s.words) (lent words') (NotedAt noted s.words s.views)
               (NotedAt noted words' after.views) (claim_at s.views) (claim_at after.views)
               (subst (λ x. epoch s.words ≤ x) (sym now) (le_refl (epoch s.words))) c
-              record { words_are = e.words_are; links = framed.links c; lents = framed.lents c; notes = λ _ m n. notes_back m c n; claims = λ j. claims_are c j e.claim_is } (r.owner c) (r.row c lo hi))
+              record {
+                words_are = e.words_are;
+                links = framed.links c;
+                lents = framed.lents c;
+                notes = λ _ m n. notes_back m c n;
+                claims = λ j. claims_are c j e.claim_is;
+              } (r.owner c) (r.row c lo hi))

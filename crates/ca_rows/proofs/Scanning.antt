@@ -38,7 +38,8 @@ pins_moved made words words' pins p next room same past = record {
     alone = k.alone;
     absent = λ lo un. same e.number lo (omega arith) ∙ k.absent lo un;
     present = λ pinned. same e.number (k.is_pass pinned) (omega arith) ∙ k.present pinned;
-    pinned_at = λ pinned. let was = k.pinned_at pinned in let low = was.0 in let mid = was.1 in let now = past j e here pinned in (was.0, omega arith, omega arith);
+    pinned_at = λ pinned. let was = k.pinned_at pinned in let low = was.0 in let mid = was.1 in let now = past j e here pinned in
+        (was.0, omega arith, omega arith);
     told_past = let low = k.told_past in omega arith;
     scan_past = let low = k.scan_past in omega arith;
     scanned = λ is. let low = k.scan_past in absurd (omega arith);
@@ -94,12 +95,17 @@ module _ {U : Type 0} (linked lent : List ℕ → ℕ → Type 0) (noted : List 
           later = le_refl (epoch s.words);
           notes = λ q n. (n, moment, pinned ∙ (r.seat id d at).noted_pinned q n);
           pins = pins;
-          above = subst (fact z r.made s.words) (sym (set_again (map upper_of s.views) id d.upper (upper_at linked lent noted fact frames z s r id d at))) r.above;
+          above = subst (fact z r.made s.words) (sym (set_again (map upper_of s.views) id d.upper (upper_at linked lent noted fact frames z s r id d at)))
+              r.above;
         })
 
     looked : (i scan upto lag : ℕ) → scan ≤ epoch s.words
         → (scan ≡ epoch s.words → (i : ℕ) (x : Pin) → get_elem? (map pin_of s.views) i ≡ some x → x.number ≤ upto → x.pinned ≡ true → scan ≤ x.moment)
-        → R record { words = set s.words i (get_or s.words i 0); homes = s.homes; views = set s.views id (record d { pin = record d.pin { scan = scan; upto = upto; lag = lag } }) }
+        → R record {
+          words = set s.words i (get_or s.words i 0);
+          homes = s.homes;
+          views = set s.views id (record d { pin = record d.pin { scan = scan; upto = upto; lag = lag } });
+        }
     looked i scan upto lag past ok = let e' : Pin = record d.pin { scan = scan; upto = upto; lag = lag } in
         loaded i e' d.lost (pins_step r.made s.words s.words (map pin_of s.views) r.pins id d.pin e' here (looks scan upto lag past ok)) refl refl
 
@@ -122,7 +128,11 @@ module _ {U : Type 0} (linked lent : List ℕ → ℕ → Type 0) (noted : List 
       moved_pins = pins_moved r.made s.words moved_words (map pin_of s.views) r.pins next room (λ i lo hi. else_word (i + 1) (λ e. omega arith))
           (λ j x there p. let low = (r.pins.each j x there).in_range in subst (λ y. y ≤ x.moment) found (mine.scanned found j x there (omega arith) p))
 
-      move_step : R record { words = set s.words 1 (epoch s.words + 1); homes = s.homes; views = set s.views id (record d { pin = record d.pin { scan = epoch s.words + 1; upto = 0 } }) }
+      move_step : R record {
+        words = set s.words 1 (epoch s.words + 1);
+        homes = s.homes;
+        views = set s.views id (record d { pin = record d.pin { scan = epoch s.words + 1; upto = 0 } });
+      }
       move_step = let e' : Pin = record d.pin { scan = epoch s.words + 1; upto = 0 } in let k = moved_pins.each id d.pin here in
           let agrees = low_agrees linked lent noted fact frames z (map upper_of s.views) s.words 1 (epoch s.words + 1) (omega arith) in
           repinned linked lent noted fact frames z s r id d (record d { pin = e' }) at moved_words agrees record {
@@ -171,7 +181,11 @@ module _ {U : Type 0} (linked lent : List ℕ → ℕ → Type 0) (noted : List 
   pub scans : (slots id : ℕ) (me : Mine U) (i : ℕ) → i ≡ me.0.pin.upto + 2 → Allows R slots id me i (λ x. x) (Scanned (step slots i 0 0 none) me)
   scans slots id me i is s r _ at _ = let d = me.0 in let k = mine s r id d at in let n : ℕ = get_or s.words i 0 in
       let word : announced s.words (d.pin.upto + 1) ≡ n = ap (λ j. get_or s.words j 0) (omega arith) in
-      let fine : (n ≡ 0 ⊎ d.pin.scan < n) → R record { words = set s.words i n; homes = s.homes; views = set s.views id (record d { pin = record d.pin { upto = d.pin.upto + 1 } }) } =
+      let fine : (n ≡ 0 ⊎ d.pin.scan < n) → R record {
+        words = set s.words i n;
+        homes = s.homes;
+        views = set s.views id (record d { pin = record d.pin { upto = d.pin.upto + 1 } });
+      } =
       λ f. looked s r id d at i d.pin.scan (d.pin.upto + 1) d.pin.lag k.scan_past (λ now j x there low p. dite (ℕ_discrete x.number (d.pin.upto + 1))
       (λ e. let own = r.pins.each j x there in let told : n ≡ x.told + 1 = sym word ∙ (ap (announced s.words) (sym e) ∙ own.present p) in
       let after = (own.pinned_at p).0 in ⊎_elim (λ o. absurd (omega arith)) (λ l. omega arith) f)
@@ -181,7 +195,13 @@ module _ {U : Type 0} (linked lent : List ℕ → ℕ → Type 0) (noted : List 
       dite (ℕ_discrete n 0)
       (λ e. (record d { pin = record d.pin { upto = d.pin.upto + 1 } }, keeps, tt, fine (inl e), ((λ _. refl), λ lo _. absurd (omega arith))))
       (λ ne. ⊎_elim
-      (λ (l : d.pin.scan < n). (record d { pin = record d.pin { upto = d.pin.upto + 1 } }, keeps, tt, fine (inr l), ((λ _. refl), λ _ hi. absurd (omega arith))))
+      (λ (l : d.pin.scan < n). (
+        record d { pin = record d.pin { upto = d.pin.upto + 1 } },
+        keeps,
+        tt,
+        fine (inr l),
+        ((λ _. refl), λ _ hi. absurd (omega arith)),
+      ))
       (λ (not : n ≤ d.pin.scan). (
         record d { pin = record d.pin { lag = d.pin.upto + 1 } },
         keeps,
@@ -201,7 +221,11 @@ module _ {U : Type 0} (linked lent : List ℕ → ℕ → Type 0) (noted : List 
         keeps,
         tt,
         subst (λ (x : ℕ). R (stepped s 1 x id me.1 w1 keeps)) (sym (ap (λ b. either b (e + 1) (epoch s.words)) (eq-eqb (epoch s.words) e hit)))
-            (subst (λ (x : ℕ). R record { words = set s.words 1 (x + 1); homes = s.homes; views = set s.views id (record d { pin = record d.pin { scan = x + 1; upto = 0 } }) }) hit
+            (subst (λ (x : ℕ). R record {
+              words = set s.words 1 (x + 1);
+              homes = s.homes;
+              views = set s.views id (record d { pin = record d.pin { scan = x + 1; upto = 0 } });
+            }) hit
             (move_step s r id d at (is ∙ sym hit) (omega arith) (omega arith))),
         ((λ _. refl), λ not. absurd (not hit)),
       ))
@@ -210,6 +234,7 @@ module _ {U : Type 0} (linked lent : List ℕ → ℕ → Type 0) (noted : List 
         keeps,
         tt,
         subst (λ (x : ℕ). R (stepped s 1 x id me.1 w0 keeps)) (sym (ap (λ b. either b (e + 1) (epoch s.words)) (ne_eqb (epoch s.words) e miss)))
-            (loaded s r id d at 1 d.pin (d.lost + 1) (subst (ArePins r.made s.words) (sym (set_again (map pin_of s.views) id d.pin (here s r id d at))) r.pins) refl refl),
+            (loaded s r id d at 1 d.pin (d.lost + 1) (subst (ArePins r.made s.words) (sym (set_again (map pin_of s.views) id d.pin (here s r id d at))) r.pins)
+            refl refl),
         ((λ hit. absurd (miss hit)), λ _. refl),
       ))

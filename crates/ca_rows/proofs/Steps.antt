@@ -58,7 +58,11 @@ module _ {U : Type 0} (linked lent : List ℕ → ℕ → Type 0) (noted : List 
 
   -- A load after which the seat knows something else of the head, or counts a loss, an empty head or a worn one.
   loaded : (s : S) (r : R s) (i id : ℕ) (d : View U) (st : Stage) (lost empty worn : ℕ) → get_elem? s.views id ≡ some d → IsStage z.rows r.owner s.words st
-      → R record { words = set s.words i (get_or s.words i 0); homes = s.homes; views = set s.views id (record d { stage = st; lost = lost; empty = empty; worn = worn }) }
+      → R record {
+        words = set s.words i (get_or s.words i 0);
+        homes = s.homes;
+        views = set s.views id (record d { stage = st; lost = lost; empty = empty; worn = worn });
+      }
   loaded s r i id d st lost empty worn at ok = let w : View U = record d { stage = st; lost = lost; empty = empty; worn = worn } in
       subst (λ (ws : List ℕ). R record { words = ws; homes = s.homes; views = set s.views id w }) (sym (set-get_or s.words i 0))
       (keeps_rule linked lent noted fact frames z s r id d w at refl refl s.words (nothing (uppers linked lent noted fact frames z s) s.words)
@@ -204,15 +208,21 @@ module _ {U : Type 0} (linked lent : List ℕ → ℕ → Type 0) (noted : List 
           (put r.owner q (Of id)) m
           (chain_takes z.rows r.owner s.words new_head r.count r.chain q m (Of id)
           (λ k e. cc) lo hi is count row' (λ c l. head_else s.words _ (136 * c) (omega arith)))
-          (λ c l _ n. record { owner_is = put_else r.owner q (Of id) c n; claim_is = claimed_else d.claims q c _ n; words_are = λ _ k _. head_else s.words _ (136 * c + k) (omega arith) })
-          (λ _ _. subst (Is linked lent noted fact frames z s r id d taken at refl refl new_head (head_agrees (uppers linked lent noted fact frames z s) s.words _) q) (sym (put_here r.owner q (Of id) q refl)) (
+          (λ c l _ n. record {
+            owner_is = put_else r.owner q (Of id) c n;
+            claim_is = claimed_else d.claims q c _ n;
+            words_are = λ _ k _. head_else s.words _ (136 * c + k) (omega arith);
+          })
+          (λ _ _. subst (Is linked lent noted fact frames z s r id d taken at refl refl new_head
+          (head_agrees (uppers linked lent noted fact frames z s) s.words _) q) (sym (put_here r.owner q (Of id) q refl)) (
             (
               Holds (row_of s.words q),
               claim_mine s.views id d taken at q ∙ claimed_here d.claims q _,
               (
                 row_of_long s.words z.rows q r.wide hi,
                 (λ k l. head_else s.words _ (136 * q + k) (omega arith) ∙ row_of_spells s.words q k l),
-                alone_now linked lent noted fact frames z s r id d taken at refl refl new_head (head_agrees (uppers linked lent noted fact frames z s) s.words _) q free.0,
+                alone_now linked lent noted fact frames z s r id d taken at refl refl new_head
+                    (head_agrees (uppers linked lent noted fact frames z s) s.words _) q free.0,
               ),
             ),
             λ j n. claim_others s.views id d taken at j q n ∙ free.1 j,
@@ -303,7 +313,11 @@ module _ {U : Type 0} (linked lent : List ℕ → ℕ → Type 0) (noted : List 
           (put r.owner q (Free r.count)) (suc r.count)
           (chain_gives z.rows r.owner s.words head_with r.count r.chain q not_free o.0 hi (ap (λ n. n % 65536) head
           ∙ parts.1) next' (λ c l _. head_else s.words _ (136 * c) (omega arith)))
-          (λ c l _ n. record { owner_is = put_else r.owner q (Free r.count) c n; claim_is = dropped_else d.claims q c n; words_are = λ _ k _. head_else s.words _ (136 * c + k) (omega arith) })
+          (λ c l _ n. record {
+            owner_is = put_else r.owner q (Free r.count) c n;
+            claim_is = dropped_else d.claims q c n;
+            words_are = λ _ k _. head_else s.words _ (136 * c + k) (omega arith);
+          })
           (λ _ _. subst (Is linked lent noted fact frames z s r id d given at refl refl head_with agrees q) (sym (put_here r.owner q (Free r.count) q refl)) (
             alone_now linked lent noted fact frames z s r id d given at refl refl head_with agrees q o.3.2,
             λ j. dite (ℕ_discrete j id) (λ (e : j ≡ id). ap (λ (x : ℕ). claim_at (set s.views id given) x q) e

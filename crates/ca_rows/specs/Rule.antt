@@ -26,7 +26,19 @@ no_sizes = record { rows = 0; passes = 0; keypos = 0; leaf = 0; levels = 0; star
 
 -- a seat that knows nothing and has no row
 abbrev pub fresh : {U : Type 0} → Sizes → ℕ → U → View U
-fresh z number u = record { sizes = z; made = 0; stage = Idle; claims = []; pin = unpinned number; lost = 0; back = 0; empty = 0; worn = 0; most = 0; upper = u }
+fresh z number u = record {
+  sizes = z;
+  made = 0;
+  stage = Idle;
+  claims = [];
+  pin = unpinned number;
+  lost = 0;
+  back = 0;
+  empty = 0;
+  worn = 0;
+  most = 0;
+  upper = u;
+}
 
 module _ {U : Type 0} (noted : List ℕ → U → ℕ → Type 0) (words : List ℕ) (views : List (View U)) where
   -- A pass that was pinned at this epoch has a note on the row.

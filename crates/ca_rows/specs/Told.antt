@@ -54,7 +54,8 @@ module _ {U : Type 0} where
   -- The row was taken, or the exchange lost.
   abbrev pub Took : Step (Unit {0}) → Mine U → ℕ → Mine U → Type 0
   Took st m n m' = (t q x : ℕ) → m.0.stage ≡ Knew t q x →
-      (n ≡ st.first → (claim_of m.0.claims q ≡ none) × ((its : List ℕ) × (length its ≡ 136) × (m' ≡ with_most (with_claims m (claimed q (Holds its) m.0.claims)))))
+      (n ≡ st.first → (claim_of m.0.claims q ≡ none) × ((its : List ℕ) × (length its ≡ 136)
+      × (m' ≡ with_most (with_claims m (claimed q (Holds its) m.0.claims)))))
       × (n ≢ st.first → m' ≡ missed m)
 
   -- A word of a held row was loaded: it is the one that the seat knows.
@@ -101,11 +102,13 @@ module _ {U : Type 0} where
   -- The next pass's announcement was loaded: it is absent or not older than the look, or the pass lags. A pass that isn't pinned doesn't lag itself.
   abbrev pub Scanned : Step (Unit {0}) → Mine U → ℕ → Mine U → Type 0
   Scanned st m n m' = (n ≡ 0 ⊎ m.0.pin.scan < n → m' ≡ with_pin m (record m.0.pin { upto = m.0.pin.upto + 1 }))
-      × (0 < n → n ≤ m.0.pin.scan → (m.0.pin.pinned ≡ false → m.0.pin.upto + 1 ≢ m.0.pin.number) × (m' ≡ with_pin m (record m.0.pin { lag = m.0.pin.upto + 1 })))
+      × (0 < n → n ≤ m.0.pin.scan → (m.0.pin.pinned ≡ false → m.0.pin.upto + 1 ≢ m.0.pin.number)
+      × (m' ≡ with_pin m (record m.0.pin { lag = m.0.pin.upto + 1 })))
 
   -- The epoch moved by one, or the exchange lost.
   abbrev pub Moved : Step (Unit {0}) → Mine U → ℕ → Mine U → Type 0
-  Moved st m n m' = (n ≡ st.first → m' ≡ with_pin m (record m.0.pin { scan = st.second; upto = 0 })) × (n ≢ st.first → m' ≡ (record m.0 { lost = m.0.lost + 1 }, m.1))
+  Moved st m n m' = (n ≡ st.first → m' ≡ with_pin m (record m.0.pin { scan = st.second; upto = 0 }))
+      × (n ≢ st.first → m' ≡ (record m.0 { lost = m.0.lost + 1 }, m.1))
 
   -- The pass holds a row that it kept.
   abbrev pub Regained : ℕ → Step (Unit {0}) → Mine U → ℕ → Mine U → Type 0

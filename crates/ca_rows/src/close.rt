@@ -20,7 +20,8 @@ impl<R: RowRule> Space<R> {
         requires all { vec_len passes ≡ self.made }
         requires closable { All (λ pass. IsClosable self.table.shared.table_id pass.seat) passes.items }
         ensures counts { slots_len result.closed.words ≡ self.table.shared.table_id.words }
-        ensures words { (rest : _) → self.own ≡ Some rest → IsLast (Ruled R.linked R.lent R.noted R.fact self.table.shared.key) (joined_from R.both rest.seat.me.0 (map (λ pass. pass.seat.me.0) passes.items)) (slots_items result.closed.words) }
+        ensures words { (rest : _) → self.own ≡ Some rest → IsLast (Ruled R.linked R.lent R.noted R.fact self.table.shared.key)
+            (joined_from R.both rest.seat.me.0 (map (λ pass. pass.seat.me.0) passes.items)) (slots_items result.closed.words) }
     {
         let (table, own) = self.into_parts();
         let Some(rest) = own else {

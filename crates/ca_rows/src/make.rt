@@ -44,9 +44,17 @@ impl<R: RowRule> Space<R> {
         starts: Starts,
     ) -> Result<Space<R>, RowsFault>
         requires { AreUsable (record { rows = rows; passes = passes; keypos = keypos; leaf = leaf; levels = levels; starts = starts }) }
-        ensures bad { (result ≡ Err IsBadSize) ↔ ¬ AreInBounds (record { rows = rows; passes = passes; keypos = keypos; leaf = leaf; levels = levels; starts = starts }) }
+        ensures bad { (result ≡ Err IsBadSize) ↔ ¬ AreInBounds
+            (record { rows = rows; passes = passes; keypos = keypos; leaf = leaf; levels = levels; starts = starts }) }
         ensures never { result ≢ Err IsNoPass }
-        ensures sizes { IfOk result (λ space. space.sizes ≡ record { rows = rows; passes = passes; keypos = keypos; leaf = leaf; levels = levels; starts = starts }) }
+        ensures sizes { IfOk result (λ space. space.sizes ≡ record {
+          rows = rows;
+          passes = passes;
+          keypos = keypos;
+          leaf = leaf;
+          levels = levels;
+          starts = starts;
+        }) }
         ensures none { IfOk result (λ space. space.made ≡ 0) }
     {
         let sizes = Sizes {
@@ -97,7 +105,8 @@ impl<R: RowRule> Space<R> {
         ensures refused { OnErr result (self.new.made ≡ self.old.made) }
         ensures number { IfOk result (λ pass. pass.number ≡ self.new.made) }
         ensures nothing_kept { IfOk result (λ pass. AreKept self.old.sizes.rows pass.seat.me.0.claims pass.kept.rows × (pass.kept.rows.items ≡ [])) }
-        ensures begins { IfOk result (λ pass. (pass.seat.table_id ≡ self.old.table.shared.table_id) × (pass.seat.me ≡ (fresh self.old.sizes pass.number (R.begins pass.number), []))) }
+        ensures begins { IfOk result (λ pass. (pass.seat.table_id ≡ self.old.table.shared.table_id)
+            × (pass.seat.me ≡ (fresh self.old.sizes pass.number (R.begins pass.number), []))) }
     {
         if self.made == self.sizes.passes {
             return Err(RowsFault::NoPass);

@@ -15,7 +15,14 @@ impl<R: RowRule> Space<R> {
         ensures same { IsSame pass.old.seat pass.new.seat }
         ensures number { pass.new.number ≡ pass.old.number }
         ensures kept { pass.new.kept ≡ pass.old.kept }
-        ensures pinned { (told : ℕ) × (moment : ℕ) × (told ≤ moment) × (pass.new.seat.me ≡ (record pass.old.seat.me.0 { pin = record pass.old.seat.me.0.pin { pinned = true; told = told; moment = moment }; upper = R.enters pass.old.seat.me.0.upper }, pass.old.seat.me.1)) }
+        ensures pinned { (told : ℕ) × (moment : ℕ) × (told ≤ moment)
+            × (pass.new.seat.me ≡ (
+              record pass.old.seat.me.0 {
+                pin = record pass.old.seat.me.0.pin { pinned = true; told = told; moment = moment };
+                upper = R.enters pass.old.seat.me.0.upper;
+              },
+              pass.old.seat.me.1,
+            )) }
     {
         let epoch = self.table.shared.load::<Ask>(&mut pass.seat, 1);
         let word = pass.number as usize + 1;
@@ -32,7 +39,13 @@ impl<R: RowRule> Space<R> {
         ensures same { IsSame pass.old.seat pass.new.seat }
         ensures number { pass.new.number ≡ pass.old.number }
         ensures kept { pass.new.kept ≡ pass.old.kept }
-        ensures unpinned { pass.new.seat.me ≡ (record pass.old.seat.me.0 { pin = record pass.old.seat.me.0.pin { pinned = false }; upper = R.leaves pass.old.seat.me.0.upper }, pass.old.seat.me.1) }
+        ensures unpinned { pass.new.seat.me ≡ (
+          record pass.old.seat.me.0 {
+            pin = record pass.old.seat.me.0.pin { pinned = false };
+            upper = R.leaves pass.old.seat.me.0.upper;
+          },
+          pass.old.seat.me.1,
+        ) }
     {
         let word = pass.number as usize + 1;
         self.table.shared.store::<Leave<R>>(&mut pass.seat, word, 0);

@@ -23,7 +23,8 @@ impl<R: RowRule> Space<R> {
         ensures same { IsSame pass.old.seat pass.new.seat }
         ensures number { pass.new.number ≡ pass.old.number }
         ensures kept { pass.new.kept ≡ pass.old.kept }
-        ensures held { (its : List ℕ) × (length its ≡ 136) × (pass.new.seat.me ≡ with_most (record pass.old.seat.me.0 { claims = claimed K.about (IsHeld its) pass.old.seat.me.0.claims }, pass.old.seat.me.1)) }
+        ensures held { (its : List ℕ) × (length its ≡ 136) × (pass.new.seat.me ≡ with_most
+            (record pass.old.seat.me.0 { claims = claimed K.about (IsHeld its) pass.old.seat.me.0.claims }, pass.old.seat.me.1)) }
     {
         self.table.shared.load::<Regain<K>>(&mut pass.seat, 1);
     }
@@ -126,7 +127,8 @@ impl<R: RowRule> Space<R> {
         ensures same { IsSame pass.old.seat pass.new.seat }
         ensures number { pass.new.number ≡ pass.old.number }
         ensures list { AreKept self.now.table.shared.key.rows pass.new.seat.me.0.claims pass.new.kept.rows }
-        ensures rounds { Rounds self.now.table.shared.key.passes pass.old.number result pass.old.seat.me pass.new.seat.me pass.old.kept.rows.items pass.new.kept.rows.items }
+        ensures rounds { Rounds self.now.table.shared.key.passes pass.old.number result pass.old.seat.me pass.new.seat.me pass.old.kept.rows.items
+            pass.new.kept.rows.items }
     {
         let epoch = self.table.shared.load::<Begin>(&mut pass.seat, 1);
         let (freed, losses) = self.give_old(pass, epoch);

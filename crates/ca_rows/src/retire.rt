@@ -20,7 +20,8 @@ impl<R: RowRule> Space<R> {
         ensures kept { pass.new.kept ≡ pass.old.kept }
         ensures inside { (0 < K.about) × (K.about ≤ self.now.table.shared.key.rows) }
         ensures epoch { (result ≤ 4611686018427387904) × (pass.old.seat.me.0.pin.scan ≤ result) }
-        ensures told { pass.new.seat.me ≡ (record pass.old.seat.me.0 { claims = claimed K.about (IsKept result) pass.old.seat.me.0.claims }, pass.old.seat.me.1) }
+        ensures told { pass.new.seat.me
+            ≡ (record pass.old.seat.me.0 { claims = claimed K.about (IsKept result) pass.old.seat.me.0.claims }, pass.old.seat.me.1) }
     {
         self.table.shared.load::<Retire<K>>(&mut pass.seat, 1)
     }
@@ -33,7 +34,9 @@ impl<R: RowRule> Space<R> {
         ensures same { IsSame pass.old.seat pass.new.seat }
         ensures number { pass.new.number ≡ pass.old.number }
         ensures list { AreKept self.now.table.shared.key.rows pass.new.seat.me.0.claims pass.new.kept.rows }
-        ensures retired { (epoch : ℕ) × (pass.new.kept.rows.items ≡ pass.old.kept.rows.items ++ record { row = row; at = epoch } ∷ []) × (pass.new.seat.me ≡ (record pass.old.seat.me.0 { claims = claimed row (IsKept epoch) pass.old.seat.me.0.claims }, pass.old.seat.me.1)) × (pass.old.seat.me.0.pin.scan ≤ epoch) }
+        ensures retired { (epoch : ℕ) × (pass.new.kept.rows.items ≡ pass.old.kept.rows.items ++ record { row = row; at = epoch } ∷ [])
+            × (pass.new.seat.me ≡ (record pass.old.seat.me.0 { claims = claimed row (IsKept epoch) pass.old.seat.me.0.claims }, pass.old.seat.me.1))
+            × (pass.old.seat.me.0.pin.scan ≤ epoch) }
     {
         let at = self.retire_as::<Brand>(pass, row);
         pass.kept.push(row, at);

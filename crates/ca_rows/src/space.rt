@@ -122,7 +122,8 @@ impl<R: RowRule> Space<R> {
     pub fn load<M: Play<(), View<R::Upper>>>(&self, pass: &mut Pass<R>, word: u32) -> u64
         requires table { pass.old.seat.table_id ≡ self.now.table.shared.table_id }
         requires word { word < self.now.table.shared.table_id.words }
-        requires rule { Allows (Ruled R.linked R.lent R.noted R.fact self.now.table.shared.key) self.now.table.shared.table_id.slots pass.old.seat.id pass.old.seat.me word (λ n. n) (M.then (step self.now.table.shared.table_id.slots word 0 0 none) pass.old.seat.me) }
+        requires rule { Allows (Ruled R.linked R.lent R.noted R.fact self.now.table.shared.key) self.now.table.shared.table_id.slots pass.old.seat.id
+            pass.old.seat.me word (λ n. n) (M.then (step self.now.table.shared.table_id.slots word 0 0 none) pass.old.seat.me) }
         ensures same { IsSame pass.old.seat pass.new.seat }
         ensures number { pass.new.number ≡ pass.old.number }
         ensures kept { pass.new.kept ≡ pass.old.kept }
@@ -135,7 +136,8 @@ impl<R: RowRule> Space<R> {
     pub fn store<M: Play<(), View<R::Upper>>>(&self, pass: &mut Pass<R>, word: u32, value: u64)
         requires table { pass.old.seat.table_id ≡ self.now.table.shared.table_id }
         requires word { word < self.now.table.shared.table_id.words }
-        requires rule { Allows (Ruled R.linked R.lent R.noted R.fact self.now.table.shared.key) self.now.table.shared.table_id.slots pass.old.seat.id pass.old.seat.me word (λ _. value) (λ _. M.then (step self.now.table.shared.table_id.slots word value 0 none) pass.old.seat.me value) }
+        requires rule { Allows (Ruled R.linked R.lent R.noted R.fact self.now.table.shared.key) self.now.table.shared.table_id.slots pass.old.seat.id
+            pass.old.seat.me word (λ _. value) (λ _. M.then (step self.now.table.shared.table_id.slots word value 0 none) pass.old.seat.me value) }
         ensures same { IsSame pass.old.seat pass.new.seat }
         ensures number { pass.new.number ≡ pass.old.number }
         ensures kept { pass.new.kept ≡ pass.old.kept }
@@ -156,11 +158,13 @@ impl<R: RowRule> Space<R> {
     ) -> bool
         requires table { pass.old.seat.table_id ≡ self.now.table.shared.table_id }
         requires word { word < self.now.table.shared.table_id.words }
-        requires rule { Allows (Ruled R.linked R.lent R.noted R.fact self.now.table.shared.key) self.now.table.shared.table_id.slots pass.old.seat.id pass.old.seat.me word (λ n. either (n == old) new n) (M.then (step self.now.table.shared.table_id.slots word old new none) pass.old.seat.me) }
+        requires rule { Allows (Ruled R.linked R.lent R.noted R.fact self.now.table.shared.key) self.now.table.shared.table_id.slots pass.old.seat.id
+            pass.old.seat.me word (λ n. either (n == old) new n) (M.then (step self.now.table.shared.table_id.slots word old new none) pass.old.seat.me) }
         ensures same { IsSame pass.old.seat pass.new.seat }
         ensures number { pass.new.number ≡ pass.old.number }
         ensures kept { pass.new.kept ≡ pass.old.kept }
-        ensures told { (n : ℕ) × M.then (step self.now.table.shared.table_id.slots word old new none) pass.old.seat.me n pass.new.seat.me × (result ≡ (n == old)) }
+        ensures told { (n : ℕ) × M.then (step self.now.table.shared.table_id.slots word old new none) pass.old.seat.me n pass.new.seat.me
+            × (result ≡ (n == old)) }
     {
         self.table
             .shared
@@ -171,7 +175,8 @@ impl<R: RowRule> Space<R> {
     /// Cuts what a pass knows in two.
     pub fn split<M: Split<View<R::Upper>>>(&self, pass: &mut Pass<R>) -> Half<R>
         requires table { pass.old.seat.table_id ≡ self.now.table.shared.table_id }
-        requires rule { Splits (Ruled R.linked R.lent R.noted R.fact self.now.table.shared.key) pass.old.seat.id pass.old.seat.me.0 (M.left pass.old.seat.me.0) (M.right pass.old.seat.me.0) }
+        requires rule { Splits (Ruled R.linked R.lent R.noted R.fact self.now.table.shared.key) pass.old.seat.id pass.old.seat.me.0 (M.left pass.old.seat.me.0)
+            (M.right pass.old.seat.me.0) }
         ensures same { IsSame pass.old.seat pass.new.seat }
         ensures number { pass.new.number ≡ pass.old.number }
         ensures kept { pass.new.kept ≡ pass.old.kept }
@@ -185,8 +190,10 @@ impl<R: RowRule> Space<R> {
 
     /// Joins what was split off into a pass.
     pub fn join<M: Join<View<R::Upper>>>(&self, pass: &mut Pass<R>, half: Half<R>)
-        requires table { (pass.old.seat.table_id ≡ self.now.table.shared.table_id) × (half.seat.table_id ≡ self.now.table.shared.table_id) × (half.seat.me.1 ≡ []) }
-        requires rule { Joins (Ruled R.linked R.lent R.noted R.fact self.now.table.shared.key) pass.old.seat.id pass.old.seat.me.0 half.seat.id half.seat.me.0 (M.both pass.old.seat.me.0 half.seat.me.0) M.spent }
+        requires table { (pass.old.seat.table_id ≡ self.now.table.shared.table_id) × (half.seat.table_id ≡ self.now.table.shared.table_id)
+            × (half.seat.me.1 ≡ []) }
+        requires rule { Joins (Ruled R.linked R.lent R.noted R.fact self.now.table.shared.key) pass.old.seat.id pass.old.seat.me.0 half.seat.id half.seat.me.0
+            (M.both pass.old.seat.me.0 half.seat.me.0) M.spent }
         ensures same { IsSame pass.old.seat pass.new.seat }
         ensures number { pass.new.number ≡ pass.old.number }
         ensures kept { pass.new.kept ≡ pass.old.kept }
@@ -255,7 +262,11 @@ impl<R: RowRule> Space<R> {
         ensures same { IsStill pass.old.seat pass.new.seat }
         ensures number { pass.new.number ≡ pass.old.number }
         ensures kept { pass.new.kept ≡ pass.old.kept }
-        ensures written { (its : List ℕ) → claim_of pass.old.seat.me.0.claims row ≡ some (IsHeld its) → pass.new.seat.me ≡ (record pass.old.seat.me.0 { claims = claimed row (IsHeld (slice_set its index value)) pass.old.seat.me.0.claims }, pass.old.seat.me.1) }
+        ensures written { (its : List ℕ) → claim_of pass.old.seat.me.0.claims row ≡ some (IsHeld its)
+            → pass.new.seat.me ≡ (
+              record pass.old.seat.me.0 { claims = claimed row (IsHeld (slice_set its index value)) pass.old.seat.me.0.claims },
+              pass.old.seat.me.1,
+            ) }
     {
         self.table
             .shared

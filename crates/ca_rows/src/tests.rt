@@ -165,7 +165,8 @@ fn work_both<T: Threads + Sync>(
     first: Pass<Register>,
     second: Pass<Register>,
 ) -> (u32, Option<u32>)
-    requires { IsOf space.now.table.shared.table_id space.now.table.shared.key first.seat × IsOf space.now.table.shared.table_id space.now.table.shared.key second.seat }
+    requires { IsOf space.now.table.shared.table_id space.now.table.shared.key first.seat
+        × IsOf space.now.table.shared.table_id space.now.table.shared.key second.seat }
 {
     let ((mut first, one), (_second, two)) = join(
         rt,

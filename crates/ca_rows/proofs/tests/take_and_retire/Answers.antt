@@ -9,7 +9,8 @@ use Rattle.ca_rows.proofs.tests.take_and_retire.Goals as goal
 
 pub retire-requires-clause-list : goal.retire-requires-clause-list
 retire-requires-clause-list c = let took = c.in-Row.ensures.row.3 in
-    taken_too c.args.space.now.table.shared.key.rows c.args.pass.now.kept c.take_row.new.pass.kept c.args.pass.now.seat.me c.take_row.new.pass.seat.me c.in-Row.row took.0 c.requires.list c.in-Row.ensures.row.2 took.2 c.take_row.ensures.kept
+    taken_too c.args.space.now.table.shared.key.rows c.args.pass.now.kept c.take_row.new.pass.kept c.args.pass.now.seat.me c.take_row.new.pass.seat.me
+    c.in-Row.row took.0 c.requires.list c.in-Row.ensures.row.2 took.2 c.take_row.ensures.kept
 
 pub retire-requires-clause-mine : goal.retire-requires-clause-mine
 retire-requires-clause-mine c = let took = c.in-Row.ensures.row.3 in

@@ -31,7 +31,8 @@ returns-clause-words g c rest is =
     let view : c.gather.new.seat.me.0 ≡ joined_from g.R.RowRule.both rest.seat.me.0 (map (λ pass. pass.seat.me.0) c.args.passes.items) =
     c.gather.ensures.joined
     ∙ (ap (λ (p : Seat (Unit {0}) (View g.row.R-Upper.Denot)). joined_from g.R.RowRule.both p.me.0 (map (λ pass. pass.seat.me.0) c.args.passes.items)) seat
-    ∙ ap (λ (q : Rest (Unit {0}) (View g.row.R-Upper.Denot)). joined_from g.R.RowRule.both q.seat.me.0 (map (λ pass. pass.seat.me.0) c.args.passes.items)) same) in (
+    ∙ ap (λ (q : Rest (Unit {0}) (View g.row.R-Upper.Denot)). joined_from g.R.RowRule.both q.seat.me.0 (map (λ pass. pass.seat.me.0) c.args.passes.items))
+    same) in (
       last.0,
       subst (λ t. Ruled g.R.RowRule.linked g.R.RowRule.lent g.R.RowRule.noted g.R.RowRule.fact t.shared.key last.0) c.into_parts-table.ensures.0 last.1.0,
       ap (get_elem? last.0.views) (sym id) ∙ (last.1.1 ∙ ap some view),

@@ -26,5 +26,6 @@ split_seat-new-requires g c =
       omega arith,
       subst (λ (id : ℕ). Splits (Ruled g.R.RowRule.linked g.R.RowRule.lent g.R.RowRule.noted g.R.RowRule.fact space.table.shared.key) id seat.me.0
           (record seat.me.0 { made = seat.me.0.made + 1 }) (fresh seat.me.0.sizes (seat.me.0.made + 1) (g.R.RowRule.begins (seat.me.0.made + 1)))) (sym mine.1)
-          (splits g.R.RowRule.linked g.R.RowRule.lent g.R.RowRule.noted g.R.RowRule.fact g.R.RowRule.begins g.met.R.RowRule.making space.table.shared.key seat.me.0 few free),
+          (splits g.R.RowRule.linked g.R.RowRule.lent g.R.RowRule.noted g.R.RowRule.fact g.R.RowRule.begins g.met.R.RowRule.making space.table.shared.key
+          seat.me.0 few free),
     )

@@ -5,8 +5,12 @@ use Rattle.ca_rows.proofs.PinSteps.{asks, announces}
 use Rattle.ca_rows.proofs.space.Space.pin.Goals as goal
 
 pub load-epoch-requires : goal.load-epoch-requires
-load-epoch-requires g c = let sized = c.args.self.now.sized in
-    (search rules, omega arith, asks g.R.RowRule.linked g.R.RowRule.lent g.R.RowRule.noted g.R.RowRule.fact g.met.R.RowRule.frames c.args.self.now.table.shared.key _ _ _ c.requires.unpinned)
+load-epoch-requires g c = let sized = c.args.self.now.sized in (
+  search rules,
+  omega arith,
+  asks g.R.RowRule.linked g.R.RowRule.lent g.R.RowRule.noted g.R.RowRule.fact g.met.R.RowRule.frames
+      c.args.self.now.table.shared.key _ _ _ c.requires.unpinned,
+)
 
 pub store-requires : goal.store-requires
 store-requires g c =
@@ -20,7 +24,8 @@ store-requires g c =
     let high = c.requires.number.2 in (
       search rules,
       omega arith,
-      announces g.R.RowRule.linked g.R.RowRule.lent g.R.RowRule.noted g.R.RowRule.fact g.met.R.RowRule.frames c.args.self.now.table.shared.key g.R.RowRule.enters g.R.RowRule.leaves g.met.R.RowRule.pinning
+      announces g.R.RowRule.linked g.R.RowRule.lent g.R.RowRule.noted g.R.RowRule.fact g.met.R.RowRule.frames c.args.self.now.table.shared.key
+          g.R.RowRule.enters g.R.RowRule.leaves g.met.R.RowRule.pinning
           _ _ _ (c.args.pass.now.number + 1) (c.load-epoch.result + 1) (omega arith) (omega arith) (omega arith)
           (ap (λ (e : Pin). e.pinned) same ∙ c.requires.unpinned),
     )

@@ -9,8 +9,12 @@ use Rattle.ca_rows.proofs.Steps.{glances, gives}
 use Rattle.ca_rows.proofs.space.Space.put_row.Goals as goal
 
 pub load-head-requires : goal.load-head-requires
-load-head-requires g c = let sized = c.args.self.now.sized in
-    (search rules, omega arith, glances g.R.RowRule.linked g.R.RowRule.lent g.R.RowRule.noted g.R.RowRule.fact g.met.R.RowRule.frames c.args.self.now.table.shared.key _ _ _)
+load-head-requires g c = let sized = c.args.self.now.sized in (
+  search rules,
+  omega arith,
+  glances g.R.RowRule.linked g.R.RowRule.lent g.R.RowRule.noted g.R.RowRule.fact g.met.R.RowRule.frames
+      c.args.self.now.table.shared.key _ _ _,
+)
 
 pub compare_exchange-requires : goal.compare_exchange-requires
 compare_exchange-requires g c =
@@ -21,14 +25,16 @@ compare_exchange-requires g c =
     let its : List ℕ = c.requires.held.0 in
     let long = c.requires.held.1 in
     let h : ℕ = c.load-head.result % 65536 in
-    let had : claim_of c.load-head.new.seat.me.0.claims c.args.row ≡ some (Holds its) = ap (λ (m : Mine g.row.R-Upper.Denot). claim_of m.0.claims c.args.row) saw ∙ c.requires.held.2 in
+    let had : claim_of c.load-head.new.seat.me.0.claims c.args.row ≡ some (Holds its) = ap
+    (λ (m : Mine g.row.R-Upper.Denot). claim_of m.0.claims c.args.row) saw ∙ c.requires.held.2 in
     let wrote = c.write_word.ensures.written its had in
     let has : claim_of c.write_word.new.pass.seat.me.0.claims c.args.row ≡ some (Holds (set its 0 h)) =
     ap (λ (m : Mine g.row.R-Upper.Denot). claim_of m.0.claims c.args.row) wrote
     ∙ claimed_here c.load-head.new.seat.me.0.claims c.args.row (Holds (set its 0 h)) in (
       search rules,
       omega arith,
-      gives g.R.RowRule.linked g.R.RowRule.lent g.R.RowRule.noted g.R.RowRule.fact g.met.R.RowRule.frames c.args.self.now.table.shared.key _ _ _ (c.load-head.result / 65536) h c.args.row (set its 0 h)
+      gives g.R.RowRule.linked g.R.RowRule.lent g.R.RowRule.noted g.R.RowRule.fact g.met.R.RowRule.frames c.args.self.now.table.shared.key _ _ _
+          (c.load-head.result / 65536) h c.args.row (set its 0 h)
           (omega arith) (omega arith) has (get_or-set_same its 0 h 0 (omega arith)),
     )
 
@@ -39,7 +45,9 @@ returns-clause-given g c =
     let saw = c.load-head.ensures.2.1 in
     let its : List ℕ = c.requires.held.0 in
     let h : ℕ = c.load-head.result % 65536 in
-    let had : claim_of c.load-head.new.seat.me.0.claims c.args.row ≡ some (Holds its) = ap (λ (m : Mine g.row.R-Upper.Denot). claim_of m.0.claims c.args.row) saw ∙ c.requires.held.2 in
+    let had : claim_of c.load-head.new.seat.me.0.claims c.args.row ≡ some (Holds its) = ap
+    (λ (m : Mine g.row.R-Upper.Denot). claim_of m.0.claims c.args.row) saw ∙ c.requires.held.2 in
     let wrote = c.write_word.ensures.written its had in
-    row_put c.args.pass.now.seat.me c.load-head.new.seat.me c.write_word.new.pass.seat.me c.compare_exchange.new.seat.me _ c.args.row _ c.compare_exchange.result _ (set its 0 h)
+    row_put c.args.pass.now.seat.me c.load-head.new.seat.me c.write_word.new.pass.seat.me c.compare_exchange.new.seat.me _ c.args.row _
+    c.compare_exchange.result _ (set its 0 h)
     (length-set its 0 h ∙ c.requires.held.1) saw wrote (omega arith) c.compare_exchange.ensures.2.0 c.compare_exchange.ensures.2.1

@@ -24,12 +24,15 @@ loop-left-preserved g c = let inv = c.loop-left.invariant in let some_left = c.l
       epoch = λ _. x.epoch_is;
       lag = λ _. subst (λ (n : ℕ). IsLag c.args.self.now.table.shared.key.passes n answer.lag m2.0.pin) inv.number x.lag;
       older = λ lo _ f. let before : c.loop-left.losses ≡ 0 = omega arith in let now : answer.losses ≡ 0 = omega arith in
-          older_still c.args.self.now.table.shared.key.rows c.args.self.now.table.shared.key.passes c.loop-left.pass.number m1 m2 kept1 kept2 inv.list told.list answer x left left' few go_on stop
+          older_still c.args.self.now.table.shared.key.rows c.args.self.now.table.shared.key.passes c.loop-left.pass.number m1 m2 kept1 kept2 inv.list told.list
+          answer x left left' few go_on stop
           (λ l r t e. inv.older some_left l before r t e) some_left now lo;
       young = λ zero_is f. let before : c.loop-left.losses ≡ 0 = omega arith in let now : answer.losses ≡ 0 = omega arith in
-          young_left c.args.self.now.table.shared.key.rows c.args.self.now.table.shared.key.passes c.loop-left.pass.number m1 m2 kept1 kept2 inv.list told.list answer x left left' few go_on stop
+          young_left c.args.self.now.table.shared.key.rows c.args.self.now.table.shared.key.passes c.loop-left.pass.number m1 m2 kept1 kept2 inv.list told.list
+          answer x left left' few go_on stop
           (λ l r t e. inv.older some_left l before r t e) some_left now zero_is;
       ended = λ zero_is lag f room. let before : c.loop-left.losses ≡ 0 = omega arith in let now : answer.losses ≡ 0 = omega arith in
-          none_left c.args.self.now.table.shared.key.rows c.args.self.now.table.shared.key.passes c.loop-left.pass.number m1 m2 kept1 kept2 inv.list told.list answer x left left' few go_on stop
+          none_left c.args.self.now.table.shared.key.rows c.args.self.now.table.shared.key.passes c.loop-left.pass.number m1 m2 kept1 kept2 inv.list told.list
+          answer x left left' few go_on stop
           (λ l r t e. inv.older some_left l before r t e) some_left now zero_is lag room;
     }

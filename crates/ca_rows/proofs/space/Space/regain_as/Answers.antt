@@ -3,5 +3,9 @@ use Rattle.ca_rows.proofs.Regaining.{regains}
 use Rattle.ca_rows.proofs.space.Space.regain_as.Goals as goal
 
 pub load-requires : goal.load-requires
-load-requires g c = let sized = c.args.self.now.sized in
-    (search rules, omega arith, regains g.R.RowRule.linked g.R.RowRule.lent g.R.RowRule.noted g.R.RowRule.fact g.met.R.RowRule.frames c.args.self.now.table.shared.key _ _ _ g.K.Named.about c.requires.old.0 c.requires.old.1 c.requires.old.2)
+load-requires g c = let sized = c.args.self.now.sized in (
+  search rules,
+  omega arith,
+  regains g.R.RowRule.linked g.R.RowRule.lent g.R.RowRule.noted g.R.RowRule.fact g.met.R.RowRule.frames
+      c.args.self.now.table.shared.key _ _ _ g.K.Named.about c.requires.old.0 c.requires.old.1 c.requires.old.2,
+)

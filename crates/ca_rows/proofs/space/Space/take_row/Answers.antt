@@ -6,23 +6,32 @@ use Rattle.ca_rows.proofs.Steps.{looks, peeks, takes}
 use Rattle.ca_rows.proofs.space.Space.take_row.Goals as goal
 
 pub load-head-requires : goal.load-head-requires
-load-head-requires g c = let sized = c.args.self.now.sized in
-    (search rules, omega arith, looks g.R.RowRule.linked g.R.RowRule.lent g.R.RowRule.noted g.R.RowRule.fact g.met.R.RowRule.frames c.args.self.now.table.shared.key _ _ _)
-
-pub load-next-requires : goal.load-next-requires
-load-next-requires g c = let sized = c.args.self.now.sized in let few = c.args.self.now.few.1 in let some_free = c.if-row-eq0.false in let saw = c.load-head.ensures.2.3 (omega arith) c.if-tag.false in (
+load-head-requires g c = let sized = c.args.self.now.sized in (
   search rules,
-  (let same = ap (λ (z : Sizes). z.rows) c.requires.own.1 in let some_rows = c.args.self.now.few.0 in let lim = c.load-head.ensures.2.0 (omega arith) in omega arith),
-  peeks g.R.RowRule.linked g.R.RowRule.lent g.R.RowRule.noted g.R.RowRule.fact g.met.R.RowRule.frames c.args.self.now.table.shared.key _ _ _ (c.load-head.result / 65536) (c.load-head.result % 65536)
-      (ap (λ (m : Mine g.row.R-Upper.Denot). m.0.stage) saw) (omega arith),
+  omega arith,
+  looks g.R.RowRule.linked g.R.RowRule.lent g.R.RowRule.noted g.R.RowRule.fact g.met.R.RowRule.frames
+      c.args.self.now.table.shared.key _ _ _,
 )
 
+pub load-next-requires : goal.load-next-requires
+load-next-requires g c = let sized = c.args.self.now.sized in let few = c.args.self.now.few.1 in let some_free = c.if-row-eq0.false in
+    let saw = c.load-head.ensures.2.3 (omega arith) c.if-tag.false in (
+      search rules,
+      (let same = ap (λ (z : Sizes). z.rows) c.requires.own.1 in let some_rows = c.args.self.now.few.0 in let lim = c.load-head.ensures.2.0 (omega arith) in
+          omega arith),
+      peeks g.R.RowRule.linked g.R.RowRule.lent g.R.RowRule.noted g.R.RowRule.fact g.met.R.RowRule.frames c.args.self.now.table.shared.key _ _ _
+          (c.load-head.result / 65536) (c.load-head.result % 65536)
+          (ap (λ (m : Mine g.row.R-Upper.Denot). m.0.stage) saw) (omega arith),
+    )
+
 pub compare_exchange-found-requires : goal.compare_exchange-found-requires
-compare_exchange-found-requires g c = let sized = c.args.self.now.sized in let some_free = c.if-row-eq0.false in let saw = c.load-head.ensures.2.3 (omega arith) c.if-tag.false in
+compare_exchange-found-requires g c = let sized = c.args.self.now.sized in let some_free = c.if-row-eq0.false in
+    let saw = c.load-head.ensures.2.3 (omega arith) c.if-tag.false in
     let next = c.load-next.ensures.2 (c.load-head.result / 65536) (c.load-head.result % 65536) (ap (λ (m : Mine g.row.R-Upper.Denot). m.0.stage) saw) in (
       search rules,
       omega arith,
-      takes g.R.RowRule.linked g.R.RowRule.lent g.R.RowRule.noted g.R.RowRule.fact g.met.R.RowRule.frames c.args.self.now.table.shared.key _ _ _ (c.load-head.result / 65536) (c.load-head.result % 65536) c.load-next.result
+      takes g.R.RowRule.linked g.R.RowRule.lent g.R.RowRule.noted g.R.RowRule.fact g.met.R.RowRule.frames c.args.self.now.table.shared.key _ _ _
+          (c.load-head.result / 65536) (c.load-head.result % 65536) c.load-next.result
           (ap (λ (m : Mine g.row.R-Upper.Denot). m.0.stage) next) (omega arith) (omega arith),
     )
 
@@ -33,7 +42,8 @@ returns-then-found-old-clause-row g c =
     let q : ℕ = c.load-head.result % 65536 in
     let next = c.load-next.ensures.2 t' q (ap (λ (m : Mine g.row.R-Upper.Denot). m.0.stage) saw) in
     let took = (c.compare_exchange-found.ensures.2 t' q c.load-next.result (ap (λ (m : Mine g.row.R-Upper.Denot). m.0.stage) next)).0 c.if-found-old.true in
-    let same = row_taken c.args.pass.now.seat.me c.load-head.new.seat.me c.load-next.new.seat.me c.compare_exchange-found.new.seat.me _ _ saw q took.1.0 next took.0 took.1.2 in
+    let same = row_taken c.args.pass.now.seat.me c.load-head.new.seat.me c.load-next.new.seat.me c.compare_exchange-found.new.seat.me _ _ saw q took.1.0 next
+    took.0 took.1.2 in
     let rows = ap (λ (z : Sizes). z.rows) c.requires.own.1 in
     let some_rows = c.args.self.now.few.0 in
     let bound = c.load-head.ensures.2.0 (omega arith) in
