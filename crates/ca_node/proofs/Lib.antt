@@ -1,4 +1,5 @@
 pub mod Fronts
+pub mod HeldRows
 pub mod Logs
 pub mod Looking
 pub mod Members
