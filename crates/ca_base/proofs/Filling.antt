@@ -1,5 +1,5 @@
 -- A row that a seat holds is filled word by word.
-use Rattle.std.proofs.Common.{◌≡◌, ℕ, ◌+◌, ◌<◌, List, length, get_or, set, sym, refl, ap, ◌∙◌, subst, arith, length-set, get_or-set_other, get_or-set_same}
+use Rattle.std.proofs.Common.{◌≡◌, ℕ, ◌+◌, ◌<◌, ◌≤◌, List, length, get_or, set, sym, refl, ap, ◌∙◌, subst, arith, length-set, get_or-set_other, get_or-set_same, le_refl}
 use mathlib.Core.Logic.{dite}
 use mathlib.Core.Option.{some}
 use native.Mathlib.Decide.{ℕ_discrete}
@@ -7,33 +7,51 @@ use Rattle.atomic_table.specs.declared.shared.Seat.{Seat}
 use Rattle.atomic_table.specs.Seated.{TableId}
 use Rattle.ca_node.specs.Told.{MyTree}
 use Rattle.ca_node.specs.TreeView.{TreeView}
-use Rattle.ca_base.specs.Writing.{IsHeld, IsRewritten, IsFilled, HasFilled}
+use Rattle.ca_base.specs.Writing.{IsHeld, IsRewritten, HasSet, IsFilled, HasFilled}
 use Rattle.ca_rows.specs.declared.sizes.Sizes.{Sizes}
 use Rattle.ca_rows.specs.declared.view.Claim.TheVariants.{Holds}
 use Rattle.ca_rows.specs.declared.view.View.{View}
 use Rattle.ca_rows.specs.Calls.{IsOf, IsStill}
-use Rattle.ca_rows.specs.Claims.{claim_of, claimed}
+use Rattle.ca_rows.specs.Claims.{claim_of, claimed, held_count}
 use Rattle.ca_rows.proofs.Claiming.{claimed_here, claimed_else}
+use Rattle.ca_rows.proofs.HeldCount.{written_no_more}
 
 abbrev pub MySeat : Type 0
 MySeat = Seat (Unit {0}) (View TreeView)
 
 -- A word of the row was written.
-pub rewritten : (row : ℕ) (its : List ℕ) (m m' : MyTree) → m' ≡ (record m.0 { claims = claimed row (Holds its) m.0.claims }, m.1) → IsRewritten row its m m'
-rewritten row its m m' is = record {
-  here = ap (λ (y : MyTree). claim_of y.0.claims row) is ∙ claimed_here m.0.claims row (Holds its);
-  others = λ r n. ap (λ (y : MyTree). claim_of y.0.claims r) is ∙ claimed_else m.0.claims row r (Holds its) n;
+pub rewritten : (row : ℕ) (its new : List ℕ) (m m' : MyTree) → claim_of m.0.claims row ≡ some (Holds its)
+    → m' ≡ (record m.0 { claims = claimed row (Holds new) m.0.claims }, m.1) → IsRewritten row new m m'
+rewritten row its new m m' has is = let claims = ap (λ (y : MyTree). y.0.claims) is in record {
+  here = ap (λ (y : MyTree). claim_of y.0.claims row) is ∙ claimed_here m.0.claims row (Holds new);
+  others = λ r n. ap (λ (y : MyTree). claim_of y.0.claims r) is ∙ claimed_else m.0.claims row r (Holds new) n;
+  no_more = subst (λ (y : MyTree). held_count y.0.claims ≤ held_count m.0.claims) (sym is) (written_no_more row its new m.0.claims has);
+  only = is ∙ ap (λ xs. (record m.0 { claims = xs }, m.1)) (sym claims);
+}
+
+-- It is what it was.
+pub kept_so : (row : ℕ) (its : List ℕ) (m m' : MyTree) → claim_of m.0.claims row ≡ some (Holds its) → m' ≡ m → IsRewritten row its m m'
+kept_so row its m m' has is = subst (IsRewritten row its m) (sym is) record {
+  here = has;
+  others = λ r n. refl;
+  no_more = le_refl (held_count m.0.claims);
+  only = refl;
 }
 
 pub rewritten_again : (row : ℕ) (its new : List ℕ) (a b c : MyTree) → IsRewritten row its a b → IsRewritten row new b c → IsRewritten row new a c
-rewritten_again row its new a b c x y = record { here = y.here; others = λ r n. y.others r n ∙ x.others r n }
+rewritten_again row its new a b c x y = record {
+  here = y.here;
+  others = λ r n. y.others r n ∙ x.others r n;
+  no_more = let one = x.no_more in let two = y.no_more in omega arith;
+  only = y.only ∙ ap (λ (m : MyTree). (record m.0 { claims = c.0.claims }, m.1)) x.only;
+}
 
 -- Nothing was filled yet.
 pub none_filled : (row at : ℕ) (says : ℕ → ℕ → Type 0) (m : MyTree) → HasFilled row at 0 says m m
 none_filled row at says m its long has = (
   its,
   record { long = refl; inside = λ k l. absurd (omega arith); before = λ k l. refl; behind = λ k l. refl },
-  record { here = has; others = λ r n. refl },
+  kept_so row its m m has refl,
 )
 
 -- One more word was.
@@ -62,18 +80,15 @@ begins table z row at says first of held = record { of = of; still = (refl, refl
 
 -- One more word was written, at its place.
 pub goes_on : (table : TableId) (z : Sizes) (row at : ℕ) (says : ℕ → ℕ → Type 0) (first a b : MySeat) (count place v : ℕ) → place ≡ at + count
-    → place < 136 → says count v → IsFilling table z row at says first a count → IsStill a b
-    → ((its : List ℕ) → claim_of a.me.0.claims row ≡ some (Holds its)
-    → b.me ≡ (record a.me.0 { claims = claimed row (Holds (set its place v)) a.me.0.claims }, a.me.1))
+    → place < 136 → says count v → IsFilling table z row at says first a count → IsStill a b → HasSet row place v a.me b.me
     → IsFilling table z row at says first b (count + 1)
 goes_on table z row at says first a b count place v is l say f s wrote' = let h = f.held in
-    let wrote = λ (its : List ℕ) (has : claim_of a.me.0.claims row ≡ some (Holds its)). subst (λ (y : ℕ).
-    b.me ≡ (record a.me.0 { claims = claimed row (Holds (set its y v)) a.me.0.claims }, a.me.1)) is (wrote' its has) in
-    let w = rewritten row (set h.0 (at + count) v) a.me b.me (wrote h.0 h.2) in record {
+    let wrote = subst (λ (y : ℕ). HasSet row y v a.me b.me) is wrote' in
+    let w = wrote h.0 h.2 in record {
       of = (s.0 ∙ f.of.0, s.2 ∙ f.of.1);
       still = (s.0 ∙ f.still.0, s.1 ∙ f.still.1, s.2 ∙ f.still.2, s.3 ∙ f.still.3, s.4 ∙ f.still.4);
       held = (set h.0 (at + count) v, length-set h.0 (at + count) v ∙ h.1, w.here);
-      filled = λ its long has. let x = f.filled its long has in let new = rewritten row (set x.0 (at + count) v) a.me b.me (wrote x.0 x.2.here) in (
+      filled = λ its long has. let x = f.filled its long has in let new = wrote x.0 x.2.here in (
         set x.0 (at + count) v,
         one_more at count v says its x.0 (omega arith) say x.1,
         rewritten_again row x.0 (set x.0 (at + count) v) first.me a.me b.me x.2 new,

@@ -1,5 +1,5 @@
 -- The rows that a pass holds, as it takes, writes, puts back and retires.
-use Rattle.std.proofs.Common.{◌≡◌, ◌≢◌, ℕ, true, false, ◌<◌, ◌≤◌, List, ◌∷◌, length, Vec, sym, ap, ◌∙◌, subst, inl, inr, ⊎_elim}
+use Rattle.std.proofs.Common.{◌≡◌, ◌≢◌, ℕ, true, false, ◌<◌, ◌≤◌, List, ◌∷◌, length, Vec, max, sym, refl, ap, ◌∙◌, subst, inl, inr, ⊎_elim, arith}
 use Rattle.std.specs.Global.{Global}
 use mathlib.Core.Logic.{dite}
 use mathlib.Core.Option.{some, none, some-injective, some-ne-none}
@@ -8,18 +8,20 @@ use Rattle.ca_node.specs.Links.{IsIn}
 use Rattle.ca_node.specs.Told.{MyTree}
 use Rattle.ca_node.proofs.Looking.{in_more}
 use Rattle.ca_node.proofs.Members.{in_first, in_rest}
-use Rattle.ca_base.specs.Taking.{AreHeld}
+use Rattle.ca_base.specs.Taking.{HasHeld, HoldsFew, AreHeld}
 use Rattle.ca_base.specs.Writing.{IsRewritten}
+use Rattle.ca_base.proofs.Filling.{rewritten}
 use Rattle.ca_rows.specs.declared.kept.Kept.{Kept}
 use Rattle.ca_rows.specs.declared.view.Claim.TheVariants.{Holds, Keeps}
 use Rattle.ca_rows.specs.declared.view.Claimed.{Claimed}
 use Rattle.ca_rows.specs.declared.kept.KeptRows.{KeptRows}
 use Rattle.ca_rows.specs.declared.taken.Taken.TheVariants.{Row}
 use Rattle.ca_rows.specs.Calls.{TakesRow, PutsRow}
-use Rattle.ca_rows.specs.Claims.{claim_of, claimed, dropped}
-use Rattle.ca_rows.specs.Told.{with_claims}
+use Rattle.ca_rows.specs.Claims.{claim_of, claimed, dropped, held_count}
+use Rattle.ca_rows.specs.Told.{with_claims, with_most}
 use Rattle.ca_rows.specs.Kept.{AreKept}
 use Rattle.ca_rows.proofs.Claiming.{claimed_here, claimed_else, dropped_here, dropped_else}
+use Rattle.ca_rows.proofs.HeldCount.{taken_one_more, dropped_one_less, written_no_more, claimed_one_less}
 use Rattle.ca_rows.proofs.Keeping.{claimed_too, dropped_too}
 
 not_kept : (claims : List Claimed) (row : ℕ) (its : List ℕ) (t : ℕ) → claim_of claims row ≡ some (Holds its) → claim_of claims row ≢ some (Keeps t)
@@ -40,8 +42,8 @@ kept_still rows kept claims claims' row its new k was now others = record {
 
 module _ (rows : ℕ) (kept : Vec Kept Global) where
   -- A row that nobody claimed was taken.
-  pub took : (claims : List Claimed) (held : List ℕ) (row : ℕ) (its : List ℕ) → AreHeld rows kept claims held → claim_of claims row ≡ none → 0 < row
-      → row ≤ rows → length its ≡ 136 → (¬ IsIn row held) × AreHeld rows kept (claimed row (Holds its) claims) (row ∷ held)
+  pub took : (claims : List Claimed) (held : List ℕ) (row : ℕ) (its : List ℕ) → HasHeld rows kept claims held → claim_of claims row ≡ none → 0 < row
+      → row ≤ rows → length its ≡ 136 → (¬ IsIn row held) × HasHeld rows kept (claimed row (Holds its) claims) (row ∷ held)
   took claims held row its h free lo hi long = (
     new,
     record {
@@ -61,8 +63,8 @@ module _ (rows : ℕ) (kept : Vec Kept Global) where
       new i = let w = h.each row i in some-ne-none (Holds w.2.0) (sym w.2.2 ∙ free)
 
   -- A row that was held was put back.
-  pub put_back : (claims : List Claimed) (held : List ℕ) (row : ℕ) → ¬ IsIn row held → AreHeld rows kept claims (row ∷ held)
-      → AreHeld rows kept (dropped row claims) held
+  pub put_back : (claims : List Claimed) (held : List ℕ) (row : ℕ) → ¬ IsIn row held → HasHeld rows kept claims (row ∷ held)
+      → HasHeld rows kept (dropped row claims) held
   put_back claims held row out h = let own = h.each row (in_first row held) in record {
     are_kept = dropped_too rows claims kept h.are_kept row (λ t. not_kept claims row own.2.0 t own.2.2);
     only = λ r c e. dite (ℕ_discrete r row)
@@ -74,8 +76,8 @@ module _ (rows : ℕ) (kept : Vec Kept Global) where
   }
 
   -- A row that was held was written.
-  pub wrote : (m m' : MyTree) (held : List ℕ) (row : ℕ) (its : List ℕ) → IsIn row held → length its ≡ 136 → AreHeld rows kept m.0.claims held
-      → IsRewritten row its m m' → AreHeld rows kept m'.0.claims held
+  pub wrote : (m m' : MyTree) (held : List ℕ) (row : ℕ) (its : List ℕ) → IsIn row held → length its ≡ 136 → HasHeld rows kept m.0.claims held
+      → IsRewritten row its m m' → HasHeld rows kept m'.0.claims held
   wrote m m' held row its i long h w = let own = h.each row i in record {
     are_kept = kept_still rows kept m.0.claims m'.0.claims row own.2.0 its h.are_kept own.2.2 w.here w.others;
     only = λ r c e. dite (ℕ_discrete r row) (λ (f : r ≡ row). inr (subst (λ (y : ℕ). IsIn y held) (sym f) i))
@@ -88,7 +90,7 @@ module _ (rows : ℕ) (kept : Vec Kept Global) where
 
 -- A row that was held was retired.
 pub retired : (rows : ℕ) (kept kept' : Vec Kept Global) (claims : List Claimed) (held : List ℕ) (row t : ℕ) → ¬ IsIn row held
-    → AreHeld rows kept claims (row ∷ held) → AreKept rows (claimed row (Keeps t) claims) kept' → AreHeld rows kept' (claimed row (Keeps t) claims) held
+    → HasHeld rows kept claims (row ∷ held) → AreKept rows (claimed row (Keeps t) claims) kept' → HasHeld rows kept' (claimed row (Keeps t) claims) held
 retired rows kept kept' claims held row t out h k = record {
   are_kept = k;
   only = λ r c e. dite (ℕ_discrete r row)
@@ -101,28 +103,40 @@ retired rows kept kept' claims held row t out h k = record {
 
 -- By what taking a row told.
 pub took_row : (rows : ℕ) (kept kept' : KeptRows) (m m' : MyTree) (row : ℕ) → m.0.sizes.rows ≡ rows → TakesRow (Row row) m m' → kept' ≡ kept → (held : List ℕ)
-    → AreHeld rows kept.rows m.0.claims held → (¬ IsIn row held) × AreHeld rows kept'.rows m'.0.claims (row ∷ held)
-took_row rows kept kept' m m' row size told same held h = let lo = told.0 in let hi = told.1 in
-    subst (λ (x : MyTree × KeptRows). (¬ IsIn row held) × AreHeld rows x.1.rows x.0.0.claims (row ∷ held)) (λ i. (sym told.3.2 i, sym same i))
-    (took rows kept.rows m.0.claims held row told.3.0 h told.2 lo (subst (λ (y : ℕ). row ≤ y) size hi) told.3.1)
+    → length held < 8 → AreHeld rows kept.rows m.0 held → (¬ IsIn row held) × AreHeld rows kept'.rows m'.0 (row ∷ held)
+took_row rows kept kept' m m' row size told same held few h = let lo = told.0 in let hi = told.1 in let its : List ℕ = told.3.0 in
+    let t = took rows kept.rows m.0.claims held row its h.0 told.2 lo (subst (λ (y : ℕ). row ≤ y) size hi) told.3.1 in
+    let one = taken_one_more row its m.0.claims told.2 in let now = h.1.now in let ever = h.1.ever in (
+      t.0,
+      subst (λ (x : MyTree × KeptRows). AreHeld rows x.1.rows x.0.0 (row ∷ held)) (λ i. (sym told.3.2 i, sym same i))
+          (t.1, record { now = omega arith; ever = omega arith }),
+    )
 
 -- By what a lost putting back told: the row is held still.
 pub kept_row : (rows : ℕ) (kept kept' : KeptRows) (m m' : MyTree) (row : ℕ) → PutsRow false row m m' → kept' ≡ kept → (rest : List ℕ)
-    → AreHeld rows kept.rows m.0.claims (row ∷ rest) → AreHeld rows kept'.rows m'.0.claims (row ∷ rest)
-kept_row rows kept kept' m m' row told same rest h = subst (λ (x : MyTree × KeptRows). AreHeld rows x.1.rows x.0.0.claims (row ∷ rest))
-    (λ i. (sym told.2 i, sym same i))
-    (wrote rows kept.rows m (with_claims m (claimed row (Holds told.0) m.0.claims)) (row ∷ rest) row told.0 (in_first row rest) told.1 h
-    record { here = claimed_here m.0.claims row (Holds told.0); others = λ r n. claimed_else m.0.claims row r (Holds told.0) n })
+    → AreHeld rows kept.rows m.0 (row ∷ rest) → AreHeld rows kept'.rows m'.0 (row ∷ rest)
+kept_row rows kept kept' m m' row told same rest h = let own = (h.0.each row (in_first row rest)).2 in
+    let n = written_no_more row own.0 told.0 m.0.claims own.2 in let now = h.1.now in let ever = h.1.ever in
+    subst (λ (x : MyTree × KeptRows). AreHeld rows x.1.rows x.0.0 (row ∷ rest)) (λ i. (sym told.2 i, sym same i)) (
+      wrote rows kept.rows m (record m.0 { claims = claimed row (Holds told.0) m.0.claims }, m.1) (row ∷ rest) row told.0 (in_first row rest) told.1 h.0
+          (rewritten row own.0 told.0 m (record m.0 { claims = claimed row (Holds told.0) m.0.claims }, m.1) own.2 refl),
+      record { now = omega arith; ever = ever },
+    )
 
 -- By what one that won told.
 pub gone_row : (rows : ℕ) (kept kept' : KeptRows) (m m' : MyTree) (row : ℕ) → PutsRow true row m m' → kept' ≡ kept → (rest : List ℕ) → ¬ IsIn row rest
-    → AreHeld rows kept.rows m.0.claims (row ∷ rest) → AreHeld rows kept'.rows m'.0.claims rest
-gone_row rows kept kept' m m' row told same rest out h = subst (λ (x : MyTree × KeptRows). AreHeld rows x.1.rows x.0.0.claims rest)
-    (λ i. (sym told i, sym same i)) (put_back rows kept.rows m.0.claims rest row out h)
+    → AreHeld rows kept.rows m.0 (row ∷ rest) → AreHeld rows kept'.rows m'.0 rest
+gone_row rows kept kept' m m' row told same rest out h = let own = (h.0.each row (in_first row rest)).2 in
+    let less = dropped_one_less row m.0.claims own.0 own.2 in let now = h.1.now in let ever = h.1.ever in
+    subst (λ (x : MyTree × KeptRows). AreHeld rows x.1.rows x.0.0 rest)
+    (λ i. (sym told i, sym same i)) (put_back rows kept.rows m.0.claims rest row out h.0, record { now = omega arith; ever = ever })
 
 -- By what retiring told.
 pub retired_row : (rows : ℕ) (kept kept' : Vec Kept Global) (m m' : MyTree) (row t : ℕ) → m' ≡ (record m.0 { claims = claimed row (Keeps t) m.0.claims }, m.1)
-    → AreKept rows m'.0.claims kept' → (rest : List ℕ) → ¬ IsIn row rest → AreHeld rows kept m.0.claims (row ∷ rest) → AreHeld rows kept' m'.0.claims rest
-retired_row rows kept kept' m m' row t told k rest out h = let is = ap (λ (x : MyTree). x.0.claims) told in
-    subst (λ (xs : List Claimed). AreHeld rows kept' xs rest) (sym is)
-    (retired rows kept kept' m.0.claims rest row t out h (subst (λ (xs : List Claimed). AreKept rows xs kept') is k))
+    → AreKept rows m'.0.claims kept' → (rest : List ℕ) → ¬ IsIn row rest → AreHeld rows kept m.0 (row ∷ rest) → AreHeld rows kept' m'.0 rest
+retired_row rows kept kept' m m' row t told k rest out h = let own = (h.0.each row (in_first row rest)).2 in
+    let less = claimed_one_less row (Keeps t) own.0 m.0.claims refl own.2 in let now = h.1.now in let ever = h.1.ever in
+    subst (λ (x : MyTree). AreHeld rows kept' x.0 rest) (sym told) (
+      retired rows kept kept' m.0.claims rest row t out h.0 (subst (λ (x : MyTree). AreKept rows x.0.claims kept') told k),
+      record { now = omega arith; ever = ever },
+    )

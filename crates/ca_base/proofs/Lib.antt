@@ -1,3 +1,4 @@
+pub mod Counts
 pub mod Filling
 pub mod Held
 pub mod Inserting

@@ -25,7 +25,7 @@ use Rattle.ca_rows.specs.Claims.{claim_of}
 pub record IsNewBase (z : Sizes) (m : MyTree) (new : ℕ) (old : Note) (these : List ℕ) (statistic : ℕ) (b : List ℕ) : Type 0 where
   pub is_pinned : m.0.pin.pinned ≡ true
   pub is_pass : 0 < m.0.upper.number
-  pub shown : IsIn old m.0.upper.notes
+  pub shown : (rest : List Note) × (m.0.upper.notes ≡ old ∷ rest)
   pub is_base : IsBaseNote z old
   pub held : claim_of m.0.claims new ≡ some (Holds b)
   pub spells : SpellsBase these statistic b
@@ -69,6 +69,11 @@ is_update z m new x these statistic n few made = let h = subst (IsMade z.keypos 
   is_edit = h.is_edit;
 }
 
+-- Where there is a note at all, the first one is first.
+is_first : (notes : List Note) → IsIn (first_note notes) notes → (rest : List Note) × (notes ≡ first_note notes ∷ rest)
+is_first [] i = absurd (in_nothing (first_note []) [] refl i)
+is_first (note ∷ notes) i = (notes, refl)
+
 -- The base was written since the pass was shown the old one.
 pub new_base : (z : Sizes) (first before now : MyTree) (new base : ℕ) (all these : List ℕ) (statistic : ℕ) (b : List ℕ) → IsShownLast z first.0.upper base all
     → first.0.pin.pinned ≡ true → 0 < first.0.upper.number → now.0.upper ≡ first.0.upper → now.0.pin ≡ first.0.pin → SpellsBase these statistic b
@@ -76,7 +81,8 @@ pub new_base : (z : Sizes) (first before now : MyTree) (new base : ℕ) (all the
 new_base z first before now new base all these statistic b shown is_pinned is_pass upper pin spells wrote = record {
   is_pinned = ap (λ (e : Pin). e.pinned) pin ∙ is_pinned;
   is_pass = subst (λ (u : TreeView). 0 < u.number) (sym upper) is_pass;
-  shown = subst (λ (u : TreeView). IsIn (first_note first.0.upper.notes) u.notes) (sym upper) shown.noted;
+  shown = subst (λ (u : TreeView). (rest : List Note) × (u.notes ≡ first_note first.0.upper.notes ∷ rest)) (sym upper)
+      (is_first first.0.upper.notes shown.noted);
   is_base = shown.is_base;
   held = wrote.here;
   spells = spells;

@@ -1,10 +1,24 @@
 -- Rows of a list, one after another.
-use Rattle.std.proofs.Common.{ℕ, zero, suc, ◌+◌, ◌<◌, List, [], ◌∷◌, length, drop, get_or, arith}
+use Rattle.std.proofs.Common.{◌≡◌, ◌≢◌, ℕ, zero, suc, ◌<◌, List, [], ◌∷◌, length, drop, get_or, Result, Ok, Err, refl, sym, ⊎_elim, arith}
+use Rattle.ca_node.specs.Laws.{in_nothing}
 use Rattle.ca_node.specs.Links.{IsIn}
-use Rattle.ca_base.specs.Taking.{AreApart}
+use Rattle.ca_node.proofs.HeldRows.{AreApart}
+use Rattle.ca_node.proofs.Looking.{in_more}
+use Rattle.ca_base.specs.Putting.{gone}
 
 -- The row at a place isn't behind it once more.
 pub rest_apart : (rows : List ℕ) (at : ℕ) → at < length rows → AreApart rows → ¬ IsIn (get_or rows at 0) (drop (suc at) rows)
 rest_apart [] at l a = absurd (omega arith)
 rest_apart (x ∷ rows) zero l a = a.0
 rest_apart (x ∷ rows) (suc at) l a = rest_apart rows at (omega arith) a.1
+
+-- Two rows, and the row that goes, if one does.
+pub two_apart : (a b : ℕ) → a ≢ b → AreApart (a ∷ b ∷ [])
+two_apart a b n = (
+  λ i. ⊎_elim (λ (e : b ≡ a). n (sym e)) (λ (j : IsIn a []). in_nothing a [] refl j) (in_more b a [] i),
+  (in_nothing b [] refl, tt),
+)
+
+pub gone_apart : (place : Result ℕ ℕ) (these : List ℕ) → AreApart (gone place these)
+gone_apart (Ok at) these = (in_nothing (get_or these at 0) [] refl, tt)
+gone_apart (Err at) these = tt

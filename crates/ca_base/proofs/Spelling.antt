@@ -4,15 +4,20 @@ use Rattle.std.proofs.lemmas.Grind.{same_number_lists}
 use Rattle.std.proofs.lemmas.List.{length-take-le, get_or-take, get_or-drop}
 use Rattle.ca_node.specs.Row.{bytes_in, object, key_place, count}
 use Rattle.ca_base.specs.Writing.{HasEight, IsFilled, SpellsObject, SpellsBase}
-use Rattle.ca_base.proofs.Words.{packed}
+use Rattle.ca_base.proofs.Words.{packed, padded}
 
 -- An object row: its first word, and its bytes from word 11 on.
-pub spells_object : (bytes : List ℕ) (key_at key_end form : ℕ) (its new : List ℕ) → length its ≡ 136 → get_or its 0 0 ≡ form
+pub spells_object : (bytes : List ℕ) (key_at key_end form : ℕ) (its one new : List ℕ) → length its ≡ 136 → get_or its 0 0 ≡ form
     → form / 72057594037927936 ≡ 1 → form / 4294967296 % 16777216 ≡ key_end - key_at → form / 65536 % 65536 ≡ key_at → form % 65536 ≡ length bytes
-    → length bytes ≤ 1000 → IsFilled 11 ((length bytes + 7) / 8) (HasEight bytes) its new → SpellsObject bytes key_at key_end new
-spells_object bytes key_at key_end form its new long first is_object is_length is_place is_count short f = record {
-  long = f.long ∙ long;
-  is_object = ap (λ x. x / 72057594037927936) first' ∙ is_object;
+    → length bytes ≤ 1000 → IsFilled 11 ((length bytes + 7) / 8) (HasEight bytes) its one
+    → IsFilled (11 + (length bytes + 7) / 8) (136 - (11 + (length bytes + 7) / 8)) (λ _ word. word ≡ 0) one new → SpellsObject bytes key_at key_end new
+spells_object bytes key_at key_end form its one new long first is_object is_length is_place is_count short f g = record {
+  long = wide;
+  is_object = (
+    ap (λ x. x / 72057594037927936) first' ∙ is_object,
+    λ i l. let behind : length bytes ≤ i = subst (λ n. n ≤ i) (ap (λ x. x % 65536) first' ∙ is_count) l in
+        padded (drop 11 new) bytes ((length bytes + 7) / 8) i behind (omega (arith, length-drop 11 new, wide)) has_eight is_zero,
+  );
   object_is = object_is;
   key_is = ap (λ n. take n (drop (key_place new) (object new))) (ap (λ x. x / 4294967296 % 16777216) first' ∙ is_length)
       ∙ (ap (λ n. take (key_end - key_at) (drop n (object new))) (ap (λ x. x / 65536 % 65536) first' ∙ is_place)
@@ -20,15 +25,22 @@ spells_object bytes key_at key_end form its new long first is_object is_length i
 }
   where
     first' : get_or new 0 0 ≡ form
-    first' = f.before 0 (omega arith) ∙ first
+    first' = g.before 0 (omega arith) ∙ (f.before 0 (omega arith) ∙ first)
 
     wide : length new ≡ 136
-    wide = f.long ∙ long
+    wide = g.long ∙ (f.long ∙ long)
+
+    has_eight : (k : ℕ) → k < (length bytes + 7) / 8 → HasEight bytes k (get_or (drop 11 new) k 0)
+    has_eight k l = subst (HasEight bytes k) (sym (g.before (11 + k) (omega arith)) ∙ sym (get_or-drop 11 new k 0)) (f.inside k l)
+
+    is_zero : (k : ℕ) → (length bytes + 7) / 8 ≤ k → k < length (drop 11 new) → get_or (drop 11 new) k 0 ≡ 0
+    is_zero k l h = let e : 11 + (length bytes + 7) / 8 + (k - (length bytes + 7) / 8) ≡ 11 + k = omega arith in
+        get_or-drop 11 new k 0 ∙ (ap (λ n. get_or new n 0) (sym e)
+        ∙ g.inside (k - (length bytes + 7) / 8) (omega (arith, length-drop 11 new, wide)))
 
     object_is : object new ≡ bytes
     object_is = ap (λ n. take n (bytes_in (drop 11 new))) (ap (λ x. x % 65536) first' ∙ is_count)
-        ∙ packed (drop 11 new) bytes ((length bytes + 7) / 8) (omega arith) (omega (arith, length-drop 11 new, wide))
-        (λ k l. subst (HasEight bytes k) (sym (get_or-drop 11 new k 0)) (f.inside k l))
+        ∙ packed (drop 11 new) bytes ((length bytes + 7) / 8) (omega arith) (omega (arith, length-drop 11 new, wide)) has_eight
 
 -- A base row: the words up to its mark, and its items from word 11 on.
 pub spells_base : (these : List ℕ) (form statistic : ℕ) (its one new : List ℕ) → length its ≡ 136 → form ≡ 144115188075855872 + length these

@@ -1,5 +1,5 @@
 -- The rows that a pass has after an update, as it retires what went.
-use Rattle.std.proofs.Common.{◌≡◌, ◌⊎◌, ℕ, ◌+◌, ◌<◌, List, [], ◌∷◌, ◌++◌, length, Vec, sym, refl, ap, ◌∙◌, subst, inl, inr, ⊎_elim, arith, append_assoc, length-append}
+use Rattle.std.proofs.Common.{◌≡◌, ◌⊎◌, ℕ, ◌+◌, ◌<◌, ◌≤◌, List, [], ◌∷◌, ◌++◌, length, Vec, sym, refl, ap, ◌∙◌, subst, inl, inr, ⊎_elim, arith, append_assoc, length-append}
 use Rattle.std.specs.Global.{Global}
 use mathlib.Core.Logic.{dite}
 use mathlib.Core.Option.{some, none, some-injective, some-ne-none}
@@ -8,12 +8,13 @@ use Rattle.ca_model.specs.Event.{effect}
 use Rattle.ca_model.specs.Lawful.{IsPlaceFrom}
 use Rattle.ca_node.specs.Laws.{in_nothing}
 use Rattle.ca_node.specs.Links.{IsIn}
-use Rattle.ca_node.specs.Told.{MyTree, IsKnown, Update, IsUpdated, given, taken_out, updated}
+use Rattle.ca_node.specs.Told.{MyTree, IsKnown, Update, IsUpdated, given, one_more_lost, taken_out, updated, with_upper}
 use Rattle.ca_node.specs.TreeView.{TreeView}
+use Rattle.ca_node.proofs.HeldRows.{AreApart, given_fewer, taken_out_no_more}
 use Rattle.ca_node.proofs.Looking.{in_more}
 use Rattle.ca_node.proofs.Members.{in_rest, has, given_here, given_else, taken_here, taken_else}
 use Rattle.ca_base.specs.Progress.{HasDone}
-use Rattle.ca_base.specs.Taking.{AreHeld, AreUnlinked}
+use Rattle.ca_base.specs.Taking.{HasHeld, HoldsFew, AreHeld, HasUnlinked, AreUnlinked}
 use Rattle.ca_base.specs.Writing.{IsRewritten}
 use Rattle.ca_base.proofs.Held.{wrote}
 use Rattle.ca_rows.specs.declared.kept.Kept.{Kept}
@@ -22,11 +23,13 @@ use Rattle.ca_rows.specs.declared.sizes.Sizes.{Sizes}
 use Rattle.ca_rows.specs.declared.view.Claim.{Claim}
 use Rattle.ca_rows.specs.declared.view.Claim.TheVariants.{Holds, Unlinked, Keeps}
 use Rattle.ca_rows.specs.declared.view.Claimed.{Claimed}
-use Rattle.ca_rows.specs.Claims.{claim_of, claimed}
+use Rattle.ca_rows.specs.declared.view.View.{View}
+use Rattle.ca_rows.specs.Claims.{claim_of, claimed, held_count}
 use Rattle.ca_rows.specs.Kept.{AreKept}
 use Rattle.ca_rows.proofs.Claiming.{claimed_here, claimed_else}
+use Rattle.ca_rows.proofs.HeldCount.{claimed_no_more}
 
-module _ (rows : ℕ) (kept : Vec Kept Global) (claims : List Claimed) (ins outs : List ℕ) (h : AreHeld rows kept claims ins)
+module _ (rows : ℕ) (kept : Vec Kept Global) (claims : List Claimed) (ins outs : List ℕ) (h : HasHeld rows kept claims ins)
     (free : (r : ℕ) → IsIn r outs → claim_of claims r ≡ none) where
   abbrev now : List Claimed
   now = taken_out outs (given ins claims)
@@ -49,7 +52,7 @@ module _ (rows : ℕ) (kept : Vec Kept Global) (claims : List Claimed) (ins outs
       (λ (m : ¬ IsIn r ins). inr (sym (else_now r n m) ∙ e, m)) (has ins r)) (has outs r)
 
   -- The rows that the seat held came, and others went that nobody claimed: those it has unlinked.
-  pub unlinked_then : AreUnlinked rows kept now outs
+  pub unlinked_then : HasUnlinked rows kept now outs
   unlinked_then = record {
     are_kept = record {
       apart = h.are_kept.apart;
@@ -66,39 +69,52 @@ module _ (rows : ℕ) (kept : Vec Kept Global) (claims : List Claimed) (ins outs
   }
 
 -- A row that was unlinked was retired.
+retired_claim : (rows : ℕ) (kept kept' : Vec Kept Global) (claims : List Claimed) (row t : ℕ) → AreKept rows (claimed row (Keeps t) claims) kept'
+    → (rest : List ℕ) → ¬ IsIn row rest → HasUnlinked rows kept claims (row ∷ rest) → HasUnlinked rows kept' (claimed row (Keeps t) claims) rest
+retired_claim rows kept kept' claims row t k rest out h = record {
+  are_kept = k;
+  only = λ r c e. dite (ℕ_discrete r row)
+      (λ (f : r ≡ row). inl (
+        t,
+        some-injective c (Keeps t) (sym e ∙ (ap (claim_of (claimed row (Keeps t) claims)) f
+            ∙ claimed_here claims row (Keeps t))),
+      ))
+      (λ n. ⊎_elim (λ y. inl y) (λ i. inr (⊎_elim (λ (f : row ≡ r). absurd (n (sym f))) (λ (j : IsIn r rest). j) (in_more row r rest i)))
+      (h.only r c (sym (claimed_else claims row r (Keeps t) n) ∙ e)));
+  each = λ r i. claimed_else claims row r (Keeps t) (λ f. out (subst (λ (y : ℕ). IsIn y rest) f i)) ∙ h.each r (in_rest r row rest i);
+}
+
 pub retired_too : (rows : ℕ) (kept kept' : Vec Kept Global) (m m' : MyTree) (row t : ℕ) → m' ≡ (record m.0 { claims = claimed row (Keeps t) m.0.claims }, m.1)
-    → AreKept rows m'.0.claims kept' → (rest : List ℕ) → ¬ IsIn row rest → AreUnlinked rows kept m.0.claims (row ∷ rest)
-    → AreUnlinked rows kept' m'.0.claims rest
-retired_too rows kept kept' m m' row t told k rest out h = let is = ap (λ (x : MyTree). x.0.claims) told in
-    subst (λ (xs : List Claimed). AreUnlinked rows kept' xs rest) (sym is) record {
-      are_kept = subst (λ (xs : List Claimed). AreKept rows xs kept') is k;
-      only = λ r c e. dite (ℕ_discrete r row)
-          (λ (f : r ≡ row). inl (
-            t,
-            some-injective c (Keeps t) (sym e ∙ (ap (claim_of (claimed row (Keeps t) m.0.claims)) f
-                ∙ claimed_here m.0.claims row (Keeps t))),
-          ))
-          (λ n. ⊎_elim (λ y. inl y) (λ i. inr (⊎_elim (λ (f : row ≡ r). absurd (n (sym f))) (λ (j : IsIn r rest). j) (in_more row r rest i)))
-          (h.only r c (sym (claimed_else m.0.claims row r (Keeps t) n) ∙ e)));
-      each = λ r i. claimed_else m.0.claims row r (Keeps t) (λ f. out (subst (λ (y : ℕ). IsIn y rest) f i)) ∙ h.each r (in_rest r row rest i);
-    }
+    → AreKept rows m'.0.claims kept' → (rest : List ℕ) → ¬ IsIn row rest → AreUnlinked rows kept m.0 (row ∷ rest) → AreUnlinked rows kept' m'.0 rest
+retired_too rows kept kept' m m' row t told k rest out h = let n = claimed_no_more row (Keeps t) m.0.claims refl in let now = h.1.now in let ever = h.1.ever in
+    subst (λ (x : MyTree). AreUnlinked rows kept' x.0 rest) (sym told) (
+      retired_claim rows kept kept' m.0.claims row t (subst (λ (x : MyTree). AreKept rows x.0.claims kept') told k) rest out h.0,
+      record { now = omega arith; ever = ever },
+    )
 
 -- Where none is left, none is held either.
-pub none_left : (rows : ℕ) (kept : Vec Kept Global) (claims : List Claimed) → AreUnlinked rows kept claims [] → AreHeld rows kept claims []
-none_left rows kept claims h = record { are_kept = h.are_kept; only = h.only; each = λ r i. absurd (in_nothing r [] refl i) }
+pub none_left : (rows : ℕ) (kept : Vec Kept Global) (view : View TreeView) → AreUnlinked rows kept view [] → AreHeld rows kept view []
+none_left rows kept view h = (record { are_kept = h.0.are_kept; only = h.0.only; each = λ r i. absurd (in_nothing r [] refl i) }, h.1)
 
-pub held_moved : (rows : ℕ) (kept kept' : KeptRows) (m m' : MyTree) (held : List ℕ) → m' ≡ m → kept' ≡ kept → AreHeld rows kept.rows m.0.claims held
-    → AreHeld rows kept'.rows m'.0.claims held
-held_moved rows kept kept' m m' held same too h = subst (λ (x : MyTree × KeptRows). AreHeld rows x.1.rows x.0.0.claims held) (λ i. (sym same i, sym too i)) h
+-- An exchange of a link was lost: the same rows are held.
+pub held_still : (rows : ℕ) (kept kept' : KeptRows) (m m' : MyTree) (held : List ℕ) → m' ≡ with_upper m (one_more_lost m.0.upper) → kept' ≡ kept
+    → AreHeld rows kept.rows m.0 held → AreHeld rows kept'.rows m'.0 held
+held_still rows kept kept' m m' held same too h = subst (λ (x : MyTree × KeptRows). AreHeld rows x.1.rows x.0.0 held) (λ i. (sym same i, sym too i))
+    (h.0, record { now = h.1.now; ever = h.1.ever })
 
 -- After an update the old base and what went with it are unlinked, and apart.
 pub swapped : (rows : ℕ) (kept kept' : KeptRows) (m m' : MyTree) (new : ℕ) (x : Update) (base : ℕ) (ins outs : List ℕ) → new ∷ x.comes ≡ ins
-    → x.old.row ≡ base → x.goes ≡ outs → IsUpdated new x m m' → kept' ≡ kept → AreHeld rows kept.rows m.0.claims ins
-    → (¬ IsIn base outs) × AreUnlinked rows kept'.rows m'.0.claims (base ∷ outs)
-swapped rows kept kept' m m' new x base ins outs comes same goes u too h = let held = subst (AreHeld rows kept.rows m.0.claims) (sym comes) h in
+    → x.old.row ≡ base → x.goes ≡ outs → IsUpdated new x m m' → kept' ≡ kept → AreApart ins → AreHeld rows kept.rows m.0 ins
+    → (¬ IsIn base outs) × AreUnlinked rows kept'.rows m'.0 (base ∷ outs)
+swapped rows kept kept' m m' new x base ins outs comes same goes u too apart h = let held = subst (HasHeld rows kept.rows m.0.claims) (sym comes) h.0 in
     let then = unlinked_then rows kept.rows m.0.claims (new ∷ x.comes) (x.old.row ∷ x.goes) held u.unclaimed in
-    let now = subst (λ (y : MyTree × KeptRows). AreUnlinked rows y.1.rows y.0.0.claims (x.old.row ∷ x.goes)) (λ i. (sym u.now i, sym too i)) then in
-    subst (λ (y : ℕ × List ℕ). (¬ IsIn y.0 y.1) × AreUnlinked rows kept'.rows m'.0.claims (y.0 ∷ y.1)) (λ i. (same i, goes i)) (u.apart, now)
+    let came = subst (λ (xs : List ℕ). held_count (given xs m.0.claims) + length xs ≤ held_count m.0.claims) (sym comes)
+    (given_fewer ins m.0.claims apart (λ r i. let own = (h.0.each r i).2 in (own.0, own.2))) in
+    let went = taken_out_no_more (x.old.row ∷ x.goes) (given (new ∷ x.comes) m.0.claims) in
+    let many = ap (λ (xs : List ℕ). length xs) comes in let before = h.1.now in let ever = h.1.ever in
+    let now = subst (λ (y : MyTree × KeptRows). AreUnlinked rows y.1.rows y.0.0 (x.old.row ∷ x.goes)) (λ i. (sym u.now i, sym too i))
+    (then, record { now = omega arith; ever = ever }) in
+    subst (λ (y : ℕ × List ℕ). (¬ IsIn y.0 y.1) × AreUnlinked rows kept'.rows m'.0 (y.0 ∷ y.1)) (λ i. (same i, goes i)) (u.apart, now)
 
 -- The call that carried out an update is done.
 pub is_done : (z : Sizes) (new : ℕ) (x : Update) (m m' : MyTree) (v : TreeView) → m.0.sizes ≡ z → 0 < z.rows → effect x.event ≡ x.edit ∷ [] → IsUpdated new x m m'
@@ -120,5 +136,9 @@ is_done z new x m m' v sizes some_rows does u same = let w : v ≡ updated m.0.u
 
 -- A row that is held was written: the same rows are held.
 pub written_row : (rows : ℕ) (kept kept' : KeptRows) (m m' : MyTree) (held : List ℕ) (row : ℕ) (its : List ℕ) → IsIn row held → length its ≡ 136
-    → IsRewritten row its m m' → kept' ≡ kept → AreHeld rows kept.rows m.0.claims held → AreHeld rows kept'.rows m'.0.claims held
-written_row rows kept kept' m m' held row its i long w too h = held_moved rows kept kept' m' m' held refl too (wrote rows kept.rows m m' held row its i long h w)
+    → IsRewritten row its m m' → kept' ≡ kept → AreHeld rows kept.rows m.0 held → AreHeld rows kept'.rows m'.0 held
+written_row rows kept kept' m m' held row its i long w too h = let n = w.no_more in let now = h.1.now in let ever = h.1.ever in
+    subst (λ (x : KeptRows). AreHeld rows x.rows m'.0 held) (sym too) (
+      wrote rows kept.rows m m' held row its i long h.0 w,
+      record { now = omega arith; ever = subst (λ (x : MyTree). x.0.most ≤ 8) (sym w.only) ever },
+    )

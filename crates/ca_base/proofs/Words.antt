@@ -1,13 +1,15 @@
 -- Words of eight bytes, and rows of them.
-use Rattle.std.proofs.Common.{◌≡◌, ℕ, zero, suc, ◌+◌, ◌*◌, ◌-◌, ◌<◌, ◌≤◌, min, List, [], ◌∷◌, ◌++◌, length, take, drop, get_or, sym, refl, ap, ◌∙◌, subst, ⊎_elim, arith, length-drop, length-append, append-nil}
+use Rattle.std.proofs.Common.{◌≡◌, ℕ, zero, suc, ◌+◌, ◌*◌, ◌-◌, ◌/◌, ◌%◌, ◌<◌, ◌≤◌, min, List, [], ◌∷◌, ◌++◌, length, take, drop, get_or, sym, refl, ap, ◌∙◌, subst, ⊎_elim, arith, length-drop, length-append, append-nil}
 use Rattle.std.proofs.lemmas.Bool.{cases_lt}
 use Rattle.std.proofs.lemmas.List.{take_all, take_at, take-append-le, take-append-drop, length-take-le, get_or_append_left, get_or-append_right, get_or-take, get_or-drop, drop-drop}
+use Rattle.std.proofs.Math.ListN.{get_or-eq_default}
 use Rattle.std.proofs.Math.Seq.{take-append-add}
 use Rattle.std.proofs.lemmas.Nat.{be_bytes_8}
 use Rattle.std.specs.Int.{to_be_bytes, from_be_bytes, w64}
 use borrow.Rule.Slice.PartMut.{put_mid}
 use Rattle.ca_node.specs.Row.{bytes_in}
 use Rattle.ca_base.specs.Writing.{HasBytes, HasEight}
+use Rattle.ca_base.proofs.ObjectBytes.{byte_at, bytes_long}
 
 abbrev eight_zeros : List ℕ
 eight_zeros = 0 ∷ 0 ∷ 0 ∷ 0 ∷ 0 ∷ 0 ∷ 0 ∷ 0 ∷ []
@@ -23,37 +25,37 @@ zero_there (suc (suc (suc (suc (suc (suc zero)))))) = refl
 zero_there (suc (suc (suc (suc (suc (suc (suc zero))))))) = refl
 zero_there (suc (suc (suc (suc (suc (suc (suc (suc k)))))))) = refl
 
-abbrev padded : ℕ → List ℕ → List ℕ
-padded n bytes = take n bytes ++ drop n eight_zeros
+abbrev eight_first : ℕ → List ℕ → List ℕ
+eight_first n bytes = take n bytes ++ drop n eight_zeros
 
-padded_long : (n : ℕ) (bytes : List ℕ) → n ≤ length bytes → n ≤ 8 → length (padded n bytes) ≡ 8
-padded_long n bytes a b = omega (arith, length-append (take n bytes) (drop n eight_zeros), length-take-le n bytes a, length-drop n eight_zeros)
+eight_long : (n : ℕ) (bytes : List ℕ) → n ≤ length bytes → n ≤ 8 → length (eight_first n bytes) ≡ 8
+eight_long n bytes a b = omega (arith, length-append (take n bytes) (drop n eight_zeros), length-take-le n bytes a, length-drop n eight_zeros)
 
-padded_front : (n : ℕ) (bytes : List ℕ) (k : ℕ) → n ≤ length bytes → k < n → get_or (padded n bytes) k 0 ≡ get_or bytes k 0
-padded_front n bytes k a b = get_or_append_left (take n bytes) (drop n eight_zeros) 0 k (omega (arith, length-take-le n bytes a)) ∙ get_or-take n bytes k 0 b
+eight_front : (n : ℕ) (bytes : List ℕ) (k : ℕ) → n ≤ length bytes → k < n → get_or (eight_first n bytes) k 0 ≡ get_or bytes k 0
+eight_front n bytes k a b = get_or_append_left (take n bytes) (drop n eight_zeros) 0 k (omega (arith, length-take-le n bytes a)) ∙ get_or-take n bytes k 0 b
 
-padded_behind : (n : ℕ) (bytes : List ℕ) (k : ℕ) → n ≤ length bytes → n ≤ k → get_or (padded n bytes) k 0 ≡ 0
-padded_behind n bytes k a b = get_or-append_right (take n bytes) (drop n eight_zeros) n k 0 (length-take-le n bytes a) b
+eight_behind : (n : ℕ) (bytes : List ℕ) (k : ℕ) → n ≤ length bytes → n ≤ k → get_or (eight_first n bytes) k 0 ≡ 0
+eight_behind n bytes k a b = get_or-append_right (take n bytes) (drop n eight_zeros) n k 0 (length-take-le n bytes a) b
     ∙ (get_or-drop n eight_zeros (k - n) 0 ∙ zero_there (n + (k - n)))
 
 -- The bytes at the front, with zeros behind them, as a word.
 pub word_has : (bytes : List ℕ) (n w : ℕ) (part : List ℕ) → ((i : ℕ) → get_or bytes i 0 < 256) → n ≡ min (length bytes) 8 → part ≡ take n bytes
     → w ≡ from_be_bytes w64 (put_mid 0 n eight_zeros part) → HasBytes bytes w
 word_has bytes n w part small is p e = let few : n ≤ length bytes = omega arith in let most : n ≤ 8 = omega arith in
-    let long = padded_long n bytes few most in
-    let is_padded : put_mid 0 n eight_zeros part ≡ padded n bytes = ap (put_mid 0 n eight_zeros) p in
-    let spells : to_be_bytes w64 w ≡ padded n bytes = be_bytes_8 (padded n bytes) w long
-    (λ i. ⊎_elim (λ (l : i < n). subst (λ (y : ℕ). y < 256) (sym (padded_front n bytes i few l)) (small i))
-    (λ (l : n ≤ i). subst (λ (y : ℕ). y < 256) (sym (padded_behind n bytes i few l)) (omega arith)) (cases_lt i n))
+    let long = eight_long n bytes few most in
+    let is_padded : put_mid 0 n eight_zeros part ≡ eight_first n bytes = ap (put_mid 0 n eight_zeros) p in
+    let spells : to_be_bytes w64 w ≡ eight_first n bytes = be_bytes_8 (eight_first n bytes) w long
+    (λ i. ⊎_elim (λ (l : i < n). subst (λ (y : ℕ). y < 256) (sym (eight_front n bytes i few l)) (small i))
+    (λ (l : n ≤ i). subst (λ (y : ℕ). y < 256) (sym (eight_behind n bytes i few l)) (omega arith)) (cases_lt i n))
     (e ∙ ap (from_be_bytes w64) is_padded) in record {
       front = ap (take (length bytes)) spells ∙ ⊎_elim
-          (λ (l : 8 < length bytes). let n_is : n ≡ 8 = omega arith in take_all (length bytes) (padded n bytes) (omega arith)
-          ∙ (ap (λ (y : ℕ). padded y bytes) n_is ∙ append-nil (take 8 bytes)))
-          (λ (l : length bytes ≤ 8). let n_is : n ≡ length bytes = omega arith in ap (λ (y : ℕ). take (length bytes) (padded y bytes)) n_is
+          (λ (l : 8 < length bytes). let n_is : n ≡ 8 = omega arith in take_all (length bytes) (eight_first n bytes) (omega arith)
+          ∙ (ap (λ (y : ℕ). eight_first y bytes) n_is ∙ append-nil (take 8 bytes)))
+          (λ (l : length bytes ≤ 8). let n_is : n ≡ length bytes = omega arith in ap (λ (y : ℕ). take (length bytes) (eight_first y bytes)) n_is
           ∙ (take_at (take (length bytes) bytes) (drop (length bytes) eight_zeros) (length bytes) (length-take-le (length bytes) bytes (omega arith))
           ∙ (take_all (length bytes) bytes (omega arith) ∙ sym (take_all 8 bytes l))))
           (cases_lt 8 (length bytes));
-      zeros = λ k l. ap (λ (ys : List ℕ). get_or ys k 0) spells ∙ padded_behind n bytes k few (omega arith);
+      zeros = λ k l. ap (λ (ys : List ℕ). get_or ys k 0) spells ∙ eight_behind n bytes k few (omega arith);
     }
 
 abbrev eight_of : ℕ → List ℕ
@@ -83,3 +85,13 @@ packed (w ∷ words) (b ∷ bs) (suc n) few many each = let bytes : List ℕ = b
 -- The bytes from the k-th eight on, as a slice has them.
 pub eight_at : (bytes : List ℕ) (k w : ℕ) → HasBytes (take (length bytes - 8 * k) (drop (8 * k) bytes)) w → HasEight bytes k w
 eight_at bytes k w h = subst (λ (x : List ℕ). HasBytes x w) (take_all (length bytes - 8 * k) (drop (8 * k) bytes) (omega (arith, length-drop (8 * k) bytes))) h
+
+-- Behind the bytes that words have there are zeros, where the words behind them are 0.
+pub padded : (words bytes : List ℕ) (n i : ℕ) → length bytes ≤ i → n ≤ length words → ((k : ℕ) → k < n → HasEight bytes k (get_or words k 0))
+    → ((k : ℕ) → n ≤ k → k < length words → get_or words k 0 ≡ 0) → get_or (bytes_in words) i 0 ≡ 0
+padded words bytes n i behind inside each zeros = ⊎_elim
+    (λ (l : i / 8 < length words). let there : i ≡ 8 * (i / 8) + i % 8 = omega arith in
+    ap (λ (k : ℕ). get_or (bytes_in words) k 0) there ∙ (byte_at words (i / 8) (i % 8) l (omega arith)
+    ∙ ⊎_elim (λ (h : i / 8 < n). (each (i / 8) h).zeros (i % 8) (omega (arith, length-drop (8 * (i / 8)) bytes)))
+    (λ (h : n ≤ i / 8). ap (λ (w : ℕ). get_or (to_be_bytes w64 w) (i % 8) 0) (zeros (i / 8) h l) ∙ zero_there (i % 8)) (cases_lt (i / 8) n)))
+    (λ (l : length words ≤ i / 8). get_or-eq_default (bytes_in words) 0 (omega (arith, bytes_long words))) (cases_lt (i / 8) (length words))

@@ -6,7 +6,7 @@ use Rattle.ca_model.specs.Event.{Event, Write, WriteNew, Change}
 use Rattle.ca_model.specs.History.{Put}
 use Rattle.ca_node.specs.Links.{IsIn}
 use Rattle.ca_node.specs.Row.{items, object, key}
-use Rattle.ca_node.specs.Told.{MyTree, IsBaseNote, IsKnown, Update}
+use Rattle.ca_node.specs.Told.{MyTree, IsBaseNote, IsKnown, Update, one_more_lost}
 use Rattle.ca_node.specs.TreeView.{Note, TreeView}
 use Rattle.ca_base.specs.declared.taking.NoRow.{NoRow}
 use Rattle.ca_base.specs.declared.updating.Putting.{Putting}
@@ -94,10 +94,10 @@ pub record IsShownLast (z : Sizes) (u : TreeView) (base : ℕ) (these : List ℕ
   pub is_base : IsBaseNote z (first_note u.notes)
   pub items_are : items (first_note u.notes).its ≡ these
 
--- The exchange of a base: the call is done, and what the pass has seen then is known of a history; or nothing changed, since the exchange was lost.
+-- The exchange of a base: the call is done, and what the pass has seen then is known of a history; or it was lost, which is counted.
 abbrev pub HasSwapped : Event → Sizes → Bool → TreeView → TreeView → Type 0
 HasSwapped event z true u v = HasDone event u v × IsKnown z v
-HasSwapped event z false u v = v ≡ u
+HasSwapped event z false u v = v ≡ one_more_lost u
 
 -- The same, or no row was free.
 abbrev pub HasTried : Event → Sizes → Result Bool NoRow → TreeView → TreeView → Type 0

@@ -3,24 +3,30 @@ use Rattle.std.specs.Prelude.{◌≡◌, ◌≢◌, ◌⊎◌, ℕ, ◌<◌, ◌
 use Rattle.std.specs.Global.{Global}
 use mathlib.Core.Option.{some}
 use Rattle.ca_node.specs.Links.{IsIn}
+use Rattle.ca_node.specs.TreeView.{TreeView}
 use Rattle.ca_base.specs.declared.taking.NoRow.{NoRow}
 use Rattle.ca_rows.specs.declared.kept.Kept.{Kept}
 use Rattle.ca_rows.specs.declared.view.Claim.{Claim}
 use Rattle.ca_rows.specs.declared.view.Claim.TheVariants.{Holds, Unlinked, Keeps}
 use Rattle.ca_rows.specs.declared.view.Claimed.{Claimed}
-use Rattle.ca_rows.specs.Claims.{claim_of}
+use Rattle.ca_rows.specs.declared.view.View.{View}
+use Rattle.ca_rows.specs.Claims.{claim_of, held_count}
 use Rattle.ca_rows.specs.Kept.{AreKept}
 
 -- By these claims a seat holds these rows, and has no others but those that it keeps, which are those of the list.
-pub record AreHeld (rows : ℕ) (kept : Vec Kept Global) (claims : List Claimed) (held : List ℕ) : Type 0 where
+pub record HasHeld (rows : ℕ) (kept : Vec Kept Global) (claims : List Claimed) (held : List ℕ) : Type 0 where
   pub are_kept : AreKept rows claims kept
   pub only : (row : ℕ) (c : Claim) → claim_of claims row ≡ some c → ((at : ℕ) × (c ≡ Keeps at)) ⊎ IsIn row held
   pub each : (row : ℕ) → IsIn row held → (0 < row) × (row ≤ rows) × ((its : List ℕ) × (length its ≡ 136) × (claim_of claims row ≡ some (Holds its)))
 
--- No row of the list is in it twice.
-abbrev pub AreApart : List ℕ → Type 0
-AreApart [] = Unit {0}
-AreApart (row ∷ rows) = (¬ IsIn row rows) × AreApart rows
+-- The seat holds so many rows at most, and never held more than eight at once.
+pub record HoldsFew (count : ℕ) (view : View TreeView) : Type 0 where
+  pub now : held_count view.claims ≤ count
+  pub ever : view.most ≤ 8
+
+-- A seat holds these rows, each once, and has no others but those that it keeps.
+abbrev pub AreHeld : ℕ → Vec Kept Global → View TreeView → List ℕ → Type 0
+AreHeld rows kept view held = HasHeld rows kept view.claims held × HoldsFew (length held) view
 
 -- One row more is held, or none.
 abbrev pub HasTaken : Result ℕ NoRow → List ℕ → (List ℕ → Type 0) → Type 0
@@ -33,7 +39,11 @@ HasTakenTwo (Ok two) Now = (two.0 ≢ two.1) × Now (two.0 ∷ two.1 ∷ [])
 HasTakenTwo (Err why) Now = Now []
 
 -- By these claims a seat unlinked these rows, and has no others but those that it keeps, which are those of the list.
-pub record AreUnlinked (rows : ℕ) (kept : Vec Kept Global) (claims : List Claimed) (out : List ℕ) : Type 0 where
+pub record HasUnlinked (rows : ℕ) (kept : Vec Kept Global) (claims : List Claimed) (out : List ℕ) : Type 0 where
   pub are_kept : AreKept rows claims kept
   pub only : (row : ℕ) (c : Claim) → claim_of claims row ≡ some c → ((at : ℕ) × (c ≡ Keeps at)) ⊎ IsIn row out
   pub each : (row : ℕ) → IsIn row out → claim_of claims row ≡ some Unlinked
+
+-- A seat unlinked these rows, and has no others but those that it keeps.
+abbrev pub AreUnlinked : ℕ → Vec Kept Global → View TreeView → List ℕ → Type 0
+AreUnlinked rows kept view out = HasUnlinked rows kept view.claims out × HoldsFew 0 view

@@ -1,9 +1,9 @@
 -- Rows that a seat holds, and what is written into them.
-use Rattle.std.specs.Prelude.{◌≡◌, ◌≢◌, ℕ, ◌+◌, ◌*◌, ◌<◌, ◌≤◌, List, length, take, drop, slice_index, slice_range}
+use Rattle.std.specs.Prelude.{◌≡◌, ◌≢◌, ℕ, ◌+◌, ◌*◌, ◌<◌, ◌≤◌, List, length, take, drop, slice_index, slice_set, slice_range}
 use Rattle.std.specs.Int.{to_be_bytes, w64}
 use mathlib.Core.Option.{some}
 use Rattle.ca_rows.specs.declared.view.Claim.TheVariants.{Holds}
-use Rattle.ca_rows.specs.Claims.{claim_of}
+use Rattle.ca_rows.specs.Claims.{claim_of, held_count}
 use Rattle.ca_node.specs.Told.{MyTree}
 use Rattle.ca_node.specs.Row.{IsObjectRow, IsBaseRow, items, count, level, mark, object, key}
 
@@ -11,10 +11,16 @@ use Rattle.ca_node.specs.Row.{IsObjectRow, IsBaseRow, items, count, level, mark,
 abbrev pub IsHeld : MyTree → ℕ → Type 0
 IsHeld m row = (its : List ℕ) × (length its ≡ 136) × (claim_of m.0.claims row ≡ some (Holds its))
 
--- The seat holds the row with these words now, and its other rows as before.
+-- The seat holds the row with these words now, and its other rows as before. Nothing else changed.
 pub record IsRewritten (row : ℕ) (its : List ℕ) (m m' : MyTree) : Type 0 where
   pub here : claim_of m'.0.claims row ≡ some (Holds its)
   pub others : (r : ℕ) → r ≢ row → claim_of m'.0.claims r ≡ claim_of m.0.claims r
+  pub no_more : held_count m'.0.claims ≤ held_count m.0.claims
+  pub only : m' ≡ (record m.0 { claims = m'.0.claims }, m.1)
+
+-- The seat holds the row with this word set, and with its other words as before.
+abbrev pub HasSet : ℕ → ℕ → ℕ → MyTree → MyTree → Type 0
+HasSet row index value m m' = (its : List ℕ) → claim_of m.0.claims row ≡ some (Holds its) → IsRewritten row (slice_set its index value) m m'
 
 -- Of the words so many were written, from one on: the one at each place is as said, and the words before and behind are as they were.
 pub record IsFilled (at count : ℕ) (says : ℕ → ℕ → Type 0) (its new : List ℕ) : Type 0 where

@@ -6,6 +6,7 @@ mod comparing;
 mod place;
 mod reading;
 mod removing;
+mod spending;
 mod swapping;
 mod taking;
 mod updating;

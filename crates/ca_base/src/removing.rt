@@ -4,6 +4,7 @@ ghost use Rattle.ca_model.proofs.Places.{IsPlace};
 ghost use Rattle.ca_model.specs.Event.{Remove};
 ghost use Rattle.ca_model.specs.StoreMap.{IsStoreMap};
 ghost use Rattle.ca_node.specs.Row.{pair};
+ghost use Rattle.ca_base.specs.Counting.{IsSpent, HasEnded};
 ghost use Rattle.ca_base.specs.Putting.{object_at, IsShownLast, HasTried, first_note};
 ghost use Rattle.ca_base.specs.Taking.{AreHeld};
 ghost use Rattle.ca_rows.specs.Calls.{IsOf, IsSame};
@@ -12,12 +13,13 @@ use crate::swapping::{Deed, STATISTIC, swap_in};
 use crate::taking::{NoRow, take};
 use crate::writing::write_base;
 use ca_leaf::{Items, without};
+use ca_model::Spent;
 use ca_node::{TreePass, TreeSpace};
 use std::marker::Brand;
 use std::slice::from_ref;
 
 /// Takes the object with this key, which stands at this place, out of the base that was shown last, by one exchange, which enters the call in the
-/// log. False where the exchange was lost; then nothing changed.
+/// log. False where the exchange was lost.
 pub fn remove_at(
     space: &TreeSpace,
     pass: &mut TreePass,
@@ -25,11 +27,12 @@ pub fn remove_at(
     items: &Items,
     at: u32,
     _key: &[u8],
+    spent: &mut Spent,
 ) -> Result<bool, NoRow>
     requires own { IsOf space.now.table.shared.table_id space.now.table.shared.key pass.old.seat }
     requires pinned { pass.old.seat.me.0.pin.pinned ≡ true }
     requires number { 0 < pass.old.seat.me.0.upper.number }
-    requires none { AreHeld space.now.table.shared.key.rows pass.old.kept.rows pass.old.seat.me.0.claims [] }
+    requires none { AreHeld space.now.table.shared.key.rows pass.old.kept.rows pass.old.seat.me.0 [] }
     requires leaf { space.now.table.shared.key.leaf ≤ 120 }
     requires shown { IsShownLast space.now.table.shared.key pass.old.seat.me.0.upper base items.now.items }
     requires ordered { IsStoreMap space.now.table.shared.key.keypos (map pair (first_note pass.old.seat.me.0.upper.notes).objects) }
@@ -37,11 +40,13 @@ pub fn remove_at(
     ensures same { IsSame pass.old.seat pass.new.seat }
     ensures number { pass.new.number ≡ pass.old.number }
     ensures pin { (pass.new.seat.me.0.sizes ≡ pass.old.seat.me.0.sizes) × (pass.new.seat.me.0.pin ≡ pass.old.seat.me.0.pin) }
-    ensures none { AreHeld space.now.table.shared.key.rows pass.new.kept.rows pass.new.seat.me.0.claims [] }
+    ensures none { AreHeld space.now.table.shared.key.rows pass.new.kept.rows pass.new.seat.me.0 [] }
     ensures removed { HasTried (Remove _key.now (Some (object_at (Ok at) (first_note pass.old.seat.me.0.upper.notes).objects)))
         space.now.table.shared.key result pass.old.seat.me.0.upper pass.new.seat.me.0.upper }
+    ensures counted { IsSpent spent.old spent.new pass.old.seat.me pass.new.seat.me }
+    ensures found { HasEnded result pass.old.seat.me pass.new.seat.me }
 {
-    let new = match take(space, pass) {
+    let new = match take(space, pass, spent) {
         Ok(row) => row,
         Err(why) => return Err(why),
     };
@@ -49,5 +54,5 @@ pub fn remove_at(
     write_base(space, pass, new, fewer.as_slice(), STATISTIC);
     let goes = from_ref(&items[at as usize]);
     let deed = Deed::Remove(at);
-    Ok(swap_in::<Brand>(space, pass, base, new, &[], goes, deed))
+    Ok(swap_in::<Brand>(space, pass, base, new, &[], goes, deed, spent))
 }

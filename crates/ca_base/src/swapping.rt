@@ -1,13 +1,17 @@
 //! A base that a pass wrote takes the place of the one that it was shown last.
-ghost use Rattle.std.specs.Prelude.{◌≡◌, ◌<◌, ◌≤◌, ℕ, List, [], ◌∷◌};
+ghost use Rattle.std.specs.Prelude.{◌≡◌, ◌<◌, ◌≤◌, ℕ, List, [], ◌∷◌, Ok};
 ghost use Rattle.ca_node.specs.Links.{IsIn};
 ghost use Rattle.ca_node.specs.Told.{IsUpdate};
+ghost use Rattle.ca_node.proofs.HeldRows.{AreApart};
+ghost use Rattle.ca_base.specs.Counting.{losses, IsSpent, HasEnded, HasMet};
 ghost use Rattle.ca_base.specs.Putting.{HasSwapped};
-ghost use Rattle.ca_base.specs.Taking.{AreApart, AreHeld, AreUnlinked};
+ghost use Rattle.ca_base.specs.Taking.{AreHeld, AreUnlinked};
 ghost use Rattle.ca_rows.specs.Calls.{IsOf, IsSame, IsStill};
 
+use crate::spending::lose;
 use crate::taking::give_back;
 use crate::updating::Putting;
+use ca_model::Spent;
 use ca_node::{Intent, TreePass, TreeSpace, replace_base};
 
 /// What an update does. The code hands it on and never looks at it: a proof names the update by it.
@@ -32,21 +36,25 @@ pub(crate) fn swap_in<K: Intent>(
     comes: &[u32],
     goes: &[u32],
     _deed: Deed,
+    spent: &mut Spent,
 ) -> bool
     requires own { IsOf space.now.table.shared.table_id space.now.table.shared.key pass.old.seat }
     requires update { IsUpdate space.now.table.shared.key pass.old.seat.me new K.update }
     requires rows { (K.update.old.row ≡ base) × (K.update.comes ≡ comes.now) × (K.update.goes ≡ goes.now) }
     requires apart { AreApart (new ∷ comes.now) × AreApart goes.now }
-    requires held { AreHeld space.now.table.shared.key.rows pass.old.kept.rows pass.old.seat.me.0.claims (new ∷ comes.now) }
+    requires held { AreHeld space.now.table.shared.key.rows pass.old.kept.rows pass.old.seat.me.0 (new ∷ comes.now) }
     ensures same { IsSame pass.old.seat pass.new.seat }
     ensures number { pass.new.number ≡ pass.old.number }
     ensures pin { (pass.new.seat.me.0.sizes ≡ pass.old.seat.me.0.sizes) × (pass.new.seat.me.0.pin ≡ pass.old.seat.me.0.pin) }
-    ensures none { AreHeld space.now.table.shared.key.rows pass.new.kept.rows pass.new.seat.me.0.claims [] }
+    ensures none { AreHeld space.now.table.shared.key.rows pass.new.kept.rows pass.new.seat.me.0 [] }
     ensures done { HasSwapped K.update.event space.now.table.shared.key result pass.old.seat.me.0.upper pass.new.seat.me.0.upper }
+    ensures counted { IsSpent spent.old spent.new pass.old.seat.me pass.new.seat.me }
+    ensures found { HasEnded (Ok result) pass.old.seat.me pass.new.seat.me }
 {
     if !replace_base::<K>(space, pass, base, new) {
-        give_back(space, pass, new);
-        give_back_all(space, pass, comes);
+        lose(spent);
+        give_back(space, pass, new, spent);
+        give_back_all(space, pass, comes, spent);
         return false;
     }
     retire_unlinked(space, pass, base);
@@ -55,16 +63,18 @@ pub(crate) fn swap_in<K: Intent>(
 }
 
 // Puts rows back that the pass holds.
-fn give_back_all(space: &TreeSpace, pass: &mut TreePass, rows: &[u32])
+fn give_back_all(space: &TreeSpace, pass: &mut TreePass, rows: &[u32], spent: &mut Spent)
     requires own { IsOf space.now.table.shared.table_id space.now.table.shared.key pass.old.seat }
     requires apart { AreApart rows.now }
-    requires held { AreHeld space.now.table.shared.key.rows pass.old.kept.rows pass.old.seat.me.0.claims rows.now }
+    requires held { AreHeld space.now.table.shared.key.rows pass.old.kept.rows pass.old.seat.me.0 rows.now }
     ensures same { IsStill pass.old.seat pass.new.seat }
     ensures number { pass.new.number ≡ pass.old.number }
-    ensures none { AreHeld space.now.table.shared.key.rows pass.new.kept.rows pass.new.seat.me.0.claims [] }
+    ensures none { AreHeld space.now.table.shared.key.rows pass.new.kept.rows pass.new.seat.me.0 [] }
+    ensures counted { IsSpent spent.old spent.new pass.old.seat.me pass.new.seat.me }
+    ensures met { HasMet 0 0 pass.old.seat.me pass.new.seat.me }
 {
     for at in 0..rows.len() {
-        give_back(space, pass, rows[at]);
+        give_back(space, pass, rows[at], spent);
     }
 }
 
@@ -72,10 +82,11 @@ fn give_back_all(space: &TreeSpace, pass: &mut TreePass, rows: &[u32])
 fn retire_all(space: &TreeSpace, pass: &mut TreePass, rows: &[u32])
     requires own { IsOf space.now.table.shared.table_id space.now.table.shared.key pass.old.seat }
     requires apart { AreApart rows.now }
-    requires unlinked { AreUnlinked space.now.table.shared.key.rows pass.old.kept.rows pass.old.seat.me.0.claims rows.now }
+    requires unlinked { AreUnlinked space.now.table.shared.key.rows pass.old.kept.rows pass.old.seat.me.0 rows.now }
     ensures same { IsStill pass.old.seat pass.new.seat }
     ensures number { pass.new.number ≡ pass.old.number }
-    ensures none { AreHeld space.now.table.shared.key.rows pass.new.kept.rows pass.new.seat.me.0.claims [] }
+    ensures none { AreHeld space.now.table.shared.key.rows pass.new.kept.rows pass.new.seat.me.0 [] }
+    ensures met { (losses pass.new.seat.me ≡ losses pass.old.seat.me) × HasMet 0 0 pass.old.seat.me pass.new.seat.me }
 {
     for at in 0..rows.len() {
         retire_unlinked(space, pass, rows[at]);
@@ -86,12 +97,13 @@ fn retire_all(space: &TreeSpace, pass: &mut TreePass, rows: &[u32])
 fn retire_unlinked(space: &TreeSpace, pass: &mut TreePass, row: u32)
     requires own { IsOf space.now.table.shared.table_id space.now.table.shared.key pass.old.seat }
     requires unlinked { (rest : List ℕ) × (¬ IsIn row rest)
-        × AreUnlinked space.now.table.shared.key.rows pass.old.kept.rows pass.old.seat.me.0.claims (row ∷ rest) }
+        × AreUnlinked space.now.table.shared.key.rows pass.old.kept.rows pass.old.seat.me.0 (row ∷ rest) }
     ensures same { IsStill pass.old.seat pass.new.seat }
     ensures number { pass.new.number ≡ pass.old.number }
     ensures retired { (rest : List ℕ) → ¬ IsIn row rest
-        → AreUnlinked space.now.table.shared.key.rows pass.old.kept.rows pass.old.seat.me.0.claims (row ∷ rest)
-        → AreUnlinked space.now.table.shared.key.rows pass.new.kept.rows pass.new.seat.me.0.claims rest }
+        → AreUnlinked space.now.table.shared.key.rows pass.old.kept.rows pass.old.seat.me.0 (row ∷ rest)
+        → AreUnlinked space.now.table.shared.key.rows pass.new.kept.rows pass.new.seat.me.0 rest }
+    ensures met { (losses pass.new.seat.me ≡ losses pass.old.seat.me) × HasMet 0 0 pass.old.seat.me pass.new.seat.me }
 {
     space.retire(pass, row);
 }

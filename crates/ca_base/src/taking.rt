@@ -1,9 +1,12 @@
 //! Rows are taken for a call, and put back.
-ghost use Rattle.std.specs.Prelude.{◌≡◌, ◌≤◌, ℕ, List, [], ◌∷◌};
+ghost use Rattle.std.specs.Prelude.{◌≡◌, ◌<◌, ◌≤◌, ℕ, List, [], ◌∷◌, length};
 ghost use Rattle.ca_node.specs.Links.{IsIn};
 ghost use Rattle.ca_rows.specs.Calls.{IsOf, IsStill};
+ghost use Rattle.ca_base.specs.Counting.{IsSpent, HasFound, HasMet};
 ghost use Rattle.ca_base.specs.Taking.{AreHeld, HasTaken, HasTakenTwo};
 
+use crate::spending::lose;
+use ca_model::Spent;
 use ca_node::{TreePass, TreeSpace};
 use ca_rows::Taken;
 
@@ -19,51 +22,68 @@ pub enum NoRow {
 }
 
 /// Takes a free row.
-pub fn take(space: &TreeSpace, pass: &mut TreePass) -> Result<u32, NoRow>
+pub fn take(space: &TreeSpace, pass: &mut TreePass, spent: &mut Spent) -> Result<u32, NoRow>
     requires own { IsOf space.now.table.shared.table_id space.now.table.shared.key pass.old.seat }
     ensures same { IsStill pass.old.seat pass.new.seat }
     ensures number { pass.new.number ≡ pass.old.number }
     ensures kept { pass.new.kept ≡ pass.old.kept }
-    ensures taken { (held : List ℕ) → AreHeld space.now.table.shared.key.rows pass.old.kept.rows pass.old.seat.me.0.claims held → HasTaken result held (AreHeld space.now.table.shared.key.rows pass.new.kept.rows pass.new.seat.me.0.claims) }
+    ensures taken { (held : List ℕ) → length held < 8 → AreHeld space.now.table.shared.key.rows pass.old.kept.rows pass.old.seat.me.0 held
+        → HasTaken result held (AreHeld space.now.table.shared.key.rows pass.new.kept.rows pass.new.seat.me.0) }
+    ensures counted { IsSpent spent.old spent.new pass.old.seat.me pass.new.seat.me }
+    ensures found { HasFound result pass.old.seat.me pass.new.seat.me }
 {
     match space.take_row(pass) {
         Taken::Row(row) => Ok(row),
         Taken::Empty => Err(NoRow::Empty),
-        Taken::Lost => Err(NoRow::Lost),
+        Taken::Lost => {
+            lose(spent);
+            Err(NoRow::Lost)
+        }
         Taken::Worn => Err(NoRow::Worn),
     }
 }
 
 /// Takes two free rows. Where it finds but one, that one is put back.
-pub fn take_two(space: &TreeSpace, pass: &mut TreePass) -> Result<(u32, u32), NoRow>
+pub fn take_two(
+    space: &TreeSpace,
+    pass: &mut TreePass,
+    spent: &mut Spent,
+) -> Result<(u32, u32), NoRow>
     requires own { IsOf space.now.table.shared.table_id space.now.table.shared.key pass.old.seat }
-    requires none { AreHeld space.now.table.shared.key.rows pass.old.kept.rows pass.old.seat.me.0.claims [] }
+    requires none { AreHeld space.now.table.shared.key.rows pass.old.kept.rows pass.old.seat.me.0 [] }
     ensures same { IsStill pass.old.seat pass.new.seat }
     ensures number { pass.new.number ≡ pass.old.number }
-    ensures taken { HasTakenTwo result (AreHeld space.now.table.shared.key.rows pass.new.kept.rows pass.new.seat.me.0.claims) }
+    ensures taken { HasTakenTwo result (AreHeld space.now.table.shared.key.rows pass.new.kept.rows pass.new.seat.me.0) }
+    ensures counted { IsSpent spent.old spent.new pass.old.seat.me pass.new.seat.me }
+    ensures found { HasFound result pass.old.seat.me pass.new.seat.me }
 {
-    let first = match take(space, pass) {
+    let first = match take(space, pass, spent) {
         Ok(row) => row,
         Err(why) => return Err(why),
     };
-    match take(space, pass) {
+    match take(space, pass, spent) {
         Ok(second) => Ok((second, first)),
         Err(why) => {
-            give_back(space, pass, first);
+            give_back(space, pass, first, spent);
             Err(why)
         }
     }
 }
 
 /// Puts a row back that the pass holds. Where that is lost to another pass the row is retired, and so it is kept.
-pub fn give_back(space: &TreeSpace, pass: &mut TreePass, row: u32)
+pub fn give_back(space: &TreeSpace, pass: &mut TreePass, row: u32, spent: &mut Spent)
     requires own { IsOf space.now.table.shared.table_id space.now.table.shared.key pass.old.seat }
-    requires held { (rest : List ℕ) × (¬ IsIn row rest) × AreHeld space.now.table.shared.key.rows pass.old.kept.rows pass.old.seat.me.0.claims (row ∷ rest) }
+    requires held { (rest : List ℕ) × (¬ IsIn row rest)
+        × AreHeld space.now.table.shared.key.rows pass.old.kept.rows pass.old.seat.me.0 (row ∷ rest) }
     ensures same { IsStill pass.old.seat pass.new.seat }
     ensures number { pass.new.number ≡ pass.old.number }
-    ensures given { (rest : List ℕ) → ¬ IsIn row rest → AreHeld space.now.table.shared.key.rows pass.old.kept.rows pass.old.seat.me.0.claims (row ∷ rest) → AreHeld space.now.table.shared.key.rows pass.new.kept.rows pass.new.seat.me.0.claims rest }
+    ensures given { (rest : List ℕ) → ¬ IsIn row rest → AreHeld space.now.table.shared.key.rows pass.old.kept.rows pass.old.seat.me.0 (row ∷ rest)
+        → AreHeld space.now.table.shared.key.rows pass.new.kept.rows pass.new.seat.me.0 rest }
+    ensures counted { IsSpent spent.old spent.new pass.old.seat.me pass.new.seat.me }
+    ensures met { HasMet 0 0 pass.old.seat.me pass.new.seat.me }
 {
     if !space.put_row(pass, row) {
+        lose(spent);
         space.retire(pass, row);
     }
 }

@@ -4,6 +4,7 @@ ghost use Rattle.arrayvec.specs.ArrayVec.{array_vec_len};
 ghost use Rattle.ca_model.proofs.Places.{IsPlace};
 ghost use Rattle.ca_model.specs.StoreMap.{IsPair};
 ghost use Rattle.ca_node.specs.Row.{pair};
+ghost use Rattle.ca_base.specs.Counting.{IsSpent, HasEnded};
 ghost use Rattle.ca_base.specs.Putting.{put_in, gone as gone_at, object_at, IsRoom, IsPlaceFor, IsFor, IsShownLast, HasTried, first_note, put_event};
 ghost use Rattle.ca_base.specs.Taking.{AreHeld};
 ghost use Rattle.ca_rows.specs.Calls.{IsOf, IsSame};
@@ -12,6 +13,7 @@ use crate::swapping::{Deed, STATISTIC, swap_in};
 use crate::taking::{NoRow, take_two};
 use crate::writing::{write_base, write_object};
 use ca_leaf::{Items, with};
+use ca_model::Spent;
 use ca_node::{TreePass, TreeSpace};
 use std::marker::Brand;
 use std::slice::from_ref;
@@ -28,7 +30,7 @@ pub enum Putting {
 }
 
 /// Puts an object into the base that was shown last, at its key's place, by one exchange, which enters the call in the log. False where the exchange
-/// was lost; then nothing changed.
+/// was lost.
 pub fn put_at(
     space: &TreeSpace,
     pass: &mut TreePass,
@@ -39,11 +41,12 @@ pub fn put_at(
     object: &[u8],
     key_at: usize,
     key_end: usize,
+    spent: &mut Spent,
 ) -> Result<bool, NoRow>
     requires own { IsOf space.now.table.shared.table_id space.now.table.shared.key pass.old.seat }
     requires pinned { pass.old.seat.me.0.pin.pinned ≡ true }
     requires number { 0 < pass.old.seat.me.0.upper.number }
-    requires none { AreHeld space.now.table.shared.key.rows pass.old.kept.rows pass.old.seat.me.0.claims [] }
+    requires none { AreHeld space.now.table.shared.key.rows pass.old.kept.rows pass.old.seat.me.0 [] }
     requires leaf { space.now.table.shared.key.leaf ≤ 120 }
     requires shown { IsShownLast space.now.table.shared.key pass.old.seat.me.0.upper base items.now.items }
     requires room { IsRoom place (array_vec_len items.now) space.now.table.shared.key.leaf }
@@ -54,10 +57,12 @@ pub fn put_at(
     ensures same { IsSame pass.old.seat pass.new.seat }
     ensures number { pass.new.number ≡ pass.old.number }
     ensures pin { (pass.new.seat.me.0.sizes ≡ pass.old.seat.me.0.sizes) × (pass.new.seat.me.0.pin ≡ pass.old.seat.me.0.pin) }
-    ensures none { AreHeld space.now.table.shared.key.rows pass.new.kept.rows pass.new.seat.me.0.claims [] }
+    ensures none { AreHeld space.now.table.shared.key.rows pass.new.kept.rows pass.new.seat.me.0 [] }
     ensures put { HasTried (put_event why (slice_range object.now key_at key_end) (object_at place (first_note pass.old.seat.me.0.upper.notes).objects) object.now) space.now.table.shared.key result pass.old.seat.me.0.upper pass.new.seat.me.0.upper }
+    ensures counted { IsSpent spent.old spent.new pass.old.seat.me pass.new.seat.me }
+    ensures found { HasEnded result pass.old.seat.me pass.new.seat.me }
 {
-    let (new, row) = match take_two(space, pass) {
+    let (new, row) = match take_two(space, pass, spent) {
         Ok(rows) => rows,
         Err(why) => return Err(why),
     };
@@ -66,7 +71,7 @@ pub fn put_at(
     write_base(space, pass, new, more.as_slice(), STATISTIC);
     let deed = Deed::Put(why, place, row);
     let goes = gone(items, place);
-    Ok(swap_in::<Brand>(space, pass, base, new, &[row], goes, deed))
+    Ok(swap_in::<Brand>(space, pass, base, new, &[row], goes, deed, spent))
 }
 
 // The items with this one put at the place, in the place of another one or between two.

@@ -2,7 +2,7 @@
 ghost use Rattle.std.specs.Prelude.{◌≡◌, ◌+◌, ◌-◌, ◌*◌, ◌/◌, ◌%◌, ◌<◌, ◌≤◌, ℕ, List, length, slice_index};
 ghost use Rattle.ca_node.specs.Row.{IsBaseRow};
 ghost use Rattle.ca_rows.specs.Calls.{IsOf, IsStill};
-ghost use Rattle.ca_base.specs.Writing.{IsHeld, HasFilled, HasBytes, HasEight, SpellsObject, SpellsBase, HasWritten};
+ghost use Rattle.ca_base.specs.Writing.{IsHeld, HasSet, HasFilled, HasBytes, HasEight, SpellsObject, SpellsBase, HasWritten};
 
 use ca_node::{TreePass, TreeSpace};
 
@@ -11,8 +11,8 @@ const OBJECT: u64 = 1 << 56;
 
 const BASE: u64 = 2 << 56;
 
-/// Writes an object row: the first word, and the object's bytes, eight a word, with zeros behind their end in the last one. Its key stands in
-/// it from `key_at` to `key_end`.
+/// Writes an object row: the first word, and the object's bytes, eight a word, with zeros behind their end to the end of the row. Its key stands
+/// in it from `key_at` to `key_end`.
 pub fn write_object(
     space: &TreeSpace,
     pass: &mut TreePass,
@@ -33,6 +33,7 @@ pub fn write_object(
     let form = object_form(object.len(), key_at, key_end);
     space.write_word(pass, row, 0, form);
     write_bytes(space, pass, row, object);
+    clear(space, pass, row, 11 + object.len().div_ceil(8));
 }
 
 /// Writes a base row of level 0 without a mark: its items, and the word for its statistic.
@@ -63,7 +64,37 @@ fn object_form(length: usize, key_at: usize, key_end: usize) -> u64
     OBJECT + key_length * 4_294_967_296 + key_at as u64 * 65_536 + length as u64
 }
 
-// Writes words from the first one on.
+// Sets a word. It isn't stored where it is that number already, since a load takes an eighth of the time.
+fn set_word(space: &TreeSpace, pass: &mut TreePass, row: u32, index: u32, value: u64)
+    requires own { IsOf space.now.table.shared.table_id space.now.table.shared.key pass.old.seat }
+    requires held { IsHeld pass.old.seat.me row }
+    requires inside { (row ≤ space.now.table.shared.key.rows) × (index < 136) }
+    ensures same { IsStill pass.old.seat pass.new.seat }
+    ensures number { pass.new.number ≡ pass.old.number }
+    ensures kept { pass.new.kept ≡ pass.old.kept }
+    ensures set { HasSet row index value pass.old.seat.me pass.new.seat.me }
+{
+    if space.read_word(pass, row, index) != value {
+        space.write_word(pass, row, index, value);
+    }
+}
+
+// Sets the words from one on to 0.
+fn clear(space: &TreeSpace, pass: &mut TreePass, row: u32, from: usize)
+    requires own { IsOf space.now.table.shared.table_id space.now.table.shared.key pass.old.seat }
+    requires held { IsHeld pass.old.seat.me row }
+    requires inside { (row ≤ space.now.table.shared.key.rows) × (from ≤ 136) }
+    ensures same { IsStill pass.old.seat pass.new.seat }
+    ensures number { pass.new.number ≡ pass.old.number }
+    ensures kept { pass.new.kept ≡ pass.old.kept }
+    ensures filled { HasFilled row from (136 - from) (λ _ word. word ≡ 0) pass.old.seat.me pass.new.seat.me }
+{
+    for place in from..136 {
+        set_word(space, pass, row, place as u32, 0);
+    }
+}
+
+// Sets words from the first one on.
 fn write_words(space: &TreeSpace, pass: &mut TreePass, row: u32, words: &[u64])
     requires own { IsOf space.now.table.shared.table_id space.now.table.shared.key pass.old.seat }
     requires held { IsHeld pass.old.seat.me row }
@@ -75,7 +106,7 @@ fn write_words(space: &TreeSpace, pass: &mut TreePass, row: u32, words: &[u64])
     ensures filled { HasFilled row 0 (length words.now) (λ k word. word ≡ slice_index words.now k) pass.old.seat.me pass.new.seat.me }
 {
     for place in 0..words.len() {
-        space.write_word(pass, row, place as u32, words[place]);
+        set_word(space, pass, row, place as u32, words[place]);
     }
 }
 

@@ -1,4 +1,4 @@
-use Rattle.std.proofs.Common.{◌≡◌, ℕ, List, [], ◌∷◌, ◌∙◌, subst}
+use Rattle.std.proofs.Common.{◌≡◌, ℕ, List, [], ◌∷◌, ◌∙◌, subst, arith}
 use Rattle.std.specs.List.{remove}
 use Rattle.ca_node.proofs.Members.{in_first}
 use Rattle.ca_base.specs.Writing.{SpellsBase}
@@ -7,18 +7,18 @@ use Rattle.ca_base.proofs.Unlinking.{written_row}
 use Rattle.ca_base.proofs.removing.remove_at.Goals as goal
 
 pub returns-in-Err-clause-none : goal.returns-in-Err-clause-none
-returns-in-Err-clause-none c = c.in-Err.ensures.taken [] c.requires.none
+returns-in-Err-clause-none c = c.in-Err.ensures.taken [] (omega arith) c.requires.none
 
 pub write_base-requires-clause-held : goal.write_base-requires-clause-held
-write_base-requires-clause-held c = ((c.in-Ok.ensures.taken [] c.requires.none).1.each c.in-Ok.row (in_first c.in-Ok.row [])).2
+write_base-requires-clause-held c = ((c.in-Ok.ensures.taken [] (omega arith) c.requires.none).1.0.each c.in-Ok.row (in_first c.in-Ok.row [])).2
 
 pub write_base-requires-clause-inside : goal.write_base-requires-clause-inside
-write_base-requires-clause-inside c = ((c.in-Ok.ensures.taken [] c.requires.none).1.each c.in-Ok.row (in_first c.in-Ok.row [])).1
+write_base-requires-clause-inside c = ((c.in-Ok.ensures.taken [] (omega arith) c.requires.none).1.0.each c.in-Ok.row (in_first c.in-Ok.row [])).1
 
 pub swap_in-requires-clause-held : goal.swap_in-requires-clause-held
 swap_in-requires-clause-held c = let v = c.write_base.ensures.written in
     written_row c.args.space.now.table.shared.key.rows c.take.new.pass.kept c.write_base.new.pass.kept c.take.new.pass.seat.me c.write_base.new.pass.seat.me
-    (c.in-Ok.row ∷ []) c.in-Ok.row v.0 (in_first c.in-Ok.row []) v.1.long v.2 c.write_base.ensures.kept (c.in-Ok.ensures.taken [] c.requires.none).1
+    (c.in-Ok.row ∷ []) c.in-Ok.row v.0 (in_first c.in-Ok.row []) v.1.long v.2 c.write_base.ensures.kept (c.in-Ok.ensures.taken [] (omega arith) c.requires.none).1
 
 pub swap_in-requires-clause-update : goal.swap_in-requires-clause-update
 swap_in-requires-clause-update c = let v = c.write_base.ensures.written in let r = c.requires in

@@ -1,4 +1,5 @@
 use Rattle.std.proofs.Common.{◌≡◌, drop}
+use Rattle.ca_base.specs.Counting.{losses, HasMet}
 use Rattle.ca_base.specs.Taking.{AreUnlinked}
 use Rattle.ca_rows.specs.Calls.{IsOf, IsStill}
 use Rattle.ca_base.proofs.swapping.retire_all.Given as goal
@@ -8,5 +9,6 @@ invariant-loop-at l = record {
   own : IsOf l.space.table.shared.table_id l.space.table.shared.key l.pass.seat;
   still : IsStill l.fn.pass.seat l.pass.seat;
   number : l.pass.number ≡ l.fn.pass.number;
-  unlinked : AreUnlinked l.space.table.shared.key.rows l.pass.kept.rows l.pass.seat.me.0.claims (drop l.at l.rows);
+  unlinked : AreUnlinked l.space.table.shared.key.rows l.pass.kept.rows l.pass.seat.me.0 (drop l.at l.rows);
+  met : (losses l.pass.seat.me ≡ losses l.fn.pass.seat.me) × HasMet 0 0 l.fn.pass.seat.me l.pass.seat.me;
 }

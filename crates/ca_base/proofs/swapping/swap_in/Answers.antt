@@ -1,27 +1,33 @@
 use Rattle.std.proofs.Common.{◌∷◌, ap, ◌∙◌}
-use Rattle.ca_base.proofs.Unlinking.{held_moved, swapped, is_done}
+use Rattle.ca_base.specs.Counting.{losses}
+use Rattle.ca_base.proofs.Counts.{none_spent}
+use Rattle.ca_base.proofs.Unlinking.{held_still, swapped, is_done}
 use Rattle.ca_base.proofs.swapping.swap_in.Goals as goal
 
 pub give_back_all-requires-clause-held : goal.give_back_all-requires-clause-held
 give_back_all-requires-clause-held g c = c.give_back.ensures.given c.args.comes.now c.requires.apart.0.0
-    (held_moved c.args.space.now.table.shared.key.rows c.args.pass.now.kept c.replace_base.new.pass.kept c.args.pass.now.seat.me c.replace_base.new.pass.seat.me
+    (held_still c.args.space.now.table.shared.key.rows c.args.pass.now.kept c.replace_base.new.pass.kept c.args.pass.now.seat.me c.replace_base.new.pass.seat.me
     (c.args.new ∷ c.args.comes.now) c.if-not-replace_base.ensures.done c.replace_base.ensures.kept c.requires.held)
 
 pub retire_unlinked-requires-clause-unlinked : goal.retire_unlinked-requires-clause-unlinked
 retire_unlinked-requires-clause-unlinked g c = let r = c.requires.rows in
     let now = swapped c.args.space.now.table.shared.key.rows c.args.pass.now.kept c.replace_base.new.pass.kept c.args.pass.now.seat.me
     c.replace_base.new.pass.seat.me c.args.new g.K.Intent.update c.args.base (c.args.new ∷ c.args.comes.now) c.args.goes.now
-    (ap (λ xs. c.args.new ∷ xs) r.1) r.0 r.2 c.if-not-replace_base.ensures.done c.replace_base.ensures.kept c.requires.held in
+    (ap (λ xs. c.args.new ∷ xs) r.1) r.0 r.2 c.if-not-replace_base.ensures.done c.replace_base.ensures.kept c.requires.apart.0 c.requires.held in
     (c.args.goes.now, now.0, now.1)
 
 pub retire_all-requires-clause-unlinked : goal.retire_all-requires-clause-unlinked
 retire_all-requires-clause-unlinked g c = let r = c.requires.rows in
     let now = swapped c.args.space.now.table.shared.key.rows c.args.pass.now.kept c.replace_base.new.pass.kept c.args.pass.now.seat.me
     c.replace_base.new.pass.seat.me c.args.new g.K.Intent.update c.args.base (c.args.new ∷ c.args.comes.now) c.args.goes.now
-    (ap (λ xs. c.args.new ∷ xs) r.1) r.0 r.2 c.if-not-replace_base.ensures.done c.replace_base.ensures.kept c.requires.held in
+    (ap (λ xs. c.args.new ∷ xs) r.1) r.0 r.2 c.if-not-replace_base.ensures.done c.replace_base.ensures.kept c.requires.apart.0 c.requires.held in
     c.retire_unlinked.ensures.retired c.args.goes.now now.0 now.1
 
 pub returns-clause-done : goal.returns-clause-done
 returns-clause-done g c = is_done c.args.space.now.table.shared.key c.args.new g.K.Intent.update c.args.pass.now.seat.me c.replace_base.new.pass.seat.me
     c.retire_all.new.pass.seat.me.0.upper c.requires.own.1 c.args.space.now.few.0 c.requires.update.does c.if-not-replace_base.ensures.done
     (c.retire_all.ensures.same.4 ∙ c.retire_unlinked.ensures.same.4)
+
+pub returns-clause-counted : goal.returns-clause-counted
+returns-clause-counted g c = none_spent c.args.spent.now c.args.pass.now.seat.me c.retire_all.new.pass.seat.me
+    (c.retire_all.ensures.met.0 ∙ (c.retire_unlinked.ensures.met.0 ∙ ap losses c.if-not-replace_base.ensures.done.now))

@@ -1,8 +1,19 @@
 use Rattle.std.proofs.Common.{ap}
+use Rattle.ca_base.specs.Counting.{losses}
+use Rattle.ca_base.proofs.Counts.{none_spent}
 use Rattle.ca_base.proofs.Held.{took_row}
 use Rattle.ca_rows.specs.declared.sizes.Sizes.{Sizes}
 use Rattle.ca_base.proofs.taking.take.Goals as goal
 
 pub returns-in-Row-clause-taken : goal.returns-in-Row-clause-taken
-returns-in-Row-clause-taken c held h = took_row c.args.space.now.table.shared.key.rows c.args.pass.now.kept c.take_row.new.pass.kept c.args.pass.now.seat.me
-    c.take_row.new.pass.seat.me c.in-Row.row (ap (λ (z : Sizes). z.rows) c.requires.own.1) c.in-Row.ensures.row c.take_row.ensures.kept held h
+returns-in-Row-clause-taken c held few h = took_row c.args.space.now.table.shared.key.rows c.args.pass.now.kept c.take_row.new.pass.kept c.args.pass.now.seat.me
+    c.take_row.new.pass.seat.me c.in-Row.row (ap (λ (z : Sizes). z.rows) c.requires.own.1) c.in-Row.ensures.row c.take_row.ensures.kept held few h
+
+pub returns-in-Row-clause-counted : goal.returns-in-Row-clause-counted
+returns-in-Row-clause-counted c = none_spent c.args.spent.now c.args.pass.now.seat.me c.take_row.new.pass.seat.me (ap losses c.in-Row.ensures.row.3.2)
+
+pub returns-in-Empty-clause-counted : goal.returns-in-Empty-clause-counted
+returns-in-Empty-clause-counted c = none_spent c.args.spent.now c.args.pass.now.seat.me c.take_row.new.pass.seat.me (ap losses c.in-Empty.ensures.row.1)
+
+pub returns-in-Worn-clause-counted : goal.returns-in-Worn-clause-counted
+returns-in-Worn-clause-counted c = none_spent c.args.spent.now c.args.pass.now.seat.me c.take_row.new.pass.seat.me (ap losses c.in-Worn.ensures.row.2)

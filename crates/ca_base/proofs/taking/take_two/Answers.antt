@@ -1,19 +1,19 @@
-use Rattle.std.proofs.Common.{[], ◌∷◌, ap, refl, sym}
+use Rattle.std.proofs.Common.{[], ◌∷◌, ap, refl, sym, arith}
 use mathlib.Core.Option.{some}
 use Rattle.ca_node.specs.Laws.{in_nothing}
 use Rattle.ca_base.proofs.taking.take_two.Goals as goal
 
 pub returns-in-Err-clause-taken : goal.returns-in-Err-clause-taken
-returns-in-Err-clause-taken c = c.in-Err.ensures.taken [] c.requires.none
+returns-in-Err-clause-taken c = c.in-Err.ensures.taken [] (omega arith) c.requires.none
 
 pub give_back-requires-clause-held : goal.give_back-requires-clause-held
-give_back-requires-clause-held c = let one = c.in-Ok.ensures.taken [] c.requires.none in
-    ([], in_nothing c.in-Ok.row [] refl, c.in-Err-take.ensures.taken (c.in-Ok.row ∷ []) one.1)
+give_back-requires-clause-held c = let one = c.in-Ok.ensures.taken [] (omega arith) c.requires.none in
+    ([], in_nothing c.in-Ok.row [] refl, c.in-Err-take.ensures.taken (c.in-Ok.row ∷ []) (omega arith) one.1)
 
 pub returns-in-Ok-take-clause-taken : goal.returns-in-Ok-take-clause-taken
-returns-in-Ok-take-clause-taken c = let one = c.in-Ok.ensures.taken [] c.requires.none in let two = c.in-Ok-take.ensures.taken (c.in-Ok.row ∷ []) one.1 in
+returns-in-Ok-take-clause-taken c = let one = c.in-Ok.ensures.taken [] (omega arith) c.requires.none in let two = c.in-Ok-take.ensures.taken (c.in-Ok.row ∷ []) (omega arith) one.1 in
     ((λ e. two.0 (0, ap some (sym e))), two.1)
 
 pub returns-in-Err-take-clause-taken : goal.returns-in-Err-take-clause-taken
-returns-in-Err-take-clause-taken c = let one = c.in-Ok.ensures.taken [] c.requires.none in
-    c.give_back.ensures.given [] (in_nothing c.in-Ok.row [] refl) (c.in-Err-take.ensures.taken (c.in-Ok.row ∷ []) one.1)
+returns-in-Err-take-clause-taken c = let one = c.in-Ok.ensures.taken [] (omega arith) c.requires.none in
+    c.give_back.ensures.given [] (in_nothing c.in-Ok.row [] refl) (c.in-Err-take.ensures.taken (c.in-Ok.row ∷ []) (omega arith) one.1)

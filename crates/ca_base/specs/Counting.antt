@@ -1,0 +1,34 @@
+-- What calls count: the exchanges that they lost, and how often they found the pool's head empty or worn.
+use Rattle.std.specs.Prelude.{◌≡◌, ℕ, ◌+◌, ◌-◌, ◌<◌, ◌≤◌, min, Bool, true, false, Result, Ok, Err}
+use Rattle.ca_model.specs.declared.outcome.Spent.{Spent}
+use Rattle.ca_node.specs.Told.{MyTree}
+use Rattle.ca_base.specs.declared.taking.NoRow.{NoRow}
+use Rattle.ca_base.specs.declared.taking.NoRow.TheVariants as why
+
+-- how many exchanges a seat lost: of the pool's head, and of a link
+abbrev pub losses : MyTree → ℕ
+losses m = m.0.lost + m.0.upper.lost
+
+-- The exchanges that were lost were added to what was spent, up to the last number that 32 bits hold. Their number was one of 32 bits before, too.
+pub record IsSpent (before now : Spent) (m m' : MyTree) : Type 0 where
+  pub more : losses m ≤ losses m'
+  pub lost : before.lost ≤ 4294967295 → now.lost ≡ min 4294967295 (before.lost + (losses m' - losses m))
+  pub helped : now.helped ≡ before.helped
+  pub passed : now.passed ≡ before.passed
+
+-- As a row was to be taken, the head was found so many times more empty, and so many times more with its tag at the last value.
+abbrev pub HasMet : ℕ → ℕ → MyTree → MyTree → Type 0
+HasMet empty worn m m' = (m'.0.empty ≡ m.0.empty + empty) × (m'.0.worn ≡ m.0.worn + worn)
+
+-- Why no row was taken, if none was: the head was empty, or its tag could rise no more, or an exchange was lost.
+abbrev pub HasFound : {T : Type 0} → Result T NoRow → MyTree → MyTree → Type 0
+HasFound (Ok x) m m' = HasMet 0 0 m m'
+HasFound (Err why.Empty) m m' = HasMet 1 0 m m'
+HasFound (Err why.Lost) m m' = (losses m < losses m') × HasMet 0 0 m m'
+HasFound (Err why.Worn) m m' = HasMet 0 1 m m'
+
+-- Where the exchange of the base was lost, that is found, too.
+abbrev pub HasEnded : Result Bool NoRow → MyTree → MyTree → Type 0
+HasEnded (Ok true) m m' = HasMet 0 0 m m'
+HasEnded (Ok false) m m' = (losses m < losses m') × HasMet 0 0 m m'
+HasEnded (Err why) m m' = HasFound {T = Bool} (Err why) m m'
