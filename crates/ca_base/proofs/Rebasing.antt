@@ -100,7 +100,8 @@ pub gone_is : (these : List ℕ) (at r : ℕ) → IsIn r (gone (Ok at) these) �
 gone_is these at r i = ⊎_elim (λ e. e) (λ (j : IsIn r []). absurd (in_nothing r [] refl j)) (in_more (get_or these at 0) r [] i)
 
 -- The object at the key's place is found.
-pub is_found_at : (objects : List (List ℕ)) (k : List ℕ) (at : ℕ) → IsAt (map pair objects) k at → IsFound (map pair objects) k (Some (object_at (Ok at) objects))
+pub is_found_at : (objects : List (List ℕ)) (k : List ℕ) (at : ℕ) → IsAt (map pair objects) k at
+    → IsFound (map pair objects) k (Some (object_at (Ok at) objects))
 is_found_at objects k at h = let l = h.in_range in let long = length-map objects pair in
     subst (λ (w : List ℕ). IsFound (map pair objects) k (Some w)) (ap (λ (p : Pair). p.1) (get_or-map pair objects at [] nothing (omega arith)))
     (is_found (map pair objects) k at h)

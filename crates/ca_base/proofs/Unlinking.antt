@@ -117,8 +117,8 @@ swapped rows kept kept' m m' new x base ins outs comes same goes u too apart h =
     subst (λ (y : ℕ × List ℕ). (¬ IsIn y.0 y.1) × AreUnlinked rows kept'.rows m'.0 (y.0 ∷ y.1)) (λ i. (same i, goes i)) (u.apart, now)
 
 -- The call that carried out an update is done.
-pub is_done : (z : Sizes) (new : ℕ) (x : Update) (m m' : MyTree) (v : TreeView) → m.0.sizes ≡ z → 0 < z.rows → effect x.event ≡ x.edit ∷ [] → IsUpdated new x m m'
-    → v ≡ m'.0.upper → HasDone x.event m.0.upper v × IsKnown z v
+pub is_done : (z : Sizes) (new : ℕ) (x : Update) (m m' : MyTree) (v : TreeView) → m.0.sizes ≡ z → 0 < z.rows → effect x.event ≡ x.edit ∷ []
+    → IsUpdated new x m m' → v ≡ m'.0.upper → HasDone x.event m.0.upper v × IsKnown z v
 is_done z new x m m' v sizes some_rows does u same = let w : v ≡ updated m.0.upper u.more new x = same ∙ ap (λ (y : MyTree). y.0.upper) u.now in
     let some_rows' : 0 < m.0.sizes.rows = subst (λ (y : Sizes). 0 < y.rows) (sym sizes) some_rows in
     subst (λ (y : TreeView). HasDone x.event m.0.upper y × IsKnown z y) (sym w) (

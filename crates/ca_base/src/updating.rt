@@ -58,7 +58,9 @@ pub fn put_at(
     ensures number { pass.new.number ≡ pass.old.number }
     ensures pin { (pass.new.seat.me.0.sizes ≡ pass.old.seat.me.0.sizes) × (pass.new.seat.me.0.pin ≡ pass.old.seat.me.0.pin) }
     ensures none { AreHeld space.now.table.shared.key.rows pass.new.kept.rows pass.new.seat.me.0 [] }
-    ensures put { HasTried (put_event why (slice_range object.now key_at key_end) (object_at place (first_note pass.old.seat.me.0.upper.notes).objects) object.now) space.now.table.shared.key result pass.old.seat.me.0.upper pass.new.seat.me.0.upper }
+    ensures put { HasTried
+        (put_event why (slice_range object.now key_at key_end) (object_at place (first_note pass.old.seat.me.0.upper.notes).objects) object.now)
+        space.now.table.shared.key result pass.old.seat.me.0.upper pass.new.seat.me.0.upper }
     ensures counted { IsSpent spent.old spent.new pass.old.seat.me pass.new.seat.me }
     ensures found { HasEnded result pass.old.seat.me pass.new.seat.me }
 {

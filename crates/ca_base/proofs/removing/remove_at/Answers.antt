@@ -18,7 +18,8 @@ write_base-requires-clause-inside c = ((c.in-Ok.ensures.taken [] (omega arith) c
 pub swap_in-requires-clause-held : goal.swap_in-requires-clause-held
 swap_in-requires-clause-held c = let v = c.write_base.ensures.written in
     written_row c.args.space.now.table.shared.key.rows c.take.new.pass.kept c.write_base.new.pass.kept c.take.new.pass.seat.me c.write_base.new.pass.seat.me
-    (c.in-Ok.row ∷ []) c.in-Ok.row v.0 (in_first c.in-Ok.row []) v.1.long v.2 c.write_base.ensures.kept (c.in-Ok.ensures.taken [] (omega arith) c.requires.none).1
+    (c.in-Ok.row ∷ []) c.in-Ok.row v.0 (in_first c.in-Ok.row []) v.1.long v.2 c.write_base.ensures.kept
+    (c.in-Ok.ensures.taken [] (omega arith) c.requires.none).1
 
 pub swap_in-requires-clause-update : goal.swap_in-requires-clause-update
 swap_in-requires-clause-update c = let v = c.write_base.ensures.written in let r = c.requires in

@@ -11,7 +11,8 @@ give_back-requires-clause-held c = let one = c.in-Ok.ensures.taken [] (omega ari
     ([], in_nothing c.in-Ok.row [] refl, c.in-Err-take.ensures.taken (c.in-Ok.row ∷ []) (omega arith) one.1)
 
 pub returns-in-Ok-take-clause-taken : goal.returns-in-Ok-take-clause-taken
-returns-in-Ok-take-clause-taken c = let one = c.in-Ok.ensures.taken [] (omega arith) c.requires.none in let two = c.in-Ok-take.ensures.taken (c.in-Ok.row ∷ []) (omega arith) one.1 in
+returns-in-Ok-take-clause-taken c = let one = c.in-Ok.ensures.taken [] (omega arith) c.requires.none in
+    let two = c.in-Ok-take.ensures.taken (c.in-Ok.row ∷ []) (omega arith) one.1 in
     ((λ e. two.0 (0, ap some (sym e))), two.1)
 
 pub returns-in-Err-take-clause-taken : goal.returns-in-Err-take-clause-taken

@@ -18,7 +18,8 @@ write_object-requires-clause-inside c = let t = c.in-Ok.ensures.taken in
 
 pub put_item-more-requires : goal.put_item-more-requires
 put_item-more-requires c = finds_place c.args.place _ c.args.space.now.table.shared.key.leaf
-    (place_in c.args.space.now.table.shared.key c.args.pass.now.seat.me.0.upper c.args.base c.args.items.now.items c.args.place _ c.requires.shown c.requires.place)
+    (place_in c.args.space.now.table.shared.key c.args.pass.now.seat.me.0.upper c.args.base c.args.items.now.items c.args.place _ c.requires.shown
+    c.requires.place)
     c.requires.room c.requires.leaf
 
 pub write_base-requires-clause-held : goal.write_base-requires-clause-held
@@ -35,8 +36,8 @@ swap_in-requires-clause-held c = let t = c.in-Ok.ensures.taken in let w = c.writ
     written_row c.args.space.now.table.shared.key.rows c.write_object.new.pass.kept c.write_base.new.pass.kept c.write_object.new.pass.seat.me
     c.write_base.new.pass.seat.me rows c.in-Ok.rows.0 v.0 (in_first c.in-Ok.rows.0 (c.in-Ok.rows.1 ∷ [])) v.1.long v.2 c.write_base.ensures.kept
     (written_row c.args.space.now.table.shared.key.rows c.take_two.new.pass.kept c.write_object.new.pass.kept c.take_two.new.pass.seat.me
-    c.write_object.new.pass.seat.me rows c.in-Ok.rows.1 w.0 (in_rest c.in-Ok.rows.1 c.in-Ok.rows.0 (c.in-Ok.rows.1 ∷ []) (in_first c.in-Ok.rows.1 [])) w.1.long w.2
-    c.write_object.ensures.kept t.1)
+    c.write_object.new.pass.seat.me rows c.in-Ok.rows.1 w.0 (in_rest c.in-Ok.rows.1 c.in-Ok.rows.0 (c.in-Ok.rows.1 ∷ []) (in_first c.in-Ok.rows.1 []))
+    w.1.long w.2 c.write_object.ensures.kept t.1)
 
 pub swap_in-requires-clause-update : goal.swap_in-requires-clause-update
 swap_in-requires-clause-update c = let t = c.in-Ok.ensures.taken in let w = c.write_object.ensures.written in let v = c.write_base.ensures.written in

@@ -6,10 +6,11 @@ use Rattle.ca_base.proofs.Filling.{rewritten, kept_so}
 use Rattle.ca_base.proofs.writing.set_word.Goals as goal
 
 pub returns-then-read_word-value-clause-set : goal.returns-then-read_word-value-clause-set
-returns-then-read_word-value-clause-set c its has = let m = c.args.pass.now.seat.me in let still = c.read_word.ensures.still in
+returns-then-read_word-value-clause-set c its has = let still = c.read_word.ensures.still in
+    let has' = ap (λ x. claim_of x.0.claims c.args.row) still ∙ has in
     subst (λ x. IsRewritten c.args.row (set its c.args.index c.args.value) x c.write_word.new.pass.seat.me) still
-    (rewritten c.args.row its (set its c.args.index c.args.value) c.read_word.new.pass.seat.me c.write_word.new.pass.seat.me (ap (λ x. claim_of x.0.claims c.args.row) still ∙ has)
-    (c.write_word.ensures.written its (ap (λ x. claim_of x.0.claims c.args.row) still ∙ has)))
+    (rewritten c.args.row its (set its c.args.index c.args.value) c.read_word.new.pass.seat.me c.write_word.new.pass.seat.me has'
+    (c.write_word.ensures.written its has'))
 
 pub returns-else-read_word-value-clause-set : goal.returns-else-read_word-value-clause-set
 returns-else-read_word-value-clause-set c its has = let same : set its c.args.index c.args.value ≡ its =

@@ -13,7 +13,8 @@ loop-place-init c = (begins _ _ c.args.row 11 (λ k word. word ≡ get_or c.args
 
 pub loop-place-preserved : goal.loop-place-preserved
 loop-place-preserved c = let i = c.loop-place.invariant in (
-  goes_on _ _ c.args.row 11 (λ k word. word ≡ get_or c.args.items.now k 0) c.args.pass.now.seat c.loop-place.pass.seat c.write_word.new.pass.seat c.loop-place.place _ _ (omega arith) (omega arith) refl i.0
+  goes_on _ _ c.args.row 11 (λ k word. word ≡ get_or c.args.items.now k 0) c.args.pass.now.seat c.loop-place.pass.seat c.write_word.new.pass.seat
+      c.loop-place.place _ _ (omega arith) (omega arith) refl i.0
       c.write_word.ensures.same
       (λ its has. rewritten c.args.row its _ c.loop-place.pass.seat.me c.write_word.new.pass.seat.me has (c.write_word.ensures.written its has)),
   c.write_word.ensures.number ∙ i.1,
