@@ -12,28 +12,16 @@ use Rattle.ca_model.specs.declared.outcome.Counter.TheVariants as counter
 use Rattle.ca_replace.specs.declared.refusing.Refusal.{Refusal}
 use Rattle.ca_replace.specs.declared.refusing.Refusal.TheVariants as refusal
 use Rattle.ca_replace.specs.Attempting.{HasAttempted, HasDoneAs, HasTriedTo, IfDeep, refused_as}
-use Rattle.ca_replace.specs.Causes.{IsMore, IsCaused, IfRefusedAs, KeepsFew}
+use Rattle.ca_replace.specs.Causes.{IsCaused, IfRefusedAs, KeepsFew}
 use Rattle.ca_replace.specs.Refusals.{outcome_of}
 use Rattle.ca_rows.specs.declared.kept.Kept.{Kept}
 use Rattle.ca_rows.specs.declared.sizes.Sizes.{Sizes}
 
--- A count never falls.
-pub more_or_as_many : (lost : Bool) (before after : ℕ) → IsMore lost before after → before ≤ after
-more_or_as_many true before after more = ⊎_elim (λ (e : after ≡ before + 1). let up : before ≤ after = omega (arith, e) in up)
-    (λ (e : (after ≡ before) × (before ≡ 4294967295)). let up : before ≤ after = omega (arith, e.0) in up) more
-more_or_as_many false before after more = omega (arith, more)
-
--- Below its last value it rises where an exchange was lost.
-pub one_more_below : (before after bound : ℕ) → before < bound → bound ≤ 4294967295 → IsMore true before after → before < after
-one_more_below before after bound room most more = ⊎_elim (λ (e : after ≡ before + 1). let up : before < after = omega (arith, e) in up)
-    (λ (e : (after ≡ before) × (before ≡ 4294967295)). (let full = e.1 in absurd (omega arith))) more
-
 -- Where rows were given back and the epoch isn't the cause, none is kept or an exchange was lost.
-pub none_or_lost : (lost : Bool) (before after budget kept kept' : ℕ) → before < budget → budget ≤ 4294967295 → IsMore lost before after → kept ≡ kept'
-    → (lost ≡ false) × (kept ≤ 0) ⊎ (lost ≡ true) → (kept' ≡ 0) ⊎ (before < after)
-none_or_lost true before after budget kept kept' room most more is either = inr (one_more_below before after budget room most more)
-none_or_lost false before after budget kept kept' room most more is either = ⊎_elim
-    (λ (few : (false ≡ false) × (kept ≤ 0)). let n = few.1 in inl (omega (arith, is))) (λ (e : false ≡ true). absurd cc) either
+pub none_or_lost : (lost : Bool) (more before after budget kept kept' : ℕ) → (lost ≡ true → more ≡ 1) → before < budget → budget ≤ 4294967295
+    → after ≡ min (before + more) 4294967295 → kept ≡ kept' → (lost ≡ false) × (kept ≤ 0) ⊎ (lost ≡ true) → (kept' ≡ 0) ⊎ (before < after)
+none_or_lost lost more before after budget kept kept' one room most sum is either = ⊎_elim
+    (λ (few : (lost ≡ false) × (kept ≤ 0)). let n = few.1 in inl (omega (arith, is))) (λ (e : lost ≡ true). let m = one e in inr (omega (arith, m, sum))) either
 
 -- Each turn of the attempts brings their end nearer: fewer turns are left to be lost, or no row is kept any more.
 pub nearer : (budget before middle after kept kept' : ℕ) → before ≤ middle → middle ≤ after → (0 < kept) × (after < budget) × ((kept' ≡ 0) ⊎ (middle < after))

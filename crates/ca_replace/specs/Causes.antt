@@ -11,11 +11,6 @@ use Rattle.ca_replace.specs.declared.refusing.Refusal.TheVariants as refusal
 use Rattle.ca_rows.specs.declared.kept.Kept.{Kept}
 use Rattle.ca_rows.specs.Reclaiming.{IsLag}
 
--- One more is counted, up to the last value of the count; or the count is as before.
-abbrev pub IsMore : Bool → ℕ → ℕ → Type 0
-IsMore true before after = (after ≡ before + 1) ⊎ ((after ≡ before) × (before ≡ 4294967295))
-IsMore false before after = after ≡ before
-
 -- A call with this budget may be refused so, given what its pass knew before it and what it knows and keeps behind it.
 abbrev pub IsCaused : ℕ → ℕ → ℕ → Bool → Refusal → MyTree → MyTree → Vec Kept Global → Type 0
 -- Its turns were lost.

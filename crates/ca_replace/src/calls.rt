@@ -10,7 +10,7 @@ ghost use Rattle.ca_replace.specs.Refusals.{outcome_of, risen};
 ghost use Rattle.ca_replace.specs.Resting.{IsResting};
 
 use crate::attempting::{Attempt, Stop};
-use crate::giving::{keep_few, one_more, refill};
+use crate::giving::{add, keep_few, refill};
 use crate::refusing::{Refusal, refuse};
 use crate::tree::Tree;
 use ca_model::{Code, Counter, Outcome, Spent};
@@ -87,7 +87,7 @@ fn attempts<A: Attempt>(
                 return Err(why);
             }
         } else {
-            keep_few(tree, pass, spent);
+            spent.lost = add(spent.lost, keep_few(tree, pass));
             return or_refusal(come, *spent);
         }
     }
@@ -140,7 +140,7 @@ fn turns<A: Attempt>(
         if !is_lost(&tried) {
             return tried;
         }
-        spent.lost = one_more(spent.lost);
+        spent.lost = add(spent.lost, 1);
     }
     Err(Stop::Lost)
 }

@@ -1,7 +1,7 @@
 //! Passes between two calls give back the rows that they keep.
-ghost use Rattle.std.specs.Prelude.{◌≡◌, ◌⊎◌, true, false, ◌<◌, ◌≤◌, IfErr, IsErr, IsOk, vec_len};
+ghost use Rattle.std.specs.Prelude.{◌≡◌, ◌⊎◌, false, ◌+◌, ◌<◌, ◌≤◌, min, IfErr, IsErr, IsOk, vec_len};
 ghost use Rattle.std.specs.declared.option.Option.TheVariants.{None};
-ghost use Rattle.ca_replace.specs.Causes.{IsCaused, IsMore, KeepsFew};
+ghost use Rattle.ca_replace.specs.Causes.{IsCaused, KeepsFew};
 ghost use Rattle.ca_replace.specs.Resting.{IsResting};
 ghost use Rattle.ca_rows.specs.Reclaiming.{IsLag, Losses, Reclaims};
 
@@ -14,19 +14,18 @@ use ca_rows::Reclaimed;
 // From so many kept rows on a call gives rows back as it ends.
 const MANY: u32 = 48;
 
-/// Gives rows back where the pass keeps many.
-pub(crate) fn keep_few(tree: &Tree, pass: &mut TreePass, spent: &mut Spent)
+/// Gives rows back where the pass keeps many, and answers how many exchanges it lost by that.
+pub(crate) fn keep_few(tree: &Tree, pass: &mut TreePass) -> u32
     requires resting { IsResting tree.now.space.table.shared.table_id tree.now.space.table.shared.key pass.old.number pass.old.kept.rows pass.old.seat }
     ensures number { pass.new.number ≡ pass.old.number }
     ensures resting { IsResting tree.now.space.table.shared.table_id tree.now.space.table.shared.key pass.new.number pass.new.kept.rows pass.new.seat }
     ensures upper { pass.new.seat.me.0.upper ≡ pass.old.seat.me.0.upper }
     ensures few { KeepsFew pass.old.seat.me pass.new.seat.me pass.new.kept.rows }
-    ensures more { spent.old.lost ≤ spent.new.lost }
-    ensures others { (spent.new.helped ≡ spent.old.helped) × (spent.new.passed ≡ spent.old.passed) }
 {
-    if pass.kept() >= MANY {
-        give_back_kept(tree, pass, spent);
+    if pass.kept() < MANY {
+        return 0;
     }
+    u32::from(give_back_kept(tree, pass).lost)
 }
 
 /// What becomes of a call whose attempt found no free row, and began with so many rows kept: rows are given back, and another attempt
@@ -50,7 +49,8 @@ pub(crate) fn refill(
     ensures caused { IfErr result (λ why. IsCaused tree.now.space.table.shared.key.passes pass.old.number budget false why pass.old.seat.me pass.new.seat.me pass.new.kept.rows) }
     ensures few { IsErr result → KeepsFew pass.old.seat.me pass.new.seat.me pass.new.kept.rows }
 {
-    let given = give_back_kept(tree, pass, spent);
+    let given = give_back_kept(tree, pass);
+    spent.lost = add(spent.lost, u32::from(given.lost));
     if spent.lost >= budget {
         return Err(Refusal::Busy(*spent));
     }
@@ -66,8 +66,8 @@ pub(crate) fn refill(
     Ok(())
 }
 
-// Gives back rows that a pass keeps between two calls, and counts what it lost.
-fn give_back_kept(tree: &Tree, pass: &mut TreePass, spent: &mut Spent) -> Reclaimed
+// Gives back rows that a pass keeps between two calls.
+fn give_back_kept(tree: &Tree, pass: &mut TreePass) -> Reclaimed
     requires resting { IsResting tree.now.space.table.shared.table_id tree.now.space.table.shared.key pass.old.number pass.old.kept.rows pass.old.seat }
     ensures number { pass.new.number ≡ pass.old.number }
     ensures resting { IsResting tree.now.space.table.shared.table_id tree.now.space.table.shared.key pass.new.number pass.new.kept.rows pass.new.seat }
@@ -76,19 +76,14 @@ fn give_back_kept(tree: &Tree, pass: &mut TreePass, spent: &mut Spent) -> Reclai
     ensures lag { IsLag tree.now.space.table.shared.key.passes pass.old.number result.lag pass.new.seat.me.0.pin }
     ensures lost { Losses result.lost pass.old.seat.me.0.lost pass.new.seat.me.0.lost }
     ensures all { result.lag ≡ None → result.lost ≡ false → pass.new.seat.me.0.pin.scan < 4611686018427387904 → result.kept ≡ 0 }
-    ensures counted { IsMore result.lost spent.old.lost spent.new.lost }
-    ensures others { (spent.new.helped ≡ spent.old.helped) × (spent.new.passed ≡ spent.old.passed) }
 {
-    let given = tree.space.reclaim(pass);
-    if given.lost {
-        spent.lost = one_more(spent.lost);
-    }
-    given
+    tree.space.reclaim(pass)
 }
 
-/// One more is counted, up to the last value of a count.
-pub(crate) fn one_more(count: u32) -> u32
-    ensures { IsMore true count result }
+/// The sum of two counts, up to the last one that 32 bits hold.
+pub(crate) fn add(count: u32, more: u32) -> u32
+    ensures { result ≡ min (count + more) 4294967295 }
+    ensures more { count ≤ result }
 {
-    count.saturating_add(1)
+    count.saturating_add(more)
 }

@@ -5,9 +5,11 @@ ghost use Rattle.ca_model.specs.Event.{Write, WriteNew};
 ghost use Rattle.ca_model.specs.Function.{KeepsKey, MayBeAskedFor};
 ghost use Rattle.ca_model.specs.Known.{Declines, Meets, Stays};
 ghost use Rattle.ca_model.specs.StoreMap.{IsPair};
+ghost use Rattle.ca_replace.specs.Causes.{KeepsFew};
 ghost use Rattle.ca_replace.specs.Resting.{IsResting, knows};
 ghost use Rattle.ca_term.specs.declared.bounds.TheConstants.{MOST_CODE_BYTES};
 
+use crate::giving::keep_few;
 use crate::looking::look_up;
 use crate::tree::Tree;
 use crate::{changing, puts, removing};
@@ -23,6 +25,7 @@ pub struct TreeStore<'t> {
 }
 
 impl<'t> Model for TreeStore<'t> {
+    ghost use Rattle.ca_replace.specs.Causes.{KeepsFew};
     ghost use Rattle.ca_replace.specs.Resting.{StoreView};
 
     ghost Value = { StoreView };
@@ -86,7 +89,8 @@ impl TreeStore<'_> {
         ensures got { IfDone result (λ found. Got (knows self.old) (knows self.new) key.now found into.new.items) }
         ensures closed { (knows self.new).run ≡ None }
         ensures tree { (self.new.table ≡ self.old.table) × (self.new.z ≡ self.old.z) }
-        ensures pass { (self.new.number ≡ self.old.number) × (self.new.kept ≡ self.old.kept) }
+        ensures number { self.new.number ≡ self.old.number }
+        ensures few { KeepsFew self.old.seat.me self.new.seat.me self.new.kept }
     {
         let _budget = budget;
         let space = &self.tree.space;
@@ -94,6 +98,7 @@ impl TreeStore<'_> {
         let base = walk(space, &mut self.pass, Spot::At(key)).base;
         let found = look_up(space, &mut self.pass, base, key, into);
         space.unpin(&mut self.pass);
+        keep_few(self.tree, &mut self.pass);
         Outcome::Done(found)
     }
 
@@ -229,7 +234,8 @@ impl TreeStore<'_> {
     pub fn learn(&mut self, front: Front)
         requires table { front.half.seat.table_id ≡ self.old.table }
         ensures tree { (self.new.table ≡ self.old.table) × (self.new.z ≡ self.old.z) }
-        ensures pass { (self.new.number ≡ self.old.number) × (self.new.kept ≡ self.old.kept) }
+        ensures number { self.new.number ≡ self.old.number }
+        ensures few { KeepsFew self.old.seat.me self.new.seat.me self.new.kept }
         ensures log { self.new.seat.me.0.upper.log ≡ self.old.seat.me.0.upper.log }
         ensures counts { self.new.seat.me.0.upper.counts ≡ self.old.seat.me.0.upper.counts }
         ensures seen { length front.half.seat.me.0.upper.seen ≤ length self.new.seat.me.0.upper.seen }
@@ -239,5 +245,6 @@ impl TreeStore<'_> {
         self.tree.space.pin(&mut self.pass);
         load_link(&self.tree.space, &mut self.pass, Link::Root);
         self.tree.space.unpin(&mut self.pass);
+        keep_few(self.tree, &mut self.pass);
     }
 }

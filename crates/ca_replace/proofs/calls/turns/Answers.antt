@@ -1,6 +1,5 @@
 use Rattle.std.proofs.Common.{true, refl, ◌∙◌, arith, le_refl}
 use Rattle.ca_replace.specs.declared.attempting.Stop.TheVariants as stop
-use Rattle.ca_replace.proofs.Causing.{more_or_as_many, one_more_below}
 use Rattle.ca_replace.proofs.Meeting.{further_on}
 use Rattle.ca_replace.proofs.Showing.{tried_on}
 use Rattle.ca_replace.proofs.Turns.{stopped_further, no_further}
@@ -26,7 +25,7 @@ loop-spent-preserved g c = let tells = λ (x : _). g.A.Attempt.tells c.args.what
   further = further_on c.args.pass.now.seat.me.0.upper c.loop-spent.pass.seat.me.0.upper c.once-tried.new.pass.seat.me.0.upper c.loop-spent.invariant.further
       (stopped_further tells c.args.tree.now.space.table.shared.key c.once-tried.result stop.Lost c.loop-spent.pass.seat.me.0.upper
       c.once-tried.new.pass.seat.me.0.upper (c.if-not-is_lost.ensures.0 refl) c.once-tried.ensures.tried);
-  more = let so_far = c.loop-spent.invariant.more in let up = more_or_as_many true _ _ c.one_more-spent.ensures in omega arith;
+  more = let so_far = c.loop-spent.invariant.more in let up = c.add-spent.ensures.more in omega arith;
   helped = c.loop-spent.invariant.helped;
   passed = c.loop-spent.invariant.passed;
 }
