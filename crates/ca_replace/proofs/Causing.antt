@@ -1,5 +1,5 @@
 -- What was lost is counted, and why calls are refused.
-use Rattle.std.proofs.Common.{◌≡◌, ◌⊎◌, ℕ, ◌+◌, ◌-◌, ◌*◌, ◌<◌, ◌≤◌, min, Bool, true, false, Vec, Result, Ok, Err, IfErr, sym, subst, refl, inl, inr, ⊎_elim, arith}
+use Rattle.std.proofs.Common.{◌≡◌, ◌≢◌, ◌⊎◌, ◌↔◌, IsTrue, vec_len, ◌∙◌, ℕ, ◌+◌, ◌-◌, ◌*◌, ◌<◌, ◌≤◌, min, Bool, true, false, Vec, Result, Ok, Err, IfErr, sym, subst, refl, inl, inr, ⊎_elim, arith}
 use Rattle.std.specs.Global.{Global}
 use Rattle.ca_replace.specs.declared.attempting.Stop.{Stop}
 use Rattle.ca_replace.specs.declared.attempting.Stop.TheVariants as stop
@@ -11,17 +11,20 @@ use Rattle.ca_node.specs.TreeView.{TreeView}
 use Rattle.ca_model.specs.declared.outcome.Counter.TheVariants as counter
 use Rattle.ca_replace.specs.declared.refusing.Refusal.{Refusal}
 use Rattle.ca_replace.specs.declared.refusing.Refusal.TheVariants as refusal
-use Rattle.ca_replace.specs.Attempting.{HasAttempted, HasDoneAs, HasTriedTo, IfDeep, refused_as}
-use Rattle.ca_replace.specs.Causes.{IsCaused, IfRefusedAs, KeepsFew}
+use Rattle.std.specs.declared.option.Option.TheVariants.{None as Nothing}
+use Rattle.ca_base.specs.Counting.{losses, HasMet, IsSpent}
+use Rattle.ca_model.specs.Known.{Counts}
+use Rattle.ca_replace.specs.Attempting.{HasMetBy, HasAttempted, HasDoneAs, HasTriedTo, IfDeep, refused_as}
+use Rattle.ca_replace.specs.Causes.{HasBegun, IsCaused, IsRefill, IfRefusedAs, KeepsFew}
 use Rattle.ca_replace.specs.Refusals.{outcome_of}
 use Rattle.ca_rows.specs.declared.kept.Kept.{Kept}
 use Rattle.ca_rows.specs.declared.sizes.Sizes.{Sizes}
 
 -- Where rows were given back and the epoch isn't the cause, none is kept or an exchange was lost.
-pub none_or_lost : (lost : Bool) (more before after budget kept kept' : ℕ) → (lost ≡ true → more ≡ 1) → before < budget → budget ≤ 4294967295
-    → after ≡ min (before + more) 4294967295 → kept ≡ kept' → (lost ≡ false) × (kept ≤ 0) ⊎ (lost ≡ true) → (kept' ≡ 0) ⊎ (before < after)
-none_or_lost lost more before after budget kept kept' one room most sum is either = ⊎_elim
-    (λ (few : (lost ≡ false) × (kept ≤ 0)). let n = few.1 in inl (omega (arith, is))) (λ (e : lost ≡ true). let m = one e in inr (omega (arith, m, sum))) either
+pub none_or_lost : (lost : Bool) (losses before after budget kept kept' : ℕ) → (IsTrue lost ↔ (0 < losses)) → after < budget → budget ≤ 4294967295
+    → after ≡ min (before + losses) 4294967295 → kept ≡ kept' → (lost ≡ false → kept ≡ 0) → (kept' ≡ 0) ⊎ (before < after)
+none_or_lost true losses before after budget kept kept' some room most sum is none = let more = some.0 refl in inr (omega (arith, sum))
+none_or_lost false losses before after budget kept kept' some room most sum is none = let n = none refl in inl (omega (arith, is, n))
 
 -- Each turn of the attempts brings their end nearer: fewer turns are left to be lost, or no row is kept any more.
 pub nearer : (budget before middle after kept kept' : ℕ) → before ≤ middle → middle ≤ after → (0 < kept) × (after < budget) × ((kept' ≡ 0) ⊎ (middle < after))
@@ -40,53 +43,88 @@ attempted tells z (Err stop.Worn) spent u v h = h.0
 attempted tells z (Err stop.Deep) spent u v h = h.0
 
 -- Where it refuses the call, it has a cause.
-pub caused : {T : Type 0} (passes number budget : ℕ) (adds : Bool) (tried : Result T Stop) (spent : Spent) (m m' : MyTree) (kept : Vec Kept Global)
-    → (tried ≡ Err stop.Empty → ⊥) → (tried ≡ Err stop.Deep → adds ≡ true) → (tried ≡ Err stop.Lost → budget ≤ spent.lost)
-    → (spent.helped ≡ 0) × (spent.passed ≡ 0) → IfErr (refused_as tried spent) (λ why. IsCaused passes number budget adds why m m' kept)
-caused passes number budget adds (Ok x) spent m m' kept full deep lost none = tt
-caused passes number budget adds (Err stop.Lost) spent m m' kept full deep lost none = (lost refl, none.0, none.1)
-caused passes number budget adds (Err stop.Empty) spent m m' kept full deep lost none = absurd (full refl)
-caused passes number budget adds (Err stop.Worn) spent m m' kept full deep lost none = tt
-caused passes number budget adds (Err stop.Deep) spent m m' kept full deep lost none = (refl, deep refl)
+pub caused : {T : Type 0} (passes number budget : ℕ) (adds : Bool) (tried : Result T Stop) (spent now : Spent) (m m' : MyTree) (kept kept' : Vec Kept Global)
+    → (tried ≡ Err stop.Empty → ⊥) → (tried ≡ Err stop.Deep → adds ≡ true) → (tried ≡ Err stop.Lost → budget ≤ now.lost)
+    → (spent.lost ≡ 0) × (spent.helped ≡ 0) × (spent.passed ≡ 0) → IsSpent spent now m m' → HasMetBy tried m m'
+    → IfErr (refused_as tried now) (λ why. IsCaused passes number budget adds why m kept m' kept')
+caused passes number budget adds (Ok x) spent now m m' kept kept' full deep lost none counted met = tt
+caused passes number budget adds (Err stop.Lost) spent now m m' kept kept' full deep lost none counted met = let zero = none.0 in
+    (lost refl, (let sum = counted.lost (omega arith) in omega arith), counted.helped ∙ none.1, counted.passed ∙ none.2)
+caused passes number budget adds (Err stop.Empty) spent now m m' kept kept' full deep lost none counted met = absurd (full refl)
+caused passes number budget adds (Err stop.Worn) spent now m m' kept kept' full deep lost none counted met = met.1
+caused passes number budget adds (Err stop.Deep) spent now m m' kept kept' full deep lost none counted met = (refl, deep refl)
 
--- What causes a refusal other than for want of levels causes it of any call.
-pub caused_of_any : (passes number budget : ℕ) (adds : Bool) (why : Refusal) (m m' m'' : MyTree) (kept : Vec Kept Global)
-    → IsCaused passes number budget false why m m' kept → IsCaused passes number budget adds why m'' m' kept
-caused_of_any passes number budget adds (refusal.Busy spent) m m' m'' kept h = h
-caused_of_any passes number budget adds (refusal.Full cause) m m' m'' kept h = h
-caused_of_any passes number budget adds (refusal.Deep level) m m' m'' kept h = absurd cc
-caused_of_any passes number budget adds (refusal.Worn counter.PoolTag) m m' m'' kept h = tt
-caused_of_any passes number budget adds (refusal.Worn counter.Epoch) m m' m'' kept h = h
-caused_of_any passes number budget adds (refusal.Worn counter.Sequence) m m' m'' kept h = absurd h
+-- So has a refusal once rows were given back, of an attempt that found the head empty: the first one, or one behind another that did so.
+pub refill_caused : (passes number budget begun : ℕ) (adds : Bool) (why : Refusal) (spent now : Spent) (m m' : MyTree) (kept kept' : Vec Kept Global)
+    → (spent.lost ≡ 0) × (spent.helped ≡ 0) × (spent.passed ≡ 0) → IsSpent spent now m m' → HasBegun begun (vec_len kept) m m'
+    → IsRefill passes number budget begun now why m' kept' → IsCaused passes number budget adds why m kept m' kept'
+refill_caused passes number budget begun adds (refusal.Busy s) spent now m m' kept kept' none counted first h =
+    subst (λ (x : Spent). (budget ≤ x.lost) × (x.lost ≡ min 4294967295 (losses m' - losses m)) × (x.helped ≡ 0) × (x.passed ≡ 0)) (sym h.0)
+    (let zero = none.0 in let same = h.0 in let enough : budget ≤ now.lost = subst (λ (x : Spent). budget ≤ x.lost) same h.1 in
+    (enough, (let sum = counted.lost (omega arith) in omega arith), counted.helped ∙ none.1, counted.passed ∙ none.2))
+refill_caused passes number budget begun adds (refusal.Full cause) spent now m m' kept kept' none counted first h =
+    (subst (λ n. HasBegun n (vec_len kept) m m') (sym h.0) first, ⊎_elim (λ (e : begun ≡ 0). inl (h.0 ∙ e)) (λ (l : cause.lag ≢ Nothing). inr l) h.1, h.2)
+refill_caused passes number budget begun adds (refusal.Deep level) spent now m m' kept kept' none counted first h = absurd h
+refill_caused passes number budget begun adds (refusal.Worn counter.PoolTag) spent now m m' kept kept' none counted first h = absurd h
+refill_caused passes number budget begun adds (refusal.Worn counter.Epoch) spent now m m' kept kept' none counted first h = (
+  ⊎_elim (λ (e : (begun ≡ vec_len kept) × (m'.0.empty ≡ m.0.empty + 1)). let one = e.1 in let up : m.0.empty < m'.0.empty = omega arith in up)
+      (λ (l : m.0.empty + 2 ≤ m'.0.empty). let up : m.0.empty < m'.0.empty = omega arith in up) first,
+  h.0,
+  h.1,
+)
+refill_caused passes number budget begun adds (refusal.Worn counter.Sequence) spent now m m' kept kept' none counted first h = absurd h
 
 -- What is known of a refusal is so still once it is counted.
-module _ (m m' m'' : MyTree) (u : TreeView) (kept kept' : Vec Kept Global) (counted : m'' ≡ with_upper m' u) (same : kept' ≡ kept) where
-  as_counted : (P : MyTree → Vec Kept Global → Type 0) → P (with_upper m' u) kept → P m'' kept'
+module _ (m m' m'' : MyTree) (counts : Counts) (kept kept' kept'' : Vec Kept Global)
+    (counted : m'' ≡ with_upper m' (record m'.0.upper { counts = counts })) (same : kept'' ≡ kept') where
+  as_counted : (P : MyTree → Vec Kept Global → Type 0) → P (with_upper m' (record m'.0.upper { counts = counts })) kept' → P m'' kept''
   as_counted P h = subst (λ (x : MyTree × Vec Kept Global). P x.0 x.1) (λ i. (sym counted i, sym same i)) h
 
   pub caused_still : {T : Type 0} (passes number budget : ℕ) (adds : Bool) (why : Refusal) (o : Outcome T) → o ≡ outcome_of why
-      → IsCaused passes number budget adds why m m' kept → IfRefusedAs o (λ why. IsCaused passes number budget adds why m m'' kept')
-  caused_still {T} passes number budget adds why o is h = subst (λ (x : Outcome T). IfRefusedAs x (λ y. IsCaused passes number budget adds y m m'' kept')) (sym is) (by why h)
+      → IsCaused passes number budget adds why m kept m' kept' → IfRefusedAs o (λ why. IsCaused passes number budget adds why m kept m'' kept'')
+  caused_still {T} passes number budget adds why o is h = subst (λ (x : Outcome T). IfRefusedAs x (λ y. IsCaused passes number budget adds y m kept m'' kept''))
+      (sym is) (by why h)
     where
-      by : (why : Refusal) → IsCaused passes number budget adds why m m' kept
-          → IfRefusedAs {T = T} (outcome_of why) (λ y. IsCaused passes number budget adds y m m'' kept')
-      by (refusal.Busy spent) h = h
-      by (refusal.Full cause) h = as_counted (λ x k. IsCaused passes number budget adds (refusal.Full cause) m x k) h
+      by : (why : Refusal) → IsCaused passes number budget adds why m kept m' kept'
+          → IfRefusedAs {T = T} (outcome_of why) (λ y. IsCaused passes number budget adds y m kept m'' kept'')
+      by (refusal.Busy spent) h = as_counted (λ x k. IsCaused passes number budget adds (refusal.Busy spent) m kept x k) h
+      by (refusal.Full cause) h = as_counted (λ x k. IsCaused passes number budget adds (refusal.Full cause) m kept x k) h
       by (refusal.Deep level) h = h
-      by (refusal.Worn counter.PoolTag) h = tt
-      by (refusal.Worn counter.Epoch) h = as_counted (λ x k. IsCaused passes number budget adds (refusal.Worn counter.Epoch) m x k) h
+      by (refusal.Worn counter.PoolTag) h = as_counted (λ x k. IsCaused passes number budget adds (refusal.Worn counter.PoolTag) m kept x k) h
+      by (refusal.Worn counter.Epoch) h = as_counted (λ x k. IsCaused passes number budget adds (refusal.Worn counter.Epoch) m kept x k) h
       by (refusal.Worn counter.Sequence) h = absurd h
 
-  pub few_still : KeepsFew m m' kept → KeepsFew m m'' kept'
+  pub few_still : KeepsFew m m' kept' → KeepsFew m m'' kept''
   few_still h = as_counted (λ x k. KeepsFew m x k) h
 
 -- A call that is refused for want of levels may add a key.
-pub deep_adds : {T : Type 0} (passes number budget : ℕ) (adds : Bool) (why : Refusal) (o : Outcome T) (m m' : MyTree) (kept : Vec Kept Global)
-    → o ≡ outcome_of why → IsCaused passes number budget adds why m m' kept → IfDeep o (adds ≡ true)
-deep_adds {T} passes number budget adds why o m m' kept is h = subst (λ (x : Outcome T). IfDeep x (adds ≡ true)) (sym is) (by why h)
+pub deep_adds : {T : Type 0} (passes number budget : ℕ) (adds : Bool) (why : Refusal) (o : Outcome T) (m m' : MyTree) (kept kept' : Vec Kept Global)
+    → o ≡ outcome_of why → IsCaused passes number budget adds why m kept m' kept' → IfDeep o (adds ≡ true)
+deep_adds {T} passes number budget adds why o m m' kept kept' is h = subst (λ (x : Outcome T). IfDeep x (adds ≡ true)) (sym is) (by why h)
   where
-    by : (why : Refusal) → IsCaused passes number budget adds why m m' kept → IfDeep {T = T} (outcome_of why) (adds ≡ true)
+    by : (why : Refusal) → IsCaused passes number budget adds why m kept m' kept' → IfDeep {T = T} (outcome_of why) (adds ≡ true)
     by (refusal.Busy spent) h = tt
     by (refusal.Full cause) h = tt
     by (refusal.Deep level) h = h.1
     by (refusal.Worn counter) h = tt
+
+-- Few rows are kept, as seen from a moment before.
+pub few_from : (k m m' : MyTree) (kept : Vec Kept Global) → losses k ≤ losses m → KeepsFew m m' kept → KeepsFew k m' kept
+few_from k m m' kept less few = ⊎_elim inl (λ (rest : (0 < m'.0.pin.lag) ⊎ (losses m < losses m') ⊎ (4611686018427387904 ≤ m'.0.pin.scan)). inr
+    (⊎_elim inl (λ (more : (losses m < losses m') ⊎ (4611686018427387904 ≤ m'.0.pin.scan)). inr
+    (⊎_elim (λ (l : losses m < losses m'). inl (omega arith)) inr more)) rest)) few
+
+-- An attempt that found the head empty, behind others that did so or as the first one, and then rows were given back.
+pub begun_with : (begun kept : ℕ) (m0 m m1 m2 : MyTree) (kept0 : Vec Kept Global) → begun ≡ kept
+    → ((kept ≡ vec_len kept0) × (m.0.empty ≡ m0.0.empty)) ⊎ (m0.0.empty + 1 ≤ m.0.empty) → HasMet 1 0 m m1 → HasMet 0 0 m1 m2
+    → HasBegun begun (vec_len kept0) m0 m2
+begun_with begun kept m0 m m1 m2 kept0 is so one two = let up = one.0 in let same = two.0 in ⊎_elim
+    (λ (e : (kept ≡ vec_len kept0) × (m.0.empty ≡ m0.0.empty)). let none = e.1 in inl (is ∙ e.0, omega arith))
+    (λ (l : m0.0.empty + 1 ≤ m.0.empty). inr (omega arith)) so
+
+-- So the head was found empty before, as seen from the next attempt.
+pub empty_before : (kept : ℕ) (m0 m m1 m2 : MyTree) (kept0 : Vec Kept Global)
+    → ((kept ≡ vec_len kept0) × (m.0.empty ≡ m0.0.empty)) ⊎ (m0.0.empty + 1 ≤ m.0.empty) → HasMet 1 0 m m1 → HasMet 0 0 m1 m2 → m0.0.empty + 1 ≤ m2.0.empty
+empty_before kept m0 m m1 m2 kept0 so one two = let up = one.0 in let same = two.0 in ⊎_elim
+    (λ (e : (kept ≡ vec_len kept0) × (m.0.empty ≡ m0.0.empty)). let none = e.1 in let l : m0.0.empty + 1 ≤ m2.0.empty = omega arith in l)
+    (λ (b : m0.0.empty + 1 ≤ m.0.empty). let l : m0.0.empty + 1 ≤ m2.0.empty = omega arith in l) so

@@ -26,7 +26,7 @@ use Rattle.ca_rows.specs.declared.view.Claim.{Claim}
 use Rattle.ca_rows.specs.declared.view.Claim.TheVariants.{Keeps}
 use Rattle.ca_rows.specs.declared.view.Claimed.{Claimed}
 use Rattle.ca_rows.specs.declared.view.View.{View}
-use Rattle.ca_rows.specs.Claims.{claim_of}
+use Rattle.ca_rows.specs.Claims.{claim_of, held_count}
 use Rattle.ca_rows.specs.Kept.{AreKept}
 
 -- What a pass knows that was shown a base, entered a call that edits nothing, and is unpinned again.
@@ -122,6 +122,10 @@ module _ (z : Sizes) (m m' : MyTree) (event : Event) (r : IsRead m m' event) whe
   same_claims = ap (λ (x : MyTree). x.0.claims) r.is_unpinned ∙ (ap (λ (x : MyTree). x.0.claims) r.is_entered
       ∙ (ap (λ (x : MyTree). x.0.claims) r.is_shown.2 ∙ ap (λ (x : MyTree). x.0.claims) r.is_pinned))
 
+  pub same_most : m'.0.most ≡ m.0.most
+  same_most = ap (λ (x : MyTree). x.0.most) r.is_unpinned ∙ (ap (λ (x : MyTree). x.0.most) r.is_entered
+      ∙ (ap (λ (x : MyTree). x.0.most) r.is_shown.2 ∙ ap (λ (x : MyTree). x.0.most) r.is_pinned))
+
   pub same_number : m'.0.pin.number ≡ m.0.pin.number
   same_number = ap (λ (x : MyTree). x.0.pin.number) r.is_unpinned ∙ (ap (λ (x : MyTree). x.0.pin.number) r.is_entered
       ∙ (ap (λ (x : MyTree). x.0.pin.number) r.is_shown.2 ∙ ap (λ (x : MyTree). x.0.pin.number) r.is_pinned))
@@ -169,6 +173,9 @@ rests_again table z number number' kept kept' seat seat' event some_rows rests r
       (sym (same_claims z seat.me seat'.me event r)) rests.only_keeps;
   are_kept = subst (λ (xs : List Claimed). AreKept z.rows xs kept') (sym (same_claims z seat.me seat'.me event r))
       (subst (AreKept z.rows seat.me.0.claims) (sym k) rests.are_kept);
+  few = let claims = same_claims z seat.me seat'.me event r in let most = same_most z seat.me seat'.me event r in
+      let none = rests.few.now in let eight = rests.few.ever in
+      record { now = subst (λ (xs : List Claimed). held_count xs ≤ 0) (sym claims) none; ever = subst (λ n. n ≤ 8) (sym most) eight };
   known = stays_known z seat.me seat'.me event r rests.of.1 some_rows rests.known;
 }
 

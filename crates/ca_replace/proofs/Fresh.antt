@@ -1,11 +1,12 @@
 -- Passes that were just made.
-use Rattle.std.proofs.Common.{◌≡◌, ℕ, ◌<◌, ◌≤◌, [], Vec, sym, refl, ap, ◌∙◌, subst}
+use Rattle.std.proofs.Common.{◌≡◌, ℕ, ◌<◌, ◌≤◌, [], Vec, sym, refl, ap, ◌∙◌, subst, arith}
 use Rattle.std.specs.Global.{Global}
 use mathlib.Core.Option.{some-ne-none}
 use Rattle.atomic_table.specs.declared.shared.Seat.{Seat}
 use Rattle.atomic_table.specs.Seated.{TableId}
 use Rattle.ca_node.specs.Told.{MyTree, IsKnown}
 use Rattle.ca_node.specs.TreeView.{TreeView, blank}
+use Rattle.ca_base.specs.Taking.{HoldsFew}
 use Rattle.ca_replace.specs.Resting.{IsResting}
 use Rattle.ca_rows.specs.declared.kept.Kept.{Kept}
 use Rattle.ca_rows.specs.declared.sizes.Sizes.{Sizes}
@@ -25,6 +26,7 @@ rests table z number kept seat low few keeps is = record {
   is_unpinned = ap (λ (m : MyTree). m.0.pin.pinned) is.1;
   only_keeps = λ row c e. absurd (some-ne-none c (sym e ∙ ap (λ (m : MyTree). claim_of m.0.claims row) is.1));
   are_kept = keeps;
+  few = subst (λ (m : MyTree). HoldsFew 0 m.0) (sym is.1) (record { now = omega arith; ever = omega arith });
   known = subst (λ (m : MyTree). IsKnown z m.0.upper) (sym is.1) record {
     lawful = record { entries = tt; places = tt; edits = refl };
     past = tt;

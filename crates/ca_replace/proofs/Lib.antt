@@ -1,5 +1,6 @@
 pub mod Asking
 pub mod Causing
+pub mod Counted
 pub mod Entries
 pub mod Fresh
 pub mod Reclaiming

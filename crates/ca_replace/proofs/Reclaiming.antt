@@ -1,5 +1,5 @@
 -- A pass between two calls rests still once it gave rows back.
-use Rattle.std.proofs.Common.{◌≡◌, ◌≢◌, ◌⊎◌, ℕ, ◌+◌, ◌<◌, ◌≤◌, sym, refl, ap, ◌∙◌, subst, ⊎_elim, Vec}
+use Rattle.std.proofs.Common.{◌≡◌, ◌≢◌, ◌⊎◌, ℕ, ◌+◌, ◌<◌, ◌≤◌, sym, refl, ap, ◌∙◌, subst, ⊎_elim, Vec, max, arith}
 use Rattle.std.specs.Global.{Global}
 use mathlib.Core.Option.{Option, some, none}
 use Rattle.atomic_table.specs.Seated.{TableId}
@@ -38,5 +38,7 @@ rests_still table z number number' kept kept' seat last r same there is list = r
   is_unpinned = is.same_pinned ∙ r.is_unpinned;
   only_keeps = keeps_still seat.me last.me is r.only_keeps;
   are_kept = list;
+  few = let none = r.few.now in let eight = r.few.ever in let held = is.no_more_held in let most = is.least_most in
+      record { now = omega arith; ever = omega arith };
   known = subst (IsKnown z) (sym is.same_upper) r.known;
 }

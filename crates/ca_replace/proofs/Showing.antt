@@ -117,7 +117,10 @@ fetched z u base at key old l p e = let note = first_note u.notes in let found =
 tried_from : (z : Sizes) (event : Event) (r : Result Bool NoRow) (u v : TreeView) → IsKnown z u → HasTried event z r u v
     → HasTriedTo (λ _ e. e ≡ event) z (come_to r) u v
 tried_from z event (Ok true) u v k h = ((event, refl, h.0), h.1)
-tried_from z event (Ok false) u v k h = stopped z u v k h
+tried_from z event (Ok false) u v k h = subst (λ (y : TreeView). IsFurther u y × IsKnown z y) (sym h) (
+  record { number = refl; seen = starts_whole u.seen; log = refl; counts = refl },
+  record { lawful = k.lawful; past = k.past; edits = k.edits; by_passes = k.by_passes },
+)
 tried_from z event (Err norow.Lost) u v k h = stopped z u v k h
 tried_from z event (Err norow.Empty) u v k h = stopped z u v k h
 tried_from z event (Err norow.Worn) u v k h = stopped z u v k h

@@ -17,7 +17,7 @@ use Rattle.ca_replace.specs.declared.attempting.Stop.TheVariants as stop
 use Rattle.ca_replace.specs.Attempting.{HasDoneAs, HasTriedTo}
 use Rattle.ca_base.specs.Progress.{IsFurther, HasDone, IsRefused}
 use Rattle.ca_replace.specs.Resting.{IsResting, known_of}
-use Rattle.ca_base.specs.Taking.{AreHeld}
+use Rattle.ca_base.specs.Taking.{AreHeld, HoldsFew}
 use Rattle.ca_rows.specs.declared.kept.Kept.{Kept}
 use Rattle.ca_rows.specs.declared.kept.KeptRows.{KeptRows}
 use Rattle.ca_rows.specs.declared.sizes.Sizes.{Sizes}
@@ -36,12 +36,15 @@ known_unpinned z u k = record { lawful = k.lawful; past = k.past; edits = k.edit
 
 -- A pass that rests holds no row.
 pub holds_none : (table : TableId) (z : Sizes) (number : ℕ) (kept : Vec Kept Global) (seat : MySeat) → IsResting table z number kept seat
-    → AreHeld z.rows kept seat.me.0.claims []
-holds_none table z number kept seat r = record {
-  are_kept = r.are_kept;
-  only = λ row c e. inl (r.only_keeps row c e);
-  each = λ row i. absurd (in_nothing row [] refl i);
-}
+    → AreHeld z.rows kept seat.me.0 []
+holds_none table z number kept seat r = (
+  record {
+    are_kept = r.are_kept;
+    only = λ row c e. inl (r.only_keeps row c e);
+    each = λ row i. absurd (in_nothing row [] refl i);
+  },
+  r.few,
+)
 
 -- What was tried while the pass was pinned.
 pub tried_pinned : {T : Type 0} (tells : T → Event → Type 0) (z : Sizes) (r : Result T Stop) (u v w : TreeView) → w ≡ unpinned v
@@ -73,7 +76,7 @@ tried_known tells z (Err stop) u v h = (h.1, h.0.number)
 -- A pass that was pinned, tried, and unpinned rests again.
 pub rests_again : (table : TableId) (z : Sizes) (number : ℕ) (kept kept' : Vec Kept Global) (seat one two last : MySeat) → IsResting table z number kept seat
     → (one.me.0.sizes ≡ seat.me.0.sizes) × (one.me.0.pin.number ≡ seat.me.0.pin.number) × (one.me.0.upper.number ≡ seat.me.0.upper.number)
-    → two.table_id ≡ seat.table_id → (two.me.0.sizes ≡ one.me.0.sizes) × (two.me.0.pin ≡ one.me.0.pin) → AreHeld z.rows kept' two.me.0.claims []
+    → two.table_id ≡ seat.table_id → (two.me.0.sizes ≡ one.me.0.sizes) × (two.me.0.pin ≡ one.me.0.pin) → AreHeld z.rows kept' two.me.0 []
     → IsKnown z two.me.0.upper × (two.me.0.upper.number ≡ one.me.0.upper.number) → last.table_id ≡ two.table_id
     → last.me ≡ (record two.me.0 { pin = record two.me.0.pin { pinned = false }; upper = unpinned two.me.0.upper }, two.me.1)
     → IsResting table z number kept' last
@@ -83,8 +86,9 @@ rests_again table z number kept kept' seat one two last r pin table_two work hel
   same_number = ap (λ (m : MyTree). m.0.upper.number) unpin ∙ (known.1 ∙ (pin.2 ∙ r.same_number));
   is_unpinned = ap (λ (m : MyTree). m.0.pin.pinned) unpin;
   only_keeps = λ row c e. ⊎_elim (λ k. k) (λ (i : IsIn row []). absurd (in_nothing row [] refl i))
-      (held.only row c (sym (ap (λ (m : MyTree). claim_of m.0.claims row) unpin) ∙ e));
-  are_kept = subst (λ (m : MyTree). AreKept z.rows m.0.claims kept') (sym unpin) held.are_kept;
+      (held.0.only row c (sym (ap (λ (m : MyTree). claim_of m.0.claims row) unpin) ∙ e));
+  are_kept = subst (λ (m : MyTree). AreKept z.rows m.0.claims kept') (sym unpin) held.0.are_kept;
+  few = subst (λ (m : MyTree). HoldsFew 0 m.0) (sym unpin) (record { now = held.1.now; ever = held.1.ever });
   known = subst (λ (m : MyTree). IsKnown z m.0.upper) (sym unpin) (known_unpinned z two.me.0.upper known.0);
 }
 
@@ -100,6 +104,7 @@ rests_refused table z number kept seat last counts r same is = record {
   is_unpinned = ap (λ (m : MyTree). m.0.pin.pinned) is ∙ r.is_unpinned;
   only_keeps = λ row c e. r.only_keeps row c (sym (ap (λ (m : MyTree). claim_of m.0.claims row) is) ∙ e);
   are_kept = subst (λ (m : MyTree). AreKept z.rows m.0.claims kept) (sym is) r.are_kept;
+  few = subst (λ (m : MyTree). HoldsFew 0 m.0) (sym is) (record { now = r.few.now; ever = r.few.ever });
   known = subst (λ (m : MyTree). IsKnown z m.0.upper) (sym is)
       record { lawful = r.known.lawful; past = r.known.past; edits = r.known.edits; by_passes = r.known.by_passes };
 }
@@ -117,9 +122,10 @@ rests_as table z number number' kept kept' seat a b r = subst (λ (x : ℕ × Ke
 -- After it pinned it holds no row.
 pub none_pinned : (table : TableId) (z : Sizes) (number : ℕ) (kept kept' : KeptRows) (seat one : MySeat) (e : Pin) (u : TreeView)
     → IsResting table z number kept.rows seat → one.me ≡ (record seat.me.0 { pin = e; upper = u }, seat.me.1) → kept' ≡ kept
-    → AreHeld z.rows kept'.rows one.me.0.claims []
-none_pinned table z number kept kept' seat one e u r is same = subst (λ (x : MyTree × KeptRows). AreHeld z.rows x.1.rows x.0.0.claims [])
-    (λ i. (sym is i, sym same i)) (holds_none table z number kept.rows seat r)
+    → AreHeld z.rows kept'.rows one.me.0 []
+none_pinned table z number kept kept' seat one e u r is same = let none = holds_none table z number kept.rows seat r in
+    subst (λ (x : MyTree × KeptRows). AreHeld z.rows x.1.rows x.0.0 []) (λ i. (sym is i, sym same i))
+    (record { are_kept = none.0.are_kept; only = none.0.only; each = none.0.each }, record { now = none.1.now; ever = none.1.ever })
 
 -- An attempt that came to a stop learnt of others' edits alone.
 pub stopped_further : {T : Type 0} (tells : T → Event → Type 0) (z : Sizes) (r : Result T Stop) (why : Stop) (u v : TreeView) → r ≡ Err why

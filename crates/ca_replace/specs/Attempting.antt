@@ -1,5 +1,5 @@
 -- Attempts of a call: each looks at the tree anew.
-use Rattle.std.specs.Prelude.{◌≡◌, ℕ, ◌≤◌, Bool, true, false, List, [], length, map, slice_range, None, Some, Result, Ok, Err}
+use Rattle.std.specs.Prelude.{◌≡◌, ℕ, ◌<◌, ◌≤◌, Bool, true, false, List, [], length, map, slice_range, None, Some, Result, Ok, Err}
 use Rattle.ca_model.specs.declared.outcome.Counter.TheVariants as counter
 use Rattle.ca_model.specs.declared.outcome.Outcome.{Outcome}
 use Rattle.ca_model.specs.declared.outcome.Outcome.TheVariants as outcome
@@ -8,7 +8,8 @@ use Rattle.ca_model.specs.Event.{Event}
 use Rattle.ca_model.specs.History.{after}
 use Rattle.ca_model.specs.StoreMap.{IsFound, IsPair}
 use Rattle.ca_node.specs.Row.{pair}
-use Rattle.ca_node.specs.Told.{IsKnown}
+use Rattle.ca_base.specs.Counting.{losses, HasMet}
+use Rattle.ca_node.specs.Told.{IsKnown, MyTree}
 use Rattle.ca_node.specs.TreeView.{TreeView}
 use Rattle.ca_replace.specs.declared.refusing.Refusal.{Refusal}
 use Rattle.ca_replace.specs.declared.refusing.Refusal.TheVariants as refusal
@@ -61,6 +62,25 @@ refused_as (Err stop.Lost) spent = Err (refusal.Busy spent)
 refused_as (Err stop.Empty) spent = Err (refusal.Busy spent)
 refused_as (Err stop.Worn) spent = Err (refusal.Worn counter.PoolTag)
 refused_as (Err stop.Deep) spent = Err (refusal.Deep 0)
+
+-- What an attempt met of the pool, by what it came to: where no row was free, the head was empty once; where the tag can rise no more, it was at
+-- its last value once.
+abbrev pub HasMetBy : {T : Type 0} → Result T Stop → MyTree → MyTree → Type 0
+HasMetBy (Ok x) m m' = HasMet 0 0 m m'
+HasMetBy (Err stop.Lost) m m' = HasMet 0 0 m m'
+HasMetBy (Err stop.Empty) m m' = HasMet 1 0 m m'
+HasMetBy (Err stop.Worn) m m' = HasMet 0 1 m m'
+HasMetBy (Err stop.Deep) m m' = HasMet 0 0 m m'
+
+-- So it met the pool, and where it was lost to another pass, an exchange was lost.
+abbrev pub HasStopped : {T : Type 0} → Result T Stop → MyTree → MyTree → Type 0
+HasStopped r m m' = HasMetBy r m m' × (r ≡ Err stop.Lost → losses m < losses m')
+
+-- No exchange was lost, nothing was met of the pool, and no row more was held.
+pub record IsQuiet (m m' : MyTree) : Type 0 where
+  pub lost : losses m' ≡ losses m
+  pub met : HasMet 0 0 m m'
+  pub most : m'.0.most ≡ m.0.most
 
 -- Where the call is refused for want of levels, this holds.
 abbrev pub IfDeep : {T : Type 0} → Outcome T → Type 0 → Type 0

@@ -1,28 +1,49 @@
 -- Why calls are refused, and which rows a pass keeps behind a call.
-use Rattle.std.specs.Prelude.{◌≡◌, ◌≢◌, ◌⊎◌, ℕ, ◌+◌, ◌<◌, ◌≤◌, Bool, true, false, Vec, vec_len}
+use Rattle.std.specs.Prelude.{◌≡◌, ◌≢◌, ◌⊎◌, ℕ, ◌+◌, ◌-◌, ◌<◌, ◌≤◌, min, Bool, true, false, Vec, vec_len}
 use Rattle.std.specs.declared.option.Option.TheVariants.{None}
 use Rattle.std.specs.Global.{Global}
 use Rattle.ca_model.specs.declared.outcome.Counter.TheVariants as counter
 use Rattle.ca_model.specs.declared.outcome.Outcome.{Outcome}
 use Rattle.ca_model.specs.declared.outcome.Outcome.TheVariants as outcome
+use Rattle.ca_model.specs.declared.outcome.Spent.{Spent}
+use Rattle.ca_base.specs.Counting.{losses}
 use Rattle.ca_node.specs.Told.{MyTree}
 use Rattle.ca_replace.specs.declared.refusing.Refusal.{Refusal}
 use Rattle.ca_replace.specs.declared.refusing.Refusal.TheVariants as refusal
 use Rattle.ca_rows.specs.declared.kept.Kept.{Kept}
 use Rattle.ca_rows.specs.Reclaiming.{IsLag}
 
--- A call with this budget may be refused so, given what its pass knew before it and what it knows and keeps behind it.
-abbrev pub IsCaused : ℕ → ℕ → ℕ → Bool → Refusal → MyTree → MyTree → Vec Kept Global → Type 0
+-- A call with this budget whose attempt began with so many rows kept is refused so, once rows were given back and these turns were spent.
+abbrev pub IsRefill : ℕ → ℕ → ℕ → ℕ → Spent → Refusal → MyTree → Vec Kept Global → Type 0
 -- Its turns were lost.
-IsCaused passes number budget adds (refusal.Busy spent) m m' kept = (budget ≤ spent.lost) × (spent.helped ≡ 0) × (spent.passed ≡ 0)
--- The last attempt began with no row kept, or another pass lagged as rows were given back.
-IsCaused passes number budget adds (refusal.Full cause) m m' kept = ((cause.kept ≡ 0) ⊎ (cause.lag ≢ None)) × IsLag passes number cause.lag m'.0.pin
--- Its key was a new one.
-IsCaused passes number budget adds (refusal.Deep level) m m' kept = (level ≡ 0) × (adds ≡ true)
-IsCaused passes number budget adds (refusal.Worn counter.PoolTag) m m' kept = Unit {0}
+IsRefill passes number budget begun spent (refusal.Busy s) m kept = (s ≡ spent) × (budget ≤ s.lost)
+-- The attempt began with no row kept, or another pass lagged.
+IsRefill passes number budget begun spent (refusal.Full cause) m kept = (cause.kept ≡ begun) × ((begun ≡ 0) ⊎ (cause.lag ≢ None)) × IsLag passes number cause.lag m.0.pin
+IsRefill passes number budget begun spent (refusal.Deep level) m kept = ⊥
 -- The epoch was at its last value, and rows are kept.
-IsCaused passes number budget adds (refusal.Worn counter.Epoch) m m' kept = (4611686018427387904 ≤ m'.0.pin.scan) × (0 < vec_len kept)
-IsCaused passes number budget adds (refusal.Worn counter.Sequence) m m' kept = ⊥
+IsRefill passes number budget begun spent (refusal.Worn counter.Epoch) m kept = (4611686018427387904 ≤ m.0.pin.scan) × (0 < vec_len kept)
+IsRefill passes number budget begun spent (refusal.Worn counter.PoolTag) m kept = ⊥
+IsRefill passes number budget begun spent (refusal.Worn counter.Sequence) m kept = ⊥
+
+-- An attempt that found the head empty began with so many rows kept: it was the first one, or the head had been found empty before.
+abbrev pub HasBegun : ℕ → ℕ → MyTree → MyTree → Type 0
+HasBegun begun kept m m' = ((begun ≡ kept) × (m'.0.empty ≡ m.0.empty + 1)) ⊎ (m.0.empty + 2 ≤ m'.0.empty)
+
+-- A call with this budget may be refused so, given what its pass knew and kept before it and what it knows and keeps behind it.
+abbrev pub IsCaused : ℕ → ℕ → ℕ → Bool → Refusal → MyTree → Vec Kept Global → MyTree → Vec Kept Global → Type 0
+-- So many exchanges were lost in this call.
+IsCaused passes number budget adds (refusal.Busy spent) m kept m' kept' = (budget ≤ spent.lost) × (spent.lost ≡ min 4294967295 (losses m' - losses m))
+    × (spent.helped ≡ 0) × (spent.passed ≡ 0)
+-- The last attempt found the head empty. It began with no row kept, or another pass lagged as rows were given back.
+IsCaused passes number budget adds (refusal.Full cause) m kept m' kept' = HasBegun cause.kept (vec_len kept) m m' × ((cause.kept ≡ 0) ⊎ (cause.lag ≢ None))
+    × IsLag passes number cause.lag m'.0.pin
+-- Its key was a new one.
+IsCaused passes number budget adds (refusal.Deep level) m kept m' kept' = (level ≡ 0) × (adds ≡ true)
+-- The head's tag was at its last value as a row was to be taken.
+IsCaused passes number budget adds (refusal.Worn counter.PoolTag) m kept m' kept' = m'.0.worn ≡ m.0.worn + 1
+-- The last attempt found the head empty, the epoch was at its last value, and rows are kept.
+IsCaused passes number budget adds (refusal.Worn counter.Epoch) m kept m' kept' = (m.0.empty < m'.0.empty) × (4611686018427387904 ≤ m'.0.pin.scan) × (0 < vec_len kept')
+IsCaused passes number budget adds (refusal.Worn counter.Sequence) m kept m' kept' = ⊥
 
 -- Where the call is refused, this holds of the refusal.
 abbrev pub IfRefusedAs : {T : Type 0} → Outcome T → (Refusal → Type 0) → Type 0
@@ -35,4 +56,4 @@ IfRefusedAs (outcome.Worn counter) P = P (refusal.Worn counter)
 -- The pass keeps at most 64 rows; or else, as it last gave rows back in this call, another pass lagged, or an exchange was lost in this call,
 -- or the epoch was at its last value.
 abbrev pub KeepsFew : MyTree → MyTree → Vec Kept Global → Type 0
-KeepsFew m m' kept = (vec_len kept ≤ 64) ⊎ (0 < m'.0.pin.lag) ⊎ (0 < m'.0.lost) ⊎ (4611686018427387904 ≤ m'.0.pin.scan)
+KeepsFew m m' kept = (vec_len kept ≤ 64) ⊎ (0 < m'.0.pin.lag) ⊎ (losses m < losses m') ⊎ (4611686018427387904 ≤ m'.0.pin.scan)

@@ -8,6 +8,7 @@ use Rattle.ca_model.specs.History.{after}
 use Rattle.ca_model.specs.Known.{Known}
 use Rattle.ca_node.specs.Told.{IsKnown}
 use Rattle.ca_node.specs.TreeView.{TreeView}
+use Rattle.ca_base.specs.Taking.{HoldsFew}
 use Rattle.ca_rows.specs.declared.kept.Kept.{Kept}
 use Rattle.ca_rows.specs.declared.sizes.Sizes.{Sizes}
 use Rattle.ca_rows.specs.declared.view.Claim.{Claim}
@@ -26,6 +27,8 @@ pub record IsResting (table : TableId) (z : Sizes) (number : ℕ) (kept : Vec Ke
   pub is_unpinned : seat.me.0.pin.pinned ≡ false
   pub only_keeps : (row : ℕ) (c : Claim) → claim_of seat.me.0.claims row ≡ some c → (at : ℕ) × (c ≡ Keeps at)
   pub are_kept : AreKept z.rows seat.me.0.claims kept
+  -- It holds no row, and never held more than eight at once.
+  pub few : HoldsFew 0 seat.me.0
   pub known : IsKnown z seat.me.0.upper
 
 -- what contracts see of a pass on a tree: the tree's table, what it was made with, and the pass

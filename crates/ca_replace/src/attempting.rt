@@ -6,7 +6,8 @@ ghost use Rattle.ca_model.specs.Event.{Event, Remove};
 ghost use Rattle.ca_model.specs.StoreMap.{IsPair};
 ghost use Rattle.ca_node.specs.Row.{items as items_of, pair};
 ghost use Rattle.ca_replace.specs.declared.attempting.Stop.TheVariants.{Deep as IsDeep};
-ghost use Rattle.ca_replace.specs.Attempting.{IsLooking, HasFetched, HasTriedTo, come_to};
+ghost use Rattle.ca_replace.specs.Attempting.{IsLooking, HasFetched, HasTriedTo, come_to, HasStopped, IsQuiet};
+ghost use Rattle.ca_base.specs.Counting.{IsSpent};
 ghost use Rattle.ca_base.specs.Progress.{IsFurther};
 ghost use Rattle.ca_base.specs.Putting.{object_at, IsRoom, IsFor, first_note, put_event};
 ghost use Rattle.ca_base.specs.Taking.{AreHeld};
@@ -16,7 +17,7 @@ ghost use Rattle.ca_rows.specs.Calls.{IsOf, IsSame};
 use crate::looking::copy_at;
 use ca_base::{NoRow, Putting, count, item, put_at, remove_at, search};
 use ca_leaf::Items;
-use ca_model::Code;
+use ca_model::{Code, Spent};
 use ca_node::{Spot, TreePass, TreeSpace, walk};
 
 /// Why an attempt came to nothing.
@@ -60,20 +61,23 @@ pub(crate) trait Attempt {
         leaf: u8,
         left: &mut Self::Left,
         room: &mut Self::Room,
+        spent: &mut Spent,
     ) -> Result<Self::Answer, Stop>
         requires own { IsOf space.now.table.shared.table_id space.now.table.shared.key pass.old.seat }
         requires pinned { pass.old.seat.me.0.pin.pinned ≡ true }
         requires number { 0 < pass.old.seat.me.0.upper.number }
-        requires none { AreHeld space.now.table.shared.key.rows pass.old.kept.rows pass.old.seat.me.0.claims [] }
+        requires none { AreHeld space.now.table.shared.key.rows pass.old.kept.rows pass.old.seat.me.0 [] }
         requires leaf { (leaf ≡ space.now.table.shared.key.leaf) × (leaf ≤ 120) }
         requires may { may self.now space.now.table.shared.key }
         ensures same { IsSame pass.old.seat pass.new.seat }
         ensures number { pass.new.number ≡ pass.old.number }
         ensures pin { (pass.new.seat.me.0.sizes ≡ pass.old.seat.me.0.sizes) × (pass.new.seat.me.0.pin ≡ pass.old.seat.me.0.pin) }
-        ensures none { AreHeld space.now.table.shared.key.rows pass.new.kept.rows pass.new.seat.me.0.claims [] }
+        ensures none { AreHeld space.now.table.shared.key.rows pass.new.kept.rows pass.new.seat.me.0 [] }
         ensures tried { HasTriedTo (λ answer. tells self.now answer left.new) space.now.table.shared.key result pass.old.seat.me.0.upper
             pass.new.seat.me.0.upper }
-        ensures deep { result ≡ Err IsDeep → adds ≡ true };
+        ensures deep { result ≡ Err IsDeep → adds ≡ true }
+        ensures counted { IsSpent spent.old spent.new pass.old.seat.me pass.new.seat.me }
+        ensures found { HasStopped result pass.old.seat.me pass.new.seat.me };
 }
 
 /// The base that has the key, and the key's place among its objects. It is shown to the pass, which has seen the whole history then.
@@ -86,6 +90,7 @@ pub(crate) fn find(space: &TreeSpace, pass: &mut TreePass, key: &[u8]) -> (u32, 
     ensures kept { pass.new.kept ≡ pass.old.kept }
     ensures still { (pass.new.seat.me.0.sizes ≡ pass.old.seat.me.0.sizes) × (pass.new.seat.me.0.pin ≡ pass.old.seat.me.0.pin)
         × (pass.new.seat.me.0.claims ≡ pass.old.seat.me.0.claims) }
+    ensures quiet { IsQuiet pass.old.seat.me pass.new.seat.me }
     ensures looking { IsLooking space.now.table.shared.key pass.new.seat.me.0.upper result.0 }
     ensures place { IsPlace (map pair (first_note pass.new.seat.me.0.upper.notes).objects) key.now result.1 }
     ensures further { IsFurther pass.old.seat.me.0.upper pass.new.seat.me.0.upper }
@@ -110,6 +115,7 @@ pub(crate) fn fetch(
     ensures kept { pass.new.kept ≡ pass.old.kept }
     ensures still { (pass.new.seat.me.0.sizes ≡ pass.old.seat.me.0.sizes) × (pass.new.seat.me.0.pin ≡ pass.old.seat.me.0.pin)
         × (pass.new.seat.me.0.claims ≡ pass.old.seat.me.0.claims) }
+    ensures quiet { IsQuiet pass.old.seat.me pass.new.seat.me }
     ensures looking { IsLooking space.now.table.shared.key pass.new.seat.me.0.upper result.0 }
     ensures place { IsPlace (map pair (first_note pass.new.seat.me.0.upper.notes).objects) key.now result.1 }
     ensures further { IsFurther pass.old.seat.me.0.upper pass.new.seat.me.0.upper }
@@ -133,6 +139,7 @@ fn look(space: &TreeSpace, pass: &mut TreePass, key: &[u8]) -> u32
     ensures kept { pass.new.kept ≡ pass.old.kept }
     ensures still { (pass.new.seat.me.0.sizes ≡ pass.old.seat.me.0.sizes) × (pass.new.seat.me.0.pin ≡ pass.old.seat.me.0.pin)
         × (pass.new.seat.me.0.claims ≡ pass.old.seat.me.0.claims) }
+    ensures quiet { IsQuiet pass.old.seat.me pass.new.seat.me }
     ensures looking { IsLooking space.now.table.shared.key pass.new.seat.me.0.upper result }
     ensures further { IsFurther pass.old.seat.me.0.upper pass.new.seat.me.0.upper }
 {
@@ -170,11 +177,12 @@ pub(crate) fn put_there(
     object: &[u8],
     key_at: usize,
     key_end: usize,
+    spent: &mut Spent,
 ) -> Result<(), Stop>
     requires own { IsOf space.now.table.shared.table_id space.now.table.shared.key pass.old.seat }
     requires pinned { pass.old.seat.me.0.pin.pinned ≡ true }
     requires number { 0 < pass.old.seat.me.0.upper.number }
-    requires none { AreHeld space.now.table.shared.key.rows pass.old.kept.rows pass.old.seat.me.0.claims [] }
+    requires none { AreHeld space.now.table.shared.key.rows pass.old.kept.rows pass.old.seat.me.0 [] }
     requires leaf { (leaf ≡ space.now.table.shared.key.leaf) × (leaf ≤ 120) }
     requires looking { IsLooking space.now.table.shared.key pass.old.seat.me.0.upper base }
     requires within { (key_at ≤ key_end) × (key_end ≤ length object.now) }
@@ -184,18 +192,20 @@ pub(crate) fn put_there(
     ensures same { IsSame pass.old.seat pass.new.seat }
     ensures number { pass.new.number ≡ pass.old.number }
     ensures pin { (pass.new.seat.me.0.sizes ≡ pass.old.seat.me.0.sizes) × (pass.new.seat.me.0.pin ≡ pass.old.seat.me.0.pin) }
-    ensures none { AreHeld space.now.table.shared.key.rows pass.new.kept.rows pass.new.seat.me.0.claims [] }
+    ensures none { AreHeld space.now.table.shared.key.rows pass.new.kept.rows pass.new.seat.me.0 [] }
     ensures tried { HasTriedTo (λ _ event. event ≡ put_event why (slice_range object.now key_at key_end)
         (object_at place (first_note pass.old.seat.me.0.upper.notes).objects) object.now) space.now.table.shared.key result pass.old.seat.me.0.upper
         pass.new.seat.me.0.upper }
     ensures deep { OnOk place (result ≢ Err IsDeep) }
+    ensures counted { IsSpent spent.old spent.new pass.old.seat.me pass.new.seat.me }
+    ensures found { HasStopped result pass.old.seat.me pass.new.seat.me }
 {
     let items = read_items(space, pass, base);
     if !has_room(&items, place, leaf) {
         return Err(Stop::Deep);
     }
     let tried = put_at(
-        space, pass, base, &items, place, why, object, key_at, key_end,
+        space, pass, base, &items, place, why, object, key_at, key_end, spent,
     );
     outcome_of(tried)
 }
@@ -207,24 +217,27 @@ pub(crate) fn remove_there(
     base: u32,
     at: u32,
     key: &[u8],
+    spent: &mut Spent,
 ) -> Result<(), Stop>
     requires own { IsOf space.now.table.shared.table_id space.now.table.shared.key pass.old.seat }
     requires pinned { pass.old.seat.me.0.pin.pinned ≡ true }
     requires number { 0 < pass.old.seat.me.0.upper.number }
-    requires none { AreHeld space.now.table.shared.key.rows pass.old.kept.rows pass.old.seat.me.0.claims [] }
+    requires none { AreHeld space.now.table.shared.key.rows pass.old.kept.rows pass.old.seat.me.0 [] }
     requires leaf { space.now.table.shared.key.leaf ≤ 120 }
     requires looking { IsLooking space.now.table.shared.key pass.old.seat.me.0.upper base }
     requires place { IsPlace (map pair (first_note pass.old.seat.me.0.upper.notes).objects) key.now (Ok at) }
     ensures same { IsSame pass.old.seat pass.new.seat }
     ensures number { pass.new.number ≡ pass.old.number }
     ensures pin { (pass.new.seat.me.0.sizes ≡ pass.old.seat.me.0.sizes) × (pass.new.seat.me.0.pin ≡ pass.old.seat.me.0.pin) }
-    ensures none { AreHeld space.now.table.shared.key.rows pass.new.kept.rows pass.new.seat.me.0.claims [] }
+    ensures none { AreHeld space.now.table.shared.key.rows pass.new.kept.rows pass.new.seat.me.0 [] }
     ensures tried { HasTriedTo (λ _ event. event ≡ Remove key.now (Some (object_at (Ok at) (first_note pass.old.seat.me.0.upper.notes).objects)))
         space.now.table.shared.key result pass.old.seat.me.0.upper pass.new.seat.me.0.upper }
     ensures deep { result ≢ Err IsDeep }
+    ensures counted { IsSpent spent.old spent.new pass.old.seat.me pass.new.seat.me }
+    ensures found { HasStopped result pass.old.seat.me pass.new.seat.me }
 {
     let items = read_items(space, pass, base);
-    let tried = remove_at(space, pass, base, &items, at, key);
+    let tried = remove_at(space, pass, base, &items, at, key, spent);
     outcome_of(tried)
 }
 

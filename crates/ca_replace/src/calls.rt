@@ -3,8 +3,9 @@ ghost use Rattle.std.specs.Prelude.{◌≡◌, ◌≢◌, ◌↔◌, ◌<◌, �
 ghost use Rattle.ca_model.specs.Answer.{IfBusy, IfDone, IfRefused};
 ghost use Rattle.ca_replace.specs.declared.attempting.Stop.TheVariants.{Deep as IsDeep, Empty as IsEmpty, Lost as IsLost};
 ghost use Rattle.ca_node.specs.Told.{with_upper};
-ghost use Rattle.ca_replace.specs.Attempting.{HasAttempted, HasDoneAs, HasTriedTo, IfDeep, refused_as};
+ghost use Rattle.ca_replace.specs.Attempting.{HasAttempted, HasDoneAs, HasMetBy, HasStopped, HasTriedTo, IfDeep, refused_as};
 ghost use Rattle.ca_replace.specs.Causes.{IfRefusedAs, IsCaused, KeepsFew};
+ghost use Rattle.ca_base.specs.Counting.{IsSpent};
 ghost use Rattle.ca_base.specs.Progress.{IsRefused};
 ghost use Rattle.ca_replace.specs.Refusals.{outcome_of, risen};
 ghost use Rattle.ca_replace.specs.Resting.{IsResting};
@@ -33,7 +34,7 @@ pub(crate) fn call<A: Attempt>(
     ensures refused { IfRefused result (λ rise. IsRefused rise pass.old.seat.me.0.upper pass.new.seat.me.0.upper) }
     ensures deep { IfDeep result (A.adds ≡ true) }
     ensures busy { IfBusy result (λ spent. budget ≤ spent) }
-    ensures caused { IfRefusedAs result (λ why. IsCaused tree.now.space.table.shared.key.passes pass.old.number budget A.adds why pass.old.seat.me pass.new.seat.me pass.new.kept.rows) }
+    ensures caused { IfRefusedAs result (λ why. IsCaused tree.now.space.table.shared.key.passes pass.old.number budget A.adds why pass.old.seat.me pass.old.kept.rows pass.new.seat.me pass.new.kept.rows) }
     ensures few { KeepsFew pass.old.seat.me pass.new.seat.me pass.new.kept.rows }
 {
     let mut spent = Spent {
@@ -72,11 +73,11 @@ fn attempts<A: Attempt>(
 ) -> Result<A::Answer, Refusal>
     requires resting { IsResting tree.now.space.table.shared.table_id tree.now.space.table.shared.key pass.old.number pass.old.kept.rows pass.old.seat }
     requires may { A.may what.now tree.now.space.table.shared.key }
-    requires none { (spent.old.helped ≡ 0) × (spent.old.passed ≡ 0) }
+    requires none { (spent.old.lost ≡ 0) × (spent.old.helped ≡ 0) × (spent.old.passed ≡ 0) }
     ensures number { pass.new.number ≡ pass.old.number }
     ensures resting { IsResting tree.now.space.table.shared.table_id tree.now.space.table.shared.key pass.new.number pass.new.kept.rows pass.new.seat }
     ensures come { HasAttempted (λ answer. A.tells what.now answer left.new) result pass.old.seat.me.0.upper pass.new.seat.me.0.upper }
-    ensures caused { IfErr result (λ why. IsCaused tree.now.space.table.shared.key.passes pass.old.number budget A.adds why pass.old.seat.me pass.new.seat.me pass.new.kept.rows) }
+    ensures caused { IfErr result (λ why. IsCaused tree.now.space.table.shared.key.passes pass.old.number budget A.adds why pass.old.seat.me pass.old.kept.rows pass.new.seat.me pass.new.kept.rows) }
     ensures few { KeepsFew pass.old.seat.me pass.new.seat.me pass.new.kept.rows }
 {
     loop {
@@ -130,17 +131,15 @@ fn turns<A: Attempt>(
     ensures tried { HasTriedTo (λ answer. A.tells what.now answer left.new) tree.now.space.table.shared.key result pass.old.seat.me.0.upper
         pass.new.seat.me.0.upper }
     ensures deep { result ≡ Err IsDeep → A.adds ≡ true }
-    ensures more { spent.old.lost ≤ spent.new.lost }
-    ensures others { (spent.new.helped ≡ spent.old.helped) × (spent.new.passed ≡ spent.old.passed) }
+    ensures counted { IsSpent spent.old spent.new pass.old.seat.me pass.new.seat.me }
+    ensures found { HasMetBy result pass.old.seat.me pass.new.seat.me }
     ensures lost { result ≡ Err IsLost → budget ≤ spent.new.lost }
-    ensures less { result ≡ Err IsEmpty → spent.new.lost < budget }
 {
     while spent.lost < budget {
-        let tried = once(tree, pass, what, left, room);
+        let tried = once(tree, pass, what, left, room, spent);
         if !is_lost(&tried) {
             return tried;
         }
-        spent.lost = add(spent.lost, 1);
     }
     Err(Stop::Lost)
 }
@@ -159,6 +158,7 @@ fn once<A: Attempt>(
     what: &A,
     left: &mut A::Left,
     room: &mut A::Room,
+    spent: &mut Spent,
 ) -> Result<A::Answer, Stop>
     requires resting { IsResting tree.now.space.table.shared.table_id tree.now.space.table.shared.key pass.old.number pass.old.kept.rows pass.old.seat }
     requires may { A.may what.now tree.now.space.table.shared.key }
@@ -167,10 +167,12 @@ fn once<A: Attempt>(
     ensures tried { HasTriedTo (λ answer. A.tells what.now answer left.new) tree.now.space.table.shared.key result pass.old.seat.me.0.upper
         pass.new.seat.me.0.upper }
     ensures deep { result ≡ Err IsDeep → A.adds ≡ true }
+    ensures counted { IsSpent spent.old spent.new pass.old.seat.me pass.new.seat.me }
+    ensures found { HasStopped result pass.old.seat.me pass.new.seat.me }
 {
     let space = &tree.space;
     space.pin(pass);
-    let tried = what.attempt(space, pass, tree.tuning.leaf, left, room);
+    let tried = what.attempt(space, pass, tree.tuning.leaf, left, room, spent);
     space.unpin(pass);
     tried
 }

@@ -12,7 +12,7 @@ use crate::calls::{call, empty_if_refused};
 use crate::ending::{Read, enter};
 use crate::tree::Tree;
 use ca_base::Putting;
-use ca_model::{Changed, Code, Outcome};
+use ca_model::{Changed, Code, Outcome, Spent};
 use ca_node::{TreePass, TreeSpace};
 
 // A key, and the function that is handed its object.
@@ -42,6 +42,7 @@ impl<F: Fn(&[u8], &mut Code, &mut usize) -> bool> Attempt for ChangeCall<'_, F> 
         leaf: u8,
         old: &mut Code,
         new: &mut Code,
+        spent: &mut Spent,
     ) -> Result<Changed, Stop> {
         let (key, f) = (self.key, self.f);
         let (base, place) = fetch(space, pass, key, old);
@@ -67,6 +68,7 @@ impl<F: Fn(&[u8], &mut Code, &mut usize) -> bool> Attempt for ChangeCall<'_, F> 
             new.as_slice(),
             start,
             end,
+            spent,
         ) {
             Ok(()) => Ok(Changed::Put),
             Err(stop) => Err(stop),

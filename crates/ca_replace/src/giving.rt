@@ -1,9 +1,10 @@
 //! Passes between two calls give back the rows that they keep.
-ghost use Rattle.std.specs.Prelude.{◌≡◌, ◌⊎◌, false, ◌+◌, ◌<◌, ◌≤◌, min, IfErr, IsErr, IsOk, vec_len};
+ghost use Rattle.std.specs.Prelude.{◌≡◌, ◌⊎◌, ◌↔◌, false, ◌+◌, ◌<◌, ◌≤◌, min, IfErr, IsErr, IsOk, IsTrue, vec_len};
 ghost use Rattle.std.specs.declared.option.Option.TheVariants.{None};
-ghost use Rattle.ca_replace.specs.Causes.{IsCaused, KeepsFew};
+ghost use Rattle.ca_base.specs.Counting.{HasMet, IsSpent};
+ghost use Rattle.ca_replace.specs.Causes.{IsRefill, KeepsFew};
 ghost use Rattle.ca_replace.specs.Resting.{IsResting};
-ghost use Rattle.ca_rows.specs.Reclaiming.{IsLag, Losses, Reclaims};
+ghost use Rattle.ca_rows.specs.Reclaiming.{IsLag, Reclaims};
 
 use crate::refusing::Refusal;
 use crate::tree::Tree;
@@ -14,6 +15,9 @@ use ca_rows::Reclaimed;
 // From so many kept rows on a call gives rows back as it ends.
 const MANY: u32 = 48;
 
+// The last value of the epoch.
+const LAST_EPOCH: u64 = 1 << 62;
+
 /// Gives rows back where the pass keeps many, and answers how many exchanges it lost by that.
 pub(crate) fn keep_few(tree: &Tree, pass: &mut TreePass) -> u32
     requires resting { IsResting tree.now.space.table.shared.table_id tree.now.space.table.shared.key pass.old.number pass.old.kept.rows pass.old.seat }
@@ -21,11 +25,13 @@ pub(crate) fn keep_few(tree: &Tree, pass: &mut TreePass) -> u32
     ensures resting { IsResting tree.now.space.table.shared.table_id tree.now.space.table.shared.key pass.new.number pass.new.kept.rows pass.new.seat }
     ensures upper { pass.new.seat.me.0.upper ≡ pass.old.seat.me.0.upper }
     ensures few { KeepsFew pass.old.seat.me pass.new.seat.me pass.new.kept.rows }
+    ensures lost { pass.new.seat.me.0.lost ≡ pass.old.seat.me.0.lost + result }
+    ensures met { HasMet 0 0 pass.old.seat.me pass.new.seat.me }
 {
     if pass.kept() < MANY {
         return 0;
     }
-    u32::from(give_back_kept(tree, pass).lost)
+    give_back_kept(tree, pass).losses
 }
 
 /// What becomes of a call whose attempt found no free row, and began with so many rows kept: rows are given back, and another attempt
@@ -38,19 +44,17 @@ pub(crate) fn refill(
     spent: &mut Spent,
 ) -> Result<(), Refusal>
     requires resting { IsResting tree.now.space.table.shared.table_id tree.now.space.table.shared.key pass.old.number pass.old.kept.rows pass.old.seat }
-    requires before { spent.old.lost < budget }
-    requires none { (spent.old.helped ≡ 0) × (spent.old.passed ≡ 0) }
     ensures number { pass.new.number ≡ pass.old.number }
     ensures resting { IsResting tree.now.space.table.shared.table_id tree.now.space.table.shared.key pass.new.number pass.new.kept.rows pass.new.seat }
     ensures upper { pass.new.seat.me.0.upper ≡ pass.old.seat.me.0.upper }
-    ensures more { spent.old.lost ≤ spent.new.lost }
-    ensures others { (spent.new.helped ≡ spent.old.helped) × (spent.new.passed ≡ spent.old.passed) }
+    ensures counted { IsSpent spent.old spent.new pass.old.seat.me pass.new.seat.me }
+    ensures met { HasMet 0 0 pass.old.seat.me pass.new.seat.me }
     ensures again { IsOk result → (0 < kept) × (spent.new.lost < budget) × ((vec_len pass.new.kept.rows ≡ 0) ⊎ (spent.old.lost < spent.new.lost)) }
-    ensures caused { IfErr result (λ why. IsCaused tree.now.space.table.shared.key.passes pass.old.number budget false why pass.old.seat.me pass.new.seat.me pass.new.kept.rows) }
+    ensures refused { IfErr result (λ why. IsRefill tree.now.space.table.shared.key.passes pass.old.number budget kept spent.new why pass.new.seat.me pass.new.kept.rows) }
     ensures few { IsErr result → KeepsFew pass.old.seat.me pass.new.seat.me pass.new.kept.rows }
 {
     let given = give_back_kept(tree, pass);
-    spent.lost = add(spent.lost, u32::from(given.lost));
+    spent.lost = add(spent.lost, given.losses);
     if spent.lost >= budget {
         return Err(Refusal::Busy(*spent));
     }
@@ -60,7 +64,7 @@ pub(crate) fn refill(
             lag: given.lag,
         }));
     }
-    if !given.lost && given.kept > 0 {
+    if given.epoch >= LAST_EPOCH && given.kept > 0 {
         return Err(Refusal::Worn(Counter::Epoch));
     }
     Ok(())
@@ -74,7 +78,9 @@ fn give_back_kept(tree: &Tree, pass: &mut TreePass) -> Reclaimed
     ensures reclaims { Reclaims pass.old.seat.me pass.new.seat.me }
     ensures kept { result.kept ≡ vec_len pass.new.kept.rows }
     ensures lag { IsLag tree.now.space.table.shared.key.passes pass.old.number result.lag pass.new.seat.me.0.pin }
-    ensures lost { Losses result.lost pass.old.seat.me.0.lost pass.new.seat.me.0.lost }
+    ensures losses { pass.new.seat.me.0.lost ≡ pass.old.seat.me.0.lost + result.losses }
+    ensures epoch { result.epoch ≡ pass.new.seat.me.0.pin.scan }
+    ensures lost { IsTrue result.lost ↔ 0 < result.losses }
     ensures all { result.lag ≡ None → result.lost ≡ false → pass.new.seat.me.0.pin.scan < 4611686018427387904 → result.kept ≡ 0 }
 {
     tree.space.reclaim(pass)
@@ -82,7 +88,7 @@ fn give_back_kept(tree: &Tree, pass: &mut TreePass) -> Reclaimed
 
 /// The sum of two counts, up to the last one that 32 bits hold.
 pub(crate) fn add(count: u32, more: u32) -> u32
-    ensures { result ≡ min (count + more) 4294967295 }
+    ensures sum { result ≡ min (count + more) 4294967295 }
     ensures more { count ≤ result }
 {
     count.saturating_add(more)

@@ -12,7 +12,7 @@ use crate::calls::call;
 use crate::ending::{Read, enter};
 use crate::tree::Tree;
 use ca_base::Putting;
-use ca_model::Outcome;
+use ca_model::{Outcome, Spent};
 use ca_node::{TreePass, TreeSpace};
 
 // An object that is put, and where its key stands in it.
@@ -51,12 +51,15 @@ impl Attempt for PutCall<'_> {
         leaf: u8,
         _left: &mut (),
         _room: &mut (),
+        spent: &mut Spent,
     ) -> Result<(), Stop> {
         let (object, key_at, key_end) = (self.object, self.key_at, self.key_end);
         let key = &object[key_at..key_end];
         let (base, place) = find(space, pass, key);
         let why = Putting::Put;
-        put_there(space, pass, leaf, base, place, why, object, key_at, key_end)
+        put_there(
+            space, pass, leaf, base, place, why, object, key_at, key_end, spent,
+        )
     }
 }
 
@@ -80,6 +83,7 @@ impl Attempt for PutNewCall<'_> {
         leaf: u8,
         _left: &mut (),
         _room: &mut (),
+        spent: &mut Spent,
     ) -> Result<bool, Stop> {
         let (object, key_at, key_end) = (self.object, self.key_at, self.key_end);
         let key = &object[key_at..key_end];
@@ -89,7 +93,9 @@ impl Attempt for PutNewCall<'_> {
             return Ok(false);
         }
         let why = Putting::PutNew;
-        match put_there(space, pass, leaf, base, place, why, object, key_at, key_end) {
+        match put_there(
+            space, pass, leaf, base, place, why, object, key_at, key_end, spent,
+        ) {
             Ok(()) => Ok(true),
             Err(stop) => Err(stop),
         }

@@ -11,7 +11,7 @@ use crate::attempting::{Attempt, Stop, fetch, remove_there};
 use crate::calls::{call, empty_if_refused};
 use crate::ending::{Read, enter};
 use crate::tree::Tree;
-use ca_model::{Changed, Code, Outcome};
+use ca_model::{Changed, Code, Outcome, Spent};
 use ca_node::{TreePass, TreeSpace};
 
 // A key, the object of which is removed.
@@ -40,6 +40,7 @@ impl Attempt for RemoveCall<'_> {
         _leaf: u8,
         old: &mut Code,
         _room: &mut (),
+        spent: &mut Spent,
     ) -> Result<bool, Stop> {
         let key = self.key;
         let (base, place) = fetch(space, pass, key, old);
@@ -47,7 +48,7 @@ impl Attempt for RemoveCall<'_> {
             enter(space, pass, base, Read::NothingToRemove(key));
             return Ok(false);
         };
-        match remove_there(space, pass, base, at, key) {
+        match remove_there(space, pass, base, at, key, spent) {
             Ok(()) => Ok(true),
             Err(stop) => Err(stop),
         }
@@ -104,6 +105,7 @@ impl<F: Fn(&[u8]) -> bool> Attempt for RemoveIfCall<'_, F> {
         _leaf: u8,
         old: &mut Code,
         _room: &mut (),
+        spent: &mut Spent,
     ) -> Result<Changed, Stop> {
         let (key, f) = (self.key, self.f);
         let (base, place) = fetch(space, pass, key, old);
@@ -115,7 +117,7 @@ impl<F: Fn(&[u8]) -> bool> Attempt for RemoveIfCall<'_, F> {
             enter(space, pass, base, Read::Got(key, old.as_slice()));
             return Ok(Changed::Kept);
         }
-        match remove_there(space, pass, base, at, key) {
+        match remove_there(space, pass, base, at, key, spent) {
             Ok(()) => Ok(Changed::Put),
             Err(stop) => Err(stop),
         }

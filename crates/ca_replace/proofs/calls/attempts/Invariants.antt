@@ -1,4 +1,5 @@
-use Rattle.std.proofs.Common.{◌≡◌, ◌+◌, ◌-◌, ◌*◌, min, vec_len}
+use Rattle.std.proofs.Common.{◌≡◌, ◌⊎◌, ◌+◌, ◌-◌, ◌*◌, ◌≤◌, min, vec_len}
+use Rattle.ca_base.specs.Counting.{IsSpent}
 use Rattle.ca_base.specs.Progress.{IsFurther}
 use Rattle.ca_replace.specs.Resting.{IsResting}
 use Rattle.ca_replace.proofs.calls.attempts.Given as goal
@@ -8,8 +9,10 @@ invariant-loop-come g l = record {
   number : l.pass.number ≡ l.fn.pass.number;
   resting : IsResting l.tree.space.table.shared.table_id l.tree.space.table.shared.key l.pass.number l.pass.kept.rows l.pass.seat;
   further : IsFurther l.fn.pass.seat.me.0.upper l.pass.seat.me.0.upper;
-  helped : l.spent.helped ≡ 0;
-  passed : l.spent.passed ≡ 0;
+  counted : IsSpent l.fn.spent l.spent l.fn.pass.seat.me l.pass.seat.me;
+  worn : l.pass.seat.me.0.worn ≡ l.fn.pass.seat.me.0.worn;
+  first : ((vec_len l.pass.kept.rows ≡ vec_len l.fn.pass.kept.rows) × (l.pass.seat.me.0.empty ≡ l.fn.pass.seat.me.0.empty))
+      ⊎ (l.fn.pass.seat.me.0.empty + 1 ≤ l.pass.seat.me.0.empty);
 }
 
 abbrev pub decreases-loop-come : goal.decreases-loop-come

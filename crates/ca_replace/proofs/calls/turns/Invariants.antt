@@ -1,4 +1,5 @@
-use Rattle.std.proofs.Common.{◌≡◌, ◌-◌, ◌≤◌}
+use Rattle.std.proofs.Common.{◌≡◌, ◌-◌}
+use Rattle.ca_base.specs.Counting.{HasMet, IsSpent}
 use Rattle.ca_base.specs.Progress.{IsFurther}
 use Rattle.ca_replace.specs.Resting.{IsResting}
 use Rattle.ca_replace.proofs.calls.turns.Given as goal
@@ -8,9 +9,8 @@ invariant-loop-spent g l = record {
   number : l.pass.number ≡ l.fn.pass.number;
   resting : IsResting l.tree.space.table.shared.table_id l.tree.space.table.shared.key l.pass.number l.pass.kept.rows l.pass.seat;
   further : IsFurther l.fn.pass.seat.me.0.upper l.pass.seat.me.0.upper;
-  more : l.fn.spent.lost ≤ l.spent.lost;
-  helped : l.spent.helped ≡ l.fn.spent.helped;
-  passed : l.spent.passed ≡ l.fn.spent.passed;
+  counted : IsSpent l.fn.spent l.spent l.fn.pass.seat.me l.pass.seat.me;
+  met : HasMet 0 0 l.fn.pass.seat.me l.pass.seat.me;
 }
 
 abbrev pub decreases-loop-spent : goal.decreases-loop-spent

@@ -43,7 +43,7 @@ overflow_add-end g c = let key : List ℕ = c.args.self.now.key.now in let z = c
     c.clear.ensures c.requires.may found.1 c.f.ensures in record { fits = omega (arith, l.inside, l.pair.short) }
 
 -- what the function left, as the pair that is put
-left : (g : _) → (c : goal.After-as_slice-2 g) → IsLeft c.args.space.now.table.shared.key.keypos c.args.self.now.key.now c.f.new.arg3.items c.f.new.arg4
+left : (g : _) → (c : goal.After-put_there-arg-2-1 g) → IsLeft c.args.space.now.table.shared.key.keypos c.args.self.now.key.now c.f.new.arg3.items c.f.new.arg4
 left g c = let key : List ℕ = c.args.self.now.key.now in let z = c.args.space.now.table.shared.key in
     let found = subst (λ (p : Result ℕ ℕ). HasFetched z c.fetch-base.new.pass.seat.me.0.upper key p c.fetch-base.new.old.items) c.in-Ok.is
     c.fetch-base.ensures.fetched in
