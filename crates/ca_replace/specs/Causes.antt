@@ -8,6 +8,7 @@ use Rattle.ca_model.specs.declared.outcome.Outcome.TheVariants as outcome
 use Rattle.ca_model.specs.declared.outcome.Spent.{Spent}
 use Rattle.ca_base.specs.Counting.{losses}
 use Rattle.ca_node.specs.Told.{MyTree}
+use Rattle.ca_replace.specs.Resting.{StoreView}
 use Rattle.ca_replace.specs.declared.refusing.Refusal.{Refusal}
 use Rattle.ca_replace.specs.declared.refusing.Refusal.TheVariants as refusal
 use Rattle.ca_rows.specs.declared.kept.Kept.{Kept}
@@ -57,3 +58,11 @@ IfRefusedAs (outcome.Worn counter) P = P (refusal.Worn counter)
 -- or the epoch was at its last value.
 abbrev pub KeepsFew : MyTree → MyTree → Vec Kept Global → Type 0
 KeepsFew m m' kept = (vec_len kept ≤ 64) ⊎ (0 < m'.0.pin.lag) ⊎ (losses m < losses m') ⊎ (4611686018427387904 ≤ m'.0.pin.scan)
+
+-- A call of a pass's store may be refused so, given what contracts see of the store before it and behind it.
+abbrev pub HasCause : {T : Type 0} → ℕ → Bool → StoreView → StoreView → Outcome T → Type 0
+HasCause budget adds s t o = IfRefusedAs o (λ why. IsCaused s.z.passes s.number budget adds why s.seat.me s.kept t.seat.me t.kept)
+
+-- Behind a call the store's pass keeps few rows, or there is a cause in this call; and it never held more than eight rows at once.
+abbrev pub IsSparing : StoreView → StoreView → Type 0
+IsSparing s t = KeepsFew s.seat.me t.seat.me t.kept × (t.seat.me.0.most ≤ 8)

@@ -4,6 +4,7 @@ ghost use Rattle.ca_model.specs.Answer.{IfBusy, IfDone, IfRefused, IsNeverDeep};
 ghost use Rattle.ca_model.specs.Function.{KeepsKey};
 ghost use Rattle.ca_replace.specs.Attempting.{HasDoneAs};
 ghost use Rattle.ca_base.specs.Progress.{IsRefused};
+ghost use Rattle.ca_replace.specs.Causes.{IfRefusedAs, IsCaused, KeepsFew};
 ghost use Rattle.ca_replace.specs.Resting.{IsResting};
 ghost use Rattle.ca_replace.specs.Tells.{Alters};
 
@@ -94,6 +95,8 @@ pub(crate) fn change<F: Fn(&[u8], &mut Code, &mut usize) -> bool>(
     ensures emptied { IfRefused result (λ _. old.new.items ≡ []) }
     ensures never_deep { IsNeverDeep result }
     ensures busy { IfBusy result (λ spent. budget ≤ spent) }
+    ensures caused { IfRefusedAs result (λ why. IsCaused tree.now.space.table.shared.key.passes pass.old.number budget false why pass.old.seat.me pass.old.kept.rows pass.new.seat.me pass.new.kept.rows) }
+    ensures few { KeepsFew pass.old.seat.me pass.new.seat.me pass.new.kept.rows }
 {
     let what = ChangeCall { key, f };
     let mut new = Code::new();

@@ -5,6 +5,7 @@ ghost use Rattle.ca_model.specs.Event.{Write, WriteNew};
 ghost use Rattle.ca_model.specs.StoreMap.{IsPair};
 ghost use Rattle.ca_replace.specs.Attempting.{HasKeyAt};
 ghost use Rattle.ca_base.specs.Progress.{HasDone, IsRefused};
+ghost use Rattle.ca_replace.specs.Causes.{IfRefusedAs, IsCaused, KeepsFew};
 ghost use Rattle.ca_replace.specs.Resting.{IsResting};
 
 use crate::attempting::{Attempt, Stop, find, put_there};
@@ -119,6 +120,8 @@ pub(crate) fn put(
     ensures put { IfDone result (λ _. HasDone (Write (slice_range object.now key_at key_end) object.now) pass.old.seat.me.0.upper pass.new.seat.me.0.upper) }
     ensures refused { IfRefused result (λ rise. IsRefused rise pass.old.seat.me.0.upper pass.new.seat.me.0.upper) }
     ensures busy { IfBusy result (λ spent. budget ≤ spent) }
+    ensures caused { IfRefusedAs result (λ why. IsCaused tree.now.space.table.shared.key.passes pass.old.number budget true why pass.old.seat.me pass.old.kept.rows pass.new.seat.me pass.new.kept.rows) }
+    ensures few { KeepsFew pass.old.seat.me pass.new.seat.me pass.new.kept.rows }
 {
     let what = PutCall {
         object,
@@ -146,6 +149,8 @@ pub(crate) fn put_new(
         pass.new.seat.me.0.upper) }
     ensures refused { IfRefused result (λ rise. IsRefused rise pass.old.seat.me.0.upper pass.new.seat.me.0.upper) }
     ensures busy { IfBusy result (λ spent. budget ≤ spent) }
+    ensures caused { IfRefusedAs result (λ why. IsCaused tree.now.space.table.shared.key.passes pass.old.number budget true why pass.old.seat.me pass.old.kept.rows pass.new.seat.me pass.new.kept.rows) }
+    ensures few { KeepsFew pass.old.seat.me pass.new.seat.me pass.new.kept.rows }
 {
     let what = PutNewCall {
         object,

@@ -4,6 +4,7 @@ ghost use Rattle.ca_model.specs.Answer.{IfBusy, IfDone, IfRefused, IsNeverDeep};
 ghost use Rattle.ca_model.specs.Function.{MayBeAskedFor};
 ghost use Rattle.ca_replace.specs.Attempting.{HasDoneAs};
 ghost use Rattle.ca_base.specs.Progress.{IsRefused};
+ghost use Rattle.ca_replace.specs.Causes.{IfRefusedAs, IsCaused, KeepsFew};
 ghost use Rattle.ca_replace.specs.Resting.{IsResting};
 ghost use Rattle.ca_replace.specs.Tells.{Removes, RemovesIf};
 
@@ -71,6 +72,8 @@ pub(crate) fn remove(
     ensures emptied { IfRefused result (λ _. old.new.items ≡ []) }
     ensures never_deep { IsNeverDeep result }
     ensures busy { IfBusy result (λ spent. budget ≤ spent) }
+    ensures caused { IfRefusedAs result (λ why. IsCaused tree.now.space.table.shared.key.passes pass.old.number budget false why pass.old.seat.me pass.old.kept.rows pass.new.seat.me pass.new.kept.rows) }
+    ensures few { KeepsFew pass.old.seat.me pass.new.seat.me pass.new.kept.rows }
 {
     let what = RemoveCall { key };
     let outcome = call(tree, pass, &what, &mut *old, &mut (), budget);
@@ -143,6 +146,8 @@ pub(crate) fn remove_if<F: Fn(&[u8]) -> bool>(
     ensures emptied { IfRefused result (λ _. old.new.items ≡ []) }
     ensures never_deep { IsNeverDeep result }
     ensures busy { IfBusy result (λ spent. budget ≤ spent) }
+    ensures caused { IfRefusedAs result (λ why. IsCaused tree.now.space.table.shared.key.passes pass.old.number budget false why pass.old.seat.me pass.old.kept.rows pass.new.seat.me pass.new.kept.rows) }
+    ensures few { KeepsFew pass.old.seat.me pass.new.seat.me pass.new.kept.rows }
 {
     let what = RemoveIfCall { key, f };
     let outcome = call(tree, pass, &what, &mut *old, &mut (), budget);

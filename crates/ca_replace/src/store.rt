@@ -1,11 +1,11 @@
 //! A pass as a store.
-ghost use Rattle.std.specs.Prelude.{◌≡◌, ◌≤◌, [], None, OnOk, length, slice_range, vec_len};
+ghost use Rattle.std.specs.Prelude.{◌≡◌, ◌≤◌, [], true, false, None, OnOk, length, slice_range, vec_len};
 ghost use Rattle.ca_model.specs.Answer.{Altered, Got, IfBusy, IfDone, IfRefused, IsDone, IsNeverDeep, Removed, RemovedIf};
 ghost use Rattle.ca_model.specs.Event.{Write, WriteNew};
 ghost use Rattle.ca_model.specs.Function.{KeepsKey, MayBeAskedFor};
 ghost use Rattle.ca_model.specs.Known.{Declines, Meets, Stays};
 ghost use Rattle.ca_model.specs.StoreMap.{IsPair};
-ghost use Rattle.ca_replace.specs.Causes.{KeepsFew};
+ghost use Rattle.ca_replace.specs.Causes.{HasCause, IsSparing};
 ghost use Rattle.ca_replace.specs.Resting.{IsResting, knows};
 ghost use Rattle.ca_term.specs.declared.bounds.TheConstants.{MOST_CODE_BYTES};
 
@@ -25,7 +25,7 @@ pub struct TreeStore<'t> {
 }
 
 impl<'t> Model for TreeStore<'t> {
-    ghost use Rattle.ca_replace.specs.Causes.{KeepsFew};
+    ghost use Rattle.ca_replace.specs.Causes.{HasCause, IsSparing};
     ghost use Rattle.ca_replace.specs.Resting.{StoreView};
 
     ghost Value = { StoreView };
@@ -90,7 +90,7 @@ impl TreeStore<'_> {
         ensures closed { (knows self.new).run ≡ None }
         ensures tree { (self.new.table ≡ self.old.table) × (self.new.z ≡ self.old.z) }
         ensures number { self.new.number ≡ self.old.number }
-        ensures few { KeepsFew self.old.seat.me self.new.seat.me self.new.kept }
+        ensures sparing { IsSparing self.old self.new }
     {
         let _budget = budget;
         let space = &self.tree.space;
@@ -114,6 +114,8 @@ impl TreeStore<'_> {
         ensures put { IfDone result (λ _. Meets (knows self.old) (knows self.new) (Write (slice_range object.now key_at key_end) object.now)) }
         ensures refused { IfRefused result (λ rise. Declines (knows self.old) (knows self.new) (rise (knows self.old).counts)) }
         ensures busy { IfBusy result (λ spent. budget ≤ spent) }
+        ensures caused { HasCause budget true self.old self.new result }
+        ensures sparing { IsSparing self.old self.new }
         ensures closed { (knows self.new).run ≡ None }
         ensures tree { (self.new.table ≡ self.old.table) × (self.new.z ≡ self.old.z) }
         ensures number { self.new.number ≡ self.old.number }
@@ -139,6 +141,8 @@ impl TreeStore<'_> {
         ensures put { IfDone result (λ new. Meets (knows self.old) (knows self.new) (WriteNew (slice_range object.now key_at key_end) object.now new)) }
         ensures refused { IfRefused result (λ rise. Declines (knows self.old) (knows self.new) (rise (knows self.old).counts)) }
         ensures busy { IfBusy result (λ spent. budget ≤ spent) }
+        ensures caused { HasCause budget true self.old self.new result }
+        ensures sparing { IsSparing self.old self.new }
         ensures closed { (knows self.new).run ≡ None }
         ensures tree { (self.new.table ≡ self.old.table) × (self.new.z ≡ self.old.z) }
         ensures number { self.new.number ≡ self.old.number }
@@ -157,6 +161,8 @@ impl TreeStore<'_> {
         ensures emptied { IfRefused result (λ _. old.new.items ≡ []) }
         ensures never_deep { IsNeverDeep result }
         ensures busy { IfBusy result (λ spent. budget ≤ spent) }
+        ensures caused { HasCause budget false self.old self.new result }
+        ensures sparing { IsSparing self.old self.new }
         ensures closed { (knows self.new).run ≡ None }
         ensures tree { (self.new.table ≡ self.old.table) × (self.new.z ≡ self.old.z) }
         ensures number { self.new.number ≡ self.old.number }
@@ -183,6 +189,8 @@ impl TreeStore<'_> {
         ensures emptied { IfRefused result (λ _. old.new.items ≡ []) }
         ensures never_deep { IsNeverDeep result }
         ensures busy { IfBusy result (λ spent. budget ≤ spent) }
+        ensures caused { HasCause budget false self.old self.new result }
+        ensures sparing { IsSparing self.old self.new }
         ensures closed { (knows self.new).run ≡ None }
         ensures tree { (self.new.table ≡ self.old.table) × (self.new.z ≡ self.old.z) }
         ensures number { self.new.number ≡ self.old.number }
@@ -211,6 +219,8 @@ impl TreeStore<'_> {
         ensures emptied { IfRefused result (λ _. old.new.items ≡ []) }
         ensures never_deep { IsNeverDeep result }
         ensures busy { IfBusy result (λ spent. budget ≤ spent) }
+        ensures caused { HasCause budget false self.old self.new result }
+        ensures sparing { IsSparing self.old self.new }
         ensures closed { (knows self.new).run ≡ None }
         ensures tree { (self.new.table ≡ self.old.table) × (self.new.z ≡ self.old.z) }
         ensures number { self.new.number ≡ self.old.number }
@@ -235,7 +245,7 @@ impl TreeStore<'_> {
         requires table { front.half.seat.table_id ≡ self.old.table }
         ensures tree { (self.new.table ≡ self.old.table) × (self.new.z ≡ self.old.z) }
         ensures number { self.new.number ≡ self.old.number }
-        ensures few { KeepsFew self.old.seat.me self.new.seat.me self.new.kept }
+        ensures sparing { IsSparing self.old self.new }
         ensures log { self.new.seat.me.0.upper.log ≡ self.old.seat.me.0.upper.log }
         ensures counts { self.new.seat.me.0.upper.counts ≡ self.old.seat.me.0.upper.counts }
         ensures seen { length front.half.seat.me.0.upper.seen ≤ length self.new.seat.me.0.upper.seen }

@@ -31,11 +31,13 @@ keep_few-requires c = let tree = c.self.inside.tree.now in let z : Sizes = tree.
       is_entered = c.look_up-found.ensures.entered;
       is_unpinned = c.unpin.ensures.unpinned;
     } in
-    record { resting = rests_again tree.space.table.shared.table_id z pass.number c.unpin.new.pass.number pass.kept.rows c.unpin.new.pass.kept.rows
-    pass.seat c.unpin.new.pass.seat event tree.space.few.0 c.self.invariant read
-    (c.unpin.ensures.same.0 ∙ (c.look_up-found.ensures.same.0 ∙ (c.walk-base.ensures.same.0 ∙ c.pin.ensures.same.0)))
-    (c.unpin.ensures.number ∙ (c.look_up-found.ensures.number ∙ (c.walk-base.ensures.number ∙ c.pin.ensures.number)))
-    (ap (λ (k : KeptRows). k.rows) (c.unpin.ensures.kept ∙ (c.look_up-found.ensures.kept ∙ (c.walk-base.ensures.kept ∙ c.pin.ensures.kept)))) }
+    record {
+      resting = rests_again tree.space.table.shared.table_id z pass.number c.unpin.new.pass.number pass.kept.rows c.unpin.new.pass.kept.rows
+          pass.seat c.unpin.new.pass.seat event tree.space.few.0 c.self.invariant read
+          (c.unpin.ensures.same.0 ∙ (c.look_up-found.ensures.same.0 ∙ (c.walk-base.ensures.same.0 ∙ c.pin.ensures.same.0)))
+          (c.unpin.ensures.number ∙ (c.look_up-found.ensures.number ∙ (c.walk-base.ensures.number ∙ c.pin.ensures.number)))
+          (ap (λ (k : KeptRows). k.rows) (c.unpin.ensures.kept ∙ (c.look_up-found.ensures.kept ∙ (c.walk-base.ensures.kept ∙ c.pin.ensures.kept))));
+    }
 
 pub invariant_of-self : goal.invariant_of-self
 invariant_of-self c = c.keep_few.ensures.resting
