@@ -4,6 +4,7 @@ use Rattle.ca_model.specs.declared.outcome.Spent.{Spent}
 use Rattle.ca_node.specs.Told.{MyTree}
 use Rattle.ca_base.specs.declared.taking.NoRow.{NoRow}
 use Rattle.ca_base.specs.declared.taking.NoRow.TheVariants as why
+use Rattle.ca_rows.specs.declared.kept.KeptRows.{KeptRows}
 
 -- how many exchanges a seat lost: of the pool's head, and of a link
 abbrev pub losses : MyTree → ℕ
@@ -32,3 +33,20 @@ abbrev pub HasEnded : Result Bool NoRow → MyTree → MyTree → Type 0
 HasEnded (Ok true) m m' = HasMet 0 0 m m'
 HasEnded (Ok false) m m' = (losses m < losses m') × HasMet 0 0 m m'
 HasEnded (Err why) m m' = HasFound {T = Bool} (Err why) m m'
+
+-- Rows that were held were put back: where no more than so many exchanges were lost, no row is kept for it.
+abbrev pub PutsBack : ℕ → MyTree → MyTree → KeptRows → KeptRows → Type 0
+PutsBack most m m' kept kept' = losses m' ≤ losses m + most → kept' ≡ kept
+
+-- The same of a call that takes rows, where one exchange may have been lost by taking.
+abbrev pub HasPutBack : {T : Type 0} → Result T NoRow → MyTree → MyTree → KeptRows → KeptRows → Type 0
+HasPutBack (Ok x) m m' kept kept' = kept' ≡ kept
+HasPutBack (Err why.Empty) m m' kept kept' = PutsBack 0 m m' kept kept'
+HasPutBack (Err why.Lost) m m' kept kept' = PutsBack 1 m m' kept kept'
+HasPutBack (Err why.Worn) m m' kept kept' = PutsBack 0 m m' kept kept'
+
+-- The same of one that exchanges a base then; where it won, the rows that went are kept.
+abbrev pub HasCleared : Result Bool NoRow → MyTree → MyTree → KeptRows → KeptRows → Type 0
+HasCleared (Ok true) m m' kept kept' = Unit {0}
+HasCleared (Ok false) m m' kept kept' = PutsBack 1 m m' kept kept'
+HasCleared (Err why) m m' kept kept' = HasPutBack {T = Bool} (Err why) m m' kept kept'

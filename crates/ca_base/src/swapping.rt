@@ -3,7 +3,7 @@ ghost use Rattle.std.specs.Prelude.{◌≡◌, ◌<◌, ◌≤◌, ℕ, List, []
 ghost use Rattle.ca_node.specs.Links.{IsIn};
 ghost use Rattle.ca_node.specs.Told.{IsUpdate};
 ghost use Rattle.ca_node.proofs.HeldRows.{AreApart};
-ghost use Rattle.ca_base.specs.Counting.{losses, IsSpent, HasEnded, HasMet};
+ghost use Rattle.ca_base.specs.Counting.{losses, IsSpent, HasCleared, HasEnded, HasMet, PutsBack};
 ghost use Rattle.ca_base.specs.Putting.{HasSwapped};
 ghost use Rattle.ca_base.specs.Taking.{AreHeld, AreUnlinked};
 ghost use Rattle.ca_rows.specs.Calls.{IsOf, IsSame, IsStill};
@@ -50,6 +50,7 @@ pub(crate) fn swap_in<K: Intent>(
     ensures done { HasSwapped K.update.event space.now.table.shared.key result pass.old.seat.me.0.upper pass.new.seat.me.0.upper }
     ensures counted { IsSpent spent.old spent.new pass.old.seat.me pass.new.seat.me }
     ensures found { HasEnded (Ok result) pass.old.seat.me pass.new.seat.me }
+    ensures back { HasCleared (Ok result) pass.old.seat.me pass.new.seat.me pass.old.kept pass.new.kept }
 {
     if !replace_base::<K>(space, pass, base, new) {
         lose(spent);
@@ -72,6 +73,7 @@ fn give_back_all(space: &TreeSpace, pass: &mut TreePass, rows: &[u32], spent: &m
     ensures none { AreHeld space.now.table.shared.key.rows pass.new.kept.rows pass.new.seat.me.0 [] }
     ensures counted { IsSpent spent.old spent.new pass.old.seat.me pass.new.seat.me }
     ensures met { HasMet 0 0 pass.old.seat.me pass.new.seat.me }
+    ensures back { PutsBack 0 pass.old.seat.me pass.new.seat.me pass.old.kept pass.new.kept }
 {
     for at in 0..rows.len() {
         give_back(space, pass, rows[at], spent);

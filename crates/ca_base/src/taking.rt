@@ -2,7 +2,7 @@
 ghost use Rattle.std.specs.Prelude.{◌≡◌, ◌<◌, ◌≤◌, ℕ, List, [], ◌∷◌, length};
 ghost use Rattle.ca_node.specs.Links.{IsIn};
 ghost use Rattle.ca_rows.specs.Calls.{IsOf, IsStill};
-ghost use Rattle.ca_base.specs.Counting.{IsSpent, HasFound, HasMet};
+ghost use Rattle.ca_base.specs.Counting.{IsSpent, HasFound, HasMet, HasPutBack, PutsBack};
 ghost use Rattle.ca_base.specs.Taking.{AreHeld, HasTaken, HasTakenTwo};
 
 use crate::spending::lose;
@@ -56,6 +56,7 @@ pub fn take_two(
     ensures taken { HasTakenTwo result (AreHeld space.now.table.shared.key.rows pass.new.kept.rows pass.new.seat.me.0) }
     ensures counted { IsSpent spent.old spent.new pass.old.seat.me pass.new.seat.me }
     ensures found { HasFound result pass.old.seat.me pass.new.seat.me }
+    ensures back { HasPutBack result pass.old.seat.me pass.new.seat.me pass.old.kept pass.new.kept }
 {
     let first = match take(space, pass, spent) {
         Ok(row) => row,
@@ -81,6 +82,7 @@ pub fn give_back(space: &TreeSpace, pass: &mut TreePass, row: u32, spent: &mut S
         → AreHeld space.now.table.shared.key.rows pass.new.kept.rows pass.new.seat.me.0 rest }
     ensures counted { IsSpent spent.old spent.new pass.old.seat.me pass.new.seat.me }
     ensures met { HasMet 0 0 pass.old.seat.me pass.new.seat.me }
+    ensures back { PutsBack 0 pass.old.seat.me pass.new.seat.me pass.old.kept pass.new.kept }
 {
     if !space.put_row(pass, row) {
         lose(spent);

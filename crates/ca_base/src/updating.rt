@@ -4,7 +4,7 @@ ghost use Rattle.arrayvec.specs.ArrayVec.{array_vec_len};
 ghost use Rattle.ca_model.proofs.Places.{IsPlace};
 ghost use Rattle.ca_model.specs.StoreMap.{IsPair};
 ghost use Rattle.ca_node.specs.Row.{pair};
-ghost use Rattle.ca_base.specs.Counting.{IsSpent, HasEnded};
+ghost use Rattle.ca_base.specs.Counting.{IsSpent, HasCleared, HasEnded};
 ghost use Rattle.ca_base.specs.Putting.{put_in, gone as gone_at, object_at, IsRoom, IsPlaceFor, IsFor, IsShownLast, HasTried, first_note, put_event};
 ghost use Rattle.ca_base.specs.Taking.{AreHeld};
 ghost use Rattle.ca_rows.specs.Calls.{IsOf, IsSame};
@@ -63,6 +63,7 @@ pub fn put_at(
         space.now.table.shared.key result pass.old.seat.me.0.upper pass.new.seat.me.0.upper }
     ensures counted { IsSpent spent.old spent.new pass.old.seat.me pass.new.seat.me }
     ensures found { HasEnded result pass.old.seat.me pass.new.seat.me }
+    ensures back { HasCleared result pass.old.seat.me pass.new.seat.me pass.old.kept pass.new.kept }
 {
     let (new, row) = match take_two(space, pass, spent) {
         Ok(rows) => rows,

@@ -1,6 +1,6 @@
 use Rattle.std.proofs.Common.{◌+◌, drop, ◌∙◌, arith}
 use Rattle.ca_base.specs.Taking.{AreHeld}
-use Rattle.ca_base.proofs.Counts.{spent_both, met_both}
+use Rattle.ca_base.proofs.Counts.{spent_both, met_both, back_both}
 use Rattle.ca_base.proofs.Rest.{from_place}
 use Rattle.ca_base.proofs.swapping.give_back_all.Goals as goal
 
@@ -21,4 +21,6 @@ loop-at-preserved c = let i = c.loop-at.invariant in let s = c.give_back.ensures
       counted = spent_both c.args.spent.now c.loop-at.spent c.give_back.new.spent c.args.pass.now.seat.me c.loop-at.pass.seat.me c.give_back.new.pass.seat.me
           i.counted c.give_back.ensures.counted;
       met = met_both 0 0 0 0 c.args.pass.now.seat.me c.loop-at.pass.seat.me c.give_back.new.pass.seat.me i.met c.give_back.ensures.met;
+      back = back_both 0 0 0 c.args.pass.now.seat.me c.loop-at.pass.seat.me c.give_back.new.pass.seat.me c.args.pass.now.kept c.loop-at.pass.kept
+          c.give_back.new.pass.kept (omega arith) (omega arith) i.counted.more c.give_back.ensures.counted.more i.back c.give_back.ensures.back;
     }
