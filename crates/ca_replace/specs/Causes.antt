@@ -19,7 +19,8 @@ abbrev pub IsRefill : ℕ → ℕ → ℕ → ℕ → Spent → Refusal → MyTr
 -- Its turns were lost.
 IsRefill passes number budget begun spent (refusal.Busy s) m kept = (s ≡ spent) × (budget ≤ s.lost)
 -- The attempt began with no row kept, or another pass lagged.
-IsRefill passes number budget begun spent (refusal.Full cause) m kept = (cause.kept ≡ begun) × ((begun ≡ 0) ⊎ (cause.lag ≢ None)) × IsLag passes number cause.lag m.0.pin
+IsRefill passes number budget begun spent (refusal.Full cause) m kept = (cause.kept ≡ begun) × ((begun ≡ 0) ⊎ (cause.lag ≢ None))
+    × IsLag passes number cause.lag m.0.pin
 IsRefill passes number budget begun spent (refusal.Deep level) m kept = ⊥
 -- The epoch was at its last value, and rows are kept.
 IsRefill passes number budget begun spent (refusal.Worn counter.Epoch) m kept = (4611686018427387904 ≤ m.0.pin.scan) × (0 < vec_len kept)
@@ -43,7 +44,8 @@ IsCaused passes number budget adds (refusal.Deep level) m kept m' kept' = (level
 -- The head's tag was at its last value as a row was to be taken.
 IsCaused passes number budget adds (refusal.Worn counter.PoolTag) m kept m' kept' = m'.0.worn ≡ m.0.worn + 1
 -- The last attempt found the head empty, the epoch was at its last value, and rows are kept.
-IsCaused passes number budget adds (refusal.Worn counter.Epoch) m kept m' kept' = (m.0.empty < m'.0.empty) × (4611686018427387904 ≤ m'.0.pin.scan) × (0 < vec_len kept')
+IsCaused passes number budget adds (refusal.Worn counter.Epoch) m kept m' kept' = (m.0.empty < m'.0.empty)
+    × (4611686018427387904 ≤ m'.0.pin.scan) × (0 < vec_len kept')
 IsCaused passes number budget adds (refusal.Worn counter.Sequence) m kept m' kept' = ⊥
 
 -- Where the call is refused, this holds of the refusal.

@@ -34,7 +34,8 @@ pub(crate) fn call<A: Attempt>(
     ensures refused { IfRefused result (λ rise. IsRefused rise pass.old.seat.me.0.upper pass.new.seat.me.0.upper) }
     ensures deep { IfDeep result (A.adds ≡ true) }
     ensures busy { IfBusy result (λ spent. budget ≤ spent) }
-    ensures caused { IfRefusedAs result (λ why. IsCaused tree.now.space.table.shared.key.passes pass.old.number budget A.adds why pass.old.seat.me pass.old.kept.rows pass.new.seat.me pass.new.kept.rows) }
+    ensures caused { IfRefusedAs result (λ why. IsCaused tree.now.space.table.shared.key.passes pass.old.number budget A.adds
+        why pass.old.seat.me pass.old.kept.rows pass.new.seat.me pass.new.kept.rows) }
     ensures few { KeepsFew pass.old.seat.me pass.new.seat.me pass.new.kept.rows }
 {
     let mut spent = Spent {
@@ -77,7 +78,8 @@ fn attempts<A: Attempt>(
     ensures number { pass.new.number ≡ pass.old.number }
     ensures resting { IsResting tree.now.space.table.shared.table_id tree.now.space.table.shared.key pass.new.number pass.new.kept.rows pass.new.seat }
     ensures come { HasAttempted (λ answer. A.tells what.now answer left.new) result pass.old.seat.me.0.upper pass.new.seat.me.0.upper }
-    ensures caused { IfErr result (λ why. IsCaused tree.now.space.table.shared.key.passes pass.old.number budget A.adds why pass.old.seat.me pass.old.kept.rows pass.new.seat.me pass.new.kept.rows) }
+    ensures caused { IfErr result (λ why. IsCaused tree.now.space.table.shared.key.passes pass.old.number budget A.adds
+        why pass.old.seat.me pass.old.kept.rows pass.new.seat.me pass.new.kept.rows) }
     ensures few { KeepsFew pass.old.seat.me pass.new.seat.me pass.new.kept.rows }
 {
     loop {

@@ -50,7 +50,8 @@ pub(crate) fn refill(
     ensures counted { IsSpent spent.old spent.new pass.old.seat.me pass.new.seat.me }
     ensures met { HasMet 0 0 pass.old.seat.me pass.new.seat.me }
     ensures again { IsOk result → (0 < kept) × (spent.new.lost < budget) × ((vec_len pass.new.kept.rows ≡ 0) ⊎ (spent.old.lost < spent.new.lost)) }
-    ensures refused { IfErr result (λ why. IsRefill tree.now.space.table.shared.key.passes pass.old.number budget kept spent.new why pass.new.seat.me pass.new.kept.rows) }
+    ensures refused { IfErr result (λ why. IsRefill tree.now.space.table.shared.key.passes pass.old.number budget kept spent.new
+        why pass.new.seat.me pass.new.kept.rows) }
     ensures few { IsErr result → KeepsFew pass.old.seat.me pass.new.seat.me pass.new.kept.rows }
 {
     let given = give_back_kept(tree, pass);

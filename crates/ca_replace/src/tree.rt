@@ -91,13 +91,16 @@ impl Tree {
     pub fn enroll(&mut self, alloc: Global) -> Result<TreePass, TreeFault>
         ensures full { (result ≡ Err IsNoPass) ↔ (self.old.space.made ≡ self.old.space.sizes.passes) }
         ensures never { (result ≢ Err IsBadSize) × (result ≢ Err IsBadTuning) }
-        ensures same { (self.new.space.table.shared ≡ self.old.space.table.shared) × (self.new.space.sizes ≡ self.old.space.sizes) × (self.new.tuning ≡ self.old.tuning) }
+        ensures same { (self.new.space.table.shared ≡ self.old.space.table.shared) × (self.new.space.sizes ≡ self.old.space.sizes)
+            × (self.new.tuning ≡ self.old.tuning) }
         ensures counted { OnOk result (self.new.space.made ≡ self.old.space.made + 1) }
         ensures refused { OnErr result (self.new.space.made ≡ self.old.space.made) }
         ensures number { IfOk result (λ pass. pass.number ≡ self.new.space.made) }
         ensures nothing_kept { IfOk result (λ pass. AreKept self.old.space.sizes.rows pass.seat.me.0.claims pass.kept.rows × (pass.kept.rows.items ≡ [])) }
-        ensures begins { IfOk result (λ pass. (pass.seat.table_id ≡ self.old.space.table.shared.table_id) × (pass.seat.me ≡ (fresh self.old.space.sizes pass.number (blank pass.number), []))) }
-        ensures resting { IfOk result (λ pass. IsResting self.old.space.table.shared.table_id self.old.space.table.shared.key pass.number pass.kept.rows pass.seat) }
+        ensures begins { IfOk result (λ pass. (pass.seat.table_id ≡ self.old.space.table.shared.table_id)
+            × (pass.seat.me ≡ (fresh self.old.space.sizes pass.number (blank pass.number), []))) }
+        ensures resting { IfOk result (λ pass. IsResting self.old.space.table.shared.table_id self.old.space.table.shared.key pass.number
+            pass.kept.rows pass.seat) }
     {
         match self.space.enroll(alloc) {
             Ok(pass) => Ok(pass),

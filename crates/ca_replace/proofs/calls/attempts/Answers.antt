@@ -56,8 +56,10 @@ loop-come-preserved g c = let i = c.loop-come.invariant in let tells = λ (x : _
 
 pub returns-in-Err-clause-few : goal.returns-in-Err-clause-few
 returns-in-Err-clause-few g c = let one = c.loop-come.invariant.counted.more in let two = c.turns-come.ensures.counted.more in
-    few_from c.args.pass.now.seat.me c.turns-come.new.pass.seat.me c.refill.new.pass.seat.me c.refill.new.pass.kept.rows (omega arith) (c.in-Err.ensures.few refl)
+    few_from c.args.pass.now.seat.me c.turns-come.new.pass.seat.me c.refill.new.pass.seat.me c.refill.new.pass.kept.rows
+    (omega arith) (c.in-Err.ensures.few refl)
 
 pub returns-else-is_empty-clause-few : goal.returns-else-is_empty-clause-few
 returns-else-is_empty-clause-few g c = let one = c.loop-come.invariant.counted.more in let two = c.turns-come.ensures.counted.more in
-    few_from c.args.pass.now.seat.me c.turns-come.new.pass.seat.me c.keep_few.new.pass.seat.me c.keep_few.new.pass.kept.rows (omega arith) c.keep_few.ensures.few
+    few_from c.args.pass.now.seat.me c.turns-come.new.pass.seat.me c.keep_few.new.pass.seat.me c.keep_few.new.pass.kept.rows
+    (omega arith) c.keep_few.ensures.few

@@ -10,12 +10,13 @@ no_lag None e = refl
 no_lag (Some j) e = absurd cc
 
 pub returns-clause-again : goal.returns-clause-again
-returns-clause-again c = λ _. let given = c.give_back_kept-given in let most = c.ranges.budget.fits in let lag = no_lag given.result.lag c.if-is_some.ensures in (
-  (let positive : c.args.kept ≡ 0 → ⊥ = c.if-kept-eq0.false in grind (arith, positive)),
-  c.if-spent-budget.false,
-  none_or_lost given.result.lost given.result.losses c.args.spent.now.lost c.add-spent.result c.args.budget given.result.kept
-      (vec_len given.new.pass.kept.rows) given.ensures.lost c.if-spent-budget.false (omega arith) c.add-spent.ensures.sum given.ensures.kept
-      (λ kept_all. ⊎_elim (λ (few : (4611686018427387904 ≤ given.result.epoch) × (given.result.kept ≤ 0)). let n = few.1 in omega arith)
-      (λ (room : given.result.epoch < 4611686018427387904). given.ensures.all lag kept_all
-      (subst (λ n. n < 4611686018427387904) given.ensures.epoch room)) c.else-given-ge-LAST_EPOCH.either),
-)
+returns-clause-again c = λ _. let given = c.give_back_kept-given in let most = c.ranges.budget.fits in
+    let lag = no_lag given.result.lag c.if-is_some.ensures in (
+      (let positive : c.args.kept ≡ 0 → ⊥ = c.if-kept-eq0.false in grind (arith, positive)),
+      c.if-spent-budget.false,
+      none_or_lost given.result.lost given.result.losses c.args.spent.now.lost c.add-spent.result c.args.budget given.result.kept
+          (vec_len given.new.pass.kept.rows) given.ensures.lost c.if-spent-budget.false (omega arith) c.add-spent.ensures.sum given.ensures.kept
+          (λ kept_all. ⊎_elim (λ (few : (4611686018427387904 ≤ given.result.epoch) × (given.result.kept ≤ 0)). let n = few.1 in omega arith)
+          (λ (room : given.result.epoch < 4611686018427387904). given.ensures.all lag kept_all
+          (subst (λ n. n < 4611686018427387904) given.ensures.epoch room)) c.else-given-ge-LAST_EPOCH.either),
+    )
