@@ -1,5 +1,5 @@
 -- What calls count, one after another.
-use Rattle.std.proofs.Common.{◌≡◌, ℕ, ◌+◌, ◌-◌, ◌<◌, ◌≤◌, min, sym, refl, ap, ◌∙◌, arith}
+use Rattle.std.proofs.Common.{◌≡◌, ℕ, ◌+◌, ◌≤◌, refl, ◌∙◌, arith}
 use Rattle.ca_model.specs.declared.outcome.Spent.{Spent}
 use Rattle.ca_node.specs.Told.{MyTree}
 use Rattle.ca_base.specs.Counting.{losses, IsSpent, HasMet, PutsBack}

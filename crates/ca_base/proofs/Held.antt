@@ -1,5 +1,5 @@
 -- The rows that a pass holds, as it takes, writes, puts back and retires.
-use Rattle.std.proofs.Common.{◌≡◌, ◌≢◌, ℕ, true, false, ◌<◌, ◌≤◌, List, ◌∷◌, length, Vec, max, sym, refl, ap, ◌∙◌, subst, inl, inr, ⊎_elim, arith}
+use Rattle.std.proofs.Common.{◌≡◌, ◌≢◌, ℕ, true, false, ◌<◌, ◌≤◌, List, ◌∷◌, length, Vec, sym, refl, ap, ◌∙◌, subst, inl, inr, ⊎_elim, arith}
 use Rattle.std.specs.Global.{Global}
 use mathlib.Core.Logic.{dite}
 use mathlib.Core.Option.{some, none, some-injective, some-ne-none}
@@ -8,7 +8,7 @@ use Rattle.ca_node.specs.Links.{IsIn}
 use Rattle.ca_node.specs.Told.{MyTree}
 use Rattle.ca_node.proofs.Looking.{in_more}
 use Rattle.ca_node.proofs.Members.{in_first, in_rest}
-use Rattle.ca_base.specs.Taking.{HasHeld, HoldsFew, AreHeld}
+use Rattle.ca_base.specs.Taking.{HasHeld, AreHeld}
 use Rattle.ca_base.specs.Writing.{IsRewritten}
 use Rattle.ca_base.proofs.Filling.{rewritten}
 use Rattle.ca_rows.specs.declared.kept.Kept.{Kept}
@@ -17,8 +17,7 @@ use Rattle.ca_rows.specs.declared.view.Claimed.{Claimed}
 use Rattle.ca_rows.specs.declared.kept.KeptRows.{KeptRows}
 use Rattle.ca_rows.specs.declared.taken.Taken.TheVariants.{Row}
 use Rattle.ca_rows.specs.Calls.{TakesRow, PutsRow}
-use Rattle.ca_rows.specs.Claims.{claim_of, claimed, dropped, held_count}
-use Rattle.ca_rows.specs.Told.{with_claims, with_most}
+use Rattle.ca_rows.specs.Claims.{claim_of, claimed, dropped}
 use Rattle.ca_rows.specs.Kept.{AreKept}
 use Rattle.ca_rows.proofs.Claiming.{claimed_here, claimed_else, dropped_here, dropped_else}
 use Rattle.ca_rows.proofs.HeldCount.{taken_one_more, dropped_one_less, written_no_more, claimed_one_less}

@@ -1,5 +1,5 @@
 -- A base without one of its objects is an update of the base that was shown.
-use Rattle.std.proofs.Common.{◌≡◌, ◌≢◌, ◌⊎◌, ℕ, zero, suc, ◌<◌, ◌≤◌, List, [], ◌∷◌, length, map, take, drop, get_or, Bool, true, Some, Ok, sym, refl, ap, ◌∙◌, subst, inl, inr, ⊎_elim, arith}
+use Rattle.std.proofs.Common.{◌≡◌, ◌≢◌, ℕ, zero, suc, ◌<◌, ◌≤◌, List, [], ◌∷◌, length, map, take, drop, get_or, Bool, true, Some, Ok, sym, refl, ap, ◌∙◌, subst, inl, inr, arith}
 use Rattle.std.proofs.lemmas.List.{get_or-map, length-map, length-take, map-append, take-map, drop-map}
 use Rattle.std.proofs.lemmas.List.Edits.{length-remove}
 use Rattle.std.specs.List.{remove}
@@ -14,9 +14,9 @@ use Rattle.ca_model.proofs.Places.{IsAt, is_found, removed_is}
 use Rattle.ca_node.specs.Laws.{in_nothing}
 use Rattle.ca_node.specs.Links.{IsIn}
 use Rattle.ca_node.specs.Row.{items, count, pair}
-use Rattle.ca_node.specs.Told.{MyTree, Update, IsUpdate}
+use Rattle.ca_node.specs.Told.{MyTree, IsUpdate}
 use Rattle.ca_node.specs.TreeView.{Note, TreeView}
-use Rattle.ca_base.specs.Putting.{gone, object_at, IsShownLast, HasSwapped, first_note}
+use Rattle.ca_base.specs.Putting.{object_at, IsShownLast, HasSwapped, first_note}
 use Rattle.ca_base.specs.Removing.{key_at, take_update, update_of}
 use Rattle.ca_base.specs.declared.swapping.Deed.TheVariants as deed
 use Rattle.ca_base.specs.Writing.{IsRewritten, SpellsBase}

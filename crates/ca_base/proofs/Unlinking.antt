@@ -14,7 +14,7 @@ use Rattle.ca_node.proofs.HeldRows.{AreApart, given_fewer, taken_out_no_more}
 use Rattle.ca_node.proofs.Looking.{in_more}
 use Rattle.ca_node.proofs.Members.{in_rest, has, given_here, given_else, taken_here, taken_else}
 use Rattle.ca_base.specs.Progress.{HasDone}
-use Rattle.ca_base.specs.Taking.{HasHeld, HoldsFew, AreHeld, HasUnlinked, AreUnlinked}
+use Rattle.ca_base.specs.Taking.{HasHeld, AreHeld, HasUnlinked, AreUnlinked}
 use Rattle.ca_base.specs.Writing.{IsRewritten}
 use Rattle.ca_base.proofs.Held.{wrote}
 use Rattle.ca_rows.specs.declared.kept.Kept.{Kept}

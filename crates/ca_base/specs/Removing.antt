@@ -1,10 +1,9 @@
 -- Updates that take an object away: what becomes of a base, and which update an exchange carries out.
-use Rattle.std.specs.Prelude.{◌≡◌, ℕ, ◌<◌, true, List, [], length, map, slice_index_or, Some, Ok}
+use Rattle.std.specs.Prelude.{ℕ, List, [], slice_index_or, Some, Ok}
 use Rattle.std.specs.List.{remove}
 use Rattle.ca_model.specs.Event.{Remove}
 use Rattle.ca_model.specs.History.{Del}
-use Rattle.ca_model.specs.StoreMap.{IsStoreMap}
-use Rattle.ca_node.specs.Row.{items, key, pair}
+use Rattle.ca_node.specs.Row.{items, key}
 use Rattle.ca_node.specs.Told.{MyTree, Update}
 use Rattle.ca_node.specs.TreeView.{Note}
 use Rattle.ca_base.specs.declared.swapping.Deed.{Deed}

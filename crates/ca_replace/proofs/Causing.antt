@@ -14,7 +14,7 @@ use Rattle.ca_replace.specs.declared.refusing.Refusal.TheVariants as refusal
 use Rattle.std.specs.declared.option.Option.TheVariants.{None as Nothing}
 use Rattle.ca_base.specs.Counting.{losses, HasMet, IsSpent}
 use Rattle.ca_model.specs.Known.{Counts}
-use Rattle.ca_replace.specs.Attempting.{HasMetBy, HasAttempted, HasDoneAs, HasTriedTo, IfDeep, refused_as}
+use Rattle.ca_replace.specs.Attempting.{HasMetBy, HasAttempted, HasTriedTo, IfDeep, refused_as}
 use Rattle.ca_replace.specs.Causes.{HasBegun, IsCaused, IsRefill, IfRefusedAs, KeepsFew}
 use Rattle.ca_replace.specs.Refusals.{outcome_of}
 use Rattle.ca_rows.specs.declared.kept.Kept.{Kept}

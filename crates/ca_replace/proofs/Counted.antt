@@ -1,8 +1,8 @@
 -- What calls count, from one attempt to the next.
-use Rattle.std.proofs.Common.{◌≡◌, ◌⊎◌, ℕ, ◌+◌, ◌-◌, ◌*◌, ◌<◌, ◌≤◌, min, Result, Ok, Err, sym, refl, ap, ◌∙◌, subst, arith}
+use Rattle.std.proofs.Common.{◌≡◌, ℕ, ◌-◌, ◌<◌, ◌≤◌, Result, Ok, Err, subst, arith}
 use Rattle.ca_model.specs.declared.outcome.Spent.{Spent}
 use Rattle.ca_base.specs.Counting.{losses, HasMet, IsSpent}
-use Rattle.ca_base.proofs.Counts.{met_both, none_spent, spent_both}
+use Rattle.ca_base.proofs.Counts.{met_both}
 use Rattle.ca_node.specs.Told.{MyTree}
 use Rattle.ca_replace.specs.declared.attempting.Stop.{Stop}
 use Rattle.ca_replace.specs.declared.attempting.Stop.TheVariants as stop

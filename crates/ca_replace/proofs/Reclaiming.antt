@@ -1,5 +1,5 @@
 -- A pass between two calls rests still once it gave rows back.
-use Rattle.std.proofs.Common.{◌≡◌, ◌≢◌, ◌⊎◌, ℕ, ◌+◌, ◌<◌, ◌≤◌, sym, refl, ap, ◌∙◌, subst, ⊎_elim, Vec, max, arith}
+use Rattle.std.proofs.Common.{◌≡◌, ℕ, ◌+◌, ◌<◌, ◌≤◌, sym, refl, ap, ◌∙◌, subst, ⊎_elim, Vec, arith}
 use Rattle.std.specs.Global.{Global}
 use mathlib.Core.Option.{Option, some, none}
 use Rattle.atomic_table.specs.Seated.{TableId}

@@ -1,11 +1,11 @@
 -- A call's attempts, one after another, and its end.
-use Rattle.std.proofs.Common.{◌≡◌, ℕ, ◌≤◌, false, [], Result, Ok, Err, Vec, sym, refl, ap, ◌∙◌, subst, arith, inl, ⊎_elim}
+use Rattle.std.proofs.Common.{◌≡◌, ℕ, false, [], Result, Ok, Err, Vec, sym, refl, ap, ◌∙◌, subst, inl, ⊎_elim}
 use Rattle.std.specs.Global.{Global}
 use Rattle.atomic_table.specs.declared.shared.Seat.{Seat}
 use Rattle.atomic_table.specs.Seated.{TableId}
 use Rattle.ca_model.specs.declared.outcome.Outcome.{Outcome}
 use Rattle.ca_model.specs.declared.outcome.Outcome.TheVariants as outcome
-use Rattle.ca_model.specs.Answer.{IfDone, IfRefused, IfBusy}
+use Rattle.ca_model.specs.Answer.{IfDone, IfRefused}
 use Rattle.ca_model.specs.Event.{Event}
 use Rattle.ca_model.specs.Known.{Counts, Meets, Declines, one_more_busy, one_more_full, one_more_deep, one_more_worn}
 use Rattle.ca_node.specs.Laws.{in_nothing, starts_whole}
@@ -13,7 +13,6 @@ use Rattle.ca_node.specs.Links.{IsIn}
 use Rattle.ca_node.specs.Told.{MyTree, IsKnown}
 use Rattle.ca_node.specs.TreeView.{TreeView, pinned, unpinned}
 use Rattle.ca_replace.specs.declared.attempting.Stop.{Stop}
-use Rattle.ca_replace.specs.declared.attempting.Stop.TheVariants as stop
 use Rattle.ca_replace.specs.Attempting.{HasDoneAs, HasTriedTo}
 use Rattle.ca_base.specs.Progress.{IsFurther, HasDone, IsRefused}
 use Rattle.ca_replace.specs.Resting.{IsResting, known_of}
@@ -25,7 +24,7 @@ use Rattle.ca_rows.specs.declared.view.Pin.{Pin}
 use Rattle.ca_rows.specs.declared.view.View.{View}
 use Rattle.ca_rows.specs.Claims.{claim_of}
 use Rattle.ca_rows.specs.Kept.{AreKept}
-use Rattle.ca_replace.proofs.Meeting.{refused_on, meets, declines}
+use Rattle.ca_replace.proofs.Meeting.{meets, declines}
 
 abbrev pub MySeat : Type 0
 MySeat = Seat (Unit {0}) (View TreeView)

@@ -18,7 +18,7 @@ use Rattle.ca_replace.specs.declared.attempting.Stop.TheVariants as stop
 use Rattle.ca_base.specs.declared.taking.NoRow.{NoRow}
 use Rattle.ca_base.specs.declared.taking.NoRow.TheVariants as norow
 use Rattle.ca_base.specs.Finding.{IsReadable}
-use Rattle.ca_base.specs.Progress.{IsFurther, HasDone, IsRefused}
+use Rattle.ca_base.specs.Progress.{IsFurther, HasDone}
 use Rattle.ca_base.specs.Putting.{first_note, object_at}
 use Rattle.ca_rows.specs.declared.sizes.Sizes.{Sizes}
 

@@ -1,5 +1,5 @@
-use Rattle.std.proofs.Common.{◌≡◌, ℕ, ◌+◌, ◌-◌, refl, subst, ◌∙◌, arith}
-use Rattle.ca_base.proofs.Filling.{IsFilling, begins, goes_on}
+use Rattle.std.proofs.Common.{◌≡◌, ◌+◌, ◌-◌, refl, subst, ◌∙◌, arith}
+use Rattle.ca_base.proofs.Filling.{IsFilling, goes_on}
 use Rattle.ca_base.proofs.writing.clear.Goals as goal
 
 pub loop-place-preserved : goal.loop-place-preserved

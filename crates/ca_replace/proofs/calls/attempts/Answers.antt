@@ -4,10 +4,9 @@ use Rattle.ca_base.specs.Progress.{IsFurther}
 use Rattle.ca_replace.specs.declared.attempting.Stop.{Stop}
 use Rattle.ca_replace.specs.declared.attempting.Stop.TheVariants as stop
 use Rattle.ca_replace.specs.Attempting.{HasMetBy}
-use Rattle.ca_replace.proofs.Causing.{attempted, caused, empty_before, few_from, nearer, refill_caused}
+use Rattle.ca_replace.proofs.Causing.{empty_before, few_from, nearer}
 use Rattle.ca_replace.proofs.Counted.{spends_more}
 use Rattle.ca_replace.proofs.Meeting.{further_on}
-use Rattle.ca_replace.proofs.Showing.{tried_on}
 use Rattle.ca_replace.proofs.Turns.{no_further, stopped_further}
 use Rattle.ca_replace.proofs.calls.attempts.Goals as goal
 

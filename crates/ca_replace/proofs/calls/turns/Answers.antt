@@ -1,4 +1,4 @@
-use Rattle.std.proofs.Common.{true, refl, ◌∙◌, arith, le_refl}
+use Rattle.std.proofs.Common.{refl, ◌∙◌, arith}
 use Rattle.ca_replace.specs.declared.attempting.Stop.TheVariants as stop
 use Rattle.ca_base.proofs.Counts.{met_both, none_spent, spent_both}
 use Rattle.ca_replace.proofs.Counted.{met_lost, met_then, none_met, one_turn_less}
