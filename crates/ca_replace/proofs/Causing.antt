@@ -15,7 +15,7 @@ use Rattle.std.specs.declared.option.Option.TheVariants.{None as Nothing}
 use Rattle.ca_base.specs.Counting.{losses, HasMet, IsSpent}
 use Rattle.ca_model.specs.Known.{Counts}
 use Rattle.ca_replace.specs.Attempting.{HasMetBy, HasAttempted, HasTriedTo, IfDeep, refused_as}
-use Rattle.ca_replace.specs.Causes.{HasBegun, IsCaused, IsRefill, IfRefusedAs, KeepsFew}
+use Rattle.ca_replace.specs.Causes.{HasBegun, IsCaused, IsFull, IsRefill, IfRefusedAs, KeepsFew}
 use Rattle.ca_replace.specs.Refusals.{outcome_of}
 use Rattle.ca_rows.specs.declared.kept.Kept.{Kept}
 use Rattle.ca_rows.specs.declared.sizes.Sizes.{Sizes}
@@ -43,36 +43,37 @@ attempted tells z (Err stop.Worn) spent u v h = h.0
 attempted tells z (Err stop.Deep) spent u v h = h.0
 
 -- Where it refuses the call, it has a cause.
-pub caused : {T : Type 0} (passes number budget : ℕ) (adds : Bool) (tried : Result T Stop) (spent now : Spent) (m m' : MyTree) (kept kept' : Vec Kept Global)
-    → (tried ≡ Err stop.Empty → ⊥) → (tried ≡ Err stop.Deep → adds ≡ true) → (tried ≡ Err stop.Lost → budget ≤ now.lost)
+pub caused : {T : Type 0} (z : Sizes) (number budget : ℕ) (adds : Bool) (tried : Result T Stop) (spent now : Spent) (m m' : MyTree)
+    (kept kept' : Vec Kept Global) → (tried ≡ Err stop.Empty → ⊥) → (tried ≡ Err stop.Deep → (adds ≡ true) × IsFull z m'.0.upper)
+    → (tried ≡ Err stop.Lost → budget ≤ now.lost)
     → (spent.lost ≡ 0) × (spent.helped ≡ 0) × (spent.passed ≡ 0) → IsSpent spent now m m' → HasMetBy tried m m'
-    → IfErr (refused_as tried now) (λ why. IsCaused passes number budget adds why m kept m' kept')
-caused passes number budget adds (Ok x) spent now m m' kept kept' full deep lost none counted met = tt
-caused passes number budget adds (Err stop.Lost) spent now m m' kept kept' full deep lost none counted met = let zero = none.0 in
+    → IfErr (refused_as tried now) (λ why. IsCaused z number budget adds why m kept m' kept')
+caused z number budget adds (Ok x) spent now m m' kept kept' full deep lost none counted met = tt
+caused z number budget adds (Err stop.Lost) spent now m m' kept kept' full deep lost none counted met = let zero = none.0 in
     (lost refl, (let sum = counted.lost (omega arith) in omega arith), counted.helped ∙ none.1, counted.passed ∙ none.2)
-caused passes number budget adds (Err stop.Empty) spent now m m' kept kept' full deep lost none counted met = absurd (full refl)
-caused passes number budget adds (Err stop.Worn) spent now m m' kept kept' full deep lost none counted met = met.1
-caused passes number budget adds (Err stop.Deep) spent now m m' kept kept' full deep lost none counted met = (refl, deep refl)
+caused z number budget adds (Err stop.Empty) spent now m m' kept kept' full deep lost none counted met = absurd (full refl)
+caused z number budget adds (Err stop.Worn) spent now m m' kept kept' full deep lost none counted met = met.1
+caused z number budget adds (Err stop.Deep) spent now m m' kept kept' full deep lost none counted met = (refl, (deep refl).0, (deep refl).1)
 
 -- So has a refusal once rows were given back, of an attempt that found the head empty: the first one, or one behind another that did so.
-pub refill_caused : (passes number budget begun : ℕ) (adds : Bool) (why : Refusal) (spent now : Spent) (m m' : MyTree) (kept kept' : Vec Kept Global)
+pub refill_caused : (z : Sizes) (number budget begun : ℕ) (adds : Bool) (why : Refusal) (spent now : Spent) (m m' : MyTree) (kept kept' : Vec Kept Global)
     → (spent.lost ≡ 0) × (spent.helped ≡ 0) × (spent.passed ≡ 0) → IsSpent spent now m m' → HasBegun begun (vec_len kept) m m'
-    → IsRefill passes number budget begun now why m' kept' → IsCaused passes number budget adds why m kept m' kept'
-refill_caused passes number budget begun adds (refusal.Busy s) spent now m m' kept kept' none counted first h =
+    → IsRefill z.passes number budget begun now why m' kept' → IsCaused z number budget adds why m kept m' kept'
+refill_caused z number budget begun adds (refusal.Busy s) spent now m m' kept kept' none counted first h =
     subst (λ (x : Spent). (budget ≤ x.lost) × (x.lost ≡ min 4294967295 (losses m' - losses m)) × (x.helped ≡ 0) × (x.passed ≡ 0)) (sym h.0)
     (let zero = none.0 in let same = h.0 in let enough : budget ≤ now.lost = subst (λ (x : Spent). budget ≤ x.lost) same h.1 in
     (enough, (let sum = counted.lost (omega arith) in omega arith), counted.helped ∙ none.1, counted.passed ∙ none.2))
-refill_caused passes number budget begun adds (refusal.Full cause) spent now m m' kept kept' none counted first h =
+refill_caused z number budget begun adds (refusal.Full cause) spent now m m' kept kept' none counted first h =
     (subst (λ n. HasBegun n (vec_len kept) m m') (sym h.0) first, ⊎_elim (λ (e : begun ≡ 0). inl (h.0 ∙ e)) (λ (l : cause.lag ≢ Nothing). inr l) h.1, h.2)
-refill_caused passes number budget begun adds (refusal.Deep level) spent now m m' kept kept' none counted first h = absurd h
-refill_caused passes number budget begun adds (refusal.Worn counter.PoolTag) spent now m m' kept kept' none counted first h = absurd h
-refill_caused passes number budget begun adds (refusal.Worn counter.Epoch) spent now m m' kept kept' none counted first h = (
+refill_caused z number budget begun adds (refusal.Deep level) spent now m m' kept kept' none counted first h = absurd h
+refill_caused z number budget begun adds (refusal.Worn counter.PoolTag) spent now m m' kept kept' none counted first h = absurd h
+refill_caused z number budget begun adds (refusal.Worn counter.Epoch) spent now m m' kept kept' none counted first h = (
   ⊎_elim (λ (e : (begun ≡ vec_len kept) × (m'.0.empty ≡ m.0.empty + 1)). let one = e.1 in let up : m.0.empty < m'.0.empty = omega arith in up)
       (λ (l : m.0.empty + 2 ≤ m'.0.empty). let up : m.0.empty < m'.0.empty = omega arith in up) first,
   h.0,
   h.1,
 )
-refill_caused passes number budget begun adds (refusal.Worn counter.Sequence) spent now m m' kept kept' none counted first h = absurd h
+refill_caused z number budget begun adds (refusal.Worn counter.Sequence) spent now m m' kept kept' none counted first h = absurd h
 
 -- What is known of a refusal is so still once it is counted.
 module _ (m m' m'' : MyTree) (counts : Counts) (kept kept' kept'' : Vec Kept Global)
@@ -80,29 +81,29 @@ module _ (m m' m'' : MyTree) (counts : Counts) (kept kept' kept'' : Vec Kept Glo
   as_counted : (P : MyTree → Vec Kept Global → Type 0) → P (with_upper m' (record m'.0.upper { counts = counts })) kept' → P m'' kept''
   as_counted P h = subst (λ (x : MyTree × Vec Kept Global). P x.0 x.1) (λ i. (sym counted i, sym same i)) h
 
-  pub caused_still : {T : Type 0} (passes number budget : ℕ) (adds : Bool) (why : Refusal) (o : Outcome T) → o ≡ outcome_of why
-      → IsCaused passes number budget adds why m kept m' kept' → IfRefusedAs o (λ why. IsCaused passes number budget adds why m kept m'' kept'')
-  caused_still {T} passes number budget adds why o is h = subst (λ (x : Outcome T). IfRefusedAs x (λ y. IsCaused passes number budget adds y m kept m'' kept''))
+  pub caused_still : {T : Type 0} (z : Sizes) (number budget : ℕ) (adds : Bool) (why : Refusal) (o : Outcome T) → o ≡ outcome_of why
+      → IsCaused z number budget adds why m kept m' kept' → IfRefusedAs o (λ why. IsCaused z number budget adds why m kept m'' kept'')
+  caused_still {T} z number budget adds why o is h = subst (λ (x : Outcome T). IfRefusedAs x (λ y. IsCaused z number budget adds y m kept m'' kept''))
       (sym is) (by why h)
     where
-      by : (why : Refusal) → IsCaused passes number budget adds why m kept m' kept'
-          → IfRefusedAs {T = T} (outcome_of why) (λ y. IsCaused passes number budget adds y m kept m'' kept'')
-      by (refusal.Busy spent) h = as_counted (λ x k. IsCaused passes number budget adds (refusal.Busy spent) m kept x k) h
-      by (refusal.Full cause) h = as_counted (λ x k. IsCaused passes number budget adds (refusal.Full cause) m kept x k) h
-      by (refusal.Deep level) h = h
-      by (refusal.Worn counter.PoolTag) h = as_counted (λ x k. IsCaused passes number budget adds (refusal.Worn counter.PoolTag) m kept x k) h
-      by (refusal.Worn counter.Epoch) h = as_counted (λ x k. IsCaused passes number budget adds (refusal.Worn counter.Epoch) m kept x k) h
+      by : (why : Refusal) → IsCaused z number budget adds why m kept m' kept'
+          → IfRefusedAs {T = T} (outcome_of why) (λ y. IsCaused z number budget adds y m kept m'' kept'')
+      by (refusal.Busy spent) h = as_counted (λ x k. IsCaused z number budget adds (refusal.Busy spent) m kept x k) h
+      by (refusal.Full cause) h = as_counted (λ x k. IsCaused z number budget adds (refusal.Full cause) m kept x k) h
+      by (refusal.Deep level) h = as_counted (λ x k. IsCaused z number budget adds (refusal.Deep level) m kept x k) h
+      by (refusal.Worn counter.PoolTag) h = as_counted (λ x k. IsCaused z number budget adds (refusal.Worn counter.PoolTag) m kept x k) h
+      by (refusal.Worn counter.Epoch) h = as_counted (λ x k. IsCaused z number budget adds (refusal.Worn counter.Epoch) m kept x k) h
       by (refusal.Worn counter.Sequence) h = absurd h
 
   pub few_still : KeepsFew m m' kept' → KeepsFew m m'' kept''
   few_still h = as_counted (λ x k. KeepsFew m x k) h
 
 -- A call that is refused for want of levels may add a key.
-pub deep_adds : {T : Type 0} (passes number budget : ℕ) (adds : Bool) (why : Refusal) (o : Outcome T) (m m' : MyTree) (kept kept' : Vec Kept Global)
-    → o ≡ outcome_of why → IsCaused passes number budget adds why m kept m' kept' → IfDeep o (adds ≡ true)
-deep_adds {T} passes number budget adds why o m m' kept kept' is h = subst (λ (x : Outcome T). IfDeep x (adds ≡ true)) (sym is) (by why h)
+pub deep_adds : {T : Type 0} (z : Sizes) (number budget : ℕ) (adds : Bool) (why : Refusal) (o : Outcome T) (m m' : MyTree) (kept kept' : Vec Kept Global)
+    → o ≡ outcome_of why → IsCaused z number budget adds why m kept m' kept' → IfDeep o (adds ≡ true)
+deep_adds {T} z number budget adds why o m m' kept kept' is h = subst (λ (x : Outcome T). IfDeep x (adds ≡ true)) (sym is) (by why h)
   where
-    by : (why : Refusal) → IsCaused passes number budget adds why m kept m' kept' → IfDeep {T = T} (outcome_of why) (adds ≡ true)
+    by : (why : Refusal) → IsCaused z number budget adds why m kept m' kept' → IfDeep {T = T} (outcome_of why) (adds ≡ true)
     by (refusal.Busy spent) h = tt
     by (refusal.Full cause) h = tt
     by (refusal.Deep level) h = h.1

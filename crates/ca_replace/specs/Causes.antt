@@ -1,5 +1,5 @@
 -- Why calls are refused, and which rows a pass keeps behind a call.
-use Rattle.std.specs.Prelude.{◌≡◌, ◌≢◌, ◌⊎◌, ℕ, ◌+◌, ◌-◌, ◌<◌, ◌≤◌, min, Bool, true, Vec, vec_len}
+use Rattle.std.specs.Prelude.{◌≡◌, ◌≢◌, ◌⊎◌, ℕ, ◌+◌, ◌-◌, ◌<◌, ◌≤◌, min, Bool, true, Vec, vec_len, [], length}
 use Rattle.std.specs.declared.option.Option.TheVariants.{None}
 use Rattle.std.specs.Global.{Global}
 use Rattle.ca_model.specs.declared.outcome.Counter.TheVariants as counter
@@ -7,11 +7,14 @@ use Rattle.ca_model.specs.declared.outcome.Outcome.{Outcome}
 use Rattle.ca_model.specs.declared.outcome.Outcome.TheVariants as outcome
 use Rattle.ca_model.specs.declared.outcome.Spent.{Spent}
 use Rattle.ca_base.specs.Counting.{losses}
+use Rattle.ca_model.specs.History.{after}
 use Rattle.ca_node.specs.Told.{MyTree}
+use Rattle.ca_node.specs.TreeView.{TreeView}
 use Rattle.ca_replace.specs.Resting.{StoreView}
 use Rattle.ca_replace.specs.declared.refusing.Refusal.{Refusal}
 use Rattle.ca_replace.specs.declared.refusing.Refusal.TheVariants as refusal
 use Rattle.ca_rows.specs.declared.kept.Kept.{Kept}
+use Rattle.ca_rows.specs.declared.sizes.Sizes.{Sizes}
 use Rattle.ca_rows.specs.Reclaiming.{IsLag}
 
 -- A call with this budget whose attempt began with so many rows kept is refused so, once rows were given back and these turns were spent.
@@ -31,22 +34,26 @@ IsRefill passes number budget begun spent (refusal.Worn counter.Sequence) m kept
 abbrev pub HasBegun : ℕ → ℕ → MyTree → MyTree → Type 0
 HasBegun begun kept m m' = ((begun ≡ kept) × (m'.0.empty ≡ m.0.empty + 1)) ⊎ (m.0.empty + 2 ≤ m'.0.empty)
 
+-- The last state that the pass has seen has as many objects as a leaf may.
+abbrev pub IsFull : Sizes → TreeView → Type 0
+IsFull z u = z.leaf ≤ length (after u.seen [])
+
 -- A call with this budget may be refused so, given what its pass knew and kept before it and what it knows and keeps behind it.
-abbrev pub IsCaused : ℕ → ℕ → ℕ → Bool → Refusal → MyTree → Vec Kept Global → MyTree → Vec Kept Global → Type 0
+abbrev pub IsCaused : Sizes → ℕ → ℕ → Bool → Refusal → MyTree → Vec Kept Global → MyTree → Vec Kept Global → Type 0
 -- So many exchanges were lost in this call.
-IsCaused passes number budget adds (refusal.Busy spent) m kept m' kept' = (budget ≤ spent.lost) × (spent.lost ≡ min 4294967295 (losses m' - losses m))
+IsCaused z number budget adds (refusal.Busy spent) m kept m' kept' = (budget ≤ spent.lost) × (spent.lost ≡ min 4294967295 (losses m' - losses m))
     × (spent.helped ≡ 0) × (spent.passed ≡ 0)
 -- The last attempt found the head empty. It began with no row kept, or another pass lagged as rows were given back.
-IsCaused passes number budget adds (refusal.Full cause) m kept m' kept' = HasBegun cause.kept (vec_len kept) m m' × ((cause.kept ≡ 0) ⊎ (cause.lag ≢ None))
-    × IsLag passes number cause.lag m'.0.pin
--- Its key was a new one.
-IsCaused passes number budget adds (refusal.Deep level) m kept m' kept' = (level ≡ 0) × (adds ≡ true)
+IsCaused z number budget adds (refusal.Full cause) m kept m' kept' = HasBegun cause.kept (vec_len kept) m m' × ((cause.kept ≡ 0) ⊎ (cause.lag ≢ None))
+    × IsLag z.passes number cause.lag m'.0.pin
+-- Its call may add a key, and the base has as many objects as a leaf may.
+IsCaused z number budget adds (refusal.Deep level) m kept m' kept' = (level ≡ 0) × (adds ≡ true) × IsFull z m'.0.upper
 -- The head's tag was at its last value as a row was to be taken.
-IsCaused passes number budget adds (refusal.Worn counter.PoolTag) m kept m' kept' = m'.0.worn ≡ m.0.worn + 1
+IsCaused z number budget adds (refusal.Worn counter.PoolTag) m kept m' kept' = m'.0.worn ≡ m.0.worn + 1
 -- The last attempt found the head empty, the epoch was at its last value, and rows are kept.
-IsCaused passes number budget adds (refusal.Worn counter.Epoch) m kept m' kept' = (m.0.empty < m'.0.empty)
+IsCaused z number budget adds (refusal.Worn counter.Epoch) m kept m' kept' = (m.0.empty < m'.0.empty)
     × (4611686018427387904 ≤ m'.0.pin.scan) × (0 < vec_len kept')
-IsCaused passes number budget adds (refusal.Worn counter.Sequence) m kept m' kept' = ⊥
+IsCaused z number budget adds (refusal.Worn counter.Sequence) m kept m' kept' = ⊥
 
 -- Where the call is refused, this holds of the refusal.
 abbrev pub IfRefusedAs : {T : Type 0} → Outcome T → (Refusal → Type 0) → Type 0
@@ -63,7 +70,7 @@ KeepsFew m m' kept = (vec_len kept ≤ 64) ⊎ (0 < m'.0.pin.lag) ⊎ (losses m 
 
 -- A call of a pass's store may be refused so, given what contracts see of the store before it and behind it.
 abbrev pub HasCause : {T : Type 0} → ℕ → Bool → StoreView → StoreView → Outcome T → Type 0
-HasCause budget adds s t o = IfRefusedAs o (λ why. IsCaused s.z.passes s.number budget adds why s.seat.me s.kept t.seat.me t.kept)
+HasCause budget adds s t o = IfRefusedAs o (λ why. IsCaused s.z s.number budget adds why s.seat.me s.kept t.seat.me t.kept)
 
 -- Behind a call the store's pass keeps few rows, or there is a cause in this call; and it never held more than eight rows at once.
 abbrev pub IsSparing : StoreView → StoreView → Type 0

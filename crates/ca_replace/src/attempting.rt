@@ -6,6 +6,7 @@ ghost use Rattle.ca_model.specs.Event.{Event, Remove};
 ghost use Rattle.ca_model.specs.StoreMap.{IsPair};
 ghost use Rattle.ca_node.specs.Row.{items as items_of, pair};
 ghost use Rattle.ca_replace.specs.declared.attempting.Stop.TheVariants.{Deep as IsDeep};
+ghost use Rattle.ca_replace.specs.Causes.{IsFull};
 ghost use Rattle.ca_replace.specs.Attempting.{IsLooking, HasFetched, HasTriedTo, come_to, HasStopped, IsQuiet};
 ghost use Rattle.ca_base.specs.Counting.{IsSpent};
 ghost use Rattle.ca_base.specs.Progress.{IsFurther};
@@ -75,7 +76,7 @@ pub(crate) trait Attempt {
         ensures none { AreHeld space.now.table.shared.key.rows pass.new.kept.rows pass.new.seat.me.0 [] }
         ensures tried { HasTriedTo (λ answer. tells self.now answer left.new) space.now.table.shared.key result pass.old.seat.me.0.upper
             pass.new.seat.me.0.upper }
-        ensures deep { result ≡ Err IsDeep → adds ≡ true }
+        ensures deep { result ≡ Err IsDeep → (adds ≡ true) × IsFull space.now.table.shared.key pass.new.seat.me.0.upper }
         ensures counted { IsSpent spent.old spent.new pass.old.seat.me pass.new.seat.me }
         ensures found { HasStopped result pass.old.seat.me pass.new.seat.me };
 }
@@ -197,6 +198,7 @@ pub(crate) fn put_there(
         (object_at place (first_note pass.old.seat.me.0.upper.notes).objects) object.now) space.now.table.shared.key result pass.old.seat.me.0.upper
         pass.new.seat.me.0.upper }
     ensures deep { OnOk place (result ≢ Err IsDeep) }
+    ensures full { result ≡ Err IsDeep → IsFull space.now.table.shared.key pass.new.seat.me.0.upper }
     ensures counted { IsSpent spent.old spent.new pass.old.seat.me pass.new.seat.me }
     ensures found { HasStopped result pass.old.seat.me pass.new.seat.me }
 {

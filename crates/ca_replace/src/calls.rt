@@ -4,7 +4,7 @@ ghost use Rattle.ca_model.specs.Answer.{IfBusy, IfDone, IfRefused};
 ghost use Rattle.ca_replace.specs.declared.attempting.Stop.TheVariants.{Deep as IsDeep, Empty as IsEmpty, Lost as IsLost};
 ghost use Rattle.ca_node.specs.Told.{with_upper};
 ghost use Rattle.ca_replace.specs.Attempting.{HasAttempted, HasDoneAs, HasMetBy, HasStopped, HasTriedTo, IfDeep, refused_as};
-ghost use Rattle.ca_replace.specs.Causes.{IfRefusedAs, IsCaused, KeepsFew};
+ghost use Rattle.ca_replace.specs.Causes.{IfRefusedAs, IsCaused, IsFull, KeepsFew};
 ghost use Rattle.ca_base.specs.Counting.{IsSpent};
 ghost use Rattle.ca_base.specs.Progress.{IsRefused};
 ghost use Rattle.ca_replace.specs.Refusals.{outcome_of, risen};
@@ -34,7 +34,7 @@ pub(crate) fn call<A: Attempt>(
     ensures refused { IfRefused result (λ rise. IsRefused rise pass.old.seat.me.0.upper pass.new.seat.me.0.upper) }
     ensures deep { IfDeep result (A.adds ≡ true) }
     ensures busy { IfBusy result (λ spent. budget ≤ spent) }
-    ensures caused { IfRefusedAs result (λ why. IsCaused tree.now.space.table.shared.key.passes pass.old.number budget A.adds
+    ensures caused { IfRefusedAs result (λ why. IsCaused tree.now.space.table.shared.key pass.old.number budget A.adds
         why pass.old.seat.me pass.old.kept.rows pass.new.seat.me pass.new.kept.rows) }
     ensures few { KeepsFew pass.old.seat.me pass.new.seat.me pass.new.kept.rows }
 {
@@ -78,7 +78,7 @@ fn attempts<A: Attempt>(
     ensures number { pass.new.number ≡ pass.old.number }
     ensures resting { IsResting tree.now.space.table.shared.table_id tree.now.space.table.shared.key pass.new.number pass.new.kept.rows pass.new.seat }
     ensures come { HasAttempted (λ answer. A.tells what.now answer left.new) result pass.old.seat.me.0.upper pass.new.seat.me.0.upper }
-    ensures caused { IfErr result (λ why. IsCaused tree.now.space.table.shared.key.passes pass.old.number budget A.adds
+    ensures caused { IfErr result (λ why. IsCaused tree.now.space.table.shared.key pass.old.number budget A.adds
         why pass.old.seat.me pass.old.kept.rows pass.new.seat.me pass.new.kept.rows) }
     ensures few { KeepsFew pass.old.seat.me pass.new.seat.me pass.new.kept.rows }
 {
@@ -132,7 +132,7 @@ fn turns<A: Attempt>(
     ensures resting { IsResting tree.now.space.table.shared.table_id tree.now.space.table.shared.key pass.new.number pass.new.kept.rows pass.new.seat }
     ensures tried { HasTriedTo (λ answer. A.tells what.now answer left.new) tree.now.space.table.shared.key result pass.old.seat.me.0.upper
         pass.new.seat.me.0.upper }
-    ensures deep { result ≡ Err IsDeep → A.adds ≡ true }
+    ensures deep { result ≡ Err IsDeep → (A.adds ≡ true) × IsFull tree.now.space.table.shared.key pass.new.seat.me.0.upper }
     ensures counted { IsSpent spent.old spent.new pass.old.seat.me pass.new.seat.me }
     ensures found { HasMetBy result pass.old.seat.me pass.new.seat.me }
     ensures lost { result ≡ Err IsLost → budget ≤ spent.new.lost }
@@ -168,7 +168,7 @@ fn once<A: Attempt>(
     ensures resting { IsResting tree.now.space.table.shared.table_id tree.now.space.table.shared.key pass.new.number pass.new.kept.rows pass.new.seat }
     ensures tried { HasTriedTo (λ answer. A.tells what.now answer left.new) tree.now.space.table.shared.key result pass.old.seat.me.0.upper
         pass.new.seat.me.0.upper }
-    ensures deep { result ≡ Err IsDeep → A.adds ≡ true }
+    ensures deep { result ≡ Err IsDeep → (A.adds ≡ true) × IsFull tree.now.space.table.shared.key pass.new.seat.me.0.upper }
     ensures counted { IsSpent spent.old spent.new pass.old.seat.me pass.new.seat.me }
     ensures found { HasStopped result pass.old.seat.me pass.new.seat.me }
 {

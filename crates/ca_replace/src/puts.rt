@@ -120,7 +120,7 @@ pub(crate) fn put(
     ensures put { IfDone result (λ _. HasDone (Write (slice_range object.now key_at key_end) object.now) pass.old.seat.me.0.upper pass.new.seat.me.0.upper) }
     ensures refused { IfRefused result (λ rise. IsRefused rise pass.old.seat.me.0.upper pass.new.seat.me.0.upper) }
     ensures busy { IfBusy result (λ spent. budget ≤ spent) }
-    ensures caused { IfRefusedAs result (λ why. IsCaused tree.now.space.table.shared.key.passes pass.old.number budget true
+    ensures caused { IfRefusedAs result (λ why. IsCaused tree.now.space.table.shared.key pass.old.number budget true
         why pass.old.seat.me pass.old.kept.rows pass.new.seat.me pass.new.kept.rows) }
     ensures few { KeepsFew pass.old.seat.me pass.new.seat.me pass.new.kept.rows }
 {
@@ -150,7 +150,7 @@ pub(crate) fn put_new(
         pass.new.seat.me.0.upper) }
     ensures refused { IfRefused result (λ rise. IsRefused rise pass.old.seat.me.0.upper pass.new.seat.me.0.upper) }
     ensures busy { IfBusy result (λ spent. budget ≤ spent) }
-    ensures caused { IfRefusedAs result (λ why. IsCaused tree.now.space.table.shared.key.passes pass.old.number budget true
+    ensures caused { IfRefusedAs result (λ why. IsCaused tree.now.space.table.shared.key pass.old.number budget true
         why pass.old.seat.me pass.old.kept.rows pass.new.seat.me pass.new.kept.rows) }
     ensures few { KeepsFew pass.old.seat.me pass.new.seat.me pass.new.kept.rows }
 {
