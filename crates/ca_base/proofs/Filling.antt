@@ -1,5 +1,6 @@
 -- A row that a seat holds is filled word by word.
-use Rattle.std.proofs.Common.{◌≡◌, ℕ, ◌+◌, ◌<◌, ◌≤◌, List, length, get_or, set, sym, refl, ap, ◌∙◌, subst, arith, length-set, get_or-set_other, get_or-set_same, le_refl}
+use Rattle.std.proofs.Common.{◌≡◌, ℕ, ◌+◌, ◌-◌, ◌<◌, ◌≤◌, List, length, get_or, set, sym, refl, ap, ◌∙◌, subst, ⊎_elim, arith, length-set, get_or-set_other, get_or-set_same, le_refl}
+use Rattle.std.proofs.lemmas.Bool.{cases_lt}
 use mathlib.Core.Logic.{dite}
 use mathlib.Core.Option.{some}
 use native.Mathlib.Decide.{ℕ_discrete}
@@ -11,7 +12,7 @@ use Rattle.ca_base.specs.Writing.{IsHeld, IsRewritten, HasSet, IsFilled, HasFill
 use Rattle.ca_rows.specs.declared.sizes.Sizes.{Sizes}
 use Rattle.ca_rows.specs.declared.view.Claim.TheVariants.{Holds}
 use Rattle.ca_rows.specs.declared.view.View.{View}
-use Rattle.ca_rows.specs.Calls.{IsOf, IsStill}
+use Rattle.ca_rows.specs.Calls.{IsOf, IsSame, IsStill}
 use Rattle.ca_rows.specs.Claims.{claim_of, claimed, held_count}
 use Rattle.ca_rows.proofs.Claiming.{claimed_here, claimed_else}
 use Rattle.ca_rows.proofs.HeldCount.{written_no_more}
@@ -94,3 +95,53 @@ goes_on table z row at says first a b count place v is l say f s wrote' = let h 
         rewritten_again row x.0 (set x.0 (at + count) v) first.me a.me b.me x.2 new,
       );
     }
+
+-- The same where the row was looked at before the word was written.
+pub goes_on_behind : (table : TableId) (z : Sizes) (row at : ℕ) (says : ℕ → ℕ → Type 0) (first a b d : MySeat) (count place v : ℕ) → place ≡ at + count
+    → place < 136 → says count v → IsFilling table z row at says first a count → IsSame a b → b.me ≡ a.me → IsStill b d → HasSet row place v b.me d.me
+    → IsFilling table z row at says first d (count + 1)
+goes_on_behind table z row at says first a b d count place v is l say f same looked s wrote = goes_on table z row at says first a d count place v is l say f (
+  s.0 ∙ same.0,
+  s.1 ∙ same.1,
+  s.2 ∙ ap (λ (m : MyTree). m.0.sizes) looked,
+  s.3 ∙ ap (λ (m : MyTree). m.0.pin) looked,
+  s.4 ∙ ap (λ (m : MyTree). m.0.upper) looked,
+)
+    (subst (λ (m : MyTree). HasSet row place v m d.me) looked wrote)
+
+-- The row is held then.
+pub filled_held : (row at count : ℕ) (says : ℕ → ℕ → Type 0) (m m' : MyTree) → HasFilled row at count says m m' → IsHeld m row → IsHeld m' row
+filled_held row at count says m m' f h = let x = f h.0 h.1 h.2 in (x.0, x.1.long ∙ h.1, x.2.here)
+
+-- What is said of the words that were written, in other words.
+pub filled_as : (row at count : ℕ) (says tells : ℕ → ℕ → Type 0) (m m' : MyTree) → ((k word : ℕ) → k < count → says k word → tells k word)
+    → HasFilled row at count says m m' → HasFilled row at count tells m m'
+filled_as row at count says tells m m' so f its long has = let x = f its long has in (
+  x.0,
+  record {
+    long = x.1.long;
+    inside = λ k l. so k (get_or x.0 (at + k) 0) l (x.1.inside k l);
+    before = x.1.before;
+    behind = x.1.behind;
+  },
+  x.2,
+)
+
+-- Words were written, and then more behind them.
+pub filled_on : (row at a b : ℕ) (says : ℕ → ℕ → Type 0) (k m n : MyTree) → HasFilled row at a says k m
+    → HasFilled row (at + a) b (λ j. says (a + j)) m n → HasFilled row at (a + b) says k n
+filled_on row at a b says k m n f g its long has = let x = f its long has in let y = g x.0 (x.1.long ∙ long) x.2.here in (
+  y.0,
+  record {
+    long = y.1.long ∙ x.1.long;
+    inside = λ j l. ⊎_elim
+        (λ (h : j < a). subst (says j) (sym (y.1.before (at + j) (omega arith))) (x.1.inside j h))
+        (λ (h : a ≤ j). let there : at + a + (j - a) ≡ at + j = omega arith in let same : a + (j - a) ≡ j = omega arith in
+        subst (λ (i : ℕ). says i (get_or y.0 (at + j) 0)) same
+        (subst (λ (i : ℕ). says (a + (j - a)) (get_or y.0 i 0)) there (y.1.inside (j - a) (omega arith))))
+        (cases_lt j a);
+    before = λ j l. y.1.before j (omega arith) ∙ x.1.before j l;
+    behind = λ j l. y.1.behind j (omega arith) ∙ x.1.behind j (omega arith);
+  },
+  rewritten_again row x.0 y.0 k m n x.2 y.2,
+)

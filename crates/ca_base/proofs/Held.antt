@@ -1,11 +1,13 @@
 -- The rows that a pass holds, as it takes, writes, puts back and retires.
-use Rattle.std.proofs.Common.{◌≡◌, ◌≢◌, ℕ, true, false, ◌<◌, ◌≤◌, List, ◌∷◌, length, Vec, sym, refl, ap, ◌∙◌, subst, inl, inr, ⊎_elim, arith}
+use Rattle.std.proofs.Common.{◌≡◌, ◌≢◌, ℕ, true, false, ◌<◌, ◌≤◌, List, [], ◌∷◌, length, Vec, sym, refl, ap, ◌∙◌, subst, inl, inr, ⊎_elim, arith}
 use Rattle.std.specs.Global.{Global}
 use mathlib.Core.Logic.{dite}
 use mathlib.Core.Option.{some, none, some-injective, some-ne-none}
 use native.Mathlib.Decide.{ℕ_discrete}
+use Rattle.ca_node.specs.Laws.{in_nothing}
 use Rattle.ca_node.specs.Links.{IsIn}
 use Rattle.ca_node.specs.Told.{MyTree}
+use Rattle.ca_node.specs.TreeView.{TreeView}
 use Rattle.ca_node.proofs.Looking.{in_more}
 use Rattle.ca_node.proofs.Members.{in_first, in_rest}
 use Rattle.ca_base.specs.Taking.{HasHeld, AreHeld}
@@ -14,6 +16,7 @@ use Rattle.ca_base.proofs.Filling.{rewritten}
 use Rattle.ca_rows.specs.declared.kept.Kept.{Kept}
 use Rattle.ca_rows.specs.declared.view.Claim.TheVariants.{Holds, Keeps}
 use Rattle.ca_rows.specs.declared.view.Claimed.{Claimed}
+use Rattle.ca_rows.specs.declared.view.View.{View}
 use Rattle.ca_rows.specs.declared.kept.KeptRows.{KeptRows}
 use Rattle.ca_rows.specs.declared.taken.Taken.TheVariants.{Row}
 use Rattle.ca_rows.specs.Calls.{TakesRow, PutsRow}
@@ -99,6 +102,23 @@ retired rows kept kept' claims held row t out h k = record {
   each = λ r i. let w = h.each r (in_rest r row held i) in
       (w.0, w.1, (w.2.0, w.2.1, claimed_else claims row r (Keeps t) (λ f. out (subst (λ (y : ℕ). IsIn y held) f i)) ∙ w.2.2));
 }
+
+turned : (a b r : ℕ) → IsIn r (a ∷ b ∷ []) → IsIn r (b ∷ a ∷ [])
+turned a b r i = ⊎_elim (λ (e : a ≡ r). in_rest r b (a ∷ []) (0, ap some e))
+    (λ (j : IsIn r (b ∷ [])). ⊎_elim (λ (e : b ≡ r). (0, ap some e)) (λ (k : IsIn r []). absurd (in_nothing r [] refl k)) (in_more b r [] j))
+    (in_more a r (b ∷ []) i)
+
+-- Of two rows that are held either may be the first one.
+pub either_first : (rows : ℕ) (kept : Vec Kept Global) (view : View TreeView) (a b : ℕ) → AreHeld rows kept view (a ∷ b ∷ [])
+    → AreHeld rows kept view (b ∷ a ∷ [])
+either_first rows kept view a b h = (
+  record {
+    are_kept = h.0.are_kept;
+    only = λ r c e. ⊎_elim (λ k. inl k) (λ i. inr (turned a b r i)) (h.0.only r c e);
+    each = λ r i. h.0.each r (turned b a r i);
+  },
+  h.1,
+)
 
 -- By what taking a row told.
 pub took_row : (rows : ℕ) (kept kept' : KeptRows) (m m' : MyTree) (row : ℕ) → m.0.sizes.rows ≡ rows → TakesRow (Row row) m m' → kept' ≡ kept → (held : List ℕ)

@@ -4,6 +4,7 @@ pub mod Held
 pub mod Inserting
 pub mod Items
 pub mod KeyOrder
+pub mod LastItems
 pub mod ObjectBytes
 pub mod Replacing
 pub mod Readying

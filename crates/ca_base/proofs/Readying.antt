@@ -1,16 +1,16 @@
 -- Rows that were written are ready for the exchange.
-use Rattle.std.proofs.Common.{◌≡◌, ◌≢◌, ℕ, ◌<◌, ◌≤◌, true, Bool, List, length, map, Result, Ok, Err, sym, ap, ◌∙◌, subst, arith}
+use Rattle.std.proofs.Common.{◌≡◌, ◌≢◌, ℕ, ◌<◌, ◌≤◌, true, Bool, List, length, map, drop, Result, Ok, Err, sym, ap, ◌∙◌, subst, arith}
 use Rattle.std.specs.Prelude.{slice_range}
-use Rattle.std.proofs.lemmas.List.{length-map}
+use Rattle.std.proofs.lemmas.List.{length-map, length-take}
 use mathlib.Core.Option.{some}
 use Rattle.ca_model.specs.Event.{Event}
 use Rattle.ca_model.specs.StoreMap.{IsPair}
 use Rattle.ca_model.proofs.Places.{IsPlace}
-use Rattle.ca_node.specs.Row.{items, object, key, pair}
+use Rattle.ca_node.specs.Row.{count, object, key, pair}
 use Rattle.ca_node.specs.Told.{MyTree, IsUpdate}
 use Rattle.ca_node.specs.TreeView.{Note, TreeView}
 use Rattle.ca_base.specs.declared.updating.Putting.{Putting}
-use Rattle.ca_base.specs.Putting.{put_in, object_at, IsRoom, IsPlaceFor, IsFor, IsShownLast, HasSwapped, first_note, words_of, put_event, put_update, put_update_of}
+use Rattle.ca_base.specs.Putting.{put_in, object_at, IsRoom, IsPlaceFor, IsFor, IsShownLast, HasSwapped, first_note, last_items, words_of, put_event, put_update, put_update_of}
 use Rattle.ca_base.specs.Writing.{IsRewritten, SpellsObject, SpellsBase}
 use Rattle.ca_base.proofs.Rebasing.{new_base, note_is, words_are}
 use Rattle.ca_base.proofs.Replacing.{in_range_of, is_put}
@@ -24,10 +24,10 @@ pub finds_place : (place : Result ℕ ℕ) (n leaf : ℕ) → IsInRange place n 
 finds_place (Ok at) n leaf l r few = l
 finds_place (Err at) n leaf l r few = (l, omega arith)
 
-module _ (z : Sizes) (m0 m1 m2 m3 : MyTree) (row new base : ℕ) (these : List ℕ) (place : Result ℕ ℕ) (why : Putting) (bytes : List ℕ)
-    (key_at key_end statistic : ℕ) (a b : List ℕ) (shown : IsShownLast z m0.0.upper base these)
+module _ (z : Sizes) (m0 m1 m2 m3 : MyTree) (row new base : ℕ) (place : Result ℕ ℕ) (why : Putting) (bytes : List ℕ)
+    (key_at key_end statistic : ℕ) (a b : List ℕ) (shown : IsShownLast z m0.0.upper base)
     (upper : m3.0.upper ≡ m0.0.upper) (other : row ≢ new) (one : SpellsObject bytes key_at key_end a) (wrote : IsRewritten row a m1 m2)
-    (two : SpellsBase (put_in these place row) statistic b) (wrote_too : IsRewritten new b m2 m3) where
+    (two : SpellsBase (put_in (last_items m0.0.upper) place row) statistic b) (wrote_too : IsRewritten new b m2 m3) where
   abbrev note : Note
   note = first_note m0.0.upper.notes
 
@@ -40,19 +40,18 @@ module _ (z : Sizes) (m0 m1 m2 m3 : MyTree) (row new base : ℕ) (these : List �
   is_note : first_note m3.0.upper.notes ≡ note
   is_note = note_is m0 m3 upper
 
-  pub ready : m0.0.pin.pinned ≡ true → 0 < m0.0.upper.number → IsRoom place (length these) z.leaf → IsPair z.keypos (slice_range bytes key_at key_end, bytes)
-      → IsPlace (map pair note.objects) (slice_range bytes key_at key_end) place → IsFor why place → m3.0.pin ≡ m0.0.pin
-      → IsUpdate z m3 new (put_update_of m3 row new place why)
+  pub ready : m0.0.pin.pinned ≡ true → 0 < m0.0.upper.number → IsRoom place (length (last_items m0.0.upper)) z.leaf
+      → IsPair z.keypos (slice_range bytes key_at key_end, bytes) → IsPlace (map pair note.objects) (slice_range bytes key_at key_end) place
+      → IsFor why place → m3.0.pin ≡ m0.0.pin → IsUpdate z m3 new (put_update_of m3 row new place why)
   ready is_pinned is_pass room is_pair is_place is_for pin = subst (λ (x : Note × List ℕ × List ℕ). IsUpdate z m3 new (put_update x.0 row x.1 x.2 place why))
       (λ i. (sym is_note i, sym is_a i, sym (words_are new b m2 m3 wrote_too) i))
       (is_put z m3 note row new place why statistic a b
-      (new_base z m0 m2 m3 new base these (put_in (items note.its) place row) statistic b shown is_pinned is_pass upper pin
-      (subst (λ (xs : List ℕ). SpellsBase (put_in xs place row) statistic b) (sym shown.items_are) two) wrote_too)
+      (new_base z m0 m2 m3 new base (put_in (last_items m0.0.upper) place row) statistic b shown is_pinned is_pass upper pin two wrote_too)
       record {
         object_held = object_held;
         is_object = one.is_object;
         place_is = subst (λ (k : List ℕ). IsPlace (map pair note.objects) k place) (sym one.key_is) is_place;
-        room = subst (λ (xs : List ℕ). IsRoom place (length xs) z.leaf) (sym shown.items_are) room;
+        room = room;
         pair_is = subst (λ (x : List ℕ × List ℕ). IsPair z.keypos x) (λ i. (sym one.key_is i, sym one.object_is i)) is_pair;
         is_for = is_for;
       })
@@ -66,9 +65,16 @@ module _ (z : Sizes) (m0 m1 m2 m3 : MyTree) (row new base : ℕ) (these : List �
       → HasSwapped (put_event why (slice_range bytes key_at key_end) (object_at place note.objects) bytes) z won m0.0.upper v
   tried won v h = subst (λ (x : Event × TreeView). HasSwapped x.0 z won x.1 v) (λ i. (is_event i, upper i)) h
 
--- The place is one of the items of the base.
-pub place_in : (z : Sizes) (u : TreeView) (base : ℕ) (these : List ℕ) (place : Result ℕ ℕ) (k : List ℕ) → IsShownLast z u base these
-    → IsPlace (map pair (first_note u.notes).objects) k place → IsInRange place (length these)
-place_in z u base these place k shown h = let note = first_note u.notes in subst (IsInRange place)
-    (length-map note.objects pair ∙ (shown.is_base.as_many ∙ ap (λ (xs : List ℕ). length xs) shown.items_are))
+-- It has as many items as objects, and the place is among them.
+pub many_are : (z : Sizes) (u : TreeView) (base many : ℕ) → IsShownLast z u base → many ≡ length (first_note u.notes).objects
+    → many ≡ length (last_items u)
+many_are z u base many shown is = is ∙ shown.is_base.as_many
+
+pub place_in : (z : Sizes) (u : TreeView) (base many : ℕ) (place : Result ℕ ℕ) (k : List ℕ) → IsShownLast z u base
+    → many ≡ length (first_note u.notes).objects → IsPlace (map pair (first_note u.notes).objects) k place → IsInRange place many
+place_in z u base many place k shown is h = let note = first_note u.notes in subst (IsInRange place) (length-map note.objects pair ∙ sym is)
     (in_range_of (map pair note.objects) k place h)
+
+pub few_are : (z : Sizes) (u : TreeView) (base many : ℕ) → IsShownLast z u base → many ≡ length (first_note u.notes).objects → z.leaf ≤ 120 → many ≤ 120
+few_are z u base many shown is leaf = let its = (first_note u.notes).its in let few = shown.is_base.few in let all = many_are z u base many shown is in
+    omega (arith, length-take (count its) (drop 11 its))

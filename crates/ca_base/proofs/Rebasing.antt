@@ -75,10 +75,10 @@ is_first [] i = absurd (in_nothing (first_note []) [] refl i)
 is_first (note ∷ notes) i = (notes, refl)
 
 -- The base was written since the pass was shown the old one.
-pub new_base : (z : Sizes) (first before now : MyTree) (new base : ℕ) (all these : List ℕ) (statistic : ℕ) (b : List ℕ) → IsShownLast z first.0.upper base all
+pub new_base : (z : Sizes) (first before now : MyTree) (new base : ℕ) (these : List ℕ) (statistic : ℕ) (b : List ℕ) → IsShownLast z first.0.upper base
     → first.0.pin.pinned ≡ true → 0 < first.0.upper.number → now.0.upper ≡ first.0.upper → now.0.pin ≡ first.0.pin → SpellsBase these statistic b
     → IsRewritten new b before now → IsNewBase z now new (first_note first.0.upper.notes) these statistic b
-new_base z first before now new base all these statistic b shown is_pinned is_pass upper pin spells wrote = record {
+new_base z first before now new base these statistic b shown is_pinned is_pass upper pin spells wrote = record {
   is_pinned = ap (λ (e : Pin). e.pinned) pin ∙ is_pinned;
   is_pass = subst (λ (u : TreeView). 0 < u.number) (sym upper) is_pass;
   shown = subst (λ (u : TreeView). (rest : List Note) × (u.notes ≡ first_note first.0.upper.notes ∷ rest)) (sym upper)

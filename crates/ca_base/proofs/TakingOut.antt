@@ -16,7 +16,7 @@ use Rattle.ca_node.specs.Links.{IsIn}
 use Rattle.ca_node.specs.Row.{items, count, pair}
 use Rattle.ca_node.specs.Told.{MyTree, IsUpdate}
 use Rattle.ca_node.specs.TreeView.{Note, TreeView}
-use Rattle.ca_base.specs.Putting.{object_at, IsShownLast, HasSwapped, first_note}
+use Rattle.ca_base.specs.Putting.{object_at, IsShownLast, HasSwapped, first_note, last_items}
 use Rattle.ca_base.specs.Removing.{key_at, take_update, update_of}
 use Rattle.ca_base.specs.declared.swapping.Deed.TheVariants as deed
 use Rattle.ca_base.specs.Writing.{IsRewritten, SpellsBase}
@@ -94,9 +94,9 @@ module _ (z : Sizes) (m : MyTree) (note : Note) (at new statistic : ℕ) (b : Li
   }
 
 -- The base without the object was written: it is ready for the exchange, which is the call.
-module _ (z : Sizes) (first before now : MyTree) (new base at statistic : ℕ) (these k b : List ℕ) (shown : IsShownLast z first.0.upper base these)
+module _ (z : Sizes) (first before now : MyTree) (new base at statistic : ℕ) (k b : List ℕ) (shown : IsShownLast z first.0.upper base)
     (upper : now.0.upper ≡ first.0.upper) (place : IsAt (map pair (first_note first.0.upper.notes).objects) k at)
-    (spells : SpellsBase (remove these at) statistic b) (wrote : IsRewritten new b before now) where
+    (spells : SpellsBase (remove (last_items first.0.upper) at) statistic b) (wrote : IsRewritten new b before now) where
   abbrev note : Note
   note = first_note first.0.upper.notes
 
@@ -108,8 +108,7 @@ module _ (z : Sizes) (first before now : MyTree) (new base at statistic : ℕ) (
   ready_without is_pinned is_pass pin ordered = subst (λ (y : Note × List ℕ). IsUpdate z now new (take_update y.0 y.1 at))
       (λ i. (sym (note_is first now upper) i, sym (words_are new b before now wrote) i))
       (is_taken_out z now note at new statistic b
-      (new_base z first before now new base these (remove (items note.its) at) statistic b shown is_pinned is_pass upper pin
-      (subst (λ (xs : List ℕ). SpellsBase (remove xs at) statistic b) (sym shown.items_are) spells) wrote)
+      (new_base z first before now new base (remove (last_items first.0.upper) at) statistic b shown is_pinned is_pass upper pin spells wrote)
       ordered (subst (λ (q : List ℕ). IsAt (map pair note.objects) q at) (sym key_same) place))
 
   pub removed : (won : Bool) (v : TreeView) → HasSwapped (update_of now new (deed.Remove at)).event z won now.0.upper v

@@ -27,6 +27,11 @@ abbrev pub gone : Result ℕ ℕ → List ℕ → List ℕ
 gone (Ok at) these = slice_index these at ∷ []
 gone (Err at) these = []
 
+-- It is the item whose place it is, if it is one's.
+abbrev pub IsItemAt : Result ℕ ℕ → List ℕ → ℕ → Type 0
+IsItemAt (Ok at) these item = item ≡ slice_index these at
+IsItemAt (Err at) these item = Unit {0}
+
 -- the bytes of the object whose place it is, if one's
 abbrev pub object_at : Result ℕ ℕ → List (List ℕ) → List ℕ
 object_at (Ok at) objects = object (slice_index_or objects at [])
@@ -73,6 +78,10 @@ abbrev pub first_note : List Note → Note
 first_note [] = record { row = 0; its = []; objects = [] }
 first_note (note ∷ notes) = note
 
+-- its items
+abbrev pub last_items : TreeView → List ℕ
+last_items u = items (first_note u.notes).its
+
 -- the words of a row that is held
 abbrev pub words_of : Option Claim → List ℕ
 words_of none = []
@@ -87,12 +96,11 @@ abbrev pub put_update_of : MyTree → ℕ → ℕ → Result ℕ ℕ → Putting
 put_update_of m row new place why = put_update (first_note m.0.upper.notes) row
     (words_of (claim_of m.0.claims row)) (words_of (claim_of m.0.claims new)) place why
 
--- The base with this row and these items was shown last.
-pub record IsShownLast (z : Sizes) (u : TreeView) (base : ℕ) (these : List ℕ) : Type 0 where
+-- The base with this row was shown last.
+pub record IsShownLast (z : Sizes) (u : TreeView) (base : ℕ) : Type 0 where
   pub noted : IsIn (first_note u.notes) u.notes
   pub here : (first_note u.notes).row ≡ base
   pub is_base : IsBaseNote z (first_note u.notes)
-  pub items_are : items (first_note u.notes).its ≡ these
 
 -- The exchange of a base: the call is done, and what the pass has seen then is known of a history; or it was lost, which is counted.
 abbrev pub HasSwapped : Event → Sizes → Bool → TreeView → TreeView → Type 0

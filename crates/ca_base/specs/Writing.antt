@@ -1,5 +1,5 @@
 -- Rows that a seat holds, and what is written into them.
-use Rattle.std.specs.Prelude.{◌≡◌, ◌≢◌, ℕ, ◌+◌, ◌*◌, ◌<◌, ◌≤◌, List, length, take, drop, slice_index, slice_set, slice_range}
+use Rattle.std.specs.Prelude.{◌≡◌, ◌≢◌, ℕ, ◌+◌, ◌*◌, ◌<◌, ◌≤◌, List, [], ◌∷◌, length, take, drop, slice_index, slice_set, slice_range}
 use Rattle.std.specs.Int.{to_be_bytes, w64}
 use mathlib.Core.Option.{some}
 use Rattle.ca_rows.specs.declared.view.Claim.TheVariants.{Holds}
@@ -59,6 +59,10 @@ pub record SpellsBase (these : List ℕ) (statistic : ℕ) (its : List ℕ) : Ty
   pub count_is : count its ≡ length these
   pub unmarked : mark its ≡ 0
   pub statistic_is : slice_index its 1 ≡ statistic
+
+-- the words of a base row from the first one up to the mark's bound: so many items, at level 0, this word for the statistic, and no mark
+abbrev pub base_head : ℕ → ℕ → List ℕ
+base_head many statistic = (144115188075855872 + many) ∷ statistic ∷ 0 ∷ 0 ∷ 0 ∷ 0 ∷ 0 ∷ []
 
 -- The seat holds the row with such words, and its other rows as before.
 abbrev pub HasWritten : ℕ → (List ℕ → Type 0) → MyTree → MyTree → Type 0

@@ -3,6 +3,7 @@
 #![tactic(auto)]
 
 mod comparing;
+mod copying;
 mod place;
 mod reading;
 mod removing;

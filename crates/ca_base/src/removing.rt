@@ -1,5 +1,5 @@
 //! An object is taken away from a base.
-ghost use Rattle.std.specs.Prelude.{◌≡◌, ◌<◌, ◌≤◌, [], map, true, Ok, Some};
+ghost use Rattle.std.specs.Prelude.{◌≡◌, ◌<◌, ◌≤◌, [], length, map, true, Ok, Some};
 ghost use Rattle.ca_model.proofs.Places.{IsPlace};
 ghost use Rattle.ca_model.specs.Event.{Remove};
 ghost use Rattle.ca_model.specs.StoreMap.{IsStoreMap};
@@ -9,22 +9,21 @@ ghost use Rattle.ca_base.specs.Putting.{object_at, IsShownLast, HasTried, first_
 ghost use Rattle.ca_base.specs.Taking.{AreHeld};
 ghost use Rattle.ca_rows.specs.Calls.{IsOf, IsSame};
 
+use crate::copying::write_base_without;
 use crate::swapping::{Deed, STATISTIC, swap_in};
 use crate::taking::{NoRow, take};
-use crate::writing::write_base;
-use ca_leaf::{Items, without};
 use ca_model::Spent;
 use ca_node::{TreePass, TreeSpace};
 use std::marker::Brand;
 use std::slice::from_ref;
 
-/// Takes the object with this key, which stands at this place, out of the base that was shown last, by one exchange, which enters the call in the
-/// log. False where the exchange was lost.
+/// Takes the object with this key, which stands at this place, out of the base that was shown last, which has so many, by one exchange, which
+/// enters the call in the log. False where the exchange was lost.
 pub fn remove_at(
     space: &TreeSpace,
     pass: &mut TreePass,
     base: u32,
-    items: &Items,
+    many: u32,
     at: u32,
     _key: &[u8],
     spent: &mut Spent,
@@ -34,7 +33,8 @@ pub fn remove_at(
     requires number { 0 < pass.old.seat.me.0.upper.number }
     requires none { AreHeld space.now.table.shared.key.rows pass.old.kept.rows pass.old.seat.me.0 [] }
     requires leaf { space.now.table.shared.key.leaf ≤ 120 }
-    requires shown { IsShownLast space.now.table.shared.key pass.old.seat.me.0.upper base items.now.items }
+    requires shown { IsShownLast space.now.table.shared.key pass.old.seat.me.0.upper base }
+    requires many { many ≡ length (first_note pass.old.seat.me.0.upper.notes).objects }
     requires ordered { IsStoreMap space.now.table.shared.key.keypos (map pair (first_note pass.old.seat.me.0.upper.notes).objects) }
     requires place { IsPlace (map pair (first_note pass.old.seat.me.0.upper.notes).objects) _key.now (Ok at) }
     ensures same { IsSame pass.old.seat pass.new.seat }
@@ -51,9 +51,8 @@ pub fn remove_at(
         Ok(row) => row,
         Err(why) => return Err(why),
     };
-    let fewer = without(items, at as usize);
-    write_base(space, pass, new, fewer.as_slice(), STATISTIC);
-    let goes = from_ref(&items[at as usize]);
+    let old = write_base_without(space, pass, new, base, many, at, STATISTIC);
+    let goes = from_ref(&old);
     let deed = Deed::Remove(at);
     Ok(swap_in::<Brand>(space, pass, base, new, &[], goes, deed, spent))
 }

@@ -43,7 +43,7 @@ pub fn take(space: &TreeSpace, pass: &mut TreePass, spent: &mut Spent) -> Result
     }
 }
 
-/// Takes two free rows. Where it finds but one, that one is put back.
+/// Takes two free rows: the one that was put back last, and the one below it. Where it finds but one, that one is put back.
 pub fn take_two(
     space: &TreeSpace,
     pass: &mut TreePass,
@@ -63,7 +63,7 @@ pub fn take_two(
         Err(why) => return Err(why),
     };
     match take(space, pass, spent) {
-        Ok(second) => Ok((second, first)),
+        Ok(second) => Ok((first, second)),
         Err(why) => {
             give_back(space, pass, first, spent);
             Err(why)

@@ -1,18 +1,17 @@
 //! An object is put into a base.
-ghost use Rattle.std.specs.Prelude.{◌≡◌, ◌<◌, ◌≤◌, [], length, map, slice_range, true};
-ghost use Rattle.arrayvec.specs.ArrayVec.{array_vec_len};
+ghost use Rattle.std.specs.Prelude.{◌≡◌, ℕ, ◌<◌, ◌≤◌, List, [], length, map, slice_range, true};
 ghost use Rattle.ca_model.proofs.Places.{IsPlace};
 ghost use Rattle.ca_model.specs.StoreMap.{IsPair};
 ghost use Rattle.ca_node.specs.Row.{pair};
 ghost use Rattle.ca_base.specs.Counting.{IsSpent, HasCleared, HasEnded};
-ghost use Rattle.ca_base.specs.Putting.{put_in, gone as gone_at, object_at, IsRoom, IsPlaceFor, IsFor, IsShownLast, HasTried, first_note, put_event};
+ghost use Rattle.ca_base.specs.Putting.{gone as gone_at, object_at, IsItemAt, IsRoom, IsFor, IsShownLast, HasTried, first_note, put_event};
 ghost use Rattle.ca_base.specs.Taking.{AreHeld};
 ghost use Rattle.ca_rows.specs.Calls.{IsOf, IsSame};
 
+use crate::copying::write_base_with;
 use crate::swapping::{Deed, STATISTIC, swap_in};
 use crate::taking::{NoRow, take_two};
-use crate::writing::{write_base, write_object};
-use ca_leaf::{Items, with};
+use crate::writing::write_object;
 use ca_model::Spent;
 use ca_node::{TreePass, TreeSpace};
 use std::marker::Brand;
@@ -29,13 +28,13 @@ pub enum Putting {
     Change,
 }
 
-/// Puts an object into the base that was shown last, at its key's place, by one exchange, which enters the call in the log. False where the exchange
-/// was lost.
+/// Puts an object into the base that was shown last, which has so many, at its key's place, by one exchange, which enters the call in the log.
+/// False where the exchange was lost.
 pub fn put_at(
     space: &TreeSpace,
     pass: &mut TreePass,
     base: u32,
-    items: &Items,
+    many: u32,
     place: Result<u32, u32>,
     why: Putting,
     object: &[u8],
@@ -48,8 +47,9 @@ pub fn put_at(
     requires number { 0 < pass.old.seat.me.0.upper.number }
     requires none { AreHeld space.now.table.shared.key.rows pass.old.kept.rows pass.old.seat.me.0 [] }
     requires leaf { space.now.table.shared.key.leaf ≤ 120 }
-    requires shown { IsShownLast space.now.table.shared.key pass.old.seat.me.0.upper base items.now.items }
-    requires room { IsRoom place (array_vec_len items.now) space.now.table.shared.key.leaf }
+    requires shown { IsShownLast space.now.table.shared.key pass.old.seat.me.0.upper base }
+    requires many { many ≡ length (first_note pass.old.seat.me.0.upper.notes).objects }
+    requires room { IsRoom place many space.now.table.shared.key.leaf }
     requires within { (key_at ≤ key_end) × (key_end ≤ length object.now) }
     requires pair { IsPair space.now.table.shared.key.keypos (slice_range object.now key_at key_end, object.now) }
     requires place { IsPlace (map pair (first_note pass.old.seat.me.0.upper.notes).objects) (slice_range object.now key_at key_end) place }
@@ -65,36 +65,25 @@ pub fn put_at(
     ensures found { HasEnded result pass.old.seat.me pass.new.seat.me }
     ensures back { HasCleared result pass.old.seat.me pass.new.seat.me pass.old.kept pass.new.kept }
 {
+    // An update retires the old base before the old object, and kept rows are given back from the last one on: so the row that is taken first
+    // was mostly a base before, and has most of a new one's words already.
     let (new, row) = match take_two(space, pass, spent) {
         Ok(rows) => rows,
         Err(why) => return Err(why),
     };
     write_object(space, pass, row, object, key_at, key_end);
-    let more = put_item(items, place, row);
-    write_base(space, pass, new, more.as_slice(), STATISTIC);
+    let old = write_base_with(space, pass, new, base, many, place, row, STATISTIC);
+    let goes = gone(&old, place);
     let deed = Deed::Put(why, place, row);
-    let goes = gone(items, place);
     Ok(swap_in::<Brand>(space, pass, base, new, &[row], goes, deed, spent))
 }
 
-// The items with this one put at the place, in the place of another one or between two.
-fn put_item(items: &Items, place: Result<u32, u32>, item: u32) -> Items
-    requires { IsPlaceFor place (array_vec_len items.now) }
-    ensures { result.items ≡ put_in items.now.items place item }
+// The item, where it is the one whose place it is.
+fn gone(item: &u32, place: Result<u32, u32>) -> &[u32]
+    ensures { (these : List ℕ) → IsItemAt place these item.now → result.now ≡ gone_at place these }
 {
     match place {
-        Ok(at) => with(items, at as usize, item, true),
-        Err(at) => with(items, at as usize, item, false),
-    }
-}
-
-// The item whose place it is, if one's.
-fn gone(items: &Items, place: Result<u32, u32>) -> &[u32]
-    requires { IsPlaceFor place (array_vec_len items.now) }
-    ensures { result.now ≡ gone_at place items.now.items }
-{
-    match place {
-        Ok(at) => from_ref(&items[at as usize]),
+        Ok(_at) => from_ref(item),
         Err(_between) => &[],
     }
 }

@@ -2,7 +2,7 @@
 ghost use Rattle.std.specs.Prelude.{◌≡◌, ◌+◌, ◌-◌, ◌*◌, ◌/◌, ◌%◌, ◌<◌, ◌≤◌, ℕ, List, length, slice_index};
 ghost use Rattle.ca_node.specs.Row.{IsBaseRow};
 ghost use Rattle.ca_rows.specs.Calls.{IsOf, IsStill};
-ghost use Rattle.ca_base.specs.Writing.{IsHeld, HasSet, HasFilled, HasBytes, HasEight, SpellsObject, SpellsBase, HasWritten};
+ghost use Rattle.ca_base.specs.Writing.{IsHeld, HasSet, HasFilled, HasBytes, HasEight, SpellsObject, SpellsBase, HasWritten, base_head};
 
 use ca_node::{TreePass, TreeSpace};
 
@@ -47,9 +47,28 @@ pub fn write_base(space: &TreeSpace, pass: &mut TreePass, row: u32, items: &[u32
     ensures kept { pass.new.kept ≡ pass.old.kept }
     ensures written { HasWritten row (SpellsBase items.now statistic) pass.old.seat.me pass.new.seat.me }
 {
-    let form = BASE + items.len() as u64;
+    write_head(space, pass, row, items.len() as u32, statistic);
+    write_items(space, pass, row, 0, items);
+}
+
+// Writes the words of such a row before its items, of which there are so many.
+pub(crate) fn write_head(
+    space: &TreeSpace,
+    pass: &mut TreePass,
+    row: u32,
+    many: u32,
+    statistic: u64,
+)
+    requires own { IsOf space.now.table.shared.table_id space.now.table.shared.key pass.old.seat }
+    requires held { IsHeld pass.old.seat.me row }
+    requires inside { row ≤ space.now.table.shared.key.rows }
+    ensures same { IsStill pass.old.seat pass.new.seat }
+    ensures number { pass.new.number ≡ pass.old.number }
+    ensures kept { pass.new.kept ≡ pass.old.kept }
+    ensures filled { HasFilled row 0 7 (λ k word. word ≡ slice_index (base_head many statistic) k) pass.old.seat.me pass.new.seat.me }
+{
+    let form = BASE + many as u64;
     write_words(space, pass, row, &[form, statistic, 0, 0, 0, 0, 0]);
-    write_items(space, pass, row, items);
 }
 
 // The first word of an object row.
@@ -65,7 +84,7 @@ fn object_form(length: usize, key_at: usize, key_end: usize) -> u64
 }
 
 // Sets a word. It isn't stored where it is that number already, since a load takes an eighth of the time.
-fn set_word(space: &TreeSpace, pass: &mut TreePass, row: u32, index: u32, value: u64)
+pub(crate) fn set_word(space: &TreeSpace, pass: &mut TreePass, row: u32, index: u32, value: u64)
     requires own { IsOf space.now.table.shared.table_id space.now.table.shared.key pass.old.seat }
     requires held { IsHeld pass.old.seat.me row }
     requires inside { (row ≤ space.now.table.shared.key.rows) × (index < 136) }
@@ -110,19 +129,20 @@ fn write_words(space: &TreeSpace, pass: &mut TreePass, row: u32, words: &[u64])
     }
 }
 
-// Writes a base's items.
-fn write_items(space: &TreeSpace, pass: &mut TreePass, row: u32, items: &[u32])
+// Writes items of a base, to the places from `at` on.
+pub(crate) fn write_items(space: &TreeSpace, pass: &mut TreePass, row: u32, at: u32, items: &[u32])
     requires own { IsOf space.now.table.shared.table_id space.now.table.shared.key pass.old.seat }
     requires held { IsHeld pass.old.seat.me row }
     requires inside { row ≤ space.now.table.shared.key.rows }
-    requires few { length items.now ≤ 120 }
+    requires few { at + length items.now ≤ 120 }
     ensures same { IsStill pass.old.seat pass.new.seat }
     ensures number { pass.new.number ≡ pass.old.number }
     ensures kept { pass.new.kept ≡ pass.old.kept }
-    ensures filled { HasFilled row 11 (length items.now) (λ k word. word ≡ slice_index items.now k) pass.old.seat.me pass.new.seat.me }
+    ensures filled { HasFilled row (11 + at) (length items.now) (λ k word. word ≡ slice_index items.now k) pass.old.seat.me pass.new.seat.me }
 {
     for place in 0..items.len() {
-        space.write_word(pass, row, 11 + place as u32, items[place] as u64);
+        let item = items[place] as u64;
+        set_word(space, pass, row, 11 + at + place as u32, item);
     }
 }
 
@@ -139,7 +159,7 @@ fn write_bytes(space: &TreeSpace, pass: &mut TreePass, row: u32, bytes: &[u8])
 {
     for place in 0..bytes.len().div_ceil(8) {
         let word = word_of(&bytes[8 * place..]);
-        space.write_word(pass, row, 11 + place as u32, word);
+        set_word(space, pass, row, 11 + place as u32, word);
     }
 }
 

@@ -1,14 +1,12 @@
 -- What an attempt of a call looks at, and what it comes to.
-use Rattle.std.proofs.Common.{◌≡◌, ℕ, zero, suc, ◌+◌, Bool, true, false, ◌<◌, ◌≤◌, List, [], ◌∷◌, ◌++◌, length, map, take, get_or, Result, Ok, Err, IsOk, Some, sym, refl, ap, ◌∙◌, subst, arith}
-use mathlib.Core.Option.{some, some-injective, some-ne-none}
-use lib.ListN.{get_elem?}
+use Rattle.std.proofs.Common.{◌≡◌, ℕ, Bool, true, false, ◌<◌, ◌≤◌, List, [], ◌∷◌, ◌++◌, length, map, get_or, Result, Ok, Err, IsOk, Some, sym, refl, ap, ◌∙◌, subst, arith}
 use Rattle.ca_model.specs.Event.{Event, Entry, WriteNew}
 use Rattle.ca_model.specs.Lawful.{IsPlaceFrom}
 use Rattle.ca_model.specs.StoreMap.{StoreMap, IsFound, IsStoreMap, get}
 use Rattle.ca_model.proofs.Edits.{map_after, found_pair}
 use Rattle.ca_model.proofs.Places.{IsPlace}
 use Rattle.ca_node.specs.Laws.{starts_whole}
-use Rattle.ca_node.specs.Row.{items, object, pair}
+use Rattle.ca_node.specs.Row.{object, pair}
 use Rattle.ca_node.specs.Told.{MyTree, IsBaseNote, IsKnown, led, IsLed, IsReadNow, entered}
 use Rattle.ca_node.specs.TreeView.{TreeView}
 use Rattle.ca_node.proofs.Looking.{starts_shorter}
@@ -41,17 +39,9 @@ looking z m m' base shown same some_rows most = let note = shown.0 in let more =
       known = both.1;
     }
 
--- One more item was read.
-pub one_more_item : (xs : List ℕ) (k row : ℕ) → get_elem? xs k ≡ some row → take (k + 1) xs ≡ take k xs ++ row ∷ []
-one_more_item [] k row e = absurd (some-ne-none row (sym e))
-one_more_item (x ∷ xs) zero row e = ap (λ y. y ∷ []) (some-injective x row e)
-one_more_item (x ∷ xs) (suc k) row e = let next : suc k + 1 ≡ suc (k + 1) = omega arith in
-    ap (λ n. take n (x ∷ xs)) next ∙ ap (λ ys. x ∷ ys) (one_more_item xs k row e)
-
--- What was read is the base that is shown last.
-pub shown_last : (z : Sizes) (u : TreeView) (base : ℕ) (these : List ℕ) → IsLooking z u base → these ≡ items (first_note u.notes).its
-    → IsShownLast z u base these
-shown_last z u base these l is = record { noted = l.readable.noted; here = l.readable.here; is_base = l.readable.is_base; items_are = sym is }
+-- So it is the one that an update takes the place of.
+pub shown_last : (z : Sizes) (u : TreeView) (base : ℕ) → IsLooking z u base → IsShownLast z u base
+shown_last z u base l = record { noted = l.readable.noted; here = l.readable.here; is_base = l.readable.is_base }
 
 -- Nothing changed.
 pub stopped : (z : Sizes) (u v : TreeView) → IsKnown z u → v ≡ u → IsFurther u v × IsKnown z v

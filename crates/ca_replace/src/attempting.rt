@@ -1,10 +1,9 @@
 //! Attempts of a call that edits.
 ghost use Rattle.std.specs.Prelude.{◌≡◌, ◌≢◌, ◌<◌, ◌≤◌, ◌↔◌, Bool, Err, Ok, OnOk, Some, [], length, map, slice_range, true, IsTrue};
-ghost use Rattle.arrayvec.specs.ArrayVec.{array_vec_len};
 ghost use Rattle.ca_model.proofs.Places.{IsPlace};
 ghost use Rattle.ca_model.specs.Event.{Event, Remove};
 ghost use Rattle.ca_model.specs.StoreMap.{IsPair};
-ghost use Rattle.ca_node.specs.Row.{items as items_of, pair};
+ghost use Rattle.ca_node.specs.Row.{pair};
 ghost use Rattle.ca_replace.specs.declared.attempting.Stop.TheVariants.{Deep as IsDeep};
 ghost use Rattle.ca_replace.specs.Causes.{IsFull};
 ghost use Rattle.ca_replace.specs.Attempting.{IsLooking, HasFetched, HasTriedTo, come_to, HasStopped, IsQuiet};
@@ -16,8 +15,7 @@ ghost use Rattle.ca_rows.specs.declared.sizes.Sizes.{Sizes};
 ghost use Rattle.ca_rows.specs.Calls.{IsOf, IsSame};
 
 use crate::looking::copy_at;
-use ca_base::{NoRow, Putting, count, item, put_at, remove_at, search};
-use ca_leaf::Items;
+use ca_base::{NoRow, Putting, count, put_at, remove_at, search};
 use ca_model::{Code, Spent};
 use ca_node::{Spot, TreePass, TreeSpace, walk};
 
@@ -147,26 +145,6 @@ fn look(space: &TreeSpace, pass: &mut TreePass, key: &[u8]) -> u32
     walk(space, pass, Spot::At(key)).base
 }
 
-/// The items of the base that was shown last.
-pub(crate) fn read_items(space: &TreeSpace, pass: &mut TreePass, base: u32) -> Items
-    requires own { IsOf space.now.table.shared.table_id space.now.table.shared.key pass.old.seat }
-    requires pinned { pass.old.seat.me.0.pin.pinned ≡ true }
-    requires looking { IsLooking space.now.table.shared.key pass.old.seat.me.0.upper base }
-    ensures same { IsSame pass.old.seat pass.new.seat }
-    ensures number { pass.new.number ≡ pass.old.number }
-    ensures kept { pass.new.kept ≡ pass.old.kept }
-    ensures still { pass.new.seat.me ≡ pass.old.seat.me }
-    ensures items { result.items ≡ items_of (first_note pass.old.seat.me.0.upper.notes).its }
-{
-    let many = count(space, pass, base);
-    let mut items = Items::new();
-    for place in 0..many {
-        let row = item(space, pass, base, place);
-        items.push(row);
-    }
-    items
-}
-
 /// Puts an object at its key's place in the base that was shown last, where there is room.
 pub(crate) fn put_there(
     space: &TreeSpace,
@@ -202,12 +180,12 @@ pub(crate) fn put_there(
     ensures counted { IsSpent spent.old spent.new pass.old.seat.me pass.new.seat.me }
     ensures found { HasStopped result pass.old.seat.me pass.new.seat.me }
 {
-    let items = read_items(space, pass, base);
-    if !has_room(&items, place, leaf) {
+    let many = count(space, pass, base);
+    if !has_room(many, place, leaf) {
         return Err(Stop::Deep);
     }
     let tried = put_at(
-        space, pass, base, &items, place, why, object, key_at, key_end, spent,
+        space, pass, base, many, place, why, object, key_at, key_end, spent,
     );
     outcome_of(tried)
 }
@@ -238,8 +216,8 @@ pub(crate) fn remove_there(
     ensures counted { IsSpent spent.old spent.new pass.old.seat.me pass.new.seat.me }
     ensures found { HasStopped result pass.old.seat.me pass.new.seat.me }
 {
-    let items = read_items(space, pass, base);
-    let tried = remove_at(space, pass, base, &items, at, key, spent);
+    let many = count(space, pass, base);
+    let tried = remove_at(space, pass, base, many, at, key, spent);
     outcome_of(tried)
 }
 
@@ -257,12 +235,12 @@ fn outcome_of(tried: Result<bool, NoRow>) -> Result<(), Stop>
     }
 }
 
-// Whether there is room for one item more, where it isn't put in the place of another one.
-fn has_room(items: &Items, place: Result<u32, u32>, leaf: u8) -> bool
-    ensures { IsTrue result ↔ IsRoom place (array_vec_len items.now) leaf }
+// Whether there is room for one item more beside so many, where it isn't put in the place of another one.
+fn has_room(many: u32, place: Result<u32, u32>, leaf: u8) -> bool
+    ensures { IsTrue result ↔ IsRoom place many leaf }
 {
     match place {
         Ok(_at) => true,
-        Err(_between) => items.len() < leaf as usize,
+        Err(_between) => many < leaf as u32,
     }
 }

@@ -1,6 +1,7 @@
-use Rattle.std.proofs.Common.{[], ◌∷◌, ap, refl, sym, arith}
+use Rattle.std.proofs.Common.{[], ◌∷◌, ap, refl, arith}
 use mathlib.Core.Option.{some}
 use Rattle.ca_node.specs.Laws.{in_nothing}
+use Rattle.ca_base.proofs.Held.{either_first}
 use Rattle.ca_base.proofs.taking.take_two.Goals as goal
 
 pub returns-in-Err-clause-taken : goal.returns-in-Err-clause-taken
@@ -13,7 +14,7 @@ give_back-requires-clause-held c = let one = c.in-Ok.ensures.taken [] (omega ari
 pub returns-in-Ok-take-clause-taken : goal.returns-in-Ok-take-clause-taken
 returns-in-Ok-take-clause-taken c = let one = c.in-Ok.ensures.taken [] (omega arith) c.requires.none in
     let two = c.in-Ok-take.ensures.taken (c.in-Ok.row ∷ []) (omega arith) one.1 in
-    ((λ e. two.0 (0, ap some (sym e))), two.1)
+    ((λ e. two.0 (0, ap some e)), either_first _ _ _ _ _ two.1)
 
 pub returns-in-Err-take-clause-taken : goal.returns-in-Err-take-clause-taken
 returns-in-Err-take-clause-taken c = let one = c.in-Ok.ensures.taken [] (omega arith) c.requires.none in

@@ -1,11 +1,13 @@
-use Rattle.std.proofs.Common.{◌≡◌, ℕ, List, [], ◌∷◌, sym, ◌∙◌, subst}
+use Rattle.std.proofs.Common.{◌≡◌, ℕ, List, [], ◌∷◌, length, sym, refl, ap, ◌∙◌, subst}
 use Rattle.ca_node.proofs.HeldRows.{AreApart}
 use Rattle.ca_node.proofs.Members.{in_first, in_rest}
-use Rattle.ca_base.specs.Putting.{put_in}
+use Rattle.ca_node.specs.TreeView.{TreeView}
+use Rattle.ca_base.specs.Putting.{put_in, gone, IsRoom, IsShownLast, first_note, last_items}
 use Rattle.ca_base.specs.Writing.{SpellsBase}
-use Rattle.ca_base.proofs.Readying.{finds_place, place_in, ready}
+use Rattle.ca_base.proofs.Readying.{finds_place, place_in, many_are, few_are, ready}
 use Rattle.ca_base.proofs.Rest.{two_apart, gone_apart}
 use Rattle.ca_base.proofs.Unlinking.{written_row}
+use Rattle.ca_rows.specs.declared.view.Pin.{Pin}
 use Rattle.ca_base.proofs.updating.put_at.Goals as goal
 
 pub write_object-requires-clause-held : goal.write_object-requires-clause-held
@@ -16,40 +18,66 @@ pub write_object-requires-clause-inside : goal.write_object-requires-clause-insi
 write_object-requires-clause-inside c = let t = c.in-Ok.ensures.taken in
     (t.1.0.each c.in-Ok.rows.1 (in_rest c.in-Ok.rows.1 c.in-Ok.rows.0 (c.in-Ok.rows.1 ∷ []) (in_first c.in-Ok.rows.1 []))).1
 
-pub put_item-more-requires : goal.put_item-more-requires
-put_item-more-requires c = finds_place c.args.place _ c.args.space.now.table.shared.key.leaf
-    (place_in c.args.space.now.table.shared.key c.args.pass.now.seat.me.0.upper c.args.base c.args.items.now.items c.args.place _ c.requires.shown
-    c.requires.place)
-    c.requires.room c.requires.leaf
-
-pub write_base-requires-clause-held : goal.write_base-requires-clause-held
-write_base-requires-clause-held c = let t = c.in-Ok.ensures.taken in let w = c.write_object.ensures.written in
+pub write_base_with-old-requires-clause-held : goal.write_base_with-old-requires-clause-held
+write_base_with-old-requires-clause-held c = let t = c.in-Ok.ensures.taken in let w = c.write_object.ensures.written in
     let own = (t.1.0.each c.in-Ok.rows.0 (in_first c.in-Ok.rows.0 (c.in-Ok.rows.1 ∷ []))).2 in
     (own.0, own.1, w.2.others c.in-Ok.rows.0 t.0 ∙ own.2)
 
-pub write_base-requires-clause-inside : goal.write_base-requires-clause-inside
-write_base-requires-clause-inside c = (c.in-Ok.ensures.taken.1.0.each c.in-Ok.rows.0 (in_first c.in-Ok.rows.0 (c.in-Ok.rows.1 ∷ []))).1
+pub write_base_with-old-requires-clause-inside : goal.write_base_with-old-requires-clause-inside
+write_base_with-old-requires-clause-inside c = (c.in-Ok.ensures.taken.1.0.each c.in-Ok.rows.0 (in_first c.in-Ok.rows.0 (c.in-Ok.rows.1 ∷ []))).1
+
+pub write_base_with-old-requires-clause-pinned : goal.write_base_with-old-requires-clause-pinned
+write_base_with-old-requires-clause-pinned c = ap (λ (e : Pin). e.pinned) (c.write_object.ensures.same.3 ∙ c.take_two.ensures.same.3) ∙ c.requires.pinned
+
+pub write_base_with-old-requires-clause-shown : goal.write_base_with-old-requires-clause-shown
+write_base_with-old-requires-clause-shown c = subst (λ (u : TreeView). IsShownLast c.args.space.now.table.shared.key u c.args.base)
+    (sym (c.write_object.ensures.same.4 ∙ c.take_two.ensures.same.4)) c.requires.shown
+
+pub write_base_with-old-requires-clause-many : goal.write_base_with-old-requires-clause-many
+write_base_with-old-requires-clause-many c = let u = c.args.pass.now.seat.me.0.upper in (
+  subst (λ (v : TreeView). c.args.many ≡ length (last_items v)) (sym (c.write_object.ensures.same.4 ∙ c.take_two.ensures.same.4))
+      (many_are _ u c.args.base c.args.many c.requires.shown c.requires.many),
+  few_are _ u c.args.base c.args.many c.requires.shown c.requires.many c.requires.leaf,
+)
+
+pub write_base_with-old-requires-clause-place : goal.write_base_with-old-requires-clause-place
+write_base_with-old-requires-clause-place c = finds_place c.args.place c.args.many c.args.space.now.table.shared.key.leaf
+    (place_in c.args.space.now.table.shared.key c.args.pass.now.seat.me.0.upper c.args.base c.args.many c.args.place _ c.requires.shown c.requires.many
+    c.requires.place)
+    c.requires.room c.requires.leaf
 
 pub swap_in-requires-clause-held : goal.swap_in-requires-clause-held
-swap_in-requires-clause-held c = let t = c.in-Ok.ensures.taken in let w = c.write_object.ensures.written in let v = c.write_base.ensures.written in
-    let rows : List ℕ = c.in-Ok.rows.0 ∷ c.in-Ok.rows.1 ∷ [] in
-    written_row c.args.space.now.table.shared.key.rows c.write_object.new.pass.kept c.write_base.new.pass.kept c.write_object.new.pass.seat.me
-    c.write_base.new.pass.seat.me rows c.in-Ok.rows.0 v.0 (in_first c.in-Ok.rows.0 (c.in-Ok.rows.1 ∷ [])) v.1.long v.2 c.write_base.ensures.kept
+swap_in-requires-clause-held c = let t = c.in-Ok.ensures.taken in let w = c.write_object.ensures.written in
+    let v = c.write_base_with-old.ensures.written in let rows : List ℕ = c.in-Ok.rows.0 ∷ c.in-Ok.rows.1 ∷ [] in
+    written_row c.args.space.now.table.shared.key.rows c.write_object.new.pass.kept c.write_base_with-old.new.pass.kept c.write_object.new.pass.seat.me
+    c.write_base_with-old.new.pass.seat.me rows c.in-Ok.rows.0 v.0 (in_first c.in-Ok.rows.0 (c.in-Ok.rows.1 ∷ [])) v.1.long v.2
+    c.write_base_with-old.ensures.kept
     (written_row c.args.space.now.table.shared.key.rows c.take_two.new.pass.kept c.write_object.new.pass.kept c.take_two.new.pass.seat.me
     c.write_object.new.pass.seat.me rows c.in-Ok.rows.1 w.0 (in_rest c.in-Ok.rows.1 c.in-Ok.rows.0 (c.in-Ok.rows.1 ∷ []) (in_first c.in-Ok.rows.1 []))
     w.1.long w.2 c.write_object.ensures.kept t.1)
 
+pub swap_in-requires-clause-rows : goal.swap_in-requires-clause-rows
+swap_in-requires-clause-rows c = let one = c.take_two.ensures.same in let two = c.write_object.ensures.same in
+    let three = c.write_base_with-old.ensures.same in (
+      ap (λ (u : TreeView). (first_note u.notes).row) (three.4 ∙ (two.4 ∙ one.4)) ∙ c.requires.shown.here,
+      refl,
+      ap (λ (u : TreeView). gone c.args.place (last_items u)) three.4 ∙ sym (c.gone-goes.ensures _ c.write_base_with-old.ensures.gone),
+    )
+
 pub swap_in-requires-clause-update : goal.swap_in-requires-clause-update
-swap_in-requires-clause-update c = let t = c.in-Ok.ensures.taken in let w = c.write_object.ensures.written in let v = c.write_base.ensures.written in
-    let r = c.requires in let one = c.take_two.ensures.same in let two = c.write_object.ensures.same in let three = c.write_base.ensures.same in
-    let items : c.as_slice.result.now ≡ put_in c.args.items.now.items c.args.place c.in-Ok.rows.1 = c.as_slice.ensures.value ∙ c.put_item-more.ensures in
-    ready c.args.space.now.table.shared.key c.args.pass.now.seat.me c.take_two.new.pass.seat.me c.write_object.new.pass.seat.me c.write_base.new.pass.seat.me
-    c.in-Ok.rows.1 c.in-Ok.rows.0 c.args.base c.args.items.now.items c.args.place c.args.why c.args.object.now c.args.key_at c.args.key_end _ w.0 v.0 r.shown
-    (three.4 ∙ (two.4 ∙ one.4)) (λ e. t.0 (sym e)) w.1 w.2 (subst (λ (xs : List ℕ). SpellsBase xs _ v.0) items v.1) v.2
-    r.pinned r.number r.room r.pair r.place r.call (three.3 ∙ (two.3 ∙ one.3))
+swap_in-requires-clause-update c = let t = c.in-Ok.ensures.taken in let w = c.write_object.ensures.written in
+    let v = c.write_base_with-old.ensures.written in let r = c.requires in
+    let one = c.take_two.ensures.same in let two = c.write_object.ensures.same in let three = c.write_base_with-old.ensures.same in
+    ready c.args.space.now.table.shared.key c.args.pass.now.seat.me c.take_two.new.pass.seat.me c.write_object.new.pass.seat.me
+    c.write_base_with-old.new.pass.seat.me c.in-Ok.rows.1 c.in-Ok.rows.0 c.args.base c.args.place c.args.why c.args.object.now c.args.key_at c.args.key_end
+    _ w.0 v.0 r.shown (three.4 ∙ (two.4 ∙ one.4)) (λ e. t.0 (sym e)) w.1 w.2
+    (subst (λ (u : TreeView). SpellsBase (put_in (last_items u) c.args.place c.in-Ok.rows.1) _ v.0) (two.4 ∙ one.4) v.1) v.2
+    r.pinned r.number
+    (subst (λ (n : ℕ). IsRoom c.args.place n c.args.space.now.table.shared.key.leaf) (many_are _ _ c.args.base c.args.many r.shown r.many) r.room)
+    r.pair r.place r.call (three.3 ∙ (two.3 ∙ one.3))
 
 pub swap_in-requires-clause-apart : goal.swap_in-requires-clause-apart
 swap_in-requires-clause-apart c = (
   two_apart c.in-Ok.rows.0 c.in-Ok.rows.1 c.in-Ok.ensures.taken.0,
-  subst AreApart (sym c.gone-goes.ensures) (gone_apart c.args.place c.args.items.now.items),
+  subst AreApart (sym (c.gone-goes.ensures _ c.write_base_with-old.ensures.gone)) (gone_apart c.args.place _),
 )

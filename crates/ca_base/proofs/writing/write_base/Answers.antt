@@ -1,12 +1,12 @@
-use Rattle.std.proofs.Common.{◌∙◌, refl}
-use Rattle.ca_base.proofs.Filling.{rewritten_again}
-use Rattle.ca_base.proofs.Spelling.{spells_base}
+use Rattle.std.proofs.Common.{refl}
+use Rattle.ca_base.proofs.Filling.{filled_held}
+use Rattle.ca_base.proofs.LastItems.{base_written}
 use Rattle.ca_base.proofs.writing.write_base.Goals as goal
 
+pub write_items-requires-clause-held : goal.write_items-requires-clause-held
+write_items-requires-clause-held c = filled_held c.args.row 0 7 _ c.args.pass.now.seat.me c.write_head.new.pass.seat.me c.write_head.ensures.filled
+    c.requires.held
+
 pub returns-clause-written : goal.returns-clause-written
-returns-clause-written c = let h = c.requires.held in let one = c.write_words.ensures.filled h.0 h.1 h.2 in
-    let more = c.write_items.ensures.filled one.0 (one.1.long ∙ h.1) one.2.here in (
-      more.0,
-      spells_base c.args.items.now _ c.args.statistic h.0 one.0 more.0 h.1 refl c.requires.few one.1 more.1,
-      rewritten_again c.args.row one.0 more.0 c.args.pass.now.seat.me c.write_words.new.pass.seat.me c.write_items.new.pass.seat.me one.2 more.2,
-    )
+returns-clause-written c = base_written c.args.row _ c.args.statistic c.args.items.now c.args.pass.now.seat.me c.write_head.new.pass.seat.me
+    c.write_items.new.pass.seat.me c.requires.held refl c.requires.few c.write_head.ensures.filled c.write_items.ensures.filled

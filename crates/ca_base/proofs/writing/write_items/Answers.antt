@@ -1,22 +1,24 @@
-use Rattle.std.proofs.Common.{◌≡◌, get_or, refl, ◌∙◌, arith}
-use Rattle.ca_base.proofs.Filling.{begins, goes_on, rewritten}
+use Rattle.std.proofs.Common.{◌≡◌, ◌+◌, get_or, refl, ◌∙◌, arith}
+use Rattle.ca_base.proofs.Filling.{begins, goes_on}
 use Rattle.ca_base.proofs.writing.write_items.Goals as goal
 
-pub write_word-requires-clause-own : goal.write_word-requires-clause-own
-write_word-requires-clause-own c = c.loop-place.invariant.0.of
+pub set_word-requires-clause-own : goal.set_word-requires-clause-own
+set_word-requires-clause-own c = c.loop-place.invariant.0.of
 
-pub write_word-requires-clause-held : goal.write_word-requires-clause-held
-write_word-requires-clause-held c = let h = c.loop-place.invariant.0.held in (h.0, h.2)
+pub set_word-requires-clause-held : goal.set_word-requires-clause-held
+set_word-requires-clause-held c = c.loop-place.invariant.0.held
 
 pub loop-place-init : goal.loop-place-init
-loop-place-init c = (begins _ _ c.args.row 11 (λ k word. word ≡ get_or c.args.items.now k 0) c.args.pass.now.seat c.requires.own c.requires.held, refl, refl)
+loop-place-init c = (
+  begins _ _ c.args.row (11 + c.args.at) (λ k word. word ≡ get_or c.args.items.now k 0) c.args.pass.now.seat c.requires.own c.requires.held,
+  refl,
+  refl,
+)
 
 pub loop-place-preserved : goal.loop-place-preserved
 loop-place-preserved c = let i = c.loop-place.invariant in (
-  goes_on _ _ c.args.row 11 (λ k word. word ≡ get_or c.args.items.now k 0) c.args.pass.now.seat c.loop-place.pass.seat c.write_word.new.pass.seat
-      c.loop-place.place _ _ (omega arith) (omega arith) refl i.0
-      c.write_word.ensures.same
-      (λ its has. rewritten c.args.row its _ c.loop-place.pass.seat.me c.write_word.new.pass.seat.me has (c.write_word.ensures.written its has)),
-  c.write_word.ensures.number ∙ i.1,
-  c.write_word.ensures.kept ∙ i.2,
+  goes_on _ _ c.args.row (11 + c.args.at) (λ k word. word ≡ get_or c.args.items.now k 0) c.args.pass.now.seat c.loop-place.pass.seat
+      c.set_word.new.pass.seat c.loop-place.place _ _ (omega arith) (omega arith) refl i.0 c.set_word.ensures.same c.set_word.ensures.set,
+  c.set_word.ensures.number ∙ i.1,
+  c.set_word.ensures.kept ∙ i.2,
 )

@@ -1,0 +1,46 @@
+use Rattle.std.proofs.Common.{◌≡◌, ◌+◌, get_or, sym, refl, ap, subst, ◌∙◌, arith}
+use Rattle.ca_node.specs.Told.{IsShown}
+use Rattle.ca_node.specs.TreeView.{TreeView}
+use Rattle.ca_base.specs.Putting.{first_note, last_items}
+use Rattle.ca_base.proofs.Filling.{begins, goes_on_behind}
+use Rattle.ca_base.proofs.LastItems.{last_shown, last_inside, last_item}
+use Rattle.ca_rows.specs.declared.view.Pin.{Pin}
+use Rattle.ca_base.proofs.copying.copy_items.Goals as goal
+
+pub load_word-item-requires-clause-own : goal.load_word-item-requires-clause-own
+load_word-item-requires-clause-own c = c.loop-place.invariant.0.of
+
+pub load_word-item-requires-clause-pinned : goal.load_word-item-requires-clause-pinned
+load_word-item-requires-clause-pinned c = ap (λ (e : Pin). e.pinned) c.loop-place.invariant.0.still.3 ∙ c.requires.pinned
+
+pub load_word-item-requires-clause-inside : goal.load_word-item-requires-clause-inside
+load_word-item-requires-clause-inside c = (last_inside _ _ _ c.requires.shown, omega arith)
+
+pub load_word-item-requires-clause-shown : goal.load_word-item-requires-clause-shown
+load_word-item-requires-clause-shown c = (
+  (first_note c.args.pass.now.seat.me.0.upper.notes).its,
+  subst (λ (u : TreeView). IsShown u c.args.base (first_note c.args.pass.now.seat.me.0.upper.notes).its) (sym c.loop-place.invariant.0.still.4)
+      (last_shown _ _ _ c.requires.shown),
+)
+
+pub loop-place-init : goal.loop-place-init
+loop-place-init c = (
+  begins _ _ c.args.row (11 + c.args.to) (λ k word. word ≡ get_or (last_items c.args.pass.now.seat.me.0.upper) (c.args.from + k) 0) c.args.pass.now.seat
+      c.requires.own c.requires.held,
+  refl,
+  refl,
+)
+
+pub loop-place-preserved : goal.loop-place-preserved
+loop-place-preserved c = let i = c.loop-place.invariant in let u = c.args.pass.now.seat.me.0.upper in let its = (first_note u.notes).its in
+    let shown = subst (λ (v : TreeView). IsShown v c.args.base its) (sym i.0.still.4) (last_shown _ _ _ c.requires.shown) in
+    let there : 11 + c.args.from + c.loop-place.place ≡ 11 + (c.args.from + c.loop-place.place) = omega arith in
+    let word : c.load_word-item.result ≡ get_or (last_items u) (c.args.from + c.loop-place.place) 0 =
+    last_item _ u _ c.requires.shown (c.args.from + c.loop-place.place) c.load_word-item.result
+    (c.load_word-item.ensures.word its shown ∙ ap (λ k. get_or its k 0) there) (omega arith) in (
+      goes_on_behind _ _ c.args.row (11 + c.args.to) (λ k word. word ≡ get_or (last_items u) (c.args.from + k) 0) c.args.pass.now.seat
+          c.loop-place.pass.seat c.load_word-item.new.pass.seat c.set_word.new.pass.seat c.loop-place.place _ _ (omega arith) (omega arith) word i.0
+          c.load_word-item.ensures.same c.load_word-item.ensures.still c.set_word.ensures.same c.set_word.ensures.set,
+      c.set_word.ensures.number ∙ (c.load_word-item.ensures.number ∙ i.1),
+      c.set_word.ensures.kept ∙ (c.load_word-item.ensures.kept ∙ i.2),
+    )

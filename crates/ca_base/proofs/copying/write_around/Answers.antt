@@ -1,0 +1,22 @@
+use Rattle.std.proofs.Common.{◌≡◌, ◌+◌, ◌-◌, length, get_or, subst, ◌∙◌, arith}
+use Rattle.ca_node.specs.TreeView.{TreeView}
+use Rattle.ca_base.specs.Putting.{last_items}
+use Rattle.ca_base.specs.Writing.{HasFilled}
+use Rattle.ca_base.proofs.LastItems.{around_written}
+use Rattle.ca_base.proofs.copying.write_around.Goals as goal
+
+pub returns-clause-written : goal.returns-clause-written
+returns-clause-written c = let u = c.args.pass.now.seat.me.0.upper in let m = c.requires.many.0 in
+    let one = c.write_head.ensures.same in let two = c.copy_items.ensures.same in let three = c.write_items.ensures.same in
+    let rest : c.args.many - c.args.behind ≡ length (last_items u) - c.args.behind = omega arith in
+    around_written (last_items u) c.args.these.now c.args.before c.args.behind (omega arith) (omega arith) c.args.row _ c.args.statistic
+    c.args.pass.now.seat.me c.write_head.new.pass.seat.me c.copy_items.new.pass.seat.me c.write_items.new.pass.seat.me c.copy_items-2.new.pass.seat.me
+    c.requires.held (omega arith) (omega arith) c.write_head.ensures.filled
+    (subst (λ (v : TreeView). HasFilled c.args.row (11 + 0) c.args.before (λ k word. word ≡ get_or (last_items v) (0 + k) 0) c.write_head.new.pass.seat.me
+    c.copy_items.new.pass.seat.me) one.4 c.copy_items.ensures.filled)
+    c.write_items.ensures.filled
+    (subst (λ n. HasFilled c.args.row (11 + (c.args.before + length c.args.these.now)) n (λ k word. word ≡ get_or (last_items u) (c.args.behind + k) 0)
+    c.write_items.new.pass.seat.me c.copy_items-2.new.pass.seat.me) rest
+    (subst (λ (v : TreeView). HasFilled c.args.row (11 + (c.args.before + length c.args.these.now)) (c.args.many - c.args.behind)
+    (λ k word. word ≡ get_or (last_items v) (c.args.behind + k) 0) c.write_items.new.pass.seat.me c.copy_items-2.new.pass.seat.me)
+    (three.4 ∙ (two.4 ∙ one.4)) c.copy_items-2.ensures.filled))
