@@ -24,7 +24,7 @@ use Rattle.ca_rows.specs.Claims.{claim_of, claimed, dropped}
 use Rattle.ca_rows.specs.Kept.{AreKept}
 use Rattle.ca_rows.proofs.Claiming.{claimed_here, claimed_else, dropped_here, dropped_else}
 use Rattle.ca_rows.proofs.HeldCount.{taken_one_more, dropped_one_less, written_no_more, claimed_one_less}
-use Rattle.ca_rows.proofs.Keeping.{claimed_too, dropped_too}
+use Rattle.ca_rows.proofs.Keeping.{claimed_too, dropped_too, kept_as}
 
 not_kept : (claims : List Claimed) (row : ℕ) (its : List ℕ) (t : ℕ) → claim_of claims row ≡ some (Holds its) → claim_of claims row ≢ some (Keeps t)
 not_kept claims row its t e f = let g = some-injective (Holds its) (Keeps t) (sym e ∙ f) in absurd cc
@@ -33,14 +33,9 @@ not_kept claims row its t e f = let g = some-injective (Holds its) (Keeps t) (sy
 kept_still : (rows : ℕ) (kept : Vec Kept Global) (claims claims' : List Claimed) (row : ℕ) (its new : List ℕ) → AreKept rows claims kept
     → claim_of claims row ≡ some (Holds its) → claim_of claims' row ≡ some (Holds new) → ((r : ℕ) → r ≢ row → claim_of claims' r ≡ claim_of claims r)
     → AreKept rows claims' kept
-kept_still rows kept claims claims' row its new k was now others = record {
-  apart = k.apart;
-  room = k.room;
-  are_listed = λ r t e. dite (ℕ_discrete r row) (λ f. absurd (not_kept claims' row new t now (ap (claim_of claims') (sym f) ∙ e)))
-      (λ n. k.are_listed r t (sym (others r n) ∙ e));
-  are_claimed = λ r t e. let w = k.are_claimed r t e in
-      (w.0, w.1, others r (λ f. not_kept claims row its t was (ap (claim_of claims) (sym f) ∙ w.2)) ∙ w.2);
-}
+kept_still rows kept claims claims' row its new k was now others = kept_as rows claims kept k claims'
+    (λ r t e. dite (ℕ_discrete r row) (λ f. absurd (not_kept claims' row new t now (ap (claim_of claims') (sym f) ∙ e))) (λ n. sym (others r n) ∙ e))
+    (λ r t e. others r (λ f. not_kept claims row its t was (ap (claim_of claims) (sym f) ∙ e)) ∙ e)
 
 module _ (rows : ℕ) (kept : Vec Kept Global) where
   -- A row that nobody claimed was taken.

@@ -28,6 +28,7 @@ use Rattle.ca_rows.specs.Claims.{claim_of, claimed, held_count}
 use Rattle.ca_rows.specs.Kept.{AreKept}
 use Rattle.ca_rows.proofs.Claiming.{claimed_here, claimed_else}
 use Rattle.ca_rows.proofs.HeldCount.{claimed_no_more}
+use Rattle.ca_rows.proofs.Keeping.{kept_as}
 
 module _ (rows : ℕ) (kept : Vec Kept Global) (claims : List Claimed) (ins outs : List ℕ) (h : HasHeld rows kept claims ins)
     (free : (r : ℕ) → IsIn r outs → claim_of claims r ≡ none) where
@@ -54,15 +55,11 @@ module _ (rows : ℕ) (kept : Vec Kept Global) (claims : List Claimed) (ins outs
   -- The rows that the seat held came, and others went that nobody claimed: those it has unlinked.
   pub unlinked_then : HasUnlinked rows kept now outs
   unlinked_then = record {
-    are_kept = record {
-      apart = h.are_kept.apart;
-      room = h.are_kept.room;
-      are_listed = λ r t e. ⊎_elim
-          (λ (o : (Keeps t ≡ Unlinked) × IsIn r outs). let same = o.0 in absurd cc)
-          (λ (o : (claim_of claims r ≡ some (Keeps t)) × ¬ IsIn r ins). h.are_kept.are_listed r t o.0) (left r (Keeps t) e);
-      are_claimed = λ r t e. let w = h.are_kept.are_claimed r t e in
-          (w.0, w.1, else_now r (kept_out r t w.2) (kept_else r t w.2) ∙ w.2);
-    };
+    are_kept = kept_as rows claims kept h.are_kept now
+        (λ r t e. ⊎_elim
+        (λ (o : (Keeps t ≡ Unlinked) × IsIn r outs). let same = o.0 in absurd cc)
+        (λ (o : (claim_of claims r ≡ some (Keeps t)) × ¬ IsIn r ins). o.0) (left r (Keeps t) e))
+        (λ r t e. else_now r (kept_out r t e) (kept_else r t e) ∙ e);
     only = λ r c e. ⊎_elim (λ (o : (c ≡ Unlinked) × IsIn r outs). inr o.1)
         (λ (o : (claim_of claims r ≡ some c) × ¬ IsIn r ins). ⊎_elim (λ k. inl k) (λ (i : IsIn r ins). absurd (o.1 i)) (h.only r c o.0)) (left r c e);
     each = λ r o. taken_here outs (given ins claims) r o;

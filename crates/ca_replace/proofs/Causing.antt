@@ -1,21 +1,23 @@
 -- What was lost is counted, and why calls are refused.
-use Rattle.std.proofs.Common.{◌≡◌, ◌≢◌, ◌⊎◌, ◌↔◌, IsTrue, vec_len, ◌∙◌, ℕ, ◌+◌, ◌-◌, ◌*◌, ◌<◌, ◌≤◌, min, Bool, true, false, Vec, Result, Ok, Err, IfErr, sym, subst, refl, inl, inr, ⊎_elim, arith}
+use Rattle.std.proofs.Common.{◌≡◌, ◌≢◌, ◌⊎◌, ◌↔◌, IsTrue, vec_len, ◌∙◌, ℕ, ◌+◌, ◌-◌, ◌*◌, ◌<◌, ◌≤◌, min, Bool, true, false, List, [], Vec, Result, Ok, Err, IfErr, sym, subst, refl, inl, inr, ⊎_elim, arith}
 use Rattle.std.specs.Global.{Global}
 use Rattle.ca_replace.specs.declared.attempting.Stop.{Stop}
 use Rattle.ca_replace.specs.declared.attempting.Stop.TheVariants as stop
 use Rattle.ca_model.specs.declared.outcome.Spent.{Spent}
 use Rattle.ca_model.specs.Event.{Event}
+use Rattle.ca_model.specs.History.{after}
 use Rattle.ca_model.specs.declared.outcome.Outcome.{Outcome}
 use Rattle.ca_node.specs.Told.{MyTree, with_upper}
 use Rattle.ca_node.specs.TreeView.{TreeView}
 use Rattle.ca_model.specs.declared.outcome.Counter.TheVariants as counter
 use Rattle.ca_replace.specs.declared.refusing.Refusal.{Refusal}
 use Rattle.ca_replace.specs.declared.refusing.Refusal.TheVariants as refusal
-use Rattle.std.specs.declared.option.Option.TheVariants.{None as Nothing}
+use Rattle.std.specs.declared.option.Option.{Option}
+use Rattle.std.specs.declared.option.Option.TheVariants.{None as Nothing, Some as Just}
 use Rattle.ca_base.specs.Counting.{losses, HasMet, IsSpent}
 use Rattle.ca_model.specs.Known.{Counts}
 use Rattle.ca_replace.specs.Attempting.{HasMetBy, HasAttempted, HasTriedTo, IfDeep, refused_as}
-use Rattle.ca_replace.specs.Causes.{HasBegun, IsCaused, IsFull, IsRefill, IfRefusedAs, KeepsFew}
+use Rattle.ca_replace.specs.Causes.{HasBegun, HasLooked, IsCaused, IsFull, IsRefill, IfRefusedAs, KeepsFew}
 use Rattle.ca_replace.specs.Refusals.{outcome_of}
 use Rattle.ca_rows.specs.declared.kept.Kept.{Kept}
 use Rattle.ca_rows.specs.declared.sizes.Sizes.{Sizes}
@@ -43,8 +45,8 @@ attempted tells z (Err stop.Worn) spent u v h = h.0
 attempted tells z (Err stop.Deep) spent u v h = h.0
 
 -- Where it refuses the call, it has a cause.
-pub caused : {T : Type 0} (z : Sizes) (number budget : ℕ) (adds : Bool) (tried : Result T Stop) (spent now : Spent) (m m' : MyTree)
-    (kept kept' : Vec Kept Global) → (tried ≡ Err stop.Empty → ⊥) → (tried ≡ Err stop.Deep → (adds ≡ true) × IsFull z m'.0.upper)
+pub caused : {T : Type 0} (z : Sizes) (number budget : ℕ) (adds : Option (List ℕ)) (tried : Result T Stop) (spent now : Spent) (m m' : MyTree)
+    (kept kept' : Vec Kept Global) → (tried ≡ Err stop.Empty → ⊥) → (tried ≡ Err stop.Deep → IsFull z adds (after m'.0.upper.seen []))
     → (tried ≡ Err stop.Lost → budget ≤ now.lost)
     → (spent.lost ≡ 0) × (spent.helped ≡ 0) × (spent.passed ≡ 0) → IsSpent spent now m m' → HasMetBy tried m m'
     → IfErr (refused_as tried now) (λ why. IsCaused z number budget adds why m kept m' kept')
@@ -53,27 +55,33 @@ caused z number budget adds (Err stop.Lost) spent now m m' kept kept' full deep 
     (lost refl, (let sum = counted.lost (omega arith) in omega arith), counted.helped ∙ none.1, counted.passed ∙ none.2)
 caused z number budget adds (Err stop.Empty) spent now m m' kept kept' full deep lost none counted met = absurd (full refl)
 caused z number budget adds (Err stop.Worn) spent now m m' kept kept' full deep lost none counted met = met.1
-caused z number budget adds (Err stop.Deep) spent now m m' kept kept' full deep lost none counted met = (refl, (deep refl).0, (deep refl).1)
+caused z number budget adds (Err stop.Deep) spent now m m' kept kept' full deep lost none counted met = (refl, deep refl)
 
 -- So has a refusal once rows were given back, of an attempt that found the head empty: the first one, or one behind another that did so.
-pub refill_caused : (z : Sizes) (number budget begun : ℕ) (adds : Bool) (why : Refusal) (spent now : Spent) (m m' : MyTree) (kept kept' : Vec Kept Global)
+pub refill_caused : (z : Sizes) (number budget begun : ℕ) (adds : Option (List ℕ)) (why : Refusal) (spent now : Spent) (m n m' : MyTree)
+    (kept kept' : Vec Kept Global)
     → (spent.lost ≡ 0) × (spent.helped ≡ 0) × (spent.passed ≡ 0) → IsSpent spent now m m' → HasBegun begun (vec_len kept) m m'
-    → IsRefill z.passes number budget begun now why m' kept' → IsCaused z number budget adds why m kept m' kept'
-refill_caused z number budget begun adds (refusal.Busy s) spent now m m' kept kept' none counted first h =
+    → m.0.pin.looks ≤ n.0.pin.looks → IsRefill z.passes number budget begun now why n m' kept' → IsCaused z number budget adds why m kept m' kept'
+refill_caused z number budget begun adds (refusal.Busy s) spent now m n m' kept kept' none counted first before h =
     subst (λ (x : Spent). (budget ≤ x.lost) × (x.lost ≡ min 4294967295 (losses m' - losses m)) × (x.helped ≡ 0) × (x.passed ≡ 0)) (sym h.0)
     (let zero = none.0 in let same = h.0 in let enough : budget ≤ now.lost = subst (λ (x : Spent). budget ≤ x.lost) same h.1 in
     (enough, (let sum = counted.lost (omega arith) in omega arith), counted.helped ∙ none.1, counted.passed ∙ none.2))
-refill_caused z number budget begun adds (refusal.Full cause) spent now m m' kept kept' none counted first h =
-    (subst (λ n. HasBegun n (vec_len kept) m m') (sym h.0) first, ⊎_elim (λ (e : begun ≡ 0). inl (h.0 ∙ e)) (λ (l : cause.lag ≢ Nothing). inr l) h.1, h.2)
-refill_caused z number budget begun adds (refusal.Deep level) spent now m m' kept kept' none counted first h = absurd h
-refill_caused z number budget begun adds (refusal.Worn counter.PoolTag) spent now m m' kept kept' none counted first h = absurd h
-refill_caused z number budget begun adds (refusal.Worn counter.Epoch) spent now m m' kept kept' none counted first h = (
+refill_caused z number budget begun adds (refusal.Full cause) spent now m n m' kept kept' none counted first before h = (
+  subst (λ k. HasBegun k (vec_len kept) m m') (sym h.0) first,
+  ⊎_elim (λ (e : begun ≡ 0). inl (h.0 ∙ e)) (λ (l : cause.lag ≢ Nothing). inr l) h.1,
+  (let more = h.2 in omega arith),
+  h.3,
+)
+refill_caused z number budget begun adds (refusal.Deep level) spent now m n m' kept kept' none counted first before h = absurd h
+refill_caused z number budget begun adds (refusal.Worn counter.PoolTag) spent now m n m' kept kept' none counted first before h = absurd h
+refill_caused z number budget begun adds (refusal.Worn counter.Epoch) spent now m n m' kept kept' none counted first before h = (
   ⊎_elim (λ (e : (begun ≡ vec_len kept) × (m'.0.empty ≡ m.0.empty + 1)). let one = e.1 in let up : m.0.empty < m'.0.empty = omega arith in up)
       (λ (l : m.0.empty + 2 ≤ m'.0.empty). let up : m.0.empty < m'.0.empty = omega arith in up) first,
-  h.0,
+  (let more = h.0 in omega arith),
   h.1,
+  h.2,
 )
-refill_caused z number budget begun adds (refusal.Worn counter.Sequence) spent now m m' kept kept' none counted first h = absurd h
+refill_caused z number budget begun adds (refusal.Worn counter.Sequence) spent now m n m' kept kept' none counted first before h = absurd h
 
 -- What is known of a refusal is so still once it is counted.
 module _ (m m' m'' : MyTree) (counts : Counts) (kept kept' kept'' : Vec Kept Global)
@@ -81,7 +89,7 @@ module _ (m m' m'' : MyTree) (counts : Counts) (kept kept' kept'' : Vec Kept Glo
   as_counted : (P : MyTree → Vec Kept Global → Type 0) → P (with_upper m' (record m'.0.upper { counts = counts })) kept' → P m'' kept''
   as_counted P h = subst (λ (x : MyTree × Vec Kept Global). P x.0 x.1) (λ i. (sym counted i, sym same i)) h
 
-  pub caused_still : {T : Type 0} (z : Sizes) (number budget : ℕ) (adds : Bool) (why : Refusal) (o : Outcome T) → o ≡ outcome_of why
+  pub caused_still : {T : Type 0} (z : Sizes) (number budget : ℕ) (adds : Option (List ℕ)) (why : Refusal) (o : Outcome T) → o ≡ outcome_of why
       → IsCaused z number budget adds why m kept m' kept' → IfRefusedAs o (λ why. IsCaused z number budget adds why m kept m'' kept'')
   caused_still {T} z number budget adds why o is h = subst (λ (x : Outcome T). IfRefusedAs x (λ y. IsCaused z number budget adds y m kept m'' kept''))
       (sym is) (by why h)
@@ -99,21 +107,26 @@ module _ (m m' m'' : MyTree) (counts : Counts) (kept kept' kept'' : Vec Kept Glo
   few_still h = as_counted (λ x k. KeepsFew m x k) h
 
 -- A call that is refused for want of levels may add a key.
-pub deep_adds : {T : Type 0} (z : Sizes) (number budget : ℕ) (adds : Bool) (why : Refusal) (o : Outcome T) (m m' : MyTree) (kept kept' : Vec Kept Global)
-    → o ≡ outcome_of why → IsCaused z number budget adds why m kept m' kept' → IfDeep o (adds ≡ true)
-deep_adds {T} z number budget adds why o m m' kept kept' is h = subst (λ (x : Outcome T). IfDeep x (adds ≡ true)) (sym is) (by why h)
+pub deep_adds : {T : Type 0} (z : Sizes) (number budget : ℕ) (adds : Option (List ℕ)) (why : Refusal) (o : Outcome T) (m m' : MyTree)
+    (kept kept' : Vec Kept Global) → o ≡ outcome_of why → IsCaused z number budget adds why m kept m' kept' → IfDeep o (adds ≢ Nothing)
+deep_adds {T} z number budget adds why o m m' kept kept' is h = subst (λ (x : Outcome T). IfDeep x (adds ≢ Nothing)) (sym is) (by why h)
   where
-    by : (why : Refusal) → IsCaused z number budget adds why m kept m' kept' → IfDeep {T = T} (outcome_of why) (adds ≡ true)
+    adds_one : (a : Option (List ℕ)) → IsFull z a (after m'.0.upper.seen []) → a ≢ Nothing
+    adds_one Nothing full = absurd full
+    adds_one (Just key) full = λ e. cc
+
+    by : (why : Refusal) → IsCaused z number budget adds why m kept m' kept' → IfDeep {T = T} (outcome_of why) (adds ≢ Nothing)
     by (refusal.Busy spent) h = tt
     by (refusal.Full cause) h = tt
-    by (refusal.Deep level) h = h.1
+    by (refusal.Deep level) h = adds_one adds h.1
     by (refusal.Worn counter) h = tt
 
 -- Few rows are kept, as seen from a moment before.
-pub few_from : (k m m' : MyTree) (kept : Vec Kept Global) → losses k ≤ losses m → KeepsFew m m' kept → KeepsFew k m' kept
-few_from k m m' kept less few = ⊎_elim inl (λ (rest : (0 < m'.0.pin.lag) ⊎ (losses m < losses m') ⊎ (4611686018427387904 ≤ m'.0.pin.scan)). inr
-    (⊎_elim inl (λ (more : (losses m < losses m') ⊎ (4611686018427387904 ≤ m'.0.pin.scan)). inr
-    (⊎_elim (λ (l : losses m < losses m'). inl (omega arith)) inr more)) rest)) few
+pub few_from : (k m m' : MyTree) (kept : Vec Kept Global) → losses k ≤ losses m → k.0.pin.looks ≤ m.0.pin.looks → KeepsFew m m' kept → KeepsFew k m' kept
+few_from k m m' kept less looks few = ⊎_elim inl (λ rest. inr (⊎_elim
+    (λ (lag : HasLooked m m' × (0 < m'.0.pin.lag)). let more = lag.0 in inl (omega arith, lag.1))
+    (λ more. inr (⊎_elim (λ (l : losses m < losses m'). inl (omega arith))
+    (λ (last : HasLooked m m' × (4611686018427387904 ≤ m'.0.pin.scan)). let more = last.0 in inr (omega arith, last.1)) more)) rest)) few
 
 -- An attempt that found the head empty, behind others that did so or as the first one, and then rows were given back.
 pub begun_with : (begun kept : ℕ) (m0 m m1 m2 : MyTree) (kept0 : Vec Kept Global) → begun ≡ kept

@@ -1,6 +1,7 @@
 -- Why calls are refused, and which rows a pass keeps behind a call.
-use Rattle.std.specs.Prelude.{◌≡◌, ◌≢◌, ◌⊎◌, ℕ, ◌+◌, ◌-◌, ◌<◌, ◌≤◌, min, Bool, true, Vec, vec_len, [], length}
-use Rattle.std.specs.declared.option.Option.TheVariants.{None}
+use Rattle.std.specs.Prelude.{◌≡◌, ◌≢◌, ◌⊎◌, ℕ, ◌+◌, ◌-◌, ◌<◌, ◌≤◌, min, List, Vec, vec_len, [], length}
+use Rattle.std.specs.declared.option.Option.{Option}
+use Rattle.std.specs.declared.option.Option.TheVariants.{None, Some}
 use Rattle.std.specs.Global.{Global}
 use Rattle.ca_model.specs.declared.outcome.Counter.TheVariants as counter
 use Rattle.ca_model.specs.declared.outcome.Outcome.{Outcome}
@@ -8,8 +9,8 @@ use Rattle.ca_model.specs.declared.outcome.Outcome.TheVariants as outcome
 use Rattle.ca_model.specs.declared.outcome.Spent.{Spent}
 use Rattle.ca_base.specs.Counting.{losses}
 use Rattle.ca_model.specs.History.{after}
+use Rattle.ca_model.specs.StoreMap.{StoreMap, IsFound}
 use Rattle.ca_node.specs.Told.{MyTree}
-use Rattle.ca_node.specs.TreeView.{TreeView}
 use Rattle.ca_replace.specs.Resting.{StoreView}
 use Rattle.ca_replace.specs.declared.refusing.Refusal.{Refusal}
 use Rattle.ca_replace.specs.declared.refusing.Refusal.TheVariants as refusal
@@ -17,41 +18,47 @@ use Rattle.ca_rows.specs.declared.kept.Kept.{Kept}
 use Rattle.ca_rows.specs.declared.sizes.Sizes.{Sizes}
 use Rattle.ca_rows.specs.Reclaiming.{IsLag}
 
+-- From one of these moments to the other the pass began a look at the others. What it knows then of a pass that lags, and of the epoch, is of its last look.
+abbrev pub HasLooked : MyTree → MyTree → Type 0
+HasLooked m m' = m.0.pin.looks < m'.0.pin.looks
+
 -- A call with this budget whose attempt began with so many rows kept is refused so, once rows were given back and these turns were spent.
-abbrev pub IsRefill : ℕ → ℕ → ℕ → ℕ → Spent → Refusal → MyTree → Vec Kept Global → Type 0
+abbrev pub IsRefill : ℕ → ℕ → ℕ → ℕ → Spent → Refusal → MyTree → MyTree → Vec Kept Global → Type 0
 -- Its turns were lost.
-IsRefill passes number budget begun spent (refusal.Busy s) m kept = (s ≡ spent) × (budget ≤ s.lost)
+IsRefill passes number budget begun spent (refusal.Busy s) m m' kept' = (s ≡ spent) × (budget ≤ s.lost)
 -- The attempt began with no row kept, or another pass lagged.
-IsRefill passes number budget begun spent (refusal.Full cause) m kept = (cause.kept ≡ begun) × ((begun ≡ 0) ⊎ (cause.lag ≢ None))
-    × IsLag passes number cause.lag m.0.pin
-IsRefill passes number budget begun spent (refusal.Deep level) m kept = ⊥
+IsRefill passes number budget begun spent (refusal.Full cause) m m' kept' = (cause.kept ≡ begun) × ((begun ≡ 0) ⊎ (cause.lag ≢ None))
+    × HasLooked m m' × IsLag passes number cause.lag m'.0.pin
+IsRefill passes number budget begun spent (refusal.Deep level) m m' kept' = ⊥
 -- The epoch was at its last value, and rows are kept.
-IsRefill passes number budget begun spent (refusal.Worn counter.Epoch) m kept = (4611686018427387904 ≤ m.0.pin.scan) × (0 < vec_len kept)
-IsRefill passes number budget begun spent (refusal.Worn counter.PoolTag) m kept = ⊥
-IsRefill passes number budget begun spent (refusal.Worn counter.Sequence) m kept = ⊥
+IsRefill passes number budget begun spent (refusal.Worn counter.Epoch) m m' kept' = HasLooked m m' × (4611686018427387904 ≤ m'.0.pin.scan)
+    × (0 < vec_len kept')
+IsRefill passes number budget begun spent (refusal.Worn counter.PoolTag) m m' kept' = ⊥
+IsRefill passes number budget begun spent (refusal.Worn counter.Sequence) m m' kept' = ⊥
 
 -- An attempt that found the head empty began with so many rows kept: it was the first one, or the head had been found empty before.
 abbrev pub HasBegun : ℕ → ℕ → MyTree → MyTree → Type 0
 HasBegun begun kept m m' = ((begun ≡ kept) × (m'.0.empty ≡ m.0.empty + 1)) ⊎ (m.0.empty + 2 ≤ m'.0.empty)
 
--- The last state that the pass has seen has as many objects as a leaf may.
-abbrev pub IsFull : Sizes → TreeView → Type 0
-IsFull z u = z.leaf ≤ length (after u.seen [])
+-- A call that may add this key, if any, finds no room in a base with this map: no object there has the key, and there are as many as a leaf may have.
+abbrev pub IsFull : Sizes → Option (List ℕ) → StoreMap → Type 0
+IsFull z None map = ⊥
+IsFull z (Some key) map = IsFound map key None × (z.leaf ≤ length map)
 
--- A call with this budget may be refused so, given what its pass knew and kept before it and what it knows and keeps behind it.
-abbrev pub IsCaused : Sizes → ℕ → ℕ → Bool → Refusal → MyTree → Vec Kept Global → MyTree → Vec Kept Global → Type 0
+-- A call with this budget that may add this key, if any, may be refused so, given what its pass knew and kept before it and what it knows and keeps behind it.
+abbrev pub IsCaused : Sizes → ℕ → ℕ → Option (List ℕ) → Refusal → MyTree → Vec Kept Global → MyTree → Vec Kept Global → Type 0
 -- So many exchanges were lost in this call.
 IsCaused z number budget adds (refusal.Busy spent) m kept m' kept' = (budget ≤ spent.lost) × (spent.lost ≡ min 4294967295 (losses m' - losses m))
     × (spent.helped ≡ 0) × (spent.passed ≡ 0)
--- The last attempt found the head empty. It began with no row kept, or another pass lagged as rows were given back.
+-- The last attempt found the head empty. It began with no row kept, or another pass lagged as rows were given back in this call.
 IsCaused z number budget adds (refusal.Full cause) m kept m' kept' = HasBegun cause.kept (vec_len kept) m m' × ((cause.kept ≡ 0) ⊎ (cause.lag ≢ None))
-    × IsLag z.passes number cause.lag m'.0.pin
--- Its call may add a key, and the base has as many objects as a leaf may.
-IsCaused z number budget adds (refusal.Deep level) m kept m' kept' = (level ≡ 0) × (adds ≡ true) × IsFull z m'.0.upper
+    × HasLooked m m' × IsLag z.passes number cause.lag m'.0.pin
+-- By the last state that the pass has seen the key is a new one, and there is no room for it.
+IsCaused z number budget adds (refusal.Deep level) m kept m' kept' = (level ≡ 0) × IsFull z adds (after m'.0.upper.seen [])
 -- The head's tag was at its last value as a row was to be taken.
 IsCaused z number budget adds (refusal.Worn counter.PoolTag) m kept m' kept' = m'.0.worn ≡ m.0.worn + 1
--- The last attempt found the head empty, the epoch was at its last value, and rows are kept.
-IsCaused z number budget adds (refusal.Worn counter.Epoch) m kept m' kept' = (m.0.empty < m'.0.empty)
+-- The last attempt found the head empty, the epoch was at its last value as rows were given back in this call, and rows are kept.
+IsCaused z number budget adds (refusal.Worn counter.Epoch) m kept m' kept' = (m.0.empty < m'.0.empty) × HasLooked m m'
     × (4611686018427387904 ≤ m'.0.pin.scan) × (0 < vec_len kept')
 IsCaused z number budget adds (refusal.Worn counter.Sequence) m kept m' kept' = ⊥
 
@@ -64,12 +71,13 @@ IfRefusedAs (outcome.Deep level) P = P (refusal.Deep level)
 IfRefusedAs (outcome.Worn counter) P = P (refusal.Worn counter)
 
 -- The pass keeps at most 64 rows; or else, as it last gave rows back in this call, another pass lagged, or an exchange was lost in this call,
--- or the epoch was at its last value.
+-- or the epoch was at its last value as it gave rows back in this call.
 abbrev pub KeepsFew : MyTree → MyTree → Vec Kept Global → Type 0
-KeepsFew m m' kept = (vec_len kept ≤ 64) ⊎ (0 < m'.0.pin.lag) ⊎ (losses m < losses m') ⊎ (4611686018427387904 ≤ m'.0.pin.scan)
+KeepsFew m m' kept = (vec_len kept ≤ 64) ⊎ (HasLooked m m' × (0 < m'.0.pin.lag)) ⊎ (losses m < losses m')
+    ⊎ (HasLooked m m' × (4611686018427387904 ≤ m'.0.pin.scan))
 
--- A call of a pass's store may be refused so, given what contracts see of the store before it and behind it.
-abbrev pub HasCause : {T : Type 0} → ℕ → Bool → StoreView → StoreView → Outcome T → Type 0
+-- A call of a pass's store that may add this key, if any, may be refused so, given what contracts see of the store before it and behind it.
+abbrev pub HasCause : {T : Type 0} → ℕ → Option (List ℕ) → StoreView → StoreView → Outcome T → Type 0
 HasCause budget adds s t o = IfRefusedAs o (λ why. IsCaused s.z s.number budget adds why s.seat.me s.kept t.seat.me t.kept)
 
 -- Behind a call the store's pass keeps few rows, or there is a cause in this call; and it never held more than eight rows at once.

@@ -1,7 +1,9 @@
 //! Attempts of a call that edits.
-ghost use Rattle.std.specs.Prelude.{◌≡◌, ◌≢◌, ◌<◌, ◌≤◌, ◌↔◌, Bool, Err, Ok, OnOk, Some, [], length, map, slice_range, true, IsTrue};
+ghost use Rattle.std.specs.Prelude.{◌≡◌, ◌≢◌, ◌<◌, ◌≤◌, ◌↔◌, ℕ, Err, List, Ok, OnOk, Some, [], length, map, slice_range, true, IsTrue};
+ghost use Rattle.std.specs.declared.option.Option.{Option};
 ghost use Rattle.ca_model.proofs.Places.{IsPlace};
 ghost use Rattle.ca_model.specs.Event.{Event, Remove};
+ghost use Rattle.ca_model.specs.History.{after};
 ghost use Rattle.ca_model.specs.StoreMap.{IsPair};
 ghost use Rattle.ca_node.specs.Row.{pair};
 ghost use Rattle.ca_replace.specs.declared.attempting.Stop.TheVariants.{Deep as IsDeep};
@@ -49,8 +51,8 @@ pub(crate) trait Attempt {
     /// Whether the call is this event, given its answer and what it left.
     ghost tells: { Self → Self.Answer → Self.Left → Event → Type 0 };
 
-    /// Whether it may add a key, for which a base may have no room.
-    ghost adds: { Bool };
+    /// The key that the call may add, if any, for which a base may have no room.
+    ghost adds: { Self → Option (List ℕ) };
 
     /// One attempt, of a pass that is pinned and holds no row.
     fn attempt(
@@ -74,7 +76,7 @@ pub(crate) trait Attempt {
         ensures none { AreHeld space.now.table.shared.key.rows pass.new.kept.rows pass.new.seat.me.0 [] }
         ensures tried { HasTriedTo (λ answer. tells self.now answer left.new) space.now.table.shared.key result pass.old.seat.me.0.upper
             pass.new.seat.me.0.upper }
-        ensures deep { result ≡ Err IsDeep → (adds ≡ true) × IsFull space.now.table.shared.key pass.new.seat.me.0.upper }
+        ensures deep { result ≡ Err IsDeep → IsFull space.now.table.shared.key (adds self.now) (after pass.new.seat.me.0.upper.seen []) }
         ensures counted { IsSpent spent.old spent.new pass.old.seat.me pass.new.seat.me }
         ensures found { HasStopped result pass.old.seat.me pass.new.seat.me };
 }
@@ -176,7 +178,8 @@ pub(crate) fn put_there(
         (object_at place (first_note pass.old.seat.me.0.upper.notes).objects) object.now) space.now.table.shared.key result pass.old.seat.me.0.upper
         pass.new.seat.me.0.upper }
     ensures deep { OnOk place (result ≢ Err IsDeep) }
-    ensures full { result ≡ Err IsDeep → IsFull space.now.table.shared.key pass.new.seat.me.0.upper }
+    ensures full { result ≡ Err IsDeep → IsFull space.now.table.shared.key (Some (slice_range object.now key_at key_end))
+        (after pass.new.seat.me.0.upper.seen []) }
     ensures counted { IsSpent spent.old spent.new pass.old.seat.me pass.new.seat.me }
     ensures found { HasStopped result pass.old.seat.me pass.new.seat.me }
 {

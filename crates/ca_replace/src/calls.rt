@@ -1,6 +1,7 @@
 //! Calls of a pass that rests: attempts, the turns of each, and how a call ends.
-ghost use Rattle.std.specs.Prelude.{◌≡◌, ◌≢◌, ◌↔◌, ◌<◌, ◌≤◌, Err, [], IfErr, IsTrue, true};
+ghost use Rattle.std.specs.Prelude.{◌≡◌, ◌≢◌, ◌↔◌, ◌<◌, ◌≤◌, Err, None, [], IfErr, IsTrue};
 ghost use Rattle.ca_model.specs.Answer.{IfBusy, IfDone, IfRefused};
+ghost use Rattle.ca_model.specs.History.{after};
 ghost use Rattle.ca_replace.specs.declared.attempting.Stop.TheVariants.{Deep as IsDeep, Empty as IsEmpty, Lost as IsLost};
 ghost use Rattle.ca_node.specs.Told.{with_upper};
 ghost use Rattle.ca_replace.specs.Attempting.{HasAttempted, HasDoneAs, HasMetBy, HasStopped, HasTriedTo, IfDeep, refused_as};
@@ -32,9 +33,9 @@ pub(crate) fn call<A: Attempt>(
     ensures resting { IsResting tree.now.space.table.shared.table_id tree.now.space.table.shared.key pass.new.number pass.new.kept.rows pass.new.seat }
     ensures done { IfDone result (λ answer. HasDoneAs (A.tells what.now answer left.new) pass.old.seat.me.0.upper pass.new.seat.me.0.upper) }
     ensures refused { IfRefused result (λ rise. IsRefused rise pass.old.seat.me.0.upper pass.new.seat.me.0.upper) }
-    ensures deep { IfDeep result (A.adds ≡ true) }
+    ensures deep { IfDeep result (A.adds what.now ≢ None) }
     ensures busy { IfBusy result (λ spent. budget ≤ spent) }
-    ensures caused { IfRefusedAs result (λ why. IsCaused tree.now.space.table.shared.key pass.old.number budget A.adds
+    ensures caused { IfRefusedAs result (λ why. IsCaused tree.now.space.table.shared.key pass.old.number budget (A.adds what.now)
         why pass.old.seat.me pass.old.kept.rows pass.new.seat.me pass.new.kept.rows) }
     ensures few { KeepsFew pass.old.seat.me pass.new.seat.me pass.new.kept.rows }
 {
@@ -78,7 +79,7 @@ fn attempts<A: Attempt>(
     ensures number { pass.new.number ≡ pass.old.number }
     ensures resting { IsResting tree.now.space.table.shared.table_id tree.now.space.table.shared.key pass.new.number pass.new.kept.rows pass.new.seat }
     ensures come { HasAttempted (λ answer. A.tells what.now answer left.new) result pass.old.seat.me.0.upper pass.new.seat.me.0.upper }
-    ensures caused { IfErr result (λ why. IsCaused tree.now.space.table.shared.key pass.old.number budget A.adds
+    ensures caused { IfErr result (λ why. IsCaused tree.now.space.table.shared.key pass.old.number budget (A.adds what.now)
         why pass.old.seat.me pass.old.kept.rows pass.new.seat.me pass.new.kept.rows) }
     ensures few { KeepsFew pass.old.seat.me pass.new.seat.me pass.new.kept.rows }
 {
@@ -132,9 +133,10 @@ fn turns<A: Attempt>(
     ensures resting { IsResting tree.now.space.table.shared.table_id tree.now.space.table.shared.key pass.new.number pass.new.kept.rows pass.new.seat }
     ensures tried { HasTriedTo (λ answer. A.tells what.now answer left.new) tree.now.space.table.shared.key result pass.old.seat.me.0.upper
         pass.new.seat.me.0.upper }
-    ensures deep { result ≡ Err IsDeep → (A.adds ≡ true) × IsFull tree.now.space.table.shared.key pass.new.seat.me.0.upper }
+    ensures deep { result ≡ Err IsDeep → IsFull tree.now.space.table.shared.key (A.adds what.now) (after pass.new.seat.me.0.upper.seen []) }
     ensures counted { IsSpent spent.old spent.new pass.old.seat.me pass.new.seat.me }
     ensures found { HasMetBy result pass.old.seat.me pass.new.seat.me }
+    ensures looks { pass.new.seat.me.0.pin.looks ≡ pass.old.seat.me.0.pin.looks }
     ensures lost { result ≡ Err IsLost → budget ≤ spent.new.lost }
 {
     while spent.lost < budget {
@@ -168,9 +170,10 @@ fn once<A: Attempt>(
     ensures resting { IsResting tree.now.space.table.shared.table_id tree.now.space.table.shared.key pass.new.number pass.new.kept.rows pass.new.seat }
     ensures tried { HasTriedTo (λ answer. A.tells what.now answer left.new) tree.now.space.table.shared.key result pass.old.seat.me.0.upper
         pass.new.seat.me.0.upper }
-    ensures deep { result ≡ Err IsDeep → (A.adds ≡ true) × IsFull tree.now.space.table.shared.key pass.new.seat.me.0.upper }
+    ensures deep { result ≡ Err IsDeep → IsFull tree.now.space.table.shared.key (A.adds what.now) (after pass.new.seat.me.0.upper.seen []) }
     ensures counted { IsSpent spent.old spent.new pass.old.seat.me pass.new.seat.me }
     ensures found { HasStopped result pass.old.seat.me pass.new.seat.me }
+    ensures looks { pass.new.seat.me.0.pin.looks ≡ pass.old.seat.me.0.pin.looks }
 {
     let space = &tree.space;
     space.pin(pass);

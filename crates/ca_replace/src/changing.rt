@@ -1,5 +1,5 @@
 //! The call that changes a key's object.
-ghost use Rattle.std.specs.Prelude.{◌≡◌, ◌≤◌, [], length, false};
+ghost use Rattle.std.specs.Prelude.{◌≡◌, ◌≤◌, None, [], length};
 ghost use Rattle.ca_model.specs.Answer.{IfBusy, IfDone, IfRefused, IsNeverDeep};
 ghost use Rattle.ca_model.specs.Function.{KeepsKey};
 ghost use Rattle.ca_replace.specs.Attempting.{HasDoneAs};
@@ -34,7 +34,7 @@ impl<F: Fn(&[u8], &mut Code, &mut usize) -> bool> Attempt for ChangeCall<'_, F> 
 
     ghost tells = { λ call changed old event. Alters F.Fn call.f.now call.key.now changed old.items event };
 
-    ghost adds = { false };
+    ghost adds = { λ call. None };
 
     fn attempt(
         &self,
@@ -95,7 +95,7 @@ pub(crate) fn change<F: Fn(&[u8], &mut Code, &mut usize) -> bool>(
     ensures emptied { IfRefused result (λ _. old.new.items ≡ []) }
     ensures never_deep { IsNeverDeep result }
     ensures busy { IfBusy result (λ spent. budget ≤ spent) }
-    ensures caused { IfRefusedAs result (λ why. IsCaused tree.now.space.table.shared.key pass.old.number budget false
+    ensures caused { IfRefusedAs result (λ why. IsCaused tree.now.space.table.shared.key pass.old.number budget None
         why pass.old.seat.me pass.old.kept.rows pass.new.seat.me pass.new.kept.rows) }
     ensures few { KeepsFew pass.old.seat.me pass.new.seat.me pass.new.kept.rows }
 {

@@ -2,7 +2,7 @@
 ghost use Rattle.std.specs.Prelude.{◌≡◌, ◌⊎◌, ◌↔◌, false, ◌+◌, ◌<◌, ◌≤◌, min, IfErr, IsErr, IsOk, IsTrue, vec_len};
 ghost use Rattle.std.specs.declared.option.Option.TheVariants.{None};
 ghost use Rattle.ca_base.specs.Counting.{HasMet, IsSpent};
-ghost use Rattle.ca_replace.specs.Causes.{IsRefill, KeepsFew};
+ghost use Rattle.ca_replace.specs.Causes.{HasLooked, IsRefill, KeepsFew};
 ghost use Rattle.ca_replace.specs.Resting.{IsResting};
 ghost use Rattle.ca_rows.specs.Reclaiming.{IsLag, Reclaims};
 
@@ -50,8 +50,9 @@ pub(crate) fn refill(
     ensures counted { IsSpent spent.old spent.new pass.old.seat.me pass.new.seat.me }
     ensures met { HasMet 0 0 pass.old.seat.me pass.new.seat.me }
     ensures again { IsOk result → (0 < kept) × (spent.new.lost < budget) × ((vec_len pass.new.kept.rows ≡ 0) ⊎ (spent.old.lost < spent.new.lost)) }
+    ensures looked { HasLooked pass.old.seat.me pass.new.seat.me }
     ensures refused { IfErr result (λ why. IsRefill tree.now.space.table.shared.key.passes pass.old.number budget kept spent.new
-        why pass.new.seat.me pass.new.kept.rows) }
+        why pass.old.seat.me pass.new.seat.me pass.new.kept.rows) }
     ensures few { IsErr result → KeepsFew pass.old.seat.me pass.new.seat.me pass.new.kept.rows }
 {
     let given = give_back_kept(tree, pass);
@@ -77,6 +78,7 @@ fn give_back_kept(tree: &Tree, pass: &mut TreePass) -> Reclaimed
     ensures number { pass.new.number ≡ pass.old.number }
     ensures resting { IsResting tree.now.space.table.shared.table_id tree.now.space.table.shared.key pass.new.number pass.new.kept.rows pass.new.seat }
     ensures reclaims { Reclaims pass.old.seat.me pass.new.seat.me }
+    ensures looked { HasLooked pass.old.seat.me pass.new.seat.me }
     ensures kept { result.kept ≡ vec_len pass.new.kept.rows }
     ensures lag { IsLag tree.now.space.table.shared.key.passes pass.old.number result.lag pass.new.seat.me.0.pin }
     ensures losses { pass.new.seat.me.0.lost ≡ pass.old.seat.me.0.lost + result.losses }

@@ -1,5 +1,5 @@
 //! Calls that put an object.
-ghost use Rattle.std.specs.Prelude.{◌≡◌, ◌≤◌, length, slice_range, true};
+ghost use Rattle.std.specs.Prelude.{◌≡◌, ◌≤◌, Some, length, slice_range};
 ghost use Rattle.ca_model.specs.Answer.{IfBusy, IfDone, IfRefused};
 ghost use Rattle.ca_model.specs.Event.{Write, WriteNew};
 ghost use Rattle.ca_model.specs.StoreMap.{IsPair};
@@ -43,7 +43,7 @@ impl Attempt for PutCall<'_> {
 
     ghost tells = { λ call answer left event. event ≡ Write (slice_range call.object.now call.key_at call.key_end) call.object.now };
 
-    ghost adds = { true };
+    ghost adds = { λ call. Some (slice_range call.object.now call.key_at call.key_end) };
 
     fn attempt(
         &self,
@@ -75,7 +75,7 @@ impl Attempt for PutNewCall<'_> {
 
     ghost tells = { λ call new left event. event ≡ WriteNew (slice_range call.object.now call.key_at call.key_end) call.object.now new };
 
-    ghost adds = { true };
+    ghost adds = { λ call. Some (slice_range call.object.now call.key_at call.key_end) };
 
     fn attempt(
         &self,
@@ -120,7 +120,7 @@ pub(crate) fn put(
     ensures put { IfDone result (λ _. HasDone (Write (slice_range object.now key_at key_end) object.now) pass.old.seat.me.0.upper pass.new.seat.me.0.upper) }
     ensures refused { IfRefused result (λ rise. IsRefused rise pass.old.seat.me.0.upper pass.new.seat.me.0.upper) }
     ensures busy { IfBusy result (λ spent. budget ≤ spent) }
-    ensures caused { IfRefusedAs result (λ why. IsCaused tree.now.space.table.shared.key pass.old.number budget true
+    ensures caused { IfRefusedAs result (λ why. IsCaused tree.now.space.table.shared.key pass.old.number budget (Some (slice_range object.now key_at key_end))
         why pass.old.seat.me pass.old.kept.rows pass.new.seat.me pass.new.kept.rows) }
     ensures few { KeepsFew pass.old.seat.me pass.new.seat.me pass.new.kept.rows }
 {
@@ -150,7 +150,7 @@ pub(crate) fn put_new(
         pass.new.seat.me.0.upper) }
     ensures refused { IfRefused result (λ rise. IsRefused rise pass.old.seat.me.0.upper pass.new.seat.me.0.upper) }
     ensures busy { IfBusy result (λ spent. budget ≤ spent) }
-    ensures caused { IfRefusedAs result (λ why. IsCaused tree.now.space.table.shared.key pass.old.number budget true
+    ensures caused { IfRefusedAs result (λ why. IsCaused tree.now.space.table.shared.key pass.old.number budget (Some (slice_range object.now key_at key_end))
         why pass.old.seat.me pass.old.kept.rows pass.new.seat.me pass.new.kept.rows) }
     ensures few { KeepsFew pass.old.seat.me pass.new.seat.me pass.new.kept.rows }
 {

@@ -1,5 +1,5 @@
 //! Calls that remove a key's object.
-ghost use Rattle.std.specs.Prelude.{◌≡◌, ◌≤◌, [], false};
+ghost use Rattle.std.specs.Prelude.{◌≡◌, ◌≤◌, None, []};
 ghost use Rattle.ca_model.specs.Answer.{IfBusy, IfDone, IfRefused, IsNeverDeep};
 ghost use Rattle.ca_model.specs.Function.{MayBeAskedFor};
 ghost use Rattle.ca_replace.specs.Attempting.{HasDoneAs};
@@ -32,7 +32,7 @@ impl Attempt for RemoveCall<'_> {
 
     ghost tells = { λ call was old event. Removes call.key.now was old.items event };
 
-    ghost adds = { false };
+    ghost adds = { λ call. None };
 
     fn attempt(
         &self,
@@ -72,7 +72,7 @@ pub(crate) fn remove(
     ensures emptied { IfRefused result (λ _. old.new.items ≡ []) }
     ensures never_deep { IsNeverDeep result }
     ensures busy { IfBusy result (λ spent. budget ≤ spent) }
-    ensures caused { IfRefusedAs result (λ why. IsCaused tree.now.space.table.shared.key pass.old.number budget false
+    ensures caused { IfRefusedAs result (λ why. IsCaused tree.now.space.table.shared.key pass.old.number budget None
         why pass.old.seat.me pass.old.kept.rows pass.new.seat.me pass.new.kept.rows) }
     ensures few { KeepsFew pass.old.seat.me pass.new.seat.me pass.new.kept.rows }
 {
@@ -100,7 +100,7 @@ impl<F: Fn(&[u8]) -> bool> Attempt for RemoveIfCall<'_, F> {
 
     ghost tells = { λ call changed old event. RemovesIf F.Fn call.f.now call.key.now changed old.items event };
 
-    ghost adds = { false };
+    ghost adds = { λ call. None };
 
     fn attempt(
         &self,
@@ -147,7 +147,7 @@ pub(crate) fn remove_if<F: Fn(&[u8]) -> bool>(
     ensures emptied { IfRefused result (λ _. old.new.items ≡ []) }
     ensures never_deep { IsNeverDeep result }
     ensures busy { IfBusy result (λ spent. budget ≤ spent) }
-    ensures caused { IfRefusedAs result (λ why. IsCaused tree.now.space.table.shared.key pass.old.number budget false
+    ensures caused { IfRefusedAs result (λ why. IsCaused tree.now.space.table.shared.key pass.old.number budget None
         why pass.old.seat.me pass.old.kept.rows pass.new.seat.me pass.new.kept.rows) }
     ensures few { KeepsFew pass.old.seat.me pass.new.seat.me pass.new.kept.rows }
 {

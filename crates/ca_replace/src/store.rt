@@ -1,5 +1,5 @@
 //! A pass as a store.
-ghost use Rattle.std.specs.Prelude.{◌≡◌, ◌≤◌, [], true, false, None, OnOk, length, slice_range, vec_len};
+ghost use Rattle.std.specs.Prelude.{◌≡◌, ◌≤◌, [], None, OnOk, Some, length, slice_range, vec_len};
 ghost use Rattle.ca_model.specs.Answer.{Altered, Got, IfBusy, IfDone, IfRefused, IsDone, IsNeverDeep, Removed, RemovedIf};
 ghost use Rattle.ca_model.specs.Event.{Write, WriteNew};
 ghost use Rattle.ca_model.specs.Function.{KeepsKey, MayBeAskedFor};
@@ -114,7 +114,7 @@ impl TreeStore<'_> {
         ensures put { IfDone result (λ _. Meets (knows self.old) (knows self.new) (Write (slice_range object.now key_at key_end) object.now)) }
         ensures refused { IfRefused result (λ rise. Declines (knows self.old) (knows self.new) (rise (knows self.old).counts)) }
         ensures busy { IfBusy result (λ spent. budget ≤ spent) }
-        ensures caused { HasCause budget true self.old self.new result }
+        ensures caused { HasCause budget (Some (slice_range object.now key_at key_end)) self.old self.new result }
         ensures sparing { IsSparing self.old self.new }
         ensures closed { (knows self.new).run ≡ None }
         ensures tree { (self.new.table ≡ self.old.table) × (self.new.z ≡ self.old.z) }
@@ -141,7 +141,7 @@ impl TreeStore<'_> {
         ensures put { IfDone result (λ new. Meets (knows self.old) (knows self.new) (WriteNew (slice_range object.now key_at key_end) object.now new)) }
         ensures refused { IfRefused result (λ rise. Declines (knows self.old) (knows self.new) (rise (knows self.old).counts)) }
         ensures busy { IfBusy result (λ spent. budget ≤ spent) }
-        ensures caused { HasCause budget true self.old self.new result }
+        ensures caused { HasCause budget (Some (slice_range object.now key_at key_end)) self.old self.new result }
         ensures sparing { IsSparing self.old self.new }
         ensures closed { (knows self.new).run ≡ None }
         ensures tree { (self.new.table ≡ self.old.table) × (self.new.z ≡ self.old.z) }
@@ -161,7 +161,7 @@ impl TreeStore<'_> {
         ensures emptied { IfRefused result (λ _. old.new.items ≡ []) }
         ensures never_deep { IsNeverDeep result }
         ensures busy { IfBusy result (λ spent. budget ≤ spent) }
-        ensures caused { HasCause budget false self.old self.new result }
+        ensures caused { HasCause budget None self.old self.new result }
         ensures sparing { IsSparing self.old self.new }
         ensures closed { (knows self.new).run ≡ None }
         ensures tree { (self.new.table ≡ self.old.table) × (self.new.z ≡ self.old.z) }
@@ -189,7 +189,7 @@ impl TreeStore<'_> {
         ensures emptied { IfRefused result (λ _. old.new.items ≡ []) }
         ensures never_deep { IsNeverDeep result }
         ensures busy { IfBusy result (λ spent. budget ≤ spent) }
-        ensures caused { HasCause budget false self.old self.new result }
+        ensures caused { HasCause budget None self.old self.new result }
         ensures sparing { IsSparing self.old self.new }
         ensures closed { (knows self.new).run ≡ None }
         ensures tree { (self.new.table ≡ self.old.table) × (self.new.z ≡ self.old.z) }
@@ -219,7 +219,7 @@ impl TreeStore<'_> {
         ensures emptied { IfRefused result (λ _. old.new.items ≡ []) }
         ensures never_deep { IsNeverDeep result }
         ensures busy { IfBusy result (λ spent. budget ≤ spent) }
-        ensures caused { HasCause budget false self.old self.new result }
+        ensures caused { HasCause budget None self.old self.new result }
         ensures sparing { IsSparing self.old self.new }
         ensures closed { (knows self.new).run ≡ None }
         ensures tree { (self.new.table ≡ self.old.table) × (self.new.z ≡ self.old.z) }

@@ -1,22 +1,21 @@
 -- What the steps that give kept rows back come to together.
-use Rattle.std.proofs.Common.{◌≡◌, ◌≢◌, ◌⊎◌, ℕ, ◌+◌, ◌<◌, ◌≤◌, max, List, ◌++◌, take, drop, get_or, vec_len, vec_capacity, sym, refl, ap, ◌∙◌, subst, inl, inr, ⊎_elim, arith, le_refl}
+use Rattle.std.proofs.Common.{◌≡◌, ◌≢◌, ◌⊎◌, ℕ, ◌+◌, ◌<◌, ◌≤◌, suc, max, List, ◌++◌, length, take, get_or, sym, refl, ap, ◌∙◌, subst, inl, inr, ⊎_elim, arith, le_refl}
 use mathlib.Core.Logic.{dite}
 use mathlib.Core.Option.{Option, some, none, some-injective, some-ne-none}
 use native.Mathlib.Decide.{ℕ_discrete}
 use Rattle.ca_rows.specs.declared.kept.Kept.{Kept}
-use Rattle.ca_rows.specs.declared.kept.KeptRows.{KeptRows}
 use Rattle.ca_rows.specs.declared.view.Claim.{Claim}
 use Rattle.ca_rows.specs.declared.view.Claim.TheVariants.{Holds, Lends, Unlinked, Keeps, Returns}
 use Rattle.ca_rows.specs.declared.view.Claimed.{Claimed}
 use Rattle.ca_rows.specs.declared.view.Stage.TheVariants.{Idle}
 use Rattle.ca_rows.specs.Claims.{claim_of, claimed, dropped, held_count}
-use Rattle.ca_rows.specs.Kept.{AreKept}
+use Rattle.ca_rows.specs.Kept.{AreListed}
 use Rattle.ca_rows.specs.Reclaiming.{Reclaims}
 use Rattle.ca_rows.specs.Told.{Mine, with_claims, with_most, missed}
 use Rattle.ca_rows.proofs.Claiming.{claimed_here, claimed_else, claimed_again, dropped_here, dropped_else, dropped_claimed}
 use Rattle.ca_rows.proofs.HeldCount.{dropped_no_more, held_one_more, claimed_no_more}
-use Rattle.ca_rows.proofs.Keeping.{claimed_too, dropped_too}
-use Rattle.ca_rows.proofs.Listing.{left_out}
+use Rattle.ca_rows.proofs.Keeping.{claimed_list, dropped_list}
+use Rattle.ca_rows.proofs.Listing.{last_out}
 
 -- A row is kept or not.
 kept_or_not : (o : Option Claim) → ((t : ℕ) × (o ≡ some (Keeps t))) ⊎ ((t : ℕ) → o ≢ some (Keeps t))
@@ -42,6 +41,7 @@ module _ {U : Type 0} where
     same_upper = refl;
     same_slots = refl;
     later = le_refl m.0.pin.scan;
+    more_looks = le_refl m.0.pin.looks;
     more_lost = le_refl m.0.lost;
     same_empty = refl;
     same_worn = refl;
@@ -63,6 +63,7 @@ module _ {U : Type 0} where
     same_upper = y.same_upper ∙ x.same_upper;
     same_slots = y.same_slots ∙ x.same_slots;
     later = omega arith;
+    more_looks = let looks = x.more_looks in let looks' = y.more_looks in omega arith;
     more_lost = omega arith;
     same_empty = y.same_empty ∙ x.same_empty;
     same_worn = y.same_worn ∙ x.same_worn;
@@ -110,6 +111,7 @@ module _ {U : Type 0} where
       same_upper = refl;
       same_slots = refl;
       later = le_refl m.0.pin.scan;
+      more_looks = le_refl m.0.pin.looks;
       more_lost = more;
       same_empty = refl;
       same_worn = refl;
@@ -173,25 +175,24 @@ module _ {U : Type 0} where
             ap (λ (x : Mine U). x.0.lost) now,
           )
 
--- The row at a place of the list was taken out of it, and is held.
-module _ {U : Type 0} (rows : ℕ) (m m1 m2 : Mine U) (kept kept1 kept2 : KeptRows) (k : AreKept rows m.0.claims kept.rows) (at : ℕ) (d : Kept)
-    (inside : at < vec_len kept.rows) (q : ℕ) (is : q ≡ (get_or kept.rows.items at d).row)
-    (list : kept1.rows.items ≡ take at kept.rows.items ++ drop (at + 1) kept.rows.items) (room : vec_capacity kept1.rows ≡ vec_capacity kept.rows)
-    (its : List ℕ) (held : m1 ≡ with_most (record m.0 { claims = claimed q (Holds its) m.0.claims }, m.1)) (same : kept2 ≡ kept1) where
-  list_held : AreKept rows m1.0.claims kept1.rows
-  list_held = subst (λ (x : Mine U). AreKept rows x.0.claims kept1.rows) (sym held)
-      (left_out rows m.0.claims kept.rows k at d (let long = kept.rows.ok.0 in omega arith) q (Holds its) kept1.rows is (λ t e. cc) list room)
+-- The last row before a part of the list that was given back is held.
+module _ {U : Type 0} (rows : ℕ) (m m1 m2 : Mine U) (ks ys : List Kept) (at : ℕ) (d : Kept) (inside : at < length ks)
+    (k : AreListed rows m.0.claims (take (suc at) ks ++ ys)) (q : ℕ) (is : q ≡ (get_or ks at d).row)
+    (its : List ℕ) (held : m1 ≡ with_most (record m.0 { claims = claimed q (Holds its) m.0.claims }, m.1)) where
+  list_held : AreListed rows m1.0.claims (take at ks ++ ys)
+  list_held = subst (λ (x : Mine U). AreListed rows x.0.claims (take at ks ++ ys)) (sym held)
+      (last_out rows m.0.claims ks ys at d inside k q (Holds its) is (λ t e. cc))
 
   not_kept : (t : ℕ) → claim_of m1.0.claims q ≢ some (Keeps t)
   not_kept t e = let held_is = ap (λ (x : Mine U). claim_of x.0.claims q) held ∙ claimed_here m.0.claims q (Holds its) in
       let clash = some-injective (Holds its) (Keeps t) (sym held_is ∙ e) in cc
 
   -- It is put back.
-  pub list_given : m2 ≡ with_claims m1 (dropped q m1.0.claims) → AreKept rows m2.0.claims kept2.rows
-  list_given put = subst (λ (x : Mine U × KeptRows). AreKept rows x.0.0.claims x.1.rows) (λ i. (sym put i, sym same i))
-      (dropped_too rows m1.0.claims kept1.rows list_held q not_kept)
+  pub list_given : m2 ≡ with_claims m1 (dropped q m1.0.claims) → AreListed rows m2.0.claims (take at ks ++ ys)
+  list_given put = subst (λ (x : Mine U). AreListed rows x.0.claims (take at ks ++ ys)) (sym put)
+      (dropped_list rows m1.0.claims (take at ks ++ ys) list_held q not_kept)
 
   -- The exchange lost.
-  pub list_lost : (its' : List ℕ) → m2 ≡ missed (with_claims m1 (claimed q (Holds its') m1.0.claims)) → AreKept rows m2.0.claims kept2.rows
-  list_lost its' lost = subst (λ (x : Mine U × KeptRows). AreKept rows x.0.0.claims x.1.rows) (λ i. (sym lost i, sym same i))
-      (claimed_too rows m1.0.claims kept1.rows list_held q (Holds its') (λ t e. cc) not_kept)
+  pub list_lost : (its' : List ℕ) → m2 ≡ missed (with_claims m1 (claimed q (Holds its') m1.0.claims)) → AreListed rows m2.0.claims (take at ks ++ ys)
+  list_lost its' lost = subst (λ (x : Mine U). AreListed rows x.0.claims (take at ks ++ ys)) (sym lost)
+      (claimed_list rows m1.0.claims (take at ks ++ ys) list_held q (Holds its') (λ t e. cc) not_kept)

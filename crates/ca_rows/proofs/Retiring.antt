@@ -92,6 +92,7 @@ module _ {U : Type 0} (linked lent : List ℕ → ℕ → Type 0) (noted : List 
           (r.seat id me.0 at).sizes_are),
       r.pins.small,
       (r.pins.each id me.0.pin (at_map pin_of s.views id me.0 at)).scan_past,
+      (λ c t e. (owned linked lent noted fact frames z s r id me.0 at c (Keeps t) e).3.2),
       refl,
     ),
   )

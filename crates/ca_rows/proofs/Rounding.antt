@@ -20,9 +20,9 @@ nothing_in (x ∷ xs) e = absurd (omega arith)
 
 module _ {U : Type 0} where
   -- The seat saw more of the others, in an epoch that isn't lower.
-  pub saw_more : (m m' : Mine U) (scan upto lag : ℕ) → m' ≡ with_pin m (record m.0.pin { scan = scan; upto = upto; lag = lag }) → m.0.pin.scan ≤ scan
-      → Reclaims m m'
-  saw_more m m' scan upto lag e up = subst (λ x. Reclaims m x) (sym e) record {
+  pub saw_more : (m m' : Mine U) (scan upto lag looks : ℕ) → m' ≡ with_pin m (record m.0.pin { scan = scan; upto = upto; lag = lag; looks = looks })
+      → m.0.pin.scan ≤ scan → m.0.pin.looks ≤ looks → Reclaims m m'
+  saw_more m m' scan upto lag looks e up more = subst (λ x. Reclaims m x) (sym e) record {
     same_sizes = refl;
     same_made = refl;
     same_number = refl;
@@ -32,6 +32,7 @@ module _ {U : Type 0} where
     same_upper = refl;
     same_slots = refl;
     later = up;
+    more_looks = more;
     more_lost = le_refl m.0.lost;
     same_empty = refl;
     same_worn = refl;
@@ -53,6 +54,7 @@ module _ {U : Type 0} where
     same_upper = refl;
     same_slots = refl;
     later = le_refl m.0.pin.scan;
+    more_looks = le_refl m.0.pin.looks;
     more_lost = omega arith;
     same_empty = refl;
     same_worn = refl;
@@ -66,14 +68,15 @@ module _ {U : Type 0} where
   -- A round that loaded the epoch e and gave rows back.
   module _ (passes number : ℕ) (m m1 m2 : Mine U) (e : ℕ) (later : m.0.pin.scan ≤ e)
       (past : (r t : ℕ) → claim_of m.0.claims r ≡ some (Keeps t) → t ≤ e)
-      (began : m1 ≡ with_pin m (record m.0.pin { scan = e; upto = 0; lag = 0 })) (gave : Reclaims m1 m2) (same : m2.0.pin ≡ m1.0.pin) (freed losses : ℕ)
+      (began : m1 ≡ with_pin m (record m.0.pin { scan = e; upto = 0; lag = 0; looks = m.0.pin.looks + 1 }))
+      (gave : Reclaims m1 m2) (same : m2.0.pin ≡ m1.0.pin) (freed losses : ℕ)
       (ks ks' : List Kept) (count : freed + length ks' ≡ length ks) (lost : m2.0.lost ≡ m1.0.lost + losses) (few : freed + losses ≤ length ks)
       (young : losses ≡ 0 → (r t : ℕ) → kept_of ks' r ≡ some t → e < t + 2) where
-    pin_is : m2.0.pin ≡ record m.0.pin { scan = e; upto = 0; lag = 0 }
+    pin_is : m2.0.pin ≡ record m.0.pin { scan = e; upto = 0; lag = 0; looks = m.0.pin.looks + 1 }
     pin_is = same ∙ ap (λ (x : Mine U). x.0.pin) began
 
     so_far : Reclaims m m2
-    so_far = reclaims_trans m m1 m2 (saw_more m m1 e 0 0 began later) gave
+    so_far = reclaims_trans m m1 m2 (saw_more m m1 e 0 0 (m.0.pin.looks + 1) began later (omega arith)) gave
 
     lost_so_far : m2.0.lost ≡ m.0.lost + losses
     lost_so_far = let before = ap (λ (x : Mine U). x.0.lost) began in omega arith
@@ -86,6 +89,7 @@ module _ {U : Type 0} where
       later = later;
       past = past;
       reclaims = so_far;
+      looked = ap (λ (p : Pin). p.looks) pin_is;
       freed = count;
       lost = lost_so_far;
       few = omega arith;
@@ -105,7 +109,8 @@ module _ {U : Type 0} where
       e = e;
       later = later;
       past = past;
-      reclaims = reclaims_trans m m2 m3 so_far (saw_more m2 m3 m2.0.pin.scan look.3.0 j saw (le_refl m2.0.pin.scan));
+      reclaims = reclaims_trans m m2 m3 so_far (saw_more m2 m3 m2.0.pin.scan look.3.0 j m2.0.pin.looks saw (le_refl m2.0.pin.scan) (le_refl m2.0.pin.looks));
+      looked = ap (λ (x : Mine U). x.0.pin.looks) saw ∙ ap (λ (p : Pin). p.looks) pin_is;
       freed = count;
       lost = ap (λ (x : Mine U). x.0.lost) saw ∙ lost_so_far;
       few = omega arith;
@@ -122,12 +127,13 @@ module _ {U : Type 0} where
         → Rounds passes number (record { freed = freed; lag = None; losses = losses; epoch = e + 1; more = true }) m m4 ks ks'
     round_moves m3 m4 look move = let scan = ap (λ (p : Pin). p.scan) pin_is in
         let scan' = ap (λ (x : Mine U). x.0.pin.scan) look in
-        let to_3 = saw_more m2 m3 m2.0.pin.scan passes m2.0.pin.lag look (le_refl m2.0.pin.scan) in
-        let to_4 = saw_more m3 m4 (e + 1) 0 m3.0.pin.lag move (omega arith) in record {
+        let to_3 = saw_more m2 m3 m2.0.pin.scan passes m2.0.pin.lag m2.0.pin.looks look (le_refl m2.0.pin.scan) (le_refl m2.0.pin.looks) in
+        let to_4 = saw_more m3 m4 (e + 1) 0 m3.0.pin.lag m3.0.pin.looks move (omega arith) (le_refl m3.0.pin.looks) in record {
           e = e;
           later = later;
           past = past;
           reclaims = reclaims_trans m m2 m4 so_far (reclaims_trans m2 m3 m4 to_3 to_4);
+          looked = ap (λ (x : Mine U). x.0.pin.looks) move ∙ (ap (λ (x : Mine U). x.0.pin.looks) look ∙ ap (λ (p : Pin). p.looks) pin_is);
           freed = count;
           lost = ap (λ (x : Mine U). x.0.lost) move ∙ (ap (λ (x : Mine U). x.0.lost) look ∙ lost_so_far);
           few = omega arith;
@@ -142,12 +148,14 @@ module _ {U : Type 0} where
     -- None does, and the exchange of the epoch lost.
     pub round_misses : (m3 m4 : Mine U) → IsLook passes None m2 m3 → Moves false e m3 m4
         → Rounds passes number (record { freed = freed; lag = None; losses = losses + 1; epoch = e; more = true }) m m4 ks ks'
-    round_misses m3 m4 look move = let to_3 = saw_more m2 m3 m2.0.pin.scan passes m2.0.pin.lag look (le_refl m2.0.pin.scan) in
+    round_misses m3 m4 look move =
+        let to_3 = saw_more m2 m3 m2.0.pin.scan passes m2.0.pin.lag m2.0.pin.looks look (le_refl m2.0.pin.scan) (le_refl m2.0.pin.looks) in
         let count_2 = lost_so_far in let count_3 = ap (λ (x : Mine U). x.0.lost) look in let count_4 = ap (λ (x : Mine U). x.0.lost) move in record {
           e = e;
           later = later;
           past = past;
           reclaims = reclaims_trans m m2 m4 so_far (reclaims_trans m2 m3 m4 to_3 (lost_one m3 m4 move));
+          looked = ap (λ (x : Mine U). x.0.pin.looks) move ∙ (ap (λ (x : Mine U). x.0.pin.looks) look ∙ ap (λ (p : Pin). p.looks) pin_is);
           freed = count;
           lost = omega arith;
           few = omega arith;
@@ -178,14 +186,14 @@ module _ {U : Type 0} (rows passes number : ℕ) (m m' : Mine U) (kept kept' : V
     (older : left < 3 → (r t : ℕ) → kept_of kept.items r ≡ some t → t + 3 ≤ m.0.pin.scan + left) (some_left : 0 < left) (none_lost : answer.losses ≡ 0) where
   -- What is kept still was kept before, since the same epoch.
   same_epoch : (r t : ℕ) → kept_of kept'.items r ≡ some t → claim_of m.0.claims r ≡ some (Keeps t)
-  same_epoch r t e = let was = was_kept m m' x.reclaims r t (k'.are_claimed r t e).2 in
+  same_epoch r t e = let was = was_kept m m' x.reclaims r t (k'.are.are_claimed r t e).2 in
       let lost = x.lost in let same : m'.0.lost ≡ m.0.lost = omega arith in
       subst (λ y. claim_of m.0.claims r ≡ some (Keeps y)) (sym (was.2 same)) was.1
 
   -- since an epoch below that of this round, by the number of rounds before it
   before : (r t : ℕ) → kept_of kept'.items r ≡ some t → t + 3 ≤ x.e + left
   before r t e = let claimed_too = same_epoch r t e in let past = x.past r t claimed_too in let later = x.later in ⊎_elim
-      (λ (l : left < 3). let low = older l r t (k.are_listed r t claimed_too) in omega arith) (λ (l : 3 ≤ left). omega arith) (less_or_not left 3)
+      (λ (l : left < 3). let low = older l r t (k.are.are_listed r t claimed_too) in omega arith) (λ (l : 3 ≤ left). omega arith) (less_or_not left 3)
 
   pub older_still : 0 < left' → (r t : ℕ) → kept_of kept'.items r ≡ some t → t + 3 ≤ m'.0.pin.scan + left'
   older_still lo r t e = let low = before r t e in ⊎_elim

@@ -21,12 +21,22 @@ abbrev pub AreApart : List Kept → Type 0
 AreApart [] = Unit {0}
 AreApart (x ∷ xs) = (kept_of xs x.row ≡ none) × AreApart xs
 
--- The list is that of the rows that these claims keep, each once, and all rows have room in it.
+-- No row was retired later than one behind it.
+abbrev pub Rises : List Kept → Type 0
+Rises [] = Unit {0}
+Rises (x ∷ xs) = ((r t : ℕ) → kept_of xs r ≡ some t → x.at ≤ t) × Rises xs
+
+-- The list is that of the rows that these claims keep, each once, from the one that was retired first.
+pub record AreListed (rows : ℕ) (claims : List Claimed) (ks : List Kept) : Type 0 where
+  pub apart : AreApart ks
+  pub rising : Rises ks
+  pub are_listed : (r t : ℕ) → claim_of claims r ≡ some (Keeps t) → kept_of ks r ≡ some t
+  pub are_claimed : (r t : ℕ) → kept_of ks r ≡ some t → (0 < r) × (r ≤ rows) × (claim_of claims r ≡ some (Keeps t))
+
+-- So is this one, and all rows have room in it.
 pub record AreKept (rows : ℕ) (claims : List Claimed) (kept : Vec Kept Global) : Type 0 where
-  pub apart : AreApart kept.items
+  pub are : AreListed rows claims kept.items
   pub room : rows ≤ vec_capacity kept
-  pub are_listed : (r t : ℕ) → claim_of claims r ≡ some (Keeps t) → kept_of kept.items r ≡ some t
-  pub are_claimed : (r t : ℕ) → kept_of kept.items r ≡ some t → (0 < r) × (r ≤ rows) × (claim_of claims r ≡ some (Keeps t))
 
 module _ {U : Type 0} (lent : List ℕ → ℕ → Type 0) (fact : Sizes → ℕ → List ℕ → List U → Type 0) (z : Sizes) (id : ℕ) (d : View U) (row : ℕ) where
   -- No operation names the row, as far as the seat knows.

@@ -7,7 +7,7 @@ use Rattle.ca_rows.specs.Words.{epoch, announced}
 
 -- the pin of a seat that is no pass's, and of a pass that was just made
 abbrev pub unpinned : ℕ → Pin
-unpinned number = record { number = number; pinned = false; told = 0; moment = 0; scan = 0; upto = 0; lag = 0 }
+unpinned number = record { number = number; pinned = false; told = 0; moment = 0; scan = 0; upto = 0; lag = 0; looks = 0 }
 
 -- `made` passes were made, and the pins of all seats are these.
 pub record IsPin (made : ℕ) (words : List ℕ) (pins : List Pin) (j : ℕ) (e : Pin) : Type 0 where

@@ -1,5 +1,5 @@
 -- What giving kept rows back comes to.
-use Rattle.std.specs.Prelude.{◌≡◌, ◌≢◌, ◌⊎◌, ℕ, ◌+◌, ◌<◌, ◌≤◌, max, Bool, true, false, List, [], ◌++◌, length, take, drop}
+use Rattle.std.specs.Prelude.{◌≡◌, ◌≢◌, ◌⊎◌, ℕ, ◌+◌, ◌<◌, ◌≤◌, max, Bool, true, false, List, [], ◌∷◌, ◌++◌, length, take, drop}
 use Rattle.std.specs.declared.option.Option.{Option as Answer}
 use Rattle.std.specs.declared.option.Option.TheVariants.{None, Some}
 use mathlib.Core.Option.{some, none}
@@ -23,6 +23,7 @@ module _ {U : Type 0} where
     pub same_upper : m'.0.upper ≡ m.0.upper
     pub same_slots : m'.1 ≡ m.1
     pub later : m.0.pin.scan ≤ m'.0.pin.scan
+    pub more_looks : m.0.pin.looks ≤ m'.0.pin.looks
     pub more_lost : m.0.lost ≤ m'.0.lost
     pub same_empty : m'.0.empty ≡ m.0.empty
     pub same_worn : m'.0.worn ≡ m.0.worn
@@ -35,13 +36,14 @@ module _ {U : Type 0} where
     pub kept : (r t : ℕ) → claim_of m.0.claims r ≡ some (Keeps t) → (claim_of m'.0.claims r ≡ none) × (t + 2 ≤ m'.0.pin.scan)
         ⊎ ((t' : ℕ) × (t ≤ t') × (claim_of m'.0.claims r ≡ some (Keeps t')) × (m'.0.lost ≡ m.0.lost → t' ≡ t))
 
--- The row at this place of the list was given back, or the exchange lost, and it is kept since another epoch, behind the others.
+-- The row at this place of the list was given back, and the list stays; or the exchange lost, those behind it were taken out up to the end, and it is kept
+-- since another epoch, behind the others.
 module _ {U : Type 0} where
-  pub record GivesBack (given : Bool) (at : ℕ) (m m' : Mine U) (ks ks' : List Kept) : Type 0 where
+  pub record GivesBack (given : Bool) (at end : ℕ) (m m' : Mine U) (ks ks' : List Kept) : Type 0 where
     pub reclaims : Reclaims m m'
     pub same_pin : m'.0.pin ≡ m.0.pin
-    pub rows_given : given ≡ true → (ks' ≡ take at ks ++ drop (at + 1) ks) × (m'.0.lost ≡ m.0.lost)
-    pub rows_kept : given ≡ false → (length ks' ≡ length ks) × (m'.0.lost ≡ m.0.lost + 1)
+    pub rows_given : given ≡ true → (ks' ≡ ks) × (m'.0.lost ≡ m.0.lost)
+    pub rows_kept : given ≡ false → ((row : Kept) × (ks' ≡ take at ks ++ (drop end ks ++ row ∷ []))) × (m'.0.lost ≡ m.0.lost + 1)
 
 -- The pass with this number was found to lag, or none was.
 abbrev pub IsLag : ℕ → ℕ → Answer ℕ → Pin → Type 0
@@ -65,6 +67,8 @@ pub record Rounds {U : Type 0} (passes number : ℕ) (answer : Round) (m m' : Mi
   pub later : m.0.pin.scan ≤ e
   pub past : (r t : ℕ) → claim_of m.0.claims r ≡ some (Keeps t) → t ≤ e
   pub reclaims : Reclaims m m'
+  -- It began one look at the others.
+  pub looked : m'.0.pin.looks ≡ m.0.pin.looks + 1
   pub freed : answer.freed + length ks' ≡ length ks
   -- how many exchanges lost: one of each row that isn't given back, at most, and that of the epoch
   pub lost : m'.0.lost ≡ m.0.lost + answer.losses

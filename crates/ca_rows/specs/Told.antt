@@ -89,15 +89,15 @@ module _ {U : Type 0} where
   abbrev pub Left : (U → U) → Step (Unit {0}) → Mine U → ℕ → Mine U → Type 0
   Left leaves st m n m' = m' ≡ (record m.0 { pin = record m.0.pin { pinned = false }; upper = leaves m.0.upper }, m.1)
 
-  -- The row is kept, since the epoch that was loaded. It isn't below that of the last look.
+  -- The row is kept, since the epoch that was loaded. It isn't below that of the last look, and no row is kept since a later one.
   abbrev pub Retired : ℕ → Step (Unit {0}) → Mine U → ℕ → Mine U → Type 0
   Retired q st m n m' = (0 < q) × (0 < m.0.sizes.rows → q ≤ m.0.sizes.rows) × (n ≤ 4611686018427387904) × (m.0.pin.scan ≤ n)
-      × (m' ≡ (record m.0 { claims = claimed q (Keeps n) m.0.claims }, m.1))
+      × ((r t : ℕ) → claim_of m.0.claims r ≡ some (Keeps t) → t ≤ n) × (m' ≡ (record m.0 { claims = claimed q (Keeps n) m.0.claims }, m.1))
 
-  -- A look at the others began: the epoch was loaded. It isn't below that of the look before, and no row is kept since a later one.
+  -- A look at the others began, and is counted: the epoch was loaded. It isn't below that of the look before, and no row is kept since a later one.
   abbrev pub Began : Step (Unit {0}) → Mine U → ℕ → Mine U → Type 0
   Began st m n m' = (n ≤ 4611686018427387904) × (m.0.pin.scan ≤ n) × ((r t : ℕ) → claim_of m.0.claims r ≡ some (Keeps t) → t ≤ n)
-      × (m' ≡ with_pin m (record m.0.pin { scan = n; upto = 0; lag = 0 }))
+      × (m' ≡ with_pin m (record m.0.pin { scan = n; upto = 0; lag = 0; looks = m.0.pin.looks + 1 }))
 
   -- The next pass's announcement was loaded: it is absent or not older than the look, or the pass lags. A pass that isn't pinned doesn't lag itself.
   abbrev pub Scanned : Step (Unit {0}) → Mine U → ℕ → Mine U → Type 0

@@ -1,5 +1,5 @@
 //! The rows that a pass keeps.
-ghost use Rattle.std.specs.Prelude.{◌≡◌, ◌↔◌, IsTrue, ◌<◌, ◌≤◌, ◌+◌, ◌++◌, ◌∷◌, [], take, drop, slice_index_or, vec_len, vec_capacity, IfOk};
+ghost use Rattle.std.specs.Prelude.{◌≡◌, ◌↔◌, IsTrue, ℕ, ◌<◌, ◌≤◌, ◌+◌, ◌++◌, ◌∷◌, [], take, drop, slice_index_or, vec_len, vec_capacity, IfOk};
 
 use std::alloc::{AllocError, Global};
 
@@ -47,15 +47,37 @@ impl KeptRows {
         epoch >= 2 && self.rows[at as usize].at <= epoch - 2
     }
 
-    // Takes the row at a place out; those behind it move up.
-    pub(crate) fn remove(&mut self, at: u32) -> u32
-        requires { at < vec_len self.old.rows }
-        ensures row { result ≡ (slice_index_or self.old.rows.items at (record { row = 0; at = 0 })).row }
-        ensures rows { self.new.rows.items ≡ take at self.old.rows.items ++ drop (at + 1) self.old.rows.items }
-        ensures len { vec_len self.new.rows + 1 ≡ vec_len self.old.rows }
+    // How many rows from the first one on were retired two epochs before this one, or earlier.
+    pub(crate) fn old_count(&self, epoch: u64) -> u32
+        ensures within { result ≤ vec_len self.now.rows }
+        ensures old { (i : ℕ) → i < result → (slice_index_or self.now.rows.items i (record { row = 0; at = 0 })).at + 2 ≤ epoch }
+        ensures young { result < vec_len self.now.rows → epoch < (slice_index_or self.now.rows.items result (record { row = 0; at = 0 })).at + 2 }
+    {
+        let mut count = 0;
+        while count < self.len() && self.is_old(count, epoch) {
+            count += 1;
+        }
+        count
+    }
+
+    // The row at a place.
+    pub(crate) fn row(&self, at: u32) -> u32
+        requires { at < vec_len self.now.rows }
+        ensures { result ≡ (slice_index_or self.now.rows.items at (record { row = 0; at = 0 })).row }
+    {
+        self.rows[at as usize].row
+    }
+
+    // Takes the rows from a place to another one out; those behind them move up.
+    pub(crate) fn cut(&mut self, at: u32, end: u32)
+        requires { (at ≤ end) × (end ≤ vec_len self.old.rows) }
+        ensures rows { self.new.rows.items ≡ take at self.old.rows.items ++ drop end self.old.rows.items }
+        ensures len { vec_len self.new.rows + end ≡ vec_len self.old.rows + at }
         ensures room { vec_capacity self.new.rows ≡ vec_capacity self.old.rows }
     {
-        self.rows.remove(at as usize).row
+        if at < end {
+            drop(self.rows.drain(at as usize..end as usize));
+        }
     }
 
     pub(crate) fn len(&self) -> u32

@@ -1,11 +1,11 @@
 //! Passes give back the rows that they keep, once nobody can have a note on them.
-ghost use Rattle.std.specs.Prelude.{◌≡◌, ◌≢◌, ◌↔◌, IsTrue, ℕ, ◌+◌, ◌-◌, ◌<◌, ◌≤◌, cond, true, false, List, length, slice_index_or, vec_len};
+ghost use Rattle.std.specs.Prelude.{◌≡◌, ◌≢◌, ◌↔◌, IsTrue, ℕ, ◌+◌, ◌-◌, ◌<◌, ◌≤◌, ◌++◌, cond, true, false, List, length, take, drop, slice_index_or, vec_len, vec_capacity};
 ghost use Rattle.std.specs.declared.option.Option.TheVariants.{None, Some};
 ghost use mathlib.Core.Option.{some};
 ghost use Rattle.ca_rows.specs.declared.view.Claim.TheVariants.{Holds as IsHeld, Keeps as IsKept};
 ghost use Rattle.ca_rows.specs.Calls.{IsOf, IsSame, IsNumbered};
 ghost use Rattle.ca_rows.specs.Claims.{claim_of, claimed};
-ghost use Rattle.ca_rows.specs.Kept.{AreKept, kept_of};
+ghost use Rattle.ca_rows.specs.Kept.{AreListed, AreKept, kept_of};
 ghost use Rattle.ca_rows.specs.Reclaiming.{Reclaims, GivesBack, IsLag, IsLook, Moves, Rounds};
 ghost use Rattle.ca_rows.specs.Told.{with_most};
 
@@ -29,27 +29,34 @@ impl<R: RowRule> Space<R> {
         self.table.shared.load::<Regain<K>>(&mut pass.seat, 1);
     }
 
-    // Gives back the kept row at this place of the list. False exactly where the exchange lost: the row is kept since now then, behind the others.
-    fn give_back(&self, pass: &mut Pass<R>, at: u32) -> bool
+    // Gives back the kept row at this place of the list, in which those behind it up to `end` are given back already, and stand still. False exactly
+    // where the exchange lost: they are taken out then, and the row is kept since now, behind the others.
+    fn give_back(&self, pass: &mut Pass<R>, at: u32, end: u32) -> bool
         requires own { IsOf self.now.table.shared.table_id self.now.table.shared.key pass.old.seat }
-        requires list { AreKept self.now.table.shared.key.rows pass.old.seat.me.0.claims pass.old.kept.rows }
-        requires place { at < vec_len pass.old.kept.rows }
+        requires list { AreListed self.now.table.shared.key.rows pass.old.seat.me.0.claims
+            (take (at + 1) pass.old.kept.rows.items ++ drop end pass.old.kept.rows.items) }
+        requires room { self.now.table.shared.key.rows ≤ vec_capacity pass.old.kept.rows }
+        requires place { (at < end) × (end ≤ vec_len pass.old.kept.rows) }
         requires old { (slice_index_or pass.old.kept.rows.items at (record { row = 0; at = 0 })).at + 2 ≤ pass.old.seat.me.0.pin.scan }
         ensures same { IsSame pass.old.seat pass.new.seat }
         ensures number { pass.new.number ≡ pass.old.number }
-        ensures list { AreKept self.now.table.shared.key.rows pass.new.seat.me.0.claims pass.new.kept.rows }
-        ensures given { GivesBack result at pass.old.seat.me pass.new.seat.me pass.old.kept.rows.items pass.new.kept.rows.items }
+        ensures list { result ≡ true → AreListed self.now.table.shared.key.rows pass.new.seat.me.0.claims
+            (take at pass.new.kept.rows.items ++ drop end pass.new.kept.rows.items) }
+        ensures again { result ≡ false → AreListed self.now.table.shared.key.rows pass.new.seat.me.0.claims pass.new.kept.rows.items }
+        ensures room { self.now.table.shared.key.rows ≤ vec_capacity pass.new.kept.rows }
+        ensures given { GivesBack result at end pass.old.seat.me pass.new.seat.me pass.old.kept.rows.items pass.new.kept.rows.items }
     {
-        let row = pass.kept.remove(at);
+        let row = pass.kept.row(at);
         self.regain_as::<Brand>(pass, row);
         if self.put_row(pass, row) {
             return true;
         }
+        pass.kept.cut(at, end);
         self.retire(pass, row);
         false
     }
 
-    // Gives back the rows that were kept two epochs before this one, from the last: how many, and how many exchanges lost.
+    // Gives back the rows that were kept two epochs before this one, which stand before all others, from the last: how many, and how many exchanges lost.
     fn give_old(&self, pass: &mut Pass<R>, epoch: u64) -> (u32, u32)
         requires own { IsOf self.now.table.shared.table_id self.now.table.shared.key pass.old.seat }
         requires list { AreKept self.now.table.shared.key.rows pass.old.seat.me.0.claims pass.old.kept.rows }
@@ -66,17 +73,18 @@ impl<R: RowRule> Space<R> {
     {
         let mut freed = 0;
         let mut losses = 0;
-        let mut at = pass.kept.len();
+        let mut at = pass.kept.old_count(epoch);
+        let mut end = at;
         while at > 0 {
             at -= 1;
-            if pass.kept.is_old(at, epoch) {
-                if self.give_back(pass, at) {
-                    freed += 1;
-                } else {
-                    losses += 1;
-                }
+            if self.give_back(pass, at, end) {
+                freed += 1;
+            } else {
+                losses += 1;
+                end = at;
             }
         }
+        pass.kept.cut(0, end);
         (freed, losses)
     }
 
@@ -174,6 +182,7 @@ impl<R: RowRule> Space<R> {
         ensures number { pass.new.number ≡ pass.old.number }
         ensures list { AreKept self.now.table.shared.key.rows pass.new.seat.me.0.claims pass.new.kept.rows }
         ensures reclaims { Reclaims pass.old.seat.me pass.new.seat.me }
+        ensures looked { pass.old.seat.me.0.pin.looks < pass.new.seat.me.0.pin.looks }
         ensures freed { result.freed + vec_len pass.new.kept.rows ≡ vec_len pass.old.kept.rows }
         ensures kept { result.kept ≡ vec_len pass.new.kept.rows }
         ensures lag { IsLag self.now.table.shared.key.passes pass.old.number result.lag pass.new.seat.me.0.pin }

@@ -1,8 +1,9 @@
 //! Passes keep rows that they unlinked.
 ghost use Rattle.std.specs.Prelude.{◌≡◌, ℕ, ◌<◌, ◌≤◌, ◌++◌, ◌∷◌, []};
+ghost use mathlib.Core.Option.{some};
 ghost use Rattle.ca_rows.specs.declared.view.Claim.TheVariants.{Keeps as IsKept};
 ghost use Rattle.ca_rows.specs.Calls.{IsOf, IsSame};
-ghost use Rattle.ca_rows.specs.Claims.{claimed};
+ghost use Rattle.ca_rows.specs.Claims.{claim_of, claimed};
 ghost use Rattle.ca_rows.specs.Kept.{AreKept, MayRetire};
 
 use crate::plays::{Named, Retire};
@@ -20,6 +21,7 @@ impl<R: RowRule> Space<R> {
         ensures kept { pass.new.kept ≡ pass.old.kept }
         ensures inside { (0 < K.about) × (K.about ≤ self.now.table.shared.key.rows) }
         ensures epoch { (result ≤ 4611686018427387904) × (pass.old.seat.me.0.pin.scan ≤ result) }
+        ensures last { (r t : ℕ) → claim_of pass.old.seat.me.0.claims r ≡ some (IsKept t) → t ≤ result }
         ensures told { pass.new.seat.me
             ≡ (record pass.old.seat.me.0 { claims = claimed K.about (IsKept result) pass.old.seat.me.0.claims }, pass.old.seat.me.1) }
     {

@@ -396,3 +396,36 @@ fn a_pass_that_stays_pinned_lags(rt: HostRuntime) {
     assert_eq!(rt; space.reclaim(&mut first), given(2, 0, 3));
     assert_eq!(rt; space.reclaim(&mut second), given(0, 0, 3));
 }
+
+// The same where the second pass lags.
+fn held_up(freed: u32, kept: u32, epoch: u64) -> Reclaimed {
+    Reclaimed {
+        lag: Some(2),
+        ..given(freed, kept, epoch)
+    }
+}
+
+#[test]
+fn a_pass_that_lags_holds_up_young_rows_alone(rt: HostRuntime) {
+    let Ok(mut space) = Space::<Register>::new(rt.alloc(), 384, 2, 1, 120, 0, STARTS) else {
+        panic!(rt; "no memory")
+    };
+    let (Ok(mut first), Ok(mut second)) = (space.enroll(rt.alloc()), space.enroll(rt.alloc()))
+    else {
+        panic!(rt; "no pass")
+    };
+    space.pin(&mut second);
+    assert_eq!(rt; take_and_retire(&space, &mut first), 1);
+    assert_eq!(rt; take_and_retire(&space, &mut first), 2);
+    assert_eq!(rt; take_and_retire(&space, &mut first), 3);
+    assert_eq!(rt; space.reclaim(&mut first), held_up(0, 3, 1));
+    assert_eq!(rt; take_and_retire(&space, &mut first), 4);
+    space.unpin(&mut second);
+    space.pin(&mut second);
+    assert_eq!(rt; space.reclaim(&mut first), held_up(3, 1, 2));
+    assert_eq!(rt; space.reclaim(&mut first), held_up(0, 1, 2));
+    assert_eq!(rt; space.take_row(&mut first), Taken::Row(2));
+    assert_eq!(rt; space.take_row(&mut first), Taken::Row(3));
+    assert_eq!(rt; space.take_row(&mut first), Taken::Row(4));
+    assert_eq!(rt; space.take_row(&mut first), Taken::Row(6));
+}

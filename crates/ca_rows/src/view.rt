@@ -43,8 +43,10 @@ pub struct Pin {
     pub scan: u64,
     /// How many passes it looked at since.
     pub upto: u64,
-    /// A pass that it found behind, or 0.
+    /// A pass that it found behind by its last look, or 0.
     pub lag: u64,
+    /// How many looks at the others it began.
+    pub looks: u64,
 }
 
 pub struct View<U> {

@@ -16,6 +16,7 @@ loop-come-init g c = record {
   resting = c.requires.resting;
   further = no_further c.args.pass.now.seat.me.0.upper;
   counted = none_spent c.args.spent.now c.args.pass.now.seat.me c.args.pass.now.seat.me refl;
+  looks = omega arith;
   worn = refl;
   first = inl (refl, refl);
 }
@@ -49,6 +50,7 @@ loop-come-preserved g c = let i = c.loop-come.invariant in let tells = λ (x : _
       counted = spent_both c.args.spent.now c.turns-come.new.spent c.refill.new.spent start behind last
           (spent_both c.args.spent.now c.loop-come.spent c.turns-come.new.spent start before behind i.counted c.turns-come.ensures.counted)
           c.refill.ensures.counted;
+      looks = let before = i.looks in let same = c.turns-come.ensures.looks in let more = c.refill.ensures.looked in omega arith;
       worn = omega (arith, i.worn, met.1, given.1);
       first = inr (empty_before (vec_len c.loop-come.pass.kept.rows) start before behind last c.args.pass.now.kept.rows i.first met given);
     }
@@ -56,9 +58,9 @@ loop-come-preserved g c = let i = c.loop-come.invariant in let tells = λ (x : _
 pub returns-in-Err-clause-few : goal.returns-in-Err-clause-few
 returns-in-Err-clause-few g c = let one = c.loop-come.invariant.counted.more in let two = c.turns-come.ensures.counted.more in
     few_from c.args.pass.now.seat.me c.turns-come.new.pass.seat.me c.refill.new.pass.seat.me c.refill.new.pass.kept.rows
-    (omega arith) (c.in-Err.ensures.few refl)
+    (omega arith) (let before = c.loop-come.invariant.looks in let same = c.turns-come.ensures.looks in omega arith) (c.in-Err.ensures.few refl)
 
 pub returns-else-is_empty-clause-few : goal.returns-else-is_empty-clause-few
 returns-else-is_empty-clause-few g c = let one = c.loop-come.invariant.counted.more in let two = c.turns-come.ensures.counted.more in
     few_from c.args.pass.now.seat.me c.turns-come.new.pass.seat.me c.keep_few.new.pass.seat.me c.keep_few.new.pass.kept.rows
-    (omega arith) c.keep_few.ensures.few
+    (omega arith) (let before = c.loop-come.invariant.looks in let same = c.turns-come.ensures.looks in omega arith) c.keep_few.ensures.few

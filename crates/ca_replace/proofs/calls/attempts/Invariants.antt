@@ -10,6 +10,7 @@ invariant-loop-come g l = record {
   resting : IsResting l.tree.space.table.shared.table_id l.tree.space.table.shared.key l.pass.number l.pass.kept.rows l.pass.seat;
   further : IsFurther l.fn.pass.seat.me.0.upper l.pass.seat.me.0.upper;
   counted : IsSpent l.fn.spent l.spent l.fn.pass.seat.me l.pass.seat.me;
+  looks : l.fn.pass.seat.me.0.pin.looks ≤ l.pass.seat.me.0.pin.looks;
   worn : l.pass.seat.me.0.worn ≡ l.fn.pass.seat.me.0.worn;
   first : ((vec_len l.pass.kept.rows ≡ vec_len l.fn.pass.kept.rows) × (l.pass.seat.me.0.empty ≡ l.fn.pass.seat.me.0.empty))
       ⊎ (l.fn.pass.seat.me.0.empty + 1 ≤ l.pass.seat.me.0.empty);

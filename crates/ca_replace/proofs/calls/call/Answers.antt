@@ -8,8 +8,8 @@ pub returns-in-Err-clause-caused : goal.returns-in-Err-clause-caused
 returns-in-Err-clause-caused g c = let last = c.attempts.new.pass in
     caused_still c.args.pass.now.seat.me last.seat.me c.give_up.new.pass.seat.me (risen c.in-Err.why last.seat.me.0.upper.counts) c.args.pass.now.kept.rows
     last.kept.rows c.give_up.new.pass.kept.rows c.give_up.ensures.counted (ap (λ (k : KeptRows). k.rows) c.give_up.ensures.kept)
-    c.args.tree.now.space.table.shared.key c.args.pass.now.number c.args.budget g.A.Attempt.adds c.in-Err.why c.outcome.result c.outcome.ensures
-    c.in-Err.ensures.caused
+    c.args.tree.now.space.table.shared.key c.args.pass.now.number c.args.budget (g.A.Attempt.adds c.args.what.now) c.in-Err.why c.outcome.result
+    c.outcome.ensures c.in-Err.ensures.caused
 
 pub returns-in-Err-clause-few : goal.returns-in-Err-clause-few
 returns-in-Err-clause-few g c = let last = c.attempts.new.pass in
@@ -18,5 +18,5 @@ returns-in-Err-clause-few g c = let last = c.attempts.new.pass in
 
 pub returns-in-Err-clause-deep : goal.returns-in-Err-clause-deep
 returns-in-Err-clause-deep g c = let last = c.attempts.new.pass in
-    deep_adds c.args.tree.now.space.table.shared.key c.args.pass.now.number c.args.budget g.A.Attempt.adds c.in-Err.why c.outcome.result
+    deep_adds c.args.tree.now.space.table.shared.key c.args.pass.now.number c.args.budget (g.A.Attempt.adds c.args.what.now) c.in-Err.why c.outcome.result
     c.args.pass.now.seat.me last.seat.me c.args.pass.now.kept.rows last.kept.rows c.outcome.ensures c.in-Err.ensures.caused

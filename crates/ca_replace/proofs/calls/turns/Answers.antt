@@ -13,6 +13,7 @@ loop-spent-init g c = record {
   resting = c.requires.resting;
   further = no_further c.args.pass.now.seat.me.0.upper;
   counted = none_spent c.args.spent.now c.args.pass.now.seat.me c.args.pass.now.seat.me refl;
+  looks = refl;
   met = none_met c.args.pass.now.seat.me;
 }
 
@@ -28,6 +29,7 @@ loop-spent-preserved g c = let tells = λ (x : _). g.A.Attempt.tells c.args.what
       c.once-tried.new.pass.seat.me.0.upper (c.if-not-is_lost.ensures.0 refl) c.once-tried.ensures.tried);
   counted = spent_both c.args.spent.now c.loop-spent.spent c.once-tried.new.spent c.args.pass.now.seat.me c.loop-spent.pass.seat.me
       c.once-tried.new.pass.seat.me c.loop-spent.invariant.counted c.once-tried.ensures.counted;
+  looks = c.once-tried.ensures.looks ∙ c.loop-spent.invariant.looks;
   met = met_both 0 0 0 0 c.args.pass.now.seat.me c.loop-spent.pass.seat.me c.once-tried.new.pass.seat.me c.loop-spent.invariant.met
       (met_lost c.once-tried.result c.loop-spent.pass.seat.me c.once-tried.new.pass.seat.me (c.if-not-is_lost.ensures.0 refl) c.once-tried.ensures.found).0;
 }

@@ -10,6 +10,7 @@ invariant-loop-spent g l = record {
   resting : IsResting l.tree.space.table.shared.table_id l.tree.space.table.shared.key l.pass.number l.pass.kept.rows l.pass.seat;
   further : IsFurther l.fn.pass.seat.me.0.upper l.pass.seat.me.0.upper;
   counted : IsSpent l.fn.spent l.spent l.fn.pass.seat.me l.pass.seat.me;
+  looks : l.pass.seat.me.0.pin.looks ≡ l.fn.pass.seat.me.0.pin.looks;
   met : HasMet 0 0 l.fn.pass.seat.me l.pass.seat.me;
 }
 

@@ -1,22 +1,29 @@
-use Rattle.std.proofs.Common.{◌≡◌, ℕ, ◌+◌, ◌<◌, ◌≤◌, drop, vec_len}
+use Rattle.std.proofs.Common.{◌≡◌, ℕ, ◌+◌, ◌<◌, ◌≤◌, ◌++◌, take, drop, get_or, vec_len, vec_capacity}
 use mathlib.Core.Option.{some}
-use Rattle.ca_rows.specs.Kept.{AreKept, kept_of}
+use Rattle.ca_rows.specs.declared.kept.Kept.{Kept}
+use Rattle.ca_rows.specs.Kept.{AreListed, kept_of}
 use Rattle.ca_rows.specs.Reclaiming.{Reclaims}
 use Rattle.ca_rows.proofs.space.Space.give_old.Given as goal
+
+abbrev nobody : Kept
+nobody = record { row = 0; at = 0 }
 
 abbrev pub invariant-loop-at : goal.invariant-loop-at
 invariant-loop-at g l = record {
   table : l.pass.seat.table_id ≡ l.fn.pass.seat.table_id;
   id : l.pass.seat.id ≡ l.fn.pass.seat.id;
   number : l.pass.number ≡ l.fn.pass.number;
-  list : AreKept l.self.table.shared.key.rows l.pass.seat.me.0.claims l.pass.kept.rows;
+  list : AreListed l.self.table.shared.key.rows l.pass.seat.me.0.claims (take l.at l.pass.kept.rows.items ++ drop l.end l.pass.kept.rows.items);
+  room : l.self.table.shared.key.rows ≤ vec_capacity l.pass.kept.rows;
   pin : l.pass.seat.me.0.pin ≡ l.fn.pass.seat.me.0.pin;
   reclaims : Reclaims l.fn.pass.seat.me l.pass.seat.me;
-  freed : l.freed + vec_len l.pass.kept.rows ≡ vec_len l.fn.pass.kept.rows;
+  freed : l.freed + vec_len l.pass.kept.rows + l.at ≡ vec_len l.fn.pass.kept.rows + l.end;
   lost : l.pass.seat.me.0.lost ≡ l.fn.pass.seat.me.0.lost + l.losses;
   few : l.freed + l.losses + l.at ≤ vec_len l.fn.pass.kept.rows;
-  young : l.losses ≡ 0 → (r t : ℕ) → kept_of (drop l.at l.pass.kept.rows.items) r ≡ some t → l.epoch < t + 2;
-  within : l.at ≤ vec_len l.pass.kept.rows;
+  old : (i : ℕ) → i < l.at → (get_or l.pass.kept.rows.items i nobody).at + 2 ≤ l.epoch;
+  young : l.losses ≡ 0 → (r t : ℕ) → kept_of (drop l.end l.pass.kept.rows.items) r ≡ some t → l.epoch < t + 2;
+  before : l.at ≤ l.end;
+  within : l.end ≤ vec_len l.pass.kept.rows;
 }
 
 abbrev pub decreases-loop-at : goal.decreases-loop-at

@@ -17,6 +17,7 @@ loop-left-preserved g c = let inv = c.loop-left.invariant in let some_left = c.l
       number = told.number ∙ inv.number;
       list = told.list;
       reclaims = reclaims_trans m m1 m2 inv.reclaims x.reclaims;
+      looked = λ _. let more = inv.reclaims.more_looks in let one = x.looked in omega arith;
       freed = omega arith;
       lost = let lost = inv.lost in let lost' = x.lost in omega arith;
       few = fewer answer.more left left' inv.few c.rounds_left-left.ensures;

@@ -12,6 +12,7 @@ invariant-loop-left g l = record {
   number : l.pass.number ≡ l.fn.pass.number;
   list : AreKept l.self.table.shared.key.rows l.pass.seat.me.0.claims l.pass.kept.rows;
   reclaims : Reclaims l.fn.pass.seat.me l.pass.seat.me;
+  looked : l.left < 3 → l.fn.pass.seat.me.0.pin.looks < l.pass.seat.me.0.pin.looks;
   freed : l.freed + vec_len l.pass.kept.rows ≡ vec_len l.fn.pass.kept.rows;
   lost : l.pass.seat.me.0.lost ≡ l.fn.pass.seat.me.0.lost + l.losses;
   few : l.left ≤ 3;

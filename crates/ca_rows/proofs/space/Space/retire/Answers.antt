@@ -26,5 +26,5 @@ returns-clause-list g c = let p = c.args.pass.now in let told = c.retire_as-at.e
     c.push.ensures.rows ∙ ap (λ (k : KeptRows). k.rows.items ++ record { row = c.args.row; at = c.retire_as-at.result } ∷ []) told.kept in
     let same = ap (λ (k : KeptRows). vec_capacity k.rows) told.kept in let more = c.push.ensures.room in let wide = c.requires.list.room in
     subst (λ (xs : List Claimed). AreKept rows xs c.push.new.self.rows) (sym (ap (λ (m : Mine g.row.R-Upper.Denot). m.0.claims) told.told))
-    (retired_too rows p.seat.me.0.claims p.kept.rows c.requires.list c.args.row c.retire_as-at.result c.push.new.self.rows told.inside.0 told.inside.1 found.1
-    grown (omega arith))
+    (retired_too rows p.seat.me.0.claims p.kept.rows c.push.new.self.rows c.requires.list c.args.row c.retire_as-at.result told.inside.0 told.inside.1 found.1
+    told.last grown (omega arith))
