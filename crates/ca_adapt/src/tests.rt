@@ -94,3 +94,25 @@ fn is_not_allowed_past_each_bound(rt: HostRuntime) {
         assert!(rt; !tuning.is_allowed(), "{tuning:?}");
     }
 }
+
+#[test]
+fn moves_its_statistic_and_says_what_is_due(rt: HostRuntime) {
+    let hot = Tuning {
+        lost: 600,
+        calm: 0,
+        ..SOME
+    };
+    assert_eq!(rt; hot.statistic_after(0, true), 600);
+    assert_eq!(rt; hot.statistic_after(600, true), 1_200);
+    assert_eq!(rt; hot.statistic_after(1_200, true), 600);
+    assert_eq!(rt; SOME.statistic_after(-1_000, false), -1_001);
+    assert_eq!(rt; SOME.statistic_after(-1_001, false), -1);
+    for (statistic, due) in [
+        (1_000, Due::Nothing),
+        (1_001, Due::Split),
+        (-1_000, Due::Nothing),
+        (-1_001, Due::Join),
+    ] {
+        assert_eq!(rt; SOME.due(statistic), due, "{statistic}");
+    }
+}

@@ -1,0 +1,20 @@
+-- How a base's statistic moves, and what is due by it.
+use Rattle.std.specs.Prelude.{◌≡◌, ◌⊎◌, Bool, true, false, ℤ, ◌<ℤ◌, ◌+ℤ◌, pos, cond}
+use Rattle.ca_adapt.specs.declared.statistic.Due.{Due}
+use Rattle.ca_adapt.specs.declared.statistic.Due.TheVariants as due
+use Rattle.ca_adapt.specs.declared.tuning.Tuning.{Tuning}
+use Rattle.ca_adapt.specs.Allowed.{IsWithin}
+
+-- What is kept of a statistic: it, or 0 where it is outside of its bounds.
+abbrev pub IsKept : Tuning → ℤ → ℤ → Type 0
+IsKept t statistic kept = (IsWithin t.low t.high statistic × (kept ≡ statistic)) ⊎ ((¬ IsWithin t.low t.high statistic) × (kept ≡ pos 0))
+
+-- An update that lost an exchange of a link, or none, makes this of it.
+abbrev pub IsAfter : Tuning → ℤ → Bool → ℤ → Type 0
+IsAfter t statistic lost after = (kept : ℤ) × IsKept t statistic kept × (after ≡ kept +ℤ cond lost t.lost t.calm)
+
+-- This is due by a statistic: a split above the upper bound, a join below the lower one, and else nothing.
+abbrev pub IsDue : Tuning → ℤ → Due → Type 0
+IsDue t statistic due.Nothing = IsWithin t.low t.high statistic
+IsDue t statistic due.Split = t.high <ℤ statistic
+IsDue t statistic due.Join = (statistic <ℤ t.low) × ¬ (t.high <ℤ statistic)

@@ -1,0 +1,62 @@
+//! How a base's statistic moves, and what is due by it.
+ghost use Rattle.std.specs.Prelude.{◌≡◌, cond, neg_ℤ, pos};
+ghost use Rattle.ca_adapt.specs.Allowed.{IsAllowed, IsWithin};
+ghost use Rattle.ca_adapt.specs.Statistics.{IsAfter, IsDue, IsKept};
+
+use crate::tuning::Tuning;
+
+/// What is due to a base by its statistic.
+#[derive(Clone, Copy, Debug, PartialEq, Eq)]
+pub enum Due {
+    Nothing,
+    /// It is above its upper bound.
+    Split,
+    /// It is below its lower bound.
+    Join,
+}
+
+impl Tuning {
+    /// The statistic of the base that an update writes: the old base's, or 0 where that is outside of its bounds, and a step up where the update
+    /// lost an exchange of a link, or else a calm step. So contention that lasts splits a base, and calm joins two.
+    pub fn statistic_after(&self, old: i32, lost: bool) -> i32
+        requires { IsAllowed self.now }
+        ensures { IsAfter self.now old lost result }
+    {
+        self.kept(old) + self.step(lost)
+    }
+
+    /// What is due to a base with this statistic.
+    pub fn due(&self, statistic: i32) -> Due
+        ensures { IsDue self.now statistic result }
+    {
+        if statistic > self.high {
+            Due::Split
+        } else if statistic < self.low {
+            Due::Join
+        } else {
+            Due::Nothing
+        }
+    }
+
+    // The step up, or the calm one.
+    fn step(&self, lost: bool) -> i32
+        requires { IsAllowed self.now }
+        ensures step { result ≡ cond lost self.now.lost self.now.calm }
+        ensures small { IsWithin (neg_ℤ (pos 1000000)) (pos 1000000) result }
+    {
+        if lost { self.lost } else { self.calm }
+    }
+
+    // The statistic, or 0 where it is outside of its bounds.
+    fn kept(&self, statistic: i32) -> i32
+        requires { IsAllowed self.now }
+        ensures kept { IsKept self.now statistic result }
+        ensures small { IsWithin (neg_ℤ (pos 1000000)) (pos 1000000) result }
+    {
+        if self.low <= statistic && statistic <= self.high {
+            statistic
+        } else {
+            0
+        }
+    }
+}
