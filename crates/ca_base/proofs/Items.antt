@@ -4,7 +4,7 @@ use Rattle.std.proofs.lemmas.List.{get_or-take, get_or-drop, length-take-le}
 use mathlib.Core.Option.{some}
 use lib.ListN.{get_elem?}
 use Rattle.ca_node.specs.Row.{count, items}
-use Rattle.ca_node.specs.Told.{IsShown}
+use Rattle.ca_node.specs.Told.{IsShown, IsShownWord}
 use Rattle.ca_node.specs.TreeView.{Note, TreeView}
 use Rattle.ca_base.specs.Finding.{IsReadable, IsObjectShown}
 use Rattle.ca_rows.specs.declared.sizes.Sizes.{Sizes}
@@ -14,6 +14,14 @@ pub at_place : {A : Type 0} (xs : List A) (k : ℕ) (d : A) → k < length xs �
 at_place [] k d l = absurd (omega arith)
 at_place (x ∷ xs) zero d l = refl
 at_place (x ∷ xs) (suc k) d l = at_place xs k d (omega arith)
+
+-- A word of a row that was shown as a base or an object is one that was shown, and so it is what is loaded.
+pub word_shown : (u : TreeView) (row index : ℕ) → (its : List ℕ) × IsShown u row its → (word : ℕ) × IsShownWord u row index word
+word_shown u row index s = (get_or s.0 index 0, (s.0, inl s.1, refl))
+
+pub as_shown : (u : TreeView) (row index n : ℕ) → ((word : ℕ) → IsShownWord u row index word → n ≡ word) → (its : List ℕ) → IsShown u row its
+    → n ≡ get_or its index 0
+as_shown u row index n is its s = is (get_or its index 0) (its, inl s, refl)
 
 module _ (z : Sizes) (u : TreeView) (base : ℕ) (note : Note) (r : IsReadable z u base note) where
   shows : IsShown u base note.its

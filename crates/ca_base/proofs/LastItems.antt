@@ -1,5 +1,5 @@
 -- The items of the base that was shown last, and a new base with some of them.
-use Rattle.std.proofs.Common.{◌≡◌, ℕ, ◌+◌, ◌-◌, ◌<◌, ◌≤◌, List, length, take, drop, ◌++◌, get_or, sym, refl, ap, ◌∙◌, subst, inl, arith, length-take, length-drop, length-append}
+use Rattle.std.proofs.Common.{◌≡◌, ℕ, ◌+◌, ◌-◌, ◌*◌, ◌<◌, ◌≤◌, List, length, take, drop, ◌++◌, get_or, sym, refl, ap, ◌∙◌, subst, inl, arith, length-take, length-drop, length-append}
 use Rattle.std.proofs.lemmas.List.{get_or-take, get_or-drop, get_or_append_left, get_or-append_right, length-take-le}
 use mathlib.Core.Option.{some}
 use Rattle.ca_node.specs.Row.{count}
@@ -33,12 +33,14 @@ module _ (z : Sizes) (u : TreeView) (base : ℕ) (shown : IsShownLast z u base) 
   item_names k word is l = (shown.is_base.named word (k, at_place (last_items u) k 0 l ∙ ap some (sym (last_item k word is l)))).1
 
 -- A row that was filled with a base's words is a base.
-pub base_written : (row many statistic : ℕ) (these : List ℕ) (k m n : MyTree) → IsHeld k row → many ≡ length these → length these ≤ 120
-    → HasFilled row 0 7 (λ i word. word ≡ get_or (base_head many statistic) i 0) k m
-    → HasFilled row 11 (length these) (λ i word. word ≡ get_or these i 0) m n → HasWritten row (SpellsBase these statistic) k n
-base_written row many statistic these k m n h is few f g = let one = f h.0 h.1 h.2 in let two = g one.0 (one.1.long ∙ h.1) one.2.here in (
+pub base_written : (row at_level many statistic : ℕ) (these : List ℕ) (k m n : MyTree) → IsHeld k row → at_level < 65536 → many ≡ length these
+    → length these ≤ 120
+    → HasFilled row 0 7 (λ i word. word ≡ get_or (base_head at_level many statistic) i 0) k m
+    → HasFilled row 11 (length these) (λ i word. word ≡ get_or these i 0) m n → HasWritten row (SpellsBase these at_level statistic) k n
+base_written row at_level many statistic these k m n h low is few f g = let one = f h.0 h.1 h.2 in let two = g one.0 (one.1.long ∙ h.1) one.2.here in (
   two.0,
-  spells_base these (144115188075855872 + many) statistic h.0 one.0 two.0 h.1 (ap (λ (i : ℕ). 144115188075855872 + i) is) few one.1 two.1,
+  spells_base these at_level (144115188075855872 + at_level * 65536 + many) statistic h.0 one.0 two.0 h.1 low
+      (ap (λ (i : ℕ). 144115188075855872 + at_level * 65536 + i) is) few one.1 two.1,
   rewritten_again row one.0 two.0 k m n one.2 two.2,
 )
 
@@ -73,14 +75,15 @@ module _ (xs these : List ℕ) (before behind : ℕ) (low : before ≤ length xs
   )
 
   -- Where they were written in turn, they are the items of the new base.
-  pub around_written : (row many statistic : ℕ) (a b d e f : MyTree) → IsHeld a row → many ≡ before + length these + (length xs - behind) → many ≤ 120
-      → HasFilled row 0 7 (λ i word. word ≡ get_or (base_head many statistic) i 0) a b
+  pub around_written : (row at_level many statistic : ℕ) (a b d e f : MyTree) → IsHeld a row → at_level < 65536
+      → many ≡ before + length these + (length xs - behind) → many ≤ 120
+      → HasFilled row 0 7 (λ i word. word ≡ get_or (base_head at_level many statistic) i 0) a b
       → HasFilled row (11 + 0) before (λ k word. word ≡ get_or xs (0 + k) 0) b d
       → HasFilled row (11 + before) (length these) (λ k word. word ≡ get_or these k 0) d e
       → HasFilled row (11 + (before + length these)) (length xs - behind) (λ k word. word ≡ get_or xs (behind + k) 0) e f
-      → HasWritten row (SpellsBase around statistic) a f
-  around_written row many statistic a b d e f h is few head one two three = let m = many_are in
-      base_written row many statistic around a b f h (omega arith) (omega arith) head
+      → HasWritten row (SpellsBase around at_level statistic) a f
+  around_written row at_level many statistic a b d e f h lower is few head one two three = let m = many_are in
+      base_written row at_level many statistic around a b f h lower (omega arith) (omega arith) head
       (subst (λ (n : ℕ). HasFilled row 11 n says b f) (sym m)
       (filled_on row 11 (before + length these) (length xs - behind) says b e f
       (filled_on row 11 before (length these) says b d e

@@ -1,16 +1,18 @@
 -- Rows that were written are ready for the exchange.
-use Rattle.std.proofs.Common.{◌≡◌, ◌≢◌, ℕ, ◌<◌, ◌≤◌, true, Bool, List, length, map, drop, Result, Ok, Err, sym, ap, ◌∙◌, subst, arith}
+use Rattle.std.proofs.Common.{◌≡◌, ◌≢◌, ℕ, ◌<◌, ◌≤◌, true, Bool, List, length, map, drop, get_or, Result, Ok, Err, sym, ap, ◌∙◌, subst, arith}
 use Rattle.std.specs.Prelude.{slice_range}
 use Rattle.std.proofs.lemmas.List.{length-map, length-take}
 use mathlib.Core.Option.{some}
 use Rattle.ca_model.specs.Event.{Event}
+use Rattle.ca_model.specs.History.{Edit, Put}
 use Rattle.ca_model.specs.StoreMap.{IsPair}
 use Rattle.ca_model.proofs.Places.{IsPlace}
+use Rattle.ca_node.specs.Place.{HasKey}
 use Rattle.ca_node.specs.Row.{count, object, key, pair}
 use Rattle.ca_node.specs.Told.{MyTree, IsUpdate}
 use Rattle.ca_node.specs.TreeView.{Note, TreeView}
 use Rattle.ca_base.specs.declared.updating.Putting.{Putting}
-use Rattle.ca_base.specs.Putting.{put_in, object_at, IsRoom, IsPlaceFor, IsFor, IsShownLast, HasSwapped, first_note, last_items, words_of, put_event, put_update, put_update_of}
+use Rattle.ca_base.specs.Putting.{put_in, object_at, IsRoom, IsPlaceFor, IsFor, IsShownLast, HasRenewed, HasSwapped, first_note, last_items, words_of, put_event, put_update, put_update_of}
 use Rattle.ca_base.specs.Writing.{IsRewritten, SpellsObject, SpellsBase}
 use Rattle.ca_base.proofs.Rebasing.{new_base, note_is, words_are}
 use Rattle.ca_base.proofs.Replacing.{in_range_of, is_put}
@@ -27,7 +29,8 @@ finds_place (Err at) n leaf l r few = (l, omega arith)
 module _ (z : Sizes) (m0 m1 m2 m3 : MyTree) (row new base : ℕ) (place : Result ℕ ℕ) (why : Putting) (bytes : List ℕ)
     (key_at key_end statistic : ℕ) (a b : List ℕ) (shown : IsShownLast z m0.0.upper base)
     (upper : m3.0.upper ≡ m0.0.upper) (other : row ≢ new) (one : SpellsObject bytes key_at key_end a) (wrote : IsRewritten row a m1 m2)
-    (two : SpellsBase (put_in (last_items m0.0.upper) place row) statistic b) (wrote_too : IsRewritten new b m2 m3) where
+    (two : SpellsBase (put_in (last_items m0.0.upper) place row) (first_note m0.0.upper.notes).place.level statistic b)
+    (wrote_too : IsRewritten new b m2 m3) where
   abbrev note : Note
   note = first_note m0.0.upper.notes
 
@@ -42,8 +45,10 @@ module _ (z : Sizes) (m0 m1 m2 m3 : MyTree) (row new base : ℕ) (place : Result
 
   pub ready : m0.0.pin.pinned ≡ true → 0 < m0.0.upper.number → IsRoom place (length (last_items m0.0.upper)) z.leaf
       → IsPair z.keypos (slice_range bytes key_at key_end, bytes) → IsPlace (map pair note.objects) (slice_range bytes key_at key_end) place
-      → IsFor why place → m3.0.pin ≡ m0.0.pin → IsUpdate z m3 new (put_update_of m3 row new place why)
-  ready is_pinned is_pass room is_pair is_place is_for pin = subst (λ (x : Note × List ℕ × List ℕ). IsUpdate z m3 new (put_update x.0 row x.1 x.2 place why))
+      → IsFor why place → m3.0.pin ≡ m0.0.pin → HasKey note.place.span (slice_range bytes key_at key_end)
+      → IsUpdate z m3 new (put_update_of m3 row new place why)
+  ready is_pinned is_pass room is_pair is_place is_for pin about =
+      subst (λ (x : Note × List ℕ × List ℕ). IsUpdate z m3 new (put_update x.0 row x.1 x.2 place why))
       (λ i. (sym is_note i, sym is_a i, sym (words_are new b m2 m3 wrote_too) i))
       (is_put z m3 note row new place why statistic a b
       (new_base z m0 m2 m3 new base (put_in (last_items m0.0.upper) place row) statistic b shown is_pinned is_pass upper pin two wrote_too)
@@ -54,6 +59,7 @@ module _ (z : Sizes) (m0 m1 m2 m3 : MyTree) (row new base : ℕ) (place : Result
         room = room;
         pair_is = subst (λ (x : List ℕ × List ℕ). IsPair z.keypos x) (λ i. (sym one.key_is i, sym one.object_is i)) is_pair;
         is_for = is_for;
+        about = subst (HasKey note.place.span) (sym one.key_is) about;
       })
 
   -- The event is that of the object.
@@ -64,6 +70,23 @@ module _ (z : Sizes) (m0 m1 m2 m3 : MyTree) (row new base : ℕ) (place : Result
   pub tried : (won : Bool) (v : TreeView) → HasSwapped (put_update_of m3 row new place why).event z won m3.0.upper v
       → HasSwapped (put_event why (slice_range bytes key_at key_end) (object_at place note.objects) bytes) z won m0.0.upper v
   tried won v h = subst (λ (x : Event × TreeView). HasSwapped x.0 z won x.1 v) (λ i. (is_event i, upper i)) h
+
+  pub renewed_so : (won : Bool) (v : TreeView)
+      → HasRenewed z (get_or (put_update_of m3 row new place why).its 1 0) (put_update_of m3 row new place why).edit (Ok won) m3.0.upper v
+      → HasRenewed z statistic (Put (slice_range bytes key_at key_end) bytes) (Ok won) m0.0.upper v
+  renewed_so won v h = subst (λ (x : ℕ × Edit × TreeView). HasRenewed z x.0 x.1 (Ok won) x.2 v)
+      (λ i. (
+        (ap (λ (its : List ℕ). get_or its 1 0) (words_are new b m2 m3 wrote_too) ∙ two.statistic_is) i,
+        (ap (λ (its : List ℕ). Put (key its) (object its)) is_a
+            ∙ ap (λ (x : List ℕ × List ℕ). Put x.0 x.1) (λ j. (one.key_is j, one.object_is j))) i,
+        upper i,
+      )) h
+
+-- What was written at the level of a cursor is at that of the base.
+pub spells_there : (first now : TreeView) (these : List ℕ → List ℕ) (there here statistic : ℕ) (its : List ℕ) → now ≡ first → there ≡ here
+    → SpellsBase (these (last_items now)) here statistic its → SpellsBase (these (last_items first)) there statistic its
+spells_there first now these there here statistic its same is s = subst (λ (u : TreeView). SpellsBase (these (last_items u)) there statistic its) same
+    (subst (λ (n : ℕ). SpellsBase (these (last_items now)) n statistic its) (sym is) s)
 
 -- It has as many items as objects, and the place is among them.
 pub many_are : (z : Sizes) (u : TreeView) (base many : ℕ) → IsShownLast z u base → many ≡ length (first_note u.notes).objects

@@ -10,6 +10,7 @@ use Rattle.ca_model.specs.Slab.{nothing}
 use Rattle.ca_model.proofs.Places.{IsAt, is_found}
 use Rattle.ca_node.specs.Laws.{in_nothing}
 use Rattle.ca_node.specs.Links.{IsIn}
+use Rattle.ca_node.specs.Place.{HasKey, edit_key}
 use Rattle.ca_node.specs.Row.{items, pair}
 use Rattle.ca_node.specs.Told.{MyTree, Update, IsBaseNote, IsObjectOf, IsUpdate}
 use Rattle.ca_node.specs.TreeView.{Note, TreeView}
@@ -28,7 +29,7 @@ pub record IsNewBase (z : Sizes) (m : MyTree) (new : ℕ) (old : Note) (these : 
   pub shown : (rest : List Note) × (m.0.upper.notes ≡ old ∷ rest)
   pub is_base : IsBaseNote z old
   pub held : claim_of m.0.claims new ≡ some (Holds b)
-  pub spells : SpellsBase these statistic b
+  pub spells : SpellsBase these old.place.level statistic b
 
 -- Where the new base has the row at all, it is one that comes, or stood in another place of the old base.
 abbrev pub IsElsewhere : Update → List ℕ → ℕ → ℕ → Type 0
@@ -45,6 +46,7 @@ pub record IsMade (keypos : ℕ) (m : MyTree) (x : Update) (these : List ℕ) : 
   pub does : effect x.event ≡ x.edit ∷ []
   pub answer : IsAnswer x.event (map pair x.old.objects)
   pub is_edit : IsEdit keypos x.edit
+  pub about : HasKey x.old.place.span (edit_key x.edit)
 
 pub is_update : (z : Sizes) (m : MyTree) (new : ℕ) (x : Update) (these : List ℕ) (statistic : ℕ) → IsNewBase z m new x.old these statistic x.its
     → length these ≤ z.leaf → IsMade z.keypos m x these → IsUpdate z m new x
@@ -67,17 +69,19 @@ is_update z m new x these statistic n few made = let h = subst (IsMade z.keypos 
   does = h.does;
   answer = h.answer;
   is_edit = h.is_edit;
+  about = h.about;
 }
 
 -- Where there is a note at all, the first one is first.
-is_first : (notes : List Note) → IsIn (first_note notes) notes → (rest : List Note) × (notes ≡ first_note notes ∷ rest)
+pub is_first : (notes : List Note) → IsIn (first_note notes) notes → (rest : List Note) × (notes ≡ first_note notes ∷ rest)
 is_first [] i = absurd (in_nothing (first_note []) [] refl i)
 is_first (note ∷ notes) i = (notes, refl)
 
 -- The base was written since the pass was shown the old one.
 pub new_base : (z : Sizes) (first before now : MyTree) (new base : ℕ) (these : List ℕ) (statistic : ℕ) (b : List ℕ) → IsShownLast z first.0.upper base
-    → first.0.pin.pinned ≡ true → 0 < first.0.upper.number → now.0.upper ≡ first.0.upper → now.0.pin ≡ first.0.pin → SpellsBase these statistic b
-    → IsRewritten new b before now → IsNewBase z now new (first_note first.0.upper.notes) these statistic b
+    → first.0.pin.pinned ≡ true → 0 < first.0.upper.number → now.0.upper ≡ first.0.upper → now.0.pin ≡ first.0.pin
+    → SpellsBase these (first_note first.0.upper.notes).place.level statistic b → IsRewritten new b before now
+    → IsNewBase z now new (first_note first.0.upper.notes) these statistic b
 new_base z first before now new base these statistic b shown is_pinned is_pass upper pin spells wrote = record {
   is_pinned = ap (λ (e : Pin). e.pinned) pin ∙ is_pinned;
   is_pass = subst (λ (u : TreeView). 0 < u.number) (sym upper) is_pass;

@@ -11,6 +11,7 @@ use Rattle.ca_model.specs.History.{Put}
 use Rattle.ca_model.specs.StoreMap.{StoreMap, IsPair}
 use Rattle.ca_model.proofs.Places.{IsPlace, placed_is}
 use Rattle.ca_node.specs.Links.{IsIn}
+use Rattle.ca_node.specs.Place.{HasKey}
 use Rattle.ca_node.specs.Row.{IsObjectRow, items, count, object, key, pair}
 use Rattle.ca_node.specs.Told.{MyTree, Update, IsUpdate}
 use Rattle.ca_node.specs.TreeView.{Note}
@@ -76,6 +77,7 @@ pub record IsPut (z : Sizes) (m : MyTree) (note : Note) (row : ℕ) (place : Res
   pub room : IsRoom place (length (items note.its)) z.leaf
   pub pair_is : IsPair z.keypos (key a, object a)
   pub is_for : IsFor why place
+  pub about : HasKey note.place.span (key a)
 
 module _ (z : Sizes) (m : MyTree) (note : Note) (row new : ℕ) (place : Result ℕ ℕ) (why : Putting) (statistic : ℕ) (a b : List ℕ)
     (n : IsNewBase z m new note (put_in (items note.its) place row) statistic b) (h : IsPut z m note row place why a) where
@@ -112,4 +114,5 @@ module _ (z : Sizes) (m : MyTree) (note : Note) (row new : ℕ) (place : Result 
     does = effect_is why (key a) (object_at place note.objects) (object a);
     answer = answers why place note.objects (key a) (object a) h.is_for h.place_is;
     is_edit = h.pair_is;
+    about = h.about;
   }

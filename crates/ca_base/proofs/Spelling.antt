@@ -1,5 +1,5 @@
 -- What the words of a row spell once it was filled.
-use Rattle.std.proofs.Common.{◌≡◌, ℕ, ◌+◌, ◌-◌, ◌/◌, ◌%◌, ◌<◌, ◌≤◌, List, [], ◌∷◌, length, take, drop, get_or, sym, ap, ◌∙◌, subst, arith, length-drop}
+use Rattle.std.proofs.Common.{◌≡◌, ℕ, ◌+◌, ◌-◌, ◌*◌, ◌/◌, ◌%◌, ◌<◌, ◌≤◌, List, [], ◌∷◌, length, take, drop, get_or, sym, ap, ◌∙◌, subst, arith, length-drop}
 use Rattle.std.proofs.lemmas.Grind.{same_number_lists}
 use Rattle.std.proofs.lemmas.List.{length-take-le, get_or-take, get_or-drop}
 use Rattle.ca_node.specs.Row.{bytes_in, object, key_place, count}
@@ -43,10 +43,11 @@ spells_object bytes key_at key_end form its one new long first is_object is_leng
         ∙ packed (drop 11 new) bytes ((length bytes + 7) / 8) (omega arith) (omega (arith, length-drop 11 new, wide)) has_eight
 
 -- A base row: the words up to its mark, and its items from word 11 on.
-pub spells_base : (these : List ℕ) (form statistic : ℕ) (its one new : List ℕ) → length its ≡ 136 → form ≡ 144115188075855872 + length these
-    → length these ≤ 120 → IsFilled 0 7 (λ k word. word ≡ get_or (form ∷ statistic ∷ 0 ∷ 0 ∷ 0 ∷ 0 ∷ 0 ∷ []) k 0) its one
-    → IsFilled 11 (length these) (λ k word. word ≡ get_or these k 0) one new → SpellsBase these statistic new
-spells_base these form statistic its one new long is few f g = record {
+pub spells_base : (these : List ℕ) (at_level form statistic : ℕ) (its one new : List ℕ) → length its ≡ 136 → at_level < 65536
+    → form ≡ 144115188075855872 + at_level * 65536 + length these → length these ≤ 120
+    → IsFilled 0 7 (λ k word. word ≡ get_or (form ∷ statistic ∷ 0 ∷ 0 ∷ 0 ∷ 0 ∷ 0 ∷ []) k 0) its one
+    → IsFilled 11 (length these) (λ k word. word ≡ get_or these k 0) one new → SpellsBase these at_level statistic new
+spells_base these at_level form statistic its one new long low is few f g = record {
   long = wide;
   is_base = let h = first in omega arith;
   items_are = ap (λ n. take n (drop 11 new)) count_is ∙ same_number_lists (take (length these) (drop 11 new)) these wide_items

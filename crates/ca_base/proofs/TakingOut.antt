@@ -8,15 +8,17 @@ use mathlib.Core.Option.{some, some-ne-none}
 use native.Mathlib.Decide.{ℕ_discrete}
 use lib.ListN.{get_elem?}
 use Rattle.ca_model.specs.Event.{Event, Remove}
+use Rattle.ca_model.specs.History.{Edit, Del}
 use Rattle.ca_model.specs.StoreMap.{Pair, IsStoreMap}
 use Rattle.ca_model.specs.Slab.{nothing}
 use Rattle.ca_model.proofs.Places.{IsAt, is_found, removed_is}
 use Rattle.ca_node.specs.Laws.{in_nothing}
 use Rattle.ca_node.specs.Links.{IsIn}
+use Rattle.ca_node.specs.Place.{HasKey}
 use Rattle.ca_node.specs.Row.{items, count, pair}
 use Rattle.ca_node.specs.Told.{MyTree, IsUpdate}
 use Rattle.ca_node.specs.TreeView.{Note, TreeView}
-use Rattle.ca_base.specs.Putting.{object_at, IsShownLast, HasSwapped, first_note, last_items}
+use Rattle.ca_base.specs.Putting.{object_at, IsShownLast, HasRenewed, HasSwapped, first_note, last_items}
 use Rattle.ca_base.specs.Removing.{key_at, take_update, update_of}
 use Rattle.ca_base.specs.declared.swapping.Deed.TheVariants as deed
 use Rattle.ca_base.specs.Writing.{IsRewritten, SpellsBase}
@@ -62,7 +64,7 @@ key_is objects k at h = let l = h.in_range in let long = length-map objects pair
 
 module _ (z : Sizes) (m : MyTree) (note : Note) (at new statistic : ℕ) (b : List ℕ)
     (n : IsNewBase z m new note (remove (items note.its) at) statistic b) (ordered : IsStoreMap z.keypos (map pair note.objects))
-    (place : IsAt (map pair note.objects) (key_at at note.objects) at) where
+    (place : IsAt (map pair note.objects) (key_at at note.objects) at) (about : HasKey note.place.span (key_at at note.objects)) where
   in_objects : at < length note.objects
   in_objects = let l = place.in_range in let long = length-map note.objects pair in omega arith
 
@@ -91,12 +93,14 @@ module _ (z : Sizes) (m : MyTree) (note : Note) (at new statistic : ℕ) (b : Li
     does = refl;
     answer = is_found_at note.objects (key_at at note.objects) at place;
     is_edit = tt;
+    about = about;
   }
 
 -- The base without the object was written: it is ready for the exchange, which is the call.
 module _ (z : Sizes) (first before now : MyTree) (new base at statistic : ℕ) (k b : List ℕ) (shown : IsShownLast z first.0.upper base)
     (upper : now.0.upper ≡ first.0.upper) (place : IsAt (map pair (first_note first.0.upper.notes).objects) k at)
-    (spells : SpellsBase (remove (last_items first.0.upper) at) statistic b) (wrote : IsRewritten new b before now) where
+    (spells : SpellsBase (remove (last_items first.0.upper) at) (first_note first.0.upper.notes).place.level statistic b)
+    (wrote : IsRewritten new b before now) where
   abbrev note : Note
   note = first_note first.0.upper.notes
 
@@ -104,12 +108,13 @@ module _ (z : Sizes) (first before now : MyTree) (new base at statistic : ℕ) (
   key_same = key_is note.objects k at place
 
   pub ready_without : first.0.pin.pinned ≡ true → 0 < first.0.upper.number → now.0.pin ≡ first.0.pin → IsStoreMap z.keypos (map pair note.objects)
-      → IsUpdate z now new (update_of now new (deed.Remove at))
-  ready_without is_pinned is_pass pin ordered = subst (λ (y : Note × List ℕ). IsUpdate z now new (take_update y.0 y.1 at))
+      → HasKey note.place.span k → IsUpdate z now new (update_of now new (deed.Remove at))
+  ready_without is_pinned is_pass pin ordered about = subst (λ (y : Note × List ℕ). IsUpdate z now new (take_update y.0 y.1 at))
       (λ i. (sym (note_is first now upper) i, sym (words_are new b before now wrote) i))
       (is_taken_out z now note at new statistic b
       (new_base z first before now new base (remove (last_items first.0.upper) at) statistic b shown is_pinned is_pass upper pin spells wrote)
-      ordered (subst (λ (q : List ℕ). IsAt (map pair note.objects) q at) (sym key_same) place))
+      ordered (subst (λ (q : List ℕ). IsAt (map pair note.objects) q at) (sym key_same) place)
+      (subst (HasKey note.place.span) (sym key_same) about))
 
   pub removed : (won : Bool) (v : TreeView) → HasSwapped (update_of now new (deed.Remove at)).event z won now.0.upper v
       → HasSwapped (Remove k (Some (object_at (Ok at) note.objects))) z won first.0.upper v
@@ -117,5 +122,15 @@ module _ (z : Sizes) (first before now : MyTree) (new base at statistic : ℕ) (
       (λ i. (
         (ap (λ (x : Note). Remove (key_at at x.objects) (Some (object_at (Ok at) x.objects))) (note_is first now upper)
             ∙ ap (λ (q : List ℕ). Remove q (Some (object_at (Ok at) note.objects))) key_same) i,
+        upper i,
+      )) h
+
+  pub renewed_without : (won : Bool) (v : TreeView)
+      → HasRenewed z (get_or (update_of now new (deed.Remove at)).its 1 0) (update_of now new (deed.Remove at)).edit (Ok won) now.0.upper v
+      → HasRenewed z statistic (Del k) (Ok won) first.0.upper v
+  renewed_without won v h = subst (λ (x : ℕ × Edit × TreeView). HasRenewed z x.0 x.1 (Ok won) x.2 v)
+      (λ i. (
+        (ap (λ (its : List ℕ). get_or its 1 0) (words_are new b before now wrote) ∙ spells.statistic_is) i,
+        (ap (λ (x : Note). Del (key_at at x.objects)) (note_is first now upper) ∙ ap Del key_same) i,
         upper i,
       )) h

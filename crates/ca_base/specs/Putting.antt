@@ -1,12 +1,12 @@
 -- Updates that put an object: what becomes of a base, and which call it is.
-use Rattle.std.specs.Prelude.{◌≡◌, ℕ, ◌<◌, ◌≤◌, Bool, true, false, List, [], ◌∷◌, slice_index, slice_index_or, slice_set, Some, Result, Ok, Err}
+use Rattle.std.specs.Prelude.{◌≡◌, ℕ, ◌<◌, ◌≤◌, Bool, true, false, List, [], ◌∷◌, map, slice_index, slice_index_or, slice_set, Some, Result, Ok, Err}
 use Rattle.std.specs.List.{insert}
 use mathlib.Core.Option.{Option, some, none}
 use Rattle.ca_model.specs.Event.{Event, Write, WriteNew, Change}
-use Rattle.ca_model.specs.History.{Put}
+use Rattle.ca_model.specs.History.{Edit, Put, after_edit}
 use Rattle.ca_node.specs.Links.{IsIn}
-use Rattle.ca_node.specs.Row.{items, object, key}
-use Rattle.ca_node.specs.Told.{MyTree, IsBaseNote, IsKnown, Update, one_more_lost}
+use Rattle.ca_node.specs.Row.{items, object, key, pair}
+use Rattle.ca_node.specs.Told.{MyTree, IsBaseNote, IsKnown, Update, no_note, one_more_lost}
 use Rattle.ca_node.specs.TreeView.{Note, TreeView}
 use Rattle.ca_base.specs.declared.taking.NoRow.{NoRow}
 use Rattle.ca_base.specs.declared.updating.Putting.{Putting}
@@ -75,7 +75,7 @@ put_update note row its new place why = record {
 
 -- the base that was shown last
 abbrev pub first_note : List Note → Note
-first_note [] = record { row = 0; its = []; objects = [] }
+first_note [] = no_note
 first_note (note ∷ notes) = note
 
 -- its items
@@ -111,3 +111,20 @@ HasSwapped event z false u v = v ≡ one_more_lost u
 abbrev pub HasTried : Event → Sizes → Result Bool NoRow → TreeView → TreeView → Type 0
 HasTried event z (Ok won) u v = HasSwapped event z won u v
 HasTried event z (Err why) u v = v ≡ u
+
+-- A new base was shown, at the place of the one that was shown last: it has what that one had after the edit, and this word for its statistic.
+pub record IsRenewed (z : Sizes) (statistic : ℕ) (edit : Edit) (u v : TreeView) : Type 0 where
+  pub notes : v.notes ≡ first_note v.notes ∷ u.notes
+  pub ways : v.ways ≡ u.ways
+  pub is_base : IsBaseNote z (first_note v.notes)
+  pub place : (first_note v.notes).place ≡ (first_note u.notes).place
+  pub has : map pair (first_note v.notes).objects ≡ after_edit edit (map pair (first_note u.notes).objects)
+  pub statistic_is : slice_index (first_note v.notes).its 1 ≡ statistic
+  -- No base was split.
+  pub same_splits : v.splits ≡ u.splits
+
+-- So it is where the exchange of a base won.
+abbrev pub HasRenewed : Sizes → ℕ → Edit → Result Bool NoRow → TreeView → TreeView → Type 0
+HasRenewed z statistic edit (Ok true) u v = IsRenewed z statistic edit u v
+HasRenewed z statistic edit (Ok false) u v = Unit {0}
+HasRenewed z statistic edit (Err why) u v = Unit {0}

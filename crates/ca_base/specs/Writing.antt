@@ -50,19 +50,19 @@ pub record SpellsObject (bytes : List ℕ) (key_at key_end : ℕ) (its : List �
   pub object_is : object its ≡ bytes
   pub key_is : key its ≡ slice_range bytes key_at key_end
 
--- The words are a base's: these items, at level 0, with this word for the statistic, and no mark.
-pub record SpellsBase (these : List ℕ) (statistic : ℕ) (its : List ℕ) : Type 0 where
+-- The words are a base's: these items, at this level, with this word for the statistic, and no mark.
+pub record SpellsBase (these : List ℕ) (at_level statistic : ℕ) (its : List ℕ) : Type 0 where
   pub long : length its ≡ 136
   pub is_base : IsBaseRow its
   pub items_are : items its ≡ these
-  pub level_is : level its ≡ 0
+  pub level_is : level its ≡ at_level
   pub count_is : count its ≡ length these
   pub unmarked : mark its ≡ 0
   pub statistic_is : slice_index its 1 ≡ statistic
 
--- the words of a base row from the first one up to the mark's bound: so many items, at level 0, this word for the statistic, and no mark
-abbrev pub base_head : ℕ → ℕ → List ℕ
-base_head many statistic = (144115188075855872 + many) ∷ statistic ∷ 0 ∷ 0 ∷ 0 ∷ 0 ∷ 0 ∷ []
+-- the words of a base row from the first one up to the mark's bound: so many items, at this level, this word for the statistic, and no mark
+abbrev pub base_head : ℕ → ℕ → ℕ → List ℕ
+base_head at_level many statistic = (144115188075855872 + at_level * 65536 + many) ∷ statistic ∷ 0 ∷ 0 ∷ 0 ∷ 0 ∷ 0 ∷ []
 
 -- The seat holds the row with such words, and its other rows as before.
 abbrev pub HasWritten : ℕ → (List ℕ → Type 0) → MyTree → MyTree → Type 0

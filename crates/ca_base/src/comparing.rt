@@ -36,7 +36,7 @@ pub fn compare(space: &TreeSpace, pass: &mut TreePass, row: u32, key: &[u8]) -> 
 }
 
 // Between which bytes of an object that the pass was shown its key stands.
-fn key_bytes(space: &TreeSpace, pass: &mut TreePass, row: u32) -> (usize, usize)
+pub(crate) fn key_bytes(space: &TreeSpace, pass: &mut TreePass, row: u32) -> (usize, usize)
     requires own { IsOf space.now.table.shared.table_id space.now.table.shared.key pass.old.seat }
     requires pinned { pass.old.seat.me.0.pin.pinned ≡ true }
     requires inside { row ≤ space.now.table.shared.key.rows }

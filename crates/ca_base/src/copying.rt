@@ -8,7 +8,7 @@ ghost use Rattle.ca_base.specs.Writing.{IsHeld, HasFilled, SpellsBase, HasWritte
 use crate::writing::{set_word, write_head, write_items};
 use ca_node::{TreePass, TreeSpace, load_word};
 
-/// Writes a base row of level 0 without a mark: the items of the base that was shown last, of which there are so many, with this one put at the
+/// Writes a base row of a level without a mark: the items of the base that was shown last, of which there are so many, with this one put at the
 /// place; and the word for its statistic. It answers the item in whose place this one is put, or 0.
 pub(crate) fn write_base_with(
     space: &TreeSpace,
@@ -18,6 +18,7 @@ pub(crate) fn write_base_with(
     many: u32,
     place: Result<u32, u32>,
     item: u32,
+    level: u16,
     statistic: u64,
 ) -> u32
     requires own { IsOf space.now.table.shared.table_id space.now.table.shared.key pass.old.seat }
@@ -30,18 +31,23 @@ pub(crate) fn write_base_with(
     ensures same { IsStill pass.old.seat pass.new.seat }
     ensures number { pass.new.number ≡ pass.old.number }
     ensures kept { pass.new.kept ≡ pass.old.kept }
-    ensures written { HasWritten row (SpellsBase (put_in (last_items pass.old.seat.me.0.upper) place item) statistic) pass.old.seat.me pass.new.seat.me }
+    ensures written { HasWritten row (SpellsBase (put_in (last_items pass.old.seat.me.0.upper) place item) level statistic) pass.old.seat.me pass.new.seat.me }
     ensures gone { IsItemAt place (last_items pass.old.seat.me.0.upper) result }
 {
     let these = &[item];
     match place {
         Ok(at) => {
             let old = item_at(space, pass, base, at);
-            write_around(space, pass, row, base, many, at, these, at + 1, statistic);
+            let behind = at + 1;
+            write_around(
+                space, pass, row, base, many, at, these, behind, level, statistic,
+            );
             old
         }
         Err(at) => {
-            write_around(space, pass, row, base, many, at, these, at, statistic);
+            write_around(
+                space, pass, row, base, many, at, these, at, level, statistic,
+            );
             0
         }
     }
@@ -55,6 +61,7 @@ pub(crate) fn write_base_without(
     base: u32,
     many: u32,
     at: u32,
+    level: u16,
     statistic: u64,
 ) -> u32
     requires own { IsOf space.now.table.shared.table_id space.now.table.shared.key pass.old.seat }
@@ -67,11 +74,23 @@ pub(crate) fn write_base_without(
     ensures same { IsStill pass.old.seat pass.new.seat }
     ensures number { pass.new.number ≡ pass.old.number }
     ensures kept { pass.new.kept ≡ pass.old.kept }
-    ensures written { HasWritten row (SpellsBase (remove (last_items pass.old.seat.me.0.upper) at) statistic) pass.old.seat.me pass.new.seat.me }
+    ensures written { HasWritten row (SpellsBase (remove (last_items pass.old.seat.me.0.upper) at) level statistic) pass.old.seat.me pass.new.seat.me }
     ensures gone { result ≡ slice_index (last_items pass.old.seat.me.0.upper) at }
 {
     let old = item_at(space, pass, base, at);
-    write_around(space, pass, row, base, many, at, &[], at + 1, statistic);
+    let behind = at + 1;
+    write_around(
+        space,
+        pass,
+        row,
+        base,
+        many,
+        at,
+        &[],
+        behind,
+        level,
+        statistic,
+    );
     old
 }
 
@@ -100,6 +119,7 @@ fn write_around(
     before: u32,
     these: &[u32],
     behind: u32,
+    level: u16,
     statistic: u64,
 )
     requires own { IsOf space.now.table.shared.table_id space.now.table.shared.key pass.old.seat }
@@ -114,18 +134,18 @@ fn write_around(
     ensures number { pass.new.number ≡ pass.old.number }
     ensures kept { pass.new.kept ≡ pass.old.kept }
     ensures written { HasWritten row (SpellsBase (take before (last_items pass.old.seat.me.0.upper)
-        ++ (these.now ++ drop behind (last_items pass.old.seat.me.0.upper))) statistic) pass.old.seat.me pass.new.seat.me }
+        ++ (these.now ++ drop behind (last_items pass.old.seat.me.0.upper))) level statistic) pass.old.seat.me pass.new.seat.me }
 {
     let next = before + these.len() as u32;
     let rest = many - behind;
-    write_head(space, pass, row, next + rest, statistic);
+    write_head(space, pass, row, level, next + rest, statistic);
     copy_items(space, pass, row, 0, base, 0, before);
     write_items(space, pass, row, before, these);
     copy_items(space, pass, row, next, base, behind, rest);
 }
 
 // Copies items of the base that was shown last to a base row that the pass holds: so many, to the places from `to` on those from `from` on.
-fn copy_items(
+pub(crate) fn copy_items(
     space: &TreeSpace,
     pass: &mut TreePass,
     row: u32,

@@ -62,7 +62,7 @@ pub fn copy_object(space: &TreeSpace, pass: &mut TreePass, row: u32, into: &mut 
 }
 
 // Appends bytes, for which there is room.
-fn append(into: &mut Code, more: &[u8])
+pub(crate) fn append(into: &mut Code, more: &[u8])
     requires { array_vec_len into.old + length more.now ≤ MOST_CODE_BYTES }
     ensures { into.new.items ≡ into.old.items ++ more.now }
 {

@@ -2,30 +2,35 @@
 ghost use Rattle.std.specs.Prelude.{◌≡◌, ◌<◌, ◌≤◌, [], length, map, true, Ok, Some};
 ghost use Rattle.ca_model.proofs.Places.{IsPlace};
 ghost use Rattle.ca_model.specs.Event.{Remove};
+ghost use Rattle.ca_model.specs.History.{Del};
 ghost use Rattle.ca_model.specs.StoreMap.{IsStoreMap};
+ghost use Rattle.ca_node.specs.Place.{HasKey};
 ghost use Rattle.ca_node.specs.Row.{pair};
 ghost use Rattle.ca_base.specs.Counting.{IsSpent, HasCleared, HasEnded};
-ghost use Rattle.ca_base.specs.Putting.{object_at, IsShownLast, HasTried, first_note};
+ghost use Rattle.ca_base.specs.Finding.{IsAtCursor};
+ghost use Rattle.ca_base.specs.Putting.{object_at, IsShownLast, HasRenewed, HasTried, first_note};
 ghost use Rattle.ca_base.specs.Taking.{AreHeld};
 ghost use Rattle.ca_rows.specs.Calls.{IsOf, IsSame};
 
 use crate::copying::write_base_without;
-use crate::swapping::{Deed, STATISTIC, swap_in};
+use crate::swapping::{Deed, swap_in};
 use crate::taking::{NoRow, take};
 use ca_model::Spent;
-use ca_node::{TreePass, TreeSpace};
+use ca_node::{Cursor, TreePass, TreeSpace};
 use std::marker::Brand;
 use std::slice::from_ref;
 
-/// Takes the object with this key, which stands at this place, out of the base that was shown last, which has so many, by one exchange, which
-/// enters the call in the log. False where the exchange was lost.
+/// Takes the object with this key, which stands at this place, out of the base that was shown last, which has so many, by one exchange of the link
+/// where that base hangs; this enters the call in the log. The key is one of those that are led there. The new base has this word for its
+/// statistic. False where the exchange was lost.
 pub fn remove_at(
     space: &TreeSpace,
     pass: &mut TreePass,
-    base: u32,
+    cursor: Cursor,
     many: u32,
     at: u32,
     _key: &[u8],
+    statistic: u64,
     spent: &mut Spent,
 ) -> Result<bool, NoRow>
     requires own { IsOf space.now.table.shared.table_id space.now.table.shared.key pass.old.seat }
@@ -33,7 +38,9 @@ pub fn remove_at(
     requires number { 0 < pass.old.seat.me.0.upper.number }
     requires none { AreHeld space.now.table.shared.key.rows pass.old.kept.rows pass.old.seat.me.0 [] }
     requires leaf { space.now.table.shared.key.leaf ≤ 120 }
-    requires shown { IsShownLast space.now.table.shared.key pass.old.seat.me.0.upper base }
+    requires shown { IsShownLast space.now.table.shared.key pass.old.seat.me.0.upper cursor.base }
+    requires cursor { IsAtCursor space.now.table.shared.key (first_note pass.old.seat.me.0.upper.notes) cursor }
+    requires about { HasKey (first_note pass.old.seat.me.0.upper.notes).place.span _key.now }
     requires many { many ≡ length (first_note pass.old.seat.me.0.upper.notes).objects }
     requires ordered { IsStoreMap space.now.table.shared.key.keypos (map pair (first_note pass.old.seat.me.0.upper.notes).objects) }
     requires place { IsPlace (map pair (first_note pass.old.seat.me.0.upper.notes).objects) _key.now (Ok at) }
@@ -43,6 +50,7 @@ pub fn remove_at(
     ensures none { AreHeld space.now.table.shared.key.rows pass.new.kept.rows pass.new.seat.me.0 [] }
     ensures removed { HasTried (Remove _key.now (Some (object_at (Ok at) (first_note pass.old.seat.me.0.upper.notes).objects)))
         space.now.table.shared.key result pass.old.seat.me.0.upper pass.new.seat.me.0.upper }
+    ensures renewed { HasRenewed space.now.table.shared.key statistic (Del _key.now) result pass.old.seat.me.0.upper pass.new.seat.me.0.upper }
     ensures counted { IsSpent spent.old spent.new pass.old.seat.me pass.new.seat.me }
     ensures found { HasEnded result pass.old.seat.me pass.new.seat.me }
     ensures back { HasCleared result pass.old.seat.me pass.new.seat.me pass.old.kept pass.new.kept }
@@ -51,8 +59,10 @@ pub fn remove_at(
         Ok(row) => row,
         Err(why) => return Err(why),
     };
-    let old = write_base_without(space, pass, new, base, many, at, STATISTIC);
+    let base = cursor.base;
+    let level = cursor.level;
+    let old = write_base_without(space, pass, new, base, many, at, level, statistic);
     let goes = from_ref(&old);
     let deed = Deed::Remove(at);
-    Ok(swap_in::<Brand>(space, pass, base, new, &[], goes, deed, spent))
+    Ok(swap_in::<Brand>(space, pass, cursor, new, &[], goes, deed, spent))
 }

@@ -1,10 +1,11 @@
 //! A base that a pass wrote takes the place of the one that it was shown last.
-ghost use Rattle.std.specs.Prelude.{◌≡◌, ◌<◌, ◌≤◌, ℕ, List, [], ◌∷◌, Ok};
+ghost use Rattle.std.specs.Prelude.{◌≡◌, ◌<◌, ◌≤◌, ℕ, List, [], ◌∷◌, Ok, slice_index};
 ghost use Rattle.ca_node.specs.Links.{IsIn};
-ghost use Rattle.ca_node.specs.Told.{IsUpdate};
+ghost use Rattle.ca_node.specs.Told.{IsBaseNote, IsUpdate};
 ghost use Rattle.ca_node.proofs.HeldRows.{AreApart};
 ghost use Rattle.ca_base.specs.Counting.{losses, IsSpent, HasCleared, HasEnded, HasMet, PutsBack};
-ghost use Rattle.ca_base.specs.Putting.{HasSwapped};
+ghost use Rattle.ca_base.specs.Finding.{IsAtCursor};
+ghost use Rattle.ca_base.specs.Putting.{HasRenewed, HasSwapped};
 ghost use Rattle.ca_base.specs.Taking.{AreHeld, AreUnlinked};
 ghost use Rattle.ca_rows.specs.Calls.{IsOf, IsSame, IsStill};
 
@@ -12,7 +13,7 @@ use crate::spending::lose;
 use crate::taking::give_back;
 use crate::updating::Putting;
 use ca_model::Spent;
-use ca_node::{Intent, TreePass, TreeSpace, replace_base};
+use ca_node::{Cursor, Intent, TreePass, TreeSpace, replace_base};
 
 /// What an update does. The code hands it on and never looks at it: a proof names the update by it.
 #[derive(Clone, Copy, Debug, PartialEq, Eq)]
@@ -23,15 +24,15 @@ pub enum Deed {
     Remove(u32),
 }
 
-// The word of a new base for a statistic of 0.
-pub(crate) const STATISTIC: u64 = 1 << 32;
+/// The word of a new base for a statistic of 0.
+pub const STATISTIC: u64 = 1 << 32;
 
-// Carries out the update that `K` names, by one exchange of the base that was shown last against a new one, and retires what goes by that. Where
-// the exchange is lost, the rows that were written are put back.
+// Carries out the update that `K` names, by one exchange of the link where the base hangs that was shown last: the new base takes the place of
+// that one, and what goes by that is retired. Where the exchange is lost, the rows that were written are put back.
 pub(crate) fn swap_in<K: Intent>(
     space: &TreeSpace,
     pass: &mut TreePass,
-    base: u32,
+    cursor: Cursor,
     new: u32,
     comes: &[u32],
     goes: &[u32],
@@ -40,7 +41,9 @@ pub(crate) fn swap_in<K: Intent>(
 ) -> bool
     requires own { IsOf space.now.table.shared.table_id space.now.table.shared.key pass.old.seat }
     requires update { IsUpdate space.now.table.shared.key pass.old.seat.me new K.update }
-    requires rows { (K.update.old.row ≡ base) × (K.update.comes ≡ comes.now) × (K.update.goes ≡ goes.now) }
+    requires old_base { IsBaseNote space.now.table.shared.key K.update.old }
+    requires cursor { IsAtCursor space.now.table.shared.key K.update.old cursor }
+    requires rows { (K.update.comes ≡ comes.now) × (K.update.goes ≡ goes.now) }
     requires apart { AreApart (new ∷ comes.now) × AreApart goes.now }
     requires held { AreHeld space.now.table.shared.key.rows pass.old.kept.rows pass.old.seat.me.0 (new ∷ comes.now) }
     ensures same { IsSame pass.old.seat pass.new.seat }
@@ -48,11 +51,14 @@ pub(crate) fn swap_in<K: Intent>(
     ensures pin { (pass.new.seat.me.0.sizes ≡ pass.old.seat.me.0.sizes) × (pass.new.seat.me.0.pin ≡ pass.old.seat.me.0.pin) }
     ensures none { AreHeld space.now.table.shared.key.rows pass.new.kept.rows pass.new.seat.me.0 [] }
     ensures done { HasSwapped K.update.event space.now.table.shared.key result pass.old.seat.me.0.upper pass.new.seat.me.0.upper }
+    ensures renewed { HasRenewed space.now.table.shared.key (slice_index K.update.its 1) K.update.edit (Ok result) pass.old.seat.me.0.upper
+        pass.new.seat.me.0.upper }
     ensures counted { IsSpent spent.old spent.new pass.old.seat.me pass.new.seat.me }
     ensures found { HasEnded (Ok result) pass.old.seat.me pass.new.seat.me }
     ensures back { HasCleared (Ok result) pass.old.seat.me pass.new.seat.me pass.old.kept pass.new.kept }
 {
-    if !replace_base::<K>(space, pass, base, new) {
+    let base = cursor.base;
+    if !replace_base::<K>(space, pass, cursor.link, base, new) {
         lose(spent);
         give_back(space, pass, new, spent);
         give_back_all(space, pass, comes, spent);
@@ -64,7 +70,7 @@ pub(crate) fn swap_in<K: Intent>(
 }
 
 // Puts rows back that the pass holds.
-fn give_back_all(space: &TreeSpace, pass: &mut TreePass, rows: &[u32], spent: &mut Spent)
+pub(crate) fn give_back_all(space: &TreeSpace, pass: &mut TreePass, rows: &[u32], spent: &mut Spent)
     requires own { IsOf space.now.table.shared.table_id space.now.table.shared.key pass.old.seat }
     requires apart { AreApart rows.now }
     requires held { AreHeld space.now.table.shared.key.rows pass.old.kept.rows pass.old.seat.me.0 rows.now }
@@ -96,7 +102,7 @@ fn retire_all(space: &TreeSpace, pass: &mut TreePass, rows: &[u32])
 }
 
 // Retires a row that the pass unlinked.
-fn retire_unlinked(space: &TreeSpace, pass: &mut TreePass, row: u32)
+pub(crate) fn retire_unlinked(space: &TreeSpace, pass: &mut TreePass, row: u32)
     requires own { IsOf space.now.table.shared.table_id space.now.table.shared.key pass.old.seat }
     requires unlinked { (rest : List ℕ) × (¬ IsIn row rest)
         × AreUnlinked space.now.table.shared.key.rows pass.old.kept.rows pass.old.seat.me.0 (row ∷ rest) }

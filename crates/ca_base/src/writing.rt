@@ -36,8 +36,15 @@ pub fn write_object(
     clear(space, pass, row, 11 + object.len().div_ceil(8));
 }
 
-/// Writes a base row of level 0 without a mark: its items, and the word for its statistic.
-pub fn write_base(space: &TreeSpace, pass: &mut TreePass, row: u32, items: &[u32], statistic: u64)
+/// Writes a base row of a level without a mark: its items, and the word for its statistic.
+pub fn write_base(
+    space: &TreeSpace,
+    pass: &mut TreePass,
+    row: u32,
+    level: u16,
+    items: &[u32],
+    statistic: u64,
+)
     requires own { IsOf space.now.table.shared.table_id space.now.table.shared.key pass.old.seat }
     requires held { IsHeld pass.old.seat.me row }
     requires inside { row ≤ space.now.table.shared.key.rows }
@@ -45,9 +52,9 @@ pub fn write_base(space: &TreeSpace, pass: &mut TreePass, row: u32, items: &[u32
     ensures same { IsStill pass.old.seat pass.new.seat }
     ensures number { pass.new.number ≡ pass.old.number }
     ensures kept { pass.new.kept ≡ pass.old.kept }
-    ensures written { HasWritten row (SpellsBase items.now statistic) pass.old.seat.me pass.new.seat.me }
+    ensures written { HasWritten row (SpellsBase items.now level statistic) pass.old.seat.me pass.new.seat.me }
 {
-    write_head(space, pass, row, items.len() as u32, statistic);
+    write_head(space, pass, row, level, items.len() as u32, statistic);
     write_items(space, pass, row, 0, items);
 }
 
@@ -56,6 +63,7 @@ pub(crate) fn write_head(
     space: &TreeSpace,
     pass: &mut TreePass,
     row: u32,
+    level: u16,
     many: u32,
     statistic: u64,
 )
@@ -65,9 +73,9 @@ pub(crate) fn write_head(
     ensures same { IsStill pass.old.seat pass.new.seat }
     ensures number { pass.new.number ≡ pass.old.number }
     ensures kept { pass.new.kept ≡ pass.old.kept }
-    ensures filled { HasFilled row 0 7 (λ k word. word ≡ slice_index (base_head many statistic) k) pass.old.seat.me pass.new.seat.me }
+    ensures filled { HasFilled row 0 7 (λ k word. word ≡ slice_index (base_head level many statistic) k) pass.old.seat.me pass.new.seat.me }
 {
-    let form = BASE + many as u64;
+    let form = BASE + level as u64 * 65_536 + many as u64;
     write_words(space, pass, row, &[form, statistic, 0, 0, 0, 0, 0]);
 }
 
@@ -114,7 +122,7 @@ fn clear(space: &TreeSpace, pass: &mut TreePass, row: u32, from: usize)
 }
 
 // Sets words from the first one on.
-fn write_words(space: &TreeSpace, pass: &mut TreePass, row: u32, words: &[u64])
+pub(crate) fn write_words(space: &TreeSpace, pass: &mut TreePass, row: u32, words: &[u64])
     requires own { IsOf space.now.table.shared.table_id space.now.table.shared.key pass.old.seat }
     requires held { IsHeld pass.old.seat.me row }
     requires inside { row ≤ space.now.table.shared.key.rows }
@@ -147,7 +155,7 @@ pub(crate) fn write_items(space: &TreeSpace, pass: &mut TreePass, row: u32, at: 
 }
 
 // Writes an object's bytes.
-fn write_bytes(space: &TreeSpace, pass: &mut TreePass, row: u32, bytes: &[u8])
+pub(crate) fn write_bytes(space: &TreeSpace, pass: &mut TreePass, row: u32, bytes: &[u8])
     requires own { IsOf space.now.table.shared.table_id space.now.table.shared.key pass.old.seat }
     requires held { IsHeld pass.old.seat.me row }
     requires inside { row ≤ space.now.table.shared.key.rows }

@@ -6,7 +6,7 @@ use ca_model::Code;
 use ca_replace::TreeStore;
 
 // How often a call that is refused is tried again.
-const TRIES: u32 = 1_000;
+const TRIES: u32 = 1_000_000;
 
 /// Which calls are played.
 #[derive(Clone, Copy)]

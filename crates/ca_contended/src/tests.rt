@@ -16,13 +16,13 @@ const TURNS: u32 = 8_000;
 
 const SHARED: u32 = 6;
 
-// A tree of one leaf of at most 120 objects, on so many rows.
-fn one_leaf(alloc: Global, rows: u32, passes: u32) -> Result<Tree, TreeFault>
+// A tree on so many rows, with at most so many objects in a leaf, at so many levels.
+fn tree_of(alloc: Global, rows: u32, passes: u32, leaf: u8, levels: u16) -> Result<Tree, TreeFault>
     ensures { IfOk result (λ tree. tree.space.sizes.keypos ≡ 1) }
 {
     let tuning = Tuning {
-        leaf: 120,
-        levels: 0,
+        leaf,
+        levels,
         lost: 0,
         calm: 0,
         range: 0,
@@ -64,7 +64,7 @@ fn explains(
 
 #[test]
 fn replies_of_two_clients_are_those_of_one_history(rt: HostRuntime) {
-    let Ok(mut tree) = one_leaf(rt.alloc(), 32_768, 2) else {
+    let Ok(mut tree) = tree_of(rt.alloc(), 32_768, 2, 2, 64) else {
         panic!(rt; "no memory")
     };
     let (Ok(one), Ok(two)) = (tree.enroll(rt.alloc()), tree.enroll(rt.alloc())) else {
@@ -95,7 +95,7 @@ fn count_both<T: Threads + Sync>(rt: &T, first: &mut Player<'_>, second: &mut Pl
 
 #[test]
 fn a_counter_ends_with_as_much_as_it_was_raised(rt: HostRuntime) {
-    let Ok(mut tree) = one_leaf(rt.alloc(), 2_000, 2) else {
+    let Ok(mut tree) = tree_of(rt.alloc(), 2_000, 2, 120, 0) else {
         panic!(rt; "no memory")
     };
     let (Ok(one), Ok(two)) = (tree.enroll(rt.alloc()), tree.enroll(rt.alloc())) else {
@@ -160,7 +160,7 @@ fn left(clients: &[Player<'_>], key: u32) -> i64 {
 
 #[test]
 fn four_clients_share_a_hundred_keys_on_few_rows(rt: HostRuntime) {
-    let Ok(mut tree) = one_leaf(rt.alloc(), 2_000, 4) else {
+    let Ok(mut tree) = tree_of(rt.alloc(), 2_000, 4, 8, 64) else {
         panic!(rt; "no memory")
     };
     let (Ok(a), Ok(b), Ok(c), Ok(d)) = (

@@ -69,7 +69,7 @@ learnt_notes words u v _ (by_link_item way base row i e f k) = by_link_item way 
 pub tree_learning : Closing IsLinked IsLent IsNoted IsTree learnt (blank 0)
 tree_learning = record {
   keeps_closing = λ z made uppers words i j v w f at ne there. let u' : TreeView = learnt v w in let us : List TreeView = set uppers i u' in
-      let k = relisted z.rows made words uppers us f.history i v (numbered uppers i v u' at (λ _. refl)) (f.each_seat i v at) in
+      let k = relisted z.rows made words f.role uppers us f.history i v (numbered uppers i v u' at (λ _. refl)) (f.each_seat i v at) in
       let long = longer_is f.history v.seen w.seen k.seen_first (f.each_seat j w there).seen_first in
       let g = seat_changed z made words uppers i v u' f at (λ _. refl) record {
         made_before = k.made_before;
@@ -79,10 +79,11 @@ tree_learning = record {
         lawful = k.lawful;
         past = longer_past (length v.seen) (length (longer v.seen w.seen)) v.log (longer_first v.seen w.seen) k.past;
         notes = k.notes;
-        no_ways = k.no_ways;
+        links = k.links;
+        ways = k.ways;
       } in
       seat_changed z made words us j w (blank 0) g (set_else uppers i j u' ne ∙ there) (λ lo. absurd (omega arith))
-      (knows_nothing z.rows made words (set us j (blank 0)) g.history j 0 (omega arith) (λ lo. absurd (omega arith))
+      (knows_nothing z.rows made words g.role (set us j (blank 0)) g.history j 0 (omega arith) (λ lo. absurd (omega arith))
       (none_made made 0 g.history g.by_passes (inl refl)));
   closing_notes = λ words v w r n. inl (learnt_notes words v w r n);
   spent_notes = λ words r. no_notes words (blank 0) r refl refl;
@@ -99,9 +100,8 @@ front_more z made words uppers id u f at = let next : List TreeView = uppers ++ 
   keypos = f.keypos;
   leaf = f.leaf;
   levels = f.levels;
-  wide = f.wide;
-  base = f.base;
-  map_is = f.map_is;
+  role = f.role;
+  shape = f.shape;
   each_seat = λ j v here. ⊎_elim
       (λ (was : get_elem? uppers j ≡ some v). let k = f.each_seat j v was in record {
         made_before = k.made_before;
@@ -113,14 +113,15 @@ front_more z made words uppers id u f at = let next : List TreeView = uppers ++ 
         lawful = k.lawful;
         past = k.past;
         notes = k.notes;
-        no_ways = k.no_ways;
+        links = k.links;
+        ways = k.ways;
       })
-      (λ (t : (j ≡ length uppers) × (front_of u ≡ v)). subst (Knows z.rows made words next f.history j) t.1
+      (λ (t : (j ≡ length uppers) × (front_of u ≡ v)). subst (Knows z.rows made words f.role next f.history j) t.1
       (front_knows next f.history (f.each_seat id u at).seen_first (none_made made 0 f.history f.by_passes (inl refl)) j))
       (at_place uppers (front_of u) v j here);
 }
   where
-    front_knows : (next : List TreeView) (h : History) → StartsWith h u.seen → edits_of_pass 0 h ≡ [] → (j : ℕ) → Knows z.rows made words next h j (front_of u)
+    front_knows : (next : List TreeView) (h : History) → StartsWith h u.seen → edits_of_pass 0 h ≡ [] → (j : ℕ) → Knows z.rows made words f.role next h j (front_of u)
     front_knows next h first unmade j = record {
       made_before = omega arith;
       alone = λ lo. absurd (omega arith);
@@ -129,7 +130,8 @@ front_more z made words uppers id u f at = let next : List TreeView = uppers ++ 
       lawful = record { entries = tt; places = tt; edits = unmade };
       past = tt;
       notes = λ note i. absurd (in_nothing note [] refl i);
-      no_ways = refl;
+      links = λ note i. absurd (in_nothing note [] refl i);
+      ways = λ way i. absurd (in_nothing way [] refl i);
     }
 
 module _ (z : Sizes) where

@@ -1,6 +1,16 @@
+pub mod Divided
+pub mod Dividing
 pub mod Fronts
 pub mod HeldRows
+pub mod Holding
 pub mod Logs
 pub mod Looking
 pub mod Members
+pub mod Named
+pub mod Parts
+pub mod Rebased
+pub mod Remembering
+pub mod RouteWords
 pub mod Updating
+pub mod Walks
+pub mod WordOrder

@@ -1,4 +1,4 @@
--- Loads: of the root link, and of words of rows that were shown.
+-- Loads: of links, and of words of rows that were shown.
 use Rattle.std.proofs.Common.{◌≡◌, ◌≢◌, ◌⊎◌, ℕ, zero, suc, ◌+◌, ◌*◌, ◌<◌, ◌≤◌, true, List, [], ◌∷◌, ◌++◌, length, map, get_or, set, sym, refl, ap, ◌∙◌, subst, inl, inr, ⊎_elim, arith, length-append}
 use Rattle.std.proofs.lemmas.List.{map-set, set-get_or, append_assoc, length-map}
 use mathlib.Core.Option.{some, none, some-injective, some-ne-none}
@@ -9,17 +9,21 @@ use Rattle.ca_model.specs.Event.{Event, Entry, IsAnswer}
 use Rattle.ca_model.specs.History.{History, after, state, AreEdits, AreByPasses}
 use Rattle.ca_model.specs.Known.{Counts}
 use Rattle.ca_model.specs.Lawful.{IsLawful}
+use Rattle.ca_model.specs.StoreMap.{StoreMap}
 use Rattle.ca_rows.specs.declared.sizes.Sizes.{Sizes}
 use Rattle.ca_rows.specs.declared.view.View.{View}
 use Rattle.ca_rows.specs.Rule.{upper_of, Ruled}
 use Rattle.ca_rows.proofs.Relinking.{Stays, relinks}
-use Rattle.ca_node.specs.Laws.{tree_lends, numbered, relisted, seat_changed, in_nothing, notes_by, starts_whole}
-use Rattle.ca_node.specs.Links.{root, IsIn, IsLinked, by_root, by_base, IsLent, IsNoted, by_note, by_item, by_way, by_link, by_link_item}
-use Rattle.ca_node.specs.Row.{row_at, IsObjectRow, IsBaseRow, items, pair}
+use Rattle.ca_node.specs.Laws.{tree_lends, numbered, relisted, seat_changed, starts_whole}
+use Rattle.ca_node.specs.Links.{IsIn, IsUnder, IsLinked, by_route, by_base, IsLent, IsNoted, by_note, by_item, by_way, by_link, by_link_item}
+use Rattle.ca_node.specs.Place.{Span, all_keys, left_of, right_of, HasKey, part, Place}
+use Rattle.ca_node.specs.Reached.{by_place, base_at, route_at, placed_linked, item_linked}
+use Rattle.ca_node.specs.Row.{row_at, IsObjectRow, IsBaseRow, IsRouteRow, items, route_key, pair}
+use Rattle.ca_node.specs.Shape.{Base, Route, place_of, LeadsTo, IsBaseAt, IsRouteAt}
 use Rattle.ca_node.specs.Stays.{word_at, row_long}
-use Rattle.ca_node.specs.Told.{MyTree, IsBaseNote, IsKnown, led, IsLed, Leads, IsShown, Reads, IsReadNow, entered, ReadsLast, Refuses}
-use Rattle.ca_node.specs.Tree.{StartsWith, ArePast, IsTrue, Knows, IsTree}
-use Rattle.ca_node.specs.TreeView.{Note, TreeView}
+use Rattle.ca_node.specs.Told.{MyTree, with_upper, IsBaseNote, IsRouteNote, IsKnown, IsKnownLink, IsAnyLink, IsPlaceOf, led_to_base, led_to_route, IsLedToBase, IsLedToRoute, IsLed, Leads, IsShown, IsShownRoute, IsRead, Reads, IsReadNow, entered, ReadsLast, Refuses}
+use Rattle.ca_node.specs.Tree.{StartsWith, ArePast, IsLinkOfView, IsFixed, IsTrue, IsTrueWay, Knows, IsTree}
+use Rattle.ca_node.specs.TreeView.{Note, Way, TreeView}
 use Rattle.ca_node.proofs.Logs.{state_there, read_lawful, past_more}
 
 module _ (z : Sizes) where
@@ -55,7 +59,7 @@ module _ (z : Sizes) where
 
   -- What a seat knows of the tree, by its view.
   pub knows_upper : (s : State (Unit {0}) (View TreeView)) (r : R s) (id : ℕ) (d : View TreeView) → get_elem? s.views id ≡ some d
-      → Knows z.rows r.made s.words (map upper_of s.views) r.above.history id d.upper
+      → Knows z.rows r.made s.words r.above.role (map upper_of s.views) r.above.history id d.upper
   knows_upper s r id d at = r.above.each_seat id d.upper (at_map upper_of s.views id d at)
 
 -- A member of a list with one more in front.
@@ -91,18 +95,41 @@ starts_shorter h seen s = let e = ap (λ (x : History). length x) s.1 in let m =
 pub further : (a b c : History) → StartsWith a b → StartsWith b c → StartsWith a c
 further a b c x y = (y.0 ++ x.0, x.1 ∙ (ap (λ h. h ++ x.0) y.1 ∙ append_assoc c y.0 x.0))
 
--- A note more: on a row that is linked, and whose items are.
-pub new_notes : (words : List ℕ) (u : TreeView) (more : History) (note : Note) → IsLinked words note.row
-    → (IsBaseRow note.its → (r : ℕ) → IsIn r (items note.its) → IsLinked words r) → u.ways ≡ [] → (row : ℕ) → IsNoted words (led u more note) row
+-- A note more: on a base that is linked.
+pub new_note : (words : List ℕ) (u : TreeView) (more : History) (note : Note) → IsLinked words note.row
+    → ((r : ℕ) → IsIn r (items note.its) → IsLinked words r) → (row : ℕ) → IsNoted words (led_to_base u more note) row
     → IsNoted words u row ⊎ IsLinked words row
-new_notes words u more note here named empty _ (by_note n row i e) = ⊎_elim (λ (same : note ≡ n). inr (subst (IsLinked words)
+new_note words u more note here named _ (by_note n row i e) = ⊎_elim (λ (same : note ≡ n). inr (subst (IsLinked words)
     (ap (λ (x : Note). x.row) same ∙ e) here)) (λ (o : IsIn n u.notes). inl (by_note n row o e)) (in_more note n u.notes i)
-new_notes words u more note here named empty _ (by_item n row i b m) = ⊎_elim
-    (λ (same : note ≡ n). inr (named (subst (λ (x : Note). IsBaseRow x.its) (sym same) b) row (subst (λ (x : Note). IsIn row (items x.its)) (sym same) m)))
+new_note words u more note here named _ (by_item n row i b m) = ⊎_elim
+    (λ (same : note ≡ n). inr (named row (subst (λ (x : Note). IsIn row (items x.its)) (sym same) m)))
     (λ (o : IsIn n u.notes). inl (by_item n row o b m)) (in_more note n u.notes i)
-new_notes words u more note here named empty _ (by_way way row i e) = absurd (in_nothing way u.ways empty i)
-new_notes words u more note here named empty _ (by_link way row i e) = absurd (in_nothing way u.ways empty i)
-new_notes words u more note here named empty _ (by_link_item way base row i e f m) = absurd (in_nothing way u.ways empty i)
+new_note words u more note here named _ (by_way way row i e) = inl (by_way way row i e)
+new_note words u more note here named _ (by_link way row i under) = inl (by_link way row i under)
+new_note words u more note here named _ (by_link_item way base row i under f m) = inl (by_link_item way base row i under f m)
+
+-- A route more: one that is linked, and so is what its links name.
+pub new_way : (words : List ℕ) (u : TreeView) (more : History) (way : Way) → IsLinked words way.row → IsRouteRow (row_at words way.row) → (row : ℕ)
+    → IsNoted words (led_to_route u more way) row → IsNoted words u row ⊎ IsLinked words row
+new_way words u more way here form _ (by_note n row i e) = inl (by_note n row i e)
+new_way words u more way here form _ (by_item n row i b m) = inl (by_item n row i b m)
+new_way words u more way here form _ (by_way w row i e) = ⊎_elim (λ (same : way ≡ w). inr (subst (IsLinked words)
+    (ap (λ (x : Way). x.row) same ∙ e) here)) (λ (o : IsIn w u.ways). inl (by_way w row o e)) (in_more way w u.ways i)
+new_way words u more way here form _ (by_link w row i under) = ⊎_elim
+    (λ (same : way ≡ w). inr (by_route way.row row here form (subst (λ (x : Way). IsUnder words x.row row) (sym same) under)))
+    (λ (o : IsIn w u.ways). inl (by_link w row o under)) (in_more way w u.ways i)
+new_way words u more way here form _ (by_link_item w base row i under f m) = ⊎_elim
+    (λ (same : way ≡ w). inr (by_base base row (by_route way.row base here form (subst (λ (x : Way). IsUnder words x.row base) (sym same) under)) f m))
+    (λ (o : IsIn w u.ways). inl (by_link_item w base row o under f m)) (in_more way w u.ways i)
+
+-- What a seat counts gives no note.
+pub counted_notes : (words : List ℕ) (u : TreeView) (counts : Counts) (lost : ℕ) (row : ℕ)
+    → IsNoted words (record u { counts = counts; lost = lost }) row → IsNoted words u row
+counted_notes words u counts lost _ (by_note note row i e) = by_note note row i e
+counted_notes words u counts lost _ (by_item note row i b k) = by_item note row i b k
+counted_notes words u counts lost _ (by_way way row i e) = by_way way row i e
+counted_notes words u counts lost _ (by_link way row i e) = by_link way row i e
+counted_notes words u counts lost _ (by_link_item way base row i e f k) = by_link_item way base row i e f k
 
 -- An entry in the log gives no note.
 pub entered_notes : (words : List ℕ) (u : TreeView) (event : Event) (row : ℕ) → IsNoted words (entered u event) row → IsNoted words u row
@@ -112,105 +139,305 @@ entered_notes words u event _ (by_way way row i e) = by_way way row i e
 entered_notes words u event _ (by_link way row i e) = by_link way row i e
 entered_notes words u event _ (by_link_item way base row i e f k) = by_link_item way base row i e f k
 
--- What the root link reaches, as a note.
+-- What a list of rows spells, one after another.
+pub in_turn : (words : List ℕ) (xs : List ℕ) → map pair (map (λ r. row_at words r) xs) ≡ map (λ r. pair (row_at words r)) xs
+in_turn words [] = refl
+in_turn words (x ∷ xs) = ap (λ ys. pair (row_at words x) ∷ ys) (in_turn words xs)
+
 module _ (z : Sizes) (made : ℕ) (words : List ℕ) (uppers : List TreeView) (f : IsTree z made words uppers) where
-  abbrev pub root_note : Note
-  root_note = record { row = root words; its = row_at words (root words); objects = map (λ r. row_at words r) (items (row_at words (root words))) }
+  abbrev last : StoreMap
+  last = after f.history []
 
-  -- That note says what the words spell.
-  pub root_true : IsTrue z.rows words root_note
-  root_true = let b = f.base in record {
-    some_row = b.some_row;
-    in_range = b.in_range;
-    spells = refl;
-    named = λ _ r i. let o = b.are_objects r i in
-        (o.0, o.1);
-    objects_are = λ _. refl;
-  }
+  -- A base of the tree, as a note.
+  module _ (row : ℕ) (place : Place) (is : f.role row ≡ Base place) where
+    abbrev pub base_note : Note
+    base_note = record { row = row; its = row_at words row; objects = map (λ r. row_at words r) (items (row_at words row)); place = place }
 
-  -- It is on a base.
-  pub root_base : IsBaseNote z root_note
-  root_base = let b = f.base in record {
-    some_row = b.some_row;
-    in_range = b.in_range;
-    is_base = b.is_base;
-    long = row_long words z.rows (root words) f.wide b.in_range;
-    level_is = b.level_is;
-    few = b.few;
-    unmarked = b.unmarked;
-    named = λ r i. let o = b.are_objects r i in (o.0, o.1);
-    as_many = length-map (items (row_at words (root words))) (λ r. row_at words r);
-    objects_long = λ its i. let from = of_map (λ r. row_at words r) (items (row_at words (root words))) i.0 its i.1 in
-        let o = b.are_objects from.0 (i.0, from.1) in
-        subst (λ (x : List ℕ). (length x ≡ 136) × IsObjectRow x) from.2 (row_long words z.rows from.0 f.wide o.1, o.2);
-  }
+    at : IsBaseAt z words f.role last place row
+    at = base_at z words f.role last f.shape row place is
 
-  twice : (xs : List ℕ) → map pair (map (λ r. row_at words r) xs) ≡ map (λ r. pair (row_at words r)) xs
-  twice [] = refl
-  twice (x ∷ xs) = ap (λ ys. pair (row_at words x) ∷ ys) (twice xs)
+    -- That note says what the words spell.
+    pub base_true : IsTrue z.rows words f.role base_note
+    base_true = record {
+      some_row = at.some_row;
+      in_range = at.in_range;
+      spells = refl;
+      named = λ _ r i. at.are_objects r i;
+      objects_are = λ _. refl;
+      stands = inl is;
+    }
 
-  -- Its objects are the last state.
-  pub root_map : map pair root_note.objects ≡ after f.history []
-  root_map = twice (items (row_at words (root words))) ∙ f.map_is
+    -- It is on a base.
+    pub base_is : IsBaseNote z base_note
+    base_is = record {
+      some_row = at.some_row;
+      in_range = at.in_range;
+      is_base = at.is_base;
+      long = row_long words z.rows row f.shape.wide at.in_range;
+      level_is = at.level_is;
+      deep = at.deep;
+      most_levels = f.usable.most_levels;
+      few = at.few;
+      unmarked = at.unmarked;
+      named = λ r i. let o = at.are_objects r i in (o.0, o.1);
+      as_many = length-map (items (row_at words row)) (λ r. row_at words r);
+      objects_long = λ its i. let from = of_map (λ r. row_at words r) (items (row_at words row)) i.0 its i.1 in
+          let o = at.are_objects from.0 (i.0, from.1) in
+          subst (λ (x : List ℕ). (length x ≡ 136) × IsObjectRow x) from.2 (row_long words z.rows from.0 f.shape.wide o.1, o.2);
+    }
 
-  -- Of a row that was shown, a load gives the word that was shown.
-  pub shown_word : (j : ℕ) (u : TreeView) → Knows z.rows made words uppers f.history j u → (row index : ℕ) (its : List ℕ) → index < 136 → IsShown u row its
-      → get_or words (136 * row + index) 0 ≡ get_or its index 0
-  shown_word j u k row index its inside shown = sym (word_at words row index inside) ∙ ap (λ (x : List ℕ). get_or x index 0) (⊎_elim
-      (λ (t : (shown.0.row ≡ row) × (shown.0.its ≡ its)). ap (row_at words) (sym t.0) ∙ ((k.notes shown.0 shown.1).spells ∙ t.1))
-      (λ (t : IsBaseRow shown.0.its × ((i : ℕ) × (get_elem? (items shown.0.its) i ≡ some row) × (get_elem? shown.0.objects i ≡ some its))).
-      let there = at_map (λ r. row_at words r) (items shown.0.its) t.1.0 row t.1.1 in
-      some-injective (row_at words row) its (sym there ∙ (ap (λ xs. get_elem? xs t.1.0) ((k.notes shown.0 shown.1).objects_are t.0) ∙ t.1.2)))
-      shown.2)
+    -- Its objects are what the last state has of the keys that are led there.
+    pub base_has : map pair base_note.objects ≡ part place.span last
+    base_has = in_turn words (items (row_at words row)) ∙ at.has
+
+  -- A route of the tree, as one that is remembered.
+  module _ (row : ℕ) (place : Place) (key : List ℕ) (is : f.role row ≡ Route place key) where
+    abbrev pub route_way : Way
+    route_way = record { row = row; its = row_at words row; place = place }
+
+    pub there : IsRouteAt z words f.role place key row
+    there = route_at z words f.role last f.shape row place key is
+
+    -- It is what the words spell.
+    pub way_true : IsTrueWay words f.role route_way
+    way_true = record {
+      stands = is ∙ ap (Route place) (sym there.key_is);
+      spells = λ index fixed. sym (word_at words row index fixed.0);
+    }
+
+    pub route_is : IsRouteNote z route_way
+    route_is = record {
+      some_row = there.some_row;
+      in_range = there.in_range;
+      is_route = there.is_route;
+      long = row_long words z.rows row f.shape.wide there.in_range;
+      level_is = there.level_is;
+      above = there.above;
+      short = there.short;
+      inside = subst (HasKey place.span) (sym there.key_is) there.inside;
+    }
+
+  -- What one seat knows of links and words.
+  module _ (j : ℕ) (u : TreeView) (k : Knows z.rows made words f.role uppers f.history j u) where
+    -- A link that it knows leads there.
+    pub known_leads : (link least : ℕ) (span : Span) → IsKnownLink u link least span → LeadsTo words f.role link least span
+    known_leads link least span known = ⊎_elim
+        (λ (t : (link ≡ 130) × (least ≡ 0) × (span ≡ all_keys)). subst (λ (i : ℕ). LeadsTo words f.role i least span) (sym t.0)
+        (subst (λ (i : ℕ). LeadsTo words f.role 130 i span) (sym t.1) (subst (LeadsTo words f.role 130 0) (sym t.2) f.shape.top)))
+        (λ (t : (way : Way) × IsIn way u.ways × (least ≡ way.place.level + 1) × (((link ≡ 136 * way.row + 1)
+        × (span ≡ left_of (route_key way.its) way.place.span)) ⊎ ((link ≡ 136 * way.row + 2) × (span ≡ right_of (route_key way.its) way.place.span)))).
+        let r = there t.0.row t.0.place (route_key t.0.its) (k.ways t.0 t.1).stands in
+        subst (λ (i : ℕ). LeadsTo words f.role link i span) (sym t.2) (⊎_elim
+        (λ (e : (link ≡ 136 * t.0.row + 1) × (span ≡ left_of (route_key t.0.its) t.0.place.span)).
+        subst (λ (i : ℕ). LeadsTo words f.role i (t.0.place.level + 1) span) (sym e.0)
+        (subst (LeadsTo words f.role (136 * t.0.row + 1) (t.0.place.level + 1)) (sym e.1) r.left))
+        (λ (e : (link ≡ 136 * t.0.row + 2) × (span ≡ right_of (route_key t.0.its) t.0.place.span)).
+        subst (λ (i : ℕ). LeadsTo words f.role i (t.0.place.level + 1) span) (sym e.0)
+        (subst (LeadsTo words f.role (136 * t.0.row + 2) (t.0.place.level + 1)) (sym e.1) r.right)) t.3))
+        known
+
+    -- It is a link that the view knows.
+    pub link_of_view : (link least : ℕ) (span : Span) → IsKnownLink u link least span → IsLinkOfView u link
+    link_of_view link least span known = ⊎_elim (λ t. inl t.0) (λ t. inr (t.0, t.1, ⊎_elim (λ e. inl e.0) (λ e. inr e.0) t.3)) known
+
+    -- What hangs there hangs at a place as the seat knows it.
+    pub place_known : (link : ℕ) (place : Place) → place.link ≡ link → place_of (f.role (get_or words link 0)) ≡ some place → IsPlaceOf u link place
+    place_known link place here is = (
+      here,
+      λ least span known. let l = known_leads link least span known in
+          let same : place ≡ record { link = link; level = l.level; span = span } = some-injective place _ (sym is ∙ l.hangs) in
+          (subst (λ (p : Place). least ≤ p.level) (sym same) l.greater, ap (λ (p : Place). p.span) same),
+    )
+
+    -- Of a row that was shown, a load gives the word that was shown.
+    pub shown_word : (row index : ℕ) (its : List ℕ) → index < 136 → IsShown u row its → get_or words (136 * row + index) 0 ≡ get_or its index 0
+    shown_word row index its inside shown = sym (word_at words row index inside) ∙ ap (λ (x : List ℕ). get_or x index 0) (⊎_elim
+        (λ (t : (shown.0.row ≡ row) × (shown.0.its ≡ its)). ap (row_at words) (sym t.0) ∙ ((k.notes shown.0 shown.1).spells ∙ t.1))
+        (λ (t : IsBaseRow shown.0.its × ((i : ℕ) × (get_elem? (items shown.0.its) i ≡ some row) × (get_elem? shown.0.objects i ≡ some its))).
+        let named = at_map (λ r. row_at words r) (items shown.0.its) t.1.0 row t.1.1 in
+        some-injective (row_at words row) its (sym named ∙ (ap (λ xs. get_elem? xs t.1.0) ((k.notes shown.0 shown.1).objects_are t.0) ∙ t.1.2)))
+        shown.2)
+
+    -- So it is of a route, but for its links and its join word.
+    pub shown_fixed : (row index : ℕ) (its : List ℕ) → IsFixed index → IsShownRoute u row its → get_or words (136 * row + index) 0 ≡ get_or its index 0
+    shown_fixed row index its fixed shown = ap (λ (r : ℕ). get_or words (136 * r + index) 0) (sym shown.2)
+        ∙ ((k.ways shown.0 shown.1).spells index fixed ∙ ap (λ (x : List ℕ). get_or x index 0) shown.3)
+
+    pub read_is : (place : ℕ) → IsRead u place (get_or words place 0)
+    read_is place row index word is inside shown = ap (λ (i : ℕ). get_or words i 0) is ∙ (⊎_elim
+        (λ (x : IsShown u row shown.0). shown_word row index shown.0 inside x)
+        (λ (x : IsShownRoute u row shown.0 × IsFixed index). shown_fixed row index shown.0 x.1 x.0) shown.1 ∙ sym shown.2)
 
 module _ (z : Sizes) where
-  -- The load of the root link.
-  pub leads : (slots id : ℕ) (me : MyTree) → me.0.pin.pinned ≡ true → Allows (R z) slots id me 130 (λ x. x) (Leads (step slots 130 0 0 none) me)
-  leads slots id me is_pinned s r _ at _ = let f = r.above in let d = me.0 in let k = knows_upper z s r id d at in
-      let us : List TreeView = map upper_of s.views in
-      let note = root_note z r.made s.words us f in let u' : TreeView = led d.upper k.seen_first.0 note in
-      let whole : f.history ≡ d.upper.seen ++ k.seen_first.0 = k.seen_first.1 in
-      let first = at_map upper_of s.views id d at in
-      let few : r.made ≤ 64 = r.pins.few in
-      let longer = starts_shorter f.history d.upper.seen k.seen_first in
-      let k' = relisted z.rows r.made s.words us (set us id u') f.history id d.upper (numbered us id d.upper u' first (λ _. refl)) k in (
-        record d { upper = u' },
-        keeps,
-        tt,
-        looked z s r 130 id d u' at (λ row n. ⊎_elim (λ o. inl o) (λ l. inr (l, is_pinned))
-            (new_notes s.words d.upper k.seen_first.0 note (by_root (root s.words) refl)
-            (λ b x i. by_base (root s.words) x (by_root (root s.words) refl) b i) k.no_ways row n))
-            (seat_changed z r.made s.words us id d.upper u' f first (λ _. refl) record {
-              made_before = k'.made_before;
-              alone = k'.alone;
-              seen_first = subst (StartsWith f.history) whole (starts_whole f.history);
-              since_first = subst (λ (h : History). StartsWith h d.upper.since) whole (further f.history d.upper.seen d.upper.since k.seen_first k.since_first);
-              lawful = k'.lawful;
-              past = subst (λ (h : History). ArePast (length h) d.upper.log) whole (longer_past (length d.upper.seen)
-                  (length f.history) d.upper.log longer k.past);
-              notes = λ n i. ⊎_elim (λ (e : note ≡ n). subst (IsTrue z.rows s.words) e (root_true z r.made s.words us f))
-                  (λ (o : IsIn n d.upper.notes). k.notes n o) (in_more note n d.upper.notes i);
-              no_ways = k'.no_ways;
-            }),
-        (
-          note,
-          k.seen_first.0,
+  -- A load of a link that the seat knows.
+  module _ (s : State (Unit {0}) (View TreeView)) (r : R z s) (id : ℕ) (me : MyTree) (at : get_elem? s.views id ≡ some me.0) (is_pinned : me.0.pin.pinned ≡ true)
+      (link : ℕ) (any : IsAnyLink me.0.upper link) where
+    abbrev f : IsTree z r.made s.words (map upper_of s.views)
+    f = r.above
+
+    abbrev u : TreeView
+    u = me.0.upper
+
+    abbrev k : Knows z.rows r.made s.words r.above.role (map upper_of s.views) r.above.history id me.0.upper
+    k = knows_upper z s r id me.0 at
+
+    n : ℕ
+    n = get_or s.words link 0
+
+    abbrev more : History
+    more = k.seen_first.0
+
+    whole : f.history ≡ u.seen ++ k.seen_first.0
+    whole = k.seen_first.1
+
+    first : get_elem? (map upper_of s.views) id ≡ some u
+    first = at_map upper_of s.views id me.0 at
+
+    long : length u.seen ≤ length f.history
+    long = starts_shorter f.history u.seen k.seen_first
+
+    abbrev leads_there : LeadsTo s.words f.role link any.0 any.1
+    leads_there = known_leads z r.made s.words (map upper_of s.views) f id u k link any.0 any.1 any.2
+
+    -- What it has seen then is the whole history.
+    known_now : (u' : TreeView) → u'.number ≡ u.number → u'.log ≡ u.log → u'.seen ≡ u.seen ++ k.seen_first.0 → IsKnown z u'
+    known_now u' same_number same_log same_seen = let few : r.made ≤ 64 = r.pins.few in let e : f.history ≡ u'.seen = whole ∙ sym same_seen in record {
+      lawful = subst (λ (log : List Entry). IsLawful u'.number u'.seen log) (sym same_log)
+          (subst (λ (h : History). IsLawful u'.number h u.log) e (subst (λ (m : ℕ). IsLawful m f.history u.log) (sym same_number) k.lawful));
+      past = subst (ArePast (length u'.seen)) (sym same_log)
+          (subst (λ (h : History). ArePast (length h) u.log) e (longer_past (length u.seen) (length f.history) u.log long k.past));
+      edits = subst (AreEdits z.keypos) e f.edits;
+      by_passes = subst (AreByPasses 64) e (fewer_passes r.made 64 f.history few f.by_passes);
+    }
+
+    -- The seat knows the sizes, if it has any rows.
+    sized : (P : Sizes → Type 0) → P z → 0 < me.0.sizes.rows → P me.0.sizes
+    sized P p some_rows = subst P (sym (⊎_elim (λ (e : me.0.sizes.rows ≡ 0). absurd (omega arith)) (λ (e : me.0.sizes ≡ z). e) (r.seat id me.0 at).sizes_are)) p
+
+    abbrev Next : TreeView → Type 0
+    Next u' = R z record { words = set s.words link (get_or s.words link 0); homes = s.homes; views = set s.views id (record me.0 { upper = u' }) }
+
+    -- It names a base,
+    module _ (place : Place) (is : f.role (get_or s.words link 0) ≡ Base place) (here : place.link ≡ link) where
+      abbrev note : Note
+      note = base_note z r.made s.words (map upper_of s.views) f (get_or s.words link 0) place is
+
+      abbrev with_base : TreeView
+      with_base = led_to_base u k.seen_first.0 note
+
+      base_linked : IsLinked s.words (get_or s.words link 0)
+      base_linked = placed_linked z s.words f.role (after f.history []) f.shape (get_or s.words link 0) place (ap place_of is)
+
+      pub to_base : Next with_base
+      to_base = let k' = relisted z.rows r.made s.words f.role (map upper_of s.views) (set (map upper_of s.views) id with_base) f.history id u
+          (numbered (map upper_of s.views) id u with_base first (λ _. refl)) k in
+          looked z s r link id me.0 with_base at (λ row m. ⊎_elim (λ o. inl o) (λ l. inr (l, is_pinned))
+          (new_note s.words u k.seen_first.0 note base_linked
+          (λ x i. item_linked z s.words f.role (after f.history []) f.shape (get_or s.words link 0) place is x i) row m))
+          (seat_changed z r.made s.words (map upper_of s.views) id u with_base f first (λ _. refl) record {
+            made_before = k'.made_before;
+            alone = k'.alone;
+            seen_first = subst (StartsWith f.history) whole (starts_whole f.history);
+            since_first = subst (λ (h : History). StartsWith h u.since) whole (further f.history u.seen u.since k.seen_first k.since_first);
+            lawful = k'.lawful;
+            past = subst (λ (h : History). ArePast (length h) u.log) whole (longer_past (length u.seen) (length f.history) u.log long k.past);
+            notes = λ m i. ⊎_elim (λ (e : note ≡ m). subst (IsTrue z.rows s.words f.role) e
+                (base_true z r.made s.words (map upper_of s.views) f (get_or s.words link 0) place is))
+                (λ (o : IsIn m u.notes). k.notes m o) (in_more note m u.notes i);
+            links = λ m i. ⊎_elim (λ (e : note ≡ m). subst (λ (x : Note). IsLinkOfView u x.place.link) e
+                (subst (IsLinkOfView u) (sym here) (link_of_view z r.made s.words (map upper_of s.views) f id u k link any.0 any.1 any.2)))
+                (λ (o : IsIn m u.notes). k.links m o) (in_more note m u.notes i);
+            ways = k.ways;
+          })
+
+      pub base_told : IsLedToBase link me (get_or s.words link 0) (with_upper me with_base)
+      base_told = record {
+        note = note;
+        more = k.seen_first.0;
+        now = refl;
+        row_is = refl;
+        place = place_known z r.made s.words (map upper_of s.views) f id u k link place here (ap place_of is);
+        has = subst (λ (h : History). map pair note.objects ≡ part place.span (after h [])) whole
+            (base_has z r.made s.words (map upper_of s.views) f (get_or s.words link 0) place is);
+        known = sized (λ y. IsBaseNote y note × IsKnown y with_base)
+            (base_is z r.made s.words (map upper_of s.views) f (get_or s.words link 0) place is, known_now with_base refl refl refl);
+      }
+
+    -- or a route.
+    module _ (place : Place) (key : List ℕ) (is : f.role (get_or s.words link 0) ≡ Route place key) (here : place.link ≡ link) where
+      abbrev way : Way
+      way = route_way z r.made s.words (map upper_of s.views) f (get_or s.words link 0) place key is
+
+      abbrev with_route : TreeView
+      with_route = led_to_route u k.seen_first.0 way
+
+      route_linked : IsLinked s.words (get_or s.words link 0)
+      route_linked = placed_linked z s.words f.role (after f.history []) f.shape (get_or s.words link 0) place (ap place_of is)
+
+      -- A link that was known is known.
+      more_links : (i : ℕ) → IsLinkOfView u i → IsLinkOfView with_route i
+      more_links i known = ⊎_elim (λ e. inl e) (λ t. inr (t.0, (suc t.1.0, t.1.1), t.2)) known
+
+      pub to_route : Next with_route
+      to_route = let k' = relisted z.rows r.made s.words f.role (map upper_of s.views) (set (map upper_of s.views) id with_route) f.history id u
+          (numbered (map upper_of s.views) id u with_route first (λ _. refl)) k in
+          looked z s r link id me.0 with_route at (λ row m. ⊎_elim (λ o. inl o) (λ l. inr (l, is_pinned))
+          (new_way s.words u k.seen_first.0 way route_linked
+          (there z r.made s.words (map upper_of s.views) f (get_or s.words link 0) place key is).is_route row m))
+          (seat_changed z r.made s.words (map upper_of s.views) id u with_route f first (λ _. refl) record {
+            made_before = k'.made_before;
+            alone = k'.alone;
+            seen_first = subst (StartsWith f.history) whole (starts_whole f.history);
+            since_first = subst (λ (h : History). StartsWith h u.since) whole (further f.history u.seen u.since k.seen_first k.since_first);
+            lawful = k'.lawful;
+            past = subst (λ (h : History). ArePast (length h) u.log) whole (longer_past (length u.seen) (length f.history) u.log long k.past);
+            notes = k.notes;
+            links = λ m i. more_links m.place.link (k.links m i);
+            ways = λ w i. ⊎_elim (λ (e : way ≡ w). subst (IsTrueWay s.words f.role) e
+                (way_true z r.made s.words (map upper_of s.views) f (get_or s.words link 0) place key is))
+                (λ (o : IsIn w u.ways). k.ways w o) (in_more way w u.ways i);
+          })
+
+      pub route_told : IsLedToRoute link me (get_or s.words link 0) (with_upper me with_route)
+      route_told = record {
+        way = way;
+        more = k.seen_first.0;
+        now = refl;
+        row_is = refl;
+        place = place_known z r.made s.words (map upper_of s.views) f id u k link place here (ap place_of is);
+        known = sized (λ y. IsRouteNote y way × IsKnown y with_route)
+            (route_is z r.made s.words (map upper_of s.views) f (get_or s.words link 0) place key is, known_now with_route refl refl refl);
+      }
+
+    abbrev there_place : Place
+    there_place = record { link = link; level = leads_there.level; span = any.1 }
+
+    pub link_loaded : (d' : View TreeView) × Next d'.upper × (d' ≡ record me.0 { upper = d'.upper }) × IsLed link me (get_or s.words link 0) (d', me.1)
+    link_loaded = ⊎_elim
+        (λ (b : f.role (get_or s.words link 0) ≡ Base there_place). (
+          record me.0 { upper = with_base there_place b refl },
+          to_base there_place b refl,
           refl,
+          inl (base_told there_place b refl),
+        ))
+        (λ (t : (key : List ℕ) × (f.role (get_or s.words link 0) ≡ Route there_place key)). (
+          record me.0 { upper = with_route there_place t.0 t.1 refl },
+          to_route there_place t.0 t.1 refl,
           refl,
-          subst (λ (h : History). map pair note.objects ≡ after h []) whole (root_map z r.made s.words us f),
-          λ some_rows. let known : d.sizes ≡ z = ⊎_elim (λ (e : d.sizes.rows ≡ 0). absurd (omega arith)) (λ (e : d.sizes ≡ z). e) (r.seat id d at).sizes_are in
-              subst (λ (y : Sizes). IsBaseNote y note × IsKnown y u') (sym known) (
-                root_base z r.made s.words us f,
-                record {
-                  lawful = subst (λ (h : History). IsLawful d.upper.number h d.upper.log) whole k.lawful;
-                  past = subst (λ (h : History). ArePast (length h) d.upper.log) whole (longer_past (length d.upper.seen)
-                      (length f.history) d.upper.log longer k.past);
-                  edits = subst (AreEdits z.keypos) whole f.edits;
-                  by_passes = subst (AreByPasses 64) whole (fewer_passes r.made 64 f.history few f.by_passes);
-                },
-              ),
-        ),
-      )
+          inr (route_told there_place t.0 t.1 refl),
+        ))
+        (by_place (f.role (get_or s.words link 0)) there_place leads_there.hangs)
+
+  -- The load of a link.
+  pub leads : (slots id : ℕ) (me : MyTree) (link : ℕ) → me.0.pin.pinned ≡ true → IsAnyLink me.0.upper link
+      → Allows (R z) slots id me link (λ x. x) (Leads (step slots link 0 0 none) me)
+  leads slots id me link is_pinned any s r _ at _ = let x = link_loaded s r id me at is_pinned link any in (
+    record me.0 { upper = x.0.upper },
+    keeps,
+    tt,
+    x.1,
+    subst (λ (d' : View TreeView). IsLed link me (get_or s.words link 0) (d', me.1)) x.2 x.3,
+  )
 
   -- The load of a word of a row that was shown.
   pub reads : (slots id : ℕ) (me : MyTree) (i : ℕ) → Allows (R z) slots id me i (λ x. x) (Reads (step slots i 0 0 none) me)
@@ -220,7 +447,7 @@ module _ (z : Sizes) where
         keeps,
         tt,
         looked z s r i id d d.upper at (λ row n. inl n) (subst (IsTree z r.made s.words) (sym (set_again us id d.upper first)) f),
-        (refl, λ row index its is inside shown. ap (λ y. get_or s.words y 0) is ∙ shown_word z r.made s.words us f id d.upper k row index its inside shown),
+        (refl, read_is z r.made s.words us f id d.upper k i),
       )
 
   -- The same load, which ends a call that edits nothing.
@@ -230,7 +457,7 @@ module _ (z : Sizes) where
       let us : List TreeView = map upper_of s.views in
       let first = at_map upper_of s.views id d at in let u' : TreeView = entered d.upper event in let p : ℕ = length d.upper.seen in
       let low = starts_shorter f.history d.upper.seen k.seen_first in
-      let k' = relisted z.rows r.made s.words us (set us id u') f.history id d.upper (numbered us id d.upper u' first (λ _. refl)) k in
+      let k' = relisted z.rows r.made s.words f.role us (set us id u') f.history id d.upper (numbered us id d.upper u' first (λ _. refl)) k in
       let there : state f.history p ≡ after d.upper.seen [] = ap (λ h. state h p) k.seen_first.1 ∙ state_there d.upper.seen k.seen_first.0 in (
         record d { upper = u' },
         keeps,
@@ -244,9 +471,10 @@ module _ (z : Sizes) where
               lawful = read_lawful d.upper.number event f.history p d.upper.log now.0 low (subst (IsAnswer event) (sym there) now.1) k.past k.lawful;
               past = past_more p d.upper.log (event, p) k.past (omega arith);
               notes = k'.notes;
-              no_ways = k'.no_ways;
+              links = k'.links;
+              ways = k'.ways;
             }),
-        (refl, λ row index its is inside shown. ap (λ y. get_or s.words y 0) is ∙ shown_word z r.made s.words us f id d.upper k row index its inside shown),
+        (refl, read_is z r.made s.words us f id d.upper k i),
       )
 
   -- A load after which the seat counts otherwise, and knows what it knew.
@@ -259,8 +487,9 @@ module _ (z : Sizes) where
       }
   recounted s r i id d counts lost at = let f = r.above in let us : List TreeView = map upper_of s.views in
       let first = at_map upper_of s.views id d at in let u' : TreeView = record d.upper { counts = counts; lost = lost } in
-      let k = relisted z.rows r.made s.words us (set us id u') f.history id d.upper (numbered us id d.upper u' first (λ _. refl)) (knows_upper z s r id d at) in
-      looked z s r i id d u' at (λ row n. inl (notes_by s.words s.words d.upper u' row k.no_ways (λ note j. j) n))
+      let k = relisted z.rows r.made s.words f.role us (set us id u') f.history id d.upper (numbered us id d.upper u' first (λ _. refl))
+      (knows_upper z s r id d at) in
+      looked z s r i id d u' at (λ row n. inl (counted_notes s.words d.upper counts lost row n))
       (seat_changed z r.made s.words us id d.upper u' f first (λ _. refl) record {
         made_before = k.made_before;
         alone = k.alone;
@@ -269,7 +498,8 @@ module _ (z : Sizes) where
         lawful = k.lawful;
         past = k.past;
         notes = k.notes;
-        no_ways = k.no_ways;
+        links = k.links;
+        ways = k.ways;
       })
 
   -- A load that ends a refused call.
@@ -282,7 +512,3 @@ module _ (z : Sizes) where
     recounted s r i id d (one_more d.upper.counts) d.upper.lost at,
     refl,
   )
-
--- After a load of the root link the row that it names was shown.
-pub led_shows : (m m' : MyTree) (n : ℕ) → IsLed m n m' → (its : List ℕ) × IsShown m'.0.upper n its
-led_shows m m' n shown = (shown.0.its, subst (λ (y : MyTree). IsShown y.0.upper n shown.0.its) (sym shown.2) (shown.0, (0, refl), inl (shown.3, refl)))

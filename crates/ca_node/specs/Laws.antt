@@ -1,74 +1,57 @@
 -- The rule of the tree meets the laws of the rows.
-use Rattle.std.proofs.Common.{◌≡◌, ◌≢◌, ◌⊎◌, ℕ, zero, suc, ◌+◌, ◌/◌, ◌%◌, ◌<◌, ◌≤◌, List, [], ◌∷◌, ◌++◌, length, map, take, drop, get_or, set, sym, refl, ap, ◌∙◌, subst, inl, inr, ⊎_elim, arith, append-nil, ne_eqb, if◌then◌else◌}
+use Rattle.std.proofs.Common.{◌≡◌, ◌≢◌, ◌⊎◌, ℕ, zero, suc, ◌+◌, ◌*◌, ◌/◌, ◌%◌, ◌<◌, ◌≤◌, cond, eqb, List, [], ◌∷◌, ◌++◌, length, map, take, drop, get_or, set, sym, refl, ap, ◌∙◌, subst, inl, inr, ⊎_elim, arith, append-nil, ne_eqb, if◌then◌else◌}
+use mathlib.Core.Logic.{dite}
 use mathlib.Core.Option.{some, some-injective, some-ne-none}
+use native.Mathlib.Decide.{ℕ_discrete}
 use lib.ListN.{get_elem?}
 use Rattle.atomic_table.proofs.Lists.{at_set, set_again}
-use Rattle.ca_model.specs.History.{History, edits_of_pass, AreByPasses}
+use Rattle.ca_model.specs.History.{History, after, edits_of_pass, AreByPasses}
+use Rattle.ca_model.specs.StoreMap.{StoreMap}
 use Rattle.ca_rows.specs.declared.sizes.Sizes.{Sizes}
 use Rattle.ca_rows.specs.Laws.{Agrees, Framed, Frames, Lends, Pinning, Making, Closing, Opened, Opening}
 use Rattle.ca_rows.specs.Opening.{AreInBounds, AreUsable}
 use Rattle.ca_rows.specs.Words.{IsWide}
 use Rattle.ca_rows.proofs.Making.{at_place}
 use Rattle.ca_rows.proofs.Rules.{all_seats}
-use Rattle.ca_node.specs.Links.{root, IsIn, IsActive, IsLinked, by_root, by_route, by_base, by_range, IsLent, IsNoted, by_note, by_item, by_way, by_link, by_link_item}
+use Rattle.ca_node.specs.Links.{root, IsIn, IsUnder, IsActive, IsLinked, by_root, by_range, IsLent, IsNoted, by_note, by_item, by_way, by_link, by_link_item}
 use Rattle.ca_node.specs.Opened.{opens_at}
-use Rattle.ca_node.specs.Row.{row_at, form, IsObjectRow, IsBaseRow, IsRouteRow, count, level, items, mark, pair, objects_in}
+use Rattle.ca_node.specs.Place.{Place, root_place}
+use Rattle.ca_node.specs.Reached.{reached, linked_range, nothing_lent}
+use Rattle.ca_node.specs.Row.{row_at, IsObjectRow, IsBaseRow, items, route_key, pair}
+use Rattle.ca_node.specs.Shape.{Role, Out, Base, Route, place_of, IsBaseAt, IsSo, IsShape}
+use Rattle.ca_node.specs.Standing.{shape_stands}
 use Rattle.ca_node.specs.Stays.{IsSameRow, word_at, row_same, map_same, linked_on, linked_back, lent_on, lent_back}
-use Rattle.ca_node.specs.Tree.{root_place, IsBaseAt, StartsWith, IsTrue, Knows, IsTree}
-use Rattle.ca_node.specs.TreeView.{Note, TreeView, blank, pinned, unpinned}
+use Rattle.ca_node.specs.Tree.{StartsWith, IsTrue, IsTrueWay, Knows, IsTree}
+use Rattle.ca_node.specs.TreeView.{Note, Way, TreeView, blank, pinned, unpinned}
 
 pub in_nothing : {A : Type 0} (x : A) (xs : List A) → xs ≡ [] → IsIn x xs → ⊥
 in_nothing x xs e i = some-ne-none x (sym (ap (λ ys. get_elem? ys i.0) (sym e) ∙ i.1))
 
--- What the root link reaches, where one base hangs on it: that base and the objects that it names.
-module _ (z : Sizes) (words : List ℕ) (base : IsBaseAt z words root_place (root words)) where
-  abbrev pub IsOfBase : ℕ → Type 0
-  IsOfBase row = (row ≡ root words) ⊎ IsIn row (items (row_at words (root words)))
+-- What has a place in the tree is in range.
+pub placed_range : (z : Sizes) (words : List ℕ) (role : ℕ → Role) (map : StoreMap) → IsShape z words role map → (row : ℕ) (place : Place)
+    → place_of (role row) ≡ some place → (0 < row) × (row ≤ z.rows)
+placed_range z words role map shape row place e = by (role row) refl (shape.each_row row)
+  where
+    by : (o : Role) → role row ≡ o → IsSo z words role map row o → (0 < row) × (row ≤ z.rows)
+    by Out is so = absurd (some-ne-none place (sym e ∙ ap place_of is))
+    by (Base at) is so = (so.some_row, so.in_range)
+    by (Route at key) is so = (so.some_row, so.in_range)
 
-  not_route : (row : ℕ) → IsOfBase row → ¬ IsRouteRow (row_at words row)
-  not_route row w f = ⊎_elim
-      (λ (e : row ≡ root words). let g : form (row_at words (root words)) ≡ 3 = subst (λ r. IsRouteRow (row_at words r)) e f in let h = base.is_base in
-      omega arith)
-      (λ i. let h = (base.are_objects row i).2.0 in omega arith) w
-
-  is_root : (row : ℕ) → IsOfBase row → IsBaseRow (row_at words row) → row ≡ root words
-  is_root row w f = ⊎_elim (λ e. e) (λ i. let h = (base.are_objects row i).2.0 in absurd (omega arith)) w
-
-  pub reached : (row : ℕ) → IsLinked words row → IsOfBase row
-  reached _ (by_root row e) = inl (sym e)
-  reached _ (by_route route row l f u) = absurd (not_route route (reached route l) f)
-  reached _ (by_base b row l f i) = inr (subst (λ r. IsIn row (items (row_at words r))) (is_root b (reached b l) f) i)
-  reached _ (by_range b row l f x) = let e = is_root b (reached b l) f in
-      let m : mark (row_at words (root words)) ≡ 1 = subst (λ r. mark (row_at words r) ≡ 1) e x.0 in let u = base.unmarked in absurd (omega arith)
-
-  pub linked_range : (row : ℕ) → IsLinked words row → (0 < row) × (row ≤ z.rows)
-  linked_range row l = ⊎_elim (λ (e : row ≡ root words). subst (λ r. (0 < r) × (r ≤ z.rows)) (sym e) (base.some_row, base.in_range))
-      (λ i. let o = base.are_objects row i in (o.0, o.1)) (reached row l)
-
-  pub nothing_lent : (row : ℕ) → ¬ IsLent words row
-  nothing_lent row x = let e = is_root x.0 (reached x.0 x.1) x.2 in
-      let m : mark (row_at words (root words)) ≡ 1 = subst (λ r. mark (row_at words r) ≡ 1) e x.3.0 in let u = base.unmarked in omega arith
-
--- A note on the rows by other words, where no route was shown.
-pub notes_by : (words others : List ℕ) (u v : TreeView) (row : ℕ) → v.ways ≡ [] → ((note : Note) → IsIn note v.notes → IsIn note u.notes)
-    → IsNoted others v row → IsNoted words u row
-notes_by words others u v _ empty more (by_note note row i e) = by_note note row (more note i) e
-notes_by words others u v _ empty more (by_item note row i b k) = by_item note row (more note i) b k
-notes_by words others u v _ empty more (by_way way row i e) = absurd (in_nothing way v.ways empty i)
-notes_by words others u v _ empty more (by_link way row i e) = absurd (in_nothing way v.ways empty i)
-notes_by words others u v _ empty more (by_link_item way base row i e f k) = absurd (in_nothing way v.ways empty i)
+-- What a route's link names has a place.
+pub under_placed : (z : Sizes) (words : List ℕ) (role : ℕ → Role) (map : StoreMap) → IsShape z words role map → (route row : ℕ) (place : Place) (key : List ℕ)
+    → role route ≡ Route place key → IsUnder words route row → (at : Place) × (place_of (role row) ≡ some at)
+under_placed z words role map shape route row place key is under = let so = subst (IsSo z words role map route) is (shape.each_row route) in ⊎_elim
+    (λ (e : get_or words (136 * route + 1) 0 ≡ row). (_, ap (λ r. place_of (role r)) (sym e) ∙ so.left.hangs))
+    (λ (e : get_or words (136 * route + 2) 0 ≡ row). (_, ap (λ r. place_of (role r)) (sym e) ∙ so.right.hangs)) under
 
 -- The rows are the same where a table agrees with another on what is linked or noted.
 module _ (z : Sizes) (made : ℕ) (uppers : List TreeView) (words others : List ℕ) (f : IsTree z made words uppers)
     (a : Agrees IsLinked IsLent IsNoted IsTree uppers words others) where
   wide' : IsWide z.rows others
-  wide' = a.wide ∙ f.wide
+  wide' = a.wide ∙ f.shape.wide
 
   same_root : root others ≡ root words
   same_root = a.control 130 (omega arith) (omega arith)
-
-  abbrev IsOn : List ℕ → List ℕ → Type 0
-  IsOn ws xs = (pass sequence : ℕ) → IsActive ws pass sequence → IsActive xs pass sequence
 
   active : (pass sequence : ℕ) → (IsActive others pass sequence → IsActive words pass sequence) × (IsActive words pass sequence → IsActive others pass sequence)
   active pass sequence = (
@@ -76,53 +59,67 @@ module _ (z : Sizes) (made : ℕ) (uppers : List TreeView) (words others : List 
     (λ x. let lo = x.0 in let hi = x.1 in (x.0, x.1, a.control (65 + pass) (omega arith) (omega arith) ∙ x.2)),
   )
 
-  same : (row : ℕ) → IsLinked words row → IsSameRow words others row
-  same row l k inside = a.seen row k (linked_range z words f.base row l).0 (inl l) inside
+  range : (row : ℕ) → IsLinked words row → (0 < row) × (row ≤ z.rows)
+  range = linked_range z words f.role (after f.history []) f.shape
 
   in_range : (row : ℕ) → IsLinked words row → row ≤ z.rows
-  in_range row l = (linked_range z words f.base row l).1
+  in_range row l = (range row l).1
 
-  its_same : (row : ℕ) → IsLinked words row → row_at others row ≡ row_at words row
-  its_same row l = row_same words others z.rows row f.wide wide' (in_range row l) (same row l)
+  same : (row : ℕ) → IsLinked words row → IsSameRow words others row
+  same row l k inside = a.seen row k (range row l).0 (inl l) inside
 
-  root_linked : IsLinked words (root words)
-  root_linked = by_root (root words) refl
+  shape_now : IsShape z others f.role (after f.history [])
+  shape_now = shape_stands z words others f.role (after f.history []) f.shape wide' same_root same
 
-  item_linked : (row : ℕ) → IsIn row (items (row_at words (root words))) → IsLinked words row
-  item_linked row i = by_base (root words) row root_linked f.base.is_base i
+  -- What one seat has a note on.
+  module _ (j : ℕ) (u : TreeView) (at : get_elem? uppers j ≡ some u) where
+    knows : Knows z.rows made words f.role uppers f.history j u
+    knows = f.each_seat j u at
 
-  base_now : IsBaseAt z others root_place (root words)
-  base_now = let b = f.base in let e = sym (its_same (root words) root_linked) in record {
-    some_row = b.some_row;
-    in_range = b.in_range;
-    under = same_root;
-    is_base = subst IsBaseRow e b.is_base;
-    level_is = subst (λ its. level its ≡ 0) e b.level_is;
-    few = subst (λ its. count its ≤ z.leaf) e b.few;
-    unmarked = subst (λ its. mark its ≡ 0) e b.unmarked;
-    are_objects = λ r i. let was = subst (λ its. IsIn r (items its)) (sym e) i in let o = b.are_objects r was in
-        (o.0, o.1, subst IsObjectRow (sym (its_same r (item_linked r was))) o.2);
-  }
+    noted_same : (row : ℕ) → 0 < row → IsNoted words u row → IsSameRow words others row
+    noted_same row lo n k inside = a.seen row k lo (inr (j, u, at, n)) inside
 
-  map_now : objects_in others (root others) ≡ objects_in words (root words)
-  map_now = ap (objects_in others) same_root ∙ (ap (λ its. map (λ row. pair (row_at others row)) (items its)) (its_same (root words) root_linked)
-      ∙ map_same (λ row. pair (row_at others row)) (λ row. pair (row_at words row)) (items (row_at words (root words)))
-      (λ r i. ap pair (its_same r (item_linked r i))))
+    noted_its : (row : ℕ) → 0 < row → row ≤ z.rows → IsNoted words u row → row_at others row ≡ row_at words row
+    noted_its row lo hi n = row_same words others z.rows row f.shape.wide wide' hi (noted_same row lo n)
 
-  note_now : (j : ℕ) (u : TreeView) → get_elem? uppers j ≡ some u → (note : Note) → IsIn note u.notes → IsTrue z.rows words note → IsTrue z.rows others note
-  note_now j u at note i t = record {
-    some_row = t.some_row;
-    in_range = t.in_range;
-    spells = row_same words others z.rows note.row f.wide wide' t.in_range (λ k l. a.seen note.row k t.some_row (inr (
-      j,
-      u,
-      at,
-      by_note note note.row i refl,
-    )) l) ∙ t.spells;
-    named = t.named;
-    objects_are = λ b. map_same (λ r. row_at others r) (λ r. row_at words r) (items note.its) (λ r n. let o = t.named b r n in
-        row_same words others z.rows r f.wide wide' o.1 (λ k l. a.seen r k o.0 (inr (j, u, at, by_item note r i b n)) l)) ∙ t.objects_are b;
-  }
+    note_now : (note : Note) → IsIn note u.notes → IsTrue z.rows others f.role note
+    note_now note i = let t = knows.notes note i in record {
+      some_row = t.some_row;
+      in_range = t.in_range;
+      spells = noted_its note.row t.some_row t.in_range (by_note note note.row i refl) ∙ t.spells;
+      named = λ b r n. let o = t.named b r n in (o.0, o.1, subst IsObjectRow (sym (noted_its r o.0 o.1 (by_item note r i b n))) o.2);
+      objects_are = λ b. map_same (λ r. row_at others r) (λ r. row_at words r) (items note.its)
+          (λ r n. let o = t.named b r n in noted_its r o.0 o.1 (by_item note r i b n)) ∙ t.objects_are b;
+      stands = t.stands;
+    }
+
+    way_range : (way : Way) → IsIn way u.ways → (0 < way.row) × (way.row ≤ z.rows)
+    way_range way i = let t = knows.ways way i in
+        placed_range z words f.role (after f.history []) f.shape way.row way.place (ap place_of t.stands)
+
+    way_now : (way : Way) → IsIn way u.ways → IsTrueWay others f.role way
+    way_now way i = let t = knows.ways way i in record {
+      stands = t.stands;
+      spells = λ index fixed. noted_same way.row (way_range way i).0 (by_way way way.row i refl) index fixed.0 ∙ t.spells index fixed;
+    }
+
+    under_back : (way : Way) → IsIn way u.ways → (row : ℕ) → IsUnder others way.row row → IsUnder words way.row row
+    under_back way i row under = let s = noted_same way.row (way_range way i).0 (by_way way way.row i refl) in
+        ⊎_elim (λ e. inl (sym (s 1 (omega arith)) ∙ e)) (λ e. inr (sym (s 2 (omega arith)) ∙ e)) under
+
+    under_range : (way : Way) → IsIn way u.ways → (row : ℕ) → IsUnder words way.row row → (0 < row) × (row ≤ z.rows)
+    under_range way i row under = let t = knows.ways way i in
+        let p = under_placed z words f.role (after f.history []) f.shape way.row row way.place (route_key way.its) t.stands under in
+        placed_range z words f.role (after f.history []) f.shape row p.0 p.1
+
+    notes_back : (row : ℕ) → IsNoted others u row → IsNoted words u row
+    notes_back _ (by_note note row i e) = by_note note row i e
+    notes_back _ (by_item note row i b k) = by_item note row i b k
+    notes_back _ (by_way way row i e) = by_way way row i e
+    notes_back _ (by_link way row i under) = by_link way row i (under_back way i row under)
+    notes_back _ (by_link_item way base row i under b k) = let was = under_back way i base under in let lo = under_range way i base was in
+        let e = noted_its base lo.0 lo.1 (by_link way base i was) in
+        by_link_item way base row i was (subst IsBaseRow e b) (subst (λ its. IsIn row (items its)) e k)
 
   tree_now : IsTree z made others uppers
   tree_now = record {
@@ -133,9 +130,8 @@ module _ (z : Sizes) (made : ℕ) (uppers : List TreeView) (words others : List 
     keypos = a.control 131 (omega arith) (omega arith) ∙ f.keypos;
     leaf = a.control 132 (omega arith) (omega arith) ∙ f.leaf;
     levels = a.control 133 (omega arith) (omega arith) ∙ f.levels;
-    wide = wide';
-    base = subst (IsBaseAt z others root_place) (sym same_root) base_now;
-    map_is = map_now ∙ f.map_is;
+    role = f.role;
+    shape = shape_now;
     each_seat = λ j u at. let k = f.each_seat j u at in record {
       made_before = k.made_before;
       alone = k.alone;
@@ -143,8 +139,9 @@ module _ (z : Sizes) (made : ℕ) (uppers : List TreeView) (words others : List 
       since_first = k.since_first;
       lawful = k.lawful;
       past = k.past;
-      notes = λ note i. note_now j u at note i (k.notes note i);
-      no_ways = k.no_ways;
+      notes = note_now j u at;
+      links = k.links;
+      ways = way_now j u at;
     };
   }
 
@@ -152,14 +149,14 @@ module _ (z : Sizes) (made : ℕ) (uppers : List TreeView) (words others : List 
   framed = record {
     stays = tree_now;
     links = λ r. (
-      linked_back z.rows words others f.wide wide' same_root active in_range same r,
-      linked_on z.rows words others f.wide wide' same_root active in_range same r,
+      linked_back z.rows words others f.shape.wide wide' same_root active in_range same r,
+      linked_on z.rows words others f.shape.wide wide' same_root active in_range same r,
     );
     lents = λ r. (
-      lent_back z.rows words others f.wide wide' same_root active in_range same r,
-      lent_on z.rows words others f.wide wide' same_root active in_range same r,
+      lent_back z.rows words others f.shape.wide wide' same_root active in_range same r,
+      lent_on z.rows words others f.shape.wide wide' same_root active in_range same r,
     );
-    notes = λ j u at r n. notes_by words others u u r (f.each_seat j u at).no_ways (λ note i. i) n;
+    notes = λ j u at r n. notes_back j u at r n;
   }
 
 pub tree_frames : Frames IsLinked IsLent IsNoted IsTree
@@ -179,9 +176,9 @@ numbered uppers id u u' at same i v here lo = ⊎_elim
     (λ (t : (i ≡ id) × (u' ≡ v)). let n = ap (λ (y : TreeView). y.number) t.1 in (u, ap (get_elem? uppers) t.0 ∙ at, sym (same (omega arith)) ∙ n))
     (λ (t : (i ≢ id) × (get_elem? uppers i ≡ some v)). (v, t.1, refl)) (at_set uppers id i u' v here)
 
-pub relisted : (rows made : ℕ) (words : List ℕ) (uppers uppers' : List TreeView) (history : History) (j : ℕ) (u : TreeView) → IsNumbered uppers uppers'
-    → Knows rows made words uppers history j u → Knows rows made words uppers' history j u
-relisted rows made words uppers uppers' history j u n k = record {
+pub relisted : (rows made : ℕ) (words : List ℕ) (role : ℕ → Role) (uppers uppers' : List TreeView) (history : History) (j : ℕ) (u : TreeView)
+    → IsNumbered uppers uppers' → Knows rows made words role uppers history j u → Knows rows made words role uppers' history j u
+relisted rows made words role uppers uppers' history j u n k = record {
   made_before = k.made_before;
   alone = λ lo i v here same. let y = n i v here (omega arith) in k.alone lo i y.0 y.1 (y.2 ∙ same);
   seen_first = k.seen_first;
@@ -189,13 +186,14 @@ relisted rows made words uppers uppers' history j u n k = record {
   lawful = k.lawful;
   past = k.past;
   notes = k.notes;
-  no_ways = k.no_ways;
+  links = k.links;
+  ways = k.ways;
 }
 
 -- One seat's view is another.
 pub seat_changed : (z : Sizes) (made : ℕ) (words : List ℕ) (uppers : List TreeView) (id : ℕ) (u u' : TreeView) (f : IsTree z made words uppers)
     → get_elem? uppers id ≡ some u → (0 < u'.number → u'.number ≡ u.number)
-    → Knows z.rows made words (set uppers id u') f.history id u' → IsTree z made words (set uppers id u')
+    → Knows z.rows made words f.role (set uppers id u') f.history id u' → IsTree z made words (set uppers id u')
 seat_changed z made words uppers id u u' f at same k = record {
   usable = f.usable;
   history = f.history;
@@ -204,11 +202,10 @@ seat_changed z made words uppers id u u' f at same k = record {
   keypos = f.keypos;
   leaf = f.leaf;
   levels = f.levels;
-  wide = f.wide;
-  base = f.base;
-  map_is = f.map_is;
-  each_seat = all_seats (Knows z.rows made words (set uppers id u') f.history) uppers id u' k
-      (λ j v n here. relisted z.rows made words uppers (set uppers id u') f.history j v (numbered uppers id u u' at same) (f.each_seat j v here));
+  role = f.role;
+  shape = f.shape;
+  each_seat = all_seats (Knows z.rows made words f.role (set uppers id u') f.history) uppers id u' k
+      (λ j v n here. relisted z.rows made words f.role uppers (set uppers id u') f.history j v (numbered uppers id u u' at same) (f.each_seat j v here));
 }
 
 pub starts_whole : (h : History) → StartsWith h h
@@ -230,7 +227,7 @@ same_notes words u _ (by_link_item way base row i e f k) = by_link_item way base
 
 pub tree_pinning : Pinning IsLinked IsLent IsNoted IsTree pinned unpinned
 tree_pinning = record {
-  keeps_entering = λ z made uppers words i u f at. let k = relisted z.rows made words uppers (set uppers i (pinned u)) f.history i u
+  keeps_entering = λ z made uppers words i u f at. let k = relisted z.rows made words f.role uppers (set uppers i (pinned u)) f.history i u
       (numbered uppers i u (pinned u) at (λ _. refl)) (f.each_seat i u at) in
       seat_changed z made words uppers i u (pinned u) f at (λ _. refl)
       record {
@@ -241,10 +238,11 @@ tree_pinning = record {
         lawful = k.lawful;
         past = k.past;
         notes = k.notes;
-        no_ways = k.no_ways;
+        links = k.links;
+        ways = k.ways;
       };
   entering_notes = same_notes;
-  keeps_leaving = λ z made uppers words i u f at. let k = relisted z.rows made words uppers (set uppers i (unpinned u)) f.history i u
+  keeps_leaving = λ z made uppers words i u f at. let k = relisted z.rows made words f.role uppers (set uppers i (unpinned u)) f.history i u
       (numbered uppers i u (unpinned u) at (λ _. refl)) (f.each_seat i u at) in
       seat_changed z made words uppers i u (unpinned u) f at (λ _. refl)
       record {
@@ -255,7 +253,8 @@ tree_pinning = record {
         lawful = k.lawful;
         past = k.past;
         notes = λ note i. absurd (in_nothing note [] refl i);
-        no_ways = refl;
+        links = λ note i. absurd (in_nothing note [] refl i);
+        ways = λ way i. absurd (in_nothing way [] refl i);
       };
   leaving_notes = λ words u r. no_notes words (unpinned u) r refl refl;
 }
@@ -272,10 +271,10 @@ one_more made [] b = tt
 one_more made (step ∷ steps) b = let hi = b.1 in (b.0, omega arith, one_more made steps b.2)
 
 -- what a seat knows that knows nothing yet
-pub knows_nothing : (rows made : ℕ) (words : List ℕ) (uppers : List TreeView) (history : History) (j number : ℕ) → number ≤ made
+pub knows_nothing : (rows made : ℕ) (words : List ℕ) (role : ℕ → Role) (uppers : List TreeView) (history : History) (j number : ℕ) → number ≤ made
     → (0 < number → (i : ℕ) (v : TreeView) → get_elem? uppers i ≡ some v → v.number ≡ number → i ≡ j) → edits_of_pass number history ≡ []
-    → Knows rows made words uppers history j (blank number)
-knows_nothing rows made words uppers history j number before alone unmade = record {
+    → Knows rows made words role uppers history j (blank number)
+knows_nothing rows made words role uppers history j number before alone unmade = record {
   made_before = before;
   alone = alone;
   seen_first = (history, refl);
@@ -283,7 +282,8 @@ knows_nothing rows made words uppers history j number before alone unmade = reco
   lawful = record { entries = tt; places = tt; edits = unmade };
   past = tt;
   notes = λ note i. absurd (in_nothing note [] refl i);
-  no_ways = refl;
+  links = λ note i. absurd (in_nothing note [] refl i);
+  ways = λ way i. absurd (in_nothing way [] refl i);
 }
 
 pub tree_making : Making IsLinked IsLent IsNoted IsTree blank
@@ -296,9 +296,8 @@ tree_making = record {
     keypos = f.keypos;
     leaf = f.leaf;
     levels = f.levels;
-    wide = f.wide;
-    base = f.base;
-    map_is = f.map_is;
+    role = f.role;
+    shape = f.shape;
     each_seat = λ j u here. ⊎_elim
         (λ (was : get_elem? uppers j ≡ some u). let k = f.each_seat j u was in let low = k.made_before in record {
           made_before = omega arith;
@@ -310,10 +309,11 @@ tree_making = record {
           lawful = k.lawful;
           past = k.past;
           notes = k.notes;
-          no_ways = k.no_ways;
+          links = k.links;
+          ways = k.ways;
         })
-        (λ (t : (j ≡ length uppers) × (blank (made + 1) ≡ u)). subst (Knows z.rows (made + 1) words next f.history j) t.1
-        (knows_nothing z.rows (made + 1) words next f.history j (made + 1) (omega arith)
+        (λ (t : (j ≡ length uppers) × (blank (made + 1) ≡ u)). subst (Knows z.rows (made + 1) words f.role next f.history j) t.1
+        (knows_nothing z.rows (made + 1) words f.role next f.history j (made + 1) (omega arith)
         (λ _ i v at same. ⊎_elim (λ (old : get_elem? uppers i ≡ some v). let low = (f.each_seat i v old).made_before in absurd (omega arith))
         (λ (y : (i ≡ length uppers) × (blank (made + 1) ≡ v)). y.0 ∙ sym t.0) (at_place uppers (blank (made + 1)) v i at))
         (none_made made (made + 1) f.history f.by_passes (inr (omega arith)))))
@@ -326,7 +326,7 @@ pub tree_closing : Closing IsLinked IsLent IsNoted IsTree (λ v w. v) (blank 0)
 tree_closing = record {
   keeps_closing = λ z made uppers words i j v w f at ne there. subst (λ us. IsTree z made words (set us j (blank 0))) (sym (set_again uppers i v at))
       (seat_changed z made words uppers j w (blank 0) f there (λ lo. absurd (omega arith))
-      (knows_nothing z.rows made words (set uppers j (blank 0)) f.history j 0 (omega arith) (λ lo. absurd (omega arith))
+      (knows_nothing z.rows made words f.role (set uppers j (blank 0)) f.history j 0 (omega arith) (λ lo. absurd (omega arith))
       (none_made made 0 f.history f.by_passes (inl refl))));
   closing_notes = λ words v w r n. inl n;
   spent_notes = λ words r. no_notes words (blank 0) r refl refl;
@@ -344,28 +344,60 @@ module _ (z : Sizes) (words : List ℕ) (bounds : AreInBounds z) (usable : AreUs
   no_items : items (row_at words 1) ≡ []
   no_items = ap (λ n. take (n % 65536) (drop 11 (row_at words 1))) first_word
 
-  first_base : IsBaseAt z words root_place 1
+  -- row 1 is the one base
+  role_of : ℕ → Role
+  role_of row = cond (eqb row 1) (Base root_place) Out
+
+  role_one : role_of 1 ≡ Base root_place
+  unfolding role_of
+  role_one = refl
+
+  role_other : (row : ℕ) → row ≢ 1 → role_of row ≡ Out
+  unfolding role_of
+  role_other row n = ap (λ b. cond b (Base root_place) Out) (ne_eqb row 1 n)
+
+  first_base : IsBaseAt z words role_of [] root_place 1
   first_base = let least = bounds.least_rows in record {
     some_row = omega arith;
     in_range = omega arith;
     under = root_is;
+    is_link = inl refl;
+    deep = omega arith;
     is_base = ap (λ n. n / 72057594037927936) first_word;
     level_is = ap (λ n. n / 65536 % 1099511627776) first_word;
     few = let e = ap (λ n. n % 65536) first_word in omega arith;
     unmarked = word_at words 1 2 (omega arith) ∙ above 138 (omega arith) (omega arith);
     are_objects = λ r i. absurd (in_nothing r (items (row_at words 1)) no_items i);
+    has = ap (map (λ row. pair (row_at words row))) no_items;
   }
 
-  base : IsBaseAt z words root_place (root words)
-  base = subst (IsBaseAt z words root_place) (sym root_is) first_base
+  shape_there : IsShape z words role_of []
+  shape_there = record {
+    wide = wide;
+    top = record { level = 0; greater = omega arith; hangs = ap (λ r. place_of (role_of r)) root_is ∙ ap place_of role_one };
+    each_row = λ row. dite (ℕ_discrete row 1)
+        (λ (e : row ≡ 1). subst (λ r. IsSo z words role_of [] r (role_of r)) (sym e) (subst (IsSo z words role_of [] 1) (sym role_one) first_base))
+        (λ n. subst (IsSo z words role_of [] row) (sym (role_other row n)) tt);
+    apart = λ a b p q key is is' _ _. one a p is ∙ sym (one b q is');
+  }
+    where
+      one : (row : ℕ) (p : Place) → role_of row ≡ Base p → row ≡ 1
+      one row p e = dite (ℕ_discrete row 1) (λ same. same) (λ n. let x : Base p ≡ Out = sym e ∙ role_other row n in absurd cc)
 
-  nothing_there : objects_in words (root words) ≡ []
-  nothing_there = ap (objects_in words) root_is ∙ ap (map (λ row. pair (row_at words row))) no_items
-
-  only : (j : ℕ) (u : TreeView) → get_elem? (blank 0 ∷ []) j ≡ some u → Knows z.rows 0 words (blank 0 ∷ []) [] j u
-  only zero u e = subst (Knows z.rows 0 words (blank 0 ∷ []) [] 0) (some-injective (blank 0) u e)
-      (knows_nothing z.rows 0 words (blank 0 ∷ []) [] 0 0 (omega arith) (λ lo. absurd (omega arith)) refl)
+  only : (j : ℕ) (u : TreeView) → get_elem? (blank 0 ∷ []) j ≡ some u → Knows z.rows 0 words role_of (blank 0 ∷ []) [] j u
+  only zero u e = subst (Knows z.rows 0 words role_of (blank 0 ∷ []) [] 0) (some-injective (blank 0) u e)
+      (knows_nothing z.rows 0 words role_of (blank 0 ∷ []) [] 0 0 (omega arith) (λ lo. absurd (omega arith)) refl)
   only (suc j) u e = absurd (some-ne-none u (sym e))
+
+  -- Row 1 alone is linked.
+  only_first : (row : ℕ) → IsLinked words row → row ≡ 1
+  only_first row l = ⊎_elim
+      (λ (x : (place : Place) × (place_of (role_of row) ≡ some place)). dite (ℕ_discrete row 1) (λ e. e)
+      (λ n. absurd (some-ne-none x.0 (sym x.1 ∙ ap place_of (role_other row n)))))
+      (λ (x : (base : ℕ) × (place : Place) × (role_of base ≡ Base place) × IsIn row (items (row_at words base))). dite (ℕ_discrete x.0 1)
+      (λ e. absurd (in_nothing row (items (row_at words x.0)) (ap (λ r. items (row_at words r)) e ∙ no_items) x.3))
+      (λ n. let y : Base x.1 ≡ Out = sym x.2 ∙ role_other x.0 n in absurd cc))
+      (reached z words role_of [] shape_there row l)
 
   opened : Opened IsLinked IsLent IsNoted IsTree z (blank 0) words
   opened = record {
@@ -377,17 +409,12 @@ module _ (z : Sizes) (words : List ℕ) (bounds : AreInBounds z) (usable : AreUs
       keypos = above 131 (omega arith) (omega arith);
       leaf = above 132 (omega arith) (omega arith);
       levels = above 133 (omega arith) (omega arith);
-      wide = wide;
-      base = base;
-      map_is = nothing_there;
+      role = role_of;
+      shape = shape_there;
       each_seat = only;
     };
-    links = λ r. (
-      (λ l. ⊎_elim (λ (e : r ≡ root words). e ∙ root_is)
-          (λ i. absurd (in_nothing r (items (row_at words (root words))) (ap (λ x. items (row_at words x)) root_is ∙ no_items) i)) (reached z words base r l)),
-      (λ e. by_root r (root_is ∙ sym e)),
-    );
-    lents = nothing_lent z words base;
+    links = λ r. (only_first r, (λ e. by_root r (root_is ∙ sym e)));
+    lents = nothing_lent z words role_of [] shape_there;
     notes = λ r. no_notes words (blank 0) r refl refl;
   }
 

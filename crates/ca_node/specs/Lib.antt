@@ -1,8 +1,13 @@
 pub mod Laws
 pub mod Links
 pub mod Opened
+pub mod Place
+pub mod Reached
 pub mod Row
+pub mod Shape
+pub mod Standing
 pub mod Stays
 pub mod Told
 pub mod Tree
 pub mod TreeView
+pub mod Walking

@@ -21,7 +21,7 @@ IsRouteRow its = form its ≡ 3
 abbrev pub count : List ℕ → ℕ
 count its = slice_index its 0 % 65536
 
--- of a base: the level that it stands at
+-- of a base or a route: the level that it stands at
 abbrev pub level : List ℕ → ℕ
 level its = slice_index its 0 / 65536 % 1099511627776
 
@@ -61,6 +61,10 @@ IsPadded its = (i : ℕ) → count its ≤ i → slice_index (bytes_in (drop 11 
 
 abbrev pub IsObjectRow : List ℕ → Type 0
 IsObjectRow its = (form its ≡ 1) × IsPadded its
+
+-- of a route: its key
+abbrev pub route_key : List ℕ → List ℕ
+route_key its = object its
 
 abbrev pub key_place : List ℕ → ℕ
 key_place its = slice_index its 0 / 65536 % 65536

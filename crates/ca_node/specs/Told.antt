@@ -1,5 +1,5 @@
 -- What each step of the tree tells.
-use Rattle.std.specs.Prelude.{◌≡◌, ◌≢◌, ◌⊎◌, None, Bool, true, false, ℕ, ◌+◌, ◌*◌, ◌<◌, ◌≤◌, List, [], ◌∷◌, ◌++◌, length, map, nat_lt, cond, slice_index}
+use Rattle.std.specs.Prelude.{◌≡◌, ◌≢◌, ◌⊎◌, None, Bool, true, false, ℕ, ◌+◌, ◌*◌, ◌%◌, ◌<◌, ◌≤◌, List, [], ◌∷◌, ◌++◌, length, map, take, drop, nat_lt, cond, slice_index, slice_index_or}
 use mathlib.Core.Option.{some, none}
 use lib.ListN.{get_elem?}
 use Rattle.atomic_table.specs.Table.{Step}
@@ -14,9 +14,12 @@ use Rattle.ca_rows.specs.Claims.{claim_of, claimed, dropped}
 use Rattle.ca_rows.specs.Rule.{fresh, no_sizes}
 use Rattle.ca_rows.specs.Told.{Mine}
 use Rattle.ca_node.specs.Links.{IsIn}
-use Rattle.ca_node.specs.Row.{IsObjectRow, IsBaseRow, count, level, items, mark, pair}
-use Rattle.ca_node.specs.Tree.{ArePast}
-use Rattle.ca_node.specs.TreeView.{Note, TreeView, blank}
+use Rattle.ca_node.specs.declared.link.Link.{Link}
+use Rattle.ca_node.specs.declared.link.Link.TheVariants as link
+use Rattle.ca_node.specs.Place.{Span, all_keys, left_of, right_of, HasKey, part, Place, root_place, edit_key}
+use Rattle.ca_node.specs.Row.{IsObjectRow, IsBaseRow, IsRouteRow, count, level, items, mark, key, route_key, pair}
+use Rattle.ca_node.specs.Tree.{ArePast, IsFixed}
+use Rattle.ca_node.specs.TreeView.{Note, Way, TreeView, blank}
 
 abbrev pub MyTree : Type 0
 MyTree = Mine TreeView
@@ -24,19 +27,32 @@ MyTree = Mine TreeView
 abbrev pub with_upper : MyTree → TreeView → MyTree
 with_upper m u = (record m.0 { upper = u }, m.1)
 
--- The note is on a base of level 0 that no operation marks, in a space of these sizes.
+-- The note is on a base that no operation marks, in a space of these sizes.
 pub record IsBaseNote (z : Sizes) (note : Note) : Type 0 where
   pub some_row : 0 < note.row
   pub in_range : note.row ≤ z.rows
   pub is_base : IsBaseRow note.its
   pub long : length note.its ≡ 136
-  pub level_is : level note.its ≡ 0
+  pub level_is : level note.its ≡ note.place.level
+  pub deep : note.place.level ≤ z.levels
+  pub most_levels : z.levels ≤ 4096
   pub few : count note.its ≤ z.leaf
   pub unmarked : mark note.its ≡ 0
   -- as many objects as items, each in range, with the words of an object row
   pub named : (r : ℕ) → IsIn r (items note.its) → (0 < r) × (r ≤ z.rows)
   pub as_many : length note.objects ≡ length (items note.its)
   pub objects_long : (its : List ℕ) → IsIn its note.objects → (length its ≡ 136) × IsObjectRow its
+
+-- The route has these words, and stands above the last level; its key is one of those that are led to it.
+pub record IsRouteNote (z : Sizes) (way : Way) : Type 0 where
+  pub some_row : 0 < way.row
+  pub in_range : way.row ≤ z.rows
+  pub is_route : IsRouteRow way.its
+  pub long : length way.its ≡ 136
+  pub level_is : level way.its ≡ way.place.level
+  pub above : way.place.level < z.levels
+  pub short : count way.its ≤ 1000
+  pub inside : HasKey way.place.span (route_key way.its)
 
 -- This is a history as a pass may know it: what it edited is told by its log, whose places are in it.
 pub record IsKnown (z : Sizes) (u : TreeView) : Type 0 where
@@ -45,18 +61,60 @@ pub record IsKnown (z : Sizes) (u : TreeView) : Type 0 where
   pub edits : AreEdits z.keypos u.seen
   pub by_passes : AreByPasses 64 u.seen
 
--- what a seat knows after it loaded the root link
-abbrev pub led : TreeView → History → Note → TreeView
-led u more note = record u { seen = u.seen ++ more; notes = note ∷ u.notes; loads = u.loads + 1 }
+-- The seat knows of the link which keys are led there, and from which level on rows hang there: it is the root link, or one of a route that it
+-- was shown.
+abbrev pub IsKnownLink : TreeView → ℕ → ℕ → Span → Type 0
+IsKnownLink u link least span = ((link ≡ 130) × (least ≡ 0) × (span ≡ all_keys))
+    ⊎ ((way : Way) × IsIn way u.ways × (least ≡ way.place.level + 1)
+    × (((link ≡ 136 * way.row + 1) × (span ≡ left_of (route_key way.its) way.place.span))
+    ⊎ ((link ≡ 136 * way.row + 2) × (span ≡ right_of (route_key way.its) way.place.span))))
 
--- The root link was loaded: it names this base, whose objects are the last state of the history, all of which the seat has seen now.
-abbrev pub IsLed : MyTree → ℕ → MyTree → Type 0
-IsLed m n m' = (note : Note) × (more : History) × (m' ≡ with_upper m (led m.0.upper more note)) × (note.row ≡ n)
-    × (map pair note.objects ≡ after (m.0.upper.seen ++ more) [])
-    × (0 < m.0.sizes.rows → IsBaseNote m.0.sizes note × IsKnown m.0.sizes (led m.0.upper more note))
+abbrev pub IsAnyLink : TreeView → ℕ → Type 0
+IsAnyLink u link = (least : ℕ) × (span : Span) × IsKnownLink u link least span
+
+-- the word of a link
+abbrev pub link_word : Link → ℕ
+link_word link.Root = 130
+link_word (link.Left route) = 136 * route + 1
+link_word (link.Right route) = 136 * route + 2
+
+-- what a seat knows after it loaded a link that names a base, or a route
+abbrev pub led_to_base : TreeView → History → Note → TreeView
+led_to_base u more note = record u { seen = u.seen ++ more; notes = note ∷ u.notes; loads = u.loads + 1 }
+
+abbrev pub led_to_route : TreeView → History → Way → TreeView
+led_to_route u more way = record u { seen = u.seen ++ more; ways = way ∷ u.ways; loads = u.loads + 1 }
+
+-- A row hangs at a place that the seat knows of the link.
+abbrev pub IsPlaceOf : TreeView → ℕ → Place → Type 0
+IsPlaceOf u link place = (place.link ≡ link) × ((least : ℕ) (span : Span) → IsKnownLink u link least span → (least ≤ place.level) × (place.span ≡ span))
+
+-- The link was loaded: it names this base, which has what the last state of the history has of the keys that are led there. The seat has seen
+-- the whole history now.
+pub record IsLedToBase (link : ℕ) (m : MyTree) (n : ℕ) (m' : MyTree) : Type 0 where
+  pub note : Note
+  pub more : History
+  pub now : m' ≡ with_upper m (led_to_base m.0.upper more note)
+  pub row_is : note.row ≡ n
+  pub place : IsPlaceOf m.0.upper link note.place
+  pub has : map pair note.objects ≡ part note.place.span (after (m.0.upper.seen ++ more) [])
+  pub known : 0 < m.0.sizes.rows → IsBaseNote m.0.sizes note × IsKnown m.0.sizes (led_to_base m.0.upper more note)
+
+-- The link was loaded: it names this route.
+pub record IsLedToRoute (link : ℕ) (m : MyTree) (n : ℕ) (m' : MyTree) : Type 0 where
+  pub way : Way
+  pub more : History
+  pub now : m' ≡ with_upper m (led_to_route m.0.upper more way)
+  pub row_is : way.row ≡ n
+  pub place : IsPlaceOf m.0.upper link way.place
+  pub known : 0 < m.0.sizes.rows → IsRouteNote m.0.sizes way × IsKnown m.0.sizes (led_to_route m.0.upper more way)
+
+-- The link was loaded: it names a base or a route.
+abbrev pub IsLed : ℕ → MyTree → ℕ → MyTree → Type 0
+IsLed link m n m' = IsLedToBase link m n m' ⊎ IsLedToRoute link m n m'
 
 abbrev pub Leads : Step (Unit {0}) → MyTree → ℕ → MyTree → Type 0
-Leads st m n m' = IsLed m n m'
+Leads st m n m' = IsLed st.word m n m'
 
 -- The row was shown, with these words: it is one that a note is on, or an object row that such a base names.
 abbrev pub IsShown : TreeView → ℕ → List ℕ → Type 0
@@ -64,10 +122,20 @@ IsShown u row its = (note : Note) × IsIn note u.notes
     × (((note.row ≡ row) × (note.its ≡ its)) ⊎ (IsBaseRow note.its
     × ((k : ℕ) × (get_elem? (items note.its) k ≡ some row) × (get_elem? note.objects k ≡ some its))))
 
--- A word of a row was loaded: where the row was shown, it is the word that was shown.
+-- The route was shown, with these words.
+abbrev pub IsShownRoute : TreeView → ℕ → List ℕ → Type 0
+IsShownRoute u row its = (way : Way) × IsIn way u.ways × (way.row ≡ row) × (way.its ≡ its)
+
+-- This word of the row was shown, and it stays: the row is no route, or it is neither one of its links nor its join word.
+abbrev pub IsShownWord : TreeView → ℕ → ℕ → ℕ → Type 0
+IsShownWord u row index word = (its : List ℕ) × (IsShown u row its ⊎ (IsShownRoute u row its × IsFixed index)) × (word ≡ slice_index its index)
+
+-- A word of a row was loaded: where it was shown, it is the word that was shown.
+abbrev pub IsRead : TreeView → ℕ → ℕ → Type 0
+IsRead u place n = (row index word : ℕ) → place ≡ 136 * row + index → index < 136 → IsShownWord u row index word → n ≡ word
+
 abbrev pub Reads : Step (Unit {0}) → MyTree → ℕ → MyTree → Type 0
-Reads st m n m' = (m' ≡ m) × ((row index : ℕ) (its : List ℕ) → st.word ≡ 136 * row + index → index < 136 → IsShown m.0.upper row its
-    → n ≡ slice_index its index)
+Reads st m n m' = (m' ≡ m) × IsRead m.0.upper st.word n
 
 -- The call is one that edits nothing, and its answer is that of the last state that the seat has seen.
 abbrev pub IsReadNow : Event → TreeView → Type 0
@@ -79,8 +147,7 @@ entered u event = record u { log = u.log ++ (event, length u.seen) ∷ [] }
 
 -- A word of a row was loaded, and the call that it ends was entered in the log.
 abbrev pub ReadsLast : Event → Step (Unit {0}) → MyTree → ℕ → MyTree → Type 0
-ReadsLast event st m n m' = (m' ≡ with_upper m (entered m.0.upper event))
-    × ((row index : ℕ) (its : List ℕ) → st.word ≡ 136 * row + index → index < 136 → IsShown m.0.upper row its → n ≡ slice_index its index)
+ReadsLast event st m n m' = (m' ≡ with_upper m (entered m.0.upper event)) × IsRead m.0.upper st.word n
 
 -- An update: the base that it takes the place of, the new base's words and those of the objects that it names, which held object rows come
 -- and which object rows go, the call, and its edit.
@@ -93,8 +160,11 @@ pub record Update : Type 0 where
   pub event : Event
   pub edit : Edit
 
+abbrev pub no_note : Note
+no_note = record { row = 0; its = []; objects = []; place = root_place }
+
 abbrev pub no_update : Update
-no_update = record { old = record { row = 0; its = []; objects = [] }; its = []; objects = []; comes = []; goes = []; event = Get [] None; edit = Del [] }
+no_update = record { old = no_note; its = []; objects = []; comes = []; goes = []; event = Get [] None; edit = Del [] }
 
 -- the claims once these rows are linked, or are unlinked by the seat
 abbrev pub given : List ℕ → List Claimed → List Claimed
@@ -123,7 +193,7 @@ pub record IsUpdate (z : Sizes) (m : MyTree) (new : ℕ) (x : Update) : Type 0 w
   pub old_base : IsBaseRow x.old.its
   pub held : claim_of m.0.claims new ≡ some (Holds x.its)
   pub is_base : IsBaseRow x.its
-  pub level_is : level x.its ≡ 0
+  pub level_is : level x.its ≡ x.old.place.level
   pub few : count x.its ≤ z.leaf
   pub unmarked : mark x.its ≡ 0
   pub as_many : length x.objects ≡ length (items x.its)
@@ -132,8 +202,9 @@ pub record IsUpdate (z : Sizes) (m : MyTree) (new : ℕ) (x : Update) : Type 0 w
   -- What goes stood in one place of the old base, and no item of the new one is from there.
   pub go : (row : ℕ) → IsIn row x.goes → (i : ℕ) × (get_elem? (items x.old.its) i ≡ some row) × IsNotFrom x i row
   pub stay : (row : ℕ) → IsIn row (items x.old.its) → IsIn row (items x.its) ⊎ IsIn row x.goes
-  -- What the new base has is what the old one had after the edit, which is what the call does.
+  -- What the new base has is what the old one had after the edit, which is what the call does, of a key that is led there.
   pub map_is : map pair x.objects ≡ after_edit x.edit (map pair x.old.objects)
+  pub about : HasKey x.old.place.span (edit_key x.edit)
   pub does : effect x.event ≡ x.edit ∷ []
   pub answer : IsAnswer x.event (map pair x.old.objects)
   pub is_edit : IsEdit z.keypos x.edit
@@ -143,7 +214,7 @@ abbrev pub updated : TreeView → History → ℕ → Update → TreeView
 updated u more new x = record u {
   seen = u.seen ++ more ++ (u.number, x.edit) ∷ [];
   log = u.log ++ (x.event, length (u.seen ++ more) + 1) ∷ [];
-  notes = record { row = new; its = x.its; objects = x.objects } ∷ u.notes;
+  notes = record { row = new; its = x.its; objects = x.objects; place = x.old.place } ∷ u.notes;
 }
 
 -- The update is carried out: the rows that came are linked, and those that went, which nobody claimed until then, are unlinked by the seat;
@@ -160,14 +231,77 @@ pub record IsUpdated (new : ℕ) (x : Update) (m m' : MyTree) : Type 0 where
 abbrev pub one_more_lost : TreeView → TreeView
 one_more_lost u = record u { lost = u.lost + 1 }
 
--- The root link was exchanged, and the update is carried out; or the exchange was lost, which is counted, and nothing else changed.
+-- The link was exchanged, and the update is carried out; or the exchange was lost, which is counted, and nothing else changed.
 abbrev pub Updates : Update → Step (Unit {0}) → MyTree → ℕ → MyTree → Type 0
 Updates x st m n m' = (n ≡ st.first → IsUpdated st.second x m m') × (n ≢ st.first → m' ≡ with_upper m (one_more_lost m.0.upper))
 
--- What the exchange of the root link came to: the update is carried out, or one exchange more was lost.
+-- What the exchange of the link came to: the update is carried out, or one exchange more was lost.
 abbrev pub HasUpdated : Bool → ℕ → Update → MyTree → MyTree → Type 0
 HasUpdated true new x m m' = IsUpdated new x m m'
 HasUpdated false new x m m' = m' ≡ with_upper m (one_more_lost m.0.upper)
+
+-- A split: the base that it takes the place of, the route and the two new bases, with their words, and how many objects go left.
+pub record Division : Type 0 where
+  pub old : Note
+  pub route : ℕ
+  pub left : ℕ
+  pub right : ℕ
+  pub route_its : List ℕ
+  pub left_its : List ℕ
+  pub right_its : List ℕ
+  pub middle : ℕ
+
+abbrev pub no_division : Division
+no_division = record { old = no_note; route = 0; left = 0; right = 0; route_its = []; left_its = []; right_its = []; middle = 0 }
+
+-- These words are those of a half: a base of the level below, with these items, and no mark.
+pub record IsHalf (z : Sizes) (level_above : ℕ) (these : List ℕ) (its : List ℕ) : Type 0 where
+  pub is_base : IsBaseRow its
+  pub level_is : level its ≡ level_above + 1
+  pub few : count its ≤ z.leaf
+  pub unmarked : mark its ≡ 0
+  pub items_are : items its ≡ these
+
+-- The seat may put the route in the place of the old base: it is pinned, was shown that base last, which stands above the last level, and holds
+-- the route and the halves.
+pub record IsDivision (z : Sizes) (m : MyTree) (x : Division) : Type 0 where
+  pub is_pinned : m.0.pin.pinned ≡ true
+  pub shown : (rest : List Note) × (m.0.upper.notes ≡ x.old ∷ rest)
+  pub old_base : IsBaseRow x.old.its
+  pub above : x.old.place.level < z.levels
+  pub held_route : claim_of m.0.claims x.route ≡ some (Holds x.route_its)
+  pub held_left : claim_of m.0.claims x.left ≡ some (Holds x.left_its)
+  pub held_right : claim_of m.0.claims x.right ≡ some (Holds x.right_its)
+  pub apart : (x.route ≢ x.left) × (x.route ≢ x.right) × (x.left ≢ x.right)
+  pub is_route : IsRouteRow x.route_its
+  pub route_level : level x.route_its ≡ x.old.place.level
+  pub short : count x.route_its ≤ 1000
+  pub idle : slice_index x.route_its 3 % 4 ≡ 0
+  pub left_link : slice_index x.route_its 1 ≡ x.left
+  pub right_link : slice_index x.route_its 2 ≡ x.right
+  -- The route's key is that of the first object that goes right.
+  pub middle_is : x.middle < length x.old.objects
+  pub key_is : route_key x.route_its ≡ key (slice_index_or x.old.objects x.middle [])
+  pub is_left : IsHalf z x.old.place.level (take x.middle (items x.old.its)) x.left_its
+  pub is_right : IsHalf z x.old.place.level (drop x.middle (items x.old.its)) x.right_its
+
+-- what a seat knows after it carried out a split
+abbrev pub divided : TreeView → TreeView
+divided u = record u { splits = u.splits + 1 }
+
+-- The split is carried out: the route and its bases are linked, and the old base, which nobody claimed until then, is unlinked by the seat.
+pub record IsDivided (x : Division) (m m' : MyTree) : Type 0 where
+  pub now : m' ≡ (record m.0 { claims = taken_out (x.old.row ∷ []) (given (x.route ∷ x.left ∷ x.right ∷ []) m.0.claims); upper = divided m.0.upper }, m.1)
+  pub unclaimed : claim_of m.0.claims x.old.row ≡ none
+
+-- The link was exchanged, and the split is carried out; or the exchange was lost, which is counted, and nothing else changed.
+abbrev pub Divides : Division → Step (Unit {0}) → MyTree → ℕ → MyTree → Type 0
+Divides x st m n m' = (n ≡ st.first → IsDivided x m m') × (n ≢ st.first → m' ≡ with_upper m (one_more_lost m.0.upper))
+
+-- What the exchange of the link came to: the split is carried out, or one exchange more was lost.
+abbrev pub HasDivided : Bool → Division → MyTree → MyTree → Type 0
+HasDivided true x m m' = IsDivided x m m'
+HasDivided false x m m' = m' ≡ with_upper m (one_more_lost m.0.upper)
 
 -- A word was loaded as a call was refused, and the call is counted so.
 abbrev pub Refuses : (Counts → Counts) → Step (Unit {0}) → MyTree → ℕ → MyTree → Type 0

@@ -3,18 +3,21 @@ use Rattle.std.specs.Prelude.{ℕ, List, []}
 use Rattle.ca_model.specs.Event.{Entry}
 use Rattle.ca_model.specs.History.{History}
 use Rattle.ca_model.specs.Known.{Counts}
+use Rattle.ca_node.specs.Place.{Place}
 
--- A row that was shown, with its words, and of a base the words of the object rows that it names. They stay as long as the note does.
+-- A base that was shown, with its words, those of the object rows that it names, and where it hung. The words stay as long as the note does.
 pub record Note : Type 0 where
   pub row : ℕ
   pub its : List ℕ
   pub objects : List (List ℕ)
+  pub place : Place
 
--- A route that was shown, with its key and its level: its other words change.
+-- A route that was shown, with the words that it had, and where it hangs. Its links and its join word change, the other words stay as long as
+-- the pass remembers it.
 pub record Way : Type 0 where
   pub row : ℕ
-  pub key : List ℕ
-  pub level : ℕ
+  pub its : List ℕ
+  pub place : Place
 
 pub record TreeView : Type 0 where
   -- the number of its pass; 0 of a seat that is no pass's

@@ -1,12 +1,19 @@
 //! Walks from the root to a base.
-ghost use Rattle.std.specs.Prelude.{◌≡◌, true, None};
-ghost use Rattle.ca_node.specs.declared.link.Link.TheVariants.{Root as IsRoot};
-ghost use Rattle.ca_node.specs.Told.{IsLed};
+ghost use Rattle.std.specs.Prelude.{◌≡◌, ◌+◌, ◌≤◌, ℕ, List, true};
+ghost use Rattle.ca_node.specs.Row.{route_key};
+ghost use Rattle.ca_node.specs.Told.{MyTree};
+ghost use Rattle.ca_node.specs.Walking.{IsWalked, IsAtRoute, IsWalking, IsRouteShown, IsSide};
 ghost use Rattle.ca_rows.specs.Calls.{IsOf, IsSame};
 
+use crate::comparing::compare;
 use crate::link::Link;
 use crate::rule::{TreePass, TreeSpace};
-use crate::steps::load_link;
+use crate::steps::{load_link, load_word};
+
+// The form of a row stands above this bit; that of a route is 3.
+const FORM: u64 = 1 << 56;
+
+const ROUTE: u64 = 3;
 
 /// Which base is looked for.
 #[derive(Clone, Copy, Debug)]
@@ -35,25 +42,85 @@ pub struct Cursor {
     pub high: Option<u32>,
 }
 
-/// Walks to the base that is looked for: so far one load of the root link.
+/// Walks to the base that is looked for, from the root link down: at a route, a key below its key goes left, any other one right, and where the
+/// keys right below one are looked for, that one goes left at its own key, too. It loads at most one link more than there are levels.
 pub fn walk(space: &TreeSpace, pass: &mut TreePass, spot: Spot<'_>) -> Cursor
     requires own { IsOf space.now.table.shared.table_id space.now.table.shared.key pass.old.seat }
     requires pinned { pass.old.seat.me.0.pin.pinned ≡ true }
     ensures same { IsSame pass.old.seat pass.new.seat }
     ensures number { pass.new.number ≡ pass.old.number }
     ensures kept { pass.new.kept ≡ pass.old.kept }
-    ensures led { IsLed pass.old.seat.me result.base pass.new.seat.me }
-    ensures place { (result.link ≡ IsRoot) × (result.above ≡ None) × (result.level ≡ 0) }
-    ensures unbounded { (result.low ≡ None) × (result.high ≡ None) }
+    ensures walked { IsWalked space.now.table.shared.key spot.entry pass.old.seat.me result pass.new.seat.me }
 {
-    let _spot = spot;
-    let base = load_link(space, pass, Link::Root);
-    Cursor {
-        base,
+    let mut cursor = Cursor {
+        base: load_link(space, pass, Link::Root),
         link: Link::Root,
         above: None,
         level: 0,
         low: None,
         high: None,
+    };
+    loop {
+        let word = load_word(space, pass, cursor.base, 0);
+        if word / FORM != ROUTE {
+            let level = (word / 65_536 % 1_099_511_627_776) as u16;
+            return Cursor { level, ..cursor };
+        }
+        cursor = go_down(space, pass, cursor, spot);
+    }
+}
+
+// One step down, from a route to the row that one of its links names.
+fn go_down(space: &TreeSpace, pass: &mut TreePass, cursor: Cursor, spot: Spot<'_>) -> Cursor
+    requires own { IsOf space.now.table.shared.table_id space.now.table.shared.key pass.old.seat }
+    requires pinned { pass.old.seat.me.0.pin.pinned ≡ true }
+    requires at { (m : MyTree) × IsAtRoute space.now.table.shared.key spot m cursor pass.old.seat.me }
+    ensures same { IsSame pass.old.seat pass.new.seat }
+    ensures number { pass.new.number ≡ pass.old.number }
+    ensures kept { pass.new.kept ≡ pass.old.kept }
+    ensures pinned { pass.new.seat.me.0.pin ≡ pass.old.seat.me.0.pin }
+    ensures sizes { pass.new.seat.me.0.sizes ≡ pass.old.seat.me.0.sizes }
+    ensures loads { pass.new.seat.me.0.upper.loads ≡ pass.old.seat.me.0.upper.loads + 1 }
+    ensures walking { (m : MyTree) → IsAtRoute space.now.table.shared.key spot.entry m cursor pass.old.seat.me
+        → IsWalking space.now.table.shared.key spot.entry m result pass.new.seat.me }
+{
+    let route = cursor.base;
+    let above = Some(cursor.link);
+    if goes_left(space, pass, route, spot) {
+        Cursor {
+            base: load_link(space, pass, Link::Left(route)),
+            link: Link::Left(route),
+            above,
+            high: Some(route),
+            ..cursor
+        }
+    } else {
+        Cursor {
+            base: load_link(space, pass, Link::Right(route)),
+            link: Link::Right(route),
+            above,
+            low: Some(route),
+            ..cursor
+        }
+    }
+}
+
+// Whether what is looked for is left of a route's key.
+fn goes_left(space: &TreeSpace, pass: &mut TreePass, route: u32, spot: Spot<'_>) -> bool
+    requires own { IsOf space.now.table.shared.table_id space.now.table.shared.key pass.old.seat }
+    requires pinned { pass.old.seat.me.0.pin.pinned ≡ true }
+    requires inside { route ≤ space.now.table.shared.key.rows }
+    requires shown { (its : List ℕ) × IsRouteShown pass.old.seat.me.0.upper route its }
+    ensures same { IsSame pass.old.seat pass.new.seat }
+    ensures number { pass.new.number ≡ pass.old.number }
+    ensures kept { pass.new.kept ≡ pass.old.kept }
+    ensures still { pass.new.seat.me ≡ pass.old.seat.me }
+    ensures side { (its : List ℕ) → IsRouteShown pass.old.seat.me.0.upper route its → IsSide result spot.entry (route_key its) }
+{
+    match spot {
+        Spot::First => true,
+        Spot::At(key) => compare(space, pass, route, key).is_gt(),
+        Spot::Below(key) => compare(space, pass, route, key).is_ge(),
+        Spot::Last => false,
     }
 }

@@ -1,24 +1,56 @@
-//! Updates under the root link.
-ghost use Rattle.std.specs.Prelude.{◌≡◌};
-ghost use Rattle.ca_node.specs.Told.{IsUpdate, HasUpdated};
+//! Exchanges of a base: updates and splits.
+ghost use Rattle.std.specs.Prelude.{◌≡◌, ◌+◌, ◌*◌, ◌<◌};
+ghost use Rattle.ca_node.specs.Told.{IsUpdate, HasUpdated, IsDivision, HasDivided, link_word};
 ghost use Rattle.ca_rows.specs.Calls.{IsOf, IsSame};
 
 use crate::link::Link;
-use crate::plays::{Intent, Replace};
+use crate::plays::{Divide, Intent, Plan, Replace};
 use crate::rule::{TreePass, TreeSpace};
 use crate::steps::replace_link;
 
-/// One exchange of the root link, of the old base against one that the pass wrote: it carries out the update that `K` names, which is the
-/// last edit of the history then, and enters the call in the log. The old base is the one that the pass was shown last. False exactly where
-/// the exchange was lost, which is counted; then nothing else changed.
-pub fn replace_base<K: Intent>(space: &TreeSpace, pass: &mut TreePass, old: u32, new: u32) -> bool
+/// One exchange of a link, of the old base against one that the pass wrote: it carries out the update that `K` names, which is the last edit of
+/// the history then, and enters the call in the log. The old base is the one that the pass was shown last, and the link is where it hung. False
+/// exactly where the exchange was lost, which is counted; then nothing else changed.
+pub fn replace_base<K: Intent>(
+    space: &TreeSpace,
+    pass: &mut TreePass,
+    link: Link,
+    old: u32,
+    new: u32,
+) -> bool
     requires own { IsOf space.now.table.shared.table_id space.now.table.shared.key pass.old.seat }
     requires update { IsUpdate space.now.table.shared.key pass.old.seat.me new K.update }
     requires old { K.update.old.row ≡ old }
+    requires link { K.update.old.place.link ≡ link_word link }
+    requires inside { link_word link < 136 * space.now.table.shared.key.rows + 136 }
     ensures same { IsSame pass.old.seat pass.new.seat }
     ensures number { pass.new.number ≡ pass.old.number }
     ensures kept { pass.new.kept ≡ pass.old.kept }
     ensures done { HasUpdated result new K.update pass.old.seat.me pass.new.seat.me }
 {
-    replace_link::<Replace<K>>(space, pass, Link::Root, old, new)
+    replace_link::<Replace<K>>(space, pass, link, old, new)
+}
+
+/// One exchange of a link, of a base against a route over two bases that the pass wrote: it carries out the split that `K` names, by which no
+/// object comes or goes. The old base is the one that the pass was shown last, and the link is where it hung. False exactly where the exchange was
+/// lost, which is counted; then nothing else changed.
+pub fn divide_base<K: Plan>(
+    space: &TreeSpace,
+    pass: &mut TreePass,
+    link: Link,
+    old: u32,
+    route: u32,
+) -> bool
+    requires own { IsOf space.now.table.shared.table_id space.now.table.shared.key pass.old.seat }
+    requires division { IsDivision space.now.table.shared.key pass.old.seat.me K.division }
+    requires old { K.division.old.row ≡ old }
+    requires route { K.division.route ≡ route }
+    requires link { K.division.old.place.link ≡ link_word link }
+    requires inside { link_word link < 136 * space.now.table.shared.key.rows + 136 }
+    ensures same { IsSame pass.old.seat pass.new.seat }
+    ensures number { pass.new.number ≡ pass.old.number }
+    ensures kept { pass.new.kept ≡ pass.old.kept }
+    ensures done { HasDivided result K.division pass.old.seat.me pass.new.seat.me }
+{
+    replace_link::<Divide<K>>(space, pass, link, old, route)
 }

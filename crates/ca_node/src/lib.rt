@@ -1,6 +1,7 @@
 //! The tree over the rows: what their words spell, its rule, and its single steps.
 #![tactic(auto)]
 
+mod comparing;
 mod cursor;
 mod exchange;
 mod handed;
@@ -12,11 +13,11 @@ mod steps;
 mod view;
 
 pub use cursor::{Cursor, Spot, walk};
-pub use exchange::replace_base;
+pub use exchange::{divide_base, replace_base};
 pub use handed::Front;
 pub use handing::{front, learn};
 pub use link::Link;
-pub use plays::Intent;
+pub use plays::{Intent, Plan};
 pub use rule::{TreePass, TreeRule, TreeSpace};
 pub use steps::{load_link, load_word, replace_link};
 pub use view::Knowledge;

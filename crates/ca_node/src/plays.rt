@@ -1,5 +1,5 @@
 //! What each step of the tree tells.
-ghost use Rattle.ca_node.specs.Told.{Leads, Reads, Update, Updates, no_update, front_of, learnt};
+ghost use Rattle.ca_node.specs.Told.{Leads, Reads, Update, Updates, no_update, Division, Divides, no_division, front_of, learnt};
 ghost use Rattle.ca_node.specs.TreeView.{blank};
 ghost use Rattle.ca_rows.specs.Closed.{joined};
 ghost use Rattle.ca_rows.specs.Rule.{fresh, no_sizes};
@@ -9,7 +9,7 @@ use atomic_table::{Join, Play, Split};
 use ca_rows::View;
 use std::marker::{Brand, PhantomData};
 
-/// A load of the root link.
+/// A load of a link.
 pub struct Lead;
 
 impl Play<(), View<Knowledge>> for Lead {
@@ -50,11 +50,29 @@ impl Intent for Brand {
     ghost update = { no_update };
 }
 
-/// The exchange of the root link that carries out an update.
+/// The exchange of a link that carries out an update.
 pub struct Replace<K> {
     updating: PhantomData<K>,
 }
 
 impl<K: Intent> Play<(), View<Knowledge>> for Replace<K> {
     ghost then = { λ st m n m'. Updates K.update st m n m' };
+}
+
+/// Which split a step carries out. It exists in proofs alone.
+pub trait Plan {
+    ghost division: { Division };
+}
+
+impl Plan for Brand {
+    ghost division = { no_division };
+}
+
+/// The exchange of a link that carries out a split.
+pub struct Divide<K> {
+    dividing: PhantomData<K>,
+}
+
+impl<K: Plan> Play<(), View<Knowledge>> for Divide<K> {
+    ghost then = { λ st m n m'. Divides K.division st m n m' };
 }

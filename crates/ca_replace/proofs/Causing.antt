@@ -14,9 +14,9 @@ use Rattle.ca_replace.specs.declared.refusing.Refusal.{Refusal}
 use Rattle.ca_replace.specs.declared.refusing.Refusal.TheVariants as refusal
 use Rattle.std.specs.declared.option.Option.{Option}
 use Rattle.std.specs.declared.option.Option.TheVariants.{None as Nothing, Some as Just}
-use Rattle.ca_base.specs.Counting.{losses, HasMet, IsSpent}
+use Rattle.ca_base.specs.Counting.{losses, HasMet}
 use Rattle.ca_model.specs.Known.{Counts}
-use Rattle.ca_replace.specs.Attempting.{HasMetBy, HasAttempted, HasTriedTo, IfDeep, refused_as}
+use Rattle.ca_replace.specs.Attempting.{splits, total, IsPaid, HasMetBy, HasAttempted, HasTriedTo, IfDeep, refused_as}
 use Rattle.ca_replace.specs.Causes.{HasBegun, HasLooked, IsCaused, IsFull, IsRefill, IfRefusedAs, KeepsFew}
 use Rattle.ca_replace.specs.Refusals.{outcome_of}
 use Rattle.ca_rows.specs.declared.kept.Kept.{Kept}
@@ -36,36 +36,47 @@ nearer budget before middle after kept kept' a b again = let some = again.0 in l
     (λ (l : middle < after). let less : 2 * (budget - after) + min kept' 1 < 2 * (budget - before) + min kept 1 = omega arith in less) again.2
 
 -- An attempt that found the rows that it wanted ends the call.
-pub attempted : {T : Type 0} (tells : T → Event → Type 0) (z : Sizes) (tried : Result T Stop) (spent : Spent) (u v : TreeView) → HasTriedTo tells z tried u v
-    → HasAttempted tells (refused_as tried spent) u v
-attempted tells z (Ok x) spent u v h = h.0
-attempted tells z (Err stop.Lost) spent u v h = h.0
-attempted tells z (Err stop.Empty) spent u v h = h.0
-attempted tells z (Err stop.Worn) spent u v h = h.0
-attempted tells z (Err stop.Deep) spent u v h = h.0
+pub attempted : {T : Type 0} (tells : T → Event → Type 0) (z : Sizes) (tried : Result T Stop) (spent : Spent) (levels : ℕ) (u v : TreeView)
+    → HasTriedTo tells z tried u v → HasAttempted tells (refused_as tried spent levels) u v
+attempted tells z (Ok x) spent levels u v h = h.0
+attempted tells z (Err stop.Lost) spent levels u v h = h.0
+attempted tells z (Err stop.Split) spent levels u v h = h.0
+attempted tells z (Err stop.Empty) spent levels u v h = h.0
+attempted tells z (Err stop.Worn) spent levels u v h = h.0
+attempted tells z (Err stop.Deep) spent levels u v h = h.0
 
 -- Where it refuses the call, it has a cause.
-pub caused : {T : Type 0} (z : Sizes) (number budget : ℕ) (adds : Option (List ℕ)) (tried : Result T Stop) (spent now : Spent) (m m' : MyTree)
-    (kept kept' : Vec Kept Global) → (tried ≡ Err stop.Empty → ⊥) → (tried ≡ Err stop.Deep → IsFull z adds (after m'.0.upper.seen []))
-    → (tried ≡ Err stop.Lost → budget ≤ now.lost)
-    → (spent.lost ≡ 0) × (spent.helped ≡ 0) × (spent.passed ≡ 0) → IsSpent spent now m m' → HasMetBy tried m m'
-    → IfErr (refused_as tried now) (λ why. IsCaused z number budget adds why m kept m' kept')
-caused z number budget adds (Ok x) spent now m m' kept kept' full deep lost none counted met = tt
-caused z number budget adds (Err stop.Lost) spent now m m' kept kept' full deep lost none counted met = let zero = none.0 in
-    (lost refl, (let sum = counted.lost (omega arith) in omega arith), counted.helped ∙ none.1, counted.passed ∙ none.2)
-caused z number budget adds (Err stop.Empty) spent now m m' kept kept' full deep lost none counted met = absurd (full refl)
-caused z number budget adds (Err stop.Worn) spent now m m' kept kept' full deep lost none counted met = met.1
-caused z number budget adds (Err stop.Deep) spent now m m' kept kept' full deep lost none counted met = (refl, deep refl)
+pub caused : {T : Type 0} (z : Sizes) (number budget : ℕ) (adds : Option (List ℕ)) (tried : Result T Stop) (spent now : Spent) (levels : ℕ) (m m' : MyTree)
+    (kept kept' : Vec Kept Global) → levels ≡ z.levels → (tried ≡ Err stop.Empty → ⊥) → (tried ≡ Err stop.Split → ⊥)
+    → (tried ≡ Err stop.Deep → IsFull z adds (after m'.0.upper.seen [])) → (tried ≡ Err stop.Lost → budget ≤ total now)
+    → (spent.lost ≡ 0) × (spent.helped ≡ 0) × (spent.passed ≡ 0) → IsPaid spent now m m' → HasMetBy tried m m'
+    → IfErr (refused_as tried now levels) (λ why. IsCaused z number budget adds why m kept m' kept')
+caused z number budget adds (Ok x) spent now levels m m' kept kept' same full split deep lost none counted met = tt
+caused z number budget adds (Err stop.Lost) spent now levels m m' kept kept' same full split deep lost none counted met = let zero = none.0 in
+    let zero' = none.2 in (
+      lost refl,
+      (let sum = counted.lost (omega arith) in omega arith),
+      counted.helped ∙ none.1,
+      (let sum = counted.passed (omega arith) in omega arith),
+    )
+caused z number budget adds (Err stop.Split) spent now levels m m' kept kept' same full split deep lost none counted met = absurd (split refl)
+caused z number budget adds (Err stop.Empty) spent now levels m m' kept kept' same full split deep lost none counted met = absurd (full refl)
+caused z number budget adds (Err stop.Worn) spent now levels m m' kept kept' same full split deep lost none counted met = met.1
+caused z number budget adds (Err stop.Deep) spent now levels m m' kept kept' same full split deep lost none counted met = (same, deep refl)
 
 -- So has a refusal once rows were given back, of an attempt that found the head empty: the first one, or one behind another that did so.
-pub refill_caused : (z : Sizes) (number budget begun : ℕ) (adds : Option (List ℕ)) (why : Refusal) (spent now : Spent) (m n m' : MyTree)
-    (kept kept' : Vec Kept Global)
-    → (spent.lost ≡ 0) × (spent.helped ≡ 0) × (spent.passed ≡ 0) → IsSpent spent now m m' → HasBegun begun (vec_len kept) m m'
+pub refill_caused : (z : Sizes) (number budget begun : ℕ) (adds : Option (List ℕ)) (why : Refusal) (spent now : Spent) (m n m' : MyTree) (kept kept' : Vec Kept Global)
+    → (spent.lost ≡ 0) × (spent.helped ≡ 0) × (spent.passed ≡ 0) → IsPaid spent now m m' → HasBegun begun (vec_len kept) m m'
     → m.0.pin.looks ≤ n.0.pin.looks → IsRefill z.passes number budget begun now why n m' kept' → IsCaused z number budget adds why m kept m' kept'
 refill_caused z number budget begun adds (refusal.Busy s) spent now m n m' kept kept' none counted first before h =
-    subst (λ (x : Spent). (budget ≤ x.lost) × (x.lost ≡ min 4294967295 (losses m' - losses m)) × (x.helped ≡ 0) × (x.passed ≡ 0)) (sym h.0)
-    (let zero = none.0 in let same = h.0 in let enough : budget ≤ now.lost = subst (λ (x : Spent). budget ≤ x.lost) same h.1 in
-    (enough, (let sum = counted.lost (omega arith) in omega arith), counted.helped ∙ none.1, counted.passed ∙ none.2))
+    subst (λ (x : Spent). (budget ≤ total x) × (x.lost ≡ min 4294967295 (losses m' - losses m)) × (x.helped ≡ 0)
+    × (x.passed ≡ min 4294967295 (splits m' - splits m))) (sym h.0)
+    (let zero = none.0 in let zero' = none.2 in let same = h.0 in let enough : budget ≤ total now = subst (λ (x : Spent). budget ≤ total x) same h.1 in (
+      enough,
+      (let sum = counted.lost (omega arith) in omega arith),
+      counted.helped ∙ none.1,
+      (let sum = counted.passed (omega arith) in omega arith),
+    ))
 refill_caused z number budget begun adds (refusal.Full cause) spent now m n m' kept kept' none counted first before h = (
   subst (λ k. HasBegun k (vec_len kept) m m') (sym h.0) first,
   ⊎_elim (λ (e : begun ≡ 0). inl (h.0 ∙ e)) (λ (l : cause.lag ≢ Nothing). inr l) h.1,

@@ -1,12 +1,12 @@
 -- What calls count, from one attempt to the next.
-use Rattle.std.proofs.Common.{◌≡◌, ℕ, ◌-◌, ◌<◌, ◌≤◌, Result, Ok, Err, subst, arith}
+use Rattle.std.proofs.Common.{◌≡◌, ◌⊎◌, ℕ, ◌-◌, ◌<◌, ◌≤◌, min, Result, Ok, Err, subst, refl, ◌∙◌, inl, inr, ⊎_elim, arith}
 use Rattle.ca_model.specs.declared.outcome.Spent.{Spent}
 use Rattle.ca_base.specs.Counting.{losses, HasMet, IsSpent}
 use Rattle.ca_base.proofs.Counts.{met_both}
 use Rattle.ca_node.specs.Told.{MyTree}
 use Rattle.ca_replace.specs.declared.attempting.Stop.{Stop}
 use Rattle.ca_replace.specs.declared.attempting.Stop.TheVariants as stop
-use Rattle.ca_replace.specs.Attempting.{HasMetBy, HasStopped}
+use Rattle.ca_replace.specs.Attempting.{splits, total, HasMetBy, HasStopped, IsPaid}
 
 -- Nothing was met.
 pub none_met : (m : MyTree) → HasMet 0 0 m m
@@ -16,19 +16,56 @@ none_met m = (omega arith, omega arith)
 pub met_then : {T : Type 0} (r : Result T Stop) (k m n : MyTree) → HasMet 0 0 k m → HasMetBy r m n → HasMetBy r k n
 met_then (Ok x) k m n a b = met_both 0 0 0 0 k m n a b
 met_then (Err stop.Lost) k m n a b = met_both 0 0 0 0 k m n a b
+met_then (Err stop.Split) k m n a b = met_both 0 0 0 0 k m n a b
 met_then (Err stop.Empty) k m n a b = met_both 0 0 1 0 k m n a b
 met_then (Err stop.Worn) k m n a b = met_both 0 0 0 1 k m n a b
 met_then (Err stop.Deep) k m n a b = met_both 0 0 0 0 k m n a b
 
--- A lost attempt met nothing, and lost an exchange.
-pub met_lost : {T : Type 0} (r : Result T Stop) (m m' : MyTree) → r ≡ Err stop.Lost → HasStopped r m m' → HasMet 0 0 m m' × (losses m < losses m')
-met_lost r m m' e h = (subst (λ (x : Result _ Stop). HasMetBy x m m') e h.0, h.1 e)
+-- An attempt after which another turn may follow met nothing; an exchange was lost, or a base was split.
+pub met_turn : {T : Type 0} (r : Result T Stop) (m m' : MyTree) → (r ≡ Err stop.Lost) ⊎ (r ≡ Err stop.Split) → HasStopped r m m'
+    → HasMet 0 0 m m' × ((losses m < losses m') ⊎ (splits m < splits m'))
+met_turn r m m' e h = ⊎_elim (λ (l : r ≡ Err stop.Lost). (subst (λ (x : Result _ Stop). HasMetBy x m m') l h.0, inl (h.1 l)))
+    (λ (s : r ≡ Err stop.Split). (subst (λ (x : Result _ Stop). HasMetBy x m m') s h.0, inr (h.2 s))) e
 
--- Each lost exchange is a turn less.
-pub one_turn_less : (a b : Spent) (budget : ℕ) (m m' : MyTree) → a.lost < budget → budget ≤ 4294967295 → IsSpent a b m m' → losses m < losses m'
-    → budget - b.lost < budget - a.lost
-one_turn_less a b budget m m' room most spent more = let sum = spent.lost (omega arith) in omega arith
+-- What was paid in two parts.
+pub paid_both : (a b c : Spent) (k m n : MyTree) → IsPaid a b k m → IsPaid b c m n → IsPaid a c k n
+paid_both a b c k m n x y = let more = x.more in let more' = y.more in let cut = x.more_splits in let cut' = y.more_splits in record {
+  more = omega arith;
+  lost = λ fits. let one = x.lost fits in let two = y.lost (omega arith) in omega arith;
+  helped = y.helped ∙ x.helped;
+  more_splits = omega arith;
+  passed = λ fits. let one = x.passed fits in let two = y.passed (omega arith) in omega arith;
+}
 
--- What was spent doesn't fall, and has a last value.
-pub spends_more : (a b c : Spent) (k m n : MyTree) → a.lost ≡ 0 → IsSpent a b k m → IsSpent b c m n → b.lost ≤ c.lost
-spends_more a b c k m n none x y = let zero = none in let one = x.lost (omega arith) in let two = y.lost (omega arith) in omega arith
+-- Nothing was paid.
+pub none_paid : (a : Spent) (m m' : MyTree) → losses m' ≡ losses m → splits m' ≡ splits m → IsPaid a a m m'
+none_paid a m m' same same' = record {
+  more = omega arith;
+  lost = λ fits. omega arith;
+  helped = refl;
+  more_splits = omega arith;
+  passed = λ fits. omega arith;
+}
+
+-- Exchanges alone were lost, and no base was split.
+pub paid_of : (a b : Spent) (m m' : MyTree) → IsSpent a b m m' → splits m' ≡ splits m → IsPaid a b m m'
+paid_of a b m m' x same = let also = x.passed in record {
+  more = x.more;
+  lost = x.lost;
+  helped = x.helped;
+  more_splits = omega arith;
+  passed = λ fits. omega arith;
+}
+
+-- Each such turn is a turn less.
+pub one_turn_less : (a b : Spent) (budget : ℕ) (m m' : MyTree) → min 4294967295 (total a) < budget → budget ≤ 4294967295 → IsPaid a b m m'
+    → (losses m < losses m') ⊎ (splits m < splits m') → budget - total b < budget - total a
+one_turn_less a b budget m m' room most paid more = let sum = paid.lost (omega arith) in let cut = paid.passed (omega arith) in let also = paid.helped in
+    let up = paid.more in let up' = paid.more_splits in ⊎_elim
+    (λ (l : losses m < losses m'). let less : budget - total b < budget - total a = omega arith in less)
+    (λ (l : splits m < splits m'). let less : budget - total b < budget - total a = omega arith in less) more
+
+-- What was spent doesn't fall.
+pub spends_more : (a b c : Spent) (k m n : MyTree) → (a.lost ≡ 0) × (a.helped ≡ 0) × (a.passed ≡ 0) → IsPaid a b k m → IsPaid b c m n → total b ≤ total c
+spends_more a b c k m n none x y = let zero = none.0 in let zero' = none.2 in let one = x.lost (omega arith) in let two = y.lost (omega arith) in
+    let cut = x.passed (omega arith) in let cut' = y.passed (omega arith) in let also = y.helped in omega arith

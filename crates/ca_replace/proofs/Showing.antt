@@ -1,47 +1,92 @@
 -- What an attempt of a call looks at, and what it comes to.
-use Rattle.std.proofs.Common.{◌≡◌, ℕ, Bool, true, false, ◌<◌, ◌≤◌, List, [], ◌∷◌, ◌++◌, length, map, get_or, Result, Ok, Err, IsOk, Some, sym, refl, ap, ◌∙◌, subst, arith}
+use Rattle.std.proofs.Common.{◌≡◌, ℕ, Bool, true, false, ◌<◌, ◌≤◌, List, [], ◌∷◌, ◌++◌, length, map, get_or, Result, Ok, Err, IsOk, None, Some, sym, refl, ap, ◌∙◌, subst, ⊎_elim, arith}
+use Rattle.std.proofs.lemmas.List.{length-map}
+use denote.Ref.{Bor}
 use Rattle.ca_model.specs.Event.{Event, Entry, WriteNew}
+use Rattle.ca_model.specs.History.{History, after}
 use Rattle.ca_model.specs.Lawful.{IsPlaceFrom}
 use Rattle.ca_model.specs.StoreMap.{StoreMap, IsFound, IsStoreMap, get}
 use Rattle.ca_model.proofs.Edits.{map_after, found_pair}
 use Rattle.ca_model.proofs.Places.{IsPlace}
+use Rattle.ca_node.specs.declared.cursor.Cursor.{Cursor}
+use Rattle.ca_node.specs.declared.cursor.Spot.{Spot}
+use Rattle.ca_node.specs.declared.cursor.Spot.TheVariants as spot
 use Rattle.ca_node.specs.Laws.{starts_whole}
+use Rattle.ca_node.specs.Place.{part}
 use Rattle.ca_node.specs.Row.{object, pair}
-use Rattle.ca_node.specs.Told.{MyTree, IsBaseNote, IsKnown, led, IsLed, IsReadNow, entered}
+use Rattle.ca_node.specs.Told.{MyTree, with_upper, IsKnown, IsReadNow, entered, led_to_base, led_to_route, IsLed, IsLedToBase, IsLedToRoute}
 use Rattle.ca_node.specs.TreeView.{TreeView}
+use Rattle.ca_node.specs.Walking.{walked, IsWalked}
 use Rattle.ca_node.proofs.Looking.{starts_shorter}
+use Rattle.ca_node.proofs.Parts.{part_map, part_get}
 use Rattle.ca_replace.specs.declared.attempting.Stop.{Stop}
-use Rattle.ca_replace.specs.Attempting.{IsLooking, HasFetched, HasDoneAs, HasTriedTo, come_to}
+use Rattle.ca_replace.specs.Attempting.{IsLooking, HasFetched, HasDoneAs, HasTriedTo, IsQuiet, come_to}
+use Rattle.ca_replace.specs.Causes.{IsFull}
 use Rattle.ca_base.specs.declared.taking.NoRow.{NoRow}
-use Rattle.ca_base.specs.declared.taking.NoRow.TheVariants as norow
 use Rattle.ca_base.specs.Finding.{IsPlaceIn}
 use Rattle.ca_base.specs.Progress.{IsFurther, HasDone}
 use Rattle.ca_base.proofs.Searching.{found_object}
+use Rattle.ca_replace.proofs.Counted.{none_met}
 use Rattle.ca_replace.proofs.Entries.{known_read}
 use Rattle.ca_replace.proofs.Meeting.{further_on, done_on}
-use Rattle.ca_base.specs.Putting.{first_note, IsShownLast, HasTried}
+use Rattle.ca_base.specs.Putting.{first_note, IsRoom, IsShownLast, HasTried}
 use Rattle.ca_rows.specs.declared.sizes.Sizes.{Sizes}
 
--- After a load of the root link the base is shown last.
-pub looking : (z : Sizes) (m m' : MyTree) (base : ℕ) → IsLed m base m' → m.0.sizes ≡ z → 0 < z.rows → z.leaf ≤ 120 → IsLooking z m'.0.upper base
-looking z m m' base shown same some_rows most = let note = shown.0 in let more = shown.1 in
-    let both = subst (λ (y : Sizes). IsBaseNote y note × IsKnown y (led m.0.upper more note)) same
-    (shown.5 (subst (λ (y : Sizes). 0 < y.rows) (sym same) some_rows)) in let few = both.0.few in
-    subst (λ (x : MyTree). IsLooking z x.0.upper base) (sym shown.2) record {
+-- What isn't less is as much.
+not_less : (a b : ℕ) → ¬ (b < a) → a ≤ b
+not_less a b n = omega (arith, n)
+
+-- After a walk to a key's base that base is shown last.
+pub looking : (z : Sizes) (key : Bor (List ℕ)) (m m' : MyTree) (cursor : Cursor) → IsWalked z (spot.At key) m cursor m' → z.leaf ≤ 120
+    → IsLooking z m'.0.upper key.now cursor
+looking z key m m' cursor w most = let u : TreeView = walked m.0.upper w.more w.note w.ways w.loads in
+    let here : m'.0.upper ≡ u = ap (λ (x : MyTree). x.0.upper) w.now in
+    let has : map pair w.note.objects ≡ part w.note.place.span (after u.seen []) = subst (λ (v : TreeView).
+    map pair w.note.objects ≡ part w.note.place.span (after v.seen [])) here w.has in let known : IsKnown z u = subst (IsKnown z) here w.known in
+    let few = w.is_base.few in subst (λ (v : TreeView). IsLooking z v key.now cursor) (sym here) record {
       readable = record {
         noted = (0, refl);
-        here = shown.3;
-        is_base = both.0;
+        here = w.cursor_is.base;
+        is_base = w.is_base;
         few = omega arith;
-        ordered = subst (IsStoreMap z.keypos) (sym shown.4) (map_after z.keypos (m.0.upper.seen ++ more) [] both.1.edits tt);
+        ordered = subst (IsStoreMap z.keypos) (sym has)
+            (part_map z.keypos w.note.place.span (after u.seen []) (map_after z.keypos u.seen [] known.edits tt));
       };
-      map_is = shown.4;
-      known = both.1;
+      at = record { base = w.cursor_is.base; link = w.cursor_is.link; level = w.cursor_is.level; inside = w.inside };
+      about = w.sought;
+      has = has;
+      known = known;
     }
 
+-- On the way it learnt of others' edits alone, and lost nothing.
+pub walked_further : (z : Sizes) (spot : Spot) (m m' : MyTree) (cursor : Cursor) → IsWalked z spot m cursor m' → IsFurther m.0.upper m'.0.upper
+walked_further z spot m m' cursor w = subst (λ (x : MyTree). IsFurther m.0.upper x.0.upper) (sym w.now)
+    record { number = refl; seen = (w.more, refl); log = refl; counts = refl }
+
+pub walked_quiet : (z : Sizes) (spot : Spot) (m m' : MyTree) (cursor : Cursor) → IsWalked z spot m cursor m' → IsQuiet m m'
+walked_quiet z spot m m' cursor w = subst (IsQuiet m) (sym w.now) record { lost = refl; met = none_met m; most = refl; splits_are = refl }
+
+-- So it did by the load of a link, after which the history that it has seen is known.
+pub led_further : (z : Sizes) (link : ℕ) (m m' : MyTree) (row : ℕ) → IsLed link m row m' → m.0.sizes ≡ z → 0 < z.rows
+    → (u : TreeView) × (m' ≡ with_upper m u) × IsFurther m.0.upper m'.0.upper × IsKnown z m'.0.upper
+led_further z link m m' row led sized some_rows = let rows : 0 < m.0.sizes.rows = subst (λ (y : Sizes). 0 < y.rows) (sym sized) some_rows in ⊎_elim
+    (λ (b : IsLedToBase link m row m'). (
+      led_to_base m.0.upper b.more b.note,
+      b.now,
+      subst (λ (x : MyTree). IsFurther m.0.upper x.0.upper) (sym b.now) (record { number = refl; seen = (b.more, refl); log = refl; counts = refl }),
+      subst (λ (x : MyTree). IsKnown z x.0.upper) (sym b.now) (subst (λ (y : Sizes). IsKnown y (led_to_base m.0.upper b.more b.note)) sized (b.known rows).1),
+    ))
+    (λ (w : IsLedToRoute link m row m'). (
+      led_to_route m.0.upper w.more w.way,
+      w.now,
+      subst (λ (x : MyTree). IsFurther m.0.upper x.0.upper) (sym w.now) (record { number = refl; seen = (w.more, refl); log = refl; counts = refl }),
+      subst (λ (x : MyTree). IsKnown z x.0.upper) (sym w.now) (subst (λ (y : Sizes). IsKnown y (led_to_route m.0.upper w.more w.way)) sized (w.known rows).1),
+    ))
+    led
+
 -- So it is the one that an update takes the place of.
-pub shown_last : (z : Sizes) (u : TreeView) (base : ℕ) → IsLooking z u base → IsShownLast z u base
-shown_last z u base l = record { noted = l.readable.noted; here = l.readable.here; is_base = l.readable.is_base }
+pub shown_last : (z : Sizes) (u : TreeView) (key : List ℕ) (cursor : Cursor) → IsLooking z u key cursor → IsShownLast z u cursor.base
+shown_last z u key cursor l = record { noted = l.readable.noted; here = l.readable.here; is_base = l.readable.is_base }
 
 -- Nothing changed.
 pub stopped : (z : Sizes) (u v : TreeView) → IsKnown z u → v ≡ u → IsFurther u v × IsKnown z v
@@ -70,24 +115,43 @@ tried_on tells z (Ok x) u w v f h = ((h.0.0, h.0.1, done_on u w v h.0.0 f h.0.2)
 tried_on tells z (Err stop) u w v f h = (further_on u w v f h.0, h.1)
 
 -- The object that was found has the key: a new one isn't put.
-pub not_new : (z : Sizes) (u : TreeView) (base : ℕ) (k o : List ℕ) (place : Result ℕ ℕ) → IsOk place → IsLooking z u base
+pub not_new : (z : Sizes) (u : TreeView) (cursor : Cursor) (k o : List ℕ) (place : Result ℕ ℕ) → IsOk place → IsLooking z u k cursor
     → IsPlace (map pair (first_note u.notes).objects) k place → IsReadNow (WriteNew k o false) u
-not_new z u base k o (Ok at) ok l p = (
+not_new z u cursor k o (Ok at) ok l p = (
   refl,
-  λ none. let found = p.equal in let same : get (map pair (first_note u.notes).objects) k ≡ [] = ap (λ (m : StoreMap). get m k) l.map_is ∙ none in
-      absurd cc,
+  λ none. let found = p.equal in let same : get (map pair (first_note u.notes).objects) k ≡ [] = ap (λ (m : StoreMap). get m k) l.has
+      ∙ (part_get (first_note u.notes).place.span (after u.seen []) k l.about ∙ none) in absurd cc,
 )
-not_new z u base k o (Err at) ok l p = absurd cc
+not_new z u cursor k o (Err at) ok l p = absurd cc
+
+-- Where no object of the base has the key, none has it.
+pub none_found : (z : Sizes) (u : TreeView) (cursor : Cursor) (k : List ℕ) (at : ℕ) → IsLooking z u k cursor
+    → IsPlace (map pair (first_note u.notes).objects) k (Err at) → IsFound (after u.seen []) k None
+none_found z u cursor k at l p = sym (part_get (first_note u.notes).place.span (after u.seen []) k l.about)
+    ∙ (ap (λ (m : StoreMap). get m k) (sym l.has) ∙ p.equal)
+
+-- What an object of the base is, that is the key's object.
+pub one_found : (z : Sizes) (u : TreeView) (cursor : Cursor) (k o : List ℕ) → IsLooking z u k cursor
+    → IsFound (map pair (first_note u.notes).objects) k (Some o) → IsFound (after u.seen []) k (Some o)
+one_found z u cursor k o l found = sym (part_get (first_note u.notes).place.span (after u.seen []) k l.about)
+    ∙ (ap (λ (m : StoreMap). get m k) (sym l.has) ∙ found)
 
 -- A call that edits nothing is done.
-pub read_done : {T : Type 0} (tells : T → Event → Type 0) (z : Sizes) (base : ℕ) (u w v : TreeView) (x : T) (event : Event) → tells x event → IsFurther u w
-    → IsLooking z w base → IsReadNow event w → v ≡ entered w event → HasTriedTo tells z (Ok x) u v
-read_done tells z base u w v x event t f l now same = let d = entered_done z u w v event f l.known now same in ((event, t, d.0), d.1)
+pub read_done : {T : Type 0} (tells : T → Event → Type 0) (z : Sizes) (u w v : TreeView) (x : T) (event : Event) → tells x event → IsFurther u w
+    → IsKnown z w → IsReadNow event w → v ≡ entered w event → HasTriedTo tells z (Ok x) u v
+read_done tells z u w v x event t f k now same = let d = entered_done z u w v event f k now same in ((event, t, d.0), d.1)
+
+-- A read of a key is done, after a walk to its base.
+pub read_tried : (z : Sizes) (key : Bor (List ℕ)) (m w m' : MyTree) (cursor : Cursor) (event : Event) (found : Bool) → IsWalked z (spot.At key) m cursor w
+    → z.leaf ≤ 120 → IsReadNow event w.0.upper → m' ≡ with_upper w (entered w.0.upper event)
+    → HasTriedTo (λ (_ : Bool) (e : Event). e ≡ event) z (Ok found) m.0.upper m'.0.upper
+read_tried z key m w m' cursor event found walk most now same = read_done (λ (_ : Bool) (e : Event). e ≡ event) z m.0.upper w.0.upper m'.0.upper found event
+    refl (walked_further z (spot.At key) m w cursor walk) (looking z key m w cursor walk most).known now (ap (λ (x : MyTree). x.0.upper) same)
 
 -- The place that was found is one among the objects of the base that was shown last.
-pub place_still : (z : Sizes) (m m' : MyTree) (base : ℕ) (k : List ℕ) (place : Result ℕ ℕ) → m' ≡ m → IsLooking z m.0.upper base
-    → IsPlaceIn z m.0.upper base k place → IsPlace (map pair (first_note m'.0.upper.notes).objects) k place
-place_still z m m' base k place same l p = subst (λ (x : MyTree). IsPlace (map pair (first_note x.0.upper.notes).objects) k place) (sym same)
+pub place_still : (z : Sizes) (m m' : MyTree) (cursor : Cursor) (k : List ℕ) (place : Result ℕ ℕ) → m' ≡ m → IsLooking z m.0.upper k cursor
+    → IsPlaceIn z m.0.upper cursor.base k place → IsPlace (map pair (first_note m'.0.upper.notes).objects) k place
+place_still z m m' cursor k place same l p = subst (λ (x : MyTree). IsPlace (map pair (first_note x.0.upper.notes).objects) k place) (sym same)
     (p (first_note m.0.upper.notes) l.readable)
 
 -- A call that was told as this event is done, after a look.
@@ -96,12 +160,27 @@ pub did : {T : Type 0} (tells : T → Event → Type 0) (z : Sizes) (event : Eve
 did tells z event x u w v t f h = ((event, t, done_on u w v event f (subst (λ (e : Event). HasDone e w v) h.0.1 h.0.2)), h.1)
 
 -- What was copied is the key's object.
-pub fetched : (z : Sizes) (u : TreeView) (base at : ℕ) (key old : List ℕ) → IsLooking z u base → IsPlace (map pair (first_note u.notes).objects) key (Ok at)
-    → old ≡ object (get_or (first_note u.notes).objects at []) → HasFetched z u key (Ok at) old
-fetched z u base at key old l p e = let note = first_note u.notes in let found = found_object note key old at p e in (
-  subst (λ (m : StoreMap). IsFound m key (Some old)) l.map_is found,
+pub fetched : (z : Sizes) (u : TreeView) (cursor : Cursor) (at : ℕ) (key old : List ℕ) → IsLooking z u key cursor
+    → IsPlace (map pair (first_note u.notes).objects) key (Ok at) → old ≡ object (get_or (first_note u.notes).objects at []) → HasFetched z u key (Ok at) old
+fetched z u cursor at key old l p e = let note = first_note u.notes in let found = found_object note key old at p e in (
+  one_found z u cursor key old l found,
   found_pair z.keypos (map pair note.objects) key old l.readable.ordered found,
   sym e,
+)
+
+-- A full base has no room for a key that is new there.
+pub full_there : (z : Sizes) (u v : TreeView) (cursor : Cursor) (key : List ℕ) (place : Result ℕ ℕ) (many : ℕ) → IsLooking z u key cursor
+    → v.seen ≡ u.seen → IsPlace (map pair (first_note u.notes).objects) key place → ¬ IsRoom place many z.leaf → many ≡ length (first_note u.notes).objects
+    → IsFull z (Some key) (after v.seen [])
+full_there z u v cursor key (Ok at) many l same p no_room is = absurd (no_room tt)
+full_there z u v cursor key (Err at) many l same p no_room is = subst (λ (h : History). IsFull z (Some key) (after h [])) (sym same) (
+  none_found z u cursor key at l p,
+  (
+    (first_note u.notes).place.span,
+    l.about,
+    let long = length-map (first_note u.notes).objects pair in let e = ap (λ (x : StoreMap). length x) l.has in
+        let full : z.leaf ≤ many = not_less z.leaf many no_room in omega arith,
+  ),
 )
 
 tried_from : (z : Sizes) (event : Event) (r : Result Bool NoRow) (u v : TreeView) → IsKnown z u → HasTried event z r u v
@@ -111,9 +190,7 @@ tried_from z event (Ok false) u v k h = subst (λ (y : TreeView). IsFurther u y 
   record { number = refl; seen = starts_whole u.seen; log = refl; counts = refl },
   record { lawful = k.lawful; past = k.past; edits = k.edits; by_passes = k.by_passes },
 )
-tried_from z event (Err norow.Lost) u v k h = stopped z u v k h
-tried_from z event (Err norow.Empty) u v k h = stopped z u v k h
-tried_from z event (Err norow.Worn) u v k h = stopped z u v k h
+tried_from z event (Err why) u v k h = stopped z u v k h
 
 -- What was tried, by what became of its exchange.
 pub tried_by : (z : Sizes) (event : TreeView → Event) (r : Result Bool NoRow) (x : Result (Unit {0}) Stop) (u w v : TreeView) → w ≡ u → x ≡ come_to r

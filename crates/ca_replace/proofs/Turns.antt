@@ -1,5 +1,5 @@
 -- A call's attempts, one after another, and its end.
-use Rattle.std.proofs.Common.{◌≡◌, ℕ, false, [], Result, Ok, Err, Vec, sym, refl, ap, ◌∙◌, subst, inl, ⊎_elim}
+use Rattle.std.proofs.Common.{◌≡◌, ◌⊎◌, ℕ, false, [], Result, Ok, Err, Vec, sym, refl, ap, ◌∙◌, subst, inl, ⊎_elim}
 use Rattle.std.specs.Global.{Global}
 use Rattle.atomic_table.specs.declared.shared.Seat.{Seat}
 use Rattle.atomic_table.specs.Seated.{TableId}
@@ -13,6 +13,7 @@ use Rattle.ca_node.specs.Links.{IsIn}
 use Rattle.ca_node.specs.Told.{MyTree, IsKnown}
 use Rattle.ca_node.specs.TreeView.{TreeView, pinned, unpinned}
 use Rattle.ca_replace.specs.declared.attempting.Stop.{Stop}
+use Rattle.ca_replace.specs.declared.attempting.Stop.TheVariants as stop
 use Rattle.ca_replace.specs.Attempting.{HasDoneAs, HasTriedTo}
 use Rattle.ca_base.specs.Progress.{IsFurther, HasDone, IsRefused}
 use Rattle.ca_replace.specs.Resting.{IsResting, known_of}
@@ -130,6 +131,11 @@ none_pinned table z number kept kept' seat one e u r is same = let none = holds_
 pub stopped_further : {T : Type 0} (tells : T → Event → Type 0) (z : Sizes) (r : Result T Stop) (why : Stop) (u v : TreeView) → r ≡ Err why
     → HasTriedTo tells z r u v → IsFurther u v
 stopped_further tells z r why u v e h = (subst (λ (x : Result _ Stop). HasTriedTo tells z x u v) e h).0
+
+-- So did one after which another turn may follow.
+pub turn_further : {T : Type 0} (tells : T → Event → Type 0) (z : Sizes) (r : Result T Stop) (u v : TreeView) → (r ≡ Err stop.Lost) ⊎ (r ≡ Err stop.Split)
+    → HasTriedTo tells z r u v → IsFurther u v
+turn_further tells z r u v e h = ⊎_elim (λ l. stopped_further tells z r stop.Lost u v l h) (λ s. stopped_further tells z r stop.Split u v s h) e
 
 pub no_further : (u : TreeView) → IsFurther u u
 no_further u = record { number = refl; seen = starts_whole u.seen; log = refl; counts = refl }

@@ -1,5 +1,5 @@
 -- Attempts of a call: each looks at the tree anew.
-use Rattle.std.specs.Prelude.{◌≡◌, ℕ, ◌<◌, ◌≤◌, Bool, true, false, List, [], length, map, slice_range, None, Some, Result, Ok, Err}
+use Rattle.std.specs.Prelude.{◌≡◌, ℕ, ◌+◌, ◌-◌, ◌<◌, ◌≤◌, min, Bool, true, false, List, [], length, map, slice_range, None, Some, Result, Ok, Err}
 use Rattle.ca_model.specs.declared.outcome.Counter.TheVariants as counter
 use Rattle.ca_model.specs.declared.outcome.Outcome.{Outcome}
 use Rattle.ca_model.specs.declared.outcome.Outcome.TheVariants as outcome
@@ -7,6 +7,8 @@ use Rattle.ca_model.specs.declared.outcome.Spent.{Spent}
 use Rattle.ca_model.specs.Event.{Event}
 use Rattle.ca_model.specs.History.{after}
 use Rattle.ca_model.specs.StoreMap.{IsFound, IsPair}
+use Rattle.ca_node.specs.declared.cursor.Cursor.{Cursor}
+use Rattle.ca_node.specs.Place.{HasKey, part}
 use Rattle.ca_node.specs.Row.{pair}
 use Rattle.ca_base.specs.Counting.{losses, HasMet}
 use Rattle.ca_node.specs.Told.{IsKnown, MyTree}
@@ -17,15 +19,18 @@ use Rattle.ca_replace.specs.declared.attempting.Stop.{Stop}
 use Rattle.ca_replace.specs.declared.attempting.Stop.TheVariants as stop
 use Rattle.ca_base.specs.declared.taking.NoRow.{NoRow}
 use Rattle.ca_base.specs.declared.taking.NoRow.TheVariants as norow
-use Rattle.ca_base.specs.Finding.{IsReadable}
+use Rattle.ca_base.specs.Finding.{IsReadable, IsAtCursor}
 use Rattle.ca_base.specs.Progress.{IsFurther, HasDone}
 use Rattle.ca_base.specs.Putting.{first_note, object_at}
 use Rattle.ca_rows.specs.declared.sizes.Sizes.{Sizes}
 
--- The base was shown last, and has the last state that was seen, of a history that is known.
-pub record IsLooking (z : Sizes) (u : TreeView) (base : ℕ) : Type 0 where
-  pub readable : IsReadable z u base (first_note u.notes)
-  pub map_is : map pair (first_note u.notes).objects ≡ after u.seen []
+-- The base under the cursor was shown last. This key is one of those that are led there, and the base has what the last state that was seen has
+-- of them, of a history that is known.
+pub record IsLooking (z : Sizes) (u : TreeView) (key : List ℕ) (cursor : Cursor) : Type 0 where
+  pub readable : IsReadable z u cursor.base (first_note u.notes)
+  pub at : IsAtCursor z (first_note u.notes) cursor
+  pub about : HasKey (first_note u.notes).place.span key
+  pub has : map pair (first_note u.notes).objects ≡ part (first_note u.notes).place.span (after u.seen [])
   pub known : IsKnown z u
 
 -- The key's object was copied, or there is none.
@@ -42,45 +47,74 @@ abbrev pub HasTriedTo : {T : Type 0} → (T → Event → Type 0) → Sizes → 
 HasTriedTo tells z (Ok x) u v = HasDoneAs (tells x) u v × IsKnown z v
 HasTriedTo tells z (Err stop) u v = IsFurther u v × IsKnown z v
 
+-- what an attempt comes to that found no row
+abbrev pub stop_of : NoRow → Stop
+stop_of norow.Lost = stop.Lost
+stop_of norow.Empty = stop.Empty
+stop_of norow.Worn = stop.Worn
+
+-- what an attempt comes to that split a full base, given what became of its exchange
+abbrev pub split_to : Result Bool NoRow → Stop
+split_to (Ok true) = stop.Split
+split_to (Ok false) = stop.Lost
+split_to (Err why) = stop_of why
+
 -- what an attempt comes to, given what became of its exchange
 abbrev pub come_to : Result Bool NoRow → Result (Unit {0}) Stop
 come_to (Ok true) = Ok tt
 come_to (Ok false) = Err stop.Lost
-come_to (Err norow.Lost) = Err stop.Lost
-come_to (Err norow.Empty) = Err stop.Empty
-come_to (Err norow.Worn) = Err stop.Worn
+come_to (Err why) = Err (stop_of why)
 
 -- Attempts did the call, which is told so; or it is refused, and they learnt of others' edits alone.
 abbrev pub HasAttempted : {T : Type 0} → (T → Event → Type 0) → Result T Refusal → TreeView → TreeView → Type 0
 HasAttempted tells (Ok x) u v = HasDoneAs (tells x) u v
 HasAttempted tells (Err why) u v = IsFurther u v
 
--- what a call comes to by its last attempt, which found the rows that it wanted, given what was spent
-abbrev pub refused_as : {T : Type 0} → Result T Stop → Spent → Result T Refusal
-refused_as (Ok x) spent = Ok x
-refused_as (Err stop.Lost) spent = Err (refusal.Busy spent)
-refused_as (Err stop.Empty) spent = Err (refusal.Busy spent)
-refused_as (Err stop.Worn) spent = Err (refusal.Worn counter.PoolTag)
-refused_as (Err stop.Deep) spent = Err (refusal.Deep 0)
+-- what a call comes to by its last attempt, which found the rows that it wanted, given what was spent and how many levels there are
+abbrev pub refused_as : {T : Type 0} → Result T Stop → Spent → ℕ → Result T Refusal
+refused_as (Ok x) spent levels = Ok x
+refused_as (Err stop.Lost) spent levels = Err (refusal.Busy spent)
+refused_as (Err stop.Split) spent levels = Err (refusal.Busy spent)
+refused_as (Err stop.Empty) spent levels = Err (refusal.Busy spent)
+refused_as (Err stop.Worn) spent levels = Err (refusal.Worn counter.PoolTag)
+refused_as (Err stop.Deep) spent levels = Err (refusal.Deep levels)
 
 -- What an attempt met of the pool, by what it came to: where no row was free, the head was empty once; where the tag can rise no more, it was at
 -- its last value once.
 abbrev pub HasMetBy : {T : Type 0} → Result T Stop → MyTree → MyTree → Type 0
 HasMetBy (Ok x) m m' = HasMet 0 0 m m'
 HasMetBy (Err stop.Lost) m m' = HasMet 0 0 m m'
+HasMetBy (Err stop.Split) m m' = HasMet 0 0 m m'
 HasMetBy (Err stop.Empty) m m' = HasMet 1 0 m m'
 HasMetBy (Err stop.Worn) m m' = HasMet 0 1 m m'
 HasMetBy (Err stop.Deep) m m' = HasMet 0 0 m m'
 
--- So it met the pool, and where it was lost to another pass, an exchange was lost.
+-- how many splits a seat carried out
+abbrev pub splits : MyTree → ℕ
+splits m = m.0.upper.splits
+
+-- So it met the pool, and where it was lost to another pass, an exchange was lost; where it split a base, one more was split.
 abbrev pub HasStopped : {T : Type 0} → Result T Stop → MyTree → MyTree → Type 0
-HasStopped r m m' = HasMetBy r m m' × (r ≡ Err stop.Lost → losses m < losses m')
+HasStopped r m m' = HasMetBy r m m' × (r ≡ Err stop.Lost → losses m < losses m') × (r ≡ Err stop.Split → splits m < splits m')
+
+-- What was spent was added up: the exchanges that were lost, and the splits, each up to the last number that 32 bits hold.
+pub record IsPaid (before now : Spent) (m m' : MyTree) : Type 0 where
+  pub more : losses m ≤ losses m'
+  pub lost : before.lost ≤ 4294967295 → now.lost ≡ min 4294967295 (before.lost + (losses m' - losses m))
+  pub helped : now.helped ≡ before.helped
+  pub more_splits : splits m ≤ splits m'
+  pub passed : before.passed ≤ 4294967295 → now.passed ≡ min 4294967295 (before.passed + (splits m' - splits m))
+
+-- how many turns were spent in all
+abbrev pub total : Spent → ℕ
+total spent = spent.lost + spent.helped + spent.passed
 
 -- No exchange was lost, nothing was met of the pool, and no row more was held.
 pub record IsQuiet (m m' : MyTree) : Type 0 where
   pub lost : losses m' ≡ losses m
   pub met : HasMet 0 0 m m'
   pub most : m'.0.most ≡ m.0.most
+  pub splits_are : splits m' ≡ splits m
 
 -- Where the call is refused for want of levels, this holds.
 abbrev pub IfDeep : {T : Type 0} → Outcome T → Type 0 → Type 0

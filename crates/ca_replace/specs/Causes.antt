@@ -10,7 +10,9 @@ use Rattle.ca_model.specs.declared.outcome.Spent.{Spent}
 use Rattle.ca_base.specs.Counting.{losses}
 use Rattle.ca_model.specs.History.{after}
 use Rattle.ca_model.specs.StoreMap.{StoreMap, IsFound}
+use Rattle.ca_node.specs.Place.{Span, HasKey, part}
 use Rattle.ca_node.specs.Told.{MyTree}
+use Rattle.ca_replace.specs.Attempting.{splits, total}
 use Rattle.ca_replace.specs.Resting.{StoreView}
 use Rattle.ca_replace.specs.declared.refusing.Refusal.{Refusal}
 use Rattle.ca_replace.specs.declared.refusing.Refusal.TheVariants as refusal
@@ -25,7 +27,7 @@ HasLooked m m' = m.0.pin.looks < m'.0.pin.looks
 -- A call with this budget whose attempt began with so many rows kept is refused so, once rows were given back and these turns were spent.
 abbrev pub IsRefill : ℕ → ℕ → ℕ → ℕ → Spent → Refusal → MyTree → MyTree → Vec Kept Global → Type 0
 -- Its turns were lost.
-IsRefill passes number budget begun spent (refusal.Busy s) m m' kept' = (s ≡ spent) × (budget ≤ s.lost)
+IsRefill passes number budget begun spent (refusal.Busy s) m m' kept' = (s ≡ spent) × (budget ≤ total s)
 -- The attempt began with no row kept, or another pass lagged.
 IsRefill passes number budget begun spent (refusal.Full cause) m m' kept' = (cause.kept ≡ begun) × ((begun ≡ 0) ⊎ (cause.lag ≢ None))
     × HasLooked m m' × IsLag passes number cause.lag m'.0.pin
@@ -40,21 +42,22 @@ IsRefill passes number budget begun spent (refusal.Worn counter.Sequence) m m' k
 abbrev pub HasBegun : ℕ → ℕ → MyTree → MyTree → Type 0
 HasBegun begun kept m m' = ((begun ≡ kept) × (m'.0.empty ≡ m.0.empty + 1)) ⊎ (m.0.empty + 2 ≤ m'.0.empty)
 
--- A call that may add this key, if any, finds no room in a base with this map: no object there has the key, and there are as many as a leaf may have.
+-- A call that may add this key, if any, finds no room: no object of the map has the key, and of some part of the keys, which has this one, there
+-- are as many objects as a leaf may have.
 abbrev pub IsFull : Sizes → Option (List ℕ) → StoreMap → Type 0
 IsFull z None map = ⊥
-IsFull z (Some key) map = IsFound map key None × (z.leaf ≤ length map)
+IsFull z (Some key) map = IsFound map key None × ((span : Span) × HasKey span key × (z.leaf ≤ length (part span map)))
 
 -- A call with this budget that may add this key, if any, may be refused so, given what its pass knew and kept before it and what it knows and keeps behind it.
 abbrev pub IsCaused : Sizes → ℕ → ℕ → Option (List ℕ) → Refusal → MyTree → Vec Kept Global → MyTree → Vec Kept Global → Type 0
--- So many exchanges were lost in this call.
-IsCaused z number budget adds (refusal.Busy spent) m kept m' kept' = (budget ≤ spent.lost) × (spent.lost ≡ min 4294967295 (losses m' - losses m))
-    × (spent.helped ≡ 0) × (spent.passed ≡ 0)
+-- So many exchanges were lost in this call, and so many bases were split.
+IsCaused z number budget adds (refusal.Busy spent) m kept m' kept' = (budget ≤ total spent) × (spent.lost ≡ min 4294967295 (losses m' - losses m))
+    × (spent.helped ≡ 0) × (spent.passed ≡ min 4294967295 (splits m' - splits m))
 -- The last attempt found the head empty. It began with no row kept, or another pass lagged as rows were given back in this call.
 IsCaused z number budget adds (refusal.Full cause) m kept m' kept' = HasBegun cause.kept (vec_len kept) m m' × ((cause.kept ≡ 0) ⊎ (cause.lag ≢ None))
     × HasLooked m m' × IsLag z.passes number cause.lag m'.0.pin
--- By the last state that the pass has seen the key is a new one, and there is no room for it.
-IsCaused z number budget adds (refusal.Deep level) m kept m' kept' = (level ≡ 0) × IsFull z adds (after m'.0.upper.seen [])
+-- By the last state that the pass has seen the key is a new one, and there is no room for it in a base at the last level.
+IsCaused z number budget adds (refusal.Deep level) m kept m' kept' = (level ≡ z.levels) × IsFull z adds (after m'.0.upper.seen [])
 -- The head's tag was at its last value as a row was to be taken.
 IsCaused z number budget adds (refusal.Worn counter.PoolTag) m kept m' kept' = m'.0.worn ≡ m.0.worn + 1
 -- The last attempt found the head empty, the epoch was at its last value as rows were given back in this call, and rows are kept.

@@ -8,8 +8,9 @@ ghost use Rattle.ca_model.specs.StoreMap.{IsPair};
 ghost use Rattle.ca_node.specs.Row.{pair};
 ghost use Rattle.ca_replace.specs.declared.attempting.Stop.TheVariants.{Deep as IsDeep};
 ghost use Rattle.ca_replace.specs.Causes.{IsFull};
-ghost use Rattle.ca_replace.specs.Attempting.{IsLooking, HasFetched, HasTriedTo, come_to, HasStopped, IsQuiet};
-ghost use Rattle.ca_base.specs.Counting.{IsSpent};
+ghost use Rattle.ca_replace.specs.Attempting.{IsLooking, HasFetched, HasTriedTo, come_to, split_to, HasStopped, IsPaid, IsQuiet};
+ghost use Rattle.ca_replace.specs.Made.{IsTuned};
+ghost use Rattle.ca_node.specs.Told.{IsKnown};
 ghost use Rattle.ca_base.specs.Progress.{IsFurther};
 ghost use Rattle.ca_base.specs.Putting.{object_at, IsRoom, IsFor, first_note, put_event};
 ghost use Rattle.ca_base.specs.Taking.{AreHeld};
@@ -17,9 +18,13 @@ ghost use Rattle.ca_rows.specs.declared.sizes.Sizes.{Sizes};
 ghost use Rattle.ca_rows.specs.Calls.{IsOf, IsSame};
 
 use crate::looking::copy_at;
-use ca_base::{NoRow, Putting, count, put_at, remove_at, search};
+use ca_adapt::Tuning;
+use ca_base::{NoRow, Putting, STATISTIC, count, put_at, remove_at, search, split_at};
 use ca_model::{Code, Spent};
-use ca_node::{Spot, TreePass, TreeSpace, walk};
+use ca_node::{Cursor, Spot, TreePass, TreeSpace, walk};
+
+// The last value of an attempt to join what is under a route.
+const LAST_ATTEMPT: u64 = (1 << 62) - 1;
 
 /// Why an attempt came to nothing.
 #[derive(Clone, Copy, Debug, PartialEq, Eq)]
@@ -30,8 +35,10 @@ pub(crate) enum Stop {
     Empty,
     /// The pool's tag can rise no more.
     Worn,
-    /// The base that must take a new key has as many as it may.
+    /// The base that must take a new key has as many as it may, and stands at the last level.
     Deep,
+    /// That base was split, and so there may be room now.
+    Split,
 }
 
 /// A call that may edit, and what one attempt of it does.
@@ -59,7 +66,7 @@ pub(crate) trait Attempt {
         &self,
         space: &TreeSpace,
         pass: &mut TreePass,
-        leaf: u8,
+        tuning: &Tuning,
         left: &mut Self::Left,
         room: &mut Self::Room,
         spent: &mut Spent,
@@ -68,7 +75,7 @@ pub(crate) trait Attempt {
         requires pinned { pass.old.seat.me.0.pin.pinned ≡ true }
         requires number { 0 < pass.old.seat.me.0.upper.number }
         requires none { AreHeld space.now.table.shared.key.rows pass.old.kept.rows pass.old.seat.me.0 [] }
-        requires leaf { (leaf ≡ space.now.table.shared.key.leaf) × (leaf ≤ 120) }
+        requires tuned { IsTuned space.now.table.shared.key tuning.now }
         requires may { may self.now space.now.table.shared.key }
         ensures same { IsSame pass.old.seat pass.new.seat }
         ensures number { pass.new.number ≡ pass.old.number }
@@ -77,12 +84,12 @@ pub(crate) trait Attempt {
         ensures tried { HasTriedTo (λ answer. tells self.now answer left.new) space.now.table.shared.key result pass.old.seat.me.0.upper
             pass.new.seat.me.0.upper }
         ensures deep { result ≡ Err IsDeep → IsFull space.now.table.shared.key (adds self.now) (after pass.new.seat.me.0.upper.seen []) }
-        ensures counted { IsSpent spent.old spent.new pass.old.seat.me pass.new.seat.me }
+        ensures counted { IsPaid spent.old spent.new pass.old.seat.me pass.new.seat.me }
         ensures found { HasStopped result pass.old.seat.me pass.new.seat.me };
 }
 
 /// The base that has the key, and the key's place among its objects. It is shown to the pass, which has seen the whole history then.
-pub(crate) fn find(space: &TreeSpace, pass: &mut TreePass, key: &[u8]) -> (u32, Result<u32, u32>)
+pub(crate) fn find(space: &TreeSpace, pass: &mut TreePass, key: &[u8]) -> (Cursor, Result<u32, u32>)
     requires own { IsOf space.now.table.shared.table_id space.now.table.shared.key pass.old.seat }
     requires pinned { pass.old.seat.me.0.pin.pinned ≡ true }
     requires leaf { space.now.table.shared.key.leaf ≤ 120 }
@@ -92,13 +99,13 @@ pub(crate) fn find(space: &TreeSpace, pass: &mut TreePass, key: &[u8]) -> (u32, 
     ensures still { (pass.new.seat.me.0.sizes ≡ pass.old.seat.me.0.sizes) × (pass.new.seat.me.0.pin ≡ pass.old.seat.me.0.pin)
         × (pass.new.seat.me.0.claims ≡ pass.old.seat.me.0.claims) }
     ensures quiet { IsQuiet pass.old.seat.me pass.new.seat.me }
-    ensures looking { IsLooking space.now.table.shared.key pass.new.seat.me.0.upper result.0 }
+    ensures looking { IsLooking space.now.table.shared.key pass.new.seat.me.0.upper key.now result.0 }
     ensures place { IsPlace (map pair (first_note pass.new.seat.me.0.upper.notes).objects) key.now result.1 }
     ensures further { IsFurther pass.old.seat.me.0.upper pass.new.seat.me.0.upper }
 {
-    let base = look(space, pass, key);
-    let place = search(space, pass, base, key);
-    (base, place)
+    let cursor = walk(space, pass, Spot::At(key));
+    let place = search(space, pass, cursor.base, key);
+    (cursor, place)
 }
 
 /// The base that has the key, and the key's place among its objects; then `old` is the key's object, or it is empty where there is none.
@@ -107,7 +114,7 @@ pub(crate) fn fetch(
     pass: &mut TreePass,
     key: &[u8],
     old: &mut Code,
-) -> (u32, Result<u32, u32>)
+) -> (Cursor, Result<u32, u32>)
     requires own { IsOf space.now.table.shared.table_id space.now.table.shared.key pass.old.seat }
     requires pinned { pass.old.seat.me.0.pin.pinned ≡ true }
     requires leaf { space.now.table.shared.key.leaf ≤ 120 }
@@ -117,42 +124,25 @@ pub(crate) fn fetch(
     ensures still { (pass.new.seat.me.0.sizes ≡ pass.old.seat.me.0.sizes) × (pass.new.seat.me.0.pin ≡ pass.old.seat.me.0.pin)
         × (pass.new.seat.me.0.claims ≡ pass.old.seat.me.0.claims) }
     ensures quiet { IsQuiet pass.old.seat.me pass.new.seat.me }
-    ensures looking { IsLooking space.now.table.shared.key pass.new.seat.me.0.upper result.0 }
+    ensures looking { IsLooking space.now.table.shared.key pass.new.seat.me.0.upper key.now result.0 }
     ensures place { IsPlace (map pair (first_note pass.new.seat.me.0.upper.notes).objects) key.now result.1 }
     ensures further { IsFurther pass.old.seat.me.0.upper pass.new.seat.me.0.upper }
     ensures fetched { HasFetched space.now.table.shared.key pass.new.seat.me.0.upper key.now result.1 old.new.items }
 {
-    let (base, place) = find(space, pass, key);
+    let (cursor, place) = find(space, pass, key);
     match place {
-        Ok(at) => copy_at(space, pass, base, at, old),
+        Ok(at) => copy_at(space, pass, cursor.base, at, old),
         Err(_between) => old.clear(),
     }
-    (base, place)
+    (cursor, place)
 }
 
-// The base that has the key.
-fn look(space: &TreeSpace, pass: &mut TreePass, key: &[u8]) -> u32
-    requires own { IsOf space.now.table.shared.table_id space.now.table.shared.key pass.old.seat }
-    requires pinned { pass.old.seat.me.0.pin.pinned ≡ true }
-    requires leaf { space.now.table.shared.key.leaf ≤ 120 }
-    ensures same { IsSame pass.old.seat pass.new.seat }
-    ensures number { pass.new.number ≡ pass.old.number }
-    ensures kept { pass.new.kept ≡ pass.old.kept }
-    ensures still { (pass.new.seat.me.0.sizes ≡ pass.old.seat.me.0.sizes) × (pass.new.seat.me.0.pin ≡ pass.old.seat.me.0.pin)
-        × (pass.new.seat.me.0.claims ≡ pass.old.seat.me.0.claims) }
-    ensures quiet { IsQuiet pass.old.seat.me pass.new.seat.me }
-    ensures looking { IsLooking space.now.table.shared.key pass.new.seat.me.0.upper result }
-    ensures further { IsFurther pass.old.seat.me.0.upper pass.new.seat.me.0.upper }
-{
-    walk(space, pass, Spot::At(key)).base
-}
-
-/// Puts an object at its key's place in the base that was shown last, where there is room.
+/// Puts an object at its key's place in the base that was shown last, where there is room; else it splits the base, if that isn't at the last level.
 pub(crate) fn put_there(
     space: &TreeSpace,
     pass: &mut TreePass,
-    leaf: u8,
-    base: u32,
+    tuning: &Tuning,
+    cursor: Cursor,
     place: Result<u32, u32>,
     why: Putting,
     object: &[u8],
@@ -164,8 +154,8 @@ pub(crate) fn put_there(
     requires pinned { pass.old.seat.me.0.pin.pinned ≡ true }
     requires number { 0 < pass.old.seat.me.0.upper.number }
     requires none { AreHeld space.now.table.shared.key.rows pass.old.kept.rows pass.old.seat.me.0 [] }
-    requires leaf { (leaf ≡ space.now.table.shared.key.leaf) × (leaf ≤ 120) }
-    requires looking { IsLooking space.now.table.shared.key pass.old.seat.me.0.upper base }
+    requires tuned { IsTuned space.now.table.shared.key tuning.now }
+    requires looking { IsLooking space.now.table.shared.key pass.old.seat.me.0.upper (slice_range object.now key_at key_end) cursor }
     requires within { (key_at ≤ key_end) × (key_end ≤ length object.now) }
     requires pair { IsPair space.now.table.shared.key.keypos (slice_range object.now key_at key_end, object.now) }
     requires place { IsPlace (map pair (first_note pass.old.seat.me.0.upper.notes).objects) (slice_range object.now key_at key_end) place }
@@ -180,24 +170,79 @@ pub(crate) fn put_there(
     ensures deep { OnOk place (result ≢ Err IsDeep) }
     ensures full { result ≡ Err IsDeep → IsFull space.now.table.shared.key (Some (slice_range object.now key_at key_end))
         (after pass.new.seat.me.0.upper.seen []) }
-    ensures counted { IsSpent spent.old spent.new pass.old.seat.me pass.new.seat.me }
+    ensures counted { IsPaid spent.old spent.new pass.old.seat.me pass.new.seat.me }
     ensures found { HasStopped result pass.old.seat.me pass.new.seat.me }
 {
-    let many = count(space, pass, base);
-    if !has_room(many, place, leaf) {
-        return Err(Stop::Deep);
+    let many = count(space, pass, cursor.base);
+    if !has_room(many, place, tuning.leaf) {
+        return Err(make_room(space, pass, tuning, cursor, many, spent));
     }
     let tried = put_at(
-        space, pass, base, many, place, why, object, key_at, key_end, spent,
+        space, pass, cursor, many, place, why, object, key_at, key_end, STATISTIC, spent,
     );
     outcome_of(tried)
+}
+
+// What an attempt comes to that met a full base: it splits the base, if that isn't at the last level.
+fn make_room(
+    space: &TreeSpace,
+    pass: &mut TreePass,
+    tuning: &Tuning,
+    cursor: Cursor,
+    many: u32,
+    spent: &mut Spent,
+) -> Stop
+    requires own { IsOf space.now.table.shared.table_id space.now.table.shared.key pass.old.seat }
+    requires pinned { pass.old.seat.me.0.pin.pinned ≡ true }
+    requires none { AreHeld space.now.table.shared.key.rows pass.old.kept.rows pass.old.seat.me.0 [] }
+    requires tuned { IsTuned space.now.table.shared.key tuning.now }
+    requires looking { (key : List ℕ) × IsLooking space.now.table.shared.key pass.old.seat.me.0.upper key cursor }
+    requires many { (many ≡ length (first_note pass.old.seat.me.0.upper.notes).objects) × (tuning.now.leaf ≤ many) }
+    ensures same { IsSame pass.old.seat pass.new.seat }
+    ensures number { pass.new.number ≡ pass.old.number }
+    ensures pin { (pass.new.seat.me.0.sizes ≡ pass.old.seat.me.0.sizes) × (pass.new.seat.me.0.pin ≡ pass.old.seat.me.0.pin) }
+    ensures none { AreHeld space.now.table.shared.key.rows pass.new.kept.rows pass.new.seat.me.0 [] }
+    ensures further { IsFurther pass.old.seat.me.0.upper pass.new.seat.me.0.upper × IsKnown space.now.table.shared.key pass.new.seat.me.0.upper }
+    ensures same_seen { pass.new.seat.me.0.upper.seen ≡ pass.old.seat.me.0.upper.seen }
+    ensures counted { IsPaid spent.old spent.new pass.old.seat.me pass.new.seat.me }
+    ensures found { HasStopped {T = Unit {0}} (Err result) pass.old.seat.me pass.new.seat.me }
+{
+    if cursor.level >= tuning.levels {
+        return Stop::Deep;
+    }
+    // A space is made with no greater one.
+    let attempt = space.starts().attempt.min(LAST_ATTEMPT);
+    let split = split_at(space, pass, cursor, many, attempt, spent);
+    if is_split(&split) {
+        spent.passed = spent.passed.saturating_add(1);
+    }
+    stop_of(split)
+}
+
+// Whether the base was split.
+fn is_split(split: &Result<bool, NoRow>) -> bool
+    ensures { IsTrue result ↔ (split.now ≡ Ok true) }
+{
+    matches!(split, Ok(true))
+}
+
+// What an attempt comes to that split a full base, by what became of its exchange.
+fn stop_of(split: Result<bool, NoRow>) -> Stop
+    ensures { result ≡ split_to split }
+{
+    match split {
+        Ok(true) => Stop::Split,
+        Ok(false) | Err(NoRow::Lost) => Stop::Lost,
+        Err(NoRow::Empty) => Stop::Empty,
+        Err(NoRow::Worn) => Stop::Worn,
+    }
 }
 
 /// Removes the object at its key's place in the base that was shown last.
 pub(crate) fn remove_there(
     space: &TreeSpace,
     pass: &mut TreePass,
-    base: u32,
+    cursor: Cursor,
     at: u32,
     key: &[u8],
     spent: &mut Spent,
@@ -207,7 +252,7 @@ pub(crate) fn remove_there(
     requires number { 0 < pass.old.seat.me.0.upper.number }
     requires none { AreHeld space.now.table.shared.key.rows pass.old.kept.rows pass.old.seat.me.0 [] }
     requires leaf { space.now.table.shared.key.leaf ≤ 120 }
-    requires looking { IsLooking space.now.table.shared.key pass.old.seat.me.0.upper base }
+    requires looking { IsLooking space.now.table.shared.key pass.old.seat.me.0.upper key.now cursor }
     requires place { IsPlace (map pair (first_note pass.old.seat.me.0.upper.notes).objects) key.now (Ok at) }
     ensures same { IsSame pass.old.seat pass.new.seat }
     ensures number { pass.new.number ≡ pass.old.number }
@@ -216,11 +261,11 @@ pub(crate) fn remove_there(
     ensures tried { HasTriedTo (λ _ event. event ≡ Remove key.now (Some (object_at (Ok at) (first_note pass.old.seat.me.0.upper.notes).objects)))
         space.now.table.shared.key result pass.old.seat.me.0.upper pass.new.seat.me.0.upper }
     ensures deep { result ≢ Err IsDeep }
-    ensures counted { IsSpent spent.old spent.new pass.old.seat.me pass.new.seat.me }
+    ensures counted { IsPaid spent.old spent.new pass.old.seat.me pass.new.seat.me }
     ensures found { HasStopped result pass.old.seat.me pass.new.seat.me }
 {
-    let many = count(space, pass, base);
-    let tried = remove_at(space, pass, base, many, at, key, spent);
+    let many = count(space, pass, cursor.base);
+    let tried = remove_at(space, pass, cursor, many, at, key, STATISTIC, spent);
     outcome_of(tried)
 }
 

@@ -1,18 +1,17 @@
 //! Calls of a pass that rests: attempts, the turns of each, and how a call ends.
-ghost use Rattle.std.specs.Prelude.{◌≡◌, ◌≢◌, ◌↔◌, ◌<◌, ◌≤◌, Err, None, [], IfErr, IsTrue};
+ghost use Rattle.std.specs.Prelude.{◌⊎◌, ◌≡◌, ◌≢◌, ◌↔◌, ◌<◌, ◌≤◌, Err, None, [], IfErr, IsTrue};
 ghost use Rattle.ca_model.specs.Answer.{IfBusy, IfDone, IfRefused};
 ghost use Rattle.ca_model.specs.History.{after};
-ghost use Rattle.ca_replace.specs.declared.attempting.Stop.TheVariants.{Deep as IsDeep, Empty as IsEmpty, Lost as IsLost};
+ghost use Rattle.ca_replace.specs.declared.attempting.Stop.TheVariants.{Deep as IsDeep, Empty as IsEmpty, Lost as IsLost, Split as IsSplit};
 ghost use Rattle.ca_node.specs.Told.{with_upper};
-ghost use Rattle.ca_replace.specs.Attempting.{HasAttempted, HasDoneAs, HasMetBy, HasStopped, HasTriedTo, IfDeep, refused_as};
+ghost use Rattle.ca_replace.specs.Attempting.{IsPaid, total, HasAttempted, HasDoneAs, HasMetBy, HasStopped, HasTriedTo, IfDeep, refused_as};
 ghost use Rattle.ca_replace.specs.Causes.{IfRefusedAs, IsCaused, IsFull, KeepsFew};
-ghost use Rattle.ca_base.specs.Counting.{IsSpent};
 ghost use Rattle.ca_base.specs.Progress.{IsRefused};
 ghost use Rattle.ca_replace.specs.Refusals.{outcome_of, risen};
 ghost use Rattle.ca_replace.specs.Resting.{IsResting};
 
 use crate::attempting::{Attempt, Stop};
-use crate::giving::{add, keep_few, refill};
+use crate::giving::{add, keep_few, refill, spent_in_all};
 use crate::refusing::{Refusal, refuse};
 use crate::tree::Tree;
 use ca_model::{Code, Counter, Outcome, Spent};
@@ -92,7 +91,7 @@ fn attempts<A: Attempt>(
             }
         } else {
             spent.lost = add(spent.lost, keep_few(tree, pass));
-            return or_refusal(come, *spent);
+            return or_refusal(come, *spent, tree.tuning.levels);
         }
     }
 }
@@ -105,19 +104,19 @@ fn is_empty<T>(tried: &Result<T, Stop>) -> bool
 }
 
 // What an attempt came to that found the rows it wanted.
-fn or_refusal<T>(tried: Result<T, Stop>, spent: Spent) -> Result<T, Refusal>
+fn or_refusal<T>(tried: Result<T, Stop>, spent: Spent, levels: u16) -> Result<T, Refusal>
     requires { tried ≢ Err IsEmpty }
-    ensures { result ≡ refused_as tried spent }
+    ensures { result ≡ refused_as tried spent levels }
 {
     match tried {
         Ok(answer) => Ok(answer),
-        Err(Stop::Lost | Stop::Empty) => Err(Refusal::Busy(spent)),
-        Err(Stop::Deep) => Err(Refusal::Deep(0)),
+        Err(Stop::Lost | Stop::Split | Stop::Empty) => Err(Refusal::Busy(spent)),
+        Err(Stop::Deep) => Err(Refusal::Deep(levels)),
         Err(Stop::Worn) => Err(Refusal::Worn(Counter::PoolTag)),
     }
 }
 
-// The turns of an attempt, until one isn't lost to another pass or the budget is spent.
+// The turns of an attempt, until one isn't lost to another pass and doesn't split a full base, or the budget is spent.
 fn turns<A: Attempt>(
     tree: &Tree,
     pass: &mut TreePass,
@@ -134,25 +133,26 @@ fn turns<A: Attempt>(
     ensures tried { HasTriedTo (λ answer. A.tells what.now answer left.new) tree.now.space.table.shared.key result pass.old.seat.me.0.upper
         pass.new.seat.me.0.upper }
     ensures deep { result ≡ Err IsDeep → IsFull tree.now.space.table.shared.key (A.adds what.now) (after pass.new.seat.me.0.upper.seen []) }
-    ensures counted { IsSpent spent.old spent.new pass.old.seat.me pass.new.seat.me }
+    ensures counted { IsPaid spent.old spent.new pass.old.seat.me pass.new.seat.me }
     ensures found { HasMetBy result pass.old.seat.me pass.new.seat.me }
     ensures looks { pass.new.seat.me.0.pin.looks ≡ pass.old.seat.me.0.pin.looks }
-    ensures lost { result ≡ Err IsLost → budget ≤ spent.new.lost }
+    ensures lost { result ≡ Err IsLost → budget ≤ total spent.new }
+    ensures no_split { result ≢ Err IsSplit }
 {
-    while spent.lost < budget {
+    while spent_in_all(spent) < budget {
         let tried = once(tree, pass, what, left, room, spent);
-        if !is_lost(&tried) {
+        if !has_next(&tried) {
             return tried;
         }
     }
     Err(Stop::Lost)
 }
 
-// Whether an attempt was lost to another pass.
-fn is_lost<T>(tried: &Result<T, Stop>) -> bool
-    ensures { IsTrue result ↔ (tried.now ≡ Err IsLost) }
+// Whether another turn may follow an attempt: it was lost to another pass, or split a full base.
+fn has_next<T>(tried: &Result<T, Stop>) -> bool
+    ensures { IsTrue result ↔ ((tried.now ≡ Err IsLost) ⊎ (tried.now ≡ Err IsSplit)) }
 {
-    matches!(tried, Err(Stop::Lost))
+    matches!(tried, Err(Stop::Lost | Stop::Split))
 }
 
 // One attempt of a call, while the pass is pinned.
@@ -171,13 +171,13 @@ fn once<A: Attempt>(
     ensures tried { HasTriedTo (λ answer. A.tells what.now answer left.new) tree.now.space.table.shared.key result pass.old.seat.me.0.upper
         pass.new.seat.me.0.upper }
     ensures deep { result ≡ Err IsDeep → IsFull tree.now.space.table.shared.key (A.adds what.now) (after pass.new.seat.me.0.upper.seen []) }
-    ensures counted { IsSpent spent.old spent.new pass.old.seat.me pass.new.seat.me }
+    ensures counted { IsPaid spent.old spent.new pass.old.seat.me pass.new.seat.me }
     ensures found { HasStopped result pass.old.seat.me pass.new.seat.me }
     ensures looks { pass.new.seat.me.0.pin.looks ≡ pass.old.seat.me.0.pin.looks }
 {
     let space = &tree.space;
     space.pin(pass);
-    let tried = what.attempt(space, pass, tree.tuning.leaf, left, room, spent);
+    let tried = what.attempt(space, pass, &tree.tuning, left, room, spent);
     space.unpin(pass);
     tried
 }

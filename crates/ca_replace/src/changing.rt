@@ -12,6 +12,7 @@ use crate::attempting::{Attempt, Stop, fetch, put_there};
 use crate::calls::{call, empty_if_refused};
 use crate::ending::{Read, enter};
 use crate::tree::Tree;
+use ca_adapt::Tuning;
 use ca_base::Putting;
 use ca_model::{Changed, Code, Outcome, Spent};
 use ca_node::{TreePass, TreeSpace};
@@ -40,21 +41,26 @@ impl<F: Fn(&[u8], &mut Code, &mut usize) -> bool> Attempt for ChangeCall<'_, F> 
         &self,
         space: &TreeSpace,
         pass: &mut TreePass,
-        leaf: u8,
+        tuning: &Tuning,
         old: &mut Code,
         new: &mut Code,
         spent: &mut Spent,
     ) -> Result<Changed, Stop> {
         let (key, f) = (self.key, self.f);
-        let (base, place) = fetch(space, pass, key, old);
+        let (cursor, place) = fetch(space, pass, key, old);
         let Ok(at) = place else {
-            enter(space, pass, base, Read::NothingToChange(key));
+            enter(space, pass, cursor.base, Read::NothingToChange(key));
             return Ok(Changed::Absent);
         };
         new.clear();
         let mut start = 0;
         if !f(old.as_slice(), &mut *new, &mut start) {
-            enter(space, pass, base, Read::Unchanged(key, old.as_slice()));
+            enter(
+                space,
+                pass,
+                cursor.base,
+                Read::Unchanged(key, old.as_slice()),
+            );
             return Ok(Changed::Kept);
         }
         let end = start + key.len();
@@ -62,8 +68,8 @@ impl<F: Fn(&[u8], &mut Code, &mut usize) -> bool> Attempt for ChangeCall<'_, F> 
         match put_there(
             space,
             pass,
-            leaf,
-            base,
+            tuning,
+            cursor,
             Ok(at),
             why,
             new.as_slice(),

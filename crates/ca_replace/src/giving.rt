@@ -1,7 +1,8 @@
 //! Passes between two calls give back the rows that they keep.
 ghost use Rattle.std.specs.Prelude.{◌≡◌, ◌⊎◌, ◌↔◌, false, ◌+◌, ◌<◌, ◌≤◌, min, IfErr, IsErr, IsOk, IsTrue, vec_len};
 ghost use Rattle.std.specs.declared.option.Option.TheVariants.{None};
-ghost use Rattle.ca_base.specs.Counting.{HasMet, IsSpent};
+ghost use Rattle.ca_base.specs.Counting.{HasMet};
+ghost use Rattle.ca_replace.specs.Attempting.{IsPaid, total};
 ghost use Rattle.ca_replace.specs.Causes.{HasLooked, IsRefill, KeepsFew};
 ghost use Rattle.ca_replace.specs.Resting.{IsResting};
 ghost use Rattle.ca_rows.specs.Reclaiming.{IsLag, Reclaims};
@@ -47,9 +48,9 @@ pub(crate) fn refill(
     ensures number { pass.new.number ≡ pass.old.number }
     ensures resting { IsResting tree.now.space.table.shared.table_id tree.now.space.table.shared.key pass.new.number pass.new.kept.rows pass.new.seat }
     ensures upper { pass.new.seat.me.0.upper ≡ pass.old.seat.me.0.upper }
-    ensures counted { IsSpent spent.old spent.new pass.old.seat.me pass.new.seat.me }
+    ensures counted { IsPaid spent.old spent.new pass.old.seat.me pass.new.seat.me }
     ensures met { HasMet 0 0 pass.old.seat.me pass.new.seat.me }
-    ensures again { IsOk result → (0 < kept) × (spent.new.lost < budget) × ((vec_len pass.new.kept.rows ≡ 0) ⊎ (spent.old.lost < spent.new.lost)) }
+    ensures again { IsOk result → (0 < kept) × (total spent.new < budget) × ((vec_len pass.new.kept.rows ≡ 0) ⊎ (total spent.old < total spent.new)) }
     ensures looked { HasLooked pass.old.seat.me pass.new.seat.me }
     ensures refused { IfErr result (λ why. IsRefill tree.now.space.table.shared.key.passes pass.old.number budget kept spent.new
         why pass.old.seat.me pass.new.seat.me pass.new.kept.rows) }
@@ -57,7 +58,7 @@ pub(crate) fn refill(
 {
     let given = give_back_kept(tree, pass);
     spent.lost = add(spent.lost, given.losses);
-    if spent.lost >= budget {
+    if spent_in_all(spent) >= budget {
         return Err(Refusal::Busy(*spent));
     }
     if kept == 0 || given.lag.is_some() {
@@ -87,6 +88,13 @@ fn give_back_kept(tree: &Tree, pass: &mut TreePass) -> Reclaimed
     ensures all { result.lag ≡ None → result.lost ≡ false → pass.new.seat.me.0.pin.scan < 4611686018427387904 → result.kept ≡ 0 }
 {
     tree.space.reclaim(pass)
+}
+
+/// How many turns were spent, up to the last number that 32 bits hold.
+pub(crate) fn spent_in_all(spent: &Spent) -> u32
+    ensures { result ≡ min 4294967295 (total spent.now) }
+{
+    add(add(spent.lost, spent.helped), spent.passed)
 }
 
 /// The sum of two counts, up to the last one that 32 bits hold.

@@ -3,27 +3,28 @@ ghost use Rattle.std.specs.Prelude.{◌≡◌, ◌<◌, [], length, slice_index_
 ghost use Rattle.ca_node.specs.Row.{object};
 ghost use Rattle.ca_node.specs.Told.{IsReadNow, with_upper, entered};
 ghost use Rattle.ca_node.specs.TreeView.{Note};
-ghost use Rattle.ca_base.specs.Finding.{HasPlace, IsLastState, IsReadable};
+ghost use Rattle.ca_base.specs.Finding.{HasPlace, IsReadable};
+ghost use Rattle.ca_replace.specs.Attempting.{IsLooking};
 ghost use Rattle.ca_replace.specs.Reads.{get_event};
 ghost use Rattle.ca_rows.specs.Calls.{IsOf, IsSame};
 
 use crate::ending::{Read, enter};
 use ca_base::{copy_object, item, search};
 use ca_model::Code;
-use ca_node::{TreePass, TreeSpace};
+use ca_node::{Cursor, TreePass, TreeSpace};
 
-// Whether a base that the pass was shown has an object with this key; then `into` is the object, else it is empty. The base is that of the
-// last state which the pass has seen, and the call is entered in the log.
+// Whether the base under the cursor, which the pass was shown last, has an object with this key; then `into` is the object, else it is empty. The base has what the last
+// state that the pass has seen has of the keys that are led there, and this key is one of them. The call is entered in the log.
 pub(crate) fn look_up(
     space: &TreeSpace,
     pass: &mut TreePass,
-    base: u32,
+    cursor: Cursor,
     key: &[u8],
     into: &mut Code,
 ) -> bool
     requires own { IsOf space.now.table.shared.table_id space.now.table.shared.key pass.old.seat }
     requires pinned { pass.old.seat.me.0.pin.pinned ≡ true }
-    requires readable { IsLastState space.now.table.shared.key pass.old.seat.me.0.upper base }
+    requires looking { IsLooking space.now.table.shared.key pass.old.seat.me.0.upper key.now cursor }
     ensures same { IsSame pass.old.seat pass.new.seat }
     ensures number { pass.new.number ≡ pass.old.number }
     ensures kept { pass.new.kept ≡ pass.old.kept }
@@ -31,6 +32,7 @@ pub(crate) fn look_up(
     ensures entered { pass.new.seat.me ≡ with_upper pass.old.seat.me (entered pass.old.seat.me.0.upper (get_event key.now result into.new.items)) }
     ensures emptied { result ≡ false → into.new.items ≡ [] }
 {
+    let base = cursor.base;
     let Ok(place) = search(space, pass, base, key) else {
         into.clear();
         enter(space, pass, base, Read::GotNothing(key));

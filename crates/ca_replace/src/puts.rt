@@ -12,6 +12,7 @@ use crate::attempting::{Attempt, Stop, find, put_there};
 use crate::calls::call;
 use crate::ending::{Read, enter};
 use crate::tree::Tree;
+use ca_adapt::Tuning;
 use ca_base::Putting;
 use ca_model::{Outcome, Spent};
 use ca_node::{TreePass, TreeSpace};
@@ -49,17 +50,17 @@ impl Attempt for PutCall<'_> {
         &self,
         space: &TreeSpace,
         pass: &mut TreePass,
-        leaf: u8,
+        tuning: &Tuning,
         _left: &mut (),
         _room: &mut (),
         spent: &mut Spent,
     ) -> Result<(), Stop> {
         let (object, key_at, key_end) = (self.object, self.key_at, self.key_end);
         let key = &object[key_at..key_end];
-        let (base, place) = find(space, pass, key);
+        let (cursor, place) = find(space, pass, key);
         let why = Putting::Put;
         put_there(
-            space, pass, leaf, base, place, why, object, key_at, key_end, spent,
+            space, pass, tuning, cursor, place, why, object, key_at, key_end, spent,
         )
     }
 }
@@ -81,21 +82,21 @@ impl Attempt for PutNewCall<'_> {
         &self,
         space: &TreeSpace,
         pass: &mut TreePass,
-        leaf: u8,
+        tuning: &Tuning,
         _left: &mut (),
         _room: &mut (),
         spent: &mut Spent,
     ) -> Result<bool, Stop> {
         let (object, key_at, key_end) = (self.object, self.key_at, self.key_end);
         let key = &object[key_at..key_end];
-        let (base, place) = find(space, pass, key);
+        let (cursor, place) = find(space, pass, key);
         if place.is_ok() {
-            enter(space, pass, base, Read::NotNew(key, object));
+            enter(space, pass, cursor.base, Read::NotNew(key, object));
             return Ok(false);
         }
         let why = Putting::PutNew;
         match put_there(
-            space, pass, leaf, base, place, why, object, key_at, key_end, spent,
+            space, pass, tuning, cursor, place, why, object, key_at, key_end, spent,
         ) {
             Ok(()) => Ok(true),
             Err(stop) => Err(stop),

@@ -12,6 +12,7 @@ use crate::attempting::{Attempt, Stop, fetch, remove_there};
 use crate::calls::{call, empty_if_refused};
 use crate::ending::{Read, enter};
 use crate::tree::Tree;
+use ca_adapt::Tuning;
 use ca_model::{Changed, Code, Outcome, Spent};
 use ca_node::{TreePass, TreeSpace};
 
@@ -38,18 +39,18 @@ impl Attempt for RemoveCall<'_> {
         &self,
         space: &TreeSpace,
         pass: &mut TreePass,
-        _leaf: u8,
+        _tuning: &Tuning,
         old: &mut Code,
         _room: &mut (),
         spent: &mut Spent,
     ) -> Result<bool, Stop> {
         let key = self.key;
-        let (base, place) = fetch(space, pass, key, old);
+        let (cursor, place) = fetch(space, pass, key, old);
         let Ok(at) = place else {
-            enter(space, pass, base, Read::NothingToRemove(key));
+            enter(space, pass, cursor.base, Read::NothingToRemove(key));
             return Ok(false);
         };
-        match remove_there(space, pass, base, at, key, spent) {
+        match remove_there(space, pass, cursor, at, key, spent) {
             Ok(()) => Ok(true),
             Err(stop) => Err(stop),
         }
@@ -106,22 +107,22 @@ impl<F: Fn(&[u8]) -> bool> Attempt for RemoveIfCall<'_, F> {
         &self,
         space: &TreeSpace,
         pass: &mut TreePass,
-        _leaf: u8,
+        _tuning: &Tuning,
         old: &mut Code,
         _room: &mut (),
         spent: &mut Spent,
     ) -> Result<Changed, Stop> {
         let (key, f) = (self.key, self.f);
-        let (base, place) = fetch(space, pass, key, old);
+        let (cursor, place) = fetch(space, pass, key, old);
         let Ok(at) = place else {
-            enter(space, pass, base, Read::GotNothing(key));
+            enter(space, pass, cursor.base, Read::GotNothing(key));
             return Ok(Changed::Absent);
         };
         if !f(old.as_slice()) {
-            enter(space, pass, base, Read::Got(key, old.as_slice()));
+            enter(space, pass, cursor.base, Read::Got(key, old.as_slice()));
             return Ok(Changed::Kept);
         }
-        match remove_there(space, pass, base, at, key, spent) {
+        match remove_there(space, pass, cursor, at, key, spent) {
             Ok(()) => Ok(Changed::Put),
             Err(stop) => Err(stop),
         }

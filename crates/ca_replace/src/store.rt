@@ -79,8 +79,7 @@ impl TreeStore<'_> {
         Ok(())
     }
 
-    /// Whether an object has the key; then `into` is the object, else it is empty. It is never refused, and it loses no turn: it makes one
-    /// load of a link.
+    /// Whether an object has the key; then `into` is the object, else it is empty. It is never refused, and it loses no turn.
     pub fn get(&mut self, key: &[u8], into: &mut Code, budget: u32) -> Outcome<bool>
         requires budget { 1 ≤ budget }
         requires closed { (knows self.old).run ≡ None }
@@ -95,8 +94,8 @@ impl TreeStore<'_> {
         let _budget = budget;
         let space = &self.tree.space;
         space.pin(&mut self.pass);
-        let base = walk(space, &mut self.pass, Spot::At(key)).base;
-        let found = look_up(space, &mut self.pass, base, key, into);
+        let cursor = walk(space, &mut self.pass, Spot::At(key));
+        let found = look_up(space, &mut self.pass, cursor, key, into);
         space.unpin(&mut self.pass);
         keep_few(self.tree, &mut self.pass);
         Outcome::Done(found)

@@ -1,11 +1,11 @@
 //! Trees at the bounds of their sizes and tunings, their passes, and stores of passes.
-ghost use Rattle.std.specs.Prelude.{◌≡◌, IsTrue, slice_range};
+ghost use Rattle.std.specs.Prelude.{◌≡◌, ◌≤◌, IsTrue, slice_range};
 ghost use Rattle.ca_model.specs.Function.{StandsAt};
 ghost use Rattle.ca_model.specs.StoreMap.{IsPair};
 
 use super::*;
 use ca_adapt::Tuning;
-use ca_model::{Changed, Code, Counter, FullCause, Outcome};
+use ca_model::{Changed, Code, Counter, FullCause, Outcome, Spent};
 use ca_rows::Starts;
 use std::alloc::Global;
 
@@ -518,4 +518,162 @@ fn a_refusal_leaves_each_object_and_nothing_to_the_caller(rt: HostRuntime) {
     );
     assert_eq!(rt; get(&mut store, 1, &mut old), Outcome::Done(false));
     assert_eq!(rt; get(&mut store, 2, &mut old), Outcome::Done(true));
+}
+
+// A tree whose bases have at most so many objects, at so many levels.
+const fn split_at(leaf: u8, levels: u16) -> Tuning {
+    Tuning {
+        leaf,
+        levels,
+        ..TUNING
+    }
+}
+
+// Puts an object, with this budget.
+fn put_within(store: &mut TreeStore<'_>, n: u32, budget: u32) -> Outcome<()>
+    requires keypos { store.old.z.keypos ≡ 1 }
+    requires budget { 1 ≤ budget }
+    ensures { store.new.z ≡ store.old.z }
+{
+    store.put(&object(n), 5, 10, budget)
+}
+
+// How many of the objects from one number up to another one, in rising order, are put, and what the last put came to.
+fn put_from(store: &mut TreeStore<'_>, first: u32, last: u32) -> (u32, Outcome<()>)
+    requires keypos { store.old.z.keypos ≡ 1 }
+    requires order { first ≤ last }
+    ensures { store.new.z ≡ store.old.z }
+{
+    for n in first..last {
+        let outcome = put_within(store, n, 100);
+        if outcome != Outcome::Done(()) {
+            return (n - first, outcome);
+        }
+    }
+    (last - first, Outcome::Done(()))
+}
+
+// How many of so many objects, in falling order, are put.
+fn put_falling(store: &mut TreeStore<'_>, count: u32) -> u32
+    requires { store.old.z.keypos ≡ 1 }
+    ensures { store.new.z ≡ store.old.z }
+{
+    let mut done = 0;
+    for n in 0..count {
+        if put_within(store, count - 1 - n, 4) == Outcome::Done(()) {
+            done += 1;
+        }
+    }
+    done
+}
+
+// How many of so many objects, from the first one on each second one, are removed.
+fn remove_even(store: &mut TreeStore<'_>, count: u32) -> u32
+    requires keypos { store.old.z.keypos ≡ 1 }
+    requires few { count ≤ 1000000 }
+    ensures { store.new.z ≡ store.old.z }
+{
+    let mut old = Code::new();
+    let mut done = 0;
+    for n in 0..count {
+        if remove(store, 2 * n, &mut old) == Outcome::Done(true) {
+            done += 1;
+        }
+    }
+    done
+}
+
+// How many of the objects with numbers below this one are there, each under its key.
+fn count_below(store: &mut TreeStore<'_>, end: u32) -> u32
+    requires { store.old.z.keypos ≡ 1 }
+    ensures { store.new.z ≡ store.old.z }
+{
+    let mut into = Code::new();
+    let mut count = 0;
+    for n in 0..end {
+        if get(store, n, &mut into) == Outcome::Done(true)
+            && into.as_slice() == object(n).as_slice()
+        {
+            count += 1;
+        }
+    }
+    count
+}
+
+#[test]
+fn full_bases_are_split_down_to_the_last_level(rt: HostRuntime) {
+    let Ok(mut tree) = Tree::new(rt.alloc(), 384, 1, 1, split_at(2, 8), STARTS) else {
+        panic!(rt; "no memory")
+    };
+    let Ok(pass) = tree.enroll(rt.alloc()) else {
+        panic!(rt; "no pass")
+    };
+    let mut store = TreeStore::new(&tree, pass);
+    assert_eq!(rt; put_from(&mut store, 1, 12), (10, Outcome::Deep(8)));
+    assert_eq!(rt; count_below(&mut store, 12), 10);
+    assert_eq!(rt; put(&mut store, 9), Outcome::Done(()));
+    assert_eq!(rt; put_within(&mut store, 0, 4), Outcome::Done(()));
+    assert_eq!(rt; count_below(&mut store, 12), 11);
+}
+
+#[test]
+fn a_split_is_a_turn(rt: HostRuntime) {
+    let Ok(mut tree) = Tree::new(rt.alloc(), 384, 1, 1, split_at(2, 8), STARTS) else {
+        panic!(rt; "no memory")
+    };
+    let Ok(pass) = tree.enroll(rt.alloc()) else {
+        panic!(rt; "no pass")
+    };
+    let mut store = TreeStore::new(&tree, pass);
+    let split = Spent {
+        lost: 0,
+        helped: 0,
+        passed: 1,
+    };
+    assert_eq!(rt; put_from(&mut store, 1, 3), (2, Outcome::Done(())));
+    assert_eq!(rt; put(&mut store, 3), Outcome::Busy(split));
+    assert_eq!(rt; count_below(&mut store, 5), 2);
+    assert_eq!(rt; put(&mut store, 3), Outcome::Done(()));
+    assert_eq!(rt; count_below(&mut store, 5), 3);
+}
+
+#[test]
+fn rising_keys_fill_all_rows(rt: HostRuntime) {
+    let Ok(mut tree) = Tree::new(rt.alloc(), 384, 1, 1, split_at(64, 64), STARTS) else {
+        panic!(rt; "no memory")
+    };
+    let Ok(pass) = tree.enroll(rt.alloc()) else {
+        panic!(rt; "no pass")
+    };
+    let mut store = TreeStore::new(&tree, pass);
+    let mut old = Code::new();
+    let (done, last) = put_from(&mut store, 1, 364);
+    assert_eq!(rt; done, 362);
+    assert!(rt; matches!(last, Outcome::Full(_)), "{last:?}");
+    assert_eq!(rt; count_below(&mut store, 364), 362);
+    assert_eq!(rt; remove(&mut store, 1, &mut old), Outcome::Done(true));
+    assert_eq!(rt; old.as_slice(), object(1).as_slice());
+    assert_eq!(rt; put_from(&mut store, 363, 364), (1, Outcome::Done(())));
+    assert_eq!(rt; count_below(&mut store, 364), 362);
+}
+
+#[test]
+fn falling_keys_are_found_and_removed_again(rt: HostRuntime) {
+    let Ok(mut tree) = Tree::new(rt.alloc(), 2_000, 1, 1, split_at(3, 400), STARTS) else {
+        panic!(rt; "no memory")
+    };
+    let Ok(pass) = tree.enroll(rt.alloc()) else {
+        panic!(rt; "no pass")
+    };
+    let mut store = TreeStore::new(&tree, pass);
+    let mut old = Code::new();
+    assert_eq!(rt; put_falling(&mut store, 300), 300);
+    assert_eq!(rt; count_below(&mut store, 310), 300);
+    assert_eq!(rt; remove_even(&mut store, 150), 150);
+    assert_eq!(rt; count_below(&mut store, 310), 150);
+    assert_eq!(rt;
+        change(&mut store, 7, true, &mut old),
+        Outcome::Done(Changed::Put)
+    );
+    assert_eq!(rt; count_below(&mut store, 310), 149);
 }

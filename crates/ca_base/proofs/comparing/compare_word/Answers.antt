@@ -2,13 +2,17 @@ use Rattle.std.proofs.Common.{ℕ, List, ◌-◌, ◌/◌, ◌+◌, ◌%◌, ◌
 use Rattle.std.proofs.lemmas.List.{get_or-drop}
 use Rattle.std.specs.Int.{to_be_bytes, w64}
 use Rattle.ca_model.specs.StoreMap.{bytes_cmp}
+use Rattle.ca_base.proofs.Items.{word_shown, as_shown}
 use Rattle.ca_base.proofs.ObjectBytes.{part_is}
 use Rattle.ca_base.proofs.comparing.compare_word.Goals as goal
+
+pub load_word-word-requires-clause-shown : goal.load_word-word-requires-clause-shown
+load_word-word-requires-clause-shown c = word_shown c.args.pass.now.seat.me.0.upper _ _ (c.requires.shown.0, c.requires.shown.1.shown)
 
 pub returns-clause-order : goal.returns-clause-order
 returns-clause-order c its shown = let from : ℕ = c.args.from in let to : ℕ = c.args.to in
     let word : c.load_word-word.result ≡ get_or (drop 11 its) (from / 8) 0 =
-    c.load_word-word.ensures.word its shown.shown ∙ sym (get_or-drop 11 its (from / 8) 0) in
+    as_shown c.args.pass.now.seat.me.0.upper _ _ _ c.load_word-word.ensures.word its shown.shown ∙ sym (get_or-drop 11 its (from / 8) 0) in
     let long = shown.long in let in_bytes = c.requires.bytes in
     let part = part_is (drop 11 its) from to in_bytes.0 in_bytes.1 (omega (arith, length-drop 11 its)) in
     let bytes : c.to_be_bytes-bytes.result ≡ to_be_bytes w64 (get_or (drop 11 its) (from / 8) 0) =

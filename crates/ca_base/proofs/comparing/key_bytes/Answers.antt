@@ -1,11 +1,15 @@
 use Rattle.std.proofs.Common.{ℕ, List, ◌≡◌, ◌+◌, ◌-◌, ◌/◌, ◌%◌, min, length, take, drop, ap, sym, ◌∙◌, arith, length-drop}
 use Rattle.ca_node.specs.Row.{bytes_in, count, key_place, key_length}
+use Rattle.ca_base.proofs.Items.{word_shown, as_shown}
 use Rattle.ca_base.proofs.ObjectBytes.{bytes_long, clipped}
 use Rattle.ca_base.proofs.comparing.key_bytes.Goals as goal
 
+pub load_word-word-requires-clause-shown : goal.load_word-word-requires-clause-shown
+load_word-word-requires-clause-shown c = word_shown c.args.pass.now.seat.me.0.upper _ _ (c.requires.shown.0, c.requires.shown.1.shown)
+
 pub returns-clause-key : goal.returns-clause-key
 returns-clause-key c its shown = let long = shown.long in let bytes : List ℕ = bytes_in (drop 11 its) in
-    let word = c.load_word-word.ensures.word its shown.shown in
+    let word = as_shown c.args.pass.now.seat.me.0.upper _ _ _ c.load_word-word.ensures.word its shown.shown in
     let all : length bytes ≡ 1000 = omega (arith, bytes_long (drop 11 its), length-drop 11 its) in
     let end : ℕ = c.min-end.result in let start : ℕ = c.min-start.result in let len : ℕ = c.min-len.result in
     let e : end ≡ min (length bytes) (count its) = c.min-end.ensures ∙ (ap (λ (n : ℕ). min n (c.load_word-word.result % 65536)) (sym all)

@@ -3,6 +3,7 @@ use Rattle.ca_node.specs.Told.{IsShown}
 use Rattle.ca_node.specs.TreeView.{TreeView}
 use Rattle.ca_base.specs.Putting.{first_note, last_items}
 use Rattle.ca_base.proofs.Filling.{begins, goes_on_behind}
+use Rattle.ca_base.proofs.Items.{word_shown, as_shown}
 use Rattle.ca_base.proofs.LastItems.{last_shown, last_inside, last_item}
 use Rattle.ca_rows.specs.declared.view.Pin.{Pin}
 use Rattle.ca_base.proofs.copying.copy_items.Goals as goal
@@ -17,7 +18,7 @@ pub load_word-item-requires-clause-inside : goal.load_word-item-requires-clause-
 load_word-item-requires-clause-inside c = (last_inside _ _ _ c.requires.shown, omega arith)
 
 pub load_word-item-requires-clause-shown : goal.load_word-item-requires-clause-shown
-load_word-item-requires-clause-shown c = (
+load_word-item-requires-clause-shown c = word_shown c.loop-place.pass.seat.me.0.upper _ _ (
   (first_note c.args.pass.now.seat.me.0.upper.notes).its,
   subst (λ (u : TreeView). IsShown u c.args.base (first_note c.args.pass.now.seat.me.0.upper.notes).its) (sym c.loop-place.invariant.0.still.4)
       (last_shown _ _ _ c.requires.shown),
@@ -37,7 +38,7 @@ loop-place-preserved c = let i = c.loop-place.invariant in let u = c.args.pass.n
     let there : 11 + c.args.from + c.loop-place.place ≡ 11 + (c.args.from + c.loop-place.place) = omega arith in
     let word : c.load_word-item.result ≡ get_or (last_items u) (c.args.from + c.loop-place.place) 0 =
     last_item _ u _ c.requires.shown (c.args.from + c.loop-place.place) c.load_word-item.result
-    (c.load_word-item.ensures.word its shown ∙ ap (λ k. get_or its k 0) there) (omega arith) in (
+    (as_shown c.loop-place.pass.seat.me.0.upper _ _ _ c.load_word-item.ensures.word its shown ∙ ap (λ k. get_or its k 0) there) (omega arith) in (
       goes_on_behind _ _ c.args.row (11 + c.args.to) (λ k word. word ≡ get_or (last_items u) (c.args.from + k) 0) c.args.pass.now.seat
           c.loop-place.pass.seat c.load_word-item.new.pass.seat c.set_word.new.pass.seat c.loop-place.place _ _ (omega arith) (omega arith) word i.0
           c.load_word-item.ensures.same c.load_word-item.ensures.still c.set_word.ensures.same c.set_word.ensures.set,

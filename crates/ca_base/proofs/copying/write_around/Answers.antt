@@ -9,9 +9,9 @@ pub returns-clause-written : goal.returns-clause-written
 returns-clause-written c = let u = c.args.pass.now.seat.me.0.upper in let m = c.requires.many.0 in
     let one = c.write_head.ensures.same in let two = c.copy_items.ensures.same in let three = c.write_items.ensures.same in
     let rest : c.args.many - c.args.behind ≡ length (last_items u) - c.args.behind = omega arith in
-    around_written (last_items u) c.args.these.now c.args.before c.args.behind (omega arith) (omega arith) c.args.row _ c.args.statistic
+    around_written (last_items u) c.args.these.now c.args.before c.args.behind (omega arith) (omega arith) c.args.row c.args.level _ c.args.statistic
     c.args.pass.now.seat.me c.write_head.new.pass.seat.me c.copy_items.new.pass.seat.me c.write_items.new.pass.seat.me c.copy_items-2.new.pass.seat.me
-    c.requires.held (omega arith) (omega arith) c.write_head.ensures.filled
+    c.requires.held (omega arith) (omega arith) (omega arith) c.write_head.ensures.filled
     (subst (λ (v : TreeView). HasFilled c.args.row (11 + 0) c.args.before (λ k word. word ≡ get_or (last_items v) (0 + k) 0) c.write_head.new.pass.seat.me
     c.copy_items.new.pass.seat.me) one.4 c.copy_items.ensures.filled)
     c.write_items.ensures.filled

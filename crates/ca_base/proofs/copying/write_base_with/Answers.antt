@@ -11,8 +11,8 @@ returns-in-Ok-clause-written c = let still = c.item_at-old.ensures.still in let 
     let next : at + 1 ≡ suc at = omega arith in
     let is : take at xs ++ c.args.item ∷ drop (at + 1) xs ≡ set xs at c.args.item =
     ap (λ n. take at xs ++ c.args.item ∷ drop n xs) next ∙ sym (set_split xs at c.args.item (omega arith)) in
-    subst (λ (p : Result ℕ ℕ). HasWritten c.args.row (SpellsBase (put_in xs p c.args.item) c.args.statistic) c.args.pass.now.seat.me
+    subst (λ (p : Result ℕ ℕ). HasWritten c.args.row (SpellsBase (put_in xs p c.args.item) c.args.level c.args.statistic) c.args.pass.now.seat.me
     c.write_around.new.pass.seat.me) (sym c.in-Ok.is)
-    (subst (λ (ys : List ℕ). HasWritten c.args.row (SpellsBase ys c.args.statistic) c.args.pass.now.seat.me c.write_around.new.pass.seat.me) is
+    (subst (λ (ys : List ℕ). HasWritten c.args.row (SpellsBase ys c.args.level c.args.statistic) c.args.pass.now.seat.me c.write_around.new.pass.seat.me) is
     (subst (λ (m : MyTree). HasWritten c.args.row (SpellsBase (take at (last_items m.0.upper) ++ c.args.item ∷ drop (at + 1) (last_items m.0.upper))
-    c.args.statistic) m c.write_around.new.pass.seat.me) still c.write_around.ensures.written))
+    c.args.level c.args.statistic) m c.write_around.new.pass.seat.me) still c.write_around.ensures.written))

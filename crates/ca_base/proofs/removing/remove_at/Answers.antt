@@ -1,11 +1,12 @@
 use Rattle.std.proofs.Common.{◌≡◌, [], ◌∷◌, length, Ok, sym, refl, ap, ◌∙◌, subst, arith}
 use Rattle.std.specs.List.{remove}
 use Rattle.ca_node.proofs.Members.{in_first}
+use Rattle.ca_node.specs.Told.{IsBaseNote}
 use Rattle.ca_node.specs.TreeView.{TreeView}
+use Rattle.ca_base.specs.Finding.{IsAtCursor}
 use Rattle.ca_base.specs.Putting.{gone, IsShownLast, first_note, last_items}
-use Rattle.ca_base.specs.Writing.{SpellsBase}
-use Rattle.ca_base.proofs.Readying.{place_in, many_are, few_are}
-use Rattle.ca_base.proofs.TakingOut.{ready_without, removed}
+use Rattle.ca_base.proofs.Readying.{place_in, many_are, few_are, spells_there}
+use Rattle.ca_base.proofs.TakingOut.{ready_without, removed, renewed_without}
 use Rattle.ca_base.proofs.Unlinking.{written_row}
 use Rattle.ca_rows.specs.declared.view.Pin.{Pin}
 use Rattle.ca_base.proofs.removing.remove_at.Goals as goal
@@ -23,18 +24,18 @@ pub write_base_without-old-requires-clause-pinned : goal.write_base_without-old-
 write_base_without-old-requires-clause-pinned c = ap (λ (e : Pin). e.pinned) c.take.ensures.same.3 ∙ c.requires.pinned
 
 pub write_base_without-old-requires-clause-shown : goal.write_base_without-old-requires-clause-shown
-write_base_without-old-requires-clause-shown c = subst (λ (u : TreeView). IsShownLast c.args.space.now.table.shared.key u c.args.base)
+write_base_without-old-requires-clause-shown c = subst (λ (u : TreeView). IsShownLast c.args.space.now.table.shared.key u c.args.cursor.base)
     (sym c.take.ensures.same.4) c.requires.shown
 
 pub write_base_without-old-requires-clause-many : goal.write_base_without-old-requires-clause-many
 write_base_without-old-requires-clause-many c = let u = c.args.pass.now.seat.me.0.upper in (
   subst (λ (v : TreeView). c.args.many ≡ length (last_items v)) (sym c.take.ensures.same.4)
-      (many_are _ u c.args.base c.args.many c.requires.shown c.requires.many),
-  few_are _ u c.args.base c.args.many c.requires.shown c.requires.many c.requires.leaf,
+      (many_are _ u c.args.cursor.base c.args.many c.requires.shown c.requires.many),
+  few_are _ u c.args.cursor.base c.args.many c.requires.shown c.requires.many c.requires.leaf,
 )
 
 pub write_base_without-old-requires-clause-place : goal.write_base_without-old-requires-clause-place
-write_base_without-old-requires-clause-place c = place_in c.args.space.now.table.shared.key c.args.pass.now.seat.me.0.upper c.args.base c.args.many
+write_base_without-old-requires-clause-place c = place_in c.args.space.now.table.shared.key c.args.pass.now.seat.me.0.upper c.args.cursor.base c.args.many
     (Ok c.args.at) _ c.requires.shown c.requires.many c.requires.place
 
 pub swap_in-requires-clause-held : goal.swap_in-requires-clause-held
@@ -43,9 +44,16 @@ swap_in-requires-clause-held c = let v = c.write_base_without-old.ensures.writte
     c.write_base_without-old.new.pass.seat.me (c.in-Ok.row ∷ []) c.in-Ok.row v.0 (in_first c.in-Ok.row []) v.1.long v.2
     c.write_base_without-old.ensures.kept (c.in-Ok.ensures.taken [] (omega arith) c.requires.none).1
 
+pub swap_in-requires-clause-old_base : goal.swap_in-requires-clause-old_base
+swap_in-requires-clause-old_base c = subst (λ (u : TreeView). IsBaseNote c.args.space.now.table.shared.key (first_note u.notes))
+    (sym (c.write_base_without-old.ensures.same.4 ∙ c.take.ensures.same.4)) c.requires.shown.is_base
+
+pub swap_in-requires-clause-cursor : goal.swap_in-requires-clause-cursor
+swap_in-requires-clause-cursor c = subst (λ (u : TreeView). IsAtCursor c.args.space.now.table.shared.key (first_note u.notes) c.args.cursor)
+    (sym (c.write_base_without-old.ensures.same.4 ∙ c.take.ensures.same.4)) c.requires.cursor
+
 pub swap_in-requires-clause-rows : goal.swap_in-requires-clause-rows
 swap_in-requires-clause-rows c = let one = c.take.ensures.same in let two = c.write_base_without-old.ensures.same in (
-  ap (λ (u : TreeView). (first_note u.notes).row) (two.4 ∙ one.4) ∙ c.requires.shown.here,
   refl,
   ap (λ (u : TreeView). gone (Ok c.args.at) (last_items u)) two.4
       ∙ (ap (λ x. x ∷ []) (sym c.write_base_without-old.ensures.gone) ∙ sym c.from_ref-goes.ensures.value),
@@ -55,13 +63,24 @@ pub swap_in-requires-clause-update : goal.swap_in-requires-clause-update
 swap_in-requires-clause-update c = let v = c.write_base_without-old.ensures.written in let r = c.requires in
     let one = c.take.ensures.same in let two = c.write_base_without-old.ensures.same in
     ready_without c.args.space.now.table.shared.key c.args.pass.now.seat.me c.take.new.pass.seat.me c.write_base_without-old.new.pass.seat.me c.in-Ok.row
-    c.args.base c.args.at _ c.args._key.now v.0 r.shown (two.4 ∙ one.4) r.place
-    (subst (λ (u : TreeView). SpellsBase (remove (last_items u) c.args.at) _ v.0) one.4 v.1) v.2 r.pinned r.number (two.3 ∙ one.3) r.ordered
+    c.args.cursor.base c.args.at c.args.statistic c.args._key.now v.0 r.shown (two.4 ∙ one.4) r.place
+    (spells_there c.args.pass.now.seat.me.0.upper c.take.new.pass.seat.me.0.upper (λ xs. remove xs c.args.at) _ c.args.cursor.level c.args.statistic v.0 one.4
+    r.cursor.level v.1) v.2 r.pinned r.number (two.3 ∙ one.3) r.ordered r.about
 
 pub returns-clause-removed : goal.returns-clause-removed
 returns-clause-removed c = let v = c.write_base_without-old.ensures.written in let r = c.requires in
     let one = c.take.ensures.same in let two = c.write_base_without-old.ensures.same in
     removed c.args.space.now.table.shared.key c.args.pass.now.seat.me c.take.new.pass.seat.me c.write_base_without-old.new.pass.seat.me c.in-Ok.row
-    c.args.base c.args.at _ c.args._key.now v.0 r.shown (two.4 ∙ one.4) r.place
-    (subst (λ (u : TreeView). SpellsBase (remove (last_items u) c.args.at) _ v.0) one.4 v.1) v.2
+    c.args.cursor.base c.args.at c.args.statistic c.args._key.now v.0 r.shown (two.4 ∙ one.4) r.place
+    (spells_there c.args.pass.now.seat.me.0.upper c.take.new.pass.seat.me.0.upper (λ xs. remove xs c.args.at) _ c.args.cursor.level c.args.statistic v.0 one.4
+    r.cursor.level v.1) v.2
     c.swap_in.result c.swap_in.new.pass.seat.me.0.upper c.swap_in.ensures.done
+
+pub returns-clause-renewed : goal.returns-clause-renewed
+returns-clause-renewed c = let v = c.write_base_without-old.ensures.written in let r = c.requires in
+    let one = c.take.ensures.same in let two = c.write_base_without-old.ensures.same in
+    renewed_without c.args.space.now.table.shared.key c.args.pass.now.seat.me c.take.new.pass.seat.me c.write_base_without-old.new.pass.seat.me c.in-Ok.row
+    c.args.cursor.base c.args.at c.args.statistic c.args._key.now v.0 r.shown (two.4 ∙ one.4) r.place
+    (spells_there c.args.pass.now.seat.me.0.upper c.take.new.pass.seat.me.0.upper (λ xs. remove xs c.args.at) _ c.args.cursor.level c.args.statistic v.0 one.4
+    r.cursor.level v.1) v.2
+    c.swap_in.result c.swap_in.new.pass.seat.me.0.upper c.swap_in.ensures.renewed

@@ -1,8 +1,18 @@
-use Rattle.std.proofs.Common.{◌∷◌, ap, ◌∙◌}
+use Rattle.std.proofs.Common.{ℕ, List, ◌∷◌, sym, ap, subst, ◌∙◌}
 use Rattle.ca_base.specs.Counting.{losses}
 use Rattle.ca_base.proofs.Counts.{none_spent}
+use Rattle.ca_base.specs.Taking.{HasHeld}
+use Rattle.ca_base.proofs.Renewing.{renewed}
 use Rattle.ca_base.proofs.Unlinking.{held_still, swapped, is_done}
 use Rattle.ca_base.proofs.swapping.swap_in.Goals as goal
+
+pub give_back-requires-clause-held : goal.give_back-requires-clause-held
+give_back-requires-clause-held g c = (
+  c.args.comes.now,
+  c.requires.apart.0.0,
+  held_still c.args.space.now.table.shared.key.rows c.args.pass.now.kept c.replace_base.new.pass.kept c.args.pass.now.seat.me c.replace_base.new.pass.seat.me
+      (c.args.new ∷ c.args.comes.now) c.if-not-replace_base.ensures.done c.replace_base.ensures.kept c.requires.held,
+)
 
 pub give_back_all-requires-clause-held : goal.give_back_all-requires-clause-held
 give_back_all-requires-clause-held g c = c.give_back.ensures.given c.args.comes.now c.requires.apart.0.0
@@ -12,15 +22,17 @@ give_back_all-requires-clause-held g c = c.give_back.ensures.given c.args.comes.
 pub retire_unlinked-requires-clause-unlinked : goal.retire_unlinked-requires-clause-unlinked
 retire_unlinked-requires-clause-unlinked g c = let r = c.requires.rows in
     let now = swapped c.args.space.now.table.shared.key.rows c.args.pass.now.kept c.replace_base.new.pass.kept c.args.pass.now.seat.me
-    c.replace_base.new.pass.seat.me c.args.new g.K.Intent.update c.args.base (c.args.new ∷ c.args.comes.now) c.args.goes.now
-    (ap (λ xs. c.args.new ∷ xs) r.1) r.0 r.2 c.if-not-replace_base.ensures.done c.replace_base.ensures.kept c.requires.apart.0 c.requires.held in
+    c.replace_base.new.pass.seat.me c.args.new g.K.Intent.update c.args.cursor.base (c.args.new ∷ c.args.comes.now) c.args.goes.now
+    (ap (λ xs. c.args.new ∷ xs) r.0) c.requires.cursor.base r.1 c.if-not-replace_base.ensures.done c.replace_base.ensures.kept c.requires.apart.0
+    c.requires.held in
     (c.args.goes.now, now.0, now.1)
 
 pub retire_all-requires-clause-unlinked : goal.retire_all-requires-clause-unlinked
 retire_all-requires-clause-unlinked g c = let r = c.requires.rows in
     let now = swapped c.args.space.now.table.shared.key.rows c.args.pass.now.kept c.replace_base.new.pass.kept c.args.pass.now.seat.me
-    c.replace_base.new.pass.seat.me c.args.new g.K.Intent.update c.args.base (c.args.new ∷ c.args.comes.now) c.args.goes.now
-    (ap (λ xs. c.args.new ∷ xs) r.1) r.0 r.2 c.if-not-replace_base.ensures.done c.replace_base.ensures.kept c.requires.apart.0 c.requires.held in
+    c.replace_base.new.pass.seat.me c.args.new g.K.Intent.update c.args.cursor.base (c.args.new ∷ c.args.comes.now) c.args.goes.now
+    (ap (λ xs. c.args.new ∷ xs) r.0) c.requires.cursor.base r.1 c.if-not-replace_base.ensures.done c.replace_base.ensures.kept c.requires.apart.0
+    c.requires.held in
     c.retire_unlinked.ensures.retired c.args.goes.now now.0 now.1
 
 pub returns-clause-done : goal.returns-clause-done
@@ -31,3 +43,11 @@ returns-clause-done g c = is_done c.args.space.now.table.shared.key c.args.new g
 pub returns-clause-counted : goal.returns-clause-counted
 returns-clause-counted g c = none_spent c.args.spent.now c.args.pass.now.seat.me c.retire_all.new.pass.seat.me
     (c.retire_all.ensures.met.0 ∙ (c.retire_unlinked.ensures.met.0 ∙ ap losses c.if-not-replace_base.ensures.done.now))
+
+pub returns-clause-renewed : goal.returns-clause-renewed
+returns-clause-renewed g c = renewed c.args.space.now.table.shared.key c.args.pass.now.kept.rows c.args.pass.now.seat.me c.args.new g.K.Intent.update
+    c.requires.update c.requires.old_base
+    (subst (λ (xs : List ℕ). HasHeld c.args.space.now.table.shared.key.rows c.args.pass.now.kept.rows c.args.pass.now.seat.me.0.claims (c.args.new ∷ xs))
+    (sym c.requires.rows.0) c.requires.held.0)
+    c.replace_base.new.pass.seat.me c.retire_all.new.pass.seat.me.0.upper c.if-not-replace_base.ensures.done
+    (c.retire_all.ensures.same.4 ∙ c.retire_unlinked.ensures.same.4)

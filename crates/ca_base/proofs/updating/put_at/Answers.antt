@@ -1,10 +1,11 @@
 use Rattle.std.proofs.Common.{◌≡◌, ℕ, List, [], ◌∷◌, length, sym, refl, ap, ◌∙◌, subst}
 use Rattle.ca_node.proofs.HeldRows.{AreApart}
 use Rattle.ca_node.proofs.Members.{in_first, in_rest}
+use Rattle.ca_node.specs.Told.{IsBaseNote}
 use Rattle.ca_node.specs.TreeView.{TreeView}
+use Rattle.ca_base.specs.Finding.{IsAtCursor}
 use Rattle.ca_base.specs.Putting.{put_in, gone, IsRoom, IsShownLast, first_note, last_items}
-use Rattle.ca_base.specs.Writing.{SpellsBase}
-use Rattle.ca_base.proofs.Readying.{finds_place, place_in, many_are, few_are, ready}
+use Rattle.ca_base.proofs.Readying.{finds_place, place_in, many_are, few_are, spells_there, ready, tried, renewed_so}
 use Rattle.ca_base.proofs.Rest.{two_apart, gone_apart}
 use Rattle.ca_base.proofs.Unlinking.{written_row}
 use Rattle.ca_rows.specs.declared.view.Pin.{Pin}
@@ -30,19 +31,19 @@ pub write_base_with-old-requires-clause-pinned : goal.write_base_with-old-requir
 write_base_with-old-requires-clause-pinned c = ap (λ (e : Pin). e.pinned) (c.write_object.ensures.same.3 ∙ c.take_two.ensures.same.3) ∙ c.requires.pinned
 
 pub write_base_with-old-requires-clause-shown : goal.write_base_with-old-requires-clause-shown
-write_base_with-old-requires-clause-shown c = subst (λ (u : TreeView). IsShownLast c.args.space.now.table.shared.key u c.args.base)
+write_base_with-old-requires-clause-shown c = subst (λ (u : TreeView). IsShownLast c.args.space.now.table.shared.key u c.args.cursor.base)
     (sym (c.write_object.ensures.same.4 ∙ c.take_two.ensures.same.4)) c.requires.shown
 
 pub write_base_with-old-requires-clause-many : goal.write_base_with-old-requires-clause-many
 write_base_with-old-requires-clause-many c = let u = c.args.pass.now.seat.me.0.upper in (
   subst (λ (v : TreeView). c.args.many ≡ length (last_items v)) (sym (c.write_object.ensures.same.4 ∙ c.take_two.ensures.same.4))
-      (many_are _ u c.args.base c.args.many c.requires.shown c.requires.many),
-  few_are _ u c.args.base c.args.many c.requires.shown c.requires.many c.requires.leaf,
+      (many_are _ u c.args.cursor.base c.args.many c.requires.shown c.requires.many),
+  few_are _ u c.args.cursor.base c.args.many c.requires.shown c.requires.many c.requires.leaf,
 )
 
 pub write_base_with-old-requires-clause-place : goal.write_base_with-old-requires-clause-place
 write_base_with-old-requires-clause-place c = finds_place c.args.place c.args.many c.args.space.now.table.shared.key.leaf
-    (place_in c.args.space.now.table.shared.key c.args.pass.now.seat.me.0.upper c.args.base c.args.many c.args.place _ c.requires.shown c.requires.many
+    (place_in c.args.space.now.table.shared.key c.args.pass.now.seat.me.0.upper c.args.cursor.base c.args.many c.args.place _ c.requires.shown c.requires.many
     c.requires.place)
     c.requires.room c.requires.leaf
 
@@ -56,10 +57,17 @@ swap_in-requires-clause-held c = let t = c.in-Ok.ensures.taken in let w = c.writ
     c.write_object.new.pass.seat.me rows c.in-Ok.rows.1 w.0 (in_rest c.in-Ok.rows.1 c.in-Ok.rows.0 (c.in-Ok.rows.1 ∷ []) (in_first c.in-Ok.rows.1 []))
     w.1.long w.2 c.write_object.ensures.kept t.1)
 
+pub swap_in-requires-clause-old_base : goal.swap_in-requires-clause-old_base
+swap_in-requires-clause-old_base c = let same = c.write_base_with-old.ensures.same.4 ∙ (c.write_object.ensures.same.4 ∙ c.take_two.ensures.same.4) in
+    subst (λ (u : TreeView). IsBaseNote c.args.space.now.table.shared.key (first_note u.notes)) (sym same) c.requires.shown.is_base
+
+pub swap_in-requires-clause-cursor : goal.swap_in-requires-clause-cursor
+swap_in-requires-clause-cursor c = let same = c.write_base_with-old.ensures.same.4 ∙ (c.write_object.ensures.same.4 ∙ c.take_two.ensures.same.4) in
+    subst (λ (u : TreeView). IsAtCursor c.args.space.now.table.shared.key (first_note u.notes) c.args.cursor) (sym same) c.requires.cursor
+
 pub swap_in-requires-clause-rows : goal.swap_in-requires-clause-rows
 swap_in-requires-clause-rows c = let one = c.take_two.ensures.same in let two = c.write_object.ensures.same in
     let three = c.write_base_with-old.ensures.same in (
-      ap (λ (u : TreeView). (first_note u.notes).row) (three.4 ∙ (two.4 ∙ one.4)) ∙ c.requires.shown.here,
       refl,
       ap (λ (u : TreeView). gone c.args.place (last_items u)) three.4 ∙ sym (c.gone-goes.ensures _ c.write_base_with-old.ensures.gone),
     )
@@ -69,15 +77,38 @@ swap_in-requires-clause-update c = let t = c.in-Ok.ensures.taken in let w = c.wr
     let v = c.write_base_with-old.ensures.written in let r = c.requires in
     let one = c.take_two.ensures.same in let two = c.write_object.ensures.same in let three = c.write_base_with-old.ensures.same in
     ready c.args.space.now.table.shared.key c.args.pass.now.seat.me c.take_two.new.pass.seat.me c.write_object.new.pass.seat.me
-    c.write_base_with-old.new.pass.seat.me c.in-Ok.rows.1 c.in-Ok.rows.0 c.args.base c.args.place c.args.why c.args.object.now c.args.key_at c.args.key_end
-    _ w.0 v.0 r.shown (three.4 ∙ (two.4 ∙ one.4)) (λ e. t.0 (sym e)) w.1 w.2
-    (subst (λ (u : TreeView). SpellsBase (put_in (last_items u) c.args.place c.in-Ok.rows.1) _ v.0) (two.4 ∙ one.4) v.1) v.2
+    c.write_base_with-old.new.pass.seat.me c.in-Ok.rows.1 c.in-Ok.rows.0 c.args.cursor.base c.args.place c.args.why c.args.object.now
+    c.args.key_at c.args.key_end c.args.statistic w.0 v.0 r.shown (three.4 ∙ (two.4 ∙ one.4)) (λ e. t.0 (sym e)) w.1 w.2
+    (spells_there c.args.pass.now.seat.me.0.upper c.write_object.new.pass.seat.me.0.upper (λ xs. put_in xs c.args.place c.in-Ok.rows.1) _ c.args.cursor.level
+    c.args.statistic v.0 (two.4 ∙ one.4) r.cursor.level v.1) v.2
     r.pinned r.number
-    (subst (λ (n : ℕ). IsRoom c.args.place n c.args.space.now.table.shared.key.leaf) (many_are _ _ c.args.base c.args.many r.shown r.many) r.room)
-    r.pair r.place r.call (three.3 ∙ (two.3 ∙ one.3))
+    (subst (λ (n : ℕ). IsRoom c.args.place n c.args.space.now.table.shared.key.leaf) (many_are _ _ c.args.cursor.base c.args.many r.shown r.many) r.room)
+    r.pair r.place r.call (three.3 ∙ (two.3 ∙ one.3)) r.about
 
 pub swap_in-requires-clause-apart : goal.swap_in-requires-clause-apart
 swap_in-requires-clause-apart c = (
   two_apart c.in-Ok.rows.0 c.in-Ok.rows.1 c.in-Ok.ensures.taken.0,
   subst AreApart (sym (c.gone-goes.ensures _ c.write_base_with-old.ensures.gone)) (gone_apart c.args.place _),
 )
+
+pub returns-clause-put : goal.returns-clause-put
+returns-clause-put c = let t = c.in-Ok.ensures.taken in let w = c.write_object.ensures.written in
+    let v = c.write_base_with-old.ensures.written in let r = c.requires in
+    let one = c.take_two.ensures.same in let two = c.write_object.ensures.same in let three = c.write_base_with-old.ensures.same in
+    tried c.args.space.now.table.shared.key c.args.pass.now.seat.me c.take_two.new.pass.seat.me c.write_object.new.pass.seat.me
+    c.write_base_with-old.new.pass.seat.me c.in-Ok.rows.1 c.in-Ok.rows.0 c.args.cursor.base c.args.place c.args.why c.args.object.now
+    c.args.key_at c.args.key_end c.args.statistic w.0 v.0 r.shown (three.4 ∙ (two.4 ∙ one.4)) (λ e. t.0 (sym e)) w.1 w.2
+    (spells_there c.args.pass.now.seat.me.0.upper c.write_object.new.pass.seat.me.0.upper (λ xs. put_in xs c.args.place c.in-Ok.rows.1) _ c.args.cursor.level
+    c.args.statistic v.0 (two.4 ∙ one.4) r.cursor.level v.1) v.2
+    c.swap_in.result c.swap_in.new.pass.seat.me.0.upper c.swap_in.ensures.done
+
+pub returns-clause-renewed : goal.returns-clause-renewed
+returns-clause-renewed c = let t = c.in-Ok.ensures.taken in let w = c.write_object.ensures.written in
+    let v = c.write_base_with-old.ensures.written in let r = c.requires in
+    let one = c.take_two.ensures.same in let two = c.write_object.ensures.same in let three = c.write_base_with-old.ensures.same in
+    renewed_so c.args.space.now.table.shared.key c.args.pass.now.seat.me c.take_two.new.pass.seat.me c.write_object.new.pass.seat.me
+    c.write_base_with-old.new.pass.seat.me c.in-Ok.rows.1 c.in-Ok.rows.0 c.args.cursor.base c.args.place c.args.why c.args.object.now
+    c.args.key_at c.args.key_end c.args.statistic w.0 v.0 r.shown (three.4 ∙ (two.4 ∙ one.4)) (λ e. t.0 (sym e)) w.1 w.2
+    (spells_there c.args.pass.now.seat.me.0.upper c.write_object.new.pass.seat.me.0.upper (λ xs. put_in xs c.args.place c.in-Ok.rows.1) _ c.args.cursor.level
+    c.args.statistic v.0 (two.4 ∙ one.4) r.cursor.level v.1) v.2
+    c.swap_in.result c.swap_in.new.pass.seat.me.0.upper c.swap_in.ensures.renewed

@@ -1,4 +1,4 @@
-use Rattle.std.proofs.Common.{refl}
+use Rattle.std.proofs.Common.{refl, arith}
 use Rattle.ca_base.proofs.Filling.{filled_held}
 use Rattle.ca_base.proofs.LastItems.{base_written}
 use Rattle.ca_base.proofs.writing.write_base.Goals as goal
@@ -8,5 +8,5 @@ write_items-requires-clause-held c = filled_held c.args.row 0 7 _ c.args.pass.no
     c.requires.held
 
 pub returns-clause-written : goal.returns-clause-written
-returns-clause-written c = base_written c.args.row _ c.args.statistic c.args.items.now c.args.pass.now.seat.me c.write_head.new.pass.seat.me
-    c.write_items.new.pass.seat.me c.requires.held refl c.requires.few c.write_head.ensures.filled c.write_items.ensures.filled
+returns-clause-written c = base_written c.args.row c.args.level _ c.args.statistic c.args.items.now c.args.pass.now.seat.me c.write_head.new.pass.seat.me
+    c.write_items.new.pass.seat.me c.requires.held (omega arith) refl c.requires.few c.write_head.ensures.filled c.write_items.ensures.filled

@@ -6,18 +6,23 @@ use Rattle.ca_node.specs.Told.{MyTree}
 use Rattle.ca_base.specs.Putting.{first_note}
 use Rattle.ca_base.proofs.Searching.{place_inside}
 use Rattle.ca_replace.specs.Attempting.{HasFetched}
-use Rattle.ca_replace.proofs.Showing.{fetched}
+use Rattle.ca_replace.proofs.Showing.{fetched, none_found}
 use Rattle.ca_replace.proofs.attempting.fetch.Goals as goal
 
 pub copy_at-requires-clause-readable : goal.copy_at-requires-clause-readable
-copy_at-requires-clause-readable c = let note = first_note c.find-base.new.pass.seat.me.0.upper.notes in
-    let at = subst (λ (p : Result ℕ ℕ). IsPlace (map pair note.objects) c.args.key.now p) c.in-Ok.is c.find-base.ensures.place in
-    (note, c.find-base.ensures.looking.readable, place_inside note c.args.key.now c.in-Ok.at at)
+copy_at-requires-clause-readable c = let note = first_note c.find-place.new.pass.seat.me.0.upper.notes in
+    let at = subst (λ (p : Result ℕ ℕ). IsPlace (map pair note.objects) c.args.key.now p) c.in-Ok.is c.find-place.ensures.place in
+    (note, c.find-place.ensures.looking.readable, place_inside note c.args.key.now c.in-Ok.at at)
 
 pub returns-in-Ok-clause-fetched : goal.returns-in-Ok-clause-fetched
-returns-in-Ok-clause-fetched c = let z = c.args.space.now.table.shared.key in let w = c.find-base.new.pass.seat.me.0.upper in let note = first_note w.notes in
+returns-in-Ok-clause-fetched c = let z = c.args.space.now.table.shared.key in let w = c.find-place.new.pass.seat.me.0.upper in let note = first_note w.notes in
     let old = c.copy_at.new.into.items in
-    let at = subst (λ (p : Result ℕ ℕ). IsPlace (map pair note.objects) c.args.key.now p) c.in-Ok.is c.find-base.ensures.place in
+    let at = subst (λ (p : Result ℕ ℕ). IsPlace (map pair note.objects) c.args.key.now p) c.in-Ok.is c.find-place.ensures.place in
     subst (λ (m : MyTree). HasFetched z m.0.upper c.args.key.now (Ok c.in-Ok.at) old) (sym c.copy_at.ensures.still)
-    (fetched z w c.find-base.result.0 c.in-Ok.at c.args.key.now old c.find-base.ensures.looking at
-    (c.copy_at.ensures.object note c.find-base.ensures.looking.readable (place_inside note c.args.key.now c.in-Ok.at at)))
+    (fetched z w c.find-place.result.0 c.in-Ok.at c.args.key.now old c.find-place.ensures.looking at
+    (c.copy_at.ensures.object note c.find-place.ensures.looking.readable (place_inside note c.args.key.now c.in-Ok.at at)))
+
+pub returns-in-Err-clause-fetched : goal.returns-in-Err-clause-fetched
+returns-in-Err-clause-fetched c = let z = c.args.space.now.table.shared.key in let w = c.find-place.new.pass.seat.me.0.upper in let note = first_note w.notes in
+    let at = subst (λ (p : Result ℕ ℕ). IsPlace (map pair note.objects) c.args.key.now p) c.in-Err.is c.find-place.ensures.place in
+    (none_found z w c.find-place.result.0 c.args.key.now _ c.find-place.ensures.looking at, c.clear.ensures)

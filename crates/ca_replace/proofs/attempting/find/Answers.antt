@@ -3,20 +3,29 @@ use Rattle.ca_node.specs.Told.{MyTree}
 use Rattle.ca_replace.specs.Attempting.{IsLooking}
 use Rattle.ca_base.specs.Progress.{IsFurther}
 use Rattle.ca_base.specs.Putting.{first_note}
-use Rattle.ca_replace.proofs.Showing.{place_still}
+use Rattle.ca_replace.proofs.Showing.{looking, walked_further, place_still}
 use Rattle.ca_replace.proofs.attempting.find.Goals as goal
 
 pub search-place-requires-clause-readable : goal.search-place-requires-clause-readable
-search-place-requires-clause-readable c = (first_note c.look-base.new.pass.seat.me.0.upper.notes, c.look-base.ensures.looking.readable)
+search-place-requires-clause-readable c = (
+  first_note c.walk-cursor.new.pass.seat.me.0.upper.notes,
+  (looking c.args.space.now.table.shared.key c.args.key c.args.pass.now.seat.me c.walk-cursor.new.pass.seat.me c.walk-cursor.result
+      c.walk-cursor.ensures.walked c.requires.leaf).readable,
+)
 
 pub returns-clause-looking : goal.returns-clause-looking
-returns-clause-looking c = subst (λ (m : MyTree). IsLooking c.args.space.now.table.shared.key m.0.upper c.look-base.result) (sym c.search-place.ensures.still)
-    c.look-base.ensures.looking
+returns-clause-looking c = let z = c.args.space.now.table.shared.key in
+    subst (λ (m : MyTree). IsLooking z m.0.upper c.args.key.now c.walk-cursor.result) (sym c.search-place.ensures.still)
+    (looking z c.args.key c.args.pass.now.seat.me c.walk-cursor.new.pass.seat.me c.walk-cursor.result c.walk-cursor.ensures.walked c.requires.leaf)
 
 pub returns-clause-place : goal.returns-clause-place
-returns-clause-place c = place_still c.args.space.now.table.shared.key c.look-base.new.pass.seat.me c.search-place.new.pass.seat.me c.look-base.result
-    c.args.key.now c.search-place.result c.search-place.ensures.still c.look-base.ensures.looking c.search-place.ensures.place
+returns-clause-place c = let z = c.args.space.now.table.shared.key in
+    place_still z c.walk-cursor.new.pass.seat.me c.search-place.new.pass.seat.me c.walk-cursor.result c.args.key.now c.search-place.result
+    c.search-place.ensures.still
+    (looking z c.args.key c.args.pass.now.seat.me c.walk-cursor.new.pass.seat.me c.walk-cursor.result c.walk-cursor.ensures.walked c.requires.leaf)
+    c.search-place.ensures.place
 
 pub returns-clause-further : goal.returns-clause-further
 returns-clause-further c = subst (λ (m : MyTree). IsFurther c.args.pass.now.seat.me.0.upper m.0.upper) (sym c.search-place.ensures.still)
-    c.look-base.ensures.further
+    (walked_further c.args.space.now.table.shared.key _ c.args.pass.now.seat.me c.walk-cursor.new.pass.seat.me c.walk-cursor.result
+    c.walk-cursor.ensures.walked)

@@ -10,8 +10,8 @@ pub count-many-requires-clause-readable : goal.count-many-requires-clause-readab
 count-many-requires-clause-readable c = (first_note c.args.pass.now.seat.me.0.upper.notes, c.requires.looking.readable)
 
 pub remove_at-tried-requires-clause-shown : goal.remove_at-tried-requires-clause-shown
-remove_at-tried-requires-clause-shown c = subst (λ (m : MyTree). IsShownLast c.args.space.now.table.shared.key m.0.upper c.args.base)
-    (sym c.count-many.ensures.still) (shown_last c.args.space.now.table.shared.key c.args.pass.now.seat.me.0.upper c.args.base c.requires.looking)
+remove_at-tried-requires-clause-shown c = subst (λ (m : MyTree). IsShownLast c.args.space.now.table.shared.key m.0.upper c.args.cursor.base)
+    (sym c.count-many.ensures.still) (shown_last c.args.space.now.table.shared.key c.args.pass.now.seat.me.0.upper c.args.key.now c.args.cursor c.requires.looking)
 
 pub remove_at-tried-requires-clause-many : goal.remove_at-tried-requires-clause-many
 remove_at-tried-requires-clause-many c = subst (λ (m : MyTree). c.count-many.result ≡ length (first_note m.0.upper.notes).objects)

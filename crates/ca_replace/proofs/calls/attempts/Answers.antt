@@ -1,11 +1,10 @@
 use Rattle.std.proofs.Common.{◌<◌, refl, ◌∙◌, sym, subst, inl, inr, vec_len, Result, arith}
-use Rattle.ca_base.proofs.Counts.{none_spent, spent_both}
 use Rattle.ca_base.specs.Progress.{IsFurther}
 use Rattle.ca_replace.specs.declared.attempting.Stop.{Stop}
 use Rattle.ca_replace.specs.declared.attempting.Stop.TheVariants as stop
-use Rattle.ca_replace.specs.Attempting.{HasMetBy}
+use Rattle.ca_replace.specs.Attempting.{HasMetBy, total}
 use Rattle.ca_replace.proofs.Causing.{empty_before, few_from, nearer}
-use Rattle.ca_replace.proofs.Counted.{spends_more}
+use Rattle.ca_replace.proofs.Counted.{none_paid, paid_both, spends_more}
 use Rattle.ca_replace.proofs.Meeting.{further_on}
 use Rattle.ca_replace.proofs.Turns.{no_further, stopped_further}
 use Rattle.ca_replace.proofs.calls.attempts.Goals as goal
@@ -15,7 +14,7 @@ loop-come-init g c = record {
   number = refl;
   resting = c.requires.resting;
   further = no_further c.args.pass.now.seat.me.0.upper;
-  counted = none_spent c.args.spent.now c.args.pass.now.seat.me c.args.pass.now.seat.me refl;
+  counted = none_paid c.args.spent.now c.args.pass.now.seat.me c.args.pass.now.seat.me refl refl;
   looks = omega arith;
   worn = refl;
   first = inl (refl, refl);
@@ -26,14 +25,14 @@ turns-come-requires-clause-resting g c = c.loop-come.invariant.resting
 
 pub loop-come-smaller : goal.loop-come-smaller
 loop-come-smaller g c = let again = c.in_default.ensures.again refl in let i = c.loop-come.invariant in let turns = c.turns-come.ensures.counted in
-    let so_far = spent_both c.args.spent.now c.loop-come.spent c.turns-come.new.spent c.args.pass.now.seat.me c.loop-come.pass.seat.me
+    let so_far = paid_both c.args.spent.now c.loop-come.spent c.turns-come.new.spent c.args.pass.now.seat.me c.loop-come.pass.seat.me
     c.turns-come.new.pass.seat.me i.counted turns in
-    nearer c.args.budget c.loop-come.spent.lost c.turns-come.new.spent.lost c.refill.new.spent.lost (vec_len c.loop-come.pass.kept.rows)
+    nearer c.args.budget (total c.loop-come.spent) (total c.turns-come.new.spent) (total c.refill.new.spent) (vec_len c.loop-come.pass.kept.rows)
     (vec_len c.refill.new.pass.kept.rows)
     (spends_more c.args.spent.now c.loop-come.spent c.turns-come.new.spent c.args.pass.now.seat.me c.loop-come.pass.seat.me c.turns-come.new.pass.seat.me
-    c.requires.none.0 i.counted turns)
+    c.requires.none i.counted turns)
     (spends_more c.args.spent.now c.turns-come.new.spent c.refill.new.spent c.args.pass.now.seat.me c.turns-come.new.pass.seat.me c.refill.new.pass.seat.me
-    c.requires.none.0 so_far c.refill.ensures.counted)
+    c.requires.none so_far c.refill.ensures.counted)
     (subst (λ n. 0 < n) c.kept-kept.ensures again.0, again.1, again.2)
 
 -- An attempt that found no free row, and rows that were given back, behind the attempts so far.
@@ -47,8 +46,8 @@ loop-come-preserved g c = let i = c.loop-come.invariant in let tells = λ (x : _
       further = subst (IsFurther start.0.upper) (sym c.refill.ensures.upper) (further_on start.0.upper before.0.upper behind.0.upper i.further
           (stopped_further tells c.args.tree.now.space.table.shared.key c.turns-come.result stop.Empty before.0.upper behind.0.upper empty
           c.turns-come.ensures.tried));
-      counted = spent_both c.args.spent.now c.turns-come.new.spent c.refill.new.spent start behind last
-          (spent_both c.args.spent.now c.loop-come.spent c.turns-come.new.spent start before behind i.counted c.turns-come.ensures.counted)
+      counted = paid_both c.args.spent.now c.turns-come.new.spent c.refill.new.spent start behind last
+          (paid_both c.args.spent.now c.loop-come.spent c.turns-come.new.spent start before behind i.counted c.turns-come.ensures.counted)
           c.refill.ensures.counted;
       looks = let before = i.looks in let same = c.turns-come.ensures.looks in let more = c.refill.ensures.looked in omega arith;
       worn = omega (arith, i.worn, met.1, given.1);

@@ -1,6 +1,6 @@
 use Rattle.std.proofs.Common.{◌≡◌, ◌⊎◌, ◌+◌, ◌-◌, ◌*◌, ◌≤◌, min, vec_len}
-use Rattle.ca_base.specs.Counting.{IsSpent}
 use Rattle.ca_base.specs.Progress.{IsFurther}
+use Rattle.ca_replace.specs.Attempting.{IsPaid, total}
 use Rattle.ca_replace.specs.Resting.{IsResting}
 use Rattle.ca_replace.proofs.calls.attempts.Given as goal
 
@@ -9,7 +9,7 @@ invariant-loop-come g l = record {
   number : l.pass.number ≡ l.fn.pass.number;
   resting : IsResting l.tree.space.table.shared.table_id l.tree.space.table.shared.key l.pass.number l.pass.kept.rows l.pass.seat;
   further : IsFurther l.fn.pass.seat.me.0.upper l.pass.seat.me.0.upper;
-  counted : IsSpent l.fn.spent l.spent l.fn.pass.seat.me l.pass.seat.me;
+  counted : IsPaid l.fn.spent l.spent l.fn.pass.seat.me l.pass.seat.me;
   looks : l.fn.pass.seat.me.0.pin.looks ≤ l.pass.seat.me.0.pin.looks;
   worn : l.pass.seat.me.0.worn ≡ l.fn.pass.seat.me.0.worn;
   first : ((vec_len l.pass.kept.rows ≡ vec_len l.fn.pass.kept.rows) × (l.pass.seat.me.0.empty ≡ l.fn.pass.seat.me.0.empty))
@@ -17,4 +17,4 @@ invariant-loop-come g l = record {
 }
 
 abbrev pub decreases-loop-come : goal.decreases-loop-come
-decreases-loop-come g l = 2 * (l.budget - l.spent.lost) + min (vec_len l.pass.kept.rows) 1
+decreases-loop-come g l = 2 * (l.budget - total l.spent) + min (vec_len l.pass.kept.rows) 1

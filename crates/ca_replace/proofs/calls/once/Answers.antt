@@ -1,6 +1,7 @@
-use Rattle.std.proofs.Common.{sym, ap, ◌∙◌, subst, arith}
+use Rattle.std.proofs.Common.{ap, ◌∙◌, subst, arith}
 use Rattle.ca_node.specs.Told.{MyTree}
 use Rattle.ca_replace.specs.Attempting.{HasTriedTo}
+use Rattle.ca_replace.specs.Made.{IsTuned}
 use Rattle.ca_rows.specs.declared.sizes.Sizes.{Sizes}
 use Rattle.ca_replace.proofs.Turns.{rests_as, rests_again, none_pinned, tried_pinned, tried_known}
 use Rattle.ca_replace.proofs.calls.once.Goals as goal
@@ -13,9 +14,8 @@ pub attempt-tried-requires-clause-none : goal.attempt-tried-requires-clause-none
 attempt-tried-requires-clause-none g c = none_pinned c.args.tree.now.space.table.shared.table_id c.args.tree.now.space.table.shared.key c.args.pass.now.number
     c.args.pass.now.kept c.pin.new.pass.kept c.args.pass.now.seat c.pin.new.pass.seat _ _ c.requires.resting c.pin.ensures.pinned.3 c.pin.ensures.kept
 
-pub attempt-tried-requires-clause-leaf : goal.attempt-tried-requires-clause-leaf
-attempt-tried-requires-clause-leaf g c = let tree = c.args.tree.now in let most = tree.tuned.allowed.most_leaf in
-    (sym tree.tuned.leaf ∙ ap (λ (y : Sizes). y.leaf) tree.space.same, omega arith)
+pub attempt-tried-requires-clause-tuned : goal.attempt-tried-requires-clause-tuned
+attempt-tried-requires-clause-tuned g c = let tree = c.args.tree.now in subst (λ (y : Sizes). IsTuned y tree.tuning) tree.space.same tree.tuned
 
 pub returns-clause-resting : goal.returns-clause-resting
 returns-clause-resting g c = let space = c.args.tree.now.space.table.shared in let pin = c.pin.ensures.pinned.3 in let two = c.attempt-tried.ensures in

@@ -1,74 +1,73 @@
-use Rattle.std.proofs.Common.{refl, ◌∙◌, arith}
-use Rattle.ca_replace.specs.declared.attempting.Stop.TheVariants as stop
-use Rattle.ca_base.proofs.Counts.{met_both, none_spent, spent_both}
-use Rattle.ca_replace.proofs.Counted.{met_lost, met_then, none_met, one_turn_less}
+use Rattle.std.proofs.Common.{◌<◌, refl, ◌∙◌, subst, arith}
+use Rattle.ca_base.proofs.Counts.{met_both}
+use Rattle.ca_replace.proofs.Counted.{met_turn, met_then, none_met, none_paid, one_turn_less, paid_both}
 use Rattle.ca_replace.proofs.Meeting.{further_on}
 use Rattle.ca_replace.proofs.Showing.{tried_on}
-use Rattle.ca_replace.proofs.Turns.{stopped_further, no_further}
+use Rattle.ca_replace.proofs.Turns.{turn_further, no_further}
 use Rattle.ca_replace.proofs.calls.turns.Goals as goal
 
-pub loop-spent-init : goal.loop-spent-init
-loop-spent-init g c = record {
+pub loop-pass-init : goal.loop-pass-init
+loop-pass-init g c = record {
   number = refl;
   resting = c.requires.resting;
   further = no_further c.args.pass.now.seat.me.0.upper;
-  counted = none_spent c.args.spent.now c.args.pass.now.seat.me c.args.pass.now.seat.me refl;
+  counted = none_paid c.args.spent.now c.args.pass.now.seat.me c.args.pass.now.seat.me refl refl;
   looks = refl;
   met = none_met c.args.pass.now.seat.me;
 }
 
 pub once-tried-requires-clause-resting : goal.once-tried-requires-clause-resting
-once-tried-requires-clause-resting g c = c.loop-spent.invariant.resting
+once-tried-requires-clause-resting g c = c.loop-pass.invariant.resting
 
-pub loop-spent-preserved : goal.loop-spent-preserved
-loop-spent-preserved g c = let tells = λ (x : _). g.A.Attempt.tells c.args.what.now x c.once-tried.new.left in record {
-  number = c.once-tried.ensures.number ∙ c.loop-spent.invariant.number;
+pub loop-pass-preserved : goal.loop-pass-preserved
+loop-pass-preserved g c = let tells = λ (x : _). g.A.Attempt.tells c.args.what.now x c.once-tried.new.left in record {
+  number = c.once-tried.ensures.number ∙ c.loop-pass.invariant.number;
   resting = c.once-tried.ensures.resting;
-  further = further_on c.args.pass.now.seat.me.0.upper c.loop-spent.pass.seat.me.0.upper c.once-tried.new.pass.seat.me.0.upper c.loop-spent.invariant.further
-      (stopped_further tells c.args.tree.now.space.table.shared.key c.once-tried.result stop.Lost c.loop-spent.pass.seat.me.0.upper
-      c.once-tried.new.pass.seat.me.0.upper (c.if-not-is_lost.ensures.0 refl) c.once-tried.ensures.tried);
-  counted = spent_both c.args.spent.now c.loop-spent.spent c.once-tried.new.spent c.args.pass.now.seat.me c.loop-spent.pass.seat.me
-      c.once-tried.new.pass.seat.me c.loop-spent.invariant.counted c.once-tried.ensures.counted;
-  looks = c.once-tried.ensures.looks ∙ c.loop-spent.invariant.looks;
-  met = met_both 0 0 0 0 c.args.pass.now.seat.me c.loop-spent.pass.seat.me c.once-tried.new.pass.seat.me c.loop-spent.invariant.met
-      (met_lost c.once-tried.result c.loop-spent.pass.seat.me c.once-tried.new.pass.seat.me (c.if-not-is_lost.ensures.0 refl) c.once-tried.ensures.found).0;
+  further = further_on c.args.pass.now.seat.me.0.upper c.loop-pass.pass.seat.me.0.upper c.once-tried.new.pass.seat.me.0.upper c.loop-pass.invariant.further
+      (turn_further tells c.args.tree.now.space.table.shared.key c.once-tried.result c.loop-pass.pass.seat.me.0.upper
+      c.once-tried.new.pass.seat.me.0.upper (c.if-not-has_next.ensures.0 refl) c.once-tried.ensures.tried);
+  counted = paid_both c.args.spent.now c.loop-pass.spent c.once-tried.new.spent c.args.pass.now.seat.me c.loop-pass.pass.seat.me
+      c.once-tried.new.pass.seat.me c.loop-pass.invariant.counted c.once-tried.ensures.counted;
+  looks = c.once-tried.ensures.looks ∙ c.loop-pass.invariant.looks;
+  met = met_both 0 0 0 0 c.args.pass.now.seat.me c.loop-pass.pass.seat.me c.once-tried.new.pass.seat.me c.loop-pass.invariant.met
+      (met_turn c.once-tried.result c.loop-pass.pass.seat.me c.once-tried.new.pass.seat.me (c.if-not-has_next.ensures.0 refl) c.once-tried.ensures.found).0;
 }
 
 pub returns-clause-number : goal.returns-clause-number
-returns-clause-number g c = c.loop-spent.invariant.number
+returns-clause-number g c = c.loop-pass.invariant.number
 
 pub returns-clause-resting : goal.returns-clause-resting
-returns-clause-resting g c = c.loop-spent.invariant.resting
+returns-clause-resting g c = c.loop-pass.invariant.resting
 
 pub returns-clause-tried : goal.returns-clause-tried
-returns-clause-tried g c = (c.loop-spent.invariant.further, c.loop-spent.invariant.resting.known)
+returns-clause-tried g c = (c.loop-pass.invariant.further, c.loop-pass.invariant.resting.known)
 
-pub returns-then-not-is_lost-clause-number : goal.returns-then-not-is_lost-clause-number
-returns-then-not-is_lost-clause-number g c = c.once-tried.ensures.number ∙ c.loop-spent.invariant.number
+pub returns-then-not-has_next-clause-number : goal.returns-then-not-has_next-clause-number
+returns-then-not-has_next-clause-number g c = c.once-tried.ensures.number ∙ c.loop-pass.invariant.number
 
-pub returns-then-not-is_lost-clause-resting : goal.returns-then-not-is_lost-clause-resting
-returns-then-not-is_lost-clause-resting g c = c.once-tried.ensures.resting
+pub returns-then-not-has_next-clause-resting : goal.returns-then-not-has_next-clause-resting
+returns-then-not-has_next-clause-resting g c = c.once-tried.ensures.resting
 
-pub returns-then-not-is_lost-clause-tried : goal.returns-then-not-is_lost-clause-tried
-returns-then-not-is_lost-clause-tried g c = let tells = λ (x : _). g.A.Attempt.tells c.args.what.now x c.once-tried.new.left in
-    tried_on tells c.args.tree.now.space.table.shared.key c.once-tried.result c.args.pass.now.seat.me.0.upper c.loop-spent.pass.seat.me.0.upper
-    c.once-tried.new.pass.seat.me.0.upper c.loop-spent.invariant.further c.once-tried.ensures.tried
+pub returns-then-not-has_next-clause-tried : goal.returns-then-not-has_next-clause-tried
+returns-then-not-has_next-clause-tried g c = let tells = λ (x : _). g.A.Attempt.tells c.args.what.now x c.once-tried.new.left in
+    tried_on tells c.args.tree.now.space.table.shared.key c.once-tried.result c.args.pass.now.seat.me.0.upper c.loop-pass.pass.seat.me.0.upper
+    c.once-tried.new.pass.seat.me.0.upper c.loop-pass.invariant.further c.once-tried.ensures.tried
 
-pub loop-spent-smaller : goal.loop-spent-smaller
-loop-spent-smaller g c = let most = c.ranges.budget in one_turn_less c.loop-spent.spent c.once-tried.new.spent c.args.budget c.loop-spent.pass.seat.me
-    c.once-tried.new.pass.seat.me c.loop-spent-test.true (omega arith) c.once-tried.ensures.counted
-    (met_lost c.once-tried.result c.loop-spent.pass.seat.me c.once-tried.new.pass.seat.me (c.if-not-is_lost.ensures.0 refl) c.once-tried.ensures.found).1
+pub loop-pass-smaller : goal.loop-pass-smaller
+loop-pass-smaller g c = let most = c.ranges.budget in one_turn_less c.loop-pass.spent c.once-tried.new.spent c.args.budget c.loop-pass.pass.seat.me
+    c.once-tried.new.pass.seat.me (subst (λ n. n < c.args.budget) c.spent_in_all.ensures c.loop-pass-test.true) (omega arith) c.once-tried.ensures.counted
+    (met_turn c.once-tried.result c.loop-pass.pass.seat.me c.once-tried.new.pass.seat.me (c.if-not-has_next.ensures.0 refl) c.once-tried.ensures.found).1
 
-pub returns-then-not-is_lost-clause-counted : goal.returns-then-not-is_lost-clause-counted
-returns-then-not-is_lost-clause-counted g c = spent_both c.args.spent.now c.loop-spent.spent c.once-tried.new.spent c.args.pass.now.seat.me
-    c.loop-spent.pass.seat.me c.once-tried.new.pass.seat.me c.loop-spent.invariant.counted c.once-tried.ensures.counted
+pub returns-then-not-has_next-clause-counted : goal.returns-then-not-has_next-clause-counted
+returns-then-not-has_next-clause-counted g c = paid_both c.args.spent.now c.loop-pass.spent c.once-tried.new.spent c.args.pass.now.seat.me
+    c.loop-pass.pass.seat.me c.once-tried.new.pass.seat.me c.loop-pass.invariant.counted c.once-tried.ensures.counted
 
-pub returns-then-not-is_lost-clause-found : goal.returns-then-not-is_lost-clause-found
-returns-then-not-is_lost-clause-found g c = met_then c.once-tried.result c.args.pass.now.seat.me c.loop-spent.pass.seat.me c.once-tried.new.pass.seat.me
-    c.loop-spent.invariant.met c.once-tried.ensures.found.0
+pub returns-then-not-has_next-clause-found : goal.returns-then-not-has_next-clause-found
+returns-then-not-has_next-clause-found g c = met_then c.once-tried.result c.args.pass.now.seat.me c.loop-pass.pass.seat.me c.once-tried.new.pass.seat.me
+    c.loop-pass.invariant.met c.once-tried.ensures.found.0
 
 pub returns-clause-counted : goal.returns-clause-counted
-returns-clause-counted g c = c.loop-spent.invariant.counted
+returns-clause-counted g c = c.loop-pass.invariant.counted
 
 pub returns-clause-found : goal.returns-clause-found
-returns-clause-found g c = c.loop-spent.invariant.met
+returns-clause-found g c = c.loop-pass.invariant.met

@@ -10,7 +10,7 @@ use Rattle.ca_model.proofs.Places.{IsPlace}
 use Rattle.ca_node.specs.Row.{pair}
 use Rattle.ca_node.specs.Told.{MyTree, entered}
 use Rattle.ca_base.specs.Putting.{first_note, object_at}
-use Rattle.ca_replace.specs.Attempting.{HasFetched}
+use Rattle.ca_replace.specs.Attempting.{IsLooking, HasFetched}
 use Rattle.ca_replace.specs.Tells.{Alters}
 use Rattle.ca_replace.proofs.Asking.{left_of}
 use Rattle.ca_replace.proofs.Showing.{did, read_done}
@@ -18,36 +18,36 @@ use Rattle.ca_replace.proofs.changing.ChangeCallAttempt.attempt.Goals as goal
 
 pub returns-in_default-clause-tried : goal.returns-in_default-clause-tried
 returns-in_default-clause-tried g c = let key : List ℕ = c.args.self.now.key.now in let z = c.args.space.now.table.shared.key in
-    let w = c.fetch-base.new.pass.seat.me.0.upper in let old : List ℕ = c.fetch-base.new.old.items in
-    let none = subst (λ (p : Result ℕ ℕ). HasFetched z w key p old) c.in_default.is c.fetch-base.ensures.fetched in
-    read_done (λ (x : Changed) (e : Event). Alters g.F.Fn c.args.self.now.f.now key x old e) z c.fetch-base.result.0 c.args.pass.now.seat.me.0.upper w
-    c.enter.new.pass.seat.me.0.upper changed.Absent (Change key None None) (refl, none.1) c.fetch-base.ensures.further c.fetch-base.ensures.looking
+    let w = c.fetch-place.new.pass.seat.me.0.upper in let old : List ℕ = c.fetch-place.new.old.items in
+    let none = subst (λ (p : Result ℕ ℕ). HasFetched z w key p old) c.in_default.is c.fetch-place.ensures.fetched in
+    read_done (λ (x : Changed) (e : Event). Alters g.F.Fn c.args.self.now.f.now key x old e) z c.args.pass.now.seat.me.0.upper w
+    c.enter.new.pass.seat.me.0.upper changed.Absent (Change key None None) (refl, none.1) c.fetch-place.ensures.further c.fetch-place.ensures.looking.known
     (refl, none.0) (ap (λ (m : MyTree). m.0.upper) c.enter.ensures.entered)
 
 pub returns-then-not-f-clause-tried : goal.returns-then-not-f-clause-tried
 returns-then-not-f-clause-tried g c = let key : List ℕ = c.args.self.now.key.now in let z = c.args.space.now.table.shared.key in
-    let w = c.fetch-base.new.pass.seat.me.0.upper in let old : List ℕ = c.fetch-base.new.old.items in
-    let found = subst (λ (p : Result ℕ ℕ). HasFetched z w key p old) c.in-Ok.is c.fetch-base.ensures.fetched in
-    read_done (λ (x : Changed) (e : Event). Alters g.F.Fn c.args.self.now.f.now key x old e) z c.fetch-base.result.0 c.args.pass.now.seat.me.0.upper w
+    let w = c.fetch-place.new.pass.seat.me.0.upper in let old : List ℕ = c.fetch-place.new.old.items in
+    let found = subst (λ (p : Result ℕ ℕ). HasFetched z w key p old) c.in-Ok.is c.fetch-place.ensures.fetched in
+    read_done (λ (x : Changed) (e : Event). Alters g.F.Fn c.args.self.now.f.now key x old e) z c.args.pass.now.seat.me.0.upper w
     c.enter-then-not-f.new.pass.seat.me.0.upper changed.Kept (Change key (Some old) None)
     ((_, _, may_leave g.F.Fn c.args.self.now.f.now old c.f.result false _ _ _ _ _ c.if-not-f.true c.as_slice.ensures.value c.clear.ensures c.f.ensures), refl)
-    c.fetch-base.ensures.further c.fetch-base.ensures.looking (refl, found.0)
+    c.fetch-place.ensures.further c.fetch-place.ensures.looking.known (refl, found.0)
     (ap (λ (m : MyTree). m.0.upper) c.enter-then-not-f.ensures.entered
     ∙ ap (λ (o : List ℕ). entered w (Change key (Some o) None)) c.as_slice-then-not-f.ensures.value)
 
 pub overflow_add-end : goal.overflow_add-end
 overflow_add-end g c = let key : List ℕ = c.args.self.now.key.now in let z = c.args.space.now.table.shared.key in
-    let found = subst (λ (p : Result ℕ ℕ). HasFetched z c.fetch-base.new.pass.seat.me.0.upper key p c.fetch-base.new.old.items) c.in-Ok.is
-    c.fetch-base.ensures.fetched in
-    let l = left_of g.F.Fn c.args.self.now.f.now z.keypos key c.fetch-base.new.old.items c.f.result _ _ _ _ _ c.if-not-f.false c.as_slice.ensures.value
+    let found = subst (λ (p : Result ℕ ℕ). HasFetched z c.fetch-place.new.pass.seat.me.0.upper key p c.fetch-place.new.old.items) c.in-Ok.is
+    c.fetch-place.ensures.fetched in
+    let l = left_of g.F.Fn c.args.self.now.f.now z.keypos key c.fetch-place.new.old.items c.f.result _ _ _ _ _ c.if-not-f.false c.as_slice.ensures.value
     c.clear.ensures c.requires.may found.1 c.f.ensures in record { fits = omega (arith, l.inside, l.pair.short) }
 
 -- what the function left, as the pair that is put
 left : (g : _) → (c : goal.After-put_there-arg-2-1 g) → IsLeft c.args.space.now.table.shared.key.keypos c.args.self.now.key.now c.f.new.arg3.items c.f.new.arg4
 left g c = let key : List ℕ = c.args.self.now.key.now in let z = c.args.space.now.table.shared.key in
-    let found = subst (λ (p : Result ℕ ℕ). HasFetched z c.fetch-base.new.pass.seat.me.0.upper key p c.fetch-base.new.old.items) c.in-Ok.is
-    c.fetch-base.ensures.fetched in
-    left_of g.F.Fn c.args.self.now.f.now z.keypos key c.fetch-base.new.old.items c.f.result _ _ _ _ _ c.if-not-f.false c.as_slice.ensures.value
+    let found = subst (λ (p : Result ℕ ℕ). HasFetched z c.fetch-place.new.pass.seat.me.0.upper key p c.fetch-place.new.old.items) c.in-Ok.is
+    c.fetch-place.ensures.fetched in
+    left_of g.F.Fn c.args.self.now.f.now z.keypos key c.fetch-place.new.old.items c.f.result _ _ _ _ _ c.if-not-f.false c.as_slice.ensures.value
     c.clear.ensures c.requires.may found.1 c.f.ensures
 
 pub put_there-requires-clause-within : goal.put_there-requires-clause-within
@@ -59,17 +59,23 @@ put_there-requires-clause-pair g c = let l = left g c in
     (sym (pair_of_bytes c.as_slice-2.result.now c.f.new.arg3.items c.args.self.now.key.now
     c.f.new.arg4 c.as_slice-2.ensures.value l.key)) l.pair
 
+pub put_there-requires-clause-looking : goal.put_there-requires-clause-looking
+put_there-requires-clause-looking g c = let l = left g c in
+    subst (λ (q : Pair). IsLooking c.args.space.now.table.shared.key c.fetch-place.new.pass.seat.me.0.upper q.0 c.fetch-place.result.0)
+    (sym (pair_of_bytes c.as_slice-2.result.now c.f.new.arg3.items c.args.self.now.key.now c.f.new.arg4 c.as_slice-2.ensures.value l.key))
+    c.fetch-place.ensures.looking
+
 pub put_there-requires-clause-place : goal.put_there-requires-clause-place
-put_there-requires-clause-place g c = let l = left g c in let m = map pair (first_note c.fetch-base.new.pass.seat.me.0.upper.notes).objects in
+put_there-requires-clause-place g c = let l = left g c in let m = map pair (first_note c.fetch-place.new.pass.seat.me.0.upper.notes).objects in
     subst (λ (q : Pair). IsPlace m q.0 (Ok c.in-Ok.at)) (sym (pair_of_bytes c.as_slice-2.result.now c.f.new.arg3.items c.args.self.now.key.now
     c.f.new.arg4 c.as_slice-2.ensures.value l.key))
-    (subst (λ (p : Result ℕ ℕ). IsPlace m c.args.self.now.key.now p) c.in-Ok.is c.fetch-base.ensures.place)
+    (subst (λ (p : Result ℕ ℕ). IsPlace m c.args.self.now.key.now p) c.in-Ok.is c.fetch-place.ensures.place)
 
 pub returns-in-Ok-put_there-clause-tried : goal.returns-in-Ok-put_there-clause-tried
 returns-in-Ok-put_there-clause-tried g c = let key : List ℕ = c.args.self.now.key.now in let z = c.args.space.now.table.shared.key in
-    let w = c.fetch-base.new.pass.seat.me.0.upper in let old : List ℕ = c.fetch-base.new.old.items in
+    let w = c.fetch-place.new.pass.seat.me.0.upper in let old : List ℕ = c.fetch-place.new.old.items in
     let slice : List ℕ = c.as_slice-2.result.now in let start : ℕ = c.f.new.arg4 in
-    let found = subst (λ (p : Result ℕ ℕ). HasFetched z w key p old) c.in-Ok.is c.fetch-base.ensures.fetched in
+    let found = subst (λ (p : Result ℕ ℕ). HasFetched z w key p old) c.in-Ok.is c.fetch-place.ensures.fetched in
     let may = may_leave g.F.Fn c.args.self.now.f.now old c.f.result true _ _ _ _ _ c.if-not-f.false c.as_slice.ensures.value c.clear.ensures c.f.ensures in
     let l = left_of g.F.Fn c.args.self.now.f.now z.keypos key old c.f.result _ _ _ _ _ c.if-not-f.false c.as_slice.ensures.value
     c.clear.ensures c.requires.may found.1 c.f.ensures in
@@ -77,5 +83,5 @@ returns-in-Ok-put_there-clause-tried g c = let key : List ℕ = c.args.self.now.
     did (λ (x : Changed) (e : Event). Alters g.F.Fn c.args.self.now.f.now key x old e) z
     (Change (slice_range slice start (start + length key)) (Some (object_at (Ok c.in-Ok.at) (first_note w.notes).objects)) (Some slice)) changed.Put
     c.args.pass.now.seat.me.0.upper w c.put_there.new.pass.seat.me.0.upper
-    (c.f.new.arg3.items, start, may, λ i. Change (own i).0 (Some (found.2 i)) (Some (own i).1)) c.fetch-base.ensures.further
+    (c.f.new.arg3.items, start, may, λ i. Change (own i).0 (Some (found.2 i)) (Some (own i).1)) c.fetch-place.ensures.further
     c.in-Ok-put_there.ensures.tried

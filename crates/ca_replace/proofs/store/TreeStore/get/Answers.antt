@@ -1,42 +1,46 @@
-use Rattle.std.proofs.Common.{Bool, ℕ, List, sym, ap, subst, ◌∙◌, arith}
+use Rattle.std.proofs.Common.{◌≡◌, Bool, ℕ, List, Ok, sym, ap, subst, ◌∙◌, arith}
 use Rattle.ca_model.specs.Answer.{Got}
+use Rattle.ca_model.specs.Event.{Event}
+use Rattle.ca_model.specs.Known.{Meets}
 use Rattle.ca_node.specs.Told.{MyTree}
 use Rattle.ca_node.specs.TreeView.{TreeView}
-use Rattle.ca_rows.specs.declared.kept.KeptRows.{KeptRows}
 use Rattle.ca_rows.specs.declared.sizes.Sizes.{Sizes}
+use Rattle.ca_replace.specs.Attempting.{HasTriedTo}
 use Rattle.ca_replace.specs.Reads.{get_event}
 use Rattle.ca_replace.specs.Resting.{StoreView, known_of, knows}
-use Rattle.ca_replace.proofs.Entries.{led_readable, IsRead, meets, rests_again, got_is}
+use Rattle.ca_replace.proofs.Entries.{held_upper, got_is}
+use Rattle.ca_replace.proofs.Meeting.{meets}
+use Rattle.ca_replace.proofs.Showing.{looking, read_tried}
+use Rattle.ca_replace.proofs.Turns.{none_pinned, rests_as, rests_again, tried_known, tried_pinned}
 use Rattle.ca_replace.proofs.store.TreeStore.get.Goals as goal
 
-pub look_up-found-requires-clause-readable : goal.look_up-found-requires-clause-readable
-look_up-found-requires-clause-readable c = let tree = c.self.inside.tree.now in let z : Sizes = tree.space.table.shared.key in
+pub look_up-found-requires-clause-looking : goal.look_up-found-requires-clause-looking
+look_up-found-requires-clause-looking c = let tree = c.self.inside.tree.now in let z : Sizes = tree.space.table.shared.key in
     let tuned = tree.tuned.leaf in let most = tree.tuned.allowed.most_leaf in let same = ap (λ (y : Sizes). y.leaf) tree.space.same in
-    led_readable z c.pin.new.pass.seat.me c.walk-base.new.pass.seat.me c.walk-base.result.base c.walk-base.ensures.led
-    (ap (λ (m : MyTree). m.0.sizes) c.pin.ensures.pinned.3 ∙ c.self.invariant.of.1) tree.space.few.0 (omega arith)
+    looking z c.args.key c.pin.new.pass.seat.me c.walk-cursor.new.pass.seat.me c.walk-cursor.result c.walk-cursor.ensures.walked (omega arith)
 
 pub keep_few-requires : goal.keep_few-requires
-keep_few-requires c = let tree = c.self.inside.tree.now in let z : Sizes = tree.space.table.shared.key in let pass = c.self.inside.pass in
+keep_few-requires c = let tree = c.self.inside.tree.now in let z : Sizes = tree.space.table.shared.key in let table = tree.space.table.shared.table_id in
+    let tuned = tree.tuned.leaf in let most = tree.tuned.allowed.most_leaf in let same = ap (λ (y : Sizes). y.leaf) tree.space.same in
+    let pass = c.self.inside.pass in let pin = c.pin.ensures.pinned.3 in let walk = c.walk-cursor.ensures.walked.now in
+    let look = c.look_up-found.ensures.entered in
     let event = get_event c.args.key.now c.look_up-found.result c.look_up-found.new.into.items in
-    let read : IsRead pass.seat.me c.unpin.new.pass.seat.me event = record {
-      told = c.pin.ensures.pinned.0;
-      moment = c.pin.ensures.pinned.1;
-      base = c.walk-base.result.base;
-      at_pin = c.pin.new.pass.seat.me;
-      at_base = c.walk-base.new.pass.seat.me;
-      at_end = c.look_up-found.new.pass.seat.me;
-      is_pinned = c.pin.ensures.pinned.3;
-      is_shown = c.walk-base.ensures.led;
-      answer = c.look_up-found.ensures.answer;
-      is_entered = c.look_up-found.ensures.entered;
-      is_unpinned = c.unpin.ensures.unpinned;
-    } in
-    record {
-      resting = rests_again tree.space.table.shared.table_id z pass.number c.unpin.new.pass.number pass.kept.rows c.unpin.new.pass.kept.rows
-          pass.seat c.unpin.new.pass.seat event tree.space.few.0 c.self.invariant read
-          (c.unpin.ensures.same.0 ∙ (c.look_up-found.ensures.same.0 ∙ (c.walk-base.ensures.same.0 ∙ c.pin.ensures.same.0)))
-          (c.unpin.ensures.number ∙ (c.look_up-found.ensures.number ∙ (c.walk-base.ensures.number ∙ c.pin.ensures.number)))
-          (ap (λ (k : KeptRows). k.rows) (c.unpin.ensures.kept ∙ (c.look_up-found.ensures.kept ∙ (c.walk-base.ensures.kept ∙ c.pin.ensures.kept))));
+    let told = λ (_ : Bool) (e : Event). e ≡ get_event c.args.key.now c.look_up-found.result c.look_up-found.new.into.items in
+    let tried = read_tried z c.args.key c.pin.new.pass.seat.me c.walk-cursor.new.pass.seat.me c.look_up-found.new.pass.seat.me c.walk-cursor.result event
+    c.look_up-found.result c.walk-cursor.ensures.walked (omega arith) c.look_up-found.ensures.answer look in record {
+      resting = rests_as table z pass.number c.unpin.new.pass.number c.look_up-found.new.pass.kept c.unpin.new.pass.kept c.unpin.new.pass.seat
+          (c.unpin.ensures.number ∙ (c.look_up-found.ensures.number ∙ (c.walk-cursor.ensures.number ∙ c.pin.ensures.number))) c.unpin.ensures.kept
+          (rests_again table z pass.number pass.kept.rows c.look_up-found.new.pass.kept.rows pass.seat c.pin.new.pass.seat c.look_up-found.new.pass.seat
+          c.unpin.new.pass.seat c.self.invariant
+          (ap (λ (m : MyTree). m.0.sizes) pin, ap (λ (m : MyTree). m.0.pin.number) pin, ap (λ (m : MyTree). m.0.upper.number) pin)
+          (c.look_up-found.ensures.same.0 ∙ (c.walk-cursor.ensures.same.0 ∙ c.pin.ensures.same.0))
+          (ap (λ (m : MyTree). m.0.sizes) look ∙ ap (λ (m : MyTree). m.0.sizes) walk, ap (λ (m : MyTree). m.0.pin) look ∙ ap (λ (m : MyTree). m.0.pin) walk)
+          (held_upper z.rows c.walk-cursor.new.pass.kept c.look_up-found.new.pass.kept c.walk-cursor.new.pass.seat.me c.look_up-found.new.pass.seat.me _ _
+          (held_upper z.rows c.pin.new.pass.kept c.walk-cursor.new.pass.kept c.pin.new.pass.seat.me c.walk-cursor.new.pass.seat.me _ _
+          (none_pinned table z pass.number pass.kept c.pin.new.pass.kept pass.seat c.pin.new.pass.seat _ _ c.self.invariant pin c.pin.ensures.kept)
+          walk c.walk-cursor.ensures.kept) look c.look_up-found.ensures.kept)
+          (tried_known told z (Ok c.look_up-found.result) c.pin.new.pass.seat.me.0.upper c.look_up-found.new.pass.seat.me.0.upper tried)
+          c.unpin.ensures.same.0 c.unpin.ensures.unpinned);
     }
 
 pub invariant_of-self : goal.invariant_of-self
@@ -46,21 +50,16 @@ pub returns-clause-got : goal.returns-clause-got
 returns-clause-got c = let tree = c.self.inside.tree.now in let z : Sizes = tree.space.table.shared.key in let pass = c.self.inside.pass in
     let behind = c.unpin.new.pass.seat.me.0.upper in let found : Bool = c.look_up-found.result in let into : List ℕ = c.look_up-found.new.into.items in
     let event = get_event c.args.key.now c.look_up-found.result c.look_up-found.new.into.items in
-    let read : IsRead pass.seat.me c.unpin.new.pass.seat.me event = record {
-      told = c.pin.ensures.pinned.0;
-      moment = c.pin.ensures.pinned.1;
-      base = c.walk-base.result.base;
-      at_pin = c.pin.new.pass.seat.me;
-      at_base = c.walk-base.new.pass.seat.me;
-      at_end = c.look_up-found.new.pass.seat.me;
-      is_pinned = c.pin.ensures.pinned.3;
-      is_shown = c.walk-base.ensures.led;
-      answer = c.look_up-found.ensures.answer;
-      is_entered = c.look_up-found.ensures.entered;
-      is_unpinned = c.unpin.ensures.unpinned;
-    } in
+    let told = λ (_ : Bool) (e : Event). e ≡ get_event c.args.key.now c.look_up-found.result c.look_up-found.new.into.items in
+    let tuned = tree.tuned.leaf in let most = tree.tuned.allowed.most_leaf in let same = ap (λ (y : Sizes). y.leaf) tree.space.same in
+    let tried = read_tried z c.args.key c.pin.new.pass.seat.me c.walk-cursor.new.pass.seat.me c.look_up-found.new.pass.seat.me c.walk-cursor.result event
+    found c.walk-cursor.ensures.walked (omega arith) c.look_up-found.ensures.answer c.look_up-found.ensures.entered in
+    let done = tried_pinned told z (Ok found) pass.seat.me.0.upper c.look_up-found.new.pass.seat.me.0.upper behind
+    (ap (λ (m : MyTree). m.0.upper) c.unpin.ensures.unpinned)
+    (subst (λ (m : MyTree). HasTriedTo told z (Ok found) m.0.upper c.look_up-found.new.pass.seat.me.0.upper) c.pin.ensures.pinned.3 tried) in
     subst (λ (u : TreeView). Got (knows c.args.self.now) (known_of z u) c.args.key.now found into) (sym c.keep_few.ensures.upper)
     (subst (λ (s : StoreView). Got (knows s) (known_of z behind) c.args.key.now found into) c.self.view_is
     (got_is (known_of z pass.seat.me.0.upper) (known_of z behind) c.args.key.now into found
-    (meets z pass.seat.me c.unpin.new.pass.seat.me event read c.self.invariant.of.1 tree.space.few.0 c.self.invariant.known)
+    (subst (λ (e : Event). Meets (known_of z pass.seat.me.0.upper) (known_of z behind) e) done.0.1
+    (meets z pass.seat.me.0.upper behind c.self.invariant.known done.1 done.0.0 done.0.2))
     c.look_up-found.ensures.emptied))

@@ -1,0 +1,84 @@
+-- The new base of an update is one that was shown.
+use Rattle.std.proofs.Common.{◌≡◌, ℕ, ◌<◌, ◌≤◌, List, [], ◌∷◌, length, map, Vec, get_or, sym, refl, ap, ◌∙◌, subst, ⊎_elim, arith}
+use Rattle.std.specs.Global.{Global}
+use mathlib.Core.Option.{some, some-injective}
+use lib.ListN.{get_elem?}
+use Rattle.ca_model.specs.History.{after_edit}
+use Rattle.ca_node.specs.Links.{IsIn}
+use Rattle.ca_node.specs.Row.{IsObjectRow, items, pair}
+use Rattle.ca_node.specs.Told.{MyTree, Update, IsBaseNote, IsUpdate, IsUpdated, updated}
+use Rattle.ca_node.specs.TreeView.{Note, TreeView}
+use Rattle.ca_node.proofs.Members.{in_first, in_rest}
+use Rattle.ca_base.specs.Putting.{IsRenewed, first_note}
+use Rattle.ca_base.specs.Taking.{HasHeld}
+use Rattle.ca_base.proofs.Inserting.{elem_or, within}
+use Rattle.ca_rows.specs.declared.kept.Kept.{Kept}
+use Rattle.ca_rows.specs.declared.sizes.Sizes.{Sizes}
+use Rattle.ca_rows.specs.declared.view.Claim.{Claim}
+use Rattle.ca_rows.specs.declared.view.Claim.TheVariants.{Holds}
+use Rattle.ca_rows.specs.Claims.{claim_of}
+
+-- Words that are held as two lists are one list.
+held_once : (c : Claim) (a b : List ℕ) → c ≡ Holds a → c ≡ Holds b → a ≡ b
+held_once c a b p q = let same : Holds a ≡ Holds b = sym p ∙ q in cc
+
+module _ (z : Sizes) (kept : Vec Kept Global) (m : MyTree) (new : ℕ) (x : Update) (up : IsUpdate z m new x) (old : IsBaseNote z x.old)
+    (h : HasHeld z.rows kept m.0.claims (new ∷ x.comes)) where
+  -- what the update's new base is noted as
+  abbrev pub new_note : Note
+  new_note = record { row = new; its = x.its; objects = x.objects; place = x.old.place }
+
+  -- The words of a row that the seat holds are as many as a row has.
+  long_held : (row : ℕ) (its : List ℕ) → IsIn row (new ∷ x.comes) → claim_of m.0.claims row ≡ some (Holds its) → length its ≡ 136
+  long_held row its i is = let own = (h.each row i).2 in
+      subst (λ (ys : List ℕ). length ys ≡ 136) (held own.0 own.2) own.1
+    where
+      held : (ys : List ℕ) → claim_of m.0.claims row ≡ some (Holds ys) → ys ≡ its
+      held ys e = held_once (Holds ys) ys its refl (some-injective (Holds ys) (Holds its) (sym e ∙ is))
+
+  named_new : (r : ℕ) → IsIn r (items x.its) → (0 < r) × (r ≤ z.rows)
+  named_new r i = let many = up.as_many in let l = within (items x.its) i.0 r i.1 in ⊎_elim
+      (λ (o : (k : ℕ) × (get_elem? (items x.old.its) k ≡ some r) × (get_elem? x.old.objects k ≡ some (get_or x.objects i.0 []))).
+      old.named r (o.0, o.1))
+      (λ (o : IsIn r x.comes × (claim_of m.0.claims r ≡ some (Holds (get_or x.objects i.0 []))) × IsObjectRow (get_or x.objects i.0 [])).
+      let own = h.each r (in_rest r new x.comes o.0) in (own.0, own.1))
+      (up.are_objects i.0 r (get_or x.objects i.0 []) i.1 (elem_or x.objects i.0 [] (omega arith)))
+
+  long_new : (its : List ℕ) → IsIn its x.objects → (length its ≡ 136) × IsObjectRow its
+  long_new its i = let many = up.as_many in let l = within x.objects i.0 its i.1 in ⊎_elim
+      (λ (o : (k : ℕ) × (get_elem? (items x.old.its) k ≡ some (get_or (items x.its) i.0 0)) × (get_elem? x.old.objects k ≡ some its)).
+      old.objects_long its (o.0, o.2))
+      (λ (o : IsIn (get_or (items x.its) i.0 0) x.comes × (claim_of m.0.claims (get_or (items x.its) i.0 0) ≡ some (Holds its)) × IsObjectRow its).
+      (long_held (get_or (items x.its) i.0 0) its (in_rest (get_or (items x.its) i.0 0) new x.comes o.0) o.1, o.2))
+      (up.are_objects i.0 (get_or (items x.its) i.0 0) its (elem_or (items x.its) i.0 0 (omega arith)) i.1)
+
+  is_base_note : IsBaseNote z new_note
+  is_base_note = let own = h.each new (in_first new x.comes) in record {
+    some_row = own.0;
+    in_range = own.1;
+    is_base = up.is_base;
+    long = long_held new x.its (in_first new x.comes) up.held;
+    level_is = up.level_is;
+    deep = old.deep;
+    most_levels = old.most_levels;
+    few = up.few;
+    unmarked = up.unmarked;
+    named = named_new;
+    as_many = up.as_many;
+    objects_long = long_new;
+  }
+
+  first_is : first_note m.0.upper.notes ≡ x.old
+  first_is = ap first_note up.shown.1
+
+  pub renewed : (m' : MyTree) (v : TreeView) → IsUpdated new x m m' → v ≡ m'.0.upper → IsRenewed z (get_or x.its 1 0) x.edit m.0.upper v
+  renewed m' v u same = let w : v ≡ updated m.0.upper u.more new x = same ∙ ap (λ (y : MyTree). y.0.upper) u.now in
+      subst (IsRenewed z (get_or x.its 1 0) x.edit m.0.upper) (sym w) record {
+        notes = refl;
+        ways = refl;
+        is_base = is_base_note;
+        place = ap (λ (n : Note). n.place) (sym first_is);
+        has = up.map_is ∙ ap (λ (n : Note). after_edit x.edit (map pair n.objects)) (sym first_is);
+        statistic_is = refl;
+        same_splits = refl;
+      }

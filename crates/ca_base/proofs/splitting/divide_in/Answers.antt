@@ -1,0 +1,27 @@
+use Rattle.std.proofs.Common.{[], ◌∷◌, refl}
+use Rattle.ca_node.specs.Laws.{in_nothing}
+use Rattle.ca_base.proofs.Divisions.{divided_rows}
+use Rattle.ca_base.proofs.Unlinking.{held_still, none_left}
+use Rattle.ca_base.proofs.splitting.divide_in.Goals as goal
+
+pub give_back_all-requires-clause-held : goal.give_back_all-requires-clause-held
+give_back_all-requires-clause-held g c = held_still c.args.space.now.table.shared.key.rows c.args.pass.now.kept c.divide_base.new.pass.kept
+    c.args.pass.now.seat.me c.divide_base.new.pass.seat.me (c.args.route ∷ c.args.left ∷ c.args.right ∷ []) c.if-not-divide_base.ensures.done
+    c.divide_base.ensures.kept c.requires.held
+
+pub retire_unlinked-requires-clause-unlinked : goal.retire_unlinked-requires-clause-unlinked
+retire_unlinked-requires-clause-unlinked g c = let r = c.requires.rows in (
+  [],
+  in_nothing c.args.base [] refl,
+  divided_rows c.args.space.now.table.shared.key.rows c.args.pass.now.kept c.divide_base.new.pass.kept c.args.pass.now.seat.me
+      c.divide_base.new.pass.seat.me g.K.Plan.division c.args.base (c.args.route ∷ c.args.left ∷ c.args.right ∷ [])
+      (λ i. r.1 i ∷ r.2 i ∷ r.3 i ∷ []) r.0 c.if-not-divide_base.ensures.done c.divide_base.ensures.kept c.requires.apart c.requires.held,
+)
+
+pub returns-clause-none : goal.returns-clause-none
+returns-clause-none g c = let r = c.requires.rows in let rows = c.args.space.now.table.shared.key.rows in
+    none_left rows c.retire_unlinked.new.pass.kept.rows c.retire_unlinked.new.pass.seat.me.0
+    (c.retire_unlinked.ensures.retired [] (in_nothing c.args.base [] refl)
+    (divided_rows rows c.args.pass.now.kept c.divide_base.new.pass.kept c.args.pass.now.seat.me c.divide_base.new.pass.seat.me g.K.Plan.division c.args.base
+    (c.args.route ∷ c.args.left ∷ c.args.right ∷ []) (λ i. r.1 i ∷ r.2 i ∷ r.3 i ∷ []) r.0 c.if-not-divide_base.ensures.done
+    c.divide_base.ensures.kept c.requires.apart c.requires.held))

@@ -1,0 +1,99 @@
+use Rattle.std.proofs.Common.{ℕ, ◌+◌, ◌-◌, ◌/◌, List, [], ◌∷◌, take, drop, get_or, sym, refl, ap, ◌∙◌, subst, arith}
+use Rattle.ca_node.specs.Told.{MyTree}
+use Rattle.ca_node.specs.TreeView.{TreeView}
+use Rattle.ca_base.specs.Finding.{IsObjectShown, IsReadable}
+use Rattle.ca_base.specs.Putting.{first_note, last_items}
+use Rattle.ca_base.specs.Splitting.{SpellsRoute}
+use Rattle.ca_base.specs.Taking.{AreHeld}
+use Rattle.ca_base.specs.Writing.{IsRewritten, SpellsBase}
+use Rattle.ca_base.proofs.Divisions.{three_apart, last_readable, divides_of}
+use Rattle.ca_base.proofs.SplitKeys.{short_key}
+use Rattle.ca_base.proofs.Unlinking.{written_row}
+use Rattle.ca_rows.specs.declared.kept.KeptRows.{KeptRows}
+use Rattle.ca_rows.specs.Claims.{claim_of}
+use Rattle.ca_base.proofs.splitting.split_at.Goals as goal
+
+pub write_half-requires-clause-held : goal.write_half-requires-clause-held
+write_half-requires-clause-held c = (c.in-Ok.ensures.taken.1.0.each c.in-Ok.rows.1 (1, refl)).2
+
+pub write_half-requires-clause-inside : goal.write_half-requires-clause-inside
+write_half-requires-clause-inside c = (c.in-Ok.ensures.taken.1.0.each c.in-Ok.rows.1 (1, refl)).1
+
+pub write_half-requires-2-clause-held : goal.write_half-requires-2-clause-held
+write_half-requires-2-clause-held c = let t = c.in-Ok.ensures.taken in let own = (t.1.0.each c.in-Ok.rows.2 (2, refl)).2 in
+    let apart = three_apart c.in-Ok.rows.0 c.in-Ok.rows.1 c.in-Ok.rows.2 t.0 in
+    (own.0, own.1, c.write_half.ensures.written.2.others c.in-Ok.rows.2 (λ e. apart.2 (sym e)) ∙ own.2)
+
+pub write_half-requires-2-clause-inside : goal.write_half-requires-2-clause-inside
+write_half-requires-2-clause-inside c = (c.in-Ok.ensures.taken.1.0.each c.in-Ok.rows.2 (2, refl)).1
+
+pub copy_key-requires-clause-shown : goal.copy_key-requires-clause-shown
+copy_key-requires-clause-shown c = let r = c.requires in let u = c.args.pass.now.seat.me.0.upper in
+    let upper = c.write_half-2.ensures.same.4 ∙ (c.write_half.ensures.same.4 ∙ c.take_three.ensures.same.4) in
+    let many = r.many.1 in let some = r.many.0 in
+    let read = subst (λ (v : TreeView). IsReadable c.args.space.now.table.shared.key v c.args.cursor.base (first_note u.notes)) (sym upper)
+    (last_readable c.args.space.now.table.shared.key u c.args.cursor.base r.shown r.leaf r.ordered) in (
+      get_or (first_note u.notes).objects (c.args.many / 2) [],
+      subst (λ (m : MyTree). IsObjectShown m.0.upper c.item-first.result (get_or (first_note u.notes).objects (c.args.many / 2) []))
+          (sym c.item-first.ensures.still) (c.item-first.ensures.item (first_note u.notes) read (omega arith)).1,
+    )
+
+pub write_route-requires-clause-held : goal.write_route-requires-clause-held
+write_route-requires-clause-held c = let t = c.in-Ok.ensures.taken in let own = (t.1.0.each c.in-Ok.rows.0 (0, refl)).2 in
+    let apart = three_apart c.in-Ok.rows.0 c.in-Ok.rows.1 c.in-Ok.rows.2 t.0 in
+    let still = c.copy_key.ensures.still ∙ c.item-first.ensures.still in (
+      own.0,
+      own.1,
+      ap (λ (m : MyTree). claim_of m.0.claims c.in-Ok.rows.0) still ∙ (c.write_half-2.ensures.written.2.others c.in-Ok.rows.0 apart.1
+          ∙ (c.write_half.ensures.written.2.others c.in-Ok.rows.0 apart.0 ∙ own.2)),
+    )
+
+pub write_route-requires-clause-inside : goal.write_route-requires-clause-inside
+write_route-requires-clause-inside c = (c.in-Ok.ensures.taken.1.0.each c.in-Ok.rows.0 (0, refl)).1
+
+pub divide_in-requires-clause-division : goal.divide_in-requires-clause-division
+divide_in-requires-clause-division c = let r = c.requires in let u = c.args.pass.now.seat.me.0.upper in
+    let its : List ℕ = get_or (first_note u.notes).objects (c.args.many / 2) [] in let t = c.in-Ok.ensures.taken in let one = c.take_three.ensures.same in let two = c.write_half.ensures.same in let three = c.write_half-2.ensures.same in
+    let four = c.write_route.ensures.same in let still = c.copy_key.ensures.still ∙ c.item-first.ensures.still in
+    let first = c.write_half.ensures.written in let last = c.write_half-2.ensures.written in let over = c.write_route.ensures.written in
+    let many = r.many.1 in let some = r.many.0 in let base = c.args.cursor.base in let z = c.args.space.now.table.shared.key in
+    let upper = three.4 ∙ (two.4 ∙ one.4) in
+    let read = subst (λ (v : TreeView). IsReadable z v base (first_note u.notes)) (sym upper) (last_readable z u base r.shown r.leaf r.ordered) in
+    let told = (c.item-first.ensures.item (first_note u.notes) read (omega arith)).1 in
+    let shown = subst (λ (m : MyTree). IsObjectShown m.0.upper c.item-first.result its) (sym c.item-first.ensures.still) told in
+    divides_of z c.args.pass.now.seat.me c.take_three.new.pass.seat.me c.write_half.new.pass.seat.me c.write_half-2.new.pass.seat.me
+    c.write_route.new.pass.seat.me c.in-Ok.rows.0 c.in-Ok.rows.1 c.in-Ok.rows.2 c.args.many c.args.attempt c.args.cursor first.0 last.0 over.0
+    record {
+      shown = r.shown;
+      at = r.cursor;
+      many_are = many;
+      some_left = some;
+      above = r.above;
+      apart = t.0;
+      wrote_left = first.2;
+      wrote_right = last.2;
+      wrote_route = subst (λ (m : MyTree). IsRewritten c.in-Ok.rows.0 over.0 m c.write_route.new.pass.seat.me) still over.2;
+      is_left = subst (λ (v : TreeView). SpellsBase (take (c.args.many / 2) (drop 0 (last_items v))) (c.args.cursor.level + 1) 4294967296 first.0) one.4
+          first.1;
+      is_right = subst (λ (v : TreeView). SpellsBase (take (c.args.many - c.args.many / 2) (drop (c.args.many / 2) (last_items v))) (c.args.cursor.level + 1)
+          4294967296 last.0) (two.4 ∙ one.4) last.1;
+      is_route = subst (λ (k : List ℕ). SpellsRoute c.args.cursor.level k c.in-Ok.rows.1 c.in-Ok.rows.2 c.args.attempt over.0)
+          (c.deref.ensures.0 ∙ c.copy_key.ensures.key its shown) over.1;
+      short = short_key its told.long;
+      is_pinned = r.pinned;
+      upper = four.4 ∙ (ap (λ (m : MyTree). m.0.upper) still ∙ upper);
+      pin = four.3 ∙ (ap (λ (m : MyTree). m.0.pin) still ∙ (three.3 ∙ (two.3 ∙ one.3)));
+    }
+
+pub divide_in-requires-clause-held : goal.divide_in-requires-clause-held
+divide_in-requires-clause-held c = let t = c.in-Ok.ensures.taken in let rows : List ℕ = c.in-Ok.rows.0 ∷ c.in-Ok.rows.1 ∷ c.in-Ok.rows.2 ∷ [] in
+    let all = c.args.space.now.table.shared.key.rows in let first = c.write_half.ensures.written in let last = c.write_half-2.ensures.written in
+    let over = c.write_route.ensures.written in let still = c.copy_key.ensures.still ∙ c.item-first.ensures.still in
+    let kept = c.copy_key.ensures.kept ∙ c.item-first.ensures.kept in
+    let one = written_row all c.take_three.new.pass.kept c.write_half.new.pass.kept c.take_three.new.pass.seat.me c.write_half.new.pass.seat.me rows
+    c.in-Ok.rows.1 first.0 (1, refl) first.1.long first.2 c.write_half.ensures.kept t.1 in
+    let two = written_row all c.write_half.new.pass.kept c.write_half-2.new.pass.kept c.write_half.new.pass.seat.me c.write_half-2.new.pass.seat.me rows
+    c.in-Ok.rows.2 last.0 (2, refl) last.1.long last.2 c.write_half-2.ensures.kept one in
+    written_row all c.copy_key.new.pass.kept c.write_route.new.pass.kept c.copy_key.new.pass.seat.me c.write_route.new.pass.seat.me rows
+    c.in-Ok.rows.0 over.0 (0, refl) over.1.long over.2 c.write_route.ensures.kept
+    (subst (λ (x : MyTree × KeptRows). AreHeld all x.1.rows x.0.0 rows) (λ i. (sym still i, sym kept i)) two)

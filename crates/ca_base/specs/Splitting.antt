@@ -1,0 +1,56 @@
+-- Splits of a base: what the words of a route spell, which rows are taken, and what a split comes to.
+use Rattle.std.specs.Prelude.{◌≡◌, ℕ, ◌*◌, ◌/◌, Bool, true, false, List, [], ◌∷◌, length, slice_index, Result, Ok, Err}
+use Rattle.ca_node.specs.Row.{IsRouteRow, count, items, level, route_key}
+use Rattle.ca_node.specs.Told.{MyTree, Division, divided, one_more_lost}
+use Rattle.ca_node.specs.TreeView.{Note, TreeView}
+use Rattle.ca_node.proofs.HeldRows.{AreApart}
+use Rattle.ca_base.specs.declared.taking.NoRow.{NoRow}
+use Rattle.ca_base.specs.Putting.{first_note, words_of}
+use Rattle.ca_rows.specs.Claims.{claim_of}
+
+-- The words are a route's, at this level: this key, these two links, and a join word that says so many attempts, and that none is under way.
+pub record SpellsRoute (at_level : ℕ) (bytes : List ℕ) (left right attempt : ℕ) (its : List ℕ) : Type 0 where
+  pub long : length its ≡ 136
+  pub is_route : IsRouteRow its
+  pub level_is : level its ≡ at_level
+  pub count_is : count its ≡ length bytes
+  pub key_is : route_key its ≡ bytes
+  pub left_is : slice_index its 1 ≡ left
+  pub right_is : slice_index its 2 ≡ right
+  pub join_is : slice_index its 3 ≡ attempt * 4
+
+-- Three rows are held, each once, or none.
+abbrev pub HasTakenThree : Result (ℕ × ℕ × ℕ) NoRow → (List ℕ → Type 0) → Type 0
+HasTakenThree (Ok three) Now = AreApart (three.0 ∷ three.1 ∷ three.2 ∷ []) × Now (three.0 ∷ three.1 ∷ three.2 ∷ [])
+HasTakenThree (Err why) Now = Now []
+
+-- the split of a base by rows with these words: as many of its objects go left as the left half names
+abbrev pub division_by : Note → ℕ → ℕ → ℕ → List ℕ → List ℕ → List ℕ → Division
+division_by note route left right route_its left_its right_its = record {
+  old = note;
+  route = route;
+  left = left;
+  right = right;
+  route_its = route_its;
+  left_its = left_its;
+  right_its = right_its;
+  middle = length (items left_its);
+}
+
+-- the split by rows that the seat holds, of the base that it was shown last
+abbrev pub division_of : MyTree → ℕ → ℕ → ℕ → Division
+division_of m route left right = division_by (first_note m.0.upper.notes) route left right (words_of (claim_of m.0.claims route))
+    (words_of (claim_of m.0.claims left)) (words_of (claim_of m.0.claims right))
+
+-- The split is in the middle of so many objects, rounded down. The statistic of its halves is 0, and its route has had so many attempts to join.
+pub record IsHalving (many attempt : ℕ) (x : Division) : Type 0 where
+  pub middle_is : x.middle ≡ many / 2
+  pub left_statistic : slice_index x.left_its 1 ≡ 4294967296
+  pub right_statistic : slice_index x.right_its 1 ≡ 4294967296
+  pub attempts : slice_index x.route_its 3 ≡ attempt * 4
+
+-- The exchange of a base against a route: the split is carried out, or the exchange was lost, which is counted; or no row was free.
+abbrev pub HasSplit : Result Bool NoRow → TreeView → TreeView → Type 0
+HasSplit (Ok true) u v = v ≡ divided u
+HasSplit (Ok false) u v = v ≡ one_more_lost u
+HasSplit (Err why) u v = v ≡ u

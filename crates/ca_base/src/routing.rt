@@ -1,0 +1,102 @@
+//! The rows of a split are written: a route, its key, and the halves of a base.
+ghost use Rattle.std.specs.Prelude.{◌≡◌, ℕ, ◌+◌, ◌<◌, ◌≤◌, List, length, take, drop, true};
+ghost use Rattle.ca_node.specs.Row.{pair};
+ghost use Rattle.ca_rows.specs.Calls.{IsOf, IsSame, IsStill};
+ghost use Rattle.ca_base.specs.Finding.{IsObjectShown};
+ghost use Rattle.ca_base.specs.Putting.{IsShownLast, last_items};
+ghost use Rattle.ca_base.specs.Splitting.{SpellsRoute};
+ghost use Rattle.ca_base.specs.Writing.{IsHeld, SpellsBase, HasWritten};
+
+use crate::comparing::key_bytes;
+use crate::copying::copy_items;
+use crate::reading::append;
+use crate::swapping::STATISTIC;
+use crate::writing::{write_bytes, write_head, write_words};
+use ca_model::Code;
+use ca_node::{TreePass, TreeSpace, load_word};
+
+// The form of a route, in the first word.
+const ROUTE: u64 = 3 << 56;
+
+/// Writes a route row: its level, its key, eight bytes a word, with zeros behind their end to the end of the word, its links, and the number of its
+/// attempts to join, none of which is under way.
+pub(crate) fn write_route(
+    space: &TreeSpace,
+    pass: &mut TreePass,
+    row: u32,
+    level: u16,
+    key: &[u8],
+    left: u32,
+    right: u32,
+    attempt: u64,
+)
+    requires own { IsOf space.now.table.shared.table_id space.now.table.shared.key pass.old.seat }
+    requires held { IsHeld pass.old.seat.me row }
+    requires inside { row ≤ space.now.table.shared.key.rows }
+    requires short { length key.now ≤ 1000 }
+    requires attempt { attempt < 4611686018427387904 }
+    ensures same { IsStill pass.old.seat pass.new.seat }
+    ensures number { pass.new.number ≡ pass.old.number }
+    ensures kept { pass.new.kept ≡ pass.old.kept }
+    ensures written { HasWritten row (SpellsRoute level key.now left right attempt) pass.old.seat.me pass.new.seat.me }
+{
+    let form = ROUTE + level as u64 * 65_536 + key.len() as u64;
+    write_words(
+        space,
+        pass,
+        row,
+        &[form, left as u64, right as u64, attempt * 4],
+    );
+    write_bytes(space, pass, row, key);
+}
+
+/// Writes a half of the base that was shown last: a base row of this level without a mark, with so many of its items, from a place on, and with a
+/// statistic of 0.
+pub(crate) fn write_half(
+    space: &TreeSpace,
+    pass: &mut TreePass,
+    row: u32,
+    level: u16,
+    base: u32,
+    from: u32,
+    count: u32,
+)
+    requires own { IsOf space.now.table.shared.table_id space.now.table.shared.key pass.old.seat }
+    requires pinned { pass.old.seat.me.0.pin.pinned ≡ true }
+    requires held { IsHeld pass.old.seat.me row }
+    requires inside { row ≤ space.now.table.shared.key.rows }
+    requires shown { IsShownLast space.now.table.shared.key pass.old.seat.me.0.upper base }
+    requires places { (from + count ≤ length (last_items pass.old.seat.me.0.upper)) × (from + count ≤ 120) }
+    ensures same { IsStill pass.old.seat pass.new.seat }
+    ensures number { pass.new.number ≡ pass.old.number }
+    ensures kept { pass.new.kept ≡ pass.old.kept }
+    ensures written { HasWritten row (SpellsBase (take count (drop from (last_items pass.old.seat.me.0.upper))) level 4294967296)
+        pass.old.seat.me pass.new.seat.me }
+{
+    write_head(space, pass, row, level, count, STATISTIC);
+    copy_items(space, pass, row, 0, base, from, count);
+}
+
+/// Copies the key of an object that the pass was shown, a word at a time.
+pub(crate) fn copy_key(space: &TreeSpace, pass: &mut TreePass, row: u32, into: &mut Code)
+    requires own { IsOf space.now.table.shared.table_id space.now.table.shared.key pass.old.seat }
+    requires pinned { pass.old.seat.me.0.pin.pinned ≡ true }
+    requires inside { row ≤ space.now.table.shared.key.rows }
+    requires shown { (its : List ℕ) × IsObjectShown pass.old.seat.me.0.upper row its }
+    ensures same { IsSame pass.old.seat pass.new.seat }
+    ensures number { pass.new.number ≡ pass.old.number }
+    ensures kept { pass.new.kept ≡ pass.old.kept }
+    ensures still { pass.new.seat.me ≡ pass.old.seat.me }
+    ensures key { (its : List ℕ) → IsObjectShown pass.old.seat.me.0.upper row its → into.new.items ≡ (pair its).0 }
+{
+    let (start, end) = key_bytes(space, pass, row);
+    into.clear();
+    let mut at = start;
+    while at < end {
+        let to = end.min(at / 8 * 8 + 8);
+        let bytes = load_word(space, pass, row, (11 + at / 8) as u32).to_be_bytes();
+        let first = at % 8;
+        append(into, &bytes[first..first + (to - at)]);
+        at = to;
+    }
+}

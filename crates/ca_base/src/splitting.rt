@@ -1,0 +1,137 @@
+//! A base is split: a route over two halves takes its place.
+ghost use Rattle.std.specs.Prelude.{◌≡◌, ◌+◌, ◌*◌, ◌<◌, ◌≤◌, [], ◌∷◌, length, map, true, Ok};
+ghost use Rattle.ca_model.specs.StoreMap.{IsStoreMap};
+ghost use Rattle.ca_node.specs.Row.{pair};
+ghost use Rattle.ca_node.specs.Told.{IsDivision, link_word};
+ghost use Rattle.ca_node.proofs.HeldRows.{AreApart};
+ghost use Rattle.ca_base.specs.Counting.{IsSpent, HasCleared, HasEnded, HasFound, HasPutBack};
+ghost use Rattle.ca_base.specs.Finding.{IsAtCursor};
+ghost use Rattle.ca_base.specs.Putting.{IsShownLast, first_note};
+ghost use Rattle.ca_base.specs.Splitting.{HasTakenThree, HasSplit, IsHalving};
+ghost use Rattle.ca_base.specs.Taking.{AreHeld};
+ghost use Rattle.ca_rows.specs.Calls.{IsOf, IsSame, IsStill};
+
+use crate::reading::item;
+use crate::routing::{copy_key, write_half, write_route};
+use crate::spending::lose;
+use crate::swapping::{give_back_all, retire_unlinked};
+use crate::taking::{NoRow, take, take_two};
+use ca_model::{Code, Spent};
+use ca_node::{Cursor, Link, Plan, TreePass, TreeSpace, divide_base};
+use std::marker::Brand;
+
+/// Splits the base that was shown last, which has so many objects: a route with the key of the first object of the right half takes its place, over
+/// two bases with the halves. It takes three rows. False where the exchange was lost.
+pub fn split_at(
+    space: &TreeSpace,
+    pass: &mut TreePass,
+    cursor: Cursor,
+    many: u32,
+    attempt: u64,
+    spent: &mut Spent,
+) -> Result<bool, NoRow>
+    requires own { IsOf space.now.table.shared.table_id space.now.table.shared.key pass.old.seat }
+    requires pinned { pass.old.seat.me.0.pin.pinned ≡ true }
+    requires none { AreHeld space.now.table.shared.key.rows pass.old.kept.rows pass.old.seat.me.0 [] }
+    requires leaf { space.now.table.shared.key.leaf ≤ 120 }
+    requires shown { IsShownLast space.now.table.shared.key pass.old.seat.me.0.upper cursor.base }
+    requires cursor { IsAtCursor space.now.table.shared.key (first_note pass.old.seat.me.0.upper.notes) cursor }
+    requires many { (2 ≤ many) × (many ≡ length (first_note pass.old.seat.me.0.upper.notes).objects) }
+    requires ordered { IsStoreMap space.now.table.shared.key.keypos (map pair (first_note pass.old.seat.me.0.upper.notes).objects) }
+    requires above { cursor.level < space.now.table.shared.key.levels }
+    requires attempt { attempt < 4611686018427387904 }
+    ensures same { IsSame pass.old.seat pass.new.seat }
+    ensures number { pass.new.number ≡ pass.old.number }
+    ensures pin { (pass.new.seat.me.0.sizes ≡ pass.old.seat.me.0.sizes) × (pass.new.seat.me.0.pin ≡ pass.old.seat.me.0.pin) }
+    ensures none { AreHeld space.now.table.shared.key.rows pass.new.kept.rows pass.new.seat.me.0 [] }
+    ensures split { HasSplit result pass.old.seat.me.0.upper pass.new.seat.me.0.upper }
+    ensures counted { IsSpent spent.old spent.new pass.old.seat.me pass.new.seat.me }
+    ensures found { HasEnded result pass.old.seat.me pass.new.seat.me }
+    ensures back { HasCleared result pass.old.seat.me pass.new.seat.me pass.old.kept pass.new.kept }
+{
+    let (route, left, right) = match take_three(space, pass, spent) {
+        Ok(rows) => rows,
+        Err(why) => return Err(why),
+    };
+    let base = cursor.base;
+    let middle = many / 2;
+    let below = cursor.level + 1;
+    write_half(space, pass, left, below, base, 0, middle);
+    write_half(space, pass, right, below, base, middle, many - middle);
+    let first = item(space, pass, base, middle);
+    let mut key = Code::new();
+    copy_key(space, pass, first, &mut key);
+    write_route(space, pass, route, cursor.level, &key, left, right, attempt);
+    let link = cursor.link;
+    Ok(divide_in::<Brand>(
+        space, pass, link, base, many, route, left, right, attempt, spent,
+    ))
+}
+
+// Takes three free rows. Where it finds fewer, they are put back.
+fn take_three(
+    space: &TreeSpace,
+    pass: &mut TreePass,
+    spent: &mut Spent,
+) -> Result<(u32, u32, u32), NoRow>
+    requires own { IsOf space.now.table.shared.table_id space.now.table.shared.key pass.old.seat }
+    requires none { AreHeld space.now.table.shared.key.rows pass.old.kept.rows pass.old.seat.me.0 [] }
+    ensures same { IsStill pass.old.seat pass.new.seat }
+    ensures number { pass.new.number ≡ pass.old.number }
+    ensures taken { HasTakenThree result (AreHeld space.now.table.shared.key.rows pass.new.kept.rows pass.new.seat.me.0) }
+    ensures counted { IsSpent spent.old spent.new pass.old.seat.me pass.new.seat.me }
+    ensures found { HasFound result pass.old.seat.me pass.new.seat.me }
+    ensures back { HasPutBack result pass.old.seat.me pass.new.seat.me pass.old.kept pass.new.kept }
+{
+    let (first, second) = match take_two(space, pass, spent) {
+        Ok(rows) => rows,
+        Err(why) => return Err(why),
+    };
+    match take(space, pass, spent) {
+        Ok(third) => Ok((third, first, second)),
+        Err(why) => {
+            give_back_all(space, pass, &[first, second], spent);
+            Err(why)
+        }
+    }
+}
+
+// Carries out the split that `K` names, by one exchange of the base that was shown last against the route, and retires the base then. Where the
+// exchange is lost, the rows that were written are put back. How many objects there were and how many attempts the route has had is handed on for
+// the contract alone, which says that the written rows tell so.
+fn divide_in<K: Plan>(
+    space: &TreeSpace,
+    pass: &mut TreePass,
+    link: Link,
+    base: u32,
+    _many: u32,
+    route: u32,
+    left: u32,
+    right: u32,
+    _attempt: u64,
+    spent: &mut Spent,
+) -> bool
+    requires own { IsOf space.now.table.shared.table_id space.now.table.shared.key pass.old.seat }
+    requires division { IsDivision space.now.table.shared.key pass.old.seat.me K.division × IsHalving _many _attempt K.division }
+    requires rows { (K.division.old.row ≡ base) × (K.division.route ≡ route) × (K.division.left ≡ left) × (K.division.right ≡ right) }
+    requires link { K.division.old.place.link ≡ link_word link }
+    requires inside { link_word link < 136 * space.now.table.shared.key.rows + 136 }
+    requires apart { AreApart (route ∷ left ∷ right ∷ []) }
+    requires held { AreHeld space.now.table.shared.key.rows pass.old.kept.rows pass.old.seat.me.0 (route ∷ left ∷ right ∷ []) }
+    ensures same { IsSame pass.old.seat pass.new.seat }
+    ensures number { pass.new.number ≡ pass.old.number }
+    ensures pin { (pass.new.seat.me.0.sizes ≡ pass.old.seat.me.0.sizes) × (pass.new.seat.me.0.pin ≡ pass.old.seat.me.0.pin) }
+    ensures none { AreHeld space.now.table.shared.key.rows pass.new.kept.rows pass.new.seat.me.0 [] }
+    ensures split { HasSplit (Ok result) pass.old.seat.me.0.upper pass.new.seat.me.0.upper }
+    ensures counted { IsSpent spent.old spent.new pass.old.seat.me pass.new.seat.me }
+    ensures found { HasEnded (Ok result) pass.old.seat.me pass.new.seat.me }
+    ensures back { HasCleared (Ok result) pass.old.seat.me pass.new.seat.me pass.old.kept pass.new.kept }
+{
+    if !divide_base::<K>(space, pass, link, base, route) {
+        lose(spent);
+        give_back_all(space, pass, &[route, left, right], spent);
+        return false;
+    }
+    retire_unlinked(space, pass, base);
+    true
+}

@@ -1,0 +1,61 @@
+-- Parts of the keys, and the places of a tree that lead to them.
+use Rattle.std.specs.Prelude.{◌≡◌, ◌⊎◌, ℕ, ◌+◌, ◌*◌, Bool, true, false, cond, List}
+use Rattle.ca_model.specs.Edges.{Bound, Unbounded, Included, Excluded, is_from, is_up_to, within}
+use Rattle.ca_model.specs.Event.{Event, Get, Write, WriteNew, Remove, Change, Above, Below, Range}
+use Rattle.ca_model.specs.History.{Edit, Put, Del}
+use Rattle.ca_model.specs.StoreMap.{StoreMap}
+
+-- a part of the keys: those within a lower and an upper bound
+pub record Span : Type 0 where
+  pub low : Bound
+  pub high : Bound
+
+abbrev pub all_keys : Span
+all_keys = record { low = Unbounded; high = Unbounded }
+
+-- the keys of a part that are less than this one, and the others
+abbrev pub left_of : List ℕ → Span → Span
+left_of key span = record { low = span.low; high = Excluded key }
+
+abbrev pub right_of : List ℕ → Span → Span
+right_of key span = record { low = Included key; high = span.high }
+
+-- whether a key is in the part
+abbrev pub has_key : Span → List ℕ → Bool
+has_key span key = cond (is_from span.low key) (is_up_to span.high key) false
+
+abbrev pub HasKey : Span → List ℕ → Type 0
+HasKey span key = has_key span key ≡ true
+
+-- what a map has with such keys
+abbrev pub part : Span → StoreMap → StoreMap
+part span map = within span.low span.high map
+
+-- where a row hangs: the word of its link, its level, and which keys are led there
+pub record Place : Type 0 where
+  pub link : ℕ
+  pub level : ℕ
+  pub span : Span
+
+abbrev pub root_place : Place
+root_place = record { link = 130; level = 0; span = all_keys }
+
+-- The word is one of the two links of this route.
+abbrev pub IsLinkOf : ℕ → ℕ → Type 0
+IsLinkOf route link = (link ≡ 136 * route + 1) ⊎ (link ≡ 136 * route + 2)
+
+-- the key that an edit is about
+abbrev pub edit_key : Edit → List ℕ
+edit_key (Put key object) = key
+edit_key (Del key) = key
+
+-- The call is about this key alone.
+abbrev pub IsAbout : List ℕ → Event → Type 0
+IsAbout key (Get k found) = k ≡ key
+IsAbout key (Write k object) = k ≡ key
+IsAbout key (WriteNew k object new) = k ≡ key
+IsAbout key (Remove k found) = k ≡ key
+IsAbout key (Change k found new) = k ≡ key
+IsAbout key (Above lo found) = ⊥
+IsAbout key (Below hi found) = ⊥
+IsAbout key (Range lo hi cut objects) = ⊥

@@ -1,0 +1,172 @@
+-- What stands of the shape of a tree: a base and a route in other words, the whole shape in words that are the same where it matters, and
+-- with a map that has the same for each base.
+use Rattle.std.proofs.Common.{◌≡◌, ◌≢◌, ℕ, ◌+◌, ◌*◌, ◌/◌, ◌%◌, ◌<◌, ◌≤◌, List, map, take, drop, get_or, sym, refl, ap, ◌∙◌, subst, inl, inr, ⊎_elim, arith, length-drop}
+use Rattle.std.proofs.lemmas.List.{get_or-drop}
+use Rattle.std.proofs.lemmas.Grind.{same_number_lists}
+use mathlib.Core.Option.{some}
+use Rattle.ca_model.specs.StoreMap.{StoreMap}
+use Rattle.ca_rows.specs.declared.sizes.Sizes.{Sizes}
+use Rattle.ca_rows.specs.Words.{IsWide}
+use Rattle.ca_node.specs.Links.{root, IsIn, IsLinked}
+use Rattle.ca_node.specs.Place.{Span, all_keys, left_of, right_of, part, Place, IsLinkOf}
+use Rattle.ca_node.specs.Row.{row_at, form, IsObjectRow, IsBaseRow, count, level, items, mark, route_key, bytes_in, pair, objects_in}
+use Rattle.ca_node.specs.Shape.{Role, Out, Base, Route, place_of, IsLink, LeadsTo, IsBaseAt, IsRouteAt, IsSo, IsShape}
+use Rattle.ca_node.specs.Stays.{IsSameRow, word_at, row_long, row_same, map_same}
+use Rattle.ca_node.specs.Reached.{linked_range, placed_linked, item_linked}
+
+-- The row has the same words in both tables, but for those of a route's links.
+abbrev pub IsSameButLinks : List ℕ → List ℕ → ℕ → Type 0
+IsSameButLinks words others row = (k : ℕ) → k < 136 → k ≢ 1 → k ≢ 2 → get_or others (136 * row + k) 0 ≡ get_or words (136 * row + k) 0
+
+-- What a row says without the words of its links.
+module _ (words others : List ℕ) (rows row : ℕ) (wide : IsWide rows words) (wide' : IsWide rows others) (hi : row ≤ rows)
+    (same : IsSameButLinks words others row) where
+  -- A word of the row is the same, unless it is a link.
+  pub word_same : (k : ℕ) → k < 136 → k ≢ 1 → k ≢ 2 → get_or (row_at others row) k 0 ≡ get_or (row_at words row) k 0
+  word_same k l n m = word_at others row k l ∙ (same k l n m ∙ sym (word_at words row k l))
+
+  -- So is the first word.
+  first_same : get_or (row_at others row) 0 0 ≡ get_or (row_at words row) 0 0
+  first_same = word_same 0 (omega arith) (λ e. omega arith) (λ e. omega arith)
+
+  -- So are the words of the bytes.
+  rest_same : drop 11 (row_at others row) ≡ drop 11 (row_at words row)
+  rest_same = let long = row_long words rows row wide hi in let long' = row_long others rows row wide' hi in
+      let a = length-drop 11 (row_at words row) in let b = length-drop 11 (row_at others row) in
+      same_number_lists (drop 11 (row_at others row)) (drop 11 (row_at words row)) (omega arith)
+      (λ k l. get_or-drop 11 (row_at others row) k 0
+      ∙ (word_same (11 + k) (omega arith) (λ e. omega arith) (λ e. omega arith) ∙ sym (get_or-drop 11 (row_at words row) k 0)))
+
+  -- So it has the same key, if it is a route.
+  pub key_same : route_key (row_at others row) ≡ route_key (row_at words row)
+  key_same = ap (λ n. take (n % 65536) (bytes_in (drop 11 (row_at others row)))) first_same
+      ∙ ap (λ xs. take (count (row_at words row)) (bytes_in xs)) rest_same
+
+  -- It has the same form.
+  pub form_same : form (row_at others row) ≡ form (row_at words row)
+  form_same = ap (λ n. n / 72057594037927936) first_same
+
+  -- It has the same count.
+  pub count_same : count (row_at others row) ≡ count (row_at words row)
+  count_same = ap (λ n. n % 65536) first_same
+
+  -- It stands at the same level.
+  pub level_same : level (row_at others row) ≡ level (row_at words row)
+  level_same = ap (λ n. n / 65536 % 1099511627776) first_same
+
+-- What a base has, if it has its words, and each object row that it names has.
+pub objects_same : (words others : List ℕ) (base : ℕ) → row_at others base ≡ row_at words base
+    → ((r : ℕ) → IsIn r (items (row_at words base)) → row_at others r ≡ row_at words r) → objects_in others base ≡ objects_in words base
+objects_same words others base e same = ap (λ its. map (λ r. pair (row_at others r)) (items its)) e
+    ∙ map_same (λ r. pair (row_at others r)) (λ r. pair (row_at words r)) (items (row_at words base)) (λ r i. ap pair (same r i))
+
+-- A base is one in other words, under other roles and for another map, if its words and those of its objects are the same, it is under its
+-- link, which is one of the tree, and the map has the same for it.
+pub base_stands : (z : Sizes) (words others : List ℕ) (role role' : ℕ → Role) (m n : StoreMap) (place : Place) (row : ℕ)
+    → IsBaseAt z words role m place row → row_at others row ≡ row_at words row
+    → ((r : ℕ) → IsIn r (items (row_at words row)) → row_at others r ≡ row_at words r) → get_or others place.link 0 ≡ row → IsLink role' place.link
+    → part place.span n ≡ part place.span m → IsBaseAt z others role' n place row
+base_stands z words others role role' m n place row b e same under is parts = record {
+  some_row = b.some_row;
+  in_range = b.in_range;
+  under = under;
+  is_link = is;
+  deep = b.deep;
+  is_base = subst IsBaseRow (sym e) b.is_base;
+  level_is = subst (λ its. level its ≡ place.level) (sym e) b.level_is;
+  few = subst (λ its. count its ≤ z.leaf) (sym e) b.few;
+  unmarked = subst (λ its. mark its ≡ 0) (sym e) b.unmarked;
+  are_objects = λ r i. let was = subst (λ its. IsIn r (items its)) e i in let o = b.are_objects r was in
+      (o.0, o.1, subst IsObjectRow (sym (same r was)) o.2);
+  has = objects_same words others row e same ∙ (b.has ∙ sym parts);
+}
+
+-- A route is one in other words and under other roles, if all its words are the same but its links, it is under its link, which is one of the
+-- tree, and its own links lead where they led.
+pub route_stands : (z : Sizes) (words others : List ℕ) (role role' : ℕ → Role) (place : Place) (key : List ℕ) (row : ℕ)
+    → IsRouteAt z words role place key row → IsWide z.rows words → IsWide z.rows others → IsSameButLinks words others row
+    → get_or others place.link 0 ≡ row → IsLink role' place.link
+    → LeadsTo others role' (136 * row + 1) (place.level + 1) (left_of key place.span)
+    → LeadsTo others role' (136 * row + 2) (place.level + 1) (right_of key place.span) → IsRouteAt z others role' place key row
+route_stands z words others role role' place key row r wide wide' same under is left right = record {
+  some_row = r.some_row;
+  in_range = r.in_range;
+  under = under;
+  is_link = is;
+  is_route = form_same words others z.rows row wide wide' r.in_range same ∙ r.is_route;
+  level_is = level_same words others z.rows row wide wide' r.in_range same ∙ r.level_is;
+  above = r.above;
+  short = subst (λ n. n ≤ 1000) (sym (count_same words others z.rows row wide wide' r.in_range same)) r.short;
+  key_is = key_same words others z.rows row wide wide' r.in_range same ∙ r.key_is;
+  inside = r.inside;
+  idle = ap (λ n. n % 4) (word_same words others z.rows row wide wide' r.in_range same 3 (omega arith) (λ e. omega arith) (λ e. omega arith)) ∙ r.idle;
+  left = left;
+  right = right;
+}
+
+-- Two tables that agree on the root link and on each linked row have the same shape.
+module _ (z : Sizes) (words others : List ℕ) (role : ℕ → Role) (m : StoreMap) (shape : IsShape z words role m) (wide : IsWide z.rows others)
+    (same_root : root others ≡ root words) (same : (row : ℕ) → IsLinked words row → IsSameRow words others row) where
+  -- A linked row has the same words.
+  its_same : (row : ℕ) → IsLinked words row → row_at others row ≡ row_at words row
+  its_same row l = row_same words others z.rows row shape.wide wide (linked_range z words role m shape row l).1 (same row l)
+
+  -- What has a place is linked.
+  placed : (row : ℕ) (place : Place) → place_of (role row) ≡ some place → IsLinked words row
+  placed = placed_linked z words role m shape
+
+  -- A link names what it named.
+  pub link_same : (link : ℕ) → IsLink role link → get_or others link 0 ≡ get_or words link 0
+  link_same link is = ⊎_elim
+      (λ (e : link ≡ 130). ap (λ (i : ℕ). get_or others i 0) e ∙ (same_root ∙ sym (ap (λ (i : ℕ). get_or words i 0) e)))
+      (λ (t : (route : ℕ) × (place : Place) × (key : List ℕ) × (role route ≡ Route place key) × IsLinkOf route link).
+      let s = same t.0 (placed t.0 t.1 (ap place_of t.3)) in ⊎_elim
+      (λ (e : link ≡ 136 * t.0 + 1). ap (λ (i : ℕ). get_or others i 0) e ∙ (s 1 (omega arith) ∙ sym (ap (λ (i : ℕ). get_or words i 0) e)))
+      (λ (e : link ≡ 136 * t.0 + 2). ap (λ (i : ℕ). get_or others i 0) e ∙ (s 2 (omega arith) ∙ sym (ap (λ (i : ℕ). get_or words i 0) e)))
+      t.4)
+      is
+
+  -- A link leads where it led.
+  lead_same : (link least : ℕ) (span : Span) → IsLink role link → LeadsTo words role link least span → LeadsTo others role link least span
+  lead_same link least span is l = record {
+    level = l.level;
+    greater = l.greater;
+    hangs = ap (λ (r : ℕ). place_of (role r)) (link_same link is) ∙ l.hangs;
+  }
+
+  -- Each row is what it was.
+  so : (row : ℕ) (is : Role) → role row ≡ is → IsSo z words role m row is → IsSo z others role m row is
+  so row Out e s = tt
+  so row (Base place) e s = base_stands z words others role role m m place row s (its_same row (placed row place (ap place_of e)))
+      (λ r i. its_same r (item_linked z words role m shape row place e r i)) (link_same place.link s.is_link ∙ s.under) s.is_link refl
+  so row (Route place key) e s = route_stands z words others role role place key row s shape.wide wide
+      (λ k l _ _. same row (placed row place (ap place_of e)) k l) (link_same place.link s.is_link ∙ s.under) s.is_link
+      (lead_same (136 * row + 1) (place.level + 1) (left_of key place.span) (inr (row, place, key, e, inl refl)) s.left)
+      (lead_same (136 * row + 2) (place.level + 1) (right_of key place.span) (inr (row, place, key, e, inr refl)) s.right)
+
+  -- The other table has the same shape.
+  pub shape_stands : IsShape z others role m
+  shape_stands = record {
+    wide = wide;
+    top = lead_same 130 0 all_keys (inl refl) shape.top;
+    each_row = λ row. so row (role row) refl (shape.each_row row);
+    apart = shape.apart;
+  }
+
+-- A shape for one map is one for another that has the same for each base.
+module _ (z : Sizes) (words : List ℕ) (role : ℕ → Role) (m n : StoreMap) (shape : IsShape z words role m)
+    (parts : (base : ℕ) (place : Place) → role base ≡ Base place → part place.span n ≡ part place.span m) where
+  -- Each row is what it was, for the other map.
+  so_too : (row : ℕ) (is : Role) → role row ≡ is → IsSo z words role m row is → IsSo z words role n row is
+  so_too row Out e s = tt
+  so_too row (Base place) e s = base_stands z words words role role m n place row s refl (λ r i. refl) s.under s.is_link (parts row place e)
+  so_too row (Route place key) e s = s
+
+  -- The other map has the same shape.
+  pub shape_for : IsShape z words role n
+  shape_for = record {
+    wide = shape.wide;
+    top = shape.top;
+    each_row = λ row. so_too row (role row) refl (shape.each_row row);
+    apart = shape.apart;
+  }

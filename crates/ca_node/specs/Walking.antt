@@ -1,0 +1,140 @@
+-- Walks from the root link to a base.
+use Rattle.std.specs.Prelude.{◌≡◌, ◌≢◌, ◌⊎◌, Bool, true, false, not, ℕ, ◌+◌, ◌*◌, ◌<◌, ◌≤◌, List, [], ◌∷◌, ◌++◌, length, map, Option, None, Some}
+use Rattle.std.specs.declared.cmp.Ordering.TheVariants.{Less, Greater}
+use Rattle.std.specs.Ordering.{is_lt, is_gt}
+use Rattle.ca_model.specs.Edges.{Bound, Unbounded, Included, Excluded}
+use Rattle.ca_model.specs.History.{History, after}
+use Rattle.ca_model.specs.StoreMap.{bytes_cmp}
+use Rattle.ca_rows.specs.declared.sizes.Sizes.{Sizes}
+use Rattle.ca_node.specs.declared.cursor.Cursor.{Cursor}
+use Rattle.ca_node.specs.declared.cursor.Spot.{Spot}
+use Rattle.ca_node.specs.declared.cursor.Spot.TheVariants as spot
+use Rattle.ca_node.specs.declared.link.Link.{Link}
+use Rattle.ca_node.specs.declared.link.Link.TheVariants as link
+use Rattle.ca_node.specs.Links.{IsIn}
+use Rattle.ca_node.specs.Place.{Span, HasKey, part, Place}
+use Rattle.ca_node.specs.Row.{count, route_key, pair}
+use Rattle.ca_node.specs.Told.{MyTree, with_upper, IsBaseNote, IsRouteNote, IsKnown, IsShownRoute, link_word}
+use Rattle.ca_node.specs.TreeView.{Note, Way, TreeView}
+
+-- A lower bound lets keys in that are less than this one.
+abbrev pub LetsLess : Bound → List ℕ → Type 0
+LetsLess Unbounded key = Unit {0}
+LetsLess (Included low) key = bytes_cmp low key ≡ Less
+LetsLess (Excluded low) key = bytes_cmp low key ≡ Less
+
+-- No key that is less than this one is beyond an upper bound.
+abbrev pub LeavesNone : Bound → List ℕ → Type 0
+LeavesNone Unbounded key = Unit {0}
+LeavesNone (Included high) key = bytes_cmp key high ≢ Greater
+LeavesNone (Excluded high) key = bytes_cmp key high ≢ Greater
+
+-- The keys of this part are those that are looked for: the first ones, those among which this one is, those right below it, or the last ones.
+abbrev pub IsSought : Spot → Span → Type 0
+IsSought spot.First span = span.low ≡ Unbounded
+IsSought (spot.At key) span = HasKey span key.now
+IsSought (spot.Below key) span = LetsLess span.low key.now × LeavesNone span.high key.now
+IsSought spot.Last span = span.high ≡ Unbounded
+
+-- what a seat knows after a walk: a base was shown to it, and the routes on the way there
+abbrev pub walked : TreeView → History → Note → List Way → ℕ → TreeView
+walked u more note ways loads = record u { seen = u.seen ++ more; notes = note ∷ u.notes; ways = ways ++ u.ways; loads = u.loads + loads }
+
+-- The pass was shown the route with these words.
+pub record IsRouteShown (u : TreeView) (row : ℕ) (its : List ℕ) : Type 0 where
+  pub shown : IsShownRoute u row its
+  pub long : length its ≡ 136
+  pub short : count its ≤ 1000
+
+-- The route, if one is named, is one that was shown, and its key is the lower bound, or the upper one.
+abbrev pub IsLowRoute : List Way → Option ℕ → Bound → Type 0
+IsLowRoute ways None bound = bound ≡ Unbounded
+IsLowRoute ways (Some route) bound = (way : Way) × IsIn way ways × (way.row ≡ route) × (bound ≡ Included (route_key way.its))
+
+abbrev pub IsHighRoute : List Way → Option ℕ → Bound → Type 0
+IsHighRoute ways None bound = bound ≡ Unbounded
+IsHighRoute ways (Some route) bound = (way : Way) × IsIn way ways × (way.row ≡ route) × (bound ≡ Excluded (route_key way.its))
+
+-- The link, if one is named, is the one on which the route hung whose link the other one is.
+abbrev pub IsAbove : List Way → Link → Option Link → Type 0
+IsAbove ways link.Root above = above ≡ None
+IsAbove ways (link.Left route) None = ⊥
+IsAbove ways (link.Left route) (Some above) = (way : Way) × IsIn way ways × (way.row ≡ route) × (link_word above ≡ way.place.link)
+IsAbove ways (link.Right route) None = ⊥
+IsAbove ways (link.Right route) (Some above) = (way : Way) × IsIn way ways × (way.row ≡ route) × (link_word above ≡ way.place.link)
+
+-- The cursor tells the base that was shown, and where it hung.
+pub record IsCursor (ways : List Way) (note : Note) (cursor : Cursor) : Type 0 where
+  pub base : note.row ≡ cursor.base
+  pub link : note.place.link ≡ link_word cursor.link
+  pub level : note.place.level ≡ cursor.level
+  pub above : IsAbove ways cursor.link cursor.above
+  pub low : IsLowRoute ways cursor.low note.place.span.low
+  pub high : IsHighRoute ways cursor.high note.place.span.high
+
+-- What is looked for is left of this key, or it isn't.
+abbrev pub IsSide : Bool → Spot → List ℕ → Type 0
+IsSide left spot.First key = left ≡ true
+IsSide left (spot.At k) key = left ≡ is_gt (bytes_cmp key k.now)
+IsSide left (spot.Below k) key = left ≡ not (is_lt (bytes_cmp key k.now))
+IsSide left spot.Last key = left ≡ false
+
+-- The cursor tells where a row hangs to which the routes lead that were shown.
+pub record IsPlaced (z : Sizes) (ways : List Way) (place : Place) (cursor : Cursor) : Type 0 where
+  pub link : place.link ≡ link_word cursor.link
+  pub inside : link_word cursor.link < 136 * z.rows + 136
+  pub above : IsAbove ways cursor.link cursor.above
+  pub low : IsLowRoute ways cursor.low place.span.low
+  pub high : IsHighRoute ways cursor.high place.span.high
+
+-- what a seat knows on its way down, when no base was shown to it yet
+abbrev pub passed : TreeView → History → List Way → ℕ → TreeView
+passed u more ways loads = record u { seen = u.seen ++ more; ways = ways ++ u.ways; loads = u.loads + loads }
+
+-- The walk came to a route, under which the base is. It loaded at most one link more than the route's level.
+pub record IsAtRoute (z : Sizes) (spot : Spot) (m : MyTree) (cursor : Cursor) (m' : MyTree) : Type 0 where
+  pub way : Way
+  pub more : History
+  pub ways : List Way
+  pub loads : ℕ
+  pub now : m' ≡ with_upper m (passed m.0.upper more (way ∷ ways) loads)
+  pub few : loads ≤ way.place.level + 1
+  pub sought : IsSought spot way.place.span
+  pub row : way.row ≡ cursor.base
+  pub placed : IsPlaced z m'.0.upper.ways way.place cursor
+  pub is_route : IsRouteNote z way
+
+-- The walk came to a base, and it is the one that is looked for. It loaded at most one link more than the base's level.
+pub record IsAtBase (z : Sizes) (spot : Spot) (m : MyTree) (cursor : Cursor) (m' : MyTree) : Type 0 where
+  pub note : Note
+  pub more : History
+  pub ways : List Way
+  pub loads : ℕ
+  pub now : m' ≡ with_upper m (walked m.0.upper more note ways loads)
+  pub few : loads ≤ note.place.level + 1
+  pub sought : IsSought spot note.place.span
+  pub row : note.row ≡ cursor.base
+  pub placed : IsPlaced z m'.0.upper.ways note.place cursor
+  pub is_base : IsBaseNote z note
+  pub has : map pair note.objects ≡ part note.place.span (after m'.0.upper.seen [])
+  pub known : IsKnown z m'.0.upper
+
+-- The walk came to a base or to a route.
+abbrev pub IsWalking : Sizes → Spot → MyTree → Cursor → MyTree → Type 0
+IsWalking z spot m cursor m' = IsAtBase z spot m cursor m' ⊎ IsAtRoute z spot m cursor m'
+
+-- The walk came to the base that was looked for. It loaded at most one link more than there are levels.
+pub record IsWalked (z : Sizes) (spot : Spot) (m : MyTree) (cursor : Cursor) (m' : MyTree) : Type 0 where
+  pub note : Note
+  pub more : History
+  pub ways : List Way
+  pub loads : ℕ
+  pub now : m' ≡ with_upper m (walked m.0.upper more note ways loads)
+  pub few : loads ≤ z.levels + 1
+  pub sought : IsSought spot note.place.span
+  pub cursor_is : IsCursor m'.0.upper.ways note cursor
+  -- The link is within the table.
+  pub inside : link_word cursor.link < 136 * z.rows + 136
+  pub is_base : IsBaseNote z note
+  pub has : map pair note.objects ≡ part note.place.span (after m'.0.upper.seen [])
+  pub known : IsKnown z m'.0.upper

@@ -1,0 +1,37 @@
+use Rattle.std.proofs.Common.{true, refl, ap, inl, ◌∙◌}
+use Rattle.ca_node.specs.Place.{all_keys}
+use Rattle.ca_node.specs.Told.{MyTree}
+use Rattle.ca_node.specs.TreeView.{pinned}
+use Rattle.ca_rows.specs.declared.sizes.Sizes.{Sizes}
+use Rattle.ca_replace.proofs.Entries.{held_upper}
+use Rattle.ca_replace.proofs.Showing.{led_further}
+use Rattle.ca_replace.proofs.Turns.{none_pinned, rests_as, rests_again}
+use Rattle.ca_replace.proofs.store.TreeStore.learn.Goals as goal
+
+pub load_link-requires-clause-known : goal.load_link-requires-clause-known
+load_link-requires-clause-known c = (0, all_keys, inl (refl, refl, refl))
+
+pub keep_few-requires : goal.keep_few-requires
+keep_few-requires c = let tree = c.self.inside.tree.now in let z : Sizes = tree.space.table.shared.key in let table = tree.space.table.shared.table_id in
+    let pass = c.self.inside.pass in let pin = c.pin.ensures.pinned.3 in let learnt = c.learn.ensures.learnt in
+    let both = pin ∙ ap (λ (m : MyTree). (
+      record m.0 {
+        pin = record m.0.pin { pinned = true; told = c.pin.ensures.pinned.0; moment = c.pin.ensures.pinned.1 };
+        upper = pinned m.0.upper;
+      },
+      m.1,
+    )) learnt in
+    let led = led_further z 130 c.pin.new.pass.seat.me c.load_link.new.pass.seat.me c.load_link.result c.load_link.ensures.led
+    (ap (λ (m : MyTree). m.0.sizes) both ∙ c.self.invariant.of.1) tree.space.few.0 in record {
+      resting = rests_as table z pass.number c.unpin.new.pass.number c.load_link.new.pass.kept c.unpin.new.pass.kept c.unpin.new.pass.seat
+          (c.unpin.ensures.number ∙ (c.load_link.ensures.number ∙ (c.pin.ensures.number ∙ c.learn.ensures.number))) c.unpin.ensures.kept
+          (rests_again table z pass.number pass.kept.rows c.load_link.new.pass.kept.rows pass.seat c.pin.new.pass.seat c.load_link.new.pass.seat
+          c.unpin.new.pass.seat c.self.invariant
+          (ap (λ (m : MyTree). m.0.sizes) both, ap (λ (m : MyTree). m.0.pin.number) both, ap (λ (m : MyTree). m.0.upper.number) both)
+          (c.load_link.ensures.same.0 ∙ (c.pin.ensures.same.0 ∙ c.learn.ensures.same.0))
+          (ap (λ (m : MyTree). m.0.sizes) led.1, ap (λ (m : MyTree). m.0.pin) led.1)
+          (held_upper z.rows c.pin.new.pass.kept c.load_link.new.pass.kept c.pin.new.pass.seat.me c.load_link.new.pass.seat.me led.0 _
+          (none_pinned table z pass.number pass.kept c.pin.new.pass.kept pass.seat c.pin.new.pass.seat _ _ c.self.invariant both
+          (c.pin.ensures.kept ∙ c.learn.ensures.kept)) led.1 c.load_link.ensures.kept)
+          (led.3, led.2.number) c.unpin.ensures.same.0 c.unpin.ensures.unpinned);
+    }
