@@ -11,6 +11,7 @@ pub mod Parts
 pub mod Rebased
 pub mod Remembering
 pub mod RouteWords
+pub mod Tallies
 pub mod Updating
 pub mod Walks
 pub mod WordOrder

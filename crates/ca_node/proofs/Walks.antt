@@ -140,9 +140,9 @@ walked_on : (m m' m'' : MyTree) (more next : History) (note : Note) (ways : List
 walked_on m m' m'' more next note ways loads e d =
     let u : TreeView = m.0.upper in let n : u.loads + loads + 1 ≡ u.loads + (loads + 1) = omega arith in
     d ∙ (ap (λ (x : MyTree). with_upper x (led_to_base x.0.upper next note)) e
-    ∙ (ap (λ (h : History). with_upper m (record u { seen = h; notes = note ∷ u.notes; ways = ways ++ u.ways; loads = u.loads + loads + 1 }))
+    ∙ (ap (λ (h : History). with_upper m (record u { seen = h; notes = note ∷ u.notes; ways = ways ++ u.ways; loads = u.loads + loads + 1; last = note }))
     (append_assoc u.seen more next)
-    ∙ ap (λ (k : ℕ). with_upper m (record u { seen = u.seen ++ (more ++ next); notes = note ∷ u.notes; ways = ways ++ u.ways; loads = k })) n))
+    ∙ ap (λ (k : ℕ). with_upper m (record u { seen = u.seen ++ (more ++ next); notes = note ∷ u.notes; ways = ways ++ u.ways; loads = k; last = note })) n))
 
 -- The same of a link that named a route.
 passed_on : (m m' m'' : MyTree) (more next : History) (way : Way) (ways : List Way) (loads : ℕ) → m' ≡ with_upper m (passed m.0.upper more ways loads)

@@ -7,6 +7,7 @@ pub mod Row
 pub mod Shape
 pub mod Standing
 pub mod Stays
+pub mod Tallied
 pub mod Told
 pub mod Tree
 pub mod TreeView

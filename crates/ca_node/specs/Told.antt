@@ -16,10 +16,10 @@ use Rattle.ca_rows.specs.Told.{Mine}
 use Rattle.ca_node.specs.Links.{IsIn}
 use Rattle.ca_node.specs.declared.link.Link.{Link}
 use Rattle.ca_node.specs.declared.link.Link.TheVariants as link
-use Rattle.ca_node.specs.Place.{Span, all_keys, left_of, right_of, HasKey, part, Place, root_place, edit_key}
+use Rattle.ca_node.specs.Place.{Span, all_keys, left_of, right_of, HasKey, part, Place, edit_key}
 use Rattle.ca_node.specs.Row.{IsObjectRow, IsBaseRow, IsRouteRow, count, level, items, mark, key, route_key, pair}
 use Rattle.ca_node.specs.Tree.{ArePast, IsFixed}
-use Rattle.ca_node.specs.TreeView.{Note, Way, TreeView, blank}
+use Rattle.ca_node.specs.TreeView.{Note, Way, Renewal, TreeView, blank, no_note}
 
 abbrev pub MyTree : Type 0
 MyTree = Mine TreeView
@@ -80,7 +80,7 @@ link_word (link.Right route) = 136 * route + 2
 
 -- what a seat knows after it loaded a link that names a base, or a route
 abbrev pub led_to_base : TreeView → History → Note → TreeView
-led_to_base u more note = record u { seen = u.seen ++ more; notes = note ∷ u.notes; loads = u.loads + 1 }
+led_to_base u more note = record u { seen = u.seen ++ more; notes = note ∷ u.notes; loads = u.loads + 1; last = note }
 
 abbrev pub led_to_route : TreeView → History → Way → TreeView
 led_to_route u more way = record u { seen = u.seen ++ more; ways = way ∷ u.ways; loads = u.loads + 1 }
@@ -160,9 +160,6 @@ pub record Update : Type 0 where
   pub event : Event
   pub edit : Edit
 
-abbrev pub no_note : Note
-no_note = record { row = 0; its = []; objects = []; place = root_place }
-
 abbrev pub no_update : Update
 no_update = record { old = no_note; its = []; objects = []; comes = []; goes = []; event = Get [] None; edit = Del [] }
 
@@ -209,12 +206,29 @@ pub record IsUpdate (z : Sizes) (m : MyTree) (new : ℕ) (x : Update) : Type 0 w
   pub answer : IsAnswer x.event (map pair x.old.objects)
   pub is_edit : IsEdit z.keypos x.edit
 
+-- the new base of an update, where the old one hung
+abbrev pub new_base : ℕ → Update → Note
+new_base new x = record { row = new; its = x.its; objects = x.objects; place = x.old.place }
+
+-- one update more
+abbrev pub renewed_by : TreeView → ℕ → Update → Renewal
+renewed_by u new x = record {
+  count = u.renewal.count + 1;
+  key = edit_key x.edit;
+  old = x.old;
+  new = new_base new x;
+  lost = u.lost;
+  splits = u.splits;
+}
+
 -- what a seat knows after it carried out the update: its edit is the last one of the history
 abbrev pub updated : TreeView → History → ℕ → Update → TreeView
 updated u more new x = record u {
   seen = u.seen ++ more ++ (u.number, x.edit) ∷ [];
   log = u.log ++ (x.event, length (u.seen ++ more) + 1) ∷ [];
-  notes = record { row = new; its = x.its; objects = x.objects; place = x.old.place } ∷ u.notes;
+  notes = new_base new x ∷ u.notes;
+  last = new_base new x;
+  renewal = renewed_by u new x;
 }
 
 -- The update is carried out: the rows that came are linked, and those that went, which nobody claimed until then, are unlinked by the seat;

@@ -3,7 +3,7 @@ use Rattle.std.specs.Prelude.{ℕ, List, []}
 use Rattle.ca_model.specs.Event.{Entry}
 use Rattle.ca_model.specs.History.{History}
 use Rattle.ca_model.specs.Known.{Counts}
-use Rattle.ca_node.specs.Place.{Place}
+use Rattle.ca_node.specs.Place.{Place, root_place}
 
 -- A base that was shown, with its words, those of the object rows that it names, and where it hung. The words stay as long as the note does.
 pub record Note : Type 0 where
@@ -18,6 +18,16 @@ pub record Way : Type 0 where
   pub row : ℕ
   pub its : List ℕ
   pub place : Place
+
+-- An update that the seat carried out: how many it has carried out with this one, the key that it was about, the base that was there and the one
+-- that took its place, and how many exchanges of a link the seat had lost until then, and how many splits carried out.
+pub record Renewal : Type 0 where
+  pub count : ℕ
+  pub key : List ℕ
+  pub old : Note
+  pub new : Note
+  pub lost : ℕ
+  pub splits : ℕ
 
 pub record TreeView : Type 0 where
   -- the number of its pass; 0 of a seat that is no pass's
@@ -37,6 +47,15 @@ pub record TreeView : Type 0 where
   pub joins : ℕ
   -- how many exchanges of a link it lost
   pub lost : ℕ
+  -- the base that it was shown last, whether it is pinned or not, and its last update
+  pub last : Note
+  pub renewal : Renewal
+
+abbrev pub no_note : Note
+no_note = record { row = 0; its = []; objects = []; place = root_place }
+
+abbrev pub no_renewal : Renewal
+no_renewal = record { count = 0; key = []; old = no_note; new = no_note; lost = 0; splits = 0 }
 
 abbrev pub no_refusals : Counts
 no_refusals = record { busy = 0; full = 0; deep = 0; worn = 0 }
@@ -55,6 +74,8 @@ blank number = record {
   splits = 0;
   joins = 0;
   lost = 0;
+  last = no_note;
+  renewal = no_renewal;
 }
 
 -- It is pinned, or not any more.

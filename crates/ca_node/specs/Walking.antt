@@ -38,7 +38,7 @@ IsSought spot.Last span = span.high ≡ Unbounded
 
 -- what a seat knows after a walk: a base was shown to it, and the routes on the way there
 abbrev pub walked : TreeView → History → Note → List Way → ℕ → TreeView
-walked u more note ways loads = record u { seen = u.seen ++ more; notes = note ∷ u.notes; ways = ways ++ u.ways; loads = u.loads + loads }
+walked u more note ways loads = record u { seen = u.seen ++ more; notes = note ∷ u.notes; ways = ways ++ u.ways; loads = u.loads + loads; last = note }
 
 -- The pass was shown the route with these words.
 pub record IsRouteShown (u : TreeView) (row : ℕ) (its : List ℕ) : Type 0 where

@@ -19,6 +19,7 @@ pub fn compare(space: &TreeSpace, pass: &mut TreePass, route: u32, key: &[u8]) -
     requires shown { (its : List ℕ) × IsRouteShown pass.old.seat.me.0.upper route its }
     ensures same { IsSame pass.old.seat pass.new.seat }
     ensures number { pass.new.number ≡ pass.old.number }
+    ensures tally { pass.new.tally ≡ pass.old.tally }
     ensures kept { pass.new.kept ≡ pass.old.kept }
     ensures still { pass.new.seat.me ≡ pass.old.seat.me }
     ensures order { (its : List ℕ) → IsRouteShown pass.old.seat.me.0.upper route its → result ≡ bytes_cmp (route_key its) key.now }
@@ -52,6 +53,7 @@ fn compare_rest(
     requires left { (8 * word ≤ len) × (len < 8 * word + 8 ⊎ list_length rest.now < 8) }
     ensures same { IsSame pass.old.seat pass.new.seat }
     ensures number { pass.new.number ≡ pass.old.number }
+    ensures tally { pass.new.tally ≡ pass.old.tally }
     ensures kept { pass.new.kept ≡ pass.old.kept }
     ensures still { pass.new.seat.me ≡ pass.old.seat.me }
     ensures order { (its : List ℕ) → IsRouteShown pass.old.seat.me.0.upper route its

@@ -49,6 +49,7 @@ pub fn walk(space: &TreeSpace, pass: &mut TreePass, spot: Spot<'_>) -> Cursor
     requires pinned { pass.old.seat.me.0.pin.pinned ≡ true }
     ensures same { IsSame pass.old.seat pass.new.seat }
     ensures number { pass.new.number ≡ pass.old.number }
+    ensures tally { pass.new.tally ≡ pass.old.tally }
     ensures kept { pass.new.kept ≡ pass.old.kept }
     ensures walked { IsWalked space.now.table.shared.key spot.entry pass.old.seat.me result pass.new.seat.me }
 {
@@ -77,6 +78,7 @@ fn go_down(space: &TreeSpace, pass: &mut TreePass, cursor: Cursor, spot: Spot<'_
     requires at { (m : MyTree) × IsAtRoute space.now.table.shared.key spot m cursor pass.old.seat.me }
     ensures same { IsSame pass.old.seat pass.new.seat }
     ensures number { pass.new.number ≡ pass.old.number }
+    ensures tally { pass.new.tally ≡ pass.old.tally }
     ensures kept { pass.new.kept ≡ pass.old.kept }
     ensures pinned { pass.new.seat.me.0.pin ≡ pass.old.seat.me.0.pin }
     ensures sizes { pass.new.seat.me.0.sizes ≡ pass.old.seat.me.0.sizes }
@@ -113,6 +115,7 @@ fn goes_left(space: &TreeSpace, pass: &mut TreePass, route: u32, spot: Spot<'_>)
     requires shown { (its : List ℕ) × IsRouteShown pass.old.seat.me.0.upper route its }
     ensures same { IsSame pass.old.seat pass.new.seat }
     ensures number { pass.new.number ≡ pass.old.number }
+    ensures tally { pass.new.tally ≡ pass.old.tally }
     ensures kept { pass.new.kept ≡ pass.old.kept }
     ensures still { pass.new.seat.me ≡ pass.old.seat.me }
     ensures side { (its : List ℕ) → IsRouteShown pass.old.seat.me.0.upper route its → IsSide result spot.entry (route_key its) }

@@ -1,5 +1,6 @@
 //! Exchanges of a base: updates and splits.
 ghost use Rattle.std.specs.Prelude.{◌≡◌, ◌+◌, ◌*◌, ◌<◌};
+ghost use Rattle.ca_node.specs.Tallied.{HasTallied};
 ghost use Rattle.ca_node.specs.Told.{IsUpdate, HasUpdated, IsDivision, HasDivided, link_word};
 ghost use Rattle.ca_rows.specs.Calls.{IsOf, IsSame};
 
@@ -7,6 +8,7 @@ use crate::link::Link;
 use crate::plays::{Divide, Intent, Plan, Replace};
 use crate::rule::{TreePass, TreeSpace};
 use crate::steps::replace_link;
+use crate::tallying::count_split;
 
 /// One exchange of a link, of the old base against one that the pass wrote: it carries out the update that `K` names, which is the last edit of
 /// the history then, and enters the call in the log. The old base is the one that the pass was shown last, and the link is where it hung. False
@@ -25,6 +27,7 @@ pub fn replace_base<K: Intent>(
     requires inside { link_word link < 136 * space.now.table.shared.key.rows + 136 }
     ensures same { IsSame pass.old.seat pass.new.seat }
     ensures number { pass.new.number ≡ pass.old.number }
+    ensures tally { pass.new.tally ≡ pass.old.tally }
     ensures kept { pass.new.kept ≡ pass.old.kept }
     ensures done { HasUpdated result new K.update pass.old.seat.me pass.new.seat.me }
 {
@@ -33,7 +36,7 @@ pub fn replace_base<K: Intent>(
 
 /// One exchange of a link, of a base against a route over two bases that the pass wrote: it carries out the split that `K` names, by which no
 /// object comes or goes. The old base is the one that the pass was shown last, and the link is where it hung. False exactly where the exchange was
-/// lost, which is counted; then nothing else changed.
+/// lost, which is counted; then nothing else changed. Where it won, the pass's tally has one split more.
 pub fn divide_base<K: Plan>(
     space: &TreeSpace,
     pass: &mut TreePass,
@@ -49,8 +52,13 @@ pub fn divide_base<K: Plan>(
     requires inside { link_word link < 136 * space.now.table.shared.key.rows + 136 }
     ensures same { IsSame pass.old.seat pass.new.seat }
     ensures number { pass.new.number ≡ pass.old.number }
+    ensures tally { HasTallied result pass.old.tally pass.new.tally }
     ensures kept { pass.new.kept ≡ pass.old.kept }
     ensures done { HasDivided result K.division pass.old.seat.me pass.new.seat.me }
 {
-    replace_link::<Divide<K>>(space, pass, link, old, route)
+    if !replace_link::<Divide<K>>(space, pass, link, old, route) {
+        return false;
+    }
+    count_split(pass);
+    true
 }

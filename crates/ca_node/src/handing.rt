@@ -12,6 +12,7 @@ pub fn front(space: &TreeSpace, pass: &mut TreePass) -> Front
     requires own { IsOf space.now.table.shared.table_id space.now.table.shared.key pass.old.seat }
     ensures same { IsSame pass.old.seat pass.new.seat }
     ensures number { pass.new.number ≡ pass.old.number }
+    ensures tally { pass.new.tally ≡ pass.old.tally }
     ensures kept { pass.new.kept ≡ pass.old.kept }
     ensures still { pass.new.seat.me ≡ pass.old.seat.me }
     ensures table { result.half.seat.table_id ≡ space.now.table.shared.table_id }
@@ -28,6 +29,7 @@ pub fn learn(space: &TreeSpace, pass: &mut TreePass, front: Front)
     requires table { front.half.seat.table_id ≡ space.now.table.shared.table_id }
     ensures same { IsSame pass.old.seat pass.new.seat }
     ensures number { pass.new.number ≡ pass.old.number }
+    ensures tally { pass.new.tally ≡ pass.old.tally }
     ensures kept { pass.new.kept ≡ pass.old.kept }
     ensures learnt { pass.new.seat.me ≡ with_upper pass.old.seat.me (learnt pass.old.seat.me.0.upper front.half.seat.me.0.upper) }
     ensures seen { length front.half.seat.me.0.upper.seen ≤ length pass.new.seat.me.0.upper.seen }

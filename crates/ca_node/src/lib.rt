@@ -10,6 +10,7 @@ mod link;
 mod plays;
 mod rule;
 mod steps;
+mod tallying;
 mod view;
 
 pub use cursor::{Cursor, Spot, walk};
@@ -20,6 +21,7 @@ pub use link::Link;
 pub use plays::{Intent, Plan};
 pub use rule::{TreePass, TreeRule, TreeSpace};
 pub use steps::{load_link, load_word, replace_link};
+pub use tallying::adapted;
 pub use view::Knowledge;
 
 #[cfg(test)]

@@ -28,6 +28,7 @@ pub fn load_link(space: &TreeSpace, pass: &mut TreePass, link: Link) -> u32
     requires known { IsAnyLink pass.old.seat.me.0.upper (link_word link) }
     ensures same { IsSame pass.old.seat pass.new.seat }
     ensures number { pass.new.number ≡ pass.old.number }
+    ensures tally { pass.new.tally ≡ pass.old.tally }
     ensures kept { pass.new.kept ≡ pass.old.kept }
     ensures led { IsLed (link_word link) pass.old.seat.me result pass.new.seat.me }
 {
@@ -43,6 +44,7 @@ pub fn load_word(space: &TreeSpace, pass: &mut TreePass, row: u32, index: u32) -
     requires shown { (word : ℕ) × IsShownWord pass.old.seat.me.0.upper row index word }
     ensures same { IsSame pass.old.seat pass.new.seat }
     ensures number { pass.new.number ≡ pass.old.number }
+    ensures tally { pass.new.tally ≡ pass.old.tally }
     ensures kept { pass.new.kept ≡ pass.old.kept }
     ensures still { pass.new.seat.me ≡ pass.old.seat.me }
     ensures word { (word : ℕ) → IsShownWord pass.old.seat.me.0.upper row index word → result ≡ word }
@@ -67,6 +69,7 @@ pub fn replace_link<M: Play<(), View<Knowledge>>>(
         (M.then (step space.now.table.shared.table_id.slots (link_word link) old new none) pass.old.seat.me) }
     ensures same { IsSame pass.old.seat pass.new.seat }
     ensures number { pass.new.number ≡ pass.old.number }
+    ensures tally { pass.new.tally ≡ pass.old.tally }
     ensures kept { pass.new.kept ≡ pass.old.kept }
     ensures told { (n : ℕ) × M.then (step space.now.table.shared.table_id.slots (link_word link) old new none) pass.old.seat.me n pass.new.seat.me
         × (result ≡ (n == old)) }

@@ -16,6 +16,7 @@ mod rule;
 mod sizes;
 mod space;
 mod taken;
+mod tally;
 mod view;
 mod words;
 
@@ -26,6 +27,7 @@ pub use rule::{RowRule, Rows};
 pub use sizes::{Sizes, Starts};
 pub use space::{Half, Pass, Space};
 pub use taken::Taken;
+pub use tally::Tally;
 pub use view::{Claim, Claimed, Pin, Stage, View};
 pub use words::Words;
 

@@ -13,6 +13,7 @@ use crate::rest::Rest;
 use crate::rule::RowRule;
 use crate::sizes::{Sizes, Starts};
 use crate::space::{Pass, Space};
+use crate::tally::Tally;
 use atomic_table::Table;
 use std::alloc::Global;
 
@@ -104,6 +105,7 @@ impl<R: RowRule> Space<R> {
         ensures counted { OnOk result (self.new.made ≡ self.old.made + 1) }
         ensures refused { OnErr result (self.new.made ≡ self.old.made) }
         ensures number { IfOk result (λ pass. pass.number ≡ self.new.made) }
+        ensures tally { IfOk result (λ pass. pass.tally ≡ record { splits = 0; joins = 0 }) }
         ensures nothing_kept { IfOk result (λ pass. AreKept self.old.sizes.rows pass.seat.me.0.claims pass.kept.rows × (pass.kept.rows.items ≡ [])) }
         ensures begins { IfOk result (λ pass. (pass.seat.table_id ≡ self.old.table.shared.table_id)
             × (pass.seat.me ≡ (fresh self.old.sizes pass.number (R.begins pass.number), []))) }
@@ -125,6 +127,10 @@ impl<R: RowRule> Space<R> {
             seat: new,
             number: self.made,
             kept,
+            tally: Tally {
+                splits: 0,
+                joins: 0,
+            },
         })
     }
 }
@@ -142,5 +148,22 @@ impl<R: RowRule> Pass<R> {
         ensures { result ≡ vec_len self.now.kept.rows }
     {
         self.kept.len()
+    }
+
+    /// How many splits and joins it carried out.
+    pub fn tally(&self) -> Tally
+        ensures { result ≡ self.now.tally }
+    {
+        self.tally
+    }
+
+    /// Tells it how many it carried out. Nothing else changes.
+    pub fn set_tally(&mut self, tally: Tally)
+        ensures tally { self.new.tally ≡ tally }
+        ensures seat { self.new.seat ≡ self.old.seat }
+        ensures number { self.new.number ≡ self.old.number }
+        ensures kept { self.new.kept ≡ self.old.kept }
+    {
+        self.tally = tally;
     }
 }

@@ -14,6 +14,7 @@ impl<R: RowRule> Space<R> {
         requires unpinned { pass.old.seat.me.0.pin.pinned ≡ false }
         ensures same { IsSame pass.old.seat pass.new.seat }
         ensures number { pass.new.number ≡ pass.old.number }
+        ensures tally { pass.new.tally ≡ pass.old.tally }
         ensures kept { pass.new.kept ≡ pass.old.kept }
         ensures pinned { (told : ℕ) × (moment : ℕ) × (told ≤ moment)
             × (pass.new.seat.me ≡ (
@@ -38,6 +39,7 @@ impl<R: RowRule> Space<R> {
         requires pinned { pass.old.seat.me.0.pin.pinned ≡ true }
         ensures same { IsSame pass.old.seat pass.new.seat }
         ensures number { pass.new.number ≡ pass.old.number }
+        ensures tally { pass.new.tally ≡ pass.old.tally }
         ensures kept { pass.new.kept ≡ pass.old.kept }
         ensures unpinned { pass.new.seat.me ≡ (
           record pass.old.seat.me.0 {

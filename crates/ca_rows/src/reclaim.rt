@@ -22,6 +22,7 @@ impl<R: RowRule> Space<R> {
         requires old { (t : ℕ) × (claim_of pass.old.seat.me.0.claims K.about ≡ some (IsKept t)) × (t + 2 ≤ pass.old.seat.me.0.pin.scan) }
         ensures same { IsSame pass.old.seat pass.new.seat }
         ensures number { pass.new.number ≡ pass.old.number }
+        ensures tally { pass.new.tally ≡ pass.old.tally }
         ensures kept { pass.new.kept ≡ pass.old.kept }
         ensures held { (its : List ℕ) × (length its ≡ 136) × (pass.new.seat.me ≡ with_most
             (record pass.old.seat.me.0 { claims = claimed K.about (IsHeld its) pass.old.seat.me.0.claims }, pass.old.seat.me.1)) }
@@ -40,6 +41,7 @@ impl<R: RowRule> Space<R> {
         requires old { (slice_index_or pass.old.kept.rows.items at (record { row = 0; at = 0 })).at + 2 ≤ pass.old.seat.me.0.pin.scan }
         ensures same { IsSame pass.old.seat pass.new.seat }
         ensures number { pass.new.number ≡ pass.old.number }
+        ensures tally { pass.new.tally ≡ pass.old.tally }
         ensures list { result ≡ true → AreListed self.now.table.shared.key.rows pass.new.seat.me.0.claims
             (take at pass.new.kept.rows.items ++ drop end pass.new.kept.rows.items) }
         ensures again { result ≡ false → AreListed self.now.table.shared.key.rows pass.new.seat.me.0.claims pass.new.kept.rows.items }
@@ -63,6 +65,7 @@ impl<R: RowRule> Space<R> {
         requires epoch { pass.old.seat.me.0.pin.scan ≡ epoch }
         ensures same { IsSame pass.old.seat pass.new.seat }
         ensures number { pass.new.number ≡ pass.old.number }
+        ensures tally { pass.new.tally ≡ pass.old.tally }
         ensures list { AreKept self.now.table.shared.key.rows pass.new.seat.me.0.claims pass.new.kept.rows }
         ensures pin { pass.new.seat.me.0.pin ≡ pass.old.seat.me.0.pin }
         ensures reclaims { Reclaims pass.old.seat.me pass.new.seat.me }
@@ -95,6 +98,7 @@ impl<R: RowRule> Space<R> {
         requires unpinned { pass.old.seat.me.0.pin.pinned ≡ false }
         ensures same { IsSame pass.old.seat pass.new.seat }
         ensures number { pass.new.number ≡ pass.old.number }
+        ensures tally { pass.new.tally ≡ pass.old.tally }
         ensures kept { pass.new.kept ≡ pass.old.kept }
         ensures look { IsLook self.now.table.shared.key.passes result pass.old.seat.me pass.new.seat.me }
     {
@@ -117,6 +121,7 @@ impl<R: RowRule> Space<R> {
         requires room { epoch < 4611686018427387904 }
         ensures same { IsSame pass.old.seat pass.new.seat }
         ensures number { pass.new.number ≡ pass.old.number }
+        ensures tally { pass.new.tally ≡ pass.old.tally }
         ensures kept { pass.new.kept ≡ pass.old.kept }
         ensures moves { Moves result epoch pass.old.seat.me pass.new.seat.me }
     {
@@ -134,6 +139,7 @@ impl<R: RowRule> Space<R> {
         requires list { AreKept self.now.table.shared.key.rows pass.old.seat.me.0.claims pass.old.kept.rows }
         ensures same { IsSame pass.old.seat pass.new.seat }
         ensures number { pass.new.number ≡ pass.old.number }
+        ensures tally { pass.new.tally ≡ pass.old.tally }
         ensures list { AreKept self.now.table.shared.key.rows pass.new.seat.me.0.claims pass.new.kept.rows }
         ensures rounds { Rounds self.now.table.shared.key.passes pass.old.number result pass.old.seat.me pass.new.seat.me pass.old.kept.rows.items
             pass.new.kept.rows.items }
@@ -180,6 +186,7 @@ impl<R: RowRule> Space<R> {
         requires list { AreKept self.now.table.shared.key.rows pass.old.seat.me.0.claims pass.old.kept.rows }
         ensures same { IsSame pass.old.seat pass.new.seat }
         ensures number { pass.new.number ≡ pass.old.number }
+        ensures tally { pass.new.tally ≡ pass.old.tally }
         ensures list { AreKept self.now.table.shared.key.rows pass.new.seat.me.0.claims pass.new.kept.rows }
         ensures reclaims { Reclaims pass.old.seat.me pass.new.seat.me }
         ensures looked { pass.old.seat.me.0.pin.looks < pass.new.seat.me.0.pin.looks }

@@ -18,6 +18,7 @@ impl<R: RowRule> Space<R> {
         requires mine { MayRetire R.lent R.fact self.now.table.shared.key pass.old.seat.id pass.old.seat.me.0 K.about }
         ensures same { IsSame pass.old.seat pass.new.seat }
         ensures number { pass.new.number ≡ pass.old.number }
+        ensures tally { pass.new.tally ≡ pass.old.tally }
         ensures kept { pass.new.kept ≡ pass.old.kept }
         ensures inside { (0 < K.about) × (K.about ≤ self.now.table.shared.key.rows) }
         ensures epoch { (result ≤ 4611686018427387904) × (pass.old.seat.me.0.pin.scan ≤ result) }
@@ -35,6 +36,7 @@ impl<R: RowRule> Space<R> {
         requires mine { MayRetire R.lent R.fact self.now.table.shared.key pass.old.seat.id pass.old.seat.me.0 row }
         ensures same { IsSame pass.old.seat pass.new.seat }
         ensures number { pass.new.number ≡ pass.old.number }
+        ensures tally { pass.new.tally ≡ pass.old.tally }
         ensures list { AreKept self.now.table.shared.key.rows pass.new.seat.me.0.claims pass.new.kept.rows }
         ensures retired { (epoch : ℕ) × (pass.new.kept.rows.items ≡ pass.old.kept.rows.items ++ record { row = row; at = epoch } ∷ [])
             × (pass.new.seat.me ≡ (record pass.old.seat.me.0 { claims = claimed row (IsKept epoch) pass.old.seat.me.0.claims }, pass.old.seat.me.1))

@@ -17,6 +17,7 @@ use crate::rest::Rest;
 use crate::rule::{RowRule, Rows};
 use crate::sizes::Sizes;
 use crate::taken::Taken;
+use crate::tally::Tally;
 use crate::view::View;
 use atomic_table::{Join, Play, Seat, Split, Table};
 use std::alloc::Global;
@@ -41,6 +42,7 @@ pub struct Pass<R: RowRule> {
     pub(crate) seat: Seat<(), View<R::Upper>>,
     pub(crate) number: u32,
     pub(crate) kept: KeptRows,
+    pub(crate) tally: Tally,
 }
 
 /// What a pass knew when it was split off.
@@ -65,6 +67,7 @@ impl<R: RowRule> Drop for Pass<R> {
             seat: _,
             number: _,
             kept: _,
+            tally: _,
         } = self;
     }
 }
@@ -103,6 +106,7 @@ impl<R: RowRule> Pass<R> {
             seat,
             number: _,
             kept: _,
+            tally: _,
         } = self;
         seat
     }
@@ -126,6 +130,7 @@ impl<R: RowRule> Space<R> {
             pass.old.seat.me word (λ n. n) (M.then (step self.now.table.shared.table_id.slots word 0 0 none) pass.old.seat.me) }
         ensures same { IsSame pass.old.seat pass.new.seat }
         ensures number { pass.new.number ≡ pass.old.number }
+        ensures tally { pass.new.tally ≡ pass.old.tally }
         ensures kept { pass.new.kept ≡ pass.old.kept }
         ensures told { M.then (step self.now.table.shared.table_id.slots word 0 0 none) pass.old.seat.me result pass.new.seat.me }
     {
@@ -140,6 +145,7 @@ impl<R: RowRule> Space<R> {
             pass.old.seat.me word (λ _. value) (λ _. M.then (step self.now.table.shared.table_id.slots word value 0 none) pass.old.seat.me value) }
         ensures same { IsSame pass.old.seat pass.new.seat }
         ensures number { pass.new.number ≡ pass.old.number }
+        ensures tally { pass.new.tally ≡ pass.old.tally }
         ensures kept { pass.new.kept ≡ pass.old.kept }
         ensures told { M.then (step self.now.table.shared.table_id.slots word value 0 none) pass.old.seat.me value pass.new.seat.me }
     {
@@ -162,6 +168,7 @@ impl<R: RowRule> Space<R> {
             pass.old.seat.me word (λ n. either (n == old) new n) (M.then (step self.now.table.shared.table_id.slots word old new none) pass.old.seat.me) }
         ensures same { IsSame pass.old.seat pass.new.seat }
         ensures number { pass.new.number ≡ pass.old.number }
+        ensures tally { pass.new.tally ≡ pass.old.tally }
         ensures kept { pass.new.kept ≡ pass.old.kept }
         ensures told { (n : ℕ) × M.then (step self.now.table.shared.table_id.slots word old new none) pass.old.seat.me n pass.new.seat.me
             × (result ≡ (n == old)) }
@@ -179,6 +186,7 @@ impl<R: RowRule> Space<R> {
             (M.right pass.old.seat.me.0) }
         ensures same { IsSame pass.old.seat pass.new.seat }
         ensures number { pass.new.number ≡ pass.old.number }
+        ensures tally { pass.new.tally ≡ pass.old.tally }
         ensures kept { pass.new.kept ≡ pass.old.kept }
         ensures left { pass.new.seat.me ≡ (M.left pass.old.seat.me.0, pass.old.seat.me.1) }
         ensures right { (result.seat.table_id ≡ pass.old.seat.table_id) × (result.seat.me ≡ (M.right pass.old.seat.me.0, [])) }
@@ -196,6 +204,7 @@ impl<R: RowRule> Space<R> {
             (M.both pass.old.seat.me.0 half.seat.me.0) M.spent }
         ensures same { IsSame pass.old.seat pass.new.seat }
         ensures number { pass.new.number ≡ pass.old.number }
+        ensures tally { pass.new.tally ≡ pass.old.tally }
         ensures kept { pass.new.kept ≡ pass.old.kept }
         ensures both { pass.new.seat.me ≡ (M.both pass.old.seat.me.0 half.seat.me.0, pass.old.seat.me.1) }
     {
@@ -209,6 +218,7 @@ impl<R: RowRule> Space<R> {
         requires own { IsOf self.now.table.shared.table_id self.now.table.shared.key pass.old.seat }
         ensures same { IsStill pass.old.seat pass.new.seat }
         ensures number { pass.new.number ≡ pass.old.number }
+        ensures tally { pass.new.tally ≡ pass.old.tally }
         ensures kept { pass.new.kept ≡ pass.old.kept }
         ensures row { TakesRow result pass.old.seat.me pass.new.seat.me }
     {
@@ -245,6 +255,7 @@ impl<R: RowRule> Space<R> {
         requires inside { (row ≤ self.now.table.shared.key.rows) × (index < 136) }
         ensures same { IsSame pass.old.seat pass.new.seat }
         ensures number { pass.new.number ≡ pass.old.number }
+        ensures tally { pass.new.tally ≡ pass.old.tally }
         ensures kept { pass.new.kept ≡ pass.old.kept }
         ensures still { pass.new.seat.me ≡ pass.old.seat.me }
         ensures word { (its : List ℕ) → claim_of pass.old.seat.me.0.claims row ≡ some (IsHeld its) → result ≡ slice_index its index }
@@ -261,6 +272,7 @@ impl<R: RowRule> Space<R> {
         requires inside { (row ≤ self.now.table.shared.key.rows) × (index < 136) }
         ensures same { IsStill pass.old.seat pass.new.seat }
         ensures number { pass.new.number ≡ pass.old.number }
+        ensures tally { pass.new.tally ≡ pass.old.tally }
         ensures kept { pass.new.kept ≡ pass.old.kept }
         ensures written { (its : List ℕ) → claim_of pass.old.seat.me.0.claims row ≡ some (IsHeld its)
             → pass.new.seat.me ≡ (
@@ -280,6 +292,7 @@ impl<R: RowRule> Space<R> {
         requires inside { row ≤ self.now.table.shared.key.rows }
         ensures same { IsStill pass.old.seat pass.new.seat }
         ensures number { pass.new.number ≡ pass.old.number }
+        ensures tally { pass.new.tally ≡ pass.old.tally }
         ensures kept { pass.new.kept ≡ pass.old.kept }
         ensures given { PutsRow result row pass.old.seat.me pass.new.seat.me }
     {

@@ -43,6 +43,7 @@ loop-i-preserved c = let i : ℕ = c.loop-i.i in record {
   own = search rules;
   same = search rules;
   number = search rules;
+  tally = search rules;
   kept = search rules;
   still = search rules;
   left = λ its s. let short = s.short in let m = c.min-whole.ensures in let more = c.loop-i-test.true in

@@ -8,6 +8,7 @@ invariant-loop-level l = record {
   own : IsOf l.space.table.shared.table_id l.space.table.shared.key l.pass.seat;
   same : IsSame l.fn.pass.seat l.pass.seat;
   number : l.pass.number ≡ l.fn.pass.number;
+  tally : l.pass.tally ≡ l.fn.pass.tally;
   kept : l.pass.kept ≡ l.fn.pass.kept;
   pinned : l.pass.seat.me.0.pin.pinned ≡ true;
   walking : IsWalking l.space.table.shared.key l.spot l.fn.pass.seat.me l.cursor l.pass.seat.me;

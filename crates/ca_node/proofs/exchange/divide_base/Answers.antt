@@ -1,5 +1,8 @@
-use Rattle.std.proofs.Common.{Bool, refl, inl, sym, subst}
+use Rattle.std.proofs.Common.{Bool, true, refl, inl, sym, subst}
+use Rattle.atomic_table.specs.declared.shared.Seat.{Seat}
+use Rattle.ca_rows.specs.declared.view.View.{View}
 use Rattle.ca_node.specs.Told.{HasDivided, link_word}
+use Rattle.ca_node.specs.TreeView.{TreeView}
 use Rattle.ca_node.proofs.Dividing.{was_shown, divides_from, has_divided}
 use Rattle.ca_node.proofs.exchange.divide_base.Goals as goal
 
@@ -18,8 +21,15 @@ replace_link-requires-clause-shown g c = (
   ),
 )
 
-pub returns-clause-done : goal.returns-clause-done
-returns-clause-done g c = let told = c.replace_link.ensures.told in
+pub returns-then-not-replace_link-clause-done : goal.returns-then-not-replace_link-clause-done
+returns-then-not-replace_link-clause-done g c = let told = c.if-not-replace_link.ensures.told in
     subst (λ (b : Bool). HasDivided b g.K.Plan.division c.args.pass.now.seat.me c.replace_link.new.pass.seat.me) (sym told.2)
     (has_divided told.0 (link_word c.args.link) c.args.old c.args.route g.K.Plan.division c.args.pass.now.seat.me c.replace_link.new.pass.seat.me
     c.args.space.now.table.shared.table_id.slots told.1)
+
+pub returns-clause-done : goal.returns-clause-done
+returns-clause-done g c = let told = c.if-not-replace_link.ensures.told in
+    subst (λ (p : Seat (Unit {0}) (View TreeView)). HasDivided true g.K.Plan.division c.args.pass.now.seat.me p.me) (sym c.count_split.ensures.seat)
+    (subst (λ (b : Bool). HasDivided b g.K.Plan.division c.args.pass.now.seat.me c.replace_link.new.pass.seat.me) (sym told.2)
+    (has_divided told.0 (link_word c.args.link) c.args.old c.args.route g.K.Plan.division c.args.pass.now.seat.me c.replace_link.new.pass.seat.me
+    c.args.space.now.table.shared.table_id.slots told.1))

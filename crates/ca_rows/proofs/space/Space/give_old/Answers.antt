@@ -16,6 +16,7 @@ loop-at-init g c = let p = c.args.pass.now in let ks = p.kept.rows in let long =
       table = refl;
       id = refl;
       number = refl;
+      tally = refl;
       list = subst (AreListed c.args.self.now.table.shared.key.rows p.seat.me.0.claims) (sym (take-append-drop n ks.items)) c.requires.list.are;
       room = c.requires.list.room;
       pin = refl;
@@ -41,6 +42,7 @@ loop-at-preserved g c = let inv = c.loop-at.invariant in let told = c.if-give_ba
       table = told.same.0 ∙ inv.table;
       id = told.same.1 ∙ inv.id;
       number = told.number ∙ inv.number;
+      tally = told.tally ∙ inv.tally;
       list = subst (AreListed c.args.self.now.table.shared.key.rows c.give_back.new.pass.seat.me.0.claims) (sym (take-append-drop at ks'.items))
           (told.again refl);
       room = told.room;

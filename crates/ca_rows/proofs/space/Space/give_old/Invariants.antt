@@ -13,6 +13,7 @@ invariant-loop-at g l = record {
   table : l.pass.seat.table_id ≡ l.fn.pass.seat.table_id;
   id : l.pass.seat.id ≡ l.fn.pass.seat.id;
   number : l.pass.number ≡ l.fn.pass.number;
+  tally : l.pass.tally ≡ l.fn.pass.tally;
   list : AreListed l.self.table.shared.key.rows l.pass.seat.me.0.claims (take l.at l.pass.kept.rows.items ++ drop l.end l.pass.kept.rows.items);
   room : l.self.table.shared.key.rows ≤ vec_capacity l.pass.kept.rows;
   pin : l.pass.seat.me.0.pin ≡ l.fn.pass.seat.me.0.pin;

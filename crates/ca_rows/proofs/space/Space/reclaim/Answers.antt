@@ -15,6 +15,7 @@ loop-left-preserved g c = let inv = c.loop-left.invariant in let some_left = c.l
       table = told.same.0 ∙ inv.table;
       id = told.same.1 ∙ inv.id;
       number = told.number ∙ inv.number;
+      tally = told.tally ∙ inv.tally;
       list = told.list;
       reclaims = reclaims_trans m m1 m2 inv.reclaims x.reclaims;
       looked = λ _. let more = inv.reclaims.more_looks in let one = x.looked in omega arith;

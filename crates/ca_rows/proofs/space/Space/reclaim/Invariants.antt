@@ -10,6 +10,7 @@ invariant-loop-left g l = record {
   table : l.pass.seat.table_id ≡ l.fn.pass.seat.table_id;
   id : l.pass.seat.id ≡ l.fn.pass.seat.id;
   number : l.pass.number ≡ l.fn.pass.number;
+  tally : l.pass.tally ≡ l.fn.pass.tally;
   list : AreKept l.self.table.shared.key.rows l.pass.seat.me.0.claims l.pass.kept.rows;
   reclaims : Reclaims l.fn.pass.seat.me l.pass.seat.me;
   looked : l.left < 3 → l.fn.pass.seat.me.0.pin.looks < l.pass.seat.me.0.pin.looks;
