@@ -24,7 +24,7 @@ pub as_shown : (u : TreeView) (row index n : ℕ) → ((word : ℕ) → IsShownW
 as_shown u row index n is its s = is (get_or its index 0) (its, inl s, refl)
 
 module _ (z : Sizes) (u : TreeView) (base : ℕ) (note : Note) (r : IsReadable z u base note) where
-  shows : IsShown u base note.its
+  pub shows : IsShown u base note.its
   shows = (note, r.noted, inl (r.here, refl))
 
   pub base_shown : (its : List ℕ) × IsShown u base its

@@ -1,43 +1,17 @@
--- How byte lists compare, part by part.
-use Rattle.std.proofs.Common.{◌≡◌, ◌≢◌, ◌⊎◌, true, false, ℕ, zero, suc, ◌+◌, ◌-◌, ◌<◌, ◌≤◌, List, [], ◌∷◌, length, min, take, drop, sym, refl, ap, ◌∙◌, inl, inr, ⊎_elim, arith, length-drop, length-take}
+-- How an object's key compares with another one, eight bytes at a time.
+use Rattle.std.proofs.Common.{◌≡◌, ◌≢◌, true, false, ℕ, ◌+◌, ◌-◌, ◌<◌, ◌≤◌, List, [], ◌∷◌, ◌++◌, length, min, take, drop, sym, refl, ap, subst, ◌∙◌, ⊎_elim, arith, length-drop}
+use Rattle.std.proofs.Math.ListN.{drop_of_length-le}
 use Rattle.std.proofs.Math.Nat.{eq-or-lt_of_le}
-use Rattle.std.proofs.lemmas.List.{length-take-le, take-take, drop-drop, drop-take, take_min}
+use Rattle.std.proofs.lemmas.Bool.{cases_lt}
+use Rattle.std.proofs.lemmas.List.{take_all, take_at, take_rest, length-take-le, take-take, drop-drop, drop-take}
 use Rattle.std.specs.declared.cmp.Ordering.{Ordering}
 use Rattle.std.specs.declared.cmp.Ordering.TheVariants.{Less, Equal, Greater}
-use Rattle.std.specs.Ordering.{nat_cmp, ordering_then, is_ne}
-use Rattle.ca_term.proofs.Bytes.{same_bytes}
-use Rattle.ca_term.proofs.Numbers.{less, same}
+use Rattle.std.specs.Int.{to_be_bytes, w64}
+use Rattle.std.specs.Ordering.{nat_cmp, is_ne}
+use Rattle.ca_term.proofs.Numbers.{less, same, greater, length_high_first}
 use Rattle.ca_model.specs.StoreMap.{bytes_cmp}
-
--- Where the first parts differ, they decide.
-pub parts_decide : (n : ℕ) (xs ys : List ℕ) → bytes_cmp (take n xs) (take n ys) ≢ Equal → bytes_cmp xs ys ≡ bytes_cmp (take n xs) (take n ys)
-parts_decide zero xs ys not = absurd (not refl)
-parts_decide (suc n) [] [] not = refl
-parts_decide (suc n) [] (y ∷ ys) not = refl
-parts_decide (suc n) (x ∷ xs) [] not = refl
-parts_decide (suc n) (x ∷ xs) (y ∷ ys) not = by (nat_cmp x y) not (parts_decide n xs ys)
-  where
-    by : (o : Ordering) → ordering_then o (bytes_cmp (take n xs) (take n ys)) ≢ Equal
-        → (bytes_cmp (take n xs) (take n ys) ≢ Equal → bytes_cmp xs ys ≡ bytes_cmp (take n xs) (take n ys))
-        → ordering_then o (bytes_cmp xs ys) ≡ ordering_then o (bytes_cmp (take n xs) (take n ys))
-    by Less not rest = refl
-    by Equal not rest = rest not
-    by Greater not rest = refl
-
--- Where they are equal, the rests decide.
-pub rests_decide : (n : ℕ) (xs ys : List ℕ) → bytes_cmp (take n xs) (take n ys) ≡ Equal → bytes_cmp xs ys ≡ bytes_cmp (drop n xs) (drop n ys)
-rests_decide zero xs ys same = refl
-rests_decide (suc n) [] [] same = refl
-rests_decide (suc n) [] (y ∷ ys) same = cc
-rests_decide (suc n) (x ∷ xs) [] same = cc
-rests_decide (suc n) (x ∷ xs) (y ∷ ys) same = by (nat_cmp x y) same (rests_decide n xs ys)
-  where
-    by : (o : Ordering) → ordering_then o (bytes_cmp (take n xs) (take n ys)) ≡ Equal
-        → (bytes_cmp (take n xs) (take n ys) ≡ Equal → bytes_cmp xs ys ≡ bytes_cmp (drop n xs) (drop n ys))
-        → ordering_then o (bytes_cmp xs ys) ≡ bytes_cmp (drop n xs) (drop n ys)
-    by Less same rest = cc
-    by Equal same rest = rest same
-    by Greater same rest = cc
+use Rattle.ca_node.proofs.WordOrder.{parts_decide, rests_decide, nothing_first}
+use Rattle.ca_base.specs.Writing.{HasBytes}
 
 pub is_equal : (o : Ordering) → is_ne o ≡ false → o ≡ Equal
 is_equal Less e = cc
@@ -49,78 +23,96 @@ is_other Less e f = cc
 is_other Equal e f = let z : false ≡ true = e in cc
 is_other Greater e f = cc
 
-nothing_same : (ys : List ℕ) → length ys ≡ 0 → bytes_cmp [] ys ≡ Equal
-nothing_same [] e = refl
-nothing_same (y ∷ ys) e = absurd (omega arith)
+nothing_last : (xs : List ℕ) → 0 < length xs → bytes_cmp xs [] ≡ Greater
+nothing_last [] l = absurd (omega arith)
+nothing_last (x ∷ xs) l = refl
 
-nothing_less : (ys : List ℕ) → 0 < length ys → bytes_cmp [] ys ≡ Less
-nothing_less [] l = absurd (omega arith)
-nothing_less (y ∷ ys) l = refl
+-- Where all bytes of the shorter one of two lists were equal, the lengths decide.
+lengths_decide : (xs ys : List ℕ) (n : ℕ) → n ≡ min (length ys) (length xs) → nat_cmp (length xs) (length ys) ≡ bytes_cmp (drop n xs) (drop n ys)
+lengths_decide xs ys n e = let a = length-drop n xs in let b = length-drop n ys in ⊎_elim
+    (λ (l : length xs < length ys). let none : drop n xs ≡ [] = drop_of_length-le xs (omega arith) in
+    less (length xs) (length ys) l ∙ sym (ap (λ (zs : List ℕ). bytes_cmp zs (drop n ys)) none
+    ∙ (sym (nothing_first (drop n ys)) ∙ less 0 (length (drop n ys)) (omega arith))))
+    (λ (l : length ys ≤ length xs). let none : drop n ys ≡ [] = drop_of_length-le ys (omega arith) in
+    sym (ap (bytes_cmp (drop n xs)) none ∙ ⊎_elim
+    (λ (h : length ys ≡ length xs). ap (λ (zs : List ℕ). bytes_cmp zs []) (drop_of_length-le xs (omega arith))
+    ∙ sym (ap (λ (k : ℕ). nat_cmp k (length ys)) (sym h) ∙ same (length ys)))
+    (λ (h : length ys < length xs). nothing_last (drop n xs) (omega arith) ∙ sym (greater (length xs) (length ys) h)) (eq-or-lt_of_le l)))
+    (cases_lt (length xs) (length ys))
 
--- Where all of a list was equal, the other one is as long or longer.
-lengths_decide : (n : ℕ) (ys : List ℕ) → n ≤ length ys → nat_cmp n (length ys) ≡ bytes_cmp [] (drop n ys)
-lengths_decide n ys l = let rest = length-drop n ys in ⊎_elim
-    (λ (e : n ≡ length ys). ap (nat_cmp n) (sym e) ∙ (same n ∙ sym (nothing_same (drop n ys) (omega arith))))
-    (λ (e : n < length ys). less n (length ys) e ∙ sym (nothing_less (drop n ys) (omega arith))) (eq-or-lt_of_le l)
+-- The word begins with the bytes of the key from a place on, eight where there are as many.
+abbrev pub IsNext : List ℕ → ℕ → ℕ → Type 0
+IsNext key from word = take (length key - from) (to_be_bytes w64 word) ≡ take 8 (drop from key)
 
--- The key stands in the bytes from `start` to `end`. Up to `at` it is equal to the other key.
+-- So its first bytes are the key's.
+pub front_part : (key : List ℕ) (from n word : ℕ) → IsNext key from word → n ≤ 8 → n ≤ length key - from
+    → take n (to_be_bytes w64 word) ≡ take n (drop from key)
+front_part key from n word is few l = sym (take-take n (length key - from) (to_be_bytes w64 word) l)
+    ∙ (ap (take n) is ∙ take-take n 8 (drop from key) few)
+
+-- That of the key's first bytes.
+pub first_word : (key : List ℕ) (from word : ℕ) → from ≡ 0 → HasBytes key word → IsNext key from word
+first_word key from word none has = let all : length key - from ≡ length key = omega arith in
+    ap (λ (k : ℕ). take k (to_be_bytes w64 word)) all ∙ (has.front ∙ ap (λ (k : ℕ). take 8 (drop k key)) (sym none))
+
+-- The word of a key's last eight bytes without the first of them, where less than eight are left.
+pub last_word : (key : List ℕ) (from whole word : ℕ) → 8 ≤ from → from < length key → length key - from < 8
+    → HasBytes (take (length key - (length key - 8)) (drop (length key - 8) key)) whole
+    → to_be_bytes w64 word ≡ drop (8 - (length key - from)) (to_be_bytes w64 whole) ++ take (8 - (length key - from)) (to_be_bytes w64 0)
+    → IsNext key from word
+last_word key from whole word low l few has is = let before : ℕ = length key - 8 in let left : ℕ = length key - from in let skip : ℕ = 8 - left in
+    let tail : List ℕ = drop before key in let rest : List ℕ = drop from key in
+    let eight : HasBytes tail whole = subst (λ (xs : List ℕ). HasBytes xs whole) (take_rest key before) has in
+    let long : length tail ≡ 8 = length-drop before key ∙ omega arith in let left_long : length rest ≡ left = length-drop from key in
+    let bytes : to_be_bytes w64 whole ≡ tail = sym (take_all (length tail) (to_be_bytes w64 whole) (omega (arith, length_high_first 8 whole)))
+    ∙ (eight.front ∙ take_all 8 tail (omega arith)) in
+    let there : before + skip ≡ from = omega arith in
+    let behind : drop skip (to_be_bytes w64 whole) ≡ rest = ap (drop skip) bytes ∙ (drop-drop skip before key ∙ ap (λ (k : ℕ). drop k key) there) in
+    ap (take left) (is ∙ ap (λ (xs : List ℕ). xs ++ take skip (to_be_bytes w64 0)) behind)
+    ∙ (take_at rest (take skip (to_be_bytes w64 0)) left left_long ∙ sym (take_all 8 rest (omega arith)))
+
+-- The object's key stands in the bytes from `start` to `end`. Up to `at` it is equal to the other key.
 module _ (bytes key : List ℕ) (start end : ℕ) where
+  abbrev pub own : List ℕ
+  own = take (end - start) (drop start bytes)
+
   abbrev pub IsLeft : ℕ → Type 0
-  IsLeft at = bytes_cmp (take (end - start) (drop start bytes)) key ≡ bytes_cmp (take (end - at) (drop at bytes)) (drop (at - start) key)
-
-  -- the bytes up to `to` that are compared, and those of the other key
-  abbrev pub part : ℕ → ℕ → List ℕ
-  part at to = take (to - at) (drop at bytes)
-
-  abbrev pub other : ℕ → ℕ → List ℕ
-  other at to = take (min (length key) (to - start) - (at - start)) (drop (at - start) key)
+  IsLeft at = bytes_cmp own key ≡ bytes_cmp (drop (at - start) own) (drop (at - start) key)
 
   pub left_first : IsLeft start
-  left_first = let none : start - start ≡ 0 = omega arith in
-      ap (λ (k : ℕ). bytes_cmp (take (end - start) (drop start bytes)) (drop k key)) (sym none)
+  left_first = let none : start - start ≡ 0 = omega arith in ap (λ (k : ℕ). bytes_cmp (drop k own) (drop k key)) (sym none)
 
-  part_front : (at to : ℕ) → to ≤ end → part at to ≡ take (to - at) (take (end - at) (drop at bytes))
-  part_front at to l = sym (take-take (to - at) (end - at) (drop at bytes) (omega arith))
+  -- Two words begin with the next bytes of both.
+  module _ (at n word other : ℕ) (low : start ≤ at) (high : at + n ≤ end) (left : IsLeft at)
+      (has : take n (to_be_bytes w64 word) ≡ take n (drop at bytes)) (has_too : take n (to_be_bytes w64 other) ≡ take n (drop (at - start) key))
+      (o : Ordering) (is : o ≡ bytes_cmp (take n (to_be_bytes w64 word)) (take n (to_be_bytes w64 other))) where
+    own_part : take n (drop (at - start) own) ≡ take n (drop at bytes)
+    own_part = let split : end - start ≡ (at - start) + (end - at) = omega arith in let there : start + (at - start) ≡ at = omega arith in
+        ap (λ (k : ℕ). take n (drop (at - start) (take k (drop start bytes)))) split
+        ∙ (ap (take n) (drop-take (at - start) (end - at) (drop start bytes))
+        ∙ (take-take n (end - at) (drop (at - start) (drop start bytes)) (omega arith)
+        ∙ ap (take n) (drop-drop (at - start) start bytes ∙ ap (λ (k : ℕ). drop k bytes) there)))
 
-  other_front : (at to : ℕ) → start ≤ at → at ≤ to → other at to ≡ take (to - at) (drop (at - start) key)
-  other_front at to low l = let rest = length-drop (at - start) key in
-      ap (λ (k : ℕ). take k (drop (at - start) key)) (fewer (length-drop (at - start) key)) ∙ take_min (to - at) (drop (at - start) key)
-    where
-      fewer : length (drop (at - start) key) ≡ length key - (at - start)
-          → min (length key) (to - start) - (at - start) ≡ min (to - at) (length (drop (at - start) key))
-      fewer e = omega arith
+    fronts : o ≡ bytes_cmp (take n (drop (at - start) own)) (take n (drop (at - start) key))
+    fronts = is ∙ (ap (λ (xs : List ℕ). bytes_cmp xs (take n (to_be_bytes w64 other))) (has ∙ sym own_part)
+        ∙ ap (bytes_cmp (take n (drop (at - start) own))) has_too)
 
-  pub decided : (at to : ℕ) → start ≤ at → at ≤ to → to ≤ end → IsLeft at → (o : Ordering)
-      → o ≡ bytes_cmp (part at to) (other at to) → o ≢ Equal
-      → o ≡ bytes_cmp (take (end - start) (drop start bytes)) key
-  decided at to low l high left o is not = let whole : List ℕ = take (end - at) (drop at bytes) in let rest : List ℕ = drop (at - start) key in
-      let fronts : bytes_cmp (part at to) (other at to) ≡ bytes_cmp (take (to - at) whole) (take (to - at) rest) =
-      ap (λ (xs : List ℕ). bytes_cmp xs (other at to)) (part_front at to high)
-      ∙ ap (λ (ys : List ℕ). bytes_cmp (take (to - at) whole) ys) (other_front at to low l) in
-      is ∙ (fronts ∙ (sym (parts_decide (to - at) whole rest (λ e. not (is ∙ (fronts ∙ e)))) ∙ sym left))
+    -- Where they differ, they decide.
+    pub decided : o ≢ Equal → o ≡ bytes_cmp own key
+    decided not = fronts ∙ sym (left ∙ parts_decide n (drop (at - start) own) (drop (at - start) key) (λ e. not (fronts ∙ e)))
 
-  pub left_on : (at to : ℕ) → start ≤ at → at ≤ to → to ≤ end → IsLeft at → bytes_cmp (part at to) (other at to) ≡ Equal → IsLeft to
-  left_on at to low l high left is = let whole : List ℕ = take (end - at) (drop at bytes) in let rest : List ℕ = drop (at - start) key in
-      let fronts : bytes_cmp (part at to) (other at to) ≡ bytes_cmp (take (to - at) whole) (take (to - at) rest) =
-      ap (λ (xs : List ℕ). bytes_cmp xs (other at to)) (part_front at to high)
-      ∙ ap (λ (ys : List ℕ). bytes_cmp (take (to - at) whole) ys) (other_front at to low l) in
-      let split : end - at ≡ (to - at) + (end - to) = omega arith in
-      let there : at + (to - at) ≡ to = omega arith in let along : at - start + (to - at) ≡ to - start = omega arith in
-      let a : drop (to - at) whole ≡ take (end - to) (drop to bytes) = ap (λ (k : ℕ). drop (to - at) (take k (drop at bytes))) split
-      ∙ (drop-take (to - at) (end - to) (drop at bytes)
-      ∙ ap (take (end - to)) (drop-drop (to - at) at bytes ∙ ap (λ (k : ℕ). drop k bytes) there)) in
-      let b : drop (to - at) rest ≡ drop (to - start) key = drop-drop (to - at) (at - start) key ∙ ap (λ (k : ℕ). drop k key) along in
-      left ∙ (rests_decide (to - at) whole rest (sym fronts ∙ is)
-      ∙ (ap (λ (xs : List ℕ). bytes_cmp xs (drop (to - at) rest)) a ∙ ap (λ (ys : List ℕ). bytes_cmp (take (end - to) (drop to bytes)) ys) b))
+    -- Where they are equal, so are the keys up to their end.
+    pub left_on : o ≡ Equal → IsLeft (at + n)
+    left_on e = let along : at - start + n ≡ at + n - start = omega arith in
+        let a : drop n (drop (at - start) own) ≡ drop (at + n - start) own = drop-drop n (at - start) own ∙ ap (λ (k : ℕ). drop k own) along in
+        let b : drop n (drop (at - start) key) ≡ drop (at + n - start) key = drop-drop n (at - start) key ∙ ap (λ (k : ℕ). drop k key) along in
+        left ∙ (rests_decide n (drop (at - start) own) (drop (at - start) key) (sym fronts ∙ e)
+        ∙ (ap (λ (xs : List ℕ). bytes_cmp xs (drop n (drop (at - start) key))) a ∙ ap (bytes_cmp (drop (at + n - start) own)) b))
 
-  -- So the other key is no shorter.
-  pub long_enough : (at to : ℕ) → start ≤ at → at ≤ to → to ≤ length bytes → bytes_cmp (part at to) (other at to) ≡ Equal
-      → to - start ≤ length key ⊎ to ≡ at
-  long_enough at to low l inside is = let same = ap (λ (xs : List ℕ). length xs) (same_bytes (part at to) (other at to) is) in
-      let rest = length-drop at bytes in let here : length (part at to) ≡ to - at = length-take-le (to - at) (drop at bytes) (omega arith) in
-      let there = length-take (min (length key) (to - start) - (at - start)) (drop (at - start) key) in ⊎_elim
-      (λ (e : at ≡ to). inr (sym e)) (λ (e : at < to). inl (omega arith)) (eq-or-lt_of_le l)
-
-  pub left_none : IsLeft end → end - start ≤ length key → nat_cmp (end - start) (length key) ≡ bytes_cmp (take (end - start) (drop start bytes)) key
-  left_none left l = let none : end - end ≡ 0 = omega arith in lengths_decide (end - start) key l
-      ∙ sym (left ∙ ap (λ (k : ℕ). bytes_cmp (take k (drop end bytes)) (drop (end - start) key)) none)
+  -- Where all of the shorter one was equal, the lengths decide.
+  pub left_none : (at : ℕ) → start ≤ end → end ≤ length bytes → at - start ≡ min (length key) (end - start) → IsLeft at
+      → nat_cmp (end - start) (length key) ≡ bytes_cmp own key
+  left_none at low high e left = let all = length-drop start bytes in
+      let long : length own ≡ end - start = length-take-le (end - start) (drop start bytes) (omega arith) in
+      ap (λ (k : ℕ). nat_cmp k (length key)) (sym long)
+      ∙ (lengths_decide own key (at - start) (e ∙ ap (min (length key)) (sym long)) ∙ sym left)

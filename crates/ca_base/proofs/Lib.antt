@@ -18,5 +18,7 @@ pub mod Searching
 pub mod Spelling
 pub mod SplitKeys
 pub mod TakingOut
+pub mod Tallies
 pub mod Unlinking
+pub mod WordBytes
 pub mod Words

@@ -1,19 +1,17 @@
 -- The bytes of objects, as their words have them.
-use Rattle.std.proofs.Common.{◌≡◌, ℕ, zero, suc, ◌+◌, ◌-◌, ◌*◌, ◌/◌, ◌%◌, ◌<◌, ◌≤◌, List, [], ◌∷◌, ◌++◌, length, min, get_or, take, drop, sym, refl, ap, ◌∙◌, arith, length-drop, length-take, length-append}
+use Rattle.std.proofs.Common.{◌≡◌, ℕ, zero, suc, ◌+◌, ◌-◌, ◌*◌, ◌/◌, ◌%◌, ◌<◌, ◌≤◌, List, [], ◌∷◌, ◌++◌, length, min, get_or, take, drop, sym, ap, ◌∙◌, ⊎_elim, arith, length-drop, length-take, length-append}
+use Rattle.std.proofs.lemmas.Bool.{cases_lt}
 use Rattle.std.proofs.lemmas.List.{get_or-take, get_or-drop, length-take-le, get_or_append_left, get_or-append_right}
 use Rattle.std.proofs.lemmas.Grind.{same_number_lists}
 use Rattle.std.proofs.Math.Seq.{take-add}
 use Rattle.std.specs.Int.{to_be_bytes, w64}
 use Rattle.ca_term.proofs.Numbers.{length_high_first}
 use Rattle.ca_node.specs.Row.{bytes_in}
+use Rattle.ca_node.proofs.WordOrder.{bytes_long}
 
 -- A word has eight bytes.
 pub word_long : (n : ℕ) → length (to_be_bytes w64 n) ≡ 8
 word_long n = length_high_first 8 n
-
-pub bytes_long : (words : List ℕ) → length (bytes_in words) ≡ 8 * length words
-bytes_long [] = refl
-bytes_long (x ∷ xs) = let one = word_long x in let rest = bytes_long xs in omega (arith, length-append (to_be_bytes w64 x) (bytes_in xs))
 
 -- Each byte is one of its word's.
 pub byte_at : (words : List ℕ) (i j : ℕ) → i < length words → j < 8
@@ -45,6 +43,37 @@ part_is words from to some one inside = let w : List ℕ = to_be_bytes w64 (get_
     ∙ (sym (byte_at words (from / 8) (from % 8 + k) (omega arith) (omega arith))
     ∙ (ap (λ (i : ℕ). get_or (bytes_in words) i 0) (sym place)
     ∙ sym (get_or-take (to - from) (drop from (bytes_in words)) k 0 low ∙ get_or-drop from (bytes_in words) k 0)))))
+
+-- Bytes from a place on, eight at most, are those of the word there and of the next one.
+spans : (words : List ℕ) (at n w v : ℕ) → n ≤ 8 → at + n ≤ 8 * length words → w ≡ get_or words (at / 8) 0
+    → (at / 8 * 8 + 8 < at + n → v ≡ get_or words ((at / 8 * 8 + 8) / 8) 0)
+    → take n (drop (at % 8) (to_be_bytes w64 w) ++ take (at % 8) (to_be_bytes w64 v)) ≡ take n (drop at (bytes_in words))
+spans words at n w v few inside is next = let k : ℕ = at % 8 in let a : List ℕ = to_be_bytes w64 w in let b : List ℕ = to_be_bytes w64 v in
+    let all = bytes_long words in let first : length (drop k a) ≡ 8 - k = length-drop k a ∙ ap (λ (m : ℕ). m - k) (word_long w) in
+    let second : length (take k b) ≡ k = length-take-le k b (omega (arith, word_long v)) in
+    let here : length (take n (drop k a ++ take k b)) ≡ n =
+    length-take-le n (drop k a ++ take k b) (omega (arith, length-append (drop k a) (take k b))) in
+    let there : length (take n (drop at (bytes_in words))) ≡ n =
+    length-take-le n (drop at (bytes_in words)) (omega (arith, length-drop at (bytes_in words))) in
+    same_number_lists _ _ (here ∙ sym there) (λ j l. let low : j < n = omega arith in
+    get_or-take n (drop k a ++ take k b) j 0 low ∙ (⊎_elim
+    (λ (h : k + j < 8). let place : 8 * (at / 8) + (k + j) ≡ at + j = omega arith in
+    get_or_append_left (drop k a) (take k b) 0 j (omega arith) ∙ (get_or-drop k a j 0
+    ∙ (ap (λ (m : ℕ). get_or (to_be_bytes w64 m) (k + j) 0) is ∙ (sym (byte_at words (at / 8) (k + j) (omega arith) h)
+    ∙ ap (λ (i : ℕ). get_or (bytes_in words) i 0) place))))
+    (λ (h : 8 ≤ k + j). let i : ℕ = (at / 8 * 8 + 8) / 8 in let rest : ℕ = j - (8 - k) in let place : 8 * i + rest ≡ at + j = omega arith in
+    get_or-append_right (drop k a) (take k b) (8 - k) j 0 first (omega arith) ∙ (get_or-take k b rest 0 (omega arith)
+    ∙ (ap (λ (m : ℕ). get_or (to_be_bytes w64 m) rest 0) (next (omega arith)) ∙ (sym (byte_at words i rest (omega arith) (omega arith))
+    ∙ ap (λ (i : ℕ). get_or (bytes_in words) i 0) place))))
+    (cases_lt (k + j) 8)
+    ∙ sym (get_or-take n (drop at (bytes_in words)) j 0 low ∙ get_or-drop at (bytes_in words) j 0)))
+
+-- The same of a word that was joined from both.
+pub joined_part : (words : List ℕ) (at n w v x : ℕ) → n ≤ 8 → at + n ≤ 8 * length words
+    → to_be_bytes w64 x ≡ drop (at % 8) (to_be_bytes w64 w) ++ take (at % 8) (to_be_bytes w64 v) → w ≡ get_or words (at / 8) 0
+    → (at / 8 * 8 + 8 < at + n → v ≡ get_or words ((at / 8 * 8 + 8) / 8) 0)
+    → take n (to_be_bytes w64 x) ≡ take n (drop at (bytes_in words))
+joined_part words at n w v x few inside e is next = ap (take n) e ∙ spans words at n w v few inside is next
 
 -- A part of the first bytes of a list, where the numbers that say which part may be past its end.
 pub clipped : (bytes : List ℕ) (count place some end start len : ℕ) → end ≡ min (length bytes) count

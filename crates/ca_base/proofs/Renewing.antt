@@ -5,11 +5,12 @@ use mathlib.Core.Option.{some, some-injective}
 use lib.ListN.{get_elem?}
 use Rattle.ca_model.specs.History.{after_edit}
 use Rattle.ca_node.specs.Links.{IsIn}
+use Rattle.ca_node.specs.Place.{edit_key}
 use Rattle.ca_node.specs.Row.{IsObjectRow, items, pair}
 use Rattle.ca_node.specs.Told.{MyTree, Update, IsBaseNote, IsUpdate, IsUpdated, updated}
 use Rattle.ca_node.specs.TreeView.{Note, TreeView}
 use Rattle.ca_node.proofs.Members.{in_first, in_rest}
-use Rattle.ca_base.specs.Putting.{IsRenewed, first_note}
+use Rattle.ca_base.specs.Putting.{IsRenewed, first_note, renewal_of}
 use Rattle.ca_base.specs.Taking.{HasHeld}
 use Rattle.ca_base.proofs.Inserting.{elem_or, within}
 use Rattle.ca_rows.specs.declared.kept.Kept.{Kept}
@@ -81,4 +82,11 @@ module _ (z : Sizes) (kept : Vec Kept Global) (m : MyTree) (new : ℕ) (x : Upda
         has = up.map_is ∙ ap (λ (n : Note). after_edit x.edit (map pair n.objects)) (sym first_is);
         statistic_is = refl;
         same_splits = refl;
+        same_lost = refl;
+        last = refl;
+        renewal = ap (λ (n : Note). renewal_of m.0.upper (edit_key x.edit) n new_note) (sym first_is);
       }
+
+  -- It is the row that took the old one's place.
+  pub placed : (m' : MyTree) (v : TreeView) → IsUpdated new x m m' → v ≡ m'.0.upper → new ≡ (first_note v.notes).row
+  placed m' v u same = ap (λ (w : TreeView). (first_note w.notes).row) (sym (same ∙ ap (λ (y : MyTree). y.0.upper) u.now))

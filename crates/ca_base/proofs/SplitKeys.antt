@@ -4,7 +4,8 @@ use Rattle.std.proofs.lemmas.List.{drop-drop}
 use Rattle.std.proofs.Math.Seq.{take-add}
 use Rattle.std.specs.Int.{to_be_bytes, w64}
 use Rattle.ca_node.specs.Row.{bytes_in, count, object, key, key_place, key_length}
-use Rattle.ca_base.proofs.ObjectBytes.{bytes_long, part_is}
+use Rattle.ca_node.proofs.WordOrder.{bytes_long}
+use Rattle.ca_base.proofs.ObjectBytes.{part_is}
 
 -- Behind the bytes from a start on to a place stand those of the next word, up to another place.
 pub next_part : (words so_far : List ℕ) (start at to w : ℕ) → start ≤ at → at < to → to ≤ at / 8 * 8 + 8 → to ≤ 8 * length words

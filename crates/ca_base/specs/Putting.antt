@@ -1,13 +1,14 @@
 -- Updates that put an object: what becomes of a base, and which call it is.
-use Rattle.std.specs.Prelude.{◌≡◌, ℕ, ◌<◌, ◌≤◌, Bool, true, false, List, [], ◌∷◌, map, slice_index, slice_index_or, slice_set, Some, Result, Ok, Err}
+use Rattle.std.specs.Prelude.{◌≡◌, ℕ, ◌+◌, ◌<◌, ◌≤◌, Bool, true, false, List, [], ◌∷◌, map, slice_index, slice_index_or, slice_set, Some, Result, Ok, Err}
 use Rattle.std.specs.List.{insert}
 use mathlib.Core.Option.{Option, some, none}
 use Rattle.ca_model.specs.Event.{Event, Write, WriteNew, Change}
 use Rattle.ca_model.specs.History.{Edit, Put, after_edit}
 use Rattle.ca_node.specs.Links.{IsIn}
+use Rattle.ca_node.specs.Place.{edit_key}
 use Rattle.ca_node.specs.Row.{items, object, key, pair}
-use Rattle.ca_node.specs.Told.{MyTree, IsBaseNote, IsKnown, Update, no_note, one_more_lost}
-use Rattle.ca_node.specs.TreeView.{Note, TreeView}
+use Rattle.ca_node.specs.Told.{MyTree, IsBaseNote, IsKnown, Update, one_more_lost}
+use Rattle.ca_node.specs.TreeView.{Note, Renewal, TreeView, no_note}
 use Rattle.ca_base.specs.declared.taking.NoRow.{NoRow}
 use Rattle.ca_base.specs.declared.updating.Putting.{Putting}
 use Rattle.ca_base.specs.declared.updating.Putting.TheVariants as putting
@@ -112,6 +113,10 @@ abbrev pub HasTried : Event → Sizes → Result Bool NoRow → TreeView → Tre
 HasTried event z (Ok won) u v = HasSwapped event z won u v
 HasTried event z (Err why) u v = v ≡ u
 
+-- one update more: about this key, of the base that was there, by the one that took its place
+abbrev pub renewal_of : TreeView → List ℕ → Note → Note → Renewal
+renewal_of u key old new = record { count = u.renewal.count + 1; key = key; old = old; new = new; lost = u.lost; splits = u.splits }
+
 -- A new base was shown, at the place of the one that was shown last: it has what that one had after the edit, and this word for its statistic.
 pub record IsRenewed (z : Sizes) (statistic : ℕ) (edit : Edit) (u v : TreeView) : Type 0 where
   pub notes : v.notes ≡ first_note v.notes ∷ u.notes
@@ -120,11 +125,19 @@ pub record IsRenewed (z : Sizes) (statistic : ℕ) (edit : Edit) (u v : TreeView
   pub place : (first_note v.notes).place ≡ (first_note u.notes).place
   pub has : map pair (first_note v.notes).objects ≡ after_edit edit (map pair (first_note u.notes).objects)
   pub statistic_is : slice_index (first_note v.notes).its 1 ≡ statistic
-  -- No base was split.
+  -- No base was split, and no exchange of a link was lost.
   pub same_splits : v.splits ≡ u.splits
+  pub same_lost : v.lost ≡ u.lost
+  -- It is the base that was shown last, and the pass's last update is this one.
+  pub last : v.last ≡ first_note v.notes
+  pub renewal : v.renewal ≡ renewal_of u (edit_key edit) (first_note u.notes) (first_note v.notes)
 
 -- So it is where the exchange of a base won.
 abbrev pub HasRenewed : Sizes → ℕ → Edit → Result Bool NoRow → TreeView → TreeView → Type 0
 HasRenewed z statistic edit (Ok true) u v = IsRenewed z statistic edit u v
 HasRenewed z statistic edit (Ok false) u v = Unit {0}
 HasRenewed z statistic edit (Err why) u v = Unit {0}
+
+-- Where the exchange of a base won, this is the new one's row.
+abbrev pub IsNewRow : ℕ → Result Bool NoRow → TreeView → Type 0
+IsNewRow row tried v = tried ≡ Ok true → row ≡ (first_note v.notes).row

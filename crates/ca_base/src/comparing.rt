@@ -1,15 +1,19 @@
 //! How the key of an object that was shown stands to another key.
-ghost use Rattle.std.specs.Prelude.{◌≡◌, ℕ, ◌+◌, ◌*◌, ◌/◌, ◌<◌, ◌≤◌, List, true, slice_range};
+ghost use Rattle.std.specs.Prelude.{◌≡◌, ℕ, ◌+◌, ◌-◌, ◌*◌, ◌/◌, ◌<◌, ◌≤◌, ◌++◌, List, true, length, take, drop, slice_index, slice_range};
+ghost use Rattle.std.specs.Int.{to_be_bytes, w64};
 ghost use Rattle.ca_model.specs.StoreMap.{bytes_cmp};
 ghost use Rattle.ca_node.specs.Row.{pair};
 ghost use Rattle.ca_base.specs.Finding.{IsObjectShown, all_bytes};
+ghost use Rattle.ca_base.specs.Writing.{HasBytes};
 ghost use Rattle.ca_rows.specs.Calls.{IsOf, IsSame};
 
+use crate::writing::word_of;
 use ca_node::{TreePass, TreeSpace, load_word};
 use ca_term::MOST_CODE_BYTES;
 use std::cmp::Ordering;
 
-// How the key of an object that the pass was shown stands to this key. It loads no word behind the first difference.
+// How the key of an object that the pass was shown stands to this key. They are compared as numbers, eight bytes at a time, and each word of the
+// row is loaded once. It loads no more than one word behind the first difference.
 pub fn compare(space: &TreeSpace, pass: &mut TreePass, row: u32, key: &[u8]) -> Ordering
     requires own { IsOf space.now.table.shared.table_id space.now.table.shared.key pass.old.seat }
     requires pinned { pass.old.seat.me.0.pin.pinned ≡ true }
@@ -17,20 +21,49 @@ pub fn compare(space: &TreeSpace, pass: &mut TreePass, row: u32, key: &[u8]) -> 
     requires shown { (its : List ℕ) × IsObjectShown pass.old.seat.me.0.upper row its }
     ensures same { IsSame pass.old.seat pass.new.seat }
     ensures number { pass.new.number ≡ pass.old.number }
+    ensures tally { pass.new.tally ≡ pass.old.tally }
+    ensures kept { pass.new.kept ≡ pass.old.kept }
+    ensures still { pass.new.seat.me ≡ pass.old.seat.me }
+    ensures order { (its : List ℕ) → IsObjectShown pass.old.seat.me.0.upper row its → result ≡ bytes_cmp (pair its).0 key.now }
+{
+    compare_by(space, pass, row, key, word_of(key))
+}
+
+// The same, where the first eight bytes of the key were made a word before.
+pub(crate) fn compare_by(
+    space: &TreeSpace,
+    pass: &mut TreePass,
+    row: u32,
+    key: &[u8],
+    front: u64,
+) -> Ordering
+    requires own { IsOf space.now.table.shared.table_id space.now.table.shared.key pass.old.seat }
+    requires pinned { pass.old.seat.me.0.pin.pinned ≡ true }
+    requires inside { row ≤ space.now.table.shared.key.rows }
+    requires shown { (its : List ℕ) × IsObjectShown pass.old.seat.me.0.upper row its }
+    requires front { HasBytes key.now front }
+    ensures same { IsSame pass.old.seat pass.new.seat }
+    ensures number { pass.new.number ≡ pass.old.number }
+    ensures tally { pass.new.tally ≡ pass.old.tally }
     ensures kept { pass.new.kept ≡ pass.old.kept }
     ensures still { pass.new.seat.me ≡ pass.old.seat.me }
     ensures order { (its : List ℕ) → IsObjectShown pass.old.seat.me.0.upper row its → result ≡ bytes_cmp (pair its).0 key.now }
 {
     let (start, end) = key_bytes(space, pass, row);
+    let stop = start + key.len().min(end - start);
     let mut at = start;
-    while at < end {
-        let to = end.min(at / 8 * 8 + 8);
-        let part = &key[at - start..key.len().min(to - start)];
-        let order = compare_word(space, pass, row, at, to, part);
+    let mut word = word_with(space, pass, row, at, stop);
+    let mut other = front;
+    while at < stop {
+        let next = word_with(space, pass, row, at / 8 * 8 + 8, stop);
+        let count = (stop - at).min(8);
+        let order = compare_tops(joined(word, next, at % 8), other, count);
         if order.is_ne() {
             return order;
         }
-        at = to;
+        at += count;
+        word = next;
+        other = next_word(key, at - start);
     }
     (end - start).cmp(&key.len())
 }
@@ -43,6 +76,7 @@ pub(crate) fn key_bytes(space: &TreeSpace, pass: &mut TreePass, row: u32) -> (us
     requires shown { (its : List ℕ) × IsObjectShown pass.old.seat.me.0.upper row its }
     ensures same { IsSame pass.old.seat pass.new.seat }
     ensures number { pass.new.number ≡ pass.old.number }
+    ensures tally { pass.new.tally ≡ pass.old.tally }
     ensures kept { pass.new.kept ≡ pass.old.kept }
     ensures still { pass.new.seat.me ≡ pass.old.seat.me }
     ensures range { (result.0 ≤ result.1) × (result.1 ≤ 1000) }
@@ -55,28 +89,55 @@ pub(crate) fn key_bytes(space: &TreeSpace, pass: &mut TreePass, row: u32) -> (us
     (start, start + len)
 }
 
-// How bytes of one word of an object that the pass was shown stand to other bytes.
-fn compare_word(
-    space: &TreeSpace,
-    pass: &mut TreePass,
-    row: u32,
-    from: usize,
-    to: usize,
-    part: &[u8],
-) -> Ordering
+// The word with a byte of an object that the pass was shown. Behind the last byte that is wanted nothing is loaded.
+fn word_with(space: &TreeSpace, pass: &mut TreePass, row: u32, at: usize, stop: usize) -> u64
     requires own { IsOf space.now.table.shared.table_id space.now.table.shared.key pass.old.seat }
     requires pinned { pass.old.seat.me.0.pin.pinned ≡ true }
     requires inside { row ≤ space.now.table.shared.key.rows }
     requires shown { (its : List ℕ) × IsObjectShown pass.old.seat.me.0.upper row its }
-    requires bytes { (from < to) × (to ≤ from / 8 * 8 + 8) × (to ≤ 1000) }
+    requires few { stop ≤ 1000 }
     ensures same { IsSame pass.old.seat pass.new.seat }
     ensures number { pass.new.number ≡ pass.old.number }
+    ensures tally { pass.new.tally ≡ pass.old.tally }
     ensures kept { pass.new.kept ≡ pass.old.kept }
     ensures still { pass.new.seat.me ≡ pass.old.seat.me }
-    ensures order { (its : List ℕ) → IsObjectShown pass.old.seat.me.0.upper row its → result ≡ bytes_cmp (slice_range (all_bytes its) from to) part.now }
+    ensures word { (its : List ℕ) → IsObjectShown pass.old.seat.me.0.upper row its → at < stop → result ≡ slice_index (drop 11 its) (at / 8) }
 {
-    let word = load_word(space, pass, row, (11 + from / 8) as u32);
-    let bytes = word.to_be_bytes();
-    let first = from % 8;
-    bytes[first..first + (to - from)].cmp(part)
+    if at < stop {
+        load_word(space, pass, row, (11 + at / 8) as u32)
+    } else {
+        0
+    }
+}
+
+// The next bytes of a key, eight where there are as many. Less than eight behind others are those of its last eight.
+fn next_word(key: &[u8], from: usize) -> u64
+    requires { from ≤ length key.now }
+    ensures { take (length key.now - from) (to_be_bytes w64 result) ≡ take 8 (drop from key.now) }
+{
+    let left = key.len() - from;
+    if left == 0 {
+        0
+    } else if left >= 8 || from < 8 {
+        word_of(&key[from..])
+    } else {
+        joined(word_of(&key[key.len() - 8..]), 0, 8 - left)
+    }
+}
+
+// The eight bytes of two words from a byte of the first one on.
+fn joined(word: u64, next: u64, skip: usize) -> u64
+    requires { skip < 8 }
+    ensures { to_be_bytes w64 result ≡ drop skip (to_be_bytes w64 word) ++ take skip (to_be_bytes w64 next) }
+{
+    word << (8 * skip) | next >> 8 >> (56 - 8 * skip)
+}
+
+// How the first bytes of two words stand, at least one of each.
+fn compare_tops(word: u64, other: u64, count: usize) -> Ordering
+    requires { (0 < count) × (count ≤ 8) }
+    ensures { result ≡ bytes_cmp (take count (to_be_bytes w64 word)) (take count (to_be_bytes w64 other)) }
+{
+    let behind = 64 - 8 * count;
+    (word >> behind).cmp(&(other >> behind))
 }

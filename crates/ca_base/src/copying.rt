@@ -30,6 +30,7 @@ pub(crate) fn write_base_with(
     requires place { IsPlaceFor place many }
     ensures same { IsStill pass.old.seat pass.new.seat }
     ensures number { pass.new.number ≡ pass.old.number }
+    ensures tally { pass.new.tally ≡ pass.old.tally }
     ensures kept { pass.new.kept ≡ pass.old.kept }
     ensures written { HasWritten row (SpellsBase (put_in (last_items pass.old.seat.me.0.upper) place item) level statistic) pass.old.seat.me pass.new.seat.me }
     ensures gone { IsItemAt place (last_items pass.old.seat.me.0.upper) result }
@@ -73,6 +74,7 @@ pub(crate) fn write_base_without(
     requires place { at < many }
     ensures same { IsStill pass.old.seat pass.new.seat }
     ensures number { pass.new.number ≡ pass.old.number }
+    ensures tally { pass.new.tally ≡ pass.old.tally }
     ensures kept { pass.new.kept ≡ pass.old.kept }
     ensures written { HasWritten row (SpellsBase (remove (last_items pass.old.seat.me.0.upper) at) level statistic) pass.old.seat.me pass.new.seat.me }
     ensures gone { result ≡ slice_index (last_items pass.old.seat.me.0.upper) at }
@@ -102,6 +104,7 @@ fn item_at(space: &TreeSpace, pass: &mut TreePass, base: u32, at: u32) -> u32
     requires place { (at < length (last_items pass.old.seat.me.0.upper)) × (at < 120) }
     ensures same { IsSame pass.old.seat pass.new.seat }
     ensures number { pass.new.number ≡ pass.old.number }
+    ensures tally { pass.new.tally ≡ pass.old.tally }
     ensures kept { pass.new.kept ≡ pass.old.kept }
     ensures still { pass.new.seat.me ≡ pass.old.seat.me }
     ensures item { result ≡ slice_index (last_items pass.old.seat.me.0.upper) at }
@@ -132,6 +135,7 @@ fn write_around(
     requires few { before + length these.now + (many - behind) ≤ 120 }
     ensures same { IsStill pass.old.seat pass.new.seat }
     ensures number { pass.new.number ≡ pass.old.number }
+    ensures tally { pass.new.tally ≡ pass.old.tally }
     ensures kept { pass.new.kept ≡ pass.old.kept }
     ensures written { HasWritten row (SpellsBase (take before (last_items pass.old.seat.me.0.upper)
         ++ (these.now ++ drop behind (last_items pass.old.seat.me.0.upper))) level statistic) pass.old.seat.me pass.new.seat.me }
@@ -162,6 +166,7 @@ pub(crate) fn copy_items(
     requires places { (from + count ≤ length (last_items pass.old.seat.me.0.upper)) × (from + count ≤ 120) × (to + count ≤ 120) }
     ensures same { IsStill pass.old.seat pass.new.seat }
     ensures number { pass.new.number ≡ pass.old.number }
+    ensures tally { pass.new.tally ≡ pass.old.tally }
     ensures kept { pass.new.kept ≡ pass.old.kept }
     ensures filled { HasFilled row (11 + to) count (λ k word. word ≡ slice_index (last_items pass.old.seat.me.0.upper) (from + k)) pass.old.seat.me
         pass.new.seat.me }

@@ -17,7 +17,7 @@ mod writing;
 
 pub use comparing::compare;
 pub use place::search;
-pub use reading::{copy_object, count, item};
+pub use reading::{copy_object, count, item, statistic_word};
 pub use removing::remove_at;
 pub use splitting::split_at;
 pub use swapping::STATISTIC;

@@ -4,8 +4,9 @@ ghost use Rattle.ca_node.specs.TreeView.{Note};
 ghost use Rattle.ca_base.specs.Finding.{IsReadable, IsPlaceIn};
 ghost use Rattle.ca_rows.specs.Calls.{IsOf, IsSame};
 
-use crate::comparing::compare;
+use crate::comparing::compare_by;
 use crate::reading::{count, item};
+use crate::writing::word_of;
 use ca_node::{TreePass, TreeSpace};
 use std::cmp::Ordering;
 
@@ -17,16 +18,18 @@ pub fn search(space: &TreeSpace, pass: &mut TreePass, base: u32, key: &[u8]) -> 
     requires readable { (note : Note) × IsReadable space.now.table.shared.key pass.old.seat.me.0.upper base note }
     ensures same { IsSame pass.old.seat pass.new.seat }
     ensures number { pass.new.number ≡ pass.old.number }
+    ensures tally { pass.new.tally ≡ pass.old.tally }
     ensures kept { pass.new.kept ≡ pass.old.kept }
     ensures still { pass.new.seat.me ≡ pass.old.seat.me }
     ensures place { IsPlaceIn space.now.table.shared.key pass.old.seat.me.0.upper base key.now result }
 {
+    let front = word_of(key);
     let mut low = 0;
     let mut high = count(space, pass, base);
     while low < high {
         let middle = low + (high - low) / 2;
         let row = item(space, pass, base, middle);
-        match compare(space, pass, row, key) {
+        match compare_by(space, pass, row, key, front) {
             Ordering::Less => low = middle + 1,
             Ordering::Equal => return Ok(middle),
             Ordering::Greater => high = middle,

@@ -1,5 +1,5 @@
 //! What bases and objects that were shown say.
-ghost use Rattle.std.specs.Prelude.{◌≡◌, ℕ, ◌+◌, ◌<◌, ◌≤◌, ◌++◌, List, true, length};
+ghost use Rattle.std.specs.Prelude.{◌≡◌, ℕ, ◌+◌, ◌<◌, ◌≤◌, ◌++◌, List, true, length, slice_index};
 ghost use Rattle.arrayvec.specs.ArrayVec.{array_vec_len};
 ghost use Rattle.ca_node.specs.Row.{pair};
 ghost use Rattle.ca_node.specs.TreeView.{Note};
@@ -18,12 +18,28 @@ pub fn count(space: &TreeSpace, pass: &mut TreePass, base: u32) -> u32
     requires readable { (note : Note) × IsReadable space.now.table.shared.key pass.old.seat.me.0.upper base note }
     ensures same { IsSame pass.old.seat pass.new.seat }
     ensures number { pass.new.number ≡ pass.old.number }
+    ensures tally { pass.new.tally ≡ pass.old.tally }
     ensures kept { pass.new.kept ≡ pass.old.kept }
     ensures still { pass.new.seat.me ≡ pass.old.seat.me }
     ensures few { result ≤ 120 }
     ensures count { (note : Note) → IsReadable space.now.table.shared.key pass.old.seat.me.0.upper base note → result ≡ length note.objects }
 {
     (load_word(space, pass, base, 0) % 65_536) as u32
+}
+
+/// The word for the statistic of a base that the pass was shown.
+pub fn statistic_word(space: &TreeSpace, pass: &mut TreePass, base: u32) -> u64
+    requires own { IsOf space.now.table.shared.table_id space.now.table.shared.key pass.old.seat }
+    requires pinned { pass.old.seat.me.0.pin.pinned ≡ true }
+    requires readable { (note : Note) × IsReadable space.now.table.shared.key pass.old.seat.me.0.upper base note }
+    ensures same { IsSame pass.old.seat pass.new.seat }
+    ensures number { pass.new.number ≡ pass.old.number }
+    ensures tally { pass.new.tally ≡ pass.old.tally }
+    ensures kept { pass.new.kept ≡ pass.old.kept }
+    ensures still { pass.new.seat.me ≡ pass.old.seat.me }
+    ensures word { (note : Note) → IsReadable space.now.table.shared.key pass.old.seat.me.0.upper base note → result ≡ slice_index note.its 1 }
+{
+    load_word(space, pass, base, 1)
 }
 
 // The object row that a base names at a place.
@@ -33,6 +49,7 @@ pub fn item(space: &TreeSpace, pass: &mut TreePass, base: u32, place: u32) -> u3
     requires readable { HasPlace space.now.table.shared.key pass.old.seat.me.0.upper base place }
     ensures same { IsSame pass.old.seat pass.new.seat }
     ensures number { pass.new.number ≡ pass.old.number }
+    ensures tally { pass.new.tally ≡ pass.old.tally }
     ensures kept { pass.new.kept ≡ pass.old.kept }
     ensures still { pass.new.seat.me ≡ pass.old.seat.me }
     ensures inside { (0 < result) × (result ≤ space.now.table.shared.key.rows) }
@@ -49,6 +66,7 @@ pub fn copy_object(space: &TreeSpace, pass: &mut TreePass, row: u32, into: &mut 
     requires shown { (its : List ℕ) × IsObjectShown pass.old.seat.me.0.upper row its }
     ensures same { IsSame pass.old.seat pass.new.seat }
     ensures number { pass.new.number ≡ pass.old.number }
+    ensures tally { pass.new.tally ≡ pass.old.tally }
     ensures kept { pass.new.kept ≡ pass.old.kept }
     ensures still { pass.new.seat.me ≡ pass.old.seat.me }
     ensures object { (its : List ℕ) → IsObjectShown pass.old.seat.me.0.upper row its → into.new.items ≡ (pair its).1 }

@@ -6,9 +6,10 @@ ghost use Rattle.ca_model.specs.History.{Del};
 ghost use Rattle.ca_model.specs.StoreMap.{IsStoreMap};
 ghost use Rattle.ca_node.specs.Place.{HasKey};
 ghost use Rattle.ca_node.specs.Row.{pair};
+ghost use Rattle.ca_node.specs.Tallied.{IsTallied};
 ghost use Rattle.ca_base.specs.Counting.{IsSpent, HasCleared, HasEnded};
 ghost use Rattle.ca_base.specs.Finding.{IsAtCursor};
-ghost use Rattle.ca_base.specs.Putting.{object_at, IsShownLast, HasRenewed, HasTried, first_note};
+ghost use Rattle.ca_base.specs.Putting.{object_at, IsShownLast, HasRenewed, IsNewRow, HasTried, first_note};
 ghost use Rattle.ca_base.specs.Taking.{AreHeld};
 ghost use Rattle.ca_rows.specs.Calls.{IsOf, IsSame};
 
@@ -22,7 +23,7 @@ use std::slice::from_ref;
 
 /// Takes the object with this key, which stands at this place, out of the base that was shown last, which has so many, by one exchange of the link
 /// where that base hangs; this enters the call in the log. The key is one of those that are led there. The new base has this word for its
-/// statistic. False where the exchange was lost.
+/// statistic, and `placed` is its row then. False where the exchange was lost.
 pub fn remove_at(
     space: &TreeSpace,
     pass: &mut TreePass,
@@ -31,6 +32,7 @@ pub fn remove_at(
     at: u32,
     _key: &[u8],
     statistic: u64,
+    placed: &mut u32,
     spent: &mut Spent,
 ) -> Result<bool, NoRow>
     requires own { IsOf space.now.table.shared.table_id space.now.table.shared.key pass.old.seat }
@@ -46,11 +48,13 @@ pub fn remove_at(
     requires place { IsPlace (map pair (first_note pass.old.seat.me.0.upper.notes).objects) _key.now (Ok at) }
     ensures same { IsSame pass.old.seat pass.new.seat }
     ensures number { pass.new.number ≡ pass.old.number }
+    ensures tally { IsTallied pass.old.tally pass.old.seat.me.0.upper → IsTallied pass.new.tally pass.new.seat.me.0.upper }
     ensures pin { (pass.new.seat.me.0.sizes ≡ pass.old.seat.me.0.sizes) × (pass.new.seat.me.0.pin ≡ pass.old.seat.me.0.pin) }
     ensures none { AreHeld space.now.table.shared.key.rows pass.new.kept.rows pass.new.seat.me.0 [] }
     ensures removed { HasTried (Remove _key.now (Some (object_at (Ok at) (first_note pass.old.seat.me.0.upper.notes).objects)))
         space.now.table.shared.key result pass.old.seat.me.0.upper pass.new.seat.me.0.upper }
     ensures renewed { HasRenewed space.now.table.shared.key statistic (Del _key.now) result pass.old.seat.me.0.upper pass.new.seat.me.0.upper }
+    ensures placed { IsNewRow placed.new result pass.new.seat.me.0.upper }
     ensures counted { IsSpent spent.old spent.new pass.old.seat.me pass.new.seat.me }
     ensures found { HasEnded result pass.old.seat.me pass.new.seat.me }
     ensures back { HasCleared result pass.old.seat.me pass.new.seat.me pass.old.kept pass.new.kept }
@@ -59,6 +63,7 @@ pub fn remove_at(
         Ok(row) => row,
         Err(why) => return Err(why),
     };
+    *placed = new;
     let base = cursor.base;
     let level = cursor.level;
     let old = write_base_without(space, pass, new, base, many, at, level, statistic);

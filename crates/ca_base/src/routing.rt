@@ -37,6 +37,7 @@ pub(crate) fn write_route(
     requires attempt { attempt < 4611686018427387904 }
     ensures same { IsStill pass.old.seat pass.new.seat }
     ensures number { pass.new.number ≡ pass.old.number }
+    ensures tally { pass.new.tally ≡ pass.old.tally }
     ensures kept { pass.new.kept ≡ pass.old.kept }
     ensures written { HasWritten row (SpellsRoute level key.now left right attempt) pass.old.seat.me pass.new.seat.me }
 {
@@ -69,6 +70,7 @@ pub(crate) fn write_half(
     requires places { (from + count ≤ length (last_items pass.old.seat.me.0.upper)) × (from + count ≤ 120) }
     ensures same { IsStill pass.old.seat pass.new.seat }
     ensures number { pass.new.number ≡ pass.old.number }
+    ensures tally { pass.new.tally ≡ pass.old.tally }
     ensures kept { pass.new.kept ≡ pass.old.kept }
     ensures written { HasWritten row (SpellsBase (take count (drop from (last_items pass.old.seat.me.0.upper))) level 4294967296)
         pass.old.seat.me pass.new.seat.me }
@@ -85,6 +87,7 @@ pub(crate) fn copy_key(space: &TreeSpace, pass: &mut TreePass, row: u32, into: &
     requires shown { (its : List ℕ) × IsObjectShown pass.old.seat.me.0.upper row its }
     ensures same { IsSame pass.old.seat pass.new.seat }
     ensures number { pass.new.number ≡ pass.old.number }
+    ensures tally { pass.new.tally ≡ pass.old.tally }
     ensures kept { pass.new.kept ≡ pass.old.kept }
     ensures still { pass.new.seat.me ≡ pass.old.seat.me }
     ensures key { (its : List ℕ) → IsObjectShown pass.old.seat.me.0.upper row its → into.new.items ≡ (pair its).0 }

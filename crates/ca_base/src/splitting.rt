@@ -2,6 +2,7 @@
 ghost use Rattle.std.specs.Prelude.{◌≡◌, ◌+◌, ◌*◌, ◌<◌, ◌≤◌, [], ◌∷◌, length, map, true, Ok};
 ghost use Rattle.ca_model.specs.StoreMap.{IsStoreMap};
 ghost use Rattle.ca_node.specs.Row.{pair};
+ghost use Rattle.ca_node.specs.Tallied.{IsTallied};
 ghost use Rattle.ca_node.specs.Told.{IsDivision, link_word};
 ghost use Rattle.ca_node.proofs.HeldRows.{AreApart};
 ghost use Rattle.ca_base.specs.Counting.{IsSpent, HasCleared, HasEnded, HasFound, HasPutBack};
@@ -42,6 +43,7 @@ pub fn split_at(
     requires attempt { attempt < 4611686018427387904 }
     ensures same { IsSame pass.old.seat pass.new.seat }
     ensures number { pass.new.number ≡ pass.old.number }
+    ensures tally { IsTallied pass.old.tally pass.old.seat.me.0.upper → IsTallied pass.new.tally pass.new.seat.me.0.upper }
     ensures pin { (pass.new.seat.me.0.sizes ≡ pass.old.seat.me.0.sizes) × (pass.new.seat.me.0.pin ≡ pass.old.seat.me.0.pin) }
     ensures none { AreHeld space.now.table.shared.key.rows pass.new.kept.rows pass.new.seat.me.0 [] }
     ensures split { HasSplit result pass.old.seat.me.0.upper pass.new.seat.me.0.upper }
@@ -78,6 +80,7 @@ fn take_three(
     requires none { AreHeld space.now.table.shared.key.rows pass.old.kept.rows pass.old.seat.me.0 [] }
     ensures same { IsStill pass.old.seat pass.new.seat }
     ensures number { pass.new.number ≡ pass.old.number }
+    ensures tally { pass.new.tally ≡ pass.old.tally }
     ensures taken { HasTakenThree result (AreHeld space.now.table.shared.key.rows pass.new.kept.rows pass.new.seat.me.0) }
     ensures counted { IsSpent spent.old spent.new pass.old.seat.me pass.new.seat.me }
     ensures found { HasFound result pass.old.seat.me pass.new.seat.me }
@@ -120,6 +123,7 @@ fn divide_in<K: Plan>(
     requires held { AreHeld space.now.table.shared.key.rows pass.old.kept.rows pass.old.seat.me.0 (route ∷ left ∷ right ∷ []) }
     ensures same { IsSame pass.old.seat pass.new.seat }
     ensures number { pass.new.number ≡ pass.old.number }
+    ensures tally { IsTallied pass.old.tally pass.old.seat.me.0.upper → IsTallied pass.new.tally pass.new.seat.me.0.upper }
     ensures pin { (pass.new.seat.me.0.sizes ≡ pass.old.seat.me.0.sizes) × (pass.new.seat.me.0.pin ≡ pass.old.seat.me.0.pin) }
     ensures none { AreHeld space.now.table.shared.key.rows pass.new.kept.rows pass.new.seat.me.0 [] }
     ensures split { HasSplit (Ok result) pass.old.seat.me.0.upper pass.new.seat.me.0.upper }

@@ -1,11 +1,12 @@
 //! A base that a pass wrote takes the place of the one that it was shown last.
 ghost use Rattle.std.specs.Prelude.{◌≡◌, ◌<◌, ◌≤◌, ℕ, List, [], ◌∷◌, Ok, slice_index};
 ghost use Rattle.ca_node.specs.Links.{IsIn};
+ghost use Rattle.ca_node.specs.Tallied.{IsTallied};
 ghost use Rattle.ca_node.specs.Told.{IsBaseNote, IsUpdate};
 ghost use Rattle.ca_node.proofs.HeldRows.{AreApart};
 ghost use Rattle.ca_base.specs.Counting.{losses, IsSpent, HasCleared, HasEnded, HasMet, PutsBack};
 ghost use Rattle.ca_base.specs.Finding.{IsAtCursor};
-ghost use Rattle.ca_base.specs.Putting.{HasRenewed, HasSwapped};
+ghost use Rattle.ca_base.specs.Putting.{HasRenewed, IsNewRow, HasSwapped};
 ghost use Rattle.ca_base.specs.Taking.{AreHeld, AreUnlinked};
 ghost use Rattle.ca_rows.specs.Calls.{IsOf, IsSame, IsStill};
 
@@ -48,11 +49,13 @@ pub(crate) fn swap_in<K: Intent>(
     requires held { AreHeld space.now.table.shared.key.rows pass.old.kept.rows pass.old.seat.me.0 (new ∷ comes.now) }
     ensures same { IsSame pass.old.seat pass.new.seat }
     ensures number { pass.new.number ≡ pass.old.number }
+    ensures tally { IsTallied pass.old.tally pass.old.seat.me.0.upper → IsTallied pass.new.tally pass.new.seat.me.0.upper }
     ensures pin { (pass.new.seat.me.0.sizes ≡ pass.old.seat.me.0.sizes) × (pass.new.seat.me.0.pin ≡ pass.old.seat.me.0.pin) }
     ensures none { AreHeld space.now.table.shared.key.rows pass.new.kept.rows pass.new.seat.me.0 [] }
     ensures done { HasSwapped K.update.event space.now.table.shared.key result pass.old.seat.me.0.upper pass.new.seat.me.0.upper }
     ensures renewed { HasRenewed space.now.table.shared.key (slice_index K.update.its 1) K.update.edit (Ok result) pass.old.seat.me.0.upper
         pass.new.seat.me.0.upper }
+    ensures placed { IsNewRow new (Ok result) pass.new.seat.me.0.upper }
     ensures counted { IsSpent spent.old spent.new pass.old.seat.me pass.new.seat.me }
     ensures found { HasEnded (Ok result) pass.old.seat.me pass.new.seat.me }
     ensures back { HasCleared (Ok result) pass.old.seat.me pass.new.seat.me pass.old.kept pass.new.kept }
@@ -76,6 +79,7 @@ pub(crate) fn give_back_all(space: &TreeSpace, pass: &mut TreePass, rows: &[u32]
     requires held { AreHeld space.now.table.shared.key.rows pass.old.kept.rows pass.old.seat.me.0 rows.now }
     ensures same { IsStill pass.old.seat pass.new.seat }
     ensures number { pass.new.number ≡ pass.old.number }
+    ensures tally { pass.new.tally ≡ pass.old.tally }
     ensures none { AreHeld space.now.table.shared.key.rows pass.new.kept.rows pass.new.seat.me.0 [] }
     ensures counted { IsSpent spent.old spent.new pass.old.seat.me pass.new.seat.me }
     ensures met { HasMet 0 0 pass.old.seat.me pass.new.seat.me }
@@ -93,6 +97,7 @@ fn retire_all(space: &TreeSpace, pass: &mut TreePass, rows: &[u32])
     requires unlinked { AreUnlinked space.now.table.shared.key.rows pass.old.kept.rows pass.old.seat.me.0 rows.now }
     ensures same { IsStill pass.old.seat pass.new.seat }
     ensures number { pass.new.number ≡ pass.old.number }
+    ensures tally { pass.new.tally ≡ pass.old.tally }
     ensures none { AreHeld space.now.table.shared.key.rows pass.new.kept.rows pass.new.seat.me.0 [] }
     ensures met { (losses pass.new.seat.me ≡ losses pass.old.seat.me) × HasMet 0 0 pass.old.seat.me pass.new.seat.me }
 {
@@ -108,6 +113,7 @@ pub(crate) fn retire_unlinked(space: &TreeSpace, pass: &mut TreePass, row: u32)
         × AreUnlinked space.now.table.shared.key.rows pass.old.kept.rows pass.old.seat.me.0 (row ∷ rest) }
     ensures same { IsStill pass.old.seat pass.new.seat }
     ensures number { pass.new.number ≡ pass.old.number }
+    ensures tally { pass.new.tally ≡ pass.old.tally }
     ensures retired { (rest : List ℕ) → ¬ IsIn row rest
         → AreUnlinked space.now.table.shared.key.rows pass.old.kept.rows pass.old.seat.me.0 (row ∷ rest)
         → AreUnlinked space.now.table.shared.key.rows pass.new.kept.rows pass.new.seat.me.0 rest }

@@ -26,6 +26,7 @@ pub fn take(space: &TreeSpace, pass: &mut TreePass, spent: &mut Spent) -> Result
     requires own { IsOf space.now.table.shared.table_id space.now.table.shared.key pass.old.seat }
     ensures same { IsStill pass.old.seat pass.new.seat }
     ensures number { pass.new.number ≡ pass.old.number }
+    ensures tally { pass.new.tally ≡ pass.old.tally }
     ensures kept { pass.new.kept ≡ pass.old.kept }
     ensures taken { (held : List ℕ) → length held < 8 → AreHeld space.now.table.shared.key.rows pass.old.kept.rows pass.old.seat.me.0 held
         → HasTaken result held (AreHeld space.now.table.shared.key.rows pass.new.kept.rows pass.new.seat.me.0) }
@@ -53,6 +54,7 @@ pub fn take_two(
     requires none { AreHeld space.now.table.shared.key.rows pass.old.kept.rows pass.old.seat.me.0 [] }
     ensures same { IsStill pass.old.seat pass.new.seat }
     ensures number { pass.new.number ≡ pass.old.number }
+    ensures tally { pass.new.tally ≡ pass.old.tally }
     ensures taken { HasTakenTwo result (AreHeld space.now.table.shared.key.rows pass.new.kept.rows pass.new.seat.me.0) }
     ensures counted { IsSpent spent.old spent.new pass.old.seat.me pass.new.seat.me }
     ensures found { HasFound result pass.old.seat.me pass.new.seat.me }
@@ -78,6 +80,7 @@ pub fn give_back(space: &TreeSpace, pass: &mut TreePass, row: u32, spent: &mut S
         × AreHeld space.now.table.shared.key.rows pass.old.kept.rows pass.old.seat.me.0 (row ∷ rest) }
     ensures same { IsStill pass.old.seat pass.new.seat }
     ensures number { pass.new.number ≡ pass.old.number }
+    ensures tally { pass.new.tally ≡ pass.old.tally }
     ensures given { (rest : List ℕ) → ¬ IsIn row rest → AreHeld space.now.table.shared.key.rows pass.old.kept.rows pass.old.seat.me.0 (row ∷ rest)
         → AreHeld space.now.table.shared.key.rows pass.new.kept.rows pass.new.seat.me.0 rest }
     ensures counted { IsSpent spent.old spent.new pass.old.seat.me pass.new.seat.me }

@@ -5,9 +5,11 @@ ghost use Rattle.ca_model.specs.History.{Put};
 ghost use Rattle.ca_model.specs.StoreMap.{IsPair};
 ghost use Rattle.ca_node.specs.Place.{HasKey};
 ghost use Rattle.ca_node.specs.Row.{pair};
+ghost use Rattle.ca_node.specs.Tallied.{IsTallied};
 ghost use Rattle.ca_base.specs.Counting.{IsSpent, HasCleared, HasEnded};
 ghost use Rattle.ca_base.specs.Finding.{IsAtCursor};
-ghost use Rattle.ca_base.specs.Putting.{gone as gone_at, object_at, IsItemAt, IsRoom, IsFor, IsShownLast, HasRenewed, HasTried, first_note, put_event};
+ghost use Rattle.ca_base.specs.Putting.{gone as gone_at, object_at, IsItemAt, IsNewRow, IsRoom, IsFor, IsShownLast, HasRenewed, HasTried, first_note};
+ghost use Rattle.ca_base.specs.Putting.{put_event};
 ghost use Rattle.ca_base.specs.Taking.{AreHeld};
 ghost use Rattle.ca_rows.specs.Calls.{IsOf, IsSame};
 
@@ -32,8 +34,8 @@ pub enum Putting {
 }
 
 /// Puts an object into the base that was shown last, which has so many, at its key's place, by one exchange of the link where that base hangs; this
-/// enters the call in the log. The key is one of those that are led there. The new base has this word for its statistic. False where the exchange
-/// was lost.
+/// enters the call in the log. The key is one of those that are led there. The new base has this word for its statistic, and `placed` is its row then.
+/// False where the exchange was lost.
 pub fn put_at(
     space: &TreeSpace,
     pass: &mut TreePass,
@@ -45,6 +47,7 @@ pub fn put_at(
     key_at: usize,
     key_end: usize,
     statistic: u64,
+    placed: &mut u32,
     spent: &mut Spent,
 ) -> Result<bool, NoRow>
     requires own { IsOf space.now.table.shared.table_id space.now.table.shared.key pass.old.seat }
@@ -63,6 +66,7 @@ pub fn put_at(
     requires call { IsFor why place }
     ensures same { IsSame pass.old.seat pass.new.seat }
     ensures number { pass.new.number ≡ pass.old.number }
+    ensures tally { IsTallied pass.old.tally pass.old.seat.me.0.upper → IsTallied pass.new.tally pass.new.seat.me.0.upper }
     ensures pin { (pass.new.seat.me.0.sizes ≡ pass.old.seat.me.0.sizes) × (pass.new.seat.me.0.pin ≡ pass.old.seat.me.0.pin) }
     ensures none { AreHeld space.now.table.shared.key.rows pass.new.kept.rows pass.new.seat.me.0 [] }
     ensures put { HasTried
@@ -70,6 +74,7 @@ pub fn put_at(
         space.now.table.shared.key result pass.old.seat.me.0.upper pass.new.seat.me.0.upper }
     ensures renewed { HasRenewed space.now.table.shared.key statistic (Put (slice_range object.now key_at key_end) object.now) result
         pass.old.seat.me.0.upper pass.new.seat.me.0.upper }
+    ensures placed { IsNewRow placed.new result pass.new.seat.me.0.upper }
     ensures counted { IsSpent spent.old spent.new pass.old.seat.me pass.new.seat.me }
     ensures found { HasEnded result pass.old.seat.me pass.new.seat.me }
     ensures back { HasCleared result pass.old.seat.me pass.new.seat.me pass.old.kept pass.new.kept }
@@ -81,6 +86,7 @@ pub fn put_at(
         Err(why) => return Err(why),
     };
     write_object(space, pass, row, object, key_at, key_end);
+    *placed = new;
     let base = cursor.base;
     let level = cursor.level;
     let old = write_base_with(space, pass, new, base, many, place, row, level, statistic);

@@ -27,6 +27,7 @@ pub fn write_object(
     requires place { (key_at ≤ key_end) × (key_end ≤ length object.now) × (length object.now ≤ 1000) }
     ensures same { IsStill pass.old.seat pass.new.seat }
     ensures number { pass.new.number ≡ pass.old.number }
+    ensures tally { pass.new.tally ≡ pass.old.tally }
     ensures kept { pass.new.kept ≡ pass.old.kept }
     ensures written { HasWritten row (SpellsObject object.now key_at key_end) pass.old.seat.me pass.new.seat.me }
 {
@@ -51,6 +52,7 @@ pub fn write_base(
     requires few { length items.now ≤ 120 }
     ensures same { IsStill pass.old.seat pass.new.seat }
     ensures number { pass.new.number ≡ pass.old.number }
+    ensures tally { pass.new.tally ≡ pass.old.tally }
     ensures kept { pass.new.kept ≡ pass.old.kept }
     ensures written { HasWritten row (SpellsBase items.now level statistic) pass.old.seat.me pass.new.seat.me }
 {
@@ -72,6 +74,7 @@ pub(crate) fn write_head(
     requires inside { row ≤ space.now.table.shared.key.rows }
     ensures same { IsStill pass.old.seat pass.new.seat }
     ensures number { pass.new.number ≡ pass.old.number }
+    ensures tally { pass.new.tally ≡ pass.old.tally }
     ensures kept { pass.new.kept ≡ pass.old.kept }
     ensures filled { HasFilled row 0 7 (λ k word. word ≡ slice_index (base_head level many statistic) k) pass.old.seat.me pass.new.seat.me }
 {
@@ -98,6 +101,7 @@ pub(crate) fn set_word(space: &TreeSpace, pass: &mut TreePass, row: u32, index: 
     requires inside { (row ≤ space.now.table.shared.key.rows) × (index < 136) }
     ensures same { IsStill pass.old.seat pass.new.seat }
     ensures number { pass.new.number ≡ pass.old.number }
+    ensures tally { pass.new.tally ≡ pass.old.tally }
     ensures kept { pass.new.kept ≡ pass.old.kept }
     ensures set { HasSet row index value pass.old.seat.me pass.new.seat.me }
 {
@@ -113,6 +117,7 @@ fn clear(space: &TreeSpace, pass: &mut TreePass, row: u32, from: usize)
     requires inside { (row ≤ space.now.table.shared.key.rows) × (from ≤ 136) }
     ensures same { IsStill pass.old.seat pass.new.seat }
     ensures number { pass.new.number ≡ pass.old.number }
+    ensures tally { pass.new.tally ≡ pass.old.tally }
     ensures kept { pass.new.kept ≡ pass.old.kept }
     ensures filled { HasFilled row from (136 - from) (λ _ word. word ≡ 0) pass.old.seat.me pass.new.seat.me }
 {
@@ -129,6 +134,7 @@ pub(crate) fn write_words(space: &TreeSpace, pass: &mut TreePass, row: u32, word
     requires few { length words.now ≤ 136 }
     ensures same { IsStill pass.old.seat pass.new.seat }
     ensures number { pass.new.number ≡ pass.old.number }
+    ensures tally { pass.new.tally ≡ pass.old.tally }
     ensures kept { pass.new.kept ≡ pass.old.kept }
     ensures filled { HasFilled row 0 (length words.now) (λ k word. word ≡ slice_index words.now k) pass.old.seat.me pass.new.seat.me }
 {
@@ -145,6 +151,7 @@ pub(crate) fn write_items(space: &TreeSpace, pass: &mut TreePass, row: u32, at: 
     requires few { at + length items.now ≤ 120 }
     ensures same { IsStill pass.old.seat pass.new.seat }
     ensures number { pass.new.number ≡ pass.old.number }
+    ensures tally { pass.new.tally ≡ pass.old.tally }
     ensures kept { pass.new.kept ≡ pass.old.kept }
     ensures filled { HasFilled row (11 + at) (length items.now) (λ k word. word ≡ slice_index items.now k) pass.old.seat.me pass.new.seat.me }
 {
@@ -162,6 +169,7 @@ pub(crate) fn write_bytes(space: &TreeSpace, pass: &mut TreePass, row: u32, byte
     requires short { length bytes.now ≤ 1000 }
     ensures same { IsStill pass.old.seat pass.new.seat }
     ensures number { pass.new.number ≡ pass.old.number }
+    ensures tally { pass.new.tally ≡ pass.old.tally }
     ensures kept { pass.new.kept ≡ pass.old.kept }
     ensures filled { HasFilled row 11 ((length bytes.now + 7) / 8) (HasEight bytes.now) pass.old.seat.me pass.new.seat.me }
 {
@@ -172,11 +180,14 @@ pub(crate) fn write_bytes(space: &TreeSpace, pass: &mut TreePass, row: u32, byte
 }
 
 // The eight bytes at the front as a word, the highest first, with zeros behind their end.
-fn word_of(bytes: &[u8]) -> u64
+pub(crate) fn word_of(bytes: &[u8]) -> u64
     ensures { HasBytes bytes.now result }
 {
     let mut eight = [0; 8];
-    let count = bytes.len().min(8);
-    eight[..count].copy_from_slice(&bytes[..count]);
+    if bytes.len() < 8 {
+        eight[..bytes.len()].copy_from_slice(bytes);
+        return u64::from_be_bytes(eight);
+    }
+    eight.copy_from_slice(&bytes[..8]);
     u64::from_be_bytes(eight)
 }

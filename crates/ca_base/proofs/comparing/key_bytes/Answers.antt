@@ -1,7 +1,8 @@
 use Rattle.std.proofs.Common.{ℕ, List, ◌≡◌, ◌+◌, ◌-◌, ◌/◌, ◌%◌, min, length, take, drop, ap, sym, ◌∙◌, arith, length-drop}
 use Rattle.ca_node.specs.Row.{bytes_in, count, key_place, key_length}
+use Rattle.ca_node.proofs.WordOrder.{bytes_long}
 use Rattle.ca_base.proofs.Items.{word_shown, as_shown}
-use Rattle.ca_base.proofs.ObjectBytes.{bytes_long, clipped}
+use Rattle.ca_base.proofs.ObjectBytes.{clipped}
 use Rattle.ca_base.proofs.comparing.key_bytes.Goals as goal
 
 pub load_word-word-requires-clause-shown : goal.load_word-word-requires-clause-shown

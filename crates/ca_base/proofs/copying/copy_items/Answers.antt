@@ -30,6 +30,7 @@ loop-place-init c = (
       c.requires.own c.requires.held,
   refl,
   refl,
+  refl,
 )
 
 pub loop-place-preserved : goal.loop-place-preserved
@@ -44,4 +45,5 @@ loop-place-preserved c = let i = c.loop-place.invariant in let u = c.args.pass.n
           c.load_word-item.ensures.same c.load_word-item.ensures.still c.set_word.ensures.same c.set_word.ensures.set,
       c.set_word.ensures.number ∙ (c.load_word-item.ensures.number ∙ i.1),
       c.set_word.ensures.kept ∙ (c.load_word-item.ensures.kept ∙ i.2),
+      c.set_word.ensures.tally ∙ (c.load_word-item.ensures.tally ∙ i.3),
     )

@@ -12,12 +12,13 @@ loop-low-preserved-in-Less c = let middle : ℕ = c.loop-low.low + (c.loop-low.h
     let inside = (i.left note r).inside in let l : middle < length note.objects = omega arith in
     let object = (c.item-row.ensures.item note
     (subst (λ (m : MyTree). IsReadable c.args.space.now.table.shared.key m.0.upper c.args.base note) (sym i.still) r) l).1 in
-    c.compare.ensures.order (get_or note.objects middle [])
+    c.compare_by.ensures.order (get_or note.objects middle [])
     (subst (λ (m : MyTree). IsObjectShown m.0.upper c.item-row.result (get_or note.objects middle [])) (sym c.item-row.ensures.still) object) in
     record {
       own = search rules;
       same = search rules;
       number = search rules;
+      tally = search rules;
       kept = search rules;
       still = search rules;
       order = omega arith;
@@ -31,7 +32,7 @@ returns-in-Equal-clause-place c note r = let middle : ℕ = c.loop-low.low + (c.
     let inside = (i.left note r).inside in let l : middle < length note.objects = omega arith in
     let object = (c.item-row.ensures.item note
     (subst (λ (m : MyTree). IsReadable c.args.space.now.table.shared.key m.0.upper c.args.base note) (sym i.still) r) l).1 in
-    let told = c.compare.ensures.order (get_or note.objects middle [])
+    let told = c.compare_by.ensures.order (get_or note.objects middle [])
     (subst (λ (m : MyTree). IsObjectShown m.0.upper c.item-row.result (get_or note.objects middle [])) (sym c.item-row.ensures.still) object) in
     found c.args.space.now.table.shared.key.keypos note c.args.key.now r.ordered middle l (sym told ∙ c.in-Equal.is)
 
@@ -42,12 +43,13 @@ loop-low-preserved c = let middle : ℕ = c.loop-low.low + (c.loop-low.high - c.
     let inside = (i.left note r).inside in let l : middle < length note.objects = omega arith in
     let object = (c.item-row.ensures.item note
     (subst (λ (m : MyTree). IsReadable c.args.space.now.table.shared.key m.0.upper c.args.base note) (sym i.still) r) l).1 in
-    c.compare.ensures.order (get_or note.objects middle [])
+    c.compare_by.ensures.order (get_or note.objects middle [])
     (subst (λ (m : MyTree). IsObjectShown m.0.upper c.item-row.result (get_or note.objects middle [])) (sym c.item-row.ensures.still) object) in
     record {
       own = search rules;
       same = search rules;
       number = search rules;
+      tally = search rules;
       kept = search rules;
       still = search rules;
       order = omega arith;

@@ -5,7 +5,8 @@ use Rattle.ca_node.specs.Row.{bytes_in, count}
 use Rattle.ca_node.specs.Told.{MyTree}
 use Rattle.ca_base.specs.Finding.{IsObjectShown}
 use Rattle.ca_base.proofs.Items.{word_shown, as_shown}
-use Rattle.ca_base.proofs.ObjectBytes.{bytes_long, one_more}
+use Rattle.ca_base.proofs.ObjectBytes.{one_more}
+use Rattle.ca_node.proofs.WordOrder.{bytes_long}
 use Rattle.ca_base.proofs.reading.copy_object.Goals as goal
 
 pub load_word-requires-clause-shown : goal.load_word-requires-clause-shown
@@ -23,6 +24,7 @@ loop-i-preserved c = let i : ℕ = c.loop-i.i in let len : ℕ = c.min-len.resul
       own = search rules;
       same = search rules;
       number = search rules;
+      tally = search rules;
       kept = search rules;
       still = search rules;
       copied = λ its shown. let long = shown.long in let m = c.min-len.ensures in

@@ -9,6 +9,7 @@ use Rattle.ca_base.proofs.Readying.{place_in, many_are, few_are, spells_there}
 use Rattle.ca_base.proofs.TakingOut.{ready_without, removed, renewed_without}
 use Rattle.ca_base.proofs.Unlinking.{written_row}
 use Rattle.ca_rows.specs.declared.view.Pin.{Pin}
+use Rattle.ca_base.proofs.Tallies.{tallied_as}
 use Rattle.ca_base.proofs.removing.remove_at.Goals as goal
 
 pub returns-in-Err-clause-none : goal.returns-in-Err-clause-none
@@ -84,3 +85,8 @@ returns-clause-renewed c = let v = c.write_base_without-old.ensures.written in l
     (spells_there c.args.pass.now.seat.me.0.upper c.take.new.pass.seat.me.0.upper (λ xs. remove xs c.args.at) _ c.args.cursor.level c.args.statistic v.0 one.4
     r.cursor.level v.1) v.2
     c.swap_in.result c.swap_in.new.pass.seat.me.0.upper c.swap_in.ensures.renewed
+
+pub returns-clause-tally : goal.returns-clause-tally
+returns-clause-tally c h = c.swap_in.ensures.tally (tallied_as c.args.pass.now.tally c.write_base_without-old.new.pass.tally
+    c.args.pass.now.seat.me.0.upper c.write_base_without-old.new.pass.seat.me.0.upper
+    (c.write_base_without-old.ensures.tally ∙ c.take.ensures.tally) (c.write_base_without-old.ensures.same.4 ∙ c.take.ensures.same.4) h)

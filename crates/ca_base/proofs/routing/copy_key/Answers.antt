@@ -5,7 +5,7 @@ use Rattle.ca_node.specs.Row.{bytes_in}
 use Rattle.ca_node.specs.Told.{MyTree, IsShown}
 use Rattle.ca_base.specs.Finding.{IsObjectShown}
 use Rattle.ca_base.proofs.Items.{word_shown, as_shown}
-use Rattle.ca_base.proofs.ObjectBytes.{bytes_long}
+use Rattle.ca_node.proofs.WordOrder.{bytes_long}
 use Rattle.ca_base.proofs.SplitKeys.{next_part}
 use Rattle.ca_base.proofs.routing.copy_key.Goals as goal
 
@@ -36,6 +36,7 @@ loop-at-preserved c = let start : ℕ = c.key_bytes-start.result.0 in let end : 
       own = search rules;
       same = search rules;
       number = search rules;
+      tally = search rules;
       kept = search rules;
       still = search rules;
       low = omega arith;

@@ -8,6 +8,7 @@ invariant-loop-at l = record {
   own : IsOf l.space.table.shared.table_id l.space.table.shared.key l.pass.seat;
   same : IsSame l.fn.pass.seat l.pass.seat;
   number : l.pass.number ≡ l.fn.pass.number;
+  tally : l.pass.tally ≡ l.fn.pass.tally;
   kept : l.pass.kept ≡ l.fn.pass.kept;
   still : l.pass.seat.me ≡ l.fn.pass.seat.me;
   low : l.start ≤ l.at;

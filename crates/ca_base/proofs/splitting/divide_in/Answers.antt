@@ -1,7 +1,8 @@
-use Rattle.std.proofs.Common.{[], ◌∷◌, refl}
+use Rattle.std.proofs.Common.{[], ◌∷◌, refl, true, false}
 use Rattle.ca_node.specs.Laws.{in_nothing}
 use Rattle.ca_base.proofs.Divisions.{divided_rows}
 use Rattle.ca_base.proofs.Unlinking.{held_still, none_left}
+use Rattle.ca_base.proofs.Tallies.{tallied_division}
 use Rattle.ca_base.proofs.splitting.divide_in.Goals as goal
 
 pub give_back_all-requires-clause-held : goal.give_back_all-requires-clause-held
@@ -25,3 +26,13 @@ returns-clause-none g c = let r = c.requires.rows in let rows = c.args.space.now
     (divided_rows rows c.args.pass.now.kept c.divide_base.new.pass.kept c.args.pass.now.seat.me c.divide_base.new.pass.seat.me g.K.Plan.division c.args.base
     (c.args.route ∷ c.args.left ∷ c.args.right ∷ []) (λ i. r.1 i ∷ r.2 i ∷ r.3 i ∷ []) r.0 c.if-not-divide_base.ensures.done
     c.divide_base.ensures.kept c.requires.apart c.requires.held))
+
+pub returns-then-not-divide_base-clause-tally : goal.returns-then-not-divide_base-clause-tally
+returns-then-not-divide_base-clause-tally g c = tallied_division false g.K.Plan.division c.args.pass.now.seat.me c.divide_base.new.pass.seat.me
+    c.give_back_all.new.pass.seat.me.0.upper c.args.pass.now.tally c.divide_base.new.pass.tally c.give_back_all.new.pass.tally
+    c.if-not-divide_base.ensures.done c.if-not-divide_base.ensures.tally c.give_back_all.ensures.same.4 c.give_back_all.ensures.tally
+
+pub returns-clause-tally : goal.returns-clause-tally
+returns-clause-tally g c = tallied_division true g.K.Plan.division c.args.pass.now.seat.me c.divide_base.new.pass.seat.me
+    c.retire_unlinked.new.pass.seat.me.0.upper c.args.pass.now.tally c.divide_base.new.pass.tally c.retire_unlinked.new.pass.tally
+    c.if-not-divide_base.ensures.done c.if-not-divide_base.ensures.tally c.retire_unlinked.ensures.same.4 c.retire_unlinked.ensures.tally

@@ -11,6 +11,7 @@ use Rattle.ca_base.proofs.SplitKeys.{short_key}
 use Rattle.ca_base.proofs.Unlinking.{written_row}
 use Rattle.ca_rows.specs.declared.kept.KeptRows.{KeptRows}
 use Rattle.ca_rows.specs.Claims.{claim_of}
+use Rattle.ca_base.proofs.Tallies.{tallied_as}
 use Rattle.ca_base.proofs.splitting.split_at.Goals as goal
 
 pub write_half-requires-clause-held : goal.write_half-requires-clause-held
@@ -97,3 +98,12 @@ divide_in-requires-clause-held c = let t = c.in-Ok.ensures.taken in let rows : L
     written_row all c.copy_key.new.pass.kept c.write_route.new.pass.kept c.copy_key.new.pass.seat.me c.write_route.new.pass.seat.me rows
     c.in-Ok.rows.0 over.0 (0, refl) over.1.long over.2 c.write_route.ensures.kept
     (subst (λ (x : MyTree × KeptRows). AreHeld all x.1.rows x.0.0 rows) (λ i. (sym still i, sym kept i)) two)
+
+pub returns-clause-tally : goal.returns-clause-tally
+returns-clause-tally c h = let still = c.copy_key.ensures.still ∙ c.item-first.ensures.still in
+    c.divide_in.ensures.tally (tallied_as c.args.pass.now.tally c.write_route.new.pass.tally c.args.pass.now.seat.me.0.upper
+    c.write_route.new.pass.seat.me.0.upper
+    (c.write_route.ensures.tally ∙ (c.copy_key.ensures.tally ∙ (c.item-first.ensures.tally
+    ∙ (c.write_half-2.ensures.tally ∙ (c.write_half.ensures.tally ∙ c.take_three.ensures.tally)))))
+    (c.write_route.ensures.same.4 ∙ (ap (λ (m : MyTree). m.0.upper) still
+    ∙ (c.write_half-2.ensures.same.4 ∙ (c.write_half.ensures.same.4 ∙ c.take_three.ensures.same.4)))) h)

@@ -17,6 +17,7 @@ loop-at-preserved c = let i = c.loop-at.invariant in let s = c.give_back.ensures
       own = (s.0 ∙ i.own.0, s.2 ∙ i.own.1);
       still = (s.0 ∙ i.still.0, s.1 ∙ i.still.1, s.2 ∙ i.still.2, s.3 ∙ i.still.3, s.4 ∙ i.still.4);
       number = c.give_back.ensures.number ∙ i.number;
+      tally = c.give_back.ensures.tally ∙ i.tally;
       held = c.give_back.ensures.given (drop (c.loop-at.at + 1) c.args.rows.now) h.0 h.1;
       counted = spent_both c.args.spent.now c.loop-at.spent c.give_back.new.spent c.args.pass.now.seat.me c.loop-at.pass.seat.me c.give_back.new.pass.seat.me
           i.counted c.give_back.ensures.counted;

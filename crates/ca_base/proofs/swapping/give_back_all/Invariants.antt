@@ -9,6 +9,7 @@ invariant-loop-at l = record {
   own : IsOf l.space.table.shared.table_id l.space.table.shared.key l.pass.seat;
   still : IsStill l.fn.pass.seat l.pass.seat;
   number : l.pass.number ≡ l.fn.pass.number;
+  tally : l.pass.tally ≡ l.fn.pass.tally;
   held : AreHeld l.space.table.shared.key.rows l.pass.kept.rows l.pass.seat.me.0 (drop l.at l.rows);
   counted : IsSpent l.fn.spent l.spent l.fn.pass.seat.me l.pass.seat.me;
   met : HasMet 0 0 l.fn.pass.seat.me l.pass.seat.me;

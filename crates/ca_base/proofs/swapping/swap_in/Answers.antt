@@ -1,9 +1,10 @@
-use Rattle.std.proofs.Common.{ℕ, List, ◌∷◌, sym, ap, subst, ◌∙◌}
+use Rattle.std.proofs.Common.{ℕ, List, ◌∷◌, sym, ap, subst, ◌∙◌, true, false}
 use Rattle.ca_base.specs.Counting.{losses}
 use Rattle.ca_base.proofs.Counts.{none_spent}
 use Rattle.ca_base.specs.Taking.{HasHeld}
-use Rattle.ca_base.proofs.Renewing.{renewed}
+use Rattle.ca_base.proofs.Renewing.{renewed, placed}
 use Rattle.ca_base.proofs.Unlinking.{held_still, swapped, is_done}
+use Rattle.ca_base.proofs.Tallies.{tallied_update}
 use Rattle.ca_base.proofs.swapping.swap_in.Goals as goal
 
 pub give_back-requires-clause-held : goal.give_back-requires-clause-held
@@ -51,3 +52,23 @@ returns-clause-renewed g c = renewed c.args.space.now.table.shared.key c.args.pa
     (sym c.requires.rows.0) c.requires.held.0)
     c.replace_base.new.pass.seat.me c.retire_all.new.pass.seat.me.0.upper c.if-not-replace_base.ensures.done
     (c.retire_all.ensures.same.4 ∙ c.retire_unlinked.ensures.same.4)
+
+pub returns-clause-placed : goal.returns-clause-placed
+returns-clause-placed g c = λ _. placed c.args.space.now.table.shared.key c.args.pass.now.kept.rows c.args.pass.now.seat.me c.args.new g.K.Intent.update
+    c.requires.update c.requires.old_base
+    (subst (λ (xs : List ℕ). HasHeld c.args.space.now.table.shared.key.rows c.args.pass.now.kept.rows c.args.pass.now.seat.me.0.claims (c.args.new ∷ xs))
+    (sym c.requires.rows.0) c.requires.held.0)
+    c.replace_base.new.pass.seat.me c.retire_all.new.pass.seat.me.0.upper c.if-not-replace_base.ensures.done
+    (c.retire_all.ensures.same.4 ∙ c.retire_unlinked.ensures.same.4)
+
+pub returns-then-not-replace_base-clause-tally : goal.returns-then-not-replace_base-clause-tally
+returns-then-not-replace_base-clause-tally g c = tallied_update false c.args.new g.K.Intent.update c.args.pass.now.seat.me c.replace_base.new.pass.seat.me
+    c.give_back_all.new.pass.seat.me.0.upper c.args.pass.now.tally c.give_back_all.new.pass.tally c.if-not-replace_base.ensures.done
+    (c.give_back_all.ensures.same.4 ∙ c.give_back.ensures.same.4)
+    (c.give_back_all.ensures.tally ∙ (c.give_back.ensures.tally ∙ c.replace_base.ensures.tally))
+
+pub returns-clause-tally : goal.returns-clause-tally
+returns-clause-tally g c = tallied_update true c.args.new g.K.Intent.update c.args.pass.now.seat.me c.replace_base.new.pass.seat.me
+    c.retire_all.new.pass.seat.me.0.upper c.args.pass.now.tally c.retire_all.new.pass.tally c.if-not-replace_base.ensures.done
+    (c.retire_all.ensures.same.4 ∙ c.retire_unlinked.ensures.same.4)
+    (c.retire_all.ensures.tally ∙ (c.retire_unlinked.ensures.tally ∙ c.replace_base.ensures.tally))

@@ -9,6 +9,7 @@ use Rattle.ca_base.proofs.Readying.{finds_place, place_in, many_are, few_are, sp
 use Rattle.ca_base.proofs.Rest.{two_apart, gone_apart}
 use Rattle.ca_base.proofs.Unlinking.{written_row}
 use Rattle.ca_rows.specs.declared.view.Pin.{Pin}
+use Rattle.ca_base.proofs.Tallies.{tallied_as}
 use Rattle.ca_base.proofs.updating.put_at.Goals as goal
 
 pub write_object-requires-clause-held : goal.write_object-requires-clause-held
@@ -112,3 +113,9 @@ returns-clause-renewed c = let t = c.in-Ok.ensures.taken in let w = c.write_obje
     (spells_there c.args.pass.now.seat.me.0.upper c.write_object.new.pass.seat.me.0.upper (λ xs. put_in xs c.args.place c.in-Ok.rows.1) _ c.args.cursor.level
     c.args.statistic v.0 (two.4 ∙ one.4) r.cursor.level v.1) v.2
     c.swap_in.result c.swap_in.new.pass.seat.me.0.upper c.swap_in.ensures.renewed
+
+pub returns-clause-tally : goal.returns-clause-tally
+returns-clause-tally c h = c.swap_in.ensures.tally (tallied_as c.args.pass.now.tally c.write_base_with-old.new.pass.tally c.args.pass.now.seat.me.0.upper
+    c.write_base_with-old.new.pass.seat.me.0.upper
+    (c.write_base_with-old.ensures.tally ∙ (c.write_object.ensures.tally ∙ c.take_two.ensures.tally))
+    (c.write_base_with-old.ensures.same.4 ∙ (c.write_object.ensures.same.4 ∙ c.take_two.ensures.same.4)) h)

@@ -11,4 +11,5 @@ loop-place-preserved c = let i = c.loop-place.invariant in let low = i.3 in
       c.set_word.ensures.number ∙ i.1,
       c.set_word.ensures.kept ∙ i.2,
       omega arith,
+      c.set_word.ensures.tally ∙ i.4,
     )

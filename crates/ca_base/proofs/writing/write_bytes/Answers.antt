@@ -11,7 +11,7 @@ pub set_word-requires-clause-held : goal.set_word-requires-clause-held
 set_word-requires-clause-held c = c.loop-place.invariant.0.held
 
 pub loop-place-init : goal.loop-place-init
-loop-place-init c = (begins _ _ c.args.row 11 (HasEight c.args.bytes.now) c.args.pass.now.seat c.requires.own c.requires.held, refl, refl)
+loop-place-init c = (begins _ _ c.args.row 11 (HasEight c.args.bytes.now) c.args.pass.now.seat c.requires.own c.requires.held, refl, refl, refl)
 
 pub loop-place-preserved : goal.loop-place-preserved
 loop-place-preserved c = let i = c.loop-place.invariant in (
@@ -20,4 +20,5 @@ loop-place-preserved c = let i = c.loop-place.invariant in (
       c.set_word.ensures.same c.set_word.ensures.set,
   c.set_word.ensures.number ∙ i.1,
   c.set_word.ensures.kept ∙ i.2,
+  c.set_word.ensures.tally ∙ i.3,
 )

@@ -13,6 +13,7 @@ loop-place-init c = (
   begins _ _ c.args.row (11 + c.args.at) (λ k word. word ≡ get_or c.args.items.now k 0) c.args.pass.now.seat c.requires.own c.requires.held,
   refl,
   refl,
+  refl,
 )
 
 pub loop-place-preserved : goal.loop-place-preserved
@@ -21,4 +22,5 @@ loop-place-preserved c = let i = c.loop-place.invariant in (
       c.set_word.new.pass.seat c.loop-place.place _ _ (omega arith) (omega arith) refl i.0 c.set_word.ensures.same c.set_word.ensures.set,
   c.set_word.ensures.number ∙ i.1,
   c.set_word.ensures.kept ∙ i.2,
+  c.set_word.ensures.tally ∙ i.3,
 )
