@@ -1,2 +1,4 @@
 pub mod Allowed
+pub mod Splits
 pub mod Statistics
+pub mod Tuned

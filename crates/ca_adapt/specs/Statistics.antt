@@ -1,9 +1,21 @@
 -- How a base's statistic moves, and what is due by it.
-use Rattle.std.specs.Prelude.{◌≡◌, ◌⊎◌, Bool, true, false, ℤ, ◌<ℤ◌, ◌+ℤ◌, pos, cond}
+use Rattle.std.specs.Prelude.{◌≡◌, ◌⊎◌, ℕ, ◌<◌, ◌≤◌, Bool, ℤ, ◌<ℤ◌, ◌+ℤ◌, pos, cond}
 use Rattle.ca_adapt.specs.declared.statistic.Due.{Due}
 use Rattle.ca_adapt.specs.declared.statistic.Due.TheVariants as due
 use Rattle.ca_adapt.specs.declared.tuning.Tuning.{Tuning}
 use Rattle.ca_adapt.specs.Allowed.{IsWithin}
+
+-- The word for a statistic in a base's row: so much above 2 to the power of 32.
+abbrev pub IsWordOf : ℤ → ℕ → Type 0
+IsWordOf statistic word = pos word ≡ statistic +ℤ pos 4294967296
+
+-- It is the word of a statistic of 32 bits.
+abbrev pub IsOne : ℕ → Type 0
+IsOne word = (2147483648 ≤ word) × (word < 6442450944)
+
+-- The statistic that the word is for, or 0 where it is none's.
+abbrev pub IsStatisticOf : ℕ → ℤ → Type 0
+IsStatisticOf word statistic = (IsOne word × IsWordOf statistic word) ⊎ ((¬ IsOne word) × (statistic ≡ pos 0))
 
 -- What is kept of a statistic: it, or 0 where it is outside of its bounds.
 abbrev pub IsKept : Tuning → ℤ → ℤ → Type 0

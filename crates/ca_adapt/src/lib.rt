@@ -1,10 +1,14 @@
 //! When the tree splits and joins its bases.
 #![tactic(auto)]
 
+mod adapted;
+mod splitting;
 mod statistic;
 mod tuning;
 
-pub use statistic::Due;
+pub use adapted::{Adapted, Why};
+pub use splitting::{split, try_split};
+pub use statistic::{Due, statistic_of, word_of};
 pub use tuning::Tuning;
 
 #[cfg(test)]

@@ -1,9 +1,34 @@
 //! How a base's statistic moves, and what is due by it.
 ghost use Rattle.std.specs.Prelude.{◌≡◌, cond, neg_ℤ, pos};
 ghost use Rattle.ca_adapt.specs.Allowed.{IsAllowed, IsWithin};
-ghost use Rattle.ca_adapt.specs.Statistics.{IsAfter, IsDue, IsKept};
+ghost use Rattle.ca_adapt.specs.Statistics.{IsAfter, IsDue, IsKept, IsStatisticOf, IsWordOf};
 
 use crate::tuning::Tuning;
+
+// The word for a statistic of 0, and those between which the words of all statistics are.
+const ZERO: i64 = 1 << 32;
+
+const LEAST: u64 = (1 << 32) - (1 << 31);
+
+const END: u64 = (1 << 32) + (1 << 31);
+
+/// The word for a statistic in a base's row.
+pub fn word_of(statistic: i32) -> u64
+    ensures { IsWordOf statistic result }
+{
+    (ZERO + i64::from(statistic)) as u64
+}
+
+/// The statistic that a word of a base's row is for, or 0 where it is none's.
+pub fn statistic_of(word: u64) -> i32
+    ensures { IsStatisticOf word result }
+{
+    if LEAST <= word && word < END {
+        (word as i64 - ZERO) as i32
+    } else {
+        0
+    }
+}
 
 /// What is due to a base by its statistic.
 #[derive(Clone, Copy, Debug, PartialEq, Eq)]

@@ -54,6 +54,11 @@ impl<'t> Player<'t> {
         }
     }
 
+    /// How many bases it split.
+    pub(crate) fn splits(&self) -> u64 {
+        self.store.adapted().0
+    }
+
     /// What it noted, in the order of its calls.
     pub(crate) fn log(&self) -> &[Entry] {
         self.log.as_slice()

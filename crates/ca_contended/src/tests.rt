@@ -12,22 +12,29 @@ use std::alloc::{AllocError, Global};
 use std::thread::{Threads, for_each_mut, join_mut};
 
 // How many turns each client plays, and how many keys they share.
-const TURNS: u32 = 8_000;
+const TURNS: u32 = 4_000;
 
 const SHARED: u32 = 6;
 
-// A tree on so many rows, with at most so many objects in a leaf, at so many levels.
-fn tree_of(alloc: Global, rows: u32, passes: u32, leaf: u8, levels: u16) -> Result<Tree, TreeFault>
+// A tree on so many rows, with at most so many objects in a leaf, at so many levels. Each update without a loss adds so much to its base's statistic.
+fn tree_of(
+    alloc: Global,
+    rows: u32,
+    passes: u32,
+    leaf: u8,
+    levels: u16,
+    calm: i32,
+) -> Result<Tree, TreeFault>
     ensures { IfOk result (λ tree. tree.space.sizes.keypos ≡ 1) }
 {
     let tuning = Tuning {
         leaf,
         levels,
-        lost: 0,
-        calm: 0,
-        range: 0,
-        high: 0,
-        low: 0,
+        lost: 250,
+        calm,
+        range: -100,
+        high: 1_000,
+        low: -1_000,
     };
     let starts = Starts {
         tag: 0,
@@ -64,20 +71,24 @@ fn explains(
 
 #[test]
 fn replies_of_two_clients_are_those_of_one_history(rt: HostRuntime) {
-    let Ok(mut tree) = tree_of(rt.alloc(), 32_768, 2, 2, 64) else {
-        panic!(rt; "no memory")
-    };
-    let (Ok(one), Ok(two)) = (tree.enroll(rt.alloc()), tree.enroll(rt.alloc())) else {
-        panic!(rt; "no pass")
-    };
-    let mut first = Player::new(rt.alloc(), TreeStore::new(&tree, one), 1);
-    let mut second = Player::new(rt.alloc(), TreeStore::new(&tree, two), 2);
-    play_both(&rt, &mut first, &mut second);
-    assert_eq!(rt; (first.refused(), second.refused()), (0, 0));
-    for key in 0..256 {
-        let end = first.value(key);
-        let explained = explains(rt.alloc(), first.log(), second.log(), key, end);
-        assert!(rt; matches!(explained, Ok(true)), "key {key}");
+    // Bases are split where they are full, or where they are hot: after every second update.
+    for (leaf, calm) in [(2, 0), (120, 600)] {
+        let Ok(mut tree) = tree_of(rt.alloc(), 32_768, 2, leaf, 64, calm) else {
+            panic!(rt; "no memory")
+        };
+        let (Ok(one), Ok(two)) = (tree.enroll(rt.alloc()), tree.enroll(rt.alloc())) else {
+            panic!(rt; "no pass")
+        };
+        let mut first = Player::new(rt.alloc(), TreeStore::new(&tree, one), 1);
+        let mut second = Player::new(rt.alloc(), TreeStore::new(&tree, two), 2);
+        play_both(&rt, &mut first, &mut second);
+        assert_eq!(rt; (first.refused(), second.refused()), (0, 0));
+        assert!(rt; first.splits() > 0 || second.splits() > 0, "leaf {leaf}");
+        for key in 0..256 {
+            let end = first.value(key);
+            let explained = explains(rt.alloc(), first.log(), second.log(), key, end);
+            assert!(rt; matches!(explained, Ok(true)), "leaf {leaf}, key {key}");
+        }
     }
 }
 
@@ -95,7 +106,7 @@ fn count_both<T: Threads + Sync>(rt: &T, first: &mut Player<'_>, second: &mut Pl
 
 #[test]
 fn a_counter_ends_with_as_much_as_it_was_raised(rt: HostRuntime) {
-    let Ok(mut tree) = tree_of(rt.alloc(), 2_000, 2, 120, 0) else {
+    let Ok(mut tree) = tree_of(rt.alloc(), 2_000, 2, 120, 0, 0) else {
         panic!(rt; "no memory")
     };
     let (Ok(one), Ok(two)) = (tree.enroll(rt.alloc()), tree.enroll(rt.alloc())) else {
@@ -160,7 +171,7 @@ fn left(clients: &[Player<'_>], key: u32) -> i64 {
 
 #[test]
 fn four_clients_share_a_hundred_keys_on_few_rows(rt: HostRuntime) {
-    let Ok(mut tree) = tree_of(rt.alloc(), 2_000, 4, 8, 64) else {
+    let Ok(mut tree) = tree_of(rt.alloc(), 2_000, 4, 8, 64, 0) else {
         panic!(rt; "no memory")
     };
     let (Ok(a), Ok(b), Ok(c), Ok(d)) = (

@@ -48,7 +48,7 @@ attempted tells z (Err stop.Deep) spent levels u v h = h.0
 -- Where it refuses the call, it has a cause.
 pub caused : {T : Type 0} (z : Sizes) (number budget : ℕ) (adds : Option (List ℕ)) (tried : Result T Stop) (spent now : Spent) (levels : ℕ) (m m' : MyTree)
     (kept kept' : Vec Kept Global) → levels ≡ z.levels → (tried ≡ Err stop.Empty → ⊥) → (tried ≡ Err stop.Split → ⊥)
-    → (tried ≡ Err stop.Deep → IsFull z adds (after m'.0.upper.seen [])) → (tried ≡ Err stop.Lost → budget ≤ total now)
+    → (tried ≡ Err stop.Deep → IsFull z adds m'.0.upper.last (after m'.0.upper.seen [])) → (tried ≡ Err stop.Lost → budget ≤ total now)
     → (spent.lost ≡ 0) × (spent.helped ≡ 0) × (spent.passed ≡ 0) → IsPaid spent now m m' → HasMetBy tried m m'
     → IfErr (refused_as tried now levels) (λ why. IsCaused z number budget adds why m kept m' kept')
 caused z number budget adds (Ok x) spent now levels m m' kept kept' same full split deep lost none counted met = tt
@@ -122,7 +122,7 @@ pub deep_adds : {T : Type 0} (z : Sizes) (number budget : ℕ) (adds : Option (L
     (kept kept' : Vec Kept Global) → o ≡ outcome_of why → IsCaused z number budget adds why m kept m' kept' → IfDeep o (adds ≢ Nothing)
 deep_adds {T} z number budget adds why o m m' kept kept' is h = subst (λ (x : Outcome T). IfDeep x (adds ≢ Nothing)) (sym is) (by why h)
   where
-    adds_one : (a : Option (List ℕ)) → IsFull z a (after m'.0.upper.seen []) → a ≢ Nothing
+    adds_one : (a : Option (List ℕ)) → IsFull z a m'.0.upper.last (after m'.0.upper.seen []) → a ≢ Nothing
     adds_one Nothing full = absurd full
     adds_one (Just key) full = λ e. cc
 

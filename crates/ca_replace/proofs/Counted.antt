@@ -14,7 +14,7 @@ none_met m = (omega arith, omega arith)
 
 -- What was met by an attempt, behind others that met nothing.
 pub met_then : {T : Type 0} (r : Result T Stop) (k m n : MyTree) → HasMet 0 0 k m → HasMetBy r m n → HasMetBy r k n
-met_then (Ok x) k m n a b = met_both 0 0 0 0 k m n a b
+met_then (Ok x) k m n a b = tt
 met_then (Err stop.Lost) k m n a b = met_both 0 0 0 0 k m n a b
 met_then (Err stop.Split) k m n a b = met_both 0 0 0 0 k m n a b
 met_then (Err stop.Empty) k m n a b = met_both 0 0 1 0 k m n a b

@@ -1,5 +1,5 @@
 -- Passes that were just made.
-use Rattle.std.proofs.Common.{◌≡◌, ℕ, ◌<◌, ◌≤◌, [], Vec, sym, refl, ap, ◌∙◌, subst, arith}
+use Rattle.std.proofs.Common.{◌≡◌, ℕ, ◌<◌, ◌≤◌, [], Vec, min, sym, refl, ap, ◌∙◌, subst, arith}
 use Rattle.std.specs.Global.{Global}
 use mathlib.Core.Option.{some-ne-none}
 use Rattle.atomic_table.specs.declared.shared.Seat.{Seat}
@@ -10,16 +10,17 @@ use Rattle.ca_base.specs.Taking.{HoldsFew}
 use Rattle.ca_replace.specs.Resting.{IsResting}
 use Rattle.ca_rows.specs.declared.kept.Kept.{Kept}
 use Rattle.ca_rows.specs.declared.sizes.Sizes.{Sizes}
+use Rattle.ca_rows.specs.declared.tally.Tally.{Tally}
 use Rattle.ca_rows.specs.declared.view.View.{View}
 use Rattle.ca_rows.specs.Claims.{claim_of}
 use Rattle.ca_rows.specs.Kept.{AreKept}
 use Rattle.ca_rows.specs.Rule.{fresh}
 
 -- Such a pass rests: it knows nothing yet, and keeps nothing.
-pub rests : (table : TableId) (z : Sizes) (number : ℕ) (kept : Vec Kept Global) (seat : Seat (Unit {0}) (View TreeView)) → 0 < number → number ≤ 64
-    → AreKept z.rows seat.me.0.claims kept → (seat.table_id ≡ table) × (seat.me ≡ (fresh z number (blank number), []))
-    → IsResting table z number kept seat
-rests table z number kept seat low few keeps is = record {
+pub rests : (table : TableId) (z : Sizes) (number : ℕ) (tally : Tally) (kept : Vec Kept Global) (seat : Seat (Unit {0}) (View TreeView)) → 0 < number
+    → number ≤ 64 → AreKept z.rows seat.me.0.claims kept → (seat.table_id ≡ table) × (seat.me ≡ (fresh z number (blank number), []))
+    → tally ≡ (record { splits = 0; joins = 0 }) → IsResting table z number tally kept seat
+rests table z number tally kept seat low few keeps is none = record {
   of = (is.0, ap (λ (m : MyTree). m.0.sizes) is.1);
   numbered = (ap (λ (m : MyTree). m.0.pin.number) is.1, low, few);
   same_number = ap (λ (m : MyTree). m.0.upper.number) is.1;
@@ -33,4 +34,8 @@ rests table z number kept seat low few keeps is = record {
     edits = tt;
     by_passes = tt;
   };
+  tallied = (
+    ap (λ (t : Tally). t.splits) none ∙ ap (λ (m : MyTree). min 18446744073709551615 m.0.upper.splits) (sym is.1),
+    ap (λ (t : Tally). t.joins) none ∙ ap (λ (m : MyTree). min 18446744073709551615 m.0.upper.joins) (sym is.1),
+  );
 }

@@ -1,11 +1,14 @@
 pub mod Asking
 pub mod Causing
 pub mod Counted
+pub mod DueCauses
 pub mod Entries
 pub mod Fresh
+pub mod GoingOn
 pub mod Reclaiming
 pub mod Meeting
 pub mod SampleObjects
 pub mod Showing
+pub mod Tallies
 pub mod Telling
 pub mod Turns

@@ -5,10 +5,12 @@ use mathlib.Core.Option.{Option, some, none}
 use Rattle.atomic_table.specs.Seated.{TableId}
 use Rattle.ca_node.specs.Told.{MyTree, IsKnown}
 use Rattle.ca_node.specs.TreeView.{TreeView}
+use Rattle.ca_base.proofs.Tallies.{tallied_as}
 use Rattle.ca_replace.specs.Resting.{IsResting}
 use Rattle.ca_replace.proofs.Turns.{MySeat}
 use Rattle.ca_rows.specs.declared.kept.Kept.{Kept}
 use Rattle.ca_rows.specs.declared.sizes.Sizes.{Sizes}
+use Rattle.ca_rows.specs.declared.tally.Tally.{Tally}
 use Rattle.ca_rows.specs.declared.view.Claim.{Claim}
 use Rattle.ca_rows.specs.declared.view.Claim.TheVariants.{Keeps}
 use Rattle.ca_rows.specs.Claims.{claim_of}
@@ -28,10 +30,10 @@ keeps_still m m' r only row c now = by (claim_of m.0.claims row) refl
         (stays.0, (let same = sym now ∙ stays.2 in cc)))
         (r.kept row keeps.0 (is ∙ ap some keeps.1))
 
-pub rests_still : (table : TableId) (z : Sizes) (number number' : ℕ) (kept kept' : Vec Kept Global) (seat last : MySeat) → IsResting table z number kept seat
-    → number' ≡ number → last.table_id ≡ seat.table_id → Reclaims seat.me last.me → AreKept z.rows last.me.0.claims kept'
-    → IsResting table z number' kept' last
-rests_still table z number number' kept kept' seat last r same there is list = record {
+pub rests_still : (table : TableId) (z : Sizes) (number number' : ℕ) (tally tally' : Tally) (kept kept' : Vec Kept Global) (seat last : MySeat)
+    → IsResting table z number tally kept seat → number' ≡ number → tally' ≡ tally → last.table_id ≡ seat.table_id → Reclaims seat.me last.me
+    → AreKept z.rows last.me.0.claims kept' → IsResting table z number' tally' kept' last
+rests_still table z number number' tally tally' kept kept' seat last r same counted there is list = record {
   of = (there ∙ r.of.0, is.same_sizes ∙ r.of.1);
   numbered = (is.same_number ∙ (r.numbered.0 ∙ sym same), subst (λ n. 0 < n) (sym same) r.numbered.1, subst (λ n. n ≤ 64) (sym same) r.numbered.2);
   same_number = ap (λ (u : TreeView). u.number) is.same_upper ∙ (r.same_number ∙ sym same);
@@ -41,4 +43,5 @@ rests_still table z number number' kept kept' seat last r same there is list = r
   few = let none = r.few.now in let eight = r.few.ever in let held = is.no_more_held in let most = is.least_most in
       record { now = omega arith; ever = omega arith };
   known = subst (IsKnown z) (sym is.same_upper) r.known;
+  tallied = tallied_as tally tally' seat.me.0.upper last.me.0.upper counted is.same_upper r.tallied;
 }

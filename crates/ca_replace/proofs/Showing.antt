@@ -15,7 +15,7 @@ use Rattle.ca_node.specs.Laws.{starts_whole}
 use Rattle.ca_node.specs.Place.{part}
 use Rattle.ca_node.specs.Row.{object, pair}
 use Rattle.ca_node.specs.Told.{MyTree, with_upper, IsKnown, IsReadNow, entered, led_to_base, led_to_route, IsLed, IsLedToBase, IsLedToRoute}
-use Rattle.ca_node.specs.TreeView.{TreeView}
+use Rattle.ca_node.specs.TreeView.{Note, TreeView}
 use Rattle.ca_node.specs.Walking.{walked, IsWalked}
 use Rattle.ca_node.proofs.Looking.{starts_shorter}
 use Rattle.ca_node.proofs.Parts.{part_map, part_get}
@@ -53,6 +53,7 @@ looking z key m m' cursor w most = let u : TreeView = walked m.0.upper w.more w.
             (part_map z.keypos w.note.place.span (after u.seen []) (map_after z.keypos u.seen [] known.edits tt));
       };
       at = record { base = w.cursor_is.base; link = w.cursor_is.link; level = w.cursor_is.level; inside = w.inside };
+      last = refl;
       about = w.sought;
       has = has;
       known = known;
@@ -64,7 +65,13 @@ walked_further z spot m m' cursor w = subst (λ (x : MyTree). IsFurther m.0.uppe
     record { number = refl; seen = (w.more, refl); log = refl; counts = refl }
 
 pub walked_quiet : (z : Sizes) (spot : Spot) (m m' : MyTree) (cursor : Cursor) → IsWalked z spot m cursor m' → IsQuiet m m'
-walked_quiet z spot m m' cursor w = subst (IsQuiet m) (sym w.now) record { lost = refl; met = none_met m; most = refl; splits_are = refl }
+walked_quiet z spot m m' cursor w = subst (IsQuiet m) (sym w.now) record {
+  lost = refl;
+  met = none_met m;
+  most = refl;
+  splits_are = refl;
+  idle = (refl, refl);
+}
 
 -- So it did by the load of a link, after which the history that it has seen is known.
 pub led_further : (z : Sizes) (link : ℕ) (m m' : MyTree) (row : ℕ) → IsLed link m row m' → m.0.sizes ≡ z → 0 < z.rows
@@ -168,20 +175,19 @@ fetched z u cursor at key old l p e = let note = first_note u.notes in let found
   sym e,
 )
 
--- A full base has no room for a key that is new there.
+-- A full base at the last level has no room for a key that is new there.
 pub full_there : (z : Sizes) (u v : TreeView) (cursor : Cursor) (key : List ℕ) (place : Result ℕ ℕ) (many : ℕ) → IsLooking z u key cursor
-    → v.seen ≡ u.seen → IsPlace (map pair (first_note u.notes).objects) key place → ¬ IsRoom place many z.leaf → many ≡ length (first_note u.notes).objects
-    → IsFull z (Some key) (after v.seen [])
-full_there z u v cursor key (Ok at) many l same p no_room is = absurd (no_room tt)
-full_there z u v cursor key (Err at) many l same p no_room is = subst (λ (h : History). IsFull z (Some key) (after h [])) (sym same) (
-  none_found z u cursor key at l p,
-  (
-    (first_note u.notes).place.span,
-    l.about,
-    let long = length-map (first_note u.notes).objects pair in let e = ap (λ (x : StoreMap). length x) l.has in
-        let full : z.leaf ≤ many = not_less z.leaf many no_room in omega arith,
-  ),
-)
+    → (v.seen ≡ u.seen) × (v.last ≡ u.last) → z.levels ≤ (first_note u.notes).place.level → IsPlace (map pair (first_note u.notes).objects) key place
+    → ¬ IsRoom place many z.leaf → many ≡ length (first_note u.notes).objects → IsFull z (Some key) v.last (after v.seen [])
+full_there z u v cursor key (Ok at) many l same level p no_room is = absurd (no_room tt)
+full_there z u v cursor key (Err at) many l same level p no_room is = subst (λ (x : History × Note). IsFull z (Some key) x.1 (after x.0 []))
+    (λ i. (sym same.0 i, sym (same.1 ∙ l.last) i)) (
+      none_found z u cursor key at l p,
+      l.about,
+      level,
+      let long = length-map (first_note u.notes).objects pair in let e = ap (λ (x : StoreMap). length x) l.has in
+          let full : z.leaf ≤ many = not_less z.leaf many no_room in omega arith,
+    )
 
 tried_from : (z : Sizes) (event : Event) (r : Result Bool NoRow) (u v : TreeView) → IsKnown z u → HasTried event z r u v
     → HasTriedTo (λ _ e. e ≡ event) z (come_to r) u v

@@ -10,6 +10,7 @@ use Rattle.ca_model.specs.Event.{Event}
 use Rattle.ca_model.specs.Known.{Counts, Meets, Declines, one_more_busy, one_more_full, one_more_deep, one_more_worn}
 use Rattle.ca_node.specs.Laws.{in_nothing, starts_whole}
 use Rattle.ca_node.specs.Links.{IsIn}
+use Rattle.ca_node.specs.Tallied.{IsTallied}
 use Rattle.ca_node.specs.Told.{MyTree, IsKnown}
 use Rattle.ca_node.specs.TreeView.{TreeView, pinned, unpinned}
 use Rattle.ca_replace.specs.declared.attempting.Stop.{Stop}
@@ -21,6 +22,7 @@ use Rattle.ca_base.specs.Taking.{AreHeld, HoldsFew}
 use Rattle.ca_rows.specs.declared.kept.Kept.{Kept}
 use Rattle.ca_rows.specs.declared.kept.KeptRows.{KeptRows}
 use Rattle.ca_rows.specs.declared.sizes.Sizes.{Sizes}
+use Rattle.ca_rows.specs.declared.tally.Tally.{Tally}
 use Rattle.ca_rows.specs.declared.view.Pin.{Pin}
 use Rattle.ca_rows.specs.declared.view.View.{View}
 use Rattle.ca_rows.specs.Claims.{claim_of}
@@ -35,7 +37,8 @@ pub known_unpinned : (z : Sizes) (u : TreeView) → IsKnown z u → IsKnown z (u
 known_unpinned z u k = record { lawful = k.lawful; past = k.past; edits = k.edits; by_passes = k.by_passes }
 
 -- A pass that rests holds no row.
-pub holds_none : (table : TableId) (z : Sizes) (number : ℕ) (kept : Vec Kept Global) (seat : MySeat) → IsResting table z number kept seat
+pub holds_none : {tally : Tally} (table : TableId) (z : Sizes) (number : ℕ) (kept : Vec Kept Global) (seat : MySeat)
+    → IsResting table z number tally kept seat
     → AreHeld z.rows kept seat.me.0 []
 holds_none table z number kept seat r = (
   record {
@@ -74,13 +77,14 @@ tried_known tells z (Ok x) u v h = (h.1, h.0.2.number)
 tried_known tells z (Err stop) u v h = (h.1, h.0.number)
 
 -- A pass that was pinned, tried, and unpinned rests again.
-pub rests_again : (table : TableId) (z : Sizes) (number : ℕ) (kept kept' : Vec Kept Global) (seat one two last : MySeat) → IsResting table z number kept seat
+pub rests_again : {tally tally' : Tally} (table : TableId) (z : Sizes) (number : ℕ) (kept kept' : Vec Kept Global) (seat one two last : MySeat)
+    → IsResting table z number tally kept seat
     → (one.me.0.sizes ≡ seat.me.0.sizes) × (one.me.0.pin.number ≡ seat.me.0.pin.number) × (one.me.0.upper.number ≡ seat.me.0.upper.number)
     → two.table_id ≡ seat.table_id → (two.me.0.sizes ≡ one.me.0.sizes) × (two.me.0.pin ≡ one.me.0.pin) → AreHeld z.rows kept' two.me.0 []
     → IsKnown z two.me.0.upper × (two.me.0.upper.number ≡ one.me.0.upper.number) → last.table_id ≡ two.table_id
     → last.me ≡ (record two.me.0 { pin = record two.me.0.pin { pinned = false }; upper = unpinned two.me.0.upper }, two.me.1)
-    → IsResting table z number kept' last
-rests_again table z number kept kept' seat one two last r pin table_two work held known table_last unpin = record {
+    → (IsTallied tally seat.me.0.upper → IsTallied tally' two.me.0.upper) → IsResting table z number tally' kept' last
+rests_again {tally' = tally'} table z number kept kept' seat one two last r pin table_two work held known table_last unpin counted = record {
   of = (table_last ∙ (table_two ∙ r.of.0), ap (λ (m : MyTree). m.0.sizes) unpin ∙ (work.0 ∙ (pin.0 ∙ r.of.1)));
   numbered = (ap (λ (m : MyTree). m.0.pin.number) unpin ∙ (ap (λ (e : Pin). e.number) work.1 ∙ (pin.1 ∙ r.numbered.0)), r.numbered.1, r.numbered.2);
   same_number = ap (λ (m : MyTree). m.0.upper.number) unpin ∙ (known.1 ∙ (pin.2 ∙ r.same_number));
@@ -90,14 +94,15 @@ rests_again table z number kept kept' seat one two last r pin table_two work hel
   are_kept = subst (λ (m : MyTree). AreKept z.rows m.0.claims kept') (sym unpin) held.0.are_kept;
   few = subst (λ (m : MyTree). HoldsFew 0 m.0) (sym unpin) (record { now = held.1.now; ever = held.1.ever });
   known = subst (λ (m : MyTree). IsKnown z m.0.upper) (sym unpin) (known_unpinned z two.me.0.upper known.0);
+  tallied = subst (λ (m : MyTree). IsTallied tally' m.0.upper) (sym unpin) (counted r.tallied);
 }
 
 -- A pass that rests and is counted a refusal rests.
-pub rests_refused : (table : TableId) (z : Sizes) (number : ℕ) (kept : Vec Kept Global) (seat last : MySeat) (counts : Counts)
-    → IsResting table z number kept seat → last.table_id ≡ seat.table_id
+pub rests_refused : {tally : Tally} (table : TableId) (z : Sizes) (number : ℕ) (kept : Vec Kept Global) (seat last : MySeat) (counts : Counts)
+    → IsResting table z number tally kept seat → last.table_id ≡ seat.table_id
     → last.me ≡ (record seat.me.0 { upper = record seat.me.0.upper { counts = counts } }, seat.me.1)
-    → IsResting table z number kept last
-rests_refused table z number kept seat last counts r same is = record {
+    → IsResting table z number tally kept last
+rests_refused {tally = tally} table z number kept seat last counts r same is = record {
   of = (same ∙ r.of.0, ap (λ (m : MyTree). m.0.sizes) is ∙ r.of.1);
   numbered = (ap (λ (m : MyTree). m.0.pin.number) is ∙ r.numbered.0, r.numbered.1, r.numbered.2);
   same_number = ap (λ (m : MyTree). m.0.upper.number) is ∙ r.same_number;
@@ -107,6 +112,7 @@ rests_refused table z number kept seat last counts r same is = record {
   few = subst (λ (m : MyTree). HoldsFew 0 m.0) (sym is) (record { now = r.few.now; ever = r.few.ever });
   known = subst (λ (m : MyTree). IsKnown z m.0.upper) (sym is)
       record { lawful = r.known.lawful; past = r.known.past; edits = r.known.edits; by_passes = r.known.by_passes };
+  tallied = subst (λ (m : MyTree). IsTallied tally m.0.upper) (sym is) r.tallied;
 }
 
 pub is_refused : (rise : Counts → Counts) (m m' : MyTree) → m' ≡ (record m.0 { upper = record m.0.upper { counts = rise m.0.upper.counts } }, m.1)
@@ -115,13 +121,14 @@ is_refused rise m m' is = subst (λ (y : MyTree). IsRefused rise m.0.upper y.0.u
     record { number = refl; seen = starts_whole m.0.upper.seen; log = refl; counts = refl }
 
 -- The same pass, by the names that it has now.
-pub rests_as : (table : TableId) (z : Sizes) (number number' : ℕ) (kept kept' : KeptRows) (seat : MySeat) → number' ≡ number → kept' ≡ kept
-    → IsResting table z number kept.rows seat → IsResting table z number' kept'.rows seat
-rests_as table z number number' kept kept' seat a b r = subst (λ (x : ℕ × KeptRows). IsResting table z x.0 x.1.rows seat) (λ i. (sym a i, sym b i)) r
+pub rests_as : {tally tally' : Tally} (table : TableId) (z : Sizes) (number number' : ℕ) (kept kept' : KeptRows) (seat : MySeat) → number' ≡ number
+    → tally' ≡ tally → kept' ≡ kept → IsResting table z number tally kept.rows seat → IsResting table z number' tally' kept'.rows seat
+rests_as table z number number' kept kept' seat a t b r = subst (λ (x : ℕ × Tally × KeptRows). IsResting table z x.0 x.1 x.2.rows seat)
+    (λ i. (sym a i, sym t i, sym b i)) r
 
 -- After it pinned it holds no row.
-pub none_pinned : (table : TableId) (z : Sizes) (number : ℕ) (kept kept' : KeptRows) (seat one : MySeat) (e : Pin) (u : TreeView)
-    → IsResting table z number kept.rows seat → one.me ≡ (record seat.me.0 { pin = e; upper = u }, seat.me.1) → kept' ≡ kept
+pub none_pinned : {tally : Tally} (table : TableId) (z : Sizes) (number : ℕ) (kept kept' : KeptRows) (seat one : MySeat) (e : Pin) (u : TreeView)
+    → IsResting table z number tally kept.rows seat → one.me ≡ (record seat.me.0 { pin = e; upper = u }, seat.me.1) → kept' ≡ kept
     → AreHeld z.rows kept'.rows one.me.0 []
 none_pinned table z number kept kept' seat one e u r is same = let none = holds_none table z number kept.rows seat r in
     subst (λ (x : MyTree × KeptRows). AreHeld z.rows x.1.rows x.0.0 []) (λ i. (sym is i, sym same i))

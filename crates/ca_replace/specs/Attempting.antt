@@ -29,6 +29,7 @@ use Rattle.ca_rows.specs.declared.sizes.Sizes.{Sizes}
 pub record IsLooking (z : Sizes) (u : TreeView) (key : List ℕ) (cursor : Cursor) : Type 0 where
   pub readable : IsReadable z u cursor.base (first_note u.notes)
   pub at : IsAtCursor z (first_note u.notes) cursor
+  pub last : u.last ≡ first_note u.notes
   pub about : HasKey (first_note u.notes).place.span key
   pub has : map pair (first_note u.notes).objects ≡ part (first_note u.notes).place.span (after u.seen [])
   pub known : IsKnown z u
@@ -79,10 +80,10 @@ refused_as (Err stop.Empty) spent levels = Err (refusal.Busy spent)
 refused_as (Err stop.Worn) spent levels = Err (refusal.Worn counter.PoolTag)
 refused_as (Err stop.Deep) spent levels = Err (refusal.Deep levels)
 
--- What an attempt met of the pool, by what it came to: where no row was free, the head was empty once; where the tag can rise no more, it was at
+-- What an attempt met of the pool that did not do the call, by what it came to: where no row was free, the head was empty once; where the tag can rise no more, it was at
 -- its last value once.
 abbrev pub HasMetBy : {T : Type 0} → Result T Stop → MyTree → MyTree → Type 0
-HasMetBy (Ok x) m m' = HasMet 0 0 m m'
+HasMetBy (Ok x) m m' = Unit {0}
 HasMetBy (Err stop.Lost) m m' = HasMet 0 0 m m'
 HasMetBy (Err stop.Split) m m' = HasMet 0 0 m m'
 HasMetBy (Err stop.Empty) m m' = HasMet 1 0 m m'
@@ -115,6 +116,8 @@ pub record IsQuiet (m m' : MyTree) : Type 0 where
   pub met : HasMet 0 0 m m'
   pub most : m'.0.most ≡ m.0.most
   pub splits_are : splits m' ≡ splits m
+  -- Nothing was updated.
+  pub idle : (m'.0.upper.renewal ≡ m.0.upper.renewal) × (m'.0.upper.lost ≡ m.0.upper.lost)
 
 -- Where the call is refused for want of levels, this holds.
 abbrev pub IfDeep : {T : Type 0} → Outcome T → Type 0 → Type 0

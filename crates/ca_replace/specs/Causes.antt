@@ -10,8 +10,9 @@ use Rattle.ca_model.specs.declared.outcome.Spent.{Spent}
 use Rattle.ca_base.specs.Counting.{losses}
 use Rattle.ca_model.specs.History.{after}
 use Rattle.ca_model.specs.StoreMap.{StoreMap, IsFound}
-use Rattle.ca_node.specs.Place.{Span, HasKey, part}
+use Rattle.ca_node.specs.Place.{HasKey, part}
 use Rattle.ca_node.specs.Told.{MyTree}
+use Rattle.ca_node.specs.TreeView.{Note}
 use Rattle.ca_replace.specs.Attempting.{splits, total}
 use Rattle.ca_replace.specs.Resting.{StoreView}
 use Rattle.ca_replace.specs.declared.refusing.Refusal.{Refusal}
@@ -42,11 +43,12 @@ IsRefill passes number budget begun spent (refusal.Worn counter.Sequence) m m' k
 abbrev pub HasBegun : ℕ → ℕ → MyTree → MyTree → Type 0
 HasBegun begun kept m m' = ((begun ≡ kept) × (m'.0.empty ≡ m.0.empty + 1)) ⊎ (m.0.empty + 2 ≤ m'.0.empty)
 
--- A call that may add this key, if any, finds no room: no object of the map has the key, and of some part of the keys, which has this one, there
--- are as many objects as a leaf may have.
-abbrev pub IsFull : Sizes → Option (List ℕ) → StoreMap → Type 0
-IsFull z None map = ⊥
-IsFull z (Some key) map = IsFound map key None × ((span : Span) × HasKey span key × (z.leaf ≤ length (part span map)))
+-- A call that may add this key, if any, finds no room in this base, given the map: no object of the map has the key, it is led to the base, which stands
+-- at the last level, and of the keys that are led there the map has as many objects as a base may have.
+abbrev pub IsFull : Sizes → Option (List ℕ) → Note → StoreMap → Type 0
+IsFull z None base map = ⊥
+IsFull z (Some key) base map = IsFound map key None × HasKey base.place.span key × (z.levels ≤ base.place.level)
+    × (z.leaf ≤ length (part base.place.span map))
 
 -- A call with this budget that may add this key, if any, may be refused so, given what its pass knew and kept before it and what it knows and keeps behind it.
 abbrev pub IsCaused : Sizes → ℕ → ℕ → Option (List ℕ) → Refusal → MyTree → Vec Kept Global → MyTree → Vec Kept Global → Type 0
@@ -56,8 +58,8 @@ IsCaused z number budget adds (refusal.Busy spent) m kept m' kept' = (budget ≤
 -- The last attempt found the head empty. It began with no row kept, or another pass lagged as rows were given back in this call.
 IsCaused z number budget adds (refusal.Full cause) m kept m' kept' = HasBegun cause.kept (vec_len kept) m m' × ((cause.kept ≡ 0) ⊎ (cause.lag ≢ None))
     × HasLooked m m' × IsLag z.passes number cause.lag m'.0.pin
--- By the last state that the pass has seen the key is a new one, and there is no room for it in a base at the last level.
-IsCaused z number budget adds (refusal.Deep level) m kept m' kept' = (level ≡ z.levels) × IsFull z adds (after m'.0.upper.seen [])
+-- By the last state that the pass has seen the key is a new one, and there is no room for it in the base that was shown last, at the last level.
+IsCaused z number budget adds (refusal.Deep level) m kept m' kept' = (level ≡ z.levels) × IsFull z adds m'.0.upper.last (after m'.0.upper.seen [])
 -- The head's tag was at its last value as a row was to be taken.
 IsCaused z number budget adds (refusal.Worn counter.PoolTag) m kept m' kept' = m'.0.worn ≡ m.0.worn + 1
 -- The last attempt found the head empty, the epoch was at its last value as rows were given back in this call, and rows are kept.

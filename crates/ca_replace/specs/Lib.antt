@@ -1,3 +1,4 @@
+pub mod Adapting
 pub mod Attempting
 pub mod Causes
 pub mod Made

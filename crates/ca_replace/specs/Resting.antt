@@ -4,13 +4,17 @@ use Rattle.std.specs.Global.{Global}
 use mathlib.Core.Option.{some}
 use Rattle.atomic_table.specs.declared.shared.Seat.{Seat}
 use Rattle.atomic_table.specs.Seated.{TableId}
+use Rattle.ca_adapt.specs.declared.tuning.Tuning.{Tuning}
 use Rattle.ca_model.specs.History.{after}
 use Rattle.ca_model.specs.Known.{Known}
+use Rattle.ca_node.specs.Tallied.{IsTallied}
 use Rattle.ca_node.specs.Told.{IsKnown}
 use Rattle.ca_node.specs.TreeView.{TreeView}
 use Rattle.ca_base.specs.Taking.{HoldsFew}
+use Rattle.ca_replace.specs.declared.adapting.Last.{Last}
 use Rattle.ca_rows.specs.declared.kept.Kept.{Kept}
 use Rattle.ca_rows.specs.declared.sizes.Sizes.{Sizes}
+use Rattle.ca_rows.specs.declared.tally.Tally.{Tally}
 use Rattle.ca_rows.specs.declared.view.Claim.{Claim}
 use Rattle.ca_rows.specs.declared.view.Claim.TheVariants.{Keeps}
 use Rattle.ca_rows.specs.declared.view.View.{View}
@@ -20,7 +24,7 @@ use Rattle.ca_rows.specs.Kept.{AreKept}
 
 -- The pass with this number is one of this table. It isn't pinned, has no rows but those that it keeps, and its log is lawful for the
 -- history that it has seen.
-pub record IsResting (table : TableId) (z : Sizes) (number : ℕ) (kept : Vec Kept Global) (seat : Seat (Unit {0}) (View TreeView)) : Type 0 where
+pub record IsResting (table : TableId) (z : Sizes) (number : ℕ) (tally : Tally) (kept : Vec Kept Global) (seat : Seat (Unit {0}) (View TreeView)) : Type 0 where
   pub of : IsOf table z seat
   pub numbered : IsNumbered number seat.me.0.pin
   pub same_number : seat.me.0.upper.number ≡ number
@@ -30,18 +34,23 @@ pub record IsResting (table : TableId) (z : Sizes) (number : ℕ) (kept : Vec Ke
   -- It holds no row, and never held more than eight at once.
   pub few : HoldsFew 0 seat.me.0
   pub known : IsKnown z seat.me.0.upper
+  -- It counted the splits and the joins that it carried out.
+  pub tallied : IsTallied tally seat.me.0.upper
 
--- what contracts see of a pass on a tree: the tree's table, what it was made with, and the pass
+-- what contracts see of a pass on a tree: the tree's table, what it was made with, the pass, and what is kept of its last update by the store
 pub record StoreView : Type 0 where
   pub table : TableId
   pub z : Sizes
+  pub tuning : Tuning
   pub number : ℕ
+  pub tally : Tally
   pub kept : Vec Kept Global
   pub seat : Seat (Unit {0}) (View TreeView)
+  pub last : Last
 
 -- The pass is one of that table, and rests.
 abbrev pub Rests : StoreView → Type 0
-Rests s = IsResting s.table s.z s.number s.kept s.seat
+Rests s = IsResting s.table s.z s.number s.tally s.kept s.seat
 
 -- What a pass knows of the map, as a store: each of the 64 passes that there may be may edit it, any call may be refused, and each finds
 -- its own room.

@@ -1,5 +1,5 @@
 //! Attempts of a call that edits.
-ghost use Rattle.std.specs.Prelude.{◌≡◌, ◌≢◌, ◌<◌, ◌≤◌, ◌↔◌, ℕ, Err, List, Ok, OnOk, Some, [], length, map, slice_range, true, IsTrue};
+ghost use Rattle.std.specs.Prelude.{◌≡◌, ◌≢◌, ◌<◌, ◌≤◌, ◌↔◌, ℕ, Bool, Err, List, Ok, OnOk, Some, [], false, length, map, slice_range, true, IsTrue};
 ghost use Rattle.std.specs.declared.option.Option.{Option};
 ghost use Rattle.ca_model.proofs.Places.{IsPlace};
 ghost use Rattle.ca_model.specs.Event.{Event, Remove};
@@ -7,9 +7,11 @@ ghost use Rattle.ca_model.specs.History.{after};
 ghost use Rattle.ca_model.specs.StoreMap.{IsPair};
 ghost use Rattle.ca_node.specs.Row.{pair};
 ghost use Rattle.ca_replace.specs.declared.attempting.Stop.TheVariants.{Deep as IsDeep};
+ghost use Rattle.ca_replace.specs.Adapting.{HasGoneOn, MeetsAs, Waits};
 ghost use Rattle.ca_replace.specs.Causes.{IsFull};
 ghost use Rattle.ca_replace.specs.Attempting.{IsLooking, HasFetched, HasTriedTo, come_to, split_to, HasStopped, IsPaid, IsQuiet};
-ghost use Rattle.ca_replace.specs.Made.{IsTuned};
+ghost use Rattle.ca_adapt.specs.Tuned.{IsTuned};
+ghost use Rattle.ca_node.specs.Tallied.{IsTallied};
 ghost use Rattle.ca_node.specs.Told.{IsKnown};
 ghost use Rattle.ca_base.specs.Progress.{IsFurther};
 ghost use Rattle.ca_base.specs.Putting.{object_at, IsRoom, IsFor, first_note, put_event};
@@ -17,9 +19,10 @@ ghost use Rattle.ca_base.specs.Taking.{AreHeld};
 ghost use Rattle.ca_rows.specs.declared.sizes.Sizes.{Sizes};
 ghost use Rattle.ca_rows.specs.Calls.{IsOf, IsSame};
 
+use crate::adapting::{Adapting, next_statistic, settle};
 use crate::looking::copy_at;
-use ca_adapt::Tuning;
-use ca_base::{NoRow, Putting, STATISTIC, count, put_at, remove_at, search, split_at};
+use ca_adapt::{Tuning, word_of};
+use ca_base::{NoRow, Putting, count, put_at, remove_at, search, split_at};
 use ca_model::{Code, Spent};
 use ca_node::{Cursor, Spot, TreePass, TreeSpace, walk};
 
@@ -61,6 +64,9 @@ pub(crate) trait Attempt {
     /// The key that the call may add, if any, for which a base may have no room.
     ghost adds: { Self → Option (List ℕ) };
 
+    /// Whether the call edits the map, given its answer.
+    ghost edits: { Self → Self.Answer → Bool };
+
     /// One attempt, of a pass that is pinned and holds no row.
     fn attempt(
         &self,
@@ -69,6 +75,7 @@ pub(crate) trait Attempt {
         tuning: &Tuning,
         left: &mut Self::Left,
         room: &mut Self::Room,
+        adapting: &mut Adapting,
         spent: &mut Spent,
     ) -> Result<Self::Answer, Stop>
         requires own { IsOf space.now.table.shared.table_id space.now.table.shared.key pass.old.seat }
@@ -79,11 +86,16 @@ pub(crate) trait Attempt {
         requires may { may self.now space.now.table.shared.key }
         ensures same { IsSame pass.old.seat pass.new.seat }
         ensures number { pass.new.number ≡ pass.old.number }
+        ensures tally { IsTallied pass.old.tally pass.old.seat.me.0.upper → IsTallied pass.new.tally pass.new.seat.me.0.upper }
         ensures pin { (pass.new.seat.me.0.sizes ≡ pass.old.seat.me.0.sizes) × (pass.new.seat.me.0.pin ≡ pass.old.seat.me.0.pin) }
         ensures none { AreHeld space.now.table.shared.key.rows pass.new.kept.rows pass.new.seat.me.0 [] }
         ensures tried { HasTriedTo (λ answer. tells self.now answer left.new) space.now.table.shared.key result pass.old.seat.me.0.upper
             pass.new.seat.me.0.upper }
-        ensures deep { result ≡ Err IsDeep → IsFull space.now.table.shared.key (adds self.now) (after pass.new.seat.me.0.upper.seen []) }
+        ensures deep { result ≡ Err IsDeep → IsFull space.now.table.shared.key (adds self.now) pass.new.seat.me.0.upper.last
+            (after pass.new.seat.me.0.upper.seen []) }
+        ensures met_as { MeetsAs (edits self.now) adapting.new.last result pass.old.seat.me pass.new.seat.me }
+        ensures gone_on { HasGoneOn (edits self.now) space.now.table.shared.key tuning.now adapting.old adapting.new result pass.old.seat.me.0.upper
+            pass.new.seat.me.0.upper }
         ensures counted { IsPaid spent.old spent.new pass.old.seat.me pass.new.seat.me }
         ensures found { HasStopped result pass.old.seat.me pass.new.seat.me };
 }
@@ -95,6 +107,7 @@ pub(crate) fn find(space: &TreeSpace, pass: &mut TreePass, key: &[u8]) -> (Curso
     requires leaf { space.now.table.shared.key.leaf ≤ 120 }
     ensures same { IsSame pass.old.seat pass.new.seat }
     ensures number { pass.new.number ≡ pass.old.number }
+    ensures tally { IsTallied pass.old.tally pass.old.seat.me.0.upper → IsTallied pass.new.tally pass.new.seat.me.0.upper }
     ensures kept { pass.new.kept ≡ pass.old.kept }
     ensures still { (pass.new.seat.me.0.sizes ≡ pass.old.seat.me.0.sizes) × (pass.new.seat.me.0.pin ≡ pass.old.seat.me.0.pin)
         × (pass.new.seat.me.0.claims ≡ pass.old.seat.me.0.claims) }
@@ -120,6 +133,7 @@ pub(crate) fn fetch(
     requires leaf { space.now.table.shared.key.leaf ≤ 120 }
     ensures same { IsSame pass.old.seat pass.new.seat }
     ensures number { pass.new.number ≡ pass.old.number }
+    ensures tally { IsTallied pass.old.tally pass.old.seat.me.0.upper → IsTallied pass.new.tally pass.new.seat.me.0.upper }
     ensures kept { pass.new.kept ≡ pass.old.kept }
     ensures still { (pass.new.seat.me.0.sizes ≡ pass.old.seat.me.0.sizes) × (pass.new.seat.me.0.pin ≡ pass.old.seat.me.0.pin)
         × (pass.new.seat.me.0.claims ≡ pass.old.seat.me.0.claims) }
@@ -148,6 +162,7 @@ pub(crate) fn put_there(
     object: &[u8],
     key_at: usize,
     key_end: usize,
+    adapting: &mut Adapting,
     spent: &mut Spent,
 ) -> Result<(), Stop>
     requires own { IsOf space.now.table.shared.table_id space.now.table.shared.key pass.old.seat }
@@ -162,6 +177,7 @@ pub(crate) fn put_there(
     requires call { IsFor why place }
     ensures same { IsSame pass.old.seat pass.new.seat }
     ensures number { pass.new.number ≡ pass.old.number }
+    ensures tally { IsTallied pass.old.tally pass.old.seat.me.0.upper → IsTallied pass.new.tally pass.new.seat.me.0.upper }
     ensures pin { (pass.new.seat.me.0.sizes ≡ pass.old.seat.me.0.sizes) × (pass.new.seat.me.0.pin ≡ pass.old.seat.me.0.pin) }
     ensures none { AreHeld space.now.table.shared.key.rows pass.new.kept.rows pass.new.seat.me.0 [] }
     ensures tried { HasTriedTo (λ _ event. event ≡ put_event why (slice_range object.now key_at key_end)
@@ -169,18 +185,38 @@ pub(crate) fn put_there(
         pass.new.seat.me.0.upper }
     ensures deep { OnOk place (result ≢ Err IsDeep) }
     ensures full { result ≡ Err IsDeep → IsFull space.now.table.shared.key (Some (slice_range object.now key_at key_end))
-        (after pass.new.seat.me.0.upper.seen []) }
+        pass.new.seat.me.0.upper.last (after pass.new.seat.me.0.upper.seen []) }
+    ensures met_as { MeetsAs (λ _. true) adapting.new.last result pass.old.seat.me pass.new.seat.me }
+    ensures gone_on { HasGoneOn (λ _. true) space.now.table.shared.key tuning.now adapting.old adapting.new result pass.old.seat.me.0.upper
+        pass.new.seat.me.0.upper }
     ensures counted { IsPaid spent.old spent.new pass.old.seat.me pass.new.seat.me }
     ensures found { HasStopped result pass.old.seat.me pass.new.seat.me }
 {
     let many = count(space, pass, cursor.base);
     if !has_room(many, place, tuning.leaf) {
-        return Err(make_room(space, pass, tuning, cursor, many, spent));
+        return Err(make_room(space, pass, tuning, cursor, many, adapting, spent));
     }
+    let statistic = next_statistic(space, pass, tuning, cursor.base, adapting.lost);
+    let word = word_of(statistic);
+    let mut placed = 0;
     let tried = put_at(
-        space, pass, cursor, many, place, why, object, key_at, key_end, STATISTIC, spent,
+        space,
+        pass,
+        cursor,
+        many,
+        place,
+        why,
+        object,
+        key_at,
+        key_end,
+        word,
+        &mut placed,
+        spent,
     );
-    outcome_of(tried)
+    let key = &object[key_at..key_end];
+    settle(
+        space, pass, tuning, key, placed, statistic, tried, adapting, spent,
+    )
 }
 
 // What an attempt comes to that met a full base: it splits the base, if that isn't at the last level.
@@ -190,6 +226,7 @@ fn make_room(
     tuning: &Tuning,
     cursor: Cursor,
     many: u32,
+    adapting: &mut Adapting,
     spent: &mut Spent,
 ) -> Stop
     requires own { IsOf space.now.table.shared.table_id space.now.table.shared.key pass.old.seat }
@@ -200,10 +237,13 @@ fn make_room(
     requires many { (many ≡ length (first_note pass.old.seat.me.0.upper.notes).objects) × (tuning.now.leaf ≤ many) }
     ensures same { IsSame pass.old.seat pass.new.seat }
     ensures number { pass.new.number ≡ pass.old.number }
+    ensures tally { IsTallied pass.old.tally pass.old.seat.me.0.upper → IsTallied pass.new.tally pass.new.seat.me.0.upper }
     ensures pin { (pass.new.seat.me.0.sizes ≡ pass.old.seat.me.0.sizes) × (pass.new.seat.me.0.pin ≡ pass.old.seat.me.0.pin) }
     ensures none { AreHeld space.now.table.shared.key.rows pass.new.kept.rows pass.new.seat.me.0 [] }
     ensures further { IsFurther pass.old.seat.me.0.upper pass.new.seat.me.0.upper × IsKnown space.now.table.shared.key pass.new.seat.me.0.upper }
-    ensures same_seen { pass.new.seat.me.0.upper.seen ≡ pass.old.seat.me.0.upper.seen }
+    ensures same_seen { (pass.new.seat.me.0.upper.seen ≡ pass.old.seat.me.0.upper.seen) × (pass.new.seat.me.0.upper.last ≡ pass.old.seat.me.0.upper.last) }
+    ensures deep { result ≡ IsDeep → space.now.table.shared.key.levels ≤ (first_note pass.old.seat.me.0.upper.notes).place.level }
+    ensures waits { Waits adapting.old adapting.new pass.old.seat.me.0.upper pass.new.seat.me.0.upper }
     ensures counted { IsPaid spent.old spent.new pass.old.seat.me pass.new.seat.me }
     ensures found { HasStopped {T = Unit {0}} (Err result) pass.old.seat.me pass.new.seat.me }
 {
@@ -216,6 +256,9 @@ fn make_room(
     if is_split(&split) {
         spent.passed = spent.passed.saturating_add(1);
     }
+    if is_lost(&split) {
+        adapting.lost = true;
+    }
     stop_of(split)
 }
 
@@ -224,6 +267,13 @@ fn is_split(split: &Result<bool, NoRow>) -> bool
     ensures { IsTrue result ↔ (split.now ≡ Ok true) }
 {
     matches!(split, Ok(true))
+}
+
+// Whether the exchange of the base was lost.
+fn is_lost(split: &Result<bool, NoRow>) -> bool
+    ensures { IsTrue result ↔ (split.now ≡ Ok false) }
+{
+    matches!(split, Ok(false))
 }
 
 // What an attempt comes to that split a full base, by what became of its exchange.
@@ -242,35 +292,46 @@ fn stop_of(split: Result<bool, NoRow>) -> Stop
 pub(crate) fn remove_there(
     space: &TreeSpace,
     pass: &mut TreePass,
+    tuning: &Tuning,
     cursor: Cursor,
     at: u32,
     key: &[u8],
+    adapting: &mut Adapting,
     spent: &mut Spent,
 ) -> Result<(), Stop>
     requires own { IsOf space.now.table.shared.table_id space.now.table.shared.key pass.old.seat }
     requires pinned { pass.old.seat.me.0.pin.pinned ≡ true }
     requires number { 0 < pass.old.seat.me.0.upper.number }
     requires none { AreHeld space.now.table.shared.key.rows pass.old.kept.rows pass.old.seat.me.0 [] }
-    requires leaf { space.now.table.shared.key.leaf ≤ 120 }
+    requires tuned { IsTuned space.now.table.shared.key tuning.now }
     requires looking { IsLooking space.now.table.shared.key pass.old.seat.me.0.upper key.now cursor }
     requires place { IsPlace (map pair (first_note pass.old.seat.me.0.upper.notes).objects) key.now (Ok at) }
     ensures same { IsSame pass.old.seat pass.new.seat }
     ensures number { pass.new.number ≡ pass.old.number }
+    ensures tally { IsTallied pass.old.tally pass.old.seat.me.0.upper → IsTallied pass.new.tally pass.new.seat.me.0.upper }
     ensures pin { (pass.new.seat.me.0.sizes ≡ pass.old.seat.me.0.sizes) × (pass.new.seat.me.0.pin ≡ pass.old.seat.me.0.pin) }
     ensures none { AreHeld space.now.table.shared.key.rows pass.new.kept.rows pass.new.seat.me.0 [] }
     ensures tried { HasTriedTo (λ _ event. event ≡ Remove key.now (Some (object_at (Ok at) (first_note pass.old.seat.me.0.upper.notes).objects)))
         space.now.table.shared.key result pass.old.seat.me.0.upper pass.new.seat.me.0.upper }
     ensures deep { result ≢ Err IsDeep }
+    ensures met_as { MeetsAs (λ _. true) adapting.new.last result pass.old.seat.me pass.new.seat.me }
+    ensures gone_on { HasGoneOn (λ _. true) space.now.table.shared.key tuning.now adapting.old adapting.new result pass.old.seat.me.0.upper
+        pass.new.seat.me.0.upper }
     ensures counted { IsPaid spent.old spent.new pass.old.seat.me pass.new.seat.me }
     ensures found { HasStopped result pass.old.seat.me pass.new.seat.me }
 {
     let many = count(space, pass, cursor.base);
-    let tried = remove_at(space, pass, cursor, many, at, key, STATISTIC, spent);
-    outcome_of(tried)
+    let statistic = next_statistic(space, pass, tuning, cursor.base, adapting.lost);
+    let word = word_of(statistic);
+    let mut placed = 0;
+    let tried = remove_at(space, pass, cursor, many, at, key, word, &mut placed, spent);
+    settle(
+        space, pass, tuning, key, placed, statistic, tried, adapting, spent,
+    )
 }
 
-// What an attempt comes to, by what became of its exchange.
-fn outcome_of(tried: Result<bool, NoRow>) -> Result<(), Stop>
+/// What an attempt comes to, by what became of its exchange.
+pub(crate) fn outcome_of(tried: Result<bool, NoRow>) -> Result<(), Stop>
     ensures value { result ≡ come_to tried }
     ensures deep { result ≢ Err IsDeep }
 {

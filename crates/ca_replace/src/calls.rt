@@ -5,11 +5,13 @@ ghost use Rattle.ca_model.specs.History.{after};
 ghost use Rattle.ca_replace.specs.declared.attempting.Stop.TheVariants.{Deep as IsDeep, Empty as IsEmpty, Lost as IsLost, Split as IsSplit};
 ghost use Rattle.ca_node.specs.Told.{with_upper};
 ghost use Rattle.ca_replace.specs.Attempting.{IsPaid, total, HasAttempted, HasDoneAs, HasMetBy, HasStopped, HasTriedTo, IfDeep, refused_as};
+ghost use Rattle.ca_replace.specs.Adapting.{HasGoneOn, HasMetAs, LeavesAs, MeetsAs};
 ghost use Rattle.ca_replace.specs.Causes.{IfRefusedAs, IsCaused, IsFull, KeepsFew};
 ghost use Rattle.ca_base.specs.Progress.{IsRefused};
 ghost use Rattle.ca_replace.specs.Refusals.{outcome_of, risen};
 ghost use Rattle.ca_replace.specs.Resting.{IsResting};
 
+use crate::adapting::{Adapting, Last};
 use crate::attempting::{Attempt, Stop};
 use crate::giving::{add, keep_few, refill, spent_in_all};
 use crate::refusing::{Refusal, refuse};
@@ -24,12 +26,15 @@ pub(crate) fn call<A: Attempt>(
     what: &A,
     left: &mut A::Left,
     room: &mut A::Room,
+    last: &mut Last,
     budget: u32,
 ) -> Outcome<A::Answer>
-    requires resting { IsResting tree.now.space.table.shared.table_id tree.now.space.table.shared.key pass.old.number pass.old.kept.rows pass.old.seat }
+    requires resting { IsResting tree.now.space.table.shared.table_id tree.now.space.table.shared.key pass.old.number pass.old.tally
+        pass.old.kept.rows pass.old.seat }
     requires may { A.may what.now tree.now.space.table.shared.key }
     ensures number { pass.new.number ≡ pass.old.number }
-    ensures resting { IsResting tree.now.space.table.shared.table_id tree.now.space.table.shared.key pass.new.number pass.new.kept.rows pass.new.seat }
+    ensures resting { IsResting tree.now.space.table.shared.table_id tree.now.space.table.shared.key pass.new.number pass.new.tally
+        pass.new.kept.rows pass.new.seat }
     ensures done { IfDone result (λ answer. HasDoneAs (A.tells what.now answer left.new) pass.old.seat.me.0.upper pass.new.seat.me.0.upper) }
     ensures refused { IfRefused result (λ rise. IsRefused rise pass.old.seat.me.0.upper pass.new.seat.me.0.upper) }
     ensures deep { IfDeep result (A.adds what.now ≢ None) }
@@ -37,14 +42,33 @@ pub(crate) fn call<A: Attempt>(
     ensures caused { IfRefusedAs result (λ why. IsCaused tree.now.space.table.shared.key pass.old.number budget (A.adds what.now)
         why pass.old.seat.me pass.old.kept.rows pass.new.seat.me pass.new.kept.rows) }
     ensures few { KeepsFew pass.old.seat.me pass.new.seat.me pass.new.kept.rows }
+    ensures met_as { HasMetAs (A.edits what.now) last.new result pass.old.seat.me pass.new.seat.me }
+    ensures leaves { LeavesAs (A.edits what.now) tree.now.space.table.shared.key tree.now.tuning last.old last.new result pass.old.seat.me.0.upper
+        pass.new.seat.me.0.upper }
 {
     let mut spent = Spent {
         lost: 0,
         helped: 0,
         passed: 0,
     };
-    match attempts(tree, pass, what, left, room, budget, &mut spent) {
-        Ok(answer) => Outcome::Done(answer),
+    let mut adapting = Adapting {
+        lost: false,
+        last: *last,
+    };
+    match attempts(
+        tree,
+        pass,
+        what,
+        left,
+        room,
+        budget,
+        &mut adapting,
+        &mut spent,
+    ) {
+        Ok(answer) => {
+            *last = adapting.last;
+            Outcome::Done(answer)
+        }
         Err(why) => {
             give_up(tree, pass, why);
             why.outcome()
@@ -70,21 +94,27 @@ fn attempts<A: Attempt>(
     left: &mut A::Left,
     room: &mut A::Room,
     budget: u32,
+    adapting: &mut Adapting,
     spent: &mut Spent,
 ) -> Result<A::Answer, Refusal>
-    requires resting { IsResting tree.now.space.table.shared.table_id tree.now.space.table.shared.key pass.old.number pass.old.kept.rows pass.old.seat }
+    requires resting { IsResting tree.now.space.table.shared.table_id tree.now.space.table.shared.key pass.old.number pass.old.tally
+        pass.old.kept.rows pass.old.seat }
     requires may { A.may what.now tree.now.space.table.shared.key }
     requires none { (spent.old.lost ≡ 0) × (spent.old.helped ≡ 0) × (spent.old.passed ≡ 0) }
     ensures number { pass.new.number ≡ pass.old.number }
-    ensures resting { IsResting tree.now.space.table.shared.table_id tree.now.space.table.shared.key pass.new.number pass.new.kept.rows pass.new.seat }
+    ensures resting { IsResting tree.now.space.table.shared.table_id tree.now.space.table.shared.key pass.new.number pass.new.tally
+        pass.new.kept.rows pass.new.seat }
     ensures come { HasAttempted (λ answer. A.tells what.now answer left.new) result pass.old.seat.me.0.upper pass.new.seat.me.0.upper }
     ensures caused { IfErr result (λ why. IsCaused tree.now.space.table.shared.key pass.old.number budget (A.adds what.now)
         why pass.old.seat.me pass.old.kept.rows pass.new.seat.me pass.new.kept.rows) }
     ensures few { KeepsFew pass.old.seat.me pass.new.seat.me pass.new.kept.rows }
+    ensures met_as { MeetsAs (A.edits what.now) adapting.new.last result pass.old.seat.me pass.new.seat.me }
+    ensures gone_on { HasGoneOn (A.edits what.now) tree.now.space.table.shared.key tree.now.tuning adapting.old adapting.new result pass.old.seat.me.0.upper
+        pass.new.seat.me.0.upper }
 {
     loop {
         let kept = pass.kept();
-        let come = turns(tree, pass, what, left, room, budget, spent);
+        let come = turns(tree, pass, what, left, room, budget, adapting, spent);
         if is_empty(&come) {
             if let Err(why) = refill(tree, pass, kept, budget, spent) {
                 return Err(why);
@@ -124,15 +154,22 @@ fn turns<A: Attempt>(
     left: &mut A::Left,
     room: &mut A::Room,
     budget: u32,
+    adapting: &mut Adapting,
     spent: &mut Spent,
 ) -> Result<A::Answer, Stop>
-    requires resting { IsResting tree.now.space.table.shared.table_id tree.now.space.table.shared.key pass.old.number pass.old.kept.rows pass.old.seat }
+    requires resting { IsResting tree.now.space.table.shared.table_id tree.now.space.table.shared.key pass.old.number pass.old.tally
+        pass.old.kept.rows pass.old.seat }
     requires may { A.may what.now tree.now.space.table.shared.key }
     ensures number { pass.new.number ≡ pass.old.number }
-    ensures resting { IsResting tree.now.space.table.shared.table_id tree.now.space.table.shared.key pass.new.number pass.new.kept.rows pass.new.seat }
+    ensures resting { IsResting tree.now.space.table.shared.table_id tree.now.space.table.shared.key pass.new.number pass.new.tally
+        pass.new.kept.rows pass.new.seat }
     ensures tried { HasTriedTo (λ answer. A.tells what.now answer left.new) tree.now.space.table.shared.key result pass.old.seat.me.0.upper
         pass.new.seat.me.0.upper }
-    ensures deep { result ≡ Err IsDeep → IsFull tree.now.space.table.shared.key (A.adds what.now) (after pass.new.seat.me.0.upper.seen []) }
+    ensures deep { result ≡ Err IsDeep → IsFull tree.now.space.table.shared.key (A.adds what.now) pass.new.seat.me.0.upper.last
+        (after pass.new.seat.me.0.upper.seen []) }
+    ensures met_as { MeetsAs (A.edits what.now) adapting.new.last result pass.old.seat.me pass.new.seat.me }
+    ensures gone_on { HasGoneOn (A.edits what.now) tree.now.space.table.shared.key tree.now.tuning adapting.old adapting.new result pass.old.seat.me.0.upper
+        pass.new.seat.me.0.upper }
     ensures counted { IsPaid spent.old spent.new pass.old.seat.me pass.new.seat.me }
     ensures found { HasMetBy result pass.old.seat.me pass.new.seat.me }
     ensures looks { pass.new.seat.me.0.pin.looks ≡ pass.old.seat.me.0.pin.looks }
@@ -140,7 +177,7 @@ fn turns<A: Attempt>(
     ensures no_split { result ≢ Err IsSplit }
 {
     while spent_in_all(spent) < budget {
-        let tried = once(tree, pass, what, left, room, spent);
+        let tried = once(tree, pass, what, left, room, adapting, spent);
         if !has_next(&tried) {
             return tried;
         }
@@ -162,31 +199,40 @@ fn once<A: Attempt>(
     what: &A,
     left: &mut A::Left,
     room: &mut A::Room,
+    adapting: &mut Adapting,
     spent: &mut Spent,
 ) -> Result<A::Answer, Stop>
-    requires resting { IsResting tree.now.space.table.shared.table_id tree.now.space.table.shared.key pass.old.number pass.old.kept.rows pass.old.seat }
+    requires resting { IsResting tree.now.space.table.shared.table_id tree.now.space.table.shared.key pass.old.number pass.old.tally
+        pass.old.kept.rows pass.old.seat }
     requires may { A.may what.now tree.now.space.table.shared.key }
     ensures number { pass.new.number ≡ pass.old.number }
-    ensures resting { IsResting tree.now.space.table.shared.table_id tree.now.space.table.shared.key pass.new.number pass.new.kept.rows pass.new.seat }
+    ensures resting { IsResting tree.now.space.table.shared.table_id tree.now.space.table.shared.key pass.new.number pass.new.tally
+        pass.new.kept.rows pass.new.seat }
     ensures tried { HasTriedTo (λ answer. A.tells what.now answer left.new) tree.now.space.table.shared.key result pass.old.seat.me.0.upper
         pass.new.seat.me.0.upper }
-    ensures deep { result ≡ Err IsDeep → IsFull tree.now.space.table.shared.key (A.adds what.now) (after pass.new.seat.me.0.upper.seen []) }
+    ensures deep { result ≡ Err IsDeep → IsFull tree.now.space.table.shared.key (A.adds what.now) pass.new.seat.me.0.upper.last
+        (after pass.new.seat.me.0.upper.seen []) }
+    ensures met_as { MeetsAs (A.edits what.now) adapting.new.last result pass.old.seat.me pass.new.seat.me }
+    ensures gone_on { HasGoneOn (A.edits what.now) tree.now.space.table.shared.key tree.now.tuning adapting.old adapting.new result pass.old.seat.me.0.upper
+        pass.new.seat.me.0.upper }
     ensures counted { IsPaid spent.old spent.new pass.old.seat.me pass.new.seat.me }
     ensures found { HasStopped result pass.old.seat.me pass.new.seat.me }
     ensures looks { pass.new.seat.me.0.pin.looks ≡ pass.old.seat.me.0.pin.looks }
 {
     let space = &tree.space;
     space.pin(pass);
-    let tried = what.attempt(space, pass, &tree.tuning, left, room, spent);
+    let tried = what.attempt(space, pass, &tree.tuning, left, room, adapting, spent);
     space.unpin(pass);
     tried
 }
 
 // Counts a refusal.
 fn give_up(tree: &Tree, pass: &mut TreePass, why: Refusal)
-    requires resting { IsResting tree.now.space.table.shared.table_id tree.now.space.table.shared.key pass.old.number pass.old.kept.rows pass.old.seat }
+    requires resting { IsResting tree.now.space.table.shared.table_id tree.now.space.table.shared.key pass.old.number pass.old.tally
+        pass.old.kept.rows pass.old.seat }
     ensures number { pass.new.number ≡ pass.old.number }
-    ensures resting { IsResting tree.now.space.table.shared.table_id tree.now.space.table.shared.key pass.new.number pass.new.kept.rows pass.new.seat }
+    ensures resting { IsResting tree.now.space.table.shared.table_id tree.now.space.table.shared.key pass.new.number pass.new.tally
+        pass.new.kept.rows pass.new.seat }
     ensures kept { pass.new.kept ≡ pass.old.kept }
     ensures counted { pass.new.seat.me ≡ with_upper pass.old.seat.me (record pass.old.seat.me.0.upper { counts = risen why pass.old.seat.me.0.upper.counts }) }
     ensures refused { IsRefused (risen why) pass.old.seat.me.0.upper pass.new.seat.me.0.upper }

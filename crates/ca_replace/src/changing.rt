@@ -4,10 +4,12 @@ ghost use Rattle.ca_model.specs.Answer.{IfBusy, IfDone, IfRefused, IsNeverDeep};
 ghost use Rattle.ca_model.specs.Function.{KeepsKey};
 ghost use Rattle.ca_replace.specs.Attempting.{HasDoneAs};
 ghost use Rattle.ca_base.specs.Progress.{IsRefused};
+ghost use Rattle.ca_replace.specs.Adapting.{HasMetAs, LeavesAs, is_put};
 ghost use Rattle.ca_replace.specs.Causes.{IfRefusedAs, IsCaused, KeepsFew};
 ghost use Rattle.ca_replace.specs.Resting.{IsResting};
 ghost use Rattle.ca_replace.specs.Tells.{Alters};
 
+use crate::adapting::{Adapting, Last};
 use crate::attempting::{Attempt, Stop, fetch, put_there};
 use crate::calls::{call, empty_if_refused};
 use crate::ending::{Read, enter};
@@ -37,6 +39,8 @@ impl<F: Fn(&[u8], &mut Code, &mut usize) -> bool> Attempt for ChangeCall<'_, F> 
 
     ghost adds = { λ call. None };
 
+    ghost edits = { λ call changed. is_put changed };
+
     fn attempt(
         &self,
         space: &TreeSpace,
@@ -44,6 +48,7 @@ impl<F: Fn(&[u8], &mut Code, &mut usize) -> bool> Attempt for ChangeCall<'_, F> 
         tuning: &Tuning,
         old: &mut Code,
         new: &mut Code,
+        adapting: &mut Adapting,
         spent: &mut Spent,
     ) -> Result<Changed, Stop> {
         let (key, f) = (self.key, self.f);
@@ -75,6 +80,7 @@ impl<F: Fn(&[u8], &mut Code, &mut usize) -> bool> Attempt for ChangeCall<'_, F> 
             new.as_slice(),
             start,
             end,
+            adapting,
             spent,
         ) {
             Ok(()) => Ok(Changed::Put),
@@ -90,12 +96,15 @@ pub(crate) fn change<F: Fn(&[u8], &mut Code, &mut usize) -> bool>(
     key: &[u8],
     f: &F,
     old: &mut Code,
+    last: &mut Last,
     budget: u32,
 ) -> Outcome<Changed>
-    requires resting { IsResting tree.now.space.table.shared.table_id tree.now.space.table.shared.key pass.old.number pass.old.kept.rows pass.old.seat }
+    requires resting { IsResting tree.now.space.table.shared.table_id tree.now.space.table.shared.key pass.old.number pass.old.tally
+        pass.old.kept.rows pass.old.seat }
     requires function { KeepsKey F.Fn f.now tree.now.space.table.shared.key.keypos key.now }
     ensures number { pass.new.number ≡ pass.old.number }
-    ensures resting { IsResting tree.now.space.table.shared.table_id tree.now.space.table.shared.key pass.new.number pass.new.kept.rows pass.new.seat }
+    ensures resting { IsResting tree.now.space.table.shared.table_id tree.now.space.table.shared.key pass.new.number pass.new.tally
+        pass.new.kept.rows pass.new.seat }
     ensures changed { IfDone result (λ changed. HasDoneAs (Alters F.Fn f.now key.now changed old.new.items) pass.old.seat.me.0.upper pass.new.seat.me.0.upper) }
     ensures refused { IfRefused result (λ rise. IsRefused rise pass.old.seat.me.0.upper pass.new.seat.me.0.upper) }
     ensures emptied { IfRefused result (λ _. old.new.items ≡ []) }
@@ -104,10 +113,13 @@ pub(crate) fn change<F: Fn(&[u8], &mut Code, &mut usize) -> bool>(
     ensures caused { IfRefusedAs result (λ why. IsCaused tree.now.space.table.shared.key pass.old.number budget None
         why pass.old.seat.me pass.old.kept.rows pass.new.seat.me pass.new.kept.rows) }
     ensures few { KeepsFew pass.old.seat.me pass.new.seat.me pass.new.kept.rows }
+    ensures met_as { HasMetAs is_put last.new result pass.old.seat.me pass.new.seat.me }
+    ensures leaves { LeavesAs is_put tree.now.space.table.shared.key tree.now.tuning last.old last.new result pass.old.seat.me.0.upper
+        pass.new.seat.me.0.upper }
 {
     let what = ChangeCall { key, f };
     let mut new = Code::new();
-    let outcome = call(tree, pass, &what, &mut *old, &mut new, budget);
+    let outcome = call(tree, pass, &what, &mut *old, &mut new, last, budget);
     empty_if_refused(&outcome, old);
     outcome
 }

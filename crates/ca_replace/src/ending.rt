@@ -53,6 +53,7 @@ pub(crate) fn enter(space: &TreeSpace, pass: &mut TreePass, row: u32, read: Read
     requires answer { IsReadNow (event_of read) pass.old.seat.me.0.upper }
     ensures same { IsSame pass.old.seat pass.new.seat }
     ensures number { pass.new.number ≡ pass.old.number }
+    ensures tally { pass.new.tally ≡ pass.old.tally }
     ensures kept { pass.new.kept ≡ pass.old.kept }
     ensures entered { pass.new.seat.me ≡ with_upper pass.old.seat.me (entered pass.old.seat.me.0.upper (event_of read.entry)) }
 {
@@ -66,6 +67,7 @@ fn enter_as<K: Entered>(space: &TreeSpace, pass: &mut TreePass, row: u32, _read:
     requires answer { IsReadNow K.event pass.old.seat.me.0.upper }
     ensures same { IsSame pass.old.seat pass.new.seat }
     ensures number { pass.new.number ≡ pass.old.number }
+    ensures tally { pass.new.tally ≡ pass.old.tally }
     ensures kept { pass.new.kept ≡ pass.old.kept }
     ensures entered { pass.new.seat.me ≡ with_upper pass.old.seat.me (entered pass.old.seat.me.0.upper K.event) }
 {

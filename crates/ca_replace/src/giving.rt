@@ -21,9 +21,11 @@ const LAST_EPOCH: u64 = 1 << 62;
 
 /// Gives rows back where the pass keeps many, and answers how many exchanges it lost by that.
 pub(crate) fn keep_few(tree: &Tree, pass: &mut TreePass) -> u32
-    requires resting { IsResting tree.now.space.table.shared.table_id tree.now.space.table.shared.key pass.old.number pass.old.kept.rows pass.old.seat }
+    requires resting { IsResting tree.now.space.table.shared.table_id tree.now.space.table.shared.key pass.old.number pass.old.tally
+        pass.old.kept.rows pass.old.seat }
     ensures number { pass.new.number ≡ pass.old.number }
-    ensures resting { IsResting tree.now.space.table.shared.table_id tree.now.space.table.shared.key pass.new.number pass.new.kept.rows pass.new.seat }
+    ensures resting { IsResting tree.now.space.table.shared.table_id tree.now.space.table.shared.key pass.new.number pass.new.tally
+        pass.new.kept.rows pass.new.seat }
     ensures upper { pass.new.seat.me.0.upper ≡ pass.old.seat.me.0.upper }
     ensures few { KeepsFew pass.old.seat.me pass.new.seat.me pass.new.kept.rows }
     ensures lost { pass.new.seat.me.0.lost ≡ pass.old.seat.me.0.lost + result }
@@ -44,9 +46,11 @@ pub(crate) fn refill(
     budget: u32,
     spent: &mut Spent,
 ) -> Result<(), Refusal>
-    requires resting { IsResting tree.now.space.table.shared.table_id tree.now.space.table.shared.key pass.old.number pass.old.kept.rows pass.old.seat }
+    requires resting { IsResting tree.now.space.table.shared.table_id tree.now.space.table.shared.key pass.old.number pass.old.tally
+        pass.old.kept.rows pass.old.seat }
     ensures number { pass.new.number ≡ pass.old.number }
-    ensures resting { IsResting tree.now.space.table.shared.table_id tree.now.space.table.shared.key pass.new.number pass.new.kept.rows pass.new.seat }
+    ensures resting { IsResting tree.now.space.table.shared.table_id tree.now.space.table.shared.key pass.new.number pass.new.tally
+        pass.new.kept.rows pass.new.seat }
     ensures upper { pass.new.seat.me.0.upper ≡ pass.old.seat.me.0.upper }
     ensures counted { IsPaid spent.old spent.new pass.old.seat.me pass.new.seat.me }
     ensures met { HasMet 0 0 pass.old.seat.me pass.new.seat.me }
@@ -75,9 +79,11 @@ pub(crate) fn refill(
 
 // Gives back rows that a pass keeps between two calls.
 fn give_back_kept(tree: &Tree, pass: &mut TreePass) -> Reclaimed
-    requires resting { IsResting tree.now.space.table.shared.table_id tree.now.space.table.shared.key pass.old.number pass.old.kept.rows pass.old.seat }
+    requires resting { IsResting tree.now.space.table.shared.table_id tree.now.space.table.shared.key pass.old.number pass.old.tally
+        pass.old.kept.rows pass.old.seat }
     ensures number { pass.new.number ≡ pass.old.number }
-    ensures resting { IsResting tree.now.space.table.shared.table_id tree.now.space.table.shared.key pass.new.number pass.new.kept.rows pass.new.seat }
+    ensures resting { IsResting tree.now.space.table.shared.table_id tree.now.space.table.shared.key pass.new.number pass.new.tally
+        pass.new.kept.rows pass.new.seat }
     ensures reclaims { Reclaims pass.old.seat.me pass.new.seat.me }
     ensures looked { HasLooked pass.old.seat.me pass.new.seat.me }
     ensures kept { result.kept ≡ vec_len pass.new.kept.rows }

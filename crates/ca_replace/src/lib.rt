@@ -1,6 +1,7 @@
 //! The store on the tree, which passes share without a lock.
 #![tactic(auto)]
 
+mod adapting;
 mod attempting;
 mod calls;
 mod changing;
@@ -14,9 +15,12 @@ mod removing;
 mod store;
 mod tree;
 
+pub use adapting::Last;
 pub use fault::TreeFault;
 pub use store::TreeStore;
 pub use tree::Tree;
 
+#[cfg(test)]
+mod drawing;
 #[cfg(test)]
 mod tests;

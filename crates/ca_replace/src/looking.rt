@@ -27,6 +27,7 @@ pub(crate) fn look_up(
     requires looking { IsLooking space.now.table.shared.key pass.old.seat.me.0.upper key.now cursor }
     ensures same { IsSame pass.old.seat pass.new.seat }
     ensures number { pass.new.number ≡ pass.old.number }
+    ensures tally { pass.new.tally ≡ pass.old.tally }
     ensures kept { pass.new.kept ≡ pass.old.kept }
     ensures answer { IsReadNow (get_event key.now result into.new.items) pass.old.seat.me.0.upper }
     ensures entered { pass.new.seat.me ≡ with_upper pass.old.seat.me (entered pass.old.seat.me.0.upper (get_event key.now result into.new.items)) }
@@ -56,6 +57,7 @@ pub(crate) fn copy_at(
     requires readable { HasPlace space.now.table.shared.key pass.old.seat.me.0.upper base place }
     ensures same { IsSame pass.old.seat pass.new.seat }
     ensures number { pass.new.number ≡ pass.old.number }
+    ensures tally { pass.new.tally ≡ pass.old.tally }
     ensures kept { pass.new.kept ≡ pass.old.kept }
     ensures still { pass.new.seat.me ≡ pass.old.seat.me }
     ensures object { (note : Note) → IsReadable space.now.table.shared.key pass.old.seat.me.0.upper base note → place < length note.objects

@@ -1,13 +1,15 @@
 //! Calls that put an object.
-ghost use Rattle.std.specs.Prelude.{◌≡◌, ◌≤◌, Some, length, slice_range};
+ghost use Rattle.std.specs.Prelude.{◌≡◌, ◌≤◌, Some, length, slice_range, true};
 ghost use Rattle.ca_model.specs.Answer.{IfBusy, IfDone, IfRefused};
 ghost use Rattle.ca_model.specs.Event.{Write, WriteNew};
 ghost use Rattle.ca_model.specs.StoreMap.{IsPair};
 ghost use Rattle.ca_replace.specs.Attempting.{HasKeyAt};
 ghost use Rattle.ca_base.specs.Progress.{HasDone, IsRefused};
+ghost use Rattle.ca_replace.specs.Adapting.{HasMetAs, LeavesAs};
 ghost use Rattle.ca_replace.specs.Causes.{IfRefusedAs, IsCaused, KeepsFew};
 ghost use Rattle.ca_replace.specs.Resting.{IsResting};
 
+use crate::adapting::{Adapting, Last};
 use crate::attempting::{Attempt, Stop, find, put_there};
 use crate::calls::call;
 use crate::ending::{Read, enter};
@@ -46,6 +48,8 @@ impl Attempt for PutCall<'_> {
 
     ghost adds = { λ call. Some (slice_range call.object.now call.key_at call.key_end) };
 
+    ghost edits = { λ call _. true };
+
     fn attempt(
         &self,
         space: &TreeSpace,
@@ -53,6 +57,7 @@ impl Attempt for PutCall<'_> {
         tuning: &Tuning,
         _left: &mut (),
         _room: &mut (),
+        adapting: &mut Adapting,
         spent: &mut Spent,
     ) -> Result<(), Stop> {
         let (object, key_at, key_end) = (self.object, self.key_at, self.key_end);
@@ -60,7 +65,7 @@ impl Attempt for PutCall<'_> {
         let (cursor, place) = find(space, pass, key);
         let why = Putting::Put;
         put_there(
-            space, pass, tuning, cursor, place, why, object, key_at, key_end, spent,
+            space, pass, tuning, cursor, place, why, object, key_at, key_end, adapting, spent,
         )
     }
 }
@@ -78,6 +83,8 @@ impl Attempt for PutNewCall<'_> {
 
     ghost adds = { λ call. Some (slice_range call.object.now call.key_at call.key_end) };
 
+    ghost edits = { λ call new. new };
+
     fn attempt(
         &self,
         space: &TreeSpace,
@@ -85,6 +92,7 @@ impl Attempt for PutNewCall<'_> {
         tuning: &Tuning,
         _left: &mut (),
         _room: &mut (),
+        adapting: &mut Adapting,
         spent: &mut Spent,
     ) -> Result<bool, Stop> {
         let (object, key_at, key_end) = (self.object, self.key_at, self.key_end);
@@ -96,7 +104,7 @@ impl Attempt for PutNewCall<'_> {
         }
         let why = Putting::PutNew;
         match put_there(
-            space, pass, tuning, cursor, place, why, object, key_at, key_end, spent,
+            space, pass, tuning, cursor, place, why, object, key_at, key_end, adapting, spent,
         ) {
             Ok(()) => Ok(true),
             Err(stop) => Err(stop),
@@ -111,26 +119,32 @@ pub(crate) fn put(
     object: &[u8],
     key_at: usize,
     key_end: usize,
+    last: &mut Last,
     budget: u32,
 ) -> Outcome<()>
-    requires resting { IsResting tree.now.space.table.shared.table_id tree.now.space.table.shared.key pass.old.number pass.old.kept.rows pass.old.seat }
+    requires resting { IsResting tree.now.space.table.shared.table_id tree.now.space.table.shared.key pass.old.number pass.old.tally
+        pass.old.kept.rows pass.old.seat }
     requires within { (key_at ≤ key_end) × (key_end ≤ length object.now) }
     requires pair { IsPair tree.now.space.table.shared.key.keypos (slice_range object.now key_at key_end, object.now) }
     ensures number { pass.new.number ≡ pass.old.number }
-    ensures resting { IsResting tree.now.space.table.shared.table_id tree.now.space.table.shared.key pass.new.number pass.new.kept.rows pass.new.seat }
+    ensures resting { IsResting tree.now.space.table.shared.table_id tree.now.space.table.shared.key pass.new.number pass.new.tally
+        pass.new.kept.rows pass.new.seat }
     ensures put { IfDone result (λ _. HasDone (Write (slice_range object.now key_at key_end) object.now) pass.old.seat.me.0.upper pass.new.seat.me.0.upper) }
     ensures refused { IfRefused result (λ rise. IsRefused rise pass.old.seat.me.0.upper pass.new.seat.me.0.upper) }
     ensures busy { IfBusy result (λ spent. budget ≤ spent) }
     ensures caused { IfRefusedAs result (λ why. IsCaused tree.now.space.table.shared.key pass.old.number budget (Some (slice_range object.now key_at key_end))
         why pass.old.seat.me pass.old.kept.rows pass.new.seat.me pass.new.kept.rows) }
     ensures few { KeepsFew pass.old.seat.me pass.new.seat.me pass.new.kept.rows }
+    ensures met_as { HasMetAs (λ _. true) last.new result pass.old.seat.me pass.new.seat.me }
+    ensures leaves { LeavesAs (λ _. true) tree.now.space.table.shared.key tree.now.tuning last.old last.new result pass.old.seat.me.0.upper
+        pass.new.seat.me.0.upper }
 {
     let what = PutCall {
         object,
         key_at,
         key_end,
     };
-    call(tree, pass, &what, &mut (), &mut (), budget)
+    call(tree, pass, &what, &mut (), &mut (), last, budget)
 }
 
 /// Puts an object where there is none with its key.
@@ -140,13 +154,16 @@ pub(crate) fn put_new(
     object: &[u8],
     key_at: usize,
     key_end: usize,
+    last: &mut Last,
     budget: u32,
 ) -> Outcome<bool>
-    requires resting { IsResting tree.now.space.table.shared.table_id tree.now.space.table.shared.key pass.old.number pass.old.kept.rows pass.old.seat }
+    requires resting { IsResting tree.now.space.table.shared.table_id tree.now.space.table.shared.key pass.old.number pass.old.tally
+        pass.old.kept.rows pass.old.seat }
     requires within { (key_at ≤ key_end) × (key_end ≤ length object.now) }
     requires pair { IsPair tree.now.space.table.shared.key.keypos (slice_range object.now key_at key_end, object.now) }
     ensures number { pass.new.number ≡ pass.old.number }
-    ensures resting { IsResting tree.now.space.table.shared.table_id tree.now.space.table.shared.key pass.new.number pass.new.kept.rows pass.new.seat }
+    ensures resting { IsResting tree.now.space.table.shared.table_id tree.now.space.table.shared.key pass.new.number pass.new.tally
+        pass.new.kept.rows pass.new.seat }
     ensures put { IfDone result (λ new. HasDone (WriteNew (slice_range object.now key_at key_end) object.now new) pass.old.seat.me.0.upper
         pass.new.seat.me.0.upper) }
     ensures refused { IfRefused result (λ rise. IsRefused rise pass.old.seat.me.0.upper pass.new.seat.me.0.upper) }
@@ -154,11 +171,14 @@ pub(crate) fn put_new(
     ensures caused { IfRefusedAs result (λ why. IsCaused tree.now.space.table.shared.key pass.old.number budget (Some (slice_range object.now key_at key_end))
         why pass.old.seat.me pass.old.kept.rows pass.new.seat.me pass.new.kept.rows) }
     ensures few { KeepsFew pass.old.seat.me pass.new.seat.me pass.new.kept.rows }
+    ensures met_as { HasMetAs (λ new. new) last.new result pass.old.seat.me pass.new.seat.me }
+    ensures leaves { LeavesAs (λ new. new) tree.now.space.table.shared.key tree.now.tuning last.old last.new result pass.old.seat.me.0.upper
+        pass.new.seat.me.0.upper }
 {
     let what = PutNewCall {
         object,
         key_at,
         key_end,
     };
-    call(tree, pass, &what, &mut (), &mut (), budget)
+    call(tree, pass, &what, &mut (), &mut (), last, budget)
 }

@@ -64,6 +64,7 @@ pub(crate) fn refuse(space: &TreeSpace, pass: &mut TreePass, why: Refusal)
     requires own { IsOf space.now.table.shared.table_id space.now.table.shared.key pass.old.seat }
     ensures same { IsSame pass.old.seat pass.new.seat }
     ensures number { pass.new.number ≡ pass.old.number }
+    ensures tally { pass.new.tally ≡ pass.old.tally }
     ensures kept { pass.new.kept ≡ pass.old.kept }
     ensures counted { pass.new.seat.me ≡ with_upper pass.old.seat.me (record pass.old.seat.me.0.upper { counts = risen why pass.old.seat.me.0.upper.counts }) }
 {
@@ -75,6 +76,7 @@ fn refuse_as<K: Counting>(space: &TreeSpace, pass: &mut TreePass, _why: Refusal)
     requires own { IsOf space.now.table.shared.table_id space.now.table.shared.key pass.old.seat }
     ensures same { IsSame pass.old.seat pass.new.seat }
     ensures number { pass.new.number ≡ pass.old.number }
+    ensures tally { pass.new.tally ≡ pass.old.tally }
     ensures kept { pass.new.kept ≡ pass.old.kept }
     ensures counted { pass.new.seat.me ≡ with_upper pass.old.seat.me (record pass.old.seat.me.0.upper { counts = K.rise pass.old.seat.me.0.upper.counts }) }
 {

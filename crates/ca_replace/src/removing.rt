@@ -4,10 +4,12 @@ ghost use Rattle.ca_model.specs.Answer.{IfBusy, IfDone, IfRefused, IsNeverDeep};
 ghost use Rattle.ca_model.specs.Function.{MayBeAskedFor};
 ghost use Rattle.ca_replace.specs.Attempting.{HasDoneAs};
 ghost use Rattle.ca_base.specs.Progress.{IsRefused};
+ghost use Rattle.ca_replace.specs.Adapting.{HasMetAs, LeavesAs, is_put};
 ghost use Rattle.ca_replace.specs.Causes.{IfRefusedAs, IsCaused, KeepsFew};
 ghost use Rattle.ca_replace.specs.Resting.{IsResting};
 ghost use Rattle.ca_replace.specs.Tells.{Removes, RemovesIf};
 
+use crate::adapting::{Adapting, Last};
 use crate::attempting::{Attempt, Stop, fetch, remove_there};
 use crate::calls::{call, empty_if_refused};
 use crate::ending::{Read, enter};
@@ -35,13 +37,16 @@ impl Attempt for RemoveCall<'_> {
 
     ghost adds = { λ call. None };
 
+    ghost edits = { λ call was. was };
+
     fn attempt(
         &self,
         space: &TreeSpace,
         pass: &mut TreePass,
-        _tuning: &Tuning,
+        tuning: &Tuning,
         old: &mut Code,
         _room: &mut (),
+        adapting: &mut Adapting,
         spent: &mut Spent,
     ) -> Result<bool, Stop> {
         let key = self.key;
@@ -50,7 +55,7 @@ impl Attempt for RemoveCall<'_> {
             enter(space, pass, cursor.base, Read::NothingToRemove(key));
             return Ok(false);
         };
-        match remove_there(space, pass, cursor, at, key, spent) {
+        match remove_there(space, pass, tuning, cursor, at, key, adapting, spent) {
             Ok(()) => Ok(true),
             Err(stop) => Err(stop),
         }
@@ -63,11 +68,14 @@ pub(crate) fn remove(
     pass: &mut TreePass,
     key: &[u8],
     old: &mut Code,
+    last: &mut Last,
     budget: u32,
 ) -> Outcome<bool>
-    requires resting { IsResting tree.now.space.table.shared.table_id tree.now.space.table.shared.key pass.old.number pass.old.kept.rows pass.old.seat }
+    requires resting { IsResting tree.now.space.table.shared.table_id tree.now.space.table.shared.key pass.old.number pass.old.tally
+        pass.old.kept.rows pass.old.seat }
     ensures number { pass.new.number ≡ pass.old.number }
-    ensures resting { IsResting tree.now.space.table.shared.table_id tree.now.space.table.shared.key pass.new.number pass.new.kept.rows pass.new.seat }
+    ensures resting { IsResting tree.now.space.table.shared.table_id tree.now.space.table.shared.key pass.new.number pass.new.tally
+        pass.new.kept.rows pass.new.seat }
     ensures removed { IfDone result (λ was. HasDoneAs (Removes key.now was old.new.items) pass.old.seat.me.0.upper pass.new.seat.me.0.upper) }
     ensures refused { IfRefused result (λ rise. IsRefused rise pass.old.seat.me.0.upper pass.new.seat.me.0.upper) }
     ensures emptied { IfRefused result (λ _. old.new.items ≡ []) }
@@ -76,9 +84,12 @@ pub(crate) fn remove(
     ensures caused { IfRefusedAs result (λ why. IsCaused tree.now.space.table.shared.key pass.old.number budget None
         why pass.old.seat.me pass.old.kept.rows pass.new.seat.me pass.new.kept.rows) }
     ensures few { KeepsFew pass.old.seat.me pass.new.seat.me pass.new.kept.rows }
+    ensures met_as { HasMetAs (λ was. was) last.new result pass.old.seat.me pass.new.seat.me }
+    ensures leaves { LeavesAs (λ was. was) tree.now.space.table.shared.key tree.now.tuning last.old last.new result pass.old.seat.me.0.upper
+        pass.new.seat.me.0.upper }
 {
     let what = RemoveCall { key };
-    let outcome = call(tree, pass, &what, &mut *old, &mut (), budget);
+    let outcome = call(tree, pass, &what, &mut *old, &mut (), last, budget);
     empty_if_refused(&outcome, old);
     outcome
 }
@@ -103,13 +114,16 @@ impl<F: Fn(&[u8]) -> bool> Attempt for RemoveIfCall<'_, F> {
 
     ghost adds = { λ call. None };
 
+    ghost edits = { λ call changed. is_put changed };
+
     fn attempt(
         &self,
         space: &TreeSpace,
         pass: &mut TreePass,
-        _tuning: &Tuning,
+        tuning: &Tuning,
         old: &mut Code,
         _room: &mut (),
+        adapting: &mut Adapting,
         spent: &mut Spent,
     ) -> Result<Changed, Stop> {
         let (key, f) = (self.key, self.f);
@@ -122,7 +136,7 @@ impl<F: Fn(&[u8]) -> bool> Attempt for RemoveIfCall<'_, F> {
             enter(space, pass, cursor.base, Read::Got(key, old.as_slice()));
             return Ok(Changed::Kept);
         }
-        match remove_there(space, pass, cursor, at, key, spent) {
+        match remove_there(space, pass, tuning, cursor, at, key, adapting, spent) {
             Ok(()) => Ok(Changed::Put),
             Err(stop) => Err(stop),
         }
@@ -136,12 +150,15 @@ pub(crate) fn remove_if<F: Fn(&[u8]) -> bool>(
     key: &[u8],
     f: &F,
     old: &mut Code,
+    last: &mut Last,
     budget: u32,
 ) -> Outcome<Changed>
-    requires resting { IsResting tree.now.space.table.shared.table_id tree.now.space.table.shared.key pass.old.number pass.old.kept.rows pass.old.seat }
+    requires resting { IsResting tree.now.space.table.shared.table_id tree.now.space.table.shared.key pass.old.number pass.old.tally
+        pass.old.kept.rows pass.old.seat }
     requires function { MayBeAskedFor F.Fn f.now tree.now.space.table.shared.key.keypos key.now }
     ensures number { pass.new.number ≡ pass.old.number }
-    ensures resting { IsResting tree.now.space.table.shared.table_id tree.now.space.table.shared.key pass.new.number pass.new.kept.rows pass.new.seat }
+    ensures resting { IsResting tree.now.space.table.shared.table_id tree.now.space.table.shared.key pass.new.number pass.new.tally
+        pass.new.kept.rows pass.new.seat }
     ensures removed { IfDone result (λ changed. HasDoneAs (RemovesIf F.Fn f.now key.now changed old.new.items) pass.old.seat.me.0.upper
         pass.new.seat.me.0.upper) }
     ensures refused { IfRefused result (λ rise. IsRefused rise pass.old.seat.me.0.upper pass.new.seat.me.0.upper) }
@@ -151,9 +168,12 @@ pub(crate) fn remove_if<F: Fn(&[u8]) -> bool>(
     ensures caused { IfRefusedAs result (λ why. IsCaused tree.now.space.table.shared.key pass.old.number budget None
         why pass.old.seat.me pass.old.kept.rows pass.new.seat.me pass.new.kept.rows) }
     ensures few { KeepsFew pass.old.seat.me pass.new.seat.me pass.new.kept.rows }
+    ensures met_as { HasMetAs is_put last.new result pass.old.seat.me pass.new.seat.me }
+    ensures leaves { LeavesAs is_put tree.now.space.table.shared.key tree.now.tuning last.old last.new result pass.old.seat.me.0.upper
+        pass.new.seat.me.0.upper }
 {
     let what = RemoveIfCall { key, f };
-    let outcome = call(tree, pass, &what, &mut *old, &mut (), budget);
+    let outcome = call(tree, pass, &what, &mut *old, &mut (), last, budget);
     empty_if_refused(&outcome, old);
     outcome
 }

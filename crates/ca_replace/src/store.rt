@@ -1,27 +1,33 @@
 //! A pass as a store.
-ghost use Rattle.std.specs.Prelude.{◌≡◌, ◌≤◌, [], None, OnOk, Some, length, slice_range, vec_len};
+ghost use Rattle.std.specs.Prelude.{◌≡◌, ◌≤◌, [], None, OnOk, Some, length, min, pos, slice_range, true, vec_len};
+ghost use Rattle.ca_adapt.specs.declared.adapted.Adapted.TheVariants.{Stay as IsStay};
 ghost use Rattle.ca_model.specs.Answer.{Altered, Got, IfBusy, IfDone, IfRefused, IsDone, IsNeverDeep, Removed, RemovedIf};
 ghost use Rattle.ca_model.specs.Event.{Write, WriteNew};
 ghost use Rattle.ca_model.specs.Function.{KeepsKey, MayBeAskedFor};
 ghost use Rattle.ca_model.specs.Known.{Declines, Meets, Stays};
 ghost use Rattle.ca_model.specs.StoreMap.{IsPair};
+ghost use Rattle.ca_replace.specs.Adapting.{HasMetAs, LeavesAs, is_put};
 ghost use Rattle.ca_replace.specs.Causes.{HasCause, IsSparing};
 ghost use Rattle.ca_replace.specs.Resting.{IsResting, knows};
 ghost use Rattle.ca_term.specs.declared.bounds.TheConstants.{MOST_CODE_BYTES};
 
+use crate::adapting::Last;
 use crate::giving::keep_few;
 use crate::looking::look_up;
 use crate::tree::Tree;
 use crate::{changing, puts, removing};
+use ca_adapt::Adapted;
 use ca_model::{Changed, Code, Outcome};
-use ca_node::{Front, Link, Spot, TreePass, front, learn, load_link, walk};
+use ca_node::{Front, Link, Spot, TreePass, adapted, front, learn, load_link, walk};
 use std::alloc::AllocError;
 use std::marker::Model;
 
-/// A pass on a tree, as a store of the tree's map. Between two calls it isn't pinned. Contracts see the tree's table and the pass.
+/// A pass on a tree, as a store of the tree's map. Between two calls it isn't pinned. Contracts see the tree's table, the pass, and what is kept of
+/// its last update.
 pub struct TreeStore<'t> {
     tree: &'t Tree,
     pass: TreePass,
+    last: Last,
 }
 
 impl<'t> Model for TreeStore<'t> {
@@ -39,26 +45,41 @@ impl<'t> Model for TreeStore<'t> {
 
 impl Drop for TreeStore<'_> {
     fn drop(self) {
-        let Self { tree: _, pass: _ } = self;
+        let Self {
+            tree: _,
+            pass: _,
+            last: _,
+        } = self;
     }
 }
 
 impl TreeStore<'_> {
     /// The store of a pass of this tree that holds no row and isn't pinned, as one that was just made.
     pub fn new(tree: &Tree, pass: TreePass) -> TreeStore<'_>
-        requires { IsResting tree.now.space.table.shared.table_id tree.now.space.table.shared.key pass.number pass.kept.rows pass.seat }
+        requires { IsResting tree.now.space.table.shared.table_id tree.now.space.table.shared.key pass.number pass.tally pass.kept.rows pass.seat }
         ensures tree { (result.table ≡ tree.now.space.table.shared.table_id) × (result.z ≡ tree.now.space.table.shared.key) }
-        ensures pass { (result.number ≡ pass.number) × (result.kept ≡ pass.kept.rows) × (result.seat ≡ pass.seat) }
+        ensures tuning { result.tuning ≡ tree.now.tuning }
+        ensures last { (result.last.statistic ≡ pos 0) × (result.last.adapted ≡ IsStay) }
+        ensures pass { (result.number ≡ pass.number) × (result.tally ≡ pass.tally) × (result.kept ≡ pass.kept.rows) × (result.seat ≡ pass.seat) }
     {
-        TreeStore { tree, pass }
+        let last = Last {
+            statistic: 0,
+            adapted: Adapted::Stay,
+        };
+        TreeStore { tree, pass, last }
     }
 
     /// The pass, which may be made a store again.
     pub fn into_pass(self) -> TreePass
         ensures same { (result.number ≡ self.entry.number) × (result.kept.rows ≡ self.entry.kept) × (result.seat ≡ self.entry.seat) }
-        ensures resting { IsResting self.entry.table self.entry.z result.number result.kept.rows result.seat }
+        ensures tally { result.tally ≡ self.entry.tally }
+        ensures resting { IsResting self.entry.table self.entry.z result.number result.tally result.kept.rows result.seat }
     {
-        let Self { tree: _, pass } = self;
+        let Self {
+            tree: _,
+            pass,
+            last: _,
+        } = self;
         pass
     }
 
@@ -67,6 +88,21 @@ impl TreeStore<'_> {
         ensures { result ≡ vec_len self.now.kept }
     {
         self.pass.kept()
+    }
+
+    /// How many splits and how many joins the pass carried out, each up to the last number that 64 bits hold.
+    pub fn adapted(&self) -> (u64, u64)
+        ensures splits { result.0 ≡ min 18446744073709551615 self.now.seat.me.0.upper.splits }
+        ensures joins { result.1 ≡ min 18446744073709551615 self.now.seat.me.0.upper.joins }
+    {
+        adapted(&self.pass)
+    }
+
+    /// The last update by this store: the statistic of its new base, and what was done about that base. Before the first one that is 0, and nothing.
+    pub fn last_adapted(&self) -> (i64, Adapted)
+        ensures { (result.0 ≡ self.now.last.statistic) × (result.1 ≡ self.now.last.adapted) }
+    {
+        (i64::from(self.last.statistic), self.last.adapted)
     }
 
     /// Each call finds its own room among the tree's rows, so this takes no memory and does nothing.
@@ -88,6 +124,8 @@ impl TreeStore<'_> {
         ensures got { IfDone result (λ found. Got (knows self.old) (knows self.new) key.now found into.new.items) }
         ensures closed { (knows self.new).run ≡ None }
         ensures tree { (self.new.table ≡ self.old.table) × (self.new.z ≡ self.old.z) }
+        ensures tuning { self.new.tuning ≡ self.old.tuning }
+        ensures last { (self.new.last ≡ self.old.last) × (self.new.seat.me.0.upper.splits ≡ self.old.seat.me.0.upper.splits) }
         ensures number { self.new.number ≡ self.old.number }
         ensures sparing { IsSparing self.old self.new }
     {
@@ -116,10 +154,21 @@ impl TreeStore<'_> {
         ensures caused { HasCause budget (Some (slice_range object.now key_at key_end)) self.old self.new result }
         ensures sparing { IsSparing self.old self.new }
         ensures closed { (knows self.new).run ≡ None }
+        ensures met_as { HasMetAs (λ _. true) self.new.last result self.old.seat.me self.new.seat.me }
+        ensures adapted { LeavesAs (λ _. true) self.old.z self.old.tuning self.old.last self.new.last result self.old.seat.me.0.upper self.new.seat.me.0.upper }
         ensures tree { (self.new.table ≡ self.old.table) × (self.new.z ≡ self.old.z) }
+        ensures tuning { self.new.tuning ≡ self.old.tuning }
         ensures number { self.new.number ≡ self.old.number }
     {
-        puts::put(self.tree, &mut self.pass, object, key_at, key_end, budget)
+        puts::put(
+            self.tree,
+            &mut self.pass,
+            object,
+            key_at,
+            key_end,
+            &mut self.last,
+            budget,
+        )
     }
 
     /// Puts the object where no object has its key, and answers whether it did. Its key stands in it from `key_at` to `key_end`. It is
@@ -143,10 +192,21 @@ impl TreeStore<'_> {
         ensures caused { HasCause budget (Some (slice_range object.now key_at key_end)) self.old self.new result }
         ensures sparing { IsSparing self.old self.new }
         ensures closed { (knows self.new).run ≡ None }
+        ensures met_as { HasMetAs (λ new. new) self.new.last result self.old.seat.me self.new.seat.me }
+        ensures adapted { LeavesAs (λ new. new) self.old.z self.old.tuning self.old.last self.new.last result self.old.seat.me.0.upper self.new.seat.me.0.upper }
         ensures tree { (self.new.table ≡ self.old.table) × (self.new.z ≡ self.old.z) }
+        ensures tuning { self.new.tuning ≡ self.old.tuning }
         ensures number { self.new.number ≡ self.old.number }
     {
-        puts::put_new(self.tree, &mut self.pass, object, key_at, key_end, budget)
+        puts::put_new(
+            self.tree,
+            &mut self.pass,
+            object,
+            key_at,
+            key_end,
+            &mut self.last,
+            budget,
+        )
     }
 
     /// Removes the key's object, and answers whether there was one; then `old` is the object, else it is empty. It is refused where no row
@@ -163,10 +223,13 @@ impl TreeStore<'_> {
         ensures caused { HasCause budget None self.old self.new result }
         ensures sparing { IsSparing self.old self.new }
         ensures closed { (knows self.new).run ≡ None }
+        ensures met_as { HasMetAs (λ was. was) self.new.last result self.old.seat.me self.new.seat.me }
+        ensures adapted { LeavesAs (λ was. was) self.old.z self.old.tuning self.old.last self.new.last result self.old.seat.me.0.upper self.new.seat.me.0.upper }
         ensures tree { (self.new.table ≡ self.old.table) × (self.new.z ≡ self.old.z) }
+        ensures tuning { self.new.tuning ≡ self.old.tuning }
         ensures number { self.new.number ≡ self.old.number }
     {
-        removing::remove(self.tree, &mut self.pass, key, old, budget)
+        removing::remove(self.tree, &mut self.pass, key, old, &mut self.last, budget)
     }
 
     /// Removes the key's object where `f` answers true on it: `Put`. Where it answers false the object stays: `Kept`. In both cases `old`
@@ -191,10 +254,21 @@ impl TreeStore<'_> {
         ensures caused { HasCause budget None self.old self.new result }
         ensures sparing { IsSparing self.old self.new }
         ensures closed { (knows self.new).run ≡ None }
+        ensures met_as { HasMetAs is_put self.new.last result self.old.seat.me self.new.seat.me }
+        ensures adapted { LeavesAs is_put self.old.z self.old.tuning self.old.last self.new.last result self.old.seat.me.0.upper self.new.seat.me.0.upper }
         ensures tree { (self.new.table ≡ self.old.table) × (self.new.z ≡ self.old.z) }
+        ensures tuning { self.new.tuning ≡ self.old.tuning }
         ensures number { self.new.number ≡ self.old.number }
     {
-        removing::remove_if(self.tree, &mut self.pass, key, f, old, budget)
+        removing::remove_if(
+            self.tree,
+            &mut self.pass,
+            key,
+            f,
+            old,
+            &mut self.last,
+            budget,
+        )
     }
 
     /// Hands the key's object to `f`, with an empty Code and a number. Where it answers true, what it wrote into the Code replaces the
@@ -221,15 +295,28 @@ impl TreeStore<'_> {
         ensures caused { HasCause budget None self.old self.new result }
         ensures sparing { IsSparing self.old self.new }
         ensures closed { (knows self.new).run ≡ None }
+        ensures met_as { HasMetAs is_put self.new.last result self.old.seat.me self.new.seat.me }
+        ensures adapted { LeavesAs is_put self.old.z self.old.tuning self.old.last self.new.last result self.old.seat.me.0.upper self.new.seat.me.0.upper }
         ensures tree { (self.new.table ≡ self.old.table) × (self.new.z ≡ self.old.z) }
+        ensures tuning { self.new.tuning ≡ self.old.tuning }
         ensures number { self.new.number ≡ self.old.number }
     {
-        changing::change(self.tree, &mut self.pass, key, f, old, budget)
+        changing::change(
+            self.tree,
+            &mut self.pass,
+            key,
+            f,
+            old,
+            &mut self.last,
+            budget,
+        )
     }
 
     /// A copy of what the pass has seen of the tree's history.
     pub fn front(&mut self) -> Front
         ensures tree { (self.new.table ≡ self.old.table) × (self.new.z ≡ self.old.z) }
+        ensures tuning { self.new.tuning ≡ self.old.tuning }
+        ensures last { (self.new.last ≡ self.old.last) × (self.new.seat.me.0.upper.splits ≡ self.old.seat.me.0.upper.splits) }
         ensures pass { (self.new.number ≡ self.old.number) × (self.new.kept ≡ self.old.kept) × (self.new.seat.me ≡ self.old.seat.me) }
         ensures table { result.half.seat.table_id ≡ self.old.table }
         ensures seen { result.half.seat.me.0.upper.seen ≡ self.old.seat.me.0.upper.seen }
@@ -243,6 +330,8 @@ impl TreeStore<'_> {
     pub fn learn(&mut self, front: Front)
         requires table { front.half.seat.table_id ≡ self.old.table }
         ensures tree { (self.new.table ≡ self.old.table) × (self.new.z ≡ self.old.z) }
+        ensures tuning { self.new.tuning ≡ self.old.tuning }
+        ensures last { (self.new.last ≡ self.old.last) × (self.new.seat.me.0.upper.splits ≡ self.old.seat.me.0.upper.splits) }
         ensures number { self.new.number ≡ self.old.number }
         ensures sparing { IsSparing self.old self.new }
         ensures log { self.new.seat.me.0.upper.log ≡ self.old.seat.me.0.upper.log }

@@ -4,12 +4,12 @@ ghost use Rattle.ca_model.specs.Function.{StandsAt};
 ghost use Rattle.ca_model.specs.StoreMap.{IsPair};
 
 use super::*;
-use ca_adapt::Tuning;
+use ca_adapt::{Adapted, Tuning, Why};
 use ca_model::{Changed, Code, Counter, FullCause, Outcome, Spent};
 use ca_rows::Starts;
 use std::alloc::Global;
 
-const STARTS: Starts = Starts {
+pub(crate) const STARTS: Starts = Starts {
     tag: 0,
     epoch: 0,
     sequence: 0,
@@ -521,7 +521,7 @@ fn a_refusal_leaves_each_object_and_nothing_to_the_caller(rt: HostRuntime) {
 }
 
 // A tree whose bases have at most so many objects, at so many levels.
-const fn split_at(leaf: u8, levels: u16) -> Tuning {
+pub(crate) const fn split_at(leaf: u8, levels: u16) -> Tuning {
     Tuning {
         leaf,
         levels,
@@ -530,7 +530,7 @@ const fn split_at(leaf: u8, levels: u16) -> Tuning {
 }
 
 // Puts an object, with this budget.
-fn put_within(store: &mut TreeStore<'_>, n: u32, budget: u32) -> Outcome<()>
+pub(crate) fn put_within(store: &mut TreeStore<'_>, n: u32, budget: u32) -> Outcome<()>
     requires keypos { store.old.z.keypos ≡ 1 }
     requires budget { 1 ≤ budget }
     ensures { store.new.z ≡ store.old.z }
@@ -610,6 +610,7 @@ fn full_bases_are_split_down_to_the_last_level(rt: HostRuntime) {
     };
     let mut store = TreeStore::new(&tree, pass);
     assert_eq!(rt; put_from(&mut store, 1, 12), (10, Outcome::Deep(8)));
+    assert_eq!(rt; store.adapted(), (8, 0));
     assert_eq!(rt; count_below(&mut store, 12), 10);
     assert_eq!(rt; put(&mut store, 9), Outcome::Done(()));
     assert_eq!(rt; put_within(&mut store, 0, 4), Outcome::Done(()));
@@ -676,4 +677,72 @@ fn falling_keys_are_found_and_removed_again(rt: HostRuntime) {
         Outcome::Done(Changed::Put)
     );
     assert_eq!(rt; count_below(&mut store, 310), 149);
+}
+
+// What the store keeps of its last update, after puts of these keys in turn; 7 is no statistic of these.
+fn put_hot(store: &mut TreeStore<'_>, n: u32) -> (i64, Adapted)
+    requires { store.old.z.keypos ≡ 1 }
+    ensures { store.new.z ≡ store.old.z }
+{
+    if put(store, n) == Outcome::Done(()) {
+        store.last_adapted()
+    } else {
+        (7, Adapted::Joined)
+    }
+}
+
+// Each update adds so much to the statistic of its base that every second one is above the upper bound.
+const fn hot(leaf: u8, levels: u16) -> Tuning {
+    Tuning {
+        leaf,
+        levels,
+        lost: 250,
+        calm: 600,
+        ..TUNING
+    }
+}
+
+#[test]
+fn a_hot_base_is_split(rt: HostRuntime) {
+    let Ok(mut tree) = Tree::new(rt.alloc(), 384, 1, 1, hot(120, 64), STARTS) else {
+        panic!(rt; "no memory")
+    };
+    let Ok(pass) = tree.enroll(rt.alloc()) else {
+        panic!(rt; "no pass")
+    };
+    let mut store = TreeStore::new(&tree, pass);
+    assert_eq!(rt; store.last_adapted(), (0, Adapted::Stay));
+    assert_eq!(rt; put_hot(&mut store, 1), (600, Adapted::Stay));
+    assert_eq!(rt; put_hot(&mut store, 2), (1_200, Adapted::Split));
+    assert_eq!(rt; put_hot(&mut store, 3), (600, Adapted::Stay));
+    assert_eq!(rt; put_hot(&mut store, 4), (1_200, Adapted::Split));
+    assert_eq!(rt; store.adapted(), (2, 0));
+    assert_eq!(rt; count_below(&mut store, 9), 4);
+}
+
+#[test]
+fn a_hot_base_that_may_not_be_split_stays(rt: HostRuntime) {
+    for (levels, first, third) in [
+        (64, Why::OneObject, Adapted::Split),
+        (0, Why::OneObject, Adapted::NotSplit(Why::AtLevel)),
+    ] {
+        let Ok(mut tree) = Tree::new(rt.alloc(), 384, 1, 1, hot(120, levels), STARTS) else {
+            panic!(rt; "no memory")
+        };
+        let Ok(pass) = tree.enroll(rt.alloc()) else {
+            panic!(rt; "no pass")
+        };
+        let mut store = TreeStore::new(&tree, pass);
+        let mut old = Code::new();
+        assert_eq!(rt; put_hot(&mut store, 1), (600, Adapted::Stay));
+        assert_eq!(rt; put_hot(&mut store, 1), (1_200, Adapted::NotSplit(first)));
+        assert_eq!(rt; put_hot(&mut store, 2), (600, Adapted::Stay));
+        assert_eq!(rt; get(&mut store, 2, &mut old), Outcome::Done(true));
+        assert_eq!(rt; store.last_adapted(), (600, Adapted::Stay));
+        assert_eq!(rt;
+            change(&mut store, 2, true, &mut old),
+            Outcome::Done(Changed::Put)
+        );
+        assert_eq!(rt; store.last_adapted(), (1_200, third), "{levels} levels");
+    }
 }

@@ -3,7 +3,8 @@ ghost use Rattle.std.specs.Prelude.{◌≡◌, ◌≢◌, ◌↔◌, ◌+◌, �
 ghost use Rattle.ca_adapt.specs.Allowed.{IsAllowed};
 ghost use Rattle.ca_node.specs.TreeView.{blank};
 ghost use Rattle.ca_replace.specs.declared.fault.TreeFault.TheVariants.{BadSize as IsBadSize, BadTuning as IsBadTuning, NoPass as IsNoPass};
-ghost use Rattle.ca_replace.specs.Made.{IsTuned, sizes_with};
+ghost use Rattle.ca_adapt.specs.Tuned.{IsTuned};
+ghost use Rattle.ca_replace.specs.Made.{sizes_with};
 ghost use Rattle.ca_replace.specs.Resting.{IsResting};
 ghost use Rattle.ca_rows.specs.Kept.{AreKept};
 ghost use Rattle.ca_rows.specs.Opening.{AreInBounds};
@@ -96,11 +97,12 @@ impl Tree {
         ensures counted { OnOk result (self.new.space.made ≡ self.old.space.made + 1) }
         ensures refused { OnErr result (self.new.space.made ≡ self.old.space.made) }
         ensures number { IfOk result (λ pass. pass.number ≡ self.new.space.made) }
+        ensures tally { IfOk result (λ pass. pass.tally ≡ record { splits = 0; joins = 0 }) }
         ensures nothing_kept { IfOk result (λ pass. AreKept self.old.space.sizes.rows pass.seat.me.0.claims pass.kept.rows × (pass.kept.rows.items ≡ [])) }
         ensures begins { IfOk result (λ pass. (pass.seat.table_id ≡ self.old.space.table.shared.table_id)
             × (pass.seat.me ≡ (fresh self.old.space.sizes pass.number (blank pass.number), []))) }
         ensures resting { IfOk result (λ pass. IsResting self.old.space.table.shared.table_id self.old.space.table.shared.key pass.number
-            pass.kept.rows pass.seat) }
+            pass.tally pass.kept.rows pass.seat) }
     {
         match self.space.enroll(alloc) {
             Ok(pass) => Ok(pass),

@@ -1,4 +1,4 @@
-use Rattle.std.proofs.Common.{ℕ, map, Ok, sym, subst}
+use Rattle.std.proofs.Common.{ℕ, map, Ok, sym, subst, ap}
 use Rattle.std.specs.Prelude.{Result}
 use Rattle.ca_model.proofs.Places.{IsPlace}
 use Rattle.ca_node.specs.Row.{pair}
@@ -7,6 +7,7 @@ use Rattle.ca_base.specs.Putting.{first_note}
 use Rattle.ca_base.proofs.Searching.{place_inside}
 use Rattle.ca_replace.specs.Attempting.{HasFetched}
 use Rattle.ca_replace.proofs.Showing.{fetched, none_found}
+use Rattle.ca_base.proofs.Tallies.{tallied_as}
 use Rattle.ca_replace.proofs.attempting.fetch.Goals as goal
 
 pub copy_at-requires-clause-readable : goal.copy_at-requires-clause-readable
@@ -26,3 +27,7 @@ pub returns-in-Err-clause-fetched : goal.returns-in-Err-clause-fetched
 returns-in-Err-clause-fetched c = let z = c.args.space.now.table.shared.key in let w = c.find-place.new.pass.seat.me.0.upper in let note = first_note w.notes in
     let at = subst (λ (p : Result ℕ ℕ). IsPlace (map pair note.objects) c.args.key.now p) c.in-Err.is c.find-place.ensures.place in
     (none_found z w c.find-place.result.0 c.args.key.now _ c.find-place.ensures.looking at, c.clear.ensures)
+
+pub returns-in-Ok-clause-tally : goal.returns-in-Ok-clause-tally
+returns-in-Ok-clause-tally c h = tallied_as c.find-place.new.pass.tally c.copy_at.new.pass.tally c.find-place.new.pass.seat.me.0.upper
+    c.copy_at.new.pass.seat.me.0.upper c.copy_at.ensures.tally (ap (λ (m : MyTree). m.0.upper) c.copy_at.ensures.still) (c.find-place.ensures.tally h)

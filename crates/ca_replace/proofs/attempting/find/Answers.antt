@@ -1,9 +1,11 @@
-use Rattle.std.proofs.Common.{sym, subst}
+use Rattle.std.proofs.Common.{sym, subst, ap}
 use Rattle.ca_node.specs.Told.{MyTree}
 use Rattle.ca_replace.specs.Attempting.{IsLooking}
 use Rattle.ca_base.specs.Progress.{IsFurther}
 use Rattle.ca_base.specs.Putting.{first_note}
 use Rattle.ca_replace.proofs.Showing.{looking, walked_further, place_still}
+use Rattle.ca_base.proofs.Tallies.{tallied_as}
+use Rattle.ca_replace.proofs.Tallies.{tallied_walk}
 use Rattle.ca_replace.proofs.attempting.find.Goals as goal
 
 pub search-place-requires-clause-readable : goal.search-place-requires-clause-readable
@@ -29,3 +31,9 @@ pub returns-clause-further : goal.returns-clause-further
 returns-clause-further c = subst (λ (m : MyTree). IsFurther c.args.pass.now.seat.me.0.upper m.0.upper) (sym c.search-place.ensures.still)
     (walked_further c.args.space.now.table.shared.key _ c.args.pass.now.seat.me c.walk-cursor.new.pass.seat.me c.walk-cursor.result
     c.walk-cursor.ensures.walked)
+
+pub returns-clause-tally : goal.returns-clause-tally
+returns-clause-tally c h = tallied_as c.walk-cursor.new.pass.tally c.search-place.new.pass.tally c.walk-cursor.new.pass.seat.me.0.upper
+    c.search-place.new.pass.seat.me.0.upper c.search-place.ensures.tally (ap (λ (m : MyTree). m.0.upper) c.search-place.ensures.still)
+    (tallied_walk c.args.space.now.table.shared.key _ c.args.pass.now.seat.me c.walk-cursor.new.pass.seat.me c.walk-cursor.result c.args.pass.now.tally
+    c.walk-cursor.new.pass.tally c.walk-cursor.ensures.walked c.walk-cursor.ensures.tally h)

@@ -1,26 +1,94 @@
-use Rattle.std.proofs.Common.{◌≡◌, length, Ok, Some, sym, ap, subst}
+use Rattle.std.proofs.Common.{◌≡◌, ℤ, get_or, to_z, of_z, w32, length, Ok, Some, sym, ap, ◌∙◌, subst, arith}
+use Rattle.std.proofs.lemmas.Int.{ints, to_z-of_z}
 use Rattle.ca_model.specs.Event.{Remove}
+use Rattle.ca_model.specs.History.{Del}
+use Rattle.ca_base.specs.Finding.{IsReadable}
 use Rattle.ca_node.specs.Told.{MyTree}
 use Rattle.ca_node.specs.TreeView.{TreeView}
 use Rattle.ca_base.specs.Putting.{IsShownLast, first_note, object_at}
-use Rattle.ca_replace.proofs.Showing.{shown_last, tried_by}
+use Rattle.ca_replace.specs.Adapting.{IsMoved}
+use Rattle.ca_replace.proofs.GoingOn.{is_new, known_then, settled_found, settled_on, settled_paid, settled_tried}
+use Rattle.ca_replace.proofs.Showing.{shown_last}
+use Rattle.ca_base.proofs.Tallies.{tallied_as}
+use Rattle.ca_replace.proofs.DueCauses.{settled_met}
 use Rattle.ca_replace.proofs.attempting.remove_there.Goals as goal
 
 pub count-many-requires-clause-readable : goal.count-many-requires-clause-readable
 count-many-requires-clause-readable c = (first_note c.args.pass.now.seat.me.0.upper.notes, c.requires.looking.readable)
 
+pub next_statistic-statistic-requires-clause-readable : goal.next_statistic-statistic-requires-clause-readable
+next_statistic-statistic-requires-clause-readable c = (
+  first_note c.args.pass.now.seat.me.0.upper.notes,
+  subst (λ (m : MyTree). IsReadable c.args.space.now.table.shared.key m.0.upper c.args.cursor.base (first_note c.args.pass.now.seat.me.0.upper.notes))
+      (sym c.count-many.ensures.still) c.requires.looking.readable,
+)
+
 pub remove_at-tried-requires-clause-shown : goal.remove_at-tried-requires-clause-shown
 remove_at-tried-requires-clause-shown c = subst (λ (m : MyTree). IsShownLast c.args.space.now.table.shared.key m.0.upper c.args.cursor.base)
-    (sym c.count-many.ensures.still) (shown_last c.args.space.now.table.shared.key c.args.pass.now.seat.me.0.upper c.args.key.now c.args.cursor c.requires.looking)
+    (sym (c.next_statistic-statistic.ensures.still ∙ c.count-many.ensures.still))
+    (shown_last c.args.space.now.table.shared.key c.args.pass.now.seat.me.0.upper _ c.args.cursor c.requires.looking)
 
 pub remove_at-tried-requires-clause-many : goal.remove_at-tried-requires-clause-many
 remove_at-tried-requires-clause-many c = subst (λ (m : MyTree). c.count-many.result ≡ length (first_note m.0.upper.notes).objects)
-    (sym c.count-many.ensures.still)
+    (sym (c.next_statistic-statistic.ensures.still ∙ c.count-many.ensures.still))
     (c.count-many.ensures.count (first_note c.args.pass.now.seat.me.0.upper.notes) c.requires.looking.readable)
 
-pub returns-clause-tried : goal.returns-clause-tried
-returns-clause-tried c = tried_by c.args.space.now.table.shared.key
+pub settle-requires-clause-known : goal.settle-requires-clause-known
+settle-requires-clause-known c = known_then c.args.space.now.table.shared.key
     (λ (u : TreeView). Remove c.args.key.now (Some (object_at (Ok c.args.at) (first_note u.notes).objects)))
-    c.remove_at-tried.result c.outcome_of.result c.args.pass.now.seat.me.0.upper c.count-many.new.pass.seat.me.0.upper
-    c.remove_at-tried.new.pass.seat.me.0.upper (ap (λ (m : MyTree). m.0.upper) c.count-many.ensures.still) c.outcome_of.ensures.value
-    c.requires.looking.known c.remove_at-tried.ensures.removed
+    c.remove_at-tried.result c.args.pass.now.seat.me.0.upper c.next_statistic-statistic.new.pass.seat.me.0.upper c.remove_at-tried.new.pass.seat.me.0.upper
+    (ap (λ (m : MyTree). m.0.upper) (c.next_statistic-statistic.ensures.still ∙ c.count-many.ensures.still)) c.requires.looking.known
+    c.remove_at-tried.ensures.removed
+
+pub settle-requires-clause-placed : goal.settle-requires-clause-placed
+settle-requires-clause-placed c won = is_new c.args.space.now.table.shared.key
+    (Del c.args.key.now) c.word_of-word.result c.remove_at-tried.new.placed
+    c.remove_at-tried.result c.next_statistic-statistic.new.pass.seat.me.0.upper c.remove_at-tried.new.pass.seat.me.0.upper c.remove_at-tried.ensures.renewed
+    c.remove_at-tried.ensures.placed won
+
+pub returns-clause-tried : goal.returns-clause-tried
+returns-clause-tried c = settled_tried c.args.space.now.table.shared.key
+    (λ (u : TreeView). Remove c.args.key.now (Some (object_at (Ok c.args.at) (first_note u.notes).objects)))
+    c.remove_at-tried.result c.settle.result c.args.pass.now.seat.me.0.upper c.next_statistic-statistic.new.pass.seat.me.0.upper
+    c.remove_at-tried.new.pass.seat.me.0.upper c.settle.new.pass.seat.me.0.upper
+    (ap (λ (m : MyTree). m.0.upper) (c.next_statistic-statistic.ensures.still ∙ c.count-many.ensures.still)) c.settle.ensures.come
+    c.requires.looking.known c.remove_at-tried.ensures.removed c.settle.ensures.further
+
+pub returns-clause-gone_on : goal.returns-clause-gone_on
+returns-clause-gone_on c = let note = first_note c.args.pass.now.seat.me.0.upper.notes in let k : ℤ = c.next_statistic-statistic.result in
+    settled_on c.args.space.now.table.shared.key c.args.tuning.now
+    (λ (u : TreeView). Remove c.args.key.now (Some (object_at (Ok c.args.at) (first_note u.notes).objects)))
+    (Del c.args.key.now) (to_z w32 (of_z w32 k)) c.word_of-word.result
+    c.remove_at-tried.result c.settle.result c.args.adapting.now c.settle.new.adapting c.args.pass.now.seat.me.0.upper
+    c.next_statistic-statistic.new.pass.seat.me.0.upper c.remove_at-tried.new.pass.seat.me c.settle.new.pass.seat.me
+    (ap (λ (m : MyTree). m.0.upper) (c.next_statistic-statistic.ensures.still ∙ c.count-many.ensures.still)) c.settle.ensures.come
+    c.remove_at-tried.ensures.removed c.remove_at-tried.ensures.renewed
+    (subst (λ (x : ℤ). IsMoved c.args.tuning.now (get_or note.its 1 0) c.args.adapting.now.lost x)
+    (sym (to_z-of_z w32 k (let small = c.next_statistic-statistic.type_inv in omega (arith, ints)))) (c.next_statistic-statistic.ensures.moved note
+    (subst (λ (m : MyTree). IsReadable c.args.space.now.table.shared.key m.0.upper c.args.cursor.base note) (sym c.count-many.ensures.still)
+    c.requires.looking.readable)))
+    c.word_of-word.ensures c.settle.ensures.settled
+
+pub returns-clause-counted : goal.returns-clause-counted
+returns-clause-counted c = settled_paid c.args.space.now.table.shared.key _ _ c.word_of-word.result c.remove_at-tried.result c.args.spent.now
+    c.remove_at-tried.new.spent c.settle.new.spent c.args.pass.now.seat.me c.next_statistic-statistic.new.pass.seat.me c.remove_at-tried.new.pass.seat.me
+    c.settle.new.pass.seat.me (c.next_statistic-statistic.ensures.still ∙ c.count-many.ensures.still) c.remove_at-tried.ensures.removed
+    c.remove_at-tried.ensures.renewed c.remove_at-tried.ensures.counted c.settle.ensures.counted
+
+pub returns-clause-found : goal.returns-clause-found
+returns-clause-found c = settled_found c.args.space.now.table.shared.key c.args.tuning.now (to_z w32 (of_z w32 c.next_statistic-statistic.result)) c.remove_at-tried.result
+    c.settle.result c.args.adapting.now c.settle.new.adapting c.args.pass.now.seat.me c.next_statistic-statistic.new.pass.seat.me
+    c.remove_at-tried.new.pass.seat.me c.settle.new.pass.seat.me (c.next_statistic-statistic.ensures.still ∙ c.count-many.ensures.still)
+    c.settle.ensures.come c.remove_at-tried.ensures.found c.settle.ensures.settled
+
+pub returns-clause-tally : goal.returns-clause-tally
+returns-clause-tally c h = c.settle.ensures.tally (c.remove_at-tried.ensures.tally (tallied_as c.args.pass.now.tally c.next_statistic-statistic.new.pass.tally
+    c.args.pass.now.seat.me.0.upper c.next_statistic-statistic.new.pass.seat.me.0.upper
+    (c.next_statistic-statistic.ensures.tally ∙ c.count-many.ensures.tally)
+    (ap (λ (m : MyTree). m.0.upper) (c.next_statistic-statistic.ensures.still ∙ c.count-many.ensures.still)) h))
+
+pub returns-clause-met_as : goal.returns-clause-met_as
+returns-clause-met_as c = settled_met c.remove_at-tried.result c.settle.result c.settle.new.adapting.last c.args.spent.now c.remove_at-tried.new.spent
+    c.args.pass.now.seat.me c.next_statistic-statistic.new.pass.seat.me c.remove_at-tried.new.pass.seat.me c.settle.new.pass.seat.me
+    (c.next_statistic-statistic.ensures.still ∙ c.count-many.ensures.still) c.settle.ensures.come c.remove_at-tried.ensures.found
+    c.remove_at-tried.ensures.counted c.settle.ensures.met

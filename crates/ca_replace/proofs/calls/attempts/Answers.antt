@@ -1,12 +1,18 @@
-use Rattle.std.proofs.Common.{◌<◌, refl, ◌∙◌, sym, subst, inl, inr, vec_len, Result, arith}
+use Rattle.std.proofs.Common.{◌≡◌, ◌⊎◌, ℕ, ◌+◌, ◌<◌, ◌≤◌, refl, ap, ◌∙◌, sym, subst, inl, inr, ⊎_elim, vec_len, Result, arith}
+use Rattle.ca_base.specs.Counting.{losses, HasMet}
+use Rattle.ca_node.specs.Told.{MyTree}
+use Rattle.ca_node.specs.TreeView.{TreeView}
 use Rattle.ca_base.specs.Progress.{IsFurther}
 use Rattle.ca_replace.specs.declared.attempting.Stop.{Stop}
 use Rattle.ca_replace.specs.declared.attempting.Stop.TheVariants as stop
+use Rattle.ca_replace.specs.Adapting.{Waits}
 use Rattle.ca_replace.specs.Attempting.{HasMetBy, total}
 use Rattle.ca_replace.proofs.Causing.{empty_before, few_from, nearer}
 use Rattle.ca_replace.proofs.Counted.{none_paid, paid_both, spends_more}
+use Rattle.ca_replace.proofs.GoingOn.{gone_on, idle_waits, refused_gone, stopped_waits, waits_on}
 use Rattle.ca_replace.proofs.Meeting.{further_on}
 use Rattle.ca_replace.proofs.Turns.{no_further, stopped_further}
+use Rattle.ca_replace.proofs.DueCauses.{NoneFall, refused_met}
 use Rattle.ca_replace.proofs.calls.attempts.Goals as goal
 
 pub loop-come-init : goal.loop-come-init
@@ -16,6 +22,7 @@ loop-come-init g c = record {
   further = no_further c.args.pass.now.seat.me.0.upper;
   counted = none_paid c.args.spent.now c.args.pass.now.seat.me c.args.pass.now.seat.me refl refl;
   looks = omega arith;
+  waits = idle_waits c.args.adapting.now c.args.pass.now.seat.me.0.upper c.args.pass.now.seat.me.0.upper (refl, refl);
   worn = refl;
   first = inl (refl, refl);
 }
@@ -50,6 +57,10 @@ loop-come-preserved g c = let i = c.loop-come.invariant in let tells = λ (x : _
           (paid_both c.args.spent.now c.loop-come.spent c.turns-come.new.spent start before behind i.counted c.turns-come.ensures.counted)
           c.refill.ensures.counted;
       looks = let before = i.looks in let same = c.turns-come.ensures.looks in let more = c.refill.ensures.looked in omega arith;
+      waits = subst (Waits c.args.adapting.now c.turns-come.new.adapting start.0.upper) (sym c.refill.ensures.upper)
+          (waits_on c.args.adapting.now c.loop-come.adapting c.turns-come.new.adapting start.0.upper before.0.upper behind.0.upper i.waits
+          (stopped_waits (λ (x : _). g.A.Attempt.edits c.args.what.now x) c.args.tree.now.space.table.shared.key c.args.tree.now.tuning
+          c.loop-come.adapting c.turns-come.new.adapting c.turns-come.result stop.Empty before.0.upper behind.0.upper empty c.turns-come.ensures.gone_on));
       worn = omega (arith, i.worn, met.1, given.1);
       first = inr (empty_before (vec_len c.loop-come.pass.kept.rows) start before behind last c.args.pass.now.kept.rows i.first met given);
     }
@@ -63,3 +74,44 @@ pub returns-else-is_empty-clause-few : goal.returns-else-is_empty-clause-few
 returns-else-is_empty-clause-few g c = let one = c.loop-come.invariant.counted.more in let two = c.turns-come.ensures.counted.more in
     few_from c.args.pass.now.seat.me c.turns-come.new.pass.seat.me c.keep_few.new.pass.seat.me c.keep_few.new.pass.kept.rows
     (omega arith) (let before = c.loop-come.invariant.looks in let same = c.turns-come.ensures.looks in omega arith) c.keep_few.ensures.few
+
+pub returns-in-Err-clause-gone_on : goal.returns-in-Err-clause-gone_on
+returns-in-Err-clause-gone_on g c = subst (Waits c.args.adapting.now c.turns-come.new.adapting c.args.pass.now.seat.me.0.upper) (sym c.refill.ensures.upper)
+    (waits_on c.args.adapting.now c.loop-come.adapting c.turns-come.new.adapting c.args.pass.now.seat.me.0.upper c.loop-come.pass.seat.me.0.upper
+    c.turns-come.new.pass.seat.me.0.upper c.loop-come.invariant.waits
+    (stopped_waits (λ (x : _). g.A.Attempt.edits c.args.what.now x) c.args.tree.now.space.table.shared.key c.args.tree.now.tuning
+    c.loop-come.adapting c.turns-come.new.adapting c.turns-come.result stop.Empty c.loop-come.pass.seat.me.0.upper c.turns-come.new.pass.seat.me.0.upper
+    (c.if-is_empty.ensures.0 refl) c.turns-come.ensures.gone_on))
+
+pub returns-else-is_empty-clause-gone_on : goal.returns-else-is_empty-clause-gone_on
+returns-else-is_empty-clause-gone_on g c = let edits = λ (x : _). g.A.Attempt.edits c.args.what.now x in let z = c.args.tree.now.space.table.shared.key in
+    let t = c.args.tree.now.tuning in let a = c.args.adapting.now in let b = c.turns-come.new.adapting in let u = c.args.pass.now.seat.me.0.upper in
+    refused_gone edits z t a b c.turns-come.result c.or_refusal.result _ _ u c.turns-come.new.pass.seat.me.0.upper c.keep_few.new.pass.seat.me.0.upper
+    c.keep_few.ensures.upper c.or_refusal.ensures
+    (gone_on edits z t a c.loop-come.adapting b c.turns-come.result u c.loop-come.pass.seat.me.0.upper c.turns-come.new.pass.seat.me.0.upper
+    c.loop-come.invariant.waits c.turns-come.ensures.gone_on)
+
+-- Attempts before this one, and rows that were given back, count nothing less.
+so_far : (m m' : MyTree) (Kept : Type 0) → losses m ≤ losses m' → (Kept × (m'.0.empty ≡ m.0.empty)) ⊎ (m.0.empty + 1 ≤ m'.0.empty) → m'.0.worn ≡ m.0.worn
+    → NoneFall m m'
+so_far m m' Kept more first worn = record {
+  lost = more;
+  empty = ⊎_elim (λ (x : Kept × (m'.0.empty ≡ m.0.empty)). let e = x.1 in omega arith) (λ (l : m.0.empty + 1 ≤ m'.0.empty). omega arith) first;
+  worn = omega (arith, worn);
+}
+
+given_none : (m m' : MyTree) (lost : ℕ) → m'.0.lost ≡ m.0.lost + lost → m'.0.upper ≡ m.0.upper → HasMet 0 0 m m' → NoneFall m m'
+given_none m m' lost is same met = let upper = ap (λ (u : TreeView). u.lost) same in let empty = met.0 in let worn = met.1 in record {
+  lost = omega (arith, is, upper);
+  empty = omega arith;
+  worn = omega arith;
+}
+
+pub returns-else-is_empty-clause-met_as : goal.returns-else-is_empty-clause-met_as
+returns-else-is_empty-clause-met_as g c = refused_met (λ (x : _). g.A.Attempt.edits c.args.what.now x) c.turns-come.new.adapting.last c.turns-come.result
+    c.or_refusal.result _ _ c.args.pass.now.seat.me c.loop-come.pass.seat.me c.turns-come.new.pass.seat.me c.keep_few.new.pass.seat.me
+    (so_far c.args.pass.now.seat.me c.loop-come.pass.seat.me (vec_len c.loop-come.pass.kept.rows ≡ vec_len c.args.pass.now.kept.rows)
+    c.loop-come.invariant.counted.more c.loop-come.invariant.first c.loop-come.invariant.worn)
+    (given_none c.turns-come.new.pass.seat.me c.keep_few.new.pass.seat.me c.keep_few.result c.keep_few.ensures.lost c.keep_few.ensures.upper
+    c.keep_few.ensures.met)
+    c.or_refusal.ensures c.turns-come.ensures.met_as

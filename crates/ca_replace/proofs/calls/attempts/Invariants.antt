@@ -1,5 +1,6 @@
 use Rattle.std.proofs.Common.{◌≡◌, ◌⊎◌, ◌+◌, ◌-◌, ◌*◌, ◌≤◌, min, vec_len}
 use Rattle.ca_base.specs.Progress.{IsFurther}
+use Rattle.ca_replace.specs.Adapting.{Waits}
 use Rattle.ca_replace.specs.Attempting.{IsPaid, total}
 use Rattle.ca_replace.specs.Resting.{IsResting}
 use Rattle.ca_replace.proofs.calls.attempts.Given as goal
@@ -7,10 +8,11 @@ use Rattle.ca_replace.proofs.calls.attempts.Given as goal
 abbrev pub invariant-loop-come : goal.invariant-loop-come
 invariant-loop-come g l = record {
   number : l.pass.number ≡ l.fn.pass.number;
-  resting : IsResting l.tree.space.table.shared.table_id l.tree.space.table.shared.key l.pass.number l.pass.kept.rows l.pass.seat;
+  resting : IsResting l.tree.space.table.shared.table_id l.tree.space.table.shared.key l.pass.number l.pass.tally l.pass.kept.rows l.pass.seat;
   further : IsFurther l.fn.pass.seat.me.0.upper l.pass.seat.me.0.upper;
   counted : IsPaid l.fn.spent l.spent l.fn.pass.seat.me l.pass.seat.me;
   looks : l.fn.pass.seat.me.0.pin.looks ≤ l.pass.seat.me.0.pin.looks;
+  waits : Waits l.fn.adapting l.adapting l.fn.pass.seat.me.0.upper l.pass.seat.me.0.upper;
   worn : l.pass.seat.me.0.worn ≡ l.fn.pass.seat.me.0.worn;
   first : ((vec_len l.pass.kept.rows ≡ vec_len l.fn.pass.kept.rows) × (l.pass.seat.me.0.empty ≡ l.fn.pass.seat.me.0.empty))
       ⊎ (l.fn.pass.seat.me.0.empty + 1 ≤ l.pass.seat.me.0.empty);

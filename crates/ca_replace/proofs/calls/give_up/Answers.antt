@@ -5,7 +5,7 @@ use Rattle.ca_replace.proofs.calls.give_up.Goals as goal
 pub returns-clause-resting : goal.returns-clause-resting
 returns-clause-resting c = let space = c.args.tree.now.space.table.shared in
     rests_as space.table_id space.key c.args.pass.now.number c.refuse.new.pass.number c.args.pass.now.kept c.refuse.new.pass.kept c.refuse.new.pass.seat
-    c.refuse.ensures.number c.refuse.ensures.kept
+    c.refuse.ensures.number c.refuse.ensures.tally c.refuse.ensures.kept
     (rests_refused space.table_id space.key c.args.pass.now.number c.args.pass.now.kept.rows c.args.pass.now.seat c.refuse.new.pass.seat _ c.requires.resting
     c.refuse.ensures.same.0 c.refuse.ensures.counted)
 

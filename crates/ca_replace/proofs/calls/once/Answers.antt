@@ -1,9 +1,15 @@
-use Rattle.std.proofs.Common.{ap, ◌∙◌, subst, arith}
+use Rattle.std.proofs.Common.{◌≡◌, refl, sym, ap, ◌∙◌, subst, arith}
 use Rattle.ca_node.specs.Told.{MyTree}
+use Rattle.ca_replace.specs.Adapting.{HasGoneOn}
+use Rattle.ca_node.proofs.Tallies.{tallied_still}
 use Rattle.ca_replace.specs.Attempting.{HasTriedTo}
-use Rattle.ca_replace.specs.Made.{IsTuned}
+use Rattle.ca_adapt.specs.Tuned.{IsTuned}
 use Rattle.ca_rows.specs.declared.sizes.Sizes.{Sizes}
+use Rattle.ca_replace.proofs.GoingOn.{gone_pinned}
 use Rattle.ca_replace.proofs.Turns.{rests_as, rests_again, none_pinned, tried_pinned, tried_known}
+use Rattle.ca_replace.proofs.DueCauses.{NoneFall, meets_between}
+use Rattle.ca_node.specs.TreeView.{TreeView}
+use Rattle.ca_rows.specs.declared.view.Pin.{Pin}
 use Rattle.ca_replace.proofs.calls.once.Goals as goal
 
 pub attempt-tried-requires-clause-number : goal.attempt-tried-requires-clause-number
@@ -21,14 +27,16 @@ pub returns-clause-resting : goal.returns-clause-resting
 returns-clause-resting g c = let space = c.args.tree.now.space.table.shared in let pin = c.pin.ensures.pinned.3 in let two = c.attempt-tried.ensures in
     let tells = λ (x : _). g.A.Attempt.tells c.args.what.now x c.attempt-tried.new.left in
     rests_as space.table_id space.key c.args.pass.now.number c.unpin.new.pass.number c.attempt-tried.new.pass.kept c.unpin.new.pass.kept c.unpin.new.pass.seat
-    (c.unpin.ensures.number ∙ (two.number ∙ c.pin.ensures.number)) c.unpin.ensures.kept
+    (c.unpin.ensures.number ∙ (two.number ∙ c.pin.ensures.number)) c.unpin.ensures.tally c.unpin.ensures.kept
     (rests_again space.table_id space.key c.args.pass.now.number c.args.pass.now.kept.rows c.attempt-tried.new.pass.kept.rows c.args.pass.now.seat
     c.pin.new.pass.seat
     c.attempt-tried.new.pass.seat c.unpin.new.pass.seat c.requires.resting
     (ap (λ (m : MyTree). m.0.sizes) pin, ap (λ (m : MyTree). m.0.pin.number) pin, ap (λ (m : MyTree). m.0.upper.number) pin)
     (two.same.0 ∙ c.pin.ensures.same.0) two.pin two.none
     (tried_known tells space.key c.attempt-tried.result c.pin.new.pass.seat.me.0.upper c.attempt-tried.new.pass.seat.me.0.upper two.tried)
-    c.unpin.ensures.same.0 c.unpin.ensures.unpinned)
+    c.unpin.ensures.same.0 c.unpin.ensures.unpinned
+    (λ h. two.tally (tallied_still c.args.pass.now.tally c.pin.new.pass.tally c.args.pass.now.seat.me.0.upper c.pin.new.pass.seat.me.0.upper
+    c.pin.ensures.tally (ap (λ (m : MyTree). m.0.upper.splits) pin) (ap (λ (m : MyTree). m.0.upper.joins) pin) h)))
 
 pub returns-clause-tried : goal.returns-clause-tried
 returns-clause-tried g c = let z = c.args.tree.now.space.table.shared.key in
@@ -37,3 +45,20 @@ returns-clause-tried g c = let z = c.args.tree.now.space.table.shared.key in
     (ap (λ (m : MyTree). m.0.upper) c.unpin.ensures.unpinned)
     (subst (λ (m : MyTree). HasTriedTo tells z c.attempt-tried.result m.0.upper c.attempt-tried.new.pass.seat.me.0.upper) c.pin.ensures.pinned.3
     c.attempt-tried.ensures.tried)
+
+pub returns-clause-gone_on : goal.returns-clause-gone_on
+returns-clause-gone_on g c = let z = c.args.tree.now.space.table.shared.key in let edits = λ (x : _). g.A.Attempt.edits c.args.what.now x in
+    gone_pinned edits z c.args.tree.now.tuning c.args.adapting.now c.attempt-tried.new.adapting c.attempt-tried.result c.args.pass.now.seat.me.0.upper
+    c.attempt-tried.new.pass.seat.me.0.upper c.unpin.new.pass.seat.me.0.upper (ap (λ (m : MyTree). m.0.upper) c.unpin.ensures.unpinned)
+    (subst (λ (m : MyTree). HasGoneOn edits z c.args.tree.now.tuning c.args.adapting.now c.attempt-tried.new.adapting c.attempt-tried.result m.0.upper
+    c.attempt-tried.new.pass.seat.me.0.upper) c.pin.ensures.pinned.3 c.attempt-tried.ensures.gone_on)
+
+-- Pinning and unpinning count nothing.
+pinned_none : (m m' : MyTree) (e : Pin) (u : TreeView) → m' ≡ (record m.0 { pin = e; upper = u }, m.1) → (u.lost ≡ m.0.upper.lost) → NoneFall m m'
+pinned_none m m' e u is same = subst (NoneFall m) (sym is) record { lost = omega arith; empty = omega arith; worn = omega arith }
+
+pub returns-clause-met_as : goal.returns-clause-met_as
+returns-clause-met_as g c = meets_between (λ (x : _). g.A.Attempt.edits c.args.what.now x) c.attempt-tried.new.adapting.last c.attempt-tried.result
+    c.args.pass.now.seat.me c.pin.new.pass.seat.me c.attempt-tried.new.pass.seat.me c.unpin.new.pass.seat.me
+    (pinned_none c.args.pass.now.seat.me c.pin.new.pass.seat.me _ _ c.pin.ensures.pinned.3 refl)
+    (pinned_none c.attempt-tried.new.pass.seat.me c.unpin.new.pass.seat.me _ _ c.unpin.ensures.unpinned refl) c.attempt-tried.ensures.met_as

@@ -1,9 +1,11 @@
 use Rattle.std.proofs.Common.{◌<◌, refl, ◌∙◌, subst, arith}
 use Rattle.ca_base.proofs.Counts.{met_both}
 use Rattle.ca_replace.proofs.Counted.{met_turn, met_then, none_met, none_paid, one_turn_less, paid_both}
+use Rattle.ca_replace.proofs.GoingOn.{gone_on, idle_waits, turn_waits, waits_on}
 use Rattle.ca_replace.proofs.Meeting.{further_on}
 use Rattle.ca_replace.proofs.Showing.{tried_on}
 use Rattle.ca_replace.proofs.Turns.{turn_further, no_further}
+use Rattle.ca_replace.proofs.DueCauses.{meets_between, met_none_fall, same_none}
 use Rattle.ca_replace.proofs.calls.turns.Goals as goal
 
 pub loop-pass-init : goal.loop-pass-init
@@ -14,6 +16,7 @@ loop-pass-init g c = record {
   counted = none_paid c.args.spent.now c.args.pass.now.seat.me c.args.pass.now.seat.me refl refl;
   looks = refl;
   met = none_met c.args.pass.now.seat.me;
+  waits = idle_waits c.args.adapting.now c.args.pass.now.seat.me.0.upper c.args.pass.now.seat.me.0.upper (refl, refl);
 }
 
 pub once-tried-requires-clause-resting : goal.once-tried-requires-clause-resting
@@ -31,6 +34,11 @@ loop-pass-preserved g c = let tells = λ (x : _). g.A.Attempt.tells c.args.what.
   looks = c.once-tried.ensures.looks ∙ c.loop-pass.invariant.looks;
   met = met_both 0 0 0 0 c.args.pass.now.seat.me c.loop-pass.pass.seat.me c.once-tried.new.pass.seat.me c.loop-pass.invariant.met
       (met_turn c.once-tried.result c.loop-pass.pass.seat.me c.once-tried.new.pass.seat.me (c.if-not-has_next.ensures.0 refl) c.once-tried.ensures.found).0;
+  waits = waits_on c.args.adapting.now c.loop-pass.adapting c.once-tried.new.adapting c.args.pass.now.seat.me.0.upper c.loop-pass.pass.seat.me.0.upper
+      c.once-tried.new.pass.seat.me.0.upper c.loop-pass.invariant.waits
+      (turn_waits (λ (x : _). g.A.Attempt.edits c.args.what.now x) c.args.tree.now.space.table.shared.key c.args.tree.now.tuning c.loop-pass.adapting
+      c.once-tried.new.adapting c.once-tried.result c.loop-pass.pass.seat.me.0.upper c.once-tried.new.pass.seat.me.0.upper
+      (c.if-not-has_next.ensures.0 refl) c.once-tried.ensures.gone_on);
 }
 
 pub returns-clause-number : goal.returns-clause-number
@@ -71,3 +79,17 @@ returns-clause-counted g c = c.loop-pass.invariant.counted
 
 pub returns-clause-found : goal.returns-clause-found
 returns-clause-found g c = c.loop-pass.invariant.met
+
+pub returns-clause-gone_on : goal.returns-clause-gone_on
+returns-clause-gone_on g c = c.loop-pass.invariant.waits
+
+pub returns-then-not-has_next-clause-gone_on : goal.returns-then-not-has_next-clause-gone_on
+returns-then-not-has_next-clause-gone_on g c = gone_on (λ (x : _). g.A.Attempt.edits c.args.what.now x) c.args.tree.now.space.table.shared.key
+    c.args.tree.now.tuning c.args.adapting.now c.loop-pass.adapting c.once-tried.new.adapting c.once-tried.result c.args.pass.now.seat.me.0.upper
+    c.loop-pass.pass.seat.me.0.upper c.once-tried.new.pass.seat.me.0.upper c.loop-pass.invariant.waits c.once-tried.ensures.gone_on
+
+pub returns-then-not-has_next-clause-met_as : goal.returns-then-not-has_next-clause-met_as
+returns-then-not-has_next-clause-met_as g c = meets_between (λ (x : _). g.A.Attempt.edits c.args.what.now x) c.once-tried.new.adapting.last
+    c.once-tried.result c.args.pass.now.seat.me c.loop-pass.pass.seat.me c.once-tried.new.pass.seat.me c.once-tried.new.pass.seat.me
+    (met_none_fall c.args.pass.now.seat.me c.loop-pass.pass.seat.me c.loop-pass.invariant.counted.more c.loop-pass.invariant.met)
+    (same_none c.once-tried.new.pass.seat.me c.once-tried.new.pass.seat.me refl) c.once-tried.ensures.met_as

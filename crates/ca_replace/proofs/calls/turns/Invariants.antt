@@ -1,6 +1,7 @@
 use Rattle.std.proofs.Common.{◌≡◌, ◌-◌}
 use Rattle.ca_base.specs.Counting.{HasMet}
 use Rattle.ca_base.specs.Progress.{IsFurther}
+use Rattle.ca_replace.specs.Adapting.{Waits}
 use Rattle.ca_replace.specs.Attempting.{IsPaid, total}
 use Rattle.ca_replace.specs.Resting.{IsResting}
 use Rattle.ca_replace.proofs.calls.turns.Given as goal
@@ -8,11 +9,12 @@ use Rattle.ca_replace.proofs.calls.turns.Given as goal
 abbrev pub invariant-loop-pass : goal.invariant-loop-pass
 invariant-loop-pass g l = record {
   number : l.pass.number ≡ l.fn.pass.number;
-  resting : IsResting l.tree.space.table.shared.table_id l.tree.space.table.shared.key l.pass.number l.pass.kept.rows l.pass.seat;
+  resting : IsResting l.tree.space.table.shared.table_id l.tree.space.table.shared.key l.pass.number l.pass.tally l.pass.kept.rows l.pass.seat;
   further : IsFurther l.fn.pass.seat.me.0.upper l.pass.seat.me.0.upper;
   counted : IsPaid l.fn.spent l.spent l.fn.pass.seat.me l.pass.seat.me;
   looks : l.pass.seat.me.0.pin.looks ≡ l.fn.pass.seat.me.0.pin.looks;
   met : HasMet 0 0 l.fn.pass.seat.me l.pass.seat.me;
+  waits : Waits l.fn.adapting l.adapting l.fn.pass.seat.me.0.upper l.pass.seat.me.0.upper;
 }
 
 abbrev pub decreases-loop-pass : goal.decreases-loop-pass

@@ -13,7 +13,11 @@ use Rattle.ca_base.specs.Putting.{first_note, object_at}
 use Rattle.ca_replace.specs.Attempting.{IsLooking, HasFetched}
 use Rattle.ca_replace.specs.Tells.{Alters}
 use Rattle.ca_replace.proofs.Asking.{left_of}
+use Rattle.ca_replace.proofs.GoingOn.{adapts_after, entered_waits, idle_waits, paid_behind, waits_on}
 use Rattle.ca_replace.proofs.Showing.{did, read_done}
+use Rattle.ca_replace.proofs.Tallies.{tallied_read}
+use Rattle.ca_replace.proofs.Meeting.{further_on}
+use Rattle.ca_replace.proofs.DueCauses.{met_between, quiet_none, same_none}
 use Rattle.ca_replace.proofs.changing.ChangeCallAttempt.attempt.Goals as goal
 
 pub returns-in_default-clause-tried : goal.returns-in_default-clause-tried
@@ -43,7 +47,7 @@ overflow_add-end g c = let key : List ℕ = c.args.self.now.key.now in let z = c
     c.clear.ensures c.requires.may found.1 c.f.ensures in record { fits = omega (arith, l.inside, l.pair.short) }
 
 -- what the function left, as the pair that is put
-left : (g : _) → (c : goal.After-put_there-arg-2-1 g) → IsLeft c.args.space.now.table.shared.key.keypos c.args.self.now.key.now c.f.new.arg3.items c.f.new.arg4
+left : (g : _) → (c : goal.After-put_there-arg-3-1 g) → IsLeft c.args.space.now.table.shared.key.keypos c.args.self.now.key.now c.f.new.arg3.items c.f.new.arg4
 left g c = let key : List ℕ = c.args.self.now.key.now in let z = c.args.space.now.table.shared.key in
     let found = subst (λ (p : Result ℕ ℕ). HasFetched z c.fetch-place.new.pass.seat.me.0.upper key p c.fetch-place.new.old.items) c.in-Ok.is
     c.fetch-place.ensures.fetched in
@@ -85,3 +89,52 @@ returns-in-Ok-put_there-clause-tried g c = let key : List ℕ = c.args.self.now.
     c.args.pass.now.seat.me.0.upper w c.put_there.new.pass.seat.me.0.upper
     (c.f.new.arg3.items, start, may, λ i. Change (own i).0 (Some (found.2 i)) (Some (own i).1)) c.fetch-place.ensures.further
     c.in-Ok-put_there.ensures.tried
+
+pub returns-in_default-clause-gone_on : goal.returns-in_default-clause-gone_on
+returns-in_default-clause-gone_on g c = entered_waits c.args.adapting.now c.args.pass.now.seat.me.0.upper c.fetch-place.new.pass.seat.me.0.upper
+    c.fetch-place.new.pass.seat.me c.enter.new.pass.seat.me _ refl c.fetch-place.ensures.quiet.idle c.enter.ensures.entered
+
+pub returns-then-not-f-clause-gone_on : goal.returns-then-not-f-clause-gone_on
+returns-then-not-f-clause-gone_on g c = entered_waits c.args.adapting.now c.args.pass.now.seat.me.0.upper c.fetch-place.new.pass.seat.me.0.upper
+    c.fetch-place.new.pass.seat.me c.enter-then-not-f.new.pass.seat.me _ refl c.fetch-place.ensures.quiet.idle c.enter-then-not-f.ensures.entered
+
+pub returns-in-Ok-put_there-clause-gone_on : goal.returns-in-Ok-put_there-clause-gone_on
+returns-in-Ok-put_there-clause-gone_on g c = adapts_after c.args.space.now.table.shared.key c.args.tuning.now c.args.adapting.now
+    c.put_there.new.adapting.last c.args.pass.now.seat.me.0.upper c.fetch-place.new.pass.seat.me.0.upper c.put_there.new.pass.seat.me.0.upper
+    c.fetch-place.ensures.quiet.idle c.in-Ok-put_there.ensures.gone_on
+
+pub returns-in-Err-clause-gone_on : goal.returns-in-Err-clause-gone_on
+returns-in-Err-clause-gone_on g c = waits_on c.args.adapting.now c.args.adapting.now c.put_there.new.adapting c.args.pass.now.seat.me.0.upper
+    c.fetch-place.new.pass.seat.me.0.upper c.put_there.new.pass.seat.me.0.upper
+    (idle_waits c.args.adapting.now c.args.pass.now.seat.me.0.upper c.fetch-place.new.pass.seat.me.0.upper c.fetch-place.ensures.quiet.idle)
+    c.in-Err.ensures.gone_on
+
+pub returns-in_default-clause-tally : goal.returns-in_default-clause-tally
+returns-in_default-clause-tally g c h = tallied_read c.fetch-place.new.pass.tally c.enter.new.pass.tally c.fetch-place.new.pass.seat.me
+    c.enter.new.pass.seat.me _ c.enter.ensures.tally c.enter.ensures.entered (c.fetch-place.ensures.tally h)
+
+pub returns-then-not-f-clause-tally : goal.returns-then-not-f-clause-tally
+returns-then-not-f-clause-tally g c h = tallied_read c.fetch-place.new.pass.tally c.enter-then-not-f.new.pass.tally c.fetch-place.new.pass.seat.me
+    c.enter-then-not-f.new.pass.seat.me _ c.enter-then-not-f.ensures.tally c.enter-then-not-f.ensures.entered (c.fetch-place.ensures.tally h)
+
+pub returns-in-Ok-put_there-clause-tally : goal.returns-in-Ok-put_there-clause-tally
+returns-in-Ok-put_there-clause-tally g c h = c.put_there.ensures.tally (c.fetch-place.ensures.tally h)
+
+pub returns-in-Err-clause-tally : goal.returns-in-Err-clause-tally
+returns-in-Err-clause-tally g c h = c.put_there.ensures.tally (c.fetch-place.ensures.tally h)
+
+pub returns-in-Err-clause-tried : goal.returns-in-Err-clause-tried
+returns-in-Err-clause-tried g c = (
+  further_on c.args.pass.now.seat.me.0.upper c.fetch-place.new.pass.seat.me.0.upper c.put_there.new.pass.seat.me.0.upper c.fetch-place.ensures.further
+      c.in-Err.ensures.tried.0,
+  c.in-Err.ensures.tried.1,
+)
+
+pub returns-in-Ok-put_there-clause-counted : goal.returns-in-Ok-put_there-clause-counted
+returns-in-Ok-put_there-clause-counted g c = paid_behind c.args.spent.now c.put_there.new.spent c.args.pass.now.seat.me c.fetch-place.new.pass.seat.me
+    c.put_there.new.pass.seat.me c.fetch-place.ensures.quiet c.put_there.ensures.counted
+
+pub returns-in-Ok-put_there-clause-met_as : goal.returns-in-Ok-put_there-clause-met_as
+returns-in-Ok-put_there-clause-met_as g c = met_between c.put_there.new.adapting.last.adapted c.args.pass.now.seat.me c.fetch-place.new.pass.seat.me c.put_there.new.pass.seat.me
+    c.put_there.new.pass.seat.me (quiet_none c.args.pass.now.seat.me c.fetch-place.new.pass.seat.me c.fetch-place.ensures.quiet)
+    (same_none c.put_there.new.pass.seat.me c.put_there.new.pass.seat.me refl) c.in-Ok-put_there.ensures.met_as

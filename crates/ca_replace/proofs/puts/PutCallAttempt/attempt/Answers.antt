@@ -1,7 +1,9 @@
 use Rattle.std.specs.Prelude.{slice_range}
 use Rattle.ca_model.specs.Event.{Event, Write}
-use Rattle.std.proofs.Common.{◌≡◌}
+use Rattle.std.proofs.Common.{◌≡◌, refl, true}
+use Rattle.ca_replace.proofs.GoingOn.{gone_after}
 use Rattle.ca_replace.proofs.Showing.{tried_on}
+use Rattle.ca_replace.proofs.DueCauses.{meets_between, quiet_none, same_none}
 use Rattle.ca_replace.proofs.puts.PutCallAttempt.attempt.Goals as goal
 
 pub returns-clause-tried : goal.returns-clause-tried
@@ -9,3 +11,17 @@ returns-clause-tried c = let o = c.args.self.now in
     tried_on (λ _ (e : Event). e ≡ Write (slice_range o.object.now o.key_at o.key_end) o.object.now) c.args.space.now.table.shared.key c.put_there.result
     c.args.pass.now.seat.me.0.upper c.find-place.new.pass.seat.me.0.upper c.put_there.new.pass.seat.me.0.upper c.find-place.ensures.further
     c.put_there.ensures.tried
+
+pub returns-clause-gone_on : goal.returns-clause-gone_on
+returns-clause-gone_on c = gone_after (λ (_ : Unit {0}). true) c.args.space.now.table.shared.key c.args.tuning.now c.args.adapting.now
+    c.put_there.new.adapting c.put_there.result c.args.pass.now.seat.me.0.upper c.find-place.new.pass.seat.me.0.upper
+    c.put_there.new.pass.seat.me.0.upper c.find-place.ensures.quiet.idle c.put_there.ensures.gone_on
+
+pub returns-clause-tally : goal.returns-clause-tally
+returns-clause-tally c h = c.put_there.ensures.tally (c.find-place.ensures.tally h)
+
+pub returns-clause-met_as : goal.returns-clause-met_as
+returns-clause-met_as c = meets_between (λ (_ : Unit {0}). true) c.put_there.new.adapting.last c.put_there.result c.args.pass.now.seat.me
+    c.find-place.new.pass.seat.me c.put_there.new.pass.seat.me c.put_there.new.pass.seat.me
+    (quiet_none c.args.pass.now.seat.me c.find-place.new.pass.seat.me c.find-place.ensures.quiet)
+    (same_none c.put_there.new.pass.seat.me c.put_there.new.pass.seat.me refl) c.put_there.ensures.met_as

@@ -2,7 +2,11 @@ use Rattle.std.proofs.Common.{◌≡◌, ◌∙◌, Bool, true, false, refl, sym
 use Rattle.std.specs.Prelude.{slice_range}
 use Rattle.ca_model.specs.Event.{Event, WriteNew}
 use Rattle.ca_node.specs.Told.{MyTree}
+use Rattle.ca_replace.proofs.GoingOn.{adapts_after, entered_waits, idle_waits, paid_behind, waits_on}
 use Rattle.ca_replace.proofs.Showing.{did, not_new, read_done}
+use Rattle.ca_replace.proofs.Tallies.{tallied_read}
+use Rattle.ca_replace.proofs.Meeting.{further_on}
+use Rattle.ca_replace.proofs.DueCauses.{met_between, quiet_none, same_none}
 use Rattle.ca_replace.proofs.puts.PutNewCallAttempt.attempt.Goals as goal
 
 pub enter-requires-clause-answer : goal.enter-requires-clause-answer
@@ -26,3 +30,44 @@ pub returns-in-Ok-clause-tried : goal.returns-in-Ok-clause-tried
 returns-in-Ok-clause-tried c = let o = c.args.self.now in let k = slice_range o.object.now o.key_at o.key_end in let z = c.args.space.now.table.shared.key in
     did (λ (new : Bool) (e : Event). e ≡ WriteNew k o.object.now new) z (WriteNew k o.object.now true) true c.args.pass.now.seat.me.0.upper
     c.find-place.new.pass.seat.me.0.upper c.put_there.new.pass.seat.me.0.upper refl c.find-place.ensures.further c.in-Ok.ensures.tried
+
+pub returns-then-is_ok-clause-gone_on : goal.returns-then-is_ok-clause-gone_on
+returns-then-is_ok-clause-gone_on c = entered_waits c.args.adapting.now c.args.pass.now.seat.me.0.upper c.find-place.new.pass.seat.me.0.upper
+    c.find-place.new.pass.seat.me c.enter.new.pass.seat.me _ refl c.find-place.ensures.quiet.idle c.enter.ensures.entered
+
+pub returns-in-Ok-clause-gone_on : goal.returns-in-Ok-clause-gone_on
+returns-in-Ok-clause-gone_on c = adapts_after c.args.space.now.table.shared.key c.args.tuning.now c.args.adapting.now c.put_there.new.adapting.last
+    c.args.pass.now.seat.me.0.upper c.find-place.new.pass.seat.me.0.upper c.put_there.new.pass.seat.me.0.upper c.find-place.ensures.quiet.idle
+    c.in-Ok.ensures.gone_on
+
+pub returns-in-Err-clause-gone_on : goal.returns-in-Err-clause-gone_on
+returns-in-Err-clause-gone_on c = waits_on c.args.adapting.now c.args.adapting.now c.put_there.new.adapting c.args.pass.now.seat.me.0.upper
+    c.find-place.new.pass.seat.me.0.upper c.put_there.new.pass.seat.me.0.upper
+    (idle_waits c.args.adapting.now c.args.pass.now.seat.me.0.upper c.find-place.new.pass.seat.me.0.upper c.find-place.ensures.quiet.idle)
+    c.in-Err.ensures.gone_on
+
+pub returns-then-is_ok-clause-tally : goal.returns-then-is_ok-clause-tally
+returns-then-is_ok-clause-tally c h = tallied_read c.find-place.new.pass.tally c.enter.new.pass.tally c.find-place.new.pass.seat.me c.enter.new.pass.seat.me _
+    c.enter.ensures.tally c.enter.ensures.entered (c.find-place.ensures.tally h)
+
+pub returns-in-Ok-clause-tally : goal.returns-in-Ok-clause-tally
+returns-in-Ok-clause-tally c h = c.put_there.ensures.tally (c.find-place.ensures.tally h)
+
+pub returns-in-Err-clause-tally : goal.returns-in-Err-clause-tally
+returns-in-Err-clause-tally c h = c.put_there.ensures.tally (c.find-place.ensures.tally h)
+
+pub returns-in-Err-clause-tried : goal.returns-in-Err-clause-tried
+returns-in-Err-clause-tried c = (
+  further_on c.args.pass.now.seat.me.0.upper c.find-place.new.pass.seat.me.0.upper c.put_there.new.pass.seat.me.0.upper c.find-place.ensures.further
+      c.in-Err.ensures.tried.0,
+  c.in-Err.ensures.tried.1,
+)
+
+pub returns-in-Ok-clause-counted : goal.returns-in-Ok-clause-counted
+returns-in-Ok-clause-counted c = paid_behind c.args.spent.now c.put_there.new.spent c.args.pass.now.seat.me c.find-place.new.pass.seat.me
+    c.put_there.new.pass.seat.me c.find-place.ensures.quiet c.put_there.ensures.counted
+
+pub returns-in-Ok-clause-met_as : goal.returns-in-Ok-clause-met_as
+returns-in-Ok-clause-met_as c = met_between c.put_there.new.adapting.last.adapted c.args.pass.now.seat.me c.find-place.new.pass.seat.me c.put_there.new.pass.seat.me
+    c.put_there.new.pass.seat.me (quiet_none c.args.pass.now.seat.me c.find-place.new.pass.seat.me c.find-place.ensures.quiet)
+    (same_none c.put_there.new.pass.seat.me c.put_there.new.pass.seat.me refl) c.in-Ok.ensures.met_as

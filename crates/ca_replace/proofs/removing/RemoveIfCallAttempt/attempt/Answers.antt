@@ -9,7 +9,11 @@ use Rattle.ca_node.specs.Told.{MyTree, entered}
 use Rattle.ca_base.specs.Putting.{first_note, object_at}
 use Rattle.ca_replace.specs.Attempting.{HasFetched}
 use Rattle.ca_replace.specs.Tells.{RemovesIf}
+use Rattle.ca_replace.proofs.GoingOn.{adapts_after, entered_waits, idle_waits, paid_behind, waits_on}
 use Rattle.ca_replace.proofs.Showing.{did, read_done}
+use Rattle.ca_replace.proofs.Tallies.{tallied_read}
+use Rattle.ca_replace.proofs.Meeting.{further_on}
+use Rattle.ca_replace.proofs.DueCauses.{met_between, quiet_none, same_none}
 use Rattle.ca_replace.proofs.removing.RemoveIfCallAttempt.attempt.Goals as goal
 
 pub returns-in_default-clause-tried : goal.returns-in_default-clause-tried
@@ -51,3 +55,52 @@ returns-in-Ok-remove_there-clause-tried g c = let key : List ℕ = c.args.self.n
     (record { shown = _; shows = c.as_slice.ensures.value; met = rw c.if-not-f.false at c.f.ensures }, λ i. Remove key (Some (found.2 i)))
     c.fetch-place.ensures.further
     c.in-Ok-remove_there.ensures.tried
+
+pub returns-in_default-clause-gone_on : goal.returns-in_default-clause-gone_on
+returns-in_default-clause-gone_on g c = entered_waits c.args.adapting.now c.args.pass.now.seat.me.0.upper c.fetch-place.new.pass.seat.me.0.upper
+    c.fetch-place.new.pass.seat.me c.enter.new.pass.seat.me _ refl c.fetch-place.ensures.quiet.idle c.enter.ensures.entered
+
+pub returns-then-not-f-clause-gone_on : goal.returns-then-not-f-clause-gone_on
+returns-then-not-f-clause-gone_on g c = entered_waits c.args.adapting.now c.args.pass.now.seat.me.0.upper c.fetch-place.new.pass.seat.me.0.upper
+    c.fetch-place.new.pass.seat.me c.enter-then-not-f.new.pass.seat.me _ refl c.fetch-place.ensures.quiet.idle c.enter-then-not-f.ensures.entered
+
+pub returns-in-Ok-remove_there-clause-gone_on : goal.returns-in-Ok-remove_there-clause-gone_on
+returns-in-Ok-remove_there-clause-gone_on g c = adapts_after c.args.space.now.table.shared.key c.args.tuning.now c.args.adapting.now
+    c.remove_there.new.adapting.last c.args.pass.now.seat.me.0.upper c.fetch-place.new.pass.seat.me.0.upper c.remove_there.new.pass.seat.me.0.upper
+    c.fetch-place.ensures.quiet.idle c.in-Ok-remove_there.ensures.gone_on
+
+pub returns-in-Err-clause-gone_on : goal.returns-in-Err-clause-gone_on
+returns-in-Err-clause-gone_on g c = waits_on c.args.adapting.now c.args.adapting.now c.remove_there.new.adapting c.args.pass.now.seat.me.0.upper
+    c.fetch-place.new.pass.seat.me.0.upper c.remove_there.new.pass.seat.me.0.upper
+    (idle_waits c.args.adapting.now c.args.pass.now.seat.me.0.upper c.fetch-place.new.pass.seat.me.0.upper c.fetch-place.ensures.quiet.idle)
+    c.in-Err.ensures.gone_on
+
+pub returns-in_default-clause-tally : goal.returns-in_default-clause-tally
+returns-in_default-clause-tally g c h = tallied_read c.fetch-place.new.pass.tally c.enter.new.pass.tally c.fetch-place.new.pass.seat.me
+    c.enter.new.pass.seat.me _ c.enter.ensures.tally c.enter.ensures.entered (c.fetch-place.ensures.tally h)
+
+pub returns-then-not-f-clause-tally : goal.returns-then-not-f-clause-tally
+returns-then-not-f-clause-tally g c h = tallied_read c.fetch-place.new.pass.tally c.enter-then-not-f.new.pass.tally c.fetch-place.new.pass.seat.me
+    c.enter-then-not-f.new.pass.seat.me _ c.enter-then-not-f.ensures.tally c.enter-then-not-f.ensures.entered (c.fetch-place.ensures.tally h)
+
+pub returns-in-Ok-remove_there-clause-tally : goal.returns-in-Ok-remove_there-clause-tally
+returns-in-Ok-remove_there-clause-tally g c h = c.remove_there.ensures.tally (c.fetch-place.ensures.tally h)
+
+pub returns-in-Err-clause-tally : goal.returns-in-Err-clause-tally
+returns-in-Err-clause-tally g c h = c.remove_there.ensures.tally (c.fetch-place.ensures.tally h)
+
+pub returns-in-Err-clause-tried : goal.returns-in-Err-clause-tried
+returns-in-Err-clause-tried g c = (
+  further_on c.args.pass.now.seat.me.0.upper c.fetch-place.new.pass.seat.me.0.upper c.remove_there.new.pass.seat.me.0.upper c.fetch-place.ensures.further
+      c.in-Err.ensures.tried.0,
+  c.in-Err.ensures.tried.1,
+)
+
+pub returns-in-Ok-remove_there-clause-counted : goal.returns-in-Ok-remove_there-clause-counted
+returns-in-Ok-remove_there-clause-counted g c = paid_behind c.args.spent.now c.remove_there.new.spent c.args.pass.now.seat.me c.fetch-place.new.pass.seat.me
+    c.remove_there.new.pass.seat.me c.fetch-place.ensures.quiet c.remove_there.ensures.counted
+
+pub returns-in-Ok-remove_there-clause-met_as : goal.returns-in-Ok-remove_there-clause-met_as
+returns-in-Ok-remove_there-clause-met_as g c = met_between c.remove_there.new.adapting.last.adapted c.args.pass.now.seat.me c.fetch-place.new.pass.seat.me c.remove_there.new.pass.seat.me
+    c.remove_there.new.pass.seat.me (quiet_none c.args.pass.now.seat.me c.fetch-place.new.pass.seat.me c.fetch-place.ensures.quiet)
+    (same_none c.remove_there.new.pass.seat.me c.remove_there.new.pass.seat.me refl) c.in-Ok-remove_there.ensures.met_as

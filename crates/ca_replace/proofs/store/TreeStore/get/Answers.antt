@@ -3,6 +3,7 @@ use Rattle.ca_model.specs.Answer.{Got}
 use Rattle.ca_model.specs.Event.{Event}
 use Rattle.ca_model.specs.Known.{Meets}
 use Rattle.ca_node.specs.Told.{MyTree}
+use Rattle.ca_node.proofs.Tallies.{tallied_still}
 use Rattle.ca_node.specs.TreeView.{TreeView}
 use Rattle.ca_rows.specs.declared.sizes.Sizes.{Sizes}
 use Rattle.ca_replace.specs.Attempting.{HasTriedTo}
@@ -29,7 +30,8 @@ keep_few-requires c = let tree = c.self.inside.tree.now in let z : Sizes = tree.
     let tried = read_tried z c.args.key c.pin.new.pass.seat.me c.walk-cursor.new.pass.seat.me c.look_up-found.new.pass.seat.me c.walk-cursor.result event
     c.look_up-found.result c.walk-cursor.ensures.walked (omega arith) c.look_up-found.ensures.answer look in record {
       resting = rests_as table z pass.number c.unpin.new.pass.number c.look_up-found.new.pass.kept c.unpin.new.pass.kept c.unpin.new.pass.seat
-          (c.unpin.ensures.number ∙ (c.look_up-found.ensures.number ∙ (c.walk-cursor.ensures.number ∙ c.pin.ensures.number))) c.unpin.ensures.kept
+          (c.unpin.ensures.number ∙ (c.look_up-found.ensures.number ∙ (c.walk-cursor.ensures.number ∙ c.pin.ensures.number))) c.unpin.ensures.tally
+          c.unpin.ensures.kept
           (rests_again table z pass.number pass.kept.rows c.look_up-found.new.pass.kept.rows pass.seat c.pin.new.pass.seat c.look_up-found.new.pass.seat
           c.unpin.new.pass.seat c.self.invariant
           (ap (λ (m : MyTree). m.0.sizes) pin, ap (λ (m : MyTree). m.0.pin.number) pin, ap (λ (m : MyTree). m.0.upper.number) pin)
@@ -40,7 +42,11 @@ keep_few-requires c = let tree = c.self.inside.tree.now in let z : Sizes = tree.
           (none_pinned table z pass.number pass.kept c.pin.new.pass.kept pass.seat c.pin.new.pass.seat _ _ c.self.invariant pin c.pin.ensures.kept)
           walk c.walk-cursor.ensures.kept) look c.look_up-found.ensures.kept)
           (tried_known told z (Ok c.look_up-found.result) c.pin.new.pass.seat.me.0.upper c.look_up-found.new.pass.seat.me.0.upper tried)
-          c.unpin.ensures.same.0 c.unpin.ensures.unpinned);
+          c.unpin.ensures.same.0 c.unpin.ensures.unpinned
+          (tallied_still pass.tally c.look_up-found.new.pass.tally pass.seat.me.0.upper c.look_up-found.new.pass.seat.me.0.upper
+          (c.look_up-found.ensures.tally ∙ (c.walk-cursor.ensures.tally ∙ c.pin.ensures.tally))
+          (ap (λ (m : MyTree). m.0.upper.splits) look ∙ (ap (λ (m : MyTree). m.0.upper.splits) walk ∙ ap (λ (m : MyTree). m.0.upper.splits) pin))
+          (ap (λ (m : MyTree). m.0.upper.joins) look ∙ (ap (λ (m : MyTree). m.0.upper.joins) walk ∙ ap (λ (m : MyTree). m.0.upper.joins) pin))));
     }
 
 pub invariant_of-self : goal.invariant_of-self

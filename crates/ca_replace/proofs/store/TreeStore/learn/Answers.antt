@@ -1,6 +1,7 @@
 use Rattle.std.proofs.Common.{true, refl, ap, inl, ◌∙◌}
 use Rattle.ca_node.specs.Place.{all_keys}
 use Rattle.ca_node.specs.Told.{MyTree}
+use Rattle.ca_node.proofs.Tallies.{tallied_still, led_counts}
 use Rattle.ca_node.specs.TreeView.{pinned}
 use Rattle.ca_rows.specs.declared.sizes.Sizes.{Sizes}
 use Rattle.ca_replace.proofs.Entries.{held_upper}
@@ -22,9 +23,11 @@ keep_few-requires c = let tree = c.self.inside.tree.now in let z : Sizes = tree.
       m.1,
     )) learnt in
     let led = led_further z 130 c.pin.new.pass.seat.me c.load_link.new.pass.seat.me c.load_link.result c.load_link.ensures.led
-    (ap (λ (m : MyTree). m.0.sizes) both ∙ c.self.invariant.of.1) tree.space.few.0 in record {
+    (ap (λ (m : MyTree). m.0.sizes) both ∙ c.self.invariant.of.1) tree.space.few.0 in
+    let counts = led_counts 130 c.pin.new.pass.seat.me c.load_link.new.pass.seat.me c.load_link.result c.load_link.ensures.led in record {
       resting = rests_as table z pass.number c.unpin.new.pass.number c.load_link.new.pass.kept c.unpin.new.pass.kept c.unpin.new.pass.seat
-          (c.unpin.ensures.number ∙ (c.load_link.ensures.number ∙ (c.pin.ensures.number ∙ c.learn.ensures.number))) c.unpin.ensures.kept
+          (c.unpin.ensures.number ∙ (c.load_link.ensures.number ∙ (c.pin.ensures.number ∙ c.learn.ensures.number))) c.unpin.ensures.tally
+          c.unpin.ensures.kept
           (rests_again table z pass.number pass.kept.rows c.load_link.new.pass.kept.rows pass.seat c.pin.new.pass.seat c.load_link.new.pass.seat
           c.unpin.new.pass.seat c.self.invariant
           (ap (λ (m : MyTree). m.0.sizes) both, ap (λ (m : MyTree). m.0.pin.number) both, ap (λ (m : MyTree). m.0.upper.number) both)
@@ -33,5 +36,8 @@ keep_few-requires c = let tree = c.self.inside.tree.now in let z : Sizes = tree.
           (held_upper z.rows c.pin.new.pass.kept c.load_link.new.pass.kept c.pin.new.pass.seat.me c.load_link.new.pass.seat.me led.0 _
           (none_pinned table z pass.number pass.kept c.pin.new.pass.kept pass.seat c.pin.new.pass.seat _ _ c.self.invariant both
           (c.pin.ensures.kept ∙ c.learn.ensures.kept)) led.1 c.load_link.ensures.kept)
-          (led.3, led.2.number) c.unpin.ensures.same.0 c.unpin.ensures.unpinned);
+          (led.3, led.2.number) c.unpin.ensures.same.0 c.unpin.ensures.unpinned
+          (tallied_still pass.tally c.load_link.new.pass.tally pass.seat.me.0.upper c.load_link.new.pass.seat.me.0.upper
+          (c.load_link.ensures.tally ∙ (c.pin.ensures.tally ∙ c.learn.ensures.tally))
+          (counts.0 ∙ ap (λ (m : MyTree). m.0.upper.splits) both) (counts.1 ∙ ap (λ (m : MyTree). m.0.upper.joins) both)));
     }

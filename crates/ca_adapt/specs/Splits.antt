@@ -1,0 +1,46 @@
+-- What becomes of a base that is to be split.
+use Rattle.std.specs.Prelude.{◌≡◌, ◌⊎◌, ◌<◌, ◌≤◌, Bool, true, false, length, Result, Ok, Err}
+use Rattle.ca_adapt.specs.declared.adapted.Adapted.{Adapted}
+use Rattle.ca_adapt.specs.declared.adapted.Adapted.TheVariants as adapted
+use Rattle.ca_adapt.specs.declared.adapted.Why.{Why}
+use Rattle.ca_adapt.specs.declared.adapted.Why.TheVariants as why
+use Rattle.ca_base.specs.declared.taking.NoRow.{NoRow}
+use Rattle.ca_base.specs.declared.taking.NoRow.TheVariants as norow
+use Rattle.ca_base.specs.Counting.{losses, HasMet}
+use Rattle.ca_node.specs.Told.{MyTree, divided, one_more_lost}
+use Rattle.ca_node.specs.TreeView.{Note}
+use Rattle.ca_rows.specs.declared.sizes.Sizes.{Sizes}
+
+-- what became of it, by what became of its exchange
+abbrev pub answer_to : Result Bool NoRow → Adapted
+answer_to (Ok true) = adapted.Split
+answer_to (Ok false) = adapted.NotSplit why.Lost
+answer_to (Err norow.Lost) = adapted.NotSplit why.Lost
+answer_to (Err norow.Empty) = adapted.NotSplit why.NoRow
+answer_to (Err norow.Worn) = adapted.NotSplit why.Worn
+
+-- It has two objects at least, and stands above the last level.
+abbrev pub MayBeSplit : Sizes → Note → Type 0
+MayBeSplit z note = (2 ≤ length note.objects) × (note.place.level < z.levels)
+
+-- This is why the base was not split, given what the pass knew before and behind.
+abbrev pub IsNotSplitBy : Sizes → Note → Why → MyTree → MyTree → Type 0
+IsNotSplitBy z note why.Root m m' = ⊥
+IsNotSplitBy z note why.OneObject m m' = (length note.objects < 2) × (m' ≡ m)
+IsNotSplitBy z note why.AtLevel m m' = (2 ≤ length note.objects) × (z.levels ≤ note.place.level) × (m' ≡ m)
+IsNotSplitBy z note why.SiblingRoute m m' = ⊥
+IsNotSplitBy z note why.TooMany m m' = ⊥
+-- Nothing marks a base as yet.
+IsNotSplitBy z note why.Taken m m' = ⊥
+IsNotSplitBy z note why.Lost m m' = MayBeSplit z note × (losses m < losses m') × HasMet 0 0 m m'
+    × ((m'.0.upper ≡ m.0.upper) ⊎ (m'.0.upper ≡ one_more_lost m.0.upper))
+IsNotSplitBy z note why.NoRow m m' = MayBeSplit z note × HasMet 1 0 m m' × (m'.0.upper ≡ m.0.upper)
+IsNotSplitBy z note why.Worn m m' = MayBeSplit z note × HasMet 0 1 m m' × (m'.0.upper ≡ m.0.upper)
+
+-- This became of the base that was to be split: its exchange was won, or there is the cause.
+abbrev pub IsSplitAs : Sizes → Note → Adapted → MyTree → MyTree → Type 0
+IsSplitAs z note adapted.Stay m m' = ⊥
+IsSplitAs z note adapted.Split m m' = MayBeSplit z note × HasMet 0 0 m m' × (m'.0.upper ≡ divided m.0.upper)
+IsSplitAs z note adapted.Joined m m' = ⊥
+IsSplitAs z note (adapted.NotSplit why) m m' = IsNotSplitBy z note why m m'
+IsSplitAs z note (adapted.NotJoined why) m m' = ⊥

@@ -1,0 +1,110 @@
+use Rattle.std.proofs.Common.{[], refl, arith}
+use Rattle.ca_base.specs.Putting.{first_note}
+use Rattle.ca_node.specs.declared.cursor.Spot.TheVariants as spot
+use Rattle.ca_replace.proofs.Counted.{none_paid}
+use Rattle.ca_replace.proofs.Entries.{held_upper}
+use Rattle.ca_replace.proofs.GoingOn.{come_splits, led_elsewhere, led_there, paid_cut, paid_still}
+use Rattle.ca_replace.proofs.Tallies.{tallied_walk}
+use Rattle.ca_replace.proofs.Showing.{looking, walked_further, walked_quiet}
+use Rattle.ca_replace.proofs.DueCauses.{split_met}
+use Rattle.ca_replace.proofs.adapting.split_again.Goals as goal
+
+pub try_split-adapted-requires-clause-readable : goal.try_split-adapted-requires-clause-readable
+try_split-adapted-requires-clause-readable c = let most = c.requires.tuned.allowed.most_leaf in let same = c.requires.tuned.leaf in
+    (looking c.args.space.now.table.shared.key c.args.key c.args.pass.now.seat.me c.walk-cursor.new.pass.seat.me c.walk-cursor.result
+    c.walk-cursor.ensures.walked (omega arith)).readable
+
+pub try_split-adapted-requires-clause-at : goal.try_split-adapted-requires-clause-at
+try_split-adapted-requires-clause-at c = let most = c.requires.tuned.allowed.most_leaf in let same = c.requires.tuned.leaf in
+    (looking c.args.space.now.table.shared.key c.args.key c.args.pass.now.seat.me c.walk-cursor.new.pass.seat.me c.walk-cursor.result
+    c.walk-cursor.ensures.walked (omega arith)).at
+
+pub try_split-adapted-requires-clause-none : goal.try_split-adapted-requires-clause-none
+try_split-adapted-requires-clause-none c = held_upper c.args.space.now.table.shared.key.rows c.args.pass.now.kept c.walk-cursor.new.pass.kept
+    c.args.pass.now.seat.me c.walk-cursor.new.pass.seat.me _ [] c.requires.none c.walk-cursor.ensures.walked.now c.walk-cursor.ensures.kept
+
+pub returns-then-cursor-placed-clause-none : goal.returns-then-cursor-placed-clause-none
+returns-then-cursor-placed-clause-none c = held_upper c.args.space.now.table.shared.key.rows c.args.pass.now.kept c.walk-cursor.new.pass.kept
+    c.args.pass.now.seat.me c.walk-cursor.new.pass.seat.me _ [] c.requires.none c.walk-cursor.ensures.walked.now c.walk-cursor.ensures.kept
+
+pub returns-then-cursor-placed-clause-further : goal.returns-then-cursor-placed-clause-further
+returns-then-cursor-placed-clause-further c = let z = c.args.space.now.table.shared.key in (
+  walked_further z (spot.At c.args.key) c.args.pass.now.seat.me c.walk-cursor.new.pass.seat.me c.walk-cursor.result c.walk-cursor.ensures.walked,
+  c.walk-cursor.ensures.walked.known,
+)
+
+pub returns-then-cursor-placed-clause-tried : goal.returns-then-cursor-placed-clause-tried
+returns-then-cursor-placed-clause-tried c = led_elsewhere c.args.space.now.table.shared.key c.args.key c.args.placed c.args.pass.now.seat.me
+    c.walk-cursor.new.pass.seat.me c.walk-cursor.result c.requires.placed c.walk-cursor.ensures.walked c.if-cursor-placed.true
+
+pub returns-then-cursor-placed-clause-counted : goal.returns-then-cursor-placed-clause-counted
+returns-then-cursor-placed-clause-counted c = let quiet = walked_quiet c.args.space.now.table.shared.key (spot.At c.args.key) c.args.pass.now.seat.me
+    c.walk-cursor.new.pass.seat.me c.walk-cursor.result c.walk-cursor.ensures.walked in
+    none_paid c.args.spent.now c.args.pass.now.seat.me c.walk-cursor.new.pass.seat.me quiet.lost quiet.splits_are
+
+pub returns-then-was_split-clause-further : goal.returns-then-was_split-clause-further
+returns-then-was_split-clause-further c = let most = c.requires.tuned.allowed.most_leaf in let same = c.requires.tuned.leaf in
+    (led_there c.args.space.now.table.shared.key c.args.key c.args.placed c.args.pass.now.seat.me c.walk-cursor.new.pass.seat.me
+    c.try_split-adapted.new.pass.seat.me c.walk-cursor.result c.try_split-adapted.result c.requires.placed c.walk-cursor.ensures.walked (omega arith)
+    (c.if-cursor-placed.false) c.try_split-adapted.ensures.split).1
+
+pub returns-then-was_split-clause-tried : goal.returns-then-was_split-clause-tried
+returns-then-was_split-clause-tried c = let most = c.requires.tuned.allowed.most_leaf in let same = c.requires.tuned.leaf in
+    (led_there c.args.space.now.table.shared.key c.args.key c.args.placed c.args.pass.now.seat.me c.walk-cursor.new.pass.seat.me
+    c.try_split-adapted.new.pass.seat.me c.walk-cursor.result c.try_split-adapted.result c.requires.placed c.walk-cursor.ensures.walked (omega arith)
+    (c.if-cursor-placed.false) c.try_split-adapted.ensures.split).0
+
+pub returns-else-was_split-clause-further : goal.returns-else-was_split-clause-further
+returns-else-was_split-clause-further c = let most = c.requires.tuned.allowed.most_leaf in let same = c.requires.tuned.leaf in
+    (led_there c.args.space.now.table.shared.key c.args.key c.args.placed c.args.pass.now.seat.me c.walk-cursor.new.pass.seat.me
+    c.try_split-adapted.new.pass.seat.me c.walk-cursor.result c.try_split-adapted.result c.requires.placed c.walk-cursor.ensures.walked (omega arith)
+    (c.if-cursor-placed.false) c.try_split-adapted.ensures.split).1
+
+pub returns-else-was_split-clause-tried : goal.returns-else-was_split-clause-tried
+returns-else-was_split-clause-tried c = let most = c.requires.tuned.allowed.most_leaf in let same = c.requires.tuned.leaf in
+    (led_there c.args.space.now.table.shared.key c.args.key c.args.placed c.args.pass.now.seat.me c.walk-cursor.new.pass.seat.me
+    c.try_split-adapted.new.pass.seat.me c.walk-cursor.result c.try_split-adapted.result c.requires.placed c.walk-cursor.ensures.walked (omega arith)
+    (c.if-cursor-placed.false) c.try_split-adapted.ensures.split).0
+
+pub returns-then-was_split-clause-counted : goal.returns-then-was_split-clause-counted
+returns-then-was_split-clause-counted c = paid_cut c.args.spent.now c.try_split-adapted.new.spent c.saturating_add-spent.result c.args.pass.now.seat.me
+    c.walk-cursor.new.pass.seat.me c.try_split-adapted.new.pass.seat.me
+    (walked_quiet c.args.space.now.table.shared.key (spot.At c.args.key) c.args.pass.now.seat.me c.walk-cursor.new.pass.seat.me c.walk-cursor.result
+    c.walk-cursor.ensures.walked) c.try_split-adapted.ensures.counted
+    ((come_splits c.args.space.now.table.shared.key (first_note c.walk-cursor.new.pass.seat.me.0.upper.notes) c.try_split-adapted.result
+    c.walk-cursor.new.pass.seat.me c.try_split-adapted.new.pass.seat.me c.try_split-adapted.ensures.split).0 (c.if-was_split.ensures.0 refl)) c.saturating_add-spent.ensures
+
+pub returns-else-was_split-clause-counted : goal.returns-else-was_split-clause-counted
+returns-else-was_split-clause-counted c = paid_still c.args.spent.now c.try_split-adapted.new.spent c.args.pass.now.seat.me
+    c.walk-cursor.new.pass.seat.me c.try_split-adapted.new.pass.seat.me
+    (walked_quiet c.args.space.now.table.shared.key (spot.At c.args.key) c.args.pass.now.seat.me c.walk-cursor.new.pass.seat.me c.walk-cursor.result
+    c.walk-cursor.ensures.walked) c.try_split-adapted.ensures.counted
+    ((come_splits c.args.space.now.table.shared.key (first_note c.walk-cursor.new.pass.seat.me.0.upper.notes) c.try_split-adapted.result
+    c.walk-cursor.new.pass.seat.me c.try_split-adapted.new.pass.seat.me c.try_split-adapted.ensures.split).1 (λ e. let f = c.if-was_split.ensures.1 e in cc))
+
+pub returns-then-cursor-placed-clause-tally : goal.returns-then-cursor-placed-clause-tally
+returns-then-cursor-placed-clause-tally c h = tallied_walk c.args.space.now.table.shared.key (spot.At c.args.key) c.args.pass.now.seat.me
+    c.walk-cursor.new.pass.seat.me c.walk-cursor.result c.args.pass.now.tally c.walk-cursor.new.pass.tally c.walk-cursor.ensures.walked
+    c.walk-cursor.ensures.tally h
+
+pub returns-then-was_split-clause-tally : goal.returns-then-was_split-clause-tally
+returns-then-was_split-clause-tally c h = c.try_split-adapted.ensures.tally (tallied_walk c.args.space.now.table.shared.key (spot.At c.args.key) c.args.pass.now.seat.me
+    c.walk-cursor.new.pass.seat.me c.walk-cursor.result c.args.pass.now.tally c.walk-cursor.new.pass.tally c.walk-cursor.ensures.walked
+    c.walk-cursor.ensures.tally h)
+
+pub returns-else-was_split-clause-tally : goal.returns-else-was_split-clause-tally
+returns-else-was_split-clause-tally c h = c.try_split-adapted.ensures.tally (tallied_walk c.args.space.now.table.shared.key (spot.At c.args.key) c.args.pass.now.seat.me
+    c.walk-cursor.new.pass.seat.me c.walk-cursor.result c.args.pass.now.tally c.walk-cursor.new.pass.tally c.walk-cursor.ensures.walked
+    c.walk-cursor.ensures.tally h)
+
+pub returns-then-was_split-clause-met : goal.returns-then-was_split-clause-met
+returns-then-was_split-clause-met c = split_met c.args.space.now.table.shared.key (first_note c.walk-cursor.new.pass.seat.me.0.upper.notes)
+    c.try_split-adapted.result c.args.pass.now.seat.me c.walk-cursor.new.pass.seat.me c.try_split-adapted.new.pass.seat.me
+    (walked_quiet c.args.space.now.table.shared.key (spot.At c.args.key) c.args.pass.now.seat.me c.walk-cursor.new.pass.seat.me c.walk-cursor.result
+    c.walk-cursor.ensures.walked) c.try_split-adapted.ensures.split
+
+pub returns-else-was_split-clause-met : goal.returns-else-was_split-clause-met
+returns-else-was_split-clause-met c = split_met c.args.space.now.table.shared.key (first_note c.walk-cursor.new.pass.seat.me.0.upper.notes)
+    c.try_split-adapted.result c.args.pass.now.seat.me c.walk-cursor.new.pass.seat.me c.try_split-adapted.new.pass.seat.me
+    (walked_quiet c.args.space.now.table.shared.key (spot.At c.args.key) c.args.pass.now.seat.me c.walk-cursor.new.pass.seat.me c.walk-cursor.result
+    c.walk-cursor.ensures.walked) c.try_split-adapted.ensures.split

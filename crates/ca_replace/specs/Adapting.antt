@@ -1,0 +1,165 @@
+-- What follows an update: how its base's statistic moved, and what was done about the new base.
+use Rattle.std.specs.Prelude.{◌≡◌, ◌≢◌, ◌⊎◌, ℕ, ◌+◌, ◌<◌, ◌≤◌, Bool, true, false, ℤ, List, length, slice_index, Result, Ok, Err}
+use Rattle.ca_adapt.specs.declared.adapted.Adapted.{Adapted}
+use Rattle.ca_adapt.specs.declared.adapted.Adapted.TheVariants as adapted
+use Rattle.ca_adapt.specs.declared.adapted.Why.{Why}
+use Rattle.ca_adapt.specs.declared.adapted.Why.TheVariants as why
+use Rattle.ca_adapt.specs.declared.statistic.Due.{Due}
+use Rattle.ca_adapt.specs.declared.statistic.Due.TheVariants as due
+use Rattle.ca_adapt.specs.declared.tuning.Tuning.{Tuning}
+use Rattle.ca_adapt.specs.Splits.{MayBeSplit}
+use Rattle.ca_adapt.specs.Statistics.{IsAfter, IsDue, IsStatisticOf, IsWordOf}
+use Rattle.ca_base.specs.declared.taking.NoRow.{NoRow}
+use Rattle.ca_base.specs.Counting.{losses}
+use Rattle.ca_model.specs.declared.outcome.Changed.{Changed}
+use Rattle.ca_model.specs.declared.outcome.Changed.TheVariants as changed
+use Rattle.ca_model.specs.declared.outcome.Outcome.{Outcome}
+use Rattle.ca_model.specs.declared.outcome.Outcome.TheVariants as outcome
+use Rattle.ca_node.specs.Place.{HasKey}
+use Rattle.ca_node.specs.Told.{MyTree}
+use Rattle.ca_node.specs.TreeView.{Note, Renewal, TreeView}
+use Rattle.ca_replace.specs.declared.adapting.Adapting.{Adapting}
+use Rattle.ca_replace.specs.declared.adapting.Last.{Last}
+use Rattle.ca_rows.specs.declared.sizes.Sizes.{Sizes}
+
+-- Of a base with this word for its statistic, an update makes one with this statistic: it depends on whether the call lost an exchange of a link.
+abbrev pub IsMoved : Tuning → ℕ → Bool → ℤ → Type 0
+IsMoved t word lost statistic = (old : ℤ) × IsStatisticOf word old × IsAfter t old lost statistic
+
+-- Whether a call has lost an exchange of a link was known as so many were lost, and this is known now: it lost none since, or it lost some.
+abbrev pub HasLostSince : Bool → Bool → ℕ → ℕ → Type 0
+HasLostSince before now few many = ((now ≡ before) × (many ≡ few)) ⊎ ((now ≡ true) × (few < many))
+
+-- The base with this row was just put in place, by an update that is about this key; it was shown last.
+pub record IsNew (placed : ℕ) (key : List ℕ) (u : TreeView) : Type 0 where
+  pub row : placed ≡ u.renewal.new.row
+  pub last : u.last ≡ u.renewal.new
+  pub key_is : u.renewal.key ≡ key
+  pub splits_are : u.splits ≡ u.renewal.splits
+
+-- Nothing was done about the new base: no base was split, given how many there were as it was put in place, and now.
+abbrev pub IsLeft : ℕ → ℕ → Adapted → Type 0
+IsLeft before now a = (a ≡ adapted.Stay) × (now ≡ before)
+
+-- The base was not split, for this reason.
+abbrev pub IsReason : Sizes → Note → Why → Type 0
+IsReason z note why.Root = ⊥
+IsReason z note why.OneObject = length note.objects < 2
+IsReason z note why.AtLevel = (2 ≤ length note.objects) × (z.levels ≤ note.place.level)
+IsReason z note why.SiblingRoute = ⊥
+IsReason z note why.TooMany = ⊥
+IsReason z note why.Taken = ⊥
+IsReason z note why.Lost = MayBeSplit z note
+IsReason z note why.NoRow = MayBeSplit z note
+IsReason z note why.Worn = MayBeSplit z note
+
+-- It was tried once to split the base.
+abbrev pub HasTriedOnce : Sizes → Note → ℕ → ℕ → Adapted → Type 0
+HasTriedOnce z note before now adapted.Stay = ⊥
+HasTriedOnce z note before now adapted.Split = MayBeSplit z note × (now ≡ before + 1)
+HasTriedOnce z note before now adapted.Joined = ⊥
+HasTriedOnce z note before now (adapted.NotSplit why) = IsReason z note why × (now ≡ before)
+HasTriedOnce z note before now (adapted.NotJoined why) = ⊥
+
+-- The pass walked to the update's key anew, and this base was shown last. Where it is another one than the new one, nothing was tried; where it is that
+-- one, it was tried once to split it.
+abbrev pub HasTriedThere : Sizes → Renewal → Note → ℕ → Adapted → Type 0
+HasTriedThere z r last now a = HasKey last.place.span r.key
+    × (((last.row ≢ r.new.row) × IsLeft r.splits now a) ⊎ ((last.row ≡ r.new.row) × HasTriedOnce z last r.splits now a))
+
+-- So it did where a split was due. Where nothing was due nothing was tried; nor was it where a join was, for joins aren't tried as yet.
+abbrev pub IsDoneAbout : Sizes → Due → Renewal → Note → ℕ → Adapted → Type 0
+IsDoneAbout z due.Nothing r last now a = IsLeft r.splits now a × (last ≡ r.new)
+IsDoneAbout z due.Split r last now a = HasTriedThere z r last now a
+IsDoneAbout z due.Join r last now a = IsLeft r.splits now a × (last ≡ r.new)
+
+-- What was due to the new base of the last update by its statistic was done about it.
+abbrev pub IsAdaptedBy : Sizes → Tuning → ℤ → TreeView → Adapted → Type 0
+IsAdaptedBy z t statistic v a = (what : Due) × IsDue t statistic what × IsDoneAbout z what v.renewal v.last v.splits a
+
+-- The same, where nothing was updated in between.
+abbrev pub HasLookedAgain : Sizes → Adapted → TreeView → TreeView → Type 0
+HasLookedAgain z a u v = (v.renewal ≡ u.renewal) × HasTriedThere z v.renewal v.last v.splits a
+
+abbrev pub HasAdapted : Sizes → Tuning → ℤ → Adapted → TreeView → TreeView → Type 0
+HasAdapted z t statistic a u v = (v.renewal ≡ u.renewal) × IsAdaptedBy z t statistic v a
+
+-- From one of these moments to the other the pass lost an exchange, found the pool's head empty, or found its tag at the last value: what the answer says
+-- of the base that was not split.
+abbrev pub IsMetAs : Adapted → MyTree → MyTree → Type 0
+IsMetAs adapted.Stay m m' = Unit {0}
+IsMetAs adapted.Split m m' = Unit {0}
+IsMetAs adapted.Joined m m' = Unit {0}
+IsMetAs (adapted.NotSplit why.Root) m m' = Unit {0}
+IsMetAs (adapted.NotSplit why.OneObject) m m' = Unit {0}
+IsMetAs (adapted.NotSplit why.AtLevel) m m' = Unit {0}
+IsMetAs (adapted.NotSplit why.SiblingRoute) m m' = Unit {0}
+IsMetAs (adapted.NotSplit why.TooMany) m m' = Unit {0}
+IsMetAs (adapted.NotSplit why.Taken) m m' = Unit {0}
+IsMetAs (adapted.NotSplit why.Lost) m m' = losses m < losses m'
+IsMetAs (adapted.NotSplit why.NoRow) m m' = m.0.empty < m'.0.empty
+IsMetAs (adapted.NotSplit why.Worn) m m' = m.0.worn < m'.0.worn
+IsMetAs (adapted.NotJoined why) m m' = Unit {0}
+
+-- So it did, where an update was carried out.
+abbrev pub MeetsIf : Bool → Adapted → MyTree → MyTree → Type 0
+MeetsIf true a m m' = IsMetAs a m m'
+MeetsIf false a m m' = Unit {0}
+
+abbrev pub MeetsAs : {T E : Type 0} → (T → Bool) → Last → Result T E → MyTree → MyTree → Type 0
+MeetsAs edits last (Ok x) m m' = MeetsIf (edits x) last.adapted m m'
+MeetsAs edits last (Err why) m m' = Unit {0}
+
+abbrev pub HasMetAs : {T : Type 0} → (T → Bool) → Last → Outcome T → MyTree → MyTree → Type 0
+HasMetAs edits last (outcome.Done x) m m' = MeetsIf (edits x) last.adapted m m'
+HasMetAs edits last (outcome.Busy s) m m' = Unit {0}
+HasMetAs edits last (outcome.Full s) m m' = Unit {0}
+HasMetAs edits last (outcome.Deep s) m m' = Unit {0}
+HasMetAs edits last (outcome.Worn s) m m' = Unit {0}
+
+-- What became of an exchange of a base, and of the new base.
+abbrev pub HasSettled : Sizes → Tuning → ℤ → Result Bool NoRow → Adapting → Adapting → MyTree → MyTree → Type 0
+HasSettled z t statistic (Ok true) a b m m' = (b.last.statistic ≡ statistic) × HasAdapted z t statistic b.last.adapted m.0.upper m'.0.upper
+HasSettled z t statistic (Ok false) a b m m' = (b.lost ≡ true) × (b.last ≡ a.last) × (m' ≡ m)
+HasSettled z t statistic (Err why) a b m m' = (b ≡ a) × (m' ≡ m)
+
+-- One update was carried out by a call. Its new base's statistic is that of the old one, moved by whether the call lost an exchange of a link until
+-- then, and what was due by it was done. Both are kept.
+pub record Adapts (z : Sizes) (t : Tuning) (before : Bool) (last : Last) (u v : TreeView) : Type 0 where
+  pub one_more : v.renewal.count ≡ u.renewal.count + 1
+  pub lost : Bool
+  pub since : HasLostSince before lost u.lost v.renewal.lost
+  pub moved : IsMoved t (slice_index v.renewal.old.its 1) lost last.statistic
+  pub word_is : IsWordOf last.statistic (slice_index v.renewal.new.its 1)
+  pub adapted : IsAdaptedBy z t last.statistic v last.adapted
+
+-- No update was carried out. Whether the call lost an exchange of a link is kept.
+abbrev pub Waits : Adapting → Adapting → TreeView → TreeView → Type 0
+Waits a b u v = (b.last ≡ a.last) × (v.renewal ≡ u.renewal) × HasLostSince a.lost b.lost u.lost v.lost
+
+-- whether a call that may change or remove an object did
+abbrev pub is_put : Changed → Bool
+is_put changed.Put = true
+is_put changed.Kept = false
+is_put changed.Absent = false
+
+-- By what a call answers, it carried out an update, or none.
+abbrev pub Goes : Bool → Sizes → Tuning → Adapting → Adapting → TreeView → TreeView → Type 0
+Goes true z t a b u v = Adapts z t a.lost b.last u v
+Goes false z t a b u v = Waits a b u v
+
+abbrev pub HasGoneOn : {T E : Type 0} → (T → Bool) → Sizes → Tuning → Adapting → Adapting → Result T E → TreeView → TreeView → Type 0
+HasGoneOn edits z t a b (Ok x) u v = Goes (edits x) z t a b u v
+HasGoneOn edits z t a b (Err why) u v = Waits a b u v
+
+-- What a call that edits comes to of what a store keeps of its last update.
+abbrev pub Leaves : Bool → Sizes → Tuning → Last → Last → TreeView → TreeView → Type 0
+Leaves true z t last last' u v = Adapts z t false last' u v
+Leaves false z t last last' u v = (last' ≡ last) × (v.renewal ≡ u.renewal)
+
+abbrev pub LeavesAs : {T : Type 0} → (T → Bool) → Sizes → Tuning → Last → Last → Outcome T → TreeView → TreeView → Type 0
+LeavesAs edits z t last last' (outcome.Done x) u v = Leaves (edits x) z t last last' u v
+LeavesAs edits z t last last' (outcome.Busy s) u v = Leaves false z t last last' u v
+LeavesAs edits z t last last' (outcome.Full s) u v = Leaves false z t last last' u v
+LeavesAs edits z t last last' (outcome.Deep s) u v = Leaves false z t last last' u v
+LeavesAs edits z t last last' (outcome.Worn s) u v = Leaves false z t last last' u v
