@@ -1,1 +1,2 @@
 mod Coding
+mod SampleObjects

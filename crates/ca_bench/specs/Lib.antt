@@ -1,1 +1,2 @@
 pub mod CodedView
+pub mod Numbers

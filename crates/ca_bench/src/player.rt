@@ -1,0 +1,219 @@
+//! A client of a tree that grows, which plays a mix of calls on objects of numbers.
+ghost use Rattle.std.specs.Prelude.{◌≡◌, IsTrue};
+ghost use Rattle.ca_bench.specs.Numbers.{number_code};
+ghost use Rattle.ca_model.specs.Function.{StandsAt};
+ghost use Rattle.ca_model.specs.StoreMap.{IsPair};
+
+use crate::draws::{Draws, even, skewed};
+use crate::numbers::{counter_of, key_code, object, write_next};
+use ca_model::{Changed, Code, Outcome};
+use ca_replace::TreeStore;
+
+// How many turns a call may lose to other clients, and how often one that is refused is tried again.
+const BUDGET: u32 = 1_000;
+
+const TRIES: u32 = 1_000_000;
+
+/// Which calls are played.
+#[derive(Clone, Copy)]
+pub enum Mix {
+    /// Lookups.
+    Lookups,
+    /// Half lookups, a quarter puts and a quarter removals.
+    Mixed,
+    /// Lookups, of small keys far more often.
+    SkewedLookups,
+    /// Half lookups, a quarter puts and a quarter removals, of small keys far more often.
+    SkewedMixed,
+    /// Changes that add one to one of so many counters.
+    Counters(u32),
+}
+
+/// A pass on a tree, and what it plays with: keys below a count, of which the even ones are there at the start.
+pub struct Player<'t> {
+    store: TreeStore<'t>,
+    keys: u32,
+    draws: Draws,
+    good: u32,
+    full: u32,
+    busy: u32,
+    into: Code,
+    pub ghost first: { store.z.keypos ≡ 1 },
+}
+
+impl Drop for Player<'_> {
+    fn drop(self) {
+        let Self {
+            store: _,
+            keys: _,
+            draws: _,
+            good: _,
+            full: _,
+            busy: _,
+            into: _,
+        } = self;
+    }
+}
+
+impl<'t> Player<'t> {
+    /// A client that plays with keys below the count. Clients of other numbers play in another order.
+    pub fn new(store: TreeStore<'t>, keys: u32, number: u32) -> Player<'t>
+        requires { store.z.keypos ≡ 1 }
+    {
+        Player {
+            store,
+            keys,
+            draws: Draws::new(number),
+            good: 0,
+            full: 0,
+            busy: 0,
+            into: Code::new(),
+        }
+    }
+
+    /// How many calls were answered as they must be.
+    pub fn good(&self) -> u32 {
+        self.good
+    }
+
+    /// How often a call was refused for want of rows, and tried again.
+    pub fn full(&self) -> u32 {
+        self.full
+    }
+
+    /// How often a call was refused for another reason, and tried again.
+    pub fn busy(&self) -> u32 {
+        self.busy
+    }
+
+    /// Puts an object of an even key for each of these numbers.
+    pub fn fill(&mut self, numbers: &[u32]) {
+        for number in numbers {
+            let done = self.put(number.wrapping_mul(2));
+            self.count(done);
+        }
+    }
+
+    /// Puts an object of this key.
+    pub fn try_put(&mut self, key: u32) -> Outcome<()> {
+        self.store.put(&object(key, 0), 5, 10, BUDGET)
+    }
+
+    /// Plays so many calls.
+    pub fn play(&mut self, mix: Mix, calls: u32) {
+        for _ in 0..calls {
+            let done = self.call(mix);
+            self.count(done);
+        }
+    }
+
+    /// The sum of all counters.
+    pub fn total(&mut self) -> u32 {
+        let mut total = 0_u32;
+        for key in 0..self.keys {
+            if self.get(key) {
+                total = total.wrapping_add(counter_of(self.into.as_slice()));
+            }
+        }
+        total
+    }
+
+    fn count(&mut self, done: bool) {
+        if done {
+            self.good = self.good.wrapping_add(1);
+        }
+    }
+
+    // Counts a call that was refused.
+    fn refuse<T>(&mut self, outcome: &Outcome<T>) {
+        if matches!(outcome, Outcome::Full(_)) {
+            self.full = self.full.saturating_add(1);
+        } else {
+            self.busy = self.busy.saturating_add(1);
+        }
+    }
+
+    fn call(&mut self, mix: Mix) -> bool {
+        let drawn = self.draws.draw();
+        let keys = self.keys;
+        match mix {
+            Mix::Lookups => self.look_up(even(drawn, keys)),
+            Mix::Mixed => self.come_or_go(drawn, even(drawn, keys)),
+            Mix::SkewedLookups => self.look_up(skewed(drawn, keys)),
+            Mix::SkewedMixed => self.come_or_go(drawn, skewed(drawn, keys)),
+            Mix::Counters(count) => self.raise(counter_key(drawn, count, keys)),
+        }
+    }
+
+    // A lookup while only even keys are there.
+    fn look_up(&mut self, key: u32) -> bool {
+        self.get(key) == (key % 2 == 0)
+    }
+
+    fn come_or_go(&mut self, drawn: u32, key: u32) -> bool {
+        match drawn % 4 {
+            0 | 1 => {
+                let _found = self.get(key);
+                true
+            }
+            2 => self.put(key),
+            _ => self.remove(key),
+        }
+    }
+
+    fn get(&mut self, key: u32) -> bool {
+        self.store.get(&key_code(key), &mut self.into, BUDGET) == Outcome::Done(true)
+    }
+
+    fn put(&mut self, key: u32) -> bool {
+        for _ in 0..TRIES {
+            let outcome = self.try_put(key);
+            if outcome == Outcome::Done(()) {
+                return true;
+            }
+            self.refuse(&outcome);
+        }
+        false
+    }
+
+    fn remove(&mut self, key: u32) -> bool {
+        for _ in 0..TRIES {
+            let outcome = self.store.remove(&key_code(key), &mut self.into, BUDGET);
+            if matches!(outcome, Outcome::Done(_)) {
+                return true;
+            }
+            self.refuse(&outcome);
+        }
+        false
+    }
+
+    fn raise(&mut self, key: u32) -> bool {
+        for _ in 0..TRIES {
+            let outcome = raise(&mut self.store, key, &mut self.into);
+            if let Outcome::Done(changed) = outcome {
+                return changed == Changed::Put;
+            }
+            self.refuse(&outcome);
+        }
+        false
+    }
+}
+
+// The key of one of so many counters, which stand far from each other.
+fn counter_key(drawn: u32, count: u32, keys: u32) -> u32 {
+    let apart = keys / count.max(1);
+    even(drawn, count)
+        .wrapping_mul(apart)
+        .wrapping_add(apart / 2)
+}
+
+// Puts the object whose counter is one more in the place of the key's object.
+fn raise(store: &mut TreeStore<'_>, key: u32, old: &mut Code) -> Outcome<Changed>
+    requires { store.old.z.keypos ≡ 1 }
+    ensures { store.new.z ≡ store.old.z }
+{
+    let write = |object: &[u8], into: &mut Code, at: &mut usize| -> bool
+        ensures { IsTrue result → IsPair 1 (number_code key, into.new.items) × StandsAt (number_code key) into.new.items at.new }
+    { write_next(object, key, into, at) };
+    store.change(&key_code(key), &write, old, BUDGET)
+}

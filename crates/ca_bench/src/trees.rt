@@ -1,0 +1,233 @@
+//! Calls of clients on threads, each with a pass of its own on one tree, which grows to many leaves.
+ghost use Rattle.std.specs.Prelude.{◌≡◌, IfOk};
+
+use crate::draws::shuffled;
+use crate::player::{Mix, Player};
+use ca_adapt::Tuning;
+use ca_replace::{Tree, TreeFault, TreeStore};
+use ca_rows::Starts;
+use std::alloc::Global;
+use std::io;
+use std::rt::Clock;
+use std::thread::{Threads, for_each_mut};
+use std::time::Instant;
+
+// As many rows as a tree may have.
+const ROWS: u32 = 65_535;
+
+// How often a measure is taken, each time on a new tree; the times are added.
+const RUNS: u32 = 3;
+
+// How many calls all clients together play in a run.
+const CALLS: u32 = 400_000;
+
+// How many objects there are where the number of threads grows.
+const OBJECTS: u32 = 10_000;
+
+const THREADS: [u32; 3] = [1, 2, 4];
+
+const MIXES: [(&str, Mix); 6] = [
+    ("lookups", Mix::Lookups),
+    ("mixed", Mix::Mixed),
+    ("skewed-lookups", Mix::SkewedLookups),
+    ("skewed-mixed", Mix::SkewedMixed),
+    ("counter", Mix::Counters(1)),
+    ("counters", Mix::Counters(4)),
+];
+
+// How many objects there are where one client alone plays, beside `OBJECTS`.
+const SIZES: [u32; 5] = [100, 400, 1_000, 4_000, 40_000];
+
+const SIZE_MIXES: [(&str, Mix); 2] = [("lookups", Mix::Lookups), ("mixed", Mix::Mixed)];
+
+const TUNING: Tuning = Tuning {
+    leaf: 60,
+    levels: 64,
+    lost: 250,
+    calm: -1,
+    range: -100,
+    high: 1_000,
+    low: -1_000,
+};
+
+const STARTS: Starts = Starts {
+    tag: 0,
+    epoch: 0,
+    sequence: 0,
+    attempt: 0,
+};
+
+/// A tree on so many rows for so many passes, by this tuning.
+pub fn tree_of(alloc: Global, rows: u32, passes: u32, tuning: Tuning) -> Result<Tree, TreeFault>
+    ensures { IfOk result (λ tree. tree.space.sizes.keypos ≡ 1) }
+{
+    Tree::new(alloc, rows, passes, 1, tuning, STARTS)
+}
+
+/// A tuning with this many objects in a leaf, and levels.
+pub fn tuning_of(leaf: u8, levels: u16) -> Tuning {
+    Tuning {
+        leaf,
+        levels,
+        ..TUNING
+    }
+}
+
+// The clients play so many calls each, on a thread each. It answers the nanoseconds from the first start to the last end.
+fn play_all<R: Clock + Threads + Sync>(
+    rt: &R,
+    players: &mut [Player<'_>],
+    mix: Mix,
+    calls: u32,
+) -> io::Result<u128> {
+    let threads = players.len().max(1);
+    let start = Instant::now(rt)?;
+    for_each_mut(
+        rt,
+        players,
+        threads,
+        &|_number, player: &mut Player<'_>| { player.play(mix, calls) },
+    );
+    Ok(start.elapsed(rt)?.as_nanos())
+}
+
+// How many calls of all clients were answered as they must be.
+fn good_calls(players: &[Player<'_>]) -> u32 {
+    let mut good = 0_u32;
+    for player in players {
+        good = good.wrapping_add(player.good());
+    }
+    good
+}
+
+// What a measure took, and how often its calls were refused, for want of rows or for another reason.
+#[derive(Clone, Copy)]
+struct Taken {
+    nanos: u128,
+    full: u32,
+    busy: u32,
+}
+
+impl Taken {
+    // Both measures together.
+    fn and(self, other: Taken) -> Taken {
+        Taken {
+            nanos: self.nanos.saturating_add(other.nanos),
+            full: self.full.saturating_add(other.full),
+            busy: self.busy.saturating_add(other.busy),
+        }
+    }
+
+    // How often this client's calls were refused too.
+    fn with_refused(self, player: &Player<'_>) -> Taken {
+        Taken {
+            nanos: self.nanos,
+            full: self.full.saturating_add(player.full()),
+            busy: self.busy.saturating_add(player.busy()),
+        }
+    }
+}
+
+const NOTHING: Taken = Taken {
+    nanos: 0,
+    full: 0,
+    busy: 0,
+};
+
+// What a run of these clients took.
+fn taken_by(nanos: u128, players: &[Player<'_>]) -> Taken {
+    let mut taken = Taken { nanos, ..NOTHING };
+    for player in players {
+        taken = taken.with_refused(player);
+    }
+    taken
+}
+
+// What the counters must add up to behind so many calls.
+fn wanted_total(mix: Mix, calls: u32) -> u32 {
+    match mix {
+        Mix::Counters(_) => calls,
+        _ => 0,
+    }
+}
+
+// One run; `None` where a call wasn't answered as it must be.
+fn run<R: Clock + Threads + Sync + Alloc<A = Global>>(
+    rt: &R,
+    (objects, numbers): (u32, &[u32]),
+    (mix, calls): (Mix, u32),
+    threads: usize,
+) -> io::Result<Option<Taken>> {
+    let alloc = rt.alloc();
+    let keys = objects.wrapping_mul(2);
+    let Ok(mut tree) = tree_of(alloc, ROWS, 4, TUNING) else {
+        return Ok(None);
+    };
+    let (Ok(a), Ok(b), Ok(c), Ok(d)) = (
+        tree.enroll(alloc),
+        tree.enroll(alloc),
+        tree.enroll(alloc),
+        tree.enroll(alloc),
+    ) else {
+        return Ok(None);
+    };
+    let mut players = [
+        Player::new(TreeStore::new(&tree, a), keys, 1),
+        Player::new(TreeStore::new(&tree, b), keys, 2),
+        Player::new(TreeStore::new(&tree, c), keys, 3),
+        Player::new(TreeStore::new(&tree, d), keys, 4),
+    ];
+    players[0].fill(numbers);
+    let threads = threads.min(4);
+    let nanos = play_all(rt, &mut players[..threads], mix, calls)?;
+    let played = calls.wrapping_mul(threads as u32);
+    let is_good = good_calls(&players) as usize == played as usize + numbers.len()
+        && players[0].total() == wanted_total(mix, played);
+    Ok(if is_good {
+        Some(taken_by(nanos, &players))
+    } else {
+        None
+    })
+}
+
+// Prints a line: how many thousand calls a second so many clients carry out together.
+fn time_mix<R: Clock + Print + Threads + Sync + Alloc<A = Global>>(
+    rt: &R,
+    objects: u32,
+    (name, mix): (&str, Mix),
+    threads: u32,
+) -> io::Result<()> {
+    let Ok(numbers) = shuffled(rt.alloc(), objects) else {
+        return println!(rt; "no memory");
+    };
+    let each = CALLS / threads.max(1);
+    let mut taken = NOTHING;
+    for _ in 0..RUNS {
+        let load = (objects, numbers.as_slice());
+        let Some(more) = run(rt, load, (mix, each), threads as usize)? else {
+            return println!(rt; "tree,{name},{objects},{threads},failed,,");
+        };
+        taken = taken.and(more);
+    }
+    let all = u128::from(each) * u128::from(threads) * u128::from(RUNS);
+    let Taken { nanos, full, busy } = taken;
+    let rate = all * 1_000_000 / nanos.max(1);
+    println!(rt; "tree,{name},{objects},{threads},{rate},{full},{busy}")
+}
+
+/// Prints a line of comma-separated values for each mix of calls, number of objects and number of threads: who, the mix, how many objects there are at
+/// the start, how many threads, how many thousand calls a second they carry out together, and how often a call was refused for want of rows, and how
+/// often for another reason.
+pub fn time_trees<R: Clock + Print + Threads + Sync + Alloc<A = Global>>(rt: &R) -> io::Result<()> {
+    for mix in MIXES {
+        for threads in THREADS {
+            time_mix(rt, OBJECTS, mix, threads)?;
+        }
+    }
+    for mix in SIZE_MIXES {
+        for objects in SIZES {
+            time_mix(rt, objects, mix, 1)?;
+        }
+    }
+    Ok(())
+}
