@@ -4,13 +4,14 @@ ghost use Rattle.ca_adapt.specs.Allowed.{IsAllowed, IsWithin};
 ghost use Rattle.ca_adapt.specs.Statistics.{IsAfter, IsDue, IsKept, IsStatisticOf, IsWordOf};
 
 use crate::tuning::Tuning;
+use ca_base::STATISTIC;
 
 // The word for a statistic of 0, and those between which the words of all statistics are.
-const ZERO: i64 = 1 << 32;
+const ZERO: i64 = STATISTIC as i64;
 
-const LEAST: u64 = (1 << 32) - (1 << 31);
+const LEAST: u64 = STATISTIC - (1 << 31);
 
-const END: u64 = (1 << 32) + (1 << 31);
+const END: u64 = STATISTIC + (1 << 31);
 
 /// The word for a statistic in a base's row.
 pub fn word_of(statistic: i32) -> u64
