@@ -1,5 +1,5 @@
 -- What becomes of a base that is to be split.
-use Rattle.std.specs.Prelude.{◌≡◌, ◌⊎◌, ◌<◌, ◌≤◌, Bool, true, false, length, Result, Ok, Err}
+use Rattle.std.specs.Prelude.{◌≡◌, ◌⊎◌, ℕ, ◌<◌, ◌≤◌, min, Bool, true, false, length, Result, Ok, Err}
 use Rattle.ca_adapt.specs.declared.adapted.Adapted.{Adapted}
 use Rattle.ca_adapt.specs.declared.adapted.Adapted.TheVariants as adapted
 use Rattle.ca_adapt.specs.declared.adapted.Why.{Why}
@@ -7,7 +7,8 @@ use Rattle.ca_adapt.specs.declared.adapted.Why.TheVariants as why
 use Rattle.ca_base.specs.declared.taking.NoRow.{NoRow}
 use Rattle.ca_base.specs.declared.taking.NoRow.TheVariants as norow
 use Rattle.ca_base.specs.Counting.{losses, HasMet}
-use Rattle.ca_node.specs.Told.{MyTree, divided, one_more_lost}
+use Rattle.ca_base.specs.Splitting.{HasSplit}
+use Rattle.ca_node.specs.Told.{MyTree, one_more_lost}
 use Rattle.ca_node.specs.TreeView.{Note}
 use Rattle.ca_rows.specs.declared.sizes.Sizes.{Sizes}
 
@@ -18,6 +19,10 @@ answer_to (Ok false) = adapted.NotSplit why.Lost
 answer_to (Err norow.Lost) = adapted.NotSplit why.Lost
 answer_to (Err norow.Empty) = adapted.NotSplit why.NoRow
 answer_to (Err norow.Worn) = adapted.NotSplit why.Worn
+
+-- how many attempts to join a new route is said to have had: as many as the space was made with
+abbrev pub attempts_at_first : Sizes → ℕ
+attempts_at_first z = min z.starts.attempt 4611686018427387903
 
 -- It has two objects at least, and stands above the last level.
 abbrev pub MayBeSplit : Sizes → Note → Type 0
@@ -40,7 +45,12 @@ IsNotSplitBy z note why.Worn m m' = MayBeSplit z note × HasMet 0 1 m m' × (m'.
 -- This became of the base that was to be split: its exchange was won, or there is the cause.
 abbrev pub IsSplitAs : Sizes → Note → Adapted → MyTree → MyTree → Type 0
 IsSplitAs z note adapted.Stay m m' = ⊥
-IsSplitAs z note adapted.Split m m' = MayBeSplit z note × HasMet 0 0 m m' × (m'.0.upper ≡ divided m.0.upper)
+IsSplitAs z note adapted.Split m m' = MayBeSplit z note × HasMet 0 0 m m'
+    × HasSplit (length note.objects) (attempts_at_first z) (Ok true) m.0.upper m'.0.upper
 IsSplitAs z note adapted.Joined m m' = ⊥
 IsSplitAs z note (adapted.NotSplit why) m m' = IsNotSplitBy z note why m m'
 IsSplitAs z note (adapted.NotJoined why) m m' = ⊥
+
+-- No exchange of a link was lost: where an exchange was lost, it was that of the pool's head.
+abbrev pub IsPoolsLoss : Adapted → MyTree → MyTree → Type 0
+IsPoolsLoss a m m' = a ≡ adapted.NotSplit why.Lost → m'.0.upper ≡ m.0.upper

@@ -7,7 +7,7 @@ mod statistic;
 mod tuning;
 
 pub use adapted::{Adapted, Why};
-pub use splitting::{split, try_split};
+pub use splitting::{first_attempt, split, try_split};
 pub use statistic::{Due, statistic_of, word_of};
 pub use tuning::Tuning;
 

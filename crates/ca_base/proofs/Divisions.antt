@@ -75,6 +75,7 @@ pub record AreWritten (z : Sizes) (m0 m1 m2 m3 m4 : MyTree) (route left right ma
   pub is_route : SpellsRoute cursor.level (key (get_or (first_note m0.0.upper.notes).objects (many / 2) [])) left right attempt t
   pub short : length (key (get_or (first_note m0.0.upper.notes).objects (many / 2) [])) ≤ 1000
   pub is_pinned : m0.0.pin.pinned ≡ true
+  pub is_pass : 0 < m0.0.upper.number
   pub upper : m4.0.upper ≡ m0.0.upper
   pub pin : m4.0.pin ≡ m0.0.pin
 
@@ -119,6 +120,7 @@ module _ (z : Sizes) (m0 m1 m2 m3 m4 : MyTree) (route left right many attempt : 
   divides : IsDivision z m4 (division_by note route left right t l r)
   divides = record {
     is_pinned = ap (λ (e : Pin). e.pinned) w.pin ∙ w.is_pinned;
+    is_pass = subst (λ (u : TreeView). 0 < u.number) (sym w.upper) w.is_pass;
     shown = subst (λ (u : TreeView). (rest : List Note) × (u.notes ≡ note ∷ rest)) (sym w.upper) (is_first m0.0.upper.notes w.shown.noted);
     old_base = w.shown.is_base.is_base;
     above = subst (λ (n : ℕ). n < z.levels) (sym w.at.level) w.above;

@@ -1,3 +1,4 @@
+pub mod Alone
 pub mod Counts
 pub mod Divisions
 pub mod Filling

@@ -9,6 +9,7 @@ use Rattle.ca_model.specs.StoreMap.{Pair, IsFound}
 use Rattle.ca_model.specs.Slab.{nothing}
 use Rattle.ca_model.proofs.Places.{IsAt, is_found}
 use Rattle.ca_node.specs.Laws.{in_nothing}
+use Rattle.ca_node.specs.Inventory.{AreOnce, row_itself}
 use Rattle.ca_node.specs.Links.{IsIn}
 use Rattle.ca_node.specs.Place.{HasKey, edit_key}
 use Rattle.ca_node.specs.Row.{items, pair}
@@ -40,6 +41,7 @@ pub record IsMade (keypos : ℕ) (m : MyTree) (x : Update) (these : List ℕ) : 
   pub as_many : length x.objects ≡ length these
   pub are_objects : (k row : ℕ) (its : List ℕ) → get_elem? these k ≡ some row → get_elem? x.objects k ≡ some its → IsObjectOf m x row its
   pub come : (row : ℕ) → IsIn row x.comes → IsIn row these × ((its : List ℕ) × (claim_of m.0.claims row ≡ some (Holds its)))
+  pub come_once : AreOnce row_itself x.comes
   pub go : (row : ℕ) → IsIn row x.goes → (i : ℕ) × (get_elem? (items x.old.its) i ≡ some row) × IsElsewhere x these i row
   pub stay : (row : ℕ) → IsIn row (items x.old.its) → IsIn row these ⊎ IsIn row x.goes
   pub map_is : map pair x.objects ≡ after_edit x.edit (map pair x.old.objects)
@@ -63,6 +65,7 @@ is_update z m new x these statistic n few made = let h = subst (IsMade z.keypos 
   as_many = h.as_many;
   are_objects = h.are_objects;
   come = h.come;
+  come_once = h.come_once;
   go = h.go;
   stay = h.stay;
   map_is = h.map_is;

@@ -72,8 +72,9 @@ module _ (z : Sizes) (kept : Vec Kept Global) (m : MyTree) (new : ℕ) (x : Upda
   first_is : first_note m.0.upper.notes ≡ x.old
   first_is = ap first_note up.shown.1
 
-  pub renewed : (m' : MyTree) (v : TreeView) → IsUpdated new x m m' → v ≡ m'.0.upper → IsRenewed z (get_or x.its 1 0) x.edit m.0.upper v
-  renewed m' v u same = let w : v ≡ updated m.0.upper u.more new x = same ∙ ap (λ (y : MyTree). y.0.upper) u.now in
+  pub renewed : (m' : MyTree) (v : TreeView) → length x.comes ≤ 1 → IsUpdated new x m m' → v ≡ m'.0.upper
+      → IsRenewed z (get_or x.its 1 0) x.edit m.0.upper v
+  renewed m' v few u same = let w : v ≡ updated m.0.upper u.more new x = same ∙ ap (λ (y : MyTree). y.0.upper) u.now in
       subst (IsRenewed z (get_or x.its 1 0) x.edit m.0.upper) (sym w) record {
         notes = refl;
         ways = refl;
@@ -82,8 +83,10 @@ module _ (z : Sizes) (kept : Vec Kept Global) (m : MyTree) (new : ℕ) (x : Upda
         has = up.map_is ∙ ap (λ (n : Note). after_edit x.edit (map pair n.objects)) (sym first_is);
         statistic_is = refl;
         same_splits = refl;
+        same_cuts = refl;
         same_lost = refl;
         last = refl;
+        inventory = (x, sym first_is, few, refl);
         renewal = ap (λ (n : Note). renewal_of m.0.upper (edit_key x.edit) n new_note) (sym first_is);
       }
 

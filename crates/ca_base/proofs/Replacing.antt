@@ -108,6 +108,7 @@ module _ (z : Sizes) (m : MyTree) (note : Note) (row new : ℕ) (place : Result 
     come = λ r i. let e : row ≡ r = ⊎_elim (λ e. e) (λ (j : IsIn r []). absurd (in_nothing r [] refl j)) (in_more row r [] i) in
         subst (λ (y : ℕ). IsIn y (put_in (items note.its) place row) × ((its : List ℕ) × (claim_of m.0.claims y ≡ some (Holds its)))) e
         (here_put place (items note.its) row range, (a, h.object_held));
+    come_once = (λ t. in_nothing t.0 [] refl t.1, tt);
     go = λ r i. goes x place row r range refl i;
     stay = λ r i. stays place (items note.its) row r i;
     map_is = map_put place pair note.objects a ∙ placed_is (map pair note.objects) (pair a) place h.place_is;

@@ -81,6 +81,7 @@ module _ (z : Sizes) (m : MyTree) (note : Note) (at new statistic : ℕ) (b : Li
         omega arith;
     are_objects = λ k r its p q. inl (past at k, sym (at_removed (items note.its) at k) ∙ p, sym (at_removed note.objects at k) ∙ q);
     come = λ r i. absurd (in_nothing r [] refl i);
+    come_once = tt;
     go = λ r i. (
       at,
       elem_or (items note.its) at 0 in_items ∙ ap some (gone_is (items note.its) at r i),

@@ -1,5 +1,5 @@
 -- Updates that put an object: what becomes of a base, and which call it is.
-use Rattle.std.specs.Prelude.{◌≡◌, ℕ, ◌+◌, ◌<◌, ◌≤◌, Bool, true, false, List, [], ◌∷◌, map, slice_index, slice_index_or, slice_set, Some, Result, Ok, Err}
+use Rattle.std.specs.Prelude.{◌≡◌, ℕ, ◌+◌, ◌<◌, ◌≤◌, Bool, true, false, List, [], ◌∷◌, length, map, slice_index, slice_index_or, slice_set, Some, Result, Ok, Err}
 use Rattle.std.specs.List.{insert}
 use mathlib.Core.Option.{Option, some, none}
 use Rattle.ca_model.specs.Event.{Event, Write, WriteNew, Change}
@@ -7,7 +7,7 @@ use Rattle.ca_model.specs.History.{Edit, Put, after_edit}
 use Rattle.ca_node.specs.Links.{IsIn}
 use Rattle.ca_node.specs.Place.{edit_key}
 use Rattle.ca_node.specs.Row.{items, object, key, pair}
-use Rattle.ca_node.specs.Told.{MyTree, IsBaseNote, IsKnown, Update, one_more_lost}
+use Rattle.ca_node.specs.Told.{MyTree, IsBaseNote, IsKnown, Update, one_more_lost, updated_inventory}
 use Rattle.ca_node.specs.TreeView.{Note, Renewal, TreeView, no_note}
 use Rattle.ca_base.specs.declared.taking.NoRow.{NoRow}
 use Rattle.ca_base.specs.declared.updating.Putting.{Putting}
@@ -127,9 +127,12 @@ pub record IsRenewed (z : Sizes) (statistic : ℕ) (edit : Edit) (u v : TreeView
   pub statistic_is : slice_index (first_note v.notes).its 1 ≡ statistic
   -- No base was split, and no exchange of a link was lost.
   pub same_splits : v.splits ≡ u.splits
+  pub same_cuts : v.cuts ≡ u.cuts
   pub same_lost : v.lost ≡ u.lost
   -- It is the base that was shown last, and the pass's last update is this one.
   pub last : v.last ≡ first_note v.notes
+  -- The tree has the new base in the place of the old one, and one object row more at most.
+  pub inventory : (x : Update) × (x.old ≡ first_note u.notes) × (length x.comes ≤ 1) × (v.inventory ≡ updated_inventory (first_note v.notes).row x u.inventory)
   pub renewal : v.renewal ≡ renewal_of u (edit_key edit) (first_note u.notes) (first_note v.notes)
 
 -- So it is where the exchange of a base won.

@@ -1,6 +1,6 @@
 -- Splits of a base: what the words of a route spell, which rows are taken, and what a split comes to.
-use Rattle.std.specs.Prelude.{◌≡◌, ℕ, ◌*◌, ◌/◌, Bool, true, false, List, [], ◌∷◌, length, slice_index, Result, Ok, Err}
-use Rattle.ca_node.specs.Row.{IsRouteRow, count, items, level, route_key}
+use Rattle.std.specs.Prelude.{◌≡◌, ℕ, ◌*◌, ◌/◌, Bool, true, false, List, [], ◌∷◌, length, slice_index, slice_index_or, Result, Ok, Err}
+use Rattle.ca_node.specs.Row.{IsRouteRow, count, items, key, level, route_key}
 use Rattle.ca_node.specs.Told.{MyTree, Division, divided, one_more_lost}
 use Rattle.ca_node.specs.TreeView.{Note, TreeView}
 use Rattle.ca_node.proofs.HeldRows.{AreApart}
@@ -49,8 +49,14 @@ pub record IsHalving (many attempt : ℕ) (x : Division) : Type 0 where
   pub right_statistic : slice_index x.right_its 1 ≡ 4294967296
   pub attempts : slice_index x.route_its 3 ≡ attempt * 4
 
--- The exchange of a base against a route: the split is carried out, or the exchange was lost, which is counted; or no row was free.
-abbrev pub HasSplit : Result Bool NoRow → TreeView → TreeView → Type 0
-HasSplit (Ok true) u v = v ≡ divided u
-HasSplit (Ok false) u v = v ≡ one_more_lost u
-HasSplit (Err why) u v = v ≡ u
+-- The base was split in the middle of so many objects, and the route has the key of the first one that went right.
+pub record IsSplit (note : Note) (many attempt : ℕ) (x : Division) : Type 0 where
+  pub old_is : x.old ≡ note
+  pub key_is : route_key x.route_its ≡ key (slice_index_or note.objects x.middle [])
+  pub halving : IsHalving many attempt x
+
+-- The exchange of the base that was shown last against a route: the split is carried out, or the exchange was lost, which is counted; or no row was free.
+abbrev pub HasSplit : ℕ → ℕ → Result Bool NoRow → TreeView → TreeView → Type 0
+HasSplit many attempt (Ok true) u v = (x : Division) × IsSplit (first_note u.notes) many attempt x × (v ≡ divided x u)
+HasSplit many attempt (Ok false) u v = v ≡ one_more_lost u
+HasSplit many attempt (Err why) u v = v ≡ u

@@ -1,12 +1,14 @@
 //! An object is taken away from a base.
-ghost use Rattle.std.specs.Prelude.{◌≡◌, ◌<◌, ◌≤◌, [], length, map, true, Ok, Some};
+ghost use Rattle.std.specs.Prelude.{◌≡◌, ◌≢◌, ◌<◌, ◌≤◌, [], length, map, true, false, Ok, Some};
 ghost use Rattle.ca_model.proofs.Places.{IsPlace};
 ghost use Rattle.ca_model.specs.Event.{Remove};
 ghost use Rattle.ca_model.specs.History.{Del};
 ghost use Rattle.ca_model.specs.StoreMap.{IsStoreMap};
+ghost use Rattle.ca_node.specs.Inventory.{IsListed};
 ghost use Rattle.ca_node.specs.Place.{HasKey};
 ghost use Rattle.ca_node.specs.Row.{pair};
 ghost use Rattle.ca_node.specs.Tallied.{IsTallied};
+ghost use Rattle.ca_node.specs.Told.{IsAlone};
 ghost use Rattle.ca_base.specs.Counting.{IsSpent, HasCleared, HasEnded};
 ghost use Rattle.ca_base.specs.Finding.{IsAtCursor};
 ghost use Rattle.ca_base.specs.Putting.{object_at, IsShownLast, HasRenewed, IsNewRow, HasTried, first_note};
@@ -23,7 +25,7 @@ use std::slice::from_ref;
 
 /// Takes the object with this key, which stands at this place, out of the base that was shown last, which has so many, by one exchange of the link
 /// where that base hangs; this enters the call in the log. The key is one of those that are led there. The new base has this word for its
-/// statistic, and `placed` is its row then. False where the exchange was lost.
+/// statistic, and `placed` is its row then. False where the exchange was lost, which none is by a pass that is alone and lists the base.
 pub fn remove_at(
     space: &TreeSpace,
     pass: &mut TreePass,
@@ -53,6 +55,8 @@ pub fn remove_at(
     ensures none { AreHeld space.now.table.shared.key.rows pass.new.kept.rows pass.new.seat.me.0 [] }
     ensures removed { HasTried (Remove _key.now (Some (object_at (Ok at) (first_note pass.old.seat.me.0.upper.notes).objects)))
         space.now.table.shared.key result pass.old.seat.me.0.upper pass.new.seat.me.0.upper }
+    ensures won { IsAlone space.now.table.shared.key pass.old.seat.me.0.upper
+        → IsListed pass.old.seat.me.0.upper.inventory (first_note pass.old.seat.me.0.upper.notes) → result ≢ Ok false }
     ensures renewed { HasRenewed space.now.table.shared.key statistic (Del _key.now) result pass.old.seat.me.0.upper pass.new.seat.me.0.upper }
     ensures placed { IsNewRow placed.new result pass.new.seat.me.0.upper }
     ensures counted { IsSpent spent.old spent.new pass.old.seat.me pass.new.seat.me }

@@ -1,9 +1,10 @@
 //! A base is split: a route over two halves takes its place.
-ghost use Rattle.std.specs.Prelude.{◌≡◌, ◌+◌, ◌*◌, ◌<◌, ◌≤◌, [], ◌∷◌, length, map, true, Ok};
+ghost use Rattle.std.specs.Prelude.{◌≡◌, ◌≢◌, ◌+◌, ◌*◌, ◌<◌, ◌≤◌, [], ◌∷◌, length, map, true, false, Ok};
 ghost use Rattle.ca_model.specs.StoreMap.{IsStoreMap};
+ghost use Rattle.ca_node.specs.Inventory.{IsListed};
 ghost use Rattle.ca_node.specs.Row.{pair};
 ghost use Rattle.ca_node.specs.Tallied.{IsTallied};
-ghost use Rattle.ca_node.specs.Told.{IsDivision, link_word};
+ghost use Rattle.ca_node.specs.Told.{IsAlone, IsDivision, link_word};
 ghost use Rattle.ca_node.proofs.HeldRows.{AreApart};
 ghost use Rattle.ca_base.specs.Counting.{IsSpent, HasCleared, HasEnded, HasFound, HasPutBack};
 ghost use Rattle.ca_base.specs.Finding.{IsAtCursor};
@@ -22,7 +23,7 @@ use ca_node::{Cursor, Link, Plan, TreePass, TreeSpace, divide_base};
 use std::marker::Brand;
 
 /// Splits the base that was shown last, which has so many objects: a route with the key of the first object of the right half takes its place, over
-/// two bases with the halves. It takes three rows. False where the exchange was lost.
+/// two bases with the halves. It takes three rows. False where the exchange was lost, which none is by a pass that is alone and lists the base.
 pub fn split_at(
     space: &TreeSpace,
     pass: &mut TreePass,
@@ -33,6 +34,7 @@ pub fn split_at(
 ) -> Result<bool, NoRow>
     requires own { IsOf space.now.table.shared.table_id space.now.table.shared.key pass.old.seat }
     requires pinned { pass.old.seat.me.0.pin.pinned ≡ true }
+    requires number { 0 < pass.old.seat.me.0.upper.number }
     requires none { AreHeld space.now.table.shared.key.rows pass.old.kept.rows pass.old.seat.me.0 [] }
     requires leaf { space.now.table.shared.key.leaf ≤ 120 }
     requires shown { IsShownLast space.now.table.shared.key pass.old.seat.me.0.upper cursor.base }
@@ -46,7 +48,9 @@ pub fn split_at(
     ensures tally { IsTallied pass.old.tally pass.old.seat.me.0.upper → IsTallied pass.new.tally pass.new.seat.me.0.upper }
     ensures pin { (pass.new.seat.me.0.sizes ≡ pass.old.seat.me.0.sizes) × (pass.new.seat.me.0.pin ≡ pass.old.seat.me.0.pin) }
     ensures none { AreHeld space.now.table.shared.key.rows pass.new.kept.rows pass.new.seat.me.0 [] }
-    ensures split { HasSplit result pass.old.seat.me.0.upper pass.new.seat.me.0.upper }
+    ensures split { HasSplit many attempt result pass.old.seat.me.0.upper pass.new.seat.me.0.upper }
+    ensures won { IsAlone space.now.table.shared.key pass.old.seat.me.0.upper
+        → IsListed pass.old.seat.me.0.upper.inventory (first_note pass.old.seat.me.0.upper.notes) → result ≢ Ok false }
     ensures counted { IsSpent spent.old spent.new pass.old.seat.me pass.new.seat.me }
     ensures found { HasEnded result pass.old.seat.me pass.new.seat.me }
     ensures back { HasCleared result pass.old.seat.me pass.new.seat.me pass.old.kept pass.new.kept }
@@ -126,7 +130,9 @@ fn divide_in<K: Plan>(
     ensures tally { IsTallied pass.old.tally pass.old.seat.me.0.upper → IsTallied pass.new.tally pass.new.seat.me.0.upper }
     ensures pin { (pass.new.seat.me.0.sizes ≡ pass.old.seat.me.0.sizes) × (pass.new.seat.me.0.pin ≡ pass.old.seat.me.0.pin) }
     ensures none { AreHeld space.now.table.shared.key.rows pass.new.kept.rows pass.new.seat.me.0 [] }
-    ensures split { HasSplit (Ok result) pass.old.seat.me.0.upper pass.new.seat.me.0.upper }
+    ensures split { HasSplit _many _attempt (Ok result) pass.old.seat.me.0.upper pass.new.seat.me.0.upper }
+    ensures won { IsAlone space.now.table.shared.key pass.old.seat.me.0.upper → IsListed pass.old.seat.me.0.upper.inventory K.division.old
+        → result ≢ false }
     ensures counted { IsSpent spent.old spent.new pass.old.seat.me pass.new.seat.me }
     ensures found { HasEnded (Ok result) pass.old.seat.me pass.new.seat.me }
     ensures back { HasCleared (Ok result) pass.old.seat.me pass.new.seat.me pass.old.kept pass.new.kept }

@@ -1,8 +1,9 @@
 //! A base that a pass wrote takes the place of the one that it was shown last.
-ghost use Rattle.std.specs.Prelude.{◌≡◌, ◌<◌, ◌≤◌, ℕ, List, [], ◌∷◌, Ok, slice_index};
+ghost use Rattle.std.specs.Prelude.{◌≡◌, ◌≢◌, ◌<◌, ◌≤◌, ℕ, false, List, [], ◌∷◌, length, Ok, slice_index};
+ghost use Rattle.ca_node.specs.Inventory.{IsListed};
 ghost use Rattle.ca_node.specs.Links.{IsIn};
 ghost use Rattle.ca_node.specs.Tallied.{IsTallied};
-ghost use Rattle.ca_node.specs.Told.{IsBaseNote, IsUpdate};
+ghost use Rattle.ca_node.specs.Told.{IsAlone, IsBaseNote, IsUpdate};
 ghost use Rattle.ca_node.proofs.HeldRows.{AreApart};
 ghost use Rattle.ca_base.specs.Counting.{losses, IsSpent, HasCleared, HasEnded, HasMet, PutsBack};
 ghost use Rattle.ca_base.specs.Finding.{IsAtCursor};
@@ -47,12 +48,15 @@ pub(crate) fn swap_in<K: Intent>(
     requires rows { (K.update.comes ≡ comes.now) × (K.update.goes ≡ goes.now) }
     requires apart { AreApart (new ∷ comes.now) × AreApart goes.now }
     requires held { AreHeld space.now.table.shared.key.rows pass.old.kept.rows pass.old.seat.me.0 (new ∷ comes.now) }
+    requires few { length comes.now ≤ 1 }
     ensures same { IsSame pass.old.seat pass.new.seat }
     ensures number { pass.new.number ≡ pass.old.number }
     ensures tally { IsTallied pass.old.tally pass.old.seat.me.0.upper → IsTallied pass.new.tally pass.new.seat.me.0.upper }
     ensures pin { (pass.new.seat.me.0.sizes ≡ pass.old.seat.me.0.sizes) × (pass.new.seat.me.0.pin ≡ pass.old.seat.me.0.pin) }
     ensures none { AreHeld space.now.table.shared.key.rows pass.new.kept.rows pass.new.seat.me.0 [] }
     ensures done { HasSwapped K.update.event space.now.table.shared.key result pass.old.seat.me.0.upper pass.new.seat.me.0.upper }
+    ensures won { IsAlone space.now.table.shared.key pass.old.seat.me.0.upper → IsListed pass.old.seat.me.0.upper.inventory K.update.old
+        → result ≢ false }
     ensures renewed { HasRenewed space.now.table.shared.key (slice_index K.update.its 1) K.update.edit (Ok result) pass.old.seat.me.0.upper
         pass.new.seat.me.0.upper }
     ensures placed { IsNewRow new (Ok result) pass.new.seat.me.0.upper }

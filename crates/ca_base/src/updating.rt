@@ -1,11 +1,13 @@
 //! An object is put into a base.
-ghost use Rattle.std.specs.Prelude.{◌≡◌, ℕ, ◌<◌, ◌≤◌, List, [], length, map, slice_range, true};
+ghost use Rattle.std.specs.Prelude.{◌≡◌, ◌≢◌, ℕ, ◌<◌, ◌≤◌, List, [], length, map, slice_range, true, false, Ok};
 ghost use Rattle.ca_model.proofs.Places.{IsPlace};
 ghost use Rattle.ca_model.specs.History.{Put};
 ghost use Rattle.ca_model.specs.StoreMap.{IsPair};
+ghost use Rattle.ca_node.specs.Inventory.{IsListed};
 ghost use Rattle.ca_node.specs.Place.{HasKey};
 ghost use Rattle.ca_node.specs.Row.{pair};
 ghost use Rattle.ca_node.specs.Tallied.{IsTallied};
+ghost use Rattle.ca_node.specs.Told.{IsAlone};
 ghost use Rattle.ca_base.specs.Counting.{IsSpent, HasCleared, HasEnded};
 ghost use Rattle.ca_base.specs.Finding.{IsAtCursor};
 ghost use Rattle.ca_base.specs.Putting.{gone as gone_at, object_at, IsItemAt, IsNewRow, IsRoom, IsFor, IsShownLast, HasRenewed, HasTried, first_note};
@@ -35,7 +37,7 @@ pub enum Putting {
 
 /// Puts an object into the base that was shown last, which has so many, at its key's place, by one exchange of the link where that base hangs; this
 /// enters the call in the log. The key is one of those that are led there. The new base has this word for its statistic, and `placed` is its row then.
-/// False where the exchange was lost.
+/// False where the exchange was lost, which none is by a pass that is alone and lists the base.
 pub fn put_at(
     space: &TreeSpace,
     pass: &mut TreePass,
@@ -72,6 +74,8 @@ pub fn put_at(
     ensures put { HasTried
         (put_event why (slice_range object.now key_at key_end) (object_at place (first_note pass.old.seat.me.0.upper.notes).objects) object.now)
         space.now.table.shared.key result pass.old.seat.me.0.upper pass.new.seat.me.0.upper }
+    ensures won { IsAlone space.now.table.shared.key pass.old.seat.me.0.upper
+        → IsListed pass.old.seat.me.0.upper.inventory (first_note pass.old.seat.me.0.upper.notes) → result ≢ Ok false }
     ensures renewed { HasRenewed space.now.table.shared.key statistic (Put (slice_range object.now key_at key_end) object.now) result
         pass.old.seat.me.0.upper pass.new.seat.me.0.upper }
     ensures placed { IsNewRow placed.new result pass.new.seat.me.0.upper }

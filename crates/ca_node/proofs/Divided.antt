@@ -8,7 +8,7 @@ use native.Mathlib.Decide.{ℕ_discrete}
 use lib.ListN.{get_elem?}
 use Rattle.ca_model.specs.StoreMap.{Pair, StoreMap, IsStoreMap}
 use Rattle.ca_rows.specs.declared.sizes.Sizes.{Sizes}
-use Rattle.ca_node.specs.Place.{Span, all_keys, left_of, right_of, HasKey, part, Place}
+use Rattle.ca_node.specs.Place.{Span, all_keys, left_of, right_of, HasKey, part, Place, left_place, right_place}
 use Rattle.ca_node.specs.Row.{row_at, IsRouteRow, count, level, items, key, object, route_key, pair, objects_in}
 use Rattle.ca_node.specs.Shape.{Role, Out, Base, Route, place_of, IsLink, LeadsTo, IsBaseAt, IsRouteAt, IsSo, IsShape}
 use Rattle.ca_node.specs.Stays.{word_at}
@@ -21,14 +21,6 @@ use Rattle.ca_node.proofs.Rebased.{out_no_route, IsNewBase, relinked_wide, relin
 pub behind : {A : Type 0} (xs ys : List A) (a : A) → get_elem? (xs ++ a ∷ ys) (length xs) ≡ some a
 behind [] ys a = refl
 behind (x ∷ xs) ys a = behind xs ys a
-
--- the place on the left of a route that stands here
-abbrev pub left_place : Place → List ℕ → ℕ → Place
-left_place place k route = record { link = 136 * route + 1; level = place.level + 1; span = left_of k place.span }
-
--- the place on its right
-abbrev pub right_place : Place → List ℕ → ℕ → Place
-right_place place k route = record { link = 136 * route + 2; level = place.level + 1; span = right_of k place.span }
 
 -- The row is to be a route of the tree over these two rows: it is nothing in it yet, and its words are those of such a route.
 pub record IsNewRoute (z : Sizes) (words : List ℕ) (role : ℕ → Role) (deep : ℕ) (k : List ℕ) (left right row : ℕ) : Type 0 where

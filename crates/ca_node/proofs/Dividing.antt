@@ -1,5 +1,5 @@
 -- A split: a route over two bases takes the place of a base under its link.
-use Rattle.std.proofs.Common.{◌≡◌, ◌≢◌, ◌⊎◌, ℕ, zero, suc, ◌+◌, ◌*◌, ◌%◌, ◌<◌, ◌≤◌, Bool, true, eqb, List, [], ◌∷◌, ◌++◌, length, map, take, drop, get_or, set, sym, refl, ap, ◌∙◌, subst, inl, inr, ⊎_elim, arith, eq-eqb, ne_eqb}
+use Rattle.std.proofs.Common.{◌≡◌, ◌≢◌, ◌⊎◌, ℕ, zero, suc, ◌+◌, ◌*◌, ◌%◌, ◌<◌, ◌≤◌, Bool, true, false, eqb, List, [], ◌∷◌, ◌++◌, length, map, take, drop, get_or, set, sym, refl, ap, ◌∙◌, subst, inl, inr, ⊎_elim, arith, eq-eqb, ne_eqb}
 use Rattle.std.proofs.lemmas.List.{map-set, length-map}
 use mathlib.Core.Logic.{dite}
 use mathlib.Core.Option.{some, none, some-injective, some-ne-none}
@@ -20,18 +20,20 @@ use Rattle.ca_rows.specs.Rule.{upper_of}
 use Rattle.ca_rows.specs.Words.{IsWide}
 use Rattle.ca_rows.proofs.Relinking.{Change, Stays, Comes, Goes, IsChange, relinks}
 use Rattle.ca_rows.proofs.Rules.{all_seats}
-use Rattle.ca_node.specs.Laws.{tree_lends, numbered, relisted}
+use Rattle.ca_node.specs.Inventory.{IsInventory}
+use Rattle.ca_node.specs.Laws.{tree_lends, in_nothing, numbered, relisted}
 use Rattle.ca_node.specs.Links.{IsIn, IsLinked, IsLent, IsNoted, by_note, by_item, by_way, by_link, by_link_item}
-use Rattle.ca_node.specs.Place.{Place}
-use Rattle.ca_node.specs.Reached.{base_at, link_range, reached, placed_linked, item_linked, item_out, nothing_lent}
+use Rattle.ca_node.specs.Place.{Place, left_place, right_place}
+use Rattle.ca_node.specs.Reached.{same_place, base_at, link_range, reached, placed_linked, item_linked, item_out, nothing_lent}
 use Rattle.ca_node.specs.Row.{row_at, IsBaseRow, IsRouteRow, items, count, level, mark, key, route_key}
 use Rattle.ca_node.specs.Shape.{Role, Out, Base, Route, place_of, IsBaseAt, IsShape}
-use Rattle.ca_node.specs.Told.{MyTree, Division, IsHalf, IsDivision, given, taken_out, divided, one_more_lost, IsDivided, Divides, HasDivided}
+use Rattle.ca_node.specs.Told.{MyTree, Division, IsHalf, IsDivision, given, taken_out, divided_inventory, divided, one_more_lost, IsDivided, IsMissed, Divides, HasDivided}
 use Rattle.ca_node.specs.Tree.{IsTrue, IsTrueWay, Knows, IsTree}
 use Rattle.ca_node.specs.TreeView.{Note, Way, TreeView}
-use Rattle.ca_node.proofs.Divided.{IsNewRoute, AreDivided, left_place, right_place, with_route, with_route_route, with_route_left, with_route_right, with_route_old, with_route_else, shape_divided}
+use Rattle.ca_node.proofs.Divided.{IsNewRoute, AreDivided, with_route, with_route_route, with_route_left, with_route_right, with_route_old, with_route_else, shape_divided}
 use Rattle.ca_node.proofs.Holding.{held_row, unclaimed_row}
-use Rattle.ca_node.proofs.Looking.{R, recounted, of_map, knows_upper, in_more}
+use Rattle.ca_node.proofs.Listing.{in_either, in_front, in_back, Relists, listed_again, known_by_one}
+use Rattle.ca_node.proofs.Looking.{R, recounted, hangs_still, of_map, knows_upper, in_more}
 use Rattle.ca_node.proofs.Members.{has, given_here, given_else, taken_here, taken_else}
 use Rattle.ca_node.proofs.Rebased.{IsNewBase, relinked_wide, relinked_else, relinked_keeps, relinked_row, base_no_route, out_no_route}
 use Rattle.ca_node.proofs.Remembering.{remembered_leads, unlinked_out, note_stays, way_stays, notes_stay}
@@ -52,27 +54,13 @@ drop_at n [] l = absurd (omega arith)
 drop_at zero (x ∷ xs) l = (x, xs, refl, refl)
 drop_at (suc n) (x ∷ xs) l = let r = drop_at n xs (omega arith) in (r.0, r.1, r.2, r.3)
 
--- A member of the first ones, or of the others, is one of the list.
-in_either : {A : Type 0} (xs ys : List A) (x : A) → IsIn x (xs ++ ys) → IsIn x xs ⊎ IsIn x ys
-in_either [] ys x i = inr i
-in_either (z ∷ xs) ys x i = ⊎_elim (λ (e : z ≡ x). inl (0, ap some e))
-    (λ j. ⊎_elim (λ (k : IsIn x xs). inl (suc k.0, k.1)) (λ k. inr k) (in_either xs ys x j)) (in_more z x (xs ++ ys) i)
-
-in_front : {A : Type 0} (xs ys : List A) (x : A) → IsIn x xs → IsIn x (xs ++ ys)
-in_front [] ys x i = absurd (some-ne-none x (sym i.1))
-in_front (z ∷ xs) ys x i = ⊎_elim (λ (e : z ≡ x). (0, ap some e)) (λ j. let k = in_front xs ys x j in (suc k.0, k.1)) (in_more z x xs i)
-
-in_back : {A : Type 0} (xs ys : List A) (x : A) → IsIn x ys → IsIn x (xs ++ ys)
-in_back [] ys x i = i
-in_back (z ∷ xs) ys x i = let k = in_back xs ys x i in (suc k.0, k.1)
-
--- What a split counts gives no note.
-divided_notes : (words : List ℕ) (u : TreeView) (row : ℕ) → IsNoted words (divided u) row → IsNoted words u row
-divided_notes words u _ (by_note note row i e) = by_note note row i e
-divided_notes words u _ (by_item note row i b k) = by_item note row i b k
-divided_notes words u _ (by_way way row i e) = by_way way row i e
-divided_notes words u _ (by_link way row i e) = by_link way row i e
-divided_notes words u _ (by_link_item way base row i e f k) = by_link_item way base row i e f k
+-- What a split counts and lists gives no note.
+divided_notes : (words : List ℕ) (x : Division) (u : TreeView) (row : ℕ) → IsNoted words (divided x u) row → IsNoted words u row
+divided_notes words x u _ (by_note note row i e) = by_note note row i e
+divided_notes words x u _ (by_item note row i b k) = by_item note row i b k
+divided_notes words x u _ (by_way way row i e) = by_way way row i e
+divided_notes words x u _ (by_link way row i e) = by_link way row i e
+divided_notes words x u _ (by_link_item way base row i e f k) = by_link_item way base row i e f k
 
 module _ (z : Sizes) (s : State (Unit {0}) (View TreeView)) (r : R z s) (id : ℕ) (me : MyTree) (at : get_elem? s.views id ≡ some me.0) (x : Division)
     (u : IsDivision z me x) (hit : get_or s.words x.old.place.link 0 ≡ x.old.row) where
@@ -347,7 +335,7 @@ module _ (z : Sizes) (s : State (Unit {0}) (View TreeView)) (r : R z s) (id : �
   apart row i o = other row (comes_out row i) (sym (is_out row o))
 
   abbrev u' : TreeView
-  u' = divided d.upper
+  u' = divided x d.upper
 
   abbrev d' : View TreeView
   d' = record d { claims = taken_out outs (given ins d.claims); upper = u' }
@@ -456,6 +444,81 @@ module _ (z : Sizes) (s : State (Unit {0}) (View TreeView)) (r : R z s) (id : �
   control i l ne = relinked_else z s.words role last shape x.old.row place is_old x.route i (λ e. ⊎_elim (λ (t : x.old.place.link ≡ 130). ne (omega arith))
       (λ t. let lo = t.0 in omega arith) (link_range z s.words role last shape x.old.place.link old_at.is_link))
 
+  -- the bases that come
+  abbrev left_part : ℕ × Place
+  left_part = (x.left, left_place x.old.place (route_key x.route_its) x.route)
+
+  abbrev right_part : ℕ × Place
+  right_part = (x.right, right_place x.old.place (route_key x.route_its) x.route)
+
+  abbrev parts : List (ℕ × Place)
+  parts = left_part ∷ right_part ∷ []
+
+  -- A base that comes is one of the two.
+  which : (row : ℕ) (p : Place) → IsIn (row, p) parts → (left_part ≡ (row, p)) ⊎ (right_part ≡ (row, p))
+  which row p i = ⊎_elim (λ e. inl e) (λ j. ⊎_elim (λ e. inr e) (λ k. absurd (in_nothing (row, p) [] refl k)) (in_more right_part (row, p) [] j))
+      (in_more left_part (row, p) (right_part ∷ []) i)
+
+  part_now : (row : ℕ) (p : Place) → IsIn (row, p) parts → role' row ≡ Base p
+  part_now row p i = ⊎_elim (by left_part role_left) (by right_part role_right) (which row p i)
+    where
+      by : (b : ℕ × Place) → role' b.0 ≡ Base b.1 → b ≡ (row, p) → role' row ≡ Base p
+      by b is e = ap (λ (c : ℕ × Place). role' c.0) (sym e) ∙ (is ∙ ap (λ (c : ℕ × Place). Base c.1) e)
+
+  part_out : (row : ℕ) (p : Place) → IsIn (row, p) parts → r.above.role row ≡ Out
+  part_out row p i = ⊎_elim (by left_part left_base.is_out) (by right_part right_base.is_out) (which row p i)
+    where
+      by : (b : ℕ × Place) → role b.0 ≡ Out → b ≡ (row, p) → role row ≡ Out
+      by b is e = ap (λ (c : ℕ × Place). role c.0) (sym e) ∙ is
+
+  -- A base of the new tree is one of the two, or was one.
+  part_back : (row : ℕ) (p : Place) → role' row ≡ Base p → IsIn (row, p) parts ⊎ ((r.above.role row ≡ Base p) × (row ≢ x.old.row))
+  part_back row p e = ⊎_elim
+      (λ (c : Coming row). ⊎_elim
+      (λ (same : x.route ≡ row). let y : Route place (route_key x.route_its) ≡ Base p = sym role_route ∙ (ap role' same ∙ e) in absurd cc)
+      (λ j. ⊎_elim
+      (λ (same : x.left ≡ row). inl (0, by left_part role_left same))
+      (λ k. ⊎_elim (λ (same : x.right ≡ row). inl (1, by right_part role_right same)) (λ l. absurd (in_nothing row [] refl l)) (in_more x.right row [] k))
+      (in_more x.left row (x.right ∷ []) j)) (in_more x.route row (x.left ∷ x.right ∷ []) c))
+      (λ (n : ¬ Coming row). dite (ℕ_discrete row x.old.row)
+      (λ (o : row ≡ x.old.row). let y : Out ≡ Base p = sym role_old ∙ (ap role' (sym o) ∙ e) in absurd cc)
+      (λ (ne : row ≢ x.old.row). inr (sym (role_else row n ne) ∙ e, ne)))
+      (has ins row)
+    where
+      by : (b : ℕ × Place) → role' b.0 ≡ Base b.1 → b.0 ≡ row → some b ≡ some (row, p)
+      by b is same = ap some (ap (λ c. (c, b.1)) same ∙ ap (λ q. (row, q)) (same_place b.1 p (sym is ∙ (ap role' same ∙ e))))
+
+  -- The three rows are apart.
+  route_once : ¬ ((y : ℕ) × IsIn y (x.left ∷ x.right ∷ []) × (y ≡ x.route))
+  route_once t = ⊎_elim (λ (e : x.left ≡ t.0). u.apart.0 (sym (e ∙ t.2)))
+      (λ j. ⊎_elim (λ (e : x.right ≡ t.0). u.apart.1 (sym (e ∙ t.2))) (in_nothing t.0 [] refl) (in_more x.right t.0 [] j))
+      (in_more x.left t.0 (x.right ∷ []) t.1)
+
+  left_once : ¬ ((y : ℕ) × IsIn y (x.right ∷ []) × (y ≡ x.left))
+  left_once t = ⊎_elim (λ (e : x.right ≡ t.0). u.apart.2 (sym (e ∙ t.2))) (in_nothing t.0 [] refl) (in_more x.right t.0 [] t.1)
+
+  parts_once : ¬ ((y : ℕ × Place) × IsIn y (right_part ∷ []) × (y.0 ≡ x.left))
+  parts_once t = ⊎_elim (λ (e : right_part ≡ t.0). u.apart.2 (sym (ap (λ (b : ℕ × Place). b.0) e ∙ t.2))) (in_nothing t.0 [] refl)
+      (in_more right_part t.0 [] t.1)
+
+  relists : Relists s.words words' r.above.role role' ins outs parts x.old.row
+  relists = record {
+    comes = come_linked;
+    came_out = λ row i. let h = held_in row i in (held row h.0 h.1).3;
+    goes = λ row o _ l. old_unlinked (subst (IsLinked words') (is_out row o) l);
+    back = stays_back;
+    on = λ row n. stays_on row (λ e. n (0, ap some (sym e)));
+    ins_once = (route_once, (left_once, ((λ (t : (y : ℕ) × IsIn y [] × (y ≡ x.right)). in_nothing t.0 [] refl t.1), tt)));
+    base_comes = part_now;
+    base_out = part_out;
+    base_back = part_back;
+    base_on = λ row p e ne. role_else row (no_coming row p (ap place_of e)) ne ∙ e;
+    bases_once = (parts_once, ((λ (t : (y : ℕ × Place) × IsIn y [] × (y.0 ≡ x.right)). in_nothing t.0 [] refl t.1), tt));
+  }
+
+  listed_now : IsInventory words' role' (divided_inventory x r.above.inventory)
+  listed_now = listed_again s.words words' role role' ins outs parts x.old.row f.inventory relists f.listed
+
   tree_now : IsTree z r.made words' (set (map upper_of s.views) id u')
   tree_now = record {
     usable = f.usable;
@@ -470,6 +533,11 @@ module _ (z : Sizes) (s : State (Unit {0}) (View TreeView)) (r : R z s) (id : �
     each_seat = all_seats (Knows z.rows r.made words' role' (set (map upper_of s.views) id u') f.history) (map upper_of s.views) id u' own_knows
         (λ j v n here. let y = of_map upper_of s.views j v here in
         subst (Knows z.rows r.made words' role' (set (map upper_of s.views) id u') f.history j) y.2 (knows_still j y.0 y.1));
+    inventory = divided_inventory x f.inventory;
+    listed = listed_now;
+    at_first = λ (e : r.made ≡ 0). let lo = u.is_pass in let hi = knows.made_before in absurd (omega arith);
+    only_one = known_by_one z.rows r.made s.words role (map upper_of s.views) f.history f.each_seat id d.upper u'
+        (divided_inventory x f.inventory) mine u.is_pass (λ few. ap (divided_inventory x) (f.only_one id d.upper mine few u.is_pass));
   }
 
   claims_in : (row : ℕ) (c : Claim) → claim_of (taken_out outs (given ins d.claims)) row ≡ some c → (0 < row) × (row ≤ z.rows)
@@ -500,7 +568,7 @@ module _ (z : Sizes) (s : State (Unit {0}) (View TreeView)) (r : R z s) (id : �
         (λ (t : (j ≡ id) × (d' ≡ y)). ⊎_elim
         (λ (w : IsNoted s.words d.upper c). inl (d, ap (get_elem? s.views) t.0 ∙ at, w))
         (λ (l : IsLinked words' c × (d.pin.pinned ≡ true)). inr (l.0, ap (λ (w : View TreeView). w.pin.pinned) (sym t.1) ∙ l.1))
-        (notes_keep id d at c (divided_notes words' d.upper c (subst (λ (w : View TreeView). IsNoted words' w.upper c) (sym t.1) n))))
+        (notes_keep id d at c (divided_notes words' x d.upper c (subst (λ (w : View TreeView). IsNoted words' w.upper c) (sym t.1) n))))
         (λ (t : (j ≢ id) × (get_elem? s.views j ≡ some y)). ⊎_elim (λ w. inl (y, t.1, w)) (λ l. inr l) (notes_keep j y t.1 c n))
         (at_set s.views id j d' y here);
     above = subst (IsTree z r.made words') (sym (map-set upper_of s.views id d')) tree_now;
@@ -517,7 +585,7 @@ module _ (z : Sizes) where
   divides slots id me x u s r _ at _ = let n : ℕ = get_or s.words x.old.place.link 0 in let d = me.0 in dite (ℕ_discrete n x.old.row)
       (λ (hit : n ≡ x.old.row). let d' : View TreeView = record d {
         claims = taken_out (x.old.row ∷ []) (given (x.route ∷ x.left ∷ x.right ∷ []) d.claims);
-        upper = divided d.upper;
+        upper = divided x d.upper;
       } in (
         d',
         keeps,
@@ -532,7 +600,7 @@ module _ (z : Sizes) where
         tt,
         subst (λ (y : ℕ). R z (stepped s x.old.place.link y id me.1 lost keeps)) (sym (ap (λ b. either b x.route n) (ne_eqb n x.old.row miss)))
             (recounted z s r x.old.place.link id d d.upper.counts (d.upper.lost + 1) at),
-        ((λ hit. absurd (miss hit)), λ _. refl),
+        ((λ hit. absurd (miss hit)), λ _. (refl, hangs_still z s r id me x.old at miss)),
       ))
 
   -- The same, where the old row, the route and the link have other names.
@@ -549,4 +617,11 @@ pub has_divided : (n link old route : ℕ) (x : Division) (m m' : MyTree) (slots
     → HasDivided (eqb n old) x m m'
 has_divided n link old route x m m' slots told = dite (ℕ_discrete n old)
     (λ hit. subst (λ (b : Bool). HasDivided b x m m') (sym (eq-eqb n old hit)) (told.0 hit))
-    (λ miss. subst (λ (b : Bool). HasDivided b x m m') (sym (ne_eqb n old miss)) (told.1 miss))
+    (λ miss. subst (λ (b : Bool). HasDivided b x m m') (sym (ne_eqb n old miss)) (told.1 miss).0)
+
+-- Where it was lost, a pass that is alone doesn't list the base.
+pub missed_division : (n link old route : ℕ) (x : Division) (m m' : MyTree) (slots : ℕ) (won : Bool) → Divides x (step slots link old route none) m n m'
+    → won ≡ eqb n old → won ≡ false → IsMissed x.old m
+missed_division n link old route x m m' slots won told is lost = dite (ℕ_discrete n old)
+    (λ hit. let y : true ≡ false = sym (eq-eqb n old hit) ∙ (sym is ∙ lost) in absurd cc)
+    (λ miss. (told.1 miss).1)

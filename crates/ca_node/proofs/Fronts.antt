@@ -71,7 +71,7 @@ tree_learning = record {
   keeps_closing = λ z made uppers words i j v w f at ne there. let u' : TreeView = learnt v w in let us : List TreeView = set uppers i u' in
       let k = relisted z.rows made words f.role uppers us f.history i v (numbered uppers i v u' at (λ _. refl)) (f.each_seat i v at) in
       let long = longer_is f.history v.seen w.seen k.seen_first (f.each_seat j w there).seen_first in
-      let g = seat_changed z made words uppers i v u' f at (λ _. refl) record {
+      let g = seat_changed z made words uppers i v u' f at (λ _. refl) (λ _. refl) record {
         made_before = k.made_before;
         alone = k.alone;
         seen_first = long.0;
@@ -83,6 +83,7 @@ tree_learning = record {
         ways = k.ways;
       } in
       seat_changed z made words us j w (blank 0) g (set_else uppers i j u' ne ∙ there) (λ lo. absurd (omega arith))
+      (λ lo. absurd (omega arith))
       (knows_nothing z.rows made words g.role (set us j (blank 0)) g.history j 0 (omega arith) (λ lo. absurd (omega arith))
       (none_made made 0 g.history g.by_passes (inl refl)));
   closing_notes = λ words v w r n. inl (learnt_notes words v w r n);
@@ -118,6 +119,13 @@ front_more z made words uppers id u f at = let next : List TreeView = uppers ++ 
       })
       (λ (t : (j ≡ length uppers) × (front_of u ≡ v)). subst (Knows z.rows made words f.role next f.history j) t.1
       (front_knows next f.history (f.each_seat id u at).seen_first (none_made made 0 f.history f.by_passes (inl refl)) j))
+      (at_place uppers (front_of u) v j here);
+  inventory = f.inventory;
+  listed = f.listed;
+  at_first = f.at_first;
+  only_one = λ j v here few lo. ⊎_elim
+      (λ (was : get_elem? uppers j ≡ some v). f.only_one j v was few lo)
+      (λ (t : (j ≡ length uppers) × (front_of u ≡ v)). let n : 0 ≡ v.number = ap (λ (x : TreeView). x.number) t.1 in absurd (omega arith))
       (at_place uppers (front_of u) v j here);
 }
   where

@@ -14,6 +14,7 @@ use Rattle.ca_rows.specs.declared.sizes.Sizes.{Sizes}
 use Rattle.ca_rows.specs.declared.view.View.{View}
 use Rattle.ca_rows.specs.Rule.{upper_of, Ruled}
 use Rattle.ca_rows.proofs.Relinking.{Stays, relinks}
+use Rattle.ca_node.specs.Inventory.{IsListed}
 use Rattle.ca_node.specs.Laws.{tree_lends, numbered, relisted, seat_changed, starts_whole}
 use Rattle.ca_node.specs.Links.{IsIn, IsUnder, IsLinked, by_route, by_base, IsLent, IsNoted, by_note, by_item, by_way, by_link, by_link_item}
 use Rattle.ca_node.specs.Place.{Span, all_keys, left_of, right_of, HasKey, part, Place}
@@ -21,9 +22,9 @@ use Rattle.ca_node.specs.Reached.{by_place, base_at, route_at, placed_linked, it
 use Rattle.ca_node.specs.Row.{row_at, IsObjectRow, IsBaseRow, IsRouteRow, items, route_key, pair}
 use Rattle.ca_node.specs.Shape.{Base, Route, place_of, LeadsTo, IsBaseAt, IsRouteAt}
 use Rattle.ca_node.specs.Stays.{word_at, row_long}
-use Rattle.ca_node.specs.Told.{MyTree, with_upper, IsBaseNote, IsRouteNote, IsKnown, IsKnownLink, IsAnyLink, IsPlaceOf, led_to_base, led_to_route, IsLedToBase, IsLedToRoute, IsLed, Leads, IsShown, IsShownRoute, IsRead, Reads, IsReadNow, entered, ReadsLast, Refuses}
+use Rattle.ca_node.specs.Told.{MyTree, with_upper, IsBaseNote, IsRouteNote, IsKnown, IsAlone, IsMissed, IsKnownLink, IsAnyLink, IsPlaceOf, led_to_base, led_to_route, IsLedToBase, IsLedToRoute, IsLed, Leads, IsShown, IsShownRoute, IsRead, Reads, IsReadNow, entered, ReadsLast, Refuses}
 use Rattle.ca_node.specs.Tree.{StartsWith, ArePast, IsLinkOfView, IsFixed, IsTrue, IsTrueWay, Knows, IsTree}
-use Rattle.ca_node.specs.TreeView.{Note, Way, TreeView}
+use Rattle.ca_node.specs.TreeView.{Note, Way, Inventory, TreeView}
 use Rattle.ca_node.proofs.Logs.{state_there, read_lawful, past_more}
 
 module _ (z : Sizes) where
@@ -301,14 +302,16 @@ module _ (z : Sizes) where
 
     -- What it has seen then is the whole history.
     known_now : (u' : TreeView) → u'.number ≡ u.number → u'.log ≡ u.log → u'.seen ≡ u.seen ++ k.seen_first.0 → IsKnown z u'
-    known_now u' same_number same_log same_seen = let few : r.made ≤ 64 = r.pins.few in let e : f.history ≡ u'.seen = whole ∙ sym same_seen in record {
-      lawful = subst (λ (log : List Entry). IsLawful u'.number u'.seen log) (sym same_log)
-          (subst (λ (h : History). IsLawful u'.number h u.log) e (subst (λ (m : ℕ). IsLawful m f.history u.log) (sym same_number) k.lawful));
-      past = subst (ArePast (length u'.seen)) (sym same_log)
-          (subst (λ (h : History). ArePast (length h) u.log) e (longer_past (length u.seen) (length f.history) u.log long k.past));
-      edits = subst (AreEdits z.keypos) e f.edits;
-      by_passes = subst (AreByPasses 64) e (fewer_passes r.made 64 f.history few f.by_passes);
-    }
+    known_now u' same_number same_log same_seen = let e : f.history ≡ u'.seen = whole ∙ sym same_seen in let low = k.made_before in
+        let within = r.within in record {
+          lawful = subst (λ (log : List Entry). IsLawful u'.number u'.seen log) (sym same_log)
+              (subst (λ (h : History). IsLawful u'.number h u.log) e (subst (λ (m : ℕ). IsLawful m f.history u.log) (sym same_number) k.lawful));
+          past = subst (ArePast (length u'.seen)) (sym same_log)
+              (subst (λ (h : History). ArePast (length h) u.log) e (longer_past (length u.seen) (length f.history) u.log long k.past));
+          edits = subst (AreEdits z.keypos) e f.edits;
+          enrolled = omega arith;
+          by_passes = subst (AreByPasses z.passes) e (fewer_passes r.made z.passes f.history r.within f.by_passes);
+        }
 
     -- The seat knows the sizes, if it has any rows.
     sized : (P : Sizes → Type 0) → P z → 0 < me.0.sizes.rows → P me.0.sizes
@@ -334,7 +337,7 @@ module _ (z : Sizes) where
           looked z s r link id me.0 with_base at (λ row m. ⊎_elim (λ o. inl o) (λ l. inr (l, is_pinned))
           (new_note s.words u k.seen_first.0 note base_linked
           (λ x i. item_linked z s.words f.role (after f.history []) f.shape (get_or s.words link 0) place is x i) row m))
-          (seat_changed z r.made s.words (map upper_of s.views) id u with_base f first (λ _. refl) record {
+          (seat_changed z r.made s.words (map upper_of s.views) id u with_base f first (λ _. refl) (λ _. refl) record {
             made_before = k'.made_before;
             alone = k'.alone;
             seen_first = subst (StartsWith f.history) whole (starts_whole f.history);
@@ -350,6 +353,15 @@ module _ (z : Sizes) where
             ways = k.ways;
           })
 
+      -- It is listed, and so it is in the list of a pass that is the only one.
+      base_listed : IsAlone z u → IsListed u.inventory note
+      base_listed alone = let one = alone.0 in let within = r.within in
+          subst (λ (i : Inventory). IsListed i note) (sym (f.only_one id u first (omega arith) alone.1)) record {
+            row = f.listed.linked (get_or s.words link 0) base_linked;
+            base = f.listed.based (get_or s.words link 0) place is;
+            only = λ row at_place key i has here. f.shape.apart row (get_or s.words link 0) at_place place key (f.listed.bases row at_place i) is has here;
+          }
+
       pub base_told : IsLedToBase link me (get_or s.words link 0) (with_upper me with_base)
       base_told = record {
         note = note;
@@ -361,6 +373,7 @@ module _ (z : Sizes) where
             (base_has z r.made s.words (map upper_of s.views) f (get_or s.words link 0) place is);
         known = sized (λ y. IsBaseNote y note × IsKnown y with_base)
             (base_is z r.made s.words (map upper_of s.views) f (get_or s.words link 0) place is, known_now with_base refl refl refl);
+        listed = sized (λ y. IsAlone y u → IsListed u.inventory note) base_listed;
       }
 
     -- or a route.
@@ -384,7 +397,7 @@ module _ (z : Sizes) where
           looked z s r link id me.0 with_route at (λ row m. ⊎_elim (λ o. inl o) (λ l. inr (l, is_pinned))
           (new_way s.words u k.seen_first.0 way route_linked
           (there z r.made s.words (map upper_of s.views) f (get_or s.words link 0) place key is).is_route row m))
-          (seat_changed z r.made s.words (map upper_of s.views) id u with_route f first (λ _. refl) record {
+          (seat_changed z r.made s.words (map upper_of s.views) id u with_route f first (λ _. refl) (λ _. refl) record {
             made_before = k'.made_before;
             alone = k'.alone;
             seen_first = subst (StartsWith f.history) whole (starts_whole f.history);
@@ -463,7 +476,7 @@ module _ (z : Sizes) where
         keeps,
         tt,
         looked z s r i id d u' at (λ row n. inl (entered_notes s.words d.upper event row n))
-            (seat_changed z r.made s.words us id d.upper u' f first (λ _. refl) record {
+            (seat_changed z r.made s.words us id d.upper u' f first (λ _. refl) (λ _. refl) record {
               made_before = k'.made_before;
               alone = k'.alone;
               seen_first = k'.seen_first;
@@ -490,7 +503,7 @@ module _ (z : Sizes) where
       let k = relisted z.rows r.made s.words f.role us (set us id u') f.history id d.upper (numbered us id d.upper u' first (λ _. refl))
       (knows_upper z s r id d at) in
       looked z s r i id d u' at (λ row n. inl (counted_notes s.words d.upper counts lost row n))
-      (seat_changed z r.made s.words us id d.upper u' f first (λ _. refl) record {
+      (seat_changed z r.made s.words us id d.upper u' f first (λ _. refl) (λ _. refl) record {
         made_before = k.made_before;
         alone = k.alone;
         seen_first = k.seen_first;
@@ -501,6 +514,16 @@ module _ (z : Sizes) where
         links = k.links;
         ways = k.ways;
       })
+
+  -- A base that a pass lists which is alone hangs under its link.
+  pub hangs_still : (s : State (Unit {0}) (View TreeView)) (r : R z s) (id : ℕ) (me : MyTree) (note : Note) → get_elem? s.views id ≡ some me.0
+      → get_or s.words note.place.link 0 ≢ note.row → IsMissed note me
+  hangs_still s r id me note at miss some_rows alone i = let f = r.above in let within = r.within in
+      let same : me.0.sizes ≡ z = ⊎_elim (λ (e : me.0.sizes.rows ≡ 0). absurd (omega arith)) (λ (e : me.0.sizes ≡ z). e) (r.seat id me.0 at).sizes_are in
+      let one : z.passes ≡ 1 = ap (λ (y : Sizes). y.passes) (sym same) ∙ alone.0 in
+      let whole = f.only_one id me.0.upper (at_map upper_of s.views id me.0 at) (omega arith) alone.1 in
+      let listed : IsIn (note.row, note.place) f.inventory.bases = subst (λ (y : Inventory). IsIn (note.row, note.place) y.bases) whole i in
+      miss (base_at z s.words f.role (after f.history []) f.shape note.row note.place (f.listed.bases note.row note.place listed)).under
 
   -- A load that ends a refused call.
   pub refuses : (slots id : ℕ) (me : MyTree) (i : ℕ) (one_more : Counts → Counts)

@@ -22,19 +22,21 @@ use Rattle.ca_rows.specs.Rule.{upper_of}
 use Rattle.ca_rows.specs.Words.{IsWide}
 use Rattle.ca_rows.proofs.Relinking.{Change, Stays, Comes, Goes, IsChange, relinks}
 use Rattle.ca_rows.proofs.Rules.{all_seats}
-use Rattle.ca_node.specs.Laws.{tree_lends, numbered, relisted, starts_whole}
+use Rattle.ca_node.specs.Inventory.{IsInventory}
+use Rattle.ca_node.specs.Laws.{tree_lends, in_nothing, numbered, relisted, starts_whole}
 use Rattle.ca_node.specs.Links.{IsIn, IsLinked, IsLent, IsNoted, by_note, by_item, by_way, by_link, by_link_item}
 use Rattle.ca_node.specs.Place.{part, Place, edit_key, has_key}
-use Rattle.ca_node.specs.Reached.{base_at, link_range, reached, placed_linked, item_linked, item_out, linked_range, nothing_lent}
+use Rattle.ca_node.specs.Reached.{same_place, base_at, link_range, reached, placed_linked, item_linked, item_out, linked_range, nothing_lent}
 use Rattle.ca_node.specs.Row.{row_at, form, IsObjectRow, IsBaseRow, items, count, level, mark, pair, objects_in}
 use Rattle.ca_node.specs.Shape.{Role, Out, Base, Route, place_of, IsBaseAt, IsShape}
 use Rattle.ca_node.specs.Stays.{map_same}
-use Rattle.ca_node.specs.Told.{MyTree, IsKnown, Update, IsUpdate, given, taken_out, updated, one_more_lost, IsUpdated, Updates, HasUpdated}
+use Rattle.ca_node.specs.Told.{MyTree, IsKnown, Update, IsUpdate, given, taken_out, updated_inventory, updated, one_more_lost, IsUpdated, IsMissed, Updates, HasUpdated}
 use Rattle.ca_node.specs.Tree.{StartsWith, IsLinkOfView, IsTrue, IsTrueWay, Knows, IsTree}
 use Rattle.ca_node.specs.TreeView.{Note, Way, TreeView}
 use Rattle.ca_node.proofs.Holding.{held_row, unclaimed_row}
+use Rattle.ca_node.proofs.Listing.{Relists, listed_again, known_by_one}
 use Rattle.ca_node.proofs.Logs.{after_more, others_lawful, own_lawful, past_more}
-use Rattle.ca_node.proofs.Looking.{R, recounted, of_map, knows_upper, in_turn, fewer_passes, further, longer_past, starts_shorter, in_more}
+use Rattle.ca_node.proofs.Looking.{R, recounted, hangs_still, of_map, knows_upper, in_turn, fewer_passes, further, longer_past, starts_shorter, in_more}
 use Rattle.ca_node.proofs.Members.{in_rest, has, given_here, given_else, taken_here, taken_else, other_has, map_is_list}
 use Rattle.ca_node.proofs.Named.{named_once}
 use Rattle.ca_node.proofs.Parts.{part_edited, part_left, answer_whole, about_edit}
@@ -471,6 +473,41 @@ module _ (z : Sizes) (s : State (Unit {0}) (View TreeView)) (r : R z s) (id : �
   control i l ne = else_word i (λ e. ⊎_elim (λ (t : x.old.place.link ≡ 130). ne (omega arith)) (λ t. let lo = t.0 in omega arith)
       (link_range z s.words role last shape x.old.place.link old_at.is_link))
 
+  -- The new base is none of the objects that come.
+  new_apart : ¬ IsIn new x.comes
+  new_apart i = let w = words_of new (u.come new i).0 in let b = u.is_base in let o : form x.its ≡ 1 = ap form (sym new_row.2 ∙ w.3) ∙ w.4.0 in omega arith
+
+  -- the base that comes
+  abbrev coming : ℕ × Place
+  coming = (new, x.old.place)
+
+  relists : Relists s.words words' r.above.role role' ins outs (coming ∷ []) x.old.row
+  relists = record {
+    comes = in_linked;
+    came_out = λ row i. let h = held_in row i in (held row h.0 h.1).3;
+    goes = out_unlinked;
+    back = stays_back;
+    on = stays_on;
+    ins_once = ((λ (t : (y : ℕ) × IsIn y x.comes × (y ≡ new)). new_apart (subst (λ c. IsIn c x.comes) t.2 t.1)), u.come_once);
+    base_comes = λ row p i. let e = one row p i in ap (λ (b : ℕ × Place). role' b.0) (sym e) ∙ (is_new ∙ ap (λ (b : ℕ × Place). Base b.1) e);
+    base_out = λ row p i. ap (λ (b : ℕ × Place). role b.0) (sym (one row p i)) ∙ new_out;
+    base_back = λ row p e. dite (ℕ_discrete row new)
+        (λ (same : row ≡ new). inl (
+          0,
+          ap some (ap (λ c. (c, x.old.place)) (sym same)
+              ∙ ap (λ q. (row, q)) (same_place place p (sym is_new ∙ (ap role' (sym same) ∙ e)))),
+        ))
+        (λ (ne : row ≢ new). inr (was_base row p e ne));
+    base_on = λ row p e ne. role_else row (λ n. (let y : Base p ≡ Out = sym e ∙ (ap role n ∙ new_out) in cc)) ne ∙ e;
+    bases_once = ((λ (t : (y : ℕ × Place) × IsIn y [] × (y.0 ≡ new)). in_nothing t.0 [] refl t.1), tt);
+  }
+    where
+      one : (row : ℕ) (p : Place) → IsIn {A = ℕ × Place} (row, p) (coming ∷ []) → coming ≡ (row, p)
+      one row p i = ⊎_elim (λ e. e) (λ j. absurd (in_nothing (row, p) [] refl j)) (in_more coming (row, p) [] i)
+
+  listed_now : IsInventory words' role' (updated_inventory new x r.above.inventory)
+  listed_now = listed_again s.words words' role role' ins outs (coming ∷ []) x.old.row f.inventory relists f.listed
+
   tree_now : IsTree z r.made words' (set (map upper_of s.views) id u')
   tree_now = record {
     usable = f.usable;
@@ -484,6 +521,11 @@ module _ (z : Sizes) (s : State (Unit {0}) (View TreeView)) (r : R z s) (id : �
     shape = shape';
     each_seat = all_seats (Knows z.rows r.made words' role' (set (map upper_of s.views) id u') (f.history ++ own ∷ []))
         (map upper_of s.views) id u' own_knows others_know;
+    inventory = updated_inventory new x f.inventory;
+    listed = listed_now;
+    at_first = λ (e : r.made ≡ 0). let lo = u.is_pass in let hi = knows.made_before in absurd (omega arith);
+    only_one = known_by_one z.rows r.made s.words role (map upper_of s.views) f.history f.each_seat id d.upper u'
+        (updated_inventory new x f.inventory) first u.is_pass (λ few. ap (updated_inventory new x) (f.only_one id d.upper first few u.is_pass));
   }
 
   claims_in : (row : ℕ) (c : Claim) → claim_of (taken_out outs (given ins d.claims)) row ≡ some c → (0 < row) × (row ≤ z.rows)
@@ -526,12 +568,14 @@ module _ (z : Sizes) (s : State (Unit {0}) (View TreeView)) (r : R z s) (id : �
   -- What the seat has seen then is the whole history.
   known_now : IsKnown z u'
   unfolding tree_now
-  known_now = let few : r.made ≤ 64 = r.pins.few in let same : f.history ++ own ∷ [] ≡ u'.seen = ap (λ (h : History). h ++ own ∷ []) whole in record {
-    lawful = subst (λ (h : History). IsLawful d.upper.number h u'.log) same own_knows.lawful;
-    past = own_knows.past;
-    edits = subst (AreEdits z.keypos) same tree_now.edits;
-    by_passes = subst (AreByPasses 64) same (fewer_passes r.made 64 (f.history ++ own ∷ []) few tree_now.by_passes);
-  }
+  known_now = let few : r.made ≤ z.passes = r.within in let mine : d.upper.number ≤ r.made = knows.made_before in
+      let same : f.history ++ own ∷ [] ≡ u'.seen = ap (λ (h : History). h ++ own ∷ []) whole in record {
+        lawful = subst (λ (h : History). IsLawful d.upper.number h u'.log) same own_knows.lawful;
+        past = own_knows.past;
+        edits = subst (AreEdits z.keypos) same tree_now.edits;
+        enrolled = omega arith;
+        by_passes = subst (AreByPasses z.passes) same (fewer_passes r.made z.passes (f.history ++ own ∷ []) few tree_now.by_passes);
+      }
 
   updated_now : IsUpdated new x me (d', me.1)
   updated_now = record {
@@ -563,7 +607,7 @@ module _ (z : Sizes) where
         tt,
         subst (λ (y : ℕ). R z (stepped s x.old.place.link y id me.1 lost keeps)) (sym (ap (λ b. either b new n) (ne_eqb n x.old.row miss)))
             (recounted z s r x.old.place.link id d d.upper.counts (d.upper.lost + 1) at),
-        ((λ hit. absurd (miss hit)), λ _. refl),
+        ((λ hit. absurd (miss hit)), λ _. (refl, hangs_still z s r id me x.old at miss)),
       ))
 
   -- The same, where the old row and the link have other names.
@@ -578,4 +622,11 @@ pub has_updated : (n link old new : ℕ) (x : Update) (m m' : MyTree) (slots : �
     → HasUpdated (eqb n old) new x m m'
 has_updated n link old new x m m' slots told = dite (ℕ_discrete n old)
     (λ hit. subst (λ (b : Bool). HasUpdated b new x m m') (sym (eq-eqb n old hit)) (told.0 hit))
-    (λ miss. subst (λ (b : Bool). HasUpdated b new x m m') (sym (ne_eqb n old miss)) (told.1 miss))
+    (λ miss. subst (λ (b : Bool). HasUpdated b new x m m') (sym (ne_eqb n old miss)) (told.1 miss).0)
+
+-- Where it was lost, a pass that is alone doesn't list the base.
+pub missed_update : (n link old new : ℕ) (x : Update) (m m' : MyTree) (slots : ℕ) (won : Bool) → Updates x (step slots link old new none) m n m'
+    → won ≡ eqb n old → won ≡ false → IsMissed x.old m
+missed_update n link old new x m m' slots won told is lost = dite (ℕ_discrete n old)
+    (λ hit. let y : true ≡ false = sym (eq-eqb n old hit) ∙ (sym is ∙ lost) in absurd cc)
+    (λ miss. (told.1 miss).1)

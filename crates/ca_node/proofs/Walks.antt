@@ -15,10 +15,11 @@ use Rattle.ca_node.specs.declared.cursor.Spot.{Spot}
 use Rattle.ca_node.specs.declared.cursor.Spot.TheVariants as spot
 use Rattle.ca_node.specs.declared.link.Link.{Link}
 use Rattle.ca_node.specs.declared.link.Link.TheVariants as link
+use Rattle.ca_node.specs.Inventory.{IsListed}
 use Rattle.ca_node.specs.Links.{IsIn}
 use Rattle.ca_node.specs.Place.{Span, all_keys, left_of, right_of, HasKey, part, Place}
 use Rattle.ca_node.specs.Row.{level, route_key, pair}
-use Rattle.ca_node.specs.Told.{MyTree, with_upper, IsBaseNote, IsRouteNote, IsKnown, IsKnownLink, IsAnyLink, IsLed, IsLedToBase, IsLedToRoute, IsShownWord, led_to_base, led_to_route}
+use Rattle.ca_node.specs.Told.{MyTree, with_upper, IsBaseNote, IsRouteNote, IsKnown, IsAlone, IsKnownLink, IsAnyLink, IsLed, IsLedToBase, IsLedToRoute, IsShownWord, led_to_base, led_to_route}
 use Rattle.ca_node.specs.TreeView.{Note, Way, TreeView}
 use Rattle.ca_node.specs.Walking.{IsSought, IsSide, IsAbove, IsLowRoute, IsHighRoute, IsPlaced, IsRouteShown, IsAtRoute, IsAtBase, IsWalking, IsWalked, walked, passed}
 use Rattle.ca_node.proofs.Parts.{goes_left, goes_right, of_all}
@@ -178,6 +179,8 @@ module _ (z : Sizes) (s : Spot) (m m' m'' : MyTree) (some_rows : 0 < z.rows) (si
     has = subst (λ (x : MyTree). map pair led.note.objects ≡ part led.note.place.span (after x.0.upper.seen [])) (sym led.now) led.has;
     known = subst (λ (x : MyTree). IsKnown z x.0.upper) (sym led.now)
         (subst (λ (y : Sizes). IsKnown y (led_to_base m'.0.upper led.more led.note)) sizes told.1);
+    listed = λ alone. subst (λ (x : MyTree). IsListed x.0.upper.inventory led.note) now (led.listed rows_too
+        (subst (λ (y : Sizes). IsAlone y m'.0.upper) (sym sizes) (subst (λ (x : MyTree). IsAlone z x.0.upper) (sym now) alone)));
   }
 
   -- The walk came to a route.
@@ -343,6 +346,7 @@ module _ (z : Sizes) (s : Spot) (m : MyTree) (cursor : Cursor) (m' : MyTree) whe
     is_base = at.is_base;
     has = at.has;
     known = at.known;
+    listed = at.listed;
   }
 
 -- The first word of the base that a walk came to was shown.

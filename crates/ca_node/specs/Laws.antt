@@ -13,19 +13,28 @@ use Rattle.ca_rows.specs.Opening.{AreInBounds, AreUsable}
 use Rattle.ca_rows.specs.Words.{IsWide}
 use Rattle.ca_rows.proofs.Making.{at_place}
 use Rattle.ca_rows.proofs.Rules.{all_seats}
+use Rattle.ca_node.specs.Inventory.{IsInventory}
 use Rattle.ca_node.specs.Links.{root, IsIn, IsUnder, IsActive, IsLinked, by_root, by_range, IsLent, IsNoted, by_note, by_item, by_way, by_link, by_link_item}
 use Rattle.ca_node.specs.Opened.{opens_at}
 use Rattle.ca_node.specs.Place.{Place, root_place}
-use Rattle.ca_node.specs.Reached.{reached, linked_range, nothing_lent}
+use Rattle.ca_node.specs.Reached.{same_place, reached, linked_range, nothing_lent}
 use Rattle.ca_node.specs.Row.{row_at, IsObjectRow, IsBaseRow, items, route_key, pair}
 use Rattle.ca_node.specs.Shape.{Role, Out, Base, Route, place_of, IsBaseAt, IsSo, IsShape}
 use Rattle.ca_node.specs.Standing.{shape_stands}
 use Rattle.ca_node.specs.Stays.{IsSameRow, word_at, row_same, map_same, linked_on, linked_back, lent_on, lent_back}
 use Rattle.ca_node.specs.Tree.{StartsWith, IsTrue, IsTrueWay, Knows, IsTree}
-use Rattle.ca_node.specs.TreeView.{Note, Way, TreeView, blank, pinned, unpinned}
+use Rattle.ca_node.specs.TreeView.{Note, Way, TreeView, first_inventory, blank, pinned, unpinned}
 
 pub in_nothing : {A : Type 0} (x : A) (xs : List A) → xs ≡ [] → IsIn x xs → ⊥
 in_nothing x xs e i = some-ne-none x (sym (ap (λ ys. get_elem? ys i.0) (sym e) ∙ i.1))
+
+-- A list of one has no other member.
+pub in_one : {A : Type 0} (x y : A) → IsIn y (x ∷ []) → x ≡ y
+in_one x y i = by i.0 i.1
+  where
+    by : (k : ℕ) → get_elem? (x ∷ []) k ≡ some y → x ≡ y
+    by zero e = some-injective x y e
+    by (suc k) e = absurd (some-ne-none y (sym e))
 
 -- What has a place in the tree is in range.
 pub placed_range : (z : Sizes) (words : List ℕ) (role : ℕ → Role) (map : StoreMap) → IsShape z words role map → (row : ℕ) (place : Place)
@@ -121,6 +130,22 @@ module _ (z : Sizes) (made : ℕ) (uppers : List TreeView) (words others : List 
         let e = noted_its base lo.0 lo.1 (by_link way base i was) in
         by_link_item way base row i was (subst IsBaseRow e b) (subst (λ its. IsIn row (items its)) e k)
 
+  linked_then : (row : ℕ) → IsLinked others row → IsLinked words row
+  linked_then row = linked_back z.rows words others f.shape.wide wide' same_root active in_range same row
+
+  linked_now : (row : ℕ) → IsLinked words row → IsLinked others row
+  linked_now row = linked_on z.rows words others f.shape.wide wide' same_root active in_range same row
+
+  listed_now : IsInventory others f.role f.inventory
+  listed_now = record {
+    linked = λ row l. f.listed.linked row (linked_then row l);
+    rows = λ row i. linked_now row (f.listed.rows row i);
+    rows_once = f.listed.rows_once;
+    based = f.listed.based;
+    bases = f.listed.bases;
+    bases_once = f.listed.bases_once;
+  }
+
   tree_now : IsTree z made others uppers
   tree_now = record {
     usable = f.usable;
@@ -143,15 +168,16 @@ module _ (z : Sizes) (made : ℕ) (uppers : List TreeView) (words others : List 
       links = k.links;
       ways = way_now j u at;
     };
+    inventory = f.inventory;
+    listed = listed_now;
+    at_first = f.at_first;
+    only_one = f.only_one;
   }
 
   framed : Framed IsLinked IsLent IsNoted IsTree z made uppers words others
   framed = record {
     stays = tree_now;
-    links = λ r. (
-      linked_back z.rows words others f.shape.wide wide' same_root active in_range same r,
-      linked_on z.rows words others f.shape.wide wide' same_root active in_range same r,
-    );
+    links = λ r. (linked_then r, linked_now r);
     lents = λ r. (
       lent_back z.rows words others f.shape.wide wide' same_root active in_range same r,
       lent_on z.rows words others f.shape.wide wide' same_root active in_range same r,
@@ -192,9 +218,9 @@ relisted rows made words role uppers uppers' history j u n k = record {
 
 -- One seat's view is another.
 pub seat_changed : (z : Sizes) (made : ℕ) (words : List ℕ) (uppers : List TreeView) (id : ℕ) (u u' : TreeView) (f : IsTree z made words uppers)
-    → get_elem? uppers id ≡ some u → (0 < u'.number → u'.number ≡ u.number)
+    → get_elem? uppers id ≡ some u → (0 < u'.number → u'.number ≡ u.number) → (0 < u'.number → u'.inventory ≡ u.inventory)
     → Knows z.rows made words f.role (set uppers id u') f.history id u' → IsTree z made words (set uppers id u')
-seat_changed z made words uppers id u u' f at same k = record {
+seat_changed z made words uppers id u u' f at same has k = record {
   usable = f.usable;
   history = f.history;
   edits = f.edits;
@@ -206,6 +232,11 @@ seat_changed z made words uppers id u u' f at same k = record {
   shape = f.shape;
   each_seat = all_seats (Knows z.rows made words f.role (set uppers id u') f.history) uppers id u' k
       (λ j v n here. relisted z.rows made words f.role uppers (set uppers id u') f.history j v (numbered uppers id u u' at same) (f.each_seat j v here));
+  inventory = f.inventory;
+  listed = f.listed;
+  at_first = f.at_first;
+  only_one = all_seats (λ j v. made ≤ 1 → 0 < v.number → v.inventory ≡ f.inventory) uppers id u'
+      (λ few lo. let n = same lo in has lo ∙ f.only_one id u at few (omega arith)) (λ j v n here. f.only_one j v here);
 }
 
 pub starts_whole : (h : History) → StartsWith h h
@@ -229,7 +260,7 @@ pub tree_pinning : Pinning IsLinked IsLent IsNoted IsTree pinned unpinned
 tree_pinning = record {
   keeps_entering = λ z made uppers words i u f at. let k = relisted z.rows made words f.role uppers (set uppers i (pinned u)) f.history i u
       (numbered uppers i u (pinned u) at (λ _. refl)) (f.each_seat i u at) in
-      seat_changed z made words uppers i u (pinned u) f at (λ _. refl)
+      seat_changed z made words uppers i u (pinned u) f at (λ _. refl) (λ _. refl)
       record {
         made_before = k.made_before;
         alone = k.alone;
@@ -244,7 +275,7 @@ tree_pinning = record {
   entering_notes = same_notes;
   keeps_leaving = λ z made uppers words i u f at. let k = relisted z.rows made words f.role uppers (set uppers i (unpinned u)) f.history i u
       (numbered uppers i u (unpinned u) at (λ _. refl)) (f.each_seat i u at) in
-      seat_changed z made words uppers i u (unpinned u) f at (λ _. refl)
+      seat_changed z made words uppers i u (unpinned u) f at (λ _. refl) (λ _. refl)
       record {
         made_before = k.made_before;
         alone = k.alone;
@@ -318,6 +349,13 @@ tree_making = record {
         (λ (y : (i ≡ length uppers) × (blank (made + 1) ≡ v)). y.0 ∙ sym t.0) (at_place uppers (blank (made + 1)) v i at))
         (none_made made (made + 1) f.history f.by_passes (inr (omega arith)))))
         (at_place uppers (blank (made + 1)) u j here);
+    inventory = f.inventory;
+    listed = f.listed;
+    at_first = λ none_yet. absurd (omega arith);
+    only_one = λ j u here few lo. let first : made ≡ 0 = omega arith in ⊎_elim
+        (λ (was : get_elem? uppers j ≡ some u). let low = (f.each_seat j u was).made_before in absurd (omega arith))
+        (λ (t : (j ≡ length uppers) × (blank (made + 1) ≡ u)). ap (λ (y : TreeView). y.inventory) (sym t.1) ∙ sym (f.at_first first))
+        (at_place uppers (blank (made + 1)) u j here);
   };
   making_notes = λ words pass r. no_notes words (blank pass) r refl refl;
 }
@@ -325,7 +363,7 @@ tree_making = record {
 pub tree_closing : Closing IsLinked IsLent IsNoted IsTree (λ v w. v) (blank 0)
 tree_closing = record {
   keeps_closing = λ z made uppers words i j v w f at ne there. subst (λ us. IsTree z made words (set us j (blank 0))) (sym (set_again uppers i v at))
-      (seat_changed z made words uppers j w (blank 0) f there (λ lo. absurd (omega arith))
+      (seat_changed z made words uppers j w (blank 0) f there (λ lo. absurd (omega arith)) (λ lo. absurd (omega arith))
       (knows_nothing z.rows made words f.role (set uppers j (blank 0)) f.history j 0 (omega arith) (λ lo. absurd (omega arith))
       (none_made made 0 f.history f.by_passes (inl refl))));
   closing_notes = λ words v w r n. inl n;
@@ -371,6 +409,9 @@ module _ (z : Sizes) (words : List ℕ) (bounds : AreInBounds z) (usable : AreUs
     has = ap (map (λ row. pair (row_at words row))) no_items;
   }
 
+  base_one : (row : ℕ) (p : Place) → role_of row ≡ Base p → row ≡ 1
+  base_one row p e = dite (ℕ_discrete row 1) (λ same. same) (λ n. let x : Base p ≡ Out = sym e ∙ role_other row n in absurd cc)
+
   shape_there : IsShape z words role_of []
   shape_there = record {
     wide = wide;
@@ -378,11 +419,8 @@ module _ (z : Sizes) (words : List ℕ) (bounds : AreInBounds z) (usable : AreUs
     each_row = λ row. dite (ℕ_discrete row 1)
         (λ (e : row ≡ 1). subst (λ r. IsSo z words role_of [] r (role_of r)) (sym e) (subst (IsSo z words role_of [] 1) (sym role_one) first_base))
         (λ n. subst (IsSo z words role_of [] row) (sym (role_other row n)) tt);
-    apart = λ a b p q key is is' _ _. one a p is ∙ sym (one b q is');
+    apart = λ a b p q key is is' _ _. base_one a p is ∙ sym (base_one b q is');
   }
-    where
-      one : (row : ℕ) (p : Place) → role_of row ≡ Base p → row ≡ 1
-      one row p e = dite (ℕ_discrete row 1) (λ same. same) (λ n. let x : Base p ≡ Out = sym e ∙ role_other row n in absurd cc)
 
   only : (j : ℕ) (u : TreeView) → get_elem? (blank 0 ∷ []) j ≡ some u → Knows z.rows 0 words role_of (blank 0 ∷ []) [] j u
   only zero u e = subst (Knows z.rows 0 words role_of (blank 0 ∷ []) [] 0) (some-injective (blank 0) u e)
@@ -399,6 +437,24 @@ module _ (z : Sizes) (words : List ℕ) (bounds : AreInBounds z) (usable : AreUs
       (λ n. let y : Base x.1 ≡ Out = sym x.2 ∙ role_other x.0 n in absurd cc))
       (reached z words role_of [] shape_there row l)
 
+  one_linked : (row : ℕ) → row ≡ 1 → IsLinked words row
+  one_linked row e = by_root row (root_is ∙ sym e)
+
+  -- It is all that the tree has.
+  listed_first : IsInventory words role_of first_inventory
+  listed_first = record {
+    linked = λ row l. subst (λ (r : ℕ). IsIn r (1 ∷ [])) (sym (only_first row l)) (0, refl);
+    rows = λ row i. one_linked row (sym (in_one 1 row i));
+    rows_once = ((λ t. in_nothing t.0 [] refl t.1), tt);
+    based = λ row place is. let one = base_one row place is in
+        let same : root_place ≡ place = same_place root_place place (sym role_one ∙ (ap role_of (sym one) ∙ is)) in
+        subst (λ (p : Place). IsIn {A = ℕ × Place} (row, p) first_inventory.bases) same
+        (subst (λ (r : ℕ). IsIn {A = ℕ × Place} (r, root_place) first_inventory.bases) (sym one) (0, refl));
+    bases = λ row place i. let first : ℕ × Place = (1, root_place) in let here : ℕ × Place = (row, place) in let e : first ≡ here = in_one first here i in
+        ap (λ (x : ℕ × Place). role_of x.0) (sym e) ∙ (role_one ∙ ap (λ (x : ℕ × Place). Base x.1) e);
+    bases_once = ((λ t. in_nothing t.0 [] refl t.1), tt);
+  }
+
   opened : Opened IsLinked IsLent IsNoted IsTree z (blank 0) words
   opened = record {
     stands = record {
@@ -412,8 +468,12 @@ module _ (z : Sizes) (words : List ℕ) (bounds : AreInBounds z) (usable : AreUs
       role = role_of;
       shape = shape_there;
       each_seat = only;
+      inventory = first_inventory;
+      listed = listed_first;
+      at_first = λ _. refl;
+      only_one = λ j u here few lo. let low = (only j u here).made_before in absurd (omega arith);
     };
-    links = λ r. (only_first r, (λ e. by_root r (root_is ∙ sym e)));
+    links = λ r. (only_first r, one_linked r);
     lents = nothing_lent z words role_of [] shape_there;
     notes = λ r. no_notes words (blank 0) r refl refl;
   }

@@ -1,3 +1,4 @@
+pub mod Inventory
 pub mod Laws
 pub mod Links
 pub mod Opened

@@ -40,6 +40,13 @@ pub record Place : Type 0 where
 abbrev pub root_place : Place
 root_place = record { link = 130; level = 0; span = all_keys }
 
+-- the place on the left of a route that stands here, and that on its right
+abbrev pub left_place : Place → List ℕ → ℕ → Place
+left_place place key route = record { link = 136 * route + 1; level = place.level + 1; span = left_of key place.span }
+
+abbrev pub right_place : Place → List ℕ → ℕ → Place
+right_place place key route = record { link = 136 * route + 2; level = place.level + 1; span = right_of key place.span }
+
 -- The word is one of the two links of this route.
 abbrev pub IsLinkOf : ℕ → ℕ → Type 0
 IsLinkOf route link = (link ≡ 136 * route + 1) ⊎ (link ≡ 136 * route + 2)

@@ -1,5 +1,5 @@
 -- What each step of the tree tells.
-use Rattle.std.specs.Prelude.{◌≡◌, ◌≢◌, ◌⊎◌, None, Bool, true, false, ℕ, ◌+◌, ◌*◌, ◌%◌, ◌<◌, ◌≤◌, List, [], ◌∷◌, ◌++◌, length, map, take, drop, nat_lt, cond, slice_index, slice_index_or}
+use Rattle.std.specs.Prelude.{◌≡◌, ◌≢◌, ◌⊎◌, None, Bool, true, false, ℕ, ◌+◌, ◌*◌, ◌%◌, ◌<◌, ◌≤◌, max, List, [], ◌∷◌, ◌++◌, length, map, take, drop, nat_lt, cond, slice_index, slice_index_or}
 use mathlib.Core.Option.{some, none}
 use lib.ListN.{get_elem?}
 use Rattle.atomic_table.specs.Table.{Step}
@@ -13,13 +13,14 @@ use Rattle.ca_rows.specs.declared.view.Claimed.{Claimed}
 use Rattle.ca_rows.specs.Claims.{claim_of, claimed, dropped}
 use Rattle.ca_rows.specs.Rule.{fresh, no_sizes}
 use Rattle.ca_rows.specs.Told.{Mine}
+use Rattle.ca_node.specs.Inventory.{AreOnce, but, but_all, row_itself, row_of_base, IsListed}
 use Rattle.ca_node.specs.Links.{IsIn}
 use Rattle.ca_node.specs.declared.link.Link.{Link}
 use Rattle.ca_node.specs.declared.link.Link.TheVariants as link
-use Rattle.ca_node.specs.Place.{Span, all_keys, left_of, right_of, HasKey, part, Place, edit_key}
+use Rattle.ca_node.specs.Place.{Span, all_keys, left_of, right_of, HasKey, part, Place, left_place, right_place, edit_key}
 use Rattle.ca_node.specs.Row.{IsObjectRow, IsBaseRow, IsRouteRow, count, level, items, mark, key, route_key, pair}
 use Rattle.ca_node.specs.Tree.{ArePast, IsFixed}
-use Rattle.ca_node.specs.TreeView.{Note, Way, Renewal, TreeView, blank, no_note}
+use Rattle.ca_node.specs.TreeView.{Note, Way, Renewal, Inventory, TreeView, blank, no_note}
 
 abbrev pub MyTree : Type 0
 MyTree = Mine TreeView
@@ -59,7 +60,13 @@ pub record IsKnown (z : Sizes) (u : TreeView) : Type 0 where
   pub lawful : IsLawful u.number u.seen u.log
   pub past : ArePast (length u.seen) u.log
   pub edits : AreEdits z.keypos u.seen
-  pub by_passes : AreByPasses 64 u.seen
+  -- The pass is one of those that the space is for, and so are all that edited.
+  pub enrolled : u.number ≤ z.passes
+  pub by_passes : AreByPasses z.passes u.seen
+
+-- The seat is that of a pass, and the space is for one pass alone.
+abbrev pub IsAlone : Sizes → TreeView → Type 0
+IsAlone z u = (z.passes ≡ 1) × (0 < u.number)
 
 -- The seat knows of the link which keys are led there, and from which level on rows hang there: it is the root link, or one of a route that it
 -- was shown.
@@ -99,6 +106,7 @@ pub record IsLedToBase (link : ℕ) (m : MyTree) (n : ℕ) (m' : MyTree) : Type 
   pub place : IsPlaceOf m.0.upper link note.place
   pub has : map pair note.objects ≡ part note.place.span (after (m.0.upper.seen ++ more) [])
   pub known : 0 < m.0.sizes.rows → IsBaseNote m.0.sizes note × IsKnown m.0.sizes (led_to_base m.0.upper more note)
+  pub listed : 0 < m.0.sizes.rows → IsAlone m.0.sizes m.0.upper → IsListed m.0.upper.inventory note
 
 -- The link was loaded: it names this route.
 pub record IsLedToRoute (link : ℕ) (m : MyTree) (n : ℕ) (m' : MyTree) : Type 0 where
@@ -196,6 +204,7 @@ pub record IsUpdate (z : Sizes) (m : MyTree) (new : ℕ) (x : Update) : Type 0 w
   pub as_many : length x.objects ≡ length (items x.its)
   pub are_objects : (k row : ℕ) (its : List ℕ) → get_elem? (items x.its) k ≡ some row → get_elem? x.objects k ≡ some its → IsObjectOf m x row its
   pub come : (row : ℕ) → IsIn row x.comes → IsIn row (items x.its) × ((its : List ℕ) × (claim_of m.0.claims row ≡ some (Holds its)))
+  pub come_once : AreOnce row_itself x.comes
   -- What goes stood in one place of the old base, and no item of the new one is from there.
   pub go : (row : ℕ) → IsIn row x.goes → (i : ℕ) × (get_elem? (items x.old.its) i ≡ some row) × IsNotFrom x i row
   pub stay : (row : ℕ) → IsIn row (items x.old.its) → IsIn row (items x.its) ⊎ IsIn row x.goes
@@ -221,6 +230,14 @@ renewed_by u new x = record {
   splits = u.splits;
 }
 
+-- what the tree has after the update
+abbrev pub updated_inventory : ℕ → Update → Inventory → Inventory
+updated_inventory new x i = record {
+  rows = new ∷ x.comes ++ but_all row_itself (x.old.row ∷ x.goes) i.rows;
+  bases = (new, x.old.place) ∷ but row_of_base x.old.row i.bases;
+  most = max i.most (length (new ∷ x.comes ++ but_all row_itself (x.old.row ∷ x.goes) i.rows));
+}
+
 -- what a seat knows after it carried out the update: its edit is the last one of the history
 abbrev pub updated : TreeView → History → ℕ → Update → TreeView
 updated u more new x = record u {
@@ -229,6 +246,7 @@ updated u more new x = record u {
   notes = new_base new x ∷ u.notes;
   last = new_base new x;
   renewal = renewed_by u new x;
+  inventory = updated_inventory new x u.inventory;
 }
 
 -- The update is carried out: the rows that came are linked, and those that went, which nobody claimed until then, are unlinked by the seat;
@@ -245,9 +263,14 @@ pub record IsUpdated (new : ℕ) (x : Update) (m m' : MyTree) : Type 0 where
 abbrev pub one_more_lost : TreeView → TreeView
 one_more_lost u = record u { lost = u.lost + 1 }
 
+-- A base that the seat lists can't be missed by a pass that is alone: no other one takes its place.
+abbrev pub IsMissed : Note → MyTree → Type 0
+IsMissed note m = 0 < m.0.sizes.rows → IsAlone m.0.sizes m.0.upper → ¬ IsIn (note.row, note.place) m.0.upper.inventory.bases
+
 -- The link was exchanged, and the update is carried out; or the exchange was lost, which is counted, and nothing else changed.
 abbrev pub Updates : Update → Step (Unit {0}) → MyTree → ℕ → MyTree → Type 0
-Updates x st m n m' = (n ≡ st.first → IsUpdated st.second x m m') × (n ≢ st.first → m' ≡ with_upper m (one_more_lost m.0.upper))
+Updates x st m n m' = (n ≡ st.first → IsUpdated st.second x m m')
+    × (n ≢ st.first → (m' ≡ with_upper m (one_more_lost m.0.upper)) × IsMissed x.old m)
 
 -- What the exchange of the link came to: the update is carried out, or one exchange more was lost.
 abbrev pub HasUpdated : Bool → ℕ → Update → MyTree → MyTree → Type 0
@@ -280,6 +303,7 @@ pub record IsHalf (z : Sizes) (level_above : ℕ) (these : List ℕ) (its : List
 -- the route and the halves.
 pub record IsDivision (z : Sizes) (m : MyTree) (x : Division) : Type 0 where
   pub is_pinned : m.0.pin.pinned ≡ true
+  pub is_pass : 0 < m.0.upper.number
   pub shown : (rest : List Note) × (m.0.upper.notes ≡ x.old ∷ rest)
   pub old_base : IsBaseRow x.old.its
   pub above : x.old.place.level < z.levels
@@ -299,18 +323,27 @@ pub record IsDivision (z : Sizes) (m : MyTree) (x : Division) : Type 0 where
   pub is_left : IsHalf z x.old.place.level (take x.middle (items x.old.its)) x.left_its
   pub is_right : IsHalf z x.old.place.level (drop x.middle (items x.old.its)) x.right_its
 
--- what a seat knows after it carried out a split
-abbrev pub divided : TreeView → TreeView
-divided u = record u { splits = u.splits + 1 }
+-- what the tree has after the split
+abbrev pub divided_inventory : Division → Inventory → Inventory
+divided_inventory x i = record {
+  rows = x.route ∷ x.left ∷ x.right ∷ but row_itself x.old.row i.rows;
+  bases = (x.left, left_place x.old.place (route_key x.route_its) x.route) ∷ (x.right, right_place x.old.place (route_key x.route_its) x.route)
+      ∷ but row_of_base x.old.row i.bases;
+  most = max i.most (length (x.route ∷ x.left ∷ x.right ∷ but row_itself x.old.row i.rows));
+}
+
+-- what a seat knows after it carried out the split
+abbrev pub divided : Division → TreeView → TreeView
+divided x u = record u { splits = u.splits + 1; inventory = divided_inventory x u.inventory; cuts = x.old ∷ u.cuts }
 
 -- The split is carried out: the route and its bases are linked, and the old base, which nobody claimed until then, is unlinked by the seat.
 pub record IsDivided (x : Division) (m m' : MyTree) : Type 0 where
-  pub now : m' ≡ (record m.0 { claims = taken_out (x.old.row ∷ []) (given (x.route ∷ x.left ∷ x.right ∷ []) m.0.claims); upper = divided m.0.upper }, m.1)
+  pub now : m' ≡ (record m.0 { claims = taken_out (x.old.row ∷ []) (given (x.route ∷ x.left ∷ x.right ∷ []) m.0.claims); upper = divided x m.0.upper }, m.1)
   pub unclaimed : claim_of m.0.claims x.old.row ≡ none
 
 -- The link was exchanged, and the split is carried out; or the exchange was lost, which is counted, and nothing else changed.
 abbrev pub Divides : Division → Step (Unit {0}) → MyTree → ℕ → MyTree → Type 0
-Divides x st m n m' = (n ≡ st.first → IsDivided x m m') × (n ≢ st.first → m' ≡ with_upper m (one_more_lost m.0.upper))
+Divides x st m n m' = (n ≡ st.first → IsDivided x m m') × (n ≢ st.first → (m' ≡ with_upper m (one_more_lost m.0.upper)) × IsMissed x.old m)
 
 -- What the exchange of the link came to: the split is carried out, or one exchange more was lost.
 abbrev pub HasDivided : Bool → Division → MyTree → MyTree → Type 0

@@ -7,11 +7,12 @@ use Rattle.ca_model.specs.History.{History, after, AreEdits, AreByPasses}
 use Rattle.ca_model.specs.Lawful.{IsLawful}
 use Rattle.ca_rows.specs.declared.sizes.Sizes.{Sizes}
 use Rattle.ca_rows.specs.Opening.{AreUsable}
+use Rattle.ca_node.specs.Inventory.{IsInventory}
 use Rattle.ca_node.specs.Links.{IsIn}
 use Rattle.ca_node.specs.Place.{IsLinkOf}
 use Rattle.ca_node.specs.Row.{row_at, IsObjectRow, IsBaseRow, items, route_key}
 use Rattle.ca_node.specs.Shape.{Role, Out, Base, Route, IsShape}
-use Rattle.ca_node.specs.TreeView.{Note, Way, TreeView}
+use Rattle.ca_node.specs.TreeView.{Note, Way, Inventory, TreeView, first_inventory}
 
 abbrev pub StartsWith : History → History → Type 0
 StartsWith history seen = (rest : History) × (history ≡ seen ++ rest)
@@ -68,3 +69,8 @@ pub record IsTree (z : Sizes) (made : ℕ) (words : List ℕ) (uppers : List Tre
   pub role : ℕ → Role
   pub shape : IsShape z words role (after history [])
   pub each_seat : (j : ℕ) (u : TreeView) → get_elem? uppers j ≡ some u → Knows z.rows made words role uppers history j u
+  -- What the tree has is listed. Until a pass was made that is what it has at first, and a pass that is the only one knows the list.
+  pub inventory : Inventory
+  pub listed : IsInventory words role inventory
+  pub at_first : made ≡ 0 → inventory ≡ first_inventory
+  pub only_one : (j : ℕ) (u : TreeView) → get_elem? uppers j ≡ some u → made ≤ 1 → 0 < u.number → u.inventory ≡ inventory

@@ -1,5 +1,5 @@
 -- What a seat knows of the tree. It is data of proofs alone: lists, since a function is no value.
-use Rattle.std.specs.Prelude.{ℕ, List, []}
+use Rattle.std.specs.Prelude.{ℕ, List, [], ◌∷◌}
 use Rattle.ca_model.specs.Event.{Entry}
 use Rattle.ca_model.specs.History.{History}
 use Rattle.ca_model.specs.Known.{Counts}
@@ -29,6 +29,12 @@ pub record Renewal : Type 0 where
   pub lost : ℕ
   pub splits : ℕ
 
+-- What a tree has: the rows that are linked, and the bases among them with their places, each once; and the most rows that were linked at once.
+pub record Inventory : Type 0 where
+  pub rows : List ℕ
+  pub bases : List (ℕ × Place)
+  pub most : ℕ
+
 pub record TreeView : Type 0 where
   -- the number of its pass; 0 of a seat that is no pass's
   pub number : ℕ
@@ -50,6 +56,10 @@ pub record TreeView : Type 0 where
   -- the base that it was shown last, whether it is pinned or not, and its last update
   pub last : Note
   pub renewal : Renewal
+  -- what the tree has, as far as the seat's own steps go: the whole of it, where its pass is the only one
+  pub inventory : Inventory
+  -- the bases that it split, the last one first
+  pub cuts : List Note
 
 abbrev pub no_note : Note
 no_note = record { row = 0; its = []; objects = []; place = root_place }
@@ -59,6 +69,10 @@ no_renewal = record { count = 0; key = []; old = no_note; new = no_note; lost = 
 
 abbrev pub no_refusals : Counts
 no_refusals = record { busy = 0; full = 0; deep = 0; worn = 0 }
+
+-- what the tree has at first: row 1, a base
+abbrev pub first_inventory : Inventory
+first_inventory = record { rows = 1 ∷ []; bases = (1, root_place) ∷ []; most = 1 }
 
 -- what a seat with this number knows at first
 abbrev pub blank : ℕ → TreeView
@@ -76,6 +90,8 @@ blank number = record {
   lost = 0;
   last = no_note;
   renewal = no_renewal;
+  inventory = first_inventory;
+  cuts = [];
 }
 
 -- It is pinned, or not any more.

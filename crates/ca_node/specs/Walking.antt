@@ -11,10 +11,11 @@ use Rattle.ca_node.specs.declared.cursor.Spot.{Spot}
 use Rattle.ca_node.specs.declared.cursor.Spot.TheVariants as spot
 use Rattle.ca_node.specs.declared.link.Link.{Link}
 use Rattle.ca_node.specs.declared.link.Link.TheVariants as link
+use Rattle.ca_node.specs.Inventory.{IsListed}
 use Rattle.ca_node.specs.Links.{IsIn}
 use Rattle.ca_node.specs.Place.{Span, HasKey, part, Place}
 use Rattle.ca_node.specs.Row.{count, route_key, pair}
-use Rattle.ca_node.specs.Told.{MyTree, with_upper, IsBaseNote, IsRouteNote, IsKnown, IsShownRoute, link_word}
+use Rattle.ca_node.specs.Told.{MyTree, with_upper, IsBaseNote, IsRouteNote, IsKnown, IsAlone, IsShownRoute, link_word}
 use Rattle.ca_node.specs.TreeView.{Note, Way, TreeView}
 
 -- A lower bound lets keys in that are less than this one.
@@ -118,6 +119,7 @@ pub record IsAtBase (z : Sizes) (spot : Spot) (m : MyTree) (cursor : Cursor) (m'
   pub is_base : IsBaseNote z note
   pub has : map pair note.objects ≡ part note.place.span (after m'.0.upper.seen [])
   pub known : IsKnown z m'.0.upper
+  pub listed : IsAlone z m.0.upper → IsListed m.0.upper.inventory note
 
 -- The walk came to a base or to a route.
 abbrev pub IsWalking : Sizes → Spot → MyTree → Cursor → MyTree → Type 0
@@ -138,3 +140,4 @@ pub record IsWalked (z : Sizes) (spot : Spot) (m : MyTree) (cursor : Cursor) (m'
   pub is_base : IsBaseNote z note
   pub has : map pair note.objects ≡ part note.place.span (after m'.0.upper.seen [])
   pub known : IsKnown z m'.0.upper
+  pub listed : IsAlone z m.0.upper → IsListed m.0.upper.inventory note

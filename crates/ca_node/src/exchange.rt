@@ -1,7 +1,7 @@
 //! Exchanges of a base: updates and splits.
-ghost use Rattle.std.specs.Prelude.{◌≡◌, ◌+◌, ◌*◌, ◌<◌};
+ghost use Rattle.std.specs.Prelude.{◌≡◌, ◌+◌, ◌*◌, ◌<◌, false};
 ghost use Rattle.ca_node.specs.Tallied.{HasTallied};
-ghost use Rattle.ca_node.specs.Told.{IsUpdate, HasUpdated, IsDivision, HasDivided, link_word};
+ghost use Rattle.ca_node.specs.Told.{IsUpdate, HasUpdated, IsDivision, HasDivided, IsMissed, link_word};
 ghost use Rattle.ca_rows.specs.Calls.{IsOf, IsSame};
 
 use crate::link::Link;
@@ -12,7 +12,7 @@ use crate::tallying::count_split;
 
 /// One exchange of a link, of the old base against one that the pass wrote: it carries out the update that `K` names, which is the last edit of
 /// the history then, and enters the call in the log. The old base is the one that the pass was shown last, and the link is where it hung. False
-/// exactly where the exchange was lost, which is counted; then nothing else changed.
+/// exactly where the exchange was lost, which is counted; then nothing else changed. A pass that is alone loses none of a base that it lists.
 pub fn replace_base<K: Intent>(
     space: &TreeSpace,
     pass: &mut TreePass,
@@ -30,13 +30,15 @@ pub fn replace_base<K: Intent>(
     ensures tally { pass.new.tally ≡ pass.old.tally }
     ensures kept { pass.new.kept ≡ pass.old.kept }
     ensures done { HasUpdated result new K.update pass.old.seat.me pass.new.seat.me }
+    ensures won { result ≡ false → IsMissed K.update.old pass.old.seat.me }
 {
     replace_link::<Replace<K>>(space, pass, link, old, new)
 }
 
 /// One exchange of a link, of a base against a route over two bases that the pass wrote: it carries out the split that `K` names, by which no
 /// object comes or goes. The old base is the one that the pass was shown last, and the link is where it hung. False exactly where the exchange was
-/// lost, which is counted; then nothing else changed. Where it won, the pass's tally has one split more.
+/// lost, which is counted; then nothing else changed. Where it won, the pass's tally has one split more. A pass that is alone loses none of a base
+/// that it lists.
 pub fn divide_base<K: Plan>(
     space: &TreeSpace,
     pass: &mut TreePass,
@@ -55,6 +57,7 @@ pub fn divide_base<K: Plan>(
     ensures tally { HasTallied result pass.old.tally pass.new.tally }
     ensures kept { pass.new.kept ≡ pass.old.kept }
     ensures done { HasDivided result K.division pass.old.seat.me pass.new.seat.me }
+    ensures won { result ≡ false → IsMissed K.division.old pass.old.seat.me }
 {
     if !replace_link::<Divide<K>>(space, pass, link, old, route) {
         return false;

@@ -65,7 +65,8 @@ caused z number budget adds (Err stop.Worn) spent now levels m m' kept kept' sam
 caused z number budget adds (Err stop.Deep) spent now levels m m' kept kept' same full split deep lost none counted met = (same, deep refl)
 
 -- So has a refusal once rows were given back, of an attempt that found the head empty: the first one, or one behind another that did so.
-pub refill_caused : (z : Sizes) (number budget begun : ℕ) (adds : Option (List ℕ)) (why : Refusal) (spent now : Spent) (m n m' : MyTree) (kept kept' : Vec Kept Global)
+pub refill_caused : (z : Sizes) (number budget begun : ℕ) (adds : Option (List ℕ)) (why : Refusal) (spent now : Spent) (m n m' : MyTree)
+    (kept kept' : Vec Kept Global)
     → (spent.lost ≡ 0) × (spent.helped ≡ 0) × (spent.passed ≡ 0) → IsPaid spent now m m' → HasBegun begun (vec_len kept) m m'
     → m.0.pin.looks ≤ n.0.pin.looks → IsRefill z.passes number budget begun now why n m' kept' → IsCaused z number budget adds why m kept m' kept'
 refill_caused z number budget begun adds (refusal.Busy s) spent now m n m' kept kept' none counted first before h =

@@ -1,5 +1,5 @@
 -- Why a due split was not carried out, as seen from earlier moments and to later ones.
-use Rattle.std.proofs.Common.{◌≡◌, ◌⊎◌, ℕ, ◌+◌, ◌<◌, ◌≤◌, Bool, true, false, Result, Ok, Err, sym, refl, ap, subst, ⊎_elim, arith}
+use Rattle.std.proofs.Common.{◌≡◌, ℕ, ◌≤◌, Bool, true, false, Result, Ok, Err, sym, refl, subst, arith}
 use Rattle.ca_adapt.specs.declared.adapted.Adapted.{Adapted}
 use Rattle.ca_adapt.specs.declared.adapted.Adapted.TheVariants as adapted
 use Rattle.ca_adapt.specs.declared.adapted.Why.{Why}
@@ -7,8 +7,6 @@ use Rattle.ca_adapt.specs.declared.adapted.Why.TheVariants as why
 use Rattle.ca_adapt.specs.Splits.{IsSplitAs, IsNotSplitBy}
 use Rattle.ca_base.specs.declared.taking.NoRow.{NoRow}
 use Rattle.ca_base.specs.Counting.{losses, HasEnded, HasMet, IsSpent}
-use Rattle.ca_model.specs.declared.outcome.Outcome.{Outcome}
-use Rattle.ca_model.specs.declared.outcome.Outcome.TheVariants as outcome
 use Rattle.ca_model.specs.declared.outcome.Spent.{Spent}
 use Rattle.ca_node.specs.Told.{MyTree}
 use Rattle.ca_node.specs.TreeView.{Note}
@@ -17,7 +15,7 @@ use Rattle.ca_replace.specs.declared.attempting.Stop.{Stop}
 use Rattle.ca_replace.specs.declared.attempting.Stop.TheVariants as stop
 use Rattle.ca_replace.specs.declared.refusing.Refusal.{Refusal}
 use Rattle.ca_replace.specs.Adapting.{IsMetAs, MeetsAs, MeetsIf}
-use Rattle.ca_replace.specs.Attempting.{IsPaid, IsQuiet, come_to, refused_as}
+use Rattle.ca_replace.specs.Attempting.{IsQuiet, come_to, refused_as}
 use Rattle.ca_rows.specs.declared.sizes.Sizes.{Sizes}
 
 -- What a pass counts doesn't fall.

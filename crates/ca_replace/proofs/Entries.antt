@@ -22,6 +22,7 @@ known_read z u event k now = record {
   lawful = read_lawful u.number event u.seen (length u.seen) u.log now.0 (omega arith) (subst (IsAnswer event) (sym (last_state u.seen)) now.1) k.past k.lawful;
   past = past_more (length u.seen) u.log (event, length u.seen) k.past (omega arith);
   edits = k.edits;
+  enrolled = k.enrolled;
   by_passes = k.by_passes;
 }
 

@@ -18,9 +18,9 @@ use Rattle.ca_rows.specs.Rule.{fresh}
 
 -- Such a pass rests: it knows nothing yet, and keeps nothing.
 pub rests : (table : TableId) (z : Sizes) (number : ℕ) (tally : Tally) (kept : Vec Kept Global) (seat : Seat (Unit {0}) (View TreeView)) → 0 < number
-    → number ≤ 64 → AreKept z.rows seat.me.0.claims kept → (seat.table_id ≡ table) × (seat.me ≡ (fresh z number (blank number), []))
+    → number ≤ 64 → number ≤ z.passes → AreKept z.rows seat.me.0.claims kept → (seat.table_id ≡ table) × (seat.me ≡ (fresh z number (blank number), []))
     → tally ≡ (record { splits = 0; joins = 0 }) → IsResting table z number tally kept seat
-rests table z number tally kept seat low few keeps is none = record {
+rests table z number tally kept seat low few enrolled keeps is none = record {
   of = (is.0, ap (λ (m : MyTree). m.0.sizes) is.1);
   numbered = (ap (λ (m : MyTree). m.0.pin.number) is.1, low, few);
   same_number = ap (λ (m : MyTree). m.0.upper.number) is.1;
@@ -32,6 +32,7 @@ rests table z number tally kept seat low few keeps is none = record {
     lawful = record { entries = tt; places = tt; edits = refl };
     past = tt;
     edits = tt;
+    enrolled = enrolled;
     by_passes = tt;
   };
   tallied = (

@@ -20,9 +20,10 @@ use Rattle.ca_model.specs.History.{Edit}
 use Rattle.ca_node.specs.declared.cursor.Cursor.{Cursor}
 use Rattle.ca_node.specs.declared.cursor.Spot.TheVariants as spot
 use Rattle.ca_node.specs.Laws.{starts_whole}
+use Rattle.ca_node.specs.Links.{IsIn}
 use Rattle.ca_node.specs.Place.{HasKey, edit_key}
 use Rattle.ca_node.specs.Told.{MyTree, with_upper, IsKnown, entered, one_more_lost}
-use Rattle.ca_node.specs.TreeView.{Note, Renewal, TreeView, pinned, unpinned}
+use Rattle.ca_node.specs.TreeView.{Inventory, Note, Renewal, TreeView, pinned, unpinned}
 use Rattle.ca_node.specs.Walking.{IsWalked}
 use Rattle.ca_node.proofs.Looking.{further}
 use Rattle.ca_replace.specs.declared.adapting.Adapting.{Adapting}
@@ -93,16 +94,17 @@ pub paid_behind : (a b : Spent) (m m' m'' : MyTree) → IsQuiet m m' → IsPaid 
 paid_behind a b m m' m'' quiet paid = paid_both a a b m m' m'' (none_paid a m m' quiet.lost quiet.splits_are) paid
 
 -- After a split the pass knows as much of the history.
-pub split_further : (z : Sizes) (r : Result Bool NoRow) (u v : TreeView) → HasSplit r u v → IsKnown z u → IsFurther u v × IsKnown z v
-split_further z (Ok true) u v is k = subst (λ (y : TreeView). IsFurther u y × IsKnown z y) (sym is) (
+pub split_further : (z : Sizes) (many attempt : ℕ) (r : Result Bool NoRow) (u v : TreeView) → HasSplit many attempt r u v → IsKnown z u → IsFurther u v
+    × IsKnown z v
+split_further z many attempt (Ok true) u v is k = subst (λ (y : TreeView). IsFurther u y × IsKnown z y) (sym is.2) (
   record { number = refl; seen = starts_whole u.seen; log = refl; counts = refl },
-  record { lawful = k.lawful; past = k.past; edits = k.edits; by_passes = k.by_passes },
+  record { lawful = k.lawful; past = k.past; edits = k.edits; enrolled = k.enrolled; by_passes = k.by_passes },
 )
-split_further z (Ok false) u v is k = subst (λ (y : TreeView). IsFurther u y × IsKnown z y) (sym is) (
+split_further z many attempt (Ok false) u v is k = subst (λ (y : TreeView). IsFurther u y × IsKnown z y) (sym is) (
   record { number = refl; seen = starts_whole u.seen; log = refl; counts = refl },
-  record { lawful = k.lawful; past = k.past; edits = k.edits; by_passes = k.by_passes },
+  record { lawful = k.lawful; past = k.past; edits = k.edits; enrolled = k.enrolled; by_passes = k.by_passes },
 )
-split_further z (Err why) u v is k = stopped z u v k is
+split_further z many attempt (Err why) u v is k = stopped z u v k is
 
 -- An attempt that came to a stop carried out no update.
 pub stopped_waits : {T E : Type 0} (edits : T → Bool) (z : Sizes) (t : Tuning) (a b : Adapting) (r : Result T E) (why : E) (u v : TreeView) → r ≡ Err why
@@ -136,6 +138,12 @@ settled_gone z t event edit statistic word (Ok false) a b u m m' lost h moved is
 settled_gone z t event edit statistic word (Err why) a b u m m' same h moved is s = let w = ap (λ (x : MyTree). x.0.upper) s.1 ∙ same in
     (ap (λ (x : Adapting). x.last) s.0, ap (λ (x : TreeView). x.renewal) w, inl (ap (λ (x : Adapting). x.lost) s.0, ap (λ (x : TreeView). x.lost) w))
 
+-- What became of it, by the names that its parts have.
+pub settled_as : (z : Sizes) (t : Tuning) (statistic : ℤ) (tried x : Result Bool NoRow) (a b c : Adapting) (m m' m'' : MyTree) → tried ≡ x → b ≡ c
+    → m' ≡ m'' → HasSettled z t statistic x a c m m'' → HasSettled z t statistic tried a b m m'
+settled_as z t statistic tried x a b c m m' m'' is same here h = subst (λ (y : Result Bool NoRow × Adapting × MyTree). HasSettled z t statistic y.0 a y.1 m y.2)
+    (λ i. (sym is i, sym same i, sym here i)) h
+
 -- The exchange of a base split none.
 pub tried_splits : (z : Sizes) (event : Event) (edit : Edit) (word : ℕ) (tried : Result Bool NoRow) (u w : TreeView) → HasTried event z tried u w
     → HasRenewed z word edit tried u w → w.splits ≡ u.splits
@@ -144,13 +152,21 @@ tried_splits z event edit word (Ok false) u w lost h = ap (λ (x : TreeView). x.
 tried_splits z event edit word (Err why) u w same h = ap (λ (x : TreeView). x.splits) same
 
 -- Where it won, the new base is the one that was shown last.
-pub is_new : (z : Sizes) (edit : Edit) (word placed : ℕ) (tried : Result Bool NoRow) (u w : TreeView) → HasRenewed z word edit tried u w
-    → IsNewRow placed tried w → tried ≡ Ok true → IsNew placed (edit_key edit) w
-is_new z edit word placed tried u w renewed row won = let h = subst (λ (r : Result Bool NoRow). HasRenewed z word edit r u w) won renewed in record {
+pub is_new : (z : Sizes) (edit : Edit) (word placed : ℕ) (tried : Result Bool NoRow) (u w : TreeView)
+    → HasKey (first_note u.notes).place.span (edit_key edit) → HasRenewed z word edit tried u w → IsNewRow placed tried w → tried ≡ Ok true
+    → IsNew placed (edit_key edit) w
+is_new z edit word placed tried u w about renewed row won = let h = subst (λ (r : Result Bool NoRow). HasRenewed z word edit r u w) won renewed in record {
   row = row won ∙ ap (λ (r : Renewal). r.new.row) (sym h.renewal);
   last = h.last ∙ ap (λ (r : Renewal). r.new) (sym h.renewal);
   key_is = ap (λ (r : Renewal). r.key) h.renewal;
   splits_are = h.same_splits ∙ ap (λ (r : Renewal). r.splits) (sym h.renewal);
+  listed = let x = h.inventory.0 in (
+    x.old.place,
+    subst (λ (n : ℕ). IsIn (n, x.old.place) w.inventory.bases) (ap (λ (r : Renewal). r.new.row) (sym h.renewal))
+        (subst (λ (i : Inventory). IsIn ((first_note w.notes).row, x.old.place) i.bases) (sym h.inventory.3) (0, refl)),
+    row won ∙ ap (λ (r : Renewal). r.new.row) (sym h.renewal),
+    subst (λ (n : Note). HasKey n.place.span (edit_key edit)) (sym h.inventory.1) about,
+  );
 }
 
 -- The exchange was tried by a pass that knew as much of the tree as this one; what is known of it then.
@@ -215,7 +231,7 @@ not_split z w u v reason e = ⊎_elim
       last = refl;
       tried = λ same. (reason, same);
       further_is = record { number = refl; seen = starts_whole u.seen; log = refl; counts = refl };
-      known = λ k. record { lawful = k.lawful; past = k.past; edits = k.edits; by_passes = k.by_passes };
+      known = λ k. record { lawful = k.lawful; past = k.past; edits = k.edits; enrolled = k.enrolled; by_passes = k.by_passes };
     }) e
 
 not_split_by : (z : Sizes) (note : Note) (w : Why) (m m' : MyTree) → m.0.upper.last ≡ note → IsNotSplitBy z note w m m'
@@ -237,12 +253,12 @@ not_split_by z note why.Worn m m' last h = not_split z why.Worn m.0.upper m'.0.u
 
 pub come_of : (z : Sizes) (note : Note) (a : Adapted) (m m' : MyTree) → m.0.upper.last ≡ note → IsSplitAs z note a m m' → HasComeOf z a m.0.upper m'.0.upper
 come_of z note adapted.Stay m m' last h = absurd h
-come_of z note adapted.Split m m' last h = subst (λ (y : TreeView). HasComeOf z adapted.Split m.0.upper y) (sym h.2) record {
+come_of z note adapted.Split m m' last h = subst (λ (y : TreeView). HasComeOf z adapted.Split m.0.upper y) (sym h.2.2) record {
   renewal = refl;
   last = refl;
   tried = λ same. (subst (MayBeSplit z) (sym last) h.0, ap (λ n. n + 1) same);
   further_is = record { number = refl; seen = starts_whole m.0.upper.seen; log = refl; counts = refl };
-  known = λ k. record { lawful = k.lawful; past = k.past; edits = k.edits; by_passes = k.by_passes };
+  known = λ k. record { lawful = k.lawful; past = k.past; edits = k.edits; enrolled = k.enrolled; by_passes = k.by_passes };
 }
 come_of z note adapted.Joined m m' last h = absurd h
 come_of z note (adapted.NotSplit w) m m' last h = not_split_by z note w m m' last h
@@ -252,7 +268,7 @@ come_of z note (adapted.NotJoined w) m m' last h = absurd h
 pub come_splits : (z : Sizes) (note : Note) (a : Adapted) (m m' : MyTree) → IsSplitAs z note a m m' → (a ≡ adapted.Split → splits m' ≡ splits m + 1)
     × (a ≢ adapted.Split → splits m' ≡ splits m)
 come_splits z note adapted.Stay m m' h = absurd h
-come_splits z note adapted.Split m m' h = ((λ e. ap (λ (y : TreeView). y.splits) h.2), λ n. absurd (n refl))
+come_splits z note adapted.Split m m' h = ((λ e. ap (λ (y : TreeView). y.splits) h.2.2), λ n. absurd (n refl))
 come_splits z note adapted.Joined m m' h = absurd h
 come_splits z note (adapted.NotSplit w) m m' h = ((λ e. cc), λ n. none w h)
   where
@@ -393,14 +409,10 @@ refused_gone {T} edits z t a b tried r spent levels u w v same is h = subst (λ 
     (subst (λ (y : TreeView). HasGoneOn edits z t a b (refused_as tried spent levels) u y) (sym same) (gone_refused edits z t a b tried spent levels u w h))
 
 -- What a call leaves of what the store keeps, by what its attempts came to.
-goes_leaves : (edited : Bool) (z : Sizes) (t : Tuning) (a b : Adapting) (u v : TreeView) → a.lost ≡ false → Goes edited z t a b u v
+pub goes_leaves : (edited : Bool) (z : Sizes) (t : Tuning) (a b : Adapting) (u v : TreeView) → a.lost ≡ false → Goes edited z t a b u v
     → Leaves edited z t a.last b.last u v
 goes_leaves true z t a b u v none h = subst (λ (x : Bool). Adapts z t x b.last u v) none h
 goes_leaves false z t a b u v none h = (h.0, h.1)
-
-pub leaves_done : {T : Type 0} (edits : T → Bool) (z : Sizes) (t : Tuning) (a b : Adapting) (x : T) (u v : TreeView) → a.lost ≡ false
-    → Goes (edits x) z t a b u v → Leaves (edits x) z t a.last b.last u v
-leaves_done edits z t a b x u v none h = goes_leaves (edits x) z t a b u v none h
 
 pub leaves_refused : {T : Type 0} (edits : T → Bool) (z : Sizes) (t : Tuning) (last : Last) (why : Refusal) (o : Outcome T) (u v : TreeView)
     → o ≡ outcome_of why → v.renewal ≡ u.renewal → LeavesAs edits z t last last o u v

@@ -1,9 +1,9 @@
 -- What a pass knows more after a call meets a store's contract.
-use Rattle.std.proofs.Common.{◌≡◌, ℕ, ◌≤◌, ◌==◌, Bool, true, false, List, [], ◌∷◌, ◌++◌, if◌then◌else◌, length, Some, sym, refl, ap, ◌∙◌, subst, arith, append-nil}
-use Rattle.std.proofs.lemmas.Bool.{false≢true}
+use Rattle.std.proofs.Common.{◌≡◌, ℕ, ◌≤◌, ◌==◌, Bool, true, false, cond, List, [], ◌∷◌, ◌++◌, if◌then◌else◌, length, Some, sym, refl, ap, ◌∙◌, subst, arith, append-nil}
 use Rattle.std.proofs.lemmas.Bool.Decides.{nat_tests}
+use Rattle.std.proofs.lemmas.List.{append_assoc}
 use Rattle.ca_model.specs.Event.{Event, Entry, effect}
-use Rattle.ca_model.specs.History.{Edit, History, state, after, edits_of_pass, AreEdits, AreByPasses, AreByOthers}
+use Rattle.ca_model.specs.History.{Edit, History, state, after, by_pass, edits_of_pass, AreEdits, AreByPasses, AreByOthers}
 use Rattle.ca_model.specs.Known.{Counts, Meets, Declines}
 use Rattle.ca_model.specs.Lawful.{IsPlaceFrom, edits_of_log}
 use Rattle.ca_model.specs.Passes.{HasSeen}
@@ -15,6 +15,7 @@ use Rattle.ca_node.proofs.Logs.{after_more, state_there}
 use Rattle.ca_node.proofs.Looking.{further, starts_shorter}
 use Rattle.ca_base.specs.Progress.{IsFurther, HasDone, IsRefused}
 use Rattle.ca_replace.specs.Resting.{known_of}
+use Rattle.ca_replace.proofs.OneHand.{own_alone}
 use Rattle.ca_rows.specs.declared.sizes.Sizes.{Sizes}
 
 -- The edits of a pass in two parts of a history.
@@ -49,9 +50,15 @@ second_passes : (n : ℕ) (xs ys : History) → AreByPasses n (xs ++ ys) → Are
 second_passes n [] ys h = h
 second_passes n (x ∷ xs) ys h = second_passes n xs ys h.2
 
-nothing_behind : (xs ys : List Edit) → xs ++ ys ≡ xs → ys ≡ []
-nothing_behind [] ys e = e
-nothing_behind (x ∷ xs) ys e = nothing_behind xs ys cc
+same_behind : (xs ys zs : List Edit) → xs ++ ys ≡ xs ++ zs → ys ≡ zs
+same_behind [] ys zs e = e
+same_behind (x ∷ xs) ys zs e = same_behind xs ys zs cc
+
+-- The edits of a log with one entry more.
+log_more : (log : List Entry) (event : Event) (p : ℕ) → edits_of_log (log ++ (event, p) ∷ []) ≡ edits_of_log log ++ effect event
+log_more [] event p = append-nil (effect event)
+log_more (entry ∷ log) event p = ap (λ (es : List Edit). effect entry.0 ++ es) (log_more log event p)
+    ∙ sym (append_assoc (effect entry.0) (edits_of_log log) (effect event))
 
 -- What is known is what was seen.
 has_seen : (z : Sizes) (u : TreeView) → IsKnown z u → HasSeen (known_of z u) u.seen u.log
@@ -63,7 +70,39 @@ has_seen z u k = record {
   passes = k.by_passes;
 }
 
+-- Where it is so, the pass is the only one that there may be, and has number 1.
+by_test : (a b : Bool) → cond a b false ≡ true → (a ≡ true) × (b ≡ true)
+by_test true b e = (refl, e)
+by_test false b e = cc
+
+same_numbers : (a b : ℕ) → (a == b) ≡ true → a ≡ b
+same_numbers a b e = grind (arith, nat_tests, e)
+
+abbrev only_one : ℕ → ℕ → Bool
+only_one passes number = cond (passes == 1) (number == 1) false
+
+is_alone : (passes number : ℕ) → only_one passes number ≡ true → (passes ≡ 1) × (number ≡ 1)
+is_alone passes number e = let t = by_test (passes == 1) (number == 1) e in (same_numbers passes 1 t.0, same_numbers number 1 t.1)
+
 module _ (z : Sizes) (u v : TreeView) (before : IsKnown z u) (behind : IsKnown z v) where
+  -- What was learnt since was made by passes that there are.
+  learnt_by : (more : History) → v.seen ≡ u.seen ++ more → AreByPasses z.passes more
+  learnt_by more whole = second_passes z.passes u.seen more (subst (AreByPasses z.passes) whole behind.by_passes)
+
+  -- A pass that is alone learns of its own edits.
+  own_more : (more : History) (edits : List Edit) → v.seen ≡ u.seen ++ more → edits_of_pass u.number more ≡ edits → only_one z.passes u.number ≡ true
+      → more ≡ by_pass u.number edits
+  own_more more edits whole own e = let a = is_alone z.passes u.number e in
+      subst (λ (n : ℕ). more ≡ by_pass n edits) (sym a.1) (own_alone more (subst (λ (n : ℕ). AreByPasses n more) a.0 (learnt_by more whole))
+      ∙ ap (by_pass 1) (ap (λ (n : ℕ). edits_of_pass n more) (sym a.1) ∙ own))
+
+  -- What the pass itself edited is what its log has more.
+  own_since : {event : Event} (d : HasDone event u v) → edits_of_pass u.number d.seen.0 ≡ effect event
+  own_since {event} d = same_behind (edits_of_pass u.number u.seen) (edits_of_pass u.number d.seen.0) (effect event)
+      (sym (edits_in_parts u.number u.seen d.seen.0) ∙ (ap (edits_of_pass u.number) (sym d.seen.1) ∙ (ap (λ n. edits_of_pass n v.seen) (sym d.number)
+      ∙ (behind.lawful.edits ∙ (ap edits_of_log d.log ∙ (log_more u.log event d.at
+      ∙ ap (λ (es : List Edit). es ++ effect event) (sym before.lawful.edits)))))))
+
   -- A call that was entered in the log.
   pub meets : (event : Event) → HasDone event u v → Meets (known_of z u) (known_of z v) event
   meets event d = passes_meet (known_of z u) (known_of z v) event record {
@@ -71,11 +110,11 @@ module _ (z : Sizes) (u v : TreeView) (before : IsKnown z u) (behind : IsKnown z
     more = d.seen.0;
     log = u.log;
     at = d.at;
-    same = record { keypos = refl; pass = d.number; passes = refl; alone = refl; sure = refl };
+    same = record { keypos = refl; pass = d.number; passes = refl; alone = ap (only_one z.passes) d.number; sure = refl };
     before = has_seen z u before;
     behind = subst (λ (x : History × List Entry). HasSeen (known_of z v) x.0 x.1) (λ i. (d.seen.1 i, d.log i)) (has_seen z v behind);
     from = d.from;
-    alone = λ e. absurd (false≢true e);
+    alone = own_more d.seen.0 (effect event) d.seen.1 (own_since d);
     counts = d.counts;
   }
 
@@ -84,19 +123,20 @@ module _ (z : Sizes) (u v : TreeView) (before : IsKnown z u) (behind : IsKnown z
   declines rise d = let whole = d.seen.1 in
       let own : edits_of_pass u.number v.seen ≡ edits_of_pass u.number u.seen = ap (λ n. edits_of_pass n v.seen) (sym d.number)
       ∙ (behind.lawful.edits ∙ (ap edits_of_log d.log ∙ sym before.lawful.edits)) in
-      let none = nothing_behind (edits_of_pass u.number u.seen) (edits_of_pass u.number d.seen.0)
-      (sym (edits_in_parts u.number u.seen d.seen.0) ∙ (ap (edits_of_pass u.number) (sym whole) ∙ own)) in record {
+      let none = same_behind (edits_of_pass u.number u.seen) (edits_of_pass u.number d.seen.0) []
+      (sym (edits_in_parts u.number u.seen d.seen.0) ∙ (ap (edits_of_pass u.number) (sym whole)
+      ∙ (own ∙ sym (append-nil (edits_of_pass u.number u.seen))))) in record {
         learnt = d.seen.0;
         learns = record {
-          same = record { keypos = refl; pass = d.number; passes = refl; alone = refl; sure = refl };
+          same = record { keypos = refl; pass = d.number; passes = refl; alone = ap (only_one z.passes) d.number; sure = refl };
           map = ap (λ (h : History). after h []) whole ∙ after_more u.seen d.seen.0 [];
           seen = ap (λ (x : History × List Entry). Some (record { history = x.0; log = x.1 })) (λ i. (whole i, (d.log ∙ sym (append-nil u.log)) i));
           valid = map_after z.keypos u.seen [] before.edits tt;
           edits = second_edits z.keypos u.seen d.seen.0 (subst (AreEdits z.keypos) whole behind.edits);
-          passes = second_passes 64 u.seen d.seen.0 (subst (AreByPasses 64) whole behind.by_passes);
+          passes = learnt_by d.seen.0 whole;
         };
         others = by_others u.number d.seen.0 none;
-        alone = λ e. absurd (false≢true e);
+        alone = own_more d.seen.0 [] whole none;
         counts_are = d.counts;
         unsure = refl;
       }

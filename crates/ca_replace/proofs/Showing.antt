@@ -57,6 +57,7 @@ looking z key m m' cursor w most = let u : TreeView = walked m.0.upper w.more w.
       about = w.sought;
       has = has;
       known = known;
+      listed = w.listed;
     }
 
 -- On the way it learnt of others' edits alone, and lost nothing.
@@ -71,6 +72,8 @@ walked_quiet z spot m m' cursor w = subst (IsQuiet m) (sym w.now) record {
   most = refl;
   splits_are = refl;
   idle = (refl, refl);
+  same_inventory = refl;
+  same_cuts = refl;
 }
 
 -- So it did by the load of a link, after which the history that it has seen is known.
@@ -194,7 +197,7 @@ tried_from : (z : Sizes) (event : Event) (r : Result Bool NoRow) (u v : TreeView
 tried_from z event (Ok true) u v k h = ((event, refl, h.0), h.1)
 tried_from z event (Ok false) u v k h = subst (λ (y : TreeView). IsFurther u y × IsKnown z y) (sym h) (
   record { number = refl; seen = starts_whole u.seen; log = refl; counts = refl },
-  record { lawful = k.lawful; past = k.past; edits = k.edits; by_passes = k.by_passes },
+  record { lawful = k.lawful; past = k.past; edits = k.edits; enrolled = k.enrolled; by_passes = k.by_passes },
 )
 tried_from z event (Err why) u v k h = stopped z u v k h
 

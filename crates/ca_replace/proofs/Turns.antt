@@ -14,8 +14,10 @@ use Rattle.ca_node.specs.Tallied.{IsTallied}
 use Rattle.ca_node.specs.Told.{MyTree, IsKnown}
 use Rattle.ca_node.specs.TreeView.{TreeView, pinned, unpinned}
 use Rattle.ca_replace.specs.declared.attempting.Stop.{Stop}
+use Rattle.ca_replace.specs.declared.refusing.Refusal.{Refusal}
+use Rattle.ca_model.specs.declared.outcome.Spent.{Spent}
 use Rattle.ca_replace.specs.declared.attempting.Stop.TheVariants as stop
-use Rattle.ca_replace.specs.Attempting.{HasDoneAs, HasTriedTo}
+use Rattle.ca_replace.specs.Attempting.{HasAttempted, HasDoneAs, HasTriedTo, refused_as}
 use Rattle.ca_base.specs.Progress.{IsFurther, HasDone, IsRefused}
 use Rattle.ca_replace.specs.Resting.{IsResting, known_of}
 use Rattle.ca_base.specs.Taking.{AreHeld, HoldsFew}
@@ -34,7 +36,11 @@ MySeat = Seat (Unit {0}) (View TreeView)
 
 -- What is known stays known as the pass unpins.
 pub known_unpinned : (z : Sizes) (u : TreeView) → IsKnown z u → IsKnown z (unpinned u)
-known_unpinned z u k = record { lawful = k.lawful; past = k.past; edits = k.edits; by_passes = k.by_passes }
+known_unpinned z u k = record { lawful = k.lawful; past = k.past; edits = k.edits; enrolled = k.enrolled; by_passes = k.by_passes }
+
+-- So it does as it pins.
+pub known_pinned : (z : Sizes) (u : TreeView) → IsKnown z u → IsKnown z (pinned u)
+known_pinned z u k = record { lawful = k.lawful; past = k.past; edits = k.edits; enrolled = k.enrolled; by_passes = k.by_passes }
 
 -- A pass that rests holds no row.
 pub holds_none : {tally : Tally} (table : TableId) (z : Sizes) (number : ℕ) (kept : Vec Kept Global) (seat : MySeat)
@@ -76,6 +82,20 @@ pub tried_known : {T : Type 0} (tells : T → Event → Type 0) (z : Sizes) (r :
 tried_known tells z (Ok x) u v h = (h.1, h.0.2.number)
 tried_known tells z (Err stop) u v h = (h.1, h.0.number)
 
+-- What the last attempt came to is what the attempts came to.
+pub attempted_as : {T : Type 0} (tells : T → Event → Type 0) (z : Sizes) (tried : Result T Stop) (r : Result T Refusal) (spent : Spent) (levels : ℕ)
+    (u w v : TreeView) → v ≡ w → r ≡ refused_as tried spent levels → HasTriedTo tells z tried u w → HasAttempted tells r u v
+attempted_as {T} tells z tried r spent levels u w v same is h = subst (λ (x : Result T Refusal). HasAttempted tells x u v) (sym is)
+    (subst (λ (x : TreeView). HasAttempted tells (refused_as tried spent levels) u x) (sym same) (by tried h))
+  where
+    by : (tried : Result T Stop) → HasTriedTo tells z tried u w → HasAttempted tells (refused_as tried spent levels) u w
+    by (Ok x) h = h.0
+    by (Err stop.Lost) h = h.0
+    by (Err stop.Split) h = h.0
+    by (Err stop.Empty) h = h.0
+    by (Err stop.Worn) h = h.0
+    by (Err stop.Deep) h = h.0
+
 -- A pass that was pinned, tried, and unpinned rests again.
 pub rests_again : {tally tally' : Tally} (table : TableId) (z : Sizes) (number : ℕ) (kept kept' : Vec Kept Global) (seat one two last : MySeat)
     → IsResting table z number tally kept seat
@@ -111,7 +131,7 @@ rests_refused {tally = tally} table z number kept seat last counts r same is = r
   are_kept = subst (λ (m : MyTree). AreKept z.rows m.0.claims kept) (sym is) r.are_kept;
   few = subst (λ (m : MyTree). HoldsFew 0 m.0) (sym is) (record { now = r.few.now; ever = r.few.ever });
   known = subst (λ (m : MyTree). IsKnown z m.0.upper) (sym is)
-      record { lawful = r.known.lawful; past = r.known.past; edits = r.known.edits; by_passes = r.known.by_passes };
+      record { lawful = r.known.lawful; past = r.known.past; edits = r.known.edits; enrolled = r.known.enrolled; by_passes = r.known.by_passes };
   tallied = subst (λ (m : MyTree). IsTallied tally m.0.upper) (sym is) r.tallied;
 }
 

@@ -15,7 +15,8 @@ use Rattle.ca_model.specs.declared.outcome.Changed.{Changed}
 use Rattle.ca_model.specs.declared.outcome.Changed.TheVariants as changed
 use Rattle.ca_model.specs.declared.outcome.Outcome.{Outcome}
 use Rattle.ca_model.specs.declared.outcome.Outcome.TheVariants as outcome
-use Rattle.ca_node.specs.Place.{HasKey}
+use Rattle.ca_node.specs.Links.{IsIn}
+use Rattle.ca_node.specs.Place.{HasKey, Place}
 use Rattle.ca_node.specs.Told.{MyTree}
 use Rattle.ca_node.specs.TreeView.{Note, Renewal, TreeView}
 use Rattle.ca_replace.specs.declared.adapting.Adapting.{Adapting}
@@ -36,6 +37,8 @@ pub record IsNew (placed : ℕ) (key : List ℕ) (u : TreeView) : Type 0 where
   pub last : u.last ≡ u.renewal.new
   pub key_is : u.renewal.key ≡ key
   pub splits_are : u.splits ≡ u.renewal.splits
+  -- It is listed at a place to which the key is led.
+  pub listed : (place : Place) × IsIn (u.renewal.new.row, place) u.inventory.bases × (placed ≡ u.renewal.new.row) × HasKey place.span key
 
 -- Nothing was done about the new base: no base was split, given how many there were as it was put in place, and now.
 abbrev pub IsLeft : ℕ → ℕ → Adapted → Type 0

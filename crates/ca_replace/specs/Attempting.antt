@@ -8,10 +8,11 @@ use Rattle.ca_model.specs.Event.{Event}
 use Rattle.ca_model.specs.History.{after}
 use Rattle.ca_model.specs.StoreMap.{IsFound, IsPair}
 use Rattle.ca_node.specs.declared.cursor.Cursor.{Cursor}
+use Rattle.ca_node.specs.Inventory.{IsListed}
 use Rattle.ca_node.specs.Place.{HasKey, part}
 use Rattle.ca_node.specs.Row.{pair}
 use Rattle.ca_base.specs.Counting.{losses, HasMet}
-use Rattle.ca_node.specs.Told.{IsKnown, MyTree}
+use Rattle.ca_node.specs.Told.{IsAlone, IsKnown, MyTree}
 use Rattle.ca_node.specs.TreeView.{TreeView}
 use Rattle.ca_replace.specs.declared.refusing.Refusal.{Refusal}
 use Rattle.ca_replace.specs.declared.refusing.Refusal.TheVariants as refusal
@@ -33,6 +34,7 @@ pub record IsLooking (z : Sizes) (u : TreeView) (key : List ℕ) (cursor : Curso
   pub about : HasKey (first_note u.notes).place.span key
   pub has : map pair (first_note u.notes).objects ≡ part (first_note u.notes).place.span (after u.seen [])
   pub known : IsKnown z u
+  pub listed : IsAlone z u → IsListed u.inventory (first_note u.notes)
 
 -- The key's object was copied, or there is none.
 abbrev pub HasFetched : Sizes → TreeView → List ℕ → Result ℕ ℕ → List ℕ → Type 0
@@ -80,7 +82,8 @@ refused_as (Err stop.Empty) spent levels = Err (refusal.Busy spent)
 refused_as (Err stop.Worn) spent levels = Err (refusal.Worn counter.PoolTag)
 refused_as (Err stop.Deep) spent levels = Err (refusal.Deep levels)
 
--- What an attempt met of the pool that did not do the call, by what it came to: where no row was free, the head was empty once; where the tag can rise no more, it was at
+-- What an attempt met of the pool that did not do the call, by what it came to: where no row was free, the head was empty once; where the tag can rise no
+-- more, it was at
 -- its last value once.
 abbrev pub HasMetBy : {T : Type 0} → Result T Stop → MyTree → MyTree → Type 0
 HasMetBy (Ok x) m m' = Unit {0}
@@ -118,6 +121,9 @@ pub record IsQuiet (m m' : MyTree) : Type 0 where
   pub splits_are : splits m' ≡ splits m
   -- Nothing was updated.
   pub idle : (m'.0.upper.renewal ≡ m.0.upper.renewal) × (m'.0.upper.lost ≡ m.0.upper.lost)
+  -- The tree has what it had.
+  pub same_inventory : m'.0.upper.inventory ≡ m.0.upper.inventory
+  pub same_cuts : m'.0.upper.cuts ≡ m.0.upper.cuts
 
 -- Where the call is refused for want of levels, this holds.
 abbrev pub IfDeep : {T : Type 0} → Outcome T → Type 0 → Type 0

@@ -1,9 +1,12 @@
 pub mod Adapting
 pub mod Attempting
 pub mod Causes
+pub mod Cutting
+pub mod Growing
 pub mod Made
 pub mod Reads
 pub mod Refusals
 pub mod Resting
 pub mod StoreView
 pub mod Tells
+pub mod Winning

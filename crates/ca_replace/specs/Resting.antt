@@ -1,5 +1,5 @@
 -- Passes between two calls, and what is known of them.
-use Rattle.std.specs.Prelude.{◌≡◌, ℕ, false, [], Some, None, Vec}
+use Rattle.std.specs.Prelude.{◌≡◌, ◌==◌, ℕ, cond, false, [], Some, None, Vec}
 use Rattle.std.specs.Global.{Global}
 use mathlib.Core.Option.{some}
 use Rattle.atomic_table.specs.declared.shared.Seat.{Seat}
@@ -52,14 +52,14 @@ pub record StoreView : Type 0 where
 abbrev pub Rests : StoreView → Type 0
 Rests s = IsResting s.table s.z s.number s.tally s.kept s.seat
 
--- What a pass knows of the map, as a store: each of the 64 passes that there may be may edit it, any call may be refused, and each finds
--- its own room.
+-- What a pass knows of the map, as a store: each of the passes that there may be may edit it, so where there may be one alone nobody else does;
+-- any call may be refused, and each finds its own room.
 abbrev pub known_of : Sizes → TreeView → Known
 known_of z u = record {
   keypos = z.keypos;
   pass = u.number;
-  passes = 64;
-  alone = false;
+  passes = z.passes;
+  alone = cond (z.passes == 1) (u.number == 1) false;
   sure = false;
   map = after u.seen [];
   seen = Some (record { history = u.seen; log = u.log });

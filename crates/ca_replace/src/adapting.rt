@@ -1,5 +1,5 @@
 //! What follows an update: the statistic of its new base, and what is due to it.
-ghost use Rattle.std.specs.Prelude.{◌≡◌, ◌≢◌, ◌↔◌, Err, IsTrue, Ok, [], true, slice_index};
+ghost use Rattle.std.specs.Prelude.{◌≡◌, ◌≢◌, ◌↔◌, ◌<◌, Err, IsTrue, Ok, [], true, slice_index};
 ghost use Rattle.ca_adapt.specs.declared.adapted.Adapted.TheVariants.{Split as IsSplit};
 ghost use Rattle.ca_adapt.specs.Statistics.{IsAfter, IsStatisticOf};
 ghost use Rattle.ca_adapt.specs.Tuned.{IsTuned};
@@ -7,9 +7,11 @@ ghost use Rattle.ca_base.specs.Finding.{IsReadable};
 ghost use Rattle.ca_base.specs.Progress.{IsFurther};
 ghost use Rattle.ca_base.specs.Taking.{AreHeld};
 ghost use Rattle.ca_node.specs.Tallied.{IsTallied};
-ghost use Rattle.ca_node.specs.Told.{IsKnown};
+ghost use Rattle.ca_node.specs.Told.{IsAlone, IsKnown};
 ghost use Rattle.ca_node.specs.TreeView.{Note};
 ghost use Rattle.ca_replace.specs.Adapting.{HasAdapted, HasLookedAgain, HasSettled, IsMetAs, IsMoved, IsNew};
+ghost use Rattle.ca_replace.specs.Growing.{Grows};
+ghost use Rattle.ca_replace.specs.Cutting.{HasCutDue};
 ghost use Rattle.ca_replace.specs.declared.attempting.Stop.TheVariants.{Deep as IsDeep};
 ghost use Rattle.ca_replace.specs.Attempting.{IsPaid, come_to};
 ghost use Rattle.ca_rows.specs.Calls.{IsOf, IsSame};
@@ -73,6 +75,7 @@ pub(crate) fn settle(
 ) -> Result<(), Stop>
     requires own { IsOf space.now.table.shared.table_id space.now.table.shared.key pass.old.seat }
     requires pinned { pass.old.seat.me.0.pin.pinned ≡ true }
+    requires number { 0 < pass.old.seat.me.0.upper.number }
     requires none { AreHeld space.now.table.shared.key.rows pass.old.kept.rows pass.old.seat.me.0 [] }
     requires tuned { IsTuned space.now.table.shared.key tuning.now }
     requires known { IsKnown space.now.table.shared.key pass.old.seat.me.0.upper }
@@ -88,6 +91,10 @@ pub(crate) fn settle(
     ensures met { tried ≡ Ok true → IsMetAs adapting.new.last.adapted pass.old.seat.me pass.new.seat.me }
     ensures settled { HasSettled space.now.table.shared.key tuning.now statistic tried adapting.old adapting.new pass.old.seat.me pass.new.seat.me }
     ensures counted { IsPaid spent.old spent.new pass.old.seat.me pass.new.seat.me }
+    ensures grows { IsAlone space.now.table.shared.key pass.old.seat.me.0.upper → Grows 1 2 1 pass.old.seat.me.0.upper pass.new.seat.me.0.upper }
+    ensures won { IsAlone space.now.table.shared.key pass.old.seat.me.0.upper → tried ≡ Ok true → (pass.new.seat.me.0.upper.lost ≡ pass.old.seat.me.0.upper.lost)
+        × (pass.new.seat.me.0.upper.last.row ≡ pass.new.seat.me.0.upper.renewal.new.row) }
+    ensures cut { HasCutDue pass.old.seat.me.0.upper.cuts pass.new.seat.me.0.upper }
 {
     match tried {
         Ok(true) => {
@@ -112,6 +119,7 @@ fn adapt(
 ) -> Adapted
     requires own { IsOf space.now.table.shared.table_id space.now.table.shared.key pass.old.seat }
     requires pinned { pass.old.seat.me.0.pin.pinned ≡ true }
+    requires number { 0 < pass.old.seat.me.0.upper.number }
     requires none { AreHeld space.now.table.shared.key.rows pass.old.kept.rows pass.old.seat.me.0 [] }
     requires tuned { IsTuned space.now.table.shared.key tuning.now }
     requires known { IsKnown space.now.table.shared.key pass.old.seat.me.0.upper }
@@ -125,6 +133,10 @@ fn adapt(
     ensures met { IsMetAs result pass.old.seat.me pass.new.seat.me }
     ensures adapted { HasAdapted space.now.table.shared.key tuning.now statistic result pass.old.seat.me.0.upper pass.new.seat.me.0.upper }
     ensures counted { IsPaid spent.old spent.new pass.old.seat.me pass.new.seat.me }
+    ensures grows { IsAlone space.now.table.shared.key pass.old.seat.me.0.upper → Grows 1 2 1 pass.old.seat.me.0.upper pass.new.seat.me.0.upper }
+    ensures won { IsAlone space.now.table.shared.key pass.old.seat.me.0.upper → (pass.new.seat.me.0.upper.lost ≡ pass.old.seat.me.0.upper.lost)
+        × (pass.new.seat.me.0.upper.last.row ≡ pass.new.seat.me.0.upper.renewal.new.row) }
+    ensures cut { HasCutDue pass.old.seat.me.0.upper.cuts pass.new.seat.me.0.upper }
 {
     match tuning.due(statistic) {
         Due::Split => split_again(space, pass, tuning, key, placed, spent),
@@ -143,6 +155,7 @@ fn split_again(
 ) -> Adapted
     requires own { IsOf space.now.table.shared.table_id space.now.table.shared.key pass.old.seat }
     requires pinned { pass.old.seat.me.0.pin.pinned ≡ true }
+    requires number { 0 < pass.old.seat.me.0.upper.number }
     requires none { AreHeld space.now.table.shared.key.rows pass.old.kept.rows pass.old.seat.me.0 [] }
     requires tuned { IsTuned space.now.table.shared.key tuning.now }
     requires placed { IsNew placed key.now pass.old.seat.me.0.upper }
@@ -155,6 +168,10 @@ fn split_again(
     ensures met { IsMetAs result pass.old.seat.me pass.new.seat.me }
     ensures tried { HasLookedAgain space.now.table.shared.key result pass.old.seat.me.0.upper pass.new.seat.me.0.upper }
     ensures counted { IsPaid spent.old spent.new pass.old.seat.me pass.new.seat.me }
+    ensures grows { IsAlone space.now.table.shared.key pass.old.seat.me.0.upper → Grows 1 2 1 pass.old.seat.me.0.upper pass.new.seat.me.0.upper }
+    ensures won { IsAlone space.now.table.shared.key pass.old.seat.me.0.upper → (pass.new.seat.me.0.upper.lost ≡ pass.old.seat.me.0.upper.lost)
+        × (pass.new.seat.me.0.upper.last.row ≡ pass.new.seat.me.0.upper.renewal.new.row) }
+    ensures cut { HasCutDue pass.old.seat.me.0.upper.cuts pass.new.seat.me.0.upper }
 {
     let cursor = walk(space, pass, Spot::At(key));
     if cursor.base != placed {

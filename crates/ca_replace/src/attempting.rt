@@ -1,18 +1,21 @@
 //! Attempts of a call that edits.
-ghost use Rattle.std.specs.Prelude.{◌≡◌, ◌≢◌, ◌<◌, ◌≤◌, ◌↔◌, ℕ, Bool, Err, List, Ok, OnOk, Some, [], false, length, map, slice_range, true, IsTrue};
+ghost use Rattle.std.specs.Prelude.{◌≡◌, ◌≢◌, ◌<◌, ◌≤◌, ◌↔◌, ℕ, Bool, Err, List, None, Ok, OnOk, Some, [], false, length, map, slice_range, true, IsTrue};
 ghost use Rattle.std.specs.declared.option.Option.{Option};
 ghost use Rattle.ca_model.proofs.Places.{IsPlace};
 ghost use Rattle.ca_model.specs.Event.{Event, Remove};
 ghost use Rattle.ca_model.specs.History.{after};
 ghost use Rattle.ca_model.specs.StoreMap.{IsPair};
 ghost use Rattle.ca_node.specs.Row.{pair};
-ghost use Rattle.ca_replace.specs.declared.attempting.Stop.TheVariants.{Deep as IsDeep};
+ghost use Rattle.ca_replace.specs.declared.attempting.Stop.TheVariants.{Deep as IsDeep, Split as IsSplit};
 ghost use Rattle.ca_replace.specs.Adapting.{HasGoneOn, MeetsAs, Waits};
 ghost use Rattle.ca_replace.specs.Causes.{IsFull};
+ghost use Rattle.ca_replace.specs.Growing.{HasGrown};
+ghost use Rattle.ca_replace.specs.Winning.{HasWonAs};
+ghost use Rattle.ca_replace.specs.Cutting.{HasCut, IsFullFor};
 ghost use Rattle.ca_replace.specs.Attempting.{IsLooking, HasFetched, HasTriedTo, come_to, split_to, HasStopped, IsPaid, IsQuiet};
 ghost use Rattle.ca_adapt.specs.Tuned.{IsTuned};
 ghost use Rattle.ca_node.specs.Tallied.{IsTallied};
-ghost use Rattle.ca_node.specs.Told.{IsKnown};
+ghost use Rattle.ca_node.specs.Told.{IsAlone, IsKnown};
 ghost use Rattle.ca_base.specs.Progress.{IsFurther};
 ghost use Rattle.ca_base.specs.Putting.{object_at, IsRoom, IsFor, first_note, put_event};
 ghost use Rattle.ca_base.specs.Taking.{AreHeld};
@@ -21,13 +24,10 @@ ghost use Rattle.ca_rows.specs.Calls.{IsOf, IsSame};
 
 use crate::adapting::{Adapting, next_statistic, settle};
 use crate::looking::copy_at;
-use ca_adapt::{Tuning, word_of};
+use ca_adapt::{Tuning, first_attempt, word_of};
 use ca_base::{NoRow, Putting, count, put_at, remove_at, search, split_at};
 use ca_model::{Code, Spent};
 use ca_node::{Cursor, Spot, TreePass, TreeSpace, walk};
-
-// The last value of an attempt to join what is under a route.
-const LAST_ATTEMPT: u64 = (1 << 62) - 1;
 
 /// Why an attempt came to nothing.
 #[derive(Clone, Copy, Debug, PartialEq, Eq)]
@@ -84,6 +84,7 @@ pub(crate) trait Attempt {
         requires none { AreHeld space.now.table.shared.key.rows pass.old.kept.rows pass.old.seat.me.0 [] }
         requires tuned { IsTuned space.now.table.shared.key tuning.now }
         requires may { may self.now space.now.table.shared.key }
+        requires known { IsKnown space.now.table.shared.key pass.old.seat.me.0.upper }
         ensures same { IsSame pass.old.seat pass.new.seat }
         ensures number { pass.new.number ≡ pass.old.number }
         ensures tally { IsTallied pass.old.tally pass.old.seat.me.0.upper → IsTallied pass.new.tally pass.new.seat.me.0.upper }
@@ -97,7 +98,12 @@ pub(crate) trait Attempt {
         ensures gone_on { HasGoneOn (edits self.now) space.now.table.shared.key tuning.now adapting.old adapting.new result pass.old.seat.me.0.upper
             pass.new.seat.me.0.upper }
         ensures counted { IsPaid spent.old spent.new pass.old.seat.me pass.new.seat.me }
-        ensures found { HasStopped result pass.old.seat.me pass.new.seat.me };
+        ensures found { HasStopped result pass.old.seat.me pass.new.seat.me }
+        ensures grown { IsAlone space.now.table.shared.key pass.old.seat.me.0.upper → HasGrown space.now.table.shared.key (adds self.now) result
+            pass.old.seat.me.0.upper pass.new.seat.me.0.upper }
+        ensures won { IsAlone space.now.table.shared.key pass.old.seat.me.0.upper → HasWonAs (edits self.now) result pass.old.seat.me.0.upper
+            pass.new.seat.me.0.upper }
+        ensures cut { HasCut (edits self.now) space.now.table.shared.key (adds self.now) result pass.old.seat.me.0.upper pass.new.seat.me.0.upper };
 }
 
 /// The base that has the key, and the key's place among its objects. It is shown to the pass, which has seen the whole history then.
@@ -184,6 +190,7 @@ pub(crate) fn put_there(
         (object_at place (first_note pass.old.seat.me.0.upper.notes).objects) object.now) space.now.table.shared.key result pass.old.seat.me.0.upper
         pass.new.seat.me.0.upper }
     ensures deep { OnOk place (result ≢ Err IsDeep) }
+    ensures no_split { OnOk place (result ≢ Err IsSplit) }
     ensures full { result ≡ Err IsDeep → IsFull space.now.table.shared.key (Some (slice_range object.now key_at key_end))
         pass.new.seat.me.0.upper.last (after pass.new.seat.me.0.upper.seen []) }
     ensures met_as { MeetsAs (λ _. true) adapting.new.last result pass.old.seat.me pass.new.seat.me }
@@ -191,6 +198,12 @@ pub(crate) fn put_there(
         pass.new.seat.me.0.upper }
     ensures counted { IsPaid spent.old spent.new pass.old.seat.me pass.new.seat.me }
     ensures found { HasStopped result pass.old.seat.me pass.new.seat.me }
+    ensures grown { IsAlone space.now.table.shared.key pass.old.seat.me.0.upper → HasGrown space.now.table.shared.key
+        (Some (slice_range object.now key_at key_end)) result pass.old.seat.me.0.upper pass.new.seat.me.0.upper }
+    ensures won { IsAlone space.now.table.shared.key pass.old.seat.me.0.upper → HasWonAs (λ _. true) result pass.old.seat.me.0.upper
+        pass.new.seat.me.0.upper }
+    ensures cut { HasCut (λ _. true) space.now.table.shared.key (Some (slice_range object.now key_at key_end)) result pass.old.seat.me.0.upper
+        pass.new.seat.me.0.upper }
 {
     let many = count(space, pass, cursor.base);
     if !has_room(many, place, tuning.leaf) {
@@ -231,6 +244,7 @@ fn make_room(
 ) -> Stop
     requires own { IsOf space.now.table.shared.table_id space.now.table.shared.key pass.old.seat }
     requires pinned { pass.old.seat.me.0.pin.pinned ≡ true }
+    requires number { 0 < pass.old.seat.me.0.upper.number }
     requires none { AreHeld space.now.table.shared.key.rows pass.old.kept.rows pass.old.seat.me.0 [] }
     requires tuned { IsTuned space.now.table.shared.key tuning.now }
     requires looking { (key : List ℕ) × IsLooking space.now.table.shared.key pass.old.seat.me.0.upper key cursor }
@@ -246,13 +260,19 @@ fn make_room(
     ensures waits { Waits adapting.old adapting.new pass.old.seat.me.0.upper pass.new.seat.me.0.upper }
     ensures counted { IsPaid spent.old spent.new pass.old.seat.me pass.new.seat.me }
     ensures found { HasStopped {T = Unit {0}} (Err result) pass.old.seat.me pass.new.seat.me }
+    ensures grown { (key : List ℕ) → IsLooking space.now.table.shared.key pass.old.seat.me.0.upper key cursor
+        → IsAlone space.now.table.shared.key pass.old.seat.me.0.upper → HasGrown {T = Unit {0}} space.now.table.shared.key (Some key) (Err result)
+        pass.old.seat.me.0.upper pass.new.seat.me.0.upper }
+    ensures won { (key : List ℕ) → IsLooking space.now.table.shared.key pass.old.seat.me.0.upper key cursor
+        → IsAlone space.now.table.shared.key pass.old.seat.me.0.upper → HasWonAs {T = Unit {0}} (λ _. true) (Err result) pass.old.seat.me.0.upper
+        pass.new.seat.me.0.upper }
+    ensures cut { (key : List ℕ) → IsFullFor space.now.table.shared.key (Some key) (first_note pass.old.seat.me.0.upper.notes)
+        → HasCut {T = Unit {0}} (λ _. true) space.now.table.shared.key (Some key) (Err result) pass.old.seat.me.0.upper pass.new.seat.me.0.upper }
 {
     if cursor.level >= tuning.levels {
         return Stop::Deep;
     }
-    // A space is made with no greater one.
-    let attempt = space.starts().attempt.min(LAST_ATTEMPT);
-    let split = split_at(space, pass, cursor, many, attempt, spent);
+    let split = split_at(space, pass, cursor, many, first_attempt(space), spent);
     if is_split(&split) {
         spent.passed = spent.passed.saturating_add(1);
     }
@@ -319,6 +339,11 @@ pub(crate) fn remove_there(
         pass.new.seat.me.0.upper }
     ensures counted { IsPaid spent.old spent.new pass.old.seat.me pass.new.seat.me }
     ensures found { HasStopped result pass.old.seat.me pass.new.seat.me }
+    ensures grown { IsAlone space.now.table.shared.key pass.old.seat.me.0.upper → HasGrown space.now.table.shared.key None result
+        pass.old.seat.me.0.upper pass.new.seat.me.0.upper }
+    ensures won { IsAlone space.now.table.shared.key pass.old.seat.me.0.upper → HasWonAs (λ _. true) result pass.old.seat.me.0.upper
+        pass.new.seat.me.0.upper }
+    ensures cut { HasCut (λ _. true) space.now.table.shared.key None result pass.old.seat.me.0.upper pass.new.seat.me.0.upper }
 {
     let many = count(space, pass, cursor.base);
     let statistic = next_statistic(space, pass, tuning, cursor.base, adapting.lost);

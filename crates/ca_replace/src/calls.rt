@@ -3,10 +3,13 @@ ghost use Rattle.std.specs.Prelude.{◌⊎◌, ◌≡◌, ◌≢◌, ◌↔◌, 
 ghost use Rattle.ca_model.specs.Answer.{IfBusy, IfDone, IfRefused};
 ghost use Rattle.ca_model.specs.History.{after};
 ghost use Rattle.ca_replace.specs.declared.attempting.Stop.TheVariants.{Deep as IsDeep, Empty as IsEmpty, Lost as IsLost, Split as IsSplit};
-ghost use Rattle.ca_node.specs.Told.{with_upper};
+ghost use Rattle.ca_node.specs.Told.{IsAlone, with_upper};
 ghost use Rattle.ca_replace.specs.Attempting.{IsPaid, total, HasAttempted, HasDoneAs, HasMetBy, HasStopped, HasTriedTo, IfDeep, refused_as};
 ghost use Rattle.ca_replace.specs.Adapting.{HasGoneOn, HasMetAs, LeavesAs, MeetsAs};
 ghost use Rattle.ca_replace.specs.Causes.{IfRefusedAs, IsCaused, IsFull, KeepsFew};
+ghost use Rattle.ca_replace.specs.Growing.{GrowsBy, HasGrown, HasGrownSoFar};
+ghost use Rattle.ca_replace.specs.Cutting.{HasCut, HasCutAs, HasCutSoFar};
+ghost use Rattle.ca_replace.specs.Winning.{HasWonAs, WinsAs};
 ghost use Rattle.ca_base.specs.Progress.{IsRefused};
 ghost use Rattle.ca_replace.specs.Refusals.{outcome_of, risen};
 ghost use Rattle.ca_replace.specs.Resting.{IsResting};
@@ -44,6 +47,10 @@ pub(crate) fn call<A: Attempt>(
     ensures few { KeepsFew pass.old.seat.me pass.new.seat.me pass.new.kept.rows }
     ensures met_as { HasMetAs (A.edits what.now) last.new result pass.old.seat.me pass.new.seat.me }
     ensures leaves { LeavesAs (A.edits what.now) tree.now.space.table.shared.key tree.now.tuning last.old last.new result pass.old.seat.me.0.upper
+        pass.new.seat.me.0.upper }
+    ensures grows { tree.now.space.table.shared.key.passes ≡ 1 → GrowsBy (A.adds what.now) pass.old.seat.me.0.upper pass.new.seat.me.0.upper }
+    ensures wins { tree.now.space.table.shared.key.passes ≡ 1 → WinsAs (A.edits what.now) result pass.old.seat.me.0.upper pass.new.seat.me.0.upper }
+    ensures cut { HasCutAs (A.edits what.now) tree.now.space.table.shared.key (A.adds what.now) result pass.old.seat.me.0.upper
         pass.new.seat.me.0.upper }
 {
     let mut spent = Spent {
@@ -111,6 +118,12 @@ fn attempts<A: Attempt>(
     ensures met_as { MeetsAs (A.edits what.now) adapting.new.last result pass.old.seat.me pass.new.seat.me }
     ensures gone_on { HasGoneOn (A.edits what.now) tree.now.space.table.shared.key tree.now.tuning adapting.old adapting.new result pass.old.seat.me.0.upper
         pass.new.seat.me.0.upper }
+    ensures grown { IsAlone tree.now.space.table.shared.key pass.old.seat.me.0.upper → HasGrownSoFar tree.now.space.table.shared.key (A.adds what.now) result
+        pass.old.seat.me.0.upper pass.new.seat.me.0.upper }
+    ensures won { IsAlone tree.now.space.table.shared.key pass.old.seat.me.0.upper → HasWonAs (A.edits what.now) result pass.old.seat.me.0.upper
+        pass.new.seat.me.0.upper }
+    ensures cut { HasCutSoFar (A.edits what.now) tree.now.space.table.shared.key (A.adds what.now) result pass.old.seat.me.0.upper
+        pass.new.seat.me.0.upper }
 {
     loop {
         let kept = pass.kept();
@@ -170,6 +183,12 @@ fn turns<A: Attempt>(
     ensures met_as { MeetsAs (A.edits what.now) adapting.new.last result pass.old.seat.me pass.new.seat.me }
     ensures gone_on { HasGoneOn (A.edits what.now) tree.now.space.table.shared.key tree.now.tuning adapting.old adapting.new result pass.old.seat.me.0.upper
         pass.new.seat.me.0.upper }
+    ensures grown { IsAlone tree.now.space.table.shared.key pass.old.seat.me.0.upper → HasGrownSoFar tree.now.space.table.shared.key (A.adds what.now) result
+        pass.old.seat.me.0.upper pass.new.seat.me.0.upper }
+    ensures won { IsAlone tree.now.space.table.shared.key pass.old.seat.me.0.upper → HasWonAs (A.edits what.now) result pass.old.seat.me.0.upper
+        pass.new.seat.me.0.upper }
+    ensures cut { HasCutSoFar (A.edits what.now) tree.now.space.table.shared.key (A.adds what.now) result pass.old.seat.me.0.upper
+        pass.new.seat.me.0.upper }
     ensures counted { IsPaid spent.old spent.new pass.old.seat.me pass.new.seat.me }
     ensures found { HasMetBy result pass.old.seat.me pass.new.seat.me }
     ensures looks { pass.new.seat.me.0.pin.looks ≡ pass.old.seat.me.0.pin.looks }
@@ -215,6 +234,11 @@ fn once<A: Attempt>(
     ensures met_as { MeetsAs (A.edits what.now) adapting.new.last result pass.old.seat.me pass.new.seat.me }
     ensures gone_on { HasGoneOn (A.edits what.now) tree.now.space.table.shared.key tree.now.tuning adapting.old adapting.new result pass.old.seat.me.0.upper
         pass.new.seat.me.0.upper }
+    ensures grown { IsAlone tree.now.space.table.shared.key pass.old.seat.me.0.upper → HasGrown tree.now.space.table.shared.key (A.adds what.now) result
+        pass.old.seat.me.0.upper pass.new.seat.me.0.upper }
+    ensures won { IsAlone tree.now.space.table.shared.key pass.old.seat.me.0.upper → HasWonAs (A.edits what.now) result pass.old.seat.me.0.upper
+        pass.new.seat.me.0.upper }
+    ensures cut { HasCut (A.edits what.now) tree.now.space.table.shared.key (A.adds what.now) result pass.old.seat.me.0.upper pass.new.seat.me.0.upper }
     ensures counted { IsPaid spent.old spent.new pass.old.seat.me pass.new.seat.me }
     ensures found { HasStopped result pass.old.seat.me pass.new.seat.me }
     ensures looks { pass.new.seat.me.0.pin.looks ≡ pass.old.seat.me.0.pin.looks }

@@ -5,7 +5,10 @@ ghost use Rattle.ca_model.specs.Function.{KeepsKey};
 ghost use Rattle.ca_replace.specs.Attempting.{HasDoneAs};
 ghost use Rattle.ca_base.specs.Progress.{IsRefused};
 ghost use Rattle.ca_replace.specs.Adapting.{HasMetAs, LeavesAs, is_put};
+ghost use Rattle.ca_replace.specs.Growing.{Grows};
+ghost use Rattle.ca_replace.specs.Winning.{WinsAs};
 ghost use Rattle.ca_replace.specs.Causes.{IfRefusedAs, IsCaused, KeepsFew};
+ghost use Rattle.ca_replace.specs.Cutting.{HasCutAs};
 ghost use Rattle.ca_replace.specs.Resting.{IsResting};
 ghost use Rattle.ca_replace.specs.Tells.{Alters};
 
@@ -116,6 +119,9 @@ pub(crate) fn change<F: Fn(&[u8], &mut Code, &mut usize) -> bool>(
     ensures met_as { HasMetAs is_put last.new result pass.old.seat.me pass.new.seat.me }
     ensures leaves { LeavesAs is_put tree.now.space.table.shared.key tree.now.tuning last.old last.new result pass.old.seat.me.0.upper
         pass.new.seat.me.0.upper }
+    ensures grows { tree.now.space.table.shared.key.passes ≡ 1 → Grows 1 3 1 pass.old.seat.me.0.upper pass.new.seat.me.0.upper }
+    ensures wins { tree.now.space.table.shared.key.passes ≡ 1 → WinsAs is_put result pass.old.seat.me.0.upper pass.new.seat.me.0.upper }
+    ensures cut { HasCutAs is_put tree.now.space.table.shared.key None result pass.old.seat.me.0.upper pass.new.seat.me.0.upper }
 {
     let what = ChangeCall { key, f };
     let mut new = Code::new();

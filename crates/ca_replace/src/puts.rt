@@ -6,7 +6,10 @@ ghost use Rattle.ca_model.specs.StoreMap.{IsPair};
 ghost use Rattle.ca_replace.specs.Attempting.{HasKeyAt};
 ghost use Rattle.ca_base.specs.Progress.{HasDone, IsRefused};
 ghost use Rattle.ca_replace.specs.Adapting.{HasMetAs, LeavesAs};
+ghost use Rattle.ca_replace.specs.Growing.{Grows};
+ghost use Rattle.ca_replace.specs.Winning.{WinsAs};
 ghost use Rattle.ca_replace.specs.Causes.{IfRefusedAs, IsCaused, KeepsFew};
+ghost use Rattle.ca_replace.specs.Cutting.{HasCutAs};
 ghost use Rattle.ca_replace.specs.Resting.{IsResting};
 
 use crate::adapting::{Adapting, Last};
@@ -138,6 +141,10 @@ pub(crate) fn put(
     ensures met_as { HasMetAs (λ _. true) last.new result pass.old.seat.me pass.new.seat.me }
     ensures leaves { LeavesAs (λ _. true) tree.now.space.table.shared.key tree.now.tuning last.old last.new result pass.old.seat.me.0.upper
         pass.new.seat.me.0.upper }
+    ensures grows { tree.now.space.table.shared.key.passes ≡ 1 → Grows 2 5 2 pass.old.seat.me.0.upper pass.new.seat.me.0.upper }
+    ensures wins { tree.now.space.table.shared.key.passes ≡ 1 → WinsAs (λ _. true) result pass.old.seat.me.0.upper pass.new.seat.me.0.upper }
+    ensures cut { HasCutAs (λ _. true) tree.now.space.table.shared.key (Some (slice_range object.now key_at key_end)) result pass.old.seat.me.0.upper
+        pass.new.seat.me.0.upper }
 {
     let what = PutCall {
         object,
@@ -173,6 +180,10 @@ pub(crate) fn put_new(
     ensures few { KeepsFew pass.old.seat.me pass.new.seat.me pass.new.kept.rows }
     ensures met_as { HasMetAs (λ new. new) last.new result pass.old.seat.me pass.new.seat.me }
     ensures leaves { LeavesAs (λ new. new) tree.now.space.table.shared.key tree.now.tuning last.old last.new result pass.old.seat.me.0.upper
+        pass.new.seat.me.0.upper }
+    ensures grows { tree.now.space.table.shared.key.passes ≡ 1 → Grows 2 5 2 pass.old.seat.me.0.upper pass.new.seat.me.0.upper }
+    ensures wins { tree.now.space.table.shared.key.passes ≡ 1 → WinsAs (λ new. new) result pass.old.seat.me.0.upper pass.new.seat.me.0.upper }
+    ensures cut { HasCutAs (λ new. new) tree.now.space.table.shared.key (Some (slice_range object.now key_at key_end)) result pass.old.seat.me.0.upper
         pass.new.seat.me.0.upper }
 {
     let what = PutNewCall {

@@ -5,7 +5,10 @@ ghost use Rattle.ca_model.specs.Function.{MayBeAskedFor};
 ghost use Rattle.ca_replace.specs.Attempting.{HasDoneAs};
 ghost use Rattle.ca_base.specs.Progress.{IsRefused};
 ghost use Rattle.ca_replace.specs.Adapting.{HasMetAs, LeavesAs, is_put};
+ghost use Rattle.ca_replace.specs.Growing.{Grows};
+ghost use Rattle.ca_replace.specs.Winning.{WinsAs};
 ghost use Rattle.ca_replace.specs.Causes.{IfRefusedAs, IsCaused, KeepsFew};
+ghost use Rattle.ca_replace.specs.Cutting.{HasCutAs};
 ghost use Rattle.ca_replace.specs.Resting.{IsResting};
 ghost use Rattle.ca_replace.specs.Tells.{Removes, RemovesIf};
 
@@ -87,6 +90,9 @@ pub(crate) fn remove(
     ensures met_as { HasMetAs (λ was. was) last.new result pass.old.seat.me pass.new.seat.me }
     ensures leaves { LeavesAs (λ was. was) tree.now.space.table.shared.key tree.now.tuning last.old last.new result pass.old.seat.me.0.upper
         pass.new.seat.me.0.upper }
+    ensures grows { tree.now.space.table.shared.key.passes ≡ 1 → Grows 1 3 1 pass.old.seat.me.0.upper pass.new.seat.me.0.upper }
+    ensures wins { tree.now.space.table.shared.key.passes ≡ 1 → WinsAs (λ was. was) result pass.old.seat.me.0.upper pass.new.seat.me.0.upper }
+    ensures cut { HasCutAs (λ was. was) tree.now.space.table.shared.key None result pass.old.seat.me.0.upper pass.new.seat.me.0.upper }
 {
     let what = RemoveCall { key };
     let outcome = call(tree, pass, &what, &mut *old, &mut (), last, budget);
@@ -171,6 +177,9 @@ pub(crate) fn remove_if<F: Fn(&[u8]) -> bool>(
     ensures met_as { HasMetAs is_put last.new result pass.old.seat.me pass.new.seat.me }
     ensures leaves { LeavesAs is_put tree.now.space.table.shared.key tree.now.tuning last.old last.new result pass.old.seat.me.0.upper
         pass.new.seat.me.0.upper }
+    ensures grows { tree.now.space.table.shared.key.passes ≡ 1 → Grows 1 3 1 pass.old.seat.me.0.upper pass.new.seat.me.0.upper }
+    ensures wins { tree.now.space.table.shared.key.passes ≡ 1 → WinsAs is_put result pass.old.seat.me.0.upper pass.new.seat.me.0.upper }
+    ensures cut { HasCutAs is_put tree.now.space.table.shared.key None result pass.old.seat.me.0.upper pass.new.seat.me.0.upper }
 {
     let what = RemoveIfCall { key, f };
     let outcome = call(tree, pass, &what, &mut *old, &mut (), last, budget);

@@ -7,7 +7,10 @@ ghost use Rattle.ca_model.specs.Function.{KeepsKey, MayBeAskedFor};
 ghost use Rattle.ca_model.specs.Known.{Declines, Meets, Stays};
 ghost use Rattle.ca_model.specs.StoreMap.{IsPair};
 ghost use Rattle.ca_replace.specs.Adapting.{HasMetAs, LeavesAs, is_put};
+ghost use Rattle.ca_replace.specs.Growing.{Grows, IsSameTree};
+ghost use Rattle.ca_replace.specs.Winning.{WinsAs};
 ghost use Rattle.ca_replace.specs.Causes.{HasCause, IsSparing};
+ghost use Rattle.ca_replace.specs.Cutting.{HasCutAs};
 ghost use Rattle.ca_replace.specs.Resting.{IsResting, knows};
 ghost use Rattle.ca_term.specs.declared.bounds.TheConstants.{MOST_CODE_BYTES};
 
@@ -24,6 +27,10 @@ use std::marker::Model;
 
 /// A pass on a tree, as a store of the tree's map. Between two calls it isn't pinned. Contracts see the tree's table, the pass, and what is kept of
 /// its last update.
+///
+/// A call that may add a key splits each full base that it meets, and then looks anew; behind its update it splits the new base, where its statistic
+/// says so. On a tree for one pass a call splits at most one base before its update and one behind it, so the tree grows by at most five linked rows,
+/// two of them bases.
 pub struct TreeStore<'t> {
     tree: &'t Tree,
     pass: TreePass,
@@ -125,7 +132,7 @@ impl TreeStore<'_> {
         ensures closed { (knows self.new).run ≡ None }
         ensures tree { (self.new.table ≡ self.old.table) × (self.new.z ≡ self.old.z) }
         ensures tuning { self.new.tuning ≡ self.old.tuning }
-        ensures last { (self.new.last ≡ self.old.last) × (self.new.seat.me.0.upper.splits ≡ self.old.seat.me.0.upper.splits) }
+        ensures last { (self.new.last ≡ self.old.last) × IsSameTree self.old.seat.me.0.upper self.new.seat.me.0.upper }
         ensures number { self.new.number ≡ self.old.number }
         ensures sparing { IsSparing self.old self.new }
     {
@@ -156,6 +163,9 @@ impl TreeStore<'_> {
         ensures closed { (knows self.new).run ≡ None }
         ensures met_as { HasMetAs (λ _. true) self.new.last result self.old.seat.me self.new.seat.me }
         ensures adapted { LeavesAs (λ _. true) self.old.z self.old.tuning self.old.last self.new.last result self.old.seat.me.0.upper self.new.seat.me.0.upper }
+        ensures grows { self.old.z.passes ≡ 1 → Grows 2 5 2 self.old.seat.me.0.upper self.new.seat.me.0.upper }
+        ensures wins { self.old.z.passes ≡ 1 → WinsAs (λ _. true) result self.old.seat.me.0.upper self.new.seat.me.0.upper }
+        ensures cut { HasCutAs (λ _. true) self.old.z (Some (slice_range object.now key_at key_end)) result self.old.seat.me.0.upper self.new.seat.me.0.upper }
         ensures tree { (self.new.table ≡ self.old.table) × (self.new.z ≡ self.old.z) }
         ensures tuning { self.new.tuning ≡ self.old.tuning }
         ensures number { self.new.number ≡ self.old.number }
@@ -194,6 +204,9 @@ impl TreeStore<'_> {
         ensures closed { (knows self.new).run ≡ None }
         ensures met_as { HasMetAs (λ new. new) self.new.last result self.old.seat.me self.new.seat.me }
         ensures adapted { LeavesAs (λ new. new) self.old.z self.old.tuning self.old.last self.new.last result self.old.seat.me.0.upper self.new.seat.me.0.upper }
+        ensures grows { self.old.z.passes ≡ 1 → Grows 2 5 2 self.old.seat.me.0.upper self.new.seat.me.0.upper }
+        ensures wins { self.old.z.passes ≡ 1 → WinsAs (λ new. new) result self.old.seat.me.0.upper self.new.seat.me.0.upper }
+        ensures cut { HasCutAs (λ new. new) self.old.z (Some (slice_range object.now key_at key_end)) result self.old.seat.me.0.upper self.new.seat.me.0.upper }
         ensures tree { (self.new.table ≡ self.old.table) × (self.new.z ≡ self.old.z) }
         ensures tuning { self.new.tuning ≡ self.old.tuning }
         ensures number { self.new.number ≡ self.old.number }
@@ -225,6 +238,9 @@ impl TreeStore<'_> {
         ensures closed { (knows self.new).run ≡ None }
         ensures met_as { HasMetAs (λ was. was) self.new.last result self.old.seat.me self.new.seat.me }
         ensures adapted { LeavesAs (λ was. was) self.old.z self.old.tuning self.old.last self.new.last result self.old.seat.me.0.upper self.new.seat.me.0.upper }
+        ensures grows { self.old.z.passes ≡ 1 → Grows 1 3 1 self.old.seat.me.0.upper self.new.seat.me.0.upper }
+        ensures wins { self.old.z.passes ≡ 1 → WinsAs (λ was. was) result self.old.seat.me.0.upper self.new.seat.me.0.upper }
+        ensures cut { HasCutAs (λ was. was) self.old.z None result self.old.seat.me.0.upper self.new.seat.me.0.upper }
         ensures tree { (self.new.table ≡ self.old.table) × (self.new.z ≡ self.old.z) }
         ensures tuning { self.new.tuning ≡ self.old.tuning }
         ensures number { self.new.number ≡ self.old.number }
@@ -256,6 +272,9 @@ impl TreeStore<'_> {
         ensures closed { (knows self.new).run ≡ None }
         ensures met_as { HasMetAs is_put self.new.last result self.old.seat.me self.new.seat.me }
         ensures adapted { LeavesAs is_put self.old.z self.old.tuning self.old.last self.new.last result self.old.seat.me.0.upper self.new.seat.me.0.upper }
+        ensures grows { self.old.z.passes ≡ 1 → Grows 1 3 1 self.old.seat.me.0.upper self.new.seat.me.0.upper }
+        ensures wins { self.old.z.passes ≡ 1 → WinsAs is_put result self.old.seat.me.0.upper self.new.seat.me.0.upper }
+        ensures cut { HasCutAs is_put self.old.z None result self.old.seat.me.0.upper self.new.seat.me.0.upper }
         ensures tree { (self.new.table ≡ self.old.table) × (self.new.z ≡ self.old.z) }
         ensures tuning { self.new.tuning ≡ self.old.tuning }
         ensures number { self.new.number ≡ self.old.number }
@@ -297,6 +316,9 @@ impl TreeStore<'_> {
         ensures closed { (knows self.new).run ≡ None }
         ensures met_as { HasMetAs is_put self.new.last result self.old.seat.me self.new.seat.me }
         ensures adapted { LeavesAs is_put self.old.z self.old.tuning self.old.last self.new.last result self.old.seat.me.0.upper self.new.seat.me.0.upper }
+        ensures grows { self.old.z.passes ≡ 1 → Grows 1 3 1 self.old.seat.me.0.upper self.new.seat.me.0.upper }
+        ensures wins { self.old.z.passes ≡ 1 → WinsAs is_put result self.old.seat.me.0.upper self.new.seat.me.0.upper }
+        ensures cut { HasCutAs is_put self.old.z None result self.old.seat.me.0.upper self.new.seat.me.0.upper }
         ensures tree { (self.new.table ≡ self.old.table) × (self.new.z ≡ self.old.z) }
         ensures tuning { self.new.tuning ≡ self.old.tuning }
         ensures number { self.new.number ≡ self.old.number }
@@ -316,7 +338,7 @@ impl TreeStore<'_> {
     pub fn front(&mut self) -> Front
         ensures tree { (self.new.table ≡ self.old.table) × (self.new.z ≡ self.old.z) }
         ensures tuning { self.new.tuning ≡ self.old.tuning }
-        ensures last { (self.new.last ≡ self.old.last) × (self.new.seat.me.0.upper.splits ≡ self.old.seat.me.0.upper.splits) }
+        ensures last { (self.new.last ≡ self.old.last) × IsSameTree self.old.seat.me.0.upper self.new.seat.me.0.upper }
         ensures pass { (self.new.number ≡ self.old.number) × (self.new.kept ≡ self.old.kept) × (self.new.seat.me ≡ self.old.seat.me) }
         ensures table { result.half.seat.table_id ≡ self.old.table }
         ensures seen { result.half.seat.me.0.upper.seen ≡ self.old.seat.me.0.upper.seen }
@@ -331,7 +353,7 @@ impl TreeStore<'_> {
         requires table { front.half.seat.table_id ≡ self.old.table }
         ensures tree { (self.new.table ≡ self.old.table) × (self.new.z ≡ self.old.z) }
         ensures tuning { self.new.tuning ≡ self.old.tuning }
-        ensures last { (self.new.last ≡ self.old.last) × (self.new.seat.me.0.upper.splits ≡ self.old.seat.me.0.upper.splits) }
+        ensures last { (self.new.last ≡ self.old.last) × IsSameTree self.old.seat.me.0.upper self.new.seat.me.0.upper }
         ensures number { self.new.number ≡ self.old.number }
         ensures sparing { IsSparing self.old self.new }
         ensures log { self.new.seat.me.0.upper.log ≡ self.old.seat.me.0.upper.log }

@@ -5,6 +5,7 @@ use Rattle.ca_node.specs.Told.{IsBaseNote}
 use Rattle.ca_node.specs.TreeView.{TreeView}
 use Rattle.ca_base.specs.Finding.{IsAtCursor}
 use Rattle.ca_base.specs.Putting.{gone, IsShownLast, first_note, last_items}
+use Rattle.ca_base.proofs.Alone.{won_then}
 use Rattle.ca_base.proofs.Readying.{place_in, many_are, few_are, spells_there}
 use Rattle.ca_base.proofs.TakingOut.{ready_without, removed, renewed_without}
 use Rattle.ca_base.proofs.Unlinking.{written_row}
@@ -90,3 +91,8 @@ pub returns-clause-tally : goal.returns-clause-tally
 returns-clause-tally c h = c.swap_in.ensures.tally (tallied_as c.args.pass.now.tally c.write_base_without-old.new.pass.tally
     c.args.pass.now.seat.me.0.upper c.write_base_without-old.new.pass.seat.me.0.upper
     (c.write_base_without-old.ensures.tally ∙ c.take.ensures.tally) (c.write_base_without-old.ensures.same.4 ∙ c.take.ensures.same.4) h)
+
+pub returns-clause-won : goal.returns-clause-won
+returns-clause-won c alone listed = won_then c.args.space.now.table.shared.key c.args.pass.now.seat.me.0.upper
+    c.write_base_without-old.new.pass.seat.me.0.upper c.swap_in.result
+    (c.write_base_without-old.ensures.same.4 ∙ c.take.ensures.same.4) c.swap_in.ensures.won alone listed _ refl

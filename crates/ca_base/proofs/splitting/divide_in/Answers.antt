@@ -1,5 +1,6 @@
 use Rattle.std.proofs.Common.{[], ◌∷◌, refl, true, false}
 use Rattle.ca_node.specs.Laws.{in_nothing}
+use Rattle.ca_base.proofs.Alone.{not_missed}
 use Rattle.ca_base.proofs.Divisions.{divided_rows}
 use Rattle.ca_base.proofs.Unlinking.{held_still, none_left}
 use Rattle.ca_base.proofs.Tallies.{tallied_division}
@@ -36,3 +37,7 @@ pub returns-clause-tally : goal.returns-clause-tally
 returns-clause-tally g c = tallied_division true g.K.Plan.division c.args.pass.now.seat.me c.divide_base.new.pass.seat.me
     c.retire_unlinked.new.pass.seat.me.0.upper c.args.pass.now.tally c.divide_base.new.pass.tally c.retire_unlinked.new.pass.tally
     c.if-not-divide_base.ensures.done c.if-not-divide_base.ensures.tally c.retire_unlinked.ensures.same.4 c.retire_unlinked.ensures.tally
+
+pub returns-then-not-divide_base-clause-won : goal.returns-then-not-divide_base-clause-won
+returns-then-not-divide_base-clause-won g c alone listed _ = not_missed c.args.space.now.table.shared.key c.args.pass.now.seat.me g.K.Plan.division.old
+    c.requires.own.1 c.args.space.now.few.0 (c.if-not-divide_base.ensures.won refl) alone listed

@@ -6,6 +6,7 @@ use Rattle.ca_base.specs.Putting.{first_note, last_items}
 use Rattle.ca_base.specs.Splitting.{SpellsRoute}
 use Rattle.ca_base.specs.Taking.{AreHeld}
 use Rattle.ca_base.specs.Writing.{IsRewritten, SpellsBase}
+use Rattle.ca_base.proofs.Alone.{won_then}
 use Rattle.ca_base.proofs.Divisions.{three_apart, last_readable, divides_of}
 use Rattle.ca_base.proofs.SplitKeys.{short_key}
 use Rattle.ca_base.proofs.Unlinking.{written_row}
@@ -82,6 +83,7 @@ divide_in-requires-clause-division c = let r = c.requires in let u = c.args.pass
           (c.deref.ensures.0 ∙ c.copy_key.ensures.key its shown) over.1;
       short = short_key its told.long;
       is_pinned = r.pinned;
+      is_pass = r.number;
       upper = four.4 ∙ (ap (λ (m : MyTree). m.0.upper) still ∙ upper);
       pin = four.3 ∙ (ap (λ (m : MyTree). m.0.pin) still ∙ (three.3 ∙ (two.3 ∙ one.3)));
     }
@@ -107,3 +109,9 @@ returns-clause-tally c h = let still = c.copy_key.ensures.still ∙ c.item-first
     ∙ (c.write_half-2.ensures.tally ∙ (c.write_half.ensures.tally ∙ c.take_three.ensures.tally)))))
     (c.write_route.ensures.same.4 ∙ (ap (λ (m : MyTree). m.0.upper) still
     ∙ (c.write_half-2.ensures.same.4 ∙ (c.write_half.ensures.same.4 ∙ c.take_three.ensures.same.4)))) h)
+
+pub returns-clause-won : goal.returns-clause-won
+returns-clause-won c alone listed = let still = c.copy_key.ensures.still ∙ c.item-first.ensures.still in
+    won_then c.args.space.now.table.shared.key c.args.pass.now.seat.me.0.upper c.write_route.new.pass.seat.me.0.upper c.divide_in.result
+    (c.write_route.ensures.same.4 ∙ (ap (λ (m : MyTree). m.0.upper) still
+    ∙ (c.write_half-2.ensures.same.4 ∙ (c.write_half.ensures.same.4 ∙ c.take_three.ensures.same.4)))) c.divide_in.ensures.won alone listed _ refl

@@ -1,5 +1,6 @@
-use Rattle.std.proofs.Common.{ℕ, List, ◌∷◌, sym, ap, subst, ◌∙◌, true, false}
+use Rattle.std.proofs.Common.{◌≤◌, length, ℕ, List, ◌∷◌, sym, refl, ap, subst, ◌∙◌, true, false}
 use Rattle.ca_base.specs.Counting.{losses}
+use Rattle.ca_base.proofs.Alone.{not_missed}
 use Rattle.ca_base.proofs.Counts.{none_spent}
 use Rattle.ca_base.specs.Taking.{HasHeld}
 use Rattle.ca_base.proofs.Renewing.{renewed, placed}
@@ -50,7 +51,8 @@ returns-clause-renewed g c = renewed c.args.space.now.table.shared.key c.args.pa
     c.requires.update c.requires.old_base
     (subst (λ (xs : List ℕ). HasHeld c.args.space.now.table.shared.key.rows c.args.pass.now.kept.rows c.args.pass.now.seat.me.0.claims (c.args.new ∷ xs))
     (sym c.requires.rows.0) c.requires.held.0)
-    c.replace_base.new.pass.seat.me c.retire_all.new.pass.seat.me.0.upper c.if-not-replace_base.ensures.done
+    c.replace_base.new.pass.seat.me c.retire_all.new.pass.seat.me.0.upper
+    (subst (λ (xs : List ℕ). length xs ≤ 1) (sym c.requires.rows.0) c.requires.few) c.if-not-replace_base.ensures.done
     (c.retire_all.ensures.same.4 ∙ c.retire_unlinked.ensures.same.4)
 
 pub returns-clause-placed : goal.returns-clause-placed
@@ -72,3 +74,7 @@ returns-clause-tally g c = tallied_update true c.args.new g.K.Intent.update c.ar
     c.retire_all.new.pass.seat.me.0.upper c.args.pass.now.tally c.retire_all.new.pass.tally c.if-not-replace_base.ensures.done
     (c.retire_all.ensures.same.4 ∙ c.retire_unlinked.ensures.same.4)
     (c.retire_all.ensures.tally ∙ (c.retire_unlinked.ensures.tally ∙ c.replace_base.ensures.tally))
+
+pub returns-then-not-replace_base-clause-won : goal.returns-then-not-replace_base-clause-won
+returns-then-not-replace_base-clause-won g c alone listed _ = not_missed c.args.space.now.table.shared.key c.args.pass.now.seat.me g.K.Intent.update.old
+    c.requires.own.1 c.args.space.now.few.0 (c.if-not-replace_base.ensures.won refl) alone listed

@@ -5,6 +5,7 @@ use Rattle.ca_node.specs.Told.{IsBaseNote}
 use Rattle.ca_node.specs.TreeView.{TreeView}
 use Rattle.ca_base.specs.Finding.{IsAtCursor}
 use Rattle.ca_base.specs.Putting.{put_in, gone, IsRoom, IsShownLast, first_note, last_items}
+use Rattle.ca_base.proofs.Alone.{won_then}
 use Rattle.ca_base.proofs.Readying.{finds_place, place_in, many_are, few_are, spells_there, ready, tried, renewed_so}
 use Rattle.ca_base.proofs.Rest.{two_apart, gone_apart}
 use Rattle.ca_base.proofs.Unlinking.{written_row}
@@ -119,3 +120,8 @@ returns-clause-tally c h = c.swap_in.ensures.tally (tallied_as c.args.pass.now.t
     c.write_base_with-old.new.pass.seat.me.0.upper
     (c.write_base_with-old.ensures.tally ∙ (c.write_object.ensures.tally ∙ c.take_two.ensures.tally))
     (c.write_base_with-old.ensures.same.4 ∙ (c.write_object.ensures.same.4 ∙ c.take_two.ensures.same.4)) h)
+
+pub returns-clause-won : goal.returns-clause-won
+returns-clause-won c alone listed = won_then c.args.space.now.table.shared.key c.args.pass.now.seat.me.0.upper
+    c.write_base_with-old.new.pass.seat.me.0.upper c.swap_in.result
+    (c.write_base_with-old.ensures.same.4 ∙ (c.write_object.ensures.same.4 ∙ c.take_two.ensures.same.4)) c.swap_in.ensures.won alone listed _ refl

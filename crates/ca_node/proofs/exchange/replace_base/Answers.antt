@@ -1,6 +1,6 @@
 use Rattle.std.proofs.Common.{Bool, refl, inl, sym, subst}
 use Rattle.ca_node.specs.Told.{HasUpdated, link_word}
-use Rattle.ca_node.proofs.Updating.{was_shown, updates_from, has_updated}
+use Rattle.ca_node.proofs.Updating.{was_shown, updates_from, has_updated, missed_update}
 use Rattle.ca_node.proofs.exchange.replace_base.Goals as goal
 
 pub replace_link-requires-clause-rule : goal.replace_link-requires-clause-rule
@@ -23,3 +23,8 @@ returns-clause-done g c = let told = c.replace_link.ensures.told in
     subst (λ (b : Bool). HasUpdated b c.args.new g.K.Intent.update c.args.pass.now.seat.me c.replace_link.new.pass.seat.me) (sym told.2)
     (has_updated told.0 (link_word c.args.link) c.args.old c.args.new g.K.Intent.update c.args.pass.now.seat.me c.replace_link.new.pass.seat.me
     c.args.space.now.table.shared.table_id.slots told.1)
+
+pub returns-clause-won : goal.returns-clause-won
+returns-clause-won g c lost = let told = c.replace_link.ensures.told in
+    missed_update told.0 (link_word c.args.link) c.args.old c.args.new g.K.Intent.update c.args.pass.now.seat.me c.replace_link.new.pass.seat.me
+    c.args.space.now.table.shared.table_id.slots c.replace_link.result told.1 told.2 lost

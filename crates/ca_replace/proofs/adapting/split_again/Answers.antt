@@ -1,4 +1,4 @@
-use Rattle.std.proofs.Common.{[], refl, arith}
+use Rattle.std.proofs.Common.{[], refl, inl, arith}
 use Rattle.ca_base.specs.Putting.{first_note}
 use Rattle.ca_node.specs.declared.cursor.Spot.TheVariants as spot
 use Rattle.ca_replace.proofs.Counted.{none_paid}
@@ -7,6 +7,9 @@ use Rattle.ca_replace.proofs.GoingOn.{come_splits, led_elsewhere, led_there, pai
 use Rattle.ca_replace.proofs.Tallies.{tallied_walk}
 use Rattle.ca_replace.proofs.Showing.{looking, walked_further, walked_quiet}
 use Rattle.ca_replace.proofs.DueCauses.{split_met}
+use Rattle.ca_replace.proofs.Growing.{alone_on, due_grows}
+use Rattle.ca_replace.proofs.Cutting.{due_there}
+use Rattle.ca_replace.proofs.Winning.{comes_there, due_won}
 use Rattle.ca_replace.proofs.adapting.split_again.Goals as goal
 
 pub try_split-adapted-requires-clause-readable : goal.try_split-adapted-requires-clause-readable
@@ -72,7 +75,8 @@ returns-then-was_split-clause-counted c = paid_cut c.args.spent.now c.try_split-
     (walked_quiet c.args.space.now.table.shared.key (spot.At c.args.key) c.args.pass.now.seat.me c.walk-cursor.new.pass.seat.me c.walk-cursor.result
     c.walk-cursor.ensures.walked) c.try_split-adapted.ensures.counted
     ((come_splits c.args.space.now.table.shared.key (first_note c.walk-cursor.new.pass.seat.me.0.upper.notes) c.try_split-adapted.result
-    c.walk-cursor.new.pass.seat.me c.try_split-adapted.new.pass.seat.me c.try_split-adapted.ensures.split).0 (c.if-was_split.ensures.0 refl)) c.saturating_add-spent.ensures
+    c.walk-cursor.new.pass.seat.me c.try_split-adapted.new.pass.seat.me c.try_split-adapted.ensures.split).0 (c.if-was_split.ensures.0 refl))
+    c.saturating_add-spent.ensures
 
 pub returns-else-was_split-clause-counted : goal.returns-else-was_split-clause-counted
 returns-else-was_split-clause-counted c = paid_still c.args.spent.now c.try_split-adapted.new.spent c.args.pass.now.seat.me
@@ -88,12 +92,14 @@ returns-then-cursor-placed-clause-tally c h = tallied_walk c.args.space.now.tabl
     c.walk-cursor.ensures.tally h
 
 pub returns-then-was_split-clause-tally : goal.returns-then-was_split-clause-tally
-returns-then-was_split-clause-tally c h = c.try_split-adapted.ensures.tally (tallied_walk c.args.space.now.table.shared.key (spot.At c.args.key) c.args.pass.now.seat.me
+returns-then-was_split-clause-tally c h = c.try_split-adapted.ensures.tally (tallied_walk c.args.space.now.table.shared.key (spot.At c.args.key)
+    c.args.pass.now.seat.me
     c.walk-cursor.new.pass.seat.me c.walk-cursor.result c.args.pass.now.tally c.walk-cursor.new.pass.tally c.walk-cursor.ensures.walked
     c.walk-cursor.ensures.tally h)
 
 pub returns-else-was_split-clause-tally : goal.returns-else-was_split-clause-tally
-returns-else-was_split-clause-tally c h = c.try_split-adapted.ensures.tally (tallied_walk c.args.space.now.table.shared.key (spot.At c.args.key) c.args.pass.now.seat.me
+returns-else-was_split-clause-tally c h = c.try_split-adapted.ensures.tally (tallied_walk c.args.space.now.table.shared.key (spot.At c.args.key)
+    c.args.pass.now.seat.me
     c.walk-cursor.new.pass.seat.me c.walk-cursor.result c.args.pass.now.tally c.walk-cursor.new.pass.tally c.walk-cursor.ensures.walked
     c.walk-cursor.ensures.tally h)
 
@@ -108,3 +114,67 @@ returns-else-was_split-clause-met c = split_met c.args.space.now.table.shared.ke
     c.try_split-adapted.result c.args.pass.now.seat.me c.walk-cursor.new.pass.seat.me c.try_split-adapted.new.pass.seat.me
     (walked_quiet c.args.space.now.table.shared.key (spot.At c.args.key) c.args.pass.now.seat.me c.walk-cursor.new.pass.seat.me c.walk-cursor.result
     c.walk-cursor.ensures.walked) c.try_split-adapted.ensures.split
+
+pub returns-then-was_split-clause-grows : goal.returns-then-was_split-clause-grows
+returns-then-was_split-clause-grows c alone = let most = c.requires.tuned.allowed.most_leaf in let same = c.requires.tuned.leaf in
+    let z = c.args.space.now.table.shared.key in
+    let quiet = walked_quiet z (spot.At c.args.key) c.args.pass.now.seat.me c.walk-cursor.new.pass.seat.me c.walk-cursor.result c.walk-cursor.ensures.walked in
+    let further = walked_further z (spot.At c.args.key) c.args.pass.now.seat.me c.walk-cursor.new.pass.seat.me c.walk-cursor.result
+    c.walk-cursor.ensures.walked in
+    let l = looking z c.args.key c.args.pass.now.seat.me c.walk-cursor.new.pass.seat.me c.walk-cursor.result c.walk-cursor.ensures.walked (omega arith) in
+    due_grows z c.try_split-adapted.result c.args.pass.now.seat.me c.walk-cursor.new.pass.seat.me c.try_split-adapted.new.pass.seat.me
+    (l.listed (alone_on z c.args.pass.now.seat.me.0.upper c.walk-cursor.new.pass.seat.me.0.upper further.number alone))
+    (quiet.splits_are, quiet.same_inventory) c.try_split-adapted.ensures.split
+
+pub returns-else-was_split-clause-grows : goal.returns-else-was_split-clause-grows
+returns-else-was_split-clause-grows c alone = let most = c.requires.tuned.allowed.most_leaf in let same = c.requires.tuned.leaf in
+    let z = c.args.space.now.table.shared.key in
+    let quiet = walked_quiet z (spot.At c.args.key) c.args.pass.now.seat.me c.walk-cursor.new.pass.seat.me c.walk-cursor.result c.walk-cursor.ensures.walked in
+    let further = walked_further z (spot.At c.args.key) c.args.pass.now.seat.me c.walk-cursor.new.pass.seat.me c.walk-cursor.result
+    c.walk-cursor.ensures.walked in
+    let l = looking z c.args.key c.args.pass.now.seat.me c.walk-cursor.new.pass.seat.me c.walk-cursor.result c.walk-cursor.ensures.walked (omega arith) in
+    due_grows z c.try_split-adapted.result c.args.pass.now.seat.me c.walk-cursor.new.pass.seat.me c.try_split-adapted.new.pass.seat.me
+    (l.listed (alone_on z c.args.pass.now.seat.me.0.upper c.walk-cursor.new.pass.seat.me.0.upper further.number alone))
+    (quiet.splits_are, quiet.same_inventory) c.try_split-adapted.ensures.split
+
+pub returns-then-cursor-placed-clause-cut : goal.returns-then-cursor-placed-clause-cut
+returns-then-cursor-placed-clause-cut c = inl (walked_quiet c.args.space.now.table.shared.key (spot.At c.args.key) c.args.pass.now.seat.me
+    c.walk-cursor.new.pass.seat.me c.walk-cursor.result c.walk-cursor.ensures.walked).same_cuts
+
+pub returns-then-was_split-clause-cut : goal.returns-then-was_split-clause-cut
+returns-then-was_split-clause-cut c = let most = c.requires.tuned.allowed.most_leaf in let same = c.requires.tuned.leaf in
+    due_there c.args.space.now.table.shared.key c.args.key c.args.placed c.args.pass.now.seat.me c.walk-cursor.new.pass.seat.me
+    c.try_split-adapted.new.pass.seat.me c.walk-cursor.result c.try_split-adapted.result c.requires.placed c.walk-cursor.ensures.walked (omega arith)
+    (c.if-cursor-placed.false) c.try_split-adapted.ensures.split
+
+pub returns-else-was_split-clause-cut : goal.returns-else-was_split-clause-cut
+returns-else-was_split-clause-cut c = let most = c.requires.tuned.allowed.most_leaf in let same = c.requires.tuned.leaf in
+    due_there c.args.space.now.table.shared.key c.args.key c.args.placed c.args.pass.now.seat.me c.walk-cursor.new.pass.seat.me
+    c.try_split-adapted.new.pass.seat.me c.walk-cursor.result c.try_split-adapted.result c.requires.placed c.walk-cursor.ensures.walked (omega arith)
+    (c.if-cursor-placed.false) c.try_split-adapted.ensures.split
+
+pub returns-then-cursor-placed-clause-won : goal.returns-then-cursor-placed-clause-won
+returns-then-cursor-placed-clause-won c alone = absurd (c.if-cursor-placed.true (comes_there c.args.space.now.table.shared.key c.args.key c.args.placed
+    c.args.pass.now.seat.me c.walk-cursor.new.pass.seat.me c.walk-cursor.result c.requires.placed c.walk-cursor.ensures.walked alone))
+
+pub returns-then-was_split-clause-won : goal.returns-then-was_split-clause-won
+returns-then-was_split-clause-won c alone = let most = c.requires.tuned.allowed.most_leaf in let same = c.requires.tuned.leaf in
+    let z = c.args.space.now.table.shared.key in
+    let further = walked_further z (spot.At c.args.key) c.args.pass.now.seat.me c.walk-cursor.new.pass.seat.me c.walk-cursor.result
+    c.walk-cursor.ensures.walked in
+    let l = looking z c.args.key c.args.pass.now.seat.me c.walk-cursor.new.pass.seat.me c.walk-cursor.result c.walk-cursor.ensures.walked (omega arith) in
+    let here = alone_on z c.args.pass.now.seat.me.0.upper c.walk-cursor.new.pass.seat.me.0.upper further.number alone in
+    due_won z c.args.key c.args.placed c.args.pass.now.seat.me c.walk-cursor.new.pass.seat.me c.try_split-adapted.new.pass.seat.me c.walk-cursor.result
+    c.try_split-adapted.result c.requires.placed c.walk-cursor.ensures.walked (c.if-cursor-placed.false) c.try_split-adapted.ensures.split
+    (c.try_split-adapted.ensures.won here (l.listed here))
+
+pub returns-else-was_split-clause-won : goal.returns-else-was_split-clause-won
+returns-else-was_split-clause-won c alone = let most = c.requires.tuned.allowed.most_leaf in let same = c.requires.tuned.leaf in
+    let z = c.args.space.now.table.shared.key in
+    let further = walked_further z (spot.At c.args.key) c.args.pass.now.seat.me c.walk-cursor.new.pass.seat.me c.walk-cursor.result
+    c.walk-cursor.ensures.walked in
+    let l = looking z c.args.key c.args.pass.now.seat.me c.walk-cursor.new.pass.seat.me c.walk-cursor.result c.walk-cursor.ensures.walked (omega arith) in
+    let here = alone_on z c.args.pass.now.seat.me.0.upper c.walk-cursor.new.pass.seat.me.0.upper further.number alone in
+    due_won z c.args.key c.args.placed c.args.pass.now.seat.me c.walk-cursor.new.pass.seat.me c.try_split-adapted.new.pass.seat.me c.walk-cursor.result
+    c.try_split-adapted.result c.requires.placed c.walk-cursor.ensures.walked (c.if-cursor-placed.false) c.try_split-adapted.ensures.split
+    (c.try_split-adapted.ensures.won here (l.listed here))

@@ -1,6 +1,34 @@
 use Rattle.ca_replace.proofs.GoingOn.{split_further}
+use Rattle.std.proofs.Common.{true, Err, Some, sym, subst, arith}
+use Rattle.ca_replace.specs.declared.attempting.Stop.{Stop}
+use Rattle.ca_replace.specs.Growing.{HasGrown}
+use Rattle.ca_replace.proofs.Growing.{made_room}
+use Rattle.ca_replace.specs.Cutting.{HasCut}
+use Rattle.ca_replace.proofs.Cutting.{made_cut}
+use Rattle.ca_replace.proofs.Winning.{room_won}
+use Rattle.ca_replace.specs.Winning.{HasWonAs}
 use Rattle.ca_replace.proofs.attempting.make_room.Goals as goal
 
 pub returns-clause-further : goal.returns-clause-further
-returns-clause-further c = split_further c.args.space.now.table.shared.key c.split_at-split.result c.args.pass.now.seat.me.0.upper
+returns-clause-further c = split_further c.args.space.now.table.shared.key c.args.many _ c.split_at-split.result c.args.pass.now.seat.me.0.upper
     c.split_at-split.new.pass.seat.me.0.upper c.split_at-split.ensures.split c.requires.looking.1.known
+
+pub returns-clause-grown : goal.returns-clause-grown
+returns-clause-grown c key looking alone = let least = c.requires.tuned.allowed.least_leaf in let leaf = c.requires.tuned.leaf in
+    let full = c.requires.many.1 in
+    subst (λ (why : Stop). HasGrown {T = Unit {0}} c.args.space.now.table.shared.key (Some key) (Err why) c.args.pass.now.seat.me.0.upper
+    c.split_at-split.new.pass.seat.me.0.upper) (sym c.stop_of.ensures)
+    (made_room c.args.space.now.table.shared.key c.args.pass.now.seat.me.0.upper c.split_at-split.new.pass.seat.me.0.upper key c.args.cursor c.args.many _
+    c.split_at-split.result looking (looking.listed alone) c.requires.many.0 (omega arith) (omega arith) c.split_at-split.ensures.split)
+
+pub returns-clause-cut : goal.returns-clause-cut
+returns-clause-cut c key full = subst (λ (why : Stop). HasCut {T = Unit {0}} (λ _. true) c.args.space.now.table.shared.key (Some key) (Err why)
+    c.args.pass.now.seat.me.0.upper c.split_at-split.new.pass.seat.me.0.upper) (sym c.stop_of.ensures)
+    (made_cut (λ (_ : Unit {0}). true) c.args.space.now.table.shared.key (Some key) c.args.many _ c.split_at-split.result c.args.pass.now.seat.me.0.upper
+    c.split_at-split.new.pass.seat.me.0.upper full c.split_at-split.ensures.split)
+
+pub returns-clause-won : goal.returns-clause-won
+returns-clause-won c key looking alone = subst (λ (why : Stop). HasWonAs {T = Unit {0}} (λ _. true) (Err why) c.args.pass.now.seat.me.0.upper
+    c.split_at-split.new.pass.seat.me.0.upper) (sym c.stop_of.ensures)
+    (room_won {T = Unit {0}} (λ _. true) c.args.many _ c.split_at-split.result c.args.pass.now.seat.me.0.upper c.split_at-split.new.pass.seat.me.0.upper
+    (c.split_at-split.ensures.won alone (looking.listed alone)) c.split_at-split.ensures.split)

@@ -1,8 +1,9 @@
-use Rattle.std.proofs.Common.{◌≡◌, ◌≤◌, ℕ, ℤ, Result, OnOk, Ok, Err, get_or, to_z, of_z, w32, Bool, true, false, length, sym, ap, ◌∙◌, subst, arith}
+use Rattle.std.proofs.Common.{◌≡◌, ◌≤◌, ℕ, ℤ, Result, OnOk, Ok, Err, Some, get_or, to_z, of_z, w32, Bool, true, false, length, sym, ap, ◌∙◌, subst, arith}
 use Rattle.std.proofs.lemmas.Int.{ints, to_z-of_z}
 use Rattle.std.specs.Prelude.{slice_range}
 use Rattle.ca_model.specs.History.{Put}
 use Rattle.ca_base.specs.Finding.{IsReadable}
+use Rattle.ca_node.specs.Place.{HasKey}
 use Rattle.ca_node.specs.Told.{MyTree}
 use Rattle.ca_node.specs.TreeView.{TreeView}
 use Rattle.ca_base.specs.Putting.{IsRoom, IsShownLast, first_note, object_at, put_event}
@@ -13,6 +14,10 @@ use Rattle.ca_replace.proofs.GoingOn.{is_new, known_then, settled_found, settled
 use Rattle.ca_replace.proofs.Showing.{shown_last, full_there}
 use Rattle.ca_base.proofs.Tallies.{tallied_as}
 use Rattle.ca_replace.proofs.DueCauses.{settled_met}
+use Rattle.ca_replace.proofs.Growing.{come_unsplit, settled_grown}
+use Rattle.ca_replace.specs.Cutting.{HasCut, IsFullFor}
+use Rattle.ca_replace.proofs.Cutting.{full_for, settled_cut}
+use Rattle.ca_replace.proofs.Winning.{settled_won}
 use Rattle.ca_replace.proofs.attempting.put_there.Goals as goal
 
 no_room : (b : Bool) → b ≡ false → b ≡ true → ⊥
@@ -55,7 +60,9 @@ settle-requires-clause-known c = known_then c.args.space.now.table.shared.key
 pub settle-requires-clause-placed : goal.settle-requires-clause-placed
 settle-requires-clause-placed c won = is_new c.args.space.now.table.shared.key
     (Put (slice_range c.args.object.now c.args.key_at c.args.key_end) c.args.object.now) c.word_of-word.result c.put_at-tried.new.placed
-    c.put_at-tried.result c.next_statistic-statistic.new.pass.seat.me.0.upper c.put_at-tried.new.pass.seat.me.0.upper c.put_at-tried.ensures.renewed
+    c.put_at-tried.result c.next_statistic-statistic.new.pass.seat.me.0.upper c.put_at-tried.new.pass.seat.me.0.upper
+    (subst (λ (m : MyTree). HasKey (first_note m.0.upper.notes).place.span (slice_range c.args.object.now c.args.key_at c.args.key_end))
+    (sym (c.next_statistic-statistic.ensures.still ∙ c.count-many.ensures.still)) c.requires.looking.about) c.put_at-tried.ensures.renewed
     c.put_at-tried.ensures.placed won
 
 pub returns-clause-tried : goal.returns-clause-tried
@@ -90,7 +97,8 @@ returns-clause-counted c = settled_paid c.args.space.now.table.shared.key _ _ c.
     c.put_at-tried.ensures.renewed c.put_at-tried.ensures.counted c.settle.ensures.counted
 
 pub returns-clause-found : goal.returns-clause-found
-returns-clause-found c = settled_found c.args.space.now.table.shared.key c.args.tuning.now (to_z w32 (of_z w32 c.next_statistic-statistic.result)) c.put_at-tried.result
+returns-clause-found c = settled_found c.args.space.now.table.shared.key c.args.tuning.now (to_z w32 (of_z w32 c.next_statistic-statistic.result))
+    c.put_at-tried.result
     c.settle.result c.args.adapting.now c.settle.new.adapting c.args.pass.now.seat.me c.next_statistic-statistic.new.pass.seat.me
     c.put_at-tried.new.pass.seat.me c.settle.new.pass.seat.me (c.next_statistic-statistic.ensures.still ∙ c.count-many.ensures.still)
     c.settle.ensures.come c.put_at-tried.ensures.found c.settle.ensures.settled
@@ -131,3 +139,43 @@ returns-clause-met_as c = settled_met c.put_at-tried.result c.settle.result c.se
     c.args.pass.now.seat.me c.next_statistic-statistic.new.pass.seat.me c.put_at-tried.new.pass.seat.me c.settle.new.pass.seat.me
     (c.next_statistic-statistic.ensures.still ∙ c.count-many.ensures.still) c.settle.ensures.come c.put_at-tried.ensures.found
     c.put_at-tried.ensures.counted c.settle.ensures.met
+
+pub returns-clause-grown : goal.returns-clause-grown
+returns-clause-grown c = settled_grown c.args.space.now.table.shared.key c.args.tuning.now (Some
+    (slice_range c.args.object.now c.args.key_at c.args.key_end)) _ _ c.word_of-word.result
+    (to_z w32 (of_z w32 c.next_statistic-statistic.result)) c.put_at-tried.result c.settle.result c.args.adapting.now c.settle.new.adapting
+    c.args.pass.now.seat.me
+    c.next_statistic-statistic.new.pass.seat.me c.put_at-tried.new.pass.seat.me c.settle.new.pass.seat.me
+    (slice_range c.args.object.now c.args.key_at c.args.key_end) c.args.cursor
+    (c.next_statistic-statistic.ensures.still ∙ c.count-many.ensures.still) c.settle.ensures.come c.requires.looking c.put_at-tried.ensures.put
+    c.put_at-tried.ensures.renewed c.settle.ensures.settled c.settle.ensures.grows
+
+pub returns-clause-no_split : goal.returns-clause-no_split
+returns-clause-no_split c = on_ok c.args.place (come_unsplit c.put_at-tried.result c.settle.result c.settle.ensures.come)
+
+pub returns-clause-cut : goal.returns-clause-cut
+returns-clause-cut c = settled_cut c.args.space.now.table.shared.key c.args.tuning.now (Some (slice_range c.args.object.now c.args.key_at c.args.key_end)) _ _
+    c.word_of-word.result (to_z w32 (of_z w32 c.next_statistic-statistic.result)) c.put_at-tried.result c.settle.result c.args.adapting.now
+    c.settle.new.adapting c.args.pass.now.seat.me c.next_statistic-statistic.new.pass.seat.me c.put_at-tried.new.pass.seat.me c.settle.new.pass.seat.me
+    (c.next_statistic-statistic.ensures.still ∙ c.count-many.ensures.still) c.settle.ensures.come c.put_at-tried.ensures.put
+    c.put_at-tried.ensures.renewed c.settle.ensures.settled c.settle.ensures.cut
+
+pub returns-then-not-has_room-clause-cut : goal.returns-then-not-has_room-clause-cut
+returns-then-not-has_room-clause-cut c = let z = c.args.space.now.table.shared.key in
+    let key = slice_range c.args.object.now c.args.key_at c.args.key_end in let u = c.args.pass.now.seat.me.0.upper in
+    let full = full_for z u c.args.cursor key c.args.place c.count-many.result c.requires.looking c.requires.place
+    (λ room. no_room c.has_room.result c.if-not-has_room.true (c.has_room.ensures.1 (subst (λ n. IsRoom c.args.place c.count-many.result n)
+    c.requires.tuned.leaf room)))
+    (c.count-many.ensures.count (first_note u.notes) c.requires.looking.readable) in
+    subst (λ (m : MyTree). HasCut {T = Unit {0}} (λ _. true) z (Some key) (Err c.make_room.result) m.0.upper c.make_room.new.pass.seat.me.0.upper)
+    c.count-many.ensures.still (c.make_room.ensures.cut key
+    (subst (λ (m : MyTree). IsFullFor z (Some key) (first_note m.0.upper.notes)) (sym c.count-many.ensures.still) full))
+
+pub returns-clause-won : goal.returns-clause-won
+returns-clause-won c = settled_won c.args.space.now.table.shared.key c.args.tuning.now _ _ c.word_of-word.result
+    (to_z w32 (of_z w32 c.next_statistic-statistic.result)) c.put_at-tried.result c.settle.result c.args.adapting.now c.settle.new.adapting
+    c.args.pass.now.seat.me
+    c.next_statistic-statistic.new.pass.seat.me c.put_at-tried.new.pass.seat.me c.settle.new.pass.seat.me
+    (slice_range c.args.object.now c.args.key_at c.args.key_end) c.args.cursor
+    (c.next_statistic-statistic.ensures.still ∙ c.count-many.ensures.still) c.settle.ensures.come c.requires.looking c.put_at-tried.ensures.put
+    c.put_at-tried.ensures.renewed c.settle.ensures.settled c.put_at-tried.ensures.won c.settle.ensures.won

@@ -1,8 +1,9 @@
-use Rattle.std.proofs.Common.{◌≡◌, ℤ, get_or, to_z, of_z, w32, length, Ok, Some, sym, ap, ◌∙◌, subst, arith}
+use Rattle.std.proofs.Common.{◌≡◌, ℤ, get_or, to_z, of_z, w32, length, Ok, None, Some, sym, ap, ◌∙◌, subst, arith}
 use Rattle.std.proofs.lemmas.Int.{ints, to_z-of_z}
 use Rattle.ca_model.specs.Event.{Remove}
 use Rattle.ca_model.specs.History.{Del}
 use Rattle.ca_base.specs.Finding.{IsReadable}
+use Rattle.ca_node.specs.Place.{HasKey}
 use Rattle.ca_node.specs.Told.{MyTree}
 use Rattle.ca_node.specs.TreeView.{TreeView}
 use Rattle.ca_base.specs.Putting.{IsShownLast, first_note, object_at}
@@ -11,6 +12,9 @@ use Rattle.ca_replace.proofs.GoingOn.{is_new, known_then, settled_found, settled
 use Rattle.ca_replace.proofs.Showing.{shown_last}
 use Rattle.ca_base.proofs.Tallies.{tallied_as}
 use Rattle.ca_replace.proofs.DueCauses.{settled_met}
+use Rattle.ca_replace.proofs.Growing.{settled_grown}
+use Rattle.ca_replace.proofs.Cutting.{settled_cut}
+use Rattle.ca_replace.proofs.Winning.{settled_won}
 use Rattle.ca_replace.proofs.attempting.remove_there.Goals as goal
 
 pub count-many-requires-clause-readable : goal.count-many-requires-clause-readable
@@ -43,7 +47,9 @@ settle-requires-clause-known c = known_then c.args.space.now.table.shared.key
 pub settle-requires-clause-placed : goal.settle-requires-clause-placed
 settle-requires-clause-placed c won = is_new c.args.space.now.table.shared.key
     (Del c.args.key.now) c.word_of-word.result c.remove_at-tried.new.placed
-    c.remove_at-tried.result c.next_statistic-statistic.new.pass.seat.me.0.upper c.remove_at-tried.new.pass.seat.me.0.upper c.remove_at-tried.ensures.renewed
+    c.remove_at-tried.result c.next_statistic-statistic.new.pass.seat.me.0.upper c.remove_at-tried.new.pass.seat.me.0.upper
+    (subst (λ (m : MyTree). HasKey (first_note m.0.upper.notes).place.span c.args.key.now)
+    (sym (c.next_statistic-statistic.ensures.still ∙ c.count-many.ensures.still)) c.requires.looking.about) c.remove_at-tried.ensures.renewed
     c.remove_at-tried.ensures.placed won
 
 pub returns-clause-tried : goal.returns-clause-tried
@@ -76,7 +82,8 @@ returns-clause-counted c = settled_paid c.args.space.now.table.shared.key _ _ c.
     c.remove_at-tried.ensures.renewed c.remove_at-tried.ensures.counted c.settle.ensures.counted
 
 pub returns-clause-found : goal.returns-clause-found
-returns-clause-found c = settled_found c.args.space.now.table.shared.key c.args.tuning.now (to_z w32 (of_z w32 c.next_statistic-statistic.result)) c.remove_at-tried.result
+returns-clause-found c = settled_found c.args.space.now.table.shared.key c.args.tuning.now (to_z w32 (of_z w32 c.next_statistic-statistic.result))
+    c.remove_at-tried.result
     c.settle.result c.args.adapting.now c.settle.new.adapting c.args.pass.now.seat.me c.next_statistic-statistic.new.pass.seat.me
     c.remove_at-tried.new.pass.seat.me c.settle.new.pass.seat.me (c.next_statistic-statistic.ensures.still ∙ c.count-many.ensures.still)
     c.settle.ensures.come c.remove_at-tried.ensures.found c.settle.ensures.settled
@@ -92,3 +99,26 @@ returns-clause-met_as c = settled_met c.remove_at-tried.result c.settle.result c
     c.args.pass.now.seat.me c.next_statistic-statistic.new.pass.seat.me c.remove_at-tried.new.pass.seat.me c.settle.new.pass.seat.me
     (c.next_statistic-statistic.ensures.still ∙ c.count-many.ensures.still) c.settle.ensures.come c.remove_at-tried.ensures.found
     c.remove_at-tried.ensures.counted c.settle.ensures.met
+
+pub returns-clause-grown : goal.returns-clause-grown
+returns-clause-grown c = settled_grown c.args.space.now.table.shared.key c.args.tuning.now None _ _ c.word_of-word.result
+    (to_z w32 (of_z w32 c.next_statistic-statistic.result)) c.remove_at-tried.result c.settle.result c.args.adapting.now c.settle.new.adapting
+    c.args.pass.now.seat.me
+    c.next_statistic-statistic.new.pass.seat.me c.remove_at-tried.new.pass.seat.me c.settle.new.pass.seat.me c.args.key.now c.args.cursor
+    (c.next_statistic-statistic.ensures.still ∙ c.count-many.ensures.still) c.settle.ensures.come c.requires.looking c.remove_at-tried.ensures.removed
+    c.remove_at-tried.ensures.renewed c.settle.ensures.settled c.settle.ensures.grows
+
+pub returns-clause-cut : goal.returns-clause-cut
+returns-clause-cut c = settled_cut c.args.space.now.table.shared.key c.args.tuning.now None _ _ c.word_of-word.result
+    (to_z w32 (of_z w32 c.next_statistic-statistic.result)) c.remove_at-tried.result c.settle.result c.args.adapting.now c.settle.new.adapting
+    c.args.pass.now.seat.me c.next_statistic-statistic.new.pass.seat.me c.remove_at-tried.new.pass.seat.me c.settle.new.pass.seat.me
+    (c.next_statistic-statistic.ensures.still ∙ c.count-many.ensures.still) c.settle.ensures.come c.remove_at-tried.ensures.removed
+    c.remove_at-tried.ensures.renewed c.settle.ensures.settled c.settle.ensures.cut
+
+pub returns-clause-won : goal.returns-clause-won
+returns-clause-won c = settled_won c.args.space.now.table.shared.key c.args.tuning.now _ _ c.word_of-word.result
+    (to_z w32 (of_z w32 c.next_statistic-statistic.result)) c.remove_at-tried.result c.settle.result c.args.adapting.now c.settle.new.adapting
+    c.args.pass.now.seat.me
+    c.next_statistic-statistic.new.pass.seat.me c.remove_at-tried.new.pass.seat.me c.settle.new.pass.seat.me c.args.key.now c.args.cursor
+    (c.next_statistic-statistic.ensures.still ∙ c.count-many.ensures.still) c.settle.ensures.come c.requires.looking c.remove_at-tried.ensures.removed
+    c.remove_at-tried.ensures.renewed c.settle.ensures.settled c.remove_at-tried.ensures.won c.settle.ensures.won

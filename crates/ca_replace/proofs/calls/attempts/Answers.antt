@@ -7,12 +7,18 @@ use Rattle.ca_replace.specs.declared.attempting.Stop.{Stop}
 use Rattle.ca_replace.specs.declared.attempting.Stop.TheVariants as stop
 use Rattle.ca_replace.specs.Adapting.{Waits}
 use Rattle.ca_replace.specs.Attempting.{HasMetBy, total}
+use Rattle.ca_replace.specs.Growing.{HasWaited}
 use Rattle.ca_replace.proofs.Causing.{empty_before, few_from, nearer}
 use Rattle.ca_replace.proofs.Counted.{none_paid, paid_both, spends_more}
 use Rattle.ca_replace.proofs.GoingOn.{gone_on, idle_waits, refused_gone, stopped_waits, waits_on}
 use Rattle.ca_replace.proofs.Meeting.{further_on}
-use Rattle.ca_replace.proofs.Turns.{no_further, stopped_further}
+use Rattle.ca_replace.proofs.Showing.{tried_on}
+use Rattle.ca_replace.proofs.Turns.{attempted_as, no_further, stopped_further}
 use Rattle.ca_replace.proofs.DueCauses.{NoneFall, refused_met}
+use Rattle.ca_replace.proofs.Growing.{alone_on, attempts_so_far, grown_refused, has_waited}
+use Rattle.ca_replace.specs.Cutting.{HasCutFull}
+use Rattle.ca_replace.proofs.Cutting.{cut_refused, cuts_so_far, none_full, stopped_cut}
+use Rattle.ca_replace.proofs.Winning.{stop_won, won_behind, won_refused}
 use Rattle.ca_replace.proofs.calls.attempts.Goals as goal
 
 pub loop-come-init : goal.loop-come-init
@@ -23,6 +29,10 @@ loop-come-init g c = record {
   counted = none_paid c.args.spent.now c.args.pass.now.seat.me c.args.pass.now.seat.me refl refl;
   looks = omega arith;
   waits = idle_waits c.args.adapting.now c.args.pass.now.seat.me.0.upper c.args.pass.now.seat.me.0.upper (refl, refl);
+  won = λ _. refl;
+  waited = λ _. inl (refl, refl);
+  full = none_full c.args.tree.now.space.table.shared.key (g.A.Attempt.adds c.args.what.now) c.args.pass.now.seat.me.0.upper.cuts
+      c.args.pass.now.seat.me.0.upper.cuts refl;
   worn = refl;
   first = inl (refl, refl);
 }
@@ -61,6 +71,18 @@ loop-come-preserved g c = let i = c.loop-come.invariant in let tells = λ (x : _
           (waits_on c.args.adapting.now c.loop-come.adapting c.turns-come.new.adapting start.0.upper before.0.upper behind.0.upper i.waits
           (stopped_waits (λ (x : _). g.A.Attempt.edits c.args.what.now x) c.args.tree.now.space.table.shared.key c.args.tree.now.tuning
           c.loop-come.adapting c.turns-come.new.adapting c.turns-come.result stop.Empty before.0.upper behind.0.upper empty c.turns-come.ensures.gone_on));
+      won = λ alone. ap (λ (u : TreeView). u.lost) c.refill.ensures.upper ∙ (stop_won (λ (x : _). g.A.Attempt.edits c.args.what.now x)
+          c.turns-come.result stop.Empty before.0.upper behind.0.upper empty (c.turns-come.ensures.won (alone_on
+          c.args.tree.now.space.table.shared.key start.0.upper before.0.upper i.further.number alone)) ∙ i.won alone);
+      waited = λ alone. subst (HasWaited c.args.tree.now.space.table.shared.key (g.A.Attempt.adds c.args.what.now) start.0.upper) (sym c.refill.ensures.upper)
+          (has_waited c.args.tree.now.space.table.shared.key (g.A.Attempt.adds c.args.what.now) c.turns-come.result stop.Empty start.0.upper behind.0.upper
+          empty
+          (attempts_so_far tells c.args.tree.now.space.table.shared.key (g.A.Attempt.adds c.args.what.now) c.turns-come.result start.0.upper before.0.upper
+          behind.0.upper c.requires.resting.known i.resting.known i.further i.waited c.turns-come.ensures.tried c.turns-come.ensures.grown alone));
+      full = let edits = λ (x : _). g.A.Attempt.edits c.args.what.now x in let z = c.args.tree.now.space.table.shared.key in
+          let adds = g.A.Attempt.adds c.args.what.now in subst (HasCutFull z adds start.0.upper) (sym c.refill.ensures.upper)
+          (stopped_cut edits z adds c.turns-come.result stop.Empty start.0.upper behind.0.upper empty
+          (cuts_so_far edits z adds c.turns-come.result start.0.upper before.0.upper behind.0.upper i.full c.turns-come.ensures.cut));
       worn = omega (arith, i.worn, met.1, given.1);
       first = inr (empty_before (vec_len c.loop-come.pass.kept.rows) start before behind last c.args.pass.now.kept.rows i.first met given);
     }
@@ -115,3 +137,57 @@ returns-else-is_empty-clause-met_as g c = refused_met (λ (x : _). g.A.Attempt.e
     (given_none c.turns-come.new.pass.seat.me c.keep_few.new.pass.seat.me c.keep_few.result c.keep_few.ensures.lost c.keep_few.ensures.upper
     c.keep_few.ensures.met)
     c.or_refusal.ensures c.turns-come.ensures.met_as
+
+pub returns-in-Err-clause-grown : goal.returns-in-Err-clause-grown
+returns-in-Err-clause-grown g c alone = let tells = λ (x : _). g.A.Attempt.tells c.args.what.now x c.turns-come.new.left in
+    let z = c.args.tree.now.space.table.shared.key in let adds = g.A.Attempt.adds c.args.what.now in let u = c.args.pass.now.seat.me.0.upper in
+    let i = c.loop-come.invariant in
+    subst (HasWaited z adds u) (sym c.refill.ensures.upper) (has_waited z adds c.turns-come.result stop.Empty u c.turns-come.new.pass.seat.me.0.upper
+    (c.if-is_empty.ensures.0 refl) (attempts_so_far tells z adds c.turns-come.result u c.loop-come.pass.seat.me.0.upper c.turns-come.new.pass.seat.me.0.upper
+    c.requires.resting.known i.resting.known i.further i.waited c.turns-come.ensures.tried c.turns-come.ensures.grown alone))
+
+pub returns-else-is_empty-clause-grown : goal.returns-else-is_empty-clause-grown
+returns-else-is_empty-clause-grown g c alone = let tells = λ (x : _). g.A.Attempt.tells c.args.what.now x c.turns-come.new.left in
+    let z = c.args.tree.now.space.table.shared.key in let adds = g.A.Attempt.adds c.args.what.now in let u = c.args.pass.now.seat.me.0.upper in
+    let i = c.loop-come.invariant in
+    grown_refused z adds c.turns-come.result c.or_refusal.result _ _ u c.turns-come.new.pass.seat.me.0.upper c.keep_few.new.pass.seat.me.0.upper
+    c.keep_few.ensures.upper c.or_refusal.ensures (attempts_so_far tells z adds c.turns-come.result u c.loop-come.pass.seat.me.0.upper
+    c.turns-come.new.pass.seat.me.0.upper c.requires.resting.known i.resting.known i.further i.waited c.turns-come.ensures.tried
+    c.turns-come.ensures.grown alone)
+
+pub returns-else-is_empty-clause-come : goal.returns-else-is_empty-clause-come
+returns-else-is_empty-clause-come g c = let tells = λ (x : _). g.A.Attempt.tells c.args.what.now x c.turns-come.new.left in
+    let z = c.args.tree.now.space.table.shared.key in let u = c.args.pass.now.seat.me.0.upper in
+    attempted_as tells z c.turns-come.result c.or_refusal.result _ _ u c.turns-come.new.pass.seat.me.0.upper c.keep_few.new.pass.seat.me.0.upper
+    c.keep_few.ensures.upper c.or_refusal.ensures (tried_on tells z c.turns-come.result u c.loop-come.pass.seat.me.0.upper
+    c.turns-come.new.pass.seat.me.0.upper c.loop-come.invariant.further c.turns-come.ensures.tried)
+
+pub returns-in-Err-clause-cut : goal.returns-in-Err-clause-cut
+returns-in-Err-clause-cut g c = let edits = λ (x : _). g.A.Attempt.edits c.args.what.now x in let z = c.args.tree.now.space.table.shared.key in
+    let adds = g.A.Attempt.adds c.args.what.now in let u = c.args.pass.now.seat.me.0.upper in
+    subst (HasCutFull z adds u) (sym c.refill.ensures.upper)
+    (stopped_cut edits z adds c.turns-come.result stop.Empty u c.turns-come.new.pass.seat.me.0.upper (c.if-is_empty.ensures.0 refl)
+    (cuts_so_far edits z adds c.turns-come.result u c.loop-come.pass.seat.me.0.upper c.turns-come.new.pass.seat.me.0.upper c.loop-come.invariant.full
+    c.turns-come.ensures.cut))
+
+pub returns-else-is_empty-clause-cut : goal.returns-else-is_empty-clause-cut
+returns-else-is_empty-clause-cut g c = let edits = λ (x : _). g.A.Attempt.edits c.args.what.now x in let z = c.args.tree.now.space.table.shared.key in
+    let adds = g.A.Attempt.adds c.args.what.now in let u = c.args.pass.now.seat.me.0.upper in
+    cut_refused edits z adds c.turns-come.result c.or_refusal.result _ _ u c.turns-come.new.pass.seat.me.0.upper c.keep_few.new.pass.seat.me.0.upper
+    c.keep_few.ensures.upper c.or_refusal.ensures
+    (cuts_so_far edits z adds c.turns-come.result u c.loop-come.pass.seat.me.0.upper c.turns-come.new.pass.seat.me.0.upper c.loop-come.invariant.full
+    c.turns-come.ensures.cut)
+
+pub returns-in-Err-clause-won : goal.returns-in-Err-clause-won
+returns-in-Err-clause-won g c alone = let i = c.loop-come.invariant in
+    ap (λ (u : TreeView). u.lost) c.refill.ensures.upper ∙ (stop_won (λ (x : _). g.A.Attempt.edits c.args.what.now x) c.turns-come.result stop.Empty
+    c.loop-come.pass.seat.me.0.upper c.turns-come.new.pass.seat.me.0.upper (c.if-is_empty.ensures.0 refl) (c.turns-come.ensures.won (alone_on
+    c.args.tree.now.space.table.shared.key c.args.pass.now.seat.me.0.upper c.loop-come.pass.seat.me.0.upper i.further.number alone)) ∙ i.won alone)
+
+pub returns-else-is_empty-clause-won : goal.returns-else-is_empty-clause-won
+returns-else-is_empty-clause-won g c alone = let edits = λ (x : _). g.A.Attempt.edits c.args.what.now x in let u = c.args.pass.now.seat.me.0.upper in
+    let i = c.loop-come.invariant in
+    won_refused edits c.turns-come.result c.or_refusal.result _ _ u c.turns-come.new.pass.seat.me.0.upper c.keep_few.new.pass.seat.me.0.upper
+    c.keep_few.ensures.upper c.or_refusal.ensures (won_behind edits c.turns-come.result u c.loop-come.pass.seat.me.0.upper
+    c.turns-come.new.pass.seat.me.0.upper (i.won alone) (c.turns-come.ensures.won (alone_on c.args.tree.now.space.table.shared.key u
+    c.loop-come.pass.seat.me.0.upper i.further.number alone)))

@@ -1,7 +1,10 @@
 use Rattle.std.proofs.Common.{◌≡◌, ◌⊎◌, ◌+◌, ◌-◌, ◌*◌, ◌≤◌, min, vec_len}
 use Rattle.ca_base.specs.Progress.{IsFurther}
+use Rattle.ca_node.specs.Told.{IsAlone}
 use Rattle.ca_replace.specs.Adapting.{Waits}
 use Rattle.ca_replace.specs.Attempting.{IsPaid, total}
+use Rattle.ca_replace.specs.Cutting.{HasCutFull}
+use Rattle.ca_replace.specs.Growing.{HasWaited}
 use Rattle.ca_replace.specs.Resting.{IsResting}
 use Rattle.ca_replace.proofs.calls.attempts.Given as goal
 
@@ -13,6 +16,10 @@ invariant-loop-come g l = record {
   counted : IsPaid l.fn.spent l.spent l.fn.pass.seat.me l.pass.seat.me;
   looks : l.fn.pass.seat.me.0.pin.looks ≤ l.pass.seat.me.0.pin.looks;
   waits : Waits l.fn.adapting l.adapting l.fn.pass.seat.me.0.upper l.pass.seat.me.0.upper;
+  won : IsAlone l.tree.space.table.shared.key l.fn.pass.seat.me.0.upper → l.pass.seat.me.0.upper.lost ≡ l.fn.pass.seat.me.0.upper.lost;
+  waited : IsAlone l.tree.space.table.shared.key l.fn.pass.seat.me.0.upper → HasWaited l.tree.space.table.shared.key (g.A.Attempt.adds l.what)
+      l.fn.pass.seat.me.0.upper l.pass.seat.me.0.upper;
+  full : HasCutFull l.tree.space.table.shared.key (g.A.Attempt.adds l.what) l.fn.pass.seat.me.0.upper l.pass.seat.me.0.upper;
   worn : l.pass.seat.me.0.worn ≡ l.fn.pass.seat.me.0.worn;
   first : ((vec_len l.pass.kept.rows ≡ vec_len l.fn.pass.kept.rows) × (l.pass.seat.me.0.empty ≡ l.fn.pass.seat.me.0.empty))
       ⊎ (l.fn.pass.seat.me.0.empty + 1 ≤ l.pass.seat.me.0.empty);

@@ -1,15 +1,21 @@
 use Rattle.std.proofs.Common.{◌≡◌, refl, sym, ap, ◌∙◌, subst, arith}
-use Rattle.ca_node.specs.Told.{MyTree}
 use Rattle.ca_replace.specs.Adapting.{HasGoneOn}
 use Rattle.ca_node.proofs.Tallies.{tallied_still}
 use Rattle.ca_replace.specs.Attempting.{HasTriedTo}
 use Rattle.ca_adapt.specs.Tuned.{IsTuned}
 use Rattle.ca_rows.specs.declared.sizes.Sizes.{Sizes}
 use Rattle.ca_replace.proofs.GoingOn.{gone_pinned}
-use Rattle.ca_replace.proofs.Turns.{rests_as, rests_again, none_pinned, tried_pinned, tried_known}
+use Rattle.ca_replace.proofs.Turns.{known_pinned, rests_as, rests_again, none_pinned, tried_pinned, tried_known}
 use Rattle.ca_replace.proofs.DueCauses.{NoneFall, meets_between}
 use Rattle.ca_node.specs.TreeView.{TreeView}
 use Rattle.ca_rows.specs.declared.view.Pin.{Pin}
+use Rattle.ca_replace.proofs.Growing.{grown_pinned}
+use Rattle.ca_node.specs.Told.{MyTree, IsAlone, IsKnown}
+use Rattle.ca_replace.specs.Growing.{HasGrown}
+use Rattle.ca_replace.specs.Cutting.{HasCut}
+use Rattle.ca_replace.proofs.Cutting.{cut_pinned}
+use Rattle.ca_replace.proofs.Winning.{won_pinned}
+use Rattle.ca_replace.specs.Winning.{HasWonAs}
 use Rattle.ca_replace.proofs.calls.once.Goals as goal
 
 pub attempt-tried-requires-clause-number : goal.attempt-tried-requires-clause-number
@@ -62,3 +68,29 @@ returns-clause-met_as g c = meets_between (λ (x : _). g.A.Attempt.edits c.args.
     c.args.pass.now.seat.me c.pin.new.pass.seat.me c.attempt-tried.new.pass.seat.me c.unpin.new.pass.seat.me
     (pinned_none c.args.pass.now.seat.me c.pin.new.pass.seat.me _ _ c.pin.ensures.pinned.3 refl)
     (pinned_none c.attempt-tried.new.pass.seat.me c.unpin.new.pass.seat.me _ _ c.unpin.ensures.unpinned refl) c.attempt-tried.ensures.met_as
+
+pub attempt-tried-requires-clause-known : goal.attempt-tried-requires-clause-known
+attempt-tried-requires-clause-known g c = let z = c.args.tree.now.space.table.shared.key in
+    subst (λ (m : MyTree). IsKnown z m.0.upper) (sym c.pin.ensures.pinned.3) (known_pinned z c.args.pass.now.seat.me.0.upper c.requires.resting.known)
+
+pub returns-clause-grown : goal.returns-clause-grown
+returns-clause-grown g c alone = let z = c.args.tree.now.space.table.shared.key in let adds = g.A.Attempt.adds c.args.what.now in
+    grown_pinned z adds c.attempt-tried.result c.args.pass.now.seat.me.0.upper c.attempt-tried.new.pass.seat.me.0.upper c.unpin.new.pass.seat.me.0.upper
+    (ap (λ (m : MyTree). m.0.upper) c.unpin.ensures.unpinned)
+    (subst (λ (m : MyTree). IsAlone z m.0.upper → HasGrown z adds c.attempt-tried.result m.0.upper c.attempt-tried.new.pass.seat.me.0.upper)
+    c.pin.ensures.pinned.3 c.attempt-tried.ensures.grown (alone.0, alone.1))
+
+pub returns-clause-cut : goal.returns-clause-cut
+returns-clause-cut g c = let z = c.args.tree.now.space.table.shared.key in let adds = g.A.Attempt.adds c.args.what.now in
+    let edits = λ (x : _). g.A.Attempt.edits c.args.what.now x in
+    cut_pinned edits z adds c.attempt-tried.result c.args.pass.now.seat.me.0.upper c.attempt-tried.new.pass.seat.me.0.upper
+    c.unpin.new.pass.seat.me.0.upper (ap (λ (m : MyTree). m.0.upper) c.unpin.ensures.unpinned)
+    (subst (λ (m : MyTree). HasCut edits z adds c.attempt-tried.result m.0.upper c.attempt-tried.new.pass.seat.me.0.upper) c.pin.ensures.pinned.3
+    c.attempt-tried.ensures.cut)
+
+pub returns-clause-won : goal.returns-clause-won
+returns-clause-won g c alone = let z = c.args.tree.now.space.table.shared.key in let edits = λ (x : _). g.A.Attempt.edits c.args.what.now x in
+    won_pinned edits c.attempt-tried.result c.args.pass.now.seat.me.0.upper c.attempt-tried.new.pass.seat.me.0.upper c.unpin.new.pass.seat.me.0.upper
+    (ap (λ (m : MyTree). m.0.upper) c.unpin.ensures.unpinned)
+    (subst (λ (m : MyTree). IsAlone z m.0.upper → HasWonAs edits c.attempt-tried.result m.0.upper c.attempt-tried.new.pass.seat.me.0.upper)
+    c.pin.ensures.pinned.3 c.attempt-tried.ensures.won (alone.0, alone.1))

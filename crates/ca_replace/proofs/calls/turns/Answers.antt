@@ -1,4 +1,4 @@
-use Rattle.std.proofs.Common.{◌<◌, refl, ◌∙◌, subst, arith}
+use Rattle.std.proofs.Common.{◌<◌, inl, refl, ◌∙◌, subst, arith}
 use Rattle.ca_base.proofs.Counts.{met_both}
 use Rattle.ca_replace.proofs.Counted.{met_turn, met_then, none_met, none_paid, one_turn_less, paid_both}
 use Rattle.ca_replace.proofs.GoingOn.{gone_on, idle_waits, turn_waits, waits_on}
@@ -6,6 +6,9 @@ use Rattle.ca_replace.proofs.Meeting.{further_on}
 use Rattle.ca_replace.proofs.Showing.{tried_on}
 use Rattle.ca_replace.proofs.Turns.{turn_further, no_further}
 use Rattle.ca_replace.proofs.DueCauses.{meets_between, met_none_fall, same_none}
+use Rattle.ca_replace.proofs.Growing.{alone_on, one_more_attempt, turn_waited}
+use Rattle.ca_replace.proofs.Cutting.{none_full, one_more_cut, turn_cut}
+use Rattle.ca_replace.proofs.Winning.{turn_won, won_behind}
 use Rattle.ca_replace.proofs.calls.turns.Goals as goal
 
 pub loop-pass-init : goal.loop-pass-init
@@ -17,6 +20,10 @@ loop-pass-init g c = record {
   looks = refl;
   met = none_met c.args.pass.now.seat.me;
   waits = idle_waits c.args.adapting.now c.args.pass.now.seat.me.0.upper c.args.pass.now.seat.me.0.upper (refl, refl);
+  won = λ _. refl;
+  waited = λ _. inl (refl, refl);
+  full = none_full c.args.tree.now.space.table.shared.key (g.A.Attempt.adds c.args.what.now) c.args.pass.now.seat.me.0.upper.cuts
+      c.args.pass.now.seat.me.0.upper.cuts refl;
 }
 
 pub once-tried-requires-clause-resting : goal.once-tried-requires-clause-resting
@@ -39,6 +46,23 @@ loop-pass-preserved g c = let tells = λ (x : _). g.A.Attempt.tells c.args.what.
       (turn_waits (λ (x : _). g.A.Attempt.edits c.args.what.now x) c.args.tree.now.space.table.shared.key c.args.tree.now.tuning c.loop-pass.adapting
       c.once-tried.new.adapting c.once-tried.result c.loop-pass.pass.seat.me.0.upper c.once-tried.new.pass.seat.me.0.upper
       (c.if-not-has_next.ensures.0 refl) c.once-tried.ensures.gone_on);
+  won = λ alone. turn_won (λ (x : _). g.A.Attempt.edits c.args.what.now x) c.once-tried.result c.args.pass.now.seat.me.0.upper
+      c.once-tried.new.pass.seat.me.0.upper (c.if-not-has_next.ensures.0 refl)
+      (won_behind (λ (x : _). g.A.Attempt.edits c.args.what.now x) c.once-tried.result c.args.pass.now.seat.me.0.upper
+      c.loop-pass.pass.seat.me.0.upper c.once-tried.new.pass.seat.me.0.upper (c.loop-pass.invariant.won alone)
+      (c.once-tried.ensures.won (alone_on c.args.tree.now.space.table.shared.key c.args.pass.now.seat.me.0.upper c.loop-pass.pass.seat.me.0.upper
+      c.loop-pass.invariant.further.number alone)));
+  waited = λ alone. turn_waited c.args.tree.now.space.table.shared.key (g.A.Attempt.adds c.args.what.now) c.once-tried.result
+      c.args.pass.now.seat.me.0.upper c.once-tried.new.pass.seat.me.0.upper (c.if-not-has_next.ensures.0 refl)
+      (one_more_attempt tells c.args.tree.now.space.table.shared.key (g.A.Attempt.adds c.args.what.now) c.once-tried.result
+      c.args.pass.now.seat.me.0.upper c.loop-pass.pass.seat.me.0.upper c.once-tried.new.pass.seat.me.0.upper c.requires.resting.known
+      c.loop-pass.invariant.resting.known c.loop-pass.invariant.further c.loop-pass.invariant.waited c.once-tried.ensures.tried
+      c.once-tried.ensures.grown alone);
+  full = let edits = λ (x : _). g.A.Attempt.edits c.args.what.now x in let z = c.args.tree.now.space.table.shared.key in
+      let adds = g.A.Attempt.adds c.args.what.now in
+      turn_cut edits z adds c.once-tried.result c.args.pass.now.seat.me.0.upper c.once-tried.new.pass.seat.me.0.upper (c.if-not-has_next.ensures.0 refl)
+      (one_more_cut edits z adds c.once-tried.result c.args.pass.now.seat.me.0.upper c.loop-pass.pass.seat.me.0.upper
+      c.once-tried.new.pass.seat.me.0.upper c.loop-pass.invariant.full c.once-tried.ensures.cut);
 }
 
 pub returns-clause-number : goal.returns-clause-number
@@ -93,3 +117,29 @@ returns-then-not-has_next-clause-met_as g c = meets_between (λ (x : _). g.A.Att
     c.once-tried.result c.args.pass.now.seat.me c.loop-pass.pass.seat.me c.once-tried.new.pass.seat.me c.once-tried.new.pass.seat.me
     (met_none_fall c.args.pass.now.seat.me c.loop-pass.pass.seat.me c.loop-pass.invariant.counted.more c.loop-pass.invariant.met)
     (same_none c.once-tried.new.pass.seat.me c.once-tried.new.pass.seat.me refl) c.once-tried.ensures.met_as
+
+pub returns-clause-grown : goal.returns-clause-grown
+returns-clause-grown g c = c.loop-pass.invariant.waited
+
+pub returns-then-not-has_next-clause-grown : goal.returns-then-not-has_next-clause-grown
+returns-then-not-has_next-clause-grown g c = let tells = λ (x : _). g.A.Attempt.tells c.args.what.now x c.once-tried.new.left in
+    one_more_attempt tells c.args.tree.now.space.table.shared.key (g.A.Attempt.adds c.args.what.now) c.once-tried.result
+    c.args.pass.now.seat.me.0.upper c.loop-pass.pass.seat.me.0.upper c.once-tried.new.pass.seat.me.0.upper c.requires.resting.known
+    c.loop-pass.invariant.resting.known c.loop-pass.invariant.further c.loop-pass.invariant.waited c.once-tried.ensures.tried c.once-tried.ensures.grown
+
+pub returns-clause-cut : goal.returns-clause-cut
+returns-clause-cut g c = c.loop-pass.invariant.full
+
+pub returns-then-not-has_next-clause-cut : goal.returns-then-not-has_next-clause-cut
+returns-then-not-has_next-clause-cut g c = one_more_cut (λ (x : _). g.A.Attempt.edits c.args.what.now x) c.args.tree.now.space.table.shared.key
+    (g.A.Attempt.adds c.args.what.now) c.once-tried.result c.args.pass.now.seat.me.0.upper c.loop-pass.pass.seat.me.0.upper
+    c.once-tried.new.pass.seat.me.0.upper c.loop-pass.invariant.full c.once-tried.ensures.cut
+
+pub returns-clause-won : goal.returns-clause-won
+returns-clause-won g c = c.loop-pass.invariant.won
+
+pub returns-then-not-has_next-clause-won : goal.returns-then-not-has_next-clause-won
+returns-then-not-has_next-clause-won g c alone = won_behind (λ (x : _). g.A.Attempt.edits c.args.what.now x) c.once-tried.result
+    c.args.pass.now.seat.me.0.upper c.loop-pass.pass.seat.me.0.upper c.once-tried.new.pass.seat.me.0.upper (c.loop-pass.invariant.won alone)
+    (c.once-tried.ensures.won (alone_on c.args.tree.now.space.table.shared.key c.args.pass.now.seat.me.0.upper c.loop-pass.pass.seat.me.0.upper
+    c.loop-pass.invariant.further.number alone))

@@ -1,8 +1,11 @@
 use Rattle.std.proofs.Common.{◌≡◌, ◌-◌}
 use Rattle.ca_base.specs.Counting.{HasMet}
 use Rattle.ca_base.specs.Progress.{IsFurther}
+use Rattle.ca_node.specs.Told.{IsAlone}
 use Rattle.ca_replace.specs.Adapting.{Waits}
 use Rattle.ca_replace.specs.Attempting.{IsPaid, total}
+use Rattle.ca_replace.specs.Cutting.{HasCutFull}
+use Rattle.ca_replace.specs.Growing.{HasWaited}
 use Rattle.ca_replace.specs.Resting.{IsResting}
 use Rattle.ca_replace.proofs.calls.turns.Given as goal
 
@@ -15,6 +18,10 @@ invariant-loop-pass g l = record {
   looks : l.pass.seat.me.0.pin.looks ≡ l.fn.pass.seat.me.0.pin.looks;
   met : HasMet 0 0 l.fn.pass.seat.me l.pass.seat.me;
   waits : Waits l.fn.adapting l.adapting l.fn.pass.seat.me.0.upper l.pass.seat.me.0.upper;
+  won : IsAlone l.tree.space.table.shared.key l.fn.pass.seat.me.0.upper → l.pass.seat.me.0.upper.lost ≡ l.fn.pass.seat.me.0.upper.lost;
+  waited : IsAlone l.tree.space.table.shared.key l.fn.pass.seat.me.0.upper → HasWaited l.tree.space.table.shared.key (g.A.Attempt.adds l.what)
+      l.fn.pass.seat.me.0.upper l.pass.seat.me.0.upper;
+  full : HasCutFull l.tree.space.table.shared.key (g.A.Attempt.adds l.what) l.fn.pass.seat.me.0.upper l.pass.seat.me.0.upper;
 }
 
 abbrev pub decreases-loop-pass : goal.decreases-loop-pass

@@ -16,7 +16,8 @@ returns-clause-again c = λ _. let given = c.give_back_kept-given in let most = 
       (let room = subst (λ n. n < c.args.budget) c.spent_in_all.ensures c.if-spent_in_all-budget.false in omega arith),
       ⊎_elim (λ (none : vec_len given.new.pass.kept.rows ≡ 0). inl none) (λ (more : c.args.spent.now.lost < c.add-spent.result). inr (omega arith))
           (none_or_lost given.result.lost given.result.losses c.args.spent.now.lost c.add-spent.result c.args.budget given.result.kept
-          (vec_len given.new.pass.kept.rows) given.ensures.lost (let room = subst (λ n. n < c.args.budget) c.spent_in_all.ensures c.if-spent_in_all-budget.false in omega arith) (omega arith) c.add-spent.ensures.sum given.ensures.kept
+          (vec_len given.new.pass.kept.rows) given.ensures.lost (let room = subst (λ n. n < c.args.budget) c.spent_in_all.ensures
+          c.if-spent_in_all-budget.false in omega arith) (omega arith) c.add-spent.ensures.sum given.ensures.kept
           (λ kept_all. ⊎_elim (λ (few : (4611686018427387904 ≤ given.result.epoch) × (given.result.kept ≤ 0)). let n = few.1 in omega arith)
           (λ (room : given.result.epoch < 4611686018427387904). given.ensures.all lag kept_all
           (subst (λ n. n < 4611686018427387904) given.ensures.epoch room)) c.else-given-ge-LAST_EPOCH.either)),

@@ -4,6 +4,10 @@ use Rattle.std.proofs.Common.{◌≡◌, refl, true}
 use Rattle.ca_replace.proofs.GoingOn.{gone_after}
 use Rattle.ca_replace.proofs.Showing.{tried_on}
 use Rattle.ca_replace.proofs.DueCauses.{meets_between, quiet_none, same_none}
+use Rattle.ca_replace.proofs.Growing.{alone_on, looked_grown}
+use Rattle.std.proofs.Common.{Some}
+use Rattle.ca_replace.proofs.Cutting.{looked_cut}
+use Rattle.ca_replace.proofs.Winning.{won_behind}
 use Rattle.ca_replace.proofs.puts.PutCallAttempt.attempt.Goals as goal
 
 pub returns-clause-tried : goal.returns-clause-tried
@@ -25,3 +29,18 @@ returns-clause-met_as c = meets_between (λ (_ : Unit {0}). true) c.put_there.ne
     c.find-place.new.pass.seat.me c.put_there.new.pass.seat.me c.put_there.new.pass.seat.me
     (quiet_none c.args.pass.now.seat.me c.find-place.new.pass.seat.me c.find-place.ensures.quiet)
     (same_none c.put_there.new.pass.seat.me c.put_there.new.pass.seat.me refl) c.put_there.ensures.met_as
+
+pub returns-clause-grown : goal.returns-clause-grown
+returns-clause-grown c = let o = c.args.self.now in looked_grown c.args.space.now.table.shared.key (Some (slice_range o.object.now o.key_at o.key_end))
+    c.put_there.result c.args.pass.now.seat.me c.find-place.new.pass.seat.me c.put_there.new.pass.seat.me.0.upper c.requires.known
+    c.find-place.ensures.looking.known c.find-place.ensures.further c.find-place.ensures.quiet c.put_there.ensures.grown
+
+pub returns-clause-cut : goal.returns-clause-cut
+returns-clause-cut c = let o = c.args.self.now in looked_cut (λ (_ : Unit {0}). true) c.args.space.now.table.shared.key
+    (Some (slice_range o.object.now o.key_at o.key_end)) c.put_there.result c.args.pass.now.seat.me c.find-place.new.pass.seat.me
+    c.put_there.new.pass.seat.me.0.upper c.find-place.ensures.quiet c.put_there.ensures.cut
+
+pub returns-clause-won : goal.returns-clause-won
+returns-clause-won c alone = won_behind (λ (_ : Unit {0}). true) c.put_there.result c.args.pass.now.seat.me.0.upper c.find-place.new.pass.seat.me.0.upper
+    c.put_there.new.pass.seat.me.0.upper c.find-place.ensures.quiet.idle.1 (c.put_there.ensures.won (alone_on c.args.space.now.table.shared.key
+    c.args.pass.now.seat.me.0.upper c.find-place.new.pass.seat.me.0.upper c.find-place.ensures.further.number alone))

@@ -7,6 +7,10 @@ use Rattle.ca_replace.proofs.Showing.{did, not_new, read_done}
 use Rattle.ca_replace.proofs.Tallies.{tallied_read}
 use Rattle.ca_replace.proofs.Meeting.{further_on}
 use Rattle.ca_replace.proofs.DueCauses.{met_between, quiet_none, same_none}
+use Rattle.ca_replace.proofs.Growing.{alone_on, entered_grown, looked_grown, stop_grown}
+use Rattle.std.proofs.Common.{Ok, Some}
+use Rattle.ca_replace.proofs.Cutting.{entered_cut, looked_cut, stop_cut}
+use Rattle.ca_replace.proofs.Winning.{won_on}
 use Rattle.ca_replace.proofs.puts.PutNewCallAttempt.attempt.Goals as goal
 
 pub enter-requires-clause-answer : goal.enter-requires-clause-answer
@@ -68,6 +72,47 @@ returns-in-Ok-clause-counted c = paid_behind c.args.spent.now c.put_there.new.sp
     c.put_there.new.pass.seat.me c.find-place.ensures.quiet c.put_there.ensures.counted
 
 pub returns-in-Ok-clause-met_as : goal.returns-in-Ok-clause-met_as
-returns-in-Ok-clause-met_as c = met_between c.put_there.new.adapting.last.adapted c.args.pass.now.seat.me c.find-place.new.pass.seat.me c.put_there.new.pass.seat.me
+returns-in-Ok-clause-met_as c = met_between c.put_there.new.adapting.last.adapted c.args.pass.now.seat.me c.find-place.new.pass.seat.me
+    c.put_there.new.pass.seat.me
     c.put_there.new.pass.seat.me (quiet_none c.args.pass.now.seat.me c.find-place.new.pass.seat.me c.find-place.ensures.quiet)
     (same_none c.put_there.new.pass.seat.me c.put_there.new.pass.seat.me refl) c.in-Ok.ensures.met_as
+
+pub returns-then-is_ok-clause-grown : goal.returns-then-is_ok-clause-grown
+returns-then-is_ok-clause-grown c alone = entered_grown c.args.pass.now.seat.me c.find-place.new.pass.seat.me c.enter.new.pass.seat.me _
+    c.find-place.ensures.quiet c.enter.ensures.entered
+
+pub returns-in-Ok-clause-grown : goal.returns-in-Ok-clause-grown
+returns-in-Ok-clause-grown c = let o = c.args.self.now in looked_grown {T = Unit {0}} c.args.space.now.table.shared.key
+    (Some (slice_range o.object.now o.key_at o.key_end))
+    (Ok tt) c.args.pass.now.seat.me c.find-place.new.pass.seat.me c.put_there.new.pass.seat.me.0.upper c.requires.known
+    c.find-place.ensures.looking.known c.find-place.ensures.further c.find-place.ensures.quiet c.in-Ok.ensures.grown
+
+pub returns-in-Err-clause-grown : goal.returns-in-Err-clause-grown
+returns-in-Err-clause-grown c = let o = c.args.self.now in stop_grown (Unit {0}) Bool c.args.space.now.table.shared.key
+    (Some (slice_range o.object.now o.key_at o.key_end))
+    c.in-Err.stop c.args.pass.now.seat.me c.find-place.new.pass.seat.me c.put_there.new.pass.seat.me.0.upper c.requires.known
+    c.find-place.ensures.looking.known c.find-place.ensures.further c.find-place.ensures.quiet c.in-Err.ensures.grown
+
+pub returns-then-is_ok-clause-cut : goal.returns-then-is_ok-clause-cut
+returns-then-is_ok-clause-cut c = entered_cut c.args.pass.now.seat.me c.find-place.new.pass.seat.me c.enter.new.pass.seat.me _
+    c.find-place.ensures.quiet c.enter.ensures.entered
+
+pub returns-in-Ok-clause-cut : goal.returns-in-Ok-clause-cut
+returns-in-Ok-clause-cut c = let o = c.args.self.now in looked_cut (λ (_ : Unit {0}). true) c.args.space.now.table.shared.key
+    (Some (slice_range o.object.now o.key_at o.key_end)) (Ok tt) c.args.pass.now.seat.me c.find-place.new.pass.seat.me
+    c.put_there.new.pass.seat.me.0.upper c.find-place.ensures.quiet c.in-Ok.ensures.cut
+
+pub returns-in-Err-clause-cut : goal.returns-in-Err-clause-cut
+returns-in-Err-clause-cut c = let o = c.args.self.now in stop_cut (Unit {0}) Bool (λ _. true) (λ new. new) c.args.space.now.table.shared.key
+    (Some (slice_range o.object.now o.key_at o.key_end)) c.in-Err.stop c.args.pass.now.seat.me c.find-place.new.pass.seat.me
+    c.put_there.new.pass.seat.me.0.upper c.find-place.ensures.quiet c.in-Err.ensures.cut
+
+pub returns-in-Ok-clause-won : goal.returns-in-Ok-clause-won
+returns-in-Ok-clause-won c alone = won_on true c.args.pass.now.seat.me.0.upper c.find-place.new.pass.seat.me.0.upper c.put_there.new.pass.seat.me.0.upper
+    c.find-place.ensures.quiet.idle.1 (c.in-Ok.ensures.won (alone_on c.args.space.now.table.shared.key c.args.pass.now.seat.me.0.upper
+    c.find-place.new.pass.seat.me.0.upper c.find-place.ensures.further.number alone))
+
+pub returns-in-Err-clause-won : goal.returns-in-Err-clause-won
+returns-in-Err-clause-won c alone = won_on false c.args.pass.now.seat.me.0.upper c.find-place.new.pass.seat.me.0.upper c.put_there.new.pass.seat.me.0.upper
+    c.find-place.ensures.quiet.idle.1 (c.in-Err.ensures.won (alone_on c.args.space.now.table.shared.key c.args.pass.now.seat.me.0.upper
+    c.find-place.new.pass.seat.me.0.upper c.find-place.ensures.further.number alone))

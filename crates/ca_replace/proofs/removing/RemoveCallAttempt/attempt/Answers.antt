@@ -12,6 +12,7 @@ use Rattle.ca_replace.proofs.Showing.{did, read_done}
 use Rattle.ca_replace.proofs.Tallies.{tallied_read}
 use Rattle.ca_replace.proofs.Meeting.{further_on}
 use Rattle.ca_replace.proofs.DueCauses.{met_between, quiet_none, same_none}
+use Rattle.ca_replace.proofs.Cutting.{entered_cut, looked_cut, stop_cut}
 use Rattle.ca_replace.proofs.removing.RemoveCallAttempt.attempt.Goals as goal
 
 pub returns-in_default-clause-tried : goal.returns-in_default-clause-tried
@@ -73,6 +74,20 @@ returns-in-Ok-remove_there-clause-counted c = paid_behind c.args.spent.now c.rem
     c.remove_there.new.pass.seat.me c.fetch-place.ensures.quiet c.remove_there.ensures.counted
 
 pub returns-in-Ok-remove_there-clause-met_as : goal.returns-in-Ok-remove_there-clause-met_as
-returns-in-Ok-remove_there-clause-met_as c = met_between c.remove_there.new.adapting.last.adapted c.args.pass.now.seat.me c.fetch-place.new.pass.seat.me c.remove_there.new.pass.seat.me
+returns-in-Ok-remove_there-clause-met_as c = met_between c.remove_there.new.adapting.last.adapted c.args.pass.now.seat.me c.fetch-place.new.pass.seat.me
+    c.remove_there.new.pass.seat.me
     c.remove_there.new.pass.seat.me (quiet_none c.args.pass.now.seat.me c.fetch-place.new.pass.seat.me c.fetch-place.ensures.quiet)
     (same_none c.remove_there.new.pass.seat.me c.remove_there.new.pass.seat.me refl) c.in-Ok-remove_there.ensures.met_as
+
+pub returns-in_default-clause-cut : goal.returns-in_default-clause-cut
+returns-in_default-clause-cut c = entered_cut c.args.pass.now.seat.me c.fetch-place.new.pass.seat.me c.enter.new.pass.seat.me _
+    c.fetch-place.ensures.quiet c.enter.ensures.entered
+
+pub returns-in-Ok-remove_there-clause-cut : goal.returns-in-Ok-remove_there-clause-cut
+returns-in-Ok-remove_there-clause-cut c = looked_cut (λ (_ : Unit {0}). true) c.args.space.now.table.shared.key None (Ok tt) c.args.pass.now.seat.me
+    c.fetch-place.new.pass.seat.me c.remove_there.new.pass.seat.me.0.upper c.fetch-place.ensures.quiet c.in-Ok-remove_there.ensures.cut
+
+pub returns-in-Err-clause-cut : goal.returns-in-Err-clause-cut
+returns-in-Err-clause-cut c = stop_cut (Unit {0}) Bool (λ _. true) (λ (was : Bool). was) c.args.space.now.table.shared.key None c.in-Err.stop
+    c.args.pass.now.seat.me c.fetch-place.new.pass.seat.me c.remove_there.new.pass.seat.me.0.upper c.fetch-place.ensures.quiet
+    c.in-Err.ensures.cut

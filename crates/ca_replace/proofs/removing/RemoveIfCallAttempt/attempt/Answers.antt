@@ -1,4 +1,4 @@
-use Rattle.std.proofs.Common.{ℕ, List, map, Ok, Some, None, refl, ap, ◌∙◌, subst}
+use Rattle.std.proofs.Common.{ℕ, List, map, Ok, Some, None, true, refl, ap, ◌∙◌, subst}
 use Rattle.std.specs.Prelude.{Result}
 use Rattle.ca_model.specs.declared.outcome.Changed.{Changed}
 use Rattle.ca_model.specs.declared.outcome.Changed.TheVariants as changed
@@ -14,6 +14,8 @@ use Rattle.ca_replace.proofs.Showing.{did, read_done}
 use Rattle.ca_replace.proofs.Tallies.{tallied_read}
 use Rattle.ca_replace.proofs.Meeting.{further_on}
 use Rattle.ca_replace.proofs.DueCauses.{met_between, quiet_none, same_none}
+use Rattle.ca_replace.specs.Adapting.{is_put}
+use Rattle.ca_replace.proofs.Cutting.{entered_cut, looked_cut, stop_cut}
 use Rattle.ca_replace.proofs.removing.RemoveIfCallAttempt.attempt.Goals as goal
 
 pub returns-in_default-clause-tried : goal.returns-in_default-clause-tried
@@ -101,6 +103,28 @@ returns-in-Ok-remove_there-clause-counted g c = paid_behind c.args.spent.now c.r
     c.remove_there.new.pass.seat.me c.fetch-place.ensures.quiet c.remove_there.ensures.counted
 
 pub returns-in-Ok-remove_there-clause-met_as : goal.returns-in-Ok-remove_there-clause-met_as
-returns-in-Ok-remove_there-clause-met_as g c = met_between c.remove_there.new.adapting.last.adapted c.args.pass.now.seat.me c.fetch-place.new.pass.seat.me c.remove_there.new.pass.seat.me
+returns-in-Ok-remove_there-clause-met_as g c = met_between c.remove_there.new.adapting.last.adapted c.args.pass.now.seat.me c.fetch-place.new.pass.seat.me
+    c.remove_there.new.pass.seat.me
     c.remove_there.new.pass.seat.me (quiet_none c.args.pass.now.seat.me c.fetch-place.new.pass.seat.me c.fetch-place.ensures.quiet)
     (same_none c.remove_there.new.pass.seat.me c.remove_there.new.pass.seat.me refl) c.in-Ok-remove_there.ensures.met_as
+
+pub returns-in_default-clause-cut : goal.returns-in_default-clause-cut
+returns-in_default-clause-cut g c = entered_cut c.args.pass.now.seat.me c.fetch-place.new.pass.seat.me c.enter.new.pass.seat.me _
+    c.fetch-place.ensures.quiet c.enter.ensures.entered
+
+pub returns-then-not-f-clause-cut : goal.returns-then-not-f-clause-cut
+returns-then-not-f-clause-cut g c = entered_cut c.args.pass.now.seat.me c.fetch-place.new.pass.seat.me c.enter-then-not-f.new.pass.seat.me _
+    c.fetch-place.ensures.quiet c.enter-then-not-f.ensures.entered
+
+pub returns-in-Ok-remove_there-clause-cut : goal.returns-in-Ok-remove_there-clause-cut
+returns-in-Ok-remove_there-clause-cut g c = looked_cut (λ (_ : Unit {0}). true) c.args.space.now.table.shared.key None (Ok tt) c.args.pass.now.seat.me
+    c.fetch-place.new.pass.seat.me c.remove_there.new.pass.seat.me.0.upper c.fetch-place.ensures.quiet c.in-Ok-remove_there.ensures.cut
+
+pub returns-in-Err-clause-cut : goal.returns-in-Err-clause-cut
+returns-in-Err-clause-cut g c = stop_cut (Unit {0}) Changed (λ _. true) is_put c.args.space.now.table.shared.key None c.in-Err.stop
+    c.args.pass.now.seat.me c.fetch-place.new.pass.seat.me c.remove_there.new.pass.seat.me.0.upper c.fetch-place.ensures.quiet
+    c.in-Err.ensures.cut
+
+pub returns-in-Err-clause-counted : goal.returns-in-Err-clause-counted
+returns-in-Err-clause-counted g c = paid_behind c.args.spent.now c.remove_there.new.spent c.args.pass.now.seat.me c.fetch-place.new.pass.seat.me
+    c.remove_there.new.pass.seat.me c.fetch-place.ensures.quiet c.remove_there.ensures.counted

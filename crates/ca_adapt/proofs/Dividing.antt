@@ -1,0 +1,49 @@
+-- What became of a base that was to be split, by what became of its exchange.
+use Rattle.std.proofs.Common.{◌≡◌, ◌≢◌, ℕ, Bool, true, false, length, Result, Ok, Err, sym, refl, subst, inl, inr}
+use Rattle.ca_adapt.specs.declared.adapted.Adapted.{Adapted}
+use Rattle.ca_adapt.specs.Splits.{IsSplitAs, MayBeSplit, IsPoolsLoss, answer_to, attempts_at_first}
+use Rattle.ca_base.specs.declared.taking.NoRow.{NoRow}
+use Rattle.ca_base.specs.declared.taking.NoRow.TheVariants as norow
+use Rattle.ca_base.specs.Counting.{HasEnded}
+use Rattle.ca_base.specs.Putting.{first_note}
+use Rattle.ca_base.specs.Splitting.{HasSplit}
+use Rattle.ca_node.specs.Inventory.{IsListed}
+use Rattle.ca_node.specs.Told.{MyTree, IsAlone}
+use Rattle.ca_node.specs.TreeView.{Note}
+use Rattle.ca_rows.specs.declared.sizes.Sizes.{Sizes}
+
+-- It was split where the exchange won; else there is the cause.
+split_by : (z : Sizes) (note : Note) (r : Result Bool NoRow) (m m' : MyTree) → MayBeSplit z note → HasEnded r m m'
+    → HasSplit (length note.objects) (attempts_at_first z) r m.0.upper m'.0.upper → IsSplitAs z note (answer_to r) m m'
+split_by z note (Ok true) m m' may ended split = (may, ended, split)
+split_by z note (Ok false) m m' may ended split = (may, ended.0, ended.1, inr split)
+split_by z note (Err norow.Lost) m m' may ended split = (may, ended.0, ended.1, inl split)
+split_by z note (Err norow.Empty) m m' may ended split = (may, ended, split)
+split_by z note (Err norow.Worn) m m' may ended split = (may, ended, split)
+
+-- The same, where the objects were counted and the pass knew as much before.
+pub split_as : (z : Sizes) (note : Note) (r : Result Bool NoRow) (a : Adapted) (many attempt : ℕ) (k m m' : MyTree) → m ≡ k → many ≡ length note.objects
+    → attempt ≡ attempts_at_first z → a ≡ answer_to r → MayBeSplit z note → HasEnded r m m' → HasSplit many attempt r m.0.upper m'.0.upper → IsSplitAs z note a k m'
+split_as z note r a many attempt k m m' same are first is may ended split = subst (λ (x : Adapted). IsSplitAs z note x k m') (sym is)
+    (subst (λ (x : MyTree). IsSplitAs z note (answer_to r) x m') same (split_by z note r m m' may ended
+    (subst (λ (n : ℕ × ℕ). HasSplit n.0 n.1 r m.0.upper m'.0.upper) (λ i. (are i, first i)) split)))
+
+-- Where the exchange of the base wasn't lost, that of the pool's head was.
+pools_by : (r : Result Bool NoRow) (many attempt : ℕ) (m m' : MyTree) → r ≢ Ok false → HasSplit many attempt r m.0.upper m'.0.upper
+    → IsPoolsLoss (answer_to r) m m'
+pools_by (Ok true) many attempt m m' won split e = absurd cc
+pools_by (Ok false) many attempt m m' won split e = absurd (won refl)
+pools_by (Err norow.Lost) many attempt m m' won split e = split
+pools_by (Err norow.Empty) many attempt m m' won split e = split
+pools_by (Err norow.Worn) many attempt m m' won split e = split
+
+-- The same, where the pass knew as much before.
+pub pools_as : (z : Sizes) (r : Result Bool NoRow) (a : Adapted) (many attempt : ℕ) (k m m' : MyTree) → m ≡ k → a ≡ answer_to r
+    → (IsAlone z m.0.upper → IsListed m.0.upper.inventory (first_note m.0.upper.notes) → r ≢ Ok false)
+    → HasSplit many attempt r m.0.upper m'.0.upper
+    → IsAlone z k.0.upper → IsListed k.0.upper.inventory (first_note k.0.upper.notes) → IsPoolsLoss a k m'
+pools_as z r a many attempt k m m' same is so split alone listed = subst (λ (x : Adapted). IsPoolsLoss x k m') (sym is)
+    (subst (λ (x : MyTree). IsPoolsLoss (answer_to r) x m') same (pools_by r many attempt m m' (so here.0 here.1) split))
+  where
+    here : IsAlone z m.0.upper × IsListed m.0.upper.inventory (first_note m.0.upper.notes)
+    here = subst (λ (x : MyTree). IsAlone z x.0.upper × IsListed x.0.upper.inventory (first_note x.0.upper.notes)) (sym same) (alone, listed)

@@ -1,0 +1,42 @@
+-- What a tree has, listed: how the list changes as a base takes the place of another one, or is split.
+use Rattle.std.specs.Prelude.{◌≡◌, ◌==◌, ℕ, List, [], ◌∷◌, cond}
+use Rattle.ca_node.specs.Links.{IsIn, IsLinked}
+use Rattle.ca_node.specs.Place.{Place, HasKey}
+use Rattle.ca_node.specs.Shape.{Role, Base}
+use Rattle.ca_node.specs.TreeView.{Note, Inventory}
+
+-- No two members of the list are of one row.
+abbrev pub AreOnce : {A : Type 0} → (A → ℕ) → List A → Type 0
+AreOnce row_of [] = Unit {0}
+AreOnce row_of (x ∷ xs) = (¬ ((y : _) × IsIn y xs × (row_of y ≡ row_of x))) × AreOnce row_of xs
+
+-- the members that aren't of this row, or of one of these rows
+abbrev pub but : {A : Type 0} → (A → ℕ) → ℕ → List A → List A
+but row_of row [] = []
+but row_of row (x ∷ xs) = cond (row_of x == row) (but row_of row xs) (x ∷ but row_of row xs)
+
+abbrev pub but_all : {A : Type 0} → (A → ℕ) → List ℕ → List A → List A
+but_all row_of [] xs = xs
+but_all row_of (row ∷ rows) xs = but row_of row (but_all row_of rows xs)
+
+-- the row itself, and that of a base
+abbrev pub row_itself : ℕ → ℕ
+row_itself row = row
+
+abbrev pub row_of_base : ℕ × Place → ℕ
+row_of_base base = base.0
+
+-- A tree with these roles in the words has this: each linked row is listed, each base with its place, and nothing else.
+pub record IsInventory (words : List ℕ) (role : ℕ → Role) (i : Inventory) : Type 0 where
+  pub linked : (row : ℕ) → IsLinked words row → IsIn row i.rows
+  pub rows : (row : ℕ) → IsIn row i.rows → IsLinked words row
+  pub rows_once : AreOnce row_itself i.rows
+  pub based : (row : ℕ) (place : Place) → role row ≡ Base place → IsIn (row, place) i.bases
+  pub bases : (row : ℕ) (place : Place) → IsIn (row, place) i.bases → role row ≡ Base place
+  pub bases_once : AreOnce row_of_base i.bases
+
+-- The base that was shown is listed, at its place, and no other one that is has a key that is led there.
+pub record IsListed (i : Inventory) (note : Note) : Type 0 where
+  pub row : IsIn note.row i.rows
+  pub base : IsIn (note.row, note.place) i.bases
+  pub only : (row : ℕ) (place : Place) (key : List ℕ) → IsIn (row, place) i.bases → HasKey place.span key → HasKey note.place.span key → row ≡ note.row

@@ -1,0 +1,63 @@
+-- Which bases a call split: full ones that had to take its new key, before its update, and after it the one that is due.
+use Rattle.std.specs.Prelude.{◌≡◌, ◌⊎◌, ℕ, ◌≤◌, Bool, true, false, List, ◌∷◌, ◌++◌, length, map, Result, Ok, Err}
+use Rattle.std.specs.declared.option.Option.{Option}
+use Rattle.std.specs.declared.option.Option.TheVariants.{None, Some}
+use Rattle.ca_model.specs.declared.outcome.Outcome.{Outcome}
+use Rattle.ca_model.specs.declared.outcome.Outcome.TheVariants as outcome
+use Rattle.ca_model.specs.StoreMap.{IsFound}
+use Rattle.ca_node.specs.Links.{IsIn}
+use Rattle.ca_node.specs.Place.{HasKey}
+use Rattle.ca_node.specs.Row.{pair}
+use Rattle.ca_node.specs.TreeView.{Note, TreeView}
+use Rattle.ca_replace.specs.declared.attempting.Stop.{Stop}
+use Rattle.ca_replace.specs.declared.attempting.Stop.TheVariants as stop
+use Rattle.ca_rows.specs.declared.sizes.Sizes.{Sizes}
+
+-- The base is full, and the key that the call may add, if any, is led to it: no object there has it.
+abbrev pub IsFullFor : Sizes → Option (List ℕ) → Note → Type 0
+IsFullFor z None note = ⊥
+IsFullFor z (Some key) note = (z.leaf ≤ length note.objects) × HasKey note.place.span key × IsFound (map pair note.objects) key None
+
+-- The bases that were split since so many had been split are such ones.
+abbrev pub AreCutFull : Sizes → Option (List ℕ) → List Note → List Note → Type 0
+AreCutFull z adds before now = (full : List Note) × (now ≡ full ++ before) × ((note : Note) → IsIn note full → IsFullFor z adds note)
+
+-- No base was split but such ones.
+abbrev pub HasCutFull : Sizes → Option (List ℕ) → TreeView → TreeView → Type 0
+HasCutFull z adds u v = AreCutFull z adds u.cuts v.cuts
+
+-- No base was split since these had been split, or one, that is the new one of the last update and was shown last.
+abbrev pub HasCutDue : List Note → TreeView → Type 0
+HasCutDue before v = (v.cuts ≡ before) ⊎ ((v.cuts ≡ v.last ∷ before) × (v.last.row ≡ v.renewal.new.row))
+
+-- So it is where an update was carried out; else no base was split.
+abbrev pub HasCutIf : Bool → List Note → TreeView → Type 0
+HasCutIf true before v = HasCutDue before v
+HasCutIf false before v = v.cuts ≡ before
+
+-- One attempt of a call that may add this key, if any.
+abbrev pub HasCut : {T : Type 0} → (T → Bool) → Sizes → Option (List ℕ) → Result T Stop → TreeView → TreeView → Type 0
+HasCut edits z adds (Ok x) u v = HasCutIf (edits x) u.cuts v
+HasCut edits z adds (Err stop.Split) u v = (note : Note) × (v.cuts ≡ note ∷ u.cuts) × IsFullFor z adds note
+HasCut edits z adds (Err stop.Lost) u v = v.cuts ≡ u.cuts
+HasCut edits z adds (Err stop.Empty) u v = v.cuts ≡ u.cuts
+HasCut edits z adds (Err stop.Worn) u v = v.cuts ≡ u.cuts
+HasCut edits z adds (Err stop.Deep) u v = v.cuts ≡ u.cuts
+
+-- Full bases were split before the update, and after it the one that is due, if it is; where none was carried out, none but full ones.
+abbrev pub CutsBy : Bool → Sizes → Option (List ℕ) → TreeView → TreeView → Type 0
+CutsBy true z adds u v = (then : List Note) × AreCutFull z adds u.cuts then × HasCutDue then v
+CutsBy false z adds u v = HasCutFull z adds u v
+
+-- Attempts of a call, the last of which did it, or none.
+abbrev pub HasCutSoFar : {T E : Type 0} → (T → Bool) → Sizes → Option (List ℕ) → Result T E → TreeView → TreeView → Type 0
+HasCutSoFar edits z adds (Ok x) u v = CutsBy (edits x) z adds u v
+HasCutSoFar edits z adds (Err why) u v = HasCutFull z adds u v
+
+-- A call, by its outcome.
+abbrev pub HasCutAs : {T : Type 0} → (T → Bool) → Sizes → Option (List ℕ) → Outcome T → TreeView → TreeView → Type 0
+HasCutAs edits z adds (outcome.Done x) u v = CutsBy (edits x) z adds u v
+HasCutAs edits z adds (outcome.Busy s) u v = HasCutFull z adds u v
+HasCutAs edits z adds (outcome.Full s) u v = HasCutFull z adds u v
+HasCutAs edits z adds (outcome.Deep s) u v = HasCutFull z adds u v
+HasCutAs edits z adds (outcome.Worn s) u v = HasCutFull z adds u v
