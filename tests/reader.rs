@@ -1,24 +1,32 @@
-//! The proved reader of term texts, called in the static library of crate ca_speed.
+//! The proved reader of term texts, asked in the program ca_answers.
 
-/// What `ca_speed_read` answers: its own struct, byte for byte.
-#[repr(C)]
-#[derive(Default)]
-pub struct Reading {
-    /// 0 a term, 1 `Syntax`, 2 `AtomTooLong`, 3 `TooDeep`, 4 `TooWide`, 5 memory or room for the text is lacking.
-    pub kind: u32,
-    /// How many bytes the term's text has, or the place of the fault.
-    pub at: usize,
-    /// How many bytes of the room hold the printed text.
-    pub printed: usize,
+use crate::answers::{Answers, hex};
+
+/// What `read_term` answers.
+#[derive(Debug, Clone, PartialEq, Eq)]
+pub enum Reading {
+    /// A text of so many bytes, and the printed text of its term.
+    Read { length: usize, text: Vec<u8> },
+    /// Why and where there is none: the name of the fault, and its place; `NoMemory` has none.
+    Fault { name: String, at: usize },
 }
 
-unsafe extern "C" {
-    fn ca_speed_read(bytes: *const u8, len: usize, room: *mut u8, room_len: usize, into: *mut Reading);
+/// Reads the text at the front of each of some bytes.
+pub fn read(program: &mut Answers, inputs: &[&[u8]]) -> Vec<Reading> {
+    let calls: Vec<String> = inputs.iter().map(|bytes| format!("read-bytes {}", hex(bytes))).collect();
+    program.ask(&calls).iter().map(|told| reading(told)).collect()
 }
 
-/// Reads the text at the front of some bytes, and prints its term into the room.
-pub fn read(bytes: &[u8], room: &mut [u8]) -> Reading {
-    let mut reading = Reading::default();
-    unsafe { ca_speed_read(bytes.as_ptr(), bytes.len(), room.as_mut_ptr(), room.len(), &mut reading) };
-    reading
+/// `LENGTH TEXT`, or `NAME { at: PLACE }`, or `NoMemory`.
+fn reading(told: &[u8]) -> Reading {
+    let blank = told.iter().position(|byte| *byte == b' ').unwrap_or(told.len());
+    let first = String::from_utf8_lossy(&told[..blank]);
+    let rest = told.get(blank + 1..).unwrap_or(&[]);
+    match first.parse() {
+        Ok(length) => Reading::Read { length, text: rest.to_vec() },
+        Err(_) => {
+            let digits: String = rest.iter().filter(|byte| byte.is_ascii_digit()).map(|byte| char::from(*byte)).collect();
+            Reading::Fault { name: first.into_owned(), at: digits.parse().unwrap_or(0) }
+        }
+    }
 }

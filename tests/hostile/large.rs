@@ -1,7 +1,8 @@
 //! Inputs of some million bytes, none of which is a text: a refusal takes time in proportion to their length at most.
 
-use crate::definition::{Answer, Kind};
-use crate::library;
+use crate::answers::Answers;
+use crate::definition::Kind;
+use crate::reader::{Reading, read};
 use std::time::{Duration, Instant};
 
 /// How often the part stands behind its front.
@@ -21,19 +22,19 @@ const TOO_LARGE: [(&str, &str, Kind, usize); 5] = [
 ];
 
 /// What is wrong with the answer to a front and so many parts, if anything: None as the fault is `Syntax` at the end.
-fn wrong(front: &str, part: &str, fault: Option<(Kind, usize)>) -> Option<String> {
+fn wrong(program: &mut Answers, front: &str, part: &str, fault: Option<(Kind, usize)>) -> Option<String> {
     let bytes = [front, &part.repeat(TIMES)].concat().into_bytes();
     let (kind, at) = fault.unwrap_or((Kind::Syntax, bytes.len()));
     let start = Instant::now();
-    let told = library::answer(&bytes, &mut []);
+    let told = read(program, &[&bytes]).remove(0);
     let took = start.elapsed();
-    let is_right = told == Some(Answer::Refused { kind, at });
+    let is_right = told == Reading::Fault { name: format!("{kind:?}"), at };
     (!is_right || took > MOST).then(|| format!("{front} and {TIMES} times {part}: {told:?} after {took:?}"))
 }
 
 /// The answers that are wrong or came too late.
-pub fn faults() -> Vec<String> {
-    let endless = ENDLESS.into_iter().filter_map(|(front, part)| wrong(front, part, None));
-    let too_large = TOO_LARGE.into_iter().filter_map(|(front, part, kind, at)| wrong(front, part, Some((kind, at))));
-    endless.chain(too_large).collect()
+pub fn faults(program: &mut Answers) -> Vec<String> {
+    let endless = ENDLESS.map(|(front, part)| (front, part, None));
+    let too_large = TOO_LARGE.map(|(front, part, kind, at)| (front, part, Some((kind, at))));
+    endless.into_iter().chain(too_large).filter_map(|(front, part, fault)| wrong(program, front, part, fault)).collect()
 }

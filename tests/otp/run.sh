@@ -13,14 +13,16 @@ if ! command -v rustc >/dev/null; then
     exit 0
 fi
 OUT=${OUT:-$(mktemp -d)}
-tools/harness tests/otp/pairs.rs "$OUT/pairs"
+ANSWERS=$(tools/answers)
+export ANSWERS
+rustc --edition 2024 -O tests/otp/pairs.rs -o "$OUT/pairs"
 escript tests/otp/pairs.escript "${PAIRS:-2000}" >"$OUT/pairs.txt"
 "$OUT/pairs" <"$OUT/pairs.txt"
-tools/harness tests/otp/texts.rs "$OUT/texts"
+rustc --edition 2024 -O tests/otp/texts.rs -o "$OUT/texts"
 escript tests/otp/texts.escript make "${TEXTS:-2000}" >"$OUT/texts.txt"
 "$OUT/texts" <"$OUT/texts.txt" >"$OUT/answers.txt"
 escript tests/otp/texts.escript compare "$OUT/answers.txt"
-tools/harness tests/otp/specs.rs "$OUT/specs"
+rustc --edition 2024 -O tests/otp/specs.rs -o "$OUT/specs"
 escript tests/otp/specs.escript make "${SPECS:-2000}" >"$OUT/specs.txt"
 "$OUT/specs" <"$OUT/specs.txt" >"$OUT/chosen.txt"
 escript tests/otp/specs.escript compare "$OUT/chosen.txt"

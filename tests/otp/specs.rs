@@ -2,67 +2,40 @@
 //! with what the proved crate chooses behind it: `none`, `result` and its printed text, or `fault` with its clause and reason. Built and run
 //! by tests/otp/run.sh.
 
+#[path = "../answers.rs"]
+mod answers;
+
+use answers::{Answers, bytes_of, hex};
 use std::io::{BufRead, BufWriter, Write, stdin, stdout};
 
-/// What `ca_speed_choose` answers: its own struct, byte for byte.
-#[repr(C)]
-#[derive(Default)]
-struct Choice {
-    /// 0 nothing is chosen, 1 a result, 2 to 7 the specification is refused for one of `REASONS`, 8 a text was not read or memory is lacking.
-    kind: u32,
-    /// The clause that is refused.
-    clause: u32,
-    /// How many bytes of the room hold the printed result.
-    printed: usize,
+fn text(word: &str) -> String {
+    String::from_utf8(bytes_of(word.strip_prefix('=').expect("a text"))).expect("UTF-8")
 }
 
-unsafe extern "C" {
-    fn ca_speed_choose(
-        specification: *const u8,
-        specification_len: usize,
-        object: *const u8,
-        object_len: usize,
-        room: *mut u8,
-        room_len: usize,
-        into: *mut Choice,
-    );
+fn call(line: &str) -> String {
+    let words: Vec<&str> = line.split(' ').collect();
+    format!("apply {} {}", text(words[1]), text(words[2]))
 }
 
-const REASONS: [&str; 6] = ["NotAList", "NotAClause", "BadHead", "BadGuard", "BadBody", "Unbound"];
-
-fn bytes(word: &str) -> Vec<u8> {
-    let hex = word.strip_prefix('=').expect("a text");
-    (0..hex.len()).step_by(2).map(|at| u8::from_str_radix(&hex[at..at + 2], 16).expect("hexadecimal")).collect()
-}
-
-fn answer(specification: &[u8], object: &[u8], room: &mut [u8]) -> String {
-    let mut choice = Choice::default();
-    unsafe {
-        ca_speed_choose(
-            specification.as_ptr(),
-            specification.len(),
-            object.as_ptr(),
-            object.len(),
-            room.as_mut_ptr(),
-            room.len(),
-            &mut choice,
-        );
+/// `result TEXT`, `none` or `BadSpec { clause: NUMBER, why: REASON }`.
+fn shown(told: &[u8]) -> String {
+    if let Some(text) = told.strip_prefix(b"result ") {
+        return format!("result ={}", hex(text));
     }
-    match choice.kind {
-        0 => "none".into(),
-        1 => format!("result ={}", room[..choice.printed].iter().map(|byte| format!("{byte:02x}")).collect::<String>()),
-        kind @ 2..=7 => format!("fault {} {}", choice.clause, REASONS[kind as usize - 2]),
-        _ => "unread".into(),
+    let told = String::from_utf8_lossy(told);
+    let fault = told.strip_prefix("BadSpec { clause: ").and_then(|rest| rest.strip_suffix(" }")).and_then(|rest| rest.split_once(", why: "));
+    match (told.as_ref(), fault) {
+        ("none", _) => "none".to_string(),
+        (_, Some((clause, why))) => format!("fault {clause} {why}"),
+        _ => "unread".to_string(),
     }
 }
 
 fn main() {
-    let mut room = vec![0; 1 << 16];
+    let lines: Vec<String> = stdin().lock().lines().map(|line| line.expect("a line")).collect();
+    let calls: Vec<String> = lines.iter().map(|line| call(line)).collect();
     let mut out = BufWriter::new(stdout().lock());
-    for line in stdin().lock().lines() {
-        let line = line.expect("a line");
-        let words: Vec<&str> = line.split(' ').collect();
-        let told = answer(&bytes(words[1]), &bytes(words[2]), &mut room);
-        writeln!(out, "{line} {told}").expect("output");
+    for (line, told) in lines.iter().zip(Answers::start().ask(&calls)) {
+        writeln!(out, "{line} {}", shown(&told)).expect("output");
     }
 }

@@ -1,33 +1,32 @@
 //! Reads lines whose second word is a text in hexadecimal behind a `=`, and writes each with the proved reader's answer behind it:
 //! `read`, how many bytes the term's text has and its printed text, or the fault and its place. Built and run by tests/otp/run.sh.
 
-use std::io::{BufRead, BufWriter, Write, stdin, stdout};
-
+#[path = "../answers.rs"]
+mod answers;
 #[path = "../reader.rs"]
 mod reader;
 
-const FAULTS: [&str; 6] = ["read", "Syntax", "AtomTooLong", "TooDeep", "TooWide", "NoMemory"];
+use answers::{Answers, bytes_of, hex};
+use reader::Reading;
+use std::io::{BufRead, BufWriter, Write, stdin, stdout};
 
-fn bytes(hex: &str) -> Vec<u8> {
-    (0..hex.len()).step_by(2).map(|at| u8::from_str_radix(&hex[at..at + 2], 16).expect("hexadecimal")).collect()
+fn text(line: &str) -> Vec<u8> {
+    bytes_of(line.split(' ').nth(1).and_then(|word| word.strip_prefix('=')).expect("a text"))
 }
 
-fn answer(text: &[u8], room: &mut [u8]) -> String {
-    let reading = reader::read(text, room);
-    let word = FAULTS[reading.kind as usize];
-    if reading.kind > 0 {
-        return format!("{word} {}", reading.at);
+fn shown(reading: &Reading) -> String {
+    match reading {
+        Reading::Read { length, text } => format!("read {length} ={}", hex(text)),
+        Reading::Fault { name, at } => format!("{name} {at}"),
     }
-    let printed: String = room[..reading.printed].iter().map(|byte| format!("{byte:02x}")).collect();
-    format!("{word} {} ={printed}", reading.at)
 }
 
 fn main() {
-    let mut room = vec![0; 1 << 16];
+    let lines: Vec<String> = stdin().lock().lines().map(|line| line.expect("a line")).collect();
+    let texts: Vec<Vec<u8>> = lines.iter().map(|line| text(line)).collect();
+    let texts: Vec<&[u8]> = texts.iter().map(Vec::as_slice).collect();
     let mut out = BufWriter::new(stdout().lock());
-    for line in stdin().lock().lines() {
-        let line = line.expect("a line");
-        let text = line.split(' ').nth(1).and_then(|word| word.strip_prefix('=')).expect("a text");
-        writeln!(out, "{line} {}", answer(&bytes(text), &mut room)).expect("output");
+    for (line, reading) in lines.iter().zip(reader::read(&mut Answers::start(), &texts)) {
+        writeln!(out, "{line} {}", shown(&reading)).expect("output");
     }
 }

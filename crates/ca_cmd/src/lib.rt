@@ -20,6 +20,3 @@ pub use laws::file_laws;
 pub use line::{Line, Lines, MOST_LINE_BYTES};
 pub use output::{show_answer, show_client, show_table};
 pub use reading::read_file;
-
-#[cfg(test)]
-mod tests;

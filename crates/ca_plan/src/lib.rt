@@ -7,6 +7,3 @@ mod fixed;
 
 pub use answer::Plan;
 pub use clauses::plan;
-
-#[cfg(test)]
-mod tests;

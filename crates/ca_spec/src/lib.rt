@@ -19,10 +19,3 @@ pub use compiler::compile;
 pub use fault::{SpecFault, SpecWhy};
 pub use results::apply;
 pub use spec::Spec;
-
-#[cfg(test)]
-mod alike;
-#[cfg(test)]
-mod applied;
-#[cfg(test)]
-mod tests;

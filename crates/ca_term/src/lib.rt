@@ -26,6 +26,3 @@ pub use term::{Kind, Term};
 pub use terms::Terms;
 pub use update::update_laws;
 pub use utf8::character;
-
-#[cfg(test)]
-mod tests;

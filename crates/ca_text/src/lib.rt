@@ -19,6 +19,3 @@ pub use print::{print_term, text_laws};
 pub use read::{read_laws, read_term};
 pub use scan::skip;
 pub use writer::{put, put_number};
-
-#[cfg(test)]
-mod tests;

@@ -5,6 +5,3 @@ mod options;
 mod words;
 
 pub use words::{Request, request_of};
-
-#[cfg(test)]
-mod tests;

@@ -1,0 +1,58 @@
+//! Calls of match specifications.
+ghost use Rattle.std.specs.Prelude.{◌≤◌};
+
+use crate::say::{say, say_term, say_value};
+use ca_match::match_result;
+use ca_plan::{Plan, plan};
+use ca_spec::{apply, compile};
+use ca_term::Term;
+use std::alloc::{AllocError, Global};
+
+/// The term of a specification, once it is compiled.
+pub(crate) fn say_compiled(alloc: Global, spec: &Term, into: &mut Vec<u8>) {
+    match compile(alloc, spec) {
+        Ok(spec) => say_term(spec.source(), into),
+        Err(fault) => say_value(alloc, &fault, into),
+    }
+}
+
+fn say_result(found: Result<Option<Term>, AllocError>, into: &mut Vec<u8>) {
+    match found {
+        Ok(Some(term)) => {
+            say(b"result ", into);
+            say_term(&term, into);
+        }
+        Ok(None) => say(b"none", into),
+        Err(_) => say(b"no memory", into),
+    }
+}
+
+/// What a compiled specification makes of an object.
+pub(crate) fn say_applied(alloc: Global, spec: &Term, object: &Term, into: &mut Vec<u8>) {
+    match compile(alloc, spec) {
+        Ok(spec) => say_result(apply(alloc, &spec, object), into),
+        Err(fault) => say_value(alloc, &fault, into),
+    }
+}
+
+/// What a specification makes of an object, by the plain matcher of its definition.
+pub(crate) fn say_matched(alloc: Global, spec: &Term, object: &Term, into: &mut Vec<u8>) {
+    say_result(match_result(alloc, spec, object), into);
+}
+
+/// Where the objects are that a specification can give a result.
+pub(crate) fn say_plan(alloc: Global, keypos: u32, spec: &Term, into: &mut Vec<u8>)
+    requires { 1 ≤ keypos }
+{
+    match compile(alloc, spec) {
+        Ok(spec) => match plan(alloc, &spec, keypos) {
+            Ok(Plan::Key(key)) => {
+                say(b"key ", into);
+                say_term(&key, into);
+            }
+            Ok(Plan::All) => say(b"all", into),
+            Err(_) => say(b"no memory", into),
+        },
+        Err(fault) => say_value(alloc, &fault, into),
+    }
+}
