@@ -66,8 +66,8 @@ fn main() {
     let refused = counts.refused / OBJECTS;
     let Counts { with_result, without, .. } = counts;
     println!("seed {seed}: {count} specifications, {refused} of them refused, {with_result} objects with a result and {without} with none, no difference");
-    // Of each sort enough came to compare: a quarter of the specifications, and of all objects every twelfth and every third.
-    if refused * 4 < *count || with_result * 3 < *count || without * 2 < *count * 3 {
+    // Of each sort enough must come, by shares that random specifications reach with some room.
+    if refused * 4 <= *count || with_result * 20 <= *count * 7 || without * 2 <= *count * 3 {
         println!("too few of some sort");
         exit(1);
     }
