@@ -10,7 +10,6 @@ pub mod PlainView
 pub mod RowView
 pub mod RunView
 pub mod Runs
-pub mod Samples
 pub mod Slab
 pub mod SlabView
 pub mod StoreMap

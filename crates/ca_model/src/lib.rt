@@ -15,6 +15,3 @@ pub use laws::{cuts_begin, passes_meet};
 pub use outcome::{Changed, Code, Counter, FullCause, Outcome, Spent};
 pub use plain::Plain;
 pub use store::OrderedStore;
-
-#[cfg(test)]
-mod tests;

@@ -16,6 +16,3 @@ pub use out_sink::OutSink;
 pub use shelf::{FetchFault, Shelf};
 pub use sink::{Sink, SinkFailed, write_out};
 pub use tape::{SureTape, Tape};
-
-#[cfg(test)]
-mod tests;

@@ -3,7 +3,6 @@ pub mod Answering
 pub mod Beginning
 pub mod Events
 pub mod Making
-pub mod Objects
 pub mod Passes
 pub mod Playing
 pub mod Turns

@@ -2,6 +2,5 @@ pub mod ForeignView
 pub mod Inner
 pub mod Played
 pub mod Refusals
-pub mod Samples
 pub mod Script
 pub mod ScriptedView

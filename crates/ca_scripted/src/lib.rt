@@ -12,8 +12,3 @@ pub use foreign::Foreign;
 pub use refusal::Refusal;
 pub use scripted::Scripted;
 pub use turn::Turn;
-
-#[cfg(test)]
-mod tests;
-#[cfg(test)]
-mod walk_tests;

@@ -16,12 +16,3 @@ pub use laws::{sure_and_alone_is_done, sure_and_alone_is_done_from};
 pub use listing::objects;
 pub use outcome::Played;
 pub use table::Table;
-
-#[cfg(test)]
-mod select_tests;
-#[cfg(test)]
-mod tests;
-#[cfg(test)]
-mod update_tests;
-#[cfg(test)]
-mod walk_tests;

@@ -9,7 +9,7 @@ use Rattle.ca_model.specs.Function.{StandsAt}
 use Rattle.ca_merge.proofs.Pairs.{pair_of_object}
 use Rattle.ca_table.specs.Codes.{HasObjectCode}
 use Rattle.ca_scripted.specs.Script.{IsProper, AreProper}
-use Rattle.ca_scripted.specs.Samples.{HasKeyAt}
+use Rattle.ca_store_tests.specs.Samples.{HasKeyAt}
 
 -- A part that is cut out of bytes stands there.
 pub cut_stands : (bytes : List ℕ) (start end : ℕ) → start ≤ length bytes → StandsAt (slice_range bytes start end) bytes start

@@ -1,7 +1,7 @@
 use Rattle.std.proofs.Common.{sym, ◌∙◌, arith, length, ap}
 use Rattle.ca_table.proofs.KeyParts.{has_code}
-use Rattle.ca_scripted.proofs.Objects.{has_key}
-use Rattle.ca_scripted.proofs.tests.place.Goals as goal
+use Rattle.ca_store_tests.proofs.Objects.{has_key}
+use Rattle.ca_store_tests.proofs.edit.place.Goals as goal
 
 pub returns : goal.returns
 returns c =

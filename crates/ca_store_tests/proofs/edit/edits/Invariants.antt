@@ -1,0 +1,5 @@
+use Rattle.ca_scripted.specs.Script.{AreProper}
+use Rattle.ca_store_tests.proofs.edit.edits.Given as goal
+
+abbrev pub invariant-loop-line : goal.invariant-loop-line
+invariant-loop-line l = AreProper l.keypos l.edits.items
