@@ -10,6 +10,3 @@ pub use adapted::{Adapted, Why};
 pub use splitting::{first_attempt, split, try_split};
 pub use statistic::{Due, statistic_of, word_of};
 pub use tuning::Tuning;
-
-#[cfg(test)]
-mod tests;

@@ -3,7 +3,7 @@ use crate::load::{Load, OBJECTS, usual_load};
 use ca_ets::Reply;
 use ca_model::{Outcome, Plain};
 use ca_table::{Played, Table};
-use ca_term::{Term, TermFault, int};
+use ca_term::{Term, int};
 use std::alloc::Global;
 use std::io;
 use std::rt::Clock;
@@ -78,7 +78,7 @@ pub fn filled(alloc: Global, load: &Load) -> Table<Plain> {
 /// Prints a line for each kind of call: its name, and the nanoseconds of one.
 pub fn time_point_calls<R: Clock + Print + Alloc<A = Global>>(rt: &R) -> io::Result<()> {
     let alloc = rt.alloc();
-    let Ok(load) = usual_load(alloc, OBJECTS) else {
+    let Some(load) = usual_load(alloc, OBJECTS) else {
         return println!(rt; "no memory");
     };
     let mut table = filled(alloc, &load);

@@ -1,10 +1,9 @@
 //! A match specification on objects, beside reading them from their codes.
-
+use crate::load::{term_of, terms_of};
 use ca_order::{Code, decode, encode};
 use ca_spec::{Spec, apply, compile};
-use ca_term::{Term, TermFault, Terms, atom, bin, cons, int, nil, tuple};
+use ca_term::Term;
 use std::alloc::{AllocError, Global};
-use std::fmt::Write;
 use std::io;
 use std::rt::Clock;
 use std::time::Instant;
@@ -16,46 +15,14 @@ const ROUNDS: u32 = 1_000;
 
 const RUNS: u32 = 5;
 
-// The object `{<<"userN">>,N,active,1700000000,[{ip,<<"10.0.0.7">>}]}`.
-fn session(alloc: Global, number: u32) -> Result<Term, TermFault> {
-    let mut name = String::new(alloc);
-    write!(name, "user{number}")?;
-    let mut address = Terms::new(alloc);
-    address.push(atom(alloc, "ip")?)?;
-    address.push(bin(alloc, b"10.0.0.7")?)?;
-    let mut items = Terms::new(alloc);
-    items.push(bin(alloc, name.as_str().as_bytes())?)?;
-    items.push(int(i64::from(number)))?;
-    items.push(atom(alloc, "active")?)?;
-    items.push(int(1_700_000_000))?;
-    items.push(cons(alloc, tuple(address)?, nil())?)?;
-    tuple(items)
-}
+// The parts of the object `{<<"userN">>,N,active,1700000000,[{ip,<<"10.0.0.7">>}]}`, between which its number stands.
+const SESSION: &[&str] = &[
+    "{<<\"user",
+    "\">>,",
+    ",active,1700000000,[{ip,<<\"10.0.0.7\">>}]}",
+];
 
-fn sessions(alloc: Global) -> Result<Terms, TermFault> {
-    let mut objects = Terms::new(alloc);
-    for number in 0..OBJECTS {
-        objects.push(session(alloc, number)?)?;
-    }
-    Ok(objects)
-}
-
-// The specification `[{{'$1','$2',active,'_','_'},[{'>','$2',499}],['$1']}]`.
-fn specification(alloc: Global) -> Result<Term, TermFault> {
-    let mut head = Terms::new(alloc);
-    for name in ["$1", "$2", "active", "_", "_"] {
-        head.push(atom(alloc, name)?)?;
-    }
-    let mut guard = Terms::new(alloc);
-    guard.push(atom(alloc, ">")?)?;
-    guard.push(atom(alloc, "$2")?)?;
-    guard.push(int(499))?;
-    let mut clause = Terms::new(alloc);
-    clause.push(tuple(head)?)?;
-    clause.push(cons(alloc, tuple(guard)?, nil())?)?;
-    clause.push(cons(alloc, atom(alloc, "$1")?, nil())?)?;
-    cons(alloc, tuple(clause)?, nil())
-}
+const SPECIFICATION: &str = "[{{'$1','$2',active,'_','_'},[{'>','$2',499}],['$1']}]";
 
 // Matches each object; answers how many were chosen.
 fn select(alloc: Global, spec: &Spec, objects: &[Term]) -> u32 {
@@ -109,7 +76,10 @@ fn least_time<R: Clock, F: Fn() -> u32>(rt: &R, call: F) -> io::Result<(u128, u3
 /// Prints the nanoseconds of one object, and of how many objects that came out: those chosen, and those read from their codes.
 pub fn time_selections<R: Clock + Print + Alloc<A = Global>>(rt: &R) -> io::Result<()> {
     let alloc = rt.alloc();
-    let (Ok(objects), Ok(spec)) = (sessions(alloc), specification(alloc)) else {
+    let (Some(objects), Some(spec)) = (
+        terms_of(alloc, SESSION, OBJECTS),
+        term_of(alloc, SPECIFICATION),
+    ) else {
         return println!(rt; "no memory");
     };
     let (Ok(spec), Ok(codes)) = (compile(alloc, &spec), codes_of(alloc, objects.as_slice())) else {

@@ -150,7 +150,7 @@ pub fn time_threads<R: Clock + Print + Threads + Sync + Alloc<A = Global>>(
 ) -> io::Result<()> {
     let alloc = rt.alloc();
     for (leaf, count) in LEAVES {
-        let Ok(load) = usual_load(alloc, u32::from(leaf)) else {
+        let Some(load) = usual_load(alloc, u32::from(leaf)) else {
             return println!(rt; "no memory");
         };
         let Ok(objects) = coded_load(alloc, load.objects.as_slice()) else {

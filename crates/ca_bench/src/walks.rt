@@ -1,10 +1,10 @@
 //! Walks, selections and batches on tables over a plain store, of three sizes.
-use crate::load::usual_load;
+use crate::load::{term_of, usual_load};
 use crate::point_calls::filled;
 use ca_ets::{Cont, Reply};
 use ca_model::{Outcome, Plain};
 use ca_table::{Played, Table};
-use ca_term::{Term, TermFault, Terms, atom, cons, int, nil, tuple};
+use ca_term::{Term, Terms, int};
 use std::alloc::Global;
 use std::io;
 use std::rt::Clock;
@@ -76,22 +76,8 @@ fn found_by(played: Played) -> Option<usize> {
     }
 }
 
-// The specification `[{{'$1','$2','_'},[{'>','$2',0}],['$1']}]`, which chooses all objects.
-fn specification(alloc: Global) -> Result<Term, TermFault> {
-    let mut head = Terms::new(alloc);
-    for name in ["$1", "$2", "_"] {
-        head.push(atom(alloc, name)?)?;
-    }
-    let mut guard = Terms::new(alloc);
-    guard.push(atom(alloc, ">")?)?;
-    guard.push(atom(alloc, "$2")?)?;
-    guard.push(int(0))?;
-    let mut clause = Terms::new(alloc);
-    clause.push(tuple(head)?)?;
-    clause.push(cons(alloc, tuple(guard)?, nil())?)?;
-    clause.push(cons(alloc, atom(alloc, "$1")?, nil())?)?;
-    cons(alloc, tuple(clause)?, nil())
-}
+// Chooses all objects.
+const SPECIFICATION: &str = "[{{'$1','$2','_'},[{'>','$2',0}],['$1']}]";
 
 // The table's keys in order; `None` where a call failed.
 fn keys_in_order(alloc: Global, table: &mut Table<Plain>, size: u32) -> Option<Terms> {
@@ -206,7 +192,8 @@ fn time_walk<R: Clock + Print + Alloc<A = Global>>(
 pub fn time_walks<R: Clock + Print + Alloc<A = Global>>(rt: &R) -> io::Result<()> {
     let alloc = rt.alloc();
     for size in SIZES {
-        let (Ok(load), Ok(spec)) = (usual_load(alloc, size), specification(alloc)) else {
+        let (Some(load), Some(spec)) = (usual_load(alloc, size), term_of(alloc, SPECIFICATION))
+        else {
             return println!(rt; "no memory");
         };
         let mut table = filled(alloc, &load);

@@ -1,3 +1,2 @@
 pub mod Orders
 mod Places
-mod Sample

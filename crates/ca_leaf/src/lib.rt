@@ -8,6 +8,3 @@ mod search;
 pub use items::{Items, MOST_ITEMS, halves, joined, with, without};
 pub use judge::Judge;
 pub use search::find;
-
-#[cfg(test)]
-mod tests;

@@ -23,6 +23,3 @@ pub use rule::{TreePass, TreeRule, TreeSpace};
 pub use steps::{load_link, load_word, replace_link};
 pub use tallying::adapted;
 pub use view::Knowledge;
-
-#[cfg(test)]
-mod tests;

@@ -10,7 +10,6 @@ pub mod Growing
 pub mod Reclaiming
 pub mod Meeting
 pub mod OneHand
-pub mod SampleObjects
 pub mod Showing
 pub mod Tallies
 pub mod Telling

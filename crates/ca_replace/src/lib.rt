@@ -19,8 +19,3 @@ pub use adapting::Last;
 pub use fault::TreeFault;
 pub use store::TreeStore;
 pub use tree::Tree;
-
-#[cfg(test)]
-mod drawing;
-#[cfg(test)]
-mod tests;

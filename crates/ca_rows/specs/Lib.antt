@@ -9,7 +9,6 @@ pub mod Opening
 pub mod Owned
 pub mod Pins
 pub mod Reclaiming
-pub mod Register
 pub mod Rule
 pub mod Told
 pub mod Words

@@ -30,6 +30,3 @@ pub use taken::Taken;
 pub use tally::Tally;
 pub use view::{Claim, Claimed, Pin, Stage, View};
 pub use words::Words;
-
-#[cfg(test)]
-mod tests;

@@ -1,0 +1,36 @@
+//! Tests of the tree. The tests are all that this crate has. By one client: rows, nodes, leaves, tunings, and calls on a store, as rows of data that
+//! small functions go over. Under contention: clients on threads put, remove and read the same keys; each client notes what its calls were answered,
+//! and behind the last call each key's replies are checked: whether some merge of the clients' calls explains all of them, and the object that the key
+//! has in the end.
+#![tactic(auto)]
+
+#[cfg(test)]
+mod calls;
+#[cfg(test)]
+mod clients;
+#[cfg(test)]
+mod drawing;
+#[cfg(test)]
+mod events;
+#[cfg(test)]
+mod leaves;
+#[cfg(test)]
+mod merges;
+#[cfg(test)]
+mod nodes;
+#[cfg(test)]
+mod objects;
+#[cfg(test)]
+mod passes;
+#[cfg(test)]
+mod player;
+#[cfg(test)]
+mod rows;
+#[cfg(test)]
+mod scripts;
+#[cfg(test)]
+mod stores;
+#[cfg(test)]
+mod sums;
+#[cfg(test)]
+mod trees;

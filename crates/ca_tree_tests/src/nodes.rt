@@ -1,0 +1,64 @@
+//! A tree's words at the start, and its first base.
+ghost use Rattle.std.specs.Prelude.{◌≡◌, false};
+ghost use Rattle.ca_rows.specs.Calls.{IsOf, IsNumbered};
+
+use crate::trees::ZERO;
+use ca_node::{Spot, TreePass, TreeSpace, load_word, walk};
+use ca_rows::Starts;
+
+// The root's base, and its first word.
+fn first_word(space: &TreeSpace, pass: &mut TreePass) -> (u32, u64)
+    requires own { IsOf space.now.table.shared.table_id space.now.table.shared.key pass.old.seat }
+    requires number { IsNumbered pass.old.number pass.old.seat.me.0.pin }
+    requires unpinned { pass.old.seat.me.0.pin.pinned ≡ false }
+{
+    space.pin(pass);
+    let cursor = walk(space, pass, Spot::First);
+    let word = load_word(space, pass, cursor.base, 0);
+    space.unpin(pass);
+    (cursor.base, word)
+}
+
+#[test]
+fn begins_with_one_empty_base(rt: HostRuntime) {
+    let Ok(mut space) = TreeSpace::new(rt.alloc(), 384, 1, 1, 120, 0, ZERO) else {
+        panic!(rt; "no memory")
+    };
+    let Ok(mut pass) = space.enroll(rt.alloc()) else {
+        panic!(rt; "no pass")
+    };
+    assert_eq!(rt; first_word(&space, &mut pass), (1, 2 << 56));
+}
+
+#[test]
+fn begins_with_these_words(rt: HostRuntime) {
+    let starts = Starts {
+        sequence: 3,
+        ..ZERO
+    };
+    let Ok(space) = TreeSpace::new(rt.alloc(), 384, 2, 5, 120, 7, starts) else {
+        panic!(rt; "no memory")
+    };
+    let words = space.close(Vec::new(rt.alloc()));
+    for (word, value) in [
+        (0, 2),
+        (1, 0),
+        (66, 3 << 18),
+        (129, 3 << 18),
+        (130, 1),
+        (131, 5),
+        (132, 120),
+        (133, 7),
+        (134, 0),
+        (136, 2 << 56),
+        (137, 1 << 32),
+        (138, 0),
+        (272, 3),
+        (383 * 136, 384),
+        (384 * 136, 0),
+    ] {
+        if word < 52_360 {
+            assert_eq!(rt; words.at(word), value, "in {word}");
+        }
+    }
+}
