@@ -1,5 +1,5 @@
 -- Arguments one after another.
-use Rattle.std.proofs.Common.{◌≡◌, ℕ, zero, suc, ◌+◌, ◌-◌, ◌≤◌, List, [], ◌∷◌, ◌++◌, length, Ok, Err, refl, arith}
+use Rattle.std.proofs.Common.{◌≡◌, ℕ, zero, suc, ◌+◌, ◌-◌, ◌≤◌, ◌<◌, List, [], ◌∷◌, ◌++◌, length, Ok, Err, refl, arith}
 use Rattle.ca_term.specs.Tree.{Tree}
 use Rattle.ca_cmd.specs.Argument.{Refused, AreArguments, IsArgument}
 use Rattle.ca_cmd.specs.Finds.{IsFault}
@@ -42,3 +42,9 @@ pub last_argument : (front : List Tree) (last : Tree) (place : ℕ) → place �
 last_argument [] last place h = rw h refl
 last_argument (t ∷ front) last zero h = absurd (omega arith)
 last_argument (t ∷ front) last (suc place) h = last_argument front last place (omega arith)
+
+-- The arguments before the last one stay at their places.
+pub front_argument : (front : List Tree) (last : Tree) (place : ℕ) → place < length front → at_place (front ++ last ∷ []) place ≡ at_place front place
+front_argument [] last place h = absurd (omega arith)
+front_argument (t ∷ front) last zero h = refl
+front_argument (t ∷ front) last (suc place) h = front_argument front last place (omega arith)

@@ -55,7 +55,7 @@ impl<T: Drop> From<AllocFailed<T>> for FileFault {
 }
 
 // Why one line was refused.
-#[derive(Clone, Copy, Debug, PartialEq, Eq)]
+#[derive(Clone, Copy)]
 pub(crate) enum LineFault {
     // The byte of the line, counted from 1, and the reason.
     Refused { at: u32, why: LineWhy },

@@ -1,5 +1,8 @@
 -- The order of terms is a total order.
-use Rattle.std.proofs.Common.{◌≡◌, ◌≤◌, ◌<◌, arith, refl, sym, ap}
+use Rattle.std.proofs.Common.{◌≡◌, ℕ, ◌≤◌, ◌<◌, eqb, true, false, arith, refl, sym, ap, ◌∙◌, ⊎_elim}
+use Rattle.std.specs.Prelude.{◌&&◌}
+use Rattle.std.proofs.lemmas.Bool.{cases_lt}
+use Rattle.std.proofs.lemmas.Bool.Decides.{nat_tests}
 use Rattle.std.specs.declared.cmp.Ordering.{Ordering}
 use Rattle.std.specs.declared.cmp.Ordering.TheVariants.{Less, Equal, Greater}
 use Rattle.std.specs.Ordering.{ordering_then, ordering_reverse, nat_cmp}
@@ -8,6 +11,7 @@ use Rattle.std.specs.Cmp.Lexicographic.{nat_list_cmp_total}
 use Rattle.std.specs.FinMap.{nat_cmp-IsAntisymmetric, int_cmp-IsAntisymmetric, slice_cmp-IsAntisymmetric}
 use Rattle.ca_term.specs.Tree.{Tree, Row, Integer, Atom, Tuple, Nil, Cons, Binary, Ends, More, size}
 use Rattle.ca_term.specs.Order.{term_cmp, row_cmp, rank}
+use Rattle.ca_term.proofs.Numbers.{less, greater}
 
 then_equal_first : (o p : Ordering) → ordering_then o p ≡ Equal → o ≡ Equal
 then_equal_first Less p e = e
@@ -79,23 +83,36 @@ left_equal a b c e = rw (tree_same a b e)
 right_equal : (a b c : Tree) → term_cmp b c ≡ Equal → term_cmp a c ≡ term_cmp a b
 right_equal a b c e = rw (tree_same b c e)
 
-less_rank : (a b : Tree) → term_cmp a b ≡ Less → rank a ≤ rank b
-less_rank (Integer m) (Integer n) e = omega arith
-less_rank (Atom a) (Atom b) e = omega arith
-less_rank (Tuple r) (Tuple s) e = omega arith
-less_rank Nil Nil e = omega arith
-less_rank (Cons h t) (Cons k u) e = omega arith
-less_rank (Binary a) (Binary b) e = omega arith
-less_rank a b e = first_of (omega arith, cc)
+-- Terms of two kinds compare as their ranks do.
+by_rank : (a b : Tree) → (rank a ≡ rank b → ⊥) → term_cmp a b ≡ nat_cmp (rank a) (rank b)
+by_rank (Integer m) (Integer n) apart = absurd (apart refl)
+by_rank (Atom a) (Atom b) apart = absurd (apart refl)
+by_rank (Tuple r) (Tuple s) apart = absurd (apart refl)
+by_rank Nil Nil apart = absurd (apart refl)
+by_rank (Cons h t) (Cons k u) apart = absurd (apart refl)
+by_rank (Binary a) (Binary b) apart = absurd (apart refl)
+by_rank a b apart = refl
 
 rank_less : (a b : Tree) → rank a < rank b → term_cmp a b ≡ Less
-rank_less (Integer m) (Integer n) e = absurd (omega arith)
-rank_less (Atom a) (Atom b) e = absurd (omega arith)
-rank_less (Tuple r) (Tuple s) e = absurd (omega arith)
-rank_less Nil Nil e = absurd (omega arith)
-rank_less (Cons h t) (Cons k u) e = absurd (omega arith)
-rank_less (Binary a) (Binary b) e = absurd (omega arith)
-rank_less a b e = first_of (cc, grind arith)
+rank_less a b l = by_rank a b (λ e. absurd (omega (arith, e, l))) ∙ less (rank a) (rank b) l
+
+less_rank : (a b : Tree) → term_cmp a b ≡ Less → rank a ≤ rank b
+less_rank a b h = ⊎_elim
+    (λ l. let g : term_cmp a b ≡ Greater = by_rank a b (λ e. absurd (omega (arith, e, l))) ∙ greater (rank a) (rank b) l in absurd cc)
+    (λ l. l)
+    (cases_lt (rank b) (rank a))
+
+equal_ranks : (m n o : ℕ) → m ≡ n → n ≡ o → (eqb m n && eqb n o) ≡ true
+equal_ranks m n o e f = grind (arith, nat_tests)
+
+-- a chain of terms that aren't all of one kind
+chain_ranks : (a b c : Tree) → (eqb (rank a) (rank b) && eqb (rank b) (rank c)) ≡ false → term_cmp a b ≡ Less → term_cmp b c ≡ Less → term_cmp a c ≡ Less
+chain_ranks a b c apart h k =
+    let l : rank a ≤ rank b = less_rank a b h in
+    let m : rank b ≤ rank c = less_rank b c k in
+    ⊎_elim (rank_less a c)
+    (λ g. let e = equal_ranks (rank a) (rank b) (rank c) (omega (arith, l, m, g)) (omega (arith, l, m, g)) in absurd cc)
+    (cases_lt (rank a) (rank c))
 
 mutual
   -- What is less than something less is less.
@@ -111,7 +128,7 @@ mutual
       then_chain (term_cmp h k) (term_cmp k l) (term_cmp h l) (term_cmp t u) (term_cmp u v) (term_cmp t v)
       (tree_chain h k l) (left_equal h k l) (right_equal h k l) (tree_chain t u v) e f
   tree_chain (Binary a) (Binary b) (Binary c) h k = nat_list_cmp_total.trans a b c h k
-  tree_chain a b c h k = first_of (cc, search (arith, rank_less, less_rank a b h, less_rank b c k))
+  tree_chain a b c h k = chain_ranks a b c refl h k
 
   row_chain : (r s t : Row) → row_cmp r s ≡ Less → row_cmp s t ≡ Less → row_cmp r t ≡ Less
   row_chain Ends Ends t h k = cc

@@ -6,7 +6,7 @@ ghost use Rattle.ca_text.specs.declared.fault.Stop.TheVariants.{NoMemory};
 use ca_term::TermFault;
 use std::alloc::{AllocError, AllocFailed};
 
-#[derive(Clone, Copy, Debug, PartialEq, Eq)]
+#[derive(Clone, Copy)]
 pub(crate) enum Why {
     Syntax,
     AtomTooLong,
@@ -15,13 +15,13 @@ pub(crate) enum Why {
 }
 
 // A fault at the byte that so many bytes before the end begins, or at the end.
-#[derive(Clone, Copy, Debug, PartialEq, Eq)]
+#[derive(Clone, Copy)]
 pub(crate) struct Fault {
     pub(crate) why: Why,
     pub(crate) left: usize,
 }
 
-#[derive(Clone, Copy, Debug, PartialEq, Eq)]
+#[derive(Clone, Copy)]
 pub(crate) enum Stop {
     NoMemory,
     At(Fault),
