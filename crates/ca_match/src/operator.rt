@@ -19,7 +19,7 @@ use crate::value::{Value, value_order};
 use std::alloc::{AllocError, Global};
 
 /// An operator of a guard, by its name in the Erlang reference manual, "Expressions", or of the module erlang.
-#[derive(Clone, Copy, Debug, PartialEq, Eq)]
+#[derive(Clone, Copy)]
 pub enum Operator {
     IsAtom,
     IsInteger,
