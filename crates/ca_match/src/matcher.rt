@@ -271,21 +271,37 @@ fn list_value<'a>(
 ) -> Evaluated<'a>
     ensures { IfOk result (λ v. option_map tree_of_value v ≡ value (scene_of object.now table.now) (Cons first.now behind.now)) }
 {
-    let Some(first) = value(alloc, first, object, table)? else {
+    let Some(first) = term_value(alloc, first, object, table)? else {
         return Ok(None);
     };
     let mut heads = Vec::new(alloc);
-    heads.push(first.into_term(alloc)?)?;
+    heads.push(first)?;
     let mut rest = behind;
     while let Kind::Cons(head, tail) = rest.kind() {
-        let Some(head) = value(alloc, head, object, table)? else {
+        let Some(head) = term_value(alloc, head, object, table)? else {
             return Ok(None);
         };
-        heads.push(head.into_term(alloc)?)?;
+        heads.push(head)?;
         rest = tail;
     }
-    match value(alloc, rest, object, table)? {
-        Some(tail) => cells(alloc, heads, tail.into_term(alloc)?),
+    match term_value(alloc, rest, object, table)? {
+        Some(tail) => cells(alloc, heads, tail),
+        None => Ok(None),
+    }
+}
+
+// The value of an expression as a term.
+#[cycle(value)]
+fn term_value<'a>(
+    alloc: Global,
+    expression: &'a Term,
+    object: &'a Term,
+    table: &Table<'a>,
+) -> Result<Option<Term>, AllocError>
+    ensures { IfOk result (λ t. t ≡ value (scene_of object.now table.now) expression.now) }
+{
+    match value(alloc, expression, object, table)? {
+        Some(value) => Ok(Some(value.into_term(alloc)?)),
         None => Ok(None),
     }
 }
@@ -364,10 +380,10 @@ fn terms<'a>(
 {
     let mut terms = Terms::new(alloc);
     for item in items {
-        let Some(value) = value(alloc, item, object, table)? else {
+        let Some(term) = term_value(alloc, item, object, table)? else {
             return Ok(None);
         };
-        push(&mut terms, value.into_term(alloc)?)?;
+        push(&mut terms, term)?;
     }
     Ok(Some(terms))
 }
@@ -463,15 +479,28 @@ fn short_value<'a>(
     ensures { let scene = scene_of object.now table.now in
         IfOk result (λ v. option_map tree_of_value v ≡ applied (Short stop) (value scene a.now ∷ value scene b.now ∷ [])) }
 {
-    match truth(&value(alloc, a, object, table)?) {
+    match truth_at(alloc, a, object, table)? {
         Some(first) => {
             if first == stop {
                 return Ok(Some(Value::Truth(first)));
             }
-            Ok(truth_value(truth(&value(alloc, b, object, table)?)))
+            Ok(truth_value(truth_at(alloc, b, object, table)?))
         }
         None => Ok(None),
     }
+}
+
+// The truth value that the value of an expression is.
+#[cycle(value)]
+fn truth_at<'a>(
+    alloc: Global,
+    expression: &'a Term,
+    object: &'a Term,
+    table: &Table<'a>,
+) -> Result<Option<bool>, AllocError>
+    ensures { IfOk result (λ known. known ≡ option_and_then truth_of (value (scene_of object.now table.now) expression.now)) }
+{
+    Ok(truth(&value(alloc, expression, object, table)?))
 }
 
 // The truth value that a value is.
@@ -505,7 +534,7 @@ fn pass<'a>(
 {
     let mut rest = guards;
     while let Kind::Cons(guard, others) = rest.kind() {
-        match truth(&value(alloc, guard, object, table)?) {
+        match truth_at(alloc, guard, object, table)? {
             Some(true) => rest = others,
             Some(false) | None => return Ok(false),
         }

@@ -1,7 +1,8 @@
 //! The operators of match specifications' guards, by their names.
-ghost use Rattle.std.specs.Prelude.{◌≡◌, [], ◌∷◌, None, Some, ◌&&◌, ◌||◌, IfOk, IfSome};
+ghost use Rattle.std.specs.Prelude.{◌≡◌, ◌≢◌, [], ◌∷◌, None, Some, ◌&&◌, ◌||◌, IfOk, IfSome};
 ghost use Rattle.std.specs.Option.{option_map};
-ghost use Rattle.ca_match.specs.Operators.{applied, count_of, exclusive, operator_of, truth};
+ghost use Rattle.ca_match.specs.declared.operator.Operator.TheVariants.{Element, Hd, Tl};
+ghost use Rattle.ca_match.specs.Operators.{applied, count_of, element, exclusive, operator_of, truth};
 ghost use Rattle.ca_match.specs.OperatorView.{meaning_of, name_of, named_in, stop_of};
 ghost use Rattle.ca_match.specs.ValueView.{tree_of_value};
 ghost use Rattle.ca_term.specs.Tree.{Integer};
@@ -18,7 +19,7 @@ use crate::value::{Value, value_order};
 use std::alloc::{AllocError, Global};
 
 /// An operator of a guard, by its name in the Erlang reference manual, "Expressions", or of the module erlang.
-#[derive(Clone, Copy, Debug, PartialEq, Eq)]
+#[derive(Clone, Copy)]
 pub enum Operator {
     IsAtom,
     IsInteger,
@@ -127,99 +128,96 @@ macro_rules! counts {
     };
 }
 
-// The values of operators of one argument.
+// The values of operators of one argument that take no part of it.
 macro_rules! values_of_one {
-    ($operator:ident $alloc:ident $a:ident; $($name:literal $count:tt $variant:ident $value:tt,)*) => {
+    ($operator:ident $a:ident; $($name:literal $count:tt $variant:ident $value:tt,)*) => {
         match $operator {
-            $(Operator::$variant => value_of_one!($count $value $alloc $a),)*
+            $(Operator::$variant => value_of_one!($count $value $a),)*
         }
     };
 }
 
 macro_rules! value_of_one {
-    (1 (test $test:ident) $alloc:ident $a:ident) => {
-        Ok(Some(Value::Truth($test(&$a))))
+    (1 (test $test:ident) $a:ident) => {
+        Some(Value::Truth($test($a)))
     };
-    (1 (negation) $alloc:ident $a:ident) => {
+    (1 (negation) $a:ident) => {
         match $a.truth() {
-            Some(truth) => Ok(Some(Value::Truth(!truth))),
-            None => Ok(None),
+            Some(truth) => Some(Value::Truth(!truth)),
+            None => None,
         }
     };
-    (1 (number $number:ident) $alloc:ident $a:ident) => {
+    (1 (number $number:ident) $a:ident) => {
         match $a.integer() {
-            Some(n) => Ok(integer_value($number(n))),
-            None => Ok(None),
+            Some(n) => integer_value($number(n)),
+            None => None,
         }
     };
-    (1 (bits $bits:ident) $alloc:ident $a:ident) => {
+    (1 (bits $bits:ident) $a:ident) => {
         match $a.integer() {
-            Some(n) => Ok(Some(Value::Integer($bits(n)))),
-            None => Ok(None),
+            Some(n) => Some(Value::Integer($bits(n))),
+            None => None,
         }
     };
-    (1 (part $part:ident) $alloc:ident $a:ident) => {
-        part_of_value($alloc, Part::$part, $a)
+    (1 (part $part:ident) $a:ident) => {
+        unreachable!()
     };
-    (1 (size $size:ident) $alloc:ident $a:ident) => {
-        Ok(integer_value($size(&$a)))
+    (1 (size $size:ident) $a:ident) => {
+        integer_value($size($a))
     };
-    (2 $value:tt $alloc:ident $a:ident) => {
-        Ok(None)
+    (2 $value:tt $a:ident) => {
+        None
     };
 }
 
-// The values of operators of two arguments that are both evaluated.
+// The values of operators of two arguments that are both evaluated, and of which no part is taken.
 macro_rules! values_of_two {
-    ($operator:ident $alloc:ident $a:ident $b:ident; $($name:literal $count:tt $variant:ident $value:tt,)*) => {
+    ($operator:ident $a:ident $b:ident; $($name:literal $count:tt $variant:ident $value:tt,)*) => {
         match $operator {
-            $(Operator::$variant => value_of_two!($count $value $alloc $a $b),)*
+            $(Operator::$variant => value_of_two!($count $value $a $b),)*
         }
     };
 }
 
 macro_rules! value_of_two {
-    (2 (connective $connective:ident) $alloc:ident $a:ident $b:ident) => {
+    (2 (connective $connective:ident) $a:ident $b:ident) => {
         match $a.truth() {
             Some(p) => match $b.truth() {
-                Some(q) => Ok(Some(Value::Truth($connective(p, q)))),
-                None => Ok(None),
+                Some(q) => Some(Value::Truth($connective(p, q))),
+                None => None,
             },
-            None => Ok(None),
+            None => None,
         }
     };
-    (2 (order $holds:ident) $alloc:ident $a:ident $b:ident) => {
-        Ok(Some(Value::Truth(value_order(&$a, &$b).$holds())))
+    (2 (order $holds:ident) $a:ident $b:ident) => {
+        Some(Value::Truth(value_order($a, $b).$holds()))
     };
-    (2 (number $number:ident) $alloc:ident $a:ident $b:ident) => {
+    (2 (number $number:ident) $a:ident $b:ident) => {
         match $a.integer() {
             Some(m) => match $b.integer() {
-                Some(n) => Ok(integer_value($number(m, n))),
-                None => Ok(None),
+                Some(n) => integer_value($number(m, n)),
+                None => None,
             },
-            None => Ok(None),
+            None => None,
         }
     };
-    (2 (bits $bits:ident) $alloc:ident $a:ident $b:ident) => {
+    (2 (bits $bits:ident) $a:ident $b:ident) => {
         match $a.integer() {
             Some(m) => match $b.integer() {
-                Some(n) => Ok(Some(Value::Integer($bits(m, n)))),
-                None => Ok(None),
+                Some(n) => Some(Value::Integer($bits(m, n))),
+                None => None,
             },
-            None => Ok(None),
+            None => None,
         }
     };
-    (2 (element) $alloc:ident $a:ident $b:ident) => {
-        match $a.integer() {
-            Some(n) => part_of_value($alloc, Part::Element(n), $b),
-            None => Ok(None),
-        }
-    };
-    (2 (short $stop:literal) $alloc:ident $a:ident $b:ident) => {
+    (2 (element) $a:ident $b:ident) => {
         unreachable!()
     };
-    (1 $value:tt $alloc:ident $a:ident $b:ident) => {
-        Ok(None)
+    (2 (short $stop:literal) $a:ident $b:ident) => {
+        unreachable!()
+    };
+    (1 $value:tt $a:ident $b:ident) => {
+        None
     };
 }
 
@@ -296,8 +294,21 @@ impl Operator {
     ) -> Result<Option<Value<'a>>, AllocError>
         ensures { IfOk result (λ v. option_map tree_of_value v ≡ applied (meaning_of self) (Some (tree_of_value a.entry) ∷ [])) }
     {
+        match self {
+            Operator::Hd => part_of_value(alloc, Part::Head, a),
+            Operator::Tl => part_of_value(alloc, Part::Tail, a),
+            _ => Ok(self.value_of_whole(&a)),
+        }
+    }
+
+    // Apart from the parts: what owns no value is proved sooner, for so many operators.
+    fn value_of_whole<'a>(self, a: &Value<'_>) -> Option<Value<'a>>
+        requires no_head { self ≢ Hd }
+        requires no_tail { self ≢ Tl }
+        ensures { option_map tree_of_value result ≡ applied (meaning_of self) (Some (tree_of_value a.now) ∷ []) }
+    {
         let operator = self;
-        operators!(values_of_one operator alloc a)
+        operators!(values_of_one operator a)
     }
 
     /// The value at the values of two arguments, where it is defined. Memory is taken only for a part of a value that is owned.
@@ -314,7 +325,10 @@ impl Operator {
         if let Some(holds) = self.compared(&a, &b) {
             return Ok(Some(Value::Truth(holds)));
         }
-        self.combined(alloc, a, b)
+        match self {
+            Operator::Element => element_value(alloc, &a, b),
+            _ => Ok(self.combined(&a, &b)),
+        }
     }
 
     // Whether a comparison holds, or None for other operators.
@@ -325,18 +339,28 @@ impl Operator {
         operators!(comparisons operator a b)
     }
 
-    #[tactic(auto, using(crate::proofs::Pieces::element_of, crate::proofs::Pieces::no_element))]
-    fn combined<'a>(
-        self,
-        alloc: Global,
-        a: Value<'a>,
-        b: Value<'a>,
-    ) -> Result<Option<Value<'a>>, AllocError>
-        requires { stop_of (meaning_of self) ≡ None }
-        ensures { IfOk result (λ v. option_map tree_of_value v ≡ applied (meaning_of self) (Some (tree_of_value a.entry) ∷ Some (tree_of_value b.entry) ∷ [])) }
+    fn combined<'a>(self, a: &Value<'_>, b: &Value<'_>) -> Option<Value<'a>>
+        requires no_stop { stop_of (meaning_of self) ≡ None }
+        requires no_element { self ≢ Element }
+        ensures { option_map tree_of_value result ≡ applied (meaning_of self) (Some (tree_of_value a.now) ∷ Some (tree_of_value b.now) ∷ []) }
     {
         let operator = self;
-        operators!(values_of_two operator alloc a b)
+        operators!(values_of_two operator a b)
+    }
+}
+
+// The element of the second value whose place is the first one.
+#[tactic(auto, using(crate::proofs::Pieces::element_of, crate::proofs::Pieces::no_element))]
+fn element_value<'a>(
+    alloc: Global,
+    place: &Value<'_>,
+    tuple: Value<'a>,
+) -> Result<Option<Value<'a>>, AllocError>
+    ensures { IfOk result (λ v. option_map tree_of_value v ≡ element (tree_of_value place.now) (tree_of_value tuple.entry)) }
+{
+    match place.integer() {
+        Some(n) => part_of_value(alloc, Part::Element(n), tuple),
+        None => Ok(None),
     }
 }
 

@@ -34,7 +34,13 @@ abbrev pub decreases-value_of_two : goal.decreases-value_of_two
 decreases-value_of_two l = 8 * (nodes l.a.now + nodes l.b.now) + 1
 
 abbrev pub decreases-short_value : goal.decreases-short_value
-decreases-short_value l = 8 * (nodes l.a.now + nodes l.b.now) + 1
+decreases-short_value l = 8 * (nodes l.a.now + nodes l.b.now) + 2
+
+abbrev pub decreases-truth_at : goal.decreases-truth_at
+decreases-truth_at l = 8 * nodes l.expression.now + 1
+
+abbrev pub decreases-term_value : goal.decreases-term_value
+decreases-term_value l = 8 * nodes l.expression.now + 1
 
 abbrev pub invariant-list_value-loop-head : goal.invariant-list_value-loop-head
 invariant-list_value-loop-head l = record {
