@@ -26,9 +26,6 @@ pub record IsLeft (note : Note) (key : List ℕ) (low high : ℕ) : Type 0 where
   pub less : 0 < low → stands note key (low - 1) ≡ Less
   pub greater : high < length note.objects → stands note key high ≡ Greater
 
-pub left_first : (note : Note) (key : List ℕ) (high : ℕ) → high ≡ length note.objects → IsLeft note key 0 high
-left_first note key high e = record { inside = omega arith; less = λ l. absurd (omega arith); greater = λ l. absurd (omega arith) }
-
 pub less_on : (note : Note) (key : List ℕ) (low high middle : ℕ) → IsLeft note key low high → stands note key middle ≡ Less
     → IsLeft note key (middle + 1) high
 less_on note key low high middle left is = let back : middle + 1 - 1 ≡ middle = omega arith in record {

@@ -44,12 +44,6 @@ longer_first a b = by_bool (nat_lt (length a) (length b))
     (λ t. subst (λ (c : Bool). length a ≤ length (cond c b a)) (sym t) (let l = less_is (length a) (length b) t in omega arith))
     (λ t. subst (λ (c : Bool). length a ≤ length (cond c b a)) (sym t) (omega arith))
 
--- The longer one is as long as the second, too.
-pub longer_second : (a b : History) → length b ≤ length (longer a b)
-longer_second a b = by_bool (nat_lt (length a) (length b))
-    (λ t. subst (λ (c : Bool). length b ≤ length (cond c b a)) (sym t) (omega arith))
-    (λ t. subst (λ (c : Bool). length b ≤ length (cond c b a)) (sym t) (not_less (length a) (length b) t))
-
 -- Where both are beginnings of a history, so is it, and the first is its beginning.
 longer_is : (h a b : History) → StartsWith h a → StartsWith h b → StartsWith h (longer a b) × StartsWith (longer a b) a
 longer_is h a b s t = by_bool (nat_lt (length a) (length b))

@@ -35,34 +35,34 @@ nearer budget before middle after kept kept' a b again = let some = again.0 in l
     (λ (e : kept' ≡ 0). let less : 2 * (budget - after) + min kept' 1 < 2 * (budget - before) + min kept 1 = omega (arith, e) in less)
     (λ (l : middle < after). let less : 2 * (budget - after) + min kept' 1 < 2 * (budget - before) + min kept 1 = omega arith in less) again.2
 
--- An attempt that found the rows that it wanted ends the call.
-pub attempted : {T : Type 0} (tells : T → Event → Type 0) (z : Sizes) (tried : Result T Stop) (spent : Spent) (levels : ℕ) (u v : TreeView)
-    → HasTriedTo tells z tried u v → HasAttempted tells (refused_as tried spent levels) u v
-attempted tells z (Ok x) spent levels u v h = h.0
-attempted tells z (Err stop.Lost) spent levels u v h = h.0
-attempted tells z (Err stop.Split) spent levels u v h = h.0
-attempted tells z (Err stop.Empty) spent levels u v h = h.0
-attempted tells z (Err stop.Worn) spent levels u v h = h.0
-attempted tells z (Err stop.Deep) spent levels u v h = h.0
-
--- Where it refuses the call, it has a cause.
-pub caused : {T : Type 0} (z : Sizes) (number budget : ℕ) (adds : Option (List ℕ)) (tried : Result T Stop) (spent now : Spent) (levels : ℕ) (m m' : MyTree)
+-- Where the last attempt refuses the call, it has a cause.
+caused : {T : Type 0} (z : Sizes) (number budget : ℕ) (adds : Option (List ℕ)) (tried : Result T Stop) (spent now : Spent) (levels : ℕ) (m m' : MyTree)
     (kept kept' : Vec Kept Global) → levels ≡ z.levels → (tried ≡ Err stop.Empty → ⊥) → (tried ≡ Err stop.Split → ⊥)
     → (tried ≡ Err stop.Deep → IsFull z adds m'.0.upper.last (after m'.0.upper.seen [])) → (tried ≡ Err stop.Lost → budget ≤ total now)
-    → (spent.lost ≡ 0) × (spent.helped ≡ 0) × (spent.passed ≡ 0) → IsPaid spent now m m' → HasMetBy tried m m'
+    → (spent.lost ≡ 0) × (spent.helped ≡ 0) × (spent.passed ≡ 0) → IsPaid spent now m m' → (tried ≡ Err stop.Worn → m'.0.worn ≡ m.0.worn + 1)
     → IfErr (refused_as tried now levels) (λ why. IsCaused z number budget adds why m kept m' kept')
-caused z number budget adds (Ok x) spent now levels m m' kept kept' same full split deep lost none counted met = tt
-caused z number budget adds (Err stop.Lost) spent now levels m m' kept kept' same full split deep lost none counted met = let zero = none.0 in
+caused z number budget adds (Ok x) spent now levels m m' kept kept' same full split deep lost none counted worn = tt
+caused z number budget adds (Err stop.Lost) spent now levels m m' kept kept' same full split deep lost none counted worn = let zero = none.0 in
     let zero' = none.2 in (
       lost refl,
       (let sum = counted.lost (omega arith) in omega arith),
       counted.helped ∙ none.1,
       (let sum = counted.passed (omega arith) in omega arith),
     )
-caused z number budget adds (Err stop.Split) spent now levels m m' kept kept' same full split deep lost none counted met = absurd (split refl)
-caused z number budget adds (Err stop.Empty) spent now levels m m' kept kept' same full split deep lost none counted met = absurd (full refl)
-caused z number budget adds (Err stop.Worn) spent now levels m m' kept kept' same full split deep lost none counted met = met.1
-caused z number budget adds (Err stop.Deep) spent now levels m m' kept kept' same full split deep lost none counted met = (same, deep refl)
+caused z number budget adds (Err stop.Split) spent now levels m m' kept kept' same full split deep lost none counted worn = absurd (split refl)
+caused z number budget adds (Err stop.Empty) spent now levels m m' kept kept' same full split deep lost none counted worn = absurd (full refl)
+caused z number budget adds (Err stop.Worn) spent now levels m m' kept kept' same full split deep lost none counted worn = worn refl
+caused z number budget adds (Err stop.Deep) spent now levels m m' kept kept' same full split deep lost none counted worn = (same, deep refl)
+
+-- So it has by what the call comes to then.
+pub caused_as : {T : Type 0} (z : Sizes) (number budget : ℕ) (adds : Option (List ℕ)) (tried : Result T Stop) (r : Result T Refusal) (spent now : Spent)
+    (levels : ℕ) (m m' : MyTree) (kept kept' : Vec Kept Global) → r ≡ refused_as tried now levels → levels ≡ z.levels → (tried ≡ Err stop.Empty → ⊥)
+    → (tried ≡ Err stop.Split → ⊥) → (tried ≡ Err stop.Deep → IsFull z adds m'.0.upper.last (after m'.0.upper.seen []))
+    → (tried ≡ Err stop.Lost → budget ≤ total now) → (spent.lost ≡ 0) × (spent.helped ≡ 0) × (spent.passed ≡ 0) → IsPaid spent now m m'
+    → (tried ≡ Err stop.Worn → m'.0.worn ≡ m.0.worn + 1) → IfErr r (λ why. IsCaused z number budget adds why m kept m' kept')
+caused_as z number budget adds tried r spent now levels m m' kept kept' is same full split deep lost none counted worn =
+    subst (λ x. IfErr x (λ why. IsCaused z number budget adds why m kept m' kept')) (sym is)
+    (caused z number budget adds tried spent now levels m m' kept kept' same full split deep lost none counted worn)
 
 -- So has a refusal once rows were given back, of an attempt that found the head empty: the first one, or one behind another that did so.
 pub refill_caused : (z : Sizes) (number budget begun : ℕ) (adds : Option (List ℕ)) (why : Refusal) (spent now : Spent) (m n m' : MyTree)

@@ -1,12 +1,13 @@
 -- What calls count, from one attempt to the next.
-use Rattle.std.proofs.Common.{◌≡◌, ◌⊎◌, ℕ, ◌-◌, ◌<◌, ◌≤◌, min, Result, Ok, Err, subst, refl, ◌∙◌, inl, inr, ⊎_elim, arith}
+use Rattle.std.proofs.Common.{◌≡◌, ◌⊎◌, ℕ, ◌+◌, ◌-◌, ◌<◌, ◌≤◌, min, Result, Ok, Err, subst, refl, ap, ◌∙◌, inl, inr, ⊎_elim, arith}
 use Rattle.ca_model.specs.declared.outcome.Spent.{Spent}
 use Rattle.ca_base.specs.Counting.{losses, HasMet, IsSpent}
 use Rattle.ca_base.proofs.Counts.{met_both}
 use Rattle.ca_node.specs.Told.{MyTree}
+use Rattle.ca_node.specs.TreeView.{TreeView}
 use Rattle.ca_replace.specs.declared.attempting.Stop.{Stop}
 use Rattle.ca_replace.specs.declared.attempting.Stop.TheVariants as stop
-use Rattle.ca_replace.specs.Attempting.{splits, total, HasMetBy, HasStopped, IsPaid}
+use Rattle.ca_replace.specs.Attempting.{splits, total, HasMetBy, HasStopped, IsPaid, IsQuiet}
 
 -- Nothing was met.
 pub none_met : (m : MyTree) → HasMet 0 0 m m
@@ -69,3 +70,37 @@ one_turn_less a b budget m m' room most paid more = let sum = paid.lost (omega a
 pub spends_more : (a b c : Spent) (k m n : MyTree) → (a.lost ≡ 0) × (a.helped ≡ 0) × (a.passed ≡ 0) → IsPaid a b k m → IsPaid b c m n → total b ≤ total c
 spends_more a b c k m n none x y = let zero = none.0 in let zero' = none.2 in let one = x.lost (omega arith) in let two = y.lost (omega arith) in
     let cut = x.passed (omega arith) in let cut' = y.passed (omega arith) in let also = y.helped in omega arith
+
+-- What an attempt met behind a look.
+pub stopped_behind : {T : Type 0} (r : Result T Stop) (k m n : MyTree) → IsQuiet k m → HasStopped r m n → HasStopped r k n
+stopped_behind r k m n q h = let lost = q.lost in let same = q.splits_are in (
+  met_then r k m n q.met h.0,
+  (λ e. let more = h.1 e in omega arith),
+  λ e. let more = h.2 e in omega arith,
+)
+
+-- One that did the call met nothing that is told.
+pub done_stopped : {T : Type 0} (x : T) (m n : MyTree) → HasStopped (Ok x) m n
+done_stopped x m n = (tt, (λ e. cc), λ e. cc)
+
+-- One that came to a stop, told of another type of answers.
+pub stop_stopped : (T U : Type 0) (why : Stop) (k m n : MyTree) → IsQuiet k m → HasStopped {T = T} (Err why) m n → HasStopped {T = U} (Err why) k n
+stop_stopped T U why k m n q h = by why (stopped_behind {T = T} (Err why) k m n q h)
+  where
+    by : (why : Stop) → HasStopped {T = T} (Err why) k n → HasStopped {T = U} (Err why) k n
+    by stop.Lost h = (h.0, (λ e. h.1 refl), λ e. cc)
+    by stop.Split h = (h.0, (λ e. cc), λ e. h.2 refl)
+    by stop.Empty h = (h.0, (λ e. cc), λ e. cc)
+    by stop.Worn h = (h.0, (λ e. cc), λ e. cc)
+    by stop.Deep h = (h.0, (λ e. cc), λ e. cc)
+
+-- What was lost as rows were given back was paid, too.
+pub paid_given : (a : Spent) (lost sum : ℕ) (m m' : MyTree) → sum ≡ min (a.lost + lost) 4294967295 → m'.0.lost ≡ m.0.lost + lost → m'.0.upper ≡ m.0.upper
+    → IsPaid a (record a { lost = sum }) m m'
+paid_given a lost sum m m' is more same = let upper = ap (λ (u : TreeView). u.lost) same in let cut = ap (λ (u : TreeView). u.splits) same in record {
+  more = omega arith;
+  lost = λ fits. omega arith;
+  helped = refl;
+  more_splits = omega arith;
+  passed = λ fits. omega arith;
+}

@@ -2,7 +2,7 @@
 use Rattle.std.proofs.Common.{◌≡◌, ◌≢◌, ◌⊎◌, ℕ, ◌<◌, ◌≤◌, Bool, true, false, ℤ, List, [], ◌∷◌, ◌++◌, length, map, Result, Ok, Err, sym, refl, ap, ◌∙◌, subst, inl, inr, ⊎_elim, arith, append_assoc}
 use denote.Ref.{Bor}
 use Rattle.std.specs.declared.option.Option.{Option}
-use Rattle.std.specs.declared.option.Option.TheVariants.{None, Some}
+use Rattle.std.specs.declared.option.Option.TheVariants.{Some}
 use Rattle.ca_adapt.specs.declared.adapted.Adapted.{Adapted}
 use Rattle.ca_adapt.specs.declared.adapted.Adapted.TheVariants as adapted
 use Rattle.ca_adapt.specs.declared.adapted.Why.{Why}
@@ -63,14 +63,6 @@ full_both z adds before then now h g = (
   g.1 ∙ (ap (λ (xs : List Note). g.0 ++ xs) h.1 ∙ sym (append_assoc g.0 h.0 before)),
   λ note i. ⊎_elim (λ (j : IsIn note g.0). g.2 note j) (λ (j : IsIn note h.0). h.2 note j) (in_either g.0 h.0 note i),
 )
-
--- A call that adds no key split no base before its update.
-pub none_before : (z : Sizes) (before now : List Note) → AreCutFull z None before now → now ≡ before
-none_before z before now h = by h.0 h.1 h.2
-  where
-    by : (full : List Note) → now ≡ full ++ before → ((note : Note) → IsIn note full → IsFullFor z None note) → now ≡ before
-    by [] is are = is
-    by (note ∷ full) is are = absurd (are note (0, refl))
 
 -- What isn't less is as much.
 not_less : (a b : ℕ) → ¬ (b < a) → a ≤ b

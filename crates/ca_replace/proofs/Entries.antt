@@ -1,5 +1,5 @@
 -- Calls that edit nothing: what a pass knows after one, and what such a call tells.
-use Rattle.std.proofs.Common.{◌≡◌, ℕ, Bool, true, false, List, [], length, sym, refl, ap, ◌∙◌, subst, arith, append-nil}
+use Rattle.std.proofs.Common.{◌≡◌, ◌≤◌, ℕ, Bool, true, false, List, [], length, sym, refl, ap, ◌∙◌, subst, arith, append-nil}
 use Rattle.ca_model.specs.Answer.{Got}
 use Rattle.ca_model.specs.Event.{Event, IsAnswer}
 use Rattle.ca_model.specs.History.{History, after, state}
@@ -7,10 +7,11 @@ use Rattle.ca_model.specs.Known.{Known, Meets}
 use Rattle.ca_node.specs.Told.{MyTree, with_upper, IsKnown, IsReadNow, entered}
 use Rattle.ca_node.specs.TreeView.{TreeView}
 use Rattle.ca_node.proofs.Logs.{state_there, read_lawful, past_more}
-use Rattle.ca_base.specs.Taking.{AreHeld}
+use Rattle.ca_base.specs.Taking.{AreHeld, HasHeld}
 use Rattle.ca_replace.specs.Reads.{get_event}
 use Rattle.ca_rows.specs.declared.kept.KeptRows.{KeptRows}
 use Rattle.ca_rows.specs.declared.sizes.Sizes.{Sizes}
+use Rattle.ca_rows.specs.Claims.{held_count}
 
 -- The state at the end of a history.
 pub last_state : (h : History) → state h (length h) ≡ after h []
@@ -31,6 +32,14 @@ pub held_upper : (rows : ℕ) (kept kept' : KeptRows) (m m' : MyTree) (u : TreeV
     → kept' ≡ kept → AreHeld rows kept'.rows m'.0 held
 held_upper rows kept kept' m m' u held h is same = subst (λ (x : MyTree × KeptRows). AreHeld rows x.1.rows x.0.0 held) (λ i. (sym is i, sym same i))
     (record { are_kept = h.0.are_kept; only = h.0.only; each = h.0.each }, record { now = h.1.now; ever = h.1.ever })
+
+-- Nor on what it was shown by a look.
+pub held_looked : (rows : ℕ) (kept kept' : KeptRows) (m m' : MyTree) (held : List ℕ) → AreHeld rows kept.rows m.0 held → kept' ≡ kept
+    → m'.0.claims ≡ m.0.claims → m'.0.most ≡ m.0.most → AreHeld rows kept'.rows m'.0 held
+held_looked rows kept kept' m m' held h same claims most = let ever = h.1.ever in (
+  subst (λ (k : KeptRows). HasHeld rows k.rows m'.0.claims held) (sym same) (subst (λ x. HasHeld rows kept.rows x held) (sym claims) h.0),
+  record { now = subst (λ x. held_count x ≤ length held) (sym claims) h.1.now; ever = omega arith },
+)
 
 -- What such a call answers.
 pub got_is : (a b : Known) (key object : List ℕ) (found : Bool) → Meets a b (get_event key found object) → (found ≡ false → object ≡ [])

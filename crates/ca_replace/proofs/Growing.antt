@@ -419,16 +419,6 @@ entered_grown m m' m'' event q is = let e = ap (λ (x : MyTree). x.0.upper) is i
   ap (λ (x : TreeView). x.inventory) e ∙ q.same_inventory,
 )
 
--- A call that adds no key splits no base before its update.
-pub never_split : {T : Type 0} (z : Sizes) (adds : Option (List ℕ)) (r : Result T Stop) (u v : TreeView) → r ≢ Err stop.Split → HasGrown z adds r u v
-    → HasGrown z None r u v
-never_split z adds (Ok x) u v n h = h
-never_split z adds (Err stop.Split) u v n h = absurd (n refl)
-never_split z adds (Err stop.Lost) u v n h = h
-never_split z adds (Err stop.Empty) u v n h = h
-never_split z adds (Err stop.Worn) u v n h = h
-never_split z adds (Err stop.Deep) u v n h = h
-
 -- What was done while the pass was pinned.
 pub grown_pinned : {T : Type 0} (z : Sizes) (adds : Option (List ℕ)) (r : Result T Stop) (u v w : TreeView) → w ≡ unpinned v
     → HasGrown z adds r (pinned u) v → HasGrown z adds r u w

@@ -164,12 +164,3 @@ done_on u v w event a b = record {
     lower : (edits : List Edit) → length u.seen ≤ length v.seen → IsPlaceFrom (length v.seen) b.at edits → IsPlaceFrom (length u.seen) b.at edits
     lower [] l p = omega arith
     lower (e ∷ es) l p = omega arith
-
--- One that is refused after that.
-pub refused_on : (u v w : TreeView) (rise : Counts → Counts) → IsFurther u v → IsRefused rise v w → IsRefused rise u w
-refused_on u v w rise a b = record {
-  number = b.number ∙ a.number;
-  seen = further w.seen v.seen u.seen b.seen a.seen;
-  log = b.log ∙ a.log;
-  counts = b.counts ∙ ap rise a.counts;
-}

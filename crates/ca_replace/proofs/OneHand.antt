@@ -1,7 +1,7 @@
 -- A history that one pass alone made is told by its log.
 use Rattle.std.proofs.Common.{◌≡◌, ℕ, ◌<◌, List, [], ◌∷◌, if◌then◌else◌, sym, refl, ap, ◌∙◌, subst, arith, eq-eqb}
 use Rattle.ca_model.specs.Event.{Entry}
-use Rattle.ca_model.specs.History.{History, by_pass, edits_of_pass, AreByPasses, AreByOthers}
+use Rattle.ca_model.specs.History.{History, by_pass, edits_of_pass, AreByPasses}
 use Rattle.ca_model.specs.Lawful.{edits_of_log}
 use Rattle.ca_node.specs.Told.{IsAlone, IsKnown}
 use Rattle.ca_node.specs.TreeView.{TreeView}
@@ -14,11 +14,6 @@ own_alone [] by = refl
 own_alone (step ∷ steps) by = let lo = by.0 in let hi = by.1 in let one : step.0 ≡ 1 = omega arith in
     ap (λ (n : ℕ). (n, step.1) ∷ steps) one ∙ (ap (λ (xs : History). (1, step.1) ∷ xs) (own_alone steps by.2)
     ∙ ap (λ b. by_pass 1 (if b then step.1 ∷ edits_of_pass 1 steps else edits_of_pass 1 steps)) (sym (eq-eqb step.0 1 one)))
-
--- Others made nothing.
-pub none_of_others : (h : History) → AreByPasses 1 h → AreByOthers 1 h → h ≡ []
-none_of_others [] by others = refl
-none_of_others (step ∷ steps) by others = let lo = by.0 in let hi = by.1 in absurd (others.0 (omega arith))
 
 -- A pass that is alone has number 1.
 pub first_one : (z : Sizes) (u : TreeView) → IsAlone z u → IsKnown z u → u.number ≡ 1

@@ -176,15 +176,6 @@ if_met event z (outcome.Full s) u v a b h = tt
 if_met event z (outcome.Deep s) u v a b h = tt
 if_met event z (outcome.Worn s) u v a b h = tt
 
--- One that is told to be this event is this event.
-pub if_done : {T : Type 0} (event : T → Event) (o : Outcome T) (u v : TreeView) → IfDone o (λ x. HasDoneAs (λ e. e ≡ event x) u v)
-    → IfDone o (λ x. HasDone (event x) u v)
-if_done event (outcome.Done x) u v h = subst (λ (e : Event). HasDone e u v) h.1 h.2
-if_done event (outcome.Busy s) u v h = tt
-if_done event (outcome.Full s) u v h = tt
-if_done event (outcome.Deep s) u v h = tt
-if_done event (outcome.Worn s) u v h = tt
-
 -- One that is refused declines.
 pub if_declined : {T : Type 0} (z : Sizes) (o : Outcome T) (u v : TreeView) → IsKnown z u → IsKnown z v → IfRefused o (λ rise. IsRefused rise u v)
     → IfRefused o (λ rise. Declines (known_of z u) (known_of z v) (rise u.counts))

@@ -240,15 +240,3 @@ pub finds_room : {U : Type 0} (lent : List ℕ → ℕ → Type 0) (fact : Sizes
     → (vec_len kept < z.rows) × (kept_of kept.items q ≡ none)
 finds_room lent fact z id d kept q k may lo hi = let new = not_kept z.rows d.claims kept.items k.are q (released lent fact z id d q may) in
     let less = has_room z.rows d.claims kept.items k.are q lo hi new in let long = kept.ok.0 in (omega arith, new)
-
--- A pass that was just made keeps nothing.
-pub none_kept : (rows : ℕ) (kept : Vec Kept Global) → kept.items ≡ [] → rows ≤ vec_capacity kept → AreKept rows [] kept
-none_kept rows kept empty wide = record {
-  are = subst (AreListed rows []) (sym empty) record {
-    apart = tt;
-    rising = tt;
-    are_listed = λ r t e. absurd (some-ne-none (Keeps t) (sym e));
-    are_claimed = λ r t e. absurd (some-ne-none t (sym e));
-  };
-  room = wide;
-}

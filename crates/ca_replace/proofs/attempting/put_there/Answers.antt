@@ -1,15 +1,15 @@
-use Rattle.std.proofs.Common.{◌≡◌, ◌≤◌, ℕ, ℤ, Result, OnOk, Ok, Err, Some, get_or, to_z, of_z, w32, Bool, true, false, length, sym, ap, ◌∙◌, subst, arith}
+use Rattle.std.proofs.Common.{◌≡◌, ◌≤◌, ℕ, ℤ, Result, OnOk, Ok, Err, Some, get_or, to_z, of_z, w32, Bool, true, false, length, sym, ap, ◌∙◌, subst, arith, ◌<◌, [], map}
 use Rattle.std.proofs.lemmas.Int.{ints, to_z-of_z}
 use Rattle.std.specs.Prelude.{slice_range}
 use Rattle.ca_model.specs.History.{Put}
-use Rattle.ca_base.specs.Finding.{IsReadable}
+use Rattle.ca_base.specs.Finding.{IsReadable, IsAtCursor}
 use Rattle.ca_node.specs.Place.{HasKey}
-use Rattle.ca_node.specs.Told.{MyTree}
+use Rattle.ca_node.specs.Told.{MyTree, IsKnown, IsAlone}
 use Rattle.ca_node.specs.TreeView.{TreeView}
 use Rattle.ca_base.specs.Putting.{IsRoom, IsShownLast, first_note, object_at, put_event}
 use Rattle.ca_replace.specs.declared.attempting.Stop.{Stop}
 use Rattle.ca_replace.specs.declared.attempting.Stop.TheVariants.{Deep as IsDeep}
-use Rattle.ca_replace.specs.Adapting.{IsMoved}
+use Rattle.ca_replace.specs.Adapting.{IsMoved, Waits}
 use Rattle.ca_replace.proofs.GoingOn.{is_new, known_then, settled_found, settled_on, settled_paid, settled_tried}
 use Rattle.ca_replace.proofs.Showing.{shown_last, full_there}
 use Rattle.ca_base.proofs.Tallies.{tallied_as}
@@ -18,11 +18,28 @@ use Rattle.ca_replace.proofs.Growing.{come_unsplit, settled_grown}
 use Rattle.ca_replace.specs.Cutting.{HasCut, IsFullFor}
 use Rattle.ca_replace.proofs.Cutting.{full_for, settled_cut}
 use Rattle.ca_replace.proofs.Winning.{settled_won}
+use Rattle.ca_node.specs.Row.{pair}
+use Rattle.ca_base.specs.Progress.{IsFurther}
+use Rattle.ca_model.proofs.Places.{IsPlace}
+use Rattle.ca_replace.specs.Attempting.{IsPaid, HasStopped, IsLooking}
+use Rattle.ca_replace.specs.Growing.{HasGrown}
+use Rattle.ca_replace.specs.Winning.{HasWonAs}
+use Rattle.ca_rows.specs.declared.view.Pin.{Pin}
+use Rattle.ca_replace.proofs.Entries.{held_looked}
 use Rattle.ca_replace.proofs.attempting.put_there.Goals as goal
 
 no_room : (b : Bool) → b ≡ false → b ≡ true → ⊥
 no_room true e t = cc
 no_room false e t = cc
+
+-- Where there is no room, there are as many as a base may have, and the key is a new one.
+no_less : (r : Result ℕ ℕ) (many leaf : ℕ) → ¬ IsRoom r many leaf → leaf ≤ many
+no_less (Ok at) many leaf n = absurd (n tt)
+no_less (Err at) many leaf n = omega (arith, n)
+
+no_place : (P : Type 0) (r : Result ℕ ℕ) (many leaf : ℕ) → ¬ IsRoom r many leaf → OnOk r P
+no_place P (Ok at) many leaf n = absurd (n tt)
+no_place P (Err at) many leaf n = tt
 
 -- why an attempt came to nothing
 abbrev why_of : Result (Unit {0}) Stop → Stop
@@ -179,3 +196,155 @@ returns-clause-won c = settled_won c.args.space.now.table.shared.key c.args.tuni
     (slice_range c.args.object.now c.args.key_at c.args.key_end) c.args.cursor
     (c.next_statistic-statistic.ensures.still ∙ c.count-many.ensures.still) c.settle.ensures.come c.requires.looking c.put_at-tried.ensures.put
     c.put_at-tried.ensures.renewed c.settle.ensures.settled c.put_at-tried.ensures.won c.settle.ensures.won
+
+pub next_statistic-statistic-requires-clause-own : goal.next_statistic-statistic-requires-clause-own
+next_statistic-statistic-requires-clause-own c = (c.count-many.ensures.same.0 ∙ c.requires.own.0, ap (λ (m : MyTree). m.0.sizes) c.count-many.ensures.still ∙ c.requires.own.1)
+
+pub next_statistic-statistic-requires-clause-pinned : goal.next_statistic-statistic-requires-clause-pinned
+next_statistic-statistic-requires-clause-pinned c = ap (λ (m : MyTree). m.0.pin.pinned) c.count-many.ensures.still ∙ c.requires.pinned
+
+pub put_at-tried-requires-clause-own : goal.put_at-tried-requires-clause-own
+put_at-tried-requires-clause-own c = (c.next_statistic-statistic.ensures.same.0 ∙ (c.count-many.ensures.same.0 ∙ c.requires.own.0), ap (λ (m : MyTree). m.0.sizes) (c.next_statistic-statistic.ensures.still ∙ c.count-many.ensures.still) ∙ c.requires.own.1)
+
+pub put_at-tried-requires-clause-pinned : goal.put_at-tried-requires-clause-pinned
+put_at-tried-requires-clause-pinned c = ap (λ (m : MyTree). m.0.pin.pinned) (c.next_statistic-statistic.ensures.still ∙ c.count-many.ensures.still) ∙ c.requires.pinned
+
+pub put_at-tried-requires-clause-number : goal.put_at-tried-requires-clause-number
+put_at-tried-requires-clause-number c = subst (λ (m : MyTree). 0 < m.0.upper.number) (sym (c.next_statistic-statistic.ensures.still ∙ c.count-many.ensures.still)) c.requires.number
+
+pub put_at-tried-requires-clause-none : goal.put_at-tried-requires-clause-none
+put_at-tried-requires-clause-none c = held_looked c.args.space.now.table.shared.key.rows c.args.pass.now.kept c.next_statistic-statistic.new.pass.kept c.args.pass.now.seat.me
+    c.next_statistic-statistic.new.pass.seat.me [] c.requires.none (c.next_statistic-statistic.ensures.kept ∙ c.count-many.ensures.kept)
+    (ap (λ (m : MyTree). m.0.claims) (c.next_statistic-statistic.ensures.still ∙ c.count-many.ensures.still))
+    (ap (λ (m : MyTree). m.0.most) (c.next_statistic-statistic.ensures.still ∙ c.count-many.ensures.still))
+
+pub put_at-tried-requires-clause-leaf : goal.put_at-tried-requires-clause-leaf
+put_at-tried-requires-clause-leaf c = let most = c.requires.tuned.allowed.most_leaf in let same = c.requires.tuned.leaf in omega arith
+
+pub put_at-tried-requires-clause-cursor : goal.put_at-tried-requires-clause-cursor
+put_at-tried-requires-clause-cursor c = subst (λ (m : MyTree). IsAtCursor c.args.space.now.table.shared.key (first_note m.0.upper.notes) c.args.cursor)
+    (sym (c.next_statistic-statistic.ensures.still ∙ c.count-many.ensures.still)) c.requires.looking.at
+
+pub put_at-tried-requires-clause-place : goal.put_at-tried-requires-clause-place
+put_at-tried-requires-clause-place c = subst (λ (m : MyTree). IsPlace (map pair (first_note m.0.upper.notes).objects) (slice_range c.args.object.now c.args.key_at c.args.key_end) c.args.place)
+    (sym (c.next_statistic-statistic.ensures.still ∙ c.count-many.ensures.still)) c.requires.place
+
+pub put_at-tried-requires-clause-about : goal.put_at-tried-requires-clause-about
+put_at-tried-requires-clause-about c = subst (λ (m : MyTree). HasKey (first_note m.0.upper.notes).place.span (slice_range c.args.object.now c.args.key_at c.args.key_end))
+    (sym (c.next_statistic-statistic.ensures.still ∙ c.count-many.ensures.still)) c.requires.looking.about
+
+pub put_at-tried-requires-clause-room : goal.put_at-tried-requires-clause-room
+put_at-tried-requires-clause-room c = subst (λ n. IsRoom c.args.place c.count-many.result n) (sym c.requires.tuned.leaf) (c.has_room.ensures.0 c.if-not-has_room.false)
+
+pub settle-requires-clause-own : goal.settle-requires-clause-own
+settle-requires-clause-own c = (
+  c.put_at-tried.ensures.same.0 ∙ (c.next_statistic-statistic.ensures.same.0 ∙ (c.count-many.ensures.same.0 ∙ c.requires.own.0)),
+  c.put_at-tried.ensures.pin.0 ∙ (ap (λ (m : MyTree). m.0.sizes) (c.next_statistic-statistic.ensures.still ∙ c.count-many.ensures.still) ∙ c.requires.own.1),
+)
+
+pub settle-requires-clause-pinned : goal.settle-requires-clause-pinned
+settle-requires-clause-pinned c = ap (λ (p : Pin). p.pinned) c.put_at-tried.ensures.pin.1
+    ∙ (ap (λ (m : MyTree). m.0.pin.pinned) (c.next_statistic-statistic.ensures.still ∙ c.count-many.ensures.still) ∙ c.requires.pinned)
+
+pub settle-requires-clause-none : goal.settle-requires-clause-none
+settle-requires-clause-none c = c.put_at-tried.ensures.none
+
+pub returns-clause-same : goal.returns-clause-same
+returns-clause-same c = (
+  c.settle.ensures.same.0 ∙ (c.put_at-tried.ensures.same.0 ∙ (c.next_statistic-statistic.ensures.same.0 ∙ c.count-many.ensures.same.0)),
+  c.settle.ensures.same.1 ∙ (c.put_at-tried.ensures.same.1 ∙ (c.next_statistic-statistic.ensures.same.1 ∙ c.count-many.ensures.same.1)),
+)
+
+pub returns-clause-number : goal.returns-clause-number
+returns-clause-number c = c.settle.ensures.number ∙ (c.put_at-tried.ensures.number ∙ (c.next_statistic-statistic.ensures.number ∙ c.count-many.ensures.number))
+
+pub returns-clause-pin : goal.returns-clause-pin
+returns-clause-pin c = (
+  c.settle.ensures.pin.0 ∙ (c.put_at-tried.ensures.pin.0 ∙ ap (λ (m : MyTree). m.0.sizes) (c.next_statistic-statistic.ensures.still ∙ c.count-many.ensures.still)),
+  c.settle.ensures.pin.1 ∙ (c.put_at-tried.ensures.pin.1 ∙ ap (λ (m : MyTree). m.0.pin) (c.next_statistic-statistic.ensures.still ∙ c.count-many.ensures.still)),
+)
+
+pub returns-clause-none : goal.returns-clause-none
+returns-clause-none c = c.settle.ensures.none
+
+pub returns-clause-full : goal.returns-clause-full
+returns-clause-full c = λ e. absurd (c.settle.ensures.deep e)
+
+pub make_room-requires-clause-own : goal.make_room-requires-clause-own
+make_room-requires-clause-own c = (c.count-many.ensures.same.0 ∙ c.requires.own.0, ap (λ (m : MyTree). m.0.sizes) c.count-many.ensures.still ∙ c.requires.own.1)
+
+pub make_room-requires-clause-pinned : goal.make_room-requires-clause-pinned
+make_room-requires-clause-pinned c = ap (λ (m : MyTree). m.0.pin.pinned) c.count-many.ensures.still ∙ c.requires.pinned
+
+pub make_room-requires-clause-number : goal.make_room-requires-clause-number
+make_room-requires-clause-number c = subst (λ (m : MyTree). 0 < m.0.upper.number) (sym c.count-many.ensures.still) c.requires.number
+
+pub make_room-requires-clause-none : goal.make_room-requires-clause-none
+make_room-requires-clause-none c = held_looked c.args.space.now.table.shared.key.rows c.args.pass.now.kept c.count-many.new.pass.kept c.args.pass.now.seat.me
+    c.count-many.new.pass.seat.me [] c.requires.none c.count-many.ensures.kept (ap (λ (m : MyTree). m.0.claims) c.count-many.ensures.still)
+    (ap (λ (m : MyTree). m.0.most) c.count-many.ensures.still)
+
+pub make_room-requires-clause-looking : goal.make_room-requires-clause-looking
+make_room-requires-clause-looking c = (
+  (slice_range c.args.object.now c.args.key_at c.args.key_end),
+  subst (λ (m : MyTree). IsLooking c.args.space.now.table.shared.key m.0.upper (slice_range c.args.object.now c.args.key_at c.args.key_end) c.args.cursor)
+      (sym c.count-many.ensures.still) c.requires.looking,
+)
+
+pub make_room-requires-clause-many : goal.make_room-requires-clause-many
+make_room-requires-clause-many c = (
+  subst (λ (m : MyTree). c.count-many.result ≡ length (first_note m.0.upper.notes).objects) (sym c.count-many.ensures.still)
+      (c.count-many.ensures.count (first_note c.args.pass.now.seat.me.0.upper.notes) c.requires.looking.readable),
+  no_less c.args.place c.count-many.result c.args.tuning.now.leaf (λ room. no_room c.has_room.result c.if-not-has_room.true (c.has_room.ensures.1 room)),
+)
+
+pub returns-then-not-has_room-clause-same : goal.returns-then-not-has_room-clause-same
+returns-then-not-has_room-clause-same c = (c.make_room.ensures.same.0 ∙ c.count-many.ensures.same.0, c.make_room.ensures.same.1 ∙ c.count-many.ensures.same.1)
+
+pub returns-then-not-has_room-clause-number : goal.returns-then-not-has_room-clause-number
+returns-then-not-has_room-clause-number c = c.make_room.ensures.number ∙ c.count-many.ensures.number
+
+pub returns-then-not-has_room-clause-pin : goal.returns-then-not-has_room-clause-pin
+returns-then-not-has_room-clause-pin c = (
+  c.make_room.ensures.pin.0 ∙ ap (λ (m : MyTree). m.0.sizes) c.count-many.ensures.still,
+  c.make_room.ensures.pin.1 ∙ ap (λ (m : MyTree). m.0.pin) c.count-many.ensures.still,
+)
+
+pub returns-then-not-has_room-clause-none : goal.returns-then-not-has_room-clause-none
+returns-then-not-has_room-clause-none c = c.make_room.ensures.none
+
+pub returns-then-not-has_room-clause-tried : goal.returns-then-not-has_room-clause-tried
+returns-then-not-has_room-clause-tried c = subst (λ (m : MyTree). IsFurther m.0.upper c.make_room.new.pass.seat.me.0.upper × IsKnown c.args.space.now.table.shared.key c.make_room.new.pass.seat.me.0.upper) c.count-many.ensures.still
+    c.make_room.ensures.further
+
+pub returns-then-not-has_room-clause-deep : goal.returns-then-not-has_room-clause-deep
+returns-then-not-has_room-clause-deep c = no_place _ c.args.place c.count-many.result c.args.tuning.now.leaf (λ room. no_room c.has_room.result c.if-not-has_room.true (c.has_room.ensures.1 room))
+
+pub returns-then-not-has_room-clause-no_split : goal.returns-then-not-has_room-clause-no_split
+returns-then-not-has_room-clause-no_split c = no_place _ c.args.place c.count-many.result c.args.tuning.now.leaf (λ room. no_room c.has_room.result c.if-not-has_room.true (c.has_room.ensures.1 room))
+
+pub returns-then-not-has_room-clause-met_as : goal.returns-then-not-has_room-clause-met_as
+returns-then-not-has_room-clause-met_as c = tt
+
+pub returns-then-not-has_room-clause-gone_on : goal.returns-then-not-has_room-clause-gone_on
+returns-then-not-has_room-clause-gone_on c = subst (λ (m : MyTree). Waits c.args.adapting.now c.make_room.new.adapting m.0.upper c.make_room.new.pass.seat.me.0.upper)
+    c.count-many.ensures.still c.make_room.ensures.waits
+
+pub returns-then-not-has_room-clause-counted : goal.returns-then-not-has_room-clause-counted
+returns-then-not-has_room-clause-counted c = subst (λ (m : MyTree). IsPaid c.args.spent.now c.make_room.new.spent m c.make_room.new.pass.seat.me) c.count-many.ensures.still
+    c.make_room.ensures.counted
+
+pub returns-then-not-has_room-clause-found : goal.returns-then-not-has_room-clause-found
+returns-then-not-has_room-clause-found c = subst (λ (m : MyTree). HasStopped {T = Unit {0}} (Err c.make_room.result) m c.make_room.new.pass.seat.me) c.count-many.ensures.still
+    c.make_room.ensures.found
+
+pub returns-then-not-has_room-clause-grown : goal.returns-then-not-has_room-clause-grown
+returns-then-not-has_room-clause-grown c = subst (λ (m : MyTree). IsLooking c.args.space.now.table.shared.key m.0.upper (slice_range c.args.object.now c.args.key_at c.args.key_end) c.args.cursor
+    → IsAlone c.args.space.now.table.shared.key m.0.upper → HasGrown {T = Unit {0}} c.args.space.now.table.shared.key (Some (slice_range c.args.object.now c.args.key_at c.args.key_end))
+    (Err c.make_room.result) m.0.upper c.make_room.new.pass.seat.me.0.upper) c.count-many.ensures.still (c.make_room.ensures.grown (slice_range c.args.object.now c.args.key_at c.args.key_end))
+    c.requires.looking
+
+pub returns-then-not-has_room-clause-won : goal.returns-then-not-has_room-clause-won
+returns-then-not-has_room-clause-won c = subst (λ (m : MyTree). IsLooking c.args.space.now.table.shared.key m.0.upper (slice_range c.args.object.now c.args.key_at c.args.key_end) c.args.cursor
+    → IsAlone c.args.space.now.table.shared.key m.0.upper → HasWonAs {T = Unit {0}} (λ _. true) (Err c.make_room.result) m.0.upper
+    c.make_room.new.pass.seat.me.0.upper) c.count-many.ensures.still (c.make_room.ensures.won (slice_range c.args.object.now c.args.key_at c.args.key_end)) c.requires.looking

@@ -1,8 +1,8 @@
-use Rattle.std.proofs.Common.{◌≡◌, ℤ, get_or, to_z, of_z, w32, length, Ok, None, Some, sym, ap, ◌∙◌, subst, arith}
+use Rattle.std.proofs.Common.{◌≡◌, ℤ, get_or, to_z, of_z, w32, length, Ok, None, Some, sym, ap, ◌∙◌, subst, arith, ◌<◌, [], map}
 use Rattle.std.proofs.lemmas.Int.{ints, to_z-of_z}
 use Rattle.ca_model.specs.Event.{Remove}
 use Rattle.ca_model.specs.History.{Del}
-use Rattle.ca_base.specs.Finding.{IsReadable}
+use Rattle.ca_base.specs.Finding.{IsReadable, IsAtCursor}
 use Rattle.ca_node.specs.Place.{HasKey}
 use Rattle.ca_node.specs.Told.{MyTree}
 use Rattle.ca_node.specs.TreeView.{TreeView}
@@ -15,6 +15,10 @@ use Rattle.ca_replace.proofs.DueCauses.{settled_met}
 use Rattle.ca_replace.proofs.Growing.{settled_grown}
 use Rattle.ca_replace.proofs.Cutting.{settled_cut}
 use Rattle.ca_replace.proofs.Winning.{settled_won}
+use Rattle.ca_node.specs.Row.{pair}
+use Rattle.ca_model.proofs.Places.{IsPlace}
+use Rattle.ca_rows.specs.declared.view.Pin.{Pin}
+use Rattle.ca_replace.proofs.Entries.{held_looked}
 use Rattle.ca_replace.proofs.attempting.remove_there.Goals as goal
 
 pub count-many-requires-clause-readable : goal.count-many-requires-clause-readable
@@ -122,3 +126,70 @@ returns-clause-won c = settled_won c.args.space.now.table.shared.key c.args.tuni
     c.next_statistic-statistic.new.pass.seat.me c.remove_at-tried.new.pass.seat.me c.settle.new.pass.seat.me c.args.key.now c.args.cursor
     (c.next_statistic-statistic.ensures.still ∙ c.count-many.ensures.still) c.settle.ensures.come c.requires.looking c.remove_at-tried.ensures.removed
     c.remove_at-tried.ensures.renewed c.settle.ensures.settled c.remove_at-tried.ensures.won c.settle.ensures.won
+
+pub next_statistic-statistic-requires-clause-own : goal.next_statistic-statistic-requires-clause-own
+next_statistic-statistic-requires-clause-own c = (c.count-many.ensures.same.0 ∙ c.requires.own.0, ap (λ (m : MyTree). m.0.sizes) c.count-many.ensures.still ∙ c.requires.own.1)
+
+pub next_statistic-statistic-requires-clause-pinned : goal.next_statistic-statistic-requires-clause-pinned
+next_statistic-statistic-requires-clause-pinned c = ap (λ (m : MyTree). m.0.pin.pinned) c.count-many.ensures.still ∙ c.requires.pinned
+
+pub remove_at-tried-requires-clause-own : goal.remove_at-tried-requires-clause-own
+remove_at-tried-requires-clause-own c = (c.next_statistic-statistic.ensures.same.0 ∙ (c.count-many.ensures.same.0 ∙ c.requires.own.0), ap (λ (m : MyTree). m.0.sizes) (c.next_statistic-statistic.ensures.still ∙ c.count-many.ensures.still) ∙ c.requires.own.1)
+
+pub remove_at-tried-requires-clause-pinned : goal.remove_at-tried-requires-clause-pinned
+remove_at-tried-requires-clause-pinned c = ap (λ (m : MyTree). m.0.pin.pinned) (c.next_statistic-statistic.ensures.still ∙ c.count-many.ensures.still) ∙ c.requires.pinned
+
+pub remove_at-tried-requires-clause-number : goal.remove_at-tried-requires-clause-number
+remove_at-tried-requires-clause-number c = subst (λ (m : MyTree). 0 < m.0.upper.number) (sym (c.next_statistic-statistic.ensures.still ∙ c.count-many.ensures.still)) c.requires.number
+
+pub remove_at-tried-requires-clause-none : goal.remove_at-tried-requires-clause-none
+remove_at-tried-requires-clause-none c = held_looked c.args.space.now.table.shared.key.rows c.args.pass.now.kept c.next_statistic-statistic.new.pass.kept c.args.pass.now.seat.me
+    c.next_statistic-statistic.new.pass.seat.me [] c.requires.none (c.next_statistic-statistic.ensures.kept ∙ c.count-many.ensures.kept)
+    (ap (λ (m : MyTree). m.0.claims) (c.next_statistic-statistic.ensures.still ∙ c.count-many.ensures.still))
+    (ap (λ (m : MyTree). m.0.most) (c.next_statistic-statistic.ensures.still ∙ c.count-many.ensures.still))
+
+pub remove_at-tried-requires-clause-leaf : goal.remove_at-tried-requires-clause-leaf
+remove_at-tried-requires-clause-leaf c = let most = c.requires.tuned.allowed.most_leaf in let same = c.requires.tuned.leaf in omega arith
+
+pub remove_at-tried-requires-clause-cursor : goal.remove_at-tried-requires-clause-cursor
+remove_at-tried-requires-clause-cursor c = subst (λ (m : MyTree). IsAtCursor c.args.space.now.table.shared.key (first_note m.0.upper.notes) c.args.cursor)
+    (sym (c.next_statistic-statistic.ensures.still ∙ c.count-many.ensures.still)) c.requires.looking.at
+
+pub remove_at-tried-requires-clause-place : goal.remove_at-tried-requires-clause-place
+remove_at-tried-requires-clause-place c = subst (λ (m : MyTree). IsPlace (map pair (first_note m.0.upper.notes).objects) c.args.key.now (Ok c.args.at))
+    (sym (c.next_statistic-statistic.ensures.still ∙ c.count-many.ensures.still)) c.requires.place
+
+pub remove_at-tried-requires-clause-about : goal.remove_at-tried-requires-clause-about
+remove_at-tried-requires-clause-about c = subst (λ (m : MyTree). HasKey (first_note m.0.upper.notes).place.span c.args.key.now)
+    (sym (c.next_statistic-statistic.ensures.still ∙ c.count-many.ensures.still)) c.requires.looking.about
+
+pub settle-requires-clause-own : goal.settle-requires-clause-own
+settle-requires-clause-own c = (
+  c.remove_at-tried.ensures.same.0 ∙ (c.next_statistic-statistic.ensures.same.0 ∙ (c.count-many.ensures.same.0 ∙ c.requires.own.0)),
+  c.remove_at-tried.ensures.pin.0 ∙ (ap (λ (m : MyTree). m.0.sizes) (c.next_statistic-statistic.ensures.still ∙ c.count-many.ensures.still) ∙ c.requires.own.1),
+)
+
+pub settle-requires-clause-pinned : goal.settle-requires-clause-pinned
+settle-requires-clause-pinned c = ap (λ (p : Pin). p.pinned) c.remove_at-tried.ensures.pin.1
+    ∙ (ap (λ (m : MyTree). m.0.pin.pinned) (c.next_statistic-statistic.ensures.still ∙ c.count-many.ensures.still) ∙ c.requires.pinned)
+
+pub settle-requires-clause-none : goal.settle-requires-clause-none
+settle-requires-clause-none c = c.remove_at-tried.ensures.none
+
+pub returns-clause-same : goal.returns-clause-same
+returns-clause-same c = (
+  c.settle.ensures.same.0 ∙ (c.remove_at-tried.ensures.same.0 ∙ (c.next_statistic-statistic.ensures.same.0 ∙ c.count-many.ensures.same.0)),
+  c.settle.ensures.same.1 ∙ (c.remove_at-tried.ensures.same.1 ∙ (c.next_statistic-statistic.ensures.same.1 ∙ c.count-many.ensures.same.1)),
+)
+
+pub returns-clause-number : goal.returns-clause-number
+returns-clause-number c = c.settle.ensures.number ∙ (c.remove_at-tried.ensures.number ∙ (c.next_statistic-statistic.ensures.number ∙ c.count-many.ensures.number))
+
+pub returns-clause-pin : goal.returns-clause-pin
+returns-clause-pin c = (
+  c.settle.ensures.pin.0 ∙ (c.remove_at-tried.ensures.pin.0 ∙ ap (λ (m : MyTree). m.0.sizes) (c.next_statistic-statistic.ensures.still ∙ c.count-many.ensures.still)),
+  c.settle.ensures.pin.1 ∙ (c.remove_at-tried.ensures.pin.1 ∙ ap (λ (m : MyTree). m.0.pin) (c.next_statistic-statistic.ensures.still ∙ c.count-many.ensures.still)),
+)
+
+pub returns-clause-none : goal.returns-clause-none
+returns-clause-none c = c.settle.ensures.none

@@ -1,4 +1,5 @@
-use Rattle.std.proofs.Common.{◌≡◌, ◌⊎◌, ℕ, ◌+◌, ◌<◌, ◌≤◌, refl, ap, ◌∙◌, sym, subst, inl, inr, ⊎_elim, vec_len, Result, arith}
+use Rattle.std.proofs.Common.{◌≡◌, ◌⊎◌, ℕ, ◌+◌, ◌<◌, ◌≤◌, refl, ap, ◌∙◌, sym, subst, inl, inr, ⊎_elim, vec_len, Result, [], false, true, arith}
+use Rattle.ca_model.specs.History.{after}
 use Rattle.ca_base.specs.Counting.{losses, HasMet}
 use Rattle.ca_node.specs.Told.{MyTree}
 use Rattle.ca_node.specs.TreeView.{TreeView}
@@ -6,10 +7,11 @@ use Rattle.ca_base.specs.Progress.{IsFurther}
 use Rattle.ca_replace.specs.declared.attempting.Stop.{Stop}
 use Rattle.ca_replace.specs.declared.attempting.Stop.TheVariants as stop
 use Rattle.ca_replace.specs.Adapting.{Waits}
+use Rattle.ca_replace.specs.Causes.{IsFull, IsRefill}
 use Rattle.ca_replace.specs.Attempting.{HasMetBy, total}
 use Rattle.ca_replace.specs.Growing.{HasWaited}
-use Rattle.ca_replace.proofs.Causing.{empty_before, few_from, nearer}
-use Rattle.ca_replace.proofs.Counted.{none_paid, paid_both, spends_more}
+use Rattle.ca_replace.proofs.Causing.{begun_with, caused_as, empty_before, few_from, nearer, refill_caused}
+use Rattle.ca_replace.proofs.Counted.{none_paid, paid_both, paid_given, spends_more}
 use Rattle.ca_replace.proofs.GoingOn.{gone_on, idle_waits, refused_gone, stopped_waits, waits_on}
 use Rattle.ca_replace.proofs.Meeting.{further_on}
 use Rattle.ca_replace.proofs.Showing.{tried_on}
@@ -19,6 +21,7 @@ use Rattle.ca_replace.proofs.Growing.{alone_on, attempts_so_far, grown_refused, 
 use Rattle.ca_replace.specs.Cutting.{HasCutFull}
 use Rattle.ca_replace.proofs.Cutting.{cut_refused, cuts_so_far, none_full, stopped_cut}
 use Rattle.ca_replace.proofs.Winning.{stop_won, won_behind, won_refused}
+use Rattle.ca_rows.specs.declared.sizes.Sizes.{Sizes}
 use Rattle.ca_replace.proofs.calls.attempts.Goals as goal
 
 pub loop-come-init : goal.loop-come-init
@@ -191,3 +194,34 @@ returns-else-is_empty-clause-won g c alone = let edits = λ (x : _). g.A.Attempt
     c.keep_few.ensures.upper c.or_refusal.ensures (won_behind edits c.turns-come.result u c.loop-come.pass.seat.me.0.upper
     c.turns-come.new.pass.seat.me.0.upper (i.won alone) (c.turns-come.ensures.won (alone_on c.args.tree.now.space.table.shared.key u
     c.loop-come.pass.seat.me.0.upper i.further.number alone)))
+
+pub returns-in-Err-clause-caused : goal.returns-in-Err-clause-caused
+returns-in-Err-clause-caused g c = let i = c.loop-come.invariant in let start = c.args.pass.now.seat.me in let before = c.loop-come.pass.seat.me in
+    let behind = c.turns-come.new.pass.seat.me in let last = c.refill.new.pass.seat.me in let z = c.args.tree.now.space.table.shared.key in
+    let met = subst (λ (x : Result _ Stop). HasMetBy x before behind) (c.if-is_empty.ensures.0 refl) c.turns-come.ensures.found in
+    refill_caused z c.args.pass.now.number c.args.budget c.kept-kept.result (g.A.Attempt.adds c.args.what.now) c.in-Err.why c.args.spent.now
+    c.refill.new.spent start behind last c.args.pass.now.kept.rows c.refill.new.pass.kept.rows c.requires.none
+    (paid_both c.args.spent.now c.turns-come.new.spent c.refill.new.spent start behind last
+    (paid_both c.args.spent.now c.loop-come.spent c.turns-come.new.spent start before behind i.counted c.turns-come.ensures.counted)
+    c.refill.ensures.counted)
+    (begun_with c.kept-kept.result (vec_len c.loop-come.pass.kept.rows) start before behind last c.args.pass.now.kept.rows c.kept-kept.ensures i.first met
+    c.refill.ensures.met)
+    (let more = i.looks in let same = c.turns-come.ensures.looks in omega arith)
+    (subst (λ (k : ℕ). IsRefill z.passes k c.args.budget c.kept-kept.result c.refill.new.spent c.in-Err.why behind last c.refill.new.pass.kept.rows)
+    (c.turns-come.ensures.number ∙ i.number) c.in-Err.ensures.refused)
+
+pub returns-else-is_empty-clause-caused : goal.returns-else-is_empty-clause-caused
+returns-else-is_empty-clause-caused g c = let i = c.loop-come.invariant in let start = c.args.pass.now.seat.me in let before = c.loop-come.pass.seat.me in
+    let behind = c.turns-come.new.pass.seat.me in let last = c.keep_few.new.pass.seat.me in let tree = c.args.tree.now in
+    let z = tree.space.table.shared.key in let adds = g.A.Attempt.adds c.args.what.now in let upper = c.keep_few.ensures.upper in
+    let found = c.turns-come.ensures.found in let given = c.keep_few.ensures.met in
+    caused_as z c.args.pass.now.number c.args.budget adds c.turns-come.result c.or_refusal.result c.args.spent.now _ _ start last
+    c.args.pass.now.kept.rows c.keep_few.new.pass.kept.rows c.or_refusal.ensures
+    (let levels = tree.tuned.levels in let same = ap (λ (y : Sizes). y.levels) tree.space.same in omega arith)
+    (λ e. let wrong : false ≡ true = c.if-is_empty.ensures.1 e in cc) c.turns-come.ensures.no_split
+    (λ e. subst (λ (u : TreeView). IsFull z adds u.last (after u.seen [])) (sym upper) (c.turns-come.ensures.deep e))
+    (λ e. let most = c.turns-come.ensures.lost e in let more = c.add-spent.ensures.more in omega arith) c.requires.none
+    (paid_both c.args.spent.now c.turns-come.new.spent _ start behind last
+    (paid_both c.args.spent.now c.loop-come.spent c.turns-come.new.spent start before behind i.counted c.turns-come.ensures.counted)
+    (paid_given c.turns-come.new.spent c.keep_few.result c.add-spent.result behind last c.add-spent.ensures.sum c.keep_few.ensures.lost upper))
+    (λ e. let met = subst (λ (x : Result _ Stop). HasMetBy x before behind) e found in omega (arith, i.worn, met.1, given.1))

@@ -1,10 +1,11 @@
-use Rattle.std.proofs.Common.{ℕ, [], map, None, Some, refl, sym, subst, ◌∙◌}
+use Rattle.std.proofs.Common.{ℕ, List, [], map, None, Some, refl, sym, ap, subst, ◌∙◌}
 use Rattle.std.specs.Prelude.{Result}
+use Rattle.ca_model.specs.Event.{Get}
 use Rattle.ca_model.specs.StoreMap.{IsFound}
 use Rattle.ca_model.specs.History.{after}
 use Rattle.ca_model.proofs.Places.{IsPlace}
 use Rattle.ca_node.specs.Row.{pair}
-use Rattle.ca_node.specs.Told.{MyTree}
+use Rattle.ca_node.specs.Told.{MyTree, entered, with_upper}
 use Rattle.ca_base.specs.Finding.{IsReadable}
 use Rattle.ca_base.specs.Putting.{first_note}
 use Rattle.ca_base.proofs.Searching.{found_object, place_inside}
@@ -52,3 +53,18 @@ enter-requires-2-clause-answer c = let z = c.args.space.now.table.shared.key in 
           (one_found z c.args.pass.now.seat.me.0.upper c.args.cursor c.args.key.now c.as_slice.result.now c.requires.looking
           (found_object note c.args.key.now c.as_slice.result.now c.in-Ok.place at (c.as_slice.ensures.value ∙ copied))),
     )
+
+pub copy_at-requires-clause-readable : goal.copy_at-requires-clause-readable
+copy_at-requires-clause-readable c = let z = c.args.space.now.table.shared.key in let note = first_note c.args.pass.now.seat.me.0.upper.notes in
+    let r = c.requires.looking.readable in
+    let at = subst (λ (p : Result ℕ ℕ). IsPlace (map pair note.objects) c.args.key.now p) c.in-Ok.is (c.search.ensures.place note r) in
+    (note, subst (λ (m : MyTree). IsReadable z m.0.upper c.args.cursor.base note) (sym c.search.ensures.still) r, place_inside note c.args.key.now c.in-Ok.place at)
+
+pub returns-in_default-clause-entered : goal.returns-in_default-clause-entered
+returns-in_default-clause-entered c = c.enter.ensures.entered
+    ∙ ap (λ (m : MyTree). with_upper m (entered m.0.upper (Get c.args.key.now None))) c.search.ensures.still
+
+pub returns-clause-entered : goal.returns-clause-entered
+returns-clause-entered c = let me = c.args.pass.now.seat.me in c.enter-2.ensures.entered
+    ∙ (ap (λ (m : MyTree). with_upper m (entered m.0.upper (Get c.args.key.now (Some c.as_slice.result.now)))) (c.copy_at.ensures.still ∙ c.search.ensures.still)
+    ∙ ap (λ (object : List ℕ). with_upper me (entered me.0.upper (Get c.args.key.now (Some object)))) c.as_slice.ensures.value)

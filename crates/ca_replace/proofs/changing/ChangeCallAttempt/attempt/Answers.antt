@@ -1,4 +1,4 @@
-use Rattle.std.proofs.Common.{ℕ, ◌+◌, List, length, map, Ok, Err, Some, None, false, true, refl, sym, ap, ◌∙◌, subst, arith}
+use Rattle.std.proofs.Common.{ℕ, ◌+◌, List, length, map, Ok, Err, Some, None, false, true, refl, sym, ap, ◌∙◌, subst, arith, ◌<◌, []}
 use Rattle.std.specs.Prelude.{Result}
 use Rattle.std.specs.List.{slice_range}
 use Rattle.ca_model.specs.declared.outcome.Changed.{Changed}
@@ -10,7 +10,7 @@ use Rattle.ca_model.proofs.Places.{IsPlace}
 use Rattle.ca_node.specs.Row.{pair}
 use Rattle.ca_node.specs.Told.{MyTree, entered}
 use Rattle.ca_base.specs.Putting.{first_note, object_at}
-use Rattle.ca_replace.specs.Attempting.{IsLooking, HasFetched}
+use Rattle.ca_replace.specs.Attempting.{IsLooking, HasFetched, splits}
 use Rattle.ca_replace.specs.Tells.{Alters}
 use Rattle.ca_replace.proofs.Asking.{left_of}
 use Rattle.ca_replace.proofs.GoingOn.{adapts_after, entered_waits, idle_waits, paid_behind, waits_on}
@@ -20,6 +20,12 @@ use Rattle.ca_replace.proofs.Meeting.{further_on}
 use Rattle.ca_replace.proofs.DueCauses.{met_between, quiet_none, same_none}
 use Rattle.ca_replace.specs.Adapting.{is_put}
 use Rattle.ca_replace.proofs.Cutting.{entered_cut, looked_cut, never_cut, stop_cut}
+use Rattle.ca_base.specs.Counting.{losses}
+use Rattle.ca_rows.specs.declared.view.Pin.{Pin}
+use Rattle.ca_replace.proofs.Counted.{none_paid, done_stopped, stop_stopped}
+use Rattle.ca_replace.proofs.Entries.{held_upper, held_looked}
+use Rattle.ca_replace.proofs.Growing.{alone_on, entered_grown, looked_grown}
+use Rattle.ca_replace.proofs.Winning.{won_on}
 use Rattle.ca_replace.proofs.changing.ChangeCallAttempt.attempt.Goals as goal
 
 pub returns-in_default-clause-tried : goal.returns-in_default-clause-tried
@@ -159,3 +165,137 @@ returns-in-Err-clause-cut g c = stop_cut (Unit {0}) Changed (λ _. true) is_put 
     c.args.pass.now.seat.me c.fetch-place.new.pass.seat.me c.put_there.new.pass.seat.me.0.upper c.fetch-place.ensures.quiet
     (never_cut {T = Unit {0}} (λ _. true) c.args.space.now.table.shared.key (Some _) None (Err c.in-Err.stop) c.fetch-place.new.pass.seat.me.0.upper
     c.put_there.new.pass.seat.me.0.upper c.in-Err.ensures.no_split c.in-Err.ensures.cut)
+
+pub returns-in_default-clause-same : goal.returns-in_default-clause-same
+returns-in_default-clause-same g c = (c.enter.ensures.same.0 ∙ c.fetch-place.ensures.same.0, c.enter.ensures.same.1 ∙ c.fetch-place.ensures.same.1)
+
+pub returns-in_default-clause-number : goal.returns-in_default-clause-number
+returns-in_default-clause-number g c = c.enter.ensures.number ∙ c.fetch-place.ensures.number
+
+pub returns-in_default-clause-pin : goal.returns-in_default-clause-pin
+returns-in_default-clause-pin g c = (
+  ap (λ (m : MyTree). m.0.sizes) c.enter.ensures.entered ∙ c.fetch-place.ensures.still.0,
+  ap (λ (m : MyTree). m.0.pin) c.enter.ensures.entered ∙ c.fetch-place.ensures.still.1,
+)
+
+pub returns-in_default-clause-none : goal.returns-in_default-clause-none
+returns-in_default-clause-none g c = held_upper c.args.space.now.table.shared.key.rows c.fetch-place.new.pass.kept c.enter.new.pass.kept c.fetch-place.new.pass.seat.me c.enter.new.pass.seat.me _ []
+    (held_looked c.args.space.now.table.shared.key.rows c.args.pass.now.kept c.fetch-place.new.pass.kept c.args.pass.now.seat.me c.fetch-place.new.pass.seat.me [] c.requires.none
+    c.fetch-place.ensures.kept c.fetch-place.ensures.still.2 c.fetch-place.ensures.quiet.most) c.enter.ensures.entered c.enter.ensures.kept
+
+pub returns-in_default-clause-counted : goal.returns-in_default-clause-counted
+returns-in_default-clause-counted g c = none_paid c.args.spent.now c.args.pass.now.seat.me c.enter.new.pass.seat.me
+    (ap losses c.enter.ensures.entered ∙ c.fetch-place.ensures.quiet.lost) (ap splits c.enter.ensures.entered ∙ c.fetch-place.ensures.quiet.splits_are)
+
+pub returns-in_default-clause-found : goal.returns-in_default-clause-found
+returns-in_default-clause-found g c = done_stopped _ c.args.pass.now.seat.me c.enter.new.pass.seat.me
+
+pub returns-in_default-clause-met_as : goal.returns-in_default-clause-met_as
+returns-in_default-clause-met_as g c = tt
+
+pub returns-in_default-clause-grown : goal.returns-in_default-clause-grown
+returns-in_default-clause-grown g c alone = entered_grown c.args.pass.now.seat.me c.fetch-place.new.pass.seat.me c.enter.new.pass.seat.me _
+    c.fetch-place.ensures.quiet c.enter.ensures.entered
+
+pub returns-in_default-clause-won : goal.returns-in_default-clause-won
+returns-in_default-clause-won g c alone = ap (λ (m : MyTree). m.0.upper.lost) c.enter.ensures.entered ∙ c.fetch-place.ensures.quiet.idle.1
+
+pub returns-then-not-f-clause-same : goal.returns-then-not-f-clause-same
+returns-then-not-f-clause-same g c = (c.enter-then-not-f.ensures.same.0 ∙ c.fetch-place.ensures.same.0, c.enter-then-not-f.ensures.same.1 ∙ c.fetch-place.ensures.same.1)
+
+pub returns-then-not-f-clause-number : goal.returns-then-not-f-clause-number
+returns-then-not-f-clause-number g c = c.enter-then-not-f.ensures.number ∙ c.fetch-place.ensures.number
+
+pub returns-then-not-f-clause-pin : goal.returns-then-not-f-clause-pin
+returns-then-not-f-clause-pin g c = (
+  ap (λ (m : MyTree). m.0.sizes) c.enter-then-not-f.ensures.entered ∙ c.fetch-place.ensures.still.0,
+  ap (λ (m : MyTree). m.0.pin) c.enter-then-not-f.ensures.entered ∙ c.fetch-place.ensures.still.1,
+)
+
+pub returns-then-not-f-clause-none : goal.returns-then-not-f-clause-none
+returns-then-not-f-clause-none g c = held_upper c.args.space.now.table.shared.key.rows c.fetch-place.new.pass.kept c.enter-then-not-f.new.pass.kept c.fetch-place.new.pass.seat.me c.enter-then-not-f.new.pass.seat.me _ []
+    (held_looked c.args.space.now.table.shared.key.rows c.args.pass.now.kept c.fetch-place.new.pass.kept c.args.pass.now.seat.me c.fetch-place.new.pass.seat.me [] c.requires.none
+    c.fetch-place.ensures.kept c.fetch-place.ensures.still.2 c.fetch-place.ensures.quiet.most) c.enter-then-not-f.ensures.entered c.enter-then-not-f.ensures.kept
+
+pub returns-then-not-f-clause-counted : goal.returns-then-not-f-clause-counted
+returns-then-not-f-clause-counted g c = none_paid c.args.spent.now c.args.pass.now.seat.me c.enter-then-not-f.new.pass.seat.me
+    (ap losses c.enter-then-not-f.ensures.entered ∙ c.fetch-place.ensures.quiet.lost) (ap splits c.enter-then-not-f.ensures.entered ∙ c.fetch-place.ensures.quiet.splits_are)
+
+pub returns-then-not-f-clause-found : goal.returns-then-not-f-clause-found
+returns-then-not-f-clause-found g c = done_stopped _ c.args.pass.now.seat.me c.enter-then-not-f.new.pass.seat.me
+
+pub returns-then-not-f-clause-met_as : goal.returns-then-not-f-clause-met_as
+returns-then-not-f-clause-met_as g c = tt
+
+pub returns-then-not-f-clause-grown : goal.returns-then-not-f-clause-grown
+returns-then-not-f-clause-grown g c alone = entered_grown c.args.pass.now.seat.me c.fetch-place.new.pass.seat.me c.enter-then-not-f.new.pass.seat.me _
+    c.fetch-place.ensures.quiet c.enter-then-not-f.ensures.entered
+
+pub returns-then-not-f-clause-won : goal.returns-then-not-f-clause-won
+returns-then-not-f-clause-won g c alone = ap (λ (m : MyTree). m.0.upper.lost) c.enter-then-not-f.ensures.entered ∙ c.fetch-place.ensures.quiet.idle.1
+
+pub returns-in-Ok-put_there-clause-same : goal.returns-in-Ok-put_there-clause-same
+returns-in-Ok-put_there-clause-same g c = (c.put_there.ensures.same.0 ∙ c.fetch-place.ensures.same.0, c.put_there.ensures.same.1 ∙ c.fetch-place.ensures.same.1)
+
+pub returns-in-Ok-put_there-clause-number : goal.returns-in-Ok-put_there-clause-number
+returns-in-Ok-put_there-clause-number g c = c.put_there.ensures.number ∙ c.fetch-place.ensures.number
+
+pub returns-in-Ok-put_there-clause-pin : goal.returns-in-Ok-put_there-clause-pin
+returns-in-Ok-put_there-clause-pin g c = (c.put_there.ensures.pin.0 ∙ c.fetch-place.ensures.still.0, c.put_there.ensures.pin.1 ∙ c.fetch-place.ensures.still.1)
+
+pub returns-in-Ok-put_there-clause-none : goal.returns-in-Ok-put_there-clause-none
+returns-in-Ok-put_there-clause-none g c = c.put_there.ensures.none
+
+pub returns-in-Ok-put_there-clause-found : goal.returns-in-Ok-put_there-clause-found
+returns-in-Ok-put_there-clause-found g c = done_stopped _ c.args.pass.now.seat.me c.put_there.new.pass.seat.me
+
+pub returns-in-Ok-put_there-clause-grown : goal.returns-in-Ok-put_there-clause-grown
+returns-in-Ok-put_there-clause-grown g c = looked_grown {T = Unit {0}} c.args.space.now.table.shared.key None (Ok tt) c.args.pass.now.seat.me
+    c.fetch-place.new.pass.seat.me c.put_there.new.pass.seat.me.0.upper c.requires.known c.fetch-place.ensures.looking.known c.fetch-place.ensures.further
+    c.fetch-place.ensures.quiet c.in-Ok-put_there.ensures.grown
+
+pub returns-in-Ok-put_there-clause-won : goal.returns-in-Ok-put_there-clause-won
+returns-in-Ok-put_there-clause-won g c alone = won_on true c.args.pass.now.seat.me.0.upper c.fetch-place.new.pass.seat.me.0.upper c.put_there.new.pass.seat.me.0.upper
+    c.fetch-place.ensures.quiet.idle.1 (c.in-Ok-put_there.ensures.won (alone_on c.args.space.now.table.shared.key c.args.pass.now.seat.me.0.upper c.fetch-place.new.pass.seat.me.0.upper
+    c.fetch-place.ensures.further.number alone))
+
+pub returns-in-Err-clause-same : goal.returns-in-Err-clause-same
+returns-in-Err-clause-same g c = (c.put_there.ensures.same.0 ∙ c.fetch-place.ensures.same.0, c.put_there.ensures.same.1 ∙ c.fetch-place.ensures.same.1)
+
+pub returns-in-Err-clause-number : goal.returns-in-Err-clause-number
+returns-in-Err-clause-number g c = c.put_there.ensures.number ∙ c.fetch-place.ensures.number
+
+pub returns-in-Err-clause-pin : goal.returns-in-Err-clause-pin
+returns-in-Err-clause-pin g c = (c.put_there.ensures.pin.0 ∙ c.fetch-place.ensures.still.0, c.put_there.ensures.pin.1 ∙ c.fetch-place.ensures.still.1)
+
+pub returns-in-Err-clause-none : goal.returns-in-Err-clause-none
+returns-in-Err-clause-none g c = c.put_there.ensures.none
+
+pub returns-in-Err-clause-counted : goal.returns-in-Err-clause-counted
+returns-in-Err-clause-counted g c = paid_behind c.args.spent.now c.put_there.new.spent c.args.pass.now.seat.me c.fetch-place.new.pass.seat.me
+    c.put_there.new.pass.seat.me c.fetch-place.ensures.quiet c.put_there.ensures.counted
+
+pub returns-in-Err-clause-found : goal.returns-in-Err-clause-found
+returns-in-Err-clause-found g c = stop_stopped (Unit {0}) Changed c.in-Err.stop c.args.pass.now.seat.me c.fetch-place.new.pass.seat.me
+    c.put_there.new.pass.seat.me c.fetch-place.ensures.quiet c.in-Err.ensures.found
+
+pub returns-in-Err-clause-met_as : goal.returns-in-Err-clause-met_as
+returns-in-Err-clause-met_as g c = tt
+
+pub returns-in-Err-clause-won : goal.returns-in-Err-clause-won
+returns-in-Err-clause-won g c alone = won_on false c.args.pass.now.seat.me.0.upper c.fetch-place.new.pass.seat.me.0.upper c.put_there.new.pass.seat.me.0.upper
+    c.fetch-place.ensures.quiet.idle.1 (c.in-Err.ensures.won (alone_on c.args.space.now.table.shared.key c.args.pass.now.seat.me.0.upper c.fetch-place.new.pass.seat.me.0.upper
+    c.fetch-place.ensures.further.number alone))
+
+pub put_there-requires-clause-own : goal.put_there-requires-clause-own
+put_there-requires-clause-own g c = (c.fetch-place.ensures.same.0 ∙ c.requires.own.0, c.fetch-place.ensures.still.0 ∙ c.requires.own.1)
+
+pub put_there-requires-clause-pinned : goal.put_there-requires-clause-pinned
+put_there-requires-clause-pinned g c = ap (λ (p : Pin). p.pinned) c.fetch-place.ensures.still.1 ∙ c.requires.pinned
+
+pub put_there-requires-clause-number : goal.put_there-requires-clause-number
+put_there-requires-clause-number g c = subst (λ n. 0 < n) (sym c.fetch-place.ensures.further.number) c.requires.number
+
+pub put_there-requires-clause-none : goal.put_there-requires-clause-none
+put_there-requires-clause-none g c = held_looked c.args.space.now.table.shared.key.rows c.args.pass.now.kept c.fetch-place.new.pass.kept c.args.pass.now.seat.me c.fetch-place.new.pass.seat.me []
+    c.requires.none c.fetch-place.ensures.kept c.fetch-place.ensures.still.2 c.fetch-place.ensures.quiet.most

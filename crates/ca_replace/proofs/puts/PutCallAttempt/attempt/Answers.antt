@@ -1,13 +1,16 @@
 use Rattle.std.specs.Prelude.{slice_range}
 use Rattle.ca_model.specs.Event.{Event, Write}
-use Rattle.std.proofs.Common.{◌≡◌, refl, true}
-use Rattle.ca_replace.proofs.GoingOn.{gone_after}
+use Rattle.std.proofs.Common.{◌≡◌, refl, true, ap, ◌∙◌, sym, subst, ◌<◌, []}
+use Rattle.ca_replace.proofs.GoingOn.{gone_after, paid_behind}
 use Rattle.ca_replace.proofs.Showing.{tried_on}
 use Rattle.ca_replace.proofs.DueCauses.{meets_between, quiet_none, same_none}
 use Rattle.ca_replace.proofs.Growing.{alone_on, looked_grown}
 use Rattle.std.proofs.Common.{Some}
 use Rattle.ca_replace.proofs.Cutting.{looked_cut}
 use Rattle.ca_replace.proofs.Winning.{won_behind}
+use Rattle.ca_rows.specs.declared.view.Pin.{Pin}
+use Rattle.ca_replace.proofs.Counted.{stopped_behind}
+use Rattle.ca_replace.proofs.Entries.{held_looked}
 use Rattle.ca_replace.proofs.puts.PutCallAttempt.attempt.Goals as goal
 
 pub returns-clause-tried : goal.returns-clause-tried
@@ -44,3 +47,39 @@ pub returns-clause-won : goal.returns-clause-won
 returns-clause-won c alone = won_behind (λ (_ : Unit {0}). true) c.put_there.result c.args.pass.now.seat.me.0.upper c.find-place.new.pass.seat.me.0.upper
     c.put_there.new.pass.seat.me.0.upper c.find-place.ensures.quiet.idle.1 (c.put_there.ensures.won (alone_on c.args.space.now.table.shared.key
     c.args.pass.now.seat.me.0.upper c.find-place.new.pass.seat.me.0.upper c.find-place.ensures.further.number alone))
+
+pub returns-clause-same : goal.returns-clause-same
+returns-clause-same c = (c.put_there.ensures.same.0 ∙ c.find-place.ensures.same.0, c.put_there.ensures.same.1 ∙ c.find-place.ensures.same.1)
+
+pub returns-clause-number : goal.returns-clause-number
+returns-clause-number c = c.put_there.ensures.number ∙ c.find-place.ensures.number
+
+pub returns-clause-pin : goal.returns-clause-pin
+returns-clause-pin c = (c.put_there.ensures.pin.0 ∙ c.find-place.ensures.still.0, c.put_there.ensures.pin.1 ∙ c.find-place.ensures.still.1)
+
+pub returns-clause-none : goal.returns-clause-none
+returns-clause-none c = c.put_there.ensures.none
+
+pub returns-clause-deep : goal.returns-clause-deep
+returns-clause-deep c = c.put_there.ensures.full
+
+pub returns-clause-counted : goal.returns-clause-counted
+returns-clause-counted c = paid_behind c.args.spent.now c.put_there.new.spent c.args.pass.now.seat.me c.find-place.new.pass.seat.me
+    c.put_there.new.pass.seat.me c.find-place.ensures.quiet c.put_there.ensures.counted
+
+pub returns-clause-found : goal.returns-clause-found
+returns-clause-found c = stopped_behind c.put_there.result c.args.pass.now.seat.me c.find-place.new.pass.seat.me c.put_there.new.pass.seat.me
+    c.find-place.ensures.quiet c.put_there.ensures.found
+
+pub put_there-requires-clause-own : goal.put_there-requires-clause-own
+put_there-requires-clause-own c = (c.find-place.ensures.same.0 ∙ c.requires.own.0, c.find-place.ensures.still.0 ∙ c.requires.own.1)
+
+pub put_there-requires-clause-pinned : goal.put_there-requires-clause-pinned
+put_there-requires-clause-pinned c = ap (λ (p : Pin). p.pinned) c.find-place.ensures.still.1 ∙ c.requires.pinned
+
+pub put_there-requires-clause-number : goal.put_there-requires-clause-number
+put_there-requires-clause-number c = subst (λ n. 0 < n) (sym c.find-place.ensures.further.number) c.requires.number
+
+pub put_there-requires-clause-none : goal.put_there-requires-clause-none
+put_there-requires-clause-none c = held_looked c.args.space.now.table.shared.key.rows c.args.pass.now.kept c.find-place.new.pass.kept c.args.pass.now.seat.me c.find-place.new.pass.seat.me []
+    c.requires.none c.find-place.ensures.kept c.find-place.ensures.still.2 c.find-place.ensures.quiet.most

@@ -1,4 +1,4 @@
-use Rattle.std.proofs.Common.{◌≡◌, ◌∙◌, Bool, true, false, refl, sym, ap}
+use Rattle.std.proofs.Common.{◌≡◌, ◌∙◌, Bool, true, false, refl, sym, ap, subst, ◌<◌, []}
 use Rattle.std.specs.Prelude.{slice_range}
 use Rattle.ca_model.specs.Event.{Event, WriteNew}
 use Rattle.ca_node.specs.Told.{MyTree}
@@ -11,6 +11,11 @@ use Rattle.ca_replace.proofs.Growing.{alone_on, entered_grown, looked_grown, sto
 use Rattle.std.proofs.Common.{Ok, Some}
 use Rattle.ca_replace.proofs.Cutting.{entered_cut, looked_cut, stop_cut}
 use Rattle.ca_replace.proofs.Winning.{won_on}
+use Rattle.ca_base.specs.Counting.{losses}
+use Rattle.ca_replace.specs.Attempting.{splits}
+use Rattle.ca_rows.specs.declared.view.Pin.{Pin}
+use Rattle.ca_replace.proofs.Counted.{none_paid, done_stopped, stop_stopped}
+use Rattle.ca_replace.proofs.Entries.{held_upper, held_looked}
 use Rattle.ca_replace.proofs.puts.PutNewCallAttempt.attempt.Goals as goal
 
 pub enter-requires-clause-answer : goal.enter-requires-clause-answer
@@ -116,3 +121,84 @@ pub returns-in-Err-clause-won : goal.returns-in-Err-clause-won
 returns-in-Err-clause-won c alone = won_on false c.args.pass.now.seat.me.0.upper c.find-place.new.pass.seat.me.0.upper c.put_there.new.pass.seat.me.0.upper
     c.find-place.ensures.quiet.idle.1 (c.in-Err.ensures.won (alone_on c.args.space.now.table.shared.key c.args.pass.now.seat.me.0.upper
     c.find-place.new.pass.seat.me.0.upper c.find-place.ensures.further.number alone))
+
+pub returns-then-is_ok-clause-same : goal.returns-then-is_ok-clause-same
+returns-then-is_ok-clause-same c = (c.enter.ensures.same.0 ∙ c.find-place.ensures.same.0, c.enter.ensures.same.1 ∙ c.find-place.ensures.same.1)
+
+pub returns-then-is_ok-clause-number : goal.returns-then-is_ok-clause-number
+returns-then-is_ok-clause-number c = c.enter.ensures.number ∙ c.find-place.ensures.number
+
+pub returns-then-is_ok-clause-pin : goal.returns-then-is_ok-clause-pin
+returns-then-is_ok-clause-pin c = (
+  ap (λ (m : MyTree). m.0.sizes) c.enter.ensures.entered ∙ c.find-place.ensures.still.0,
+  ap (λ (m : MyTree). m.0.pin) c.enter.ensures.entered ∙ c.find-place.ensures.still.1,
+)
+
+pub returns-then-is_ok-clause-none : goal.returns-then-is_ok-clause-none
+returns-then-is_ok-clause-none c = held_upper c.args.space.now.table.shared.key.rows c.find-place.new.pass.kept c.enter.new.pass.kept c.find-place.new.pass.seat.me c.enter.new.pass.seat.me _ []
+    (held_looked c.args.space.now.table.shared.key.rows c.args.pass.now.kept c.find-place.new.pass.kept c.args.pass.now.seat.me c.find-place.new.pass.seat.me [] c.requires.none
+    c.find-place.ensures.kept c.find-place.ensures.still.2 c.find-place.ensures.quiet.most) c.enter.ensures.entered c.enter.ensures.kept
+
+pub returns-then-is_ok-clause-counted : goal.returns-then-is_ok-clause-counted
+returns-then-is_ok-clause-counted c = none_paid c.args.spent.now c.args.pass.now.seat.me c.enter.new.pass.seat.me
+    (ap losses c.enter.ensures.entered ∙ c.find-place.ensures.quiet.lost) (ap splits c.enter.ensures.entered ∙ c.find-place.ensures.quiet.splits_are)
+
+pub returns-then-is_ok-clause-found : goal.returns-then-is_ok-clause-found
+returns-then-is_ok-clause-found c = done_stopped _ c.args.pass.now.seat.me c.enter.new.pass.seat.me
+
+pub returns-then-is_ok-clause-met_as : goal.returns-then-is_ok-clause-met_as
+returns-then-is_ok-clause-met_as c = tt
+
+pub returns-then-is_ok-clause-won : goal.returns-then-is_ok-clause-won
+returns-then-is_ok-clause-won c alone = ap (λ (m : MyTree). m.0.upper.lost) c.enter.ensures.entered ∙ c.find-place.ensures.quiet.idle.1
+
+pub returns-in-Ok-clause-same : goal.returns-in-Ok-clause-same
+returns-in-Ok-clause-same c = (c.put_there.ensures.same.0 ∙ c.find-place.ensures.same.0, c.put_there.ensures.same.1 ∙ c.find-place.ensures.same.1)
+
+pub returns-in-Ok-clause-number : goal.returns-in-Ok-clause-number
+returns-in-Ok-clause-number c = c.put_there.ensures.number ∙ c.find-place.ensures.number
+
+pub returns-in-Ok-clause-pin : goal.returns-in-Ok-clause-pin
+returns-in-Ok-clause-pin c = (c.put_there.ensures.pin.0 ∙ c.find-place.ensures.still.0, c.put_there.ensures.pin.1 ∙ c.find-place.ensures.still.1)
+
+pub returns-in-Ok-clause-none : goal.returns-in-Ok-clause-none
+returns-in-Ok-clause-none c = c.put_there.ensures.none
+
+pub returns-in-Ok-clause-found : goal.returns-in-Ok-clause-found
+returns-in-Ok-clause-found c = done_stopped _ c.args.pass.now.seat.me c.put_there.new.pass.seat.me
+
+pub returns-in-Err-clause-same : goal.returns-in-Err-clause-same
+returns-in-Err-clause-same c = (c.put_there.ensures.same.0 ∙ c.find-place.ensures.same.0, c.put_there.ensures.same.1 ∙ c.find-place.ensures.same.1)
+
+pub returns-in-Err-clause-number : goal.returns-in-Err-clause-number
+returns-in-Err-clause-number c = c.put_there.ensures.number ∙ c.find-place.ensures.number
+
+pub returns-in-Err-clause-pin : goal.returns-in-Err-clause-pin
+returns-in-Err-clause-pin c = (c.put_there.ensures.pin.0 ∙ c.find-place.ensures.still.0, c.put_there.ensures.pin.1 ∙ c.find-place.ensures.still.1)
+
+pub returns-in-Err-clause-none : goal.returns-in-Err-clause-none
+returns-in-Err-clause-none c = c.put_there.ensures.none
+
+pub returns-in-Err-clause-counted : goal.returns-in-Err-clause-counted
+returns-in-Err-clause-counted c = paid_behind c.args.spent.now c.put_there.new.spent c.args.pass.now.seat.me c.find-place.new.pass.seat.me
+    c.put_there.new.pass.seat.me c.find-place.ensures.quiet c.put_there.ensures.counted
+
+pub returns-in-Err-clause-found : goal.returns-in-Err-clause-found
+returns-in-Err-clause-found c = stop_stopped (Unit {0}) Bool c.in-Err.stop c.args.pass.now.seat.me c.find-place.new.pass.seat.me
+    c.put_there.new.pass.seat.me c.find-place.ensures.quiet c.in-Err.ensures.found
+
+pub returns-in-Err-clause-met_as : goal.returns-in-Err-clause-met_as
+returns-in-Err-clause-met_as c = tt
+
+pub put_there-requires-clause-own : goal.put_there-requires-clause-own
+put_there-requires-clause-own c = (c.find-place.ensures.same.0 ∙ c.requires.own.0, c.find-place.ensures.still.0 ∙ c.requires.own.1)
+
+pub put_there-requires-clause-pinned : goal.put_there-requires-clause-pinned
+put_there-requires-clause-pinned c = ap (λ (p : Pin). p.pinned) c.find-place.ensures.still.1 ∙ c.requires.pinned
+
+pub put_there-requires-clause-number : goal.put_there-requires-clause-number
+put_there-requires-clause-number c = subst (λ n. 0 < n) (sym c.find-place.ensures.further.number) c.requires.number
+
+pub put_there-requires-clause-none : goal.put_there-requires-clause-none
+put_there-requires-clause-none c = held_looked c.args.space.now.table.shared.key.rows c.args.pass.now.kept c.find-place.new.pass.kept c.args.pass.now.seat.me c.find-place.new.pass.seat.me []
+    c.requires.none c.find-place.ensures.kept c.find-place.ensures.still.2 c.find-place.ensures.quiet.most

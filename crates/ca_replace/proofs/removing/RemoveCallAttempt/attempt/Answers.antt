@@ -1,11 +1,11 @@
-use Rattle.std.proofs.Common.{ℕ, Bool, List, map, Ok, Some, None, false, true, refl, ap, subst}
+use Rattle.std.proofs.Common.{ℕ, Bool, List, map, Ok, Some, None, false, true, refl, ap, subst, ◌∙◌, sym, ◌<◌, []}
 use Rattle.std.specs.Prelude.{Result}
 use Rattle.ca_model.specs.Event.{Event, Remove}
 use Rattle.ca_model.proofs.Places.{IsPlace}
 use Rattle.ca_node.specs.Row.{pair}
 use Rattle.ca_node.specs.Told.{MyTree}
 use Rattle.ca_base.specs.Putting.{first_note, object_at}
-use Rattle.ca_replace.specs.Attempting.{HasFetched}
+use Rattle.ca_replace.specs.Attempting.{HasFetched, splits}
 use Rattle.ca_replace.specs.Tells.{Removes}
 use Rattle.ca_replace.proofs.GoingOn.{adapts_after, entered_waits, idle_waits, paid_behind, waits_on}
 use Rattle.ca_replace.proofs.Showing.{did, read_done}
@@ -13,6 +13,12 @@ use Rattle.ca_replace.proofs.Tallies.{tallied_read}
 use Rattle.ca_replace.proofs.Meeting.{further_on}
 use Rattle.ca_replace.proofs.DueCauses.{met_between, quiet_none, same_none}
 use Rattle.ca_replace.proofs.Cutting.{entered_cut, looked_cut, stop_cut}
+use Rattle.ca_base.specs.Counting.{losses}
+use Rattle.ca_rows.specs.declared.view.Pin.{Pin}
+use Rattle.ca_replace.proofs.Counted.{none_paid, done_stopped, stop_stopped}
+use Rattle.ca_replace.proofs.Entries.{held_upper, held_looked}
+use Rattle.ca_replace.proofs.Growing.{alone_on, entered_grown, looked_grown, stop_grown}
+use Rattle.ca_replace.proofs.Winning.{won_on}
 use Rattle.ca_replace.proofs.removing.RemoveCallAttempt.attempt.Goals as goal
 
 pub returns-in_default-clause-tried : goal.returns-in_default-clause-tried
@@ -91,3 +97,108 @@ pub returns-in-Err-clause-cut : goal.returns-in-Err-clause-cut
 returns-in-Err-clause-cut c = stop_cut (Unit {0}) Bool (λ _. true) (λ (was : Bool). was) c.args.space.now.table.shared.key None c.in-Err.stop
     c.args.pass.now.seat.me c.fetch-place.new.pass.seat.me c.remove_there.new.pass.seat.me.0.upper c.fetch-place.ensures.quiet
     c.in-Err.ensures.cut
+
+pub returns-in_default-clause-same : goal.returns-in_default-clause-same
+returns-in_default-clause-same c = (c.enter.ensures.same.0 ∙ c.fetch-place.ensures.same.0, c.enter.ensures.same.1 ∙ c.fetch-place.ensures.same.1)
+
+pub returns-in_default-clause-number : goal.returns-in_default-clause-number
+returns-in_default-clause-number c = c.enter.ensures.number ∙ c.fetch-place.ensures.number
+
+pub returns-in_default-clause-pin : goal.returns-in_default-clause-pin
+returns-in_default-clause-pin c = (
+  ap (λ (m : MyTree). m.0.sizes) c.enter.ensures.entered ∙ c.fetch-place.ensures.still.0,
+  ap (λ (m : MyTree). m.0.pin) c.enter.ensures.entered ∙ c.fetch-place.ensures.still.1,
+)
+
+pub returns-in_default-clause-none : goal.returns-in_default-clause-none
+returns-in_default-clause-none c = held_upper c.args.space.now.table.shared.key.rows c.fetch-place.new.pass.kept c.enter.new.pass.kept c.fetch-place.new.pass.seat.me c.enter.new.pass.seat.me _ []
+    (held_looked c.args.space.now.table.shared.key.rows c.args.pass.now.kept c.fetch-place.new.pass.kept c.args.pass.now.seat.me c.fetch-place.new.pass.seat.me [] c.requires.none
+    c.fetch-place.ensures.kept c.fetch-place.ensures.still.2 c.fetch-place.ensures.quiet.most) c.enter.ensures.entered c.enter.ensures.kept
+
+pub returns-in_default-clause-counted : goal.returns-in_default-clause-counted
+returns-in_default-clause-counted c = none_paid c.args.spent.now c.args.pass.now.seat.me c.enter.new.pass.seat.me
+    (ap losses c.enter.ensures.entered ∙ c.fetch-place.ensures.quiet.lost) (ap splits c.enter.ensures.entered ∙ c.fetch-place.ensures.quiet.splits_are)
+
+pub returns-in_default-clause-found : goal.returns-in_default-clause-found
+returns-in_default-clause-found c = done_stopped _ c.args.pass.now.seat.me c.enter.new.pass.seat.me
+
+pub returns-in_default-clause-met_as : goal.returns-in_default-clause-met_as
+returns-in_default-clause-met_as c = tt
+
+pub returns-in_default-clause-grown : goal.returns-in_default-clause-grown
+returns-in_default-clause-grown c alone = entered_grown c.args.pass.now.seat.me c.fetch-place.new.pass.seat.me c.enter.new.pass.seat.me _
+    c.fetch-place.ensures.quiet c.enter.ensures.entered
+
+pub returns-in_default-clause-won : goal.returns-in_default-clause-won
+returns-in_default-clause-won c alone = ap (λ (m : MyTree). m.0.upper.lost) c.enter.ensures.entered ∙ c.fetch-place.ensures.quiet.idle.1
+
+pub returns-in-Ok-remove_there-clause-same : goal.returns-in-Ok-remove_there-clause-same
+returns-in-Ok-remove_there-clause-same c = (c.remove_there.ensures.same.0 ∙ c.fetch-place.ensures.same.0, c.remove_there.ensures.same.1 ∙ c.fetch-place.ensures.same.1)
+
+pub returns-in-Ok-remove_there-clause-number : goal.returns-in-Ok-remove_there-clause-number
+returns-in-Ok-remove_there-clause-number c = c.remove_there.ensures.number ∙ c.fetch-place.ensures.number
+
+pub returns-in-Ok-remove_there-clause-pin : goal.returns-in-Ok-remove_there-clause-pin
+returns-in-Ok-remove_there-clause-pin c = (c.remove_there.ensures.pin.0 ∙ c.fetch-place.ensures.still.0, c.remove_there.ensures.pin.1 ∙ c.fetch-place.ensures.still.1)
+
+pub returns-in-Ok-remove_there-clause-none : goal.returns-in-Ok-remove_there-clause-none
+returns-in-Ok-remove_there-clause-none c = c.remove_there.ensures.none
+
+pub returns-in-Ok-remove_there-clause-found : goal.returns-in-Ok-remove_there-clause-found
+returns-in-Ok-remove_there-clause-found c = done_stopped _ c.args.pass.now.seat.me c.remove_there.new.pass.seat.me
+
+pub returns-in-Ok-remove_there-clause-grown : goal.returns-in-Ok-remove_there-clause-grown
+returns-in-Ok-remove_there-clause-grown c = looked_grown {T = Unit {0}} c.args.space.now.table.shared.key None (Ok tt) c.args.pass.now.seat.me
+    c.fetch-place.new.pass.seat.me c.remove_there.new.pass.seat.me.0.upper c.requires.known c.fetch-place.ensures.looking.known c.fetch-place.ensures.further
+    c.fetch-place.ensures.quiet c.in-Ok-remove_there.ensures.grown
+
+pub returns-in-Ok-remove_there-clause-won : goal.returns-in-Ok-remove_there-clause-won
+returns-in-Ok-remove_there-clause-won c alone = won_on true c.args.pass.now.seat.me.0.upper c.fetch-place.new.pass.seat.me.0.upper c.remove_there.new.pass.seat.me.0.upper
+    c.fetch-place.ensures.quiet.idle.1 (c.in-Ok-remove_there.ensures.won (alone_on c.args.space.now.table.shared.key c.args.pass.now.seat.me.0.upper c.fetch-place.new.pass.seat.me.0.upper
+    c.fetch-place.ensures.further.number alone))
+
+pub returns-in-Err-clause-same : goal.returns-in-Err-clause-same
+returns-in-Err-clause-same c = (c.remove_there.ensures.same.0 ∙ c.fetch-place.ensures.same.0, c.remove_there.ensures.same.1 ∙ c.fetch-place.ensures.same.1)
+
+pub returns-in-Err-clause-number : goal.returns-in-Err-clause-number
+returns-in-Err-clause-number c = c.remove_there.ensures.number ∙ c.fetch-place.ensures.number
+
+pub returns-in-Err-clause-pin : goal.returns-in-Err-clause-pin
+returns-in-Err-clause-pin c = (c.remove_there.ensures.pin.0 ∙ c.fetch-place.ensures.still.0, c.remove_there.ensures.pin.1 ∙ c.fetch-place.ensures.still.1)
+
+pub returns-in-Err-clause-none : goal.returns-in-Err-clause-none
+returns-in-Err-clause-none c = c.remove_there.ensures.none
+
+pub returns-in-Err-clause-counted : goal.returns-in-Err-clause-counted
+returns-in-Err-clause-counted c = paid_behind c.args.spent.now c.remove_there.new.spent c.args.pass.now.seat.me c.fetch-place.new.pass.seat.me
+    c.remove_there.new.pass.seat.me c.fetch-place.ensures.quiet c.remove_there.ensures.counted
+
+pub returns-in-Err-clause-found : goal.returns-in-Err-clause-found
+returns-in-Err-clause-found c = stop_stopped (Unit {0}) Bool c.in-Err.stop c.args.pass.now.seat.me c.fetch-place.new.pass.seat.me
+    c.remove_there.new.pass.seat.me c.fetch-place.ensures.quiet c.in-Err.ensures.found
+
+pub returns-in-Err-clause-met_as : goal.returns-in-Err-clause-met_as
+returns-in-Err-clause-met_as c = tt
+
+pub returns-in-Err-clause-grown : goal.returns-in-Err-clause-grown
+returns-in-Err-clause-grown c = stop_grown (Unit {0}) Bool c.args.space.now.table.shared.key None c.in-Err.stop c.args.pass.now.seat.me
+    c.fetch-place.new.pass.seat.me c.remove_there.new.pass.seat.me.0.upper c.requires.known c.fetch-place.ensures.looking.known c.fetch-place.ensures.further
+    c.fetch-place.ensures.quiet c.in-Err.ensures.grown
+
+pub returns-in-Err-clause-won : goal.returns-in-Err-clause-won
+returns-in-Err-clause-won c alone = won_on false c.args.pass.now.seat.me.0.upper c.fetch-place.new.pass.seat.me.0.upper c.remove_there.new.pass.seat.me.0.upper
+    c.fetch-place.ensures.quiet.idle.1 (c.in-Err.ensures.won (alone_on c.args.space.now.table.shared.key c.args.pass.now.seat.me.0.upper c.fetch-place.new.pass.seat.me.0.upper
+    c.fetch-place.ensures.further.number alone))
+
+pub remove_there-requires-clause-own : goal.remove_there-requires-clause-own
+remove_there-requires-clause-own c = (c.fetch-place.ensures.same.0 ∙ c.requires.own.0, c.fetch-place.ensures.still.0 ∙ c.requires.own.1)
+
+pub remove_there-requires-clause-pinned : goal.remove_there-requires-clause-pinned
+remove_there-requires-clause-pinned c = ap (λ (p : Pin). p.pinned) c.fetch-place.ensures.still.1 ∙ c.requires.pinned
+
+pub remove_there-requires-clause-number : goal.remove_there-requires-clause-number
+remove_there-requires-clause-number c = subst (λ n. 0 < n) (sym c.fetch-place.ensures.further.number) c.requires.number
+
+pub remove_there-requires-clause-none : goal.remove_there-requires-clause-none
+remove_there-requires-clause-none c = held_looked c.args.space.now.table.shared.key.rows c.args.pass.now.kept c.fetch-place.new.pass.kept c.args.pass.now.seat.me c.fetch-place.new.pass.seat.me []
+    c.requires.none c.fetch-place.ensures.kept c.fetch-place.ensures.still.2 c.fetch-place.ensures.quiet.most

@@ -41,3 +41,6 @@ keep_few-requires c = let tree = c.self.inside.tree.now in let z : Sizes = tree.
           (c.load_link.ensures.tally ∙ (c.pin.ensures.tally ∙ c.learn.ensures.tally))
           (counts.0 ∙ ap (λ (m : MyTree). m.0.upper.splits) both) (counts.1 ∙ ap (λ (m : MyTree). m.0.upper.joins) both)));
     }
+
+pub invariant_of-self : goal.invariant_of-self
+invariant_of-self c = c.keep_few.ensures.resting
