@@ -89,9 +89,12 @@ fn answer_with_number(alloc: Global, word: &str, count: u32, terms: &[Term], int
         ("tuple", [item]) => say_tuple(alloc, count, item, into),
         ("parts", [object]) => say_parts(alloc, count, object, into),
         ("count", [object, operations]) => say_counted(alloc, count, object, operations, into),
-        ("set", [object, pos, value]) => match pos.kind() {
-            Kind::Int(pos) => say_replaced(alloc, count, object, pos, value, into),
-            _ => say(b"no position", into),
+        ("set", [object, pos, value]) => match (pos.kind(), value.kind()) {
+            (Kind::Int(pos), Kind::Int(value)) => {
+                say_replaced(alloc, count, object, pos, Some(value), into);
+            }
+            (Kind::Int(pos), Kind::Nil) => say_replaced(alloc, count, object, pos, None, into),
+            _ => say(b"no position, or no value", into),
         },
         ("plan", [spec]) => say_plan(alloc, count, spec, into),
         ("client", []) => say_client(alloc, count, into),

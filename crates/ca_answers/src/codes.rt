@@ -6,7 +6,7 @@ ghost use Rattle.ca_order.specs.Patches.{IsTupleCode, IsElementCode};
 use crate::say::{say, say_hexadecimal, say_term, say_value};
 use ca_ets::Operations;
 use ca_order::{Code, Patched, compare, decode, encode, object_parts, patch, set, sums};
-use ca_term::{Kind, Term, code_length};
+use ca_term::{Kind, Term, code_length, int, nil};
 use std::alloc::Global;
 
 /// The term of a code.
@@ -49,23 +49,26 @@ fn object_code(term: &Term) -> Option<Code>
     }
 }
 
-// The code of an element.
-fn element_code(term: &Term) -> Option<Code>
+// The code of an integer, or of the empty list.
+fn element_code(value: Option<i64>) -> Option<Code>
     ensures { IfSome result (λ code. (t : Tree) × IsElementCode t code.items) }
 {
+    let term = match value {
+        Some(value) => int(value),
+        None => nil(),
+    };
     let mut code = Code::new();
-    let Ok(()) = encode(term, &mut code) else {
+    let Ok(()) = encode(&term, &mut code) else {
         return None;
     };
-    match term.kind() {
-        _ => Some(code),
-    }
+    Some(code)
 }
 
 /// Where element `keypos` stands in the code of an object.
 pub(crate) fn say_parts(alloc: Global, keypos: u32, object: &Term, into: &mut Vec<u8>)
     requires { 1 ≤ keypos }
 {
+    let _kind = object.kind();
     let mut code = Code::new();
     match encode(object, &mut code) {
         Ok(()) => say_value(alloc, &object_parts(code.as_slice(), keypos), into),
@@ -109,13 +112,13 @@ pub(crate) fn say_counted(
     }
 }
 
-/// What comes of another element at a position.
+/// What comes of another element at a position: of an integer, or of the empty list.
 pub(crate) fn say_replaced(
     alloc: Global,
     keypos: u32,
     object: &Term,
     pos: i64,
-    value: &Term,
+    value: Option<i64>,
     into: &mut Vec<u8>,
 ) {
     let (Some(code), Some(value)) = (object_code(object), element_code(value)) else {
