@@ -3,7 +3,7 @@ ghost use Rattle.std.specs.Prelude.{◌≤◌};
 ghost use Rattle.ca_ets.specs.Command.{IsContinuation, continuation_of};
 ghost use Rattle.ca_term.specs.declared.bounds.TheConstants.{MOST_ELEMENTS};
 
-use crate::player::{lines_of, play, put_reply};
+use crate::player::{lines_of, play, play_on, put_reply};
 use ca_cmd::{Line, generate, show_table};
 use ca_ets::{Cont, ListTable};
 use ca_model::Plain;
@@ -128,5 +128,39 @@ fn both_answer_alike_on_lines_from_a_seed(rt: HostRuntime) -> Result<(), Fail> {
     show_table(list.objects(), &mut listed)?;
     show_table(objects(alloc, &store)?.as_slice(), &mut found)?;
     assert!(rt; listed.as_slice() == found.as_slice());
+    Ok(())
+}
+
+// A client's commands, and what they are answered.
+const TURNS: [(usize, &str, &str); 6] = [
+    (
+        0,
+        "insert {1,10}; insert {2,20}; insert {3,30}; insert {4,40}; insert {5,50}; batch [{{'_','$1'},[],['$1']}] 2",
+        "true;true;true;true;true;{[10,20],more};",
+    ),
+    (
+        1,
+        "batch [{{'_','$1'},[{'>','$1',20}],['$1']}] 1; delete 2; delete 4; insert {6,60}; insert {0,0}",
+        "{[30],more};true;true;true;true;",
+    ),
+    (0, "more", "{[30,50],more};"),
+    (1, "more", "{[50],more};"),
+    (0, "more", "{[60],'$end_of_table'};"),
+    (1, "more; more", "{[60],more};'$end_of_table';"),
+];
+
+#[test]
+fn two_clients_take_batches_in_turn(rt: HostRuntime) -> Result<(), Fail> {
+    let alloc = rt.alloc();
+    let mut table = Table::new(Plain::new(alloc, 1), 1);
+    let mut one = Cont::Never;
+    let mut two = Cont::Never;
+    for (client, commands, wanted) in TURNS {
+        let lines = lines_of(alloc, commands)?;
+        let mut found = Vec::new(alloc);
+        let cont = if client == 0 { &mut one } else { &mut two };
+        play_on(alloc, &mut table, cont, lines.as_slice(), &mut found)?;
+        assert_eq!(rt; found.as_slice(), wanted.as_bytes(), "{commands}");
+    }
     Ok(())
 }
