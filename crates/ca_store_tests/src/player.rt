@@ -1,5 +1,4 @@
 //! Commands as text, played on a table, and their answers as text.
-ghost use Rattle.std.specs.Prelude.{◌≤◌};
 ghost use Rattle.ca_ets.specs.Command.{IsContinuation, continuation_of};
 
 use ca_cmd::{Answer, Line, Lines, read_file, show_reply};
