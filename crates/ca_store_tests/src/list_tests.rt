@@ -1,9 +1,7 @@
 //! The table of a list beside a table over a plain store: each as its rows say, and both alike on lines that are made from a seed.
-ghost use Rattle.std.specs.Prelude.{◌≤◌};
 ghost use Rattle.ca_ets.specs.Command.{IsContinuation, continuation_of};
-ghost use Rattle.ca_term.specs.declared.bounds.TheConstants.{MOST_ELEMENTS};
 
-use crate::player::{lines_of, play, put_reply};
+use crate::player::{lines_of, play, play_on, put_reply};
 use ca_cmd::{Line, generate, show_table};
 use ca_ets::{Cont, ListTable};
 use ca_model::Plain;
@@ -26,9 +24,10 @@ fn play_list(
     Ok(())
 }
 
-fn list_answers(alloc: Global, keypos: u32, lines: &[Line]) -> Result<Vec<u8>, AllocError>
-    requires { 1 ≤ keypos }
-{
+fn list_answers(alloc: Global, keypos: u32, lines: &[Line]) -> Result<Vec<u8>, AllocError> {
+    if keypos == 0 {
+        return Err(AllocError);
+    }
     let mut list = ListTable::new(alloc, keypos);
     let mut answers = Vec::new(alloc);
     play_list(alloc, &mut list, lines, &mut answers)?;
@@ -36,9 +35,10 @@ fn list_answers(alloc: Global, keypos: u32, lines: &[Line]) -> Result<Vec<u8>, A
     Ok(answers)
 }
 
-fn plain_answers(alloc: Global, keypos: u32, lines: &[Line]) -> Result<Vec<u8>, AllocError>
-    requires { (1 ≤ keypos) × (keypos ≤ MOST_ELEMENTS) }
-{
+fn plain_answers(alloc: Global, keypos: u32, lines: &[Line]) -> Result<Vec<u8>, AllocError> {
+    if keypos == 0 || keypos > 120 {
+        return Err(AllocError);
+    }
     let mut table = Table::new(Plain::new(alloc, keypos), keypos);
     let mut answers = Vec::new(alloc);
     play(alloc, &mut table, lines, &mut answers)?;
@@ -128,5 +128,53 @@ fn both_answer_alike_on_lines_from_a_seed(rt: HostRuntime) -> Result<(), Fail> {
     show_table(list.objects(), &mut listed)?;
     show_table(objects(alloc, &store)?.as_slice(), &mut found)?;
     assert!(rt; listed.as_slice() == found.as_slice());
+    Ok(())
+}
+
+// The answers to a client's next commands.
+fn answered(
+    alloc: Global,
+    table: &mut Table<Plain>,
+    cont: &mut Cont,
+    commands: &str,
+) -> Result<Vec<u8>, AllocError>
+    requires { IsContinuation (continuation_of cont.old) }
+    ensures { IsContinuation (continuation_of cont.new) }
+{
+    let lines = lines_of(alloc, commands)?;
+    let mut answers = Vec::new(alloc);
+    play_on(alloc, table, cont, lines.as_slice(), &mut answers)?;
+    Ok(answers)
+}
+
+// One client's commands with what they are answered, and then another client's.
+const TURNS: [(&str, &str, &str, &str); 3] = [
+    (
+        "insert {1,10}; insert {2,20}; insert {3,30}; insert {4,40}; insert {5,50}; batch [{{'_','$1'},[],['$1']}] 2",
+        "true;true;true;true;true;{[10,20],more};",
+        "batch [{{'_','$1'},[{'>','$1',20}],['$1']}] 1; delete 2; delete 4; insert {6,60}; insert {0,0}",
+        "{[30],more};true;true;true;true;",
+    ),
+    ("more", "{[30,50],more};", "more", "{[50],more};"),
+    (
+        "more",
+        "{[60],'$end_of_table'};",
+        "more; more",
+        "{[60],more};'$end_of_table';",
+    ),
+];
+
+#[test]
+fn two_clients_take_batches_in_turn(rt: HostRuntime) -> Result<(), Fail> {
+    let alloc = rt.alloc();
+    let mut table = Table::new(Plain::new(alloc, 1), 1);
+    let mut one = Cont::Never;
+    let mut two = Cont::Never;
+    for (first, wanted, second, other) in TURNS {
+        let found = answered(alloc, &mut table, &mut one, first)?;
+        assert_eq!(rt; found.as_slice(), wanted.as_bytes(), "{first}");
+        let found = answered(alloc, &mut table, &mut two, second)?;
+        assert_eq!(rt; found.as_slice(), other.as_bytes(), "{second}");
+    }
     Ok(())
 }

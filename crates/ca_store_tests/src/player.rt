@@ -1,5 +1,4 @@
 //! Commands as text, played on a table, and their answers as text.
-ghost use Rattle.std.specs.Prelude.{◌≤◌};
 ghost use Rattle.ca_ets.specs.Command.{IsContinuation, continuation_of};
 
 use ca_cmd::{Answer, Line, Lines, read_file, show_reply};
@@ -87,17 +86,31 @@ fn put_outcome(outcome: Outcome<Reply>, into: &mut Vec<u8>) -> Result<(), AllocE
     put(b";", into)
 }
 
-/// Gives a client's commands to a table, one after the other, and appends the answers, each with `;` behind it.
+/// Gives a client's commands to a table, one after the other, and appends the answers, each with `;` behind it. `cont` tells where the client's
+/// batches stand.
+pub(crate) fn play_on<S: OrderedStore + Drop>(
+    alloc: Global,
+    table: &mut Table<S>,
+    cont: &mut Cont,
+    lines: &[Line],
+    into: &mut Vec<u8>,
+) -> Result<(), AllocError>
+    requires { IsContinuation (continuation_of cont.old) }
+    ensures { IsContinuation (continuation_of cont.new) }
+{
+    for line in lines {
+        let outcome = table.apply(alloc, &line.cmd, cont, BUDGET)?;
+        put_outcome(outcome, into)?;
+    }
+    Ok(())
+}
+
+/// The same with a client's first commands.
 pub(crate) fn play<S: OrderedStore + Drop>(
     alloc: Global,
     table: &mut Table<S>,
     lines: &[Line],
     into: &mut Vec<u8>,
 ) -> Result<(), AllocError> {
-    let mut cont = Cont::Never;
-    for line in lines {
-        let outcome = table.apply(alloc, &line.cmd, &mut cont, BUDGET)?;
-        put_outcome(outcome, into)?;
-    }
-    Ok(())
+    play_on(alloc, table, &mut Cont::Never, lines, into)
 }

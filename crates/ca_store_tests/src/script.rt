@@ -1,6 +1,4 @@
 //! Tables over a store with a script.
-ghost use Rattle.std.specs.Prelude.{◌≤◌};
-
 use crate::edit::edits;
 use crate::player::{CAUSE, LEVEL, lines_of, play};
 use ca_model::{Counter, OrderedStore};
