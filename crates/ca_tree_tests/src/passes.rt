@@ -37,7 +37,7 @@ fn is_bad(alloc: Global, rows: u32, passes: u32, starts: Starts) -> bool {
 }
 
 // The numbers of rows and passes, the starts of the counters, and whether they are refused.
-const SIZES: [(u32, u32, u64, u64, u64, u64, bool); 15] = [
+const SIZES: [(u32, u32, u64, u64, u64, u64, bool); 16] = [
     (383, 1, 0, 0, 0, 0, true),
     (384, 1, 0, 0, 0, 0, false),
     (65_535, 1, 0, 0, 0, 0, false),
@@ -53,6 +53,15 @@ const SIZES: [(u32, u32, u64, u64, u64, u64, bool); 15] = [
     (384, 1, 0, 0, 1 << 46, 0, true),
     (384, 1, 0, 0, 0, (1 << 62) - 1, false),
     (384, 1, 0, 0, 0, 1 << 62, true),
+    (
+        384,
+        64,
+        (1 << 48) - 1,
+        1 << 62,
+        (1 << 46) - 1,
+        (1 << 62) - 1,
+        false,
+    ),
 ];
 
 // Sizes are looked at before the tuning is.
