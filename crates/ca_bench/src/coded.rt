@@ -3,15 +3,13 @@ ghost use Rattle.std.specs.Prelude.{◌≡◌, ◌<◌, ◌≤◌, length};
 ghost use Rattle.ca_term.specs.Object.{is_object};
 ghost use Rattle.ca_term.specs.Tree.{IsTerm};
 
+use crate::player::BUDGET;
 use ca_model::{Code, Outcome};
 use ca_order::{encode, object_parts};
 use ca_replace::TreeStore;
 use ca_term::{Kind, Term};
 use std::alloc::{AllocError, Global};
 use std::marker::Model;
-
-// How many turns a call may lose to other clients.
-const BUDGET: u32 = 1_000_000;
 
 /// The code of an object, whose first element is its key, and where the key's code stands in it. Contracts see a pair of both.
 #[derive(Drop)]
@@ -42,29 +40,28 @@ impl Coded {
         store.get(key, into, BUDGET) == Outcome::Done(true)
     }
 
-    /// Puts it, and answers whether it wasn't refused.
-    pub fn put_into(&self, store: &mut TreeStore<'_>) -> bool
+    /// Puts it.
+    pub fn put_into(&self, store: &mut TreeStore<'_>) -> Outcome<()>
         requires { store.old.z.keypos ≡ 1 }
         ensures { store.new.z ≡ store.old.z }
     {
-        store.put(self.code.as_slice(), self.key_at, self.key_end, BUDGET) == Outcome::Done(())
+        store.put(self.code.as_slice(), self.key_at, self.key_end, BUDGET)
     }
 
-    /// Puts it where the store has no object with its key, and answers whether the call wasn't refused.
-    pub fn put_new_into(&self, store: &mut TreeStore<'_>) -> bool
+    /// Puts it where the store has no object with its key.
+    pub fn put_new_into(&self, store: &mut TreeStore<'_>) -> Outcome<bool>
         requires { store.old.z.keypos ≡ 1 }
         ensures { store.new.z ≡ store.old.z }
     {
-        let outcome = store.put_new(self.code.as_slice(), self.key_at, self.key_end, BUDGET);
-        matches!(outcome, Outcome::Done(_))
+        store.put_new(self.code.as_slice(), self.key_at, self.key_end, BUDGET)
     }
 
-    /// Removes the object with this key, where the store has one, and answers whether the call wasn't refused. `into` is that object.
-    pub fn remove_from(&self, store: &mut TreeStore<'_>, into: &mut Code) -> bool
+    /// Removes the object with this key, where the store has one. `into` is that object.
+    pub fn remove_from(&self, store: &mut TreeStore<'_>, into: &mut Code) -> Outcome<bool>
         ensures { store.new.z ≡ store.old.z }
     {
         let key = &self.code.as_slice()[self.key_at..self.key_end];
-        matches!(store.remove(key, into, BUDGET), Outcome::Done(_))
+        store.remove(key, into, BUDGET)
     }
 }
 

@@ -5,7 +5,6 @@
 //! `bench/threads.sh` and `bench/tree.sh` run it beside others that do the same.
 #![tactic(auto)]
 
-mod client;
 mod coded;
 mod draws;
 mod load;

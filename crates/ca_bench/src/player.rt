@@ -4,14 +4,16 @@ ghost use Rattle.ca_bench.specs.Numbers.{number_code};
 ghost use Rattle.ca_model.specs.Function.{StandsAt};
 ghost use Rattle.ca_model.specs.StoreMap.{IsPair};
 
+use crate::coded::Coded;
 use crate::draws::{Draws, even, skewed};
 use crate::numbers::{counter_of, key_code, object, write_next};
 use ca_model::{Changed, Code, Outcome};
 use ca_replace::TreeStore;
 
-// How many turns a call may lose to other clients, and how often one that is refused is tried again.
-const BUDGET: u32 = 1_000;
+/// How many turns a call may lose to other clients.
+pub const BUDGET: u32 = 1_000;
 
+// How often a call that is refused is tried again.
 const TRIES: u32 = 1_000_000;
 
 /// Which calls are played.
@@ -27,12 +29,36 @@ pub enum Mix {
     SkewedMixed,
     /// Changes that add one to one of so many counters.
     Counters(u32),
+    /// Lookups of keys that are there.
+    Present,
+    /// Puts of keys that are there.
+    Puts,
+    /// Half lookups and a quarter puts of keys that are there, and a quarter calls at keys that come and go.
+    ComeAndGo,
 }
 
-/// A pass on a tree, and what it plays with: keys below a count, of which the even ones are there at the start.
+/// What clients play with: keys below a count, of which those below another one are always there, and the codes of objects by their keys. Where there
+/// are no codes, a key has an object of numbers.
+#[derive(Clone, Copy)]
+pub struct Load<'t> {
+    pub keys: u32,
+    pub present: u32,
+    pub coded: &'t [Coded],
+}
+
+/// Keys below the count, which have objects of numbers.
+pub fn numbers_below(keys: u32) -> Load<'static> {
+    Load {
+        keys,
+        present: 0,
+        coded: &[],
+    }
+}
+
+/// A pass on a tree, and what it plays with.
 pub struct Player<'t> {
     store: TreeStore<'t>,
-    keys: u32,
+    load: Load<'t>,
     draws: Draws,
     good: u32,
     full: u32,
@@ -45,7 +71,7 @@ impl Drop for Player<'_> {
     fn drop(self) {
         let Self {
             store: _,
-            keys: _,
+            load: _,
             draws: _,
             good: _,
             full: _,
@@ -56,13 +82,13 @@ impl Drop for Player<'_> {
 }
 
 impl<'t> Player<'t> {
-    /// A client that plays with keys below the count. Clients of other numbers play in another order.
-    pub fn new(store: TreeStore<'t>, keys: u32, number: u32) -> Player<'t>
+    /// A client of this load. Clients of other numbers play in another order.
+    pub fn new(store: TreeStore<'t>, load: Load<'t>, number: u32) -> Player<'t>
         requires { store.z.keypos ≡ 1 }
     {
         Player {
             store,
-            keys,
+            load,
             draws: Draws::new(number),
             good: 0,
             full: 0,
@@ -86,17 +112,20 @@ impl<'t> Player<'t> {
         self.busy
     }
 
-    /// Puts an object of an even key for each of these numbers.
-    pub fn fill(&mut self, numbers: &[u32]) {
-        for number in numbers {
-            let done = self.put(number.wrapping_mul(2));
+    /// Puts an object of each of these keys.
+    pub fn fill(&mut self, keys: &[u32]) {
+        for key in keys {
+            let done = self.put(*key);
             self.count(done);
         }
     }
 
     /// Puts an object of this key.
     pub fn try_put(&mut self, key: u32) -> Outcome<()> {
-        self.store.put(&object(key, 0), 5, 10, BUDGET)
+        match self.load.coded.get(key as usize) {
+            Some(coded) => coded.put_into(&mut self.store),
+            None => self.store.put(&object(key, 0), 5, 10, BUDGET),
+        }
     }
 
     /// Plays so many calls.
@@ -107,10 +136,13 @@ impl<'t> Player<'t> {
         }
     }
 
-    /// The sum of all counters.
+    /// The sum of all counters; 0 where objects have codes.
     pub fn total(&mut self) -> u32 {
         let mut total = 0_u32;
-        for key in 0..self.keys {
+        if !self.load.coded.is_empty() {
+            return total;
+        }
+        for key in 0..self.load.keys {
             if self.get(key) {
                 total = total.wrapping_add(counter_of(self.into.as_slice()));
             }
@@ -135,13 +167,27 @@ impl<'t> Player<'t> {
 
     fn call(&mut self, mix: Mix) -> bool {
         let drawn = self.draws.draw();
-        let keys = self.keys;
+        let Load { keys, present, .. } = self.load;
         match mix {
             Mix::Lookups => self.look_up(even(drawn, keys)),
             Mix::Mixed => self.come_or_go(drawn, even(drawn, keys)),
             Mix::SkewedLookups => self.look_up(skewed(drawn, keys)),
             Mix::SkewedMixed => self.come_or_go(drawn, skewed(drawn, keys)),
             Mix::Counters(count) => self.raise(counter_key(drawn, count, keys)),
+            Mix::Present => self.get(even(drawn, present)),
+            Mix::Puts => self.put(even(drawn, present)),
+            Mix::ComeAndGo => self.use_present(drawn, present, keys),
+        }
+    }
+
+    // A lookup or a put of a key that is there, or a call at another one.
+    fn use_present(&mut self, drawn: u32, present: u32, keys: u32) -> bool {
+        let other = present.wrapping_add(even(drawn, keys.wrapping_sub(present)));
+        match drawn % 8 {
+            0 | 1 | 4 | 5 => self.get(even(drawn, present)),
+            2 | 6 => self.put(even(drawn, present)),
+            3 => self.put_new(other),
+            _ => self.remove(other),
         }
     }
 
@@ -162,7 +208,10 @@ impl<'t> Player<'t> {
     }
 
     fn get(&mut self, key: u32) -> bool {
-        self.store.get(&key_code(key), &mut self.into, BUDGET) == Outcome::Done(true)
+        match self.load.coded.get(key as usize) {
+            Some(coded) => coded.is_in(&mut self.store, &mut self.into),
+            None => self.store.get(&key_code(key), &mut self.into, BUDGET) == Outcome::Done(true),
+        }
     }
 
     fn put(&mut self, key: u32) -> bool {
@@ -178,7 +227,28 @@ impl<'t> Player<'t> {
 
     fn remove(&mut self, key: u32) -> bool {
         for _ in 0..TRIES {
-            let outcome = self.store.remove(&key_code(key), &mut self.into, BUDGET);
+            let outcome = self.try_remove(key);
+            if matches!(outcome, Outcome::Done(_)) {
+                return true;
+            }
+            self.refuse(&outcome);
+        }
+        false
+    }
+
+    fn try_remove(&mut self, key: u32) -> Outcome<bool> {
+        match self.load.coded.get(key as usize) {
+            Some(coded) => coded.remove_from(&mut self.store, &mut self.into),
+            None => self.store.remove(&key_code(key), &mut self.into, BUDGET),
+        }
+    }
+
+    fn put_new(&mut self, key: u32) -> bool {
+        for _ in 0..TRIES {
+            let Some(coded) = self.load.coded.get(key as usize) else {
+                return false;
+            };
+            let outcome = coded.put_new_into(&mut self.store);
             if matches!(outcome, Outcome::Done(_)) {
                 return true;
             }

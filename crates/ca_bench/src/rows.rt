@@ -1,6 +1,6 @@
 //! How many objects fit into a tree.
 use crate::draws::shuffled;
-use crate::player::Player;
+use crate::player::{Player, numbers_below};
 use crate::trees::{tree_of, tuning_of};
 use ca_model::Outcome;
 use ca_replace::TreeStore;
@@ -58,7 +58,7 @@ fn time_fit<R: Clock + Print + Alloc<A = Global>>(
     let Ok(pass) = tree.enroll(alloc) else {
         return println!(rt; "no memory");
     };
-    let mut player = Player::new(TreeStore::new(&tree, pass), rows, 1);
+    let mut player = Player::new(TreeStore::new(&tree, pass), numbers_below(rows), 1);
     let start = Instant::now(rt)?;
     let Fit { objects, end } = put_until_refused(&mut player, keys);
     let nanos = start.elapsed(rt)?.as_nanos();

@@ -2,7 +2,7 @@
 ghost use Rattle.std.specs.Prelude.{◌≡◌, IfOk};
 
 use crate::draws::shuffled;
-use crate::player::{Mix, Player};
+use crate::player::{Load, Mix, Player, numbers_below};
 use ca_adapt::Tuning;
 use ca_replace::{Tree, TreeFault, TreeStore};
 use ca_rows::Starts;
@@ -12,8 +12,8 @@ use std::rt::Clock;
 use std::thread::{Threads, for_each_mut};
 use std::time::Instant;
 
-// As many rows as a tree may have.
-const ROWS: u32 = 65_535;
+/// As many rows as a tree may have.
+pub const ROWS: u32 = 65_535;
 
 // How often a measure is taken, each time on a new tree; the times are added.
 const RUNS: u32 = 3;
@@ -100,12 +100,12 @@ fn good_calls(players: &[Player<'_>]) -> u32 {
     good
 }
 
-// What a measure took, and how often its calls were refused, for want of rows or for another reason.
+/// What a measure took, and how often its calls were refused, for want of rows or for another reason.
 #[derive(Clone, Copy)]
-struct Taken {
-    nanos: u128,
-    full: u32,
-    busy: u32,
+pub struct Taken {
+    pub nanos: u128,
+    pub full: u32,
+    pub busy: u32,
 }
 
 impl Taken {
@@ -154,13 +154,13 @@ fn wanted_total(mix: Mix, calls: u32) -> u32 {
 // One run; `None` where a call wasn't answered as it must be.
 fn run<R: Clock + Threads + Sync + Alloc<A = Global>>(
     rt: &R,
-    (objects, numbers): (u32, &[u32]),
+    tuning: Tuning,
+    (load, first): (Load<'_>, &[u32]),
     (mix, calls): (Mix, u32),
     threads: usize,
 ) -> io::Result<Option<Taken>> {
     let alloc = rt.alloc();
-    let keys = objects.wrapping_mul(2);
-    let Ok(mut tree) = tree_of(alloc, ROWS, 4, TUNING) else {
+    let Ok(mut tree) = tree_of(alloc, ROWS, 4, tuning) else {
         return Ok(None);
     };
     let (Ok(a), Ok(b), Ok(c), Ok(d)) = (
@@ -172,16 +172,16 @@ fn run<R: Clock + Threads + Sync + Alloc<A = Global>>(
         return Ok(None);
     };
     let mut players = [
-        Player::new(TreeStore::new(&tree, a), keys, 1),
-        Player::new(TreeStore::new(&tree, b), keys, 2),
-        Player::new(TreeStore::new(&tree, c), keys, 3),
-        Player::new(TreeStore::new(&tree, d), keys, 4),
+        Player::new(TreeStore::new(&tree, a), load, 1),
+        Player::new(TreeStore::new(&tree, b), load, 2),
+        Player::new(TreeStore::new(&tree, c), load, 3),
+        Player::new(TreeStore::new(&tree, d), load, 4),
     ];
-    players[0].fill(numbers);
+    players[0].fill(first);
     let threads = threads.min(4);
     let nanos = play_all(rt, &mut players[..threads], mix, calls)?;
     let played = calls.wrapping_mul(threads as u32);
-    let is_good = good_calls(&players) as usize == played as usize + numbers.len()
+    let is_good = good_calls(&players) as usize == played as usize + first.len()
         && players[0].total() == wanted_total(mix, played);
     Ok(if is_good {
         Some(taken_by(nanos, &players))
@@ -190,29 +190,53 @@ fn run<R: Clock + Threads + Sync + Alloc<A = Global>>(
     })
 }
 
-// Prints a line: how many thousand calls a second so many clients carry out together.
+/// How many thousand calls a second so many clients carry out together, of so many calls of all, and what these took; `None` where a call wasn't
+/// answered as it must be. A tree is filled with objects of the first keys.
+pub fn rate_of<R: Clock + Threads + Sync + Alloc<A = Global>>(
+    rt: &R,
+    tuning: Tuning,
+    (load, first): (Load<'_>, &[u32]),
+    (mix, calls): (Mix, u32),
+    threads: u32,
+) -> io::Result<Option<(u128, Taken)>> {
+    let each = calls / threads.max(1);
+    let mut taken = NOTHING;
+    for _ in 0..RUNS {
+        let Some(more) = run(rt, tuning, (load, first), (mix, each), threads as usize)? else {
+            return Ok(None);
+        };
+        taken = taken.and(more);
+    }
+    let all = u128::from(each) * u128::from(threads) * u128::from(RUNS);
+    Ok(Some((all * 1_000_000 / taken.nanos.max(1), taken)))
+}
+
+// Prints a line for a mix of calls. The even keys are there at the start.
 fn time_mix<R: Clock + Print + Threads + Sync + Alloc<A = Global>>(
     rt: &R,
     objects: u32,
     (name, mix): (&str, Mix),
     threads: u32,
 ) -> io::Result<()> {
-    let Ok(numbers) = shuffled(rt.alloc(), objects) else {
+    let Ok(mut numbers) = shuffled(rt.alloc(), objects) else {
         return println!(rt; "no memory");
     };
-    let each = CALLS / threads.max(1);
-    let mut taken = NOTHING;
-    for _ in 0..RUNS {
-        let load = (objects, numbers.as_slice());
-        let Some(more) = run(rt, load, (mix, each), threads as usize)? else {
-            return println!(rt; "tree,{name},{objects},{threads},failed,,");
-        };
-        taken = taken.and(more);
+    for number in numbers.as_mut_slice() {
+        *number = number.wrapping_mul(2);
     }
-    let all = u128::from(each) * u128::from(threads) * u128::from(RUNS);
-    let Taken { nanos, full, busy } = taken;
-    let rate = all * 1_000_000 / nanos.max(1);
-    println!(rt; "tree,{name},{objects},{threads},{rate},{full},{busy}")
+    let load = numbers_below(objects.wrapping_mul(2));
+    match rate_of(
+        rt,
+        TUNING,
+        (load, numbers.as_slice()),
+        (mix, CALLS),
+        threads,
+    )? {
+        Some((rate, Taken { full, busy, .. })) => {
+            println!(rt; "tree,{name},{objects},{threads},{rate},{full},{busy}")
+        }
+        None => println!(rt; "tree,{name},{objects},{threads},failed,,"),
+    }
 }
 
 /// Prints a line of comma-separated values for each mix of calls, number of objects and number of threads: who, the mix, how many objects there are at

@@ -123,7 +123,7 @@ const LEVELS: [Row; 6] = [
     (Splits, Has(8, 0)),
     (Count(12), Number(10)),
     (Put(9), Puts(PUT)),
-    (PutRising(0, 1), Many(1, Outcome::Done(()))),
+    (PutFalling(1), Number(1)),
     (Count(12), Number(11)),
 ];
 
