@@ -1,4 +1,4 @@
-use Rattle.std.proofs.Common.{◌≡◌, ◌++◌, ap, sym, ◌∙◌, codes}
+use Rattle.std.proofs.Common.{◌++◌, ap, sym, ◌∙◌, codes}
 use Rattle.ca_text.proofs.Fronts.{begins_on, on_same, written_two}
 use Rattle.ca_text.proofs.Writing.{shown_text}
 use Rattle.ca_text.proofs.binary.put_binary.Goals as goal

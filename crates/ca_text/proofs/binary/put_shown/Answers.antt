@@ -1,4 +1,4 @@
-use Rattle.std.proofs.Common.{◌≡◌, ◌++◌, arith}
+use Rattle.std.proofs.Common.{arith}
 use Rattle.std.proofs.lemmas.List.{take_all}
 use Rattle.ca_text.proofs.Fronts.{begins_by, begins_on, flat_step}
 use Rattle.ca_text.specs.Text.{escaped_byte}
