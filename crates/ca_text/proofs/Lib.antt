@@ -30,4 +30,5 @@ pub mod Sound
 pub mod Texts
 pub mod Tools
 pub mod Widened
+pub mod Writing
 pub mod Yields

@@ -33,3 +33,15 @@ returns c = λ items e.
     subst (λ (x : ℤ). IsCount (count c.args.keypos items (addition_of a)) (Ok x) (refill (length numbers) numbers (set c.as_mut_slice.result.now at (Some x))))
     (sym (to_z-of_z w64 v fv))
     (subst (λ (x : List (Option ℤ)). IsCount (count c.args.keypos items (addition_of a)) (Ok v) x) (sym new) done)
+
+pub bounds-as_slice-place : goal.bounds-as_slice-place
+bounds-as_slice-place c =
+    let p : Some c.in-Some.place ≡ counter_place c.args.keypos (length c.args.numbers.now.items) c.args.add.now.pos =
+    c.in-Some.ensures ∙ ap (λ n. counter_place c.args.keypos n c.args.add.now.pos) c.len.ensures.value in
+    rw c.as_slice.ensures.value (in_range c.args.keypos (length c.args.numbers.now.items) c.args.add.now.pos c.in-Some.place p)
+
+pub bounds-as_mut_slice-place : goal.bounds-as_mut_slice-place
+bounds-as_mut_slice-place c =
+    let p : Some c.in-Some.place ≡ counter_place c.args.keypos (length c.args.numbers.now.items) c.args.add.now.pos =
+    c.in-Some.ensures ∙ ap (λ n. counter_place c.args.keypos n c.args.add.now.pos) c.len.ensures.value in
+    rw c.as_mut_slice.ensures.value (in_range c.args.keypos (length c.args.numbers.now.items) c.args.add.now.pos c.in-Some.place p)
