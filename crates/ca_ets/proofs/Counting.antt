@@ -73,9 +73,3 @@ counting_refused keypos o all stop h =
     let no : update_of_counters keypos o all ≡ Err h.0 =
     ap (λ (r : Result (List Tree × List ℤ) ElementFault). and_then r (λ left. and_then (object_of left.0) (λ new. Ok (new, left.1)))) h.1 in
     subst (λ (s : Stop). IsChanged {A = Tree × List ℤ} (λ new. new) (update_of_counters keypos o all) (Err s)) (sym h.2) (h.0, no, refl)
-
--- In the end all operations are done.
-pub counting_all : (keypos : ℕ) (first items : List Tree) (all : List Addition) (adds : List Add) (values : List ℤ) (i : ℕ) → length adds ≤ i
-    → counts keypos first all ≡ behind values (counts keypos items (map addition_of (drop i adds))) → counts keypos first all ≡ Ok (items, values)
-counting_all keypos first items all adds values i h e =
-    e ∙ ap (λ (x : List Add). behind values (counts keypos items (map addition_of x))) (drop_all i adds h) ∙ (λ j. Ok (items, append-nil values j))

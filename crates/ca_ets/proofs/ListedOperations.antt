@@ -12,13 +12,3 @@ behind additions None = None
 pub behind_none : (o : Option (List Addition)) → o ≡ behind [] o
 behind_none (Some more) = refl
 behind_none None = refl
-
--- One more was read.
-pub behind_more : (additions : List Addition) (a : Addition) (o : Option (List Addition))
-    → behind additions (one_more (Some a) o) ≡ behind (additions ++ a ∷ []) o
-behind_more additions a (Some more) = ap Some (sym (append_assoc additions (a ∷ []) more))
-behind_more additions a None = refl
-
--- In the end all were read.
-pub behind_all : (additions : List Addition) → behind additions (Some []) ≡ Some additions
-behind_all additions = ap Some (append-nil additions)
