@@ -1,6 +1,5 @@
 -- Operations on counters, one after another.
-use Rattle.std.proofs.Common.{◌≡◌, ℕ, ◌+◌, ◌<◌, ◌≤◌, ℤ, List, [], ◌∷◌, ◌++◌, length, drop, get_or, map, refl, sym, ◌∙◌, ap, subst, append_assoc, append-nil, Ok, Err}
-use Rattle.std.proofs.lemmas.List.{drop_all}
+use Rattle.std.proofs.Common.{◌≡◌, ℕ, ◌+◌, ◌<◌, ℤ, List, [], ◌∷◌, ◌++◌, length, drop, get_or, map, refl, sym, ◌∙◌, ap, subst, append_assoc, Ok, Err}
 use Rattle.std.specs.Prelude.{Result}
 use Rattle.ca_term.specs.Tree.{Tree}
 use Rattle.ca_term.specs.Object.{elements_of}
@@ -17,11 +16,6 @@ use Rattle.ca_ets.specs.declared.change.Stop.TheVariants.{Refused, NoMemory}
 abbrev pub behind : List ℤ → Result (List Tree × List ℤ) ElementFault → Result (List Tree × List ℤ) ElementFault
 behind values (Ok left) = Ok (left.0, values ++ left.1)
 behind values (Err fault) = Err fault
-
--- At first no operation is done.
-pub behind_none : (r : Result (List Tree × List ℤ) ElementFault) → r ≡ behind [] r
-behind_none (Ok left) = refl
-behind_none (Err fault) = refl
 
 -- what further operations give behind one
 abbrev after_count : ℕ → List Addition → List Tree × ℤ → Result (List Tree × List ℤ) ElementFault
