@@ -1,6 +1,5 @@
 -- Operations on counters, one after another.
-use Rattle.std.proofs.Common.{◌≡◌, ℕ, ◌+◌, ◌<◌, ◌≤◌, ℤ, List, [], ◌∷◌, ◌++◌, length, drop, get_or, map, refl, sym, ◌∙◌, ap, subst, append_assoc, append-nil, Ok, Err}
-use Rattle.std.proofs.lemmas.List.{drop_all}
+use Rattle.std.proofs.Common.{◌≡◌, ℕ, ◌+◌, ◌<◌, ℤ, List, [], ◌∷◌, ◌++◌, length, drop, get_or, map, refl, sym, ◌∙◌, ap, subst, append_assoc, Ok, Err}
 use Rattle.std.specs.Prelude.{Result}
 use Rattle.ca_term.specs.Tree.{Tree}
 use Rattle.ca_term.specs.Object.{elements_of}
@@ -17,11 +16,6 @@ use Rattle.ca_ets.specs.declared.change.Stop.TheVariants.{Refused, NoMemory}
 abbrev pub behind : List ℤ → Result (List Tree × List ℤ) ElementFault → Result (List Tree × List ℤ) ElementFault
 behind values (Ok left) = Ok (left.0, values ++ left.1)
 behind values (Err fault) = Err fault
-
--- At first no operation is done.
-pub behind_none : (r : Result (List Tree × List ℤ) ElementFault) → r ≡ behind [] r
-behind_none (Ok left) = refl
-behind_none (Err fault) = refl
 
 -- what further operations give behind one
 abbrev after_count : ℕ → List Addition → List Tree × ℤ → Result (List Tree × List ℤ) ElementFault
@@ -73,9 +67,3 @@ counting_refused keypos o all stop h =
     let no : update_of_counters keypos o all ≡ Err h.0 =
     ap (λ (r : Result (List Tree × List ℤ) ElementFault). and_then r (λ left. and_then (object_of left.0) (λ new. Ok (new, left.1)))) h.1 in
     subst (λ (s : Stop). IsChanged {A = Tree × List ℤ} (λ new. new) (update_of_counters keypos o all) (Err s)) (sym h.2) (h.0, no, refl)
-
--- In the end all operations are done.
-pub counting_all : (keypos : ℕ) (first items : List Tree) (all : List Addition) (adds : List Add) (values : List ℤ) (i : ℕ) → length adds ≤ i
-    → counts keypos first all ≡ behind values (counts keypos items (map addition_of (drop i adds))) → counts keypos first all ≡ Ok (items, values)
-counting_all keypos first items all adds values i h e =
-    e ∙ ap (λ (x : List Add). behind values (counts keypos items (map addition_of x))) (drop_all i adds h) ∙ (λ j. Ok (items, append-nil values j))

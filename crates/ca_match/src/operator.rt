@@ -221,21 +221,6 @@ macro_rules! value_of_two {
     };
 }
 
-macro_rules! comparisons {
-    ($operator:ident $a:ident $b:ident; $($name:literal $count:tt $variant:ident $value:tt,)*) => {
-        match $operator {
-            $(Operator::$variant => compared!($value $a $b),)*
-        }
-    };
-}
-
-macro_rules! compared {
-    ((order $holds:ident) $a:ident $b:ident) => {
-        Some(value_order($a, $b).$holds())
-    };
-    ($value:tt $a:ident $b:ident) => { None };
-}
-
 macro_rules! stops {
     ($operator:ident; $($name:literal $count:tt $variant:ident $value:tt,)*) => {
         match $operator {
@@ -335,8 +320,17 @@ impl Operator {
     fn compared(self, a: &Value<'_>, b: &Value<'_>) -> Option<bool>
         ensures { IfSome result (λ holds. Some (truth holds) ≡ applied (meaning_of self) (Some (tree_of_value a.now) ∷ Some (tree_of_value b.now) ∷ [])) }
     {
-        let operator = self;
-        operators!(comparisons operator a b)
+        match self {
+            Operator::Greater => Some(value_order(a, b).is_gt()),
+            Operator::GreaterOrEqual => Some(value_order(a, b).is_ge()),
+            Operator::Less => Some(value_order(a, b).is_lt()),
+            Operator::LessOrEqual => Some(value_order(a, b).is_le()),
+            Operator::Equal => Some(value_order(a, b).is_eq()),
+            Operator::ExactlyEqual => Some(value_order(a, b).is_eq()),
+            Operator::Unequal => Some(value_order(a, b).is_ne()),
+            Operator::ExactlyUnequal => Some(value_order(a, b).is_ne()),
+            _ => None,
+        }
     }
 
     fn combined<'a>(self, a: &Value<'_>, b: &Value<'_>) -> Option<Value<'a>>

@@ -172,19 +172,6 @@ stays_meets a b d event s met =
       counts = m.counts;
     }
 
--- A refused call behind one that changed nothing but the room is refused from before it on.
-pub stays_declines : (a b d : Known) (rise : Counts → Counts) → Stays a b → Declines b d (rise b.counts) → Declines a d (rise a.counts)
-stays_declines a b d rise s declined =
-    let n = subst (λ (x : Known). Declines x d (rise x.counts)) (same_but_room a b s) declined in
-    record {
-      learnt = n.learnt;
-      learns = room_learns a d b.spare _ _ n.learns;
-      others = n.others;
-      alone = n.alone;
-      counts_are = n.counts_are;
-      unsure = n.unsure;
-    }
-
 -- A call with its run handed out and ended behind it is the same event up to then.
 pub beside_run_meets : (a b d : Known) (event : Event) → Meets a b event → StaysBesideRun b d → Meets a d event
 beside_run_meets a b d event m s = record {

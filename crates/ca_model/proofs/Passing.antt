@@ -109,10 +109,6 @@ same_behind : (xs ys zs : List Edit) → xs ++ ys ≡ xs ++ zs → ys ≡ zs
 same_behind [] ys zs e = e
 same_behind (x ∷ xs) ys zs e = same_behind xs ys zs cc
 
-length_by_pass : (pass : ℕ) (edits : List Edit) → length (by_pass pass edits) ≡ length edits
-length_by_pass pass [] = refl
-length_by_pass pass (edit ∷ edits) = ap suc (length_by_pass pass edits)
-
 first_empty : (xs ys : List Edit) → xs ++ ys ≡ [] → xs ≡ []
 first_empty [] ys e = refl
 first_empty (x ∷ xs) ys e = cc

@@ -158,6 +158,3 @@ pub next_of_part : (m : StoreMap) (i j : ℕ) → i < j → j ≤ length m
 next_of_part m i j h k =
     let more : j - i ≡ suc (j - (i + 1)) = omega (arith, h) in
     rw (more, sym (one_more m i (omega (arith, h, k)))) refl
-
-pub end_of_part : (m : StoreMap) (i : ℕ) → objects_of (slice_range m i i) ≡ []
-end_of_part m i = let none : i - i ≡ 0 = omega arith in rw none refl

@@ -1,6 +1,6 @@
 //! Expressions, compiled.
 ghost use Rattle.std.specs.Prelude.{◌≡◌, ◌<◌, true, None, is_ok, length, codes, OnOk, IfOk, IfErr};
-ghost use Rattle.ca_term.specs.Tree.{Atom, Cons, Tuple, Ends, More, row_of};
+ghost use Rattle.ca_term.specs.Tree.{Atom, Cons, Tuple, Ends, More, list_of, row_of};
 ghost use Rattle.ca_match.specs.OperatorView.{meaning_of, name_of};
 ghost use Rattle.ca_match.specs.Operators.{count_of};
 ghost use Rattle.ca_match.specs.Specification.{is_call};
@@ -188,19 +188,42 @@ fn operation(
     match arguments {
         [only] => {
             let only = expression(alloc, scope, only)?;
-            Ok(Expression {
-                form: Form::One(operator, Box::new(alloc, only)?),
-            })
+            with_one(alloc, operator, only)
         }
         [first, second] => {
             let first = expression(alloc, scope, first)?;
             let second = expression(alloc, scope, second)?;
-            Ok(Expression {
-                form: Form::Two(operator, Box::new(alloc, first)?, Box::new(alloc, second)?),
-            })
+            with_two(alloc, operator, first, second)
         }
         _ => unreachable!(),
     }
+}
+
+// An operator with its one argument.
+fn with_one(alloc: Global, operator: Operator, only: Expression) -> Result<Expression, Stop>
+    requires { count_of (meaning_of operator) ≡ 1 }
+    ensures ok { IfOk result (λ expression. expression ≡ Tuple (More (Atom (name_of operator)) (More only Ends))) }
+    ensures err { IfErr result (λ stop. stop ≡ Stop.NoMemory) }
+{
+    Ok(Expression {
+        form: Form::One(operator, Box::new(alloc, only)?),
+    })
+}
+
+// An operator with its two arguments.
+fn with_two(
+    alloc: Global,
+    operator: Operator,
+    first: Expression,
+    second: Expression,
+) -> Result<Expression, Stop>
+    requires { count_of (meaning_of operator) ≡ 2 }
+    ensures ok { IfOk result (λ expression. expression ≡ Tuple (More (Atom (name_of operator)) (More first (More second Ends)))) }
+    ensures err { IfErr result (λ stop. stop ≡ Stop.NoMemory) }
+{
+    Ok(Expression {
+        form: Form::Two(operator, Box::new(alloc, first)?, Box::new(alloc, second)?),
+    })
 }
 
 // A list by its first head and what stands behind it. It goes along the tail in a loop: a list may be longer than the stack is deep.
@@ -220,6 +243,15 @@ fn cells(alloc: Global, scope: &Scope, first: &Term, behind: &Term) -> Result<Ex
         rest = tail;
     }
     let tail = expression(alloc, scope, rest)?;
+    list_with(alloc, heads, tail)
+}
+
+// The list of these heads with this tail.
+fn list_with(alloc: Global, heads: Vec<Expression>, tail: Expression) -> Result<Expression, Stop>
+    requires { 0 < length heads.items }
+    ensures ok { IfOk result (λ expression. expression ≡ list_of heads.items tail) }
+    ensures err { IfErr result (λ stop. stop ≡ Stop.NoMemory) }
+{
     Ok(Expression {
         form: Form::List(heads, Box::new(alloc, tail)?),
     })

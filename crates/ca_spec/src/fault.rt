@@ -51,7 +51,7 @@ impl<T: Drop> From<AllocFailed<T>> for SpecFault {
 }
 
 // Why compiling a part stopped.
-#[derive(Clone, Copy, Debug, PartialEq, Eq)]
+#[derive(Clone, Copy)]
 pub(crate) enum Stop {
     Fault(SpecWhy),
     NoMemory,

@@ -1,6 +1,6 @@
 //! Heads, compiled.
-ghost use Rattle.std.specs.Prelude.{◌≡◌, true, OnOk, IfOk, IfErr};
-ghost use Rattle.ca_term.specs.Tree.{Atom, Cons, Tuple, row_of};
+ghost use Rattle.std.specs.Prelude.{◌≡◌, ◌<◌, true, length, OnOk, IfOk, IfErr};
+ghost use Rattle.ca_term.specs.Tree.{Atom, Cons, Tuple, list_of, row_of};
 ghost use Rattle.ca_match.specs.Specification.{head_fault};
 ghost use Rattle.ca_spec.specs.Faults.{IsStop};
 ghost use Rattle.ca_spec.specs.Held.{with_variables, with_row};
@@ -118,6 +118,15 @@ fn cells(
         rest = tail;
     }
     let tail = part(alloc, rest, variables)?;
+    list_with(alloc, heads, tail)
+}
+
+// The list of these heads with this tail.
+fn list_with(alloc: Global, heads: Vec<Pattern>, tail: Pattern) -> Result<Pattern, Stop>
+    requires { 0 < length heads.items }
+    ensures ok { IfOk result (λ pattern. pattern ≡ list_of heads.items tail) }
+    ensures err { IfErr result (λ stop. stop ≡ Stop.NoMemory) }
+{
     Ok(Pattern {
         shape: Shape::List(heads, Box::new(alloc, tail)?),
     })
