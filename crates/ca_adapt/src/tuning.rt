@@ -4,7 +4,7 @@ ghost use Rattle.ca_adapt.specs.Allowed.{IsAllowed, IsWide, IsWithin, MovesWithi
 
 /// How large bases grow, how deep the tree, and how a base's statistic moves: it rises where exchanges are lost, and a base whose statistic
 /// leaves its bounds is split or joined.
-#[derive(Clone, Copy, Debug, PartialEq, Eq)]
+#[derive(Clone, Copy, Debug)]
 pub struct Tuning {
     /// How many objects a base has at most, from 2 to 120.
     pub leaf: u8,

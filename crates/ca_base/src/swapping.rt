@@ -18,7 +18,7 @@ use ca_model::Spent;
 use ca_node::{Cursor, Intent, TreePass, TreeSpace, replace_base};
 
 /// What an update does. The code hands it on and never looks at it: a proof names the update by it.
-#[derive(Clone, Copy, Debug, PartialEq, Eq)]
+#[derive(Clone, Copy)]
 pub enum Deed {
     /// By this call, an object is put at a place of the base, and its row is the last one here.
     Put(Putting, Result<u32, u32>, u32),

@@ -11,7 +11,7 @@ use ca_node::{TreePass, TreeSpace};
 use ca_rows::Taken;
 
 /// Why no row was taken.
-#[derive(Clone, Copy, Debug, PartialEq, Eq)]
+#[derive(Clone, Copy)]
 pub enum NoRow {
     /// No row was free.
     Empty,

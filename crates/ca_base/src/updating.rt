@@ -25,7 +25,7 @@ use std::marker::Brand;
 use std::slice::from_ref;
 
 /// Which call puts an object.
-#[derive(Clone, Copy, Debug, PartialEq, Eq)]
+#[derive(Clone, Copy)]
 pub enum Putting {
     /// It puts the object, whether there is one with its key or not.
     Put,

@@ -16,7 +16,7 @@ const FORM: u64 = 1 << 56;
 const ROUTE: u64 = 3;
 
 /// Which base is looked for.
-#[derive(Clone, Copy, Debug)]
+#[derive(Clone, Copy)]
 pub enum Spot<'a> {
     /// The first one.
     First,
@@ -29,7 +29,7 @@ pub enum Spot<'a> {
 }
 
 /// A base, and where it hangs.
-#[derive(Clone, Copy, Debug, PartialEq, Eq)]
+#[derive(Clone, Copy)]
 pub struct Cursor {
     pub base: u32,
     /// The link that held the base.

@@ -4,11 +4,9 @@ use Rattle.std.specs.Global.{Global}
 use Rattle.ca_replace.specs.declared.attempting.Stop.{Stop}
 use Rattle.ca_replace.specs.declared.attempting.Stop.TheVariants as stop
 use Rattle.ca_model.specs.declared.outcome.Spent.{Spent}
-use Rattle.ca_model.specs.Event.{Event}
 use Rattle.ca_model.specs.History.{after}
 use Rattle.ca_model.specs.declared.outcome.Outcome.{Outcome}
 use Rattle.ca_node.specs.Told.{MyTree, with_upper}
-use Rattle.ca_node.specs.TreeView.{TreeView}
 use Rattle.ca_model.specs.declared.outcome.Counter.TheVariants as counter
 use Rattle.ca_replace.specs.declared.refusing.Refusal.{Refusal}
 use Rattle.ca_replace.specs.declared.refusing.Refusal.TheVariants as refusal
@@ -16,7 +14,7 @@ use Rattle.std.specs.declared.option.Option.{Option}
 use Rattle.std.specs.declared.option.Option.TheVariants.{None as Nothing, Some as Just}
 use Rattle.ca_base.specs.Counting.{losses, HasMet}
 use Rattle.ca_model.specs.Known.{Counts}
-use Rattle.ca_replace.specs.Attempting.{splits, total, IsPaid, HasMetBy, HasAttempted, HasTriedTo, IfDeep, refused_as}
+use Rattle.ca_replace.specs.Attempting.{splits, total, IsPaid, IfDeep, refused_as}
 use Rattle.ca_replace.specs.Causes.{HasBegun, HasLooked, IsCaused, IsFull, IsRefill, IfRefusedAs, KeepsFew}
 use Rattle.ca_replace.specs.Refusals.{outcome_of}
 use Rattle.ca_rows.specs.declared.kept.Kept.{Kept}

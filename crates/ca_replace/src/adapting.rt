@@ -23,14 +23,14 @@ use ca_model::Spent;
 use ca_node::{Spot, TreePass, TreeSpace, walk};
 
 /// What a store keeps of its last update: the new base's statistic, and what was done about that base.
-#[derive(Clone, Copy, Debug, PartialEq, Eq)]
+#[derive(Clone, Copy)]
 pub struct Last {
     pub statistic: i32,
     pub adapted: Adapted,
 }
 
 /// What the attempts of a call keep: whether one lost an exchange of a link, and what the store keeps of its last update.
-#[derive(Clone, Copy, Debug, PartialEq, Eq)]
+#[derive(Clone, Copy)]
 pub(crate) struct Adapting {
     pub(crate) lost: bool,
     pub(crate) last: Last,

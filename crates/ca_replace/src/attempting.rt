@@ -30,7 +30,7 @@ use ca_model::{Code, Spent};
 use ca_node::{Cursor, Spot, TreePass, TreeSpace, walk};
 
 /// Why an attempt came to nothing.
-#[derive(Clone, Copy, Debug, PartialEq, Eq)]
+#[derive(Clone, Copy)]
 pub(crate) enum Stop {
     /// An exchange was lost to another pass.
     Lost,

@@ -15,7 +15,7 @@ use std::marker::{Brand, PhantomData};
 const LAST: u32 = 0;
 
 /// Why a call is refused.
-#[derive(Clone, Copy, Debug, PartialEq, Eq)]
+#[derive(Clone, Copy)]
 pub(crate) enum Refusal {
     /// Its budget was spent, by these turns.
     Busy(Spent),

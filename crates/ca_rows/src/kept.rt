@@ -4,7 +4,7 @@ ghost use Rattle.std.specs.Prelude.{◌≡◌, ◌↔◌, IsTrue, ℕ, ◌<◌, 
 use std::alloc::{AllocError, Global};
 
 /// A row that was retired and isn't given back yet.
-#[derive(Clone, Copy, Debug, PartialEq, Eq)]
+#[derive(Clone, Copy)]
 pub struct Kept {
     pub row: u32,
     /// The epoch that was loaded as it was retired.

@@ -17,7 +17,7 @@ pub struct Reclaimed {
 }
 
 /// What came of one round of it.
-#[derive(Clone, Copy, Debug, PartialEq, Eq)]
+#[derive(Clone, Copy)]
 pub struct Round {
     pub freed: u32,
     pub lag: Option<u32>,

@@ -13,7 +13,7 @@ pub struct Starts {
 }
 
 /// What a space is made with. It never changes.
-#[derive(Clone, Copy, Debug, PartialEq, Eq)]
+#[derive(Clone, Copy)]
 pub struct Sizes {
     pub rows: u32,
     pub passes: u32,

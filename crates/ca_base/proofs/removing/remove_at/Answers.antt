@@ -96,3 +96,33 @@ pub returns-clause-won : goal.returns-clause-won
 returns-clause-won c alone listed = won_then c.args.space.now.table.shared.key c.args.pass.now.seat.me.0.upper
     c.write_base_without-old.new.pass.seat.me.0.upper c.swap_in.result
     (c.write_base_without-old.ensures.same.4 ∙ c.take.ensures.same.4) c.swap_in.ensures.won alone listed _ refl
+
+pub write_base_without-old-requires-clause-own : goal.write_base_without-old-requires-clause-own
+write_base_without-old-requires-clause-own c = (
+  c.take.ensures.same.0 ∙ c.requires.own.0,
+  c.take.ensures.same.2 ∙ c.requires.own.1,
+)
+
+pub swap_in-requires-clause-own : goal.swap_in-requires-clause-own
+swap_in-requires-clause-own c = (
+  c.write_base_without-old.ensures.same.0 ∙ (c.take.ensures.same.0 ∙ c.requires.own.0),
+  c.write_base_without-old.ensures.same.2 ∙ (c.take.ensures.same.2 ∙ c.requires.own.1),
+)
+
+pub returns-clause-same : goal.returns-clause-same
+returns-clause-same c = (
+  c.swap_in.ensures.same.0 ∙ (c.write_base_without-old.ensures.same.0 ∙ c.take.ensures.same.0),
+  c.swap_in.ensures.same.1 ∙ (c.write_base_without-old.ensures.same.1 ∙ c.take.ensures.same.1),
+)
+
+pub returns-clause-number : goal.returns-clause-number
+returns-clause-number c = c.swap_in.ensures.number ∙ (c.write_base_without-old.ensures.number ∙ c.take.ensures.number)
+
+pub returns-clause-pin : goal.returns-clause-pin
+returns-clause-pin c = (
+  c.swap_in.ensures.pin.0 ∙ (c.write_base_without-old.ensures.same.2 ∙ c.take.ensures.same.2),
+  c.swap_in.ensures.pin.1 ∙ (c.write_base_without-old.ensures.same.3 ∙ c.take.ensures.same.3),
+)
+
+pub returns-clause-none : goal.returns-clause-none
+returns-clause-none c = c.swap_in.ensures.none

@@ -13,6 +13,7 @@ use Rattle.ca_base.proofs.Unlinking.{written_row}
 use Rattle.ca_rows.specs.declared.kept.KeptRows.{KeptRows}
 use Rattle.ca_rows.specs.Claims.{claim_of}
 use Rattle.ca_base.proofs.Tallies.{tallied_as}
+use Rattle.ca_rows.specs.declared.view.Pin.{Pin}
 use Rattle.ca_base.proofs.splitting.split_at.Goals as goal
 
 pub write_half-requires-clause-held : goal.write_half-requires-clause-held
@@ -115,3 +116,83 @@ returns-clause-won c alone listed = let still = c.copy_key.ensures.still ∙ c.i
     won_then c.args.space.now.table.shared.key c.args.pass.now.seat.me.0.upper c.write_route.new.pass.seat.me.0.upper c.divide_in.result
     (c.write_route.ensures.same.4 ∙ (ap (λ (m : MyTree). m.0.upper) still
     ∙ (c.write_half-2.ensures.same.4 ∙ (c.write_half.ensures.same.4 ∙ c.take_three.ensures.same.4)))) c.divide_in.ensures.won alone listed _ refl
+
+pub write_half-requires-clause-own : goal.write_half-requires-clause-own
+write_half-requires-clause-own c = (
+  c.take_three.ensures.same.0 ∙ c.requires.own.0,
+  c.take_three.ensures.same.2 ∙ c.requires.own.1,
+)
+
+pub write_half-requires-clause-pinned : goal.write_half-requires-clause-pinned
+write_half-requires-clause-pinned c = ap (λ (p : Pin). p.pinned) c.take_three.ensures.same.3 ∙ c.requires.pinned
+
+pub write_half-requires-2-clause-own : goal.write_half-requires-2-clause-own
+write_half-requires-2-clause-own c = (
+  c.write_half.ensures.same.0 ∙ (c.take_three.ensures.same.0 ∙ c.requires.own.0),
+  c.write_half.ensures.same.2 ∙ (c.take_three.ensures.same.2 ∙ c.requires.own.1),
+)
+
+pub write_half-requires-2-clause-pinned : goal.write_half-requires-2-clause-pinned
+write_half-requires-2-clause-pinned c = ap (λ (p : Pin). p.pinned) (c.write_half.ensures.same.3 ∙ c.take_three.ensures.same.3)
+    ∙ c.requires.pinned
+
+pub item-first-requires-clause-own : goal.item-first-requires-clause-own
+item-first-requires-clause-own c = (
+  c.write_half-2.ensures.same.0 ∙ (c.write_half.ensures.same.0 ∙ (c.take_three.ensures.same.0 ∙ c.requires.own.0)),
+  c.write_half-2.ensures.same.2 ∙ (c.write_half.ensures.same.2 ∙ (c.take_three.ensures.same.2 ∙ c.requires.own.1)),
+)
+
+pub item-first-requires-clause-pinned : goal.item-first-requires-clause-pinned
+item-first-requires-clause-pinned c = ap (λ (p : Pin). p.pinned) (c.write_half-2.ensures.same.3 ∙ (c.write_half.ensures.same.3 ∙ c.take_three.ensures.same.3))
+    ∙ c.requires.pinned
+
+pub copy_key-requires-clause-own : goal.copy_key-requires-clause-own
+copy_key-requires-clause-own c = (
+  c.item-first.ensures.same.0 ∙ (c.write_half-2.ensures.same.0 ∙ (c.write_half.ensures.same.0 ∙ (c.take_three.ensures.same.0 ∙ c.requires.own.0))),
+  ap (λ (m : MyTree). m.0.sizes) c.item-first.ensures.still ∙ (c.write_half-2.ensures.same.2 ∙ (c.write_half.ensures.same.2 ∙ (c.take_three.ensures.same.2
+      ∙ c.requires.own.1))),
+)
+
+pub copy_key-requires-clause-pinned : goal.copy_key-requires-clause-pinned
+copy_key-requires-clause-pinned c = ap (λ (p : Pin). p.pinned) (ap (λ (m : MyTree). m.0.pin) c.item-first.ensures.still ∙ (c.write_half-2.ensures.same.3 ∙
+    (c.write_half.ensures.same.3 ∙ c.take_three.ensures.same.3)))
+    ∙ c.requires.pinned
+
+pub write_route-requires-clause-own : goal.write_route-requires-clause-own
+write_route-requires-clause-own c = (
+  c.copy_key.ensures.same.0 ∙ (c.item-first.ensures.same.0 ∙ (c.write_half-2.ensures.same.0 ∙ (c.write_half.ensures.same.0 ∙ (c.take_three.ensures.same.0
+      ∙ c.requires.own.0)))),
+  ap (λ (m : MyTree). m.0.sizes) c.copy_key.ensures.still ∙ (ap (λ (m : MyTree). m.0.sizes) c.item-first.ensures.still ∙ (c.write_half-2.ensures.same.2 ∙
+      (c.write_half.ensures.same.2 ∙ (c.take_three.ensures.same.2 ∙ c.requires.own.1)))),
+)
+
+pub divide_in-requires-clause-own : goal.divide_in-requires-clause-own
+divide_in-requires-clause-own c = (
+  c.write_route.ensures.same.0 ∙ (c.copy_key.ensures.same.0 ∙ (c.item-first.ensures.same.0 ∙ (c.write_half-2.ensures.same.0 ∙ (c.write_half.ensures.same.0 ∙
+      (c.take_three.ensures.same.0 ∙ c.requires.own.0))))),
+  c.write_route.ensures.same.2 ∙ (ap (λ (m : MyTree). m.0.sizes) c.copy_key.ensures.still ∙ (ap (λ (m : MyTree). m.0.sizes) c.item-first.ensures.still ∙
+      (c.write_half-2.ensures.same.2 ∙ (c.write_half.ensures.same.2 ∙ (c.take_three.ensures.same.2 ∙ c.requires.own.1))))),
+)
+
+pub returns-clause-same : goal.returns-clause-same
+returns-clause-same c = (
+  c.divide_in.ensures.same.0 ∙ (c.write_route.ensures.same.0 ∙ (c.copy_key.ensures.same.0 ∙ (c.item-first.ensures.same.0 ∙ (c.write_half-2.ensures.same.0 ∙
+      (c.write_half.ensures.same.0 ∙ c.take_three.ensures.same.0))))),
+  c.divide_in.ensures.same.1 ∙ (c.write_route.ensures.same.1 ∙ (c.copy_key.ensures.same.1 ∙ (c.item-first.ensures.same.1 ∙ (c.write_half-2.ensures.same.1 ∙
+      (c.write_half.ensures.same.1 ∙ c.take_three.ensures.same.1))))),
+)
+
+pub returns-clause-number : goal.returns-clause-number
+returns-clause-number c = c.divide_in.ensures.number ∙ (c.write_route.ensures.number ∙ (c.copy_key.ensures.number ∙ (c.item-first.ensures.number ∙
+    (c.write_half-2.ensures.number ∙ (c.write_half.ensures.number ∙ c.take_three.ensures.number)))))
+
+pub returns-clause-pin : goal.returns-clause-pin
+returns-clause-pin c = (
+  c.divide_in.ensures.pin.0 ∙ (c.write_route.ensures.same.2 ∙ (ap (λ (m : MyTree). m.0.sizes) c.copy_key.ensures.still ∙ (ap (λ
+      (m : MyTree). m.0.sizes) c.item-first.ensures.still ∙ (c.write_half-2.ensures.same.2 ∙ (c.write_half.ensures.same.2 ∙ c.take_three.ensures.same.2))))),
+  c.divide_in.ensures.pin.1 ∙ (c.write_route.ensures.same.3 ∙ (ap (λ (m : MyTree). m.0.pin) c.copy_key.ensures.still ∙ (ap (λ
+      (m : MyTree). m.0.pin) c.item-first.ensures.still ∙ (c.write_half-2.ensures.same.3 ∙ (c.write_half.ensures.same.3 ∙ c.take_three.ensures.same.3))))),
+)
+
+pub returns-clause-none : goal.returns-clause-none
+returns-clause-none c = c.divide_in.ensures.none

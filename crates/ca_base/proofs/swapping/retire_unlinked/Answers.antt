@@ -1,5 +1,29 @@
+use Rattle.std.proofs.Common.{ap, arith}
+use Rattle.ca_node.proofs.Members.{in_first}
+use Rattle.ca_node.specs.Told.{MyTree}
+use Rattle.ca_base.specs.Counting.{losses}
 use Rattle.ca_base.proofs.Unlinking.{retired_too}
+use Rattle.ca_rows.specs.declared.view.Claim.TheVariants.{Unlinked}
 use Rattle.ca_base.proofs.swapping.retire_unlinked.Goals as goal
+
+pub retire-requires-clause-list : goal.retire-requires-clause-list
+retire-requires-clause-list c = c.requires.unlinked.2.0.are_kept
+
+pub retire-requires-clause-mine : goal.retire-requires-clause-mine
+retire-requires-clause-mine c = let h = c.requires.unlinked in (Unlinked, h.2.0.each c.args.row (in_first c.args.row h.0), tt)
+
+pub returns-clause-same : goal.returns-clause-same
+returns-clause-same c = let told = c.retire.ensures.retired.2 in (
+  c.retire.ensures.same.0,
+  c.retire.ensures.same.1,
+  ap (λ (m : MyTree). m.0.sizes) told,
+  ap (λ (m : MyTree). m.0.pin) told,
+  ap (λ (m : MyTree). m.0.upper) told,
+)
+
+pub returns-clause-met : goal.returns-clause-met
+returns-clause-met c = let told = c.retire.ensures.retired.2 in let empty = ap (λ (m : MyTree). m.0.empty) told in
+    let worn = ap (λ (m : MyTree). m.0.worn) told in (ap losses told, (omega arith, omega arith))
 
 pub returns-clause-retired : goal.returns-clause-retired
 returns-clause-retired c rest out h = let told = c.retire.ensures.retired in

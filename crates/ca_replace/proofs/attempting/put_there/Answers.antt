@@ -198,22 +198,27 @@ returns-clause-won c = settled_won c.args.space.now.table.shared.key c.args.tuni
     c.put_at-tried.ensures.renewed c.settle.ensures.settled c.put_at-tried.ensures.won c.settle.ensures.won
 
 pub next_statistic-statistic-requires-clause-own : goal.next_statistic-statistic-requires-clause-own
-next_statistic-statistic-requires-clause-own c = (c.count-many.ensures.same.0 ∙ c.requires.own.0, ap (λ (m : MyTree). m.0.sizes) c.count-many.ensures.still ∙ c.requires.own.1)
+next_statistic-statistic-requires-clause-own c = (c.count-many.ensures.same.0 ∙ c.requires.own.0, ap (λ (m : MyTree). m.0.sizes) c.count-many.ensures.still
+    ∙ c.requires.own.1)
 
 pub next_statistic-statistic-requires-clause-pinned : goal.next_statistic-statistic-requires-clause-pinned
 next_statistic-statistic-requires-clause-pinned c = ap (λ (m : MyTree). m.0.pin.pinned) c.count-many.ensures.still ∙ c.requires.pinned
 
 pub put_at-tried-requires-clause-own : goal.put_at-tried-requires-clause-own
-put_at-tried-requires-clause-own c = (c.next_statistic-statistic.ensures.same.0 ∙ (c.count-many.ensures.same.0 ∙ c.requires.own.0), ap (λ (m : MyTree). m.0.sizes) (c.next_statistic-statistic.ensures.still ∙ c.count-many.ensures.still) ∙ c.requires.own.1)
+put_at-tried-requires-clause-own c = (c.next_statistic-statistic.ensures.same.0 ∙ (c.count-many.ensures.same.0 ∙ c.requires.own.0),
+    ap (λ (m : MyTree). m.0.sizes) (c.next_statistic-statistic.ensures.still ∙ c.count-many.ensures.still) ∙ c.requires.own.1)
 
 pub put_at-tried-requires-clause-pinned : goal.put_at-tried-requires-clause-pinned
-put_at-tried-requires-clause-pinned c = ap (λ (m : MyTree). m.0.pin.pinned) (c.next_statistic-statistic.ensures.still ∙ c.count-many.ensures.still) ∙ c.requires.pinned
+put_at-tried-requires-clause-pinned c = ap (λ (m : MyTree). m.0.pin.pinned) (c.next_statistic-statistic.ensures.still ∙ c.count-many.ensures.still)
+    ∙ c.requires.pinned
 
 pub put_at-tried-requires-clause-number : goal.put_at-tried-requires-clause-number
-put_at-tried-requires-clause-number c = subst (λ (m : MyTree). 0 < m.0.upper.number) (sym (c.next_statistic-statistic.ensures.still ∙ c.count-many.ensures.still)) c.requires.number
+put_at-tried-requires-clause-number c = subst (λ (m : MyTree). 0 < m.0.upper.number) (sym (c.next_statistic-statistic.ensures.still
+    ∙ c.count-many.ensures.still)) c.requires.number
 
 pub put_at-tried-requires-clause-none : goal.put_at-tried-requires-clause-none
-put_at-tried-requires-clause-none c = held_looked c.args.space.now.table.shared.key.rows c.args.pass.now.kept c.next_statistic-statistic.new.pass.kept c.args.pass.now.seat.me
+put_at-tried-requires-clause-none c = held_looked c.args.space.now.table.shared.key.rows c.args.pass.now.kept c.next_statistic-statistic.new.pass.kept
+    c.args.pass.now.seat.me
     c.next_statistic-statistic.new.pass.seat.me [] c.requires.none (c.next_statistic-statistic.ensures.kept ∙ c.count-many.ensures.kept)
     (ap (λ (m : MyTree). m.0.claims) (c.next_statistic-statistic.ensures.still ∙ c.count-many.ensures.still))
     (ap (λ (m : MyTree). m.0.most) (c.next_statistic-statistic.ensures.still ∙ c.count-many.ensures.still))
@@ -226,15 +231,18 @@ put_at-tried-requires-clause-cursor c = subst (λ (m : MyTree). IsAtCursor c.arg
     (sym (c.next_statistic-statistic.ensures.still ∙ c.count-many.ensures.still)) c.requires.looking.at
 
 pub put_at-tried-requires-clause-place : goal.put_at-tried-requires-clause-place
-put_at-tried-requires-clause-place c = subst (λ (m : MyTree). IsPlace (map pair (first_note m.0.upper.notes).objects) (slice_range c.args.object.now c.args.key_at c.args.key_end) c.args.place)
+put_at-tried-requires-clause-place c = subst (λ (m : MyTree). IsPlace (map pair (first_note m.0.upper.notes).objects)
+    (slice_range c.args.object.now c.args.key_at c.args.key_end) c.args.place)
     (sym (c.next_statistic-statistic.ensures.still ∙ c.count-many.ensures.still)) c.requires.place
 
 pub put_at-tried-requires-clause-about : goal.put_at-tried-requires-clause-about
-put_at-tried-requires-clause-about c = subst (λ (m : MyTree). HasKey (first_note m.0.upper.notes).place.span (slice_range c.args.object.now c.args.key_at c.args.key_end))
+put_at-tried-requires-clause-about c = subst (λ (m : MyTree). HasKey (first_note m.0.upper.notes).place.span (slice_range c.args.object.now c.args.key_at
+    c.args.key_end))
     (sym (c.next_statistic-statistic.ensures.still ∙ c.count-many.ensures.still)) c.requires.looking.about
 
 pub put_at-tried-requires-clause-room : goal.put_at-tried-requires-clause-room
-put_at-tried-requires-clause-room c = subst (λ n. IsRoom c.args.place c.count-many.result n) (sym c.requires.tuned.leaf) (c.has_room.ensures.0 c.if-not-has_room.false)
+put_at-tried-requires-clause-room c = subst (λ n. IsRoom c.args.place c.count-many.result n) (sym c.requires.tuned.leaf)
+    (c.has_room.ensures.0 c.if-not-has_room.false)
 
 pub settle-requires-clause-own : goal.settle-requires-clause-own
 settle-requires-clause-own c = (
@@ -256,12 +264,15 @@ returns-clause-same c = (
 )
 
 pub returns-clause-number : goal.returns-clause-number
-returns-clause-number c = c.settle.ensures.number ∙ (c.put_at-tried.ensures.number ∙ (c.next_statistic-statistic.ensures.number ∙ c.count-many.ensures.number))
+returns-clause-number c = c.settle.ensures.number ∙ (c.put_at-tried.ensures.number ∙ (c.next_statistic-statistic.ensures.number
+    ∙ c.count-many.ensures.number))
 
 pub returns-clause-pin : goal.returns-clause-pin
 returns-clause-pin c = (
-  c.settle.ensures.pin.0 ∙ (c.put_at-tried.ensures.pin.0 ∙ ap (λ (m : MyTree). m.0.sizes) (c.next_statistic-statistic.ensures.still ∙ c.count-many.ensures.still)),
-  c.settle.ensures.pin.1 ∙ (c.put_at-tried.ensures.pin.1 ∙ ap (λ (m : MyTree). m.0.pin) (c.next_statistic-statistic.ensures.still ∙ c.count-many.ensures.still)),
+  c.settle.ensures.pin.0 ∙ (c.put_at-tried.ensures.pin.0 ∙ ap (λ (m : MyTree). m.0.sizes) (c.next_statistic-statistic.ensures.still
+      ∙ c.count-many.ensures.still)),
+  c.settle.ensures.pin.1 ∙ (c.put_at-tried.ensures.pin.1 ∙ ap (λ (m : MyTree). m.0.pin) (c.next_statistic-statistic.ensures.still
+      ∙ c.count-many.ensures.still)),
 )
 
 pub returns-clause-none : goal.returns-clause-none
@@ -271,7 +282,8 @@ pub returns-clause-full : goal.returns-clause-full
 returns-clause-full c = λ e. absurd (c.settle.ensures.deep e)
 
 pub make_room-requires-clause-own : goal.make_room-requires-clause-own
-make_room-requires-clause-own c = (c.count-many.ensures.same.0 ∙ c.requires.own.0, ap (λ (m : MyTree). m.0.sizes) c.count-many.ensures.still ∙ c.requires.own.1)
+make_room-requires-clause-own c = (c.count-many.ensures.same.0 ∙ c.requires.own.0, ap (λ (m : MyTree). m.0.sizes) c.count-many.ensures.still
+    ∙ c.requires.own.1)
 
 pub make_room-requires-clause-pinned : goal.make_room-requires-clause-pinned
 make_room-requires-clause-pinned c = ap (λ (m : MyTree). m.0.pin.pinned) c.count-many.ensures.still ∙ c.requires.pinned
@@ -314,37 +326,48 @@ pub returns-then-not-has_room-clause-none : goal.returns-then-not-has_room-claus
 returns-then-not-has_room-clause-none c = c.make_room.ensures.none
 
 pub returns-then-not-has_room-clause-tried : goal.returns-then-not-has_room-clause-tried
-returns-then-not-has_room-clause-tried c = subst (λ (m : MyTree). IsFurther m.0.upper c.make_room.new.pass.seat.me.0.upper × IsKnown c.args.space.now.table.shared.key c.make_room.new.pass.seat.me.0.upper) c.count-many.ensures.still
+returns-then-not-has_room-clause-tried c = subst (λ (m : MyTree). IsFurther m.0.upper c.make_room.new.pass.seat.me.0.upper × IsKnown
+    c.args.space.now.table.shared.key c.make_room.new.pass.seat.me.0.upper) c.count-many.ensures.still
     c.make_room.ensures.further
 
 pub returns-then-not-has_room-clause-deep : goal.returns-then-not-has_room-clause-deep
-returns-then-not-has_room-clause-deep c = no_place _ c.args.place c.count-many.result c.args.tuning.now.leaf (λ room. no_room c.has_room.result c.if-not-has_room.true (c.has_room.ensures.1 room))
+returns-then-not-has_room-clause-deep c = no_place _ c.args.place c.count-many.result c.args.tuning.now.leaf (λ room. no_room c.has_room.result
+    c.if-not-has_room.true (c.has_room.ensures.1 room))
 
 pub returns-then-not-has_room-clause-no_split : goal.returns-then-not-has_room-clause-no_split
-returns-then-not-has_room-clause-no_split c = no_place _ c.args.place c.count-many.result c.args.tuning.now.leaf (λ room. no_room c.has_room.result c.if-not-has_room.true (c.has_room.ensures.1 room))
+returns-then-not-has_room-clause-no_split c = no_place _ c.args.place c.count-many.result c.args.tuning.now.leaf
+    (λ room. no_room c.has_room.result c.if-not-has_room.true (c.has_room.ensures.1 room))
 
 pub returns-then-not-has_room-clause-met_as : goal.returns-then-not-has_room-clause-met_as
 returns-then-not-has_room-clause-met_as c = tt
 
 pub returns-then-not-has_room-clause-gone_on : goal.returns-then-not-has_room-clause-gone_on
-returns-then-not-has_room-clause-gone_on c = subst (λ (m : MyTree). Waits c.args.adapting.now c.make_room.new.adapting m.0.upper c.make_room.new.pass.seat.me.0.upper)
+returns-then-not-has_room-clause-gone_on c = subst (λ (m : MyTree). Waits c.args.adapting.now c.make_room.new.adapting m.0.upper
+    c.make_room.new.pass.seat.me.0.upper)
     c.count-many.ensures.still c.make_room.ensures.waits
 
 pub returns-then-not-has_room-clause-counted : goal.returns-then-not-has_room-clause-counted
-returns-then-not-has_room-clause-counted c = subst (λ (m : MyTree). IsPaid c.args.spent.now c.make_room.new.spent m c.make_room.new.pass.seat.me) c.count-many.ensures.still
+returns-then-not-has_room-clause-counted c = subst (λ (m : MyTree). IsPaid c.args.spent.now c.make_room.new.spent m c.make_room.new.pass.seat.me)
+    c.count-many.ensures.still
     c.make_room.ensures.counted
 
 pub returns-then-not-has_room-clause-found : goal.returns-then-not-has_room-clause-found
-returns-then-not-has_room-clause-found c = subst (λ (m : MyTree). HasStopped {T = Unit {0}} (Err c.make_room.result) m c.make_room.new.pass.seat.me) c.count-many.ensures.still
+returns-then-not-has_room-clause-found c = subst (λ (m : MyTree). HasStopped {T = Unit {0}} (Err c.make_room.result) m c.make_room.new.pass.seat.me)
+    c.count-many.ensures.still
     c.make_room.ensures.found
 
 pub returns-then-not-has_room-clause-grown : goal.returns-then-not-has_room-clause-grown
-returns-then-not-has_room-clause-grown c = subst (λ (m : MyTree). IsLooking c.args.space.now.table.shared.key m.0.upper (slice_range c.args.object.now c.args.key_at c.args.key_end) c.args.cursor
-    → IsAlone c.args.space.now.table.shared.key m.0.upper → HasGrown {T = Unit {0}} c.args.space.now.table.shared.key (Some (slice_range c.args.object.now c.args.key_at c.args.key_end))
-    (Err c.make_room.result) m.0.upper c.make_room.new.pass.seat.me.0.upper) c.count-many.ensures.still (c.make_room.ensures.grown (slice_range c.args.object.now c.args.key_at c.args.key_end))
+returns-then-not-has_room-clause-grown c = subst (λ (m : MyTree). IsLooking c.args.space.now.table.shared.key m.0.upper
+    (slice_range c.args.object.now c.args.key_at c.args.key_end) c.args.cursor
+    → IsAlone c.args.space.now.table.shared.key m.0.upper → HasGrown {T = Unit {0}} c.args.space.now.table.shared.key (Some
+    (slice_range c.args.object.now c.args.key_at c.args.key_end))
+    (Err c.make_room.result) m.0.upper c.make_room.new.pass.seat.me.0.upper) c.count-many.ensures.still (c.make_room.ensures.grown
+    (slice_range c.args.object.now c.args.key_at c.args.key_end))
     c.requires.looking
 
 pub returns-then-not-has_room-clause-won : goal.returns-then-not-has_room-clause-won
-returns-then-not-has_room-clause-won c = subst (λ (m : MyTree). IsLooking c.args.space.now.table.shared.key m.0.upper (slice_range c.args.object.now c.args.key_at c.args.key_end) c.args.cursor
+returns-then-not-has_room-clause-won c = subst (λ (m : MyTree). IsLooking c.args.space.now.table.shared.key m.0.upper
+    (slice_range c.args.object.now c.args.key_at c.args.key_end) c.args.cursor
     → IsAlone c.args.space.now.table.shared.key m.0.upper → HasWonAs {T = Unit {0}} (λ _. true) (Err c.make_room.result) m.0.upper
-    c.make_room.new.pass.seat.me.0.upper) c.count-many.ensures.still (c.make_room.ensures.won (slice_range c.args.object.now c.args.key_at c.args.key_end)) c.requires.looking
+    c.make_room.new.pass.seat.me.0.upper) c.count-many.ensures.still (c.make_room.ensures.won (slice_range c.args.object.now c.args.key_at c.args.key_end))
+    c.requires.looking

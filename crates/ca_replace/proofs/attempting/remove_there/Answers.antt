@@ -128,22 +128,27 @@ returns-clause-won c = settled_won c.args.space.now.table.shared.key c.args.tuni
     c.remove_at-tried.ensures.renewed c.settle.ensures.settled c.remove_at-tried.ensures.won c.settle.ensures.won
 
 pub next_statistic-statistic-requires-clause-own : goal.next_statistic-statistic-requires-clause-own
-next_statistic-statistic-requires-clause-own c = (c.count-many.ensures.same.0 ∙ c.requires.own.0, ap (λ (m : MyTree). m.0.sizes) c.count-many.ensures.still ∙ c.requires.own.1)
+next_statistic-statistic-requires-clause-own c = (c.count-many.ensures.same.0 ∙ c.requires.own.0, ap (λ (m : MyTree). m.0.sizes) c.count-many.ensures.still
+    ∙ c.requires.own.1)
 
 pub next_statistic-statistic-requires-clause-pinned : goal.next_statistic-statistic-requires-clause-pinned
 next_statistic-statistic-requires-clause-pinned c = ap (λ (m : MyTree). m.0.pin.pinned) c.count-many.ensures.still ∙ c.requires.pinned
 
 pub remove_at-tried-requires-clause-own : goal.remove_at-tried-requires-clause-own
-remove_at-tried-requires-clause-own c = (c.next_statistic-statistic.ensures.same.0 ∙ (c.count-many.ensures.same.0 ∙ c.requires.own.0), ap (λ (m : MyTree). m.0.sizes) (c.next_statistic-statistic.ensures.still ∙ c.count-many.ensures.still) ∙ c.requires.own.1)
+remove_at-tried-requires-clause-own c = (c.next_statistic-statistic.ensures.same.0 ∙ (c.count-many.ensures.same.0 ∙ c.requires.own.0),
+    ap (λ (m : MyTree). m.0.sizes) (c.next_statistic-statistic.ensures.still ∙ c.count-many.ensures.still) ∙ c.requires.own.1)
 
 pub remove_at-tried-requires-clause-pinned : goal.remove_at-tried-requires-clause-pinned
-remove_at-tried-requires-clause-pinned c = ap (λ (m : MyTree). m.0.pin.pinned) (c.next_statistic-statistic.ensures.still ∙ c.count-many.ensures.still) ∙ c.requires.pinned
+remove_at-tried-requires-clause-pinned c = ap (λ (m : MyTree). m.0.pin.pinned) (c.next_statistic-statistic.ensures.still ∙ c.count-many.ensures.still)
+    ∙ c.requires.pinned
 
 pub remove_at-tried-requires-clause-number : goal.remove_at-tried-requires-clause-number
-remove_at-tried-requires-clause-number c = subst (λ (m : MyTree). 0 < m.0.upper.number) (sym (c.next_statistic-statistic.ensures.still ∙ c.count-many.ensures.still)) c.requires.number
+remove_at-tried-requires-clause-number c = subst (λ (m : MyTree). 0 < m.0.upper.number) (sym (c.next_statistic-statistic.ensures.still
+    ∙ c.count-many.ensures.still)) c.requires.number
 
 pub remove_at-tried-requires-clause-none : goal.remove_at-tried-requires-clause-none
-remove_at-tried-requires-clause-none c = held_looked c.args.space.now.table.shared.key.rows c.args.pass.now.kept c.next_statistic-statistic.new.pass.kept c.args.pass.now.seat.me
+remove_at-tried-requires-clause-none c = held_looked c.args.space.now.table.shared.key.rows c.args.pass.now.kept c.next_statistic-statistic.new.pass.kept
+    c.args.pass.now.seat.me
     c.next_statistic-statistic.new.pass.seat.me [] c.requires.none (c.next_statistic-statistic.ensures.kept ∙ c.count-many.ensures.kept)
     (ap (λ (m : MyTree). m.0.claims) (c.next_statistic-statistic.ensures.still ∙ c.count-many.ensures.still))
     (ap (λ (m : MyTree). m.0.most) (c.next_statistic-statistic.ensures.still ∙ c.count-many.ensures.still))
@@ -166,7 +171,8 @@ remove_at-tried-requires-clause-about c = subst (λ (m : MyTree). HasKey (first_
 pub settle-requires-clause-own : goal.settle-requires-clause-own
 settle-requires-clause-own c = (
   c.remove_at-tried.ensures.same.0 ∙ (c.next_statistic-statistic.ensures.same.0 ∙ (c.count-many.ensures.same.0 ∙ c.requires.own.0)),
-  c.remove_at-tried.ensures.pin.0 ∙ (ap (λ (m : MyTree). m.0.sizes) (c.next_statistic-statistic.ensures.still ∙ c.count-many.ensures.still) ∙ c.requires.own.1),
+  c.remove_at-tried.ensures.pin.0 ∙ (ap (λ (m : MyTree). m.0.sizes) (c.next_statistic-statistic.ensures.still ∙ c.count-many.ensures.still)
+      ∙ c.requires.own.1),
 )
 
 pub settle-requires-clause-pinned : goal.settle-requires-clause-pinned
@@ -183,12 +189,15 @@ returns-clause-same c = (
 )
 
 pub returns-clause-number : goal.returns-clause-number
-returns-clause-number c = c.settle.ensures.number ∙ (c.remove_at-tried.ensures.number ∙ (c.next_statistic-statistic.ensures.number ∙ c.count-many.ensures.number))
+returns-clause-number c = c.settle.ensures.number ∙ (c.remove_at-tried.ensures.number ∙ (c.next_statistic-statistic.ensures.number
+    ∙ c.count-many.ensures.number))
 
 pub returns-clause-pin : goal.returns-clause-pin
 returns-clause-pin c = (
-  c.settle.ensures.pin.0 ∙ (c.remove_at-tried.ensures.pin.0 ∙ ap (λ (m : MyTree). m.0.sizes) (c.next_statistic-statistic.ensures.still ∙ c.count-many.ensures.still)),
-  c.settle.ensures.pin.1 ∙ (c.remove_at-tried.ensures.pin.1 ∙ ap (λ (m : MyTree). m.0.pin) (c.next_statistic-statistic.ensures.still ∙ c.count-many.ensures.still)),
+  c.settle.ensures.pin.0 ∙ (c.remove_at-tried.ensures.pin.0 ∙ ap (λ (m : MyTree). m.0.sizes) (c.next_statistic-statistic.ensures.still
+      ∙ c.count-many.ensures.still)),
+  c.settle.ensures.pin.1 ∙ (c.remove_at-tried.ensures.pin.1 ∙ ap (λ (m : MyTree). m.0.pin) (c.next_statistic-statistic.ensures.still
+      ∙ c.count-many.ensures.still)),
 )
 
 pub returns-clause-none : goal.returns-clause-none

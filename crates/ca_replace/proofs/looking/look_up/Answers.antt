@@ -58,7 +58,8 @@ pub copy_at-requires-clause-readable : goal.copy_at-requires-clause-readable
 copy_at-requires-clause-readable c = let z = c.args.space.now.table.shared.key in let note = first_note c.args.pass.now.seat.me.0.upper.notes in
     let r = c.requires.looking.readable in
     let at = subst (λ (p : Result ℕ ℕ). IsPlace (map pair note.objects) c.args.key.now p) c.in-Ok.is (c.search.ensures.place note r) in
-    (note, subst (λ (m : MyTree). IsReadable z m.0.upper c.args.cursor.base note) (sym c.search.ensures.still) r, place_inside note c.args.key.now c.in-Ok.place at)
+    (note, subst (λ (m : MyTree). IsReadable z m.0.upper c.args.cursor.base note) (sym c.search.ensures.still) r, place_inside note c.args.key.now
+    c.in-Ok.place at)
 
 pub returns-in_default-clause-entered : goal.returns-in_default-clause-entered
 returns-in_default-clause-entered c = c.enter.ensures.entered
@@ -66,5 +67,6 @@ returns-in_default-clause-entered c = c.enter.ensures.entered
 
 pub returns-clause-entered : goal.returns-clause-entered
 returns-clause-entered c = let me = c.args.pass.now.seat.me in c.enter-2.ensures.entered
-    ∙ (ap (λ (m : MyTree). with_upper m (entered m.0.upper (Get c.args.key.now (Some c.as_slice.result.now)))) (c.copy_at.ensures.still ∙ c.search.ensures.still)
+    ∙ (ap (λ (m : MyTree). with_upper m (entered m.0.upper (Get c.args.key.now (Some c.as_slice.result.now)))) (c.copy_at.ensures.still
+    ∙ c.search.ensures.still)
     ∙ ap (λ (object : List ℕ). with_upper me (entered me.0.upper (Get c.args.key.now (Some object)))) c.as_slice.ensures.value)

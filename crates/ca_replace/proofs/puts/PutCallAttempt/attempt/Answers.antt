@@ -81,5 +81,6 @@ pub put_there-requires-clause-number : goal.put_there-requires-clause-number
 put_there-requires-clause-number c = subst (λ n. 0 < n) (sym c.find-place.ensures.further.number) c.requires.number
 
 pub put_there-requires-clause-none : goal.put_there-requires-clause-none
-put_there-requires-clause-none c = held_looked c.args.space.now.table.shared.key.rows c.args.pass.now.kept c.find-place.new.pass.kept c.args.pass.now.seat.me c.find-place.new.pass.seat.me []
+put_there-requires-clause-none c = held_looked c.args.space.now.table.shared.key.rows c.args.pass.now.kept c.find-place.new.pass.kept c.args.pass.now.seat.me
+    c.find-place.new.pass.seat.me []
     c.requires.none c.find-place.ensures.kept c.find-place.ensures.still.2 c.find-place.ensures.quiet.most

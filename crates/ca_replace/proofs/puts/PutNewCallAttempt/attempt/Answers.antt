@@ -135,8 +135,10 @@ returns-then-is_ok-clause-pin c = (
 )
 
 pub returns-then-is_ok-clause-none : goal.returns-then-is_ok-clause-none
-returns-then-is_ok-clause-none c = held_upper c.args.space.now.table.shared.key.rows c.find-place.new.pass.kept c.enter.new.pass.kept c.find-place.new.pass.seat.me c.enter.new.pass.seat.me _ []
-    (held_looked c.args.space.now.table.shared.key.rows c.args.pass.now.kept c.find-place.new.pass.kept c.args.pass.now.seat.me c.find-place.new.pass.seat.me [] c.requires.none
+returns-then-is_ok-clause-none c = held_upper c.args.space.now.table.shared.key.rows c.find-place.new.pass.kept c.enter.new.pass.kept
+    c.find-place.new.pass.seat.me c.enter.new.pass.seat.me _ []
+    (held_looked c.args.space.now.table.shared.key.rows c.args.pass.now.kept c.find-place.new.pass.kept c.args.pass.now.seat.me c.find-place.new.pass.seat.me
+    [] c.requires.none
     c.find-place.ensures.kept c.find-place.ensures.still.2 c.find-place.ensures.quiet.most) c.enter.ensures.entered c.enter.ensures.kept
 
 pub returns-then-is_ok-clause-counted : goal.returns-then-is_ok-clause-counted
@@ -200,5 +202,6 @@ pub put_there-requires-clause-number : goal.put_there-requires-clause-number
 put_there-requires-clause-number c = subst (λ n. 0 < n) (sym c.find-place.ensures.further.number) c.requires.number
 
 pub put_there-requires-clause-none : goal.put_there-requires-clause-none
-put_there-requires-clause-none c = held_looked c.args.space.now.table.shared.key.rows c.args.pass.now.kept c.find-place.new.pass.kept c.args.pass.now.seat.me c.find-place.new.pass.seat.me []
+put_there-requires-clause-none c = held_looked c.args.space.now.table.shared.key.rows c.args.pass.now.kept c.find-place.new.pass.kept c.args.pass.now.seat.me
+    c.find-place.new.pass.seat.me []
     c.requires.none c.find-place.ensures.kept c.find-place.ensures.still.2 c.find-place.ensures.quiet.most

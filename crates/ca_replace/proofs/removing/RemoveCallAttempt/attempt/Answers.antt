@@ -111,8 +111,10 @@ returns-in_default-clause-pin c = (
 )
 
 pub returns-in_default-clause-none : goal.returns-in_default-clause-none
-returns-in_default-clause-none c = held_upper c.args.space.now.table.shared.key.rows c.fetch-place.new.pass.kept c.enter.new.pass.kept c.fetch-place.new.pass.seat.me c.enter.new.pass.seat.me _ []
-    (held_looked c.args.space.now.table.shared.key.rows c.args.pass.now.kept c.fetch-place.new.pass.kept c.args.pass.now.seat.me c.fetch-place.new.pass.seat.me [] c.requires.none
+returns-in_default-clause-none c = held_upper c.args.space.now.table.shared.key.rows c.fetch-place.new.pass.kept c.enter.new.pass.kept
+    c.fetch-place.new.pass.seat.me c.enter.new.pass.seat.me _ []
+    (held_looked c.args.space.now.table.shared.key.rows c.args.pass.now.kept c.fetch-place.new.pass.kept c.args.pass.now.seat.me
+    c.fetch-place.new.pass.seat.me [] c.requires.none
     c.fetch-place.ensures.kept c.fetch-place.ensures.still.2 c.fetch-place.ensures.quiet.most) c.enter.ensures.entered c.enter.ensures.kept
 
 pub returns-in_default-clause-counted : goal.returns-in_default-clause-counted
@@ -133,13 +135,15 @@ pub returns-in_default-clause-won : goal.returns-in_default-clause-won
 returns-in_default-clause-won c alone = ap (λ (m : MyTree). m.0.upper.lost) c.enter.ensures.entered ∙ c.fetch-place.ensures.quiet.idle.1
 
 pub returns-in-Ok-remove_there-clause-same : goal.returns-in-Ok-remove_there-clause-same
-returns-in-Ok-remove_there-clause-same c = (c.remove_there.ensures.same.0 ∙ c.fetch-place.ensures.same.0, c.remove_there.ensures.same.1 ∙ c.fetch-place.ensures.same.1)
+returns-in-Ok-remove_there-clause-same c = (c.remove_there.ensures.same.0 ∙ c.fetch-place.ensures.same.0, c.remove_there.ensures.same.1
+    ∙ c.fetch-place.ensures.same.1)
 
 pub returns-in-Ok-remove_there-clause-number : goal.returns-in-Ok-remove_there-clause-number
 returns-in-Ok-remove_there-clause-number c = c.remove_there.ensures.number ∙ c.fetch-place.ensures.number
 
 pub returns-in-Ok-remove_there-clause-pin : goal.returns-in-Ok-remove_there-clause-pin
-returns-in-Ok-remove_there-clause-pin c = (c.remove_there.ensures.pin.0 ∙ c.fetch-place.ensures.still.0, c.remove_there.ensures.pin.1 ∙ c.fetch-place.ensures.still.1)
+returns-in-Ok-remove_there-clause-pin c = (c.remove_there.ensures.pin.0 ∙ c.fetch-place.ensures.still.0, c.remove_there.ensures.pin.1
+    ∙ c.fetch-place.ensures.still.1)
 
 pub returns-in-Ok-remove_there-clause-none : goal.returns-in-Ok-remove_there-clause-none
 returns-in-Ok-remove_there-clause-none c = c.remove_there.ensures.none
@@ -153,8 +157,10 @@ returns-in-Ok-remove_there-clause-grown c = looked_grown {T = Unit {0}} c.args.s
     c.fetch-place.ensures.quiet c.in-Ok-remove_there.ensures.grown
 
 pub returns-in-Ok-remove_there-clause-won : goal.returns-in-Ok-remove_there-clause-won
-returns-in-Ok-remove_there-clause-won c alone = won_on true c.args.pass.now.seat.me.0.upper c.fetch-place.new.pass.seat.me.0.upper c.remove_there.new.pass.seat.me.0.upper
-    c.fetch-place.ensures.quiet.idle.1 (c.in-Ok-remove_there.ensures.won (alone_on c.args.space.now.table.shared.key c.args.pass.now.seat.me.0.upper c.fetch-place.new.pass.seat.me.0.upper
+returns-in-Ok-remove_there-clause-won c alone = won_on true c.args.pass.now.seat.me.0.upper c.fetch-place.new.pass.seat.me.0.upper
+    c.remove_there.new.pass.seat.me.0.upper
+    c.fetch-place.ensures.quiet.idle.1 (c.in-Ok-remove_there.ensures.won (alone_on c.args.space.now.table.shared.key c.args.pass.now.seat.me.0.upper
+    c.fetch-place.new.pass.seat.me.0.upper
     c.fetch-place.ensures.further.number alone))
 
 pub returns-in-Err-clause-same : goal.returns-in-Err-clause-same
@@ -186,8 +192,10 @@ returns-in-Err-clause-grown c = stop_grown (Unit {0}) Bool c.args.space.now.tabl
     c.fetch-place.ensures.quiet c.in-Err.ensures.grown
 
 pub returns-in-Err-clause-won : goal.returns-in-Err-clause-won
-returns-in-Err-clause-won c alone = won_on false c.args.pass.now.seat.me.0.upper c.fetch-place.new.pass.seat.me.0.upper c.remove_there.new.pass.seat.me.0.upper
-    c.fetch-place.ensures.quiet.idle.1 (c.in-Err.ensures.won (alone_on c.args.space.now.table.shared.key c.args.pass.now.seat.me.0.upper c.fetch-place.new.pass.seat.me.0.upper
+returns-in-Err-clause-won c alone = won_on false c.args.pass.now.seat.me.0.upper c.fetch-place.new.pass.seat.me.0.upper
+    c.remove_there.new.pass.seat.me.0.upper
+    c.fetch-place.ensures.quiet.idle.1 (c.in-Err.ensures.won (alone_on c.args.space.now.table.shared.key c.args.pass.now.seat.me.0.upper
+    c.fetch-place.new.pass.seat.me.0.upper
     c.fetch-place.ensures.further.number alone))
 
 pub remove_there-requires-clause-own : goal.remove_there-requires-clause-own
@@ -200,5 +208,6 @@ pub remove_there-requires-clause-number : goal.remove_there-requires-clause-numb
 remove_there-requires-clause-number c = subst (λ n. 0 < n) (sym c.fetch-place.ensures.further.number) c.requires.number
 
 pub remove_there-requires-clause-none : goal.remove_there-requires-clause-none
-remove_there-requires-clause-none c = held_looked c.args.space.now.table.shared.key.rows c.args.pass.now.kept c.fetch-place.new.pass.kept c.args.pass.now.seat.me c.fetch-place.new.pass.seat.me []
+remove_there-requires-clause-none c = held_looked c.args.space.now.table.shared.key.rows c.args.pass.now.kept c.fetch-place.new.pass.kept
+    c.args.pass.now.seat.me c.fetch-place.new.pass.seat.me []
     c.requires.none c.fetch-place.ensures.kept c.fetch-place.ensures.still.2 c.fetch-place.ensures.quiet.most

@@ -148,8 +148,10 @@ returns-in_default-clause-pin g c = (
 )
 
 pub returns-in_default-clause-none : goal.returns-in_default-clause-none
-returns-in_default-clause-none g c = held_upper c.args.space.now.table.shared.key.rows c.fetch-place.new.pass.kept c.enter.new.pass.kept c.fetch-place.new.pass.seat.me c.enter.new.pass.seat.me _ []
-    (held_looked c.args.space.now.table.shared.key.rows c.args.pass.now.kept c.fetch-place.new.pass.kept c.args.pass.now.seat.me c.fetch-place.new.pass.seat.me [] c.requires.none
+returns-in_default-clause-none g c = held_upper c.args.space.now.table.shared.key.rows c.fetch-place.new.pass.kept c.enter.new.pass.kept
+    c.fetch-place.new.pass.seat.me c.enter.new.pass.seat.me _ []
+    (held_looked c.args.space.now.table.shared.key.rows c.args.pass.now.kept c.fetch-place.new.pass.kept c.args.pass.now.seat.me
+    c.fetch-place.new.pass.seat.me [] c.requires.none
     c.fetch-place.ensures.kept c.fetch-place.ensures.still.2 c.fetch-place.ensures.quiet.most) c.enter.ensures.entered c.enter.ensures.kept
 
 pub returns-in_default-clause-counted : goal.returns-in_default-clause-counted
@@ -170,7 +172,8 @@ pub returns-in_default-clause-won : goal.returns-in_default-clause-won
 returns-in_default-clause-won g c alone = ap (λ (m : MyTree). m.0.upper.lost) c.enter.ensures.entered ∙ c.fetch-place.ensures.quiet.idle.1
 
 pub returns-then-not-f-clause-same : goal.returns-then-not-f-clause-same
-returns-then-not-f-clause-same g c = (c.enter-then-not-f.ensures.same.0 ∙ c.fetch-place.ensures.same.0, c.enter-then-not-f.ensures.same.1 ∙ c.fetch-place.ensures.same.1)
+returns-then-not-f-clause-same g c = (c.enter-then-not-f.ensures.same.0 ∙ c.fetch-place.ensures.same.0, c.enter-then-not-f.ensures.same.1
+    ∙ c.fetch-place.ensures.same.1)
 
 pub returns-then-not-f-clause-number : goal.returns-then-not-f-clause-number
 returns-then-not-f-clause-number g c = c.enter-then-not-f.ensures.number ∙ c.fetch-place.ensures.number
@@ -182,13 +185,17 @@ returns-then-not-f-clause-pin g c = (
 )
 
 pub returns-then-not-f-clause-none : goal.returns-then-not-f-clause-none
-returns-then-not-f-clause-none g c = held_upper c.args.space.now.table.shared.key.rows c.fetch-place.new.pass.kept c.enter-then-not-f.new.pass.kept c.fetch-place.new.pass.seat.me c.enter-then-not-f.new.pass.seat.me _ []
-    (held_looked c.args.space.now.table.shared.key.rows c.args.pass.now.kept c.fetch-place.new.pass.kept c.args.pass.now.seat.me c.fetch-place.new.pass.seat.me [] c.requires.none
-    c.fetch-place.ensures.kept c.fetch-place.ensures.still.2 c.fetch-place.ensures.quiet.most) c.enter-then-not-f.ensures.entered c.enter-then-not-f.ensures.kept
+returns-then-not-f-clause-none g c = held_upper c.args.space.now.table.shared.key.rows c.fetch-place.new.pass.kept c.enter-then-not-f.new.pass.kept
+    c.fetch-place.new.pass.seat.me c.enter-then-not-f.new.pass.seat.me _ []
+    (held_looked c.args.space.now.table.shared.key.rows c.args.pass.now.kept c.fetch-place.new.pass.kept c.args.pass.now.seat.me
+    c.fetch-place.new.pass.seat.me [] c.requires.none
+    c.fetch-place.ensures.kept c.fetch-place.ensures.still.2 c.fetch-place.ensures.quiet.most) c.enter-then-not-f.ensures.entered
+    c.enter-then-not-f.ensures.kept
 
 pub returns-then-not-f-clause-counted : goal.returns-then-not-f-clause-counted
 returns-then-not-f-clause-counted g c = none_paid c.args.spent.now c.args.pass.now.seat.me c.enter-then-not-f.new.pass.seat.me
-    (ap losses c.enter-then-not-f.ensures.entered ∙ c.fetch-place.ensures.quiet.lost) (ap splits c.enter-then-not-f.ensures.entered ∙ c.fetch-place.ensures.quiet.splits_are)
+    (ap losses c.enter-then-not-f.ensures.entered ∙ c.fetch-place.ensures.quiet.lost) (ap splits c.enter-then-not-f.ensures.entered
+    ∙ c.fetch-place.ensures.quiet.splits_are)
 
 pub returns-then-not-f-clause-found : goal.returns-then-not-f-clause-found
 returns-then-not-f-clause-found g c = done_stopped _ c.args.pass.now.seat.me c.enter-then-not-f.new.pass.seat.me
@@ -204,13 +211,15 @@ pub returns-then-not-f-clause-won : goal.returns-then-not-f-clause-won
 returns-then-not-f-clause-won g c alone = ap (λ (m : MyTree). m.0.upper.lost) c.enter-then-not-f.ensures.entered ∙ c.fetch-place.ensures.quiet.idle.1
 
 pub returns-in-Ok-remove_there-clause-same : goal.returns-in-Ok-remove_there-clause-same
-returns-in-Ok-remove_there-clause-same g c = (c.remove_there.ensures.same.0 ∙ c.fetch-place.ensures.same.0, c.remove_there.ensures.same.1 ∙ c.fetch-place.ensures.same.1)
+returns-in-Ok-remove_there-clause-same g c = (c.remove_there.ensures.same.0 ∙ c.fetch-place.ensures.same.0, c.remove_there.ensures.same.1
+    ∙ c.fetch-place.ensures.same.1)
 
 pub returns-in-Ok-remove_there-clause-number : goal.returns-in-Ok-remove_there-clause-number
 returns-in-Ok-remove_there-clause-number g c = c.remove_there.ensures.number ∙ c.fetch-place.ensures.number
 
 pub returns-in-Ok-remove_there-clause-pin : goal.returns-in-Ok-remove_there-clause-pin
-returns-in-Ok-remove_there-clause-pin g c = (c.remove_there.ensures.pin.0 ∙ c.fetch-place.ensures.still.0, c.remove_there.ensures.pin.1 ∙ c.fetch-place.ensures.still.1)
+returns-in-Ok-remove_there-clause-pin g c = (c.remove_there.ensures.pin.0 ∙ c.fetch-place.ensures.still.0, c.remove_there.ensures.pin.1
+    ∙ c.fetch-place.ensures.still.1)
 
 pub returns-in-Ok-remove_there-clause-none : goal.returns-in-Ok-remove_there-clause-none
 returns-in-Ok-remove_there-clause-none g c = c.remove_there.ensures.none
@@ -224,8 +233,10 @@ returns-in-Ok-remove_there-clause-grown g c = looked_grown {T = Unit {0}} c.args
     c.fetch-place.ensures.quiet c.in-Ok-remove_there.ensures.grown
 
 pub returns-in-Ok-remove_there-clause-won : goal.returns-in-Ok-remove_there-clause-won
-returns-in-Ok-remove_there-clause-won g c alone = won_on true c.args.pass.now.seat.me.0.upper c.fetch-place.new.pass.seat.me.0.upper c.remove_there.new.pass.seat.me.0.upper
-    c.fetch-place.ensures.quiet.idle.1 (c.in-Ok-remove_there.ensures.won (alone_on c.args.space.now.table.shared.key c.args.pass.now.seat.me.0.upper c.fetch-place.new.pass.seat.me.0.upper
+returns-in-Ok-remove_there-clause-won g c alone = won_on true c.args.pass.now.seat.me.0.upper c.fetch-place.new.pass.seat.me.0.upper
+    c.remove_there.new.pass.seat.me.0.upper
+    c.fetch-place.ensures.quiet.idle.1 (c.in-Ok-remove_there.ensures.won (alone_on c.args.space.now.table.shared.key c.args.pass.now.seat.me.0.upper
+    c.fetch-place.new.pass.seat.me.0.upper
     c.fetch-place.ensures.further.number alone))
 
 pub returns-in-Err-clause-same : goal.returns-in-Err-clause-same
@@ -253,8 +264,10 @@ returns-in-Err-clause-grown g c = stop_grown (Unit {0}) Changed c.args.space.now
     c.fetch-place.ensures.quiet c.in-Err.ensures.grown
 
 pub returns-in-Err-clause-won : goal.returns-in-Err-clause-won
-returns-in-Err-clause-won g c alone = won_on false c.args.pass.now.seat.me.0.upper c.fetch-place.new.pass.seat.me.0.upper c.remove_there.new.pass.seat.me.0.upper
-    c.fetch-place.ensures.quiet.idle.1 (c.in-Err.ensures.won (alone_on c.args.space.now.table.shared.key c.args.pass.now.seat.me.0.upper c.fetch-place.new.pass.seat.me.0.upper
+returns-in-Err-clause-won g c alone = won_on false c.args.pass.now.seat.me.0.upper c.fetch-place.new.pass.seat.me.0.upper
+    c.remove_there.new.pass.seat.me.0.upper
+    c.fetch-place.ensures.quiet.idle.1 (c.in-Err.ensures.won (alone_on c.args.space.now.table.shared.key c.args.pass.now.seat.me.0.upper
+    c.fetch-place.new.pass.seat.me.0.upper
     c.fetch-place.ensures.further.number alone))
 
 pub remove_there-requires-clause-own : goal.remove_there-requires-clause-own
@@ -267,5 +280,6 @@ pub remove_there-requires-clause-number : goal.remove_there-requires-clause-numb
 remove_there-requires-clause-number g c = subst (λ n. 0 < n) (sym c.fetch-place.ensures.further.number) c.requires.number
 
 pub remove_there-requires-clause-none : goal.remove_there-requires-clause-none
-remove_there-requires-clause-none g c = held_looked c.args.space.now.table.shared.key.rows c.args.pass.now.kept c.fetch-place.new.pass.kept c.args.pass.now.seat.me c.fetch-place.new.pass.seat.me []
+remove_there-requires-clause-none g c = held_looked c.args.space.now.table.shared.key.rows c.args.pass.now.kept c.fetch-place.new.pass.kept
+    c.args.pass.now.seat.me c.fetch-place.new.pass.seat.me []
     c.requires.none c.fetch-place.ensures.kept c.fetch-place.ensures.still.2 c.fetch-place.ensures.quiet.most
