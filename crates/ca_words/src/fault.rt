@@ -57,11 +57,11 @@ fn fault_in_values(alloc: Global, matches: &ArgMatches<'_>) -> Result<Option<Str
 fn fault_without_files(alloc: Global, given: Options) -> Result<Option<String>, AllocError> {
     let fault = match (given.seed, given.clients, given.lines) {
         (None, None, None) => "no file is named",
-        (None, _, _) => "--seed is missing, without which --clients and --lines don't stand",
-        (_, None, _) => "--clients is missing, without which --seed and --lines don't stand",
-        (_, _, None) => "--lines is missing, without which --seed and --clients don't stand",
+        (None, _, _) => "--seed is missing: --seed, --clients and --lines stand together",
+        (_, None, _) => "--clients is missing: --seed, --clients and --lines stand together",
+        (_, _, None) => "--lines is missing: --seed, --clients and --lines stand together",
         _ if given.keypos.unwrap_or(1) != 1 => {
-            "the value of --keypos is not 1, as it is beside --seed, --clients and --lines"
+            "--keypos has another value than 1, the only one beside --seed, --clients and --lines"
         }
         _ => return Ok(None),
     };
@@ -79,7 +79,7 @@ fn fault_with_files(
     };
     if given.seed.is_some() || given.clients.is_some() || given.lines.is_some() {
         let fault = format!(in alloc;
-            "the file '{first}' is named, beside which --seed, --clients and --lines don't stand"
+            "the file '{first}' stands behind --seed, --clients or --lines, which take no file"
         )?;
         return Ok(Some(fault));
     }
@@ -104,7 +104,7 @@ fn fault_in_rest(
     for word in rest {
         if begins_with_dash(word.as_str()) {
             let fault = format!(in alloc;
-                "'{word}' is neither an option before the files nor a file behind the word '--'"
+                "'{word}' is no option here: options stand before the files, and files whose names begin with '-' behind the word '--'"
             )?;
             return Ok(Some(fault));
         }
