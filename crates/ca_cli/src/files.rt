@@ -17,7 +17,7 @@ use ca_outside::{FetchFault, Shelf};
 use std::alloc::Global;
 
 // The most bytes that all files have together.
-const MOST_BYTES: usize = 16_777_216;
+pub(crate) const MOST_BYTES: usize = 16_777_216;
 
 // The lines of the file of this name, for which there is room, and how many bytes it has. The bytes aren't kept.
 fn read_one<F: Shelf>(

@@ -1,11 +1,12 @@
 //! `ca run [OPTIONS] [--] FILE...`: reads command files, runs their commands on one table that behaves as an `ordered_set` of Erlang's
 //! `ets`, a file a client, one client after the other, and prints every answer and the final table. `ca run --seed S --clients C --lines L`
-//! makes the commands itself, and prints a summary.
+//! makes the commands itself, and prints a summary. Where a call ends early, standard error tells a person why.
 #![tactic(auto)]
 
 ghost use Rattle.std.specs.Prelude.{◌≡◌, IfErr};
 
 mod answer;
+mod explain;
 mod files;
 mod message;
 mod play;
@@ -13,6 +14,7 @@ mod status;
 mod summary;
 mod top;
 
+use crate::explain::tell;
 use crate::status::Status;
 use crate::top::run;
 use ca_outside::{DirShelf, OutSink};
@@ -43,9 +45,14 @@ fn main(rt: HostRuntime) -> ExitCode {
         Ok(words) => {
             let mut shelf = DirShelf::new(rt.alloc(), &rt);
             let mut sink = OutSink::new(io::writer(&rt));
-            run(rt.alloc(), words.as_slice(), &mut shelf, &mut sink)
+            let status = run(rt.alloc(), words.as_slice(), &mut shelf, &mut sink);
+            tell(&rt, words.as_slice(), status);
+            status
         }
-        Err(status) => status,
+        Err(status) => {
+            tell(&rt, &[], status);
+            status
+        }
     };
     ExitCode::from(status.code())
 }

@@ -1,5 +1,6 @@
 //! The shelf of the file system.
-ghost use Rattle.std.specs.Prelude.{◌≡◌, ◌⊎◌, ℕ, ◌≤◌, [], ◌∷◌, length, map, None, Some, IsSome, OnOk, OnErr, IsErrOf, MatchOption};
+ghost use Rattle.std.specs.Prelude.{◌≡◌, ◌⊎◌, ℕ, ◌≤◌, ◌<◌, [], ◌∷◌, length, map, take, None, Some, IsSome, IfOk, OnOk, OnErr, IsErrOf, MatchOption};
+ghost use Rattle.std.specs.Io.KnownBytes.{Consumes, IsAtEnd};
 ghost use Rattle.ca_outside.specs.Count.{next_count};
 ghost use Rattle.ca_outside.specs.Fetches.{fetched, fetched_of, with_fetch};
 ghost use Rattle.ca_outside.specs.Known.{Tells, IsOver, HasRisen, Untold, Grows, content_or};
@@ -7,13 +8,16 @@ ghost use Rattle.ca_outside.specs.Known.{Tells, IsOver, HasRisen, Untold, Grows,
 use crate::fetch_log::{Fetch, FetchLog};
 use crate::shelf::{FetchFault, Shelf};
 use std::alloc::Global;
-use std::fs;
 use std::fs::Files;
 use std::io::Read;
 use std::marker::Model;
+use std::{fs, io};
 
 // How many bytes one read asks for.
 const PIECE: usize = 16 * 1024;
+
+// How often in a row a read that a signal interrupted is tried again.
+const MOST_TRIES: u32 = 1_000_000;
 
 /// Files of the file system, by their paths. It tells no contents.
 #[derive(Drop)]
@@ -102,6 +106,22 @@ impl<R: Files + Drop> Shelf for DirShelf<R> {
     }
 }
 
+// One read, tried again where a signal interrupted it.
+fn read_piece<F: Read>(file: &mut F, piece: &mut [u8]) -> Result<usize, FetchFault>
+    ensures within { IfOk result (λ count. count ≤ length piece.new) }
+    ensures read { IfOk result (λ count. Consumes (F.remaining file.old) (F.remaining file.new) (take count piece.new)) }
+    ensures end { IfOk result (λ count. count ≡ 0 → 0 < length piece.old → IsAtEnd (F.remaining file.new)) }
+{
+    for _ in 0..MOST_TRIES {
+        match file.read(piece) {
+            Ok(count) => return Ok(count),
+            Err(error) if error.kind() == io::ErrorKind::Interrupted => {}
+            Err(_) => return Err(FetchFault::Failed),
+        }
+    }
+    Err(FetchFault::Failed)
+}
+
 // Reads all that is left, up to `room` bytes. After a refusal some of it may stand in the vector.
 #[tactic(auto, using(crate::proofs::Consumed::consumes_more, crate::proofs::Consumed::told_at_end, crate::proofs::Consumed::is_over))]
 fn read_whole<F: Read>(file: &mut F, room: usize, into: &mut Vec<u8>) -> Result<(), FetchFault>
@@ -112,7 +132,7 @@ fn read_whole<F: Read>(file: &mut F, room: usize, into: &mut Vec<u8>) -> Result<
 {
     let mut piece = [0; PIECE];
     loop {
-        let Ok(count) = file.read(&mut piece) else {
+        let Ok(count) = read_piece(file, &mut piece) else {
             return Err(FetchFault::Failed);
         };
         if count == 0 {

@@ -21,7 +21,7 @@ pub(crate) struct Options {
 }
 
 // The name of an option, without dashes.
-fn bare(name: Name) -> &'static str
+pub(crate) fn bare(name: Name) -> &'static str
     ensures { result.now ≡ bare name }
 {
     match name {
@@ -33,7 +33,7 @@ fn bare(name: Name) -> &'static str
 }
 
 // The least and the greatest value of an option.
-fn bounds(name: Name) -> (u64, u64)
+pub(crate) fn bounds(name: Name) -> (u64, u64)
     ensures least { result.0 ≡ least_of name }
     ensures most { result.1 ≡ most_of name }
     ensures short { result.1 ≤ 2147483647 }
@@ -81,7 +81,7 @@ fn number_up_to(most: u64, digits: &[u8]) -> Option<u64>
 }
 
 // The value that a text writes for an option.
-fn value_in(name: Name, text: &[u8]) -> Option<u32>
+pub(crate) fn value_in(name: Name, text: &[u8]) -> Option<u32>
     ensures { result ≡ value_in name text.now }
 {
     if !is_value(text) {
@@ -108,7 +108,7 @@ fn value_told(name: Name, text: Option<&str>) -> Option<Option<u32>>
 }
 
 // The command that has the four options alone, each with one value: no help, no version and no files.
-fn command<'a>(alloc: Global) -> Result<Command<'a>, AllocError>
+pub(crate) fn command<'a>(alloc: Global) -> Result<Command<'a>, AllocError>
     ensures { IfOk result (λ c. app_of c ≡ command) }
 {
     let keypos = Arg::new(alloc, "keypos").long("keypos");
@@ -132,7 +132,7 @@ fn value_of(matches: &ArgMatches<'_>, name: Name) -> Option<Option<u32>>
 }
 
 // The values of the options of these matches, where each text is a value.
-fn given_in(matches: &ArgMatches<'_>) -> Option<Options>
+pub(crate) fn given_in(matches: &ArgMatches<'_>) -> Option<Options>
     ensures { result ≡ given_in (λ name. first_value (found_of matches.now) (bare name)) }
 {
     Some(Options {

@@ -9,7 +9,7 @@ use crate::options::{Options, options_in};
 use std::alloc::{AllocError, Global};
 
 // The most files that a call names.
-const MOST_FILES: usize = 64;
+pub(crate) const MOST_FILES: usize = 64;
 
 /// What a call is asked for.
 #[derive(Clone, Copy)]
@@ -54,7 +54,7 @@ fn request_with(given: Options, names: &[String]) -> Option<Request<'_>>
     Some(Request::Files { keypos, names })
 }
 
-fn begins_with_dash(word: &str) -> bool
+pub(crate) fn begins_with_dash(word: &str) -> bool
     ensures { result ≡ begins_with_dash word.now }
 {
     word.starts_with('-')
@@ -87,7 +87,7 @@ fn has_equals(word: &[u8]) -> bool
 
 // How many words stand before the files and the word `--`: options, and words without a dash right behind an option that has no `=`.
 #[tactic(auto, unfolding(crate::specs::Words::options_end))]
-fn options_end(words: &[String]) -> usize
+pub(crate) fn options_end(words: &[String]) -> usize
     ensures value { result ≡ options_end false (map string_bytes words.now) }
     ensures within { result ≤ length words.now }
 {
