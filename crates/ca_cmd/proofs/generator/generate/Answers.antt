@@ -1,4 +1,4 @@
-use Rattle.std.proofs.Common.{rules, arith, subst, sym, ◌≡◌, ◌++◌, ◌+◌, ◌-◌, List}
+use Rattle.std.proofs.Common.{rules, subst, sym, ◌≡◌, ◌++◌, ◌+◌, ◌-◌, List}
 use Rattle.ca_cmd.specs.Generator.{generated, lines_from}
 use Rattle.ca_cmd.specs.Lines.{numbered}
 use Rattle.ca_cmd.specs.declared.line.Line.{Line}
