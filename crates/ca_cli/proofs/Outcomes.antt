@@ -25,3 +25,29 @@ pub there_asked : (call : Call) (found : Option Request) (request : Request) →
 there_asked call found request e w f =
     let same : w.request ≡ request = cc in
     subst (IsThere call.content) same w.there
+
+-- whatever a call came to, it may have stopped there
+played_stopped : (call : Call) (answers : List (List Answer)) (table : List Tree) (bytes : List ℕ) → IsPlayed call answers table bytes → IsStopped call
+played_stopped call answers table bytes (inl h) = inr (inr (h.keypos, h.names, h.lines, h.read))
+played_stopped call answers table bytes (inr h) = inl h.fetches
+
+stopped : (call : Call) (status : Status) (bytes : List ℕ) → IsOutcome call status bytes → IsStopped call
+stopped call Done bytes h = played_stopped call h.0 h.1 bytes h.2
+stopped call Usage bytes h = inl h.1
+stopped call (ShelfFault file) bytes h = inr (inl (file, _, h.0))
+stopped call SinkFault bytes h = absurd h
+stopped call (BadLine file line at) bytes h = inr (inl (file, _, h.0.reached))
+stopped call NoMemory bytes h = h.0
+stopped call (TooLong file) bytes h = inr (inl (file, _, h.0.reached))
+
+-- a status with its message, or want of memory
+pub told_outcome : (call : Call) (status result : Status) (bytes : List ℕ) → IsOutcome call status (text_of_status status) →
+    ((result ≡ status) × (bytes ≡ text_of_status status)) ⊎ ((result ≡ NoMemory) × (bytes ≡ [])) → IsOutcome call result bytes
+told_outcome call status result bytes h (inl t) = rw (t.0, t.1) h
+told_outcome call status result bytes h (inr t) = rw (t.0, t.1) (stopped call status (text_of_status status) h, refl)
+
+-- where memory was wanted, it was so with the message too
+pub told_want : (status result : Status) (bytes : List ℕ) → status ≡ NoMemory →
+    ((result ≡ status) × (bytes ≡ text_of_status status)) ⊎ ((result ≡ NoMemory) × (bytes ≡ [])) → IsDoneOrWant result
+told_want status result bytes e (inl t) = rw (t.0, e) tt
+told_want status result bytes e (inr t) = rw t.0 tt

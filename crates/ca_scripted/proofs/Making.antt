@@ -19,6 +19,10 @@ del_none (p ∷ m) k e = by (is_eq (bytes_cmp p.0 k)) e (λ none. del_none m k n
     by true none rest = cc
     by false none rest = ap (λ (ms : StoreMap). p ∷ ms) (rest none)
 
+-- An object is put.
+pub put_made : (a b : Known) (k o : List ℕ) → Answers a b 1 (Write k o) → HasMade a b (Put k o ∷ [])
+put_made a b k o h = record { inner = h.inner; keypos = h.keypos; map = h.map; spare = h.spare }
+
 -- A key is removed.
 pub removed_made : (a b : Known) (k : List ℕ) (was : Bool) (old : List ℕ) → RemovedSuch (Answers a b 0) k was old → HasMade a b (Del k ∷ [])
 removed_made a b k true old h = record { inner = h.inner; keypos = h.keypos; map = h.map; spare = omega (arith, h.spare) }
