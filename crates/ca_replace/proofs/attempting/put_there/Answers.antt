@@ -198,15 +198,20 @@ returns-clause-won c = settled_won c.args.space.now.table.shared.key c.args.tuni
     c.put_at-tried.ensures.renewed c.settle.ensures.settled c.put_at-tried.ensures.won c.settle.ensures.won
 
 pub next_statistic-statistic-requires-clause-own : goal.next_statistic-statistic-requires-clause-own
-next_statistic-statistic-requires-clause-own c = (c.count-many.ensures.same.0 ∙ c.requires.own.0, ap (λ (m : MyTree). m.0.sizes) c.count-many.ensures.still
-    ∙ c.requires.own.1)
+next_statistic-statistic-requires-clause-own c = (
+  c.count-many.ensures.same.0 ∙ c.requires.own.0,
+  ap (λ (m : MyTree). m.0.sizes) c.count-many.ensures.still
+      ∙ c.requires.own.1,
+)
 
 pub next_statistic-statistic-requires-clause-pinned : goal.next_statistic-statistic-requires-clause-pinned
 next_statistic-statistic-requires-clause-pinned c = ap (λ (m : MyTree). m.0.pin.pinned) c.count-many.ensures.still ∙ c.requires.pinned
 
 pub put_at-tried-requires-clause-own : goal.put_at-tried-requires-clause-own
-put_at-tried-requires-clause-own c = (c.next_statistic-statistic.ensures.same.0 ∙ (c.count-many.ensures.same.0 ∙ c.requires.own.0),
-    ap (λ (m : MyTree). m.0.sizes) (c.next_statistic-statistic.ensures.still ∙ c.count-many.ensures.still) ∙ c.requires.own.1)
+put_at-tried-requires-clause-own c = (
+  c.next_statistic-statistic.ensures.same.0 ∙ (c.count-many.ensures.same.0 ∙ c.requires.own.0),
+  ap (λ (m : MyTree). m.0.sizes) (c.next_statistic-statistic.ensures.still ∙ c.count-many.ensures.still) ∙ c.requires.own.1,
+)
 
 pub put_at-tried-requires-clause-pinned : goal.put_at-tried-requires-clause-pinned
 put_at-tried-requires-clause-pinned c = ap (λ (m : MyTree). m.0.pin.pinned) (c.next_statistic-statistic.ensures.still ∙ c.count-many.ensures.still)
@@ -282,8 +287,11 @@ pub returns-clause-full : goal.returns-clause-full
 returns-clause-full c = λ e. absurd (c.settle.ensures.deep e)
 
 pub make_room-requires-clause-own : goal.make_room-requires-clause-own
-make_room-requires-clause-own c = (c.count-many.ensures.same.0 ∙ c.requires.own.0, ap (λ (m : MyTree). m.0.sizes) c.count-many.ensures.still
-    ∙ c.requires.own.1)
+make_room-requires-clause-own c = (
+  c.count-many.ensures.same.0 ∙ c.requires.own.0,
+  ap (λ (m : MyTree). m.0.sizes) c.count-many.ensures.still
+      ∙ c.requires.own.1,
+)
 
 pub make_room-requires-clause-pinned : goal.make_room-requires-clause-pinned
 make_room-requires-clause-pinned c = ap (λ (m : MyTree). m.0.pin.pinned) c.count-many.ensures.still ∙ c.requires.pinned

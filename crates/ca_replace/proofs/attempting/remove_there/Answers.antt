@@ -128,15 +128,20 @@ returns-clause-won c = settled_won c.args.space.now.table.shared.key c.args.tuni
     c.remove_at-tried.ensures.renewed c.settle.ensures.settled c.remove_at-tried.ensures.won c.settle.ensures.won
 
 pub next_statistic-statistic-requires-clause-own : goal.next_statistic-statistic-requires-clause-own
-next_statistic-statistic-requires-clause-own c = (c.count-many.ensures.same.0 ∙ c.requires.own.0, ap (λ (m : MyTree). m.0.sizes) c.count-many.ensures.still
-    ∙ c.requires.own.1)
+next_statistic-statistic-requires-clause-own c = (
+  c.count-many.ensures.same.0 ∙ c.requires.own.0,
+  ap (λ (m : MyTree). m.0.sizes) c.count-many.ensures.still
+      ∙ c.requires.own.1,
+)
 
 pub next_statistic-statistic-requires-clause-pinned : goal.next_statistic-statistic-requires-clause-pinned
 next_statistic-statistic-requires-clause-pinned c = ap (λ (m : MyTree). m.0.pin.pinned) c.count-many.ensures.still ∙ c.requires.pinned
 
 pub remove_at-tried-requires-clause-own : goal.remove_at-tried-requires-clause-own
-remove_at-tried-requires-clause-own c = (c.next_statistic-statistic.ensures.same.0 ∙ (c.count-many.ensures.same.0 ∙ c.requires.own.0),
-    ap (λ (m : MyTree). m.0.sizes) (c.next_statistic-statistic.ensures.still ∙ c.count-many.ensures.still) ∙ c.requires.own.1)
+remove_at-tried-requires-clause-own c = (
+  c.next_statistic-statistic.ensures.same.0 ∙ (c.count-many.ensures.same.0 ∙ c.requires.own.0),
+  ap (λ (m : MyTree). m.0.sizes) (c.next_statistic-statistic.ensures.still ∙ c.count-many.ensures.still) ∙ c.requires.own.1,
+)
 
 pub remove_at-tried-requires-clause-pinned : goal.remove_at-tried-requires-clause-pinned
 remove_at-tried-requires-clause-pinned c = ap (λ (m : MyTree). m.0.pin.pinned) (c.next_statistic-statistic.ensures.still ∙ c.count-many.ensures.still)

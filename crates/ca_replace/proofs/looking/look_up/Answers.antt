@@ -57,9 +57,12 @@ enter-requires-2-clause-answer c = let z = c.args.space.now.table.shared.key in 
 pub copy_at-requires-clause-readable : goal.copy_at-requires-clause-readable
 copy_at-requires-clause-readable c = let z = c.args.space.now.table.shared.key in let note = first_note c.args.pass.now.seat.me.0.upper.notes in
     let r = c.requires.looking.readable in
-    let at = subst (λ (p : Result ℕ ℕ). IsPlace (map pair note.objects) c.args.key.now p) c.in-Ok.is (c.search.ensures.place note r) in
-    (note, subst (λ (m : MyTree). IsReadable z m.0.upper c.args.cursor.base note) (sym c.search.ensures.still) r, place_inside note c.args.key.now
-    c.in-Ok.place at)
+    let at = subst (λ (p : Result ℕ ℕ). IsPlace (map pair note.objects) c.args.key.now p) c.in-Ok.is (c.search.ensures.place note r) in (
+      note,
+      subst (λ (m : MyTree). IsReadable z m.0.upper c.args.cursor.base note) (sym c.search.ensures.still) r,
+      place_inside note c.args.key.now
+          c.in-Ok.place at,
+    )
 
 pub returns-in_default-clause-entered : goal.returns-in_default-clause-entered
 returns-in_default-clause-entered c = c.enter.ensures.entered

@@ -135,15 +135,21 @@ pub returns-in_default-clause-won : goal.returns-in_default-clause-won
 returns-in_default-clause-won c alone = ap (λ (m : MyTree). m.0.upper.lost) c.enter.ensures.entered ∙ c.fetch-place.ensures.quiet.idle.1
 
 pub returns-in-Ok-remove_there-clause-same : goal.returns-in-Ok-remove_there-clause-same
-returns-in-Ok-remove_there-clause-same c = (c.remove_there.ensures.same.0 ∙ c.fetch-place.ensures.same.0, c.remove_there.ensures.same.1
-    ∙ c.fetch-place.ensures.same.1)
+returns-in-Ok-remove_there-clause-same c = (
+  c.remove_there.ensures.same.0 ∙ c.fetch-place.ensures.same.0,
+  c.remove_there.ensures.same.1
+      ∙ c.fetch-place.ensures.same.1,
+)
 
 pub returns-in-Ok-remove_there-clause-number : goal.returns-in-Ok-remove_there-clause-number
 returns-in-Ok-remove_there-clause-number c = c.remove_there.ensures.number ∙ c.fetch-place.ensures.number
 
 pub returns-in-Ok-remove_there-clause-pin : goal.returns-in-Ok-remove_there-clause-pin
-returns-in-Ok-remove_there-clause-pin c = (c.remove_there.ensures.pin.0 ∙ c.fetch-place.ensures.still.0, c.remove_there.ensures.pin.1
-    ∙ c.fetch-place.ensures.still.1)
+returns-in-Ok-remove_there-clause-pin c = (
+  c.remove_there.ensures.pin.0 ∙ c.fetch-place.ensures.still.0,
+  c.remove_there.ensures.pin.1
+      ∙ c.fetch-place.ensures.still.1,
+)
 
 pub returns-in-Ok-remove_there-clause-none : goal.returns-in-Ok-remove_there-clause-none
 returns-in-Ok-remove_there-clause-none c = c.remove_there.ensures.none

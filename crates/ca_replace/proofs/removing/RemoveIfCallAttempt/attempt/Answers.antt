@@ -172,8 +172,11 @@ pub returns-in_default-clause-won : goal.returns-in_default-clause-won
 returns-in_default-clause-won g c alone = ap (λ (m : MyTree). m.0.upper.lost) c.enter.ensures.entered ∙ c.fetch-place.ensures.quiet.idle.1
 
 pub returns-then-not-f-clause-same : goal.returns-then-not-f-clause-same
-returns-then-not-f-clause-same g c = (c.enter-then-not-f.ensures.same.0 ∙ c.fetch-place.ensures.same.0, c.enter-then-not-f.ensures.same.1
-    ∙ c.fetch-place.ensures.same.1)
+returns-then-not-f-clause-same g c = (
+  c.enter-then-not-f.ensures.same.0 ∙ c.fetch-place.ensures.same.0,
+  c.enter-then-not-f.ensures.same.1
+      ∙ c.fetch-place.ensures.same.1,
+)
 
 pub returns-then-not-f-clause-number : goal.returns-then-not-f-clause-number
 returns-then-not-f-clause-number g c = c.enter-then-not-f.ensures.number ∙ c.fetch-place.ensures.number
@@ -211,15 +214,21 @@ pub returns-then-not-f-clause-won : goal.returns-then-not-f-clause-won
 returns-then-not-f-clause-won g c alone = ap (λ (m : MyTree). m.0.upper.lost) c.enter-then-not-f.ensures.entered ∙ c.fetch-place.ensures.quiet.idle.1
 
 pub returns-in-Ok-remove_there-clause-same : goal.returns-in-Ok-remove_there-clause-same
-returns-in-Ok-remove_there-clause-same g c = (c.remove_there.ensures.same.0 ∙ c.fetch-place.ensures.same.0, c.remove_there.ensures.same.1
-    ∙ c.fetch-place.ensures.same.1)
+returns-in-Ok-remove_there-clause-same g c = (
+  c.remove_there.ensures.same.0 ∙ c.fetch-place.ensures.same.0,
+  c.remove_there.ensures.same.1
+      ∙ c.fetch-place.ensures.same.1,
+)
 
 pub returns-in-Ok-remove_there-clause-number : goal.returns-in-Ok-remove_there-clause-number
 returns-in-Ok-remove_there-clause-number g c = c.remove_there.ensures.number ∙ c.fetch-place.ensures.number
 
 pub returns-in-Ok-remove_there-clause-pin : goal.returns-in-Ok-remove_there-clause-pin
-returns-in-Ok-remove_there-clause-pin g c = (c.remove_there.ensures.pin.0 ∙ c.fetch-place.ensures.still.0, c.remove_there.ensures.pin.1
-    ∙ c.fetch-place.ensures.still.1)
+returns-in-Ok-remove_there-clause-pin g c = (
+  c.remove_there.ensures.pin.0 ∙ c.fetch-place.ensures.still.0,
+  c.remove_there.ensures.pin.1
+      ∙ c.fetch-place.ensures.still.1,
+)
 
 pub returns-in-Ok-remove_there-clause-none : goal.returns-in-Ok-remove_there-clause-none
 returns-in-Ok-remove_there-clause-none g c = c.remove_there.ensures.none
