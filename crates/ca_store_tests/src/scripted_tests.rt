@@ -5,11 +5,23 @@ use std::alloc::Global;
 use std::process::Abort;
 use std::test::Fail;
 
+// The commands come to this under the script.
+fn assert_answers<R: Abort>(
+    rt: &R,
+    alloc: Global,
+    script: &str,
+    commands: &str,
+    wanted: &str,
+) -> Result<(), Fail> {
+    let found = answers(alloc, script, commands)?;
+    assert_eq!(rt; found.as_slice(), wanted.as_bytes(), "{script}: {commands}");
+    Ok(())
+}
+
 // Rows come to what they say.
 fn assert_rows<R: Abort>(rt: &R, alloc: Global, rows: &[Row]) -> Result<(), Fail> {
     for (script, commands, wanted) in rows {
-        let found = answers(alloc, script, commands)?;
-        assert_eq!(rt; found.as_slice(), wanted.as_bytes(), "{script}: {commands}");
+        assert_answers(rt, alloc, script, commands, wanted)?;
     }
     Ok(())
 }
@@ -46,9 +58,11 @@ fn assert_refused<R: Abort>(rt: &R, alloc: Global, word: &str) -> Result<(), Fai
         let quiet = if when == "late" { "|| / " } else { "" };
         let script = format!(in alloc; "{quiet}insert {{3,30}}; delete 2|{word}|insert {{3,31}}")?;
         let goes_on = when == "read" || (when != "new" && word == "deep");
-        let wanted = if goes_on { done } else { refused.as_str() };
-        let found = answers(alloc, script.as_str(), command)?;
-        assert_eq!(rt; found.as_slice(), wanted.as_bytes(), "{word}: {command}");
+        if goes_on {
+            assert_answers(rt, alloc, script.as_str(), command, done)?;
+        } else {
+            assert_answers(rt, alloc, script.as_str(), command, refused.as_str())?;
+        }
     }
     Ok(())
 }

@@ -2,4 +2,4 @@ use Rattle.ca_ets.specs.Command.{IsContinuation, continuation_of}
 use Rattle.ca_store_tests.proofs.player.play_on.Given as goal
 
 abbrev pub invariant-loop-line : goal.invariant-loop-line
-invariant-loop-line l = record { continuation : IsContinuation (continuation_of l.cont) }
+invariant-loop-line g l = record { continuation : IsContinuation (continuation_of l.cont) }
