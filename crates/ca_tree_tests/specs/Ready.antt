@@ -1,5 +1,5 @@
 -- Passes between two steps on rows.
-use Rattle.std.specs.Prelude.{◌≡◌, ℕ, Bool, false, true}
+use Rattle.std.specs.Prelude.{◌≡◌, ℕ, Bool}
 use Rattle.atomic_table.specs.declared.shared.Seat.{Seat}
 use Rattle.atomic_table.specs.Seated.{TableId}
 use Rattle.ca_node.specs.TreeView.{TreeView}

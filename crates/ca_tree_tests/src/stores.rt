@@ -34,11 +34,14 @@ fn alone(alloc: Global, rows: u32, few: Few, starts: Starts, script: &[Row]) -> 
 
 // The first rows of two scripts whose calls come to something else. During the first one another pass is pinned.
 fn beside(alloc: Global, script: &[Row], then: &[Row]) -> Option<(Option<usize>, Option<usize>)> {
-    let mut tree = tree_of(alloc, 384, 2, tuning_of(CALM), ZERO).ok()?;
-    let one = tree.enroll(alloc).ok()?;
-    let mut two = tree.enroll(alloc).ok()?;
-    tree.space().pin(&mut two);
+    let Ok(mut tree) = tree_of(alloc, 384, 2, tuning_of(CALM), ZERO) else {
+        return None;
+    };
+    let (Ok(one), Ok(mut two)) = (tree.enroll(alloc), tree.enroll(alloc)) else {
+        return None;
+    };
     let mut store = TreeStore::new(&tree, one);
+    tree.space().pin(&mut two);
     let wrong = wrong_row(&mut store, script);
     tree.space().unpin(&mut two);
     Some((wrong, wrong_row(&mut store, then)))
