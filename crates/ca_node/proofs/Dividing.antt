@@ -11,6 +11,7 @@ use Rattle.atomic_table.proofs.Lists.{at_set, at_map}
 use Rattle.ca_model.specs.History.{after}
 use Rattle.ca_model.specs.StoreMap.{StoreMap, IsStoreMap}
 use Rattle.ca_model.proofs.Edits.{map_after}
+use Rattle.ca_rows.specs.Calls.{Relinks}
 use Rattle.ca_rows.specs.declared.sizes.Sizes.{Sizes}
 use Rattle.ca_rows.specs.declared.view.Claim.{Claim}
 use Rattle.ca_rows.specs.declared.view.Claim.TheVariants.{Holds}
@@ -27,13 +28,13 @@ use Rattle.ca_node.specs.Place.{Place, left_place, right_place}
 use Rattle.ca_node.specs.Reached.{same_place, base_at, link_range, reached, placed_linked, item_linked, item_out, nothing_lent}
 use Rattle.ca_node.specs.Row.{row_at, IsBaseRow, IsRouteRow, items, count, level, mark, key, route_key}
 use Rattle.ca_node.specs.Shape.{Role, Out, Base, Route, place_of, IsBaseAt, IsShape}
-use Rattle.ca_node.specs.Told.{MyTree, Division, IsHalf, IsDivision, given, taken_out, divided_inventory, divided, one_more_lost, IsDivided, IsMissed, Divides, HasDivided}
+use Rattle.ca_node.specs.Told.{MyTree, Division, IsHalf, IsDivision, given, taken_out, divided_inventory, divided, one_more_lost, IsDivided, IsMissed, Divides, HasDivided, MaySwap}
 use Rattle.ca_node.specs.Tree.{IsTrue, IsTrueWay, Knows, IsTree}
 use Rattle.ca_node.specs.TreeView.{Note, Way, TreeView}
 use Rattle.ca_node.proofs.Divided.{IsNewRoute, AreDivided, with_route, with_route_route, with_route_left, with_route_right, with_route_old, with_route_else, shape_divided}
 use Rattle.ca_node.proofs.Holding.{held_row, unclaimed_row}
 use Rattle.ca_node.proofs.Listing.{in_either, in_front, in_back, Relists, listed_again, known_by_one}
-use Rattle.ca_node.proofs.Looking.{R, recounted, hangs_still, of_map, knows_upper, in_more}
+use Rattle.ca_node.proofs.Looking.{R, loses, hangs_still, of_map, knows_upper, in_more}
 use Rattle.ca_node.proofs.Members.{has, given_here, given_else, taken_here, taken_else}
 use Rattle.ca_node.proofs.Rebased.{IsNewBase, relinked_wide, relinked_else, relinked_keeps, relinked_row, base_no_route, out_no_route}
 use Rattle.ca_node.proofs.Remembering.{remembered_leads, unlinked_out, note_stays, way_stays, notes_stay}
@@ -581,36 +582,37 @@ module _ (z : Sizes) where
   -- The exchange of a link that carries out a split.
   pub divides : (slots id : ℕ) (me : MyTree) (x : Division) → IsDivision z me x
       → Allows (R z) slots id me x.old.place.link (λ n. either (eqb n x.old.row) x.route n)
-      (Divides x (step slots x.old.place.link x.old.row x.route none) me)
+      (Relinks MaySwap (Divides x) (step slots x.old.place.link x.old.row x.route none) me)
   divides slots id me x u s r _ at _ = let n : ℕ = get_or s.words x.old.place.link 0 in let d = me.0 in dite (ℕ_discrete n x.old.row)
       (λ (hit : n ≡ x.old.row). let d' : View TreeView = record d {
         claims = taken_out (x.old.row ∷ []) (given (x.route ∷ x.left ∷ x.right ∷ []) d.claims);
         upper = divided x d.upper;
-      } in (
+      } in let won : Divides x (step slots x.old.place.link x.old.row x.route none) me n (d', me.1) = ((λ _. divided_now z s r id me at x u hit), λ miss. absurd (miss hit)) in (
         d',
         keeps,
         tt,
         subst (λ (y : ℕ). R z (stepped s x.old.place.link y id me.1 d' keeps)) (sym (ap (λ b. either b x.route n) (eq-eqb n x.old.row hit)))
             (division_step z s r id me at x u hit),
-        ((λ _. divided_now z s r id me at x u hit), λ miss. absurd (miss hit)),
+        (refl, (λ miss. absurd (miss hit)), inr (x, (u.shown, refl, refl), won), won),
       ))
-      (λ miss. let lost : View TreeView = record d { upper = one_more_lost d.upper } in (
+      (λ miss. let lost : View TreeView = record d { upper = one_more_lost d.upper } in
+      let missed : Divides x (step slots x.old.place.link x.old.row x.route none) me n (lost, me.1) = ((λ hit. absurd (miss hit)), λ _. (refl, hangs_still z s r id me x.old at miss)) in (
         lost,
         keeps,
         tt,
         subst (λ (y : ℕ). R z (stepped s x.old.place.link y id me.1 lost keeps)) (sym (ap (λ b. either b x.route n) (ne_eqb n x.old.row miss)))
-            (recounted z s r x.old.place.link id d d.upper.counts (d.upper.lost + 1) at),
-        ((λ hit. absurd (miss hit)), λ _. (refl, hangs_still z s r id me x.old at miss)),
+            (loses z s r x.old.place.link id d at),
+        (refl, (λ _. refl), inr (x, (u.shown, refl, refl), missed), missed),
       ))
 
   -- The same, where the old row, the route and the link have other names.
   pub divides_from : (slots id : ℕ) (me : MyTree) (link old route : ℕ) (x : Division) → IsDivision z me x → x.old.row ≡ old → x.route ≡ route
       → x.old.place.link ≡ link
-      → Allows (R z) slots id me link (λ n. either (eqb n old) route n) (Divides x (step slots link old route none) me)
+      → Allows (R z) slots id me link (λ n. either (eqb n old) route n) (Relinks MaySwap (Divides x) (step slots link old route none) me)
   divides_from slots id me link old route x u same top here = subst (λ (i : ℕ). Allows (R z) slots id me i (λ n. either (eqb n old) route n)
-      (Divides x (step slots i old route none) me)) here (subst (λ (o : ℕ). Allows (R z) slots id me x.old.place.link (λ n. either (eqb n o) route n)
-      (Divides x (step slots x.old.place.link o route none) me)) same (subst (λ (t : ℕ). Allows (R z) slots id me x.old.place.link
-      (λ n. either (eqb n x.old.row) t n) (Divides x (step slots x.old.place.link x.old.row t none) me)) top (divides slots id me x u)))
+      (Relinks MaySwap (Divides x) (step slots i old route none) me)) here (subst (λ (o : ℕ). Allows (R z) slots id me x.old.place.link (λ n. either (eqb n o) route n)
+      (Relinks MaySwap (Divides x) (step slots x.old.place.link o route none) me)) same (subst (λ (t : ℕ). Allows (R z) slots id me x.old.place.link
+      (λ n. either (eqb n x.old.row) t n) (Relinks MaySwap (Divides x) (step slots x.old.place.link x.old.row t none) me)) top (divides slots id me x u)))
 
 -- The two ways that the exchange goes.
 pub has_divided : (n link old route : ℕ) (x : Division) (m m' : MyTree) (slots : ℕ) → Divides x (step slots link old route none) m n m'

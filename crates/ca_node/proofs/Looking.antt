@@ -12,6 +12,7 @@ use Rattle.ca_model.specs.Lawful.{IsLawful}
 use Rattle.ca_model.specs.StoreMap.{StoreMap}
 use Rattle.ca_rows.specs.declared.sizes.Sizes.{Sizes}
 use Rattle.ca_rows.specs.declared.view.View.{View}
+use Rattle.ca_rows.specs.Calls.{Raises}
 use Rattle.ca_rows.specs.Rule.{upper_of, Ruled}
 use Rattle.ca_rows.proofs.Relinking.{Stays, relinks}
 use Rattle.ca_node.specs.Inventory.{IsListed}
@@ -22,7 +23,7 @@ use Rattle.ca_node.specs.Reached.{by_place, base_at, route_at, placed_linked, it
 use Rattle.ca_node.specs.Row.{row_at, IsObjectRow, IsBaseRow, IsRouteRow, items, route_key, pair}
 use Rattle.ca_node.specs.Shape.{Base, Route, place_of, LeadsTo, IsBaseAt, IsRouteAt}
 use Rattle.ca_node.specs.Stays.{word_at, row_long}
-use Rattle.ca_node.specs.Told.{MyTree, with_upper, IsBaseNote, IsRouteNote, IsKnown, IsAlone, IsMissed, IsKnownLink, IsAnyLink, IsPlaceOf, led_to_base, led_to_route, IsLedToBase, IsLedToRoute, IsLed, Leads, IsShown, IsShownRoute, IsRead, Reads, IsReadNow, entered, ReadsLast, Refuses}
+use Rattle.ca_node.specs.Told.{MyTree, with_upper, IsBaseNote, IsRouteNote, IsKnown, IsAlone, IsMissed, IsKnownLink, IsAnyLink, IsPlaceOf, led_to_base, led_to_route, IsLedToBase, IsLedToRoute, IsLed, Leads, IsShown, IsShownRoute, IsRead, Reads, IsReadNow, entered, ReadsLast, Refuses, IsRise, one_more_lost, MayLoad}
 use Rattle.ca_node.specs.Tree.{StartsWith, ArePast, IsLinkOfView, IsFixed, IsTrue, IsTrueWay, Knows, IsTree}
 use Rattle.ca_node.specs.TreeView.{Note, Way, Inventory, TreeView}
 use Rattle.ca_node.proofs.Logs.{state_there, read_lawful, past_more}
@@ -131,6 +132,14 @@ counted_notes words u counts lost _ (by_item note row i b k) = by_item note row 
 counted_notes words u counts lost _ (by_way way row i e) = by_way way row i e
 counted_notes words u counts lost _ (by_link way row i e) = by_link way row i e
 counted_notes words u counts lost _ (by_link_item way base row i e f k) = by_link_item way base row i e f k
+
+-- A seat that remembers no base any more has no note more.
+pub lost_notes : (words : List ℕ) (u : TreeView) (row : ℕ) → IsNoted words (one_more_lost u) row → IsNoted words u row
+lost_notes words u _ (by_note note row i e) = absurd (some-ne-none note (sym i.1))
+lost_notes words u _ (by_item note row i b k) = absurd (some-ne-none note (sym i.1))
+lost_notes words u _ (by_way way row i e) = by_way way row i e
+lost_notes words u _ (by_link way row i e) = by_link way row i e
+lost_notes words u _ (by_link_item way base row i e f k) = by_link_item way base row i e f k
 
 -- An entry in the log gives no note.
 pub entered_notes : (words : List ℕ) (u : TreeView) (event : Event) (row : ℕ) → IsNoted words (entered u event) row → IsNoted words u row
@@ -443,35 +452,38 @@ module _ (z : Sizes) where
 
   -- The load of a link.
   pub leads : (slots id : ℕ) (me : MyTree) (link : ℕ) → me.0.pin.pinned ≡ true → IsAnyLink me.0.upper link
-      → Allows (R z) slots id me link (λ x. x) (Leads (step slots link 0 0 none) me)
-  leads slots id me link is_pinned any s r _ at _ = let x = link_loaded s r id me at is_pinned link any in (
-    record me.0 { upper = x.0.upper },
-    keeps,
-    tt,
-    x.1,
-    subst (λ (d' : View TreeView). IsLed link me (get_or s.words link 0) (d', me.1)) x.2 x.3,
-  )
+      → Allows (R z) slots id me link (λ x. x) (Raises MayLoad Leads (step slots link 0 0 none) me)
+  leads slots id me link is_pinned any s r _ at _ = let x = link_loaded s r id me at is_pinned link any in
+      let led = subst (λ (d' : View TreeView). IsLed link me (get_or s.words link 0) (d', me.1)) x.2 x.3 in (
+        record me.0 { upper = x.0.upper },
+        keeps,
+        tt,
+        x.1,
+        (refl, inl led, led),
+      )
 
   -- The load of a word of a row that was shown.
-  pub reads : (slots id : ℕ) (me : MyTree) (i : ℕ) → Allows (R z) slots id me i (λ x. x) (Reads (step slots i 0 0 none) me)
+  pub reads : (slots id : ℕ) (me : MyTree) (i : ℕ) → Allows (R z) slots id me i (λ x. x) (Raises MayLoad Reads (step slots i 0 0 none) me)
   reads slots id me i s r _ at _ = let f = r.above in let d = me.0 in let k = knows_upper z s r id d at in let us : List TreeView = map upper_of s.views in
-      let first = at_map upper_of s.views id d at in (
+      let first = at_map upper_of s.views id d at in
+      let read : Reads (step slots i 0 0 none) me (get_or s.words i 0) me = (refl, read_is z r.made s.words us f id d.upper k i) in (
         d,
         keeps,
         tt,
         looked z s r i id d d.upper at (λ row n. inl n) (subst (IsTree z r.made s.words) (sym (set_again us id d.upper first)) f),
-        (refl, read_is z r.made s.words us f id d.upper k i),
+        (refl, inr (inl read), read),
       )
 
   -- The same load, which ends a call that edits nothing.
   pub reads_last : (slots id : ℕ) (me : MyTree) (i : ℕ) (event : Event) → IsReadNow event me.0.upper
-      → Allows (R z) slots id me i (λ x. x) (ReadsLast event (step slots i 0 0 none) me)
+      → Allows (R z) slots id me i (λ x. x) (Raises MayLoad (ReadsLast event) (step slots i 0 0 none) me)
   reads_last slots id me i event now s r _ at _ = let f = r.above in let d = me.0 in let k = knows_upper z s r id d at in
       let us : List TreeView = map upper_of s.views in
       let first = at_map upper_of s.views id d at in let u' : TreeView = entered d.upper event in let p : ℕ = length d.upper.seen in
       let low = starts_shorter f.history d.upper.seen k.seen_first in
       let k' = relisted z.rows r.made s.words f.role us (set us id u') f.history id d.upper (numbered us id d.upper u' first (λ _. refl)) k in
-      let there : state f.history p ≡ after d.upper.seen [] = ap (λ h. state h p) k.seen_first.1 ∙ state_there d.upper.seen k.seen_first.0 in (
+      let there : state f.history p ≡ after d.upper.seen [] = ap (λ h. state h p) k.seen_first.1 ∙ state_there d.upper.seen k.seen_first.0 in
+      let read : ReadsLast event (step slots i 0 0 none) me (get_or s.words i 0) (with_upper me u') = (refl, read_is z r.made s.words us f id d.upper k i) in (
         record d { upper = u' },
         keeps,
         tt,
@@ -487,7 +499,7 @@ module _ (z : Sizes) where
               links = k'.links;
               ways = k'.ways;
             }),
-        (refl, read_is z r.made s.words us f id d.upper k i),
+        (refl, inr (inr (inl (event, read))), read),
       )
 
   -- A load after which the seat counts otherwise, and knows what it knew.
@@ -515,6 +527,30 @@ module _ (z : Sizes) where
         ways = k.ways;
       })
 
+  -- An exchange after which the seat counts one more that was lost, and remembers no base.
+  pub loses : (s : State (Unit {0}) (View TreeView)) (r : R z s) (i id : ℕ) (d : View TreeView) → get_elem? s.views id ≡ some d
+      → R z record {
+        words = set s.words i (get_or s.words i 0);
+        homes = s.homes;
+        views = set s.views id (record d { upper = one_more_lost d.upper });
+      }
+  loses s r i id d at = let f = r.above in let us : List TreeView = map upper_of s.views in
+      let first = at_map upper_of s.views id d at in let u' : TreeView = one_more_lost d.upper in
+      let k = relisted z.rows r.made s.words f.role us (set us id u') f.history id d.upper (numbered us id d.upper u' first (λ _. refl))
+      (knows_upper z s r id d at) in
+      looked z s r i id d u' at (λ row n. inl (lost_notes s.words d.upper row n))
+      (seat_changed z r.made s.words us id d.upper u' f first (λ _. refl) (λ _. refl) record {
+        made_before = k.made_before;
+        alone = k.alone;
+        seen_first = k.seen_first;
+        since_first = k.since_first;
+        lawful = k.lawful;
+        past = k.past;
+        notes = λ m i. absurd (some-ne-none m (sym i.1));
+        links = λ m i. absurd (some-ne-none m (sym i.1));
+        ways = k.ways;
+      })
+
   -- A base that a pass lists which is alone hangs under its link.
   pub hangs_still : (s : State (Unit {0}) (View TreeView)) (r : R z s) (id : ℕ) (me : MyTree) (note : Note) → get_elem? s.views id ≡ some me.0
       → get_or s.words note.place.link 0 ≢ note.row → IsMissed note me
@@ -526,12 +562,12 @@ module _ (z : Sizes) where
       miss (base_at z s.words f.role (after f.history []) f.shape note.row note.place (f.listed.bases note.row note.place listed)).under
 
   -- A load that ends a refused call.
-  pub refuses : (slots id : ℕ) (me : MyTree) (i : ℕ) (one_more : Counts → Counts)
-      → Allows (R z) slots id me i (λ x. x) (Refuses one_more (step slots i 0 0 none) me)
-  refuses slots id me i one_more s r _ at _ = let d = me.0 in (
+  pub refuses : (slots id : ℕ) (me : MyTree) (i : ℕ) (one_more : Counts → Counts) → IsRise one_more
+      → Allows (R z) slots id me i (λ x. x) (Raises MayLoad (Refuses one_more) (step slots i 0 0 none) me)
+  refuses slots id me i one_more rise s r _ at _ = let d = me.0 in (
     record d { upper = record d.upper { counts = one_more d.upper.counts } },
     keeps,
     tt,
     recounted s r i id d (one_more d.upper.counts) d.upper.lost at,
-    refl,
+    (refl, inr (inr (inr (one_more, rise, refl))), refl),
   )

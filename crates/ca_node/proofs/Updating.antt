@@ -13,6 +13,7 @@ use Rattle.ca_model.specs.History.{History, Edit, after, after_edit, IsEdit, Are
 use Rattle.ca_model.specs.Lawful.{IsLawful}
 use Rattle.ca_model.specs.StoreMap.{StoreMap, IsStoreMap}
 use Rattle.ca_model.proofs.Edits.{map_after}
+use Rattle.ca_rows.specs.Calls.{Relinks}
 use Rattle.ca_rows.specs.declared.sizes.Sizes.{Sizes}
 use Rattle.ca_rows.specs.declared.view.Claim.{Claim}
 use Rattle.ca_rows.specs.declared.view.Claim.TheVariants.{Holds}
@@ -30,13 +31,13 @@ use Rattle.ca_node.specs.Reached.{same_place, base_at, link_range, reached, plac
 use Rattle.ca_node.specs.Row.{row_at, form, IsObjectRow, IsBaseRow, items, count, level, mark, pair, objects_in}
 use Rattle.ca_node.specs.Shape.{Role, Out, Base, Route, place_of, IsBaseAt, IsShape}
 use Rattle.ca_node.specs.Stays.{map_same}
-use Rattle.ca_node.specs.Told.{MyTree, IsKnown, Update, IsUpdate, given, taken_out, updated_inventory, updated, one_more_lost, IsUpdated, IsMissed, Updates, HasUpdated}
+use Rattle.ca_node.specs.Told.{MyTree, IsKnown, Update, IsUpdate, given, taken_out, updated_inventory, updated, one_more_lost, IsUpdated, IsMissed, Updates, HasUpdated, MaySwap}
 use Rattle.ca_node.specs.Tree.{StartsWith, IsLinkOfView, IsTrue, IsTrueWay, Knows, IsTree}
 use Rattle.ca_node.specs.TreeView.{Note, Way, TreeView}
 use Rattle.ca_node.proofs.Holding.{held_row, unclaimed_row}
 use Rattle.ca_node.proofs.Listing.{Relists, listed_again, known_by_one}
 use Rattle.ca_node.proofs.Logs.{after_more, others_lawful, own_lawful, past_more}
-use Rattle.ca_node.proofs.Looking.{R, recounted, hangs_still, of_map, knows_upper, in_turn, fewer_passes, further, longer_past, starts_shorter, in_more}
+use Rattle.ca_node.proofs.Looking.{R, loses, hangs_still, of_map, knows_upper, in_turn, fewer_passes, further, longer_past, starts_shorter, in_more}
 use Rattle.ca_node.proofs.Members.{in_rest, has, given_here, given_else, taken_here, taken_else, other_has, map_is_list}
 use Rattle.ca_node.proofs.Named.{named_once}
 use Rattle.ca_node.proofs.Parts.{part_edited, part_left, answer_whole, about_edit}
@@ -590,32 +591,34 @@ module _ (z : Sizes) (s : State (Unit {0}) (View TreeView)) (r : R z s) (id : �
 module _ (z : Sizes) where
   -- The exchange of a link that carries out an update.
   pub updates : (slots id : ℕ) (me : MyTree) (new : ℕ) (x : Update) → IsUpdate z me new x
-      → Allows (R z) slots id me x.old.place.link (λ n. either (eqb n x.old.row) new n) (Updates x (step slots x.old.place.link x.old.row new none) me)
+      → Allows (R z) slots id me x.old.place.link (λ n. either (eqb n x.old.row) new n) (Relinks MaySwap (Updates x) (step slots x.old.place.link x.old.row new none) me)
   updates slots id me new x u s r _ at _ = let n : ℕ = get_or s.words x.old.place.link 0 in let d = me.0 in dite (ℕ_discrete n x.old.row)
       (λ (hit : n ≡ x.old.row). let w = (knows_upper z s r id d at).seen_first.0 in
-      let d' : View TreeView = record d { claims = taken_out (x.old.row ∷ x.goes) (given (new ∷ x.comes) d.claims); upper = updated d.upper w new x } in (
+      let d' : View TreeView = record d { claims = taken_out (x.old.row ∷ x.goes) (given (new ∷ x.comes) d.claims); upper = updated d.upper w new x } in
+      let won : Updates x (step slots x.old.place.link x.old.row new none) me n (d', me.1) = ((λ _. updated_now z s r id me at new x u hit), λ miss. absurd (miss hit)) in (
         d',
         keeps,
         tt,
         subst (λ (y : ℕ). R z (stepped s x.old.place.link y id me.1 d' keeps)) (sym (ap (λ b. either b new n) (eq-eqb n x.old.row hit)))
             (update_step z s r id me at new x u hit),
-        ((λ _. updated_now z s r id me at new x u hit), λ miss. absurd (miss hit)),
+        (refl, (λ miss. absurd (miss hit)), inl (x, (u.shown, refl, refl), won), won),
       ))
-      (λ miss. let lost : View TreeView = record d { upper = one_more_lost d.upper } in (
+      (λ miss. let lost : View TreeView = record d { upper = one_more_lost d.upper } in
+      let missed : Updates x (step slots x.old.place.link x.old.row new none) me n (lost, me.1) = ((λ hit. absurd (miss hit)), λ _. (refl, hangs_still z s r id me x.old at miss)) in (
         lost,
         keeps,
         tt,
         subst (λ (y : ℕ). R z (stepped s x.old.place.link y id me.1 lost keeps)) (sym (ap (λ b. either b new n) (ne_eqb n x.old.row miss)))
-            (recounted z s r x.old.place.link id d d.upper.counts (d.upper.lost + 1) at),
-        ((λ hit. absurd (miss hit)), λ _. (refl, hangs_still z s r id me x.old at miss)),
+            (loses z s r x.old.place.link id d at),
+        (refl, (λ _. refl), inl (x, (u.shown, refl, refl), missed), missed),
       ))
 
   -- The same, where the old row and the link have other names.
   pub updates_from : (slots id : ℕ) (me : MyTree) (link old new : ℕ) (x : Update) → IsUpdate z me new x → x.old.row ≡ old → x.old.place.link ≡ link
-      → Allows (R z) slots id me link (λ n. either (eqb n old) new n) (Updates x (step slots link old new none) me)
+      → Allows (R z) slots id me link (λ n. either (eqb n old) new n) (Relinks MaySwap (Updates x) (step slots link old new none) me)
   updates_from slots id me link old new x u same here = subst (λ (i : ℕ). Allows (R z) slots id me i (λ n. either (eqb n old) new n)
-      (Updates x (step slots i old new none) me)) here (subst (λ (o : ℕ). Allows (R z) slots id me x.old.place.link (λ n. either (eqb n o) new n)
-      (Updates x (step slots x.old.place.link o new none) me)) same (updates slots id me new x u))
+      (Relinks MaySwap (Updates x) (step slots i old new none) me)) here (subst (λ (o : ℕ). Allows (R z) slots id me x.old.place.link (λ n. either (eqb n o) new n)
+      (Relinks MaySwap (Updates x) (step slots x.old.place.link o new none) me)) same (updates slots id me new x u))
 
 -- The two ways that the exchange goes.
 pub has_updated : (n link old new : ℕ) (x : Update) (m m' : MyTree) (slots : ℕ) → Updates x (step slots link old new none) m n m'

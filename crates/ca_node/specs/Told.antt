@@ -5,7 +5,7 @@ use lib.ListN.{get_elem?}
 use Rattle.atomic_table.specs.Table.{Step}
 use Rattle.ca_model.specs.Event.{Event, Get, IsAnswer, effect}
 use Rattle.ca_model.specs.History.{Edit, Del, History, after, after_edit, IsEdit, AreEdits, AreByPasses}
-use Rattle.ca_model.specs.Known.{Counts}
+use Rattle.ca_model.specs.Known.{Counts, one_more_busy, one_more_full, one_more_deep, one_more_worn}
 use Rattle.ca_model.specs.Lawful.{IsLawful}
 use Rattle.ca_rows.specs.declared.sizes.Sizes.{Sizes}
 use Rattle.ca_rows.specs.declared.view.Claim.TheVariants.{Holds, Unlinked}
@@ -259,9 +259,9 @@ pub record IsUpdated (new : ℕ) (x : Update) (m m' : MyTree) : Type 0 where
   pub apart : ¬ IsIn x.old.row x.goes
   pub known : 0 < m.0.sizes.rows → IsKnown m.0.sizes (updated m.0.upper more new x)
 
--- what a seat knows that lost an exchange of a link
+-- what a seat knows that lost an exchange of a link: it remembers no base, so that it may try none before it is shown one again
 abbrev pub one_more_lost : TreeView → TreeView
-one_more_lost u = record u { lost = u.lost + 1 }
+one_more_lost u = record u { notes = []; lost = u.lost + 1 }
 
 -- A base that the seat lists can't be missed by a pass that is alone: no other one takes its place.
 abbrev pub IsMissed : Note → MyTree → Type 0
@@ -350,6 +350,10 @@ abbrev pub HasDivided : Bool → Division → MyTree → MyTree → Type 0
 HasDivided true x m m' = IsDivided x m m'
 HasDivided false x m m' = m' ≡ with_upper m (one_more_lost m.0.upper)
 
+-- One refusal more: of a call that was busy, or for want of a row or of a level, or as a counter can rise no more.
+abbrev pub IsRise : (Counts → Counts) → Type 0
+IsRise one_more = (one_more ≡ one_more_busy) ⊎ ((one_more ≡ one_more_full) ⊎ ((one_more ≡ one_more_deep) ⊎ (one_more ≡ one_more_worn)))
+
 -- A word was loaded as a call was refused, and the call is counted so.
 abbrev pub Refuses : (Counts → Counts) → Step (Unit {0}) → MyTree → ℕ → MyTree → Type 0
 Refuses one_more st m n m' = m' ≡ with_upper m (record m.0.upper { counts = one_more m.0.upper.counts })
@@ -369,3 +373,18 @@ learnt u v = record u { seen = longer u.seen v.seen }
 -- A front's half knows a history and nothing else.
 abbrev pub IsFront : MyTree → Type 0
 IsFront m = m ≡ (fresh no_sizes 0 (front_of m.0.upper), [])
+
+-- All that a load may tell of the tree: that of a link, that of a word that was shown, and the ends of calls, which edit nothing or are refused. No load
+-- counts a lost exchange, a split or an update.
+abbrev pub MayLoad : Step (Unit {0}) → MyTree → ℕ → MyTree → Type 0
+MayLoad st m n m' = Leads st m n m' ⊎ (Reads st m n m' ⊎ (((event : Event) × ReadsLast event st m n m')
+    ⊎ ((one_more : Counts → Counts) × IsRise one_more × Refuses one_more st m n m')))
+
+-- The exchange is about the base that the seat was shown last: it expects its row, at the link where it hung.
+abbrev pub IsShownLast : TreeView → Step (Unit {0}) → Note → Type 0
+IsShownLast u st note = ((rest : List Note) × (u.notes ≡ note ∷ rest)) × (st.first ≡ note.row) × (st.word ≡ note.place.link)
+
+-- All that an exchange may tell: an update or a split, or one exchange more that was lost.
+abbrev pub MaySwap : Step (Unit {0}) → MyTree → ℕ → MyTree → Type 0
+MaySwap st m n m' = ((x : Update) × IsShownLast m.0.upper st x.old × Updates x st m n m')
+    ⊎ ((x : Division) × IsShownLast m.0.upper st x.old × Divides x st m n m')

@@ -2,6 +2,7 @@
 ghost use Rattle.ca_node.specs.Laws.{tree_frames, tree_lends, tree_pinning, tree_making, tree_closing, tree_opening};
 ghost use Rattle.ca_node.specs.Links.{IsLinked, IsLent, IsNoted};
 ghost use Rattle.ca_node.specs.Opened.{opens_at};
+ghost use Rattle.ca_node.specs.Told.{MayLoad, MaySwap, learnt};
 ghost use Rattle.ca_node.specs.Tree.{IsTree};
 ghost use Rattle.ca_node.specs.TreeView.{blank, pinned, unpinned};
 
@@ -35,6 +36,12 @@ impl RowRule for TreeRule {
     ghost enters = { pinned };
 
     ghost leaves = { unpinned };
+
+    ghost loads = { MayLoad };
+
+    ghost swaps = { MaySwap };
+
+    ghost learns = { learnt };
 
     ghost both = { λ v w. v };
 

@@ -4,9 +4,9 @@ ghost use mathlib.Core.Option.{none};
 ghost use prog.Atomic.{either};
 ghost use Rattle.atomic_table.specs.Table.{step, Allows};
 ghost use Rattle.ca_node.specs.Links.{IsLinked, IsLent, IsNoted};
-ghost use Rattle.ca_node.specs.Told.{IsAnyLink, IsLed, IsShown, IsShownWord, link_word};
+ghost use Rattle.ca_node.specs.Told.{IsAnyLink, IsLed, IsShown, IsShownWord, MaySwap, link_word};
 ghost use Rattle.ca_node.specs.Tree.{IsTree};
-ghost use Rattle.ca_rows.specs.Calls.{IsOf, IsSame};
+ghost use Rattle.ca_rows.specs.Calls.{IsOf, IsSame, Relinks};
 ghost use Rattle.ca_rows.specs.Rule.{Ruled};
 
 use crate::link::Link;
@@ -66,7 +66,7 @@ pub fn replace_link<M: Play<(), View<Knowledge>>>(
     requires shown { (its : List ℕ) × IsShown pass.old.seat.me.0.upper old its }
     requires rule { Allows (Ruled IsLinked IsLent IsNoted IsTree space.now.table.shared.key) space.now.table.shared.table_id.slots pass.old.seat.id
         pass.old.seat.me (link_word link) (λ n. either (n == old) new n)
-        (M.then (step space.now.table.shared.table_id.slots (link_word link) old new none) pass.old.seat.me) }
+        (Relinks MaySwap M.then (step space.now.table.shared.table_id.slots (link_word link) old new none) pass.old.seat.me) }
     ensures same { IsSame pass.old.seat pass.new.seat }
     ensures number { pass.new.number ≡ pass.old.number }
     ensures tally { pass.new.tally ≡ pass.old.tally }

@@ -1,7 +1,7 @@
 //! Ends of calls that are refused.
 ghost use Rattle.std.specs.Prelude.{◌≡◌};
 ghost use Rattle.ca_model.specs.Known.{Counts, one_more_busy};
-ghost use Rattle.ca_node.specs.Told.{Refuses, with_upper};
+ghost use Rattle.ca_node.specs.Told.{IsRise, Refuses, with_upper};
 ghost use Rattle.ca_replace.specs.Refusals.{outcome_of, risen};
 ghost use Rattle.ca_rows.specs.Calls.{IsOf, IsSame};
 
@@ -44,10 +44,16 @@ impl Refusal {
 /// How a step changes the counts of refusals. It exists in proofs alone.
 pub(crate) trait Counting {
     ghost rise: { Counts → Counts };
+
+    ghost is_rise: { IsRise rise };
 }
 
 impl Counting for Brand {
+    ghost use Rattle.std.proofs.Common.{refl};
+
     ghost rise = { one_more_busy };
+
+    ghost is_rise = { inl refl };
 }
 
 /// A load that ends a refused call.

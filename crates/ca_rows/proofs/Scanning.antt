@@ -229,7 +229,7 @@ module _ {U : Type 0} (linked lent : List ℕ → ℕ → Type 0) (noted : List 
               views = set s.views id (record d { pin = record d.pin { scan = x + 1; upto = 0 } });
             }) hit
             (move_step s r id d at (is ∙ sym hit) (omega arith) (omega arith))),
-        ((λ _. refl), λ not. absurd (not hit)),
+        (sym is, (λ _. refl), λ not. absurd (not hit)),
       ))
       (λ miss. (
         w0,
@@ -238,5 +238,5 @@ module _ {U : Type 0} (linked lent : List ℕ → ℕ → Type 0) (noted : List 
         subst (λ (x : ℕ). R (stepped s 1 x id me.1 w0 keeps)) (sym (ap (λ b. either b (e + 1) (epoch s.words)) (ne_eqb (epoch s.words) e miss)))
             (loaded s r id d at 1 d.pin (d.lost + 1) (subst (ArePins r.made s.words) (sym (set_again (map pin_of s.views) id d.pin (here s r id d at))) r.pins)
             refl refl),
-        ((λ hit. absurd (miss hit)), λ _. refl),
+        (sym is, (λ hit. absurd (miss hit)), λ _. refl),
       ))

@@ -18,7 +18,7 @@ use Rattle.ca_rows.specs.Chain.{Owner, Free, Linked, Of, IsTop, IsStage}
 use Rattle.ca_rows.specs.Claims.{claim_of, claimed, dropped, held_count, claim_at}
 use Rattle.ca_rows.specs.Laws.{IsNoted, Agrees, Frames}
 use Rattle.ca_rows.specs.Rule.{upper_of, NotedAt}
-use Rattle.ca_rows.specs.Told.{Mine, with_stage, with_claims, with_most, Looked, Glanced, Peeked, Took, Recalled, Wrote, Gave}
+use Rattle.ca_rows.specs.Told.{Expects, Mine, with_stage, with_claims, with_most, Looked, Glanced, Peeked, Took, Recalled, Wrote, Gave}
 use Rattle.ca_rows.specs.Words.{IsWide, Spells, head_tag, head_row, next_of}
 use Rattle.ca_rows.proofs.Chains.{put, put_here, put_else, in_head, top_free, top_in_range, chain_stays, chain_takes, chain_gives, stage_stays}
 use Rattle.ca_rows.proofs.Claiming.{claim_mine, claim_others, claim_there, claimed_here, claimed_else, dropped_here, dropped_else}
@@ -343,7 +343,8 @@ module _ {U : Type 0} (linked lent : List ℕ → ℕ → Type 0) (noted : List 
       (Took (step slots 0 (t * 65536 + q) ((t + 1) * 65536 + x % 65536) none) me)
   takes slots id me t q x is lo small s r _ at _ = let head : ℕ = get_or s.words 0 0 in let old : ℕ = t * 65536 + q in
       let new : ℕ = (t + 1) * 65536 + x % 65536 in let d = me.0 in
-      let w0 : View U = record d { stage = Idle; lost = d.lost + 1 } in dite (ℕ_discrete head old)
+      let w0 : View U = record d { stage = Idle; lost = d.lost + 1 } in
+      let expected : Expects d.stage old = subst (λ (y : Stage). Expects y old) (sym is) refl in dite (ℕ_discrete head old)
       (λ hit.
       let tag : head_tag s.words ≡ t = ap (λ n. n / 65536) hit ∙ (in_head t q small).0 in
       let row : head_row s.words ≡ q = ap (λ n. n % 65536) hit ∙ (in_head t q small).1 in
@@ -354,17 +355,20 @@ module _ {U : Type 0} (linked lent : List ℕ → ℕ → Type 0) (noted : List 
         tt,
         subst (λ (n : ℕ). R (stepped s 0 n id me.1 (taken s r id d at t q x top.0 hit small lo top.2 top.1 top.3 knew.1) keeps))
             (sym (at_hit head old new hit)) (take_step s r id d at t q x top.0 hit small lo top.2 top.1 top.3 knew.1),
-        λ t' q' x' is'. let same : q ≡ q' = ap (λ (y : ℕ × ℕ × ℕ). y.1) (ap seen_in (sym is ∙ is')) in (
-          (λ _. (
-            ap (claim_of d.claims) (sym same)
-                ∙ (sym (claim_there s.views id d d at q) ∙ (free_row s r id d at q top.0 lo top.2 top.3).1 id),
-            (
-              row_of s.words q,
-              row_of_long s.words z.rows q r.wide top.2,
-              ap (λ y. with_most (with_claims me (claimed y (Holds (row_of s.words q)) d.claims))) same,
-            ),
-          )),
-          λ not. absurd (not hit),
+        (
+          expected,
+          λ t' q' x' is'. let same : q ≡ q' = ap (λ (y : ℕ × ℕ × ℕ). y.1) (ap seen_in (sym is ∙ is')) in (
+            (λ _. (
+              ap (claim_of d.claims) (sym same)
+                  ∙ (sym (claim_there s.views id d d at q) ∙ (free_row s r id d at q top.0 lo top.2 top.3).1 id),
+              (
+                row_of s.words q,
+                row_of_long s.words z.rows q r.wide top.2,
+                ap (λ y. with_most (with_claims me (claimed y (Holds (row_of s.words q)) d.claims))) same,
+              ),
+            )),
+            λ not. absurd (not hit),
+          ),
         ),
       ))
       (λ miss. (
@@ -372,7 +376,7 @@ module _ {U : Type 0} (linked lent : List ℕ → ℕ → Type 0) (noted : List 
         keeps,
         tt,
         subst (λ (n : ℕ). R (stepped s 0 n id me.1 w0 keeps)) (sym (at_miss head old new miss)) (misses s r id d at),
-        λ t' q' x' is'. ((λ hit. absurd (miss hit)), λ _. refl),
+        (expected, λ t' q' x' is'. ((λ hit. absurd (miss hit)), λ _. refl)),
       ))
 
   pub recalls : (slots id : ℕ) (me : Mine U) (i : ℕ) → Allows R slots id me i (λ n. n) (Recalled (step slots i 0 0 none) me)
@@ -398,23 +402,24 @@ module _ {U : Type 0} (linked lent : List ℕ → ℕ → Type 0) (noted : List 
         ap (λ (y : ℕ × ℕ × List ℕ). (record me.0 { claims = claimed y.0 (Holds (set y.2 y.1 v)) me.0.claims }, me.1)) (λ j. (same.0 j, same.1 j, its_same j)),
   )
 
-  pub gives : (slots id : ℕ) (me : Mine U) (t h q : ℕ) (its : List ℕ) → h < 65536 → q < 65536 → claim_of me.0.claims q ≡ some (Holds its) → get_or its 0 0 ≡ h
+  pub gives : (slots id : ℕ) (me : Mine U) (t h q : ℕ) (its : List ℕ) → me.0.stage ≡ Saw t h → h < 65536 → q < 65536 → claim_of me.0.claims q ≡ some (Holds its) → get_or its 0 0 ≡ h
       → Allows R slots id me 0 (λ n. either (eqb n (t * 65536 + h)) (t * 65536 + q) n) (Gave (step slots 0 (t * 65536 + h) (t * 65536 + q) none) me)
-  gives slots id me t h q its small small_q held next s r _ at _ = let head : ℕ = get_or s.words 0 0 in let old : ℕ = t * 65536 + h in
+  gives slots id me t h q its is small small_q held next s r _ at _ = let head : ℕ = get_or s.words 0 0 in let old : ℕ = t * 65536 + h in
       let new : ℕ = t * 65536 + q in let d = me.0 in
-      let w0 : View U = record d { stage = Idle; lost = d.lost + 1 } in dite (ℕ_discrete head old)
+      let w0 : View U = record d { stage = Idle; lost = d.lost + 1 } in
+      let expected : Expects d.stage old = subst (λ (y : Stage). Expects y old) (sym is) refl in dite (ℕ_discrete head old)
       (λ hit. (
         given s r id d at t h q its hit small held next,
         keeps,
         tt,
         subst (λ (n : ℕ). R (stepped s 0 n id me.1 (given s r id d at t h q its hit small held next) keeps)) (sym (at_hit head old new hit))
             (give_step s r id d at t h q its hit small held next),
-        ((λ _. ap (λ y. with_claims me (dropped y d.claims)) (sym (in_head t q small_q).1)), λ not. absurd (not hit)),
+        (expected, (λ _. ap (λ y. with_claims me (dropped y d.claims)) (sym (in_head t q small_q).1)), λ not. absurd (not hit)),
       ))
       (λ miss. (
         w0,
         keeps,
         tt,
         subst (λ (n : ℕ). R (stepped s 0 n id me.1 w0 keeps)) (sym (at_miss head old new miss)) (misses s r id d at),
-        ((λ hit. absurd (miss hit)), λ _. refl),
+        (expected, (λ hit. absurd (miss hit)), λ _. refl),
       ))

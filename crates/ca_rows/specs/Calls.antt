@@ -1,6 +1,7 @@
 -- What the calls of a space come to.
-use Rattle.std.specs.Prelude.{◌≡◌, ℕ, ◌<◌, ◌≤◌, Bool, true, false, List, length}
+use Rattle.std.specs.Prelude.{◌≡◌, ◌≢◌, ℕ, ◌<◌, ◌≤◌, Bool, true, false, List, length}
 use mathlib.Core.Option.{none}
+use Rattle.atomic_table.specs.Table.{Step}
 use Rattle.atomic_table.specs.declared.shared.Seat.{Seat}
 use Rattle.atomic_table.specs.Seated.{TableId}
 use Rattle.ca_rows.specs.declared.sizes.Sizes.{Sizes}
@@ -23,6 +24,23 @@ module _ {U : Type 0} where
   -- The seat is the same one, and only what it knows of the pool and what it holds changed.
   abbrev pub IsStill : Seat (Unit {0}) (View U) → Seat (Unit {0}) (View U) → Type 0
   IsStill p q = (q.table_id ≡ p.table_id) × (q.id ≡ p.id) × (q.me.0.sizes ≡ p.me.0.sizes) × (q.me.0.pin ≡ p.me.0.pin) × (q.me.0.upper ≡ p.me.0.upper)
+
+  -- Only the upper part changed: what the seat knows of the rows, what it counts of them, and which rows are its, are as they were.
+  abbrev pub IsRaised : Mine U → Mine U → Type 0
+  IsRaised m m' = m' ≡ (record m.0 { upper = m'.0.upper }, m.1)
+
+  -- Only the upper part and the claims changed.
+  abbrev pub IsAbove : Mine U → Mine U → Type 0
+  IsAbove m m' = m' ≡ (record m.0 { claims = m'.0.claims; upper = m'.0.upper }, m.1)
+
+  -- What a load by the structure above tells, and what an exchange by it tells: it is among what the rule above allows, and claims change only
+  -- where an exchange won.
+  module _ (may then : Step (Unit {0}) → Mine U → ℕ → Mine U → Type 0) where
+    abbrev pub Raises : Step (Unit {0}) → Mine U → ℕ → Mine U → Type 0
+    Raises st m n m' = IsRaised m m' × may st m n m' × then st m n m'
+
+    abbrev pub Relinks : Step (Unit {0}) → Mine U → ℕ → Mine U → Type 0
+    Relinks st m n m' = IsAbove m m' × (n ≢ st.first → IsRaised m m') × may st m n m' × then st m n m'
 
   -- `Empty` where the head was empty as it was loaded, `Worn` where it wasn't and its tag was at the last value, `Lost` where the exchange lost:
   -- each is counted, once and nowhere else.

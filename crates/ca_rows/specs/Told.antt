@@ -13,6 +13,12 @@ use Rattle.ca_rows.specs.Claims.{claim_of, claimed, dropped, held_count}
 abbrev pub Mine : Type 0 → Type 0
 Mine U = Me (Unit {0}) (View U)
 
+-- An exchange that expects this value expects the head as the seat saw it last, and the seat has tried none since.
+abbrev pub Expects : Stage → ℕ → Type 0
+Expects Idle old = ⊥
+Expects (Saw t r) old = old ≡ t * 65536 + r
+Expects (Knew t r x) old = old ≡ t * 65536 + r
+
 module _ {U : Type 0} where
   abbrev pub with_stage : Mine U → Stage → Mine U
   with_stage m st = (record m.0 { stage = st }, m.1)
@@ -51,12 +57,12 @@ module _ {U : Type 0} where
   abbrev pub Peeked : Step (Unit {0}) → Mine U → ℕ → Mine U → Type 0
   Peeked st m n m' = (t q : ℕ) → m.0.stage ≡ Saw t q → m' ≡ with_stage m (Knew t q n)
 
-  -- The row was taken, or the exchange lost.
+  -- The row was taken, or the exchange lost. It expected the head that was seen last.
   abbrev pub Took : Step (Unit {0}) → Mine U → ℕ → Mine U → Type 0
-  Took st m n m' = (t q x : ℕ) → m.0.stage ≡ Knew t q x →
+  Took st m n m' = Expects m.0.stage st.first × ((t q x : ℕ) → m.0.stage ≡ Knew t q x →
       (n ≡ st.first → (claim_of m.0.claims q ≡ none) × ((its : List ℕ) × (length its ≡ 136)
       × (m' ≡ with_most (with_claims m (claimed q (Holds its) m.0.claims)))))
-      × (n ≢ st.first → m' ≡ missed m)
+      × (n ≢ st.first → m' ≡ missed m))
 
   -- A word of a held row was loaded: it is the one that the seat knows.
   abbrev pub Recalled : Step (Unit {0}) → Mine U → ℕ → Mine U → Type 0
@@ -68,9 +74,9 @@ module _ {U : Type 0} where
   Wrote st m n m' = (q k : ℕ) (its : List ℕ) → st.word ≡ 136 * q + k → k < 136 → claim_of m.0.claims q ≡ some (Holds its)
       → m' ≡ (record m.0 { claims = claimed q (Holds (slice_set its k n)) m.0.claims }, m.1)
 
-  -- A held row was put back, or the exchange lost.
+  -- A held row was put back, or the exchange lost. It expected the head that was seen last.
   abbrev pub Gave : Step (Unit {0}) → Mine U → ℕ → Mine U → Type 0
-  Gave st m n m' = (n ≡ st.first → m' ≡ with_claims m (dropped (st.second % 65536) m.0.claims)) × (n ≢ st.first → m' ≡ missed m)
+  Gave st m n m' = Expects m.0.stage st.first × (n ≡ st.first → m' ≡ with_claims m (dropped (st.second % 65536) m.0.claims)) × (n ≢ st.first → m' ≡ missed m)
 
 module _ {U : Type 0} where
   abbrev pub with_pin : Mine U → Pin → Mine U
@@ -105,9 +111,9 @@ module _ {U : Type 0} where
       × (0 < n → n ≤ m.0.pin.scan → (m.0.pin.pinned ≡ false → m.0.pin.upto + 1 ≢ m.0.pin.number)
       × (m' ≡ with_pin m (record m.0.pin { lag = m.0.pin.upto + 1 })))
 
-  -- The epoch moved by one, or the exchange lost.
+  -- The epoch moved by one, or the exchange lost. It expected the epoch that the last look at the others began with.
   abbrev pub Moved : Step (Unit {0}) → Mine U → ℕ → Mine U → Type 0
-  Moved st m n m' = (n ≡ st.first → m' ≡ with_pin m (record m.0.pin { scan = st.second; upto = 0 }))
+  Moved st m n m' = (st.first ≡ m.0.pin.scan) × (n ≡ st.first → m' ≡ with_pin m (record m.0.pin { scan = st.second; upto = 0 }))
       × (n ≢ st.first → m' ≡ (record m.0 { lost = m.0.lost + 1 }, m.1))
 
   -- The pass holds a row that it kept.

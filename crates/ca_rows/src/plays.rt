@@ -1,5 +1,6 @@
 //! What each step of the rows tells.
 ghost use Rattle.std.specs.Prelude.{ℕ, ◌+◌};
+ghost use Rattle.ca_rows.specs.Calls.{Raises, Relinks};
 ghost use Rattle.ca_rows.specs.Closed.{joined};
 ghost use Rattle.ca_rows.specs.Rule.{fresh, no_sizes};
 ghost use Rattle.ca_rows.specs.Told.{Looked, Glanced, Peeked, Took, Recalled, Wrote, Gave, Asked, Announced, Left, Retired, Regained, Began, Scanned, Moved};
@@ -151,4 +152,24 @@ impl<R: RowRule> Join<View<R::Upper>> for Close<R> {
     ghost both = { joined R.both };
 
     ghost spent = { fresh no_sizes 0 R.spent };
+}
+
+/// A load by the structure above, which tells what `M` says, and changes nothing that a seat knows of the rows.
+pub struct Raise<R, M> {
+    rule: PhantomData<R>,
+    play: PhantomData<M>,
+}
+
+impl<R: RowRule, M: Play<(), View<R::Upper>>> Play<(), View<R::Upper>> for Raise<R, M> {
+    ghost then = { λ st m n m'. Raises R.loads M.then st m n m' };
+}
+
+/// An exchange by the structure above.
+pub struct Relink<R, M> {
+    rule: PhantomData<R>,
+    play: PhantomData<M>,
+}
+
+impl<R: RowRule, M: Play<(), View<R::Upper>>> Play<(), View<R::Upper>> for Relink<R, M> {
+    ghost then = { λ st m n m'. Relinks R.swaps M.then st m n m' };
 }

@@ -1,9 +1,11 @@
 //! What stands above the rows, and the rule that holds between any two steps.
 ghost use Rattle.std.specs.Prelude.{◌≡◌, ℕ, ◌<◌, ◌≤◌, List};
+ghost use Rattle.atomic_table.specs.Table.{Step};
 ghost use Rattle.ca_rows.specs.declared.sizes.Sizes.{Sizes as TheSizes};
 ghost use Rattle.ca_rows.specs.Laws.{Frames, Lends, Pinning, Making, Closing, Opening};
 ghost use Rattle.ca_rows.specs.Opening.{AreInBounds};
 ghost use Rattle.ca_rows.specs.Rule.{Ruled, fresh};
+ghost use Rattle.ca_rows.specs.Told.{Mine};
 
 use crate::sizes::Sizes;
 use crate::view::View;
@@ -39,6 +41,14 @@ pub trait RowRule {
     ghost enters: { Self.Upper → Self.Upper };
 
     ghost leaves: { Self.Upper → Self.Upper };
+
+    /// All that a load of the structure above may tell, and all that an exchange may: as `then` of a play.
+    ghost loads: { Step (Unit {0}) → Mine Self.Upper → ℕ → Mine Self.Upper → Type 0 };
+
+    ghost swaps: { Step (Unit {0}) → Mine Self.Upper → ℕ → Mine Self.Upper → Type 0 };
+
+    /// What a seat knows that learnt what was split off another one.
+    ghost learns: { Self.Upper → Self.Upper → Self.Upper };
 
     /// What a seat knows that takes in another one, and what is left of that one.
     ghost both: { Self.Upper → Self.Upper → Self.Upper };

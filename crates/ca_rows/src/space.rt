@@ -5,14 +5,15 @@ ghost use prog.Atomic.{either};
 ghost use Rattle.atomic_table.specs.Table.{step, Allows, Splits, Joins};
 ghost use Rattle.ca_rows.specs.declared.view.Claim.TheVariants.{Holds as IsHeld};
 ghost use Rattle.ca_rows.specs.Claims.{claim_of, claimed};
-ghost use Rattle.ca_rows.specs.Calls.{IsOf, IsSame, IsStill, TakesRow, PutsRow};
+ghost use Rattle.ca_rows.specs.Calls.{IsOf, IsSame, IsStill, IsRaised, IsAbove, Raises, Relinks, TakesRow, PutsRow};
+ghost use Rattle.ca_rows.specs.Closed.{joined};
 ghost use Rattle.ca_rows.specs.Owned.{IsOwnSeat};
 ghost use Rattle.ca_rows.specs.Rule.{Ruled};
 ghost use Rattle.std.specs.Option.{ForSome};
 ghost use Rattle.std.specs.Prelude.{slice_index, slice_set};
 
 use crate::kept::KeptRows;
-use crate::plays::{Give, Glance, Look, Peek, Recall, Take, Write};
+use crate::plays::{Give, Glance, Look, Peek, Raise, Recall, Relink, Take, Write};
 use crate::rest::Rest;
 use crate::rule::{RowRule, Rows};
 use crate::sizes::Sizes;
@@ -122,39 +123,26 @@ impl<R: RowRule> Half<R> {
 }
 
 impl<R: RowRule> Space<R> {
-    /// One load of a word.
+    /// One load of a word, by the structure above: what the pass knows of the rows and counts of them stays.
     pub fn load<M: Play<(), View<R::Upper>>>(&self, pass: &mut Pass<R>, word: u32) -> u64
         requires table { pass.old.seat.table_id ≡ self.now.table.shared.table_id }
         requires word { word < self.now.table.shared.table_id.words }
         requires rule { Allows (Ruled R.linked R.lent R.noted R.fact self.now.table.shared.key) self.now.table.shared.table_id.slots pass.old.seat.id
-            pass.old.seat.me word (λ n. n) (M.then (step self.now.table.shared.table_id.slots word 0 0 none) pass.old.seat.me) }
+            pass.old.seat.me word (λ n. n) (Raises R.loads M.then (step self.now.table.shared.table_id.slots word 0 0 none) pass.old.seat.me) }
         ensures same { IsSame pass.old.seat pass.new.seat }
         ensures number { pass.new.number ≡ pass.old.number }
         ensures tally { pass.new.tally ≡ pass.old.tally }
         ensures kept { pass.new.kept ≡ pass.old.kept }
+        ensures above { IsRaised pass.old.seat.me pass.new.seat.me }
         ensures told { M.then (step self.now.table.shared.table_id.slots word 0 0 none) pass.old.seat.me result pass.new.seat.me }
-    {
-        self.table.shared.load::<M>(&mut pass.seat, word as usize)
-    }
-
-    /// One store of a word.
-    pub fn store<M: Play<(), View<R::Upper>>>(&self, pass: &mut Pass<R>, word: u32, value: u64)
-        requires table { pass.old.seat.table_id ≡ self.now.table.shared.table_id }
-        requires word { word < self.now.table.shared.table_id.words }
-        requires rule { Allows (Ruled R.linked R.lent R.noted R.fact self.now.table.shared.key) self.now.table.shared.table_id.slots pass.old.seat.id
-            pass.old.seat.me word (λ _. value) (λ _. M.then (step self.now.table.shared.table_id.slots word value 0 none) pass.old.seat.me value) }
-        ensures same { IsSame pass.old.seat pass.new.seat }
-        ensures number { pass.new.number ≡ pass.old.number }
-        ensures tally { pass.new.tally ≡ pass.old.tally }
-        ensures kept { pass.new.kept ≡ pass.old.kept }
-        ensures told { M.then (step self.now.table.shared.table_id.slots word value 0 none) pass.old.seat.me value pass.new.seat.me }
     {
         self.table
             .shared
-            .store::<M>(&mut pass.seat, word as usize, value);
+            .load::<Raise<R, M>>(&mut pass.seat, word as usize)
     }
 
-    /// One exchange of a word, where it is `old`; false exactly where it wasn't.
+    /// One exchange of a word by the structure above, where it is `old`; false exactly where it wasn't. What the pass knows of the rows and counts
+    /// of them stays, and whose the rows are changes only where it won.
     pub fn swap<M: Play<(), View<R::Upper>>>(
         &self,
         pass: &mut Pass<R>,
@@ -165,30 +153,32 @@ impl<R: RowRule> Space<R> {
         requires table { pass.old.seat.table_id ≡ self.now.table.shared.table_id }
         requires word { word < self.now.table.shared.table_id.words }
         requires rule { Allows (Ruled R.linked R.lent R.noted R.fact self.now.table.shared.key) self.now.table.shared.table_id.slots pass.old.seat.id
-            pass.old.seat.me word (λ n. either (n == old) new n) (M.then (step self.now.table.shared.table_id.slots word old new none) pass.old.seat.me) }
+            pass.old.seat.me word (λ n. either (n == old) new n) (Relinks R.swaps M.then (step self.now.table.shared.table_id.slots word old new none) pass.old.seat.me) }
         ensures same { IsSame pass.old.seat pass.new.seat }
         ensures number { pass.new.number ≡ pass.old.number }
         ensures tally { pass.new.tally ≡ pass.old.tally }
         ensures kept { pass.new.kept ≡ pass.old.kept }
+        ensures above { IsAbove pass.old.seat.me pass.new.seat.me }
         ensures told { (n : ℕ) × M.then (step self.now.table.shared.table_id.slots word old new none) pass.old.seat.me n pass.new.seat.me
             × (result ≡ (n == old)) }
     {
         self.table
             .shared
-            .compare_exchange::<M>(&mut pass.seat, word as usize, old, new)
+            .compare_exchange::<Relink<R, M>>(&mut pass.seat, word as usize, old, new)
             == old
     }
 
-    /// Cuts what a pass knows in two.
+    /// Makes a half that knows what `M` says. The pass knows what it knew.
     pub fn split<M: Split<View<R::Upper>>>(&self, pass: &mut Pass<R>) -> Half<R>
         requires table { pass.old.seat.table_id ≡ self.now.table.shared.table_id }
         requires rule { Splits (Ruled R.linked R.lent R.noted R.fact self.now.table.shared.key) pass.old.seat.id pass.old.seat.me.0 (M.left pass.old.seat.me.0)
             (M.right pass.old.seat.me.0) }
+        requires above { M.left pass.old.seat.me.0 ≡ pass.old.seat.me.0 }
         ensures same { IsSame pass.old.seat pass.new.seat }
         ensures number { pass.new.number ≡ pass.old.number }
         ensures tally { pass.new.tally ≡ pass.old.tally }
         ensures kept { pass.new.kept ≡ pass.old.kept }
-        ensures left { pass.new.seat.me ≡ (M.left pass.old.seat.me.0, pass.old.seat.me.1) }
+        ensures left { pass.new.seat.me ≡ pass.old.seat.me }
         ensures right { (result.seat.table_id ≡ pass.old.seat.table_id) × (result.seat.me ≡ (M.right pass.old.seat.me.0, [])) }
     {
         Half {
@@ -196,17 +186,18 @@ impl<R: RowRule> Space<R> {
         }
     }
 
-    /// Joins what was split off into a pass.
+    /// Joins what was split off into a pass, which learns of it what the rule above says.
     pub fn join<M: Join<View<R::Upper>>>(&self, pass: &mut Pass<R>, half: Half<R>)
         requires table { (pass.old.seat.table_id ≡ self.now.table.shared.table_id) × (half.seat.table_id ≡ self.now.table.shared.table_id)
             × (half.seat.me.1 ≡ []) }
         requires rule { Joins (Ruled R.linked R.lent R.noted R.fact self.now.table.shared.key) pass.old.seat.id pass.old.seat.me.0 half.seat.id half.seat.me.0
             (M.both pass.old.seat.me.0 half.seat.me.0) M.spent }
+        requires above { M.both pass.old.seat.me.0 half.seat.me.0 ≡ joined R.learns pass.old.seat.me.0 half.seat.me.0 }
         ensures same { IsSame pass.old.seat pass.new.seat }
         ensures number { pass.new.number ≡ pass.old.number }
         ensures tally { pass.new.tally ≡ pass.old.tally }
         ensures kept { pass.new.kept ≡ pass.old.kept }
-        ensures both { pass.new.seat.me ≡ (M.both pass.old.seat.me.0 half.seat.me.0, pass.old.seat.me.1) }
+        ensures both { pass.new.seat.me ≡ (joined R.learns pass.old.seat.me.0 half.seat.me.0, pass.old.seat.me.1) }
     {
         self.table
             .shared

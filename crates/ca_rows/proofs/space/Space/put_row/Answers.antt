@@ -35,6 +35,7 @@ compare_exchange-requires g c =
       omega arith,
       gives g.R.RowRule.linked g.R.RowRule.lent g.R.RowRule.noted g.R.RowRule.fact g.met.R.RowRule.frames c.args.self.now.table.shared.key _ _ _
           (c.load-head.result / 65536) h c.args.row (set its 0 h)
+          (ap (λ (m : Mine g.row.R-Upper.Denot). m.0.stage) wrote ∙ ap (λ (m : Mine g.row.R-Upper.Denot). m.0.stage) saw)
           (omega arith) (omega arith) has (get_or-set_same its 0 h 0 (omega arith)),
     )
 
@@ -50,4 +51,4 @@ returns-clause-given g c =
     let wrote = c.write_word.ensures.written its had in
     row_put c.args.pass.now.seat.me c.load-head.new.seat.me c.write_word.new.pass.seat.me c.compare_exchange.new.seat.me _ c.args.row _
     c.compare_exchange.result _ (set its 0 h)
-    (length-set its 0 h ∙ c.requires.held.1) saw wrote (omega arith) c.compare_exchange.ensures.2.0 c.compare_exchange.ensures.2.1
+    (length-set its 0 h ∙ c.requires.held.1) saw wrote (omega arith) c.compare_exchange.ensures.2.1 c.compare_exchange.ensures.2.2

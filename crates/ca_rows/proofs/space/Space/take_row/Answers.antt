@@ -41,7 +41,7 @@ returns-then-found-old-clause-row g c =
     let t' : ℕ = c.load-head.result / 65536 in
     let q : ℕ = c.load-head.result % 65536 in
     let next = c.load-next.ensures.2 t' q (ap (λ (m : Mine g.row.R-Upper.Denot). m.0.stage) saw) in
-    let took = (c.compare_exchange-found.ensures.2 t' q c.load-next.result (ap (λ (m : Mine g.row.R-Upper.Denot). m.0.stage) next)).0 c.if-found-old.true in
+    let took = (c.compare_exchange-found.ensures.2.1 t' q c.load-next.result (ap (λ (m : Mine g.row.R-Upper.Denot). m.0.stage) next)).0 c.if-found-old.true in
     let same = row_taken c.args.pass.now.seat.me c.load-head.new.seat.me c.load-next.new.seat.me c.compare_exchange-found.new.seat.me _ _ saw q took.1.0 next
     took.0 took.1.2 in
     let rows = ap (λ (z : Sizes). z.rows) c.requires.own.1 in
@@ -55,7 +55,7 @@ returns-else-found-old-clause-row g c =
     let t' : ℕ = c.load-head.result / 65536 in
     let q : ℕ = c.load-head.result % 65536 in
     let next = c.load-next.ensures.2 t' q (ap (λ (m : Mine g.row.R-Upper.Denot). m.0.stage) saw) in
-    let took = (c.compare_exchange-found.ensures.2 t' q c.load-next.result (ap (λ (m : Mine g.row.R-Upper.Denot). m.0.stage) next)).1 c.if-found-old.false in
+    let took = (c.compare_exchange-found.ensures.2.1 t' q c.load-next.result (ap (λ (m : Mine g.row.R-Upper.Denot). m.0.stage) next)).1 c.if-found-old.false in
     row_missed c.args.pass.now.seat.me c.load-head.new.seat.me c.load-next.new.seat.me c.compare_exchange-found.new.seat.me _ _ saw next took
 
 pub returns-then-found-old-clause-same : goal.returns-then-found-old-clause-same
