@@ -49,7 +49,7 @@ pub(crate) trait Counting {
 }
 
 impl Counting for Brand {
-    ghost use Rattle.std.proofs.Common.{refl};
+    ghost use Rattle.std.proofs.Common.{inl, refl};
 
     ghost rise = { one_more_busy };
 
