@@ -1,7 +1,7 @@
 #!/bin/sh
 # Compares with a real Erlang: the order of random terms, by the terms and by the bytes of their codes; what is read of term texts; what random
 # match specifications choose; the replies to random command files; and the summaries of lines that are made from a seed.
-# KIT is the kit's folder. Where there is no Erlang or no rustc it says so and passes.
+# KIT is the kit's folder, CA the program (./ca). Where there is no Erlang or no rustc it says so and passes.
 set -eu
 cd "$(dirname "$0")/../.."
 if ! command -v escript >/dev/null; then
@@ -28,11 +28,16 @@ escript tests/otp/specs.escript make "${SPECS:-2000}" >"$OUT/specs.txt"
 escript tests/otp/specs.escript compare "$OUT/chosen.txt"
 mkdir "$OUT/calls"
 escript tests/otp/calls.escript "${CALLS:-300}" "${SEED:-1}" "$OUT/calls"
-(cd crates/ca_cli && rt try --cases "$OUT/calls" -- run {})
+CA=${CA:-./ca}
+for file in "$OUT"/calls/*; do
+    case $file in *.stdout) continue ;; esac
+    "$CA" run "$file" | cmp - "$file.stdout"
+done
+echo "${CALLS:-300} command files: as a real ets"
 for numbers in "1 1 4" "7 4 2000" "2147483647 64 500"; do
     # shellcheck disable=SC2086
     set -- $numbers
     escript tests/otp/generated.escript "$@" >"$OUT/summary.txt"
-    ./ca run --seed "$1" --clients "$2" --lines "$3" | cmp - "$OUT/summary.txt"
+    "$CA" run --seed "$1" --clients "$2" --lines "$3" | cmp - "$OUT/summary.txt"
     echo "lines from the seed $1: as a real ets"
 done
