@@ -1,5 +1,5 @@
 -- Calls of a store, one after the other, as one call of a table: reads, and then the call that makes the step or is refused.
-use Rattle.std.proofs.Common.{◌≡◌, ℕ, ◌+◌, true, List, [], ◌∷◌, ◌++◌, length, sym, ◌∙◌, ap, subst, append_assoc}
+use Rattle.std.proofs.Common.{◌≡◌, ℕ, ◌+◌, true, List, [], ◌∷◌, ◌++◌, length, refl, sym, ◌∙◌, ap, subst, append_assoc}
 use Rattle.std.specs.Prelude.{Option}
 use Rattle.ca_ets.specs.Command.{Command, Response, Continuation}
 use Rattle.ca_model.specs.StoreMap.{StoreMap}
@@ -135,6 +135,7 @@ with_room a spare = record a { spare = spare }
 
 same_but_room : (a b : Known) → Stays a b → b ≡ with_room a b.spare
 same_but_room a b s = λ i. record {
+  store = s.same.store i;
   keypos = s.same.keypos i;
   pass = s.same.pass i;
   passes = s.same.passes i;
@@ -149,7 +150,7 @@ same_but_room a b s = λ i. record {
 
 room_learns : (a d : Known) (n : ℕ) (xs : History) (es : List Entry) → Learns (with_room a n) d xs es → Learns a d xs es
 room_learns a d n xs es l = record {
-  same = record { keypos = l.same.keypos; pass = l.same.pass; passes = l.same.passes; alone = l.same.alone; sure = l.same.sure };
+  same = record { store = l.same.store; keypos = l.same.keypos; pass = l.same.pass; passes = l.same.passes; alone = l.same.alone; sure = l.same.sure };
   map = l.map;
   seen = l.seen;
   valid = l.valid;
@@ -200,3 +201,18 @@ both_beside_run a b d x y = record {
   seen = y.seen ∙ x.seen;
   counts = y.counts ∙ x.counts;
 }
+
+-- How many reads stand before a call, and how many a read is.
+pub one_call_left : (a b : Known) (event : Event) (k l : Continuation) (c : Command) (r : Response) (m : Meets a b event)
+    (carries : Carries a.keypos event k c r l) → (one_call a b event k l c r m carries).left ≡ []
+unfolding one_call
+one_call_left a b event k l c r m carries = refl
+
+pub then_call_left : (a b d : Known) (event : Event) (k l : Continuation) (c : Command) (r : Response) (x : Refrains a b a.counts) (m : Meets b d event)
+    (carries : Carries a.keypos event k c r l) → (then_call a b d event k l c r x m carries).left ≡ x.left
+unfolding then_call
+then_call_left a b d event k l c r x m carries = refl
+
+pub one_read_left : (a b : Known) (event : Event) (none : effect event ≡ []) (m : Meets a b event) → length (one_read a b event none m).left ≡ 1
+unfolding one_read
+one_read_left a b event none m = refl

@@ -26,6 +26,7 @@ seen_twice (Some s) xs ys es fs = rw (append_assoc s.history xs ys, append_assoc
 -- What never changed in two calls.
 pub same_store : (a b d : Known) → IsSameStore a b → IsSameStore b d → IsSameStore a d
 same_store a b d x y = record {
+  store = y.store ∙ x.store;
   keypos = y.keypos ∙ x.keypos;
   pass = y.pass ∙ x.pass;
   passes = y.passes ∙ x.passes;

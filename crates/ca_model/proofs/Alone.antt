@@ -27,7 +27,7 @@ read_leaves p m r left s a event e t none answer = subst (λ (x : Known). Meets 
   later = [];
   answer = answer;
   learns = record {
-    same = record { keypos = refl; pass = refl; passes = refl; alone = refl; sure = refl };
+    same = record { store = refl; keypos = refl; pass = refl; passes = refl; alone = refl; sure = refl };
     map = rw none refl;
     seen = refl;
     valid = t;
@@ -54,7 +54,7 @@ edit_met p m n r left s z a event edit e t one fits is answer = subst (λ (x : K
   later = [];
   answer = answer;
   learns = record {
-    same = record { keypos = refl; pass = refl; passes = refl; alone = refl; sure = refl };
+    same = record { store = refl; keypos = refl; pass = refl; passes = refl; alone = refl; sure = refl };
     map = rw one is;
     seen = refl;
     valid = t;

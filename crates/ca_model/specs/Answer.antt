@@ -5,11 +5,12 @@ use denote.Param.Members.{Shared}
 use Rattle.arrayvec.specs.ArrayVec.{ArrayVec}
 use Rattle.ca_model.specs.declared.outcome.Outcome.{Outcome}
 use Rattle.ca_model.specs.declared.outcome.Outcome.TheVariants as outcome
+use Rattle.ca_model.specs.declared.outcome.Cause.TheVariants as cause
 use Rattle.ca_model.specs.declared.outcome.Changed.{Changed}
 use Rattle.ca_model.specs.declared.outcome.Changed.TheVariants as changed
 use Rattle.ca_model.specs.Edges.{Bound}
 use Rattle.ca_model.specs.Event.{Get, Remove, Change, Above, Below}
-use Rattle.ca_model.specs.Known.{Known, Counts, Meets, one_more_busy, one_more_full, one_more_deep, one_more_worn}
+use Rattle.ca_model.specs.Known.{Known, Counts, Meets, one_more}
 use Rattle.ca_model.specs.Function.{MayLeave, MaySay}
 
 -- Where the call is done, this holds of its value.
@@ -23,10 +24,10 @@ IfDone (outcome.Worn s) P = Unit {0}
 -- Where the call is refused, this holds, given how the refusal is counted.
 abbrev pub IfRefused : {T : Type 0} → Outcome T → ((Counts → Counts) → Type 0) → Type 0
 IfRefused (outcome.Done x) P = Unit {0}
-IfRefused (outcome.Busy s) P = P one_more_busy
-IfRefused (outcome.Full s) P = P one_more_full
-IfRefused (outcome.Deep s) P = P one_more_deep
-IfRefused (outcome.Worn s) P = P one_more_worn
+IfRefused (outcome.Busy s) P = P (one_more (cause.Busy s))
+IfRefused (outcome.Full s) P = P (one_more (cause.Full s))
+IfRefused (outcome.Deep s) P = P (one_more (cause.Deep s))
+IfRefused (outcome.Worn s) P = P (one_more (cause.Worn s))
 
 -- The call is done.
 abbrev pub IsDone : {T : Type 0} → Outcome T → Type 0

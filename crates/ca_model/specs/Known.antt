@@ -1,5 +1,7 @@
 -- What contracts know of a store, and what a call makes known.
 use Rattle.std.specs.Prelude.{◌≡◌, ℕ, suc, ◌+◌, ◌≤◌, Bool, true, false, List, [], ◌∷◌, ◌++◌, length, Option, None, Some}
+use Rattle.ca_model.specs.declared.outcome.Cause.{Cause}
+use Rattle.ca_model.specs.declared.outcome.Cause.TheVariants as cause
 use Rattle.ca_model.specs.StoreMap.{StoreMap, IsStoreMap}
 use Rattle.ca_model.specs.History.{History, after, by_pass, AreEdits, AreByPasses, AreByOthers}
 use Rattle.ca_model.specs.Event.{Event, Entry, IsAnswer, effect}
@@ -9,14 +11,17 @@ pub record Seen : Type 0 where
   pub history : History
   pub log : List Entry
 
--- how many calls were refused, by the refusal
+-- how many calls were refused, by the refusal, and why the last one was
 pub record Counts : Type 0 where
   pub busy : ℕ
   pub full : ℕ
   pub deep : ℕ
   pub worn : ℕ
+  pub last : Option Cause
 
 pub record Known : Type 0 where
+  -- which store it is of: numbers that no store of other memory has; none where the store shares nothing
+  pub store : List ℕ
   -- which element of an object is its key, counted from 1
   pub keypos : ℕ
   -- the number of the pass that owns the store, and that of the last pass that may edit the map; passes count from 1
@@ -38,6 +43,7 @@ pub record Known : Type 0 where
 
 -- What never changes.
 pub record IsSameStore (a b : Known) : Type 0 where
+  pub store : b.store ≡ a.store
   pub keypos : b.keypos ≡ a.keypos
   pub pass : b.pass ≡ a.pass
   pub passes : b.passes ≡ a.passes
@@ -83,18 +89,12 @@ pub record Meets (a b : Known) (event : Event) : Type 0 where
   pub alone : a.alone ≡ true → (earlier ≡ []) × (later ≡ [])
   pub counts : b.counts ≡ a.counts
 
--- the counts with one more refusal
-abbrev pub one_more_busy : Counts → Counts
-one_more_busy c = record { busy = suc c.busy; full = c.full; deep = c.deep; worn = c.worn }
-
-abbrev pub one_more_full : Counts → Counts
-one_more_full c = record { busy = c.busy; full = suc c.full; deep = c.deep; worn = c.worn }
-
-abbrev pub one_more_deep : Counts → Counts
-one_more_deep c = record { busy = c.busy; full = c.full; deep = suc c.deep; worn = c.worn }
-
-abbrev pub one_more_worn : Counts → Counts
-one_more_worn c = record { busy = c.busy; full = c.full; deep = c.deep; worn = suc c.worn }
+-- the counts with one more refusal, for this cause
+abbrev pub one_more : Cause → Counts → Counts
+one_more (cause.Busy spent) c = record { busy = suc c.busy; full = c.full; deep = c.deep; worn = c.worn; last = Some (cause.Busy spent) }
+one_more (cause.Full why) c = record { busy = c.busy; full = suc c.full; deep = c.deep; worn = c.worn; last = Some (cause.Full why) }
+one_more (cause.Deep level) c = record { busy = c.busy; full = c.full; deep = suc c.deep; worn = c.worn; last = Some (cause.Deep level) }
+one_more (cause.Worn counter) c = record { busy = c.busy; full = c.full; deep = c.deep; worn = suc c.worn; last = Some (cause.Worn counter) }
 
 -- A refused call made no edit and wrote nothing into the log; all that it learns of was done by others. A store that is sure refuses nothing.
 pub record Declines (a b : Known) (counts : Counts) : Type 0 where

@@ -7,6 +7,7 @@ pub mod Known
 pub mod Lawful
 pub mod Passes
 pub mod PlainView
+pub mod Promises
 pub mod RowView
 pub mod RunView
 pub mod Runs

@@ -12,6 +12,6 @@ mod store;
 
 pub use edge::Edge;
 pub use laws::{cuts_begin, passes_meet};
-pub use outcome::{Changed, Code, Counter, FullCause, Outcome, Spent};
+pub use outcome::{Cause, Changed, Code, Counter, FullCause, Outcome, Spent};
 pub use plain::Plain;
 pub use store::OrderedStore;

@@ -33,6 +33,15 @@ pub enum Counter {
     Sequence,
 }
 
+/// Why a call was refused: one of the four refusals of `Outcome`, with what it tells.
+#[derive(Clone, Copy, Debug, PartialEq, Eq)]
+pub enum Cause {
+    Busy(Spent),
+    Full(FullCause),
+    Deep(u16),
+    Worn(Counter),
+}
+
 /// What a call of a store comes to: its answer, or one of four refusals. A refused call made no edit.
 #[derive(Clone, Copy, Debug, PartialEq, Eq)]
 pub enum Outcome<T> {

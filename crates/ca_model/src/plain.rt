@@ -1,14 +1,9 @@
 //! A store of one owner.
-ghost use Rattle.std.specs.Prelude.{◌≡◌, ◌≤◌, ◌<◌, ◌+◌, ◌↔◌, [], None, IsTrue, OnOk, true, length, slice_index_or, slice_range};
-ghost use Rattle.ca_term.specs.declared.bounds.TheConstants.{MOST_CODE_BYTES, MOST_ELEMENTS};
+ghost use Rattle.std.specs.Prelude.{◌≡◌, ◌≤◌, ◌<◌, ◌+◌, ◌↔◌, [], None, IsTrue, OnOk, true, length, slice_index_or};
+ghost use Rattle.ca_term.specs.declared.bounds.TheConstants.{MOST_ELEMENTS};
 ghost use Rattle.ca_model.specs.Slab.{nothing};
-ghost use Rattle.ca_model.specs.StoreMap.{IsPair, IsStoreMap};
-ghost use Rattle.ca_model.specs.Edges.{bound_of, IsProperBound};
-ghost use Rattle.ca_model.specs.Event.{Write, WriteNew};
-ghost use Rattle.ca_model.specs.Known.{Meets, Declines, Stays, StaysBesideRun};
-ghost use Rattle.ca_model.specs.Function.{KeepsKey, MayBeAskedFor, MayBeAskedForAll};
-ghost use Rattle.ca_model.specs.Answer.{IfDone, IfRefused, IfBusy, IsDone, IsNeverDeep, Got, Removed, Altered, RemovedIf, FoundAbove, FoundBelow};
-ghost use Rattle.ca_model.specs.Runs.{IsOpen, HandedOut, Opens};
+ghost use Rattle.ca_model.specs.StoreMap.{IsStoreMap};
+ghost use Rattle.ca_model.specs.Known.{Stays};
 
 use crate::edge::Edge;
 use crate::outcome::{Changed, Code, Outcome};
@@ -105,20 +100,15 @@ impl Plain {
 impl OrderedStore for Plain {
     ghost knows = { λ s. s };
 
+    ghost use Rattle.ca_model.specs.PlainView.{plain_promises};
+
+    ghost promises = { plain_promises };
+
     fn reserve(&mut self) -> Result<(), AllocError> {
         self.objects.reserve()
     }
 
-    fn get(&mut self, key: &[u8], into: &mut Code, budget: u32) -> Outcome<bool>
-        requires budget { 1 ≤ budget }
-        requires closed { self.old.run ≡ None }
-        requires key { (1 ≤ length key.now) × (length key.now ≤ MOST_CODE_BYTES) }
-        ensures done { IsDone result }
-        ensures got { IfDone result (λ found. Got self.old self.new key.now found into.new.items) }
-        ensures closed { self.new.run ≡ None }
-
-        ensures spare { self.old.spare ≤ self.new.spare }
-    {
+    fn get(&mut self, key: &[u8], into: &mut Code, budget: u32) -> Outcome<bool> {
         let _budget = budget;
         let Ok(at) = self.objects.find(key) else {
             into.clear();
@@ -128,19 +118,7 @@ impl OrderedStore for Plain {
         Outcome::Done(true)
     }
 
-    fn put(&mut self, object: &[u8], key_at: usize, key_end: usize, budget: u32) -> Outcome<()>
-        requires budget { 1 ≤ budget }
-        requires closed { self.old.run ≡ None }
-        requires room { 1 ≤ self.old.spare }
-        requires place { (key_at ≤ key_end) × (key_end ≤ length object.now) }
-        requires pair { IsPair self.old.keypos (slice_range object.now key_at key_end, object.now) }
-        ensures put { IfDone result (λ _. Meets self.old self.new (Write (slice_range object.now key_at key_end) object.now)) }
-        ensures refused { IfRefused result (λ rise. Declines self.old self.new (rise self.old.counts)) }
-        ensures busy { IfBusy result (λ spent. budget ≤ spent) }
-        ensures closed { self.new.run ≡ None }
-
-        ensures spare { self.old.spare ≤ self.new.spare + 1 }
-    {
+    fn put(&mut self, object: &[u8], key_at: usize, key_end: usize, budget: u32) -> Outcome<()> {
         let _budget = budget;
         let place = self.objects.find(&object[key_at..key_end]);
         self.objects.put(place, object, key_at, key_end);
@@ -153,19 +131,7 @@ impl OrderedStore for Plain {
         key_at: usize,
         key_end: usize,
         budget: u32,
-    ) -> Outcome<bool>
-        requires budget { 1 ≤ budget }
-        requires closed { self.old.run ≡ None }
-        requires room { 1 ≤ self.old.spare }
-        requires place { (key_at ≤ key_end) × (key_end ≤ length object.now) }
-        requires pair { IsPair self.old.keypos (slice_range object.now key_at key_end, object.now) }
-        ensures put { IfDone result (λ new. Meets self.old self.new (WriteNew (slice_range object.now key_at key_end) object.now new)) }
-        ensures refused { IfRefused result (λ rise. Declines self.old self.new (rise self.old.counts)) }
-        ensures busy { IfBusy result (λ spent. budget ≤ spent) }
-        ensures closed { self.new.run ≡ None }
-
-        ensures spare { self.old.spare ≤ self.new.spare + 1 }
-    {
+    ) -> Outcome<bool> {
         let _budget = budget;
         let Err(at) = self.objects.find(&object[key_at..key_end]) else {
             return Outcome::Done(false);
@@ -174,19 +140,7 @@ impl OrderedStore for Plain {
         Outcome::Done(true)
     }
 
-    fn remove(&mut self, key: &[u8], old: &mut Code, budget: u32) -> Outcome<bool>
-        requires budget { 1 ≤ budget }
-        requires closed { self.old.run ≡ None }
-        requires key { (1 ≤ length key.now) × (length key.now ≤ MOST_CODE_BYTES) }
-        ensures removed { IfDone result (λ was. Removed self.old self.new key.now was old.new.items) }
-        ensures refused { IfRefused result (λ rise. Declines self.old self.new (rise self.old.counts)) }
-        ensures emptied { IfRefused result (λ _. old.new.items ≡ []) }
-        ensures never_deep { IsNeverDeep result }
-        ensures busy { IfBusy result (λ spent. budget ≤ spent) }
-        ensures closed { self.new.run ≡ None }
-
-        ensures spare { self.old.spare ≤ self.new.spare }
-    {
+    fn remove(&mut self, key: &[u8], old: &mut Code, budget: u32) -> Outcome<bool> {
         let _budget = budget;
         let Ok(at) = self.objects.find(key) else {
             old.clear();
@@ -203,20 +157,7 @@ impl OrderedStore for Plain {
         f: &F,
         old: &mut Code,
         budget: u32,
-    ) -> Outcome<Changed>
-        requires budget { 1 ≤ budget }
-        requires closed { self.old.run ≡ None }
-        requires key { (1 ≤ length key.now) × (length key.now ≤ MOST_CODE_BYTES) }
-        requires function { MayBeAskedFor F.Fn f.now self.old.keypos key.now }
-        ensures removed { IfDone result (λ changed. RemovedIf F.Fn f.now self.old self.new key.now changed old.new.items) }
-        ensures refused { IfRefused result (λ rise. Declines self.old self.new (rise self.old.counts)) }
-        ensures emptied { IfRefused result (λ _. old.new.items ≡ []) }
-        ensures never_deep { IsNeverDeep result }
-        ensures busy { IfBusy result (λ spent. budget ≤ spent) }
-        ensures closed { self.new.run ≡ None }
-
-        ensures spare { self.old.spare ≤ self.new.spare }
-    {
+    ) -> Outcome<Changed> {
         let _budget = budget;
         let Ok(at) = self.objects.find(key) else {
             old.clear();
@@ -236,20 +177,7 @@ impl OrderedStore for Plain {
         f: &F,
         old: &mut Code,
         budget: u32,
-    ) -> Outcome<Changed>
-        requires budget { 1 ≤ budget }
-        requires closed { self.old.run ≡ None }
-        requires key { (1 ≤ length key.now) × (length key.now ≤ MOST_CODE_BYTES) }
-        requires function { KeepsKey F.Fn f.now self.old.keypos key.now }
-        ensures changed { IfDone result (λ changed. Altered F.Fn f.now self.old self.new key.now changed old.new.items) }
-        ensures refused { IfRefused result (λ rise. Declines self.old self.new (rise self.old.counts)) }
-        ensures emptied { IfRefused result (λ _. old.new.items ≡ []) }
-        ensures never_deep { IsNeverDeep result }
-        ensures busy { IfBusy result (λ spent. budget ≤ spent) }
-        ensures closed { self.new.run ≡ None }
-
-        ensures spare { self.old.spare ≤ self.new.spare }
-    {
+    ) -> Outcome<Changed> {
         let _budget = budget;
         let Ok(at) = self.objects.find(key) else {
             old.clear();
@@ -266,19 +194,7 @@ impl OrderedStore for Plain {
         Outcome::Done(Changed::Put)
     }
 
-    fn above(&mut self, lo: Edge<'_>, into: &mut Code, budget: u32) -> Outcome<bool>
-        requires budget { 1 ≤ budget }
-        requires closed { self.old.run ≡ None }
-        requires edge { IsProperBound (bound_of lo) }
-        ensures found { IfDone result (λ found. FoundAbove self.old self.new (bound_of lo.entry) found into.new.items) }
-        ensures refused { IfRefused result (λ rise. Declines self.old self.new (rise self.old.counts)) }
-        ensures emptied { IfRefused result (λ _. into.new.items ≡ []) }
-        ensures never_deep { IsNeverDeep result }
-        ensures busy { IfBusy result (λ spent. budget ≤ spent) }
-        ensures closed { self.new.run ≡ None }
-
-        ensures spare { self.old.spare ≤ self.new.spare }
-    {
+    fn above(&mut self, lo: Edge<'_>, into: &mut Code, budget: u32) -> Outcome<bool> {
         let _budget = budget;
         let at = start_of(&self.objects, lo);
         if at == self.objects.len() {
@@ -289,19 +205,7 @@ impl OrderedStore for Plain {
         Outcome::Done(true)
     }
 
-    fn below(&mut self, hi: Edge<'_>, into: &mut Code, budget: u32) -> Outcome<bool>
-        requires budget { 1 ≤ budget }
-        requires closed { self.old.run ≡ None }
-        requires edge { IsProperBound (bound_of hi) }
-        ensures found { IfDone result (λ found. FoundBelow self.old self.new (bound_of hi.entry) found into.new.items) }
-        ensures refused { IfRefused result (λ rise. Declines self.old self.new (rise self.old.counts)) }
-        ensures emptied { IfRefused result (λ _. into.new.items ≡ []) }
-        ensures never_deep { IsNeverDeep result }
-        ensures busy { IfBusy result (λ spent. budget ≤ spent) }
-        ensures closed { self.new.run ≡ None }
-
-        ensures spare { self.old.spare ≤ self.new.spare }
-    {
+    fn below(&mut self, hi: Edge<'_>, into: &mut Code, budget: u32) -> Outcome<bool> {
         let _budget = budget;
         let end = end_of(&self.objects, hi);
         if end == 0 {
@@ -319,21 +223,7 @@ impl OrderedStore for Plain {
         want: u32,
         counts: &F,
         budget: u32,
-    ) -> Outcome<bool>
-        requires budget { 1 ≤ budget }
-        requires closed { self.old.run ≡ None }
-        requires lower_edge { IsProperBound (bound_of lo) }
-        requires upper_edge { IsProperBound (bound_of hi) }
-        requires function { MayBeAskedForAll F.Fn counts.now self.old.keypos }
-        ensures opens { IfDone result (λ whole. Opens F.Fn counts.now self.old self.new (bound_of lo.entry) (bound_of hi.entry) want whole) }
-        ensures refused { IfRefused result (λ rise. Declines self.old self.new (rise self.old.counts)) }
-        ensures closed { IfRefused result (λ _. self.new.run ≡ None) }
-        ensures never_deep { IsNeverDeep result }
-        ensures busy { IfBusy result (λ spent. budget ≤ spent) }
-
-        ensures whole { IfDone result (λ whole. whole ≡ true) }
-        ensures spare { self.old.spare ≤ self.new.spare }
-    {
+    ) -> Outcome<bool> {
         // A whole run costs two searches and no more, so none is cut, and nothing is counted.
         let _budget = budget;
         let _want = want;
@@ -344,13 +234,7 @@ impl OrderedStore for Plain {
         Outcome::Done(true)
     }
 
-    fn found(&mut self, into: &mut Code) -> bool
-        requires open { IsOpen self.old }
-        ensures handed_out { HandedOut self.old self.new result into.new.items }
-        ensures stays { StaysBesideRun self.old self.new }
-
-        ensures spare { self.old.spare ≤ self.new.spare }
-    {
+    fn found(&mut self, into: &mut Code) -> bool {
         let Some(run) = self.run else { unreachable!() };
         if run.next == run.end {
             into.clear();
@@ -364,12 +248,7 @@ impl OrderedStore for Plain {
         true
     }
 
-    fn close_run(&mut self)
-        ensures closed { self.new.run ≡ None }
-        ensures stays { StaysBesideRun self.old self.new }
-
-        ensures spare { self.old.spare ≤ self.new.spare }
-    {
+    fn close_run(&mut self) {
         self.run = None;
     }
 }

@@ -1,5 +1,5 @@
 //! A list of objects in which none moves when another one comes or goes.
-ghost use Rattle.std.specs.Prelude.{◌≡◌, ◌≤◌, ◌<◌, ◌+◌, ◌-◌, [], ◌∷◌, ◌++◌, length, take, slice_index_or, slice_set, slice_range, IsErr, OnOk};
+ghost use Rattle.std.specs.Prelude.{◌≡◌, ◌≤◌, ◌<◌, ◌+◌, ◌-◌, [], ◌∷◌, ◌++◌, length, take, slice_index_or, slice_set, slice_range, IsErr, OnErr, OnOk};
 ghost use Rattle.std.specs.List.{insert, remove};
 ghost use Rattle.std.specs.List.Sorted.{IsSearchInRange, IsBinarySearchResult};
 ghost use Rattle.ca_term.specs.declared.bounds.TheConstants.{MOST_CODE_BYTES};
@@ -51,6 +51,8 @@ impl Slab {
     pub(crate) fn reserve(&mut self) -> Result<(), AllocError>
         ensures pairs { self.new.pairs ≡ self.old.pairs }
         ensures room { OnOk result (1 ≤ self.new.spare) }
+        ensures lack { OnErr result (self.old.spare ≡ 0) }
+        ensures spared { 1 ≤ self.old.spare → self.new ≡ self.old }
         ensures grows { self.old.spare ≤ self.new.spare }
     {
         if self.len < self.order.len() {

@@ -46,6 +46,7 @@ module _ (a m : ScriptedStore) (o : Known) (turns : List ScriptTurn) (counts : C
         answer = subst (λ (n : StoreMap). IsAnswer event n) (start.map ∙ sym (after_pass 2 turn.before a.known.map)) answer;
         learns = record {
           same = record {
+            store = start.same.store;
             keypos = keypos ∙ start.same.keypos;
             pass = start.same.pass;
             passes = start.same.passes;

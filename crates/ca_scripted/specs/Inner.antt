@@ -9,7 +9,7 @@ use Rattle.ca_scripted.specs.declared.refusal.Refusal.{Refusal}
 use Rattle.ca_scripted.specs.declared.refusal.Call.{Call}
 use Rattle.ca_scripted.specs.declared.refusal.Call.TheVariants as call
 use Rattle.ca_scripted.specs.Script.{ScriptTurn, ScriptedStore, next_turn, after_edits, AreProper, IsProperTurn, count_edits}
-use Rattle.ca_scripted.specs.Refusals.{one_more, unless_deep}
+use Rattle.ca_scripted.specs.Refusals.{counted, unless_deep}
 use Rattle.ca_scripted.specs.Played.{Skips}
 
 -- The store inside has one owner.
@@ -84,12 +84,12 @@ pub record Begins (a b : ScriptedStore) (asked : Call) (turn : ScriptTurn) : Typ
   -- room is kept for the edits behind it too
   pub room : length turn.after + count_edits b.turns + b.known.spare ≤ b.room
 
--- A call was refused so.
-pub record Refuses (a b : ScriptedStore) (asked : Call) (refusal : Refusal) : Type 0 where
+-- A call with this budget was refused so.
+pub record Refuses (a b : ScriptedStore) (asked : Call) (budget : ℕ) (refusal : Refusal) : Type 0 where
   pub refusal_is : refusal_at asked (next_turn a.turns).refusal ≡ Some refusal
   pub skips : Skips a b
   pub closed : b.known.run ≡ None
-  pub declines : Declines a.known b.known (one_more refusal a.known.counts)
+  pub declines : Declines a.known b.known (counted refusal budget a.known.counts)
 
 abbrev pub AreBelow : ℕ → Counts → Type 0
 AreBelow most counts = (counts.busy < most) × (counts.full < most) × (counts.deep < most) × (counts.worn < most)

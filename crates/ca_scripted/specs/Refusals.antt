@@ -1,9 +1,11 @@
 -- How a script refuses a call.
 use Rattle.std.specs.Prelude.{◌≡◌, ℕ, Option, None, Some}
+use Rattle.ca_model.specs.declared.outcome.Cause.{Cause}
+use Rattle.ca_model.specs.declared.outcome.Cause.TheVariants as cause
 use Rattle.ca_model.specs.declared.outcome.Outcome.{Outcome}
 use Rattle.ca_model.specs.declared.outcome.Outcome.TheVariants as outcome
 use Rattle.ca_model.specs.Answer.{IsDone}
-use Rattle.ca_model.specs.Known.{Counts, one_more_busy, one_more_full, one_more_deep, one_more_worn}
+use Rattle.ca_model.specs.Known.{Counts, one_more}
 use Rattle.ca_scripted.specs.declared.refusal.Refusal.{Refusal}
 use Rattle.ca_scripted.specs.declared.refusal.Refusal.TheVariants as refusal
 
@@ -14,12 +16,16 @@ refused (refusal.Full cause) budget = outcome.Full cause
 refused (refusal.Deep level) budget = outcome.Deep level
 refused (refusal.Worn counter) budget = outcome.Worn counter
 
--- the counts with one more of this refusal
-abbrev pub one_more : Refusal → Counts → Counts
-one_more refusal.Busy counts = one_more_busy counts
-one_more (refusal.Full cause) counts = one_more_full counts
-one_more (refusal.Deep level) counts = one_more_deep counts
-one_more (refusal.Worn counter) counts = one_more_worn counts
+-- why such a call is refused
+abbrev pub cause_of : Refusal → ℕ → Cause
+cause_of refusal.Busy budget = cause.Busy (record { lost = budget; helped = 0; passed = 0 })
+cause_of (refusal.Full why) budget = cause.Full why
+cause_of (refusal.Deep level) budget = cause.Deep level
+cause_of (refusal.Worn counter) budget = cause.Worn counter
+
+-- the counts with one more of this refusal, of a call with this budget
+abbrev pub counted : Refusal → ℕ → Counts → Counts
+counted refusal budget counts = one_more (cause_of refusal budget) counts
 
 -- how a call is refused that puts no new key: it needs no level
 abbrev pub unless_deep : Option Refusal → Option Refusal

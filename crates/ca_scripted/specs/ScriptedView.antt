@@ -11,6 +11,7 @@ use Rattle.ca_scripted.specs.declared.scripted.Scripted.TheInside.{Inside}
 abbrev pub store_with : Known → List ScriptTurn → Counts → ℕ → List Edit → ScriptedStore
 store_with objects turns counts spare waiting = record {
   known = record {
+    store = [];
     keypos = objects.keypos;
     pass = 1;
     passes = 2;

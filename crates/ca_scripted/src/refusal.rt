@@ -1,9 +1,9 @@
 //! Refusals of a script.
 ghost use Rattle.std.specs.Prelude.{◌≡◌};
-ghost use Rattle.ca_scripted.specs.Refusals.{refused};
+ghost use Rattle.ca_scripted.specs.Refusals.{cause_of, refused};
 ghost use Rattle.ca_scripted.specs.Inner.{refusal_at};
 
-use ca_model::{Counter, FullCause, Outcome, Spent};
+use ca_model::{Cause, Counter, FullCause, Outcome, Spent};
 
 /// How a call is refused. `Busy` loses the call's whole budget.
 #[derive(Clone, Copy, Debug, PartialEq, Eq)]
@@ -23,6 +23,22 @@ pub(crate) enum Call {
 }
 
 impl Refusal {
+    // Why the call is refused, given its budget.
+    pub(crate) fn cause(self, budget: u32) -> Cause
+        ensures { result ≡ cause_of self budget }
+    {
+        match self {
+            Refusal::Busy => Cause::Busy(Spent {
+                lost: budget,
+                helped: 0,
+                passed: 0,
+            }),
+            Refusal::Full(cause) => Cause::Full(cause),
+            Refusal::Deep(level) => Cause::Deep(level),
+            Refusal::Worn(counter) => Cause::Worn(counter),
+        }
+    }
+
     // The outcome of a refused call.
     pub(crate) fn outcome<T>(self, budget: u32) -> Outcome<T>
         ensures { result ≡ refused self budget }

@@ -1,16 +1,8 @@
 //! A store with a script.
-ghost use Rattle.std.specs.Prelude.{◌≡◌, ◌≤◌, ◌∷◌, ◌++◌, [], None, false, true, length, slice_range, IfOk, IfErr, OnOk, OnErr};
-ghost use Rattle.ca_term.specs.declared.bounds.TheConstants.{MOST_CODE_BYTES, MOST_ELEMENTS};
-ghost use Rattle.ca_model.specs.StoreMap.{IsPair};
-ghost use Rattle.ca_model.specs.Edges.{bound_of, IsProperBound};
-ghost use Rattle.ca_model.specs.Event.{Write, WriteNew};
-ghost use Rattle.ca_model.specs.Known.{Meets, Declines, Stays, StaysBesideRun};
-ghost use Rattle.ca_model.specs.Function.{KeepsKey, MayBeAskedFor, MayBeAskedForAll};
-ghost use Rattle.ca_model.specs.Answer.{IfDone, IfRefused, IfBusy, IsDone, IsNeverDeep, Got, Removed, Altered, RemovedIf, FoundAbove, FoundBelow};
-ghost use Rattle.ca_model.specs.Runs.{IsOpen, HandedOut, Opens};
-ghost use Rattle.ca_scripted.specs.Script.{next_turn, IsProperTurn};
-ghost use Rattle.ca_scripted.specs.Refusals.{IsAsTold, unless_deep};
-ghost use Rattle.ca_scripted.specs.Played.{Plays, Skips, GotSuch, RemovedSuch, RemovedIfSuch, AlteredSuch, AboveSuch, BelowSuch, OpensWhole};
+ghost use Rattle.std.specs.Prelude.{◌≡◌, ◌≤◌, ◌∷◌, ◌++◌, [], None, false, true, IfOk, IfErr, OnOk, OnErr};
+ghost use Rattle.ca_term.specs.declared.bounds.TheConstants.{MOST_ELEMENTS};
+ghost use Rattle.ca_model.specs.Known.{Stays};
+ghost use Rattle.ca_scripted.specs.Script.{IsProperTurn};
 ghost use Rattle.ca_scripted.specs.Inner.{Begins, Refuses};
 
 use crate::foreign::Foreign;
@@ -68,7 +60,7 @@ impl Scripted {
         ensures alone { result.known.alone ≡ false }
         ensures sure { result.known.sure ≡ false }
         ensures seen { result.known.seen ≡ None }
-        ensures counts { result.known.counts ≡ record { busy = 0; full = 0; deep = 0; worn = 0 } }
+        ensures counts { result.known.counts ≡ record { busy = 0; full = 0; deep = 0; worn = 0; last = None } }
         ensures closed { result.known.run ≡ None }
         ensures turns { result.turns ≡ [] }
     {
@@ -114,18 +106,19 @@ impl Scripted {
         Ok(())
     }
 
-    // Takes the next turn, and learns of the edits before the call's own; where it refuses a call of this kind, also of those behind it.
-    fn begin(&mut self, asked: Call) -> Result<Turn, Refusal>
+    // Takes the next turn, for a call with this budget, and learns of the edits before the call's own; where it refuses a call of this kind,
+    // also of those behind it.
+    fn begin(&mut self, asked: Call, budget: u32) -> Result<Turn, Refusal>
         requires { self.old.known.run ≡ None }
         ensures begins { IfOk result (λ turn. Begins self.old self.new asked turn) }
-        ensures refuses { IfErr result (λ refusal. Refuses self.old self.new asked refusal) }
+        ensures refuses { IfErr result (λ refusal. Refuses self.old self.new asked budget refusal) }
     {
         let turn = take_turn(&mut self.turns, self.alloc);
         inner::make(&mut self.objects, turn.before());
         let Some(refusal) = turn.refusal_at(asked) else {
             return Ok(turn);
         };
-        self.tally.count(refusal);
+        self.tally.count(refusal, budget);
         inner::make(&mut self.objects, turn.after());
         Err(refusal)
     }
@@ -134,13 +127,11 @@ impl Scripted {
 impl OrderedStore for Scripted {
     ghost knows = { λ s. s.known };
 
-    fn reserve(&mut self) -> Result<(), AllocError>
-        requires closed { self.old.known.run ≡ None }
-        ensures room { OnOk result (1 ≤ self.new.known.spare) }
-        ensures stays { Stays self.old.known self.new.known }
+    ghost use Rattle.ca_scripted.specs.Promises.{script_promises};
 
-        ensures turns { self.new.turns ≡ self.old.turns }
-    {
+    ghost promises = { script_promises };
+
+    fn reserve(&mut self) -> Result<(), AllocError> {
         if self.spare > 0 {
             return Ok(());
         }
@@ -151,18 +142,8 @@ impl OrderedStore for Scripted {
         Ok(())
     }
 
-    fn get(&mut self, key: &[u8], into: &mut Code, budget: u32) -> Outcome<bool>
-        requires budget { 1 ≤ budget }
-        requires closed { self.old.known.run ≡ None }
-        requires key { (1 ≤ length key.now) × (length key.now ≤ MOST_CODE_BYTES) }
-        ensures done { IsDone result }
-        ensures got { IfDone result (λ found. Got self.old.known self.new.known key.now found into.new.items) }
-        ensures closed { self.new.known.run ≡ None }
-
-        ensures played { IfDone result (λ found. GotSuch (Plays self.old self.new) key.now found into.new.items) }
-    {
-        let _budget = budget;
-        let Ok(turn) = self.begin(Call::Get) else {
+    fn get(&mut self, key: &[u8], into: &mut Code, budget: u32) -> Outcome<bool> {
+        let Ok(turn) = self.begin(Call::Get, budget) else {
             unreachable!()
         };
         let found = inner::get(&mut self.objects, key, into);
@@ -170,22 +151,8 @@ impl OrderedStore for Scripted {
         Outcome::Done(found)
     }
 
-    fn put(&mut self, object: &[u8], key_at: usize, key_end: usize, budget: u32) -> Outcome<()>
-        requires budget { 1 ≤ budget }
-        requires closed { self.old.known.run ≡ None }
-        requires room { 1 ≤ self.old.known.spare }
-        requires place { (key_at ≤ key_end) × (key_end ≤ length object.now) }
-        requires pair { IsPair self.old.known.keypos (slice_range object.now key_at key_end, object.now) }
-        ensures put { IfDone result (λ _. Meets self.old.known self.new.known (Write (slice_range object.now key_at key_end) object.now)) }
-        ensures refused { IfRefused result (λ rise. Declines self.old.known self.new.known (rise self.old.known.counts)) }
-        ensures busy { IfBusy result (λ spent. budget ≤ spent) }
-        ensures closed { self.new.known.run ≡ None }
-
-        ensures told { IsAsTold (next_turn self.old.turns).refusal budget result }
-        ensures played { IfDone result (λ _. Plays self.old self.new (Write (slice_range object.now key_at key_end) object.now)) }
-        ensures skipped { IfRefused result (λ _. Skips self.old self.new) }
-    {
-        let turn = match self.begin(Call::Put) {
+    fn put(&mut self, object: &[u8], key_at: usize, key_end: usize, budget: u32) -> Outcome<()> {
+        let turn = match self.begin(Call::Put, budget) {
             Ok(turn) => turn,
             Err(refusal) => return refusal.outcome(budget),
         };
@@ -201,22 +168,8 @@ impl OrderedStore for Scripted {
         key_at: usize,
         key_end: usize,
         budget: u32,
-    ) -> Outcome<bool>
-        requires budget { 1 ≤ budget }
-        requires closed { self.old.known.run ≡ None }
-        requires room { 1 ≤ self.old.known.spare }
-        requires place { (key_at ≤ key_end) × (key_end ≤ length object.now) }
-        requires pair { IsPair self.old.known.keypos (slice_range object.now key_at key_end, object.now) }
-        ensures put { IfDone result (λ new. Meets self.old.known self.new.known (WriteNew (slice_range object.now key_at key_end) object.now new)) }
-        ensures refused { IfRefused result (λ rise. Declines self.old.known self.new.known (rise self.old.known.counts)) }
-        ensures busy { IfBusy result (λ spent. budget ≤ spent) }
-        ensures closed { self.new.known.run ≡ None }
-
-        ensures told { IsAsTold (next_turn self.old.turns).refusal budget result }
-        ensures played { IfDone result (λ new. Plays self.old self.new (WriteNew (slice_range object.now key_at key_end) object.now new)) }
-        ensures skipped { IfRefused result (λ _. Skips self.old self.new) }
-    {
-        let turn = match self.begin(Call::Put) {
+    ) -> Outcome<bool> {
+        let turn = match self.begin(Call::Put, budget) {
             Ok(turn) => turn,
             Err(refusal) => return refusal.outcome(budget),
         };
@@ -226,22 +179,8 @@ impl OrderedStore for Scripted {
         Outcome::Done(new)
     }
 
-    fn remove(&mut self, key: &[u8], old: &mut Code, budget: u32) -> Outcome<bool>
-        requires budget { 1 ≤ budget }
-        requires closed { self.old.known.run ≡ None }
-        requires key { (1 ≤ length key.now) × (length key.now ≤ MOST_CODE_BYTES) }
-        ensures removed { IfDone result (λ was. Removed self.old.known self.new.known key.now was old.new.items) }
-        ensures refused { IfRefused result (λ rise. Declines self.old.known self.new.known (rise self.old.known.counts)) }
-        ensures emptied { IfRefused result (λ _. old.new.items ≡ []) }
-        ensures never_deep { IsNeverDeep result }
-        ensures busy { IfBusy result (λ spent. budget ≤ spent) }
-        ensures closed { self.new.known.run ≡ None }
-
-        ensures told { IsAsTold (unless_deep (next_turn self.old.turns).refusal) budget result }
-        ensures played { IfDone result (λ was. RemovedSuch (Plays self.old self.new) key.now was old.new.items) }
-        ensures skipped { IfRefused result (λ _. Skips self.old self.new) }
-    {
-        let turn = match self.begin(Call::Other) {
+    fn remove(&mut self, key: &[u8], old: &mut Code, budget: u32) -> Outcome<bool> {
+        let turn = match self.begin(Call::Other, budget) {
             Ok(turn) => turn,
             Err(refusal) => {
                 old.clear();
@@ -259,23 +198,8 @@ impl OrderedStore for Scripted {
         f: &F,
         old: &mut Code,
         budget: u32,
-    ) -> Outcome<Changed>
-        requires budget { 1 ≤ budget }
-        requires closed { self.old.known.run ≡ None }
-        requires key { (1 ≤ length key.now) × (length key.now ≤ MOST_CODE_BYTES) }
-        requires function { MayBeAskedFor F.Fn f.now self.old.known.keypos key.now }
-        ensures removed { IfDone result (λ changed. RemovedIf F.Fn f.now self.old.known self.new.known key.now changed old.new.items) }
-        ensures refused { IfRefused result (λ rise. Declines self.old.known self.new.known (rise self.old.known.counts)) }
-        ensures emptied { IfRefused result (λ _. old.new.items ≡ []) }
-        ensures never_deep { IsNeverDeep result }
-        ensures busy { IfBusy result (λ spent. budget ≤ spent) }
-        ensures closed { self.new.known.run ≡ None }
-
-        ensures told { IsAsTold (unless_deep (next_turn self.old.turns).refusal) budget result }
-        ensures played { IfDone result (λ changed. RemovedIfSuch F.Fn f.now (Plays self.old self.new) key.now changed old.new.items) }
-        ensures skipped { IfRefused result (λ _. Skips self.old self.new) }
-    {
-        let turn = match self.begin(Call::Other) {
+    ) -> Outcome<Changed> {
+        let turn = match self.begin(Call::Other, budget) {
             Ok(turn) => turn,
             Err(refusal) => {
                 old.clear();
@@ -293,23 +217,8 @@ impl OrderedStore for Scripted {
         f: &F,
         old: &mut Code,
         budget: u32,
-    ) -> Outcome<Changed>
-        requires budget { 1 ≤ budget }
-        requires closed { self.old.known.run ≡ None }
-        requires key { (1 ≤ length key.now) × (length key.now ≤ MOST_CODE_BYTES) }
-        requires function { KeepsKey F.Fn f.now self.old.known.keypos key.now }
-        ensures changed { IfDone result (λ changed. Altered F.Fn f.now self.old.known self.new.known key.now changed old.new.items) }
-        ensures refused { IfRefused result (λ rise. Declines self.old.known self.new.known (rise self.old.known.counts)) }
-        ensures emptied { IfRefused result (λ _. old.new.items ≡ []) }
-        ensures never_deep { IsNeverDeep result }
-        ensures busy { IfBusy result (λ spent. budget ≤ spent) }
-        ensures closed { self.new.known.run ≡ None }
-
-        ensures told { IsAsTold (unless_deep (next_turn self.old.turns).refusal) budget result }
-        ensures played { IfDone result (λ changed. AlteredSuch F.Fn f.now (Plays self.old self.new) key.now changed old.new.items) }
-        ensures skipped { IfRefused result (λ _. Skips self.old self.new) }
-    {
-        let turn = match self.begin(Call::Other) {
+    ) -> Outcome<Changed> {
+        let turn = match self.begin(Call::Other, budget) {
             Ok(turn) => turn,
             Err(refusal) => {
                 old.clear();
@@ -321,22 +230,8 @@ impl OrderedStore for Scripted {
         Outcome::Done(changed)
     }
 
-    fn above(&mut self, lo: Edge<'_>, into: &mut Code, budget: u32) -> Outcome<bool>
-        requires budget { 1 ≤ budget }
-        requires closed { self.old.known.run ≡ None }
-        requires edge { IsProperBound (bound_of lo) }
-        ensures found { IfDone result (λ found. FoundAbove self.old.known self.new.known (bound_of lo.entry) found into.new.items) }
-        ensures refused { IfRefused result (λ rise. Declines self.old.known self.new.known (rise self.old.known.counts)) }
-        ensures emptied { IfRefused result (λ _. into.new.items ≡ []) }
-        ensures never_deep { IsNeverDeep result }
-        ensures busy { IfBusy result (λ spent. budget ≤ spent) }
-        ensures closed { self.new.known.run ≡ None }
-
-        ensures told { IsAsTold (unless_deep (next_turn self.old.turns).refusal) budget result }
-        ensures played { IfDone result (λ found. AboveSuch (Plays self.old self.new) (bound_of lo.entry) found into.new.items) }
-        ensures skipped { IfRefused result (λ _. Skips self.old self.new) }
-    {
-        let turn = match self.begin(Call::Other) {
+    fn above(&mut self, lo: Edge<'_>, into: &mut Code, budget: u32) -> Outcome<bool> {
+        let turn = match self.begin(Call::Other, budget) {
             Ok(turn) => turn,
             Err(refusal) => {
                 into.clear();
@@ -348,22 +243,8 @@ impl OrderedStore for Scripted {
         Outcome::Done(found)
     }
 
-    fn below(&mut self, hi: Edge<'_>, into: &mut Code, budget: u32) -> Outcome<bool>
-        requires budget { 1 ≤ budget }
-        requires closed { self.old.known.run ≡ None }
-        requires edge { IsProperBound (bound_of hi) }
-        ensures found { IfDone result (λ found. FoundBelow self.old.known self.new.known (bound_of hi.entry) found into.new.items) }
-        ensures refused { IfRefused result (λ rise. Declines self.old.known self.new.known (rise self.old.known.counts)) }
-        ensures emptied { IfRefused result (λ _. into.new.items ≡ []) }
-        ensures never_deep { IsNeverDeep result }
-        ensures busy { IfBusy result (λ spent. budget ≤ spent) }
-        ensures closed { self.new.known.run ≡ None }
-
-        ensures told { IsAsTold (unless_deep (next_turn self.old.turns).refusal) budget result }
-        ensures played { IfDone result (λ found. BelowSuch (Plays self.old self.new) (bound_of hi.entry) found into.new.items) }
-        ensures skipped { IfRefused result (λ _. Skips self.old self.new) }
-    {
-        let turn = match self.begin(Call::Other) {
+    fn below(&mut self, hi: Edge<'_>, into: &mut Code, budget: u32) -> Outcome<bool> {
+        let turn = match self.begin(Call::Other, budget) {
             Ok(turn) => turn,
             Err(refusal) => {
                 into.clear();
@@ -382,24 +263,8 @@ impl OrderedStore for Scripted {
         want: u32,
         counts: &F,
         budget: u32,
-    ) -> Outcome<bool>
-        requires budget { 1 ≤ budget }
-        requires closed { self.old.known.run ≡ None }
-        requires lower_edge { IsProperBound (bound_of lo) }
-        requires upper_edge { IsProperBound (bound_of hi) }
-        requires function { MayBeAskedForAll F.Fn counts.now self.old.known.keypos }
-        ensures opens { IfDone result (λ whole.
-            Opens F.Fn counts.now self.old.known self.new.known (bound_of lo.entry) (bound_of hi.entry) want whole) }
-        ensures refused { IfRefused result (λ rise. Declines self.old.known self.new.known (rise self.old.known.counts)) }
-        ensures closed { IfRefused result (λ _. self.new.known.run ≡ None) }
-        ensures never_deep { IsNeverDeep result }
-        ensures busy { IfBusy result (λ spent. budget ≤ spent) }
-
-        ensures told { IsAsTold (unless_deep (next_turn self.old.turns).refusal) budget result }
-        ensures played { IfDone result (λ whole. (whole ≡ true) × OpensWhole self.old self.new (bound_of lo.entry) (bound_of hi.entry)) }
-        ensures skipped { IfRefused result (λ _. Skips self.old self.new) }
-    {
-        let turn = match self.begin(Call::Other) {
+    ) -> Outcome<bool> {
+        let turn = match self.begin(Call::Other, budget) {
             Ok(turn) => turn,
             Err(told) => return told.outcome(budget),
         };
@@ -408,22 +273,11 @@ impl OrderedStore for Scripted {
         Outcome::Done(true)
     }
 
-    fn found(&mut self, into: &mut Code) -> bool
-        requires open { IsOpen self.old.known }
-        ensures handed_out { HandedOut self.old.known self.new.known result into.new.items }
-        ensures stays { StaysBesideRun self.old.known self.new.known }
-
-        ensures turns { self.new.turns ≡ self.old.turns }
-    {
+    fn found(&mut self, into: &mut Code) -> bool {
         self.objects.found(into)
     }
 
-    fn close_run(&mut self)
-        ensures closed { self.new.known.run ≡ None }
-        ensures stays { StaysBesideRun self.old.known self.new.known }
-
-        ensures turns { self.new.turns ≡ self.old.turns }
-    {
+    fn close_run(&mut self) {
         self.objects.close_run();
         inner::make(&mut self.objects, self.waiting.as_slice());
         self.waiting.clear();

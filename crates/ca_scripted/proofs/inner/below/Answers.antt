@@ -5,7 +5,7 @@ use Rattle.ca_scripted.proofs.inner.below.Goals as goal
 
 pub returns : goal.returns
 returns c =
-    below c.args.objects.now c.below.new.self c.requires.inner c.below.ensures.spare c.below.ensures.closed (bound_of c.args.hi) c.value.result
+    below c.args.objects.now c.below.new.self c.requires.inner c.below.ensures.promised c.below.ensures.closed (bound_of c.args.hi) c.value.result
     c.below.new.into.items
     (done_value c.below.result c.value.result (λ found. FoundBelow c.args.objects.now c.below.new.self (bound_of c.args.hi) found c.below.new.into.items)
     c.value.ensures c.below.ensures.found)

@@ -4,7 +4,7 @@ use Rattle.ca_scripted.proofs.inner.change.Goals as goal
 
 pub returns : goal.returns
 returns g c =
-    altered c.args.objects.now c.change.new.self c.requires.inner c.change.ensures.spare c.change.ensures.closed
+    altered c.args.objects.now c.change.new.self c.requires.inner c.change.ensures.promised c.change.ensures.closed
     c.args.key.now g.F.Fn c.args.f.now c.value.result
     c.change.new.old.items
     (done_value c.change.result c.value.result

@@ -4,7 +4,7 @@ use Rattle.ca_scripted.proofs.inner.remove_if.Goals as goal
 
 pub returns : goal.returns
 returns g c =
-    removed_if c.args.objects.now c.remove_if.new.self c.requires.inner c.remove_if.ensures.spare c.remove_if.ensures.closed
+    removed_if c.args.objects.now c.remove_if.new.self c.requires.inner c.remove_if.ensures.promised c.remove_if.ensures.closed
     c.args.key.now g.F.Fn c.args.f.now c.value.result
     c.remove_if.new.old.items
     (done_value c.remove_if.result c.value.result
