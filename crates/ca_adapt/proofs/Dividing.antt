@@ -1,21 +1,22 @@
 -- What became of a base that was to be split, by what became of its exchange.
 use Rattle.std.proofs.Common.{◌≡◌, ◌≢◌, ℕ, Bool, true, false, length, Result, Ok, Err, sym, refl, subst, inl, inr}
 use Rattle.ca_adapt.specs.declared.adapted.Adapted.{Adapted}
-use Rattle.ca_adapt.specs.Splits.{IsSplitAs, MayBeSplit, IsPoolsLoss, answer_to, attempts_at_first}
+use Rattle.ca_adapt.specs.Splits.{HasSplitBack, IsOneTry, IsSplitAs, MayBeSplit, IsPoolsLoss, answer_to, attempts_at_first}
 use Rattle.ca_base.specs.declared.taking.NoRow.{NoRow}
 use Rattle.ca_base.specs.declared.taking.NoRow.TheVariants as norow
-use Rattle.ca_base.specs.Counting.{HasEnded}
+use Rattle.ca_base.specs.Counting.{HasCleared, HasEnded}
 use Rattle.ca_base.specs.Putting.{first_note}
 use Rattle.ca_base.specs.Splitting.{HasSplit}
 use Rattle.ca_node.specs.Inventory.{IsListed}
 use Rattle.ca_node.specs.Told.{MyTree, IsAlone}
 use Rattle.ca_node.specs.TreeView.{Note}
+use Rattle.ca_rows.specs.declared.kept.KeptRows.{KeptRows}
 use Rattle.ca_rows.specs.declared.sizes.Sizes.{Sizes}
 
 -- It was split where the exchange won; else there is the cause.
 split_by : (z : Sizes) (note : Note) (r : Result Bool NoRow) (m m' : MyTree) → MayBeSplit z note → HasEnded r m m'
     → HasSplit (length note.objects) (attempts_at_first z) r m.0.upper m'.0.upper → IsSplitAs z note (answer_to r) m m'
-split_by z note (Ok true) m m' may ended split = (may, ended, split)
+split_by z note (Ok true) m m' may ended split = (may, ended.0, split)
 split_by z note (Ok false) m m' may ended split = (may, ended.0, ended.1, inr split)
 split_by z note (Err norow.Lost) m m' may ended split = (may, ended.0, ended.1, inl split)
 split_by z note (Err norow.Empty) m m' may ended split = (may, ended, split)
@@ -47,3 +48,29 @@ pools_as z r a many attempt k m m' same is so split alone listed = subst (λ (x 
   where
     here : IsAlone z m.0.upper × IsListed m.0.upper.inventory (first_note m.0.upper.notes)
     here = subst (λ (x : MyTree). IsAlone z x.0.upper × IsListed x.0.upper.inventory (first_note x.0.upper.notes)) (sym same) (alone, listed)
+
+-- A split that was carried out lost no exchange.
+one_try : (r : Result Bool NoRow) (m m' : MyTree) → HasEnded r m m' → IsOneTry (answer_to r) m m'
+one_try (Ok true) m m' ended e = ended.1
+one_try (Ok false) m m' ended e = absurd cc
+one_try (Err norow.Lost) m m' ended e = absurd cc
+one_try (Err norow.Empty) m m' ended e = absurd cc
+one_try (Err norow.Worn) m m' ended e = absurd cc
+
+-- The rows of one that wasn't were put back.
+put_back : (r : Result Bool NoRow) (m m' : MyTree) (kept kept' : KeptRows) → HasCleared r m m' kept kept' → HasSplitBack (answer_to r) m m' kept kept'
+put_back (Ok true) m m' kept kept' h = tt
+put_back (Ok false) m m' kept kept' h = h
+put_back (Err norow.Lost) m m' kept kept' h = h
+put_back (Err norow.Empty) m m' kept kept' h = h
+put_back (Err norow.Worn) m m' kept kept' h = h
+
+-- The same, where the pass knew and kept as much before.
+pub one_try_as : (r : Result Bool NoRow) (a : Adapted) (k m m' : MyTree) → m ≡ k → a ≡ answer_to r → HasEnded r m m' → IsOneTry a k m'
+one_try_as r a k m m' same is ended = subst (λ (x : Adapted). IsOneTry x k m') (sym is)
+    (subst (λ (x : MyTree). IsOneTry (answer_to r) x m') same (one_try r m m' ended))
+
+pub put_back_as : (r : Result Bool NoRow) (a : Adapted) (k m m' : MyTree) (kept kept0 kept' : KeptRows) → m ≡ k → kept0 ≡ kept → a ≡ answer_to r
+    → HasCleared r m m' kept0 kept' → HasSplitBack a k m' kept kept'
+put_back_as r a k m m' kept kept0 kept' same list is h = subst (λ (x : Adapted). HasSplitBack x k m' kept kept') (sym is)
+    (subst (λ (x : MyTree × KeptRows). HasSplitBack (answer_to r) x.0 m' x.1 kept') (λ i. (same i, list i)) (put_back r m m' kept0 kept' h))

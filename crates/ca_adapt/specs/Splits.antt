@@ -6,10 +6,11 @@ use Rattle.ca_adapt.specs.declared.adapted.Why.{Why}
 use Rattle.ca_adapt.specs.declared.adapted.Why.TheVariants as why
 use Rattle.ca_base.specs.declared.taking.NoRow.{NoRow}
 use Rattle.ca_base.specs.declared.taking.NoRow.TheVariants as norow
-use Rattle.ca_base.specs.Counting.{losses, HasMet}
+use Rattle.ca_base.specs.Counting.{losses, HasMet, PutsBack}
 use Rattle.ca_base.specs.Splitting.{HasSplit}
 use Rattle.ca_node.specs.Told.{MyTree, one_more_lost}
 use Rattle.ca_node.specs.TreeView.{Note}
+use Rattle.ca_rows.specs.declared.kept.KeptRows.{KeptRows}
 use Rattle.ca_rows.specs.declared.sizes.Sizes.{Sizes}
 
 -- what became of it, by what became of its exchange
@@ -50,6 +51,26 @@ IsSplitAs z note adapted.Split m m' = MayBeSplit z note × HasMet 0 0 m m'
 IsSplitAs z note adapted.Joined m m' = ⊥
 IsSplitAs z note (adapted.NotSplit why) m m' = IsNotSplitBy z note why m m'
 IsSplitAs z note (adapted.NotJoined why) m m' = ⊥
+
+-- A base that was split was split by one try: no exchange was lost in it.
+abbrev pub IsOneTry : Adapted → MyTree → MyTree → Type 0
+IsOneTry a m m' = a ≡ adapted.Split → losses m' ≡ losses m
+
+-- The rows that were taken for a split that wasn't made were put back: one exchange was lost by the taking, or that of the base, where one was.
+abbrev pub HasSplitBack : Adapted → MyTree → MyTree → KeptRows → KeptRows → Type 0
+HasSplitBack adapted.Stay m m' kept kept' = Unit {0}
+HasSplitBack adapted.Split m m' kept kept' = Unit {0}
+HasSplitBack adapted.Joined m m' kept kept' = Unit {0}
+HasSplitBack (adapted.NotSplit why.Root) m m' kept kept' = Unit {0}
+HasSplitBack (adapted.NotSplit why.OneObject) m m' kept kept' = kept' ≡ kept
+HasSplitBack (adapted.NotSplit why.AtLevel) m m' kept kept' = kept' ≡ kept
+HasSplitBack (adapted.NotSplit why.SiblingRoute) m m' kept kept' = Unit {0}
+HasSplitBack (adapted.NotSplit why.TooMany) m m' kept kept' = Unit {0}
+HasSplitBack (adapted.NotSplit why.Taken) m m' kept kept' = Unit {0}
+HasSplitBack (adapted.NotSplit why.Lost) m m' kept kept' = PutsBack 1 m m' kept kept'
+HasSplitBack (adapted.NotSplit why.NoRow) m m' kept kept' = PutsBack 0 m m' kept kept'
+HasSplitBack (adapted.NotSplit why.Worn) m m' kept kept' = PutsBack 0 m m' kept kept'
+HasSplitBack (adapted.NotJoined why) m m' kept kept' = Unit {0}
 
 -- No exchange of a link was lost: where an exchange was lost, it was that of the pool's head.
 abbrev pub IsPoolsLoss : Adapted → MyTree → MyTree → Type 0

@@ -1,15 +1,14 @@
 //! Splits of a base.
-ghost use Rattle.std.specs.Prelude.{◌≡◌, ◌<◌, [], true};
-ghost use Rattle.ca_adapt.specs.Splits.{IsSplitAs, IsPoolsLoss, answer_to, attempts_at_first};
+ghost use Rattle.std.specs.Prelude.{◌≡◌, ◌<◌, true};
+ghost use Rattle.ca_adapt.specs.Splits.{HasSplitBack, IsOneTry, IsSplitAs, IsPoolsLoss, answer_to, attempts_at_first};
 ghost use Rattle.ca_adapt.specs.Tuned.{IsTuned};
 ghost use Rattle.ca_base.specs.Counting.{IsSpent};
 ghost use Rattle.ca_base.specs.Finding.{IsAtCursor, IsReadable};
-ghost use Rattle.ca_base.specs.Putting.{first_note};
-ghost use Rattle.ca_base.specs.Taking.{AreHeld};
 ghost use Rattle.ca_node.specs.Inventory.{IsListed};
-ghost use Rattle.ca_node.specs.Tallied.{IsTallied};
 ghost use Rattle.ca_node.specs.Told.{IsAlone};
-ghost use Rattle.ca_rows.specs.Calls.{IsOf, IsSame};
+ghost use Rattle.ca_rows.specs.Passes.{sizes, known};
+ghost use Rattle.ca_node.specs.TreePasses.{tree_of};
+ghost use Rattle.ca_base.specs.Readiness.{IsReady, StaysReady, shown_last};
 
 use crate::adapted::{Adapted, Why};
 use crate::tuning::Tuning;
@@ -25,22 +24,16 @@ const LAST_ATTEMPT: u64 = (1 << 62) - 1;
 /// no row was free and where the pool's tag can rise no more, and with `Lost` where an exchange was lost, of the base or of the pool's head. Of a
 /// base that it lists, a pass that is alone loses none.
 pub fn split(space: &TreeSpace, pass: &mut TreePass, cursor: &Cursor, tuning: &Tuning) -> Adapted
-    requires own { IsOf space.now.table.shared.table_id space.now.table.shared.key pass.old.seat }
-    requires pinned { pass.old.seat.me.0.pin.pinned ≡ true }
-    requires number { 0 < pass.old.seat.me.0.upper.number }
-    requires none { AreHeld space.now.table.shared.key.rows pass.old.kept.rows pass.old.seat.me.0 [] }
-    requires tuned { IsTuned space.now.table.shared.key tuning.now }
-    requires readable { IsReadable space.now.table.shared.key pass.old.seat.me.0.upper cursor.now.base (first_note pass.old.seat.me.0.upper.notes) }
-    requires at { IsAtCursor space.now.table.shared.key (first_note pass.old.seat.me.0.upper.notes) cursor.now }
-    ensures same { IsSame pass.old.seat pass.new.seat }
-    ensures number { pass.new.number ≡ pass.old.number }
-    ensures tally { IsTallied pass.old.tally pass.old.seat.me.0.upper → IsTallied pass.new.tally pass.new.seat.me.0.upper }
-    ensures pin { (pass.new.seat.me.0.sizes ≡ pass.old.seat.me.0.sizes) × (pass.new.seat.me.0.pin ≡ pass.old.seat.me.0.pin) }
-    ensures none { AreHeld space.now.table.shared.key.rows pass.new.kept.rows pass.new.seat.me.0 [] }
-    ensures split { IsSplitAs space.now.table.shared.key (first_note pass.old.seat.me.0.upper.notes) result pass.old.seat.me pass.new.seat.me }
-    ensures won { IsAlone space.now.table.shared.key pass.old.seat.me.0.upper
-        → IsListed pass.old.seat.me.0.upper.inventory (first_note pass.old.seat.me.0.upper.notes)
-        → IsPoolsLoss result pass.old.seat.me pass.new.seat.me }
+    requires ready { IsReady space.now pass.old }
+    requires tuned { IsTuned (sizes space.now) tuning.now }
+    requires readable { IsReadable (sizes space.now) (tree_of pass.old) cursor.now.base (shown_last pass.old) }
+    requires at { IsAtCursor (sizes space.now) (shown_last pass.old) cursor.now }
+    ensures frame { StaysReady space.now pass.old pass.new }
+    ensures split { IsSplitAs (sizes space.now) (shown_last pass.old) result (known pass.old) (known pass.new) }
+    ensures once { IsOneTry result (known pass.old) (known pass.new) }
+    ensures back { HasSplitBack result (known pass.old) (known pass.new) pass.old.kept pass.new.kept }
+    ensures won { IsAlone (sizes space.now) (tree_of pass.old) → IsListed (tree_of pass.old).inventory (shown_last pass.old)
+        → IsPoolsLoss result (known pass.old) (known pass.new) }
 {
     let mut spent = Spent {
         lost: 0,
@@ -58,23 +51,17 @@ pub fn try_split(
     tuning: &Tuning,
     spent: &mut Spent,
 ) -> Adapted
-    requires own { IsOf space.now.table.shared.table_id space.now.table.shared.key pass.old.seat }
-    requires pinned { pass.old.seat.me.0.pin.pinned ≡ true }
-    requires number { 0 < pass.old.seat.me.0.upper.number }
-    requires none { AreHeld space.now.table.shared.key.rows pass.old.kept.rows pass.old.seat.me.0 [] }
-    requires tuned { IsTuned space.now.table.shared.key tuning.now }
-    requires readable { IsReadable space.now.table.shared.key pass.old.seat.me.0.upper cursor.base (first_note pass.old.seat.me.0.upper.notes) }
-    requires at { IsAtCursor space.now.table.shared.key (first_note pass.old.seat.me.0.upper.notes) cursor }
-    ensures same { IsSame pass.old.seat pass.new.seat }
-    ensures number { pass.new.number ≡ pass.old.number }
-    ensures tally { IsTallied pass.old.tally pass.old.seat.me.0.upper → IsTallied pass.new.tally pass.new.seat.me.0.upper }
-    ensures pin { (pass.new.seat.me.0.sizes ≡ pass.old.seat.me.0.sizes) × (pass.new.seat.me.0.pin ≡ pass.old.seat.me.0.pin) }
-    ensures none { AreHeld space.now.table.shared.key.rows pass.new.kept.rows pass.new.seat.me.0 [] }
-    ensures split { IsSplitAs space.now.table.shared.key (first_note pass.old.seat.me.0.upper.notes) result pass.old.seat.me pass.new.seat.me }
-    ensures won { IsAlone space.now.table.shared.key pass.old.seat.me.0.upper
-        → IsListed pass.old.seat.me.0.upper.inventory (first_note pass.old.seat.me.0.upper.notes)
-        → IsPoolsLoss result pass.old.seat.me pass.new.seat.me }
-    ensures counted { IsSpent spent.old spent.new pass.old.seat.me pass.new.seat.me }
+    requires ready { IsReady space.now pass.old }
+    requires tuned { IsTuned (sizes space.now) tuning.now }
+    requires readable { IsReadable (sizes space.now) (tree_of pass.old) cursor.base (shown_last pass.old) }
+    requires at { IsAtCursor (sizes space.now) (shown_last pass.old) cursor }
+    ensures frame { StaysReady space.now pass.old pass.new }
+    ensures split { IsSplitAs (sizes space.now) (shown_last pass.old) result (known pass.old) (known pass.new) }
+    ensures once { IsOneTry result (known pass.old) (known pass.new) }
+    ensures back { HasSplitBack result (known pass.old) (known pass.new) pass.old.kept pass.new.kept }
+    ensures won { IsAlone (sizes space.now) (tree_of pass.old) → IsListed (tree_of pass.old).inventory (shown_last pass.old)
+        → IsPoolsLoss result (known pass.old) (known pass.new) }
+    ensures counted { IsSpent spent.old spent.new (known pass.old) (known pass.new) }
 {
     let many = count(space, pass, cursor.base);
     if many < 2 {
@@ -89,7 +76,7 @@ pub fn try_split(
 
 /// How many attempts to join a new route is said to have had: as many as the space was made with.
 pub fn first_attempt(space: &TreeSpace) -> u64
-    ensures value { result ≡ attempts_at_first space.now.table.shared.key }
+    ensures value { result ≡ attempts_at_first (sizes space.now) }
     ensures bound { result < 4611686018427387904 }
 {
     space.starts().attempt.min(LAST_ATTEMPT)

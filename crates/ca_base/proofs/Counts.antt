@@ -1,8 +1,10 @@
 -- What calls count, one after another.
-use Rattle.std.proofs.Common.{◌≡◌, ℕ, ◌+◌, ◌≤◌, refl, ◌∙◌, arith}
+use Rattle.std.proofs.Common.{◌≡◌, ℕ, ◌+◌, ◌≤◌, Bool, true, false, Result, Ok, Err, ap, refl, ◌∙◌, arith, vec_len}
 use Rattle.ca_model.specs.declared.outcome.Spent.{Spent}
 use Rattle.ca_node.specs.Told.{MyTree}
-use Rattle.ca_base.specs.Counting.{losses, IsSpent, HasMet, PutsBack}
+use Rattle.ca_base.specs.declared.taking.NoRow.{NoRow}
+use Rattle.ca_base.specs.declared.taking.NoRow.TheVariants as why
+use Rattle.ca_base.specs.Counting.{losses, IsSpent, HasCleared, HasEnded, HasFound, HasMet, HasPutBack, PutsBack}
 use Rattle.ca_rows.specs.declared.kept.KeptRows.{KeptRows}
 
 -- Two calls, one after the other.
@@ -22,6 +24,52 @@ pub met_both : (a b c d : ℕ) (k m n : MyTree) → HasMet a b k m → HasMet c 
 met_both a b c d k m n x y = let e = x.0 in let w = x.1 in let e' = y.0 in let w' = y.1 in (omega arith, omega arith)
 
 -- Rows were put back twice.
-pub back_both : (a b n : ℕ) (k m l : MyTree) (kept kept' kept'' : KeptRows) → n ≤ a → n ≤ b → losses k ≤ losses m → losses m ≤ losses l
-    → PutsBack a k m kept kept' → PutsBack b m l kept' kept'' → PutsBack n k l kept kept''
-back_both a b n k m l kept kept' kept'' la lb more more' one two less = two (omega arith) ∙ one (omega arith)
+pub back_both : (a b : ℕ) (k m l : MyTree) (kept kept' kept'' : KeptRows) → losses k + a ≤ losses m → losses m + b ≤ losses l
+    → PutsBack a k m kept kept' → PutsBack b m l kept' kept'' → PutsBack (a + b) k l kept kept''
+back_both a b k m l kept kept' kept'' more more' one two = let first = one.0 in let last = two.0 in
+    (omega arith, λ less. two.1 (omega arith) ∙ one.1 (omega arith))
+
+-- Nothing was put back, and so many exchanges were lost by something else.
+pub none_back : (else : ℕ) (m m' : MyTree) (kept kept' : KeptRows) → losses m' ≡ losses m + else → kept' ≡ kept → PutsBack else m m' kept kept'
+none_back else m m' kept kept' lost same = (let as_many = ap (λ (k : KeptRows). vec_len k.rows) same in omega arith, λ _. same)
+
+-- Nothing was lost until these rows were to be put back.
+as_begun : (else : ℕ) (k m l : MyTree) (kept kept0 kept' : KeptRows) → losses m ≡ losses k → kept0 ≡ kept → PutsBack else m l kept0 kept'
+    → PutsBack else k l kept kept'
+as_begun else k m l kept kept0 kept' same list h = let sum = h.0 in let as_many = ap (λ (x : KeptRows). vec_len x.rows) list in
+    (omega arith, λ less. h.1 (omega arith) ∙ list)
+
+-- No row was taken, and those that were taken before are put back.
+pub back_after : (S T : Type 0) (reason : NoRow) (k m0 m l : MyTree) (kept kept0 kept' kept'' : KeptRows) → losses m0 ≡ losses k → kept0 ≡ kept
+    → HasFound {T = S} (Err reason) m0 m → losses m0 ≤ losses m → HasPutBack {T = S} (Err reason) m0 m kept0 kept' → losses m ≤ losses l
+    → PutsBack 0 m l kept' kept'' → HasPutBack {T = T} (Err reason) k l kept kept''
+back_after S T why.Empty k m0 m l kept kept0 kept' kept'' same list found more one more' two =
+    as_begun 0 k m0 l kept kept0 kept'' same list (back_both 0 0 m0 m l kept0 kept' kept'' (omega arith) (omega arith) one two)
+back_after S T why.Lost k m0 m l kept kept0 kept' kept'' same list found more one more' two = let lost = found.0 in
+    as_begun 1 k m0 l kept kept0 kept'' same list (back_both 1 0 m0 m l kept0 kept' kept'' (omega arith) (omega arith) one two)
+back_after S T why.Worn k m0 m l kept kept0 kept' kept'' same list found more one more' two =
+    as_begun 0 k m0 l kept kept0 kept'' same list (back_both 0 0 m0 m l kept0 kept' kept'' (omega arith) (omega arith) one two)
+
+-- The same of an exchange of a base, behind steps that lost none and kept the same rows.
+pub cleared_after : (r : Result Bool NoRow) (k m l : MyTree) (kept kept0 kept' : KeptRows) → losses m ≡ losses k → kept0 ≡ kept
+    → HasCleared r m l kept0 kept' → HasCleared r k l kept kept'
+cleared_after (Ok true) k m l kept kept0 kept' same list h = tt
+cleared_after (Ok false) k m l kept kept0 kept' same list h = as_begun 1 k m l kept kept0 kept' same list h
+cleared_after (Err why.Empty) k m l kept kept0 kept' same list h = as_begun 0 k m l kept kept0 kept' same list h
+cleared_after (Err why.Lost) k m l kept kept0 kept' same list h = as_begun 1 k m l kept kept0 kept' same list h
+cleared_after (Err why.Worn) k m l kept kept0 kept' same list h = as_begun 0 k m l kept kept0 kept' same list h
+
+-- And of what was found.
+pub ended_after : (r : Result Bool NoRow) (k m l : MyTree) → losses m ≡ losses k → HasMet 0 0 k m → HasEnded r m l → HasEnded r k l
+ended_after (Ok true) k m l same met h = (met_both 0 0 0 0 k m l met h.0, h.1 ∙ same)
+ended_after (Ok false) k m l same met h = (let more = h.0 in omega arith, met_both 0 0 0 0 k m l met h.1)
+ended_after (Err why.Empty) k m l same met h = met_both 0 0 1 0 k m l met h
+ended_after (Err why.Lost) k m l same met h = (let more = h.0 in omega arith, met_both 0 0 0 0 k m l met h.1)
+ended_after (Err why.Worn) k m l same met h = met_both 0 0 0 1 k m l met h
+
+-- Rows that were taken, and those of a failed exchange, in the words of an exchange.
+pub cleared_as : (T : Type 0) (reason : NoRow) (m m' : MyTree) (kept kept' : KeptRows) → HasPutBack {T = T} (Err reason) m m' kept kept'
+    → HasCleared (Err reason) m m' kept kept'
+cleared_as T why.Empty m m' kept kept' h = h
+cleared_as T why.Lost m m' kept kept' h = h
+cleared_as T why.Worn m m' kept kept' h = h

@@ -1,5 +1,5 @@
 -- What calls count: the exchanges that they lost, and how often they found the pool's head empty or worn.
-use Rattle.std.specs.Prelude.{◌≡◌, ℕ, ◌+◌, ◌-◌, ◌<◌, ◌≤◌, min, Bool, true, false, Result, Ok, Err}
+use Rattle.std.specs.Prelude.{◌≡◌, ℕ, ◌+◌, ◌-◌, ◌<◌, ◌≤◌, min, Bool, true, false, Result, Ok, Err, vec_len}
 use Rattle.ca_model.specs.declared.outcome.Spent.{Spent}
 use Rattle.ca_node.specs.Told.{MyTree}
 use Rattle.ca_base.specs.declared.taking.NoRow.{NoRow}
@@ -21,22 +21,23 @@ pub record IsSpent (before now : Spent) (m m' : MyTree) : Type 0 where
 abbrev pub HasMet : ℕ → ℕ → MyTree → MyTree → Type 0
 HasMet empty worn m m' = (m'.0.empty ≡ m.0.empty + empty) × (m'.0.worn ≡ m.0.worn + worn)
 
--- Why no row was taken, if none was: the head was empty, or its tag could rise no more, or an exchange was lost.
+-- Where rows were taken, no exchange was lost; else this is why none was: the head was empty, or its tag could rise no more, or an exchange was lost.
 abbrev pub HasFound : {T : Type 0} → Result T NoRow → MyTree → MyTree → Type 0
-HasFound (Ok x) m m' = HasMet 0 0 m m'
+HasFound (Ok x) m m' = HasMet 0 0 m m' × (losses m' ≡ losses m)
 HasFound (Err why.Empty) m m' = HasMet 1 0 m m'
 HasFound (Err why.Lost) m m' = (losses m < losses m') × HasMet 0 0 m m'
 HasFound (Err why.Worn) m m' = HasMet 0 1 m m'
 
 -- Where the exchange of the base was lost, that is found, too.
 abbrev pub HasEnded : Result Bool NoRow → MyTree → MyTree → Type 0
-HasEnded (Ok true) m m' = HasMet 0 0 m m'
+HasEnded (Ok true) m m' = HasMet 0 0 m m' × (losses m' ≡ losses m)
 HasEnded (Ok false) m m' = (losses m < losses m') × HasMet 0 0 m m'
 HasEnded (Err why) m m' = HasFound {T = Bool} (Err why) m m'
 
--- Rows that were held were put back: where no more than so many exchanges were lost, no row is kept for it.
+-- Rows that were held were put back: each exchange that was lost by it is that of one row, which is kept now; where none was, the same rows are kept
+-- as before. So many exchanges were lost by something else.
 abbrev pub PutsBack : ℕ → MyTree → MyTree → KeptRows → KeptRows → Type 0
-PutsBack most m m' kept kept' = losses m' ≤ losses m + most → kept' ≡ kept
+PutsBack else m m' kept kept' = (vec_len kept'.rows + losses m + else ≡ vec_len kept.rows + losses m') × (losses m' ≤ losses m + else → kept' ≡ kept)
 
 -- The same of a call that takes rows, where one exchange may have been lost by taking.
 abbrev pub HasPutBack : {T : Type 0} → Result T NoRow → MyTree → MyTree → KeptRows → KeptRows → Type 0

@@ -2,6 +2,7 @@ pub mod Counting
 pub mod Finding
 pub mod Progress
 pub mod Putting
+pub mod Readiness
 pub mod Removing
 pub mod Splitting
 pub mod Taking

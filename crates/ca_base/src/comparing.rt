@@ -1,11 +1,12 @@
 //! How the key of an object that was shown stands to another key.
-ghost use Rattle.std.specs.Prelude.{◌≡◌, ℕ, ◌+◌, ◌-◌, ◌*◌, ◌/◌, ◌<◌, ◌≤◌, ◌++◌, List, true, length, take, drop, slice_index, slice_range};
+ghost use Rattle.std.specs.Prelude.{◌≡◌, ℕ, ◌+◌, ◌-◌, ◌*◌, ◌/◌, ◌<◌, ◌≤◌, ◌++◌, List, length, take, drop, slice_index, slice_range};
 ghost use Rattle.std.specs.Int.{to_be_bytes, w64};
 ghost use Rattle.ca_model.specs.StoreMap.{bytes_cmp};
 ghost use Rattle.ca_node.specs.Row.{pair};
 ghost use Rattle.ca_base.specs.Finding.{IsObjectShown, all_bytes};
 ghost use Rattle.ca_base.specs.Writing.{HasBytes};
-ghost use Rattle.ca_rows.specs.Calls.{IsOf, IsSame};
+ghost use Rattle.ca_rows.specs.Passes.{OnlyReads, IsReading, sizes};
+ghost use Rattle.ca_node.specs.TreePasses.{tree_of};
 
 use crate::writing::word_of;
 use ca_node::{TreePass, TreeSpace, load_word};
@@ -15,16 +16,11 @@ use std::cmp::Ordering;
 // How the key of an object that the pass was shown stands to this key. They are compared as numbers, eight bytes at a time, and each word of the
 // row is loaded once. It loads no more than one word behind the first difference.
 pub fn compare(space: &TreeSpace, pass: &mut TreePass, row: u32, key: &[u8]) -> Ordering
-    requires own { IsOf space.now.table.shared.table_id space.now.table.shared.key pass.old.seat }
-    requires pinned { pass.old.seat.me.0.pin.pinned ≡ true }
-    requires inside { row ≤ space.now.table.shared.key.rows }
-    requires shown { (its : List ℕ) × IsObjectShown pass.old.seat.me.0.upper row its }
-    ensures same { IsSame pass.old.seat pass.new.seat }
-    ensures number { pass.new.number ≡ pass.old.number }
-    ensures tally { pass.new.tally ≡ pass.old.tally }
-    ensures kept { pass.new.kept ≡ pass.old.kept }
-    ensures still { pass.new.seat.me ≡ pass.old.seat.me }
-    ensures order { (its : List ℕ) → IsObjectShown pass.old.seat.me.0.upper row its → result ≡ bytes_cmp (pair its).0 key.now }
+    requires reading { IsReading space.now pass.old }
+    requires inside { row ≤ (sizes space.now).rows }
+    requires shown { (its : List ℕ) × IsObjectShown (tree_of pass.old) row its }
+    ensures frame { OnlyReads pass.old pass.new }
+    ensures order { (its : List ℕ) → IsObjectShown (tree_of pass.old) row its → result ≡ bytes_cmp (pair its).0 key.now }
 {
     compare_by(space, pass, row, key, word_of(key))
 }
@@ -37,17 +33,12 @@ pub(crate) fn compare_by(
     key: &[u8],
     front: u64,
 ) -> Ordering
-    requires own { IsOf space.now.table.shared.table_id space.now.table.shared.key pass.old.seat }
-    requires pinned { pass.old.seat.me.0.pin.pinned ≡ true }
-    requires inside { row ≤ space.now.table.shared.key.rows }
-    requires shown { (its : List ℕ) × IsObjectShown pass.old.seat.me.0.upper row its }
+    requires reading { IsReading space.now pass.old }
+    requires inside { row ≤ (sizes space.now).rows }
+    requires shown { (its : List ℕ) × IsObjectShown (tree_of pass.old) row its }
     requires front { HasBytes key.now front }
-    ensures same { IsSame pass.old.seat pass.new.seat }
-    ensures number { pass.new.number ≡ pass.old.number }
-    ensures tally { pass.new.tally ≡ pass.old.tally }
-    ensures kept { pass.new.kept ≡ pass.old.kept }
-    ensures still { pass.new.seat.me ≡ pass.old.seat.me }
-    ensures order { (its : List ℕ) → IsObjectShown pass.old.seat.me.0.upper row its → result ≡ bytes_cmp (pair its).0 key.now }
+    ensures frame { OnlyReads pass.old pass.new }
+    ensures order { (its : List ℕ) → IsObjectShown (tree_of pass.old) row its → result ≡ bytes_cmp (pair its).0 key.now }
 {
     let (start, end) = key_bytes(space, pass, row);
     let stop = start + key.len().min(end - start);
@@ -70,17 +61,12 @@ pub(crate) fn compare_by(
 
 // Between which bytes of an object that the pass was shown its key stands.
 pub(crate) fn key_bytes(space: &TreeSpace, pass: &mut TreePass, row: u32) -> (usize, usize)
-    requires own { IsOf space.now.table.shared.table_id space.now.table.shared.key pass.old.seat }
-    requires pinned { pass.old.seat.me.0.pin.pinned ≡ true }
-    requires inside { row ≤ space.now.table.shared.key.rows }
-    requires shown { (its : List ℕ) × IsObjectShown pass.old.seat.me.0.upper row its }
-    ensures same { IsSame pass.old.seat pass.new.seat }
-    ensures number { pass.new.number ≡ pass.old.number }
-    ensures tally { pass.new.tally ≡ pass.old.tally }
-    ensures kept { pass.new.kept ≡ pass.old.kept }
-    ensures still { pass.new.seat.me ≡ pass.old.seat.me }
+    requires reading { IsReading space.now pass.old }
+    requires inside { row ≤ (sizes space.now).rows }
+    requires shown { (its : List ℕ) × IsObjectShown (tree_of pass.old) row its }
+    ensures frame { OnlyReads pass.old pass.new }
     ensures range { (result.0 ≤ result.1) × (result.1 ≤ 1000) }
-    ensures key { (its : List ℕ) → IsObjectShown pass.old.seat.me.0.upper row its → (pair its).0 ≡ slice_range (all_bytes its) result.0 result.1 }
+    ensures key { (its : List ℕ) → IsObjectShown (tree_of pass.old) row its → (pair its).0 ≡ slice_range (all_bytes its) result.0 result.1 }
 {
     let word = load_word(space, pass, row, 0);
     let end = MOST_CODE_BYTES.min((word % 65_536) as usize);
@@ -91,17 +77,12 @@ pub(crate) fn key_bytes(space: &TreeSpace, pass: &mut TreePass, row: u32) -> (us
 
 // The word with a byte of an object that the pass was shown. Behind the last byte that is wanted nothing is loaded.
 fn word_with(space: &TreeSpace, pass: &mut TreePass, row: u32, at: usize, stop: usize) -> u64
-    requires own { IsOf space.now.table.shared.table_id space.now.table.shared.key pass.old.seat }
-    requires pinned { pass.old.seat.me.0.pin.pinned ≡ true }
-    requires inside { row ≤ space.now.table.shared.key.rows }
-    requires shown { (its : List ℕ) × IsObjectShown pass.old.seat.me.0.upper row its }
+    requires reading { IsReading space.now pass.old }
+    requires inside { row ≤ (sizes space.now).rows }
+    requires shown { (its : List ℕ) × IsObjectShown (tree_of pass.old) row its }
     requires few { stop ≤ 1000 }
-    ensures same { IsSame pass.old.seat pass.new.seat }
-    ensures number { pass.new.number ≡ pass.old.number }
-    ensures tally { pass.new.tally ≡ pass.old.tally }
-    ensures kept { pass.new.kept ≡ pass.old.kept }
-    ensures still { pass.new.seat.me ≡ pass.old.seat.me }
-    ensures word { (its : List ℕ) → IsObjectShown pass.old.seat.me.0.upper row its → at < stop → result ≡ slice_index (drop 11 its) (at / 8) }
+    ensures frame { OnlyReads pass.old pass.new }
+    ensures word { (its : List ℕ) → IsObjectShown (tree_of pass.old) row its → at < stop → result ≡ slice_index (drop 11 its) (at / 8) }
 {
     if at < stop {
         load_word(space, pass, row, (11 + at / 8) as u32)

@@ -1,9 +1,10 @@
 //! A new base gets the items of the base that was shown last, with one more or without one.
-ghost use Rattle.std.specs.Prelude.{◌≡◌, ◌+◌, ◌-◌, ◌<◌, ◌≤◌, ◌++◌, length, take, drop, slice_index, true};
+ghost use Rattle.std.specs.Prelude.{◌≡◌, ◌+◌, ◌-◌, ◌<◌, ◌≤◌, ◌++◌, length, take, drop, slice_index};
 ghost use Rattle.std.specs.List.{remove};
-ghost use Rattle.ca_rows.specs.Calls.{IsOf, IsSame, IsStill};
 ghost use Rattle.ca_base.specs.Putting.{put_in, IsItemAt, IsPlaceFor, IsShownLast, last_items};
 ghost use Rattle.ca_base.specs.Writing.{IsHeld, HasFilled, SpellsBase, HasWritten};
+ghost use Rattle.ca_rows.specs.Passes.{OnlyReads, IsReading, StillKeepsList, sizes, known};
+ghost use Rattle.ca_node.specs.TreePasses.{tree_of};
 
 use crate::writing::{set_word, write_head, write_items};
 use ca_node::{TreePass, TreeSpace, load_word};
@@ -21,19 +22,16 @@ pub(crate) fn write_base_with(
     level: u16,
     statistic: u64,
 ) -> u32
-    requires own { IsOf space.now.table.shared.table_id space.now.table.shared.key pass.old.seat }
-    requires pinned { pass.old.seat.me.0.pin.pinned ≡ true }
-    requires held { IsHeld pass.old.seat.me row }
-    requires inside { row ≤ space.now.table.shared.key.rows }
-    requires shown { IsShownLast space.now.table.shared.key pass.old.seat.me.0.upper base }
-    requires many { (many ≡ length (last_items pass.old.seat.me.0.upper)) × (many ≤ 120) }
+    requires reading { IsReading space.now pass.old }
+    requires held { IsHeld (known pass.old) row }
+    requires inside { row ≤ (sizes space.now).rows }
+    requires shown { IsShownLast (sizes space.now) (tree_of pass.old) base }
+    requires many { (many ≡ length (last_items (tree_of pass.old))) × (many ≤ 120) }
     requires place { IsPlaceFor place many }
-    ensures same { IsStill pass.old.seat pass.new.seat }
-    ensures number { pass.new.number ≡ pass.old.number }
-    ensures tally { pass.new.tally ≡ pass.old.tally }
-    ensures kept { pass.new.kept ≡ pass.old.kept }
-    ensures written { HasWritten row (SpellsBase (put_in (last_items pass.old.seat.me.0.upper) place item) level statistic) pass.old.seat.me pass.new.seat.me }
-    ensures gone { IsItemAt place (last_items pass.old.seat.me.0.upper) result }
+    ensures frame { StillKeepsList pass.old pass.new }
+    ensures written { HasWritten row (SpellsBase (put_in (last_items (tree_of pass.old)) place item) level statistic) (known pass.old)
+        (known pass.new) }
+    ensures gone { IsItemAt place (last_items (tree_of pass.old)) result }
 {
     let these = &[item];
     match place {
@@ -65,19 +63,15 @@ pub(crate) fn write_base_without(
     level: u16,
     statistic: u64,
 ) -> u32
-    requires own { IsOf space.now.table.shared.table_id space.now.table.shared.key pass.old.seat }
-    requires pinned { pass.old.seat.me.0.pin.pinned ≡ true }
-    requires held { IsHeld pass.old.seat.me row }
-    requires inside { row ≤ space.now.table.shared.key.rows }
-    requires shown { IsShownLast space.now.table.shared.key pass.old.seat.me.0.upper base }
-    requires many { (many ≡ length (last_items pass.old.seat.me.0.upper)) × (many ≤ 120) }
+    requires reading { IsReading space.now pass.old }
+    requires held { IsHeld (known pass.old) row }
+    requires inside { row ≤ (sizes space.now).rows }
+    requires shown { IsShownLast (sizes space.now) (tree_of pass.old) base }
+    requires many { (many ≡ length (last_items (tree_of pass.old))) × (many ≤ 120) }
     requires place { at < many }
-    ensures same { IsStill pass.old.seat pass.new.seat }
-    ensures number { pass.new.number ≡ pass.old.number }
-    ensures tally { pass.new.tally ≡ pass.old.tally }
-    ensures kept { pass.new.kept ≡ pass.old.kept }
-    ensures written { HasWritten row (SpellsBase (remove (last_items pass.old.seat.me.0.upper) at) level statistic) pass.old.seat.me pass.new.seat.me }
-    ensures gone { result ≡ slice_index (last_items pass.old.seat.me.0.upper) at }
+    ensures frame { StillKeepsList pass.old pass.new }
+    ensures written { HasWritten row (SpellsBase (remove (last_items (tree_of pass.old)) at) level statistic) (known pass.old) (known pass.new) }
+    ensures gone { result ≡ slice_index (last_items (tree_of pass.old)) at }
 {
     let old = item_at(space, pass, base, at);
     let behind = at + 1;
@@ -98,16 +92,11 @@ pub(crate) fn write_base_without(
 
 // The item at a place of the base that was shown last.
 fn item_at(space: &TreeSpace, pass: &mut TreePass, base: u32, at: u32) -> u32
-    requires own { IsOf space.now.table.shared.table_id space.now.table.shared.key pass.old.seat }
-    requires pinned { pass.old.seat.me.0.pin.pinned ≡ true }
-    requires shown { IsShownLast space.now.table.shared.key pass.old.seat.me.0.upper base }
-    requires place { (at < length (last_items pass.old.seat.me.0.upper)) × (at < 120) }
-    ensures same { IsSame pass.old.seat pass.new.seat }
-    ensures number { pass.new.number ≡ pass.old.number }
-    ensures tally { pass.new.tally ≡ pass.old.tally }
-    ensures kept { pass.new.kept ≡ pass.old.kept }
-    ensures still { pass.new.seat.me ≡ pass.old.seat.me }
-    ensures item { result ≡ slice_index (last_items pass.old.seat.me.0.upper) at }
+    requires reading { IsReading space.now pass.old }
+    requires shown { IsShownLast (sizes space.now) (tree_of pass.old) base }
+    requires place { (at < length (last_items (tree_of pass.old))) × (at < 120) }
+    ensures frame { OnlyReads pass.old pass.new }
+    ensures item { result ≡ slice_index (last_items (tree_of pass.old)) at }
 {
     load_word(space, pass, base, 11 + at) as u32
 }
@@ -125,20 +114,16 @@ fn write_around(
     level: u16,
     statistic: u64,
 )
-    requires own { IsOf space.now.table.shared.table_id space.now.table.shared.key pass.old.seat }
-    requires pinned { pass.old.seat.me.0.pin.pinned ≡ true }
-    requires held { IsHeld pass.old.seat.me row }
-    requires inside { row ≤ space.now.table.shared.key.rows }
-    requires shown { IsShownLast space.now.table.shared.key pass.old.seat.me.0.upper base }
-    requires many { (many ≡ length (last_items pass.old.seat.me.0.upper)) × (many ≤ 120) }
+    requires reading { IsReading space.now pass.old }
+    requires held { IsHeld (known pass.old) row }
+    requires inside { row ≤ (sizes space.now).rows }
+    requires shown { IsShownLast (sizes space.now) (tree_of pass.old) base }
+    requires many { (many ≡ length (last_items (tree_of pass.old))) × (many ≤ 120) }
     requires places { (before ≤ many) × (behind ≤ many) }
     requires few { before + length these.now + (many - behind) ≤ 120 }
-    ensures same { IsStill pass.old.seat pass.new.seat }
-    ensures number { pass.new.number ≡ pass.old.number }
-    ensures tally { pass.new.tally ≡ pass.old.tally }
-    ensures kept { pass.new.kept ≡ pass.old.kept }
-    ensures written { HasWritten row (SpellsBase (take before (last_items pass.old.seat.me.0.upper)
-        ++ (these.now ++ drop behind (last_items pass.old.seat.me.0.upper))) level statistic) pass.old.seat.me pass.new.seat.me }
+    ensures frame { StillKeepsList pass.old pass.new }
+    ensures written { HasWritten row (SpellsBase (take before (last_items (tree_of pass.old)) ++ (these.now ++ drop behind (last_items
+        (tree_of pass.old)))) level statistic) (known pass.old) (known pass.new) }
 {
     let next = before + these.len() as u32;
     let rest = many - behind;
@@ -158,18 +143,14 @@ pub(crate) fn copy_items(
     from: u32,
     count: u32,
 )
-    requires own { IsOf space.now.table.shared.table_id space.now.table.shared.key pass.old.seat }
-    requires pinned { pass.old.seat.me.0.pin.pinned ≡ true }
-    requires held { IsHeld pass.old.seat.me row }
-    requires inside { row ≤ space.now.table.shared.key.rows }
-    requires shown { IsShownLast space.now.table.shared.key pass.old.seat.me.0.upper base }
-    requires places { (from + count ≤ length (last_items pass.old.seat.me.0.upper)) × (from + count ≤ 120) × (to + count ≤ 120) }
-    ensures same { IsStill pass.old.seat pass.new.seat }
-    ensures number { pass.new.number ≡ pass.old.number }
-    ensures tally { pass.new.tally ≡ pass.old.tally }
-    ensures kept { pass.new.kept ≡ pass.old.kept }
-    ensures filled { HasFilled row (11 + to) count (λ k word. word ≡ slice_index (last_items pass.old.seat.me.0.upper) (from + k)) pass.old.seat.me
-        pass.new.seat.me }
+    requires reading { IsReading space.now pass.old }
+    requires held { IsHeld (known pass.old) row }
+    requires inside { row ≤ (sizes space.now).rows }
+    requires shown { IsShownLast (sizes space.now) (tree_of pass.old) base }
+    requires places { (from + count ≤ length (last_items (tree_of pass.old))) × (from + count ≤ 120) × (to + count ≤ 120) }
+    ensures frame { StillKeepsList pass.old pass.new }
+    ensures filled { HasFilled row (11 + to) count (λ k word. word ≡ slice_index (last_items (tree_of pass.old)) (from + k)) (known pass.old)
+        (known pass.new) }
 {
     for place in 0..count {
         let item = load_word(space, pass, base, 11 + from + place);

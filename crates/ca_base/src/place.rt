@@ -1,8 +1,8 @@
 //! Where a key stands among the objects of a base.
-ghost use Rattle.std.specs.Prelude.{◌≡◌, true};
 ghost use Rattle.ca_node.specs.TreeView.{Note};
 ghost use Rattle.ca_base.specs.Finding.{IsReadable, IsPlaceIn};
-ghost use Rattle.ca_rows.specs.Calls.{IsOf, IsSame};
+ghost use Rattle.ca_rows.specs.Passes.{OnlyReads, IsReading, sizes};
+ghost use Rattle.ca_node.specs.TreePasses.{tree_of};
 
 use crate::comparing::compare_by;
 use crate::reading::{count, item};
@@ -13,15 +13,10 @@ use std::cmp::Ordering;
 // The place of the object with this key among those of a base that the pass was shown, or else where it would stand. Only the items that are
 // compared are loaded, at most seven.
 pub fn search(space: &TreeSpace, pass: &mut TreePass, base: u32, key: &[u8]) -> Result<u32, u32>
-    requires own { IsOf space.now.table.shared.table_id space.now.table.shared.key pass.old.seat }
-    requires pinned { pass.old.seat.me.0.pin.pinned ≡ true }
-    requires readable { (note : Note) × IsReadable space.now.table.shared.key pass.old.seat.me.0.upper base note }
-    ensures same { IsSame pass.old.seat pass.new.seat }
-    ensures number { pass.new.number ≡ pass.old.number }
-    ensures tally { pass.new.tally ≡ pass.old.tally }
-    ensures kept { pass.new.kept ≡ pass.old.kept }
-    ensures still { pass.new.seat.me ≡ pass.old.seat.me }
-    ensures place { IsPlaceIn space.now.table.shared.key pass.old.seat.me.0.upper base key.now result }
+    requires reading { IsReading space.now pass.old }
+    requires readable { (note : Note) × IsReadable (sizes space.now) (tree_of pass.old) base note }
+    ensures frame { OnlyReads pass.old pass.new }
+    ensures place { IsPlaceIn (sizes space.now) (tree_of pass.old) base key.now result }
 {
     let front = word_of(key);
     let mut low = 0;

@@ -1,11 +1,12 @@
 //! What bases and objects that were shown say.
-ghost use Rattle.std.specs.Prelude.{◌≡◌, ℕ, ◌+◌, ◌<◌, ◌≤◌, ◌++◌, List, true, length, slice_index};
+ghost use Rattle.std.specs.Prelude.{◌≡◌, ℕ, ◌+◌, ◌<◌, ◌≤◌, ◌++◌, List, length, slice_index};
 ghost use Rattle.arrayvec.specs.ArrayVec.{array_vec_len};
 ghost use Rattle.ca_node.specs.Row.{pair};
 ghost use Rattle.ca_node.specs.TreeView.{Note};
 ghost use Rattle.ca_base.specs.Finding.{IsReadable, IsObjectShown, HasPlace, IsItem};
-ghost use Rattle.ca_rows.specs.Calls.{IsOf, IsSame};
 ghost use Rattle.ca_term.specs.declared.bounds.TheConstants.{MOST_CODE_BYTES};
+ghost use Rattle.ca_rows.specs.Passes.{OnlyReads, IsReading, sizes};
+ghost use Rattle.ca_node.specs.TreePasses.{tree_of};
 
 use ca_model::Code;
 use ca_node::{TreePass, TreeSpace, load_word};
@@ -13,63 +14,43 @@ use ca_term::MOST_CODE_BYTES;
 
 // How many objects a base names that the pass was shown.
 pub fn count(space: &TreeSpace, pass: &mut TreePass, base: u32) -> u32
-    requires own { IsOf space.now.table.shared.table_id space.now.table.shared.key pass.old.seat }
-    requires pinned { pass.old.seat.me.0.pin.pinned ≡ true }
-    requires readable { (note : Note) × IsReadable space.now.table.shared.key pass.old.seat.me.0.upper base note }
-    ensures same { IsSame pass.old.seat pass.new.seat }
-    ensures number { pass.new.number ≡ pass.old.number }
-    ensures tally { pass.new.tally ≡ pass.old.tally }
-    ensures kept { pass.new.kept ≡ pass.old.kept }
-    ensures still { pass.new.seat.me ≡ pass.old.seat.me }
+    requires reading { IsReading space.now pass.old }
+    requires readable { (note : Note) × IsReadable (sizes space.now) (tree_of pass.old) base note }
+    ensures frame { OnlyReads pass.old pass.new }
     ensures few { result ≤ 120 }
-    ensures count { (note : Note) → IsReadable space.now.table.shared.key pass.old.seat.me.0.upper base note → result ≡ length note.objects }
+    ensures count { (note : Note) → IsReadable (sizes space.now) (tree_of pass.old) base note → result ≡ length note.objects }
 {
     (load_word(space, pass, base, 0) % 65_536) as u32
 }
 
 /// The word for the statistic of a base that the pass was shown.
 pub fn statistic_word(space: &TreeSpace, pass: &mut TreePass, base: u32) -> u64
-    requires own { IsOf space.now.table.shared.table_id space.now.table.shared.key pass.old.seat }
-    requires pinned { pass.old.seat.me.0.pin.pinned ≡ true }
-    requires readable { (note : Note) × IsReadable space.now.table.shared.key pass.old.seat.me.0.upper base note }
-    ensures same { IsSame pass.old.seat pass.new.seat }
-    ensures number { pass.new.number ≡ pass.old.number }
-    ensures tally { pass.new.tally ≡ pass.old.tally }
-    ensures kept { pass.new.kept ≡ pass.old.kept }
-    ensures still { pass.new.seat.me ≡ pass.old.seat.me }
-    ensures word { (note : Note) → IsReadable space.now.table.shared.key pass.old.seat.me.0.upper base note → result ≡ slice_index note.its 1 }
+    requires reading { IsReading space.now pass.old }
+    requires readable { (note : Note) × IsReadable (sizes space.now) (tree_of pass.old) base note }
+    ensures frame { OnlyReads pass.old pass.new }
+    ensures word { (note : Note) → IsReadable (sizes space.now) (tree_of pass.old) base note → result ≡ slice_index note.its 1 }
 {
     load_word(space, pass, base, 1)
 }
 
 // The object row that a base names at a place.
 pub fn item(space: &TreeSpace, pass: &mut TreePass, base: u32, place: u32) -> u32
-    requires own { IsOf space.now.table.shared.table_id space.now.table.shared.key pass.old.seat }
-    requires pinned { pass.old.seat.me.0.pin.pinned ≡ true }
-    requires readable { HasPlace space.now.table.shared.key pass.old.seat.me.0.upper base place }
-    ensures same { IsSame pass.old.seat pass.new.seat }
-    ensures number { pass.new.number ≡ pass.old.number }
-    ensures tally { pass.new.tally ≡ pass.old.tally }
-    ensures kept { pass.new.kept ≡ pass.old.kept }
-    ensures still { pass.new.seat.me ≡ pass.old.seat.me }
-    ensures inside { (0 < result) × (result ≤ space.now.table.shared.key.rows) }
-    ensures item { IsItem space.now.table.shared.key pass.old.seat.me.0.upper base place result }
+    requires reading { IsReading space.now pass.old }
+    requires readable { HasPlace (sizes space.now) (tree_of pass.old) base place }
+    ensures frame { OnlyReads pass.old pass.new }
+    ensures inside { (0 < result) × (result ≤ (sizes space.now).rows) }
+    ensures item { IsItem (sizes space.now) (tree_of pass.old) base place result }
 {
     load_word(space, pass, base, 11 + place) as u32
 }
 
 // Copies an object that the pass was shown, eight bytes at a time.
 pub fn copy_object(space: &TreeSpace, pass: &mut TreePass, row: u32, into: &mut Code)
-    requires own { IsOf space.now.table.shared.table_id space.now.table.shared.key pass.old.seat }
-    requires pinned { pass.old.seat.me.0.pin.pinned ≡ true }
-    requires inside { row ≤ space.now.table.shared.key.rows }
-    requires shown { (its : List ℕ) × IsObjectShown pass.old.seat.me.0.upper row its }
-    ensures same { IsSame pass.old.seat pass.new.seat }
-    ensures number { pass.new.number ≡ pass.old.number }
-    ensures tally { pass.new.tally ≡ pass.old.tally }
-    ensures kept { pass.new.kept ≡ pass.old.kept }
-    ensures still { pass.new.seat.me ≡ pass.old.seat.me }
-    ensures object { (its : List ℕ) → IsObjectShown pass.old.seat.me.0.upper row its → into.new.items ≡ (pair its).1 }
+    requires reading { IsReading space.now pass.old }
+    requires inside { row ≤ (sizes space.now).rows }
+    requires shown { (its : List ℕ) × IsObjectShown (tree_of pass.old) row its }
+    ensures frame { OnlyReads pass.old pass.new }
+    ensures object { (its : List ℕ) → IsObjectShown (tree_of pass.old) row its → into.new.items ≡ (pair its).1 }
 {
     let len = MOST_CODE_BYTES.min((load_word(space, pass, row, 0) % 65_536) as usize);
     into.clear();

@@ -1,5 +1,5 @@
 //! An object is taken away from a base.
-ghost use Rattle.std.specs.Prelude.{◌≡◌, ◌≢◌, ◌<◌, ◌≤◌, [], length, map, true, false, Ok, Some};
+ghost use Rattle.std.specs.Prelude.{◌≡◌, ◌≢◌, ◌<◌, ◌≤◌, [], length, map, false, Ok, Some};
 ghost use Rattle.ca_model.proofs.Places.{IsPlace};
 ghost use Rattle.ca_model.specs.Event.{Remove};
 ghost use Rattle.ca_model.specs.History.{Del};
@@ -7,13 +7,13 @@ ghost use Rattle.ca_model.specs.StoreMap.{IsStoreMap};
 ghost use Rattle.ca_node.specs.Inventory.{IsListed};
 ghost use Rattle.ca_node.specs.Place.{HasKey};
 ghost use Rattle.ca_node.specs.Row.{pair};
-ghost use Rattle.ca_node.specs.Tallied.{IsTallied};
 ghost use Rattle.ca_node.specs.Told.{IsAlone};
 ghost use Rattle.ca_base.specs.Counting.{IsSpent, HasCleared, HasEnded};
 ghost use Rattle.ca_base.specs.Finding.{IsAtCursor};
-ghost use Rattle.ca_base.specs.Putting.{object_at, IsShownLast, HasRenewed, IsNewRow, HasTried, first_note};
-ghost use Rattle.ca_base.specs.Taking.{AreHeld};
-ghost use Rattle.ca_rows.specs.Calls.{IsOf, IsSame};
+ghost use Rattle.ca_base.specs.Putting.{object_at, IsShownLast, HasRenewed, IsNewRow, HasTried};
+ghost use Rattle.ca_rows.specs.Passes.{sizes, known};
+ghost use Rattle.ca_node.specs.TreePasses.{tree_of};
+ghost use Rattle.ca_base.specs.Readiness.{IsReady, StaysReady, shown_last};
 
 use crate::copying::write_base_without;
 use crate::swapping::{Deed, swap_in};
@@ -37,31 +37,23 @@ pub fn remove_at(
     placed: &mut u32,
     spent: &mut Spent,
 ) -> Result<bool, NoRow>
-    requires own { IsOf space.now.table.shared.table_id space.now.table.shared.key pass.old.seat }
-    requires pinned { pass.old.seat.me.0.pin.pinned ≡ true }
-    requires number { 0 < pass.old.seat.me.0.upper.number }
-    requires none { AreHeld space.now.table.shared.key.rows pass.old.kept.rows pass.old.seat.me.0 [] }
-    requires leaf { space.now.table.shared.key.leaf ≤ 120 }
-    requires shown { IsShownLast space.now.table.shared.key pass.old.seat.me.0.upper cursor.base }
-    requires cursor { IsAtCursor space.now.table.shared.key (first_note pass.old.seat.me.0.upper.notes) cursor }
-    requires about { HasKey (first_note pass.old.seat.me.0.upper.notes).place.span _key.now }
-    requires many { many ≡ length (first_note pass.old.seat.me.0.upper.notes).objects }
-    requires ordered { IsStoreMap space.now.table.shared.key.keypos (map pair (first_note pass.old.seat.me.0.upper.notes).objects) }
-    requires place { IsPlace (map pair (first_note pass.old.seat.me.0.upper.notes).objects) _key.now (Ok at) }
-    ensures same { IsSame pass.old.seat pass.new.seat }
-    ensures number { pass.new.number ≡ pass.old.number }
-    ensures tally { IsTallied pass.old.tally pass.old.seat.me.0.upper → IsTallied pass.new.tally pass.new.seat.me.0.upper }
-    ensures pin { (pass.new.seat.me.0.sizes ≡ pass.old.seat.me.0.sizes) × (pass.new.seat.me.0.pin ≡ pass.old.seat.me.0.pin) }
-    ensures none { AreHeld space.now.table.shared.key.rows pass.new.kept.rows pass.new.seat.me.0 [] }
-    ensures removed { HasTried (Remove _key.now (Some (object_at (Ok at) (first_note pass.old.seat.me.0.upper.notes).objects)))
-        space.now.table.shared.key result pass.old.seat.me.0.upper pass.new.seat.me.0.upper }
-    ensures won { IsAlone space.now.table.shared.key pass.old.seat.me.0.upper
-        → IsListed pass.old.seat.me.0.upper.inventory (first_note pass.old.seat.me.0.upper.notes) → result ≢ Ok false }
-    ensures renewed { HasRenewed space.now.table.shared.key statistic (Del _key.now) result pass.old.seat.me.0.upper pass.new.seat.me.0.upper }
-    ensures placed { IsNewRow placed.new result pass.new.seat.me.0.upper }
-    ensures counted { IsSpent spent.old spent.new pass.old.seat.me pass.new.seat.me }
-    ensures found { HasEnded result pass.old.seat.me pass.new.seat.me }
-    ensures back { HasCleared result pass.old.seat.me pass.new.seat.me pass.old.kept pass.new.kept }
+    requires ready { IsReady space.now pass.old }
+    requires leaf { (sizes space.now).leaf ≤ 120 }
+    requires shown { IsShownLast (sizes space.now) (tree_of pass.old) cursor.base }
+    requires cursor { IsAtCursor (sizes space.now) (shown_last pass.old) cursor }
+    requires about { HasKey (shown_last pass.old).place.span _key.now }
+    requires many { many ≡ length (shown_last pass.old).objects }
+    requires ordered { IsStoreMap (sizes space.now).keypos (map pair (shown_last pass.old).objects) }
+    requires place { IsPlace (map pair (shown_last pass.old).objects) _key.now (Ok at) }
+    ensures frame { StaysReady space.now pass.old pass.new }
+    ensures removed { HasTried (Remove _key.now (Some (object_at (Ok at) (shown_last pass.old).objects))) (sizes space.now) result
+        (tree_of pass.old) (tree_of pass.new) }
+    ensures won { IsAlone (sizes space.now) (tree_of pass.old) → IsListed (tree_of pass.old).inventory (shown_last pass.old) → result ≢ Ok false }
+    ensures renewed { HasRenewed (sizes space.now) statistic (Del _key.now) result (tree_of pass.old) (tree_of pass.new) }
+    ensures placed { IsNewRow placed.new result (tree_of pass.new) }
+    ensures counted { IsSpent spent.old spent.new (known pass.old) (known pass.new) }
+    ensures found { HasEnded result (known pass.old) (known pass.new) }
+    ensures back { HasCleared result (known pass.old) (known pass.new) pass.old.kept pass.new.kept }
 {
     let new = match take(space, pass, spent) {
         Ok(row) => row,

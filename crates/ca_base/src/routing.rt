@@ -1,11 +1,12 @@
 //! The rows of a split are written: a route, its key, and the halves of a base.
-ghost use Rattle.std.specs.Prelude.{◌≡◌, ℕ, ◌+◌, ◌<◌, ◌≤◌, List, length, take, drop, true};
+ghost use Rattle.std.specs.Prelude.{◌≡◌, ℕ, ◌+◌, ◌<◌, ◌≤◌, List, length, take, drop};
 ghost use Rattle.ca_node.specs.Row.{pair};
-ghost use Rattle.ca_rows.specs.Calls.{IsOf, IsSame, IsStill};
 ghost use Rattle.ca_base.specs.Finding.{IsObjectShown};
 ghost use Rattle.ca_base.specs.Putting.{IsShownLast, last_items};
 ghost use Rattle.ca_base.specs.Splitting.{SpellsRoute};
 ghost use Rattle.ca_base.specs.Writing.{IsHeld, SpellsBase, HasWritten};
+ghost use Rattle.ca_rows.specs.Passes.{OnlyReads, IsOn, IsReading, StillKeepsList, sizes, known};
+ghost use Rattle.ca_node.specs.TreePasses.{tree_of};
 
 use crate::comparing::key_bytes;
 use crate::copying::copy_items;
@@ -30,16 +31,13 @@ pub(crate) fn write_route(
     right: u32,
     attempt: u64,
 )
-    requires own { IsOf space.now.table.shared.table_id space.now.table.shared.key pass.old.seat }
-    requires held { IsHeld pass.old.seat.me row }
-    requires inside { row ≤ space.now.table.shared.key.rows }
+    requires own { IsOn space.now pass.old }
+    requires held { IsHeld (known pass.old) row }
+    requires inside { row ≤ (sizes space.now).rows }
     requires short { length key.now ≤ 1000 }
     requires attempt { attempt < 4611686018427387904 }
-    ensures same { IsStill pass.old.seat pass.new.seat }
-    ensures number { pass.new.number ≡ pass.old.number }
-    ensures tally { pass.new.tally ≡ pass.old.tally }
-    ensures kept { pass.new.kept ≡ pass.old.kept }
-    ensures written { HasWritten row (SpellsRoute level key.now left right attempt) pass.old.seat.me pass.new.seat.me }
+    ensures frame { StillKeepsList pass.old pass.new }
+    ensures written { HasWritten row (SpellsRoute level key.now left right attempt) (known pass.old) (known pass.new) }
 {
     let form = ROUTE + level as u64 * 65_536 + key.len() as u64;
     write_words(
@@ -62,18 +60,14 @@ pub(crate) fn write_half(
     from: u32,
     count: u32,
 )
-    requires own { IsOf space.now.table.shared.table_id space.now.table.shared.key pass.old.seat }
-    requires pinned { pass.old.seat.me.0.pin.pinned ≡ true }
-    requires held { IsHeld pass.old.seat.me row }
-    requires inside { row ≤ space.now.table.shared.key.rows }
-    requires shown { IsShownLast space.now.table.shared.key pass.old.seat.me.0.upper base }
-    requires places { (from + count ≤ length (last_items pass.old.seat.me.0.upper)) × (from + count ≤ 120) }
-    ensures same { IsStill pass.old.seat pass.new.seat }
-    ensures number { pass.new.number ≡ pass.old.number }
-    ensures tally { pass.new.tally ≡ pass.old.tally }
-    ensures kept { pass.new.kept ≡ pass.old.kept }
-    ensures written { HasWritten row (SpellsBase (take count (drop from (last_items pass.old.seat.me.0.upper))) level 4294967296)
-        pass.old.seat.me pass.new.seat.me }
+    requires reading { IsReading space.now pass.old }
+    requires held { IsHeld (known pass.old) row }
+    requires inside { row ≤ (sizes space.now).rows }
+    requires shown { IsShownLast (sizes space.now) (tree_of pass.old) base }
+    requires places { (from + count ≤ length (last_items (tree_of pass.old))) × (from + count ≤ 120) }
+    ensures frame { StillKeepsList pass.old pass.new }
+    ensures written { HasWritten row (SpellsBase (take count (drop from (last_items (tree_of pass.old)))) level 4294967296) (known pass.old)
+        (known pass.new) }
 {
     write_head(space, pass, row, level, count, STATISTIC);
     copy_items(space, pass, row, 0, base, from, count);
@@ -81,16 +75,11 @@ pub(crate) fn write_half(
 
 /// Copies the key of an object that the pass was shown, a word at a time.
 pub(crate) fn copy_key(space: &TreeSpace, pass: &mut TreePass, row: u32, into: &mut Code)
-    requires own { IsOf space.now.table.shared.table_id space.now.table.shared.key pass.old.seat }
-    requires pinned { pass.old.seat.me.0.pin.pinned ≡ true }
-    requires inside { row ≤ space.now.table.shared.key.rows }
-    requires shown { (its : List ℕ) × IsObjectShown pass.old.seat.me.0.upper row its }
-    ensures same { IsSame pass.old.seat pass.new.seat }
-    ensures number { pass.new.number ≡ pass.old.number }
-    ensures tally { pass.new.tally ≡ pass.old.tally }
-    ensures kept { pass.new.kept ≡ pass.old.kept }
-    ensures still { pass.new.seat.me ≡ pass.old.seat.me }
-    ensures key { (its : List ℕ) → IsObjectShown pass.old.seat.me.0.upper row its → into.new.items ≡ (pair its).0 }
+    requires reading { IsReading space.now pass.old }
+    requires inside { row ≤ (sizes space.now).rows }
+    requires shown { (its : List ℕ) × IsObjectShown (tree_of pass.old) row its }
+    ensures frame { OnlyReads pass.old pass.new }
+    ensures key { (its : List ℕ) → IsObjectShown (tree_of pass.old) row its → into.new.items ≡ (pair its).0 }
 {
     let (start, end) = key_bytes(space, pass, row);
     into.clear();

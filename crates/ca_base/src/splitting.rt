@@ -3,15 +3,16 @@ ghost use Rattle.std.specs.Prelude.{◌≡◌, ◌≢◌, ◌+◌, ◌*◌, ◌<
 ghost use Rattle.ca_model.specs.StoreMap.{IsStoreMap};
 ghost use Rattle.ca_node.specs.Inventory.{IsListed};
 ghost use Rattle.ca_node.specs.Row.{pair};
-ghost use Rattle.ca_node.specs.Tallied.{IsTallied};
 ghost use Rattle.ca_node.specs.Told.{IsAlone, IsDivision, link_word};
 ghost use Rattle.ca_node.proofs.HeldRows.{AreApart};
 ghost use Rattle.ca_base.specs.Counting.{IsSpent, HasCleared, HasEnded, HasFound, HasPutBack};
 ghost use Rattle.ca_base.specs.Finding.{IsAtCursor};
-ghost use Rattle.ca_base.specs.Putting.{IsShownLast, first_note};
+ghost use Rattle.ca_base.specs.Putting.{IsShownLast};
 ghost use Rattle.ca_base.specs.Splitting.{HasTakenThree, HasSplit, IsHalving};
 ghost use Rattle.ca_base.specs.Taking.{AreHeld};
-ghost use Rattle.ca_rows.specs.Calls.{IsOf, IsSame, IsStill};
+ghost use Rattle.ca_rows.specs.Passes.{IsOn, IsStillPass, sizes, known, view};
+ghost use Rattle.ca_node.specs.TreePasses.{tree_of};
+ghost use Rattle.ca_base.specs.Readiness.{IsReady, StaysReady, shown_last};
 
 use crate::reading::item;
 use crate::routing::{copy_key, write_half, write_route};
@@ -32,28 +33,20 @@ pub fn split_at(
     attempt: u64,
     spent: &mut Spent,
 ) -> Result<bool, NoRow>
-    requires own { IsOf space.now.table.shared.table_id space.now.table.shared.key pass.old.seat }
-    requires pinned { pass.old.seat.me.0.pin.pinned ≡ true }
-    requires number { 0 < pass.old.seat.me.0.upper.number }
-    requires none { AreHeld space.now.table.shared.key.rows pass.old.kept.rows pass.old.seat.me.0 [] }
-    requires leaf { space.now.table.shared.key.leaf ≤ 120 }
-    requires shown { IsShownLast space.now.table.shared.key pass.old.seat.me.0.upper cursor.base }
-    requires cursor { IsAtCursor space.now.table.shared.key (first_note pass.old.seat.me.0.upper.notes) cursor }
-    requires many { (2 ≤ many) × (many ≡ length (first_note pass.old.seat.me.0.upper.notes).objects) }
-    requires ordered { IsStoreMap space.now.table.shared.key.keypos (map pair (first_note pass.old.seat.me.0.upper.notes).objects) }
-    requires above { cursor.level < space.now.table.shared.key.levels }
+    requires ready { IsReady space.now pass.old }
+    requires leaf { (sizes space.now).leaf ≤ 120 }
+    requires shown { IsShownLast (sizes space.now) (tree_of pass.old) cursor.base }
+    requires cursor { IsAtCursor (sizes space.now) (shown_last pass.old) cursor }
+    requires many { (2 ≤ many) × (many ≡ length (shown_last pass.old).objects) }
+    requires ordered { IsStoreMap (sizes space.now).keypos (map pair (shown_last pass.old).objects) }
+    requires above { cursor.level < (sizes space.now).levels }
     requires attempt { attempt < 4611686018427387904 }
-    ensures same { IsSame pass.old.seat pass.new.seat }
-    ensures number { pass.new.number ≡ pass.old.number }
-    ensures tally { IsTallied pass.old.tally pass.old.seat.me.0.upper → IsTallied pass.new.tally pass.new.seat.me.0.upper }
-    ensures pin { (pass.new.seat.me.0.sizes ≡ pass.old.seat.me.0.sizes) × (pass.new.seat.me.0.pin ≡ pass.old.seat.me.0.pin) }
-    ensures none { AreHeld space.now.table.shared.key.rows pass.new.kept.rows pass.new.seat.me.0 [] }
-    ensures split { HasSplit many attempt result pass.old.seat.me.0.upper pass.new.seat.me.0.upper }
-    ensures won { IsAlone space.now.table.shared.key pass.old.seat.me.0.upper
-        → IsListed pass.old.seat.me.0.upper.inventory (first_note pass.old.seat.me.0.upper.notes) → result ≢ Ok false }
-    ensures counted { IsSpent spent.old spent.new pass.old.seat.me pass.new.seat.me }
-    ensures found { HasEnded result pass.old.seat.me pass.new.seat.me }
-    ensures back { HasCleared result pass.old.seat.me pass.new.seat.me pass.old.kept pass.new.kept }
+    ensures frame { StaysReady space.now pass.old pass.new }
+    ensures split { HasSplit many attempt result (tree_of pass.old) (tree_of pass.new) }
+    ensures won { IsAlone (sizes space.now) (tree_of pass.old) → IsListed (tree_of pass.old).inventory (shown_last pass.old) → result ≢ Ok false }
+    ensures counted { IsSpent spent.old spent.new (known pass.old) (known pass.new) }
+    ensures found { HasEnded result (known pass.old) (known pass.new) }
+    ensures back { HasCleared result (known pass.old) (known pass.new) pass.old.kept pass.new.kept }
 {
     let (route, left, right) = match take_three(space, pass, spent) {
         Ok(rows) => rows,
@@ -80,15 +73,13 @@ fn take_three(
     pass: &mut TreePass,
     spent: &mut Spent,
 ) -> Result<(u32, u32, u32), NoRow>
-    requires own { IsOf space.now.table.shared.table_id space.now.table.shared.key pass.old.seat }
-    requires none { AreHeld space.now.table.shared.key.rows pass.old.kept.rows pass.old.seat.me.0 [] }
-    ensures same { IsStill pass.old.seat pass.new.seat }
-    ensures number { pass.new.number ≡ pass.old.number }
-    ensures tally { pass.new.tally ≡ pass.old.tally }
-    ensures taken { HasTakenThree result (AreHeld space.now.table.shared.key.rows pass.new.kept.rows pass.new.seat.me.0) }
-    ensures counted { IsSpent spent.old spent.new pass.old.seat.me pass.new.seat.me }
-    ensures found { HasFound result pass.old.seat.me pass.new.seat.me }
-    ensures back { HasPutBack result pass.old.seat.me pass.new.seat.me pass.old.kept pass.new.kept }
+    requires own { IsOn space.now pass.old }
+    requires none { AreHeld (sizes space.now).rows pass.old.kept.rows (view pass.old) [] }
+    ensures frame { IsStillPass pass.old pass.new }
+    ensures taken { HasTakenThree result (AreHeld (sizes space.now).rows pass.new.kept.rows (view pass.new)) }
+    ensures counted { IsSpent spent.old spent.new (known pass.old) (known pass.new) }
+    ensures found { HasFound result (known pass.old) (known pass.new) }
+    ensures back { HasPutBack result (known pass.old) (known pass.new) pass.old.kept pass.new.kept }
 {
     let (first, second) = match take_two(space, pass, spent) {
         Ok(rows) => rows,
@@ -118,24 +109,19 @@ fn divide_in<K: Plan>(
     _attempt: u64,
     spent: &mut Spent,
 ) -> bool
-    requires own { IsOf space.now.table.shared.table_id space.now.table.shared.key pass.old.seat }
-    requires division { IsDivision space.now.table.shared.key pass.old.seat.me K.division × IsHalving _many _attempt K.division }
+    requires own { IsOn space.now pass.old }
+    requires division { IsDivision (sizes space.now) (known pass.old) K.division × IsHalving _many _attempt K.division }
     requires rows { (K.division.old.row ≡ base) × (K.division.route ≡ route) × (K.division.left ≡ left) × (K.division.right ≡ right) }
     requires link { K.division.old.place.link ≡ link_word link }
-    requires inside { link_word link < 136 * space.now.table.shared.key.rows + 136 }
+    requires inside { link_word link < 136 * (sizes space.now).rows + 136 }
     requires apart { AreApart (route ∷ left ∷ right ∷ []) }
-    requires held { AreHeld space.now.table.shared.key.rows pass.old.kept.rows pass.old.seat.me.0 (route ∷ left ∷ right ∷ []) }
-    ensures same { IsSame pass.old.seat pass.new.seat }
-    ensures number { pass.new.number ≡ pass.old.number }
-    ensures tally { IsTallied pass.old.tally pass.old.seat.me.0.upper → IsTallied pass.new.tally pass.new.seat.me.0.upper }
-    ensures pin { (pass.new.seat.me.0.sizes ≡ pass.old.seat.me.0.sizes) × (pass.new.seat.me.0.pin ≡ pass.old.seat.me.0.pin) }
-    ensures none { AreHeld space.now.table.shared.key.rows pass.new.kept.rows pass.new.seat.me.0 [] }
-    ensures split { HasSplit _many _attempt (Ok result) pass.old.seat.me.0.upper pass.new.seat.me.0.upper }
-    ensures won { IsAlone space.now.table.shared.key pass.old.seat.me.0.upper → IsListed pass.old.seat.me.0.upper.inventory K.division.old
-        → result ≢ false }
-    ensures counted { IsSpent spent.old spent.new pass.old.seat.me pass.new.seat.me }
-    ensures found { HasEnded (Ok result) pass.old.seat.me pass.new.seat.me }
-    ensures back { HasCleared (Ok result) pass.old.seat.me pass.new.seat.me pass.old.kept pass.new.kept }
+    requires held { AreHeld (sizes space.now).rows pass.old.kept.rows (view pass.old) (route ∷ left ∷ right ∷ []) }
+    ensures frame { StaysReady space.now pass.old pass.new }
+    ensures split { HasSplit _many _attempt (Ok result) (tree_of pass.old) (tree_of pass.new) }
+    ensures won { IsAlone (sizes space.now) (tree_of pass.old) → IsListed (tree_of pass.old).inventory K.division.old → result ≢ false }
+    ensures counted { IsSpent spent.old spent.new (known pass.old) (known pass.new) }
+    ensures found { HasEnded (Ok result) (known pass.old) (known pass.new) }
+    ensures back { HasCleared (Ok result) (known pass.old) (known pass.new) pass.old.kept pass.new.kept }
 {
     if !divide_base::<K>(space, pass, link, base, route) {
         lose(spent);

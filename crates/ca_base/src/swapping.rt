@@ -2,14 +2,15 @@
 ghost use Rattle.std.specs.Prelude.{◌≡◌, ◌≢◌, ◌<◌, ◌≤◌, ℕ, false, List, [], ◌∷◌, length, Ok, slice_index};
 ghost use Rattle.ca_node.specs.Inventory.{IsListed};
 ghost use Rattle.ca_node.specs.Links.{IsIn};
-ghost use Rattle.ca_node.specs.Tallied.{IsTallied};
 ghost use Rattle.ca_node.specs.Told.{IsAlone, IsBaseNote, IsUpdate};
 ghost use Rattle.ca_node.proofs.HeldRows.{AreApart};
 ghost use Rattle.ca_base.specs.Counting.{losses, IsSpent, HasCleared, HasEnded, HasMet, PutsBack};
 ghost use Rattle.ca_base.specs.Finding.{IsAtCursor};
 ghost use Rattle.ca_base.specs.Putting.{HasRenewed, IsNewRow, HasSwapped};
 ghost use Rattle.ca_base.specs.Taking.{AreHeld, AreUnlinked};
-ghost use Rattle.ca_rows.specs.Calls.{IsOf, IsSame, IsStill};
+ghost use Rattle.ca_rows.specs.Passes.{IsOn, IsStillPass, sizes, known, view};
+ghost use Rattle.ca_node.specs.TreePasses.{tree_of};
+ghost use Rattle.ca_base.specs.Readiness.{StaysReady};
 
 use crate::spending::lose;
 use crate::taking::give_back;
@@ -41,28 +42,22 @@ pub(crate) fn swap_in<K: Intent>(
     _deed: Deed,
     spent: &mut Spent,
 ) -> bool
-    requires own { IsOf space.now.table.shared.table_id space.now.table.shared.key pass.old.seat }
-    requires update { IsUpdate space.now.table.shared.key pass.old.seat.me new K.update }
-    requires old_base { IsBaseNote space.now.table.shared.key K.update.old }
-    requires cursor { IsAtCursor space.now.table.shared.key K.update.old cursor }
+    requires own { IsOn space.now pass.old }
+    requires update { IsUpdate (sizes space.now) (known pass.old) new K.update }
+    requires old_base { IsBaseNote (sizes space.now) K.update.old }
+    requires cursor { IsAtCursor (sizes space.now) K.update.old cursor }
     requires rows { (K.update.comes ≡ comes.now) × (K.update.goes ≡ goes.now) }
     requires apart { AreApart (new ∷ comes.now) × AreApart goes.now }
-    requires held { AreHeld space.now.table.shared.key.rows pass.old.kept.rows pass.old.seat.me.0 (new ∷ comes.now) }
+    requires held { AreHeld (sizes space.now).rows pass.old.kept.rows (view pass.old) (new ∷ comes.now) }
     requires few { length comes.now ≤ 1 }
-    ensures same { IsSame pass.old.seat pass.new.seat }
-    ensures number { pass.new.number ≡ pass.old.number }
-    ensures tally { IsTallied pass.old.tally pass.old.seat.me.0.upper → IsTallied pass.new.tally pass.new.seat.me.0.upper }
-    ensures pin { (pass.new.seat.me.0.sizes ≡ pass.old.seat.me.0.sizes) × (pass.new.seat.me.0.pin ≡ pass.old.seat.me.0.pin) }
-    ensures none { AreHeld space.now.table.shared.key.rows pass.new.kept.rows pass.new.seat.me.0 [] }
-    ensures done { HasSwapped K.update.event space.now.table.shared.key result pass.old.seat.me.0.upper pass.new.seat.me.0.upper }
-    ensures won { IsAlone space.now.table.shared.key pass.old.seat.me.0.upper → IsListed pass.old.seat.me.0.upper.inventory K.update.old
-        → result ≢ false }
-    ensures renewed { HasRenewed space.now.table.shared.key (slice_index K.update.its 1) K.update.edit (Ok result) pass.old.seat.me.0.upper
-        pass.new.seat.me.0.upper }
-    ensures placed { IsNewRow new (Ok result) pass.new.seat.me.0.upper }
-    ensures counted { IsSpent spent.old spent.new pass.old.seat.me pass.new.seat.me }
-    ensures found { HasEnded (Ok result) pass.old.seat.me pass.new.seat.me }
-    ensures back { HasCleared (Ok result) pass.old.seat.me pass.new.seat.me pass.old.kept pass.new.kept }
+    ensures frame { StaysReady space.now pass.old pass.new }
+    ensures done { HasSwapped K.update.event (sizes space.now) result (tree_of pass.old) (tree_of pass.new) }
+    ensures won { IsAlone (sizes space.now) (tree_of pass.old) → IsListed (tree_of pass.old).inventory K.update.old → result ≢ false }
+    ensures renewed { HasRenewed (sizes space.now) (slice_index K.update.its 1) K.update.edit (Ok result) (tree_of pass.old) (tree_of pass.new) }
+    ensures placed { IsNewRow new (Ok result) (tree_of pass.new) }
+    ensures counted { IsSpent spent.old spent.new (known pass.old) (known pass.new) }
+    ensures found { HasEnded (Ok result) (known pass.old) (known pass.new) }
+    ensures back { HasCleared (Ok result) (known pass.old) (known pass.new) pass.old.kept pass.new.kept }
 {
     let base = cursor.base;
     if !replace_base::<K>(space, pass, cursor.link, base, new) {
@@ -78,16 +73,14 @@ pub(crate) fn swap_in<K: Intent>(
 
 // Puts rows back that the pass holds.
 pub(crate) fn give_back_all(space: &TreeSpace, pass: &mut TreePass, rows: &[u32], spent: &mut Spent)
-    requires own { IsOf space.now.table.shared.table_id space.now.table.shared.key pass.old.seat }
+    requires own { IsOn space.now pass.old }
     requires apart { AreApart rows.now }
-    requires held { AreHeld space.now.table.shared.key.rows pass.old.kept.rows pass.old.seat.me.0 rows.now }
-    ensures same { IsStill pass.old.seat pass.new.seat }
-    ensures number { pass.new.number ≡ pass.old.number }
-    ensures tally { pass.new.tally ≡ pass.old.tally }
-    ensures none { AreHeld space.now.table.shared.key.rows pass.new.kept.rows pass.new.seat.me.0 [] }
-    ensures counted { IsSpent spent.old spent.new pass.old.seat.me pass.new.seat.me }
-    ensures met { HasMet 0 0 pass.old.seat.me pass.new.seat.me }
-    ensures back { PutsBack 0 pass.old.seat.me pass.new.seat.me pass.old.kept pass.new.kept }
+    requires held { AreHeld (sizes space.now).rows pass.old.kept.rows (view pass.old) rows.now }
+    ensures frame { IsStillPass pass.old pass.new }
+    ensures none { AreHeld (sizes space.now).rows pass.new.kept.rows (view pass.new) [] }
+    ensures counted { IsSpent spent.old spent.new (known pass.old) (known pass.new) }
+    ensures met { HasMet 0 0 (known pass.old) (known pass.new) }
+    ensures back { PutsBack 0 (known pass.old) (known pass.new) pass.old.kept pass.new.kept }
 {
     for at in 0..rows.len() {
         give_back(space, pass, rows[at], spent);
@@ -96,14 +89,12 @@ pub(crate) fn give_back_all(space: &TreeSpace, pass: &mut TreePass, rows: &[u32]
 
 // Retires rows that the pass unlinked.
 fn retire_all(space: &TreeSpace, pass: &mut TreePass, rows: &[u32])
-    requires own { IsOf space.now.table.shared.table_id space.now.table.shared.key pass.old.seat }
+    requires own { IsOn space.now pass.old }
     requires apart { AreApart rows.now }
-    requires unlinked { AreUnlinked space.now.table.shared.key.rows pass.old.kept.rows pass.old.seat.me.0 rows.now }
-    ensures same { IsStill pass.old.seat pass.new.seat }
-    ensures number { pass.new.number ≡ pass.old.number }
-    ensures tally { pass.new.tally ≡ pass.old.tally }
-    ensures none { AreHeld space.now.table.shared.key.rows pass.new.kept.rows pass.new.seat.me.0 [] }
-    ensures met { (losses pass.new.seat.me ≡ losses pass.old.seat.me) × HasMet 0 0 pass.old.seat.me pass.new.seat.me }
+    requires unlinked { AreUnlinked (sizes space.now).rows pass.old.kept.rows (view pass.old) rows.now }
+    ensures frame { IsStillPass pass.old pass.new }
+    ensures none { AreHeld (sizes space.now).rows pass.new.kept.rows (view pass.new) [] }
+    ensures met { (losses (known pass.new) ≡ losses (known pass.old)) × HasMet 0 0 (known pass.old) (known pass.new) }
 {
     for at in 0..rows.len() {
         retire_unlinked(space, pass, rows[at]);
@@ -112,16 +103,12 @@ fn retire_all(space: &TreeSpace, pass: &mut TreePass, rows: &[u32])
 
 // Retires a row that the pass unlinked.
 pub(crate) fn retire_unlinked(space: &TreeSpace, pass: &mut TreePass, row: u32)
-    requires own { IsOf space.now.table.shared.table_id space.now.table.shared.key pass.old.seat }
-    requires unlinked { (rest : List ℕ) × (¬ IsIn row rest)
-        × AreUnlinked space.now.table.shared.key.rows pass.old.kept.rows pass.old.seat.me.0 (row ∷ rest) }
-    ensures same { IsStill pass.old.seat pass.new.seat }
-    ensures number { pass.new.number ≡ pass.old.number }
-    ensures tally { pass.new.tally ≡ pass.old.tally }
-    ensures retired { (rest : List ℕ) → ¬ IsIn row rest
-        → AreUnlinked space.now.table.shared.key.rows pass.old.kept.rows pass.old.seat.me.0 (row ∷ rest)
-        → AreUnlinked space.now.table.shared.key.rows pass.new.kept.rows pass.new.seat.me.0 rest }
-    ensures met { (losses pass.new.seat.me ≡ losses pass.old.seat.me) × HasMet 0 0 pass.old.seat.me pass.new.seat.me }
+    requires own { IsOn space.now pass.old }
+    requires unlinked { (rest : List ℕ) × (¬ IsIn row rest) × AreUnlinked (sizes space.now).rows pass.old.kept.rows (view pass.old) (row ∷ rest) }
+    ensures frame { IsStillPass pass.old pass.new }
+    ensures retired { (rest : List ℕ) → ¬ IsIn row rest → AreUnlinked (sizes space.now).rows pass.old.kept.rows (view pass.old) (row ∷ rest)
+        → AreUnlinked (sizes space.now).rows pass.new.kept.rows (view pass.new) rest }
+    ensures met { (losses (known pass.new) ≡ losses (known pass.old)) × HasMet 0 0 (known pass.old) (known pass.new) }
 {
     space.retire(pass, row);
 }

@@ -1,9 +1,9 @@
 //! Rows are taken for a call, and put back.
-ghost use Rattle.std.specs.Prelude.{◌≡◌, ◌<◌, ◌≤◌, ℕ, List, [], ◌∷◌, length};
+ghost use Rattle.std.specs.Prelude.{◌<◌, ℕ, List, [], ◌∷◌, length};
 ghost use Rattle.ca_node.specs.Links.{IsIn};
-ghost use Rattle.ca_rows.specs.Calls.{IsOf, IsStill};
 ghost use Rattle.ca_base.specs.Counting.{IsSpent, HasFound, HasMet, HasPutBack, PutsBack};
 ghost use Rattle.ca_base.specs.Taking.{AreHeld, HasTaken, HasTakenTwo};
+ghost use Rattle.ca_rows.specs.Passes.{IsOn, IsStillPass, StillKeepsList, sizes, known, view};
 
 use crate::spending::lose;
 use ca_model::Spent;
@@ -23,15 +23,13 @@ pub enum NoRow {
 
 /// Takes a free row.
 pub fn take(space: &TreeSpace, pass: &mut TreePass, spent: &mut Spent) -> Result<u32, NoRow>
-    requires own { IsOf space.now.table.shared.table_id space.now.table.shared.key pass.old.seat }
-    ensures same { IsStill pass.old.seat pass.new.seat }
-    ensures number { pass.new.number ≡ pass.old.number }
-    ensures tally { pass.new.tally ≡ pass.old.tally }
-    ensures kept { pass.new.kept ≡ pass.old.kept }
-    ensures taken { (held : List ℕ) → length held < 8 → AreHeld space.now.table.shared.key.rows pass.old.kept.rows pass.old.seat.me.0 held
-        → HasTaken result held (AreHeld space.now.table.shared.key.rows pass.new.kept.rows pass.new.seat.me.0) }
-    ensures counted { IsSpent spent.old spent.new pass.old.seat.me pass.new.seat.me }
-    ensures found { HasFound result pass.old.seat.me pass.new.seat.me }
+    requires own { IsOn space.now pass.old }
+    ensures frame { StillKeepsList pass.old pass.new }
+    ensures taken { (held : List ℕ) → length held < 8 → AreHeld (sizes space.now).rows pass.old.kept.rows (view pass.old) held
+        → HasTaken result held (AreHeld (sizes space.now).rows pass.new.kept.rows (view pass.new)) }
+    ensures counted { IsSpent spent.old spent.new (known pass.old) (known pass.new) }
+    ensures found { HasFound result (known pass.old) (known pass.new) }
+    ensures back { HasPutBack result (known pass.old) (known pass.new) pass.old.kept pass.new.kept }
 {
     match space.take_row(pass) {
         Taken::Row(row) => Ok(row),
@@ -50,15 +48,13 @@ pub fn take_two(
     pass: &mut TreePass,
     spent: &mut Spent,
 ) -> Result<(u32, u32), NoRow>
-    requires own { IsOf space.now.table.shared.table_id space.now.table.shared.key pass.old.seat }
-    requires none { AreHeld space.now.table.shared.key.rows pass.old.kept.rows pass.old.seat.me.0 [] }
-    ensures same { IsStill pass.old.seat pass.new.seat }
-    ensures number { pass.new.number ≡ pass.old.number }
-    ensures tally { pass.new.tally ≡ pass.old.tally }
-    ensures taken { HasTakenTwo result (AreHeld space.now.table.shared.key.rows pass.new.kept.rows pass.new.seat.me.0) }
-    ensures counted { IsSpent spent.old spent.new pass.old.seat.me pass.new.seat.me }
-    ensures found { HasFound result pass.old.seat.me pass.new.seat.me }
-    ensures back { HasPutBack result pass.old.seat.me pass.new.seat.me pass.old.kept pass.new.kept }
+    requires own { IsOn space.now pass.old }
+    requires none { AreHeld (sizes space.now).rows pass.old.kept.rows (view pass.old) [] }
+    ensures frame { IsStillPass pass.old pass.new }
+    ensures taken { HasTakenTwo result (AreHeld (sizes space.now).rows pass.new.kept.rows (view pass.new)) }
+    ensures counted { IsSpent spent.old spent.new (known pass.old) (known pass.new) }
+    ensures found { HasFound result (known pass.old) (known pass.new) }
+    ensures back { HasPutBack result (known pass.old) (known pass.new) pass.old.kept pass.new.kept }
 {
     let first = match take(space, pass, spent) {
         Ok(row) => row,
@@ -75,17 +71,14 @@ pub fn take_two(
 
 /// Puts a row back that the pass holds. Where that is lost to another pass the row is retired, and so it is kept.
 pub fn give_back(space: &TreeSpace, pass: &mut TreePass, row: u32, spent: &mut Spent)
-    requires own { IsOf space.now.table.shared.table_id space.now.table.shared.key pass.old.seat }
-    requires held { (rest : List ℕ) × (¬ IsIn row rest)
-        × AreHeld space.now.table.shared.key.rows pass.old.kept.rows pass.old.seat.me.0 (row ∷ rest) }
-    ensures same { IsStill pass.old.seat pass.new.seat }
-    ensures number { pass.new.number ≡ pass.old.number }
-    ensures tally { pass.new.tally ≡ pass.old.tally }
-    ensures given { (rest : List ℕ) → ¬ IsIn row rest → AreHeld space.now.table.shared.key.rows pass.old.kept.rows pass.old.seat.me.0 (row ∷ rest)
-        → AreHeld space.now.table.shared.key.rows pass.new.kept.rows pass.new.seat.me.0 rest }
-    ensures counted { IsSpent spent.old spent.new pass.old.seat.me pass.new.seat.me }
-    ensures met { HasMet 0 0 pass.old.seat.me pass.new.seat.me }
-    ensures back { PutsBack 0 pass.old.seat.me pass.new.seat.me pass.old.kept pass.new.kept }
+    requires own { IsOn space.now pass.old }
+    requires held { (rest : List ℕ) × (¬ IsIn row rest) × AreHeld (sizes space.now).rows pass.old.kept.rows (view pass.old) (row ∷ rest) }
+    ensures frame { IsStillPass pass.old pass.new }
+    ensures given { (rest : List ℕ) → ¬ IsIn row rest → AreHeld (sizes space.now).rows pass.old.kept.rows (view pass.old) (row ∷ rest)
+        → AreHeld (sizes space.now).rows pass.new.kept.rows (view pass.new) rest }
+    ensures counted { IsSpent spent.old spent.new (known pass.old) (known pass.new) }
+    ensures met { HasMet 0 0 (known pass.old) (known pass.new) }
+    ensures back { PutsBack 0 (known pass.old) (known pass.new) pass.old.kept pass.new.kept }
 {
     if !space.put_row(pass, row) {
         lose(spent);

@@ -1,19 +1,19 @@
 //! An object is put into a base.
-ghost use Rattle.std.specs.Prelude.{◌≡◌, ◌≢◌, ℕ, ◌<◌, ◌≤◌, List, [], length, map, slice_range, true, false, Ok};
+ghost use Rattle.std.specs.Prelude.{◌≡◌, ◌≢◌, ℕ, ◌<◌, ◌≤◌, List, [], length, map, slice_range, false, Ok};
 ghost use Rattle.ca_model.proofs.Places.{IsPlace};
 ghost use Rattle.ca_model.specs.History.{Put};
 ghost use Rattle.ca_model.specs.StoreMap.{IsPair};
 ghost use Rattle.ca_node.specs.Inventory.{IsListed};
 ghost use Rattle.ca_node.specs.Place.{HasKey};
 ghost use Rattle.ca_node.specs.Row.{pair};
-ghost use Rattle.ca_node.specs.Tallied.{IsTallied};
 ghost use Rattle.ca_node.specs.Told.{IsAlone};
 ghost use Rattle.ca_base.specs.Counting.{IsSpent, HasCleared, HasEnded};
 ghost use Rattle.ca_base.specs.Finding.{IsAtCursor};
-ghost use Rattle.ca_base.specs.Putting.{gone as gone_at, object_at, IsItemAt, IsNewRow, IsRoom, IsFor, IsShownLast, HasRenewed, HasTried, first_note};
+ghost use Rattle.ca_base.specs.Putting.{gone as gone_at, object_at, IsItemAt, IsNewRow, IsRoom, IsFor, IsShownLast, HasRenewed, HasTried};
 ghost use Rattle.ca_base.specs.Putting.{put_event};
-ghost use Rattle.ca_base.specs.Taking.{AreHeld};
-ghost use Rattle.ca_rows.specs.Calls.{IsOf, IsSame};
+ghost use Rattle.ca_rows.specs.Passes.{sizes, known};
+ghost use Rattle.ca_node.specs.TreePasses.{tree_of};
+ghost use Rattle.ca_base.specs.Readiness.{IsReady, StaysReady, shown_last};
 
 use crate::copying::write_base_with;
 use crate::swapping::{Deed, swap_in};
@@ -52,36 +52,27 @@ pub fn put_at(
     placed: &mut u32,
     spent: &mut Spent,
 ) -> Result<bool, NoRow>
-    requires own { IsOf space.now.table.shared.table_id space.now.table.shared.key pass.old.seat }
-    requires pinned { pass.old.seat.me.0.pin.pinned ≡ true }
-    requires number { 0 < pass.old.seat.me.0.upper.number }
-    requires none { AreHeld space.now.table.shared.key.rows pass.old.kept.rows pass.old.seat.me.0 [] }
-    requires leaf { space.now.table.shared.key.leaf ≤ 120 }
-    requires shown { IsShownLast space.now.table.shared.key pass.old.seat.me.0.upper cursor.base }
-    requires cursor { IsAtCursor space.now.table.shared.key (first_note pass.old.seat.me.0.upper.notes) cursor }
-    requires many { many ≡ length (first_note pass.old.seat.me.0.upper.notes).objects }
-    requires room { IsRoom place many space.now.table.shared.key.leaf }
+    requires ready { IsReady space.now pass.old }
+    requires leaf { (sizes space.now).leaf ≤ 120 }
+    requires shown { IsShownLast (sizes space.now) (tree_of pass.old) cursor.base }
+    requires cursor { IsAtCursor (sizes space.now) (shown_last pass.old) cursor }
+    requires many { many ≡ length (shown_last pass.old).objects }
+    requires room { IsRoom place many (sizes space.now).leaf }
     requires within { (key_at ≤ key_end) × (key_end ≤ length object.now) }
-    requires pair { IsPair space.now.table.shared.key.keypos (slice_range object.now key_at key_end, object.now) }
-    requires place { IsPlace (map pair (first_note pass.old.seat.me.0.upper.notes).objects) (slice_range object.now key_at key_end) place }
-    requires about { HasKey (first_note pass.old.seat.me.0.upper.notes).place.span (slice_range object.now key_at key_end) }
+    requires pair { IsPair (sizes space.now).keypos (slice_range object.now key_at key_end, object.now) }
+    requires place { IsPlace (map pair (shown_last pass.old).objects) (slice_range object.now key_at key_end) place }
+    requires about { HasKey (shown_last pass.old).place.span (slice_range object.now key_at key_end) }
     requires call { IsFor why place }
-    ensures same { IsSame pass.old.seat pass.new.seat }
-    ensures number { pass.new.number ≡ pass.old.number }
-    ensures tally { IsTallied pass.old.tally pass.old.seat.me.0.upper → IsTallied pass.new.tally pass.new.seat.me.0.upper }
-    ensures pin { (pass.new.seat.me.0.sizes ≡ pass.old.seat.me.0.sizes) × (pass.new.seat.me.0.pin ≡ pass.old.seat.me.0.pin) }
-    ensures none { AreHeld space.now.table.shared.key.rows pass.new.kept.rows pass.new.seat.me.0 [] }
-    ensures put { HasTried
-        (put_event why (slice_range object.now key_at key_end) (object_at place (first_note pass.old.seat.me.0.upper.notes).objects) object.now)
-        space.now.table.shared.key result pass.old.seat.me.0.upper pass.new.seat.me.0.upper }
-    ensures won { IsAlone space.now.table.shared.key pass.old.seat.me.0.upper
-        → IsListed pass.old.seat.me.0.upper.inventory (first_note pass.old.seat.me.0.upper.notes) → result ≢ Ok false }
-    ensures renewed { HasRenewed space.now.table.shared.key statistic (Put (slice_range object.now key_at key_end) object.now) result
-        pass.old.seat.me.0.upper pass.new.seat.me.0.upper }
-    ensures placed { IsNewRow placed.new result pass.new.seat.me.0.upper }
-    ensures counted { IsSpent spent.old spent.new pass.old.seat.me pass.new.seat.me }
-    ensures found { HasEnded result pass.old.seat.me pass.new.seat.me }
-    ensures back { HasCleared result pass.old.seat.me pass.new.seat.me pass.old.kept pass.new.kept }
+    ensures frame { StaysReady space.now pass.old pass.new }
+    ensures put { HasTried (put_event why (slice_range object.now key_at key_end) (object_at place (shown_last pass.old).objects) object.now)
+        (sizes space.now) result (tree_of pass.old) (tree_of pass.new) }
+    ensures won { IsAlone (sizes space.now) (tree_of pass.old) → IsListed (tree_of pass.old).inventory (shown_last pass.old) → result ≢ Ok false }
+    ensures renewed { HasRenewed (sizes space.now) statistic (Put (slice_range object.now key_at key_end) object.now) result (tree_of pass.old)
+        (tree_of pass.new) }
+    ensures placed { IsNewRow placed.new result (tree_of pass.new) }
+    ensures counted { IsSpent spent.old spent.new (known pass.old) (known pass.new) }
+    ensures found { HasEnded result (known pass.old) (known pass.new) }
+    ensures back { HasCleared result (known pass.old) (known pass.new) pass.old.kept pass.new.kept }
 {
     // An update retires the old base before the old object, and kept rows are given back from the last one on: so the row that is taken first
     // was mostly a base before, and has most of a new one's words already.

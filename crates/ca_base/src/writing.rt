@@ -1,8 +1,7 @@
 //! Rows that a pass holds are written: objects and bases.
-ghost use Rattle.std.specs.Prelude.{◌≡◌, ◌+◌, ◌-◌, ◌*◌, ◌/◌, ◌%◌, ◌<◌, ◌≤◌, ℕ, List, length, slice_index};
-ghost use Rattle.ca_node.specs.Row.{IsBaseRow};
-ghost use Rattle.ca_rows.specs.Calls.{IsOf, IsStill};
+ghost use Rattle.std.specs.Prelude.{◌≡◌, ◌+◌, ◌-◌, ◌*◌, ◌/◌, ◌%◌, ◌<◌, ◌≤◌, length, slice_index};
 ghost use Rattle.ca_base.specs.Writing.{IsHeld, HasSet, HasFilled, HasBytes, HasEight, SpellsObject, SpellsBase, HasWritten, base_head};
+ghost use Rattle.ca_rows.specs.Passes.{IsOn, StillKeepsList, sizes, known};
 
 use ca_node::{TreePass, TreeSpace};
 
@@ -21,15 +20,12 @@ pub fn write_object(
     key_at: usize,
     key_end: usize,
 )
-    requires own { IsOf space.now.table.shared.table_id space.now.table.shared.key pass.old.seat }
-    requires held { IsHeld pass.old.seat.me row }
-    requires inside { row ≤ space.now.table.shared.key.rows }
+    requires own { IsOn space.now pass.old }
+    requires held { IsHeld (known pass.old) row }
+    requires inside { row ≤ (sizes space.now).rows }
     requires place { (key_at ≤ key_end) × (key_end ≤ length object.now) × (length object.now ≤ 1000) }
-    ensures same { IsStill pass.old.seat pass.new.seat }
-    ensures number { pass.new.number ≡ pass.old.number }
-    ensures tally { pass.new.tally ≡ pass.old.tally }
-    ensures kept { pass.new.kept ≡ pass.old.kept }
-    ensures written { HasWritten row (SpellsObject object.now key_at key_end) pass.old.seat.me pass.new.seat.me }
+    ensures frame { StillKeepsList pass.old pass.new }
+    ensures written { HasWritten row (SpellsObject object.now key_at key_end) (known pass.old) (known pass.new) }
 {
     let form = object_form(object.len(), key_at, key_end);
     space.write_word(pass, row, 0, form);
@@ -46,15 +42,12 @@ pub fn write_base(
     items: &[u32],
     statistic: u64,
 )
-    requires own { IsOf space.now.table.shared.table_id space.now.table.shared.key pass.old.seat }
-    requires held { IsHeld pass.old.seat.me row }
-    requires inside { row ≤ space.now.table.shared.key.rows }
+    requires own { IsOn space.now pass.old }
+    requires held { IsHeld (known pass.old) row }
+    requires inside { row ≤ (sizes space.now).rows }
     requires few { length items.now ≤ 120 }
-    ensures same { IsStill pass.old.seat pass.new.seat }
-    ensures number { pass.new.number ≡ pass.old.number }
-    ensures tally { pass.new.tally ≡ pass.old.tally }
-    ensures kept { pass.new.kept ≡ pass.old.kept }
-    ensures written { HasWritten row (SpellsBase items.now level statistic) pass.old.seat.me pass.new.seat.me }
+    ensures frame { StillKeepsList pass.old pass.new }
+    ensures written { HasWritten row (SpellsBase items.now level statistic) (known pass.old) (known pass.new) }
 {
     write_head(space, pass, row, level, items.len() as u32, statistic);
     write_items(space, pass, row, 0, items);
@@ -69,14 +62,11 @@ pub(crate) fn write_head(
     many: u32,
     statistic: u64,
 )
-    requires own { IsOf space.now.table.shared.table_id space.now.table.shared.key pass.old.seat }
-    requires held { IsHeld pass.old.seat.me row }
-    requires inside { row ≤ space.now.table.shared.key.rows }
-    ensures same { IsStill pass.old.seat pass.new.seat }
-    ensures number { pass.new.number ≡ pass.old.number }
-    ensures tally { pass.new.tally ≡ pass.old.tally }
-    ensures kept { pass.new.kept ≡ pass.old.kept }
-    ensures filled { HasFilled row 0 7 (λ k word. word ≡ slice_index (base_head level many statistic) k) pass.old.seat.me pass.new.seat.me }
+    requires own { IsOn space.now pass.old }
+    requires held { IsHeld (known pass.old) row }
+    requires inside { row ≤ (sizes space.now).rows }
+    ensures frame { StillKeepsList pass.old pass.new }
+    ensures filled { HasFilled row 0 7 (λ k word. word ≡ slice_index (base_head level many statistic) k) (known pass.old) (known pass.new) }
 {
     let form = BASE + level as u64 * 65_536 + many as u64;
     write_words(space, pass, row, &[form, statistic, 0, 0, 0, 0, 0]);
@@ -96,14 +86,11 @@ fn object_form(length: usize, key_at: usize, key_end: usize) -> u64
 
 // Sets a word. It isn't stored where it is that number already, since a load takes an eighth of the time.
 pub(crate) fn set_word(space: &TreeSpace, pass: &mut TreePass, row: u32, index: u32, value: u64)
-    requires own { IsOf space.now.table.shared.table_id space.now.table.shared.key pass.old.seat }
-    requires held { IsHeld pass.old.seat.me row }
-    requires inside { (row ≤ space.now.table.shared.key.rows) × (index < 136) }
-    ensures same { IsStill pass.old.seat pass.new.seat }
-    ensures number { pass.new.number ≡ pass.old.number }
-    ensures tally { pass.new.tally ≡ pass.old.tally }
-    ensures kept { pass.new.kept ≡ pass.old.kept }
-    ensures set { HasSet row index value pass.old.seat.me pass.new.seat.me }
+    requires own { IsOn space.now pass.old }
+    requires held { IsHeld (known pass.old) row }
+    requires inside { (row ≤ (sizes space.now).rows) × (index < 136) }
+    ensures frame { StillKeepsList pass.old pass.new }
+    ensures set { HasSet row index value (known pass.old) (known pass.new) }
 {
     if space.read_word(pass, row, index) != value {
         space.write_word(pass, row, index, value);
@@ -112,14 +99,11 @@ pub(crate) fn set_word(space: &TreeSpace, pass: &mut TreePass, row: u32, index: 
 
 // Sets the words from one on to 0.
 fn clear(space: &TreeSpace, pass: &mut TreePass, row: u32, from: usize)
-    requires own { IsOf space.now.table.shared.table_id space.now.table.shared.key pass.old.seat }
-    requires held { IsHeld pass.old.seat.me row }
-    requires inside { (row ≤ space.now.table.shared.key.rows) × (from ≤ 136) }
-    ensures same { IsStill pass.old.seat pass.new.seat }
-    ensures number { pass.new.number ≡ pass.old.number }
-    ensures tally { pass.new.tally ≡ pass.old.tally }
-    ensures kept { pass.new.kept ≡ pass.old.kept }
-    ensures filled { HasFilled row from (136 - from) (λ _ word. word ≡ 0) pass.old.seat.me pass.new.seat.me }
+    requires own { IsOn space.now pass.old }
+    requires held { IsHeld (known pass.old) row }
+    requires inside { (row ≤ (sizes space.now).rows) × (from ≤ 136) }
+    ensures frame { StillKeepsList pass.old pass.new }
+    ensures filled { HasFilled row from (136 - from) (λ _ word. word ≡ 0) (known pass.old) (known pass.new) }
 {
     for place in from..136 {
         set_word(space, pass, row, place as u32, 0);
@@ -128,15 +112,12 @@ fn clear(space: &TreeSpace, pass: &mut TreePass, row: u32, from: usize)
 
 // Sets words from the first one on.
 pub(crate) fn write_words(space: &TreeSpace, pass: &mut TreePass, row: u32, words: &[u64])
-    requires own { IsOf space.now.table.shared.table_id space.now.table.shared.key pass.old.seat }
-    requires held { IsHeld pass.old.seat.me row }
-    requires inside { row ≤ space.now.table.shared.key.rows }
+    requires own { IsOn space.now pass.old }
+    requires held { IsHeld (known pass.old) row }
+    requires inside { row ≤ (sizes space.now).rows }
     requires few { length words.now ≤ 136 }
-    ensures same { IsStill pass.old.seat pass.new.seat }
-    ensures number { pass.new.number ≡ pass.old.number }
-    ensures tally { pass.new.tally ≡ pass.old.tally }
-    ensures kept { pass.new.kept ≡ pass.old.kept }
-    ensures filled { HasFilled row 0 (length words.now) (λ k word. word ≡ slice_index words.now k) pass.old.seat.me pass.new.seat.me }
+    ensures frame { StillKeepsList pass.old pass.new }
+    ensures filled { HasFilled row 0 (length words.now) (λ k word. word ≡ slice_index words.now k) (known pass.old) (known pass.new) }
 {
     for place in 0..words.len() {
         set_word(space, pass, row, place as u32, words[place]);
@@ -145,15 +126,12 @@ pub(crate) fn write_words(space: &TreeSpace, pass: &mut TreePass, row: u32, word
 
 // Writes items of a base, to the places from `at` on.
 pub(crate) fn write_items(space: &TreeSpace, pass: &mut TreePass, row: u32, at: u32, items: &[u32])
-    requires own { IsOf space.now.table.shared.table_id space.now.table.shared.key pass.old.seat }
-    requires held { IsHeld pass.old.seat.me row }
-    requires inside { row ≤ space.now.table.shared.key.rows }
+    requires own { IsOn space.now pass.old }
+    requires held { IsHeld (known pass.old) row }
+    requires inside { row ≤ (sizes space.now).rows }
     requires few { at + length items.now ≤ 120 }
-    ensures same { IsStill pass.old.seat pass.new.seat }
-    ensures number { pass.new.number ≡ pass.old.number }
-    ensures tally { pass.new.tally ≡ pass.old.tally }
-    ensures kept { pass.new.kept ≡ pass.old.kept }
-    ensures filled { HasFilled row (11 + at) (length items.now) (λ k word. word ≡ slice_index items.now k) pass.old.seat.me pass.new.seat.me }
+    ensures frame { StillKeepsList pass.old pass.new }
+    ensures filled { HasFilled row (11 + at) (length items.now) (λ k word. word ≡ slice_index items.now k) (known pass.old) (known pass.new) }
 {
     for place in 0..items.len() {
         let item = items[place] as u64;
@@ -163,15 +141,12 @@ pub(crate) fn write_items(space: &TreeSpace, pass: &mut TreePass, row: u32, at: 
 
 // Writes an object's bytes.
 pub(crate) fn write_bytes(space: &TreeSpace, pass: &mut TreePass, row: u32, bytes: &[u8])
-    requires own { IsOf space.now.table.shared.table_id space.now.table.shared.key pass.old.seat }
-    requires held { IsHeld pass.old.seat.me row }
-    requires inside { row ≤ space.now.table.shared.key.rows }
+    requires own { IsOn space.now pass.old }
+    requires held { IsHeld (known pass.old) row }
+    requires inside { row ≤ (sizes space.now).rows }
     requires short { length bytes.now ≤ 1000 }
-    ensures same { IsStill pass.old.seat pass.new.seat }
-    ensures number { pass.new.number ≡ pass.old.number }
-    ensures tally { pass.new.tally ≡ pass.old.tally }
-    ensures kept { pass.new.kept ≡ pass.old.kept }
-    ensures filled { HasFilled row 11 ((length bytes.now + 7) / 8) (HasEight bytes.now) pass.old.seat.me pass.new.seat.me }
+    ensures frame { StillKeepsList pass.old pass.new }
+    ensures filled { HasFilled row 11 ((length bytes.now + 7) / 8) (HasEight bytes.now) (known pass.old) (known pass.new) }
 {
     for place in 0..bytes.len().div_ceil(8) {
         let word = word_of(&bytes[8 * place..]);

@@ -11,5 +11,6 @@ pub mod Stays
 pub mod Tallied
 pub mod Told
 pub mod Tree
+pub mod TreePasses
 pub mod TreeView
 pub mod Walking

@@ -5,7 +5,8 @@ use lib.ListN.{get_elem?}
 use Rattle.atomic_table.specs.Table.{Step}
 use Rattle.ca_model.specs.Event.{Event, Get, IsAnswer, effect}
 use Rattle.ca_model.specs.History.{Edit, Del, History, after, after_edit, IsEdit, AreEdits, AreByPasses}
-use Rattle.ca_model.specs.Known.{Counts, one_more_busy, one_more_full, one_more_deep, one_more_worn}
+use Rattle.ca_model.specs.declared.outcome.Cause.{Cause}
+use Rattle.ca_model.specs.Known.{Counts, one_more}
 use Rattle.ca_model.specs.Lawful.{IsLawful}
 use Rattle.ca_rows.specs.declared.sizes.Sizes.{Sizes}
 use Rattle.ca_rows.specs.declared.view.Claim.TheVariants.{Holds, Unlinked}
@@ -350,13 +351,13 @@ abbrev pub HasDivided : Bool → Division → MyTree → MyTree → Type 0
 HasDivided true x m m' = IsDivided x m m'
 HasDivided false x m m' = m' ≡ with_upper m (one_more_lost m.0.upper)
 
--- One refusal more: of a call that was busy, or for want of a row or of a level, or as a counter can rise no more.
+-- One refusal more, for some cause.
 abbrev pub IsRise : (Counts → Counts) → Type 0
-IsRise one_more = (one_more ≡ one_more_busy) ⊎ ((one_more ≡ one_more_full) ⊎ ((one_more ≡ one_more_deep) ⊎ (one_more ≡ one_more_worn)))
+IsRise rise = (why : Cause) × (rise ≡ one_more why)
 
 -- A word was loaded as a call was refused, and the call is counted so.
 abbrev pub Refuses : (Counts → Counts) → Step (Unit {0}) → MyTree → ℕ → MyTree → Type 0
-Refuses one_more st m n m' = m' ≡ with_upper m (record m.0.upper { counts = one_more m.0.upper.counts })
+Refuses rise st m n m' = m' ≡ with_upper m (record m.0.upper { counts = rise m.0.upper.counts })
 
 -- what a front knows: the history that the pass has seen
 abbrev pub front_of : TreeView → TreeView
@@ -378,7 +379,7 @@ IsFront m = m ≡ (fresh no_sizes 0 (front_of m.0.upper), [])
 -- counts a lost exchange, a split or an update.
 abbrev pub MayLoad : Step (Unit {0}) → MyTree → ℕ → MyTree → Type 0
 MayLoad st m n m' = Leads st m n m' ⊎ (Reads st m n m' ⊎ (((event : Event) × ReadsLast event st m n m')
-    ⊎ ((one_more : Counts → Counts) × IsRise one_more × Refuses one_more st m n m')))
+    ⊎ ((rise : Counts → Counts) × IsRise rise × Refuses rise st m n m')))
 
 -- The exchange is about the base that the seat was shown last: it expects its row, at the link where it hung.
 abbrev pub IsShownLast : TreeView → Step (Unit {0}) → Note → Type 0

@@ -1,5 +1,5 @@
 -- What a seat knows of the tree. It is data of proofs alone: lists, since a function is no value.
-use Rattle.std.specs.Prelude.{ℕ, List, [], ◌∷◌}
+use Rattle.std.specs.Prelude.{ℕ, List, [], ◌∷◌, None}
 use Rattle.ca_model.specs.Event.{Entry}
 use Rattle.ca_model.specs.History.{History}
 use Rattle.ca_model.specs.Known.{Counts}
@@ -68,7 +68,7 @@ abbrev pub no_renewal : Renewal
 no_renewal = record { count = 0; key = []; old = no_note; new = no_note; lost = 0; splits = 0 }
 
 abbrev pub no_refusals : Counts
-no_refusals = record { busy = 0; full = 0; deep = 0; worn = 0 }
+no_refusals = record { busy = 0; full = 0; deep = 0; worn = 0; last = None }
 
 -- what the tree has at first: row 1, a base
 abbrev pub first_inventory : Inventory

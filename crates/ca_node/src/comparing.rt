@@ -1,10 +1,11 @@
 //! How the key of a route that was shown stands to another key.
-ghost use Rattle.std.specs.Prelude.{◌≡◌, ◌⊎◌, ℕ, ◌+◌, ◌*◌, ◌<◌, ◌≤◌, List, true, take, drop, length as list_length};
+ghost use Rattle.std.specs.Prelude.{◌≡◌, ◌⊎◌, ℕ, ◌+◌, ◌*◌, ◌<◌, ◌≤◌, List, take, drop, length as list_length};
 ghost use Rattle.std.specs.Int.{to_be_bytes, w64};
 ghost use Rattle.ca_model.specs.StoreMap.{bytes_cmp};
 ghost use Rattle.ca_node.specs.Row.{count, route_key};
 ghost use Rattle.ca_node.specs.Walking.{IsRouteShown};
-ghost use Rattle.ca_rows.specs.Calls.{IsOf, IsSame};
+ghost use Rattle.ca_rows.specs.Passes.{OnlyReads, IsReading, sizes};
+ghost use Rattle.ca_node.specs.TreePasses.{tree_of};
 
 use crate::rule::{TreePass, TreeSpace};
 use crate::steps::load_word;
@@ -13,16 +14,11 @@ use std::cmp::Ordering;
 // How the key of a route that the pass was shown stands to this key. As far as both have eight bytes, they are compared as numbers, a word at a
 // time. It loads no word behind the first difference.
 pub fn compare(space: &TreeSpace, pass: &mut TreePass, route: u32, key: &[u8]) -> Ordering
-    requires own { IsOf space.now.table.shared.table_id space.now.table.shared.key pass.old.seat }
-    requires pinned { pass.old.seat.me.0.pin.pinned ≡ true }
-    requires inside { route ≤ space.now.table.shared.key.rows }
-    requires shown { (its : List ℕ) × IsRouteShown pass.old.seat.me.0.upper route its }
-    ensures same { IsSame pass.old.seat pass.new.seat }
-    ensures number { pass.new.number ≡ pass.old.number }
-    ensures tally { pass.new.tally ≡ pass.old.tally }
-    ensures kept { pass.new.kept ≡ pass.old.kept }
-    ensures still { pass.new.seat.me ≡ pass.old.seat.me }
-    ensures order { (its : List ℕ) → IsRouteShown pass.old.seat.me.0.upper route its → result ≡ bytes_cmp (route_key its) key.now }
+    requires reading { IsReading space.now pass.old }
+    requires inside { route ≤ (sizes space.now).rows }
+    requires shown { (its : List ℕ) × IsRouteShown (tree_of pass.old) route its }
+    ensures frame { OnlyReads pass.old pass.new }
+    ensures order { (its : List ℕ) → IsRouteShown (tree_of pass.old) route its → result ≡ bytes_cmp (route_key its) key.now }
 {
     let len = (load_word(space, pass, route, 0) % 65_536) as usize;
     let whole = len.min(key.len()) / 8;
@@ -45,19 +41,13 @@ fn compare_rest(
     len: usize,
     rest: &[u8],
 ) -> Ordering
-    requires own { IsOf space.now.table.shared.table_id space.now.table.shared.key pass.old.seat }
-    requires pinned { pass.old.seat.me.0.pin.pinned ≡ true }
-    requires inside { route ≤ space.now.table.shared.key.rows }
-    requires shown { (its : List ℕ) × IsRouteShown pass.old.seat.me.0.upper route its }
-    requires count { (its : List ℕ) → IsRouteShown pass.old.seat.me.0.upper route its → len ≡ count its }
+    requires reading { IsReading space.now pass.old }
+    requires inside { route ≤ (sizes space.now).rows }
+    requires shown { (its : List ℕ) × IsRouteShown (tree_of pass.old) route its }
+    requires count { (its : List ℕ) → IsRouteShown (tree_of pass.old) route its → len ≡ count its }
     requires left { (8 * word ≤ len) × (len < 8 * word + 8 ⊎ list_length rest.now < 8) }
-    ensures same { IsSame pass.old.seat pass.new.seat }
-    ensures number { pass.new.number ≡ pass.old.number }
-    ensures tally { pass.new.tally ≡ pass.old.tally }
-    ensures kept { pass.new.kept ≡ pass.old.kept }
-    ensures still { pass.new.seat.me ≡ pass.old.seat.me }
-    ensures order { (its : List ℕ) → IsRouteShown pass.old.seat.me.0.upper route its
-        → result ≡ bytes_cmp (drop (8 * word) (route_key its)) rest.now }
+    ensures frame { OnlyReads pass.old pass.new }
+    ensures order { (its : List ℕ) → IsRouteShown (tree_of pass.old) route its → result ≡ bytes_cmp (drop (8 * word) (route_key its)) rest.now }
 {
     let count = (len - 8 * word).min(8);
     if count == 0 {

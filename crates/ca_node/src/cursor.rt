@@ -3,7 +3,8 @@ ghost use Rattle.std.specs.Prelude.{◌≡◌, ◌+◌, ◌≤◌, ℕ, List, tr
 ghost use Rattle.ca_node.specs.Row.{route_key};
 ghost use Rattle.ca_node.specs.Told.{MyTree};
 ghost use Rattle.ca_node.specs.Walking.{IsWalked, IsAtRoute, IsWalking, IsRouteShown, IsSide};
-ghost use Rattle.ca_rows.specs.Calls.{IsOf, IsSame};
+ghost use Rattle.ca_rows.specs.Passes.{OnlyReads, IsReading, KeepsList, sizes, known, view};
+ghost use Rattle.ca_node.specs.TreePasses.{tree_of};
 
 use crate::comparing::compare;
 use crate::link::Link;
@@ -45,13 +46,9 @@ pub struct Cursor {
 /// Walks to the base that is looked for, from the root link down: at a route, a key below its key goes left, any other one right, and where the
 /// keys right below one are looked for, that one goes left at its own key, too. It loads at most one link more than there are levels.
 pub fn walk(space: &TreeSpace, pass: &mut TreePass, spot: Spot<'_>) -> Cursor
-    requires own { IsOf space.now.table.shared.table_id space.now.table.shared.key pass.old.seat }
-    requires pinned { pass.old.seat.me.0.pin.pinned ≡ true }
-    ensures same { IsSame pass.old.seat pass.new.seat }
-    ensures number { pass.new.number ≡ pass.old.number }
-    ensures tally { pass.new.tally ≡ pass.old.tally }
-    ensures kept { pass.new.kept ≡ pass.old.kept }
-    ensures walked { IsWalked space.now.table.shared.key spot.entry pass.old.seat.me result pass.new.seat.me }
+    requires reading { IsReading space.now pass.old }
+    ensures frame { KeepsList pass.old pass.new }
+    ensures walked { IsWalked (sizes space.now) spot.entry (known pass.old) result (known pass.new) }
 {
     let mut cursor = Cursor {
         base: load_link(space, pass, Link::Root),
@@ -73,18 +70,14 @@ pub fn walk(space: &TreeSpace, pass: &mut TreePass, spot: Spot<'_>) -> Cursor
 
 // One step down, from a route to the row that one of its links names.
 fn go_down(space: &TreeSpace, pass: &mut TreePass, cursor: Cursor, spot: Spot<'_>) -> Cursor
-    requires own { IsOf space.now.table.shared.table_id space.now.table.shared.key pass.old.seat }
-    requires pinned { pass.old.seat.me.0.pin.pinned ≡ true }
-    requires at { (m : MyTree) × IsAtRoute space.now.table.shared.key spot m cursor pass.old.seat.me }
-    ensures same { IsSame pass.old.seat pass.new.seat }
-    ensures number { pass.new.number ≡ pass.old.number }
-    ensures tally { pass.new.tally ≡ pass.old.tally }
-    ensures kept { pass.new.kept ≡ pass.old.kept }
-    ensures pinned { pass.new.seat.me.0.pin ≡ pass.old.seat.me.0.pin }
-    ensures sizes { pass.new.seat.me.0.sizes ≡ pass.old.seat.me.0.sizes }
-    ensures loads { pass.new.seat.me.0.upper.loads ≡ pass.old.seat.me.0.upper.loads + 1 }
-    ensures walking { (m : MyTree) → IsAtRoute space.now.table.shared.key spot.entry m cursor pass.old.seat.me
-        → IsWalking space.now.table.shared.key spot.entry m result pass.new.seat.me }
+    requires reading { IsReading space.now pass.old }
+    requires at { (m : MyTree) × IsAtRoute (sizes space.now) spot m cursor (known pass.old) }
+    ensures frame { KeepsList pass.old pass.new }
+    ensures pinned { (view pass.new).pin ≡ (view pass.old).pin }
+    ensures sizes { (view pass.new).sizes ≡ (view pass.old).sizes }
+    ensures loads { (tree_of pass.new).loads ≡ (tree_of pass.old).loads + 1 }
+    ensures walking { (m : MyTree) → IsAtRoute (sizes space.now) spot.entry m cursor (known pass.old)
+        → IsWalking (sizes space.now) spot.entry m result (known pass.new) }
 {
     let route = cursor.base;
     let above = Some(cursor.link);
@@ -109,16 +102,11 @@ fn go_down(space: &TreeSpace, pass: &mut TreePass, cursor: Cursor, spot: Spot<'_
 
 // Whether what is looked for is left of a route's key.
 fn goes_left(space: &TreeSpace, pass: &mut TreePass, route: u32, spot: Spot<'_>) -> bool
-    requires own { IsOf space.now.table.shared.table_id space.now.table.shared.key pass.old.seat }
-    requires pinned { pass.old.seat.me.0.pin.pinned ≡ true }
-    requires inside { route ≤ space.now.table.shared.key.rows }
-    requires shown { (its : List ℕ) × IsRouteShown pass.old.seat.me.0.upper route its }
-    ensures same { IsSame pass.old.seat pass.new.seat }
-    ensures number { pass.new.number ≡ pass.old.number }
-    ensures tally { pass.new.tally ≡ pass.old.tally }
-    ensures kept { pass.new.kept ≡ pass.old.kept }
-    ensures still { pass.new.seat.me ≡ pass.old.seat.me }
-    ensures side { (its : List ℕ) → IsRouteShown pass.old.seat.me.0.upper route its → IsSide result spot.entry (route_key its) }
+    requires reading { IsReading space.now pass.old }
+    requires inside { route ≤ (sizes space.now).rows }
+    requires shown { (its : List ℕ) × IsRouteShown (tree_of pass.old) route its }
+    ensures frame { OnlyReads pass.old pass.new }
+    ensures side { (its : List ℕ) → IsRouteShown (tree_of pass.old) route its → IsSide result spot.entry (route_key its) }
 {
     match spot {
         Spot::First => true,

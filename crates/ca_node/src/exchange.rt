@@ -2,7 +2,8 @@
 ghost use Rattle.std.specs.Prelude.{◌≡◌, ◌+◌, ◌*◌, ◌<◌, false};
 ghost use Rattle.ca_node.specs.Tallied.{HasTallied};
 ghost use Rattle.ca_node.specs.Told.{IsUpdate, HasUpdated, IsDivision, HasDivided, IsMissed, link_word};
-ghost use Rattle.ca_rows.specs.Calls.{IsOf, IsSame};
+ghost use Rattle.ca_rows.specs.Calls.{IsSame};
+ghost use Rattle.ca_rows.specs.Passes.{IsOn, KeepsList, sizes, known};
 
 use crate::link::Link;
 use crate::plays::{Divide, Intent, Plan, Replace};
@@ -20,17 +21,14 @@ pub fn replace_base<K: Intent>(
     old: u32,
     new: u32,
 ) -> bool
-    requires own { IsOf space.now.table.shared.table_id space.now.table.shared.key pass.old.seat }
-    requires update { IsUpdate space.now.table.shared.key pass.old.seat.me new K.update }
+    requires own { IsOn space.now pass.old }
+    requires update { IsUpdate (sizes space.now) (known pass.old) new K.update }
     requires old { K.update.old.row ≡ old }
     requires link { K.update.old.place.link ≡ link_word link }
-    requires inside { link_word link < 136 * space.now.table.shared.key.rows + 136 }
-    ensures same { IsSame pass.old.seat pass.new.seat }
-    ensures number { pass.new.number ≡ pass.old.number }
-    ensures tally { pass.new.tally ≡ pass.old.tally }
-    ensures kept { pass.new.kept ≡ pass.old.kept }
-    ensures done { HasUpdated result new K.update pass.old.seat.me pass.new.seat.me }
-    ensures won { result ≡ false → IsMissed K.update.old pass.old.seat.me }
+    requires inside { link_word link < 136 * (sizes space.now).rows + 136 }
+    ensures frame { KeepsList pass.old pass.new }
+    ensures done { HasUpdated result new K.update (known pass.old) (known pass.new) }
+    ensures won { result ≡ false → IsMissed K.update.old (known pass.old) }
 {
     replace_link::<Replace<K>>(space, pass, link, old, new)
 }
@@ -46,18 +44,18 @@ pub fn divide_base<K: Plan>(
     old: u32,
     route: u32,
 ) -> bool
-    requires own { IsOf space.now.table.shared.table_id space.now.table.shared.key pass.old.seat }
-    requires division { IsDivision space.now.table.shared.key pass.old.seat.me K.division }
+    requires own { IsOn space.now pass.old }
+    requires division { IsDivision (sizes space.now) (known pass.old) K.division }
     requires old { K.division.old.row ≡ old }
     requires route { K.division.route ≡ route }
     requires link { K.division.old.place.link ≡ link_word link }
-    requires inside { link_word link < 136 * space.now.table.shared.key.rows + 136 }
+    requires inside { link_word link < 136 * (sizes space.now).rows + 136 }
     ensures same { IsSame pass.old.seat pass.new.seat }
     ensures number { pass.new.number ≡ pass.old.number }
     ensures tally { HasTallied result pass.old.tally pass.new.tally }
     ensures kept { pass.new.kept ≡ pass.old.kept }
-    ensures done { HasDivided result K.division pass.old.seat.me pass.new.seat.me }
-    ensures won { result ≡ false → IsMissed K.division.old pass.old.seat.me }
+    ensures done { HasDivided result K.division (known pass.old) (known pass.new) }
+    ensures won { result ≡ false → IsMissed K.division.old (known pass.old) }
 {
     if !replace_link::<Divide<K>>(space, pass, link, old, route) {
         return false;

@@ -1,5 +1,4 @@
 //! Links: the words that name a child.
-ghost use Rattle.std.specs.Prelude.{◌≡◌, ◌+◌, ◌*◌};
 
 /// A word that names a base or a route.
 #[derive(Clone, Copy)]

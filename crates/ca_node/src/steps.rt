@@ -1,13 +1,15 @@
 //! Single steps on the words of the tree.
-ghost use Rattle.std.specs.Prelude.{◌≡◌, ◌==◌, ℕ, ◌+◌, ◌*◌, ◌<◌, ◌≤◌, List, true};
+ghost use Rattle.std.specs.Prelude.{◌≡◌, ◌==◌, ℕ, ◌+◌, ◌*◌, ◌<◌, ◌≤◌, List};
 ghost use mathlib.Core.Option.{none};
 ghost use prog.Atomic.{either};
 ghost use Rattle.atomic_table.specs.Table.{step, Allows};
 ghost use Rattle.ca_node.specs.Links.{IsLinked, IsLent, IsNoted};
 ghost use Rattle.ca_node.specs.Told.{IsAnyLink, IsLed, IsShown, IsShownWord, MaySwap, link_word};
 ghost use Rattle.ca_node.specs.Tree.{IsTree};
-ghost use Rattle.ca_rows.specs.Calls.{IsOf, IsSame, Relinks};
+ghost use Rattle.ca_rows.specs.Calls.{Relinks};
 ghost use Rattle.ca_rows.specs.Rule.{Ruled};
+ghost use Rattle.ca_rows.specs.Passes.{OnlyReads, IsReading, KeepsList, sizes, known};
+ghost use Rattle.ca_node.specs.TreePasses.{tree_of};
 
 use crate::link::Link;
 use crate::plays::{Lead, Read};
@@ -22,15 +24,11 @@ const ROOT: u32 = 130;
 /// One load of a link, the root link or one of a route that the pass was shown. It shows the base that the link names, with the objects that the
 /// base names, or the route. At that moment the base's objects were what the last state of the history has of the keys that are led there.
 pub fn load_link(space: &TreeSpace, pass: &mut TreePass, link: Link) -> u32
-    requires own { IsOf space.now.table.shared.table_id space.now.table.shared.key pass.old.seat }
-    requires pinned { pass.old.seat.me.0.pin.pinned ≡ true }
-    requires inside { link_word link < 136 * space.now.table.shared.key.rows + 136 }
-    requires known { IsAnyLink pass.old.seat.me.0.upper (link_word link) }
-    ensures same { IsSame pass.old.seat pass.new.seat }
-    ensures number { pass.new.number ≡ pass.old.number }
-    ensures tally { pass.new.tally ≡ pass.old.tally }
-    ensures kept { pass.new.kept ≡ pass.old.kept }
-    ensures led { IsLed (link_word link) pass.old.seat.me result pass.new.seat.me }
+    requires reading { IsReading space.now pass.old }
+    requires inside { link_word link < 136 * (sizes space.now).rows + 136 }
+    requires known { IsAnyLink (tree_of pass.old) (link_word link) }
+    ensures frame { KeepsList pass.old pass.new }
+    ensures led { IsLed (link_word link) (known pass.old) result (known pass.new) }
 {
     space.load::<Lead>(pass, word_of(link)) as u32
 }
@@ -38,16 +36,11 @@ pub fn load_link(space: &TreeSpace, pass: &mut TreePass, link: Link) -> u32
 /// One load of a word of a row that the pass was shown: it is as it was shown. Of a route that goes for all words but its links and its join
 /// word.
 pub fn load_word(space: &TreeSpace, pass: &mut TreePass, row: u32, index: u32) -> u64
-    requires own { IsOf space.now.table.shared.table_id space.now.table.shared.key pass.old.seat }
-    requires pinned { pass.old.seat.me.0.pin.pinned ≡ true }
-    requires inside { (row ≤ space.now.table.shared.key.rows) × (index < 136) }
-    requires shown { (word : ℕ) × IsShownWord pass.old.seat.me.0.upper row index word }
-    ensures same { IsSame pass.old.seat pass.new.seat }
-    ensures number { pass.new.number ≡ pass.old.number }
-    ensures tally { pass.new.tally ≡ pass.old.tally }
-    ensures kept { pass.new.kept ≡ pass.old.kept }
-    ensures still { pass.new.seat.me ≡ pass.old.seat.me }
-    ensures word { (word : ℕ) → IsShownWord pass.old.seat.me.0.upper row index word → result ≡ word }
+    requires reading { IsReading space.now pass.old }
+    requires inside { (row ≤ (sizes space.now).rows) × (index < 136) }
+    requires shown { (word : ℕ) × IsShownWord (tree_of pass.old) row index word }
+    ensures frame { OnlyReads pass.old pass.new }
+    ensures word { (word : ℕ) → IsShownWord (tree_of pass.old) row index word → result ≡ word }
 {
     space.load::<Read>(pass, 136 * row + index)
 }
@@ -60,18 +53,14 @@ pub fn replace_link<M: Play<(), View<Knowledge>>>(
     old: u32,
     new: u32,
 ) -> bool
-    requires own { IsOf space.now.table.shared.table_id space.now.table.shared.key pass.old.seat }
-    requires pinned { pass.old.seat.me.0.pin.pinned ≡ true }
-    requires inside { link_word link < 136 * space.now.table.shared.key.rows + 136 }
-    requires shown { (its : List ℕ) × IsShown pass.old.seat.me.0.upper old its }
-    requires rule { Allows (Ruled IsLinked IsLent IsNoted IsTree space.now.table.shared.key) space.now.table.shared.table_id.slots pass.old.seat.id
-        pass.old.seat.me (link_word link) (λ n. either (n == old) new n)
-        (Relinks MaySwap M.then (step space.now.table.shared.table_id.slots (link_word link) old new none) pass.old.seat.me) }
-    ensures same { IsSame pass.old.seat pass.new.seat }
-    ensures number { pass.new.number ≡ pass.old.number }
-    ensures tally { pass.new.tally ≡ pass.old.tally }
-    ensures kept { pass.new.kept ≡ pass.old.kept }
-    ensures told { (n : ℕ) × M.then (step space.now.table.shared.table_id.slots (link_word link) old new none) pass.old.seat.me n pass.new.seat.me
+    requires reading { IsReading space.now pass.old }
+    requires inside { link_word link < 136 * (sizes space.now).rows + 136 }
+    requires shown { (its : List ℕ) × IsShown (tree_of pass.old) old its }
+    requires rule { Allows (Ruled IsLinked IsLent IsNoted IsTree (sizes space.now)) space.now.table.shared.table_id.slots pass.old.seat.id
+        (known pass.old) (link_word link) (λ n. either (n == old) new n) (Relinks MaySwap M.then (step space.now.table.shared.table_id.slots
+        (link_word link) old new none) (known pass.old)) }
+    ensures frame { KeepsList pass.old pass.new }
+    ensures told { (n : ℕ) × M.then (step space.now.table.shared.table_id.slots (link_word link) old new none) (known pass.old) n (known pass.new)
         × (result ≡ (n == old)) }
 {
     space.swap::<M>(pass, word_of(link), old as u64, new as u64)

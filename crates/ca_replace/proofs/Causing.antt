@@ -1,5 +1,5 @@
 -- What was lost is counted, and why calls are refused.
-use Rattle.std.proofs.Common.{◌≡◌, ◌≢◌, ◌⊎◌, ◌↔◌, IsTrue, vec_len, ◌∙◌, ℕ, ◌+◌, ◌-◌, ◌*◌, ◌<◌, ◌≤◌, min, Bool, true, false, List, [], Vec, Result, Ok, Err, IfErr, sym, subst, refl, inl, inr, ⊎_elim, arith}
+use Rattle.std.proofs.Common.{◌≡◌, ◌≢◌, ◌⊎◌, ◌↔◌, IsTrue, vec_len, ◌∙◌, ℕ, ◌+◌, ◌-◌, ◌*◌, ◌<◌, ◌≤◌, min, Bool, true, false, List, [], Vec, Result, Ok, Err, IfErr, ap, sym, subst, refl, inl, inr, ⊎_elim, arith}
 use Rattle.std.specs.Global.{Global}
 use Rattle.ca_replace.specs.declared.attempting.Stop.{Stop}
 use Rattle.ca_replace.specs.declared.attempting.Stop.TheVariants as stop
@@ -7,6 +7,7 @@ use Rattle.ca_model.specs.declared.outcome.Spent.{Spent}
 use Rattle.ca_model.specs.History.{after}
 use Rattle.ca_model.specs.declared.outcome.Outcome.{Outcome}
 use Rattle.ca_node.specs.Told.{MyTree, with_upper}
+use Rattle.ca_node.specs.TreeView.{TreeView}
 use Rattle.ca_model.specs.declared.outcome.Counter.TheVariants as counter
 use Rattle.ca_replace.specs.declared.refusing.Refusal.{Refusal}
 use Rattle.ca_replace.specs.declared.refusing.Refusal.TheVariants as refusal
@@ -15,7 +16,7 @@ use Rattle.std.specs.declared.option.Option.TheVariants.{None as Nothing, Some a
 use Rattle.ca_base.specs.Counting.{losses, HasMet}
 use Rattle.ca_model.specs.Known.{Counts}
 use Rattle.ca_replace.specs.Attempting.{splits, total, IsPaid, IfDeep, refused_as}
-use Rattle.ca_replace.specs.Causes.{HasBegun, HasLooked, IsCaused, IsFull, IsRefill, IfRefusedAs, KeepsFew}
+use Rattle.ca_replace.specs.Causes.{HasBegun, IsCaused, IsFull, IsRefill, IsUnspent, IfRefusedAs, KeepsFew}
 use Rattle.ca_replace.specs.Refusals.{outcome_of}
 use Rattle.ca_rows.specs.declared.kept.Kept.{Kept}
 use Rattle.ca_rows.specs.declared.sizes.Sizes.{Sizes}
@@ -25,6 +26,12 @@ pub none_or_lost : (lost : Bool) (losses before after budget kept kept' : ℕ) �
     → after ≡ min (before + losses) 4294967295 → kept ≡ kept' → (lost ≡ false → kept ≡ 0) → (kept' ≡ 0) ⊎ (before < after)
 none_or_lost true losses before after budget kept kept' some room most sum is none = let more = some.0 refl in inr (omega (arith, sum))
 none_or_lost false losses before after budget kept kept' some room most sum is none = let n = none refl in inl (omega (arith, is, n))
+
+-- The same, by the exchanges that were lost.
+pub none_or_more : (lost : Bool) (more kept : ℕ) → (IsTrue lost ↔ (0 < more)) → (lost ≡ false → kept ≡ 0) → (kept' : ℕ) → kept ≡ kept' → (m m' : MyTree)
+    → m'.0.lost ≡ m.0.lost + more → m'.0.upper ≡ m.0.upper → (kept' ≡ 0) ⊎ (losses m < losses m')
+none_or_more true more kept some none kept' is m m' sum same = let up = some.0 refl in let links = ap (λ (u : TreeView). u.lost) same in inr (omega arith)
+none_or_more false more kept some none kept' is m m' sum same = let n = none refl in inl (omega arith)
 
 -- Each turn of the attempts brings their end nearer: fewer turns are left to be lost, or no row is kept any more.
 pub nearer : (budget before middle after kept kept' : ℕ) → before ≤ middle → middle ≤ after → (0 < kept) × (after < budget) × ((kept' ≡ 0) ⊎ (middle < after))
@@ -62,6 +69,12 @@ caused_as z number budget adds tried r spent now levels m m' kept kept' is same 
     subst (λ x. IfErr x (λ why. IsCaused z number budget adds why m kept m' kept')) (sym is)
     (caused z number budget adds tried spent now levels m m' kept kept' same full split deep lost none counted worn)
 
+-- What was added up is less than the budget, and so are the exchanges that were lost and the splits.
+unspent : (budget : ℕ) (spent now : Spent) (m m' : MyTree) → (spent.lost ≡ 0) × (spent.helped ≡ 0) × (spent.passed ≡ 0) → IsPaid spent now m m'
+    → total now < budget → IsUnspent budget m m'
+unspent budget spent now m m' none counted room = let zero = none.0 in let zero' = none.2 in let lost = counted.lost (omega arith) in
+    let passed = counted.passed (omega arith) in omega arith
+
 -- So has a refusal once rows were given back, of an attempt that found the head empty: the first one, or one behind another that did so.
 pub refill_caused : (z : Sizes) (number budget begun : ℕ) (adds : Option (List ℕ)) (why : Refusal) (spent now : Spent) (m n m' : MyTree)
     (kept kept' : Vec Kept Global)
@@ -81,15 +94,17 @@ refill_caused z number budget begun adds (refusal.Full cause) spent now m n m' k
   ⊎_elim (λ (e : begun ≡ 0). inl (h.0 ∙ e)) (λ (l : cause.lag ≢ Nothing). inr l) h.1,
   (let more = h.2 in omega arith),
   h.3,
+  unspent budget spent now m m' none counted h.4,
 )
 refill_caused z number budget begun adds (refusal.Deep level) spent now m n m' kept kept' none counted first before h = absurd h
 refill_caused z number budget begun adds (refusal.Worn counter.PoolTag) spent now m n m' kept kept' none counted first before h = absurd h
 refill_caused z number budget begun adds (refusal.Worn counter.Epoch) spent now m n m' kept kept' none counted first before h = (
-  ⊎_elim (λ (e : (begun ≡ vec_len kept) × (m'.0.empty ≡ m.0.empty + 1)). let one = e.1 in let up : m.0.empty < m'.0.empty = omega arith in up)
-      (λ (l : m.0.empty + 2 ≤ m'.0.empty). let up : m.0.empty < m'.0.empty = omega arith in up) first,
+  (begun, h.4, first),
   (let more = h.0 in omega arith),
   h.1,
   h.2,
+  h.5,
+  unspent budget spent now m m' none counted h.3,
 )
 refill_caused z number budget begun adds (refusal.Worn counter.Sequence) spent now m n m' kept kept' none counted first before h = absurd h
 
@@ -132,23 +147,32 @@ deep_adds {T} z number budget adds why o m m' kept kept' is h = subst (λ (x : O
     by (refusal.Worn counter) h = tt
 
 -- Few rows are kept, as seen from a moment before.
-pub few_from : (k m m' : MyTree) (kept : Vec Kept Global) → losses k ≤ losses m → k.0.pin.looks ≤ m.0.pin.looks → KeepsFew m m' kept → KeepsFew k m' kept
-few_from k m m' kept less looks few = ⊎_elim inl (λ rest. inr (⊎_elim
-    (λ (lag : HasLooked m m' × (0 < m'.0.pin.lag)). let more = lag.0 in inl (omega arith, lag.1))
-    (λ more. inr (⊎_elim (λ (l : losses m < losses m'). inl (omega arith))
-    (λ (last : HasLooked m m' × (4611686018427387904 ≤ m'.0.pin.scan)). let more = last.0 in inr (omega arith, last.1)) more)) rest)) few
+pub few_from : (k m m' : MyTree) (kept : Vec Kept Global) → k.0.pin.looks ≤ m.0.pin.looks → KeepsFew m m' kept → KeepsFew k m' kept
+few_from k m m' kept looks few = ⊎_elim inl (λ rest. let more = rest.0 in inr (omega arith, rest.1)) few
+
+-- No attempt found the head empty until now, and so many rows are kept as at first; or one did, of a call that had begun with rows kept, and none is
+-- kept now, unless an exchange was lost.
+abbrev pub Before : ℕ → MyTree → MyTree → Vec Kept Global → Type 0
+Before kept m0 m kept0 = ((kept ≡ vec_len kept0) × (m.0.empty ≡ m0.0.empty)) ⊎ ((m0.0.empty + 1 ≤ m.0.empty) × (0 < vec_len kept0)
+    × ((kept ≡ 0) ⊎ (losses m0 < losses m)))
 
 -- An attempt that found the head empty, behind others that did so or as the first one, and then rows were given back.
 pub begun_with : (begun kept : ℕ) (m0 m m1 m2 : MyTree) (kept0 : Vec Kept Global) → begun ≡ kept
-    → ((kept ≡ vec_len kept0) × (m.0.empty ≡ m0.0.empty)) ⊎ (m0.0.empty + 1 ≤ m.0.empty) → HasMet 1 0 m m1 → HasMet 0 0 m1 m2
-    → HasBegun begun (vec_len kept0) m0 m2
-begun_with begun kept m0 m m1 m2 kept0 is so one two = let up = one.0 in let same = two.0 in ⊎_elim
+    → Before kept m0 m kept0 → losses m ≤ losses m2 → HasMet 1 0 m m1 → HasMet 0 0 m1 m2 → HasBegun begun (vec_len kept0) m0 m2
+begun_with begun kept m0 m m1 m2 kept0 is so more one two = let up = one.0 in let same = two.0 in ⊎_elim
     (λ (e : (kept ≡ vec_len kept0) × (m.0.empty ≡ m0.0.empty)). let none = e.1 in inl (is ∙ e.0, omega arith))
-    (λ (l : m0.0.empty + 1 ≤ m.0.empty). inr (omega arith)) so
+    (λ (l : (m0.0.empty + 1 ≤ m.0.empty) × (0 < vec_len kept0) × ((kept ≡ 0) ⊎ (losses m0 < losses m))). let before = l.0 in
+    inr (omega arith, l.1, ⊎_elim (λ (z : kept ≡ 0). inl (is ∙ z)) (λ (lost : losses m0 < losses m). inr (omega arith)) l.2)) so
 
 -- So the head was found empty before, as seen from the next attempt.
-pub empty_before : (kept : ℕ) (m0 m m1 m2 : MyTree) (kept0 : Vec Kept Global)
-    → ((kept ≡ vec_len kept0) × (m.0.empty ≡ m0.0.empty)) ⊎ (m0.0.empty + 1 ≤ m.0.empty) → HasMet 1 0 m m1 → HasMet 0 0 m1 m2 → m0.0.empty + 1 ≤ m2.0.empty
-empty_before kept m0 m m1 m2 kept0 so one two = let up = one.0 in let same = two.0 in ⊎_elim
-    (λ (e : (kept ≡ vec_len kept0) × (m.0.empty ≡ m0.0.empty)). let none = e.1 in let l : m0.0.empty + 1 ≤ m2.0.empty = omega arith in l)
-    (λ (b : m0.0.empty + 1 ≤ m.0.empty). let l : m0.0.empty + 1 ≤ m2.0.empty = omega arith in l) so
+pub empty_before : (kept begun kept2 : ℕ) (m0 m m1 m2 : MyTree) (kept0 : Vec Kept Global) → begun ≡ kept → 0 < begun → losses m0 ≤ losses m1
+    → (kept2 ≡ 0) ⊎ (losses m1 < losses m2) → Before kept m0 m kept0 → HasMet 1 0 m m1 → HasMet 0 0 m1 m2
+    → (m0.0.empty + 1 ≤ m2.0.empty) × (0 < vec_len kept0) × ((kept2 ≡ 0) ⊎ (losses m0 < losses m2))
+empty_before kept begun kept2 m0 m m1 m2 kept0 is some more now so one two = let up = one.0 in let same = two.0 in (
+  ⊎_elim (λ (e : (kept ≡ vec_len kept0) × (m.0.empty ≡ m0.0.empty)). let none = e.1 in let l : m0.0.empty + 1 ≤ m2.0.empty = omega arith in l)
+      (λ (b : (m0.0.empty + 1 ≤ m.0.empty) × (0 < vec_len kept0) × ((kept ≡ 0) ⊎ (losses m0 < losses m))). let before = b.0 in
+      let l : m0.0.empty + 1 ≤ m2.0.empty = omega arith in l) so,
+  ⊎_elim (λ (e : (kept ≡ vec_len kept0) × (m.0.empty ≡ m0.0.empty)). let as_many = e.0 in let l : 0 < vec_len kept0 = omega arith in l)
+      (λ (b : (m0.0.empty + 1 ≤ m.0.empty) × (0 < vec_len kept0) × ((kept ≡ 0) ⊎ (losses m0 < losses m))). b.1) so,
+  ⊎_elim inl (λ (l : losses m1 < losses m2). inr (omega arith)) now,
+)

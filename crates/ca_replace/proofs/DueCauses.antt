@@ -83,7 +83,7 @@ split_met z note (adapted.NotJoined w) k m m' q h = tt
 -- So it was by what followed an attempt's exchange.
 settled_met_by : (tried : Result Bool NoRow) (last : Last) (a b : Spent) (k m m' : MyTree) → HasEnded tried k m → IsSpent a b k m
     → (tried ≡ Ok true → IsMetAs last.adapted m m') → MeetsAs {E = Stop} (λ _. true) last (come_to tried) k m'
-settled_met_by (Ok true) last a b k m m' ended spent met = met_between last.adapted k m m' m' (met_none_fall k m spent.more ended) (same_none m' m' refl)
+settled_met_by (Ok true) last a b k m m' ended spent met = met_between last.adapted k m m' m' (met_none_fall k m spent.more ended.0) (same_none m' m' refl)
     (met refl)
 settled_met_by (Ok false) last a b k m m' ended spent met = tt
 settled_met_by (Err why) last a b k m m' ended spent met = tt

@@ -35,6 +35,7 @@ rests table z number tally kept seat low few enrolled keeps is none = record {
     enrolled = enrolled;
     by_passes = tt;
   };
+  left_before = subst (λ (m : MyTree). m.0.pin.left.lost ≤ m.0.lost) (sym is.1) (omega arith);
   tallied = (
     ap (λ (t : Tally). t.splits) none ∙ ap (λ (m : MyTree). min 18446744073709551615 m.0.upper.splits) (sym is.1),
     ap (λ (t : Tally). t.joins) none ∙ ap (λ (m : MyTree). min 18446744073709551615 m.0.upper.joins) (sym is.1),

@@ -2,6 +2,7 @@
 use Rattle.std.proofs.Common.{◌≡◌, ℕ, ◌≤◌, ◌==◌, Bool, true, false, cond, List, [], ◌∷◌, ◌++◌, if◌then◌else◌, length, Some, sym, refl, ap, ◌∙◌, subst, arith, append-nil}
 use Rattle.std.proofs.lemmas.Bool.Decides.{nat_tests}
 use Rattle.std.proofs.lemmas.List.{append_assoc}
+use Rattle.atomic_table.specs.Seated.{TableId}
 use Rattle.ca_model.specs.Event.{Event, Entry, effect}
 use Rattle.ca_model.specs.History.{Edit, History, state, after, by_pass, edits_of_pass, AreEdits, AreByPasses, AreByOthers}
 use Rattle.ca_model.specs.Known.{Counts, Meets, Declines}
@@ -61,8 +62,8 @@ log_more (entry ∷ log) event p = ap (λ (es : List Edit). effect entry.0 ++ es
     ∙ sym (append_assoc (effect entry.0) (edits_of_log log) (effect event))
 
 -- What is known is what was seen.
-has_seen : (z : Sizes) (u : TreeView) → IsKnown z u → HasSeen (known_of z u) u.seen u.log
-has_seen z u k = record {
+has_seen : (table : TableId) (z : Sizes) (u : TreeView) → IsKnown z u → HasSeen (known_of table z u) u.seen u.log
+has_seen table z u k = record {
   seen = refl;
   map = sym (ap (λ h. state h (length u.seen)) (sym (append-nil u.seen)) ∙ state_there u.seen []);
   lawful = k.lawful;
@@ -84,7 +85,7 @@ only_one passes number = cond (passes == 1) (number == 1) false
 is_alone : (passes number : ℕ) → only_one passes number ≡ true → (passes ≡ 1) × (number ≡ 1)
 is_alone passes number e = let t = by_test (passes == 1) (number == 1) e in (same_numbers passes 1 t.0, same_numbers number 1 t.1)
 
-module _ (z : Sizes) (u v : TreeView) (before : IsKnown z u) (behind : IsKnown z v) where
+module _ (table : TableId) (z : Sizes) (u v : TreeView) (before : IsKnown z u) (behind : IsKnown z v) where
   -- What was learnt since was made by passes that there are.
   learnt_by : (more : History) → v.seen ≡ u.seen ++ more → AreByPasses z.passes more
   learnt_by more whole = second_passes z.passes u.seen more (subst (AreByPasses z.passes) whole behind.by_passes)
@@ -104,22 +105,22 @@ module _ (z : Sizes) (u v : TreeView) (before : IsKnown z u) (behind : IsKnown z
       ∙ ap (λ (es : List Edit). es ++ effect event) (sym before.lawful.edits)))))))
 
   -- A call that was entered in the log.
-  pub meets : (event : Event) → HasDone event u v → Meets (known_of z u) (known_of z v) event
-  meets event d = passes_meet (known_of z u) (known_of z v) event record {
+  pub meets : (event : Event) → HasDone event u v → Meets (known_of table z u) (known_of table z v) event
+  meets event d = passes_meet (known_of table z u) (known_of table z v) event record {
     history = u.seen;
     more = d.seen.0;
     log = u.log;
     at = d.at;
-    same = record { keypos = refl; pass = d.number; passes = refl; alone = ap (only_one z.passes) d.number; sure = refl };
-    before = has_seen z u before;
-    behind = subst (λ (x : History × List Entry). HasSeen (known_of z v) x.0 x.1) (λ i. (d.seen.1 i, d.log i)) (has_seen z v behind);
+    same = record { store = refl; keypos = refl; pass = d.number; passes = refl; alone = ap (only_one z.passes) d.number; sure = refl };
+    before = has_seen table z u before;
+    behind = subst (λ (x : History × List Entry). HasSeen (known_of table z v) x.0 x.1) (λ i. (d.seen.1 i, d.log i)) (has_seen table z v behind);
     from = d.from;
     alone = own_more d.seen.0 (effect event) d.seen.1 (own_since d);
     counts = d.counts;
   }
 
   -- One that was refused.
-  pub declines : (rise : Counts → Counts) → IsRefused rise u v → Declines (known_of z u) (known_of z v) (rise u.counts)
+  pub declines : (rise : Counts → Counts) → IsRefused rise u v → Declines (known_of table z u) (known_of table z v) (rise u.counts)
   declines rise d = let whole = d.seen.1 in
       let own : edits_of_pass u.number v.seen ≡ edits_of_pass u.number u.seen = ap (λ n. edits_of_pass n v.seen) (sym d.number)
       ∙ (behind.lawful.edits ∙ (ap edits_of_log d.log ∙ sym before.lawful.edits)) in
@@ -128,7 +129,7 @@ module _ (z : Sizes) (u v : TreeView) (before : IsKnown z u) (behind : IsKnown z
       ∙ (own ∙ sym (append-nil (edits_of_pass u.number u.seen))))) in record {
         learnt = d.seen.0;
         learns = record {
-          same = record { keypos = refl; pass = d.number; passes = refl; alone = ap (only_one z.passes) d.number; sure = refl };
+          same = record { store = refl; keypos = refl; pass = d.number; passes = refl; alone = ap (only_one z.passes) d.number; sure = refl };
           map = ap (λ (h : History). after h []) whole ∙ after_more u.seen d.seen.0 [];
           seen = ap (λ (x : History × List Entry). Some (record { history = x.0; log = x.1 })) (λ i. (whole i, (d.log ∙ sym (append-nil u.log)) i));
           valid = map_after z.keypos u.seen [] before.edits tt;

@@ -12,6 +12,7 @@ use Rattle.ca_rows.specs.declared.kept.Kept.{Kept}
 use Rattle.ca_rows.specs.declared.sizes.Sizes.{Sizes}
 use Rattle.ca_rows.specs.declared.tally.Tally.{Tally}
 use Rattle.ca_rows.specs.declared.view.Claim.{Claim}
+use Rattle.ca_rows.specs.declared.view.Met.{Met}
 use Rattle.ca_rows.specs.declared.view.Claim.TheVariants.{Keeps}
 use Rattle.ca_rows.specs.Claims.{claim_of}
 use Rattle.ca_rows.specs.Kept.{AreKept}
@@ -43,5 +44,6 @@ rests_still table z number number' tally tally' kept kept' seat last r same coun
   few = let none = r.few.now in let eight = r.few.ever in let held = is.no_more_held in let most = is.least_most in
       record { now = omega arith; ever = omega arith };
   known = subst (IsKnown z) (sym is.same_upper) r.known;
+  left_before = let same = ap (λ (x : Met). x.lost) is.same_left in let before = r.left_before in let more = is.more_lost in omega arith;
   tallied = tallied_as tally tally' seat.me.0.upper last.me.0.upper counted is.same_upper r.tallied;
 }

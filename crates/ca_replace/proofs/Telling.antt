@@ -7,6 +7,7 @@ use Rattle.ca_model.specs.declared.outcome.Changed.{Changed}
 use Rattle.ca_model.specs.declared.outcome.Changed.TheVariants as changed
 use Rattle.ca_model.specs.declared.outcome.Outcome.{Outcome}
 use Rattle.ca_model.specs.declared.outcome.Outcome.TheVariants as outcome
+use Rattle.atomic_table.specs.Seated.{TableId}
 use Rattle.ca_model.specs.Answer.{IfDone, Altered, Removed, RemovedIf}
 use Rattle.ca_model.specs.Event.{Event, Get, Remove, Change}
 use Rattle.ca_model.specs.Known.{Meets}
@@ -27,26 +28,26 @@ if_then P Q (outcome.Full s) h p = tt
 if_then P Q (outcome.Deep s) h p = tt
 if_then P Q (outcome.Worn s) h p = tt
 
-module _ (z : Sizes) (u v : TreeView) (before : IsKnown z u) (behind : IsKnown z v) (key old : List ℕ) where
-  met : (event e : Event) → e ≡ event → HasDone e u v → Meets (known_of z u) (known_of z v) event
-  met event e same done = meets z u v before behind event (subst (λ (x : Event). HasDone x u v) same done)
+module _ (table : TableId) (z : Sizes) (u v : TreeView) (before : IsKnown z u) (behind : IsKnown z v) (key old : List ℕ) where
+  met : (event e : Event) → e ≡ event → HasDone e u v → Meets (known_of table z u) (known_of table z v) event
+  met event e same done = meets table z u v before behind event (subst (λ (x : Event). HasDone x u v) same done)
 
   -- The call removed the object.
-  pub removed : (was : Bool) → HasDoneAs (Removes key was old) u v → Removed (known_of z u) (known_of z v) key was old
+  pub removed : (was : Bool) → HasDoneAs (Removes key was old) u v → Removed (known_of table z u) (known_of table z v) key was old
   removed true h = met (Remove key (Some old)) h.0 h.1 h.2
   removed false h = (met (Remove key None) h.0 h.1.0 h.2, h.1.1)
 
   -- It changed the object.
   pub altered : {F : Type 0} (g : Shared F (Bor (List ℕ) × (MutBor (ArrayVec ℕ) × (MutBor ℕ × Unit {0}))) (Bool
       × (MutBor (ArrayVec ℕ) × (MutBor ℕ × Unit {0})))) (f : F) (x : Changed) → HasDoneAs (Alters g f key x old) u v
-      → Altered g f (known_of z u) (known_of z v) key x old
+      → Altered g f (known_of table z u) (known_of table z v) key x old
   altered g f changed.Absent h = (met (Change key None None) h.0 h.1.0 h.2, h.1.1)
   altered g f changed.Kept h = (h.1.0, met (Change key (Some old) None) h.0 h.1.1 h.2)
   altered g f changed.Put h = (h.1.0, h.1.1, h.1.2, met (Change key (Some old) (Some h.1.0)) h.0 h.1.3 h.2)
 
   -- It removed the object where the function said so.
   pub removed_if : {F : Type 0} (g : Shared F (Bor (List ℕ) × Unit {0}) Bool) (f : F) (x : Changed) → HasDoneAs (RemovesIf g f key x old) u v
-      → RemovedIf g f (known_of z u) (known_of z v) key x old
+      → RemovedIf g f (known_of table z u) (known_of table z v) key x old
   removed_if g f changed.Absent h = (met (Get key None) h.0 h.1.0 h.2, h.1.1)
   removed_if g f changed.Kept h = (h.1.0, met (Get key (Some old)) h.0 h.1.1 h.2)
   removed_if g f changed.Put h = (h.1.0, met (Remove key (Some old)) h.0 h.1.1 h.2)

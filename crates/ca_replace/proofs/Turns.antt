@@ -1,5 +1,5 @@
 -- A call's attempts, one after another, and its end.
-use Rattle.std.proofs.Common.{◌≡◌, ◌⊎◌, ℕ, false, [], Result, Ok, Err, Vec, sym, refl, ap, ◌∙◌, subst, inl, ⊎_elim}
+use Rattle.std.proofs.Common.{◌≡◌, ◌⊎◌, ◌≤◌, le_refl, ℕ, false, [], Result, Ok, Err, Vec, sym, refl, ap, ◌∙◌, subst, inl, ⊎_elim}
 use Rattle.std.specs.Global.{Global}
 use Rattle.atomic_table.specs.declared.shared.Seat.{Seat}
 use Rattle.atomic_table.specs.Seated.{TableId}
@@ -7,11 +7,13 @@ use Rattle.ca_model.specs.declared.outcome.Outcome.{Outcome}
 use Rattle.ca_model.specs.declared.outcome.Outcome.TheVariants as outcome
 use Rattle.ca_model.specs.Answer.{IfDone, IfRefused}
 use Rattle.ca_model.specs.Event.{Event}
-use Rattle.ca_model.specs.Known.{Counts, Meets, Declines, one_more_busy, one_more_full, one_more_deep, one_more_worn}
+use Rattle.ca_model.specs.declared.outcome.Cause.TheVariants as cause
+use Rattle.ca_model.specs.Known.{Counts, Meets, Declines, one_more}
 use Rattle.ca_node.specs.Laws.{in_nothing, starts_whole}
 use Rattle.ca_node.specs.Links.{IsIn}
 use Rattle.ca_node.specs.Tallied.{IsTallied}
 use Rattle.ca_node.specs.Told.{MyTree, IsKnown}
+use Rattle.ca_rows.specs.Told.{met_of}
 use Rattle.ca_node.specs.TreeView.{TreeView, pinned, unpinned}
 use Rattle.ca_replace.specs.declared.attempting.Stop.{Stop}
 use Rattle.ca_replace.specs.declared.refusing.Refusal.{Refusal}
@@ -102,7 +104,7 @@ pub rests_again : {tally tally' : Tally} (table : TableId) (z : Sizes) (number :
     → (one.me.0.sizes ≡ seat.me.0.sizes) × (one.me.0.pin.number ≡ seat.me.0.pin.number) × (one.me.0.upper.number ≡ seat.me.0.upper.number)
     → two.table_id ≡ seat.table_id → (two.me.0.sizes ≡ one.me.0.sizes) × (two.me.0.pin ≡ one.me.0.pin) → AreHeld z.rows kept' two.me.0 []
     → IsKnown z two.me.0.upper × (two.me.0.upper.number ≡ one.me.0.upper.number) → last.table_id ≡ two.table_id
-    → last.me ≡ (record two.me.0 { pin = record two.me.0.pin { pinned = false }; upper = unpinned two.me.0.upper }, two.me.1)
+    → last.me ≡ (record two.me.0 { pin = record two.me.0.pin { pinned = false; left = met_of two.me }; upper = unpinned two.me.0.upper }, two.me.1)
     → (IsTallied tally seat.me.0.upper → IsTallied tally' two.me.0.upper) → IsResting table z number tally' kept' last
 rests_again {tally' = tally'} table z number kept kept' seat one two last r pin table_two work held known table_last unpin counted = record {
   of = (table_last ∙ (table_two ∙ r.of.0), ap (λ (m : MyTree). m.0.sizes) unpin ∙ (work.0 ∙ (pin.0 ∙ r.of.1)));
@@ -114,6 +116,7 @@ rests_again {tally' = tally'} table z number kept kept' seat one two last r pin 
   are_kept = subst (λ (m : MyTree). AreKept z.rows m.0.claims kept') (sym unpin) held.0.are_kept;
   few = subst (λ (m : MyTree). HoldsFew 0 m.0) (sym unpin) (record { now = held.1.now; ever = held.1.ever });
   known = subst (λ (m : MyTree). IsKnown z m.0.upper) (sym unpin) (known_unpinned z two.me.0.upper known.0);
+  left_before = subst (λ (m : MyTree). m.0.pin.left.lost ≤ m.0.lost) (sym unpin) (le_refl two.me.0.lost);
   tallied = subst (λ (m : MyTree). IsTallied tally' m.0.upper) (sym unpin) (counted r.tallied);
 }
 
@@ -132,6 +135,7 @@ rests_refused {tally = tally} table z number kept seat last counts r same is = r
   few = subst (λ (m : MyTree). HoldsFew 0 m.0) (sym is) (record { now = r.few.now; ever = r.few.ever });
   known = subst (λ (m : MyTree). IsKnown z m.0.upper) (sym is)
       record { lawful = r.known.lawful; past = r.known.past; edits = r.known.edits; enrolled = r.known.enrolled; by_passes = r.known.by_passes };
+  left_before = subst (λ (m : MyTree). m.0.pin.left.lost ≤ m.0.lost) (sym is) r.left_before;
   tallied = subst (λ (m : MyTree). IsTallied tally m.0.upper) (sym is) r.tallied;
 }
 
@@ -168,19 +172,21 @@ pub no_further : (u : TreeView) → IsFurther u u
 no_further u = record { number = refl; seen = starts_whole u.seen; log = refl; counts = refl }
 
 -- A call that is done meets its definition.
-pub if_met : {T : Type 0} (event : T → Event) (z : Sizes) (o : Outcome T) (u v : TreeView) → IsKnown z u → IsKnown z v → IfDone o (λ x. HasDone (event x) u v)
-    → IfDone o (λ x. Meets (known_of z u) (known_of z v) (event x))
-if_met event z (outcome.Done x) u v a b h = meets z u v a b (event x) h
-if_met event z (outcome.Busy s) u v a b h = tt
-if_met event z (outcome.Full s) u v a b h = tt
-if_met event z (outcome.Deep s) u v a b h = tt
-if_met event z (outcome.Worn s) u v a b h = tt
+pub if_met : {T : Type 0} (event : T → Event) (table : TableId) (z : Sizes) (o : Outcome T) (u v : TreeView) → IsKnown z u → IsKnown z v
+    → IfDone o (λ x. HasDone (event x) u v)
+    → IfDone o (λ x. Meets (known_of table z u) (known_of table z v) (event x))
+if_met event table z (outcome.Done x) u v a b h = meets table z u v a b (event x) h
+if_met event table z (outcome.Busy s) u v a b h = tt
+if_met event table z (outcome.Full s) u v a b h = tt
+if_met event table z (outcome.Deep s) u v a b h = tt
+if_met event table z (outcome.Worn s) u v a b h = tt
 
 -- One that is refused declines.
-pub if_declined : {T : Type 0} (z : Sizes) (o : Outcome T) (u v : TreeView) → IsKnown z u → IsKnown z v → IfRefused o (λ rise. IsRefused rise u v)
-    → IfRefused o (λ rise. Declines (known_of z u) (known_of z v) (rise u.counts))
-if_declined z (outcome.Done x) u v a b h = tt
-if_declined z (outcome.Busy s) u v a b h = declines z u v a b one_more_busy h
-if_declined z (outcome.Full s) u v a b h = declines z u v a b one_more_full h
-if_declined z (outcome.Deep s) u v a b h = declines z u v a b one_more_deep h
-if_declined z (outcome.Worn s) u v a b h = declines z u v a b one_more_worn h
+pub if_declined : {T : Type 0} (table : TableId) (z : Sizes) (o : Outcome T) (u v : TreeView) → IsKnown z u → IsKnown z v
+    → IfRefused o (λ rise. IsRefused rise u v)
+    → IfRefused o (λ rise. Declines (known_of table z u) (known_of table z v) (rise u.counts))
+if_declined table z (outcome.Done x) u v a b h = tt
+if_declined table z (outcome.Busy s) u v a b h = declines table z u v a b (one_more (cause.Busy s)) h
+if_declined table z (outcome.Full s) u v a b h = declines table z u v a b (one_more (cause.Full s)) h
+if_declined table z (outcome.Deep s) u v a b h = declines table z u v a b (one_more (cause.Deep s)) h
+if_declined table z (outcome.Worn s) u v a b h = declines table z u v a b (one_more (cause.Worn s)) h

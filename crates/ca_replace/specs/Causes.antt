@@ -29,19 +29,25 @@ HasLooked m m' = m.0.pin.looks < m'.0.pin.looks
 abbrev pub IsRefill : ℕ → ℕ → ℕ → ℕ → Spent → Refusal → MyTree → MyTree → Vec Kept Global → Type 0
 -- Its turns were lost.
 IsRefill passes number budget begun spent (refusal.Busy s) m m' kept' = (s ≡ spent) × (budget ≤ total s)
--- The attempt began with no row kept, or another pass lagged.
+-- The budget isn't spent. The attempt began with no row kept, or another pass lagged.
 IsRefill passes number budget begun spent (refusal.Full cause) m m' kept' = (cause.kept ≡ begun) × ((begun ≡ 0) ⊎ (cause.lag ≢ None))
-    × HasLooked m m' × IsLag passes number cause.lag m'.0.pin
+    × HasLooked m m' × IsLag passes number cause.lag m'.0.pin × (total spent < budget)
 IsRefill passes number budget begun spent (refusal.Deep level) m m' kept' = ⊥
--- The epoch was at its last value, and rows are kept.
+-- Neither is the budget spent, nor did the attempt begin with no row kept, nor does a pass lag. The epoch was at its last value, and rows are kept.
 IsRefill passes number budget begun spent (refusal.Worn counter.Epoch) m m' kept' = HasLooked m m' × (4611686018427387904 ≤ m'.0.pin.scan)
-    × (0 < vec_len kept')
+    × (0 < vec_len kept') × (total spent < budget) × (0 < begun) × (m'.0.pin.lag ≡ 0)
 IsRefill passes number budget begun spent (refusal.Worn counter.PoolTag) m m' kept' = ⊥
 IsRefill passes number budget begun spent (refusal.Worn counter.Sequence) m m' kept' = ⊥
 
--- An attempt that found the head empty began with so many rows kept: it was the first one, or the head had been found empty before.
+-- An attempt that found the head empty began with so many rows kept: it was the first one, and so many were kept as the call began; or the head had
+-- been found empty before, by a call that had begun with rows kept, which were all given back then, unless an exchange was lost.
 abbrev pub HasBegun : ℕ → ℕ → MyTree → MyTree → Type 0
-HasBegun begun kept m m' = ((begun ≡ kept) × (m'.0.empty ≡ m.0.empty + 1)) ⊎ (m.0.empty + 2 ≤ m'.0.empty)
+HasBegun begun kept m m' = ((begun ≡ kept) × (m'.0.empty ≡ m.0.empty + 1)) ⊎ ((m.0.empty + 2 ≤ m'.0.empty) × (0 < kept)
+    × ((begun ≡ 0) ⊎ (losses m < losses m')))
+
+-- The budget isn't spent, by the exchanges that were lost and the bases that were split.
+abbrev pub IsUnspent : ℕ → MyTree → MyTree → Type 0
+IsUnspent budget m m' = min 4294967295 (losses m' - losses m) + min 4294967295 (splits m' - splits m) < budget
 
 -- A call that may add this key, if any, finds no room in this base, given the map: no object of the map has the key, it is led to the base, which stands
 -- at the last level, and of the keys that are led there the map has as many objects as a base may have.
@@ -55,16 +61,17 @@ abbrev pub IsCaused : Sizes → ℕ → ℕ → Option (List ℕ) → Refusal �
 -- So many exchanges were lost in this call, and so many bases were split.
 IsCaused z number budget adds (refusal.Busy spent) m kept m' kept' = (budget ≤ total spent) × (spent.lost ≡ min 4294967295 (losses m' - losses m))
     × (spent.helped ≡ 0) × (spent.passed ≡ min 4294967295 (splits m' - splits m))
--- The last attempt found the head empty. It began with no row kept, or another pass lagged as rows were given back in this call.
+-- The last attempt found the head empty, and the budget isn't spent. It began with no row kept, or another pass lagged as rows were given back in this call.
 IsCaused z number budget adds (refusal.Full cause) m kept m' kept' = HasBegun cause.kept (vec_len kept) m m' × ((cause.kept ≡ 0) ⊎ (cause.lag ≢ None))
-    × HasLooked m m' × IsLag z.passes number cause.lag m'.0.pin
+    × HasLooked m m' × IsLag z.passes number cause.lag m'.0.pin × IsUnspent budget m m'
 -- By the last state that the pass has seen the key is a new one, and there is no room for it in the base that was shown last, at the last level.
 IsCaused z number budget adds (refusal.Deep level) m kept m' kept' = (level ≡ z.levels) × IsFull z adds m'.0.upper.last (after m'.0.upper.seen [])
 -- The head's tag was at its last value as a row was to be taken.
 IsCaused z number budget adds (refusal.Worn counter.PoolTag) m kept m' kept' = m'.0.worn ≡ m.0.worn + 1
--- The last attempt found the head empty, the epoch was at its last value as rows were given back in this call, and rows are kept.
-IsCaused z number budget adds (refusal.Worn counter.Epoch) m kept m' kept' = (m.0.empty < m'.0.empty) × HasLooked m m'
-    × (4611686018427387904 ≤ m'.0.pin.scan) × (0 < vec_len kept')
+-- The last attempt found the head empty, and neither is the budget spent, nor did it begin with no row kept, nor does a pass lag. The epoch was at its
+-- last value as rows were given back in this call, and rows are kept.
+IsCaused z number budget adds (refusal.Worn counter.Epoch) m kept m' kept' = ((begun : ℕ) × (0 < begun) × HasBegun begun (vec_len kept) m m')
+    × HasLooked m m' × (4611686018427387904 ≤ m'.0.pin.scan) × (0 < vec_len kept') × (m'.0.pin.lag ≡ 0) × IsUnspent budget m m'
 IsCaused z number budget adds (refusal.Worn counter.Sequence) m kept m' kept' = ⊥
 
 -- Where the call is refused, this holds of the refusal.
@@ -75,16 +82,20 @@ IfRefusedAs (outcome.Full cause) P = P (refusal.Full cause)
 IfRefusedAs (outcome.Deep level) P = P (refusal.Deep level)
 IfRefusedAs (outcome.Worn counter) P = P (refusal.Worn counter)
 
--- The pass keeps at most 64 rows; or else, as it last gave rows back in this call, another pass lagged, or an exchange was lost in this call,
--- or the epoch was at its last value as it gave rows back in this call.
+-- The pass keeps at most 64 rows; or else, as it last gave rows back in this call, which it did once it had unpinned, another pass lagged, or an
+-- exchange was lost, or the epoch was at its last value.
 abbrev pub KeepsFew : MyTree → MyTree → Vec Kept Global → Type 0
-KeepsFew m m' kept = (vec_len kept ≤ 64) ⊎ (HasLooked m m' × (0 < m'.0.pin.lag)) ⊎ (losses m < losses m')
-    ⊎ (HasLooked m m' × (4611686018427387904 ≤ m'.0.pin.scan))
+KeepsFew m m' kept = (vec_len kept ≤ 64) ⊎ (HasLooked m m' × ((0 < m'.0.pin.lag) ⊎ (m'.0.pin.left.lost < m'.0.lost) ⊎ (4611686018427387904 ≤ m'.0.pin.scan)))
+
+-- A pass is found to lag once at most: no attempt follows.
+abbrev pub LagsOnce : MyTree → MyTree → Type 0
+LagsOnce m m' = m'.0.pin.lags ≤ m.0.pin.lags + 1
 
 -- A call of a pass's store that may add this key, if any, may be refused so, given what contracts see of the store before it and behind it.
 abbrev pub HasCause : {T : Type 0} → ℕ → Option (List ℕ) → StoreView → StoreView → Outcome T → Type 0
 HasCause budget adds s t o = IfRefusedAs o (λ why. IsCaused s.z s.number budget adds why s.seat.me s.kept t.seat.me t.kept)
 
--- Behind a call the store's pass keeps few rows, or there is a cause in this call; and it never held more than eight rows at once.
+-- Behind a call the store's pass keeps few rows, or there is a cause in this call; it never held more than eight rows at once; and a pass was found to
+-- lag once at most.
 abbrev pub IsSparing : StoreView → StoreView → Type 0
-IsSparing s t = KeepsFew s.seat.me t.seat.me t.kept × (t.seat.me.0.most ≤ 8)
+IsSparing s t = KeepsFew s.seat.me t.seat.me t.kept × (t.seat.me.0.most ≤ 8) × LagsOnce s.seat.me t.seat.me

@@ -1,5 +1,5 @@
 -- Passes between two calls, and what is known of them.
-use Rattle.std.specs.Prelude.{◌≡◌, ◌==◌, ℕ, cond, false, [], Some, None, Vec}
+use Rattle.std.specs.Prelude.{◌≡◌, ◌==◌, ◌≤◌, ℕ, cond, false, List, [], ◌∷◌, Some, None, Vec}
 use Rattle.std.specs.Global.{Global}
 use mathlib.Core.Option.{some}
 use Rattle.atomic_table.specs.declared.shared.Seat.{Seat}
@@ -14,6 +14,8 @@ use Rattle.ca_base.specs.Taking.{HoldsFew}
 use Rattle.ca_replace.specs.declared.adapting.Last.{Last}
 use Rattle.ca_rows.specs.declared.kept.Kept.{Kept}
 use Rattle.ca_rows.specs.declared.sizes.Sizes.{Sizes}
+use Rattle.ca_rows.specs.declared.space.Pass.{Pass}
+use Rattle.ca_rows.specs.declared.space.Space.{Space}
 use Rattle.ca_rows.specs.declared.tally.Tally.{Tally}
 use Rattle.ca_rows.specs.declared.view.Claim.{Claim}
 use Rattle.ca_rows.specs.declared.view.Claim.TheVariants.{Keeps}
@@ -34,8 +36,20 @@ pub record IsResting (table : TableId) (z : Sizes) (number : ℕ) (tally : Tally
   -- It holds no row, and never held more than eight at once.
   pub few : HoldsFew 0 seat.me.0
   pub known : IsKnown z seat.me.0.upper
+  -- It lost no fewer exchanges of the pool than as it unpinned.
+  pub left_before : seat.me.0.pin.left.lost ≤ seat.me.0.lost
   -- It counted the splits and the joins that it carried out.
   pub tallied : IsTallied tally seat.me.0.upper
+
+module _ {R : Type 0} where
+  -- The pass is one of this space, and rests.
+  abbrev pub IsAtRest : Space R TreeView → Pass R TreeView → Type 0
+  IsAtRest space pass = IsResting space.table.shared.table_id space.table.shared.key pass.number pass.tally pass.kept.rows pass.seat
+
+  -- It is the same pass, and rests.
+  pub record StaysAtRest (space : Space R TreeView) (pass new : Pass R TreeView) : Type 0 where
+    pub number : new.number ≡ pass.number
+    pub resting : IsAtRest space new
 
 -- what contracts see of a pass on a tree: the tree's table, what it was made with, the pass, and what is kept of its last update by the store
 pub record StoreView : Type 0 where
@@ -52,10 +66,15 @@ pub record StoreView : Type 0 where
 abbrev pub Rests : StoreView → Type 0
 Rests s = IsResting s.table s.z s.number s.tally s.kept s.seat
 
+-- the numbers that tell a table from all others
+abbrev pub numbers_of : TableId → List ℕ
+numbers_of table = table.words ∷ table.slots ∷ table.views_name ∷ table.atom ∷ table.block ∷ table.offset ∷ table.slot_names
+
 -- What a pass knows of the map, as a store: each of the passes that there may be may edit it, so where there may be one alone nobody else does;
 -- any call may be refused, and each finds its own room.
-abbrev pub known_of : Sizes → TreeView → Known
-known_of z u = record {
+abbrev pub known_of : TableId → Sizes → TreeView → Known
+known_of table z u = record {
+  store = numbers_of table;
   keypos = z.keypos;
   pass = u.number;
   passes = z.passes;
@@ -69,4 +88,4 @@ known_of z u = record {
 }
 
 abbrev pub knows : StoreView → Known
-knows s = known_of s.z s.seat.me.0.upper
+knows s = known_of s.table s.z s.seat.me.0.upper

@@ -1,12 +1,9 @@
 //! What follows an update: the statistic of its new base, and what is due to it.
-ghost use Rattle.std.specs.Prelude.{◌≡◌, ◌≢◌, ◌↔◌, ◌<◌, Err, IsTrue, Ok, [], true, slice_index};
+ghost use Rattle.std.specs.Prelude.{◌≡◌, ◌≢◌, ◌↔◌, ◌<◌, Err, IsTrue, Ok, true, slice_index};
 ghost use Rattle.ca_adapt.specs.declared.adapted.Adapted.TheVariants.{Split as IsSplit};
-ghost use Rattle.ca_adapt.specs.Statistics.{IsAfter, IsStatisticOf};
 ghost use Rattle.ca_adapt.specs.Tuned.{IsTuned};
 ghost use Rattle.ca_base.specs.Finding.{IsReadable};
 ghost use Rattle.ca_base.specs.Progress.{IsFurther};
-ghost use Rattle.ca_base.specs.Taking.{AreHeld};
-ghost use Rattle.ca_node.specs.Tallied.{IsTallied};
 ghost use Rattle.ca_node.specs.Told.{IsAlone, IsKnown};
 ghost use Rattle.ca_node.specs.TreeView.{Note};
 ghost use Rattle.ca_replace.specs.Adapting.{HasAdapted, HasLookedAgain, HasSettled, IsMetAs, IsMoved, IsNew};
@@ -14,7 +11,9 @@ ghost use Rattle.ca_replace.specs.Growing.{Grows};
 ghost use Rattle.ca_replace.specs.Cutting.{HasCutDue};
 ghost use Rattle.ca_replace.specs.declared.attempting.Stop.TheVariants.{Deep as IsDeep};
 ghost use Rattle.ca_replace.specs.Attempting.{IsPaid, come_to};
-ghost use Rattle.ca_rows.specs.Calls.{IsOf, IsSame};
+ghost use Rattle.ca_rows.specs.Passes.{OnlyReads, IsReading, sizes, known};
+ghost use Rattle.ca_node.specs.TreePasses.{tree_of};
+ghost use Rattle.ca_base.specs.Readiness.{IsReady, StaysReady};
 
 use crate::attempting::{Stop, outcome_of};
 use ca_adapt::{Adapted, Due, Tuning, statistic_of, try_split};
@@ -44,16 +43,11 @@ pub(crate) fn next_statistic(
     base: u32,
     lost: bool,
 ) -> i32
-    requires own { IsOf space.now.table.shared.table_id space.now.table.shared.key pass.old.seat }
-    requires pinned { pass.old.seat.me.0.pin.pinned ≡ true }
-    requires tuned { IsTuned space.now.table.shared.key tuning.now }
-    requires readable { (note : Note) × IsReadable space.now.table.shared.key pass.old.seat.me.0.upper base note }
-    ensures same { IsSame pass.old.seat pass.new.seat }
-    ensures number { pass.new.number ≡ pass.old.number }
-    ensures tally { pass.new.tally ≡ pass.old.tally }
-    ensures kept { pass.new.kept ≡ pass.old.kept }
-    ensures still { pass.new.seat.me ≡ pass.old.seat.me }
-    ensures moved { (note : Note) → IsReadable space.now.table.shared.key pass.old.seat.me.0.upper base note
+    requires reading { IsReading space.now pass.old }
+    requires tuned { IsTuned (sizes space.now) tuning.now }
+    requires readable { (note : Note) × IsReadable (sizes space.now) (tree_of pass.old) base note }
+    ensures frame { OnlyReads pass.old pass.new }
+    ensures moved { (note : Note) → IsReadable (sizes space.now) (tree_of pass.old) base note
         → IsMoved tuning.now (slice_index note.its 1) lost result }
 {
     let word = statistic_word(space, pass, base);
@@ -73,28 +67,21 @@ pub(crate) fn settle(
     adapting: &mut Adapting,
     spent: &mut Spent,
 ) -> Result<(), Stop>
-    requires own { IsOf space.now.table.shared.table_id space.now.table.shared.key pass.old.seat }
-    requires pinned { pass.old.seat.me.0.pin.pinned ≡ true }
-    requires number { 0 < pass.old.seat.me.0.upper.number }
-    requires none { AreHeld space.now.table.shared.key.rows pass.old.kept.rows pass.old.seat.me.0 [] }
-    requires tuned { IsTuned space.now.table.shared.key tuning.now }
-    requires known { IsKnown space.now.table.shared.key pass.old.seat.me.0.upper }
-    requires placed { tried ≡ Ok true → IsNew placed key.now pass.old.seat.me.0.upper }
-    ensures same { IsSame pass.old.seat pass.new.seat }
-    ensures number { pass.new.number ≡ pass.old.number }
-    ensures tally { IsTallied pass.old.tally pass.old.seat.me.0.upper → IsTallied pass.new.tally pass.new.seat.me.0.upper }
-    ensures pin { (pass.new.seat.me.0.sizes ≡ pass.old.seat.me.0.sizes) × (pass.new.seat.me.0.pin ≡ pass.old.seat.me.0.pin) }
-    ensures none { AreHeld space.now.table.shared.key.rows pass.new.kept.rows pass.new.seat.me.0 [] }
+    requires ready { IsReady space.now pass.old }
+    requires tuned { IsTuned (sizes space.now) tuning.now }
+    requires known { IsKnown (sizes space.now) (tree_of pass.old) }
+    requires placed { tried ≡ Ok true → IsNew placed key.now (tree_of pass.old) }
+    ensures frame { StaysReady space.now pass.old pass.new }
     ensures come { result ≡ come_to tried }
     ensures deep { result ≢ Err IsDeep }
-    ensures further { IsFurther pass.old.seat.me.0.upper pass.new.seat.me.0.upper × IsKnown space.now.table.shared.key pass.new.seat.me.0.upper }
-    ensures met { tried ≡ Ok true → IsMetAs adapting.new.last.adapted pass.old.seat.me pass.new.seat.me }
-    ensures settled { HasSettled space.now.table.shared.key tuning.now statistic tried adapting.old adapting.new pass.old.seat.me pass.new.seat.me }
-    ensures counted { IsPaid spent.old spent.new pass.old.seat.me pass.new.seat.me }
-    ensures grows { IsAlone space.now.table.shared.key pass.old.seat.me.0.upper → Grows 1 2 1 pass.old.seat.me.0.upper pass.new.seat.me.0.upper }
-    ensures won { IsAlone space.now.table.shared.key pass.old.seat.me.0.upper → tried ≡ Ok true → (pass.new.seat.me.0.upper.lost ≡ pass.old.seat.me.0.upper.lost)
-        × (pass.new.seat.me.0.upper.last.row ≡ pass.new.seat.me.0.upper.renewal.new.row) }
-    ensures cut { HasCutDue pass.old.seat.me.0.upper.cuts pass.new.seat.me.0.upper }
+    ensures further { IsFurther (tree_of pass.old) (tree_of pass.new) × IsKnown (sizes space.now) (tree_of pass.new) }
+    ensures met { tried ≡ Ok true → IsMetAs adapting.new.last.adapted (known pass.old) (known pass.new) }
+    ensures settled { HasSettled (sizes space.now) tuning.now statistic tried adapting.old adapting.new (known pass.old) (known pass.new) }
+    ensures counted { IsPaid spent.old spent.new (known pass.old) (known pass.new) }
+    ensures grows { IsAlone (sizes space.now) (tree_of pass.old) → Grows 1 2 1 (tree_of pass.old) (tree_of pass.new) }
+    ensures won { IsAlone (sizes space.now) (tree_of pass.old) → tried ≡ Ok true → ((tree_of pass.new).lost ≡ (tree_of pass.old).lost)
+        × ((tree_of pass.new).last.row ≡ (tree_of pass.new).renewal.new.row) }
+    ensures cut { HasCutDue (tree_of pass.old).cuts (tree_of pass.new) }
 {
     match tried {
         Ok(true) => {
@@ -117,26 +104,19 @@ fn adapt(
     statistic: i32,
     spent: &mut Spent,
 ) -> Adapted
-    requires own { IsOf space.now.table.shared.table_id space.now.table.shared.key pass.old.seat }
-    requires pinned { pass.old.seat.me.0.pin.pinned ≡ true }
-    requires number { 0 < pass.old.seat.me.0.upper.number }
-    requires none { AreHeld space.now.table.shared.key.rows pass.old.kept.rows pass.old.seat.me.0 [] }
-    requires tuned { IsTuned space.now.table.shared.key tuning.now }
-    requires known { IsKnown space.now.table.shared.key pass.old.seat.me.0.upper }
-    requires placed { IsNew placed key.now pass.old.seat.me.0.upper }
-    ensures same { IsSame pass.old.seat pass.new.seat }
-    ensures number { pass.new.number ≡ pass.old.number }
-    ensures tally { IsTallied pass.old.tally pass.old.seat.me.0.upper → IsTallied pass.new.tally pass.new.seat.me.0.upper }
-    ensures pin { (pass.new.seat.me.0.sizes ≡ pass.old.seat.me.0.sizes) × (pass.new.seat.me.0.pin ≡ pass.old.seat.me.0.pin) }
-    ensures none { AreHeld space.now.table.shared.key.rows pass.new.kept.rows pass.new.seat.me.0 [] }
-    ensures further { IsFurther pass.old.seat.me.0.upper pass.new.seat.me.0.upper × IsKnown space.now.table.shared.key pass.new.seat.me.0.upper }
-    ensures met { IsMetAs result pass.old.seat.me pass.new.seat.me }
-    ensures adapted { HasAdapted space.now.table.shared.key tuning.now statistic result pass.old.seat.me.0.upper pass.new.seat.me.0.upper }
-    ensures counted { IsPaid spent.old spent.new pass.old.seat.me pass.new.seat.me }
-    ensures grows { IsAlone space.now.table.shared.key pass.old.seat.me.0.upper → Grows 1 2 1 pass.old.seat.me.0.upper pass.new.seat.me.0.upper }
-    ensures won { IsAlone space.now.table.shared.key pass.old.seat.me.0.upper → (pass.new.seat.me.0.upper.lost ≡ pass.old.seat.me.0.upper.lost)
-        × (pass.new.seat.me.0.upper.last.row ≡ pass.new.seat.me.0.upper.renewal.new.row) }
-    ensures cut { HasCutDue pass.old.seat.me.0.upper.cuts pass.new.seat.me.0.upper }
+    requires ready { IsReady space.now pass.old }
+    requires tuned { IsTuned (sizes space.now) tuning.now }
+    requires known { IsKnown (sizes space.now) (tree_of pass.old) }
+    requires placed { IsNew placed key.now (tree_of pass.old) }
+    ensures frame { StaysReady space.now pass.old pass.new }
+    ensures further { IsFurther (tree_of pass.old) (tree_of pass.new) × IsKnown (sizes space.now) (tree_of pass.new) }
+    ensures met { IsMetAs result (known pass.old) (known pass.new) }
+    ensures adapted { HasAdapted (sizes space.now) tuning.now statistic result (tree_of pass.old) (tree_of pass.new) }
+    ensures counted { IsPaid spent.old spent.new (known pass.old) (known pass.new) }
+    ensures grows { IsAlone (sizes space.now) (tree_of pass.old) → Grows 1 2 1 (tree_of pass.old) (tree_of pass.new) }
+    ensures won { IsAlone (sizes space.now) (tree_of pass.old) → ((tree_of pass.new).lost ≡ (tree_of pass.old).lost)
+        × ((tree_of pass.new).last.row ≡ (tree_of pass.new).renewal.new.row) }
+    ensures cut { HasCutDue (tree_of pass.old).cuts (tree_of pass.new) }
 {
     match tuning.due(statistic) {
         Due::Split => split_again(space, pass, tuning, key, placed, spent),
@@ -153,25 +133,18 @@ fn split_again(
     placed: u32,
     spent: &mut Spent,
 ) -> Adapted
-    requires own { IsOf space.now.table.shared.table_id space.now.table.shared.key pass.old.seat }
-    requires pinned { pass.old.seat.me.0.pin.pinned ≡ true }
-    requires number { 0 < pass.old.seat.me.0.upper.number }
-    requires none { AreHeld space.now.table.shared.key.rows pass.old.kept.rows pass.old.seat.me.0 [] }
-    requires tuned { IsTuned space.now.table.shared.key tuning.now }
-    requires placed { IsNew placed key.now pass.old.seat.me.0.upper }
-    ensures same { IsSame pass.old.seat pass.new.seat }
-    ensures number { pass.new.number ≡ pass.old.number }
-    ensures tally { IsTallied pass.old.tally pass.old.seat.me.0.upper → IsTallied pass.new.tally pass.new.seat.me.0.upper }
-    ensures pin { (pass.new.seat.me.0.sizes ≡ pass.old.seat.me.0.sizes) × (pass.new.seat.me.0.pin ≡ pass.old.seat.me.0.pin) }
-    ensures none { AreHeld space.now.table.shared.key.rows pass.new.kept.rows pass.new.seat.me.0 [] }
-    ensures further { IsFurther pass.old.seat.me.0.upper pass.new.seat.me.0.upper × IsKnown space.now.table.shared.key pass.new.seat.me.0.upper }
-    ensures met { IsMetAs result pass.old.seat.me pass.new.seat.me }
-    ensures tried { HasLookedAgain space.now.table.shared.key result pass.old.seat.me.0.upper pass.new.seat.me.0.upper }
-    ensures counted { IsPaid spent.old spent.new pass.old.seat.me pass.new.seat.me }
-    ensures grows { IsAlone space.now.table.shared.key pass.old.seat.me.0.upper → Grows 1 2 1 pass.old.seat.me.0.upper pass.new.seat.me.0.upper }
-    ensures won { IsAlone space.now.table.shared.key pass.old.seat.me.0.upper → (pass.new.seat.me.0.upper.lost ≡ pass.old.seat.me.0.upper.lost)
-        × (pass.new.seat.me.0.upper.last.row ≡ pass.new.seat.me.0.upper.renewal.new.row) }
-    ensures cut { HasCutDue pass.old.seat.me.0.upper.cuts pass.new.seat.me.0.upper }
+    requires ready { IsReady space.now pass.old }
+    requires tuned { IsTuned (sizes space.now) tuning.now }
+    requires placed { IsNew placed key.now (tree_of pass.old) }
+    ensures frame { StaysReady space.now pass.old pass.new }
+    ensures further { IsFurther (tree_of pass.old) (tree_of pass.new) × IsKnown (sizes space.now) (tree_of pass.new) }
+    ensures met { IsMetAs result (known pass.old) (known pass.new) }
+    ensures tried { HasLookedAgain (sizes space.now) result (tree_of pass.old) (tree_of pass.new) }
+    ensures counted { IsPaid spent.old spent.new (known pass.old) (known pass.new) }
+    ensures grows { IsAlone (sizes space.now) (tree_of pass.old) → Grows 1 2 1 (tree_of pass.old) (tree_of pass.new) }
+    ensures won { IsAlone (sizes space.now) (tree_of pass.old) → ((tree_of pass.new).lost ≡ (tree_of pass.old).lost)
+        × ((tree_of pass.new).last.row ≡ (tree_of pass.new).renewal.new.row) }
+    ensures cut { HasCutDue (tree_of pass.old).cuts (tree_of pass.new) }
 {
     let cursor = walk(space, pass, Spot::At(key));
     if cursor.base != placed {

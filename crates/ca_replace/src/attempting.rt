@@ -17,10 +17,12 @@ ghost use Rattle.ca_adapt.specs.Tuned.{IsTuned};
 ghost use Rattle.ca_node.specs.Tallied.{IsTallied};
 ghost use Rattle.ca_node.specs.Told.{IsAlone, IsKnown};
 ghost use Rattle.ca_base.specs.Progress.{IsFurther};
-ghost use Rattle.ca_base.specs.Putting.{object_at, IsRoom, IsFor, first_note, put_event};
-ghost use Rattle.ca_base.specs.Taking.{AreHeld};
+ghost use Rattle.ca_base.specs.Putting.{object_at, IsRoom, IsFor, put_event};
 ghost use Rattle.ca_rows.specs.declared.sizes.Sizes.{Sizes};
-ghost use Rattle.ca_rows.specs.Calls.{IsOf, IsSame};
+ghost use Rattle.ca_rows.specs.Calls.{IsSame};
+ghost use Rattle.ca_rows.specs.Passes.{IsReading, sizes, known, view};
+ghost use Rattle.ca_node.specs.TreePasses.{tree_of};
+ghost use Rattle.ca_base.specs.Readiness.{IsReady, StaysReady, shown_last};
 
 use crate::adapting::{Adapting, next_statistic, settle};
 use crate::looking::copy_at;
@@ -78,49 +80,38 @@ pub(crate) trait Attempt {
         adapting: &mut Adapting,
         spent: &mut Spent,
     ) -> Result<Self::Answer, Stop>
-        requires own { IsOf space.now.table.shared.table_id space.now.table.shared.key pass.old.seat }
-        requires pinned { pass.old.seat.me.0.pin.pinned ≡ true }
-        requires number { 0 < pass.old.seat.me.0.upper.number }
-        requires none { AreHeld space.now.table.shared.key.rows pass.old.kept.rows pass.old.seat.me.0 [] }
-        requires tuned { IsTuned space.now.table.shared.key tuning.now }
-        requires may { may self.now space.now.table.shared.key }
-        requires known { IsKnown space.now.table.shared.key pass.old.seat.me.0.upper }
-        ensures same { IsSame pass.old.seat pass.new.seat }
-        ensures number { pass.new.number ≡ pass.old.number }
-        ensures tally { IsTallied pass.old.tally pass.old.seat.me.0.upper → IsTallied pass.new.tally pass.new.seat.me.0.upper }
-        ensures pin { (pass.new.seat.me.0.sizes ≡ pass.old.seat.me.0.sizes) × (pass.new.seat.me.0.pin ≡ pass.old.seat.me.0.pin) }
-        ensures none { AreHeld space.now.table.shared.key.rows pass.new.kept.rows pass.new.seat.me.0 [] }
-        ensures tried { HasTriedTo (λ answer. tells self.now answer left.new) space.now.table.shared.key result pass.old.seat.me.0.upper
-            pass.new.seat.me.0.upper }
-        ensures deep { result ≡ Err IsDeep → IsFull space.now.table.shared.key (adds self.now) pass.new.seat.me.0.upper.last
-            (after pass.new.seat.me.0.upper.seen []) }
-        ensures met_as { MeetsAs (edits self.now) adapting.new.last result pass.old.seat.me pass.new.seat.me }
-        ensures gone_on { HasGoneOn (edits self.now) space.now.table.shared.key tuning.now adapting.old adapting.new result pass.old.seat.me.0.upper
-            pass.new.seat.me.0.upper }
-        ensures counted { IsPaid spent.old spent.new pass.old.seat.me pass.new.seat.me }
-        ensures found { HasStopped result pass.old.seat.me pass.new.seat.me }
-        ensures grown { IsAlone space.now.table.shared.key pass.old.seat.me.0.upper → HasGrown space.now.table.shared.key (adds self.now) result
-            pass.old.seat.me.0.upper pass.new.seat.me.0.upper }
-        ensures won { IsAlone space.now.table.shared.key pass.old.seat.me.0.upper → HasWonAs (edits self.now) result pass.old.seat.me.0.upper
-            pass.new.seat.me.0.upper }
-        ensures cut { HasCut (edits self.now) space.now.table.shared.key (adds self.now) result pass.old.seat.me.0.upper pass.new.seat.me.0.upper };
+        requires ready { IsReady space.now pass.old }
+        requires tuned { IsTuned (sizes space.now) tuning.now }
+        requires may { may self.now (sizes space.now) }
+        requires known { IsKnown (sizes space.now) (tree_of pass.old) }
+        ensures frame { StaysReady space.now pass.old pass.new }
+        ensures tried { HasTriedTo (λ answer. tells self.now answer left.new) (sizes space.now) result (tree_of pass.old) (tree_of pass.new) }
+        ensures deep { result ≡ Err IsDeep → IsFull (sizes space.now) (adds self.now) (tree_of pass.new).last (after (tree_of pass.new).seen []) }
+        ensures met_as { MeetsAs (edits self.now) adapting.new.last result (known pass.old) (known pass.new) }
+        ensures gone_on { HasGoneOn (edits self.now) (sizes space.now) tuning.now adapting.old adapting.new result (tree_of pass.old)
+            (tree_of pass.new) }
+        ensures counted { IsPaid spent.old spent.new (known pass.old) (known pass.new) }
+        ensures found { HasStopped result (known pass.old) (known pass.new) }
+        ensures grown { IsAlone (sizes space.now) (tree_of pass.old)
+            → HasGrown (sizes space.now) (adds self.now) result (tree_of pass.old) (tree_of pass.new) }
+        ensures won { IsAlone (sizes space.now) (tree_of pass.old) → HasWonAs (edits self.now) result (tree_of pass.old) (tree_of pass.new) }
+        ensures cut { HasCut (edits self.now) (sizes space.now) (adds self.now) result (tree_of pass.old) (tree_of pass.new) };
 }
 
 /// The base that has the key, and the key's place among its objects. It is shown to the pass, which has seen the whole history then.
 pub(crate) fn find(space: &TreeSpace, pass: &mut TreePass, key: &[u8]) -> (Cursor, Result<u32, u32>)
-    requires own { IsOf space.now.table.shared.table_id space.now.table.shared.key pass.old.seat }
-    requires pinned { pass.old.seat.me.0.pin.pinned ≡ true }
-    requires leaf { space.now.table.shared.key.leaf ≤ 120 }
+    requires reading { IsReading space.now pass.old }
+    requires leaf { (sizes space.now).leaf ≤ 120 }
     ensures same { IsSame pass.old.seat pass.new.seat }
     ensures number { pass.new.number ≡ pass.old.number }
-    ensures tally { IsTallied pass.old.tally pass.old.seat.me.0.upper → IsTallied pass.new.tally pass.new.seat.me.0.upper }
+    ensures tally { IsTallied pass.old.tally (tree_of pass.old) → IsTallied pass.new.tally (tree_of pass.new) }
     ensures kept { pass.new.kept ≡ pass.old.kept }
-    ensures still { (pass.new.seat.me.0.sizes ≡ pass.old.seat.me.0.sizes) × (pass.new.seat.me.0.pin ≡ pass.old.seat.me.0.pin)
-        × (pass.new.seat.me.0.claims ≡ pass.old.seat.me.0.claims) }
-    ensures quiet { IsQuiet pass.old.seat.me pass.new.seat.me }
-    ensures looking { IsLooking space.now.table.shared.key pass.new.seat.me.0.upper key.now result.0 }
-    ensures place { IsPlace (map pair (first_note pass.new.seat.me.0.upper.notes).objects) key.now result.1 }
-    ensures further { IsFurther pass.old.seat.me.0.upper pass.new.seat.me.0.upper }
+    ensures still { ((view pass.new).sizes ≡ (view pass.old).sizes) × ((view pass.new).pin ≡ (view pass.old).pin)
+        × ((view pass.new).claims ≡ (view pass.old).claims) }
+    ensures quiet { IsQuiet (known pass.old) (known pass.new) }
+    ensures looking { IsLooking (sizes space.now) (tree_of pass.new) key.now result.0 }
+    ensures place { IsPlace (map pair (shown_last pass.new).objects) key.now result.1 }
+    ensures further { IsFurther (tree_of pass.old) (tree_of pass.new) }
 {
     let cursor = walk(space, pass, Spot::At(key));
     let place = search(space, pass, cursor.base, key);
@@ -134,20 +125,19 @@ pub(crate) fn fetch(
     key: &[u8],
     old: &mut Code,
 ) -> (Cursor, Result<u32, u32>)
-    requires own { IsOf space.now.table.shared.table_id space.now.table.shared.key pass.old.seat }
-    requires pinned { pass.old.seat.me.0.pin.pinned ≡ true }
-    requires leaf { space.now.table.shared.key.leaf ≤ 120 }
+    requires reading { IsReading space.now pass.old }
+    requires leaf { (sizes space.now).leaf ≤ 120 }
     ensures same { IsSame pass.old.seat pass.new.seat }
     ensures number { pass.new.number ≡ pass.old.number }
-    ensures tally { IsTallied pass.old.tally pass.old.seat.me.0.upper → IsTallied pass.new.tally pass.new.seat.me.0.upper }
+    ensures tally { IsTallied pass.old.tally (tree_of pass.old) → IsTallied pass.new.tally (tree_of pass.new) }
     ensures kept { pass.new.kept ≡ pass.old.kept }
-    ensures still { (pass.new.seat.me.0.sizes ≡ pass.old.seat.me.0.sizes) × (pass.new.seat.me.0.pin ≡ pass.old.seat.me.0.pin)
-        × (pass.new.seat.me.0.claims ≡ pass.old.seat.me.0.claims) }
-    ensures quiet { IsQuiet pass.old.seat.me pass.new.seat.me }
-    ensures looking { IsLooking space.now.table.shared.key pass.new.seat.me.0.upper key.now result.0 }
-    ensures place { IsPlace (map pair (first_note pass.new.seat.me.0.upper.notes).objects) key.now result.1 }
-    ensures further { IsFurther pass.old.seat.me.0.upper pass.new.seat.me.0.upper }
-    ensures fetched { HasFetched space.now.table.shared.key pass.new.seat.me.0.upper key.now result.1 old.new.items }
+    ensures still { ((view pass.new).sizes ≡ (view pass.old).sizes) × ((view pass.new).pin ≡ (view pass.old).pin)
+        × ((view pass.new).claims ≡ (view pass.old).claims) }
+    ensures quiet { IsQuiet (known pass.old) (known pass.new) }
+    ensures looking { IsLooking (sizes space.now) (tree_of pass.new) key.now result.0 }
+    ensures place { IsPlace (map pair (shown_last pass.new).objects) key.now result.1 }
+    ensures further { IsFurther (tree_of pass.old) (tree_of pass.new) }
+    ensures fetched { HasFetched (sizes space.now) (tree_of pass.new) key.now result.1 old.new.items }
 {
     let (cursor, place) = find(space, pass, key);
     match place {
@@ -171,39 +161,28 @@ pub(crate) fn put_there(
     adapting: &mut Adapting,
     spent: &mut Spent,
 ) -> Result<(), Stop>
-    requires own { IsOf space.now.table.shared.table_id space.now.table.shared.key pass.old.seat }
-    requires pinned { pass.old.seat.me.0.pin.pinned ≡ true }
-    requires number { 0 < pass.old.seat.me.0.upper.number }
-    requires none { AreHeld space.now.table.shared.key.rows pass.old.kept.rows pass.old.seat.me.0 [] }
-    requires tuned { IsTuned space.now.table.shared.key tuning.now }
-    requires looking { IsLooking space.now.table.shared.key pass.old.seat.me.0.upper (slice_range object.now key_at key_end) cursor }
+    requires ready { IsReady space.now pass.old }
+    requires tuned { IsTuned (sizes space.now) tuning.now }
+    requires looking { IsLooking (sizes space.now) (tree_of pass.old) (slice_range object.now key_at key_end) cursor }
     requires within { (key_at ≤ key_end) × (key_end ≤ length object.now) }
-    requires pair { IsPair space.now.table.shared.key.keypos (slice_range object.now key_at key_end, object.now) }
-    requires place { IsPlace (map pair (first_note pass.old.seat.me.0.upper.notes).objects) (slice_range object.now key_at key_end) place }
+    requires pair { IsPair (sizes space.now).keypos (slice_range object.now key_at key_end, object.now) }
+    requires place { IsPlace (map pair (shown_last pass.old).objects) (slice_range object.now key_at key_end) place }
     requires call { IsFor why place }
-    ensures same { IsSame pass.old.seat pass.new.seat }
-    ensures number { pass.new.number ≡ pass.old.number }
-    ensures tally { IsTallied pass.old.tally pass.old.seat.me.0.upper → IsTallied pass.new.tally pass.new.seat.me.0.upper }
-    ensures pin { (pass.new.seat.me.0.sizes ≡ pass.old.seat.me.0.sizes) × (pass.new.seat.me.0.pin ≡ pass.old.seat.me.0.pin) }
-    ensures none { AreHeld space.now.table.shared.key.rows pass.new.kept.rows pass.new.seat.me.0 [] }
-    ensures tried { HasTriedTo (λ _ event. event ≡ put_event why (slice_range object.now key_at key_end)
-        (object_at place (first_note pass.old.seat.me.0.upper.notes).objects) object.now) space.now.table.shared.key result pass.old.seat.me.0.upper
-        pass.new.seat.me.0.upper }
+    ensures frame { StaysReady space.now pass.old pass.new }
+    ensures tried { HasTriedTo (λ _ event. event ≡ put_event why (slice_range object.now key_at key_end) (object_at place
+        (shown_last pass.old).objects) object.now) (sizes space.now) result (tree_of pass.old) (tree_of pass.new) }
     ensures deep { OnOk place (result ≢ Err IsDeep) }
     ensures no_split { OnOk place (result ≢ Err IsSplit) }
-    ensures full { result ≡ Err IsDeep → IsFull space.now.table.shared.key (Some (slice_range object.now key_at key_end))
-        pass.new.seat.me.0.upper.last (after pass.new.seat.me.0.upper.seen []) }
-    ensures met_as { MeetsAs (λ _. true) adapting.new.last result pass.old.seat.me pass.new.seat.me }
-    ensures gone_on { HasGoneOn (λ _. true) space.now.table.shared.key tuning.now adapting.old adapting.new result pass.old.seat.me.0.upper
-        pass.new.seat.me.0.upper }
-    ensures counted { IsPaid spent.old spent.new pass.old.seat.me pass.new.seat.me }
-    ensures found { HasStopped result pass.old.seat.me pass.new.seat.me }
-    ensures grown { IsAlone space.now.table.shared.key pass.old.seat.me.0.upper → HasGrown space.now.table.shared.key
-        (Some (slice_range object.now key_at key_end)) result pass.old.seat.me.0.upper pass.new.seat.me.0.upper }
-    ensures won { IsAlone space.now.table.shared.key pass.old.seat.me.0.upper → HasWonAs (λ _. true) result pass.old.seat.me.0.upper
-        pass.new.seat.me.0.upper }
-    ensures cut { HasCut (λ _. true) space.now.table.shared.key (Some (slice_range object.now key_at key_end)) result pass.old.seat.me.0.upper
-        pass.new.seat.me.0.upper }
+    ensures full { result ≡ Err IsDeep → IsFull (sizes space.now) (Some (slice_range object.now key_at key_end)) (tree_of pass.new).last (after
+        (tree_of pass.new).seen []) }
+    ensures met_as { MeetsAs (λ _. true) adapting.new.last result (known pass.old) (known pass.new) }
+    ensures gone_on { HasGoneOn (λ _. true) (sizes space.now) tuning.now adapting.old adapting.new result (tree_of pass.old) (tree_of pass.new) }
+    ensures counted { IsPaid spent.old spent.new (known pass.old) (known pass.new) }
+    ensures found { HasStopped result (known pass.old) (known pass.new) }
+    ensures grown { IsAlone (sizes space.now) (tree_of pass.old)
+        → HasGrown (sizes space.now) (Some (slice_range object.now key_at key_end)) result (tree_of pass.old) (tree_of pass.new) }
+    ensures won { IsAlone (sizes space.now) (tree_of pass.old) → HasWonAs (λ _. true) result (tree_of pass.old) (tree_of pass.new) }
+    ensures cut { HasCut (λ _. true) (sizes space.now) (Some (slice_range object.now key_at key_end)) result (tree_of pass.old) (tree_of pass.new) }
 {
     let many = count(space, pass, cursor.base);
     if !has_room(many, place, tuning.leaf) {
@@ -242,32 +221,23 @@ fn make_room(
     adapting: &mut Adapting,
     spent: &mut Spent,
 ) -> Stop
-    requires own { IsOf space.now.table.shared.table_id space.now.table.shared.key pass.old.seat }
-    requires pinned { pass.old.seat.me.0.pin.pinned ≡ true }
-    requires number { 0 < pass.old.seat.me.0.upper.number }
-    requires none { AreHeld space.now.table.shared.key.rows pass.old.kept.rows pass.old.seat.me.0 [] }
-    requires tuned { IsTuned space.now.table.shared.key tuning.now }
-    requires looking { (key : List ℕ) × IsLooking space.now.table.shared.key pass.old.seat.me.0.upper key cursor }
-    requires many { (many ≡ length (first_note pass.old.seat.me.0.upper.notes).objects) × (tuning.now.leaf ≤ many) }
-    ensures same { IsSame pass.old.seat pass.new.seat }
-    ensures number { pass.new.number ≡ pass.old.number }
-    ensures tally { IsTallied pass.old.tally pass.old.seat.me.0.upper → IsTallied pass.new.tally pass.new.seat.me.0.upper }
-    ensures pin { (pass.new.seat.me.0.sizes ≡ pass.old.seat.me.0.sizes) × (pass.new.seat.me.0.pin ≡ pass.old.seat.me.0.pin) }
-    ensures none { AreHeld space.now.table.shared.key.rows pass.new.kept.rows pass.new.seat.me.0 [] }
-    ensures further { IsFurther pass.old.seat.me.0.upper pass.new.seat.me.0.upper × IsKnown space.now.table.shared.key pass.new.seat.me.0.upper }
-    ensures same_seen { (pass.new.seat.me.0.upper.seen ≡ pass.old.seat.me.0.upper.seen) × (pass.new.seat.me.0.upper.last ≡ pass.old.seat.me.0.upper.last) }
-    ensures deep { result ≡ IsDeep → space.now.table.shared.key.levels ≤ (first_note pass.old.seat.me.0.upper.notes).place.level }
-    ensures waits { Waits adapting.old adapting.new pass.old.seat.me.0.upper pass.new.seat.me.0.upper }
-    ensures counted { IsPaid spent.old spent.new pass.old.seat.me pass.new.seat.me }
-    ensures found { HasStopped {T = Unit {0}} (Err result) pass.old.seat.me pass.new.seat.me }
-    ensures grown { (key : List ℕ) → IsLooking space.now.table.shared.key pass.old.seat.me.0.upper key cursor
-        → IsAlone space.now.table.shared.key pass.old.seat.me.0.upper → HasGrown {T = Unit {0}} space.now.table.shared.key (Some key) (Err result)
-        pass.old.seat.me.0.upper pass.new.seat.me.0.upper }
-    ensures won { (key : List ℕ) → IsLooking space.now.table.shared.key pass.old.seat.me.0.upper key cursor
-        → IsAlone space.now.table.shared.key pass.old.seat.me.0.upper → HasWonAs {T = Unit {0}} (λ _. true) (Err result) pass.old.seat.me.0.upper
-        pass.new.seat.me.0.upper }
-    ensures cut { (key : List ℕ) → IsFullFor space.now.table.shared.key (Some key) (first_note pass.old.seat.me.0.upper.notes)
-        → HasCut {T = Unit {0}} (λ _. true) space.now.table.shared.key (Some key) (Err result) pass.old.seat.me.0.upper pass.new.seat.me.0.upper }
+    requires ready { IsReady space.now pass.old }
+    requires tuned { IsTuned (sizes space.now) tuning.now }
+    requires looking { (key : List ℕ) × IsLooking (sizes space.now) (tree_of pass.old) key cursor }
+    requires many { (many ≡ length (shown_last pass.old).objects) × (tuning.now.leaf ≤ many) }
+    ensures frame { StaysReady space.now pass.old pass.new }
+    ensures further { IsFurther (tree_of pass.old) (tree_of pass.new) × IsKnown (sizes space.now) (tree_of pass.new) }
+    ensures same_seen { ((tree_of pass.new).seen ≡ (tree_of pass.old).seen) × ((tree_of pass.new).last ≡ (tree_of pass.old).last) }
+    ensures deep { result ≡ IsDeep → (sizes space.now).levels ≤ (shown_last pass.old).place.level }
+    ensures waits { Waits adapting.old adapting.new (tree_of pass.old) (tree_of pass.new) }
+    ensures counted { IsPaid spent.old spent.new (known pass.old) (known pass.new) }
+    ensures found { HasStopped {T = Unit {0}} (Err result) (known pass.old) (known pass.new) }
+    ensures grown { (key : List ℕ) → IsLooking (sizes space.now) (tree_of pass.old) key cursor → IsAlone (sizes space.now) (tree_of pass.old)
+        → HasGrown {T = Unit {0}} (sizes space.now) (Some key) (Err result) (tree_of pass.old) (tree_of pass.new) }
+    ensures won { (key : List ℕ) → IsLooking (sizes space.now) (tree_of pass.old) key cursor → IsAlone (sizes space.now) (tree_of pass.old)
+        → HasWonAs {T = Unit {0}} (λ _. true) (Err result) (tree_of pass.old) (tree_of pass.new) }
+    ensures cut { (key : List ℕ) → IsFullFor (sizes space.now) (Some key) (shown_last pass.old)
+        → HasCut {T = Unit {0}} (λ _. true) (sizes space.now) (Some key) (Err result) (tree_of pass.old) (tree_of pass.new) }
 {
     if cursor.level >= tuning.levels {
         return Stop::Deep;
@@ -319,31 +289,21 @@ pub(crate) fn remove_there(
     adapting: &mut Adapting,
     spent: &mut Spent,
 ) -> Result<(), Stop>
-    requires own { IsOf space.now.table.shared.table_id space.now.table.shared.key pass.old.seat }
-    requires pinned { pass.old.seat.me.0.pin.pinned ≡ true }
-    requires number { 0 < pass.old.seat.me.0.upper.number }
-    requires none { AreHeld space.now.table.shared.key.rows pass.old.kept.rows pass.old.seat.me.0 [] }
-    requires tuned { IsTuned space.now.table.shared.key tuning.now }
-    requires looking { IsLooking space.now.table.shared.key pass.old.seat.me.0.upper key.now cursor }
-    requires place { IsPlace (map pair (first_note pass.old.seat.me.0.upper.notes).objects) key.now (Ok at) }
-    ensures same { IsSame pass.old.seat pass.new.seat }
-    ensures number { pass.new.number ≡ pass.old.number }
-    ensures tally { IsTallied pass.old.tally pass.old.seat.me.0.upper → IsTallied pass.new.tally pass.new.seat.me.0.upper }
-    ensures pin { (pass.new.seat.me.0.sizes ≡ pass.old.seat.me.0.sizes) × (pass.new.seat.me.0.pin ≡ pass.old.seat.me.0.pin) }
-    ensures none { AreHeld space.now.table.shared.key.rows pass.new.kept.rows pass.new.seat.me.0 [] }
-    ensures tried { HasTriedTo (λ _ event. event ≡ Remove key.now (Some (object_at (Ok at) (first_note pass.old.seat.me.0.upper.notes).objects)))
-        space.now.table.shared.key result pass.old.seat.me.0.upper pass.new.seat.me.0.upper }
+    requires ready { IsReady space.now pass.old }
+    requires tuned { IsTuned (sizes space.now) tuning.now }
+    requires looking { IsLooking (sizes space.now) (tree_of pass.old) key.now cursor }
+    requires place { IsPlace (map pair (shown_last pass.old).objects) key.now (Ok at) }
+    ensures frame { StaysReady space.now pass.old pass.new }
+    ensures tried { HasTriedTo (λ _ event. event ≡ Remove key.now (Some (object_at (Ok at) (shown_last pass.old).objects))) (sizes space.now) result
+        (tree_of pass.old) (tree_of pass.new) }
     ensures deep { result ≢ Err IsDeep }
-    ensures met_as { MeetsAs (λ _. true) adapting.new.last result pass.old.seat.me pass.new.seat.me }
-    ensures gone_on { HasGoneOn (λ _. true) space.now.table.shared.key tuning.now adapting.old adapting.new result pass.old.seat.me.0.upper
-        pass.new.seat.me.0.upper }
-    ensures counted { IsPaid spent.old spent.new pass.old.seat.me pass.new.seat.me }
-    ensures found { HasStopped result pass.old.seat.me pass.new.seat.me }
-    ensures grown { IsAlone space.now.table.shared.key pass.old.seat.me.0.upper → HasGrown space.now.table.shared.key None result
-        pass.old.seat.me.0.upper pass.new.seat.me.0.upper }
-    ensures won { IsAlone space.now.table.shared.key pass.old.seat.me.0.upper → HasWonAs (λ _. true) result pass.old.seat.me.0.upper
-        pass.new.seat.me.0.upper }
-    ensures cut { HasCut (λ _. true) space.now.table.shared.key None result pass.old.seat.me.0.upper pass.new.seat.me.0.upper }
+    ensures met_as { MeetsAs (λ _. true) adapting.new.last result (known pass.old) (known pass.new) }
+    ensures gone_on { HasGoneOn (λ _. true) (sizes space.now) tuning.now adapting.old adapting.new result (tree_of pass.old) (tree_of pass.new) }
+    ensures counted { IsPaid spent.old spent.new (known pass.old) (known pass.new) }
+    ensures found { HasStopped result (known pass.old) (known pass.new) }
+    ensures grown { IsAlone (sizes space.now) (tree_of pass.old) → HasGrown (sizes space.now) None result (tree_of pass.old) (tree_of pass.new) }
+    ensures won { IsAlone (sizes space.now) (tree_of pass.old) → HasWonAs (λ _. true) result (tree_of pass.old) (tree_of pass.new) }
+    ensures cut { HasCut (λ _. true) (sizes space.now) None result (tree_of pass.old) (tree_of pass.new) }
 {
     let many = count(space, pass, cursor.base);
     let statistic = next_statistic(space, pass, tuning, cursor.base, adapting.lost);

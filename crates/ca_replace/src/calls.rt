@@ -6,13 +6,15 @@ ghost use Rattle.ca_replace.specs.declared.attempting.Stop.TheVariants.{Deep as 
 ghost use Rattle.ca_node.specs.Told.{IsAlone, with_upper};
 ghost use Rattle.ca_replace.specs.Attempting.{IsPaid, total, HasAttempted, HasDoneAs, HasMetBy, HasStopped, HasTriedTo, IfDeep, refused_as};
 ghost use Rattle.ca_replace.specs.Adapting.{HasGoneOn, HasMetAs, LeavesAs, MeetsAs};
-ghost use Rattle.ca_replace.specs.Causes.{IfRefusedAs, IsCaused, IsFull, KeepsFew};
+ghost use Rattle.ca_replace.specs.Causes.{IfRefusedAs, IsCaused, IsFull, KeepsFew, LagsOnce};
 ghost use Rattle.ca_replace.specs.Growing.{GrowsBy, HasGrown, HasGrownSoFar};
 ghost use Rattle.ca_replace.specs.Cutting.{HasCut, HasCutAs, HasCutSoFar};
 ghost use Rattle.ca_replace.specs.Winning.{HasWonAs, WinsAs};
 ghost use Rattle.ca_base.specs.Progress.{IsRefused};
-ghost use Rattle.ca_replace.specs.Refusals.{outcome_of, risen};
-ghost use Rattle.ca_replace.specs.Resting.{IsResting};
+ghost use Rattle.ca_replace.specs.Refusals.{risen};
+ghost use Rattle.ca_rows.specs.Passes.{sizes, known, view};
+ghost use Rattle.ca_node.specs.TreePasses.{tree_of};
+ghost use Rattle.ca_replace.specs.Resting.{IsAtRest, StaysAtRest};
 
 use crate::adapting::{Adapting, Last};
 use crate::attempting::{Attempt, Stop};
@@ -32,26 +34,23 @@ pub(crate) fn call<A: Attempt>(
     last: &mut Last,
     budget: u32,
 ) -> Outcome<A::Answer>
-    requires resting { IsResting tree.now.space.table.shared.table_id tree.now.space.table.shared.key pass.old.number pass.old.tally
-        pass.old.kept.rows pass.old.seat }
-    requires may { A.may what.now tree.now.space.table.shared.key }
-    ensures number { pass.new.number ≡ pass.old.number }
-    ensures resting { IsResting tree.now.space.table.shared.table_id tree.now.space.table.shared.key pass.new.number pass.new.tally
-        pass.new.kept.rows pass.new.seat }
-    ensures done { IfDone result (λ answer. HasDoneAs (A.tells what.now answer left.new) pass.old.seat.me.0.upper pass.new.seat.me.0.upper) }
-    ensures refused { IfRefused result (λ rise. IsRefused rise pass.old.seat.me.0.upper pass.new.seat.me.0.upper) }
+    requires resting { IsAtRest tree.now.space pass.old }
+    requires may { A.may what.now (sizes tree.now.space) }
+    ensures frame { StaysAtRest tree.now.space pass.old pass.new }
+    ensures done { IfDone result (λ answer. HasDoneAs (A.tells what.now answer left.new) (tree_of pass.old) (tree_of pass.new)) }
+    ensures refused { IfRefused result (λ rise. IsRefused rise (tree_of pass.old) (tree_of pass.new)) }
     ensures deep { IfDeep result (A.adds what.now ≢ None) }
     ensures busy { IfBusy result (λ spent. budget ≤ spent) }
-    ensures caused { IfRefusedAs result (λ why. IsCaused tree.now.space.table.shared.key pass.old.number budget (A.adds what.now)
-        why pass.old.seat.me pass.old.kept.rows pass.new.seat.me pass.new.kept.rows) }
-    ensures few { KeepsFew pass.old.seat.me pass.new.seat.me pass.new.kept.rows }
-    ensures met_as { HasMetAs (A.edits what.now) last.new result pass.old.seat.me pass.new.seat.me }
-    ensures leaves { LeavesAs (A.edits what.now) tree.now.space.table.shared.key tree.now.tuning last.old last.new result pass.old.seat.me.0.upper
-        pass.new.seat.me.0.upper }
-    ensures grows { tree.now.space.table.shared.key.passes ≡ 1 → GrowsBy (A.adds what.now) pass.old.seat.me.0.upper pass.new.seat.me.0.upper }
-    ensures wins { tree.now.space.table.shared.key.passes ≡ 1 → WinsAs (A.edits what.now) result pass.old.seat.me.0.upper pass.new.seat.me.0.upper }
-    ensures cut { HasCutAs (A.edits what.now) tree.now.space.table.shared.key (A.adds what.now) result pass.old.seat.me.0.upper
-        pass.new.seat.me.0.upper }
+    ensures caused { IfRefusedAs result (λ why. IsCaused (sizes tree.now.space) pass.old.number budget (A.adds what.now) why (known pass.old)
+        pass.old.kept.rows (known pass.new) pass.new.kept.rows) }
+    ensures few { KeepsFew (known pass.old) (known pass.new) pass.new.kept.rows }
+    ensures lags { LagsOnce (known pass.old) (known pass.new) }
+    ensures met_as { HasMetAs (A.edits what.now) last.new result (known pass.old) (known pass.new) }
+    ensures leaves { LeavesAs (A.edits what.now) (sizes tree.now.space) tree.now.tuning last.old last.new result (tree_of pass.old)
+        (tree_of pass.new) }
+    ensures grows { (sizes tree.now.space).passes ≡ 1 → GrowsBy (A.adds what.now) (tree_of pass.old) (tree_of pass.new) }
+    ensures wins { (sizes tree.now.space).passes ≡ 1 → WinsAs (A.edits what.now) result (tree_of pass.old) (tree_of pass.new) }
+    ensures cut { HasCutAs (A.edits what.now) (sizes tree.now.space) (A.adds what.now) result (tree_of pass.old) (tree_of pass.new) }
 {
     let mut spent = Spent {
         lost: 0,
@@ -104,26 +103,22 @@ fn attempts<A: Attempt>(
     adapting: &mut Adapting,
     spent: &mut Spent,
 ) -> Result<A::Answer, Refusal>
-    requires resting { IsResting tree.now.space.table.shared.table_id tree.now.space.table.shared.key pass.old.number pass.old.tally
-        pass.old.kept.rows pass.old.seat }
-    requires may { A.may what.now tree.now.space.table.shared.key }
+    requires resting { IsAtRest tree.now.space pass.old }
+    requires may { A.may what.now (sizes tree.now.space) }
     requires none { (spent.old.lost ≡ 0) × (spent.old.helped ≡ 0) × (spent.old.passed ≡ 0) }
-    ensures number { pass.new.number ≡ pass.old.number }
-    ensures resting { IsResting tree.now.space.table.shared.table_id tree.now.space.table.shared.key pass.new.number pass.new.tally
-        pass.new.kept.rows pass.new.seat }
-    ensures come { HasAttempted (λ answer. A.tells what.now answer left.new) result pass.old.seat.me.0.upper pass.new.seat.me.0.upper }
-    ensures caused { IfErr result (λ why. IsCaused tree.now.space.table.shared.key pass.old.number budget (A.adds what.now)
-        why pass.old.seat.me pass.old.kept.rows pass.new.seat.me pass.new.kept.rows) }
-    ensures few { KeepsFew pass.old.seat.me pass.new.seat.me pass.new.kept.rows }
-    ensures met_as { MeetsAs (A.edits what.now) adapting.new.last result pass.old.seat.me pass.new.seat.me }
-    ensures gone_on { HasGoneOn (A.edits what.now) tree.now.space.table.shared.key tree.now.tuning adapting.old adapting.new result pass.old.seat.me.0.upper
-        pass.new.seat.me.0.upper }
-    ensures grown { IsAlone tree.now.space.table.shared.key pass.old.seat.me.0.upper → HasGrownSoFar tree.now.space.table.shared.key (A.adds what.now) result
-        pass.old.seat.me.0.upper pass.new.seat.me.0.upper }
-    ensures won { IsAlone tree.now.space.table.shared.key pass.old.seat.me.0.upper → HasWonAs (A.edits what.now) result pass.old.seat.me.0.upper
-        pass.new.seat.me.0.upper }
-    ensures cut { HasCutSoFar (A.edits what.now) tree.now.space.table.shared.key (A.adds what.now) result pass.old.seat.me.0.upper
-        pass.new.seat.me.0.upper }
+    ensures frame { StaysAtRest tree.now.space pass.old pass.new }
+    ensures come { HasAttempted (λ answer. A.tells what.now answer left.new) result (tree_of pass.old) (tree_of pass.new) }
+    ensures caused { IfErr result (λ why. IsCaused (sizes tree.now.space) pass.old.number budget (A.adds what.now) why (known pass.old)
+        pass.old.kept.rows (known pass.new) pass.new.kept.rows) }
+    ensures few { KeepsFew (known pass.old) (known pass.new) pass.new.kept.rows }
+    ensures lags { LagsOnce (known pass.old) (known pass.new) }
+    ensures met_as { MeetsAs (A.edits what.now) adapting.new.last result (known pass.old) (known pass.new) }
+    ensures gone_on { HasGoneOn (A.edits what.now) (sizes tree.now.space) tree.now.tuning adapting.old adapting.new result (tree_of pass.old)
+        (tree_of pass.new) }
+    ensures grown { IsAlone (sizes tree.now.space) (tree_of pass.old)
+        → HasGrownSoFar (sizes tree.now.space) (A.adds what.now) result (tree_of pass.old) (tree_of pass.new) }
+    ensures won { IsAlone (sizes tree.now.space) (tree_of pass.old) → HasWonAs (A.edits what.now) result (tree_of pass.old) (tree_of pass.new) }
+    ensures cut { HasCutSoFar (A.edits what.now) (sizes tree.now.space) (A.adds what.now) result (tree_of pass.old) (tree_of pass.new) }
 {
     loop {
         let kept = pass.kept();
@@ -170,28 +165,22 @@ fn turns<A: Attempt>(
     adapting: &mut Adapting,
     spent: &mut Spent,
 ) -> Result<A::Answer, Stop>
-    requires resting { IsResting tree.now.space.table.shared.table_id tree.now.space.table.shared.key pass.old.number pass.old.tally
-        pass.old.kept.rows pass.old.seat }
-    requires may { A.may what.now tree.now.space.table.shared.key }
-    ensures number { pass.new.number ≡ pass.old.number }
-    ensures resting { IsResting tree.now.space.table.shared.table_id tree.now.space.table.shared.key pass.new.number pass.new.tally
-        pass.new.kept.rows pass.new.seat }
-    ensures tried { HasTriedTo (λ answer. A.tells what.now answer left.new) tree.now.space.table.shared.key result pass.old.seat.me.0.upper
-        pass.new.seat.me.0.upper }
-    ensures deep { result ≡ Err IsDeep → IsFull tree.now.space.table.shared.key (A.adds what.now) pass.new.seat.me.0.upper.last
-        (after pass.new.seat.me.0.upper.seen []) }
-    ensures met_as { MeetsAs (A.edits what.now) adapting.new.last result pass.old.seat.me pass.new.seat.me }
-    ensures gone_on { HasGoneOn (A.edits what.now) tree.now.space.table.shared.key tree.now.tuning adapting.old adapting.new result pass.old.seat.me.0.upper
-        pass.new.seat.me.0.upper }
-    ensures grown { IsAlone tree.now.space.table.shared.key pass.old.seat.me.0.upper → HasGrownSoFar tree.now.space.table.shared.key (A.adds what.now) result
-        pass.old.seat.me.0.upper pass.new.seat.me.0.upper }
-    ensures won { IsAlone tree.now.space.table.shared.key pass.old.seat.me.0.upper → HasWonAs (A.edits what.now) result pass.old.seat.me.0.upper
-        pass.new.seat.me.0.upper }
-    ensures cut { HasCutSoFar (A.edits what.now) tree.now.space.table.shared.key (A.adds what.now) result pass.old.seat.me.0.upper
-        pass.new.seat.me.0.upper }
-    ensures counted { IsPaid spent.old spent.new pass.old.seat.me pass.new.seat.me }
-    ensures found { HasMetBy result pass.old.seat.me pass.new.seat.me }
-    ensures looks { pass.new.seat.me.0.pin.looks ≡ pass.old.seat.me.0.pin.looks }
+    requires resting { IsAtRest tree.now.space pass.old }
+    requires may { A.may what.now (sizes tree.now.space) }
+    ensures frame { StaysAtRest tree.now.space pass.old pass.new }
+    ensures tried { HasTriedTo (λ answer. A.tells what.now answer left.new) (sizes tree.now.space) result (tree_of pass.old) (tree_of pass.new) }
+    ensures deep { result ≡ Err IsDeep → IsFull (sizes tree.now.space) (A.adds what.now) (tree_of pass.new).last (after (tree_of pass.new).seen []) }
+    ensures met_as { MeetsAs (A.edits what.now) adapting.new.last result (known pass.old) (known pass.new) }
+    ensures gone_on { HasGoneOn (A.edits what.now) (sizes tree.now.space) tree.now.tuning adapting.old adapting.new result (tree_of pass.old)
+        (tree_of pass.new) }
+    ensures grown { IsAlone (sizes tree.now.space) (tree_of pass.old)
+        → HasGrownSoFar (sizes tree.now.space) (A.adds what.now) result (tree_of pass.old) (tree_of pass.new) }
+    ensures won { IsAlone (sizes tree.now.space) (tree_of pass.old) → HasWonAs (A.edits what.now) result (tree_of pass.old) (tree_of pass.new) }
+    ensures cut { HasCutSoFar (A.edits what.now) (sizes tree.now.space) (A.adds what.now) result (tree_of pass.old) (tree_of pass.new) }
+    ensures counted { IsPaid spent.old spent.new (known pass.old) (known pass.new) }
+    ensures found { HasMetBy result (known pass.old) (known pass.new) }
+    ensures looks { (view pass.new).pin.looks ≡ (view pass.old).pin.looks }
+    ensures lags { (view pass.new).pin.lags ≡ (view pass.old).pin.lags }
     ensures lost { result ≡ Err IsLost → budget ≤ total spent.new }
     ensures no_split { result ≢ Err IsSplit }
 {
@@ -221,27 +210,22 @@ fn once<A: Attempt>(
     adapting: &mut Adapting,
     spent: &mut Spent,
 ) -> Result<A::Answer, Stop>
-    requires resting { IsResting tree.now.space.table.shared.table_id tree.now.space.table.shared.key pass.old.number pass.old.tally
-        pass.old.kept.rows pass.old.seat }
-    requires may { A.may what.now tree.now.space.table.shared.key }
-    ensures number { pass.new.number ≡ pass.old.number }
-    ensures resting { IsResting tree.now.space.table.shared.table_id tree.now.space.table.shared.key pass.new.number pass.new.tally
-        pass.new.kept.rows pass.new.seat }
-    ensures tried { HasTriedTo (λ answer. A.tells what.now answer left.new) tree.now.space.table.shared.key result pass.old.seat.me.0.upper
-        pass.new.seat.me.0.upper }
-    ensures deep { result ≡ Err IsDeep → IsFull tree.now.space.table.shared.key (A.adds what.now) pass.new.seat.me.0.upper.last
-        (after pass.new.seat.me.0.upper.seen []) }
-    ensures met_as { MeetsAs (A.edits what.now) adapting.new.last result pass.old.seat.me pass.new.seat.me }
-    ensures gone_on { HasGoneOn (A.edits what.now) tree.now.space.table.shared.key tree.now.tuning adapting.old adapting.new result pass.old.seat.me.0.upper
-        pass.new.seat.me.0.upper }
-    ensures grown { IsAlone tree.now.space.table.shared.key pass.old.seat.me.0.upper → HasGrown tree.now.space.table.shared.key (A.adds what.now) result
-        pass.old.seat.me.0.upper pass.new.seat.me.0.upper }
-    ensures won { IsAlone tree.now.space.table.shared.key pass.old.seat.me.0.upper → HasWonAs (A.edits what.now) result pass.old.seat.me.0.upper
-        pass.new.seat.me.0.upper }
-    ensures cut { HasCut (A.edits what.now) tree.now.space.table.shared.key (A.adds what.now) result pass.old.seat.me.0.upper pass.new.seat.me.0.upper }
-    ensures counted { IsPaid spent.old spent.new pass.old.seat.me pass.new.seat.me }
-    ensures found { HasStopped result pass.old.seat.me pass.new.seat.me }
-    ensures looks { pass.new.seat.me.0.pin.looks ≡ pass.old.seat.me.0.pin.looks }
+    requires resting { IsAtRest tree.now.space pass.old }
+    requires may { A.may what.now (sizes tree.now.space) }
+    ensures frame { StaysAtRest tree.now.space pass.old pass.new }
+    ensures tried { HasTriedTo (λ answer. A.tells what.now answer left.new) (sizes tree.now.space) result (tree_of pass.old) (tree_of pass.new) }
+    ensures deep { result ≡ Err IsDeep → IsFull (sizes tree.now.space) (A.adds what.now) (tree_of pass.new).last (after (tree_of pass.new).seen []) }
+    ensures met_as { MeetsAs (A.edits what.now) adapting.new.last result (known pass.old) (known pass.new) }
+    ensures gone_on { HasGoneOn (A.edits what.now) (sizes tree.now.space) tree.now.tuning adapting.old adapting.new result (tree_of pass.old)
+        (tree_of pass.new) }
+    ensures grown { IsAlone (sizes tree.now.space) (tree_of pass.old)
+        → HasGrown (sizes tree.now.space) (A.adds what.now) result (tree_of pass.old) (tree_of pass.new) }
+    ensures won { IsAlone (sizes tree.now.space) (tree_of pass.old) → HasWonAs (A.edits what.now) result (tree_of pass.old) (tree_of pass.new) }
+    ensures cut { HasCut (A.edits what.now) (sizes tree.now.space) (A.adds what.now) result (tree_of pass.old) (tree_of pass.new) }
+    ensures counted { IsPaid spent.old spent.new (known pass.old) (known pass.new) }
+    ensures found { HasStopped result (known pass.old) (known pass.new) }
+    ensures looks { (view pass.new).pin.looks ≡ (view pass.old).pin.looks }
+    ensures lags { (view pass.new).pin.lags ≡ (view pass.old).pin.lags }
 {
     let space = &tree.space;
     space.pin(pass);
@@ -252,14 +236,11 @@ fn once<A: Attempt>(
 
 // Counts a refusal.
 fn give_up(tree: &Tree, pass: &mut TreePass, why: Refusal)
-    requires resting { IsResting tree.now.space.table.shared.table_id tree.now.space.table.shared.key pass.old.number pass.old.tally
-        pass.old.kept.rows pass.old.seat }
-    ensures number { pass.new.number ≡ pass.old.number }
-    ensures resting { IsResting tree.now.space.table.shared.table_id tree.now.space.table.shared.key pass.new.number pass.new.tally
-        pass.new.kept.rows pass.new.seat }
+    requires resting { IsAtRest tree.now.space pass.old }
+    ensures frame { StaysAtRest tree.now.space pass.old pass.new }
     ensures kept { pass.new.kept ≡ pass.old.kept }
-    ensures counted { pass.new.seat.me ≡ with_upper pass.old.seat.me (record pass.old.seat.me.0.upper { counts = risen why pass.old.seat.me.0.upper.counts }) }
-    ensures refused { IsRefused (risen why) pass.old.seat.me.0.upper pass.new.seat.me.0.upper }
+    ensures counted { known pass.new ≡ with_upper (known pass.old) (record (tree_of pass.old) { counts = risen why (tree_of pass.old).counts }) }
+    ensures refused { IsRefused (risen why) (tree_of pass.old) (tree_of pass.new) }
 {
     refuse(&tree.space, pass, why);
 }

@@ -1,5 +1,5 @@
 //! The call that changes a key's object.
-ghost use Rattle.std.specs.Prelude.{◌≡◌, ◌≤◌, None, [], length};
+ghost use Rattle.std.specs.Prelude.{◌≡◌, ◌≤◌, None, []};
 ghost use Rattle.ca_model.specs.Answer.{IfBusy, IfDone, IfRefused, IsNeverDeep};
 ghost use Rattle.ca_model.specs.Function.{KeepsKey};
 ghost use Rattle.ca_replace.specs.Attempting.{HasDoneAs};
@@ -7,10 +7,12 @@ ghost use Rattle.ca_base.specs.Progress.{IsRefused};
 ghost use Rattle.ca_replace.specs.Adapting.{HasMetAs, LeavesAs, is_put};
 ghost use Rattle.ca_replace.specs.Growing.{Grows};
 ghost use Rattle.ca_replace.specs.Winning.{WinsAs};
-ghost use Rattle.ca_replace.specs.Causes.{IfRefusedAs, IsCaused, KeepsFew};
+ghost use Rattle.ca_replace.specs.Causes.{IfRefusedAs, IsCaused, KeepsFew, LagsOnce};
 ghost use Rattle.ca_replace.specs.Cutting.{HasCutAs};
-ghost use Rattle.ca_replace.specs.Resting.{IsResting};
 ghost use Rattle.ca_replace.specs.Tells.{Alters};
+ghost use Rattle.ca_rows.specs.Passes.{sizes, known};
+ghost use Rattle.ca_node.specs.TreePasses.{tree_of};
+ghost use Rattle.ca_replace.specs.Resting.{IsAtRest, StaysAtRest};
 
 use crate::adapting::{Adapting, Last};
 use crate::attempting::{Attempt, Stop, fetch, put_there};
@@ -102,26 +104,23 @@ pub(crate) fn change<F: Fn(&[u8], &mut Code, &mut usize) -> bool>(
     last: &mut Last,
     budget: u32,
 ) -> Outcome<Changed>
-    requires resting { IsResting tree.now.space.table.shared.table_id tree.now.space.table.shared.key pass.old.number pass.old.tally
-        pass.old.kept.rows pass.old.seat }
-    requires function { KeepsKey F.Fn f.now tree.now.space.table.shared.key.keypos key.now }
-    ensures number { pass.new.number ≡ pass.old.number }
-    ensures resting { IsResting tree.now.space.table.shared.table_id tree.now.space.table.shared.key pass.new.number pass.new.tally
-        pass.new.kept.rows pass.new.seat }
-    ensures changed { IfDone result (λ changed. HasDoneAs (Alters F.Fn f.now key.now changed old.new.items) pass.old.seat.me.0.upper pass.new.seat.me.0.upper) }
-    ensures refused { IfRefused result (λ rise. IsRefused rise pass.old.seat.me.0.upper pass.new.seat.me.0.upper) }
+    requires resting { IsAtRest tree.now.space pass.old }
+    requires function { KeepsKey F.Fn f.now (sizes tree.now.space).keypos key.now }
+    ensures frame { StaysAtRest tree.now.space pass.old pass.new }
+    ensures changed { IfDone result (λ changed. HasDoneAs (Alters F.Fn f.now key.now changed old.new.items) (tree_of pass.old) (tree_of pass.new)) }
+    ensures refused { IfRefused result (λ rise. IsRefused rise (tree_of pass.old) (tree_of pass.new)) }
     ensures emptied { IfRefused result (λ _. old.new.items ≡ []) }
     ensures never_deep { IsNeverDeep result }
     ensures busy { IfBusy result (λ spent. budget ≤ spent) }
-    ensures caused { IfRefusedAs result (λ why. IsCaused tree.now.space.table.shared.key pass.old.number budget None
-        why pass.old.seat.me pass.old.kept.rows pass.new.seat.me pass.new.kept.rows) }
-    ensures few { KeepsFew pass.old.seat.me pass.new.seat.me pass.new.kept.rows }
-    ensures met_as { HasMetAs is_put last.new result pass.old.seat.me pass.new.seat.me }
-    ensures leaves { LeavesAs is_put tree.now.space.table.shared.key tree.now.tuning last.old last.new result pass.old.seat.me.0.upper
-        pass.new.seat.me.0.upper }
-    ensures grows { tree.now.space.table.shared.key.passes ≡ 1 → Grows 1 3 1 pass.old.seat.me.0.upper pass.new.seat.me.0.upper }
-    ensures wins { tree.now.space.table.shared.key.passes ≡ 1 → WinsAs is_put result pass.old.seat.me.0.upper pass.new.seat.me.0.upper }
-    ensures cut { HasCutAs is_put tree.now.space.table.shared.key None result pass.old.seat.me.0.upper pass.new.seat.me.0.upper }
+    ensures caused { IfRefusedAs result (λ why. IsCaused (sizes tree.now.space) pass.old.number budget None why (known pass.old) pass.old.kept.rows
+        (known pass.new) pass.new.kept.rows) }
+    ensures few { KeepsFew (known pass.old) (known pass.new) pass.new.kept.rows }
+    ensures lags { LagsOnce (known pass.old) (known pass.new) }
+    ensures met_as { HasMetAs is_put last.new result (known pass.old) (known pass.new) }
+    ensures leaves { LeavesAs is_put (sizes tree.now.space) tree.now.tuning last.old last.new result (tree_of pass.old) (tree_of pass.new) }
+    ensures grows { (sizes tree.now.space).passes ≡ 1 → Grows 1 3 1 (tree_of pass.old) (tree_of pass.new) }
+    ensures wins { (sizes tree.now.space).passes ≡ 1 → WinsAs is_put result (tree_of pass.old) (tree_of pass.new) }
+    ensures cut { HasCutAs is_put (sizes tree.now.space) None result (tree_of pass.old) (tree_of pass.new) }
 {
     let what = ChangeCall { key, f };
     let mut new = Code::new();

@@ -3,7 +3,8 @@ ghost use Rattle.std.specs.Prelude.{◌≡◌, ◌≤◌, [], None};
 ghost use Rattle.ca_model.specs.Event.{Event, Get};
 ghost use Rattle.ca_node.specs.Told.{IsReadNow, ReadsLast, with_upper, entered};
 ghost use Rattle.ca_replace.specs.Reads.{event_of};
-ghost use Rattle.ca_rows.specs.Calls.{IsOf, IsSame};
+ghost use Rattle.ca_rows.specs.Passes.{IsOn, KeepsList, sizes, known};
+ghost use Rattle.ca_node.specs.TreePasses.{tree_of};
 
 use atomic_table::Play;
 use ca_node::{Knowledge, TreePass, TreeSpace};
@@ -48,28 +49,22 @@ impl<K: Entered> Play<(), View<Knowledge>> for ReadLast<K> {
 // Ends a call that edits nothing, by one load of a row's first word: the call is entered in the log, at the place as far as which the pass
 // has seen the history. Its answer must be that of the last state seen.
 pub(crate) fn enter(space: &TreeSpace, pass: &mut TreePass, row: u32, read: Read<'_>)
-    requires own { IsOf space.now.table.shared.table_id space.now.table.shared.key pass.old.seat }
-    requires inside { row ≤ space.now.table.shared.key.rows }
-    requires answer { IsReadNow (event_of read) pass.old.seat.me.0.upper }
-    ensures same { IsSame pass.old.seat pass.new.seat }
-    ensures number { pass.new.number ≡ pass.old.number }
-    ensures tally { pass.new.tally ≡ pass.old.tally }
-    ensures kept { pass.new.kept ≡ pass.old.kept }
-    ensures entered { pass.new.seat.me ≡ with_upper pass.old.seat.me (entered pass.old.seat.me.0.upper (event_of read.entry)) }
+    requires own { IsOn space.now pass.old }
+    requires inside { row ≤ (sizes space.now).rows }
+    requires answer { IsReadNow (event_of read) (tree_of pass.old) }
+    ensures frame { KeepsList pass.old pass.new }
+    ensures entered { known pass.new ≡ with_upper (known pass.old) (entered (tree_of pass.old) (event_of read.entry)) }
 {
     enter_as::<Brand>(space, pass, row, read);
 }
 
 // The load that enters the event which K names.
 fn enter_as<K: Entered>(space: &TreeSpace, pass: &mut TreePass, row: u32, _read: Read<'_>)
-    requires own { IsOf space.now.table.shared.table_id space.now.table.shared.key pass.old.seat }
-    requires inside { row ≤ space.now.table.shared.key.rows }
-    requires answer { IsReadNow K.event pass.old.seat.me.0.upper }
-    ensures same { IsSame pass.old.seat pass.new.seat }
-    ensures number { pass.new.number ≡ pass.old.number }
-    ensures tally { pass.new.tally ≡ pass.old.tally }
-    ensures kept { pass.new.kept ≡ pass.old.kept }
-    ensures entered { pass.new.seat.me ≡ with_upper pass.old.seat.me (entered pass.old.seat.me.0.upper K.event) }
+    requires own { IsOn space.now pass.old }
+    requires inside { row ≤ (sizes space.now).rows }
+    requires answer { IsReadNow K.event (tree_of pass.old) }
+    ensures frame { KeepsList pass.old pass.new }
+    ensures entered { known pass.new ≡ with_upper (known pass.old) (entered (tree_of pass.old) K.event) }
 {
     space.load::<ReadLast<K>>(pass, 136 * row);
 }

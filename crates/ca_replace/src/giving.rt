@@ -1,11 +1,13 @@
 //! Passes between two calls give back the rows that they keep.
 ghost use Rattle.std.specs.Prelude.{◌≡◌, ◌⊎◌, ◌↔◌, false, ◌+◌, ◌<◌, ◌≤◌, min, IfErr, IsErr, IsOk, IsTrue, vec_len};
 ghost use Rattle.std.specs.declared.option.Option.TheVariants.{None};
-ghost use Rattle.ca_base.specs.Counting.{HasMet};
+ghost use Rattle.ca_base.specs.Counting.{losses, HasMet};
 ghost use Rattle.ca_replace.specs.Attempting.{IsPaid, total};
-ghost use Rattle.ca_replace.specs.Causes.{HasLooked, IsRefill, KeepsFew};
-ghost use Rattle.ca_replace.specs.Resting.{IsResting};
-ghost use Rattle.ca_rows.specs.Reclaiming.{IsLag, Reclaims};
+ghost use Rattle.ca_replace.specs.Causes.{HasLooked, IsRefill, KeepsFew, LagsOnce};
+ghost use Rattle.ca_rows.specs.Reclaiming.{IsLag, lag_count, Reclaims};
+ghost use Rattle.ca_rows.specs.Passes.{sizes, known, view};
+ghost use Rattle.ca_node.specs.TreePasses.{tree_of};
+ghost use Rattle.ca_replace.specs.Resting.{IsAtRest, StaysAtRest};
 
 use crate::refusing::Refusal;
 use crate::tree::Tree;
@@ -21,15 +23,13 @@ const LAST_EPOCH: u64 = 1 << 62;
 
 /// Gives rows back where the pass keeps many, and answers how many exchanges it lost by that.
 pub(crate) fn keep_few(tree: &Tree, pass: &mut TreePass) -> u32
-    requires resting { IsResting tree.now.space.table.shared.table_id tree.now.space.table.shared.key pass.old.number pass.old.tally
-        pass.old.kept.rows pass.old.seat }
-    ensures number { pass.new.number ≡ pass.old.number }
-    ensures resting { IsResting tree.now.space.table.shared.table_id tree.now.space.table.shared.key pass.new.number pass.new.tally
-        pass.new.kept.rows pass.new.seat }
-    ensures upper { pass.new.seat.me.0.upper ≡ pass.old.seat.me.0.upper }
-    ensures few { KeepsFew pass.old.seat.me pass.new.seat.me pass.new.kept.rows }
-    ensures lost { pass.new.seat.me.0.lost ≡ pass.old.seat.me.0.lost + result }
-    ensures met { HasMet 0 0 pass.old.seat.me pass.new.seat.me }
+    requires resting { IsAtRest tree.now.space pass.old }
+    ensures frame { StaysAtRest tree.now.space pass.old pass.new }
+    ensures upper { tree_of pass.new ≡ tree_of pass.old }
+    ensures few { KeepsFew (known pass.old) (known pass.new) pass.new.kept.rows }
+    ensures lost { (view pass.new).lost ≡ (view pass.old).lost + result }
+    ensures met { HasMet 0 0 (known pass.old) (known pass.new) }
+    ensures lags { LagsOnce (known pass.old) (known pass.new) }
 {
     if pass.kept() < MANY {
         return 0;
@@ -46,19 +46,19 @@ pub(crate) fn refill(
     budget: u32,
     spent: &mut Spent,
 ) -> Result<(), Refusal>
-    requires resting { IsResting tree.now.space.table.shared.table_id tree.now.space.table.shared.key pass.old.number pass.old.tally
-        pass.old.kept.rows pass.old.seat }
-    ensures number { pass.new.number ≡ pass.old.number }
-    ensures resting { IsResting tree.now.space.table.shared.table_id tree.now.space.table.shared.key pass.new.number pass.new.tally
-        pass.new.kept.rows pass.new.seat }
-    ensures upper { pass.new.seat.me.0.upper ≡ pass.old.seat.me.0.upper }
-    ensures counted { IsPaid spent.old spent.new pass.old.seat.me pass.new.seat.me }
-    ensures met { HasMet 0 0 pass.old.seat.me pass.new.seat.me }
+    requires resting { IsAtRest tree.now.space pass.old }
+    ensures frame { StaysAtRest tree.now.space pass.old pass.new }
+    ensures upper { tree_of pass.new ≡ tree_of pass.old }
+    ensures counted { IsPaid spent.old spent.new (known pass.old) (known pass.new) }
+    ensures met { HasMet 0 0 (known pass.old) (known pass.new) }
     ensures again { IsOk result → (0 < kept) × (total spent.new < budget) × ((vec_len pass.new.kept.rows ≡ 0) ⊎ (total spent.old < total spent.new)) }
-    ensures looked { HasLooked pass.old.seat.me pass.new.seat.me }
-    ensures refused { IfErr result (λ why. IsRefill tree.now.space.table.shared.key.passes pass.old.number budget kept spent.new
-        why pass.old.seat.me pass.new.seat.me pass.new.kept.rows) }
-    ensures few { IsErr result → KeepsFew pass.old.seat.me pass.new.seat.me pass.new.kept.rows }
+    ensures begins { IsOk result → (vec_len pass.new.kept.rows ≡ 0) ⊎ (losses (known pass.old) < losses (known pass.new)) }
+    ensures unlagged { IsOk result → (view pass.new).pin.lags ≡ (view pass.old).pin.lags }
+    ensures lags { LagsOnce (known pass.old) (known pass.new) }
+    ensures looked { HasLooked (known pass.old) (known pass.new) }
+    ensures refused { IfErr result (λ why. IsRefill (sizes tree.now.space).passes pass.old.number budget kept spent.new why (known pass.old)
+        (known pass.new) pass.new.kept.rows) }
+    ensures few { IsErr result → KeepsFew (known pass.old) (known pass.new) pass.new.kept.rows }
 {
     let given = give_back_kept(tree, pass);
     spent.lost = add(spent.lost, given.losses);
@@ -79,19 +79,17 @@ pub(crate) fn refill(
 
 // Gives back rows that a pass keeps between two calls.
 fn give_back_kept(tree: &Tree, pass: &mut TreePass) -> Reclaimed
-    requires resting { IsResting tree.now.space.table.shared.table_id tree.now.space.table.shared.key pass.old.number pass.old.tally
-        pass.old.kept.rows pass.old.seat }
-    ensures number { pass.new.number ≡ pass.old.number }
-    ensures resting { IsResting tree.now.space.table.shared.table_id tree.now.space.table.shared.key pass.new.number pass.new.tally
-        pass.new.kept.rows pass.new.seat }
-    ensures reclaims { Reclaims pass.old.seat.me pass.new.seat.me }
-    ensures looked { HasLooked pass.old.seat.me pass.new.seat.me }
+    requires resting { IsAtRest tree.now.space pass.old }
+    ensures frame { StaysAtRest tree.now.space pass.old pass.new }
+    ensures reclaims { Reclaims (known pass.old) (known pass.new) }
+    ensures looked { HasLooked (known pass.old) (known pass.new) }
     ensures kept { result.kept ≡ vec_len pass.new.kept.rows }
-    ensures lag { IsLag tree.now.space.table.shared.key.passes pass.old.number result.lag pass.new.seat.me.0.pin }
-    ensures losses { pass.new.seat.me.0.lost ≡ pass.old.seat.me.0.lost + result.losses }
-    ensures epoch { result.epoch ≡ pass.new.seat.me.0.pin.scan }
+    ensures lag { IsLag (sizes tree.now.space).passes pass.old.number result.lag (view pass.new).pin }
+    ensures lags { (view pass.new).pin.lags ≡ (view pass.old).pin.lags + lag_count result.lag }
+    ensures losses { (view pass.new).lost ≡ (view pass.old).lost + result.losses }
+    ensures epoch { result.epoch ≡ (view pass.new).pin.scan }
     ensures lost { IsTrue result.lost ↔ 0 < result.losses }
-    ensures all { result.lag ≡ None → result.lost ≡ false → pass.new.seat.me.0.pin.scan < 4611686018427387904 → result.kept ≡ 0 }
+    ensures all { result.lag ≡ None → result.lost ≡ false → (view pass.new).pin.scan < 4611686018427387904 → result.kept ≡ 0 }
 {
     tree.space.reclaim(pass)
 }

@@ -6,7 +6,8 @@ ghost use Rattle.ca_node.specs.TreeView.{Note};
 ghost use Rattle.ca_base.specs.Finding.{HasPlace, IsReadable};
 ghost use Rattle.ca_replace.specs.Attempting.{IsLooking};
 ghost use Rattle.ca_replace.specs.Reads.{get_event};
-ghost use Rattle.ca_rows.specs.Calls.{IsOf, IsSame};
+ghost use Rattle.ca_rows.specs.Passes.{OnlyReads, IsReading, KeepsList, sizes, known};
+ghost use Rattle.ca_node.specs.TreePasses.{tree_of};
 
 use crate::ending::{Read, enter};
 use ca_base::{copy_object, item, search};
@@ -22,15 +23,11 @@ pub(crate) fn look_up(
     key: &[u8],
     into: &mut Code,
 ) -> bool
-    requires own { IsOf space.now.table.shared.table_id space.now.table.shared.key pass.old.seat }
-    requires pinned { pass.old.seat.me.0.pin.pinned ≡ true }
-    requires looking { IsLooking space.now.table.shared.key pass.old.seat.me.0.upper key.now cursor }
-    ensures same { IsSame pass.old.seat pass.new.seat }
-    ensures number { pass.new.number ≡ pass.old.number }
-    ensures tally { pass.new.tally ≡ pass.old.tally }
-    ensures kept { pass.new.kept ≡ pass.old.kept }
-    ensures answer { IsReadNow (get_event key.now result into.new.items) pass.old.seat.me.0.upper }
-    ensures entered { pass.new.seat.me ≡ with_upper pass.old.seat.me (entered pass.old.seat.me.0.upper (get_event key.now result into.new.items)) }
+    requires reading { IsReading space.now pass.old }
+    requires looking { IsLooking (sizes space.now) (tree_of pass.old) key.now cursor }
+    ensures frame { KeepsList pass.old pass.new }
+    ensures answer { IsReadNow (get_event key.now result into.new.items) (tree_of pass.old) }
+    ensures entered { known pass.new ≡ with_upper (known pass.old) (entered (tree_of pass.old) (get_event key.now result into.new.items)) }
     ensures emptied { result ≡ false → into.new.items ≡ [] }
 {
     let base = cursor.base;
@@ -52,15 +49,10 @@ pub(crate) fn copy_at(
     place: u32,
     into: &mut Code,
 )
-    requires own { IsOf space.now.table.shared.table_id space.now.table.shared.key pass.old.seat }
-    requires pinned { pass.old.seat.me.0.pin.pinned ≡ true }
-    requires readable { HasPlace space.now.table.shared.key pass.old.seat.me.0.upper base place }
-    ensures same { IsSame pass.old.seat pass.new.seat }
-    ensures number { pass.new.number ≡ pass.old.number }
-    ensures tally { pass.new.tally ≡ pass.old.tally }
-    ensures kept { pass.new.kept ≡ pass.old.kept }
-    ensures still { pass.new.seat.me ≡ pass.old.seat.me }
-    ensures object { (note : Note) → IsReadable space.now.table.shared.key pass.old.seat.me.0.upper base note → place < length note.objects
+    requires reading { IsReading space.now pass.old }
+    requires readable { HasPlace (sizes space.now) (tree_of pass.old) base place }
+    ensures frame { OnlyReads pass.old pass.new }
+    ensures object { (note : Note) → IsReadable (sizes space.now) (tree_of pass.old) base note → place < length note.objects
         → into.new.items ≡ object (slice_index_or note.objects place []) }
 {
     let row = item(space, pass, base, place);

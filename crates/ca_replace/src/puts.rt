@@ -8,9 +8,11 @@ ghost use Rattle.ca_base.specs.Progress.{HasDone, IsRefused};
 ghost use Rattle.ca_replace.specs.Adapting.{HasMetAs, LeavesAs};
 ghost use Rattle.ca_replace.specs.Growing.{Grows};
 ghost use Rattle.ca_replace.specs.Winning.{WinsAs};
-ghost use Rattle.ca_replace.specs.Causes.{IfRefusedAs, IsCaused, KeepsFew};
+ghost use Rattle.ca_replace.specs.Causes.{IfRefusedAs, IsCaused, KeepsFew, LagsOnce};
 ghost use Rattle.ca_replace.specs.Cutting.{HasCutAs};
-ghost use Rattle.ca_replace.specs.Resting.{IsResting};
+ghost use Rattle.ca_rows.specs.Passes.{sizes, known};
+ghost use Rattle.ca_node.specs.TreePasses.{tree_of};
+ghost use Rattle.ca_replace.specs.Resting.{IsAtRest, StaysAtRest};
 
 use crate::adapting::{Adapting, Last};
 use crate::attempting::{Attempt, Stop, find, put_there};
@@ -125,26 +127,23 @@ pub(crate) fn put(
     last: &mut Last,
     budget: u32,
 ) -> Outcome<()>
-    requires resting { IsResting tree.now.space.table.shared.table_id tree.now.space.table.shared.key pass.old.number pass.old.tally
-        pass.old.kept.rows pass.old.seat }
+    requires resting { IsAtRest tree.now.space pass.old }
     requires within { (key_at ≤ key_end) × (key_end ≤ length object.now) }
-    requires pair { IsPair tree.now.space.table.shared.key.keypos (slice_range object.now key_at key_end, object.now) }
-    ensures number { pass.new.number ≡ pass.old.number }
-    ensures resting { IsResting tree.now.space.table.shared.table_id tree.now.space.table.shared.key pass.new.number pass.new.tally
-        pass.new.kept.rows pass.new.seat }
-    ensures put { IfDone result (λ _. HasDone (Write (slice_range object.now key_at key_end) object.now) pass.old.seat.me.0.upper pass.new.seat.me.0.upper) }
-    ensures refused { IfRefused result (λ rise. IsRefused rise pass.old.seat.me.0.upper pass.new.seat.me.0.upper) }
+    requires pair { IsPair (sizes tree.now.space).keypos (slice_range object.now key_at key_end, object.now) }
+    ensures frame { StaysAtRest tree.now.space pass.old pass.new }
+    ensures put { IfDone result (λ _. HasDone (Write (slice_range object.now key_at key_end) object.now) (tree_of pass.old) (tree_of pass.new)) }
+    ensures refused { IfRefused result (λ rise. IsRefused rise (tree_of pass.old) (tree_of pass.new)) }
     ensures busy { IfBusy result (λ spent. budget ≤ spent) }
-    ensures caused { IfRefusedAs result (λ why. IsCaused tree.now.space.table.shared.key pass.old.number budget (Some (slice_range object.now key_at key_end))
-        why pass.old.seat.me pass.old.kept.rows pass.new.seat.me pass.new.kept.rows) }
-    ensures few { KeepsFew pass.old.seat.me pass.new.seat.me pass.new.kept.rows }
-    ensures met_as { HasMetAs (λ _. true) last.new result pass.old.seat.me pass.new.seat.me }
-    ensures leaves { LeavesAs (λ _. true) tree.now.space.table.shared.key tree.now.tuning last.old last.new result pass.old.seat.me.0.upper
-        pass.new.seat.me.0.upper }
-    ensures grows { tree.now.space.table.shared.key.passes ≡ 1 → Grows 2 5 2 pass.old.seat.me.0.upper pass.new.seat.me.0.upper }
-    ensures wins { tree.now.space.table.shared.key.passes ≡ 1 → WinsAs (λ _. true) result pass.old.seat.me.0.upper pass.new.seat.me.0.upper }
-    ensures cut { HasCutAs (λ _. true) tree.now.space.table.shared.key (Some (slice_range object.now key_at key_end)) result pass.old.seat.me.0.upper
-        pass.new.seat.me.0.upper }
+    ensures caused { IfRefusedAs result (λ why. IsCaused (sizes tree.now.space) pass.old.number budget (Some (slice_range object.now key_at
+        key_end)) why (known pass.old) pass.old.kept.rows (known pass.new) pass.new.kept.rows) }
+    ensures few { KeepsFew (known pass.old) (known pass.new) pass.new.kept.rows }
+    ensures lags { LagsOnce (known pass.old) (known pass.new) }
+    ensures met_as { HasMetAs (λ _. true) last.new result (known pass.old) (known pass.new) }
+    ensures leaves { LeavesAs (λ _. true) (sizes tree.now.space) tree.now.tuning last.old last.new result (tree_of pass.old) (tree_of pass.new) }
+    ensures grows { (sizes tree.now.space).passes ≡ 1 → Grows 2 5 2 (tree_of pass.old) (tree_of pass.new) }
+    ensures wins { (sizes tree.now.space).passes ≡ 1 → WinsAs (λ _. true) result (tree_of pass.old) (tree_of pass.new) }
+    ensures cut { HasCutAs (λ _. true) (sizes tree.now.space) (Some (slice_range object.now key_at key_end)) result (tree_of pass.old)
+        (tree_of pass.new) }
 {
     let what = PutCall {
         object,
@@ -164,27 +163,24 @@ pub(crate) fn put_new(
     last: &mut Last,
     budget: u32,
 ) -> Outcome<bool>
-    requires resting { IsResting tree.now.space.table.shared.table_id tree.now.space.table.shared.key pass.old.number pass.old.tally
-        pass.old.kept.rows pass.old.seat }
+    requires resting { IsAtRest tree.now.space pass.old }
     requires within { (key_at ≤ key_end) × (key_end ≤ length object.now) }
-    requires pair { IsPair tree.now.space.table.shared.key.keypos (slice_range object.now key_at key_end, object.now) }
-    ensures number { pass.new.number ≡ pass.old.number }
-    ensures resting { IsResting tree.now.space.table.shared.table_id tree.now.space.table.shared.key pass.new.number pass.new.tally
-        pass.new.kept.rows pass.new.seat }
-    ensures put { IfDone result (λ new. HasDone (WriteNew (slice_range object.now key_at key_end) object.now new) pass.old.seat.me.0.upper
-        pass.new.seat.me.0.upper) }
-    ensures refused { IfRefused result (λ rise. IsRefused rise pass.old.seat.me.0.upper pass.new.seat.me.0.upper) }
+    requires pair { IsPair (sizes tree.now.space).keypos (slice_range object.now key_at key_end, object.now) }
+    ensures frame { StaysAtRest tree.now.space pass.old pass.new }
+    ensures put { IfDone result (λ new. HasDone (WriteNew (slice_range object.now key_at key_end) object.now new) (tree_of pass.old)
+        (tree_of pass.new)) }
+    ensures refused { IfRefused result (λ rise. IsRefused rise (tree_of pass.old) (tree_of pass.new)) }
     ensures busy { IfBusy result (λ spent. budget ≤ spent) }
-    ensures caused { IfRefusedAs result (λ why. IsCaused tree.now.space.table.shared.key pass.old.number budget (Some (slice_range object.now key_at key_end))
-        why pass.old.seat.me pass.old.kept.rows pass.new.seat.me pass.new.kept.rows) }
-    ensures few { KeepsFew pass.old.seat.me pass.new.seat.me pass.new.kept.rows }
-    ensures met_as { HasMetAs (λ new. new) last.new result pass.old.seat.me pass.new.seat.me }
-    ensures leaves { LeavesAs (λ new. new) tree.now.space.table.shared.key tree.now.tuning last.old last.new result pass.old.seat.me.0.upper
-        pass.new.seat.me.0.upper }
-    ensures grows { tree.now.space.table.shared.key.passes ≡ 1 → Grows 2 5 2 pass.old.seat.me.0.upper pass.new.seat.me.0.upper }
-    ensures wins { tree.now.space.table.shared.key.passes ≡ 1 → WinsAs (λ new. new) result pass.old.seat.me.0.upper pass.new.seat.me.0.upper }
-    ensures cut { HasCutAs (λ new. new) tree.now.space.table.shared.key (Some (slice_range object.now key_at key_end)) result pass.old.seat.me.0.upper
-        pass.new.seat.me.0.upper }
+    ensures caused { IfRefusedAs result (λ why. IsCaused (sizes tree.now.space) pass.old.number budget (Some (slice_range object.now key_at
+        key_end)) why (known pass.old) pass.old.kept.rows (known pass.new) pass.new.kept.rows) }
+    ensures few { KeepsFew (known pass.old) (known pass.new) pass.new.kept.rows }
+    ensures lags { LagsOnce (known pass.old) (known pass.new) }
+    ensures met_as { HasMetAs (λ new. new) last.new result (known pass.old) (known pass.new) }
+    ensures leaves { LeavesAs (λ new. new) (sizes tree.now.space) tree.now.tuning last.old last.new result (tree_of pass.old) (tree_of pass.new) }
+    ensures grows { (sizes tree.now.space).passes ≡ 1 → Grows 2 5 2 (tree_of pass.old) (tree_of pass.new) }
+    ensures wins { (sizes tree.now.space).passes ≡ 1 → WinsAs (λ new. new) result (tree_of pass.old) (tree_of pass.new) }
+    ensures cut { HasCutAs (λ new. new) (sizes tree.now.space) (Some (slice_range object.now key_at key_end)) result (tree_of pass.old)
+        (tree_of pass.new) }
 {
     let what = PutNewCall {
         object,

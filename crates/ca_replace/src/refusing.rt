@@ -1,9 +1,10 @@
 //! Ends of calls that are refused.
 ghost use Rattle.std.specs.Prelude.{◌≡◌};
-ghost use Rattle.ca_model.specs.Known.{Counts, one_more_busy};
+ghost use Rattle.ca_model.specs.Known.{Counts, one_more};
 ghost use Rattle.ca_node.specs.Told.{IsRise, Refuses, with_upper};
 ghost use Rattle.ca_replace.specs.Refusals.{outcome_of, risen};
-ghost use Rattle.ca_rows.specs.Calls.{IsOf, IsSame};
+ghost use Rattle.ca_rows.specs.Passes.{IsOn, KeepsList, known};
+ghost use Rattle.ca_node.specs.TreePasses.{tree_of};
 
 use atomic_table::Play;
 use ca_model::{Counter, FullCause, Outcome, Spent};
@@ -49,11 +50,13 @@ pub(crate) trait Counting {
 }
 
 impl Counting for Brand {
-    ghost use Rattle.std.proofs.Common.{inl, refl};
+    ghost use Rattle.ca_model.specs.declared.outcome.Cause.TheVariants.{Worn};
+    ghost use Rattle.ca_model.specs.declared.outcome.Counter.TheVariants.{Sequence};
+    ghost use Rattle.std.proofs.Common.{refl};
 
-    ghost rise = { one_more_busy };
+    ghost rise = { one_more (Worn Sequence) };
 
-    ghost is_rise = { inl refl };
+    ghost is_rise = { (Worn Sequence, refl) };
 }
 
 /// A load that ends a refused call.
@@ -67,24 +70,18 @@ impl<K: Counting> Play<(), View<Knowledge>> for CountRefusal<K> {
 
 /// Ends a refused call by one load of the pool's head, at which the refusal is counted.
 pub(crate) fn refuse(space: &TreeSpace, pass: &mut TreePass, why: Refusal)
-    requires own { IsOf space.now.table.shared.table_id space.now.table.shared.key pass.old.seat }
-    ensures same { IsSame pass.old.seat pass.new.seat }
-    ensures number { pass.new.number ≡ pass.old.number }
-    ensures tally { pass.new.tally ≡ pass.old.tally }
-    ensures kept { pass.new.kept ≡ pass.old.kept }
-    ensures counted { pass.new.seat.me ≡ with_upper pass.old.seat.me (record pass.old.seat.me.0.upper { counts = risen why pass.old.seat.me.0.upper.counts }) }
+    requires own { IsOn space.now pass.old }
+    ensures frame { KeepsList pass.old pass.new }
+    ensures counted { known pass.new ≡ with_upper (known pass.old) (record (tree_of pass.old) { counts = risen why (tree_of pass.old).counts }) }
 {
     refuse_as::<Brand>(space, pass, why);
 }
 
 // The load at which the counts change as K names.
 fn refuse_as<K: Counting>(space: &TreeSpace, pass: &mut TreePass, _why: Refusal)
-    requires own { IsOf space.now.table.shared.table_id space.now.table.shared.key pass.old.seat }
-    ensures same { IsSame pass.old.seat pass.new.seat }
-    ensures number { pass.new.number ≡ pass.old.number }
-    ensures tally { pass.new.tally ≡ pass.old.tally }
-    ensures kept { pass.new.kept ≡ pass.old.kept }
-    ensures counted { pass.new.seat.me ≡ with_upper pass.old.seat.me (record pass.old.seat.me.0.upper { counts = K.rise pass.old.seat.me.0.upper.counts }) }
+    requires own { IsOn space.now pass.old }
+    ensures frame { KeepsList pass.old pass.new }
+    ensures counted { known pass.new ≡ with_upper (known pass.old) (record (tree_of pass.old) { counts = K.rise (tree_of pass.old).counts }) }
 {
     space.load::<CountRefusal<K>>(pass, LAST);
 }

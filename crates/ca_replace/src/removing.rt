@@ -7,10 +7,12 @@ ghost use Rattle.ca_base.specs.Progress.{IsRefused};
 ghost use Rattle.ca_replace.specs.Adapting.{HasMetAs, LeavesAs, is_put};
 ghost use Rattle.ca_replace.specs.Growing.{Grows};
 ghost use Rattle.ca_replace.specs.Winning.{WinsAs};
-ghost use Rattle.ca_replace.specs.Causes.{IfRefusedAs, IsCaused, KeepsFew};
+ghost use Rattle.ca_replace.specs.Causes.{IfRefusedAs, IsCaused, KeepsFew, LagsOnce};
 ghost use Rattle.ca_replace.specs.Cutting.{HasCutAs};
-ghost use Rattle.ca_replace.specs.Resting.{IsResting};
 ghost use Rattle.ca_replace.specs.Tells.{Removes, RemovesIf};
+ghost use Rattle.ca_rows.specs.Passes.{sizes, known};
+ghost use Rattle.ca_node.specs.TreePasses.{tree_of};
+ghost use Rattle.ca_replace.specs.Resting.{IsAtRest, StaysAtRest};
 
 use crate::adapting::{Adapting, Last};
 use crate::attempting::{Attempt, Stop, fetch, remove_there};
@@ -74,25 +76,22 @@ pub(crate) fn remove(
     last: &mut Last,
     budget: u32,
 ) -> Outcome<bool>
-    requires resting { IsResting tree.now.space.table.shared.table_id tree.now.space.table.shared.key pass.old.number pass.old.tally
-        pass.old.kept.rows pass.old.seat }
-    ensures number { pass.new.number ≡ pass.old.number }
-    ensures resting { IsResting tree.now.space.table.shared.table_id tree.now.space.table.shared.key pass.new.number pass.new.tally
-        pass.new.kept.rows pass.new.seat }
-    ensures removed { IfDone result (λ was. HasDoneAs (Removes key.now was old.new.items) pass.old.seat.me.0.upper pass.new.seat.me.0.upper) }
-    ensures refused { IfRefused result (λ rise. IsRefused rise pass.old.seat.me.0.upper pass.new.seat.me.0.upper) }
+    requires resting { IsAtRest tree.now.space pass.old }
+    ensures frame { StaysAtRest tree.now.space pass.old pass.new }
+    ensures removed { IfDone result (λ was. HasDoneAs (Removes key.now was old.new.items) (tree_of pass.old) (tree_of pass.new)) }
+    ensures refused { IfRefused result (λ rise. IsRefused rise (tree_of pass.old) (tree_of pass.new)) }
     ensures emptied { IfRefused result (λ _. old.new.items ≡ []) }
     ensures never_deep { IsNeverDeep result }
     ensures busy { IfBusy result (λ spent. budget ≤ spent) }
-    ensures caused { IfRefusedAs result (λ why. IsCaused tree.now.space.table.shared.key pass.old.number budget None
-        why pass.old.seat.me pass.old.kept.rows pass.new.seat.me pass.new.kept.rows) }
-    ensures few { KeepsFew pass.old.seat.me pass.new.seat.me pass.new.kept.rows }
-    ensures met_as { HasMetAs (λ was. was) last.new result pass.old.seat.me pass.new.seat.me }
-    ensures leaves { LeavesAs (λ was. was) tree.now.space.table.shared.key tree.now.tuning last.old last.new result pass.old.seat.me.0.upper
-        pass.new.seat.me.0.upper }
-    ensures grows { tree.now.space.table.shared.key.passes ≡ 1 → Grows 1 3 1 pass.old.seat.me.0.upper pass.new.seat.me.0.upper }
-    ensures wins { tree.now.space.table.shared.key.passes ≡ 1 → WinsAs (λ was. was) result pass.old.seat.me.0.upper pass.new.seat.me.0.upper }
-    ensures cut { HasCutAs (λ was. was) tree.now.space.table.shared.key None result pass.old.seat.me.0.upper pass.new.seat.me.0.upper }
+    ensures caused { IfRefusedAs result (λ why. IsCaused (sizes tree.now.space) pass.old.number budget None why (known pass.old) pass.old.kept.rows
+        (known pass.new) pass.new.kept.rows) }
+    ensures few { KeepsFew (known pass.old) (known pass.new) pass.new.kept.rows }
+    ensures lags { LagsOnce (known pass.old) (known pass.new) }
+    ensures met_as { HasMetAs (λ was. was) last.new result (known pass.old) (known pass.new) }
+    ensures leaves { LeavesAs (λ was. was) (sizes tree.now.space) tree.now.tuning last.old last.new result (tree_of pass.old) (tree_of pass.new) }
+    ensures grows { (sizes tree.now.space).passes ≡ 1 → Grows 1 3 1 (tree_of pass.old) (tree_of pass.new) }
+    ensures wins { (sizes tree.now.space).passes ≡ 1 → WinsAs (λ was. was) result (tree_of pass.old) (tree_of pass.new) }
+    ensures cut { HasCutAs (λ was. was) (sizes tree.now.space) None result (tree_of pass.old) (tree_of pass.new) }
 {
     let what = RemoveCall { key };
     let outcome = call(tree, pass, &what, &mut *old, &mut (), last, budget);
@@ -159,27 +158,24 @@ pub(crate) fn remove_if<F: Fn(&[u8]) -> bool>(
     last: &mut Last,
     budget: u32,
 ) -> Outcome<Changed>
-    requires resting { IsResting tree.now.space.table.shared.table_id tree.now.space.table.shared.key pass.old.number pass.old.tally
-        pass.old.kept.rows pass.old.seat }
-    requires function { MayBeAskedFor F.Fn f.now tree.now.space.table.shared.key.keypos key.now }
-    ensures number { pass.new.number ≡ pass.old.number }
-    ensures resting { IsResting tree.now.space.table.shared.table_id tree.now.space.table.shared.key pass.new.number pass.new.tally
-        pass.new.kept.rows pass.new.seat }
-    ensures removed { IfDone result (λ changed. HasDoneAs (RemovesIf F.Fn f.now key.now changed old.new.items) pass.old.seat.me.0.upper
-        pass.new.seat.me.0.upper) }
-    ensures refused { IfRefused result (λ rise. IsRefused rise pass.old.seat.me.0.upper pass.new.seat.me.0.upper) }
+    requires resting { IsAtRest tree.now.space pass.old }
+    requires function { MayBeAskedFor F.Fn f.now (sizes tree.now.space).keypos key.now }
+    ensures frame { StaysAtRest tree.now.space pass.old pass.new }
+    ensures removed { IfDone result (λ changed. HasDoneAs (RemovesIf F.Fn f.now key.now changed old.new.items) (tree_of pass.old)
+        (tree_of pass.new)) }
+    ensures refused { IfRefused result (λ rise. IsRefused rise (tree_of pass.old) (tree_of pass.new)) }
     ensures emptied { IfRefused result (λ _. old.new.items ≡ []) }
     ensures never_deep { IsNeverDeep result }
     ensures busy { IfBusy result (λ spent. budget ≤ spent) }
-    ensures caused { IfRefusedAs result (λ why. IsCaused tree.now.space.table.shared.key pass.old.number budget None
-        why pass.old.seat.me pass.old.kept.rows pass.new.seat.me pass.new.kept.rows) }
-    ensures few { KeepsFew pass.old.seat.me pass.new.seat.me pass.new.kept.rows }
-    ensures met_as { HasMetAs is_put last.new result pass.old.seat.me pass.new.seat.me }
-    ensures leaves { LeavesAs is_put tree.now.space.table.shared.key tree.now.tuning last.old last.new result pass.old.seat.me.0.upper
-        pass.new.seat.me.0.upper }
-    ensures grows { tree.now.space.table.shared.key.passes ≡ 1 → Grows 1 3 1 pass.old.seat.me.0.upper pass.new.seat.me.0.upper }
-    ensures wins { tree.now.space.table.shared.key.passes ≡ 1 → WinsAs is_put result pass.old.seat.me.0.upper pass.new.seat.me.0.upper }
-    ensures cut { HasCutAs is_put tree.now.space.table.shared.key None result pass.old.seat.me.0.upper pass.new.seat.me.0.upper }
+    ensures caused { IfRefusedAs result (λ why. IsCaused (sizes tree.now.space) pass.old.number budget None why (known pass.old) pass.old.kept.rows
+        (known pass.new) pass.new.kept.rows) }
+    ensures few { KeepsFew (known pass.old) (known pass.new) pass.new.kept.rows }
+    ensures lags { LagsOnce (known pass.old) (known pass.new) }
+    ensures met_as { HasMetAs is_put last.new result (known pass.old) (known pass.new) }
+    ensures leaves { LeavesAs is_put (sizes tree.now.space) tree.now.tuning last.old last.new result (tree_of pass.old) (tree_of pass.new) }
+    ensures grows { (sizes tree.now.space).passes ≡ 1 → Grows 1 3 1 (tree_of pass.old) (tree_of pass.new) }
+    ensures wins { (sizes tree.now.space).passes ≡ 1 → WinsAs is_put result (tree_of pass.old) (tree_of pass.new) }
+    ensures cut { HasCutAs is_put (sizes tree.now.space) None result (tree_of pass.old) (tree_of pass.new) }
 {
     let what = RemoveIfCall { key, f };
     let outcome = call(tree, pass, &what, &mut *old, &mut (), last, budget);

@@ -1,5 +1,5 @@
 //! A pass as a store.
-ghost use Rattle.std.specs.Prelude.{◌≡◌, ◌≤◌, [], None, OnOk, Some, length, min, pos, slice_range, true, vec_len};
+ghost use Rattle.std.specs.Prelude.{◌≡◌, ◌≤◌, [], None, OnErr, OnOk, Some, length, min, pos, slice_range, true, vec_len};
 ghost use Rattle.ca_adapt.specs.declared.adapted.Adapted.TheVariants.{Stay as IsStay};
 ghost use Rattle.ca_model.specs.Answer.{Altered, Got, IfBusy, IfDone, IfRefused, IsDone, IsNeverDeep, Removed, RemovedIf};
 ghost use Rattle.ca_model.specs.Event.{Write, WriteNew};
@@ -13,6 +13,7 @@ ghost use Rattle.ca_replace.specs.Causes.{HasCause, IsSparing};
 ghost use Rattle.ca_replace.specs.Cutting.{HasCutAs};
 ghost use Rattle.ca_replace.specs.Resting.{IsResting, knows};
 ghost use Rattle.ca_term.specs.declared.bounds.TheConstants.{MOST_CODE_BYTES};
+ghost use Rattle.ca_rows.specs.Passes.{sizes};
 
 use crate::adapting::Last;
 use crate::giving::keep_few;
@@ -63,8 +64,8 @@ impl Drop for TreeStore<'_> {
 impl TreeStore<'_> {
     /// The store of a pass of this tree that holds no row and isn't pinned, as one that was just made.
     pub fn new(tree: &Tree, pass: TreePass) -> TreeStore<'_>
-        requires { IsResting tree.now.space.table.shared.table_id tree.now.space.table.shared.key pass.number pass.tally pass.kept.rows pass.seat }
-        ensures tree { (result.table ≡ tree.now.space.table.shared.table_id) × (result.z ≡ tree.now.space.table.shared.key) }
+        requires { IsResting tree.now.space.table.shared.table_id (sizes tree.now.space) pass.number pass.tally pass.kept.rows pass.seat }
+        ensures tree { (result.table ≡ tree.now.space.table.shared.table_id) × (result.z ≡ sizes tree.now.space) }
         ensures tuning { result.tuning ≡ tree.now.tuning }
         ensures last { (result.last.statistic ≡ pos 0) × (result.last.adapted ≡ IsStay) }
         ensures pass { (result.number ≡ pass.number) × (result.tally ≡ pass.tally) × (result.kept ≡ pass.kept.rows) × (result.seat ≡ pass.seat) }
@@ -116,6 +117,8 @@ impl TreeStore<'_> {
     pub fn reserve(&mut self) -> Result<(), AllocError>
         requires closed { (knows self.old).run ≡ None }
         ensures room { OnOk result (1 ≤ (knows self.new).spare) }
+        ensures lack { OnErr result ((knows self.old).spare ≡ 0) }
+        ensures spared { 1 ≤ (knows self.old).spare → knows self.new ≡ knows self.old }
         ensures stays { Stays (knows self.old) (knows self.new) }
         ensures same { self.new ≡ self.old }
     {

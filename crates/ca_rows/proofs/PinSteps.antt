@@ -11,7 +11,7 @@ use Rattle.ca_rows.specs.declared.view.View.{View}
 use Rattle.ca_rows.specs.Laws.{Agrees, Framed, Frames, Pinning}
 use Rattle.ca_rows.specs.Pins.{IsPin}
 use Rattle.ca_rows.specs.Rule.{upper_of, pin_of, Ruled}
-use Rattle.ca_rows.specs.Told.{Mine, Asked, Announced, Left}
+use Rattle.ca_rows.specs.Told.{Mine, Asked, Announced, Left, met_of}
 use Rattle.ca_rows.specs.Words.{epoch, announced}
 use Rattle.ca_rows.proofs.Pinned.{NewPin, pins_step, repinned}
 
@@ -133,9 +133,9 @@ module _ {U : Type 0} (linked lent : List ℕ → ℕ → Type 0) (noted : List 
       announce_step : d.pin.pinned ≡ false → R record {
         words = set s.words (d.pin.number + 1) (d.pin.told + 1);
         homes = s.homes;
-        views = set s.views id (record d { pin = record d.pin { pinned = true; moment = epoch s.words }; upper = enters d.upper });
+        views = set s.views id (record d { pin = record d.pin { pinned = true; moment = epoch s.words; entered = record { lost = d.lost; empty = d.empty; worn = d.worn } }; upper = enters d.upper });
       }
-      announce_step un = let e' : Pin = record d.pin { pinned = true; moment = epoch s.words } in stores lo (d.pin.told + 1) e' (enters d.upper)
+      announce_step un = let e' : Pin = record d.pin { pinned = true; moment = epoch s.words; entered = record { lost = d.lost; empty = d.empty; worn = d.worn } } in stores lo (d.pin.told + 1) e' (enters d.upper)
           record {
             number_is = refl;
             same_epoch = same_epoch lo (d.pin.told + 1);
@@ -157,9 +157,9 @@ module _ {U : Type 0} (linked lent : List ℕ → ℕ → Type 0) (noted : List 
       leave_step : R record {
         words = set s.words (d.pin.number + 1) 0;
         homes = s.homes;
-        views = set s.views id (record d { pin = record d.pin { pinned = false }; upper = leaves d.upper });
+        views = set s.views id (record d { pin = record d.pin { pinned = false; left = record { lost = d.lost; empty = d.empty; worn = d.worn } }; upper = leaves d.upper });
       }
-      leave_step = let e' : Pin = record d.pin { pinned = false } in stores lo 0 e' (leaves d.upper)
+      leave_step = let e' : Pin = record d.pin { pinned = false; left = record { lost = d.lost; empty = d.empty; worn = d.worn } } in stores lo 0 e' (leaves d.upper)
           record {
             number_is = refl;
             same_epoch = same_epoch lo 0;
@@ -189,7 +189,7 @@ module _ {U : Type 0} (linked lent : List ℕ → ℕ → Type 0) (noted : List 
     pub announces : (slots id : ℕ) (me : Mine U) (i x : ℕ) → i ≡ me.0.pin.number + 1 → x ≡ me.0.pin.told + 1 → 0 < me.0.pin.number → me.0.pin.pinned ≡ false
         → Allows R slots id me i (λ _. x) (λ _. Announced enters (step slots i x 0 none) me x)
     announces slots id me i x is_i is_x lo un s r _ at _ = let w : View U =
-        record me.0 { pin = record me.0.pin { pinned = true; moment = epoch s.words }; upper = enters me.0.upper } in (
+        record me.0 { pin = record me.0.pin { pinned = true; moment = epoch s.words; entered = met_of me }; upper = enters me.0.upper } in (
           w,
           keeps,
           tt,
@@ -200,7 +200,7 @@ module _ {U : Type 0} (linked lent : List ℕ → ℕ → Type 0) (noted : List 
 
     pub unpins : (slots id : ℕ) (me : Mine U) (i : ℕ) → i ≡ me.0.pin.number + 1 → 0 < me.0.pin.number
         → Allows R slots id me i (λ _. 0) (λ _. Left leaves (step slots i 0 0 none) me 0)
-    unpins slots id me i is_i lo s r _ at _ = let w : View U = record me.0 { pin = record me.0.pin { pinned = false }; upper = leaves me.0.upper } in (
+    unpins slots id me i is_i lo s r _ at _ = let w : View U = record me.0 { pin = record me.0.pin { pinned = false; left = met_of me }; upper = leaves me.0.upper } in (
       w,
       keeps,
       tt,

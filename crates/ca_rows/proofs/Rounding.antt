@@ -20,19 +20,23 @@ nothing_in (x ∷ xs) e = absurd (omega arith)
 
 module _ {U : Type 0} where
   -- The seat saw more of the others, in an epoch that isn't lower.
-  pub saw_more : (m m' : Mine U) (scan upto lag looks : ℕ) → m' ≡ with_pin m (record m.0.pin { scan = scan; upto = upto; lag = lag; looks = looks })
-      → m.0.pin.scan ≤ scan → m.0.pin.looks ≤ looks → Reclaims m m'
-  saw_more m m' scan upto lag looks e up more = subst (λ x. Reclaims m x) (sym e) record {
+  pub saw_more : (m m' : Mine U) (scan upto lag looks lags : ℕ)
+      → m' ≡ with_pin m (record m.0.pin { scan = scan; upto = upto; lag = lag; looks = looks; lags = lags })
+      → m.0.pin.scan ≤ scan → m.0.pin.looks ≤ looks → m.0.pin.lags ≤ lags → Reclaims m m'
+  saw_more m m' scan upto lag looks lags e up more more_lags = subst (λ x. Reclaims m x) (sym e) record {
     same_sizes = refl;
     same_made = refl;
     same_number = refl;
     same_pinned = refl;
     same_told = refl;
     same_moment = refl;
+    same_entered = refl;
+    same_left = refl;
     same_upper = refl;
     same_slots = refl;
     later = up;
     more_looks = more;
+    more_lags = more_lags;
     more_lost = le_refl m.0.lost;
     same_empty = refl;
     same_worn = refl;
@@ -51,10 +55,13 @@ module _ {U : Type 0} where
     same_pinned = refl;
     same_told = refl;
     same_moment = refl;
+    same_entered = refl;
+    same_left = refl;
     same_upper = refl;
     same_slots = refl;
     later = le_refl m.0.pin.scan;
     more_looks = le_refl m.0.pin.looks;
+    more_lags = le_refl m.0.pin.lags;
     more_lost = omega arith;
     same_empty = refl;
     same_worn = refl;
@@ -76,7 +83,7 @@ module _ {U : Type 0} where
     pin_is = same ∙ ap (λ (x : Mine U). x.0.pin) began
 
     so_far : Reclaims m m2
-    so_far = reclaims_trans m m1 m2 (saw_more m m1 e 0 0 (m.0.pin.looks + 1) began later (omega arith)) gave
+    so_far = reclaims_trans m m1 m2 (saw_more m m1 e 0 0 (m.0.pin.looks + 1) m.0.pin.lags began later (omega arith) (le_refl m.0.pin.lags)) gave
 
     lost_so_far : m2.0.lost ≡ m.0.lost + losses
     lost_so_far = let before = ap (λ (x : Mine U). x.0.lost) began in omega arith
@@ -95,6 +102,8 @@ module _ {U : Type 0} where
       few = omega arith;
       epoch_is = sym (ap (λ (p : Pin). p.scan) pin_is);
       lag = ap (λ (p : Pin). p.lag) pin_is;
+      lags = let same = ap (λ (p : Pin). p.lags) pin_is in omega arith;
+      unlagged = λ go. absurd cc;
       young = young;
       goes_on = λ go _. absurd cc;
       stops = λ _. ap (λ (p : Pin). p.scan) pin_is;
@@ -109,13 +118,16 @@ module _ {U : Type 0} where
       e = e;
       later = later;
       past = past;
-      reclaims = reclaims_trans m m2 m3 so_far (saw_more m2 m3 m2.0.pin.scan look.3.0 j m2.0.pin.looks saw (le_refl m2.0.pin.scan) (le_refl m2.0.pin.looks));
+      reclaims = reclaims_trans m m2 m3 so_far (saw_more m2 m3 m2.0.pin.scan look.3.0 j m2.0.pin.looks (m2.0.pin.lags + 1) saw
+          (le_refl m2.0.pin.scan) (le_refl m2.0.pin.looks) (omega arith));
       looked = ap (λ (x : Mine U). x.0.pin.looks) saw ∙ ap (λ (p : Pin). p.looks) pin_is;
       freed = count;
       lost = ap (λ (x : Mine U). x.0.lost) saw ∙ lost_so_far;
       few = omega arith;
       epoch_is = sym (ap (λ (x : Mine U). x.0.pin.scan) saw ∙ ap (λ (p : Pin). p.scan) pin_is);
       lag = (look.0, look.1, (λ f. look.2 (f ∙ sym is)), ap (λ (x : Mine U). x.0.pin.lag) saw);
+      lags = let one = ap (λ (x : Mine U). x.0.pin.lags) saw in let none = ap (λ (p : Pin). p.lags) pin_is in omega arith;
+      unlagged = λ go. absurd cc;
       young = young;
       goes_on = λ go _. absurd cc;
       stops = λ _. ap (λ (x : Mine U). x.0.pin.scan) saw ∙ ap (λ (p : Pin). p.scan) pin_is;
@@ -127,8 +139,9 @@ module _ {U : Type 0} where
         → Rounds passes number (record { freed = freed; lag = None; losses = losses; epoch = e + 1; more = true }) m m4 ks ks'
     round_moves m3 m4 look move = let scan = ap (λ (p : Pin). p.scan) pin_is in
         let scan' = ap (λ (x : Mine U). x.0.pin.scan) look in
-        let to_3 = saw_more m2 m3 m2.0.pin.scan passes m2.0.pin.lag m2.0.pin.looks look (le_refl m2.0.pin.scan) (le_refl m2.0.pin.looks) in
-        let to_4 = saw_more m3 m4 (e + 1) 0 m3.0.pin.lag m3.0.pin.looks move (omega arith) (le_refl m3.0.pin.looks) in record {
+        let to_3 = saw_more m2 m3 m2.0.pin.scan passes m2.0.pin.lag m2.0.pin.looks m2.0.pin.lags look (le_refl m2.0.pin.scan)
+        (le_refl m2.0.pin.looks) (le_refl m2.0.pin.lags) in
+        let to_4 = saw_more m3 m4 (e + 1) 0 m3.0.pin.lag m3.0.pin.looks m3.0.pin.lags move (omega arith) (le_refl m3.0.pin.looks) (le_refl m3.0.pin.lags) in record {
           e = e;
           later = later;
           past = past;
@@ -139,6 +152,9 @@ module _ {U : Type 0} where
           few = omega arith;
           epoch_is = sym (ap (λ (x : Mine U). x.0.pin.scan) move);
           lag = ap (λ (x : Mine U). x.0.pin.lag) move ∙ (ap (λ (x : Mine U). x.0.pin.lag) look ∙ ap (λ (p : Pin). p.lag) pin_is);
+          lags = let same = ap (λ (x : Mine U). x.0.pin.lags) move ∙ (ap (λ (x : Mine U). x.0.pin.lags) look ∙ ap (λ (p : Pin). p.lags) pin_is) in
+              omega arith;
+          unlagged = λ _. refl;
           young = young;
           goes_on = λ _ _. ap (λ (x : Mine U). x.0.pin.scan) move;
           stops = λ f. absurd cc;
@@ -149,7 +165,8 @@ module _ {U : Type 0} where
     pub round_misses : (m3 m4 : Mine U) → IsLook passes None m2 m3 → Moves false e m3 m4
         → Rounds passes number (record { freed = freed; lag = None; losses = losses + 1; epoch = e; more = true }) m m4 ks ks'
     round_misses m3 m4 look move =
-        let to_3 = saw_more m2 m3 m2.0.pin.scan passes m2.0.pin.lag m2.0.pin.looks look (le_refl m2.0.pin.scan) (le_refl m2.0.pin.looks) in
+        let to_3 = saw_more m2 m3 m2.0.pin.scan passes m2.0.pin.lag m2.0.pin.looks m2.0.pin.lags look (le_refl m2.0.pin.scan)
+        (le_refl m2.0.pin.looks) (le_refl m2.0.pin.lags) in
         let count_2 = lost_so_far in let count_3 = ap (λ (x : Mine U). x.0.lost) look in let count_4 = ap (λ (x : Mine U). x.0.lost) move in record {
           e = e;
           later = later;
@@ -161,13 +178,16 @@ module _ {U : Type 0} where
           few = omega arith;
           epoch_is = sym (ap (λ (x : Mine U). x.0.pin.scan) move ∙ (ap (λ (x : Mine U). x.0.pin.scan) look ∙ ap (λ (p : Pin). p.scan) pin_is));
           lag = ap (λ (x : Mine U). x.0.pin.lag) move ∙ (ap (λ (x : Mine U). x.0.pin.lag) look ∙ ap (λ (p : Pin). p.lag) pin_is);
+          lags = let same = ap (λ (x : Mine U). x.0.pin.lags) move ∙ (ap (λ (x : Mine U). x.0.pin.lags) look ∙ ap (λ (p : Pin). p.lags) pin_is) in
+              omega arith;
+          unlagged = λ _. refl;
           young = λ f. absurd (omega arith);
           goes_on = λ _ f. absurd (omega arith);
           stops = λ f. absurd cc;
           ends = λ f _ _ _. absurd cc;
         }
 
-true_or_false : (b : Bool) → (b ≡ true) ⊎ (b ≡ false)
+pub true_or_false : (b : Bool) → (b ≡ true) ⊎ (b ≡ false)
 true_or_false true = inl refl
 true_or_false false = inr refl
 

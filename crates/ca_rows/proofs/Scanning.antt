@@ -60,11 +60,11 @@ module _ {U : Type 0} (linked lent : List ℕ → ℕ → Type 0) (noted : List 
     mine = own linked lent noted fact frames z s r id d at
 
     -- What the seat saw of the others becomes this, which is so.
-    may_see : (scan upto lag looks : ℕ) → scan ≤ epoch s.words
+    may_see : (scan upto lag looks lags : ℕ) → scan ≤ epoch s.words
         → (scan ≡ epoch s.words → (i : ℕ) (x : Pin) → get_elem? (map pin_of s.views) i ≡ some x → x.number ≤ upto → x.pinned ≡ true → scan ≤ x.moment)
-        → NewPin r.made s.words s.words (map pin_of s.views) r.pins id d.pin (record d.pin { scan = scan; upto = upto; lag = lag; looks = looks })
+        → NewPin r.made s.words s.words (map pin_of s.views) r.pins id d.pin (record d.pin { scan = scan; upto = upto; lag = lag; looks = looks; lags = lags })
         here
-    may_see scan upto lag looks past ok = let e' : Pin = record d.pin { scan = scan; upto = upto; lag = lag; looks = looks } in record {
+    may_see scan upto lag looks lags past ok = let e' : Pin = record d.pin { scan = scan; upto = upto; lag = lag; looks = looks; lags = lags } in record {
       number_is = refl;
       same_epoch = refl;
       others = λ i _ _ _. refl;
@@ -100,15 +100,15 @@ module _ {U : Type 0} (linked lent : List ℕ → ℕ → Type 0) (noted : List 
               r.above;
         })
 
-    looked : (i scan upto lag looks : ℕ) → scan ≤ epoch s.words
+    looked : (i scan upto lag looks lags : ℕ) → scan ≤ epoch s.words
         → (scan ≡ epoch s.words → (i : ℕ) (x : Pin) → get_elem? (map pin_of s.views) i ≡ some x → x.number ≤ upto → x.pinned ≡ true → scan ≤ x.moment)
         → R record {
           words = set s.words i (get_or s.words i 0);
           homes = s.homes;
-          views = set s.views id (record d { pin = record d.pin { scan = scan; upto = upto; lag = lag; looks = looks } });
+          views = set s.views id (record d { pin = record d.pin { scan = scan; upto = upto; lag = lag; looks = looks; lags = lags } });
         }
-    looked i scan upto lag looks past ok = let e' : Pin = record d.pin { scan = scan; upto = upto; lag = lag; looks = looks } in
-        loaded i e' d.lost (pins_step r.made s.words s.words (map pin_of s.views) r.pins id d.pin e' here (may_see scan upto lag looks past ok)) refl refl
+    looked i scan upto lag looks lags past ok = let e' : Pin = record d.pin { scan = scan; upto = upto; lag = lag; looks = looks; lags = lags } in
+        loaded i e' d.lost (pins_step r.made s.words s.words (map pin_of s.views) r.pins id d.pin e' here (may_see scan upto lag looks lags past ok)) refl refl
 
     -- Nobody is looked at yet.
     nobody : {A : Type 0} (i : ℕ) (x : Pin) → get_elem? (map pin_of s.views) i ≡ some x → x.number ≤ 0 → x.pinned ≡ true → A
@@ -170,7 +170,7 @@ module _ {U : Type 0} (linked lent : List ℕ → ℕ → Type 0) (noted : List 
     record me.0 { pin = record me.0.pin { scan = epoch s.words; upto = 0; lag = 0; looks = me.0.pin.looks + 1 } },
     keeps,
     tt,
-    looked s r id me.0 at 1 (epoch s.words) 0 0 (me.0.pin.looks + 1) (le_refl (epoch s.words)) (λ _ i x there low p. nobody s r id me.0 at i x there low p),
+    looked s r id me.0 at 1 (epoch s.words) 0 0 (me.0.pin.looks + 1) me.0.pin.lags (le_refl (epoch s.words)) (λ _ i x there low p. nobody s r id me.0 at i x there low p),
     (
       r.pins.small,
       (mine s r id me.0 at).scan_past,
@@ -187,7 +187,7 @@ module _ {U : Type 0} (linked lent : List ℕ → ℕ → Type 0) (noted : List 
         homes = s.homes;
         views = set s.views id (record d { pin = record d.pin { upto = d.pin.upto + 1 } });
       } =
-      λ f. looked s r id d at i d.pin.scan (d.pin.upto + 1) d.pin.lag d.pin.looks k.scan_past
+      λ f. looked s r id d at i d.pin.scan (d.pin.upto + 1) d.pin.lag d.pin.looks d.pin.lags k.scan_past
       (λ now j x there low p. dite (ℕ_discrete x.number (d.pin.upto + 1))
       (λ e. let own = r.pins.each j x there in let told : n ≡ x.told + 1 = sym word ∙ (ap (announced s.words) (sym e) ∙ own.present p) in
       let after = (own.pinned_at p).0 in ⊎_elim (λ o. absurd (omega arith)) (λ l. omega arith) f)
@@ -205,10 +205,10 @@ module _ {U : Type 0} (linked lent : List ℕ → ℕ → Type 0) (noted : List 
         ((λ _. refl), λ _ hi. absurd (omega arith)),
       ))
       (λ (not : n ≤ d.pin.scan). (
-        record d { pin = record d.pin { lag = d.pin.upto + 1 } },
+        record d { pin = record d.pin { lag = d.pin.upto + 1; lags = d.pin.lags + 1 } },
         keeps,
         tt,
-        looked s r id d at i d.pin.scan d.pin.upto (d.pin.upto + 1) d.pin.looks k.scan_past k.scanned,
+        looked s r id d at i d.pin.scan d.pin.upto (d.pin.upto + 1) d.pin.looks (d.pin.lags + 1) k.scan_past k.scanned,
         ((λ f. absurd (⊎_elim ne (λ l. omega arith) f)), λ lo _. (behind lo, refl)),
       ))
       (less_or_not d.pin.scan n))

@@ -7,6 +7,7 @@ pub mod Kept
 pub mod Laws
 pub mod Opening
 pub mod Owned
+pub mod Passes
 pub mod Pins
 pub mod Reclaiming
 pub mod Rule

@@ -2,12 +2,29 @@
 use Rattle.std.specs.Prelude.{◌≡◌, ℕ, ◌+◌, ◌<◌, ◌≤◌, true, false, List}
 use mathlib.Core.Option.{some}
 use lib.ListN.{get_elem?}
+use Rattle.ca_rows.specs.declared.view.Met.{Met}
 use Rattle.ca_rows.specs.declared.view.Pin.{Pin}
 use Rattle.ca_rows.specs.Words.{epoch, announced}
 
+-- what a seat met of the pool that took no step
+abbrev pub nothing_met : Met
+nothing_met = record { lost = 0; empty = 0; worn = 0 }
+
 -- the pin of a seat that is no pass's, and of a pass that was just made
 abbrev pub unpinned : ℕ → Pin
-unpinned number = record { number = number; pinned = false; told = 0; moment = 0; scan = 0; upto = 0; lag = 0; looks = 0 }
+unpinned number = record {
+  number = number;
+  pinned = false;
+  told = 0;
+  moment = 0;
+  entered = nothing_met;
+  left = nothing_met;
+  scan = 0;
+  upto = 0;
+  lag = 0;
+  looks = 0;
+  lags = 0;
+}
 
 -- `made` passes were made, and the pins of all seats are these.
 pub record IsPin (made : ℕ) (words : List ℕ) (pins : List Pin) (j : ℕ) (e : Pin) : Type 0 where

@@ -20,10 +20,13 @@ module _ {U : Type 0} where
     pub same_pinned : m'.0.pin.pinned ≡ m.0.pin.pinned
     pub same_told : m'.0.pin.told ≡ m.0.pin.told
     pub same_moment : m'.0.pin.moment ≡ m.0.pin.moment
+    pub same_entered : m'.0.pin.entered ≡ m.0.pin.entered
+    pub same_left : m'.0.pin.left ≡ m.0.pin.left
     pub same_upper : m'.0.upper ≡ m.0.upper
     pub same_slots : m'.1 ≡ m.1
     pub later : m.0.pin.scan ≤ m'.0.pin.scan
     pub more_looks : m.0.pin.looks ≤ m'.0.pin.looks
+    pub more_lags : m.0.pin.lags ≤ m'.0.pin.lags
     pub more_lost : m.0.lost ≤ m'.0.lost
     pub same_empty : m'.0.empty ≡ m.0.empty
     pub same_worn : m'.0.worn ≡ m.0.worn
@@ -50,10 +53,16 @@ abbrev pub IsLag : ℕ → ℕ → Answer ℕ → Pin → Type 0
 IsLag passes number None e = e.lag ≡ 0
 IsLag passes number (Some j) e = (0 < j) × (j ≤ passes) × (j ≢ number) × (e.lag ≡ j)
 
+-- how many passes were found to lag: one, or none
+abbrev pub lag_count : Answer ℕ → ℕ
+lag_count None = 0
+lag_count (Some j) = 1
+
 -- All passes were looked at, or one lags.
 abbrev pub IsLook : {U : Type 0} → ℕ → Answer ℕ → Mine U → Mine U → Type 0
 IsLook passes None m m' = m' ≡ with_pin m (record m.0.pin { upto = passes })
-IsLook passes (Some j) m m' = (0 < j) × (j ≤ passes) × (j ≢ m.0.pin.number) × ((upto : ℕ) × (m' ≡ with_pin m (record m.0.pin { upto = upto; lag = j })))
+IsLook passes (Some j) m m' = (0 < j) × (j ≤ passes) × (j ≢ m.0.pin.number) × ((upto : ℕ)
+    × (m' ≡ with_pin m (record m.0.pin { upto = upto; lag = j; lags = m.0.pin.lags + 1 })))
 
 -- The epoch moved by one, or the exchange lost.
 abbrev pub Moves : {U : Type 0} → Bool → ℕ → Mine U → Mine U → Type 0
@@ -75,6 +84,9 @@ pub record Rounds {U : Type 0} (passes number : ℕ) (answer : Round) (m m' : Mi
   pub few : answer.losses ≤ length ks + 1
   pub epoch_is : answer.epoch ≡ m'.0.pin.scan
   pub lag : IsLag passes number answer.lag m'.0.pin
+  pub lags : m'.0.pin.lags ≡ m.0.pin.lags + lag_count answer.lag
+  -- After a lag no round follows.
+  pub unlagged : answer.more ≡ true → answer.lag ≡ None
   -- Where no exchange lost, only rows are kept still that were kept for less than two epochs.
   pub young : answer.losses ≡ 0 → (r t : ℕ) → kept_of ks' r ≡ some t → e < t + 2
   pub goes_on : answer.more ≡ true → answer.losses ≡ 0 → m'.0.pin.scan ≡ e + 1

@@ -3,6 +3,7 @@ use Rattle.std.specs.Prelude.{◌≡◌, ◌≢◌, ◌⊎◌, ℕ, ◌+◌, ◌
 use mathlib.Core.Option.{some, none}
 use Rattle.atomic_table.specs.Table.{Me, Step}
 use Rattle.ca_rows.specs.declared.view.Claim.TheVariants.{Holds, Keeps}
+use Rattle.ca_rows.specs.declared.view.Met.{Met}
 use Rattle.ca_rows.specs.declared.view.Pin.{Pin}
 use Rattle.ca_rows.specs.declared.view.Stage.{Stage}
 use Rattle.ca_rows.specs.declared.view.Stage.TheVariants.{Idle, Saw, Knew}
@@ -82,18 +83,22 @@ module _ {U : Type 0} where
   abbrev pub with_pin : Mine U → Pin → Mine U
   with_pin m e = (record m.0 { pin = e }, m.1)
 
+  -- what a seat has met of the pool
+  abbrev pub met_of : Mine U → Met
+  met_of m = record { lost = m.0.lost; empty = m.0.empty; worn = m.0.worn }
+
   -- The epoch was loaded, to announce it.
   abbrev pub Asked : Step (Unit {0}) → Mine U → ℕ → Mine U → Type 0
   Asked st m n m' = (n ≤ 4611686018427387904) × (m' ≡ with_pin m (record m.0.pin { told = n }))
 
-  -- It was announced, at an epoch that isn't lower.
+  -- It was announced, at an epoch that isn't lower. What the seat has met of the pool until then is noted.
   abbrev pub Announced : (U → U) → Step (Unit {0}) → Mine U → ℕ → Mine U → Type 0
   Announced enters st m n m' = (moment : ℕ) × (m.0.pin.told ≤ moment)
-      × (m' ≡ (record m.0 { pin = record m.0.pin { pinned = true; moment = moment }; upper = enters m.0.upper }, m.1))
+      × (m' ≡ (record m.0 { pin = record m.0.pin { pinned = true; moment = moment; entered = met_of m }; upper = enters m.0.upper }, m.1))
 
-  -- The announcement was taken back.
+  -- The announcement was taken back. What the seat has met of the pool until then is noted.
   abbrev pub Left : (U → U) → Step (Unit {0}) → Mine U → ℕ → Mine U → Type 0
-  Left leaves st m n m' = m' ≡ (record m.0 { pin = record m.0.pin { pinned = false }; upper = leaves m.0.upper }, m.1)
+  Left leaves st m n m' = m' ≡ (record m.0 { pin = record m.0.pin { pinned = false; left = met_of m }; upper = leaves m.0.upper }, m.1)
 
   -- The row is kept, since the epoch that was loaded. It isn't below that of the last look, and no row is kept since a later one.
   abbrev pub Retired : ℕ → Step (Unit {0}) → Mine U → ℕ → Mine U → Type 0
@@ -105,11 +110,12 @@ module _ {U : Type 0} where
   Began st m n m' = (n ≤ 4611686018427387904) × (m.0.pin.scan ≤ n) × ((r t : ℕ) → claim_of m.0.claims r ≡ some (Keeps t) → t ≤ n)
       × (m' ≡ with_pin m (record m.0.pin { scan = n; upto = 0; lag = 0; looks = m.0.pin.looks + 1 }))
 
-  -- The next pass's announcement was loaded: it is absent or not older than the look, or the pass lags. A pass that isn't pinned doesn't lag itself.
+  -- The next pass's announcement was loaded: it is absent or not older than the look, or the pass lags, which is counted. A pass that isn't pinned
+  -- doesn't lag itself.
   abbrev pub Scanned : Step (Unit {0}) → Mine U → ℕ → Mine U → Type 0
   Scanned st m n m' = (n ≡ 0 ⊎ m.0.pin.scan < n → m' ≡ with_pin m (record m.0.pin { upto = m.0.pin.upto + 1 }))
       × (0 < n → n ≤ m.0.pin.scan → (m.0.pin.pinned ≡ false → m.0.pin.upto + 1 ≢ m.0.pin.number)
-      × (m' ≡ with_pin m (record m.0.pin { lag = m.0.pin.upto + 1 })))
+      × (m' ≡ with_pin m (record m.0.pin { lag = m.0.pin.upto + 1; lags = m.0.pin.lags + 1 })))
 
   -- The epoch moved by one, or the exchange lost. It expected the epoch that the last look at the others began with.
   abbrev pub Moved : Step (Unit {0}) → Mine U → ℕ → Mine U → Type 0

@@ -1,5 +1,5 @@
 //! A space is closed, and its words are read.
-ghost use Rattle.std.specs.Prelude.{◌≡◌, ℕ, ◌<◌, ◌≤◌, false, [], map, vec_len, Some};
+ghost use Rattle.std.specs.Prelude.{◌≡◌, ◌<◌, false, map, vec_len, Some};
 ghost use Rattle.std.specs.List.{All};
 ghost use Rattle.std.specs.Mem.Slots.{slots_items, slots_len};
 ghost use Rattle.ca_rows.specs.Closed.{IsClosable, IsLast, joined_from};

@@ -1,6 +1,7 @@
 //! Rows of words that passes share without a lock: a pool of free rows, and whose each row is.
 #![tactic(auto)]
 
+mod above;
 mod close;
 mod fault;
 mod kept;
@@ -8,6 +9,7 @@ mod make;
 mod opening;
 mod pin;
 mod plays;
+mod pool;
 mod reclaim;
 mod reclaimed;
 mod rest;
@@ -28,5 +30,5 @@ pub use sizes::{Sizes, Starts};
 pub use space::{Half, Pass, Space};
 pub use taken::Taken;
 pub use tally::Tally;
-pub use view::{Claim, Claimed, Pin, Stage, View};
+pub use view::{Claim, Claimed, Met, Pin, Stage, View};
 pub use words::Words;

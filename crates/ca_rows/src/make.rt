@@ -1,5 +1,5 @@
 //! Spaces and passes are made.
-ghost use Rattle.std.specs.Prelude.{◌≡◌, ◌≢◌, ◌↔◌, IsTrue, ℕ, ◌+◌, ◌<◌, ◌≤◌, [], IfOk, OnOk, OnErr, Err, vec_len};
+ghost use Rattle.std.specs.Prelude.{◌≡◌, ◌≢◌, ◌↔◌, IsTrue, ◌+◌, ◌<◌, [], IfOk, OnOk, OnErr, Err, vec_len};
 ghost use Rattle.ca_rows.specs.declared.fault.RowsFault.TheVariants.{BadSize as IsBadSize, NoPass as IsNoPass};
 ghost use Rattle.ca_rows.specs.Kept.{AreKept};
 ghost use Rattle.ca_rows.specs.Opening.{AreInBounds, AreUsable};

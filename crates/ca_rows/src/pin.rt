@@ -1,26 +1,25 @@
 //! Passes announce that they read.
 ghost use Rattle.std.specs.Prelude.{◌≡◌, ℕ, ◌+◌, ◌<◌, ◌≤◌, true, false};
-ghost use Rattle.ca_rows.specs.Calls.{IsOf, IsSame, IsNumbered};
+ghost use Rattle.ca_rows.specs.Calls.{IsNumbered};
+ghost use Rattle.ca_rows.specs.Told.{met_of};
+ghost use Rattle.ca_rows.specs.Passes.{IsOn, IsReading, KeepsList, known, view};
 
 use crate::plays::{Announce, Ask, Leave};
 use crate::rule::RowRule;
 use crate::space::{Pass, Space};
 
 impl<R: RowRule> Space<R> {
-    /// Announces the epoch that is loaded: rows that are unlinked from then on stay until the pass unpins.
+    /// Announces the epoch that is loaded: rows that are unlinked from then on stay until the pass unpins. What the pass has met of the pool is noted.
     pub fn pin(&self, pass: &mut Pass<R>)
-        requires own { IsOf self.now.table.shared.table_id self.now.table.shared.key pass.old.seat }
-        requires number { IsNumbered pass.old.number pass.old.seat.me.0.pin }
-        requires unpinned { pass.old.seat.me.0.pin.pinned ≡ false }
-        ensures same { IsSame pass.old.seat pass.new.seat }
-        ensures number { pass.new.number ≡ pass.old.number }
-        ensures tally { pass.new.tally ≡ pass.old.tally }
-        ensures kept { pass.new.kept ≡ pass.old.kept }
+        requires own { IsOn self.now pass.old }
+        requires number { IsNumbered pass.old.number (view pass.old).pin }
+        requires unpinned { (view pass.old).pin.pinned ≡ false }
+        ensures frame { KeepsList pass.old pass.new }
         ensures pinned { (told : ℕ) × (moment : ℕ) × (told ≤ moment)
-            × (pass.new.seat.me ≡ (
-              record pass.old.seat.me.0 {
-                pin = record pass.old.seat.me.0.pin { pinned = true; told = told; moment = moment };
-                upper = R.enters pass.old.seat.me.0.upper;
+            × (known pass.new ≡ (
+              record (view pass.old) {
+                pin = record (view pass.old).pin { pinned = true; told = told; moment = moment; entered = met_of (known pass.old) };
+                upper = R.enters (view pass.old).upper;
               },
               pass.old.seat.me.1,
             )) }
@@ -32,19 +31,15 @@ impl<R: RowRule> Space<R> {
             .store::<Announce<R>>(&mut pass.seat, word, epoch + 1);
     }
 
-    /// Takes the announcement back. The pass has no note from then on.
+    /// Takes the announcement back. The pass has no note from then on. What it has met of the pool is noted.
     pub fn unpin(&self, pass: &mut Pass<R>)
-        requires own { IsOf self.now.table.shared.table_id self.now.table.shared.key pass.old.seat }
-        requires number { IsNumbered pass.old.number pass.old.seat.me.0.pin }
-        requires pinned { pass.old.seat.me.0.pin.pinned ≡ true }
-        ensures same { IsSame pass.old.seat pass.new.seat }
-        ensures number { pass.new.number ≡ pass.old.number }
-        ensures tally { pass.new.tally ≡ pass.old.tally }
-        ensures kept { pass.new.kept ≡ pass.old.kept }
-        ensures unpinned { pass.new.seat.me ≡ (
-          record pass.old.seat.me.0 {
-            pin = record pass.old.seat.me.0.pin { pinned = false };
-            upper = R.leaves pass.old.seat.me.0.upper;
+        requires reading { IsReading self.now pass.old }
+        requires number { IsNumbered pass.old.number (view pass.old).pin }
+        ensures frame { KeepsList pass.old pass.new }
+        ensures unpinned { known pass.new ≡ (
+          record (view pass.old) {
+            pin = record (view pass.old).pin { pinned = false; left = met_of (known pass.old) };
+            upper = R.leaves (view pass.old).upper;
           },
           pass.old.seat.me.1,
         ) }

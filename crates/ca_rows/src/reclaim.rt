@@ -1,13 +1,14 @@
 //! Passes give back the rows that they keep, once nobody can have a note on them.
-ghost use Rattle.std.specs.Prelude.{◌≡◌, ◌≢◌, ◌↔◌, IsTrue, ℕ, ◌+◌, ◌-◌, ◌<◌, ◌≤◌, ◌++◌, cond, true, false, List, length, take, drop, slice_index_or, vec_len, vec_capacity};
+ghost use Rattle.std.specs.Prelude.{◌≡◌, ◌↔◌, IsTrue, ℕ, ◌+◌, ◌-◌, ◌<◌, ◌≤◌, ◌++◌, cond, true, false, List, length, take, drop, slice_index_or, vec_len, vec_capacity};
 ghost use Rattle.std.specs.declared.option.Option.TheVariants.{None, Some};
 ghost use mathlib.Core.Option.{some};
 ghost use Rattle.ca_rows.specs.declared.view.Claim.TheVariants.{Holds as IsHeld, Keeps as IsKept};
-ghost use Rattle.ca_rows.specs.Calls.{IsOf, IsSame, IsNumbered};
+ghost use Rattle.ca_rows.specs.Calls.{IsNumbered};
 ghost use Rattle.ca_rows.specs.Claims.{claim_of, claimed};
 ghost use Rattle.ca_rows.specs.Kept.{AreListed, AreKept, kept_of};
-ghost use Rattle.ca_rows.specs.Reclaiming.{Reclaims, GivesBack, IsLag, IsLook, Moves, Rounds};
+ghost use Rattle.ca_rows.specs.Reclaiming.{Reclaims, GivesBack, IsLag, lag_count, IsLook, Moves, Rounds};
 ghost use Rattle.ca_rows.specs.Told.{with_most};
+ghost use Rattle.ca_rows.specs.Passes.{IsOn, IsSamePass, KeepsList, sizes, known, view};
 
 use crate::plays::{Begin, Move, Named, Regain, Scan};
 use crate::reclaimed::{Reclaimed, Round};
@@ -18,14 +19,11 @@ use std::marker::Brand;
 impl<R: RowRule> Space<R> {
     // The pass holds the row again that K names.
     fn regain_as<K: Named>(&self, pass: &mut Pass<R>, _row: u32)
-        requires own { IsOf self.now.table.shared.table_id self.now.table.shared.key pass.old.seat }
-        requires old { (t : ℕ) × (claim_of pass.old.seat.me.0.claims K.about ≡ some (IsKept t)) × (t + 2 ≤ pass.old.seat.me.0.pin.scan) }
-        ensures same { IsSame pass.old.seat pass.new.seat }
-        ensures number { pass.new.number ≡ pass.old.number }
-        ensures tally { pass.new.tally ≡ pass.old.tally }
-        ensures kept { pass.new.kept ≡ pass.old.kept }
-        ensures held { (its : List ℕ) × (length its ≡ 136) × (pass.new.seat.me ≡ with_most
-            (record pass.old.seat.me.0 { claims = claimed K.about (IsHeld its) pass.old.seat.me.0.claims }, pass.old.seat.me.1)) }
+        requires own { IsOn self.now pass.old }
+        requires old { (t : ℕ) × (claim_of (view pass.old).claims K.about ≡ some (IsKept t)) × (t + 2 ≤ (view pass.old).pin.scan) }
+        ensures frame { KeepsList pass.old pass.new }
+        ensures held { (its : List ℕ) × (length its ≡ 136) × (known pass.new ≡ with_most
+            (record (view pass.old) { claims = claimed K.about (IsHeld its) (view pass.old).claims }, pass.old.seat.me.1)) }
     {
         self.table.shared.load::<Regain<K>>(&mut pass.seat, 1);
     }
@@ -33,20 +31,18 @@ impl<R: RowRule> Space<R> {
     // Gives back the kept row at this place of the list, in which those behind it up to `end` are given back already, and stand still. False exactly
     // where the exchange lost: they are taken out then, and the row is kept since now, behind the others.
     fn give_back(&self, pass: &mut Pass<R>, at: u32, end: u32) -> bool
-        requires own { IsOf self.now.table.shared.table_id self.now.table.shared.key pass.old.seat }
-        requires list { AreListed self.now.table.shared.key.rows pass.old.seat.me.0.claims
-            (take (at + 1) pass.old.kept.rows.items ++ drop end pass.old.kept.rows.items) }
-        requires room { self.now.table.shared.key.rows ≤ vec_capacity pass.old.kept.rows }
+        requires own { IsOn self.now pass.old }
+        requires list { AreListed (sizes self.now).rows (view pass.old).claims (take (at + 1) pass.old.kept.rows.items ++ drop end
+            pass.old.kept.rows.items) }
+        requires room { (sizes self.now).rows ≤ vec_capacity pass.old.kept.rows }
         requires place { (at < end) × (end ≤ vec_len pass.old.kept.rows) }
-        requires old { (slice_index_or pass.old.kept.rows.items at (record { row = 0; at = 0 })).at + 2 ≤ pass.old.seat.me.0.pin.scan }
-        ensures same { IsSame pass.old.seat pass.new.seat }
-        ensures number { pass.new.number ≡ pass.old.number }
-        ensures tally { pass.new.tally ≡ pass.old.tally }
-        ensures list { result ≡ true → AreListed self.now.table.shared.key.rows pass.new.seat.me.0.claims
-            (take at pass.new.kept.rows.items ++ drop end pass.new.kept.rows.items) }
-        ensures again { result ≡ false → AreListed self.now.table.shared.key.rows pass.new.seat.me.0.claims pass.new.kept.rows.items }
-        ensures room { self.now.table.shared.key.rows ≤ vec_capacity pass.new.kept.rows }
-        ensures given { GivesBack result at end pass.old.seat.me pass.new.seat.me pass.old.kept.rows.items pass.new.kept.rows.items }
+        requires old { (slice_index_or pass.old.kept.rows.items at (record { row = 0; at = 0 })).at + 2 ≤ (view pass.old).pin.scan }
+        ensures frame { IsSamePass pass.old pass.new }
+        ensures list { result ≡ true → AreListed (sizes self.now).rows (view pass.new).claims (take at pass.new.kept.rows.items ++ drop end
+            pass.new.kept.rows.items) }
+        ensures again { result ≡ false → AreListed (sizes self.now).rows (view pass.new).claims pass.new.kept.rows.items }
+        ensures room { (sizes self.now).rows ≤ vec_capacity pass.new.kept.rows }
+        ensures given { GivesBack result at end (known pass.old) (known pass.new) pass.old.kept.rows.items pass.new.kept.rows.items }
     {
         let row = pass.kept.row(at);
         self.regain_as::<Brand>(pass, row);
@@ -60,17 +56,15 @@ impl<R: RowRule> Space<R> {
 
     // Gives back the rows that were kept two epochs before this one, which stand before all others, from the last: how many, and how many exchanges lost.
     fn give_old(&self, pass: &mut Pass<R>, epoch: u64) -> (u32, u32)
-        requires own { IsOf self.now.table.shared.table_id self.now.table.shared.key pass.old.seat }
-        requires list { AreKept self.now.table.shared.key.rows pass.old.seat.me.0.claims pass.old.kept.rows }
-        requires epoch { pass.old.seat.me.0.pin.scan ≡ epoch }
-        ensures same { IsSame pass.old.seat pass.new.seat }
-        ensures number { pass.new.number ≡ pass.old.number }
-        ensures tally { pass.new.tally ≡ pass.old.tally }
-        ensures list { AreKept self.now.table.shared.key.rows pass.new.seat.me.0.claims pass.new.kept.rows }
-        ensures pin { pass.new.seat.me.0.pin ≡ pass.old.seat.me.0.pin }
-        ensures reclaims { Reclaims pass.old.seat.me pass.new.seat.me }
+        requires own { IsOn self.now pass.old }
+        requires list { AreKept (sizes self.now).rows (view pass.old).claims pass.old.kept.rows }
+        requires epoch { (view pass.old).pin.scan ≡ epoch }
+        ensures frame { IsSamePass pass.old pass.new }
+        ensures list { AreKept (sizes self.now).rows (view pass.new).claims pass.new.kept.rows }
+        ensures pin { (view pass.new).pin ≡ (view pass.old).pin }
+        ensures reclaims { Reclaims (known pass.old) (known pass.new) }
         ensures freed { result.0 + vec_len pass.new.kept.rows ≡ vec_len pass.old.kept.rows }
-        ensures lost { pass.new.seat.me.0.lost ≡ pass.old.seat.me.0.lost + result.1 }
+        ensures lost { (view pass.new).lost ≡ (view pass.old).lost + result.1 }
         ensures few { result.0 + result.1 ≤ vec_len pass.old.kept.rows }
         ensures young { result.1 ≡ 0 → (r t : ℕ) → kept_of pass.new.kept.rows.items r ≡ some t → epoch < t + 2 }
     {
@@ -93,14 +87,11 @@ impl<R: RowRule> Space<R> {
 
     // The first pass whose announcement is older than the epoch that the look began with.
     fn lagging(&self, pass: &mut Pass<R>, epoch: u64) -> Option<u32>
-        requires own { IsOf self.now.table.shared.table_id self.now.table.shared.key pass.old.seat }
-        requires begun { (pass.old.seat.me.0.pin.scan ≡ epoch) × (pass.old.seat.me.0.pin.upto ≡ 0) }
-        requires unpinned { pass.old.seat.me.0.pin.pinned ≡ false }
-        ensures same { IsSame pass.old.seat pass.new.seat }
-        ensures number { pass.new.number ≡ pass.old.number }
-        ensures tally { pass.new.tally ≡ pass.old.tally }
-        ensures kept { pass.new.kept ≡ pass.old.kept }
-        ensures look { IsLook self.now.table.shared.key.passes result pass.old.seat.me pass.new.seat.me }
+        requires own { IsOn self.now pass.old }
+        requires begun { ((view pass.old).pin.scan ≡ epoch) × ((view pass.old).pin.upto ≡ 0) }
+        requires unpinned { (view pass.old).pin.pinned ≡ false }
+        ensures frame { KeepsList pass.old pass.new }
+        ensures look { IsLook (sizes self.now).passes result (known pass.old) (known pass.new) }
     {
         let mut seen = 0;
         while seen < self.sizes.passes {
@@ -116,14 +107,11 @@ impl<R: RowRule> Space<R> {
 
     // Moves the epoch, at which all passes were found, by one. False exactly where the exchange lost.
     fn move_epoch(&self, pass: &mut Pass<R>, epoch: u64) -> bool
-        requires own { IsOf self.now.table.shared.table_id self.now.table.shared.key pass.old.seat }
-        requires seen { (pass.old.seat.me.0.pin.scan ≡ epoch) × (pass.old.seat.me.0.pin.upto ≡ self.now.table.shared.key.passes) }
+        requires own { IsOn self.now pass.old }
+        requires seen { ((view pass.old).pin.scan ≡ epoch) × ((view pass.old).pin.upto ≡ (sizes self.now).passes) }
         requires room { epoch < 4611686018427387904 }
-        ensures same { IsSame pass.old.seat pass.new.seat }
-        ensures number { pass.new.number ≡ pass.old.number }
-        ensures tally { pass.new.tally ≡ pass.old.tally }
-        ensures kept { pass.new.kept ≡ pass.old.kept }
-        ensures moves { Moves result epoch pass.old.seat.me pass.new.seat.me }
+        ensures frame { KeepsList pass.old pass.new }
+        ensures moves { Moves result epoch (known pass.old) (known pass.new) }
     {
         self.table
             .shared
@@ -133,15 +121,13 @@ impl<R: RowRule> Space<R> {
 
     // Loads the epoch, gives back what is kept since two epochs, and moves the epoch by one where all passes are absent or at it.
     fn round(&self, pass: &mut Pass<R>) -> Round
-        requires own { IsOf self.now.table.shared.table_id self.now.table.shared.key pass.old.seat }
-        requires number { IsNumbered pass.old.number pass.old.seat.me.0.pin }
-        requires unpinned { pass.old.seat.me.0.pin.pinned ≡ false }
-        requires list { AreKept self.now.table.shared.key.rows pass.old.seat.me.0.claims pass.old.kept.rows }
-        ensures same { IsSame pass.old.seat pass.new.seat }
-        ensures number { pass.new.number ≡ pass.old.number }
-        ensures tally { pass.new.tally ≡ pass.old.tally }
-        ensures list { AreKept self.now.table.shared.key.rows pass.new.seat.me.0.claims pass.new.kept.rows }
-        ensures rounds { Rounds self.now.table.shared.key.passes pass.old.number result pass.old.seat.me pass.new.seat.me pass.old.kept.rows.items
+        requires own { IsOn self.now pass.old }
+        requires number { IsNumbered pass.old.number (view pass.old).pin }
+        requires unpinned { (view pass.old).pin.pinned ≡ false }
+        requires list { AreKept (sizes self.now).rows (view pass.old).claims pass.old.kept.rows }
+        ensures frame { IsSamePass pass.old pass.new }
+        ensures list { AreKept (sizes self.now).rows (view pass.new).claims pass.new.kept.rows }
+        ensures rounds { Rounds (sizes self.now).passes pass.old.number result (known pass.old) (known pass.new) pass.old.kept.rows.items
             pass.new.kept.rows.items }
     {
         let epoch = self.table.shared.load::<Begin>(&mut pass.seat, 1);
@@ -180,25 +166,24 @@ impl<R: RowRule> Space<R> {
     /// Gives back rows that the pass keeps, in up to three rounds. Each loads the epoch, gives back the rows that were retired two epochs before or earlier,
     /// loads all announcements, and moves the epoch by one where each is absent or equal to it. A row whose putting back lost its exchange is retired anew.
     pub fn reclaim(&self, pass: &mut Pass<R>) -> Reclaimed
-        requires own { IsOf self.now.table.shared.table_id self.now.table.shared.key pass.old.seat }
-        requires number { IsNumbered pass.old.number pass.old.seat.me.0.pin }
-        requires unpinned { pass.old.seat.me.0.pin.pinned ≡ false }
-        requires list { AreKept self.now.table.shared.key.rows pass.old.seat.me.0.claims pass.old.kept.rows }
-        ensures same { IsSame pass.old.seat pass.new.seat }
-        ensures number { pass.new.number ≡ pass.old.number }
-        ensures tally { pass.new.tally ≡ pass.old.tally }
-        ensures list { AreKept self.now.table.shared.key.rows pass.new.seat.me.0.claims pass.new.kept.rows }
-        ensures reclaims { Reclaims pass.old.seat.me pass.new.seat.me }
-        ensures looked { pass.old.seat.me.0.pin.looks < pass.new.seat.me.0.pin.looks }
+        requires own { IsOn self.now pass.old }
+        requires number { IsNumbered pass.old.number (view pass.old).pin }
+        requires unpinned { (view pass.old).pin.pinned ≡ false }
+        requires list { AreKept (sizes self.now).rows (view pass.old).claims pass.old.kept.rows }
+        ensures frame { IsSamePass pass.old pass.new }
+        ensures list { AreKept (sizes self.now).rows (view pass.new).claims pass.new.kept.rows }
+        ensures reclaims { Reclaims (known pass.old) (known pass.new) }
+        ensures looked { (view pass.old).pin.looks < (view pass.new).pin.looks }
         ensures freed { result.freed + vec_len pass.new.kept.rows ≡ vec_len pass.old.kept.rows }
         ensures kept { result.kept ≡ vec_len pass.new.kept.rows }
-        ensures lag { IsLag self.now.table.shared.key.passes pass.old.number result.lag pass.new.seat.me.0.pin }
-        ensures losses { pass.new.seat.me.0.lost ≡ pass.old.seat.me.0.lost + result.losses }
+        ensures lag { IsLag (sizes self.now).passes pass.old.number result.lag (view pass.new).pin }
+        ensures lags { (view pass.new).pin.lags ≡ (view pass.old).pin.lags + lag_count result.lag }
+        ensures losses { (view pass.new).lost ≡ (view pass.old).lost + result.losses }
         ensures few { result.losses ≤ 196608 }
         ensures lost { IsTrue result.lost ↔ 0 < result.losses }
-        ensures epoch { result.epoch ≡ pass.new.seat.me.0.pin.scan }
-        ensures young { result.lost ≡ false → (r t : ℕ) → kept_of pass.new.kept.rows.items r ≡ some t → pass.new.seat.me.0.pin.scan < t + 2 }
-        ensures all { result.lag ≡ None → result.lost ≡ false → pass.new.seat.me.0.pin.scan < 4611686018427387904 → result.kept ≡ 0 }
+        ensures epoch { result.epoch ≡ (view pass.new).pin.scan }
+        ensures young { result.lost ≡ false → (r t : ℕ) → kept_of pass.new.kept.rows.items r ≡ some t → (view pass.new).pin.scan < t + 2 }
+        ensures all { result.lag ≡ None → result.lost ≡ false → (view pass.new).pin.scan < 4611686018427387904 → result.kept ≡ 0 }
     {
         let mut freed = 0;
         let mut lag = None;

@@ -30,6 +30,14 @@ pub struct Claimed {
     pub claim: Claim,
 }
 
+/// What a seat met of the pool: exchanges of its head and of the epoch that were lost, how often it found the head empty as it was to take a row,
+/// and how often with its tag at the last value.
+pub struct Met {
+    pub lost: u64,
+    pub empty: u64,
+    pub worn: u64,
+}
+
 /// What a seat announces, and what it saw of others' announcements.
 pub struct Pin {
     /// The number of its pass, or 0.
@@ -39,14 +47,18 @@ pub struct Pin {
     pub told: u64,
     /// The epoch as it announced.
     pub moment: u64,
+    /// What it had met of the pool as it announced, and as it took the announcement back last.
+    pub entered: Met,
+    pub left: Met,
     /// The epoch as its last look at the others began, or to which it moved it then.
     pub scan: u64,
     /// How many passes it looked at since.
     pub upto: u64,
     /// A pass that it found behind by its last look, or 0.
     pub lag: u64,
-    /// How many looks at the others it began.
+    /// How many looks at the others it began, and how many of them found a pass that lags.
     pub looks: u64,
+    pub lags: u64,
 }
 
 pub struct View<U> {

@@ -19,7 +19,7 @@ loop-at-init c = let start : ℕ = c.key_bytes-start.result.0 in let none : star
   low = omega arith;
   high = omega arith;
   word = λ its shown. c.word_with-word.ensures.word its
-      (subst (λ (m : MyTree). IsObjectShown m.0.upper c.args.row its) (sym c.key_bytes-start.ensures.still) shown);
+      (subst (λ (m : MyTree). IsObjectShown m.0.upper c.args.row its) (sym c.key_bytes-start.ensures.frame.still) shown);
   other = first_word c.args.key.now (start - start) c.args.front none c.requires.front;
   left = λ its _. left_first (bytes_in (drop 11 its)) c.args.key.now start c.key_bytes-start.result.1;
 }

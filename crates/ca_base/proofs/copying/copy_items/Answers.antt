@@ -8,11 +8,11 @@ use Rattle.ca_base.proofs.LastItems.{last_shown, last_inside, last_item}
 use Rattle.ca_rows.specs.declared.view.Pin.{Pin}
 use Rattle.ca_base.proofs.copying.copy_items.Goals as goal
 
-pub load_word-item-requires-clause-own : goal.load_word-item-requires-clause-own
-load_word-item-requires-clause-own c = c.loop-place.invariant.0.of
-
-pub load_word-item-requires-clause-pinned : goal.load_word-item-requires-clause-pinned
-load_word-item-requires-clause-pinned c = ap (λ (e : Pin). e.pinned) c.loop-place.invariant.0.still.3 ∙ c.requires.pinned
+pub load_word-item-requires-clause-reading : goal.load_word-item-requires-clause-reading
+load_word-item-requires-clause-reading c = record {
+  own = c.loop-place.invariant.0.of;
+  pinned = ap (λ (e : Pin). e.pinned) c.loop-place.invariant.0.still.3 ∙ c.requires.reading.pinned;
+}
 
 pub load_word-item-requires-clause-inside : goal.load_word-item-requires-clause-inside
 load_word-item-requires-clause-inside c = (last_inside _ _ _ c.requires.shown, omega arith)
@@ -27,7 +27,7 @@ load_word-item-requires-clause-shown c = word_shown c.loop-place.pass.seat.me.0.
 pub loop-place-init : goal.loop-place-init
 loop-place-init c = (
   begins _ _ c.args.row (11 + c.args.to) (λ k word. word ≡ get_or (last_items c.args.pass.now.seat.me.0.upper) (c.args.from + k) 0) c.args.pass.now.seat
-      c.requires.own c.requires.held,
+      c.requires.reading.own c.requires.held,
   refl,
   refl,
   refl,
@@ -42,8 +42,8 @@ loop-place-preserved c = let i = c.loop-place.invariant in let u = c.args.pass.n
     (as_shown c.loop-place.pass.seat.me.0.upper _ _ _ c.load_word-item.ensures.word its shown ∙ ap (λ k. get_or its k 0) there) (omega arith) in (
       goes_on_behind _ _ c.args.row (11 + c.args.to) (λ k word. word ≡ get_or (last_items u) (c.args.from + k) 0) c.args.pass.now.seat
           c.loop-place.pass.seat c.load_word-item.new.pass.seat c.set_word.new.pass.seat c.loop-place.place _ _ (omega arith) (omega arith) word i.0
-          c.load_word-item.ensures.same c.load_word-item.ensures.still c.set_word.ensures.same c.set_word.ensures.set,
-      c.set_word.ensures.number ∙ (c.load_word-item.ensures.number ∙ i.1),
-      c.set_word.ensures.kept ∙ (c.load_word-item.ensures.kept ∙ i.2),
-      c.set_word.ensures.tally ∙ (c.load_word-item.ensures.tally ∙ i.3),
+          c.load_word-item.ensures.frame.same c.load_word-item.ensures.frame.still c.set_word.ensures.frame.same c.set_word.ensures.set,
+      c.set_word.ensures.frame.number ∙ (c.load_word-item.ensures.frame.number ∙ i.1),
+      c.set_word.ensures.frame.kept ∙ (c.load_word-item.ensures.frame.kept ∙ i.2),
+      c.set_word.ensures.frame.tally ∙ (c.load_word-item.ensures.frame.tally ∙ i.3),
     )

@@ -7,7 +7,7 @@ use Rattle.ca_base.proofs.copying.write_around.Goals as goal
 
 pub returns-clause-written : goal.returns-clause-written
 returns-clause-written c = let u = c.args.pass.now.seat.me.0.upper in let m = c.requires.many.0 in
-    let one = c.write_head.ensures.same in let two = c.copy_items.ensures.same in let three = c.write_items.ensures.same in
+    let one = c.write_head.ensures.frame.same in let two = c.copy_items.ensures.frame.same in let three = c.write_items.ensures.frame.same in
     let rest : c.args.many - c.args.behind ≡ length (last_items u) - c.args.behind = omega arith in
     around_written (last_items u) c.args.these.now c.args.before c.args.behind (omega arith) (omega arith) c.args.row c.args.level _ c.args.statistic
     c.args.pass.now.seat.me c.write_head.new.pass.seat.me c.copy_items.new.pass.seat.me c.write_items.new.pass.seat.me c.copy_items-2.new.pass.seat.me

@@ -6,7 +6,7 @@ use Rattle.ca_base.specs.Writing.{HasWritten, SpellsBase}
 use Rattle.ca_base.proofs.copying.write_base_with.Goals as goal
 
 pub returns-in-Ok-clause-written : goal.returns-in-Ok-clause-written
-returns-in-Ok-clause-written c = let still = c.item_at-old.ensures.still in let xs = last_items c.args.pass.now.seat.me.0.upper in let at = c.in-Ok.at in
+returns-in-Ok-clause-written c = let still = c.item_at-old.ensures.frame.still in let xs = last_items c.args.pass.now.seat.me.0.upper in let at = c.in-Ok.at in
     let low = subst (λ (p : Result ℕ ℕ). IsPlaceFor p c.args.many) c.in-Ok.is c.requires.place in let many = c.requires.many.0 in
     let next : at + 1 ≡ suc at = omega arith in
     let is : take at xs ++ c.args.item ∷ drop (at + 1) xs ≡ set xs at c.args.item =

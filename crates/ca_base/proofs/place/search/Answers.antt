@@ -13,7 +13,7 @@ loop-low-preserved-in-Less c = let middle : ℕ = c.loop-low.low + (c.loop-low.h
     let object = (c.item-row.ensures.item note
     (subst (λ (m : MyTree). IsReadable c.args.space.now.table.shared.key m.0.upper c.args.base note) (sym i.still) r) l).1 in
     c.compare_by.ensures.order (get_or note.objects middle [])
-    (subst (λ (m : MyTree). IsObjectShown m.0.upper c.item-row.result (get_or note.objects middle [])) (sym c.item-row.ensures.still) object) in
+    (subst (λ (m : MyTree). IsObjectShown m.0.upper c.item-row.result (get_or note.objects middle [])) (sym c.item-row.ensures.frame.still) object) in
     record {
       own = search rules;
       same = search rules;
@@ -33,7 +33,7 @@ returns-in-Equal-clause-place c note r = let middle : ℕ = c.loop-low.low + (c.
     let object = (c.item-row.ensures.item note
     (subst (λ (m : MyTree). IsReadable c.args.space.now.table.shared.key m.0.upper c.args.base note) (sym i.still) r) l).1 in
     let told = c.compare_by.ensures.order (get_or note.objects middle [])
-    (subst (λ (m : MyTree). IsObjectShown m.0.upper c.item-row.result (get_or note.objects middle [])) (sym c.item-row.ensures.still) object) in
+    (subst (λ (m : MyTree). IsObjectShown m.0.upper c.item-row.result (get_or note.objects middle [])) (sym c.item-row.ensures.frame.still) object) in
     found c.args.space.now.table.shared.key.keypos note c.args.key.now r.ordered middle l (sym told ∙ c.in-Equal.is)
 
 pub loop-low-preserved : goal.loop-low-preserved
@@ -44,7 +44,7 @@ loop-low-preserved c = let middle : ℕ = c.loop-low.low + (c.loop-low.high - c.
     let object = (c.item-row.ensures.item note
     (subst (λ (m : MyTree). IsReadable c.args.space.now.table.shared.key m.0.upper c.args.base note) (sym i.still) r) l).1 in
     c.compare_by.ensures.order (get_or note.objects middle [])
-    (subst (λ (m : MyTree). IsObjectShown m.0.upper c.item-row.result (get_or note.objects middle [])) (sym c.item-row.ensures.still) object) in
+    (subst (λ (m : MyTree). IsObjectShown m.0.upper c.item-row.result (get_or note.objects middle [])) (sym c.item-row.ensures.frame.still) object) in
     record {
       own = search rules;
       same = search rules;

@@ -1,4 +1,4 @@
-use Rattle.std.proofs.Common.{◌≡◌, [], ◌∷◌, length, Ok, sym, refl, ap, ◌∙◌, subst, arith}
+use Rattle.std.proofs.Common.{◌≡◌, [], ◌∷◌, length, Ok, sym, refl, ap, ◌∙◌, subst, arith, rules}
 use Rattle.std.specs.List.{remove}
 use Rattle.ca_node.proofs.Members.{in_first}
 use Rattle.ca_node.specs.Told.{IsBaseNote}
@@ -13,25 +13,37 @@ use Rattle.ca_rows.specs.declared.view.Pin.{Pin}
 use Rattle.ca_base.proofs.Tallies.{tallied_as}
 use Rattle.ca_base.proofs.removing.remove_at.Goals as goal
 
-pub returns-in-Err-clause-none : goal.returns-in-Err-clause-none
-returns-in-Err-clause-none c = c.in-Err.ensures.taken [] (omega arith) c.requires.none
+pub returns-in-Err-clause-frame : goal.returns-in-Err-clause-frame
+returns-in-Err-clause-frame c = record {
+  same = search rules;
+  number = search rules;
+  tally = search rules;
+  pin = search rules;
+  none = c.in-Err.ensures.taken [] (omega arith) c.requires.ready.none;
+}
 
 pub write_base_without-old-requires-clause-held : goal.write_base_without-old-requires-clause-held
-write_base_without-old-requires-clause-held c = ((c.in-Ok.ensures.taken [] (omega arith) c.requires.none).1.0.each c.in-Ok.row (in_first c.in-Ok.row [])).2
+write_base_without-old-requires-clause-held c = ((c.in-Ok.ensures.taken [] (omega arith) c.requires.ready.none).1.0.each c.in-Ok.row (in_first c.in-Ok.row [])).2
 
 pub write_base_without-old-requires-clause-inside : goal.write_base_without-old-requires-clause-inside
-write_base_without-old-requires-clause-inside c = ((c.in-Ok.ensures.taken [] (omega arith) c.requires.none).1.0.each c.in-Ok.row (in_first c.in-Ok.row [])).1
+write_base_without-old-requires-clause-inside c = ((c.in-Ok.ensures.taken [] (omega arith) c.requires.ready.none).1.0.each c.in-Ok.row (in_first c.in-Ok.row [])).1
 
-pub write_base_without-old-requires-clause-pinned : goal.write_base_without-old-requires-clause-pinned
-write_base_without-old-requires-clause-pinned c = ap (λ (e : Pin). e.pinned) c.take.ensures.same.3 ∙ c.requires.pinned
+pub write_base_without-old-requires-clause-reading : goal.write_base_without-old-requires-clause-reading
+write_base_without-old-requires-clause-reading c = record {
+  own = (
+    c.take.ensures.frame.same.0 ∙ c.requires.ready.own.0,
+    c.take.ensures.frame.same.2 ∙ c.requires.ready.own.1,
+  );
+  pinned = ap (λ (e : Pin). e.pinned) c.take.ensures.frame.same.3 ∙ c.requires.ready.pinned;
+}
 
 pub write_base_without-old-requires-clause-shown : goal.write_base_without-old-requires-clause-shown
 write_base_without-old-requires-clause-shown c = subst (λ (u : TreeView). IsShownLast c.args.space.now.table.shared.key u c.args.cursor.base)
-    (sym c.take.ensures.same.4) c.requires.shown
+    (sym c.take.ensures.frame.same.4) c.requires.shown
 
 pub write_base_without-old-requires-clause-many : goal.write_base_without-old-requires-clause-many
 write_base_without-old-requires-clause-many c = let u = c.args.pass.now.seat.me.0.upper in (
-  subst (λ (v : TreeView). c.args.many ≡ length (last_items v)) (sym c.take.ensures.same.4)
+  subst (λ (v : TreeView). c.args.many ≡ length (last_items v)) (sym c.take.ensures.frame.same.4)
       (many_are _ u c.args.cursor.base c.args.many c.requires.shown c.requires.many),
   few_are _ u c.args.cursor.base c.args.many c.requires.shown c.requires.many c.requires.leaf,
 )
@@ -44,18 +56,18 @@ pub swap_in-requires-clause-held : goal.swap_in-requires-clause-held
 swap_in-requires-clause-held c = let v = c.write_base_without-old.ensures.written in
     written_row c.args.space.now.table.shared.key.rows c.take.new.pass.kept c.write_base_without-old.new.pass.kept c.take.new.pass.seat.me
     c.write_base_without-old.new.pass.seat.me (c.in-Ok.row ∷ []) c.in-Ok.row v.0 (in_first c.in-Ok.row []) v.1.long v.2
-    c.write_base_without-old.ensures.kept (c.in-Ok.ensures.taken [] (omega arith) c.requires.none).1
+    c.write_base_without-old.ensures.frame.kept (c.in-Ok.ensures.taken [] (omega arith) c.requires.ready.none).1
 
 pub swap_in-requires-clause-old_base : goal.swap_in-requires-clause-old_base
 swap_in-requires-clause-old_base c = subst (λ (u : TreeView). IsBaseNote c.args.space.now.table.shared.key (first_note u.notes))
-    (sym (c.write_base_without-old.ensures.same.4 ∙ c.take.ensures.same.4)) c.requires.shown.is_base
+    (sym (c.write_base_without-old.ensures.frame.same.4 ∙ c.take.ensures.frame.same.4)) c.requires.shown.is_base
 
 pub swap_in-requires-clause-cursor : goal.swap_in-requires-clause-cursor
 swap_in-requires-clause-cursor c = subst (λ (u : TreeView). IsAtCursor c.args.space.now.table.shared.key (first_note u.notes) c.args.cursor)
-    (sym (c.write_base_without-old.ensures.same.4 ∙ c.take.ensures.same.4)) c.requires.cursor
+    (sym (c.write_base_without-old.ensures.frame.same.4 ∙ c.take.ensures.frame.same.4)) c.requires.cursor
 
 pub swap_in-requires-clause-rows : goal.swap_in-requires-clause-rows
-swap_in-requires-clause-rows c = let one = c.take.ensures.same in let two = c.write_base_without-old.ensures.same in (
+swap_in-requires-clause-rows c = let one = c.take.ensures.frame.same in let two = c.write_base_without-old.ensures.frame.same in (
   refl,
   ap (λ (u : TreeView). gone (Ok c.args.at) (last_items u)) two.4
       ∙ (ap (λ x. x ∷ []) (sym c.write_base_without-old.ensures.gone) ∙ sym c.from_ref-goes.ensures.value),
@@ -63,15 +75,15 @@ swap_in-requires-clause-rows c = let one = c.take.ensures.same in let two = c.wr
 
 pub swap_in-requires-clause-update : goal.swap_in-requires-clause-update
 swap_in-requires-clause-update c = let v = c.write_base_without-old.ensures.written in let r = c.requires in
-    let one = c.take.ensures.same in let two = c.write_base_without-old.ensures.same in
+    let one = c.take.ensures.frame.same in let two = c.write_base_without-old.ensures.frame.same in
     ready_without c.args.space.now.table.shared.key c.args.pass.now.seat.me c.take.new.pass.seat.me c.write_base_without-old.new.pass.seat.me c.in-Ok.row
     c.args.cursor.base c.args.at c.args.statistic c.args._key.now v.0 r.shown (two.4 ∙ one.4) r.place
     (spells_there c.args.pass.now.seat.me.0.upper c.take.new.pass.seat.me.0.upper (λ xs. remove xs c.args.at) _ c.args.cursor.level c.args.statistic v.0 one.4
-    r.cursor.level v.1) v.2 r.pinned r.number (two.3 ∙ one.3) r.ordered r.about
+    r.cursor.level v.1) v.2 r.ready.pinned r.ready.number (two.3 ∙ one.3) r.ordered r.about
 
 pub returns-clause-removed : goal.returns-clause-removed
 returns-clause-removed c = let v = c.write_base_without-old.ensures.written in let r = c.requires in
-    let one = c.take.ensures.same in let two = c.write_base_without-old.ensures.same in
+    let one = c.take.ensures.frame.same in let two = c.write_base_without-old.ensures.frame.same in
     removed c.args.space.now.table.shared.key c.args.pass.now.seat.me c.take.new.pass.seat.me c.write_base_without-old.new.pass.seat.me c.in-Ok.row
     c.args.cursor.base c.args.at c.args.statistic c.args._key.now v.0 r.shown (two.4 ∙ one.4) r.place
     (spells_there c.args.pass.now.seat.me.0.upper c.take.new.pass.seat.me.0.upper (λ xs. remove xs c.args.at) _ c.args.cursor.level c.args.statistic v.0 one.4
@@ -80,49 +92,37 @@ returns-clause-removed c = let v = c.write_base_without-old.ensures.written in l
 
 pub returns-clause-renewed : goal.returns-clause-renewed
 returns-clause-renewed c = let v = c.write_base_without-old.ensures.written in let r = c.requires in
-    let one = c.take.ensures.same in let two = c.write_base_without-old.ensures.same in
+    let one = c.take.ensures.frame.same in let two = c.write_base_without-old.ensures.frame.same in
     renewed_without c.args.space.now.table.shared.key c.args.pass.now.seat.me c.take.new.pass.seat.me c.write_base_without-old.new.pass.seat.me c.in-Ok.row
     c.args.cursor.base c.args.at c.args.statistic c.args._key.now v.0 r.shown (two.4 ∙ one.4) r.place
     (spells_there c.args.pass.now.seat.me.0.upper c.take.new.pass.seat.me.0.upper (λ xs. remove xs c.args.at) _ c.args.cursor.level c.args.statistic v.0 one.4
     r.cursor.level v.1) v.2
     c.swap_in.result c.swap_in.new.pass.seat.me.0.upper c.swap_in.ensures.renewed
 
-pub returns-clause-tally : goal.returns-clause-tally
-returns-clause-tally c h = c.swap_in.ensures.tally (tallied_as c.args.pass.now.tally c.write_base_without-old.new.pass.tally
-    c.args.pass.now.seat.me.0.upper c.write_base_without-old.new.pass.seat.me.0.upper
-    (c.write_base_without-old.ensures.tally ∙ c.take.ensures.tally) (c.write_base_without-old.ensures.same.4 ∙ c.take.ensures.same.4) h)
+pub returns-clause-frame : goal.returns-clause-frame
+returns-clause-frame c = record {
+  same = (
+    c.swap_in.ensures.frame.same.0 ∙ (c.write_base_without-old.ensures.frame.same.0 ∙ c.take.ensures.frame.same.0),
+    c.swap_in.ensures.frame.same.1 ∙ (c.write_base_without-old.ensures.frame.same.1 ∙ c.take.ensures.frame.same.1),
+  );
+  number = c.swap_in.ensures.frame.number ∙ (c.write_base_without-old.ensures.frame.number ∙ c.take.ensures.frame.number);
+  tally = λ h. c.swap_in.ensures.frame.tally (tallied_as c.args.pass.now.tally c.write_base_without-old.new.pass.tally
+      c.args.pass.now.seat.me.0.upper c.write_base_without-old.new.pass.seat.me.0.upper
+      (c.write_base_without-old.ensures.frame.tally ∙ c.take.ensures.frame.tally) (c.write_base_without-old.ensures.frame.same.4 ∙ c.take.ensures.frame.same.4) h);
+  pin = (
+    c.swap_in.ensures.frame.pin.0 ∙ (c.write_base_without-old.ensures.frame.same.2 ∙ c.take.ensures.frame.same.2),
+    c.swap_in.ensures.frame.pin.1 ∙ (c.write_base_without-old.ensures.frame.same.3 ∙ c.take.ensures.frame.same.3),
+  );
+  none = c.swap_in.ensures.frame.none;
+}
 
 pub returns-clause-won : goal.returns-clause-won
 returns-clause-won c alone listed = won_then c.args.space.now.table.shared.key c.args.pass.now.seat.me.0.upper
     c.write_base_without-old.new.pass.seat.me.0.upper c.swap_in.result
-    (c.write_base_without-old.ensures.same.4 ∙ c.take.ensures.same.4) c.swap_in.ensures.won alone listed _ refl
-
-pub write_base_without-old-requires-clause-own : goal.write_base_without-old-requires-clause-own
-write_base_without-old-requires-clause-own c = (
-  c.take.ensures.same.0 ∙ c.requires.own.0,
-  c.take.ensures.same.2 ∙ c.requires.own.1,
-)
+    (c.write_base_without-old.ensures.frame.same.4 ∙ c.take.ensures.frame.same.4) c.swap_in.ensures.won alone listed _ refl
 
 pub swap_in-requires-clause-own : goal.swap_in-requires-clause-own
 swap_in-requires-clause-own c = (
-  c.write_base_without-old.ensures.same.0 ∙ (c.take.ensures.same.0 ∙ c.requires.own.0),
-  c.write_base_without-old.ensures.same.2 ∙ (c.take.ensures.same.2 ∙ c.requires.own.1),
+  c.write_base_without-old.ensures.frame.same.0 ∙ (c.take.ensures.frame.same.0 ∙ c.requires.ready.own.0),
+  c.write_base_without-old.ensures.frame.same.2 ∙ (c.take.ensures.frame.same.2 ∙ c.requires.ready.own.1),
 )
-
-pub returns-clause-same : goal.returns-clause-same
-returns-clause-same c = (
-  c.swap_in.ensures.same.0 ∙ (c.write_base_without-old.ensures.same.0 ∙ c.take.ensures.same.0),
-  c.swap_in.ensures.same.1 ∙ (c.write_base_without-old.ensures.same.1 ∙ c.take.ensures.same.1),
-)
-
-pub returns-clause-number : goal.returns-clause-number
-returns-clause-number c = c.swap_in.ensures.number ∙ (c.write_base_without-old.ensures.number ∙ c.take.ensures.number)
-
-pub returns-clause-pin : goal.returns-clause-pin
-returns-clause-pin c = (
-  c.swap_in.ensures.pin.0 ∙ (c.write_base_without-old.ensures.same.2 ∙ c.take.ensures.same.2),
-  c.swap_in.ensures.pin.1 ∙ (c.write_base_without-old.ensures.same.3 ∙ c.take.ensures.same.3),
-)
-
-pub returns-clause-none : goal.returns-clause-none
-returns-clause-none c = c.swap_in.ensures.none

@@ -10,4 +10,4 @@ returns-clause-written c = let u = c.args.pass.now.seat.me.0.upper in
     half_written c.args.row c.args.level _ c.args.from c.args.count (last_items u) c.args.pass.now.seat.me c.write_head.new.pass.seat.me
     c.copy_items.new.pass.seat.me c.requires.held (omega arith) c.requires.places.0 (omega arith) c.write_head.ensures.filled
     (subst (λ (v : TreeView). HasFilled c.args.row (11 + 0) c.args.count (λ i word. word ≡ get_or (last_items v) (c.args.from + i) 0)
-    c.write_head.new.pass.seat.me c.copy_items.new.pass.seat.me) c.write_head.ensures.same.4 c.copy_items.ensures.filled)
+    c.write_head.new.pass.seat.me c.copy_items.new.pass.seat.me) c.write_head.ensures.frame.same.4 c.copy_items.ensures.filled)

@@ -1,4 +1,4 @@
-use Rattle.std.proofs.Common.{[], ◌∷◌, refl, true, false}
+use Rattle.std.proofs.Common.{[], ◌∷◌, refl, true, false, rules}
 use Rattle.ca_node.specs.Laws.{in_nothing}
 use Rattle.ca_base.proofs.Alone.{not_missed}
 use Rattle.ca_base.proofs.Divisions.{divided_rows}
@@ -20,23 +20,32 @@ retire_unlinked-requires-clause-unlinked g c = let r = c.requires.rows in (
       (λ i. r.1 i ∷ r.2 i ∷ r.3 i ∷ []) r.0 c.if-not-divide_base.ensures.done c.divide_base.ensures.kept c.requires.apart c.requires.held,
 )
 
-pub returns-clause-none : goal.returns-clause-none
-returns-clause-none g c = let r = c.requires.rows in let rows = c.args.space.now.table.shared.key.rows in
-    none_left rows c.retire_unlinked.new.pass.kept.rows c.retire_unlinked.new.pass.seat.me.0
-    (c.retire_unlinked.ensures.retired [] (in_nothing c.args.base [] refl)
-    (divided_rows rows c.args.pass.now.kept c.divide_base.new.pass.kept c.args.pass.now.seat.me c.divide_base.new.pass.seat.me g.K.Plan.division c.args.base
-    (c.args.route ∷ c.args.left ∷ c.args.right ∷ []) (λ i. r.1 i ∷ r.2 i ∷ r.3 i ∷ []) r.0 c.if-not-divide_base.ensures.done
-    c.divide_base.ensures.kept c.requires.apart c.requires.held))
+pub returns-clause-frame : goal.returns-clause-frame
+returns-clause-frame g c = record {
+  same = search rules;
+  number = search rules;
+  tally = tallied_division true g.K.Plan.division c.args.pass.now.seat.me c.divide_base.new.pass.seat.me
+      c.retire_unlinked.new.pass.seat.me.0.upper c.args.pass.now.tally c.divide_base.new.pass.tally c.retire_unlinked.new.pass.tally
+      c.if-not-divide_base.ensures.done c.if-not-divide_base.ensures.tally c.retire_unlinked.ensures.frame.same.4 c.retire_unlinked.ensures.frame.tally;
+  pin = search rules;
+  none = let r = c.requires.rows in let rows = c.args.space.now.table.shared.key.rows in
+      none_left rows c.retire_unlinked.new.pass.kept.rows c.retire_unlinked.new.pass.seat.me.0
+      (c.retire_unlinked.ensures.retired [] (in_nothing c.args.base [] refl)
+      (divided_rows rows c.args.pass.now.kept c.divide_base.new.pass.kept c.args.pass.now.seat.me c.divide_base.new.pass.seat.me g.K.Plan.division c.args.base
+      (c.args.route ∷ c.args.left ∷ c.args.right ∷ []) (λ i. r.1 i ∷ r.2 i ∷ r.3 i ∷ []) r.0 c.if-not-divide_base.ensures.done
+      c.divide_base.ensures.kept c.requires.apart c.requires.held));
+}
 
-pub returns-then-not-divide_base-clause-tally : goal.returns-then-not-divide_base-clause-tally
-returns-then-not-divide_base-clause-tally g c = tallied_division false g.K.Plan.division c.args.pass.now.seat.me c.divide_base.new.pass.seat.me
-    c.give_back_all.new.pass.seat.me.0.upper c.args.pass.now.tally c.divide_base.new.pass.tally c.give_back_all.new.pass.tally
-    c.if-not-divide_base.ensures.done c.if-not-divide_base.ensures.tally c.give_back_all.ensures.same.4 c.give_back_all.ensures.tally
-
-pub returns-clause-tally : goal.returns-clause-tally
-returns-clause-tally g c = tallied_division true g.K.Plan.division c.args.pass.now.seat.me c.divide_base.new.pass.seat.me
-    c.retire_unlinked.new.pass.seat.me.0.upper c.args.pass.now.tally c.divide_base.new.pass.tally c.retire_unlinked.new.pass.tally
-    c.if-not-divide_base.ensures.done c.if-not-divide_base.ensures.tally c.retire_unlinked.ensures.same.4 c.retire_unlinked.ensures.tally
+pub returns-then-not-divide_base-clause-frame : goal.returns-then-not-divide_base-clause-frame
+returns-then-not-divide_base-clause-frame g c = record {
+  same = search rules;
+  number = search rules;
+  tally = tallied_division false g.K.Plan.division c.args.pass.now.seat.me c.divide_base.new.pass.seat.me
+      c.give_back_all.new.pass.seat.me.0.upper c.args.pass.now.tally c.divide_base.new.pass.tally c.give_back_all.new.pass.tally
+      c.if-not-divide_base.ensures.done c.if-not-divide_base.ensures.tally c.give_back_all.ensures.frame.same.4 c.give_back_all.ensures.frame.tally;
+  pin = search rules;
+  none = search rules;
+}
 
 pub returns-then-not-divide_base-clause-won : goal.returns-then-not-divide_base-clause-won
 returns-then-not-divide_base-clause-won g c alone listed _ = not_missed c.args.space.now.table.shared.key c.args.pass.now.seat.me g.K.Plan.division.old

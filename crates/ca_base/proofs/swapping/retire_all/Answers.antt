@@ -11,13 +11,13 @@ retire_unlinked-requires-clause-unlinked c =
     (drop (c.loop-at.at + 1) c.args.rows.now, h.0, h.1)
 
 pub loop-at-preserved : goal.loop-at-preserved
-loop-at-preserved c = let i = c.loop-at.invariant in let s = c.retire_unlinked.ensures.same in
+loop-at-preserved c = let i = c.loop-at.invariant in let s = c.retire_unlinked.ensures.frame.same in
     let h = from_place (AreUnlinked c.args.space.now.table.shared.key.rows c.loop-at.pass.kept.rows c.loop-at.pass.seat.me.0) c.args.rows.now
     c.loop-at.at (omega arith) c.requires.apart i.unlinked in record {
       own = (s.0 ∙ i.own.0, s.2 ∙ i.own.1);
       still = (s.0 ∙ i.still.0, s.1 ∙ i.still.1, s.2 ∙ i.still.2, s.3 ∙ i.still.3, s.4 ∙ i.still.4);
-      number = c.retire_unlinked.ensures.number ∙ i.number;
-      tally = c.retire_unlinked.ensures.tally ∙ i.tally;
+      number = c.retire_unlinked.ensures.frame.number ∙ i.number;
+      tally = c.retire_unlinked.ensures.frame.tally ∙ i.tally;
       unlinked = c.retire_unlinked.ensures.retired (drop (c.loop-at.at + 1) c.args.rows.now) h.0 h.1;
       met = let m = c.retire_unlinked.ensures.met in (
         m.0 ∙ i.met.0,

@@ -1,4 +1,4 @@
-use Rattle.std.proofs.Common.{ap, arith}
+use Rattle.std.proofs.Common.{ap, arith, rules}
 use Rattle.ca_node.proofs.Members.{in_first}
 use Rattle.ca_node.specs.Told.{MyTree}
 use Rattle.ca_base.specs.Counting.{losses}
@@ -12,14 +12,18 @@ retire-requires-clause-list c = c.requires.unlinked.2.0.are_kept
 pub retire-requires-clause-mine : goal.retire-requires-clause-mine
 retire-requires-clause-mine c = let h = c.requires.unlinked in (Unlinked, h.2.0.each c.args.row (in_first c.args.row h.0), tt)
 
-pub returns-clause-same : goal.returns-clause-same
-returns-clause-same c = let told = c.retire.ensures.retired.2 in (
-  c.retire.ensures.same.0,
-  c.retire.ensures.same.1,
-  ap (λ (m : MyTree). m.0.sizes) told,
-  ap (λ (m : MyTree). m.0.pin) told,
-  ap (λ (m : MyTree). m.0.upper) told,
-)
+pub returns-clause-frame : goal.returns-clause-frame
+returns-clause-frame c = record {
+  same = let told = c.retire.ensures.retired.2 in (
+    c.retire.ensures.frame.same.0,
+    c.retire.ensures.frame.same.1,
+    ap (λ (m : MyTree). m.0.sizes) told,
+    ap (λ (m : MyTree). m.0.pin) told,
+    ap (λ (m : MyTree). m.0.upper) told,
+  );
+  number = search rules;
+  tally = search rules;
+}
 
 pub returns-clause-met : goal.returns-clause-met
 returns-clause-met c = let told = c.retire.ensures.retired.2 in let empty = ap (λ (m : MyTree). m.0.empty) told in

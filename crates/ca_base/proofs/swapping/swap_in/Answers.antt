@@ -1,4 +1,4 @@
-use Rattle.std.proofs.Common.{◌≤◌, length, ℕ, List, ◌∷◌, sym, refl, ap, subst, ◌∙◌, true, false}
+use Rattle.std.proofs.Common.{◌≤◌, length, ℕ, List, ◌∷◌, sym, refl, ap, subst, ◌∙◌, true, false, rules}
 use Rattle.ca_base.specs.Counting.{losses}
 use Rattle.ca_base.proofs.Alone.{not_missed}
 use Rattle.ca_base.proofs.Counts.{none_spent}
@@ -13,19 +13,19 @@ give_back-requires-clause-held g c = (
   c.args.comes.now,
   c.requires.apart.0.0,
   held_still c.args.space.now.table.shared.key.rows c.args.pass.now.kept c.replace_base.new.pass.kept c.args.pass.now.seat.me c.replace_base.new.pass.seat.me
-      (c.args.new ∷ c.args.comes.now) c.if-not-replace_base.ensures.done c.replace_base.ensures.kept c.requires.held,
+      (c.args.new ∷ c.args.comes.now) c.if-not-replace_base.ensures.done c.replace_base.ensures.frame.kept c.requires.held,
 )
 
 pub give_back_all-requires-clause-held : goal.give_back_all-requires-clause-held
 give_back_all-requires-clause-held g c = c.give_back.ensures.given c.args.comes.now c.requires.apart.0.0
     (held_still c.args.space.now.table.shared.key.rows c.args.pass.now.kept c.replace_base.new.pass.kept c.args.pass.now.seat.me c.replace_base.new.pass.seat.me
-    (c.args.new ∷ c.args.comes.now) c.if-not-replace_base.ensures.done c.replace_base.ensures.kept c.requires.held)
+    (c.args.new ∷ c.args.comes.now) c.if-not-replace_base.ensures.done c.replace_base.ensures.frame.kept c.requires.held)
 
 pub retire_unlinked-requires-clause-unlinked : goal.retire_unlinked-requires-clause-unlinked
 retire_unlinked-requires-clause-unlinked g c = let r = c.requires.rows in
     let now = swapped c.args.space.now.table.shared.key.rows c.args.pass.now.kept c.replace_base.new.pass.kept c.args.pass.now.seat.me
     c.replace_base.new.pass.seat.me c.args.new g.K.Intent.update c.args.cursor.base (c.args.new ∷ c.args.comes.now) c.args.goes.now
-    (ap (λ xs. c.args.new ∷ xs) r.0) c.requires.cursor.base r.1 c.if-not-replace_base.ensures.done c.replace_base.ensures.kept c.requires.apart.0
+    (ap (λ xs. c.args.new ∷ xs) r.0) c.requires.cursor.base r.1 c.if-not-replace_base.ensures.done c.replace_base.ensures.frame.kept c.requires.apart.0
     c.requires.held in
     (c.args.goes.now, now.0, now.1)
 
@@ -33,14 +33,14 @@ pub retire_all-requires-clause-unlinked : goal.retire_all-requires-clause-unlink
 retire_all-requires-clause-unlinked g c = let r = c.requires.rows in
     let now = swapped c.args.space.now.table.shared.key.rows c.args.pass.now.kept c.replace_base.new.pass.kept c.args.pass.now.seat.me
     c.replace_base.new.pass.seat.me c.args.new g.K.Intent.update c.args.cursor.base (c.args.new ∷ c.args.comes.now) c.args.goes.now
-    (ap (λ xs. c.args.new ∷ xs) r.0) c.requires.cursor.base r.1 c.if-not-replace_base.ensures.done c.replace_base.ensures.kept c.requires.apart.0
+    (ap (λ xs. c.args.new ∷ xs) r.0) c.requires.cursor.base r.1 c.if-not-replace_base.ensures.done c.replace_base.ensures.frame.kept c.requires.apart.0
     c.requires.held in
     c.retire_unlinked.ensures.retired c.args.goes.now now.0 now.1
 
 pub returns-clause-done : goal.returns-clause-done
 returns-clause-done g c = is_done c.args.space.now.table.shared.key c.args.new g.K.Intent.update c.args.pass.now.seat.me c.replace_base.new.pass.seat.me
     c.retire_all.new.pass.seat.me.0.upper c.requires.own.1 c.args.space.now.few.0 c.requires.update.does c.if-not-replace_base.ensures.done
-    (c.retire_all.ensures.same.4 ∙ c.retire_unlinked.ensures.same.4)
+    (c.retire_all.ensures.frame.same.4 ∙ c.retire_unlinked.ensures.frame.same.4)
 
 pub returns-clause-counted : goal.returns-clause-counted
 returns-clause-counted g c = none_spent c.args.spent.now c.args.pass.now.seat.me c.retire_all.new.pass.seat.me
@@ -53,7 +53,7 @@ returns-clause-renewed g c = renewed c.args.space.now.table.shared.key c.args.pa
     (sym c.requires.rows.0) c.requires.held.0)
     c.replace_base.new.pass.seat.me c.retire_all.new.pass.seat.me.0.upper
     (subst (λ (xs : List ℕ). length xs ≤ 1) (sym c.requires.rows.0) c.requires.few) c.if-not-replace_base.ensures.done
-    (c.retire_all.ensures.same.4 ∙ c.retire_unlinked.ensures.same.4)
+    (c.retire_all.ensures.frame.same.4 ∙ c.retire_unlinked.ensures.frame.same.4)
 
 pub returns-clause-placed : goal.returns-clause-placed
 returns-clause-placed g c = λ _. placed c.args.space.now.table.shared.key c.args.pass.now.kept.rows c.args.pass.now.seat.me c.args.new g.K.Intent.update
@@ -61,19 +61,31 @@ returns-clause-placed g c = λ _. placed c.args.space.now.table.shared.key c.arg
     (subst (λ (xs : List ℕ). HasHeld c.args.space.now.table.shared.key.rows c.args.pass.now.kept.rows c.args.pass.now.seat.me.0.claims (c.args.new ∷ xs))
     (sym c.requires.rows.0) c.requires.held.0)
     c.replace_base.new.pass.seat.me c.retire_all.new.pass.seat.me.0.upper c.if-not-replace_base.ensures.done
-    (c.retire_all.ensures.same.4 ∙ c.retire_unlinked.ensures.same.4)
+    (c.retire_all.ensures.frame.same.4 ∙ c.retire_unlinked.ensures.frame.same.4)
 
-pub returns-then-not-replace_base-clause-tally : goal.returns-then-not-replace_base-clause-tally
-returns-then-not-replace_base-clause-tally g c = tallied_update false c.args.new g.K.Intent.update c.args.pass.now.seat.me c.replace_base.new.pass.seat.me
-    c.give_back_all.new.pass.seat.me.0.upper c.args.pass.now.tally c.give_back_all.new.pass.tally c.if-not-replace_base.ensures.done
-    (c.give_back_all.ensures.same.4 ∙ c.give_back.ensures.same.4)
-    (c.give_back_all.ensures.tally ∙ (c.give_back.ensures.tally ∙ c.replace_base.ensures.tally))
+pub returns-then-not-replace_base-clause-frame : goal.returns-then-not-replace_base-clause-frame
+returns-then-not-replace_base-clause-frame g c = record {
+  same = search rules;
+  number = search rules;
+  tally = tallied_update false c.args.new g.K.Intent.update c.args.pass.now.seat.me c.replace_base.new.pass.seat.me
+      c.give_back_all.new.pass.seat.me.0.upper c.args.pass.now.tally c.give_back_all.new.pass.tally c.if-not-replace_base.ensures.done
+      (c.give_back_all.ensures.frame.same.4 ∙ c.give_back.ensures.frame.same.4)
+      (c.give_back_all.ensures.frame.tally ∙ (c.give_back.ensures.frame.tally ∙ c.replace_base.ensures.frame.tally));
+  pin = search rules;
+  none = search rules;
+}
 
-pub returns-clause-tally : goal.returns-clause-tally
-returns-clause-tally g c = tallied_update true c.args.new g.K.Intent.update c.args.pass.now.seat.me c.replace_base.new.pass.seat.me
-    c.retire_all.new.pass.seat.me.0.upper c.args.pass.now.tally c.retire_all.new.pass.tally c.if-not-replace_base.ensures.done
-    (c.retire_all.ensures.same.4 ∙ c.retire_unlinked.ensures.same.4)
-    (c.retire_all.ensures.tally ∙ (c.retire_unlinked.ensures.tally ∙ c.replace_base.ensures.tally))
+pub returns-clause-frame : goal.returns-clause-frame
+returns-clause-frame g c = record {
+  same = search rules;
+  number = search rules;
+  tally = tallied_update true c.args.new g.K.Intent.update c.args.pass.now.seat.me c.replace_base.new.pass.seat.me
+      c.retire_all.new.pass.seat.me.0.upper c.args.pass.now.tally c.retire_all.new.pass.tally c.if-not-replace_base.ensures.done
+      (c.retire_all.ensures.frame.same.4 ∙ c.retire_unlinked.ensures.frame.same.4)
+      (c.retire_all.ensures.frame.tally ∙ (c.retire_unlinked.ensures.frame.tally ∙ c.replace_base.ensures.frame.tally));
+  pin = search rules;
+  none = search rules;
+}
 
 pub returns-then-not-replace_base-clause-won : goal.returns-then-not-replace_base-clause-won
 returns-then-not-replace_base-clause-won g c alone listed _ = not_missed c.args.space.now.table.shared.key c.args.pass.now.seat.me g.K.Intent.update.old

@@ -29,16 +29,22 @@ write_base_with-old-requires-clause-held c = let t = c.in-Ok.ensures.taken in le
 pub write_base_with-old-requires-clause-inside : goal.write_base_with-old-requires-clause-inside
 write_base_with-old-requires-clause-inside c = (c.in-Ok.ensures.taken.1.0.each c.in-Ok.rows.0 (in_first c.in-Ok.rows.0 (c.in-Ok.rows.1 ∷ []))).1
 
-pub write_base_with-old-requires-clause-pinned : goal.write_base_with-old-requires-clause-pinned
-write_base_with-old-requires-clause-pinned c = ap (λ (e : Pin). e.pinned) (c.write_object.ensures.same.3 ∙ c.take_two.ensures.same.3) ∙ c.requires.pinned
+pub write_base_with-old-requires-clause-reading : goal.write_base_with-old-requires-clause-reading
+write_base_with-old-requires-clause-reading c = record {
+  own = (
+    c.write_object.ensures.frame.same.0 ∙ (c.take_two.ensures.frame.same.0 ∙ c.requires.ready.own.0),
+    c.write_object.ensures.frame.same.2 ∙ (c.take_two.ensures.frame.same.2 ∙ c.requires.ready.own.1),
+  );
+  pinned = ap (λ (e : Pin). e.pinned) (c.write_object.ensures.frame.same.3 ∙ c.take_two.ensures.frame.same.3) ∙ c.requires.ready.pinned;
+}
 
 pub write_base_with-old-requires-clause-shown : goal.write_base_with-old-requires-clause-shown
 write_base_with-old-requires-clause-shown c = subst (λ (u : TreeView). IsShownLast c.args.space.now.table.shared.key u c.args.cursor.base)
-    (sym (c.write_object.ensures.same.4 ∙ c.take_two.ensures.same.4)) c.requires.shown
+    (sym (c.write_object.ensures.frame.same.4 ∙ c.take_two.ensures.frame.same.4)) c.requires.shown
 
 pub write_base_with-old-requires-clause-many : goal.write_base_with-old-requires-clause-many
 write_base_with-old-requires-clause-many c = let u = c.args.pass.now.seat.me.0.upper in (
-  subst (λ (v : TreeView). c.args.many ≡ length (last_items v)) (sym (c.write_object.ensures.same.4 ∙ c.take_two.ensures.same.4))
+  subst (λ (v : TreeView). c.args.many ≡ length (last_items v)) (sym (c.write_object.ensures.frame.same.4 ∙ c.take_two.ensures.frame.same.4))
       (many_are _ u c.args.cursor.base c.args.many c.requires.shown c.requires.many),
   few_are _ u c.args.cursor.base c.args.many c.requires.shown c.requires.many c.requires.leaf,
 )
@@ -54,22 +60,22 @@ swap_in-requires-clause-held c = let t = c.in-Ok.ensures.taken in let w = c.writ
     let v = c.write_base_with-old.ensures.written in let rows : List ℕ = c.in-Ok.rows.0 ∷ c.in-Ok.rows.1 ∷ [] in
     written_row c.args.space.now.table.shared.key.rows c.write_object.new.pass.kept c.write_base_with-old.new.pass.kept c.write_object.new.pass.seat.me
     c.write_base_with-old.new.pass.seat.me rows c.in-Ok.rows.0 v.0 (in_first c.in-Ok.rows.0 (c.in-Ok.rows.1 ∷ [])) v.1.long v.2
-    c.write_base_with-old.ensures.kept
+    c.write_base_with-old.ensures.frame.kept
     (written_row c.args.space.now.table.shared.key.rows c.take_two.new.pass.kept c.write_object.new.pass.kept c.take_two.new.pass.seat.me
     c.write_object.new.pass.seat.me rows c.in-Ok.rows.1 w.0 (in_rest c.in-Ok.rows.1 c.in-Ok.rows.0 (c.in-Ok.rows.1 ∷ []) (in_first c.in-Ok.rows.1 []))
-    w.1.long w.2 c.write_object.ensures.kept t.1)
+    w.1.long w.2 c.write_object.ensures.frame.kept t.1)
 
 pub swap_in-requires-clause-old_base : goal.swap_in-requires-clause-old_base
-swap_in-requires-clause-old_base c = let same = c.write_base_with-old.ensures.same.4 ∙ (c.write_object.ensures.same.4 ∙ c.take_two.ensures.same.4) in
+swap_in-requires-clause-old_base c = let same = c.write_base_with-old.ensures.frame.same.4 ∙ (c.write_object.ensures.frame.same.4 ∙ c.take_two.ensures.frame.same.4) in
     subst (λ (u : TreeView). IsBaseNote c.args.space.now.table.shared.key (first_note u.notes)) (sym same) c.requires.shown.is_base
 
 pub swap_in-requires-clause-cursor : goal.swap_in-requires-clause-cursor
-swap_in-requires-clause-cursor c = let same = c.write_base_with-old.ensures.same.4 ∙ (c.write_object.ensures.same.4 ∙ c.take_two.ensures.same.4) in
+swap_in-requires-clause-cursor c = let same = c.write_base_with-old.ensures.frame.same.4 ∙ (c.write_object.ensures.frame.same.4 ∙ c.take_two.ensures.frame.same.4) in
     subst (λ (u : TreeView). IsAtCursor c.args.space.now.table.shared.key (first_note u.notes) c.args.cursor) (sym same) c.requires.cursor
 
 pub swap_in-requires-clause-rows : goal.swap_in-requires-clause-rows
-swap_in-requires-clause-rows c = let one = c.take_two.ensures.same in let two = c.write_object.ensures.same in
-    let three = c.write_base_with-old.ensures.same in (
+swap_in-requires-clause-rows c = let one = c.take_two.ensures.frame.same in let two = c.write_object.ensures.frame.same in
+    let three = c.write_base_with-old.ensures.frame.same in (
       refl,
       ap (λ (u : TreeView). gone c.args.place (last_items u)) three.4 ∙ sym (c.gone-goes.ensures _ c.write_base_with-old.ensures.gone),
     )
@@ -77,13 +83,13 @@ swap_in-requires-clause-rows c = let one = c.take_two.ensures.same in let two = 
 pub swap_in-requires-clause-update : goal.swap_in-requires-clause-update
 swap_in-requires-clause-update c = let t = c.in-Ok.ensures.taken in let w = c.write_object.ensures.written in
     let v = c.write_base_with-old.ensures.written in let r = c.requires in
-    let one = c.take_two.ensures.same in let two = c.write_object.ensures.same in let three = c.write_base_with-old.ensures.same in
+    let one = c.take_two.ensures.frame.same in let two = c.write_object.ensures.frame.same in let three = c.write_base_with-old.ensures.frame.same in
     ready c.args.space.now.table.shared.key c.args.pass.now.seat.me c.take_two.new.pass.seat.me c.write_object.new.pass.seat.me
     c.write_base_with-old.new.pass.seat.me c.in-Ok.rows.1 c.in-Ok.rows.0 c.args.cursor.base c.args.place c.args.why c.args.object.now
     c.args.key_at c.args.key_end c.args.statistic w.0 v.0 r.shown (three.4 ∙ (two.4 ∙ one.4)) (λ e. t.0 (sym e)) w.1 w.2
     (spells_there c.args.pass.now.seat.me.0.upper c.write_object.new.pass.seat.me.0.upper (λ xs. put_in xs c.args.place c.in-Ok.rows.1) _ c.args.cursor.level
     c.args.statistic v.0 (two.4 ∙ one.4) r.cursor.level v.1) v.2
-    r.pinned r.number
+    r.ready.pinned r.ready.number
     (subst (λ (n : ℕ). IsRoom c.args.place n c.args.space.now.table.shared.key.leaf) (many_are _ _ c.args.cursor.base c.args.many r.shown r.many) r.room)
     r.pair r.place r.call (three.3 ∙ (two.3 ∙ one.3)) r.about
 
@@ -96,7 +102,7 @@ swap_in-requires-clause-apart c = (
 pub returns-clause-put : goal.returns-clause-put
 returns-clause-put c = let t = c.in-Ok.ensures.taken in let w = c.write_object.ensures.written in
     let v = c.write_base_with-old.ensures.written in let r = c.requires in
-    let one = c.take_two.ensures.same in let two = c.write_object.ensures.same in let three = c.write_base_with-old.ensures.same in
+    let one = c.take_two.ensures.frame.same in let two = c.write_object.ensures.frame.same in let three = c.write_base_with-old.ensures.frame.same in
     tried c.args.space.now.table.shared.key c.args.pass.now.seat.me c.take_two.new.pass.seat.me c.write_object.new.pass.seat.me
     c.write_base_with-old.new.pass.seat.me c.in-Ok.rows.1 c.in-Ok.rows.0 c.args.cursor.base c.args.place c.args.why c.args.object.now
     c.args.key_at c.args.key_end c.args.statistic w.0 v.0 r.shown (three.4 ∙ (two.4 ∙ one.4)) (λ e. t.0 (sym e)) w.1 w.2
@@ -107,7 +113,7 @@ returns-clause-put c = let t = c.in-Ok.ensures.taken in let w = c.write_object.e
 pub returns-clause-renewed : goal.returns-clause-renewed
 returns-clause-renewed c = let t = c.in-Ok.ensures.taken in let w = c.write_object.ensures.written in
     let v = c.write_base_with-old.ensures.written in let r = c.requires in
-    let one = c.take_two.ensures.same in let two = c.write_object.ensures.same in let three = c.write_base_with-old.ensures.same in
+    let one = c.take_two.ensures.frame.same in let two = c.write_object.ensures.frame.same in let three = c.write_base_with-old.ensures.frame.same in
     renewed_so c.args.space.now.table.shared.key c.args.pass.now.seat.me c.take_two.new.pass.seat.me c.write_object.new.pass.seat.me
     c.write_base_with-old.new.pass.seat.me c.in-Ok.rows.1 c.in-Ok.rows.0 c.args.cursor.base c.args.place c.args.why c.args.object.now
     c.args.key_at c.args.key_end c.args.statistic w.0 v.0 r.shown (three.4 ∙ (two.4 ∙ one.4)) (λ e. t.0 (sym e)) w.1 w.2
@@ -115,49 +121,37 @@ returns-clause-renewed c = let t = c.in-Ok.ensures.taken in let w = c.write_obje
     c.args.statistic v.0 (two.4 ∙ one.4) r.cursor.level v.1) v.2
     c.swap_in.result c.swap_in.new.pass.seat.me.0.upper c.swap_in.ensures.renewed
 
-pub returns-clause-tally : goal.returns-clause-tally
-returns-clause-tally c h = c.swap_in.ensures.tally (tallied_as c.args.pass.now.tally c.write_base_with-old.new.pass.tally c.args.pass.now.seat.me.0.upper
-    c.write_base_with-old.new.pass.seat.me.0.upper
-    (c.write_base_with-old.ensures.tally ∙ (c.write_object.ensures.tally ∙ c.take_two.ensures.tally))
-    (c.write_base_with-old.ensures.same.4 ∙ (c.write_object.ensures.same.4 ∙ c.take_two.ensures.same.4)) h)
+pub returns-clause-frame : goal.returns-clause-frame
+returns-clause-frame c = record {
+  same = (
+    c.swap_in.ensures.frame.same.0 ∙ (c.write_base_with-old.ensures.frame.same.0 ∙ (c.write_object.ensures.frame.same.0 ∙ c.take_two.ensures.frame.same.0)),
+    c.swap_in.ensures.frame.same.1 ∙ (c.write_base_with-old.ensures.frame.same.1 ∙ (c.write_object.ensures.frame.same.1 ∙ c.take_two.ensures.frame.same.1)),
+  );
+  number = c.swap_in.ensures.frame.number ∙ (c.write_base_with-old.ensures.frame.number ∙ (c.write_object.ensures.frame.number ∙ c.take_two.ensures.frame.number));
+  tally = λ h. c.swap_in.ensures.frame.tally (tallied_as c.args.pass.now.tally c.write_base_with-old.new.pass.tally c.args.pass.now.seat.me.0.upper
+      c.write_base_with-old.new.pass.seat.me.0.upper
+      (c.write_base_with-old.ensures.frame.tally ∙ (c.write_object.ensures.frame.tally ∙ c.take_two.ensures.frame.tally))
+      (c.write_base_with-old.ensures.frame.same.4 ∙ (c.write_object.ensures.frame.same.4 ∙ c.take_two.ensures.frame.same.4)) h);
+  pin = (
+    c.swap_in.ensures.frame.pin.0 ∙ (c.write_base_with-old.ensures.frame.same.2 ∙ (c.write_object.ensures.frame.same.2 ∙ c.take_two.ensures.frame.same.2)),
+    c.swap_in.ensures.frame.pin.1 ∙ (c.write_base_with-old.ensures.frame.same.3 ∙ (c.write_object.ensures.frame.same.3 ∙ c.take_two.ensures.frame.same.3)),
+  );
+  none = c.swap_in.ensures.frame.none;
+}
 
 pub returns-clause-won : goal.returns-clause-won
 returns-clause-won c alone listed = won_then c.args.space.now.table.shared.key c.args.pass.now.seat.me.0.upper
     c.write_base_with-old.new.pass.seat.me.0.upper c.swap_in.result
-    (c.write_base_with-old.ensures.same.4 ∙ (c.write_object.ensures.same.4 ∙ c.take_two.ensures.same.4)) c.swap_in.ensures.won alone listed _ refl
+    (c.write_base_with-old.ensures.frame.same.4 ∙ (c.write_object.ensures.frame.same.4 ∙ c.take_two.ensures.frame.same.4)) c.swap_in.ensures.won alone listed _ refl
 
 pub write_object-requires-clause-own : goal.write_object-requires-clause-own
 write_object-requires-clause-own c = (
-  c.take_two.ensures.same.0 ∙ c.requires.own.0,
-  c.take_two.ensures.same.2 ∙ c.requires.own.1,
-)
-
-pub write_base_with-old-requires-clause-own : goal.write_base_with-old-requires-clause-own
-write_base_with-old-requires-clause-own c = (
-  c.write_object.ensures.same.0 ∙ (c.take_two.ensures.same.0 ∙ c.requires.own.0),
-  c.write_object.ensures.same.2 ∙ (c.take_two.ensures.same.2 ∙ c.requires.own.1),
+  c.take_two.ensures.frame.same.0 ∙ c.requires.ready.own.0,
+  c.take_two.ensures.frame.same.2 ∙ c.requires.ready.own.1,
 )
 
 pub swap_in-requires-clause-own : goal.swap_in-requires-clause-own
 swap_in-requires-clause-own c = (
-  c.write_base_with-old.ensures.same.0 ∙ (c.write_object.ensures.same.0 ∙ (c.take_two.ensures.same.0 ∙ c.requires.own.0)),
-  c.write_base_with-old.ensures.same.2 ∙ (c.write_object.ensures.same.2 ∙ (c.take_two.ensures.same.2 ∙ c.requires.own.1)),
+  c.write_base_with-old.ensures.frame.same.0 ∙ (c.write_object.ensures.frame.same.0 ∙ (c.take_two.ensures.frame.same.0 ∙ c.requires.ready.own.0)),
+  c.write_base_with-old.ensures.frame.same.2 ∙ (c.write_object.ensures.frame.same.2 ∙ (c.take_two.ensures.frame.same.2 ∙ c.requires.ready.own.1)),
 )
-
-pub returns-clause-same : goal.returns-clause-same
-returns-clause-same c = (
-  c.swap_in.ensures.same.0 ∙ (c.write_base_with-old.ensures.same.0 ∙ (c.write_object.ensures.same.0 ∙ c.take_two.ensures.same.0)),
-  c.swap_in.ensures.same.1 ∙ (c.write_base_with-old.ensures.same.1 ∙ (c.write_object.ensures.same.1 ∙ c.take_two.ensures.same.1)),
-)
-
-pub returns-clause-number : goal.returns-clause-number
-returns-clause-number c = c.swap_in.ensures.number ∙ (c.write_base_with-old.ensures.number ∙ (c.write_object.ensures.number ∙ c.take_two.ensures.number))
-
-pub returns-clause-pin : goal.returns-clause-pin
-returns-clause-pin c = (
-  c.swap_in.ensures.pin.0 ∙ (c.write_base_with-old.ensures.same.2 ∙ (c.write_object.ensures.same.2 ∙ c.take_two.ensures.same.2)),
-  c.swap_in.ensures.pin.1 ∙ (c.write_base_with-old.ensures.same.3 ∙ (c.write_object.ensures.same.3 ∙ c.take_two.ensures.same.3)),
-)
-
-pub returns-clause-none : goal.returns-clause-none
-returns-clause-none c = c.swap_in.ensures.none

@@ -20,8 +20,8 @@ pub loop-place-preserved : goal.loop-place-preserved
 loop-place-preserved c = let i = c.loop-place.invariant in (
   goes_on _ _ c.args.row 0 (λ k word. word ≡ get_or c.args.words.now k 0) c.args.pass.now.seat c.loop-place.pass.seat c.set_word.new.pass.seat
       c.loop-place.place _ _ (omega arith) (omega arith) refl i.0
-      c.set_word.ensures.same c.set_word.ensures.set,
-  c.set_word.ensures.number ∙ i.1,
-  c.set_word.ensures.kept ∙ i.2,
-  c.set_word.ensures.tally ∙ i.3,
+      c.set_word.ensures.frame.same c.set_word.ensures.set,
+  c.set_word.ensures.frame.number ∙ i.1,
+  c.set_word.ensures.frame.kept ∙ i.2,
+  c.set_word.ensures.frame.tally ∙ i.3,
 )

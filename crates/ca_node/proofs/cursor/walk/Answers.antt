@@ -18,7 +18,7 @@ loop-level-init c = record {
   kept = search rules;
   pinned = search rules;
   walking = begins c.args.space.now.table.shared.key c.args.spot c.args.pass.now.seat.me c.load_link.new.pass.seat.me c.load_link.result
-      c.args.space.now.few.0 c.requires.own.1 c.load_link.ensures.led;
+      c.args.space.now.few.0 c.requires.reading.own.1 c.load_link.ensures.led;
 }
 
 pub load_word-word-requires-clause-shown : goal.load_word-word-requires-clause-shown
@@ -42,7 +42,7 @@ returns-then-word-ne-ROUTE-clause-walked c =
     let level = level_told c.args.space.now.table.shared.key c.args.spot c.args.pass.now.seat.me c.loop-level.cursor c.loop-level.pass.seat.me at
     c.load_word-word.result c.load_word-word.ensures.word in
     subst (λ (m : MyTree). IsWalked c.args.space.now.table.shared.key c.args.spot c.args.pass.now.seat.me
-    (record c.loop-level.cursor { level = c.load_word-word.result / 65536 % 1099511627776 }) m) (sym c.load_word-word.ensures.still)
+    (record c.loop-level.cursor { level = c.load_word-word.result / 65536 % 1099511627776 }) m) (sym c.load_word-word.ensures.frame.still)
     (ends c.args.space.now.table.shared.key c.args.spot c.args.pass.now.seat.me c.loop-level.cursor c.loop-level.pass.seat.me
     (c.load_word-word.result / 65536 % 1099511627776) at level)
 
@@ -50,7 +50,7 @@ pub go_down-cursor-requires-clause-at : goal.go_down-cursor-requires-clause-at
 go_down-cursor-requires-clause-at c = (
   c.args.pass.now.seat.me,
   subst (λ (m : MyTree). IsAtRoute c.args.space.now.table.shared.key c.args.spot c.args.pass.now.seat.me c.loop-level.cursor m)
-      (sym c.load_word-word.ensures.still)
+      (sym c.load_word-word.ensures.frame.still)
       (is_at_route c.args.space.now.table.shared.key c.args.spot c.args.pass.now.seat.me c.loop-level.cursor c.loop-level.pass.seat.me
       c.loop-level.invariant.walking c.load_word-word.result c.load_word-word.ensures.word c.if-word-ne-ROUTE.false),
 )
@@ -62,7 +62,7 @@ loop-level-smaller c =
     c.loop-level.invariant.walking c.load_word-word.result c.load_word-word.ensures.word c.if-word-ne-ROUTE.false in
     one_load_less c.args.pass.now.seat.me.0.upper.loads c.loop-level.pass.seat.me.0.upper.loads c.go_down-cursor.new.pass.seat.me.0.upper.loads z.levels
     (few_left z c.args.spot c.args.pass.now.seat.me c.loop-level.cursor c.loop-level.pass.seat.me at)
-    (c.go_down-cursor.ensures.loads ∙ ap (λ (m : MyTree). m.0.upper.loads + 1) c.load_word-word.ensures.still)
+    (c.go_down-cursor.ensures.loads ∙ ap (λ (m : MyTree). m.0.upper.loads + 1) c.load_word-word.ensures.frame.still)
 
 pub loop-level-preserved : goal.loop-level-preserved
 loop-level-preserved c = record {
@@ -74,7 +74,7 @@ loop-level-preserved c = record {
   pinned = search rules;
   walking = c.go_down-cursor.ensures.walking c.args.pass.now.seat.me
       (subst (λ (m : MyTree). IsAtRoute c.args.space.now.table.shared.key c.args.spot c.args.pass.now.seat.me c.loop-level.cursor m)
-      (sym c.load_word-word.ensures.still)
+      (sym c.load_word-word.ensures.frame.still)
       (is_at_route c.args.space.now.table.shared.key c.args.spot c.args.pass.now.seat.me c.loop-level.cursor c.loop-level.pass.seat.me
       c.loop-level.invariant.walking c.load_word-word.result c.load_word-word.ensures.word c.if-word-ne-ROUTE.false));
 }

@@ -1,4 +1,4 @@
-use Rattle.std.proofs.Common.{[], refl, inl, arith}
+use Rattle.std.proofs.Common.{[], refl, inl, arith, rules}
 use Rattle.ca_base.specs.Putting.{first_note}
 use Rattle.ca_node.specs.declared.cursor.Spot.TheVariants as spot
 use Rattle.ca_replace.proofs.Counted.{none_paid}
@@ -22,13 +22,26 @@ try_split-adapted-requires-clause-at c = let most = c.requires.tuned.allowed.mos
     (looking c.args.space.now.table.shared.key c.args.key c.args.pass.now.seat.me c.walk-cursor.new.pass.seat.me c.walk-cursor.result
     c.walk-cursor.ensures.walked (omega arith)).at
 
-pub try_split-adapted-requires-clause-none : goal.try_split-adapted-requires-clause-none
-try_split-adapted-requires-clause-none c = held_upper c.args.space.now.table.shared.key.rows c.args.pass.now.kept c.walk-cursor.new.pass.kept
-    c.args.pass.now.seat.me c.walk-cursor.new.pass.seat.me _ [] c.requires.none c.walk-cursor.ensures.walked.now c.walk-cursor.ensures.kept
+pub try_split-adapted-requires-clause-ready : goal.try_split-adapted-requires-clause-ready
+try_split-adapted-requires-clause-ready c = record {
+  own = search rules;
+  pinned = search rules;
+  number = search rules;
+  none = held_upper c.args.space.now.table.shared.key.rows c.args.pass.now.kept c.walk-cursor.new.pass.kept
+      c.args.pass.now.seat.me c.walk-cursor.new.pass.seat.me _ [] c.requires.ready.none c.walk-cursor.ensures.walked.now c.walk-cursor.ensures.frame.kept;
+}
 
-pub returns-then-cursor-placed-clause-none : goal.returns-then-cursor-placed-clause-none
-returns-then-cursor-placed-clause-none c = held_upper c.args.space.now.table.shared.key.rows c.args.pass.now.kept c.walk-cursor.new.pass.kept
-    c.args.pass.now.seat.me c.walk-cursor.new.pass.seat.me _ [] c.requires.none c.walk-cursor.ensures.walked.now c.walk-cursor.ensures.kept
+pub returns-then-cursor-placed-clause-frame : goal.returns-then-cursor-placed-clause-frame
+returns-then-cursor-placed-clause-frame c = record {
+  same = search rules;
+  number = search rules;
+  tally = λ h. tallied_walk c.args.space.now.table.shared.key (spot.At c.args.key) c.args.pass.now.seat.me
+      c.walk-cursor.new.pass.seat.me c.walk-cursor.result c.args.pass.now.tally c.walk-cursor.new.pass.tally c.walk-cursor.ensures.walked
+      c.walk-cursor.ensures.frame.tally h;
+  pin = search rules;
+  none = held_upper c.args.space.now.table.shared.key.rows c.args.pass.now.kept c.walk-cursor.new.pass.kept
+      c.args.pass.now.seat.me c.walk-cursor.new.pass.seat.me _ [] c.requires.ready.none c.walk-cursor.ensures.walked.now c.walk-cursor.ensures.frame.kept;
+}
 
 pub returns-then-cursor-placed-clause-further : goal.returns-then-cursor-placed-clause-further
 returns-then-cursor-placed-clause-further c = let z = c.args.space.now.table.shared.key in (
@@ -86,22 +99,29 @@ returns-else-was_split-clause-counted c = paid_still c.args.spent.now c.try_spli
     ((come_splits c.args.space.now.table.shared.key (first_note c.walk-cursor.new.pass.seat.me.0.upper.notes) c.try_split-adapted.result
     c.walk-cursor.new.pass.seat.me c.try_split-adapted.new.pass.seat.me c.try_split-adapted.ensures.split).1 (λ e. let f = c.if-was_split.ensures.1 e in cc))
 
-pub returns-then-cursor-placed-clause-tally : goal.returns-then-cursor-placed-clause-tally
-returns-then-cursor-placed-clause-tally c h = tallied_walk c.args.space.now.table.shared.key (spot.At c.args.key) c.args.pass.now.seat.me
-    c.walk-cursor.new.pass.seat.me c.walk-cursor.result c.args.pass.now.tally c.walk-cursor.new.pass.tally c.walk-cursor.ensures.walked
-    c.walk-cursor.ensures.tally h
+pub returns-then-was_split-clause-frame : goal.returns-then-was_split-clause-frame
+returns-then-was_split-clause-frame c = record {
+  same = search rules;
+  number = search rules;
+  tally = λ h. c.try_split-adapted.ensures.frame.tally (tallied_walk c.args.space.now.table.shared.key (spot.At c.args.key)
+      c.args.pass.now.seat.me
+      c.walk-cursor.new.pass.seat.me c.walk-cursor.result c.args.pass.now.tally c.walk-cursor.new.pass.tally c.walk-cursor.ensures.walked
+      c.walk-cursor.ensures.frame.tally h);
+  pin = search rules;
+  none = search rules;
+}
 
-pub returns-then-was_split-clause-tally : goal.returns-then-was_split-clause-tally
-returns-then-was_split-clause-tally c h = c.try_split-adapted.ensures.tally (tallied_walk c.args.space.now.table.shared.key (spot.At c.args.key)
-    c.args.pass.now.seat.me
-    c.walk-cursor.new.pass.seat.me c.walk-cursor.result c.args.pass.now.tally c.walk-cursor.new.pass.tally c.walk-cursor.ensures.walked
-    c.walk-cursor.ensures.tally h)
-
-pub returns-else-was_split-clause-tally : goal.returns-else-was_split-clause-tally
-returns-else-was_split-clause-tally c h = c.try_split-adapted.ensures.tally (tallied_walk c.args.space.now.table.shared.key (spot.At c.args.key)
-    c.args.pass.now.seat.me
-    c.walk-cursor.new.pass.seat.me c.walk-cursor.result c.args.pass.now.tally c.walk-cursor.new.pass.tally c.walk-cursor.ensures.walked
-    c.walk-cursor.ensures.tally h)
+pub returns-else-was_split-clause-frame : goal.returns-else-was_split-clause-frame
+returns-else-was_split-clause-frame c = record {
+  same = search rules;
+  number = search rules;
+  tally = λ h. c.try_split-adapted.ensures.frame.tally (tallied_walk c.args.space.now.table.shared.key (spot.At c.args.key)
+      c.args.pass.now.seat.me
+      c.walk-cursor.new.pass.seat.me c.walk-cursor.result c.args.pass.now.tally c.walk-cursor.new.pass.tally c.walk-cursor.ensures.walked
+      c.walk-cursor.ensures.frame.tally h);
+  pin = search rules;
+  none = search rules;
+}
 
 pub returns-then-was_split-clause-met : goal.returns-then-was_split-clause-met
 returns-then-was_split-clause-met c = split_met c.args.space.now.table.shared.key (first_note c.walk-cursor.new.pass.seat.me.0.upper.notes)

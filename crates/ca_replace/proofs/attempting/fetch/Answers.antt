@@ -19,7 +19,7 @@ pub returns-in-Ok-clause-fetched : goal.returns-in-Ok-clause-fetched
 returns-in-Ok-clause-fetched c = let z = c.args.space.now.table.shared.key in let w = c.find-place.new.pass.seat.me.0.upper in let note = first_note w.notes in
     let old = c.copy_at.new.into.items in
     let at = subst (λ (p : Result ℕ ℕ). IsPlace (map pair note.objects) c.args.key.now p) c.in-Ok.is c.find-place.ensures.place in
-    subst (λ (m : MyTree). HasFetched z m.0.upper c.args.key.now (Ok c.in-Ok.at) old) (sym c.copy_at.ensures.still)
+    subst (λ (m : MyTree). HasFetched z m.0.upper c.args.key.now (Ok c.in-Ok.at) old) (sym c.copy_at.ensures.frame.still)
     (fetched z w c.find-place.result.0 c.in-Ok.at c.args.key.now old c.find-place.ensures.looking at
     (c.copy_at.ensures.object note c.find-place.ensures.looking.readable (place_inside note c.args.key.now c.in-Ok.at at)))
 
@@ -30,4 +30,4 @@ returns-in-Err-clause-fetched c = let z = c.args.space.now.table.shared.key in l
 
 pub returns-in-Ok-clause-tally : goal.returns-in-Ok-clause-tally
 returns-in-Ok-clause-tally c h = tallied_as c.find-place.new.pass.tally c.copy_at.new.pass.tally c.find-place.new.pass.seat.me.0.upper
-    c.copy_at.new.pass.seat.me.0.upper c.copy_at.ensures.tally (ap (λ (m : MyTree). m.0.upper) c.copy_at.ensures.still) (c.find-place.ensures.tally h)
+    c.copy_at.new.pass.seat.me.0.upper c.copy_at.ensures.frame.tally (ap (λ (m : MyTree). m.0.upper) c.copy_at.ensures.frame.still) (c.find-place.ensures.tally h)

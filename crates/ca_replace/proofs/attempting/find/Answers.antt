@@ -17,23 +17,23 @@ search-place-requires-clause-readable c = (
 
 pub returns-clause-looking : goal.returns-clause-looking
 returns-clause-looking c = let z = c.args.space.now.table.shared.key in
-    subst (λ (m : MyTree). IsLooking z m.0.upper c.args.key.now c.walk-cursor.result) (sym c.search-place.ensures.still)
+    subst (λ (m : MyTree). IsLooking z m.0.upper c.args.key.now c.walk-cursor.result) (sym c.search-place.ensures.frame.still)
     (looking z c.args.key c.args.pass.now.seat.me c.walk-cursor.new.pass.seat.me c.walk-cursor.result c.walk-cursor.ensures.walked c.requires.leaf)
 
 pub returns-clause-place : goal.returns-clause-place
 returns-clause-place c = let z = c.args.space.now.table.shared.key in
     place_still z c.walk-cursor.new.pass.seat.me c.search-place.new.pass.seat.me c.walk-cursor.result c.args.key.now c.search-place.result
-    c.search-place.ensures.still
+    c.search-place.ensures.frame.still
     (looking z c.args.key c.args.pass.now.seat.me c.walk-cursor.new.pass.seat.me c.walk-cursor.result c.walk-cursor.ensures.walked c.requires.leaf)
     c.search-place.ensures.place
 
 pub returns-clause-further : goal.returns-clause-further
-returns-clause-further c = subst (λ (m : MyTree). IsFurther c.args.pass.now.seat.me.0.upper m.0.upper) (sym c.search-place.ensures.still)
+returns-clause-further c = subst (λ (m : MyTree). IsFurther c.args.pass.now.seat.me.0.upper m.0.upper) (sym c.search-place.ensures.frame.still)
     (walked_further c.args.space.now.table.shared.key _ c.args.pass.now.seat.me c.walk-cursor.new.pass.seat.me c.walk-cursor.result
     c.walk-cursor.ensures.walked)
 
 pub returns-clause-tally : goal.returns-clause-tally
 returns-clause-tally c h = tallied_as c.walk-cursor.new.pass.tally c.search-place.new.pass.tally c.walk-cursor.new.pass.seat.me.0.upper
-    c.search-place.new.pass.seat.me.0.upper c.search-place.ensures.tally (ap (λ (m : MyTree). m.0.upper) c.search-place.ensures.still)
+    c.search-place.new.pass.seat.me.0.upper c.search-place.ensures.frame.tally (ap (λ (m : MyTree). m.0.upper) c.search-place.ensures.frame.still)
     (tallied_walk c.args.space.now.table.shared.key _ c.args.pass.now.seat.me c.walk-cursor.new.pass.seat.me c.walk-cursor.result c.args.pass.now.tally
-    c.walk-cursor.new.pass.tally c.walk-cursor.ensures.walked c.walk-cursor.ensures.tally h)
+    c.walk-cursor.new.pass.tally c.walk-cursor.ensures.walked c.walk-cursor.ensures.frame.tally h)

@@ -1,4 +1,4 @@
-use Rattle.std.proofs.Common.{◌≡◌, ◌≤◌, ℕ, ℤ, Result, OnOk, Ok, Err, Some, get_or, to_z, of_z, w32, Bool, true, false, length, sym, ap, ◌∙◌, subst, arith, ◌<◌, [], map}
+use Rattle.std.proofs.Common.{◌≡◌, ◌≤◌, ℕ, ℤ, Result, OnOk, Ok, Err, Some, get_or, to_z, of_z, w32, Bool, true, false, length, sym, ap, ◌∙◌, subst, arith, ◌<◌, [], map, rules}
 use Rattle.std.proofs.lemmas.Int.{ints, to_z-of_z}
 use Rattle.std.specs.Prelude.{slice_range}
 use Rattle.ca_model.specs.History.{Put}
@@ -53,17 +53,17 @@ pub next_statistic-statistic-requires-clause-readable : goal.next_statistic-stat
 next_statistic-statistic-requires-clause-readable c = (
   first_note c.args.pass.now.seat.me.0.upper.notes,
   subst (λ (m : MyTree). IsReadable c.args.space.now.table.shared.key m.0.upper c.args.cursor.base (first_note c.args.pass.now.seat.me.0.upper.notes))
-      (sym c.count-many.ensures.still) c.requires.looking.readable,
+      (sym c.count-many.ensures.frame.still) c.requires.looking.readable,
 )
 
 pub put_at-tried-requires-clause-shown : goal.put_at-tried-requires-clause-shown
 put_at-tried-requires-clause-shown c = subst (λ (m : MyTree). IsShownLast c.args.space.now.table.shared.key m.0.upper c.args.cursor.base)
-    (sym (c.next_statistic-statistic.ensures.still ∙ c.count-many.ensures.still))
+    (sym (c.next_statistic-statistic.ensures.frame.still ∙ c.count-many.ensures.frame.still))
     (shown_last c.args.space.now.table.shared.key c.args.pass.now.seat.me.0.upper _ c.args.cursor c.requires.looking)
 
 pub put_at-tried-requires-clause-many : goal.put_at-tried-requires-clause-many
 put_at-tried-requires-clause-many c = subst (λ (m : MyTree). c.count-many.result ≡ length (first_note m.0.upper.notes).objects)
-    (sym (c.next_statistic-statistic.ensures.still ∙ c.count-many.ensures.still))
+    (sym (c.next_statistic-statistic.ensures.frame.still ∙ c.count-many.ensures.frame.still))
     (c.count-many.ensures.count (first_note c.args.pass.now.seat.me.0.upper.notes) c.requires.looking.readable)
 
 pub settle-requires-clause-known : goal.settle-requires-clause-known
@@ -71,7 +71,7 @@ settle-requires-clause-known c = known_then c.args.space.now.table.shared.key
     (λ (u : TreeView). put_event c.args.why (slice_range c.args.object.now c.args.key_at c.args.key_end) (object_at c.args.place (first_note u.notes).objects)
     c.args.object.now)
     c.put_at-tried.result c.args.pass.now.seat.me.0.upper c.next_statistic-statistic.new.pass.seat.me.0.upper c.put_at-tried.new.pass.seat.me.0.upper
-    (ap (λ (m : MyTree). m.0.upper) (c.next_statistic-statistic.ensures.still ∙ c.count-many.ensures.still)) c.requires.looking.known
+    (ap (λ (m : MyTree). m.0.upper) (c.next_statistic-statistic.ensures.frame.still ∙ c.count-many.ensures.frame.still)) c.requires.looking.known
     c.put_at-tried.ensures.put
 
 pub settle-requires-clause-placed : goal.settle-requires-clause-placed
@@ -79,7 +79,7 @@ settle-requires-clause-placed c won = is_new c.args.space.now.table.shared.key
     (Put (slice_range c.args.object.now c.args.key_at c.args.key_end) c.args.object.now) c.word_of-word.result c.put_at-tried.new.placed
     c.put_at-tried.result c.next_statistic-statistic.new.pass.seat.me.0.upper c.put_at-tried.new.pass.seat.me.0.upper
     (subst (λ (m : MyTree). HasKey (first_note m.0.upper.notes).place.span (slice_range c.args.object.now c.args.key_at c.args.key_end))
-    (sym (c.next_statistic-statistic.ensures.still ∙ c.count-many.ensures.still)) c.requires.looking.about) c.put_at-tried.ensures.renewed
+    (sym (c.next_statistic-statistic.ensures.frame.still ∙ c.count-many.ensures.frame.still)) c.requires.looking.about) c.put_at-tried.ensures.renewed
     c.put_at-tried.ensures.placed won
 
 pub returns-clause-tried : goal.returns-clause-tried
@@ -88,7 +88,7 @@ returns-clause-tried c = settled_tried c.args.space.now.table.shared.key
     c.args.object.now)
     c.put_at-tried.result c.settle.result c.args.pass.now.seat.me.0.upper c.next_statistic-statistic.new.pass.seat.me.0.upper
     c.put_at-tried.new.pass.seat.me.0.upper c.settle.new.pass.seat.me.0.upper
-    (ap (λ (m : MyTree). m.0.upper) (c.next_statistic-statistic.ensures.still ∙ c.count-many.ensures.still)) c.settle.ensures.come
+    (ap (λ (m : MyTree). m.0.upper) (c.next_statistic-statistic.ensures.frame.still ∙ c.count-many.ensures.frame.still)) c.settle.ensures.come
     c.requires.looking.known c.put_at-tried.ensures.put c.settle.ensures.further
 
 pub returns-clause-gone_on : goal.returns-clause-gone_on
@@ -99,50 +99,74 @@ returns-clause-gone_on c = let note = first_note c.args.pass.now.seat.me.0.upper
     (Put (slice_range c.args.object.now c.args.key_at c.args.key_end) c.args.object.now) (to_z w32 (of_z w32 k)) c.word_of-word.result
     c.put_at-tried.result c.settle.result c.args.adapting.now c.settle.new.adapting c.args.pass.now.seat.me.0.upper
     c.next_statistic-statistic.new.pass.seat.me.0.upper c.put_at-tried.new.pass.seat.me c.settle.new.pass.seat.me
-    (ap (λ (m : MyTree). m.0.upper) (c.next_statistic-statistic.ensures.still ∙ c.count-many.ensures.still)) c.settle.ensures.come
+    (ap (λ (m : MyTree). m.0.upper) (c.next_statistic-statistic.ensures.frame.still ∙ c.count-many.ensures.frame.still)) c.settle.ensures.come
     c.put_at-tried.ensures.put c.put_at-tried.ensures.renewed
     (subst (λ (x : ℤ). IsMoved c.args.tuning.now (get_or note.its 1 0) c.args.adapting.now.lost x)
     (sym (to_z-of_z w32 k (let small = c.next_statistic-statistic.type_inv in omega (arith, ints)))) (c.next_statistic-statistic.ensures.moved note
-    (subst (λ (m : MyTree). IsReadable c.args.space.now.table.shared.key m.0.upper c.args.cursor.base note) (sym c.count-many.ensures.still)
+    (subst (λ (m : MyTree). IsReadable c.args.space.now.table.shared.key m.0.upper c.args.cursor.base note) (sym c.count-many.ensures.frame.still)
     c.requires.looking.readable)))
     c.word_of-word.ensures c.settle.ensures.settled
 
 pub returns-clause-counted : goal.returns-clause-counted
 returns-clause-counted c = settled_paid c.args.space.now.table.shared.key _ _ c.word_of-word.result c.put_at-tried.result c.args.spent.now
     c.put_at-tried.new.spent c.settle.new.spent c.args.pass.now.seat.me c.next_statistic-statistic.new.pass.seat.me c.put_at-tried.new.pass.seat.me
-    c.settle.new.pass.seat.me (c.next_statistic-statistic.ensures.still ∙ c.count-many.ensures.still) c.put_at-tried.ensures.put
+    c.settle.new.pass.seat.me (c.next_statistic-statistic.ensures.frame.still ∙ c.count-many.ensures.frame.still) c.put_at-tried.ensures.put
     c.put_at-tried.ensures.renewed c.put_at-tried.ensures.counted c.settle.ensures.counted
 
 pub returns-clause-found : goal.returns-clause-found
 returns-clause-found c = settled_found c.args.space.now.table.shared.key c.args.tuning.now (to_z w32 (of_z w32 c.next_statistic-statistic.result))
     c.put_at-tried.result
     c.settle.result c.args.adapting.now c.settle.new.adapting c.args.pass.now.seat.me c.next_statistic-statistic.new.pass.seat.me
-    c.put_at-tried.new.pass.seat.me c.settle.new.pass.seat.me (c.next_statistic-statistic.ensures.still ∙ c.count-many.ensures.still)
+    c.put_at-tried.new.pass.seat.me c.settle.new.pass.seat.me (c.next_statistic-statistic.ensures.frame.still ∙ c.count-many.ensures.frame.still)
     c.settle.ensures.come c.put_at-tried.ensures.found c.settle.ensures.settled
 
 pub returns-then-not-has_room-clause-full : goal.returns-then-not-has_room-clause-full
 returns-then-not-has_room-clause-full c = λ deep. full_there c.args.space.now.table.shared.key c.args.pass.now.seat.me.0.upper
     c.make_room.new.pass.seat.me.0.upper c.args.cursor (slice_range c.args.object.now c.args.key_at c.args.key_end) c.args.place c.count-many.result
     c.requires.looking (
-      c.make_room.ensures.same_seen.0 ∙ ap (λ (m : MyTree). m.0.upper.seen) c.count-many.ensures.still,
-      c.make_room.ensures.same_seen.1 ∙ ap (λ (m : MyTree). m.0.upper.last) c.count-many.ensures.still,
+      c.make_room.ensures.same_seen.0 ∙ ap (λ (m : MyTree). m.0.upper.seen) c.count-many.ensures.frame.still,
+      c.make_room.ensures.same_seen.1 ∙ ap (λ (m : MyTree). m.0.upper.last) c.count-many.ensures.frame.still,
     )
-    (subst (λ (m : MyTree). c.args.space.now.table.shared.key.levels ≤ (first_note m.0.upper.notes).place.level) c.count-many.ensures.still
+    (subst (λ (m : MyTree). c.args.space.now.table.shared.key.levels ≤ (first_note m.0.upper.notes).place.level) c.count-many.ensures.frame.still
     (c.make_room.ensures.deep (ap why_of deep))) c.requires.place
     (λ room. no_room c.has_room.result c.if-not-has_room.true (c.has_room.ensures.1 (subst (λ n. IsRoom c.args.place c.count-many.result n)
     c.requires.tuned.leaf room)))
     (c.count-many.ensures.count (first_note c.args.pass.now.seat.me.0.upper.notes) c.requires.looking.readable)
 
-pub returns-then-not-has_room-clause-tally : goal.returns-then-not-has_room-clause-tally
-returns-then-not-has_room-clause-tally c h = c.make_room.ensures.tally (tallied_as c.args.pass.now.tally c.count-many.new.pass.tally
-    c.args.pass.now.seat.me.0.upper c.count-many.new.pass.seat.me.0.upper c.count-many.ensures.tally
-    (ap (λ (m : MyTree). m.0.upper) c.count-many.ensures.still) h)
+pub returns-then-not-has_room-clause-frame : goal.returns-then-not-has_room-clause-frame
+returns-then-not-has_room-clause-frame c = record {
+  same = (c.make_room.ensures.frame.same.0 ∙ c.count-many.ensures.frame.same.0, c.make_room.ensures.frame.same.1 ∙ c.count-many.ensures.frame.same.1);
+  number = c.make_room.ensures.frame.number ∙ c.count-many.ensures.frame.number;
+  tally = λ h. c.make_room.ensures.frame.tally (tallied_as c.args.pass.now.tally c.count-many.new.pass.tally
+      c.args.pass.now.seat.me.0.upper c.count-many.new.pass.seat.me.0.upper c.count-many.ensures.frame.tally
+      (ap (λ (m : MyTree). m.0.upper) c.count-many.ensures.frame.still) h);
+  pin = (
+    c.make_room.ensures.frame.pin.0 ∙ ap (λ (m : MyTree). m.0.sizes) c.count-many.ensures.frame.still,
+    c.make_room.ensures.frame.pin.1 ∙ ap (λ (m : MyTree). m.0.pin) c.count-many.ensures.frame.still,
+  );
+  none = c.make_room.ensures.frame.none;
+}
 
-pub returns-clause-tally : goal.returns-clause-tally
-returns-clause-tally c h = c.settle.ensures.tally (c.put_at-tried.ensures.tally (tallied_as c.args.pass.now.tally c.next_statistic-statistic.new.pass.tally
-    c.args.pass.now.seat.me.0.upper c.next_statistic-statistic.new.pass.seat.me.0.upper
-    (c.next_statistic-statistic.ensures.tally ∙ c.count-many.ensures.tally)
-    (ap (λ (m : MyTree). m.0.upper) (c.next_statistic-statistic.ensures.still ∙ c.count-many.ensures.still)) h))
+pub returns-clause-frame : goal.returns-clause-frame
+returns-clause-frame c = record {
+  same = (
+    c.settle.ensures.frame.same.0 ∙ (c.put_at-tried.ensures.frame.same.0 ∙ (c.next_statistic-statistic.ensures.frame.same.0 ∙ c.count-many.ensures.frame.same.0)),
+    c.settle.ensures.frame.same.1 ∙ (c.put_at-tried.ensures.frame.same.1 ∙ (c.next_statistic-statistic.ensures.frame.same.1 ∙ c.count-many.ensures.frame.same.1)),
+  );
+  number = c.settle.ensures.frame.number ∙ (c.put_at-tried.ensures.frame.number ∙ (c.next_statistic-statistic.ensures.frame.number
+      ∙ c.count-many.ensures.frame.number));
+  tally = λ h. c.settle.ensures.frame.tally (c.put_at-tried.ensures.frame.tally (tallied_as c.args.pass.now.tally c.next_statistic-statistic.new.pass.tally
+      c.args.pass.now.seat.me.0.upper c.next_statistic-statistic.new.pass.seat.me.0.upper
+      (c.next_statistic-statistic.ensures.frame.tally ∙ c.count-many.ensures.frame.tally)
+      (ap (λ (m : MyTree). m.0.upper) (c.next_statistic-statistic.ensures.frame.still ∙ c.count-many.ensures.frame.still)) h));
+  pin = (
+    c.settle.ensures.frame.pin.0 ∙ (c.put_at-tried.ensures.frame.pin.0 ∙ ap (λ (m : MyTree). m.0.sizes) (c.next_statistic-statistic.ensures.frame.still
+        ∙ c.count-many.ensures.frame.still)),
+    c.settle.ensures.frame.pin.1 ∙ (c.put_at-tried.ensures.frame.pin.1 ∙ ap (λ (m : MyTree). m.0.pin) (c.next_statistic-statistic.ensures.frame.still
+        ∙ c.count-many.ensures.frame.still)),
+  );
+  none = c.settle.ensures.frame.none;
+}
 
 on_ok : (r : Result ℕ ℕ) {P : Type 0} → P → OnOk r P
 on_ok (Ok at) p = p
@@ -154,7 +178,7 @@ returns-clause-deep c = on_ok c.args.place c.settle.ensures.deep
 pub returns-clause-met_as : goal.returns-clause-met_as
 returns-clause-met_as c = settled_met c.put_at-tried.result c.settle.result c.settle.new.adapting.last c.args.spent.now c.put_at-tried.new.spent
     c.args.pass.now.seat.me c.next_statistic-statistic.new.pass.seat.me c.put_at-tried.new.pass.seat.me c.settle.new.pass.seat.me
-    (c.next_statistic-statistic.ensures.still ∙ c.count-many.ensures.still) c.settle.ensures.come c.put_at-tried.ensures.found
+    (c.next_statistic-statistic.ensures.frame.still ∙ c.count-many.ensures.frame.still) c.settle.ensures.come c.put_at-tried.ensures.found
     c.put_at-tried.ensures.counted c.settle.ensures.met
 
 pub returns-clause-grown : goal.returns-clause-grown
@@ -164,7 +188,7 @@ returns-clause-grown c = settled_grown c.args.space.now.table.shared.key c.args.
     c.args.pass.now.seat.me
     c.next_statistic-statistic.new.pass.seat.me c.put_at-tried.new.pass.seat.me c.settle.new.pass.seat.me
     (slice_range c.args.object.now c.args.key_at c.args.key_end) c.args.cursor
-    (c.next_statistic-statistic.ensures.still ∙ c.count-many.ensures.still) c.settle.ensures.come c.requires.looking c.put_at-tried.ensures.put
+    (c.next_statistic-statistic.ensures.frame.still ∙ c.count-many.ensures.frame.still) c.settle.ensures.come c.requires.looking c.put_at-tried.ensures.put
     c.put_at-tried.ensures.renewed c.settle.ensures.settled c.settle.ensures.grows
 
 pub returns-clause-no_split : goal.returns-clause-no_split
@@ -174,7 +198,7 @@ pub returns-clause-cut : goal.returns-clause-cut
 returns-clause-cut c = settled_cut c.args.space.now.table.shared.key c.args.tuning.now (Some (slice_range c.args.object.now c.args.key_at c.args.key_end)) _ _
     c.word_of-word.result (to_z w32 (of_z w32 c.next_statistic-statistic.result)) c.put_at-tried.result c.settle.result c.args.adapting.now
     c.settle.new.adapting c.args.pass.now.seat.me c.next_statistic-statistic.new.pass.seat.me c.put_at-tried.new.pass.seat.me c.settle.new.pass.seat.me
-    (c.next_statistic-statistic.ensures.still ∙ c.count-many.ensures.still) c.settle.ensures.come c.put_at-tried.ensures.put
+    (c.next_statistic-statistic.ensures.frame.still ∙ c.count-many.ensures.frame.still) c.settle.ensures.come c.put_at-tried.ensures.put
     c.put_at-tried.ensures.renewed c.settle.ensures.settled c.settle.ensures.cut
 
 pub returns-then-not-has_room-clause-cut : goal.returns-then-not-has_room-clause-cut
@@ -185,8 +209,8 @@ returns-then-not-has_room-clause-cut c = let z = c.args.space.now.table.shared.k
     c.requires.tuned.leaf room)))
     (c.count-many.ensures.count (first_note u.notes) c.requires.looking.readable) in
     subst (λ (m : MyTree). HasCut {T = Unit {0}} (λ _. true) z (Some key) (Err c.make_room.result) m.0.upper c.make_room.new.pass.seat.me.0.upper)
-    c.count-many.ensures.still (c.make_room.ensures.cut key
-    (subst (λ (m : MyTree). IsFullFor z (Some key) (first_note m.0.upper.notes)) (sym c.count-many.ensures.still) full))
+    c.count-many.ensures.frame.still (c.make_room.ensures.cut key
+    (subst (λ (m : MyTree). IsFullFor z (Some key) (first_note m.0.upper.notes)) (sym c.count-many.ensures.frame.still) full))
 
 pub returns-clause-won : goal.returns-clause-won
 returns-clause-won c = settled_won c.args.space.now.table.shared.key c.args.tuning.now _ _ c.word_of-word.result
@@ -194,148 +218,103 @@ returns-clause-won c = settled_won c.args.space.now.table.shared.key c.args.tuni
     c.args.pass.now.seat.me
     c.next_statistic-statistic.new.pass.seat.me c.put_at-tried.new.pass.seat.me c.settle.new.pass.seat.me
     (slice_range c.args.object.now c.args.key_at c.args.key_end) c.args.cursor
-    (c.next_statistic-statistic.ensures.still ∙ c.count-many.ensures.still) c.settle.ensures.come c.requires.looking c.put_at-tried.ensures.put
+    (c.next_statistic-statistic.ensures.frame.still ∙ c.count-many.ensures.frame.still) c.settle.ensures.come c.requires.looking c.put_at-tried.ensures.put
     c.put_at-tried.ensures.renewed c.settle.ensures.settled c.put_at-tried.ensures.won c.settle.ensures.won
 
-pub next_statistic-statistic-requires-clause-own : goal.next_statistic-statistic-requires-clause-own
-next_statistic-statistic-requires-clause-own c = (
-  c.count-many.ensures.same.0 ∙ c.requires.own.0,
-  ap (λ (m : MyTree). m.0.sizes) c.count-many.ensures.still
-      ∙ c.requires.own.1,
-)
+pub next_statistic-statistic-requires-clause-reading : goal.next_statistic-statistic-requires-clause-reading
+next_statistic-statistic-requires-clause-reading c = record {
+  own = (
+    c.count-many.ensures.frame.same.0 ∙ c.requires.ready.own.0,
+    ap (λ (m : MyTree). m.0.sizes) c.count-many.ensures.frame.still
+        ∙ c.requires.ready.own.1,
+  );
+  pinned = ap (λ (m : MyTree). m.0.pin.pinned) c.count-many.ensures.frame.still ∙ c.requires.ready.pinned;
+}
 
-pub next_statistic-statistic-requires-clause-pinned : goal.next_statistic-statistic-requires-clause-pinned
-next_statistic-statistic-requires-clause-pinned c = ap (λ (m : MyTree). m.0.pin.pinned) c.count-many.ensures.still ∙ c.requires.pinned
-
-pub put_at-tried-requires-clause-own : goal.put_at-tried-requires-clause-own
-put_at-tried-requires-clause-own c = (
-  c.next_statistic-statistic.ensures.same.0 ∙ (c.count-many.ensures.same.0 ∙ c.requires.own.0),
-  ap (λ (m : MyTree). m.0.sizes) (c.next_statistic-statistic.ensures.still ∙ c.count-many.ensures.still) ∙ c.requires.own.1,
-)
-
-pub put_at-tried-requires-clause-pinned : goal.put_at-tried-requires-clause-pinned
-put_at-tried-requires-clause-pinned c = ap (λ (m : MyTree). m.0.pin.pinned) (c.next_statistic-statistic.ensures.still ∙ c.count-many.ensures.still)
-    ∙ c.requires.pinned
-
-pub put_at-tried-requires-clause-number : goal.put_at-tried-requires-clause-number
-put_at-tried-requires-clause-number c = subst (λ (m : MyTree). 0 < m.0.upper.number) (sym (c.next_statistic-statistic.ensures.still
-    ∙ c.count-many.ensures.still)) c.requires.number
-
-pub put_at-tried-requires-clause-none : goal.put_at-tried-requires-clause-none
-put_at-tried-requires-clause-none c = held_looked c.args.space.now.table.shared.key.rows c.args.pass.now.kept c.next_statistic-statistic.new.pass.kept
-    c.args.pass.now.seat.me
-    c.next_statistic-statistic.new.pass.seat.me [] c.requires.none (c.next_statistic-statistic.ensures.kept ∙ c.count-many.ensures.kept)
-    (ap (λ (m : MyTree). m.0.claims) (c.next_statistic-statistic.ensures.still ∙ c.count-many.ensures.still))
-    (ap (λ (m : MyTree). m.0.most) (c.next_statistic-statistic.ensures.still ∙ c.count-many.ensures.still))
+pub put_at-tried-requires-clause-ready : goal.put_at-tried-requires-clause-ready
+put_at-tried-requires-clause-ready c = record {
+  own = (
+    c.next_statistic-statistic.ensures.frame.same.0 ∙ (c.count-many.ensures.frame.same.0 ∙ c.requires.ready.own.0),
+    ap (λ (m : MyTree). m.0.sizes) (c.next_statistic-statistic.ensures.frame.still ∙ c.count-many.ensures.frame.still) ∙ c.requires.ready.own.1,
+  );
+  pinned = ap (λ (m : MyTree). m.0.pin.pinned) (c.next_statistic-statistic.ensures.frame.still ∙ c.count-many.ensures.frame.still)
+      ∙ c.requires.ready.pinned;
+  number = subst (λ (m : MyTree). 0 < m.0.upper.number) (sym (c.next_statistic-statistic.ensures.frame.still
+      ∙ c.count-many.ensures.frame.still)) c.requires.ready.number;
+  none = held_looked c.args.space.now.table.shared.key.rows c.args.pass.now.kept c.next_statistic-statistic.new.pass.kept
+      c.args.pass.now.seat.me
+      c.next_statistic-statistic.new.pass.seat.me [] c.requires.ready.none (c.next_statistic-statistic.ensures.frame.kept ∙ c.count-many.ensures.frame.kept)
+      (ap (λ (m : MyTree). m.0.claims) (c.next_statistic-statistic.ensures.frame.still ∙ c.count-many.ensures.frame.still))
+      (ap (λ (m : MyTree). m.0.most) (c.next_statistic-statistic.ensures.frame.still ∙ c.count-many.ensures.frame.still));
+}
 
 pub put_at-tried-requires-clause-leaf : goal.put_at-tried-requires-clause-leaf
 put_at-tried-requires-clause-leaf c = let most = c.requires.tuned.allowed.most_leaf in let same = c.requires.tuned.leaf in omega arith
 
 pub put_at-tried-requires-clause-cursor : goal.put_at-tried-requires-clause-cursor
 put_at-tried-requires-clause-cursor c = subst (λ (m : MyTree). IsAtCursor c.args.space.now.table.shared.key (first_note m.0.upper.notes) c.args.cursor)
-    (sym (c.next_statistic-statistic.ensures.still ∙ c.count-many.ensures.still)) c.requires.looking.at
+    (sym (c.next_statistic-statistic.ensures.frame.still ∙ c.count-many.ensures.frame.still)) c.requires.looking.at
 
 pub put_at-tried-requires-clause-place : goal.put_at-tried-requires-clause-place
 put_at-tried-requires-clause-place c = subst (λ (m : MyTree). IsPlace (map pair (first_note m.0.upper.notes).objects)
     (slice_range c.args.object.now c.args.key_at c.args.key_end) c.args.place)
-    (sym (c.next_statistic-statistic.ensures.still ∙ c.count-many.ensures.still)) c.requires.place
+    (sym (c.next_statistic-statistic.ensures.frame.still ∙ c.count-many.ensures.frame.still)) c.requires.place
 
 pub put_at-tried-requires-clause-about : goal.put_at-tried-requires-clause-about
 put_at-tried-requires-clause-about c = subst (λ (m : MyTree). HasKey (first_note m.0.upper.notes).place.span (slice_range c.args.object.now c.args.key_at
     c.args.key_end))
-    (sym (c.next_statistic-statistic.ensures.still ∙ c.count-many.ensures.still)) c.requires.looking.about
+    (sym (c.next_statistic-statistic.ensures.frame.still ∙ c.count-many.ensures.frame.still)) c.requires.looking.about
 
 pub put_at-tried-requires-clause-room : goal.put_at-tried-requires-clause-room
 put_at-tried-requires-clause-room c = subst (λ n. IsRoom c.args.place c.count-many.result n) (sym c.requires.tuned.leaf)
     (c.has_room.ensures.0 c.if-not-has_room.false)
 
-pub settle-requires-clause-own : goal.settle-requires-clause-own
-settle-requires-clause-own c = (
-  c.put_at-tried.ensures.same.0 ∙ (c.next_statistic-statistic.ensures.same.0 ∙ (c.count-many.ensures.same.0 ∙ c.requires.own.0)),
-  c.put_at-tried.ensures.pin.0 ∙ (ap (λ (m : MyTree). m.0.sizes) (c.next_statistic-statistic.ensures.still ∙ c.count-many.ensures.still) ∙ c.requires.own.1),
-)
-
-pub settle-requires-clause-pinned : goal.settle-requires-clause-pinned
-settle-requires-clause-pinned c = ap (λ (p : Pin). p.pinned) c.put_at-tried.ensures.pin.1
-    ∙ (ap (λ (m : MyTree). m.0.pin.pinned) (c.next_statistic-statistic.ensures.still ∙ c.count-many.ensures.still) ∙ c.requires.pinned)
-
-pub settle-requires-clause-none : goal.settle-requires-clause-none
-settle-requires-clause-none c = c.put_at-tried.ensures.none
-
-pub returns-clause-same : goal.returns-clause-same
-returns-clause-same c = (
-  c.settle.ensures.same.0 ∙ (c.put_at-tried.ensures.same.0 ∙ (c.next_statistic-statistic.ensures.same.0 ∙ c.count-many.ensures.same.0)),
-  c.settle.ensures.same.1 ∙ (c.put_at-tried.ensures.same.1 ∙ (c.next_statistic-statistic.ensures.same.1 ∙ c.count-many.ensures.same.1)),
-)
-
-pub returns-clause-number : goal.returns-clause-number
-returns-clause-number c = c.settle.ensures.number ∙ (c.put_at-tried.ensures.number ∙ (c.next_statistic-statistic.ensures.number
-    ∙ c.count-many.ensures.number))
-
-pub returns-clause-pin : goal.returns-clause-pin
-returns-clause-pin c = (
-  c.settle.ensures.pin.0 ∙ (c.put_at-tried.ensures.pin.0 ∙ ap (λ (m : MyTree). m.0.sizes) (c.next_statistic-statistic.ensures.still
-      ∙ c.count-many.ensures.still)),
-  c.settle.ensures.pin.1 ∙ (c.put_at-tried.ensures.pin.1 ∙ ap (λ (m : MyTree). m.0.pin) (c.next_statistic-statistic.ensures.still
-      ∙ c.count-many.ensures.still)),
-)
-
-pub returns-clause-none : goal.returns-clause-none
-returns-clause-none c = c.settle.ensures.none
+pub settle-requires-clause-ready : goal.settle-requires-clause-ready
+settle-requires-clause-ready c = record {
+  own = (
+    c.put_at-tried.ensures.frame.same.0 ∙ (c.next_statistic-statistic.ensures.frame.same.0 ∙ (c.count-many.ensures.frame.same.0 ∙ c.requires.ready.own.0)),
+    c.put_at-tried.ensures.frame.pin.0 ∙ (ap (λ (m : MyTree). m.0.sizes) (c.next_statistic-statistic.ensures.frame.still ∙ c.count-many.ensures.frame.still) ∙ c.requires.ready.own.1),
+  );
+  pinned = ap (λ (p : Pin). p.pinned) c.put_at-tried.ensures.frame.pin.1
+      ∙ (ap (λ (m : MyTree). m.0.pin.pinned) (c.next_statistic-statistic.ensures.frame.still ∙ c.count-many.ensures.frame.still) ∙ c.requires.ready.pinned);
+  number = search rules;
+  none = c.put_at-tried.ensures.frame.none;
+}
 
 pub returns-clause-full : goal.returns-clause-full
 returns-clause-full c = λ e. absurd (c.settle.ensures.deep e)
 
-pub make_room-requires-clause-own : goal.make_room-requires-clause-own
-make_room-requires-clause-own c = (
-  c.count-many.ensures.same.0 ∙ c.requires.own.0,
-  ap (λ (m : MyTree). m.0.sizes) c.count-many.ensures.still
-      ∙ c.requires.own.1,
-)
-
-pub make_room-requires-clause-pinned : goal.make_room-requires-clause-pinned
-make_room-requires-clause-pinned c = ap (λ (m : MyTree). m.0.pin.pinned) c.count-many.ensures.still ∙ c.requires.pinned
-
-pub make_room-requires-clause-number : goal.make_room-requires-clause-number
-make_room-requires-clause-number c = subst (λ (m : MyTree). 0 < m.0.upper.number) (sym c.count-many.ensures.still) c.requires.number
-
-pub make_room-requires-clause-none : goal.make_room-requires-clause-none
-make_room-requires-clause-none c = held_looked c.args.space.now.table.shared.key.rows c.args.pass.now.kept c.count-many.new.pass.kept c.args.pass.now.seat.me
-    c.count-many.new.pass.seat.me [] c.requires.none c.count-many.ensures.kept (ap (λ (m : MyTree). m.0.claims) c.count-many.ensures.still)
-    (ap (λ (m : MyTree). m.0.most) c.count-many.ensures.still)
+pub make_room-requires-clause-ready : goal.make_room-requires-clause-ready
+make_room-requires-clause-ready c = record {
+  own = (
+    c.count-many.ensures.frame.same.0 ∙ c.requires.ready.own.0,
+    ap (λ (m : MyTree). m.0.sizes) c.count-many.ensures.frame.still
+        ∙ c.requires.ready.own.1,
+  );
+  pinned = ap (λ (m : MyTree). m.0.pin.pinned) c.count-many.ensures.frame.still ∙ c.requires.ready.pinned;
+  number = subst (λ (m : MyTree). 0 < m.0.upper.number) (sym c.count-many.ensures.frame.still) c.requires.ready.number;
+  none = held_looked c.args.space.now.table.shared.key.rows c.args.pass.now.kept c.count-many.new.pass.kept c.args.pass.now.seat.me
+      c.count-many.new.pass.seat.me [] c.requires.ready.none c.count-many.ensures.frame.kept (ap (λ (m : MyTree). m.0.claims) c.count-many.ensures.frame.still)
+      (ap (λ (m : MyTree). m.0.most) c.count-many.ensures.frame.still);
+}
 
 pub make_room-requires-clause-looking : goal.make_room-requires-clause-looking
 make_room-requires-clause-looking c = (
   (slice_range c.args.object.now c.args.key_at c.args.key_end),
   subst (λ (m : MyTree). IsLooking c.args.space.now.table.shared.key m.0.upper (slice_range c.args.object.now c.args.key_at c.args.key_end) c.args.cursor)
-      (sym c.count-many.ensures.still) c.requires.looking,
+      (sym c.count-many.ensures.frame.still) c.requires.looking,
 )
 
 pub make_room-requires-clause-many : goal.make_room-requires-clause-many
 make_room-requires-clause-many c = (
-  subst (λ (m : MyTree). c.count-many.result ≡ length (first_note m.0.upper.notes).objects) (sym c.count-many.ensures.still)
+  subst (λ (m : MyTree). c.count-many.result ≡ length (first_note m.0.upper.notes).objects) (sym c.count-many.ensures.frame.still)
       (c.count-many.ensures.count (first_note c.args.pass.now.seat.me.0.upper.notes) c.requires.looking.readable),
   no_less c.args.place c.count-many.result c.args.tuning.now.leaf (λ room. no_room c.has_room.result c.if-not-has_room.true (c.has_room.ensures.1 room)),
 )
 
-pub returns-then-not-has_room-clause-same : goal.returns-then-not-has_room-clause-same
-returns-then-not-has_room-clause-same c = (c.make_room.ensures.same.0 ∙ c.count-many.ensures.same.0, c.make_room.ensures.same.1 ∙ c.count-many.ensures.same.1)
-
-pub returns-then-not-has_room-clause-number : goal.returns-then-not-has_room-clause-number
-returns-then-not-has_room-clause-number c = c.make_room.ensures.number ∙ c.count-many.ensures.number
-
-pub returns-then-not-has_room-clause-pin : goal.returns-then-not-has_room-clause-pin
-returns-then-not-has_room-clause-pin c = (
-  c.make_room.ensures.pin.0 ∙ ap (λ (m : MyTree). m.0.sizes) c.count-many.ensures.still,
-  c.make_room.ensures.pin.1 ∙ ap (λ (m : MyTree). m.0.pin) c.count-many.ensures.still,
-)
-
-pub returns-then-not-has_room-clause-none : goal.returns-then-not-has_room-clause-none
-returns-then-not-has_room-clause-none c = c.make_room.ensures.none
-
 pub returns-then-not-has_room-clause-tried : goal.returns-then-not-has_room-clause-tried
 returns-then-not-has_room-clause-tried c = subst (λ (m : MyTree). IsFurther m.0.upper c.make_room.new.pass.seat.me.0.upper × IsKnown
-    c.args.space.now.table.shared.key c.make_room.new.pass.seat.me.0.upper) c.count-many.ensures.still
+    c.args.space.now.table.shared.key c.make_room.new.pass.seat.me.0.upper) c.count-many.ensures.frame.still
     c.make_room.ensures.further
 
 pub returns-then-not-has_room-clause-deep : goal.returns-then-not-has_room-clause-deep
@@ -352,16 +331,16 @@ returns-then-not-has_room-clause-met_as c = tt
 pub returns-then-not-has_room-clause-gone_on : goal.returns-then-not-has_room-clause-gone_on
 returns-then-not-has_room-clause-gone_on c = subst (λ (m : MyTree). Waits c.args.adapting.now c.make_room.new.adapting m.0.upper
     c.make_room.new.pass.seat.me.0.upper)
-    c.count-many.ensures.still c.make_room.ensures.waits
+    c.count-many.ensures.frame.still c.make_room.ensures.waits
 
 pub returns-then-not-has_room-clause-counted : goal.returns-then-not-has_room-clause-counted
 returns-then-not-has_room-clause-counted c = subst (λ (m : MyTree). IsPaid c.args.spent.now c.make_room.new.spent m c.make_room.new.pass.seat.me)
-    c.count-many.ensures.still
+    c.count-many.ensures.frame.still
     c.make_room.ensures.counted
 
 pub returns-then-not-has_room-clause-found : goal.returns-then-not-has_room-clause-found
 returns-then-not-has_room-clause-found c = subst (λ (m : MyTree). HasStopped {T = Unit {0}} (Err c.make_room.result) m c.make_room.new.pass.seat.me)
-    c.count-many.ensures.still
+    c.count-many.ensures.frame.still
     c.make_room.ensures.found
 
 pub returns-then-not-has_room-clause-grown : goal.returns-then-not-has_room-clause-grown
@@ -369,7 +348,7 @@ returns-then-not-has_room-clause-grown c = subst (λ (m : MyTree). IsLooking c.a
     (slice_range c.args.object.now c.args.key_at c.args.key_end) c.args.cursor
     → IsAlone c.args.space.now.table.shared.key m.0.upper → HasGrown {T = Unit {0}} c.args.space.now.table.shared.key (Some
     (slice_range c.args.object.now c.args.key_at c.args.key_end))
-    (Err c.make_room.result) m.0.upper c.make_room.new.pass.seat.me.0.upper) c.count-many.ensures.still (c.make_room.ensures.grown
+    (Err c.make_room.result) m.0.upper c.make_room.new.pass.seat.me.0.upper) c.count-many.ensures.frame.still (c.make_room.ensures.grown
     (slice_range c.args.object.now c.args.key_at c.args.key_end))
     c.requires.looking
 
@@ -377,5 +356,5 @@ pub returns-then-not-has_room-clause-won : goal.returns-then-not-has_room-clause
 returns-then-not-has_room-clause-won c = subst (λ (m : MyTree). IsLooking c.args.space.now.table.shared.key m.0.upper
     (slice_range c.args.object.now c.args.key_at c.args.key_end) c.args.cursor
     → IsAlone c.args.space.now.table.shared.key m.0.upper → HasWonAs {T = Unit {0}} (λ _. true) (Err c.make_room.result) m.0.upper
-    c.make_room.new.pass.seat.me.0.upper) c.count-many.ensures.still (c.make_room.ensures.won (slice_range c.args.object.now c.args.key_at c.args.key_end))
+    c.make_room.new.pass.seat.me.0.upper) c.count-many.ensures.frame.still (c.make_room.ensures.won (slice_range c.args.object.now c.args.key_at c.args.key_end))
     c.requires.looking

@@ -31,6 +31,7 @@ loop-come-init g c = record {
   further = no_further c.args.pass.now.seat.me.0.upper;
   counted = none_paid c.args.spent.now c.args.pass.now.seat.me c.args.pass.now.seat.me refl refl;
   looks = omega arith;
+  lags = refl;
   waits = idle_waits c.args.adapting.now c.args.pass.now.seat.me.0.upper c.args.pass.now.seat.me.0.upper (refl, refl);
   won = λ _. refl;
   waited = λ _. inl (refl, refl);
@@ -61,8 +62,8 @@ loop-come-preserved g c = let i = c.loop-come.invariant in let tells = λ (x : _
     let start = c.args.pass.now.seat.me in let before = c.loop-come.pass.seat.me in let behind = c.turns-come.new.pass.seat.me in
     let last = c.refill.new.pass.seat.me in let empty = c.if-is_empty.ensures.0 refl in
     let met = subst (λ (x : Result _ Stop). HasMetBy x before behind) empty c.turns-come.ensures.found in let given = c.refill.ensures.met in record {
-      number = c.refill.ensures.number ∙ (c.turns-come.ensures.number ∙ i.number);
-      resting = c.refill.ensures.resting;
+      number = c.refill.ensures.frame.number ∙ (c.turns-come.ensures.frame.number ∙ i.number);
+      resting = c.refill.ensures.frame.resting;
       further = subst (IsFurther start.0.upper) (sym c.refill.ensures.upper) (further_on start.0.upper before.0.upper behind.0.upper i.further
           (stopped_further tells c.args.tree.now.space.table.shared.key c.turns-come.result stop.Empty before.0.upper behind.0.upper empty
           c.turns-come.ensures.tried));
@@ -87,18 +88,21 @@ loop-come-preserved g c = let i = c.loop-come.invariant in let tells = λ (x : _
           (stopped_cut edits z adds c.turns-come.result stop.Empty start.0.upper behind.0.upper empty
           (cuts_so_far edits z adds c.turns-come.result start.0.upper before.0.upper behind.0.upper i.full c.turns-come.ensures.cut));
       worn = omega (arith, i.worn, met.1, given.1);
-      first = inr (empty_before (vec_len c.loop-come.pass.kept.rows) start before behind last c.args.pass.now.kept.rows i.first met given);
+      lags = c.in_default.ensures.unlagged refl ∙ (c.turns-come.ensures.lags ∙ i.lags);
+      first = inr (empty_before (vec_len c.loop-come.pass.kept.rows) c.kept-kept.result (vec_len c.refill.new.pass.kept.rows) start before behind last
+          c.args.pass.now.kept.rows c.kept-kept.ensures (c.in_default.ensures.again refl).0 (let one = i.counted.more in let two = c.turns-come.ensures.counted.more in omega arith)
+          (c.in_default.ensures.begins refl) i.first met given);
     }
 
 pub returns-in-Err-clause-few : goal.returns-in-Err-clause-few
-returns-in-Err-clause-few g c = let one = c.loop-come.invariant.counted.more in let two = c.turns-come.ensures.counted.more in
+returns-in-Err-clause-few g c =
     few_from c.args.pass.now.seat.me c.turns-come.new.pass.seat.me c.refill.new.pass.seat.me c.refill.new.pass.kept.rows
-    (omega arith) (let before = c.loop-come.invariant.looks in let same = c.turns-come.ensures.looks in omega arith) (c.in-Err.ensures.few refl)
+    (let before = c.loop-come.invariant.looks in let same = c.turns-come.ensures.looks in omega arith) (c.in-Err.ensures.few refl)
 
 pub returns-else-is_empty-clause-few : goal.returns-else-is_empty-clause-few
-returns-else-is_empty-clause-few g c = let one = c.loop-come.invariant.counted.more in let two = c.turns-come.ensures.counted.more in
+returns-else-is_empty-clause-few g c =
     few_from c.args.pass.now.seat.me c.turns-come.new.pass.seat.me c.keep_few.new.pass.seat.me c.keep_few.new.pass.kept.rows
-    (omega arith) (let before = c.loop-come.invariant.looks in let same = c.turns-come.ensures.looks in omega arith) c.keep_few.ensures.few
+    (let before = c.loop-come.invariant.looks in let same = c.turns-come.ensures.looks in omega arith) c.keep_few.ensures.few
 
 pub returns-in-Err-clause-gone_on : goal.returns-in-Err-clause-gone_on
 returns-in-Err-clause-gone_on g c = subst (Waits c.args.adapting.now c.turns-come.new.adapting c.args.pass.now.seat.me.0.upper) (sym c.refill.ensures.upper)
@@ -117,11 +121,12 @@ returns-else-is_empty-clause-gone_on g c = let edits = λ (x : _). g.A.Attempt.e
     c.loop-come.invariant.waits c.turns-come.ensures.gone_on)
 
 -- Attempts before this one, and rows that were given back, count nothing less.
-so_far : (m m' : MyTree) (Kept : Type 0) → losses m ≤ losses m' → (Kept × (m'.0.empty ≡ m.0.empty)) ⊎ (m.0.empty + 1 ≤ m'.0.empty) → m'.0.worn ≡ m.0.worn
-    → NoneFall m m'
-so_far m m' Kept more first worn = record {
+so_far : (m m' : MyTree) (Kept Begun More : Type 0) → losses m ≤ losses m'
+    → (Kept × (m'.0.empty ≡ m.0.empty)) ⊎ ((m.0.empty + 1 ≤ m'.0.empty) × Begun × More)
+    → m'.0.worn ≡ m.0.worn → NoneFall m m'
+so_far m m' Kept Begun More more first worn = record {
   lost = more;
-  empty = ⊎_elim (λ (x : Kept × (m'.0.empty ≡ m.0.empty)). let e = x.1 in omega arith) (λ (l : m.0.empty + 1 ≤ m'.0.empty). omega arith) first;
+  empty = ⊎_elim (λ (x : Kept × (m'.0.empty ≡ m.0.empty)). let e = x.1 in omega arith) (λ (l : (m.0.empty + 1 ≤ m'.0.empty) × Begun × More). let up = l.0 in omega arith) first;
   worn = omega (arith, worn);
 }
 
@@ -136,6 +141,8 @@ pub returns-else-is_empty-clause-met_as : goal.returns-else-is_empty-clause-met_
 returns-else-is_empty-clause-met_as g c = refused_met (λ (x : _). g.A.Attempt.edits c.args.what.now x) c.turns-come.new.adapting.last c.turns-come.result
     c.or_refusal.result _ _ c.args.pass.now.seat.me c.loop-come.pass.seat.me c.turns-come.new.pass.seat.me c.keep_few.new.pass.seat.me
     (so_far c.args.pass.now.seat.me c.loop-come.pass.seat.me (vec_len c.loop-come.pass.kept.rows ≡ vec_len c.args.pass.now.kept.rows)
+    (0 < vec_len c.args.pass.now.kept.rows)
+    ((vec_len c.loop-come.pass.kept.rows ≡ 0) ⊎ (losses c.args.pass.now.seat.me < losses c.loop-come.pass.seat.me))
     c.loop-come.invariant.counted.more c.loop-come.invariant.first c.loop-come.invariant.worn)
     (given_none c.turns-come.new.pass.seat.me c.keep_few.new.pass.seat.me c.keep_few.result c.keep_few.ensures.lost c.keep_few.ensures.upper
     c.keep_few.ensures.met)
@@ -204,11 +211,11 @@ returns-in-Err-clause-caused g c = let i = c.loop-come.invariant in let start = 
     (paid_both c.args.spent.now c.turns-come.new.spent c.refill.new.spent start behind last
     (paid_both c.args.spent.now c.loop-come.spent c.turns-come.new.spent start before behind i.counted c.turns-come.ensures.counted)
     c.refill.ensures.counted)
-    (begun_with c.kept-kept.result (vec_len c.loop-come.pass.kept.rows) start before behind last c.args.pass.now.kept.rows c.kept-kept.ensures i.first met
-    c.refill.ensures.met)
+    (begun_with c.kept-kept.result (vec_len c.loop-come.pass.kept.rows) start before behind last c.args.pass.now.kept.rows c.kept-kept.ensures i.first
+    (let two = c.turns-come.ensures.counted.more in let three = c.refill.ensures.counted.more in omega arith) met c.refill.ensures.met)
     (let more = i.looks in let same = c.turns-come.ensures.looks in omega arith)
     (subst (λ (k : ℕ). IsRefill z.passes k c.args.budget c.kept-kept.result c.refill.new.spent c.in-Err.why behind last c.refill.new.pass.kept.rows)
-    (c.turns-come.ensures.number ∙ i.number) c.in-Err.ensures.refused)
+    (c.turns-come.ensures.frame.number ∙ i.number) c.in-Err.ensures.refused)
 
 pub returns-else-is_empty-clause-caused : goal.returns-else-is_empty-clause-caused
 returns-else-is_empty-clause-caused g c = let i = c.loop-come.invariant in let start = c.args.pass.now.seat.me in let before = c.loop-come.pass.seat.me in
@@ -225,3 +232,11 @@ returns-else-is_empty-clause-caused g c = let i = c.loop-come.invariant in let s
     (paid_both c.args.spent.now c.loop-come.spent c.turns-come.new.spent start before behind i.counted c.turns-come.ensures.counted)
     (paid_given c.turns-come.new.spent c.keep_few.result c.add-spent.result behind last c.add-spent.ensures.sum c.keep_few.ensures.lost upper))
     (λ e. let met = subst (λ (x : Result _ Stop). HasMetBy x before behind) e found in omega (arith, i.worn, met.1, given.1))
+
+pub returns-in-Err-clause-lags : goal.returns-in-Err-clause-lags
+returns-in-Err-clause-lags g c = let before = c.loop-come.invariant.lags in let same = c.turns-come.ensures.lags in let once = c.refill.ensures.lags in
+    omega arith
+
+pub returns-else-is_empty-clause-lags : goal.returns-else-is_empty-clause-lags
+returns-else-is_empty-clause-lags g c = let before = c.loop-come.invariant.lags in let same = c.turns-come.ensures.lags in
+    let once = c.keep_few.ensures.lags in omega arith

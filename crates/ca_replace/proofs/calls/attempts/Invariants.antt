@@ -1,4 +1,5 @@
-use Rattle.std.proofs.Common.{◌≡◌, ◌⊎◌, ◌+◌, ◌-◌, ◌*◌, ◌≤◌, min, vec_len}
+use Rattle.std.proofs.Common.{◌≡◌, ◌⊎◌, ◌+◌, ◌-◌, ◌*◌, ◌<◌, ◌≤◌, min, vec_len}
+use Rattle.ca_base.specs.Counting.{losses}
 use Rattle.ca_base.specs.Progress.{IsFurther}
 use Rattle.ca_node.specs.Told.{IsAlone}
 use Rattle.ca_replace.specs.Adapting.{Waits}
@@ -22,7 +23,9 @@ invariant-loop-come g l = record {
   full : HasCutFull l.tree.space.table.shared.key (g.A.Attempt.adds l.what) l.fn.pass.seat.me.0.upper l.pass.seat.me.0.upper;
   worn : l.pass.seat.me.0.worn ≡ l.fn.pass.seat.me.0.worn;
   first : ((vec_len l.pass.kept.rows ≡ vec_len l.fn.pass.kept.rows) × (l.pass.seat.me.0.empty ≡ l.fn.pass.seat.me.0.empty))
-      ⊎ (l.fn.pass.seat.me.0.empty + 1 ≤ l.pass.seat.me.0.empty);
+      ⊎ ((l.fn.pass.seat.me.0.empty + 1 ≤ l.pass.seat.me.0.empty) × (0 < vec_len l.fn.pass.kept.rows)
+      × ((vec_len l.pass.kept.rows ≡ 0) ⊎ (losses l.fn.pass.seat.me < losses l.pass.seat.me)));
+  lags : l.pass.seat.me.0.pin.lags ≡ l.fn.pass.seat.me.0.pin.lags;
 }
 
 abbrev pub decreases-loop-come : goal.decreases-loop-come

@@ -1,4 +1,4 @@
-use Rattle.std.proofs.Common.{◌≡◌, refl, sym, ap, ◌∙◌, subst, arith}
+use Rattle.std.proofs.Common.{◌≡◌, refl, sym, ap, ◌∙◌, subst, arith, rules}
 use Rattle.ca_replace.specs.Adapting.{HasGoneOn}
 use Rattle.ca_node.proofs.Tallies.{tallied_still}
 use Rattle.ca_replace.specs.Attempting.{HasTriedTo}
@@ -18,31 +18,36 @@ use Rattle.ca_replace.proofs.Winning.{won_pinned}
 use Rattle.ca_replace.specs.Winning.{HasWonAs}
 use Rattle.ca_replace.proofs.calls.once.Goals as goal
 
-pub attempt-tried-requires-clause-number : goal.attempt-tried-requires-clause-number
-attempt-tried-requires-clause-number g c = let n = c.requires.resting.numbered.1 in
-    omega (arith, ap (λ (m : MyTree). m.0.upper.number) c.pin.ensures.pinned.3, c.requires.resting.same_number)
-
-pub attempt-tried-requires-clause-none : goal.attempt-tried-requires-clause-none
-attempt-tried-requires-clause-none g c = none_pinned c.args.tree.now.space.table.shared.table_id c.args.tree.now.space.table.shared.key c.args.pass.now.number
-    c.args.pass.now.kept c.pin.new.pass.kept c.args.pass.now.seat c.pin.new.pass.seat _ _ c.requires.resting c.pin.ensures.pinned.3 c.pin.ensures.kept
+pub attempt-tried-requires-clause-ready : goal.attempt-tried-requires-clause-ready
+attempt-tried-requires-clause-ready g c = record {
+  own = search rules;
+  pinned = search rules;
+  number = let n = c.requires.resting.numbered.1 in
+      omega (arith, ap (λ (m : MyTree). m.0.upper.number) c.pin.ensures.pinned.3, c.requires.resting.same_number);
+  none = none_pinned c.args.tree.now.space.table.shared.table_id c.args.tree.now.space.table.shared.key c.args.pass.now.number
+      c.args.pass.now.kept c.pin.new.pass.kept c.args.pass.now.seat c.pin.new.pass.seat _ _ c.requires.resting c.pin.ensures.pinned.3 c.pin.ensures.frame.kept;
+}
 
 pub attempt-tried-requires-clause-tuned : goal.attempt-tried-requires-clause-tuned
 attempt-tried-requires-clause-tuned g c = let tree = c.args.tree.now in subst (λ (y : Sizes). IsTuned y tree.tuning) tree.space.same tree.tuned
 
-pub returns-clause-resting : goal.returns-clause-resting
-returns-clause-resting g c = let space = c.args.tree.now.space.table.shared in let pin = c.pin.ensures.pinned.3 in let two = c.attempt-tried.ensures in
-    let tells = λ (x : _). g.A.Attempt.tells c.args.what.now x c.attempt-tried.new.left in
-    rests_as space.table_id space.key c.args.pass.now.number c.unpin.new.pass.number c.attempt-tried.new.pass.kept c.unpin.new.pass.kept c.unpin.new.pass.seat
-    (c.unpin.ensures.number ∙ (two.number ∙ c.pin.ensures.number)) c.unpin.ensures.tally c.unpin.ensures.kept
-    (rests_again space.table_id space.key c.args.pass.now.number c.args.pass.now.kept.rows c.attempt-tried.new.pass.kept.rows c.args.pass.now.seat
-    c.pin.new.pass.seat
-    c.attempt-tried.new.pass.seat c.unpin.new.pass.seat c.requires.resting
-    (ap (λ (m : MyTree). m.0.sizes) pin, ap (λ (m : MyTree). m.0.pin.number) pin, ap (λ (m : MyTree). m.0.upper.number) pin)
-    (two.same.0 ∙ c.pin.ensures.same.0) two.pin two.none
-    (tried_known tells space.key c.attempt-tried.result c.pin.new.pass.seat.me.0.upper c.attempt-tried.new.pass.seat.me.0.upper two.tried)
-    c.unpin.ensures.same.0 c.unpin.ensures.unpinned
-    (λ h. two.tally (tallied_still c.args.pass.now.tally c.pin.new.pass.tally c.args.pass.now.seat.me.0.upper c.pin.new.pass.seat.me.0.upper
-    c.pin.ensures.tally (ap (λ (m : MyTree). m.0.upper.splits) pin) (ap (λ (m : MyTree). m.0.upper.joins) pin) h)))
+pub returns-clause-frame : goal.returns-clause-frame
+returns-clause-frame g c = record {
+  number = search rules;
+  resting = let space = c.args.tree.now.space.table.shared in let pin = c.pin.ensures.pinned.3 in let two = c.attempt-tried.ensures in
+      let tells = λ (x : _). g.A.Attempt.tells c.args.what.now x c.attempt-tried.new.left in
+      rests_as space.table_id space.key c.args.pass.now.number c.unpin.new.pass.number c.attempt-tried.new.pass.kept c.unpin.new.pass.kept c.unpin.new.pass.seat
+      (c.unpin.ensures.frame.number ∙ (two.frame.number ∙ c.pin.ensures.frame.number)) c.unpin.ensures.frame.tally c.unpin.ensures.frame.kept
+      (rests_again space.table_id space.key c.args.pass.now.number c.args.pass.now.kept.rows c.attempt-tried.new.pass.kept.rows c.args.pass.now.seat
+      c.pin.new.pass.seat
+      c.attempt-tried.new.pass.seat c.unpin.new.pass.seat c.requires.resting
+      (ap (λ (m : MyTree). m.0.sizes) pin, ap (λ (m : MyTree). m.0.pin.number) pin, ap (λ (m : MyTree). m.0.upper.number) pin)
+      (two.frame.same.0 ∙ c.pin.ensures.frame.same.0) two.frame.pin two.frame.none
+      (tried_known tells space.key c.attempt-tried.result c.pin.new.pass.seat.me.0.upper c.attempt-tried.new.pass.seat.me.0.upper two.tried)
+      c.unpin.ensures.frame.same.0 c.unpin.ensures.unpinned
+      (λ h. two.frame.tally (tallied_still c.args.pass.now.tally c.pin.new.pass.tally c.args.pass.now.seat.me.0.upper c.pin.new.pass.seat.me.0.upper
+      c.pin.ensures.frame.tally (ap (λ (m : MyTree). m.0.upper.splits) pin) (ap (λ (m : MyTree). m.0.upper.joins) pin) h)));
+}
 
 pub returns-clause-tried : goal.returns-clause-tried
 returns-clause-tried g c = let z = c.args.tree.now.space.table.shared.key in

@@ -18,6 +18,7 @@ loop-pass-init g c = record {
   further = no_further c.args.pass.now.seat.me.0.upper;
   counted = none_paid c.args.spent.now c.args.pass.now.seat.me c.args.pass.now.seat.me refl refl;
   looks = refl;
+  lags = refl;
   met = none_met c.args.pass.now.seat.me;
   waits = idle_waits c.args.adapting.now c.args.pass.now.seat.me.0.upper c.args.pass.now.seat.me.0.upper (refl, refl);
   won = λ _. refl;
@@ -31,14 +32,15 @@ once-tried-requires-clause-resting g c = c.loop-pass.invariant.resting
 
 pub loop-pass-preserved : goal.loop-pass-preserved
 loop-pass-preserved g c = let tells = λ (x : _). g.A.Attempt.tells c.args.what.now x c.once-tried.new.left in record {
-  number = c.once-tried.ensures.number ∙ c.loop-pass.invariant.number;
-  resting = c.once-tried.ensures.resting;
+  number = c.once-tried.ensures.frame.number ∙ c.loop-pass.invariant.number;
+  resting = c.once-tried.ensures.frame.resting;
   further = further_on c.args.pass.now.seat.me.0.upper c.loop-pass.pass.seat.me.0.upper c.once-tried.new.pass.seat.me.0.upper c.loop-pass.invariant.further
       (turn_further tells c.args.tree.now.space.table.shared.key c.once-tried.result c.loop-pass.pass.seat.me.0.upper
       c.once-tried.new.pass.seat.me.0.upper (c.if-not-has_next.ensures.0 refl) c.once-tried.ensures.tried);
   counted = paid_both c.args.spent.now c.loop-pass.spent c.once-tried.new.spent c.args.pass.now.seat.me c.loop-pass.pass.seat.me
       c.once-tried.new.pass.seat.me c.loop-pass.invariant.counted c.once-tried.ensures.counted;
   looks = c.once-tried.ensures.looks ∙ c.loop-pass.invariant.looks;
+  lags = c.once-tried.ensures.lags ∙ c.loop-pass.invariant.lags;
   met = met_both 0 0 0 0 c.args.pass.now.seat.me c.loop-pass.pass.seat.me c.once-tried.new.pass.seat.me c.loop-pass.invariant.met
       (met_turn c.once-tried.result c.loop-pass.pass.seat.me c.once-tried.new.pass.seat.me (c.if-not-has_next.ensures.0 refl) c.once-tried.ensures.found).0;
   waits = waits_on c.args.adapting.now c.loop-pass.adapting c.once-tried.new.adapting c.args.pass.now.seat.me.0.upper c.loop-pass.pass.seat.me.0.upper
@@ -65,20 +67,20 @@ loop-pass-preserved g c = let tells = λ (x : _). g.A.Attempt.tells c.args.what.
       c.once-tried.new.pass.seat.me.0.upper c.loop-pass.invariant.full c.once-tried.ensures.cut);
 }
 
-pub returns-clause-number : goal.returns-clause-number
-returns-clause-number g c = c.loop-pass.invariant.number
-
-pub returns-clause-resting : goal.returns-clause-resting
-returns-clause-resting g c = c.loop-pass.invariant.resting
+pub returns-clause-frame : goal.returns-clause-frame
+returns-clause-frame g c = record {
+  number = c.loop-pass.invariant.number;
+  resting = c.loop-pass.invariant.resting;
+}
 
 pub returns-clause-tried : goal.returns-clause-tried
 returns-clause-tried g c = (c.loop-pass.invariant.further, c.loop-pass.invariant.resting.known)
 
-pub returns-then-not-has_next-clause-number : goal.returns-then-not-has_next-clause-number
-returns-then-not-has_next-clause-number g c = c.once-tried.ensures.number ∙ c.loop-pass.invariant.number
-
-pub returns-then-not-has_next-clause-resting : goal.returns-then-not-has_next-clause-resting
-returns-then-not-has_next-clause-resting g c = c.once-tried.ensures.resting
+pub returns-then-not-has_next-clause-frame : goal.returns-then-not-has_next-clause-frame
+returns-then-not-has_next-clause-frame g c = record {
+  number = c.once-tried.ensures.frame.number ∙ c.loop-pass.invariant.number;
+  resting = c.once-tried.ensures.frame.resting;
+}
 
 pub returns-then-not-has_next-clause-tried : goal.returns-then-not-has_next-clause-tried
 returns-then-not-has_next-clause-tried g c = let tells = λ (x : _). g.A.Attempt.tells c.args.what.now x c.once-tried.new.left in

@@ -2,7 +2,7 @@ use Rattle.std.proofs.Common.{◌≡◌, ℕ, ◌<◌, ◌≤◌, false, vec_len
 use Rattle.std.specs.declared.option.Option.{Option}
 use Rattle.std.specs.declared.option.Option.TheVariants.{None, Some}
 use Rattle.std.specs.Option.{is_some}
-use Rattle.ca_replace.proofs.Causing.{none_or_lost}
+use Rattle.ca_replace.proofs.Causing.{none_or_lost, none_or_more}
 use Rattle.ca_replace.proofs.giving.refill.Goals as goal
 
 no_lag : (lag : Option ℕ) → false ≡ is_some lag → lag ≡ None
@@ -22,3 +22,12 @@ returns-clause-again c = λ _. let given = c.give_back_kept-given in let most = 
           (λ (room : given.result.epoch < 4611686018427387904). given.ensures.all lag kept_all
           (subst (λ n. n < 4611686018427387904) given.ensures.epoch room)) c.else-given-ge-LAST_EPOCH.either)),
     )
+
+pub returns-clause-begins : goal.returns-clause-begins
+returns-clause-begins c = λ _. let given = c.give_back_kept-given in let lag = no_lag given.result.lag c.if-is_some.ensures in
+    none_or_more given.result.lost given.result.losses given.result.kept given.ensures.lost (λ calm. ⊎_elim
+    (λ (few : (4611686018427387904 ≤ given.result.epoch) × (given.result.kept ≤ 0)). let n = few.1 in omega arith)
+    (λ (room : given.result.epoch < 4611686018427387904). given.ensures.all lag calm
+    (subst (λ n. n < 4611686018427387904) given.ensures.epoch room)) c.else-given-ge-LAST_EPOCH.either)
+    (vec_len given.new.pass.kept.rows) given.ensures.kept c.args.pass.now.seat.me given.new.pass.seat.me given.ensures.losses
+    given.ensures.reclaims.same_upper

@@ -24,11 +24,11 @@ pub read_word-requires-2-clause-held : goal.read_word-requires-2-clause-held
 read_word-requires-2-clause-held c = let took = c.in-Row.ensures.row.3 in
     let held = held_still c.args.pass.now.seat.me c.take_row.new.pass.seat.me c.write_word.new.pass.seat.me c.in-Row.row 5 c.args.value took.0 took.2
     c.write_word.ensures.written in
-    (held.0, ap (λ (x : Mine TreeView). claim_of x.0.claims c.in-Row.row) c.read_word.ensures.still ∙ held.1)
+    (held.0, ap (λ (x : Mine TreeView). claim_of x.0.claims c.in-Row.row) c.read_word.ensures.frame.still ∙ held.1)
 
 pub read_word-requires-3-clause-held : goal.read_word-requires-3-clause-held
 read_word-requires-3-clause-held c = let took = c.in-Row.ensures.row.3 in
     let held = held_still c.args.pass.now.seat.me c.take_row.new.pass.seat.me c.write_word.new.pass.seat.me c.in-Row.row 5 c.args.value took.0 took.2
     c.write_word.ensures.written in
-    let same = c.read_word-2.ensures.still ∙ c.read_word.ensures.still in
+    let same = c.read_word-2.ensures.frame.still ∙ c.read_word.ensures.frame.still in
     (held.0, ap (λ (x : Mine TreeView). claim_of x.0.claims c.in-Row.row) same ∙ held.1)

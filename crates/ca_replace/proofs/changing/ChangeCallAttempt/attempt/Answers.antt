@@ -117,19 +117,70 @@ returns-in-Err-clause-gone_on g c = waits_on c.args.adapting.now c.args.adapting
     (idle_waits c.args.adapting.now c.args.pass.now.seat.me.0.upper c.fetch-place.new.pass.seat.me.0.upper c.fetch-place.ensures.quiet.idle)
     c.in-Err.ensures.gone_on
 
-pub returns-in_default-clause-tally : goal.returns-in_default-clause-tally
-returns-in_default-clause-tally g c h = tallied_read c.fetch-place.new.pass.tally c.enter.new.pass.tally c.fetch-place.new.pass.seat.me
-    c.enter.new.pass.seat.me _ c.enter.ensures.tally c.enter.ensures.entered (c.fetch-place.ensures.tally h)
+pub returns-in_default-clause-frame : goal.returns-in_default-clause-frame
+returns-in_default-clause-frame g c = record {
+  same = (c.enter.ensures.frame.same.0 ∙ c.fetch-place.ensures.same.0, c.enter.ensures.frame.same.1 ∙ c.fetch-place.ensures.same.1);
+  number = c.enter.ensures.frame.number ∙ c.fetch-place.ensures.number;
+  tally = λ h. tallied_read c.fetch-place.new.pass.tally c.enter.new.pass.tally c.fetch-place.new.pass.seat.me
+      c.enter.new.pass.seat.me _ c.enter.ensures.frame.tally c.enter.ensures.entered (c.fetch-place.ensures.tally h);
+  pin = (
+    ap (λ (m : MyTree). m.0.sizes) c.enter.ensures.entered ∙ c.fetch-place.ensures.still.0,
+    ap (λ (m : MyTree). m.0.pin) c.enter.ensures.entered ∙ c.fetch-place.ensures.still.1,
+  );
+  none = held_upper c.args.space.now.table.shared.key.rows c.fetch-place.new.pass.kept c.enter.new.pass.kept
+      c.fetch-place.new.pass.seat.me c.enter.new.pass.seat.me _ []
+      (held_looked c.args.space.now.table.shared.key.rows c.args.pass.now.kept c.fetch-place.new.pass.kept c.args.pass.now.seat.me
+      c.fetch-place.new.pass.seat.me [] c.requires.ready.none
+      c.fetch-place.ensures.kept c.fetch-place.ensures.still.2 c.fetch-place.ensures.quiet.most) c.enter.ensures.entered c.enter.ensures.frame.kept;
+}
 
-pub returns-then-not-f-clause-tally : goal.returns-then-not-f-clause-tally
-returns-then-not-f-clause-tally g c h = tallied_read c.fetch-place.new.pass.tally c.enter-then-not-f.new.pass.tally c.fetch-place.new.pass.seat.me
-    c.enter-then-not-f.new.pass.seat.me _ c.enter-then-not-f.ensures.tally c.enter-then-not-f.ensures.entered (c.fetch-place.ensures.tally h)
+pub returns-then-not-f-clause-frame : goal.returns-then-not-f-clause-frame
+returns-then-not-f-clause-frame g c = record {
+  same = (
+    c.enter-then-not-f.ensures.frame.same.0 ∙ c.fetch-place.ensures.same.0,
+    c.enter-then-not-f.ensures.frame.same.1
+        ∙ c.fetch-place.ensures.same.1,
+  );
+  number = c.enter-then-not-f.ensures.frame.number ∙ c.fetch-place.ensures.number;
+  tally = λ h. tallied_read c.fetch-place.new.pass.tally c.enter-then-not-f.new.pass.tally c.fetch-place.new.pass.seat.me
+      c.enter-then-not-f.new.pass.seat.me _ c.enter-then-not-f.ensures.frame.tally c.enter-then-not-f.ensures.entered (c.fetch-place.ensures.tally h);
+  pin = (
+    ap (λ (m : MyTree). m.0.sizes) c.enter-then-not-f.ensures.entered ∙ c.fetch-place.ensures.still.0,
+    ap (λ (m : MyTree). m.0.pin) c.enter-then-not-f.ensures.entered ∙ c.fetch-place.ensures.still.1,
+  );
+  none = held_upper c.args.space.now.table.shared.key.rows c.fetch-place.new.pass.kept c.enter-then-not-f.new.pass.kept
+      c.fetch-place.new.pass.seat.me c.enter-then-not-f.new.pass.seat.me _ []
+      (held_looked c.args.space.now.table.shared.key.rows c.args.pass.now.kept c.fetch-place.new.pass.kept c.args.pass.now.seat.me
+      c.fetch-place.new.pass.seat.me [] c.requires.ready.none
+      c.fetch-place.ensures.kept c.fetch-place.ensures.still.2 c.fetch-place.ensures.quiet.most) c.enter-then-not-f.ensures.entered
+      c.enter-then-not-f.ensures.frame.kept;
+}
 
-pub returns-in-Ok-put_there-clause-tally : goal.returns-in-Ok-put_there-clause-tally
-returns-in-Ok-put_there-clause-tally g c h = c.put_there.ensures.tally (c.fetch-place.ensures.tally h)
+pub returns-in-Ok-put_there-clause-frame : goal.returns-in-Ok-put_there-clause-frame
+returns-in-Ok-put_there-clause-frame g c = record {
+  same = (
+    c.put_there.ensures.frame.same.0 ∙ c.fetch-place.ensures.same.0,
+    c.put_there.ensures.frame.same.1
+        ∙ c.fetch-place.ensures.same.1,
+  );
+  number = c.put_there.ensures.frame.number ∙ c.fetch-place.ensures.number;
+  tally = λ h. c.put_there.ensures.frame.tally (c.fetch-place.ensures.tally h);
+  pin = (
+    c.put_there.ensures.frame.pin.0 ∙ c.fetch-place.ensures.still.0,
+    c.put_there.ensures.frame.pin.1
+        ∙ c.fetch-place.ensures.still.1,
+  );
+  none = c.put_there.ensures.frame.none;
+}
 
-pub returns-in-Err-clause-tally : goal.returns-in-Err-clause-tally
-returns-in-Err-clause-tally g c h = c.put_there.ensures.tally (c.fetch-place.ensures.tally h)
+pub returns-in-Err-clause-frame : goal.returns-in-Err-clause-frame
+returns-in-Err-clause-frame g c = record {
+  same = (c.put_there.ensures.frame.same.0 ∙ c.fetch-place.ensures.same.0, c.put_there.ensures.frame.same.1 ∙ c.fetch-place.ensures.same.1);
+  number = c.put_there.ensures.frame.number ∙ c.fetch-place.ensures.number;
+  tally = λ h. c.put_there.ensures.frame.tally (c.fetch-place.ensures.tally h);
+  pin = (c.put_there.ensures.frame.pin.0 ∙ c.fetch-place.ensures.still.0, c.put_there.ensures.frame.pin.1 ∙ c.fetch-place.ensures.still.1);
+  none = c.put_there.ensures.frame.none;
+}
 
 pub returns-in-Err-clause-tried : goal.returns-in-Err-clause-tried
 returns-in-Err-clause-tried g c = (
@@ -166,25 +217,6 @@ returns-in-Err-clause-cut g c = stop_cut (Unit {0}) Changed (λ _. true) is_put 
     (never_cut {T = Unit {0}} (λ _. true) c.args.space.now.table.shared.key (Some _) None (Err c.in-Err.stop) c.fetch-place.new.pass.seat.me.0.upper
     c.put_there.new.pass.seat.me.0.upper c.in-Err.ensures.no_split c.in-Err.ensures.cut)
 
-pub returns-in_default-clause-same : goal.returns-in_default-clause-same
-returns-in_default-clause-same g c = (c.enter.ensures.same.0 ∙ c.fetch-place.ensures.same.0, c.enter.ensures.same.1 ∙ c.fetch-place.ensures.same.1)
-
-pub returns-in_default-clause-number : goal.returns-in_default-clause-number
-returns-in_default-clause-number g c = c.enter.ensures.number ∙ c.fetch-place.ensures.number
-
-pub returns-in_default-clause-pin : goal.returns-in_default-clause-pin
-returns-in_default-clause-pin g c = (
-  ap (λ (m : MyTree). m.0.sizes) c.enter.ensures.entered ∙ c.fetch-place.ensures.still.0,
-  ap (λ (m : MyTree). m.0.pin) c.enter.ensures.entered ∙ c.fetch-place.ensures.still.1,
-)
-
-pub returns-in_default-clause-none : goal.returns-in_default-clause-none
-returns-in_default-clause-none g c = held_upper c.args.space.now.table.shared.key.rows c.fetch-place.new.pass.kept c.enter.new.pass.kept
-    c.fetch-place.new.pass.seat.me c.enter.new.pass.seat.me _ []
-    (held_looked c.args.space.now.table.shared.key.rows c.args.pass.now.kept c.fetch-place.new.pass.kept c.args.pass.now.seat.me
-    c.fetch-place.new.pass.seat.me [] c.requires.none
-    c.fetch-place.ensures.kept c.fetch-place.ensures.still.2 c.fetch-place.ensures.quiet.most) c.enter.ensures.entered c.enter.ensures.kept
-
 pub returns-in_default-clause-counted : goal.returns-in_default-clause-counted
 returns-in_default-clause-counted g c = none_paid c.args.spent.now c.args.pass.now.seat.me c.enter.new.pass.seat.me
     (ap losses c.enter.ensures.entered ∙ c.fetch-place.ensures.quiet.lost) (ap splits c.enter.ensures.entered ∙ c.fetch-place.ensures.quiet.splits_are)
@@ -201,30 +233,6 @@ returns-in_default-clause-grown g c alone = entered_grown c.args.pass.now.seat.m
 
 pub returns-in_default-clause-won : goal.returns-in_default-clause-won
 returns-in_default-clause-won g c alone = ap (λ (m : MyTree). m.0.upper.lost) c.enter.ensures.entered ∙ c.fetch-place.ensures.quiet.idle.1
-
-pub returns-then-not-f-clause-same : goal.returns-then-not-f-clause-same
-returns-then-not-f-clause-same g c = (
-  c.enter-then-not-f.ensures.same.0 ∙ c.fetch-place.ensures.same.0,
-  c.enter-then-not-f.ensures.same.1
-      ∙ c.fetch-place.ensures.same.1,
-)
-
-pub returns-then-not-f-clause-number : goal.returns-then-not-f-clause-number
-returns-then-not-f-clause-number g c = c.enter-then-not-f.ensures.number ∙ c.fetch-place.ensures.number
-
-pub returns-then-not-f-clause-pin : goal.returns-then-not-f-clause-pin
-returns-then-not-f-clause-pin g c = (
-  ap (λ (m : MyTree). m.0.sizes) c.enter-then-not-f.ensures.entered ∙ c.fetch-place.ensures.still.0,
-  ap (λ (m : MyTree). m.0.pin) c.enter-then-not-f.ensures.entered ∙ c.fetch-place.ensures.still.1,
-)
-
-pub returns-then-not-f-clause-none : goal.returns-then-not-f-clause-none
-returns-then-not-f-clause-none g c = held_upper c.args.space.now.table.shared.key.rows c.fetch-place.new.pass.kept c.enter-then-not-f.new.pass.kept
-    c.fetch-place.new.pass.seat.me c.enter-then-not-f.new.pass.seat.me _ []
-    (held_looked c.args.space.now.table.shared.key.rows c.args.pass.now.kept c.fetch-place.new.pass.kept c.args.pass.now.seat.me
-    c.fetch-place.new.pass.seat.me [] c.requires.none
-    c.fetch-place.ensures.kept c.fetch-place.ensures.still.2 c.fetch-place.ensures.quiet.most) c.enter-then-not-f.ensures.entered
-    c.enter-then-not-f.ensures.kept
 
 pub returns-then-not-f-clause-counted : goal.returns-then-not-f-clause-counted
 returns-then-not-f-clause-counted g c = none_paid c.args.spent.now c.args.pass.now.seat.me c.enter-then-not-f.new.pass.seat.me
@@ -244,26 +252,6 @@ returns-then-not-f-clause-grown g c alone = entered_grown c.args.pass.now.seat.m
 pub returns-then-not-f-clause-won : goal.returns-then-not-f-clause-won
 returns-then-not-f-clause-won g c alone = ap (λ (m : MyTree). m.0.upper.lost) c.enter-then-not-f.ensures.entered ∙ c.fetch-place.ensures.quiet.idle.1
 
-pub returns-in-Ok-put_there-clause-same : goal.returns-in-Ok-put_there-clause-same
-returns-in-Ok-put_there-clause-same g c = (
-  c.put_there.ensures.same.0 ∙ c.fetch-place.ensures.same.0,
-  c.put_there.ensures.same.1
-      ∙ c.fetch-place.ensures.same.1,
-)
-
-pub returns-in-Ok-put_there-clause-number : goal.returns-in-Ok-put_there-clause-number
-returns-in-Ok-put_there-clause-number g c = c.put_there.ensures.number ∙ c.fetch-place.ensures.number
-
-pub returns-in-Ok-put_there-clause-pin : goal.returns-in-Ok-put_there-clause-pin
-returns-in-Ok-put_there-clause-pin g c = (
-  c.put_there.ensures.pin.0 ∙ c.fetch-place.ensures.still.0,
-  c.put_there.ensures.pin.1
-      ∙ c.fetch-place.ensures.still.1,
-)
-
-pub returns-in-Ok-put_there-clause-none : goal.returns-in-Ok-put_there-clause-none
-returns-in-Ok-put_there-clause-none g c = c.put_there.ensures.none
-
 pub returns-in-Ok-put_there-clause-found : goal.returns-in-Ok-put_there-clause-found
 returns-in-Ok-put_there-clause-found g c = done_stopped _ c.args.pass.now.seat.me c.put_there.new.pass.seat.me
 
@@ -278,18 +266,6 @@ returns-in-Ok-put_there-clause-won g c alone = won_on true c.args.pass.now.seat.
     c.fetch-place.ensures.quiet.idle.1 (c.in-Ok-put_there.ensures.won (alone_on c.args.space.now.table.shared.key c.args.pass.now.seat.me.0.upper
     c.fetch-place.new.pass.seat.me.0.upper
     c.fetch-place.ensures.further.number alone))
-
-pub returns-in-Err-clause-same : goal.returns-in-Err-clause-same
-returns-in-Err-clause-same g c = (c.put_there.ensures.same.0 ∙ c.fetch-place.ensures.same.0, c.put_there.ensures.same.1 ∙ c.fetch-place.ensures.same.1)
-
-pub returns-in-Err-clause-number : goal.returns-in-Err-clause-number
-returns-in-Err-clause-number g c = c.put_there.ensures.number ∙ c.fetch-place.ensures.number
-
-pub returns-in-Err-clause-pin : goal.returns-in-Err-clause-pin
-returns-in-Err-clause-pin g c = (c.put_there.ensures.pin.0 ∙ c.fetch-place.ensures.still.0, c.put_there.ensures.pin.1 ∙ c.fetch-place.ensures.still.1)
-
-pub returns-in-Err-clause-none : goal.returns-in-Err-clause-none
-returns-in-Err-clause-none g c = c.put_there.ensures.none
 
 pub returns-in-Err-clause-counted : goal.returns-in-Err-clause-counted
 returns-in-Err-clause-counted g c = paid_behind c.args.spent.now c.put_there.new.spent c.args.pass.now.seat.me c.fetch-place.new.pass.seat.me
@@ -308,16 +284,12 @@ returns-in-Err-clause-won g c alone = won_on false c.args.pass.now.seat.me.0.upp
     c.fetch-place.new.pass.seat.me.0.upper
     c.fetch-place.ensures.further.number alone))
 
-pub put_there-requires-clause-own : goal.put_there-requires-clause-own
-put_there-requires-clause-own g c = (c.fetch-place.ensures.same.0 ∙ c.requires.own.0, c.fetch-place.ensures.still.0 ∙ c.requires.own.1)
-
-pub put_there-requires-clause-pinned : goal.put_there-requires-clause-pinned
-put_there-requires-clause-pinned g c = ap (λ (p : Pin). p.pinned) c.fetch-place.ensures.still.1 ∙ c.requires.pinned
-
-pub put_there-requires-clause-number : goal.put_there-requires-clause-number
-put_there-requires-clause-number g c = subst (λ n. 0 < n) (sym c.fetch-place.ensures.further.number) c.requires.number
-
-pub put_there-requires-clause-none : goal.put_there-requires-clause-none
-put_there-requires-clause-none g c = held_looked c.args.space.now.table.shared.key.rows c.args.pass.now.kept c.fetch-place.new.pass.kept
-    c.args.pass.now.seat.me c.fetch-place.new.pass.seat.me []
-    c.requires.none c.fetch-place.ensures.kept c.fetch-place.ensures.still.2 c.fetch-place.ensures.quiet.most
+pub put_there-requires-clause-ready : goal.put_there-requires-clause-ready
+put_there-requires-clause-ready g c = record {
+  own = (c.fetch-place.ensures.same.0 ∙ c.requires.ready.own.0, c.fetch-place.ensures.still.0 ∙ c.requires.ready.own.1);
+  pinned = ap (λ (p : Pin). p.pinned) c.fetch-place.ensures.still.1 ∙ c.requires.ready.pinned;
+  number = subst (λ n. 0 < n) (sym c.fetch-place.ensures.further.number) c.requires.ready.number;
+  none = held_looked c.args.space.now.table.shared.key.rows c.args.pass.now.kept c.fetch-place.new.pass.kept
+      c.args.pass.now.seat.me c.fetch-place.new.pass.seat.me []
+      c.requires.ready.none c.fetch-place.ensures.kept c.fetch-place.ensures.still.2 c.fetch-place.ensures.quiet.most;
+}

@@ -24,8 +24,14 @@ returns-clause-gone_on c = gone_after (λ (_ : Unit {0}). true) c.args.space.now
     c.put_there.new.adapting c.put_there.result c.args.pass.now.seat.me.0.upper c.find-place.new.pass.seat.me.0.upper
     c.put_there.new.pass.seat.me.0.upper c.find-place.ensures.quiet.idle c.put_there.ensures.gone_on
 
-pub returns-clause-tally : goal.returns-clause-tally
-returns-clause-tally c h = c.put_there.ensures.tally (c.find-place.ensures.tally h)
+pub returns-clause-frame : goal.returns-clause-frame
+returns-clause-frame c = record {
+  same = (c.put_there.ensures.frame.same.0 ∙ c.find-place.ensures.same.0, c.put_there.ensures.frame.same.1 ∙ c.find-place.ensures.same.1);
+  number = c.put_there.ensures.frame.number ∙ c.find-place.ensures.number;
+  tally = λ h. c.put_there.ensures.frame.tally (c.find-place.ensures.tally h);
+  pin = (c.put_there.ensures.frame.pin.0 ∙ c.find-place.ensures.still.0, c.put_there.ensures.frame.pin.1 ∙ c.find-place.ensures.still.1);
+  none = c.put_there.ensures.frame.none;
+}
 
 pub returns-clause-met_as : goal.returns-clause-met_as
 returns-clause-met_as c = meets_between (λ (_ : Unit {0}). true) c.put_there.new.adapting.last c.put_there.result c.args.pass.now.seat.me
@@ -48,18 +54,6 @@ returns-clause-won c alone = won_behind (λ (_ : Unit {0}). true) c.put_there.re
     c.put_there.new.pass.seat.me.0.upper c.find-place.ensures.quiet.idle.1 (c.put_there.ensures.won (alone_on c.args.space.now.table.shared.key
     c.args.pass.now.seat.me.0.upper c.find-place.new.pass.seat.me.0.upper c.find-place.ensures.further.number alone))
 
-pub returns-clause-same : goal.returns-clause-same
-returns-clause-same c = (c.put_there.ensures.same.0 ∙ c.find-place.ensures.same.0, c.put_there.ensures.same.1 ∙ c.find-place.ensures.same.1)
-
-pub returns-clause-number : goal.returns-clause-number
-returns-clause-number c = c.put_there.ensures.number ∙ c.find-place.ensures.number
-
-pub returns-clause-pin : goal.returns-clause-pin
-returns-clause-pin c = (c.put_there.ensures.pin.0 ∙ c.find-place.ensures.still.0, c.put_there.ensures.pin.1 ∙ c.find-place.ensures.still.1)
-
-pub returns-clause-none : goal.returns-clause-none
-returns-clause-none c = c.put_there.ensures.none
-
 pub returns-clause-deep : goal.returns-clause-deep
 returns-clause-deep c = c.put_there.ensures.full
 
@@ -71,16 +65,12 @@ pub returns-clause-found : goal.returns-clause-found
 returns-clause-found c = stopped_behind c.put_there.result c.args.pass.now.seat.me c.find-place.new.pass.seat.me c.put_there.new.pass.seat.me
     c.find-place.ensures.quiet c.put_there.ensures.found
 
-pub put_there-requires-clause-own : goal.put_there-requires-clause-own
-put_there-requires-clause-own c = (c.find-place.ensures.same.0 ∙ c.requires.own.0, c.find-place.ensures.still.0 ∙ c.requires.own.1)
-
-pub put_there-requires-clause-pinned : goal.put_there-requires-clause-pinned
-put_there-requires-clause-pinned c = ap (λ (p : Pin). p.pinned) c.find-place.ensures.still.1 ∙ c.requires.pinned
-
-pub put_there-requires-clause-number : goal.put_there-requires-clause-number
-put_there-requires-clause-number c = subst (λ n. 0 < n) (sym c.find-place.ensures.further.number) c.requires.number
-
-pub put_there-requires-clause-none : goal.put_there-requires-clause-none
-put_there-requires-clause-none c = held_looked c.args.space.now.table.shared.key.rows c.args.pass.now.kept c.find-place.new.pass.kept c.args.pass.now.seat.me
-    c.find-place.new.pass.seat.me []
-    c.requires.none c.find-place.ensures.kept c.find-place.ensures.still.2 c.find-place.ensures.quiet.most
+pub put_there-requires-clause-ready : goal.put_there-requires-clause-ready
+put_there-requires-clause-ready c = record {
+  own = (c.find-place.ensures.same.0 ∙ c.requires.ready.own.0, c.find-place.ensures.still.0 ∙ c.requires.ready.own.1);
+  pinned = ap (λ (p : Pin). p.pinned) c.find-place.ensures.still.1 ∙ c.requires.ready.pinned;
+  number = subst (λ n. 0 < n) (sym c.find-place.ensures.further.number) c.requires.ready.number;
+  none = held_looked c.args.space.now.table.shared.key.rows c.args.pass.now.kept c.find-place.new.pass.kept c.args.pass.now.seat.me
+      c.find-place.new.pass.seat.me []
+      c.requires.ready.none c.find-place.ensures.kept c.find-place.ensures.still.2 c.find-place.ensures.quiet.most;
+}

@@ -55,15 +55,40 @@ returns-in-Err-clause-gone_on c = waits_on c.args.adapting.now c.args.adapting.n
     (idle_waits c.args.adapting.now c.args.pass.now.seat.me.0.upper c.find-place.new.pass.seat.me.0.upper c.find-place.ensures.quiet.idle)
     c.in-Err.ensures.gone_on
 
-pub returns-then-is_ok-clause-tally : goal.returns-then-is_ok-clause-tally
-returns-then-is_ok-clause-tally c h = tallied_read c.find-place.new.pass.tally c.enter.new.pass.tally c.find-place.new.pass.seat.me c.enter.new.pass.seat.me _
-    c.enter.ensures.tally c.enter.ensures.entered (c.find-place.ensures.tally h)
+pub returns-then-is_ok-clause-frame : goal.returns-then-is_ok-clause-frame
+returns-then-is_ok-clause-frame c = record {
+  same = (c.enter.ensures.frame.same.0 ∙ c.find-place.ensures.same.0, c.enter.ensures.frame.same.1 ∙ c.find-place.ensures.same.1);
+  number = c.enter.ensures.frame.number ∙ c.find-place.ensures.number;
+  tally = λ h. tallied_read c.find-place.new.pass.tally c.enter.new.pass.tally c.find-place.new.pass.seat.me c.enter.new.pass.seat.me _
+      c.enter.ensures.frame.tally c.enter.ensures.entered (c.find-place.ensures.tally h);
+  pin = (
+    ap (λ (m : MyTree). m.0.sizes) c.enter.ensures.entered ∙ c.find-place.ensures.still.0,
+    ap (λ (m : MyTree). m.0.pin) c.enter.ensures.entered ∙ c.find-place.ensures.still.1,
+  );
+  none = held_upper c.args.space.now.table.shared.key.rows c.find-place.new.pass.kept c.enter.new.pass.kept
+      c.find-place.new.pass.seat.me c.enter.new.pass.seat.me _ []
+      (held_looked c.args.space.now.table.shared.key.rows c.args.pass.now.kept c.find-place.new.pass.kept c.args.pass.now.seat.me c.find-place.new.pass.seat.me
+      [] c.requires.ready.none
+      c.find-place.ensures.kept c.find-place.ensures.still.2 c.find-place.ensures.quiet.most) c.enter.ensures.entered c.enter.ensures.frame.kept;
+}
 
-pub returns-in-Ok-clause-tally : goal.returns-in-Ok-clause-tally
-returns-in-Ok-clause-tally c h = c.put_there.ensures.tally (c.find-place.ensures.tally h)
+pub returns-in-Ok-clause-frame : goal.returns-in-Ok-clause-frame
+returns-in-Ok-clause-frame c = record {
+  same = (c.put_there.ensures.frame.same.0 ∙ c.find-place.ensures.same.0, c.put_there.ensures.frame.same.1 ∙ c.find-place.ensures.same.1);
+  number = c.put_there.ensures.frame.number ∙ c.find-place.ensures.number;
+  tally = λ h. c.put_there.ensures.frame.tally (c.find-place.ensures.tally h);
+  pin = (c.put_there.ensures.frame.pin.0 ∙ c.find-place.ensures.still.0, c.put_there.ensures.frame.pin.1 ∙ c.find-place.ensures.still.1);
+  none = c.put_there.ensures.frame.none;
+}
 
-pub returns-in-Err-clause-tally : goal.returns-in-Err-clause-tally
-returns-in-Err-clause-tally c h = c.put_there.ensures.tally (c.find-place.ensures.tally h)
+pub returns-in-Err-clause-frame : goal.returns-in-Err-clause-frame
+returns-in-Err-clause-frame c = record {
+  same = (c.put_there.ensures.frame.same.0 ∙ c.find-place.ensures.same.0, c.put_there.ensures.frame.same.1 ∙ c.find-place.ensures.same.1);
+  number = c.put_there.ensures.frame.number ∙ c.find-place.ensures.number;
+  tally = λ h. c.put_there.ensures.frame.tally (c.find-place.ensures.tally h);
+  pin = (c.put_there.ensures.frame.pin.0 ∙ c.find-place.ensures.still.0, c.put_there.ensures.frame.pin.1 ∙ c.find-place.ensures.still.1);
+  none = c.put_there.ensures.frame.none;
+}
 
 pub returns-in-Err-clause-tried : goal.returns-in-Err-clause-tried
 returns-in-Err-clause-tried c = (
@@ -122,25 +147,6 @@ returns-in-Err-clause-won c alone = won_on false c.args.pass.now.seat.me.0.upper
     c.find-place.ensures.quiet.idle.1 (c.in-Err.ensures.won (alone_on c.args.space.now.table.shared.key c.args.pass.now.seat.me.0.upper
     c.find-place.new.pass.seat.me.0.upper c.find-place.ensures.further.number alone))
 
-pub returns-then-is_ok-clause-same : goal.returns-then-is_ok-clause-same
-returns-then-is_ok-clause-same c = (c.enter.ensures.same.0 ∙ c.find-place.ensures.same.0, c.enter.ensures.same.1 ∙ c.find-place.ensures.same.1)
-
-pub returns-then-is_ok-clause-number : goal.returns-then-is_ok-clause-number
-returns-then-is_ok-clause-number c = c.enter.ensures.number ∙ c.find-place.ensures.number
-
-pub returns-then-is_ok-clause-pin : goal.returns-then-is_ok-clause-pin
-returns-then-is_ok-clause-pin c = (
-  ap (λ (m : MyTree). m.0.sizes) c.enter.ensures.entered ∙ c.find-place.ensures.still.0,
-  ap (λ (m : MyTree). m.0.pin) c.enter.ensures.entered ∙ c.find-place.ensures.still.1,
-)
-
-pub returns-then-is_ok-clause-none : goal.returns-then-is_ok-clause-none
-returns-then-is_ok-clause-none c = held_upper c.args.space.now.table.shared.key.rows c.find-place.new.pass.kept c.enter.new.pass.kept
-    c.find-place.new.pass.seat.me c.enter.new.pass.seat.me _ []
-    (held_looked c.args.space.now.table.shared.key.rows c.args.pass.now.kept c.find-place.new.pass.kept c.args.pass.now.seat.me c.find-place.new.pass.seat.me
-    [] c.requires.none
-    c.find-place.ensures.kept c.find-place.ensures.still.2 c.find-place.ensures.quiet.most) c.enter.ensures.entered c.enter.ensures.kept
-
 pub returns-then-is_ok-clause-counted : goal.returns-then-is_ok-clause-counted
 returns-then-is_ok-clause-counted c = none_paid c.args.spent.now c.args.pass.now.seat.me c.enter.new.pass.seat.me
     (ap losses c.enter.ensures.entered ∙ c.find-place.ensures.quiet.lost) (ap splits c.enter.ensures.entered ∙ c.find-place.ensures.quiet.splits_are)
@@ -154,32 +160,8 @@ returns-then-is_ok-clause-met_as c = tt
 pub returns-then-is_ok-clause-won : goal.returns-then-is_ok-clause-won
 returns-then-is_ok-clause-won c alone = ap (λ (m : MyTree). m.0.upper.lost) c.enter.ensures.entered ∙ c.find-place.ensures.quiet.idle.1
 
-pub returns-in-Ok-clause-same : goal.returns-in-Ok-clause-same
-returns-in-Ok-clause-same c = (c.put_there.ensures.same.0 ∙ c.find-place.ensures.same.0, c.put_there.ensures.same.1 ∙ c.find-place.ensures.same.1)
-
-pub returns-in-Ok-clause-number : goal.returns-in-Ok-clause-number
-returns-in-Ok-clause-number c = c.put_there.ensures.number ∙ c.find-place.ensures.number
-
-pub returns-in-Ok-clause-pin : goal.returns-in-Ok-clause-pin
-returns-in-Ok-clause-pin c = (c.put_there.ensures.pin.0 ∙ c.find-place.ensures.still.0, c.put_there.ensures.pin.1 ∙ c.find-place.ensures.still.1)
-
-pub returns-in-Ok-clause-none : goal.returns-in-Ok-clause-none
-returns-in-Ok-clause-none c = c.put_there.ensures.none
-
 pub returns-in-Ok-clause-found : goal.returns-in-Ok-clause-found
 returns-in-Ok-clause-found c = done_stopped _ c.args.pass.now.seat.me c.put_there.new.pass.seat.me
-
-pub returns-in-Err-clause-same : goal.returns-in-Err-clause-same
-returns-in-Err-clause-same c = (c.put_there.ensures.same.0 ∙ c.find-place.ensures.same.0, c.put_there.ensures.same.1 ∙ c.find-place.ensures.same.1)
-
-pub returns-in-Err-clause-number : goal.returns-in-Err-clause-number
-returns-in-Err-clause-number c = c.put_there.ensures.number ∙ c.find-place.ensures.number
-
-pub returns-in-Err-clause-pin : goal.returns-in-Err-clause-pin
-returns-in-Err-clause-pin c = (c.put_there.ensures.pin.0 ∙ c.find-place.ensures.still.0, c.put_there.ensures.pin.1 ∙ c.find-place.ensures.still.1)
-
-pub returns-in-Err-clause-none : goal.returns-in-Err-clause-none
-returns-in-Err-clause-none c = c.put_there.ensures.none
 
 pub returns-in-Err-clause-counted : goal.returns-in-Err-clause-counted
 returns-in-Err-clause-counted c = paid_behind c.args.spent.now c.put_there.new.spent c.args.pass.now.seat.me c.find-place.new.pass.seat.me
@@ -192,16 +174,12 @@ returns-in-Err-clause-found c = stop_stopped (Unit {0}) Bool c.in-Err.stop c.arg
 pub returns-in-Err-clause-met_as : goal.returns-in-Err-clause-met_as
 returns-in-Err-clause-met_as c = tt
 
-pub put_there-requires-clause-own : goal.put_there-requires-clause-own
-put_there-requires-clause-own c = (c.find-place.ensures.same.0 ∙ c.requires.own.0, c.find-place.ensures.still.0 ∙ c.requires.own.1)
-
-pub put_there-requires-clause-pinned : goal.put_there-requires-clause-pinned
-put_there-requires-clause-pinned c = ap (λ (p : Pin). p.pinned) c.find-place.ensures.still.1 ∙ c.requires.pinned
-
-pub put_there-requires-clause-number : goal.put_there-requires-clause-number
-put_there-requires-clause-number c = subst (λ n. 0 < n) (sym c.find-place.ensures.further.number) c.requires.number
-
-pub put_there-requires-clause-none : goal.put_there-requires-clause-none
-put_there-requires-clause-none c = held_looked c.args.space.now.table.shared.key.rows c.args.pass.now.kept c.find-place.new.pass.kept c.args.pass.now.seat.me
-    c.find-place.new.pass.seat.me []
-    c.requires.none c.find-place.ensures.kept c.find-place.ensures.still.2 c.find-place.ensures.quiet.most
+pub put_there-requires-clause-ready : goal.put_there-requires-clause-ready
+put_there-requires-clause-ready c = record {
+  own = (c.find-place.ensures.same.0 ∙ c.requires.ready.own.0, c.find-place.ensures.still.0 ∙ c.requires.ready.own.1);
+  pinned = ap (λ (p : Pin). p.pinned) c.find-place.ensures.still.1 ∙ c.requires.ready.pinned;
+  number = subst (λ n. 0 < n) (sym c.find-place.ensures.further.number) c.requires.ready.number;
+  none = held_looked c.args.space.now.table.shared.key.rows c.args.pass.now.kept c.find-place.new.pass.kept c.args.pass.now.seat.me
+      c.find-place.new.pass.seat.me []
+      c.requires.ready.none c.find-place.ensures.kept c.find-place.ensures.still.2 c.find-place.ensures.quiet.most;
+}

@@ -58,15 +58,48 @@ returns-in-Err-clause-gone_on c = waits_on c.args.adapting.now c.args.adapting.n
     (idle_waits c.args.adapting.now c.args.pass.now.seat.me.0.upper c.fetch-place.new.pass.seat.me.0.upper c.fetch-place.ensures.quiet.idle)
     c.in-Err.ensures.gone_on
 
-pub returns-in_default-clause-tally : goal.returns-in_default-clause-tally
-returns-in_default-clause-tally c h = tallied_read c.fetch-place.new.pass.tally c.enter.new.pass.tally c.fetch-place.new.pass.seat.me
-    c.enter.new.pass.seat.me _ c.enter.ensures.tally c.enter.ensures.entered (c.fetch-place.ensures.tally h)
+pub returns-in_default-clause-frame : goal.returns-in_default-clause-frame
+returns-in_default-clause-frame c = record {
+  same = (c.enter.ensures.frame.same.0 ∙ c.fetch-place.ensures.same.0, c.enter.ensures.frame.same.1 ∙ c.fetch-place.ensures.same.1);
+  number = c.enter.ensures.frame.number ∙ c.fetch-place.ensures.number;
+  tally = λ h. tallied_read c.fetch-place.new.pass.tally c.enter.new.pass.tally c.fetch-place.new.pass.seat.me
+      c.enter.new.pass.seat.me _ c.enter.ensures.frame.tally c.enter.ensures.entered (c.fetch-place.ensures.tally h);
+  pin = (
+    ap (λ (m : MyTree). m.0.sizes) c.enter.ensures.entered ∙ c.fetch-place.ensures.still.0,
+    ap (λ (m : MyTree). m.0.pin) c.enter.ensures.entered ∙ c.fetch-place.ensures.still.1,
+  );
+  none = held_upper c.args.space.now.table.shared.key.rows c.fetch-place.new.pass.kept c.enter.new.pass.kept
+      c.fetch-place.new.pass.seat.me c.enter.new.pass.seat.me _ []
+      (held_looked c.args.space.now.table.shared.key.rows c.args.pass.now.kept c.fetch-place.new.pass.kept c.args.pass.now.seat.me
+      c.fetch-place.new.pass.seat.me [] c.requires.ready.none
+      c.fetch-place.ensures.kept c.fetch-place.ensures.still.2 c.fetch-place.ensures.quiet.most) c.enter.ensures.entered c.enter.ensures.frame.kept;
+}
 
-pub returns-in-Ok-remove_there-clause-tally : goal.returns-in-Ok-remove_there-clause-tally
-returns-in-Ok-remove_there-clause-tally c h = c.remove_there.ensures.tally (c.fetch-place.ensures.tally h)
+pub returns-in-Ok-remove_there-clause-frame : goal.returns-in-Ok-remove_there-clause-frame
+returns-in-Ok-remove_there-clause-frame c = record {
+  same = (
+    c.remove_there.ensures.frame.same.0 ∙ c.fetch-place.ensures.same.0,
+    c.remove_there.ensures.frame.same.1
+        ∙ c.fetch-place.ensures.same.1,
+  );
+  number = c.remove_there.ensures.frame.number ∙ c.fetch-place.ensures.number;
+  tally = λ h. c.remove_there.ensures.frame.tally (c.fetch-place.ensures.tally h);
+  pin = (
+    c.remove_there.ensures.frame.pin.0 ∙ c.fetch-place.ensures.still.0,
+    c.remove_there.ensures.frame.pin.1
+        ∙ c.fetch-place.ensures.still.1,
+  );
+  none = c.remove_there.ensures.frame.none;
+}
 
-pub returns-in-Err-clause-tally : goal.returns-in-Err-clause-tally
-returns-in-Err-clause-tally c h = c.remove_there.ensures.tally (c.fetch-place.ensures.tally h)
+pub returns-in-Err-clause-frame : goal.returns-in-Err-clause-frame
+returns-in-Err-clause-frame c = record {
+  same = (c.remove_there.ensures.frame.same.0 ∙ c.fetch-place.ensures.same.0, c.remove_there.ensures.frame.same.1 ∙ c.fetch-place.ensures.same.1);
+  number = c.remove_there.ensures.frame.number ∙ c.fetch-place.ensures.number;
+  tally = λ h. c.remove_there.ensures.frame.tally (c.fetch-place.ensures.tally h);
+  pin = (c.remove_there.ensures.frame.pin.0 ∙ c.fetch-place.ensures.still.0, c.remove_there.ensures.frame.pin.1 ∙ c.fetch-place.ensures.still.1);
+  none = c.remove_there.ensures.frame.none;
+}
 
 pub returns-in-Err-clause-tried : goal.returns-in-Err-clause-tried
 returns-in-Err-clause-tried c = (
@@ -98,25 +131,6 @@ returns-in-Err-clause-cut c = stop_cut (Unit {0}) Bool (λ _. true) (λ (was : B
     c.args.pass.now.seat.me c.fetch-place.new.pass.seat.me c.remove_there.new.pass.seat.me.0.upper c.fetch-place.ensures.quiet
     c.in-Err.ensures.cut
 
-pub returns-in_default-clause-same : goal.returns-in_default-clause-same
-returns-in_default-clause-same c = (c.enter.ensures.same.0 ∙ c.fetch-place.ensures.same.0, c.enter.ensures.same.1 ∙ c.fetch-place.ensures.same.1)
-
-pub returns-in_default-clause-number : goal.returns-in_default-clause-number
-returns-in_default-clause-number c = c.enter.ensures.number ∙ c.fetch-place.ensures.number
-
-pub returns-in_default-clause-pin : goal.returns-in_default-clause-pin
-returns-in_default-clause-pin c = (
-  ap (λ (m : MyTree). m.0.sizes) c.enter.ensures.entered ∙ c.fetch-place.ensures.still.0,
-  ap (λ (m : MyTree). m.0.pin) c.enter.ensures.entered ∙ c.fetch-place.ensures.still.1,
-)
-
-pub returns-in_default-clause-none : goal.returns-in_default-clause-none
-returns-in_default-clause-none c = held_upper c.args.space.now.table.shared.key.rows c.fetch-place.new.pass.kept c.enter.new.pass.kept
-    c.fetch-place.new.pass.seat.me c.enter.new.pass.seat.me _ []
-    (held_looked c.args.space.now.table.shared.key.rows c.args.pass.now.kept c.fetch-place.new.pass.kept c.args.pass.now.seat.me
-    c.fetch-place.new.pass.seat.me [] c.requires.none
-    c.fetch-place.ensures.kept c.fetch-place.ensures.still.2 c.fetch-place.ensures.quiet.most) c.enter.ensures.entered c.enter.ensures.kept
-
 pub returns-in_default-clause-counted : goal.returns-in_default-clause-counted
 returns-in_default-clause-counted c = none_paid c.args.spent.now c.args.pass.now.seat.me c.enter.new.pass.seat.me
     (ap losses c.enter.ensures.entered ∙ c.fetch-place.ensures.quiet.lost) (ap splits c.enter.ensures.entered ∙ c.fetch-place.ensures.quiet.splits_are)
@@ -134,26 +148,6 @@ returns-in_default-clause-grown c alone = entered_grown c.args.pass.now.seat.me 
 pub returns-in_default-clause-won : goal.returns-in_default-clause-won
 returns-in_default-clause-won c alone = ap (λ (m : MyTree). m.0.upper.lost) c.enter.ensures.entered ∙ c.fetch-place.ensures.quiet.idle.1
 
-pub returns-in-Ok-remove_there-clause-same : goal.returns-in-Ok-remove_there-clause-same
-returns-in-Ok-remove_there-clause-same c = (
-  c.remove_there.ensures.same.0 ∙ c.fetch-place.ensures.same.0,
-  c.remove_there.ensures.same.1
-      ∙ c.fetch-place.ensures.same.1,
-)
-
-pub returns-in-Ok-remove_there-clause-number : goal.returns-in-Ok-remove_there-clause-number
-returns-in-Ok-remove_there-clause-number c = c.remove_there.ensures.number ∙ c.fetch-place.ensures.number
-
-pub returns-in-Ok-remove_there-clause-pin : goal.returns-in-Ok-remove_there-clause-pin
-returns-in-Ok-remove_there-clause-pin c = (
-  c.remove_there.ensures.pin.0 ∙ c.fetch-place.ensures.still.0,
-  c.remove_there.ensures.pin.1
-      ∙ c.fetch-place.ensures.still.1,
-)
-
-pub returns-in-Ok-remove_there-clause-none : goal.returns-in-Ok-remove_there-clause-none
-returns-in-Ok-remove_there-clause-none c = c.remove_there.ensures.none
-
 pub returns-in-Ok-remove_there-clause-found : goal.returns-in-Ok-remove_there-clause-found
 returns-in-Ok-remove_there-clause-found c = done_stopped _ c.args.pass.now.seat.me c.remove_there.new.pass.seat.me
 
@@ -168,18 +162,6 @@ returns-in-Ok-remove_there-clause-won c alone = won_on true c.args.pass.now.seat
     c.fetch-place.ensures.quiet.idle.1 (c.in-Ok-remove_there.ensures.won (alone_on c.args.space.now.table.shared.key c.args.pass.now.seat.me.0.upper
     c.fetch-place.new.pass.seat.me.0.upper
     c.fetch-place.ensures.further.number alone))
-
-pub returns-in-Err-clause-same : goal.returns-in-Err-clause-same
-returns-in-Err-clause-same c = (c.remove_there.ensures.same.0 ∙ c.fetch-place.ensures.same.0, c.remove_there.ensures.same.1 ∙ c.fetch-place.ensures.same.1)
-
-pub returns-in-Err-clause-number : goal.returns-in-Err-clause-number
-returns-in-Err-clause-number c = c.remove_there.ensures.number ∙ c.fetch-place.ensures.number
-
-pub returns-in-Err-clause-pin : goal.returns-in-Err-clause-pin
-returns-in-Err-clause-pin c = (c.remove_there.ensures.pin.0 ∙ c.fetch-place.ensures.still.0, c.remove_there.ensures.pin.1 ∙ c.fetch-place.ensures.still.1)
-
-pub returns-in-Err-clause-none : goal.returns-in-Err-clause-none
-returns-in-Err-clause-none c = c.remove_there.ensures.none
 
 pub returns-in-Err-clause-counted : goal.returns-in-Err-clause-counted
 returns-in-Err-clause-counted c = paid_behind c.args.spent.now c.remove_there.new.spent c.args.pass.now.seat.me c.fetch-place.new.pass.seat.me
@@ -204,16 +186,12 @@ returns-in-Err-clause-won c alone = won_on false c.args.pass.now.seat.me.0.upper
     c.fetch-place.new.pass.seat.me.0.upper
     c.fetch-place.ensures.further.number alone))
 
-pub remove_there-requires-clause-own : goal.remove_there-requires-clause-own
-remove_there-requires-clause-own c = (c.fetch-place.ensures.same.0 ∙ c.requires.own.0, c.fetch-place.ensures.still.0 ∙ c.requires.own.1)
-
-pub remove_there-requires-clause-pinned : goal.remove_there-requires-clause-pinned
-remove_there-requires-clause-pinned c = ap (λ (p : Pin). p.pinned) c.fetch-place.ensures.still.1 ∙ c.requires.pinned
-
-pub remove_there-requires-clause-number : goal.remove_there-requires-clause-number
-remove_there-requires-clause-number c = subst (λ n. 0 < n) (sym c.fetch-place.ensures.further.number) c.requires.number
-
-pub remove_there-requires-clause-none : goal.remove_there-requires-clause-none
-remove_there-requires-clause-none c = held_looked c.args.space.now.table.shared.key.rows c.args.pass.now.kept c.fetch-place.new.pass.kept
-    c.args.pass.now.seat.me c.fetch-place.new.pass.seat.me []
-    c.requires.none c.fetch-place.ensures.kept c.fetch-place.ensures.still.2 c.fetch-place.ensures.quiet.most
+pub remove_there-requires-clause-ready : goal.remove_there-requires-clause-ready
+remove_there-requires-clause-ready c = record {
+  own = (c.fetch-place.ensures.same.0 ∙ c.requires.ready.own.0, c.fetch-place.ensures.still.0 ∙ c.requires.ready.own.1);
+  pinned = ap (λ (p : Pin). p.pinned) c.fetch-place.ensures.still.1 ∙ c.requires.ready.pinned;
+  number = subst (λ n. 0 < n) (sym c.fetch-place.ensures.further.number) c.requires.ready.number;
+  none = held_looked c.args.space.now.table.shared.key.rows c.args.pass.now.kept c.fetch-place.new.pass.kept
+      c.args.pass.now.seat.me c.fetch-place.new.pass.seat.me []
+      c.requires.ready.none c.fetch-place.ensures.kept c.fetch-place.ensures.still.2 c.fetch-place.ensures.quiet.most;
+}

@@ -1,6 +1,7 @@
 use Rattle.std.proofs.Common.{true, refl, ap, inl, ◌∙◌}
 use Rattle.ca_node.specs.Place.{all_keys}
 use Rattle.ca_node.specs.Told.{MyTree}
+use Rattle.ca_rows.specs.Told.{met_of}
 use Rattle.ca_node.proofs.Tallies.{tallied_still, led_counts}
 use Rattle.ca_node.specs.TreeView.{pinned}
 use Rattle.ca_rows.specs.declared.sizes.Sizes.{Sizes}
@@ -17,7 +18,7 @@ keep_few-requires c = let tree = c.self.inside.tree.now in let z : Sizes = tree.
     let pass = c.self.inside.pass in let pin = c.pin.ensures.pinned.3 in let learnt = c.learn.ensures.learnt in
     let both = pin ∙ ap (λ (m : MyTree). (
       record m.0 {
-        pin = record m.0.pin { pinned = true; told = c.pin.ensures.pinned.0; moment = c.pin.ensures.pinned.1 };
+        pin = record m.0.pin { pinned = true; told = c.pin.ensures.pinned.0; moment = c.pin.ensures.pinned.1; entered = met_of m };
         upper = pinned m.0.upper;
       },
       m.1,
@@ -26,21 +27,21 @@ keep_few-requires c = let tree = c.self.inside.tree.now in let z : Sizes = tree.
     (ap (λ (m : MyTree). m.0.sizes) both ∙ c.self.invariant.of.1) tree.space.few.0 in
     let counts = led_counts 130 c.pin.new.pass.seat.me c.load_link.new.pass.seat.me c.load_link.result c.load_link.ensures.led in record {
       resting = rests_as table z pass.number c.unpin.new.pass.number c.load_link.new.pass.kept c.unpin.new.pass.kept c.unpin.new.pass.seat
-          (c.unpin.ensures.number ∙ (c.load_link.ensures.number ∙ (c.pin.ensures.number ∙ c.learn.ensures.number))) c.unpin.ensures.tally
-          c.unpin.ensures.kept
+          (c.unpin.ensures.frame.number ∙ (c.load_link.ensures.frame.number ∙ (c.pin.ensures.frame.number ∙ c.learn.ensures.frame.number))) c.unpin.ensures.frame.tally
+          c.unpin.ensures.frame.kept
           (rests_again table z pass.number pass.kept.rows c.load_link.new.pass.kept.rows pass.seat c.pin.new.pass.seat c.load_link.new.pass.seat
           c.unpin.new.pass.seat c.self.invariant
           (ap (λ (m : MyTree). m.0.sizes) both, ap (λ (m : MyTree). m.0.pin.number) both, ap (λ (m : MyTree). m.0.upper.number) both)
-          (c.load_link.ensures.same.0 ∙ (c.pin.ensures.same.0 ∙ c.learn.ensures.same.0))
+          (c.load_link.ensures.frame.same.0 ∙ (c.pin.ensures.frame.same.0 ∙ c.learn.ensures.frame.same.0))
           (ap (λ (m : MyTree). m.0.sizes) led.1, ap (λ (m : MyTree). m.0.pin) led.1)
           (held_upper z.rows c.pin.new.pass.kept c.load_link.new.pass.kept c.pin.new.pass.seat.me c.load_link.new.pass.seat.me led.0 _
           (none_pinned table z pass.number pass.kept c.pin.new.pass.kept pass.seat c.pin.new.pass.seat _ _ c.self.invariant both
-          (c.pin.ensures.kept ∙ c.learn.ensures.kept)) led.1 c.load_link.ensures.kept)
-          (led.3, led.2.number) c.unpin.ensures.same.0 c.unpin.ensures.unpinned
+          (c.pin.ensures.frame.kept ∙ c.learn.ensures.frame.kept)) led.1 c.load_link.ensures.frame.kept)
+          (led.3, led.2.number) c.unpin.ensures.frame.same.0 c.unpin.ensures.unpinned
           (tallied_still pass.tally c.load_link.new.pass.tally pass.seat.me.0.upper c.load_link.new.pass.seat.me.0.upper
-          (c.load_link.ensures.tally ∙ (c.pin.ensures.tally ∙ c.learn.ensures.tally))
+          (c.load_link.ensures.frame.tally ∙ (c.pin.ensures.frame.tally ∙ c.learn.ensures.frame.tally))
           (counts.0 ∙ ap (λ (m : MyTree). m.0.upper.splits) both) (counts.1 ∙ ap (λ (m : MyTree). m.0.upper.joins) both)));
     }
 
 pub invariant_of-self : goal.invariant_of-self
-invariant_of-self c = c.keep_few.ensures.resting
+invariant_of-self c = c.keep_few.ensures.frame.resting

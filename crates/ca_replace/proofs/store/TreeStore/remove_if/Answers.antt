@@ -10,15 +10,17 @@ use Rattle.ca_replace.proofs.Turns.{if_declined}
 use Rattle.ca_replace.proofs.store.TreeStore.remove_if.Goals as goal
 
 pub returns-clause-removed : goal.returns-clause-removed
-returns-clause-removed g c = let z = c.self.inside.tree.now.space.table.shared.key in let u = c.self.inside.pass.seat.me.0.upper in
+returns-clause-removed g c = let table = c.self.inside.tree.now.space.table.shared.table_id in
+    let z = c.self.inside.tree.now.space.table.shared.key in let u = c.self.inside.pass.seat.me.0.upper in
     let v = c.remove_if.new.pass.seat.me.0.upper in let key : List ℕ = c.args.key.now in let old : List ℕ = c.remove_if.new.old.items in
-    subst (λ (s : StoreView). IfDone c.remove_if.result (λ x. RemovedIf g.F.Fn c.args.f.now (knows s) (known_of z v) key x old)) c.self.view_is
+    subst (λ (s : StoreView). IfDone c.remove_if.result (λ x. RemovedIf g.F.Fn c.args.f.now (knows s) (known_of table z v) key x old)) c.self.view_is
     (if_then (λ (x : Changed). HasDoneAs (RemovesIf g.F.Fn c.args.f.now key x old) u v)
-    (λ (x : Changed). RemovedIf g.F.Fn c.args.f.now (known_of z u) (known_of z v) key x old) c.remove_if.result
-    (removed_if z u v c.self.invariant.known c.remove_if.ensures.resting.known key old g.F.Fn c.args.f.now) c.remove_if.ensures.removed)
+    (λ (x : Changed). RemovedIf g.F.Fn c.args.f.now (known_of table z u) (known_of table z v) key x old) c.remove_if.result
+    (removed_if table z u v c.self.invariant.known c.remove_if.ensures.frame.resting.known key old g.F.Fn c.args.f.now) c.remove_if.ensures.removed)
 
 pub returns-clause-refused : goal.returns-clause-refused
-returns-clause-refused g c = let z = c.self.inside.tree.now.space.table.shared.key in let u = c.self.inside.pass.seat.me.0.upper in
+returns-clause-refused g c = let table = c.self.inside.tree.now.space.table.shared.table_id in
+    let z = c.self.inside.tree.now.space.table.shared.key in let u = c.self.inside.pass.seat.me.0.upper in
     let v = c.remove_if.new.pass.seat.me.0.upper in
-    subst (λ (s : StoreView). IfRefused c.remove_if.result (λ rise. Declines (knows s) (known_of z v) (rise (knows s).counts))) c.self.view_is
-    (if_declined z c.remove_if.result u v c.self.invariant.known c.remove_if.ensures.resting.known c.remove_if.ensures.refused)
+    subst (λ (s : StoreView). IfRefused c.remove_if.result (λ rise. Declines (knows s) (known_of table z v) (rise (knows s).counts))) c.self.view_is
+    (if_declined table z c.remove_if.result u v c.self.invariant.known c.remove_if.ensures.frame.resting.known c.remove_if.ensures.refused)

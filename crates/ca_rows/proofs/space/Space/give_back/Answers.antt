@@ -35,7 +35,7 @@ put_row-requires-clause-inside g c = let p = c.args.pass.now in let rows : ℕ =
 pub returns-then-put_row-clause-list : goal.returns-then-put_row-clause-list
 returns-then-put_row-clause-list g c = λ _. let p = c.args.pass.now in let rows : ℕ = c.args.self.now.table.shared.key.rows in let ks = p.kept.rows.items in
     let long = p.kept.rows.ok.0 in let inside = c.requires.place.0 in let within = c.requires.place.1 in let held = c.regain_as.ensures.held in
-    let same = c.if-put_row.ensures.kept ∙ c.regain_as.ensures.kept in
+    let same = c.if-put_row.ensures.frame.kept ∙ c.regain_as.ensures.frame.kept in
     subst (λ (k : KeptRows). AreListed rows c.put_row.new.pass.seat.me.0.claims (take c.args.at k.rows.items ++ drop c.args.end k.rows.items)) (sym same)
     (list_given rows p.seat.me c.regain_as.new.pass.seat.me c.put_row.new.pass.seat.me ks (drop c.args.end ks) c.args.at nobody (omega arith)
     (listed rows c.args.at p.seat.me.0.claims ks (drop c.args.end ks) c.requires.list) c.row-row.result c.row-row.ensures held.0 held.2
@@ -44,7 +44,7 @@ returns-then-put_row-clause-list g c = λ _. let p = c.args.pass.now in let rows
 pub retire-requires-clause-list : goal.retire-requires-clause-list
 retire-requires-clause-list g c = let p = c.args.pass.now in let rows : ℕ = c.args.self.now.table.shared.key.rows in let ks = p.kept.rows.items in
     let long = p.kept.rows.ok.0 in let inside = c.requires.place.0 in let within = c.requires.place.1 in let held = c.regain_as.ensures.held in
-    let lost = c.if-put_row.ensures.given in let same = c.if-put_row.ensures.kept ∙ c.regain_as.ensures.kept in
+    let lost = c.if-put_row.ensures.given in let same = c.if-put_row.ensures.frame.kept ∙ c.regain_as.ensures.frame.kept in
     let cut : c.cut.new.self.rows.items ≡ take c.args.at ks ++ drop c.args.end ks = c.cut.ensures.rows
     ∙ ap (λ (k : KeptRows). take c.args.at k.rows.items ++ drop c.args.end k.rows.items) same in
     let wide = c.cut.ensures.room ∙ ap (λ (k : KeptRows). vec_capacity k.rows) same in record {
@@ -74,7 +74,7 @@ returns-then-put_row-clause-given g c = let p = c.args.pass.now in let rows : �
     c.if-put_row.ensures.given in record {
       reclaims = came.0;
       same_pin = came.1;
-      rows_given = λ _. (ap (λ (k : KeptRows). k.rows.items) (c.if-put_row.ensures.kept ∙ c.regain_as.ensures.kept), came.2);
+      rows_given = λ _. (ap (λ (k : KeptRows). k.rows.items) (c.if-put_row.ensures.frame.kept ∙ c.regain_as.ensures.frame.kept), came.2);
       rows_kept = λ e. absurd cc;
     }
 
@@ -85,7 +85,7 @@ returns-clause-given g c = let p = c.args.pass.now in let rows : ℕ = c.args.se
     (listed rows c.args.at p.seat.me.0.claims ks (drop c.args.end ks) c.requires.list) in
     let was = ap (claim_of p.seat.me.0.claims) c.row-row.ensures ∙ had.2 in
     let lost = c.if-put_row.ensures.given in let again = c.retire.ensures.retired in
-    let same = c.if-put_row.ensures.kept ∙ c.regain_as.ensures.kept in
+    let same = c.if-put_row.ensures.frame.kept ∙ c.regain_as.ensures.frame.kept in
     let came = kept_again p.seat.me c.retire.new.pass.seat.me c.row-row.result
     (get_or ks c.args.at nobody).at was c.requires.old c.regain_as.new.pass.seat.me c.put_row.new.pass.seat.me held.0 held.2
     lost.0 again.0 lost.2 again.2 again.3 in

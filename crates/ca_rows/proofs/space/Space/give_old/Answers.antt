@@ -39,10 +39,10 @@ loop-at-preserved g c = let inv = c.loop-at.invariant in let told = c.if-give_ba
     let ys : List Kept = drop c.loop-at.end ks.items ++ missed.0.0 ∷ [] in let list : ks'.items ≡ take at ks.items ++ ys = missed.0.1 in
     let many = ap (λ (xs : List Kept). length xs) list ∙ part_length ks.items ys at (omega arith) in
     let behind = length-drop c.loop-at.end ks.items in let more = length-append (drop c.loop-at.end ks.items) (missed.0.0 ∷ []) in record {
-      table = told.same.0 ∙ inv.table;
-      id = told.same.1 ∙ inv.id;
-      number = told.number ∙ inv.number;
-      tally = told.tally ∙ inv.tally;
+      table = told.frame.same.0 ∙ inv.table;
+      id = told.frame.same.1 ∙ inv.id;
+      number = told.frame.number ∙ inv.number;
+      tally = told.frame.tally ∙ inv.tally;
       list = subst (AreListed c.args.self.now.table.shared.key.rows c.give_back.new.pass.seat.me.0.claims) (sym (take-append-drop at ks'.items))
           (told.again refl);
       room = told.room;

@@ -1,7 +1,9 @@
-use Rattle.std.proofs.Common.{◌≡◌, ◌-◌, true, false, cond, ap, ◌∙◌, ℕ, subst, arith}
-use Rattle.ca_rows.specs.Reclaiming.{IsLag}
+use Rattle.std.proofs.Common.{◌≡◌, ◌+◌, ◌-◌, ◌<◌, ◌≤◌, true, false, cond, ap, ◌∙◌, ℕ, subst, arith, ⊎_elim}
+use Rattle.std.specs.declared.option.Option.{Option}
+use Rattle.ca_rows.specs.Reclaiming.{IsLag, lag_count}
 use Rattle.ca_rows.proofs.GivingBack.{reclaims_trans}
-use Rattle.ca_rows.proofs.Rounding.{fewer, one_less, older_still, none_left, young_left}
+use Rattle.ca_rows.proofs.Scanning.{less_or_not}
+use Rattle.ca_rows.proofs.Rounding.{fewer, one_less, older_still, none_left, true_or_false, young_left}
 use Rattle.ca_rows.proofs.space.Space.reclaim.Goals as goal
 
 pub loop-left-preserved : goal.loop-left-preserved
@@ -12,10 +14,10 @@ loop-left-preserved g c = let inv = c.loop-left.invariant in let some_left = c.l
     let go_on = λ (e : answer.more ≡ true). c.rounds_left-left.ensures ∙ ap (λ b. cond b (left - 1) 0) e in
     let stop = λ (e : answer.more ≡ false). c.rounds_left-left.ensures ∙ ap (λ b. cond b (left - 1) 0) e in
     let freed = inv.freed in let freed' = x.freed in record {
-      table = told.same.0 ∙ inv.table;
-      id = told.same.1 ∙ inv.id;
-      number = told.number ∙ inv.number;
-      tally = told.tally ∙ inv.tally;
+      table = told.frame.same.0 ∙ inv.table;
+      id = told.frame.same.1 ∙ inv.id;
+      number = told.frame.number ∙ inv.number;
+      tally = told.frame.tally ∙ inv.tally;
       list = told.list;
       reclaims = reclaims_trans m m1 m2 inv.reclaims x.reclaims;
       looked = λ _. let more = inv.reclaims.more_looks in let one = x.looked in omega arith;
@@ -25,6 +27,12 @@ loop-left-preserved g c = let inv = c.loop-left.invariant in let some_left = c.l
       bound = let bound = inv.bound in let more = x.few in let fewer_left = one_less answer.more left left' some_left c.rounds_left-left.ensures in omega arith;
       epoch = λ _. x.epoch_is;
       lag = λ _. subst (λ (n : ℕ). IsLag c.args.self.now.table.shared.key.passes n answer.lag m2.0.pin) inv.number x.lag;
+      lags = λ _. let now = x.lags in ⊎_elim
+          (λ (later : left < 3). let before = inv.lags later ∙ ap (λ (a : Option ℕ). c.args.pass.now.seat.me.0.pin.lags + lag_count a)
+          (inv.unlagged some_left later) in omega arith) (λ (first : 3 ≤ left). let before = inv.at_first first in omega arith) (less_or_not left 3);
+      unlagged = λ lo _. ⊎_elim (λ (more : answer.more ≡ true). x.unlagged more)
+          (λ (more : answer.more ≡ false). let zero_is = stop more in absurd (omega arith)) (true_or_false answer.more);
+      at_first = λ many. let fewer_left = one_less answer.more left left' some_left c.rounds_left-left.ensures in let at_most = inv.few in absurd (omega arith);
       older = λ lo _ f. let before : c.loop-left.losses ≡ 0 = omega arith in let now : answer.losses ≡ 0 = omega arith in
           older_still c.args.self.now.table.shared.key.rows c.args.self.now.table.shared.key.passes c.loop-left.pass.number m1 m2 kept1 kept2 inv.list told.list
           answer x left left' few go_on stop

@@ -34,7 +34,7 @@ returns-in-Some-clause-rounds g c = let began = c.load-epoch.ensures.2 in let ga
     let ks = c.args.pass.now.kept.rows in let ks' = c.give_old-freed.new.pass.kept.rows in let long = ks.ok.0 in let long' = ks'.ok.0 in
     let count = gave.freed in let few = gave.few in let number = ap (λ (p : Pin). p.number) gave.pin
     ∙ (ap (λ (x : Mine g.row.R-Upper.Denot). x.0.pin.number) began.3 ∙ c.requires.number.0) in
-    let same = c.in-Some.ensures.kept in subst (λ (k : KeptRows). Rounds c.args.self.now.table.shared.key.passes c.args.pass.now.number
+    let same = c.in-Some.ensures.frame.kept in subst (λ (k : KeptRows). Rounds c.args.self.now.table.shared.key.passes c.args.pass.now.number
     (record { freed = c.give_old-freed.result.0; lag = Some c.in-Some.number; losses = c.give_old-freed.result.1; epoch = c.load-epoch.result; more = false })
     c.args.pass.now.seat.me c.lagging.new.pass.seat.me ks.items k.rows.items)
     (sym same) (round_lags c.args.self.now.table.shared.key.passes c.args.pass.now.number c.args.pass.now.seat.me c.load-epoch.new.seat.me
@@ -47,7 +47,7 @@ pub returns-then-move_epoch-clause-rounds : goal.returns-then-move_epoch-clause-
 returns-then-move_epoch-clause-rounds g c = let began = c.load-epoch.ensures.2 in let gave = c.give_old-freed.ensures in
     let ks = c.args.pass.now.kept.rows in let ks' = c.give_old-freed.new.pass.kept.rows in let long = ks.ok.0 in let long' = ks'.ok.0 in
     let count = gave.freed in let few = gave.few in let moved = c.if-move_epoch.ensures in
-    let same = moved.kept ∙ c.in_default.ensures.kept in subst (λ (k : KeptRows). Rounds c.args.self.now.table.shared.key.passes c.args.pass.now.number
+    let same = moved.frame.kept ∙ c.in_default.ensures.frame.kept in subst (λ (k : KeptRows). Rounds c.args.self.now.table.shared.key.passes c.args.pass.now.number
     (record { freed = c.give_old-freed.result.0; lag = None; losses = c.give_old-freed.result.1; epoch = c.load-epoch.result + 1; more = true })
     c.args.pass.now.seat.me c.move_epoch.new.pass.seat.me ks.items k.rows.items)
     (sym same) (round_moves c.args.self.now.table.shared.key.passes c.args.pass.now.number c.args.pass.now.seat.me c.load-epoch.new.seat.me
@@ -60,7 +60,7 @@ pub returns-else-move_epoch-clause-rounds : goal.returns-else-move_epoch-clause-
 returns-else-move_epoch-clause-rounds g c = let began = c.load-epoch.ensures.2 in let gave = c.give_old-freed.ensures in
     let ks = c.args.pass.now.kept.rows in let ks' = c.give_old-freed.new.pass.kept.rows in let long = ks.ok.0 in let long' = ks'.ok.0 in
     let count = gave.freed in let few = gave.few in let moved = c.if-move_epoch.ensures in
-    let same = moved.kept ∙ c.in_default.ensures.kept in subst (λ (k : KeptRows). Rounds c.args.self.now.table.shared.key.passes c.args.pass.now.number
+    let same = moved.frame.kept ∙ c.in_default.ensures.frame.kept in subst (λ (k : KeptRows). Rounds c.args.self.now.table.shared.key.passes c.args.pass.now.number
     (record { freed = c.give_old-freed.result.0; lag = None; losses = c.give_old-freed.result.1 + 1; epoch = c.load-epoch.result; more = true })
     c.args.pass.now.seat.me c.move_epoch.new.pass.seat.me ks.items k.rows.items)
     (sym same) (round_misses c.args.self.now.table.shared.key.passes c.args.pass.now.number c.args.pass.now.seat.me c.load-epoch.new.seat.me

@@ -58,25 +58,33 @@ returns-else-found-old-clause-row g c =
     let took = (c.compare_exchange-found.ensures.2.1 t' q c.load-next.result (ap (λ (m : Mine g.row.R-Upper.Denot). m.0.stage) next)).1 c.if-found-old.false in
     row_missed c.args.pass.now.seat.me c.load-head.new.seat.me c.load-next.new.seat.me c.compare_exchange-found.new.seat.me _ _ saw next took
 
-pub returns-then-found-old-clause-same : goal.returns-then-found-old-clause-same
-returns-then-found-old-clause-same g c =
-    let row = returns-then-found-old-clause-row g c in
-    let rest = still c.args.pass.now.seat.me c.compare_exchange-found.new.seat.me _ _ _ _ _ _ row.3.2 in (
-      c.compare_exchange-found.ensures.0 ∙ (c.load-next.ensures.0 ∙ c.load-head.ensures.0),
-      c.compare_exchange-found.ensures.1
-          ∙ (c.load-next.ensures.1 ∙ c.load-head.ensures.1),
-      rest.0,
-      rest.1,
-      rest.2,
-    )
+pub returns-then-found-old-clause-frame : goal.returns-then-found-old-clause-frame
+returns-then-found-old-clause-frame g c = record {
+  same = let row = returns-then-found-old-clause-row g c in
+      let rest = still c.args.pass.now.seat.me c.compare_exchange-found.new.seat.me _ _ _ _ _ _ row.3.2 in (
+        c.compare_exchange-found.ensures.0 ∙ (c.load-next.ensures.0 ∙ c.load-head.ensures.0),
+        c.compare_exchange-found.ensures.1
+            ∙ (c.load-next.ensures.1 ∙ c.load-head.ensures.1),
+        rest.0,
+        rest.1,
+        rest.2,
+      );
+  number = search rules;
+  tally = search rules;
+  kept = search rules;
+}
 
-pub returns-else-found-old-clause-same : goal.returns-else-found-old-clause-same
-returns-else-found-old-clause-same g c =
-    let rest = still c.args.pass.now.seat.me c.compare_exchange-found.new.seat.me _ _ _ _ _ _ (returns-else-found-old-clause-row g c) in (
-      c.compare_exchange-found.ensures.0 ∙ (c.load-next.ensures.0 ∙ c.load-head.ensures.0),
-      c.compare_exchange-found.ensures.1
-          ∙ (c.load-next.ensures.1 ∙ c.load-head.ensures.1),
-      rest.0,
-      rest.1,
-      rest.2,
-    )
+pub returns-else-found-old-clause-frame : goal.returns-else-found-old-clause-frame
+returns-else-found-old-clause-frame g c = record {
+  same = let rest = still c.args.pass.now.seat.me c.compare_exchange-found.new.seat.me _ _ _ _ _ _ (returns-else-found-old-clause-row g c) in (
+    c.compare_exchange-found.ensures.0 ∙ (c.load-next.ensures.0 ∙ c.load-head.ensures.0),
+    c.compare_exchange-found.ensures.1
+        ∙ (c.load-next.ensures.1 ∙ c.load-head.ensures.1),
+    rest.0,
+    rest.1,
+    rest.2,
+  );
+  number = search rules;
+  tally = search rules;
+  kept = search rules;
+}

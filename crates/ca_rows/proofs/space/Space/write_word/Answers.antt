@@ -11,8 +11,12 @@ store-requires g c = let sized = c.args.self.now.sized in (
       c.args.index c.args.value c.requires.held.0 (omega arith) c.requires.held.1 c.requires.inside.1,
 )
 
-pub returns-clause-same : goal.returns-clause-same
-returns-clause-same g c =
-    let wrote = c.store.ensures.2 c.args.row c.args.index c.requires.held.0 refl c.requires.inside.1 c.requires.held.1 in
-    let rest = still c.args.pass.now.seat.me c.store.new.seat.me _ _ _ _ _ _ wrote in
-    (c.store.ensures.0, c.store.ensures.1, rest.0, rest.1, rest.2)
+pub returns-clause-frame : goal.returns-clause-frame
+returns-clause-frame g c = record {
+  same = let wrote = c.store.ensures.2 c.args.row c.args.index c.requires.held.0 refl c.requires.inside.1 c.requires.held.1 in
+      let rest = still c.args.pass.now.seat.me c.store.new.seat.me _ _ _ _ _ _ wrote in
+      (c.store.ensures.0, c.store.ensures.1, rest.0, rest.1, rest.2);
+  number = search rules;
+  tally = search rules;
+  kept = search rules;
+}

@@ -1,0 +1,87 @@
+//! Steps of the structure above the rows.
+ghost use Rattle.std.specs.Prelude.{◌≡◌, ◌==◌, ℕ, ◌<◌, []};
+ghost use mathlib.Core.Option.{none};
+ghost use prog.Atomic.{either};
+ghost use Rattle.atomic_table.specs.Table.{step, Allows, Splits, Joins};
+ghost use Rattle.ca_rows.specs.Calls.{IsRaised, IsAbove, Raises, Relinks};
+ghost use Rattle.ca_rows.specs.Closed.{joined};
+ghost use Rattle.ca_rows.specs.Rule.{Ruled};
+ghost use Rattle.ca_rows.specs.Passes.{KeepsList, sizes, known, view};
+
+use crate::plays::{Raise, Relink};
+use crate::rule::RowRule;
+use crate::space::{Half, Pass, Space};
+use crate::view::View;
+use atomic_table::{Join, Play, Split};
+
+impl<R: RowRule> Space<R> {
+    /// One load of a word, by the structure above: what the pass knows of the rows and counts of them stays.
+    pub fn load<M: Play<(), View<R::Upper>>>(&self, pass: &mut Pass<R>, word: u32) -> u64
+        requires table { pass.old.seat.table_id ≡ self.now.table.shared.table_id }
+        requires word { word < self.now.table.shared.table_id.words }
+        requires rule { Allows (Ruled R.linked R.lent R.noted R.fact (sizes self.now)) self.now.table.shared.table_id.slots pass.old.seat.id
+            (known pass.old) word (λ n. n) (Raises R.loads M.then (step self.now.table.shared.table_id.slots word 0 0 none) (known pass.old)) }
+        ensures frame { KeepsList pass.old pass.new }
+        ensures above { IsRaised (known pass.old) (known pass.new) }
+        ensures told { M.then (step self.now.table.shared.table_id.slots word 0 0 none) (known pass.old) result (known pass.new) }
+    {
+        self.table
+            .shared
+            .load::<Raise<R, M>>(&mut pass.seat, word as usize)
+    }
+
+    /// One exchange of a word by the structure above, where it is `old`; false exactly where it wasn't. What the pass knows of the rows and counts
+    /// of them stays, and whose the rows are changes only where it won.
+    pub fn swap<M: Play<(), View<R::Upper>>>(
+        &self,
+        pass: &mut Pass<R>,
+        word: u32,
+        old: u64,
+        new: u64,
+    ) -> bool
+        requires table { pass.old.seat.table_id ≡ self.now.table.shared.table_id }
+        requires word { word < self.now.table.shared.table_id.words }
+        requires rule { Allows (Ruled R.linked R.lent R.noted R.fact (sizes self.now)) self.now.table.shared.table_id.slots pass.old.seat.id
+            (known pass.old) word (λ n. either (n == old) new n) (Relinks R.swaps M.then (step self.now.table.shared.table_id.slots word old new
+            none) (known pass.old)) }
+        ensures frame { KeepsList pass.old pass.new }
+        ensures above { IsAbove (known pass.old) (known pass.new) }
+        ensures told { (n : ℕ) × M.then (step self.now.table.shared.table_id.slots word old new none) (known pass.old) n (known pass.new)
+            × (result ≡ (n == old)) }
+    {
+        self.table
+            .shared
+            .compare_exchange::<Relink<R, M>>(&mut pass.seat, word as usize, old, new)
+            == old
+    }
+
+    /// Makes a half that knows what `M` says. The pass knows what it knew.
+    pub fn split<M: Split<View<R::Upper>>>(&self, pass: &mut Pass<R>) -> Half<R>
+        requires table { pass.old.seat.table_id ≡ self.now.table.shared.table_id }
+        requires rule { Splits (Ruled R.linked R.lent R.noted R.fact (sizes self.now)) pass.old.seat.id (view pass.old) (M.left (view pass.old))
+            (M.right (view pass.old)) }
+        requires above { M.left (view pass.old) ≡ view pass.old }
+        ensures frame { KeepsList pass.old pass.new }
+        ensures left { known pass.new ≡ known pass.old }
+        ensures right { (result.seat.table_id ≡ pass.old.seat.table_id) × (result.seat.me ≡ (M.right (view pass.old), [])) }
+    {
+        Half {
+            seat: self.table.shared.split_seat::<M>(&mut pass.seat),
+        }
+    }
+
+    /// Joins what was split off into a pass, which learns of it what the rule above says.
+    pub fn join<M: Join<View<R::Upper>>>(&self, pass: &mut Pass<R>, half: Half<R>)
+        requires table { (pass.old.seat.table_id ≡ self.now.table.shared.table_id) × (half.seat.table_id ≡ self.now.table.shared.table_id)
+            × (half.seat.me.1 ≡ []) }
+        requires rule { Joins (Ruled R.linked R.lent R.noted R.fact (sizes self.now)) pass.old.seat.id (view pass.old) half.seat.id half.seat.me.0
+            (M.both (view pass.old) half.seat.me.0) M.spent }
+        requires above { M.both (view pass.old) half.seat.me.0 ≡ joined R.learns (view pass.old) half.seat.me.0 }
+        ensures frame { KeepsList pass.old pass.new }
+        ensures both { known pass.new ≡ (joined R.learns (view pass.old) half.seat.me.0, pass.old.seat.me.1) }
+    {
+        self.table
+            .shared
+            .join_seat::<M>(&mut pass.seat, half.into_seat());
+    }
+}
