@@ -1,4 +1,5 @@
 pub mod Around
+pub mod CodeParts
 pub mod Counted
 pub mod Cuts
 pub mod Finished

@@ -12,8 +12,8 @@ use Rattle.ca_order.specs.Languages.{HasText, HasBytes, HasTuple, HasDigits}
 use Rattle.ca_order.proofs.Turned.{length_turned}
 use Rattle.ca_order.proofs.FirstBytes.{first_same, IsNoTag, no_tag, has_nil, HasCell, atom_rest, binary_rest, cons_rest, tuple_rest, pos_rest, neg_rest, terms_prefix_free}
 
--- a code has a first byte
-begun : (t : Tree) → (b : ℕ) × (z : List ℕ) × (code_of t ≡ b ∷ z)
+-- A code has a first byte.
+pub begun : (t : Tree) → (b : ℕ) × (z : List ℕ) × (code_of t ≡ b ∷ z)
 unfolding code_of int_code
 begun (Integer (pos n)) = (0x20 + length (digits n), digits n, refl)
 begun (Integer (negsuc m)) = (0x1f - length (digits m), complement (digits m), refl)

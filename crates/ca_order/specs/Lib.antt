@@ -1,3 +1,5 @@
+pub mod Codes
+pub mod CodesView
 pub mod Escapes
 pub mod IntTag
 pub mod KeyParts

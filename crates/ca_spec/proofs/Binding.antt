@@ -81,7 +81,8 @@ sizes_differ (t ∷ ts) (u ∷ us) b h =
 abbrev pub rows_from : List Tree → List Tree → ℕ → Bindings → Option Bindings
 rows_from parts items k b = bind_row (row_of (drop k parts)) (row_of (drop k items)) b
 
-row_at : (parts items : List Tree) (k : ℕ) (d e : Tree) (b : Bindings) → k < length parts → k < length items
+-- What the part at a place does, and those behind it.
+pub row_at : (parts items : List Tree) (k : ℕ) (d e : Tree) (b : Bindings) → k < length parts → k < length items
     → rows_from parts items k b
     ≡ option_and_then (rows_from parts items (k + 1)) (bind (get_or parts k d) (get_or items k e) b)
 unfolding bind_row

@@ -1,12 +1,15 @@
 pub mod Bound
 pub mod ClauseView
+pub mod ConstantView
 pub mod ExpressionFalls
 pub mod ExpressionView
 pub mod Faults
 pub mod Held
+pub mod PartBound
 pub mod Parts
 pub mod Places
 pub mod PatternFalls
 pub mod PatternView
+pub mod QuickView
 pub mod ScopeView
 pub mod SpecView

@@ -1,7 +1,7 @@
 //! Expressions of guards and bodies, compiled.
 
+use crate::constant::Constant;
 use ca_match::Operator;
-use ca_term::Term;
 use std::marker::Model;
 
 /// An expression. Contracts see it as the term that it was compiled from.
@@ -21,9 +21,9 @@ pub(crate) enum Form {
     // '$$'
     AllBound,
     // an integer, another atom, the empty list or a binary: its own value
-    Literal(Term),
+    Literal(Constant),
     // {const,T}
-    Constant(Term),
+    Constant(Constant),
     // {{E1,..,En}}
     Tuple(Vec<Expression>),
     // the heads of list cells, at least one, and what stands behind the last cell

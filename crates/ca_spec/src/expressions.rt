@@ -8,11 +8,12 @@ ghost use Rattle.ca_spec.specs.ExpressionView.{is_itself};
 ghost use Rattle.ca_spec.specs.Faults.{IsStop};
 ghost use Rattle.ca_spec.specs.ScopeView.{IsScope, bad_in, call_fault_in, fault_in, faults_in, form_fault_in, part_of, tuple_fault_in};
 
+use crate::constant::Constant;
 use crate::expression::{Expression, Form};
 use crate::fault::{SpecWhy, Stop};
 use crate::scope::{Part, Scope};
 use ca_match::{Operator, variable_number};
-use ca_term::{Kind, Term, try_copy};
+use ca_term::{Kind, Term};
 use std::alloc::Global;
 
 // An expression of a guard or a body.
@@ -65,7 +66,7 @@ fn itself(alloc: Global, term: &Term) -> Result<Expression, Stop>
     ensures err { IfErr result (λ stop. stop ≡ Stop.NoMemory) }
 {
     Ok(Expression {
-        form: Form::Literal(try_copy(alloc, term)?),
+        form: Form::Literal(Constant::of(alloc, term)?),
     })
 }
 
@@ -151,7 +152,7 @@ fn constant(alloc: Global, scope: &Scope, arguments: &[Term]) -> Result<Expressi
 {
     match arguments {
         [term] => Ok(Expression {
-            form: Form::Constant(try_copy(alloc, term)?),
+            form: Form::Constant(Constant::of(alloc, term)?),
         }),
         _ => Err(scope.bad()),
     }

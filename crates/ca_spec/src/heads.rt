@@ -6,11 +6,12 @@ ghost use Rattle.ca_spec.specs.Faults.{IsStop};
 ghost use Rattle.ca_spec.specs.Held.{with_variables, with_row};
 ghost use Rattle.ca_spec.specs.PatternView.{fits_equal};
 
+use crate::constant::Constant;
 use crate::fault::{SpecWhy, Stop};
 use crate::held::Variables;
 use crate::pattern::{Pattern, Shape};
 use ca_match::variable_number;
-use ca_term::{Kind, Term, try_copy};
+use ca_term::{Kind, Term};
 use std::alloc::Global;
 
 // A head, and the variables that it holds, which are added to those.
@@ -78,7 +79,7 @@ fn equal(alloc: Global, term: &Term) -> Result<Pattern, Stop>
     ensures err { IfErr result (λ stop. stop ≡ Stop.NoMemory) }
 {
     Ok(Pattern {
-        shape: Shape::Equal(try_copy(alloc, term)?),
+        shape: Shape::Equal(Constant::of(alloc, term)?),
     })
 }
 

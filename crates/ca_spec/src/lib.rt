@@ -3,19 +3,24 @@
 
 mod clause;
 mod compiler;
+mod constant;
 mod evaluation;
 mod expression;
 mod expressions;
 mod fault;
+mod fitting;
 mod heads;
 mod held;
 mod matching;
+mod on_codes;
 mod pattern;
+mod quick;
 mod results;
 mod scope;
 mod spec;
 
 pub use compiler::compile;
 pub use fault::{SpecFault, SpecWhy};
+pub use on_codes::apply_code;
 pub use results::apply;
 pub use spec::Spec;

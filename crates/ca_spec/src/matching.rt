@@ -19,7 +19,7 @@ pub(crate) fn bind<'a>(pattern: &Pattern, term: &'a Term, table: &mut [Option<&'
     match &pattern.shape {
         Shape::Anything => true,
         Shape::Variable(number) => bind_variable(*number as usize, term, table),
-        Shape::Equal(own) => term_order(own, term).is_eq(),
+        Shape::Equal(own) => term_order(own.term(), term).is_eq(),
         Shape::Tuple(parts) => match tuple_items(term) {
             Some(items) => bind_all(parts.as_slice(), items, table),
             None => false,

@@ -1,6 +1,6 @@
 //! Parts of heads, compiled.
 
-use ca_term::Term;
+use crate::constant::Constant;
 use std::marker::Model;
 
 /// A part of a head. Contracts see it as the term that it was compiled from.
@@ -18,7 +18,7 @@ pub(crate) enum Shape {
     // '$0' to '$99', by its number: at its first place it is bound, and later places want an equal term
     Variable(u8),
     // an integer, another atom, the empty list or a binary: it fits an equal term
-    Equal(Term),
+    Equal(Constant),
     Tuple(Vec<Pattern>),
     // the heads of list cells, at least one, and what stands behind the last cell
     List(Vec<Pattern>, Box<Pattern>),

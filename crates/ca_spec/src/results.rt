@@ -43,10 +43,14 @@ fn first_result(
 }
 
 // With so many places the table of most clauses is made in a few stores.
-const FEW: usize = 8;
+pub(crate) const FEW: usize = 8;
 
 // The result of a clause where it holds, with a table for its variables.
-fn result_of_clause<'a>(alloc: Global, clause: &'a Clause, object: &'a Term) -> Evaluated<'a>
+pub(crate) fn result_of_clause<'a>(
+    alloc: Global,
+    clause: &'a Clause,
+    object: &'a Term,
+) -> Evaluated<'a>
     ensures { IfOk result (λ v. option_map tree_of_value v ≡ clause_result (tree_of_clause clause.now) object.now) }
 {
     if clause.places <= FEW {

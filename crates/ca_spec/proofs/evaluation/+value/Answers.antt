@@ -1,6 +1,6 @@
 -- The exits of an expression's value.
 use Rattle.std.proofs.Common.{◌≡◌, [], ◌∷◌, Option, ap, sym, ◌∙◌, subst}
-use Rattle.std.specs.Prelude.{IfOk, option_map}
+use Rattle.std.specs.Prelude.{Some, IfOk, option_map}
 use Rattle.ca_term.specs.Tree.{Tree}
 use Rattle.ca_match.specs.Match.{value}
 use Rattle.ca_match.specs.Operators.{Short, applied}
@@ -24,7 +24,8 @@ value-returns-in-None t c =
 
 pub value-returns-in-Constant : goal.value-returns-in-Constant
 value-returns-in-Constant t c =
-    constant_value (scene_of c.args.object.now c.args.table.now) c.args.expression.now c.in-Constant.term
+    ap (λ (x : Tree). Some x) c.term-in-Constant.ensures
+    ∙ constant_value (scene_of c.args.object.now c.args.table.now) c.args.expression.now c.in-Constant.term
     (sym (ap tree_of_form c.in-Constant.is) ∙ c.expression.view_is)
 
 pub value-returns-in-Some-stop : goal.value-returns-in-Some-stop

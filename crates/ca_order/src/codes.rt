@@ -1,0 +1,124 @@
+//! Codes of terms that stand one after the other, as in an object's code, read without decoding them.
+ghost use Rattle.std.specs.Prelude.{◌≡◌};
+ghost use Rattle.ca_order.specs.Languages.{IsTermCode};
+ghost use Rattle.ca_order.specs.Codes.{AreCodes, AreCodes-prop, IsTermCode-prop};
+
+use crate::fault::DecodeFault;
+use crate::object::{skip, split_size};
+use crate::reading::decode;
+use crate::tags::{CONS, TUPLE};
+use ca_term::Term;
+use std::alloc::{AllocError, Global};
+use std::cmp::Ordering;
+
+/// The bytes of one code. Contracts see its term by `tree_of`.
+#[derive(Clone, Copy)]
+pub struct Part<'a> {
+    pub(crate) bytes: &'a [u8],
+    pub ghost code: { IsTermCode bytes.now } by { IsTermCode-prop bytes.now },
+}
+
+/// The bytes of codes, one after the other. Contracts see their terms by `terms_of`.
+#[derive(Clone, Copy)]
+pub struct Codes<'a> {
+    pub(crate) bytes: &'a [u8],
+    pub ghost terms: { AreCodes bytes.now } by { AreCodes-prop bytes.now },
+}
+
+impl<'a> Part<'a> {
+    ghost use Rattle.std.specs.Prelude.{◌≡◌, IfOk};
+    ghost use Rattle.std.specs.Ordering.{is_eq};
+    ghost use Rattle.ca_term.specs.Tree.{Tree, IsTerm};
+    ghost use Rattle.ca_term.specs.Order.{term_cmp};
+    ghost use Rattle.ca_term.specs.Code.{code_of};
+    ghost use Rattle.ca_order.specs.CodesView.{tree_of};
+
+    /// A code by its bytes.
+    pub fn of(code: &'a [u8]) -> Part<'a>
+        requires { IsTermCode code.now }
+        ensures { (t : Tree) → IsTerm t → code.entry.now ≡ code_of t → tree_of result ≡ t }
+    {
+        Part { bytes: code }
+    }
+
+    /// The term.
+    pub fn term(self, alloc: Global) -> Result<Term, AllocError>
+        ensures { IfOk result (λ term. term ≡ tree_of self.entry) }
+    {
+        let term = match decode(alloc, self.bytes) {
+            Ok(term) => term,
+            Err(DecodeFault::NoMemory) => return Err(AllocError),
+            Err(DecodeFault::NotACode { at: _ }) => unreachable!(),
+        };
+        let _kind = term.kind();
+        Ok(term)
+    }
+
+    /// Whether both are codes of equal terms: whether the bytes are equal.
+    pub fn same(self, other: Part<'_>) -> bool
+        ensures { result ≡ is_eq (term_cmp (tree_of self.entry) (tree_of other.entry)) }
+    {
+        self.bytes == other.bytes
+    }
+
+    /// How its term stands to the other one in the term order: as the bytes do.
+    pub fn order(self, other: Part<'_>) -> Ordering
+        ensures { result ≡ term_cmp (tree_of self.entry) (tree_of other.entry) }
+    {
+        self.bytes.cmp(other.bytes)
+    }
+}
+
+impl<'a> Codes<'a> {
+    ghost use Rattle.std.specs.Prelude.{◌≡◌, ◌≤◌, [], ◌∷◌, length, MatchOption};
+    ghost use Rattle.ca_order.specs.Codes.{BeginsOtherwise, HasNoCell, HasNoTuple, IsOpened, IsOpenedCell};
+    ghost use Rattle.ca_order.specs.CodesView.{terms_of, tree_of};
+
+    /// The one code.
+    pub fn of(part: Part<'a>) -> Codes<'a>
+        ensures { terms_of result ≡ tree_of part.entry ∷ [] }
+    {
+        Codes { bytes: part.bytes }
+    }
+
+    /// The first code, and the ones behind it. There has to be one.
+    pub fn split(self) -> (Part<'a>, Codes<'a>)
+        requires { 1 ≤ length (terms_of self) }
+        ensures { terms_of self.entry ≡ tree_of result.0 ∷ terms_of result.1 }
+    {
+        let behind = skip(self.bytes, 1);
+        let (front, _) = self.bytes.split_at(self.bytes.len() - behind.len());
+        (Part { bytes: front }, Codes { bytes: behind })
+    }
+
+    /// Where the first term is a tuple, how many elements it has, and the codes with its elements in its place.
+    pub fn open_tuple(self) -> Option<(usize, Codes<'a>)>
+        ensures { MatchOption result (HasNoTuple (terms_of self.entry)) (λ p. IsOpened (terms_of self.entry) p.0 (terms_of p.1)) }
+    {
+        let (tag, inside) = self.bytes.split_first()?;
+        if *tag != TUPLE {
+            return None;
+        }
+        let (count, elements) = split_size(inside);
+        Some((count, Codes { bytes: elements }))
+    }
+
+    /// Where the first term is a list cell, the codes with its head and its tail in its place.
+    pub fn open_cell(self) -> Option<Codes<'a>>
+        ensures { MatchOption result (HasNoCell (terms_of self.entry)) (λ inside. IsOpenedCell (terms_of self.entry) (terms_of inside)) }
+    {
+        let (tag, inside) = self.bytes.split_first()?;
+        if *tag != CONS {
+            return None;
+        }
+        Some(Codes { bytes: inside })
+    }
+
+    /// The codes behind the first one, where that is this code.
+    pub fn behind(self, part: Part<'_>) -> Option<Codes<'a>>
+        ensures { MatchOption result (BeginsOtherwise (tree_of part.entry) (terms_of self.entry)) (λ rest. terms_of self.entry ≡ tree_of part.entry ∷ terms_of rest) }
+    {
+        let rest = self.bytes.strip_prefix(part.bytes)?;
+        Some(Codes { bytes: rest })
+    }
+}

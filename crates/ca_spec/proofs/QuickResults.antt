@@ -1,0 +1,25 @@
+-- Results of clauses by parts of an object's code.
+use Rattle.std.proofs.Common.{◌≡◌, Bool, true, false, Some, None, refl, sym, ◌∙◌}
+use Rattle.ca_term.specs.Tree.{Tree, Tuple, Nil, Cons, Ends, More}
+use Rattle.ca_match.specs.Match.{Bindings, bind, clause_result, no_bindings, pass, value}
+use Rattle.ca_spec.proofs.ClauseResults.{no_fit as no_fit_of, no_pass as no_pass_of, holds as holds_of}
+
+-- A clause whose head does not fit has no result.
+pub no_fit : (head guards body object : Tree) (b c : Bindings) → b ≡ no_bindings → bind head object b ≡ None
+    → clause_result (Tuple (More head (More guards (More (Cons body Nil) Ends)))) object ≡ None
+no_fit head guards body object b c e f = sym (no_fit_of head guards body object b c false e f refl)
+
+-- A clause with a guard that is not true has no result.
+pub no_pass : (head guards body object : Tree) (b c : Bindings) (p : Bool) → b ≡ no_bindings → bind head object b ≡ Some c
+    → p ≡ pass (record { object = object; bindings = c }) guards → p ≡ false
+    → clause_result (Tuple (More head (More guards (More (Cons body Nil) Ends)))) object ≡ None
+no_pass head guards body object b c p e f g q = sym (no_pass_of head guards body object b c true p e f refl g q)
+
+-- A clause whose head fits and whose guards hold has the value of its body.
+pub holds : (head guards body object v : Tree) (b c : Bindings) (p : Bool) → b ≡ no_bindings → bind head object b ≡ Some c
+    → p ≡ pass (record { object = object; bindings = c }) guards → p ≡ true → Some v ≡ value (record { object = object; bindings = c }) body
+    → clause_result (Tuple (More head (More guards (More (Cons body Nil) Ends)))) object ≡ Some v
+holds head guards body object v b c p e f g q h = sym (h ∙ holds_of head guards body object b c true p e f refl g q)
+
+-- The result of a clause, by whether its head fits and its guards hold.
+pub ruleset quick_results = (no_fit, no_pass, holds)

@@ -1,0 +1,14 @@
+use Rattle.std.proofs.Common.{◌≡◌, ◌≤◌, List, length, ap, sym, ◌∙◌, subst}
+use Rattle.ca_term.specs.Tree.{Tree, Tuple, row_of}
+use Rattle.ca_spec.specs.PartBound.{IsAsked}
+use Rattle.ca_spec.specs.PatternView.{tree_of_shape}
+use Rattle.ca_spec.specs.Places.{places}
+use Rattle.ca_spec.proofs.CodeBinding.{asked_places}
+use Rattle.ca_spec.proofs.fitting.fit_object.Goals as goal
+
+pub fit_all-requires-clause-room : goal.fit_all-requires-clause-room
+fit_all-requires-clause-room c =
+    let e : Tuple (row_of c.in-Tuple.parts.items) ≡ c.args.head.now = sym (ap tree_of_shape c.in-Tuple.is) ∙ c.head.view_is in
+    asked_places c.in-Tuple.parts.items c.asked-asked.result.now (length c.args.table.now)
+    (subst (λ (x : List Tree). IsAsked x c.asked-asked.result.now) c.as_slice.ensures.value c.asked-asked.ensures)
+    (subst (λ (x : Tree). places x ≤ length c.args.table.now) (sym e) c.requires)

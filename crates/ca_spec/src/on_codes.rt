@@ -1,0 +1,86 @@
+//! What a specification makes of an object, by the object's code.
+ghost use Rattle.std.specs.Prelude.{◌≡◌, IfOk};
+ghost use Rattle.ca_term.specs.Code.{code_of};
+ghost use Rattle.ca_term.specs.Tree.{IsTerm, Nil, Tree, list_of};
+ghost use Rattle.ca_match.specs.Match.{clause_result, result_of};
+ghost use Rattle.ca_order.specs.CodesView.{tree_of};
+ghost use Rattle.ca_order.specs.Languages.{IsTermCode};
+ghost use Rattle.ca_spec.specs.ClauseView.{tree_of_clause, trees_of_clauses};
+ghost use Rattle.ca_spec.specs.QuickView.{IsTold};
+
+use crate::clause::Clause;
+use crate::quick::{Quick, quick_result};
+use crate::results::{FEW, result_of_clause};
+use crate::spec::Spec;
+use ca_order::Part;
+use ca_term::Term;
+use std::alloc::{AllocError, Global};
+
+/// What `apply` makes of the object whose code this is. An object is decoded only where its head may fit and more must be known of a clause than
+/// comparisons of parts and constants in its guards, and a part or a constant as its body; of a clause of this kind that holds the result alone is
+/// decoded. Memory is taken for what is decoded and as by `apply`.
+pub fn apply_code(alloc: Global, spec: &Spec, code: &[u8]) -> Result<Option<Term>, AllocError>
+    requires { IsTermCode code.now }
+    ensures { IfOk result (λ found. (object : Tree) → IsTerm object → code.now ≡ code_of object → found ≡ result_of spec.now object) }
+{
+    first_result(alloc, spec.clauses.as_slice(), Part::of(code))
+}
+
+// The result of the first clause that holds.
+#[tactic(auto, using(crate::proofs::ClauseResults::first_results))]
+fn first_result(
+    alloc: Global,
+    clauses: &[Clause],
+    object: Part<'_>,
+) -> Result<Option<Term>, AllocError>
+    ensures { IfOk result (λ found. found ≡ result_of (list_of (trees_of_clauses clauses.now) Nil) (tree_of object.entry)) }
+{
+    for clause in clauses {
+        if let Some(found) = result_of_part(alloc, clause, object)? {
+            return Ok(Some(found));
+        }
+    }
+    Ok(None)
+}
+
+// The result of a clause where it holds.
+fn result_of_part<'a>(
+    alloc: Global,
+    clause: &'a Clause,
+    object: Part<'a>,
+) -> Result<Option<Term>, AllocError>
+    ensures { IfOk result (λ found. found ≡ clause_result (tree_of_clause clause.entry.now) (tree_of object.entry)) }
+{
+    match told(clause, object) {
+        Quick::None => Ok(None),
+        Quick::Part(part) => Ok(Some(part.term(alloc)?)),
+        Quick::Unknown => decoded_result(alloc, clause, object),
+    }
+}
+
+// What the code tells of a clause's result, with a table for the clause's variables.
+fn told<'a>(clause: &'a Clause, object: Part<'a>) -> Quick<'a>
+    ensures { IsTold result (clause_result (tree_of_clause clause.entry.now) (tree_of object.entry)) }
+{
+    if clause.places <= FEW {
+        let mut table: [Option<Part<'a>>; FEW] = [None; FEW];
+        return quick_result(clause, object, &mut table);
+    }
+    let mut table: [Option<Part<'a>>; 100] = [None; 100];
+    quick_result(clause, object, &mut table)
+}
+
+// The result of a clause where it holds, by the object as a term.
+fn decoded_result(
+    alloc: Global,
+    clause: &Clause,
+    object: Part<'_>,
+) -> Result<Option<Term>, AllocError>
+    ensures { IfOk result (λ found. found ≡ clause_result (tree_of_clause clause.now) (tree_of object.entry)) }
+{
+    let term = object.term(alloc)?;
+    match result_of_clause(alloc, clause, &term)? {
+        Some(value) => Ok(Some(value.into_term(alloc)?)),
+        None => Ok(None),
+    }
+}

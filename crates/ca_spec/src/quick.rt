@@ -1,0 +1,129 @@
+//! Results of objects' codes, where a head, guards and a body are told by parts of the code alone.
+ghost use Rattle.std.specs.Prelude.{◌≡◌, ◌≤◌, ◌∷◌, [], Some, IfOk, IfSome, length};
+ghost use Rattle.ca_term.specs.Tree.{Nil, list_of};
+ghost use Rattle.ca_match.specs.Match.{bound, clause_result, is_truth, no_bindings, pass, value};
+ghost use Rattle.ca_match.specs.OperatorView.{meaning_of};
+ghost use Rattle.ca_match.specs.Operators.{applied, truth};
+ghost use Rattle.ca_order.specs.CodesView.{tree_of};
+ghost use Rattle.ca_spec.specs.ClauseView.{tree_of_clause};
+ghost use Rattle.ca_spec.specs.PartBound.{part_at, parts_of, scene_in};
+ghost use Rattle.ca_spec.specs.Places.{places};
+ghost use Rattle.ca_spec.specs.QuickView.{IsTold};
+
+use crate::clause::Clause;
+use crate::expression::{Expression, Form};
+use crate::fitting::fit_object;
+use ca_match::Operator;
+use ca_order::Part;
+
+// The code of an expression's value, where that is a part of the object's code or a constant's code.
+#[tactic(auto, using(crate::proofs::Values::expression_values))]
+fn operand<'a>(
+    expression: &'a Expression,
+    object: Part<'a>,
+    table: &[Option<Part<'a>>],
+) -> Option<Part<'a>>
+    ensures { IfSome result (λ part. Some (tree_of part) ≡ value (scene_in object.entry table.now) expression.now) }
+{
+    match &expression.form {
+        Form::Variable(number) => part_bound(*number as usize, table),
+        Form::Whole => Some(object),
+        Form::Literal(constant) => constant.part(),
+        Form::Constant(constant) => constant.part(),
+        Form::AllBound | Form::Tuple(_) | Form::List(_, _) | Form::One(_, _) | Form::Two(_, _, _) =>
+            None,
+    }
+}
+
+// What is bound to a variable.
+#[tactic(auto, using(crate::proofs::PartTables::bound_in))]
+fn part_bound<'a>(number: usize, table: &[Option<Part<'a>>]) -> Option<Part<'a>>
+    ensures { IfSome result (λ part. Some (tree_of part) ≡ bound (parts_of table.now) number) }
+{
+    if number < table.len() {
+        table[number]
+    } else {
+        None
+    }
+}
+
+// Whether a comparison of two terms holds, by their codes, or `None` for other operators.
+fn compared(operator: Operator, a: Part<'_>, b: Part<'_>) -> Option<bool>
+    ensures { IfSome result (λ holds. Some (truth holds) ≡ applied (meaning_of operator) (Some (tree_of a.entry) ∷ Some (tree_of b.entry) ∷ [])) }
+{
+    match operator {
+        Operator::Greater => Some(a.order(b).is_gt()),
+        Operator::GreaterOrEqual => Some(a.order(b).is_ge()),
+        Operator::Less => Some(a.order(b).is_lt()),
+        Operator::LessOrEqual => Some(a.order(b).is_le()),
+        Operator::Equal => Some(a.order(b).is_eq()),
+        Operator::ExactlyEqual => Some(a.order(b).is_eq()),
+        Operator::Unequal => Some(a.order(b).is_ne()),
+        Operator::ExactlyUnequal => Some(a.order(b).is_ne()),
+        _ => None,
+    }
+}
+
+// Whether a guard is true, where it is a comparison of parts and constants.
+fn holds<'a>(guard: &'a Expression, object: Part<'a>, table: &[Option<Part<'a>>]) -> Option<bool>
+    ensures { IfSome result (λ holds. is_truth (value (scene_in object.entry table.now) guard.now) ≡ holds) }
+{
+    let Form::Two(operator, a, b) = &guard.form else {
+        return None;
+    };
+    let a = operand(a, object, table)?;
+    let b = operand(b, object, table)?;
+    compared(*operator, a, b)
+}
+
+// Whether all guards are true, where each one up to the first that isn't is a comparison of parts and constants.
+#[tactic(auto, using(crate::proofs::Values::guard_values))]
+fn pass<'a>(guards: &'a [Expression], object: Part<'a>, table: &[Option<Part<'a>>]) -> Option<bool>
+    ensures { IfSome result (λ passed. passed ≡ pass (scene_in object.entry table.now) (list_of guards.now Nil)) }
+{
+    for guard in guards {
+        match holds(guard, object, table) {
+            Some(true) => {}
+            told => return told,
+        }
+    }
+    Some(true)
+}
+
+// What is known of a clause's result without decoding more than the result.
+#[derive(Clone, Copy)]
+pub(crate) enum Quick<'a> {
+    // it has none
+    None,
+    // it is the term of this code
+    Part(Part<'a>),
+    // nothing
+    Unknown,
+}
+
+// What is told of a clause's result by the object's code, with this table, which is empty.
+#[tactic(auto, using(crate::proofs::QuickResults::quick_results))]
+pub(crate) fn quick_result<'a>(
+    clause: &'a Clause,
+    object: Part<'a>,
+    table: &mut [Option<Part<'a>>],
+) -> Quick<'a>
+    requires room { places clause.now.head ≤ length table.old }
+    requires none { parts_of table.old ≡ no_bindings }
+    ensures { IsTold result (clause_result (tree_of_clause clause.entry.now) (tree_of object.entry)) }
+{
+    match fit_object(&clause.head, object, table) {
+        Some(true) => {}
+        Some(false) => return Quick::None,
+        None => return Quick::Unknown,
+    }
+    match pass(clause.guards.as_slice(), object, table) {
+        Some(true) => {}
+        Some(false) => return Quick::None,
+        None => return Quick::Unknown,
+    }
+    match operand(&clause.body, object, table) {
+        Some(part) => Quick::Part(part),
+        None => Quick::Unknown,
+    }
+}
