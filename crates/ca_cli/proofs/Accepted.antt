@@ -1,5 +1,5 @@
 -- The files of a call, accepted one by one, and what the next one comes to.
-use Rattle.std.proofs.Common.{◌≡◌, ℕ, ◌+◌, ◌-◌, ◌≤◌, ◌<◌, List, [], ◌∷◌, ◌++◌, length, map, take, drop, get_or, arith, zero-add, refl, sym, ◌∙◌, ap, subst, inr, inl, Some, Ok, Err}
+use Rattle.std.proofs.Common.{◌≡◌, ℕ, ◌+◌, ◌-◌, ◌≤◌, ◌<◌, List, [], ◌∷◌, ◌++◌, length, map, take, drop, get_or, arith, zero-add, refl, sym, ◌∙◌, ap, subst, inr, inl, Ok, Err}
 use Rattle.std.proofs.lemmas.List.{length-map, length-take-le, map-append}
 use Rattle.std.proofs.lemmas.List.Sums.{sum_by-append}
 use Rattle.std.specs.Prelude.{Result}
@@ -12,7 +12,7 @@ use Rattle.ca_outside.specs.declared.shelf.FetchFault.TheVariants as fault
 use Rattle.ca_cmd.specs.File.{Numbered}
 use Rattle.ca_cli.specs.Call.{Call, Change, change_of, call_of, Adds}
 use Rattle.ca_cli.specs.Headline.{ArePairs}
-use Rattle.ca_cli.specs.Outcome.{AreAccepted, AreHeld, IsReached, IsOutcome, all_well, most_bytes, total_length}
+use Rattle.ca_cli.specs.Outcome.{AreAccepted, AreHeld, IsReached, IsOutcomeInTurn, all_well, most_bytes, total_length}
 use Rattle.ca_cli.specs.Reading.{wanted_of, IsRead, IsFault}
 use Rattle.ca_cli.specs.StatusText.{text_of_status}
 use Rattle.ca_words.specs.Grammar.{IsLine, Files}
@@ -107,7 +107,7 @@ module _ {X : Type 0} (f : X → List ℕ) (names : List X) (i : ℕ) (name : X)
 
       -- it was not accepted: what the call comes to, where these files are asked for
       pub fault_outcome : (number : ℕ) (status : Status) → number ≡ i + 1 → first.faults_before ≤ next.faults_before →
-          IsFault next (wanted_of number (f name) (content (f name)) room) status → IsOutcome call status (text_of_status status)
+          IsFault next (wanted_of number (f name) (content (f name)) room) status → IsOutcomeInTurn call status (text_of_status status)
       fault_outcome number Done e o b = absurd b
       fault_outcome number Usage e o b = absurd b
       fault_outcome number (ShelfFault file) e o b = (reached file (Err fault.Failed) (b.0 ∙ e) b.2, risen_since _ _ _ o b.1, refl)

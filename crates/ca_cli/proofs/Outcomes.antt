@@ -5,7 +5,7 @@ use Rattle.ca_cli.specs.Call.{Call}
 use Rattle.ca_term.specs.Tree.{Tree}
 use Rattle.ca_ets.specs.Command.{Answer}
 use Rattle.ca_words.specs.Grammar.{Request}
-use Rattle.ca_cli.specs.Outcome.{IsOutcome, IsPlayed, IsStopped, IsDoneOrWant, IsWellFormed, IsThere}
+use Rattle.ca_cli.specs.Outcome.{IsOutcome, IsOutcomeInTurn, IsPlayed, IsStopped, IsDoneOrWant, IsWellFormed, IsThere}
 use Rattle.ca_cli.specs.StatusText.{text_of_status}
 use Rattle.ca_cli.specs.declared.status.Status.{Status}
 use Rattle.ca_cli.specs.declared.status.Status.TheVariants.{Done, Usage, ShelfFault, SinkFault, BadLine, NoMemory, TooLong}
@@ -31,7 +31,7 @@ played_stopped : (call : Call) (answers : List (List Answer)) (table : List Tree
 played_stopped call answers table bytes (inl h) = inr (inr (h.keypos, h.names, h.lines, h.read))
 played_stopped call answers table bytes (inr h) = inl h.fetches
 
-stopped : (call : Call) (status : Status) (bytes : List ℕ) → IsOutcome call status bytes → IsStopped call
+stopped : (call : Call) (status : Status) (bytes : List ℕ) → IsOutcomeInTurn call status bytes → IsStopped call
 stopped call Done bytes h = played_stopped call h.0 h.1 bytes h.2
 stopped call Usage bytes h = inl h.1
 stopped call (ShelfFault file) bytes h = inr (inl (file, _, h.0))
@@ -41,8 +41,8 @@ stopped call NoMemory bytes h = h.0
 stopped call (TooLong file) bytes h = inr (inl (file, _, h.0.reached))
 
 -- a status with its message, or want of memory
-pub told_outcome : (call : Call) (status result : Status) (bytes : List ℕ) → IsOutcome call status (text_of_status status) →
-    ((result ≡ status) × (bytes ≡ text_of_status status)) ⊎ ((result ≡ NoMemory) × (bytes ≡ [])) → IsOutcome call result bytes
+pub told_outcome : (call : Call) (status result : Status) (bytes : List ℕ) → IsOutcomeInTurn call status (text_of_status status) →
+    ((result ≡ status) × (bytes ≡ text_of_status status)) ⊎ ((result ≡ NoMemory) × (bytes ≡ [])) → IsOutcomeInTurn call result bytes
 told_outcome call status result bytes h (inl t) = rw (t.0, t.1) h
 told_outcome call status result bytes h (inr t) = rw (t.0, t.1) (stopped call status (text_of_status status) h, refl)
 
@@ -51,3 +51,13 @@ pub told_want : (status result : Status) (bytes : List ℕ) → status ≡ NoMem
     ((result ≡ status) × (bytes ≡ text_of_status status)) ⊎ ((result ≡ NoMemory) × (bytes ≡ [])) → IsDoneOrWant result
 told_want status result bytes e (inl t) = rw (t.0, e) tt
 told_want status result bytes e (inr t) = rw t.0 tt
+
+-- what a call comes to whose clients play in turn, whatever the answers are
+pub in_any_case : (call : Call) (status : Status) (bytes : List ℕ) → IsOutcomeInTurn call status bytes → IsOutcome call status bytes
+in_any_case call Done bytes h = (h.0, h.1, h.2, tt)
+in_any_case call Usage bytes h = h
+in_any_case call (ShelfFault file) bytes h = h
+in_any_case call SinkFault bytes h = h
+in_any_case call (BadLine file line at) bytes h = h
+in_any_case call NoMemory bytes h = h
+in_any_case call (TooLong file) bytes h = h

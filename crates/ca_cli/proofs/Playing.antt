@@ -35,7 +35,7 @@ pub record IsPlaying (a b : Known) (k : Continuation) (lines left : List Numbere
       → (m : List Tree) × Stands a.keypos b.map m × GoesOn a.keypos objects m k lines left front text
 
 same_as_it_is : (a : Known) → IsSameStore a a
-same_as_it_is a = record { keypos = refl; pass = refl; passes = refl; alone = refl; sure = refl }
+same_as_it_is a = record { store = refl; keypos = refl; pass = refl; passes = refl; alone = refl; sure = refl }
 
 same_steps : (a b : Known) (k l : Continuation) (c : Command) (r : Response) → Steps a b k c r l → IsSameStore a b
 same_steps a b k l c r (inl s) = s.learns.same

@@ -3,8 +3,7 @@ use Rattle.std.proofs.Common.{◌≡◌, ℕ, ◌+◌, zero-add, List, [], ◌�
 use Rattle.std.proofs.lemmas.List.Sums.{sum_by-cons}
 use Rattle.std.specs.Prelude.{sum_by, Ok, Err}
 use Rattle.ca_term.specs.Tree.{Tree}
-use Rattle.ca_ets.specs.Command.{Answer, Response, Command}
-use Rattle.ca_ets.specs.InOrder.{run_in_order}
+use Rattle.ca_ets.specs.Command.{Answer}
 use Rattle.ca_model.specs.Known.{Known}
 use Rattle.ca_merge.specs.Stands.{Stands}
 use Rattle.ca_merge.proofs.Filters.{empty_stands, same_table}

@@ -100,16 +100,28 @@ IsStopped call = Adds call.shelf []
     ⊎ ((number : ℕ) × (end : Result (Unit {0}) FetchFault) × IsReached call number end)
     ⊎ ((keypos : ℕ) × (names : List (List ℕ)) × (lines : List (List Numbered)) × AreRead call keypos names lines)
 
--- the cause of each status, the fetches that were made, and the bytes that go with it
-abbrev pub IsOutcome : Call → Status → List ℕ → Type 0
-IsOutcome call Done bytes = (answers : List (List Answer)) × (table : List Tree) × IsPlayed call answers table bytes × AllAreReplies answers
-IsOutcome call Usage bytes = ((request : Request) → ¬ Asks call request) × Adds call.shelf [] × (bytes ≡ text_of_status Usage)
-IsOutcome call (ShelfFault file) bytes =
+-- the cause of each status, the fetches that were made, and the bytes that go with it; where commands were played, this holds of their answers
+abbrev pub IsOutcomeOf : (List (List Answer) → Type 0) → Call → Status → List ℕ → Type 0
+IsOutcomeOf Good call Done bytes = (answers : List (List Answer)) × (table : List Tree) × IsPlayed call answers table bytes × Good answers
+IsOutcomeOf Good call Usage bytes = ((request : Request) → ¬ Asks call request) × Adds call.shelf [] × (bytes ≡ text_of_status Usage)
+IsOutcomeOf Good call (ShelfFault file) bytes =
     IsReached call file (Err fault.Failed) × HasFailed call.shelf × (bytes ≡ text_of_status (ShelfFault file))
-IsOutcome call SinkFault bytes = ⊥
-IsOutcome call (BadLine file line at) bytes = IsRefused call file line at × (bytes ≡ text_of_status (BadLine file line at))
-IsOutcome call NoMemory bytes = IsStopped call × (bytes ≡ [])
-IsOutcome call (TooLong file) bytes = IsTooLong call file × (bytes ≡ text_of_status (TooLong file))
+IsOutcomeOf Good call SinkFault bytes = ⊥
+IsOutcomeOf Good call (BadLine file line at) bytes = IsRefused call file line at × (bytes ≡ text_of_status (BadLine file line at))
+IsOutcomeOf Good call NoMemory bytes = IsStopped call × (bytes ≡ [])
+IsOutcomeOf Good call (TooLong file) bytes = IsTooLong call file × (bytes ≡ text_of_status (TooLong file))
+
+-- The answers are whatever they are.
+abbrev pub AreAny : List (List Answer) → Type 0
+AreAny answers = Unit {0}
+
+-- What a call comes to, whatever the answers are.
+abbrev pub IsOutcome : Call → Status → List ℕ → Type 0
+IsOutcome call status bytes = IsOutcomeOf AreAny call status bytes
+
+-- What a call comes to whose clients play in turn: no command is refused.
+abbrev pub IsOutcomeInTurn : Call → Status → List ℕ → Type 0
+IsOutcomeInTurn call status bytes = IsOutcomeOf AllAreReplies call status bytes
 
 -- The shelf tells a file for each of these names, which holds lines and fits into the room that those before it leave.
 abbrev pub AreHeld : (List ℕ → Content) → List (List ℕ) → ℕ → Type 0

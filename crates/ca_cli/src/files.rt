@@ -6,7 +6,7 @@ ghost use Rattle.ca_outside.specs.Known.{Holds, HasRisen, Grows};
 ghost use Rattle.ca_cmd.specs.File.{Numbered, IsFileOf};
 ghost use Rattle.ca_cmd.specs.Lines.{numbered};
 ghost use Rattle.ca_cli.specs.Call.{change_of, call_of};
-ghost use Rattle.ca_cli.specs.Outcome.{most_bytes, AreRead, AreHeld, IsOutcome};
+ghost use Rattle.ca_cli.specs.Outcome.{most_bytes, AreRead, AreHeld, IsOutcomeInTurn};
 ghost use Rattle.ca_cli.specs.Reading.{wanted_of, IsRead, IsFault};
 ghost use Rattle.ca_cli.specs.StatusText.{text_of_status};
 ghost use Rattle.ca_words.specs.Grammar.{IsLine, Files};
@@ -73,9 +73,9 @@ pub fn read_all<F: Shelf>(
     ensures read { IfOk result (λ all. (words : List (List ℕ)) (keypos : ℕ) → IsLine words (Files keypos (map string_bytes names.now)) → AreRead
         (call_of words (F.content shelf.old) (change_of (F.fetches shelf.old) (F.fetches shelf.new) (F.faults shelf.old) (F.faults shelf.new)))
         keypos (map string_bytes names.now) (map numbered all.items)) }
-    ensures refused { IfErr result (λ status. (words : List (List ℕ)) (keypos : ℕ) → IsLine words (Files keypos (map string_bytes names.now)) → IsOutcome
-        (call_of words (F.content shelf.old) (change_of (F.fetches shelf.old) (F.fetches shelf.new) (F.faults shelf.old) (F.faults shelf.new)))
-        status (text_of_status status)) }
+    ensures refused { IfErr result (λ status. (words : List (List ℕ)) (keypos : ℕ) → IsLine words (Files keypos (map string_bytes names.now))
+        → IsOutcomeInTurn (call_of words (F.content shelf.old)
+        (change_of (F.fetches shelf.old) (F.fetches shelf.new) (F.faults shelf.old) (F.faults shelf.new))) status (text_of_status status)) }
     ensures complete { AreHeld (F.content shelf.old) (map string_bytes names.now) most_bytes → ¬ HasRisen (F.faults shelf.old) (F.faults shelf.new)
         → IfErr result (λ status. status ≡ Status.NoMemory) }
 

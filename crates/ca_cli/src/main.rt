@@ -15,7 +15,7 @@ mod summary;
 mod top;
 
 use crate::explain::tell;
-use crate::status::Status;
+use crate::status::{Status, finish};
 use crate::top::run;
 use ca_outside::{DirShelf, OutSink};
 use std::process::ExitCode;
@@ -54,5 +54,5 @@ fn main(rt: HostRuntime) -> ExitCode {
             status
         }
     };
-    ExitCode::from(status.code())
+    finish(status)
 }

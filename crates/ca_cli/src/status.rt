@@ -1,6 +1,9 @@
 //! How a call of the program ended.
 ghost use Rattle.std.specs.Prelude.{◌≡◌};
+ghost use Rattle.std.specs.Process.{exit_status};
 ghost use Rattle.ca_cli.specs.StatusText.{code_of_status};
+
+use std::process::ExitCode;
 
 /// How a call of the program ended. Files and lines count from 1, and so do the bytes of a line.
 #[derive(Clone, Copy, Debug, PartialEq, Eq)]
@@ -36,4 +39,11 @@ impl Status {
             Status::TooLong { .. } => 7,
         }
     }
+}
+
+/// What the program ends with.
+pub fn finish(status: Status) -> ExitCode
+    ensures { exit_status result ≡ code_of_status status }
+{
+    ExitCode::from(status.code())
 }

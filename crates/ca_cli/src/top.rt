@@ -8,7 +8,7 @@ ghost use Rattle.ca_term.specs.declared.bounds.TheConstants.{MOST_ELEMENTS};
 ghost use Rattle.ca_words.specs.Grammar.{IsLine, Files, Generated};
 ghost use Rattle.ca_cli.specs.Call.{Adds, Asks, Call, change_of, call_of};
 ghost use Rattle.ca_cli.specs.Headline.{AllAreReplies};
-ghost use Rattle.ca_cli.specs.Outcome.{AreHeld, IsOutcome, IsWellFormed, IsDoneOrWant, most_bytes};
+ghost use Rattle.ca_cli.specs.Outcome.{AreHeld, IsOutcomeInTurn, IsWellFormed, IsDoneOrWant, most_bytes};
 ghost use Rattle.ca_cli.specs.StatusText.{text_of_status};
 ghost use Rattle.ca_cli.specs.Written.{HasRun, Prints, IsFaultless};
 
@@ -39,10 +39,10 @@ fn output_of_files<F: Shelf>(
     shelf: &mut F,
 ) -> Result<Vec<u8>, Status>
     requires { (1 ≤ keypos) × (keypos ≤ MOST_ELEMENTS) × (length names.now ≤ 64) }
-    ensures output { IfOk result (λ bytes. (words : List (List ℕ)) → IsLine words (Files keypos (map string_bytes names.now)) → IsOutcome
+    ensures output { IfOk result (λ bytes. (words : List (List ℕ)) → IsLine words (Files keypos (map string_bytes names.now)) → IsOutcomeInTurn
         (call_of words (F.content shelf.old) (change_of (F.fetches shelf.old) (F.fetches shelf.new) (F.faults shelf.old) (F.faults shelf.new)))
         Status.Done bytes.items) }
-    ensures early { IfErr result (λ status. (words : List (List ℕ)) → IsLine words (Files keypos (map string_bytes names.now)) → IsOutcome
+    ensures early { IfErr result (λ status. (words : List (List ℕ)) → IsLine words (Files keypos (map string_bytes names.now)) → IsOutcomeInTurn
         (call_of words (F.content shelf.old) (change_of (F.fetches shelf.old) (F.fetches shelf.new) (F.faults shelf.old) (F.faults shelf.new)))
         status (text_of_status status)) }
     ensures complete { AreHeld (F.content shelf.old) (map string_bytes names.now) most_bytes → ¬ HasRisen (F.faults shelf.old) (F.faults shelf.new)
@@ -60,7 +60,7 @@ fn output_of_files<F: Shelf>(
 // The whole output for lines that are made from a seed, or want of memory.
 fn output_of_seed(alloc: Global, seed: u32, clients: u32, lines: u32) -> Result<Vec<u8>, Status>
     ensures output { IfOk result (λ bytes. (call : Call) → Asks call (Generated seed clients lines) → Adds call.shelf []
-        → IsOutcome call Status.Done bytes.items) }
+        → IsOutcomeInTurn call Status.Done bytes.items) }
     ensures want { IfErr result (λ status. status ≡ Status.NoMemory) }
 {
     match summary(alloc, seed, clients, lines) {
@@ -73,10 +73,10 @@ fn output_of_seed(alloc: Global, seed: u32, clients: u32, lines: u32) -> Result<
 fn output<F: Shelf>(alloc: Global, words: &[String], shelf: &mut F) -> Result<Vec<u8>, Status>
     ensures output { let call = call_of (map string_bytes words.now) (F.content shelf.old)
         (change_of (F.fetches shelf.old) (F.fetches shelf.new) (F.faults shelf.old) (F.faults shelf.new)) in
-        IfOk result (λ bytes. IsOutcome call Status.Done bytes.items) }
+        IfOk result (λ bytes. IsOutcomeInTurn call Status.Done bytes.items) }
     ensures early { let call = call_of (map string_bytes words.now) (F.content shelf.old)
         (change_of (F.fetches shelf.old) (F.fetches shelf.new) (F.faults shelf.old) (F.faults shelf.new)) in
-        IfErr result (λ status. IsOutcome call status (text_of_status status)) }
+        IfErr result (λ status. IsOutcomeInTurn call status (text_of_status status)) }
     ensures complete { let call = call_of (map string_bytes words.now) (F.content shelf.old)
         (change_of (F.fetches shelf.old) (F.fetches shelf.new) (F.faults shelf.old) (F.faults shelf.new)) in
         IsWellFormed call → ¬ HasRisen (F.faults shelf.old) (F.faults shelf.new) → IfErr result (λ status. status ≡ Status.NoMemory) }
@@ -101,7 +101,7 @@ fn output<F: Shelf>(alloc: Global, words: &[String], shelf: &mut F) -> Result<Ve
 
 // What the call comes to, before anything is written: the status, and the bytes that go with it.
 fn outcome<F: Shelf>(alloc: Global, words: &[String], shelf: &mut F) -> (Status, Vec<u8>)
-    ensures outcome { IsOutcome
+    ensures outcome { IsOutcomeInTurn
         (call_of (map string_bytes words.now) (F.content shelf.old)
         (change_of (F.fetches shelf.old) (F.fetches shelf.new) (F.faults shelf.old) (F.faults shelf.new)))
         result.0 result.1.items }
@@ -135,8 +135,15 @@ pub fn run<F: Shelf, S: Sink>(
         let output = change_of (S.taken sink.old) (S.taken sink.new) (S.faults sink.old) (S.faults sink.new) in
         (status : Status) × (bytes : List ℕ) × HasRun call output result status bytes }
 
-    // The headline: where the status is `Done`, the answers and the table are those of one thread. No command was refused.
+    // The headline: where the status is `Done`, the answers and the table are those of one thread.
     ensures headline { let call = call_of (map string_bytes words.now) (F.content shelf.old)
+        (change_of (F.fetches shelf.old) (F.fetches shelf.new) (F.faults shelf.old) (F.faults shelf.new)) in
+        let output = change_of (S.taken sink.old) (S.taken sink.new) (S.faults sink.old) (S.faults sink.new) in
+        result ≡ Status.Done → (answers : List (List Answer)) × (table : List Tree) × (bytes : List ℕ)
+        × Prints call output answers table bytes }
+
+    // No command was refused.
+    ensures unrefused { let call = call_of (map string_bytes words.now) (F.content shelf.old)
         (change_of (F.fetches shelf.old) (F.fetches shelf.new) (F.faults shelf.old) (F.faults shelf.new)) in
         let output = change_of (S.taken sink.old) (S.taken sink.new) (S.faults sink.old) (S.faults sink.new) in
         result ≡ Status.Done → (answers : List (List Answer)) × (table : List Tree) × (bytes : List ℕ)

@@ -1,9 +1,10 @@
 //! A table as a list of objects in key order.
-ghost use Rattle.std.specs.Prelude.{◌≡◌, ◌≤◌, ◌<◌, List, [], ◌∷◌, length, take, drop, slice_index_or, slice_set, IfOk, OnOk, OnErr};
+ghost use Rattle.std.specs.Prelude.{◌≡◌, ◌⊎◌, ◌≤◌, ◌<◌, List, [], ◌∷◌, length, take, drop, slice_index_or, slice_set, IfOk, IsOk, OnOk, OnErr};
 ghost use Rattle.std.specs.List.{remove};
 ghost use Rattle.ca_term.specs.Object.{key_of};
 ghost use Rattle.ca_term.specs.Tree.{Nil, Tree};
 ghost use Rattle.ca_ets.specs.Command.{Continuation, IsContinuation, continuation_of, response_of};
+ghost use Rattle.ca_ets.specs.declared.command.Cmd.TheVariants.{Delete, Member};
 ghost use Rattle.ca_ets.specs.OrderedMap.{IsTable, above};
 ghost use Rattle.ca_ets.specs.Place.{IsInRange, IsPlace, placed};
 ghost use Rattle.ca_match.specs.Specification.{IsSpecification};
@@ -83,7 +84,7 @@ impl ListTable {
     }
 
     /// One step of one thread: what the command does to the table and to its client's continuation, and the reply.
-    /// A command that is answered with an error changes nothing, and so does one for which memory is not found.
+    /// A command that is answered with an error changes nothing, and so does one for which memory is not found: `member` and `delete` take none.
     /// Source: the ets manual's text on each call; the order of the checks and the error `Size` are this project's own.
     pub fn apply(&mut self, alloc: Global, cmd: &Cmd, cont: &mut Cont) -> Result<Reply, AllocError>
         requires { IsContinuation (continuation_of cont.old) }
@@ -93,6 +94,7 @@ impl ListTable {
         ensures keypos { self.new.keypos ≡ self.old.keypos }
         ensures table_unchanged { OnErr result (self.new ≡ self.old) }
         ensures continuation_unchanged { OnErr result (cont.new ≡ cont.old) }
+        ensures without_memory { (k : Tree) → (cmd.now ≡ Member k) ⊎ (cmd.now ≡ Delete k) → IsOk result }
     {
         match cmd {
             Cmd::Insert(object) => self.insert(alloc, object),

@@ -83,6 +83,7 @@ impl Shelf for Drawer {
         ensures fails { ¬ IsErrOf result FetchFault.NoMemory → (IsErrOf result FetchFault.Failed ↔ (next_bytes self.old name.now ≡ None)) }
         ensures over { ¬ IsErrOf result FetchFault.NoMemory →
             (IsErrOf result FetchFault.TooLong ↔ IsOver room (content_or Missing (next_bytes self.old name.now))) }
+        ensures unlisted { next_bytes self.old name.now ≡ None → IsErrOf result FetchFault.NoMemory → self.new.log ≡ None }
         ensures after { (self.new ≡ after_fetch self.old (fetched name.now result))
             ⊎ (IsErrOf result FetchFault.NoMemory × (self.new ≡ without_log self.old)) }
     {
@@ -155,6 +156,8 @@ impl Shelf for SureDrawer {
         ensures empty { OnErr result (into.new.items ≡ []) }
         ensures over { ¬ IsErrOf result FetchFault.NoMemory →
             (IsErrOf result FetchFault.TooLong ↔ (room < length (bytes_or_none self.old.files name.now))) }
+        // A name that isn't listed wants no memory but for its entry in the log.
+        ensures unlisted { bytes_of self.old.files name.now ≡ None → IsErrOf result FetchFault.NoMemory → self.new.log ≡ None }
         ensures sure { ¬ IsErrOf result FetchFault.Failed }
         ensures same { self.new.files ≡ self.old.files }
         ensures logged { (self.new.log ≡ with_fetch self.old.log (fetched name.now result))

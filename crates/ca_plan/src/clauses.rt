@@ -1,5 +1,5 @@
 //! The key that all clauses fix.
-ghost use Rattle.std.specs.Prelude.{◌≡◌, ◌≤◌, IfOk, option_map};
+ghost use Rattle.std.specs.Prelude.{◌≡◌, ◌≢◌, ◌≤◌, None, IfOk, OnErr, option_map};
 ghost use Rattle.ca_plan.specs.Plan.{Covers, all_fix, clause_key, fixes, head_key, plan_of, shared_key};
 
 use crate::answer::Plan;
@@ -10,11 +10,13 @@ use std::alloc::{AllocError, Global};
 
 /// Where the objects stand that a match specification can give a result, by element number `keypos`, counted from 1. It is `Key` exactly where
 /// there is a clause, each clause's head is a tuple with that element, and there it holds no variable and no `'_'` and is the same key in all.
+/// `Err` where memory for the key's copy wasn't found: only where a key is fixed.
 /// Source: the `ets` manual's `match`: where the pattern gives the key, the table isn't searched; one key in all clauses is this project's own rule.
 pub fn plan(alloc: Global, spec: &Spec, keypos: u32) -> Result<Plan, AllocError>
     requires { 1 ≤ keypos }
     ensures plan { IfOk result (λ plan. plan ≡ plan_of (shared_key keypos spec.now)) }
     ensures covers { IfOk result (λ plan. Covers keypos spec.now plan) }
+    ensures lack { OnErr result (shared_key keypos spec.now ≢ None) }
 {
     match shared_key(spec.source(), keypos) {
         Some(key) => match try_copy(alloc, key) {

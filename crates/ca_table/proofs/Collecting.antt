@@ -1,5 +1,5 @@
 -- Collecting the results of a run, object by object.
-use Rattle.std.proofs.Common.{◌≡◌, ◌⊎◌, ℕ, zero, suc, ◌+◌, ◌≤◌, ◌<◌, Bool, true, false, List, [], ◌∷◌, ◌++◌, length, map, arith, refl, sym, ◌∙◌, ap, subst, inl, inr, append_assoc, append-nil, length-append, Option, None, Some}
+use Rattle.std.proofs.Common.{◌≡◌, ◌⊎◌, ℕ, zero, suc, ◌+◌, ◌≤◌, ◌<◌, Bool, true, false, List, [], ◌∷◌, ◌++◌, length, map, arith, refl, sym, ◌∙◌, ap, subst, inl, inr, append_assoc, append-nil, length-append, Option, None, Some, if◌then◌else◌}
 use Rattle.std.specs.Prelude.{nat_le, unwrap_or, Result, Err}
 use Rattle.std.proofs.lemmas.Bool.Decides.{nat_tests}
 use Rattle.std.proofs.lemmas.List.{map-append}
@@ -27,10 +27,19 @@ use Rattle.ca_model.proofs.Edits.{map_after, map_filter}
 use Rattle.ca_merge.proofs.Calls.{beside_run_meets, both_beside_run, one_read}
 use Rattle.ca_merge.proofs.Pairs.{object_of_pair}
 use Rattle.ca_merge.proofs.Results.{keyed_append, keyed_none, keyed_some, last_append}
-use Rattle.ca_table.specs.Collected.{AddsObject, Adds, AreCollected, AreObjectsOf, AreResults, AreUpTo, AreWithin, CountsOnly, IsLastOf, IsObjectOf, IsOpenRun, is_full, left_of}
+use Rattle.ca_table.specs.Collected.{AddsObject, Adds, AreCollected, AreObjectsOf, AreResults, AreUpTo, AreWithin, CountsOnly, IsLastOf, IsObjectOf, IsOpenRun, is_full, left_of, wanted}
 use Rattle.ca_table.specs.ComesTo.{EditsNothing}
 use Rattle.ca_table.proofs.Listed.{terms_more}
 use Rattle.ca_table.proofs.ReadBack.{first_part}
+
+-- What is asked of a run is nothing, or the limit.
+pub none_or_limit : (limit : Option ℕ) (want : ℕ) → want ≡ wanted limit → (want ≡ 0) ⊎ (limit ≡ Some want)
+none_or_limit None want e = inl e
+none_or_limit (Some limit) want e = by (nat_le limit 4294967295) e
+  where
+    by : (fits : Bool) → want ≡ (if fits then limit else 0) → (want ≡ 0) ⊎ (Some limit ≡ Some want)
+    by true same = inr (ap Some (sym same))
+    by false none = inl none
 
 -- ---- the objects of a run
 
@@ -83,7 +92,12 @@ collecting_none s limit a o = record {
   left = o.1;
   are = record { objects = []; bounded = tt; whole_is = refl; results_are = refl; last_is = refl };
   up_to = none_up_to limit;
-  stays = record { same = record { keypos = refl; pass = refl; passes = refl; alone = refl; sure = refl }; map = refl; seen = refl; counts = refl };
+  stays = record {
+    same = record { store = refl; keypos = refl; pass = refl; passes = refl; alone = refl; sure = refl };
+    map = refl;
+    seen = refl;
+    counts = refl;
+  };
 }
 
 -- A run has fewer objects left behind each one that is handed out.

@@ -4,11 +4,12 @@ pub mod CarriedUpdates
 pub mod Changing
 pub mod Collecting
 pub mod Inserting
-pub mod Keyed
 pub mod KeyParts
 pub mod KeyRead
+pub mod Keyed
 pub mod Listed
 pub mod LongElements
+pub mod Once
 pub mod ReadBack
 pub mod Refusing
 pub mod SamePut

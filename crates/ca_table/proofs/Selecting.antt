@@ -30,8 +30,8 @@ use Rattle.ca_table.specs.declared.batch.Place.TheVariants as place
 use Rattle.ca_table.proofs.Keyed.{got_none, got_some}
 use Rattle.ca_merge.specs.Carries.{Gives}
 use Rattle.ca_merge.specs.Stands.{Stands}
-use Rattle.ca_merge.specs.Steps.{Steps, Refrains}
-use Rattle.ca_merge.proofs.Calls.{one_call, one_read}
+use Rattle.ca_merge.specs.Steps.{Refrains}
+use Rattle.ca_merge.proofs.Calls.{one_read}
 use Rattle.ca_merge.proofs.Edged.{within_all, within_between, within_past}
 use Rattle.ca_merge.proofs.Founds.{absent, found_object}
 use Rattle.ca_merge.proofs.Pairs.{pair_of_object}
@@ -40,6 +40,8 @@ use Rattle.ca_merge.proofs.Within.{run_begins, run_is}
 use Rattle.ca_table.proofs.Collecting.{length_values}
 use Rattle.ca_table.specs.Codes.{HasKeyCode}
 use Rattle.ca_table.specs.Collected.{AreWithin, IsBatch, IsLastOf, IsNextOf, is_full, reply_of_batch}
+use Rattle.ca_table.specs.ComesTo.{StepsOnce}
+use Rattle.ca_table.proofs.Once.{once}
 
 module _ (a d : Known) (positive : 1 ≤ a.keypos) (lo hi : Bound) (s : Tree) where
   -- The results of a whole run are those of all objects that stand within its edges.
@@ -63,8 +65,8 @@ module _ (a d : Known) (positive : 1 ≤ a.keypos) (lo hi : Bound) (s : Tree) wh
 
 module _ (a d : Known) (positive : 1 ≤ a.keypos) (s : Tree) (accepted : IsSpecification s) (rs : List Tree) (last : Option Tree) (l : Continuation) where
   -- `select` answers the results of all objects.
-  pub select_done : AreWithin a d Unbounded Unbounded s None rs last → Steps a d l (Select s) (Items rs) l
-  select_done w = inl (one_call a d (Range Unbounded Unbounded w.cut w.objects) l l (Select s) (Items rs) w.met (record {
+  pub select_done : AreWithin a d Unbounded Unbounded s None rs last → StepsOnce a d l (Select s) (Items rs) l
+  select_done w = (once a d (Range Unbounded Unbounded w.cut w.objects) l l (Select s) (Items rs) w.met (record {
     at = λ m t st answer.
         let same : rs ≡ chosen s t = all_results a d positive Unbounded Unbounded s rs last w m t t st answer (within_all a.keypos m t st) in
         (t, rw (accepted, same) refl, st);
@@ -72,9 +74,9 @@ module _ (a d : Known) (positive : 1 ≤ a.keypos) (s : Tree) (accepted : IsSpec
 
   -- `select_range` answers the results of the objects between two keys.
   pub select_range_done : (lo hi : Tree) (low high : List ℕ) → HasKeyCode lo low → HasKeyCode hi high
-      → AreWithin a d (Included low) (Included high) s None rs last → Steps a d l (SelectRange lo hi s) (Items rs) l
+      → AreWithin a d (Included low) (Included high) s None rs last → StepsOnce a d l (SelectRange lo hi s) (Items rs) l
   select_range_done lo hi low high h k w =
-      inl (one_call a d (Range (Included low) (Included high) w.cut w.objects) l l (SelectRange lo hi s) (Items rs) w.met (record {
+      (once a d (Range (Included low) (Included high) w.cut w.objects) l l (SelectRange lo hi s) (Items rs) w.met (record {
         at = λ m t st answer.
             let here : Stands a.keypos (within (Included low) (Included high) m) (between a.keypos t lo hi) =
             subst (λ (x : List ℕ). Stands a.keypos (within (Included x) (Included high) m) (between a.keypos t lo hi)) (sym h.code_is)
@@ -209,15 +211,15 @@ module _ (a d : Known) (positive : 1 ≤ a.keypos) (lo : Bound) (s : Tree) (limi
 module _ (a d : Known) (s : Tree) (accepted : IsSpecification s) (limit : ℕ) (response : Response) (next : Continuation) where
   -- `batch` answers the batch from the first object on.
   pub batch_done : (n : Tree) (before : Continuation) → limit_of n ≡ Some limit → IsBatch a d Unbounded s limit response next
-      → Steps a d before (Batch s n) response next
-  batch_done n before is b = inl (one_call a d (Range Unbounded Unbounded b.cut b.objects) before next (Batch s n) response b.met (record {
+      → StepsOnce a d before (Batch s n) response next
+  batch_done n before is b = (once a d (Range Unbounded Unbounded b.cut b.objects) before next (Batch s n) response b.met (record {
     at = λ m t st answer. (t, rw (is, accepted) (b.gives m t t st answer (within_all a.keypos m t st)), st);
   }))
 
   -- `more` answers the batch behind the key where the last one ended.
   pub more_done : (k : Tree) (code : List ℕ) → HasKeyCode k code → IsBatch a d (Excluded code) s limit response next
-      → Steps a d (At s limit k) More response next
-  more_done k code h b = inl (one_call a d (Range (Excluded code) Unbounded b.cut b.objects) (At s limit k) next More response b.met (record {
+      → StepsOnce a d (At s limit k) More response next
+  more_done k code h b = (once a d (Range (Excluded code) Unbounded b.cut b.objects) (At s limit k) next More response b.met (record {
     at = λ m t st answer.
         let here : Stands a.keypos (within (Excluded code) Unbounded m) (above a.keypos t k) =
         subst (λ (x : List ℕ). Stands a.keypos (within (Excluded x) Unbounded m) (above a.keypos t k)) (sym h.code_is)
@@ -273,11 +275,11 @@ unfit k fault e = by (fits k) refl e
 module _ (a b : Known) (s k : Tree) (accepted : IsSpecification s) (covers : (o : Tree) → result_of s o ≢ None → key_of a.keypos o ≡ k) where
   -- The key doesn't fit: no object has it.
   pub select_unfit : (fault : Fault) → 1 ≤ a.keypos → fault_of_key k ≡ Some fault → (ts : List Tree) → ts ≡ [] → (l : Continuation)
-      → Steps a a l (Select s) (Items ts) l
+      → StepsOnce a a l (Select s) (Items ts) l
   select_unfit fault positive e ts none l =
-      subst (λ (x : List Tree). Steps a a l (Select s) (Items x) l) (sym none) (inr (record {
+      subst (λ (x : List Tree). StepsOnce a a l (Select s) (Items x) l) (sym none) (inr (record {
         stays = record {
-          same = record { keypos = refl; pass = refl; passes = refl; alone = refl; sure = refl };
+          same = record { store = refl; keypos = refl; pass = refl; passes = refl; alone = refl; sure = refl };
           map = refl;
           seen = refl;
           run = refl;
@@ -293,10 +295,10 @@ module _ (a b : Known) (s k : Tree) (accepted : IsSpecification s) (covers : (o 
   module _ (bytes : List ℕ) (h : HasKeyCode k bytes) (found : Bool) (into : List ℕ) where
     -- No object has the key.
     pub select_absent : found ≡ false → Got a b bytes found into → (ts : List Tree) → ts ≡ [] → (l : Continuation)
-        → Steps a b l (Select s) (Items ts) l
+        → StepsOnce a b l (Select s) (Items ts) l
     select_absent e got ts none l =
-        subst (λ (x : List Tree). Steps a b l (Select s) (Items x) l) (sym none)
-        (inl (one_call a b (Get (code_of k) None) l l (Select s) (Items []) (got_none k bytes h a b found into e got) (record {
+        subst (λ (x : List Tree). StepsOnce a b l (Select s) (Items x) l) (sym none)
+        ((once a b (Get (code_of k) None) l l (Select s) (Items []) (got_none k bytes h a b found into e got) (record {
           at = λ m t st answer.
               let empty : get a.keypos t k ≡ [] = absent a.keypos m t st k h.bounded answer in
               let same : chosen s t ≡ [] = chosen_alone a.keypos s k covers t ∙ ap (chosen s) empty in
@@ -305,9 +307,9 @@ module _ (a b : Known) (s k : Tree) (accepted : IsSpecification s) (covers : (o 
 
     -- The key's object has a result, or none.
     pub select_present : found ≡ true → Got a b bytes found into → (none : List Tree) (last : Option Tree) → none ≡ [] → (ts : List Tree) (next : Option Tree)
-        → AddsObject s into none last ts next → (l : Continuation) → Steps a b l (Select s) (Items ts) l
+        → AddsObject s into none last ts next → (l : Continuation) → StepsOnce a b l (Select s) (Items ts) l
     select_present e got none last empty ts next adds l =
-        inl (one_call a b (Get (code_of k) (Some into)) l l (Select s) (Items ts) (got_some k bytes h a b found into e got) (record {
+        (once a b (Get (code_of k) (Some into)) l l (Select s) (Items ts) (got_some k bytes h a b found into e got) (record {
           at = λ m t st answer.
               let o = found_object a.keypos m t st k h.bounded into answer in
               let same : chosen s t ≡ ts =

@@ -1,5 +1,5 @@
 -- How `update_counter` and `update_element` end.
-use Rattle.std.proofs.Common.{◌≡◌, ℕ, suc, ◌≤◌, ℤ, Bool, true, false, List, [], ◌∷◌, length, map, refl, sym, ◌∙◌, ap, subst, inl, arith, Option, None, Some}
+use Rattle.std.proofs.Common.{◌≡◌, ℕ, suc, ◌≤◌, ℤ, Bool, true, false, List, [], ◌∷◌, length, map, refl, sym, ◌∙◌, ap, subst, arith, Option, None, Some}
 use Rattle.std.specs.Prelude.{Result, Ok, Err, ◌==◌}
 use Rattle.std.specs.Option.{option_map}
 use Rattle.std.proofs.lemmas.Bool.Decides.{nat_tests}
@@ -20,13 +20,15 @@ use Rattle.ca_ets.specs.declared.command.Cmd.TheVariants.{UpdateCounter, UpdateE
 use Rattle.ca_model.specs.Event.{Get, Change}
 use Rattle.ca_model.specs.Known.{Known, Meets}
 use Rattle.ca_model.specs.Answer.{Got}
-use Rattle.ca_merge.specs.Steps.{Steps, Refrains}
-use Rattle.ca_merge.proofs.Calls.{one_call, one_read}
+use Rattle.ca_merge.specs.Steps.{Refrains}
+use Rattle.ca_merge.proofs.Calls.{one_read}
 use Rattle.ca_table.specs.Codes.{HasKeyCode, IsAsked}
 use Rattle.ca_table.specs.Renewed.{IsPut, IsKept, by_element, by_operations}
 use Rattle.ca_table.proofs.Keyed.{got_none, got_some}
 use Rattle.ca_table.proofs.ReadBack.{found_code, met_pair, row_of_pair}
 use Rattle.ca_table.proofs.CarriedUpdates.{counter_absent, counter_missing, counter_kept, counter_put, counter_read, element_absent, element_missing, element_kept, element_read, element_put}
+use Rattle.ca_table.specs.ComesTo.{StepsOnce}
+use Rattle.ca_table.proofs.Once.{once}
 
 -- ---- arguments
 
@@ -112,30 +114,30 @@ module _ (k op : Tree) (bytes : List ℕ) (h : HasKeyCode k bytes) (a b : Known)
 
     -- No operations on an object that is there: the answer is the empty list.
     pub counter_looks : operations ≡ Several [] → (found : Bool) (into : List ℕ) (ts : List Tree) → found ≡ true → Got a b bytes found into → ts ≡ []
-        → (l : Continuation) → Steps a b l (UpdateCounter k op) (Items ts) l
+        → (l : Continuation) → StepsOnce a b l (UpdateCounter k op) (Items ts) l
     counter_looks none found into ts e got empty l =
         let met = got_some k bytes h a b found into e got in
         let t = found_code a b (code_of k) into met in
         let there = subst (λ (x : List ℕ). Meets a b (Get (code_of k) (Some x))) t.2 met in
-        subst (λ (x : List Tree). Steps a b l (UpdateCounter k op) (Items x) l) (sym empty)
-        (inl (one_call a b _ l l _ _ there (counter_read a.keypos k op h.bounded h.fitting l (here ∙ ap Some none) t.0 t.1)))
+        subst (λ (x : List Tree). StepsOnce a b l (UpdateCounter k op) (Items x) l) (sym empty)
+        ((once a b _ l l _ _ there (counter_read a.keypos k op h.bounded h.fitting l (here ∙ ap Some none) t.0 t.1)))
 
     -- There is no object: the argument is bad.
     pub counter_misses : (found : Bool) (into : List ℕ) → found ≡ false → Got a b bytes found into → (l : Continuation)
-        → Steps a b l (UpdateCounter k op) (Error BadArg) l
+        → StepsOnce a b l (UpdateCounter k op) (Error BadArg) l
     counter_misses found into e got l =
-        inl (one_call a b _ l l _ _ (got_none k bytes h a b found into e got)
+        (once a b _ l l _ _ (got_none k bytes h a b found into e got)
         (counter_missing a.keypos k op h.bounded h.fitting l operations here))
 
-    pub counter_lacks : Meets a b (Change bytes None None) → (l : Continuation) → Steps a b l (UpdateCounter k op) (Error BadArg) l
+    pub counter_lacks : Meets a b (Change bytes None None) → (l : Continuation) → StepsOnce a b l (UpdateCounter k op) (Error BadArg) l
     counter_lacks met l =
-        inl (one_call a b _ l l _ _ (none_met met) (counter_absent a.keypos k op h.bounded h.fitting l operations here))
+        (once a b _ l l _ _ (none_met met) (counter_absent a.keypos k op h.bounded h.fitting l operations here))
 
     module _ (adds : List Addition) (are : adds ≡ additions_of operations) (old : List ℕ) where
       -- The operations fail: the answer is why.
       pub counter_fails : IsKept a b bytes (by_operations a.keypos adds) old → (f : Fault)
           → ((row : Row) (fault : ElementFault) → IsTupleCode row old → by_operations q adds (Tuple row) ≡ Err fault → f ≡ fault_of fault)
-          → (l : Continuation) → Steps a b l (UpdateCounter k op) (Error f) l
+          → (l : Continuation) → StepsOnce a b l (UpdateCounter k op) (Error f) l
       counter_fails kept f why l =
           let o : Tree = Tuple kept.row in
           let code = kept.object.is_code in
@@ -144,14 +146,14 @@ module _ (k op : Tree) (bytes : List ℕ) (h : HasKeyCode k bytes) (a b : Known)
           let failed : update_of_counters a.keypos o (additions_of operations) ≡ Err kept.fault =
           subst (λ (x : List Addition). update_of_counters a.keypos o x ≡ Err kept.fault) are
           (failed_operations (update_of_counters a.keypos o adds) kept.fault kept.failed) in
-          subst (λ (x : Fault). Steps a b l (UpdateCounter k op) (Error x) l) (sym because)
-          (inl (one_call a b _ l l _ _ (kept_met old o code.code_is kept.met)
+          subst (λ (x : Fault). StepsOnce a b l (UpdateCounter k op) (Error x) l) (sym because)
+          ((once a b _ l l _ _ (kept_met old o code.code_is kept.met)
           (counter_kept a.keypos k op h.bounded h.fitting l operations here o code.bounded kept.fault failed)))
 
       -- They pass: the answer is their values.
       pub counter_passes : IsPut a b bytes (by_operations a.keypos adds) old → (r : Response)
           → ((row : Row) (left : List Tree) (values : List ℤ) → IsTupleCode row old → counts q (elements row) (additions_of operations) ≡ Ok (left, values)
-          → r ≡ reply_of operations values) → (l : Continuation) → Steps a b l (UpdateCounter k op) r l
+          → r ≡ reply_of operations values) → (l : Continuation) → StepsOnce a b l (UpdateCounter k op) r l
       counter_passes put r reply l =
           let o : Tree = Tuple put.row in
           let code = put.object.is_code in
@@ -160,8 +162,8 @@ module _ (k op : Tree) (bytes : List ℕ) (h : HasKeyCode k bytes) (a b : Known)
           let is : r ≡ reply_of operations v.values =
           reply put.row v.left v.values code
           (subst (λ (n : ℕ). counts n (elements put.row) (additions_of operations) ≡ Ok (v.left, v.values)) (sym same) v.counted) in
-          subst (λ (x : Response). Steps a b l (UpdateCounter k op) x l) (sym is)
-          (inl (one_call a b _ l l _ _ (put_met old (code_of put.new) o code.code_is put.met)
+          subst (λ (x : Response). StepsOnce a b l (UpdateCounter k op) x l) (sym is)
+          ((once a b _ l l _ _ (put_met old (code_of put.new) o code.code_is put.met)
           (counter_put a.keypos k op h.bounded h.fitting l operations here o code.bounded put.new v.values v.updated put.keeps)))
 
   module _ (q : ℕ) (same : q ≡ a.keypos) (position : ℤ) (value : Tree) (asked : IsAsked q op position value) where
@@ -170,44 +172,44 @@ module _ (k op : Tree) (bytes : List ℕ) (h : HasKeyCode k bytes) (a b : Known)
 
     -- There is no object: the answer is false.
     pub element_misses : (found : Bool) (into : List ℕ) → found ≡ false → Got a b bytes found into → (l : Continuation)
-        → Steps a b l (UpdateElement k op) (Truth false) l
+        → StepsOnce a b l (UpdateElement k op) (Truth false) l
     element_misses found into e got l =
-        inl (one_call a b _ l l _ _ (got_none k bytes h a b found into e got)
+        (once a b _ l l _ _ (got_none k bytes h a b found into e got)
         (element_missing a.keypos k op h.bounded h.fitting l position value there))
 
-    pub element_lacks : Meets a b (Change bytes None None) → (l : Continuation) → Steps a b l (UpdateElement k op) (Truth false) l
+    pub element_lacks : Meets a b (Change bytes None None) → (l : Continuation) → StepsOnce a b l (UpdateElement k op) (Truth false) l
     element_lacks met l =
-        inl (one_call a b _ l l _ _ (none_met met) (element_absent a.keypos k op h.bounded h.fitting l position value there))
+        (once a b _ l l _ _ (none_met met) (element_absent a.keypos k op h.bounded h.fitting l position value there))
 
     -- its position as it went through a call
     module _ (raw : ℤ) (cast : raw ≡ position) where
       -- The element isn't put: the answer is why.
       pub element_fails : (old : List ℕ) → IsKept a b bytes (by_element raw value) old → (f : Fault)
           → ((row : Row) (fault : ElementFault) → IsTupleCode row old → by_element raw value (Tuple row) ≡ Err fault → f ≡ fault_of fault)
-          → (l : Continuation) → Steps a b l (UpdateElement k op) (Error f) l
+          → (l : Continuation) → StepsOnce a b l (UpdateElement k op) (Error f) l
       element_fails old kept f why l =
           let o : Tree = Tuple kept.row in
           let code = kept.object.is_code in
           let because : f ≡ fault_of kept.fault = why kept.row kept.fault code kept.failed in
           let failed : by_element position value o ≡ Err kept.fault = subst (λ (x : ℤ). by_element x value o ≡ Err kept.fault) cast kept.failed in
-          subst (λ (x : Fault). Steps a b l (UpdateElement k op) (Error x) l) (sym because)
-          (inl (one_call a b _ l l _ _ (kept_met old o code.code_is kept.met)
+          subst (λ (x : Fault). StepsOnce a b l (UpdateElement k op) (Error x) l) (sym because)
+          ((once a b _ l l _ _ (kept_met old o code.code_is kept.met)
           (element_kept a.keypos k op h.bounded h.fitting l position value there o code.bounded kept.fault failed)))
 
       -- It is put: the answer is true.
       pub element_passes : (old : List ℕ) → IsPut a b bytes (by_element raw value) old → (l : Continuation)
-          → Steps a b l (UpdateElement k op) (Truth true) l
+          → StepsOnce a b l (UpdateElement k op) (Truth true) l
       element_passes old put l =
           let o : Tree = Tuple put.row in
           let code = put.object.is_code in
           let updated : by_element position value o ≡ Ok put.new = subst (λ (x : ℤ). by_element x value o ≡ Ok put.new) cast put.updated in
-          inl (one_call a b _ l l _ _ (put_met old (code_of put.new) o code.code_is put.met)
+          (once a b _ l l _ _ (put_met old (code_of put.new) o code.code_is put.met)
           (element_put a.keypos k op h.bounded h.fitting l position value there o code.bounded put.new updated put.keeps))
 
       -- It is too long for any object: the answer is why.
       pub element_reads : 1 ≤ a.keypos → (found : Bool) (into : List ℕ) → found ≡ true → Got a b bytes found into → (f : Fault)
           → ((row : Row) → IsTupleCode row into → (fault : ElementFault) × (by_element raw value (Tuple row) ≡ Err fault) × (f ≡ fault_of fault))
-          → (l : Continuation) → Steps a b l (UpdateElement k op) (Error f) l
+          → (l : Continuation) → StepsOnce a b l (UpdateElement k op) (Error f) l
       element_reads positive found into e got f why l =
           let r = found_row positive found into e got in
           let o : Tree = Tuple r.0 in
@@ -216,6 +218,6 @@ module _ (k op : Tree) (bytes : List ℕ) (h : HasKeyCode k bytes) (a b : Known)
           let failed : by_element position value o ≡ Err because.0 = subst (λ (x : ℤ). by_element x value o ≡ Err because.0) cast because.1 in
           let met = got_some k bytes h a b found into e got in
           let here = subst (λ (x : List ℕ). Meets a b (Get (code_of k) (Some x))) code.code_is met in
-          subst (λ (x : Fault). Steps a b l (UpdateElement k op) (Error x) l) (sym because.2)
-          (inl (one_call a b _ l l _ _ here
+          subst (λ (x : Fault). StepsOnce a b l (UpdateElement k op) (Error x) l) (sym because.2)
+          ((once a b _ l l _ _ here
           (element_read a.keypos k op h.bounded h.fitting l position value there o code.bounded because.0 failed)))

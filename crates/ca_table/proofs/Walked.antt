@@ -1,5 +1,5 @@
 -- How walks by key end: `first`, `last`, `next` and `prev`.
-use Rattle.std.proofs.Common.{◌≡◌, ℕ, ◌≤◌, Bool, true, false, List, length, refl, sym, ◌∙◌, ap, subst, inl, inr, Some, None, arith}
+use Rattle.std.proofs.Common.{◌≡◌, ℕ, ◌≤◌, Bool, true, false, List, length, refl, sym, ◌∙◌, ap, subst, Some, None, arith}
 use Rattle.std.specs.Prelude.{nat_le}
 use Rattle.std.proofs.lemmas.Bool.Decides.{nat_tests}
 use Rattle.ca_term.specs.Tree.{Tree, Row, Tuple}
@@ -12,14 +12,13 @@ use Rattle.ca_model.specs.Edges.{Bound, Unbounded, Excluded, IsProperBound}
 use Rattle.ca_model.specs.Event.{Above, Below}
 use Rattle.ca_model.specs.Known.{Known, Meets}
 use Rattle.ca_model.specs.Answer.{FoundAbove, FoundBelow}
-use Rattle.ca_merge.specs.Steps.{Steps}
-use Rattle.ca_merge.proofs.Calls.{one_call, one_read}
 use Rattle.ca_merge.proofs.Walks.{IsKeyFound, first_call, last_call, next_call, prev_call}
 use Rattle.ca_table.specs.Codes.{HasKeyCode}
-use Rattle.ca_table.specs.ComesTo.{EditsNothing}
+use Rattle.ca_table.specs.ComesTo.{HasFound, StepsOnce}
 use Rattle.ca_table.specs.Renewed.{IsObjectCode}
 use Rattle.ca_table.proofs.Keyed.{key_begins}
 use Rattle.ca_table.proofs.ReadBack.{above_row, below_row}
+use Rattle.ca_table.proofs.Once.{once}
 
 short : {n : ℕ} → nat_le n MOST_CODE_BYTES ≡ true → n ≤ MOST_CODE_BYTES
 short e = grind (arith, nat_tests)
@@ -53,9 +52,9 @@ module _ (a b : Known) (p : ℕ) (same : p ≡ a.keypos) (positive : 1 ≤ a.key
   above_object lo e h =
       subst (λ (n : ℕ). (row : Row) × IsObjectCode n row into) (sym same) (above_row a b lo into positive (above_met lo e h))
 
-  -- It was read, and no edit was made.
-  pub above_read : (lo : Bound) → found ≡ true → FoundAbove a b lo found into → EditsNothing a b
-  above_read lo e h = inr (one_read a b (Above lo (Some into)) refl (above_met lo e h))
+  -- It was found by this call.
+  pub above_lacks : (lo : Bound) → found ≡ true → FoundAbove a b lo found into → HasFound a b (λ object. Above lo (Some object))
+  above_lacks lo e h = (into, above_met lo e h)
 
   above_found : (lo : Bound) (key : Tree) → found ≡ true → FoundAbove a b lo found into
       → ((row : Row) → IsObjectCode p row into → key ≡ key_of p (Tuple row)) → IsKeyFound a.keypos (Some into) (Value key)
@@ -76,8 +75,8 @@ module _ (a b : Known) (p : ℕ) (same : p ≡ a.keypos) (positive : 1 ≤ a.key
       subst (λ (n : ℕ). (row : Row) × IsObjectCode n row into) (sym same) (below_row a b hi into positive (below_met hi e h))
 
   -- It was read, and no edit was made.
-  pub below_read : (hi : Bound) → found ≡ true → FoundBelow a b hi found into → EditsNothing a b
-  below_read hi e h = inr (one_read a b (Below hi (Some into)) refl (below_met hi e h))
+  pub below_lacks : (hi : Bound) → found ≡ true → FoundBelow a b hi found into → HasFound a b (λ object. Below hi (Some object))
+  below_lacks hi e h = (into, below_met hi e h)
 
   below_found : (hi : Bound) (key : Tree) → found ≡ true → FoundBelow a b hi found into
       → ((row : Row) → IsObjectCode p row into → key ≡ key_of p (Tuple row)) → IsKeyFound a.keypos (Some into) (Value key)
@@ -88,21 +87,21 @@ module _ (a b : Known) (p : ℕ) (same : p ≡ a.keypos) (positive : 1 ≤ a.key
 
   -- `first` answers the key of what is found, or the table's end.
   pub first_done : (key : Tree) → found ≡ true → FoundAbove a b Unbounded found into
-      → ((row : Row) → IsObjectCode p row into → key ≡ key_of p (Tuple row)) → (l : Continuation) → Steps a b l First (Value key) l
+      → ((row : Row) → IsObjectCode p row into → key ≡ key_of p (Tuple row)) → (l : Continuation) → StepsOnce a b l First (Value key) l
   first_done key e h is l =
-      inl (one_call a b _ l l _ _ (above_met Unbounded e h) (first_call a.keypos l (Some into) (Value key) (above_found Unbounded key e h is)))
+      (once a b _ l l _ _ (above_met Unbounded e h) (first_call a.keypos l (Some into) (Value key) (above_found Unbounded key e h is)))
 
-  pub first_ends : found ≡ false → FoundAbove a b Unbounded found into → (l : Continuation) → Steps a b l First End l
-  first_ends e h l = inl (one_call a b _ l l _ _ (above_missed Unbounded e h) (first_call a.keypos l None End refl))
+  pub first_ends : found ≡ false → FoundAbove a b Unbounded found into → (l : Continuation) → StepsOnce a b l First End l
+  first_ends e h l = (once a b _ l l _ _ (above_missed Unbounded e h) (first_call a.keypos l None End refl))
 
   -- `last` does so of the other end.
   pub last_done : (key : Tree) → found ≡ true → FoundBelow a b Unbounded found into
-      → ((row : Row) → IsObjectCode p row into → key ≡ key_of p (Tuple row)) → (l : Continuation) → Steps a b l Last (Value key) l
+      → ((row : Row) → IsObjectCode p row into → key ≡ key_of p (Tuple row)) → (l : Continuation) → StepsOnce a b l Last (Value key) l
   last_done key e h is l =
-      inl (one_call a b _ l l _ _ (below_met Unbounded e h) (last_call a.keypos l (Some into) (Value key) (below_found Unbounded key e h is)))
+      (once a b _ l l _ _ (below_met Unbounded e h) (last_call a.keypos l (Some into) (Value key) (below_found Unbounded key e h is)))
 
-  pub last_ends : found ≡ false → FoundBelow a b Unbounded found into → (l : Continuation) → Steps a b l Last End l
-  last_ends e h l = inl (one_call a b _ l l _ _ (below_missed Unbounded e h) (last_call a.keypos l None End refl))
+  pub last_ends : found ≡ false → FoundBelow a b Unbounded found into → (l : Continuation) → StepsOnce a b l Last End l
+  last_ends e h l = (once a b _ l l _ _ (below_missed Unbounded e h) (last_call a.keypos l None End refl))
 
   -- ---- from a key on
 
@@ -110,28 +109,35 @@ module _ (a b : Known) (p : ℕ) (same : p ≡ a.keypos) (positive : 1 ≤ a.key
     past : edge ≡ code_of k
     past = edge_is ∙ code.code_is
 
+    -- An object was found past the key's code, or before it.
+    pub next_lacks : found ≡ true → FoundAbove a b (Excluded edge) found into → HasFound a b (λ object. Above (Excluded (code_of k)) (Some object))
+    next_lacks e h = (into, subst (λ (x : List ℕ). Meets a b (Above (Excluded x) (Some into))) past (above_met (Excluded edge) e h))
+
+    pub prev_lacks : found ≡ true → FoundBelow a b (Excluded edge) found into → HasFound a b (λ object. Below (Excluded (code_of k)) (Some object))
+    prev_lacks e h = (into, subst (λ (x : List ℕ). Meets a b (Below (Excluded x) (Some into))) past (below_met (Excluded edge) e h))
+
     -- `next` answers the key of what is found past the key's code, or the table's end.
     pub next_done : (key : Tree) → found ≡ true → FoundAbove a b (Excluded edge) found into
-        → ((row : Row) → IsObjectCode p row into → key ≡ key_of p (Tuple row)) → (l : Continuation) → Steps a b l (Next k) (Value key) l
+        → ((row : Row) → IsObjectCode p row into → key ≡ key_of p (Tuple row)) → (l : Continuation) → StepsOnce a b l (Next k) (Value key) l
     next_done key e h is l =
         let met = subst (λ (x : List ℕ). Meets a b (Above (Excluded x) (Some into))) past (above_met (Excluded edge) e h) in
-        inl (one_call a b _ l l _ _ met
+        (once a b _ l l _ _ met
         (next_call a.keypos l (Some into) (Value key) (above_found (Excluded edge) key e h is) k code.bounded code.fitting))
 
-    pub next_ends : found ≡ false → FoundAbove a b (Excluded edge) found into → (l : Continuation) → Steps a b l (Next k) End l
+    pub next_ends : found ≡ false → FoundAbove a b (Excluded edge) found into → (l : Continuation) → StepsOnce a b l (Next k) End l
     next_ends e h l =
         let met = subst (λ (x : List ℕ). Meets a b (Above (Excluded x) None)) past (above_missed (Excluded edge) e h) in
-        inl (one_call a b _ l l _ _ met (next_call a.keypos l None End refl k code.bounded code.fitting))
+        (once a b _ l l _ _ met (next_call a.keypos l None End refl k code.bounded code.fitting))
 
     -- `prev` does so of what is found before it.
     pub prev_done : (key : Tree) → found ≡ true → FoundBelow a b (Excluded edge) found into
-        → ((row : Row) → IsObjectCode p row into → key ≡ key_of p (Tuple row)) → (l : Continuation) → Steps a b l (Prev k) (Value key) l
+        → ((row : Row) → IsObjectCode p row into → key ≡ key_of p (Tuple row)) → (l : Continuation) → StepsOnce a b l (Prev k) (Value key) l
     prev_done key e h is l =
         let met = subst (λ (x : List ℕ). Meets a b (Below (Excluded x) (Some into))) past (below_met (Excluded edge) e h) in
-        inl (one_call a b _ l l _ _ met
+        (once a b _ l l _ _ met
         (prev_call a.keypos l (Some into) (Value key) (below_found (Excluded edge) key e h is) k code.bounded code.fitting))
 
-    pub prev_ends : found ≡ false → FoundBelow a b (Excluded edge) found into → (l : Continuation) → Steps a b l (Prev k) End l
+    pub prev_ends : found ≡ false → FoundBelow a b (Excluded edge) found into → (l : Continuation) → StepsOnce a b l (Prev k) End l
     prev_ends e h l =
         let met = subst (λ (x : List ℕ). Meets a b (Below (Excluded x) None)) past (below_missed (Excluded edge) e h) in
-        inl (one_call a b _ l l _ _ met (prev_call a.keypos l None End refl k code.bounded code.fitting))
+        (once a b _ l l _ _ met (prev_call a.keypos l None End refl k code.bounded code.fitting))

@@ -1,5 +1,5 @@
 -- What is collected of a run of objects, and the batches that come of it.
-use Rattle.std.specs.Prelude.{◌≡◌, ◌⊎◌, ℕ, ◌≤◌, Bool, true, false, nat_le, List, [], ◌∷◌, ◌++◌, length, map, Option, None, Some, unwrap_or}
+use Rattle.std.specs.Prelude.{◌≡◌, ◌⊎◌, ℕ, ◌≤◌, Bool, true, false, nat_le, List, [], ◌∷◌, ◌++◌, length, map, Option, None, Some, unwrap_or, if◌then◌else◌}
 use Rattle.ca_term.specs.Tree.{Tree, IsTerm, AreTerms}
 use Rattle.ca_term.specs.Code.{code_of}
 use Rattle.ca_term.specs.Object.{key_of}
@@ -54,6 +54,11 @@ CountsOnly s bytes true = (o : Tree) → IsTerm o → bytes ≡ code_of o → (r
 abbrev pub is_full : Option ℕ → ℕ → Bool
 is_full None found = false
 is_full (Some limit) found = nat_le limit found
+
+-- how many results are asked of a run, so that it may be cut behind them; 0 where it may not: there is no limit, or 32 bits don't hold it
+abbrev pub wanted : Option ℕ → ℕ
+wanted None = 0
+wanted (Some limit) = if nat_le limit 4294967295 then limit else 0
 
 -- No more than are wanted.
 abbrev pub AreUpTo : Option ℕ → ℕ → Type 0

@@ -1,12 +1,13 @@
 -- What a table passes on of its store's answers.
 use Rattle.std.specs.Prelude.{◌≡◌, ℕ, ◌+◌, ◌≤◌, Bool, true, false, List, Result, Ok, Err, Some, None}
 use Rattle.ca_ets.specs.declared.command.Reply.{Reply}
+use Rattle.ca_model.specs.declared.outcome.Cause.TheVariants as cause
 use Rattle.ca_model.specs.declared.outcome.Outcome.{Outcome}
 use Rattle.ca_model.specs.declared.outcome.Outcome.TheVariants as outcome
 use Rattle.ca_model.specs.declared.outcome.Changed.{Changed}
 use Rattle.ca_model.specs.declared.outcome.Changed.TheVariants as changed
 use Rattle.ca_model.specs.Event.{Get, Remove}
-use Rattle.ca_model.specs.Known.{Known, Meets, Declines, one_more_busy, one_more_full, one_more_deep, one_more_worn}
+use Rattle.ca_model.specs.Known.{Known, Meets, Declines, one_more}
 
 -- An outcome as the value of a call that was done, or the same refusal.
 abbrev pub IsParted : {T : Type 0} → Outcome T → Result T (Outcome Reply) → Type 0
@@ -20,10 +21,10 @@ module _ (a b : Known) (budget : ℕ) where
   -- The store refused its call so.
   abbrev pub IsRefusal : Outcome Reply → Type 0
   IsRefusal (outcome.Done reply) = ⊥
-  IsRefusal (outcome.Busy spent) = Declines a b (one_more_busy a.counts) × (budget ≤ spent.lost + spent.helped + spent.passed)
-  IsRefusal (outcome.Full cause) = Declines a b (one_more_full a.counts)
-  IsRefusal (outcome.Deep level) = Declines a b (one_more_deep a.counts)
-  IsRefusal (outcome.Worn counter) = Declines a b (one_more_worn a.counts)
+  IsRefusal (outcome.Busy spent) = Declines a b (one_more (cause.Busy spent) a.counts) × (budget ≤ spent.lost + spent.helped + spent.passed)
+  IsRefusal (outcome.Full why) = Declines a b (one_more (cause.Full why) a.counts)
+  IsRefusal (outcome.Deep level) = Declines a b (one_more (cause.Deep level) a.counts)
+  IsRefusal (outcome.Worn counter) = Declines a b (one_more (cause.Worn counter) a.counts)
 
 module _ (a b : Known) where
   -- The key's object was these bytes and is removed, or is another one and stays, or there is none.

@@ -10,6 +10,7 @@ ghost use Rattle.ca_table.specs.Collected.{IsBatch, IsNextOf, IsPlaceOf, IsStopp
 ghost use Rattle.ca_table.specs.ComesTo.{ComesToFrom};
 
 use crate::codes::key_code;
+use crate::kept::Object;
 use crate::outcome::{Played, Stop};
 use crate::run::is_full;
 use crate::select::specification;
@@ -173,7 +174,7 @@ fn next_of(
     spec: &Spec,
     limit: u64,
     keypos: u32,
-    last: Option<Term>,
+    last: Option<Object>,
     full: bool,
 ) -> Result<Cont, AllocError>
     requires keypos { 1 ≤ keypos }
@@ -185,6 +186,9 @@ fn next_of(
         return Ok(Cont::AtEnd);
     }
     let Some(object) = last else { unreachable!() };
+    let Ok(object) = object.term(alloc) else {
+        return Err(AllocError);
+    };
     let (Ok(spec), Ok(key)) = (
         try_copy(alloc, spec.source()),
         try_copy(alloc, key(&object, keypos)),

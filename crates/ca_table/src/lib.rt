@@ -3,6 +3,7 @@
 
 mod batch;
 mod codes;
+mod kept;
 mod laws;
 mod listing;
 mod outcome;

@@ -1,23 +1,23 @@
 //! Results of the objects of a run.
-ghost use Rattle.std.specs.Prelude.{◌≡◌, ◌⊎◌, ◌≤◌, [], IfErr, IfOk, OnOk, None, Some};
+ghost use Rattle.std.specs.Prelude.{◌≡◌, ◌≤◌, [], IfErr, IfOk, OnOk, None};
 ghost use Rattle.ca_order.specs.Languages.{IsTermCode};
 ghost use Rattle.ca_model.specs.Edges.{IsProperBound, bound_of};
 ghost use Rattle.ca_model.specs.Known.{StaysBesideRun};
-ghost use Rattle.ca_table.specs.Collected.{AddsObject, AreCollected, AreWithin, CountsOnly, IsOpenRun, IsStopped, is_full, left_of};
+ghost use Rattle.ca_table.specs.Collected.{AddsObject, AreCollected, AreWithin, CountsOnly, IsOpenRun, IsStopped, is_full, left_of, wanted};
 
-use crate::listing::term_of;
+use crate::kept::Object;
 use crate::outcome::{Stop, done};
 use ca_model::{Code, Edge, OrderedStore};
 use ca_order::decode;
-use ca_spec::{Spec, apply};
-use ca_term::{Term, Terms};
+use ca_spec::{Spec, apply, apply_code};
+use ca_term::Terms;
 use std::alloc::{AllocError, Global};
 
 // What is collected of a run: results in key order, and the last object that gave one.
 #[derive(Drop)]
 pub(crate) struct Collected {
     pub results: Terms,
-    pub last: Option<Term>,
+    pub last: Option<Object>,
 }
 
 impl Collected {
@@ -37,14 +37,13 @@ impl Collected {
         requires { IsTermCode code.now.items }
         ensures { OnOk result (AddsObject spec.now code.now.items self.old.results.items self.old.last self.new.results.items self.new.last) }
     {
-        let object = term_of(alloc, code.as_slice())?;
-        let Some(found) = apply(alloc, spec, &object)? else {
+        let Some(found) = apply_code(alloc, spec, code.as_slice())? else {
             return Ok(());
         };
         let Ok(()) = self.results.push(found) else {
             return Err(AllocError);
         };
-        self.last = Some(object);
+        self.last = Some(Object::of(code));
         Ok(())
     }
 }
@@ -92,9 +91,9 @@ fn gives_result(alloc: Global, spec: &Spec, code: &[u8]) -> bool
     matches!(apply(alloc, spec, &object), Ok(Some(_)))
 }
 
-// How many results a run wants that may be cut; 0 where it may not.
+// How many results a run wants that may be cut; 0 where it may not: without a limit, and where the limit is more than a run may want.
 fn wanted(limit: Option<u64>) -> u32
-    ensures { (result ≡ 0) ⊎ (limit ≡ Some result) }
+    ensures { result ≡ wanted limit }
 {
     match limit {
         Some(limit) => u32::try_from(limit).unwrap_or(0),

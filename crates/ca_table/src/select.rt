@@ -98,6 +98,7 @@ impl<S: OrderedStore + Drop> Table<S> {
     fn select_all(&mut self, alloc: Global, spec: &Spec, budget: u32) -> Played
         requires budget { 1 ≤ budget }
         requires specification { IsSpecification spec.now }
+        requires several { shared_key self.old.keypos spec.now ≡ None }
         ensures { ComesTo self.old self.new budget (Select spec.now) result }
     {
         match self.within(alloc, spec, Edge::Open, Edge::Open, None, budget) {

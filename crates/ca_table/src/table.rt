@@ -1,10 +1,11 @@
 //! A table over a store.
-ghost use Rattle.std.specs.Prelude.{◌≡◌, ◌≤◌, None, length, map, slice_range, IfOk, IfErr, IsOk, IsTrue, OnOk, OnErr};
+ghost use Rattle.std.specs.Prelude.{◌≡◌, ◌≤◌, None, Some, false, length, map, slice_range, IfOk, IfErr, IsOk, IsTrue, OnOk, OnErr};
 ghost use Rattle.ca_term.specs.Add.{addition_of};
+ghost use Rattle.ca_term.specs.Object.{fits};
 ghost use Rattle.ca_term.specs.Tree.{Tree};
 ghost use Rattle.ca_term.specs.Updates.{is_open};
 ghost use Rattle.ca_order.specs.Patches.{IsElementCode};
-ghost use Rattle.ca_ets.specs.declared.command.Cmd.TheVariants.{Insert, InsertNew, Lookup, Member, Delete, Take, UpdateCounter, UpdateElement, First, Last, Next, Prev};
+ghost use Rattle.ca_ets.specs.declared.command.Cmd.TheVariants.{Insert, InsertNew, Lookup, Member, Delete, Take, UpdateCounter, UpdateElement, First, Last, Next, Prev, Select};
 ghost use Rattle.ca_ets.specs.Command.{IsContinuation, continuation_of};
 ghost use Rattle.ca_model.specs.Known.{Known, Meets, Stays};
 ghost use Rattle.ca_model.specs.Edges.{bound_of, IsProperBound};
@@ -12,6 +13,7 @@ ghost use Rattle.ca_model.specs.Event.{Write, WriteNew};
 ghost use Rattle.ca_model.specs.Answer.{FoundAbove, FoundBelow, Got, Removed, IsDone, IsNeverDeep};
 ghost use Rattle.ca_model.specs.StoreMap.{IsPair};
 ghost use Rattle.ca_ets.specs.Step.{fault_of_object};
+ghost use Rattle.ca_plan.specs.Plan.{shared_key};
 ghost use Rattle.ca_table.specs.Codes.{HasObjectCode};
 ghost use Rattle.ca_table.specs.Collected.{AreWithin, IsStopped};
 ghost use Rattle.ca_ets.specs.Unless.{IsUnless};
@@ -78,6 +80,7 @@ impl<S: OrderedStore + Drop> Table<S> {
         requires continuation { IsContinuation (continuation_of cont.old) }
         ensures comes { ComesToFrom self.old self.new budget cmd.now (continuation_of cont.old) (continuation_of cont.new) result }
         ensures continuation { IsContinuation (continuation_of cont.new) }
+        ensures stays { (s key : Tree) → cmd.now ≡ Select s → shared_key self.old.keypos s ≡ Some key → fits key ≡ false → Stays self.old self.new }
         ensures read { IsEmptyUpdate self.old.keypos cmd.now → EditsNothing self.old self.new }
         ensures done { IsEmptyUpdate self.old.keypos cmd.now → IfOk result (λ outcome. IsDone outcome) }
     {
@@ -402,6 +405,7 @@ impl<S: OrderedStore + Drop> Table<S> {
     // Makes room for a new key.
     fn reserve(&mut self) -> Result<(), AllocError>
         ensures room { OnOk result (1 ≤ self.new.spare) }
+        ensures lack { OnErr result (self.old.spare ≡ 0) }
         ensures stays { Stays self.old self.new }
     {
         self.store.reserve()

@@ -1,4 +1,4 @@
-use Rattle.std.proofs.Common.{rules, ◌≡◌, ◌<◌, ◌+◌, ◌-◌, ◌∷◌, List, map, subst, arith}
+use Rattle.std.proofs.Common.{rules, ◌≡◌, ◌<◌, ◌+◌, ◌-◌, ◌∷◌, List, subst, arith}
 use Rattle.ca_cmd.specs.File.{Numbered, commands_in}
 use Rattle.ca_cmd.specs.Generator.{generated}
 use Rattle.ca_cmd.specs.Lines.{numbered}

@@ -3,8 +3,6 @@ use Rattle.ca_term.specs.Tree.{Tree}
 use Rattle.ca_model.specs.Known.{Known}
 use Rattle.ca_merge.specs.Stands.{Stands}
 use Rattle.ca_cmd.specs.File.{commands_in}
-use Rattle.ca_cli.specs.Headline.{AllAreReplies}
-use Rattle.ca_cli.specs.InTurn.{run_in_turn}
 use Rattle.ca_cli.specs.Played.{HaveLeft}
 use Rattle.ca_cli.specs.Summary.{clients_from, summary_text}
 use Rattle.ca_cli.proofs.InTurn.{all_replies}

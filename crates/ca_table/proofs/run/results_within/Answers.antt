@@ -1,5 +1,5 @@
 use Rattle.ca_model.specs.Edges.{bound_of}
-use Rattle.ca_table.proofs.Collecting.{opened_run, range_opens, run_within, run_lacks}
+use Rattle.ca_table.proofs.Collecting.{none_or_limit, opened_run, range_opens, run_within, run_lacks}
 use Rattle.ca_table.proofs.run.results_within.Goals as goal
 
 pub collect-collected-requires : goal.collect-collected-requires
@@ -17,7 +17,7 @@ returns-in-Ok-clause-within g c =
     let o = range_opens _ _ a b (bound_of c.args.lo) (bound_of c.args.hi) c.wanted.result c.range.result c.done.result c.done.ensures
     c.in_default.not-Err c.range.ensures.opens in
     run_within _ _ c.args.spec.now (λ shown answer met. met) a b _ _ (bound_of c.args.lo) (bound_of c.args.hi) c.wanted.result c.args.limit o.0 _ _
-    c.wanted.ensures o.1 c.in-Ok.ensures.collected c.collect-collected.ensures.stays c.close_run.ensures.stays
+    (none_or_limit c.args.limit c.wanted.result c.wanted.ensures) o.1 c.in-Ok.ensures.collected c.collect-collected.ensures.stays c.close_run.ensures.stays
 
 pub returns-in-Err-collected-clause-stopped : goal.returns-in-Err-collected-clause-stopped
 returns-in-Err-collected-clause-stopped g c =

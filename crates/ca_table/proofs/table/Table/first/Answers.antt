@@ -1,5 +1,5 @@
 use Rattle.ca_model.specs.Edges.{Unbounded}
-use Rattle.ca_table.proofs.Walked.{above_object, above_read, first_done, first_ends}
+use Rattle.ca_table.proofs.Walked.{above_object, above_lacks, first_done, first_ends}
 use Rattle.ca_table.proofs.table.Table.first.Goals as goal
 
 pub key_of-requires : goal.key_of-requires
@@ -9,7 +9,7 @@ key_of-requires g c =
 
 pub returns-in_default : goal.returns-in_default
 returns-in_default g c =
-    above_read c.args.self.now _ _ c.keypos-keypos.ensures.value c.keypos-keypos.ensures.positive _ _ Unbounded c.in-Ok-true.field-0-test
+    above_lacks c.args.self.now _ _ c.keypos-keypos.ensures.value c.keypos-keypos.ensures.positive _ _ Unbounded c.in-Ok-true.field-0-test
     c.in-Ok-true.ensures.found
 
 pub returns-in-Ok-true : goal.returns-in-Ok-true

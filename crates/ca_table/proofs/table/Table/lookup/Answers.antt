@@ -1,5 +1,4 @@
-use Rattle.std.proofs.Common.{inr}
-use Rattle.ca_table.proofs.Keyed.{key_begins, lookup_none, lookup_one, only_read, read_code}
+use Rattle.ca_table.proofs.Keyed.{key_begins, lookup_none, lookup_one, got_some, read_code}
 use Rattle.ca_table.proofs.table.Table.lookup.Goals as goal
 
 pub get-requires-clause-key : goal.get-requires-clause-key
@@ -14,7 +13,7 @@ only-requires g c = read_code c.args.key.now _ c.in_default.ensures.1 c.args.sel
 
 pub returns-in_default-only-clause-comes : goal.returns-in_default-only-clause-comes
 returns-in_default-only-clause-comes g c =
-    inr (only_read c.args.key.now _ c.in_default.ensures.1 c.args.self.now _ _ _ c.if-not-get.false c.get.ensures)
+    (_, got_some c.args.key.now _ c.in_default.ensures.1 c.args.self.now _ _ _ c.if-not-get.false c.get.ensures)
 
 pub returns-clause-comes : goal.returns-clause-comes
 returns-clause-comes g c =

@@ -1,7 +1,7 @@
 use Rattle.std.proofs.Common.{List, ℕ, arith, length, sym, ap, subst}
 use Rattle.ca_ets.specs.declared.command.Cmd.TheVariants.{More}
 use Rattle.ca_ets.specs.Command.{Continuation, continuation_of, response_of}
-use Rattle.ca_merge.specs.Steps.{Steps}
+use Rattle.ca_table.specs.ComesTo.{StepsOnce}
 use Rattle.ca_table.specs.Codes.{HasKeyCode}
 use Rattle.ca_table.proofs.Keyed.{key_begins}
 use Rattle.ca_table.proofs.Selecting.{behind_place, more_done}
@@ -18,6 +18,6 @@ returns-in-Ok-clause-comes g c =
     let b = behind_place (continuation_of c.args.cont.now) c.in-Ok-Behind.spec c.in-Ok-Behind.limit c.place_of.new.code.items c.requires.continuation
     (rw c.in-Ok-Behind.field-0-is at c.in-Ok-Behind.ensures) in
     let code = subst (λ (x : List ℕ). HasKeyCode b.key x) (sym c.as_slice.ensures.value) b.code_is in
-    subst (λ (k : Continuation). Steps c.args.self.now c.next_batch.new.self k More (response_of c.in-Ok.reply) (continuation_of c.in-Ok.next)) (sym b.is)
+    subst (λ (k : Continuation). StepsOnce c.args.self.now c.next_batch.new.self k More (response_of c.in-Ok.reply) (continuation_of c.in-Ok.next)) (sym b.is)
     (more_done c.args.self.now c.next_batch.new.self c.in-Ok-Behind.spec b.accepted c.in-Ok-Behind.limit (response_of c.in-Ok.reply)
     (continuation_of c.in-Ok.next) b.key c.as_slice.result.now code c.in-Ok.ensures.batch)

@@ -1,5 +1,5 @@
 use Rattle.ca_model.specs.Edges.{Excluded}
-use Rattle.ca_table.proofs.Walked.{proper_key, above_object, above_read, next_done, next_ends}
+use Rattle.ca_table.proofs.Walked.{proper_key, above_object, next_lacks, next_done, next_ends}
 use Rattle.ca_table.proofs.table.Table.next.Goals as goal
 
 pub above-requires-clause-edge : goal.above-requires-clause-edge
@@ -12,8 +12,8 @@ key_of-requires g c =
 
 pub returns-in_default-key_of : goal.returns-in_default-key_of
 returns-in_default-key_of g c =
-    above_read c.args.self.now _ _ c.keypos-keypos.ensures.value c.keypos-keypos.ensures.positive _ _ (Excluded c.as_slice.result.now)
-    c.in-Ok-true.field-0-test c.in-Ok-true.ensures.found
+    next_lacks c.args.self.now _ _ c.keypos-keypos.ensures.value c.keypos-keypos.ensures.positive _ _ c.args.key.now _ _
+    c.in_default.ensures.1 c.as_slice.ensures.value c.in-Ok-true.field-0-test c.in-Ok-true.ensures.found
 
 pub returns-in-Ok-true : goal.returns-in-Ok-true
 returns-in-Ok-true g c =

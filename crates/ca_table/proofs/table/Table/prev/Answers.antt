@@ -1,5 +1,5 @@
 use Rattle.ca_model.specs.Edges.{Excluded}
-use Rattle.ca_table.proofs.Walked.{proper_key, below_object, below_read, prev_done, prev_ends}
+use Rattle.ca_table.proofs.Walked.{proper_key, below_object, prev_lacks, prev_done, prev_ends}
 use Rattle.ca_table.proofs.table.Table.prev.Goals as goal
 
 pub below-requires-clause-edge : goal.below-requires-clause-edge
@@ -12,8 +12,8 @@ key_of-requires g c =
 
 pub returns-in_default-key_of : goal.returns-in_default-key_of
 returns-in_default-key_of g c =
-    below_read c.args.self.now _ _ c.keypos-keypos.ensures.value c.keypos-keypos.ensures.positive _ _ (Excluded c.as_slice.result.now)
-    c.in-Ok-true.field-0-test c.in-Ok-true.ensures.found
+    prev_lacks c.args.self.now _ _ c.keypos-keypos.ensures.value c.keypos-keypos.ensures.positive _ _ c.args.key.now _ _
+    c.in_default.ensures.1 c.as_slice.ensures.value c.in-Ok-true.field-0-test c.in-Ok-true.ensures.found
 
 pub returns-in-Ok-true : goal.returns-in-Ok-true
 returns-in-Ok-true g c =

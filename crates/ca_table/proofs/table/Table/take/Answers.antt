@@ -1,6 +1,6 @@
 use Rattle.std.proofs.Common.{inr, refl}
 use Rattle.ca_table.proofs.Refusing.{refused_behind_reads}
-use Rattle.ca_table.proofs.Keyed.{key_begins, take_none, take_put, take_gone, take_overtaken, only_read, read_code}
+use Rattle.ca_table.proofs.Keyed.{key_begins, take_none, take_put, take_gone, take_overtaken, got_some, only_read, read_code}
 use Rattle.ca_table.proofs.table.Table.take.Goals as goal
 
 pub get-requires-clause-key : goal.get-requires-clause-key
@@ -15,7 +15,7 @@ only-requires g c = read_code c.args.key.now _ c.in_default.ensures.1 c.args.sel
 
 pub returns-in_default-only : goal.returns-in_default-only
 returns-in_default-only g c =
-    inr (only_read c.args.key.now _ c.in_default.ensures.1 c.args.self.now _ _ _ c.if-not-get.false c.get.ensures)
+    (_, got_some c.args.key.now _ c.in_default.ensures.1 c.args.self.now _ _ _ c.if-not-get.false c.get.ensures)
 
 pub remove_same-requires-clause-key : goal.remove_same-requires-clause-key
 remove_same-requires-clause-key g c = key_begins c.args.key.now _ c.in_default.ensures.1
