@@ -3,9 +3,10 @@ ghost use Rattle.std.specs.Prelude.{◌≤◌};
 
 use crate::say::{say, say_term, say_value};
 use ca_match::match_result;
+use ca_order::{Code, encode};
 use ca_plan::{Plan, plan};
-use ca_spec::{apply, compile};
-use ca_term::Term;
+use ca_spec::{Spec, apply, apply_code, compile};
+use ca_term::{Term, term_order};
 use std::alloc::{AllocError, Global};
 
 /// The term of a specification, once it is compiled.
@@ -27,11 +28,37 @@ fn say_result(found: Result<Option<Term>, AllocError>, into: &mut Vec<u8>) {
     }
 }
 
-/// What a compiled specification makes of an object.
+/// What a compiled specification makes of an object, and what it makes of the object's code, where that differs.
 pub(crate) fn say_applied(alloc: Global, spec: &Term, object: &Term, into: &mut Vec<u8>) {
     match compile(alloc, spec) {
-        Ok(spec) => say_result(apply(alloc, &spec, object), into),
+        Ok(spec) => say_both(alloc, &spec, object, into),
         Err(fault) => say_value(alloc, &fault, into),
+    }
+}
+
+fn say_both(alloc: Global, spec: &Spec, object: &Term, into: &mut Vec<u8>) {
+    let found = apply(alloc, spec, object);
+    let mut code = Code::new();
+    let by_code = match encode(object, &mut code) {
+        Ok(()) => {
+            let _kind = object.kind();
+            apply_code(alloc, spec, code.as_slice())
+        }
+        Err(_) => apply(alloc, spec, object),
+    };
+    let differs = !is_same(&found, &by_code);
+    say_result(found, into);
+    if differs {
+        say(b", and by its code ", into);
+        say_result(by_code, into);
+    }
+}
+
+fn is_same(a: &Result<Option<Term>, AllocError>, b: &Result<Option<Term>, AllocError>) -> bool {
+    match (a, b) {
+        (Ok(Some(a)), Ok(Some(b))) => term_order(a, b).is_eq(),
+        (Ok(None), Ok(None)) => true,
+        _ => false,
     }
 }
 
