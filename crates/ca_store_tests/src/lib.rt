@@ -6,6 +6,8 @@
 #[cfg(test)]
 mod edit;
 #[cfg(test)]
+mod library;
+#[cfg(test)]
 mod list_tests;
 #[cfg(test)]
 mod outside_tests;
