@@ -6,8 +6,8 @@ use Rattle.ca_model.specs.StoreMap.{IsStoreMap}
 use Rattle.ca_node.specs.Laws.{in_nothing}
 use Rattle.ca_node.specs.Links.{IsIn}
 use Rattle.ca_node.specs.Row.{count, items, key, pair}
-use Rattle.ca_node.specs.Told.{MyTree, Division, IsDivision, IsDivided, given}
-use Rattle.ca_node.specs.TreeView.{Note, TreeView}
+use Rattle.ca_node.specs.Told.{MyTree, IsDivision, IsDivided, given}
+use Rattle.ca_node.specs.TreeView.{Note, TreeView, Division}
 use Rattle.ca_node.specs.declared.cursor.Cursor.{Cursor}
 use Rattle.ca_node.proofs.HeldRows.{AreApart, given_fewer, taken_out_no_more}
 use Rattle.ca_node.proofs.Looking.{in_more}

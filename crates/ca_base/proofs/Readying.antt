@@ -12,6 +12,7 @@ use Rattle.ca_node.specs.Row.{count, object, key, pair}
 use Rattle.ca_node.specs.Told.{MyTree, IsUpdate}
 use Rattle.ca_node.specs.TreeView.{Note, TreeView}
 use Rattle.ca_base.specs.declared.updating.Putting.{Putting}
+use Rattle.ca_rows.specs.declared.view.Met.{Met}
 use Rattle.ca_base.specs.Putting.{put_in, object_at, IsRoom, IsPlaceFor, IsFor, IsShownLast, HasRenewed, HasSwapped, first_note, last_items, words_of, put_event, put_update, put_update_of}
 use Rattle.ca_base.specs.Writing.{IsRewritten, SpellsObject, SpellsBase}
 use Rattle.ca_base.proofs.Rebasing.{new_base, note_is, words_are}
@@ -71,10 +72,10 @@ module _ (z : Sizes) (m0 m1 m2 m3 : MyTree) (row new base : ℕ) (place : Result
       → HasSwapped (put_event why (slice_range bytes key_at key_end) (object_at place note.objects) bytes) z won m0.0.upper v
   tried won v h = subst (λ (x : Event × TreeView). HasSwapped x.0 z won x.1 v) (λ i. (is_event i, upper i)) h
 
-  pub renewed_so : (won : Bool) (v : TreeView)
-      → HasRenewed z (get_or (put_update_of m3 row new place why).its 1 0) (put_update_of m3 row new place why).edit (Ok won) m3.0.upper v
-      → HasRenewed z statistic (Put (slice_range bytes key_at key_end) bytes) (Ok won) m0.0.upper v
-  renewed_so won v h = subst (λ (x : ℕ × Edit × TreeView). HasRenewed z x.0 x.1 (Ok won) x.2 v)
+  pub renewed_so : (met : Met) (won : Bool) (v : TreeView)
+      → HasRenewed z met (get_or (put_update_of m3 row new place why).its 1 0) (put_update_of m3 row new place why).edit (Ok won) m3.0.upper v
+      → HasRenewed z met statistic (Put (slice_range bytes key_at key_end) bytes) (Ok won) m0.0.upper v
+  renewed_so met won v h = subst (λ (x : ℕ × Edit × TreeView). HasRenewed z met x.0 x.1 (Ok won) x.2 v)
       (λ i. (
         (ap (λ (its : List ℕ). get_or its 1 0) (words_are new b m2 m3 wrote_too) ∙ two.statistic_is) i,
         (ap (λ (its : List ℕ). Put (key its) (object its)) is_a

@@ -7,9 +7,11 @@ use Rattle.ca_model.specs.History.{after_edit}
 use Rattle.ca_node.specs.Links.{IsIn}
 use Rattle.ca_node.specs.Place.{edit_key}
 use Rattle.ca_node.specs.Row.{IsObjectRow, items, pair}
+use Rattle.ca_rows.specs.Told.{met_of}
 use Rattle.ca_node.specs.Told.{MyTree, Update, IsBaseNote, IsUpdate, IsUpdated, updated}
 use Rattle.ca_node.specs.TreeView.{Note, TreeView}
 use Rattle.ca_node.proofs.Members.{in_first, in_rest}
+use Rattle.ca_base.specs.Counting.{losses, HasMet}
 use Rattle.ca_base.specs.Putting.{IsRenewed, first_note, renewal_of}
 use Rattle.ca_base.specs.Taking.{HasHeld}
 use Rattle.ca_base.proofs.Inserting.{elem_or, within}
@@ -73,9 +75,9 @@ module _ (z : Sizes) (kept : Vec Kept Global) (m : MyTree) (new : ℕ) (x : Upda
   first_is = ap first_note up.shown.1
 
   pub renewed : (m' : MyTree) (v : TreeView) → length x.comes ≤ 1 → IsUpdated new x m m' → v ≡ m'.0.upper
-      → IsRenewed z (get_or x.its 1 0) x.edit m.0.upper v
-  renewed m' v few u same = let w : v ≡ updated m.0.upper u.more new x = same ∙ ap (λ (y : MyTree). y.0.upper) u.now in
-      subst (IsRenewed z (get_or x.its 1 0) x.edit m.0.upper) (sym w) record {
+      → IsRenewed z (met_of m) (get_or x.its 1 0) x.edit m.0.upper v
+  renewed m' v few u same = let w : v ≡ updated (met_of m) m.0.upper u.more new x = same ∙ ap (λ (y : MyTree). y.0.upper) u.now in
+      subst (IsRenewed z (met_of m) (get_or x.its 1 0) x.edit m.0.upper) (sym w) record {
         notes = refl;
         ways = refl;
         is_base = is_base_note;
@@ -85,11 +87,19 @@ module _ (z : Sizes) (kept : Vec Kept Global) (m : MyTree) (new : ℕ) (x : Upda
         same_splits = refl;
         same_cuts = refl;
         same_lost = refl;
+        same_loads = refl;
         last = refl;
         inventory = (x, sym first_is, few, refl);
-        renewal = ap (λ (n : Note). renewal_of m.0.upper (edit_key x.edit) n new_note) (sym first_is);
+        renewal = ap (λ (n : Note). renewal_of (met_of m) m.0.upper (edit_key x.edit) n new_note) (sym first_is);
       }
 
   -- It is the row that took the old one's place.
   pub placed : (m' : MyTree) (v : TreeView) → IsUpdated new x m m' → v ≡ m'.0.upper → new ≡ (first_note v.notes).row
   placed m' v u same = ap (λ (w : TreeView). (first_note w.notes).row) (sym (same ∙ ap (λ (y : MyTree). y.0.upper) u.now))
+
+-- What was met of the pool as an update was carried out is met still, once the rows that went were retired.
+pub met_still : (m m' l : MyTree) → met_of m' ≡ met_of m → losses l ≡ losses m' → HasMet 0 0 m' l → l.0.upper ≡ m'.0.upper → l.0.pin ≡ m'.0.pin
+    → met_of m ≡ met_of l
+met_still m m' l same lost met upper pin = let links = ap (λ (u : TreeView). u.lost) upper in let pool : l.0.lost ≡ m'.0.lost = omega arith in
+    let empty : l.0.empty ≡ m'.0.empty = omega (arith, met.0) in let worn : l.0.worn ≡ m'.0.worn = omega (arith, met.1) in
+    let now : met_of l ≡ met_of m' = λ i. record { lost = pool i; empty = empty i; worn = worn i; lags = (pin i).lags } in sym (now ∙ same)

@@ -18,6 +18,7 @@ use Rattle.ca_node.specs.Place.{HasKey}
 use Rattle.ca_node.specs.Row.{items, count, pair}
 use Rattle.ca_node.specs.Told.{MyTree, IsUpdate}
 use Rattle.ca_node.specs.TreeView.{Note, TreeView}
+use Rattle.ca_rows.specs.declared.view.Met.{Met}
 use Rattle.ca_base.specs.Putting.{object_at, IsShownLast, HasRenewed, HasSwapped, first_note, last_items}
 use Rattle.ca_base.specs.Removing.{key_at, take_update, update_of}
 use Rattle.ca_base.specs.declared.swapping.Deed.TheVariants as deed
@@ -126,10 +127,10 @@ module _ (z : Sizes) (first before now : MyTree) (new base at statistic : ℕ) (
         upper i,
       )) h
 
-  pub renewed_without : (won : Bool) (v : TreeView)
-      → HasRenewed z (get_or (update_of now new (deed.Remove at)).its 1 0) (update_of now new (deed.Remove at)).edit (Ok won) now.0.upper v
-      → HasRenewed z statistic (Del k) (Ok won) first.0.upper v
-  renewed_without won v h = subst (λ (x : ℕ × Edit × TreeView). HasRenewed z x.0 x.1 (Ok won) x.2 v)
+  pub renewed_without : (met : Met) (won : Bool) (v : TreeView)
+      → HasRenewed z met (get_or (update_of now new (deed.Remove at)).its 1 0) (update_of now new (deed.Remove at)).edit (Ok won) now.0.upper v
+      → HasRenewed z met statistic (Del k) (Ok won) first.0.upper v
+  renewed_without met won v h = subst (λ (x : ℕ × Edit × TreeView). HasRenewed z met x.0 x.1 (Ok won) x.2 v)
       (λ i. (
         (ap (λ (its : List ℕ). get_or its 1 0) (words_are new b before now wrote) ∙ spells.statistic_is) i,
         (ap (λ (x : Note). Del (key_at at x.objects)) (note_is first now upper) ∙ ap Del key_same) i,

@@ -2,8 +2,8 @@
 use Rattle.std.proofs.Common.{◌≡◌, ℕ, Bool, true, false, ap, ◌∙◌}
 use Rattle.ca_rows.specs.declared.tally.Tally.{Tally}
 use Rattle.ca_node.specs.Tallied.{IsTallied, HasTallied}
-use Rattle.ca_node.specs.Told.{MyTree, Division, HasDivided, Update, HasUpdated}
-use Rattle.ca_node.specs.TreeView.{TreeView}
+use Rattle.ca_node.specs.Told.{MyTree, HasDivided, Update, HasUpdated}
+use Rattle.ca_node.specs.TreeView.{TreeView, Division}
 use Rattle.ca_node.proofs.Tallies.{tallied_still, tallied_split}
 
 -- The same is known, and the same is counted.

@@ -8,6 +8,7 @@ use Rattle.ca_model.specs.Event.{effect}
 use Rattle.ca_model.specs.Lawful.{IsPlaceFrom}
 use Rattle.ca_node.specs.Laws.{in_nothing}
 use Rattle.ca_node.specs.Links.{IsIn}
+use Rattle.ca_rows.specs.Told.{met_of}
 use Rattle.ca_node.specs.Told.{MyTree, IsKnown, Update, IsUpdated, given, one_more_lost, taken_out, updated, with_upper}
 use Rattle.ca_node.specs.TreeView.{TreeView}
 use Rattle.ca_node.proofs.HeldRows.{AreApart, given_fewer, taken_out_no_more}
@@ -116,7 +117,7 @@ swapped rows kept kept' m m' new x base ins outs comes same goes u too apart h =
 -- The call that carried out an update is done.
 pub is_done : (z : Sizes) (new : ℕ) (x : Update) (m m' : MyTree) (v : TreeView) → m.0.sizes ≡ z → 0 < z.rows → effect x.event ≡ x.edit ∷ []
     → IsUpdated new x m m' → v ≡ m'.0.upper → HasDone x.event m.0.upper v × IsKnown z v
-is_done z new x m m' v sizes some_rows does u same = let w : v ≡ updated m.0.upper u.more new x = same ∙ ap (λ (y : MyTree). y.0.upper) u.now in
+is_done z new x m m' v sizes some_rows does u same = let w : v ≡ updated (met_of m) m.0.upper u.more new x = same ∙ ap (λ (y : MyTree). y.0.upper) u.now in
     let some_rows' : 0 < m.0.sizes.rows = subst (λ (y : Sizes). 0 < y.rows) (sym sizes) some_rows in
     subst (λ (y : TreeView). HasDone x.event m.0.upper y × IsKnown z y) (sym w) (
       record {
@@ -128,7 +129,7 @@ is_done z new x m m' v sizes some_rows does u same = let w : v ≡ updated m.0.u
         log = refl;
         counts = refl;
       },
-      subst (λ (y : Sizes). IsKnown y (updated m.0.upper u.more new x)) sizes (u.known some_rows'),
+      subst (λ (y : Sizes). IsKnown y (updated (met_of m) m.0.upper u.more new x)) sizes (u.known some_rows'),
     )
 
 -- A row that is held was written: the same rows are held.

@@ -14,6 +14,7 @@ use Rattle.ca_base.specs.declared.updating.Putting.{Putting}
 use Rattle.ca_base.specs.declared.updating.Putting.TheVariants as putting
 use Rattle.ca_base.specs.Progress.{HasDone}
 use Rattle.ca_rows.specs.declared.sizes.Sizes.{Sizes}
+use Rattle.ca_rows.specs.declared.view.Met.{Met}
 use Rattle.ca_rows.specs.declared.view.Claim.{Claim}
 use Rattle.ca_rows.specs.declared.view.Claim.TheVariants.{Holds, Lends, Unlinked, Keeps, Returns}
 use Rattle.ca_rows.specs.Claims.{claim_of}
@@ -113,33 +114,44 @@ abbrev pub HasTried : Event → Sizes → Result Bool NoRow → TreeView → Tre
 HasTried event z (Ok won) u v = HasSwapped event z won u v
 HasTried event z (Err why) u v = v ≡ u
 
--- one update more: about this key, of the base that was there, by the one that took its place
-abbrev pub renewal_of : TreeView → List ℕ → Note → Note → Renewal
-renewal_of u key old new = record { count = u.renewal.count + 1; key = key; old = old; new = new; lost = u.lost; splits = u.splits }
+-- one update more: about this key, of the base that was there, by the one that took its place, given what was met of the pool until then
+abbrev pub renewal_of : Met → TreeView → List ℕ → Note → Note → Renewal
+renewal_of met u key old new = record {
+  count = u.renewal.count + 1;
+  key = key;
+  old = old;
+  new = new;
+  lost = u.lost;
+  splits = u.splits;
+  loads = u.loads;
+  met = met;
+}
 
--- A new base was shown, at the place of the one that was shown last: it has what that one had after the edit, and this word for its statistic.
-pub record IsRenewed (z : Sizes) (statistic : ℕ) (edit : Edit) (u v : TreeView) : Type 0 where
+-- A new base was shown, at the place of the one that was shown last: it has what that one had after the edit, and this word for its statistic. So
+-- much had been met of the pool until then.
+pub record IsRenewed (z : Sizes) (met : Met) (statistic : ℕ) (edit : Edit) (u v : TreeView) : Type 0 where
   pub notes : v.notes ≡ first_note v.notes ∷ u.notes
   pub ways : v.ways ≡ u.ways
   pub is_base : IsBaseNote z (first_note v.notes)
   pub place : (first_note v.notes).place ≡ (first_note u.notes).place
   pub has : map pair (first_note v.notes).objects ≡ after_edit edit (map pair (first_note u.notes).objects)
   pub statistic_is : slice_index (first_note v.notes).its 1 ≡ statistic
-  -- No base was split, and no exchange of a link was lost.
+  -- No base was split, no exchange of a link was lost, and no link was loaded.
   pub same_splits : v.splits ≡ u.splits
   pub same_cuts : v.cuts ≡ u.cuts
   pub same_lost : v.lost ≡ u.lost
+  pub same_loads : v.loads ≡ u.loads
   -- It is the base that was shown last, and the pass's last update is this one.
   pub last : v.last ≡ first_note v.notes
   -- The tree has the new base in the place of the old one, and one object row more at most.
   pub inventory : (x : Update) × (x.old ≡ first_note u.notes) × (length x.comes ≤ 1) × (v.inventory ≡ updated_inventory (first_note v.notes).row x u.inventory)
-  pub renewal : v.renewal ≡ renewal_of u (edit_key edit) (first_note u.notes) (first_note v.notes)
+  pub renewal : v.renewal ≡ renewal_of met u (edit_key edit) (first_note u.notes) (first_note v.notes)
 
 -- So it is where the exchange of a base won.
-abbrev pub HasRenewed : Sizes → ℕ → Edit → Result Bool NoRow → TreeView → TreeView → Type 0
-HasRenewed z statistic edit (Ok true) u v = IsRenewed z statistic edit u v
-HasRenewed z statistic edit (Ok false) u v = Unit {0}
-HasRenewed z statistic edit (Err why) u v = Unit {0}
+abbrev pub HasRenewed : Sizes → Met → ℕ → Edit → Result Bool NoRow → TreeView → TreeView → Type 0
+HasRenewed z met statistic edit (Ok true) u v = IsRenewed z met statistic edit u v
+HasRenewed z met statistic edit (Ok false) u v = Unit {0}
+HasRenewed z met statistic edit (Err why) u v = Unit {0}
 
 -- Where the exchange of a base won, this is the new one's row.
 abbrev pub IsNewRow : ℕ → Result Bool NoRow → TreeView → Type 0

@@ -1,8 +1,8 @@
 -- Splits of a base: what the words of a route spell, which rows are taken, and what a split comes to.
 use Rattle.std.specs.Prelude.{◌≡◌, ℕ, ◌*◌, ◌/◌, Bool, true, false, List, [], ◌∷◌, length, slice_index, slice_index_or, Result, Ok, Err}
 use Rattle.ca_node.specs.Row.{IsRouteRow, count, items, key, level, route_key}
-use Rattle.ca_node.specs.Told.{MyTree, Division, divided, one_more_lost}
-use Rattle.ca_node.specs.TreeView.{Note, TreeView}
+use Rattle.ca_node.specs.Told.{MyTree, divided, one_more_lost}
+use Rattle.ca_node.specs.TreeView.{Note, TreeView, Division}
 use Rattle.ca_node.proofs.HeldRows.{AreApart}
 use Rattle.ca_base.specs.declared.taking.NoRow.{NoRow}
 use Rattle.ca_base.specs.Putting.{first_note, words_of}

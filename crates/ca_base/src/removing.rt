@@ -11,6 +11,7 @@ ghost use Rattle.ca_node.specs.Told.{IsAlone};
 ghost use Rattle.ca_base.specs.Counting.{IsSpent, HasCleared, HasEnded};
 ghost use Rattle.ca_base.specs.Finding.{IsAtCursor};
 ghost use Rattle.ca_base.specs.Putting.{object_at, IsShownLast, HasRenewed, IsNewRow, HasTried};
+ghost use Rattle.ca_rows.specs.Told.{met_of};
 ghost use Rattle.ca_rows.specs.Passes.{sizes, known};
 ghost use Rattle.ca_node.specs.TreePasses.{tree_of};
 ghost use Rattle.ca_base.specs.Readiness.{IsReady, StaysReady, shown_last};
@@ -49,7 +50,7 @@ pub fn remove_at(
     ensures removed { HasTried (Remove _key.now (Some (object_at (Ok at) (shown_last pass.old).objects))) (sizes space.now) result
         (tree_of pass.old) (tree_of pass.new) }
     ensures won { IsAlone (sizes space.now) (tree_of pass.old) → IsListed (tree_of pass.old).inventory (shown_last pass.old) → result ≢ Ok false }
-    ensures renewed { HasRenewed (sizes space.now) statistic (Del _key.now) result (tree_of pass.old) (tree_of pass.new) }
+    ensures renewed { HasRenewed (sizes space.now) (met_of (known pass.new)) statistic (Del _key.now) result (tree_of pass.old) (tree_of pass.new) }
     ensures placed { IsNewRow placed.new result (tree_of pass.new) }
     ensures counted { IsSpent spent.old spent.new (known pass.old) (known pass.new) }
     ensures found { HasEnded result (known pass.old) (known pass.new) }

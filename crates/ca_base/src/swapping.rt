@@ -8,6 +8,7 @@ ghost use Rattle.ca_base.specs.Counting.{losses, IsSpent, HasCleared, HasEnded, 
 ghost use Rattle.ca_base.specs.Finding.{IsAtCursor};
 ghost use Rattle.ca_base.specs.Putting.{HasRenewed, IsNewRow, HasSwapped};
 ghost use Rattle.ca_base.specs.Taking.{AreHeld, AreUnlinked};
+ghost use Rattle.ca_rows.specs.Told.{met_of};
 ghost use Rattle.ca_rows.specs.Passes.{IsOn, IsStillPass, sizes, known, view};
 ghost use Rattle.ca_node.specs.TreePasses.{tree_of};
 ghost use Rattle.ca_base.specs.Readiness.{StaysReady};
@@ -53,7 +54,7 @@ pub(crate) fn swap_in<K: Intent>(
     ensures frame { StaysReady space.now pass.old pass.new }
     ensures done { HasSwapped K.update.event (sizes space.now) result (tree_of pass.old) (tree_of pass.new) }
     ensures won { IsAlone (sizes space.now) (tree_of pass.old) → IsListed (tree_of pass.old).inventory K.update.old → result ≢ false }
-    ensures renewed { HasRenewed (sizes space.now) (slice_index K.update.its 1) K.update.edit (Ok result) (tree_of pass.old) (tree_of pass.new) }
+    ensures renewed { HasRenewed (sizes space.now) (met_of (known pass.new)) (slice_index K.update.its 1) K.update.edit (Ok result) (tree_of pass.old) (tree_of pass.new) }
     ensures placed { IsNewRow new (Ok result) (tree_of pass.new) }
     ensures counted { IsSpent spent.old spent.new (known pass.old) (known pass.new) }
     ensures found { HasEnded (Ok result) (known pass.old) (known pass.new) }

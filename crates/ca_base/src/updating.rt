@@ -11,6 +11,7 @@ ghost use Rattle.ca_base.specs.Counting.{IsSpent, HasCleared, HasEnded};
 ghost use Rattle.ca_base.specs.Finding.{IsAtCursor};
 ghost use Rattle.ca_base.specs.Putting.{gone as gone_at, object_at, IsItemAt, IsNewRow, IsRoom, IsFor, IsShownLast, HasRenewed, HasTried};
 ghost use Rattle.ca_base.specs.Putting.{put_event};
+ghost use Rattle.ca_rows.specs.Told.{met_of};
 ghost use Rattle.ca_rows.specs.Passes.{sizes, known};
 ghost use Rattle.ca_node.specs.TreePasses.{tree_of};
 ghost use Rattle.ca_base.specs.Readiness.{IsReady, StaysReady, shown_last};
@@ -67,7 +68,7 @@ pub fn put_at(
     ensures put { HasTried (put_event why (slice_range object.now key_at key_end) (object_at place (shown_last pass.old).objects) object.now)
         (sizes space.now) result (tree_of pass.old) (tree_of pass.new) }
     ensures won { IsAlone (sizes space.now) (tree_of pass.old) → IsListed (tree_of pass.old).inventory (shown_last pass.old) → result ≢ Ok false }
-    ensures renewed { HasRenewed (sizes space.now) statistic (Put (slice_range object.now key_at key_end) object.now) result (tree_of pass.old)
+    ensures renewed { HasRenewed (sizes space.now) (met_of (known pass.new)) statistic (Put (slice_range object.now key_at key_end) object.now) result (tree_of pass.old)
         (tree_of pass.new) }
     ensures placed { IsNewRow placed.new result (tree_of pass.new) }
     ensures counted { IsSpent spent.old spent.new (known pass.old) (known pass.new) }

@@ -28,9 +28,9 @@ use Rattle.ca_node.specs.Place.{Place, left_place, right_place}
 use Rattle.ca_node.specs.Reached.{same_place, base_at, link_range, reached, placed_linked, item_linked, item_out, nothing_lent}
 use Rattle.ca_node.specs.Row.{row_at, IsBaseRow, IsRouteRow, items, count, level, mark, key, route_key}
 use Rattle.ca_node.specs.Shape.{Role, Out, Base, Route, place_of, IsBaseAt, IsShape}
-use Rattle.ca_node.specs.Told.{MyTree, Division, IsHalf, IsDivision, given, taken_out, divided_inventory, divided, one_more_lost, IsDivided, IsMissed, Divides, HasDivided, MaySwap}
+use Rattle.ca_node.specs.Told.{MyTree, IsHalf, IsDivision, given, taken_out, divided_inventory, divided, one_more_lost, IsDivided, IsMissed, Divides, HasDivided, MaySwap}
 use Rattle.ca_node.specs.Tree.{IsTrue, IsTrueWay, Knows, IsTree}
-use Rattle.ca_node.specs.TreeView.{Note, Way, TreeView}
+use Rattle.ca_node.specs.TreeView.{Note, Way, TreeView, Division}
 use Rattle.ca_node.proofs.Divided.{IsNewRoute, AreDivided, with_route, with_route_route, with_route_left, with_route_right, with_route_old, with_route_else, shape_divided}
 use Rattle.ca_node.proofs.Holding.{held_row, unclaimed_row}
 use Rattle.ca_node.proofs.Listing.{in_either, in_front, in_back, Relists, listed_again, known_by_one}

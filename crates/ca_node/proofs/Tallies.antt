@@ -2,8 +2,8 @@
 use Rattle.std.proofs.Common.{◌≡◌, ℕ, Bool, true, false, min, sym, ap, ◌∙◌, ⊎_elim, arith}
 use Rattle.ca_rows.specs.declared.tally.Tally.{Tally}
 use Rattle.ca_node.specs.Tallied.{IsTallied, HasTallied}
-use Rattle.ca_node.specs.Told.{MyTree, Division, HasDivided, IsLed, IsLedToBase, IsLedToRoute}
-use Rattle.ca_node.specs.TreeView.{TreeView}
+use Rattle.ca_node.specs.Told.{MyTree, HasDivided, IsLed, IsLedToBase, IsLedToRoute}
+use Rattle.ca_node.specs.TreeView.{TreeView, Division}
 
 abbrev most : ℕ
 most = 18446744073709551615

@@ -141,9 +141,10 @@ walked_on : (m m' m'' : MyTree) (more next : History) (note : Note) (ways : List
 walked_on m m' m'' more next note ways loads e d =
     let u : TreeView = m.0.upper in let n : u.loads + loads + 1 ≡ u.loads + (loads + 1) = omega arith in
     d ∙ (ap (λ (x : MyTree). with_upper x (led_to_base x.0.upper next note)) e
-    ∙ (ap (λ (h : History). with_upper m (record u { seen = h; notes = note ∷ u.notes; ways = ways ++ u.ways; loads = u.loads + loads + 1; last = note }))
+    ∙ (ap (λ (h : History). with_upper m (record u { seen = h; notes = note ∷ u.notes; ways = ways ++ u.ways; loads = u.loads + loads + 1; last = note; shown = u.loads + loads + 1 }))
     (append_assoc u.seen more next)
-    ∙ ap (λ (k : ℕ). with_upper m (record u { seen = u.seen ++ (more ++ next); notes = note ∷ u.notes; ways = ways ++ u.ways; loads = k; last = note })) n))
+    ∙ ap (λ (k : ℕ). with_upper m (record u { seen = u.seen ++ (more ++ next); notes = note ∷ u.notes; ways = ways ++ u.ways; loads = k; last = note;
+    shown = k })) n))
 
 -- The same of a link that named a route.
 passed_on : (m m' m'' : MyTree) (more next : History) (way : Way) (ways : List Way) (loads : ℕ) → m' ≡ with_upper m (passed m.0.upper more ways loads)
@@ -171,6 +172,7 @@ module _ (z : Sizes) (s : Spot) (m m' m'' : MyTree) (some_rows : 0 < z.rows) (si
     ways = ways;
     loads = loads + 1;
     now = walked_on m m' m'' more led.more led.note ways loads now led.now;
+    some = omega arith;
     few = omega arith;
     sought = subst (λ (p : Span). IsSought s p) (sym at.1) sought;
     row = led.row_is;
@@ -332,6 +334,7 @@ module _ (z : Sizes) (s : Spot) (m : MyTree) (cursor : Cursor) (m' : MyTree) whe
     ways = at.ways;
     loads = at.loads;
     now = at.now;
+    some = at.some;
     few = omega arith;
     sought = at.sought;
     cursor_is = record {

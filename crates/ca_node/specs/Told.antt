@@ -13,7 +13,8 @@ use Rattle.ca_rows.specs.declared.view.Claim.TheVariants.{Holds, Unlinked}
 use Rattle.ca_rows.specs.declared.view.Claimed.{Claimed}
 use Rattle.ca_rows.specs.Claims.{claim_of, claimed, dropped}
 use Rattle.ca_rows.specs.Rule.{fresh, no_sizes}
-use Rattle.ca_rows.specs.Told.{Mine}
+use Rattle.ca_rows.specs.declared.view.Met.{Met}
+use Rattle.ca_rows.specs.Told.{Mine, met_of}
 use Rattle.ca_node.specs.Inventory.{AreOnce, but, but_all, row_itself, row_of_base, IsListed}
 use Rattle.ca_node.specs.Links.{IsIn}
 use Rattle.ca_node.specs.declared.link.Link.{Link}
@@ -21,7 +22,7 @@ use Rattle.ca_node.specs.declared.link.Link.TheVariants as link
 use Rattle.ca_node.specs.Place.{Span, all_keys, left_of, right_of, HasKey, part, Place, left_place, right_place, edit_key}
 use Rattle.ca_node.specs.Row.{IsObjectRow, IsBaseRow, IsRouteRow, count, level, items, mark, key, route_key, pair}
 use Rattle.ca_node.specs.Tree.{ArePast, IsFixed}
-use Rattle.ca_node.specs.TreeView.{Note, Way, Renewal, Inventory, TreeView, blank, no_note}
+use Rattle.ca_node.specs.TreeView.{Note, Way, Renewal, Division, Inventory, TreeView, blank, no_note}
 
 abbrev pub MyTree : Type 0
 MyTree = Mine TreeView
@@ -88,7 +89,7 @@ link_word (link.Right route) = 136 * route + 2
 
 -- what a seat knows after it loaded a link that names a base, or a route
 abbrev pub led_to_base : TreeView → History → Note → TreeView
-led_to_base u more note = record u { seen = u.seen ++ more; notes = note ∷ u.notes; loads = u.loads + 1; last = note }
+led_to_base u more note = record u { seen = u.seen ++ more; notes = note ∷ u.notes; loads = u.loads + 1; last = note; shown = u.loads + 1 }
 
 abbrev pub led_to_route : TreeView → History → Way → TreeView
 led_to_route u more way = record u { seen = u.seen ++ more; ways = way ∷ u.ways; loads = u.loads + 1 }
@@ -221,14 +222,16 @@ abbrev pub new_base : ℕ → Update → Note
 new_base new x = record { row = new; its = x.its; objects = x.objects; place = x.old.place }
 
 -- one update more
-abbrev pub renewed_by : TreeView → ℕ → Update → Renewal
-renewed_by u new x = record {
+abbrev pub renewed_by : Met → TreeView → ℕ → Update → Renewal
+renewed_by met u new x = record {
   count = u.renewal.count + 1;
   key = edit_key x.edit;
   old = x.old;
   new = new_base new x;
   lost = u.lost;
   splits = u.splits;
+  loads = u.loads;
+  met = met;
 }
 
 -- what the tree has after the update
@@ -239,14 +242,14 @@ updated_inventory new x i = record {
   most = max i.most (length (new ∷ x.comes ++ but_all row_itself (x.old.row ∷ x.goes) i.rows));
 }
 
--- what a seat knows after it carried out the update: its edit is the last one of the history
-abbrev pub updated : TreeView → History → ℕ → Update → TreeView
-updated u more new x = record u {
+-- what a seat knows after it carried out the update, given what it had met of the pool: its edit is the last one of the history
+abbrev pub updated : Met → TreeView → History → ℕ → Update → TreeView
+updated met u more new x = record u {
   seen = u.seen ++ more ++ (u.number, x.edit) ∷ [];
   log = u.log ++ (x.event, length (u.seen ++ more) + 1) ∷ [];
   notes = new_base new x ∷ u.notes;
   last = new_base new x;
-  renewal = renewed_by u new x;
+  renewal = renewed_by met u new x;
   inventory = updated_inventory new x u.inventory;
 }
 
@@ -255,10 +258,10 @@ updated u more new x = record u {
 -- What the seat has seen now is a history as it may know it.
 pub record IsUpdated (new : ℕ) (x : Update) (m m' : MyTree) : Type 0 where
   pub more : History
-  pub now : m' ≡ (record m.0 { claims = taken_out (x.old.row ∷ x.goes) (given (new ∷ x.comes) m.0.claims); upper = updated m.0.upper more new x }, m.1)
+  pub now : m' ≡ (record m.0 { claims = taken_out (x.old.row ∷ x.goes) (given (new ∷ x.comes) m.0.claims); upper = updated (met_of m) m.0.upper more new x }, m.1)
   pub unclaimed : (row : ℕ) → IsIn row (x.old.row ∷ x.goes) → claim_of m.0.claims row ≡ none
   pub apart : ¬ IsIn x.old.row x.goes
-  pub known : 0 < m.0.sizes.rows → IsKnown m.0.sizes (updated m.0.upper more new x)
+  pub known : 0 < m.0.sizes.rows → IsKnown m.0.sizes (updated (met_of m) m.0.upper more new x)
 
 -- what a seat knows that lost an exchange of a link: it remembers no base, so that it may try none before it is shown one again
 abbrev pub one_more_lost : TreeView → TreeView
@@ -277,17 +280,6 @@ Updates x st m n m' = (n ≡ st.first → IsUpdated st.second x m m')
 abbrev pub HasUpdated : Bool → ℕ → Update → MyTree → MyTree → Type 0
 HasUpdated true new x m m' = IsUpdated new x m m'
 HasUpdated false new x m m' = m' ≡ with_upper m (one_more_lost m.0.upper)
-
--- A split: the base that it takes the place of, the route and the two new bases, with their words, and how many objects go left.
-pub record Division : Type 0 where
-  pub old : Note
-  pub route : ℕ
-  pub left : ℕ
-  pub right : ℕ
-  pub route_its : List ℕ
-  pub left_its : List ℕ
-  pub right_its : List ℕ
-  pub middle : ℕ
 
 abbrev pub no_division : Division
 no_division = record { old = no_note; route = 0; left = 0; right = 0; route_its = []; left_its = []; right_its = []; middle = 0 }
@@ -335,7 +327,7 @@ divided_inventory x i = record {
 
 -- what a seat knows after it carried out the split
 abbrev pub divided : Division → TreeView → TreeView
-divided x u = record u { splits = u.splits + 1; inventory = divided_inventory x u.inventory; cuts = x.old ∷ u.cuts }
+divided x u = record u { splits = u.splits + 1; inventory = divided_inventory x u.inventory; cuts = x ∷ u.cuts }
 
 -- The split is carried out: the route and its bases are linked, and the old base, which nobody claimed until then, is unlinked by the seat.
 pub record IsDivided (x : Division) (m m' : MyTree) : Type 0 where

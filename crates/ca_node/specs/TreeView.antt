@@ -4,6 +4,8 @@ use Rattle.ca_model.specs.Event.{Entry}
 use Rattle.ca_model.specs.History.{History}
 use Rattle.ca_model.specs.Known.{Counts}
 use Rattle.ca_node.specs.Place.{Place, root_place}
+use Rattle.ca_rows.specs.declared.view.Met.{Met}
+use Rattle.ca_rows.specs.Pins.{nothing_met}
 
 -- A base that was shown, with its words, those of the object rows that it names, and where it hung. The words stay as long as the note does.
 pub record Note : Type 0 where
@@ -20,7 +22,8 @@ pub record Way : Type 0 where
   pub place : Place
 
 -- An update that the seat carried out: how many it has carried out with this one, the key that it was about, the base that was there and the one
--- that took its place, and how many exchanges of a link the seat had lost until then, and how many splits carried out.
+-- that took its place; and how many exchanges of a link the seat had lost until then, how many splits carried out, how many links loaded, and what
+-- it had met of the pool.
 pub record Renewal : Type 0 where
   pub count : ℕ
   pub key : List ℕ
@@ -28,6 +31,19 @@ pub record Renewal : Type 0 where
   pub new : Note
   pub lost : ℕ
   pub splits : ℕ
+  pub loads : ℕ
+  pub met : Met
+
+-- A split: the base that it takes the place of, the route and the two new bases, with their words, and how many objects go left.
+pub record Division : Type 0 where
+  pub old : Note
+  pub route : ℕ
+  pub left : ℕ
+  pub right : ℕ
+  pub route_its : List ℕ
+  pub left_its : List ℕ
+  pub right_its : List ℕ
+  pub middle : ℕ
 
 -- What a tree has: the rows that are linked, and the bases among them with their places, each once; and the most rows that were linked at once.
 pub record Inventory : Type 0 where
@@ -53,19 +69,20 @@ pub record TreeView : Type 0 where
   pub joins : ℕ
   -- how many exchanges of a link it lost
   pub lost : ℕ
-  -- the base that it was shown last, whether it is pinned or not, and its last update
+  -- the base that it was shown last, whether it is pinned or not, how many links it had loaded as one showed it a base last, and its last update
   pub last : Note
+  pub shown : ℕ
   pub renewal : Renewal
   -- what the tree has, as far as the seat's own steps go: the whole of it, where its pass is the only one
   pub inventory : Inventory
-  -- the bases that it split, the last one first
-  pub cuts : List Note
+  -- the splits that it carried out, the last one first
+  pub cuts : List Division
 
 abbrev pub no_note : Note
 no_note = record { row = 0; its = []; objects = []; place = root_place }
 
 abbrev pub no_renewal : Renewal
-no_renewal = record { count = 0; key = []; old = no_note; new = no_note; lost = 0; splits = 0 }
+no_renewal = record { count = 0; key = []; old = no_note; new = no_note; lost = 0; splits = 0; loads = 0; met = nothing_met }
 
 abbrev pub no_refusals : Counts
 no_refusals = record { busy = 0; full = 0; deep = 0; worn = 0; last = None }
@@ -89,6 +106,7 @@ blank number = record {
   joins = 0;
   lost = 0;
   last = no_note;
+  shown = 0;
   renewal = no_renewal;
   inventory = first_inventory;
   cuts = [];

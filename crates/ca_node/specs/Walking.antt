@@ -39,7 +39,7 @@ IsSought spot.Last span = span.high ≡ Unbounded
 
 -- what a seat knows after a walk: a base was shown to it, and the routes on the way there
 abbrev pub walked : TreeView → History → Note → List Way → ℕ → TreeView
-walked u more note ways loads = record u { seen = u.seen ++ more; notes = note ∷ u.notes; ways = ways ++ u.ways; loads = u.loads + loads; last = note }
+walked u more note ways loads = record u { seen = u.seen ++ more; notes = note ∷ u.notes; ways = ways ++ u.ways; loads = u.loads + loads; last = note; shown = u.loads + loads }
 
 -- The pass was shown the route with these words.
 pub record IsRouteShown (u : TreeView) (row : ℕ) (its : List ℕ) : Type 0 where
@@ -105,13 +105,14 @@ pub record IsAtRoute (z : Sizes) (spot : Spot) (m : MyTree) (cursor : Cursor) (m
   pub placed : IsPlaced z m'.0.upper.ways way.place cursor
   pub is_route : IsRouteNote z way
 
--- The walk came to a base, and it is the one that is looked for. It loaded at most one link more than the base's level.
+-- The walk came to a base, and it is the one that is looked for. It loaded a link at least, and at most one more than the base's level.
 pub record IsAtBase (z : Sizes) (spot : Spot) (m : MyTree) (cursor : Cursor) (m' : MyTree) : Type 0 where
   pub note : Note
   pub more : History
   pub ways : List Way
   pub loads : ℕ
   pub now : m' ≡ with_upper m (walked m.0.upper more note ways loads)
+  pub some : 0 < loads
   pub few : loads ≤ note.place.level + 1
   pub sought : IsSought spot note.place.span
   pub row : note.row ≡ cursor.base
@@ -125,13 +126,14 @@ pub record IsAtBase (z : Sizes) (spot : Spot) (m : MyTree) (cursor : Cursor) (m'
 abbrev pub IsWalking : Sizes → Spot → MyTree → Cursor → MyTree → Type 0
 IsWalking z spot m cursor m' = IsAtBase z spot m cursor m' ⊎ IsAtRoute z spot m cursor m'
 
--- The walk came to the base that was looked for. It loaded at most one link more than there are levels.
+-- The walk came to the base that was looked for. It loaded a link at least, and at most one more than there are levels.
 pub record IsWalked (z : Sizes) (spot : Spot) (m : MyTree) (cursor : Cursor) (m' : MyTree) : Type 0 where
   pub note : Note
   pub more : History
   pub ways : List Way
   pub loads : ℕ
   pub now : m' ≡ with_upper m (walked m.0.upper more note ways loads)
+  pub some : 0 < loads
   pub few : loads ≤ z.levels + 1
   pub sought : IsSought spot note.place.span
   pub cursor_is : IsCursor m'.0.upper.ways note cursor

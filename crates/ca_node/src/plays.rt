@@ -1,6 +1,6 @@
 //! What each step of the tree tells.
-ghost use Rattle.ca_node.specs.Told.{Leads, Reads, Update, Updates, no_update, Division, Divides, no_division, front_of, learnt};
-ghost use Rattle.ca_node.specs.TreeView.{blank};
+ghost use Rattle.ca_node.specs.Told.{Leads, Reads, Update, Updates, no_update, Divides, no_division, front_of, learnt};
+ghost use Rattle.ca_node.specs.TreeView.{blank, Division};
 ghost use Rattle.ca_rows.specs.Closed.{joined};
 ghost use Rattle.ca_rows.specs.Rule.{fresh, no_sizes};
 

@@ -8,11 +8,11 @@ use Rattle.ca_adapt.specs.declared.adapted.Adapted.TheVariants as adapted
 use Rattle.ca_adapt.specs.declared.adapted.Why.{Why}
 use Rattle.ca_adapt.specs.declared.adapted.Why.TheVariants as why
 use Rattle.ca_adapt.specs.declared.tuning.Tuning.{Tuning}
-use Rattle.ca_adapt.specs.Splits.{IsSplitAs, IsNotSplitBy}
+use Rattle.ca_adapt.specs.Splits.{IsSplitAs, IsNotSplitBy, attempts_at_first}
 use Rattle.ca_base.specs.declared.taking.NoRow.{NoRow}
 use Rattle.ca_base.specs.declared.taking.NoRow.TheVariants as norow
 use Rattle.ca_base.specs.Putting.{HasRenewed, HasTried, IsRoom, first_note}
-use Rattle.ca_base.specs.Splitting.{HasSplit}
+use Rattle.ca_base.specs.Splitting.{HasSplit, IsSplit}
 use Rattle.ca_model.specs.declared.outcome.Outcome.{Outcome}
 use Rattle.ca_model.specs.declared.outcome.Spent.{Spent}
 use Rattle.ca_model.specs.Event.{Event}
@@ -25,7 +25,7 @@ use Rattle.ca_node.specs.Laws.{in_nothing}
 use Rattle.ca_node.specs.Links.{IsIn}
 use Rattle.ca_node.specs.Row.{pair}
 use Rattle.ca_node.specs.Told.{MyTree, with_upper, entered, one_more_lost}
-use Rattle.ca_node.specs.TreeView.{Note, TreeView, pinned, unpinned}
+use Rattle.ca_node.specs.TreeView.{Note, Division, TreeView, pinned, unpinned}
 use Rattle.ca_node.specs.Walking.{IsWalked}
 use Rattle.ca_node.proofs.Listing.{in_either}
 use Rattle.ca_node.proofs.Looking.{in_more}
@@ -36,32 +36,35 @@ use Rattle.ca_replace.specs.declared.refusing.Refusal.{Refusal}
 use Rattle.ca_replace.specs.declared.refusing.Refusal.TheVariants as refusal
 use Rattle.ca_replace.specs.Adapting.{HasSettled, IsNew}
 use Rattle.ca_replace.specs.Attempting.{IsLooking, IsQuiet, come_to, refused_as, split_to}
-use Rattle.ca_replace.specs.Cutting.{AreCutFull, CutsBy, HasCut, HasCutAs, HasCutDue, HasCutFull, HasCutIf, HasCutSoFar, IsFullFor}
+use Rattle.ca_replace.specs.Cutting.{AreCutFull, CutsBy, HasCut, HasCutAs, HasCutDue, HasCutFull, HasCutIf, HasCutSoFar, IsCutInTwo, IsFullFor}
 use Rattle.ca_replace.specs.Refusals.{outcome_of}
 use Rattle.ca_replace.proofs.Growing.{settled_still}
 use Rattle.ca_replace.proofs.Showing.{looking, walked_quiet}
 use Rattle.ca_rows.specs.declared.sizes.Sizes.{Sizes}
+use Rattle.ca_rows.specs.declared.view.Met.{Met}
+use Rattle.ca_rows.specs.Told.{met_of}
 
 -- Nothing was split.
-pub none_full : (z : Sizes) (adds : Option (List ℕ)) (before now : List Note) → now ≡ before → AreCutFull z adds before now
+pub none_full : (z : Sizes) (adds : Option (List ℕ)) (before now : List Division) → now ≡ before → AreCutFull z adds before now
 none_full z adds before now same = ([], same, λ note i. absurd (in_nothing note [] refl i))
 
 -- A full base was.
-pub one_full : (z : Sizes) (adds : Option (List ℕ)) (before now : List Note) (note : Note) → now ≡ note ∷ before → IsFullFor z adds note
-    → AreCutFull z adds before now
-one_full z adds before now note is full = (
-  note ∷ [],
+pub one_full : (z : Sizes) (adds : Option (List ℕ)) (before now : List Division) (x : Division) → now ≡ x ∷ before
+    → IsFullFor z adds x.old × IsCutInTwo z x → AreCutFull z adds before now
+one_full z adds before now x is full = (
+  x ∷ [],
   is,
-  λ n i. ⊎_elim (λ (e : note ≡ n). subst (IsFullFor z adds) e full) (λ (j : IsIn n []). absurd (in_nothing n [] refl j)) (in_more note n [] i),
+  λ y i. ⊎_elim (λ (e : x ≡ y). subst (λ (d : Division). IsFullFor z adds d.old × IsCutInTwo z d) e full)
+      (λ (j : IsIn y []). absurd (in_nothing y [] refl j)) (in_more x y [] i),
 )
 
 -- Full bases, and full ones behind them.
-pub full_both : (z : Sizes) (adds : Option (List ℕ)) (before then now : List Note) → AreCutFull z adds before then → AreCutFull z adds then now
+pub full_both : (z : Sizes) (adds : Option (List ℕ)) (before then now : List Division) → AreCutFull z adds before then → AreCutFull z adds then now
     → AreCutFull z adds before now
 full_both z adds before then now h g = (
   g.0 ++ h.0,
-  g.1 ∙ (ap (λ (xs : List Note). g.0 ++ xs) h.1 ∙ sym (append_assoc g.0 h.0 before)),
-  λ note i. ⊎_elim (λ (j : IsIn note g.0). g.2 note j) (λ (j : IsIn note h.0). h.2 note j) (in_either g.0 h.0 note i),
+  g.1 ∙ (ap (λ (xs : List Division). g.0 ++ xs) h.1 ∙ sym (append_assoc g.0 h.0 before)),
+  λ x i. ⊎_elim (λ (j : IsIn x g.0). g.2 x j) (λ (j : IsIn x h.0). h.2 x j) (in_either g.0 h.0 x i),
 )
 
 -- What isn't less is as much.
@@ -75,29 +78,35 @@ pub full_for : (z : Sizes) (u : TreeView) (cursor : Cursor) (key : List ℕ) (pl
 full_for z u cursor key (Ok at) many l p no_room is = absurd (no_room tt)
 full_for z u cursor key (Err at) many l p no_room is = (let full : z.leaf ≤ many = not_less z.leaf many no_room in omega arith, l.about, p.equal)
 
+-- A split of this base is one of its own: it is in the middle of its objects.
+cut_in_two : (z : Sizes) (note : Note) (x : Division) → IsSplit note (length note.objects) (attempts_at_first z) x → IsCutInTwo z x
+cut_in_two z note x h = subst (λ (n : Note). IsSplit n (length n.objects) (attempts_at_first z) x) (sym h.old_is) h
+
 -- What an attempt comes to that met such a base, and tried to split it.
 pub made_cut : {T : Type 0} (edits : T → Bool) (z : Sizes) (adds : Option (List ℕ)) (many attempt : ℕ) (r : Result Bool NoRow) (u v : TreeView)
-    → IsFullFor z adds (first_note u.notes) → HasSplit many attempt r u v → HasCut edits z adds (Err (split_to r)) u v
-made_cut edits z adds many attempt (Ok true) u v full h = (
-  first_note u.notes,
-  ap (λ (w : TreeView). w.cuts) h.2 ∙ ap (λ (note : Note). note ∷ u.cuts) h.1.old_is,
-  full,
+    → IsFullFor z adds (first_note u.notes) → many ≡ length (first_note u.notes).objects → attempt ≡ attempts_at_first z → HasSplit many attempt r u v
+    → HasCut edits z adds (Err (split_to r)) u v
+made_cut edits z adds many attempt (Ok true) u v full all starts h = (
+  h.0,
+  ap (λ (w : TreeView). w.cuts) h.2,
+  subst (IsFullFor z adds) (sym h.1.old_is) full,
+  cut_in_two z (first_note u.notes) h.0 (subst (λ (x : ℕ × ℕ). IsSplit (first_note u.notes) x.0 x.1 h.0) (λ i. (all i, starts i)) h.1),
 )
-made_cut edits z adds many attempt (Ok false) u v full h = ap (λ (w : TreeView). w.cuts) h
-made_cut edits z adds many attempt (Err norow.Lost) u v full h = ap (λ (w : TreeView). w.cuts) h
-made_cut edits z adds many attempt (Err norow.Empty) u v full h = ap (λ (w : TreeView). w.cuts) h
-made_cut edits z adds many attempt (Err norow.Worn) u v full h = ap (λ (w : TreeView). w.cuts) h
+made_cut edits z adds many attempt (Ok false) u v full all starts h = ap (λ (w : TreeView). w.cuts) h
+made_cut edits z adds many attempt (Err norow.Lost) u v full all starts h = ap (λ (w : TreeView). w.cuts) h
+made_cut edits z adds many attempt (Err norow.Empty) u v full all starts h = ap (λ (w : TreeView). w.cuts) h
+made_cut edits z adds many attempt (Err norow.Worn) u v full all starts h = ap (λ (w : TreeView). w.cuts) h
 
 -- A base that is due is one that was split, or none was, behind a step that split none.
-due_behind : (before then : List Note) (v : TreeView) → then ≡ before → HasCutDue then v → HasCutDue before v
-due_behind before then v same h = subst (λ (xs : List Note). HasCutDue xs v) same h
+due_behind : (z : Sizes) (before then : List Division) (v : TreeView) → then ≡ before → HasCutDue z then v → HasCutDue z before v
+due_behind z before then v same h = subst (λ (xs : List Division). HasCutDue z xs v) same h
 
 -- A try to split the base that is due, and was shown last.
 pub due_cut : (z : Sizes) (a : Adapted) (k m m' : MyTree) → m.0.upper.cuts ≡ k.0.upper.cuts → m.0.upper.last ≡ first_note m.0.upper.notes
-    → m.0.upper.last.row ≡ m.0.upper.renewal.new.row → IsSplitAs z (first_note m.0.upper.notes) a m m' → HasCutDue k.0.upper.cuts m'.0.upper
-due_cut z a k m m' same last row h = due_behind k.0.upper.cuts m.0.upper.cuts m'.0.upper same (by a h)
+    → m.0.upper.last.row ≡ m.0.upper.renewal.new.row → IsSplitAs z (first_note m.0.upper.notes) a m m' → HasCutDue z k.0.upper.cuts m'.0.upper
+due_cut z a k m m' same last row h = due_behind z k.0.upper.cuts m.0.upper.cuts m'.0.upper same (by a h)
   where
-    not_by : (w : Why) → IsNotSplitBy z (first_note m.0.upper.notes) w m m' → HasCutDue m.0.upper.cuts m'.0.upper
+    not_by : (w : Why) → IsNotSplitBy z (first_note m.0.upper.notes) w m m' → HasCutDue z m.0.upper.cuts m'.0.upper
     not_by why.Root h = absurd h
     not_by why.OneObject h = inl (ap (λ (x : MyTree). x.0.upper.cuts) h.1)
     not_by why.AtLevel h = inl (ap (λ (x : MyTree). x.0.upper.cuts) h.2)
@@ -109,10 +118,13 @@ due_cut z a k m m' same last row h = due_behind k.0.upper.cuts m.0.upper.cuts m'
     not_by why.NoRow h = inl (ap (λ (x : TreeView). x.cuts) h.2)
     not_by why.Worn h = inl (ap (λ (x : TreeView). x.cuts) h.2)
 
-    by : (a : Adapted) → IsSplitAs z (first_note m.0.upper.notes) a m m' → HasCutDue m.0.upper.cuts m'.0.upper
+    by : (a : Adapted) → IsSplitAs z (first_note m.0.upper.notes) a m m' → HasCutDue z m.0.upper.cuts m'.0.upper
     by adapted.Stay h = absurd h
     by adapted.Split h = let e = h.2.2 in inr (
-      ap (λ (x : TreeView). x.cuts) e ∙ ap (λ (note : Note). note ∷ m.0.upper.cuts) (h.2.1.old_is ∙ (sym last ∙ sym (ap (λ (x : TreeView). x.last) e))),
+      h.2.0,
+      ap (λ (x : TreeView). x.cuts) e,
+      cut_in_two z (first_note m.0.upper.notes) h.2.0 h.2.1,
+      h.2.1.old_is ∙ (sym last ∙ sym (ap (λ (x : TreeView). x.last) e)),
       ap (λ (x : TreeView). x.last.row) e ∙ (row ∙ sym (ap (λ (x : TreeView). x.renewal.new.row) e)),
     )
     by adapted.Joined h = absurd h
@@ -120,45 +132,45 @@ due_cut z a k m m' same last row h = due_behind k.0.upper.cuts m.0.upper.cuts m'
     by (adapted.NotJoined w) h = absurd h
 
 -- After an update the pass walked to its key again, came to the new base, and tried to split it.
-pub due_there : (z : Sizes) (key : Bor (List ℕ)) (placed : ℕ) (m m' m'' : MyTree) (cursor : Cursor) (a : Adapted) → IsNew placed key.now m.0.upper
+pub due_there : (z : Sizes) (key : Bor (List ℕ)) (placed : ℕ) (m m' m'' : MyTree) (cursor : Cursor) (a : Adapted) → IsNew placed key.now (met_of m) m.0.upper
     → IsWalked z (spot.At key) m cursor m' → z.leaf ≤ 120 → cursor.base ≡ placed → IsSplitAs z (first_note m'.0.upper.notes) a m' m''
-    → HasCutDue m.0.upper.cuts m''.0.upper
+    → HasCutDue z m.0.upper.cuts m''.0.upper
 due_there z key placed m m' m'' cursor a new w most same h = let up = ap (λ (x : MyTree). x.0.upper) w.now in
     due_cut z a m m' m'' (walked_quiet z (spot.At key) m m' cursor w).same_cuts (looking z key m m' cursor w most).last
     (ap (λ (u : TreeView). u.last.row) up ∙ (w.cursor_is.base ∙ (same ∙ (new.row ∙ sym (ap (λ (u : TreeView). u.renewal.new.row) up))))) h
 
 -- What an attempt comes to by its exchange, given what followed.
-tried_cut : (z : Sizes) (adds : Option (List ℕ)) (event : Event) (edit : Edit) (word : ℕ) (tried : Result Bool NoRow) (u w v : TreeView)
-    → HasTried event z tried u w → HasRenewed z word edit tried u w → HasCutDue w.cuts v → (tried ≢ Ok true → v ≡ w)
+tried_cut : (met : Met) (z : Sizes) (adds : Option (List ℕ)) (event : Event) (edit : Edit) (word : ℕ) (tried : Result Bool NoRow) (u w v : TreeView)
+    → HasTried event z tried u w → HasRenewed z met word edit tried u w → HasCutDue z w.cuts v → (tried ≢ Ok true → v ≡ w)
     → HasCut (λ (_ : Unit {0}). true) z adds (come_to tried) u v
-tried_cut z adds event edit word (Ok true) u w v h renewed then else = due_behind u.cuts w.cuts v renewed.same_cuts then
-tried_cut z adds event edit word (Ok false) u w v h renewed then else = ap (λ (x : TreeView). x.cuts) (else (λ e. cc) ∙ h)
-tried_cut z adds event edit word (Err norow.Lost) u w v h renewed then else = ap (λ (x : TreeView). x.cuts) (else (λ e. cc) ∙ h)
-tried_cut z adds event edit word (Err norow.Empty) u w v h renewed then else = ap (λ (x : TreeView). x.cuts) (else (λ e. cc) ∙ h)
-tried_cut z adds event edit word (Err norow.Worn) u w v h renewed then else = ap (λ (x : TreeView). x.cuts) (else (λ e. cc) ∙ h)
+tried_cut met z adds event edit word (Ok true) u w v h renewed then else = due_behind z u.cuts w.cuts v renewed.same_cuts then
+tried_cut met z adds event edit word (Ok false) u w v h renewed then else = ap (λ (x : TreeView). x.cuts) (else (λ e. cc) ∙ h)
+tried_cut met z adds event edit word (Err norow.Lost) u w v h renewed then else = ap (λ (x : TreeView). x.cuts) (else (λ e. cc) ∙ h)
+tried_cut met z adds event edit word (Err norow.Empty) u w v h renewed then else = ap (λ (x : TreeView). x.cuts) (else (λ e. cc) ∙ h)
+tried_cut met z adds event edit word (Err norow.Worn) u w v h renewed then else = ap (λ (x : TreeView). x.cuts) (else (λ e. cc) ∙ h)
 
 -- So it is with what its exchange and what followed it came to, given that the pass knew as much of the tree at first as this one.
-pub settled_cut : (z : Sizes) (t : Tuning) (adds : Option (List ℕ)) (event : Event) (edit : Edit) (word : ℕ) (statistic : ℤ) (tried : Result Bool NoRow)
+pub settled_cut : (met : Met) (z : Sizes) (t : Tuning) (adds : Option (List ℕ)) (event : Event) (edit : Edit) (word : ℕ) (statistic : ℤ) (tried : Result Bool NoRow)
     (r : Result (Unit {0}) Stop) (a b : Adapting) (k m m' m'' : MyTree) → m ≡ k → r ≡ come_to tried → HasTried event z tried m.0.upper m'.0.upper
-    → HasRenewed z word edit tried m.0.upper m'.0.upper → HasSettled z t statistic tried a b m' m'' → HasCutDue m'.0.upper.cuts m''.0.upper
+    → HasRenewed z met word edit tried m.0.upper m'.0.upper → HasSettled z t statistic tried a b m' m'' → HasCutDue z m'.0.upper.cuts m''.0.upper
     → HasCut (λ (_ : Unit {0}). true) z adds r k.0.upper m''.0.upper
-settled_cut z t adds event edit word statistic tried r a b k m m' m'' same is h renewed settled then = subst
+settled_cut met z t adds event edit word statistic tried r a b k m m' m'' same is h renewed settled then = subst
     (λ (x : Result (Unit {0}) Stop). HasCut (λ (_ : Unit {0}). true) z adds x k.0.upper m''.0.upper) (sym is)
     (subst (λ (x : MyTree). HasCut (λ (_ : Unit {0}). true) z adds (come_to tried) x.0.upper m''.0.upper) same
-    (tried_cut z adds event edit word tried m.0.upper m'.0.upper m''.0.upper h renewed then (λ n. settled_still z t statistic tried a b m' m'' n settled)))
+    (tried_cut met z adds event edit word tried m.0.upper m'.0.upper m''.0.upper h renewed then (λ n. settled_still z t statistic tried a b m' m'' n settled)))
 
 -- An attempt behind the look that it begins with.
 pub looked_cut : {T : Type 0} (edits : T → Bool) (z : Sizes) (adds : Option (List ℕ)) (r : Result T Stop) (m m' : MyTree) (v : TreeView) → IsQuiet m m'
     → HasCut edits z adds r m'.0.upper v → HasCut edits z adds r m.0.upper v
 looked_cut {T} edits z adds r m m' v q h = by r h
   where
-    if_edits : (edited : Bool) → HasCutIf edited m'.0.upper.cuts v → HasCutIf edited m.0.upper.cuts v
-    if_edits true h = due_behind m.0.upper.cuts m'.0.upper.cuts v q.same_cuts h
+    if_edits : (edited : Bool) → HasCutIf edited z m'.0.upper.cuts v → HasCutIf edited z m.0.upper.cuts v
+    if_edits true h = due_behind z m.0.upper.cuts m'.0.upper.cuts v q.same_cuts h
     if_edits false h = h ∙ q.same_cuts
 
     by : (r : Result T Stop) → HasCut edits z adds r m'.0.upper v → HasCut edits z adds r m.0.upper v
     by (Ok x) h = if_edits (edits x) h
-    by (Err stop.Split) h = (h.0, h.1 ∙ ap (λ (xs : List Note). h.0 ∷ xs) q.same_cuts, h.2)
+    by (Err stop.Split) h = (h.0, h.1 ∙ ap (λ (xs : List Division). h.0 ∷ xs) q.same_cuts, h.2, h.3)
     by (Err stop.Lost) h = h ∙ q.same_cuts
     by (Err stop.Empty) h = h ∙ q.same_cuts
     by (Err stop.Worn) h = h ∙ q.same_cuts
@@ -195,7 +207,7 @@ pub cut_pinned : {T : Type 0} (edits : T → Bool) (z : Sizes) (adds : Option (L
     → HasCut edits z adds r (pinned u) v → HasCut edits z adds r u w
 cut_pinned {T} edits z adds r u v w same h = subst (λ (x : TreeView). HasCut edits z adds r u x) (sym same) (by r h)
   where
-    if_edits : (edited : Bool) → HasCutIf edited u.cuts v → HasCutIf edited u.cuts (unpinned v)
+    if_edits : (edited : Bool) → HasCutIf edited z u.cuts v → HasCutIf edited z u.cuts (unpinned v)
     if_edits true h = h
     if_edits false h = h
 
@@ -215,13 +227,13 @@ one_more_cut {T} edits z adds r u w v before h = by r h
     still : v.cuts ≡ w.cuts → HasCutFull z adds u v
     still same = full_both z adds u.cuts w.cuts v.cuts before (none_full z adds w.cuts v.cuts same)
 
-    if_edits : (edited : Bool) → HasCutIf edited w.cuts v → CutsBy edited z adds u v
+    if_edits : (edited : Bool) → HasCutIf edited z w.cuts v → CutsBy edited z adds u v
     if_edits true h = (w.cuts, before, h)
     if_edits false h = still h
 
     by : (r : Result T Stop) → HasCut edits z adds r w v → HasCutSoFar edits z adds r u v
     by (Ok x) h = if_edits (edits x) h
-    by (Err stop.Split) h = full_both z adds u.cuts w.cuts v.cuts before (one_full z adds w.cuts v.cuts h.0 h.1 h.2)
+    by (Err stop.Split) h = full_both z adds u.cuts w.cuts v.cuts before (one_full z adds w.cuts v.cuts h.0 h.1 (h.2, h.3))
     by (Err stop.Lost) h = still h
     by (Err stop.Empty) h = still h
     by (Err stop.Worn) h = still h

@@ -41,6 +41,8 @@ use Rattle.ca_replace.proofs.Meeting.{further_on}
 use Rattle.ca_replace.proofs.Showing.{looking, stopped, tried_by, walked_further}
 use Rattle.ca_replace.proofs.Turns.{tried_known}
 use Rattle.ca_rows.specs.declared.sizes.Sizes.{Sizes}
+use Rattle.ca_rows.specs.declared.view.Met.{Met}
+use Rattle.ca_rows.specs.Told.{met_of}
 
 -- Whether an exchange of a link was lost, over two spans.
 pub since_both : (x y w : Bool) (k l m : ℕ) → HasLostSince x y k l → HasLostSince y w l m → HasLostSince x w k m
@@ -118,12 +120,12 @@ turn_waits edits z t a b r u v e g = ⊎_elim (λ (l : r ≡ Err stop.Lost). sto
     (λ (s : r ≡ Err stop.Split). stopped_waits edits z t a b r stop.Split u v s g) e
 
 -- What became of an exchange of a base with this word for its statistic, and of the new base.
-pub settled_gone : (z : Sizes) (t : Tuning) (event : Event) (edit : Edit) (statistic : ℤ) (word : ℕ) (tried : Result Bool NoRow) (a b : Adapting)
-    (u : TreeView) (m m' : MyTree) → HasTried event z tried u m.0.upper → HasRenewed z word edit tried u m.0.upper
+pub settled_gone : (met : Met) (z : Sizes) (t : Tuning) (event : Event) (edit : Edit) (statistic : ℤ) (word : ℕ) (tried : Result Bool NoRow) (a b : Adapting)
+    (u : TreeView) (m m' : MyTree) → HasTried event z tried u m.0.upper → HasRenewed z met word edit tried u m.0.upper
     → IsMoved t (get_or (first_note u.notes).its 1 0) a.lost statistic → IsWordOf statistic word → HasSettled z t statistic tried a b m m'
     → HasGoneOn (λ _. true) z t a b (come_to tried) u m'.0.upper
-settled_gone z t event edit statistic word (Ok true) a b u m m' done h moved is s = let v = m'.0.upper in
-    let e : v.renewal ≡ renewal_of u (edit_key edit) (first_note u.notes) (first_note m.0.upper.notes) = s.1.0 ∙ h.renewal in record {
+settled_gone met z t event edit statistic word (Ok true) a b u m m' done h moved is s = let v = m'.0.upper in
+    let e : v.renewal ≡ renewal_of met u (edit_key edit) (first_note u.notes) (first_note m.0.upper.notes) = s.1.0 ∙ h.renewal in record {
       one_more = ap (λ (r : Renewal). r.count) e;
       lost = a.lost;
       since = inl (refl, ap (λ (r : Renewal). r.lost) e);
@@ -133,9 +135,9 @@ settled_gone z t event edit statistic word (Ok true) a b u m m' done h moved is 
           (subst (λ (k : ℤ). IsWordOf k word) (sym s.0) is);
       adapted = subst (λ (k : ℤ). IsAdaptedBy z t k v b.last.adapted) (sym s.0) s.1.1;
     }
-settled_gone z t event edit statistic word (Ok false) a b u m m' lost h moved is s = let w = ap (λ (x : MyTree). x.0.upper) s.2 ∙ lost in
+settled_gone met z t event edit statistic word (Ok false) a b u m m' lost h moved is s = let w = ap (λ (x : MyTree). x.0.upper) s.2 ∙ lost in
     (s.1, ap (λ (x : TreeView). x.renewal) w, let more = ap (λ (x : TreeView). x.lost) w in inr (s.0, omega arith))
-settled_gone z t event edit statistic word (Err why) a b u m m' same h moved is s = let w = ap (λ (x : MyTree). x.0.upper) s.1 ∙ same in
+settled_gone met z t event edit statistic word (Err why) a b u m m' same h moved is s = let w = ap (λ (x : MyTree). x.0.upper) s.1 ∙ same in
     (ap (λ (x : Adapting). x.last) s.0, ap (λ (x : TreeView). x.renewal) w, inl (ap (λ (x : Adapting). x.lost) s.0, ap (λ (x : TreeView). x.lost) w))
 
 -- What became of it, by the names that its parts have.
@@ -145,21 +147,24 @@ settled_as z t statistic tried x a b c m m' m'' is same here h = subst (λ (y : 
     (λ i. (sym is i, sym same i, sym here i)) h
 
 -- The exchange of a base split none.
-pub tried_splits : (z : Sizes) (event : Event) (edit : Edit) (word : ℕ) (tried : Result Bool NoRow) (u w : TreeView) → HasTried event z tried u w
-    → HasRenewed z word edit tried u w → w.splits ≡ u.splits
-tried_splits z event edit word (Ok true) u w done h = h.same_splits
-tried_splits z event edit word (Ok false) u w lost h = ap (λ (x : TreeView). x.splits) lost
-tried_splits z event edit word (Err why) u w same h = ap (λ (x : TreeView). x.splits) same
+pub tried_splits : (met : Met) (z : Sizes) (event : Event) (edit : Edit) (word : ℕ) (tried : Result Bool NoRow) (u w : TreeView) → HasTried event z tried u w
+    → HasRenewed z met word edit tried u w → w.splits ≡ u.splits
+tried_splits met z event edit word (Ok true) u w done h = h.same_splits
+tried_splits met z event edit word (Ok false) u w lost h = ap (λ (x : TreeView). x.splits) lost
+tried_splits met z event edit word (Err why) u w same h = ap (λ (x : TreeView). x.splits) same
 
 -- Where it won, the new base is the one that was shown last.
-pub is_new : (z : Sizes) (edit : Edit) (word placed : ℕ) (tried : Result Bool NoRow) (u w : TreeView)
-    → HasKey (first_note u.notes).place.span (edit_key edit) → HasRenewed z word edit tried u w → IsNewRow placed tried w → tried ≡ Ok true
-    → IsNew placed (edit_key edit) w
-is_new z edit word placed tried u w about renewed row won = let h = subst (λ (r : Result Bool NoRow). HasRenewed z word edit r u w) won renewed in record {
+pub is_new : (met : Met) (z : Sizes) (edit : Edit) (word placed : ℕ) (tried : Result Bool NoRow) (u w : TreeView)
+    → HasKey (first_note u.notes).place.span (edit_key edit) → HasRenewed z met word edit tried u w → IsNewRow placed tried w → tried ≡ Ok true
+    → IsNew placed (edit_key edit) met w
+is_new met z edit word placed tried u w about renewed row won = let h = subst (λ (r : Result Bool NoRow). HasRenewed z met word edit r u w) won renewed in record {
   row = row won ∙ ap (λ (r : Renewal). r.new.row) (sym h.renewal);
   last = h.last ∙ ap (λ (r : Renewal). r.new) (sym h.renewal);
   key_is = ap (λ (r : Renewal). r.key) h.renewal;
   splits_are = h.same_splits ∙ ap (λ (r : Renewal). r.splits) (sym h.renewal);
+  lost_are = h.same_lost ∙ ap (λ (r : Renewal). r.lost) (sym h.renewal);
+  loads_are = h.same_loads ∙ ap (λ (r : Renewal). r.loads) (sym h.renewal);
+  met_are = ap (λ (r : Renewal). r.met) (sym h.renewal);
   listed = let x = h.inventory.0 in (
     x.old.place,
     subst (λ (n : ℕ). IsIn (n, x.old.place) w.inventory.bases) (ap (λ (r : Renewal). r.new.row) (sym h.renewal))
@@ -212,6 +217,7 @@ settled_stopped z t statistic (Err norow.Worn) a b k m m' ended s = subst (λ (x
 pub record HasComeOf (z : Sizes) (a : Adapted) (u v : TreeView) : Type 0 where
   pub renewal : v.renewal ≡ u.renewal
   pub last : v.last ≡ u.last
+  pub shown : v.shown ≡ u.shown
   pub tried : u.splits ≡ u.renewal.splits → HasTriedOnce z v.last v.renewal.splits v.splits a
   pub further_is : IsFurther u v
   pub known : IsKnown z u → IsKnown z v
@@ -222,6 +228,7 @@ not_split z w u v reason e = ⊎_elim
     (λ (same : v ≡ u). subst (λ (y : TreeView). HasComeOf z (adapted.NotSplit w) u y) (sym same) record {
       renewal = refl;
       last = refl;
+      shown = refl;
       tried = λ same. (reason, same);
       further_is = record { number = refl; seen = starts_whole u.seen; log = refl; counts = refl };
       known = λ k. k;
@@ -229,6 +236,7 @@ not_split z w u v reason e = ⊎_elim
     (λ (lost : v ≡ one_more_lost u). subst (λ (y : TreeView). HasComeOf z (adapted.NotSplit w) u y) (sym lost) record {
       renewal = refl;
       last = refl;
+      shown = refl;
       tried = λ same. (reason, same);
       further_is = record { number = refl; seen = starts_whole u.seen; log = refl; counts = refl };
       known = λ k. record { lawful = k.lawful; past = k.past; edits = k.edits; enrolled = k.enrolled; by_passes = k.by_passes };
@@ -256,6 +264,7 @@ come_of z note adapted.Stay m m' last h = absurd h
 come_of z note adapted.Split m m' last h = subst (λ (y : TreeView). HasComeOf z adapted.Split m.0.upper y) (sym h.2.2) record {
   renewal = refl;
   last = refl;
+  shown = refl;
   tried = λ same. (subst (MayBeSplit z) (sym last) h.0, ap (λ n. n + 1) same);
   further_is = record { number = refl; seen = starts_whole m.0.upper.seen; log = refl; counts = refl };
   known = λ k. record { lawful = k.lawful; past = k.past; edits = k.edits; enrolled = k.enrolled; by_passes = k.by_passes };
@@ -286,15 +295,15 @@ come_splits z note (adapted.NotSplit w) m m' h = ((λ e. cc), λ n. none w h)
 come_splits z note (adapted.NotJoined w) m m' h = absurd h
 
 -- After an update the pass walked to its key again, and came to another base than the new one.
-pub led_elsewhere : (z : Sizes) (key : Bor (List ℕ)) (placed : ℕ) (m m' : MyTree) (cursor : Cursor) → IsNew placed key.now m.0.upper
+pub led_elsewhere : (z : Sizes) (key : Bor (List ℕ)) (placed : ℕ) (m m' : MyTree) (cursor : Cursor) → IsNew placed key.now (met_of m) m.0.upper
     → IsWalked z (spot.At key) m cursor m' → cursor.base ≢ placed → HasLookedAgain z adapted.Stay m.0.upper m'.0.upper
 led_elsewhere z key placed m m' cursor new w other = subst (λ (x : MyTree). HasLookedAgain z adapted.Stay m.0.upper x.0.upper) (sym w.now) (
   refl,
-  (subst (HasKey w.note.place.span) (sym new.key_is) w.sought, inl ((λ e. other (sym w.cursor_is.base ∙ (e ∙ sym new.row))), (refl, new.splits_are))),
+  (let at = new.loads_are in let some = w.some in omega arith, subst (HasKey w.note.place.span) (sym new.key_is) w.sought, inl ((λ e. other (sym w.cursor_is.base ∙ (e ∙ sym new.row))), (refl, new.splits_are))),
 )
 
 -- It came to the new one, and tried once to split it.
-pub led_there : (z : Sizes) (key : Bor (List ℕ)) (placed : ℕ) (m m' m'' : MyTree) (cursor : Cursor) (a : Adapted) → IsNew placed key.now m.0.upper
+pub led_there : (z : Sizes) (key : Bor (List ℕ)) (placed : ℕ) (m m' m'' : MyTree) (cursor : Cursor) (a : Adapted) → IsNew placed key.now (met_of m) m.0.upper
     → IsWalked z (spot.At key) m cursor m' → z.leaf ≤ 120 → cursor.base ≡ placed → IsSplitAs z (first_note m'.0.upper.notes) a m' m''
     → HasLookedAgain z a m.0.upper m''.0.upper × (IsFurther m.0.upper m''.0.upper × IsKnown z m''.0.upper)
 led_there z key placed m m' m'' cursor a new w most same h =
@@ -304,6 +313,8 @@ led_there z key placed m m' m'' cursor a new w most same h =
       (
         come.renewal ∙ renewed,
         (
+          (let same_loads = ap (λ (r : Renewal). r.loads) (come.renewal ∙ renewed) in let at = new.loads_are in let some = w.some in
+              let now : m''.0.upper.shown ≡ m.0.upper.loads + w.loads = come.shown ∙ ap (λ (u : TreeView). u.shown) up in omega arith),
           subst (λ (r : Renewal). HasKey m''.0.upper.last.place.span r.key) (sym (come.renewal ∙ renewed))
               (subst (λ (n : Note). HasKey n.place.span m.0.upper.renewal.key) (sym (come.last ∙ last))
               (subst (HasKey w.note.place.span) (sym new.key_is) w.sought)),
@@ -343,21 +354,21 @@ pub settled_tried : (z : Sizes) (event : TreeView → Event) (tried : Result Boo
 settled_tried z event tried r u u' w v same is k h f = subst (λ (x : Result (Unit {0}) Stop). HasTriedTo (λ _ e. e ≡ event u) z x u v) (sym is)
     (tried_then (λ _ e. e ≡ event u) z (come_to tried) u w v (tried_by z event tried (come_to tried) u u' w same refl k h) f)
 
-pub settled_on : (z : Sizes) (t : Tuning) (event : TreeView → Event) (edit : Edit) (statistic : ℤ) (word : ℕ) (tried : Result Bool NoRow)
+pub settled_on : (met : Met) (z : Sizes) (t : Tuning) (event : TreeView → Event) (edit : Edit) (statistic : ℤ) (word : ℕ) (tried : Result Bool NoRow)
     (r : Result (Unit {0}) Stop) (a b : Adapting) (u u' : TreeView) (m m' : MyTree) → u' ≡ u → r ≡ come_to tried
-    → HasTried (event u') z tried u' m.0.upper → HasRenewed z word edit tried u' m.0.upper → IsMoved t (get_or (first_note u.notes).its 1 0) a.lost statistic
+    → HasTried (event u') z tried u' m.0.upper → HasRenewed z met word edit tried u' m.0.upper → IsMoved t (get_or (first_note u.notes).its 1 0) a.lost statistic
     → IsWordOf statistic word → HasSettled z t statistic tried a b m m' → HasGoneOn (λ (_ : Unit {0}). true) z t a b r u m'.0.upper
-settled_on z t event edit statistic word tried r a b u u' m m' same is h renewed moved word_is s = subst
+settled_on met z t event edit statistic word tried r a b u u' m m' same is h renewed moved word_is s = subst
     (λ (x : Result (Unit {0}) Stop). HasGoneOn (λ (_ : Unit {0}). true) z t a b x u m'.0.upper) (sym is)
     (subst (λ (y : TreeView). HasGoneOn (λ (_ : Unit {0}). true) z t a b (come_to tried) y m'.0.upper) same
-    (settled_gone z t (event u') edit statistic word tried a b u' m m' h renewed
+    (settled_gone met z t (event u') edit statistic word tried a b u' m m' h renewed
     (subst (λ (y : TreeView). IsMoved t (get_or (first_note y.notes).its 1 0) a.lost statistic) (sym same) moved) word_is s))
 
-pub settled_paid : (z : Sizes) (event : Event) (edit : Edit) (word : ℕ) (tried : Result Bool NoRow) (a b c : Spent) (k m m' m'' : MyTree) → m ≡ k
-    → HasTried event z tried m.0.upper m'.0.upper → HasRenewed z word edit tried m.0.upper m'.0.upper → IsSpent a b m m' → IsPaid b c m' m''
+pub settled_paid : (met : Met) (z : Sizes) (event : Event) (edit : Edit) (word : ℕ) (tried : Result Bool NoRow) (a b c : Spent) (k m m' m'' : MyTree) → m ≡ k
+    → HasTried event z tried m.0.upper m'.0.upper → HasRenewed z met word edit tried m.0.upper m'.0.upper → IsSpent a b m m' → IsPaid b c m' m''
     → IsPaid a c k m''
-settled_paid z event edit word tried a b c k m m' m'' same h renewed spent paid = subst (λ (x : MyTree). IsPaid a c x m'') same
-    (paid_both a b c m m' m'' (paid_of a b m m' spent (tried_splits z event edit word tried m.0.upper m'.0.upper h renewed)) paid)
+settled_paid met z event edit word tried a b c k m m' m'' same h renewed spent paid = subst (λ (x : MyTree). IsPaid a c x m'') same
+    (paid_both a b c m m' m'' (paid_of a b m m' spent (tried_splits met z event edit word tried m.0.upper m'.0.upper h renewed)) paid)
 
 pub settled_found : (z : Sizes) (t : Tuning) (statistic : ℤ) (tried : Result Bool NoRow) (r : Result (Unit {0}) Stop) (a b : Adapting) (k m m' m'' : MyTree)
     → m ≡ k → r ≡ come_to tried → HasEnded tried m m' → HasSettled z t statistic tried a b m' m'' → HasStopped r k m''

@@ -20,8 +20,8 @@ use Rattle.ca_node.specs.Inventory.{but, but_all, row_itself, row_of_base, IsLis
 use Rattle.ca_node.specs.Links.{IsIn}
 use Rattle.ca_node.specs.Place.{Place, Span, left_of, right_of, left_place, right_place, part}
 use Rattle.ca_node.specs.Row.{count, key, pair, route_key}
-use Rattle.ca_node.specs.Told.{MyTree, Division, IsAlone, IsKnown, with_upper, entered, divided, one_more_lost}
-use Rattle.ca_node.specs.TreeView.{Inventory, Note, TreeView, pinned, unpinned}
+use Rattle.ca_node.specs.Told.{MyTree, IsAlone, IsKnown, with_upper, entered, divided, one_more_lost}
+use Rattle.ca_node.specs.TreeView.{Inventory, Note, TreeView, pinned, unpinned, Division}
 use Rattle.ca_node.proofs.Listing.{of_but, but_shorter, but_all_shorter}
 use Rattle.ca_node.proofs.Looking.{in_more}
 use Rattle.ca_node.proofs.Parts.{part_cut}
@@ -39,6 +39,7 @@ use Rattle.ca_replace.specs.Attempting.{IsLooking, IsQuiet, HasTriedTo, come_to,
 use Rattle.ca_replace.specs.Growing.{Grows, GrowsBy, IsSameTree, HasRoom, HasRoomFor, HasGrown, HasWaited, HasGrownSoFar}
 use Rattle.ca_replace.proofs.OneHand.{seen_still}
 use Rattle.ca_rows.specs.declared.sizes.Sizes.{Sizes}
+use Rattle.ca_rows.specs.declared.view.Met.{Met}
 
 -- One growth behind another.
 pub grows_both : (a b c d e f : ℕ) (u w v : TreeView) → Grows a b c u w → Grows d e f w v → Grows (a + d) (b + e) (c + f) u v
@@ -73,9 +74,9 @@ pub same_both : (u w v : TreeView) → IsSameTree u w → IsSameTree w v → IsS
 same_both u w v a b = (b.0 ∙ a.0, b.1 ∙ a.1)
 
 -- An update by which one object row comes at most.
-pub update_grows : (z : Sizes) (word : ℕ) (edit : Edit) (u v : TreeView) → IsListed u.inventory (first_note u.notes) → IsRenewed z word edit u v
+pub update_grows : (met : Met) (z : Sizes) (word : ℕ) (edit : Edit) (u v : TreeView) → IsListed u.inventory (first_note u.notes) → IsRenewed z met word edit u v
     → Grows 0 1 0 u v
-update_grows z word edit u v l h = let x = h.inventory.0 in let few = h.inventory.2 in let outs : List ℕ = x.old.row ∷ x.goes in
+update_grows met z word edit u v l h = let x = h.inventory.0 in let few = h.inventory.2 in let outs : List ℕ = x.old.row ∷ x.goes in
     let old = subst (λ (n : Note). IsListed u.inventory n) (sym h.inventory.1) l in
     let fewer = but_all_shorter row_itself outs u.inventory.rows x.old.row old.row (0, refl) in
     let less = but_shorter row_of_base x.old.row u.inventory.bases (x.old.row, x.old.place) old.base refl in
@@ -236,28 +237,28 @@ tried_number z event (Ok false) u w h = ap (λ (x : TreeView). x.number) h
 tried_number z event (Err why) u w h = ap (λ (x : TreeView). x.number) h
 
 -- What an attempt comes to by its exchange, given what followed.
-tried_grown : (z : Sizes) (adds : Option (List ℕ)) (event : Event) (edit : Edit) (word : ℕ) (tried : Result Bool NoRow) (u w v : TreeView)
-    → IsListed u.inventory (first_note u.notes) → HasTried event z tried u w → HasRenewed z word edit tried u w → Grows 1 2 1 w v
+tried_grown : (met : Met) (z : Sizes) (adds : Option (List ℕ)) (event : Event) (edit : Edit) (word : ℕ) (tried : Result Bool NoRow) (u w v : TreeView)
+    → IsListed u.inventory (first_note u.notes) → HasTried event z tried u w → HasRenewed z met word edit tried u w → Grows 1 2 1 w v
     → (tried ≢ Ok true → v ≡ w) → HasGrown z adds (come_to tried) u v
-tried_grown z adds event edit word (Ok true) u w v l h renewed then else = grows_both 0 1 0 1 2 1 u w v (update_grows z word edit u w l renewed) then
-tried_grown z adds event edit word (Ok false) u w v l h renewed then else = let e = else (λ e. cc) ∙ h in
+tried_grown met z adds event edit word (Ok true) u w v l h renewed then else = grows_both 0 1 0 1 2 1 u w v (update_grows met z word edit u w l renewed) then
+tried_grown met z adds event edit word (Ok false) u w v l h renewed then else = let e = else (λ e. cc) ∙ h in
     (ap (λ (x : TreeView). x.splits) e, ap (λ (x : TreeView). x.inventory) e)
-tried_grown z adds event edit word (Err norow.Lost) u w v l h renewed then else = let e = else (λ e. cc) ∙ h in
+tried_grown met z adds event edit word (Err norow.Lost) u w v l h renewed then else = let e = else (λ e. cc) ∙ h in
     (ap (λ (x : TreeView). x.splits) e, ap (λ (x : TreeView). x.inventory) e)
-tried_grown z adds event edit word (Err norow.Empty) u w v l h renewed then else = let e = else (λ e. cc) ∙ h in
+tried_grown met z adds event edit word (Err norow.Empty) u w v l h renewed then else = let e = else (λ e. cc) ∙ h in
     (ap (λ (x : TreeView). x.splits) e, ap (λ (x : TreeView). x.inventory) e)
-tried_grown z adds event edit word (Err norow.Worn) u w v l h renewed then else = let e = else (λ e. cc) ∙ h in
+tried_grown met z adds event edit word (Err norow.Worn) u w v l h renewed then else = let e = else (λ e. cc) ∙ h in
     (ap (λ (x : TreeView). x.splits) e, ap (λ (x : TreeView). x.inventory) e)
 
-pub settled_grown : (z : Sizes) (t : Tuning) (adds : Option (List ℕ)) (event : Event) (edit : Edit) (word : ℕ) (statistic : ℤ) (tried : Result Bool NoRow)
+pub settled_grown : (met : Met) (z : Sizes) (t : Tuning) (adds : Option (List ℕ)) (event : Event) (edit : Edit) (word : ℕ) (statistic : ℤ) (tried : Result Bool NoRow)
     (r : Result (Unit {0}) Stop) (a b : Adapting) (k m m' m'' : MyTree) (key : List ℕ) (cursor : Cursor) → m ≡ k → r ≡ come_to tried
-    → IsLooking z k.0.upper key cursor → HasTried event z tried m.0.upper m'.0.upper → HasRenewed z word edit tried m.0.upper m'.0.upper
+    → IsLooking z k.0.upper key cursor → HasTried event z tried m.0.upper m'.0.upper → HasRenewed z met word edit tried m.0.upper m'.0.upper
     → HasSettled z t statistic tried a b m' m'' → (IsAlone z m'.0.upper → Grows 1 2 1 m'.0.upper m''.0.upper) → IsAlone z k.0.upper
     → HasGrown z adds r k.0.upper m''.0.upper
-settled_grown z t adds event edit word statistic tried r a b k m m' m'' key cursor same is l h renewed settled then alone = subst
+settled_grown met z t adds event edit word statistic tried r a b k m m' m'' key cursor same is l h renewed settled then alone = subst
     (λ (x : Result (Unit {0}) Stop). HasGrown z adds x k.0.upper m''.0.upper) (sym is)
     (subst (λ (x : MyTree). HasGrown z adds (come_to tried) x.0.upper m''.0.upper) same
-    (tried_grown z adds event edit word tried m.0.upper m'.0.upper m''.0.upper
+    (tried_grown met z adds event edit word tried m.0.upper m'.0.upper m''.0.upper
     (subst (λ (x : MyTree). IsListed x.0.upper.inventory (first_note x.0.upper.notes)) (sym same) (l.listed alone)) h renewed
     (then (alone.0, subst (λ (n : ℕ). 0 < n) (sym (tried_number z event tried m.0.upper m'.0.upper h ∙ ap (λ (x : MyTree). x.0.upper.number) same)) alone.1))
     (λ n. settled_still z t statistic tried a b m' m'' n settled)))

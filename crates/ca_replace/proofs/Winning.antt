@@ -31,15 +31,17 @@ use Rattle.ca_replace.specs.Attempting.{IsLooking, come_to, refused_as, split_to
 use Rattle.ca_replace.specs.Refusals.{outcome_of}
 use Rattle.ca_replace.specs.Winning.{HasWon, HasWonAs, WinsAs}
 use Rattle.ca_rows.specs.declared.sizes.Sizes.{Sizes}
+use Rattle.ca_rows.specs.declared.view.Met.{Met}
+use Rattle.ca_rows.specs.Told.{met_of}
 
 -- The walk behind an update comes to the new base: it is listed, and has the key.
-pub comes_there : (z : Sizes) (key : Bor (List ℕ)) (placed : ℕ) (m m' : MyTree) (cursor : Cursor) → IsNew placed key.now m.0.upper
+pub comes_there : (z : Sizes) (key : Bor (List ℕ)) (placed : ℕ) (m m' : MyTree) (cursor : Cursor) → IsNew placed key.now (met_of m) m.0.upper
     → IsWalked z (spot.At key) m cursor m' → IsAlone z m.0.upper → cursor.base ≡ placed
 comes_there z key placed m m' cursor new w alone = sym (new.listed.2 ∙ (let l = w.listed alone in
     l.only m.0.upper.renewal.new.row new.listed.0 key.now new.listed.1 new.listed.3 w.sought ∙ w.cursor_is.base))
 
 -- What became of the due split.
-pub due_won : (z : Sizes) (key : Bor (List ℕ)) (placed : ℕ) (m m' m'' : MyTree) (cursor : Cursor) (a : Adapted) → IsNew placed key.now m.0.upper
+pub due_won : (z : Sizes) (key : Bor (List ℕ)) (placed : ℕ) (m m' m'' : MyTree) (cursor : Cursor) (a : Adapted) → IsNew placed key.now (met_of m) m.0.upper
     → IsWalked z (spot.At key) m cursor m' → cursor.base ≡ placed → IsSplitAs z (first_note m'.0.upper.notes) a m' m'' → IsPoolsLoss a m' m''
     → (m''.0.upper.lost ≡ m.0.upper.lost) × (m''.0.upper.last.row ≡ m''.0.upper.renewal.new.row)
 due_won z key placed m m' m'' cursor a new w same h pools = let t = by a h pools in (
@@ -82,14 +84,14 @@ room_won edits many attempt (Ok false) u v won h = absurd (won refl)
 room_won edits many attempt (Err why) u v won h = ap (λ (x : TreeView). x.lost) h
 
 -- What an attempt comes to by its exchange, given what followed.
-pub settled_won : (z : Sizes) (t : Tuning) (event : Event) (edit : Edit) (word : ℕ) (statistic : ℤ) (tried : Result Bool NoRow)
+pub settled_won : (met : Met) (z : Sizes) (t : Tuning) (event : Event) (edit : Edit) (word : ℕ) (statistic : ℤ) (tried : Result Bool NoRow)
     (r : Result (Unit {0}) Stop) (a b : Adapting) (k m m' m'' : MyTree) (key : List ℕ) (cursor : Cursor) → m ≡ k → r ≡ come_to tried
-    → IsLooking z k.0.upper key cursor → HasTried event z tried m.0.upper m'.0.upper → HasRenewed z word edit tried m.0.upper m'.0.upper
+    → IsLooking z k.0.upper key cursor → HasTried event z tried m.0.upper m'.0.upper → HasRenewed z met word edit tried m.0.upper m'.0.upper
     → HasSettled z t statistic tried a b m' m''
     → (IsAlone z m.0.upper → IsListed m.0.upper.inventory (first_note m.0.upper.notes) → tried ≢ Ok false)
     → (IsAlone z m'.0.upper → tried ≡ Ok true → (m''.0.upper.lost ≡ m'.0.upper.lost) × (m''.0.upper.last.row ≡ m''.0.upper.renewal.new.row))
     → IsAlone z k.0.upper → HasWonAs (λ _. true) r k.0.upper m''.0.upper
-settled_won z t event edit word statistic tried r a b k m m' m'' key cursor same is l h renewed settled won then alone = subst
+settled_won met z t event edit word statistic tried r a b k m m' m'' key cursor same is l h renewed settled won then alone = subst
     (λ (x : Result (Unit {0}) Stop). HasWonAs (λ _. true) x k.0.upper m''.0.upper) (sym is)
     (subst (λ (x : MyTree). HasWonAs {T = Unit {0}} (λ _. true) (come_to tried) x.0.upper m''.0.upper) same
     (by tried h renewed settled (won (subst (λ (x : MyTree). IsAlone z x.0.upper) (sym same) alone)
@@ -98,7 +100,7 @@ settled_won z t event edit word statistic tried r a b k m m' m'' key cursor same
     still : (x : TreeView) → x ≡ m.0.upper → m''.0.upper ≡ x → m''.0.upper.lost ≡ m.0.upper.lost
     still x e f = ap (λ (y : TreeView). y.lost) (f ∙ e)
 
-    by : (tried : Result Bool NoRow) → HasTried event z tried m.0.upper m'.0.upper → HasRenewed z word edit tried m.0.upper m'.0.upper
+    by : (tried : Result Bool NoRow) → HasTried event z tried m.0.upper m'.0.upper → HasRenewed z met word edit tried m.0.upper m'.0.upper
         → HasSettled z t statistic tried a b m' m'' → tried ≢ Ok false
         → (IsAlone z m'.0.upper → tried ≡ Ok true → (m''.0.upper.lost ≡ m'.0.upper.lost) × (m''.0.upper.last.row ≡ m''.0.upper.renewal.new.row))
         → HasWonAs {T = Unit {0}} (λ _. true) (come_to tried) m.0.upper m''.0.upper

@@ -10,7 +10,6 @@ use Rattle.ca_adapt.specs.declared.tuning.Tuning.{Tuning}
 use Rattle.ca_adapt.specs.Splits.{MayBeSplit}
 use Rattle.ca_adapt.specs.Statistics.{IsAfter, IsDue, IsStatisticOf, IsWordOf}
 use Rattle.ca_base.specs.declared.taking.NoRow.{NoRow}
-use Rattle.ca_base.specs.Counting.{losses}
 use Rattle.ca_model.specs.declared.outcome.Changed.{Changed}
 use Rattle.ca_model.specs.declared.outcome.Changed.TheVariants as changed
 use Rattle.ca_model.specs.declared.outcome.Outcome.{Outcome}
@@ -22,6 +21,7 @@ use Rattle.ca_node.specs.TreeView.{Note, Renewal, TreeView}
 use Rattle.ca_replace.specs.declared.adapting.Adapting.{Adapting}
 use Rattle.ca_replace.specs.declared.adapting.Last.{Last}
 use Rattle.ca_rows.specs.declared.sizes.Sizes.{Sizes}
+use Rattle.ca_rows.specs.declared.view.Met.{Met}
 
 -- Of a base with this word for its statistic, an update makes one with this statistic: it depends on whether the call lost an exchange of a link.
 abbrev pub IsMoved : Tuning → ℕ → Bool → ℤ → Type 0
@@ -31,12 +31,16 @@ IsMoved t word lost statistic = (old : ℤ) × IsStatisticOf word old × IsAfter
 abbrev pub HasLostSince : Bool → Bool → ℕ → ℕ → Type 0
 HasLostSince before now few many = ((now ≡ before) × (many ≡ few)) ⊎ ((now ≡ true) × (few < many))
 
--- The base with this row was just put in place, by an update that is about this key; it was shown last.
-pub record IsNew (placed : ℕ) (key : List ℕ) (u : TreeView) : Type 0 where
+-- The base with this row was just put in place, by an update that is about this key; it was shown last. So many splits and losses were counted as it
+-- was, and are now; and so many links were loaded.
+pub record IsNew (placed : ℕ) (key : List ℕ) (met : Met) (u : TreeView) : Type 0 where
   pub row : placed ≡ u.renewal.new.row
   pub last : u.last ≡ u.renewal.new
   pub key_is : u.renewal.key ≡ key
   pub splits_are : u.splits ≡ u.renewal.splits
+  pub lost_are : u.lost ≡ u.renewal.lost
+  pub loads_are : u.loads ≡ u.renewal.loads
+  pub met_are : met ≡ u.renewal.met
   -- It is listed at a place to which the key is led.
   pub listed : (place : Place) × IsIn (u.renewal.new.row, place) u.inventory.bases × (placed ≡ u.renewal.new.row) × HasKey place.span key
 
@@ -64,61 +68,77 @@ HasTriedOnce z note before now adapted.Joined = ⊥
 HasTriedOnce z note before now (adapted.NotSplit why) = IsReason z note why × (now ≡ before)
 HasTriedOnce z note before now (adapted.NotJoined why) = ⊥
 
--- The pass walked to the update's key anew, and this base was shown last. Where it is another one than the new one, nothing was tried; where it is that
--- one, it was tried once to split it.
-abbrev pub HasTriedThere : Sizes → Renewal → Note → ℕ → Adapted → Type 0
-HasTriedThere z r last now a = HasKey last.place.span r.key
-    × (((last.row ≢ r.new.row) × IsLeft r.splits now a) ⊎ ((last.row ≡ r.new.row) × HasTriedOnce z last r.splits now a))
+-- The pass walked to the key of its last update anew: the base that it was shown last was shown since, by a link, and has the key. Where it is another
+-- one than the new one, nothing was tried; where it is that one, it was tried once to split it.
+abbrev pub HasTriedThere : Sizes → TreeView → Adapted → Type 0
+HasTriedThere z v a = (v.renewal.loads < v.shown) × HasKey v.last.place.span v.renewal.key × (((v.last.row ≢ v.renewal.new.row)
+    × IsLeft v.renewal.splits v.splits a) ⊎ ((v.last.row ≡ v.renewal.new.row) × HasTriedOnce z v.last v.renewal.splits v.splits a))
+
+-- Nothing was tried: no link was loaded since.
+abbrev pub HasTriedNothing : TreeView → Adapted → Type 0
+HasTriedNothing v a = IsLeft v.renewal.splits v.splits a × (v.last ≡ v.renewal.new) × (v.loads ≡ v.renewal.loads)
 
 -- So it did where a split was due. Where nothing was due nothing was tried; nor was it where a join was, for joins aren't tried as yet.
-abbrev pub IsDoneAbout : Sizes → Due → Renewal → Note → ℕ → Adapted → Type 0
-IsDoneAbout z due.Nothing r last now a = IsLeft r.splits now a × (last ≡ r.new)
-IsDoneAbout z due.Split r last now a = HasTriedThere z r last now a
-IsDoneAbout z due.Join r last now a = IsLeft r.splits now a × (last ≡ r.new)
+abbrev pub IsDoneAbout : Due → Type 0 → Type 0 → Type 0
+IsDoneAbout due.Nothing Nothing There = Nothing
+IsDoneAbout due.Split Nothing There = There
+IsDoneAbout due.Join Nothing There = Nothing
 
 -- What was due to the new base of the last update by its statistic was done about it.
 abbrev pub IsAdaptedBy : Sizes → Tuning → ℤ → TreeView → Adapted → Type 0
-IsAdaptedBy z t statistic v a = (what : Due) × IsDue t statistic what × IsDoneAbout z what v.renewal v.last v.splits a
+IsAdaptedBy z t statistic v a = (what : Due) × IsDue t statistic what × IsDoneAbout what (HasTriedNothing v a) (HasTriedThere z v a)
 
 -- The same, where nothing was updated in between.
 abbrev pub HasLookedAgain : Sizes → Adapted → TreeView → TreeView → Type 0
-HasLookedAgain z a u v = (v.renewal ≡ u.renewal) × HasTriedThere z v.renewal v.last v.splits a
+HasLookedAgain z a u v = (v.renewal ≡ u.renewal) × HasTriedThere z v a
 
 abbrev pub HasAdapted : Sizes → Tuning → ℤ → Adapted → TreeView → TreeView → Type 0
 HasAdapted z t statistic a u v = (v.renewal ≡ u.renewal) × IsAdaptedBy z t statistic v a
 
--- From one of these moments to the other the pass lost an exchange, found the pool's head empty, or found its tag at the last value: what the answer says
--- of the base that was not split.
-abbrev pub IsMetAs : Adapted → MyTree → MyTree → Type 0
-IsMetAs adapted.Stay m m' = Unit {0}
-IsMetAs adapted.Split m m' = Unit {0}
-IsMetAs adapted.Joined m m' = Unit {0}
-IsMetAs (adapted.NotSplit why.Root) m m' = Unit {0}
-IsMetAs (adapted.NotSplit why.OneObject) m m' = Unit {0}
-IsMetAs (adapted.NotSplit why.AtLevel) m m' = Unit {0}
-IsMetAs (adapted.NotSplit why.SiblingRoute) m m' = Unit {0}
-IsMetAs (adapted.NotSplit why.TooMany) m m' = Unit {0}
-IsMetAs (adapted.NotSplit why.Taken) m m' = Unit {0}
-IsMetAs (adapted.NotSplit why.Lost) m m' = losses m < losses m'
-IsMetAs (adapted.NotSplit why.NoRow) m m' = m.0.empty < m'.0.empty
-IsMetAs (adapted.NotSplit why.Worn) m m' = m.0.worn < m'.0.worn
-IsMetAs (adapted.NotJoined why) m m' = Unit {0}
+-- Since this update was carried out the pass lost an exchange, found the pool's head empty, or found its tag at the last value: what the answer says
+-- of the base that was not split. So much was met of the pool until now, and so many exchanges of a link were lost.
+abbrev pub IsMetSince : Adapted → Renewal → Met → ℕ → Type 0
+IsMetSince adapted.Stay r now lost = Unit {0}
+IsMetSince adapted.Split r now lost = Unit {0}
+IsMetSince adapted.Joined r now lost = Unit {0}
+IsMetSince (adapted.NotSplit why.Root) r now lost = Unit {0}
+IsMetSince (adapted.NotSplit why.OneObject) r now lost = Unit {0}
+IsMetSince (adapted.NotSplit why.AtLevel) r now lost = Unit {0}
+IsMetSince (adapted.NotSplit why.SiblingRoute) r now lost = Unit {0}
+IsMetSince (adapted.NotSplit why.TooMany) r now lost = Unit {0}
+IsMetSince (adapted.NotSplit why.Taken) r now lost = Unit {0}
+IsMetSince (adapted.NotSplit why.Lost) r now lost = (r.met.lost < now.lost) ⊎ (r.lost < lost)
+IsMetSince (adapted.NotSplit why.NoRow) r now lost = r.met.empty < now.empty
+IsMetSince (adapted.NotSplit why.Worn) r now lost = r.met.worn < now.worn
+IsMetSince (adapted.NotJoined why) r now lost = Unit {0}
 
--- So it did, where an update was carried out.
-abbrev pub MeetsIf : Bool → Adapted → MyTree → MyTree → Type 0
-MeetsIf true a m m' = IsMetAs a m m'
-MeetsIf false a m m' = Unit {0}
+-- So it did since its last update.
+abbrev pub IsMetAs : Adapted → Met → TreeView → Type 0
+IsMetAs a now v = IsMetSince a v.renewal now v.lost
 
-abbrev pub MeetsAs : {T E : Type 0} → (T → Bool) → Last → Result T E → MyTree → MyTree → Type 0
-MeetsAs edits last (Ok x) m m' = MeetsIf (edits x) last.adapted m m'
-MeetsAs edits last (Err why) m m' = Unit {0}
+-- This holds where a call edited the map: by what its attempts came to, and by its outcome.
+abbrev pub IfTrue : Bool → Type 0 → Type 0
+IfTrue true P = P
+IfTrue false P = Unit {0}
 
-abbrev pub HasMetAs : {T : Type 0} → (T → Bool) → Last → Outcome T → MyTree → MyTree → Type 0
-HasMetAs edits last (outcome.Done x) m m' = MeetsIf (edits x) last.adapted m m'
-HasMetAs edits last (outcome.Busy s) m m' = Unit {0}
-HasMetAs edits last (outcome.Full s) m m' = Unit {0}
-HasMetAs edits last (outcome.Deep s) m m' = Unit {0}
-HasMetAs edits last (outcome.Worn s) m m' = Unit {0}
+abbrev pub IfEdited : {T E : Type 0} → (T → Bool) → Result T E → Type 0 → Type 0
+IfEdited edits (Ok x) P = IfTrue (edits x) P
+IfEdited edits (Err why) P = Unit {0}
+
+abbrev pub IfDoneEdit : {T : Type 0} → (T → Bool) → Outcome T → Type 0 → Type 0
+IfDoneEdit edits (outcome.Done x) P = IfTrue (edits x) P
+IfDoneEdit edits (outcome.Busy s) P = Unit {0}
+IfDoneEdit edits (outcome.Full s) P = Unit {0}
+IfDoneEdit edits (outcome.Deep s) P = Unit {0}
+IfDoneEdit edits (outcome.Worn s) P = Unit {0}
+
+-- Where an update was carried out, what the answer says of the base that was not split was met since. What was met of the pool counts until the pass
+-- unpinned.
+abbrev pub MeetsAs : {T E : Type 0} → (T → Bool) → Last → Result T E → Met → TreeView → Type 0
+MeetsAs edits last r now v = IfEdited edits r (IsMetAs last.adapted now v)
+
+abbrev pub HasMetAs : {T : Type 0} → (T → Bool) → Last → Outcome T → MyTree → Type 0
+HasMetAs edits last o m = IfDoneEdit edits o (IsMetAs last.adapted m.0.pin.left m.0.upper)
 
 -- What became of an exchange of a base, and of the new base.
 abbrev pub HasSettled : Sizes → Tuning → ℤ → Result Bool NoRow → Adapting → Adapting → MyTree → MyTree → Type 0

@@ -87,15 +87,19 @@ IfRefusedAs (outcome.Worn counter) P = P (refusal.Worn counter)
 abbrev pub KeepsFew : MyTree → MyTree → Vec Kept Global → Type 0
 KeepsFew m m' kept = (vec_len kept ≤ 64) ⊎ (HasLooked m m' × ((0 < m'.0.pin.lag) ⊎ (m'.0.pin.left.lost < m'.0.lost) ⊎ (4611686018427387904 ≤ m'.0.pin.scan)))
 
--- A pass is found to lag once at most: no attempt follows.
+-- As rows were given back a pass was found to lag once at most; the pass didn't pin.
 abbrev pub LagsOnce : MyTree → MyTree → Type 0
-LagsOnce m m' = m'.0.pin.lags ≤ m.0.pin.lags + 1
+LagsOnce m m' = (m'.0.pin.lags ≤ m.0.pin.lags + 1) × (m'.0.pin.entered ≡ m.0.pin.entered)
+
+-- A pass is found to lag once at most, and no attempt follows: as the call pinned last, none had been found to.
+abbrev pub EndsAtLag : MyTree → MyTree → Type 0
+EndsAtLag m m' = (m'.0.pin.lags ≤ m.0.pin.lags + 1) × (m'.0.pin.entered.lags ≡ m.0.pin.lags)
 
 -- A call of a pass's store that may add this key, if any, may be refused so, given what contracts see of the store before it and behind it.
 abbrev pub HasCause : {T : Type 0} → ℕ → Option (List ℕ) → StoreView → StoreView → Outcome T → Type 0
 HasCause budget adds s t o = IfRefusedAs o (λ why. IsCaused s.z s.number budget adds why s.seat.me s.kept t.seat.me t.kept)
 
 -- Behind a call the store's pass keeps few rows, or there is a cause in this call; it never held more than eight rows at once; and a pass was found to
--- lag once at most.
+-- lag once at most, behind the last attempt.
 abbrev pub IsSparing : StoreView → StoreView → Type 0
-IsSparing s t = KeepsFew s.seat.me t.seat.me t.kept × (t.seat.me.0.most ≤ 8) × LagsOnce s.seat.me t.seat.me
+IsSparing s t = KeepsFew s.seat.me t.seat.me t.kept × (t.seat.me.0.most ≤ 8) × EndsAtLag s.seat.me t.seat.me

@@ -2,13 +2,15 @@
 use Rattle.std.specs.Prelude.{◌≡◌, ◌⊎◌, ℕ, ◌≤◌, Bool, true, false, List, ◌∷◌, ◌++◌, length, map, Result, Ok, Err}
 use Rattle.std.specs.declared.option.Option.{Option}
 use Rattle.std.specs.declared.option.Option.TheVariants.{None, Some}
+use Rattle.ca_adapt.specs.Splits.{attempts_at_first}
+use Rattle.ca_base.specs.Splitting.{IsSplit}
 use Rattle.ca_model.specs.declared.outcome.Outcome.{Outcome}
 use Rattle.ca_model.specs.declared.outcome.Outcome.TheVariants as outcome
 use Rattle.ca_model.specs.StoreMap.{IsFound}
 use Rattle.ca_node.specs.Links.{IsIn}
 use Rattle.ca_node.specs.Place.{HasKey}
 use Rattle.ca_node.specs.Row.{pair}
-use Rattle.ca_node.specs.TreeView.{Note, TreeView}
+use Rattle.ca_node.specs.TreeView.{Note, Division, TreeView}
 use Rattle.ca_replace.specs.declared.attempting.Stop.{Stop}
 use Rattle.ca_replace.specs.declared.attempting.Stop.TheVariants as stop
 use Rattle.ca_rows.specs.declared.sizes.Sizes.{Sizes}
@@ -18,27 +20,32 @@ abbrev pub IsFullFor : Sizes → Option (List ℕ) → Note → Type 0
 IsFullFor z None note = ⊥
 IsFullFor z (Some key) note = (z.leaf ≤ length note.objects) × HasKey note.place.span key × IsFound (map pair note.objects) key None
 
--- The bases that were split since so many had been split are such ones.
-abbrev pub AreCutFull : Sizes → Option (List ℕ) → List Note → List Note → Type 0
-AreCutFull z adds before now = (full : List Note) × (now ≡ full ++ before) × ((note : Note) → IsIn note full → IsFullFor z adds note)
+-- The base was split in the middle of its objects, rounded down; the statistic of its halves is 0, and its route has had as many attempts to join as the
+-- space was made with.
+abbrev pub IsCutInTwo : Sizes → Division → Type 0
+IsCutInTwo z x = IsSplit x.old (length x.old.objects) (attempts_at_first z) x
+
+-- The splits that were carried out since these ones are of such bases.
+abbrev pub AreCutFull : Sizes → Option (List ℕ) → List Division → List Division → Type 0
+AreCutFull z adds before now = (full : List Division) × (now ≡ full ++ before) × ((x : Division) → IsIn x full → IsFullFor z adds x.old × IsCutInTwo z x)
 
 -- No base was split but such ones.
 abbrev pub HasCutFull : Sizes → Option (List ℕ) → TreeView → TreeView → Type 0
 HasCutFull z adds u v = AreCutFull z adds u.cuts v.cuts
 
 -- No base was split since these had been split, or one, that is the new one of the last update and was shown last.
-abbrev pub HasCutDue : List Note → TreeView → Type 0
-HasCutDue before v = (v.cuts ≡ before) ⊎ ((v.cuts ≡ v.last ∷ before) × (v.last.row ≡ v.renewal.new.row))
+abbrev pub HasCutDue : Sizes → List Division → TreeView → Type 0
+HasCutDue z before v = (v.cuts ≡ before) ⊎ ((x : Division) × (v.cuts ≡ x ∷ before) × IsCutInTwo z x × (x.old ≡ v.last) × (v.last.row ≡ v.renewal.new.row))
 
 -- So it is where an update was carried out; else no base was split.
-abbrev pub HasCutIf : Bool → List Note → TreeView → Type 0
-HasCutIf true before v = HasCutDue before v
-HasCutIf false before v = v.cuts ≡ before
+abbrev pub HasCutIf : Bool → Sizes → List Division → TreeView → Type 0
+HasCutIf true z before v = HasCutDue z before v
+HasCutIf false z before v = v.cuts ≡ before
 
 -- One attempt of a call that may add this key, if any.
 abbrev pub HasCut : {T : Type 0} → (T → Bool) → Sizes → Option (List ℕ) → Result T Stop → TreeView → TreeView → Type 0
-HasCut edits z adds (Ok x) u v = HasCutIf (edits x) u.cuts v
-HasCut edits z adds (Err stop.Split) u v = (note : Note) × (v.cuts ≡ note ∷ u.cuts) × IsFullFor z adds note
+HasCut edits z adds (Ok x) u v = HasCutIf (edits x) z u.cuts v
+HasCut edits z adds (Err stop.Split) u v = (x : Division) × (v.cuts ≡ x ∷ u.cuts) × IsFullFor z adds x.old × IsCutInTwo z x
 HasCut edits z adds (Err stop.Lost) u v = v.cuts ≡ u.cuts
 HasCut edits z adds (Err stop.Empty) u v = v.cuts ≡ u.cuts
 HasCut edits z adds (Err stop.Worn) u v = v.cuts ≡ u.cuts
@@ -46,7 +53,7 @@ HasCut edits z adds (Err stop.Deep) u v = v.cuts ≡ u.cuts
 
 -- Full bases were split before the update, and after it the one that is due, if it is; where none was carried out, none but full ones.
 abbrev pub CutsBy : Bool → Sizes → Option (List ℕ) → TreeView → TreeView → Type 0
-CutsBy true z adds u v = (then : List Note) × AreCutFull z adds u.cuts then × HasCutDue then v
+CutsBy true z adds u v = (then : List Division) × AreCutFull z adds u.cuts then × HasCutDue z then v
 CutsBy false z adds u v = HasCutFull z adds u v
 
 -- Attempts of a call, the last of which did it, or none.

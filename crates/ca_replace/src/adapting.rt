@@ -11,6 +11,7 @@ ghost use Rattle.ca_replace.specs.Growing.{Grows};
 ghost use Rattle.ca_replace.specs.Cutting.{HasCutDue};
 ghost use Rattle.ca_replace.specs.declared.attempting.Stop.TheVariants.{Deep as IsDeep};
 ghost use Rattle.ca_replace.specs.Attempting.{IsPaid, come_to};
+ghost use Rattle.ca_rows.specs.Told.{met_of};
 ghost use Rattle.ca_rows.specs.Passes.{OnlyReads, IsReading, sizes, known};
 ghost use Rattle.ca_node.specs.TreePasses.{tree_of};
 ghost use Rattle.ca_base.specs.Readiness.{IsReady, StaysReady};
@@ -70,18 +71,18 @@ pub(crate) fn settle(
     requires ready { IsReady space.now pass.old }
     requires tuned { IsTuned (sizes space.now) tuning.now }
     requires known { IsKnown (sizes space.now) (tree_of pass.old) }
-    requires placed { tried ≡ Ok true → IsNew placed key.now (tree_of pass.old) }
+    requires placed { tried ≡ Ok true → IsNew placed key.now (met_of (known pass.old)) (tree_of pass.old) }
     ensures frame { StaysReady space.now pass.old pass.new }
     ensures come { result ≡ come_to tried }
     ensures deep { result ≢ Err IsDeep }
     ensures further { IsFurther (tree_of pass.old) (tree_of pass.new) × IsKnown (sizes space.now) (tree_of pass.new) }
-    ensures met { tried ≡ Ok true → IsMetAs adapting.new.last.adapted (known pass.old) (known pass.new) }
+    ensures met { tried ≡ Ok true → IsMetAs adapting.new.last.adapted (met_of (known pass.new)) (tree_of pass.new) }
     ensures settled { HasSettled (sizes space.now) tuning.now statistic tried adapting.old adapting.new (known pass.old) (known pass.new) }
     ensures counted { IsPaid spent.old spent.new (known pass.old) (known pass.new) }
     ensures grows { IsAlone (sizes space.now) (tree_of pass.old) → Grows 1 2 1 (tree_of pass.old) (tree_of pass.new) }
     ensures won { IsAlone (sizes space.now) (tree_of pass.old) → tried ≡ Ok true → ((tree_of pass.new).lost ≡ (tree_of pass.old).lost)
         × ((tree_of pass.new).last.row ≡ (tree_of pass.new).renewal.new.row) }
-    ensures cut { HasCutDue (tree_of pass.old).cuts (tree_of pass.new) }
+    ensures cut { HasCutDue (sizes space.now) (tree_of pass.old).cuts (tree_of pass.new) }
 {
     match tried {
         Ok(true) => {
@@ -107,16 +108,16 @@ fn adapt(
     requires ready { IsReady space.now pass.old }
     requires tuned { IsTuned (sizes space.now) tuning.now }
     requires known { IsKnown (sizes space.now) (tree_of pass.old) }
-    requires placed { IsNew placed key.now (tree_of pass.old) }
+    requires placed { IsNew placed key.now (met_of (known pass.old)) (tree_of pass.old) }
     ensures frame { StaysReady space.now pass.old pass.new }
     ensures further { IsFurther (tree_of pass.old) (tree_of pass.new) × IsKnown (sizes space.now) (tree_of pass.new) }
-    ensures met { IsMetAs result (known pass.old) (known pass.new) }
+    ensures met { IsMetAs result (met_of (known pass.new)) (tree_of pass.new) }
     ensures adapted { HasAdapted (sizes space.now) tuning.now statistic result (tree_of pass.old) (tree_of pass.new) }
     ensures counted { IsPaid spent.old spent.new (known pass.old) (known pass.new) }
     ensures grows { IsAlone (sizes space.now) (tree_of pass.old) → Grows 1 2 1 (tree_of pass.old) (tree_of pass.new) }
     ensures won { IsAlone (sizes space.now) (tree_of pass.old) → ((tree_of pass.new).lost ≡ (tree_of pass.old).lost)
         × ((tree_of pass.new).last.row ≡ (tree_of pass.new).renewal.new.row) }
-    ensures cut { HasCutDue (tree_of pass.old).cuts (tree_of pass.new) }
+    ensures cut { HasCutDue (sizes space.now) (tree_of pass.old).cuts (tree_of pass.new) }
 {
     match tuning.due(statistic) {
         Due::Split => split_again(space, pass, tuning, key, placed, spent),
@@ -135,16 +136,16 @@ fn split_again(
 ) -> Adapted
     requires ready { IsReady space.now pass.old }
     requires tuned { IsTuned (sizes space.now) tuning.now }
-    requires placed { IsNew placed key.now (tree_of pass.old) }
+    requires placed { IsNew placed key.now (met_of (known pass.old)) (tree_of pass.old) }
     ensures frame { StaysReady space.now pass.old pass.new }
     ensures further { IsFurther (tree_of pass.old) (tree_of pass.new) × IsKnown (sizes space.now) (tree_of pass.new) }
-    ensures met { IsMetAs result (known pass.old) (known pass.new) }
+    ensures met { IsMetAs result (met_of (known pass.new)) (tree_of pass.new) }
     ensures tried { HasLookedAgain (sizes space.now) result (tree_of pass.old) (tree_of pass.new) }
     ensures counted { IsPaid spent.old spent.new (known pass.old) (known pass.new) }
     ensures grows { IsAlone (sizes space.now) (tree_of pass.old) → Grows 1 2 1 (tree_of pass.old) (tree_of pass.new) }
     ensures won { IsAlone (sizes space.now) (tree_of pass.old) → ((tree_of pass.new).lost ≡ (tree_of pass.old).lost)
         × ((tree_of pass.new).last.row ≡ (tree_of pass.new).renewal.new.row) }
-    ensures cut { HasCutDue (tree_of pass.old).cuts (tree_of pass.new) }
+    ensures cut { HasCutDue (sizes space.now) (tree_of pass.old).cuts (tree_of pass.new) }
 {
     let cursor = walk(space, pass, Spot::At(key));
     if cursor.base != placed {

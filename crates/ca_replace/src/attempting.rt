@@ -20,6 +20,7 @@ ghost use Rattle.ca_base.specs.Progress.{IsFurther};
 ghost use Rattle.ca_base.specs.Putting.{object_at, IsRoom, IsFor, put_event};
 ghost use Rattle.ca_rows.specs.declared.sizes.Sizes.{Sizes};
 ghost use Rattle.ca_rows.specs.Calls.{IsSame};
+ghost use Rattle.ca_rows.specs.Told.{met_of};
 ghost use Rattle.ca_rows.specs.Passes.{IsReading, sizes, known, view};
 ghost use Rattle.ca_node.specs.TreePasses.{tree_of};
 ghost use Rattle.ca_base.specs.Readiness.{IsReady, StaysReady, shown_last};
@@ -87,7 +88,7 @@ pub(crate) trait Attempt {
         ensures frame { StaysReady space.now pass.old pass.new }
         ensures tried { HasTriedTo (λ answer. tells self.now answer left.new) (sizes space.now) result (tree_of pass.old) (tree_of pass.new) }
         ensures deep { result ≡ Err IsDeep → IsFull (sizes space.now) (adds self.now) (tree_of pass.new).last (after (tree_of pass.new).seen []) }
-        ensures met_as { MeetsAs (edits self.now) adapting.new.last result (known pass.old) (known pass.new) }
+        ensures met_as { MeetsAs (edits self.now) adapting.new.last result (met_of (known pass.new)) (tree_of pass.new) }
         ensures gone_on { HasGoneOn (edits self.now) (sizes space.now) tuning.now adapting.old adapting.new result (tree_of pass.old)
             (tree_of pass.new) }
         ensures counted { IsPaid spent.old spent.new (known pass.old) (known pass.new) }
@@ -175,7 +176,7 @@ pub(crate) fn put_there(
     ensures no_split { OnOk place (result ≢ Err IsSplit) }
     ensures full { result ≡ Err IsDeep → IsFull (sizes space.now) (Some (slice_range object.now key_at key_end)) (tree_of pass.new).last (after
         (tree_of pass.new).seen []) }
-    ensures met_as { MeetsAs (λ _. true) adapting.new.last result (known pass.old) (known pass.new) }
+    ensures met_as { MeetsAs (λ _. true) adapting.new.last result (met_of (known pass.new)) (tree_of pass.new) }
     ensures gone_on { HasGoneOn (λ _. true) (sizes space.now) tuning.now adapting.old adapting.new result (tree_of pass.old) (tree_of pass.new) }
     ensures counted { IsPaid spent.old spent.new (known pass.old) (known pass.new) }
     ensures found { HasStopped result (known pass.old) (known pass.new) }
@@ -297,7 +298,7 @@ pub(crate) fn remove_there(
     ensures tried { HasTriedTo (λ _ event. event ≡ Remove key.now (Some (object_at (Ok at) (shown_last pass.old).objects))) (sizes space.now) result
         (tree_of pass.old) (tree_of pass.new) }
     ensures deep { result ≢ Err IsDeep }
-    ensures met_as { MeetsAs (λ _. true) adapting.new.last result (known pass.old) (known pass.new) }
+    ensures met_as { MeetsAs (λ _. true) adapting.new.last result (met_of (known pass.new)) (tree_of pass.new) }
     ensures gone_on { HasGoneOn (λ _. true) (sizes space.now) tuning.now adapting.old adapting.new result (tree_of pass.old) (tree_of pass.new) }
     ensures counted { IsPaid spent.old spent.new (known pass.old) (known pass.new) }
     ensures found { HasStopped result (known pass.old) (known pass.new) }

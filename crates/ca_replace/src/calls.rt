@@ -6,7 +6,7 @@ ghost use Rattle.ca_replace.specs.declared.attempting.Stop.TheVariants.{Deep as 
 ghost use Rattle.ca_node.specs.Told.{IsAlone, with_upper};
 ghost use Rattle.ca_replace.specs.Attempting.{IsPaid, total, HasAttempted, HasDoneAs, HasMetBy, HasStopped, HasTriedTo, IfDeep, refused_as};
 ghost use Rattle.ca_replace.specs.Adapting.{HasGoneOn, HasMetAs, LeavesAs, MeetsAs};
-ghost use Rattle.ca_replace.specs.Causes.{IfRefusedAs, IsCaused, IsFull, KeepsFew, LagsOnce};
+ghost use Rattle.ca_replace.specs.Causes.{EndsAtLag, IfRefusedAs, IsCaused, IsFull, KeepsFew};
 ghost use Rattle.ca_replace.specs.Growing.{GrowsBy, HasGrown, HasGrownSoFar};
 ghost use Rattle.ca_replace.specs.Cutting.{HasCut, HasCutAs, HasCutSoFar};
 ghost use Rattle.ca_replace.specs.Winning.{HasWonAs, WinsAs};
@@ -36,6 +36,7 @@ pub(crate) fn call<A: Attempt>(
 ) -> Outcome<A::Answer>
     requires resting { IsAtRest tree.now.space pass.old }
     requires may { A.may what.now (sizes tree.now.space) }
+    requires budget { 1 ≤ budget }
     ensures frame { StaysAtRest tree.now.space pass.old pass.new }
     ensures done { IfDone result (λ answer. HasDoneAs (A.tells what.now answer left.new) (tree_of pass.old) (tree_of pass.new)) }
     ensures refused { IfRefused result (λ rise. IsRefused rise (tree_of pass.old) (tree_of pass.new)) }
@@ -44,8 +45,8 @@ pub(crate) fn call<A: Attempt>(
     ensures caused { IfRefusedAs result (λ why. IsCaused (sizes tree.now.space) pass.old.number budget (A.adds what.now) why (known pass.old)
         pass.old.kept.rows (known pass.new) pass.new.kept.rows) }
     ensures few { KeepsFew (known pass.old) (known pass.new) pass.new.kept.rows }
-    ensures lags { LagsOnce (known pass.old) (known pass.new) }
-    ensures met_as { HasMetAs (A.edits what.now) last.new result (known pass.old) (known pass.new) }
+    ensures lags { EndsAtLag (known pass.old) (known pass.new) }
+    ensures met_as { HasMetAs (A.edits what.now) last.new result (known pass.new) }
     ensures leaves { LeavesAs (A.edits what.now) (sizes tree.now.space) tree.now.tuning last.old last.new result (tree_of pass.old)
         (tree_of pass.new) }
     ensures grows { (sizes tree.now.space).passes ≡ 1 → GrowsBy (A.adds what.now) (tree_of pass.old) (tree_of pass.new) }
@@ -105,14 +106,15 @@ fn attempts<A: Attempt>(
 ) -> Result<A::Answer, Refusal>
     requires resting { IsAtRest tree.now.space pass.old }
     requires may { A.may what.now (sizes tree.now.space) }
+    requires budget { 1 ≤ budget }
     requires none { (spent.old.lost ≡ 0) × (spent.old.helped ≡ 0) × (spent.old.passed ≡ 0) }
     ensures frame { StaysAtRest tree.now.space pass.old pass.new }
     ensures come { HasAttempted (λ answer. A.tells what.now answer left.new) result (tree_of pass.old) (tree_of pass.new) }
     ensures caused { IfErr result (λ why. IsCaused (sizes tree.now.space) pass.old.number budget (A.adds what.now) why (known pass.old)
         pass.old.kept.rows (known pass.new) pass.new.kept.rows) }
     ensures few { KeepsFew (known pass.old) (known pass.new) pass.new.kept.rows }
-    ensures lags { LagsOnce (known pass.old) (known pass.new) }
-    ensures met_as { MeetsAs (A.edits what.now) adapting.new.last result (known pass.old) (known pass.new) }
+    ensures lags { EndsAtLag (known pass.old) (known pass.new) }
+    ensures met_as { MeetsAs (A.edits what.now) adapting.new.last result (view pass.new).pin.left (tree_of pass.new) }
     ensures gone_on { HasGoneOn (A.edits what.now) (sizes tree.now.space) tree.now.tuning adapting.old adapting.new result (tree_of pass.old)
         (tree_of pass.new) }
     ensures grown { IsAlone (sizes tree.now.space) (tree_of pass.old)
@@ -170,7 +172,7 @@ fn turns<A: Attempt>(
     ensures frame { StaysAtRest tree.now.space pass.old pass.new }
     ensures tried { HasTriedTo (λ answer. A.tells what.now answer left.new) (sizes tree.now.space) result (tree_of pass.old) (tree_of pass.new) }
     ensures deep { result ≡ Err IsDeep → IsFull (sizes tree.now.space) (A.adds what.now) (tree_of pass.new).last (after (tree_of pass.new).seen []) }
-    ensures met_as { MeetsAs (A.edits what.now) adapting.new.last result (known pass.old) (known pass.new) }
+    ensures met_as { MeetsAs (A.edits what.now) adapting.new.last result (view pass.new).pin.left (tree_of pass.new) }
     ensures gone_on { HasGoneOn (A.edits what.now) (sizes tree.now.space) tree.now.tuning adapting.old adapting.new result (tree_of pass.old)
         (tree_of pass.new) }
     ensures grown { IsAlone (sizes tree.now.space) (tree_of pass.old)
@@ -181,6 +183,7 @@ fn turns<A: Attempt>(
     ensures found { HasMetBy result (known pass.old) (known pass.new) }
     ensures looks { (view pass.new).pin.looks ≡ (view pass.old).pin.looks }
     ensures lags { (view pass.new).pin.lags ≡ (view pass.old).pin.lags }
+    ensures entered { total spent.old < budget → (view pass.new).pin.entered.lags ≡ (view pass.old).pin.lags }
     ensures lost { result ≡ Err IsLost → budget ≤ total spent.new }
     ensures no_split { result ≢ Err IsSplit }
 {
@@ -215,7 +218,7 @@ fn once<A: Attempt>(
     ensures frame { StaysAtRest tree.now.space pass.old pass.new }
     ensures tried { HasTriedTo (λ answer. A.tells what.now answer left.new) (sizes tree.now.space) result (tree_of pass.old) (tree_of pass.new) }
     ensures deep { result ≡ Err IsDeep → IsFull (sizes tree.now.space) (A.adds what.now) (tree_of pass.new).last (after (tree_of pass.new).seen []) }
-    ensures met_as { MeetsAs (A.edits what.now) adapting.new.last result (known pass.old) (known pass.new) }
+    ensures met_as { MeetsAs (A.edits what.now) adapting.new.last result (view pass.new).pin.left (tree_of pass.new) }
     ensures gone_on { HasGoneOn (A.edits what.now) (sizes tree.now.space) tree.now.tuning adapting.old adapting.new result (tree_of pass.old)
         (tree_of pass.new) }
     ensures grown { IsAlone (sizes tree.now.space) (tree_of pass.old)
@@ -225,7 +228,7 @@ fn once<A: Attempt>(
     ensures counted { IsPaid spent.old spent.new (known pass.old) (known pass.new) }
     ensures found { HasStopped result (known pass.old) (known pass.new) }
     ensures looks { (view pass.new).pin.looks ≡ (view pass.old).pin.looks }
-    ensures lags { (view pass.new).pin.lags ≡ (view pass.old).pin.lags }
+    ensures lags { ((view pass.new).pin.lags ≡ (view pass.old).pin.lags) × ((view pass.new).pin.entered.lags ≡ (view pass.old).pin.lags) }
 {
     let space = &tree.space;
     space.pin(pass);

@@ -29,6 +29,7 @@ pub(crate) fn keep_few(tree: &Tree, pass: &mut TreePass) -> u32
     ensures few { KeepsFew (known pass.old) (known pass.new) pass.new.kept.rows }
     ensures lost { (view pass.new).lost ≡ (view pass.old).lost + result }
     ensures met { HasMet 0 0 (known pass.old) (known pass.new) }
+    ensures left { (view pass.new).pin.left ≡ (view pass.old).pin.left }
     ensures lags { LagsOnce (known pass.old) (known pass.new) }
 {
     if pass.kept() < MANY {

@@ -8,7 +8,7 @@ ghost use Rattle.ca_base.specs.Progress.{HasDone, IsRefused};
 ghost use Rattle.ca_replace.specs.Adapting.{HasMetAs, LeavesAs};
 ghost use Rattle.ca_replace.specs.Growing.{Grows};
 ghost use Rattle.ca_replace.specs.Winning.{WinsAs};
-ghost use Rattle.ca_replace.specs.Causes.{IfRefusedAs, IsCaused, KeepsFew, LagsOnce};
+ghost use Rattle.ca_replace.specs.Causes.{EndsAtLag, IfRefusedAs, IsCaused, KeepsFew};
 ghost use Rattle.ca_replace.specs.Cutting.{HasCutAs};
 ghost use Rattle.ca_rows.specs.Passes.{sizes, known};
 ghost use Rattle.ca_node.specs.TreePasses.{tree_of};
@@ -128,6 +128,7 @@ pub(crate) fn put(
     budget: u32,
 ) -> Outcome<()>
     requires resting { IsAtRest tree.now.space pass.old }
+    requires budget { 1 ≤ budget }
     requires within { (key_at ≤ key_end) × (key_end ≤ length object.now) }
     requires pair { IsPair (sizes tree.now.space).keypos (slice_range object.now key_at key_end, object.now) }
     ensures frame { StaysAtRest tree.now.space pass.old pass.new }
@@ -137,8 +138,8 @@ pub(crate) fn put(
     ensures caused { IfRefusedAs result (λ why. IsCaused (sizes tree.now.space) pass.old.number budget (Some (slice_range object.now key_at
         key_end)) why (known pass.old) pass.old.kept.rows (known pass.new) pass.new.kept.rows) }
     ensures few { KeepsFew (known pass.old) (known pass.new) pass.new.kept.rows }
-    ensures lags { LagsOnce (known pass.old) (known pass.new) }
-    ensures met_as { HasMetAs (λ _. true) last.new result (known pass.old) (known pass.new) }
+    ensures lags { EndsAtLag (known pass.old) (known pass.new) }
+    ensures met_as { HasMetAs (λ _. true) last.new result (known pass.new) }
     ensures leaves { LeavesAs (λ _. true) (sizes tree.now.space) tree.now.tuning last.old last.new result (tree_of pass.old) (tree_of pass.new) }
     ensures grows { (sizes tree.now.space).passes ≡ 1 → Grows 2 5 2 (tree_of pass.old) (tree_of pass.new) }
     ensures wins { (sizes tree.now.space).passes ≡ 1 → WinsAs (λ _. true) result (tree_of pass.old) (tree_of pass.new) }
@@ -164,6 +165,7 @@ pub(crate) fn put_new(
     budget: u32,
 ) -> Outcome<bool>
     requires resting { IsAtRest tree.now.space pass.old }
+    requires budget { 1 ≤ budget }
     requires within { (key_at ≤ key_end) × (key_end ≤ length object.now) }
     requires pair { IsPair (sizes tree.now.space).keypos (slice_range object.now key_at key_end, object.now) }
     ensures frame { StaysAtRest tree.now.space pass.old pass.new }
@@ -174,8 +176,8 @@ pub(crate) fn put_new(
     ensures caused { IfRefusedAs result (λ why. IsCaused (sizes tree.now.space) pass.old.number budget (Some (slice_range object.now key_at
         key_end)) why (known pass.old) pass.old.kept.rows (known pass.new) pass.new.kept.rows) }
     ensures few { KeepsFew (known pass.old) (known pass.new) pass.new.kept.rows }
-    ensures lags { LagsOnce (known pass.old) (known pass.new) }
-    ensures met_as { HasMetAs (λ new. new) last.new result (known pass.old) (known pass.new) }
+    ensures lags { EndsAtLag (known pass.old) (known pass.new) }
+    ensures met_as { HasMetAs (λ new. new) last.new result (known pass.new) }
     ensures leaves { LeavesAs (λ new. new) (sizes tree.now.space) tree.now.tuning last.old last.new result (tree_of pass.old) (tree_of pass.new) }
     ensures grows { (sizes tree.now.space).passes ≡ 1 → Grows 2 5 2 (tree_of pass.old) (tree_of pass.new) }
     ensures wins { (sizes tree.now.space).passes ≡ 1 → WinsAs (λ new. new) result (tree_of pass.old) (tree_of pass.new) }

@@ -7,7 +7,7 @@ ghost use Rattle.ca_base.specs.Progress.{IsRefused};
 ghost use Rattle.ca_replace.specs.Adapting.{HasMetAs, LeavesAs, is_put};
 ghost use Rattle.ca_replace.specs.Growing.{Grows};
 ghost use Rattle.ca_replace.specs.Winning.{WinsAs};
-ghost use Rattle.ca_replace.specs.Causes.{IfRefusedAs, IsCaused, KeepsFew, LagsOnce};
+ghost use Rattle.ca_replace.specs.Causes.{EndsAtLag, IfRefusedAs, IsCaused, KeepsFew};
 ghost use Rattle.ca_replace.specs.Cutting.{HasCutAs};
 ghost use Rattle.ca_replace.specs.Tells.{Removes, RemovesIf};
 ghost use Rattle.ca_rows.specs.Passes.{sizes, known};
@@ -77,6 +77,7 @@ pub(crate) fn remove(
     budget: u32,
 ) -> Outcome<bool>
     requires resting { IsAtRest tree.now.space pass.old }
+    requires budget { 1 ≤ budget }
     ensures frame { StaysAtRest tree.now.space pass.old pass.new }
     ensures removed { IfDone result (λ was. HasDoneAs (Removes key.now was old.new.items) (tree_of pass.old) (tree_of pass.new)) }
     ensures refused { IfRefused result (λ rise. IsRefused rise (tree_of pass.old) (tree_of pass.new)) }
@@ -86,8 +87,8 @@ pub(crate) fn remove(
     ensures caused { IfRefusedAs result (λ why. IsCaused (sizes tree.now.space) pass.old.number budget None why (known pass.old) pass.old.kept.rows
         (known pass.new) pass.new.kept.rows) }
     ensures few { KeepsFew (known pass.old) (known pass.new) pass.new.kept.rows }
-    ensures lags { LagsOnce (known pass.old) (known pass.new) }
-    ensures met_as { HasMetAs (λ was. was) last.new result (known pass.old) (known pass.new) }
+    ensures lags { EndsAtLag (known pass.old) (known pass.new) }
+    ensures met_as { HasMetAs (λ was. was) last.new result (known pass.new) }
     ensures leaves { LeavesAs (λ was. was) (sizes tree.now.space) tree.now.tuning last.old last.new result (tree_of pass.old) (tree_of pass.new) }
     ensures grows { (sizes tree.now.space).passes ≡ 1 → Grows 1 3 1 (tree_of pass.old) (tree_of pass.new) }
     ensures wins { (sizes tree.now.space).passes ≡ 1 → WinsAs (λ was. was) result (tree_of pass.old) (tree_of pass.new) }
@@ -159,6 +160,7 @@ pub(crate) fn remove_if<F: Fn(&[u8]) -> bool>(
     budget: u32,
 ) -> Outcome<Changed>
     requires resting { IsAtRest tree.now.space pass.old }
+    requires budget { 1 ≤ budget }
     requires function { MayBeAskedFor F.Fn f.now (sizes tree.now.space).keypos key.now }
     ensures frame { StaysAtRest tree.now.space pass.old pass.new }
     ensures removed { IfDone result (λ changed. HasDoneAs (RemovesIf F.Fn f.now key.now changed old.new.items) (tree_of pass.old)
@@ -170,8 +172,8 @@ pub(crate) fn remove_if<F: Fn(&[u8]) -> bool>(
     ensures caused { IfRefusedAs result (λ why. IsCaused (sizes tree.now.space) pass.old.number budget None why (known pass.old) pass.old.kept.rows
         (known pass.new) pass.new.kept.rows) }
     ensures few { KeepsFew (known pass.old) (known pass.new) pass.new.kept.rows }
-    ensures lags { LagsOnce (known pass.old) (known pass.new) }
-    ensures met_as { HasMetAs is_put last.new result (known pass.old) (known pass.new) }
+    ensures lags { EndsAtLag (known pass.old) (known pass.new) }
+    ensures met_as { HasMetAs is_put last.new result (known pass.new) }
     ensures leaves { LeavesAs is_put (sizes tree.now.space) tree.now.tuning last.old last.new result (tree_of pass.old) (tree_of pass.new) }
     ensures grows { (sizes tree.now.space).passes ≡ 1 → Grows 1 3 1 (tree_of pass.old) (tree_of pass.new) }
     ensures wins { (sizes tree.now.space).passes ≡ 1 → WinsAs is_put result (tree_of pass.old) (tree_of pass.new) }

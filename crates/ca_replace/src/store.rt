@@ -164,7 +164,7 @@ impl TreeStore<'_> {
         ensures caused { HasCause budget (Some (slice_range object.now key_at key_end)) self.old self.new result }
         ensures sparing { IsSparing self.old self.new }
         ensures closed { (knows self.new).run ≡ None }
-        ensures met_as { HasMetAs (λ _. true) self.new.last result self.old.seat.me self.new.seat.me }
+        ensures met_as { HasMetAs (λ _. true) self.new.last result self.new.seat.me }
         ensures adapted { LeavesAs (λ _. true) self.old.z self.old.tuning self.old.last self.new.last result self.old.seat.me.0.upper self.new.seat.me.0.upper }
         ensures grows { self.old.z.passes ≡ 1 → Grows 2 5 2 self.old.seat.me.0.upper self.new.seat.me.0.upper }
         ensures wins { self.old.z.passes ≡ 1 → WinsAs (λ _. true) result self.old.seat.me.0.upper self.new.seat.me.0.upper }
@@ -205,7 +205,7 @@ impl TreeStore<'_> {
         ensures caused { HasCause budget (Some (slice_range object.now key_at key_end)) self.old self.new result }
         ensures sparing { IsSparing self.old self.new }
         ensures closed { (knows self.new).run ≡ None }
-        ensures met_as { HasMetAs (λ new. new) self.new.last result self.old.seat.me self.new.seat.me }
+        ensures met_as { HasMetAs (λ new. new) self.new.last result self.new.seat.me }
         ensures adapted { LeavesAs (λ new. new) self.old.z self.old.tuning self.old.last self.new.last result self.old.seat.me.0.upper self.new.seat.me.0.upper }
         ensures grows { self.old.z.passes ≡ 1 → Grows 2 5 2 self.old.seat.me.0.upper self.new.seat.me.0.upper }
         ensures wins { self.old.z.passes ≡ 1 → WinsAs (λ new. new) result self.old.seat.me.0.upper self.new.seat.me.0.upper }
@@ -239,7 +239,7 @@ impl TreeStore<'_> {
         ensures caused { HasCause budget None self.old self.new result }
         ensures sparing { IsSparing self.old self.new }
         ensures closed { (knows self.new).run ≡ None }
-        ensures met_as { HasMetAs (λ was. was) self.new.last result self.old.seat.me self.new.seat.me }
+        ensures met_as { HasMetAs (λ was. was) self.new.last result self.new.seat.me }
         ensures adapted { LeavesAs (λ was. was) self.old.z self.old.tuning self.old.last self.new.last result self.old.seat.me.0.upper self.new.seat.me.0.upper }
         ensures grows { self.old.z.passes ≡ 1 → Grows 1 3 1 self.old.seat.me.0.upper self.new.seat.me.0.upper }
         ensures wins { self.old.z.passes ≡ 1 → WinsAs (λ was. was) result self.old.seat.me.0.upper self.new.seat.me.0.upper }
@@ -273,7 +273,7 @@ impl TreeStore<'_> {
         ensures caused { HasCause budget None self.old self.new result }
         ensures sparing { IsSparing self.old self.new }
         ensures closed { (knows self.new).run ≡ None }
-        ensures met_as { HasMetAs is_put self.new.last result self.old.seat.me self.new.seat.me }
+        ensures met_as { HasMetAs is_put self.new.last result self.new.seat.me }
         ensures adapted { LeavesAs is_put self.old.z self.old.tuning self.old.last self.new.last result self.old.seat.me.0.upper self.new.seat.me.0.upper }
         ensures grows { self.old.z.passes ≡ 1 → Grows 1 3 1 self.old.seat.me.0.upper self.new.seat.me.0.upper }
         ensures wins { self.old.z.passes ≡ 1 → WinsAs is_put result self.old.seat.me.0.upper self.new.seat.me.0.upper }
@@ -317,7 +317,7 @@ impl TreeStore<'_> {
         ensures caused { HasCause budget None self.old self.new result }
         ensures sparing { IsSparing self.old self.new }
         ensures closed { (knows self.new).run ≡ None }
-        ensures met_as { HasMetAs is_put self.new.last result self.old.seat.me self.new.seat.me }
+        ensures met_as { HasMetAs is_put self.new.last result self.new.seat.me }
         ensures adapted { LeavesAs is_put self.old.z self.old.tuning self.old.last self.new.last result self.old.seat.me.0.upper self.new.seat.me.0.upper }
         ensures grows { self.old.z.passes ≡ 1 → Grows 1 3 1 self.old.seat.me.0.upper self.new.seat.me.0.upper }
         ensures wins { self.old.z.passes ≡ 1 → WinsAs is_put result self.old.seat.me.0.upper self.new.seat.me.0.upper }

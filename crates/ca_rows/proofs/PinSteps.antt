@@ -133,9 +133,9 @@ module _ {U : Type 0} (linked lent : List ℕ → ℕ → Type 0) (noted : List 
       announce_step : d.pin.pinned ≡ false → R record {
         words = set s.words (d.pin.number + 1) (d.pin.told + 1);
         homes = s.homes;
-        views = set s.views id (record d { pin = record d.pin { pinned = true; moment = epoch s.words; entered = record { lost = d.lost; empty = d.empty; worn = d.worn } }; upper = enters d.upper });
+        views = set s.views id (record d { pin = record d.pin { pinned = true; moment = epoch s.words; entered = record { lost = d.lost; empty = d.empty; worn = d.worn; lags = d.pin.lags } }; upper = enters d.upper });
       }
-      announce_step un = let e' : Pin = record d.pin { pinned = true; moment = epoch s.words; entered = record { lost = d.lost; empty = d.empty; worn = d.worn } } in stores lo (d.pin.told + 1) e' (enters d.upper)
+      announce_step un = let e' : Pin = record d.pin { pinned = true; moment = epoch s.words; entered = record { lost = d.lost; empty = d.empty; worn = d.worn; lags = d.pin.lags } } in stores lo (d.pin.told + 1) e' (enters d.upper)
           record {
             number_is = refl;
             same_epoch = same_epoch lo (d.pin.told + 1);
@@ -157,9 +157,9 @@ module _ {U : Type 0} (linked lent : List ℕ → ℕ → Type 0) (noted : List 
       leave_step : R record {
         words = set s.words (d.pin.number + 1) 0;
         homes = s.homes;
-        views = set s.views id (record d { pin = record d.pin { pinned = false; left = record { lost = d.lost; empty = d.empty; worn = d.worn } }; upper = leaves d.upper });
+        views = set s.views id (record d { pin = record d.pin { pinned = false; left = record { lost = d.lost; empty = d.empty; worn = d.worn; lags = d.pin.lags } }; upper = leaves d.upper });
       }
-      leave_step = let e' : Pin = record d.pin { pinned = false; left = record { lost = d.lost; empty = d.empty; worn = d.worn } } in stores lo 0 e' (leaves d.upper)
+      leave_step = let e' : Pin = record d.pin { pinned = false; left = record { lost = d.lost; empty = d.empty; worn = d.worn; lags = d.pin.lags } } in stores lo 0 e' (leaves d.upper)
           record {
             number_is = refl;
             same_epoch = same_epoch lo 0;

@@ -8,7 +8,7 @@ use Rattle.ca_rows.specs.Words.{epoch, announced}
 
 -- what a seat met of the pool that took no step
 abbrev pub nothing_met : Met
-nothing_met = record { lost = 0; empty = 0; worn = 0 }
+nothing_met = record { lost = 0; empty = 0; worn = 0; lags = 0 }
 
 -- the pin of a seat that is no pass's, and of a pass that was just made
 abbrev pub unpinned : ℕ → Pin

@@ -85,7 +85,7 @@ module _ {U : Type 0} where
 
   -- what a seat has met of the pool
   abbrev pub met_of : Mine U → Met
-  met_of m = record { lost = m.0.lost; empty = m.0.empty; worn = m.0.worn }
+  met_of m = record { lost = m.0.lost; empty = m.0.empty; worn = m.0.worn; lags = m.0.pin.lags }
 
   -- The epoch was loaded, to announce it.
   abbrev pub Asked : Step (Unit {0}) → Mine U → ℕ → Mine U → Type 0

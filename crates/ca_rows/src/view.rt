@@ -31,11 +31,12 @@ pub struct Claimed {
 }
 
 /// What a seat met of the pool: exchanges of its head and of the epoch that were lost, how often it found the head empty as it was to take a row,
-/// and how often with its tag at the last value.
+/// and how often with its tag at the last value; and how many of its looks at the others found a pass that lags.
 pub struct Met {
     pub lost: u64,
     pub empty: u64,
     pub worn: u64,
+    pub lags: u64,
 }
 
 /// What a seat announces, and what it saw of others' announcements.

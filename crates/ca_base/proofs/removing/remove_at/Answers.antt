@@ -5,6 +5,7 @@ use Rattle.ca_node.specs.Told.{IsBaseNote}
 use Rattle.ca_node.specs.TreeView.{TreeView}
 use Rattle.ca_base.specs.Finding.{IsAtCursor}
 use Rattle.ca_base.specs.Putting.{gone, IsShownLast, first_note, last_items}
+use Rattle.ca_rows.specs.Told.{met_of}
 use Rattle.ca_base.proofs.Alone.{won_then}
 use Rattle.ca_base.proofs.Readying.{place_in, many_are, few_are, spells_there}
 use Rattle.ca_base.proofs.TakingOut.{ready_without, removed, renewed_without}
@@ -97,7 +98,7 @@ returns-clause-renewed c = let v = c.write_base_without-old.ensures.written in l
     c.args.cursor.base c.args.at c.args.statistic c.args._key.now v.0 r.shown (two.4 ∙ one.4) r.place
     (spells_there c.args.pass.now.seat.me.0.upper c.take.new.pass.seat.me.0.upper (λ xs. remove xs c.args.at) _ c.args.cursor.level c.args.statistic v.0 one.4
     r.cursor.level v.1) v.2
-    c.swap_in.result c.swap_in.new.pass.seat.me.0.upper c.swap_in.ensures.renewed
+    (met_of c.swap_in.new.pass.seat.me) c.swap_in.result c.swap_in.new.pass.seat.me.0.upper c.swap_in.ensures.renewed
 
 pub returns-clause-frame : goal.returns-clause-frame
 returns-clause-frame c = record {

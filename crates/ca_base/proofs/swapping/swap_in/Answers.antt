@@ -1,9 +1,12 @@
-use Rattle.std.proofs.Common.{◌≤◌, length, ℕ, List, ◌∷◌, sym, refl, ap, subst, ◌∙◌, true, false, rules}
+use Rattle.std.proofs.Common.{◌≤◌, length, ℕ, List, ◌∷◌, sym, refl, ap, subst, ◌∙◌, true, false, get_or, rules}
 use Rattle.ca_base.specs.Counting.{losses}
 use Rattle.ca_base.proofs.Alone.{not_missed}
-use Rattle.ca_base.proofs.Counts.{none_spent}
+use Rattle.ca_base.proofs.Counts.{met_both, none_spent}
 use Rattle.ca_base.specs.Taking.{HasHeld}
-use Rattle.ca_base.proofs.Renewing.{renewed, placed}
+use Rattle.ca_base.proofs.Renewing.{met_still, renewed, placed}
+use Rattle.ca_base.specs.Putting.{IsRenewed}
+use Rattle.ca_rows.specs.declared.view.Met.{Met}
+use Rattle.ca_rows.specs.Told.{met_of}
 use Rattle.ca_base.proofs.Unlinking.{held_still, swapped, is_done}
 use Rattle.ca_base.proofs.Tallies.{tallied_update}
 use Rattle.ca_base.proofs.swapping.swap_in.Goals as goal
@@ -47,13 +50,19 @@ returns-clause-counted g c = none_spent c.args.spent.now c.args.pass.now.seat.me
     (c.retire_all.ensures.met.0 ∙ (c.retire_unlinked.ensures.met.0 ∙ ap losses c.if-not-replace_base.ensures.done.now))
 
 pub returns-clause-renewed : goal.returns-clause-renewed
-returns-clause-renewed g c = renewed c.args.space.now.table.shared.key c.args.pass.now.kept.rows c.args.pass.now.seat.me c.args.new g.K.Intent.update
+returns-clause-renewed g c = let first = c.retire_unlinked.ensures in let rest = c.retire_all.ensures in
+    subst (λ (met : Met). IsRenewed c.args.space.now.table.shared.key met (get_or g.K.Intent.update.its 1 0) g.K.Intent.update.edit
+    c.args.pass.now.seat.me.0.upper c.retire_all.new.pass.seat.me.0.upper)
+    (met_still c.args.pass.now.seat.me c.replace_base.new.pass.seat.me c.retire_all.new.pass.seat.me (ap met_of c.if-not-replace_base.ensures.done.now)
+    (rest.met.0 ∙ first.met.0) (met_both 0 0 0 0 c.replace_base.new.pass.seat.me c.retire_unlinked.new.pass.seat.me c.retire_all.new.pass.seat.me
+    first.met.1 rest.met.1) (rest.frame.same.4 ∙ first.frame.same.4) (rest.frame.same.3 ∙ first.frame.same.3))
+    (renewed c.args.space.now.table.shared.key c.args.pass.now.kept.rows c.args.pass.now.seat.me c.args.new g.K.Intent.update
     c.requires.update c.requires.old_base
     (subst (λ (xs : List ℕ). HasHeld c.args.space.now.table.shared.key.rows c.args.pass.now.kept.rows c.args.pass.now.seat.me.0.claims (c.args.new ∷ xs))
     (sym c.requires.rows.0) c.requires.held.0)
     c.replace_base.new.pass.seat.me c.retire_all.new.pass.seat.me.0.upper
     (subst (λ (xs : List ℕ). length xs ≤ 1) (sym c.requires.rows.0) c.requires.few) c.if-not-replace_base.ensures.done
-    (c.retire_all.ensures.frame.same.4 ∙ c.retire_unlinked.ensures.frame.same.4)
+    (rest.frame.same.4 ∙ first.frame.same.4))
 
 pub returns-clause-placed : goal.returns-clause-placed
 returns-clause-placed g c = λ _. placed c.args.space.now.table.shared.key c.args.pass.now.kept.rows c.args.pass.now.seat.me c.args.new g.K.Intent.update

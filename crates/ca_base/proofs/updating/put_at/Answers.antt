@@ -5,6 +5,7 @@ use Rattle.ca_node.specs.Told.{IsBaseNote}
 use Rattle.ca_node.specs.TreeView.{TreeView}
 use Rattle.ca_base.specs.Finding.{IsAtCursor}
 use Rattle.ca_base.specs.Putting.{put_in, gone, IsRoom, IsShownLast, first_note, last_items}
+use Rattle.ca_rows.specs.Told.{met_of}
 use Rattle.ca_base.proofs.Alone.{won_then}
 use Rattle.ca_base.proofs.Readying.{finds_place, place_in, many_are, few_are, spells_there, ready, tried, renewed_so}
 use Rattle.ca_base.proofs.Rest.{two_apart, gone_apart}
@@ -119,7 +120,7 @@ returns-clause-renewed c = let t = c.in-Ok.ensures.taken in let w = c.write_obje
     c.args.key_at c.args.key_end c.args.statistic w.0 v.0 r.shown (three.4 ∙ (two.4 ∙ one.4)) (λ e. t.0 (sym e)) w.1 w.2
     (spells_there c.args.pass.now.seat.me.0.upper c.write_object.new.pass.seat.me.0.upper (λ xs. put_in xs c.args.place c.in-Ok.rows.1) _ c.args.cursor.level
     c.args.statistic v.0 (two.4 ∙ one.4) r.cursor.level v.1) v.2
-    c.swap_in.result c.swap_in.new.pass.seat.me.0.upper c.swap_in.ensures.renewed
+    (met_of c.swap_in.new.pass.seat.me) c.swap_in.result c.swap_in.new.pass.seat.me.0.upper c.swap_in.ensures.renewed
 
 pub returns-clause-frame : goal.returns-clause-frame
 returns-clause-frame c = record {

@@ -124,16 +124,14 @@ returns-else-was_split-clause-frame c = record {
 }
 
 pub returns-then-was_split-clause-met : goal.returns-then-was_split-clause-met
-returns-then-was_split-clause-met c = split_met c.args.space.now.table.shared.key (first_note c.walk-cursor.new.pass.seat.me.0.upper.notes)
-    c.try_split-adapted.result c.args.pass.now.seat.me c.walk-cursor.new.pass.seat.me c.try_split-adapted.new.pass.seat.me
-    (walked_quiet c.args.space.now.table.shared.key (spot.At c.args.key) c.args.pass.now.seat.me c.walk-cursor.new.pass.seat.me c.walk-cursor.result
-    c.walk-cursor.ensures.walked) c.try_split-adapted.ensures.split
+returns-then-was_split-clause-met c = split_met c.args.space.now.table.shared.key c.args.key c.args.placed
+    (first_note c.walk-cursor.new.pass.seat.me.0.upper.notes) c.try_split-adapted.result c.args.pass.now.seat.me c.walk-cursor.new.pass.seat.me
+    c.try_split-adapted.new.pass.seat.me c.walk-cursor.result c.requires.placed c.walk-cursor.ensures.walked c.try_split-adapted.ensures.split
 
 pub returns-else-was_split-clause-met : goal.returns-else-was_split-clause-met
-returns-else-was_split-clause-met c = split_met c.args.space.now.table.shared.key (first_note c.walk-cursor.new.pass.seat.me.0.upper.notes)
-    c.try_split-adapted.result c.args.pass.now.seat.me c.walk-cursor.new.pass.seat.me c.try_split-adapted.new.pass.seat.me
-    (walked_quiet c.args.space.now.table.shared.key (spot.At c.args.key) c.args.pass.now.seat.me c.walk-cursor.new.pass.seat.me c.walk-cursor.result
-    c.walk-cursor.ensures.walked) c.try_split-adapted.ensures.split
+returns-else-was_split-clause-met c = split_met c.args.space.now.table.shared.key c.args.key c.args.placed
+    (first_note c.walk-cursor.new.pass.seat.me.0.upper.notes) c.try_split-adapted.result c.args.pass.now.seat.me c.walk-cursor.new.pass.seat.me
+    c.try_split-adapted.new.pass.seat.me c.walk-cursor.result c.requires.placed c.walk-cursor.ensures.walked c.try_split-adapted.ensures.split
 
 pub returns-then-was_split-clause-grows : goal.returns-then-was_split-clause-grows
 returns-then-was_split-clause-grows c alone = let most = c.requires.tuned.allowed.most_leaf in let same = c.requires.tuned.leaf in

@@ -25,7 +25,7 @@ pub returns-clause-cut : goal.returns-clause-cut
 returns-clause-cut c key full = subst (λ (why : Stop). HasCut {T = Unit {0}} (λ _. true) c.args.space.now.table.shared.key (Some key) (Err why)
     c.args.pass.now.seat.me.0.upper c.split_at-split.new.pass.seat.me.0.upper) (sym c.stop_of.ensures)
     (made_cut (λ (_ : Unit {0}). true) c.args.space.now.table.shared.key (Some key) c.args.many _ c.split_at-split.result c.args.pass.now.seat.me.0.upper
-    c.split_at-split.new.pass.seat.me.0.upper full c.split_at-split.ensures.split)
+    c.split_at-split.new.pass.seat.me.0.upper full c.requires.many.0 c.first_attempt.ensures.value c.split_at-split.ensures.split)
 
 pub returns-clause-won : goal.returns-clause-won
 returns-clause-won c key looking alone = subst (λ (why : Stop). HasWonAs {T = Unit {0}} (λ _. true) (Err why) c.args.pass.now.seat.me.0.upper

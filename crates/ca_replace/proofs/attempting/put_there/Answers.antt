@@ -9,10 +9,11 @@ use Rattle.ca_node.specs.TreeView.{TreeView}
 use Rattle.ca_base.specs.Putting.{IsRoom, IsShownLast, first_note, object_at, put_event}
 use Rattle.ca_replace.specs.declared.attempting.Stop.{Stop}
 use Rattle.ca_replace.specs.declared.attempting.Stop.TheVariants.{Deep as IsDeep}
-use Rattle.ca_replace.specs.Adapting.{IsMoved, Waits}
+use Rattle.ca_replace.specs.Adapting.{IsMoved, Waits, IsMetAs}
 use Rattle.ca_replace.proofs.GoingOn.{is_new, known_then, settled_found, settled_on, settled_paid, settled_tried}
 use Rattle.ca_replace.proofs.Showing.{shown_last, full_there}
 use Rattle.ca_base.proofs.Tallies.{tallied_as}
+use Rattle.ca_rows.specs.Told.{met_of}
 use Rattle.ca_replace.proofs.DueCauses.{settled_met}
 use Rattle.ca_replace.proofs.Growing.{come_unsplit, settled_grown}
 use Rattle.ca_replace.specs.Cutting.{HasCut, IsFullFor}
@@ -75,7 +76,7 @@ settle-requires-clause-known c = known_then c.args.space.now.table.shared.key
     c.put_at-tried.ensures.put
 
 pub settle-requires-clause-placed : goal.settle-requires-clause-placed
-settle-requires-clause-placed c won = is_new c.args.space.now.table.shared.key
+settle-requires-clause-placed c won = is_new _ c.args.space.now.table.shared.key
     (Put (slice_range c.args.object.now c.args.key_at c.args.key_end) c.args.object.now) c.word_of-word.result c.put_at-tried.new.placed
     c.put_at-tried.result c.next_statistic-statistic.new.pass.seat.me.0.upper c.put_at-tried.new.pass.seat.me.0.upper
     (subst (λ (m : MyTree). HasKey (first_note m.0.upper.notes).place.span (slice_range c.args.object.now c.args.key_at c.args.key_end))
@@ -93,7 +94,7 @@ returns-clause-tried c = settled_tried c.args.space.now.table.shared.key
 
 pub returns-clause-gone_on : goal.returns-clause-gone_on
 returns-clause-gone_on c = let note = first_note c.args.pass.now.seat.me.0.upper.notes in let k : ℤ = c.next_statistic-statistic.result in
-    settled_on c.args.space.now.table.shared.key c.args.tuning.now
+    settled_on _ c.args.space.now.table.shared.key c.args.tuning.now
     (λ (u : TreeView). put_event c.args.why (slice_range c.args.object.now c.args.key_at c.args.key_end) (object_at c.args.place (first_note u.notes).objects)
     c.args.object.now)
     (Put (slice_range c.args.object.now c.args.key_at c.args.key_end) c.args.object.now) (to_z w32 (of_z w32 k)) c.word_of-word.result
@@ -108,7 +109,7 @@ returns-clause-gone_on c = let note = first_note c.args.pass.now.seat.me.0.upper
     c.word_of-word.ensures c.settle.ensures.settled
 
 pub returns-clause-counted : goal.returns-clause-counted
-returns-clause-counted c = settled_paid c.args.space.now.table.shared.key _ _ c.word_of-word.result c.put_at-tried.result c.args.spent.now
+returns-clause-counted c = settled_paid _ c.args.space.now.table.shared.key _ _ c.word_of-word.result c.put_at-tried.result c.args.spent.now
     c.put_at-tried.new.spent c.settle.new.spent c.args.pass.now.seat.me c.next_statistic-statistic.new.pass.seat.me c.put_at-tried.new.pass.seat.me
     c.settle.new.pass.seat.me (c.next_statistic-statistic.ensures.frame.still ∙ c.count-many.ensures.frame.still) c.put_at-tried.ensures.put
     c.put_at-tried.ensures.renewed c.put_at-tried.ensures.counted c.settle.ensures.counted
@@ -176,13 +177,11 @@ pub returns-clause-deep : goal.returns-clause-deep
 returns-clause-deep c = on_ok c.args.place c.settle.ensures.deep
 
 pub returns-clause-met_as : goal.returns-clause-met_as
-returns-clause-met_as c = settled_met c.put_at-tried.result c.settle.result c.settle.new.adapting.last c.args.spent.now c.put_at-tried.new.spent
-    c.args.pass.now.seat.me c.next_statistic-statistic.new.pass.seat.me c.put_at-tried.new.pass.seat.me c.settle.new.pass.seat.me
-    (c.next_statistic-statistic.ensures.frame.still ∙ c.count-many.ensures.frame.still) c.settle.ensures.come c.put_at-tried.ensures.found
-    c.put_at-tried.ensures.counted c.settle.ensures.met
+returns-clause-met_as c = settled_met (IsMetAs c.settle.new.adapting.last.adapted (met_of c.settle.new.pass.seat.me) c.settle.new.pass.seat.me.0.upper)
+    c.put_at-tried.result c.settle.result c.settle.ensures.come c.settle.ensures.met
 
 pub returns-clause-grown : goal.returns-clause-grown
-returns-clause-grown c = settled_grown c.args.space.now.table.shared.key c.args.tuning.now (Some
+returns-clause-grown c = settled_grown _ c.args.space.now.table.shared.key c.args.tuning.now (Some
     (slice_range c.args.object.now c.args.key_at c.args.key_end)) _ _ c.word_of-word.result
     (to_z w32 (of_z w32 c.next_statistic-statistic.result)) c.put_at-tried.result c.settle.result c.args.adapting.now c.settle.new.adapting
     c.args.pass.now.seat.me
@@ -195,7 +194,7 @@ pub returns-clause-no_split : goal.returns-clause-no_split
 returns-clause-no_split c = on_ok c.args.place (come_unsplit c.put_at-tried.result c.settle.result c.settle.ensures.come)
 
 pub returns-clause-cut : goal.returns-clause-cut
-returns-clause-cut c = settled_cut c.args.space.now.table.shared.key c.args.tuning.now (Some (slice_range c.args.object.now c.args.key_at c.args.key_end)) _ _
+returns-clause-cut c = settled_cut _ c.args.space.now.table.shared.key c.args.tuning.now (Some (slice_range c.args.object.now c.args.key_at c.args.key_end)) _ _
     c.word_of-word.result (to_z w32 (of_z w32 c.next_statistic-statistic.result)) c.put_at-tried.result c.settle.result c.args.adapting.now
     c.settle.new.adapting c.args.pass.now.seat.me c.next_statistic-statistic.new.pass.seat.me c.put_at-tried.new.pass.seat.me c.settle.new.pass.seat.me
     (c.next_statistic-statistic.ensures.frame.still ∙ c.count-many.ensures.frame.still) c.settle.ensures.come c.put_at-tried.ensures.put
@@ -213,7 +212,7 @@ returns-then-not-has_room-clause-cut c = let z = c.args.space.now.table.shared.k
     (subst (λ (m : MyTree). IsFullFor z (Some key) (first_note m.0.upper.notes)) (sym c.count-many.ensures.frame.still) full))
 
 pub returns-clause-won : goal.returns-clause-won
-returns-clause-won c = settled_won c.args.space.now.table.shared.key c.args.tuning.now _ _ c.word_of-word.result
+returns-clause-won c = settled_won _ c.args.space.now.table.shared.key c.args.tuning.now _ _ c.word_of-word.result
     (to_z w32 (of_z w32 c.next_statistic-statistic.result)) c.put_at-tried.result c.settle.result c.args.adapting.now c.settle.new.adapting
     c.args.pass.now.seat.me
     c.next_statistic-statistic.new.pass.seat.me c.put_at-tried.new.pass.seat.me c.settle.new.pass.seat.me

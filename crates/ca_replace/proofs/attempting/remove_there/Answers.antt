@@ -7,10 +7,11 @@ use Rattle.ca_node.specs.Place.{HasKey}
 use Rattle.ca_node.specs.Told.{MyTree}
 use Rattle.ca_node.specs.TreeView.{TreeView}
 use Rattle.ca_base.specs.Putting.{IsShownLast, first_note, object_at}
-use Rattle.ca_replace.specs.Adapting.{IsMoved}
+use Rattle.ca_replace.specs.Adapting.{IsMoved, IsMetAs}
 use Rattle.ca_replace.proofs.GoingOn.{is_new, known_then, settled_found, settled_on, settled_paid, settled_tried}
 use Rattle.ca_replace.proofs.Showing.{shown_last}
 use Rattle.ca_base.proofs.Tallies.{tallied_as}
+use Rattle.ca_rows.specs.Told.{met_of}
 use Rattle.ca_replace.proofs.DueCauses.{settled_met}
 use Rattle.ca_replace.proofs.Growing.{settled_grown}
 use Rattle.ca_replace.proofs.Cutting.{settled_cut}
@@ -49,7 +50,7 @@ settle-requires-clause-known c = known_then c.args.space.now.table.shared.key
     c.remove_at-tried.ensures.removed
 
 pub settle-requires-clause-placed : goal.settle-requires-clause-placed
-settle-requires-clause-placed c won = is_new c.args.space.now.table.shared.key
+settle-requires-clause-placed c won = is_new _ c.args.space.now.table.shared.key
     (Del c.args.key.now) c.word_of-word.result c.remove_at-tried.new.placed
     c.remove_at-tried.result c.next_statistic-statistic.new.pass.seat.me.0.upper c.remove_at-tried.new.pass.seat.me.0.upper
     (subst (λ (m : MyTree). HasKey (first_note m.0.upper.notes).place.span c.args.key.now)
@@ -66,7 +67,7 @@ returns-clause-tried c = settled_tried c.args.space.now.table.shared.key
 
 pub returns-clause-gone_on : goal.returns-clause-gone_on
 returns-clause-gone_on c = let note = first_note c.args.pass.now.seat.me.0.upper.notes in let k : ℤ = c.next_statistic-statistic.result in
-    settled_on c.args.space.now.table.shared.key c.args.tuning.now
+    settled_on _ c.args.space.now.table.shared.key c.args.tuning.now
     (λ (u : TreeView). Remove c.args.key.now (Some (object_at (Ok c.args.at) (first_note u.notes).objects)))
     (Del c.args.key.now) (to_z w32 (of_z w32 k)) c.word_of-word.result
     c.remove_at-tried.result c.settle.result c.args.adapting.now c.settle.new.adapting c.args.pass.now.seat.me.0.upper
@@ -80,7 +81,7 @@ returns-clause-gone_on c = let note = first_note c.args.pass.now.seat.me.0.upper
     c.word_of-word.ensures c.settle.ensures.settled
 
 pub returns-clause-counted : goal.returns-clause-counted
-returns-clause-counted c = settled_paid c.args.space.now.table.shared.key _ _ c.word_of-word.result c.remove_at-tried.result c.args.spent.now
+returns-clause-counted c = settled_paid _ c.args.space.now.table.shared.key _ _ c.word_of-word.result c.remove_at-tried.result c.args.spent.now
     c.remove_at-tried.new.spent c.settle.new.spent c.args.pass.now.seat.me c.next_statistic-statistic.new.pass.seat.me c.remove_at-tried.new.pass.seat.me
     c.settle.new.pass.seat.me (c.next_statistic-statistic.ensures.frame.still ∙ c.count-many.ensures.frame.still) c.remove_at-tried.ensures.removed
     c.remove_at-tried.ensures.renewed c.remove_at-tried.ensures.counted c.settle.ensures.counted
@@ -114,13 +115,11 @@ returns-clause-frame c = record {
 }
 
 pub returns-clause-met_as : goal.returns-clause-met_as
-returns-clause-met_as c = settled_met c.remove_at-tried.result c.settle.result c.settle.new.adapting.last c.args.spent.now c.remove_at-tried.new.spent
-    c.args.pass.now.seat.me c.next_statistic-statistic.new.pass.seat.me c.remove_at-tried.new.pass.seat.me c.settle.new.pass.seat.me
-    (c.next_statistic-statistic.ensures.frame.still ∙ c.count-many.ensures.frame.still) c.settle.ensures.come c.remove_at-tried.ensures.found
-    c.remove_at-tried.ensures.counted c.settle.ensures.met
+returns-clause-met_as c = settled_met (IsMetAs c.settle.new.adapting.last.adapted (met_of c.settle.new.pass.seat.me) c.settle.new.pass.seat.me.0.upper)
+    c.remove_at-tried.result c.settle.result c.settle.ensures.come c.settle.ensures.met
 
 pub returns-clause-grown : goal.returns-clause-grown
-returns-clause-grown c = settled_grown c.args.space.now.table.shared.key c.args.tuning.now None _ _ c.word_of-word.result
+returns-clause-grown c = settled_grown _ c.args.space.now.table.shared.key c.args.tuning.now None _ _ c.word_of-word.result
     (to_z w32 (of_z w32 c.next_statistic-statistic.result)) c.remove_at-tried.result c.settle.result c.args.adapting.now c.settle.new.adapting
     c.args.pass.now.seat.me
     c.next_statistic-statistic.new.pass.seat.me c.remove_at-tried.new.pass.seat.me c.settle.new.pass.seat.me c.args.key.now c.args.cursor
@@ -128,14 +127,14 @@ returns-clause-grown c = settled_grown c.args.space.now.table.shared.key c.args.
     c.remove_at-tried.ensures.renewed c.settle.ensures.settled c.settle.ensures.grows
 
 pub returns-clause-cut : goal.returns-clause-cut
-returns-clause-cut c = settled_cut c.args.space.now.table.shared.key c.args.tuning.now None _ _ c.word_of-word.result
+returns-clause-cut c = settled_cut _ c.args.space.now.table.shared.key c.args.tuning.now None _ _ c.word_of-word.result
     (to_z w32 (of_z w32 c.next_statistic-statistic.result)) c.remove_at-tried.result c.settle.result c.args.adapting.now c.settle.new.adapting
     c.args.pass.now.seat.me c.next_statistic-statistic.new.pass.seat.me c.remove_at-tried.new.pass.seat.me c.settle.new.pass.seat.me
     (c.next_statistic-statistic.ensures.frame.still ∙ c.count-many.ensures.frame.still) c.settle.ensures.come c.remove_at-tried.ensures.removed
     c.remove_at-tried.ensures.renewed c.settle.ensures.settled c.settle.ensures.cut
 
 pub returns-clause-won : goal.returns-clause-won
-returns-clause-won c = settled_won c.args.space.now.table.shared.key c.args.tuning.now _ _ c.word_of-word.result
+returns-clause-won c = settled_won _ c.args.space.now.table.shared.key c.args.tuning.now _ _ c.word_of-word.result
     (to_z w32 (of_z w32 c.next_statistic-statistic.result)) c.remove_at-tried.result c.settle.result c.args.adapting.now c.settle.new.adapting
     c.args.pass.now.seat.me
     c.next_statistic-statistic.new.pass.seat.me c.remove_at-tried.new.pass.seat.me c.settle.new.pass.seat.me c.args.key.now c.args.cursor

@@ -6,7 +6,7 @@ use Rattle.ca_node.specs.TreeView.{TreeView}
 use Rattle.ca_base.specs.Progress.{IsFurther}
 use Rattle.ca_replace.specs.declared.attempting.Stop.{Stop}
 use Rattle.ca_replace.specs.declared.attempting.Stop.TheVariants as stop
-use Rattle.ca_replace.specs.Adapting.{Waits}
+use Rattle.ca_replace.specs.Adapting.{IsMetAs, MeetsAs, Waits}
 use Rattle.ca_replace.specs.Causes.{IsFull, IsRefill}
 use Rattle.ca_replace.specs.Attempting.{HasMetBy, total}
 use Rattle.ca_replace.specs.Growing.{HasWaited}
@@ -16,7 +16,8 @@ use Rattle.ca_replace.proofs.GoingOn.{gone_on, idle_waits, refused_gone, stopped
 use Rattle.ca_replace.proofs.Meeting.{further_on}
 use Rattle.ca_replace.proofs.Showing.{tried_on}
 use Rattle.ca_replace.proofs.Turns.{attempted_as, no_further, stopped_further}
-use Rattle.ca_replace.proofs.DueCauses.{NoneFall, refused_met}
+use Rattle.ca_replace.proofs.DueCauses.{refused_met}
+use Rattle.ca_rows.specs.declared.view.Met.{Met}
 use Rattle.ca_replace.proofs.Growing.{alone_on, attempts_so_far, grown_refused, has_waited}
 use Rattle.ca_replace.specs.Cutting.{HasCutFull}
 use Rattle.ca_replace.proofs.Cutting.{cut_refused, cuts_so_far, none_full, stopped_cut}
@@ -32,6 +33,7 @@ loop-come-init g c = record {
   counted = none_paid c.args.spent.now c.args.pass.now.seat.me c.args.pass.now.seat.me refl refl;
   looks = omega arith;
   lags = refl;
+  unspent = let none = c.requires.none in let some = c.requires.budget in omega (arith, none.0, none.1, none.2);
   waits = idle_waits c.args.adapting.now c.args.pass.now.seat.me.0.upper c.args.pass.now.seat.me.0.upper (refl, refl);
   won = λ _. refl;
   waited = λ _. inl (refl, refl);
@@ -88,6 +90,7 @@ loop-come-preserved g c = let i = c.loop-come.invariant in let tells = λ (x : _
           (stopped_cut edits z adds c.turns-come.result stop.Empty start.0.upper behind.0.upper empty
           (cuts_so_far edits z adds c.turns-come.result start.0.upper before.0.upper behind.0.upper i.full c.turns-come.ensures.cut));
       worn = omega (arith, i.worn, met.1, given.1);
+      unspent = (c.in_default.ensures.again refl).1;
       lags = c.in_default.ensures.unlagged refl ∙ (c.turns-come.ensures.lags ∙ i.lags);
       first = inr (empty_before (vec_len c.loop-come.pass.kept.rows) c.kept-kept.result (vec_len c.refill.new.pass.kept.rows) start before behind last
           c.args.pass.now.kept.rows c.kept-kept.ensures (c.in_default.ensures.again refl).0 (let one = i.counted.more in let two = c.turns-come.ensures.counted.more in omega arith)
@@ -120,33 +123,11 @@ returns-else-is_empty-clause-gone_on g c = let edits = λ (x : _). g.A.Attempt.e
     (gone_on edits z t a c.loop-come.adapting b c.turns-come.result u c.loop-come.pass.seat.me.0.upper c.turns-come.new.pass.seat.me.0.upper
     c.loop-come.invariant.waits c.turns-come.ensures.gone_on)
 
--- Attempts before this one, and rows that were given back, count nothing less.
-so_far : (m m' : MyTree) (Kept Begun More : Type 0) → losses m ≤ losses m'
-    → (Kept × (m'.0.empty ≡ m.0.empty)) ⊎ ((m.0.empty + 1 ≤ m'.0.empty) × Begun × More)
-    → m'.0.worn ≡ m.0.worn → NoneFall m m'
-so_far m m' Kept Begun More more first worn = record {
-  lost = more;
-  empty = ⊎_elim (λ (x : Kept × (m'.0.empty ≡ m.0.empty)). let e = x.1 in omega arith) (λ (l : (m.0.empty + 1 ≤ m'.0.empty) × Begun × More). let up = l.0 in omega arith) first;
-  worn = omega (arith, worn);
-}
-
-given_none : (m m' : MyTree) (lost : ℕ) → m'.0.lost ≡ m.0.lost + lost → m'.0.upper ≡ m.0.upper → HasMet 0 0 m m' → NoneFall m m'
-given_none m m' lost is same met = let upper = ap (λ (u : TreeView). u.lost) same in let empty = met.0 in let worn = met.1 in record {
-  lost = omega (arith, is, upper);
-  empty = omega arith;
-  worn = omega arith;
-}
-
 pub returns-else-is_empty-clause-met_as : goal.returns-else-is_empty-clause-met_as
-returns-else-is_empty-clause-met_as g c = refused_met (λ (x : _). g.A.Attempt.edits c.args.what.now x) c.turns-come.new.adapting.last c.turns-come.result
-    c.or_refusal.result _ _ c.args.pass.now.seat.me c.loop-come.pass.seat.me c.turns-come.new.pass.seat.me c.keep_few.new.pass.seat.me
-    (so_far c.args.pass.now.seat.me c.loop-come.pass.seat.me (vec_len c.loop-come.pass.kept.rows ≡ vec_len c.args.pass.now.kept.rows)
-    (0 < vec_len c.args.pass.now.kept.rows)
-    ((vec_len c.loop-come.pass.kept.rows ≡ 0) ⊎ (losses c.args.pass.now.seat.me < losses c.loop-come.pass.seat.me))
-    c.loop-come.invariant.counted.more c.loop-come.invariant.first c.loop-come.invariant.worn)
-    (given_none c.turns-come.new.pass.seat.me c.keep_few.new.pass.seat.me c.keep_few.result c.keep_few.ensures.lost c.keep_few.ensures.upper
-    c.keep_few.ensures.met)
-    c.or_refusal.ensures c.turns-come.ensures.met_as
+returns-else-is_empty-clause-met_as g c = let edits = λ (x : _). g.A.Attempt.edits c.args.what.now x in let last = c.turns-come.new.adapting.last in
+    refused_met (IsMetAs last.adapted c.keep_few.new.pass.seat.me.0.pin.left c.keep_few.new.pass.seat.me.0.upper) edits c.turns-come.result
+    c.or_refusal.result _ _ c.or_refusal.ensures (subst (λ (x : Met × TreeView). MeetsAs edits last c.turns-come.result x.0 x.1)
+    (λ i. (sym c.keep_few.ensures.left i, sym c.keep_few.ensures.upper i)) c.turns-come.ensures.met_as)
 
 pub returns-in-Err-clause-grown : goal.returns-in-Err-clause-grown
 returns-in-Err-clause-grown g c alone = let tells = λ (x : _). g.A.Attempt.tells c.args.what.now x c.turns-come.new.left in
@@ -234,9 +215,13 @@ returns-else-is_empty-clause-caused g c = let i = c.loop-come.invariant in let s
     (λ e. let met = subst (λ (x : Result _ Stop). HasMetBy x before behind) e found in omega (arith, i.worn, met.1, given.1))
 
 pub returns-in-Err-clause-lags : goal.returns-in-Err-clause-lags
-returns-in-Err-clause-lags g c = let before = c.loop-come.invariant.lags in let same = c.turns-come.ensures.lags in let once = c.refill.ensures.lags in
-    omega arith
+returns-in-Err-clause-lags g c = let i = c.loop-come.invariant in let same = c.turns-come.ensures.lags in let once = c.refill.ensures.lags in (
+  (let before = i.lags in let one = once.0 in omega arith),
+  ap (λ (x : Met). x.lags) once.1 ∙ (c.turns-come.ensures.entered i.unspent ∙ i.lags),
+)
 
 pub returns-else-is_empty-clause-lags : goal.returns-else-is_empty-clause-lags
-returns-else-is_empty-clause-lags g c = let before = c.loop-come.invariant.lags in let same = c.turns-come.ensures.lags in
-    let once = c.keep_few.ensures.lags in omega arith
+returns-else-is_empty-clause-lags g c = let i = c.loop-come.invariant in let same = c.turns-come.ensures.lags in let once = c.keep_few.ensures.lags in (
+  (let before = i.lags in let one = once.0 in omega arith),
+  ap (λ (x : Met). x.lags) once.1 ∙ (c.turns-come.ensures.entered i.unspent ∙ i.lags),
+)

@@ -25,6 +25,7 @@ invariant-loop-come g l = record {
   first : ((vec_len l.pass.kept.rows ≡ vec_len l.fn.pass.kept.rows) × (l.pass.seat.me.0.empty ≡ l.fn.pass.seat.me.0.empty))
       ⊎ ((l.fn.pass.seat.me.0.empty + 1 ≤ l.pass.seat.me.0.empty) × (0 < vec_len l.fn.pass.kept.rows)
       × ((vec_len l.pass.kept.rows ≡ 0) ⊎ (losses l.fn.pass.seat.me < losses l.pass.seat.me)));
+  unspent : total l.spent < l.budget;
   lags : l.pass.seat.me.0.pin.lags ≡ l.fn.pass.seat.me.0.pin.lags;
 }
 

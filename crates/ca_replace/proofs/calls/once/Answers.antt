@@ -1,13 +1,11 @@
 use Rattle.std.proofs.Common.{◌≡◌, refl, sym, ap, ◌∙◌, subst, arith, rules}
-use Rattle.ca_replace.specs.Adapting.{HasGoneOn}
+use Rattle.ca_replace.specs.Adapting.{HasGoneOn, MeetsAs}
 use Rattle.ca_node.proofs.Tallies.{tallied_still}
 use Rattle.ca_replace.specs.Attempting.{HasTriedTo}
 use Rattle.ca_adapt.specs.Tuned.{IsTuned}
 use Rattle.ca_rows.specs.declared.sizes.Sizes.{Sizes}
 use Rattle.ca_replace.proofs.GoingOn.{gone_pinned}
 use Rattle.ca_replace.proofs.Turns.{known_pinned, rests_as, rests_again, none_pinned, tried_pinned, tried_known}
-use Rattle.ca_replace.proofs.DueCauses.{NoneFall, meets_between}
-use Rattle.ca_node.specs.TreeView.{TreeView}
 use Rattle.ca_rows.specs.declared.view.Pin.{Pin}
 use Rattle.ca_replace.proofs.Growing.{grown_pinned}
 use Rattle.ca_node.specs.Told.{MyTree, IsAlone, IsKnown}
@@ -64,15 +62,9 @@ returns-clause-gone_on g c = let z = c.args.tree.now.space.table.shared.key in l
     (subst (λ (m : MyTree). HasGoneOn edits z c.args.tree.now.tuning c.args.adapting.now c.attempt-tried.new.adapting c.attempt-tried.result m.0.upper
     c.attempt-tried.new.pass.seat.me.0.upper) c.pin.ensures.pinned.3 c.attempt-tried.ensures.gone_on)
 
--- Pinning and unpinning count nothing.
-pinned_none : (m m' : MyTree) (e : Pin) (u : TreeView) → m' ≡ (record m.0 { pin = e; upper = u }, m.1) → (u.lost ≡ m.0.upper.lost) → NoneFall m m'
-pinned_none m m' e u is same = subst (NoneFall m) (sym is) record { lost = omega arith; empty = omega arith; worn = omega arith }
-
 pub returns-clause-met_as : goal.returns-clause-met_as
-returns-clause-met_as g c = meets_between (λ (x : _). g.A.Attempt.edits c.args.what.now x) c.attempt-tried.new.adapting.last c.attempt-tried.result
-    c.args.pass.now.seat.me c.pin.new.pass.seat.me c.attempt-tried.new.pass.seat.me c.unpin.new.pass.seat.me
-    (pinned_none c.args.pass.now.seat.me c.pin.new.pass.seat.me _ _ c.pin.ensures.pinned.3 refl)
-    (pinned_none c.attempt-tried.new.pass.seat.me c.unpin.new.pass.seat.me _ _ c.unpin.ensures.unpinned refl) c.attempt-tried.ensures.met_as
+returns-clause-met_as g c = subst (λ (m : MyTree). MeetsAs (λ (x : _). g.A.Attempt.edits c.args.what.now x) c.attempt-tried.new.adapting.last
+    c.attempt-tried.result m.0.pin.left m.0.upper) (sym c.unpin.ensures.unpinned) c.attempt-tried.ensures.met_as
 
 pub attempt-tried-requires-clause-known : goal.attempt-tried-requires-clause-known
 attempt-tried-requires-clause-known g c = let z = c.args.tree.now.space.table.shared.key in
@@ -99,3 +91,10 @@ returns-clause-won g c alone = let z = c.args.tree.now.space.table.shared.key in
     (ap (λ (m : MyTree). m.0.upper) c.unpin.ensures.unpinned)
     (subst (λ (m : MyTree). IsAlone z m.0.upper → HasWonAs edits c.attempt-tried.result m.0.upper c.attempt-tried.new.pass.seat.me.0.upper)
     c.pin.ensures.pinned.3 c.attempt-tried.ensures.won (alone.0, alone.1))
+
+pub returns-clause-lags : goal.returns-clause-lags
+returns-clause-lags g c = let pin = ap (λ (m : MyTree). m.0.pin) c.pin.ensures.pinned.3 in
+    let last = c.attempt-tried.ensures.frame.pin.1 in let out = ap (λ (m : MyTree). m.0.pin) c.unpin.ensures.unpinned in (
+      ap (λ (e : Pin). e.lags) out ∙ (ap (λ (e : Pin). e.lags) last ∙ ap (λ (e : Pin). e.lags) pin),
+      ap (λ (e : Pin). e.entered.lags) out ∙ (ap (λ (e : Pin). e.entered.lags) last ∙ ap (λ (e : Pin). e.entered.lags) pin),
+    )

@@ -1,11 +1,11 @@
-use Rattle.std.proofs.Common.{◌<◌, inl, refl, ◌∙◌, subst, arith}
+use Rattle.std.proofs.Common.{◌≡◌, ◌<◌, inl, inr, refl, ap, ◌∙◌, subst, ⊎_elim, arith}
+use Rattle.ca_replace.specs.Attempting.{total}
 use Rattle.ca_base.proofs.Counts.{met_both}
 use Rattle.ca_replace.proofs.Counted.{met_turn, met_then, none_met, none_paid, one_turn_less, paid_both}
 use Rattle.ca_replace.proofs.GoingOn.{gone_on, idle_waits, turn_waits, waits_on}
 use Rattle.ca_replace.proofs.Meeting.{further_on}
 use Rattle.ca_replace.proofs.Showing.{tried_on}
 use Rattle.ca_replace.proofs.Turns.{turn_further, no_further}
-use Rattle.ca_replace.proofs.DueCauses.{meets_between, met_none_fall, same_none}
 use Rattle.ca_replace.proofs.Growing.{alone_on, one_more_attempt, turn_waited}
 use Rattle.ca_replace.proofs.Cutting.{none_full, one_more_cut, turn_cut}
 use Rattle.ca_replace.proofs.Winning.{turn_won, won_behind}
@@ -19,6 +19,7 @@ loop-pass-init g c = record {
   counted = none_paid c.args.spent.now c.args.pass.now.seat.me c.args.pass.now.seat.me refl refl;
   looks = refl;
   lags = refl;
+  entered = inl refl;
   met = none_met c.args.pass.now.seat.me;
   waits = idle_waits c.args.adapting.now c.args.pass.now.seat.me.0.upper c.args.pass.now.seat.me.0.upper (refl, refl);
   won = λ _. refl;
@@ -40,7 +41,8 @@ loop-pass-preserved g c = let tells = λ (x : _). g.A.Attempt.tells c.args.what.
   counted = paid_both c.args.spent.now c.loop-pass.spent c.once-tried.new.spent c.args.pass.now.seat.me c.loop-pass.pass.seat.me
       c.once-tried.new.pass.seat.me c.loop-pass.invariant.counted c.once-tried.ensures.counted;
   looks = c.once-tried.ensures.looks ∙ c.loop-pass.invariant.looks;
-  lags = c.once-tried.ensures.lags ∙ c.loop-pass.invariant.lags;
+  lags = c.once-tried.ensures.lags.0 ∙ c.loop-pass.invariant.lags;
+  entered = inr (c.once-tried.ensures.lags.1 ∙ c.loop-pass.invariant.lags);
   met = met_both 0 0 0 0 c.args.pass.now.seat.me c.loop-pass.pass.seat.me c.once-tried.new.pass.seat.me c.loop-pass.invariant.met
       (met_turn c.once-tried.result c.loop-pass.pass.seat.me c.once-tried.new.pass.seat.me (c.if-not-has_next.ensures.0 refl) c.once-tried.ensures.found).0;
   waits = waits_on c.args.adapting.now c.loop-pass.adapting c.once-tried.new.adapting c.args.pass.now.seat.me.0.upper c.loop-pass.pass.seat.me.0.upper
@@ -114,12 +116,6 @@ returns-then-not-has_next-clause-gone_on g c = gone_on (λ (x : _). g.A.Attempt.
     c.args.tree.now.tuning c.args.adapting.now c.loop-pass.adapting c.once-tried.new.adapting c.once-tried.result c.args.pass.now.seat.me.0.upper
     c.loop-pass.pass.seat.me.0.upper c.once-tried.new.pass.seat.me.0.upper c.loop-pass.invariant.waits c.once-tried.ensures.gone_on
 
-pub returns-then-not-has_next-clause-met_as : goal.returns-then-not-has_next-clause-met_as
-returns-then-not-has_next-clause-met_as g c = meets_between (λ (x : _). g.A.Attempt.edits c.args.what.now x) c.once-tried.new.adapting.last
-    c.once-tried.result c.args.pass.now.seat.me c.loop-pass.pass.seat.me c.once-tried.new.pass.seat.me c.once-tried.new.pass.seat.me
-    (met_none_fall c.args.pass.now.seat.me c.loop-pass.pass.seat.me c.loop-pass.invariant.counted.more c.loop-pass.invariant.met)
-    (same_none c.once-tried.new.pass.seat.me c.once-tried.new.pass.seat.me refl) c.once-tried.ensures.met_as
-
 pub returns-clause-grown : goal.returns-clause-grown
 returns-clause-grown g c = c.loop-pass.invariant.waited
 
@@ -145,3 +141,15 @@ returns-then-not-has_next-clause-won g c alone = won_behind (λ (x : _). g.A.Att
     c.args.pass.now.seat.me.0.upper c.loop-pass.pass.seat.me.0.upper c.once-tried.new.pass.seat.me.0.upper (c.loop-pass.invariant.won alone)
     (c.once-tried.ensures.won (alone_on c.args.tree.now.space.table.shared.key c.args.pass.now.seat.me.0.upper c.loop-pass.pass.seat.me.0.upper
     c.loop-pass.invariant.further.number alone))
+
+pub returns-clause-entered : goal.returns-clause-entered
+returns-clause-entered g c unspent = ⊎_elim
+    (λ (same : c.loop-pass.spent ≡ c.args.spent.now). let most = c.ranges.budget in let none = ap total same in
+    let spent = c.loop-pass-test.false in let all = c.spent_in_all.ensures in absurd (omega arith))
+    (λ (e : c.loop-pass.pass.seat.me.0.pin.entered.lags ≡ c.args.pass.now.seat.me.0.pin.lags). e) c.loop-pass.invariant.entered
+
+pub returns-then-not-has_next-clause-entered : goal.returns-then-not-has_next-clause-entered
+returns-then-not-has_next-clause-entered g c _ = c.once-tried.ensures.lags.1 ∙ c.loop-pass.invariant.lags
+
+pub returns-then-not-has_next-clause-lags : goal.returns-then-not-has_next-clause-lags
+returns-then-not-has_next-clause-lags g c = c.once-tried.ensures.lags.0 ∙ c.loop-pass.invariant.lags

@@ -1,4 +1,4 @@
-use Rattle.std.proofs.Common.{◌≡◌, ◌-◌}
+use Rattle.std.proofs.Common.{◌≡◌, ◌⊎◌, ◌-◌}
 use Rattle.ca_base.specs.Counting.{HasMet}
 use Rattle.ca_base.specs.Progress.{IsFurther}
 use Rattle.ca_node.specs.Told.{IsAlone}
@@ -17,6 +17,8 @@ invariant-loop-pass g l = record {
   counted : IsPaid l.fn.spent l.spent l.fn.pass.seat.me l.pass.seat.me;
   looks : l.pass.seat.me.0.pin.looks ≡ l.fn.pass.seat.me.0.pin.looks;
   lags : l.pass.seat.me.0.pin.lags ≡ l.fn.pass.seat.me.0.pin.lags;
+  -- No attempt was made yet, or the pass pinned in this call: no other one had been found to lag until then.
+  entered : (l.spent ≡ l.fn.spent) ⊎ (l.pass.seat.me.0.pin.entered.lags ≡ l.fn.pass.seat.me.0.pin.lags);
   met : HasMet 0 0 l.fn.pass.seat.me l.pass.seat.me;
   waits : Waits l.fn.adapting l.adapting l.fn.pass.seat.me.0.upper l.pass.seat.me.0.upper;
   won : IsAlone l.tree.space.table.shared.key l.fn.pass.seat.me.0.upper → l.pass.seat.me.0.upper.lost ≡ l.fn.pass.seat.me.0.upper.lost;

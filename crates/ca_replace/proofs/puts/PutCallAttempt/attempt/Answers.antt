@@ -3,7 +3,6 @@ use Rattle.ca_model.specs.Event.{Event, Write}
 use Rattle.std.proofs.Common.{◌≡◌, refl, true, ap, ◌∙◌, sym, subst, ◌<◌, []}
 use Rattle.ca_replace.proofs.GoingOn.{gone_after, paid_behind}
 use Rattle.ca_replace.proofs.Showing.{tried_on}
-use Rattle.ca_replace.proofs.DueCauses.{meets_between, quiet_none, same_none}
 use Rattle.ca_replace.proofs.Growing.{alone_on, looked_grown}
 use Rattle.std.proofs.Common.{Some}
 use Rattle.ca_replace.proofs.Cutting.{looked_cut}
@@ -32,12 +31,6 @@ returns-clause-frame c = record {
   pin = (c.put_there.ensures.frame.pin.0 ∙ c.find-place.ensures.still.0, c.put_there.ensures.frame.pin.1 ∙ c.find-place.ensures.still.1);
   none = c.put_there.ensures.frame.none;
 }
-
-pub returns-clause-met_as : goal.returns-clause-met_as
-returns-clause-met_as c = meets_between (λ (_ : Unit {0}). true) c.put_there.new.adapting.last c.put_there.result c.args.pass.now.seat.me
-    c.find-place.new.pass.seat.me c.put_there.new.pass.seat.me c.put_there.new.pass.seat.me
-    (quiet_none c.args.pass.now.seat.me c.find-place.new.pass.seat.me c.find-place.ensures.quiet)
-    (same_none c.put_there.new.pass.seat.me c.put_there.new.pass.seat.me refl) c.put_there.ensures.met_as
 
 pub returns-clause-grown : goal.returns-clause-grown
 returns-clause-grown c = let o = c.args.self.now in looked_grown c.args.space.now.table.shared.key (Some (slice_range o.object.now o.key_at o.key_end))

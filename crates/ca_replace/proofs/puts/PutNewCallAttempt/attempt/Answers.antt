@@ -6,7 +6,6 @@ use Rattle.ca_replace.proofs.GoingOn.{adapts_after, entered_waits, idle_waits, p
 use Rattle.ca_replace.proofs.Showing.{did, not_new, read_done}
 use Rattle.ca_replace.proofs.Tallies.{tallied_read}
 use Rattle.ca_replace.proofs.Meeting.{further_on}
-use Rattle.ca_replace.proofs.DueCauses.{met_between, quiet_none, same_none}
 use Rattle.ca_replace.proofs.Growing.{alone_on, entered_grown, looked_grown, stop_grown}
 use Rattle.std.proofs.Common.{Ok, Some}
 use Rattle.ca_replace.proofs.Cutting.{entered_cut, looked_cut, stop_cut}
@@ -100,12 +99,6 @@ returns-in-Err-clause-tried c = (
 pub returns-in-Ok-clause-counted : goal.returns-in-Ok-clause-counted
 returns-in-Ok-clause-counted c = paid_behind c.args.spent.now c.put_there.new.spent c.args.pass.now.seat.me c.find-place.new.pass.seat.me
     c.put_there.new.pass.seat.me c.find-place.ensures.quiet c.put_there.ensures.counted
-
-pub returns-in-Ok-clause-met_as : goal.returns-in-Ok-clause-met_as
-returns-in-Ok-clause-met_as c = met_between c.put_there.new.adapting.last.adapted c.args.pass.now.seat.me c.find-place.new.pass.seat.me
-    c.put_there.new.pass.seat.me
-    c.put_there.new.pass.seat.me (quiet_none c.args.pass.now.seat.me c.find-place.new.pass.seat.me c.find-place.ensures.quiet)
-    (same_none c.put_there.new.pass.seat.me c.put_there.new.pass.seat.me refl) c.in-Ok.ensures.met_as
 
 pub returns-then-is_ok-clause-grown : goal.returns-then-is_ok-clause-grown
 returns-then-is_ok-clause-grown c alone = entered_grown c.args.pass.now.seat.me c.find-place.new.pass.seat.me c.enter.new.pass.seat.me _

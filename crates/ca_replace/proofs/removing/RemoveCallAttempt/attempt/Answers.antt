@@ -11,7 +11,6 @@ use Rattle.ca_replace.proofs.GoingOn.{adapts_after, entered_waits, idle_waits, p
 use Rattle.ca_replace.proofs.Showing.{did, read_done}
 use Rattle.ca_replace.proofs.Tallies.{tallied_read}
 use Rattle.ca_replace.proofs.Meeting.{further_on}
-use Rattle.ca_replace.proofs.DueCauses.{met_between, quiet_none, same_none}
 use Rattle.ca_replace.proofs.Cutting.{entered_cut, looked_cut, stop_cut}
 use Rattle.ca_base.specs.Counting.{losses}
 use Rattle.ca_rows.specs.declared.view.Pin.{Pin}
@@ -111,12 +110,6 @@ returns-in-Err-clause-tried c = (
 pub returns-in-Ok-remove_there-clause-counted : goal.returns-in-Ok-remove_there-clause-counted
 returns-in-Ok-remove_there-clause-counted c = paid_behind c.args.spent.now c.remove_there.new.spent c.args.pass.now.seat.me c.fetch-place.new.pass.seat.me
     c.remove_there.new.pass.seat.me c.fetch-place.ensures.quiet c.remove_there.ensures.counted
-
-pub returns-in-Ok-remove_there-clause-met_as : goal.returns-in-Ok-remove_there-clause-met_as
-returns-in-Ok-remove_there-clause-met_as c = met_between c.remove_there.new.adapting.last.adapted c.args.pass.now.seat.me c.fetch-place.new.pass.seat.me
-    c.remove_there.new.pass.seat.me
-    c.remove_there.new.pass.seat.me (quiet_none c.args.pass.now.seat.me c.fetch-place.new.pass.seat.me c.fetch-place.ensures.quiet)
-    (same_none c.remove_there.new.pass.seat.me c.remove_there.new.pass.seat.me refl) c.in-Ok-remove_there.ensures.met_as
 
 pub returns-in_default-clause-cut : goal.returns-in_default-clause-cut
 returns-in_default-clause-cut c = entered_cut c.args.pass.now.seat.me c.fetch-place.new.pass.seat.me c.enter.new.pass.seat.me _
