@@ -49,27 +49,3 @@ back_after S T why.Lost k m0 m l kept kept0 kept' kept'' same list found more on
     as_begun 1 k m0 l kept kept0 kept'' same list (back_both 1 0 m0 m l kept0 kept' kept'' (omega arith) (omega arith) one two)
 back_after S T why.Worn k m0 m l kept kept0 kept' kept'' same list found more one more' two =
     as_begun 0 k m0 l kept kept0 kept'' same list (back_both 0 0 m0 m l kept0 kept' kept'' (omega arith) (omega arith) one two)
-
--- The same of an exchange of a base, behind steps that lost none and kept the same rows.
-pub cleared_after : (r : Result Bool NoRow) (k m l : MyTree) (kept kept0 kept' : KeptRows) → losses m ≡ losses k → kept0 ≡ kept
-    → HasCleared r m l kept0 kept' → HasCleared r k l kept kept'
-cleared_after (Ok true) k m l kept kept0 kept' same list h = tt
-cleared_after (Ok false) k m l kept kept0 kept' same list h = as_begun 1 k m l kept kept0 kept' same list h
-cleared_after (Err why.Empty) k m l kept kept0 kept' same list h = as_begun 0 k m l kept kept0 kept' same list h
-cleared_after (Err why.Lost) k m l kept kept0 kept' same list h = as_begun 1 k m l kept kept0 kept' same list h
-cleared_after (Err why.Worn) k m l kept kept0 kept' same list h = as_begun 0 k m l kept kept0 kept' same list h
-
--- And of what was found.
-pub ended_after : (r : Result Bool NoRow) (k m l : MyTree) → losses m ≡ losses k → HasMet 0 0 k m → HasEnded r m l → HasEnded r k l
-ended_after (Ok true) k m l same met h = (met_both 0 0 0 0 k m l met h.0, h.1 ∙ same)
-ended_after (Ok false) k m l same met h = (let more = h.0 in omega arith, met_both 0 0 0 0 k m l met h.1)
-ended_after (Err why.Empty) k m l same met h = met_both 0 0 1 0 k m l met h
-ended_after (Err why.Lost) k m l same met h = (let more = h.0 in omega arith, met_both 0 0 0 0 k m l met h.1)
-ended_after (Err why.Worn) k m l same met h = met_both 0 0 0 1 k m l met h
-
--- Rows that were taken, and those of a failed exchange, in the words of an exchange.
-pub cleared_as : (T : Type 0) (reason : NoRow) (m m' : MyTree) (kept kept' : KeptRows) → HasPutBack {T = T} (Err reason) m m' kept kept'
-    → HasCleared (Err reason) m m' kept kept'
-cleared_as T why.Empty m m' kept kept' h = h
-cleared_as T why.Lost m m' kept kept' h = h
-cleared_as T why.Worn m m' kept kept' h = h

@@ -30,9 +30,6 @@ module _ (z : Sizes) (u : TreeView) (base : ℕ) (note : Note) (r : IsReadable z
   pub base_shown : (its : List ℕ) × IsShown u base its
   base_shown = (note.its, shows)
 
-  pub base_inside : (0 < base) × (base ≤ z.rows)
-  base_inside = let here = r.here in let low = r.is_base.some_row in let high = r.is_base.in_range in (omega arith, omega arith)
-
   many : length (items note.its) ≡ count note.its
   many = let few = r.few in let long = r.is_base.long in length-take-le (count note.its) (drop 11 note.its) (omega (arith, length-drop 11 note.its))
 

@@ -1,7 +1,8 @@
 -- What passes count is what they know of it.
 use Rattle.std.proofs.Common.{◌≡◌, ℕ, Bool, true, false, min, sym, ap, ◌∙◌, ⊎_elim, arith}
 use Rattle.ca_rows.specs.declared.tally.Tally.{Tally}
-use Rattle.ca_node.specs.Tallied.{IsTallied, HasTallied}
+use Rattle.ca_rows.specs.Tallied.{HasTallied}
+use Rattle.ca_node.specs.Tallied.{IsTallied}
 use Rattle.ca_node.specs.Told.{MyTree, HasDivided, IsLed, IsLedToBase, IsLedToRoute}
 use Rattle.ca_node.specs.TreeView.{TreeView, Division}
 

@@ -11,5 +11,6 @@ pub mod Passes
 pub mod Pins
 pub mod Reclaiming
 pub mod Rule
+pub mod Tallied
 pub mod Told
 pub mod Words
