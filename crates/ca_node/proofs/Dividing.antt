@@ -425,6 +425,7 @@ module _ (z : Sizes) (s : State (Unit {0}) (View TreeView)) (r : R z s) (id : â„
         notes = note_keeps j y here;
         links = k.links;
         ways = way_keeps j y here;
+        ended = k.ended;
       }
 
   own_knows : Knows z.rows r.made words' role' (set (map upper_of s.views) id u') r.above.history id u'
@@ -438,6 +439,7 @@ module _ (z : Sizes) (s : State (Unit {0}) (View TreeView)) (r : R z s) (id : â„
     notes = k.notes;
     links = k.links;
     ways = k.ways;
+    ended = k.ended;
   }
 
   -- No other control word changes.

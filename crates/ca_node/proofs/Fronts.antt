@@ -75,6 +75,7 @@ tree_learning = record {
         notes = k.notes;
         links = k.links;
         ways = k.ways;
+        ended = k.ended;
       } in
       seat_changed z made words us j w (blank 0) g (set_else uppers i j u' ne ∙ there) (λ lo. absurd (omega arith))
       (λ lo. absurd (omega arith))
@@ -110,6 +111,14 @@ front_more z made words uppers id u f at = let next : List TreeView = uppers ++ 
         notes = k.notes;
         links = k.links;
         ways = k.ways;
+        ended = λ x i. let e = k.ended x i in let lo = e.some_number in record {
+          some_number = lo;
+          made_before = e.made_before;
+          lawful = e.lawful;
+          gone = λ s y there same. ⊎_elim (λ (old : get_elem? uppers s ≡ some y). e.gone s y old same)
+              (λ (t : (s ≡ length uppers) × (front_of u ≡ y)). let n : 0 ≡ y.number = ap (λ (x : TreeView). x.number) t.1 in absurd (omega arith))
+              (at_place uppers (front_of u) y s there);
+        };
       })
       (λ (t : (j ≡ length uppers) × (front_of u ≡ v)). subst (Knows z.rows made words f.role next f.history j) t.1
       (front_knows next f.history (f.each_seat id u at).seen_first (none_made made 0 f.history f.by_passes (inl refl)) j))
@@ -134,6 +143,7 @@ front_more z made words uppers id u f at = let next : List TreeView = uppers ++ 
       notes = λ note i. absurd (in_nothing note [] refl i);
       links = λ note i. absurd (in_nothing note [] refl i);
       ways = λ way i. absurd (in_nothing way [] refl i);
+      ended = λ x i. absurd (in_nothing x [] refl i);
     }
 
 module _ (z : Sizes) where

@@ -3,6 +3,7 @@ pub mod Dividing
 pub mod Fronts
 pub mod HeldRows
 pub mod Holding
+pub mod LastTrees
 pub mod Listing
 pub mod Logs
 pub mod Looking

@@ -7,7 +7,8 @@ use Rattle.ca_model.specs.Event.{Event, Entry, IsAnswer, effect}
 use Rattle.ca_model.specs.History.{Edit, History, after, after_edit, state, edits_of_pass}
 use Rattle.ca_model.specs.Lawful.{IsEntryAt, AreEntries, IsPlaceFrom, PlacesRise, edits_of_log, IsLawful}
 use Rattle.ca_model.specs.StoreMap.{StoreMap}
-use Rattle.ca_node.specs.Tree.{ArePast}
+use Rattle.ca_node.specs.Tree.{ArePast, IsEnded}
+use Rattle.ca_node.specs.TreeView.{Ended, TreeView}
 
 -- The map after a history and some more of it.
 pub after_more : (xs ys : History) (m : StoreMap) → after (xs ++ ys) m ≡ after ys (after xs m)
@@ -95,6 +96,16 @@ others_lawful pass n e h log other l = record {
   ) ∷ []) log l.entries;
   places = l.places;
   edits = edits_else pass n e h other ∙ l.edits;
+}
+
+-- So it does of a pass that was joined into a seat.
+pub ended_more : (made : ℕ) (uppers : List TreeView) (n : ℕ) (e : Edit) (h : History) (x : Ended) → n ≢ x.number → IsEnded made uppers h x
+    → IsEnded made uppers (h ++ (n, e) ∷ []) x
+ended_more made uppers n e h x other k = record {
+  some_number = k.some_number;
+  made_before = k.made_before;
+  lawful = others_lawful x.number n e h x.log other k.lawful;
+  gone = k.gone;
 }
 
 -- A pass's own edit, with the entry of the call that made it.

@@ -360,6 +360,7 @@ module _ (z : Sizes) where
                 (subst (IsLinkOfView u) (sym here) (link_of_view z r.made s.words (map upper_of s.views) f id u k link any.0 any.1 any.2)))
                 (λ (o : IsIn m u.notes). k.links m o) (in_more note m u.notes i);
             ways = k.ways;
+            ended = k'.ended;
           })
 
       -- It is listed, and so it is in the list of a pass that is the only one.
@@ -418,6 +419,7 @@ module _ (z : Sizes) where
             ways = λ w i. ⊎_elim (λ (e : way ≡ w). subst (IsTrueWay s.words f.role) e
                 (way_true z r.made s.words (map upper_of s.views) f (get_or s.words link 0) place key is))
                 (λ (o : IsIn w u.ways). k.ways w o) (in_more way w u.ways i);
+            ended = k'.ended;
           })
 
       pub route_told : IsLedToRoute link me (get_or s.words link 0) (with_upper me with_route)
@@ -498,6 +500,7 @@ module _ (z : Sizes) where
               notes = k'.notes;
               links = k'.links;
               ways = k'.ways;
+              ended = k'.ended;
             }),
         (refl, inr (inr (inl (event, read))), read),
       )
@@ -525,6 +528,7 @@ module _ (z : Sizes) where
         notes = k.notes;
         links = k.links;
         ways = k.ways;
+        ended = k.ended;
       })
 
   -- An exchange after which the seat counts one more that was lost, and remembers no base.
@@ -549,6 +553,7 @@ module _ (z : Sizes) where
         notes = λ m i. absurd (some-ne-none m (sym i.1));
         links = λ m i. absurd (some-ne-none m (sym i.1));
         ways = k.ways;
+        ended = k.ended;
       })
 
   -- A base that a pass lists which is alone hangs under its link.

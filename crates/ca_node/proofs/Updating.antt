@@ -37,7 +37,7 @@ use Rattle.ca_node.specs.Tree.{StartsWith, IsLinkOfView, IsTrue, IsTrueWay, Know
 use Rattle.ca_node.specs.TreeView.{Note, Way, TreeView}
 use Rattle.ca_node.proofs.Holding.{held_row, unclaimed_row}
 use Rattle.ca_node.proofs.Listing.{Relists, listed_again, known_by_one}
-use Rattle.ca_node.proofs.Logs.{after_more, others_lawful, own_lawful, past_more}
+use Rattle.ca_node.proofs.Logs.{after_more, others_lawful, own_lawful, past_more, ended_more}
 use Rattle.ca_node.proofs.Looking.{R, loses, hangs_still, of_map, knows_upper, in_turn, fewer_passes, further, longer_past, starts_shorter, in_more}
 use Rattle.ca_node.proofs.Members.{in_rest, has, given_here, given_else, taken_here, taken_else, other_has, map_is_list}
 use Rattle.ca_node.proofs.Named.{named_once}
@@ -452,6 +452,7 @@ module _ (z : Sizes) (s : State (Unit {0}) (View TreeView)) (r : R z s) (id : �
             (knows.links x.old (was_shown z me new x u)))
             (λ (o : IsIn note d.upper.notes). knows.links note o) (in_more new_note note d.upper.notes i);
         ways = way_keeps id d at;
+        ended = λ y i. ended_more r.made (set (map upper_of s.views) id u') d.upper.number x.edit f.history y ((knows.ended y i).gone id d.upper first) (k'.ended y i);
       }
 
   others_know : (j : ℕ) (v : TreeView) → j ≢ id → get_elem? (map upper_of s.views) j ≡ some v
@@ -468,6 +469,7 @@ module _ (z : Sizes) (s : State (Unit {0}) (View TreeView)) (r : R z s) (id : �
         notes = λ note i. note_keeps j y.0 y.1 note (subst (λ (w : TreeView). IsIn note w.notes) (sym y.2) i);
         links = k.links;
         ways = λ way i. way_keeps j y.0 y.1 way (subst (λ (w : TreeView). IsIn way w.ways) (sym y.2) i);
+        ended = λ e i. ended_more r.made (set (map upper_of s.views) id u') d.upper.number x.edit f.history e (((f.each_seat j v here).ended e i).gone id d.upper first) (k.ended e i);
       }
 
   -- No other control word changes.

@@ -4,7 +4,7 @@ use mathlib.Core.Logic.{dite}
 use mathlib.Core.Option.{some, some-injective, some-ne-none}
 use native.Mathlib.Decide.{ℕ_discrete}
 use lib.ListN.{get_elem?}
-use Rattle.atomic_table.proofs.Lists.{at_set, set_again}
+use Rattle.atomic_table.proofs.Lists.{at_set, set_else}
 use Rattle.ca_model.specs.History.{History, after, edits_of_pass, AreByPasses}
 use Rattle.ca_model.specs.StoreMap.{StoreMap}
 use Rattle.ca_rows.specs.declared.sizes.Sizes.{Sizes}
@@ -22,8 +22,8 @@ use Rattle.ca_node.specs.Row.{row_at, IsObjectRow, IsBaseRow, items, route_key, 
 use Rattle.ca_node.specs.Shape.{Role, Out, Base, Route, place_of, IsBaseAt, IsSo, IsShape}
 use Rattle.ca_node.specs.Standing.{shape_stands}
 use Rattle.ca_node.specs.Stays.{IsSameRow, word_at, row_same, map_same, linked_on, linked_back, lent_on, lent_back}
-use Rattle.ca_node.specs.Tree.{StartsWith, IsTrue, IsTrueWay, Knows, IsTree}
-use Rattle.ca_node.specs.TreeView.{Note, Way, TreeView, first_inventory, blank, pinned, unpinned}
+use Rattle.ca_node.specs.Tree.{StartsWith, IsTrue, IsTrueWay, IsEnded, Knows, IsTree}
+use Rattle.ca_node.specs.TreeView.{Note, Way, Ended, TreeView, first_inventory, blank, ended_of, and_ended, ended_with, pinned, unpinned}
 
 pub in_nothing : {A : Type 0} (x : A) (xs : List A) → xs ≡ [] → IsIn x xs → ⊥
 in_nothing x xs e i = some-ne-none x (sym (ap (λ ys. get_elem? ys i.0) (sym e) ∙ i.1))
@@ -167,6 +167,7 @@ module _ (z : Sizes) (made : ℕ) (uppers : List TreeView) (words others : List 
       notes = note_now j u at;
       links = k.links;
       ways = way_now j u at;
+      ended = k.ended;
     };
     inventory = f.inventory;
     listed = listed_now;
@@ -214,6 +215,12 @@ relisted rows made words role uppers uppers' history j u n k = record {
   notes = k.notes;
   links = k.links;
   ways = k.ways;
+  ended = λ x i. let e = k.ended x i in let lo = e.some_number in record {
+    some_number = lo;
+    made_before = e.made_before;
+    lawful = e.lawful;
+    gone = λ s v here same. let y = n s v here (omega arith) in e.gone s y.0 y.1 (y.2 ∙ same);
+  };
 }
 
 -- One seat's view is another.
@@ -271,6 +278,7 @@ tree_pinning = record {
         notes = k.notes;
         links = k.links;
         ways = k.ways;
+        ended = k.ended;
       };
   entering_notes = same_notes;
   keeps_leaving = λ z made uppers words i u f at. let k = relisted z.rows made words f.role uppers (set uppers i (unpinned u)) f.history i u
@@ -286,6 +294,7 @@ tree_pinning = record {
         notes = λ note i. absurd (in_nothing note [] refl i);
         links = λ note i. absurd (in_nothing note [] refl i);
         ways = λ way i. absurd (in_nothing way [] refl i);
+        ended = k.ended;
       };
   leaving_notes = λ words u r. no_notes words (unpinned u) r refl refl;
 }
@@ -315,6 +324,7 @@ knows_nothing rows made words role uppers history j number before alone unmade =
   notes = λ note i. absurd (in_nothing note [] refl i);
   links = λ note i. absurd (in_nothing note [] refl i);
   ways = λ way i. absurd (in_nothing way [] refl i);
+  ended = λ x i. absurd (in_nothing x [] refl i);
 }
 
 pub tree_making : Making IsLinked IsLent IsNoted IsTree blank
@@ -342,6 +352,14 @@ tree_making = record {
           notes = k.notes;
           links = k.links;
           ways = k.ways;
+          ended = λ x i. let e = k.ended x i in let before = e.made_before in record {
+            some_number = e.some_number;
+            made_before = omega arith;
+            lawful = e.lawful;
+            gone = λ s v at same. ⊎_elim (λ (old : get_elem? uppers s ≡ some v). e.gone s v old same)
+                (λ (t : (s ≡ length uppers) × (blank (made + 1) ≡ v)). let n : made + 1 ≡ v.number = ap (λ (y : TreeView). y.number) t.1 in
+                absurd (omega arith)) (at_place uppers (blank (made + 1)) v s at);
+          };
         })
         (λ (t : (j ≡ length uppers) × (blank (made + 1) ≡ u)). subst (Knows z.rows (made + 1) words f.role next f.history j) t.1
         (knows_nothing z.rows (made + 1) words f.role next f.history j (made + 1) (omega arith)
@@ -360,13 +378,88 @@ tree_making = record {
   making_notes = λ words pass r. no_notes words (blank pass) r refl refl;
 }
 
-pub tree_closing : Closing IsLinked IsLent IsNoted IsTree (λ v w. v) (blank 0)
-tree_closing = record {
-  keeps_closing = λ z made uppers words i j v w f at ne there. subst (λ us. IsTree z made words (set us j (blank 0))) (sym (set_again uppers i v at))
-      (seat_changed z made words uppers j w (blank 0) f there (λ lo. absurd (omega arith)) (λ lo. absurd (omega arith))
+-- Two places of a list are set in either order.
+set_apart : {A : Type 0} (xs : List A) (i j : ℕ) (a b : A) → j ≢ i → set (set xs i a) j b ≡ set (set xs j b) i a
+set_apart [] i j a b n = refl
+set_apart (x ∷ xs) zero zero a b n = absurd (n refl)
+set_apart (x ∷ xs) zero (suc j) a b n = refl
+set_apart (x ∷ xs) (suc i) zero a b n = refl
+set_apart (x ∷ xs) (suc i) (suc j) a b n = ap (λ ys. x ∷ ys) (set_apart xs i j a b (λ e. n (ap suc e)))
+
+-- A pass is joined into a seat: its log stays lawful, and no seat has its number any more.
+module _ (z : Sizes) (made : ℕ) (words : List ℕ) (uppers : List TreeView) (i j : ℕ) (v w : TreeView) (f : IsTree z made words uppers)
+    (at : get_elem? uppers i ≡ some v) (ne : j ≢ i) (there : get_elem? uppers j ≡ some w) where
+  fewer : IsTree z made words (set uppers j (blank 0))
+  fewer = seat_changed z made words uppers j w (blank 0) f there (λ lo. absurd (omega arith)) (λ lo. absurd (omega arith))
       (knows_nothing z.rows made words f.role (set uppers j (blank 0)) f.history j 0 (omega arith) (λ lo. absurd (omega arith))
-      (none_made made 0 f.history f.by_passes (inl refl))));
-  closing_notes = λ words v w r n. inl n;
+      (none_made made 0 f.history f.by_passes (inl refl)))
+
+  at_too : get_elem? (set uppers j (blank 0)) i ≡ some v
+  at_too = set_else uppers j i (blank 0) (λ e. ne (sym e)) ∙ at
+
+  abbrev joined : TreeView
+  joined = ended_with v w
+
+  abbrev left : List TreeView
+  left = set (set uppers j (blank 0)) i joined
+
+  gone_now : 0 < w.number → (s : ℕ) (y : TreeView) → get_elem? left s ≡ some y → y.number ≢ w.number
+  gone_now lo s y here same = let alone = (f.each_seat j w there).alone lo in ⊎_elim
+      (λ (t : (s ≡ i) × (joined ≡ y)). let n : v.number ≡ y.number = ap (λ (x : TreeView). x.number) t.1 in ne (sym (alone i v at (n ∙ same))))
+      (λ (t : (s ≢ i) × (get_elem? (set uppers j (blank 0)) s ≡ some y)). ⊎_elim
+      (λ (b : (s ≡ j) × (blank 0 ≡ y)). let n : 0 ≡ y.number = ap (λ (x : TreeView). x.number) b.1 in absurd (omega arith))
+      (λ (b : (s ≢ j) × (get_elem? uppers s ≡ some y)). b.0 (alone s y b.1 same))
+      (at_set uppers j s (blank 0) y t.1))
+      (at_set (set uppers j (blank 0)) i s joined y here)
+
+  one_more_ended : (n : ℕ) → n ≡ w.number → (xs : List Ended) → ((x : Ended) → IsIn x xs → IsEnded made left f.history x)
+      → (x : Ended) → IsIn x (and_ended n (ended_of w) xs) → IsEnded made left f.history x
+  one_more_ended zero is xs each x here = each x here
+  one_more_ended (suc n) is xs each x here = by_place here.0 here.1
+    where
+      by_place : (k : ℕ) → get_elem? (ended_of w ∷ xs) k ≡ some x → IsEnded made left f.history x
+      by_place zero e = subst (IsEnded made left f.history) (some-injective (ended_of w) x e) record {
+        some_number = omega arith;
+        made_before = (f.each_seat j w there).made_before;
+        lawful = (f.each_seat j w there).lawful;
+        gone = gone_now (omega arith);
+      }
+      by_place (suc k) e = each x (k, e)
+
+  knows_joined : Knows z.rows made words f.role left f.history i joined
+  knows_joined = let k = relisted z.rows made words f.role (set uppers j (blank 0)) left f.history i v
+      (numbered (set uppers j (blank 0)) i v joined at_too (λ _. refl))
+      (relisted z.rows made words f.role uppers (set uppers j (blank 0)) f.history i v
+      (numbered uppers j w (blank 0) there (λ lo. absurd (omega arith))) (f.each_seat i v at)) in record {
+        made_before = k.made_before;
+        alone = k.alone;
+        seen_first = k.seen_first;
+        since_first = k.since_first;
+        lawful = k.lawful;
+        past = k.past;
+        notes = k.notes;
+        links = k.links;
+        ways = k.ways;
+        ended = one_more_ended w.number refl v.ended k.ended;
+      }
+
+  closes : IsTree z made words (set (set uppers i joined) j (blank 0))
+  unfolding seat_changed fewer
+  closes = subst (IsTree z made words) (sym (set_apart uppers i j joined (blank 0) ne))
+      (seat_changed z made words (set uppers j (blank 0)) i v joined fewer at_too (λ _. refl) (λ _. refl) knows_joined)
+
+-- What the seat has a note on is what it had one on.
+ended_notes : (words : List ℕ) (u w : TreeView) (row : ℕ) → IsNoted words (ended_with u w) row → IsNoted words u row
+ended_notes words u w _ (by_note note row i e) = by_note note row i e
+ended_notes words u w _ (by_item note row i b k) = by_item note row i b k
+ended_notes words u w _ (by_way way row i e) = by_way way row i e
+ended_notes words u w _ (by_link way row i e) = by_link way row i e
+ended_notes words u w _ (by_link_item way base row i e f k) = by_link_item way base row i e f k
+
+pub tree_closing : Closing IsLinked IsLent IsNoted IsTree ended_with (blank 0)
+tree_closing = record {
+  keeps_closing = λ z made uppers words i j v w f at ne there. closes z made words uppers i j v w f at ne there;
+  closing_notes = λ words v w r n. inl (ended_notes words v w r n);
   spent_notes = λ words r. no_notes words (blank 0) r refl refl;
 }
 

@@ -1,4 +1,5 @@
 pub mod Inventory
+pub mod LastTree
 pub mod Laws
 pub mod Links
 pub mod Opened

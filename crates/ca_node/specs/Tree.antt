@@ -12,7 +12,7 @@ use Rattle.ca_node.specs.Links.{IsIn}
 use Rattle.ca_node.specs.Place.{IsLinkOf}
 use Rattle.ca_node.specs.Row.{row_at, IsObjectRow, IsBaseRow, items, route_key}
 use Rattle.ca_node.specs.Shape.{Role, Out, Base, Route, IsShape}
-use Rattle.ca_node.specs.TreeView.{Note, Way, Inventory, TreeView, first_inventory}
+use Rattle.ca_node.specs.TreeView.{Note, Way, Inventory, Ended, TreeView, first_inventory}
 
 abbrev pub StartsWith : History → History → Type 0
 StartsWith history seen = (rest : History) × (history ≡ seen ++ rest)
@@ -44,6 +44,13 @@ pub record IsTrueWay (words : List ℕ) (role : ℕ → Role) (way : Way) : Type
   pub stands : role way.row ≡ Route way.place (route_key way.its)
   pub spells : (index : ℕ) → IsFixed index → slice_index words (136 * way.row + index) ≡ slice_index way.its index
 
+-- A pass that was joined into a seat: its log is lawful, and no seat has its number any more.
+pub record IsEnded (made : ℕ) (uppers : List TreeView) (history : History) (x : Ended) : Type 0 where
+  pub some_number : 0 < x.number
+  pub made_before : x.number ≤ made
+  pub lawful : IsLawful x.number history x.log
+  pub gone : (i : ℕ) (v : TreeView) → get_elem? uppers i ≡ some v → v.number ≢ x.number
+
 -- what the seat number j knows
 pub record Knows (rows made : ℕ) (words : List ℕ) (role : ℕ → Role) (uppers : List TreeView) (history : History) (j : ℕ) (u : TreeView) : Type 0 where
   pub made_before : u.number ≤ made
@@ -56,6 +63,7 @@ pub record Knows (rows made : ℕ) (words : List ℕ) (role : ℕ → Role) (upp
   pub notes : (note : Note) → IsIn note u.notes → IsTrue rows words role note
   pub links : (note : Note) → IsIn note u.notes → IsLinkOfView u note.place.link
   pub ways : (way : Way) → IsIn way u.ways → IsTrueWay words role way
+  pub ended : (x : Ended) → IsIn x u.ended → IsEnded made uppers history x
 
 -- The tree under the root link has the last state of the one history.
 pub record IsTree (z : Sizes) (made : ℕ) (words : List ℕ) (uppers : List TreeView) : Type 0 where

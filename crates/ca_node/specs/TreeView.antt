@@ -1,5 +1,6 @@
 -- What a seat knows of the tree. It is data of proofs alone: lists, since a function is no value.
 use Rattle.std.specs.Prelude.{ℕ, List, [], ◌∷◌, None}
+use Prim.Native.Nat.{zero, suc}
 use Rattle.ca_model.specs.Event.{Entry}
 use Rattle.ca_model.specs.History.{History}
 use Rattle.ca_model.specs.Known.{Counts}
@@ -51,6 +52,15 @@ pub record Inventory : Type 0 where
   pub bases : List (ℕ × Place)
   pub most : ℕ
 
+-- What is left of a pass that was joined into a seat: its number, its calls, with their answers and places, how many were refused, and how many
+-- splits and joins it carried out.
+pub record Ended : Type 0 where
+  pub number : ℕ
+  pub log : List Entry
+  pub counts : Counts
+  pub splits : ℕ
+  pub joins : ℕ
+
 pub record TreeView : Type 0 where
   -- the number of its pass; 0 of a seat that is no pass's
   pub number : ℕ
@@ -77,6 +87,8 @@ pub record TreeView : Type 0 where
   pub inventory : Inventory
   -- the splits that it carried out, the last one first
   pub cuts : List Division
+  -- the passes that were joined into the seat, the last one first
+  pub ended : List Ended
 
 abbrev pub no_note : Note
 no_note = record { row = 0; its = []; objects = []; place = root_place }
@@ -110,7 +122,20 @@ blank number = record {
   renewal = no_renewal;
   inventory = first_inventory;
   cuts = [];
+  ended = [];
 }
+
+abbrev pub ended_of : TreeView → Ended
+ended_of u = record { number = u.number; log = u.log; counts = u.counts; splits = u.splits; joins = u.joins }
+
+-- these, and what is left of a seat, if it is a pass's by its number
+abbrev pub and_ended : ℕ → Ended → List Ended → List Ended
+and_ended zero x xs = xs
+and_ended (suc before) x xs = x ∷ xs
+
+-- what a seat knows that another one is joined into, which is spent then
+abbrev pub ended_with : TreeView → TreeView → TreeView
+ended_with u w = record u { ended = and_ended w.number (ended_of w) u.ended }
 
 -- It is pinned, or not any more.
 abbrev pub pinned : TreeView → TreeView

@@ -1,6 +1,7 @@
 //! The tree over the rows: what their words spell, its rule, and its single steps.
 #![tactic(auto)]
 
+mod closing;
 mod comparing;
 mod cursor;
 mod exchange;
@@ -13,6 +14,7 @@ mod steps;
 mod tallying;
 mod view;
 
+pub use closing::close_words;
 pub use cursor::{Cursor, Spot, walk};
 pub use exchange::{divide_base, replace_base};
 pub use handed::Front;

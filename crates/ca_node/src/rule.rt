@@ -4,7 +4,7 @@ ghost use Rattle.ca_node.specs.Links.{IsLinked, IsLent, IsNoted};
 ghost use Rattle.ca_node.specs.Opened.{opens_at};
 ghost use Rattle.ca_node.specs.Told.{MayLoad, MaySwap, learnt};
 ghost use Rattle.ca_node.specs.Tree.{IsTree};
-ghost use Rattle.ca_node.specs.TreeView.{blank, pinned, unpinned};
+ghost use Rattle.ca_node.specs.TreeView.{blank, ended_with, pinned, unpinned};
 
 use crate::view::Knowledge;
 use ca_rows::{Pass, RowRule, Sizes, Space};
@@ -43,7 +43,7 @@ impl RowRule for TreeRule {
 
     ghost learns = { learnt };
 
-    ghost both = { λ v w. v };
+    ghost both = { ended_with };
 
     ghost spent = { blank 0 };
 

@@ -14,7 +14,7 @@ IsLast {U} rule v words = (s : State (Unit {0}) (View U)) × rule s × (get_elem
 module _ {U : Type 0} where
   -- The seat is one of this table, and isn't pinned.
   abbrev pub IsClosable : TableId → Seat (Unit {0}) (View U) → Type 0
-  IsClosable table p = (p.table_id ≡ table) × (p.me.1 ≡ []) × (p.me.0.pin.pinned ≡ false)
+  IsClosable table p = (p.table_id ≡ table) × (p.me.0.pin.pinned ≡ false)
 
   module _ (both : U → U → U) where
     abbrev pub joined : View U → View U → View U

@@ -16,6 +16,7 @@ use crate::space::{Pass, Space};
 use crate::tally::Tally;
 use atomic_table::Table;
 use std::alloc::Global;
+use std::marker::PhantomData;
 
 impl Sizes {
     /// Whether rows, passes and starts are within their bounds.
@@ -131,6 +132,7 @@ impl<R: RowRule> Space<R> {
                 splits: 0,
                 joins: 0,
             },
+            table: PhantomData,
         })
     }
 }

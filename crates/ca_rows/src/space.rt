@@ -1,7 +1,7 @@
 //! The words of a space, and its passes.
 ghost use Rattle.std.specs.Prelude.{◌≡◌, ◌+◌, ◌*◌, ◌<◌, ◌≤◌, IsSome};
 ghost use Rattle.std.specs.Option.{ForSome};
-ghost use Rattle.ca_rows.specs.Owned.{IsOwnSeat};
+ghost use Rattle.ca_rows.specs.Owned.{HasNoSlot, IsOwnSeat};
 
 use crate::kept::KeptRows;
 use crate::rest::Rest;
@@ -11,6 +11,7 @@ use crate::tally::Tally;
 use crate::view::View;
 use atomic_table::{Seat, Table};
 use std::alloc::Global;
+use std::marker::PhantomData;
 
 /// The words of a space, which threads share.
 pub struct Space<R: RowRule> {
@@ -27,12 +28,15 @@ pub struct Space<R: RowRule> {
     pub ghost mine: { ForSome own (λ rest. IsOwnSeat table.shared.table_id sizes made rest.seat) },
 }
 
-/// A pass: the right to take steps on a space. It carries what it knows.
+/// A pass: the right to take steps on a space. It carries what it knows, and holds no slot.
 pub struct Pass<R: RowRule> {
     pub(crate) seat: Seat<(), View<R::Upper>>,
     pub(crate) number: u32,
     pub(crate) kept: KeptRows,
     pub(crate) tally: Tally,
+    // Its steps are those of a table under this rule.
+    pub(crate) table: PhantomData<Table<(), View<R::Upper>, Sizes, Rows<R>, Global>>,
+    pub ghost hands: { HasNoSlot seat },
 }
 
 /// What a pass knew when it was split off.
@@ -58,6 +62,7 @@ impl<R: RowRule> Drop for Pass<R> {
             number: _,
             kept: _,
             tally: _,
+            table: _,
         } = self;
     }
 }
@@ -97,6 +102,7 @@ impl<R: RowRule> Pass<R> {
             number: _,
             kept: _,
             tally: _,
+            table: _,
         } = self;
         seat
     }

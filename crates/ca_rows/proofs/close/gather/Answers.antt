@@ -22,13 +22,13 @@ join_seat-requires g c =
     (sym c.into_seat.ensures) ok in (
       inv.0 ∙ c.requires.seat.0,
       it.0,
-      it.1,
+      ap (λ (p : Seat (Unit {0}) (View g.row.R-Upper.Denot)). p.me.1) c.into_seat.ensures ∙ c.in-Some.pass.hands,
       c.requires.words,
       subst (λ (id : ℕ). Joins (Ruled g.R.RowRule.linked g.R.RowRule.lent g.R.RowRule.noted g.R.RowRule.fact table.key) id own.me.0 c.into_seat.result.id
           c.into_seat.result.me.0
           (joined g.R.RowRule.both own.me.0 c.into_seat.result.me.0) (fresh no_sizes 0 g.R.RowRule.spent)) (sym (inv.1 ∙ c.requires.seat.1))
           (joins g.R.RowRule.linked g.R.RowRule.lent g.R.RowRule.noted g.R.RowRule.fact g.R.RowRule.both g.R.RowRule.spent g.met.R.RowRule.closing table.key 0
-          own.me.0 c.into_seat.result.me.0 c.into_seat.result.id inv.2 it.2 (λ apart same. absurd (apart same))),
+          own.me.0 c.into_seat.result.me.0 c.into_seat.result.id inv.2 it.1 (λ apart same. absurd (apart same))),
     )
 
 pub loop-pass-preserved : goal.loop-pass-preserved

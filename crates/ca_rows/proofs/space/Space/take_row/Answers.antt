@@ -1,4 +1,6 @@
-use Rattle.std.proofs.Common.{rules, ℕ, ◌/◌, ◌%◌, ◌∙◌, arith, ap}
+use Rattle.std.proofs.Common.{rules, ℕ, ◌*◌, ◌+◌, ◌/◌, ◌%◌, ◌∙◌, arith, ap}
+use mathlib.Core.Logic.{dite}
+use native.Mathlib.Decide.{ℕ_discrete}
 use Rattle.ca_rows.specs.declared.sizes.Sizes.{Sizes}
 use Rattle.ca_rows.specs.Told.{Mine}
 use Rattle.ca_rows.proofs.Calling.{row_taken, row_missed, still}
@@ -88,3 +90,16 @@ returns-else-found-old-clause-frame g c = record {
   tally = search rules;
   kept = search rules;
 }
+
+pub invariant_of-pass-2 : goal.invariant_of-pass-2
+invariant_of-pass-2 g c =
+    let some_free = c.if-row-eq0.false in let saw = c.load-head.ensures.2.3 (omega arith) c.if-tag.false in
+    let t' : ℕ = c.load-head.result / 65536 in
+    let q : ℕ = c.load-head.result % 65536 in
+    let next = c.load-next.ensures.2 t' q (ap (λ (m : Mine g.row.R-Upper.Denot). m.0.stage) saw) in
+    let took = c.compare_exchange-found.ensures.2.1 t' q c.load-next.result (ap (λ (m : Mine g.row.R-Upper.Denot). m.0.stage) next) in
+    let before = ap (λ (m : Mine g.row.R-Upper.Denot). m.1) next ∙ (ap (λ (m : Mine g.row.R-Upper.Denot). m.1) saw ∙ c.args.pass.now.hands) in record {
+      hands = dite (ℕ_discrete c.compare_exchange-found.result (t' * 65536 + q))
+          (λ hit. ap (λ (m : Mine g.row.R-Upper.Denot). m.1) (took.0 hit).1.2 ∙ before)
+          (λ miss. ap (λ (m : Mine g.row.R-Upper.Denot). m.1) (took.1 miss) ∙ before);
+    }

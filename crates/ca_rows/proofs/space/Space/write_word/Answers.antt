@@ -1,4 +1,5 @@
-use Rattle.std.proofs.Common.{rules, arith, refl}
+use Rattle.std.proofs.Common.{rules, arith, refl, ap, ◌∙◌}
+use Rattle.ca_rows.specs.Told.{Mine}
 use Rattle.ca_rows.proofs.Calling.{still}
 use Rattle.ca_rows.proofs.Steps.{writes}
 use Rattle.ca_rows.proofs.space.Space.write_word.Goals as goal
@@ -20,3 +21,8 @@ returns-clause-frame g c = record {
   tally = search rules;
   kept = search rules;
 }
+
+pub invariant_of-pass : goal.invariant_of-pass
+invariant_of-pass g c =
+    let wrote = c.store.ensures.2 c.args.row c.args.index c.requires.held.0 refl c.requires.inside.1 c.requires.held.1 in
+    record { hands = ap (λ (m : Mine g.row.R-Upper.Denot). m.1) wrote ∙ c.args.pass.now.hands }
