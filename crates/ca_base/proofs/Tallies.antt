@@ -1,7 +1,8 @@
 -- What passes count, as a base is exchanged.
 use Rattle.std.proofs.Common.{◌≡◌, ℕ, Bool, true, false, ap, ◌∙◌}
 use Rattle.ca_rows.specs.declared.tally.Tally.{Tally}
-use Rattle.ca_node.specs.Tallied.{IsTallied, HasTallied}
+use Rattle.ca_rows.specs.Tallied.{HasTallied}
+use Rattle.ca_node.specs.Tallied.{IsTallied}
 use Rattle.ca_node.specs.Told.{MyTree, HasDivided, Update, HasUpdated}
 use Rattle.ca_node.specs.TreeView.{TreeView, Division}
 use Rattle.ca_node.proofs.Tallies.{tallied_still, tallied_split}

@@ -1,15 +1,12 @@
 //! Exchanges of a base: updates and splits.
 ghost use Rattle.std.specs.Prelude.{◌≡◌, ◌+◌, ◌*◌, ◌<◌, false};
-ghost use Rattle.ca_node.specs.Tallied.{HasTallied};
 ghost use Rattle.ca_node.specs.Told.{IsUpdate, HasUpdated, IsDivision, HasDivided, IsMissed, link_word};
-ghost use Rattle.ca_rows.specs.Calls.{IsSame};
-ghost use Rattle.ca_rows.specs.Passes.{IsOn, KeepsList, sizes, known};
+ghost use Rattle.ca_rows.specs.Passes.{CountsSplit, IsOn, KeepsList, sizes, known};
 
 use crate::link::Link;
 use crate::plays::{Divide, Intent, Plan, Replace};
 use crate::rule::{TreePass, TreeSpace};
-use crate::steps::replace_link;
-use crate::tallying::count_split;
+use crate::steps::{divide_link, replace_link};
 
 /// One exchange of a link, of the old base against one that the pass wrote: it carries out the update that `K` names, which is the last edit of
 /// the history then, and enters the call in the log. The old base is the one that the pass was shown last, and the link is where it hung. False
@@ -50,16 +47,9 @@ pub fn divide_base<K: Plan>(
     requires route { K.division.route ≡ route }
     requires link { K.division.old.place.link ≡ link_word link }
     requires inside { link_word link < 136 * (sizes space.now).rows + 136 }
-    ensures same { IsSame pass.old.seat pass.new.seat }
-    ensures number { pass.new.number ≡ pass.old.number }
-    ensures tally { HasTallied result pass.old.tally pass.new.tally }
-    ensures kept { pass.new.kept ≡ pass.old.kept }
+    ensures frame { CountsSplit result pass.old pass.new }
     ensures done { HasDivided result K.division (known pass.old) (known pass.new) }
     ensures won { result ≡ false → IsMissed K.division.old (known pass.old) }
 {
-    if !replace_link::<Divide<K>>(space, pass, link, old, route) {
-        return false;
-    }
-    count_split(pass);
-    true
+    divide_link::<Divide<K>>(space, pass, link, old, route)
 }

@@ -8,7 +8,7 @@ ghost use Rattle.ca_node.specs.Told.{IsAnyLink, IsLed, IsShown, IsShownWord, May
 ghost use Rattle.ca_node.specs.Tree.{IsTree};
 ghost use Rattle.ca_rows.specs.Calls.{Relinks};
 ghost use Rattle.ca_rows.specs.Rule.{Ruled};
-ghost use Rattle.ca_rows.specs.Passes.{OnlyReads, IsReading, KeepsList, sizes, known};
+ghost use Rattle.ca_rows.specs.Passes.{CountsSplit, OnlyReads, IsReading, KeepsList, sizes, known};
 ghost use Rattle.ca_node.specs.TreePasses.{tree_of};
 
 use crate::link::Link;
@@ -64,6 +64,26 @@ pub fn replace_link<M: Play<(), View<Knowledge>>>(
         × (result ≡ (n == old)) }
 {
     space.swap::<M>(pass, word_of(link), old as u64, new as u64)
+}
+
+/// The same exchange, which carries out a split where it wins: the pass's tally counts it then.
+pub(crate) fn divide_link<M: Play<(), View<Knowledge>>>(
+    space: &TreeSpace,
+    pass: &mut TreePass,
+    link: Link,
+    old: u32,
+    new: u32,
+) -> bool
+    requires reading { IsReading space.now pass.old }
+    requires inside { link_word link < 136 * (sizes space.now).rows + 136 }
+    requires rule { Allows (Ruled IsLinked IsLent IsNoted IsTree (sizes space.now)) space.now.table.shared.table_id.slots pass.old.seat.id
+        (known pass.old) (link_word link) (λ n. either (n == old) new n) (Relinks MaySwap M.then (step space.now.table.shared.table_id.slots
+        (link_word link) old new none) (known pass.old)) }
+    ensures frame { CountsSplit result pass.old pass.new }
+    ensures told { (n : ℕ) × M.then (step space.now.table.shared.table_id.slots (link_word link) old new none) (known pass.old) n (known pass.new)
+        × (result ≡ (n == old)) }
+{
+    space.swap_split::<M>(pass, word_of(link), old as u64, new as u64)
 }
 
 // The word of a link.

@@ -1,10 +1,11 @@
 -- Words for what contracts say of a space and its passes, and what stays of a pass.
-use Rattle.std.specs.Prelude.{◌≡◌, true}
+use Rattle.std.specs.Prelude.{◌≡◌, Bool, true}
 use Rattle.ca_rows.specs.declared.sizes.Sizes.{Sizes}
 use Rattle.ca_rows.specs.declared.space.Pass.{Pass}
 use Rattle.ca_rows.specs.declared.space.Space.{Space}
 use Rattle.ca_rows.specs.declared.view.View.{View}
 use Rattle.ca_rows.specs.Calls.{IsOf, IsSame, IsStill}
+use Rattle.ca_rows.specs.Tallied.{HasTallied}
 use Rattle.ca_rows.specs.Told.{Mine}
 
 module _ {R U : Type 0} where
@@ -41,7 +42,14 @@ module _ {R U : Type 0} where
     pub tally : new.tally ≡ pass.tally
     pub kept : new.kept ≡ pass.kept
 
-  -- So it does, and it learnt nothing.
+  -- It is the same pass, and it keeps the same rows. One split more is in its tally where one was carried out.
+  pub record CountsSplit (won : Bool) (pass new : Pass R U) : Type 0 where
+    pub same : IsSame pass.seat new.seat
+    pub number : new.number ≡ pass.number
+    pub tally : HasTallied won pass.tally new.tally
+    pub kept : new.kept ≡ pass.kept
+
+  -- It is the same pass, keeps the same rows, and learnt nothing.
   pub record OnlyReads (pass new : Pass R U) : Type 0 where
     pub same : IsSame pass.seat new.seat
     pub number : new.number ≡ pass.number

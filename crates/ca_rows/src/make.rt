@@ -158,14 +158,4 @@ impl<R: RowRule> Pass<R> {
     {
         self.tally
     }
-
-    /// Tells it how many it carried out. Nothing else changes.
-    pub fn set_tally(&mut self, tally: Tally)
-        ensures tally { self.new.tally ≡ tally }
-        ensures seat { self.new.seat ≡ self.old.seat }
-        ensures number { self.new.number ≡ self.old.number }
-        ensures kept { self.new.kept ≡ self.old.kept }
-    {
-        self.tally = tally;
-    }
 }

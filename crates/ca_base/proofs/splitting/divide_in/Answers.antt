@@ -9,7 +9,7 @@ use Rattle.ca_base.proofs.splitting.divide_in.Goals as goal
 pub give_back_all-requires-clause-held : goal.give_back_all-requires-clause-held
 give_back_all-requires-clause-held g c = held_still c.args.space.now.table.shared.key.rows c.args.pass.now.kept c.divide_base.new.pass.kept
     c.args.pass.now.seat.me c.divide_base.new.pass.seat.me (c.args.route ∷ c.args.left ∷ c.args.right ∷ []) c.if-not-divide_base.ensures.done
-    c.divide_base.ensures.kept c.requires.held
+    c.divide_base.ensures.frame.kept c.requires.held
 
 pub retire_unlinked-requires-clause-unlinked : goal.retire_unlinked-requires-clause-unlinked
 retire_unlinked-requires-clause-unlinked g c = let r = c.requires.rows in (
@@ -17,7 +17,7 @@ retire_unlinked-requires-clause-unlinked g c = let r = c.requires.rows in (
   in_nothing c.args.base [] refl,
   divided_rows c.args.space.now.table.shared.key.rows c.args.pass.now.kept c.divide_base.new.pass.kept c.args.pass.now.seat.me
       c.divide_base.new.pass.seat.me g.K.Plan.division c.args.base (c.args.route ∷ c.args.left ∷ c.args.right ∷ [])
-      (λ i. r.1 i ∷ r.2 i ∷ r.3 i ∷ []) r.0 c.if-not-divide_base.ensures.done c.divide_base.ensures.kept c.requires.apart c.requires.held,
+      (λ i. r.1 i ∷ r.2 i ∷ r.3 i ∷ []) r.0 c.if-not-divide_base.ensures.done c.divide_base.ensures.frame.kept c.requires.apart c.requires.held,
 )
 
 pub returns-clause-frame : goal.returns-clause-frame
@@ -26,14 +26,14 @@ returns-clause-frame g c = record {
   number = search rules;
   tally = tallied_division true g.K.Plan.division c.args.pass.now.seat.me c.divide_base.new.pass.seat.me
       c.retire_unlinked.new.pass.seat.me.0.upper c.args.pass.now.tally c.divide_base.new.pass.tally c.retire_unlinked.new.pass.tally
-      c.if-not-divide_base.ensures.done c.if-not-divide_base.ensures.tally c.retire_unlinked.ensures.frame.same.4 c.retire_unlinked.ensures.frame.tally;
+      c.if-not-divide_base.ensures.done c.if-not-divide_base.ensures.frame.tally c.retire_unlinked.ensures.frame.same.4 c.retire_unlinked.ensures.frame.tally;
   pin = search rules;
   none = let r = c.requires.rows in let rows = c.args.space.now.table.shared.key.rows in
       none_left rows c.retire_unlinked.new.pass.kept.rows c.retire_unlinked.new.pass.seat.me.0
       (c.retire_unlinked.ensures.retired [] (in_nothing c.args.base [] refl)
       (divided_rows rows c.args.pass.now.kept c.divide_base.new.pass.kept c.args.pass.now.seat.me c.divide_base.new.pass.seat.me g.K.Plan.division c.args.base
       (c.args.route ∷ c.args.left ∷ c.args.right ∷ []) (λ i. r.1 i ∷ r.2 i ∷ r.3 i ∷ []) r.0 c.if-not-divide_base.ensures.done
-      c.divide_base.ensures.kept c.requires.apart c.requires.held));
+      c.divide_base.ensures.frame.kept c.requires.apart c.requires.held));
 }
 
 pub returns-then-not-divide_base-clause-frame : goal.returns-then-not-divide_base-clause-frame
@@ -42,7 +42,7 @@ returns-then-not-divide_base-clause-frame g c = record {
   number = search rules;
   tally = tallied_division false g.K.Plan.division c.args.pass.now.seat.me c.divide_base.new.pass.seat.me
       c.give_back_all.new.pass.seat.me.0.upper c.args.pass.now.tally c.divide_base.new.pass.tally c.give_back_all.new.pass.tally
-      c.if-not-divide_base.ensures.done c.if-not-divide_base.ensures.tally c.give_back_all.ensures.frame.same.4 c.give_back_all.ensures.frame.tally;
+      c.if-not-divide_base.ensures.done c.if-not-divide_base.ensures.frame.tally c.give_back_all.ensures.frame.same.4 c.give_back_all.ensures.frame.tally;
   pin = search rules;
   none = search rules;
 }
