@@ -1,5 +1,5 @@
 -- The new base of an update is one that was shown.
-use Rattle.std.proofs.Common.{◌≡◌, ℕ, ◌<◌, ◌≤◌, List, [], ◌∷◌, length, map, Vec, get_or, sym, refl, ap, ◌∙◌, subst, ⊎_elim, arith}
+use Rattle.std.proofs.Common.{◌≡◌, ℕ, ◌<◌, ◌≤◌, List, [], ◌∷◌, length, map, Vec, get_or, sym, refl, ap, ◌∙◌, subst, inl, ⊎_elim, arith}
 use Rattle.std.specs.Global.{Global}
 use mathlib.Core.Option.{some, some-injective}
 use lib.ListN.{get_elem?}
@@ -65,7 +65,7 @@ module _ (z : Sizes) (kept : Vec Kept Global) (m : MyTree) (new : ℕ) (x : Upda
     deep = old.deep;
     most_levels = old.most_levels;
     few = up.few;
-    unmarked = up.unmarked;
+    marked = inl up.unmarked;
     named = named_new;
     as_many = up.as_many;
     objects_long = long_new;

@@ -5,7 +5,7 @@ use mathlib.Core.Option.{some}
 use Rattle.ca_rows.specs.declared.view.Claim.TheVariants.{Holds}
 use Rattle.ca_rows.specs.Claims.{claim_of, held_count}
 use Rattle.ca_node.specs.Told.{MyTree}
-use Rattle.ca_node.specs.Row.{IsObjectRow, IsBaseRow, items, count, level, mark, object, key}
+use Rattle.ca_node.specs.Row.{IsObjectRow, IsBaseRow, items, count, level, IsUnmarked, object, key}
 
 -- The seat holds the row.
 abbrev pub IsHeld : MyTree → ℕ → Type 0
@@ -57,7 +57,7 @@ pub record SpellsBase (these : List ℕ) (at_level statistic : ℕ) (its : List 
   pub items_are : items its ≡ these
   pub level_is : level its ≡ at_level
   pub count_is : count its ≡ length these
-  pub unmarked : mark its ≡ 0
+  pub unmarked : IsUnmarked its
   pub statistic_is : slice_index its 1 ≡ statistic
 
 -- the words of a base row from the first one up to the mark's bound: so many items, at this level, this word for the statistic, and no mark

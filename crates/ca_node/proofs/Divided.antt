@@ -1,5 +1,5 @@
 -- A base is divided: by one exchange of its link a route takes its place, over two bases that have its objects.
-use Rattle.std.proofs.Common.{◌≡◌, ◌≢◌, ◌⊎◌, ℕ, ◌+◌, ◌*◌, ◌%◌, ◌<◌, ◌≤◌, eqb, cond, List, [], ◌∷◌, ◌++◌, length, map, get_or, set, sym, refl, ap, ◌∙◌, subst, inl, inr, ⊎_elim, arith}
+use Rattle.std.proofs.Common.{◌≡◌, ◌≢◌, ◌⊎◌, ℕ, ◌+◌, ◌*◌, ◌<◌, ◌≤◌, eqb, cond, List, [], ◌∷◌, ◌++◌, length, map, get_or, set, sym, refl, ap, ◌∙◌, subst, inl, inr, ⊎_elim, arith}
 use Rattle.std.proofs.lemmas.Bool.Decides.{nat_tests}
 use Rattle.std.proofs.lemmas.List.{map-append}
 use mathlib.Core.Logic.{dite}
@@ -9,13 +9,13 @@ use lib.ListN.{get_elem?}
 use Rattle.ca_model.specs.StoreMap.{Pair, StoreMap, IsStoreMap}
 use Rattle.ca_rows.specs.declared.sizes.Sizes.{Sizes}
 use Rattle.ca_node.specs.Place.{Span, all_keys, left_of, right_of, HasKey, part, Place, left_place, right_place}
-use Rattle.ca_node.specs.Row.{row_at, IsRouteRow, count, level, items, key, object, route_key, pair, objects_in}
+use Rattle.ca_node.specs.Row.{row_at, IsRouteRow, count, level, items, IsIdle, key, object, route_key, pair, objects_in}
 use Rattle.ca_node.specs.Shape.{Role, Out, Base, Route, place_of, IsLink, LeadsTo, IsBaseAt, IsRouteAt, IsSo, IsShape}
 use Rattle.ca_node.specs.Stays.{word_at}
 use Rattle.ca_node.proofs.Parts.{part_cut, two_sides, left_is_in, right_is_in}
 use Rattle.ca_node.proofs.Named.{key_in}
 use Rattle.ca_node.specs.Reached.{same_place, base_at}
-use Rattle.ca_node.proofs.Rebased.{out_no_route, IsNewBase, relinked_wide, relinked_here, relinked_keeps, relinked_row, link_still, lead_still, row_still, base_comes}
+use Rattle.ca_node.proofs.Rebased.{out_no_route, IsNewBase, relinked_wide, relinked_here, relinked_keeps, relinked_row, relinked_quiet, relinked_idle, link_still, lead_still, row_still, base_comes}
 
 -- Behind some members of a list stands the next one.
 pub behind : {A : Type 0} (xs ys : List A) (a : A) → get_elem? (xs ++ a ∷ ys) (length xs) ≡ some a
@@ -31,7 +31,7 @@ pub record IsNewRoute (z : Sizes) (words : List ℕ) (role : ℕ → Role) (deep
   pub level_is : level (row_at words row) ≡ deep
   pub short : count (row_at words row) ≤ 1000
   pub key_is : route_key (row_at words row) ≡ k
-  pub idle : get_or (row_at words row) 3 0 % 4 ≡ 0
+  pub idle : IsIdle (row_at words row)
   pub left_is : get_or (row_at words row) 1 0 ≡ left
   pub right_is : get_or (row_at words row) 2 0 ≡ right
 
@@ -74,7 +74,7 @@ module _ (role : ℕ → Role) (place : Place) (k : List ℕ) (old route left ri
 module _ (z : Sizes) (words : List ℕ) (role : ℕ → Role) (m : StoreMap) (shape : IsShape z words role m) (p : ℕ) (is_map : IsStoreMap p m) (old : ℕ)
     (place : Place) (is : role old ≡ Base place) (above : place.level < z.levels) (k : List ℕ) (route left right : ℕ) (left_other : left ≢ route)
     (right_other : right ≢ route) (apart : right ≢ left) (r : IsNewRoute z words role place.level k left right route)
-    (a : IsNewBase z words role (place.level + 1) left) (b : IsNewBase z words role (place.level + 1) right) (divided : AreDivided words old left right k) where
+    (a : IsNewBase z words role (left_place place k route) left) (b : IsNewBase z words role (right_place place k route) right) (divided : AreDivided words old left right k) where
   -- the words then
   abbrev words' : List ℕ
   words' = set words place.link route
@@ -187,7 +187,7 @@ module _ (z : Sizes) (words : List ℕ) (role : ℕ → Role) (m : StoreMap) (sh
     short = subst (λ ws. count ws ≤ 1000) (sym route_words) r.short;
     key_is = ap route_key route_words ∙ r.key_is;
     inside = divided_inside;
-    idle = subst (λ ws. get_or ws 3 0 % 4 ≡ 0) (sym route_words) r.idle;
+    joins = inl (subst IsIdle (sym route_words) r.idle);
     left = record {
       level = place.level + 1;
       greater = omega arith;
@@ -271,6 +271,18 @@ module _ (z : Sizes) (words : List ℕ) (role : ℕ → Role) (m : StoreMap) (sh
       t)
       s
 
+  -- A route is the new one, or one of the old tree.
+  route_was : (c : ℕ) (q : Place) (key : List ℕ) → roles c ≡ Route q key → (c ≡ route) ⊎ (role c ≡ Route q key)
+  route_was c q key e = dite (ℕ_discrete c route)
+      (λ (g : c ≡ route). inl g)
+      (λ (n : c ≢ route). dite (ℕ_discrete c left)
+      (λ (g : c ≡ left). let w : Base (left_place place k route) ≡ Route q key = sym role_left ∙ (ap roles (sym g) ∙ e) in cc)
+      (λ (l : c ≢ left). dite (ℕ_discrete c right)
+      (λ (g : c ≡ right). let w : Base (right_place place k route) ≡ Route q key = sym role_right ∙ (ap roles (sym g) ∙ e) in cc)
+      (λ (j : c ≢ right). dite (ℕ_discrete c old)
+      (λ (g : c ≡ old). let w : Out ≡ Route q key = sym role_old ∙ (ap roles (sym g) ∙ e) in cc)
+      (λ (d : c ≢ old). inr (sym (with_route_else role place k old route left right c n l j d) ∙ e)))))
+
   -- No key is led to two bases.
   alone : (c d : ℕ) (q s : Place) (x : List ℕ) → roles c ≡ Base q → roles d ≡ Base s → HasKey q.span x → HasKey s.span x → c ≡ d
   alone c d q s x e g h j = ⊎_elim
@@ -291,4 +303,9 @@ module _ (z : Sizes) (words : List ℕ) (role : ℕ → Role) (m : StoreMap) (sh
     top = lead_now 130 0 all_keys shape.top;
     each_row = so;
     apart = alone;
+    quiet = relinked_quiet z words role m shape old place is route;
+    idle = λ c q key e. ⊎_elim
+        (λ (same : c ≡ route). subst (λ y. IsIdle (row_at words' y)) (sym same) (subst IsIdle (sym route_words) r.idle))
+        (λ (was_route : role c ≡ Route q key). relinked_idle z words role m shape old place is route c (shape.idle c q key was_route))
+        (route_was c q key e);
   }

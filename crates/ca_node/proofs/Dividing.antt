@@ -26,7 +26,7 @@ use Rattle.ca_node.specs.Laws.{tree_lends, in_nothing, numbered, relisted}
 use Rattle.ca_node.specs.Links.{IsIn, IsLinked, IsLent, IsNoted, by_note, by_item, by_way, by_link, by_link_item}
 use Rattle.ca_node.specs.Place.{Place, left_place, right_place}
 use Rattle.ca_node.specs.Reached.{same_place, base_at, link_range, reached, placed_linked, item_linked, item_out, nothing_lent}
-use Rattle.ca_node.specs.Row.{row_at, IsBaseRow, IsRouteRow, items, count, level, mark, key, route_key}
+use Rattle.ca_node.specs.Row.{row_at, IsBaseRow, IsRouteRow, items, count, level, IsUnmarked, IsIdle, key, route_key}
 use Rattle.ca_node.specs.Shape.{Role, Out, Base, Route, place_of, IsBaseAt, IsShape}
 use Rattle.ca_node.specs.Told.{MyTree, IsHalf, IsDivision, given, taken_out, divided_inventory, divided, one_more_lost, IsDivided, IsMissed, Divides, HasDivided, MaySwap}
 use Rattle.ca_node.specs.Tree.{IsTrue, IsTrueWay, Knows, IsTree}
@@ -117,28 +117,28 @@ module _ (z : Sizes) (s : State (Unit {0}) (View TreeView)) (r : R z s) (id : �
   old_item row i = subst (λ its. IsIn row (items its)) (sym old_true.spells) i
 
   -- A half is a base that may come.
-  half : (row : ℕ) (its these : List ℕ) → claim_of d.claims row ≡ some (Holds its) → IsHalf z x.old.place.level these its
-      → ((c : ℕ) → IsIn c these → IsIn c (items x.old.its)) → IsNewBase z s.words r.above.role (x.old.place.level + 1) row
-  half row its these e h within = let w = held row its e in record {
+  half : (row : ℕ) (its these : List ℕ) (place : Place) → place.level ≡ x.old.place.level + 1 → claim_of d.claims row ≡ some (Holds its) → IsHalf z x.old.place.level these its
+      → ((c : ℕ) → IsIn c these → IsIn c (items x.old.its)) → IsNewBase z s.words r.above.role place row
+  half row its these place below e h within = let w = held row its e in record {
     some_row = w.0;
     in_range = w.1;
     is_out = held_out row its e;
     is_base = subst IsBaseRow (sym w.2) h.is_base;
-    level_is = subst (λ y. level y ≡ x.old.place.level + 1) (sym w.2) h.level_is;
+    level_is = ap level w.2 ∙ (h.level_is ∙ sym below);
     few = subst (λ y. count y ≤ z.leaf) (sym w.2) h.few;
-    unmarked = subst (λ y. mark y ≡ 0) (sym w.2) h.unmarked;
+    marked = inl (subst IsUnmarked (sym w.2) h.unmarked);
     are_objects = λ c i. old_at.are_objects c (old_item c (within c (subst (IsIn c) (ap items w.2 ∙ h.items_are) i)));
   }
 
   both : items x.old.its ≡ take x.middle (items x.old.its) ++ drop x.middle (items x.old.its)
   both = take_drop x.middle (items x.old.its)
 
-  left_base : IsNewBase z s.words r.above.role (x.old.place.level + 1) x.left
-  left_base = half x.left x.left_its (take x.middle (items x.old.its)) u.held_left u.is_left
+  left_base : IsNewBase z s.words r.above.role (left_place x.old.place (route_key x.route_its) x.route) x.left
+  left_base = half x.left x.left_its (take x.middle (items x.old.its)) (left_place x.old.place (route_key x.route_its) x.route) refl u.held_left u.is_left
       (λ c i. subst (IsIn c) (sym both) (in_front (take x.middle (items x.old.its)) (drop x.middle (items x.old.its)) c i))
 
-  right_base : IsNewBase z s.words r.above.role (x.old.place.level + 1) x.right
-  right_base = half x.right x.right_its (drop x.middle (items x.old.its)) u.held_right u.is_right
+  right_base : IsNewBase z s.words r.above.role (right_place x.old.place (route_key x.route_its) x.route) x.right
+  right_base = half x.right x.right_its (drop x.middle (items x.old.its)) (right_place x.old.place (route_key x.route_its) x.route) refl u.held_right u.is_right
       (λ c i. subst (IsIn c) (sym both) (in_back (take x.middle (items x.old.its)) (drop x.middle (items x.old.its)) c i))
 
   new_route : IsNewRoute z s.words r.above.role x.old.place.level (route_key x.route_its) x.left x.right x.route
@@ -150,7 +150,7 @@ module _ (z : Sizes) (s : State (Unit {0}) (View TreeView)) (r : R z s) (id : �
     level_is = ap level w.2 ∙ u.route_level;
     short = subst (λ y. count y ≤ 1000) (sym w.2) u.short;
     key_is = ap route_key w.2;
-    idle = subst (λ y. get_or y 3 0 % 4 ≡ 0) (sym w.2) u.idle;
+    idle = subst IsIdle (sym w.2) u.idle;
     left_is = ap (λ y. get_or y 1 0) w.2 ∙ u.left_link;
     right_is = ap (λ y. get_or y 2 0) w.2 ∙ u.right_link;
   }

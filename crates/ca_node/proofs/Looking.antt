@@ -22,6 +22,7 @@ use Rattle.ca_node.specs.Place.{Span, all_keys, left_of, right_of, HasKey, part,
 use Rattle.ca_node.specs.Reached.{by_place, base_at, route_at, placed_linked, item_linked}
 use Rattle.ca_node.specs.Row.{row_at, IsObjectRow, IsBaseRow, IsRouteRow, items, route_key, pair}
 use Rattle.ca_node.specs.Shape.{Base, Route, place_of, LeadsTo, IsBaseAt, IsRouteAt}
+use Rattle.ca_node.specs.Standing.{mark_of}
 use Rattle.ca_node.specs.Stays.{word_at, row_long}
 use Rattle.ca_node.specs.Told.{MyTree, with_upper, IsBaseNote, IsRouteNote, IsKnown, IsAlone, IsMissed, IsKnownLink, IsAnyLink, IsPlaceOf, led_to_base, led_to_route, IsLedToBase, IsLedToRoute, IsLed, Leads, IsShown, IsShownRoute, IsRead, Reads, IsReadNow, entered, ReadsLast, Refuses, IsRise, one_more_lost, MayLoad}
 use Rattle.ca_node.specs.Tree.{StartsWith, ArePast, IsLinkOfView, IsFixed, IsTrue, IsTrueWay, Knows, IsTree}
@@ -188,7 +189,7 @@ module _ (z : Sizes) (made : ℕ) (words : List ℕ) (uppers : List TreeView) (f
       deep = at.deep;
       most_levels = f.usable.most_levels;
       few = at.few;
-      unmarked = at.unmarked;
+      marked = mark_of words place (row_at words row) at.marked;
       named = λ r i. let o = at.are_objects r i in (o.0, o.1);
       as_many = length-map (items (row_at words row)) (λ r. row_at words r);
       objects_long = λ its i. let from = of_map (λ r. row_at words r) (items (row_at words row)) i.0 its i.1 in

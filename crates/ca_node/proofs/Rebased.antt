@@ -1,6 +1,6 @@
 -- One exchange of a link of the tree: what it changes in the words, and what stands of the tree's shape. By one such exchange a base takes
 -- the place of a base.
-use Rattle.std.proofs.Common.{◌≡◌, ◌≢◌, ◌⊎◌, ℕ, ◌+◌, ◌*◌, ◌<◌, ◌≤◌, eqb, cond, List, get_or, set, sym, refl, ap, ◌∙◌, subst, inl, inr, ⊎_elim, arith, length-set, get_or-set_other, get_or-set_same}
+use Rattle.std.proofs.Common.{◌≡◌, ◌≢◌, ◌⊎◌, ℕ, ◌+◌, ◌*◌, ◌%◌, ◌<◌, ◌≤◌, eqb, cond, List, get_or, set, sym, refl, ap, ◌∙◌, subst, inl, inr, ⊎_elim, arith, length-set, get_or-set_other, get_or-set_same}
 use Rattle.std.proofs.lemmas.Bool.Decides.{nat_tests}
 use mathlib.Core.Logic.{dite}
 use mathlib.Core.Option.{some, some-injective, some-ne-none}
@@ -8,14 +8,15 @@ use native.Mathlib.Decide.{ℕ_discrete}
 use Rattle.ca_model.specs.StoreMap.{StoreMap, IsStoreMap}
 use Rattle.ca_rows.specs.declared.sizes.Sizes.{Sizes}
 use Rattle.ca_rows.specs.Words.{IsWide}
-use Rattle.ca_node.specs.Links.{IsIn, IsLinked}
+use Rattle.ca_node.specs.Links.{IsIn, IsActive, IsLinked}
+use Rattle.ca_node.specs.Marks.{IsMarkIn}
 use Rattle.ca_node.specs.Place.{Span, all_keys, left_of, right_of, HasKey, part, Place, IsLinkOf}
-use Rattle.ca_node.specs.Row.{row_at, form, IsObjectRow, IsBaseRow, count, level, items, mark, objects_in}
+use Rattle.ca_node.specs.Row.{row_at, form, IsObjectRow, IsBaseRow, count, level, items, IsIdle, objects_in}
 use Rattle.ca_node.specs.Shape.{Role, Out, Base, Route, place_of, IsLink, LeadsTo, IsBaseAt, IsSo, IsShape}
-use Rattle.ca_node.specs.Stays.{IsSameRow, row_same}
+use Rattle.ca_node.specs.Stays.{IsSameRow, word_at, row_same}
 use Rattle.ca_node.proofs.Named.{named_once}
 use Rattle.ca_node.specs.Reached.{led_to, base_at, hung, link_range, object_out, item_out, placed_linked, item_linked, reached}
-use Rattle.ca_node.specs.Standing.{IsSameButLinks, objects_same, base_stands, route_stands}
+use Rattle.ca_node.specs.Standing.{IsSameButLinks, objects_same, mark_stays, base_stands, route_stands}
 
 -- The row is a route.
 abbrev pub IsRoute : (ℕ → Role) → ℕ → Type 0
@@ -29,15 +30,15 @@ out_no_route role row e t = some-ne-none t.0 (sym (ap place_of (sym e ∙ t.2)))
 pub base_no_route : (role : ℕ → Role) (row : ℕ) (place : Place) → role row ≡ Base place → ¬ IsRoute role row
 base_no_route role row place e t = let f : Base place ≡ Route t.0 t.1 = sym e ∙ t.2 in cc
 
--- The row is to be a base of the tree: it is nothing in it yet, and its words are those of a base at this level.
-pub record IsNewBase (z : Sizes) (words : List ℕ) (role : ℕ → Role) (deep row : ℕ) : Type 0 where
+-- The row is to be a base of the tree at this place: it is nothing in it yet, and its words are those of such a base.
+pub record IsNewBase (z : Sizes) (words : List ℕ) (role : ℕ → Role) (place : Place) (row : ℕ) : Type 0 where
   pub some_row : 0 < row
   pub in_range : row ≤ z.rows
   pub is_out : role row ≡ Out
   pub is_base : IsBaseRow (row_at words row)
-  pub level_is : level (row_at words row) ≡ deep
+  pub level_is : level (row_at words row) ≡ place.level
   pub few : count (row_at words row) ≤ z.leaf
-  pub unmarked : mark (row_at words row) ≡ 0
+  pub marked : IsMarkIn words place (row_at words row)
   pub are_objects : (r : ℕ) → IsIn r (items (row_at words row)) → (0 < r) × (r ≤ z.rows) × IsObjectRow (row_at words r)
 
 -- What is linked beside a base and its objects.
@@ -114,6 +115,34 @@ module _ (z : Sizes) (words : List ℕ) (role : ℕ → Role) (m : StoreMap) (sh
       (λ (f : place.link ≡ 136 * t.0 + 1). inl (omega arith)) (λ (f : place.link ≡ 136 * t.0 + 2). inr (omega arith)) t.4))
       was.is_link)
 
+  -- No word of a range changes.
+  pub relinked_ranges : (pass : ℕ) → 0 < pass → pass ≤ 64 → get_or (set words place.link row) (65 + pass) 0 ≡ get_or words (65 + pass) 0
+  relinked_ranges pass lo hi = relinked_else (65 + pass) (λ e. ⊎_elim
+      (λ (top : place.link ≡ 130). omega arith)
+      (λ (t : (136 < place.link) × (place.link < 136 * z.rows + 136)). let far = t.0 in omega arith)
+      (link_range z words role m shape place.link was.is_link))
+
+  -- No join word changes.
+  pub relinked_joins : (route : ℕ) → get_or (set words place.link row) (136 * route + 3) 0 ≡ get_or words (136 * route + 3) 0
+  relinked_joins route = relinked_else (136 * route + 3) (λ e. ⊎_elim
+      (λ (top : place.link ≡ 130). omega arith)
+      (λ (t : (r : ℕ) × (p : Place) × (key : List ℕ) × (role r ≡ Route p key) × IsLinkOf r place.link). ⊎_elim
+      (λ (f : place.link ≡ 136 * t.0 + 1). omega arith) (λ (f : place.link ≡ 136 * t.0 + 2). omega arith) t.4)
+      was.is_link)
+
+  -- So a mark stays one,
+  pub relinked_marks : (p : Place) (its : List ℕ) → IsMarkIn words p its → IsMarkIn (set words place.link row) p its
+  relinked_marks p its = mark_stays words words' p its (λ pass lo hi. let e = relinked_ranges pass lo hi in omega arith)
+      (λ route _. let e = relinked_joins route in omega arith)
+
+  -- no range becomes active,
+  pub relinked_quiet : (pass sequence : ℕ) → ¬ IsActive (set words place.link row) pass sequence
+  relinked_quiet pass sequence x = shape.quiet pass sequence (x.0, x.1, sym (relinked_ranges pass x.0 x.1) ∙ x.2)
+
+  -- and no join gets under way.
+  pub relinked_idle : (route : ℕ) → IsIdle (row_at words route) → IsIdle (row_at (set words place.link row) route)
+  relinked_idle route idle = ap (λ n. n % 4) (word_at words' route 3 (omega arith) ∙ (relinked_joins route ∙ sym (word_at words route 3 (omega arith)))) ∙ idle
+
   -- Each row that is no route keeps its words.
   pub relinked_keeps : (c : ℕ) → 0 < c → ¬ IsRoute role c → IsSameRow words (set words place.link row) c
   relinked_keeps c lo n k l = relinked_else (136 * c + k) (λ e. ⊎_elim
@@ -177,13 +206,14 @@ module _ (z : Sizes) (words : List ℕ) (role : ℕ → Role) (m : StoreMap) (sh
         (relinked_row c s.some_row s.in_range (base_no_route role c p e))
         (λ r i. let o = s.are_objects r i in relinked_object r o.0 o.1 o.2.0)
         (relinked_else p.link (other_link c p (ap place_of e) d) ∙ s.under) (link_still p.link s.is_link) (parts c p e d)
+        (relinked_marks p (row_at words c))
     row_still c d (Route p key) e s = route_stands z words words' role role' p key c s shape.wide relinked_wide (relinked_routes c s.some_row)
-        (relinked_else p.link (other_link c p (ap place_of e) d) ∙ s.under) (link_still p.link s.is_link)
+        (relinked_else p.link (other_link c p (ap place_of e) d) ∙ s.under) (link_still p.link s.is_link) (shape.idle c p key e)
         (lead_still (136 * c + 1) (p.level + 1) (left_of key p.span) s.left)
         (lead_still (136 * c + 2) (p.level + 1) (right_of key p.span) s.right)
 
     -- A row that is to be a base is one at the place of a link that names it, if it has what the map has there.
-    pub base_comes : (c : ℕ) (p : Place) → IsNewBase z words role p.level c → get_or (set words place.link row) p.link 0 ≡ c → IsLink role' p.link
+    pub base_comes : (c : ℕ) (p : Place) → IsNewBase z words role p c → get_or (set words place.link row) p.link 0 ≡ c → IsLink role' p.link
         → p.level ≤ z.levels → objects_in words c ≡ part p.span n → IsBaseAt z (set words place.link row) role' n p c
     base_comes c p b under link deep has = let e = relinked_row c b.some_row b.in_range (out_no_route role c b.is_out) in
         let same : (r : ℕ) → IsIn r (items (row_at words c)) → row_at words' r ≡ row_at words r
@@ -196,7 +226,7 @@ module _ (z : Sizes) (words : List ℕ) (role : ℕ → Role) (m : StoreMap) (sh
           is_base = subst IsBaseRow (sym e) b.is_base;
           level_is = subst (λ its. level its ≡ p.level) (sym e) b.level_is;
           few = subst (λ its. count its ≤ z.leaf) (sym e) b.few;
-          unmarked = subst (λ its. mark its ≡ 0) (sym e) b.unmarked;
+          marked = subst (IsMarkIn (set words place.link row) p) (sym e) (relinked_marks p (row_at words c) b.marked);
           are_objects = λ r i. let i' = subst (λ its. IsIn r (items its)) e i in let o = b.are_objects r i' in
               (o.0, o.1, subst IsObjectRow (sym (same r i')) o.2);
           has = objects_same words words' c e same ∙ has;
@@ -220,7 +250,7 @@ with_base_else role place old new row n n' = grind (arith, nat_tests)
 
 -- A base takes the place of a base.
 module _ (z : Sizes) (words : List ℕ) (role : ℕ → Role) (m : StoreMap) (shape : IsShape z words role m) (old : ℕ) (place : Place)
-    (is : role old ≡ Base place) (new : ℕ) (b : IsNewBase z words role place.level new) (n : StoreMap) (has : objects_in words new ≡ part place.span n)
+    (is : role old ≡ Base place) (new : ℕ) (b : IsNewBase z words role place new) (n : StoreMap) (has : objects_in words new ≡ part place.span n)
     (parts : (c : ℕ) (p : Place) → role c ≡ Base p → c ≢ old → part p.span n ≡ part p.span m) where
   -- the roles then
   abbrev roles : ℕ → Role
@@ -265,6 +295,14 @@ module _ (z : Sizes) (words : List ℕ) (role : ℕ → Role) (m : StoreMap) (sh
   base_row c p e = let at = base_at z words role m shape c p e in
       relinked_row z words role m shape old place is new c at.some_row at.in_range (base_no_route role c p e)
 
+  -- A route is one of the old tree.
+  route_was : (c : ℕ) (p : Place) (key : List ℕ) → roles c ≡ Route p key → role c ≡ Route p key
+  route_was c p key e = dite (ℕ_discrete c new)
+      (λ (f : c ≡ new). let g : Base place ≡ Route p key = sym (with_base_new role place old new) ∙ (ap roles (sym f) ∙ e) in cc)
+      (λ (d : c ≢ new). dite (ℕ_discrete c old)
+      (λ (f : c ≡ old). let g : Out ≡ Route p key = sym (with_base_old role place old new rebased_other) ∙ (ap roles (sym f) ∙ e) in cc)
+      (λ (d' : c ≢ old). sym (with_base_else role place old new c d d') ∙ e))
+
   -- No key is led to two bases.
   alone : (c d : ℕ) (p q : Place) (key : List ℕ) → roles c ≡ Base p → roles d ≡ Base q → HasKey p.span key → HasKey q.span key → c ≡ d
   alone c d p q key e f h k = ⊎_elim
@@ -285,6 +323,8 @@ module _ (z : Sizes) (words : List ℕ) (role : ℕ → Role) (m : StoreMap) (sh
     top = lead_still z words role m shape old place is new roles n fills keeps parts 130 0 all_keys shape.top;
     each_row = so;
     apart = alone;
+    quiet = relinked_quiet z words role m shape old place is new;
+    idle = λ c p key e. relinked_idle z words role m shape old place is new c (shape.idle c p key (route_was c p key e));
   }
 
   -- What is linked then is the new base, one of its objects, or what was linked beside the old base.

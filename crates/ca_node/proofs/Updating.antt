@@ -28,7 +28,7 @@ use Rattle.ca_node.specs.Laws.{tree_lends, in_nothing, numbered, relisted, start
 use Rattle.ca_node.specs.Links.{IsIn, IsLinked, IsLent, IsNoted, by_note, by_item, by_way, by_link, by_link_item}
 use Rattle.ca_node.specs.Place.{part, Place, edit_key, has_key}
 use Rattle.ca_node.specs.Reached.{same_place, base_at, link_range, reached, placed_linked, item_linked, item_out, linked_range, nothing_lent}
-use Rattle.ca_node.specs.Row.{row_at, form, IsObjectRow, IsBaseRow, items, count, level, mark, pair, objects_in}
+use Rattle.ca_node.specs.Row.{row_at, form, IsObjectRow, IsBaseRow, items, count, level, IsUnmarked, pair, objects_in}
 use Rattle.ca_node.specs.Shape.{Role, Out, Base, Route, place_of, IsBaseAt, IsShape}
 use Rattle.ca_node.specs.Stays.{map_same}
 use Rattle.ca_rows.specs.Told.{met_of}
@@ -170,7 +170,7 @@ module _ (z : Sizes) (s : State (Unit {0}) (View TreeView)) (r : R z s) (id : �
       (λ h. part_left z.keypos p.span x.edit last is_last h)
       (by_bool (has_key p.span (edit_key x.edit)))
 
-  new_base : IsNewBase z s.words r.above.role x.old.place.level new
+  new_base : IsNewBase z s.words r.above.role x.old.place new
   new_base = record {
     some_row = new_row.0;
     in_range = new_row.1;
@@ -178,7 +178,7 @@ module _ (z : Sizes) (s : State (Unit {0}) (View TreeView)) (r : R z s) (id : �
     is_base = subst IsBaseRow (sym new_row.2) u.is_base;
     level_is = subst (λ its. level its ≡ x.old.place.level) (sym new_row.2) u.level_is;
     few = subst (λ its. count its ≤ z.leaf) (sym new_row.2) u.few;
-    unmarked = subst (λ its. mark its ≡ 0) (sym new_row.2) u.unmarked;
+    marked = inl (subst IsUnmarked (sym new_row.2) u.unmarked);
     are_objects = λ row i. let w = words_of row (subst (λ its. IsIn row (items its)) new_row.2 i) in (w.1, w.2, subst IsObjectRow (sym w.3) w.4);
   }
 

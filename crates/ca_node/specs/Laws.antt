@@ -1,5 +1,6 @@
 -- The rule of the tree meets the laws of the rows.
 use Rattle.std.proofs.Common.{◌≡◌, ◌≢◌, ◌⊎◌, ℕ, zero, suc, ◌+◌, ◌*◌, ◌/◌, ◌%◌, ◌<◌, ◌≤◌, cond, eqb, List, [], ◌∷◌, ◌++◌, length, map, take, drop, get_or, set, sym, refl, ap, ◌∙◌, subst, inl, inr, ⊎_elim, arith, append-nil, ne_eqb, if◌then◌else◌}
+use Rattle.std.proofs.lemmas.Bool.Decides.{nat_tests}
 use mathlib.Core.Logic.{dite}
 use mathlib.Core.Option.{some, some-injective, some-ne-none}
 use native.Mathlib.Decide.{ℕ_discrete}
@@ -78,7 +79,8 @@ module _ (z : Sizes) (made : ℕ) (uppers : List TreeView) (words others : List 
   same row l k inside = a.seen row k (range row l).0 (inl l) inside
 
   shape_now : IsShape z others f.role (after f.history [])
-  shape_now = shape_stands z words others f.role (after f.history []) f.shape wide' same_root same
+  shape_now = shape_stands z words others f.role (after f.history []) f.shape wide' same_root
+      (λ pass lo hi. a.control (65 + pass) (omega arith) (omega arith)) same
 
   -- What one seat has a note on.
   module _ (j : ℕ) (u : TreeView) (at : get_elem? uppers j ≡ some u) where
@@ -463,6 +465,10 @@ tree_closing = record {
   spent_notes = λ words r. no_notes words (blank 0) r refl refl;
 }
 
+-- The words of ranges at the start.
+opens_low : (z : Sizes) (i : ℕ) → i < 130 → opens_at z i ≡ 262144 * z.starts.sequence
+opens_low z i l = grind (arith, nat_tests)
+
 -- The words at the start.
 module _ (z : Sizes) (words : List ℕ) (bounds : AreInBounds z) (usable : AreUsable z) (wide : IsWide z.rows words)
     (above : (i : ℕ) → 66 ≤ i → i < 272 → get_or words i 0 ≡ opens_at z i) where
@@ -497,13 +503,21 @@ module _ (z : Sizes) (words : List ℕ) (bounds : AreInBounds z) (usable : AreUs
     is_base = ap (λ n. n / 72057594037927936) first_word;
     level_is = ap (λ n. n / 65536 % 1099511627776) first_word;
     few = let e = ap (λ n. n % 65536) first_word in omega arith;
-    unmarked = word_at words 1 2 (omega arith) ∙ above 138 (omega arith) (omega arith);
+    marked = inl (word_at words 1 2 (omega arith) ∙ above 138 (omega arith) (omega arith));
     are_objects = λ r i. absurd (in_nothing r (items (row_at words 1)) no_items i);
     has = ap (map (λ row. pair (row_at words row))) no_items;
   }
 
   base_one : (row : ℕ) (p : Place) → role_of row ≡ Base p → row ≡ 1
   base_one row p e = dite (ℕ_discrete row 1) (λ same. same) (λ n. let x : Base p ≡ Out = sym e ∙ role_other row n in absurd cc)
+
+  no_route : (row : ℕ) (p : Place) (key : List ℕ) → role_of row ≢ Route p key
+  no_route row p key e = dite (ℕ_discrete row 1)
+      (λ (same : row ≡ 1). let x : Base root_place ≡ Route p key = sym role_one ∙ (ap role_of (sym same) ∙ e) in cc)
+      (λ n. let x : Out ≡ Route p key = sym (role_other row n) ∙ e in cc)
+
+  range_word : (pass : ℕ) → 0 < pass → pass ≤ 64 → get_or words (65 + pass) 0 ≡ 262144 * z.starts.sequence
+  range_word pass lo hi = above (65 + pass) (omega arith) (omega arith) ∙ opens_low z (65 + pass) (omega arith)
 
   shape_there : IsShape z words role_of []
   shape_there = record {
@@ -513,6 +527,8 @@ module _ (z : Sizes) (words : List ℕ) (bounds : AreInBounds z) (usable : AreUs
         (λ (e : row ≡ 1). subst (λ r. IsSo z words role_of [] r (role_of r)) (sym e) (subst (IsSo z words role_of [] 1) (sym role_one) first_base))
         (λ n. subst (IsSo z words role_of [] row) (sym (role_other row n)) tt);
     apart = λ a b p q key is is' _ _. base_one a p is ∙ sym (base_one b q is');
+    quiet = λ pass sequence x. let lo = x.0 in let hi = x.1 in let e = x.2 in let here = range_word pass lo hi in omega arith;
+    idle = λ route p key e. absurd (no_route route p key e);
   }
 
   only : (j : ℕ) (u : TreeView) → get_elem? (blank 0 ∷ []) j ≡ some u → Knows z.rows 0 words role_of (blank 0 ∷ []) [] j u

@@ -2,6 +2,7 @@ pub mod Inventory
 pub mod LastTree
 pub mod Laws
 pub mod Links
+pub mod Marks
 pub mod Opened
 pub mod Place
 pub mod Reached

@@ -5,7 +5,7 @@ use Rattle.ca_model.specs.StoreMap.{StoreMap}
 use Rattle.ca_rows.specs.declared.sizes.Sizes.{Sizes}
 use Rattle.ca_node.specs.Links.{IsIn, IsLinked, by_root, by_route, by_base, by_range, IsLent}
 use Rattle.ca_node.specs.Place.{Span, all_keys, left_of, right_of, Place, IsLinkOf}
-use Rattle.ca_node.specs.Row.{row_at, form, IsObjectRow, IsBaseRow, IsRouteRow, items, key}
+use Rattle.ca_node.specs.Row.{row_at, form, IsObjectRow, IsBaseRow, IsRouteRow, items, mark_owner, mark_number, key}
 use Rattle.ca_node.specs.Shape.{Role, Out, Base, Route, place_of, IsLink, LeadsTo, IsBaseAt, IsRouteAt, IsSo, IsShape}
 
 -- What has a place is a base there, or a route.
@@ -157,8 +157,7 @@ module _ (z : Sizes) (words : List ℕ) (role : ℕ → Role) (m : StoreMap) (sh
       (of_lead (136 * route + 2) (t.0.level + 1) (right_of t.1 t.0.span) at.right row)
       u
   reached _ (by_base base row l f i) = let t = of_base base (reached base l) f in inr (base, t.0, t.1, i)
-  reached _ (by_range base row l f x) = let t = of_base base (reached base l) f in let u = (base_at base t.0 t.1).unmarked in let m = x.0 in
-      absurd (omega arith)
+  reached _ (by_range base row l f x) = absurd (shape.quiet (mark_owner (row_at words base)) (mark_number (row_at words base)) x.1)
 
   -- What is linked is a row in range.
   pub linked_range : (row : ℕ) → IsLinked words row → (0 < row) × (row ≤ z.rows)
@@ -170,7 +169,7 @@ module _ (z : Sizes) (words : List ℕ) (role : ℕ → Role) (m : StoreMap) (sh
 
   -- No operation is under way that something could be lent to.
   pub nothing_lent : (row : ℕ) → ¬ IsLent words row
-  nothing_lent row x = let t = of_base x.0 (reached x.0 x.1) x.2 in let u = (base_at x.0 t.0 t.1).unmarked in let m = x.3.0 in omega arith
+  nothing_lent row x = shape.quiet (mark_owner (row_at words x.0)) (mark_number (row_at words x.0)) x.3.1
 
   -- An object row has no place.
   pub object_out : (row : ℕ) → form (row_at words row) ≡ 1 → role row ≡ Out

@@ -46,6 +46,23 @@ mark_back its = slice_index its 5
 abbrev pub mark_bound : List ℕ → ℕ
 mark_bound its = slice_index its 6
 
+-- No operation marked the base.
+abbrev pub IsUnmarked : List ℕ → Type 0
+IsUnmarked its = mark its ≡ 0
+
+-- of a route: how far the join is that was begun last, which no more than one is at a time: 0 none is under way, 1 it is prepared, 2 it is secured
+abbrev pub join_word : List ℕ → ℕ
+join_word its = slice_index its 3
+
+abbrev pub IsIdle : List ℕ → Type 0
+IsIdle its = join_word its % 4 ≡ 0
+
+abbrev pub IsPreparing : List ℕ → Type 0
+IsPreparing its = join_word its % 4 ≡ 1
+
+abbrev pub IsSecured : List ℕ → Type 0
+IsSecured its = join_word its % 4 ≡ 2
+
 -- the bytes of words, eight a word, the highest first
 abbrev pub bytes_in : List ℕ → List ℕ
 bytes_in [] = []

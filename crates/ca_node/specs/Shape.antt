@@ -1,12 +1,13 @@
 -- The shape of the tree in the words, row by row: which row is a base and which is a route, where it hangs, and which keys are led to it.
-use Rattle.std.specs.Prelude.{◌≡◌, ◌⊎◌, ℕ, ◌+◌, ◌*◌, ◌%◌, ◌<◌, ◌≤◌, List, slice_index}
+use Rattle.std.specs.Prelude.{◌≡◌, ◌⊎◌, ℕ, ◌+◌, ◌*◌, ◌<◌, ◌≤◌, List, slice_index}
 use mathlib.Core.Option.{Option, some, none}
 use Rattle.ca_model.specs.StoreMap.{StoreMap}
 use Rattle.ca_rows.specs.declared.sizes.Sizes.{Sizes}
 use Rattle.ca_rows.specs.Words.{IsWide}
-use Rattle.ca_node.specs.Links.{IsIn}
+use Rattle.ca_node.specs.Links.{IsIn, IsActive}
+use Rattle.ca_node.specs.Marks.{IsMarkIn, IsJoinWord}
 use Rattle.ca_node.specs.Place.{Span, all_keys, left_of, right_of, HasKey, part, Place, IsLinkOf}
-use Rattle.ca_node.specs.Row.{row_at, IsObjectRow, IsBaseRow, IsRouteRow, count, level, items, mark, route_key, objects_in}
+use Rattle.ca_node.specs.Row.{row_at, IsObjectRow, IsBaseRow, IsRouteRow, count, level, items, IsIdle, route_key, objects_in}
 
 -- what a row is in the tree: nothing, a base, or a route with its key
 pub data Role : Type 0 where
@@ -29,8 +30,8 @@ pub record LeadsTo (words : List ℕ) (role : ℕ → Role) (link least : ℕ) (
   pub greater : least ≤ level
   pub hangs : place_of (role (slice_index words link)) ≡ some (record { link = link; level = level; span = span })
 
--- The row is a base at this place: it has no more items than a leaf may, each of them names an object row, no operation marks it, and its
--- objects are what the map has of the keys that are led to it.
+-- The row is a base at this place: it has no more items than a leaf may, each of them names an object row, it has no mark or that of an operation
+-- that was begun, and its objects are what the map has of the keys that are led to it.
 pub record IsBaseAt (z : Sizes) (words : List ℕ) (role : ℕ → Role) (map : StoreMap) (place : Place) (row : ℕ) : Type 0 where
   pub some_row : 0 < row
   pub in_range : row ≤ z.rows
@@ -40,12 +41,12 @@ pub record IsBaseAt (z : Sizes) (words : List ℕ) (role : ℕ → Role) (map : 
   pub is_base : IsBaseRow (row_at words row)
   pub level_is : level (row_at words row) ≡ place.level
   pub few : count (row_at words row) ≤ z.leaf
-  pub unmarked : mark (row_at words row) ≡ 0
+  pub marked : IsMarkIn words place (row_at words row)
   pub are_objects : (r : ℕ) → IsIn r (items (row_at words row)) → (0 < r) × (r ≤ z.rows) × IsObjectRow (row_at words r)
   pub has : objects_in words row ≡ part place.span map
 
--- The row is a route at this place, above the last level: its key is one of those that are led to it, the lesser ones go left and the others right, and no join
--- is under way.
+-- The row is a route at this place, above the last level: its key is one of those that are led to it, the lesser ones go left and the others right, and its
+-- join word says how far a join is.
 pub record IsRouteAt (z : Sizes) (words : List ℕ) (role : ℕ → Role) (place : Place) (key : List ℕ) (row : ℕ) : Type 0 where
   pub some_row : 0 < row
   pub in_range : row ≤ z.rows
@@ -57,7 +58,7 @@ pub record IsRouteAt (z : Sizes) (words : List ℕ) (role : ℕ → Role) (place
   pub short : count (row_at words row) ≤ 1000
   pub key_is : route_key (row_at words row) ≡ key
   pub inside : HasKey place.span key
-  pub idle : slice_index (row_at words row) 3 % 4 ≡ 0
+  pub joins : IsJoinWord z words row
   pub left : LeadsTo words role (136 * row + 1) (place.level + 1) (left_of key place.span)
   pub right : LeadsTo words role (136 * row + 2) (place.level + 1) (right_of key place.span)
 
@@ -72,3 +73,6 @@ pub record IsShape (z : Sizes) (words : List ℕ) (role : ℕ → Role) (map : S
   pub top : LeadsTo words role 130 0 all_keys
   pub each_row : (row : ℕ) → IsSo z words role map row (role row)
   pub apart : (a b : ℕ) (p q : Place) (key : List ℕ) → role a ≡ Base p → role b ≡ Base q → HasKey p.span key → HasKey q.span key → a ≡ b
+  -- So far no range is active, and no join is under way.
+  pub quiet : (pass sequence : ℕ) → ¬ IsActive words pass sequence
+  pub idle : (route : ℕ) (place : Place) (key : List ℕ) → role route ≡ Route place key → IsIdle (row_at words route)

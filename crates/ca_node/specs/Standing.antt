@@ -8,8 +8,9 @@ use Rattle.ca_model.specs.StoreMap.{StoreMap}
 use Rattle.ca_rows.specs.declared.sizes.Sizes.{Sizes}
 use Rattle.ca_rows.specs.Words.{IsWide}
 use Rattle.ca_node.specs.Links.{root, IsIn, IsLinked}
+use Rattle.ca_node.specs.Marks.{IsOfRange, IsOfJoin, IsMark, IsMarkIn}
 use Rattle.ca_node.specs.Place.{Span, all_keys, left_of, right_of, part, Place, IsLinkOf}
-use Rattle.ca_node.specs.Row.{row_at, form, IsObjectRow, IsBaseRow, count, level, items, mark, route_key, bytes_in, pair, objects_in}
+use Rattle.ca_node.specs.Row.{row_at, form, IsObjectRow, IsBaseRow, count, level, items, mark_owner, mark_number, IsUnmarked, join_word, IsIdle, route_key, bytes_in, pair, objects_in}
 use Rattle.ca_node.specs.Shape.{Role, Out, Base, Route, place_of, IsLink, LeadsTo, IsBaseAt, IsRouteAt, IsSo, IsShape}
 use Rattle.ca_node.specs.Stays.{IsSameRow, word_at, row_long, row_same, map_same}
 use Rattle.ca_node.specs.Reached.{linked_range, placed_linked, item_linked}
@@ -60,13 +61,49 @@ pub objects_same : (words others : List ℕ) (base : ℕ) → row_at others base
 objects_same words others base e same = ap (λ its. map (λ r. pair (row_at others r)) (items its)) e
     ∙ map_same (λ r. pair (row_at others r)) (λ r. pair (row_at words r)) (items (row_at words base)) (λ r i. ap pair (same r i))
 
+-- A mark that is there is one.
+pub mark_of : (words : List ℕ) (place : Place) (its : List ℕ) → IsMarkIn words place its → IsMark place its
+mark_of words place its m = ⊎_elim
+    (λ (none : IsUnmarked its). inl none)
+    (λ some_mark. ⊎_elim
+    (λ (r : IsOfRange its × (mark_number its ≤ get_or words (65 + mark_owner its) 0 / 262144)). inr (inl r.0))
+    (λ (j : IsOfJoin place its × (4 * mark_number its ≤ get_or words (136 * mark_owner its + 3) 0)). inr (inr j.0))
+    some_mark) m
+
+-- A mark stays one, where no pass's sequence falls, nor the attempt of the route above.
+pub mark_stays : (words others : List ℕ) (place : Place) (its : List ℕ)
+    → ((pass : ℕ) → 0 < pass → pass ≤ 64 → get_or words (65 + pass) 0 ≤ get_or others (65 + pass) 0)
+    → ((route : ℕ) → IsLinkOf route place.link → get_or words (136 * route + 3) 0 ≤ get_or others (136 * route + 3) 0)
+    → IsMarkIn words place its → IsMarkIn others place its
+mark_stays words others place its ranges joins m = ⊎_elim
+    (λ (none : IsUnmarked its). inl none)
+    (λ some_mark. ⊎_elim
+    (λ (r : IsOfRange its × (mark_number its ≤ get_or words (65 + mark_owner its) 0 / 262144)).
+    let before = r.1 in let rises = ranges (mark_owner its) r.0.1 r.0.2 in inr (inl (r.0, omega arith)))
+    (λ (j : IsOfJoin place its × (4 * mark_number its ≤ get_or words (136 * mark_owner its + 3) 0)).
+    let before = j.1 in let rises = joins (mark_owner its) j.0.1 in inr (inr (j.0, omega arith)))
+    some_mark) m
+
+-- The route of a link of the tree is one.
+pub link_route : (role : ℕ → Role) (link route : ℕ) → IsLink role link → IsLinkOf route link
+    → (place : Place) × (key : List ℕ) × (role route ≡ Route place key)
+link_route role link route is of = ⊎_elim
+    (λ (e : link ≡ 130). absurd (⊎_elim (λ (l : link ≡ 136 * route + 1). omega arith) (λ (r : link ≡ 136 * route + 2). omega arith) of))
+    (λ (t : (r : ℕ) × (place : Place) × (key : List ℕ) × (role r ≡ Route place key) × IsLinkOf r link).
+    let same : t.0 ≡ route = ⊎_elim
+    (λ (e : link ≡ 136 * t.0 + 1). ⊎_elim (λ (f : link ≡ 136 * route + 1). omega arith) (λ (f : link ≡ 136 * route + 2). omega arith) of)
+    (λ (e : link ≡ 136 * t.0 + 2). ⊎_elim (λ (f : link ≡ 136 * route + 1). omega arith) (λ (f : link ≡ 136 * route + 2). omega arith) of) t.4 in
+    (t.1, t.2, sym (ap role same) ∙ t.3))
+    is
+
 -- A base is one in other words, under other roles and for another map, if its words and those of its objects are the same, it is under its
--- link, which is one of the tree, and the map has the same for it.
+-- link, which is one of the tree, the map has the same for it, and a mark on it stays one.
 pub base_stands : (z : Sizes) (words others : List ℕ) (role role' : ℕ → Role) (m n : StoreMap) (place : Place) (row : ℕ)
     → IsBaseAt z words role m place row → row_at others row ≡ row_at words row
     → ((r : ℕ) → IsIn r (items (row_at words row)) → row_at others r ≡ row_at words r) → get_or others place.link 0 ≡ row → IsLink role' place.link
-    → part place.span n ≡ part place.span m → IsBaseAt z others role' n place row
-base_stands z words others role role' m n place row b e same under is parts = record {
+    → part place.span n ≡ part place.span m → (IsMarkIn words place (row_at words row) → IsMarkIn others place (row_at words row))
+    → IsBaseAt z others role' n place row
+base_stands z words others role role' m n place row b e same under is parts marks = record {
   some_row = b.some_row;
   in_range = b.in_range;
   under = under;
@@ -75,20 +112,20 @@ base_stands z words others role role' m n place row b e same under is parts = re
   is_base = subst IsBaseRow (sym e) b.is_base;
   level_is = subst (λ its. level its ≡ place.level) (sym e) b.level_is;
   few = subst (λ its. count its ≤ z.leaf) (sym e) b.few;
-  unmarked = subst (λ its. mark its ≡ 0) (sym e) b.unmarked;
+  marked = subst (IsMarkIn others place) (sym e) (marks b.marked);
   are_objects = λ r i. let was = subst (λ its. IsIn r (items its)) e i in let o = b.are_objects r was in
       (o.0, o.1, subst IsObjectRow (sym (same r was)) o.2);
   has = objects_same words others row e same ∙ (b.has ∙ sym parts);
 }
 
 -- A route is one in other words and under other roles, if all its words are the same but its links, it is under its link, which is one of the
--- tree, and its own links lead where they led.
+-- tree, its own links lead where they led, and no join of it is under way.
 pub route_stands : (z : Sizes) (words others : List ℕ) (role role' : ℕ → Role) (place : Place) (key : List ℕ) (row : ℕ)
     → IsRouteAt z words role place key row → IsWide z.rows words → IsWide z.rows others → IsSameButLinks words others row
-    → get_or others place.link 0 ≡ row → IsLink role' place.link
+    → get_or others place.link 0 ≡ row → IsLink role' place.link → IsIdle (row_at words row)
     → LeadsTo others role' (136 * row + 1) (place.level + 1) (left_of key place.span)
     → LeadsTo others role' (136 * row + 2) (place.level + 1) (right_of key place.span) → IsRouteAt z others role' place key row
-route_stands z words others role role' place key row r wide wide' same under is left right = record {
+route_stands z words others role role' place key row r wide wide' same under is idle left right = record {
   some_row = r.some_row;
   in_range = r.in_range;
   under = under;
@@ -99,14 +136,15 @@ route_stands z words others role role' place key row r wide wide' same under is 
   short = subst (λ n. n ≤ 1000) (sym (count_same words others z.rows row wide wide' r.in_range same)) r.short;
   key_is = key_same words others z.rows row wide wide' r.in_range same ∙ r.key_is;
   inside = r.inside;
-  idle = ap (λ n. n % 4) (word_same words others z.rows row wide wide' r.in_range same 3 (omega arith) (λ e. omega arith) (λ e. omega arith)) ∙ r.idle;
+  joins = inl (ap (λ n. n % 4) (word_same words others z.rows row wide wide' r.in_range same 3 (omega arith) (λ e. omega arith) (λ e. omega arith)) ∙ idle);
   left = left;
   right = right;
 }
 
--- Two tables that agree on the root link and on each linked row have the same shape.
+-- Two tables that agree on the root link, on the words of ranges and on each linked row have the same shape.
 module _ (z : Sizes) (words others : List ℕ) (role : ℕ → Role) (m : StoreMap) (shape : IsShape z words role m) (wide : IsWide z.rows others)
-    (same_root : root others ≡ root words) (same : (row : ℕ) → IsLinked words row → IsSameRow words others row) where
+    (same_root : root others ≡ root words) (ranges : (pass : ℕ) → 0 < pass → pass ≤ 64 → get_or others (65 + pass) 0 ≡ get_or words (65 + pass) 0)
+    (same : (row : ℕ) → IsLinked words row → IsSameRow words others row) where
   -- A linked row has the same words.
   its_same : (row : ℕ) → IsLinked words row → row_at others row ≡ row_at words row
   its_same row l = row_same words others z.rows row shape.wide wide (linked_range z words role m shape row l).1 (same row l)
@@ -134,13 +172,19 @@ module _ (z : Sizes) (words others : List ℕ) (role : ℕ → Role) (m : StoreM
     hangs = ap (λ (r : ℕ). place_of (role r)) (link_same link is) ∙ l.hangs;
   }
 
+  -- A mark at a place of the tree stays one.
+  marks : (place : Place) (its : List ℕ) → IsLink role place.link → IsMarkIn words place its → IsMarkIn others place its
+  marks place its is = mark_stays words others place its (λ pass lo hi. let e = ranges pass lo hi in omega arith)
+      (λ route of. let t = link_route role place.link route is of in let e = same route (placed route t.0 (ap place_of t.2)) 3 (omega arith) in omega arith)
+
   -- Each row is what it was.
   so : (row : ℕ) (is : Role) → role row ≡ is → IsSo z words role m row is → IsSo z others role m row is
   so row Out e s = tt
   so row (Base place) e s = base_stands z words others role role m m place row s (its_same row (placed row place (ap place_of e)))
       (λ r i. its_same r (item_linked z words role m shape row place e r i)) (link_same place.link s.is_link ∙ s.under) s.is_link refl
+      (marks place (row_at words row) s.is_link)
   so row (Route place key) e s = route_stands z words others role role place key row s shape.wide wide
-      (λ k l _ _. same row (placed row place (ap place_of e)) k l) (link_same place.link s.is_link ∙ s.under) s.is_link
+      (λ k l _ _. same row (placed row place (ap place_of e)) k l) (link_same place.link s.is_link ∙ s.under) s.is_link (shape.idle row place key e)
       (lead_same (136 * row + 1) (place.level + 1) (left_of key place.span) (inr (row, place, key, e, inl refl)) s.left)
       (lead_same (136 * row + 2) (place.level + 1) (right_of key place.span) (inr (row, place, key, e, inr refl)) s.right)
 
@@ -151,6 +195,8 @@ module _ (z : Sizes) (words others : List ℕ) (role : ℕ → Role) (m : StoreM
     top = lead_same 130 0 all_keys (inl refl) shape.top;
     each_row = λ row. so row (role row) refl (shape.each_row row);
     apart = shape.apart;
+    quiet = λ pass sequence x. shape.quiet pass sequence (x.0, x.1, sym (ranges pass x.0 x.1) ∙ x.2);
+    idle = λ route place key e. ap (λ its. join_word its % 4) (its_same route (placed route place (ap place_of e))) ∙ shape.idle route place key e;
   }
 
 -- A shape for one map is one for another that has the same for each base.
@@ -160,6 +206,7 @@ module _ (z : Sizes) (words : List ℕ) (role : ℕ → Role) (m n : StoreMap) (
   so_too : (row : ℕ) (is : Role) → role row ≡ is → IsSo z words role m row is → IsSo z words role n row is
   so_too row Out e s = tt
   so_too row (Base place) e s = base_stands z words words role role m n place row s refl (λ r i. refl) s.under s.is_link (parts row place e)
+      (λ k. k)
   so_too row (Route place key) e s = s
 
   -- The other map has the same shape.
@@ -169,4 +216,6 @@ module _ (z : Sizes) (words : List ℕ) (role : ℕ → Role) (m n : StoreMap) (
     top = shape.top;
     each_row = λ row. so_too row (role row) refl (shape.each_row row);
     apart = shape.apart;
+    quiet = shape.quiet;
+    idle = shape.idle;
   }

@@ -19,8 +19,9 @@ use Rattle.ca_node.specs.Inventory.{AreOnce, but, but_all, row_itself, row_of_ba
 use Rattle.ca_node.specs.Links.{IsIn}
 use Rattle.ca_node.specs.declared.link.Link.{Link}
 use Rattle.ca_node.specs.declared.link.Link.TheVariants as link
+use Rattle.ca_node.specs.Marks.{IsMark}
 use Rattle.ca_node.specs.Place.{Span, all_keys, left_of, right_of, HasKey, part, Place, left_place, right_place, edit_key}
-use Rattle.ca_node.specs.Row.{IsObjectRow, IsBaseRow, IsRouteRow, count, level, items, mark, key, route_key, pair}
+use Rattle.ca_node.specs.Row.{IsObjectRow, IsBaseRow, IsRouteRow, count, level, items, IsUnmarked, IsIdle, key, route_key, pair}
 use Rattle.ca_node.specs.Tree.{ArePast, IsFixed}
 use Rattle.ca_node.specs.TreeView.{Note, Way, Renewal, Division, Inventory, TreeView, blank, no_note}
 
@@ -30,7 +31,7 @@ MyTree = Mine TreeView
 abbrev pub with_upper : MyTree → TreeView → MyTree
 with_upper m u = (record m.0 { upper = u }, m.1)
 
--- The note is on a base that no operation marks, in a space of these sizes.
+-- The note is on a base, in a space of these sizes.
 pub record IsBaseNote (z : Sizes) (note : Note) : Type 0 where
   pub some_row : 0 < note.row
   pub in_range : note.row ≤ z.rows
@@ -40,7 +41,7 @@ pub record IsBaseNote (z : Sizes) (note : Note) : Type 0 where
   pub deep : note.place.level ≤ z.levels
   pub most_levels : z.levels ≤ 4096
   pub few : count note.its ≤ z.leaf
-  pub unmarked : mark note.its ≡ 0
+  pub marked : IsMark note.place note.its
   -- as many objects as items, each in range, with the words of an object row
   pub named : (r : ℕ) → IsIn r (items note.its) → (0 < r) × (r ≤ z.rows)
   pub as_many : length note.objects ≡ length (items note.its)
@@ -202,7 +203,7 @@ pub record IsUpdate (z : Sizes) (m : MyTree) (new : ℕ) (x : Update) : Type 0 w
   pub is_base : IsBaseRow x.its
   pub level_is : level x.its ≡ x.old.place.level
   pub few : count x.its ≤ z.leaf
-  pub unmarked : mark x.its ≡ 0
+  pub unmarked : IsUnmarked x.its
   pub as_many : length x.objects ≡ length (items x.its)
   pub are_objects : (k row : ℕ) (its : List ℕ) → get_elem? (items x.its) k ≡ some row → get_elem? x.objects k ≡ some its → IsObjectOf m x row its
   pub come : (row : ℕ) → IsIn row x.comes → IsIn row (items x.its) × ((its : List ℕ) × (claim_of m.0.claims row ≡ some (Holds its)))
@@ -289,7 +290,7 @@ pub record IsHalf (z : Sizes) (level_above : ℕ) (these : List ℕ) (its : List
   pub is_base : IsBaseRow its
   pub level_is : level its ≡ level_above + 1
   pub few : count its ≤ z.leaf
-  pub unmarked : mark its ≡ 0
+  pub unmarked : IsUnmarked its
   pub items_are : items its ≡ these
 
 -- The seat may put the route in the place of the old base: it is pinned, was shown that base last, which stands above the last level, and holds
@@ -307,7 +308,7 @@ pub record IsDivision (z : Sizes) (m : MyTree) (x : Division) : Type 0 where
   pub is_route : IsRouteRow x.route_its
   pub route_level : level x.route_its ≡ x.old.place.level
   pub short : count x.route_its ≤ 1000
-  pub idle : slice_index x.route_its 3 % 4 ≡ 0
+  pub idle : IsIdle x.route_its
   pub left_link : slice_index x.route_its 1 ≡ x.left
   pub right_link : slice_index x.route_its 2 ≡ x.right
   -- The route's key is that of the first object that goes right.

@@ -339,6 +339,25 @@ paid_cut a b passed m m' m'' q x cut is = let more = x.more in let lost = q.lost
   passed = λ fits. omega arith;
 }
 
+-- What was spent by a try to split a full base: one split more where it was carried out, and no other one.
+pub paid_split : (many attempt passed : ℕ) (split : Result Bool NoRow) (a b : Spent) (m m' : MyTree) → HasSplit many attempt split m.0.upper m'.0.upper
+    → IsSpent a b m m' → split ≡ Ok true → passed ≡ min (b.passed + 1) 4294967295 → IsPaid a (record b { passed = passed }) m m'
+paid_split many attempt passed split a b m m' h x won is =
+    let told = subst (λ (r : Result Bool NoRow). HasSplit many attempt r m.0.upper m'.0.upper) won h in
+    let cut : splits m' ≡ splits m + 1 = ap (λ (u : TreeView). u.splits) told.2 in let more = x.more in let also = x.passed in record {
+      more = x.more;
+      lost = x.lost;
+      helped = x.helped;
+      more_splits = omega arith;
+      passed = λ fits. omega arith;
+    }
+
+pub paid_unsplit : (many attempt : ℕ) (split : Result Bool NoRow) (a b : Spent) (m m' : MyTree) → HasSplit many attempt split m.0.upper m'.0.upper
+    → IsSpent a b m m' → split ≢ Ok true → IsPaid a b m m'
+paid_unsplit many attempt (Ok true) a b m m' h x other = absurd (other refl)
+paid_unsplit many attempt (Ok false) a b m m' h x other = paid_of a b m m' x (ap (λ (u : TreeView). u.splits) h)
+paid_unsplit many attempt (Err why) a b m m' h x other = paid_of a b m m' x (ap (λ (u : TreeView). u.splits) h)
+
 pub paid_still : (a b : Spent) (m m' m'' : MyTree) → IsQuiet m m' → IsSpent a b m' m'' → splits m'' ≡ splits m' → IsPaid a b m m''
 paid_still a b m m' m'' q x same = let more = x.more in let lost = q.lost in let splits_are = q.splits_are in let also = x.passed in record {
   more = omega arith;

@@ -1,4 +1,4 @@
-use Rattle.ca_replace.proofs.GoingOn.{split_further}
+use Rattle.ca_replace.proofs.GoingOn.{split_further, paid_split, paid_unsplit}
 use Rattle.std.proofs.Common.{true, Err, Some, sym, subst, arith}
 use Rattle.ca_replace.specs.declared.attempting.Stop.{Stop}
 use Rattle.ca_replace.specs.Growing.{HasGrown}
@@ -7,6 +7,9 @@ use Rattle.ca_replace.specs.Cutting.{HasCut}
 use Rattle.ca_replace.proofs.Cutting.{made_cut}
 use Rattle.ca_replace.proofs.Winning.{room_won}
 use Rattle.ca_replace.specs.Winning.{HasWonAs}
+use Rattle.ca_model.specs.declared.outcome.Spent.{Spent}
+use Rattle.ca_replace.specs.Attempting.{IsPaid}
+use Rattle.ca_replace.proofs.attempting.make_room.Goals.{then-is_split, else-is_split}
 use Rattle.ca_replace.proofs.attempting.make_room.Goals as goal
 
 pub returns-clause-further : goal.returns-clause-further
@@ -32,3 +35,13 @@ returns-clause-won c key looking alone = subst (λ (why : Stop). HasWonAs {T = U
     c.split_at-split.new.pass.seat.me.0.upper) (sym c.stop_of.ensures)
     (room_won {T = Unit {0}} (λ _. true) c.args.many _ c.split_at-split.result c.args.pass.now.seat.me.0.upper c.split_at-split.new.pass.seat.me.0.upper
     (c.split_at-split.ensures.won alone (looking.listed alone)) c.split_at-split.ensures.split)
+
+pub returns-clause-counted : goal.returns-clause-counted
+returns-clause-counted c = let m = c.args.pass.now.seat.me in let m' = c.split_at-split.new.pass.seat.me in elim c.if-is_split.branch [
+  | then-is_split w ↦ subst (λ (s : Spent). IsPaid c.args.spent.now s m m') (sym w.spent-is)
+      (paid_split c.args.many _ w.saturating_add-spent.result c.split_at-split.result c.args.spent.now c.split_at-split.new.spent m m'
+      c.split_at-split.ensures.split c.split_at-split.ensures.counted (c.is_split.ensures.0 w.if-is_split.true) w.saturating_add-spent.ensures)
+  | else-is_split w ↦ subst (λ (s : Spent). IsPaid c.args.spent.now s m m') (sym w.spent-is)
+      (paid_unsplit c.args.many _ c.split_at-split.result c.args.spent.now c.split_at-split.new.spent m m' c.split_at-split.ensures.split
+      c.split_at-split.ensures.counted (λ won. (let n = c.is_split.ensures.1 won in let is = w.if-is_split.false in absurd cc)))
+]

@@ -1,0 +1,41 @@
+-- What operations leave in the words of bases and routes: marks, and how far joins are.
+use Rattle.std.specs.Prelude.{◌≡◌, ◌⊎◌, ℕ, ◌+◌, ◌*◌, ◌/◌, ◌<◌, ◌≤◌, List, slice_index}
+use Rattle.ca_rows.specs.declared.sizes.Sizes.{Sizes}
+use Rattle.ca_node.specs.Place.{Place, IsLinkOf}
+use Rattle.ca_node.specs.Row.{row_at, IsBaseRow, count, mark, mark_owner, mark_number, IsUnmarked, join_word, IsIdle, IsPreparing, IsSecured}
+
+-- The mark is that of a range of a pass.
+abbrev pub IsOfRange : List ℕ → Type 0
+IsOfRange its = (mark its ≡ 1) × (0 < mark_owner its) × (mark_owner its ≤ 64)
+
+-- The mark is that of a join of the route on whose link the base hangs.
+abbrev pub IsOfJoin : Place → List ℕ → Type 0
+IsOfJoin place its = (mark its ≡ 2) × IsLinkOf (mark_owner its) place.link
+
+-- A base at this place has no mark, or that of a range, or that of a join.
+abbrev pub IsMark : Place → List ℕ → Type 0
+IsMark place its = IsUnmarked its ⊎ (IsOfRange its ⊎ IsOfJoin place its)
+
+-- The operation that marked the base was begun: the range's sequence is no greater than the last one of its pass, and the join's attempt no
+-- greater than the last one of its route.
+abbrev pub IsMarkIn : List ℕ → Place → List ℕ → Type 0
+IsMarkIn words place its = IsUnmarked its ⊎ ((IsOfRange its × (mark_number its ≤ slice_index words (65 + mark_owner its) / 262144))
+    ⊎ (IsOfJoin place its × (4 * mark_number its ≤ slice_index words (136 * mark_owner its + 3))))
+
+-- This attempt of the route marked the base that one of its links names.
+pub record IsMarkedUnder (words : List ℕ) (route attempt link : ℕ) : Type 0 where
+  pub is_base : IsBaseRow (row_at words (slice_index words link))
+  pub is_join : mark (row_at words (slice_index words link)) ≡ 2
+  pub owner : mark_owner (row_at words (slice_index words link)) ≡ route
+  pub number : mark_number (row_at words (slice_index words link)) ≡ attempt
+
+-- Both bases under a route whose join is secured have its mark, and together no more items than a leaf may have.
+pub record AreJoined (z : Sizes) (words : List ℕ) (route : ℕ) : Type 0 where
+  pub left : IsMarkedUnder words route (join_word (row_at words route) / 4) (136 * route + 1)
+  pub right : IsMarkedUnder words route (join_word (row_at words route) / 4) (136 * route + 2)
+  pub few : count (row_at words (slice_index words (136 * route + 1))) + count (row_at words (slice_index words (136 * route + 2))) ≤ z.leaf
+
+-- The route's join word says that no join is under way, or that one is prepared, or that one is secured.
+abbrev pub IsJoinWord : Sizes → List ℕ → ℕ → Type 0
+IsJoinWord z words route = IsIdle (row_at words route) ⊎ (IsPreparing (row_at words route)
+    ⊎ (IsSecured (row_at words route) × AreJoined z words route))
