@@ -28,6 +28,7 @@ use Rattle.ca_node.specs.Place.{Place, left_place, right_place}
 use Rattle.ca_node.specs.Reached.{same_place, base_at, link_range, reached, placed_linked, item_linked, item_out, nothing_lent}
 use Rattle.ca_node.specs.Row.{row_at, IsBaseRow, IsRouteRow, items, count, level, IsUnmarked, IsIdle, key, route_key}
 use Rattle.ca_node.specs.Shape.{Role, Out, Base, Route, place_of, IsBaseAt, IsShape}
+use Rattle.ca_rows.specs.Told.{relinked}
 use Rattle.ca_node.specs.Told.{MyTree, IsHalf, IsDivision, given, taken_out, divided_inventory, divided, one_more_lost, IsDivided, IsMissed, Divides, HasDivided, MaySwap}
 use Rattle.ca_node.specs.Tree.{IsTrue, IsTrueWay, Knows, IsTree}
 use Rattle.ca_node.specs.TreeView.{Note, Way, TreeView, Division}
@@ -339,7 +340,7 @@ module _ (z : Sizes) (s : State (Unit {0}) (View TreeView)) (r : R z s) (id : �
   u' = divided x d.upper
 
   abbrev d' : View TreeView
-  d' = record d { claims = taken_out outs (given ins d.claims); upper = u' }
+  d' = (relinked me (taken_out outs (given ins d.claims)) u').0
 
   kind_by : (row : ℕ) → IsIn row ins ⊎ ¬ IsIn row ins → IsIn row outs ⊎ ¬ IsIn row outs → Change
   kind_by row (inl i) o = Comes
@@ -586,16 +587,14 @@ module _ (z : Sizes) where
       → Allows (R z) slots id me x.old.place.link (λ n. either (eqb n x.old.row) x.route n)
       (Relinks MaySwap (Divides x) (step slots x.old.place.link x.old.row x.route none) me)
   divides slots id me x u s r _ at _ = let n : ℕ = get_or s.words x.old.place.link 0 in let d = me.0 in dite (ℕ_discrete n x.old.row)
-      (λ (hit : n ≡ x.old.row). let d' : View TreeView = record d {
-        claims = taken_out (x.old.row ∷ []) (given (x.route ∷ x.left ∷ x.right ∷ []) d.claims);
-        upper = divided x d.upper;
-      } in let won : Divides x (step slots x.old.place.link x.old.row x.route none) me n (d', me.1) = ((λ _. divided_now z s r id me at x u hit), λ miss. absurd (miss hit)) in (
+      (λ (hit : n ≡ x.old.row). let d' : View TreeView =
+      (relinked me (taken_out (x.old.row ∷ []) (given (x.route ∷ x.left ∷ x.right ∷ []) d.claims)) (divided x d.upper)).0 in let won : Divides x (step slots x.old.place.link x.old.row x.route none) me n (d', me.1) = ((λ _. divided_now z s r id me at x u hit), λ miss. absurd (miss hit)) in (
         d',
         keeps,
         tt,
         subst (λ (y : ℕ). R z (stepped s x.old.place.link y id me.1 d' keeps)) (sym (ap (λ b. either b x.route n) (eq-eqb n x.old.row hit)))
             (division_step z s r id me at x u hit),
-        (refl, (λ miss. absurd (miss hit)), inr (x, (u.shown, refl, refl), won), won),
+        ((λ _. refl), (λ miss. absurd (miss hit)), inr (x, (u.shown, refl, refl), won), won),
       ))
       (λ miss. let lost : View TreeView = record d { upper = one_more_lost d.upper } in
       let missed : Divides x (step slots x.old.place.link x.old.row x.route none) me n (lost, me.1) = ((λ hit. absurd (miss hit)), λ _. (refl, hangs_still z s r id me x.old at miss)) in (
@@ -604,7 +603,7 @@ module _ (z : Sizes) where
         tt,
         subst (λ (y : ℕ). R z (stepped s x.old.place.link y id me.1 lost keeps)) (sym (ap (λ b. either b x.route n) (ne_eqb n x.old.row miss)))
             (loses z s r x.old.place.link id d at),
-        (refl, (λ _. refl), inr (x, (u.shown, refl, refl), missed), missed),
+        ((λ hit. absurd (miss hit)), (λ _. refl), inr (x, (u.shown, refl, refl), missed), missed),
       ))
 
   -- The same, where the old row, the route and the link have other names.

@@ -4,7 +4,7 @@ use mathlib.Core.Option.{some}
 use Rattle.ca_rows.specs.declared.view.Claim.TheVariants.{Holds, Unlinked}
 use Rattle.ca_rows.specs.declared.view.Claimed.{Claimed}
 use Rattle.ca_rows.specs.Claims.{claim_of, held_count}
-use Rattle.ca_rows.proofs.HeldCount.{dropped_no_more, dropped_one_less, claimed_no_more}
+use Rattle.ca_rows.proofs.HeldCount.{dropped_no_more, dropped_one_less}
 use Rattle.ca_node.specs.Links.{IsIn}
 use Rattle.ca_node.specs.Told.{given, taken_out}
 use Rattle.ca_node.proofs.Members.{in_rest, given_else}
@@ -25,10 +25,9 @@ pub given_fewer : (rows : List ℕ) (claims : List Claimed) → AreApart rows
 given_fewer [] claims apart held = omega arith
 given_fewer (row ∷ rows) claims apart held = let first = held row (0, refl) in
     let rest = given_fewer rows claims apart.1 (λ r i. held r (in_rest r row rows i)) in
-    let one = dropped_one_less row (given rows claims) first.0 (given_else rows claims row apart.0 ∙ first.1) in omega arith
+    let one = dropped_one_less row (given rows claims) (Holds first.0) refl (given_else rows claims row apart.0 ∙ first.1) in omega arith
 
--- Where rows are unlinked by the seat, no more are held.
-pub taken_out_no_more : (rows : List ℕ) (claims : List Claimed) → held_count (taken_out rows claims) ≤ held_count claims
-taken_out_no_more [] claims = le_refl (held_count claims)
-taken_out_no_more (row ∷ rows) claims = let one = claimed_no_more row Unlinked (taken_out rows claims) refl in let rest = taken_out_no_more rows claims in
-    omega arith
+-- Where rows are unlinked by the seat, each is one more, at most.
+pub taken_out_more : (rows : List ℕ) (claims : List Claimed) → held_count (taken_out rows claims) ≤ held_count claims + length rows
+taken_out_more [] claims = omega arith
+taken_out_more (row ∷ rows) claims = let one = dropped_no_more row (taken_out rows claims) in let rest = taken_out_more rows claims in omega arith

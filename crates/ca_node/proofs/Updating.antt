@@ -31,7 +31,7 @@ use Rattle.ca_node.specs.Reached.{same_place, base_at, link_range, reached, plac
 use Rattle.ca_node.specs.Row.{row_at, form, IsObjectRow, IsBaseRow, items, count, level, IsUnmarked, pair, objects_in}
 use Rattle.ca_node.specs.Shape.{Role, Out, Base, Route, place_of, IsBaseAt, IsShape}
 use Rattle.ca_node.specs.Stays.{map_same}
-use Rattle.ca_rows.specs.Told.{met_of}
+use Rattle.ca_rows.specs.Told.{met_of, relinked}
 use Rattle.ca_node.specs.Told.{MyTree, IsKnown, Update, IsUpdate, given, taken_out, updated_inventory, updated, one_more_lost, IsUpdated, IsMissed, Updates, HasUpdated, MaySwap}
 use Rattle.ca_node.specs.Tree.{StartsWith, IsLinkOfView, IsTrue, IsTrueWay, Knows, IsTree}
 use Rattle.ca_node.specs.TreeView.{Note, Way, TreeView}
@@ -317,7 +317,7 @@ module _ (z : Sizes) (s : State (Unit {0}) (View TreeView)) (r : R z s) (id : �
   u' = updated (met_of me) d.upper knows.seen_first.0 new x
 
   abbrev d' : View TreeView
-  d' = record d { claims = taken_out outs (given ins d.claims); upper = u' }
+  d' = (relinked me (taken_out outs (given ins d.claims)) u').0
 
   kind_by : (row : ℕ) → IsIn row ins ⊎ ¬ IsIn row ins → IsIn row outs ⊎ ¬ IsIn row outs → Change
   kind_by row (inl i) o = Comes
@@ -597,14 +597,14 @@ module _ (z : Sizes) where
       → Allows (R z) slots id me x.old.place.link (λ n. either (eqb n x.old.row) new n) (Relinks MaySwap (Updates x) (step slots x.old.place.link x.old.row new none) me)
   updates slots id me new x u s r _ at _ = let n : ℕ = get_or s.words x.old.place.link 0 in let d = me.0 in dite (ℕ_discrete n x.old.row)
       (λ (hit : n ≡ x.old.row). let w = (knows_upper z s r id d at).seen_first.0 in
-      let d' : View TreeView = record d { claims = taken_out (x.old.row ∷ x.goes) (given (new ∷ x.comes) d.claims); upper = updated (met_of me) d.upper w new x } in
+      let d' : View TreeView = (relinked me (taken_out (x.old.row ∷ x.goes) (given (new ∷ x.comes) d.claims)) (updated (met_of me) d.upper w new x)).0 in
       let won : Updates x (step slots x.old.place.link x.old.row new none) me n (d', me.1) = ((λ _. updated_now z s r id me at new x u hit), λ miss. absurd (miss hit)) in (
         d',
         keeps,
         tt,
         subst (λ (y : ℕ). R z (stepped s x.old.place.link y id me.1 d' keeps)) (sym (ap (λ b. either b new n) (eq-eqb n x.old.row hit)))
             (update_step z s r id me at new x u hit),
-        (refl, (λ miss. absurd (miss hit)), inl (x, (u.shown, refl, refl), won), won),
+        ((λ _. refl), (λ miss. absurd (miss hit)), inl (x, (u.shown, refl, refl), won), won),
       ))
       (λ miss. let lost : View TreeView = record d { upper = one_more_lost d.upper } in
       let missed : Updates x (step slots x.old.place.link x.old.row new none) me n (lost, me.1) = ((λ hit. absurd (miss hit)), λ _. (refl, hangs_still z s r id me x.old at miss)) in (
@@ -613,7 +613,7 @@ module _ (z : Sizes) where
         tt,
         subst (λ (y : ℕ). R z (stepped s x.old.place.link y id me.1 lost keeps)) (sym (ap (λ b. either b new n) (ne_eqb n x.old.row miss)))
             (loses z s r x.old.place.link id d at),
-        (refl, (λ _. refl), inl (x, (u.shown, refl, refl), missed), missed),
+        ((λ hit. absurd (miss hit)), (λ _. refl), inl (x, (u.shown, refl, refl), missed), missed),
       ))
 
   -- The same, where the old row and the link have other names.

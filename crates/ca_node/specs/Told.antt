@@ -14,7 +14,7 @@ use Rattle.ca_rows.specs.declared.view.Claimed.{Claimed}
 use Rattle.ca_rows.specs.Claims.{claim_of, claimed, dropped}
 use Rattle.ca_rows.specs.Rule.{fresh, no_sizes}
 use Rattle.ca_rows.specs.declared.view.Met.{Met}
-use Rattle.ca_rows.specs.Told.{Mine, met_of}
+use Rattle.ca_rows.specs.Told.{Mine, met_of, relinked}
 use Rattle.ca_node.specs.Inventory.{AreOnce, but, but_all, row_itself, row_of_base, IsListed}
 use Rattle.ca_node.specs.Links.{IsIn}
 use Rattle.ca_node.specs.declared.link.Link.{Link}
@@ -259,7 +259,7 @@ updated met u more new x = record u {
 -- What the seat has seen now is a history as it may know it.
 pub record IsUpdated (new : ℕ) (x : Update) (m m' : MyTree) : Type 0 where
   pub more : History
-  pub now : m' ≡ (record m.0 { claims = taken_out (x.old.row ∷ x.goes) (given (new ∷ x.comes) m.0.claims); upper = updated (met_of m) m.0.upper more new x }, m.1)
+  pub now : m' ≡ relinked m (taken_out (x.old.row ∷ x.goes) (given (new ∷ x.comes) m.0.claims)) (updated (met_of m) m.0.upper more new x)
   pub unclaimed : (row : ℕ) → IsIn row (x.old.row ∷ x.goes) → claim_of m.0.claims row ≡ none
   pub apart : ¬ IsIn x.old.row x.goes
   pub known : 0 < m.0.sizes.rows → IsKnown m.0.sizes (updated (met_of m) m.0.upper more new x)
@@ -332,7 +332,7 @@ divided x u = record u { splits = u.splits + 1; inventory = divided_inventory x 
 
 -- The split is carried out: the route and its bases are linked, and the old base, which nobody claimed until then, is unlinked by the seat.
 pub record IsDivided (x : Division) (m m' : MyTree) : Type 0 where
-  pub now : m' ≡ (record m.0 { claims = taken_out (x.old.row ∷ []) (given (x.route ∷ x.left ∷ x.right ∷ []) m.0.claims); upper = divided x m.0.upper }, m.1)
+  pub now : m' ≡ relinked m (taken_out (x.old.row ∷ []) (given (x.route ∷ x.left ∷ x.right ∷ []) m.0.claims)) (divided x m.0.upper)
   pub unclaimed : claim_of m.0.claims x.old.row ≡ none
 
 -- The link was exchanged, and the split is carried out; or the exchange was lost, which is counted, and nothing else changed.

@@ -29,12 +29,13 @@ dropped_no_more q (x ∷ xs) = let rest = dropped_no_more q xs in dite (ℕ_disc
     (λ n. let now = ap held_count (dropped_behind x xs q n) in omega arith)
 
 -- Without a row that was held, one less is.
-pub dropped_one_less : (q : ℕ) (xs : List Claimed) (its : List ℕ) → claim_of xs q ≡ some (Holds its) → suc (held_count (dropped q xs)) ≤ held_count xs
-dropped_one_less q [] its held = absurd (some-ne-none (Holds its) (sym held))
-dropped_one_less q (x ∷ xs) its held = dite (ℕ_discrete x.row q)
+pub dropped_one_less : (q : ℕ) (xs : List Claimed) (c : Claim) → is_held c ≡ 1 → claim_of xs q ≡ some c → suc (held_count (dropped q xs)) ≤ held_count xs
+dropped_one_less q [] c counts held = absurd (some-ne-none c (sym held))
+dropped_one_less q (x ∷ xs) c counts held = dite (ℕ_discrete x.row q)
     (λ e. let now = ap held_count (dropped_first x xs q e) in let rest = dropped_no_more q xs in
-    let one = ap is_held (some-injective x.claim (Holds its) (sym (claim_first x xs q e) ∙ held)) in omega arith)
-    (λ n. let now = ap held_count (dropped_behind x xs q n) in let rest = dropped_one_less q xs its (sym (claim_behind x xs q n) ∙ held) in omega arith)
+    let one = ap is_held (some-injective x.claim c (sym (claim_first x xs q e) ∙ held)) ∙ counts in omega arith)
+    (λ n. let now = ap held_count (dropped_behind x xs q n) in
+    let rest = dropped_one_less q xs c counts (sym (claim_behind x xs q n) ∙ held) in omega arith)
 
 -- Without a row that wasn't claimed, as many are.
 pub dropped_as_many : (q : ℕ) (xs : List Claimed) → claim_of xs q ≡ none → held_count (dropped q xs) ≡ held_count xs
@@ -53,12 +54,12 @@ taken_one_more q its xs free = let rest = dropped_as_many q xs free in omega ari
 -- A held row is held with other words: no more are.
 pub written_no_more : (q : ℕ) (its its' : List ℕ) (xs : List Claimed) → claim_of xs q ≡ some (Holds its)
     → held_count (claimed q (Holds its') xs) ≤ held_count xs
-written_no_more q its its' xs held = let rest = dropped_one_less q xs its held in omega arith
+written_no_more q its its' xs held = let rest = dropped_one_less q xs (Holds its) refl held in omega arith
 
 -- A row gets a claim by which it isn't held: no more are, and one less where it was.
 pub claimed_no_more : (q : ℕ) (c : Claim) (xs : List Claimed) → is_held c ≡ 0 → held_count (claimed q c xs) ≤ held_count xs
 claimed_no_more q c xs other = let rest = dropped_no_more q xs in omega arith
 
-pub claimed_one_less : (q : ℕ) (c : Claim) (its : List ℕ) (xs : List Claimed) → is_held c ≡ 0 → claim_of xs q ≡ some (Holds its)
+pub claimed_one_less : (q : ℕ) (c d : Claim) (xs : List Claimed) → is_held c ≡ 0 → is_held d ≡ 1 → claim_of xs q ≡ some d
     → suc (held_count (claimed q c xs)) ≤ held_count xs
-claimed_one_less q c its xs other held = let rest = dropped_one_less q xs its held in omega arith
+claimed_one_less q c d xs other counts held = let rest = dropped_one_less q xs d counts held in omega arith

@@ -11,7 +11,7 @@ use Rattle.ca_rows.specs.declared.view.Claim.TheVariants.{Holds}
 use Rattle.ca_rows.specs.declared.view.Pin.{Pin}
 use Rattle.ca_rows.specs.declared.view.View.{View}
 use Rattle.ca_rows.specs.Claims.{claim_of, claimed, dropped}
-use Rattle.ca_rows.specs.Told.{Mine, with_claims, with_most, found_empty, found_worn, missed}
+use Rattle.ca_rows.specs.Told.{Mine, with_claims, with_most, found_empty, found_worn, missed, relinked}
 
 module _ {U : Type 0} where
   -- The seat is one of this table, and knows what the space was made with.
@@ -29,9 +29,14 @@ module _ {U : Type 0} where
   abbrev pub IsRaised : Mine U → Mine U → Type 0
   IsRaised m m' = m' ≡ (record m.0 { upper = m'.0.upper }, m.1)
 
-  -- Only the upper part and the claims changed.
+  -- Only the upper part and the claims changed. The rows that are held now are counted.
   abbrev pub IsAbove : Mine U → Mine U → Type 0
-  IsAbove m m' = m' ≡ (record m.0 { claims = m'.0.claims; upper = m'.0.upper }, m.1)
+  IsAbove m m' = m' ≡ relinked m m'.0.claims m'.0.upper
+
+  -- So it is of an exchange that won; by one that lost, the upper part alone changed.
+  abbrev pub IsSwapped : Bool → Mine U → Mine U → Type 0
+  IsSwapped true m m' = IsAbove m m'
+  IsSwapped false m m' = IsRaised m m'
 
   -- What a load by the structure above tells, and what an exchange by it tells: it is among what the rule above allows, and claims change only
   -- where an exchange won.
@@ -40,7 +45,7 @@ module _ {U : Type 0} where
     Raises st m n m' = IsRaised m m' × may st m n m' × then st m n m'
 
     abbrev pub Relinks : Step (Unit {0}) → Mine U → ℕ → Mine U → Type 0
-    Relinks st m n m' = IsAbove m m' × (n ≢ st.first → IsRaised m m') × may st m n m' × then st m n m'
+    Relinks st m n m' = (n ≡ st.first → IsAbove m m') × (n ≢ st.first → IsRaised m m') × may st m n m' × then st m n m'
 
   -- `Empty` where the head was empty as it was loaded, `Worn` where it wasn't and its tag was at the last value, `Lost` where the exchange lost:
   -- each is counted, once and nowhere else.

@@ -21,15 +21,15 @@ dropped row (x ∷ xs) = cond (x.row == row) (dropped row xs) (x ∷ dropped row
 abbrev pub claimed : ℕ → Claim → List Claimed → List Claimed
 claimed row c xs = record { row = row; claim = c } ∷ dropped row xs
 
--- 1 of a claim by which a row is held
+-- 1 of a claim by which a row is held, or was unlinked and isn't kept yet
 abbrev pub is_held : Claim → ℕ
 is_held (Holds its) = 1
 is_held Lends = 0
-is_held Unlinked = 0
+is_held Unlinked = 1
 is_held (Keeps t) = 0
 is_held (Returns t its) = 0
 
--- how many rows are held
+-- how many rows are held, or were unlinked and aren't kept yet
 abbrev pub held_count : List Claimed → ℕ
 held_count [] = 0
 held_count (x ∷ xs) = is_held x.claim + held_count xs

@@ -39,6 +39,10 @@ module _ {U : Type 0} where
   abbrev pub found_worn : Mine U → ℕ → Mine U
   found_worn m r = (record m.0 { stage = Saw 281474976710655 r; worn = m.0.worn + 1 }, m.1)
 
+  -- what a seat knows once these rows are its and it knows this of what stands above: the rows that it holds then are counted
+  abbrev pub relinked : Mine U → List Claimed → U → Mine U
+  relinked m claims upper = (record m.0 { claims = claims; upper = upper; most = max m.0.most (held_count claims) }, m.1)
+
   -- The rows that are held now are counted: they may be the most so far.
   abbrev pub with_most : Mine U → Mine U
   with_most m = (record m.0 { most = max m.0.most (held_count m.0.claims) }, m.1)

@@ -3,7 +3,7 @@ ghost use Rattle.std.specs.Prelude.{◌≡◌, ◌==◌, ℕ, ◌<◌, []};
 ghost use mathlib.Core.Option.{none};
 ghost use prog.Atomic.{either};
 ghost use Rattle.atomic_table.specs.Table.{step, Allows, Splits, Joins};
-ghost use Rattle.ca_rows.specs.Calls.{IsRaised, IsAbove, Raises, Relinks};
+ghost use Rattle.ca_rows.specs.Calls.{IsRaised, IsSwapped, Raises, Relinks};
 ghost use Rattle.ca_rows.specs.Closed.{joined};
 ghost use Rattle.ca_rows.specs.Rule.{Ruled};
 ghost use Rattle.ca_rows.specs.Passes.{CountsSplit, KeepsList, sizes, known, view};
@@ -45,7 +45,7 @@ impl<R: RowRule> Space<R> {
             (known pass.old) word (λ n. either (n == old) new n) (Relinks R.swaps M.then (step self.now.table.shared.table_id.slots word old new
             none) (known pass.old)) }
         ensures frame { KeepsList pass.old pass.new }
-        ensures above { IsAbove (known pass.old) (known pass.new) }
+        ensures above { IsSwapped result (known pass.old) (known pass.new) }
         ensures told { (n : ℕ) × M.then (step self.now.table.shared.table_id.slots word old new none) (known pass.old) n (known pass.new)
             × (result ≡ (n == old)) }
     {
@@ -69,7 +69,7 @@ impl<R: RowRule> Space<R> {
             (known pass.old) word (λ n. either (n == old) new n) (Relinks R.swaps M.then (step self.now.table.shared.table_id.slots word old new
             none) (known pass.old)) }
         ensures frame { CountsSplit result pass.old pass.new }
-        ensures above { IsAbove (known pass.old) (known pass.new) }
+        ensures above { IsSwapped result (known pass.old) (known pass.new) }
         ensures told { (n : ℕ) × M.then (step self.now.table.shared.table_id.slots word old new none) (known pass.old) n (known pass.new)
             × (result ≡ (n == old)) }
     {

@@ -79,7 +79,7 @@ pub struct View<U> {
     pub empty: u64,
     /// How often it found, as it was to take a row, a free one at the head, but the head's tag at its last value.
     pub worn: u64,
-    /// The most rows that it held at once, counted as it took one or held a kept one again.
+    /// The most rows that it held at once, or had unlinked and not kept yet: counted as it took one, held a kept one again, or exchanged a link.
     pub most: u64,
     /// What the rule above the rows knows.
     pub upper: U,
