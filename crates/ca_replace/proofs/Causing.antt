@@ -72,9 +72,13 @@ caused z number budget adds (Err stop.Empty) now levels m m' kept kept' same e =
 caused z number budget adds (Err stop.Worn) now levels m m' kept kept' same e = e.worn refl
 caused z number budget adds (Err stop.Deep) now levels m m' kept kept' same e = (same, e.deep refl)
 
+-- So the call is refused, given what was spent, and how many levels there are.
+abbrev pub HasRefused : {T : Type 0} → Sizes → Result T Stop → Spent → Result T Refusal → Type 0
+HasRefused z tried now r = (levels : ℕ) × (r ≡ refused_as tried now levels) × (levels ≡ z.levels)
+
 -- So it has by what the call comes to then.
 pub caused_as : {T : Type 0} (z : Sizes) (number budget : ℕ) (adds : Option (List ℕ)) (tried : Result T Stop) (r : Result T Refusal) (now : Spent)
-    (m m' : MyTree) (kept kept' : Vec Kept Global) → (levels : ℕ) × (r ≡ refused_as tried now levels) × (levels ≡ z.levels)
+    (m m' : MyTree) (kept kept' : Vec Kept Global) → HasRefused z tried now r
     → EndsSo z budget adds tried now m m' → IfErr r (λ why. IsCaused z number budget adds why m kept m' kept')
 caused_as z number budget adds tried r now m m' kept kept' refused e =
     subst (λ x. IfErr x (λ why. IsCaused z number budget adds why m kept m' kept')) (sym refused.1)

@@ -153,7 +153,7 @@ tried_cut met z adds event edit word (Err norow.Worn) u w v h renewed then else 
 -- So it is with what its exchange and what followed it came to, given that the pass knew as much of the tree at first as this one.
 pub settled_cut : {z : Sizes} {t : Tuning} {tried : Result Bool NoRow} {r : Result (Unit {0}) Stop} {a b : Adapting} {k m m' m'' : MyTree}
     (s : IsSettling z t tried r a b k m m' m'') (adds : Option (List ℕ)) → HasCutDue z m'.0.upper.cuts m''.0.upper
-    → HasCut (λ (_ : Unit {0}). true) z adds r k.0.upper m''.0.upper
+    → HasCut (λ _. true) z adds r k.0.upper m''.0.upper
 settled_cut {z} {t} {tried} {r} {a} {b} {k} {m} {m'} {m''} s adds then = subst
     (λ (x : Result (Unit {0}) Stop). HasCut (λ (_ : Unit {0}). true) z adds x k.0.upper m''.0.upper) (sym s.is)
     (subst (λ (x : MyTree). HasCut (λ (_ : Unit {0}). true) z adds (come_to tried) x.0.upper m''.0.upper) s.same

@@ -413,8 +413,12 @@ gone_refused edits z t a b (Err stop.Empty) spent levels u v h = h
 gone_refused edits z t a b (Err stop.Worn) spent levels u v h = h
 gone_refused edits z t a b (Err stop.Deep) spent levels u v h = h
 
+-- The call is refused by what its last attempt came to.
+abbrev pub IsRefusedAs : {T : Type 0} → Result T Stop → Result T Refusal → Type 0
+IsRefusedAs tried r = (spent : Spent) × (levels : ℕ) × (r ≡ refused_as tried spent levels)
+
 pub refused_gone : {T : Type 0} (edits : T → Bool) (z : Sizes) (t : Tuning) (a b : Adapting) (tried : Result T Stop) (r : Result T Refusal)
-    (u w v : TreeView) → v ≡ w → (spent : Spent) × (levels : ℕ) × (r ≡ refused_as tried spent levels) → HasGoneOn edits z t a b tried u w
+    (u w v : TreeView) → v ≡ w → IsRefusedAs tried r → HasGoneOn edits z t a b tried u w
     → HasGoneOn edits z t a b r u v
 refused_gone {T} edits z t a b tried r u w v same refused h = subst (λ (x : Result T Refusal). HasGoneOn edits z t a b x u v) (sym refused.2)
     (subst (λ (y : TreeView). HasGoneOn edits z t a b (refused_as tried refused.0 refused.1) u y) (sym same)
