@@ -9,7 +9,7 @@ use Rattle.ca_node.specs.Row.{count, items, key, pair}
 use Rattle.ca_node.specs.Told.{MyTree, IsDivision, IsDivided, given}
 use Rattle.ca_node.specs.TreeView.{Note, TreeView, Division}
 use Rattle.ca_node.specs.declared.cursor.Cursor.{Cursor}
-use Rattle.ca_node.proofs.HeldRows.{AreApart, given_fewer, taken_out_no_more}
+use Rattle.ca_node.proofs.HeldRows.{AreApart, given_fewer, taken_out_more}
 use Rattle.ca_node.proofs.Looking.{in_more}
 use Rattle.ca_base.specs.Finding.{IsAtCursor, IsReadable}
 use Rattle.ca_base.specs.Putting.{IsShownLast, first_note, last_items, words_of}
@@ -18,7 +18,7 @@ use Rattle.ca_base.specs.Taking.{HasHeld, AreHeld, AreUnlinked}
 use Rattle.ca_base.specs.Writing.{IsRewritten, SpellsBase}
 use Rattle.ca_base.proofs.Halves.{half_long}
 use Rattle.ca_base.proofs.Rebasing.{is_first, note_is}
-use Rattle.ca_base.proofs.Unlinking.{unlinked_then}
+use Rattle.ca_base.proofs.Unlinking.{few_at_once, unlinked_then}
 use Rattle.ca_rows.specs.declared.kept.KeptRows.{KeptRows}
 use Rattle.ca_rows.specs.declared.sizes.Sizes.{Sizes}
 use Rattle.ca_rows.specs.declared.view.Claim.TheVariants.{Holds}
@@ -42,10 +42,10 @@ divided_rows rows kept kept' m m' x base ins are same d too apart h = let held =
     (λ r i. subst (λ (y : ℕ). claim_of m.0.claims y ≡ none) (is_one r x.old.row i) d.unclaimed) in
     let came = subst (λ (xs : List ℕ). held_count (given xs m.0.claims) + length xs ≤ held_count m.0.claims) (sym are)
     (given_fewer ins m.0.claims apart (λ r i. let own = (h.0.each r i).2 in (own.0, own.2))) in
-    let went = taken_out_no_more goes (given comes m.0.claims) in
+    let went = taken_out_more goes (given comes m.0.claims) in
     let many = ap (λ (xs : List ℕ). length xs) are in let before = h.1.now in let ever = h.1.ever in
     let now = subst (λ (y : MyTree × KeptRows). AreUnlinked rows y.1.rows y.0.0 goes) (λ i. (sym d.now i, sym too i))
-    (then, record { now = omega arith; ever = ever }) in
+    (then, record { now = omega arith; ever = few_at_once goes (given comes m.0.claims) m.0.most ever (omega arith) }) in
     subst (λ (y : ℕ). AreUnlinked rows kept'.rows m'.0 (y ∷ [])) same now
 
 -- A base that was shown last can be read.

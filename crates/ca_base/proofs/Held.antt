@@ -141,7 +141,7 @@ kept_row rows kept kept' m m' row told same rest h = let own = (h.0.each row (in
 pub gone_row : (rows : ℕ) (kept kept' : KeptRows) (m m' : MyTree) (row : ℕ) → PutsRow true row m m' → kept' ≡ kept → (rest : List ℕ) → ¬ IsIn row rest
     → AreHeld rows kept.rows m.0 (row ∷ rest) → AreHeld rows kept'.rows m'.0 rest
 gone_row rows kept kept' m m' row told same rest out h = let own = (h.0.each row (in_first row rest)).2 in
-    let less = dropped_one_less row m.0.claims own.0 own.2 in let now = h.1.now in let ever = h.1.ever in
+    let less = dropped_one_less row m.0.claims (Holds own.0) refl own.2 in let now = h.1.now in let ever = h.1.ever in
     subst (λ (x : MyTree × KeptRows). AreHeld rows x.1.rows x.0.0 rest)
     (λ i. (sym told i, sym same i)) (put_back rows kept.rows m.0.claims rest row out h.0, record { now = omega arith; ever = ever })
 
@@ -149,7 +149,7 @@ gone_row rows kept kept' m m' row told same rest out h = let own = (h.0.each row
 pub retired_row : (rows : ℕ) (kept kept' : Vec Kept Global) (m m' : MyTree) (row t : ℕ) → m' ≡ (record m.0 { claims = claimed row (Keeps t) m.0.claims }, m.1)
     → AreKept rows m'.0.claims kept' → (rest : List ℕ) → ¬ IsIn row rest → AreHeld rows kept m.0 (row ∷ rest) → AreHeld rows kept' m'.0 rest
 retired_row rows kept kept' m m' row t told k rest out h = let own = (h.0.each row (in_first row rest)).2 in
-    let less = claimed_one_less row (Keeps t) own.0 m.0.claims refl own.2 in let now = h.1.now in let ever = h.1.ever in
+    let less = claimed_one_less row (Keeps t) (Holds own.0) m.0.claims refl refl own.2 in let now = h.1.now in let ever = h.1.ever in
     subst (λ (x : MyTree). AreHeld rows kept' x.0 rest) (sym told) (
       retired rows kept kept' m.0.claims rest row t out h.0 (subst (λ (x : MyTree). AreKept rows x.0.claims kept') told k),
       record { now = omega arith; ever = ever },

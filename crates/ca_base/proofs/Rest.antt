@@ -1,5 +1,5 @@
 -- Rows of a list, one after another.
-use Rattle.std.proofs.Common.{◌≡◌, ◌≢◌, ℕ, zero, suc, ◌+◌, ◌<◌, List, [], ◌∷◌, length, drop, get_or, Result, Ok, Err, refl, sym, subst, ⊎_elim, arith}
+use Rattle.std.proofs.Common.{◌≡◌, ◌≢◌, ℕ, zero, suc, ◌+◌, ◌<◌, ◌≤◌, List, [], ◌∷◌, length, drop, get_or, Result, Ok, Err, refl, sym, subst, ⊎_elim, arith}
 use Rattle.std.proofs.Math.Seq.{drop-cons}
 use Rattle.ca_node.specs.Laws.{in_nothing}
 use Rattle.ca_node.specs.Links.{IsIn}
@@ -30,3 +30,7 @@ two_apart a b n = (
 pub gone_apart : (place : Result ℕ ℕ) (these : List ℕ) → AreApart (gone place these)
 gone_apart (Ok at) these = (in_nothing (get_or these at 0) [] refl, tt)
 gone_apart (Err at) these = tt
+
+pub gone_few : (place : Result ℕ ℕ) (these : List ℕ) → length (gone place these) ≤ 1
+gone_few (Ok at) these = omega arith
+gone_few (Err at) these = omega arith

@@ -1,5 +1,5 @@
 -- The rows that a pass has after an update, as it retires what went.
-use Rattle.std.proofs.Common.{◌≡◌, ◌⊎◌, ℕ, ◌+◌, ◌<◌, ◌≤◌, List, [], ◌∷◌, ◌++◌, length, Vec, sym, refl, ap, ◌∙◌, subst, inl, inr, ⊎_elim, arith, append_assoc, length-append}
+use Rattle.std.proofs.Common.{◌≡◌, ◌⊎◌, ℕ, ◌+◌, ◌<◌, ◌≤◌, max, List, [], ◌∷◌, ◌++◌, length, Vec, sym, refl, ap, ◌∙◌, subst, inl, inr, ⊎_elim, arith, append_assoc, length-append}
 use Rattle.std.specs.Global.{Global}
 use mathlib.Core.Logic.{dite}
 use mathlib.Core.Option.{some, none, some-injective, some-ne-none}
@@ -11,9 +11,9 @@ use Rattle.ca_node.specs.Links.{IsIn}
 use Rattle.ca_rows.specs.Told.{met_of}
 use Rattle.ca_node.specs.Told.{MyTree, IsKnown, Update, IsUpdated, given, one_more_lost, taken_out, updated, with_upper}
 use Rattle.ca_node.specs.TreeView.{TreeView}
-use Rattle.ca_node.proofs.HeldRows.{AreApart, given_fewer, taken_out_no_more}
+use Rattle.ca_node.proofs.HeldRows.{AreApart, given_fewer, taken_out_more}
 use Rattle.ca_node.proofs.Looking.{in_more}
-use Rattle.ca_node.proofs.Members.{in_rest, has, given_here, given_else, taken_here, taken_else}
+use Rattle.ca_node.proofs.Members.{in_rest, has, given_here, given_else, taken_here, taken_else, in_first}
 use Rattle.ca_base.specs.Progress.{HasDone}
 use Rattle.ca_base.specs.Taking.{HasHeld, AreHeld, HasUnlinked, AreUnlinked}
 use Rattle.ca_base.specs.Writing.{IsRewritten}
@@ -28,7 +28,7 @@ use Rattle.ca_rows.specs.declared.view.View.{View}
 use Rattle.ca_rows.specs.Claims.{claim_of, claimed, held_count}
 use Rattle.ca_rows.specs.Kept.{AreKept}
 use Rattle.ca_rows.proofs.Claiming.{claimed_here, claimed_else}
-use Rattle.ca_rows.proofs.HeldCount.{claimed_no_more}
+use Rattle.ca_rows.proofs.HeldCount.{claimed_one_less}
 use Rattle.ca_rows.proofs.Keeping.{kept_as}
 
 module _ (rows : ℕ) (kept : Vec Kept Global) (claims : List Claimed) (ins outs : List ℕ) (h : HasHeld rows kept claims ins)
@@ -84,7 +84,7 @@ retired_claim rows kept kept' claims row t k rest out h = record {
 
 pub retired_too : (rows : ℕ) (kept kept' : Vec Kept Global) (m m' : MyTree) (row t : ℕ) → m' ≡ (record m.0 { claims = claimed row (Keeps t) m.0.claims }, m.1)
     → AreKept rows m'.0.claims kept' → (rest : List ℕ) → ¬ IsIn row rest → AreUnlinked rows kept m.0 (row ∷ rest) → AreUnlinked rows kept' m'.0 rest
-retired_too rows kept kept' m m' row t told k rest out h = let n = claimed_no_more row (Keeps t) m.0.claims refl in let now = h.1.now in let ever = h.1.ever in
+retired_too rows kept kept' m m' row t told k rest out h = let n = claimed_one_less row (Keeps t) Unlinked m.0.claims refl refl (h.0.each row (in_first row rest)) in let now = h.1.now in let ever = h.1.ever in
     subst (λ (x : MyTree). AreUnlinked rows kept' x.0 rest) (sym told) (
       retired_claim rows kept kept' m.0.claims row t (subst (λ (x : MyTree). AreKept rows x.0.claims kept') told k) rest out h.0,
       record { now = omega arith; ever = ever },
@@ -100,18 +100,23 @@ pub held_still : (rows : ℕ) (kept kept' : KeptRows) (m m' : MyTree) (held : Li
 held_still rows kept kept' m m' held same too h = subst (λ (x : MyTree × KeptRows). AreHeld rows x.1.rows x.0.0 held) (λ i. (sym same i, sym too i))
     (h.0, record { now = h.1.now; ever = h.1.ever })
 
+-- As rows are unlinked, no more than eight are held at once.
+pub few_at_once : (rows : List ℕ) (claims : List Claimed) (most : ℕ) → most ≤ 8 → held_count claims + length rows ≤ 8
+    → max most (held_count (taken_out rows claims)) ≤ 8
+few_at_once rows claims most ever few = let went = taken_out_more rows claims in omega arith
+
 -- After an update the old base and what went with it are unlinked, and apart.
 pub swapped : (rows : ℕ) (kept kept' : KeptRows) (m m' : MyTree) (new : ℕ) (x : Update) (base : ℕ) (ins outs : List ℕ) → new ∷ x.comes ≡ ins
-    → x.old.row ≡ base → x.goes ≡ outs → IsUpdated new x m m' → kept' ≡ kept → AreApart ins → AreHeld rows kept.rows m.0 ins
+    → x.old.row ≡ base → x.goes ≡ outs → length outs ≤ 1 → IsUpdated new x m m' → kept' ≡ kept → AreApart ins → AreHeld rows kept.rows m.0 ins
     → (¬ IsIn base outs) × AreUnlinked rows kept'.rows m'.0 (base ∷ outs)
-swapped rows kept kept' m m' new x base ins outs comes same goes u too apart h = let held = subst (HasHeld rows kept.rows m.0.claims) (sym comes) h.0 in
+swapped rows kept kept' m m' new x base ins outs comes same goes few u too apart h = let held = subst (HasHeld rows kept.rows m.0.claims) (sym comes) h.0 in
     let then = unlinked_then rows kept.rows m.0.claims (new ∷ x.comes) (x.old.row ∷ x.goes) held u.unclaimed in
     let came = subst (λ (xs : List ℕ). held_count (given xs m.0.claims) + length xs ≤ held_count m.0.claims) (sym comes)
     (given_fewer ins m.0.claims apart (λ r i. let own = (h.0.each r i).2 in (own.0, own.2))) in
-    let went = taken_out_no_more (x.old.row ∷ x.goes) (given (new ∷ x.comes) m.0.claims) in
-    let many = ap (λ (xs : List ℕ). length xs) comes in let before = h.1.now in let ever = h.1.ever in
+    let went = taken_out_more (x.old.row ∷ x.goes) (given (new ∷ x.comes) m.0.claims) in
+    let many = ap (λ (xs : List ℕ). length xs) comes in let less = ap (λ (xs : List ℕ). length xs) goes in let before = h.1.now in let ever = h.1.ever in
     let now = subst (λ (y : MyTree × KeptRows). AreUnlinked rows y.1.rows y.0.0 (x.old.row ∷ x.goes)) (λ i. (sym u.now i, sym too i))
-    (then, record { now = omega arith; ever = ever }) in
+    (then, record { now = omega arith; ever = few_at_once (x.old.row ∷ x.goes) (given (new ∷ x.comes) m.0.claims) m.0.most ever (omega arith) }) in
     subst (λ (y : ℕ × List ℕ). (¬ IsIn y.0 y.1) × AreUnlinked rows kept'.rows m'.0 (y.0 ∷ y.1)) (λ i. (same i, goes i)) (u.apart, now)
 
 -- The call that carried out an update is done.

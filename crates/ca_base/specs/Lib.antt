@@ -6,4 +6,5 @@ pub mod Readiness
 pub mod Removing
 pub mod Splitting
 pub mod Taking
+pub mod Targets
 pub mod Writing

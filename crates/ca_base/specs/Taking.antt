@@ -19,7 +19,7 @@ pub record HasHeld (rows : ℕ) (kept : Vec Kept Global) (claims : List Claimed)
   pub only : (row : ℕ) (c : Claim) → claim_of claims row ≡ some c → ((at : ℕ) × (c ≡ Keeps at)) ⊎ IsIn row held
   pub each : (row : ℕ) → IsIn row held → (0 < row) × (row ≤ rows) × ((its : List ℕ) × (length its ≡ 136) × (claim_of claims row ≡ some (Holds its)))
 
--- The seat holds so many rows at most, and never held more than eight at once.
+-- The seat holds so many rows at most, with those that it unlinked and doesn't keep yet, and never held more than eight at once.
 pub record HoldsFew (count : ℕ) (view : View TreeView) : Type 0 where
   pub now : held_count view.claims ≤ count
   pub ever : view.most ≤ 8
@@ -46,4 +46,4 @@ pub record HasUnlinked (rows : ℕ) (kept : Vec Kept Global) (claims : List Clai
 
 -- A seat unlinked these rows, and has no others but those that it keeps.
 abbrev pub AreUnlinked : ℕ → Vec Kept Global → View TreeView → List ℕ → Type 0
-AreUnlinked rows kept view out = HasUnlinked rows kept view.claims out × HoldsFew 0 view
+AreUnlinked rows kept view out = HasUnlinked rows kept view.claims out × HoldsFew (length out) view

@@ -6,47 +6,66 @@ ghost use Rattle.ca_base.specs.Writing.{IsHeld, HasFilled, SpellsBase, HasWritte
 ghost use Rattle.ca_rows.specs.Passes.{OnlyReads, IsReading, StillKeepsList, sizes, known};
 ghost use Rattle.ca_node.specs.TreePasses.{tree_of};
 
+use crate::target::Target;
 use crate::writing::{set_word, write_head, write_items};
 use ca_node::{TreePass, TreeSpace, load_word};
 
-/// Writes a base row of a level without a mark: the items of the base that was shown last, of which there are so many, with this one put at the
-/// place; and the word for its statistic. It answers the item in whose place this one is put, or 0.
+/// Items of the base that was shown last, in this row: so many, from a place on.
+#[derive(Clone, Copy)]
+pub(crate) struct Run {
+    pub(crate) base: u32,
+    pub(crate) from: u32,
+    pub(crate) count: u32,
+}
+
+// What becomes of a base's items: those before one place stay, then these come, then those from another place on.
+#[derive(Clone, Copy)]
+struct Around<'a> {
+    before: u32,
+    these: &'a [u32],
+    behind: u32,
+}
+
+/// Writes the base row that takes the target's place, without a mark: the target's items with this one put at the place. It answers the item in
+/// whose place this one is put, or 0.
 pub(crate) fn write_base_with(
     space: &TreeSpace,
     pass: &mut TreePass,
     row: u32,
-    base: u32,
-    many: u32,
+    target: &Target,
     place: Result<u32, u32>,
     item: u32,
-    level: u16,
-    statistic: u64,
 ) -> u32
     requires reading { IsReading space.now pass.old }
     requires held { IsHeld (known pass.old) row }
     requires inside { row ≤ (sizes space.now).rows }
-    requires shown { IsShownLast (sizes space.now) (tree_of pass.old) base }
-    requires many { (many ≡ length (last_items (tree_of pass.old))) × (many ≤ 120) }
-    requires place { IsPlaceFor place many }
+    requires shown { IsShownLast (sizes space.now) (tree_of pass.old) target.now.cursor.base }
+    requires many { (target.now.many ≡ length (last_items (tree_of pass.old))) × (target.now.many ≤ 120) }
+    requires place { IsPlaceFor place target.now.many }
     ensures frame { StillKeepsList pass.old pass.new }
-    ensures written { HasWritten row (SpellsBase (put_in (last_items (tree_of pass.old)) place item) level statistic) (known pass.old)
+    ensures written { HasWritten row (SpellsBase (put_in (last_items (tree_of pass.old)) place item) target.now.cursor.level target.now.statistic) (known pass.old)
         (known pass.new) }
     ensures gone { IsItemAt place (last_items (tree_of pass.old)) result }
 {
     let these = &[item];
     match place {
         Ok(at) => {
-            let old = item_at(space, pass, base, at);
-            let behind = at + 1;
-            write_around(
-                space, pass, row, base, many, at, these, behind, level, statistic,
-            );
+            let old = item_at(space, pass, target.cursor.base, at);
+            let around = Around {
+                before: at,
+                these,
+                behind: at + 1,
+            };
+            write_around(space, pass, row, target, &around);
             old
         }
         Err(at) => {
-            write_around(
-                space, pass, row, base, many, at, these, at, level, statistic,
-            );
+            let around = Around {
+                before: at,
+                these,
+                behind: at,
+            };
+            write_around(space, pass, row, target, &around);
             0
         }
     }
@@ -57,36 +76,26 @@ pub(crate) fn write_base_without(
     space: &TreeSpace,
     pass: &mut TreePass,
     row: u32,
-    base: u32,
-    many: u32,
+    target: &Target,
     at: u32,
-    level: u16,
-    statistic: u64,
 ) -> u32
     requires reading { IsReading space.now pass.old }
     requires held { IsHeld (known pass.old) row }
     requires inside { row ≤ (sizes space.now).rows }
-    requires shown { IsShownLast (sizes space.now) (tree_of pass.old) base }
-    requires many { (many ≡ length (last_items (tree_of pass.old))) × (many ≤ 120) }
-    requires place { at < many }
+    requires shown { IsShownLast (sizes space.now) (tree_of pass.old) target.now.cursor.base }
+    requires many { (target.now.many ≡ length (last_items (tree_of pass.old))) × (target.now.many ≤ 120) }
+    requires place { at < target.now.many }
     ensures frame { StillKeepsList pass.old pass.new }
-    ensures written { HasWritten row (SpellsBase (remove (last_items (tree_of pass.old)) at) level statistic) (known pass.old) (known pass.new) }
+    ensures written { HasWritten row (SpellsBase (remove (last_items (tree_of pass.old)) at) target.now.cursor.level target.now.statistic) (known pass.old) (known pass.new) }
     ensures gone { result ≡ slice_index (last_items (tree_of pass.old)) at }
 {
-    let old = item_at(space, pass, base, at);
-    let behind = at + 1;
-    write_around(
-        space,
-        pass,
-        row,
-        base,
-        many,
-        at,
-        &[],
-        behind,
-        level,
-        statistic,
-    );
+    let old = item_at(space, pass, target.cursor.base, at);
+    let around = Around {
+        before: at,
+        these: &[],
+        behind: at + 1,
+    };
+    write_around(space, pass, row, target, &around);
     old
 }
 
@@ -106,54 +115,59 @@ fn write_around(
     space: &TreeSpace,
     pass: &mut TreePass,
     row: u32,
-    base: u32,
-    many: u32,
-    before: u32,
-    these: &[u32],
-    behind: u32,
-    level: u16,
-    statistic: u64,
+    target: &Target,
+    around: &Around<'_>,
 )
     requires reading { IsReading space.now pass.old }
     requires held { IsHeld (known pass.old) row }
     requires inside { row ≤ (sizes space.now).rows }
-    requires shown { IsShownLast (sizes space.now) (tree_of pass.old) base }
-    requires many { (many ≡ length (last_items (tree_of pass.old))) × (many ≤ 120) }
-    requires places { (before ≤ many) × (behind ≤ many) }
-    requires few { before + length these.now + (many - behind) ≤ 120 }
+    requires shown { IsShownLast (sizes space.now) (tree_of pass.old) target.now.cursor.base }
+    requires many { (target.now.many ≡ length (last_items (tree_of pass.old))) × (target.now.many ≤ 120) }
+    requires places { (around.now.before ≤ target.now.many) × (around.now.behind ≤ target.now.many) }
+    requires few { around.now.before + length around.now.these.now + (target.now.many - around.now.behind) ≤ 120 }
     ensures frame { StillKeepsList pass.old pass.new }
-    ensures written { HasWritten row (SpellsBase (take before (last_items (tree_of pass.old)) ++ (these.now ++ drop behind (last_items
-        (tree_of pass.old)))) level statistic) (known pass.old) (known pass.new) }
+    ensures written { HasWritten row (SpellsBase (take around.now.before (last_items (tree_of pass.old)) ++ (around.now.these.now ++ drop around.now.behind (last_items
+        (tree_of pass.old)))) target.now.cursor.level target.now.statistic) (known pass.old) (known pass.new) }
 {
-    let next = before + these.len() as u32;
-    let rest = many - behind;
-    write_head(space, pass, row, level, next + rest, statistic);
-    copy_items(space, pass, row, 0, base, 0, before);
-    write_items(space, pass, row, before, these);
-    copy_items(space, pass, row, next, base, behind, rest);
+    let next = around.before + around.these.len() as u32;
+    let rest = target.many - around.behind;
+    let base = target.cursor.base;
+    let first = Run {
+        base,
+        from: 0,
+        count: around.before,
+    };
+    let last = Run {
+        base,
+        from: around.behind,
+        count: rest,
+    };
+    write_head(
+        space,
+        pass,
+        row,
+        target.cursor.level,
+        next + rest,
+        target.statistic,
+    );
+    copy_items(space, pass, row, 0, first);
+    write_items(space, pass, row, around.before, around.these);
+    copy_items(space, pass, row, next, last);
 }
 
 // Copies items of the base that was shown last to a base row that the pass holds: so many, to the places from `to` on those from `from` on.
-pub(crate) fn copy_items(
-    space: &TreeSpace,
-    pass: &mut TreePass,
-    row: u32,
-    to: u32,
-    base: u32,
-    from: u32,
-    count: u32,
-)
+pub(crate) fn copy_items(space: &TreeSpace, pass: &mut TreePass, row: u32, to: u32, run: Run)
     requires reading { IsReading space.now pass.old }
     requires held { IsHeld (known pass.old) row }
     requires inside { row ≤ (sizes space.now).rows }
-    requires shown { IsShownLast (sizes space.now) (tree_of pass.old) base }
-    requires places { (from + count ≤ length (last_items (tree_of pass.old))) × (from + count ≤ 120) × (to + count ≤ 120) }
+    requires shown { IsShownLast (sizes space.now) (tree_of pass.old) run.base }
+    requires places { (run.from + run.count ≤ length (last_items (tree_of pass.old))) × (run.from + run.count ≤ 120) × (to + run.count ≤ 120) }
     ensures frame { StillKeepsList pass.old pass.new }
-    ensures filled { HasFilled row (11 + to) count (λ k word. word ≡ slice_index (last_items (tree_of pass.old)) (from + k)) (known pass.old)
+    ensures filled { HasFilled row (11 + to) run.count (λ k word. word ≡ slice_index (last_items (tree_of pass.old)) (run.from + k)) (known pass.old)
         (known pass.new) }
 {
-    for place in 0..count {
-        let item = load_word(space, pass, base, 11 + from + place);
+    for place in 0..run.count {
+        let item = load_word(space, pass, run.base, 11 + run.from + place);
         set_word(space, pass, row, 11 + to + place, item);
     }
 }

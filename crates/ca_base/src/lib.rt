@@ -12,6 +12,7 @@ mod spending;
 mod splitting;
 mod swapping;
 mod taking;
+mod target;
 mod updating;
 mod writing;
 
@@ -22,5 +23,6 @@ pub use removing::remove_at;
 pub use splitting::split_at;
 pub use swapping::STATISTIC;
 pub use taking::{NoRow, give_back, take, take_two};
+pub use target::{Insertion, Keyed, Removal, Target};
 pub use updating::{Putting, put_at};
 pub use writing::{write_base, write_object};

@@ -9,7 +9,7 @@ ghost use Rattle.ca_rows.specs.Passes.{OnlyReads, IsOn, IsReading, StillKeepsLis
 ghost use Rattle.ca_node.specs.TreePasses.{tree_of};
 
 use crate::comparing::key_bytes;
-use crate::copying::copy_items;
+use crate::copying::{Run, copy_items};
 use crate::reading::append;
 use crate::swapping::STATISTIC;
 use crate::writing::{write_bytes, write_head, write_words};
@@ -19,58 +19,51 @@ use ca_node::{TreePass, TreeSpace, load_word};
 // The form of a route, in the first word.
 const ROUTE: u64 = 3 << 56;
 
-/// Writes a route row: its level, its key, eight bytes a word, with zeros behind their end to the end of the word, its links, and the number of its
-/// attempts to join, none of which is under way.
+/// The rows of a split: a route, and the two bases under it.
+#[derive(Clone, Copy)]
+pub(crate) struct Fork {
+    pub(crate) route: u32,
+    pub(crate) left: u32,
+    pub(crate) right: u32,
+}
+
+/// Writes the route of a fork: its level, its key, eight bytes a word, with zeros behind their end to the end of the word, its links, and the number of
+/// its attempts to join, none of which is under way.
 pub(crate) fn write_route(
     space: &TreeSpace,
     pass: &mut TreePass,
-    row: u32,
+    fork: Fork,
     level: u16,
     key: &[u8],
-    left: u32,
-    right: u32,
     attempt: u64,
 )
     requires own { IsOn space.now pass.old }
-    requires held { IsHeld (known pass.old) row }
-    requires inside { row ≤ (sizes space.now).rows }
+    requires held { IsHeld (known pass.old) fork.route }
+    requires inside { fork.route ≤ (sizes space.now).rows }
     requires short { length key.now ≤ 1000 }
     requires attempt { attempt < 4611686018427387904 }
     ensures frame { StillKeepsList pass.old pass.new }
-    ensures written { HasWritten row (SpellsRoute level key.now left right attempt) (known pass.old) (known pass.new) }
+    ensures written { HasWritten fork.route (SpellsRoute level key.now fork.left fork.right attempt) (known pass.old) (known pass.new) }
 {
     let form = ROUTE + level as u64 * 65_536 + key.len() as u64;
-    write_words(
-        space,
-        pass,
-        row,
-        &[form, left as u64, right as u64, attempt * 4],
-    );
-    write_bytes(space, pass, row, key);
+    let (left, right) = (fork.left as u64, fork.right as u64);
+    write_words(space, pass, fork.route, &[form, left, right, attempt * 4]);
+    write_bytes(space, pass, fork.route, key);
 }
 
-/// Writes a half of the base that was shown last: a base row of this level without a mark, with so many of its items, from a place on, and with a
-/// statistic of 0.
-pub(crate) fn write_half(
-    space: &TreeSpace,
-    pass: &mut TreePass,
-    row: u32,
-    level: u16,
-    base: u32,
-    from: u32,
-    count: u32,
-)
+/// Writes a half of the base that was shown last: a base row of this level without a mark, with these of its items, and with a statistic of 0.
+pub(crate) fn write_half(space: &TreeSpace, pass: &mut TreePass, row: u32, level: u16, run: Run)
     requires reading { IsReading space.now pass.old }
     requires held { IsHeld (known pass.old) row }
     requires inside { row ≤ (sizes space.now).rows }
-    requires shown { IsShownLast (sizes space.now) (tree_of pass.old) base }
-    requires places { (from + count ≤ length (last_items (tree_of pass.old))) × (from + count ≤ 120) }
+    requires shown { IsShownLast (sizes space.now) (tree_of pass.old) run.base }
+    requires places { (run.from + run.count ≤ length (last_items (tree_of pass.old))) × (run.from + run.count ≤ 120) }
     ensures frame { StillKeepsList pass.old pass.new }
-    ensures written { HasWritten row (SpellsBase (take count (drop from (last_items (tree_of pass.old)))) level 4294967296) (known pass.old)
+    ensures written { HasWritten row (SpellsBase (take run.count (drop run.from (last_items (tree_of pass.old)))) level 4294967296) (known pass.old)
         (known pass.new) }
 {
-    write_head(space, pass, row, level, count, STATISTIC);
-    copy_items(space, pass, row, 0, base, from, count);
+    write_head(space, pass, row, level, run.count, STATISTIC);
+    copy_items(space, pass, row, 0, run);
 }
 
 /// Copies the key of an object that the pass was shown, a word at a time.

@@ -1,27 +1,34 @@
 //! A base is split: a route over two halves takes its place.
-ghost use Rattle.std.specs.Prelude.{◌≡◌, ◌≢◌, ◌+◌, ◌*◌, ◌<◌, ◌≤◌, [], ◌∷◌, length, map, true, false, Ok};
+ghost use Rattle.std.specs.Prelude.{◌≡◌, ◌≢◌, ◌+◌, ◌*◌, ◌<◌, ◌≤◌, [], ◌∷◌, map, false, Ok};
 ghost use Rattle.ca_model.specs.StoreMap.{IsStoreMap};
 ghost use Rattle.ca_node.specs.Inventory.{IsListed};
 ghost use Rattle.ca_node.specs.Row.{pair};
 ghost use Rattle.ca_node.specs.Told.{IsAlone, IsDivision, link_word};
 ghost use Rattle.ca_node.proofs.HeldRows.{AreApart};
 ghost use Rattle.ca_base.specs.Counting.{IsSpent, HasCleared, HasEnded, HasFound, HasPutBack};
-ghost use Rattle.ca_base.specs.Finding.{IsAtCursor};
-ghost use Rattle.ca_base.specs.Putting.{IsShownLast};
+ghost use Rattle.ca_base.specs.Targets.{IsTarget};
 ghost use Rattle.ca_base.specs.Splitting.{HasTakenThree, HasSplit, IsHalving};
 ghost use Rattle.ca_base.specs.Taking.{AreHeld};
 ghost use Rattle.ca_rows.specs.Passes.{IsOn, IsStillPass, sizes, known, view};
 ghost use Rattle.ca_node.specs.TreePasses.{tree_of};
 ghost use Rattle.ca_base.specs.Readiness.{IsReady, StaysReady, shown_last};
 
+use crate::copying::Run;
 use crate::reading::item;
-use crate::routing::{copy_key, write_half, write_route};
+use crate::routing::{Fork, copy_key, write_half, write_route};
 use crate::spending::lose;
 use crate::swapping::{give_back_all, retire_unlinked};
 use crate::taking::{NoRow, take, take_two};
 use ca_model::{Code, Spent};
-use ca_node::{Cursor, Link, Plan, TreePass, TreeSpace, divide_base};
+use ca_node::{Cursor, Plan, TreePass, TreeSpace, divide_base};
 use std::marker::Brand;
+
+// How many objects a base has that is split, and how many attempts to join its route is said to have had.
+#[derive(Clone, Copy)]
+struct Halving {
+    many: u32,
+    attempt: u64,
+}
 
 /// Splits the base that was shown last, which has so many objects: a route with the key of the first object of the right half takes its place, over
 /// two bases with the halves. It takes three rows. False where the exchange was lost, which none is by a pass that is alone and lists the base.
@@ -34,10 +41,8 @@ pub fn split_at(
     spent: &mut Spent,
 ) -> Result<bool, NoRow>
     requires ready { IsReady space.now pass.old }
-    requires leaf { (sizes space.now).leaf ≤ 120 }
-    requires shown { IsShownLast (sizes space.now) (tree_of pass.old) cursor.base }
-    requires cursor { IsAtCursor (sizes space.now) (shown_last pass.old) cursor }
-    requires many { (2 ≤ many) × (many ≡ length (shown_last pass.old).objects) }
+    requires target { IsTarget (sizes space.now) (tree_of pass.old) cursor many }
+    requires two { 2 ≤ many }
     requires ordered { IsStoreMap (sizes space.now).keypos (map pair (shown_last pass.old).objects) }
     requires above { cursor.level < (sizes space.now).levels }
     requires attempt { attempt < 4611686018427387904 }
@@ -55,16 +60,25 @@ pub fn split_at(
     let base = cursor.base;
     let middle = many / 2;
     let below = cursor.level + 1;
-    write_half(space, pass, left, below, base, 0, middle);
-    write_half(space, pass, right, below, base, middle, many - middle);
+    let front = Run {
+        base,
+        from: 0,
+        count: middle,
+    };
+    let back = Run {
+        base,
+        from: middle,
+        count: many - middle,
+    };
+    write_half(space, pass, left, below, front);
+    write_half(space, pass, right, below, back);
     let first = item(space, pass, base, middle);
     let mut key = Code::new();
     copy_key(space, pass, first, &mut key);
-    write_route(space, pass, route, cursor.level, &key, left, right, attempt);
-    let link = cursor.link;
-    Ok(divide_in::<Brand>(
-        space, pass, link, base, many, route, left, right, attempt, spent,
-    ))
+    let fork = Fork { route, left, right };
+    write_route(space, pass, fork, cursor.level, &key, attempt);
+    let halving = Halving { many, attempt };
+    Ok(divide_in::<Brand>(space, pass, cursor, fork, halving, spent))
 }
 
 // Takes three free rows. Where it finds fewer, they are put back.
@@ -95,37 +109,34 @@ fn take_three(
 }
 
 // Carries out the split that `K` names, by one exchange of the base that was shown last against the route, and retires the base then. Where the
-// exchange is lost, the rows that were written are put back. How many objects there were and how many attempts the route has had is handed on for
-// the contract alone, which says that the written rows tell so.
+// exchange is lost, the rows that were written are put back. The halving is handed on for the contract alone, which says that the written rows tell so.
 fn divide_in<K: Plan>(
     space: &TreeSpace,
     pass: &mut TreePass,
-    link: Link,
-    base: u32,
-    _many: u32,
-    route: u32,
-    left: u32,
-    right: u32,
-    _attempt: u64,
+    cursor: Cursor,
+    fork: Fork,
+    _halving: Halving,
     spent: &mut Spent,
 ) -> bool
     requires own { IsOn space.now pass.old }
-    requires division { IsDivision (sizes space.now) (known pass.old) K.division × IsHalving _many _attempt K.division }
-    requires rows { (K.division.old.row ≡ base) × (K.division.route ≡ route) × (K.division.left ≡ left) × (K.division.right ≡ right) }
-    requires link { K.division.old.place.link ≡ link_word link }
-    requires inside { link_word link < 136 * (sizes space.now).rows + 136 }
-    requires apart { AreApart (route ∷ left ∷ right ∷ []) }
-    requires held { AreHeld (sizes space.now).rows pass.old.kept.rows (view pass.old) (route ∷ left ∷ right ∷ []) }
+    requires division { IsDivision (sizes space.now) (known pass.old) K.division × IsHalving _halving.many _halving.attempt K.division }
+    requires rows { (K.division.old.row ≡ cursor.base) × (K.division.route ≡ fork.route) × (K.division.left ≡ fork.left) × (K.division.right ≡ fork.right) }
+    requires link { K.division.old.place.link ≡ link_word cursor.link }
+    requires inside { link_word cursor.link < 136 * (sizes space.now).rows + 136 }
+    requires apart { AreApart (fork.route ∷ fork.left ∷ fork.right ∷ []) }
+    requires held { AreHeld (sizes space.now).rows pass.old.kept.rows (view pass.old) (fork.route ∷ fork.left ∷ fork.right ∷ []) }
     ensures frame { StaysReady space.now pass.old pass.new }
-    ensures split { HasSplit _many _attempt (Ok result) (tree_of pass.old) (tree_of pass.new) }
+    ensures split { HasSplit _halving.many _halving.attempt (Ok result) (tree_of pass.old) (tree_of pass.new) }
     ensures won { IsAlone (sizes space.now) (tree_of pass.old) → IsListed (tree_of pass.old).inventory K.division.old → result ≢ false }
     ensures counted { IsSpent spent.old spent.new (known pass.old) (known pass.new) }
     ensures found { HasEnded (Ok result) (known pass.old) (known pass.new) }
     ensures back { HasCleared (Ok result) (known pass.old) (known pass.new) pass.old.kept pass.new.kept }
 {
-    if !divide_base::<K>(space, pass, link, base, route) {
+    let (link, base) = (cursor.link, cursor.base);
+    if !divide_base::<K>(space, pass, link, base, fork.route) {
         lose(spent);
-        give_back_all(space, pass, &[route, left, right], spent);
+        let rows = [fork.route, fork.left, fork.right];
+        give_back_all(space, pass, &rows, spent);
         return false;
     }
     retire_unlinked(space, pass, base);

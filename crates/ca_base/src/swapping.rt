@@ -28,6 +28,14 @@ pub enum Deed {
     Remove(u32),
 }
 
+/// The rows of an update: the new base, the rows that it brings, and those that go.
+#[derive(Clone, Copy)]
+pub(crate) struct Rows<'a> {
+    pub(crate) new: u32,
+    pub(crate) comes: &'a [u32],
+    pub(crate) goes: &'a [u32],
+}
+
 /// The word of a new base for a statistic of 0.
 pub const STATISTIC: u64 = 1 << 32;
 
@@ -37,38 +45,36 @@ pub(crate) fn swap_in<K: Intent>(
     space: &TreeSpace,
     pass: &mut TreePass,
     cursor: Cursor,
-    new: u32,
-    comes: &[u32],
-    goes: &[u32],
+    rows: &Rows<'_>,
     _deed: Deed,
     spent: &mut Spent,
 ) -> bool
     requires own { IsOn space.now pass.old }
-    requires update { IsUpdate (sizes space.now) (known pass.old) new K.update }
+    requires update { IsUpdate (sizes space.now) (known pass.old) rows.now.new K.update }
     requires old_base { IsBaseNote (sizes space.now) K.update.old }
     requires cursor { IsAtCursor (sizes space.now) K.update.old cursor }
-    requires rows { (K.update.comes ≡ comes.now) × (K.update.goes ≡ goes.now) }
-    requires apart { AreApart (new ∷ comes.now) × AreApart goes.now }
-    requires held { AreHeld (sizes space.now).rows pass.old.kept.rows (view pass.old) (new ∷ comes.now) }
-    requires few { length comes.now ≤ 1 }
+    requires rows { (K.update.comes ≡ rows.now.comes.now) × (K.update.goes ≡ rows.now.goes.now) }
+    requires apart { AreApart (rows.now.new ∷ rows.now.comes.now) × AreApart rows.now.goes.now }
+    requires held { AreHeld (sizes space.now).rows pass.old.kept.rows (view pass.old) (rows.now.new ∷ rows.now.comes.now) }
+    requires few { (length rows.now.comes.now ≤ 1) × (length rows.now.goes.now ≤ 1) }
     ensures frame { StaysReady space.now pass.old pass.new }
     ensures done { HasSwapped K.update.event (sizes space.now) result (tree_of pass.old) (tree_of pass.new) }
     ensures won { IsAlone (sizes space.now) (tree_of pass.old) → IsListed (tree_of pass.old).inventory K.update.old → result ≢ false }
     ensures renewed { HasRenewed (sizes space.now) (met_of (known pass.new)) (slice_index K.update.its 1) K.update.edit (Ok result) (tree_of pass.old) (tree_of pass.new) }
-    ensures placed { IsNewRow new (Ok result) (tree_of pass.new) }
+    ensures placed { IsNewRow rows.now.new (Ok result) (tree_of pass.new) }
     ensures counted { IsSpent spent.old spent.new (known pass.old) (known pass.new) }
     ensures found { HasEnded (Ok result) (known pass.old) (known pass.new) }
     ensures back { HasCleared (Ok result) (known pass.old) (known pass.new) pass.old.kept pass.new.kept }
 {
     let base = cursor.base;
-    if !replace_base::<K>(space, pass, cursor.link, base, new) {
+    if !replace_base::<K>(space, pass, cursor.link, base, rows.new) {
         lose(spent);
-        give_back(space, pass, new, spent);
-        give_back_all(space, pass, comes, spent);
+        give_back(space, pass, rows.new, spent);
+        give_back_all(space, pass, rows.comes, spent);
         return false;
     }
     retire_unlinked(space, pass, base);
-    retire_all(space, pass, goes);
+    retire_all(space, pass, rows.goes);
     true
 }
 

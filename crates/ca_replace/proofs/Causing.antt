@@ -40,73 +40,87 @@ nearer budget before middle after kept kept' a b again = let some = again.0 in l
     (λ (e : kept' ≡ 0). let less : 2 * (budget - after) + min kept' 1 < 2 * (budget - before) + min kept 1 = omega (arith, e) in less)
     (λ (l : middle < after). let less : 2 * (budget - after) + min kept' 1 < 2 * (budget - before) + min kept 1 = omega arith in less) again.2
 
+-- By the end of a call it has spent this in all since it began, when it had spent nothing.
+pub record HasSpentInAll (now : Spent) (m m' : MyTree) : Type 0 where
+  pub spent : Spent
+  pub none : (spent.lost ≡ 0) × (spent.helped ≡ 0) × (spent.passed ≡ 0)
+  pub counted : IsPaid spent now m m'
+
+-- What a call's last attempt tells of its end, which found the rows that it wanted and split no full base.
+pub record EndsSo {T : Type 0} (z : Sizes) (budget : ℕ) (adds : Option (List ℕ)) (tried : Result T Stop) (now : Spent) (m m' : MyTree) : Type 0 where
+  pub full : tried ≡ Err stop.Empty → ⊥
+  pub split : tried ≡ Err stop.Split → ⊥
+  pub deep : tried ≡ Err stop.Deep → IsFull z adds m'.0.upper.last (after m'.0.upper.seen [])
+  pub lost : tried ≡ Err stop.Lost → budget ≤ total now
+  pub paid : HasSpentInAll now m m'
+  pub worn : tried ≡ Err stop.Worn → m'.0.worn ≡ m.0.worn + 1
+
 -- Where the last attempt refuses the call, it has a cause.
-caused : {T : Type 0} (z : Sizes) (number budget : ℕ) (adds : Option (List ℕ)) (tried : Result T Stop) (spent now : Spent) (levels : ℕ) (m m' : MyTree)
-    (kept kept' : Vec Kept Global) → levels ≡ z.levels → (tried ≡ Err stop.Empty → ⊥) → (tried ≡ Err stop.Split → ⊥)
-    → (tried ≡ Err stop.Deep → IsFull z adds m'.0.upper.last (after m'.0.upper.seen [])) → (tried ≡ Err stop.Lost → budget ≤ total now)
-    → (spent.lost ≡ 0) × (spent.helped ≡ 0) × (spent.passed ≡ 0) → IsPaid spent now m m' → (tried ≡ Err stop.Worn → m'.0.worn ≡ m.0.worn + 1)
+caused : {T : Type 0} (z : Sizes) (number budget : ℕ) (adds : Option (List ℕ)) (tried : Result T Stop) (now : Spent) (levels : ℕ) (m m' : MyTree)
+    (kept kept' : Vec Kept Global) → levels ≡ z.levels → EndsSo z budget adds tried now m m'
     → IfErr (refused_as tried now levels) (λ why. IsCaused z number budget adds why m kept m' kept')
-caused z number budget adds (Ok x) spent now levels m m' kept kept' same full split deep lost none counted worn = tt
-caused z number budget adds (Err stop.Lost) spent now levels m m' kept kept' same full split deep lost none counted worn = let zero = none.0 in
-    let zero' = none.2 in (
-      lost refl,
+caused z number budget adds (Ok x) now levels m m' kept kept' same e = tt
+caused z number budget adds (Err stop.Lost) now levels m m' kept kept' same e = let none = e.paid.none in let counted = e.paid.counted in
+    let zero = none.0 in let zero' = none.2 in (
+      e.lost refl,
       (let sum = counted.lost (omega arith) in omega arith),
       counted.helped ∙ none.1,
       (let sum = counted.passed (omega arith) in omega arith),
     )
-caused z number budget adds (Err stop.Split) spent now levels m m' kept kept' same full split deep lost none counted worn = absurd (split refl)
-caused z number budget adds (Err stop.Empty) spent now levels m m' kept kept' same full split deep lost none counted worn = absurd (full refl)
-caused z number budget adds (Err stop.Worn) spent now levels m m' kept kept' same full split deep lost none counted worn = worn refl
-caused z number budget adds (Err stop.Deep) spent now levels m m' kept kept' same full split deep lost none counted worn = (same, deep refl)
+caused z number budget adds (Err stop.Split) now levels m m' kept kept' same e = absurd (e.split refl)
+caused z number budget adds (Err stop.Empty) now levels m m' kept kept' same e = absurd (e.full refl)
+caused z number budget adds (Err stop.Worn) now levels m m' kept kept' same e = e.worn refl
+caused z number budget adds (Err stop.Deep) now levels m m' kept kept' same e = (same, e.deep refl)
+
+-- So the call is refused, given what was spent, and how many levels there are.
+abbrev pub HasRefused : {T : Type 0} → Sizes → Result T Stop → Spent → Result T Refusal → Type 0
+HasRefused z tried now r = (levels : ℕ) × (r ≡ refused_as tried now levels) × (levels ≡ z.levels)
 
 -- So it has by what the call comes to then.
-pub caused_as : {T : Type 0} (z : Sizes) (number budget : ℕ) (adds : Option (List ℕ)) (tried : Result T Stop) (r : Result T Refusal) (spent now : Spent)
-    (levels : ℕ) (m m' : MyTree) (kept kept' : Vec Kept Global) → r ≡ refused_as tried now levels → levels ≡ z.levels → (tried ≡ Err stop.Empty → ⊥)
-    → (tried ≡ Err stop.Split → ⊥) → (tried ≡ Err stop.Deep → IsFull z adds m'.0.upper.last (after m'.0.upper.seen []))
-    → (tried ≡ Err stop.Lost → budget ≤ total now) → (spent.lost ≡ 0) × (spent.helped ≡ 0) × (spent.passed ≡ 0) → IsPaid spent now m m'
-    → (tried ≡ Err stop.Worn → m'.0.worn ≡ m.0.worn + 1) → IfErr r (λ why. IsCaused z number budget adds why m kept m' kept')
-caused_as z number budget adds tried r spent now levels m m' kept kept' is same full split deep lost none counted worn =
-    subst (λ x. IfErr x (λ why. IsCaused z number budget adds why m kept m' kept')) (sym is)
-    (caused z number budget adds tried spent now levels m m' kept kept' same full split deep lost none counted worn)
+pub caused_as : {T : Type 0} (z : Sizes) (number budget : ℕ) (adds : Option (List ℕ)) (tried : Result T Stop) (r : Result T Refusal) (now : Spent)
+    (m m' : MyTree) (kept kept' : Vec Kept Global) → HasRefused z tried now r
+    → EndsSo z budget adds tried now m m' → IfErr r (λ why. IsCaused z number budget adds why m kept m' kept')
+caused_as z number budget adds tried r now m m' kept kept' refused e =
+    subst (λ x. IfErr x (λ why. IsCaused z number budget adds why m kept m' kept')) (sym refused.1)
+    (caused z number budget adds tried now refused.0 m m' kept kept' refused.2 e)
 
 -- What was added up is less than the budget, and so are the exchanges that were lost and the splits.
-unspent : (budget : ℕ) (spent now : Spent) (m m' : MyTree) → (spent.lost ≡ 0) × (spent.helped ≡ 0) × (spent.passed ≡ 0) → IsPaid spent now m m'
-    → total now < budget → IsUnspent budget m m'
-unspent budget spent now m m' none counted room = let zero = none.0 in let zero' = none.2 in let lost = counted.lost (omega arith) in
-    let passed = counted.passed (omega arith) in omega arith
+unspent : (budget : ℕ) (now : Spent) (m m' : MyTree) → HasSpentInAll now m m' → total now < budget → IsUnspent budget m m'
+unspent budget now m m' paid room = let none = paid.none in let counted = paid.counted in let zero = none.0 in let zero' = none.2 in
+    let lost = counted.lost (omega arith) in let passed = counted.passed (omega arith) in omega arith
 
 -- So has a refusal once rows were given back, of an attempt that found the head empty: the first one, or one behind another that did so.
-pub refill_caused : (z : Sizes) (number budget begun : ℕ) (adds : Option (List ℕ)) (why : Refusal) (spent now : Spent) (m n m' : MyTree)
+pub refill_caused : (z : Sizes) (number budget begun : ℕ) (adds : Option (List ℕ)) (why : Refusal) (now : Spent) (m n m' : MyTree)
     (kept kept' : Vec Kept Global)
-    → (spent.lost ≡ 0) × (spent.helped ≡ 0) × (spent.passed ≡ 0) → IsPaid spent now m m' → HasBegun begun (vec_len kept) m m'
+    → HasSpentInAll now m m' → HasBegun begun (vec_len kept) m m'
     → m.0.pin.looks ≤ n.0.pin.looks → IsRefill z.passes number budget begun now why n m' kept' → IsCaused z number budget adds why m kept m' kept'
-refill_caused z number budget begun adds (refusal.Busy s) spent now m n m' kept kept' none counted first before h =
+refill_caused z number budget begun adds (refusal.Busy s) now m n m' kept kept' paid first before h =
     subst (λ (x : Spent). (budget ≤ total x) × (x.lost ≡ min 4294967295 (losses m' - losses m)) × (x.helped ≡ 0)
     × (x.passed ≡ min 4294967295 (splits m' - splits m))) (sym h.0)
-    (let zero = none.0 in let zero' = none.2 in let same = h.0 in let enough : budget ≤ total now = subst (λ (x : Spent). budget ≤ total x) same h.1 in (
+    (let none = paid.none in let counted = paid.counted in let zero = none.0 in let zero' = none.2 in let same = h.0 in let enough : budget ≤ total now = subst (λ (x : Spent). budget ≤ total x) same h.1 in (
       enough,
       (let sum = counted.lost (omega arith) in omega arith),
       counted.helped ∙ none.1,
       (let sum = counted.passed (omega arith) in omega arith),
     ))
-refill_caused z number budget begun adds (refusal.Full cause) spent now m n m' kept kept' none counted first before h = (
+refill_caused z number budget begun adds (refusal.Full cause) now m n m' kept kept' paid first before h = (
   subst (λ k. HasBegun k (vec_len kept) m m') (sym h.0) first,
   ⊎_elim (λ (e : begun ≡ 0). inl (h.0 ∙ e)) (λ (l : cause.lag ≢ Nothing). inr l) h.1,
   (let more = h.2 in omega arith),
   h.3,
-  unspent budget spent now m m' none counted h.4,
+  unspent budget now m m' paid h.4,
 )
-refill_caused z number budget begun adds (refusal.Deep level) spent now m n m' kept kept' none counted first before h = absurd h
-refill_caused z number budget begun adds (refusal.Worn counter.PoolTag) spent now m n m' kept kept' none counted first before h = absurd h
-refill_caused z number budget begun adds (refusal.Worn counter.Epoch) spent now m n m' kept kept' none counted first before h = (
+refill_caused z number budget begun adds (refusal.Deep level) now m n m' kept kept' paid first before h = absurd h
+refill_caused z number budget begun adds (refusal.Worn counter.PoolTag) now m n m' kept kept' paid first before h = absurd h
+refill_caused z number budget begun adds (refusal.Worn counter.Epoch) now m n m' kept kept' paid first before h = (
   (begun, h.4, first),
   (let more = h.0 in omega arith),
   h.1,
   h.2,
   h.5,
-  unspent budget spent now m m' none counted h.3,
+  unspent budget now m m' paid h.3,
 )
-refill_caused z number budget begun adds (refusal.Worn counter.Sequence) spent now m n m' kept kept' none counted first before h = absurd h
+refill_caused z number budget begun adds (refusal.Worn counter.Sequence) now m n m' kept kept' paid first before h = absurd h
 
 -- What is known of a refusal is so still once it is counted.
 module _ (m m' m'' : MyTree) (counts : Counts) (kept kept' kept'' : Vec Kept Global)

@@ -1,5 +1,5 @@
 -- Which bases a call split.
-use Rattle.std.proofs.Common.{◌≡◌, ◌≢◌, ◌⊎◌, ℕ, ◌<◌, ◌≤◌, Bool, true, false, ℤ, List, [], ◌∷◌, ◌++◌, length, map, Result, Ok, Err, sym, refl, ap, ◌∙◌, subst, inl, inr, ⊎_elim, arith, append_assoc}
+use Rattle.std.proofs.Common.{◌≡◌, ◌≢◌, ◌⊎◌, ℕ, ◌<◌, ◌≤◌, Bool, true, false, List, [], ◌∷◌, ◌++◌, length, map, Result, Ok, Err, sym, refl, ap, ◌∙◌, subst, inl, inr, ⊎_elim, arith, append_assoc}
 use denote.Ref.{Bor}
 use Rattle.std.specs.declared.option.Option.{Option}
 use Rattle.std.specs.declared.option.Option.TheVariants.{Some}
@@ -34,10 +34,11 @@ use Rattle.ca_replace.specs.declared.attempting.Stop.{Stop}
 use Rattle.ca_replace.specs.declared.attempting.Stop.TheVariants as stop
 use Rattle.ca_replace.specs.declared.refusing.Refusal.{Refusal}
 use Rattle.ca_replace.specs.declared.refusing.Refusal.TheVariants as refusal
-use Rattle.ca_replace.specs.Adapting.{HasSettled, IsNew}
+use Rattle.ca_replace.specs.Adapting.{IsNew}
 use Rattle.ca_replace.specs.Attempting.{IsLooking, IsQuiet, come_to, refused_as, split_to}
 use Rattle.ca_replace.specs.Cutting.{AreCutFull, CutsBy, HasCut, HasCutAs, HasCutDue, HasCutFull, HasCutIf, HasCutSoFar, IsCutInTwo, IsFullFor}
 use Rattle.ca_replace.specs.Refusals.{outcome_of}
+use Rattle.ca_replace.proofs.Settling.{IsSettling}
 use Rattle.ca_replace.proofs.Growing.{settled_still}
 use Rattle.ca_replace.proofs.Showing.{looking, walked_quiet}
 use Rattle.ca_rows.specs.declared.sizes.Sizes.{Sizes}
@@ -150,14 +151,14 @@ tried_cut met z adds event edit word (Err norow.Empty) u w v h renewed then else
 tried_cut met z adds event edit word (Err norow.Worn) u w v h renewed then else = ap (λ (x : TreeView). x.cuts) (else (λ e. cc) ∙ h)
 
 -- So it is with what its exchange and what followed it came to, given that the pass knew as much of the tree at first as this one.
-pub settled_cut : (met : Met) (z : Sizes) (t : Tuning) (adds : Option (List ℕ)) (event : Event) (edit : Edit) (word : ℕ) (statistic : ℤ) (tried : Result Bool NoRow)
-    (r : Result (Unit {0}) Stop) (a b : Adapting) (k m m' m'' : MyTree) → m ≡ k → r ≡ come_to tried → HasTried event z tried m.0.upper m'.0.upper
-    → HasRenewed z met word edit tried m.0.upper m'.0.upper → HasSettled z t statistic tried a b m' m'' → HasCutDue z m'.0.upper.cuts m''.0.upper
-    → HasCut (λ (_ : Unit {0}). true) z adds r k.0.upper m''.0.upper
-settled_cut met z t adds event edit word statistic tried r a b k m m' m'' same is h renewed settled then = subst
-    (λ (x : Result (Unit {0}) Stop). HasCut (λ (_ : Unit {0}). true) z adds x k.0.upper m''.0.upper) (sym is)
-    (subst (λ (x : MyTree). HasCut (λ (_ : Unit {0}). true) z adds (come_to tried) x.0.upper m''.0.upper) same
-    (tried_cut met z adds event edit word tried m.0.upper m'.0.upper m''.0.upper h renewed then (λ n. settled_still z t statistic tried a b m' m'' n settled)))
+pub settled_cut : {z : Sizes} {t : Tuning} {tried : Result Bool NoRow} {r : Result (Unit {0}) Stop} {a b : Adapting} {k m m' m'' : MyTree}
+    (s : IsSettling z t tried r a b k m m' m'') (adds : Option (List ℕ)) → HasCutDue z m'.0.upper.cuts m''.0.upper
+    → HasCut (λ _. true) z adds r k.0.upper m''.0.upper
+settled_cut {z} {t} {tried} {r} {a} {b} {k} {m} {m'} {m''} s adds then = subst
+    (λ (x : Result (Unit {0}) Stop). HasCut (λ (_ : Unit {0}). true) z adds x k.0.upper m''.0.upper) (sym s.is)
+    (subst (λ (x : MyTree). HasCut (λ (_ : Unit {0}). true) z adds (come_to tried) x.0.upper m''.0.upper) s.same
+    (tried_cut s.met z adds s.event s.edit s.word tried m.0.upper m'.0.upper m''.0.upper s.entered s.renewed then
+    (λ n. settled_still z t s.statistic tried a b m' m'' n s.settled)))
 
 -- An attempt behind the look that it begins with.
 pub looked_cut : {T : Type 0} (edits : T → Bool) (z : Sizes) (adds : Option (List ℕ)) (r : Result T Stop) (m m' : MyTree) (v : TreeView) → IsQuiet m m'

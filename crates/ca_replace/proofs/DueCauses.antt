@@ -1,5 +1,5 @@
 -- Why a due split was not carried out: what was met since the update.
-use Rattle.std.proofs.Common.{◌≡◌, ℕ, ◌<◌, Bool, true, false, List, Result, Ok, Err, sym, refl, ap, ◌∙◌, subst, inl, inr, ⊎_elim, arith}
+use Rattle.std.proofs.Common.{◌≡◌, ℕ, Bool, true, false, List, Result, Ok, Err, sym, refl, ap, ◌∙◌, subst, inl, inr, ⊎_elim, arith}
 use denote.Ref.{Bor}
 use Rattle.ca_adapt.specs.declared.adapted.Adapted.{Adapted}
 use Rattle.ca_adapt.specs.declared.adapted.Adapted.TheVariants as adapted
@@ -7,7 +7,6 @@ use Rattle.ca_adapt.specs.declared.adapted.Why.{Why}
 use Rattle.ca_adapt.specs.declared.adapted.Why.TheVariants as why
 use Rattle.ca_adapt.specs.Splits.{IsSplitAs, IsNotSplitBy}
 use Rattle.ca_base.specs.declared.taking.NoRow.{NoRow}
-use Rattle.ca_base.specs.Counting.{losses}
 use Rattle.ca_model.specs.declared.outcome.Spent.{Spent}
 use Rattle.ca_node.specs.declared.cursor.Cursor.{Cursor}
 use Rattle.ca_node.specs.declared.cursor.Spot.TheVariants as spot

@@ -36,6 +36,7 @@ use Rattle.ca_replace.specs.declared.refusing.Refusal.TheVariants as refusal
 use Rattle.ca_replace.specs.Refusals.{outcome_of}
 use Rattle.ca_replace.specs.Adapting.{Adapts, Goes, HasGoneOn, HasLookedAgain, HasLostSince, HasSettled, HasTriedOnce, IsAdaptedBy, IsMoved, IsNew, IsReason, Leaves, LeavesAs, Waits}
 use Rattle.ca_replace.specs.Attempting.{HasStopped, HasTriedTo, IsPaid, IsQuiet, come_to, refused_as, splits}
+use Rattle.ca_replace.proofs.Settling.{IsSettling}
 use Rattle.ca_replace.proofs.Counted.{none_paid, paid_both, paid_of}
 use Rattle.ca_replace.proofs.Meeting.{further_on}
 use Rattle.ca_replace.proofs.Showing.{looking, stopped, tried_by, walked_further}
@@ -118,27 +119,6 @@ pub turn_waits : {T : Type 0} (edits : T → Bool) (z : Sizes) (t : Tuning) (a b
     → (r ≡ Err stop.Lost) ⊎ (r ≡ Err stop.Split) → HasGoneOn edits z t a b r u v → Waits a b u v
 turn_waits edits z t a b r u v e g = ⊎_elim (λ (l : r ≡ Err stop.Lost). stopped_waits edits z t a b r stop.Lost u v l g)
     (λ (s : r ≡ Err stop.Split). stopped_waits edits z t a b r stop.Split u v s g) e
-
--- What became of an exchange of a base with this word for its statistic, and of the new base.
-pub settled_gone : (met : Met) (z : Sizes) (t : Tuning) (event : Event) (edit : Edit) (statistic : ℤ) (word : ℕ) (tried : Result Bool NoRow) (a b : Adapting)
-    (u : TreeView) (m m' : MyTree) → HasTried event z tried u m.0.upper → HasRenewed z met word edit tried u m.0.upper
-    → IsMoved t (get_or (first_note u.notes).its 1 0) a.lost statistic → IsWordOf statistic word → HasSettled z t statistic tried a b m m'
-    → HasGoneOn (λ _. true) z t a b (come_to tried) u m'.0.upper
-settled_gone met z t event edit statistic word (Ok true) a b u m m' done h moved is s = let v = m'.0.upper in
-    let e : v.renewal ≡ renewal_of met u (edit_key edit) (first_note u.notes) (first_note m.0.upper.notes) = s.1.0 ∙ h.renewal in record {
-      one_more = ap (λ (r : Renewal). r.count) e;
-      lost = a.lost;
-      since = inl (refl, ap (λ (r : Renewal). r.lost) e);
-      moved = subst (λ (n : ℕ). IsMoved t n a.lost b.last.statistic) (sym (ap (λ (r : Renewal). get_or r.old.its 1 0) e))
-          (subst (λ (k : ℤ). IsMoved t (get_or (first_note u.notes).its 1 0) a.lost k) (sym s.0) moved);
-      word_is = subst (λ (n : ℕ). IsWordOf b.last.statistic n) (sym (ap (λ (r : Renewal). get_or r.new.its 1 0) e ∙ h.statistic_is))
-          (subst (λ (k : ℤ). IsWordOf k word) (sym s.0) is);
-      adapted = subst (λ (k : ℤ). IsAdaptedBy z t k v b.last.adapted) (sym s.0) s.1.1;
-    }
-settled_gone met z t event edit statistic word (Ok false) a b u m m' lost h moved is s = let w = ap (λ (x : MyTree). x.0.upper) s.2 ∙ lost in
-    (s.1, ap (λ (x : TreeView). x.renewal) w, let more = ap (λ (x : TreeView). x.lost) w in inr (s.0, omega arith))
-settled_gone met z t event edit statistic word (Err why) a b u m m' same h moved is s = let w = ap (λ (x : MyTree). x.0.upper) s.1 ∙ same in
-    (ap (λ (x : Adapting). x.last) s.0, ap (λ (x : TreeView). x.renewal) w, inl (ap (λ (x : Adapting). x.lost) s.0, ap (λ (x : TreeView). x.lost) w))
 
 -- What became of it, by the names that its parts have.
 pub settled_as : (z : Sizes) (t : Tuning) (statistic : ℤ) (tried x : Result Bool NoRow) (a b c : Adapting) (m m' m'' : MyTree) → tried ≡ x → b ≡ c
@@ -373,21 +353,40 @@ pub settled_tried : (z : Sizes) (event : TreeView → Event) (tried : Result Boo
 settled_tried z event tried r u u' w v same is k h f = subst (λ (x : Result (Unit {0}) Stop). HasTriedTo (λ _ e. e ≡ event u) z x u v) (sym is)
     (tried_then (λ _ e. e ≡ event u) z (come_to tried) u w v (tried_by z event tried (come_to tried) u u' w same refl k h) f)
 
-pub settled_on : (met : Met) (z : Sizes) (t : Tuning) (event : TreeView → Event) (edit : Edit) (statistic : ℤ) (word : ℕ) (tried : Result Bool NoRow)
-    (r : Result (Unit {0}) Stop) (a b : Adapting) (u u' : TreeView) (m m' : MyTree) → u' ≡ u → r ≡ come_to tried
-    → HasTried (event u') z tried u' m.0.upper → HasRenewed z met word edit tried u' m.0.upper → IsMoved t (get_or (first_note u.notes).its 1 0) a.lost statistic
-    → IsWordOf statistic word → HasSettled z t statistic tried a b m m' → HasGoneOn (λ (_ : Unit {0}). true) z t a b r u m'.0.upper
-settled_on met z t event edit statistic word tried r a b u u' m m' same is h renewed moved word_is s = subst
-    (λ (x : Result (Unit {0}) Stop). HasGoneOn (λ (_ : Unit {0}). true) z t a b x u m'.0.upper) (sym is)
-    (subst (λ (y : TreeView). HasGoneOn (λ (_ : Unit {0}). true) z t a b (come_to tried) y m'.0.upper) same
-    (settled_gone met z t (event u') edit statistic word tried a b u' m m' h renewed
-    (subst (λ (y : TreeView). IsMoved t (get_or (first_note y.notes).its 1 0) a.lost statistic) (sym same) moved) word_is s))
+pub settled_on : {z : Sizes} {t : Tuning} {tried : Result Bool NoRow} {r : Result (Unit {0}) Stop} {a b : Adapting} {k m m' m'' : MyTree}
+    (s : IsSettling z t tried r a b k m m' m'')
+    → IsMoved t (get_or (first_note k.0.upper.notes).its 1 0) a.lost s.statistic → IsWordOf s.statistic s.word
+    → HasGoneOn (λ (_ : Unit {0}). true) z t a b r k.0.upper m''.0.upper
+settled_on {z} {t} {tried} {r} {a} {b} {k} {m} {m'} {m''} s moved word_is = let same = ap (λ (x : MyTree). x.0.upper) s.same in
+    subst (λ (x : Result (Unit {0}) Stop). HasGoneOn (λ (_ : Unit {0}). true) z t a b x k.0.upper m''.0.upper) (sym s.is)
+    (subst (λ (y : TreeView). HasGoneOn (λ (_ : Unit {0}). true) z t a b (come_to tried) y m''.0.upper) same
+    (by tried s.entered s.renewed s.settled))
+  where
+    there : IsMoved t (get_or (first_note m.0.upper.notes).its 1 0) a.lost s.statistic
+    there = subst (λ (x : MyTree). IsMoved t (get_or (first_note x.0.upper.notes).its 1 0) a.lost s.statistic) (sym s.same) moved
 
-pub settled_paid : (met : Met) (z : Sizes) (event : Event) (edit : Edit) (word : ℕ) (tried : Result Bool NoRow) (a b c : Spent) (k m m' m'' : MyTree) → m ≡ k
-    → HasTried event z tried m.0.upper m'.0.upper → HasRenewed z met word edit tried m.0.upper m'.0.upper → IsSpent a b m m' → IsPaid b c m' m''
-    → IsPaid a c k m''
-settled_paid met z event edit word tried a b c k m m' m'' same h renewed spent paid = subst (λ (x : MyTree). IsPaid a c x m'') same
-    (paid_both a b c m m' m'' (paid_of a b m m' spent (tried_splits met z event edit word tried m.0.upper m'.0.upper h renewed)) paid)
+    by : (x : Result Bool NoRow) → HasTried s.event z x m.0.upper m'.0.upper → HasRenewed z s.met s.word s.edit x m.0.upper m'.0.upper
+        → HasSettled z t s.statistic x a b m' m'' → HasGoneOn (λ (_ : Unit {0}). true) z t a b (come_to x) m.0.upper m''.0.upper
+    by (Ok true) done h q = let u = m.0.upper in
+        let e : m''.0.upper.renewal ≡ renewal_of s.met u (edit_key s.edit) (first_note u.notes) (first_note m'.0.upper.notes) = q.1.0 ∙ h.renewal in
+        record {
+          one_more = ap (λ (x : Renewal). x.count) e;
+          lost = a.lost;
+          since = inl (refl, ap (λ (x : Renewal). x.lost) e);
+          moved = subst (λ (n : ℕ). IsMoved t n a.lost b.last.statistic) (sym (ap (λ (x : Renewal). get_or x.old.its 1 0) e))
+              (subst (λ (n : ℤ). IsMoved t (get_or (first_note u.notes).its 1 0) a.lost n) (sym q.0) there);
+          word_is = subst (λ (n : ℕ). IsWordOf b.last.statistic n) (sym (ap (λ (x : Renewal). get_or x.new.its 1 0) e ∙ h.statistic_is))
+              (subst (λ (n : ℤ). IsWordOf n s.word) (sym q.0) word_is);
+          adapted = subst (λ (n : ℤ). IsAdaptedBy z t n m''.0.upper b.last.adapted) (sym q.0) q.1.1;
+        }
+    by (Ok false) lost h q = let w = ap (λ (x : MyTree). x.0.upper) q.2 ∙ lost in let more = ap (λ (x : TreeView). x.lost) w in
+        (q.1, ap (λ (x : TreeView). x.renewal) w, inr (q.0, omega arith))
+    by (Err why) none h q = let w = ap (λ (x : MyTree). x.0.upper) q.1 ∙ none in
+        (ap (λ (x : Adapting). x.last) q.0, ap (λ (x : TreeView). x.renewal) w, inl (ap (λ (x : Adapting). x.lost) q.0, ap (λ (x : TreeView). x.lost) w))
+
+pub settled_paid : (a b c : Spent) (k m m' m'' : MyTree) → m ≡ k → splits m' ≡ splits m → IsSpent a b m m' → IsPaid b c m' m'' → IsPaid a c k m''
+settled_paid a b c k m m' m'' same still spent paid = subst (λ (x : MyTree). IsPaid a c x m'') same
+    (paid_both a b c m m' m'' (paid_of a b m m' spent still) paid)
 
 pub settled_found : (z : Sizes) (t : Tuning) (statistic : ℤ) (tried : Result Bool NoRow) (r : Result (Unit {0}) Stop) (a b : Adapting) (k m m' m'' : MyTree)
     → m ≡ k → r ≡ come_to tried → HasEnded tried m m' → HasSettled z t statistic tried a b m' m'' → HasStopped r k m''
@@ -433,10 +432,16 @@ gone_refused edits z t a b (Err stop.Empty) spent levels u v h = h
 gone_refused edits z t a b (Err stop.Worn) spent levels u v h = h
 gone_refused edits z t a b (Err stop.Deep) spent levels u v h = h
 
-pub refused_gone : {T : Type 0} (edits : T → Bool) (z : Sizes) (t : Tuning) (a b : Adapting) (tried : Result T Stop) (r : Result T Refusal) (spent : Spent)
-    (levels : ℕ) (u w v : TreeView) → v ≡ w → r ≡ refused_as tried spent levels → HasGoneOn edits z t a b tried u w → HasGoneOn edits z t a b r u v
-refused_gone {T} edits z t a b tried r spent levels u w v same is h = subst (λ (x : Result T Refusal). HasGoneOn edits z t a b x u v) (sym is)
-    (subst (λ (y : TreeView). HasGoneOn edits z t a b (refused_as tried spent levels) u y) (sym same) (gone_refused edits z t a b tried spent levels u w h))
+-- The call is refused by what its last attempt came to.
+abbrev pub IsRefusedAs : {T : Type 0} → Result T Stop → Result T Refusal → Type 0
+IsRefusedAs tried r = (spent : Spent) × (levels : ℕ) × (r ≡ refused_as tried spent levels)
+
+pub refused_gone : {T : Type 0} (edits : T → Bool) (z : Sizes) (t : Tuning) (a b : Adapting) (tried : Result T Stop) (r : Result T Refusal)
+    (u w v : TreeView) → v ≡ w → IsRefusedAs tried r → HasGoneOn edits z t a b tried u w
+    → HasGoneOn edits z t a b r u v
+refused_gone {T} edits z t a b tried r u w v same refused h = subst (λ (x : Result T Refusal). HasGoneOn edits z t a b x u v) (sym refused.2)
+    (subst (λ (y : TreeView). HasGoneOn edits z t a b (refused_as tried refused.0 refused.1) u y) (sym same)
+    (gone_refused edits z t a b tried refused.0 refused.1 u w h))
 
 -- What a call leaves of what the store keeps, by what its attempts came to.
 pub goes_leaves : (edited : Bool) (z : Sizes) (t : Tuning) (a b : Adapting) (u v : TreeView) → a.lost ≡ false → Goes edited z t a b u v

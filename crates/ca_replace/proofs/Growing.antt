@@ -37,6 +37,7 @@ use Rattle.ca_replace.specs.declared.refusing.Refusal.{Refusal}
 use Rattle.ca_replace.specs.Adapting.{HasSettled}
 use Rattle.ca_replace.specs.Attempting.{IsLooking, IsQuiet, HasTriedTo, come_to, refused_as, split_to}
 use Rattle.ca_replace.specs.Growing.{Grows, GrowsBy, IsSameTree, HasRoom, HasRoomFor, HasGrown, HasWaited, HasGrownSoFar}
+use Rattle.ca_replace.proofs.Settling.{IsSettling}
 use Rattle.ca_replace.proofs.OneHand.{seen_still}
 use Rattle.ca_rows.specs.declared.sizes.Sizes.{Sizes}
 use Rattle.ca_rows.specs.declared.view.Met.{Met}
@@ -250,18 +251,21 @@ tried_grown met z adds event edit word (Err norow.Empty) u w v l h renewed then 
 tried_grown met z adds event edit word (Err norow.Worn) u w v l h renewed then else = let e = else (λ e. cc) ∙ h in
     (ap (λ (x : TreeView). x.splits) e, ap (λ (x : TreeView). x.inventory) e)
 
-pub settled_grown : (met : Met) (z : Sizes) (t : Tuning) (adds : Option (List ℕ)) (event : Event) (edit : Edit) (word : ℕ) (statistic : ℤ) (tried : Result Bool NoRow)
-    (r : Result (Unit {0}) Stop) (a b : Adapting) (k m m' m'' : MyTree) (key : List ℕ) (cursor : Cursor) → m ≡ k → r ≡ come_to tried
-    → IsLooking z k.0.upper key cursor → HasTried event z tried m.0.upper m'.0.upper → HasRenewed z met word edit tried m.0.upper m'.0.upper
-    → HasSettled z t statistic tried a b m' m'' → (IsAlone z m'.0.upper → Grows 1 2 1 m'.0.upper m''.0.upper) → IsAlone z k.0.upper
-    → HasGrown z adds r k.0.upper m''.0.upper
-settled_grown met z t adds event edit word statistic tried r a b k m m' m'' key cursor same is l h renewed settled then alone = subst
-    (λ (x : Result (Unit {0}) Stop). HasGrown z adds x k.0.upper m''.0.upper) (sym is)
-    (subst (λ (x : MyTree). HasGrown z adds (come_to tried) x.0.upper m''.0.upper) same
-    (tried_grown met z adds event edit word tried m.0.upper m'.0.upper m''.0.upper
-    (subst (λ (x : MyTree). IsListed x.0.upper.inventory (first_note x.0.upper.notes)) (sym same) (l.listed alone)) h renewed
-    (then (alone.0, subst (λ (n : ℕ). 0 < n) (sym (tried_number z event tried m.0.upper m'.0.upper h ∙ ap (λ (x : MyTree). x.0.upper.number) same)) alone.1))
-    (λ n. settled_still z t statistic tried a b m' m'' n settled)))
+pub settled_grown : {z : Sizes} {t : Tuning} {tried : Result Bool NoRow} {r : Result (Unit {0}) Stop} {a b : Adapting} {k m m' m'' : MyTree}
+    (s : IsSettling z t tried r a b k m m' m'') (adds : Option (List ℕ))
+    → (IsAlone z k.0.upper → IsListed k.0.upper.inventory (first_note k.0.upper.notes))
+    → (IsAlone z m'.0.upper → Grows 1 2 1 m'.0.upper m''.0.upper) → IsAlone z k.0.upper → HasGrown z adds r k.0.upper m''.0.upper
+settled_grown {z} {t} {tried} {r} {a} {b} {k} {m} {m'} {m''} s adds listed then alone = subst
+    (λ (x : Result (Unit {0}) Stop). HasGrown z adds x k.0.upper m''.0.upper) (sym s.is)
+    (subst (λ (x : MyTree). HasGrown z adds (come_to tried) x.0.upper m''.0.upper) s.same
+    (tried_grown s.met z adds s.event s.edit s.word tried m.0.upper m'.0.upper m''.0.upper
+    (subst (λ (x : MyTree). IsListed x.0.upper.inventory (first_note x.0.upper.notes)) (sym s.same) (listed alone)) s.entered s.renewed
+    (then (
+      alone.0,
+      subst (λ (n : ℕ). 0 < n) (sym (tried_number z s.event tried m.0.upper m'.0.upper s.entered
+          ∙ ap (λ (x : MyTree). x.0.upper.number) s.same)) alone.1,
+    ))
+    (λ n. settled_still z t s.statistic tried a b m' m'' n s.settled)))
 
 -- An exchange of a base comes to no split of a full one.
 pub come_unsplit : (tried : Result Bool NoRow) (r : Result (Unit {0}) Stop) → r ≡ come_to tried → r ≢ Err stop.Split
@@ -412,6 +416,15 @@ stop_grown T U z adds why m m' v k l f q h a = by why (looked_grown {T = T} z ad
     by stop.Empty h = h
     by stop.Worn h = h
     by stop.Deep h = h
+
+-- One that stopped and split no full base, whichever key it was to add.
+pub stop_unsplit : (T U : Type 0) (z : Sizes) (adds other : Option (List ℕ)) (why : Stop) (u v : TreeView) → (why ≡ stop.Split → ⊥)
+    → HasGrown {T = T} z adds (Err why) u v → HasGrown {T = U} z other (Err why) u v
+stop_unsplit T U z adds other stop.Split u v none h = absurd (none refl)
+stop_unsplit T U z adds other stop.Lost u v none h = h
+stop_unsplit T U z adds other stop.Empty u v none h = h
+stop_unsplit T U z adds other stop.Worn u v none h = h
+stop_unsplit T U z adds other stop.Deep u v none h = h
 
 -- A call that edits nothing.
 pub entered_grown : (m m' m'' : MyTree) (event : Event) → IsQuiet m m' → m'' ≡ with_upper m' (entered m'.0.upper event) → Grows 1 3 1 m.0.upper m''.0.upper

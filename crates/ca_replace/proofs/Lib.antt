@@ -10,8 +10,10 @@ pub mod Growing
 pub mod Reclaiming
 pub mod Meeting
 pub mod OneHand
+pub mod Settling
 pub mod Showing
 pub mod Tallies
 pub mod Telling
+pub mod Tuning
 pub mod Turns
 pub mod Winning

@@ -1,5 +1,5 @@
 -- What calls on a key's object come to, as a store's contracts say it.
-use Rattle.std.proofs.Common.{◌≡◌, ℕ, Bool, true, false, List, None, Some, subst}
+use Rattle.std.proofs.Common.{◌≡◌, ℕ, Bool, true, false, List, None, Some, sym, subst}
 use denote.Ref.{Bor, MutBor}
 use denote.Param.Members.{Shared}
 use Rattle.arrayvec.specs.ArrayVec.{ArrayVec}
@@ -27,6 +27,15 @@ if_then P Q (outcome.Busy s) h p = tt
 if_then P Q (outcome.Full s) h p = tt
 if_then P Q (outcome.Deep s) h p = tt
 if_then P Q (outcome.Worn s) h p = tt
+
+-- It stays so where the object that was left is not emptied.
+pub if_still : {T : Type 0} (P : T → ArrayVec ℕ → Type 0) (o : Outcome T) (left now : ArrayVec ℕ) → IfDone o (λ _. now ≡ left)
+    → IfDone o (λ x. P x left) → IfDone o (λ x. P x now)
+if_still P (outcome.Done x) left now same p = subst (P x) (sym same) p
+if_still P (outcome.Busy s) left now same p = tt
+if_still P (outcome.Full s) left now same p = tt
+if_still P (outcome.Deep s) left now same p = tt
+if_still P (outcome.Worn s) left now same p = tt
 
 module _ (table : TableId) (z : Sizes) (u v : TreeView) (before : IsKnown z u) (behind : IsKnown z v) (key old : List ℕ) where
   met : (event e : Event) → e ≡ event → HasDone e u v → Meets (known_of table z u) (known_of table z v) event

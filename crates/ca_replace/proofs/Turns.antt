@@ -173,9 +173,9 @@ no_further u = record { number = refl; seen = starts_whole u.seen; log = refl; c
 
 -- A call that is done meets its definition.
 pub if_met : {T : Type 0} (event : T → Event) (table : TableId) (z : Sizes) (o : Outcome T) (u v : TreeView) → IsKnown z u → IsKnown z v
-    → IfDone o (λ x. HasDone (event x) u v)
+    → IfDone o (λ x. HasDoneAs (λ e. e ≡ event x) u v)
     → IfDone o (λ x. Meets (known_of table z u) (known_of table z v) (event x))
-if_met event table z (outcome.Done x) u v a b h = meets table z u v a b (event x) h
+if_met event table z (outcome.Done x) u v a b h = meets table z u v a b (event x) (subst (λ (e : Event). HasDone e u v) h.1 h.2)
 if_met event table z (outcome.Busy s) u v a b h = tt
 if_met event table z (outcome.Full s) u v a b h = tt
 if_met event table z (outcome.Deep s) u v a b h = tt

@@ -1,5 +1,5 @@
 -- A pass that is alone wins each exchange of a link.
-use Rattle.std.proofs.Common.{◌≡◌, ◌≢◌, ◌⊎◌, ℕ, ◌<◌, Bool, true, false, ℤ, List, Result, Ok, Err, sym, refl, ap, ◌∙◌, subst, ⊎_elim}
+use Rattle.std.proofs.Common.{◌≡◌, ◌≢◌, ◌⊎◌, ℕ, ◌<◌, Bool, true, false, List, Result, Ok, Err, sym, refl, ap, ◌∙◌, subst, ⊎_elim}
 use denote.Ref.{Bor}
 use Rattle.ca_adapt.specs.declared.adapted.Adapted.{Adapted}
 use Rattle.ca_adapt.specs.declared.adapted.Adapted.TheVariants as adapted
@@ -9,8 +9,6 @@ use Rattle.ca_adapt.specs.declared.tuning.Tuning.{Tuning}
 use Rattle.ca_adapt.specs.Splits.{IsSplitAs, IsNotSplitBy, IsPoolsLoss}
 use Rattle.ca_model.specs.declared.outcome.Outcome.{Outcome}
 use Rattle.ca_model.specs.declared.outcome.Spent.{Spent}
-use Rattle.ca_model.specs.Event.{Event}
-use Rattle.ca_model.specs.History.{Edit}
 use Rattle.ca_node.specs.declared.cursor.Cursor.{Cursor}
 use Rattle.ca_node.specs.declared.cursor.Spot.TheVariants as spot
 use Rattle.ca_node.specs.Inventory.{IsListed}
@@ -27,11 +25,11 @@ use Rattle.ca_replace.specs.declared.attempting.Stop.TheVariants as stop
 use Rattle.ca_replace.specs.declared.refusing.Refusal.{Refusal}
 use Rattle.ca_replace.specs.declared.refusing.Refusal.TheVariants as refusal
 use Rattle.ca_replace.specs.Adapting.{HasSettled, IsNew}
-use Rattle.ca_replace.specs.Attempting.{IsLooking, come_to, refused_as, split_to}
+use Rattle.ca_replace.specs.Attempting.{come_to, refused_as, split_to}
 use Rattle.ca_replace.specs.Refusals.{outcome_of}
 use Rattle.ca_replace.specs.Winning.{HasWon, HasWonAs, WinsAs}
+use Rattle.ca_replace.proofs.Settling.{IsSettling}
 use Rattle.ca_rows.specs.declared.sizes.Sizes.{Sizes}
-use Rattle.ca_rows.specs.declared.view.Met.{Met}
 use Rattle.ca_rows.specs.Told.{met_of}
 
 -- The walk behind an update comes to the new base: it is listed, and has the key.
@@ -84,36 +82,34 @@ room_won edits many attempt (Ok false) u v won h = absurd (won refl)
 room_won edits many attempt (Err why) u v won h = ap (λ (x : TreeView). x.lost) h
 
 -- What an attempt comes to by its exchange, given what followed.
-pub settled_won : (met : Met) (z : Sizes) (t : Tuning) (event : Event) (edit : Edit) (word : ℕ) (statistic : ℤ) (tried : Result Bool NoRow)
-    (r : Result (Unit {0}) Stop) (a b : Adapting) (k m m' m'' : MyTree) (key : List ℕ) (cursor : Cursor) → m ≡ k → r ≡ come_to tried
-    → IsLooking z k.0.upper key cursor → HasTried event z tried m.0.upper m'.0.upper → HasRenewed z met word edit tried m.0.upper m'.0.upper
-    → HasSettled z t statistic tried a b m' m''
+pub settled_won : {z : Sizes} {t : Tuning} {tried : Result Bool NoRow} {r : Result (Unit {0}) Stop} {a b : Adapting} {k m m' m'' : MyTree}
+    (s : IsSettling z t tried r a b k m m' m'') → (IsAlone z k.0.upper → IsListed k.0.upper.inventory (first_note k.0.upper.notes))
     → (IsAlone z m.0.upper → IsListed m.0.upper.inventory (first_note m.0.upper.notes) → tried ≢ Ok false)
     → (IsAlone z m'.0.upper → tried ≡ Ok true → (m''.0.upper.lost ≡ m'.0.upper.lost) × (m''.0.upper.last.row ≡ m''.0.upper.renewal.new.row))
     → IsAlone z k.0.upper → HasWonAs (λ _. true) r k.0.upper m''.0.upper
-settled_won met z t event edit word statistic tried r a b k m m' m'' key cursor same is l h renewed settled won then alone = subst
-    (λ (x : Result (Unit {0}) Stop). HasWonAs (λ _. true) x k.0.upper m''.0.upper) (sym is)
-    (subst (λ (x : MyTree). HasWonAs {T = Unit {0}} (λ _. true) (come_to tried) x.0.upper m''.0.upper) same
-    (by tried h renewed settled (won (subst (λ (x : MyTree). IsAlone z x.0.upper) (sym same) alone)
-    (subst (λ (x : MyTree). IsListed x.0.upper.inventory (first_note x.0.upper.notes)) (sym same) (l.listed alone))) then))
+settled_won {z} {t} {tried} {r} {a} {b} {k} {m} {m'} {m''} s listed won then alone = subst
+    (λ (x : Result (Unit {0}) Stop). HasWonAs (λ _. true) x k.0.upper m''.0.upper) (sym s.is)
+    (subst (λ (x : MyTree). HasWonAs {T = Unit {0}} (λ _. true) (come_to tried) x.0.upper m''.0.upper) s.same
+    (by tried s.entered s.renewed s.settled (won (subst (λ (x : MyTree). IsAlone z x.0.upper) (sym s.same) alone)
+    (subst (λ (x : MyTree). IsListed x.0.upper.inventory (first_note x.0.upper.notes)) (sym s.same) (listed alone))) then))
   where
     still : (x : TreeView) → x ≡ m.0.upper → m''.0.upper ≡ x → m''.0.upper.lost ≡ m.0.upper.lost
     still x e f = ap (λ (y : TreeView). y.lost) (f ∙ e)
 
-    by : (tried : Result Bool NoRow) → HasTried event z tried m.0.upper m'.0.upper → HasRenewed z met word edit tried m.0.upper m'.0.upper
-        → HasSettled z t statistic tried a b m' m'' → tried ≢ Ok false
-        → (IsAlone z m'.0.upper → tried ≡ Ok true → (m''.0.upper.lost ≡ m'.0.upper.lost) × (m''.0.upper.last.row ≡ m''.0.upper.renewal.new.row))
-        → HasWonAs {T = Unit {0}} (λ _. true) (come_to tried) m.0.upper m''.0.upper
-    by (Ok true) h renewed s won then = let same_number = h.0.number in
-        let w = then (alone.0, subst (λ (n : ℕ). 0 < n) (sym (same_number ∙ ap (λ (x : MyTree). x.0.upper.number) same)) alone.1) refl in (
+    by : (x : Result Bool NoRow) → HasTried s.event z x m.0.upper m'.0.upper → HasRenewed z s.met s.word s.edit x m.0.upper m'.0.upper
+        → HasSettled z t s.statistic x a b m' m'' → x ≢ Ok false
+        → (IsAlone z m'.0.upper → x ≡ Ok true → (m''.0.upper.lost ≡ m'.0.upper.lost) × (m''.0.upper.last.row ≡ m''.0.upper.renewal.new.row))
+        → HasWonAs {T = Unit {0}} (λ _. true) (come_to x) m.0.upper m''.0.upper
+    by (Ok true) h renewed q won then = let same_number = h.0.number in
+        let w = then (alone.0, subst (λ (n : ℕ). 0 < n) (sym (same_number ∙ ap (λ (x : MyTree). x.0.upper.number) s.same)) alone.1) refl in (
           w.0 ∙ renewed.same_lost,
-          ap (λ (q : Renewal). q.lost) (s.1.0 ∙ renewed.renewal),
+          ap (λ (x : Renewal). x.lost) (q.1.0 ∙ renewed.renewal),
           w.1,
         )
-    by (Ok false) h renewed s won then = absurd (won refl)
-    by (Err norow.Lost) h renewed s won then = still m'.0.upper h (ap (λ (x : MyTree). x.0.upper) s.1)
-    by (Err norow.Empty) h renewed s won then = still m'.0.upper h (ap (λ (x : MyTree). x.0.upper) s.1)
-    by (Err norow.Worn) h renewed s won then = still m'.0.upper h (ap (λ (x : MyTree). x.0.upper) s.1)
+    by (Ok false) h renewed q won then = absurd (won refl)
+    by (Err norow.Lost) h renewed q won then = still m'.0.upper h (ap (λ (x : MyTree). x.0.upper) q.1)
+    by (Err norow.Empty) h renewed q won then = still m'.0.upper h (ap (λ (x : MyTree). x.0.upper) q.1)
+    by (Err norow.Worn) h renewed q won then = still m'.0.upper h (ap (λ (x : MyTree). x.0.upper) q.1)
 
 -- Attempts behind others that lost nothing.
 pub won_on : (edited : Bool) (u w v : TreeView) → w.lost ≡ u.lost → HasWon edited w v → HasWon edited u v

@@ -1,5 +1,5 @@
 -- Attempts of a call: each looks at the tree anew.
-use Rattle.std.specs.Prelude.{◌≡◌, ℕ, ◌+◌, ◌-◌, ◌<◌, ◌≤◌, min, Bool, true, false, List, [], length, map, slice_range, None, Some, Result, Ok, Err}
+use Rattle.std.specs.Prelude.{◌≡◌, ℕ, ◌+◌, ◌-◌, ◌<◌, ◌≤◌, min, Bool, true, false, List, [], map, None, Some, Result, Ok, Err}
 use Rattle.ca_model.specs.declared.outcome.Counter.TheVariants as counter
 use Rattle.ca_model.specs.declared.outcome.Outcome.{Outcome}
 use Rattle.ca_model.specs.declared.outcome.Outcome.TheVariants as outcome
@@ -132,7 +132,3 @@ IfDeep (outcome.Busy s) P = Unit {0}
 IfDeep (outcome.Full s) P = Unit {0}
 IfDeep (outcome.Deep s) P = P
 IfDeep (outcome.Worn s) P = Unit {0}
-
--- The object has its key between these bytes.
-abbrev pub HasKeyAt : ℕ → List ℕ → ℕ → ℕ → Type 0
-HasKeyAt keypos object key_at key_end = ((key_at ≤ key_end) × (key_end ≤ length object)) × IsPair keypos (slice_range object key_at key_end, object)

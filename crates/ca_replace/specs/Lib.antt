@@ -9,4 +9,5 @@ pub mod Refusals
 pub mod Resting
 pub mod StoreView
 pub mod Tells
+pub mod Turning
 pub mod Winning

@@ -1,7 +1,6 @@
 //! What follows an update: the statistic of its new base, and what is due to it.
 ghost use Rattle.std.specs.Prelude.{◌≡◌, ◌≢◌, ◌↔◌, ◌<◌, Err, IsTrue, Ok, true, slice_index};
 ghost use Rattle.ca_adapt.specs.declared.adapted.Adapted.TheVariants.{Split as IsSplit};
-ghost use Rattle.ca_adapt.specs.Tuned.{IsTuned};
 ghost use Rattle.ca_base.specs.Finding.{IsReadable};
 ghost use Rattle.ca_base.specs.Progress.{IsFurther};
 ghost use Rattle.ca_node.specs.Told.{IsAlone, IsKnown};
@@ -17,10 +16,11 @@ ghost use Rattle.ca_node.specs.TreePasses.{tree_of};
 ghost use Rattle.ca_base.specs.Readiness.{IsReady, StaysReady};
 
 use crate::attempting::{Stop, outcome_of};
-use ca_adapt::{Adapted, Due, Tuning, statistic_of, try_split};
+use crate::tree::Tree;
+use ca_adapt::{Adapted, Due, statistic_of, try_split};
 use ca_base::{NoRow, statistic_word};
 use ca_model::Spent;
-use ca_node::{Spot, TreePass, TreeSpace, walk};
+use ca_node::{Spot, TreePass, walk};
 
 /// What a store keeps of its last update: the new base's statistic, and what was done about that base.
 #[derive(Clone, Copy)]
@@ -36,60 +36,63 @@ pub(crate) struct Adapting {
     pub(crate) last: Last,
 }
 
+/// What a call's attempts hand on: what they keep, and what they spent.
+#[derive(Clone, Copy)]
+pub(crate) struct Course {
+    pub(crate) adapting: Adapting,
+    pub(crate) spent: Spent,
+}
+
+/// A base that an update was to put in place: the update's key, and the base's row.
+#[derive(Clone, Copy)]
+pub(crate) struct Placed<'a> {
+    pub(crate) key: &'a [u8],
+    pub(crate) row: u32,
+}
+
 /// The statistic of the base that an update puts in the place of this one, which the pass was shown.
-pub(crate) fn next_statistic(
-    space: &TreeSpace,
-    pass: &mut TreePass,
-    tuning: &Tuning,
-    base: u32,
-    lost: bool,
-) -> i32
-    requires reading { IsReading space.now pass.old }
-    requires tuned { IsTuned (sizes space.now) tuning.now }
-    requires readable { (note : Note) × IsReadable (sizes space.now) (tree_of pass.old) base note }
+pub(crate) fn next_statistic(tree: &Tree, pass: &mut TreePass, base: u32, lost: bool) -> i32
+    requires reading { IsReading tree.now.space pass.old }
+    requires readable { (note : Note) × IsReadable (sizes tree.now.space) (tree_of pass.old) base note }
     ensures frame { OnlyReads pass.old pass.new }
-    ensures moved { (note : Note) → IsReadable (sizes space.now) (tree_of pass.old) base note
-        → IsMoved tuning.now (slice_index note.its 1) lost result }
+    ensures moved { (note : Note) → IsReadable (sizes tree.now.space) (tree_of pass.old) base note
+        → IsMoved tree.now.tuning (slice_index note.its 1) lost result }
 {
-    let word = statistic_word(space, pass, base);
-    tuning.statistic_after(statistic_of(word), lost)
+    let word = statistic_word(&tree.space, pass, base);
+    tree.tuning.statistic_after(statistic_of(word), lost)
 }
 
 /// What an attempt comes to, by what became of its exchange of a base. Where that was won, the new base was shown last; then what is due to it by
 /// its statistic is done. Where it was lost, that is kept.
 pub(crate) fn settle(
-    space: &TreeSpace,
+    tree: &Tree,
     pass: &mut TreePass,
-    tuning: &Tuning,
-    key: &[u8],
-    placed: u32,
+    placed: &Placed<'_>,
     statistic: i32,
     tried: Result<bool, NoRow>,
-    adapting: &mut Adapting,
-    spent: &mut Spent,
+    course: &mut Course,
 ) -> Result<(), Stop>
-    requires ready { IsReady space.now pass.old }
-    requires tuned { IsTuned (sizes space.now) tuning.now }
-    requires known { IsKnown (sizes space.now) (tree_of pass.old) }
-    requires placed { tried ≡ Ok true → IsNew placed key.now (met_of (known pass.old)) (tree_of pass.old) }
-    ensures frame { StaysReady space.now pass.old pass.new }
+    requires ready { IsReady tree.now.space pass.old }
+    requires known { IsKnown (sizes tree.now.space) (tree_of pass.old) }
+    requires placed { tried ≡ Ok true → IsNew placed.now.row placed.now.key.now (met_of (known pass.old)) (tree_of pass.old) }
+    ensures frame { StaysReady tree.now.space pass.old pass.new }
     ensures come { result ≡ come_to tried }
     ensures deep { result ≢ Err IsDeep }
-    ensures further { IsFurther (tree_of pass.old) (tree_of pass.new) × IsKnown (sizes space.now) (tree_of pass.new) }
-    ensures met { tried ≡ Ok true → IsMetAs adapting.new.last.adapted (met_of (known pass.new)) (tree_of pass.new) }
-    ensures settled { HasSettled (sizes space.now) tuning.now statistic tried adapting.old adapting.new (known pass.old) (known pass.new) }
-    ensures counted { IsPaid spent.old spent.new (known pass.old) (known pass.new) }
-    ensures grows { IsAlone (sizes space.now) (tree_of pass.old) → Grows 1 2 1 (tree_of pass.old) (tree_of pass.new) }
-    ensures won { IsAlone (sizes space.now) (tree_of pass.old) → tried ≡ Ok true → ((tree_of pass.new).lost ≡ (tree_of pass.old).lost)
+    ensures further { IsFurther (tree_of pass.old) (tree_of pass.new) × IsKnown (sizes tree.now.space) (tree_of pass.new) }
+    ensures met { tried ≡ Ok true → IsMetAs course.new.adapting.last.adapted (met_of (known pass.new)) (tree_of pass.new) }
+    ensures settled { HasSettled (sizes tree.now.space) tree.now.tuning statistic tried course.old.adapting course.new.adapting (known pass.old) (known pass.new) }
+    ensures counted { IsPaid course.old.spent course.new.spent (known pass.old) (known pass.new) }
+    ensures grows { IsAlone (sizes tree.now.space) (tree_of pass.old) → Grows 1 2 1 (tree_of pass.old) (tree_of pass.new) }
+    ensures won { IsAlone (sizes tree.now.space) (tree_of pass.old) → tried ≡ Ok true → ((tree_of pass.new).lost ≡ (tree_of pass.old).lost)
         × ((tree_of pass.new).last.row ≡ (tree_of pass.new).renewal.new.row) }
-    ensures cut { HasCutDue (sizes space.now) (tree_of pass.old).cuts (tree_of pass.new) }
+    ensures cut { HasCutDue (sizes tree.now.space) (tree_of pass.old).cuts (tree_of pass.new) }
 {
     match tried {
         Ok(true) => {
-            let adapted = adapt(space, pass, tuning, key, placed, statistic, spent);
-            adapting.last = Last { statistic, adapted };
+            let adapted = adapt(tree, pass, placed, statistic, &mut course.spent);
+            course.adapting.last = Last { statistic, adapted };
         }
-        Ok(false) => adapting.lost = true,
+        Ok(false) => course.adapting.lost = true,
         Err(_) => {}
     }
     outcome_of(tried)
@@ -97,61 +100,51 @@ pub(crate) fn settle(
 
 // Does what is due to a base that was just put in place, which has this statistic. A due join isn't tried as yet.
 fn adapt(
-    space: &TreeSpace,
+    tree: &Tree,
     pass: &mut TreePass,
-    tuning: &Tuning,
-    key: &[u8],
-    placed: u32,
+    placed: &Placed<'_>,
     statistic: i32,
     spent: &mut Spent,
 ) -> Adapted
-    requires ready { IsReady space.now pass.old }
-    requires tuned { IsTuned (sizes space.now) tuning.now }
-    requires known { IsKnown (sizes space.now) (tree_of pass.old) }
-    requires placed { IsNew placed key.now (met_of (known pass.old)) (tree_of pass.old) }
-    ensures frame { StaysReady space.now pass.old pass.new }
-    ensures further { IsFurther (tree_of pass.old) (tree_of pass.new) × IsKnown (sizes space.now) (tree_of pass.new) }
+    requires ready { IsReady tree.now.space pass.old }
+    requires known { IsKnown (sizes tree.now.space) (tree_of pass.old) }
+    requires placed { IsNew placed.now.row placed.now.key.now (met_of (known pass.old)) (tree_of pass.old) }
+    ensures frame { StaysReady tree.now.space pass.old pass.new }
+    ensures further { IsFurther (tree_of pass.old) (tree_of pass.new) × IsKnown (sizes tree.now.space) (tree_of pass.new) }
     ensures met { IsMetAs result (met_of (known pass.new)) (tree_of pass.new) }
-    ensures adapted { HasAdapted (sizes space.now) tuning.now statistic result (tree_of pass.old) (tree_of pass.new) }
+    ensures adapted { HasAdapted (sizes tree.now.space) tree.now.tuning statistic result (tree_of pass.old) (tree_of pass.new) }
     ensures counted { IsPaid spent.old spent.new (known pass.old) (known pass.new) }
-    ensures grows { IsAlone (sizes space.now) (tree_of pass.old) → Grows 1 2 1 (tree_of pass.old) (tree_of pass.new) }
-    ensures won { IsAlone (sizes space.now) (tree_of pass.old) → ((tree_of pass.new).lost ≡ (tree_of pass.old).lost)
+    ensures grows { IsAlone (sizes tree.now.space) (tree_of pass.old) → Grows 1 2 1 (tree_of pass.old) (tree_of pass.new) }
+    ensures won { IsAlone (sizes tree.now.space) (tree_of pass.old) → ((tree_of pass.new).lost ≡ (tree_of pass.old).lost)
         × ((tree_of pass.new).last.row ≡ (tree_of pass.new).renewal.new.row) }
-    ensures cut { HasCutDue (sizes space.now) (tree_of pass.old).cuts (tree_of pass.new) }
+    ensures cut { HasCutDue (sizes tree.now.space) (tree_of pass.old).cuts (tree_of pass.new) }
 {
-    match tuning.due(statistic) {
-        Due::Split => split_again(space, pass, tuning, key, placed, spent),
+    match tree.tuning.due(statistic) {
+        Due::Split => split_again(tree, pass, placed, spent),
         Due::Nothing | Due::Join => Adapted::Stay,
     }
 }
 
 // Walks to the key anew, and tries to split the base that it comes to, where that is the one which was just put in place.
-fn split_again(
-    space: &TreeSpace,
-    pass: &mut TreePass,
-    tuning: &Tuning,
-    key: &[u8],
-    placed: u32,
-    spent: &mut Spent,
-) -> Adapted
-    requires ready { IsReady space.now pass.old }
-    requires tuned { IsTuned (sizes space.now) tuning.now }
-    requires placed { IsNew placed key.now (met_of (known pass.old)) (tree_of pass.old) }
-    ensures frame { StaysReady space.now pass.old pass.new }
-    ensures further { IsFurther (tree_of pass.old) (tree_of pass.new) × IsKnown (sizes space.now) (tree_of pass.new) }
+fn split_again(tree: &Tree, pass: &mut TreePass, placed: &Placed<'_>, spent: &mut Spent) -> Adapted
+    requires ready { IsReady tree.now.space pass.old }
+    requires placed { IsNew placed.now.row placed.now.key.now (met_of (known pass.old)) (tree_of pass.old) }
+    ensures frame { StaysReady tree.now.space pass.old pass.new }
+    ensures further { IsFurther (tree_of pass.old) (tree_of pass.new) × IsKnown (sizes tree.now.space) (tree_of pass.new) }
     ensures met { IsMetAs result (met_of (known pass.new)) (tree_of pass.new) }
-    ensures tried { HasLookedAgain (sizes space.now) result (tree_of pass.old) (tree_of pass.new) }
+    ensures tried { HasLookedAgain (sizes tree.now.space) result (tree_of pass.old) (tree_of pass.new) }
     ensures counted { IsPaid spent.old spent.new (known pass.old) (known pass.new) }
-    ensures grows { IsAlone (sizes space.now) (tree_of pass.old) → Grows 1 2 1 (tree_of pass.old) (tree_of pass.new) }
-    ensures won { IsAlone (sizes space.now) (tree_of pass.old) → ((tree_of pass.new).lost ≡ (tree_of pass.old).lost)
+    ensures grows { IsAlone (sizes tree.now.space) (tree_of pass.old) → Grows 1 2 1 (tree_of pass.old) (tree_of pass.new) }
+    ensures won { IsAlone (sizes tree.now.space) (tree_of pass.old) → ((tree_of pass.new).lost ≡ (tree_of pass.old).lost)
         × ((tree_of pass.new).last.row ≡ (tree_of pass.new).renewal.new.row) }
-    ensures cut { HasCutDue (sizes space.now) (tree_of pass.old).cuts (tree_of pass.new) }
+    ensures cut { HasCutDue (sizes tree.now.space) (tree_of pass.old).cuts (tree_of pass.new) }
 {
-    let cursor = walk(space, pass, Spot::At(key));
-    if cursor.base != placed {
+    let space = &tree.space;
+    let cursor = walk(space, pass, Spot::At(placed.key));
+    if cursor.base != placed.row {
         return Adapted::Stay;
     }
-    let adapted = try_split(space, pass, cursor, tuning, spent);
+    let adapted = try_split(space, pass, cursor, &tree.tuning, spent);
     if was_split(&adapted) {
         spent.passed = spent.passed.saturating_add(1);
     }

@@ -1,35 +1,36 @@
 //! Attempts of a call that edits.
-ghost use Rattle.std.specs.Prelude.{◌≡◌, ◌≢◌, ◌<◌, ◌≤◌, ◌↔◌, ℕ, Bool, Err, List, None, Ok, OnOk, Some, [], false, length, map, slice_range, true, IsTrue};
+ghost use Rattle.std.specs.Prelude.{◌≡◌, ◌≢◌, ◌<◌, ◌≤◌, ◌↔◌, ℕ, Bool, Err, List, None, Ok, OnOk, Some, [], false, length, map, true, IsTrue};
 ghost use Rattle.std.specs.declared.option.Option.{Option};
 ghost use Rattle.ca_model.proofs.Places.{IsPlace};
 ghost use Rattle.ca_model.specs.Event.{Event, Remove};
 ghost use Rattle.ca_model.specs.History.{after};
-ghost use Rattle.ca_model.specs.StoreMap.{IsPair};
 ghost use Rattle.ca_node.specs.Row.{pair};
 ghost use Rattle.ca_replace.specs.declared.attempting.Stop.TheVariants.{Deep as IsDeep, Split as IsSplit};
-ghost use Rattle.ca_replace.specs.Adapting.{HasGoneOn, MeetsAs, Waits};
+ghost use Rattle.ca_replace.specs.Adapting.{Waits};
 ghost use Rattle.ca_replace.specs.Causes.{IsFull};
 ghost use Rattle.ca_replace.specs.Growing.{HasGrown};
 ghost use Rattle.ca_replace.specs.Winning.{HasWonAs};
 ghost use Rattle.ca_replace.specs.Cutting.{HasCut, IsFullFor};
 ghost use Rattle.ca_replace.specs.Attempting.{IsLooking, HasFetched, HasTriedTo, come_to, split_to, HasStopped, IsPaid, IsQuiet};
-ghost use Rattle.ca_adapt.specs.Tuned.{IsTuned};
 ghost use Rattle.ca_node.specs.Tallied.{IsTallied};
 ghost use Rattle.ca_node.specs.Told.{IsAlone, IsKnown};
 ghost use Rattle.ca_base.specs.Progress.{IsFurther};
-ghost use Rattle.ca_base.specs.Putting.{object_at, IsRoom, IsFor, put_event};
+ghost use Rattle.ca_base.specs.Putting.{object_at, IsRoom, IsFor};
+ghost use Rattle.ca_base.specs.Targets.{IsKeyed, event_of, key_in};
 ghost use Rattle.ca_rows.specs.declared.sizes.Sizes.{Sizes};
 ghost use Rattle.ca_rows.specs.Calls.{IsSame};
 ghost use Rattle.ca_rows.specs.Told.{met_of};
+ghost use Rattle.ca_replace.specs.Turning.{IsTurn};
 ghost use Rattle.ca_rows.specs.Passes.{IsReading, sizes, known, view};
 ghost use Rattle.ca_node.specs.TreePasses.{tree_of};
 ghost use Rattle.ca_base.specs.Readiness.{IsReady, StaysReady, shown_last};
 
-use crate::adapting::{Adapting, next_statistic, settle};
+use crate::adapting::{Course, Placed, next_statistic, settle};
 use crate::looking::copy_at;
-use ca_adapt::{Tuning, first_attempt, word_of};
-use ca_base::{NoRow, Putting, count, put_at, remove_at, search, split_at};
-use ca_model::{Code, Spent};
+use crate::tree::Tree;
+use ca_adapt::{first_attempt, word_of};
+use ca_base::{Insertion, NoRow, Removal, Target, count, put_at, remove_at, search, split_at};
+use ca_model::Code;
 use ca_node::{Cursor, Spot, TreePass, TreeSpace, walk};
 
 /// Why an attempt came to nothing.
@@ -73,30 +74,20 @@ pub(crate) trait Attempt {
     /// One attempt, of a pass that is pinned and holds no row.
     fn attempt(
         &self,
-        space: &TreeSpace,
+        tree: &Tree,
         pass: &mut TreePass,
-        tuning: &Tuning,
         left: &mut Self::Left,
         room: &mut Self::Room,
-        adapting: &mut Adapting,
-        spent: &mut Spent,
+        course: &mut Course,
     ) -> Result<Self::Answer, Stop>
-        requires ready { IsReady space.now pass.old }
-        requires tuned { IsTuned (sizes space.now) tuning.now }
-        requires may { may self.now (sizes space.now) }
-        requires known { IsKnown (sizes space.now) (tree_of pass.old) }
-        ensures frame { StaysReady space.now pass.old pass.new }
-        ensures tried { HasTriedTo (λ answer. tells self.now answer left.new) (sizes space.now) result (tree_of pass.old) (tree_of pass.new) }
-        ensures deep { result ≡ Err IsDeep → IsFull (sizes space.now) (adds self.now) (tree_of pass.new).last (after (tree_of pass.new).seen []) }
-        ensures met_as { MeetsAs (edits self.now) adapting.new.last result (met_of (known pass.new)) (tree_of pass.new) }
-        ensures gone_on { HasGoneOn (edits self.now) (sizes space.now) tuning.now adapting.old adapting.new result (tree_of pass.old)
-            (tree_of pass.new) }
-        ensures counted { IsPaid spent.old spent.new (known pass.old) (known pass.new) }
-        ensures found { HasStopped result (known pass.old) (known pass.new) }
-        ensures grown { IsAlone (sizes space.now) (tree_of pass.old)
-            → HasGrown (sizes space.now) (adds self.now) result (tree_of pass.old) (tree_of pass.new) }
-        ensures won { IsAlone (sizes space.now) (tree_of pass.old) → HasWonAs (edits self.now) result (tree_of pass.old) (tree_of pass.new) }
-        ensures cut { HasCut (edits self.now) (sizes space.now) (adds self.now) result (tree_of pass.old) (tree_of pass.new) };
+        requires ready { IsReady tree.now.space pass.old }
+        requires may { may self.now (sizes tree.now.space) }
+        requires known { IsKnown (sizes tree.now.space) (tree_of pass.old) }
+        ensures frame { StaysReady tree.now.space pass.old pass.new }
+        ensures tried { HasTriedTo (λ answer. tells self.now answer left.new) (sizes tree.now.space) result (tree_of pass.old) (tree_of pass.new) }
+        ensures deep { result ≡ Err IsDeep → IsFull (sizes tree.now.space) (adds self.now) (tree_of pass.new).last (after (tree_of pass.new).seen []) }
+        ensures turn { IsTurn (edits self.now) (adds self.now) (sizes tree.now.space) tree.now.tuning course.old course.new (met_of (known pass.new)) result
+            (known pass.old) (known pass.new) };
 }
 
 /// The base that has the key, and the key's place among its objects. It is shown to the pass, which has seen the whole history then.
@@ -150,105 +141,83 @@ pub(crate) fn fetch(
 
 /// Puts an object at its key's place in the base that was shown last, where there is room; else it splits the base, if that isn't at the last level.
 pub(crate) fn put_there(
-    space: &TreeSpace,
+    tree: &Tree,
     pass: &mut TreePass,
-    tuning: &Tuning,
     cursor: Cursor,
-    place: Result<u32, u32>,
-    why: Putting,
-    object: &[u8],
-    key_at: usize,
-    key_end: usize,
-    adapting: &mut Adapting,
-    spent: &mut Spent,
+    insertion: &Insertion<'_>,
+    course: &mut Course,
 ) -> Result<(), Stop>
-    requires ready { IsReady space.now pass.old }
-    requires tuned { IsTuned (sizes space.now) tuning.now }
-    requires looking { IsLooking (sizes space.now) (tree_of pass.old) (slice_range object.now key_at key_end) cursor }
-    requires within { (key_at ≤ key_end) × (key_end ≤ length object.now) }
-    requires pair { IsPair (sizes space.now).keypos (slice_range object.now key_at key_end, object.now) }
-    requires place { IsPlace (map pair (shown_last pass.old).objects) (slice_range object.now key_at key_end) place }
-    requires call { IsFor why place }
-    ensures frame { StaysReady space.now pass.old pass.new }
-    ensures tried { HasTriedTo (λ _ event. event ≡ put_event why (slice_range object.now key_at key_end) (object_at place
-        (shown_last pass.old).objects) object.now) (sizes space.now) result (tree_of pass.old) (tree_of pass.new) }
-    ensures deep { OnOk place (result ≢ Err IsDeep) }
-    ensures no_split { OnOk place (result ≢ Err IsSplit) }
-    ensures full { result ≡ Err IsDeep → IsFull (sizes space.now) (Some (slice_range object.now key_at key_end)) (tree_of pass.new).last (after
+    requires ready { IsReady tree.now.space pass.old }
+    requires looking { IsLooking (sizes tree.now.space) (tree_of pass.old) (key_in insertion.now.keyed) cursor }
+    requires keyed { IsKeyed (sizes tree.now.space).keypos insertion.now.keyed }
+    requires place { IsPlace (map pair (shown_last pass.old).objects) (key_in insertion.now.keyed) insertion.now.place }
+    requires call { IsFor insertion.now.why insertion.now.place }
+    ensures frame { StaysReady tree.now.space pass.old pass.new }
+    ensures tried { HasTriedTo (λ _ event. event ≡ event_of insertion.now (shown_last pass.old).objects) (sizes tree.now.space) result (tree_of pass.old)
+        (tree_of pass.new) }
+    ensures deep { OnOk insertion.now.place (result ≢ Err IsDeep) }
+    ensures no_split { OnOk insertion.now.place (result ≢ Err IsSplit) }
+    ensures full { result ≡ Err IsDeep → IsFull (sizes tree.now.space) (Some (key_in insertion.now.keyed)) (tree_of pass.new).last (after
         (tree_of pass.new).seen []) }
-    ensures met_as { MeetsAs (λ _. true) adapting.new.last result (met_of (known pass.new)) (tree_of pass.new) }
-    ensures gone_on { HasGoneOn (λ _. true) (sizes space.now) tuning.now adapting.old adapting.new result (tree_of pass.old) (tree_of pass.new) }
-    ensures counted { IsPaid spent.old spent.new (known pass.old) (known pass.new) }
-    ensures found { HasStopped result (known pass.old) (known pass.new) }
-    ensures grown { IsAlone (sizes space.now) (tree_of pass.old)
-        → HasGrown (sizes space.now) (Some (slice_range object.now key_at key_end)) result (tree_of pass.old) (tree_of pass.new) }
-    ensures won { IsAlone (sizes space.now) (tree_of pass.old) → HasWonAs (λ _. true) result (tree_of pass.old) (tree_of pass.new) }
-    ensures cut { HasCut (λ _. true) (sizes space.now) (Some (slice_range object.now key_at key_end)) result (tree_of pass.old) (tree_of pass.new) }
+    ensures turn { IsTurn (λ _. true) (Some (key_in insertion.now.keyed)) (sizes tree.now.space) tree.now.tuning course.old course.new (met_of (known pass.new))
+        result (known pass.old) (known pass.new) }
 {
+    let space = &tree.space;
     let many = count(space, pass, cursor.base);
-    if !has_room(many, place, tuning.leaf) {
-        return Err(make_room(space, pass, tuning, cursor, many, adapting, spent));
+    if !has_room(many, insertion.place, tree.tuning.leaf) {
+        return Err(make_room(tree, pass, cursor, many, course));
     }
-    let statistic = next_statistic(space, pass, tuning, cursor.base, adapting.lost);
-    let word = word_of(statistic);
-    let mut placed = 0;
-    let tried = put_at(
-        space,
-        pass,
+    let lost = course.adapting.lost;
+    let statistic = next_statistic(tree, pass, cursor.base, lost);
+    let target = Target {
         cursor,
         many,
-        place,
-        why,
-        object,
-        key_at,
-        key_end,
-        word,
-        &mut placed,
-        spent,
-    );
-    let key = &object[key_at..key_end];
-    settle(
-        space, pass, tuning, key, placed, statistic, tried, adapting, spent,
-    )
+        statistic: word_of(statistic),
+    };
+    let mut row = 0;
+    let spent = &mut course.spent;
+    let tried = put_at(space, pass, &target, insertion, &mut row, spent);
+    let keyed = insertion.keyed;
+    let key = &keyed.object[keyed.key_at..keyed.key_end];
+    settle(tree, pass, &Placed { key, row }, statistic, tried, course)
 }
 
 // What an attempt comes to that met a full base: it splits the base, if that isn't at the last level.
 fn make_room(
-    space: &TreeSpace,
+    tree: &Tree,
     pass: &mut TreePass,
-    tuning: &Tuning,
     cursor: Cursor,
     many: u32,
-    adapting: &mut Adapting,
-    spent: &mut Spent,
+    course: &mut Course,
 ) -> Stop
-    requires ready { IsReady space.now pass.old }
-    requires tuned { IsTuned (sizes space.now) tuning.now }
-    requires looking { (key : List ℕ) × IsLooking (sizes space.now) (tree_of pass.old) key cursor }
-    requires many { (many ≡ length (shown_last pass.old).objects) × (tuning.now.leaf ≤ many) }
-    ensures frame { StaysReady space.now pass.old pass.new }
-    ensures further { IsFurther (tree_of pass.old) (tree_of pass.new) × IsKnown (sizes space.now) (tree_of pass.new) }
+    requires ready { IsReady tree.now.space pass.old }
+    requires looking { (key : List ℕ) × IsLooking (sizes tree.now.space) (tree_of pass.old) key cursor }
+    requires many { (many ≡ length (shown_last pass.old).objects) × (tree.now.tuning.leaf ≤ many) }
+    ensures frame { StaysReady tree.now.space pass.old pass.new }
+    ensures further { IsFurther (tree_of pass.old) (tree_of pass.new) × IsKnown (sizes tree.now.space) (tree_of pass.new) }
     ensures same_seen { ((tree_of pass.new).seen ≡ (tree_of pass.old).seen) × ((tree_of pass.new).last ≡ (tree_of pass.old).last) }
-    ensures deep { result ≡ IsDeep → (sizes space.now).levels ≤ (shown_last pass.old).place.level }
-    ensures waits { Waits adapting.old adapting.new (tree_of pass.old) (tree_of pass.new) }
-    ensures counted { IsPaid spent.old spent.new (known pass.old) (known pass.new) }
+    ensures deep { result ≡ IsDeep → (sizes tree.now.space).levels ≤ (shown_last pass.old).place.level }
+    ensures waits { Waits course.old.adapting course.new.adapting (tree_of pass.old) (tree_of pass.new) }
+    ensures counted { IsPaid course.old.spent course.new.spent (known pass.old) (known pass.new) }
     ensures found { HasStopped {T = Unit {0}} (Err result) (known pass.old) (known pass.new) }
-    ensures grown { (key : List ℕ) → IsLooking (sizes space.now) (tree_of pass.old) key cursor → IsAlone (sizes space.now) (tree_of pass.old)
-        → HasGrown {T = Unit {0}} (sizes space.now) (Some key) (Err result) (tree_of pass.old) (tree_of pass.new) }
-    ensures won { (key : List ℕ) → IsLooking (sizes space.now) (tree_of pass.old) key cursor → IsAlone (sizes space.now) (tree_of pass.old)
+    ensures grown { (key : List ℕ) → IsLooking (sizes tree.now.space) (tree_of pass.old) key cursor → IsAlone (sizes tree.now.space) (tree_of pass.old)
+        → HasGrown {T = Unit {0}} (sizes tree.now.space) (Some key) (Err result) (tree_of pass.old) (tree_of pass.new) }
+    ensures won { (key : List ℕ) → IsLooking (sizes tree.now.space) (tree_of pass.old) key cursor → IsAlone (sizes tree.now.space) (tree_of pass.old)
         → HasWonAs {T = Unit {0}} (λ _. true) (Err result) (tree_of pass.old) (tree_of pass.new) }
-    ensures cut { (key : List ℕ) → IsFullFor (sizes space.now) (Some key) (shown_last pass.old)
-        → HasCut {T = Unit {0}} (λ _. true) (sizes space.now) (Some key) (Err result) (tree_of pass.old) (tree_of pass.new) }
+    ensures cut { (key : List ℕ) → IsFullFor (sizes tree.now.space) (Some key) (shown_last pass.old)
+        → HasCut {T = Unit {0}} (λ _. true) (sizes tree.now.space) (Some key) (Err result) (tree_of pass.old) (tree_of pass.new) }
 {
-    if cursor.level >= tuning.levels {
+    if cursor.level >= tree.tuning.levels {
         return Stop::Deep;
     }
+    let space = &tree.space;
+    let spent = &mut course.spent;
     let split = split_at(space, pass, cursor, many, first_attempt(space), spent);
     if is_split(&split) {
-        spent.passed = spent.passed.saturating_add(1);
+        course.spent.passed = course.spent.passed.saturating_add(1);
     }
     if is_lost(&split) {
-        adapting.lost = true;
+        course.adapting.lost = true;
     }
     stop_of(split)
 }
@@ -281,39 +250,36 @@ fn stop_of(split: Result<bool, NoRow>) -> Stop
 
 /// Removes the object at its key's place in the base that was shown last.
 pub(crate) fn remove_there(
-    space: &TreeSpace,
+    tree: &Tree,
     pass: &mut TreePass,
-    tuning: &Tuning,
     cursor: Cursor,
-    at: u32,
-    key: &[u8],
-    adapting: &mut Adapting,
-    spent: &mut Spent,
+    removal: &Removal<'_>,
+    course: &mut Course,
 ) -> Result<(), Stop>
-    requires ready { IsReady space.now pass.old }
-    requires tuned { IsTuned (sizes space.now) tuning.now }
-    requires looking { IsLooking (sizes space.now) (tree_of pass.old) key.now cursor }
-    requires place { IsPlace (map pair (shown_last pass.old).objects) key.now (Ok at) }
-    ensures frame { StaysReady space.now pass.old pass.new }
-    ensures tried { HasTriedTo (λ _ event. event ≡ Remove key.now (Some (object_at (Ok at) (shown_last pass.old).objects))) (sizes space.now) result
+    requires ready { IsReady tree.now.space pass.old }
+    requires looking { IsLooking (sizes tree.now.space) (tree_of pass.old) removal.now.key.now cursor }
+    requires place { IsPlace (map pair (shown_last pass.old).objects) removal.now.key.now (Ok removal.now.at) }
+    ensures frame { StaysReady tree.now.space pass.old pass.new }
+    ensures tried { HasTriedTo (λ _ event. event ≡ Remove removal.now.key.now (Some (object_at (Ok removal.now.at) (shown_last pass.old).objects))) (sizes tree.now.space) result
         (tree_of pass.old) (tree_of pass.new) }
     ensures deep { result ≢ Err IsDeep }
-    ensures met_as { MeetsAs (λ _. true) adapting.new.last result (met_of (known pass.new)) (tree_of pass.new) }
-    ensures gone_on { HasGoneOn (λ _. true) (sizes space.now) tuning.now adapting.old adapting.new result (tree_of pass.old) (tree_of pass.new) }
-    ensures counted { IsPaid spent.old spent.new (known pass.old) (known pass.new) }
-    ensures found { HasStopped result (known pass.old) (known pass.new) }
-    ensures grown { IsAlone (sizes space.now) (tree_of pass.old) → HasGrown (sizes space.now) None result (tree_of pass.old) (tree_of pass.new) }
-    ensures won { IsAlone (sizes space.now) (tree_of pass.old) → HasWonAs (λ _. true) result (tree_of pass.old) (tree_of pass.new) }
-    ensures cut { HasCut (λ _. true) (sizes space.now) None result (tree_of pass.old) (tree_of pass.new) }
+    ensures turn { IsTurn (λ _. true) None (sizes tree.now.space) tree.now.tuning course.old course.new (met_of (known pass.new)) result
+        (known pass.old) (known pass.new) }
 {
+    let space = &tree.space;
     let many = count(space, pass, cursor.base);
-    let statistic = next_statistic(space, pass, tuning, cursor.base, adapting.lost);
-    let word = word_of(statistic);
-    let mut placed = 0;
-    let tried = remove_at(space, pass, cursor, many, at, key, word, &mut placed, spent);
-    settle(
-        space, pass, tuning, key, placed, statistic, tried, adapting, spent,
-    )
+    let lost = course.adapting.lost;
+    let statistic = next_statistic(tree, pass, cursor.base, lost);
+    let target = Target {
+        cursor,
+        many,
+        statistic: word_of(statistic),
+    };
+    let mut row = 0;
+    let spent = &mut course.spent;
+    let tried = remove_at(space, pass, &target, removal, &mut row, spent);
+    let key = removal.key;
+    settle(tree, pass, &Placed { key, row }, statistic, tried, course)
 }
 
 /// What an attempt comes to, by what became of its exchange.

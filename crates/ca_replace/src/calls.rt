@@ -3,20 +3,21 @@ ghost use Rattle.std.specs.Prelude.{◌⊎◌, ◌≡◌, ◌≢◌, ◌↔◌, 
 ghost use Rattle.ca_model.specs.Answer.{IfBusy, IfDone, IfRefused};
 ghost use Rattle.ca_model.specs.History.{after};
 ghost use Rattle.ca_replace.specs.declared.attempting.Stop.TheVariants.{Deep as IsDeep, Empty as IsEmpty, Lost as IsLost, Split as IsSplit};
-ghost use Rattle.ca_node.specs.Told.{IsAlone, with_upper};
-ghost use Rattle.ca_replace.specs.Attempting.{IsPaid, total, HasAttempted, HasDoneAs, HasMetBy, HasStopped, HasTriedTo, IfDeep, refused_as};
-ghost use Rattle.ca_replace.specs.Adapting.{HasGoneOn, HasMetAs, LeavesAs, MeetsAs};
+ghost use Rattle.ca_node.specs.Told.{with_upper};
+ghost use Rattle.ca_replace.specs.Attempting.{IsPaid, total, HasAttempted, HasDoneAs, HasMetBy, HasTriedTo, IfDeep, refused_as};
+ghost use Rattle.ca_replace.specs.Adapting.{HasMetAs, LeavesAs};
 ghost use Rattle.ca_replace.specs.Causes.{EndsAtLag, IfRefusedAs, IsCaused, IsFull, KeepsFew};
-ghost use Rattle.ca_replace.specs.Growing.{GrowsBy, HasGrown, HasGrownSoFar};
-ghost use Rattle.ca_replace.specs.Cutting.{HasCut, HasCutAs, HasCutSoFar};
-ghost use Rattle.ca_replace.specs.Winning.{HasWonAs, WinsAs};
+ghost use Rattle.ca_replace.specs.Growing.{GrowsBy};
+ghost use Rattle.ca_replace.specs.Cutting.{HasCutAs};
+ghost use Rattle.ca_replace.specs.Winning.{WinsAs};
 ghost use Rattle.ca_base.specs.Progress.{IsRefused};
 ghost use Rattle.ca_replace.specs.Refusals.{risen};
+ghost use Rattle.ca_replace.specs.Turning.{AreTurns, IsTurn};
 ghost use Rattle.ca_rows.specs.Passes.{sizes, known, view};
 ghost use Rattle.ca_node.specs.TreePasses.{tree_of};
 ghost use Rattle.ca_replace.specs.Resting.{IsAtRest, StaysAtRest};
 
-use crate::adapting::{Adapting, Last};
+use crate::adapting::{Adapting, Course, Last};
 use crate::attempting::{Attempt, Stop};
 use crate::giving::{add, keep_few, refill, spent_in_all};
 use crate::refusing::{Refusal, refuse};
@@ -24,56 +25,63 @@ use crate::tree::Tree;
 use ca_model::{Code, Counter, Outcome, Spent};
 use ca_node::TreePass;
 
+/// A call that is to be made, and by how many turns it may be lost.
+#[derive(Drop)]
+pub(crate) struct Order<'a, A> {
+    pub(crate) what: &'a A,
+    pub(crate) budget: u32,
+}
+
+impl<A> Order<'_, A> {
+    fn budget(&self) -> u32
+        ensures { result ≡ self.now.budget }
+    {
+        self.budget
+    }
+}
+
 /// Makes a call: attempts of it, until one isn't stopped by want of rows that the pass may give back itself.
 pub(crate) fn call<A: Attempt>(
     tree: &Tree,
     pass: &mut TreePass,
-    what: &A,
+    order: &Order<'_, A>,
     left: &mut A::Left,
     room: &mut A::Room,
     last: &mut Last,
-    budget: u32,
 ) -> Outcome<A::Answer>
     requires resting { IsAtRest tree.now.space pass.old }
-    requires may { A.may what.now (sizes tree.now.space) }
-    requires budget { 1 ≤ budget }
+    requires may { A.may order.now.what.now (sizes tree.now.space) }
+    requires budget { 1 ≤ order.now.budget }
     ensures frame { StaysAtRest tree.now.space pass.old pass.new }
-    ensures done { IfDone result (λ answer. HasDoneAs (A.tells what.now answer left.new) (tree_of pass.old) (tree_of pass.new)) }
+    ensures done { IfDone result (λ answer. HasDoneAs (A.tells order.now.what.now answer left.new) (tree_of pass.old) (tree_of pass.new)) }
     ensures refused { IfRefused result (λ rise. IsRefused rise (tree_of pass.old) (tree_of pass.new)) }
-    ensures deep { IfDeep result (A.adds what.now ≢ None) }
-    ensures busy { IfBusy result (λ spent. budget ≤ spent) }
-    ensures caused { IfRefusedAs result (λ why. IsCaused (sizes tree.now.space) pass.old.number budget (A.adds what.now) why (known pass.old)
+    ensures deep { IfDeep result (A.adds order.now.what.now ≢ None) }
+    ensures busy { IfBusy result (λ spent. order.now.budget ≤ spent) }
+    ensures caused { IfRefusedAs result (λ why. IsCaused (sizes tree.now.space) pass.old.number order.now.budget (A.adds order.now.what.now) why (known pass.old)
         pass.old.kept.rows (known pass.new) pass.new.kept.rows) }
     ensures few { KeepsFew (known pass.old) (known pass.new) pass.new.kept.rows }
     ensures lags { EndsAtLag (known pass.old) (known pass.new) }
-    ensures met_as { HasMetAs (A.edits what.now) last.new result (known pass.new) }
-    ensures leaves { LeavesAs (A.edits what.now) (sizes tree.now.space) tree.now.tuning last.old last.new result (tree_of pass.old)
+    ensures met_as { HasMetAs (A.edits order.now.what.now) last.new result (known pass.new) }
+    ensures leaves { LeavesAs (A.edits order.now.what.now) (sizes tree.now.space) tree.now.tuning last.old last.new result (tree_of pass.old)
         (tree_of pass.new) }
-    ensures grows { (sizes tree.now.space).passes ≡ 1 → GrowsBy (A.adds what.now) (tree_of pass.old) (tree_of pass.new) }
-    ensures wins { (sizes tree.now.space).passes ≡ 1 → WinsAs (A.edits what.now) result (tree_of pass.old) (tree_of pass.new) }
-    ensures cut { HasCutAs (A.edits what.now) (sizes tree.now.space) (A.adds what.now) result (tree_of pass.old) (tree_of pass.new) }
+    ensures grows { (sizes tree.now.space).passes ≡ 1 → GrowsBy (A.adds order.now.what.now) (tree_of pass.old) (tree_of pass.new) }
+    ensures wins { (sizes tree.now.space).passes ≡ 1 → WinsAs (A.edits order.now.what.now) result (tree_of pass.old) (tree_of pass.new) }
+    ensures cut { HasCutAs (A.edits order.now.what.now) (sizes tree.now.space) (A.adds order.now.what.now) result (tree_of pass.old) (tree_of pass.new) }
 {
-    let mut spent = Spent {
-        lost: 0,
-        helped: 0,
-        passed: 0,
+    let mut course = Course {
+        adapting: Adapting {
+            lost: false,
+            last: *last,
+        },
+        spent: Spent {
+            lost: 0,
+            helped: 0,
+            passed: 0,
+        },
     };
-    let mut adapting = Adapting {
-        lost: false,
-        last: *last,
-    };
-    match attempts(
-        tree,
-        pass,
-        what,
-        left,
-        room,
-        budget,
-        &mut adapting,
-        &mut spent,
-    ) {
+    match attempts(tree, pass, order, left, room, &mut course) {
         Ok(answer) => {
-            *last = adapting.last;
+            *last = course.adapting.last;
             Outcome::Done(answer)
         }
         Err(why) => {
@@ -97,41 +105,34 @@ pub(crate) fn empty_if_refused<T>(outcome: &Outcome<T>, old: &mut Code)
 fn attempts<A: Attempt>(
     tree: &Tree,
     pass: &mut TreePass,
-    what: &A,
+    order: &Order<'_, A>,
     left: &mut A::Left,
     room: &mut A::Room,
-    budget: u32,
-    adapting: &mut Adapting,
-    spent: &mut Spent,
+    course: &mut Course,
 ) -> Result<A::Answer, Refusal>
     requires resting { IsAtRest tree.now.space pass.old }
-    requires may { A.may what.now (sizes tree.now.space) }
-    requires budget { 1 ≤ budget }
-    requires none { (spent.old.lost ≡ 0) × (spent.old.helped ≡ 0) × (spent.old.passed ≡ 0) }
+    requires may { A.may order.now.what.now (sizes tree.now.space) }
+    requires budget { 1 ≤ order.now.budget }
+    requires none { (course.old.spent.lost ≡ 0) × (course.old.spent.helped ≡ 0) × (course.old.spent.passed ≡ 0) }
     ensures frame { StaysAtRest tree.now.space pass.old pass.new }
-    ensures come { HasAttempted (λ answer. A.tells what.now answer left.new) result (tree_of pass.old) (tree_of pass.new) }
-    ensures caused { IfErr result (λ why. IsCaused (sizes tree.now.space) pass.old.number budget (A.adds what.now) why (known pass.old)
+    ensures come { HasAttempted (λ answer. A.tells order.now.what.now answer left.new) result (tree_of pass.old) (tree_of pass.new) }
+    ensures caused { IfErr result (λ why. IsCaused (sizes tree.now.space) pass.old.number order.now.budget (A.adds order.now.what.now) why (known pass.old)
         pass.old.kept.rows (known pass.new) pass.new.kept.rows) }
     ensures few { KeepsFew (known pass.old) (known pass.new) pass.new.kept.rows }
     ensures lags { EndsAtLag (known pass.old) (known pass.new) }
-    ensures met_as { MeetsAs (A.edits what.now) adapting.new.last result (view pass.new).pin.left (tree_of pass.new) }
-    ensures gone_on { HasGoneOn (A.edits what.now) (sizes tree.now.space) tree.now.tuning adapting.old adapting.new result (tree_of pass.old)
-        (tree_of pass.new) }
-    ensures grown { IsAlone (sizes tree.now.space) (tree_of pass.old)
-        → HasGrownSoFar (sizes tree.now.space) (A.adds what.now) result (tree_of pass.old) (tree_of pass.new) }
-    ensures won { IsAlone (sizes tree.now.space) (tree_of pass.old) → HasWonAs (A.edits what.now) result (tree_of pass.old) (tree_of pass.new) }
-    ensures cut { HasCutSoFar (A.edits what.now) (sizes tree.now.space) (A.adds what.now) result (tree_of pass.old) (tree_of pass.new) }
+    ensures turns { AreTurns (A.edits order.now.what.now) (A.adds order.now.what.now) (sizes tree.now.space) tree.now.tuning course.old course.new
+        (view pass.new).pin.left result (known pass.old) (known pass.new) }
 {
     loop {
         let kept = pass.kept();
-        let come = turns(tree, pass, what, left, room, budget, adapting, spent);
+        let come = turns(tree, pass, order, left, room, course);
         if is_empty(&come) {
-            if let Err(why) = refill(tree, pass, kept, budget, spent) {
+            if let Err(why) = refill(tree, pass, kept, order.budget, &mut course.spent) {
                 return Err(why);
             }
         } else {
-            spent.lost = add(spent.lost, keep_few(tree, pass));
-            return or_refusal(come, *spent, tree.tuning.levels);
+            course.spent.lost = add(course.spent.lost, keep_few(tree, pass));
+            return or_refusal(come, course.spent, tree.tuning.levels);
         }
     }
 }
@@ -160,35 +161,29 @@ fn or_refusal<T>(tried: Result<T, Stop>, spent: Spent, levels: u16) -> Result<T,
 fn turns<A: Attempt>(
     tree: &Tree,
     pass: &mut TreePass,
-    what: &A,
+    order: &Order<'_, A>,
     left: &mut A::Left,
     room: &mut A::Room,
-    budget: u32,
-    adapting: &mut Adapting,
-    spent: &mut Spent,
+    course: &mut Course,
 ) -> Result<A::Answer, Stop>
     requires resting { IsAtRest tree.now.space pass.old }
-    requires may { A.may what.now (sizes tree.now.space) }
+    requires may { A.may order.now.what.now (sizes tree.now.space) }
     ensures frame { StaysAtRest tree.now.space pass.old pass.new }
-    ensures tried { HasTriedTo (λ answer. A.tells what.now answer left.new) (sizes tree.now.space) result (tree_of pass.old) (tree_of pass.new) }
-    ensures deep { result ≡ Err IsDeep → IsFull (sizes tree.now.space) (A.adds what.now) (tree_of pass.new).last (after (tree_of pass.new).seen []) }
-    ensures met_as { MeetsAs (A.edits what.now) adapting.new.last result (view pass.new).pin.left (tree_of pass.new) }
-    ensures gone_on { HasGoneOn (A.edits what.now) (sizes tree.now.space) tree.now.tuning adapting.old adapting.new result (tree_of pass.old)
-        (tree_of pass.new) }
-    ensures grown { IsAlone (sizes tree.now.space) (tree_of pass.old)
-        → HasGrownSoFar (sizes tree.now.space) (A.adds what.now) result (tree_of pass.old) (tree_of pass.new) }
-    ensures won { IsAlone (sizes tree.now.space) (tree_of pass.old) → HasWonAs (A.edits what.now) result (tree_of pass.old) (tree_of pass.new) }
-    ensures cut { HasCutSoFar (A.edits what.now) (sizes tree.now.space) (A.adds what.now) result (tree_of pass.old) (tree_of pass.new) }
-    ensures counted { IsPaid spent.old spent.new (known pass.old) (known pass.new) }
+    ensures tried { HasTriedTo (λ answer. A.tells order.now.what.now answer left.new) (sizes tree.now.space) result (tree_of pass.old) (tree_of pass.new) }
+    ensures deep { result ≡ Err IsDeep → IsFull (sizes tree.now.space) (A.adds order.now.what.now) (tree_of pass.new).last (after (tree_of pass.new).seen []) }
+    ensures counted { IsPaid course.old.spent course.new.spent (known pass.old) (known pass.new) }
     ensures found { HasMetBy result (known pass.old) (known pass.new) }
     ensures looks { (view pass.new).pin.looks ≡ (view pass.old).pin.looks }
     ensures lags { (view pass.new).pin.lags ≡ (view pass.old).pin.lags }
-    ensures entered { total spent.old < budget → (view pass.new).pin.entered.lags ≡ (view pass.old).pin.lags }
-    ensures lost { result ≡ Err IsLost → budget ≤ total spent.new }
+    ensures entered { total course.old.spent < order.now.budget → (view pass.new).pin.entered.lags ≡ (view pass.old).pin.lags }
+    ensures lost { result ≡ Err IsLost → order.now.budget ≤ total course.new.spent }
     ensures no_split { result ≢ Err IsSplit }
+    ensures turns { AreTurns (A.edits order.now.what.now) (A.adds order.now.what.now) (sizes tree.now.space) tree.now.tuning course.old course.new
+        (view pass.new).pin.left result (known pass.old) (known pass.new) }
 {
-    while spent_in_all(spent) < budget {
-        let tried = once(tree, pass, what, left, room, adapting, spent);
+    let budget = order.budget();
+    while spent_in_all(&course.spent) < budget {
+        let tried = once(tree, pass, order.what, left, room, course);
         if !has_next(&tried) {
             return tried;
         }
@@ -210,29 +205,21 @@ fn once<A: Attempt>(
     what: &A,
     left: &mut A::Left,
     room: &mut A::Room,
-    adapting: &mut Adapting,
-    spent: &mut Spent,
+    course: &mut Course,
 ) -> Result<A::Answer, Stop>
     requires resting { IsAtRest tree.now.space pass.old }
     requires may { A.may what.now (sizes tree.now.space) }
     ensures frame { StaysAtRest tree.now.space pass.old pass.new }
     ensures tried { HasTriedTo (λ answer. A.tells what.now answer left.new) (sizes tree.now.space) result (tree_of pass.old) (tree_of pass.new) }
     ensures deep { result ≡ Err IsDeep → IsFull (sizes tree.now.space) (A.adds what.now) (tree_of pass.new).last (after (tree_of pass.new).seen []) }
-    ensures met_as { MeetsAs (A.edits what.now) adapting.new.last result (view pass.new).pin.left (tree_of pass.new) }
-    ensures gone_on { HasGoneOn (A.edits what.now) (sizes tree.now.space) tree.now.tuning adapting.old adapting.new result (tree_of pass.old)
-        (tree_of pass.new) }
-    ensures grown { IsAlone (sizes tree.now.space) (tree_of pass.old)
-        → HasGrown (sizes tree.now.space) (A.adds what.now) result (tree_of pass.old) (tree_of pass.new) }
-    ensures won { IsAlone (sizes tree.now.space) (tree_of pass.old) → HasWonAs (A.edits what.now) result (tree_of pass.old) (tree_of pass.new) }
-    ensures cut { HasCut (A.edits what.now) (sizes tree.now.space) (A.adds what.now) result (tree_of pass.old) (tree_of pass.new) }
-    ensures counted { IsPaid spent.old spent.new (known pass.old) (known pass.new) }
-    ensures found { HasStopped result (known pass.old) (known pass.new) }
     ensures looks { (view pass.new).pin.looks ≡ (view pass.old).pin.looks }
     ensures lags { ((view pass.new).pin.lags ≡ (view pass.old).pin.lags) × ((view pass.new).pin.entered.lags ≡ (view pass.old).pin.lags) }
+    ensures turn { IsTurn (A.edits what.now) (A.adds what.now) (sizes tree.now.space) tree.now.tuning course.old course.new (view pass.new).pin.left result
+        (known pass.old) (known pass.new) }
 {
     let space = &tree.space;
     space.pin(pass);
-    let tried = what.attempt(space, pass, &tree.tuning, left, room, adapting, spent);
+    let tried = what.attempt(tree, pass, left, room, course);
     space.unpin(pass);
     tried
 }

@@ -1,43 +1,25 @@
 //! Calls that put an object.
-ghost use Rattle.std.specs.Prelude.{◌≡◌, ◌≤◌, Some, length, slice_range, true};
-ghost use Rattle.ca_model.specs.Answer.{IfBusy, IfDone, IfRefused};
+ghost use Rattle.std.specs.Prelude.{◌≡◌, Some, true};
 ghost use Rattle.ca_model.specs.Event.{Write, WriteNew};
-ghost use Rattle.ca_model.specs.StoreMap.{IsPair};
-ghost use Rattle.ca_replace.specs.Attempting.{HasKeyAt};
-ghost use Rattle.ca_base.specs.Progress.{HasDone, IsRefused};
-ghost use Rattle.ca_replace.specs.Adapting.{HasMetAs, LeavesAs};
-ghost use Rattle.ca_replace.specs.Growing.{Grows};
-ghost use Rattle.ca_replace.specs.Winning.{WinsAs};
-ghost use Rattle.ca_replace.specs.Causes.{EndsAtLag, IfRefusedAs, IsCaused, KeepsFew};
-ghost use Rattle.ca_replace.specs.Cutting.{HasCutAs};
-ghost use Rattle.ca_rows.specs.Passes.{sizes, known};
-ghost use Rattle.ca_node.specs.TreePasses.{tree_of};
-ghost use Rattle.ca_replace.specs.Resting.{IsAtRest, StaysAtRest};
+ghost use Rattle.ca_base.specs.Targets.{IsKeyed, key_in};
 
-use crate::adapting::{Adapting, Last};
+use crate::adapting::Course;
 use crate::attempting::{Attempt, Stop, find, put_there};
-use crate::calls::call;
 use crate::ending::{Read, enter};
 use crate::tree::Tree;
-use ca_adapt::Tuning;
-use ca_base::Putting;
-use ca_model::{Outcome, Spent};
-use ca_node::{TreePass, TreeSpace};
+use ca_base::{Insertion, Keyed, Putting};
+use ca_node::TreePass;
 
-// An object that is put, and where its key stands in it.
+/// The call that puts an object, in the place of its key's object where there is one.
 #[derive(Clone, Copy)]
-struct PutCall<'a> {
-    object: &'a [u8],
-    key_at: usize,
-    key_end: usize,
+pub(crate) struct PutCall<'a> {
+    pub(crate) keyed: Keyed<'a>,
 }
 
-// An object that is put where there is none with its key, and where its key stands in it.
+/// The call that puts an object where there is none with its key.
 #[derive(Clone, Copy)]
-struct PutNewCall<'a> {
-    object: &'a [u8],
-    key_at: usize,
-    key_end: usize,
+pub(crate) struct PutNewCall<'a> {
+    pub(crate) keyed: Keyed<'a>,
 }
 
 impl Attempt for PutCall<'_> {
@@ -47,31 +29,28 @@ impl Attempt for PutCall<'_> {
 
     type Room = ();
 
-    ghost may = { λ call z. HasKeyAt z.keypos call.object.now call.key_at call.key_end };
+    ghost may = { λ call z. IsKeyed z.keypos call.keyed };
 
-    ghost tells = { λ call answer left event. event ≡ Write (slice_range call.object.now call.key_at call.key_end) call.object.now };
+    ghost tells = { λ call answer left event. event ≡ Write (key_in call.keyed) call.keyed.object.now };
 
-    ghost adds = { λ call. Some (slice_range call.object.now call.key_at call.key_end) };
+    ghost adds = { λ call. Some (key_in call.keyed) };
 
     ghost edits = { λ call _. true };
 
     fn attempt(
         &self,
-        space: &TreeSpace,
+        tree: &Tree,
         pass: &mut TreePass,
-        tuning: &Tuning,
         _left: &mut (),
         _room: &mut (),
-        adapting: &mut Adapting,
-        spent: &mut Spent,
+        course: &mut Course,
     ) -> Result<(), Stop> {
-        let (object, key_at, key_end) = (self.object, self.key_at, self.key_end);
-        let key = &object[key_at..key_end];
-        let (cursor, place) = find(space, pass, key);
+        let keyed = self.keyed;
+        let key = &keyed.object[keyed.key_at..keyed.key_end];
+        let (cursor, place) = find(&tree.space, pass, key);
         let why = Putting::Put;
-        put_there(
-            space, pass, tuning, cursor, place, why, object, key_at, key_end, adapting, spent,
-        )
+        let insertion = Insertion { keyed, why, place };
+        put_there(tree, pass, cursor, &insertion, course)
     }
 }
 
@@ -82,112 +61,35 @@ impl Attempt for PutNewCall<'_> {
 
     type Room = ();
 
-    ghost may = { λ call z. HasKeyAt z.keypos call.object.now call.key_at call.key_end };
+    ghost may = { λ call z. IsKeyed z.keypos call.keyed };
 
-    ghost tells = { λ call new left event. event ≡ WriteNew (slice_range call.object.now call.key_at call.key_end) call.object.now new };
+    ghost tells = { λ call new left event. event ≡ WriteNew (key_in call.keyed) call.keyed.object.now new };
 
-    ghost adds = { λ call. Some (slice_range call.object.now call.key_at call.key_end) };
+    ghost adds = { λ call. Some (key_in call.keyed) };
 
     ghost edits = { λ call new. new };
 
     fn attempt(
         &self,
-        space: &TreeSpace,
+        tree: &Tree,
         pass: &mut TreePass,
-        tuning: &Tuning,
         _left: &mut (),
         _room: &mut (),
-        adapting: &mut Adapting,
-        spent: &mut Spent,
+        course: &mut Course,
     ) -> Result<bool, Stop> {
-        let (object, key_at, key_end) = (self.object, self.key_at, self.key_end);
-        let key = &object[key_at..key_end];
-        let (cursor, place) = find(space, pass, key);
+        let keyed = self.keyed;
+        let key = &keyed.object[keyed.key_at..keyed.key_end];
+        let (cursor, place) = find(&tree.space, pass, key);
         if place.is_ok() {
-            enter(space, pass, cursor.base, Read::NotNew(key, object));
+            let read = Read::NotNew(key, keyed.object);
+            enter(&tree.space, pass, cursor.base, read);
             return Ok(false);
         }
         let why = Putting::PutNew;
-        match put_there(
-            space, pass, tuning, cursor, place, why, object, key_at, key_end, adapting, spent,
-        ) {
+        let insertion = Insertion { keyed, why, place };
+        match put_there(tree, pass, cursor, &insertion, course) {
             Ok(()) => Ok(true),
             Err(stop) => Err(stop),
         }
     }
-}
-
-/// Puts an object.
-pub(crate) fn put(
-    tree: &Tree,
-    pass: &mut TreePass,
-    object: &[u8],
-    key_at: usize,
-    key_end: usize,
-    last: &mut Last,
-    budget: u32,
-) -> Outcome<()>
-    requires resting { IsAtRest tree.now.space pass.old }
-    requires budget { 1 ≤ budget }
-    requires within { (key_at ≤ key_end) × (key_end ≤ length object.now) }
-    requires pair { IsPair (sizes tree.now.space).keypos (slice_range object.now key_at key_end, object.now) }
-    ensures frame { StaysAtRest tree.now.space pass.old pass.new }
-    ensures put { IfDone result (λ _. HasDone (Write (slice_range object.now key_at key_end) object.now) (tree_of pass.old) (tree_of pass.new)) }
-    ensures refused { IfRefused result (λ rise. IsRefused rise (tree_of pass.old) (tree_of pass.new)) }
-    ensures busy { IfBusy result (λ spent. budget ≤ spent) }
-    ensures caused { IfRefusedAs result (λ why. IsCaused (sizes tree.now.space) pass.old.number budget (Some (slice_range object.now key_at
-        key_end)) why (known pass.old) pass.old.kept.rows (known pass.new) pass.new.kept.rows) }
-    ensures few { KeepsFew (known pass.old) (known pass.new) pass.new.kept.rows }
-    ensures lags { EndsAtLag (known pass.old) (known pass.new) }
-    ensures met_as { HasMetAs (λ _. true) last.new result (known pass.new) }
-    ensures leaves { LeavesAs (λ _. true) (sizes tree.now.space) tree.now.tuning last.old last.new result (tree_of pass.old) (tree_of pass.new) }
-    ensures grows { (sizes tree.now.space).passes ≡ 1 → Grows 2 5 2 (tree_of pass.old) (tree_of pass.new) }
-    ensures wins { (sizes tree.now.space).passes ≡ 1 → WinsAs (λ _. true) result (tree_of pass.old) (tree_of pass.new) }
-    ensures cut { HasCutAs (λ _. true) (sizes tree.now.space) (Some (slice_range object.now key_at key_end)) result (tree_of pass.old)
-        (tree_of pass.new) }
-{
-    let what = PutCall {
-        object,
-        key_at,
-        key_end,
-    };
-    call(tree, pass, &what, &mut (), &mut (), last, budget)
-}
-
-/// Puts an object where there is none with its key.
-pub(crate) fn put_new(
-    tree: &Tree,
-    pass: &mut TreePass,
-    object: &[u8],
-    key_at: usize,
-    key_end: usize,
-    last: &mut Last,
-    budget: u32,
-) -> Outcome<bool>
-    requires resting { IsAtRest tree.now.space pass.old }
-    requires budget { 1 ≤ budget }
-    requires within { (key_at ≤ key_end) × (key_end ≤ length object.now) }
-    requires pair { IsPair (sizes tree.now.space).keypos (slice_range object.now key_at key_end, object.now) }
-    ensures frame { StaysAtRest tree.now.space pass.old pass.new }
-    ensures put { IfDone result (λ new. HasDone (WriteNew (slice_range object.now key_at key_end) object.now new) (tree_of pass.old)
-        (tree_of pass.new)) }
-    ensures refused { IfRefused result (λ rise. IsRefused rise (tree_of pass.old) (tree_of pass.new)) }
-    ensures busy { IfBusy result (λ spent. budget ≤ spent) }
-    ensures caused { IfRefusedAs result (λ why. IsCaused (sizes tree.now.space) pass.old.number budget (Some (slice_range object.now key_at
-        key_end)) why (known pass.old) pass.old.kept.rows (known pass.new) pass.new.kept.rows) }
-    ensures few { KeepsFew (known pass.old) (known pass.new) pass.new.kept.rows }
-    ensures lags { EndsAtLag (known pass.old) (known pass.new) }
-    ensures met_as { HasMetAs (λ new. new) last.new result (known pass.new) }
-    ensures leaves { LeavesAs (λ new. new) (sizes tree.now.space) tree.now.tuning last.old last.new result (tree_of pass.old) (tree_of pass.new) }
-    ensures grows { (sizes tree.now.space).passes ≡ 1 → Grows 2 5 2 (tree_of pass.old) (tree_of pass.new) }
-    ensures wins { (sizes tree.now.space).passes ≡ 1 → WinsAs (λ new. new) result (tree_of pass.old) (tree_of pass.new) }
-    ensures cut { HasCutAs (λ new. new) (sizes tree.now.space) (Some (slice_range object.now key_at key_end)) result (tree_of pass.old)
-        (tree_of pass.new) }
-{
-    let what = PutNewCall {
-        object,
-        key_at,
-        key_end,
-    };
-    call(tree, pass, &what, &mut (), &mut (), last, budget)
 }

@@ -16,11 +16,15 @@ ghost use Rattle.ca_term.specs.declared.bounds.TheConstants.{MOST_CODE_BYTES};
 ghost use Rattle.ca_rows.specs.Passes.{sizes};
 
 use crate::adapting::Last;
+use crate::calls::{Order, call, empty_if_refused};
+use crate::changing::ChangeCall;
 use crate::giving::keep_few;
 use crate::looking::look_up;
+use crate::puts::{PutCall, PutNewCall};
+use crate::removing::{RemoveCall, RemoveIfCall};
 use crate::tree::Tree;
-use crate::{changing, puts, removing};
 use ca_adapt::Adapted;
+use ca_base::Keyed;
 use ca_model::{Changed, Code, Outcome};
 use ca_node::{Front, Link, Spot, TreePass, adapted, front, learn, load_link, walk};
 use std::alloc::AllocError;
@@ -173,15 +177,15 @@ impl TreeStore<'_> {
         ensures tuning { self.new.tuning ≡ self.old.tuning }
         ensures number { self.new.number ≡ self.old.number }
     {
-        puts::put(
-            self.tree,
-            &mut self.pass,
+        let keyed = Keyed {
             object,
             key_at,
             key_end,
-            &mut self.last,
-            budget,
-        )
+        };
+        let what = &PutCall { keyed };
+        let order = Order { what, budget };
+        let (pass, last) = (&mut self.pass, &mut self.last);
+        call(self.tree, pass, &order, &mut (), &mut (), last)
     }
 
     /// Puts the object where no object has its key, and answers whether it did. Its key stands in it from `key_at` to `key_end`. It is
@@ -214,15 +218,15 @@ impl TreeStore<'_> {
         ensures tuning { self.new.tuning ≡ self.old.tuning }
         ensures number { self.new.number ≡ self.old.number }
     {
-        puts::put_new(
-            self.tree,
-            &mut self.pass,
+        let keyed = Keyed {
             object,
             key_at,
             key_end,
-            &mut self.last,
-            budget,
-        )
+        };
+        let what = &PutNewCall { keyed };
+        let order = Order { what, budget };
+        let (pass, last) = (&mut self.pass, &mut self.last);
+        call(self.tree, pass, &order, &mut (), &mut (), last)
     }
 
     /// Removes the key's object, and answers whether there was one; then `old` is the object, else it is empty. It is refused where no row
@@ -248,7 +252,12 @@ impl TreeStore<'_> {
         ensures tuning { self.new.tuning ≡ self.old.tuning }
         ensures number { self.new.number ≡ self.old.number }
     {
-        removing::remove(self.tree, &mut self.pass, key, old, &mut self.last, budget)
+        let what = &RemoveCall { key };
+        let order = Order { what, budget };
+        let (pass, last) = (&mut self.pass, &mut self.last);
+        let outcome = call(self.tree, pass, &order, &mut *old, &mut (), last);
+        empty_if_refused(&outcome, old);
+        outcome
     }
 
     /// Removes the key's object where `f` answers true on it: `Put`. Where it answers false the object stays: `Kept`. In both cases `old`
@@ -282,15 +291,12 @@ impl TreeStore<'_> {
         ensures tuning { self.new.tuning ≡ self.old.tuning }
         ensures number { self.new.number ≡ self.old.number }
     {
-        removing::remove_if(
-            self.tree,
-            &mut self.pass,
-            key,
-            f,
-            old,
-            &mut self.last,
-            budget,
-        )
+        let what = &RemoveIfCall { key, f };
+        let order = Order { what, budget };
+        let (pass, last) = (&mut self.pass, &mut self.last);
+        let outcome = call(self.tree, pass, &order, &mut *old, &mut (), last);
+        empty_if_refused(&outcome, old);
+        outcome
     }
 
     /// Hands the key's object to `f`, with an empty Code and a number. Where it answers true, what it wrote into the Code replaces the
@@ -326,15 +332,13 @@ impl TreeStore<'_> {
         ensures tuning { self.new.tuning ≡ self.old.tuning }
         ensures number { self.new.number ≡ self.old.number }
     {
-        changing::change(
-            self.tree,
-            &mut self.pass,
-            key,
-            f,
-            old,
-            &mut self.last,
-            budget,
-        )
+        let what = &ChangeCall { key, f };
+        let order = Order { what, budget };
+        let mut new = Code::new();
+        let (pass, last) = (&mut self.pass, &mut self.last);
+        let outcome = call(self.tree, pass, &order, &mut *old, &mut new, last);
+        empty_if_refused(&outcome, old);
+        outcome
     }
 
     /// A copy of what the pass has seen of the tree's history.

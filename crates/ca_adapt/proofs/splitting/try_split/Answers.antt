@@ -1,5 +1,7 @@
-use Rattle.std.proofs.Common.{arith}
-use Rattle.ca_base.specs.Putting.{first_note}
+use Rattle.std.proofs.Common.{◌≡◌, length, sym, subst, arith}
+use Rattle.ca_node.specs.Told.{MyTree}
+use Rattle.ca_base.specs.Finding.{IsAtCursor}
+use Rattle.ca_base.specs.Putting.{IsShownLast, first_note}
 use Rattle.ca_adapt.proofs.Dividing.{one_try_as, put_back_as, split_as, pools_as}
 use Rattle.ca_adapt.proofs.splitting.try_split.Goals as goal
 
@@ -23,3 +25,14 @@ pub returns-clause-back : goal.returns-clause-back
 returns-clause-back c = put_back_as c.split_at.result c.answer.result c.args.pass.now.seat.me c.count-many.new.pass.seat.me c.split_at.new.pass.seat.me
     c.args.pass.now.kept c.count-many.new.pass.kept c.split_at.new.pass.kept c.count-many.ensures.frame.still c.count-many.ensures.frame.kept
     c.answer.ensures c.split_at.ensures.back
+
+pub split_at-requires-clause-target : goal.split_at-requires-clause-target
+split_at-requires-clause-target c = let z = c.args.space.now.table.shared.key in let r = c.requires.readable in
+    let same = sym c.count-many.ensures.frame.still in record {
+      leaf = let most = c.requires.tuned.allowed.most_leaf in let leaf = c.requires.tuned.leaf in omega arith;
+      shown = subst (λ (m : MyTree). IsShownLast z m.0.upper c.args.cursor.base) same
+          record { noted = r.noted; here = r.here; is_base = r.is_base };
+      at = subst (λ (m : MyTree). IsAtCursor z (first_note m.0.upper.notes) c.args.cursor) same c.requires.at;
+      many_are = subst (λ (m : MyTree). c.count-many.result ≡ length (first_note m.0.upper.notes).objects) same
+          (c.count-many.ensures.count (first_note c.args.pass.now.seat.me.0.upper.notes) r);
+    }

@@ -39,19 +39,19 @@ write_base_without-old-requires-clause-reading c = record {
 }
 
 pub write_base_without-old-requires-clause-shown : goal.write_base_without-old-requires-clause-shown
-write_base_without-old-requires-clause-shown c = subst (λ (u : TreeView). IsShownLast c.args.space.now.table.shared.key u c.args.cursor.base)
-    (sym c.take.ensures.frame.same.4) c.requires.shown
+write_base_without-old-requires-clause-shown c = subst (λ (u : TreeView). IsShownLast c.args.space.now.table.shared.key u c.args.target.now.cursor.base)
+    (sym c.take.ensures.frame.same.4) c.requires.target.shown
 
 pub write_base_without-old-requires-clause-many : goal.write_base_without-old-requires-clause-many
 write_base_without-old-requires-clause-many c = let u = c.args.pass.now.seat.me.0.upper in (
-  subst (λ (v : TreeView). c.args.many ≡ length (last_items v)) (sym c.take.ensures.frame.same.4)
-      (many_are _ u c.args.cursor.base c.args.many c.requires.shown c.requires.many),
-  few_are _ u c.args.cursor.base c.args.many c.requires.shown c.requires.many c.requires.leaf,
+  subst (λ (v : TreeView). c.args.target.now.many ≡ length (last_items v)) (sym c.take.ensures.frame.same.4)
+      (many_are _ u c.args.target.now.cursor.base c.args.target.now.many c.requires.target.shown c.requires.target.many_are),
+  few_are _ u c.args.target.now.cursor.base c.args.target.now.many c.requires.target.shown c.requires.target.many_are c.requires.target.leaf,
 )
 
 pub write_base_without-old-requires-clause-place : goal.write_base_without-old-requires-clause-place
-write_base_without-old-requires-clause-place c = place_in c.args.space.now.table.shared.key c.args.pass.now.seat.me.0.upper c.args.cursor.base c.args.many
-    (Ok c.args.at) _ c.requires.shown c.requires.many c.requires.place
+write_base_without-old-requires-clause-place c = place_in c.args.space.now.table.shared.key c.args.pass.now.seat.me.0.upper c.args.target.now.cursor.base c.args.target.now.many
+    (Ok c.args.removal.now.at) _ c.requires.target.shown c.requires.target.many_are c.requires.place
 
 pub swap_in-requires-clause-held : goal.swap_in-requires-clause-held
 swap_in-requires-clause-held c = let v = c.write_base_without-old.ensures.written in
@@ -61,43 +61,43 @@ swap_in-requires-clause-held c = let v = c.write_base_without-old.ensures.writte
 
 pub swap_in-requires-clause-old_base : goal.swap_in-requires-clause-old_base
 swap_in-requires-clause-old_base c = subst (λ (u : TreeView). IsBaseNote c.args.space.now.table.shared.key (first_note u.notes))
-    (sym (c.write_base_without-old.ensures.frame.same.4 ∙ c.take.ensures.frame.same.4)) c.requires.shown.is_base
+    (sym (c.write_base_without-old.ensures.frame.same.4 ∙ c.take.ensures.frame.same.4)) c.requires.target.shown.is_base
 
 pub swap_in-requires-clause-cursor : goal.swap_in-requires-clause-cursor
-swap_in-requires-clause-cursor c = subst (λ (u : TreeView). IsAtCursor c.args.space.now.table.shared.key (first_note u.notes) c.args.cursor)
-    (sym (c.write_base_without-old.ensures.frame.same.4 ∙ c.take.ensures.frame.same.4)) c.requires.cursor
+swap_in-requires-clause-cursor c = subst (λ (u : TreeView). IsAtCursor c.args.space.now.table.shared.key (first_note u.notes) c.args.target.now.cursor)
+    (sym (c.write_base_without-old.ensures.frame.same.4 ∙ c.take.ensures.frame.same.4)) c.requires.target.at
 
 pub swap_in-requires-clause-rows : goal.swap_in-requires-clause-rows
 swap_in-requires-clause-rows c = let one = c.take.ensures.frame.same in let two = c.write_base_without-old.ensures.frame.same in (
   refl,
-  ap (λ (u : TreeView). gone (Ok c.args.at) (last_items u)) two.4
-      ∙ (ap (λ x. x ∷ []) (sym c.write_base_without-old.ensures.gone) ∙ sym c.from_ref-goes.ensures.value),
+  ap (λ (u : TreeView). gone (Ok c.args.removal.now.at) (last_items u)) two.4
+      ∙ (ap (λ x. x ∷ []) (sym c.write_base_without-old.ensures.gone) ∙ sym c.from_ref.ensures.value),
 )
 
 pub swap_in-requires-clause-update : goal.swap_in-requires-clause-update
 swap_in-requires-clause-update c = let v = c.write_base_without-old.ensures.written in let r = c.requires in
     let one = c.take.ensures.frame.same in let two = c.write_base_without-old.ensures.frame.same in
     ready_without c.args.space.now.table.shared.key c.args.pass.now.seat.me c.take.new.pass.seat.me c.write_base_without-old.new.pass.seat.me c.in-Ok.row
-    c.args.cursor.base c.args.at c.args.statistic c.args._key.now v.0 r.shown (two.4 ∙ one.4) r.place
-    (spells_there c.args.pass.now.seat.me.0.upper c.take.new.pass.seat.me.0.upper (λ xs. remove xs c.args.at) _ c.args.cursor.level c.args.statistic v.0 one.4
-    r.cursor.level v.1) v.2 r.ready.pinned r.ready.number (two.3 ∙ one.3) r.ordered r.about
+    c.args.target.now.cursor.base c.args.removal.now.at c.args.target.now.statistic c.args.removal.now.key.now v.0 r.target.shown (two.4 ∙ one.4) r.place
+    (spells_there c.args.pass.now.seat.me.0.upper c.take.new.pass.seat.me.0.upper (λ xs. remove xs c.args.removal.now.at) _ c.args.target.now.cursor.level c.args.target.now.statistic v.0 one.4
+    r.target.at.level v.1) v.2 r.ready.pinned r.ready.number (two.3 ∙ one.3) r.ordered r.about
 
 pub returns-clause-removed : goal.returns-clause-removed
 returns-clause-removed c = let v = c.write_base_without-old.ensures.written in let r = c.requires in
     let one = c.take.ensures.frame.same in let two = c.write_base_without-old.ensures.frame.same in
     removed c.args.space.now.table.shared.key c.args.pass.now.seat.me c.take.new.pass.seat.me c.write_base_without-old.new.pass.seat.me c.in-Ok.row
-    c.args.cursor.base c.args.at c.args.statistic c.args._key.now v.0 r.shown (two.4 ∙ one.4) r.place
-    (spells_there c.args.pass.now.seat.me.0.upper c.take.new.pass.seat.me.0.upper (λ xs. remove xs c.args.at) _ c.args.cursor.level c.args.statistic v.0 one.4
-    r.cursor.level v.1) v.2
+    c.args.target.now.cursor.base c.args.removal.now.at c.args.target.now.statistic c.args.removal.now.key.now v.0 r.target.shown (two.4 ∙ one.4) r.place
+    (spells_there c.args.pass.now.seat.me.0.upper c.take.new.pass.seat.me.0.upper (λ xs. remove xs c.args.removal.now.at) _ c.args.target.now.cursor.level c.args.target.now.statistic v.0 one.4
+    r.target.at.level v.1) v.2
     c.swap_in.result c.swap_in.new.pass.seat.me.0.upper c.swap_in.ensures.done
 
 pub returns-clause-renewed : goal.returns-clause-renewed
 returns-clause-renewed c = let v = c.write_base_without-old.ensures.written in let r = c.requires in
     let one = c.take.ensures.frame.same in let two = c.write_base_without-old.ensures.frame.same in
     renewed_without c.args.space.now.table.shared.key c.args.pass.now.seat.me c.take.new.pass.seat.me c.write_base_without-old.new.pass.seat.me c.in-Ok.row
-    c.args.cursor.base c.args.at c.args.statistic c.args._key.now v.0 r.shown (two.4 ∙ one.4) r.place
-    (spells_there c.args.pass.now.seat.me.0.upper c.take.new.pass.seat.me.0.upper (λ xs. remove xs c.args.at) _ c.args.cursor.level c.args.statistic v.0 one.4
-    r.cursor.level v.1) v.2
+    c.args.target.now.cursor.base c.args.removal.now.at c.args.target.now.statistic c.args.removal.now.key.now v.0 r.target.shown (two.4 ∙ one.4) r.place
+    (spells_there c.args.pass.now.seat.me.0.upper c.take.new.pass.seat.me.0.upper (λ xs. remove xs c.args.removal.now.at) _ c.args.target.now.cursor.level c.args.target.now.statistic v.0 one.4
+    r.target.at.level v.1) v.2
     (met_of c.swap_in.new.pass.seat.me) c.swap_in.result c.swap_in.new.pass.seat.me.0.upper c.swap_in.ensures.renewed
 
 pub returns-clause-frame : goal.returns-clause-frame

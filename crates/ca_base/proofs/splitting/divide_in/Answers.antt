@@ -8,15 +8,15 @@ use Rattle.ca_base.proofs.splitting.divide_in.Goals as goal
 
 pub give_back_all-requires-clause-held : goal.give_back_all-requires-clause-held
 give_back_all-requires-clause-held g c = held_still c.args.space.now.table.shared.key.rows c.args.pass.now.kept c.divide_base.new.pass.kept
-    c.args.pass.now.seat.me c.divide_base.new.pass.seat.me (c.args.route ∷ c.args.left ∷ c.args.right ∷ []) c.if-not-divide_base.ensures.done
+    c.args.pass.now.seat.me c.divide_base.new.pass.seat.me (c.args.fork.route ∷ c.args.fork.left ∷ c.args.fork.right ∷ []) c.if-not-divide_base.ensures.done
     c.divide_base.ensures.frame.kept c.requires.held
 
 pub retire_unlinked-requires-clause-unlinked : goal.retire_unlinked-requires-clause-unlinked
 retire_unlinked-requires-clause-unlinked g c = let r = c.requires.rows in (
   [],
-  in_nothing c.args.base [] refl,
+  in_nothing c.args.cursor.base [] refl,
   divided_rows c.args.space.now.table.shared.key.rows c.args.pass.now.kept c.divide_base.new.pass.kept c.args.pass.now.seat.me
-      c.divide_base.new.pass.seat.me g.K.Plan.division c.args.base (c.args.route ∷ c.args.left ∷ c.args.right ∷ [])
+      c.divide_base.new.pass.seat.me g.K.Plan.division c.args.cursor.base (c.args.fork.route ∷ c.args.fork.left ∷ c.args.fork.right ∷ [])
       (λ i. r.1 i ∷ r.2 i ∷ r.3 i ∷ []) r.0 c.if-not-divide_base.ensures.done c.divide_base.ensures.frame.kept c.requires.apart c.requires.held,
 )
 
@@ -30,9 +30,9 @@ returns-clause-frame g c = record {
   pin = search rules;
   none = let r = c.requires.rows in let rows = c.args.space.now.table.shared.key.rows in
       none_left rows c.retire_unlinked.new.pass.kept.rows c.retire_unlinked.new.pass.seat.me.0
-      (c.retire_unlinked.ensures.retired [] (in_nothing c.args.base [] refl)
-      (divided_rows rows c.args.pass.now.kept c.divide_base.new.pass.kept c.args.pass.now.seat.me c.divide_base.new.pass.seat.me g.K.Plan.division c.args.base
-      (c.args.route ∷ c.args.left ∷ c.args.right ∷ []) (λ i. r.1 i ∷ r.2 i ∷ r.3 i ∷ []) r.0 c.if-not-divide_base.ensures.done
+      (c.retire_unlinked.ensures.retired [] (in_nothing c.args.cursor.base [] refl)
+      (divided_rows rows c.args.pass.now.kept c.divide_base.new.pass.kept c.args.pass.now.seat.me c.divide_base.new.pass.seat.me g.K.Plan.division c.args.cursor.base
+      (c.args.fork.route ∷ c.args.fork.left ∷ c.args.fork.right ∷ []) (λ i. r.1 i ∷ r.2 i ∷ r.3 i ∷ []) r.0 c.if-not-divide_base.ensures.done
       c.divide_base.ensures.frame.kept c.requires.apart c.requires.held));
 }
 

@@ -33,9 +33,9 @@ write_half-requires-2-clause-inside c = (c.in-Ok.ensures.taken.1.0.each c.in-Ok.
 pub copy_key-requires-clause-shown : goal.copy_key-requires-clause-shown
 copy_key-requires-clause-shown c = let r = c.requires in let u = c.args.pass.now.seat.me.0.upper in
     let upper = c.write_half-2.ensures.frame.same.4 ∙ (c.write_half.ensures.frame.same.4 ∙ c.take_three.ensures.frame.same.4) in
-    let many = r.many.1 in let some = r.many.0 in
+    let many = r.target.many_are in let some = r.two in
     let read = subst (λ (v : TreeView). IsReadable c.args.space.now.table.shared.key v c.args.cursor.base (first_note u.notes)) (sym upper)
-    (last_readable c.args.space.now.table.shared.key u c.args.cursor.base r.shown r.leaf r.ordered) in (
+    (last_readable c.args.space.now.table.shared.key u c.args.cursor.base r.target.shown r.target.leaf r.ordered) in (
       get_or (first_note u.notes).objects (c.args.many / 2) [],
       subst (λ (m : MyTree). IsObjectShown m.0.upper c.item-first.result (get_or (first_note u.notes).objects (c.args.many / 2) []))
           (sym c.item-first.ensures.frame.still) (c.item-first.ensures.item (first_note u.notes) read (omega arith)).1,
@@ -59,16 +59,16 @@ divide_in-requires-clause-division c = let r = c.requires in let u = c.args.pass
     let its : List ℕ = get_or (first_note u.notes).objects (c.args.many / 2) [] in let t = c.in-Ok.ensures.taken in let one = c.take_three.ensures.frame.same in let two = c.write_half.ensures.frame.same in let three = c.write_half-2.ensures.frame.same in
     let four = c.write_route.ensures.frame.same in let still = c.copy_key.ensures.frame.still ∙ c.item-first.ensures.frame.still in
     let first = c.write_half.ensures.written in let last = c.write_half-2.ensures.written in let over = c.write_route.ensures.written in
-    let many = r.many.1 in let some = r.many.0 in let base = c.args.cursor.base in let z = c.args.space.now.table.shared.key in
+    let many = r.target.many_are in let some = r.two in let base = c.args.cursor.base in let z = c.args.space.now.table.shared.key in
     let upper = three.4 ∙ (two.4 ∙ one.4) in
-    let read = subst (λ (v : TreeView). IsReadable z v base (first_note u.notes)) (sym upper) (last_readable z u base r.shown r.leaf r.ordered) in
+    let read = subst (λ (v : TreeView). IsReadable z v base (first_note u.notes)) (sym upper) (last_readable z u base r.target.shown r.target.leaf r.ordered) in
     let told = (c.item-first.ensures.item (first_note u.notes) read (omega arith)).1 in
     let shown = subst (λ (m : MyTree). IsObjectShown m.0.upper c.item-first.result its) (sym c.item-first.ensures.frame.still) told in
     divides_of z c.args.pass.now.seat.me c.take_three.new.pass.seat.me c.write_half.new.pass.seat.me c.write_half-2.new.pass.seat.me
     c.write_route.new.pass.seat.me c.in-Ok.rows.0 c.in-Ok.rows.1 c.in-Ok.rows.2 c.args.many c.args.attempt c.args.cursor first.0 last.0 over.0
     record {
-      shown = r.shown;
-      at = r.cursor;
+      shown = r.target.shown;
+      at = r.target.at;
       many_are = many;
       some_left = some;
       above = r.above;

@@ -1,4 +1,4 @@
-use Rattle.std.proofs.Common.{◌≡◌, ℕ, List, [], ◌∷◌, length, sym, refl, ap, ◌∙◌, subst}
+use Rattle.std.proofs.Common.{◌≡◌, ℕ, ◌≤◌, List, [], ◌∷◌, length, arith, sym, refl, ap, ◌∙◌, subst}
 use Rattle.ca_node.proofs.HeldRows.{AreApart}
 use Rattle.ca_node.proofs.Members.{in_first, in_rest}
 use Rattle.ca_node.specs.Told.{IsBaseNote}
@@ -8,7 +8,7 @@ use Rattle.ca_base.specs.Putting.{put_in, gone, IsRoom, IsShownLast, first_note,
 use Rattle.ca_rows.specs.Told.{met_of}
 use Rattle.ca_base.proofs.Alone.{won_then}
 use Rattle.ca_base.proofs.Readying.{finds_place, place_in, many_are, few_are, spells_there, ready, tried, renewed_so}
-use Rattle.ca_base.proofs.Rest.{two_apart, gone_apart}
+use Rattle.ca_base.proofs.Rest.{two_apart, gone_apart, gone_few}
 use Rattle.ca_base.proofs.Unlinking.{written_row}
 use Rattle.ca_rows.specs.declared.view.Pin.{Pin}
 use Rattle.ca_base.proofs.Tallies.{tallied_as}
@@ -40,21 +40,21 @@ write_base_with-old-requires-clause-reading c = record {
 }
 
 pub write_base_with-old-requires-clause-shown : goal.write_base_with-old-requires-clause-shown
-write_base_with-old-requires-clause-shown c = subst (λ (u : TreeView). IsShownLast c.args.space.now.table.shared.key u c.args.cursor.base)
-    (sym (c.write_object.ensures.frame.same.4 ∙ c.take_two.ensures.frame.same.4)) c.requires.shown
+write_base_with-old-requires-clause-shown c = subst (λ (u : TreeView). IsShownLast c.args.space.now.table.shared.key u c.args.target.now.cursor.base)
+    (sym (c.write_object.ensures.frame.same.4 ∙ c.take_two.ensures.frame.same.4)) c.requires.target.shown
 
 pub write_base_with-old-requires-clause-many : goal.write_base_with-old-requires-clause-many
 write_base_with-old-requires-clause-many c = let u = c.args.pass.now.seat.me.0.upper in (
-  subst (λ (v : TreeView). c.args.many ≡ length (last_items v)) (sym (c.write_object.ensures.frame.same.4 ∙ c.take_two.ensures.frame.same.4))
-      (many_are _ u c.args.cursor.base c.args.many c.requires.shown c.requires.many),
-  few_are _ u c.args.cursor.base c.args.many c.requires.shown c.requires.many c.requires.leaf,
+  subst (λ (v : TreeView). c.args.target.now.many ≡ length (last_items v)) (sym (c.write_object.ensures.frame.same.4 ∙ c.take_two.ensures.frame.same.4))
+      (many_are _ u c.args.target.now.cursor.base c.args.target.now.many c.requires.target.shown c.requires.target.many_are),
+  few_are _ u c.args.target.now.cursor.base c.args.target.now.many c.requires.target.shown c.requires.target.many_are c.requires.target.leaf,
 )
 
 pub write_base_with-old-requires-clause-place : goal.write_base_with-old-requires-clause-place
-write_base_with-old-requires-clause-place c = finds_place c.args.place c.args.many c.args.space.now.table.shared.key.leaf
-    (place_in c.args.space.now.table.shared.key c.args.pass.now.seat.me.0.upper c.args.cursor.base c.args.many c.args.place _ c.requires.shown c.requires.many
+write_base_with-old-requires-clause-place c = finds_place c.args.insertion.now.place c.args.target.now.many c.args.space.now.table.shared.key.leaf
+    (place_in c.args.space.now.table.shared.key c.args.pass.now.seat.me.0.upper c.args.target.now.cursor.base c.args.target.now.many c.args.insertion.now.place _ c.requires.target.shown c.requires.target.many_are
     c.requires.place)
-    c.requires.room c.requires.leaf
+    c.requires.room c.requires.target.leaf
 
 pub swap_in-requires-clause-held : goal.swap_in-requires-clause-held
 swap_in-requires-clause-held c = let t = c.in-Ok.ensures.taken in let w = c.write_object.ensures.written in
@@ -68,17 +68,17 @@ swap_in-requires-clause-held c = let t = c.in-Ok.ensures.taken in let w = c.writ
 
 pub swap_in-requires-clause-old_base : goal.swap_in-requires-clause-old_base
 swap_in-requires-clause-old_base c = let same = c.write_base_with-old.ensures.frame.same.4 ∙ (c.write_object.ensures.frame.same.4 ∙ c.take_two.ensures.frame.same.4) in
-    subst (λ (u : TreeView). IsBaseNote c.args.space.now.table.shared.key (first_note u.notes)) (sym same) c.requires.shown.is_base
+    subst (λ (u : TreeView). IsBaseNote c.args.space.now.table.shared.key (first_note u.notes)) (sym same) c.requires.target.shown.is_base
 
 pub swap_in-requires-clause-cursor : goal.swap_in-requires-clause-cursor
 swap_in-requires-clause-cursor c = let same = c.write_base_with-old.ensures.frame.same.4 ∙ (c.write_object.ensures.frame.same.4 ∙ c.take_two.ensures.frame.same.4) in
-    subst (λ (u : TreeView). IsAtCursor c.args.space.now.table.shared.key (first_note u.notes) c.args.cursor) (sym same) c.requires.cursor
+    subst (λ (u : TreeView). IsAtCursor c.args.space.now.table.shared.key (first_note u.notes) c.args.target.now.cursor) (sym same) c.requires.target.at
 
 pub swap_in-requires-clause-rows : goal.swap_in-requires-clause-rows
 swap_in-requires-clause-rows c = let one = c.take_two.ensures.frame.same in let two = c.write_object.ensures.frame.same in
     let three = c.write_base_with-old.ensures.frame.same in (
       refl,
-      ap (λ (u : TreeView). gone c.args.place (last_items u)) three.4 ∙ sym (c.gone-goes.ensures _ c.write_base_with-old.ensures.gone),
+      ap (λ (u : TreeView). gone c.args.insertion.now.place (last_items u)) three.4 ∙ sym (c.gone.ensures _ c.write_base_with-old.ensures.gone),
     )
 
 pub swap_in-requires-clause-update : goal.swap_in-requires-clause-update
@@ -86,18 +86,24 @@ swap_in-requires-clause-update c = let t = c.in-Ok.ensures.taken in let w = c.wr
     let v = c.write_base_with-old.ensures.written in let r = c.requires in
     let one = c.take_two.ensures.frame.same in let two = c.write_object.ensures.frame.same in let three = c.write_base_with-old.ensures.frame.same in
     ready c.args.space.now.table.shared.key c.args.pass.now.seat.me c.take_two.new.pass.seat.me c.write_object.new.pass.seat.me
-    c.write_base_with-old.new.pass.seat.me c.in-Ok.rows.1 c.in-Ok.rows.0 c.args.cursor.base c.args.place c.args.why c.args.object.now
-    c.args.key_at c.args.key_end c.args.statistic w.0 v.0 r.shown (three.4 ∙ (two.4 ∙ one.4)) (λ e. t.0 (sym e)) w.1 w.2
-    (spells_there c.args.pass.now.seat.me.0.upper c.write_object.new.pass.seat.me.0.upper (λ xs. put_in xs c.args.place c.in-Ok.rows.1) _ c.args.cursor.level
-    c.args.statistic v.0 (two.4 ∙ one.4) r.cursor.level v.1) v.2
+    c.write_base_with-old.new.pass.seat.me c.in-Ok.rows.1 c.in-Ok.rows.0 c.args.target.now.cursor.base c.args.insertion.now.place c.args.insertion.now.why c.args.insertion.now.keyed.object.now
+    c.args.insertion.now.keyed.key_at c.args.insertion.now.keyed.key_end c.args.target.now.statistic w.0 v.0 r.target.shown (three.4 ∙ (two.4 ∙ one.4)) (λ e. t.0 (sym e)) w.1 w.2
+    (spells_there c.args.pass.now.seat.me.0.upper c.write_object.new.pass.seat.me.0.upper (λ xs. put_in xs c.args.insertion.now.place c.in-Ok.rows.1) _ c.args.target.now.cursor.level
+    c.args.target.now.statistic v.0 (two.4 ∙ one.4) r.target.at.level v.1) v.2
     r.ready.pinned r.ready.number
-    (subst (λ (n : ℕ). IsRoom c.args.place n c.args.space.now.table.shared.key.leaf) (many_are _ _ c.args.cursor.base c.args.many r.shown r.many) r.room)
-    r.pair r.place r.call (three.3 ∙ (two.3 ∙ one.3)) r.about
+    (subst (λ (n : ℕ). IsRoom c.args.insertion.now.place n c.args.space.now.table.shared.key.leaf) (many_are _ _ c.args.target.now.cursor.base c.args.target.now.many r.target.shown r.target.many_are) r.room)
+    r.keyed.pair_is r.place r.call (three.3 ∙ (two.3 ∙ one.3)) r.about
 
 pub swap_in-requires-clause-apart : goal.swap_in-requires-clause-apart
 swap_in-requires-clause-apart c = (
   two_apart c.in-Ok.rows.0 c.in-Ok.rows.1 c.in-Ok.ensures.taken.0,
-  subst AreApart (sym (c.gone-goes.ensures _ c.write_base_with-old.ensures.gone)) (gone_apart c.args.place _),
+  subst AreApart (sym (c.gone.ensures _ c.write_base_with-old.ensures.gone)) (gone_apart c.args.insertion.now.place _),
+)
+
+pub swap_in-requires-clause-few : goal.swap_in-requires-clause-few
+swap_in-requires-clause-few c = (
+  omega arith,
+  subst (λ (xs : List ℕ). length xs ≤ 1) (sym (c.gone.ensures _ c.write_base_with-old.ensures.gone)) (gone_few c.args.insertion.now.place _),
 )
 
 pub returns-clause-put : goal.returns-clause-put
@@ -105,10 +111,10 @@ returns-clause-put c = let t = c.in-Ok.ensures.taken in let w = c.write_object.e
     let v = c.write_base_with-old.ensures.written in let r = c.requires in
     let one = c.take_two.ensures.frame.same in let two = c.write_object.ensures.frame.same in let three = c.write_base_with-old.ensures.frame.same in
     tried c.args.space.now.table.shared.key c.args.pass.now.seat.me c.take_two.new.pass.seat.me c.write_object.new.pass.seat.me
-    c.write_base_with-old.new.pass.seat.me c.in-Ok.rows.1 c.in-Ok.rows.0 c.args.cursor.base c.args.place c.args.why c.args.object.now
-    c.args.key_at c.args.key_end c.args.statistic w.0 v.0 r.shown (three.4 ∙ (two.4 ∙ one.4)) (λ e. t.0 (sym e)) w.1 w.2
-    (spells_there c.args.pass.now.seat.me.0.upper c.write_object.new.pass.seat.me.0.upper (λ xs. put_in xs c.args.place c.in-Ok.rows.1) _ c.args.cursor.level
-    c.args.statistic v.0 (two.4 ∙ one.4) r.cursor.level v.1) v.2
+    c.write_base_with-old.new.pass.seat.me c.in-Ok.rows.1 c.in-Ok.rows.0 c.args.target.now.cursor.base c.args.insertion.now.place c.args.insertion.now.why c.args.insertion.now.keyed.object.now
+    c.args.insertion.now.keyed.key_at c.args.insertion.now.keyed.key_end c.args.target.now.statistic w.0 v.0 r.target.shown (three.4 ∙ (two.4 ∙ one.4)) (λ e. t.0 (sym e)) w.1 w.2
+    (spells_there c.args.pass.now.seat.me.0.upper c.write_object.new.pass.seat.me.0.upper (λ xs. put_in xs c.args.insertion.now.place c.in-Ok.rows.1) _ c.args.target.now.cursor.level
+    c.args.target.now.statistic v.0 (two.4 ∙ one.4) r.target.at.level v.1) v.2
     c.swap_in.result c.swap_in.new.pass.seat.me.0.upper c.swap_in.ensures.done
 
 pub returns-clause-renewed : goal.returns-clause-renewed
@@ -116,10 +122,10 @@ returns-clause-renewed c = let t = c.in-Ok.ensures.taken in let w = c.write_obje
     let v = c.write_base_with-old.ensures.written in let r = c.requires in
     let one = c.take_two.ensures.frame.same in let two = c.write_object.ensures.frame.same in let three = c.write_base_with-old.ensures.frame.same in
     renewed_so c.args.space.now.table.shared.key c.args.pass.now.seat.me c.take_two.new.pass.seat.me c.write_object.new.pass.seat.me
-    c.write_base_with-old.new.pass.seat.me c.in-Ok.rows.1 c.in-Ok.rows.0 c.args.cursor.base c.args.place c.args.why c.args.object.now
-    c.args.key_at c.args.key_end c.args.statistic w.0 v.0 r.shown (three.4 ∙ (two.4 ∙ one.4)) (λ e. t.0 (sym e)) w.1 w.2
-    (spells_there c.args.pass.now.seat.me.0.upper c.write_object.new.pass.seat.me.0.upper (λ xs. put_in xs c.args.place c.in-Ok.rows.1) _ c.args.cursor.level
-    c.args.statistic v.0 (two.4 ∙ one.4) r.cursor.level v.1) v.2
+    c.write_base_with-old.new.pass.seat.me c.in-Ok.rows.1 c.in-Ok.rows.0 c.args.target.now.cursor.base c.args.insertion.now.place c.args.insertion.now.why c.args.insertion.now.keyed.object.now
+    c.args.insertion.now.keyed.key_at c.args.insertion.now.keyed.key_end c.args.target.now.statistic w.0 v.0 r.target.shown (three.4 ∙ (two.4 ∙ one.4)) (λ e. t.0 (sym e)) w.1 w.2
+    (spells_there c.args.pass.now.seat.me.0.upper c.write_object.new.pass.seat.me.0.upper (λ xs. put_in xs c.args.insertion.now.place c.in-Ok.rows.1) _ c.args.target.now.cursor.level
+    c.args.target.now.statistic v.0 (two.4 ∙ one.4) r.target.at.level v.1) v.2
     (met_of c.swap_in.new.pass.seat.me) c.swap_in.result c.swap_in.new.pass.seat.me.0.upper c.swap_in.ensures.renewed
 
 pub returns-clause-frame : goal.returns-clause-frame

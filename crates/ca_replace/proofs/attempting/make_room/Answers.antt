@@ -1,8 +1,10 @@
+use Rattle.ca_replace.proofs.Tuning.{tuned_on}
 use Rattle.ca_replace.proofs.GoingOn.{split_further, paid_split, paid_unsplit}
 use Rattle.std.proofs.Common.{true, Err, Some, sym, subst, arith}
 use Rattle.ca_replace.specs.declared.attempting.Stop.{Stop}
 use Rattle.ca_replace.specs.Growing.{HasGrown}
 use Rattle.ca_replace.proofs.Growing.{made_room}
+use Rattle.ca_replace.proofs.Showing.{shown_last}
 use Rattle.ca_replace.specs.Cutting.{HasCut}
 use Rattle.ca_replace.proofs.Cutting.{made_cut}
 use Rattle.ca_replace.proofs.Winning.{room_won}
@@ -13,21 +15,21 @@ use Rattle.ca_replace.proofs.attempting.make_room.Goals.{then-is_split, else-is_
 use Rattle.ca_replace.proofs.attempting.make_room.Goals as goal
 
 pub returns-clause-further : goal.returns-clause-further
-returns-clause-further c = split_further c.args.space.now.table.shared.key c.args.many _ c.split_at-split.result c.args.pass.now.seat.me.0.upper
+returns-clause-further c = split_further c.args.tree.now.space.table.shared.key c.args.many _ c.split_at-split.result c.args.pass.now.seat.me.0.upper
     c.split_at-split.new.pass.seat.me.0.upper c.split_at-split.ensures.split c.requires.looking.1.known
 
 pub returns-clause-grown : goal.returns-clause-grown
-returns-clause-grown c key looking alone = let least = c.requires.tuned.allowed.least_leaf in let leaf = c.requires.tuned.leaf in
+returns-clause-grown c key looking alone = let least = (tuned_on c.args.tree.now).allowed.least_leaf in let leaf = (tuned_on c.args.tree.now).leaf in
     let full = c.requires.many.1 in
-    subst (λ (why : Stop). HasGrown {T = Unit {0}} c.args.space.now.table.shared.key (Some key) (Err why) c.args.pass.now.seat.me.0.upper
+    subst (λ (why : Stop). HasGrown {T = Unit {0}} c.args.tree.now.space.table.shared.key (Some key) (Err why) c.args.pass.now.seat.me.0.upper
     c.split_at-split.new.pass.seat.me.0.upper) (sym c.stop_of.ensures)
-    (made_room c.args.space.now.table.shared.key c.args.pass.now.seat.me.0.upper c.split_at-split.new.pass.seat.me.0.upper key c.args.cursor c.args.many _
+    (made_room c.args.tree.now.space.table.shared.key c.args.pass.now.seat.me.0.upper c.split_at-split.new.pass.seat.me.0.upper key c.args.cursor c.args.many _
     c.split_at-split.result looking (looking.listed alone) c.requires.many.0 (omega arith) (omega arith) c.split_at-split.ensures.split)
 
 pub returns-clause-cut : goal.returns-clause-cut
-returns-clause-cut c key full = subst (λ (why : Stop). HasCut {T = Unit {0}} (λ _. true) c.args.space.now.table.shared.key (Some key) (Err why)
+returns-clause-cut c key full = subst (λ (why : Stop). HasCut {T = Unit {0}} (λ _. true) c.args.tree.now.space.table.shared.key (Some key) (Err why)
     c.args.pass.now.seat.me.0.upper c.split_at-split.new.pass.seat.me.0.upper) (sym c.stop_of.ensures)
-    (made_cut (λ (_ : Unit {0}). true) c.args.space.now.table.shared.key (Some key) c.args.many _ c.split_at-split.result c.args.pass.now.seat.me.0.upper
+    (made_cut (λ (_ : Unit {0}). true) c.args.tree.now.space.table.shared.key (Some key) c.args.many _ c.split_at-split.result c.args.pass.now.seat.me.0.upper
     c.split_at-split.new.pass.seat.me.0.upper full c.requires.many.0 c.first_attempt.ensures.value c.split_at-split.ensures.split)
 
 pub returns-clause-won : goal.returns-clause-won
@@ -36,12 +38,10 @@ returns-clause-won c key looking alone = subst (λ (why : Stop). HasWonAs {T = U
     (room_won {T = Unit {0}} (λ _. true) c.args.many _ c.split_at-split.result c.args.pass.now.seat.me.0.upper c.split_at-split.new.pass.seat.me.0.upper
     (c.split_at-split.ensures.won alone (looking.listed alone)) c.split_at-split.ensures.split)
 
-pub returns-clause-counted : goal.returns-clause-counted
-returns-clause-counted c = let m = c.args.pass.now.seat.me in let m' = c.split_at-split.new.pass.seat.me in elim c.if-is_split.branch [
-  | then-is_split w ↦ subst (λ (s : Spent). IsPaid c.args.spent.now s m m') (sym w.spent-is)
-      (paid_split c.args.many _ w.saturating_add-spent.result c.split_at-split.result c.args.spent.now c.split_at-split.new.spent m m'
-      c.split_at-split.ensures.split c.split_at-split.ensures.counted (c.is_split.ensures.0 w.if-is_split.true) w.saturating_add-spent.ensures)
-  | else-is_split w ↦ subst (λ (s : Spent). IsPaid c.args.spent.now s m m') (sym w.spent-is)
-      (paid_unsplit c.args.many _ c.split_at-split.result c.args.spent.now c.split_at-split.new.spent m m' c.split_at-split.ensures.split
-      c.split_at-split.ensures.counted (λ won. (let n = c.is_split.ensures.1 won in let is = w.if-is_split.false in absurd cc)))
-]
+pub split_at-split-requires-clause-target : goal.split_at-split-requires-clause-target
+split_at-split-requires-clause-target c = let l = c.requires.looking.1 in record {
+  leaf = let most = (tuned_on c.args.tree.now).allowed.most_leaf in let leaf = (tuned_on c.args.tree.now).leaf in omega arith;
+  shown = shown_last c.args.tree.now.space.table.shared.key c.args.pass.now.seat.me.0.upper _ c.args.cursor l;
+  at = l.at;
+  many_are = c.requires.many.0;
+}

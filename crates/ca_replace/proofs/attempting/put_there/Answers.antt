@@ -1,6 +1,6 @@
 use Rattle.std.proofs.Common.{◌≡◌, ◌≤◌, ℕ, ℤ, Result, OnOk, Ok, Err, Some, get_or, to_z, of_z, w32, Bool, true, false, length, sym, ap, ◌∙◌, subst, arith, ◌<◌, [], map, rules}
 use Rattle.std.proofs.lemmas.Int.{ints, to_z-of_z}
-use Rattle.std.specs.Prelude.{slice_range}
+use Rattle.ca_base.specs.Targets.{key_in, edit_of, event_of}
 use Rattle.ca_model.specs.History.{Put}
 use Rattle.ca_base.specs.Finding.{IsReadable, IsAtCursor}
 use Rattle.ca_node.specs.Place.{HasKey}
@@ -10,7 +10,9 @@ use Rattle.ca_base.specs.Putting.{IsRoom, IsShownLast, first_note, object_at, pu
 use Rattle.ca_replace.specs.declared.attempting.Stop.{Stop}
 use Rattle.ca_replace.specs.declared.attempting.Stop.TheVariants.{Deep as IsDeep}
 use Rattle.ca_replace.specs.Adapting.{IsMoved, Waits, IsMetAs}
-use Rattle.ca_replace.proofs.GoingOn.{is_new, known_then, settled_found, settled_on, settled_paid, settled_tried}
+use Rattle.ca_replace.proofs.Tuning.{tuned_on}
+use Rattle.ca_replace.proofs.Settling.{IsSettling}
+use Rattle.ca_replace.proofs.GoingOn.{is_new, known_then, settled_found, settled_on, settled_paid, settled_tried, tried_splits}
 use Rattle.ca_replace.proofs.Showing.{shown_last, full_there}
 use Rattle.ca_base.proofs.Tallies.{tallied_as}
 use Rattle.ca_rows.specs.Told.{met_of}
@@ -53,85 +55,63 @@ count-many-requires-clause-readable c = (first_note c.args.pass.now.seat.me.0.up
 pub next_statistic-statistic-requires-clause-readable : goal.next_statistic-statistic-requires-clause-readable
 next_statistic-statistic-requires-clause-readable c = (
   first_note c.args.pass.now.seat.me.0.upper.notes,
-  subst (λ (m : MyTree). IsReadable c.args.space.now.table.shared.key m.0.upper c.args.cursor.base (first_note c.args.pass.now.seat.me.0.upper.notes))
+  subst (λ (m : MyTree). IsReadable c.args.tree.now.space.table.shared.key m.0.upper c.args.cursor.base (first_note c.args.pass.now.seat.me.0.upper.notes))
       (sym c.count-many.ensures.frame.still) c.requires.looking.readable,
 )
 
-pub put_at-tried-requires-clause-shown : goal.put_at-tried-requires-clause-shown
-put_at-tried-requires-clause-shown c = subst (λ (m : MyTree). IsShownLast c.args.space.now.table.shared.key m.0.upper c.args.cursor.base)
-    (sym (c.next_statistic-statistic.ensures.frame.still ∙ c.count-many.ensures.frame.still))
-    (shown_last c.args.space.now.table.shared.key c.args.pass.now.seat.me.0.upper _ c.args.cursor c.requires.looking)
-
-pub put_at-tried-requires-clause-many : goal.put_at-tried-requires-clause-many
-put_at-tried-requires-clause-many c = subst (λ (m : MyTree). c.count-many.result ≡ length (first_note m.0.upper.notes).objects)
-    (sym (c.next_statistic-statistic.ensures.frame.still ∙ c.count-many.ensures.frame.still))
-    (c.count-many.ensures.count (first_note c.args.pass.now.seat.me.0.upper.notes) c.requires.looking.readable)
-
 pub settle-requires-clause-known : goal.settle-requires-clause-known
-settle-requires-clause-known c = known_then c.args.space.now.table.shared.key
-    (λ (u : TreeView). put_event c.args.why (slice_range c.args.object.now c.args.key_at c.args.key_end) (object_at c.args.place (first_note u.notes).objects)
-    c.args.object.now)
+settle-requires-clause-known c = known_then c.args.tree.now.space.table.shared.key
+    (λ (u : TreeView). put_event c.args.insertion.now.why (key_in c.args.insertion.now.keyed) (object_at c.args.insertion.now.place (first_note u.notes).objects)
+    c.args.insertion.now.keyed.object.now)
     c.put_at-tried.result c.args.pass.now.seat.me.0.upper c.next_statistic-statistic.new.pass.seat.me.0.upper c.put_at-tried.new.pass.seat.me.0.upper
     (ap (λ (m : MyTree). m.0.upper) (c.next_statistic-statistic.ensures.frame.still ∙ c.count-many.ensures.frame.still)) c.requires.looking.known
     c.put_at-tried.ensures.put
 
 pub settle-requires-clause-placed : goal.settle-requires-clause-placed
-settle-requires-clause-placed c won = is_new _ c.args.space.now.table.shared.key
-    (Put (slice_range c.args.object.now c.args.key_at c.args.key_end) c.args.object.now) c.word_of-word.result c.put_at-tried.new.placed
+settle-requires-clause-placed c won = is_new _ c.args.tree.now.space.table.shared.key
+    (Put (key_in c.args.insertion.now.keyed) c.args.insertion.now.keyed.object.now) c.word_of.result c.put_at-tried.new.placed
     c.put_at-tried.result c.next_statistic-statistic.new.pass.seat.me.0.upper c.put_at-tried.new.pass.seat.me.0.upper
-    (subst (λ (m : MyTree). HasKey (first_note m.0.upper.notes).place.span (slice_range c.args.object.now c.args.key_at c.args.key_end))
+    (subst (λ (m : MyTree). HasKey (first_note m.0.upper.notes).place.span (key_in c.args.insertion.now.keyed))
     (sym (c.next_statistic-statistic.ensures.frame.still ∙ c.count-many.ensures.frame.still)) c.requires.looking.about) c.put_at-tried.ensures.renewed
     c.put_at-tried.ensures.placed won
 
 pub returns-clause-tried : goal.returns-clause-tried
-returns-clause-tried c = settled_tried c.args.space.now.table.shared.key
-    (λ (u : TreeView). put_event c.args.why (slice_range c.args.object.now c.args.key_at c.args.key_end) (object_at c.args.place (first_note u.notes).objects)
-    c.args.object.now)
+returns-clause-tried c = settled_tried c.args.tree.now.space.table.shared.key
+    (λ (u : TreeView). put_event c.args.insertion.now.why (key_in c.args.insertion.now.keyed) (object_at c.args.insertion.now.place (first_note u.notes).objects)
+    c.args.insertion.now.keyed.object.now)
     c.put_at-tried.result c.settle.result c.args.pass.now.seat.me.0.upper c.next_statistic-statistic.new.pass.seat.me.0.upper
     c.put_at-tried.new.pass.seat.me.0.upper c.settle.new.pass.seat.me.0.upper
     (ap (λ (m : MyTree). m.0.upper) (c.next_statistic-statistic.ensures.frame.still ∙ c.count-many.ensures.frame.still)) c.settle.ensures.come
     c.requires.looking.known c.put_at-tried.ensures.put c.settle.ensures.further
 
-pub returns-clause-gone_on : goal.returns-clause-gone_on
-returns-clause-gone_on c = let note = first_note c.args.pass.now.seat.me.0.upper.notes in let k : ℤ = c.next_statistic-statistic.result in
-    settled_on _ c.args.space.now.table.shared.key c.args.tuning.now
-    (λ (u : TreeView). put_event c.args.why (slice_range c.args.object.now c.args.key_at c.args.key_end) (object_at c.args.place (first_note u.notes).objects)
-    c.args.object.now)
-    (Put (slice_range c.args.object.now c.args.key_at c.args.key_end) c.args.object.now) (to_z w32 (of_z w32 k)) c.word_of-word.result
-    c.put_at-tried.result c.settle.result c.args.adapting.now c.settle.new.adapting c.args.pass.now.seat.me.0.upper
-    c.next_statistic-statistic.new.pass.seat.me.0.upper c.put_at-tried.new.pass.seat.me c.settle.new.pass.seat.me
-    (ap (λ (m : MyTree). m.0.upper) (c.next_statistic-statistic.ensures.frame.still ∙ c.count-many.ensures.frame.still)) c.settle.ensures.come
-    c.put_at-tried.ensures.put c.put_at-tried.ensures.renewed
-    (subst (λ (x : ℤ). IsMoved c.args.tuning.now (get_or note.its 1 0) c.args.adapting.now.lost x)
-    (sym (to_z-of_z w32 k (let small = c.next_statistic-statistic.type_inv in omega (arith, ints)))) (c.next_statistic-statistic.ensures.moved note
-    (subst (λ (m : MyTree). IsReadable c.args.space.now.table.shared.key m.0.upper c.args.cursor.base note) (sym c.count-many.ensures.frame.still)
-    c.requires.looking.readable)))
-    c.word_of-word.ensures c.settle.ensures.settled
-
-pub returns-clause-counted : goal.returns-clause-counted
-returns-clause-counted c = settled_paid _ c.args.space.now.table.shared.key _ _ c.word_of-word.result c.put_at-tried.result c.args.spent.now
-    c.put_at-tried.new.spent c.settle.new.spent c.args.pass.now.seat.me c.next_statistic-statistic.new.pass.seat.me c.put_at-tried.new.pass.seat.me
-    c.settle.new.pass.seat.me (c.next_statistic-statistic.ensures.frame.still ∙ c.count-many.ensures.frame.still) c.put_at-tried.ensures.put
-    c.put_at-tried.ensures.renewed c.put_at-tried.ensures.counted c.settle.ensures.counted
-
-pub returns-clause-found : goal.returns-clause-found
-returns-clause-found c = settled_found c.args.space.now.table.shared.key c.args.tuning.now (to_z w32 (of_z w32 c.next_statistic-statistic.result))
-    c.put_at-tried.result
-    c.settle.result c.args.adapting.now c.settle.new.adapting c.args.pass.now.seat.me c.next_statistic-statistic.new.pass.seat.me
-    c.put_at-tried.new.pass.seat.me c.settle.new.pass.seat.me (c.next_statistic-statistic.ensures.frame.still ∙ c.count-many.ensures.frame.still)
-    c.settle.ensures.come c.put_at-tried.ensures.found c.settle.ensures.settled
+-- The exchange and what followed it.
+abbrev settling : (c : goal.After-settle) → IsSettling c.args.tree.now.space.table.shared.key c.args.tree.now.tuning c.put_at-tried.result c.settle.result
+    c.args.course.now.adapting c.settle.new.course.adapting c.args.pass.now.seat.me c.next_statistic-statistic.new.pass.seat.me
+    c.put_at-tried.new.pass.seat.me c.settle.new.pass.seat.me
+settling c = record {
+  event = event_of c.args.insertion.now (first_note c.next_statistic-statistic.new.pass.seat.me.0.upper.notes).objects;
+  edit = edit_of c.args.insertion.now;
+  statistic = to_z w32 (of_z w32 c.next_statistic-statistic.result);
+  word = c.word_of.result;
+  met = met_of c.put_at-tried.new.pass.seat.me;
+  same = c.next_statistic-statistic.ensures.frame.still ∙ c.count-many.ensures.frame.still;
+  is = c.settle.ensures.come;
+  entered = c.put_at-tried.ensures.put;
+  renewed = c.put_at-tried.ensures.renewed;
+  settled = c.settle.ensures.settled;
+}
 
 pub returns-then-not-has_room-clause-full : goal.returns-then-not-has_room-clause-full
-returns-then-not-has_room-clause-full c = λ deep. full_there c.args.space.now.table.shared.key c.args.pass.now.seat.me.0.upper
-    c.make_room.new.pass.seat.me.0.upper c.args.cursor (slice_range c.args.object.now c.args.key_at c.args.key_end) c.args.place c.count-many.result
+returns-then-not-has_room-clause-full c = λ deep. full_there c.args.tree.now.space.table.shared.key c.args.pass.now.seat.me.0.upper
+    c.make_room.new.pass.seat.me.0.upper c.args.cursor (key_in c.args.insertion.now.keyed) c.args.insertion.now.place c.count-many.result
     c.requires.looking (
       c.make_room.ensures.same_seen.0 ∙ ap (λ (m : MyTree). m.0.upper.seen) c.count-many.ensures.frame.still,
       c.make_room.ensures.same_seen.1 ∙ ap (λ (m : MyTree). m.0.upper.last) c.count-many.ensures.frame.still,
     )
-    (subst (λ (m : MyTree). c.args.space.now.table.shared.key.levels ≤ (first_note m.0.upper.notes).place.level) c.count-many.ensures.frame.still
+    (subst (λ (m : MyTree). c.args.tree.now.space.table.shared.key.levels ≤ (first_note m.0.upper.notes).place.level) c.count-many.ensures.frame.still
     (c.make_room.ensures.deep (ap why_of deep))) c.requires.place
-    (λ room. no_room c.has_room.result c.if-not-has_room.true (c.has_room.ensures.1 (subst (λ n. IsRoom c.args.place c.count-many.result n)
-    c.requires.tuned.leaf room)))
+    (λ room. no_room c.has_room.result c.if-not-has_room.true (c.has_room.ensures.1 (subst (λ n. IsRoom c.args.insertion.now.place c.count-many.result n)
+    (tuned_on c.args.tree.now).leaf room)))
     (c.count-many.ensures.count (first_note c.args.pass.now.seat.me.0.upper.notes) c.requires.looking.readable)
 
 pub returns-then-not-has_room-clause-frame : goal.returns-then-not-has_room-clause-frame
@@ -174,51 +154,10 @@ on_ok (Ok at) p = p
 on_ok (Err at) p = tt
 
 pub returns-clause-deep : goal.returns-clause-deep
-returns-clause-deep c = on_ok c.args.place c.settle.ensures.deep
-
-pub returns-clause-met_as : goal.returns-clause-met_as
-returns-clause-met_as c = settled_met (IsMetAs c.settle.new.adapting.last.adapted (met_of c.settle.new.pass.seat.me) c.settle.new.pass.seat.me.0.upper)
-    c.put_at-tried.result c.settle.result c.settle.ensures.come c.settle.ensures.met
-
-pub returns-clause-grown : goal.returns-clause-grown
-returns-clause-grown c = settled_grown _ c.args.space.now.table.shared.key c.args.tuning.now (Some
-    (slice_range c.args.object.now c.args.key_at c.args.key_end)) _ _ c.word_of-word.result
-    (to_z w32 (of_z w32 c.next_statistic-statistic.result)) c.put_at-tried.result c.settle.result c.args.adapting.now c.settle.new.adapting
-    c.args.pass.now.seat.me
-    c.next_statistic-statistic.new.pass.seat.me c.put_at-tried.new.pass.seat.me c.settle.new.pass.seat.me
-    (slice_range c.args.object.now c.args.key_at c.args.key_end) c.args.cursor
-    (c.next_statistic-statistic.ensures.frame.still ∙ c.count-many.ensures.frame.still) c.settle.ensures.come c.requires.looking c.put_at-tried.ensures.put
-    c.put_at-tried.ensures.renewed c.settle.ensures.settled c.settle.ensures.grows
+returns-clause-deep c = on_ok c.args.insertion.now.place c.settle.ensures.deep
 
 pub returns-clause-no_split : goal.returns-clause-no_split
-returns-clause-no_split c = on_ok c.args.place (come_unsplit c.put_at-tried.result c.settle.result c.settle.ensures.come)
-
-pub returns-clause-cut : goal.returns-clause-cut
-returns-clause-cut c = settled_cut _ c.args.space.now.table.shared.key c.args.tuning.now (Some (slice_range c.args.object.now c.args.key_at c.args.key_end)) _ _
-    c.word_of-word.result (to_z w32 (of_z w32 c.next_statistic-statistic.result)) c.put_at-tried.result c.settle.result c.args.adapting.now
-    c.settle.new.adapting c.args.pass.now.seat.me c.next_statistic-statistic.new.pass.seat.me c.put_at-tried.new.pass.seat.me c.settle.new.pass.seat.me
-    (c.next_statistic-statistic.ensures.frame.still ∙ c.count-many.ensures.frame.still) c.settle.ensures.come c.put_at-tried.ensures.put
-    c.put_at-tried.ensures.renewed c.settle.ensures.settled c.settle.ensures.cut
-
-pub returns-then-not-has_room-clause-cut : goal.returns-then-not-has_room-clause-cut
-returns-then-not-has_room-clause-cut c = let z = c.args.space.now.table.shared.key in
-    let key = slice_range c.args.object.now c.args.key_at c.args.key_end in let u = c.args.pass.now.seat.me.0.upper in
-    let full = full_for z u c.args.cursor key c.args.place c.count-many.result c.requires.looking c.requires.place
-    (λ room. no_room c.has_room.result c.if-not-has_room.true (c.has_room.ensures.1 (subst (λ n. IsRoom c.args.place c.count-many.result n)
-    c.requires.tuned.leaf room)))
-    (c.count-many.ensures.count (first_note u.notes) c.requires.looking.readable) in
-    subst (λ (m : MyTree). HasCut {T = Unit {0}} (λ _. true) z (Some key) (Err c.make_room.result) m.0.upper c.make_room.new.pass.seat.me.0.upper)
-    c.count-many.ensures.frame.still (c.make_room.ensures.cut key
-    (subst (λ (m : MyTree). IsFullFor z (Some key) (first_note m.0.upper.notes)) (sym c.count-many.ensures.frame.still) full))
-
-pub returns-clause-won : goal.returns-clause-won
-returns-clause-won c = settled_won _ c.args.space.now.table.shared.key c.args.tuning.now _ _ c.word_of-word.result
-    (to_z w32 (of_z w32 c.next_statistic-statistic.result)) c.put_at-tried.result c.settle.result c.args.adapting.now c.settle.new.adapting
-    c.args.pass.now.seat.me
-    c.next_statistic-statistic.new.pass.seat.me c.put_at-tried.new.pass.seat.me c.settle.new.pass.seat.me
-    (slice_range c.args.object.now c.args.key_at c.args.key_end) c.args.cursor
-    (c.next_statistic-statistic.ensures.frame.still ∙ c.count-many.ensures.frame.still) c.settle.ensures.come c.requires.looking c.put_at-tried.ensures.put
-    c.put_at-tried.ensures.renewed c.settle.ensures.settled c.put_at-tried.ensures.won c.settle.ensures.won
+returns-clause-no_split c = on_ok c.args.insertion.now.place (come_unsplit c.put_at-tried.result c.settle.result c.settle.ensures.come)
 
 pub next_statistic-statistic-requires-clause-reading : goal.next_statistic-statistic-requires-clause-reading
 next_statistic-statistic-requires-clause-reading c = record {
@@ -240,32 +179,24 @@ put_at-tried-requires-clause-ready c = record {
       ∙ c.requires.ready.pinned;
   number = subst (λ (m : MyTree). 0 < m.0.upper.number) (sym (c.next_statistic-statistic.ensures.frame.still
       ∙ c.count-many.ensures.frame.still)) c.requires.ready.number;
-  none = held_looked c.args.space.now.table.shared.key.rows c.args.pass.now.kept c.next_statistic-statistic.new.pass.kept
+  none = held_looked c.args.tree.now.space.table.shared.key.rows c.args.pass.now.kept c.next_statistic-statistic.new.pass.kept
       c.args.pass.now.seat.me
       c.next_statistic-statistic.new.pass.seat.me [] c.requires.ready.none (c.next_statistic-statistic.ensures.frame.kept ∙ c.count-many.ensures.frame.kept)
       (ap (λ (m : MyTree). m.0.claims) (c.next_statistic-statistic.ensures.frame.still ∙ c.count-many.ensures.frame.still))
       (ap (λ (m : MyTree). m.0.most) (c.next_statistic-statistic.ensures.frame.still ∙ c.count-many.ensures.frame.still));
 }
 
-pub put_at-tried-requires-clause-leaf : goal.put_at-tried-requires-clause-leaf
-put_at-tried-requires-clause-leaf c = let most = c.requires.tuned.allowed.most_leaf in let same = c.requires.tuned.leaf in omega arith
-
-pub put_at-tried-requires-clause-cursor : goal.put_at-tried-requires-clause-cursor
-put_at-tried-requires-clause-cursor c = subst (λ (m : MyTree). IsAtCursor c.args.space.now.table.shared.key (first_note m.0.upper.notes) c.args.cursor)
-    (sym (c.next_statistic-statistic.ensures.frame.still ∙ c.count-many.ensures.frame.still)) c.requires.looking.at
-
 pub put_at-tried-requires-clause-place : goal.put_at-tried-requires-clause-place
 put_at-tried-requires-clause-place c = subst (λ (m : MyTree). IsPlace (map pair (first_note m.0.upper.notes).objects)
-    (slice_range c.args.object.now c.args.key_at c.args.key_end) c.args.place)
+    (key_in c.args.insertion.now.keyed) c.args.insertion.now.place)
     (sym (c.next_statistic-statistic.ensures.frame.still ∙ c.count-many.ensures.frame.still)) c.requires.place
 
 pub put_at-tried-requires-clause-about : goal.put_at-tried-requires-clause-about
-put_at-tried-requires-clause-about c = subst (λ (m : MyTree). HasKey (first_note m.0.upper.notes).place.span (slice_range c.args.object.now c.args.key_at
-    c.args.key_end))
+put_at-tried-requires-clause-about c = subst (λ (m : MyTree). HasKey (first_note m.0.upper.notes).place.span (key_in c.args.insertion.now.keyed))
     (sym (c.next_statistic-statistic.ensures.frame.still ∙ c.count-many.ensures.frame.still)) c.requires.looking.about
 
 pub put_at-tried-requires-clause-room : goal.put_at-tried-requires-clause-room
-put_at-tried-requires-clause-room c = subst (λ n. IsRoom c.args.place c.count-many.result n) (sym c.requires.tuned.leaf)
+put_at-tried-requires-clause-room c = subst (λ n. IsRoom c.args.insertion.now.place c.count-many.result n) (sym (tuned_on c.args.tree.now).leaf)
     (c.has_room.ensures.0 c.if-not-has_room.false)
 
 pub settle-requires-clause-ready : goal.settle-requires-clause-ready
@@ -292,15 +223,15 @@ make_room-requires-clause-ready c = record {
   );
   pinned = ap (λ (m : MyTree). m.0.pin.pinned) c.count-many.ensures.frame.still ∙ c.requires.ready.pinned;
   number = subst (λ (m : MyTree). 0 < m.0.upper.number) (sym c.count-many.ensures.frame.still) c.requires.ready.number;
-  none = held_looked c.args.space.now.table.shared.key.rows c.args.pass.now.kept c.count-many.new.pass.kept c.args.pass.now.seat.me
+  none = held_looked c.args.tree.now.space.table.shared.key.rows c.args.pass.now.kept c.count-many.new.pass.kept c.args.pass.now.seat.me
       c.count-many.new.pass.seat.me [] c.requires.ready.none c.count-many.ensures.frame.kept (ap (λ (m : MyTree). m.0.claims) c.count-many.ensures.frame.still)
       (ap (λ (m : MyTree). m.0.most) c.count-many.ensures.frame.still);
 }
 
 pub make_room-requires-clause-looking : goal.make_room-requires-clause-looking
 make_room-requires-clause-looking c = (
-  (slice_range c.args.object.now c.args.key_at c.args.key_end),
-  subst (λ (m : MyTree). IsLooking c.args.space.now.table.shared.key m.0.upper (slice_range c.args.object.now c.args.key_at c.args.key_end) c.args.cursor)
+  (key_in c.args.insertion.now.keyed),
+  subst (λ (m : MyTree). IsLooking c.args.tree.now.space.table.shared.key m.0.upper (key_in c.args.insertion.now.keyed) c.args.cursor)
       (sym c.count-many.ensures.frame.still) c.requires.looking,
 )
 
@@ -308,52 +239,90 @@ pub make_room-requires-clause-many : goal.make_room-requires-clause-many
 make_room-requires-clause-many c = (
   subst (λ (m : MyTree). c.count-many.result ≡ length (first_note m.0.upper.notes).objects) (sym c.count-many.ensures.frame.still)
       (c.count-many.ensures.count (first_note c.args.pass.now.seat.me.0.upper.notes) c.requires.looking.readable),
-  no_less c.args.place c.count-many.result c.args.tuning.now.leaf (λ room. no_room c.has_room.result c.if-not-has_room.true (c.has_room.ensures.1 room)),
+  no_less c.args.insertion.now.place c.count-many.result c.args.tree.now.tuning.leaf (λ room. no_room c.has_room.result c.if-not-has_room.true (c.has_room.ensures.1 room)),
 )
 
 pub returns-then-not-has_room-clause-tried : goal.returns-then-not-has_room-clause-tried
 returns-then-not-has_room-clause-tried c = subst (λ (m : MyTree). IsFurther m.0.upper c.make_room.new.pass.seat.me.0.upper × IsKnown
-    c.args.space.now.table.shared.key c.make_room.new.pass.seat.me.0.upper) c.count-many.ensures.frame.still
+    c.args.tree.now.space.table.shared.key c.make_room.new.pass.seat.me.0.upper) c.count-many.ensures.frame.still
     c.make_room.ensures.further
 
 pub returns-then-not-has_room-clause-deep : goal.returns-then-not-has_room-clause-deep
-returns-then-not-has_room-clause-deep c = no_place _ c.args.place c.count-many.result c.args.tuning.now.leaf (λ room. no_room c.has_room.result
+returns-then-not-has_room-clause-deep c = no_place _ c.args.insertion.now.place c.count-many.result c.args.tree.now.tuning.leaf (λ room. no_room c.has_room.result
     c.if-not-has_room.true (c.has_room.ensures.1 room))
 
 pub returns-then-not-has_room-clause-no_split : goal.returns-then-not-has_room-clause-no_split
-returns-then-not-has_room-clause-no_split c = no_place _ c.args.place c.count-many.result c.args.tuning.now.leaf
+returns-then-not-has_room-clause-no_split c = no_place _ c.args.insertion.now.place c.count-many.result c.args.tree.now.tuning.leaf
     (λ room. no_room c.has_room.result c.if-not-has_room.true (c.has_room.ensures.1 room))
 
-pub returns-then-not-has_room-clause-met_as : goal.returns-then-not-has_room-clause-met_as
-returns-then-not-has_room-clause-met_as c = tt
+pub put_at-tried-requires-clause-target : goal.put_at-tried-requires-clause-target
+put_at-tried-requires-clause-target c = let z = c.args.tree.now.space.table.shared.key in let u = c.args.pass.now.seat.me.0.upper in
+    let same = sym (c.next_statistic-statistic.ensures.frame.still ∙ c.count-many.ensures.frame.still) in record {
+      leaf = let most = (tuned_on c.args.tree.now).allowed.most_leaf in let leaf = (tuned_on c.args.tree.now).leaf in omega arith;
+      shown = subst (λ (m : MyTree). IsShownLast z m.0.upper c.args.cursor.base) same (shown_last z u _ c.args.cursor c.requires.looking);
+      at = subst (λ (m : MyTree). IsAtCursor z (first_note m.0.upper.notes) c.args.cursor) same c.requires.looking.at;
+      many_are = subst (λ (m : MyTree). c.count-many.result ≡ length (first_note m.0.upper.notes).objects) same
+          (c.count-many.ensures.count (first_note u.notes) c.requires.looking.readable);
+    }
 
-pub returns-then-not-has_room-clause-gone_on : goal.returns-then-not-has_room-clause-gone_on
-returns-then-not-has_room-clause-gone_on c = subst (λ (m : MyTree). Waits c.args.adapting.now c.make_room.new.adapting m.0.upper
-    c.make_room.new.pass.seat.me.0.upper)
-    c.count-many.ensures.frame.still c.make_room.ensures.waits
+pub returns-clause-turn : goal.returns-clause-turn
+returns-clause-turn c = record {
+  met_as = settled_met (IsMetAs c.settle.new.course.adapting.last.adapted (met_of c.settle.new.pass.seat.me) c.settle.new.pass.seat.me.0.upper)
+      c.put_at-tried.result c.settle.result c.settle.ensures.come c.settle.ensures.met;
+  gone_on = let note = first_note c.args.pass.now.seat.me.0.upper.notes in let k : ℤ = c.next_statistic-statistic.result in
+      settled_on (settling c)
+      (subst (λ (x : ℤ). IsMoved c.args.tree.now.tuning (get_or note.its 1 0) c.args.course.now.adapting.lost x)
+      (sym (to_z-of_z w32 k (let small = c.next_statistic-statistic.type_inv in omega (arith, ints)))) (c.next_statistic-statistic.ensures.moved note
+      (subst (λ (m : MyTree). IsReadable c.args.tree.now.space.table.shared.key m.0.upper c.args.cursor.base note) (sym c.count-many.ensures.frame.still)
+      c.requires.looking.readable)))
+      c.word_of.ensures;
+  counted = settled_paid c.args.course.now.spent c.put_at-tried.new.spent c.settle.new.course.spent c.args.pass.now.seat.me
+      c.next_statistic-statistic.new.pass.seat.me c.put_at-tried.new.pass.seat.me c.settle.new.pass.seat.me
+      (c.next_statistic-statistic.ensures.frame.still ∙ c.count-many.ensures.frame.still)
+      (tried_splits _ c.args.tree.now.space.table.shared.key _ _ c.word_of.result c.put_at-tried.result
+      c.next_statistic-statistic.new.pass.seat.me.0.upper c.put_at-tried.new.pass.seat.me.0.upper c.put_at-tried.ensures.put c.put_at-tried.ensures.renewed)
+      c.put_at-tried.ensures.counted c.settle.ensures.counted;
+  found = settled_found c.args.tree.now.space.table.shared.key c.args.tree.now.tuning (to_z w32 (of_z w32 c.next_statistic-statistic.result))
+      c.put_at-tried.result
+      c.settle.result c.args.course.now.adapting c.settle.new.course.adapting c.args.pass.now.seat.me c.next_statistic-statistic.new.pass.seat.me
+      c.put_at-tried.new.pass.seat.me c.settle.new.pass.seat.me (c.next_statistic-statistic.ensures.frame.still ∙ c.count-many.ensures.frame.still)
+      c.settle.ensures.come c.put_at-tried.ensures.found c.settle.ensures.settled;
+  grown = settled_grown (settling c) (Some (key_in c.args.insertion.now.keyed)) c.requires.looking.listed c.settle.ensures.grows;
+  won = settled_won (settling c) c.requires.looking.listed c.put_at-tried.ensures.won c.settle.ensures.won;
+  cut = settled_cut (settling c) (Some (key_in c.args.insertion.now.keyed)) c.settle.ensures.cut;
+}
 
-pub returns-then-not-has_room-clause-counted : goal.returns-then-not-has_room-clause-counted
-returns-then-not-has_room-clause-counted c = subst (λ (m : MyTree). IsPaid c.args.spent.now c.make_room.new.spent m c.make_room.new.pass.seat.me)
-    c.count-many.ensures.frame.still
-    c.make_room.ensures.counted
-
-pub returns-then-not-has_room-clause-found : goal.returns-then-not-has_room-clause-found
-returns-then-not-has_room-clause-found c = subst (λ (m : MyTree). HasStopped {T = Unit {0}} (Err c.make_room.result) m c.make_room.new.pass.seat.me)
-    c.count-many.ensures.frame.still
-    c.make_room.ensures.found
-
-pub returns-then-not-has_room-clause-grown : goal.returns-then-not-has_room-clause-grown
-returns-then-not-has_room-clause-grown c = subst (λ (m : MyTree). IsLooking c.args.space.now.table.shared.key m.0.upper
-    (slice_range c.args.object.now c.args.key_at c.args.key_end) c.args.cursor
-    → IsAlone c.args.space.now.table.shared.key m.0.upper → HasGrown {T = Unit {0}} c.args.space.now.table.shared.key (Some
-    (slice_range c.args.object.now c.args.key_at c.args.key_end))
-    (Err c.make_room.result) m.0.upper c.make_room.new.pass.seat.me.0.upper) c.count-many.ensures.frame.still (c.make_room.ensures.grown
-    (slice_range c.args.object.now c.args.key_at c.args.key_end))
-    c.requires.looking
-
-pub returns-then-not-has_room-clause-won : goal.returns-then-not-has_room-clause-won
-returns-then-not-has_room-clause-won c = subst (λ (m : MyTree). IsLooking c.args.space.now.table.shared.key m.0.upper
-    (slice_range c.args.object.now c.args.key_at c.args.key_end) c.args.cursor
-    → IsAlone c.args.space.now.table.shared.key m.0.upper → HasWonAs {T = Unit {0}} (λ _. true) (Err c.make_room.result) m.0.upper
-    c.make_room.new.pass.seat.me.0.upper) c.count-many.ensures.frame.still (c.make_room.ensures.won (slice_range c.args.object.now c.args.key_at c.args.key_end))
-    c.requires.looking
+pub returns-then-not-has_room-clause-turn : goal.returns-then-not-has_room-clause-turn
+returns-then-not-has_room-clause-turn c = record {
+  met_as = tt;
+  gone_on = subst (λ (m : MyTree). Waits c.args.course.now.adapting c.make_room.new.course.adapting m.0.upper
+      c.make_room.new.pass.seat.me.0.upper)
+      c.count-many.ensures.frame.still c.make_room.ensures.waits;
+  counted = subst (λ (m : MyTree). IsPaid c.args.course.now.spent c.make_room.new.course.spent m c.make_room.new.pass.seat.me)
+      c.count-many.ensures.frame.still
+      c.make_room.ensures.counted;
+  found = subst (λ (m : MyTree). HasStopped {T = Unit {0}} (Err c.make_room.result) m c.make_room.new.pass.seat.me)
+      c.count-many.ensures.frame.still
+      c.make_room.ensures.found;
+  grown = subst (λ (m : MyTree). IsLooking c.args.tree.now.space.table.shared.key m.0.upper
+      (key_in c.args.insertion.now.keyed) c.args.cursor
+      → IsAlone c.args.tree.now.space.table.shared.key m.0.upper → HasGrown {T = Unit {0}} c.args.tree.now.space.table.shared.key (Some
+      (key_in c.args.insertion.now.keyed))
+      (Err c.make_room.result) m.0.upper c.make_room.new.pass.seat.me.0.upper) c.count-many.ensures.frame.still (c.make_room.ensures.grown
+      (key_in c.args.insertion.now.keyed))
+      c.requires.looking;
+  won = subst (λ (m : MyTree). IsLooking c.args.tree.now.space.table.shared.key m.0.upper
+      (key_in c.args.insertion.now.keyed) c.args.cursor
+      → IsAlone c.args.tree.now.space.table.shared.key m.0.upper → HasWonAs {T = Unit {0}} (λ _. true) (Err c.make_room.result) m.0.upper
+      c.make_room.new.pass.seat.me.0.upper) c.count-many.ensures.frame.still (c.make_room.ensures.won (key_in c.args.insertion.now.keyed))
+      c.requires.looking;
+  cut = let z = c.args.tree.now.space.table.shared.key in
+      let key = key_in c.args.insertion.now.keyed in let u = c.args.pass.now.seat.me.0.upper in
+      let full = full_for z u c.args.cursor key c.args.insertion.now.place c.count-many.result c.requires.looking c.requires.place
+      (λ room. no_room c.has_room.result c.if-not-has_room.true (c.has_room.ensures.1 (subst (λ n. IsRoom c.args.insertion.now.place c.count-many.result n)
+      (tuned_on c.args.tree.now).leaf room)))
+      (c.count-many.ensures.count (first_note u.notes) c.requires.looking.readable) in
+      subst (λ (m : MyTree). HasCut {T = Unit {0}} (λ _. true) z (Some key) (Err c.make_room.result) m.0.upper c.make_room.new.pass.seat.me.0.upper)
+      c.count-many.ensures.frame.still (c.make_room.ensures.cut key
+      (subst (λ (m : MyTree). IsFullFor z (Some key) (first_note m.0.upper.notes)) (sym c.count-many.ensures.frame.still) full));
+}

@@ -8,7 +8,9 @@ use Rattle.ca_node.specs.Told.{MyTree}
 use Rattle.ca_node.specs.TreeView.{TreeView}
 use Rattle.ca_base.specs.Putting.{IsShownLast, first_note, object_at}
 use Rattle.ca_replace.specs.Adapting.{IsMoved, IsMetAs}
-use Rattle.ca_replace.proofs.GoingOn.{is_new, known_then, settled_found, settled_on, settled_paid, settled_tried}
+use Rattle.ca_replace.proofs.Tuning.{tuned_on}
+use Rattle.ca_replace.proofs.Settling.{IsSettling}
+use Rattle.ca_replace.proofs.GoingOn.{is_new, known_then, settled_found, settled_on, settled_paid, settled_tried, tried_splits}
 use Rattle.ca_replace.proofs.Showing.{shown_last}
 use Rattle.ca_base.proofs.Tallies.{tallied_as}
 use Rattle.ca_rows.specs.Told.{met_of}
@@ -28,70 +30,50 @@ count-many-requires-clause-readable c = (first_note c.args.pass.now.seat.me.0.up
 pub next_statistic-statistic-requires-clause-readable : goal.next_statistic-statistic-requires-clause-readable
 next_statistic-statistic-requires-clause-readable c = (
   first_note c.args.pass.now.seat.me.0.upper.notes,
-  subst (λ (m : MyTree). IsReadable c.args.space.now.table.shared.key m.0.upper c.args.cursor.base (first_note c.args.pass.now.seat.me.0.upper.notes))
+  subst (λ (m : MyTree). IsReadable c.args.tree.now.space.table.shared.key m.0.upper c.args.cursor.base (first_note c.args.pass.now.seat.me.0.upper.notes))
       (sym c.count-many.ensures.frame.still) c.requires.looking.readable,
 )
 
-pub remove_at-tried-requires-clause-shown : goal.remove_at-tried-requires-clause-shown
-remove_at-tried-requires-clause-shown c = subst (λ (m : MyTree). IsShownLast c.args.space.now.table.shared.key m.0.upper c.args.cursor.base)
-    (sym (c.next_statistic-statistic.ensures.frame.still ∙ c.count-many.ensures.frame.still))
-    (shown_last c.args.space.now.table.shared.key c.args.pass.now.seat.me.0.upper _ c.args.cursor c.requires.looking)
-
-pub remove_at-tried-requires-clause-many : goal.remove_at-tried-requires-clause-many
-remove_at-tried-requires-clause-many c = subst (λ (m : MyTree). c.count-many.result ≡ length (first_note m.0.upper.notes).objects)
-    (sym (c.next_statistic-statistic.ensures.frame.still ∙ c.count-many.ensures.frame.still))
-    (c.count-many.ensures.count (first_note c.args.pass.now.seat.me.0.upper.notes) c.requires.looking.readable)
-
 pub settle-requires-clause-known : goal.settle-requires-clause-known
-settle-requires-clause-known c = known_then c.args.space.now.table.shared.key
-    (λ (u : TreeView). Remove c.args.key.now (Some (object_at (Ok c.args.at) (first_note u.notes).objects)))
+settle-requires-clause-known c = known_then c.args.tree.now.space.table.shared.key
+    (λ (u : TreeView). Remove c.args.removal.now.key.now (Some (object_at (Ok c.args.removal.now.at) (first_note u.notes).objects)))
     c.remove_at-tried.result c.args.pass.now.seat.me.0.upper c.next_statistic-statistic.new.pass.seat.me.0.upper c.remove_at-tried.new.pass.seat.me.0.upper
     (ap (λ (m : MyTree). m.0.upper) (c.next_statistic-statistic.ensures.frame.still ∙ c.count-many.ensures.frame.still)) c.requires.looking.known
     c.remove_at-tried.ensures.removed
 
 pub settle-requires-clause-placed : goal.settle-requires-clause-placed
-settle-requires-clause-placed c won = is_new _ c.args.space.now.table.shared.key
-    (Del c.args.key.now) c.word_of-word.result c.remove_at-tried.new.placed
+settle-requires-clause-placed c won = is_new _ c.args.tree.now.space.table.shared.key
+    (Del c.args.removal.now.key.now) c.word_of.result c.remove_at-tried.new.placed
     c.remove_at-tried.result c.next_statistic-statistic.new.pass.seat.me.0.upper c.remove_at-tried.new.pass.seat.me.0.upper
-    (subst (λ (m : MyTree). HasKey (first_note m.0.upper.notes).place.span c.args.key.now)
+    (subst (λ (m : MyTree). HasKey (first_note m.0.upper.notes).place.span c.args.removal.now.key.now)
     (sym (c.next_statistic-statistic.ensures.frame.still ∙ c.count-many.ensures.frame.still)) c.requires.looking.about) c.remove_at-tried.ensures.renewed
     c.remove_at-tried.ensures.placed won
 
 pub returns-clause-tried : goal.returns-clause-tried
-returns-clause-tried c = settled_tried c.args.space.now.table.shared.key
-    (λ (u : TreeView). Remove c.args.key.now (Some (object_at (Ok c.args.at) (first_note u.notes).objects)))
+returns-clause-tried c = settled_tried c.args.tree.now.space.table.shared.key
+    (λ (u : TreeView). Remove c.args.removal.now.key.now (Some (object_at (Ok c.args.removal.now.at) (first_note u.notes).objects)))
     c.remove_at-tried.result c.settle.result c.args.pass.now.seat.me.0.upper c.next_statistic-statistic.new.pass.seat.me.0.upper
     c.remove_at-tried.new.pass.seat.me.0.upper c.settle.new.pass.seat.me.0.upper
     (ap (λ (m : MyTree). m.0.upper) (c.next_statistic-statistic.ensures.frame.still ∙ c.count-many.ensures.frame.still)) c.settle.ensures.come
     c.requires.looking.known c.remove_at-tried.ensures.removed c.settle.ensures.further
 
-pub returns-clause-gone_on : goal.returns-clause-gone_on
-returns-clause-gone_on c = let note = first_note c.args.pass.now.seat.me.0.upper.notes in let k : ℤ = c.next_statistic-statistic.result in
-    settled_on _ c.args.space.now.table.shared.key c.args.tuning.now
-    (λ (u : TreeView). Remove c.args.key.now (Some (object_at (Ok c.args.at) (first_note u.notes).objects)))
-    (Del c.args.key.now) (to_z w32 (of_z w32 k)) c.word_of-word.result
-    c.remove_at-tried.result c.settle.result c.args.adapting.now c.settle.new.adapting c.args.pass.now.seat.me.0.upper
-    c.next_statistic-statistic.new.pass.seat.me.0.upper c.remove_at-tried.new.pass.seat.me c.settle.new.pass.seat.me
-    (ap (λ (m : MyTree). m.0.upper) (c.next_statistic-statistic.ensures.frame.still ∙ c.count-many.ensures.frame.still)) c.settle.ensures.come
-    c.remove_at-tried.ensures.removed c.remove_at-tried.ensures.renewed
-    (subst (λ (x : ℤ). IsMoved c.args.tuning.now (get_or note.its 1 0) c.args.adapting.now.lost x)
-    (sym (to_z-of_z w32 k (let small = c.next_statistic-statistic.type_inv in omega (arith, ints)))) (c.next_statistic-statistic.ensures.moved note
-    (subst (λ (m : MyTree). IsReadable c.args.space.now.table.shared.key m.0.upper c.args.cursor.base note) (sym c.count-many.ensures.frame.still)
-    c.requires.looking.readable)))
-    c.word_of-word.ensures c.settle.ensures.settled
-
-pub returns-clause-counted : goal.returns-clause-counted
-returns-clause-counted c = settled_paid _ c.args.space.now.table.shared.key _ _ c.word_of-word.result c.remove_at-tried.result c.args.spent.now
-    c.remove_at-tried.new.spent c.settle.new.spent c.args.pass.now.seat.me c.next_statistic-statistic.new.pass.seat.me c.remove_at-tried.new.pass.seat.me
-    c.settle.new.pass.seat.me (c.next_statistic-statistic.ensures.frame.still ∙ c.count-many.ensures.frame.still) c.remove_at-tried.ensures.removed
-    c.remove_at-tried.ensures.renewed c.remove_at-tried.ensures.counted c.settle.ensures.counted
-
-pub returns-clause-found : goal.returns-clause-found
-returns-clause-found c = settled_found c.args.space.now.table.shared.key c.args.tuning.now (to_z w32 (of_z w32 c.next_statistic-statistic.result))
-    c.remove_at-tried.result
-    c.settle.result c.args.adapting.now c.settle.new.adapting c.args.pass.now.seat.me c.next_statistic-statistic.new.pass.seat.me
-    c.remove_at-tried.new.pass.seat.me c.settle.new.pass.seat.me (c.next_statistic-statistic.ensures.frame.still ∙ c.count-many.ensures.frame.still)
-    c.settle.ensures.come c.remove_at-tried.ensures.found c.settle.ensures.settled
+-- The exchange and what followed it.
+abbrev settling : (c : goal.After-settle) → IsSettling c.args.tree.now.space.table.shared.key c.args.tree.now.tuning c.remove_at-tried.result c.settle.result
+    c.args.course.now.adapting c.settle.new.course.adapting c.args.pass.now.seat.me c.next_statistic-statistic.new.pass.seat.me
+    c.remove_at-tried.new.pass.seat.me c.settle.new.pass.seat.me
+settling c = record {
+  event = Remove c.args.removal.now.key.now
+      (Some (object_at (Ok c.args.removal.now.at) (first_note c.next_statistic-statistic.new.pass.seat.me.0.upper.notes).objects));
+  edit = Del c.args.removal.now.key.now;
+  statistic = to_z w32 (of_z w32 c.next_statistic-statistic.result);
+  word = c.word_of.result;
+  met = met_of c.remove_at-tried.new.pass.seat.me;
+  same = c.next_statistic-statistic.ensures.frame.still ∙ c.count-many.ensures.frame.still;
+  is = c.settle.ensures.come;
+  entered = c.remove_at-tried.ensures.removed;
+  renewed = c.remove_at-tried.ensures.renewed;
+  settled = c.settle.ensures.settled;
+}
 
 pub returns-clause-frame : goal.returns-clause-frame
 returns-clause-frame c = record {
@@ -114,33 +96,6 @@ returns-clause-frame c = record {
   none = c.settle.ensures.frame.none;
 }
 
-pub returns-clause-met_as : goal.returns-clause-met_as
-returns-clause-met_as c = settled_met (IsMetAs c.settle.new.adapting.last.adapted (met_of c.settle.new.pass.seat.me) c.settle.new.pass.seat.me.0.upper)
-    c.remove_at-tried.result c.settle.result c.settle.ensures.come c.settle.ensures.met
-
-pub returns-clause-grown : goal.returns-clause-grown
-returns-clause-grown c = settled_grown _ c.args.space.now.table.shared.key c.args.tuning.now None _ _ c.word_of-word.result
-    (to_z w32 (of_z w32 c.next_statistic-statistic.result)) c.remove_at-tried.result c.settle.result c.args.adapting.now c.settle.new.adapting
-    c.args.pass.now.seat.me
-    c.next_statistic-statistic.new.pass.seat.me c.remove_at-tried.new.pass.seat.me c.settle.new.pass.seat.me c.args.key.now c.args.cursor
-    (c.next_statistic-statistic.ensures.frame.still ∙ c.count-many.ensures.frame.still) c.settle.ensures.come c.requires.looking c.remove_at-tried.ensures.removed
-    c.remove_at-tried.ensures.renewed c.settle.ensures.settled c.settle.ensures.grows
-
-pub returns-clause-cut : goal.returns-clause-cut
-returns-clause-cut c = settled_cut _ c.args.space.now.table.shared.key c.args.tuning.now None _ _ c.word_of-word.result
-    (to_z w32 (of_z w32 c.next_statistic-statistic.result)) c.remove_at-tried.result c.settle.result c.args.adapting.now c.settle.new.adapting
-    c.args.pass.now.seat.me c.next_statistic-statistic.new.pass.seat.me c.remove_at-tried.new.pass.seat.me c.settle.new.pass.seat.me
-    (c.next_statistic-statistic.ensures.frame.still ∙ c.count-many.ensures.frame.still) c.settle.ensures.come c.remove_at-tried.ensures.removed
-    c.remove_at-tried.ensures.renewed c.settle.ensures.settled c.settle.ensures.cut
-
-pub returns-clause-won : goal.returns-clause-won
-returns-clause-won c = settled_won _ c.args.space.now.table.shared.key c.args.tuning.now _ _ c.word_of-word.result
-    (to_z w32 (of_z w32 c.next_statistic-statistic.result)) c.remove_at-tried.result c.settle.result c.args.adapting.now c.settle.new.adapting
-    c.args.pass.now.seat.me
-    c.next_statistic-statistic.new.pass.seat.me c.remove_at-tried.new.pass.seat.me c.settle.new.pass.seat.me c.args.key.now c.args.cursor
-    (c.next_statistic-statistic.ensures.frame.still ∙ c.count-many.ensures.frame.still) c.settle.ensures.come c.requires.looking c.remove_at-tried.ensures.removed
-    c.remove_at-tried.ensures.renewed c.settle.ensures.settled c.remove_at-tried.ensures.won c.settle.ensures.won
-
 pub next_statistic-statistic-requires-clause-reading : goal.next_statistic-statistic-requires-clause-reading
 next_statistic-statistic-requires-clause-reading c = record {
   own = (
@@ -161,26 +116,19 @@ remove_at-tried-requires-clause-ready c = record {
       ∙ c.requires.ready.pinned;
   number = subst (λ (m : MyTree). 0 < m.0.upper.number) (sym (c.next_statistic-statistic.ensures.frame.still
       ∙ c.count-many.ensures.frame.still)) c.requires.ready.number;
-  none = held_looked c.args.space.now.table.shared.key.rows c.args.pass.now.kept c.next_statistic-statistic.new.pass.kept
+  none = held_looked c.args.tree.now.space.table.shared.key.rows c.args.pass.now.kept c.next_statistic-statistic.new.pass.kept
       c.args.pass.now.seat.me
       c.next_statistic-statistic.new.pass.seat.me [] c.requires.ready.none (c.next_statistic-statistic.ensures.frame.kept ∙ c.count-many.ensures.frame.kept)
       (ap (λ (m : MyTree). m.0.claims) (c.next_statistic-statistic.ensures.frame.still ∙ c.count-many.ensures.frame.still))
       (ap (λ (m : MyTree). m.0.most) (c.next_statistic-statistic.ensures.frame.still ∙ c.count-many.ensures.frame.still));
 }
 
-pub remove_at-tried-requires-clause-leaf : goal.remove_at-tried-requires-clause-leaf
-remove_at-tried-requires-clause-leaf c = let most = c.requires.tuned.allowed.most_leaf in let same = c.requires.tuned.leaf in omega arith
-
-pub remove_at-tried-requires-clause-cursor : goal.remove_at-tried-requires-clause-cursor
-remove_at-tried-requires-clause-cursor c = subst (λ (m : MyTree). IsAtCursor c.args.space.now.table.shared.key (first_note m.0.upper.notes) c.args.cursor)
-    (sym (c.next_statistic-statistic.ensures.frame.still ∙ c.count-many.ensures.frame.still)) c.requires.looking.at
-
 pub remove_at-tried-requires-clause-place : goal.remove_at-tried-requires-clause-place
-remove_at-tried-requires-clause-place c = subst (λ (m : MyTree). IsPlace (map pair (first_note m.0.upper.notes).objects) c.args.key.now (Ok c.args.at))
+remove_at-tried-requires-clause-place c = subst (λ (m : MyTree). IsPlace (map pair (first_note m.0.upper.notes).objects) c.args.removal.now.key.now (Ok c.args.removal.now.at))
     (sym (c.next_statistic-statistic.ensures.frame.still ∙ c.count-many.ensures.frame.still)) c.requires.place
 
 pub remove_at-tried-requires-clause-about : goal.remove_at-tried-requires-clause-about
-remove_at-tried-requires-clause-about c = subst (λ (m : MyTree). HasKey (first_note m.0.upper.notes).place.span c.args.key.now)
+remove_at-tried-requires-clause-about c = subst (λ (m : MyTree). HasKey (first_note m.0.upper.notes).place.span c.args.removal.now.key.now)
     (sym (c.next_statistic-statistic.ensures.frame.still ∙ c.count-many.ensures.frame.still)) c.requires.looking.about
 
 pub settle-requires-clause-ready : goal.settle-requires-clause-ready
@@ -194,4 +142,41 @@ settle-requires-clause-ready c = record {
       ∙ (ap (λ (m : MyTree). m.0.pin.pinned) (c.next_statistic-statistic.ensures.frame.still ∙ c.count-many.ensures.frame.still) ∙ c.requires.ready.pinned);
   number = search rules;
   none = c.remove_at-tried.ensures.frame.none;
+}
+
+pub remove_at-tried-requires-clause-target : goal.remove_at-tried-requires-clause-target
+remove_at-tried-requires-clause-target c = let z = c.args.tree.now.space.table.shared.key in let u = c.args.pass.now.seat.me.0.upper in
+    let same = sym (c.next_statistic-statistic.ensures.frame.still ∙ c.count-many.ensures.frame.still) in record {
+      leaf = let most = (tuned_on c.args.tree.now).allowed.most_leaf in let leaf = (tuned_on c.args.tree.now).leaf in omega arith;
+      shown = subst (λ (m : MyTree). IsShownLast z m.0.upper c.args.cursor.base) same (shown_last z u _ c.args.cursor c.requires.looking);
+      at = subst (λ (m : MyTree). IsAtCursor z (first_note m.0.upper.notes) c.args.cursor) same c.requires.looking.at;
+      many_are = subst (λ (m : MyTree). c.count-many.result ≡ length (first_note m.0.upper.notes).objects) same
+          (c.count-many.ensures.count (first_note u.notes) c.requires.looking.readable);
+    }
+
+pub returns-clause-turn : goal.returns-clause-turn
+returns-clause-turn c = record {
+  met_as = settled_met (IsMetAs c.settle.new.course.adapting.last.adapted (met_of c.settle.new.pass.seat.me) c.settle.new.pass.seat.me.0.upper)
+      c.remove_at-tried.result c.settle.result c.settle.ensures.come c.settle.ensures.met;
+  gone_on = let note = first_note c.args.pass.now.seat.me.0.upper.notes in let k : ℤ = c.next_statistic-statistic.result in
+      settled_on (settling c)
+      (subst (λ (x : ℤ). IsMoved c.args.tree.now.tuning (get_or note.its 1 0) c.args.course.now.adapting.lost x)
+      (sym (to_z-of_z w32 k (let small = c.next_statistic-statistic.type_inv in omega (arith, ints)))) (c.next_statistic-statistic.ensures.moved note
+      (subst (λ (m : MyTree). IsReadable c.args.tree.now.space.table.shared.key m.0.upper c.args.cursor.base note) (sym c.count-many.ensures.frame.still)
+      c.requires.looking.readable)))
+      c.word_of.ensures;
+  counted = settled_paid c.args.course.now.spent c.remove_at-tried.new.spent c.settle.new.course.spent c.args.pass.now.seat.me
+      c.next_statistic-statistic.new.pass.seat.me c.remove_at-tried.new.pass.seat.me c.settle.new.pass.seat.me
+      (c.next_statistic-statistic.ensures.frame.still ∙ c.count-many.ensures.frame.still)
+      (tried_splits _ c.args.tree.now.space.table.shared.key _ _ c.word_of.result c.remove_at-tried.result
+      c.next_statistic-statistic.new.pass.seat.me.0.upper c.remove_at-tried.new.pass.seat.me.0.upper c.remove_at-tried.ensures.removed c.remove_at-tried.ensures.renewed)
+      c.remove_at-tried.ensures.counted c.settle.ensures.counted;
+  found = settled_found c.args.tree.now.space.table.shared.key c.args.tree.now.tuning (to_z w32 (of_z w32 c.next_statistic-statistic.result))
+      c.remove_at-tried.result
+      c.settle.result c.args.course.now.adapting c.settle.new.course.adapting c.args.pass.now.seat.me c.next_statistic-statistic.new.pass.seat.me
+      c.remove_at-tried.new.pass.seat.me c.settle.new.pass.seat.me (c.next_statistic-statistic.ensures.frame.still ∙ c.count-many.ensures.frame.still)
+      c.settle.ensures.come c.remove_at-tried.ensures.found c.settle.ensures.settled;
+  grown = settled_grown (settling c) None c.requires.looking.listed c.settle.ensures.grows;
+  won = settled_won (settling c) c.requires.looking.listed c.remove_at-tried.ensures.won c.settle.ensures.won;
+  cut = settled_cut (settling c) None c.settle.ensures.cut;
 }

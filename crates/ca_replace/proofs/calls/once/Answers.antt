@@ -1,9 +1,7 @@
-use Rattle.std.proofs.Common.{◌≡◌, refl, sym, ap, ◌∙◌, subst, arith, rules}
+use Rattle.std.proofs.Common.{sym, ap, ◌∙◌, subst, arith, rules}
 use Rattle.ca_replace.specs.Adapting.{HasGoneOn, MeetsAs}
 use Rattle.ca_node.proofs.Tallies.{tallied_still}
 use Rattle.ca_replace.specs.Attempting.{HasTriedTo}
-use Rattle.ca_adapt.specs.Tuned.{IsTuned}
-use Rattle.ca_rows.specs.declared.sizes.Sizes.{Sizes}
 use Rattle.ca_replace.proofs.GoingOn.{gone_pinned}
 use Rattle.ca_replace.proofs.Turns.{known_pinned, rests_as, rests_again, none_pinned, tried_pinned, tried_known}
 use Rattle.ca_rows.specs.declared.view.Pin.{Pin}
@@ -25,9 +23,6 @@ attempt-tried-requires-clause-ready g c = record {
   none = none_pinned c.args.tree.now.space.table.shared.table_id c.args.tree.now.space.table.shared.key c.args.pass.now.number
       c.args.pass.now.kept c.pin.new.pass.kept c.args.pass.now.seat c.pin.new.pass.seat _ _ c.requires.resting c.pin.ensures.pinned.3 c.pin.ensures.frame.kept;
 }
-
-pub attempt-tried-requires-clause-tuned : goal.attempt-tried-requires-clause-tuned
-attempt-tried-requires-clause-tuned g c = let tree = c.args.tree.now in subst (λ (y : Sizes). IsTuned y tree.tuning) tree.space.same tree.tuned
 
 pub returns-clause-frame : goal.returns-clause-frame
 returns-clause-frame g c = record {
@@ -55,42 +50,9 @@ returns-clause-tried g c = let z = c.args.tree.now.space.table.shared.key in
     (subst (λ (m : MyTree). HasTriedTo tells z c.attempt-tried.result m.0.upper c.attempt-tried.new.pass.seat.me.0.upper) c.pin.ensures.pinned.3
     c.attempt-tried.ensures.tried)
 
-pub returns-clause-gone_on : goal.returns-clause-gone_on
-returns-clause-gone_on g c = let z = c.args.tree.now.space.table.shared.key in let edits = λ (x : _). g.A.Attempt.edits c.args.what.now x in
-    gone_pinned edits z c.args.tree.now.tuning c.args.adapting.now c.attempt-tried.new.adapting c.attempt-tried.result c.args.pass.now.seat.me.0.upper
-    c.attempt-tried.new.pass.seat.me.0.upper c.unpin.new.pass.seat.me.0.upper (ap (λ (m : MyTree). m.0.upper) c.unpin.ensures.unpinned)
-    (subst (λ (m : MyTree). HasGoneOn edits z c.args.tree.now.tuning c.args.adapting.now c.attempt-tried.new.adapting c.attempt-tried.result m.0.upper
-    c.attempt-tried.new.pass.seat.me.0.upper) c.pin.ensures.pinned.3 c.attempt-tried.ensures.gone_on)
-
-pub returns-clause-met_as : goal.returns-clause-met_as
-returns-clause-met_as g c = subst (λ (m : MyTree). MeetsAs (λ (x : _). g.A.Attempt.edits c.args.what.now x) c.attempt-tried.new.adapting.last
-    c.attempt-tried.result m.0.pin.left m.0.upper) (sym c.unpin.ensures.unpinned) c.attempt-tried.ensures.met_as
-
 pub attempt-tried-requires-clause-known : goal.attempt-tried-requires-clause-known
 attempt-tried-requires-clause-known g c = let z = c.args.tree.now.space.table.shared.key in
     subst (λ (m : MyTree). IsKnown z m.0.upper) (sym c.pin.ensures.pinned.3) (known_pinned z c.args.pass.now.seat.me.0.upper c.requires.resting.known)
-
-pub returns-clause-grown : goal.returns-clause-grown
-returns-clause-grown g c alone = let z = c.args.tree.now.space.table.shared.key in let adds = g.A.Attempt.adds c.args.what.now in
-    grown_pinned z adds c.attempt-tried.result c.args.pass.now.seat.me.0.upper c.attempt-tried.new.pass.seat.me.0.upper c.unpin.new.pass.seat.me.0.upper
-    (ap (λ (m : MyTree). m.0.upper) c.unpin.ensures.unpinned)
-    (subst (λ (m : MyTree). IsAlone z m.0.upper → HasGrown z adds c.attempt-tried.result m.0.upper c.attempt-tried.new.pass.seat.me.0.upper)
-    c.pin.ensures.pinned.3 c.attempt-tried.ensures.grown (alone.0, alone.1))
-
-pub returns-clause-cut : goal.returns-clause-cut
-returns-clause-cut g c = let z = c.args.tree.now.space.table.shared.key in let adds = g.A.Attempt.adds c.args.what.now in
-    let edits = λ (x : _). g.A.Attempt.edits c.args.what.now x in
-    cut_pinned edits z adds c.attempt-tried.result c.args.pass.now.seat.me.0.upper c.attempt-tried.new.pass.seat.me.0.upper
-    c.unpin.new.pass.seat.me.0.upper (ap (λ (m : MyTree). m.0.upper) c.unpin.ensures.unpinned)
-    (subst (λ (m : MyTree). HasCut edits z adds c.attempt-tried.result m.0.upper c.attempt-tried.new.pass.seat.me.0.upper) c.pin.ensures.pinned.3
-    c.attempt-tried.ensures.cut)
-
-pub returns-clause-won : goal.returns-clause-won
-returns-clause-won g c alone = let z = c.args.tree.now.space.table.shared.key in let edits = λ (x : _). g.A.Attempt.edits c.args.what.now x in
-    won_pinned edits c.attempt-tried.result c.args.pass.now.seat.me.0.upper c.attempt-tried.new.pass.seat.me.0.upper c.unpin.new.pass.seat.me.0.upper
-    (ap (λ (m : MyTree). m.0.upper) c.unpin.ensures.unpinned)
-    (subst (λ (m : MyTree). IsAlone z m.0.upper → HasWonAs edits c.attempt-tried.result m.0.upper c.attempt-tried.new.pass.seat.me.0.upper)
-    c.pin.ensures.pinned.3 c.attempt-tried.ensures.won (alone.0, alone.1))
 
 pub returns-clause-lags : goal.returns-clause-lags
 returns-clause-lags g c = let pin = ap (λ (m : MyTree). m.0.pin) c.pin.ensures.pinned.3 in
@@ -98,3 +60,32 @@ returns-clause-lags g c = let pin = ap (λ (m : MyTree). m.0.pin) c.pin.ensures.
       ap (λ (e : Pin). e.lags) out ∙ (ap (λ (e : Pin). e.lags) last ∙ ap (λ (e : Pin). e.lags) pin),
       ap (λ (e : Pin). e.entered.lags) out ∙ (ap (λ (e : Pin). e.entered.lags) last ∙ ap (λ (e : Pin). e.entered.lags) pin),
     )
+
+pub returns-clause-turn : goal.returns-clause-turn
+returns-clause-turn g c = record {
+  met_as = subst (λ (m : MyTree). MeetsAs (λ (x : _). g.A.Attempt.edits c.args.what.now x) c.attempt-tried.new.course.adapting.last
+      c.attempt-tried.result m.0.pin.left m.0.upper) (sym c.unpin.ensures.unpinned) c.attempt-tried.ensures.turn.met_as;
+  gone_on = let z = c.args.tree.now.space.table.shared.key in let edits = λ (x : _). g.A.Attempt.edits c.args.what.now x in
+      gone_pinned edits z c.args.tree.now.tuning c.args.course.now.adapting c.attempt-tried.new.course.adapting c.attempt-tried.result c.args.pass.now.seat.me.0.upper
+      c.attempt-tried.new.pass.seat.me.0.upper c.unpin.new.pass.seat.me.0.upper (ap (λ (m : MyTree). m.0.upper) c.unpin.ensures.unpinned)
+      (subst (λ (m : MyTree). HasGoneOn edits z c.args.tree.now.tuning c.args.course.now.adapting c.attempt-tried.new.course.adapting c.attempt-tried.result m.0.upper
+      c.attempt-tried.new.pass.seat.me.0.upper) c.pin.ensures.pinned.3 c.attempt-tried.ensures.turn.gone_on);
+  counted = search rules;
+  found = search rules;
+  grown = λ alone. let z = c.args.tree.now.space.table.shared.key in let adds = g.A.Attempt.adds c.args.what.now in
+      grown_pinned z adds c.attempt-tried.result c.args.pass.now.seat.me.0.upper c.attempt-tried.new.pass.seat.me.0.upper c.unpin.new.pass.seat.me.0.upper
+      (ap (λ (m : MyTree). m.0.upper) c.unpin.ensures.unpinned)
+      (subst (λ (m : MyTree). IsAlone z m.0.upper → HasGrown z adds c.attempt-tried.result m.0.upper c.attempt-tried.new.pass.seat.me.0.upper)
+      c.pin.ensures.pinned.3 c.attempt-tried.ensures.turn.grown (alone.0, alone.1));
+  won = λ alone. let z = c.args.tree.now.space.table.shared.key in let edits = λ (x : _). g.A.Attempt.edits c.args.what.now x in
+      won_pinned edits c.attempt-tried.result c.args.pass.now.seat.me.0.upper c.attempt-tried.new.pass.seat.me.0.upper c.unpin.new.pass.seat.me.0.upper
+      (ap (λ (m : MyTree). m.0.upper) c.unpin.ensures.unpinned)
+      (subst (λ (m : MyTree). IsAlone z m.0.upper → HasWonAs edits c.attempt-tried.result m.0.upper c.attempt-tried.new.pass.seat.me.0.upper)
+      c.pin.ensures.pinned.3 c.attempt-tried.ensures.turn.won (alone.0, alone.1));
+  cut = let z = c.args.tree.now.space.table.shared.key in let adds = g.A.Attempt.adds c.args.what.now in
+      let edits = λ (x : _). g.A.Attempt.edits c.args.what.now x in
+      cut_pinned edits z adds c.attempt-tried.result c.args.pass.now.seat.me.0.upper c.attempt-tried.new.pass.seat.me.0.upper
+      c.unpin.new.pass.seat.me.0.upper (ap (λ (m : MyTree). m.0.upper) c.unpin.ensures.unpinned)
+      (subst (λ (m : MyTree). HasCut edits z adds c.attempt-tried.result m.0.upper c.attempt-tried.new.pass.seat.me.0.upper) c.pin.ensures.pinned.3
+      c.attempt-tried.ensures.turn.cut);
+}

@@ -1,6 +1,6 @@
 use Rattle.std.specs.Prelude.{slice_range}
 use Rattle.ca_model.specs.Event.{Event, Write}
-use Rattle.std.proofs.Common.{◌≡◌, refl, true, ap, ◌∙◌, sym, subst, ◌<◌, []}
+use Rattle.std.proofs.Common.{◌≡◌, true, ap, ◌∙◌, sym, subst, ◌<◌, []}
 use Rattle.ca_replace.proofs.GoingOn.{gone_after, paid_behind}
 use Rattle.ca_replace.proofs.Showing.{tried_on}
 use Rattle.ca_replace.proofs.Growing.{alone_on, looked_grown}
@@ -13,15 +13,10 @@ use Rattle.ca_replace.proofs.Entries.{held_looked}
 use Rattle.ca_replace.proofs.puts.PutCallAttempt.attempt.Goals as goal
 
 pub returns-clause-tried : goal.returns-clause-tried
-returns-clause-tried c = let o = c.args.self.now in
-    tried_on (λ _ (e : Event). e ≡ Write (slice_range o.object.now o.key_at o.key_end) o.object.now) c.args.space.now.table.shared.key c.put_there.result
+returns-clause-tried c = let o = c.args.self.now.keyed in
+    tried_on (λ _ (e : Event). e ≡ Write (slice_range o.object.now o.key_at o.key_end) o.object.now) c.args.tree.now.space.table.shared.key c.put_there.result
     c.args.pass.now.seat.me.0.upper c.find-place.new.pass.seat.me.0.upper c.put_there.new.pass.seat.me.0.upper c.find-place.ensures.further
     c.put_there.ensures.tried
-
-pub returns-clause-gone_on : goal.returns-clause-gone_on
-returns-clause-gone_on c = gone_after (λ (_ : Unit {0}). true) c.args.space.now.table.shared.key c.args.tuning.now c.args.adapting.now
-    c.put_there.new.adapting c.put_there.result c.args.pass.now.seat.me.0.upper c.find-place.new.pass.seat.me.0.upper
-    c.put_there.new.pass.seat.me.0.upper c.find-place.ensures.quiet.idle c.put_there.ensures.gone_on
 
 pub returns-clause-frame : goal.returns-clause-frame
 returns-clause-frame c = record {
@@ -32,38 +27,36 @@ returns-clause-frame c = record {
   none = c.put_there.ensures.frame.none;
 }
 
-pub returns-clause-grown : goal.returns-clause-grown
-returns-clause-grown c = let o = c.args.self.now in looked_grown c.args.space.now.table.shared.key (Some (slice_range o.object.now o.key_at o.key_end))
-    c.put_there.result c.args.pass.now.seat.me c.find-place.new.pass.seat.me c.put_there.new.pass.seat.me.0.upper c.requires.known
-    c.find-place.ensures.looking.known c.find-place.ensures.further c.find-place.ensures.quiet c.put_there.ensures.grown
-
-pub returns-clause-cut : goal.returns-clause-cut
-returns-clause-cut c = let o = c.args.self.now in looked_cut (λ (_ : Unit {0}). true) c.args.space.now.table.shared.key
-    (Some (slice_range o.object.now o.key_at o.key_end)) c.put_there.result c.args.pass.now.seat.me c.find-place.new.pass.seat.me
-    c.put_there.new.pass.seat.me.0.upper c.find-place.ensures.quiet c.put_there.ensures.cut
-
-pub returns-clause-won : goal.returns-clause-won
-returns-clause-won c alone = won_behind (λ (_ : Unit {0}). true) c.put_there.result c.args.pass.now.seat.me.0.upper c.find-place.new.pass.seat.me.0.upper
-    c.put_there.new.pass.seat.me.0.upper c.find-place.ensures.quiet.idle.1 (c.put_there.ensures.won (alone_on c.args.space.now.table.shared.key
-    c.args.pass.now.seat.me.0.upper c.find-place.new.pass.seat.me.0.upper c.find-place.ensures.further.number alone))
-
 pub returns-clause-deep : goal.returns-clause-deep
 returns-clause-deep c = c.put_there.ensures.full
-
-pub returns-clause-counted : goal.returns-clause-counted
-returns-clause-counted c = paid_behind c.args.spent.now c.put_there.new.spent c.args.pass.now.seat.me c.find-place.new.pass.seat.me
-    c.put_there.new.pass.seat.me c.find-place.ensures.quiet c.put_there.ensures.counted
-
-pub returns-clause-found : goal.returns-clause-found
-returns-clause-found c = stopped_behind c.put_there.result c.args.pass.now.seat.me c.find-place.new.pass.seat.me c.put_there.new.pass.seat.me
-    c.find-place.ensures.quiet c.put_there.ensures.found
 
 pub put_there-requires-clause-ready : goal.put_there-requires-clause-ready
 put_there-requires-clause-ready c = record {
   own = (c.find-place.ensures.same.0 ∙ c.requires.ready.own.0, c.find-place.ensures.still.0 ∙ c.requires.ready.own.1);
   pinned = ap (λ (p : Pin). p.pinned) c.find-place.ensures.still.1 ∙ c.requires.ready.pinned;
   number = subst (λ n. 0 < n) (sym c.find-place.ensures.further.number) c.requires.ready.number;
-  none = held_looked c.args.space.now.table.shared.key.rows c.args.pass.now.kept c.find-place.new.pass.kept c.args.pass.now.seat.me
+  none = held_looked c.args.tree.now.space.table.shared.key.rows c.args.pass.now.kept c.find-place.new.pass.kept c.args.pass.now.seat.me
       c.find-place.new.pass.seat.me []
       c.requires.ready.none c.find-place.ensures.kept c.find-place.ensures.still.2 c.find-place.ensures.quiet.most;
+}
+
+pub returns-clause-turn : goal.returns-clause-turn
+returns-clause-turn c = record {
+  met_as = c.put_there.ensures.turn.met_as;
+  gone_on = gone_after (λ (_ : Unit {0}). true) c.args.tree.now.space.table.shared.key c.args.tree.now.tuning c.args.course.now.adapting
+      c.put_there.new.course.adapting c.put_there.result c.args.pass.now.seat.me.0.upper c.find-place.new.pass.seat.me.0.upper
+      c.put_there.new.pass.seat.me.0.upper c.find-place.ensures.quiet.idle c.put_there.ensures.turn.gone_on;
+  counted = paid_behind c.args.course.now.spent c.put_there.new.course.spent c.args.pass.now.seat.me c.find-place.new.pass.seat.me
+      c.put_there.new.pass.seat.me c.find-place.ensures.quiet c.put_there.ensures.turn.counted;
+  found = stopped_behind c.put_there.result c.args.pass.now.seat.me c.find-place.new.pass.seat.me c.put_there.new.pass.seat.me
+      c.find-place.ensures.quiet c.put_there.ensures.turn.found;
+  grown = let o = c.args.self.now.keyed in looked_grown c.args.tree.now.space.table.shared.key (Some (slice_range o.object.now o.key_at o.key_end))
+      c.put_there.result c.args.pass.now.seat.me c.find-place.new.pass.seat.me c.put_there.new.pass.seat.me.0.upper c.requires.known
+      c.find-place.ensures.looking.known c.find-place.ensures.further c.find-place.ensures.quiet c.put_there.ensures.turn.grown;
+  won = λ alone. won_behind (λ (_ : Unit {0}). true) c.put_there.result c.args.pass.now.seat.me.0.upper c.find-place.new.pass.seat.me.0.upper
+      c.put_there.new.pass.seat.me.0.upper c.find-place.ensures.quiet.idle.1 (c.put_there.ensures.turn.won (alone_on c.args.tree.now.space.table.shared.key
+      c.args.pass.now.seat.me.0.upper c.find-place.new.pass.seat.me.0.upper c.find-place.ensures.further.number alone));
+  cut = let o = c.args.self.now.keyed in looked_cut (λ (_ : Unit {0}). true) c.args.tree.now.space.table.shared.key
+      (Some (slice_range o.object.now o.key_at o.key_end)) c.put_there.result c.args.pass.now.seat.me c.find-place.new.pass.seat.me
+      c.put_there.new.pass.seat.me.0.upper c.find-place.ensures.quiet c.put_there.ensures.turn.cut;
 }

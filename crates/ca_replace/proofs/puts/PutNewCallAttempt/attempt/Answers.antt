@@ -18,14 +18,14 @@ use Rattle.ca_replace.proofs.Entries.{held_upper, held_looked}
 use Rattle.ca_replace.proofs.puts.PutNewCallAttempt.attempt.Goals as goal
 
 pub enter-requires-clause-answer : goal.enter-requires-clause-answer
-enter-requires-clause-answer c = let o = c.args.self.now in
-    not_new c.args.space.now.table.shared.key c.find-place.new.pass.seat.me.0.upper c.find-place.result.0
+enter-requires-clause-answer c = let o = c.args.self.now.keyed in
+    not_new c.args.tree.now.space.table.shared.key c.find-place.new.pass.seat.me.0.upper c.find-place.result.0
     (slice_range o.object.now o.key_at o.key_end) o.object.now
     c.find-place.result.1 (sym c.is_ok.ensures.value ∙ c.if-is_ok.true) c.find-place.ensures.looking c.find-place.ensures.place
 
 pub returns-then-is_ok-clause-tried : goal.returns-then-is_ok-clause-tried
-returns-then-is_ok-clause-tried c = let o = c.args.self.now in let k = slice_range o.object.now o.key_at o.key_end in
-    let z = c.args.space.now.table.shared.key in
+returns-then-is_ok-clause-tried c = let o = c.args.self.now.keyed in let k = slice_range o.object.now o.key_at o.key_end in
+    let z = c.args.tree.now.space.table.shared.key in
     let w = c.find-place.new.pass.seat.me.0.upper in
     let event = WriteNew k o.object.now false in
     read_done (λ (new : Bool) (e : Event). e ≡ WriteNew k o.object.now new) z c.args.pass.now.seat.me.0.upper w
@@ -35,24 +35,9 @@ returns-then-is_ok-clause-tried c = let o = c.args.self.now in let k = slice_ran
     (ap (λ (m : MyTree). m.0.upper) c.enter.ensures.entered)
 
 pub returns-in-Ok-clause-tried : goal.returns-in-Ok-clause-tried
-returns-in-Ok-clause-tried c = let o = c.args.self.now in let k = slice_range o.object.now o.key_at o.key_end in let z = c.args.space.now.table.shared.key in
+returns-in-Ok-clause-tried c = let o = c.args.self.now.keyed in let k = slice_range o.object.now o.key_at o.key_end in let z = c.args.tree.now.space.table.shared.key in
     did (λ (new : Bool) (e : Event). e ≡ WriteNew k o.object.now new) z (WriteNew k o.object.now true) true c.args.pass.now.seat.me.0.upper
     c.find-place.new.pass.seat.me.0.upper c.put_there.new.pass.seat.me.0.upper refl c.find-place.ensures.further c.in-Ok.ensures.tried
-
-pub returns-then-is_ok-clause-gone_on : goal.returns-then-is_ok-clause-gone_on
-returns-then-is_ok-clause-gone_on c = entered_waits c.args.adapting.now c.args.pass.now.seat.me.0.upper c.find-place.new.pass.seat.me.0.upper
-    c.find-place.new.pass.seat.me c.enter.new.pass.seat.me _ refl c.find-place.ensures.quiet.idle c.enter.ensures.entered
-
-pub returns-in-Ok-clause-gone_on : goal.returns-in-Ok-clause-gone_on
-returns-in-Ok-clause-gone_on c = adapts_after c.args.space.now.table.shared.key c.args.tuning.now c.args.adapting.now c.put_there.new.adapting.last
-    c.args.pass.now.seat.me.0.upper c.find-place.new.pass.seat.me.0.upper c.put_there.new.pass.seat.me.0.upper c.find-place.ensures.quiet.idle
-    c.in-Ok.ensures.gone_on
-
-pub returns-in-Err-clause-gone_on : goal.returns-in-Err-clause-gone_on
-returns-in-Err-clause-gone_on c = waits_on c.args.adapting.now c.args.adapting.now c.put_there.new.adapting c.args.pass.now.seat.me.0.upper
-    c.find-place.new.pass.seat.me.0.upper c.put_there.new.pass.seat.me.0.upper
-    (idle_waits c.args.adapting.now c.args.pass.now.seat.me.0.upper c.find-place.new.pass.seat.me.0.upper c.find-place.ensures.quiet.idle)
-    c.in-Err.ensures.gone_on
 
 pub returns-then-is_ok-clause-frame : goal.returns-then-is_ok-clause-frame
 returns-then-is_ok-clause-frame c = record {
@@ -64,9 +49,9 @@ returns-then-is_ok-clause-frame c = record {
     ap (λ (m : MyTree). m.0.sizes) c.enter.ensures.entered ∙ c.find-place.ensures.still.0,
     ap (λ (m : MyTree). m.0.pin) c.enter.ensures.entered ∙ c.find-place.ensures.still.1,
   );
-  none = held_upper c.args.space.now.table.shared.key.rows c.find-place.new.pass.kept c.enter.new.pass.kept
+  none = held_upper c.args.tree.now.space.table.shared.key.rows c.find-place.new.pass.kept c.enter.new.pass.kept
       c.find-place.new.pass.seat.me c.enter.new.pass.seat.me _ []
-      (held_looked c.args.space.now.table.shared.key.rows c.args.pass.now.kept c.find-place.new.pass.kept c.args.pass.now.seat.me c.find-place.new.pass.seat.me
+      (held_looked c.args.tree.now.space.table.shared.key.rows c.args.pass.now.kept c.find-place.new.pass.kept c.args.pass.now.seat.me c.find-place.new.pass.seat.me
       [] c.requires.ready.none
       c.find-place.ensures.kept c.find-place.ensures.still.2 c.find-place.ensures.quiet.most) c.enter.ensures.entered c.enter.ensures.frame.kept;
 }
@@ -96,83 +81,71 @@ returns-in-Err-clause-tried c = (
   c.in-Err.ensures.tried.1,
 )
 
-pub returns-in-Ok-clause-counted : goal.returns-in-Ok-clause-counted
-returns-in-Ok-clause-counted c = paid_behind c.args.spent.now c.put_there.new.spent c.args.pass.now.seat.me c.find-place.new.pass.seat.me
-    c.put_there.new.pass.seat.me c.find-place.ensures.quiet c.put_there.ensures.counted
-
-pub returns-then-is_ok-clause-grown : goal.returns-then-is_ok-clause-grown
-returns-then-is_ok-clause-grown c alone = entered_grown c.args.pass.now.seat.me c.find-place.new.pass.seat.me c.enter.new.pass.seat.me _
-    c.find-place.ensures.quiet c.enter.ensures.entered
-
-pub returns-in-Ok-clause-grown : goal.returns-in-Ok-clause-grown
-returns-in-Ok-clause-grown c = let o = c.args.self.now in looked_grown {T = Unit {0}} c.args.space.now.table.shared.key
-    (Some (slice_range o.object.now o.key_at o.key_end))
-    (Ok tt) c.args.pass.now.seat.me c.find-place.new.pass.seat.me c.put_there.new.pass.seat.me.0.upper c.requires.known
-    c.find-place.ensures.looking.known c.find-place.ensures.further c.find-place.ensures.quiet c.in-Ok.ensures.grown
-
-pub returns-in-Err-clause-grown : goal.returns-in-Err-clause-grown
-returns-in-Err-clause-grown c = let o = c.args.self.now in stop_grown (Unit {0}) Bool c.args.space.now.table.shared.key
-    (Some (slice_range o.object.now o.key_at o.key_end))
-    c.in-Err.stop c.args.pass.now.seat.me c.find-place.new.pass.seat.me c.put_there.new.pass.seat.me.0.upper c.requires.known
-    c.find-place.ensures.looking.known c.find-place.ensures.further c.find-place.ensures.quiet c.in-Err.ensures.grown
-
-pub returns-then-is_ok-clause-cut : goal.returns-then-is_ok-clause-cut
-returns-then-is_ok-clause-cut c = entered_cut c.args.pass.now.seat.me c.find-place.new.pass.seat.me c.enter.new.pass.seat.me _
-    c.find-place.ensures.quiet c.enter.ensures.entered
-
-pub returns-in-Ok-clause-cut : goal.returns-in-Ok-clause-cut
-returns-in-Ok-clause-cut c = let o = c.args.self.now in looked_cut (λ (_ : Unit {0}). true) c.args.space.now.table.shared.key
-    (Some (slice_range o.object.now o.key_at o.key_end)) (Ok tt) c.args.pass.now.seat.me c.find-place.new.pass.seat.me
-    c.put_there.new.pass.seat.me.0.upper c.find-place.ensures.quiet c.in-Ok.ensures.cut
-
-pub returns-in-Err-clause-cut : goal.returns-in-Err-clause-cut
-returns-in-Err-clause-cut c = let o = c.args.self.now in stop_cut (Unit {0}) Bool (λ _. true) (λ new. new) c.args.space.now.table.shared.key
-    (Some (slice_range o.object.now o.key_at o.key_end)) c.in-Err.stop c.args.pass.now.seat.me c.find-place.new.pass.seat.me
-    c.put_there.new.pass.seat.me.0.upper c.find-place.ensures.quiet c.in-Err.ensures.cut
-
-pub returns-in-Ok-clause-won : goal.returns-in-Ok-clause-won
-returns-in-Ok-clause-won c alone = won_on true c.args.pass.now.seat.me.0.upper c.find-place.new.pass.seat.me.0.upper c.put_there.new.pass.seat.me.0.upper
-    c.find-place.ensures.quiet.idle.1 (c.in-Ok.ensures.won (alone_on c.args.space.now.table.shared.key c.args.pass.now.seat.me.0.upper
-    c.find-place.new.pass.seat.me.0.upper c.find-place.ensures.further.number alone))
-
-pub returns-in-Err-clause-won : goal.returns-in-Err-clause-won
-returns-in-Err-clause-won c alone = won_on false c.args.pass.now.seat.me.0.upper c.find-place.new.pass.seat.me.0.upper c.put_there.new.pass.seat.me.0.upper
-    c.find-place.ensures.quiet.idle.1 (c.in-Err.ensures.won (alone_on c.args.space.now.table.shared.key c.args.pass.now.seat.me.0.upper
-    c.find-place.new.pass.seat.me.0.upper c.find-place.ensures.further.number alone))
-
-pub returns-then-is_ok-clause-counted : goal.returns-then-is_ok-clause-counted
-returns-then-is_ok-clause-counted c = none_paid c.args.spent.now c.args.pass.now.seat.me c.enter.new.pass.seat.me
-    (ap losses c.enter.ensures.entered ∙ c.find-place.ensures.quiet.lost) (ap splits c.enter.ensures.entered ∙ c.find-place.ensures.quiet.splits_are)
-
-pub returns-then-is_ok-clause-found : goal.returns-then-is_ok-clause-found
-returns-then-is_ok-clause-found c = done_stopped _ c.args.pass.now.seat.me c.enter.new.pass.seat.me
-
-pub returns-then-is_ok-clause-met_as : goal.returns-then-is_ok-clause-met_as
-returns-then-is_ok-clause-met_as c = tt
-
-pub returns-then-is_ok-clause-won : goal.returns-then-is_ok-clause-won
-returns-then-is_ok-clause-won c alone = ap (λ (m : MyTree). m.0.upper.lost) c.enter.ensures.entered ∙ c.find-place.ensures.quiet.idle.1
-
-pub returns-in-Ok-clause-found : goal.returns-in-Ok-clause-found
-returns-in-Ok-clause-found c = done_stopped _ c.args.pass.now.seat.me c.put_there.new.pass.seat.me
-
-pub returns-in-Err-clause-counted : goal.returns-in-Err-clause-counted
-returns-in-Err-clause-counted c = paid_behind c.args.spent.now c.put_there.new.spent c.args.pass.now.seat.me c.find-place.new.pass.seat.me
-    c.put_there.new.pass.seat.me c.find-place.ensures.quiet c.put_there.ensures.counted
-
-pub returns-in-Err-clause-found : goal.returns-in-Err-clause-found
-returns-in-Err-clause-found c = stop_stopped (Unit {0}) Bool c.in-Err.stop c.args.pass.now.seat.me c.find-place.new.pass.seat.me
-    c.put_there.new.pass.seat.me c.find-place.ensures.quiet c.in-Err.ensures.found
-
-pub returns-in-Err-clause-met_as : goal.returns-in-Err-clause-met_as
-returns-in-Err-clause-met_as c = tt
-
 pub put_there-requires-clause-ready : goal.put_there-requires-clause-ready
 put_there-requires-clause-ready c = record {
   own = (c.find-place.ensures.same.0 ∙ c.requires.ready.own.0, c.find-place.ensures.still.0 ∙ c.requires.ready.own.1);
   pinned = ap (λ (p : Pin). p.pinned) c.find-place.ensures.still.1 ∙ c.requires.ready.pinned;
   number = subst (λ n. 0 < n) (sym c.find-place.ensures.further.number) c.requires.ready.number;
-  none = held_looked c.args.space.now.table.shared.key.rows c.args.pass.now.kept c.find-place.new.pass.kept c.args.pass.now.seat.me
+  none = held_looked c.args.tree.now.space.table.shared.key.rows c.args.pass.now.kept c.find-place.new.pass.kept c.args.pass.now.seat.me
       c.find-place.new.pass.seat.me []
       c.requires.ready.none c.find-place.ensures.kept c.find-place.ensures.still.2 c.find-place.ensures.quiet.most;
+}
+
+pub returns-then-is_ok-clause-turn : goal.returns-then-is_ok-clause-turn
+returns-then-is_ok-clause-turn c = record {
+  met_as = tt;
+  gone_on = entered_waits c.args.course.now.adapting c.args.pass.now.seat.me.0.upper c.find-place.new.pass.seat.me.0.upper
+      c.find-place.new.pass.seat.me c.enter.new.pass.seat.me _ refl c.find-place.ensures.quiet.idle c.enter.ensures.entered;
+  counted = none_paid c.args.course.now.spent c.args.pass.now.seat.me c.enter.new.pass.seat.me
+      (ap losses c.enter.ensures.entered ∙ c.find-place.ensures.quiet.lost) (ap splits c.enter.ensures.entered ∙ c.find-place.ensures.quiet.splits_are);
+  found = done_stopped _ c.args.pass.now.seat.me c.enter.new.pass.seat.me;
+  grown = λ alone. entered_grown c.args.pass.now.seat.me c.find-place.new.pass.seat.me c.enter.new.pass.seat.me _
+      c.find-place.ensures.quiet c.enter.ensures.entered;
+  won = λ alone. ap (λ (m : MyTree). m.0.upper.lost) c.enter.ensures.entered ∙ c.find-place.ensures.quiet.idle.1;
+  cut = entered_cut c.args.pass.now.seat.me c.find-place.new.pass.seat.me c.enter.new.pass.seat.me _
+      c.find-place.ensures.quiet c.enter.ensures.entered;
+}
+
+pub returns-in-Ok-clause-turn : goal.returns-in-Ok-clause-turn
+returns-in-Ok-clause-turn c = record {
+  met_as = c.in-Ok.ensures.turn.met_as;
+  gone_on = adapts_after c.args.tree.now.space.table.shared.key c.args.tree.now.tuning c.args.course.now.adapting c.put_there.new.course.adapting.last
+      c.args.pass.now.seat.me.0.upper c.find-place.new.pass.seat.me.0.upper c.put_there.new.pass.seat.me.0.upper c.find-place.ensures.quiet.idle
+      c.in-Ok.ensures.turn.gone_on;
+  counted = paid_behind c.args.course.now.spent c.put_there.new.course.spent c.args.pass.now.seat.me c.find-place.new.pass.seat.me
+      c.put_there.new.pass.seat.me c.find-place.ensures.quiet c.put_there.ensures.turn.counted;
+  found = done_stopped _ c.args.pass.now.seat.me c.put_there.new.pass.seat.me;
+  grown = let o = c.args.self.now.keyed in looked_grown {T = Unit {0}} c.args.tree.now.space.table.shared.key
+      (Some (slice_range o.object.now o.key_at o.key_end))
+      (Ok tt) c.args.pass.now.seat.me c.find-place.new.pass.seat.me c.put_there.new.pass.seat.me.0.upper c.requires.known
+      c.find-place.ensures.looking.known c.find-place.ensures.further c.find-place.ensures.quiet c.in-Ok.ensures.turn.grown;
+  won = λ alone. won_on true c.args.pass.now.seat.me.0.upper c.find-place.new.pass.seat.me.0.upper c.put_there.new.pass.seat.me.0.upper
+      c.find-place.ensures.quiet.idle.1 (c.in-Ok.ensures.turn.won (alone_on c.args.tree.now.space.table.shared.key c.args.pass.now.seat.me.0.upper
+      c.find-place.new.pass.seat.me.0.upper c.find-place.ensures.further.number alone));
+  cut = let o = c.args.self.now.keyed in looked_cut (λ (_ : Unit {0}). true) c.args.tree.now.space.table.shared.key
+      (Some (slice_range o.object.now o.key_at o.key_end)) (Ok tt) c.args.pass.now.seat.me c.find-place.new.pass.seat.me
+      c.put_there.new.pass.seat.me.0.upper c.find-place.ensures.quiet c.in-Ok.ensures.turn.cut;
+}
+
+pub returns-in-Err-clause-turn : goal.returns-in-Err-clause-turn
+returns-in-Err-clause-turn c = record {
+  met_as = tt;
+  gone_on = waits_on c.args.course.now.adapting c.args.course.now.adapting c.put_there.new.course.adapting c.args.pass.now.seat.me.0.upper
+      c.find-place.new.pass.seat.me.0.upper c.put_there.new.pass.seat.me.0.upper
+      (idle_waits c.args.course.now.adapting c.args.pass.now.seat.me.0.upper c.find-place.new.pass.seat.me.0.upper c.find-place.ensures.quiet.idle)
+      c.in-Err.ensures.turn.gone_on;
+  counted = paid_behind c.args.course.now.spent c.put_there.new.course.spent c.args.pass.now.seat.me c.find-place.new.pass.seat.me
+      c.put_there.new.pass.seat.me c.find-place.ensures.quiet c.put_there.ensures.turn.counted;
+  found = stop_stopped (Unit {0}) Bool c.in-Err.stop c.args.pass.now.seat.me c.find-place.new.pass.seat.me
+      c.put_there.new.pass.seat.me c.find-place.ensures.quiet c.in-Err.ensures.turn.found;
+  grown = let o = c.args.self.now.keyed in stop_grown (Unit {0}) Bool c.args.tree.now.space.table.shared.key
+      (Some (slice_range o.object.now o.key_at o.key_end))
+      c.in-Err.stop c.args.pass.now.seat.me c.find-place.new.pass.seat.me c.put_there.new.pass.seat.me.0.upper c.requires.known
+      c.find-place.ensures.looking.known c.find-place.ensures.further c.find-place.ensures.quiet c.in-Err.ensures.turn.grown;
+  won = λ alone. won_on false c.args.pass.now.seat.me.0.upper c.find-place.new.pass.seat.me.0.upper c.put_there.new.pass.seat.me.0.upper
+      c.find-place.ensures.quiet.idle.1 (c.in-Err.ensures.turn.won (alone_on c.args.tree.now.space.table.shared.key c.args.pass.now.seat.me.0.upper
+      c.find-place.new.pass.seat.me.0.upper c.find-place.ensures.further.number alone));
+  cut = let o = c.args.self.now.keyed in stop_cut (Unit {0}) Bool (λ _. true) (λ new. new) c.args.tree.now.space.table.shared.key
+      (Some (slice_range o.object.now o.key_at o.key_end)) c.in-Err.stop c.args.pass.now.seat.me c.find-place.new.pass.seat.me
+      c.put_there.new.pass.seat.me.0.upper c.find-place.ensures.quiet c.in-Err.ensures.turn.cut;
 }

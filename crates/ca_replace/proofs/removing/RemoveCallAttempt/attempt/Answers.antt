@@ -21,7 +21,7 @@ use Rattle.ca_replace.proofs.Winning.{won_on}
 use Rattle.ca_replace.proofs.removing.RemoveCallAttempt.attempt.Goals as goal
 
 pub returns-in_default-clause-tried : goal.returns-in_default-clause-tried
-returns-in_default-clause-tried c = let key : List ℕ = c.args.self.now.key.now in let z = c.args.space.now.table.shared.key in
+returns-in_default-clause-tried c = let key : List ℕ = c.args.self.now.key.now in let z = c.args.tree.now.space.table.shared.key in
     let w = c.fetch-place.new.pass.seat.me.0.upper in let old : List ℕ = c.fetch-place.new.old.items in
     let none = subst (λ (p : Result ℕ ℕ). HasFetched z w key p old) c.in_default.is c.fetch-place.ensures.fetched in
     read_done (λ (x : Bool) (e : Event). Removes key x old e) z c.args.pass.now.seat.me.0.upper w
@@ -33,7 +33,7 @@ remove_there-requires-clause-place c = let m = map pair (first_note c.fetch-plac
     subst (λ (p : Result ℕ ℕ). IsPlace m c.args.self.now.key.now p) c.in-Ok.is c.fetch-place.ensures.place
 
 pub returns-in-Ok-remove_there-clause-tried : goal.returns-in-Ok-remove_there-clause-tried
-returns-in-Ok-remove_there-clause-tried c = let key : List ℕ = c.args.self.now.key.now in let z = c.args.space.now.table.shared.key in
+returns-in-Ok-remove_there-clause-tried c = let key : List ℕ = c.args.self.now.key.now in let z = c.args.tree.now.space.table.shared.key in
     let w = c.fetch-place.new.pass.seat.me.0.upper in let old : List ℕ = c.fetch-place.new.old.items in
     let found = subst (λ (p : Result ℕ ℕ). HasFetched z w key p old) c.in-Ok.is c.fetch-place.ensures.fetched in
     did (λ (x : Bool) (e : Event). Removes key x old e) z
@@ -41,21 +41,6 @@ returns-in-Ok-remove_there-clause-tried c = let key : List ℕ = c.args.self.now
     c.args.pass.now.seat.me.0.upper w c.remove_there.new.pass.seat.me.0.upper
     (λ i. Remove key (Some (found.2 i))) c.fetch-place.ensures.further
     c.in-Ok-remove_there.ensures.tried
-
-pub returns-in_default-clause-gone_on : goal.returns-in_default-clause-gone_on
-returns-in_default-clause-gone_on c = entered_waits c.args.adapting.now c.args.pass.now.seat.me.0.upper c.fetch-place.new.pass.seat.me.0.upper
-    c.fetch-place.new.pass.seat.me c.enter.new.pass.seat.me _ refl c.fetch-place.ensures.quiet.idle c.enter.ensures.entered
-
-pub returns-in-Ok-remove_there-clause-gone_on : goal.returns-in-Ok-remove_there-clause-gone_on
-returns-in-Ok-remove_there-clause-gone_on c = adapts_after c.args.space.now.table.shared.key c.args.tuning.now c.args.adapting.now
-    c.remove_there.new.adapting.last c.args.pass.now.seat.me.0.upper c.fetch-place.new.pass.seat.me.0.upper c.remove_there.new.pass.seat.me.0.upper
-    c.fetch-place.ensures.quiet.idle c.in-Ok-remove_there.ensures.gone_on
-
-pub returns-in-Err-clause-gone_on : goal.returns-in-Err-clause-gone_on
-returns-in-Err-clause-gone_on c = waits_on c.args.adapting.now c.args.adapting.now c.remove_there.new.adapting c.args.pass.now.seat.me.0.upper
-    c.fetch-place.new.pass.seat.me.0.upper c.remove_there.new.pass.seat.me.0.upper
-    (idle_waits c.args.adapting.now c.args.pass.now.seat.me.0.upper c.fetch-place.new.pass.seat.me.0.upper c.fetch-place.ensures.quiet.idle)
-    c.in-Err.ensures.gone_on
 
 pub returns-in_default-clause-frame : goal.returns-in_default-clause-frame
 returns-in_default-clause-frame c = record {
@@ -67,9 +52,9 @@ returns-in_default-clause-frame c = record {
     ap (λ (m : MyTree). m.0.sizes) c.enter.ensures.entered ∙ c.fetch-place.ensures.still.0,
     ap (λ (m : MyTree). m.0.pin) c.enter.ensures.entered ∙ c.fetch-place.ensures.still.1,
   );
-  none = held_upper c.args.space.now.table.shared.key.rows c.fetch-place.new.pass.kept c.enter.new.pass.kept
+  none = held_upper c.args.tree.now.space.table.shared.key.rows c.fetch-place.new.pass.kept c.enter.new.pass.kept
       c.fetch-place.new.pass.seat.me c.enter.new.pass.seat.me _ []
-      (held_looked c.args.space.now.table.shared.key.rows c.args.pass.now.kept c.fetch-place.new.pass.kept c.args.pass.now.seat.me
+      (held_looked c.args.tree.now.space.table.shared.key.rows c.args.pass.now.kept c.fetch-place.new.pass.kept c.args.pass.now.seat.me
       c.fetch-place.new.pass.seat.me [] c.requires.ready.none
       c.fetch-place.ensures.kept c.fetch-place.ensures.still.2 c.fetch-place.ensures.quiet.most) c.enter.ensures.entered c.enter.ensures.frame.kept;
 }
@@ -107,84 +92,72 @@ returns-in-Err-clause-tried c = (
   c.in-Err.ensures.tried.1,
 )
 
-pub returns-in-Ok-remove_there-clause-counted : goal.returns-in-Ok-remove_there-clause-counted
-returns-in-Ok-remove_there-clause-counted c = paid_behind c.args.spent.now c.remove_there.new.spent c.args.pass.now.seat.me c.fetch-place.new.pass.seat.me
-    c.remove_there.new.pass.seat.me c.fetch-place.ensures.quiet c.remove_there.ensures.counted
-
-pub returns-in_default-clause-cut : goal.returns-in_default-clause-cut
-returns-in_default-clause-cut c = entered_cut c.args.pass.now.seat.me c.fetch-place.new.pass.seat.me c.enter.new.pass.seat.me _
-    c.fetch-place.ensures.quiet c.enter.ensures.entered
-
-pub returns-in-Ok-remove_there-clause-cut : goal.returns-in-Ok-remove_there-clause-cut
-returns-in-Ok-remove_there-clause-cut c = looked_cut (λ (_ : Unit {0}). true) c.args.space.now.table.shared.key None (Ok tt) c.args.pass.now.seat.me
-    c.fetch-place.new.pass.seat.me c.remove_there.new.pass.seat.me.0.upper c.fetch-place.ensures.quiet c.in-Ok-remove_there.ensures.cut
-
-pub returns-in-Err-clause-cut : goal.returns-in-Err-clause-cut
-returns-in-Err-clause-cut c = stop_cut (Unit {0}) Bool (λ _. true) (λ (was : Bool). was) c.args.space.now.table.shared.key None c.in-Err.stop
-    c.args.pass.now.seat.me c.fetch-place.new.pass.seat.me c.remove_there.new.pass.seat.me.0.upper c.fetch-place.ensures.quiet
-    c.in-Err.ensures.cut
-
-pub returns-in_default-clause-counted : goal.returns-in_default-clause-counted
-returns-in_default-clause-counted c = none_paid c.args.spent.now c.args.pass.now.seat.me c.enter.new.pass.seat.me
-    (ap losses c.enter.ensures.entered ∙ c.fetch-place.ensures.quiet.lost) (ap splits c.enter.ensures.entered ∙ c.fetch-place.ensures.quiet.splits_are)
-
-pub returns-in_default-clause-found : goal.returns-in_default-clause-found
-returns-in_default-clause-found c = done_stopped _ c.args.pass.now.seat.me c.enter.new.pass.seat.me
-
-pub returns-in_default-clause-met_as : goal.returns-in_default-clause-met_as
-returns-in_default-clause-met_as c = tt
-
-pub returns-in_default-clause-grown : goal.returns-in_default-clause-grown
-returns-in_default-clause-grown c alone = entered_grown c.args.pass.now.seat.me c.fetch-place.new.pass.seat.me c.enter.new.pass.seat.me _
-    c.fetch-place.ensures.quiet c.enter.ensures.entered
-
-pub returns-in_default-clause-won : goal.returns-in_default-clause-won
-returns-in_default-clause-won c alone = ap (λ (m : MyTree). m.0.upper.lost) c.enter.ensures.entered ∙ c.fetch-place.ensures.quiet.idle.1
-
-pub returns-in-Ok-remove_there-clause-found : goal.returns-in-Ok-remove_there-clause-found
-returns-in-Ok-remove_there-clause-found c = done_stopped _ c.args.pass.now.seat.me c.remove_there.new.pass.seat.me
-
-pub returns-in-Ok-remove_there-clause-grown : goal.returns-in-Ok-remove_there-clause-grown
-returns-in-Ok-remove_there-clause-grown c = looked_grown {T = Unit {0}} c.args.space.now.table.shared.key None (Ok tt) c.args.pass.now.seat.me
-    c.fetch-place.new.pass.seat.me c.remove_there.new.pass.seat.me.0.upper c.requires.known c.fetch-place.ensures.looking.known c.fetch-place.ensures.further
-    c.fetch-place.ensures.quiet c.in-Ok-remove_there.ensures.grown
-
-pub returns-in-Ok-remove_there-clause-won : goal.returns-in-Ok-remove_there-clause-won
-returns-in-Ok-remove_there-clause-won c alone = won_on true c.args.pass.now.seat.me.0.upper c.fetch-place.new.pass.seat.me.0.upper
-    c.remove_there.new.pass.seat.me.0.upper
-    c.fetch-place.ensures.quiet.idle.1 (c.in-Ok-remove_there.ensures.won (alone_on c.args.space.now.table.shared.key c.args.pass.now.seat.me.0.upper
-    c.fetch-place.new.pass.seat.me.0.upper
-    c.fetch-place.ensures.further.number alone))
-
-pub returns-in-Err-clause-counted : goal.returns-in-Err-clause-counted
-returns-in-Err-clause-counted c = paid_behind c.args.spent.now c.remove_there.new.spent c.args.pass.now.seat.me c.fetch-place.new.pass.seat.me
-    c.remove_there.new.pass.seat.me c.fetch-place.ensures.quiet c.remove_there.ensures.counted
-
-pub returns-in-Err-clause-found : goal.returns-in-Err-clause-found
-returns-in-Err-clause-found c = stop_stopped (Unit {0}) Bool c.in-Err.stop c.args.pass.now.seat.me c.fetch-place.new.pass.seat.me
-    c.remove_there.new.pass.seat.me c.fetch-place.ensures.quiet c.in-Err.ensures.found
-
-pub returns-in-Err-clause-met_as : goal.returns-in-Err-clause-met_as
-returns-in-Err-clause-met_as c = tt
-
-pub returns-in-Err-clause-grown : goal.returns-in-Err-clause-grown
-returns-in-Err-clause-grown c = stop_grown (Unit {0}) Bool c.args.space.now.table.shared.key None c.in-Err.stop c.args.pass.now.seat.me
-    c.fetch-place.new.pass.seat.me c.remove_there.new.pass.seat.me.0.upper c.requires.known c.fetch-place.ensures.looking.known c.fetch-place.ensures.further
-    c.fetch-place.ensures.quiet c.in-Err.ensures.grown
-
-pub returns-in-Err-clause-won : goal.returns-in-Err-clause-won
-returns-in-Err-clause-won c alone = won_on false c.args.pass.now.seat.me.0.upper c.fetch-place.new.pass.seat.me.0.upper
-    c.remove_there.new.pass.seat.me.0.upper
-    c.fetch-place.ensures.quiet.idle.1 (c.in-Err.ensures.won (alone_on c.args.space.now.table.shared.key c.args.pass.now.seat.me.0.upper
-    c.fetch-place.new.pass.seat.me.0.upper
-    c.fetch-place.ensures.further.number alone))
-
 pub remove_there-requires-clause-ready : goal.remove_there-requires-clause-ready
 remove_there-requires-clause-ready c = record {
   own = (c.fetch-place.ensures.same.0 ∙ c.requires.ready.own.0, c.fetch-place.ensures.still.0 ∙ c.requires.ready.own.1);
   pinned = ap (λ (p : Pin). p.pinned) c.fetch-place.ensures.still.1 ∙ c.requires.ready.pinned;
   number = subst (λ n. 0 < n) (sym c.fetch-place.ensures.further.number) c.requires.ready.number;
-  none = held_looked c.args.space.now.table.shared.key.rows c.args.pass.now.kept c.fetch-place.new.pass.kept
+  none = held_looked c.args.tree.now.space.table.shared.key.rows c.args.pass.now.kept c.fetch-place.new.pass.kept
       c.args.pass.now.seat.me c.fetch-place.new.pass.seat.me []
       c.requires.ready.none c.fetch-place.ensures.kept c.fetch-place.ensures.still.2 c.fetch-place.ensures.quiet.most;
+}
+
+pub returns-in_default-clause-turn : goal.returns-in_default-clause-turn
+returns-in_default-clause-turn c = record {
+  met_as = tt;
+  gone_on = entered_waits c.args.course.now.adapting c.args.pass.now.seat.me.0.upper c.fetch-place.new.pass.seat.me.0.upper
+      c.fetch-place.new.pass.seat.me c.enter.new.pass.seat.me _ refl c.fetch-place.ensures.quiet.idle c.enter.ensures.entered;
+  counted = none_paid c.args.course.now.spent c.args.pass.now.seat.me c.enter.new.pass.seat.me
+      (ap losses c.enter.ensures.entered ∙ c.fetch-place.ensures.quiet.lost) (ap splits c.enter.ensures.entered ∙ c.fetch-place.ensures.quiet.splits_are);
+  found = done_stopped _ c.args.pass.now.seat.me c.enter.new.pass.seat.me;
+  grown = λ alone. entered_grown c.args.pass.now.seat.me c.fetch-place.new.pass.seat.me c.enter.new.pass.seat.me _
+      c.fetch-place.ensures.quiet c.enter.ensures.entered;
+  won = λ alone. ap (λ (m : MyTree). m.0.upper.lost) c.enter.ensures.entered ∙ c.fetch-place.ensures.quiet.idle.1;
+  cut = entered_cut c.args.pass.now.seat.me c.fetch-place.new.pass.seat.me c.enter.new.pass.seat.me _
+      c.fetch-place.ensures.quiet c.enter.ensures.entered;
+}
+
+pub returns-in-Ok-remove_there-clause-turn : goal.returns-in-Ok-remove_there-clause-turn
+returns-in-Ok-remove_there-clause-turn c = record {
+  met_as = c.in-Ok-remove_there.ensures.turn.met_as;
+  gone_on = adapts_after c.args.tree.now.space.table.shared.key c.args.tree.now.tuning c.args.course.now.adapting
+      c.remove_there.new.course.adapting.last c.args.pass.now.seat.me.0.upper c.fetch-place.new.pass.seat.me.0.upper c.remove_there.new.pass.seat.me.0.upper
+      c.fetch-place.ensures.quiet.idle c.in-Ok-remove_there.ensures.turn.gone_on;
+  counted = paid_behind c.args.course.now.spent c.remove_there.new.course.spent c.args.pass.now.seat.me c.fetch-place.new.pass.seat.me
+      c.remove_there.new.pass.seat.me c.fetch-place.ensures.quiet c.remove_there.ensures.turn.counted;
+  found = done_stopped _ c.args.pass.now.seat.me c.remove_there.new.pass.seat.me;
+  grown = looked_grown {T = Unit {0}} c.args.tree.now.space.table.shared.key None (Ok tt) c.args.pass.now.seat.me
+      c.fetch-place.new.pass.seat.me c.remove_there.new.pass.seat.me.0.upper c.requires.known c.fetch-place.ensures.looking.known c.fetch-place.ensures.further
+      c.fetch-place.ensures.quiet c.in-Ok-remove_there.ensures.turn.grown;
+  won = λ alone. won_on true c.args.pass.now.seat.me.0.upper c.fetch-place.new.pass.seat.me.0.upper
+      c.remove_there.new.pass.seat.me.0.upper
+      c.fetch-place.ensures.quiet.idle.1 (c.in-Ok-remove_there.ensures.turn.won (alone_on c.args.tree.now.space.table.shared.key c.args.pass.now.seat.me.0.upper
+      c.fetch-place.new.pass.seat.me.0.upper
+      c.fetch-place.ensures.further.number alone));
+  cut = looked_cut (λ (_ : Unit {0}). true) c.args.tree.now.space.table.shared.key None (Ok tt) c.args.pass.now.seat.me
+      c.fetch-place.new.pass.seat.me c.remove_there.new.pass.seat.me.0.upper c.fetch-place.ensures.quiet c.in-Ok-remove_there.ensures.turn.cut;
+}
+
+pub returns-in-Err-clause-turn : goal.returns-in-Err-clause-turn
+returns-in-Err-clause-turn c = record {
+  met_as = tt;
+  gone_on = waits_on c.args.course.now.adapting c.args.course.now.adapting c.remove_there.new.course.adapting c.args.pass.now.seat.me.0.upper
+      c.fetch-place.new.pass.seat.me.0.upper c.remove_there.new.pass.seat.me.0.upper
+      (idle_waits c.args.course.now.adapting c.args.pass.now.seat.me.0.upper c.fetch-place.new.pass.seat.me.0.upper c.fetch-place.ensures.quiet.idle)
+      c.in-Err.ensures.turn.gone_on;
+  counted = paid_behind c.args.course.now.spent c.remove_there.new.course.spent c.args.pass.now.seat.me c.fetch-place.new.pass.seat.me
+      c.remove_there.new.pass.seat.me c.fetch-place.ensures.quiet c.remove_there.ensures.turn.counted;
+  found = stop_stopped (Unit {0}) Bool c.in-Err.stop c.args.pass.now.seat.me c.fetch-place.new.pass.seat.me
+      c.remove_there.new.pass.seat.me c.fetch-place.ensures.quiet c.in-Err.ensures.turn.found;
+  grown = stop_grown (Unit {0}) Bool c.args.tree.now.space.table.shared.key None c.in-Err.stop c.args.pass.now.seat.me
+      c.fetch-place.new.pass.seat.me c.remove_there.new.pass.seat.me.0.upper c.requires.known c.fetch-place.ensures.looking.known c.fetch-place.ensures.further
+      c.fetch-place.ensures.quiet c.in-Err.ensures.turn.grown;
+  won = λ alone. won_on false c.args.pass.now.seat.me.0.upper c.fetch-place.new.pass.seat.me.0.upper
+      c.remove_there.new.pass.seat.me.0.upper
+      c.fetch-place.ensures.quiet.idle.1 (c.in-Err.ensures.turn.won (alone_on c.args.tree.now.space.table.shared.key c.args.pass.now.seat.me.0.upper
+      c.fetch-place.new.pass.seat.me.0.upper
+      c.fetch-place.ensures.further.number alone));
+  cut = stop_cut (Unit {0}) Bool (λ _. true) (λ (was : Bool). was) c.args.tree.now.space.table.shared.key None c.in-Err.stop
+      c.args.pass.now.seat.me c.fetch-place.new.pass.seat.me c.remove_there.new.pass.seat.me.0.upper c.fetch-place.ensures.quiet
+      c.in-Err.ensures.turn.cut;
 }
