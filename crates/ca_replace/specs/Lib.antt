@@ -3,6 +3,7 @@ pub mod Attempting
 pub mod Causes
 pub mod Cutting
 pub mod Growing
+pub mod Looking
 pub mod Made
 pub mod Reads
 pub mod Refusals

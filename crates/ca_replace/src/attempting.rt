@@ -11,17 +11,16 @@ ghost use Rattle.ca_replace.specs.Causes.{IsFull};
 ghost use Rattle.ca_replace.specs.Growing.{HasGrown};
 ghost use Rattle.ca_replace.specs.Winning.{HasWonAs};
 ghost use Rattle.ca_replace.specs.Cutting.{HasCut, IsFullFor};
-ghost use Rattle.ca_replace.specs.Attempting.{IsLooking, HasFetched, HasTriedTo, come_to, split_to, HasStopped, IsPaid, IsQuiet};
-ghost use Rattle.ca_node.specs.Tallied.{IsTallied};
+ghost use Rattle.ca_replace.specs.Attempting.{IsLooking, HasFetched, HasTriedTo, come_to, split_to, HasStopped, IsPaid};
 ghost use Rattle.ca_node.specs.Told.{IsAlone, IsKnown};
 ghost use Rattle.ca_base.specs.Progress.{IsFurther};
 ghost use Rattle.ca_base.specs.Putting.{object_at, IsRoom, IsFor};
 ghost use Rattle.ca_base.specs.Targets.{IsKeyed, event_of, key_in};
 ghost use Rattle.ca_rows.specs.declared.sizes.Sizes.{Sizes};
-ghost use Rattle.ca_rows.specs.Calls.{IsSame};
 ghost use Rattle.ca_rows.specs.Told.{met_of};
+ghost use Rattle.ca_replace.specs.Looking.{HasLooked};
 ghost use Rattle.ca_replace.specs.Turning.{IsTurn};
-ghost use Rattle.ca_rows.specs.Passes.{IsReading, sizes, known, view};
+ghost use Rattle.ca_rows.specs.Passes.{IsReading, sizes, known};
 ghost use Rattle.ca_node.specs.TreePasses.{tree_of};
 ghost use Rattle.ca_base.specs.Readiness.{IsReady, StaysReady, shown_last};
 
@@ -94,16 +93,7 @@ pub(crate) trait Attempt {
 pub(crate) fn find(space: &TreeSpace, pass: &mut TreePass, key: &[u8]) -> (Cursor, Result<u32, u32>)
     requires reading { IsReading space.now pass.old }
     requires leaf { (sizes space.now).leaf ≤ 120 }
-    ensures same { IsSame pass.old.seat pass.new.seat }
-    ensures number { pass.new.number ≡ pass.old.number }
-    ensures tally { IsTallied pass.old.tally (tree_of pass.old) → IsTallied pass.new.tally (tree_of pass.new) }
-    ensures kept { pass.new.kept ≡ pass.old.kept }
-    ensures still { ((view pass.new).sizes ≡ (view pass.old).sizes) × ((view pass.new).pin ≡ (view pass.old).pin)
-        × ((view pass.new).claims ≡ (view pass.old).claims) }
-    ensures quiet { IsQuiet (known pass.old) (known pass.new) }
-    ensures looking { IsLooking (sizes space.now) (tree_of pass.new) key.now result.0 }
-    ensures place { IsPlace (map pair (shown_last pass.new).objects) key.now result.1 }
-    ensures further { IsFurther (tree_of pass.old) (tree_of pass.new) }
+    ensures looked { HasLooked space.now key.now result.0 result.1 pass.old pass.new }
 {
     let cursor = walk(space, pass, Spot::At(key));
     let place = search(space, pass, cursor.base, key);
@@ -119,16 +109,7 @@ pub(crate) fn fetch(
 ) -> (Cursor, Result<u32, u32>)
     requires reading { IsReading space.now pass.old }
     requires leaf { (sizes space.now).leaf ≤ 120 }
-    ensures same { IsSame pass.old.seat pass.new.seat }
-    ensures number { pass.new.number ≡ pass.old.number }
-    ensures tally { IsTallied pass.old.tally (tree_of pass.old) → IsTallied pass.new.tally (tree_of pass.new) }
-    ensures kept { pass.new.kept ≡ pass.old.kept }
-    ensures still { ((view pass.new).sizes ≡ (view pass.old).sizes) × ((view pass.new).pin ≡ (view pass.old).pin)
-        × ((view pass.new).claims ≡ (view pass.old).claims) }
-    ensures quiet { IsQuiet (known pass.old) (known pass.new) }
-    ensures looking { IsLooking (sizes space.now) (tree_of pass.new) key.now result.0 }
-    ensures place { IsPlace (map pair (shown_last pass.new).objects) key.now result.1 }
-    ensures further { IsFurther (tree_of pass.old) (tree_of pass.new) }
+    ensures looked { HasLooked space.now key.now result.0 result.1 pass.old pass.new }
     ensures fetched { HasFetched (sizes space.now) (tree_of pass.new) key.now result.1 old.new.items }
 {
     let (cursor, place) = find(space, pass, key);

@@ -1,4 +1,4 @@
-use Rattle.std.proofs.Common.{ℕ, map, Ok, sym, subst, ap}
+use Rattle.std.proofs.Common.{ℕ, map, Ok, sym, subst, ap, rules}
 use Rattle.std.specs.Prelude.{Result}
 use Rattle.ca_model.proofs.Places.{IsPlace}
 use Rattle.ca_node.specs.Row.{pair}
@@ -6,28 +6,44 @@ use Rattle.ca_node.specs.Told.{MyTree}
 use Rattle.ca_base.specs.Putting.{first_note}
 use Rattle.ca_base.proofs.Searching.{place_inside}
 use Rattle.ca_replace.specs.Attempting.{HasFetched}
+use Rattle.ca_replace.specs.Looking.{HasLooked}
 use Rattle.ca_replace.proofs.Showing.{fetched, none_found}
 use Rattle.ca_base.proofs.Tallies.{tallied_as}
 use Rattle.ca_replace.proofs.attempting.fetch.Goals as goal
 
 pub copy_at-requires-clause-readable : goal.copy_at-requires-clause-readable
 copy_at-requires-clause-readable c = let note = first_note c.find-place.new.pass.seat.me.0.upper.notes in
-    let at = subst (λ (p : Result ℕ ℕ). IsPlace (map pair note.objects) c.args.key.now p) c.in-Ok.is c.find-place.ensures.place in
-    (note, c.find-place.ensures.looking.readable, place_inside note c.args.key.now c.in-Ok.at at)
+    let at = subst (λ (p : Result ℕ ℕ). IsPlace (map pair note.objects) c.args.key.now p) c.in-Ok.is c.find-place.ensures.looked.place in
+    (note, c.find-place.ensures.looked.looking.readable, place_inside note c.args.key.now c.in-Ok.at at)
 
 pub returns-in-Ok-clause-fetched : goal.returns-in-Ok-clause-fetched
 returns-in-Ok-clause-fetched c = let z = c.args.space.now.table.shared.key in let w = c.find-place.new.pass.seat.me.0.upper in let note = first_note w.notes in
     let old = c.copy_at.new.into.items in
-    let at = subst (λ (p : Result ℕ ℕ). IsPlace (map pair note.objects) c.args.key.now p) c.in-Ok.is c.find-place.ensures.place in
+    let at = subst (λ (p : Result ℕ ℕ). IsPlace (map pair note.objects) c.args.key.now p) c.in-Ok.is c.find-place.ensures.looked.place in
     subst (λ (m : MyTree). HasFetched z m.0.upper c.args.key.now (Ok c.in-Ok.at) old) (sym c.copy_at.ensures.frame.still)
-    (fetched z w c.find-place.result.0 c.in-Ok.at c.args.key.now old c.find-place.ensures.looking at
-    (c.copy_at.ensures.object note c.find-place.ensures.looking.readable (place_inside note c.args.key.now c.in-Ok.at at)))
+    (fetched z w c.find-place.result.0 c.in-Ok.at c.args.key.now old c.find-place.ensures.looked.looking at
+    (c.copy_at.ensures.object note c.find-place.ensures.looked.looking.readable (place_inside note c.args.key.now c.in-Ok.at at)))
 
 pub returns-in-Err-clause-fetched : goal.returns-in-Err-clause-fetched
 returns-in-Err-clause-fetched c = let z = c.args.space.now.table.shared.key in let w = c.find-place.new.pass.seat.me.0.upper in let note = first_note w.notes in
-    let at = subst (λ (p : Result ℕ ℕ). IsPlace (map pair note.objects) c.args.key.now p) c.in-Err.is c.find-place.ensures.place in
-    (none_found z w c.find-place.result.0 c.args.key.now _ c.find-place.ensures.looking at, c.clear.ensures)
+    let at = subst (λ (p : Result ℕ ℕ). IsPlace (map pair note.objects) c.args.key.now p) c.in-Err.is c.find-place.ensures.looked.place in
+    (none_found z w c.find-place.result.0 c.args.key.now _ c.find-place.ensures.looked.looking at, c.clear.ensures)
 
-pub returns-in-Ok-clause-tally : goal.returns-in-Ok-clause-tally
-returns-in-Ok-clause-tally c h = tallied_as c.find-place.new.pass.tally c.copy_at.new.pass.tally c.find-place.new.pass.seat.me.0.upper
-    c.copy_at.new.pass.seat.me.0.upper c.copy_at.ensures.frame.tally (ap (λ (m : MyTree). m.0.upper) c.copy_at.ensures.frame.still) (c.find-place.ensures.tally h)
+pub returns-in-Ok-clause-looked : goal.returns-in-Ok-clause-looked
+returns-in-Ok-clause-looked c = record {
+  same = search rules;
+  number = search rules;
+  tally = λ h. tallied_as c.find-place.new.pass.tally c.copy_at.new.pass.tally c.find-place.new.pass.seat.me.0.upper
+      c.copy_at.new.pass.seat.me.0.upper c.copy_at.ensures.frame.tally (ap (λ (m : MyTree). m.0.upper) c.copy_at.ensures.frame.still) (c.find-place.ensures.looked.tally h);
+  kept = search rules;
+  still = search rules;
+  quiet = search rules;
+  looking = search rules;
+  place = search rules;
+  further = search rules;
+}
+
+pub returns-in-Err-clause-looked : goal.returns-in-Err-clause-looked
+returns-in-Err-clause-looked c =
+    subst (λ (p : Result ℕ ℕ). HasLooked c.args.space.now c.args.key.now c.find-place.result.0 p c.args.pass.now c.find-place.new.pass) c.in-Err.is
+    c.find-place.ensures.looked

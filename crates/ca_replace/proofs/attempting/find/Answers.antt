@@ -1,4 +1,4 @@
-use Rattle.std.proofs.Common.{sym, subst, ap}
+use Rattle.std.proofs.Common.{sym, subst, ap, rules}
 use Rattle.ca_node.specs.Told.{MyTree}
 use Rattle.ca_replace.specs.Attempting.{IsLooking}
 use Rattle.ca_base.specs.Progress.{IsFurther}
@@ -15,25 +15,28 @@ search-place-requires-clause-readable c = (
       c.walk-cursor.ensures.walked c.requires.leaf).readable,
 )
 
-pub returns-clause-looking : goal.returns-clause-looking
-returns-clause-looking c = let z = c.args.space.now.table.shared.key in
-    subst (λ (m : MyTree). IsLooking z m.0.upper c.args.key.now c.walk-cursor.result) (sym c.search-place.ensures.frame.still)
-    (looking z c.args.key c.args.pass.now.seat.me c.walk-cursor.new.pass.seat.me c.walk-cursor.result c.walk-cursor.ensures.walked c.requires.leaf)
-
-pub returns-clause-place : goal.returns-clause-place
-returns-clause-place c = let z = c.args.space.now.table.shared.key in
-    place_still z c.walk-cursor.new.pass.seat.me c.search-place.new.pass.seat.me c.walk-cursor.result c.args.key.now c.search-place.result
-    c.search-place.ensures.frame.still
-    (looking z c.args.key c.args.pass.now.seat.me c.walk-cursor.new.pass.seat.me c.walk-cursor.result c.walk-cursor.ensures.walked c.requires.leaf)
-    c.search-place.ensures.place
-
-pub returns-clause-further : goal.returns-clause-further
-returns-clause-further c = subst (λ (m : MyTree). IsFurther c.args.pass.now.seat.me.0.upper m.0.upper) (sym c.search-place.ensures.frame.still)
-    (walked_further c.args.space.now.table.shared.key _ c.args.pass.now.seat.me c.walk-cursor.new.pass.seat.me c.walk-cursor.result
-    c.walk-cursor.ensures.walked)
-
-pub returns-clause-tally : goal.returns-clause-tally
-returns-clause-tally c h = tallied_as c.walk-cursor.new.pass.tally c.search-place.new.pass.tally c.walk-cursor.new.pass.seat.me.0.upper
-    c.search-place.new.pass.seat.me.0.upper c.search-place.ensures.frame.tally (ap (λ (m : MyTree). m.0.upper) c.search-place.ensures.frame.still)
-    (tallied_walk c.args.space.now.table.shared.key _ c.args.pass.now.seat.me c.walk-cursor.new.pass.seat.me c.walk-cursor.result c.args.pass.now.tally
-    c.walk-cursor.new.pass.tally c.walk-cursor.ensures.walked c.walk-cursor.ensures.frame.tally h)
+pub returns : goal.returns
+returns c = record {
+  looked = record {
+    same = search rules;
+    number = search rules;
+    tally = λ h. tallied_as c.walk-cursor.new.pass.tally c.search-place.new.pass.tally c.walk-cursor.new.pass.seat.me.0.upper
+        c.search-place.new.pass.seat.me.0.upper c.search-place.ensures.frame.tally (ap (λ (m : MyTree). m.0.upper) c.search-place.ensures.frame.still)
+        (tallied_walk c.args.space.now.table.shared.key _ c.args.pass.now.seat.me c.walk-cursor.new.pass.seat.me c.walk-cursor.result c.args.pass.now.tally
+        c.walk-cursor.new.pass.tally c.walk-cursor.ensures.walked c.walk-cursor.ensures.frame.tally h);
+    kept = search rules;
+    still = search rules;
+    quiet = search rules;
+    looking = let z = c.args.space.now.table.shared.key in
+        subst (λ (m : MyTree). IsLooking z m.0.upper c.args.key.now c.walk-cursor.result) (sym c.search-place.ensures.frame.still)
+        (looking z c.args.key c.args.pass.now.seat.me c.walk-cursor.new.pass.seat.me c.walk-cursor.result c.walk-cursor.ensures.walked c.requires.leaf);
+    place = let z = c.args.space.now.table.shared.key in
+        place_still z c.walk-cursor.new.pass.seat.me c.search-place.new.pass.seat.me c.walk-cursor.result c.args.key.now c.search-place.result
+        c.search-place.ensures.frame.still
+        (looking z c.args.key c.args.pass.now.seat.me c.walk-cursor.new.pass.seat.me c.walk-cursor.result c.walk-cursor.ensures.walked c.requires.leaf)
+        c.search-place.ensures.place;
+    further = subst (λ (m : MyTree). IsFurther c.args.pass.now.seat.me.0.upper m.0.upper) (sym c.search-place.ensures.frame.still)
+        (walked_further c.args.space.now.table.shared.key _ c.args.pass.now.seat.me c.walk-cursor.new.pass.seat.me c.walk-cursor.result
+        c.walk-cursor.ensures.walked);
+  };
+}
