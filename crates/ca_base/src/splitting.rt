@@ -111,6 +111,7 @@ fn divide_in<K: Plan>(
 ) -> bool
     requires own { IsOn space.now pass.old }
     requires division { IsDivision (sizes space.now) (known pass.old) K.division × IsHalving _many _attempt K.division }
+    requires last { shown_last pass.old ≡ K.division.old }
     requires rows { (K.division.old.row ≡ base) × (K.division.route ≡ route) × (K.division.left ≡ left) × (K.division.right ≡ right) }
     requires link { K.division.old.place.link ≡ link_word link }
     requires inside { link_word link < 136 * (sizes space.now).rows + 136 }

@@ -38,7 +38,7 @@ use Rattle.ca_node.proofs.Holding.{held_row, unclaimed_row}
 use Rattle.ca_node.proofs.Listing.{Relists, listed_again, known_by_one}
 use Rattle.ca_node.proofs.Logs.{after_more, others_lawful, own_lawful, past_more, ended_more}
 use Rattle.ca_node.proofs.Looking.{R, loses, hangs_still, of_map, knows_upper, in_turn, fewer_passes, further, longer_past, starts_shorter, in_more}
-use Rattle.ca_node.proofs.Members.{in_rest, has, given_here, given_else, taken_here, taken_else, other_has, map_is_list}
+use Rattle.ca_node.proofs.Members.{in_notes, in_rest, has, given_here, given_else, taken_here, taken_else, other_has, map_is_list}
 use Rattle.ca_node.proofs.Named.{named_once}
 use Rattle.ca_node.proofs.Parts.{part_edited, part_left, answer_whole, about_edit}
 use Rattle.ca_node.proofs.Rebased.{IsNewBase, relinked_wide, relinked_else, relinked_row, relinked_object, base_no_route, out_no_route, relinked_keeps, with_base, with_base_new, with_base_old, with_base_else, shape_rebased}
@@ -46,7 +46,7 @@ use Rattle.ca_node.proofs.Remembering.{remembered_leads, unlinked_out, note_stay
 
 -- The old base of an update is among the seat's notes.
 pub was_shown : (z : Sizes) (m : MyTree) (new : ℕ) (x : Update) → IsUpdate z m new x → IsIn x.old m.0.upper.notes
-was_shown z m new x u = (0, ap (λ (notes : List Note). get_elem? notes 0) u.shown.1)
+was_shown z m new x u = in_notes x.old m.0.upper.notes u.shown
 
 edits_more : (keypos : ℕ) (h : History) (n : ℕ) (e : Edit) → AreEdits keypos h → IsEdit keypos e → AreEdits keypos (h ++ (n, e) ∷ [])
 edits_more keypos [] n e a is = (is, tt)

@@ -63,7 +63,7 @@ pub record TreeView : Type 0 where
   pub joins : ℕ
   -- how many exchanges of a link it lost
   pub lost : ℕ
-  -- the base that it was shown last, whether it is pinned or not, and its last update
+  -- the base that a walk or an update came to last, whether it is pinned or not, and its last update
   pub last : Note
   pub renewal : Renewal
   -- what the tree has, as far as the seat's own steps go: the whole of it, where its pass is the only one

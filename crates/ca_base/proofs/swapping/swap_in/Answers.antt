@@ -48,7 +48,7 @@ returns-clause-counted g c = none_spent c.args.spent.now c.args.pass.now.seat.me
 
 pub returns-clause-renewed : goal.returns-clause-renewed
 returns-clause-renewed g c = renewed c.args.space.now.table.shared.key c.args.pass.now.kept.rows c.args.pass.now.seat.me c.args.new g.K.Intent.update
-    c.requires.update c.requires.old_base
+    c.requires.update c.requires.old_base c.requires.last
     (subst (λ (xs : List ℕ). HasHeld c.args.space.now.table.shared.key.rows c.args.pass.now.kept.rows c.args.pass.now.seat.me.0.claims (c.args.new ∷ xs))
     (sym c.requires.rows.0) c.requires.held.0)
     c.replace_base.new.pass.seat.me c.retire_all.new.pass.seat.me.0.upper
@@ -57,7 +57,7 @@ returns-clause-renewed g c = renewed c.args.space.now.table.shared.key c.args.pa
 
 pub returns-clause-placed : goal.returns-clause-placed
 returns-clause-placed g c = λ _. placed c.args.space.now.table.shared.key c.args.pass.now.kept.rows c.args.pass.now.seat.me c.args.new g.K.Intent.update
-    c.requires.update c.requires.old_base
+    c.requires.update c.requires.old_base c.requires.last
     (subst (λ (xs : List ℕ). HasHeld c.args.space.now.table.shared.key.rows c.args.pass.now.kept.rows c.args.pass.now.seat.me.0.claims (c.args.new ∷ xs))
     (sym c.requires.rows.0) c.requires.held.0)
     c.replace_base.new.pass.seat.me c.retire_all.new.pass.seat.me.0.upper c.if-not-replace_base.ensures.done
