@@ -6,7 +6,7 @@ use Rattle.ca_model.specs.StoreMap.{IsStoreMap}
 use Rattle.ca_node.specs.Laws.{in_nothing}
 use Rattle.ca_node.specs.Links.{IsIn}
 use Rattle.ca_node.specs.Row.{count, items, key, pair}
-use Rattle.ca_node.specs.Told.{MyTree, IsDivision, IsDivided, given}
+use Rattle.ca_node.specs.Told.{MyTree, IsLastThere, IsDivision, IsDivided, given}
 use Rattle.ca_node.specs.TreeView.{Note, TreeView, Division}
 use Rattle.ca_node.specs.declared.cursor.Cursor.{Cursor}
 use Rattle.ca_node.proofs.HeldRows.{AreApart, given_fewer, taken_out_more}
@@ -17,7 +17,7 @@ use Rattle.ca_base.specs.Splitting.{SpellsRoute, IsHalving, division_by, divisio
 use Rattle.ca_base.specs.Taking.{HasHeld, AreHeld, AreUnlinked}
 use Rattle.ca_base.specs.Writing.{IsRewritten, SpellsBase}
 use Rattle.ca_base.proofs.Halves.{half_long}
-use Rattle.ca_base.proofs.Rebasing.{is_first, note_is}
+use Rattle.ca_base.proofs.Rebasing.{last_there, note_is}
 use Rattle.ca_base.proofs.Unlinking.{few_at_once, unlinked_then}
 use Rattle.ca_rows.specs.declared.kept.KeptRows.{KeptRows}
 use Rattle.ca_rows.specs.declared.sizes.Sizes.{Sizes}
@@ -121,7 +121,7 @@ module _ (z : Sizes) (m0 m1 m2 m3 m4 : MyTree) (route left right many attempt : 
   divides = record {
     is_pinned = ap (λ (e : Pin). e.pinned) w.pin ∙ w.is_pinned;
     is_pass = subst (λ (u : TreeView). 0 < u.number) (sym w.upper) w.is_pass;
-    shown = subst (λ (u : TreeView). (rest : List Note) × (u.notes ≡ note ∷ rest)) (sym w.upper) (is_first m0.0.upper.notes w.shown.noted);
+    shown = subst (λ (u : TreeView). IsLastThere note u.notes) (sym w.upper) (last_there m0.0.upper.notes w.shown.noted);
     old_base = w.shown.is_base.is_base;
     above = subst (λ (n : ℕ). n < z.levels) (sym w.at.level) w.above;
     held_route = w.wrote_route.here;

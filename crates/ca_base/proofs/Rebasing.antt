@@ -1,5 +1,5 @@
 -- A base that a pass wrote may take the place of the one that it was shown last.
-use Rattle.std.proofs.Common.{◌≡◌, ◌≢◌, ◌⊎◌, ℕ, ◌<◌, ◌≤◌, List, [], ◌∷◌, length, map, get_or, true, Some, Ok, sym, refl, ap, ◌∙◌, subst, ⊎_elim, arith}
+use Rattle.std.proofs.Common.{◌≡◌, ◌≢◌, ◌⊎◌, ℕ, ◌<◌, ◌≤◌, List, [], ◌∷◌, length, map, get_or, true, Some, Ok, sym, refl, ap, ◌∙◌, subst, inl, ⊎_elim, arith}
 use Rattle.std.proofs.lemmas.List.{get_or-map, length-map}
 use mathlib.Core.Option.{some}
 use lib.ListN.{get_elem?}
@@ -13,7 +13,7 @@ use Rattle.ca_node.specs.Inventory.{AreOnce, row_itself}
 use Rattle.ca_node.specs.Links.{IsIn}
 use Rattle.ca_node.specs.Place.{HasKey, edit_key}
 use Rattle.ca_node.specs.Row.{items, pair}
-use Rattle.ca_node.specs.Told.{MyTree, Update, IsBaseNote, IsObjectOf, IsUpdate}
+use Rattle.ca_node.specs.Told.{MyTree, Update, IsBaseNote, IsObjectOf, IsLastThere, IsUpdate}
 use Rattle.ca_node.specs.TreeView.{Note, TreeView}
 use Rattle.ca_node.proofs.Looking.{in_more}
 use Rattle.ca_base.specs.Putting.{gone, object_at, IsShownLast, first_note, words_of}
@@ -55,7 +55,7 @@ pub is_update : (z : Sizes) (m : MyTree) (new : ℕ) (x : Update) (these : List 
 is_update z m new x these statistic n few made = let h = subst (IsMade z.keypos m x) (sym n.spells.items_are) made in record {
   is_pinned = n.is_pinned;
   is_pass = n.is_pass;
-  shown = n.shown;
+  shown = subst (IsLastThere x.old) (sym n.shown.1) (inl refl);
   old_base = n.is_base.is_base;
   held = n.held;
   is_base = n.spells.is_base;
@@ -74,6 +74,11 @@ is_update z m new x these statistic n few made = let h = subst (IsMade z.keypos 
   is_edit = h.is_edit;
   about = h.about;
 }
+
+-- Where there is a note at all, the first one is the last one of its link.
+pub last_there : (notes : List Note) → IsIn (first_note notes) notes → IsLastThere (first_note notes) notes
+last_there [] i = absurd (in_nothing (first_note []) [] refl i)
+last_there (note ∷ notes) i = inl refl
 
 -- Where there is a note at all, the first one is first.
 pub is_first : (notes : List Note) → IsIn (first_note notes) notes → (rest : List Note) × (notes ≡ first_note notes ∷ rest)

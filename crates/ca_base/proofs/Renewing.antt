@@ -26,6 +26,7 @@ held_once : (c : Claim) (a b : List ℕ) → c ≡ Holds a → c ≡ Holds b →
 held_once c a b p q = let same : Holds a ≡ Holds b = sym p ∙ q in cc
 
 module _ (z : Sizes) (kept : Vec Kept Global) (m : MyTree) (new : ℕ) (x : Update) (up : IsUpdate z m new x) (old : IsBaseNote z x.old)
+    (first_is : first_note m.0.upper.notes ≡ x.old)
     (h : HasHeld z.rows kept m.0.claims (new ∷ x.comes)) where
   -- what the update's new base is noted as
   abbrev pub new_note : Note
@@ -70,9 +71,6 @@ module _ (z : Sizes) (kept : Vec Kept Global) (m : MyTree) (new : ℕ) (x : Upda
     as_many = up.as_many;
     objects_long = long_new;
   }
-
-  first_is : first_note m.0.upper.notes ≡ x.old
-  first_is = ap first_note up.shown.1
 
   pub renewed : (m' : MyTree) (v : TreeView) → length x.comes ≤ 1 → IsUpdated new x m m' → v ≡ m'.0.upper
       → IsRenewed z (met_of m) (get_or x.its 1 0) x.edit m.0.upper v

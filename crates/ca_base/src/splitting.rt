@@ -120,6 +120,7 @@ fn divide_in<K: Plan>(
 ) -> bool
     requires own { IsOn space.now pass.old }
     requires division { IsDivision (sizes space.now) (known pass.old) K.division × IsHalving _halving.many _halving.attempt K.division }
+    requires last { shown_last pass.old ≡ K.division.old }
     requires rows { (K.division.old.row ≡ cursor.base) × (K.division.route ≡ fork.route) × (K.division.left ≡ fork.left) × (K.division.right ≡ fork.right) }
     requires link { K.division.old.place.link ≡ link_word cursor.link }
     requires inside { link_word cursor.link < 136 * (sizes space.now).rows + 136 }

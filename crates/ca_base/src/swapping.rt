@@ -6,7 +6,7 @@ ghost use Rattle.ca_node.specs.Told.{IsAlone, IsBaseNote, IsUpdate};
 ghost use Rattle.ca_node.proofs.HeldRows.{AreApart};
 ghost use Rattle.ca_base.specs.Counting.{losses, IsSpent, HasCleared, HasEnded, HasMet, PutsBack};
 ghost use Rattle.ca_base.specs.Finding.{IsAtCursor};
-ghost use Rattle.ca_base.specs.Putting.{HasRenewed, IsNewRow, HasSwapped};
+ghost use Rattle.ca_base.specs.Putting.{HasRenewed, IsNewRow, HasSwapped, first_note};
 ghost use Rattle.ca_base.specs.Taking.{AreHeld, AreUnlinked};
 ghost use Rattle.ca_rows.specs.Told.{met_of};
 ghost use Rattle.ca_rows.specs.Passes.{IsOn, IsStillPass, sizes, known, view};
@@ -52,6 +52,7 @@ pub(crate) fn swap_in<K: Intent>(
     requires own { IsOn space.now pass.old }
     requires update { IsUpdate (sizes space.now) (known pass.old) rows.now.new K.update }
     requires old_base { IsBaseNote (sizes space.now) K.update.old }
+    requires last { first_note (tree_of pass.old).notes ≡ K.update.old }
     requires cursor { IsAtCursor (sizes space.now) K.update.old cursor }
     requires rows { (K.update.comes ≡ rows.now.comes.now) × (K.update.goes ≡ rows.now.goes.now) }
     requires apart { AreApart (rows.now.new ∷ rows.now.comes.now) × AreApart rows.now.goes.now }

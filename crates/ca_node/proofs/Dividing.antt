@@ -36,13 +36,13 @@ use Rattle.ca_node.proofs.Divided.{IsNewRoute, AreDivided, with_route, with_rout
 use Rattle.ca_node.proofs.Holding.{held_row, unclaimed_row}
 use Rattle.ca_node.proofs.Listing.{in_either, in_front, in_back, Relists, listed_again, known_by_one}
 use Rattle.ca_node.proofs.Looking.{R, loses, hangs_still, of_map, knows_upper, in_more}
-use Rattle.ca_node.proofs.Members.{has, given_here, given_else, taken_here, taken_else}
+use Rattle.ca_node.proofs.Members.{in_notes, has, given_here, given_else, taken_here, taken_else}
 use Rattle.ca_node.proofs.Rebased.{IsNewBase, relinked_wide, relinked_else, relinked_keeps, relinked_row, base_no_route, out_no_route}
 use Rattle.ca_node.proofs.Remembering.{remembered_leads, unlinked_out, note_stays, way_stays, notes_stay}
 
 -- The base of a split is among the seat's notes.
 pub was_shown : (z : Sizes) (m : MyTree) (x : Division) → IsDivision z m x → IsIn x.old m.0.upper.notes
-was_shown z m x u = (0, ap (λ (notes : List Note). get_elem? notes 0) u.shown.1)
+was_shown z m x u = in_notes x.old m.0.upper.notes u.shown
 
 -- A list is its first members and the others.
 take_drop : {A : Type 0} (n : ℕ) (xs : List A) → xs ≡ take n xs ++ drop n xs

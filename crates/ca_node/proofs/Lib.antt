@@ -1,5 +1,6 @@
 pub mod Divided
 pub mod Dividing
+pub mod Exchanging
 pub mod Fronts
 pub mod HeldRows
 pub mod Holding
@@ -12,6 +13,7 @@ pub mod Named
 pub mod Parts
 pub mod Rebased
 pub mod Remembering
+pub mod Rewriting
 pub mod RouteWords
 pub mod Tallies
 pub mod Updating

@@ -1,5 +1,5 @@
 -- Loads: of links, and of words of rows that were shown.
-use Rattle.std.proofs.Common.{◌≡◌, ◌≢◌, ◌⊎◌, ℕ, zero, suc, ◌+◌, ◌*◌, ◌<◌, ◌≤◌, true, List, [], ◌∷◌, ◌++◌, length, map, get_or, set, sym, refl, ap, ◌∙◌, subst, inl, inr, ⊎_elim, arith, length-append}
+use Rattle.std.proofs.Common.{◌≡◌, ◌≢◌, ◌⊎◌, ℕ, zero, suc, ◌+◌, ◌*◌, ◌<◌, ◌≤◌, Bool, true, List, [], ◌∷◌, ◌++◌, length, map, get_or, set, sym, refl, ap, ◌∙◌, subst, inl, inr, ⊎_elim, arith, length-append}
 use Rattle.std.proofs.lemmas.List.{map-set, set-get_or, append_assoc, length-map}
 use mathlib.Core.Option.{some, none, some-injective, some-ne-none}
 use lib.ListN.{get_elem?}
@@ -24,7 +24,7 @@ use Rattle.ca_node.specs.Row.{row_at, IsObjectRow, IsBaseRow, IsRouteRow, items,
 use Rattle.ca_node.specs.Shape.{Base, Route, place_of, LeadsTo, IsBaseAt, IsRouteAt}
 use Rattle.ca_node.specs.Standing.{mark_of}
 use Rattle.ca_node.specs.Stays.{word_at, row_long}
-use Rattle.ca_node.specs.Told.{MyTree, with_upper, IsBaseNote, IsRouteNote, IsKnown, IsAlone, IsMissed, IsKnownLink, IsAnyLink, IsPlaceOf, led_to_base, led_to_route, IsLedToBase, IsLedToRoute, IsLed, Leads, IsShown, IsShownRoute, IsRead, Reads, IsReadNow, entered, ReadsLast, Refuses, IsRise, one_more_lost, MayLoad}
+use Rattle.ca_node.specs.Told.{MyTree, with_upper, IsBaseNote, IsRouteNote, IsKnown, IsAlone, IsMissed, IsKnownLink, IsAnyLink, IsPlaceOf, come_to, come_at, led_to_base, led_to_route, IsLedToBase, IsLedToRoute, IsLed, Leads, IsShown, IsShownRoute, IsRead, Reads, IsReadNow, entered, ReadsLast, Refuses, IsRise, one_more_lost, MayLoad}
 use Rattle.ca_node.specs.Tree.{StartsWith, ArePast, IsLinkOfView, IsFixed, IsTrue, IsTrueWay, Knows, IsTree}
 use Rattle.ca_node.specs.TreeView.{Note, Way, Inventory, TreeView}
 use Rattle.ca_node.proofs.Logs.{state_there, read_lawful, past_more}
@@ -99,17 +99,17 @@ pub further : (a b c : History) → StartsWith a b → StartsWith b c → Starts
 further a b c x y = (y.0 ++ x.0, x.1 ∙ (ap (λ h. h ++ x.0) y.1 ∙ append_assoc c y.0 x.0))
 
 -- A note more: on a base that is linked.
-pub new_note : (words : List ℕ) (u : TreeView) (more : History) (note : Note) → IsLinked words note.row
-    → ((r : ℕ) → IsIn r (items note.its) → IsLinked words r) → (row : ℕ) → IsNoted words (led_to_base u more note) row
+pub new_note : (words : List ℕ) (u : TreeView) (more : History) (note last : Note) (shown : ℕ) → IsLinked words note.row
+    → ((r : ℕ) → IsIn r (items note.its) → IsLinked words r) → (row : ℕ) → IsNoted words (led_to_base u more note last shown) row
     → IsNoted words u row ⊎ IsLinked words row
-new_note words u more note here named _ (by_note n row i e) = ⊎_elim (λ (same : note ≡ n). inr (subst (IsLinked words)
+new_note words u more note last shown here named _ (by_note n row i e) = ⊎_elim (λ (same : note ≡ n). inr (subst (IsLinked words)
     (ap (λ (x : Note). x.row) same ∙ e) here)) (λ (o : IsIn n u.notes). inl (by_note n row o e)) (in_more note n u.notes i)
-new_note words u more note here named _ (by_item n row i b m) = ⊎_elim
+new_note words u more note last shown here named _ (by_item n row i b m) = ⊎_elim
     (λ (same : note ≡ n). inr (named row (subst (λ (x : Note). IsIn row (items x.its)) (sym same) m)))
     (λ (o : IsIn n u.notes). inl (by_item n row o b m)) (in_more note n u.notes i)
-new_note words u more note here named _ (by_way way row i e) = inl (by_way way row i e)
-new_note words u more note here named _ (by_link way row i under) = inl (by_link way row i under)
-new_note words u more note here named _ (by_link_item way base row i under f m) = inl (by_link_item way base row i under f m)
+new_note words u more note last shown here named _ (by_way way row i e) = inl (by_way way row i e)
+new_note words u more note last shown here named _ (by_link way row i under) = inl (by_link way row i under)
+new_note words u more note last shown here named _ (by_link_item way base row i under f m) = inl (by_link_item way base row i under f m)
 
 -- A route more: one that is linked, and so is what its links name.
 pub new_way : (words : List ℕ) (u : TreeView) (more : History) (way : Way) → IsLinked words way.row → IsRouteRow (row_at words way.row) → (row : ℕ)
@@ -282,7 +282,7 @@ module _ (z : Sizes) (made : ℕ) (words : List ℕ) (uppers : List TreeView) (f
 module _ (z : Sizes) where
   -- A load of a link that the seat knows.
   module _ (s : State (Unit {0}) (View TreeView)) (r : R z s) (id : ℕ) (me : MyTree) (at : get_elem? s.views id ≡ some me.0) (is_pinned : me.0.pin.pinned ≡ true)
-      (link : ℕ) (any : IsAnyLink me.0.upper link) where
+      (walks : Bool) (link : ℕ) (any : IsAnyLink me.0.upper link) where
     abbrev f : IsTree z r.made s.words (map upper_of s.views)
     f = r.above
 
@@ -336,7 +336,7 @@ module _ (z : Sizes) where
       note = base_note z r.made s.words (map upper_of s.views) f (get_or s.words link 0) place is
 
       abbrev with_base : TreeView
-      with_base = led_to_base u k.seen_first.0 note
+      with_base = led_to_base u k.seen_first.0 note (come_to walks u note) (come_at walks u)
 
       base_linked : IsLinked s.words (get_or s.words link 0)
       base_linked = placed_linked z s.words f.role (after f.history []) f.shape (get_or s.words link 0) place (ap place_of is)
@@ -345,7 +345,7 @@ module _ (z : Sizes) where
       to_base = let k' = relisted z.rows r.made s.words f.role (map upper_of s.views) (set (map upper_of s.views) id with_base) f.history id u
           (numbered (map upper_of s.views) id u with_base first (λ _. refl)) k in
           looked z s r link id me.0 with_base at (λ row m. ⊎_elim (λ o. inl o) (λ l. inr (l, is_pinned))
-          (new_note s.words u k.seen_first.0 note base_linked
+          (new_note s.words u k.seen_first.0 note (come_to walks u note) (come_at walks u) base_linked
           (λ x i. item_linked z s.words f.role (after f.history []) f.shape (get_or s.words link 0) place is x i) row m))
           (seat_changed z r.made s.words (map upper_of s.views) id u with_base f first (λ _. refl) (λ _. refl) record {
             made_before = k'.made_before;
@@ -373,7 +373,7 @@ module _ (z : Sizes) where
             only = λ row at_place key i has here. f.shape.apart row (get_or s.words link 0) at_place place key (f.listed.bases row at_place i) is has here;
           }
 
-      pub base_told : IsLedToBase link me (get_or s.words link 0) (with_upper me with_base)
+      pub base_told : IsLedToBase walks link me (get_or s.words link 0) (with_upper me with_base)
       base_told = record {
         note = note;
         more = k.seen_first.0;
@@ -437,7 +437,7 @@ module _ (z : Sizes) where
     abbrev there_place : Place
     there_place = record { link = link; level = leads_there.level; span = any.1 }
 
-    pub link_loaded : (d' : View TreeView) × Next d'.upper × (d' ≡ record me.0 { upper = d'.upper }) × IsLed link me (get_or s.words link 0) (d', me.1)
+    pub link_loaded : (d' : View TreeView) × Next d'.upper × (d' ≡ record me.0 { upper = d'.upper }) × IsLed walks link me (get_or s.words link 0) (d', me.1)
     link_loaded = ⊎_elim
         (λ (b : f.role (get_or s.words link 0) ≡ Base there_place). (
           record me.0 { upper = with_base there_place b refl },
@@ -454,15 +454,15 @@ module _ (z : Sizes) where
         (by_place (f.role (get_or s.words link 0)) there_place leads_there.hangs)
 
   -- The load of a link.
-  pub leads : (slots id : ℕ) (me : MyTree) (link : ℕ) → me.0.pin.pinned ≡ true → IsAnyLink me.0.upper link
-      → Allows (R z) slots id me link (λ x. x) (Raises MayLoad Leads (step slots link 0 0 none) me)
-  leads slots id me link is_pinned any s r _ at _ = let x = link_loaded s r id me at is_pinned link any in
-      let led = subst (λ (d' : View TreeView). IsLed link me (get_or s.words link 0) (d', me.1)) x.2 x.3 in (
+  pub leads : (walks : Bool) (slots id : ℕ) (me : MyTree) (link : ℕ) → me.0.pin.pinned ≡ true → IsAnyLink me.0.upper link
+      → Allows (R z) slots id me link (λ x. x) (Raises MayLoad (Leads walks) (step slots link 0 0 none) me)
+  leads walks slots id me link is_pinned any s r _ at _ = let x = link_loaded s r id me at is_pinned walks link any in
+      let led = subst (λ (d' : View TreeView). IsLed walks link me (get_or s.words link 0) (d', me.1)) x.2 x.3 in (
         record me.0 { upper = x.0.upper },
         keeps,
         tt,
         x.1,
-        (refl, inl led, led),
+        (refl, inl (walks, led), led),
       )
 
   -- The load of a word of a row that was shown.

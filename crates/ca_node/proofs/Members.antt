@@ -14,7 +14,8 @@ use Rattle.ca_rows.specs.Claims.{claim_of}
 use Rattle.ca_rows.proofs.Claiming.{claimed_here, claimed_else, dropped_here, dropped_else}
 use Rattle.ca_node.specs.Laws.{in_nothing}
 use Rattle.ca_node.specs.Links.{IsIn}
-use Rattle.ca_node.specs.Told.{given, taken_out}
+use Rattle.ca_node.specs.Told.{given, taken_out, IsLastThere}
+use Rattle.ca_node.specs.TreeView.{Note}
 use Rattle.ca_node.proofs.Looking.{in_more}
 
 -- The first row is in the list.
@@ -93,3 +94,9 @@ once p f (x ∷ xs) m zero (suc j) row a b = absurd (not_less (f row).0 (subst (
 once p f (x ∷ xs) m (suc i) zero row a b = absurd (not_less (f row).0 (subst (λ (y : ℕ). bytes_cmp (f y).0 (f row).0 ≡ Less) (some-injective x row b)
     (less_than_all p (f x).0 (map f xs) i (f row) m.1 (at_map f xs i row a))))
 once p f (x ∷ xs) m (suc i) (suc j) row a b = ap suc (once p f xs m.2 i j row a b)
+
+-- The last note of a link is one.
+pub in_notes : (note : Note) (notes : List Note) → IsLastThere note notes → IsIn note notes
+in_notes note [] last = absurd last
+in_notes note (n ∷ notes) last = ⊎_elim (λ (e : n ≡ note). (0, ap some e))
+    (λ (t : (n.place.link ≢ note.place.link) × IsLastThere note notes). let i = in_notes note notes t.1 in (suc i.0, i.1)) last

@@ -137,10 +137,10 @@ module _ (z : Sizes) (ways : List Way) (way : Way) (cursor : Cursor) (base : ℕ
 
 -- What a seat knows after one link more, which named a base.
 walked_on : (m m' m'' : MyTree) (more next : History) (note : Note) (ways : List Way) (loads : ℕ) → m' ≡ with_upper m (passed m.0.upper more ways loads)
-    → m'' ≡ with_upper m' (led_to_base m'.0.upper next note) → m'' ≡ with_upper m (walked m.0.upper (more ++ next) note ways (loads + 1))
+    → m'' ≡ with_upper m' (led_to_base m'.0.upper next note note (m'.0.upper.loads + 1)) → m'' ≡ with_upper m (walked m.0.upper (more ++ next) note ways (loads + 1))
 walked_on m m' m'' more next note ways loads e d =
     let u : TreeView = m.0.upper in let n : u.loads + loads + 1 ≡ u.loads + (loads + 1) = omega arith in
-    d ∙ (ap (λ (x : MyTree). with_upper x (led_to_base x.0.upper next note)) e
+    d ∙ (ap (λ (x : MyTree). with_upper x (led_to_base x.0.upper next note note (x.0.upper.loads + 1))) e
     ∙ (ap (λ (h : History). with_upper m (record u { seen = h; notes = note ∷ u.notes; ways = ways ++ u.ways; loads = u.loads + loads + 1; last = note; shown = u.loads + loads + 1 }))
     (append_assoc u.seen more next)
     ∙ ap (λ (k : ℕ). with_upper m (record u { seen = u.seen ++ (more ++ next); notes = note ∷ u.notes; ways = ways ++ u.ways; loads = k; last = note;
@@ -165,7 +165,7 @@ module _ (z : Sizes) (s : Spot) (m m' m'' : MyTree) (some_rows : 0 < z.rows) (si
   rows_too = subst (λ (y : Sizes). 0 < y.rows) (sym sizes) some_rows
 
   -- The walk came to a base.
-  to_base : IsLedToBase word m' next.base m'' → IsAtBase z s m next m''
+  to_base : IsLedToBase true word m' next.base m'' → IsAtBase z s m next m''
   to_base led = let at = led.place.1 least span is_link in let told = led.known rows_too in let low = at.0 in record {
     note = led.note;
     more = more ++ led.more;
@@ -180,7 +180,7 @@ module _ (z : Sizes) (s : Spot) (m m' m'' : MyTree) (some_rows : 0 < z.rows) (si
     is_base = subst (λ (y : Sizes). IsBaseNote y led.note) sizes told.0;
     has = subst (λ (x : MyTree). map pair led.note.objects ≡ part led.note.place.span (after x.0.upper.seen [])) (sym led.now) led.has;
     known = subst (λ (x : MyTree). IsKnown z x.0.upper) (sym led.now)
-        (subst (λ (y : Sizes). IsKnown y (led_to_base m'.0.upper led.more led.note)) sizes told.1);
+        (subst (λ (y : Sizes). IsKnown y (led_to_base m'.0.upper led.more led.note led.note (m'.0.upper.loads + 1))) sizes told.1);
     listed = λ alone. subst (λ (x : MyTree). IsListed x.0.upper.inventory led.note) now (led.listed rows_too
         (subst (λ (y : Sizes). IsAlone y m'.0.upper) (sym sizes) (subst (λ (x : MyTree). IsAlone z x.0.upper) (sym now) alone)));
   }
@@ -202,7 +202,7 @@ module _ (z : Sizes) (s : Spot) (m m' m'' : MyTree) (some_rows : 0 < z.rows) (si
   }
 
   -- The walk goes on one link further.
-  pub comes_to : IsLed word m' next.base m'' → IsWalking z s m next m''
+  pub comes_to : IsLed true word m' next.base m'' → IsWalking z s m next m''
   comes_to led = ⊎_elim (λ l. inl (to_base l)) (λ l. inr (to_route l)) led
 
 -- The walk is at a route, and goes left or right from there.
@@ -245,13 +245,13 @@ module _ (z : Sizes) (s : Spot) (m : MyTree) (cursor : Cursor) (m' : MyTree) (at
 
   module _ (m'' : MyTree) (base : ℕ) (some_rows : 0 < z.rows) (sizes : m'.0.sizes ≡ z) where
     -- The walk goes left.
-    pub goes_left_on : IsSide true s (route_key route) → IsLed (136 * cursor.base + 1) m' base m'' → IsWalking z s m (left_cursor cursor base) m''
+    pub goes_left_on : IsSide true s (route_key route) → IsLed true (136 * cursor.base + 1) m' base m'' → IsWalking z s m (left_cursor cursor base) m''
     goes_left_on side led = comes_to z s m m' m'' some_rows sizes at.more (at.way ∷ at.ways) at.loads at.now (136 * cursor.base + 1) (at.way.place.level + 1)
         (left_of (route_key route) span) left_known at.few (sought_left s (route_key route) span side at.sought) (left_cursor cursor base)
         (λ place l p. left_placed z m'.0.upper.ways at.way cursor base place here at.row at.is_route.in_range at.placed l p) led
 
     -- The walk goes right.
-    pub goes_right_on : IsSide false s (route_key route) → IsLed (136 * cursor.base + 2) m' base m'' → IsWalking z s m (right_cursor cursor base) m''
+    pub goes_right_on : IsSide false s (route_key route) → IsLed true (136 * cursor.base + 2) m' base m'' → IsWalking z s m (right_cursor cursor base) m''
     goes_right_on side led = comes_to z s m m' m'' some_rows sizes at.more (at.way ∷ at.ways) at.loads at.now (136 * cursor.base + 2) (at.way.place.level + 1)
         (right_of (route_key route) span) right_known at.few (sought_right s (route_key route) span side at.sought) (right_cursor cursor base)
         (λ place l p. right_placed z m'.0.upper.ways at.way cursor base place here at.row at.is_route.in_range at.placed l p) led
@@ -266,7 +266,7 @@ abbrev pub root_cursor : ℕ → Cursor
 root_cursor base = record { base = base; link = link.Root; above = None; level = 0; low = None; high = None }
 
 -- The walk begins with a load of the root link.
-pub begins : (z : Sizes) (s : Spot) (m m' : MyTree) (base : ℕ) → 0 < z.rows → m.0.sizes ≡ z → IsLed 130 m base m' → IsWalking z s m (root_cursor base) m'
+pub begins : (z : Sizes) (s : Spot) (m m' : MyTree) (base : ℕ) → 0 < z.rows → m.0.sizes ≡ z → IsLed true 130 m base m' → IsWalking z s m (root_cursor base) m'
 begins z s m m' base some_rows sizes led = comes_to z s m m m' some_rows sizes [] [] 0 here 130 0 all_keys (inl (refl, refl, refl)) (omega arith)
     (sought_first s) (root_cursor base) placed led
   where

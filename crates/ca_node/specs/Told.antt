@@ -88,9 +88,19 @@ link_word link.Root = 130
 link_word (link.Left route) = 136 * route + 1
 link_word (link.Right route) = 136 * route + 2
 
+-- the base that a walk came to last, once a link that names this one was loaded, by a walk or not
+abbrev pub come_to : Bool → TreeView → Note → Note
+come_to true u note = note
+come_to false u note = u.last
+
+-- how many links were loaded as a walk came to a base last
+abbrev pub come_at : Bool → TreeView → ℕ
+come_at true u = u.loads + 1
+come_at false u = u.shown
+
 -- what a seat knows after it loaded a link that names a base, or a route
-abbrev pub led_to_base : TreeView → History → Note → TreeView
-led_to_base u more note = record u { seen = u.seen ++ more; notes = note ∷ u.notes; loads = u.loads + 1; last = note; shown = u.loads + 1 }
+abbrev pub led_to_base : TreeView → History → Note → Note → ℕ → TreeView
+led_to_base u more note last shown = record u { seen = u.seen ++ more; notes = note ∷ u.notes; loads = u.loads + 1; last = last; shown = shown }
 
 abbrev pub led_to_route : TreeView → History → Way → TreeView
 led_to_route u more way = record u { seen = u.seen ++ more; ways = way ∷ u.ways; loads = u.loads + 1 }
@@ -99,16 +109,16 @@ led_to_route u more way = record u { seen = u.seen ++ more; ways = way ∷ u.way
 abbrev pub IsPlaceOf : TreeView → ℕ → Place → Type 0
 IsPlaceOf u link place = (place.link ≡ link) × ((least : ℕ) (span : Span) → IsKnownLink u link least span → (least ≤ place.level) × (place.span ≡ span))
 
--- The link was loaded: it names this base, which has what the last state of the history has of the keys that are led there. The seat has seen
+-- The link was loaded, by a walk or not: it names this base, which has what the last state of the history has of the keys that are led there. The seat has seen
 -- the whole history now.
-pub record IsLedToBase (link : ℕ) (m : MyTree) (n : ℕ) (m' : MyTree) : Type 0 where
+pub record IsLedToBase (walks : Bool) (link : ℕ) (m : MyTree) (n : ℕ) (m' : MyTree) : Type 0 where
   pub note : Note
   pub more : History
-  pub now : m' ≡ with_upper m (led_to_base m.0.upper more note)
+  pub now : m' ≡ with_upper m (led_to_base m.0.upper more note (come_to walks m.0.upper note) (come_at walks m.0.upper))
   pub row_is : note.row ≡ n
   pub place : IsPlaceOf m.0.upper link note.place
   pub has : map pair note.objects ≡ part note.place.span (after (m.0.upper.seen ++ more) [])
-  pub known : 0 < m.0.sizes.rows → IsBaseNote m.0.sizes note × IsKnown m.0.sizes (led_to_base m.0.upper more note)
+  pub known : 0 < m.0.sizes.rows → IsBaseNote m.0.sizes note × IsKnown m.0.sizes (led_to_base m.0.upper more note (come_to walks m.0.upper note) (come_at walks m.0.upper))
   pub listed : 0 < m.0.sizes.rows → IsAlone m.0.sizes m.0.upper → IsListed m.0.upper.inventory note
 
 -- The link was loaded: it names this route.
@@ -120,12 +130,12 @@ pub record IsLedToRoute (link : ℕ) (m : MyTree) (n : ℕ) (m' : MyTree) : Type
   pub place : IsPlaceOf m.0.upper link way.place
   pub known : 0 < m.0.sizes.rows → IsRouteNote m.0.sizes way × IsKnown m.0.sizes (led_to_route m.0.upper more way)
 
--- The link was loaded: it names a base or a route.
-abbrev pub IsLed : ℕ → MyTree → ℕ → MyTree → Type 0
-IsLed link m n m' = IsLedToBase link m n m' ⊎ IsLedToRoute link m n m'
+-- The link was loaded, by a walk or not: it names a base or a route. A walk's load alone tells to which base a walk came last.
+abbrev pub IsLed : Bool → ℕ → MyTree → ℕ → MyTree → Type 0
+IsLed walks link m n m' = IsLedToBase walks link m n m' ⊎ IsLedToRoute link m n m'
 
-abbrev pub Leads : Step (Unit {0}) → MyTree → ℕ → MyTree → Type 0
-Leads st m n m' = IsLed st.word m n m'
+abbrev pub Leads : Bool → Step (Unit {0}) → MyTree → ℕ → MyTree → Type 0
+Leads walks st m n m' = IsLed walks st.word m n m'
 
 -- The row was shown, with these words: it is one that a note is on, or an object row that such a base names.
 abbrev pub IsShown : TreeView → ℕ → List ℕ → Type 0
@@ -160,6 +170,11 @@ entered u event = record u { log = u.log ++ (event, length u.seen) ∷ [] }
 abbrev pub ReadsLast : Event → Step (Unit {0}) → MyTree → ℕ → MyTree → Type 0
 ReadsLast event st m n m' = (m' ≡ with_upper m (entered m.0.upper event)) × IsRead m.0.upper st.word n
 
+-- The note is among these, the last one first, and it is the last one of its link.
+abbrev pub IsLastThere : Note → List Note → Type 0
+IsLastThere note [] = ⊥
+IsLastThere note (n ∷ notes) = (n ≡ note) ⊎ ((n.place.link ≢ note.place.link) × IsLastThere note notes)
+
 -- An update: the base that it takes the place of, the new base's words and those of the objects that it names, which held object rows come
 -- and which object rows go, the call, and its edit.
 pub record Update : Type 0 where
@@ -192,12 +207,11 @@ IsObjectOf m x row its = ((i : ℕ) × (get_elem? (items x.old.its) i ≡ some r
 abbrev pub IsNotFrom : Update → ℕ → ℕ → Type 0
 IsNotFrom x i row = IsIn row (items x.its) → IsIn row x.comes ⊎ ((j : ℕ) × (j ≢ i) × (get_elem? (items x.old.its) j ≡ some row))
 
--- The seat may put the new row in the place of the old base: it is pinned, was shown that base, and holds the new one.
+-- The seat may put the new row in the place of the old base: it is pinned, its last load of that link showed that base, and it holds the new one.
 pub record IsUpdate (z : Sizes) (m : MyTree) (new : ℕ) (x : Update) : Type 0 where
   pub is_pinned : m.0.pin.pinned ≡ true
   pub is_pass : 0 < m.0.upper.number
-  -- The old base is the one that the seat was shown last.
-  pub shown : (rest : List Note) × (m.0.upper.notes ≡ x.old ∷ rest)
+  pub shown : IsLastThere x.old m.0.upper.notes
   pub old_base : IsBaseRow x.old.its
   pub held : claim_of m.0.claims new ≡ some (Holds x.its)
   pub is_base : IsBaseRow x.its
@@ -293,12 +307,12 @@ pub record IsHalf (z : Sizes) (level_above : ℕ) (these : List ℕ) (its : List
   pub unmarked : IsUnmarked its
   pub items_are : items its ≡ these
 
--- The seat may put the route in the place of the old base: it is pinned, was shown that base last, which stands above the last level, and holds
--- the route and the halves.
+-- The seat may put the route in the place of the old base: it is pinned, its last load of that link showed that base, which stands above the last level,
+-- and it holds the route and the halves.
 pub record IsDivision (z : Sizes) (m : MyTree) (x : Division) : Type 0 where
   pub is_pinned : m.0.pin.pinned ≡ true
   pub is_pass : 0 < m.0.upper.number
-  pub shown : (rest : List Note) × (m.0.upper.notes ≡ x.old ∷ rest)
+  pub shown : IsLastThere x.old m.0.upper.notes
   pub old_base : IsBaseRow x.old.its
   pub above : x.old.place.level < z.levels
   pub held_route : claim_of m.0.claims x.route ≡ some (Holds x.route_its)
@@ -371,12 +385,12 @@ IsFront m = m ≡ (fresh no_sizes 0 (front_of m.0.upper), [])
 -- All that a load may tell of the tree: that of a link, that of a word that was shown, and the ends of calls, which edit nothing or are refused. No load
 -- counts a lost exchange, a split or an update.
 abbrev pub MayLoad : Step (Unit {0}) → MyTree → ℕ → MyTree → Type 0
-MayLoad st m n m' = Leads st m n m' ⊎ (Reads st m n m' ⊎ (((event : Event) × ReadsLast event st m n m')
+MayLoad st m n m' = ((walks : Bool) × Leads walks st m n m') ⊎ (Reads st m n m' ⊎ (((event : Event) × ReadsLast event st m n m')
     ⊎ ((rise : Counts → Counts) × IsRise rise × Refuses rise st m n m')))
 
--- The exchange is about the base that the seat was shown last: it expects its row, at the link where it hung.
+-- The exchange is about the base that the seat's last load of that link showed: it expects its row, at the link where it hung.
 abbrev pub IsShownLast : TreeView → Step (Unit {0}) → Note → Type 0
-IsShownLast u st note = ((rest : List Note) × (u.notes ≡ note ∷ rest)) × (st.first ≡ note.row) × (st.word ≡ note.place.link)
+IsShownLast u st note = IsLastThere note u.notes × (st.first ≡ note.row) × (st.word ≡ note.place.link)
 
 -- All that an exchange may tell: an update or a split, or one exchange more that was lost.
 abbrev pub MaySwap : Step (Unit {0}) → MyTree → ℕ → MyTree → Type 0

@@ -79,7 +79,8 @@ pub record TreeView : Type 0 where
   pub joins : ℕ
   -- how many exchanges of a link it lost
   pub lost : ℕ
-  -- the base that it was shown last, whether it is pinned or not, how many links it had loaded as one showed it a base last, and its last update
+  -- the base that a walk or an update came to last, whether it is pinned or not, how many links it had loaded as a walk came to a base last, and its
+  -- last update
   pub last : Note
   pub shown : ℕ
   pub renewal : Renewal

@@ -9,7 +9,7 @@ ghost use Rattle.ca_node.specs.TreePasses.{tree_of};
 use crate::comparing::compare;
 use crate::link::Link;
 use crate::rule::{TreePass, TreeSpace};
-use crate::steps::{load_link, load_word};
+use crate::steps::{descend, load_word};
 
 // The form of a row stands above this bit; that of a route is 3.
 const FORM: u64 = 1 << 56;
@@ -51,7 +51,7 @@ pub fn walk(space: &TreeSpace, pass: &mut TreePass, spot: Spot<'_>) -> Cursor
     ensures walked { IsWalked (sizes space.now) spot.entry (known pass.old) result (known pass.new) }
 {
     let mut cursor = Cursor {
-        base: load_link(space, pass, Link::Root),
+        base: descend(space, pass, Link::Root),
         link: Link::Root,
         above: None,
         level: 0,
@@ -83,7 +83,7 @@ fn go_down(space: &TreeSpace, pass: &mut TreePass, cursor: Cursor, spot: Spot<'_
     let above = Some(cursor.link);
     if goes_left(space, pass, route, spot) {
         Cursor {
-            base: load_link(space, pass, Link::Left(route)),
+            base: descend(space, pass, Link::Left(route)),
             link: Link::Left(route),
             above,
             high: Some(route),
@@ -91,7 +91,7 @@ fn go_down(space: &TreeSpace, pass: &mut TreePass, cursor: Cursor, spot: Spot<'_
         }
     } else {
         Cursor {
-            base: load_link(space, pass, Link::Right(route)),
+            base: descend(space, pass, Link::Right(route)),
             link: Link::Right(route),
             above,
             low: Some(route),

@@ -9,8 +9,8 @@ use crate::rule::{TreePass, TreeSpace};
 use crate::steps::{divide_link, replace_link};
 
 /// One exchange of a link, of the old base against one that the pass wrote: it carries out the update that `K` names, which is the last edit of
-/// the history then, and enters the call in the log. The old base is the one that the pass was shown last, and the link is where it hung. False
-/// exactly where the exchange was lost, which is counted; then nothing else changed. A pass that is alone loses none of a base that it lists.
+/// the history then, and enters the call in the log. The old base is the one that the pass's last load of the link showed. False exactly where
+/// the exchange was lost, which is counted; then nothing else changed. A pass that is alone loses none of a base that it lists.
 pub fn replace_base<K: Intent>(
     space: &TreeSpace,
     pass: &mut TreePass,
@@ -31,9 +31,9 @@ pub fn replace_base<K: Intent>(
 }
 
 /// One exchange of a link, of a base against a route over two bases that the pass wrote: it carries out the split that `K` names, by which no
-/// object comes or goes. The old base is the one that the pass was shown last, and the link is where it hung. False exactly where the exchange was
-/// lost, which is counted; then nothing else changed. Where it won, the pass's tally has one split more. A pass that is alone loses none of a base
-/// that it lists.
+/// object comes or goes. The old base is the one that the pass's last load of the link showed. False exactly where the exchange was lost, which
+/// is counted; then nothing else changed. Where it won, the pass's tally has one split more. A pass that is alone loses none of a base that it
+/// lists.
 pub fn divide_base<K: Plan>(
     space: &TreeSpace,
     pass: &mut TreePass,

@@ -1,4 +1,5 @@
 //! What each step of the tree tells.
+ghost use Rattle.std.specs.Prelude.{true, false};
 ghost use Rattle.ca_node.specs.Told.{Leads, Reads, Update, Updates, no_update, Divides, no_division, front_of, learnt};
 ghost use Rattle.ca_node.specs.TreeView.{blank, Division};
 ghost use Rattle.ca_rows.specs.Closed.{joined};
@@ -13,7 +14,14 @@ use std::marker::{Brand, PhantomData};
 pub struct Lead;
 
 impl Play<(), View<Knowledge>> for Lead {
-    ghost then = { Leads };
+    ghost then = { λ st m n m'. Leads false st m n m' };
+}
+
+/// A load of a link by a walk.
+pub struct Descend;
+
+impl Play<(), View<Knowledge>> for Descend {
+    ghost then = { λ st m n m'. Leads true st m n m' };
 }
 
 /// A load of a word of a row that was shown.

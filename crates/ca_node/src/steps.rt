@@ -1,5 +1,5 @@
 //! Single steps on the words of the tree.
-ghost use Rattle.std.specs.Prelude.{◌≡◌, ◌==◌, ℕ, ◌+◌, ◌*◌, ◌<◌, ◌≤◌, List};
+ghost use Rattle.std.specs.Prelude.{◌≡◌, ◌==◌, ℕ, ◌+◌, ◌*◌, ◌<◌, ◌≤◌, List, true, false};
 ghost use mathlib.Core.Option.{none};
 ghost use prog.Atomic.{either};
 ghost use Rattle.atomic_table.specs.Table.{step, Allows};
@@ -12,7 +12,7 @@ ghost use Rattle.ca_rows.specs.Passes.{CountsSplit, OnlyReads, IsReading, KeepsL
 ghost use Rattle.ca_node.specs.TreePasses.{tree_of};
 
 use crate::link::Link;
-use crate::plays::{Lead, Read};
+use crate::plays::{Descend, Lead, Read};
 use crate::rule::{TreePass, TreeSpace};
 use crate::view::Knowledge;
 use atomic_table::Play;
@@ -22,15 +22,27 @@ use ca_rows::View;
 const ROOT: u32 = 130;
 
 /// One load of a link, the root link or one of a route that the pass was shown. It shows the base that the link names, with the objects that the
-/// base names, or the route. At that moment the base's objects were what the last state of the history has of the keys that are led there.
+/// base names, or the route. At that moment the base's objects were what the last state of the history has of the keys that are led there. Which
+/// base a walk came to last stays.
 pub fn load_link(space: &TreeSpace, pass: &mut TreePass, link: Link) -> u32
     requires reading { IsReading space.now pass.old }
     requires inside { link_word link < 136 * (sizes space.now).rows + 136 }
     requires known { IsAnyLink (tree_of pass.old) (link_word link) }
     ensures frame { KeepsList pass.old pass.new }
-    ensures led { IsLed (link_word link) (known pass.old) result (known pass.new) }
+    ensures led { IsLed false (link_word link) (known pass.old) result (known pass.new) }
 {
     space.load::<Lead>(pass, word_of(link)) as u32
+}
+
+// The same by a walk: where the link names a base, it is the one that a walk came to last.
+pub(crate) fn descend(space: &TreeSpace, pass: &mut TreePass, link: Link) -> u32
+    requires reading { IsReading space.now pass.old }
+    requires inside { link_word link < 136 * (sizes space.now).rows + 136 }
+    requires known { IsAnyLink (tree_of pass.old) (link_word link) }
+    ensures frame { KeepsList pass.old pass.new }
+    ensures led { IsLed true (link_word link) (known pass.old) result (known pass.new) }
+{
+    space.load::<Descend>(pass, word_of(link)) as u32
 }
 
 /// One load of a word of a row that the pass was shown: it is as it was shown. Of a route that goes for all words but its links and its join

@@ -77,14 +77,14 @@ walked_quiet z spot m m' cursor w = subst (IsQuiet m) (sym w.now) record {
 }
 
 -- So it did by the load of a link, after which the history that it has seen is known.
-pub led_further : (z : Sizes) (link : ℕ) (m m' : MyTree) (row : ℕ) → IsLed link m row m' → m.0.sizes ≡ z → 0 < z.rows
+pub led_further : (z : Sizes) (link : ℕ) (m m' : MyTree) (row : ℕ) → IsLed false link m row m' → m.0.sizes ≡ z → 0 < z.rows
     → (u : TreeView) × (m' ≡ with_upper m u) × IsFurther m.0.upper m'.0.upper × IsKnown z m'.0.upper
 led_further z link m m' row led sized some_rows = let rows : 0 < m.0.sizes.rows = subst (λ (y : Sizes). 0 < y.rows) (sym sized) some_rows in ⊎_elim
-    (λ (b : IsLedToBase link m row m'). (
-      led_to_base m.0.upper b.more b.note,
+    (λ (b : IsLedToBase false link m row m'). (
+      led_to_base m.0.upper b.more b.note m.0.upper.last m.0.upper.shown,
       b.now,
       subst (λ (x : MyTree). IsFurther m.0.upper x.0.upper) (sym b.now) (record { number = refl; seen = (b.more, refl); log = refl; counts = refl }),
-      subst (λ (x : MyTree). IsKnown z x.0.upper) (sym b.now) (subst (λ (y : Sizes). IsKnown y (led_to_base m.0.upper b.more b.note)) sized (b.known rows).1),
+      subst (λ (x : MyTree). IsKnown z x.0.upper) (sym b.now) (subst (λ (y : Sizes). IsKnown y (led_to_base m.0.upper b.more b.note m.0.upper.last m.0.upper.shown)) sized (b.known rows).1),
     ))
     (λ (w : IsLedToRoute link m row m'). (
       led_to_route m.0.upper w.more w.way,

@@ -1,5 +1,8 @@
-use Rattle.std.proofs.Common.{[], ◌∷◌, refl, true, false, rules}
+use Rattle.std.proofs.Common.{[], ◌∷◌, get_or, sym, refl, ap, ◌∙◌, true, false, rules}
 use Rattle.ca_node.specs.Laws.{in_nothing}
+use Rattle.ca_node.specs.Row.{key}
+use Rattle.ca_node.specs.Told.{MyTree}
+use Rattle.ca_node.specs.TreeView.{Note}
 use Rattle.ca_base.proofs.Alone.{not_missed}
 use Rattle.ca_base.proofs.Divisions.{divided_rows}
 use Rattle.ca_base.proofs.Unlinking.{held_still, none_left}
@@ -50,3 +53,14 @@ returns-then-not-divide_base-clause-frame g c = record {
 pub returns-then-not-divide_base-clause-won : goal.returns-then-not-divide_base-clause-won
 returns-then-not-divide_base-clause-won g c alone listed _ = not_missed c.args.space.now.table.shared.key c.args.pass.now.seat.me g.K.Plan.division.old
     c.requires.own.1 c.args.space.now.few.0 (c.if-not-divide_base.ensures.won refl) alone listed
+
+pub returns-clause-split : goal.returns-clause-split
+returns-clause-split g c = (
+  g.K.Plan.division,
+  record {
+    old_is = sym c.requires.last;
+    key_is = c.requires.division.0.key_is ∙ ap (λ (n : Note). key (get_or n.objects g.K.Plan.division.middle [])) (sym c.requires.last);
+    halving = c.requires.division.1;
+  },
+  c.retire_unlinked.ensures.frame.same.4 ∙ ap (λ (m : MyTree). m.0.upper) c.if-not-divide_base.ensures.done.now,
+)

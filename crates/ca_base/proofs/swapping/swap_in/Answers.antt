@@ -57,7 +57,7 @@ returns-clause-renewed g c = let first = c.retire_unlinked.ensures in let rest =
     (rest.met.0 ∙ first.met.0) (met_both 0 0 0 0 c.replace_base.new.pass.seat.me c.retire_unlinked.new.pass.seat.me c.retire_all.new.pass.seat.me
     first.met.1 rest.met.1) (rest.frame.same.4 ∙ first.frame.same.4) (rest.frame.same.3 ∙ first.frame.same.3))
     (renewed c.args.space.now.table.shared.key c.args.pass.now.kept.rows c.args.pass.now.seat.me c.args.rows.now.new g.K.Intent.update
-    c.requires.update c.requires.old_base
+    c.requires.update c.requires.old_base c.requires.last
     (subst (λ (xs : List ℕ). HasHeld c.args.space.now.table.shared.key.rows c.args.pass.now.kept.rows c.args.pass.now.seat.me.0.claims (c.args.rows.now.new ∷ xs))
     (sym c.requires.rows.0) c.requires.held.0)
     c.replace_base.new.pass.seat.me c.retire_all.new.pass.seat.me.0.upper
@@ -66,7 +66,7 @@ returns-clause-renewed g c = let first = c.retire_unlinked.ensures in let rest =
 
 pub returns-clause-placed : goal.returns-clause-placed
 returns-clause-placed g c = λ _. placed c.args.space.now.table.shared.key c.args.pass.now.kept.rows c.args.pass.now.seat.me c.args.rows.now.new g.K.Intent.update
-    c.requires.update c.requires.old_base
+    c.requires.update c.requires.old_base c.requires.last
     (subst (λ (xs : List ℕ). HasHeld c.args.space.now.table.shared.key.rows c.args.pass.now.kept.rows c.args.pass.now.seat.me.0.claims (c.args.rows.now.new ∷ xs))
     (sym c.requires.rows.0) c.requires.held.0)
     c.replace_base.new.pass.seat.me c.retire_all.new.pass.seat.me.0.upper c.if-not-replace_base.ensures.done

@@ -6,8 +6,8 @@ use Rattle.ca_node.specs.Walking.{IsAtRoute, IsWalked}
 use Rattle.ca_node.proofs.Walks.{begins, first_word, is_at_route, is_at_base, level_told, few_left, one_load_less, ends}
 use Rattle.ca_node.proofs.cursor.walk.Goals as goal
 
-pub load_link-requires-clause-known : goal.load_link-requires-clause-known
-load_link-requires-clause-known c = (0, all_keys, inl (refl, refl, refl))
+pub descend-requires-clause-known : goal.descend-requires-clause-known
+descend-requires-clause-known c = (0, all_keys, inl (refl, refl, refl))
 
 pub loop-level-init : goal.loop-level-init
 loop-level-init c = record {
@@ -17,8 +17,8 @@ loop-level-init c = record {
   tally = search rules;
   kept = search rules;
   pinned = search rules;
-  walking = begins c.args.space.now.table.shared.key c.args.spot c.args.pass.now.seat.me c.load_link.new.pass.seat.me c.load_link.result
-      c.args.space.now.few.0 c.requires.reading.own.1 c.load_link.ensures.led;
+  walking = begins c.args.space.now.table.shared.key c.args.spot c.args.pass.now.seat.me c.descend.new.pass.seat.me c.descend.result
+      c.args.space.now.few.0 c.requires.reading.own.1 c.descend.ensures.led;
 }
 
 pub load_word-word-requires-clause-shown : goal.load_word-word-requires-clause-shown

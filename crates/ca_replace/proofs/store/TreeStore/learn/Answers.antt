@@ -1,4 +1,4 @@
-use Rattle.std.proofs.Common.{true, refl, ap, inl, ◌∙◌}
+use Rattle.std.proofs.Common.{true, false, refl, ap, inl, ◌∙◌}
 use Rattle.ca_node.specs.Place.{all_keys}
 use Rattle.ca_node.specs.Told.{MyTree}
 use Rattle.ca_rows.specs.Told.{met_of}
@@ -25,7 +25,7 @@ keep_few-requires c = let tree = c.self.inside.tree.now in let z : Sizes = tree.
     )) learnt in
     let led = led_further z 130 c.pin.new.pass.seat.me c.load_link.new.pass.seat.me c.load_link.result c.load_link.ensures.led
     (ap (λ (m : MyTree). m.0.sizes) both ∙ c.self.invariant.of.1) tree.space.few.0 in
-    let counts = led_counts 130 c.pin.new.pass.seat.me c.load_link.new.pass.seat.me c.load_link.result c.load_link.ensures.led in record {
+    let counts = led_counts false 130 c.pin.new.pass.seat.me c.load_link.new.pass.seat.me c.load_link.result c.load_link.ensures.led in record {
       resting = rests_as table z pass.number c.unpin.new.pass.number c.load_link.new.pass.kept c.unpin.new.pass.kept c.unpin.new.pass.seat
           (c.unpin.ensures.frame.number ∙ (c.load_link.ensures.frame.number ∙ (c.pin.ensures.frame.number ∙ c.learn.ensures.frame.number))) c.unpin.ensures.frame.tally
           c.unpin.ensures.frame.kept
