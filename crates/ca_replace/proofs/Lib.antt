@@ -5,11 +5,12 @@ pub mod Cutting
 pub mod DueCauses
 pub mod Entries
 pub mod Fresh
+pub mod FullBases
 pub mod GoingOn
 pub mod Growing
-pub mod Reclaiming
 pub mod Meeting
 pub mod OneHand
+pub mod Reclaiming
 pub mod Settling
 pub mod Showing
 pub mod Tallies

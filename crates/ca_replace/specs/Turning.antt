@@ -1,7 +1,8 @@
 -- What a call's attempts come to, beside the event that is entered in the log: one of them, and all until one isn't followed by another.
-use Rattle.std.specs.Prelude.{Bool, List, ℕ, Result}
+use Rattle.std.specs.Prelude.{ℕ, ◌+◌, min, Bool, true, false, List, Result, Ok, Err}
 use Rattle.std.specs.declared.option.Option.{Option}
 use Rattle.ca_adapt.specs.declared.tuning.Tuning.{Tuning}
+use Rattle.ca_base.specs.declared.taking.NoRow.{NoRow}
 use Rattle.ca_node.specs.Told.{MyTree, IsAlone}
 use Rattle.ca_replace.specs.declared.adapting.Course.{Course}
 use Rattle.ca_replace.specs.declared.attempting.Stop.{Stop}
@@ -33,3 +34,9 @@ pub record AreTurns {T E : Type 0} (edits : T → Bool) (adds : Option (List ℕ
   pub grown : IsAlone z m.0.upper → HasGrownSoFar z adds r m.0.upper m'.0.upper
   pub won : IsAlone z m.0.upper → HasWonAs edits r m.0.upper m'.0.upper
   pub cut : HasCutSoFar edits z adds r m.0.upper m'.0.upper
+
+-- what is handed on behind the split of a full base: a turn where it was split, and that an exchange of a link was lost where that was
+abbrev pub course_after : Result Bool NoRow → Course → Course
+course_after (Ok true) c = record c { spent = record c.spent { passed = min (c.spent.passed + 1) 4294967295 } }
+course_after (Ok false) c = record c { adapting = record c.adapting { lost = true } }
+course_after (Err why) c = c

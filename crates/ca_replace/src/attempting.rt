@@ -19,7 +19,7 @@ ghost use Rattle.ca_base.specs.Targets.{IsKeyed, event_of, key_in};
 ghost use Rattle.ca_rows.specs.declared.sizes.Sizes.{Sizes};
 ghost use Rattle.ca_rows.specs.Told.{met_of};
 ghost use Rattle.ca_replace.specs.Looking.{HasLooked};
-ghost use Rattle.ca_replace.specs.Turning.{IsTurn};
+ghost use Rattle.ca_replace.specs.Turning.{IsTurn, course_after};
 ghost use Rattle.ca_rows.specs.Passes.{IsReading, sizes, known};
 ghost use Rattle.ca_node.specs.TreePasses.{tree_of};
 ghost use Rattle.ca_base.specs.Readiness.{IsReady, StaysReady, shown_last};
@@ -194,27 +194,19 @@ fn make_room(
     let space = &tree.space;
     let spent = &mut course.spent;
     let split = split_at(space, pass, cursor, many, first_attempt(space), spent);
-    if is_split(&split) {
-        course.spent.passed = course.spent.passed.saturating_add(1);
-    }
-    if is_lost(&split) {
-        course.adapting.lost = true;
-    }
+    note_split(course, &split);
     stop_of(split)
 }
 
-// Whether the base was split.
-fn is_split(split: &Result<bool, NoRow>) -> bool
-    ensures { IsTrue result ↔ (split.now ≡ Ok true) }
+// Notes what became of the split of a full base: a turn where it was split, and that an exchange of a link was lost where that was.
+fn note_split(course: &mut Course, split: &Result<bool, NoRow>)
+    ensures { course.new ≡ course_after split.now course.old }
 {
-    matches!(split, Ok(true))
-}
-
-// Whether the exchange of the base was lost.
-fn is_lost(split: &Result<bool, NoRow>) -> bool
-    ensures { IsTrue result ↔ (split.now ≡ Ok false) }
-{
-    matches!(split, Ok(false))
+    match split {
+        Ok(true) => course.spent.passed = course.spent.passed.saturating_add(1),
+        Ok(false) => course.adapting.lost = true,
+        Err(_) => {}
+    }
 }
 
 // What an attempt comes to that split a full base, by what became of its exchange.

@@ -1,6 +1,7 @@
 use Rattle.ca_replace.proofs.Tuning.{tuned_on}
-use Rattle.ca_replace.proofs.GoingOn.{split_further, paid_split, paid_unsplit}
-use Rattle.std.proofs.Common.{true, Err, Some, sym, subst, arith}
+use Rattle.ca_replace.proofs.FullBases.{room_found, room_paid, room_waits}
+use Rattle.ca_replace.proofs.GoingOn.{split_further}
+use Rattle.std.proofs.Common.{true, Err, Some, refl, sym, subst, arith}
 use Rattle.ca_replace.specs.declared.attempting.Stop.{Stop}
 use Rattle.ca_replace.specs.Growing.{HasGrown}
 use Rattle.ca_replace.proofs.Growing.{made_room}
@@ -9,9 +10,9 @@ use Rattle.ca_replace.specs.Cutting.{HasCut}
 use Rattle.ca_replace.proofs.Cutting.{made_cut}
 use Rattle.ca_replace.proofs.Winning.{room_won}
 use Rattle.ca_replace.specs.Winning.{HasWonAs}
-use Rattle.ca_model.specs.declared.outcome.Spent.{Spent}
-use Rattle.ca_replace.specs.Attempting.{IsPaid}
-use Rattle.ca_replace.proofs.attempting.make_room.Goals.{then-is_split, else-is_split}
+use Rattle.ca_replace.specs.declared.adapting.Course.{Course}
+use Rattle.ca_replace.specs.Adapting.{Waits}
+use Rattle.ca_replace.specs.Attempting.{HasStopped, IsPaid}
 use Rattle.ca_replace.proofs.attempting.make_room.Goals as goal
 
 pub returns-clause-further : goal.returns-clause-further
@@ -45,3 +46,20 @@ split_at-split-requires-clause-target c = let l = c.requires.looking.1 in record
   at = l.at;
   many_are = c.requires.many.0;
 }
+
+pub returns-clause-waits : goal.returns-clause-waits
+returns-clause-waits c = subst (λ (x : Course). Waits c.args.course.now.adapting x.adapting c.args.pass.now.seat.me.0.upper
+    c.split_at-split.new.pass.seat.me.0.upper) (sym c.note_split.ensures)
+    (room_waits c.args.many _ c.split_at-split.result c.args.course.now.adapting (record c.args.course.now { spent = c.split_at-split.new.spent })
+    c.args.pass.now.seat.me.0.upper c.split_at-split.new.pass.seat.me.0.upper refl c.split_at-split.ensures.split)
+
+pub returns-clause-counted : goal.returns-clause-counted
+returns-clause-counted c = subst (λ (x : Course). IsPaid c.args.course.now.spent x.spent c.args.pass.now.seat.me c.split_at-split.new.pass.seat.me)
+    (sym c.note_split.ensures)
+    (room_paid c.args.many _ c.split_at-split.result c.args.course.now.spent (record c.args.course.now { spent = c.split_at-split.new.spent })
+    c.args.pass.now.seat.me c.split_at-split.new.pass.seat.me c.split_at-split.ensures.split c.split_at-split.ensures.counted)
+
+pub returns-clause-found : goal.returns-clause-found
+returns-clause-found c = subst (λ (why : Stop). HasStopped {T = Unit {0}} (Err why) c.args.pass.now.seat.me c.split_at-split.new.pass.seat.me)
+    (sym c.stop_of.ensures) (room_found c.args.many _ c.split_at-split.result c.args.pass.now.seat.me c.split_at-split.new.pass.seat.me
+    c.split_at-split.ensures.found c.split_at-split.ensures.split)
