@@ -88,7 +88,8 @@ module _ (a b : Known) (budget : ℕ) (command : Command) where
   abbrev pub HasOutcome : Outcome Reply → Type 0
   HasOutcome (outcome.Done reply) = (continuation : Continuation) → StepsOnce a b continuation command (response_of reply) continuation
   HasOutcome (outcome.Busy spent) =
-      (MayBeRefused a.keypos (nature_of command).asks × Refused a b (one_more (cause.Busy spent) a.counts) × (budget ≤ spent.lost + spent.helped + spent.passed))
+      (MayBeRefused a.keypos (nature_of command).asks × Refused a b (one_more (cause.Busy spent) a.counts)
+      × (budget ≤ spent.lost + spent.helped + spent.passed))
       ⊎ IsOvertaken a b (nature_of command).asks spent
   HasOutcome (outcome.Full why) = MayBeRefused a.keypos (nature_of command).asks × Refused a b (one_more (cause.Full why) a.counts)
   HasOutcome (outcome.Deep level) = MayBeDeep (nature_of command).asks × Refused a b (one_more (cause.Deep level) a.counts)
