@@ -5,9 +5,9 @@ use std::hint::black_box;
 use std::time::Instant;
 
 unsafe extern "C" {
-    fn ca_speed_encode(code: *const u8, len: usize, rounds: u32) -> u64;
-    fn ca_speed_decode(code: *const u8, len: usize, rounds: u32) -> u64;
-    fn ca_speed_compare(codes: *const u8, codes_len: usize, len: usize, rounds: u32) -> u64;
+    fn ca_exports_encode(code: *const u8, len: usize, rounds: u32) -> u64;
+    fn ca_exports_decode(code: *const u8, len: usize, rounds: u32) -> u64;
+    fn ca_exports_compare(codes: *const u8, codes_len: usize, len: usize, rounds: u32) -> u64;
 }
 
 // {<<"user17">>,1700000000,[{ip,<<"10.0.0.7">>}]}
@@ -27,7 +27,7 @@ fn nanos(mut run: impl FnMut() -> u64, wanted: u64) -> f64 {
     least
 }
 
-// The same walk as that of `ca_speed_compare`, by the bytes of the codes.
+// The same walk as that of `ca_exports_compare`, by the bytes of the codes.
 fn greater_codes(codes: &[u8], rounds: u32) -> u64 {
     let all: Vec<&[u8]> = codes.chunks(OBJECT.len()).collect();
     let mut greater = 0;
@@ -42,8 +42,8 @@ fn greater_codes(codes: &[u8], rounds: u32) -> u64 {
 fn main() {
     assert_eq!(OBJECT.len(), 42);
     let rounds = u64::from(ROUNDS);
-    let encode = nanos(|| unsafe { ca_speed_encode(OBJECT.as_ptr(), OBJECT.len(), ROUNDS) }, 42 * rounds);
-    let decode = nanos(|| unsafe { ca_speed_decode(OBJECT.as_ptr(), OBJECT.len(), ROUNDS) }, rounds);
+    let encode = nanos(|| unsafe { ca_exports_encode(OBJECT.as_ptr(), OBJECT.len(), ROUNDS) }, 42 * rounds);
+    let decode = nanos(|| unsafe { ca_exports_decode(OBJECT.as_ptr(), OBJECT.len(), ROUNDS) }, rounds);
     // 65 objects that differ in the last byte of the address, each greater than the first one.
     let mut codes = Vec::new();
     for last in 0..65u8 {
@@ -51,7 +51,7 @@ fn main() {
         code[38] = b'0' + last;
         codes.extend_from_slice(&code);
     }
-    let compare = nanos(|| unsafe { ca_speed_compare(codes.as_ptr(), codes.len(), OBJECT.len(), ROUNDS / 64) }, rounds);
+    let compare = nanos(|| unsafe { ca_exports_compare(codes.as_ptr(), codes.len(), OBJECT.len(), ROUNDS / 64) }, rounds);
     let bytes = nanos(|| greater_codes(&codes, ROUNDS / 64), rounds);
     println!("encode  {encode:8.1} ns  {:6.2} of a comparison of terms", encode / compare);
     println!("decode  {decode:8.1} ns  {:6.2} of a comparison of terms", decode / compare);

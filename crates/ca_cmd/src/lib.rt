@@ -16,7 +16,7 @@ mod word;
 pub use answer::{Answer, show_reply};
 pub use fault::{FileFault, LineWhy};
 pub use generator::generate;
-pub use laws::file_laws;
+pub use laws::{file_laws, lines_cross};
 pub use line::{Line, Lines, MOST_LINE_BYTES};
 pub use output::{show_answer, show_client, show_table};
 pub use reading::read_file;

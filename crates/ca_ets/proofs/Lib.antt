@@ -1,5 +1,6 @@
 pub mod Changes
 pub mod Counting
+pub mod Crossing
 pub mod Keys
 pub mod ListedOperations
 pub mod Merges

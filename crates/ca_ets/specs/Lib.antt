@@ -5,6 +5,7 @@ pub mod Explained
 pub mod InOrder
 pub mod ListTableView
 pub mod Merge
+pub mod Nature
 pub mod OrderedMap
 pub mod Place
 pub mod Selected

@@ -1,4 +1,4 @@
--- One step of one thread: what a command does to the map and to its client's continuation, and the reply.
+-- One step of one thread: what a command does to the map and to its client's continuation, the reply, and the nature of each command.
 -- Source: the ets manual's text on each call; the order of the checks and the error `size` are this project's own.
 use Rattle.std.specs.Prelude.{ℕ, ℤ, pos, negsuc, Bool, true, false, nat_le, Option, None, Some, option_map, Result, Ok, Err, List, [], ◌∷◌, map, length, take, filter_map, if◌then◌else◌}
 use Rattle.ca_term.specs.Tree.{Tree, Integer, Atom, Tuple, Nil, Cons, Binary}
@@ -9,6 +9,7 @@ use Rattle.ca_ets.specs.OrderedMap.{put, get, del, above, below, between}
 use Rattle.ca_match.specs.Specification.{first_fault}
 use Rattle.ca_ets.specs.Update.{Operations, One, Several, additions_of, operations_of, element_of}
 use Rattle.ca_ets.specs.Command.{Command, Response, Truth, Value, Items, Results, End, Error, Continuation, Never, At, AtEnd, response_of}
+use Rattle.ca_ets.specs.Nature.{Nature, asking, ReadsKey, ReadsBy, ReadsMany, Edits, EditsBy, EditsRead, Puts, OfKey, OfLeastKey, OfGreatestKey, OfNextKey, OfPreviousKey, ForNothing, ForRoom, ForFound, ForOperations, ForResults}
 use Rattle.ca_ets.specs.declared.command.Cmd.TheVariants.{Insert, InsertNew, Lookup, Member, Delete, Take, UpdateCounter, UpdateElement, First, Last, Next, Prev, Select, SelectRange, Batch, More}
 use Rattle.ca_ets.specs.declared.command.Fault.{Fault}
 use Rattle.ca_ets.specs.declared.command.Fault.TheVariants.{BadArg, Range, Size}
@@ -233,6 +234,25 @@ step keypos map continuation (Select s) = step_of_select map continuation s
 step keypos map continuation (SelectRange lo hi s) = step_of_select_range keypos map continuation lo hi s
 step keypos map continuation (Batch s n) = step_of_batch keypos map continuation s (limit_of n)
 step keypos map continuation More = step_of_more keypos map continuation
+
+-- what each command asks of the table, and what it takes memory for
+abbrev pub nature_of : Command → Nature
+nature_of (Insert o) = asking Puts ForRoom
+nature_of (InsertNew o) = asking Puts ForRoom
+nature_of (Lookup k) = asking ReadsKey (ForFound (OfKey k))
+nature_of (Member k) = asking ReadsKey ForNothing
+nature_of (Delete k) = asking Edits ForNothing
+nature_of (Take k) = asking (EditsRead k) (ForFound (OfKey k))
+nature_of (UpdateCounter k op) = asking (EditsBy op) (ForOperations op)
+nature_of (UpdateElement k op) = asking Edits ForNothing
+nature_of First = asking ReadsMany (ForFound OfLeastKey)
+nature_of Last = asking ReadsMany (ForFound OfGreatestKey)
+nature_of (Next k) = asking ReadsMany (ForFound (OfNextKey k))
+nature_of (Prev k) = asking ReadsMany (ForFound (OfPreviousKey k))
+nature_of (Select s) = asking (ReadsBy s) ForResults
+nature_of (SelectRange lo hi s) = asking ReadsMany ForResults
+nature_of (Batch s n) = asking ReadsMany ForResults
+nature_of More = asking ReadsMany ForResults
 
 -- the step that leaves this map and continuation, and gives this reply
 abbrev pub step_of_reply : List Tree → Continuation → Reply → Step

@@ -7,6 +7,8 @@ ghost use Rattle.ca_ets.specs.InOrder.{IsInOrder};
 ghost use Rattle.ca_ets.specs.OrderedMap.{IsTable};
 ghost use Rattle.ca_ets.specs.Step.{step};
 
+use crate::command::{Cmd, Cont, Reply};
+
 /// A run of one client is explained exactly where its commands were run in order.
 pub fn one_client()
     ensures { (keypos : ℕ) (commands : List Command) (answers : List Answer) (table : List Tree) →
@@ -36,3 +38,12 @@ pub fn steps_keep()
         IsTable keypos map → IsContinuation continuation →
         IsTable keypos (step keypos map continuation command).map × IsContinuation (step keypos map continuation command).continuation }
 {}
+
+/// Commands, replies and continuations may be handed to another thread.
+pub fn commands_cross() {
+    may_cross::<Cmd>();
+    may_cross::<Reply>();
+    may_cross::<Cont>();
+}
+
+fn may_cross<T: Send>() {}

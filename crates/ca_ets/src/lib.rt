@@ -11,6 +11,8 @@ mod table;
 mod update;
 
 pub use command::{Cmd, Cont, Fault, Reply};
-pub use laws::{no_commands, no_files, one_client, steps_keep, tables_stay_ordered};
+pub use laws::{
+    commands_cross, no_commands, no_files, one_client, steps_keep, tables_stay_ordered,
+};
 pub use table::ListTable;
 pub use update::{Operations, element, reply_of};

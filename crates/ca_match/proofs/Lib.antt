@@ -1,3 +1,5 @@
+pub mod Gathered
+pub mod Heads
 pub mod Matching
 pub mod OperatorRows
 pub mod Pieces

@@ -1,13 +1,12 @@
 -- Matching by a walk of the term.
-use Rattle.std.proofs.Common.{◌≡◌, ◌≢◌, ℕ, ◌≤◌, ◌<◌, ◌+◌, ◌-◌, Bool, true, false, List, [], ◌∷◌, ◌++◌, length, set, get_or, take, drop, Option, Some, None, Bor, add-one, drop-cons, append_assoc, append-nil, refl, ap, sym, ◌∙◌, arith, nat_le}
+use Rattle.std.proofs.Common.{◌≡◌, ℕ, ◌≤◌, ◌<◌, ◌+◌, ◌-◌, Bool, true, false, List, [], ◌∷◌, ◌++◌, length, set, get_or, take, drop, Option, Some, None, Bor, add-one, drop-cons, append_assoc, append-nil, refl, ap, sym, ◌∙◌, arith, nat_le}
 use Rattle.std.proofs.lemmas.Bool.Decides.{nat_tests}
 use Rattle.std.proofs.lemmas.List.{drop_all, get_or-map, map-set, take_all}
-use Rattle.std.specs.Prelude.{filter_map, if◌then◌else◌, option_and_then, option_map}
+use Rattle.std.specs.Prelude.{filter_map, if◌then◌else◌, option_and_then}
 use Rattle.ca_term.specs.declared.bounds.TheConstants.{MOST_DEPTH, MOST_ELEMENTS}
-use Rattle.ca_term.specs.Tree.{Tree, Row, Integer, Atom, Tuple, Nil, Cons, Binary, depth, is_cell, list_of, row_of}
-use Rattle.ca_match.specs.Match.{Bindings, Scene, all_bound, all_values, bind, bind_row, bind_variable, bound, call_value, cell_of, clause_result, constant, form_value, tuple_of, tuple_value, value, values, within}
-use Rattle.ca_match.specs.Operators.{Operator, One, Two, Short, applied, is_tuple}
-use Rattle.ca_term.proofs.Rows.{nodes_item}
+use Rattle.ca_term.specs.Tree.{Tree, Tuple, Nil, Cons, depth, list_of, row_of}
+use Rattle.ca_match.specs.Match.{Bindings, Scene, all_bound, all_values, bind_variable, bound, call_value, cell_of, clause_result, constant, form_value, tuple_of, tuple_value, value, values, within}
+use Rattle.ca_match.specs.Operators.{Operator, One, Two, Short, applied}
 use Rattle.ca_match.specs.MatcherView.{bindings_of, bound_at, cells_of}
 
 -- A variable that isn't bound is bound to the term.
@@ -91,49 +90,6 @@ too_many (t ∷ u ∷ []) o h = absurd (omega arith)
 too_many (t ∷ u ∷ v ∷ []) o h = absurd (omega arith)
 too_many (t ∷ u ∷ v ∷ a ∷ ts) o h = refl
 
--- ---- several values
-
-abbrev pub values_from : Scene → List Tree → ℕ → Option (List Tree)
-values_from s parts k = all_values (values s (row_of (drop k parts)))
-
--- values behind others
-abbrev pub behind : List Tree → Option (List Tree) → Option (List Tree)
-behind ts more = option_map (λ us. ts ++ us) more
-
-pub behind_none : (more : Option (List Tree)) → more ≡ behind [] more
-behind_none None = refl
-behind_none (Some us) = refl
-
-abbrev with_first : Option Tree → Option (List Tree) → Option (List Tree)
-with_first a more = option_and_then (λ t. option_map (λ ts. t ∷ ts) more) a
-
-value_at : (s : Scene) (parts : List Tree) (k : ℕ) (d : Tree) → k < length parts
-    → values_from s parts k ≡ with_first (value s (get_or parts k d)) (values_from s parts (k + 1))
-unfolding values
-value_at s parts k d h = rw (add-one, drop-cons parts k d) refl
-
-behind_one : (ts : List Tree) (t : Tree) (more : Option (List Tree)) → behind ts (with_first (Some t) more) ≡ behind (ts ++ t ∷ []) more
-behind_one ts t None = refl
-behind_one ts t (Some us) = ap (λ (x : List Tree). Some x) (sym (append_assoc ts (t ∷ []) us))
-
-pub one_more_value : (s : Scene) (parts : List Tree) (k : ℕ) (d t : Tree) (ts : List Tree) (all : Option (List Tree)) → k < length parts
-    → all ≡ behind ts (values_from s parts k) → Some t ≡ value s (get_or parts k d) → all ≡ behind (ts ++ t ∷ []) (values_from s parts (k + 1))
-one_more_value s parts k d t ts all h a e =
-    a ∙ ap (behind ts) (value_at s parts k d h ∙ ap (λ (x : Option Tree). with_first x (values_from s parts (k + 1))) (sym e))
-    ∙ behind_one ts t (values_from s parts (k + 1))
-
-pub no_more_values : (s : Scene) (parts : List Tree) (k : ℕ) (d : Tree) (ts : List Tree) (all : Option (List Tree)) → k < length parts
-    → all ≡ behind ts (values_from s parts k) → None ≡ value s (get_or parts k d) → None ≡ all
-no_more_values s parts k d ts all h a e =
-    sym (a ∙ ap (behind ts) (value_at s parts k d h ∙ ap (λ (x : Option Tree). with_first x (values_from s parts (k + 1))) (sym e)))
-
-pub all_the_values : (s : Scene) (parts : List Tree) (k : ℕ) (ts : List Tree) (all : Option (List Tree)) → length parts ≤ k
-    → all ≡ behind ts (values_from s parts k) → Some ts ≡ all
-unfolding values
-all_the_values s parts k ts all h a = sym (a ∙ (rw (drop_all k parts h, append-nil ts) refl))
-
-pub ruleset part_values = (behind_none, one_more_value, no_more_values, all_the_values, nodes_item)
-
 built_shallow : (t u : Tree) → u ≡ t → (MOST_DEPTH < depth t → ⊥) → Some u ≡ within t
 built_shallow t u e h = ap (λ (x : Tree). Some x) e ∙ sym (shallow t h)
 
@@ -191,65 +147,3 @@ call_form s (u ∷ []) t h e = absurd (omega arith)
 call_form s (u ∷ v ∷ us) t h e =
     let behind : take (length (u ∷ v ∷ us) - 1) (v ∷ us) ≡ v ∷ us = take_all (length (u ∷ v ∷ us) - 1) (v ∷ us) (omega arith) in
     rw behind (ap (λ (x : Tree). call_value x (row_of (v ∷ us)) (value s v ∷ values s (row_of us))) (sym e))
-
--- ---- heads
-
-pub no_tuple : (row : Row) (t : Tree) (b : Bindings) → is_tuple t ≡ false → bind (Tuple row) t b ≡ None
-unfolding bind
-no_tuple row (Integer n) b h = refl
-no_tuple row (Atom text) b h = refl
-no_tuple row (Tuple elements) b h = cc
-no_tuple row Nil b h = refl
-no_tuple row (Cons head tail) b h = refl
-no_tuple row (Binary bytes) b h = refl
-
-pub no_cell : (p q t : Tree) (b : Bindings) → is_cell t ≡ false → bind (Cons p q) t b ≡ None
-unfolding bind
-no_cell p q (Integer n) b h = refl
-no_cell p q (Atom text) b h = refl
-no_cell p q (Tuple elements) b h = refl
-no_cell p q Nil b h = refl
-no_cell p q (Cons head tail) b h = cc
-no_cell p q (Binary bytes) b h = refl
-
-none_then : (f : Bindings → Option Bindings) (o : Option Bindings) → ((b : Bindings) → f b ≡ None) → option_and_then f o ≡ None
-none_then f None h = refl
-none_then f (Some b) h = h b
-
-pub sizes_differ : (parts items : List Tree) (b : Bindings) → length parts ≢ length items → bind_row (row_of parts) (row_of items) b ≡ None
-unfolding bind_row
-sizes_differ [] [] b h = absurd (h refl)
-sizes_differ [] (u ∷ us) b h = refl
-sizes_differ (t ∷ ts) [] b h = refl
-sizes_differ (t ∷ ts) (u ∷ us) b h =
-    none_then (bind_row (row_of ts) (row_of us)) (bind t u b) (λ c. sizes_differ ts us c (λ e. h (omega arith)))
-
-abbrev pub rows_from : List Tree → List Tree → ℕ → Bindings → Option Bindings
-rows_from parts items k b = bind_row (row_of (drop k parts)) (row_of (drop k items)) b
-
-row_at : (parts items : List Tree) (k : ℕ) (d e : Tree) (b : Bindings) → k < length parts → k < length items
-    → rows_from parts items k b
-    ≡ option_and_then (rows_from parts items (k + 1)) (bind (get_or parts k d) (get_or items k e) b)
-unfolding bind_row
-row_at parts items k d e b h i = rw (add-one, drop-cons parts k d, drop-cons items k e) refl
-
-pub row_step : (parts items : List Tree) (k : ℕ) (d e : Tree) (all : Option Bindings) (b c : Bindings) (r : Bool) → k < length parts → k < length items
-    → all ≡ rows_from parts items k b → bind (get_or parts k d) (get_or items k e) b ≡ (if r then Some c else None) → r ≡ true
-    → all ≡ rows_from parts items (k + 1) c
-row_step parts items k d e all b c r h i a f t =
-    a ∙ row_at parts items k d e b h i
-    ∙ ap (option_and_then (rows_from parts items (k + 1))) (f ∙ ap (λ (x : Bool). if x then Some c else None) t)
-
-pub row_stop : (parts items : List Tree) (k : ℕ) (d e : Tree) (all : Option Bindings) (b c : Bindings) (r : Bool) → k < length parts → k < length items
-    → all ≡ rows_from parts items k b → bind (get_or parts k d) (get_or items k e) b ≡ (if r then Some c else None) → r ≡ false
-    → all ≡ None
-row_stop parts items k d e all b c r h i a f t =
-    a ∙ row_at parts items k d e b h i
-    ∙ ap (option_and_then (rows_from parts items (k + 1))) (f ∙ ap (λ (x : Bool). if x then Some c else None) t)
-
-pub row_end : (parts items : List Tree) (k : ℕ) (all : Option Bindings) (b : Bindings) → length parts ≤ k → length items ≤ k
-    → all ≡ rows_from parts items k b → all ≡ Some b
-unfolding bind_row
-row_end parts items k all b h i a = a ∙ (rw (drop_all k parts h, drop_all k items i) refl)
-
-pub ruleset rows_fit = (sizes_differ, row_step, row_stop, row_end, nodes_item)

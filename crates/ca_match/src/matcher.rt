@@ -1,14 +1,16 @@
 //! Matching as its definition says it: the specification's term is walked again for each object.
-ghost use Rattle.std.specs.Prelude.{◌≡◌, [], ◌∷◌, ◌++◌, ◌<◌, IfOk, MatchOption, OnOk, None, false, Some, length, option_and_then, option_map, if◌then◌else◌};
-ghost use Rattle.ca_term.specs.Tree.{Atom, Cons, Tuple, is_cell, row_of};
+ghost use Rattle.std.specs.Prelude.{◌≡◌, [], ◌∷◌, ◌++◌, ◌<◌, IfOk, None, false, Some, option_and_then, option_map, if◌then◌else◌};
+ghost use Rattle.ca_term.specs.Tree.{Atom, Cons, Tuple, row_of};
 ghost use Rattle.ca_match.specs.Match.{all_bound, all_values, atom_value, bind, bind_atom, bind_row, bind_variable, bound, call_value, clause_result, fitted, form_value, guarded, pass, result_of, tuple_value, value, values, within};
 ghost use Rattle.ca_match.specs.MatcherView.{bindings_of, cells_of, scene_of};
 ghost use Rattle.ca_match.specs.OperatorView.{meaning_of, stop_of};
-ghost use Rattle.ca_match.specs.Operators.{Short, applied, is_tuple, truth, truth_of};
+ghost use Rattle.ca_match.specs.Operators.{Short, applied, truth, truth_of};
 ghost use Rattle.ca_match.specs.ValueView.{tree_of_value};
 
+use crate::gathering::{push, push_copy};
 use crate::operator::Operator;
-use crate::value::Value;
+use crate::part::{cell_parts, tuple_items};
+use crate::value::{Value, truth, truth_value};
 use crate::variable::variable_number;
 use ca_term::{Kind, Term, TermFault, Terms, cons, list, nil, term_order, try_copy, tuple};
 use std::alloc::{AllocError, Global};
@@ -81,7 +83,7 @@ fn clause_with<'a>(
 // Whether a part of a head fits a term under the bindings so far; then its variables are bound in the table.
 // It goes along lists in a loop: a list may be longer than the stack is deep.
 #[cycle(bind)]
-#[tactic(auto, using(crate::proofs::Matching::no_tuple, crate::proofs::Matching::no_cell), unfolding(crate::specs::Match::bind))]
+#[tactic(auto, using(crate::proofs::Heads::no_tuple, crate::proofs::Heads::no_cell), unfolding(crate::specs::Match::bind))]
 fn bind<'a>(part: &Term, term: &'a Term, table: &mut Table<'a>) -> bool
     ensures { bind part.now term.now (bindings_of table.old) ≡ (if result then Some (bindings_of table.new) else None) }
 {
@@ -113,7 +115,7 @@ fn bind<'a>(part: &Term, term: &'a Term, table: &mut Table<'a>) -> bool
 
 // Elements against elements, from the left.
 #[cycle(bind)]
-#[tactic(auto, using(crate::proofs::Matching::rows_fit))]
+#[tactic(auto, using(crate::proofs::Heads::rows_fit))]
 fn bind_all<'a>(parts: &[Term], items: &'a [Term], table: &mut Table<'a>) -> bool
     ensures { bind_row (row_of parts.now) (row_of items.now) (bindings_of table.old) ≡ (if result then Some (bindings_of table.new) else None) }
 {
@@ -126,26 +128,6 @@ fn bind_all<'a>(parts: &[Term], items: &'a [Term], table: &mut Table<'a>) -> boo
         }
     }
     true
-}
-
-// The elements of a tuple.
-fn tuple_items(term: &Term) -> Option<&[Term]>
-    ensures { MatchOption result (is_tuple term.now ≡ false) (λ items. term.now ≡ Tuple (row_of items.now)) }
-{
-    match term.kind() {
-        Kind::Tuple(items) => Some(items),
-        Kind::Int(_) | Kind::Atom(_) | Kind::Nil | Kind::Cons(_, _) | Kind::Bin(_) => None,
-    }
-}
-
-// The head and the tail of a list cell.
-fn cell_parts(term: &Term) -> Option<(&Term, &Term)>
-    ensures { MatchOption result (is_cell term.now ≡ false) (λ cell. term.now ≡ Cons cell.0.now cell.1.now) }
-{
-    match term.kind() {
-        Kind::Cons(head, tail) => Some((head, tail)),
-        Kind::Int(_) | Kind::Atom(_) | Kind::Tuple(_) | Kind::Nil | Kind::Bin(_) => None,
-    }
 }
 
 // An atom of a head.
@@ -238,24 +220,6 @@ fn all_bound<'a>(alloc: Global, table: &Table<'a>) -> Evaluated<'a>
         Ok(term) => Ok(Some(Value::Owned(term))),
         Err(TermFault::TooDeep) => Ok(None),
         Err(TermFault::AtomTooLong | TermFault::TooWide | TermFault::NoMemory) => Err(AllocError),
-    }
-}
-
-fn push_copy(alloc: Global, terms: &mut Terms, term: &Term) -> Result<(), AllocError>
-    ensures { OnOk result (terms.new.items ≡ terms.old.items ++ term.now ∷ []) }
-{
-    let Ok(copy) = try_copy(alloc, term) else {
-        return Err(AllocError);
-    };
-    push(terms, copy)
-}
-
-fn push(terms: &mut Terms, term: Term) -> Result<(), AllocError>
-    ensures { OnOk result (terms.new.items ≡ terms.old.items ++ term ∷ []) }
-{
-    match terms.push(term) {
-        Ok(()) => Ok(()),
-        Err(_) => Err(AllocError),
     }
 }
 
@@ -369,7 +333,7 @@ fn tuple_value<'a>(
 
 // The values of several expressions as terms, unless one fails.
 #[cycle(value)]
-#[tactic(auto, using(crate::proofs::Matching::part_values))]
+#[tactic(auto, using(crate::proofs::Gathered::part_values))]
 fn terms<'a>(
     alloc: Global,
     items: &'a [Term],
@@ -501,25 +465,6 @@ fn truth_at<'a>(
     ensures { IfOk result (λ known. known ≡ option_and_then truth_of (value (scene_of object.now table.now) expression.now)) }
 {
     Ok(truth(&value(alloc, expression, object, table)?))
-}
-
-// The truth value that a value is.
-fn truth(value: &Option<Value<'_>>) -> Option<bool>
-    ensures { result ≡ option_and_then truth_of (option_map tree_of_value value.now) }
-{
-    match value {
-        Some(value) => value.truth(),
-        None => None,
-    }
-}
-
-fn truth_value<'a>(known: Option<bool>) -> Option<Value<'a>>
-    ensures { option_map tree_of_value result ≡ option_map truth known }
-{
-    match known {
-        Some(known) => Some(Value::Truth(known)),
-        None => None,
-    }
 }
 
 // Whether all guards of a list have the value true.

@@ -1,8 +1,8 @@
 //! Parts and sizes of values. Source: the functions of the module erlang of these names.
-ghost use Rattle.std.specs.Prelude.{◌≡◌, IfOk, pos};
+ghost use Rattle.std.specs.Prelude.{◌≡◌, IfOk, MatchOption, false, pos};
 ghost use Rattle.std.specs.Option.{option_map};
 ghost use Rattle.ca_term.specs.Kind.{tree_of_kind};
-ghost use Rattle.ca_term.specs.Tree.{Integer};
+ghost use Rattle.ca_term.specs.Tree.{Cons, Integer, Tuple, is_cell, row_of};
 ghost use Rattle.ca_match.specs.Operators.{byte_size, counted, either_size, is_atom, is_binary, is_integer, is_list, is_tuple, list_length, tuple_size, word};
 ghost use Rattle.ca_match.specs.ValueView.{counted_from, element_at, part_in, tree_of_value};
 
@@ -64,6 +64,26 @@ fn element(items: &[Term], n: i64) -> Option<&Term>
         return None;
     }
     items.get(n as usize - 1)
+}
+
+/// The elements of a tuple; another term has none.
+pub fn tuple_items(term: &Term) -> Option<&[Term]>
+    ensures { MatchOption result (is_tuple term.now ≡ false) (λ items. term.now ≡ Tuple (row_of items.now)) }
+{
+    match term.kind() {
+        Kind::Tuple(items) => Some(items),
+        Kind::Int(_) | Kind::Atom(_) | Kind::Nil | Kind::Cons(_, _) | Kind::Bin(_) => None,
+    }
+}
+
+/// The head and the tail of a list cell; another term has none.
+pub fn cell_parts(term: &Term) -> Option<(&Term, &Term)>
+    ensures { MatchOption result (is_cell term.now ≡ false) (λ cell. term.now ≡ Cons cell.0.now cell.1.now) }
+{
+    match term.kind() {
+        Kind::Cons(head, tail) => Some((head, tail)),
+        Kind::Int(_) | Kind::Atom(_) | Kind::Tuple(_) | Kind::Nil | Kind::Bin(_) => None,
+    }
 }
 
 // How many elements a proper list has, where that is an integer of 64 bits. It goes along the tail in a loop.

@@ -1,9 +1,9 @@
 //! Values of guards' and bodies' expressions.
-ghost use Rattle.std.specs.Prelude.{◌≡◌, IfOk, ◌||◌, true};
+ghost use Rattle.std.specs.Prelude.{◌≡◌, IfOk, ◌||◌, true, option_and_then, option_map};
 ghost use Rattle.ca_term.specs.Kind.{tree_of_kind};
 ghost use Rattle.ca_term.specs.Order.{rank, term_cmp};
 ghost use Rattle.ca_term.specs.Updates.{integer_of};
-ghost use Rattle.ca_match.specs.Operators.{truth_in, truth_of};
+ghost use Rattle.ca_match.specs.Operators.{truth, truth_in, truth_of};
 ghost use Rattle.ca_match.specs.ValueView.{is_plain, tree_of_value, truth_name};
 
 use ca_term::{Kind, Term, atom, int, term_order, try_copy};
@@ -66,6 +66,26 @@ impl<'a> Value<'a> {
             Ok(term) => Ok(term),
             Err(_) => Err(AllocError),
         }
+    }
+}
+
+/// The truth value that a value is, where there is one.
+pub fn truth(value: &Option<Value<'_>>) -> Option<bool>
+    ensures { result ≡ option_and_then truth_of (option_map tree_of_value value.now) }
+{
+    match value {
+        Some(value) => value.truth(),
+        None => None,
+    }
+}
+
+/// A truth value as a value.
+pub fn truth_value<'a>(known: Option<bool>) -> Option<Value<'a>>
+    ensures { option_map tree_of_value result ≡ option_map truth known }
+{
+    match known {
+        Some(known) => Some(Value::Truth(known)),
+        None => None,
     }
 }
 

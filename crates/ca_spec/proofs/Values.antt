@@ -1,5 +1,5 @@
 -- Values of expressions.
-use Rattle.std.proofs.Common.{◌≡◌, ◌≢◌, ℕ, ◌≤◌, ◌<◌, ◌+◌, Bool, true, false, List, [], ◌∷◌, ◌++◌, length, drop, get_or, Option, Some, None, refl, ap, sym, ◌∙◌, arith, add-one, drop-cons, append_assoc, append-nil}
+use Rattle.std.proofs.Common.{◌≡◌, ◌≢◌, ℕ, ◌≤◌, ◌<◌, ◌+◌, Bool, true, false, List, [], ◌∷◌, length, drop, get_or, Option, Some, None, refl, ap, sym, ◌∙◌, arith, add-one, drop-cons}
 use Rattle.std.proofs.lemmas.List.{drop_all}
 use Rattle.std.specs.Prelude.{codes, if◌then◌else◌, is_none, not, option_and_then, option_map, ◌&&◌, ◌||◌}
 use Rattle.ca_term.specs.Tree.{Tree, Row, Integer, Atom, Tuple, Nil, Cons, Binary, Ends, More, list_of, nodes, row_nodes, row_of}
@@ -9,7 +9,7 @@ use Rattle.ca_match.specs.OperatorView.{meaning_of, name_of, stop_of}
 use Rattle.ca_match.specs.Operators.{Operator, One, Two, Short, applied, short, truth, truth_of}
 use Rattle.ca_match.specs.Spelling.{variable_name}
 use Rattle.ca_match.specs.Variable.{is_all_bound, is_whole, variable_of}
-use Rattle.ca_term.proofs.Rows.{nodes_item}
+pub use Rattle.ca_match.proofs.Gathered.{behind, values_from}
 use Rattle.ca_spec.specs.Parts.{tail_le-list}
 use Rattle.ca_spec.specs.ExpressionView.{is_itself}
 use Rattle.ca_spec.proofs.Built.{listed_of, more_cells, one_cell}
@@ -164,52 +164,6 @@ pub short_second : (stop p : Bool) (a b : Option Tree) → p ≢ stop → Some p
     → option_map truth (option_and_then truth_of b) ≡ applied (Short stop) (a ∷ b ∷ [])
 short_second stop p a b n e = goes_on stop p b n ∙ ap (short_by stop b) e ∙ short_truth stop a b
 
--- ---- several values
-
--- The values of the parts from one on.
-abbrev pub values_from : Scene → List Tree → ℕ → Option (List Tree)
-values_from s parts k = all_values (values s (row_of (drop k parts)))
-
--- These values with more values behind them.
-abbrev pub behind : List Tree → Option (List Tree) → Option (List Tree)
-behind ts more = option_map (λ us. ts ++ us) more
-
--- Before the first value all values are still to come.
-pub behind_none : (more : Option (List Tree)) → more ≡ behind [] more
-behind_none None = refl
-behind_none (Some us) = refl
-
-abbrev with_first : Option Tree → Option (List Tree) → Option (List Tree)
-with_first a more = option_and_then (λ t. option_map (λ ts. t ∷ ts) more) a
-
-value_at : (s : Scene) (parts : List Tree) (k : ℕ) (d : Tree) → k < length parts
-    → values_from s parts k ≡ with_first (value s (get_or parts k d)) (values_from s parts (k + 1))
-unfolding values
-value_at s parts k d h = rw (add-one, drop-cons parts k d) refl
-
-behind_one : (ts : List Tree) (t : Tree) (more : Option (List Tree)) → behind ts (with_first (Some t) more) ≡ behind (ts ++ t ∷ []) more
-behind_one ts t None = refl
-behind_one ts t (Some us) = ap (λ (x : List Tree). Some x) (sym (append_assoc ts (t ∷ []) us))
-
--- The value of the next part goes behind those so far.
-pub one_more_value : (s : Scene) (parts : List Tree) (k : ℕ) (d t : Tree) (ts : List Tree) (all : Option (List Tree)) → k < length parts
-    → all ≡ behind ts (values_from s parts k) → Some t ≡ value s (get_or parts k d) → all ≡ behind (ts ++ t ∷ []) (values_from s parts (k + 1))
-one_more_value s parts k d t ts all h a e =
-    a ∙ ap (behind ts) (value_at s parts k d h ∙ ap (λ (x : Option Tree). with_first x (values_from s parts (k + 1))) (sym e))
-    ∙ behind_one ts t (values_from s parts (k + 1))
-
--- Where the next part fails, there are no values.
-pub no_more_values : (s : Scene) (parts : List Tree) (k : ℕ) (d : Tree) (ts : List Tree) (all : Option (List Tree)) → k < length parts
-    → all ≡ behind ts (values_from s parts k) → None ≡ value s (get_or parts k d) → None ≡ all
-no_more_values s parts k d ts all h a e =
-    sym (a ∙ ap (behind ts) (value_at s parts k d h ∙ ap (λ (x : Option Tree). with_first x (values_from s parts (k + 1))) (sym e)))
-
--- Behind the last part the values are those so far.
-pub all_the_values : (s : Scene) (parts : List Tree) (k : ℕ) (ts : List Tree) (all : Option (List Tree)) → length parts ≤ k
-    → all ≡ behind ts (values_from s parts k) → Some ts ≡ all
-unfolding values
-all_the_values s parts k ts all h a = sym (a ∙ (rw (drop_all k parts h, append-nil ts) refl))
-
 -- ---- lists
 
 list_is : (s : Scene) (heads : List Tree) (tail : Tree) → 0 < length heads
@@ -298,9 +252,6 @@ pub ruleset two_values = (none_of_first, none_of_second)
 
 -- The value of `andalso` or `orelse`, by the truth of the first argument.
 pub ruleset short_values = (short_none, short_stop, short_second)
-
--- The values of several expressions, gathered one after the other.
-pub ruleset part_values = (behind_none, one_more_value, no_more_values, all_the_values, nodes_item)
 
 -- The value of a list by the values of its heads and its tail.
 pub ruleset list_values = (list_built, list_no_head, list_no_tail, tail_le-list, heads_nodes)

@@ -8,8 +8,8 @@ ghost use Rattle.ca_match.specs.ValueView.{tree_of_value};
 ghost use Rattle.ca_spec.specs.Bound.{scene_of, table_of};
 
 use crate::expression::{Expression, Form};
-use ca_match::{Operator, Value};
-use ca_term::{Term, TermFault, Terms, list, nil, try_copy, tuple};
+use ca_match::{Operator, Value, push, push_copy, truth, truth_value};
+use ca_term::{Term, TermFault, Terms, list, nil, tuple};
 use std::alloc::{AllocError, Global};
 
 // A value, where the expression doesn't fail, or want of memory.
@@ -97,24 +97,6 @@ fn bound_terms(alloc: Global, table: &[Option<&Term>]) -> Result<Terms, AllocErr
     Ok(terms)
 }
 
-fn push_copy(alloc: Global, terms: &mut Terms, term: &Term) -> Result<(), AllocError>
-    ensures { OnOk result (terms.new.items ≡ terms.old.items ++ term.now ∷ []) }
-{
-    let Ok(copy) = try_copy(alloc, term) else {
-        return Err(AllocError);
-    };
-    push(terms, copy)
-}
-
-fn push(terms: &mut Terms, term: Term) -> Result<(), AllocError>
-    ensures { OnOk result (terms.new.items ≡ terms.old.items ++ term ∷ []) }
-{
-    match terms.push(term) {
-        Ok(()) => Ok(()),
-        Err(_) => Err(AllocError),
-    }
-}
-
 // The list of these terms with this tail, unless it is too deep.
 #[tactic(auto, using(crate::proofs::Built::shallow, crate::proofs::Built::deep))]
 fn listed<'a>(alloc: Global, items: Terms, tail: Term) -> Evaluated<'a>
@@ -172,7 +154,7 @@ fn list_value<'a>(
 
 // The values of several expressions as terms, unless one fails.
 #[cycle(value)]
-#[tactic(auto, using(crate::proofs::Values::part_values))]
+#[tactic(auto, using(ca_match::proofs::Gathered::part_values))]
 fn terms<'a>(
     alloc: Global,
     parts: &'a [Expression],
@@ -237,25 +219,6 @@ fn short_value<'a>(
             Ok(truth_value(truth(&value(alloc, b, object, table)?)))
         }
         None => Ok(None),
-    }
-}
-
-// The truth value that a value is.
-fn truth(value: &Option<Value<'_>>) -> Option<bool>
-    ensures { result ≡ option_and_then truth_of (option_map tree_of_value value.now) }
-{
-    match value {
-        Some(value) => value.truth(),
-        None => None,
-    }
-}
-
-fn truth_value<'a>(known: Option<bool>) -> Option<Value<'a>>
-    ensures { option_map tree_of_value result ≡ option_map truth known }
-{
-    match known {
-        Some(known) => Some(Value::Truth(known)),
-        None => None,
     }
 }
 

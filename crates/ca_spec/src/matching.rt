@@ -1,13 +1,13 @@
 //! Heads against objects.
-ghost use Rattle.std.specs.Prelude.{◌≡◌, ◌≤◌, ◌<◌, None, Some, MatchOption, false, length, if◌then◌else◌};
-ghost use Rattle.ca_term.specs.Tree.{Cons, Tuple, is_cell, list_of, row_of};
+ghost use Rattle.std.specs.Prelude.{◌≡◌, ◌≤◌, ◌<◌, None, Some, length, if◌then◌else◌};
+ghost use Rattle.ca_term.specs.Tree.{list_of, row_of};
 ghost use Rattle.ca_match.specs.Match.{bind, bind_row, bind_variable, bound};
-ghost use Rattle.ca_match.specs.Operators.{is_tuple};
 ghost use Rattle.ca_spec.specs.Bound.{table_of};
 ghost use Rattle.ca_spec.specs.Places.{places, row_places};
 
 use crate::pattern::{Pattern, Shape};
-use ca_term::{Kind, Term, term_order};
+use ca_match::{cell_parts, tuple_items};
+use ca_term::{Term, term_order};
 
 // Whether a part of a head fits a term under the bindings so far; then its variables are bound in the table.
 #[cycle(bind)]
@@ -85,24 +85,4 @@ fn bind_cells<'a>(
         rest = behind;
     }
     bind(tail, rest, table)
-}
-
-// The elements of a tuple.
-fn tuple_items(term: &Term) -> Option<&[Term]>
-    ensures { MatchOption result (is_tuple term.now ≡ false) (λ items. term.now ≡ Tuple (row_of items.now)) }
-{
-    match term.kind() {
-        Kind::Tuple(items) => Some(items),
-        Kind::Int(_) | Kind::Atom(_) | Kind::Nil | Kind::Cons(_, _) | Kind::Bin(_) => None,
-    }
-}
-
-// The head and the tail of a list cell.
-fn cell_parts(term: &Term) -> Option<(&Term, &Term)>
-    ensures { MatchOption result (is_cell term.now ≡ false) (λ cell. term.now ≡ Cons cell.0.now cell.1.now) }
-{
-    match term.kind() {
-        Kind::Cons(head, tail) => Some((head, tail)),
-        Kind::Int(_) | Kind::Atom(_) | Kind::Tuple(_) | Kind::Nil | Kind::Bin(_) => None,
-    }
 }

@@ -1,6 +1,7 @@
 -- A step by one call of the store, and a step by none.
 use Rattle.std.proofs.Common.{◌≡◌, ℕ, ◌≤◌, List, [], arith, inl, inr, length, subst, sym}
 use Rattle.ca_ets.specs.Command.{Command, Continuation, Response}
+use Rattle.ca_ets.specs.Step.{nature_of}
 use Rattle.ca_model.specs.Event.{Entry, Event}
 use Rattle.ca_model.specs.Known.{Known, Meets}
 use Rattle.ca_merge.specs.Carries.{Carries}
@@ -21,10 +22,10 @@ once a b event k l c r met carries = inl (record {
 
 -- A call behind reads makes the step that it carries, where so many may stand before it.
 pub behind_reads : (a b d : Known) (event : Event) (k l : Continuation) (c : Command) (r : Response) (reads : Refrains a b a.counts)
-    → length reads.left ≤ reads_before c → Meets b d event → Carries a.keypos event k c r l → StepsOnce a d k c r l
+    → length reads.left ≤ reads_before (nature_of c).asks → Meets b d event → Carries a.keypos event k c r l → StepsOnce a d k c r l
 behind_reads a b d event k l c r reads few met carries = inl (record {
   call = then_call a b d event k l c r reads met carries;
-  few = subst (λ (es : List Entry). length es ≤ reads_before c) (sym (then_call_left a b d event k l c r reads met carries)) few;
+  few = subst (λ (es : List Entry). length es ≤ reads_before (nature_of c).asks) (sym (then_call_left a b d event k l c r reads met carries)) few;
 })
 
 -- It is the step.

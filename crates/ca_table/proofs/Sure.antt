@@ -2,7 +2,8 @@
 use Rattle.std.proofs.Common.{◌≡◌, ℕ, true, inl, inr, refl, Result, Ok, Err}
 use Rattle.ca_term.specs.Code.{code_of}
 use Rattle.ca_ets.specs.Command.{Command, Continuation}
-use Rattle.ca_ets.specs.declared.command.Cmd.TheVariants.{Insert, InsertNew, Lookup, Member, Delete, Take, UpdateCounter, UpdateElement, First, Last, Next, Prev, Select, SelectRange, Batch, More}
+use Rattle.ca_ets.specs.Nature.{Asking, ReadsKey, ReadsBy, ReadsMany, Edits, EditsBy, EditsRead, Puts}
+use Rattle.ca_ets.specs.Step.{nature_of}
 use Rattle.ca_ets.specs.declared.command.Reply.{Reply}
 use Rattle.ca_model.specs.declared.outcome.Outcome.{Outcome}
 use Rattle.ca_model.specs.declared.outcome.Outcome.TheVariants as outcome
@@ -11,29 +12,20 @@ use Rattle.ca_model.specs.Known.{Known}
 use Rattle.ca_merge.proofs.Alone.{never_refused, never_overtaken}
 use Rattle.ca_table.specs.ComesTo.{ComesTo, ComesToFrom, IsOvertaken, SureAndAloneIsDone, SureAndAloneIsDoneFrom}
 
-not_overtaken : (a b : Known) (c : Command) (spent : Spent) → a.alone ≡ true → IsOvertaken a b c spent → ⊥
-not_overtaken a b (Insert o) spent alone h = h
-not_overtaken a b (InsertNew o) spent alone h = h
-not_overtaken a b (Lookup k) spent alone h = h
-not_overtaken a b (Member k) spent alone h = h
-not_overtaken a b (Delete k) spent alone h = h
-not_overtaken a b (Take k) spent alone h = never_overtaken a b (code_of k) alone h.1
-not_overtaken a b (UpdateCounter k op) spent alone h = h
-not_overtaken a b (UpdateElement k op) spent alone h = h
-not_overtaken a b First spent alone h = h
-not_overtaken a b Last spent alone h = h
-not_overtaken a b (Next k) spent alone h = h
-not_overtaken a b (Prev k) spent alone h = h
-not_overtaken a b (Select s) spent alone h = h
-not_overtaken a b (SelectRange lo hi s) spent alone h = h
-not_overtaken a b (Batch s n) spent alone h = h
-not_overtaken a b More spent alone h = h
+not_overtaken : (a b : Known) (asks : Asking) (spent : Spent) → a.alone ≡ true → IsOvertaken a b asks spent → ⊥
+not_overtaken a b ReadsKey spent alone h = h
+not_overtaken a b (ReadsBy s) spent alone h = h
+not_overtaken a b ReadsMany spent alone h = h
+not_overtaken a b Edits spent alone h = h
+not_overtaken a b (EditsBy op) spent alone h = h
+not_overtaken a b (EditsRead k) spent alone h = never_overtaken a b (code_of k) alone h.1
+not_overtaken a b Puts spent alone h = h
 
 -- Each call is done.
 pub all_done : SureAndAloneIsDone
 all_done a b budget c (outcome.Done reply) sure alone h = tt
 all_done a b budget c (outcome.Busy spent) sure alone (inl h) = absurd (never_refused a b _ sure h.1)
-all_done a b budget c (outcome.Busy spent) sure alone (inr h) = absurd (not_overtaken a b c spent alone h)
+all_done a b budget c (outcome.Busy spent) sure alone (inr h) = absurd (not_overtaken a b (nature_of c).asks spent alone h)
 all_done a b budget c (outcome.Full cause) sure alone h = absurd (never_refused a b _ sure h.1)
 all_done a b budget c (outcome.Deep level) sure alone h = absurd (never_refused a b _ sure h.1)
 all_done a b budget c (outcome.Worn counter) sure alone h = absurd (never_refused a b _ sure h.1)

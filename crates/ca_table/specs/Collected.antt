@@ -12,6 +12,7 @@ use Rattle.ca_model.specs.Edges.{Bound, Unbounded, within}
 use Rattle.ca_model.specs.Event.{Range, IsAnswer}
 use Rattle.ca_model.specs.Known.{Known, Meets}
 use Rattle.ca_model.specs.Answer.{IsNeverDeep}
+use Rattle.ca_model.specs.declared.outcome.Outcome.{Outcome}
 use Rattle.ca_merge.specs.Carries.{Gives}
 use Rattle.ca_merge.specs.Stands.{Stands}
 use Rattle.ca_table.specs.Codes.{HasKeyCode}
@@ -59,6 +60,11 @@ is_full (Some limit) found = nat_le limit found
 abbrev pub wanted : Option ℕ → ℕ
 wanted None = 0
 wanted (Some limit) = if nat_le limit 4294967295 then limit else 0
+
+-- The store's call was made between these edges with so many results wanted: what the store promises of such a call holds.
+module _ {S : Type 0} (promised : S → Bound → Bound → ℕ → Outcome Bool → Type 0) where
+  abbrev pub WasAsked : Bound → Bound → ℕ → Type 0
+  WasAsked lo hi want = (behind : S) × (outcome : Outcome Bool) × promised behind lo hi want outcome
 
 -- No more than are wanted.
 abbrev pub AreUpTo : Option ℕ → ℕ → Type 0

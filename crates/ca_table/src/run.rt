@@ -3,7 +3,7 @@ ghost use Rattle.std.specs.Prelude.{◌≡◌, ◌≤◌, [], IfErr, IfOk, OnOk,
 ghost use Rattle.ca_order.specs.Languages.{IsTermCode};
 ghost use Rattle.ca_model.specs.Edges.{IsProperBound, bound_of};
 ghost use Rattle.ca_model.specs.Known.{StaysBesideRun};
-ghost use Rattle.ca_table.specs.Collected.{AddsObject, AreCollected, AreWithin, CountsOnly, IsOpenRun, IsStopped, is_full, left_of, wanted};
+ghost use Rattle.ca_table.specs.Collected.{AddsObject, AreCollected, AreWithin, CountsOnly, IsOpenRun, IsStopped, WasAsked, is_full, left_of, wanted};
 
 use crate::kept::Object;
 use crate::outcome::{Stop, done};
@@ -101,7 +101,8 @@ fn wanted(limit: Option<u64>) -> u32
     }
 }
 
-// The results of the objects within two edges at one state, as many as are wanted, or all. The run is closed on every way out.
+// The results of the objects within two edges at one state, as many as are wanted, or all. The store is asked for so many, or for all where 32 bits
+// don't hold their number. The run is closed on every way out.
 pub(crate) fn results_within<S: OrderedStore>(
     store: &mut S,
     alloc: Global,
@@ -119,6 +120,7 @@ pub(crate) fn results_within<S: OrderedStore>(
     ensures within { IfOk result (λ c.
         AreWithin (S.knows store.old) (S.knows store.new) (bound_of lo.entry) (bound_of hi.entry) spec.now limit c.results.items c.last) }
     ensures stopped { IfErr result (λ stop. IsStopped (S.knows store.old) (S.knows store.new) budget stop) }
+    ensures asked { WasAsked (S.promises.range budget store.old) (bound_of lo.entry) (bound_of hi.entry) (wanted limit) }
     ensures closed { (S.knows store.new).run ≡ None }
 {
     let counts = |code: &[u8]| -> bool

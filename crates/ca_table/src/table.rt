@@ -7,12 +7,13 @@ ghost use Rattle.ca_term.specs.Updates.{is_open};
 ghost use Rattle.ca_order.specs.Patches.{IsElementCode};
 ghost use Rattle.ca_ets.specs.declared.command.Cmd.TheVariants.{Insert, InsertNew, Lookup, Member, Delete, Take, UpdateCounter, UpdateElement, First, Last, Next, Prev, Select};
 ghost use Rattle.ca_ets.specs.Command.{IsContinuation, continuation_of};
+ghost use Rattle.ca_ets.specs.Nature.{EditsBy};
 ghost use Rattle.ca_model.specs.Known.{Known, Meets, Stays};
 ghost use Rattle.ca_model.specs.Edges.{bound_of, IsProperBound};
 ghost use Rattle.ca_model.specs.Event.{Write, WriteNew};
 ghost use Rattle.ca_model.specs.Answer.{FoundAbove, FoundBelow, Got, Removed, IsDone, IsNeverDeep};
 ghost use Rattle.ca_model.specs.StoreMap.{IsPair};
-ghost use Rattle.ca_ets.specs.Step.{fault_of_object};
+ghost use Rattle.ca_ets.specs.Step.{fault_of_object, nature_of};
 ghost use Rattle.ca_plan.specs.Plan.{shared_key};
 ghost use Rattle.ca_table.specs.Codes.{HasObjectCode};
 ghost use Rattle.ca_table.specs.Collected.{AreWithin, IsStopped};
@@ -81,8 +82,8 @@ impl<S: OrderedStore + Drop> Table<S> {
         ensures comes { ComesToFrom self.old self.new budget cmd.now (continuation_of cont.old) (continuation_of cont.new) result }
         ensures continuation { IsContinuation (continuation_of cont.new) }
         ensures stays { (s key : Tree) → cmd.now ≡ Select s → shared_key self.old.keypos s ≡ Some key → fits key ≡ false → Stays self.old self.new }
-        ensures read { IsEmptyUpdate self.old.keypos cmd.now → EditsNothing self.old self.new }
-        ensures done { IsEmptyUpdate self.old.keypos cmd.now → IfOk result (λ outcome. IsDone outcome) }
+        ensures read { IsEmptyUpdate self.old.keypos (nature_of cmd.now).asks → EditsNothing self.old self.new }
+        ensures done { IsEmptyUpdate self.old.keypos (nature_of cmd.now).asks → IfOk result (λ outcome. IsDone outcome) }
     {
         match cmd {
             Cmd::Insert(object) => self.insert(object, budget),
@@ -224,8 +225,8 @@ impl<S: OrderedStore + Drop> Table<S> {
     pub fn update_counter(&mut self, alloc: Global, key: &Term, op: &Term, budget: u32) -> Played
         requires { 1 ≤ budget }
         ensures comes { ComesTo self.old self.new budget (UpdateCounter key.now op.now) result }
-        ensures read { IsEmptyUpdate self.old.keypos (UpdateCounter key.now op.now) → EditsNothing self.old self.new }
-        ensures done { IsEmptyUpdate self.old.keypos (UpdateCounter key.now op.now) → IfOk result (λ outcome. IsDone outcome) }
+        ensures read { IsEmptyUpdate self.old.keypos (EditsBy op.now) → EditsNothing self.old self.new }
+        ensures done { IsEmptyUpdate self.old.keypos (EditsBy op.now) → IfOk result (λ outcome. IsDone outcome) }
         ensures lack { OnErr result (IsFilledList op.now) }
     {
         let keypos = self.keypos();

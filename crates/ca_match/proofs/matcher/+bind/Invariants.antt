@@ -2,7 +2,7 @@ use Rattle.std.proofs.Common.{◌≡◌, ◌+◌, ◌*◌, ◌≤◌}
 use Rattle.ca_term.specs.Tree.{nodes, row_nodes, row_of}
 use Rattle.ca_match.specs.Match.{bind, bind_row}
 use Rattle.ca_match.specs.MatcherView.{bindings_of}
-use Rattle.ca_match.proofs.Matching.{rows_from}
+use Rattle.ca_match.proofs.Heads.{rows_from}
 use Rattle.ca_match.proofs.matcher.+bind.Given as goal
 
 abbrev pub decreases-bind : goal.decreases-bind

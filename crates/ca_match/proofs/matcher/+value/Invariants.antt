@@ -1,7 +1,7 @@
 use Rattle.std.proofs.Common.{◌≡◌, ◌+◌, ◌*◌, ◌≤◌}
 use Rattle.ca_term.specs.Tree.{Cons, nodes, row_nodes, row_of}
 use Rattle.ca_match.specs.Match.{all_values, value, values}
-use Rattle.ca_match.proofs.Matching.{behind, values_from}
+use Rattle.ca_match.proofs.Gathered.{behind, values_from}
 use Rattle.ca_match.specs.MatcherView.{cells_of, scene_of}
 use Rattle.ca_match.proofs.matcher.+value.Given as goal
 

@@ -26,3 +26,12 @@ returns-in-Err-collected-clause-stopped g c =
     let o = range_opens _ _ a b (bound_of c.args.lo) (bound_of c.args.hi) c.wanted.result c.range.result c.done.result c.done.ensures
     c.in_default.not-Err c.range.ensures.opens in
     run_lacks _ _ a b (bound_of c.args.lo) (bound_of c.args.hi) c.wanted.result _ _ o.0 o.1 c.collect-collected.ensures.stays c.close_run.ensures.stays
+
+pub returns-in-Err-clause-asked : goal.returns-in-Err-clause-asked
+returns-in-Err-clause-asked g c = (c.range.new.self, c.range.result, rw c.wanted.ensures at c.range.ensures.promised)
+
+pub returns-in-Ok-clause-asked : goal.returns-in-Ok-clause-asked
+returns-in-Ok-clause-asked g c = (c.range.new.self, c.range.result, rw c.wanted.ensures at c.range.ensures.promised)
+
+pub returns-in-Err-collected-clause-asked : goal.returns-in-Err-collected-clause-asked
+returns-in-Err-collected-clause-asked g c = (c.range.new.self, c.range.result, rw c.wanted.ensures at c.range.ensures.promised)

@@ -12,7 +12,7 @@ use std::cmp::Ordering;
 
 /// Encodes the term of a code so many times, and answers how many bytes were written, modulo 2^64.
 #[unsafe(no_mangle)]
-pub extern "C" fn ca_speed_encode(alloc: Global, code: &[u8], rounds: u32) -> u64 {
+pub extern "C" fn ca_exports_encode(alloc: Global, code: &[u8], rounds: u32) -> u64 {
     let Ok(term) = decode(alloc, code) else {
         return 0;
     };
@@ -28,7 +28,7 @@ pub extern "C" fn ca_speed_encode(alloc: Global, code: &[u8], rounds: u32) -> u6
 
 /// Decodes a code so many times, and answers how many times it was a term's.
 #[unsafe(no_mangle)]
-pub extern "C" fn ca_speed_decode(alloc: Global, code: &[u8], rounds: u32) -> u64 {
+pub extern "C" fn ca_exports_decode(alloc: Global, code: &[u8], rounds: u32) -> u64 {
     let mut read = 0u64;
     for _ in 0..rounds {
         if decode(alloc, code).is_ok() {
@@ -41,7 +41,7 @@ pub extern "C" fn ca_speed_decode(alloc: Global, code: &[u8], rounds: u32) -> u6
 /// Compares each term of codes of `len` bytes each, one behind another, with the first one, so many times, and answers how
 /// many times it was greater, modulo 2^64.
 #[unsafe(no_mangle)]
-pub extern "C" fn ca_speed_compare(alloc: Global, codes: &[u8], len: usize, rounds: u32) -> u64
+pub extern "C" fn ca_exports_compare(alloc: Global, codes: &[u8], len: usize, rounds: u32) -> u64
     requires { 1 ≤ len }
 {
     let mut terms = Terms::new(alloc);
