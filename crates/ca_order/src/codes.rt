@@ -34,6 +34,7 @@ impl<'a> Part<'a> {
     ghost use Rattle.ca_order.specs.CodesView.{tree_of};
 
     /// A code by its bytes.
+    #[inline(always)]
     pub fn of(code: &'a [u8]) -> Part<'a>
         requires { IsTermCode code.now }
         ensures { (t : Tree) → IsTerm t → code.entry.now ≡ code_of t → tree_of result ≡ t }
@@ -55,6 +56,7 @@ impl<'a> Part<'a> {
     }
 
     /// Whether both are codes of equal terms: whether the bytes are equal.
+    #[inline(always)]
     pub fn same(self, other: Part<'_>) -> bool
         ensures { result ≡ is_eq (term_cmp (tree_of self.entry) (tree_of other.entry)) }
     {
@@ -62,6 +64,7 @@ impl<'a> Part<'a> {
     }
 
     /// How its term stands to the other one in the term order: as the bytes do.
+    #[inline(always)]
     pub fn order(self, other: Part<'_>) -> Ordering
         ensures { result ≡ term_cmp (tree_of self.entry) (tree_of other.entry) }
     {
@@ -75,6 +78,7 @@ impl<'a> Codes<'a> {
     ghost use Rattle.ca_order.specs.CodesView.{terms_of, tree_of};
 
     /// The one code.
+    #[inline(always)]
     pub fn of(part: Part<'a>) -> Codes<'a>
         ensures { terms_of result ≡ tree_of part.entry ∷ [] }
     {
@@ -82,6 +86,7 @@ impl<'a> Codes<'a> {
     }
 
     /// The first code, and the ones behind it. There has to be one.
+    #[inline(always)]
     pub fn split(self) -> (Part<'a>, Codes<'a>)
         requires { 1 ≤ length (terms_of self) }
         ensures { terms_of self.entry ≡ tree_of result.0 ∷ terms_of result.1 }
@@ -92,6 +97,7 @@ impl<'a> Codes<'a> {
     }
 
     /// Where the first term is a tuple, how many elements it has, and the codes with its elements in its place.
+    #[inline(always)]
     pub fn open_tuple(self) -> Option<(usize, Codes<'a>)>
         ensures { MatchOption result (HasNoTuple (terms_of self.entry)) (λ p. IsOpened (terms_of self.entry) p.0 (terms_of p.1)) }
     {
@@ -104,6 +110,7 @@ impl<'a> Codes<'a> {
     }
 
     /// Where the first term is a list cell, the codes with its head and its tail in its place.
+    #[inline(always)]
     pub fn open_cell(self) -> Option<Codes<'a>>
         ensures { MatchOption result (HasNoCell (terms_of self.entry)) (λ inside. IsOpenedCell (terms_of self.entry) (terms_of inside)) }
     {
@@ -115,6 +122,7 @@ impl<'a> Codes<'a> {
     }
 
     /// The codes behind the first one, where that is this code.
+    #[inline(always)]
     pub fn behind(self, part: Part<'_>) -> Option<Codes<'a>>
         ensures { MatchOption result (BeginsOtherwise (tree_of part.entry) (terms_of self.entry)) (λ rest. terms_of self.entry ≡ tree_of part.entry ∷ terms_of rest) }
     {
