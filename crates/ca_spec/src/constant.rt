@@ -36,6 +36,7 @@ impl Constant {
         ensures { IfOk result (λ constant. constant ≡ term.now) }
     {
         let copy = try_copy(alloc, term)?;
+        let _kind = copy.kind();
         let mut room = Code::new();
         let code = match encode(term, &mut room) {
             Ok(()) => Some(room.as_slice().to_vec(alloc)?),
@@ -52,10 +53,10 @@ impl Constant {
     }
 
     // Its code.
+    #[inline(always)]
     pub(crate) fn part(&self) -> Option<Part<'_>>
         ensures { IfSome result (λ part. tree_of part ≡ self.now) }
     {
-        let _kind = self.term.kind();
         match &self.code {
             Some(code) => Some(Part::of(code.as_slice())),
             None => None,

@@ -12,6 +12,7 @@ use ca_order::{Codes, Part};
 
 // Whether a head fits an object; then its variables are bound in the table. The elements behind the last one that isn't '_' are not looked at.
 #[tactic(auto, using(crate::proofs::CodeBinding::object_fits))]
+#[inline(always)]
 pub(crate) fn fit_object<'a>(
     head: &Pattern,
     object: Part<'a>,
@@ -38,6 +39,7 @@ pub(crate) fn fit_object<'a>(
 
 // The parts up to the last one that isn't '_'.
 #[tactic(auto, using(crate::proofs::CodeBinding::asked_parts))]
+#[inline(always)]
 fn asked(parts: &[Pattern]) -> &[Pattern]
     ensures { IsAsked parts.now result.now }
 {
@@ -82,6 +84,7 @@ fn fit<'a>(pattern: &Pattern, codes: &mut Codes<'a>, table: &mut [Option<Part<'a
 
 // A variable is bound at its first place, and meets the same code at a later one.
 #[tactic(auto, using(crate::proofs::PartTables::variable_new, crate::proofs::PartTables::variable_old))]
+#[inline(always)]
 fn fit_variable<'a>(number: usize, codes: &mut Codes<'a>, table: &mut [Option<Part<'a>>]) -> bool
     requires some { 1 ≤ length (terms_of codes.old) }
     requires room { number < length table.old }
@@ -101,6 +104,7 @@ fn fit_variable<'a>(number: usize, codes: &mut Codes<'a>, table: &mut [Option<Pa
 }
 
 // A constant fits its own code.
+#[inline(always)]
 fn fit_equal(constant: &Constant, codes: &mut Codes<'_>) -> Option<bool>
     requires { 1 ≤ length (terms_of codes.old) }
     ensures told { (b : Bindings) → IfSome result (λ fits. where_equal b constant.now (first (terms_of codes.old)) ≡ (if fits then Some b else None)) }

@@ -10,10 +10,10 @@ ghost use Rattle.ca_spec.specs.QuickView.{IsTold};
 
 use crate::clause::Clause;
 use crate::quick::{Quick, quick_result};
-use crate::results::{FEW, result_of_clause};
+use crate::results::result_of_clause;
 use crate::spec::Spec;
 use ca_order::Part;
-use ca_term::Term;
+use ca_term::{Term, try_copy};
 use std::alloc::{AllocError, Global};
 
 /// What `apply` makes of the object whose code this is. An object is decoded only where its head may fit and more must be known of a clause than
@@ -54,23 +54,39 @@ fn result_of_part<'a>(
     match told(clause, object) {
         Quick::None => Ok(None),
         Quick::Part(part) => Ok(Some(part.term(alloc)?)),
+        Quick::Term(term) => match try_copy(alloc, term) {
+            Ok(copy) => Ok(Some(copy)),
+            Err(_) => Err(AllocError),
+        },
         Quick::Unknown => decoded_result(alloc, clause, object),
     }
 }
+
+// With so many places the table of most clauses is made in a few stores.
+const FEWER: usize = 4;
 
 // What the code tells of a clause's result, with a table for the clause's variables.
 fn told<'a>(clause: &'a Clause, object: Part<'a>) -> Quick<'a>
     ensures { IsTold result (clause_result (tree_of_clause clause.entry.now) (tree_of object.entry)) }
 {
-    if clause.places <= FEW {
-        let mut table: [Option<Part<'a>>; FEW] = [None; FEW];
+    if clause.places <= FEWER {
+        let mut table: [Option<Part<'a>>; FEWER] = [None; FEWER];
         return quick_result(clause, object, &mut table);
     }
+    told_of_many(clause, object)
+}
+
+// The same with a table for as many variables as there are. It stands apart, so that no room is kept for it where there are few.
+#[inline(never)]
+fn told_of_many<'a>(clause: &'a Clause, object: Part<'a>) -> Quick<'a>
+    ensures { IsTold result (clause_result (tree_of_clause clause.entry.now) (tree_of object.entry)) }
+{
     let mut table: [Option<Part<'a>>; 100] = [None; 100];
     quick_result(clause, object, &mut table)
 }
 
 // The result of a clause where it holds, by the object as a term.
+#[inline(never)]
 fn decoded_result(
     alloc: Global,
     clause: &Clause,
