@@ -1,5 +1,5 @@
 //! Codes of terms that stand one after the other, as in an object's code, read without decoding them.
-ghost use Rattle.std.specs.Prelude.{◌≡◌};
+ghost use Rattle.std.specs.Prelude.{◌≡◌, ◌++◌, ℕ, List, MatchOption};
 ghost use Rattle.ca_order.specs.Languages.{IsTermCode};
 ghost use Rattle.ca_order.specs.Codes.{AreCodes, AreCodes-prop, IsTermCode-prop};
 
@@ -23,6 +23,25 @@ pub struct Part<'a> {
 pub struct Codes<'a> {
     pub(crate) bytes: &'a [u8],
     pub ghost terms: { AreCodes bytes.now } by { AreCodes-prop bytes.now },
+}
+
+// The bytes behind these, where they are at the front. It goes byte by byte: most constants are short.
+#[inline(always)]
+#[tactic(auto, using(crate::proofs::Fronts::fronts))]
+fn behind_bytes<'a>(bytes: &'a [u8], front: &[u8]) -> Option<&'a [u8]>
+    ensures { MatchOption result ((rest : List ℕ) → bytes.now ≡ front.now ++ rest → ⊥) (λ rest. bytes.now ≡ front.now ++ rest.now) }
+{
+    let mut rest = bytes;
+    let mut wanted = front;
+    while let Some((first, more)) = wanted.split_first() {
+        let (byte, behind) = rest.split_first()?;
+        if byte != first {
+            return None;
+        }
+        rest = behind;
+        wanted = more;
+    }
+    Some(rest)
 }
 
 impl<'a> Part<'a> {
@@ -126,7 +145,7 @@ impl<'a> Codes<'a> {
     pub fn behind(self, part: Part<'_>) -> Option<Codes<'a>>
         ensures { MatchOption result (BeginsOtherwise (tree_of part.entry) (terms_of self.entry)) (λ rest. terms_of self.entry ≡ tree_of part.entry ∷ terms_of rest) }
     {
-        let rest = self.bytes.strip_prefix(part.bytes)?;
+        let rest = behind_bytes(self.bytes, part.bytes)?;
         Some(Codes { bytes: rest })
     }
 }

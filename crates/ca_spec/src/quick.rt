@@ -210,11 +210,7 @@ pub(crate) fn quick_result<'a>(
 // What is told of a body's value.
 #[inline(always)]
 #[tactic(auto, using(crate::proofs::Values::expression_values))]
-fn told_value<'a>(
-    body: &'a Expression,
-    object: Part<'a>,
-    table: &[Option<Part<'a>>],
-) -> Quick<'a>
+fn told_value<'a>(body: &'a Expression, object: Part<'a>, table: &[Option<Part<'a>>]) -> Quick<'a>
     ensures { IsTold result (value (scene_in object.entry table.now) body.now) }
 {
     match &body.form {
