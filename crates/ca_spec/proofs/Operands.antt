@@ -1,6 +1,6 @@
 -- Values that are parts of a code, and comparisons of them.
 use Rattle.std.proofs.Common.{◌≡◌, ◌≢◌, Bool, true, false, [], ◌∷◌, Option, Some, None, refl, ap, sym, ◌∙◌}
-use Rattle.std.specs.Prelude.{IfSome, not, option_and_then, option_map}
+use Rattle.std.specs.Prelude.{IfSome, MatchOption, not, option_and_then, option_map}
 use Rattle.ca_term.specs.Tree.{Tree, Atom, Tuple, Ends, More}
 use Rattle.ca_match.specs.Match.{Scene, is_truth, value}
 use Rattle.ca_match.specs.declared.operator.Operator.{Operator as Code}
@@ -11,9 +11,10 @@ use Rattle.ca_order.specs.CodesView.{tree_of}
 use Rattle.ca_spec.proofs.Values.{short_second, short_stop, two_value}
 
 -- A part with a constant's code is a value of the constant.
-pub part_value : (r : Option Part) (t : Tree) (v : Option Tree) → IfSome r (λ part. tree_of part ≡ t) → Some t ≡ v → IfSome r (λ part. Some (tree_of part) ≡ v)
-part_value None t v h e = tt
-part_value (Some part) t v h e = ap (λ (x : Tree). Some x) h ∙ e
+pub part_value : (P : Type 0) (r : Option Part) (t : Tree) (v : Option Tree) → MatchOption r P (λ part. tree_of part ≡ t) → Some t ≡ v
+    → IfSome r (λ part. Some (tree_of part) ≡ v)
+part_value P None t v h e = tt
+part_value P (Some part) t v h e = ap (λ (x : Tree). Some x) h ∙ e
 
 truth_back : (b : Bool) → Some b ≡ truth_of (truth b)
 truth_back true = refl

@@ -28,7 +28,8 @@ impl Model for Constant {
 }
 
 impl Constant {
-    ghost use Rattle.std.specs.Prelude.{◌≡◌, IfOk, IfErr, IfSome};
+    ghost use Rattle.std.specs.Prelude.{◌≡◌, false, IfOk, IfErr, MatchOption};
+    ghost use Rattle.ca_term.specs.Object.{fits};
     ghost use Rattle.ca_order.specs.CodesView.{tree_of};
 
     // This term.
@@ -55,7 +56,7 @@ impl Constant {
     // Its code.
     #[inline(always)]
     pub(crate) fn part(&self) -> Option<Part<'_>>
-        ensures { IfSome result (λ part. tree_of part ≡ self.now) }
+        ensures { MatchOption result (fits self.now ≡ false) (λ part. tree_of part ≡ self.now) }
     {
         match &self.code {
             Some(code) => Some(Part::of(code.as_slice())),

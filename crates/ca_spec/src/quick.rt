@@ -9,6 +9,7 @@ ghost use Rattle.ca_spec.specs.ClauseView.{tree_of_clause};
 ghost use Rattle.ca_spec.specs.PartBound.{part_at, parts_of, scene_in};
 ghost use Rattle.ca_spec.specs.Places.{places};
 ghost use Rattle.ca_spec.specs.QuickView.{IsTold};
+ghost use Rattle.ca_spec.specs.Reached.{IsReached};
 
 use crate::clause::Clause;
 use crate::expression::{Expression, Form};
@@ -184,7 +185,7 @@ pub(crate) enum Quick<'a> {
 }
 
 // What is told of a clause's result by the object's code, with this table, which is empty.
-#[tactic(auto, using(crate::proofs::QuickResults::quick_results))]
+#[tactic(auto, using(crate::proofs::QuickResults::quick_results, crate::proofs::Reaching::reached))]
 pub(crate) fn quick_result<'a>(
     clause: &'a Clause,
     object: Part<'a>,
@@ -192,7 +193,8 @@ pub(crate) fn quick_result<'a>(
 ) -> Quick<'a>
     requires room { places clause.now.head ≤ length table.old }
     requires none { parts_of table.old ≡ no_bindings }
-    ensures { IsTold result (clause_result (tree_of_clause clause.entry.now) (tree_of object.entry)) }
+    ensures told { IsTold result (clause_result (tree_of_clause clause.entry.now) (tree_of object.entry)) }
+    ensures reached { IsReached result clause.entry.now.head (tree_of object.entry) }
 {
     match fit_object(&clause.head, object, table) {
         Some(true) => {}
