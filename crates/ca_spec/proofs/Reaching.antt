@@ -1,9 +1,9 @@
 -- Where memory may be taken.
 use Rattle.std.proofs.Common.{◌≡◌, ◌≢◌, ◌≤◌, ◌<◌, ◌+◌, ℕ, zero, suc, Bool, true, false, List, [], ◌∷◌, ◌++◌, length, drop, get_or, map, Option, Some, None, Result, Ok, Err, ap, sym, ◌∙◌, subst, arith, inl, inr}
-use Rattle.std.specs.Prelude.{IsSome, OnErr}
+use Rattle.std.specs.Prelude.{IsSome, OnErr, option_and_then}
 use Rattle.ca_term.specs.Object.{fits}
 use Rattle.ca_term.specs.Tree.{Tree, Row, Integer, Atom, Tuple, Nil, Cons, Binary, list_of, row_of}
-use Rattle.ca_match.specs.Match.{Bindings, bind, no_bindings}
+use Rattle.ca_match.specs.Match.{Bindings, bind, clause_result, fitted, no_bindings}
 use Rattle.ca_spec.specs.ClauseView.{tree_of_clause}
 use Rattle.ca_spec.specs.PartBound.{IsAsked}
 use Rattle.ca_spec.specs.PatternView.{fits_equal}
@@ -51,6 +51,14 @@ fits_some head object b c e f = λ s n. let no : Some c ≡ None = sym f ∙ ap 
 pub not_told : (head object : Tree) (r : Option Bool) → (AreShort head → IsSome r) → None ≡ r → MayFit head object
 not_told head object None h e = λ s n. let no : false ≡ true = h s in cc
 not_told head object (Some b) h e = cc
+
+then_some : (f : Bindings → Option Tree) (o : Option Bindings) (v : Tree) → Some v ≡ option_and_then f o → o ≢ None
+then_some f None v e n = cc
+then_some f (Some b) v e n = cc
+
+-- The head of a clause that has a result fits.
+pub result_fits : (clause : Clause) (object v : Tree) → Some v ≡ clause_result (tree_of_clause clause) object → HeadMayFit (tree_of_clause clause) object
+result_fits clause object v e = λ s. then_some _ (fitted clause.head object) v e
 
 -- The clause at a place is one of them.
 pub some_clause : (clauses : List Clause) (object : Tree) (k : ℕ) (d : Clause) → k < length clauses
