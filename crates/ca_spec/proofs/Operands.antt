@@ -1,14 +1,12 @@
 -- Values that are parts of a code, and comparisons of them.
 use Rattle.std.proofs.Common.{◌≡◌, ◌≢◌, Bool, true, false, [], ◌∷◌, Option, Some, None, refl, ap, sym, ◌∙◌}
 use Rattle.std.specs.Prelude.{IfSome, MatchOption, not, option_and_then, option_map}
-use Rattle.ca_term.specs.Tree.{Tree, Atom, Tuple, Ends, More}
-use Rattle.ca_match.specs.Match.{Scene, is_truth, value}
-use Rattle.ca_match.specs.declared.operator.Operator.{Operator as Code}
-use Rattle.ca_match.specs.OperatorView.{meaning_of, name_of}
+use Rattle.ca_term.specs.Tree.{Tree}
+use Rattle.ca_match.specs.Match.{is_truth}
 use Rattle.ca_match.specs.Operators.{One, Short, applied, negation, truth, truth_of}
 use Rattle.ca_order.specs.declared.codes.Part.{Part}
 use Rattle.ca_order.specs.CodesView.{tree_of}
-use Rattle.ca_spec.proofs.Values.{short_second, short_stop, two_value}
+use Rattle.ca_spec.proofs.Values.{short_second, short_stop}
 
 -- A part with a constant's code is a value of the constant.
 pub part_value : (P : Type 0) (r : Option Part) (t : Tree) (v : Option Tree) → MatchOption r P (λ part. tree_of part ≡ t) → Some t ≡ v

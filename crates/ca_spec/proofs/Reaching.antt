@@ -1,8 +1,8 @@
 -- Where memory may be taken.
-use Rattle.std.proofs.Common.{◌≡◌, ◌≢◌, ◌≤◌, ◌<◌, ◌+◌, ℕ, zero, suc, Bool, true, false, List, [], ◌∷◌, ◌++◌, length, drop, get_or, map, Option, Some, None, Result, Ok, Err, ap, sym, ◌∙◌, subst, arith, inl, inr}
+use Rattle.std.proofs.Common.{◌≡◌, ◌≢◌, ◌<◌, ℕ, zero, suc, Bool, true, false, List, [], ◌∷◌, ◌++◌, length, get_or, map, Option, Some, None, Result, Ok, Err, ap, sym, ◌∙◌, subst, arith, inl, inr}
 use Rattle.std.specs.Prelude.{IsSome, OnErr, option_and_then}
 use Rattle.ca_term.specs.Object.{fits}
-use Rattle.ca_term.specs.Tree.{Tree, Row, Integer, Atom, Tuple, Nil, Cons, Binary, list_of, row_of}
+use Rattle.ca_term.specs.Tree.{Tree, Integer, Atom, Tuple, Nil, Cons, Binary, list_of, row_of}
 use Rattle.ca_match.specs.Match.{Bindings, bind, clause_result, fitted, no_bindings}
 use Rattle.ca_spec.specs.ClauseView.{tree_of_clause}
 use Rattle.ca_spec.specs.PartBound.{IsAsked}
