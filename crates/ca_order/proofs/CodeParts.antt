@@ -1,13 +1,12 @@
 -- The terms of codes that stand one after the other.
-use Rattle.std.proofs.Common.{◌≡◌, ℕ, ◌≤◌, ◌-◌, true, false, nat_eq, List, [], ◌∷◌, ◌++◌, length, take, drop, refl, sym, ◌∙◌, ap, arith, append_assoc, append-nil, length-append}
+use Rattle.std.proofs.Common.{◌≡◌, ℕ, ◌≤◌, ◌-◌, nat_eq, List, [], ◌∷◌, ◌++◌, length, take, refl, sym, ◌∙◌, ap, arith, append_assoc, append-nil, length-append}
 use Rattle.std.proofs.lemmas.Map.Text.{is_eq-slice_cmp}
 use Rattle.std.proofs.Math.Seq.{take-append_seam}
-use Rattle.std.proofs.lemmas.List.{take-append-drop}
 use Rattle.std.specs.Prelude.{Bool}
 use Rattle.std.specs.declared.cmp.Ordering.{Ordering}
 use Rattle.std.specs.Ordering.{is_eq, nat_cmp}
 use Rattle.std.specs.Cmp.Lexicographic.{slice_cmp}
-use lib.Pointwise.{pointwise, bytes_decides}
+use lib.Pointwise.{pointwise}
 use Rattle.ca_term.specs.declared.bounds.TheConstants.{MOST_ELEMENTS}
 use Rattle.ca_term.specs.Tree.{Tree, Row, Tuple, Cons, Ends, More, IsTerm, AreTerms, IsNarrowRow, row_depth, elements, row_of, size}
 use Rattle.ca_term.specs.Code.{code_of, row_code, four_bytes}
@@ -292,17 +291,11 @@ module _ (inside : List ℕ) (terms : List Tree) (o : CellFront inside terms) wh
 
 -- ---- a code in front
 
-front_drop : (xs ys zs : List ℕ) → pointwise nat_eq (take (length ys) xs) ys ≡ true → zs ≡ drop (length ys) xs → xs ≡ ys ++ zs
-front_drop xs ys zs e f =
-    sym (take-append-drop (length ys) xs) ∙ ap (λ (x : List ℕ). x ++ drop (length ys) xs) ((bytes_decides (take (length ys) xs) ys).0 e)
-    ∙ ap (λ (x : List ℕ). ys ++ x) (sym f)
-
-module _ (bytes code rest : List ℕ) (a : AreCodes bytes) (p : IsTermCode code) (e : pointwise nat_eq (take (length code) bytes) code ≡ true)
-    (f : rest ≡ drop (length code) bytes) where
+module _ (bytes code rest : List ℕ) (a : AreCodes bytes) (p : IsTermCode code) (e : bytes ≡ code ++ rest) where
   in_front : (h : Halves bytes a.0) → (p.0 ≡ h.first) × (rest ≡ row_code (row_of h.others))
   in_front h =
       same_code p.0 h.first rest (row_code (row_of h.others)) p.1.narrow h.bounded.narrow
-      (ap (λ (x : List ℕ). x ++ rest) (sym p.2) ∙ sym (front_drop bytes code rest e f) ∙ h.parts)
+      (ap (λ (x : List ℕ). x ++ rest) (sym p.2) ∙ sym e ∙ h.parts)
 
   some : 1 ≤ length a.0
   some = by a.0 a.2
@@ -310,7 +303,7 @@ module _ (bytes code rest : List ℕ) (a : AreCodes bytes) (p : IsTermCode code)
       by : (ts : List Tree) → bytes ≡ row_code (row_of ts) → 1 ≤ length ts
       by [] g =
           let q = begun p.0 in
-          let no : code ++ rest ≡ [] = sym (front_drop bytes code rest e f) ∙ g ∙ sym none in
+          let no : code ++ rest ≡ [] = sym e ∙ g ∙ sym none in
           absurd (omega (arith, ap length no, length-append code rest, ap length p.2, ap length q.2))
       by (t ∷ ts) g = omega arith
 
@@ -326,12 +319,10 @@ module _ (bytes code rest : List ℕ) (a : AreCodes bytes) (p : IsTermCode code)
       ∙ ap (λ (x : List Tree). t ∷ x) (sym (terms_are rest b h.others h.rest (in_front h).1))
 
 -- Where a code doesn't stand in front, the first term is another one.
-pub not_in_front : (bytes code : List ℕ) (a : AreCodes bytes) → pointwise nat_eq (take (length code) bytes) code ≡ false
+pub not_in_front : (bytes code : List ℕ) (a : AreCodes bytes) → ((rest : List ℕ) → bytes ≡ code ++ rest → ⊥)
     → (t : Tree) → IsTerm t → code ≡ code_of t → BeginsOtherwise t a.0
 unfolding row_code
 not_in_front bytes code a e t h c others f =
     let g : bytes ≡ code ++ row_code (row_of others) =
     a.2 ∙ ap (λ (x : List Tree). row_code (row_of x)) f ∙ ap (λ (x : List ℕ). x ++ row_code (row_of others)) (sym c) in
-    let k : take (length code) bytes ≡ code = ap (take (length code)) g ∙ take-append_seam code (row_code (row_of others)) in
-    let no : true ≡ false = sym ((bytes_decides (take (length code) bytes) code).1 k) ∙ e in
-    cc
+    e (row_code (row_of others)) g

@@ -4,6 +4,7 @@ pub mod Counted
 pub mod Cuts
 pub mod Finished
 pub mod FirstZero
+pub mod Fronts
 pub mod Integers
 pub mod Items
 pub mod KeyPlaces

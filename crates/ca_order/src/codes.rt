@@ -1,5 +1,5 @@
 //! Codes of terms that stand one after the other, as in an object's code, read without decoding them.
-ghost use Rattle.std.specs.Prelude.{◌≡◌};
+ghost use Rattle.std.specs.Prelude.{◌≡◌, ◌++◌, ℕ, List, MatchOption};
 ghost use Rattle.ca_order.specs.Languages.{IsTermCode};
 ghost use Rattle.ca_order.specs.Codes.{AreCodes, AreCodes-prop, IsTermCode-prop};
 
@@ -25,6 +25,25 @@ pub struct Codes<'a> {
     pub ghost terms: { AreCodes bytes.now } by { AreCodes-prop bytes.now },
 }
 
+// The bytes behind these, where they are at the front. It goes byte by byte: most constants are short.
+#[inline(always)]
+#[tactic(auto, using(crate::proofs::Fronts::fronts))]
+fn behind_bytes<'a>(bytes: &'a [u8], front: &[u8]) -> Option<&'a [u8]>
+    ensures { MatchOption result ((rest : List ℕ) → bytes.now ≡ front.now ++ rest → ⊥) (λ rest. bytes.now ≡ front.now ++ rest.now) }
+{
+    let mut rest = bytes;
+    let mut wanted = front;
+    while let Some((first, more)) = wanted.split_first() {
+        let (byte, behind) = rest.split_first()?;
+        if byte != first {
+            return None;
+        }
+        rest = behind;
+        wanted = more;
+    }
+    Some(rest)
+}
+
 impl<'a> Part<'a> {
     ghost use Rattle.std.specs.Prelude.{◌≡◌, IfOk};
     ghost use Rattle.std.specs.Ordering.{is_eq};
@@ -34,6 +53,7 @@ impl<'a> Part<'a> {
     ghost use Rattle.ca_order.specs.CodesView.{tree_of};
 
     /// A code by its bytes.
+    #[inline(always)]
     pub fn of(code: &'a [u8]) -> Part<'a>
         requires { IsTermCode code.now }
         ensures { (t : Tree) → IsTerm t → code.entry.now ≡ code_of t → tree_of result ≡ t }
@@ -55,6 +75,7 @@ impl<'a> Part<'a> {
     }
 
     /// Whether both are codes of equal terms: whether the bytes are equal.
+    #[inline(always)]
     pub fn same(self, other: Part<'_>) -> bool
         ensures { result ≡ is_eq (term_cmp (tree_of self.entry) (tree_of other.entry)) }
     {
@@ -62,6 +83,7 @@ impl<'a> Part<'a> {
     }
 
     /// How its term stands to the other one in the term order: as the bytes do.
+    #[inline(always)]
     pub fn order(self, other: Part<'_>) -> Ordering
         ensures { result ≡ term_cmp (tree_of self.entry) (tree_of other.entry) }
     {
@@ -75,6 +97,7 @@ impl<'a> Codes<'a> {
     ghost use Rattle.ca_order.specs.CodesView.{terms_of, tree_of};
 
     /// The one code.
+    #[inline(always)]
     pub fn of(part: Part<'a>) -> Codes<'a>
         ensures { terms_of result ≡ tree_of part.entry ∷ [] }
     {
@@ -82,6 +105,7 @@ impl<'a> Codes<'a> {
     }
 
     /// The first code, and the ones behind it. There has to be one.
+    #[inline(always)]
     pub fn split(self) -> (Part<'a>, Codes<'a>)
         requires { 1 ≤ length (terms_of self) }
         ensures { terms_of self.entry ≡ tree_of result.0 ∷ terms_of result.1 }
@@ -92,6 +116,7 @@ impl<'a> Codes<'a> {
     }
 
     /// Where the first term is a tuple, how many elements it has, and the codes with its elements in its place.
+    #[inline(always)]
     pub fn open_tuple(self) -> Option<(usize, Codes<'a>)>
         ensures { MatchOption result (HasNoTuple (terms_of self.entry)) (λ p. IsOpened (terms_of self.entry) p.0 (terms_of p.1)) }
     {
@@ -104,6 +129,7 @@ impl<'a> Codes<'a> {
     }
 
     /// Where the first term is a list cell, the codes with its head and its tail in its place.
+    #[inline(always)]
     pub fn open_cell(self) -> Option<Codes<'a>>
         ensures { MatchOption result (HasNoCell (terms_of self.entry)) (λ inside. IsOpenedCell (terms_of self.entry) (terms_of inside)) }
     {
@@ -115,10 +141,11 @@ impl<'a> Codes<'a> {
     }
 
     /// The codes behind the first one, where that is this code.
+    #[inline(always)]
     pub fn behind(self, part: Part<'_>) -> Option<Codes<'a>>
         ensures { MatchOption result (BeginsOtherwise (tree_of part.entry) (terms_of self.entry)) (λ rest. terms_of self.entry ≡ tree_of part.entry ∷ terms_of rest) }
     {
-        let rest = self.bytes.strip_prefix(part.bytes)?;
+        let rest = behind_bytes(self.bytes, part.bytes)?;
         Some(Codes { bytes: rest })
     }
 }

@@ -55,6 +55,7 @@ pub(crate) fn skip(bytes: &[u8], count: usize) -> &[u8]
 }
 
 // How many codes stand inside the code that these bytes begin with, and the bytes that begin with them.
+#[inline(always)]
 fn skip_tag(bytes: &[u8]) -> (usize, &[u8])
     requires { (n : ℕ) × (end : List ℕ) × HasCodes (n + 1) bytes.now end }
     ensures codes { (n : ℕ) (end : List ℕ) → HasCodes (n + 1) bytes.now end → HasCodes (n + result.0) result.1.now end }
@@ -76,6 +77,7 @@ fn skip_tag(bytes: &[u8]) -> (usize, &[u8])
 }
 
 // The bytes behind so many.
+#[inline(always)]
 fn behind(bytes: &[u8], len: u8) -> &[u8]
     requires { len ≤ length bytes.now }
     ensures rest { (xs ys : List ℕ) → length xs ≡ len → bytes.now ≡ xs ++ ys → result.now ≡ ys }
@@ -85,6 +87,7 @@ fn behind(bytes: &[u8], len: u8) -> &[u8]
 }
 
 // The number in the first four bytes, and the bytes behind them.
+#[inline(always)]
 pub(crate) fn split_size(bytes: &[u8]) -> (usize, &[u8])
     requires { (n : ℕ) × (rest : List ℕ) × (n ≤ MOST_ELEMENTS) × (bytes.now ≡ four_bytes n ++ rest) }
     ensures size { (n : ℕ) (rest : List ℕ) → n ≤ MOST_ELEMENTS → bytes.now ≡ four_bytes n ++ rest → (result.0 ≡ n) × (result.1.now ≡ rest) }
@@ -95,6 +98,7 @@ pub(crate) fn split_size(bytes: &[u8]) -> (usize, &[u8])
 }
 
 // The bytes behind escaped ones and their end.
+#[inline(always)]
 fn skip_escaped(bytes: &[u8]) -> &[u8]
     requires { (inside : List ℕ) × (end : List ℕ) × (bytes.now ≡ escaped inside ++ end) }
     ensures rest { (inside end : List ℕ) → bytes.now ≡ escaped inside ++ end → result.now ≡ end }

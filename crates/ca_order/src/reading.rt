@@ -17,7 +17,8 @@ use std::alloc::Global;
 
 /// The term whose byte code these bytes are.
 ///
-/// It takes memory only for what it has read, and no input makes it nest deeper than `MOST_DEPTH` calls of itself.
+/// It takes memory only for what it has read, but room for the elements of a tuple at once, no more than bytes are left; and no input makes it
+/// nest deeper than `MOST_DEPTH` calls of itself.
 pub fn decode(alloc: Global, code: &[u8]) -> Result<Term, DecodeFault>
     ensures ok { IfOk result (λ t. code.now ≡ code_of t) }
     ensures refused { (IsTermCode code.now → ⊥) → IsErr result }
@@ -41,10 +42,23 @@ pub fn decode(alloc: Global, code: &[u8]) -> Result<Term, DecodeFault>
 }
 
 // The term whose code these bytes begin with, of at most so many levels, and the bytes behind it.
-//
-// It goes along a list's tail in a loop: a list may be longer than the stack is deep.
 #[cycle(read)]
 fn read_term(alloc: Global, bytes: &[u8], levels: u8) -> Result<(Term, &[u8]), ReadFault>
+    requires least { 1 ≤ levels }
+    requires most { levels ≤ MOST_DEPTH }
+    ensures { MatchResult result (λ p. BeginsWithTerm levels bytes.now p.0 p.1.now) (λ e. IsReadFault (HasTerm levels) bytes.now e) }
+{
+    let None = inside_cell(bytes, levels) else {
+        return read_list(alloc, bytes, levels);
+    };
+    read_last(alloc, bytes, levels)
+}
+
+// The list whose code these bytes begin with, of at most so many levels, and the bytes behind it.
+//
+// It goes along the tail in a loop: a list may be longer than the stack is deep.
+#[cycle(read)]
+fn read_list(alloc: Global, bytes: &[u8], levels: u8) -> Result<(Term, &[u8]), ReadFault>
     requires least { 1 ≤ levels }
     requires most { levels ≤ MOST_DEPTH }
     ensures { MatchResult result (λ p. BeginsWithTerm levels bytes.now p.0 p.1.now) (λ e. IsReadFault (HasTerm levels) bytes.now e) }
@@ -162,6 +176,8 @@ fn read_items(
     ensures { MatchResult result (λ p. BeginsWithRow levels count bytes.now p.0.items p.1.now) (λ e. IsReadFault (HasRow levels count) bytes.now e) }
 {
     let mut items = Terms::new(alloc);
+    // An element has one byte at least.
+    items.reserve(count.min(bytes.len()))?;
     let mut rest = bytes;
     for _ in 0..count {
         let (item, behind) = read_term(alloc, rest, levels)?;

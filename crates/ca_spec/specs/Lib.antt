@@ -11,5 +11,6 @@ pub mod Places
 pub mod PatternFalls
 pub mod PatternView
 pub mod QuickView
+pub mod Reached
 pub mod ScopeView
 pub mod SpecView

@@ -8,4 +8,5 @@ use Rattle.ca_spec.specs.declared.quick.Quick.TheVariants as quick
 abbrev pub IsTold : Quick → Option Tree → Type 0
 IsTold quick.None result = result ≡ None
 IsTold (quick.Part part) result = result ≡ Some (tree_of part)
+IsTold (quick.Term term) result = result ≡ Some term.now
 IsTold quick.Unknown result = Unit {0}

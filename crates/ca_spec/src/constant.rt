@@ -28,7 +28,8 @@ impl Model for Constant {
 }
 
 impl Constant {
-    ghost use Rattle.std.specs.Prelude.{◌≡◌, IfOk, IfErr, IfSome};
+    ghost use Rattle.std.specs.Prelude.{◌≡◌, false, IfOk, IfErr, MatchOption};
+    ghost use Rattle.ca_term.specs.Object.{fits};
     ghost use Rattle.ca_order.specs.CodesView.{tree_of};
 
     // This term.
@@ -36,6 +37,7 @@ impl Constant {
         ensures { IfOk result (λ constant. constant ≡ term.now) }
     {
         let copy = try_copy(alloc, term)?;
+        let _kind = copy.kind();
         let mut room = Code::new();
         let code = match encode(term, &mut room) {
             Ok(()) => Some(room.as_slice().to_vec(alloc)?),
@@ -52,10 +54,10 @@ impl Constant {
     }
 
     // Its code.
+    #[inline(always)]
     pub(crate) fn part(&self) -> Option<Part<'_>>
-        ensures { IfSome result (λ part. tree_of part ≡ self.now) }
+        ensures { MatchOption result (fits self.now ≡ false) (λ part. tree_of part ≡ self.now) }
     {
-        let _kind = self.term.kind();
         match &self.code {
             Some(code) => Some(Part::of(code.as_slice())),
             None => None,

@@ -1,10 +1,12 @@
 //! Heads against objects' codes, of which nothing is decoded.
-ghost use Rattle.std.specs.Prelude.{◌≡◌, ◌≤◌, ◌<◌, None, Some, IfSome, true, length, take, drop, if◌then◌else◌};
+ghost use Rattle.std.specs.Prelude.{◌≡◌, ◌≤◌, ◌<◌, None, Some, IfSome, IsSome, true, length, take, drop, if◌then◌else◌};
+ghost use Rattle.ca_term.specs.Object.{fits};
 ghost use Rattle.ca_term.specs.Tree.{list_of, row_of};
 ghost use Rattle.ca_match.specs.Match.{bind, bind_row, bind_variable, bound, where_equal, Bindings};
 ghost use Rattle.ca_order.specs.CodesView.{terms_of, tree_of};
 ghost use Rattle.ca_spec.specs.PartBound.{IsAsked, first, others, parts_of};
 ghost use Rattle.ca_spec.specs.Places.{places, row_places};
+ghost use Rattle.ca_spec.specs.Reached.{AreShort, IsShortRow};
 
 use crate::constant::Constant;
 use crate::pattern::{Pattern, Shape};
@@ -12,14 +14,16 @@ use ca_order::{Codes, Part};
 
 // Whether a head fits an object; then its variables are bound in the table. The elements behind the last one that isn't '_' are not looked at.
 #[tactic(auto, using(crate::proofs::CodeBinding::object_fits))]
+#[inline(always)]
 pub(crate) fn fit_object<'a>(
     head: &Pattern,
     object: Part<'a>,
     table: &mut [Option<Part<'a>>],
 ) -> Option<bool>
     requires { places head.now ≤ length table.old }
-    ensures { IfSome result (λ fits.
+    ensures told { IfSome result (λ fits.
         bind head.now (tree_of object.entry) (parts_of table.old) ≡ (if fits then Some (parts_of table.new) else None)) }
+    ensures known { AreShort head.now → IsSome result }
 {
     let mut codes = Codes::of(object);
     let Shape::Tuple(parts) = &head.shape else {
@@ -38,6 +42,7 @@ pub(crate) fn fit_object<'a>(
 
 // The parts up to the last one that isn't '_'.
 #[tactic(auto, using(crate::proofs::CodeBinding::asked_parts))]
+#[inline(always)]
 fn asked(parts: &[Pattern]) -> &[Pattern]
     ensures { IsAsked parts.now result.now }
 {
@@ -60,6 +65,7 @@ fn fit<'a>(pattern: &Pattern, codes: &mut Codes<'a>, table: &mut [Option<Part<'a
     requires room { places pattern.now ≤ length table.old }
     ensures told { IfSome result (λ fits.
         bind pattern.now (first (terms_of codes.old)) (parts_of table.old) ≡ (if fits then Some (parts_of table.new) else None)) }
+    ensures known { AreShort pattern.now → IsSome result }
     ensures rest { result ≡ Some true → terms_of codes.new ≡ others (terms_of codes.old) }
 {
     match &pattern.shape {
@@ -82,6 +88,7 @@ fn fit<'a>(pattern: &Pattern, codes: &mut Codes<'a>, table: &mut [Option<Part<'a
 
 // A variable is bound at its first place, and meets the same code at a later one.
 #[tactic(auto, using(crate::proofs::PartTables::variable_new, crate::proofs::PartTables::variable_old))]
+#[inline(always)]
 fn fit_variable<'a>(number: usize, codes: &mut Codes<'a>, table: &mut [Option<Part<'a>>]) -> bool
     requires some { 1 ≤ length (terms_of codes.old) }
     requires room { number < length table.old }
@@ -101,9 +108,11 @@ fn fit_variable<'a>(number: usize, codes: &mut Codes<'a>, table: &mut [Option<Pa
 }
 
 // A constant fits its own code.
+#[inline(always)]
 fn fit_equal(constant: &Constant, codes: &mut Codes<'_>) -> Option<bool>
     requires { 1 ≤ length (terms_of codes.old) }
     ensures told { (b : Bindings) → IfSome result (λ fits. where_equal b constant.now (first (terms_of codes.old)) ≡ (if fits then Some b else None)) }
+    ensures known { fits constant.now ≡ true → IsSome result }
     ensures rest { result ≡ Some true → terms_of codes.new ≡ others (terms_of codes.old) }
 {
     let Some(own) = constant.part() else {
@@ -131,6 +140,7 @@ fn fit_all<'a>(
     requires room { row_places (row_of parts.now) ≤ length table.old }
     ensures told { IfSome result (λ fits.
         bind_row (row_of parts.now) (row_of (take count (terms_of codes.old))) (parts_of table.old) ≡ (if fits then Some (parts_of table.new) else None)) }
+    ensures known { IsShortRow (row_of parts.now) → IsSome result }
     ensures rest { result ≡ Some true → terms_of codes.new ≡ drop count (terms_of codes.old) }
 {
     if parts.len() != count {
@@ -159,6 +169,7 @@ fn fit_cells<'a>(
     requires room { places (list_of heads.now tail.now) ≤ length table.old }
     ensures told { IfSome result (λ fits.
         bind (list_of heads.now tail.now) (first (terms_of codes.old)) (parts_of table.old) ≡ (if fits then Some (parts_of table.new) else None)) }
+    ensures known { AreShort (list_of heads.now tail.now) → IsSome result }
     ensures rest { result ≡ Some true → terms_of codes.new ≡ others (terms_of codes.old) }
 {
     for head in heads {

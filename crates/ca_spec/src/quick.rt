@@ -3,21 +3,24 @@ ghost use Rattle.std.specs.Prelude.{◌≡◌, ◌≤◌, ◌∷◌, [], Some, I
 ghost use Rattle.ca_term.specs.Tree.{Nil, list_of};
 ghost use Rattle.ca_match.specs.Match.{bound, clause_result, is_truth, no_bindings, pass, value};
 ghost use Rattle.ca_match.specs.OperatorView.{meaning_of};
-ghost use Rattle.ca_match.specs.Operators.{applied, truth};
+ghost use Rattle.ca_match.specs.Operators.{Short, applied, truth};
 ghost use Rattle.ca_order.specs.CodesView.{tree_of};
 ghost use Rattle.ca_spec.specs.ClauseView.{tree_of_clause};
 ghost use Rattle.ca_spec.specs.PartBound.{part_at, parts_of, scene_in};
 ghost use Rattle.ca_spec.specs.Places.{places};
 ghost use Rattle.ca_spec.specs.QuickView.{IsTold};
+ghost use Rattle.ca_spec.specs.Reached.{IsReached};
 
 use crate::clause::Clause;
 use crate::expression::{Expression, Form};
 use crate::fitting::fit_object;
 use ca_match::Operator;
 use ca_order::Part;
+use ca_term::Term;
 
 // The code of an expression's value, where that is a part of the object's code or a constant's code.
 #[tactic(auto, using(crate::proofs::Values::expression_values))]
+#[inline(always)]
 fn operand<'a>(
     expression: &'a Expression,
     object: Part<'a>,
@@ -37,6 +40,7 @@ fn operand<'a>(
 
 // What is bound to a variable.
 #[tactic(auto, using(crate::proofs::PartTables::bound_in))]
+#[inline(always)]
 fn part_bound<'a>(number: usize, table: &[Option<Part<'a>>]) -> Option<Part<'a>>
     ensures { IfSome result (λ part. Some (tree_of part) ≡ bound (parts_of table.now) number) }
 {
@@ -48,6 +52,7 @@ fn part_bound<'a>(number: usize, table: &[Option<Part<'a>>]) -> Option<Part<'a>>
 }
 
 // Whether a comparison of two terms holds, by their codes, or `None` for other operators.
+#[inline(always)]
 fn compared(operator: Operator, a: Part<'_>, b: Part<'_>) -> Option<bool>
     ensures { IfSome result (λ holds. Some (truth holds) ≡ applied (meaning_of operator) (Some (tree_of a.entry) ∷ Some (tree_of b.entry) ∷ [])) }
 {
@@ -64,20 +69,96 @@ fn compared(operator: Operator, a: Part<'_>, b: Part<'_>) -> Option<bool>
     }
 }
 
-// Whether a guard is true, where it is a comparison of parts and constants.
+// The truth value that a guard's value is, where it is a comparison of parts and constants, or `andalso`, `orelse` or `not` of such guards.
+#[cycle(known)]
+fn known<'a>(guard: &'a Expression, object: Part<'a>, table: &[Option<Part<'a>>]) -> Option<bool>
+    ensures { IfSome result (λ known. Some (truth known) ≡ value (scene_in object.entry table.now) guard.now) }
+{
+    match &guard.form {
+        Form::Two(operator, a, b) => match operator.stop() {
+            Some(stop) => known_short(stop, a, b, object, table),
+            None => known_comparison(*operator, a, b, object, table),
+        },
+        Form::One(operator, a) => known_negation(*operator, a, object, table),
+        Form::Variable(_)
+        | Form::Whole
+        | Form::AllBound
+        | Form::Literal(_)
+        | Form::Constant(_)
+        | Form::Tuple(_)
+        | Form::List(_, _) => None,
+    }
+}
+
+// Whether a comparison of parts and constants holds.
+#[inline(always)]
+fn known_comparison<'a>(
+    operator: Operator,
+    a: &'a Expression,
+    b: &'a Expression,
+    object: Part<'a>,
+    table: &[Option<Part<'a>>],
+) -> Option<bool>
+    ensures { let scene = scene_in object.entry table.now in
+        IfSome result (λ known. Some (truth known) ≡ applied (meaning_of operator) (value scene a.now ∷ value scene b.now ∷ [])) }
+{
+    let a = operand(a, object, table)?;
+    let b = operand(b, object, table)?;
+    compared(operator, a, b)
+}
+
+// The value of `andalso` or `orelse`, which stops at this truth value of the first argument.
+#[cycle(known)]
+#[tactic(auto, using(crate::proofs::Operands::short_known))]
+fn known_short<'a>(
+    stop: bool,
+    a: &'a Expression,
+    b: &'a Expression,
+    object: Part<'a>,
+    table: &[Option<Part<'a>>],
+) -> Option<bool>
+    ensures { let scene = scene_in object.entry table.now in
+        IfSome result (λ known. Some (truth known) ≡ applied (Short stop) (value scene a.now ∷ value scene b.now ∷ [])) }
+{
+    let first = known(a, object, table)?;
+    if first == stop {
+        return Some(first);
+    }
+    known(b, object, table)
+}
+
+// The value of `not`.
+#[cycle(known)]
+#[tactic(auto, using(crate::proofs::Operands::negation_known))]
+fn known_negation<'a>(
+    operator: Operator,
+    a: &'a Expression,
+    object: Part<'a>,
+    table: &[Option<Part<'a>>],
+) -> Option<bool>
+    ensures { let scene = scene_in object.entry table.now in
+        IfSome result (λ known. Some (truth known) ≡ applied (meaning_of operator) (value scene a.now ∷ [])) }
+{
+    let Operator::Not = operator else {
+        return None;
+    };
+    let holds = known(a, object, table)?;
+    Some(!holds)
+}
+
+// Whether a guard is true, where that is known.
+#[inline(always)]
+#[tactic(auto, using(crate::proofs::Operands::truth_known))]
 fn holds<'a>(guard: &'a Expression, object: Part<'a>, table: &[Option<Part<'a>>]) -> Option<bool>
     ensures { IfSome result (λ holds. is_truth (value (scene_in object.entry table.now) guard.now) ≡ holds) }
 {
-    let Form::Two(operator, a, b) = &guard.form else {
-        return None;
-    };
-    let a = operand(a, object, table)?;
-    let b = operand(b, object, table)?;
-    compared(*operator, a, b)
+    let known = known(guard, object, table)?;
+    Some(known)
 }
 
-// Whether all guards are true, where each one up to the first that isn't is a comparison of parts and constants.
+// Whether all guards are true, where each one up to the first that isn't is known to be true or not.
 #[tactic(auto, using(crate::proofs::Values::guard_values))]
+#[inline(always)]
 fn pass<'a>(guards: &'a [Expression], object: Part<'a>, table: &[Option<Part<'a>>]) -> Option<bool>
     ensures { IfSome result (λ passed. passed ≡ pass (scene_in object.entry table.now) (list_of guards.now Nil)) }
 {
@@ -97,12 +178,14 @@ pub(crate) enum Quick<'a> {
     None,
     // it is the term of this code
     Part(Part<'a>),
+    // it is this term
+    Term(&'a Term),
     // nothing
     Unknown,
 }
 
 // What is told of a clause's result by the object's code, with this table, which is empty.
-#[tactic(auto, using(crate::proofs::QuickResults::quick_results))]
+#[tactic(auto, using(crate::proofs::QuickResults::quick_results, crate::proofs::Reaching::reached))]
 pub(crate) fn quick_result<'a>(
     clause: &'a Clause,
     object: Part<'a>,
@@ -110,7 +193,8 @@ pub(crate) fn quick_result<'a>(
 ) -> Quick<'a>
     requires room { places clause.now.head ≤ length table.old }
     requires none { parts_of table.old ≡ no_bindings }
-    ensures { IsTold result (clause_result (tree_of_clause clause.entry.now) (tree_of object.entry)) }
+    ensures told { IsTold result (clause_result (tree_of_clause clause.entry.now) (tree_of object.entry)) }
+    ensures reached { IsReached result clause.entry.now.head (tree_of object.entry) }
 {
     match fit_object(&clause.head, object, table) {
         Some(true) => {}
@@ -122,8 +206,21 @@ pub(crate) fn quick_result<'a>(
         Some(false) => return Quick::None,
         None => return Quick::Unknown,
     }
-    match operand(&clause.body, object, table) {
-        Some(part) => Quick::Part(part),
-        None => Quick::Unknown,
+    told_value(&clause.body, object, table)
+}
+
+// What is told of a body's value.
+#[inline(always)]
+#[tactic(auto, using(crate::proofs::Values::expression_values))]
+fn told_value<'a>(body: &'a Expression, object: Part<'a>, table: &[Option<Part<'a>>]) -> Quick<'a>
+    ensures { IsTold result (value (scene_in object.entry table.now) body.now) }
+{
+    match &body.form {
+        Form::Literal(constant) => Quick::Term(constant.term()),
+        Form::Constant(constant) => Quick::Term(constant.term()),
+        _ => match operand(body, object, table) {
+            Some(part) => Quick::Part(part),
+            None => Quick::Unknown,
+        },
     }
 }

@@ -1,11 +1,12 @@
 //! What a specification makes of an object.
-ghost use Rattle.std.specs.Prelude.{◌≡◌, ◌≤◌, IfOk, length, option_map};
+ghost use Rattle.std.specs.Prelude.{◌≡◌, ◌≤◌, IfOk, OnErr, length, option_map};
 ghost use Rattle.ca_term.specs.Tree.{Nil, list_of};
 ghost use Rattle.ca_match.specs.Match.{clause_result, no_bindings, result_of};
 ghost use Rattle.ca_match.specs.ValueView.{tree_of_value};
 ghost use Rattle.ca_spec.specs.Bound.{table_of};
 ghost use Rattle.ca_spec.specs.ClauseView.{tree_of_clause, trees_of_clauses};
 ghost use Rattle.ca_spec.specs.Places.{places};
+ghost use Rattle.ca_spec.specs.Reached.{MayFit, SomeMayFit};
 
 use crate::clause::Clause;
 use crate::evaluation::{Evaluated, pass, value};
@@ -15,12 +16,13 @@ use ca_term::Term;
 use std::alloc::{AllocError, Global};
 
 /// The result that a specification gives an object: that of the first clause that holds, or `None` where none holds. A clause holds where its
-/// head fits, its guards all have the value true and its body doesn't fail. Memory is taken only for what is new: for tuples and list cells of
-/// expressions, parts of these, and the result.
+/// head fits, its guards all have the value true and its body doesn't fail. Memory is taken only where a head fits, and for what is new: for tuples
+/// and list cells of expressions, parts of these, and the result.
 /// Source: the ERTS user's guide, "Match Specifications in Erlang"; that a value over `MOST_DEPTH` deep fails is this project's own.
 #[tactic(auto, using(crate::proofs::ClauseResults::of_source))]
 pub fn apply(alloc: Global, spec: &Spec, object: &Term) -> Result<Option<Term>, AllocError>
-    ensures { IfOk result (λ found. found ≡ result_of spec.now object.now) }
+    ensures found { IfOk result (λ found. found ≡ result_of spec.now object.now) }
+    ensures lack { OnErr result (SomeMayFit spec.now object.now) }
 {
     first_result(alloc, spec.clauses.as_slice(), object)
 }
@@ -32,7 +34,8 @@ fn first_result(
     clauses: &[Clause],
     object: &Term,
 ) -> Result<Option<Term>, AllocError>
-    ensures { IfOk result (λ found. found ≡ result_of (list_of (trees_of_clauses clauses.now) Nil) object.now) }
+    ensures found { IfOk result (λ found. found ≡ result_of (list_of (trees_of_clauses clauses.now) Nil) object.now) }
+    ensures lack { OnErr result (SomeMayFit (list_of (trees_of_clauses clauses.now) Nil) object.now) }
 {
     for clause in clauses {
         if let Some(value) = result_of_clause(alloc, clause, object)? {
@@ -51,7 +54,8 @@ pub(crate) fn result_of_clause<'a>(
     clause: &'a Clause,
     object: &'a Term,
 ) -> Evaluated<'a>
-    ensures { IfOk result (λ v. option_map tree_of_value v ≡ clause_result (tree_of_clause clause.now) object.now) }
+    ensures value { IfOk result (λ v. option_map tree_of_value v ≡ clause_result (tree_of_clause clause.now) object.now) }
+    ensures lack { OnErr result (MayFit clause.now.head object.now) }
 {
     if clause.places <= FEW {
         let mut table: [Option<&'a Term>; FEW] = [None; FEW];
@@ -62,7 +66,7 @@ pub(crate) fn result_of_clause<'a>(
 }
 
 // The result of a clause where it holds, with this table, which is empty.
-#[tactic(auto, using(crate::proofs::ClauseResults::clause_results))]
+#[tactic(auto, using(crate::proofs::ClauseResults::clause_results, crate::proofs::Reaching::reached))]
 fn result_with<'a>(
     alloc: Global,
     clause: &'a Clause,
@@ -71,7 +75,8 @@ fn result_with<'a>(
 ) -> Evaluated<'a>
     requires room { places clause.now.head ≤ length table.old }
     requires none { table_of table.old ≡ no_bindings }
-    ensures { IfOk result (λ v. option_map tree_of_value v ≡ clause_result (tree_of_clause clause.now) object.now) }
+    ensures value { IfOk result (λ v. option_map tree_of_value v ≡ clause_result (tree_of_clause clause.now) object.now) }
+    ensures lack { OnErr result (MayFit clause.now.head object.now) }
 {
     if !bind(&clause.head, object, table) {
         return Ok(None);

@@ -32,6 +32,7 @@ impl Object {
     ghost use Rattle.ca_term.specs.Tree.{IsTerm, Tree};
 
     // The object of this code.
+    #[inline(never)]
     pub(crate) fn of(code: &Code) -> Object
         requires { IsTermCode code.now.items }
         ensures { (t : Tree) → IsTerm t → code.now.items ≡ code_of t → result ≡ t }
@@ -42,6 +43,18 @@ impl Object {
             unreachable!()
         };
         Object { code: copy }
+    }
+
+    // Takes the object of this code in the place of the one that is here. Of the room only as much is written as both codes take.
+    pub(crate) fn set(&mut self, code: &Code)
+        requires { IsTermCode code.now.items }
+        ensures { (t : Tree) → IsTerm t → code.now.items ≡ code_of t → self.new ≡ t }
+    {
+        self.code.clear();
+        let _length = code.len();
+        let Ok(()) = self.code.try_extend_from_slice(code.as_slice()) else {
+            unreachable!()
+        };
     }
 
     // Its term.

@@ -43,7 +43,10 @@ impl Collected {
         let Ok(()) = self.results.push(found) else {
             return Err(AllocError);
         };
-        self.last = Some(Object::of(code));
+        match &mut self.last {
+            Some(last) => last.set(code),
+            None => self.last = Some(Object::of(code)),
+        }
         Ok(())
     }
 }

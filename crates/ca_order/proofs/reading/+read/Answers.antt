@@ -14,11 +14,11 @@ use Rattle.ca_order.proofs.reading.+read.Goals as goal
 -- ---- the items of a row
 
 pub read_items-loop-init : goal.read_items-loop-init
-read_items-loop-init t c = row_none c.args.levels c.args.bytes.now c.new-items.result.items c.new-items.ensures.items
+read_items-loop-init t c = row_none c.args.levels c.args.bytes.now c.reserve.new.self.items (c.reserve.ensures.items ∙ c.new-items.ensures.items)
 
 pub read_items-returns-in_err-item : goal.read_items-returns-in_err-item
 read_items-returns-in_err-item t c =
-    refused _ _ _ _ c.from_residual.ensures.1 (item_fault c.args.levels c.loop.counter c.args.count c.args.bytes.now c.loop.items.items c.loop.rest.now
+    refused _ _ _ _ c.from_residual-in_err-item.ensures.1 (item_fault c.args.levels c.loop.counter c.args.count c.args.bytes.now c.loop.items.items c.loop.rest.now
     c.in_err-item.field-0.0 c.loop-test.true c.loop.invariant c.in_err-item.ensures)
 
 pub read_items-loop-preserved : goal.read_items-loop-preserved
@@ -113,26 +113,26 @@ read_last-returns-in_default-tag t c =
 
 -- ---- a list by its heads
 
-pub read_term-returns-in_err-head : goal.read_term-returns-in_err-head
-read_term-returns-in_err-head t c =
+pub read_list-returns-in_err-head : goal.read_list-returns-in_err-head
+read_list-returns-in_err-head t c =
     let e = c.in_err-head.field-0.0 in
     let rest = c.loop-inside.rest.now in
     refused _ _ _ _ c.from_residual.ensures.1 (heads_fault c.args.levels c.args.bytes.now c.loop-inside.heads.items rest e c.requires.least
     c.loop-inside.invariant
     (head_fault c.args.levels rest c.in-Some.inside.now e c.requires.least c.in-Some.ensures.1 c.in_err-head.ensures))
 
-pub read_term-loop-inside-preserved : goal.read_term-loop-inside-preserved
-read_term-loop-inside-preserved t c =
+pub read_list-loop-inside-preserved : goal.read_list-loop-inside-preserved
+read_list-loop-inside-preserved t c =
     heads_more c.args.levels c.args.bytes.now c.loop-inside.heads.items c.push.new.self.items c.loop-inside.rest.now c.in-Some.inside.now c.in_ok-head.head
     c.in_ok-head.behind.now c.loop-inside.invariant c.in-Some.ensures.1 c.in_ok-head.ensures c.in_ok-push.ensures.ok
 
-pub read_term-returns-in_err-last : goal.read_term-returns-in_err-last
-read_term-returns-in_err-last t c =
+pub read_list-returns-in_err-last : goal.read_list-returns-in_err-last
+read_list-returns-in_err-last t c =
     refused _ _ _ _ c.from_residual-in_err-last.ensures.1 (heads_fault c.args.levels c.args.bytes.now c.loop-inside.heads.items c.loop-inside.rest.now
     c.in_err-last.field-0.0 c.requires.least c.loop-inside.invariant c.in_err-last.ensures)
 
-pub read_term-returns : goal.read_term-returns
-read_term-returns t c =
+pub read_list-returns : goal.read_list-returns
+read_list-returns t c =
     heads_term c.args.levels c.args.bytes.now c.loop-inside.heads.items c.loop-inside.rest.now c.in_ok-last.last c.in_ok-list.field-0 c.in_ok-last.behind.now
     c.requires.least c.requires.most c.loop-inside.invariant c.in_ok-last.ensures c.in_ok-list.ensures.ok
 

@@ -7,8 +7,10 @@ use Rattle.ca_spec.specs.PartBound.{first, others, parts_of}
 use Rattle.ca_spec.specs.Parts.{tail_le-list}
 use Rattle.ca_spec.specs.PatternView.{IsShape, tree_of_shape}
 use Rattle.ca_spec.specs.Places.{places}
+use Rattle.ca_spec.specs.Reached.{AreShort}
 use Rattle.ca_spec.proofs.Binding.{equal_fits, head_nodes, head_places, tail_places}
 use Rattle.ca_spec.proofs.CodeBinding.{head_step, head_there, left_step, place_step, tail_others, tail_there}
+use Rattle.ca_spec.proofs.Reaching.{short_head, short_item, short_tail}
 use Rattle.ca_spec.proofs.fitting.+fit.Goals as goal
 
 pub fit-returns-in-Equal-clause-told : goal.fit-returns-in-Equal-clause-told
@@ -68,3 +70,19 @@ fit_cells-fit-requires-2 t c =
     let n = tail_le-list c.args.heads.now c.args.tail.now in
     let p = tail_places c.args.heads.now c.args.tail.now (length c.args.table.now) c.requires.room in
     (omega (arith, c.decreases), (c.loop-head.invariant.there, omega arith))
+
+-- ---- what is known of short parts
+
+pub fit_all-returns-in_default-2-clause-known : goal.fit_all-returns-in_default-2-clause-known
+fit_all-returns-in_default-2-clause-known t c = λ s.
+    c.fit.ensures.known
+    (subst AreShort (sym c.part-item.is) (short_item c.args.parts.now c.loop-part.part-index c.part-item.result c.loop-part-test.true s))
+
+pub fit_cells-returns-in_default-fit-2-clause-known : goal.fit_cells-returns-in_default-fit-2-clause-known
+fit_cells-returns-in_default-fit-2-clause-known t c = λ s.
+    c.fit.ensures.known
+    (subst AreShort (sym c.head-item.is)
+    (short_head c.args.heads.now c.args.tail.now c.loop-head.head-index c.head-item.result c.loop-head-test.true s))
+
+pub fit_cells-returns-clause-known : goal.fit_cells-returns-clause-known
+fit_cells-returns-clause-known t c = λ s. c.fit-2.ensures.known (short_tail c.args.heads.now c.args.tail.now s)

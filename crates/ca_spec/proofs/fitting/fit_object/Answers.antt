@@ -3,7 +3,9 @@ use Rattle.ca_term.specs.Tree.{Tree, Tuple, row_of}
 use Rattle.ca_spec.specs.PartBound.{IsAsked}
 use Rattle.ca_spec.specs.PatternView.{tree_of_shape}
 use Rattle.ca_spec.specs.Places.{places}
+use Rattle.ca_spec.specs.Reached.{AreShort}
 use Rattle.ca_spec.proofs.CodeBinding.{asked_places}
+use Rattle.ca_spec.proofs.Reaching.{short_asked}
 use Rattle.ca_spec.proofs.fitting.fit_object.Goals as goal
 
 pub fit_all-requires-clause-room : goal.fit_all-requires-clause-room
@@ -12,3 +14,11 @@ fit_all-requires-clause-room c =
     asked_places c.in-Tuple.parts.items c.asked-asked.result.now (length c.args.table.now)
     (subst (λ (x : List Tree). IsAsked x c.asked-asked.result.now) c.as_slice.ensures.value c.asked-asked.ensures)
     (subst (λ (x : Tree). places x ≤ length c.args.table.now) (sym e) c.requires)
+
+pub returns-clause-known : goal.returns-clause-known
+returns-clause-known c = λ s.
+    let items = c.in-Tuple.parts.items in
+    let asked = c.asked-asked.result.now in
+    let e : Tuple (row_of items) ≡ c.args.head.now = sym (ap tree_of_shape c.in-Tuple.is) ∙ c.head.view_is in
+    let a : IsAsked items asked = subst (λ (x : List Tree). IsAsked x asked) c.as_slice.ensures.value c.asked-asked.ensures in
+    c.fit_all.ensures.known (short_asked items asked a (subst AreShort (sym e) s))

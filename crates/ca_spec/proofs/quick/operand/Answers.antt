@@ -1,5 +1,6 @@
-use Rattle.std.proofs.Common.{◌≡◌, Some, Option, ap, sym, ◌∙◌, subst}
+use Rattle.std.proofs.Common.{◌≡◌, false, Some, Option, ap, sym, ◌∙◌, subst}
 use Rattle.std.specs.Prelude.{IfSome}
+use Rattle.ca_term.specs.Object.{fits}
 use Rattle.ca_term.specs.Tree.{Tree}
 use Rattle.ca_order.specs.CodesView.{tree_of}
 use Rattle.ca_match.specs.Match.{value}
@@ -18,7 +19,7 @@ returns-in-Variable c =
 
 pub returns-in-Constant : goal.returns-in-Constant
 returns-in-Constant c =
-    part_value c.part-in-Constant.result c.in-Constant.constant (value (scene_in c.args.object c.args.table.now) c.args.expression.now)
-    c.part-in-Constant.ensures
+    part_value (fits c.in-Constant.constant ≡ false) c.part-in-Constant.result c.in-Constant.constant
+    (value (scene_in c.args.object c.args.table.now) c.args.expression.now) c.part-in-Constant.ensures
     (constant_value (scene_in c.args.object c.args.table.now) c.args.expression.now c.in-Constant.constant
     (sym (ap tree_of_form c.in-Constant.is) ∙ c.expression.view_is))
