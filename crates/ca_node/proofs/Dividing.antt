@@ -118,9 +118,9 @@ module _ (z : Sizes) (s : State (Unit {0}) (View TreeView)) (r : R z s) (id : �
   old_item row i = subst (λ its. IsIn row (items its)) (sym old_true.spells) i
 
   -- A half is a base that may come.
-  half : (row : ℕ) (its these : List ℕ) (place : Place) → place.level ≡ x.old.place.level + 1 → claim_of d.claims row ≡ some (Holds its) → IsHalf z x.old.place.level these its
-      → ((c : ℕ) → IsIn c these → IsIn c (items x.old.its)) → IsNewBase z s.words r.above.role place row
-  half row its these place below e h within = let w = held row its e in record {
+  half : (row : ℕ) (its these : List ℕ) (there : Place) → there.level ≡ x.old.place.level + 1 → claim_of d.claims row ≡ some (Holds its) → IsHalf z x.old.place.level these its
+      → ((c : ℕ) → IsIn c these → IsIn c (items x.old.its)) → IsNewBase z s.words r.above.role there row
+  half row its these there below e h within = let w = held row its e in record {
     some_row = w.0;
     in_range = w.1;
     is_out = held_out row its e;
