@@ -1,10 +1,10 @@
 -- What calls count, one after another.
-use Rattle.std.proofs.Common.{◌≡◌, ℕ, ◌+◌, ◌≤◌, Bool, true, false, Result, Ok, Err, ap, refl, ◌∙◌, arith, vec_len}
+use Rattle.std.proofs.Common.{◌≡◌, ℕ, ◌+◌, ◌≤◌, Err, ap, refl, ◌∙◌, arith, vec_len}
 use Rattle.ca_model.specs.declared.outcome.Spent.{Spent}
 use Rattle.ca_node.specs.Told.{MyTree}
 use Rattle.ca_base.specs.declared.taking.NoRow.{NoRow}
 use Rattle.ca_base.specs.declared.taking.NoRow.TheVariants as why
-use Rattle.ca_base.specs.Counting.{losses, IsSpent, HasCleared, HasEnded, HasFound, HasMet, HasPutBack, PutsBack}
+use Rattle.ca_base.specs.Counting.{losses, IsSpent, HasFound, HasMet, HasPutBack, PutsBack}
 use Rattle.ca_rows.specs.declared.kept.KeptRows.{KeptRows}
 
 -- Two calls, one after the other.

@@ -1,7 +1,7 @@
 -- How many rows are held once rows of a list are linked, or unlinked by the seat.
 use Rattle.std.proofs.Common.{◌≡◌, ℕ, ◌+◌, ◌≤◌, List, [], ◌∷◌, length, refl, ◌∙◌, arith, le_refl}
 use mathlib.Core.Option.{some}
-use Rattle.ca_rows.specs.declared.view.Claim.TheVariants.{Holds, Unlinked}
+use Rattle.ca_rows.specs.declared.view.Claim.TheVariants.{Holds}
 use Rattle.ca_rows.specs.declared.view.Claimed.{Claimed}
 use Rattle.ca_rows.specs.Claims.{claim_of, held_count}
 use Rattle.ca_rows.proofs.HeldCount.{dropped_no_more, dropped_one_less}

@@ -1,11 +1,11 @@
 -- A tree whose passes were all joined into the space's own seat: the logs are lawful for its history, and the objects stand in it in order.
-use Rattle.std.proofs.Common.{◌≡◌, ◌⊎◌, ℕ, zero, suc, ◌+◌, ◌*◌, ◌<◌, ◌≤◌, cond, eqb, true, false, List, [], ◌∷◌, ◌++◌, map, length, get_or, sym, refl, ap, ◌∙◌, subst, ⊎_elim, arith, eq-eqb, ne_eqb}
+use Rattle.std.proofs.Common.{◌≡◌, ℕ, zero, suc, ◌+◌, ◌*◌, ◌<◌, cond, List, [], ◌∷◌, ◌++◌, map, get_or, sym, refl, ap, ◌∙◌, subst, ⊎_elim, arith, eq-eqb, ne_eqb}
 use mathlib.Core.Option.{some, some-injective, some-ne-none}
 use lib.ListN.{get_elem?}
 use Rattle.atomic_table.specs.Table.{State}
 use Rattle.atomic_table.proofs.Lists.{at_map}
 use Rattle.ca_model.specs.History.{History, after, AreEdits, AreByPasses}
-use Rattle.ca_model.specs.StoreMap.{Pair, StoreMap, IsStoreMap}
+use Rattle.ca_model.specs.StoreMap.{StoreMap, IsStoreMap}
 use Rattle.ca_model.proofs.Edits.{map_after}
 use Rattle.ca_rows.specs.declared.sizes.Sizes.{Sizes}
 use Rattle.ca_rows.specs.declared.view.View.{View}
@@ -13,9 +13,9 @@ use Rattle.ca_rows.specs.Closed.{IsLast, joined_from}
 use Rattle.ca_rows.specs.Rule.{Ruled, upper_of}
 use Rattle.ca_node.specs.LastTree.{rows_under, IsLastTree}
 use Rattle.ca_node.specs.Links.{IsIn, IsLinked, IsLent, IsNoted}
-use Rattle.ca_node.specs.Place.{Span, all_keys, left_of, right_of, Place, part}
+use Rattle.ca_node.specs.Place.{Span, all_keys, left_of, right_of, part}
 use Rattle.ca_node.specs.Reached.{led_to, led_place}
-use Rattle.ca_node.specs.Row.{row_at, form, items, pair, objects_in}
+use Rattle.ca_node.specs.Row.{row_at, form, items, pair}
 use Rattle.ca_node.specs.Shape.{Role, Base, Route, LeadsTo, IsBaseAt, IsRouteAt, IsShape}
 use Rattle.ca_node.specs.Tree.{IsTree}
 use Rattle.ca_node.specs.TreeView.{Ended, TreeView, ended_of, and_ended, ended_with}

@@ -1,5 +1,5 @@
 -- An update: an exchange of a base that carries out one edit, the last one of the history then.
-use Rattle.std.proofs.Common.{◌≡◌, ◌≢◌, ◌⊎◌, ℕ, ◌+◌, ◌*◌, ◌<◌, ◌≤◌, Bool, true, false, eqb, List, [], ◌∷◌, ◌++◌, length, map, get_or, set, sym, refl, ap, ◌∙◌, subst, inl, inr, ⊎_elim, arith, length-append, eq-eqb, ne_eqb}
+use Rattle.std.proofs.Common.{◌≡◌, ◌≢◌, ◌⊎◌, ℕ, ◌+◌, ◌≤◌, Bool, true, false, eqb, List, [], ◌∷◌, ◌++◌, length, map, get_or, set, sym, refl, ap, ◌∙◌, subst, inl, inr, ⊎_elim, arith, length-append, eq-eqb, ne_eqb}
 use Rattle.std.proofs.lemmas.List.{append_assoc}
 use mathlib.Core.Logic.{dite}
 use mathlib.Core.Option.{some, none}
@@ -30,7 +30,7 @@ use Rattle.ca_node.proofs.Exchanging.{IsExchange, is_old, old_map, is_last, out_
 use Rattle.ca_node.proofs.Holding.{unclaimed_row}
 use Rattle.ca_node.proofs.Logs.{after_more, others_lawful, own_lawful, past_more, ended_more}
 use Rattle.ca_node.proofs.Looking.{R, loses, hangs_still, of_map, knows_upper, fewer_passes, further, longer_past, starts_shorter, in_more}
-use Rattle.ca_node.proofs.Members.{in_notes, has}
+use Rattle.ca_node.proofs.Members.{in_notes}
 use Rattle.ca_node.proofs.Parts.{part_edited, part_left, answer_whole, about_edit}
 use Rattle.ca_node.proofs.Rebased.{with_base}
 

@@ -143,8 +143,14 @@ walked_on m m' m'' more next note ways loads e d =
     d ∙ (ap (λ (x : MyTree). with_upper x (led_to_base x.0.upper next note note (x.0.upper.loads + 1))) e
     ∙ (ap (λ (h : History). with_upper m (record u { seen = h; notes = note ∷ u.notes; ways = ways ++ u.ways; loads = u.loads + loads + 1; last = note; shown = u.loads + loads + 1 }))
     (append_assoc u.seen more next)
-    ∙ ap (λ (k : ℕ). with_upper m (record u { seen = u.seen ++ (more ++ next); notes = note ∷ u.notes; ways = ways ++ u.ways; loads = k; last = note;
-    shown = k })) n))
+    ∙ ap (λ (k : ℕ). with_upper m (record u {
+      seen = u.seen ++ (more ++ next);
+      notes = note ∷ u.notes;
+      ways = ways ++ u.ways;
+      loads = k;
+      last = note;
+      shown = k;
+    })) n))
 
 -- The same of a link that named a route.
 passed_on : (m m' m'' : MyTree) (more next : History) (way : Way) (ways : List Way) (loads : ℕ) → m' ≡ with_upper m (passed m.0.upper more ways loads)

@@ -19,7 +19,7 @@ use Rattle.ca_node.specs.declared.cursor.Cursor.{Cursor}
 use Rattle.ca_node.specs.Inventory.{but, but_all, row_itself, row_of_base, IsListed}
 use Rattle.ca_node.specs.Links.{IsIn}
 use Rattle.ca_node.specs.Place.{Place, Span, left_of, right_of, left_place, right_place, part}
-use Rattle.ca_node.specs.Row.{count, key, pair, route_key}
+use Rattle.ca_node.specs.Row.{count, pair, route_key}
 use Rattle.ca_node.specs.Told.{MyTree, IsAlone, IsKnown, with_upper, entered, divided, one_more_lost}
 use Rattle.ca_node.specs.TreeView.{Inventory, Note, TreeView, pinned, unpinned, Division}
 use Rattle.ca_node.proofs.Listing.{of_but, but_shorter, but_all_shorter}

@@ -1,4 +1,4 @@
-use Rattle.std.proofs.Common.{◌≡◌, ◌∙◌, refl, sym, ap, subst, map, List, [], ◌∷◌, Option, Some, None, IsSome, false, true}
+use Rattle.std.proofs.Common.{◌≡◌, refl, ap, subst, map, List, [], ◌∷◌, Option, Some, None, IsSome, false, true}
 use Rattle.std.specs.Option.{ForSome}
 use Rattle.std.specs.Mem.Slots.{slots_items}
 use Rattle.ca_node.specs.LastTree.{IsLastTree}
