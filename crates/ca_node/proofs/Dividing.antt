@@ -58,8 +58,8 @@ drop_at (suc n) (x ∷ xs) l = let r = drop_at n xs (omega arith) in (r.0, r.1, 
 
 -- What a split counts and lists gives no note.
 divided_notes : (words : List ℕ) (x : Division) (u : TreeView) (row : ℕ) → IsNoted words (divided x u) row → IsNoted words u row
-divided_notes words x u _ (by_note note row i e) = by_note note row i e
-divided_notes words x u _ (by_item note row i b k) = by_item note row i b k
+divided_notes words x u _ (by_note note row i e) = absurd (in_nothing note [] refl i)
+divided_notes words x u _ (by_item note row i b k) = absurd (in_nothing note [] refl i)
 divided_notes words x u _ (by_way way row i e) = by_way way row i e
 divided_notes words x u _ (by_link way row i e) = by_link way row i e
 divided_notes words x u _ (by_link_item way base row i e f k) = by_link_item way base row i e f k
@@ -437,8 +437,8 @@ module _ (z : Sizes) (s : State (Unit {0}) (View TreeView)) (r : R z s) (id : �
     since_first = k.since_first;
     lawful = k.lawful;
     past = k.past;
-    notes = k.notes;
-    links = k.links;
+    notes = λ note i. absurd (in_nothing note [] refl i);
+    links = λ note i. absurd (in_nothing note [] refl i);
     ways = k.ways;
     ended = k.ended;
   }

@@ -340,9 +340,9 @@ divided_inventory x i = record {
   most = max i.most (length (x.route ∷ x.left ∷ x.right ∷ but row_itself x.old.row i.rows));
 }
 
--- what a seat knows after it carried out the split
+-- what a seat knows after it carried out the split: it remembers no base, so that it exchanges none before it is shown one again
 abbrev pub divided : Division → TreeView → TreeView
-divided x u = record u { splits = u.splits + 1; inventory = divided_inventory x u.inventory; cuts = x ∷ u.cuts }
+divided x u = record u { notes = []; splits = u.splits + 1; inventory = divided_inventory x u.inventory; cuts = x ∷ u.cuts }
 
 -- The split is carried out: the route and its bases are linked, and the old base, which nobody claimed until then, is unlinked by the seat.
 pub record IsDivided (x : Division) (m m' : MyTree) : Type 0 where

@@ -33,6 +33,7 @@ pub(crate) struct Order<'a, A> {
 }
 
 impl<A> Order<'_, A> {
+    // The budget. A proof learns from the answer that it is one of 32 bits.
     fn budget(&self) -> u32
         ensures { result ≡ self.now.budget }
     {
