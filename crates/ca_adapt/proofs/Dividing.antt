@@ -14,8 +14,10 @@ use Rattle.ca_rows.specs.declared.kept.KeptRows.{KeptRows}
 use Rattle.ca_rows.specs.declared.sizes.Sizes.{Sizes}
 
 -- It was split where the exchange won; else there is the cause.
-split_by : (z : Sizes) (note : Note) (r : Result Bool NoRow) (m m' : MyTree) → MayBeSplit z note → HasEnded r m m'
-    → HasSplit (length note.objects) (attempts_at_first z) r m.0.upper m'.0.upper → IsSplitAs z note (answer_to r) m m'
+split_by : (z : Sizes) (note : Note) (r : Result Bool NoRow) (m m' : MyTree) → MayBeSplit z note
+    → HasEnded r m m'
+    → HasSplit (length note.objects) (attempts_at_first z) r m.0.upper m'.0.upper
+    → IsSplitAs z note (answer_to r) m m'
 split_by z note (Ok true) m m' may ended split = (may, ended.0, split)
 split_by z note (Ok false) m m' may ended split = (may, ended.0, ended.1, inr split)
 split_by z note (Err norow.Lost) m m' may ended split = (may, ended.0, ended.1, inl split)
@@ -23,14 +25,19 @@ split_by z note (Err norow.Empty) m m' may ended split = (may, ended, split)
 split_by z note (Err norow.Worn) m m' may ended split = (may, ended, split)
 
 -- The same, where the objects were counted and the pass knew as much before.
-pub split_as : (z : Sizes) (note : Note) (r : Result Bool NoRow) (a : Adapted) (many attempt : ℕ) (k m m' : MyTree) → m ≡ k → many ≡ length note.objects
-    → attempt ≡ attempts_at_first z → a ≡ answer_to r → MayBeSplit z note → HasEnded r m m' → HasSplit many attempt r m.0.upper m'.0.upper → IsSplitAs z note a k m'
-split_as z note r a many attempt k m m' same are first is may ended split = subst (λ (x : Adapted). IsSplitAs z note x k m') (sym is)
-    (subst (λ (x : MyTree). IsSplitAs z note (answer_to r) x m') same (split_by z note r m m' may ended
+pub split_as : (z : Sizes) (note : Note) (r : Result Bool NoRow) (a : Adapted) (many attempt : ℕ)
+    (k m m' : MyTree) → m ≡ k → many ≡ length note.objects
+    → attempt ≡ attempts_at_first z → a ≡ answer_to r → MayBeSplit z note → HasEnded r m m'
+    → HasSplit many attempt r m.0.upper m'.0.upper → IsSplitAs z note a k m'
+split_as z note r a many attempt k m m' same are first is may ended split = subst
+    (λ (x : Adapted). IsSplitAs z note x k m') (sym is)
+    (subst (λ (x : MyTree). IsSplitAs z note (answer_to r) x m') same
+    (split_by z note r m m' may ended
     (subst (λ (n : ℕ × ℕ). HasSplit n.0 n.1 r m.0.upper m'.0.upper) (λ i. (are i, first i)) split)))
 
 -- Where the exchange of the base wasn't lost, that of the pool's head was.
-pools_by : (r : Result Bool NoRow) (many attempt : ℕ) (m m' : MyTree) → r ≢ Ok false → HasSplit many attempt r m.0.upper m'.0.upper
+pools_by : (r : Result Bool NoRow) (many attempt : ℕ) (m m' : MyTree) → r ≢ Ok false
+    → HasSplit many attempt r m.0.upper m'.0.upper
     → IsPoolsLoss (answer_to r) m m'
 pools_by (Ok true) many attempt m m' won split e = absurd cc
 pools_by (Ok false) many attempt m m' won split e = absurd (won refl)
@@ -39,15 +46,21 @@ pools_by (Err norow.Empty) many attempt m m' won split e = split
 pools_by (Err norow.Worn) many attempt m m' won split e = split
 
 -- The same, where the pass knew as much before.
-pub pools_as : (z : Sizes) (r : Result Bool NoRow) (a : Adapted) (many attempt : ℕ) (k m m' : MyTree) → m ≡ k → a ≡ answer_to r
-    → (IsAlone z m.0.upper → IsListed m.0.upper.inventory (first_note m.0.upper.notes) → r ≢ Ok false)
+pub pools_as : (z : Sizes) (r : Result Bool NoRow) (a : Adapted) (many attempt : ℕ)
+    (k m m' : MyTree) → m ≡ k → a ≡ answer_to r
+    → (IsAlone z m.0.upper → IsListed m.0.upper.inventory (first_note m.0.upper.notes)
+    → r ≢ Ok false)
     → HasSplit many attempt r m.0.upper m'.0.upper
-    → IsAlone z k.0.upper → IsListed k.0.upper.inventory (first_note k.0.upper.notes) → IsPoolsLoss a k m'
-pools_as z r a many attempt k m m' same is so split alone listed = subst (λ (x : Adapted). IsPoolsLoss x k m') (sym is)
-    (subst (λ (x : MyTree). IsPoolsLoss (answer_to r) x m') same (pools_by r many attempt m m' (so here.0 here.1) split))
+    → IsAlone z k.0.upper → IsListed k.0.upper.inventory (first_note k.0.upper.notes)
+    → IsPoolsLoss a k m'
+pools_as z r a many attempt k m m' same is so split alone listed = subst
+    (λ (x : Adapted). IsPoolsLoss x k m') (sym is)
+    (subst (λ (x : MyTree). IsPoolsLoss (answer_to r) x m') same
+    (pools_by r many attempt m m' (so here.0 here.1) split))
   where
     here : IsAlone z m.0.upper × IsListed m.0.upper.inventory (first_note m.0.upper.notes)
-    here = subst (λ (x : MyTree). IsAlone z x.0.upper × IsListed x.0.upper.inventory (first_note x.0.upper.notes)) (sym same) (alone, listed)
+    here = subst (λ (x : MyTree). IsAlone z x.0.upper
+        × IsListed x.0.upper.inventory (first_note x.0.upper.notes)) (sym same) (alone, listed)
 
 -- A split that was carried out lost no exchange.
 one_try : (r : Result Bool NoRow) (m m' : MyTree) → HasEnded r m m' → IsOneTry (answer_to r) m m'
@@ -58,7 +71,8 @@ one_try (Err norow.Empty) m m' ended e = absurd cc
 one_try (Err norow.Worn) m m' ended e = absurd cc
 
 -- The rows of one that wasn't were put back.
-put_back : (r : Result Bool NoRow) (m m' : MyTree) (kept kept' : KeptRows) → HasCleared r m m' kept kept' → HasSplitBack (answer_to r) m m' kept kept'
+put_back : (r : Result Bool NoRow) (m m' : MyTree) (kept kept' : KeptRows)
+    → HasCleared r m m' kept kept' → HasSplitBack (answer_to r) m m' kept kept'
 put_back (Ok true) m m' kept kept' h = tt
 put_back (Ok false) m m' kept kept' h = h
 put_back (Err norow.Lost) m m' kept kept' h = h
@@ -66,11 +80,15 @@ put_back (Err norow.Empty) m m' kept kept' h = h
 put_back (Err norow.Worn) m m' kept kept' h = h
 
 -- The same, where the pass knew and kept as much before.
-pub one_try_as : (r : Result Bool NoRow) (a : Adapted) (k m m' : MyTree) → m ≡ k → a ≡ answer_to r → HasEnded r m m' → IsOneTry a k m'
+pub one_try_as : (r : Result Bool NoRow) (a : Adapted) (k m m' : MyTree) → m ≡ k → a ≡ answer_to r
+    → HasEnded r m m' → IsOneTry a k m'
 one_try_as r a k m m' same is ended = subst (λ (x : Adapted). IsOneTry x k m') (sym is)
     (subst (λ (x : MyTree). IsOneTry (answer_to r) x m') same (one_try r m m' ended))
 
-pub put_back_as : (r : Result Bool NoRow) (a : Adapted) (k m m' : MyTree) (kept kept0 kept' : KeptRows) → m ≡ k → kept0 ≡ kept → a ≡ answer_to r
+pub put_back_as : (r : Result Bool NoRow) (a : Adapted) (k m m' : MyTree)
+    (kept kept0 kept' : KeptRows) → m ≡ k → kept0 ≡ kept → a ≡ answer_to r
     → HasCleared r m m' kept0 kept' → HasSplitBack a k m' kept kept'
-put_back_as r a k m m' kept kept0 kept' same list is h = subst (λ (x : Adapted). HasSplitBack x k m' kept kept') (sym is)
-    (subst (λ (x : MyTree × KeptRows). HasSplitBack (answer_to r) x.0 m' x.1 kept') (λ i. (same i, list i)) (put_back r m m' kept0 kept' h))
+put_back_as r a k m m' kept kept0 kept' same list is h = subst
+    (λ (x : Adapted). HasSplitBack x k m' kept kept') (sym is)
+    (subst (λ (x : MyTree × KeptRows). HasSplitBack (answer_to r) x.0 m' x.1 kept')
+    (λ i. (same i, list i)) (put_back r m m' kept0 kept' h))

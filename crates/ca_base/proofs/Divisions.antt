@@ -1,4 +1,5 @@
--- A base that was shown last may be divided by rows that were written, and which rows a pass has then.
+-- A base that was shown last may be divided by rows that were written, and which rows a pass has
+-- then.
 use Rattle.std.proofs.Common.{◌≡◌, ◌≢◌, ℕ, ◌+◌, ◌-◌, ◌/◌, ◌<◌, ◌≤◌, true, List, [], ◌∷◌, length, map, take, drop, get_or, sym, refl, ap, ◌∙◌, subst, ⊎_elim, arith, length-take}
 use Rattle.std.proofs.lemmas.List.{take_rest}
 use mathlib.Core.Option.{some, none}
@@ -27,29 +28,48 @@ use Rattle.ca_rows.specs.Claims.{claim_of, held_count}
 
 -- Of three rows that are apart no two are one.
 pub three_apart : (a b c : ℕ) → AreApart (a ∷ b ∷ c ∷ []) → (a ≢ b) × (a ≢ c) × (b ≢ c)
-three_apart a b c h = (λ e. h.0 (0, ap some (sym e)), λ e. h.0 (1, ap some (sym e)), λ e. h.1.0 (0, ap some (sym e)))
+three_apart a b c h = (
+  λ e. h.0 (0, ap some (sym e)),
+  λ e. h.0 (1, ap some (sym e)),
+  λ e. h.1.0 (0, ap some (sym e)),
+)
 
 -- What is in a list of one row is that row.
 is_one : (r row : ℕ) → IsIn r (row ∷ []) → row ≡ r
-is_one r row i = ⊎_elim (λ (e : row ≡ r). e) (λ (j : IsIn r []). absurd (in_nothing r [] refl j)) (in_more row r [] i)
+is_one r row i = ⊎_elim (λ (e : row ≡ r). e)
+    (λ (j : IsIn r []). absurd (in_nothing r [] refl j)) (in_more row r [] i)
 
 -- After a split the old base is unlinked, and the pass has no other row.
-pub divided_rows : (rows : ℕ) (kept kept' : KeptRows) (m m' : MyTree) (x : Division) (base : ℕ) (ins : List ℕ) → x.route ∷ x.left ∷ x.right ∷ [] ≡ ins
-    → x.old.row ≡ base → IsDivided x m m' → kept' ≡ kept → AreApart ins → AreHeld rows kept.rows m.0 ins → AreUnlinked rows kept'.rows m'.0 (base ∷ [])
-divided_rows rows kept kept' m m' x base ins are same d too apart h = let held = subst (HasHeld rows kept.rows m.0.claims) (sym are) h.0 in
+pub divided_rows : (rows : ℕ) (kept kept' : KeptRows) (m m' : MyTree) (x : Division) (base : ℕ)
+    (ins : List ℕ) → x.route ∷ x.left ∷ x.right ∷ [] ≡ ins
+    → x.old.row ≡ base → IsDivided x m m' → kept' ≡ kept → AreApart ins
+    → AreHeld rows kept.rows m.0 ins → AreUnlinked rows kept'.rows m'.0 (base ∷ [])
+divided_rows rows kept kept' m m' x base ins are same d too apart h =
+    let held = subst (HasHeld rows kept.rows m.0.claims) (sym are) h.0 in
     let comes : List ℕ = x.route ∷ x.left ∷ x.right ∷ [] in let goes : List ℕ = x.old.row ∷ [] in
     let then = unlinked_then rows kept.rows m.0.claims comes goes held
     (λ r i. subst (λ (y : ℕ). claim_of m.0.claims y ≡ none) (is_one r x.old.row i) d.unclaimed) in
-    let came = subst (λ (xs : List ℕ). held_count (given xs m.0.claims) + length xs ≤ held_count m.0.claims) (sym are)
+    let came = subst
+    (λ (xs : List ℕ). held_count (given xs m.0.claims) + length xs ≤ held_count m.0.claims)
+    (sym are)
     (given_fewer ins m.0.claims apart (λ r i. let own = (h.0.each r i).2 in (own.0, own.2))) in
     let went = taken_out_more goes (given comes m.0.claims) in
     let many = ap (λ (xs : List ℕ). length xs) are in let before = h.1.now in let ever = h.1.ever in
-    let now = subst (λ (y : MyTree × KeptRows). AreUnlinked rows y.1.rows y.0.0 goes) (λ i. (sym d.now i, sym too i))
-    (then, record { now = omega arith; ever = few_at_once goes (given comes m.0.claims) m.0.most ever (omega arith) }) in
+    let now = subst (λ (y : MyTree × KeptRows). AreUnlinked rows y.1.rows y.0.0 goes)
+    (λ i. (sym d.now i, sym too i)) (
+      then,
+      record {
+        now =
+            omega arith;
+        ever =
+            few_at_once goes (given comes m.0.claims) m.0.most ever (omega arith);
+      },
+    ) in
     subst (λ (y : ℕ). AreUnlinked rows kept'.rows m'.0 (y ∷ [])) same now
 
 -- A base that was shown last can be read.
-pub last_readable : (z : Sizes) (u : TreeView) (base : ℕ) → IsShownLast z u base → z.leaf ≤ 120 → IsStoreMap z.keypos (map pair (first_note u.notes).objects)
+pub last_readable : (z : Sizes) (u : TreeView) (base : ℕ) → IsShownLast z u base → z.leaf ≤ 120
+    → IsStoreMap z.keypos (map pair (first_note u.notes).objects)
     → IsReadable z u base (first_note u.notes)
 last_readable z u base shown leaf ordered = record {
   noted = shown.noted;
@@ -60,7 +80,8 @@ last_readable z u base shown leaf ordered = record {
 }
 
 -- The rows were written, the halves and then the route, since the pass was shown the base last.
-pub record AreWritten (z : Sizes) (m0 m1 m2 m3 m4 : MyTree) (route left right many attempt : ℕ) (cursor : Cursor) (l r t : List ℕ) : Type 0 where
+pub record AreWritten (z : Sizes) (m0 m1 m2 m3 m4 : MyTree) (route left right many attempt : ℕ)
+    (cursor : Cursor) (l r t : List ℕ) : Type 0 where
   pub shown : IsShownLast z m0.0.upper cursor.base
   pub at : IsAtCursor z (first_note m0.0.upper.notes) cursor
   pub many_are : many ≡ length (first_note m0.0.upper.notes).objects
@@ -70,16 +91,20 @@ pub record AreWritten (z : Sizes) (m0 m1 m2 m3 m4 : MyTree) (route left right ma
   pub wrote_left : IsRewritten left l m1 m2
   pub wrote_right : IsRewritten right r m2 m3
   pub wrote_route : IsRewritten route t m3 m4
-  pub is_left : SpellsBase (take (many / 2) (drop 0 (last_items m0.0.upper))) (cursor.level + 1) 4294967296 l
-  pub is_right : SpellsBase (take (many - many / 2) (drop (many / 2) (last_items m0.0.upper))) (cursor.level + 1) 4294967296 r
-  pub is_route : SpellsRoute cursor.level (key (get_or (first_note m0.0.upper.notes).objects (many / 2) [])) left right attempt t
+  pub is_left : SpellsBase (take (many / 2) (drop 0 (last_items m0.0.upper))) (cursor.level + 1)
+      4294967296 l
+  pub is_right : SpellsBase (take (many - many / 2) (drop (many / 2) (last_items m0.0.upper)))
+      (cursor.level + 1) 4294967296 r
+  pub is_route : SpellsRoute cursor.level
+      (key (get_or (first_note m0.0.upper.notes).objects (many / 2) [])) left right attempt t
   pub short : length (key (get_or (first_note m0.0.upper.notes).objects (many / 2) [])) ≤ 1000
   pub is_pinned : m0.0.pin.pinned ≡ true
   pub is_pass : 0 < m0.0.upper.number
   pub upper : m4.0.upper ≡ m0.0.upper
   pub pin : m4.0.pin ≡ m0.0.pin
 
-module _ (z : Sizes) (m0 m1 m2 m3 m4 : MyTree) (route left right many attempt : ℕ) (cursor : Cursor) (l r t : List ℕ)
+module _ (z : Sizes) (m0 m1 m2 m3 m4 : MyTree) (route left right many attempt : ℕ) (cursor : Cursor)
+    (l r t : List ℕ)
     (w : AreWritten z m0 m1 m2 m3 m4 route left right many attempt cursor l r t) where
   abbrev note : Note
   note = first_note m0.0.upper.notes
@@ -91,7 +116,8 @@ module _ (z : Sizes) (m0 m1 m2 m3 m4 : MyTree) (route left right many attempt : 
   as_many = sym (w.many_are ∙ w.shown.is_base.as_many)
 
   few : many ≤ z.leaf
-  few = let a = as_many in let b = w.shown.is_base.few in omega (arith, length-take (count note.its) (drop 11 note.its))
+  few = let a = as_many in let b = w.shown.is_base.few in
+      omega (arith, length-take (count note.its) (drop 11 note.its))
 
   left_many : length (take (many / 2) (drop 0 these)) ≡ many / 2
   left_many = let a = as_many in half_long these 0 (many / 2) (omega arith)
@@ -105,13 +131,15 @@ module _ (z : Sizes) (m0 m1 m2 m3 m4 : MyTree) (route left right many attempt : 
 
   -- The right half is all that the left one isn't.
   rest : take (many - many / 2) (drop (many / 2) these) ≡ drop (many / 2) these
-  rest = ap (λ (n : ℕ). take (n - many / 2) (drop (many / 2) these)) (sym as_many) ∙ take_rest these (many / 2)
+  rest = ap (λ (n : ℕ). take (n - many / 2) (drop (many / 2) these)) (sym as_many)
+      ∙ take_rest these (many / 2)
 
   others : (route ≢ left) × (route ≢ right) × (left ≢ right)
   others = three_apart route left right w.apart
 
   held_left : claim_of m4.0.claims left ≡ some (Holds l)
-  held_left = w.wrote_route.others left (λ e. others.0 (sym e)) ∙ (w.wrote_right.others left others.2 ∙ w.wrote_left.here)
+  held_left = w.wrote_route.others left (λ e. others.0 (sym e))
+      ∙ (w.wrote_right.others left others.2 ∙ w.wrote_left.here)
 
   held_right : claim_of m4.0.claims right ≡ some (Holds r)
   held_right = w.wrote_route.others right (λ e. others.1 (sym e)) ∙ w.wrote_right.here
@@ -121,7 +149,9 @@ module _ (z : Sizes) (m0 m1 m2 m3 m4 : MyTree) (route left right many attempt : 
   divides = record {
     is_pinned = ap (λ (e : Pin). e.pinned) w.pin ∙ w.is_pinned;
     is_pass = subst (λ (u : TreeView). 0 < u.number) (sym w.upper) w.is_pass;
-    shown = subst (λ (u : TreeView). IsLastThere note u.notes) (sym w.upper) (last_there m0.0.upper.notes w.shown.noted);
+    shown = subst
+        (λ (u : TreeView). IsLastThere note u.notes) (sym w.upper)
+        (last_there m0.0.upper.notes w.shown.noted);
     old_base = w.shown.is_base.is_base;
     above = subst (λ (n : ℕ). n < z.levels) (sym w.at.level) w.above;
     held_route = w.wrote_route.here;
@@ -162,8 +192,16 @@ module _ (z : Sizes) (m0 m1 m2 m3 m4 : MyTree) (route left right many attempt : 
   }
 
   -- So is the split that the claims name.
-  pub divides_of : IsDivision z m4 (division_of m4 route left right) × IsHalving many attempt (division_of m4 route left right)
-  divides_of = subst (λ (x : Note × List ℕ × List ℕ × List ℕ). IsDivision z m4 (division_by x.0 route left right x.1 x.2 x.3)
+  pub divides_of : IsDivision z m4 (division_of m4 route left right)
+      × IsHalving many attempt (division_of m4 route left right)
+  divides_of = subst
+      (λ (x : Note × List ℕ × List ℕ × List ℕ).
+      IsDivision z m4 (division_by x.0 route left right x.1 x.2 x.3)
       × IsHalving many attempt (division_by x.0 route left right x.1 x.2 x.3))
-      (λ i. (sym (note_is m0 m4 w.upper) i, sym (ap words_of w.wrote_route.here) i, sym (ap words_of held_left) i, sym (ap words_of held_right) i))
+      (λ i. (
+        sym (note_is m0 m4 w.upper) i,
+        sym (ap words_of w.wrote_route.here) i,
+        sym (ap words_of held_left) i,
+        sym (ap words_of held_right) i,
+      ))
       (divides, halves)

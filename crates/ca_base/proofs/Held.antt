@@ -26,32 +26,57 @@ use Rattle.ca_rows.proofs.Claiming.{claimed_here, claimed_else, dropped_here, dr
 use Rattle.ca_rows.proofs.HeldCount.{taken_one_more, dropped_one_less, written_no_more, claimed_one_less}
 use Rattle.ca_rows.proofs.Keeping.{claimed_too, dropped_too, kept_as}
 
-not_kept : (claims : List Claimed) (row : ℕ) (its : List ℕ) (t : ℕ) → claim_of claims row ≡ some (Holds its) → claim_of claims row ≢ some (Keeps t)
-not_kept claims row its t e f = let g = some-injective (Holds its) (Keeps t) (sym e ∙ f) in absurd cc
+not_kept : (claims : List Claimed) (row : ℕ) (its : List ℕ) (t : ℕ)
+    → claim_of claims row ≡ some (Holds its) → claim_of claims row ≢ some (Keeps t)
+not_kept claims row its t e f = let g = some-injective (Holds its) (Keeps t) (sym e ∙ f) in
+    absurd cc
 
 -- Claims that differ on one row alone, which isn't kept.
-kept_still : (rows : ℕ) (kept : Vec Kept Global) (claims claims' : List Claimed) (row : ℕ) (its new : List ℕ) → AreKept rows claims kept
-    → claim_of claims row ≡ some (Holds its) → claim_of claims' row ≡ some (Holds new) → ((r : ℕ) → r ≢ row → claim_of claims' r ≡ claim_of claims r)
+kept_still : (rows : ℕ) (kept : Vec Kept Global) (claims claims' : List Claimed) (row : ℕ)
+    (its new : List ℕ) → AreKept rows claims kept
+    → claim_of claims row ≡ some (Holds its) → claim_of claims' row ≡ some (Holds new)
+    → ((r : ℕ) → r ≢ row → claim_of claims' r ≡ claim_of claims r)
     → AreKept rows claims' kept
-kept_still rows kept claims claims' row its new k was now others = kept_as rows claims kept k claims'
-    (λ r t e. dite (ℕ_discrete r row) (λ f. absurd (not_kept claims' row new t now (ap (claim_of claims') (sym f) ∙ e))) (λ n. sym (others r n) ∙ e))
+kept_still rows kept claims claims' row its new k was now others =
+    kept_as rows claims kept k claims'
+    (λ r t e. dite (ℕ_discrete r row)
+    (λ f. absurd (not_kept claims' row new t now (ap (claim_of claims') (sym f) ∙ e)))
+    (λ n. sym (others r n) ∙ e))
     (λ r t e. others r (λ f. not_kept claims row its t was (ap (claim_of claims) (sym f) ∙ e)) ∙ e)
 
 module _ (rows : ℕ) (kept : Vec Kept Global) where
   -- A row that nobody claimed was taken.
-  pub took : (claims : List Claimed) (held : List ℕ) (row : ℕ) (its : List ℕ) → HasHeld rows kept claims held → claim_of claims row ≡ none → 0 < row
-      → row ≤ rows → length its ≡ 136 → (¬ IsIn row held) × HasHeld rows kept (claimed row (Holds its) claims) (row ∷ held)
+  pub took : (claims : List Claimed) (held : List ℕ) (row : ℕ) (its : List ℕ)
+      → HasHeld rows kept claims held → claim_of claims row ≡ none → 0 < row
+      → row ≤ rows → length its ≡ 136 → (¬ IsIn row held)
+      × HasHeld rows kept (claimed row (Holds its) claims) (row ∷ held)
   took claims held row its h free lo hi long = (
     new,
     record {
-      are_kept = claimed_too rows claims kept h.are_kept row (Holds its) (λ t e. cc) (λ t e. some-ne-none (Keeps t) (sym e ∙ free));
+      are_kept = claimed_too rows claims kept h.are_kept row (Holds its) (λ t e. cc)
+          (λ t e. some-ne-none (Keeps t) (sym e ∙ free));
       only = λ r c e. dite (ℕ_discrete r row) (λ (f : r ≡ row). inr (0, ap some (sym f)))
-          (λ n. ⊎_elim (λ k. inl k) (λ i. inr (in_rest r row held i)) (h.only r c (sym (claimed_else claims row r (Holds its) n) ∙ e)));
+          (λ n. ⊎_elim (λ k. inl k)
+          (λ i. inr (in_rest r row held i))
+          (h.only r c (sym (claimed_else claims row r (Holds its) n) ∙ e)));
       each = λ r i. ⊎_elim
-          (λ (f : row ≡ r). subst (λ (y : ℕ). (0 < y) × (y ≤ rows) × ((x : List ℕ) × (length x ≡ 136)
-          × (claim_of (claimed row (Holds its) claims) y ≡ some (Holds x)))) f (lo, hi, (its, long, claimed_here claims row (Holds its))))
-          (λ (j : IsIn r held). let w = h.each r j in
-          (w.0, w.1, (w.2.0, w.2.1, claimed_else claims row r (Holds its) (λ f. new (subst (λ (y : ℕ). IsIn y held) f j)) ∙ w.2.2)))
+          (λ (f : row ≡ r). subst (λ (y : ℕ). (0 < y) × (y ≤ rows)
+          × ((x : List ℕ) × (length x ≡ 136)
+          × (claim_of (claimed row (Holds its) claims) y ≡ some (Holds x)))) f (
+            lo,
+            hi,
+            (its, long, claimed_here claims row (Holds its)),
+          ))
+          (λ (j : IsIn r held). let w = h.each r j in (
+            w.0,
+            w.1,
+            (
+              w.2.0,
+              w.2.1,
+              claimed_else claims row r (Holds its) (λ f. new (subst (λ (y : ℕ). IsIn y held) f j))
+                  ∙ w.2.2,
+            ),
+          ))
           (in_more row r held i);
     },
   )
@@ -60,24 +85,41 @@ module _ (rows : ℕ) (kept : Vec Kept Global) where
       new i = let w = h.each row i in some-ne-none (Holds w.2.0) (sym w.2.2 ∙ free)
 
   -- A row that was held was put back.
-  pub put_back : (claims : List Claimed) (held : List ℕ) (row : ℕ) → ¬ IsIn row held → HasHeld rows kept claims (row ∷ held)
+  pub put_back : (claims : List Claimed) (held : List ℕ) (row : ℕ) → ¬ IsIn row held
+      → HasHeld rows kept claims (row ∷ held)
       → HasHeld rows kept (dropped row claims) held
   put_back claims held row out h = let own = h.each row (in_first row held) in record {
-    are_kept = dropped_too rows claims kept h.are_kept row (λ t. not_kept claims row own.2.0 t own.2.2);
+    are_kept = dropped_too rows claims kept h.are_kept row
+        (λ t. not_kept claims row own.2.0 t own.2.2);
     only = λ r c e. dite (ℕ_discrete r row)
-        (λ (f : r ≡ row). absurd (some-ne-none c (sym e ∙ (ap (claim_of (dropped row claims)) f ∙ dropped_here claims row))))
-        (λ n. ⊎_elim (λ k. inl k) (λ i. inr (⊎_elim (λ (f : row ≡ r). absurd (n (sym f))) (λ (j : IsIn r held). j) (in_more row r held i)))
+        (λ (f : r ≡ row).
+        absurd (some-ne-none c (sym e
+        ∙ (ap (claim_of (dropped row claims)) f ∙ dropped_here claims row))))
+        (λ n. ⊎_elim (λ k. inl k)
+        (λ i. inr (⊎_elim (λ (f : row ≡ r). absurd (n (sym f)))
+        (λ (j : IsIn r held). j) (in_more row r held i)))
         (h.only r c (sym (dropped_else claims row r n) ∙ e)));
-    each = λ r i. let w = h.each r (in_rest r row held i) in
-        (w.0, w.1, (w.2.0, w.2.1, dropped_else claims row r (λ f. out (subst (λ (y : ℕ). IsIn y held) f i)) ∙ w.2.2));
+    each = λ r i. let w = h.each r (in_rest r row held i) in (
+      w.0,
+      w.1,
+      (
+        w.2.0,
+        w.2.1,
+        dropped_else claims row r (λ f. out (subst (λ (y : ℕ). IsIn y held) f i)) ∙ w.2.2,
+      ),
+    );
   }
 
   -- A row that was held was written.
-  pub wrote : (m m' : MyTree) (held : List ℕ) (row : ℕ) (its : List ℕ) → IsIn row held → length its ≡ 136 → HasHeld rows kept m.0.claims held
+  pub wrote : (m m' : MyTree) (held : List ℕ) (row : ℕ) (its : List ℕ) → IsIn row held
+      → length its ≡ 136 → HasHeld rows kept m.0.claims held
       → IsRewritten row its m m' → HasHeld rows kept m'.0.claims held
   wrote m m' held row its i long h w = let own = h.each row i in record {
-    are_kept = kept_still rows kept m.0.claims m'.0.claims row own.2.0 its h.are_kept own.2.2 w.here w.others;
-    only = λ r c e. dite (ℕ_discrete r row) (λ (f : r ≡ row). inr (subst (λ (y : ℕ). IsIn y held) (sym f) i))
+    are_kept =
+        kept_still rows kept m.0.claims m'.0.claims row own.2.0 its h.are_kept own.2.2 w.here
+        w.others;
+    only = λ r c e. dite (ℕ_discrete r row)
+        (λ (f : r ≡ row). inr (subst (λ (y : ℕ). IsIn y held) (sym f) i))
         (λ n. h.only r c (sym (w.others r n) ∙ e));
     each = λ r j. dite (ℕ_discrete r row)
         (λ (f : r ≡ row). subst (λ (y : ℕ). (0 < y) × (y ≤ rows) × ((x : List ℕ) × (length x ≡ 136)
@@ -86,25 +128,43 @@ module _ (rows : ℕ) (kept : Vec Kept Global) where
   }
 
 -- A row that was held was retired.
-pub retired : (rows : ℕ) (kept kept' : Vec Kept Global) (claims : List Claimed) (held : List ℕ) (row t : ℕ) → ¬ IsIn row held
-    → HasHeld rows kept claims (row ∷ held) → AreKept rows (claimed row (Keeps t) claims) kept' → HasHeld rows kept' (claimed row (Keeps t) claims) held
+pub retired : (rows : ℕ) (kept kept' : Vec Kept Global) (claims : List Claimed) (held : List ℕ)
+    (row t : ℕ) → ¬ IsIn row held
+    → HasHeld rows kept claims (row ∷ held) → AreKept rows (claimed row (Keeps t) claims) kept'
+    → HasHeld rows kept' (claimed row (Keeps t) claims) held
 retired rows kept kept' claims held row t out h k = record {
   are_kept = k;
   only = λ r c e. dite (ℕ_discrete r row)
-      (λ (f : r ≡ row). inl (t, some-injective c (Keeps t) (sym e ∙ (ap (claim_of (claimed row (Keeps t) claims)) f ∙ claimed_here claims row (Keeps t)))))
-      (λ n. ⊎_elim (λ y. inl y) (λ i. inr (⊎_elim (λ (f : row ≡ r). absurd (n (sym f))) (λ (j : IsIn r held). j) (in_more row r held i)))
+      (λ (f : r ≡ row). inl (
+        t,
+        some-injective c (Keeps t) (sym e
+            ∙ (ap (claim_of (claimed row (Keeps t) claims)) f ∙ claimed_here claims row (Keeps t))),
+      ))
+      (λ n. ⊎_elim (λ y. inl y)
+      (λ i. inr (⊎_elim (λ (f : row ≡ r). absurd (n (sym f)))
+      (λ (j : IsIn r held). j) (in_more row r held i)))
       (h.only r c (sym (claimed_else claims row r (Keeps t) n) ∙ e)));
-  each = λ r i. let w = h.each r (in_rest r row held i) in
-      (w.0, w.1, (w.2.0, w.2.1, claimed_else claims row r (Keeps t) (λ f. out (subst (λ (y : ℕ). IsIn y held) f i)) ∙ w.2.2));
+  each = λ r i. let w = h.each r (in_rest r row held i) in (
+    w.0,
+    w.1,
+    (
+      w.2.0,
+      w.2.1,
+      claimed_else claims row r (Keeps t) (λ f. out (subst (λ (y : ℕ). IsIn y held) f i))
+          ∙ w.2.2,
+    ),
+  );
 }
 
 turned : (a b r : ℕ) → IsIn r (a ∷ b ∷ []) → IsIn r (b ∷ a ∷ [])
 turned a b r i = ⊎_elim (λ (e : a ≡ r). in_rest r b (a ∷ []) (0, ap some e))
-    (λ (j : IsIn r (b ∷ [])). ⊎_elim (λ (e : b ≡ r). (0, ap some e)) (λ (k : IsIn r []). absurd (in_nothing r [] refl k)) (in_more b r [] j))
+    (λ (j : IsIn r (b ∷ [])). ⊎_elim (λ (e : b ≡ r). (0, ap some e))
+    (λ (k : IsIn r []). absurd (in_nothing r [] refl k)) (in_more b r [] j))
     (in_more a r (b ∷ []) i)
 
 -- Of two rows that are held either may be the first one.
-pub either_first : (rows : ℕ) (kept : Vec Kept Global) (view : View TreeView) (a b : ℕ) → AreHeld rows kept view (a ∷ b ∷ [])
+pub either_first : (rows : ℕ) (kept : Vec Kept Global) (view : View TreeView) (a b : ℕ)
+    → AreHeld rows kept view (a ∷ b ∷ [])
     → AreHeld rows kept view (b ∷ a ∷ [])
 either_first rows kept view a b h = (
   record {
@@ -116,41 +176,66 @@ either_first rows kept view a b h = (
 )
 
 -- By what taking a row told.
-pub took_row : (rows : ℕ) (kept kept' : KeptRows) (m m' : MyTree) (row : ℕ) → m.0.sizes.rows ≡ rows → TakesRow (Row row) m m' → kept' ≡ kept → (held : List ℕ)
-    → length held < 8 → AreHeld rows kept.rows m.0 held → (¬ IsIn row held) × AreHeld rows kept'.rows m'.0 (row ∷ held)
-took_row rows kept kept' m m' row size told same held few h = let lo = told.0 in let hi = told.1 in let its : List ℕ = told.3.0 in
-    let t = took rows kept.rows m.0.claims held row its h.0 told.2 lo (subst (λ (y : ℕ). row ≤ y) size hi) told.3.1 in
-    let one = taken_one_more row its m.0.claims told.2 in let now = h.1.now in let ever = h.1.ever in (
+pub took_row : (rows : ℕ) (kept kept' : KeptRows) (m m' : MyTree) (row : ℕ) → m.0.sizes.rows ≡ rows
+    → TakesRow (Row row) m m' → kept' ≡ kept → (held : List ℕ)
+    → length held < 8 → AreHeld rows kept.rows m.0 held → (¬ IsIn row held)
+    × AreHeld rows kept'.rows m'.0 (row ∷ held)
+took_row rows kept kept' m m' row size told same held few h = let lo = told.0 in let hi = told.1 in
+    let its : List ℕ = told.3.0 in
+    let t = took rows kept.rows m.0.claims held row its h.0 told.2 lo (subst
+    (λ (y : ℕ). row ≤ y) size hi) told.3.1 in
+    let one = taken_one_more row its m.0.claims told.2 in let now = h.1.now in
+    let ever = h.1.ever in (
       t.0,
-      subst (λ (x : MyTree × KeptRows). AreHeld rows x.1.rows x.0.0 (row ∷ held)) (λ i. (sym told.3.2 i, sym same i))
+      subst (λ (x : MyTree × KeptRows). AreHeld rows x.1.rows x.0.0 (row ∷ held))
+          (λ i. (sym told.3.2 i, sym same i))
           (t.1, record { now = omega arith; ever = omega arith }),
     )
 
 -- By what a lost putting back told: the row is held still.
-pub kept_row : (rows : ℕ) (kept kept' : KeptRows) (m m' : MyTree) (row : ℕ) → PutsRow false row m m' → kept' ≡ kept → (rest : List ℕ)
+pub kept_row : (rows : ℕ) (kept kept' : KeptRows) (m m' : MyTree) (row : ℕ) → PutsRow false row m m'
+    → kept' ≡ kept → (rest : List ℕ)
     → AreHeld rows kept.rows m.0 (row ∷ rest) → AreHeld rows kept'.rows m'.0 (row ∷ rest)
-kept_row rows kept kept' m m' row told same rest h = let own = (h.0.each row (in_first row rest)).2 in
-    let n = written_no_more row own.0 told.0 m.0.claims own.2 in let now = h.1.now in let ever = h.1.ever in
-    subst (λ (x : MyTree × KeptRows). AreHeld rows x.1.rows x.0.0 (row ∷ rest)) (λ i. (sym told.2 i, sym same i)) (
-      wrote rows kept.rows m (record m.0 { claims = claimed row (Holds told.0) m.0.claims }, m.1) (row ∷ rest) row told.0 (in_first row rest) told.1 h.0
-          (rewritten row own.0 told.0 m (record m.0 { claims = claimed row (Holds told.0) m.0.claims }, m.1) own.2 refl),
+kept_row rows kept kept' m m' row told same rest h =
+    let own = (h.0.each row (in_first row rest)).2 in
+    let n = written_no_more row own.0 told.0 m.0.claims own.2 in let now = h.1.now in
+    let ever = h.1.ever in
+    subst (λ (x : MyTree × KeptRows). AreHeld rows x.1.rows x.0.0 (row ∷ rest))
+    (λ i. (sym told.2 i, sym same i)) (
+      wrote rows kept.rows m (
+        record m.0 { claims = claimed row (Holds told.0) m.0.claims },
+        m.1,
+      ) (row ∷ rest) row told.0 (in_first row rest) told.1 h.0
+          (rewritten row own.0 told.0 m
+          (record m.0 { claims = claimed row (Holds told.0) m.0.claims }, m.1) own.2 refl),
       record { now = omega arith; ever = ever },
     )
 
 -- By what one that won told.
-pub gone_row : (rows : ℕ) (kept kept' : KeptRows) (m m' : MyTree) (row : ℕ) → PutsRow true row m m' → kept' ≡ kept → (rest : List ℕ) → ¬ IsIn row rest
+pub gone_row : (rows : ℕ) (kept kept' : KeptRows) (m m' : MyTree) (row : ℕ) → PutsRow true row m m'
+    → kept' ≡ kept → (rest : List ℕ) → ¬ IsIn row rest
     → AreHeld rows kept.rows m.0 (row ∷ rest) → AreHeld rows kept'.rows m'.0 rest
-gone_row rows kept kept' m m' row told same rest out h = let own = (h.0.each row (in_first row rest)).2 in
-    let less = dropped_one_less row m.0.claims (Holds own.0) refl own.2 in let now = h.1.now in let ever = h.1.ever in
+gone_row rows kept kept' m m' row told same rest out h =
+    let own = (h.0.each row (in_first row rest)).2 in
+    let less = dropped_one_less row m.0.claims (Holds own.0) refl own.2 in let now = h.1.now in
+    let ever = h.1.ever in
     subst (λ (x : MyTree × KeptRows). AreHeld rows x.1.rows x.0.0 rest)
-    (λ i. (sym told i, sym same i)) (put_back rows kept.rows m.0.claims rest row out h.0, record { now = omega arith; ever = ever })
+    (λ i. (sym told i, sym same i)) (
+      put_back rows kept.rows m.0.claims rest row out h.0,
+      record { now = omega arith; ever = ever },
+    )
 
 -- By what retiring told.
-pub retired_row : (rows : ℕ) (kept kept' : Vec Kept Global) (m m' : MyTree) (row t : ℕ) → m' ≡ (record m.0 { claims = claimed row (Keeps t) m.0.claims }, m.1)
-    → AreKept rows m'.0.claims kept' → (rest : List ℕ) → ¬ IsIn row rest → AreHeld rows kept m.0 (row ∷ rest) → AreHeld rows kept' m'.0 rest
-retired_row rows kept kept' m m' row t told k rest out h = let own = (h.0.each row (in_first row rest)).2 in
-    let less = claimed_one_less row (Keeps t) (Holds own.0) m.0.claims refl refl own.2 in let now = h.1.now in let ever = h.1.ever in
+pub retired_row : (rows : ℕ) (kept kept' : Vec Kept Global) (m m' : MyTree) (row t : ℕ)
+    → m' ≡ (record m.0 { claims = claimed row (Keeps t) m.0.claims }, m.1)
+    → AreKept rows m'.0.claims kept' → (rest : List ℕ) → ¬ IsIn row rest
+    → AreHeld rows kept m.0 (row ∷ rest) → AreHeld rows kept' m'.0 rest
+retired_row rows kept kept' m m' row t told k rest out h =
+    let own = (h.0.each row (in_first row rest)).2 in
+    let less = claimed_one_less row (Keeps t) (Holds own.0) m.0.claims refl refl own.2 in
+    let now = h.1.now in let ever = h.1.ever in
     subst (λ (x : MyTree). AreHeld rows kept' x.0 rest) (sym told) (
-      retired rows kept kept' m.0.claims rest row t out h.0 (subst (λ (x : MyTree). AreKept rows x.0.claims kept') told k),
+      retired rows kept kept' m.0.claims rest row t out h.0 (subst
+          (λ (x : MyTree). AreKept rows x.0.claims kept') told k),
       record { now = omega arith; ever = ever },
     )

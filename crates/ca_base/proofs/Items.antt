@@ -10,16 +10,20 @@ use Rattle.ca_base.specs.Finding.{IsReadable, IsObjectShown}
 use Rattle.ca_rows.specs.declared.sizes.Sizes.{Sizes}
 
 -- What stands at a place of a list.
-pub at_place : {A : Type 0} (xs : List A) (k : ℕ) (d : A) → k < length xs → get_elem? xs k ≡ some (get_or xs k d)
+pub at_place : {A : Type 0} (xs : List A) (k : ℕ) (d : A) → k < length xs
+    → get_elem? xs k ≡ some (get_or xs k d)
 at_place [] k d l = absurd (omega arith)
 at_place (x ∷ xs) zero d l = refl
 at_place (x ∷ xs) (suc k) d l = at_place xs k d (omega arith)
 
--- A word of a row that was shown as a base or an object is one that was shown, and so it is what is loaded.
-pub word_shown : (u : TreeView) (row index : ℕ) → (its : List ℕ) × IsShown u row its → (word : ℕ) × IsShownWord u row index word
+-- A word of a row that was shown as a base or an object is one that was shown, and so it is what is
+-- loaded.
+pub word_shown : (u : TreeView) (row index : ℕ) → (its : List ℕ) × IsShown u row its → (word : ℕ)
+    × IsShownWord u row index word
 word_shown u row index s = (get_or s.0 index 0, (s.0, inl s.1, refl))
 
-pub as_shown : (u : TreeView) (row index n : ℕ) → ((word : ℕ) → IsShownWord u row index word → n ≡ word) → (its : List ℕ) → IsShown u row its
+pub as_shown : (u : TreeView) (row index n : ℕ)
+    → ((word : ℕ) → IsShownWord u row index word → n ≡ word) → (its : List ℕ) → IsShown u row its
     → n ≡ get_or its index 0
 as_shown u row index n is its s = is (get_or its index 0) (its, inl s, refl)
 
@@ -31,28 +35,39 @@ module _ (z : Sizes) (u : TreeView) (base : ℕ) (note : Note) (r : IsReadable z
   base_shown = (note.its, shows)
 
   many : length (items note.its) ≡ count note.its
-  many = let few = r.few in let long = r.is_base.long in length-take-le (count note.its) (drop 11 note.its) (omega (arith, length-drop 11 note.its))
+  many = let few = r.few in let long = r.is_base.long in
+      length-take-le (count note.its) (drop 11 note.its) (omega (arith, length-drop 11 note.its))
 
   -- Its first word says how many objects it has.
   pub count_is : (word : ℕ) → ((its : List ℕ) → IsShown u base its → word ≡ get_or its 0 0)
       → (word % 65536 ≡ length note.objects) × (word % 65536 ≤ 120)
-  count_is word is = let first : count note.its ≡ word % 65536 = ap (λ (n : ℕ). n % 65536) (sym (is note.its shows)) in
+  count_is word is = let first : count note.its ≡ word % 65536 = ap
+      (λ (n : ℕ). n % 65536) (sym (is note.its shows)) in
       let few = r.few in (sym first ∙ (sym many ∙ sym r.is_base.as_many), omega arith)
 
   -- The word of an item names its object row.
-  pub item_is : (place word : ℕ) → ((its : List ℕ) → IsShown u base its → word ≡ get_or its (11 + place) 0) → place < length note.objects
+  pub item_is : (place word : ℕ)
+      → ((its : List ℕ) → IsShown u base its → word ≡ get_or its (11 + place) 0)
+      → place < length note.objects
       → get_elem? (items note.its) place ≡ some word
-  item_is place word is l = let m = many in let a = r.is_base.as_many in let in_range : place < count note.its = omega arith in
-      at_place (items note.its) place 0 (omega arith) ∙ ap some (get_or-take (count note.its) (drop 11 note.its) place 0 in_range
+  item_is place word is l = let m = many in let a = r.is_base.as_many in
+      let in_range : place < count note.its = omega arith in
+      at_place (items note.its) place 0 (omega arith)
+      ∙ ap some (get_or-take (count note.its) (drop 11 note.its) place 0 in_range
       ∙ (get_or-drop 11 note.its place 0 ∙ sym (is note.its shows)))
 
-  pub item_inside : (place word : ℕ) → ((its : List ℕ) → IsShown u base its → word ≡ get_or its (11 + place) 0) → place < length note.objects
+  pub item_inside : (place word : ℕ)
+      → ((its : List ℕ) → IsShown u base its → word ≡ get_or its (11 + place) 0)
+      → place < length note.objects
       → (0 < word) × (word ≤ z.rows)
   item_inside place word is l = r.is_base.named word (place, item_is place word is l)
 
-  pub object_is : (place word : ℕ) → ((its : List ℕ) → IsShown u base its → word ≡ get_or its (11 + place) 0) → place < length note.objects
+  pub object_is : (place word : ℕ)
+      → ((its : List ℕ) → IsShown u base its → word ≡ get_or its (11 + place) 0)
+      → place < length note.objects
       → IsObjectShown u word (get_or note.objects place [])
-  object_is place word is l = let its : List ℕ = get_or note.objects place [] in let here = at_place note.objects place [] l in record {
-    shown = (note, r.noted, inr (r.is_base.is_base, (place, item_is place word is l, here)));
-    long = (r.is_base.objects_long its (place, here)).0;
-  }
+  object_is place word is l = let its : List ℕ = get_or note.objects place [] in
+      let here = at_place note.objects place [] l in record {
+        shown = (note, r.noted, inr (r.is_base.is_base, (place, item_is place word is l, here)));
+        long = (r.is_base.objects_long its (place, here)).0;
+      }

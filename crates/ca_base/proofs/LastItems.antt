@@ -26,43 +26,66 @@ module _ (z : Sizes) (u : TreeView) (base : ℕ) (shown : IsShownLast z u base) 
   in_count k l = omega (arith, length-take (count note.its) (drop 11 note.its))
 
   -- The word of an item, and that it names a row.
-  pub last_item : (k word : ℕ) → word ≡ get_or note.its (11 + k) 0 → k < length (last_items u) → word ≡ get_or (last_items u) k 0
-  last_item k word is l = is ∙ sym (get_or-take (count note.its) (drop 11 note.its) k 0 (in_count k l) ∙ get_or-drop 11 note.its k 0)
+  pub last_item : (k word : ℕ) → word ≡ get_or note.its (11 + k) 0 → k < length (last_items u)
+      → word ≡ get_or (last_items u) k 0
+  last_item k word is l = is
+      ∙ sym (get_or-take (count note.its) (drop 11 note.its) k 0 (in_count k l)
+      ∙ get_or-drop 11 note.its k 0)
 
-  pub item_names : (k word : ℕ) → word ≡ get_or note.its (11 + k) 0 → k < length (last_items u) → word ≤ z.rows
-  item_names k word is l = (shown.is_base.named word (k, at_place (last_items u) k 0 l ∙ ap some (sym (last_item k word is l)))).1
+  pub item_names : (k word : ℕ) → word ≡ get_or note.its (11 + k) 0 → k < length (last_items u)
+      → word ≤ z.rows
+  item_names k word is l =
+      (shown.is_base.named word (
+        k,
+        at_place (last_items u) k 0 l
+            ∙ ap some (sym (last_item k word is l)),
+      )).1
 
 -- A row that was filled with a base's words is a base.
-pub base_written : (row at_level many statistic : ℕ) (these : List ℕ) (k m n : MyTree) → IsHeld k row → at_level < 65536 → many ≡ length these
+pub base_written : (row at_level many statistic : ℕ) (these : List ℕ) (k m n : MyTree)
+    → IsHeld k row → at_level < 65536 → many ≡ length these
     → length these ≤ 120
     → HasFilled row 0 7 (λ i word. word ≡ get_or (base_head at_level many statistic) i 0) k m
-    → HasFilled row 11 (length these) (λ i word. word ≡ get_or these i 0) m n → HasWritten row (SpellsBase these at_level statistic) k n
-base_written row at_level many statistic these k m n h low is few f g = let one = f h.0 h.1 h.2 in let two = g one.0 (one.1.long ∙ h.1) one.2.here in (
-  two.0,
-  spells_base these at_level (144115188075855872 + at_level * 65536 + many) statistic h.0 one.0 two.0 h.1 low
-      (ap (λ (i : ℕ). 144115188075855872 + at_level * 65536 + i) is) few one.1 two.1,
-  rewritten_again row one.0 two.0 k m n one.2 two.2,
-)
+    → HasFilled row 11 (length these) (λ i word. word ≡ get_or these i 0) m n
+    → HasWritten row (SpellsBase these at_level statistic) k n
+base_written row at_level many statistic these k m n h low is few f g = let one = f h.0 h.1 h.2 in
+    let two = g one.0 (one.1.long ∙ h.1) one.2.here in (
+      two.0,
+      spells_base these at_level (144115188075855872 + at_level * 65536 + many) statistic h.0 one.0
+          two.0 h.1 low
+          (ap (λ (i : ℕ). 144115188075855872 + at_level * 65536 + i) is) few one.1 two.1,
+      rewritten_again row one.0 two.0 k m n one.2 two.2,
+    )
 
 -- The items before a place, others, and the items from another place on.
-module _ (xs these : List ℕ) (before behind : ℕ) (low : before ≤ length xs) (high : behind ≤ length xs) where
+module _ (xs these : List ℕ) (before behind : ℕ) (low : before ≤ length xs)
+    (high : behind ≤ length xs) where
   abbrev pub around : List ℕ
   around = take before xs ++ (these ++ drop behind xs)
 
   first_are : (k : ℕ) → k < before → get_or around k 0 ≡ get_or xs k 0
-  first_are k l = get_or_append_left (take before xs) (these ++ drop behind xs) 0 k (omega (arith, length-take-le before xs low))
+  first_are k l =
+      get_or_append_left (take before xs) (these ++ drop behind xs) 0 k (omega (
+        arith,
+        length-take-le before xs low,
+      ))
       ∙ get_or-take before xs k 0 l
 
   middle_are : (k : ℕ) → k < length these → get_or around (before + k) 0 ≡ get_or these k 0
   middle_are k l = let there : before + k - before ≡ k = omega arith in
-      get_or-append_right (take before xs) (these ++ drop behind xs) before (before + k) 0 (length-take-le before xs low) (omega arith)
-      ∙ (ap (λ (i : ℕ). get_or (these ++ drop behind xs) i 0) there ∙ get_or_append_left these (drop behind xs) 0 k l)
+      get_or-append_right (take before xs) (these ++ drop behind xs) before (before + k) 0
+      (length-take-le before xs low) (omega arith)
+      ∙ (ap (λ (i : ℕ). get_or (these ++ drop behind xs) i 0) there
+      ∙ get_or_append_left these (drop behind xs) 0 k l)
 
   last_are : (k : ℕ) → get_or around (before + length these + k) 0 ≡ get_or xs (behind + k) 0
-  last_are k = let one : before + length these + k - before ≡ length these + k = omega arith in let two : length these + k - length these ≡ k = omega arith in
-      get_or-append_right (take before xs) (these ++ drop behind xs) before (before + length these + k) 0 (length-take-le before xs low) (omega arith)
+  last_are k = let one : before + length these + k - before ≡ length these + k = omega arith in
+      let two : length these + k - length these ≡ k = omega arith in
+      get_or-append_right (take before xs) (these ++ drop behind xs) before
+      (before + length these + k) 0 (length-take-le before xs low) (omega arith)
       ∙ (ap (λ (i : ℕ). get_or (these ++ drop behind xs) i 0) one
-      ∙ (get_or-append_right these (drop behind xs) (length these) (length these + k) 0 refl (omega arith)
+      ∙ (get_or-append_right these (drop behind xs) (length these) (length these + k) 0 refl
+      (omega arith)
       ∙ (ap (λ (i : ℕ). get_or (drop behind xs) i 0) two ∙ get_or-drop behind xs k 0)))
 
   many_are : length around ≡ before + length these + (length xs - behind)
@@ -75,26 +98,33 @@ module _ (xs these : List ℕ) (before behind : ℕ) (low : before ≤ length xs
   )
 
   -- Where they were written in turn, they are the items of the new base.
-  pub around_written : (row at_level many statistic : ℕ) (a b d e f : MyTree) → IsHeld a row → at_level < 65536
+  pub around_written : (row at_level many statistic : ℕ) (a b d e f : MyTree) → IsHeld a row
+      → at_level < 65536
       → many ≡ before + length these + (length xs - behind) → many ≤ 120
       → HasFilled row 0 7 (λ i word. word ≡ get_or (base_head at_level many statistic) i 0) a b
       → HasFilled row (11 + 0) before (λ k word. word ≡ get_or xs (0 + k) 0) b d
       → HasFilled row (11 + before) (length these) (λ k word. word ≡ get_or these k 0) d e
-      → HasFilled row (11 + (before + length these)) (length xs - behind) (λ k word. word ≡ get_or xs (behind + k) 0) e f
+      → HasFilled row (11 + (before + length these)) (length xs - behind)
+      (λ k word. word ≡ get_or xs (behind + k) 0) e f
       → HasWritten row (SpellsBase around at_level statistic) a f
-  around_written row at_level many statistic a b d e f h lower is few head one two three = let m = many_are in
+  around_written row at_level many statistic a b d e f h lower is few head one two three =
+      let m = many_are in
       base_written row at_level many statistic around a b f h lower (omega arith) (omega arith) head
       (subst (λ (n : ℕ). HasFilled row 11 n says b f) (sym m)
       (filled_on row 11 (before + length these) (length xs - behind) says b e f
       (filled_on row 11 before (length these) says b d e
-      (filled_as row 11 before (λ k word. word ≡ get_or xs (0 + k) 0) says b d (λ k word l s. first k word l s) one)
-      (filled_as row (11 + before) (length these) (λ k word. word ≡ get_or these k 0) (λ j. says (before + j)) d e
+      (filled_as row 11 before (λ k word. word ≡ get_or xs (0 + k) 0) says b d
+      (λ k word l s. first k word l s) one)
+      (filled_as row (11 + before) (length these) (λ k word. word ≡ get_or these k 0)
+      (λ j. says (before + j)) d e
       (λ k word l s. s ∙ sym (middle_are k l)) two))
-      (filled_as row (11 + (before + length these)) (length xs - behind) (λ k word. word ≡ get_or xs (behind + k) 0)
+      (filled_as row (11 + (before + length these)) (length xs - behind)
+      (λ k word. word ≡ get_or xs (behind + k) 0)
       (λ j. says (before + length these + j)) e f (λ k word l s. s ∙ sym (last_are k)) three)))
     where
       says : ℕ → ℕ → Type 0
       says k word = word ≡ get_or around k 0
 
       first : (k word : ℕ) → k < before → word ≡ get_or xs (0 + k) 0 → word ≡ get_or around k 0
-      first k word l s = let there : 0 + k ≡ k = omega arith in s ∙ (ap (λ (i : ℕ). get_or xs i 0) there ∙ sym (first_are k l))
+      first k word l s = let there : 0 + k ≡ k = omega arith in
+          s ∙ (ap (λ (i : ℕ). get_or xs i 0) there ∙ sym (first_are k l))

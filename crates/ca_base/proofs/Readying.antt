@@ -23,14 +23,18 @@ use Rattle.ca_rows.specs.declared.view.Claim.TheVariants.{Holds}
 use Rattle.ca_rows.specs.Claims.{claim_of}
 
 -- An item finds its place and room.
-pub finds_place : (place : Result ℕ ℕ) (n leaf : ℕ) → IsInRange place n → IsRoom place n leaf → leaf ≤ 120 → IsPlaceFor place n
+pub finds_place : (place : Result ℕ ℕ) (n leaf : ℕ) → IsInRange place n → IsRoom place n leaf
+    → leaf ≤ 120 → IsPlaceFor place n
 finds_place (Ok at) n leaf l r few = l
 finds_place (Err at) n leaf l r few = (l, omega arith)
 
-module _ (z : Sizes) (m0 m1 m2 m3 : MyTree) (row new base : ℕ) (place : Result ℕ ℕ) (why : Putting) (bytes : List ℕ)
+module _ (z : Sizes) (m0 m1 m2 m3 : MyTree) (row new base : ℕ) (place : Result ℕ ℕ) (why : Putting)
+    (bytes : List ℕ)
     (key_at key_end statistic : ℕ) (a b : List ℕ) (shown : IsShownLast z m0.0.upper base)
-    (upper : m3.0.upper ≡ m0.0.upper) (other : row ≢ new) (one : SpellsObject bytes key_at key_end a) (wrote : IsRewritten row a m1 m2)
-    (two : SpellsBase (put_in (last_items m0.0.upper) place row) (first_note m0.0.upper.notes).place.level statistic b)
+    (upper : m3.0.upper ≡ m0.0.upper) (other : row ≢ new)
+    (one : SpellsObject bytes key_at key_end a) (wrote : IsRewritten row a m1 m2)
+    (two : SpellsBase (put_in (last_items m0.0.upper) place row)
+    (first_note m0.0.upper.notes).place.level statistic b)
     (wrote_too : IsRewritten new b m2 m3) where
   abbrev note : Note
   note = first_note m0.0.upper.notes
@@ -44,61 +48,88 @@ module _ (z : Sizes) (m0 m1 m2 m3 : MyTree) (row new base : ℕ) (place : Result
   is_note : first_note m3.0.upper.notes ≡ note
   is_note = note_is m0 m3 upper
 
-  pub ready : m0.0.pin.pinned ≡ true → 0 < m0.0.upper.number → IsRoom place (length (last_items m0.0.upper)) z.leaf
-      → IsPair z.keypos (slice_range bytes key_at key_end, bytes) → IsPlace (map pair note.objects) (slice_range bytes key_at key_end) place
-      → IsFor why place → m3.0.pin ≡ m0.0.pin → HasKey note.place.span (slice_range bytes key_at key_end)
+  pub ready : m0.0.pin.pinned ≡ true → 0 < m0.0.upper.number
+      → IsRoom place (length (last_items m0.0.upper)) z.leaf
+      → IsPair z.keypos (slice_range bytes key_at key_end, bytes)
+      → IsPlace (map pair note.objects) (slice_range bytes key_at key_end) place
+      → IsFor why place → m3.0.pin ≡ m0.0.pin
+      → HasKey note.place.span (slice_range bytes key_at key_end)
       → IsUpdate z m3 new (put_update_of m3 row new place why)
   ready is_pinned is_pass room is_pair is_place is_for pin about =
-      subst (λ (x : Note × List ℕ × List ℕ). IsUpdate z m3 new (put_update x.0 row x.1 x.2 place why))
+      subst (λ (x : Note × List ℕ × List ℕ).
+      IsUpdate z m3 new (put_update x.0 row x.1 x.2 place why))
       (λ i. (sym is_note i, sym is_a i, sym (words_are new b m2 m3 wrote_too) i))
       (is_put z m3 note row new place why statistic a b
-      (new_base z m0 m2 m3 new base (put_in (last_items m0.0.upper) place row) statistic b shown is_pinned is_pass upper pin two wrote_too)
+      (new_base z m0 m2 m3 new base (put_in (last_items m0.0.upper) place row) statistic b shown
+      is_pinned is_pass upper pin two wrote_too)
       record {
         object_held = object_held;
         is_object = one.is_object;
-        place_is = subst (λ (k : List ℕ). IsPlace (map pair note.objects) k place) (sym one.key_is) is_place;
+        place_is = subst
+            (λ (k : List ℕ). IsPlace (map pair note.objects) k place) (sym one.key_is) is_place;
         room = room;
-        pair_is = subst (λ (x : List ℕ × List ℕ). IsPair z.keypos x) (λ i. (sym one.key_is i, sym one.object_is i)) is_pair;
+        pair_is = subst (λ (x : List ℕ × List ℕ). IsPair z.keypos x)
+            (λ i. (sym one.key_is i, sym one.object_is i)) is_pair;
         is_for = is_for;
         about = subst (HasKey note.place.span) (sym one.key_is) about;
       })
 
   -- The event is that of the object.
-  pub is_event : (put_update_of m3 row new place why).event ≡ put_event why (slice_range bytes key_at key_end) (object_at place note.objects) bytes
-  is_event = ap (λ (x : Note × List ℕ). put_event why (key x.1) (object_at place x.0.objects) (object x.1)) (λ i. (is_note i, is_a i))
-      ∙ ap (λ (x : List ℕ × List ℕ). put_event why x.0 (object_at place note.objects) x.1) (λ i. (one.key_is i, one.object_is i))
+  pub is_event : (put_update_of m3 row new place why).event
+      ≡ put_event why (slice_range bytes key_at key_end) (object_at place note.objects) bytes
+  is_event = ap
+      (λ (x : Note × List ℕ). put_event why (key x.1) (object_at place x.0.objects) (object x.1))
+      (λ i. (is_note i, is_a i))
+      ∙ ap (λ (x : List ℕ × List ℕ). put_event why x.0 (object_at place note.objects) x.1)
+      (λ i. (one.key_is i, one.object_is i))
 
-  pub tried : (won : Bool) (v : TreeView) → HasSwapped (put_update_of m3 row new place why).event z won m3.0.upper v
-      → HasSwapped (put_event why (slice_range bytes key_at key_end) (object_at place note.objects) bytes) z won m0.0.upper v
-  tried won v h = subst (λ (x : Event × TreeView). HasSwapped x.0 z won x.1 v) (λ i. (is_event i, upper i)) h
+  pub tried : (won : Bool) (v : TreeView)
+      → HasSwapped (put_update_of m3 row new place why).event z won m3.0.upper v
+      → HasSwapped (put_event why (slice_range bytes key_at key_end) (object_at place note.objects)
+      bytes) z won m0.0.upper v
+  tried won v h = subst (λ (x : Event × TreeView). HasSwapped x.0 z won x.1 v)
+      (λ i. (is_event i, upper i)) h
 
   pub renewed_so : (met : Met) (won : Bool) (v : TreeView)
-      → HasRenewed z met (get_or (put_update_of m3 row new place why).its 1 0) (put_update_of m3 row new place why).edit (Ok won) m3.0.upper v
-      → HasRenewed z met statistic (Put (slice_range bytes key_at key_end) bytes) (Ok won) m0.0.upper v
-  renewed_so met won v h = subst (λ (x : ℕ × Edit × TreeView). HasRenewed z met x.0 x.1 (Ok won) x.2 v)
+      → HasRenewed z met (get_or (put_update_of m3 row new place why).its 1 0)
+      (put_update_of m3 row new place why).edit (Ok won) m3.0.upper v
+      → HasRenewed z met statistic (Put (slice_range bytes key_at key_end) bytes) (Ok won)
+      m0.0.upper v
+  renewed_so met won v h = subst
+      (λ (x : ℕ × Edit × TreeView). HasRenewed z met x.0 x.1 (Ok won) x.2 v)
       (λ i. (
-        (ap (λ (its : List ℕ). get_or its 1 0) (words_are new b m2 m3 wrote_too) ∙ two.statistic_is) i,
+        (ap (λ (its : List ℕ). get_or its 1 0) (words_are new b m2 m3 wrote_too)
+            ∙ two.statistic_is) i,
         (ap (λ (its : List ℕ). Put (key its) (object its)) is_a
             ∙ ap (λ (x : List ℕ × List ℕ). Put x.0 x.1) (λ j. (one.key_is j, one.object_is j))) i,
         upper i,
       )) h
 
 -- What was written at the level of a cursor is at that of the base.
-pub spells_there : (first now : TreeView) (these : List ℕ → List ℕ) (there here statistic : ℕ) (its : List ℕ) → now ≡ first → there ≡ here
-    → SpellsBase (these (last_items now)) here statistic its → SpellsBase (these (last_items first)) there statistic its
-spells_there first now these there here statistic its same is s = subst (λ (u : TreeView). SpellsBase (these (last_items u)) there statistic its) same
+pub spells_there : (first now : TreeView) (these : List ℕ → List ℕ) (there here statistic : ℕ)
+    (its : List ℕ) → now ≡ first → there ≡ here
+    → SpellsBase (these (last_items now)) here statistic its
+    → SpellsBase (these (last_items first)) there statistic its
+spells_there first now these there here statistic its same is s = subst
+    (λ (u : TreeView). SpellsBase (these (last_items u)) there statistic its) same
     (subst (λ (n : ℕ). SpellsBase (these (last_items now)) n statistic its) (sym is) s)
 
 -- It has as many items as objects, and the place is among them.
-pub many_are : (z : Sizes) (u : TreeView) (base many : ℕ) → IsShownLast z u base → many ≡ length (first_note u.notes).objects
+pub many_are : (z : Sizes) (u : TreeView) (base many : ℕ) → IsShownLast z u base
+    → many ≡ length (first_note u.notes).objects
     → many ≡ length (last_items u)
 many_are z u base many shown is = is ∙ shown.is_base.as_many
 
-pub place_in : (z : Sizes) (u : TreeView) (base many : ℕ) (place : Result ℕ ℕ) (k : List ℕ) → IsShownLast z u base
-    → many ≡ length (first_note u.notes).objects → IsPlace (map pair (first_note u.notes).objects) k place → IsInRange place many
-place_in z u base many place k shown is h = let note = first_note u.notes in subst (IsInRange place) (length-map note.objects pair ∙ sym is)
+pub place_in : (z : Sizes) (u : TreeView) (base many : ℕ) (place : Result ℕ ℕ) (k : List ℕ)
+    → IsShownLast z u base
+    → many ≡ length (first_note u.notes).objects
+    → IsPlace (map pair (first_note u.notes).objects) k place → IsInRange place many
+place_in z u base many place k shown is h = let note = first_note u.notes in
+    subst (IsInRange place) (length-map note.objects pair ∙ sym is)
     (in_range_of (map pair note.objects) k place h)
 
-pub few_are : (z : Sizes) (u : TreeView) (base many : ℕ) → IsShownLast z u base → many ≡ length (first_note u.notes).objects → z.leaf ≤ 120 → many ≤ 120
-few_are z u base many shown is leaf = let its = (first_note u.notes).its in let few = shown.is_base.few in let all = many_are z u base many shown is in
+pub few_are : (z : Sizes) (u : TreeView) (base many : ℕ) → IsShownLast z u base
+    → many ≡ length (first_note u.notes).objects → z.leaf ≤ 120 → many ≤ 120
+few_are z u base many shown is leaf = let its = (first_note u.notes).its in
+    let few = shown.is_base.few in let all = many_are z u base many shown is in
     omega (arith, length-take (count its) (drop 11 its))

@@ -25,7 +25,8 @@ use Rattle.ca_rows.specs.Claims.{claim_of}
 held_once : (c : Claim) (a b : List ℕ) → c ≡ Holds a → c ≡ Holds b → a ≡ b
 held_once c a b p q = let same : Holds a ≡ Holds b = sym p ∙ q in cc
 
-module _ (z : Sizes) (kept : Vec Kept Global) (m : MyTree) (new : ℕ) (x : Update) (up : IsUpdate z m new x) (old : IsBaseNote z x.old)
+module _ (z : Sizes) (kept : Vec Kept Global) (m : MyTree) (new : ℕ) (x : Update)
+    (up : IsUpdate z m new x) (old : IsBaseNote z x.old)
     (first_is : first_note m.0.upper.notes ≡ x.old)
     (h : HasHeld z.rows kept m.0.claims (new ∷ x.comes)) where
   -- what the update's new base is noted as
@@ -33,28 +34,39 @@ module _ (z : Sizes) (kept : Vec Kept Global) (m : MyTree) (new : ℕ) (x : Upda
   new_note = record { row = new; its = x.its; objects = x.objects; place = x.old.place }
 
   -- The words of a row that the seat holds are as many as a row has.
-  long_held : (row : ℕ) (its : List ℕ) → IsIn row (new ∷ x.comes) → claim_of m.0.claims row ≡ some (Holds its) → length its ≡ 136
+  long_held : (row : ℕ) (its : List ℕ) → IsIn row (new ∷ x.comes)
+      → claim_of m.0.claims row ≡ some (Holds its) → length its ≡ 136
   long_held row its i is = let own = (h.each row i).2 in
       subst (λ (ys : List ℕ). length ys ≡ 136) (held own.0 own.2) own.1
     where
       held : (ys : List ℕ) → claim_of m.0.claims row ≡ some (Holds ys) → ys ≡ its
-      held ys e = held_once (Holds ys) ys its refl (some-injective (Holds ys) (Holds its) (sym e ∙ is))
+      held ys e =
+          held_once (Holds ys) ys its refl (some-injective (Holds ys) (Holds its) (sym e ∙ is))
 
   named_new : (r : ℕ) → IsIn r (items x.its) → (0 < r) × (r ≤ z.rows)
   named_new r i = let many = up.as_many in let l = within (items x.its) i.0 r i.1 in ⊎_elim
-      (λ (o : (k : ℕ) × (get_elem? (items x.old.its) k ≡ some r) × (get_elem? x.old.objects k ≡ some (get_or x.objects i.0 []))).
+      (λ (o : (k : ℕ) × (get_elem? (items x.old.its) k ≡ some r)
+      × (get_elem? x.old.objects k ≡ some (get_or x.objects i.0 []))).
       old.named r (o.0, o.1))
-      (λ (o : IsIn r x.comes × (claim_of m.0.claims r ≡ some (Holds (get_or x.objects i.0 []))) × IsObjectRow (get_or x.objects i.0 [])).
+      (λ (o : IsIn r x.comes × (claim_of m.0.claims r ≡ some (Holds (get_or x.objects i.0 [])))
+      × IsObjectRow (get_or x.objects i.0 [])).
       let own = h.each r (in_rest r new x.comes o.0) in (own.0, own.1))
       (up.are_objects i.0 r (get_or x.objects i.0 []) i.1 (elem_or x.objects i.0 [] (omega arith)))
 
   long_new : (its : List ℕ) → IsIn its x.objects → (length its ≡ 136) × IsObjectRow its
   long_new its i = let many = up.as_many in let l = within x.objects i.0 its i.1 in ⊎_elim
-      (λ (o : (k : ℕ) × (get_elem? (items x.old.its) k ≡ some (get_or (items x.its) i.0 0)) × (get_elem? x.old.objects k ≡ some its)).
+      (λ (o : (k : ℕ) × (get_elem? (items x.old.its) k ≡ some (get_or (items x.its) i.0 0))
+      × (get_elem? x.old.objects k ≡ some its)).
       old.objects_long its (o.0, o.2))
-      (λ (o : IsIn (get_or (items x.its) i.0 0) x.comes × (claim_of m.0.claims (get_or (items x.its) i.0 0) ≡ some (Holds its)) × IsObjectRow its).
-      (long_held (get_or (items x.its) i.0 0) its (in_rest (get_or (items x.its) i.0 0) new x.comes o.0) o.1, o.2))
-      (up.are_objects i.0 (get_or (items x.its) i.0 0) its (elem_or (items x.its) i.0 0 (omega arith)) i.1)
+      (λ (o : IsIn (get_or (items x.its) i.0 0) x.comes
+      × (claim_of m.0.claims (get_or (items x.its) i.0 0) ≡ some (Holds its))
+      × IsObjectRow its). (
+        long_held (get_or (items x.its) i.0 0) its
+            (in_rest (get_or (items x.its) i.0 0) new x.comes o.0) o.1,
+        o.2,
+      ))
+      (up.are_objects i.0 (get_or (items x.its) i.0 0) its
+      (elem_or (items x.its) i.0 0 (omega arith)) i.1)
 
   is_base_note : IsBaseNote z new_note
   is_base_note = let own = h.each new (in_first new x.comes) in record {
@@ -72,9 +84,11 @@ module _ (z : Sizes) (kept : Vec Kept Global) (m : MyTree) (new : ℕ) (x : Upda
     objects_long = long_new;
   }
 
-  pub renewed : (m' : MyTree) (v : TreeView) → length x.comes ≤ 1 → IsUpdated new x m m' → v ≡ m'.0.upper
+  pub renewed : (m' : MyTree) (v : TreeView) → length x.comes ≤ 1 → IsUpdated new x m m'
+      → v ≡ m'.0.upper
       → IsRenewed z (met_of m) (get_or x.its 1 0) x.edit m.0.upper v
-  renewed m' v few u same = let w : v ≡ updated (met_of m) m.0.upper u.more new x = same ∙ ap (λ (y : MyTree). y.0.upper) u.now in
+  renewed m' v few u same = let w : v ≡ updated (met_of m) m.0.upper u.more new x = same
+      ∙ ap (λ (y : MyTree). y.0.upper) u.now in
       subst (IsRenewed z (met_of m) (get_or x.its 1 0) x.edit m.0.upper) (sym w) record {
         notes = refl;
         ways = refl;
@@ -88,16 +102,27 @@ module _ (z : Sizes) (kept : Vec Kept Global) (m : MyTree) (new : ℕ) (x : Upda
         same_loads = refl;
         last = refl;
         inventory = (x, sym first_is, few, refl);
-        renewal = ap (λ (n : Note). renewal_of (met_of m) m.0.upper (edit_key x.edit) n new_note) (sym first_is);
+        renewal = ap
+            (λ (n : Note). renewal_of (met_of m) m.0.upper (edit_key x.edit) n new_note)
+            (sym first_is);
       }
 
   -- It is the row that took the old one's place.
-  pub placed : (m' : MyTree) (v : TreeView) → IsUpdated new x m m' → v ≡ m'.0.upper → new ≡ (first_note v.notes).row
-  placed m' v u same = ap (λ (w : TreeView). (first_note w.notes).row) (sym (same ∙ ap (λ (y : MyTree). y.0.upper) u.now))
+  pub placed : (m' : MyTree) (v : TreeView) → IsUpdated new x m m' → v ≡ m'.0.upper
+      → new ≡ (first_note v.notes).row
+  placed m' v u same = ap
+      (λ (w : TreeView). (first_note w.notes).row) (sym (same
+      ∙ ap (λ (y : MyTree). y.0.upper) u.now))
 
--- What was met of the pool as an update was carried out is met still, once the rows that went were retired.
-pub met_still : (m m' l : MyTree) → met_of m' ≡ met_of m → losses l ≡ losses m' → HasMet 0 0 m' l → l.0.upper ≡ m'.0.upper → l.0.pin ≡ m'.0.pin
+-- What was met of the pool as an update was carried out is met still, once the rows that went were
+-- retired.
+pub met_still : (m m' l : MyTree) → met_of m' ≡ met_of m → losses l ≡ losses m' → HasMet 0 0 m' l
+    → l.0.upper ≡ m'.0.upper → l.0.pin ≡ m'.0.pin
     → met_of m ≡ met_of l
-met_still m m' l same lost met upper pin = let links = ap (λ (u : TreeView). u.lost) upper in let pool : l.0.lost ≡ m'.0.lost = omega arith in
-    let empty : l.0.empty ≡ m'.0.empty = omega (arith, met.0) in let worn : l.0.worn ≡ m'.0.worn = omega (arith, met.1) in
-    let now : met_of l ≡ met_of m' = λ i. record { lost = pool i; empty = empty i; worn = worn i; lags = (pin i).lags } in sym (now ∙ same)
+met_still m m' l same lost met upper pin = let links = ap (λ (u : TreeView). u.lost) upper in
+    let pool : l.0.lost ≡ m'.0.lost = omega arith in
+    let empty : l.0.empty ≡ m'.0.empty = omega (arith, met.0) in
+    let worn : l.0.worn ≡ m'.0.worn = omega (arith, met.1) in
+    let now : met_of l ≡ met_of m' =
+    λ i. record { lost = pool i; empty = empty i; worn = worn i; lags = (pin i).lags } in
+    sym (now ∙ same)

@@ -9,21 +9,29 @@ use Rattle.ca_base.proofs.Filling.{rewritten_again}
 use Rattle.ca_base.proofs.Words.{packed}
 
 -- The first word, the links and the join word, and the key's bytes from word 11 on.
-pub spells_route : (bytes : List ℕ) (at_level left right attempt form join : ℕ) (its one new : List ℕ) → length its ≡ 136 → at_level < 65536
-    → form ≡ 216172782113783808 + at_level * 65536 + length bytes → join ≡ attempt * 4 → length bytes ≤ 1000
+pub spells_route : (bytes : List ℕ) (at_level left right attempt form join : ℕ)
+    (its one new : List ℕ) → length its ≡ 136 → at_level < 65536
+    → form ≡ 216172782113783808 + at_level * 65536 + length bytes → join ≡ attempt * 4
+    → length bytes ≤ 1000
     → IsFilled 0 4 (λ k word. word ≡ get_or (form ∷ left ∷ right ∷ join ∷ []) k 0) its one
-    → IsFilled 11 ((length bytes + 7) / 8) (HasEight bytes) one new → SpellsRoute at_level bytes left right attempt new
-spells_route bytes at_level left right attempt form join its one new long low is joins short f g = record {
-  long = wide;
-  is_route = let h = first in omega arith;
-  level_is = let h = first in omega arith;
-  count_is = count_is;
-  key_is = ap (λ n. take n (bytes_in (drop 11 new))) count_is
-      ∙ packed (drop 11 new) bytes ((length bytes + 7) / 8) (omega arith) (omega (arith, length-drop 11 new, wide)) has_eight;
-  left_is = g.before 1 (omega arith) ∙ f.inside 1 (omega arith);
-  right_is = g.before 2 (omega arith) ∙ f.inside 2 (omega arith);
-  join_is = g.before 3 (omega arith) ∙ (f.inside 3 (omega arith) ∙ joins);
-}
+    → IsFilled 11 ((length bytes + 7) / 8) (HasEight bytes) one new
+    → SpellsRoute at_level bytes left right attempt new
+spells_route bytes at_level left right attempt form join its one new long low is joins short f g =
+    record {
+      long = wide;
+      is_route = let h = first in omega arith;
+      level_is = let h = first in omega arith;
+      count_is = count_is;
+      key_is = ap (λ n. take n (bytes_in (drop 11 new))) count_is
+          ∙ packed (drop 11 new) bytes ((length bytes + 7) / 8) (omega arith) (omega (
+            arith,
+            length-drop 11 new,
+            wide,
+          )) has_eight;
+      left_is = g.before 1 (omega arith) ∙ f.inside 1 (omega arith);
+      right_is = g.before 2 (omega arith) ∙ f.inside 2 (omega arith);
+      join_is = g.before 3 (omega arith) ∙ (f.inside 3 (omega arith) ∙ joins);
+    }
   where
     first : get_or new 0 0 ≡ form
     first = g.before 0 (omega arith) ∙ f.inside 0 (omega arith)
@@ -38,13 +46,18 @@ spells_route bytes at_level left right attempt form join its one new long low is
     has_eight k l = subst (HasEight bytes k) (sym (get_or-drop 11 new k 0)) (g.inside k l)
 
 -- A row that was filled with a route's words is a route.
-pub route_written : (row at_level left right attempt form join : ℕ) (bytes : List ℕ) (k m n : MyTree) → IsHeld k row → at_level < 65536
-    → form ≡ 216172782113783808 + at_level * 65536 + length bytes → join ≡ attempt * 4 → length bytes ≤ 1000
+pub route_written : (row at_level left right attempt form join : ℕ) (bytes : List ℕ)
+    (k m n : MyTree) → IsHeld k row → at_level < 65536
+    → form ≡ 216172782113783808 + at_level * 65536 + length bytes → join ≡ attempt * 4
+    → length bytes ≤ 1000
     → HasFilled row 0 4 (λ i word. word ≡ get_or (form ∷ left ∷ right ∷ join ∷ []) i 0) k m
-    → HasFilled row 11 ((length bytes + 7) / 8) (HasEight bytes) m n → HasWritten row (SpellsRoute at_level bytes left right attempt) k n
-route_written row at_level left right attempt form join bytes k m n h low is joins short f g = let one = f h.0 h.1 h.2 in
+    → HasFilled row 11 ((length bytes + 7) / 8) (HasEight bytes) m n
+    → HasWritten row (SpellsRoute at_level bytes left right attempt) k n
+route_written row at_level left right attempt form join bytes k m n h low is joins short f g =
+    let one = f h.0 h.1 h.2 in
     let two = g one.0 (one.1.long ∙ h.1) one.2.here in (
       two.0,
-      spells_route bytes at_level left right attempt form join h.0 one.0 two.0 h.1 low is joins short one.1 two.1,
+      spells_route bytes at_level left right attempt form join h.0 one.0 two.0 h.1 low is joins
+          short one.1 two.1,
       rewritten_again row one.0 two.0 k m n one.2 two.2,
     )

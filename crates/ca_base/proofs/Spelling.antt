@@ -7,22 +7,33 @@ use Rattle.ca_base.specs.Writing.{HasEight, IsFilled, SpellsObject, SpellsBase}
 use Rattle.ca_base.proofs.Words.{packed, padded}
 
 -- An object row: its first word, and its bytes from word 11 on.
-pub spells_object : (bytes : List ℕ) (key_at key_end form : ℕ) (its one new : List ℕ) → length its ≡ 136 → get_or its 0 0 ≡ form
-    → form / 72057594037927936 ≡ 1 → form / 4294967296 % 16777216 ≡ key_end - key_at → form / 65536 % 65536 ≡ key_at → form % 65536 ≡ length bytes
+pub spells_object : (bytes : List ℕ) (key_at key_end form : ℕ) (its one new : List ℕ)
+    → length its ≡ 136 → get_or its 0 0 ≡ form
+    → form / 72057594037927936 ≡ 1 → form / 4294967296 % 16777216 ≡ key_end - key_at
+    → form / 65536 % 65536 ≡ key_at → form % 65536 ≡ length bytes
     → length bytes ≤ 1000 → IsFilled 11 ((length bytes + 7) / 8) (HasEight bytes) its one
-    → IsFilled (11 + (length bytes + 7) / 8) (136 - (11 + (length bytes + 7) / 8)) (λ _ word. word ≡ 0) one new → SpellsObject bytes key_at key_end new
-spells_object bytes key_at key_end form its one new long first is_object is_length is_place is_count short f g = record {
-  long = wide;
-  is_object = (
-    ap (λ x. x / 72057594037927936) first' ∙ is_object,
-    λ i l. let behind : length bytes ≤ i = subst (λ n. n ≤ i) (ap (λ x. x % 65536) first' ∙ is_count) l in
-        padded (drop 11 new) bytes ((length bytes + 7) / 8) i behind (omega (arith, length-drop 11 new, wide)) has_eight is_zero,
-  );
-  object_is = object_is;
-  key_is = ap (λ n. take n (drop (key_place new) (object new))) (ap (λ x. x / 4294967296 % 16777216) first' ∙ is_length)
-      ∙ (ap (λ n. take (key_end - key_at) (drop n (object new))) (ap (λ x. x / 65536 % 65536) first' ∙ is_place)
-      ∙ ap (λ (o : List ℕ). take (key_end - key_at) (drop key_at o)) object_is);
-}
+    → IsFilled (11 + (length bytes + 7) / 8) (136 - (11 + (length bytes + 7) / 8))
+    (λ _ word. word ≡ 0) one new → SpellsObject bytes key_at key_end new
+spells_object bytes key_at key_end form its one new long first is_object is_length is_place is_count
+    short f g = record {
+      long = wide;
+      is_object = (
+        ap (λ x. x / 72057594037927936) first' ∙ is_object,
+        λ i l. let behind : length bytes ≤ i = subst
+            (λ n. n ≤ i) (ap (λ x. x % 65536) first' ∙ is_count) l in
+            padded (drop 11 new) bytes ((length bytes + 7) / 8) i behind (omega (
+              arith,
+              length-drop 11 new,
+              wide,
+            )) has_eight is_zero,
+      );
+      object_is = object_is;
+      key_is = ap (λ n. take n (drop (key_place new) (object new))) (ap
+          (λ x. x / 4294967296 % 16777216) first' ∙ is_length)
+          ∙ (ap (λ n. take (key_end - key_at) (drop n (object new))) (ap (λ x. x / 65536 % 65536) first'
+          ∙ is_place)
+          ∙ ap (λ (o : List ℕ). take (key_end - key_at) (drop key_at o)) object_is);
+    }
   where
     first' : get_or new 0 0 ≡ form
     first' = g.before 0 (omega arith) ∙ (f.before 0 (omega arith) ∙ first)
@@ -31,28 +42,39 @@ spells_object bytes key_at key_end form its one new long first is_object is_leng
     wide = g.long ∙ (f.long ∙ long)
 
     has_eight : (k : ℕ) → k < (length bytes + 7) / 8 → HasEight bytes k (get_or (drop 11 new) k 0)
-    has_eight k l = subst (HasEight bytes k) (sym (g.before (11 + k) (omega arith)) ∙ sym (get_or-drop 11 new k 0)) (f.inside k l)
+    has_eight k l = subst (HasEight bytes k) (sym (g.before (11 + k) (omega arith))
+        ∙ sym (get_or-drop 11 new k 0)) (f.inside k l)
 
-    is_zero : (k : ℕ) → (length bytes + 7) / 8 ≤ k → k < length (drop 11 new) → get_or (drop 11 new) k 0 ≡ 0
-    is_zero k l h = let e : 11 + (length bytes + 7) / 8 + (k - (length bytes + 7) / 8) ≡ 11 + k = omega arith in
+    is_zero : (k : ℕ) → (length bytes + 7) / 8 ≤ k → k < length (drop 11 new)
+        → get_or (drop 11 new) k 0 ≡ 0
+    is_zero k l h = let e : 11 + (length bytes + 7) / 8 + (k - (length bytes + 7) / 8)
+        ≡ 11 + k = omega arith in
         get_or-drop 11 new k 0 ∙ (ap (λ n. get_or new n 0) (sym e)
         ∙ g.inside (k - (length bytes + 7) / 8) (omega (arith, length-drop 11 new, wide)))
 
     object_is : object new ≡ bytes
     object_is = ap (λ n. take n (bytes_in (drop 11 new))) (ap (λ x. x % 65536) first' ∙ is_count)
-        ∙ packed (drop 11 new) bytes ((length bytes + 7) / 8) (omega arith) (omega (arith, length-drop 11 new, wide)) has_eight
+        ∙ packed (drop 11 new) bytes ((length bytes + 7) / 8) (omega arith) (omega (
+          arith,
+          length-drop 11 new,
+          wide,
+        )) has_eight
 
 -- A base row: the words up to its mark, and its items from word 11 on.
-pub spells_base : (these : List ℕ) (at_level form statistic : ℕ) (its one new : List ℕ) → length its ≡ 136 → at_level < 65536
+pub spells_base : (these : List ℕ) (at_level form statistic : ℕ) (its one new : List ℕ)
+    → length its ≡ 136 → at_level < 65536
     → form ≡ 144115188075855872 + at_level * 65536 + length these → length these ≤ 120
     → IsFilled 0 7 (λ k word. word ≡ get_or (form ∷ statistic ∷ 0 ∷ 0 ∷ 0 ∷ 0 ∷ 0 ∷ []) k 0) its one
-    → IsFilled 11 (length these) (λ k word. word ≡ get_or these k 0) one new → SpellsBase these at_level statistic new
+    → IsFilled 11 (length these) (λ k word. word ≡ get_or these k 0) one new
+    → SpellsBase these at_level statistic new
 spells_base these at_level form statistic its one new long low is few f g = record {
   long = wide;
   is_base = let h = first in omega arith;
-  items_are = ap (λ n. take n (drop 11 new)) count_is ∙ same_number_lists (take (length these) (drop 11 new)) these wide_items
+  items_are = ap (λ n. take n (drop 11 new)) count_is
+      ∙ same_number_lists (take (length these) (drop 11 new)) these wide_items
       (λ k l. let small : k < length these = omega (arith, wide_items) in
-      get_or-take (length these) (drop 11 new) k 0 small ∙ (get_or-drop 11 new k 0 ∙ g.inside k small));
+      get_or-take (length these) (drop 11 new) k 0 small
+      ∙ (get_or-drop 11 new k 0 ∙ g.inside k small));
   level_is = let h = first in omega arith;
   count_is = count_is;
   unmarked = g.before 2 (omega arith) ∙ f.inside 2 (omega arith);
@@ -69,4 +91,5 @@ spells_base these at_level form statistic its one new long low is few f g = reco
     count_is = let h = first in omega arith
 
     wide_items : length (take (length these) (drop 11 new)) ≡ length these
-    wide_items = length-take-le (length these) (drop 11 new) (omega (arith, length-drop 11 new, wide))
+    wide_items =
+        length-take-le (length these) (drop 11 new) (omega (arith, length-drop 11 new, wide))

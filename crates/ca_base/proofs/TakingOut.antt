@@ -38,7 +38,8 @@ past_other zero k e = omega arith
 past_other (suc at) zero e = omega arith
 past_other (suc at) (suc k) e = past_other at k (omega arith)
 
-at_removed : {A : Type 0} (xs : List A) (at k : ℕ) → get_elem? (remove xs at) k ≡ get_elem? xs (past at k)
+at_removed : {A : Type 0} (xs : List A) (at k : ℕ)
+    → get_elem? (remove xs at) k ≡ get_elem? xs (past at k)
 at_removed [] zero k = refl
 at_removed [] (suc at) zero = refl
 at_removed [] (suc at) (suc k) = refl
@@ -52,20 +53,27 @@ still_in [] at i r n e = absurd (some-ne-none r (sym e))
 still_in (x ∷ xs) zero zero r n e = absurd (n refl)
 still_in (x ∷ xs) zero (suc i) r n e = (i, e)
 still_in (x ∷ xs) (suc at) zero r n e = (0, e)
-still_in (x ∷ xs) (suc at) (suc i) r n e = let rest = still_in xs at i r (λ f. n (ap suc f)) e in (suc rest.0, rest.1)
+still_in (x ∷ xs) (suc at) (suc i) r n e = let rest = still_in xs at i r (λ f. n (ap suc f)) e in
+    (suc rest.0, rest.1)
 
-map_removed : {A B : Type 0} (f : A → B) (xs : List A) (at : ℕ) → map f (remove xs at) ≡ remove (map f xs) at
-map_removed f xs at = map-append f (take at xs) (drop (suc at) xs) ∙ rw (take-map f at xs, drop-map f (suc at) xs) refl
+map_removed : {A B : Type 0} (f : A → B) (xs : List A) (at : ℕ)
+    → map f (remove xs at) ≡ remove (map f xs) at
+map_removed f xs at = map-append f (take at xs) (drop (suc at) xs)
+    ∙ rw (take-map f at xs, drop-map f (suc at) xs) refl
 
 -- The key is that of the object at its place.
-pub key_is : (objects : List (List ℕ)) (k : List ℕ) (at : ℕ) → IsAt (map pair objects) k at → key_at at objects ≡ k
+pub key_is : (objects : List (List ℕ)) (k : List ℕ) (at : ℕ) → IsAt (map pair objects) k at
+    → key_at at objects ≡ k
 key_is objects k at h = let l = h.in_range in let long = length-map objects pair in
     ap (λ (p : Pair). p.0) (sym (get_or-map pair objects at [] nothing (omega arith)))
-    ∙ ap (λ (xs : List Pair). (get_or xs 0 nothing).0) (sym h.equal ∙ is_found (map pair objects) k at h)
+    ∙ ap (λ (xs : List Pair). (get_or xs 0 nothing).0) (sym h.equal
+    ∙ is_found (map pair objects) k at h)
 
 module _ (z : Sizes) (m : MyTree) (note : Note) (at new statistic : ℕ) (b : List ℕ)
-    (n : IsNewBase z m new note (remove (items note.its) at) statistic b) (ordered : IsStoreMap z.keypos (map pair note.objects))
-    (place : IsAt (map pair note.objects) (key_at at note.objects) at) (about : HasKey note.place.span (key_at at note.objects)) where
+    (n : IsNewBase z m new note (remove (items note.its) at) statistic b)
+    (ordered : IsStoreMap z.keypos (map pair note.objects))
+    (place : IsAt (map pair note.objects) (key_at at note.objects) at)
+    (about : HasKey note.place.span (key_at at note.objects)) where
   in_objects : at < length note.objects
   in_objects = let l = place.in_range in let long = length-map note.objects pair in omega arith
 
@@ -77,31 +85,47 @@ module _ (z : Sizes) (m : MyTree) (note : Note) (at new statistic : ℕ) (b : Li
       omega (arith, length-take (count note.its) (drop 11 note.its))
 
   pub is_taken_out : IsUpdate z m new (take_update note b at)
-  is_taken_out = is_update z m new (take_update note b at) (remove (items note.its) at) statistic n few record {
-    as_many = let many = n.is_base.as_many in let a = length-remove note.objects at in_objects in let i = length-remove (items note.its) at in_items in
-        omega arith;
-    are_objects = λ k r its p q. inl (past at k, sym (at_removed (items note.its) at k) ∙ p, sym (at_removed note.objects at k) ∙ q);
-    come = λ r i. absurd (in_nothing r [] refl i);
-    come_once = tt;
-    go = λ r i. (
-      at,
-      elem_or (items note.its) at 0 in_items ∙ ap some (gone_is (items note.its) at r i),
-      λ j. inr (past at j.0, past_other at j.0, sym (at_removed (items note.its) at j.0) ∙ j.1),
-    );
-    stay = λ r i. dite (ℕ_discrete i.0 at)
-        (λ (e : i.0 ≡ at). inr (0, sym (elem_or (items note.its) at 0 in_items) ∙ (ap (get_elem? (items note.its)) (sym e) ∙ i.1)))
-        (λ n. inl (still_in (items note.its) at i.0 r n i.1));
-    map_is = map_removed pair note.objects at ∙ removed_is z.keypos (map pair note.objects) (key_at at note.objects) at ordered place;
-    does = refl;
-    answer = is_found_at note.objects (key_at at note.objects) at place;
-    is_edit = tt;
-    about = about;
-  }
+  is_taken_out =
+      is_update z m new (take_update note b at) (remove (items note.its) at) statistic n
+      few record {
+        as_many = let many = n.is_base.as_many in let a = length-remove note.objects at in_objects in
+            let i = length-remove (items note.its) at in_items in
+            omega arith;
+        are_objects = λ k r its p q.
+            inl (
+              past at k,
+              sym (at_removed (items note.its) at k) ∙ p,
+              sym (at_removed note.objects at k) ∙ q,
+            );
+        come = λ r i. absurd (in_nothing r [] refl i);
+        come_once = tt;
+        go = λ r i. (
+          at,
+          elem_or (items note.its) at 0 in_items ∙ ap some (gone_is (items note.its) at r i),
+          λ j. inr (past at j.0, past_other at j.0, sym (at_removed (items note.its) at j.0) ∙ j.1),
+        );
+        stay = λ r i. dite (ℕ_discrete i.0 at)
+            (λ (e : i.0 ≡ at). inr (
+              0,
+              sym (elem_or (items note.its) at 0 in_items)
+                  ∙ (ap (get_elem? (items note.its)) (sym e) ∙ i.1),
+            ))
+            (λ n. inl (still_in (items note.its) at i.0 r n i.1));
+        map_is = map_removed pair note.objects at
+            ∙ removed_is z.keypos (map pair note.objects) (key_at at note.objects) at ordered place;
+        does = refl;
+        answer = is_found_at note.objects (key_at at note.objects) at place;
+        is_edit = tt;
+        about = about;
+      }
 
 -- The base without the object was written: it is ready for the exchange, which is the call.
-module _ (z : Sizes) (first before now : MyTree) (new base at statistic : ℕ) (k b : List ℕ) (shown : IsShownLast z first.0.upper base)
-    (upper : now.0.upper ≡ first.0.upper) (place : IsAt (map pair (first_note first.0.upper.notes).objects) k at)
-    (spells : SpellsBase (remove (last_items first.0.upper) at) (first_note first.0.upper.notes).place.level statistic b)
+module _ (z : Sizes) (first before now : MyTree) (new base at statistic : ℕ) (k b : List ℕ)
+    (shown : IsShownLast z first.0.upper base)
+    (upper : now.0.upper ≡ first.0.upper)
+    (place : IsAt (map pair (first_note first.0.upper.notes).objects) k at)
+    (spells : SpellsBase (remove (last_items first.0.upper) at)
+    (first_note first.0.upper.notes).place.level statistic b)
     (wrote : IsRewritten new b before now) where
   abbrev note : Note
   note = first_note first.0.upper.notes
@@ -109,30 +133,39 @@ module _ (z : Sizes) (first before now : MyTree) (new base at statistic : ℕ) (
   key_same : key_at at note.objects ≡ k
   key_same = key_is note.objects k at place
 
-  pub ready_without : first.0.pin.pinned ≡ true → 0 < first.0.upper.number → now.0.pin ≡ first.0.pin → IsStoreMap z.keypos (map pair note.objects)
+  pub ready_without : first.0.pin.pinned ≡ true → 0 < first.0.upper.number → now.0.pin ≡ first.0.pin
+      → IsStoreMap z.keypos (map pair note.objects)
       → HasKey note.place.span k → IsUpdate z now new (update_of now new (deed.Remove at))
-  ready_without is_pinned is_pass pin ordered about = subst (λ (y : Note × List ℕ). IsUpdate z now new (take_update y.0 y.1 at))
+  ready_without is_pinned is_pass pin ordered about = subst
+      (λ (y : Note × List ℕ). IsUpdate z now new (take_update y.0 y.1 at))
       (λ i. (sym (note_is first now upper) i, sym (words_are new b before now wrote) i))
       (is_taken_out z now note at new statistic b
-      (new_base z first before now new base (remove (last_items first.0.upper) at) statistic b shown is_pinned is_pass upper pin spells wrote)
+      (new_base z first before now new base (remove (last_items first.0.upper) at) statistic b shown
+      is_pinned is_pass upper pin spells wrote)
       ordered (subst (λ (q : List ℕ). IsAt (map pair note.objects) q at) (sym key_same) place)
       (subst (HasKey note.place.span) (sym key_same) about))
 
-  pub removed : (won : Bool) (v : TreeView) → HasSwapped (update_of now new (deed.Remove at)).event z won now.0.upper v
+  pub removed : (won : Bool) (v : TreeView)
+      → HasSwapped (update_of now new (deed.Remove at)).event z won now.0.upper v
       → HasSwapped (Remove k (Some (object_at (Ok at) note.objects))) z won first.0.upper v
   removed won v h = subst (λ (x : Event × TreeView). HasSwapped x.0 z won x.1 v)
       (λ i. (
-        (ap (λ (x : Note). Remove (key_at at x.objects) (Some (object_at (Ok at) x.objects))) (note_is first now upper)
+        (ap (λ (x : Note). Remove (key_at at x.objects) (Some (object_at (Ok at) x.objects)))
+            (note_is first now upper)
             ∙ ap (λ (q : List ℕ). Remove q (Some (object_at (Ok at) note.objects))) key_same) i,
         upper i,
       )) h
 
   pub renewed_without : (met : Met) (won : Bool) (v : TreeView)
-      → HasRenewed z met (get_or (update_of now new (deed.Remove at)).its 1 0) (update_of now new (deed.Remove at)).edit (Ok won) now.0.upper v
+      → HasRenewed z met (get_or (update_of now new (deed.Remove at)).its 1 0)
+      (update_of now new (deed.Remove at)).edit (Ok won) now.0.upper v
       → HasRenewed z met statistic (Del k) (Ok won) first.0.upper v
-  renewed_without met won v h = subst (λ (x : ℕ × Edit × TreeView). HasRenewed z met x.0 x.1 (Ok won) x.2 v)
+  renewed_without met won v h = subst
+      (λ (x : ℕ × Edit × TreeView). HasRenewed z met x.0 x.1 (Ok won) x.2 v)
       (λ i. (
-        (ap (λ (its : List ℕ). get_or its 1 0) (words_are new b before now wrote) ∙ spells.statistic_is) i,
-        (ap (λ (x : Note). Del (key_at at x.objects)) (note_is first now upper) ∙ ap Del key_same) i,
+        (ap (λ (its : List ℕ). get_or its 1 0) (words_are new b before now wrote)
+            ∙ spells.statistic_is) i,
+        (ap (λ (x : Note). Del (key_at at x.objects)) (note_is first now upper)
+            ∙ ap Del key_same) i,
         upper i,
       )) h

@@ -31,7 +31,8 @@ use Rattle.ca_rows.proofs.Claiming.{claimed_here, claimed_else}
 use Rattle.ca_rows.proofs.HeldCount.{claimed_one_less}
 use Rattle.ca_rows.proofs.Keeping.{kept_as}
 
-module _ (rows : ℕ) (kept : Vec Kept Global) (claims : List Claimed) (ins outs : List ℕ) (h : HasHeld rows kept claims ins)
+module _ (rows : ℕ) (kept : Vec Kept Global) (claims : List Claimed) (ins outs : List ℕ)
+    (h : HasHeld rows kept claims ins)
     (free : (r : ℕ) → IsIn r outs → claim_of claims r ≡ none) where
   abbrev now : List Claimed
   now = taken_out outs (given ins claims)
@@ -43,14 +44,19 @@ module _ (rows : ℕ) (kept : Vec Kept Global) (claims : List Claimed) (ins outs
   kept_out r t e o = some-ne-none (Keeps t) (sym e ∙ free r o)
 
   kept_else : (r t : ℕ) → claim_of claims r ≡ some (Keeps t) → ¬ IsIn r ins
-  kept_else r t e i = let w = (h.each r i).2 in let same = some-injective (Holds w.0) (Keeps t) (sym w.2 ∙ e) in absurd cc
+  kept_else r t e i = let w = (h.each r i).2 in
+      let same = some-injective (Holds w.0) (Keeps t) (sym w.2 ∙ e) in absurd cc
 
   -- A claim that is left is one on a row that went, or was there before.
-  left : (r : ℕ) (c : Claim) → claim_of now r ≡ some c → ((c ≡ Unlinked) × IsIn r outs) ⊎ ((claim_of claims r ≡ some c) × ¬ IsIn r ins)
+  left : (r : ℕ) (c : Claim) → claim_of now r ≡ some c → ((c ≡ Unlinked) × IsIn r outs)
+      ⊎ ((claim_of claims r ≡ some c) × ¬ IsIn r ins)
   left r c e = ⊎_elim
-      (λ (o : IsIn r outs). inl (some-injective c Unlinked (sym e ∙ taken_here outs (given ins claims) r o), o))
+      (λ (o : IsIn r outs).
+      inl (some-injective c Unlinked (sym e ∙ taken_here outs (given ins claims) r o), o))
       (λ (n : ¬ IsIn r outs). ⊎_elim
-      (λ (i : IsIn r ins). absurd (some-ne-none c (sym e ∙ (taken_else outs (given ins claims) r n ∙ given_here ins claims r i))))
+      (λ (i : IsIn r ins).
+      absurd (some-ne-none c (sym e
+      ∙ (taken_else outs (given ins claims) r n ∙ given_here ins claims r i))))
       (λ (m : ¬ IsIn r ins). inr (sym (else_now r n m) ∙ e, m)) (has ins r)) (has outs r)
 
   -- The rows that the seat held came, and others went that nobody claimed: those it has unlinked.
@@ -62,13 +68,16 @@ module _ (rows : ℕ) (kept : Vec Kept Global) (claims : List Claimed) (ins outs
         (λ (o : (claim_of claims r ≡ some (Keeps t)) × ¬ IsIn r ins). o.0) (left r (Keeps t) e))
         (λ r t e. else_now r (kept_out r t e) (kept_else r t e) ∙ e);
     only = λ r c e. ⊎_elim (λ (o : (c ≡ Unlinked) × IsIn r outs). inr o.1)
-        (λ (o : (claim_of claims r ≡ some c) × ¬ IsIn r ins). ⊎_elim (λ k. inl k) (λ (i : IsIn r ins). absurd (o.1 i)) (h.only r c o.0)) (left r c e);
+        (λ (o : (claim_of claims r ≡ some c) × ¬ IsIn r ins). ⊎_elim (λ k. inl k)
+        (λ (i : IsIn r ins). absurd (o.1 i)) (h.only r c o.0)) (left r c e);
     each = λ r o. taken_here outs (given ins claims) r o;
   }
 
 -- A row that was unlinked was retired.
-retired_claim : (rows : ℕ) (kept kept' : Vec Kept Global) (claims : List Claimed) (row t : ℕ) → AreKept rows (claimed row (Keeps t) claims) kept'
-    → (rest : List ℕ) → ¬ IsIn row rest → HasUnlinked rows kept claims (row ∷ rest) → HasUnlinked rows kept' (claimed row (Keeps t) claims) rest
+retired_claim : (rows : ℕ) (kept kept' : Vec Kept Global) (claims : List Claimed) (row t : ℕ)
+    → AreKept rows (claimed row (Keeps t) claims) kept'
+    → (rest : List ℕ) → ¬ IsIn row rest → HasUnlinked rows kept claims (row ∷ rest)
+    → HasUnlinked rows kept' (claimed row (Keeps t) claims) rest
 retired_claim rows kept kept' claims row t k rest out h = record {
   are_kept = k;
   only = λ r c e. dite (ℕ_discrete r row)
@@ -77,70 +86,120 @@ retired_claim rows kept kept' claims row t k rest out h = record {
         some-injective c (Keeps t) (sym e ∙ (ap (claim_of (claimed row (Keeps t) claims)) f
             ∙ claimed_here claims row (Keeps t))),
       ))
-      (λ n. ⊎_elim (λ y. inl y) (λ i. inr (⊎_elim (λ (f : row ≡ r). absurd (n (sym f))) (λ (j : IsIn r rest). j) (in_more row r rest i)))
+      (λ n. ⊎_elim (λ y. inl y)
+      (λ i. inr (⊎_elim (λ (f : row ≡ r). absurd (n (sym f)))
+      (λ (j : IsIn r rest). j) (in_more row r rest i)))
       (h.only r c (sym (claimed_else claims row r (Keeps t) n) ∙ e)));
-  each = λ r i. claimed_else claims row r (Keeps t) (λ f. out (subst (λ (y : ℕ). IsIn y rest) f i)) ∙ h.each r (in_rest r row rest i);
+  each = λ r i. claimed_else claims row r (Keeps t) (λ f. out (subst (λ (y : ℕ). IsIn y rest) f i))
+      ∙ h.each r (in_rest r row rest i);
 }
 
-pub retired_too : (rows : ℕ) (kept kept' : Vec Kept Global) (m m' : MyTree) (row t : ℕ) → m' ≡ (record m.0 { claims = claimed row (Keeps t) m.0.claims }, m.1)
-    → AreKept rows m'.0.claims kept' → (rest : List ℕ) → ¬ IsIn row rest → AreUnlinked rows kept m.0 (row ∷ rest) → AreUnlinked rows kept' m'.0 rest
-retired_too rows kept kept' m m' row t told k rest out h = let n = claimed_one_less row (Keeps t) Unlinked m.0.claims refl refl (h.0.each row (in_first row rest)) in let now = h.1.now in let ever = h.1.ever in
+pub retired_too : (rows : ℕ) (kept kept' : Vec Kept Global) (m m' : MyTree) (row t : ℕ)
+    → m' ≡ (record m.0 { claims = claimed row (Keeps t) m.0.claims }, m.1)
+    → AreKept rows m'.0.claims kept' → (rest : List ℕ) → ¬ IsIn row rest
+    → AreUnlinked rows kept m.0 (row ∷ rest) → AreUnlinked rows kept' m'.0 rest
+retired_too rows kept kept' m m' row t told k rest out h =
+    let n = claimed_one_less row (Keeps t) Unlinked m.0.claims refl refl
+    (h.0.each row (in_first row rest)) in let now = h.1.now in let ever = h.1.ever in
     subst (λ (x : MyTree). AreUnlinked rows kept' x.0 rest) (sym told) (
-      retired_claim rows kept kept' m.0.claims row t (subst (λ (x : MyTree). AreKept rows x.0.claims kept') told k) rest out h.0,
+      retired_claim rows kept kept' m.0.claims row t (subst
+          (λ (x : MyTree). AreKept rows x.0.claims kept') told k) rest out h.0,
       record { now = omega arith; ever = ever },
     )
 
 -- Where none is left, none is held either.
-pub none_left : (rows : ℕ) (kept : Vec Kept Global) (view : View TreeView) → AreUnlinked rows kept view [] → AreHeld rows kept view []
-none_left rows kept view h = (record { are_kept = h.0.are_kept; only = h.0.only; each = λ r i. absurd (in_nothing r [] refl i) }, h.1)
+pub none_left : (rows : ℕ) (kept : Vec Kept Global) (view : View TreeView)
+    → AreUnlinked rows kept view [] → AreHeld rows kept view []
+none_left rows kept view h = (
+  record {
+    are_kept = h.0.are_kept;
+    only = h.0.only;
+    each = λ r i.
+        absurd (in_nothing r [] refl i);
+  },
+  h.1,
+)
 
 -- An exchange of a link was lost: the same rows are held.
-pub held_still : (rows : ℕ) (kept kept' : KeptRows) (m m' : MyTree) (held : List ℕ) → m' ≡ with_upper m (one_more_lost m.0.upper) → kept' ≡ kept
+pub held_still : (rows : ℕ) (kept kept' : KeptRows) (m m' : MyTree) (held : List ℕ)
+    → m' ≡ with_upper m (one_more_lost m.0.upper) → kept' ≡ kept
     → AreHeld rows kept.rows m.0 held → AreHeld rows kept'.rows m'.0 held
-held_still rows kept kept' m m' held same too h = subst (λ (x : MyTree × KeptRows). AreHeld rows x.1.rows x.0.0 held) (λ i. (sym same i, sym too i))
+held_still rows kept kept' m m' held same too h = subst
+    (λ (x : MyTree × KeptRows). AreHeld rows x.1.rows x.0.0 held) (λ i. (sym same i, sym too i))
     (h.0, record { now = h.1.now; ever = h.1.ever })
 
 -- As rows are unlinked, no more than eight are held at once.
-pub few_at_once : (rows : List ℕ) (claims : List Claimed) (most : ℕ) → most ≤ 8 → held_count claims + length rows ≤ 8
+pub few_at_once : (rows : List ℕ) (claims : List Claimed) (most : ℕ) → most ≤ 8
+    → held_count claims + length rows ≤ 8
     → max most (held_count (taken_out rows claims)) ≤ 8
 few_at_once rows claims most ever few = let went = taken_out_more rows claims in omega arith
 
 -- After an update the old base and what went with it are unlinked, and apart.
-pub swapped : (rows : ℕ) (kept kept' : KeptRows) (m m' : MyTree) (new : ℕ) (x : Update) (base : ℕ) (ins outs : List ℕ) → new ∷ x.comes ≡ ins
-    → x.old.row ≡ base → x.goes ≡ outs → length outs ≤ 1 → IsUpdated new x m m' → kept' ≡ kept → AreApart ins → AreHeld rows kept.rows m.0 ins
+pub swapped : (rows : ℕ) (kept kept' : KeptRows) (m m' : MyTree) (new : ℕ) (x : Update) (base : ℕ)
+    (ins outs : List ℕ) → new ∷ x.comes ≡ ins
+    → x.old.row ≡ base → x.goes ≡ outs → length outs ≤ 1 → IsUpdated new x m m' → kept' ≡ kept
+    → AreApart ins → AreHeld rows kept.rows m.0 ins
     → (¬ IsIn base outs) × AreUnlinked rows kept'.rows m'.0 (base ∷ outs)
-swapped rows kept kept' m m' new x base ins outs comes same goes few u too apart h = let held = subst (HasHeld rows kept.rows m.0.claims) (sym comes) h.0 in
-    let then = unlinked_then rows kept.rows m.0.claims (new ∷ x.comes) (x.old.row ∷ x.goes) held u.unclaimed in
-    let came = subst (λ (xs : List ℕ). held_count (given xs m.0.claims) + length xs ≤ held_count m.0.claims) (sym comes)
+swapped rows kept kept' m m' new x base ins outs comes same goes few u too apart h =
+    let held = subst (HasHeld rows kept.rows m.0.claims) (sym comes) h.0 in
+    let then =
+    unlinked_then rows kept.rows m.0.claims (new ∷ x.comes) (x.old.row ∷ x.goes) held
+    u.unclaimed in
+    let came = subst
+    (λ (xs : List ℕ). held_count (given xs m.0.claims) + length xs ≤ held_count m.0.claims)
+    (sym comes)
     (given_fewer ins m.0.claims apart (λ r i. let own = (h.0.each r i).2 in (own.0, own.2))) in
     let went = taken_out_more (x.old.row ∷ x.goes) (given (new ∷ x.comes) m.0.claims) in
-    let many = ap (λ (xs : List ℕ). length xs) comes in let less = ap (λ (xs : List ℕ). length xs) goes in let before = h.1.now in let ever = h.1.ever in
-    let now = subst (λ (y : MyTree × KeptRows). AreUnlinked rows y.1.rows y.0.0 (x.old.row ∷ x.goes)) (λ i. (sym u.now i, sym too i))
-    (then, record { now = omega arith; ever = few_at_once (x.old.row ∷ x.goes) (given (new ∷ x.comes) m.0.claims) m.0.most ever (omega arith) }) in
-    subst (λ (y : ℕ × List ℕ). (¬ IsIn y.0 y.1) × AreUnlinked rows kept'.rows m'.0 (y.0 ∷ y.1)) (λ i. (same i, goes i)) (u.apart, now)
+    let many = ap (λ (xs : List ℕ). length xs) comes in
+    let less = ap (λ (xs : List ℕ). length xs) goes in let before = h.1.now in
+    let ever = h.1.ever in
+    let now = subst
+    (λ (y : MyTree × KeptRows). AreUnlinked rows y.1.rows y.0.0 (x.old.row ∷ x.goes))
+    (λ i. (sym u.now i, sym too i)) (
+      then,
+      record {
+        now =
+            omega arith;
+        ever =
+            few_at_once (x.old.row ∷ x.goes) (given (new ∷ x.comes) m.0.claims) m.0.most ever
+            (omega arith);
+      },
+    ) in
+    subst (λ (y : ℕ × List ℕ). (¬ IsIn y.0 y.1) × AreUnlinked rows kept'.rows m'.0 (y.0 ∷ y.1))
+    (λ i. (same i, goes i)) (u.apart, now)
 
 -- The call that carried out an update is done.
-pub is_done : (z : Sizes) (new : ℕ) (x : Update) (m m' : MyTree) (v : TreeView) → m.0.sizes ≡ z → 0 < z.rows → effect x.event ≡ x.edit ∷ []
+pub is_done : (z : Sizes) (new : ℕ) (x : Update) (m m' : MyTree) (v : TreeView) → m.0.sizes ≡ z
+    → 0 < z.rows → effect x.event ≡ x.edit ∷ []
     → IsUpdated new x m m' → v ≡ m'.0.upper → HasDone x.event m.0.upper v × IsKnown z v
-is_done z new x m m' v sizes some_rows does u same = let w : v ≡ updated (met_of m) m.0.upper u.more new x = same ∙ ap (λ (y : MyTree). y.0.upper) u.now in
+is_done z new x m m' v sizes some_rows does u same = let w : v
+    ≡ updated (met_of m) m.0.upper u.more new x = same ∙ ap (λ (y : MyTree). y.0.upper) u.now in
     let some_rows' : 0 < m.0.sizes.rows = subst (λ (y : Sizes). 0 < y.rows) (sym sizes) some_rows in
     subst (λ (y : TreeView). HasDone x.event m.0.upper y × IsKnown z y) (sym w) (
       record {
         number = refl;
-        seen = (u.more ++ (m.0.upper.number, x.edit) ∷ [], append_assoc m.0.upper.seen u.more ((m.0.upper.number, x.edit) ∷ []));
+        seen = (
+          u.more ++ (m.0.upper.number, x.edit) ∷ [],
+          append_assoc m.0.upper.seen u.more ((m.0.upper.number, x.edit) ∷ []),
+        );
         at = length (m.0.upper.seen ++ u.more) + 1;
-        from = subst (IsPlaceFrom (length m.0.upper.seen) (length (m.0.upper.seen ++ u.more) + 1)) (sym does)
+        from = subst (IsPlaceFrom (length m.0.upper.seen) (length (m.0.upper.seen ++ u.more) + 1))
+            (sym does)
             (omega (arith, length-append m.0.upper.seen u.more));
         log = refl;
         counts = refl;
       },
-      subst (λ (y : Sizes). IsKnown y (updated (met_of m) m.0.upper u.more new x)) sizes (u.known some_rows'),
+      subst (λ (y : Sizes). IsKnown y (updated (met_of m) m.0.upper u.more new x)) sizes
+          (u.known some_rows'),
     )
 
 -- A row that is held was written: the same rows are held.
-pub written_row : (rows : ℕ) (kept kept' : KeptRows) (m m' : MyTree) (held : List ℕ) (row : ℕ) (its : List ℕ) → IsIn row held → length its ≡ 136
-    → IsRewritten row its m m' → kept' ≡ kept → AreHeld rows kept.rows m.0 held → AreHeld rows kept'.rows m'.0 held
-written_row rows kept kept' m m' held row its i long w too h = let n = w.no_more in let now = h.1.now in let ever = h.1.ever in
+pub written_row : (rows : ℕ) (kept kept' : KeptRows) (m m' : MyTree) (held : List ℕ) (row : ℕ)
+    (its : List ℕ) → IsIn row held → length its ≡ 136
+    → IsRewritten row its m m' → kept' ≡ kept → AreHeld rows kept.rows m.0 held
+    → AreHeld rows kept'.rows m'.0 held
+written_row rows kept kept' m m' held row its i long w too h = let n = w.no_more in
+    let now = h.1.now in let ever = h.1.ever in
     subst (λ (x : KeptRows). AreHeld rows x.rows m'.0 held) (sym too) (
       wrote rows kept.rows m m' held row its i long h.0 w,
       record { now = omega arith; ever = subst (λ (x : MyTree). x.0.most ≤ 8) (sym w.only) ever },

@@ -30,69 +30,113 @@ abbrev eight_first : ℕ → List ℕ → List ℕ
 eight_first n bytes = take n bytes ++ drop n eight_zeros
 
 eight_long : (n : ℕ) (bytes : List ℕ) → n ≤ length bytes → n ≤ 8 → length (eight_first n bytes) ≡ 8
-eight_long n bytes a b = omega (arith, length-append (take n bytes) (drop n eight_zeros), length-take-le n bytes a, length-drop n eight_zeros)
+eight_long n bytes a b =
+    omega (
+      arith,
+      length-append (take n bytes) (drop n eight_zeros),
+      length-take-le n bytes a,
+      length-drop n eight_zeros,
+    )
 
-eight_front : (n : ℕ) (bytes : List ℕ) (k : ℕ) → n ≤ length bytes → k < n → get_or (eight_first n bytes) k 0 ≡ get_or bytes k 0
-eight_front n bytes k a b = get_or_append_left (take n bytes) (drop n eight_zeros) 0 k (omega (arith, length-take-le n bytes a)) ∙ get_or-take n bytes k 0 b
+eight_front : (n : ℕ) (bytes : List ℕ) (k : ℕ) → n ≤ length bytes → k < n
+    → get_or (eight_first n bytes) k 0 ≡ get_or bytes k 0
+eight_front n bytes k a b =
+    get_or_append_left (take n bytes) (drop n eight_zeros) 0 k (omega (
+      arith,
+      length-take-le n bytes a,
+    )) ∙ get_or-take n bytes k 0 b
 
-eight_behind : (n : ℕ) (bytes : List ℕ) (k : ℕ) → n ≤ length bytes → n ≤ k → get_or (eight_first n bytes) k 0 ≡ 0
-eight_behind n bytes k a b = get_or-append_right (take n bytes) (drop n eight_zeros) n k 0 (length-take-le n bytes a) b
+eight_behind : (n : ℕ) (bytes : List ℕ) (k : ℕ) → n ≤ length bytes → n ≤ k
+    → get_or (eight_first n bytes) k 0 ≡ 0
+eight_behind n bytes k a b =
+    get_or-append_right (take n bytes) (drop n eight_zeros) n k 0 (length-take-le n bytes a) b
     ∙ (get_or-drop n eight_zeros (k - n) 0 ∙ zero_there (n + (k - n)))
 
 -- The bytes at the front, with zeros behind them, as a word.
-pub word_has : (bytes : List ℕ) (n w : ℕ) (part : List ℕ) → ((i : ℕ) → get_or bytes i 0 < 256) → n ≡ min (length bytes) 8 → part ≡ take n bytes
+pub word_has : (bytes : List ℕ) (n w : ℕ) (part : List ℕ) → ((i : ℕ) → get_or bytes i 0 < 256)
+    → n ≡ min (length bytes) 8 → part ≡ take n bytes
     → w ≡ from_be_bytes w64 (put_mid 0 n eight_zeros part) → HasBytes bytes w
-word_has bytes n w part small is p e = let few : n ≤ length bytes = omega arith in let most : n ≤ 8 = omega arith in
+word_has bytes n w part small is p e = let few : n ≤ length bytes = omega arith in
+    let most : n ≤ 8 = omega arith in
     let long = eight_long n bytes few most in
-    let is_padded : put_mid 0 n eight_zeros part ≡ eight_first n bytes = ap (put_mid 0 n eight_zeros) p in
+    let is_padded : put_mid 0 n eight_zeros part ≡ eight_first n bytes =
+    ap (put_mid 0 n eight_zeros) p in
     let spells : to_be_bytes w64 w ≡ eight_first n bytes = be_bytes_8 (eight_first n bytes) w long
-    (λ i. ⊎_elim (λ (l : i < n). subst (λ (y : ℕ). y < 256) (sym (eight_front n bytes i few l)) (small i))
-    (λ (l : n ≤ i). subst (λ (y : ℕ). y < 256) (sym (eight_behind n bytes i few l)) (omega arith)) (cases_lt i n))
+    (λ i. ⊎_elim (λ (l : i < n). subst
+    (λ (y : ℕ). y < 256) (sym (eight_front n bytes i few l)) (small i))
+    (λ (l : n ≤ i). subst (λ (y : ℕ). y < 256) (sym (eight_behind n bytes i few l)) (omega arith))
+    (cases_lt i n))
     (e ∙ ap (from_be_bytes w64) is_padded) in record {
       front = ap (take (length bytes)) spells ∙ ⊎_elim
-          (λ (l : 8 < length bytes). let n_is : n ≡ 8 = omega arith in take_all (length bytes) (eight_first n bytes) (omega arith)
+          (λ (l : 8 < length bytes). let n_is : n ≡ 8 = omega arith in
+          take_all (length bytes) (eight_first n bytes) (omega arith)
           ∙ (ap (λ (y : ℕ). eight_first y bytes) n_is ∙ append-nil (take 8 bytes)))
-          (λ (l : length bytes ≤ 8). let n_is : n ≡ length bytes = omega arith in ap (λ (y : ℕ). take (length bytes) (eight_first y bytes)) n_is
-          ∙ (take_at (take (length bytes) bytes) (drop (length bytes) eight_zeros) (length bytes) (length-take-le (length bytes) bytes (omega arith))
+          (λ (l : length bytes ≤ 8). let n_is : n ≡ length bytes = omega arith in
+          ap (λ (y : ℕ). take (length bytes) (eight_first y bytes)) n_is
+          ∙ (take_at (take (length bytes) bytes) (drop (length bytes) eight_zeros) (length bytes)
+          (length-take-le (length bytes) bytes (omega arith))
           ∙ (take_all (length bytes) bytes (omega arith) ∙ sym (take_all 8 bytes l))))
           (cases_lt 8 (length bytes));
-      zeros = λ k l. ap (λ (ys : List ℕ). get_or ys k 0) spells ∙ eight_behind n bytes k few (omega arith);
+      zeros = λ k l. ap (λ (ys : List ℕ). get_or ys k 0) spells
+          ∙ eight_behind n bytes k few (omega arith);
     }
 
 abbrev eight_of : ℕ → List ℕ
 eight_of w = to_be_bytes w64 w
 
 -- Words that have the bytes, eight each, have them one after another.
-pub packed : (words bytes : List ℕ) (n : ℕ) → length bytes ≤ 8 * n → n ≤ length words → ((k : ℕ) → k < n → HasEight bytes k (get_or words k 0))
+pub packed : (words bytes : List ℕ) (n : ℕ) → length bytes ≤ 8 * n → n ≤ length words
+    → ((k : ℕ) → k < n → HasEight bytes k (get_or words k 0))
     → take (length bytes) (bytes_in words) ≡ bytes
 packed words [] n few many each = refl
 packed words (b ∷ bs) zero few many each = absurd (omega arith)
 packed [] (b ∷ bs) (suc n) few many each = absurd (omega arith)
-packed (w ∷ words) (b ∷ bs) (suc n) few many each = let bytes : List ℕ = b ∷ bs in let has = each 0 (omega arith) in
+packed (w ∷ words) (b ∷ bs) (suc n) few many each = let bytes : List ℕ = b ∷ bs in
+    let has = each 0 (omega arith) in
     let long : length (eight_of w) ≡ 8 = refl in ⊎_elim
-    (λ (l : 8 < length bytes). let whole : eight_of w ≡ take 8 bytes = sym (take_all (length bytes) (eight_of w) (omega arith)) ∙ has.front in
+    (λ (l : 8 < length bytes).
+    let whole : eight_of w ≡ take 8 bytes =
+    sym (take_all (length bytes) (eight_of w) (omega arith)) ∙ has.front in
     let more : length bytes ≡ length (eight_of w) + (length bytes - 8) = omega arith in
     let rest = length-drop 8 bytes in
-    ap (λ (y : ℕ). take y (eight_of w ++ bytes_in words)) more ∙ (take-append-add (eight_of w) (bytes_in words) (length bytes - 8)
+    ap (λ (y : ℕ). take y (eight_of w ++ bytes_in words)) more
+    ∙ (take-append-add (eight_of w) (bytes_in words) (length bytes - 8)
     ∙ (ap (λ (ys : List ℕ). ys ++ take (length bytes - 8) (bytes_in words)) whole
     ∙ (ap (λ (y : ℕ). take 8 bytes ++ take y (bytes_in words)) (sym rest)
-    ∙ (ap (λ (ys : List ℕ). take 8 bytes ++ ys) (packed words (drop 8 bytes) n (omega arith) (omega arith)
-    (λ k small. let next = each (suc k) (omega arith) in let same : drop (8 * suc k) bytes ≡ drop (8 * k) (drop 8 bytes) =
-    ap (λ (y : ℕ). drop y bytes) (omega arith) ∙ sym (drop-drop (8 * k) 8 bytes) in subst (λ (ys : List ℕ). HasBytes ys (get_or words k 0)) same next))
+    ∙ (ap (λ (ys : List ℕ). take 8 bytes ++ ys)
+    (packed words (drop 8 bytes) n (omega arith) (omega arith)
+    (λ k small. let next = each (suc k) (omega arith) in
+    let same : drop (8 * suc k) bytes ≡ drop (8 * k) (drop 8 bytes) =
+    ap (λ (y : ℕ). drop y bytes) (omega arith) ∙ sym (drop-drop (8 * k) 8 bytes) in
+    subst (λ (ys : List ℕ). HasBytes ys (get_or words k 0)) same next))
     ∙ take-append-drop 8 bytes)))))
-    (λ (l : length bytes ≤ 8). take-append-le (length bytes) (eight_of w) (bytes_in words) (omega arith) ∙ (has.front ∙ take_all 8 bytes l))
+    (λ (l : length bytes ≤ 8).
+    take-append-le (length bytes) (eight_of w) (bytes_in words) (omega arith)
+    ∙ (has.front ∙ take_all 8 bytes l))
     (cases_lt 8 (length bytes))
 
 -- The bytes from the k-th eight on, as a slice has them.
-pub eight_at : (bytes : List ℕ) (k w : ℕ) → HasBytes (take (length bytes - 8 * k) (drop (8 * k) bytes)) w → HasEight bytes k w
-eight_at bytes k w h = subst (λ (x : List ℕ). HasBytes x w) (take_all (length bytes - 8 * k) (drop (8 * k) bytes) (omega (arith, length-drop (8 * k) bytes))) h
+pub eight_at : (bytes : List ℕ) (k w : ℕ)
+    → HasBytes (take (length bytes - 8 * k) (drop (8 * k) bytes)) w → HasEight bytes k w
+eight_at bytes k w h = subst
+    (λ (x : List ℕ). HasBytes x w)
+    (take_all (length bytes - 8 * k) (drop (8 * k) bytes) (omega (
+      arith,
+      length-drop (8 * k) bytes,
+    ))) h
 
 -- Behind the bytes that words have there are zeros, where the words behind them are 0.
-pub padded : (words bytes : List ℕ) (n i : ℕ) → length bytes ≤ i → n ≤ length words → ((k : ℕ) → k < n → HasEight bytes k (get_or words k 0))
+pub padded : (words bytes : List ℕ) (n i : ℕ) → length bytes ≤ i → n ≤ length words
+    → ((k : ℕ) → k < n → HasEight bytes k (get_or words k 0))
     → ((k : ℕ) → n ≤ k → k < length words → get_or words k 0 ≡ 0) → get_or (bytes_in words) i 0 ≡ 0
 padded words bytes n i behind inside each zeros = ⊎_elim
     (λ (l : i / 8 < length words). let there : i ≡ 8 * (i / 8) + i % 8 = omega arith in
-    ap (λ (k : ℕ). get_or (bytes_in words) k 0) there ∙ (byte_at words (i / 8) (i % 8) l (omega arith)
-    ∙ ⊎_elim (λ (h : i / 8 < n). (each (i / 8) h).zeros (i % 8) (omega (arith, length-drop (8 * (i / 8)) bytes)))
-    (λ (h : n ≤ i / 8). ap (λ (w : ℕ). get_or (to_be_bytes w64 w) (i % 8) 0) (zeros (i / 8) h l) ∙ zero_there (i % 8)) (cases_lt (i / 8) n)))
-    (λ (l : length words ≤ i / 8). get_or-eq_default (bytes_in words) 0 (omega (arith, bytes_long words))) (cases_lt (i / 8) (length words))
+    ap (λ (k : ℕ). get_or (bytes_in words) k 0) there
+    ∙ (byte_at words (i / 8) (i % 8) l (omega arith)
+    ∙ ⊎_elim (λ (h : i / 8 < n).
+    (each (i / 8) h).zeros (i % 8) (omega (arith, length-drop (8 * (i / 8)) bytes)))
+    (λ (h : n ≤ i / 8). ap (λ (w : ℕ). get_or (to_be_bytes w64 w) (i % 8) 0) (zeros (i / 8) h l)
+    ∙ zero_there (i % 8)) (cases_lt (i / 8) n)))
+    (λ (l : length words ≤ i / 8).
+    get_or-eq_default (bytes_in words) 0 (omega (arith, bytes_long words)))
+    (cases_lt (i / 8) (length words))

@@ -7,7 +7,8 @@ use Rattle.std.specs.declared.cmp.Ordering.TheVariants.{Less, Equal, Greater}
 use Rattle.ca_leaf.specs.Place.{Ascend}
 use Rattle.ca_leaf.specs.Rising.{Rise}
 
-module _ {K : Type 0} (cmp : K → K → Ordering) (order : IsTotalOrder cmp) (key : ℕ → K) (k : K) where
+module _ {K : Type 0} (cmp : K → K → Ordering) (order : IsTotalOrder cmp) (key : ℕ → K)
+    (k : K) where
   -- what is greater than something that isn't less than k is greater than k
   greater : (a b : K) → cmp a b ≡ Less → cmp a k ≢ Less → cmp b k ≡ Greater
   greater a b up not = by (cmp a k) refl
@@ -23,4 +24,7 @@ module _ {K : Type 0} (cmp : K → K → Ordering) (order : IsTotalOrder cmp) (k
   -- Items whose keys rise ascend for each key.
   pub ascend : (items : List ℕ) → Rise cmp key items → Ascend (λ item. cmp (key item) k) items
   ascend [] rise = tt
-  ascend (x ∷ xs) rise = ((λ not i d l. greater (key x) (key (get_or xs i d)) (rise.0 i d l) not), ascend xs rise.1)
+  ascend (x ∷ xs) rise = (
+    (λ not i d l. greater (key x) (key (get_or xs i d)) (rise.0 i d l) not),
+    ascend xs rise.1,
+  )

@@ -16,55 +16,73 @@ module _ (s : ℕ → Ordering) where
   GreaterFrom items n = (i : ℕ) → n ≤ i → i < length items → s (get_or items i 0) ≡ Greater
 
   -- behind an item that isn't less
-  behind : (items : List ℕ) (i j : ℕ) → Ascend s items → i < j → j < length items → s (get_or items i 0) ≢ Less → s (get_or items j 0) ≡ Greater
+  behind : (items : List ℕ) (i j : ℕ) → Ascend s items → i < j → j < length items
+      → s (get_or items i 0) ≢ Less → s (get_or items j 0) ≡ Greater
   behind [] i j up l h not = absurd (omega arith)
   behind (x ∷ xs) i zero up l h not = absurd (omega arith)
   behind (x ∷ xs) zero (suc j) up l h not = up.0 not j 0 (omega arith)
   behind (x ∷ xs) (suc i) (suc j) up l h not = behind xs i j up.1 (omega arith) (omega arith) not
 
   -- before an item that isn't greater
-  before : (items : List ℕ) (i j : ℕ) → Ascend s items → i < j → j < length items → s (get_or items j 0) ≢ Greater → s (get_or items i 0) ≡ Less
+  before : (items : List ℕ) (i j : ℕ) → Ascend s items → i < j → j < length items
+      → s (get_or items j 0) ≢ Greater → s (get_or items i 0) ≡ Less
   before items i j up l h not = by (s (get_or items i 0)) refl
     where
       by : (o : Ordering) → s (get_or items i 0) ≡ o → s (get_or items i 0) ≡ Less
       by Less is = is
-      by Equal is = absurd (not (behind items i j up l h (λ e. let z : Equal ≡ Less = sym is ∙ e in cc)))
-      by Greater is = absurd (not (behind items i j up l h (λ e. let z : Greater ≡ Less = sym is ∙ e in cc)))
+      by Equal is =
+          absurd (not (behind items i j up l h (λ e. let z : Equal ≡ Less = sym is ∙ e in cc)))
+      by Greater is =
+          absurd (not (behind items i j up l h (λ e. let z : Greater ≡ Less = sym is ∙ e in cc)))
 
   up_to : (i n : ℕ) → i < n + 1 → i ≤ n
   up_to i n l = omega arith
 
   -- Up to an item that is less all are less.
-  pub less_to : (items : List ℕ) (at : ℕ) → Ascend s items → at < length items → s (get_or items at 0) ≡ Less → LessUpTo items (at + 1)
+  pub less_to : (items : List ℕ) (at : ℕ) → Ascend s items → at < length items
+      → s (get_or items at 0) ≡ Less → LessUpTo items (at + 1)
   less_to items at up h is i l = ⊎_elim
       (λ (same : i ≡ at). ap (λ (k : ℕ). s (get_or items k 0)) same ∙ is)
-      (λ (lower : i < at). before items i at up lower h (λ e. let z : Less ≡ Greater = sym is ∙ e in cc)) (eq-or-lt_of_le (up_to i at l))
+      (λ (lower : i < at). before items i at up lower h
+      (λ e. let z : Less ≡ Greater = sym is ∙ e in cc)) (eq-or-lt_of_le (up_to i at l))
 
   -- From an item on that is greater all are greater.
-  pub greater_from : (items : List ℕ) (at : ℕ) → Ascend s items → at < length items → s (get_or items at 0) ≡ Greater → GreaterFrom items at
+  pub greater_from : (items : List ℕ) (at : ℕ) → Ascend s items → at < length items
+      → s (get_or items at 0) ≡ Greater → GreaterFrom items at
   greater_from items at up h is i l r = ⊎_elim
       (λ (same : at ≡ i). ap (λ (k : ℕ). s (get_or items k 0)) (sym same) ∙ is)
-      (λ (more : at < i). behind items at i up more r (λ e. let z : Greater ≡ Less = sym is ∙ e in cc)) (eq-or-lt_of_le l)
+      (λ (more : at < i). behind items at i up more r
+      (λ e. let z : Greater ≡ Less = sym is ∙ e in cc)) (eq-or-lt_of_le l)
 
-  all_less : (items : List ℕ) (n : ℕ) → n ≤ length items → LessUpTo items n → AreLess s (take n items)
-  all_less items n h each i d l = let short = length-take n items in let low : i < n = omega arith in
+  all_less : (items : List ℕ) (n : ℕ) → n ≤ length items → LessUpTo items n
+      → AreLess s (take n items)
+  all_less items n h each i d l = let short = length-take n items in
+      let low : i < n = omega arith in
       ap s (get_or-take n items i d low ∙ get_or_default items i d 0 (omega arith)) ∙ each i low
 
-  all_greater : (items : List ℕ) (n : ℕ) → n ≤ length items → GreaterFrom items n → AreGreater s (drop n items)
-  all_greater items n h each i d l = let short = length-drop n items in let high : n + i < length items = omega arith in
-      ap s (get_or-drop n items i d ∙ get_or_default items (n + i) d 0 high) ∙ each (n + i) (omega arith) high
+  all_greater : (items : List ℕ) (n : ℕ) → n ≤ length items → GreaterFrom items n
+      → AreGreater s (drop n items)
+  all_greater items n h each i d l = let short = length-drop n items in
+      let high : n + i < length items = omega arith in
+      ap s (get_or-drop n items i d ∙ get_or_default items (n + i) d 0 high)
+      ∙ each (n + i) (omega arith) high
 
   -- Where an item equals the key, its place is the key's.
-  pub is_at : (items : List ℕ) (at : ℕ) → Ascend s items → at < length items → s (get_or items at 0) ≡ Equal → IsAt s items at
+  pub is_at : (items : List ℕ) (at : ℕ) → Ascend s items → at < length items
+      → s (get_or items at 0) ≡ Equal → IsAt s items at
   is_at items at up h is = record {
     in_range = h;
-    before = all_less items at (omega arith) (λ i l. before items i at up l h (λ e. let z : Equal ≡ Greater = sym is ∙ e in cc));
+    before = all_less items at (omega arith)
+        (λ i l. before items i at up l h (λ e. let z : Equal ≡ Greater = sym is ∙ e in cc));
     here = is;
-    behind = all_greater items (at + 1) (omega arith) (λ i l r. behind items at i up (omega arith) r (λ e. let z : Equal ≡ Less = sym is ∙ e in cc));
+    behind = all_greater items (at + 1) (omega arith)
+        (λ i l r. behind items at i up (omega arith) r
+        (λ e. let z : Equal ≡ Less = sym is ∙ e in cc));
   }
 
   -- Where nothing is left between the lesser items and the greater ones, no item has the key.
-  pub is_between : (items : List ℕ) (low high : ℕ) → low ≤ high → high ≤ low → high ≤ length items → LessUpTo items low → GreaterFrom items high → IsBetween s items low
+  pub is_between : (items : List ℕ) (low high : ℕ) → low ≤ high → high ≤ low → high ≤ length items
+      → LessUpTo items low → GreaterFrom items high → IsBetween s items low
   is_between items low high a b h less greater = record {
     in_range = omega arith;
     before = all_less items low (omega arith) less;

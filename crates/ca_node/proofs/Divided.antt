@@ -1,4 +1,5 @@
--- A base is divided: by one exchange of its link a route takes its place, over two bases that have its objects.
+-- A base is divided: by one exchange of its link a route takes its place, over two bases that have
+-- its objects.
 use Rattle.std.proofs.Common.{◌≡◌, ◌≢◌, ◌⊎◌, ℕ, ◌+◌, ◌*◌, ◌<◌, ◌≤◌, eqb, cond, List, [], ◌∷◌, ◌++◌, length, map, get_or, set, sym, refl, ap, ◌∙◌, subst, inl, inr, ⊎_elim, arith}
 use Rattle.std.proofs.lemmas.Bool.Decides.{nat_tests}
 use Rattle.std.proofs.lemmas.List.{map-append}
@@ -22,8 +23,10 @@ pub behind : {A : Type 0} (xs ys : List A) (a : A) → get_elem? (xs ++ a ∷ ys
 behind [] ys a = refl
 behind (x ∷ xs) ys a = behind xs ys a
 
--- The row is to be a route of the tree over these two rows: it is nothing in it yet, and its words are those of such a route.
-pub record IsNewRoute (z : Sizes) (words : List ℕ) (role : ℕ → Role) (deep : ℕ) (k : List ℕ) (left right row : ℕ) : Type 0 where
+-- The row is to be a route of the tree over these two rows: it is nothing in it yet, and its words
+-- are those of such a route.
+pub record IsNewRoute (z : Sizes) (words : List ℕ) (role : ℕ → Role) (deep : ℕ) (k : List ℕ)
+    (left right row : ℕ) : Type 0 where
   pub some_row : 0 < row
   pub in_range : row ≤ z.rows
   pub is_out : role row ≡ Out
@@ -35,7 +38,8 @@ pub record IsNewRoute (z : Sizes) (words : List ℕ) (role : ℕ → Role) (deep
   pub left_is : get_or (row_at words row) 1 0 ≡ left
   pub right_is : get_or (row_at words row) 2 0 ≡ right
 
--- The objects of one base are those of two others, and the key is that of the second one's first object.
+-- The objects of one base are those of two others, and the key is that of the second one's first
+-- object.
 pub record AreDivided (words : List ℕ) (old left right : ℕ) (k : List ℕ) : Type 0 where
   pub both : items (row_at words old) ≡ items (row_at words left) ++ items (row_at words right)
   pub first : ℕ
@@ -45,7 +49,8 @@ pub record AreDivided (words : List ℕ) (old left right : ℕ) (k : List ℕ) :
 
 -- the roles where a route over two bases takes the place of a base
 abbrev pub with_route : (ℕ → Role) → Place → List ℕ → ℕ → ℕ → ℕ → ℕ → ℕ → Role
-with_route role place k old route left right row = cond (eqb row route) (Route place k) (cond (eqb row left) (Base (left_place place k route))
+with_route role place k old route left right row =
+    cond (eqb row route) (Route place k) (cond (eqb row left) (Base (left_place place k route))
     (cond (eqb row right) (Base (right_place place k route)) (cond (eqb row old) Out (role row))))
 
 -- What is what then.
@@ -55,26 +60,35 @@ module _ (role : ℕ → Role) (place : Place) (k : List ℕ) (old route left ri
   with_route_route = grind (arith, nat_tests)
 
   -- The left base is one under it.
-  pub with_route_left : left ≢ route → with_route role place k old route left right left ≡ Base (left_place place k route)
+  pub with_route_left : left ≢ route
+      → with_route role place k old route left right left ≡ Base (left_place place k route)
   with_route_left n = grind (arith, nat_tests)
 
   -- So is the right one.
-  pub with_route_right : right ≢ route → right ≢ left → with_route role place k old route left right right ≡ Base (right_place place k route)
+  pub with_route_right : right ≢ route → right ≢ left
+      → with_route role place k old route left right right ≡ Base (right_place place k route)
   with_route_right n m = grind (arith, nat_tests)
 
   -- The old base is nothing.
-  pub with_route_old : old ≢ route → old ≢ left → old ≢ right → with_route role place k old route left right old ≡ Out
+  pub with_route_old : old ≢ route → old ≢ left → old ≢ right
+      → with_route role place k old route left right old ≡ Out
   with_route_old n m l = grind (arith, nat_tests)
 
   -- Each other row is what it was.
-  pub with_route_else : (row : ℕ) → row ≢ route → row ≢ left → row ≢ right → row ≢ old → with_route role place k old route left right row ≡ role row
+  pub with_route_else : (row : ℕ) → row ≢ route → row ≢ left → row ≢ right → row ≢ old
+      → with_route role place k old route left right row ≡ role row
   with_route_else row n m l d = grind (arith, nat_tests)
 
 -- A route over two bases takes the place of a base that isn't at the last level.
-module _ (z : Sizes) (words : List ℕ) (role : ℕ → Role) (m : StoreMap) (shape : IsShape z words role m) (p : ℕ) (is_map : IsStoreMap p m) (old : ℕ)
-    (place : Place) (is : role old ≡ Base place) (above : place.level < z.levels) (k : List ℕ) (route left right : ℕ) (left_other : left ≢ route)
-    (right_other : right ≢ route) (apart : right ≢ left) (r : IsNewRoute z words role place.level k left right route)
-    (a : IsNewBase z words role (left_place place k route) left) (b : IsNewBase z words role (right_place place k route) right) (divided : AreDivided words old left right k) where
+module _ (z : Sizes) (words : List ℕ) (role : ℕ → Role) (m : StoreMap)
+    (shape : IsShape z words role m) (p : ℕ) (is_map : IsStoreMap p m) (old : ℕ)
+    (place : Place) (is : role old ≡ Base place) (above : place.level < z.levels) (k : List ℕ)
+    (route left right : ℕ) (left_other : left ≢ route)
+    (right_other : right ≢ route) (apart : right ≢ left)
+    (r : IsNewRoute z words role place.level k left right route)
+    (a : IsNewBase z words role (left_place place k route) left)
+    (b : IsNewBase z words role (right_place place k route) right)
+    (divided : AreDivided words old left right k) where
   -- the words then
   abbrev words' : List ℕ
   words' = set words place.link route
@@ -93,7 +107,8 @@ module _ (z : Sizes) (words : List ℕ) (role : ℕ → Role) (m : StoreMap) (sh
 
   -- What had a place is none of the new rows.
   placed : (c d : ℕ) (q : Place) → place_of (role c) ≡ some q → role d ≡ Out → c ≢ d
-  placed c d q e f g = some-ne-none q (sym e ∙ (ap (λ (y : ℕ). place_of (role y)) g ∙ ap place_of f))
+  placed c d q e f g = some-ne-none q (sym e
+      ∙ (ap (λ (y : ℕ). place_of (role y)) g ∙ ap place_of f))
 
   -- What the route is then.
   role_route : roles route ≡ Route place k
@@ -109,11 +124,15 @@ module _ (z : Sizes) (words : List ℕ) (role : ℕ → Role) (m : StoreMap) (sh
 
   -- What the old one is.
   role_old : roles old ≡ Out
-  role_old = with_route_old role place k old route left right (other route r.is_out) (other left a.is_out) (other right b.is_out)
+  role_old =
+      with_route_old role place k old route left right (other route r.is_out) (other left a.is_out)
+      (other right b.is_out)
 
   -- What had another place keeps its role.
   keeps : (c : ℕ) (q : Place) → place_of (role c) ≡ some q → c ≢ old → roles c ≡ role c
-  keeps c q e d = with_route_else role place k old route left right c (placed c route q e r.is_out) (placed c left q e a.is_out) (placed c right q e b.is_out) d
+  keeps c q e d =
+      with_route_else role place k old route left right c (placed c route q e r.is_out)
+      (placed c left q e a.is_out) (placed c right q e b.is_out) d
 
   -- The route has the old base's place.
   fills : place_of (roles route) ≡ some place
@@ -125,7 +144,9 @@ module _ (z : Sizes) (words : List ℕ) (role : ℕ → Role) (m : StoreMap) (sh
 
   -- The key is one of those that were led to the old base.
   pub divided_inside : HasKey place.span k
-  divided_inside = subst (HasKey place.span) divided.key_is (key_in z words role m shape old place is (length (items (row_at words left))) divided.first
+  divided_inside =
+      subst (HasKey place.span) divided.key_is
+      (key_in z words role m shape old place is (length (items (row_at words left))) divided.first
       (ap (λ (xs : List ℕ). get_elem? xs (length (items (row_at words left))))
       (divided.both ∙ ap (λ (xs : List ℕ). items (row_at words left) ++ xs) divided.begins)
       ∙ behind (items (row_at words left)) divided.rest divided.first))
@@ -140,31 +161,46 @@ module _ (z : Sizes) (words : List ℕ) (role : ℕ → Role) (m : StoreMap) (sh
 
   -- What the right base has begins with the key's pair.
   right_has : objects_in words right ≡ (k, object (row_at words divided.first)) ∷ map f divided.rest
-  right_has = ap (map f) divided.begins ∙ ap (λ (x : List ℕ). (x, object (row_at words divided.first)) ∷ map f divided.rest) divided.key_is
+  right_has = ap (map f) divided.begins
+      ∙ ap (λ (x : List ℕ). (x, object (row_at words divided.first)) ∷ map f divided.rest)
+      divided.key_is
 
   -- The old base's objects are those of the left one and then those of the right one.
-  old_has : part place.span m ≡ map f (its left) ++ (k, object (row_at words divided.first)) ∷ map f divided.rest
-  old_has = sym was.has ∙ (ap (map f) divided.both ∙ (map-append f (its left) (its right) ∙ ap (λ (xs : StoreMap). map f (its left) ++ xs) right_has))
+  old_has : part place.span m
+      ≡ map f (its left) ++ (k, object (row_at words divided.first)) ∷ map f divided.rest
+  old_has = sym was.has ∙ (ap (map f) divided.both
+      ∙ (map-append f (its left) (its right)
+      ∙ ap (λ (xs : StoreMap). map f (its left) ++ xs) right_has))
 
-  -- So the left base has what the map has left of the key, and the right one what it has from the key on.
-  cut : (part (left_of k place.span) m ≡ map f (its left)) × (part (right_of k place.span) m ≡ (k, object (row_at words divided.first)) ∷ map f divided.rest)
-  cut = part_cut p place.span m (map f (its left)) (map f divided.rest) k (object (row_at words divided.first)) is_map old_has
+  -- So the left base has what the map has left of the key, and the right one what it has from the
+  -- key on.
+  cut : (part (left_of k place.span) m ≡ map f (its left))
+      × (part (right_of k place.span) m
+      ≡ (k, object (row_at words divided.first)) ∷ map f divided.rest)
+  cut = part_cut p place.span m (map f (its left)) (map f divided.rest) k
+      (object (row_at words divided.first)) is_map old_has
 
   -- The links of the tree are links of it then.
   link_now : (link : ℕ) → IsLink role link → IsLink roles link
   link_now = link_still z words role m shape old place is route roles m fills keeps same_parts
 
   -- They lead where they led.
-  lead_now : (link least : ℕ) (span : Span) → LeadsTo words role link least span → LeadsTo words' roles link least span
+  lead_now : (link least : ℕ) (span : Span) → LeadsTo words role link least span
+      → LeadsTo words' roles link least span
   lead_now = lead_still z words role m shape old place is route roles m fills keeps same_parts
 
   -- The words of the route, which nothing leads to yet, stay.
   route_words : row_at words' route ≡ row_at words route
-  route_words = relinked_row z words role m shape old place is route route r.some_row r.in_range (out_no_route role route r.is_out)
+  route_words =
+      relinked_row z words role m shape old place is route route r.some_row r.in_range
+      (out_no_route role route r.is_out)
 
   -- So does each of its words.
-  link_word : (i : ℕ) → i < 136 → get_or words' (136 * route + i) 0 ≡ get_or (row_at words route) i 0
-  link_word i l = relinked_keeps z words role m shape old place is route route r.some_row (out_no_route role route r.is_out) i l ∙ sym (word_at words route i l)
+  link_word : (i : ℕ) → i < 136
+      → get_or words' (136 * route + i) 0 ≡ get_or (row_at words route) i 0
+  link_word i l =
+      relinked_keeps z words role m shape old place is route route r.some_row
+      (out_no_route role route r.is_out) i l ∙ sym (word_at words route i l)
 
   -- Its first link names the left base.
   left_now : get_or words' (136 * route + 1) 0 ≡ left
@@ -202,12 +238,16 @@ module _ (z : Sizes) (words : List ℕ) (role : ℕ → Role) (m : StoreMap) (sh
 
   -- The left base is one under its first link.
   left_base : IsBaseAt z words' roles m (left_place place k route) left
-  left_base = base_comes z words role m shape old place is route roles m fills keeps same_parts left (left_place place k route) a left_now
+  left_base =
+      base_comes z words role m shape old place is route roles m fills keeps same_parts left
+      (left_place place k route) a left_now
       (inr (route, place, k, role_route, inl refl)) (omega arith) (sym cut.0)
 
   -- The right base is one under its second link.
   right_base : IsBaseAt z words' roles m (right_place place k route) right
-  right_base = base_comes z words role m shape old place is route roles m fills keeps same_parts right (right_place place k route) b right_now
+  right_base =
+      base_comes z words role m shape old place is route roles m fills keeps same_parts right
+      (right_place place k route) b right_now
       (inr (route, place, k, role_route, inr refl)) (omega arith) (right_has ∙ sym cut.1)
 
   -- what a row is then
@@ -217,24 +257,33 @@ module _ (z : Sizes) (words : List ℕ) (role : ℕ → Role) (m : StoreMap) (sh
   -- Each row is what its role says.
   so : (c : ℕ) → IsSo z words' roles m c (roles c)
   so c = dite (ℕ_discrete c route)
-      (λ (e : c ≡ route). subst (λ (y : ℕ). Is y (roles y)) (sym e) (subst (Is route) (sym role_route) route_now))
+      (λ (e : c ≡ route). subst
+      (λ (y : ℕ). Is y (roles y)) (sym e) (subst (Is route) (sym role_route) route_now))
       (λ (n : c ≢ route). dite (ℕ_discrete c left)
-      (λ (e : c ≡ left). subst (λ (y : ℕ). Is y (roles y)) (sym e) (subst (Is left) (sym role_left) left_base))
+      (λ (e : c ≡ left). subst
+      (λ (y : ℕ). Is y (roles y)) (sym e) (subst (Is left) (sym role_left) left_base))
       (λ (l : c ≢ left). dite (ℕ_discrete c right)
-      (λ (e : c ≡ right). subst (λ (y : ℕ). Is y (roles y)) (sym e) (subst (Is right) (sym role_right) right_base))
+      (λ (e : c ≡ right). subst
+      (λ (y : ℕ). Is y (roles y)) (sym e) (subst (Is right) (sym role_right) right_base))
       (λ (h : c ≢ right). dite (ℕ_discrete c old)
-      (λ (e : c ≡ old). subst (λ (y : ℕ). Is y (roles y)) (sym e) (subst (Is old) (sym role_old) tt))
-      (λ (d : c ≢ old). subst (Is c) (sym (with_route_else role place k old route left right c n l h d))
-      (row_still z words role m shape old place is route roles m fills keeps same_parts c d (role c) refl (shape.each_row c))))))
+      (λ (e : c ≡ old). subst
+      (λ (y : ℕ). Is y (roles y)) (sym e) (subst (Is old) (sym role_old) tt))
+      (λ (d : c ≢ old).
+      subst (Is c) (sym (with_route_else role place k old route left right c n l h d))
+      (row_still z words role m shape old place is route roles m fills keeps same_parts c d (role c)
+      refl (shape.each_row c))))))
 
   -- The row is one of the two new bases, and this key is led to it.
   abbrev IsNow : ℕ → List ℕ → Type 0
-  IsNow c x = ((c ≡ left) × HasKey (left_of k place.span) x) ⊎ ((c ≡ right) × HasKey (right_of k place.span) x)
+  IsNow c x = ((c ≡ left) × HasKey (left_of k place.span) x)
+      ⊎ ((c ≡ right) × HasKey (right_of k place.span) x)
 
   -- A base of the new tree is one of the two, or one of the old tree.
-  stood : (c : ℕ) (q : Place) (x : List ℕ) → roles c ≡ Base q → HasKey q.span x → IsNow c x ⊎ ((c ≢ old) × (role c ≡ Base q))
+  stood : (c : ℕ) (q : Place) (x : List ℕ) → roles c ≡ Base q → HasKey q.span x → IsNow c x
+      ⊎ ((c ≢ old) × (role c ≡ Base q))
   stood c q x e h = dite (ℕ_discrete c route)
-      (λ (g : c ≡ route). let w : Route place k ≡ Base q = sym role_route ∙ (ap roles (sym g) ∙ e) in cc)
+      (λ (g : c ≡ route). let w : Route place k ≡ Base q = sym role_route
+      ∙ (ap roles (sym g) ∙ e) in cc)
       (λ (n : c ≢ route). dite (ℕ_discrete c left)
       (λ (g : c ≡ left). inl (inl (
         g,
@@ -249,13 +298,19 @@ module _ (z : Sizes) (words : List ℕ) (role : ℕ → Role) (m : StoreMap) (sh
       )))
       (λ (j : c ≢ right). dite (ℕ_discrete c old)
       (λ (g : c ≡ old). let w : Out ≡ Base q = sym role_old ∙ (ap roles (sym g) ∙ e) in cc)
-      (λ (d : c ≢ old). inr (d, sym (with_route_else role place k old route left right c n l j d) ∙ e)))))
+      (λ (d : c ≢ old). inr (
+        d,
+        sym (with_route_else role place k old route left right c n l j d)
+            ∙ e,
+      )))))
 
   -- The keys of both were led to the old base.
   was_in : (c : ℕ) (x : List ℕ) → IsNow c x → HasKey place.span x
   was_in c x now = ⊎_elim
-      (λ (t : (c ≡ left) × HasKey (left_of k place.span) x). left_is_in k x place.span divided_inside t.1)
-      (λ (t : (c ≡ right) × HasKey (right_of k place.span) x). right_is_in k x place.span divided_inside t.1)
+      (λ (t : (c ≡ left)
+      × HasKey (left_of k place.span) x). left_is_in k x place.span divided_inside t.1)
+      (λ (t : (c ≡ right)
+      × HasKey (right_of k place.span) x). right_is_in k x place.span divided_inside t.1)
       now
 
   -- No key is led to both.
@@ -263,32 +318,40 @@ module _ (z : Sizes) (words : List ℕ) (role : ℕ → Role) (m : StoreMap) (sh
   one_side c d x s t = ⊎_elim
       (λ (v : (c ≡ left) × HasKey (left_of k place.span) x). ⊎_elim
       (λ (w : (d ≡ left) × HasKey (left_of k place.span) x). v.0 ∙ sym w.0)
-      (λ (w : (d ≡ right) × HasKey (right_of k place.span) x). absurd (two_sides k x place.span v.1 w.1))
+      (λ (w : (d ≡ right)
+      × HasKey (right_of k place.span) x). absurd (two_sides k x place.span v.1 w.1))
       t)
       (λ (v : (c ≡ right) × HasKey (right_of k place.span) x). ⊎_elim
-      (λ (w : (d ≡ left) × HasKey (left_of k place.span) x). absurd (two_sides k x place.span w.1 v.1))
+      (λ (w : (d ≡ left)
+      × HasKey (left_of k place.span) x). absurd (two_sides k x place.span w.1 v.1))
       (λ (w : (d ≡ right) × HasKey (right_of k place.span) x). v.0 ∙ sym w.0)
       t)
       s
 
   -- A route is the new one, or one of the old tree.
-  route_was : (c : ℕ) (q : Place) (key : List ℕ) → roles c ≡ Route q key → (c ≡ route) ⊎ (role c ≡ Route q key)
+  route_was : (c : ℕ) (q : Place) (key : List ℕ) → roles c ≡ Route q key → (c ≡ route)
+      ⊎ (role c ≡ Route q key)
   route_was c q key e = dite (ℕ_discrete c route)
       (λ (g : c ≡ route). inl g)
       (λ (n : c ≢ route). dite (ℕ_discrete c left)
-      (λ (g : c ≡ left). let w : Base (left_place place k route) ≡ Route q key = sym role_left ∙ (ap roles (sym g) ∙ e) in cc)
+      (λ (g : c ≡ left). let w : Base (left_place place k route) ≡ Route q key = sym role_left
+      ∙ (ap roles (sym g) ∙ e) in cc)
       (λ (l : c ≢ left). dite (ℕ_discrete c right)
-      (λ (g : c ≡ right). let w : Base (right_place place k route) ≡ Route q key = sym role_right ∙ (ap roles (sym g) ∙ e) in cc)
+      (λ (g : c ≡ right). let w : Base (right_place place k route) ≡ Route q key = sym role_right
+      ∙ (ap roles (sym g) ∙ e) in cc)
       (λ (j : c ≢ right). dite (ℕ_discrete c old)
       (λ (g : c ≡ old). let w : Out ≡ Route q key = sym role_old ∙ (ap roles (sym g) ∙ e) in cc)
-      (λ (d : c ≢ old). inr (sym (with_route_else role place k old route left right c n l j d) ∙ e)))))
+      (λ (d : c ≢ old). inr (sym (with_route_else role place k old route left right c n l j d)
+      ∙ e)))))
 
   -- No key is led to two bases.
-  alone : (c d : ℕ) (q s : Place) (x : List ℕ) → roles c ≡ Base q → roles d ≡ Base s → HasKey q.span x → HasKey s.span x → c ≡ d
+  alone : (c d : ℕ) (q s : Place) (x : List ℕ) → roles c ≡ Base q → roles d ≡ Base s
+      → HasKey q.span x → HasKey s.span x → c ≡ d
   alone c d q s x e g h j = ⊎_elim
       (λ (v : IsNow c x). ⊎_elim
       (λ (w : IsNow d x). one_side c d x v w)
-      (λ (w : (d ≢ old) × (role d ≡ Base s)). absurd (w.0 (shape.apart d old s place x w.1 is j (was_in c x v))))
+      (λ (w : (d ≢ old) × (role d ≡ Base s)).
+      absurd (w.0 (shape.apart d old s place x w.1 is j (was_in c x v))))
       (stood d s x g j))
       (λ (v : (c ≢ old) × (role c ≡ Base q)). ⊎_elim
       (λ (w : IsNow d x). absurd (v.0 (shape.apart c old q place x v.1 is h (was_in d x w))))
@@ -297,7 +360,8 @@ module _ (z : Sizes) (words : List ℕ) (role : ℕ → Role) (m : StoreMap) (sh
       (stood c q x e h)
 
   -- The exchange of the link puts the route and its two bases in the place of the old one.
-  pub shape_divided : IsShape z (set words place.link route) (with_route role place k old route left right) m
+  pub shape_divided : IsShape z (set words place.link route)
+      (with_route role place k old route left right) m
   shape_divided = record {
     wide = relinked_wide z words role m shape old place is route;
     top = lead_now 130 0 all_keys shape.top;
@@ -305,7 +369,9 @@ module _ (z : Sizes) (words : List ℕ) (role : ℕ → Role) (m : StoreMap) (sh
     apart = alone;
     quiet = relinked_quiet z words role m shape old place is route;
     idle = λ c q key e. ⊎_elim
-        (λ (same : c ≡ route). subst (λ y. IsIdle (row_at words' y)) (sym same) (subst IsIdle (sym route_words) r.idle))
-        (λ (was_route : role c ≡ Route q key). relinked_idle z words role m shape old place is route c (shape.idle c q key was_route))
+        (λ (same : c ≡ route). subst
+        (λ y. IsIdle (row_at words' y)) (sym same) (subst IsIdle (sym route_words) r.idle))
+        (λ (was_route : role c ≡ Route q key).
+        relinked_idle z words role m shape old place is route c (shape.idle c q key was_route))
         (route_was c q key e);
   }

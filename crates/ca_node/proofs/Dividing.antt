@@ -41,7 +41,8 @@ use Rattle.ca_node.proofs.Rebased.{IsNewBase, relinked_wide, relinked_else, reli
 use Rattle.ca_node.proofs.Remembering.{remembered_leads, unlinked_out, note_stays, way_stays, notes_stay}
 
 -- The base of a split is among the seat's notes.
-pub was_shown : (z : Sizes) (m : MyTree) (x : Division) → IsDivision z m x → IsIn x.old m.0.upper.notes
+pub was_shown : (z : Sizes) (m : MyTree) (x : Division) → IsDivision z m x
+    → IsIn x.old m.0.upper.notes
 was_shown z m x u = in_notes x.old m.0.upper.notes u.shown
 
 -- A list is its first members and the others.
@@ -51,20 +52,23 @@ take_drop (suc n) [] = refl
 take_drop (suc n) (x ∷ xs) = ap (λ ys. x ∷ ys) (take_drop n xs)
 
 -- Where there is a member at a place, the others begin with it.
-drop_at : {A : Type 0} (n : ℕ) (xs : List A) → n < length xs → (x : A) × (ys : List A) × (drop n xs ≡ x ∷ ys) × (get_elem? xs n ≡ some x)
+drop_at : {A : Type 0} (n : ℕ) (xs : List A) → n < length xs → (x : A) × (ys : List A)
+    × (drop n xs ≡ x ∷ ys) × (get_elem? xs n ≡ some x)
 drop_at n [] l = absurd (omega arith)
 drop_at zero (x ∷ xs) l = (x, xs, refl, refl)
 drop_at (suc n) (x ∷ xs) l = let r = drop_at n xs (omega arith) in (r.0, r.1, r.2, r.3)
 
 -- What a split counts and lists gives no note.
-divided_notes : (words : List ℕ) (x : Division) (u : TreeView) (row : ℕ) → IsNoted words (divided x u) row → IsNoted words u row
+divided_notes : (words : List ℕ) (x : Division) (u : TreeView) (row : ℕ)
+    → IsNoted words (divided x u) row → IsNoted words u row
 divided_notes words x u _ (by_note note row i e) = absurd (in_nothing note [] refl i)
 divided_notes words x u _ (by_item note row i b k) = absurd (in_nothing note [] refl i)
 divided_notes words x u _ (by_way way row i e) = by_way way row i e
 divided_notes words x u _ (by_link way row i e) = by_link way row i e
 divided_notes words x u _ (by_link_item way base row i e f k) = by_link_item way base row i e f k
 
-module _ (z : Sizes) (s : State (Unit {0}) (View TreeView)) (r : R z s) (id : ℕ) (me : MyTree) (at : get_elem? s.views id ≡ some me.0) (x : Division)
+module _ (z : Sizes) (s : State (Unit {0}) (View TreeView)) (r : R z s) (id : ℕ) (me : MyTree)
+    (at : get_elem? s.views id ≡ some me.0) (x : Division)
     (u : IsDivision z me x) (hit : get_or s.words x.old.place.link 0 ≡ x.old.row) where
   abbrev d : View TreeView
   d = me.0
@@ -87,7 +91,8 @@ module _ (z : Sizes) (s : State (Unit {0}) (View TreeView)) (r : R z s) (id : �
   abbrev words' : List ℕ
   words' = set s.words x.old.place.link x.route
 
-  abbrev knows : Knows z.rows r.made s.words r.above.role (map upper_of s.views) r.above.history id d.upper
+  abbrev knows : Knows z.rows r.made s.words r.above.role (map upper_of s.views) r.above.history id
+      d.upper
   knows = knows_upper z s r id d at
 
   is_last : IsStoreMap z.keypos last
@@ -98,28 +103,37 @@ module _ (z : Sizes) (s : State (Unit {0}) (View TreeView)) (r : R z s) (id : �
 
   -- The old base hangs where it was shown.
   is_old : r.above.role x.old.row ≡ Base x.old.place
-  is_old = let l = remembered_leads z s.words role last shape d.upper knows.ways x.old.place.link (knows.links x.old (was_shown z me x u)) in ⊎_elim
+  is_old = let l = remembered_leads z s.words role last shape d.upper knows.ways x.old.place.link
+      (knows.links x.old (was_shown z me x u)) in ⊎_elim
       (λ (e : r.above.role x.old.row ≡ Base x.old.place). e)
-      (λ (out : r.above.role x.old.row ≡ Out). absurd (some-ne-none l.0 (sym l.2 ∙ (ap (λ (c : ℕ). place_of (role c)) hit ∙ ap place_of out))))
+      (λ (out : r.above.role x.old.row
+      ≡ Out). absurd (some-ne-none l.0 (sym l.2
+      ∙ (ap (λ (c : ℕ). place_of (role c)) hit ∙ ap place_of out))))
       old_true.stands
 
   old_at : IsBaseAt z s.words r.above.role (after r.above.history []) x.old.place x.old.row
   old_at = base_at z s.words role last shape x.old.row x.old.place is_old
 
-  held : (row : ℕ) (its : List ℕ) → claim_of d.claims row ≡ some (Holds its) → (0 < row) × (row ≤ z.rows) × (row_at s.words row ≡ its)
-      × ¬ IsLinked s.words row × ((j : ℕ) (y : View TreeView) → get_elem? s.views j ≡ some y → ¬ IsNoted s.words y.upper row)
+  held : (row : ℕ) (its : List ℕ) → claim_of d.claims row ≡ some (Holds its) → (0 < row)
+      × (row ≤ z.rows) × (row_at s.words row ≡ its)
+      × ¬ IsLinked s.words row
+      × ((j : ℕ) (y : View TreeView) → get_elem? s.views j ≡ some y
+      → ¬ IsNoted s.words y.upper row)
   held = held_row z s r id d at
 
   -- What the seat holds is nothing in the tree.
-  held_out : (row : ℕ) (its : List ℕ) → claim_of d.claims row ≡ some (Holds its) → r.above.role row ≡ Out
+  held_out : (row : ℕ) (its : List ℕ) → claim_of d.claims row ≡ some (Holds its)
+      → r.above.role row ≡ Out
   held_out row its e = unlinked_out z s.words role last shape row (held row its e).3
 
   old_item : (row : ℕ) → IsIn row (items x.old.its) → IsIn row (items (row_at s.words x.old.row))
   old_item row i = subst (λ its. IsIn row (items its)) (sym old_true.spells) i
 
   -- A half is a base that may come.
-  half : (row : ℕ) (its these : List ℕ) (there : Place) → there.level ≡ x.old.place.level + 1 → claim_of d.claims row ≡ some (Holds its) → IsHalf z x.old.place.level these its
-      → ((c : ℕ) → IsIn c these → IsIn c (items x.old.its)) → IsNewBase z s.words r.above.role there row
+  half : (row : ℕ) (its these : List ℕ) (there : Place) → there.level ≡ x.old.place.level + 1
+      → claim_of d.claims row ≡ some (Holds its) → IsHalf z x.old.place.level these its
+      → ((c : ℕ) → IsIn c these → IsIn c (items x.old.its))
+      → IsNewBase z s.words r.above.role there row
   half row its these there below e h within = let w = held row its e in record {
     some_row = w.0;
     in_range = w.1;
@@ -128,21 +142,32 @@ module _ (z : Sizes) (s : State (Unit {0}) (View TreeView)) (r : R z s) (id : �
     level_is = ap level w.2 ∙ (h.level_is ∙ sym below);
     few = subst (λ y. count y ≤ z.leaf) (sym w.2) h.few;
     marked = inl (subst IsUnmarked (sym w.2) h.unmarked);
-    are_objects = λ c i. old_at.are_objects c (old_item c (within c (subst (IsIn c) (ap items w.2 ∙ h.items_are) i)));
+    are_objects =
+        λ c i. old_at.are_objects c
+        (old_item c (within c (subst (IsIn c) (ap items w.2 ∙ h.items_are) i)));
   }
 
   both : items x.old.its ≡ take x.middle (items x.old.its) ++ drop x.middle (items x.old.its)
   both = take_drop x.middle (items x.old.its)
 
-  left_base : IsNewBase z s.words r.above.role (left_place x.old.place (route_key x.route_its) x.route) x.left
-  left_base = half x.left x.left_its (take x.middle (items x.old.its)) (left_place x.old.place (route_key x.route_its) x.route) refl u.held_left u.is_left
-      (λ c i. subst (IsIn c) (sym both) (in_front (take x.middle (items x.old.its)) (drop x.middle (items x.old.its)) c i))
+  left_base : IsNewBase z s.words r.above.role
+      (left_place x.old.place (route_key x.route_its) x.route) x.left
+  left_base =
+      half x.left x.left_its (take x.middle (items x.old.its))
+      (left_place x.old.place (route_key x.route_its) x.route) refl u.held_left u.is_left
+      (λ c i. subst (IsIn c) (sym both)
+      (in_front (take x.middle (items x.old.its)) (drop x.middle (items x.old.its)) c i))
 
-  right_base : IsNewBase z s.words r.above.role (right_place x.old.place (route_key x.route_its) x.route) x.right
-  right_base = half x.right x.right_its (drop x.middle (items x.old.its)) (right_place x.old.place (route_key x.route_its) x.route) refl u.held_right u.is_right
-      (λ c i. subst (IsIn c) (sym both) (in_back (take x.middle (items x.old.its)) (drop x.middle (items x.old.its)) c i))
+  right_base : IsNewBase z s.words r.above.role
+      (right_place x.old.place (route_key x.route_its) x.route) x.right
+  right_base =
+      half x.right x.right_its (drop x.middle (items x.old.its))
+      (right_place x.old.place (route_key x.route_its) x.route) refl u.held_right u.is_right
+      (λ c i. subst (IsIn c) (sym both)
+      (in_back (take x.middle (items x.old.its)) (drop x.middle (items x.old.its)) c i))
 
-  new_route : IsNewRoute z s.words r.above.role x.old.place.level (route_key x.route_its) x.left x.right x.route
+  new_route : IsNewRoute z s.words r.above.role x.old.place.level (route_key x.route_its) x.left
+      x.right x.route
   new_route = let w = held x.route x.route_its u.held_route in record {
     some_row = w.0;
     in_range = w.1;
@@ -163,23 +188,30 @@ module _ (z : Sizes) (s : State (Unit {0}) (View TreeView)) (r : R z s) (id : �
   right_items = ap items (held x.right x.right_its u.held_right).2 ∙ u.is_right.items_are
 
   -- The object at a place of the old base, by its row.
-  object_is : (k row : ℕ) → get_elem? (items x.old.its) k ≡ some row → get_or x.old.objects k [] ≡ row_at s.words row
-  object_is k row e = at_place x.old.objects k (row_at s.words row) (ap (λ xs. get_elem? xs k) (sym (old_true.objects_are u.old_base))
+  object_is : (k row : ℕ) → get_elem? (items x.old.its) k ≡ some row
+      → get_or x.old.objects k [] ≡ row_at s.words row
+  object_is k row e = at_place x.old.objects k (row_at s.words row) (ap
+      (λ xs. get_elem? xs k) (sym (old_true.objects_are u.old_base))
       ∙ at_map (λ c. row_at s.words c) (items x.old.its) k row e)
     where
-      at_place : (xs : List (List ℕ)) (k : ℕ) (y : List ℕ) → get_elem? xs k ≡ some y → get_or xs k [] ≡ y
+      at_place : (xs : List (List ℕ)) (k : ℕ) (y : List ℕ) → get_elem? xs k ≡ some y
+          → get_or xs k [] ≡ y
       at_place [] k y e = absurd (some-ne-none y (sym e))
       at_place (z ∷ xs) zero y e = some-injective z y e
       at_place (z ∷ xs) (suc k) y e = at_place xs k y e
 
   -- The first item that goes right, and those behind it.
-  first : (row : ℕ) × (rest : List ℕ) × (drop x.middle (items x.old.its) ≡ row ∷ rest) × (get_elem? (items x.old.its) x.middle ≡ some row)
-  first = drop_at x.middle (items x.old.its) (let e = ap (λ (xs : List (List ℕ)). length xs) (old_true.objects_are u.old_base) in
-      let l = length-map (items x.old.its) (λ c. row_at s.words c) in let lo = u.middle_is in omega arith)
+  first : (row : ℕ) × (rest : List ℕ) × (drop x.middle (items x.old.its) ≡ row ∷ rest)
+      × (get_elem? (items x.old.its) x.middle ≡ some row)
+  first = drop_at x.middle (items x.old.its) (let e = ap
+      (λ (xs : List (List ℕ)). length xs) (old_true.objects_are u.old_base) in
+      let l = length-map (items x.old.its) (λ c. row_at s.words c) in let lo = u.middle_is in
+      omega arith)
 
   are_divided : AreDivided s.words x.old.row x.left x.right (route_key x.route_its)
   are_divided = record {
-    both = ap items old_true.spells ∙ (both ∙ (ap (λ (xs : List ℕ). xs ++ drop x.middle (items x.old.its)) (sym left_items)
+    both = ap items old_true.spells
+        ∙ (both ∙ (ap (λ (xs : List ℕ). xs ++ drop x.middle (items x.old.its)) (sym left_items)
         ∙ ap (λ (xs : List ℕ). items (row_at s.words x.left) ++ xs) (sym right_items)));
     first = first.0;
     rest = first.1;
@@ -188,11 +220,14 @@ module _ (z : Sizes) (s : State (Unit {0}) (View TreeView)) (r : R z s) (id : �
   }
 
   abbrev role' : ℕ → Role
-  role' = with_route r.above.role x.old.place (route_key x.route_its) x.old.row x.route x.left x.right
+  role' = with_route r.above.role x.old.place (route_key x.route_its) x.old.row x.route x.left
+      x.right
 
   shape' : IsShape z words' role' last
-  shape' = shape_divided z s.words role last shape z.keypos is_last x.old.row place is_old u.above (route_key x.route_its) x.route x.left x.right
-      (λ e. u.apart.0 (sym e)) (λ e. u.apart.1 (sym e)) (λ e. u.apart.2 (sym e)) new_route left_base right_base are_divided
+  shape' = shape_divided z s.words role last shape z.keypos is_last x.old.row place is_old u.above
+      (route_key x.route_its) x.route x.left x.right
+      (λ e. u.apart.0 (sym e)) (λ e. u.apart.1 (sym e))
+      (λ e. u.apart.2 (sym e)) new_route left_base right_base are_divided
 
   -- A row that is nothing in the tree isn't the old base.
   other : (c : ℕ) → r.above.role c ≡ Out → x.old.row ≢ c
@@ -202,26 +237,32 @@ module _ (z : Sizes) (s : State (Unit {0}) (View TreeView)) (r : R z s) (id : �
   role_route = with_route_route role place (route_key x.route_its) x.old.row x.route x.left x.right
 
   role_left : role' x.left ≡ Base (left_place x.old.place (route_key x.route_its) x.route)
-  role_left = with_route_left role place (route_key x.route_its) x.old.row x.route x.left x.right (λ e. u.apart.0 (sym e))
+  role_left = with_route_left role place (route_key x.route_its) x.old.row x.route x.left x.right
+      (λ e. u.apart.0 (sym e))
 
   role_right : role' x.right ≡ Base (right_place x.old.place (route_key x.route_its) x.route)
-  role_right = with_route_right role place (route_key x.route_its) x.old.row x.route x.left x.right (λ e. u.apart.1 (sym e)) (λ e. u.apart.2 (sym e))
+  role_right = with_route_right role place (route_key x.route_its) x.old.row x.route x.left x.right
+      (λ e. u.apart.1 (sym e)) (λ e. u.apart.2 (sym e))
 
   role_old : role' x.old.row ≡ Out
   role_old = with_route_old role place (route_key x.route_its) x.old.row x.route x.left x.right
-      (other x.route new_route.is_out) (other x.left left_base.is_out) (other x.right right_base.is_out)
+      (other x.route new_route.is_out) (other x.left left_base.is_out)
+      (other x.right right_base.is_out)
 
   -- The row comes by the split.
   abbrev Coming : ℕ → Type 0
   Coming c = IsIn c (x.route ∷ x.left ∷ x.right ∷ [])
 
   comes_out : (c : ℕ) → Coming c → r.above.role c ≡ Out
-  comes_out c i = ⊎_elim (λ (e : x.route ≡ c). ap role (sym e) ∙ new_route.is_out) (λ j. ⊎_elim (λ (e : x.left ≡ c). ap role (sym e) ∙ left_base.is_out)
-      (λ k. ⊎_elim (λ (e : x.right ≡ c). ap role (sym e) ∙ right_base.is_out) (λ l. absurd (some-ne-none c (sym l.1))) (in_more x.right c [] k))
+  comes_out c i = ⊎_elim (λ (e : x.route ≡ c). ap role (sym e) ∙ new_route.is_out)
+      (λ j. ⊎_elim (λ (e : x.left ≡ c). ap role (sym e) ∙ left_base.is_out)
+      (λ k. ⊎_elim (λ (e : x.right ≡ c). ap role (sym e) ∙ right_base.is_out)
+      (λ l. absurd (some-ne-none c (sym l.1))) (in_more x.right c [] k))
       (in_more x.left c (x.right ∷ []) j)) (in_more x.route c (x.left ∷ x.right ∷ []) i)
 
   role_else : (c : ℕ) → ¬ Coming c → c ≢ x.old.row → role' c ≡ r.above.role c
-  role_else c n ne = with_route_else role place (route_key x.route_its) x.old.row x.route x.left x.right c
+  role_else c n ne =
+      with_route_else role place (route_key x.route_its) x.old.row x.route x.left x.right c
       (λ e. n (0, ap some (sym e))) (λ e. n (1, ap some (sym e))) (λ e. n (2, ap some (sym e))) ne
 
   -- What has a role doesn't come.
@@ -233,10 +274,14 @@ module _ (z : Sizes) (s : State (Unit {0}) (View TreeView)) (r : R z s) (id : �
 
   base_stays : (c : ℕ) (p : Place) → r.above.role c ≡ Base p → row_at words' c ≡ row_at s.words c
   base_stays c p e = let b = base_at z s.words role last shape c p e in
-      relinked_row z s.words role last shape x.old.row place is_old x.route c b.some_row b.in_range (base_no_route role c p e)
+      relinked_row z s.words role last shape x.old.row place is_old x.route c b.some_row b.in_range
+      (base_no_route role c p e)
 
-  out_stays : (c : ℕ) → 0 < c → c ≤ z.rows → r.above.role c ≡ Out → row_at words' c ≡ row_at s.words c
-  out_stays c lo hi e = relinked_row z s.words role last shape x.old.row place is_old x.route c lo hi (out_no_route role c e)
+  out_stays : (c : ℕ) → 0 < c → c ≤ z.rows → r.above.role c ≡ Out
+      → row_at words' c ≡ row_at s.words c
+  out_stays c lo hi e =
+      relinked_row z s.words role last shape x.old.row place is_old x.route c lo hi
+      (out_no_route role c e)
 
   old_linked : IsLinked s.words x.old.row
   old_linked = placed_linked z s.words role last shape x.old.row place (ap place_of is_old)
@@ -244,26 +289,33 @@ module _ (z : Sizes) (s : State (Unit {0}) (View TreeView)) (r : R z s) (id : �
   come_linked : (c : ℕ) → Coming c → IsLinked words' c
   come_linked c i = ⊎_elim (λ (e : x.route ≡ c). by x.route c place (ap place_of role_route) e)
       (λ j. ⊎_elim (λ (e : x.left ≡ c). by x.left c _ (ap place_of role_left) e)
-      (λ k. ⊎_elim (λ (e : x.right ≡ c). by x.right c _ (ap place_of role_right) e) (λ l. absurd (some-ne-none c (sym l.1))) (in_more x.right c [] k))
+      (λ k. ⊎_elim (λ (e : x.right ≡ c). by x.right c _ (ap place_of role_right) e)
+      (λ l. absurd (some-ne-none c (sym l.1))) (in_more x.right c [] k))
       (in_more x.left c (x.right ∷ []) j)) (in_more x.route c (x.left ∷ x.right ∷ []) i)
     where
       by : (a c : ℕ) (p : Place) → place_of (role' a) ≡ some p → a ≡ c → IsLinked words' c
-      by a c p e same = subst (IsLinked words') same (placed_linked z words' role' last shape' a p e)
+      by a c p e same =
+          subst (IsLinked words') same (placed_linked z words' role' last shape' a p e)
 
   -- The items of a base of the new tree are those of a base of the old one.
-  was_item : (row base : ℕ) (p : Place) → role' base ≡ Base p → IsIn row (items (row_at words' base))
+  was_item : (row base : ℕ) (p : Place) → role' base ≡ Base p
+      → IsIn row (items (row_at words' base))
       → (b : ℕ) × (q : Place) × (r.above.role b ≡ Base q) × IsIn row (items (row_at s.words b))
   was_item row base p e i = ⊎_elim
       (λ (c : Coming base). ⊎_elim
-      (λ (same : x.route ≡ base). let y : Route place (route_key x.route_its) ≡ Base p = sym role_route ∙ (ap role' same ∙ e) in absurd cc)
+      (λ (same : x.route ≡ base).
+      let y : Route place (route_key x.route_its) ≡ Base p = sym role_route
+      ∙ (ap role' same ∙ e) in absurd cc)
       (λ j. ⊎_elim
       (λ (same : x.left ≡ base). (
         x.old.row,
         place,
         is_old,
         old_item row (subst (IsIn row) (sym both) (in_front (take x.middle (items x.old.its))
-            (drop x.middle (items x.old.its)) row (subst (IsIn row) left_items (subst (λ its. IsIn row (items its))
-            (ap (row_at words') (sym same) ∙ out_stays x.left left_base.some_row left_base.in_range left_base.is_out) i)))),
+            (drop x.middle (items x.old.its)) row
+            (subst (IsIn row) left_items (subst (λ its. IsIn row (items its))
+            (ap (row_at words') (sym same)
+            ∙ out_stays x.left left_base.some_row left_base.in_range left_base.is_out) i)))),
       ))
       (λ k. ⊎_elim
       (λ (same : x.right ≡ base). (
@@ -271,51 +323,71 @@ module _ (z : Sizes) (s : State (Unit {0}) (View TreeView)) (r : R z s) (id : �
         place,
         is_old,
         old_item row (subst (IsIn row) (sym both) (in_back (take x.middle (items x.old.its))
-            (drop x.middle (items x.old.its)) row (subst (IsIn row) right_items (subst (λ its. IsIn row (items its))
-            (ap (row_at words') (sym same) ∙ out_stays x.right right_base.some_row right_base.in_range right_base.is_out) i)))),
+            (drop x.middle (items x.old.its)) row
+            (subst (IsIn row) right_items (subst (λ its. IsIn row (items its))
+            (ap (row_at words') (sym same)
+            ∙ out_stays x.right right_base.some_row right_base.in_range right_base.is_out)
+            i)))),
       ))
       (λ l. absurd (some-ne-none base (sym l.1))) (in_more x.right base [] k))
       (in_more x.left base (x.right ∷ []) j)) (in_more x.route base (x.left ∷ x.right ∷ []) c))
       (λ (n : ¬ Coming base). dite (ℕ_discrete base x.old.row)
-      (λ (o : base ≡ x.old.row). let y : Out ≡ Base p = sym role_old ∙ (ap role' (sym o) ∙ e) in absurd cc)
-      (λ (ne : base ≢ x.old.row). let is = sym (role_else base n ne) ∙ e in (base, p, is, subst (λ its. IsIn row (items its)) (base_stays base p is) i)))
+      (λ (o : base ≡ x.old.row). let y : Out ≡ Base p = sym role_old ∙ (ap role' (sym o) ∙ e) in
+      absurd cc)
+      (λ (ne : base ≢ x.old.row). let is = sym (role_else base n ne) ∙ e in
+      (base, p, is, subst (λ its. IsIn row (items its)) (base_stays base p is) i)))
       (has (x.route ∷ x.left ∷ x.right ∷ []) base)
 
   -- The other way round.
-  item_now : (row base : ℕ) (p : Place) → r.above.role base ≡ Base p → IsIn row (items (row_at s.words base)) → IsLinked words' row
+  item_now : (row base : ℕ) (p : Place) → r.above.role base ≡ Base p
+      → IsIn row (items (row_at s.words base)) → IsLinked words' row
   item_now row base p e i = dite (ℕ_discrete base x.old.row)
       (λ (o : base ≡ x.old.row). ⊎_elim
-      (λ (j : IsIn row (take x.middle (items x.old.its))). item_linked z words' role' last shape' x.left _ role_left row (subst (λ its. IsIn row (items its))
-      (sym (out_stays x.left left_base.some_row left_base.in_range left_base.is_out)) (subst (IsIn row) (sym left_items) j)))
-      (λ (j : IsIn row (drop x.middle (items x.old.its))). item_linked z words' role' last shape' x.right _ role_right row (subst (λ its. IsIn row (items its))
-      (sym (out_stays x.right right_base.some_row right_base.in_range right_base.is_out)) (subst (IsIn row) (sym right_items) j)))
-      (in_either (take x.middle (items x.old.its)) (drop x.middle (items x.old.its)) row (subst (IsIn row) both
+      (λ (j : IsIn row (take x.middle (items x.old.its))). item_linked z words' role' last shape'
+      x.left _ role_left row (subst (λ its. IsIn row (items its))
+      (sym (out_stays x.left left_base.some_row left_base.in_range left_base.is_out))
+      (subst (IsIn row) (sym left_items) j)))
+      (λ (j : IsIn row (drop x.middle (items x.old.its))). item_linked z words' role' last shape'
+      x.right _ role_right row (subst (λ its. IsIn row (items its))
+      (sym (out_stays x.right right_base.some_row right_base.in_range right_base.is_out))
+      (subst (IsIn row) (sym right_items) j)))
+      (in_either (take x.middle (items x.old.its)) (drop x.middle (items x.old.its)) row
+      (subst (IsIn row) both
       (subst (λ its. IsIn row (items its)) (ap (row_at s.words) o ∙ old_true.spells) i))))
-      (λ (ne : base ≢ x.old.row). item_linked z words' role' last shape' base p (role_else base (no_coming base p (ap place_of e)) ne ∙ e) row
+      (λ (ne : base ≢ x.old.row). item_linked z words' role' last shape' base p
+      (role_else base (no_coming base p (ap place_of e)) ne ∙ e) row
       (subst (λ its. IsIn row (items its)) (sym (base_stays base p e)) i))
 
   stays_back : (row : ℕ) → ¬ Coming row → IsLinked words' row → IsLinked s.words row
   stays_back row n l = ⊎_elim
       (λ (t : (p : Place) × (place_of (role' row) ≡ some p)). dite (ℕ_discrete row x.old.row)
       (λ (e : row ≡ x.old.row). subst (IsLinked s.words) (sym e) old_linked)
-      (λ (ne : row ≢ x.old.row). placed_linked z s.words role last shape row t.0 (ap place_of (sym (role_else row n ne)) ∙ t.1)))
-      (λ (t : (base : ℕ) × (p : Place) × (role' base ≡ Base p) × IsIn row (items (row_at words' base))). let w = was_item row t.0 t.1 t.2 t.3 in
+      (λ (ne : row ≢ x.old.row). placed_linked z s.words role last shape row t.0
+      (ap place_of (sym (role_else row n ne)) ∙ t.1)))
+      (λ (t : (base : ℕ) × (p : Place) × (role' base ≡ Base p)
+      × IsIn row (items (row_at words' base))). let w = was_item row t.0 t.1 t.2 t.3 in
       item_linked z s.words role last shape w.0 w.1 w.2 row w.3)
       (reached z words' role' last shape' row l)
 
   stays_on : (row : ℕ) → row ≢ x.old.row → IsLinked s.words row → IsLinked words' row
   stays_on row ne l = ⊎_elim
       (λ (t : (p : Place) × (place_of (role row) ≡ some p)).
-      placed_linked z words' role' last shape' row t.0 (ap place_of (role_else row (no_coming row t.0 t.1) ne) ∙ t.1))
-      (λ (t : (base : ℕ) × (p : Place) × (role base ≡ Base p) × IsIn row (items (row_at s.words base))). item_now row t.0 t.1 t.2 t.3)
+      placed_linked z words' role' last shape' row t.0
+      (ap place_of (role_else row (no_coming row t.0 t.1) ne) ∙ t.1))
+      (λ (t : (base : ℕ) × (p : Place) × (role base ≡ Base p)
+      × IsIn row (items (row_at s.words base))). item_now row t.0 t.1 t.2 t.3)
       (reached z s.words role last shape row l)
 
   -- The old base is nothing the new tree has.
   old_unlinked : ¬ IsLinked words' x.old.row
   old_unlinked l = ⊎_elim
-      (λ (t : (p : Place) × (place_of (role' x.old.row) ≡ some p)). some-ne-none t.0 (sym t.1 ∙ ap place_of role_old))
-      (λ (t : (base : ℕ) × (p : Place) × (role' base ≡ Base p) × IsIn x.old.row (items (row_at words' base))). let w = was_item x.old.row t.0 t.1 t.2 t.3 in
-      let y : Base place ≡ Out = sym is_old ∙ item_out z s.words role last shape w.0 w.1 w.2 x.old.row w.3 in cc)
+      (λ (t : (p : Place) × (place_of (role' x.old.row) ≡ some p)). some-ne-none t.0 (sym t.1
+      ∙ ap place_of role_old))
+      (λ (t : (base : ℕ) × (p : Place) × (role' base ≡ Base p)
+      × IsIn x.old.row (items (row_at words' base))).
+      let w = was_item x.old.row t.0 t.1 t.2 t.3 in
+      let y : Base place ≡ Out = sym is_old
+      ∙ item_out z s.words role last shape w.0 w.1 w.2 x.old.row w.3 in cc)
       (reached z words' role' last shape' x.old.row l)
 
   abbrev ins : List ℕ
@@ -325,13 +397,19 @@ module _ (z : Sizes) (s : State (Unit {0}) (View TreeView)) (r : R z s) (id : �
   outs = x.old.row ∷ []
 
   held_in : (row : ℕ) → IsIn row ins → (its : List ℕ) × (claim_of d.claims row ≡ some (Holds its))
-  held_in row i = ⊎_elim (λ (e : x.route ≡ row). (x.route_its, ap (claim_of d.claims) (sym e) ∙ u.held_route))
-      (λ j. ⊎_elim (λ (e : x.left ≡ row). (x.left_its, ap (claim_of d.claims) (sym e) ∙ u.held_left))
-      (λ k. ⊎_elim (λ (e : x.right ≡ row). (x.right_its, ap (claim_of d.claims) (sym e) ∙ u.held_right)) (λ l. absurd (some-ne-none row (sym l.1)))
-      (in_more x.right row [] k)) (in_more x.left row (x.right ∷ []) j)) (in_more x.route row (x.left ∷ x.right ∷ []) i)
+  held_in row i = ⊎_elim
+      (λ (e : x.route ≡ row). (x.route_its, ap (claim_of d.claims) (sym e) ∙ u.held_route))
+      (λ j. ⊎_elim
+      (λ (e : x.left ≡ row). (x.left_its, ap (claim_of d.claims) (sym e) ∙ u.held_left))
+      (λ k. ⊎_elim
+      (λ (e : x.right ≡ row). (x.right_its, ap (claim_of d.claims) (sym e) ∙ u.held_right))
+      (λ l. absurd (some-ne-none row (sym l.1)))
+      (in_more x.right row [] k)) (in_more x.left row (x.right ∷ []) j))
+      (in_more x.route row (x.left ∷ x.right ∷ []) i)
 
   is_out : (row : ℕ) → IsIn row outs → row ≡ x.old.row
-  is_out row o = ⊎_elim (λ (e : x.old.row ≡ row). sym e) (λ l. absurd (some-ne-none row (sym l.1))) (in_more x.old.row row [] o)
+  is_out row o = ⊎_elim (λ (e : x.old.row ≡ row). sym e)
+      (λ l. absurd (some-ne-none row (sym l.1))) (in_more x.old.row row [] o)
 
   apart : (row : ℕ) → IsIn row ins → ¬ IsIn row outs
   apart row i o = other row (comes_out row i) (sym (is_out row o))
@@ -353,7 +431,8 @@ module _ (z : Sizes) (s : State (Unit {0}) (View TreeView)) (r : R z s) (id : �
   abbrev IsSo : ℕ → Change → Type 0
   IsSo = IsChange IsLinked IsLent IsNoted IsTree tree_lends z s r id d d' words' kind
 
-  changed : (row : ℕ) (a : IsIn row ins ⊎ ¬ IsIn row ins) (b : IsIn row outs ⊎ ¬ IsIn row outs) → IsSo row (kind_by row a b)
+  changed : (row : ℕ) (a : IsIn row ins ⊎ ¬ IsIn row ins) (b : IsIn row outs ⊎ ¬ IsIn row outs)
+      → IsSo row (kind_by row a b)
   unfolding kind_by
   changed row (inl i) b = (
     come_linked row i,
@@ -380,32 +459,44 @@ module _ (z : Sizes) (s : State (Unit {0}) (View TreeView)) (r : R z s) (id : �
   changed_now c = changed c (has ins c) (has outs c)
 
   -- What seats remember.
-  routes_stay : (c : ℕ) (p : Place) (key : List ℕ) → r.above.role c ≡ Route p key → role' c ≡ Route p key
+  routes_stay : (c : ℕ) (p : Place) (key : List ℕ) → r.above.role c ≡ Route p key
+      → role' c ≡ Route p key
   routes_stay c p key e = role_else c (no_coming c p (ap place_of e))
       (λ o. (let y : Route p key ≡ Base place = sym e ∙ (ap role o ∙ is_old) in cc)) ∙ e
 
   bases_stay : (c : ℕ) (p : Place) → r.above.role c ≡ Base p → (role' c ≡ Base p) ⊎ (role' c ≡ Out)
-  bases_stay c p e = dite (ℕ_discrete c x.old.row) (λ (o : c ≡ x.old.row). inr (ap role' o ∙ role_old))
+  bases_stay c p e = dite (ℕ_discrete c x.old.row)
+      (λ (o : c ≡ x.old.row). inr (ap role' o ∙ role_old))
       (λ (ne : c ≢ x.old.row). inl (role_else c (no_coming c p (ap place_of e)) ne ∙ e))
 
   outs_stay : (c : ℕ) → r.above.role c ≡ Out → ¬ Coming c → role' c ≡ Out
   outs_stay c e n = role_else c n (λ o. other c e (sym o)) ∙ e
 
-  unnoted : (j : ℕ) (y : View TreeView) → get_elem? s.views j ≡ some y → (c : ℕ) → Coming c → ¬ IsNoted s.words y.upper c
+  unnoted : (j : ℕ) (y : View TreeView) → get_elem? s.views j ≡ some y → (c : ℕ) → Coming c
+      → ¬ IsNoted s.words y.upper c
   unnoted j y here c i = let h = held_in c i in (held c h.0 h.1).4 j y here
 
-  note_keeps : (j : ℕ) (y : View TreeView) → get_elem? s.views j ≡ some y → (note : Note) → IsIn note y.upper.notes → IsTrue z.rows words' role' note
-  note_keeps j y here note i = note_stays z s.words role last shape x.old.row place is_old x.route role' last shape' Coming routes_stay bases_stay outs_stay
+  note_keeps : (j : ℕ) (y : View TreeView) → get_elem? s.views j ≡ some y → (note : Note)
+      → IsIn note y.upper.notes → IsTrue z.rows words' role' note
+  note_keeps j y here note i =
+      note_stays z s.words role last shape x.old.row place is_old x.route role' last shape' Coming
+      routes_stay bases_stay outs_stay
       y.upper (unnoted j y here) note i ((knows_upper z s r j y here).notes note i)
 
-  way_keeps : (j : ℕ) (y : View TreeView) → get_elem? s.views j ≡ some y → (way : Way) → IsIn way y.upper.ways → IsTrueWay words' role' way
-  way_keeps j y here way i = way_stays z s.words role last shape x.old.row place is_old x.route role' last shape' Coming routes_stay bases_stay outs_stay
+  way_keeps : (j : ℕ) (y : View TreeView) → get_elem? s.views j ≡ some y → (way : Way)
+      → IsIn way y.upper.ways → IsTrueWay words' role' way
+  way_keeps j y here way i =
+      way_stays z s.words role last shape x.old.row place is_old x.route role' last shape' Coming
+      routes_stay bases_stay outs_stay
       y.upper (unnoted j y here) way i ((knows_upper z s r j y here).ways way i)
 
-  notes_keep : (j : ℕ) (y : View TreeView) → get_elem? s.views j ≡ some y → (c : ℕ) → IsNoted words' y.upper c
+  notes_keep : (j : ℕ) (y : View TreeView) → get_elem? s.views j ≡ some y → (c : ℕ)
+      → IsNoted words' y.upper c
       → IsNoted s.words y.upper c ⊎ (IsLinked words' c × (y.pin.pinned ≡ true))
-  notes_keep j y here c n = ⊎_elim (λ o. inl o) (λ l. inr (l.0, (r.seat j y here).noted_pinned l.1.0 l.1.1))
-      (notes_stay z s.words role last shape x.old.row place is_old x.route role' last shape' Coming routes_stay bases_stay outs_stay
+  notes_keep j y here c n = ⊎_elim (λ o. inl o)
+      (λ l. inr (l.0, (r.seat j y here).noted_pinned l.1.0 l.1.1))
+      (notes_stay z s.words role last shape x.old.row place is_old x.route role' last shape' Coming
+      routes_stay bases_stay outs_stay
       y.upper (unnoted j y here) (knows_upper z s r j y here).ways c n)
 
   mine : get_elem? (map upper_of s.views) id ≡ some d.upper
@@ -413,9 +504,11 @@ module _ (z : Sizes) (s : State (Unit {0}) (View TreeView)) (r : R z s) (id : �
 
   -- A seat knows what it knew.
   knows_still : (j : ℕ) (y : View TreeView) → get_elem? s.views j ≡ some y
-      → Knows z.rows r.made words' role' (set (map upper_of s.views) id u') r.above.history j y.upper
+      → Knows z.rows r.made words' role' (set (map upper_of s.views) id u') r.above.history j
+      y.upper
   knows_still j y here = let k = relisted z.rows r.made s.words role (map upper_of s.views)
-      (set (map upper_of s.views) id u') f.history j y.upper (numbered (map upper_of s.views) id d.upper u' mine (λ _. refl))
+      (set (map upper_of s.views) id u') f.history j y.upper
+      (numbered (map upper_of s.views) id d.upper u' mine (λ _. refl))
       (knows_upper z s r j y here) in record {
         made_before = k.made_before;
         alone = k.alone;
@@ -429,7 +522,8 @@ module _ (z : Sizes) (s : State (Unit {0}) (View TreeView)) (r : R z s) (id : �
         ended = k.ended;
       }
 
-  own_knows : Knows z.rows r.made words' role' (set (map upper_of s.views) id u') r.above.history id u'
+  own_knows : Knows z.rows r.made words' role' (set (map upper_of s.views) id u') r.above.history id
+      u'
   own_knows = let k = knows_still id d at in record {
     made_before = k.made_before;
     alone = k.alone;
@@ -445,8 +539,10 @@ module _ (z : Sizes) (s : State (Unit {0}) (View TreeView)) (r : R z s) (id : �
 
   -- No other control word changes.
   control : (i : ℕ) → i < 136 → i ≢ 130 → get_or words' i 0 ≡ get_or s.words i 0
-  control i l ne = relinked_else z s.words role last shape x.old.row place is_old x.route i (λ e. ⊎_elim (λ (t : x.old.place.link ≡ 130). ne (omega arith))
-      (λ t. let lo = t.0 in omega arith) (link_range z s.words role last shape x.old.place.link old_at.is_link))
+  control i l ne = relinked_else z s.words role last shape x.old.row place is_old x.route i
+      (λ e. ⊎_elim (λ (t : x.old.place.link ≡ 130). ne (omega arith))
+      (λ t. let lo = t.0 in
+      omega arith) (link_range z s.words role last shape x.old.place.link old_at.is_link))
 
   -- the bases that come
   abbrev left_part : ℕ × Place
@@ -459,50 +555,67 @@ module _ (z : Sizes) (s : State (Unit {0}) (View TreeView)) (r : R z s) (id : �
   parts = left_part ∷ right_part ∷ []
 
   -- A base that comes is one of the two.
-  which : (row : ℕ) (p : Place) → IsIn (row, p) parts → (left_part ≡ (row, p)) ⊎ (right_part ≡ (row, p))
-  which row p i = ⊎_elim (λ e. inl e) (λ j. ⊎_elim (λ e. inr e) (λ k. absurd (in_nothing (row, p) [] refl k)) (in_more right_part (row, p) [] j))
+  which : (row : ℕ) (p : Place) → IsIn (row, p) parts → (left_part ≡ (row, p))
+      ⊎ (right_part ≡ (row, p))
+  which row p i = ⊎_elim (λ e. inl e)
+      (λ j. ⊎_elim (λ e. inr e)
+      (λ k. absurd (in_nothing (row, p) [] refl k)) (in_more right_part (row, p) [] j))
       (in_more left_part (row, p) (right_part ∷ []) i)
 
   part_now : (row : ℕ) (p : Place) → IsIn (row, p) parts → role' row ≡ Base p
   part_now row p i = ⊎_elim (by left_part role_left) (by right_part role_right) (which row p i)
     where
       by : (b : ℕ × Place) → role' b.0 ≡ Base b.1 → b ≡ (row, p) → role' row ≡ Base p
-      by b is e = ap (λ (c : ℕ × Place). role' c.0) (sym e) ∙ (is ∙ ap (λ (c : ℕ × Place). Base c.1) e)
+      by b is e = ap (λ (c : ℕ × Place). role' c.0) (sym e)
+          ∙ (is ∙ ap (λ (c : ℕ × Place). Base c.1) e)
 
   part_out : (row : ℕ) (p : Place) → IsIn (row, p) parts → r.above.role row ≡ Out
-  part_out row p i = ⊎_elim (by left_part left_base.is_out) (by right_part right_base.is_out) (which row p i)
+  part_out row p i =
+      ⊎_elim (by left_part left_base.is_out) (by right_part right_base.is_out) (which row p i)
     where
       by : (b : ℕ × Place) → role b.0 ≡ Out → b ≡ (row, p) → role row ≡ Out
       by b is e = ap (λ (c : ℕ × Place). role c.0) (sym e) ∙ is
 
   -- A base of the new tree is one of the two, or was one.
-  part_back : (row : ℕ) (p : Place) → role' row ≡ Base p → IsIn (row, p) parts ⊎ ((r.above.role row ≡ Base p) × (row ≢ x.old.row))
+  part_back : (row : ℕ) (p : Place) → role' row ≡ Base p → IsIn (row, p) parts
+      ⊎ ((r.above.role row ≡ Base p) × (row ≢ x.old.row))
   part_back row p e = ⊎_elim
       (λ (c : Coming row). ⊎_elim
-      (λ (same : x.route ≡ row). let y : Route place (route_key x.route_its) ≡ Base p = sym role_route ∙ (ap role' same ∙ e) in absurd cc)
+      (λ (same : x.route ≡ row).
+      let y : Route place (route_key x.route_its) ≡ Base p = sym role_route
+      ∙ (ap role' same ∙ e) in absurd cc)
       (λ j. ⊎_elim
       (λ (same : x.left ≡ row). inl (0, by left_part role_left same))
-      (λ k. ⊎_elim (λ (same : x.right ≡ row). inl (1, by right_part role_right same)) (λ l. absurd (in_nothing row [] refl l)) (in_more x.right row [] k))
+      (λ k. ⊎_elim (λ (same : x.right ≡ row). inl (1, by right_part role_right same))
+      (λ l. absurd (in_nothing row [] refl l)) (in_more x.right row [] k))
       (in_more x.left row (x.right ∷ []) j)) (in_more x.route row (x.left ∷ x.right ∷ []) c))
       (λ (n : ¬ Coming row). dite (ℕ_discrete row x.old.row)
-      (λ (o : row ≡ x.old.row). let y : Out ≡ Base p = sym role_old ∙ (ap role' (sym o) ∙ e) in absurd cc)
+      (λ (o : row ≡ x.old.row). let y : Out ≡ Base p = sym role_old ∙ (ap role' (sym o) ∙ e) in
+      absurd cc)
       (λ (ne : row ≢ x.old.row). inr (sym (role_else row n ne) ∙ e, ne)))
       (has ins row)
     where
       by : (b : ℕ × Place) → role' b.0 ≡ Base b.1 → b.0 ≡ row → some b ≡ some (row, p)
-      by b is same = ap some (ap (λ c. (c, b.1)) same ∙ ap (λ q. (row, q)) (same_place b.1 p (sym is ∙ (ap role' same ∙ e))))
+      by b is same = ap some (ap (λ c. (c, b.1)) same
+          ∙ ap (λ q. (row, q)) (same_place b.1 p (sym is ∙ (ap role' same ∙ e))))
 
   -- The three rows are apart.
   route_once : ¬ ((y : ℕ) × IsIn y (x.left ∷ x.right ∷ []) × (y ≡ x.route))
   route_once t = ⊎_elim (λ (e : x.left ≡ t.0). u.apart.0 (sym (e ∙ t.2)))
-      (λ j. ⊎_elim (λ (e : x.right ≡ t.0). u.apart.1 (sym (e ∙ t.2))) (in_nothing t.0 [] refl) (in_more x.right t.0 [] j))
+      (λ j. ⊎_elim
+      (λ (e : x.right ≡ t.0). u.apart.1 (sym (e ∙ t.2))) (in_nothing t.0 [] refl)
+      (in_more x.right t.0 [] j))
       (in_more x.left t.0 (x.right ∷ []) t.1)
 
   left_once : ¬ ((y : ℕ) × IsIn y (x.right ∷ []) × (y ≡ x.left))
-  left_once t = ⊎_elim (λ (e : x.right ≡ t.0). u.apart.2 (sym (e ∙ t.2))) (in_nothing t.0 [] refl) (in_more x.right t.0 [] t.1)
+  left_once t = ⊎_elim
+      (λ (e : x.right ≡ t.0). u.apart.2 (sym (e ∙ t.2))) (in_nothing t.0 [] refl)
+      (in_more x.right t.0 [] t.1)
 
   parts_once : ¬ ((y : ℕ × Place) × IsIn y (right_part ∷ []) × (y.0 ≡ x.left))
-  parts_once t = ⊎_elim (λ (e : right_part ≡ t.0). u.apart.2 (sym (ap (λ (b : ℕ × Place). b.0) e ∙ t.2))) (in_nothing t.0 [] refl)
+  parts_once t = ⊎_elim
+      (λ (e : right_part ≡ t.0). u.apart.2 (sym (ap (λ (b : ℕ × Place). b.0) e ∙ t.2)))
+      (in_nothing t.0 [] refl)
       (in_more right_part t.0 [] t.1)
 
   relists : Relists s.words words' r.above.role role' ins outs parts x.old.row
@@ -512,16 +625,26 @@ module _ (z : Sizes) (s : State (Unit {0}) (View TreeView)) (r : R z s) (id : �
     goes = λ row o _ l. old_unlinked (subst (IsLinked words') (is_out row o) l);
     back = stays_back;
     on = λ row n. stays_on row (λ e. n (0, ap some (sym e)));
-    ins_once = (route_once, (left_once, ((λ (t : (y : ℕ) × IsIn y [] × (y ≡ x.right)). in_nothing t.0 [] refl t.1), tt)));
+    ins_once = (
+      route_once,
+      (
+        left_once,
+        ((λ (t : (y : ℕ) × IsIn y [] × (y ≡ x.right)). in_nothing t.0 [] refl t.1), tt),
+      ),
+    );
     base_comes = part_now;
     base_out = part_out;
     base_back = part_back;
     base_on = λ row p e ne. role_else row (no_coming row p (ap place_of e)) ne ∙ e;
-    bases_once = (parts_once, ((λ (t : (y : ℕ × Place) × IsIn y [] × (y.0 ≡ x.right)). in_nothing t.0 [] refl t.1), tt));
+    bases_once = (
+      parts_once,
+      ((λ (t : (y : ℕ × Place) × IsIn y [] × (y.0 ≡ x.right)). in_nothing t.0 [] refl t.1), tt),
+    );
   }
 
   listed_now : IsInventory words' role' (divided_inventory x r.above.inventory)
-  listed_now = listed_again s.words words' role role' ins outs parts x.old.row f.inventory relists f.listed
+  listed_now =
+      listed_again s.words words' role role' ins outs parts x.old.row f.inventory relists f.listed
 
   tree_now : IsTree z r.made words' (set (map upper_of s.views) id u')
   tree_now = record {
@@ -534,49 +657,70 @@ module _ (z : Sizes) (s : State (Unit {0}) (View TreeView)) (r : R z s) (id : �
     levels = control 133 (omega arith) (λ e. omega arith) ∙ f.levels;
     role = role';
     shape = shape';
-    each_seat = all_seats (Knows z.rows r.made words' role' (set (map upper_of s.views) id u') f.history) (map upper_of s.views) id u' own_knows
+    each_seat =
+        all_seats (Knows z.rows r.made words' role' (set (map upper_of s.views) id u') f.history)
+        (map upper_of s.views) id u' own_knows
         (λ j v n here. let y = of_map upper_of s.views j v here in
-        subst (Knows z.rows r.made words' role' (set (map upper_of s.views) id u') f.history j) y.2 (knows_still j y.0 y.1));
+        subst (Knows z.rows r.made words' role' (set (map upper_of s.views) id u') f.history j) y.2
+        (knows_still j y.0 y.1));
     inventory = divided_inventory x f.inventory;
     listed = listed_now;
-    at_first = λ (e : r.made ≡ 0). let lo = u.is_pass in let hi = knows.made_before in absurd (omega arith);
-    only_one = known_by_one z.rows r.made s.words role (map upper_of s.views) f.history f.each_seat id d.upper u'
-        (divided_inventory x f.inventory) mine u.is_pass (λ few. ap (divided_inventory x) (f.only_one id d.upper mine few u.is_pass));
+    at_first = λ (e : r.made ≡ 0). let lo = u.is_pass in let hi = knows.made_before in
+        absurd (omega arith);
+    only_one =
+        known_by_one z.rows r.made s.words role (map upper_of s.views) f.history f.each_seat id
+        d.upper u'
+        (divided_inventory x f.inventory) mine u.is_pass
+        (λ few. ap (divided_inventory x) (f.only_one id d.upper mine few u.is_pass));
   }
 
-  claims_in : (row : ℕ) (c : Claim) → claim_of (taken_out outs (given ins d.claims)) row ≡ some c → (0 < row) × (row ≤ z.rows)
-  claims_in row c e = ⊎_elim (λ o. subst (λ y. (0 < y) × (y ≤ z.rows)) (sym (is_out row o)) (old_at.some_row, old_at.in_range))
+  claims_in : (row : ℕ) (c : Claim) → claim_of (taken_out outs (given ins d.claims)) row ≡ some c
+      → (0 < row) × (row ≤ z.rows)
+  claims_in row c e = ⊎_elim
+      (λ o. subst (λ y. (0 < y)
+      × (y ≤ z.rows)) (sym (is_out row o)) (old_at.some_row, old_at.in_range))
       (λ m. ⊎_elim (λ i. let h = held_in row i in let w = held row h.0 h.1 in (w.0, w.1))
-      (λ n. (r.seat id d at).in_range row c (sym (taken_else outs (given ins d.claims) row m ∙ given_else ins d.claims row n) ∙ e)) (has ins row))
+      (λ n. (r.seat id d at).in_range row c (sym (taken_else outs (given ins d.claims) row m
+      ∙ given_else ins d.claims row n) ∙ e)) (has ins row))
       (has outs row)
 
   -- A row that isn't linked keeps its words.
-  unlinked_keeps : (c k : ℕ) → 0 < c → ¬ IsLinked s.words c → k < 136 → get_or words' (136 * c + k) 0 ≡ get_or s.words (136 * c + k) 0
-  unlinked_keeps c k lo n l = relinked_keeps z s.words role last shape x.old.row place is_old x.route c lo
+  unlinked_keeps : (c k : ℕ) → 0 < c → ¬ IsLinked s.words c → k < 136
+      → get_or words' (136 * c + k) 0 ≡ get_or s.words (136 * c + k) 0
+  unlinked_keeps c k lo n l =
+      relinked_keeps z s.words role last shape x.old.row place is_old x.route c lo
       (out_no_route role c (unlinked_out z s.words role last shape c n)) k l
 
   -- Where the link names the old base, the exchange carries out the split.
   pub division_step : R z record { words = words'; homes = s.homes; views = set s.views id d' }
-  division_step = relinks IsLinked IsLent IsNoted IsTree tree_lends z s r id d d' words' kind record {
-    at = at;
-    same_sizes = refl;
-    same_made = refl;
-    same_stage = refl;
-    same_pin = refl;
-    wide = wide' ∙ sym r.wide;
-    low = λ i l. control i (omega arith) (λ e. omega arith);
-    unlinked_rows = λ c k lo hi n l. unlinked_keeps c k lo n l;
-    changes = λ c _ _. changed_now c;
-    in_range = claims_in;
-    notes = λ j y here c n. ⊎_elim
-        (λ (t : (j ≡ id) × (d' ≡ y)). ⊎_elim
-        (λ (w : IsNoted s.words d.upper c). inl (d, ap (get_elem? s.views) t.0 ∙ at, w))
-        (λ (l : IsLinked words' c × (d.pin.pinned ≡ true)). inr (l.0, ap (λ (w : View TreeView). w.pin.pinned) (sym t.1) ∙ l.1))
-        (notes_keep id d at c (divided_notes words' x d.upper c (subst (λ (w : View TreeView). IsNoted words' w.upper c) (sym t.1) n))))
-        (λ (t : (j ≢ id) × (get_elem? s.views j ≡ some y)). ⊎_elim (λ w. inl (y, t.1, w)) (λ l. inr l) (notes_keep j y t.1 c n))
-        (at_set s.views id j d' y here);
-    above = subst (IsTree z r.made words') (sym (map-set upper_of s.views id d')) tree_now;
-  }
+  division_step =
+      relinks IsLinked IsLent IsNoted IsTree tree_lends z s r id d d' words' kind record {
+        at = at;
+        same_sizes = refl;
+        same_made = refl;
+        same_stage = refl;
+        same_pin = refl;
+        wide = wide' ∙ sym r.wide;
+        low = λ i l. control i (omega arith) (λ e. omega arith);
+        unlinked_rows = λ c k lo hi n l. unlinked_keeps c k lo n l;
+        changes = λ c _ _. changed_now c;
+        in_range = claims_in;
+        notes = λ j y here c n. ⊎_elim
+            (λ (t : (j ≡ id) × (d' ≡ y)). ⊎_elim
+            (λ (w : IsNoted s.words d.upper c). inl (d, ap (get_elem? s.views) t.0 ∙ at, w))
+            (λ (l : IsLinked words' c
+            × (d.pin.pinned ≡ true)). inr (
+              l.0,
+              ap (λ (w : View TreeView). w.pin.pinned) (sym t.1)
+                  ∙ l.1,
+            ))
+            (notes_keep id d at c (divided_notes words' x d.upper c (subst
+            (λ (w : View TreeView). IsNoted words' w.upper c) (sym t.1) n))))
+            (λ (t : (j ≢ id) × (get_elem? s.views j ≡ some y)). ⊎_elim (λ w. inl (y, t.1, w))
+            (λ l. inr l) (notes_keep j y t.1 c n))
+            (at_set s.views id j d' y here);
+        above = subst (IsTree z r.made words') (sym (map-set upper_of s.views id d')) tree_now;
+      }
 
   divided_now : IsDivided x me (d', me.1)
   divided_now = record { now = refl; unclaimed = unclaimed_row z s r id d at x.old.row old_linked }
@@ -586,44 +730,66 @@ module _ (z : Sizes) where
   pub divides : (slots id : ℕ) (me : MyTree) (x : Division) → IsDivision z me x
       → Allows (R z) slots id me x.old.place.link (λ n. either (eqb n x.old.row) x.route n)
       (Relinks MaySwap (Divides x) (step slots x.old.place.link x.old.row x.route none) me)
-  divides slots id me x u s r _ at _ = let n : ℕ = get_or s.words x.old.place.link 0 in let d = me.0 in dite (ℕ_discrete n x.old.row)
+  divides slots id me x u s r _ at _ = let n : ℕ = get_or s.words x.old.place.link 0 in
+      let d = me.0 in dite (ℕ_discrete n x.old.row)
       (λ (hit : n ≡ x.old.row). let d' : View TreeView =
-      (relinked me (taken_out (x.old.row ∷ []) (given (x.route ∷ x.left ∷ x.right ∷ []) d.claims)) (divided x d.upper)).0 in let won : Divides x (step slots x.old.place.link x.old.row x.route none) me n (d', me.1) = ((λ _. divided_now z s r id me at x u hit), λ miss. absurd (miss hit)) in (
+      (relinked me (taken_out (x.old.row ∷ []) (given (x.route ∷ x.left ∷ x.right ∷ []) d.claims))
+      (divided x d.upper)).0 in
+      let won : Divides x (step slots x.old.place.link x.old.row x.route none) me n (d', me.1) =
+      ((λ _. divided_now z s r id me at x u hit), λ miss. absurd (miss hit)) in (
         d',
         keeps,
         tt,
-        subst (λ (y : ℕ). R z (stepped s x.old.place.link y id me.1 d' keeps)) (sym (ap (λ b. either b x.route n) (eq-eqb n x.old.row hit)))
+        subst (λ (y : ℕ). R z (stepped s x.old.place.link y id me.1 d' keeps))
+            (sym (ap (λ b. either b x.route n) (eq-eqb n x.old.row hit)))
             (division_step z s r id me at x u hit),
         ((λ _. refl), (λ miss. absurd (miss hit)), inr (x, (u.shown, refl, refl), won), won),
       ))
       (λ miss. let lost : View TreeView = record d { upper = one_more_lost d.upper } in
-      let missed : Divides x (step slots x.old.place.link x.old.row x.route none) me n (lost, me.1) = ((λ hit. absurd (miss hit)), λ _. (refl, hangs_still z s r id me x.old at miss)) in (
+      let missed : Divides x (step slots x.old.place.link x.old.row x.route none) me n (
+        lost,
+        me.1,
+      ) = (
+        (λ hit. absurd (miss hit)),
+        λ _. (refl, hangs_still z s r id me x.old at miss),
+      ) in (
         lost,
         keeps,
         tt,
-        subst (λ (y : ℕ). R z (stepped s x.old.place.link y id me.1 lost keeps)) (sym (ap (λ b. either b x.route n) (ne_eqb n x.old.row miss)))
+        subst (λ (y : ℕ). R z (stepped s x.old.place.link y id me.1 lost keeps))
+            (sym (ap (λ b. either b x.route n) (ne_eqb n x.old.row miss)))
             (loses z s r x.old.place.link id d at),
         ((λ hit. absurd (miss hit)), (λ _. refl), inr (x, (u.shown, refl, refl), missed), missed),
       ))
 
   -- The same, where the old row, the route and the link have other names.
-  pub divides_from : (slots id : ℕ) (me : MyTree) (link old route : ℕ) (x : Division) → IsDivision z me x → x.old.row ≡ old → x.route ≡ route
+  pub divides_from : (slots id : ℕ) (me : MyTree) (link old route : ℕ) (x : Division)
+      → IsDivision z me x → x.old.row ≡ old → x.route ≡ route
       → x.old.place.link ≡ link
-      → Allows (R z) slots id me link (λ n. either (eqb n old) route n) (Relinks MaySwap (Divides x) (step slots link old route none) me)
-  divides_from slots id me link old route x u same top here = subst (λ (i : ℕ). Allows (R z) slots id me i (λ n. either (eqb n old) route n)
-      (Relinks MaySwap (Divides x) (step slots i old route none) me)) here (subst (λ (o : ℕ). Allows (R z) slots id me x.old.place.link (λ n. either (eqb n o) route n)
-      (Relinks MaySwap (Divides x) (step slots x.old.place.link o route none) me)) same (subst (λ (t : ℕ). Allows (R z) slots id me x.old.place.link
-      (λ n. either (eqb n x.old.row) t n) (Relinks MaySwap (Divides x) (step slots x.old.place.link x.old.row t none) me)) top (divides slots id me x u)))
+      → Allows (R z) slots id me link
+      (λ n. either (eqb n old) route n)
+      (Relinks MaySwap (Divides x) (step slots link old route none) me)
+  divides_from slots id me link old route x u same top here = subst
+      (λ (i : ℕ). Allows (R z) slots id me i (λ n. either (eqb n old) route n)
+      (Relinks MaySwap (Divides x) (step slots i old route none) me)) here (subst
+      (λ (o : ℕ). Allows (R z) slots id me x.old.place.link (λ n. either (eqb n o) route n)
+      (Relinks MaySwap (Divides x) (step slots x.old.place.link o route none) me)) same (subst
+      (λ (t : ℕ). Allows (R z) slots id me x.old.place.link
+      (λ n. either (eqb n x.old.row) t n)
+      (Relinks MaySwap (Divides x) (step slots x.old.place.link x.old.row t none) me)) top
+      (divides slots id me x u)))
 
 -- The two ways that the exchange goes.
-pub has_divided : (n link old route : ℕ) (x : Division) (m m' : MyTree) (slots : ℕ) → Divides x (step slots link old route none) m n m'
+pub has_divided : (n link old route : ℕ) (x : Division) (m m' : MyTree) (slots : ℕ)
+    → Divides x (step slots link old route none) m n m'
     → HasDivided (eqb n old) x m m'
 has_divided n link old route x m m' slots told = dite (ℕ_discrete n old)
     (λ hit. subst (λ (b : Bool). HasDivided b x m m') (sym (eq-eqb n old hit)) (told.0 hit))
     (λ miss. subst (λ (b : Bool). HasDivided b x m m') (sym (ne_eqb n old miss)) (told.1 miss).0)
 
 -- Where it was lost, a pass that is alone doesn't list the base.
-pub missed_division : (n link old route : ℕ) (x : Division) (m m' : MyTree) (slots : ℕ) (won : Bool) → Divides x (step slots link old route none) m n m'
+pub missed_division : (n link old route : ℕ) (x : Division) (m m' : MyTree) (slots : ℕ) (won : Bool)
+    → Divides x (step slots link old route none) m n m'
     → won ≡ eqb n old → won ≡ false → IsMissed x.old m
 missed_division n link old route x m m' slots won told is lost = dite (ℕ_discrete n old)
     (λ hit. let y : true ≡ false = sym (eq-eqb n old hit) ∙ (sym is ∙ lost) in absurd cc)

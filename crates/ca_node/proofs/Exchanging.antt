@@ -1,4 +1,5 @@
--- One exchange of a link, by which a base takes the place of another one, whether it carries out an edit or none.
+-- One exchange of a link, by which a base takes the place of another one, whether it carries out an
+-- edit or none.
 use Rattle.std.proofs.Common.{◌≡◌, ◌≢◌, ◌⊎◌, ℕ, ◌+◌, ◌*◌, ◌<◌, ◌≤◌, true, List, [], ◌∷◌, length, map, get_or, set, sym, refl, ap, ◌∙◌, subst, inl, inr, ⊎_elim, arith}
 use Rattle.std.proofs.lemmas.List.{map-set}
 use mathlib.Core.Logic.{dite}
@@ -40,8 +41,10 @@ use Rattle.ca_node.proofs.Named.{named_once}
 use Rattle.ca_node.proofs.Rebased.{IsNewBase, relinked_wide, relinked_else, relinked_row, relinked_object, base_no_route, out_no_route, relinked_keeps, with_base, with_base_new, with_base_old, with_base_else, shape_rebased}
 use Rattle.ca_node.proofs.Remembering.{remembered_leads, unlinked_out, note_stays, way_stays, notes_stay}
 
--- The seat may put the new row in the place of the old base, as far as the rows and the items go: it is pinned, its last load of that link showed that
--- base, and it holds the new one. What goes stood in one place of the old base, and no item of the new one is from there.
+-- The seat may put the new row in the place of the old base, as far as the rows and the items go:
+-- it is pinned, its last load of that link showed that
+-- base, and it holds the new one. What goes stood in one place of the old base, and no item of the
+-- new one is from there.
 pub record IsExchange (z : Sizes) (m : MyTree) (new : ℕ) (x : Update) : Type 0 where
   pub is_pinned : m.0.pin.pinned ≡ true
   pub is_pass : 0 < m.0.upper.number
@@ -52,14 +55,18 @@ pub record IsExchange (z : Sizes) (m : MyTree) (new : ℕ) (x : Update) : Type 0
   pub level_is : level x.its ≡ x.old.place.level
   pub few : count x.its ≤ z.leaf
   pub as_many : length x.objects ≡ length (items x.its)
-  pub are_objects : (k row : ℕ) (its : List ℕ) → get_elem? (items x.its) k ≡ some row → get_elem? x.objects k ≡ some its → IsObjectOf m x row its
-  pub come : (row : ℕ) → IsIn row x.comes → IsIn row (items x.its) × ((its : List ℕ) × (claim_of m.0.claims row ≡ some (Holds its)))
+  pub are_objects : (k row : ℕ) (its : List ℕ) → get_elem? (items x.its) k ≡ some row
+      → get_elem? x.objects k ≡ some its → IsObjectOf m x row its
+  pub come : (row : ℕ) → IsIn row x.comes → IsIn row (items x.its)
+      × ((its : List ℕ) × (claim_of m.0.claims row ≡ some (Holds its)))
   pub come_once : AreOnce row_itself x.comes
-  pub go : (row : ℕ) → IsIn row x.goes → (i : ℕ) × (get_elem? (items x.old.its) i ≡ some row) × IsNotFrom x i row
+  pub go : (row : ℕ) → IsIn row x.goes → (i : ℕ) × (get_elem? (items x.old.its) i ≡ some row)
+      × IsNotFrom x i row
   pub stay : (row : ℕ) → IsIn row (items x.old.its) → IsIn row (items x.its) ⊎ IsIn row x.goes
 
 -- The link names the old base.
-module _ (z : Sizes) (s : State (Unit {0}) (View TreeView)) (r : R z s) (id : ℕ) (me : MyTree) (at : get_elem? s.views id ≡ some me.0) (new : ℕ) (x : Update)
+module _ (z : Sizes) (s : State (Unit {0}) (View TreeView)) (r : R z s) (id : ℕ) (me : MyTree)
+    (at : get_elem? s.views id ≡ some me.0) (new : ℕ) (x : Update)
     (u : IsExchange z me new x) (hit : get_or s.words x.old.place.link 0 ≡ x.old.row) where
   abbrev d : View TreeView
   d = me.0
@@ -82,7 +89,8 @@ module _ (z : Sizes) (s : State (Unit {0}) (View TreeView)) (r : R z s) (id : �
   abbrev words' : List ℕ
   words' = set s.words x.old.place.link new
 
-  abbrev knows : Knows z.rows r.made s.words r.above.role (map upper_of s.views) r.above.history id d.upper
+  abbrev knows : Knows z.rows r.made s.words r.above.role (map upper_of s.views) r.above.history id
+      d.upper
   knows = knows_upper z s r id d at
 
   old_true : IsTrue z.rows s.words r.above.role x.old
@@ -90,16 +98,22 @@ module _ (z : Sizes) (s : State (Unit {0}) (View TreeView)) (r : R z s) (id : �
 
   -- The old base hangs where it was shown.
   pub is_old : r.above.role x.old.row ≡ Base x.old.place
-  is_old = let l = remembered_leads z s.words role last shape d.upper knows.ways x.old.place.link (knows.links x.old (in_notes x.old me.0.upper.notes u.shown)) in ⊎_elim
+  is_old = let l = remembered_leads z s.words role last shape d.upper knows.ways x.old.place.link
+      (knows.links x.old (in_notes x.old me.0.upper.notes u.shown)) in ⊎_elim
       (λ (e : r.above.role x.old.row ≡ Base x.old.place). e)
-      (λ (out : r.above.role x.old.row ≡ Out). absurd (some-ne-none l.0 (sym l.2 ∙ (ap (λ (c : ℕ). place_of (role c)) hit ∙ ap place_of out))))
+      (λ (out : r.above.role x.old.row
+      ≡ Out). absurd (some-ne-none l.0 (sym l.2
+      ∙ (ap (λ (c : ℕ). place_of (role c)) hit ∙ ap place_of out))))
       old_true.stands
 
   old_at : IsBaseAt z s.words r.above.role (after r.above.history []) x.old.place x.old.row
   old_at = base_at z s.words role last shape x.old.row x.old.place is_old
 
-  held : (row : ℕ) (its : List ℕ) → claim_of d.claims row ≡ some (Holds its) → (0 < row) × (row ≤ z.rows) × (row_at s.words row ≡ its)
-      × ¬ IsLinked s.words row × ((j : ℕ) (y : View TreeView) → get_elem? s.views j ≡ some y → ¬ IsNoted s.words y.upper row)
+  held : (row : ℕ) (its : List ℕ) → claim_of d.claims row ≡ some (Holds its) → (0 < row)
+      × (row ≤ z.rows) × (row_at s.words row ≡ its)
+      × ¬ IsLinked s.words row
+      × ((j : ℕ) (y : View TreeView) → get_elem? s.views j ≡ some y
+      → ¬ IsNoted s.words y.upper row)
   held = held_row z s r id d at
 
   pub new_row : (0 < new) × (new ≤ z.rows) × (row_at s.words new ≡ x.its) × ¬ IsLinked s.words new
@@ -113,49 +127,66 @@ module _ (z : Sizes) (s : State (Unit {0}) (View TreeView)) (r : R z s) (id : �
   old_linked = placed_linked z s.words role last shape x.old.row x.old.place (ap place_of is_old)
 
   pub old_item : (row : ℕ) → IsIn row (items x.old.its) → IsLinked s.words row
-  old_item row i = item_linked z s.words role last shape x.old.row x.old.place is_old row (subst (λ its. IsIn row (items its)) (sym old_true.spells) i)
+  old_item row i = item_linked z s.words role last shape x.old.row x.old.place is_old row (subst
+      (λ its. IsIn row (items its)) (sym old_true.spells) i)
 
   -- An item of the new base: its words, and that it is an object in range.
-  item_is : (k row : ℕ) (its : List ℕ) → get_elem? (items x.its) k ≡ some row → get_elem? x.objects k ≡ some its → (0 < row) × (row ≤ z.rows)
+  item_is : (k row : ℕ) (its : List ℕ) → get_elem? (items x.its) k ≡ some row
+      → get_elem? x.objects k ≡ some its → (0 < row) × (row ≤ z.rows)
       × (row_at s.words row ≡ its) × IsObjectRow its
   item_is k row its a b = ⊎_elim
-      (λ (o : (i : ℕ) × (get_elem? (items x.old.its) i ≡ some row) × (get_elem? x.old.objects i ≡ some its)).
-      let range = old_true.named u.old_base row (o.0, o.1) in let there = at_map (λ c. row_at s.words c) (items x.old.its) o.0 row o.1 in
+      (λ (o : (i : ℕ) × (get_elem? (items x.old.its) i ≡ some row)
+      × (get_elem? x.old.objects i ≡ some its)).
+      let range = old_true.named u.old_base row (o.0, o.1) in
+      let there = at_map (λ c. row_at s.words c) (items x.old.its) o.0 row o.1 in
       let same : row_at s.words row ≡ its = some-injective (row_at s.words row) its (sym there
-      ∙ (ap (λ xs. get_elem? xs o.0) (old_true.objects_are u.old_base) ∙ o.2)) in (range.0, range.1, same, subst IsObjectRow same range.2))
-      (λ (o : IsIn row x.comes × (claim_of d.claims row ≡ some (Holds its)) × IsObjectRow its). let h = held row its o.1 in (h.0, h.1, h.2, o.2))
+      ∙ (ap (λ xs. get_elem? xs o.0) (old_true.objects_are u.old_base) ∙ o.2)) in
+      (range.0, range.1, same, subst IsObjectRow same range.2))
+      (λ (o : IsIn row x.comes × (claim_of d.claims row ≡ some (Holds its)) × IsObjectRow its).
+      let h = held row its o.1 in (h.0, h.1, h.2, o.2))
       (u.are_objects k row its a b)
 
   -- an item of the new base, by its row
-  words_of : (row : ℕ) → IsIn row (items x.its) → (its : List ℕ) × (0 < row) × (row ≤ z.rows) × (row_at s.words row ≡ its) × IsObjectRow its
-  words_of row i = let o = other_has (items x.its) x.objects i.0 row u.as_many i.1 in let e = item_is i.0 row o.0 i.1 o.1 in (o.0, e.0, e.1, e.2, e.3)
+  words_of : (row : ℕ) → IsIn row (items x.its) → (its : List ℕ) × (0 < row) × (row ≤ z.rows)
+      × (row_at s.words row ≡ its) × IsObjectRow its
+  words_of row i = let o = other_has (items x.its) x.objects i.0 row u.as_many i.1 in
+      let e = item_is i.0 row o.0 i.1 o.1 in (o.0, e.0, e.1, e.2, e.3)
 
   was_item : (row : ℕ) → IsIn row (items x.its) → IsIn row (items x.old.its) ⊎ IsIn row x.comes
   was_item row i = let o = other_has (items x.its) x.objects i.0 row u.as_many i.1 in ⊎_elim
-      (λ (y : (k : ℕ) × (get_elem? (items x.old.its) k ≡ some row) × (get_elem? x.old.objects k ≡ some o.0)). inl (y.0, y.1))
-      (λ (y : IsIn row x.comes × (claim_of d.claims row ≡ some (Holds o.0)) × IsObjectRow o.0). inr y.0) (u.are_objects i.0 row o.0 i.1 o.1)
+      (λ (y : (k : ℕ) × (get_elem? (items x.old.its) k ≡ some row)
+      × (get_elem? x.old.objects k ≡ some o.0)). inl (y.0, y.1))
+      (λ (y : IsIn row x.comes × (claim_of d.claims row ≡ some (Holds o.0))
+      × IsObjectRow o.0). inr y.0) (u.are_objects i.0 row o.0 i.1 o.1)
 
   pub is_last : IsStoreMap z.keypos last
   is_last = map_after z.keypos f.history [] f.edits tt
 
   -- What the old base has.
   pub old_map : map pair x.old.objects ≡ part x.old.place.span (after r.above.history [])
-  old_map = ap (map pair) (sym (old_true.objects_are u.old_base)) ∙ (in_turn s.words (items x.old.its)
-      ∙ (ap (λ its. map (λ row. pair (row_at s.words row)) (items its)) (sym old_true.spells) ∙ old_at.has))
+  old_map = ap (map pair) (sym (old_true.objects_are u.old_base))
+      ∙ (in_turn s.words (items x.old.its)
+      ∙ (ap (λ its. map (λ row. pair (row_at s.words row)) (items its)) (sym old_true.spells)
+      ∙ old_at.has))
 
   pub objects_now : map (λ row. row_at s.words row) (items x.its) ≡ x.objects
-  objects_now = map_is_list (λ row. row_at s.words row) (items x.its) x.objects u.as_many (λ k row its a b. (item_is k row its a b).2)
+  objects_now = map_is_list (λ row. row_at s.words row) (items x.its) x.objects u.as_many
+      (λ k row its a b. (item_is k row its a b).2)
 
-  -- The history is this one then, the mark on the new base is one, and each base has what the last state of that history has of the keys that are led
+  -- The history is this one then, the mark on the new base is one, and each base has what the last
+  -- state of that history has of the keys that are led
   -- there.
-  module _ (next : History) (mark : IsMarkIn s.words x.old.place x.its) (has_then : map pair x.objects ≡ part x.old.place.span (after next []))
-      (others_have : (c : ℕ) (p : Place) → r.above.role c ≡ Base p → c ≢ x.old.row → part p.span (after next []) ≡ part p.span (after r.above.history []))
+  module _ (next : History) (mark : IsMarkIn s.words x.old.place x.its)
+      (has_then : map pair x.objects ≡ part x.old.place.span (after next []))
+      (others_have : (c : ℕ) (p : Place) → r.above.role c ≡ Base p → c ≢ x.old.row
+      → part p.span (after next []) ≡ part p.span (after r.above.history []))
     where
       abbrev last' : StoreMap
       last' = after next []
 
       new_has : objects_in s.words new ≡ part x.old.place.span (after next [])
-      new_has = ap (λ its. map (λ row. pair (row_at s.words row)) (items its)) new_row.2 ∙ (sym (in_turn s.words (items x.its)) ∙ (ap (map pair) objects_now ∙ has_then))
+      new_has = ap (λ its. map (λ row. pair (row_at s.words row)) (items its)) new_row.2
+          ∙ (sym (in_turn s.words (items x.its)) ∙ (ap (map pair) objects_now ∙ has_then))
 
       new_base : IsNewBase z s.words r.above.role x.old.place new
       new_base = record {
@@ -166,14 +197,17 @@ module _ (z : Sizes) (s : State (Unit {0}) (View TreeView)) (r : R z s) (id : �
         level_is = subst (λ its. level its ≡ x.old.place.level) (sym new_row.2) u.level_is;
         few = subst (λ its. count its ≤ z.leaf) (sym new_row.2) u.few;
         marked = subst (IsMarkIn s.words x.old.place) (sym new_row.2) mark;
-        are_objects = λ row i. let w = words_of row (subst (λ its. IsIn row (items its)) new_row.2 i) in (w.1, w.2, subst IsObjectRow (sym w.3) w.4);
+        are_objects = λ row i.
+            let w = words_of row (subst (λ its. IsIn row (items its)) new_row.2 i) in
+            (w.1, w.2, subst IsObjectRow (sym w.3) w.4);
       }
 
       abbrev pub role' : ℕ → Role
       role' = with_base r.above.role x.old.place x.old.row new
 
       shape' : IsShape z words' role' last'
-      shape' = shape_rebased z s.words role last shape x.old.row place is_old new new_base last' new_has others_have
+      shape' = shape_rebased z s.words role last shape x.old.row place is_old new new_base last'
+          new_has others_have
 
       pub is_new : role' new ≡ Base x.old.place
       is_new = with_base_new role place x.old.row new
@@ -193,21 +227,27 @@ module _ (z : Sizes) (s : State (Unit {0}) (View TreeView)) (r : R z s) (id : �
       else_word : (i : ℕ) → i ≢ x.old.place.link → get_or words' i 0 ≡ get_or s.words i 0
       else_word = relinked_else z s.words role last shape x.old.row place is_old new
 
-      base_stays : (c : ℕ) (p : Place) → r.above.role c ≡ Base p → row_at words' c ≡ row_at s.words c
+      base_stays : (c : ℕ) (p : Place) → r.above.role c ≡ Base p
+          → row_at words' c ≡ row_at s.words c
       base_stays c p e = let b = base_at z s.words role last shape c p e in
-          relinked_row z s.words role last shape x.old.row place is_old new c b.some_row b.in_range (base_no_route role c p e)
+          relinked_row z s.words role last shape x.old.row place is_old new c b.some_row b.in_range
+          (base_no_route role c p e)
 
       new_its : row_at words' new ≡ x.its
-      new_its = relinked_row z s.words role last shape x.old.row place is_old new new new_row.0 new_row.1 (out_no_route role new new_out) ∙ new_row.2
+      new_its = relinked_row z s.words role last shape x.old.row place is_old new new new_row.0
+          new_row.1 (out_no_route role new new_out) ∙ new_row.2
 
       -- A base of the new tree that isn't the new one was a base, another one than the old one.
-      was_base : (c : ℕ) (p : Place) → role' c ≡ Base p → c ≢ new → (r.above.role c ≡ Base p) × (c ≢ x.old.row)
+      was_base : (c : ℕ) (p : Place) → role' c ≡ Base p → c ≢ new → (r.above.role c ≡ Base p)
+          × (c ≢ x.old.row)
       was_base c p e ne = dite (ℕ_discrete c x.old.row)
-          (λ (o : c ≡ x.old.row). let y : Out ≡ Base p = sym old_gone ∙ (ap role' (sym o) ∙ e) in absurd cc)
+          (λ (o : c ≡ x.old.row). let y : Out ≡ Base p = sym old_gone ∙ (ap role' (sym o) ∙ e) in
+          absurd cc)
           (λ (n : c ≢ x.old.row). (sym (role_else c ne n) ∙ e, n))
 
       item_now : (row : ℕ) → IsIn row (items x.its) → IsLinked words' row
-      item_now row i = item_linked z words' role' last' shape' new place is_new row (subst (λ its. IsIn row (items its)) (sym new_its) i)
+      item_now row i = item_linked z words' role' last' shape' new place is_new row (subst
+          (λ its. IsIn row (items its)) (sym new_its) i)
 
       new_linked : IsLinked words' new
       new_linked = placed_linked z words' role' last' shape' new place (ap place_of is_new)
@@ -218,14 +258,18 @@ module _ (z : Sizes) (s : State (Unit {0}) (View TreeView)) (r : R z s) (id : �
       abbrev outs : List ℕ
       outs = x.old.row ∷ x.goes
 
-      held_in : (row : ℕ) → IsIn row ins → (its : List ℕ) × (claim_of d.claims row ≡ some (Holds its))
-      held_in row i = ⊎_elim (λ (e : new ≡ row). (x.its, ap (claim_of d.claims) (sym e) ∙ u.held)) (λ j. (u.come row j).1) (in_more new row x.comes i)
+      held_in : (row : ℕ) → IsIn row ins → (its : List ℕ)
+          × (claim_of d.claims row ≡ some (Holds its))
+      held_in row i = ⊎_elim (λ (e : new ≡ row). (x.its, ap (claim_of d.claims) (sym e) ∙ u.held))
+          (λ j. (u.come row j).1) (in_more new row x.comes i)
 
       in_linked : (row : ℕ) → IsIn row ins → IsLinked words' row
-      in_linked row i = ⊎_elim (λ (e : new ≡ row). subst (IsLinked words') e new_linked) (λ j. item_now row (u.come row j).0) (in_more new row x.comes i)
+      in_linked row i = ⊎_elim (λ (e : new ≡ row). subst (IsLinked words') e new_linked)
+          (λ j. item_now row (u.come row j).0) (in_more new row x.comes i)
 
       pub out_linked : (row : ℕ) → IsIn row outs → IsLinked s.words row
-      out_linked row i = ⊎_elim (λ (e : x.old.row ≡ row). subst (IsLinked s.words) e old_linked) (λ j. let w = u.go row j in old_item row (w.0, w.1))
+      out_linked row i = ⊎_elim (λ (e : x.old.row ≡ row). subst (IsLinked s.words) e old_linked)
+          (λ j. let w = u.go row j in old_item row (w.0, w.1))
           (in_more x.old.row row x.goes i)
 
       apart : (row : ℕ) → IsIn row ins → ¬ IsIn row outs
@@ -233,45 +277,64 @@ module _ (z : Sizes) (s : State (Unit {0}) (View TreeView)) (r : R z s) (id : �
 
       -- The old base is no object.
       old_no_item : (row : ℕ) → x.old.row ≡ row → form (row_at s.words row) ≢ 1
-      old_no_item row e g = let b : form (row_at s.words row) ≡ 2 = ap (λ c. form (row_at s.words c)) (sym e) ∙ old_at.is_base in omega arith
+      old_no_item row e g = let b : form (row_at s.words row) ≡ 2 = ap
+          (λ c. form (row_at s.words c)) (sym e) ∙ old_at.is_base in omega arith
 
-      -- What goes is no item of the new base: it isn't held, and stood in one place of the old base.
+      -- What goes is no item of the new base: it isn't held, and stood in one place of the old
+      -- base.
       goes_out : (row : ℕ) → IsIn row x.goes → ¬ IsIn row (items x.its)
       goes_out row g i = let w = u.go row g in ⊎_elim
-          (λ (c : IsIn row x.comes). let h = (u.come row c).1 in (held row h.0 h.1).3 (old_item row (w.0, w.1)))
-          (λ (o : (j : ℕ) × (j ≢ w.0) × (get_elem? (items x.old.its) j ≡ some row)). o.1 (named_once z s.words role last shape z.keypos is_last
-          x.old.row x.old.row place place is_old is_old o.0 w.0 row (subst (λ its. get_elem? (items its) o.0 ≡ some row) (sym old_true.spells) o.2)
-          (subst (λ its. get_elem? (items its) w.0 ≡ some row) (sym old_true.spells) w.1)).1) (w.2 i)
+          (λ (c : IsIn row x.comes). let h = (u.come row c).1 in
+          (held row h.0 h.1).3 (old_item row (w.0, w.1)))
+          (λ (o : (j : ℕ) × (j ≢ w.0)
+          × (get_elem? (items x.old.its) j ≡ some row)). o.1
+          (named_once z s.words role last shape z.keypos is_last
+          x.old.row x.old.row place place is_old is_old o.0 w.0 row (subst
+          (λ its. get_elem? (items its) o.0 ≡ some row) (sym old_true.spells) o.2)
+          (subst (λ its. get_elem? (items its) w.0 ≡ some row) (sym old_true.spells) w.1)).1)
+          (w.2 i)
 
       -- It was an object of the old base alone.
       was_named : (row : ℕ) → IsIn row x.goes → IsIn row (items (row_at s.words x.old.row))
-      was_named row g = let w = u.go row g in subst (λ its. IsIn row (items its)) (sym old_true.spells) (w.0, w.1)
+      was_named row g = let w = u.go row g in
+          subst (λ its. IsIn row (items its)) (sym old_true.spells) (w.0, w.1)
 
       -- The old base is none of its objects.
       pub old_apart : ¬ IsIn x.old.row x.goes
-      old_apart g = old_no_item x.old.row refl (old_at.are_objects x.old.row (was_named x.old.row g)).2.0
+      old_apart g =
+          old_no_item x.old.row refl (old_at.are_objects x.old.row (was_named x.old.row g)).2.0
 
       -- What goes out is nothing the new tree has.
       out_unlinked : (row : ℕ) → IsIn row outs → ¬ IsIn row ins → ¬ IsLinked words' row
       out_unlinked row o n l = ⊎_elim
-          (λ (t : (p : Place) × (place_of (role' row) ≡ some p)). some-ne-none t.0 (sym t.1 ∙ ap place_of out_role))
-          (λ (t : (base : ℕ) × (p : Place) × (role' base ≡ Base p) × IsIn row (items (row_at words' base))). no_object t.0 t.1 t.2 t.3)
+          (λ (t : (p : Place) × (place_of (role' row) ≡ some p)).
+          some-ne-none t.0 (sym t.1 ∙ ap place_of out_role))
+          (λ (t : (base : ℕ) × (p : Place) × (role' base ≡ Base p)
+          × IsIn row (items (row_at words' base))). no_object t.0 t.1 t.2 t.3)
           (reached z words' role' last' shape' row l)
         where
           out_role : role' row ≡ Out
           out_role = ⊎_elim (λ (e : x.old.row ≡ row). ap role' (sym e) ∙ old_gone)
-              (λ g. role_else row (λ e. n (0, ap some (sym e))) (λ e. old_apart (subst (λ c. IsIn c x.goes) e g))
-              ∙ item_out z s.words role last shape x.old.row place is_old row (was_named row g)) (in_more x.old.row row x.goes o)
+              (λ g. role_else row (λ e. n (0, ap some (sym e)))
+              (λ e. old_apart (subst (λ c. IsIn c x.goes) e g))
+              ∙ item_out z s.words role last shape x.old.row place is_old row (was_named row g))
+              (in_more x.old.row row x.goes o)
 
-          no_object : (base : ℕ) (p : Place) → role' base ≡ Base p → IsIn row (items (row_at words' base)) → ⊥
+          no_object : (base : ℕ) (p : Place) → role' base ≡ Base p
+              → IsIn row (items (row_at words' base)) → ⊥
           no_object base p e i = dite (ℕ_discrete base new)
-              (λ (same : base ≡ new). let j = subst (λ its. IsIn row (items its)) (ap (row_at words') same ∙ new_its) i in ⊎_elim
-              (λ (f : x.old.row ≡ row). let w = words_of row j in old_no_item row f (ap form w.3 ∙ w.4.0))
+              (λ (same : base ≡ new). let j = subst
+              (λ its. IsIn row (items its)) (ap (row_at words') same ∙ new_its) i in ⊎_elim
+              (λ (f : x.old.row ≡ row). let w = words_of row j in
+              old_no_item row f (ap form w.3 ∙ w.4.0))
               (λ g. goes_out row g j) (in_more x.old.row row x.goes o))
               (λ (other : base ≢ new). let b = was_base base p e other in
               let j = subst (λ its. IsIn row (items its)) (base_stays base p b.0) i in ⊎_elim
-              (λ (f : x.old.row ≡ row). old_no_item row f ((base_at z s.words role last shape base p b.0).are_objects row j).2.0)
-              (λ g. let w = was_named row g in b.1 (named_once z s.words role last shape z.keypos is_last base x.old.row p place b.0 is_old j.0 w.0 row j.1 w.1).0)
+              (λ (f : x.old.row ≡ row). old_no_item row f
+              ((base_at z s.words role last shape base p b.0).are_objects row j).2.0)
+              (λ g. let w = was_named row g in
+              b.1 (named_once z s.words role last shape z.keypos is_last base x.old.row p place
+              b.0 is_old j.0 w.0 row j.1 w.1).0)
               (in_more x.old.row row x.goes o))
 
       -- What neither comes nor goes is linked as before.
@@ -279,23 +342,35 @@ module _ (z : Sizes) (s : State (Unit {0}) (View TreeView)) (r : R z s) (id : �
       stays_back row n l = ⊎_elim
           (λ (t : (p : Place) × (place_of (role' row) ≡ some p)). dite (ℕ_discrete row x.old.row)
           (λ (e : row ≡ x.old.row). subst (IsLinked s.words) (sym e) old_linked)
-          (λ (ne : row ≢ x.old.row). placed_linked z s.words role last shape row t.0 (ap place_of (sym (role_else row (λ e. n (0, ap some (sym e))) ne)) ∙ t.1)))
-          (λ (t : (base : ℕ) × (p : Place) × (role' base ≡ Base p) × IsIn row (items (row_at words' base))). dite (ℕ_discrete t.0 new)
-          (λ (same : t.0 ≡ new). ⊎_elim (λ j. old_item row j) (λ j. absurd (n (in_rest row new x.comes j)))
-          (was_item row (subst (λ its. IsIn row (items its)) (ap (row_at words') same ∙ new_its) t.3)))
-          (λ (other : t.0 ≢ new). let b = was_base t.0 t.1 t.2 other in item_linked z s.words role last shape t.0 t.1 b.0 row
+          (λ (ne : row ≢ x.old.row). placed_linked z s.words role last shape row t.0
+          (ap place_of (sym (role_else row (λ e. n (0, ap some (sym e))) ne)) ∙ t.1)))
+          (λ (t : (base : ℕ) × (p : Place) × (role' base ≡ Base p)
+          × IsIn row (items (row_at words' base))). dite (ℕ_discrete t.0 new)
+          (λ (same : t.0 ≡ new). ⊎_elim (λ j. old_item row j)
+          (λ j. absurd (n (in_rest row new x.comes j)))
+          (was_item row (subst (λ its. IsIn row (items its)) (ap (row_at words') same
+          ∙ new_its) t.3)))
+          (λ (other : t.0 ≢ new). let b = was_base t.0 t.1 t.2 other in
+          item_linked z s.words role last shape t.0 t.1 b.0 row
           (subst (λ its. IsIn row (items its)) (base_stays t.0 t.1 b.0) t.3)))
           (reached z words' role' last' shape' row l)
 
       stays_on : (row : ℕ) → ¬ IsIn row outs → IsLinked s.words row → IsLinked words' row
       stays_on row m l = ⊎_elim
           (λ (t : (p : Place) × (place_of (role row) ≡ some p)).
-          let ne : row ≢ new = λ e. some-ne-none t.0 (sym t.1 ∙ ap place_of (ap role e ∙ new_out)) in
-          placed_linked z words' role' last' shape' row t.0 (ap place_of (role_else row ne (λ e. m (0, ap some (sym e)))) ∙ t.1))
-          (λ (t : (base : ℕ) × (p : Place) × (role base ≡ Base p) × IsIn row (items (row_at s.words base))). dite (ℕ_discrete t.0 x.old.row)
-          (λ (same : t.0 ≡ x.old.row). ⊎_elim (λ j. item_now row j) (λ j. absurd (m (in_rest row x.old.row x.goes j)))
-          (u.stay row (subst (λ its. IsIn row (items its)) (ap (row_at s.words) same ∙ old_true.spells) t.3)))
-          (λ (other : t.0 ≢ x.old.row). let ne : t.0 ≢ new = λ e. (let y : Base t.1 ≡ Out = sym t.2 ∙ (ap role e ∙ new_out) in cc) in
+          let ne : row ≢ new = λ e.
+          some-ne-none t.0 (sym t.1 ∙ ap place_of (ap role e ∙ new_out)) in
+          placed_linked z words' role' last' shape' row t.0
+          (ap place_of (role_else row ne (λ e. m (0, ap some (sym e)))) ∙ t.1))
+          (λ (t : (base : ℕ) × (p : Place) × (role base ≡ Base p)
+          × IsIn row (items (row_at s.words base))). dite (ℕ_discrete t.0 x.old.row)
+          (λ (same : t.0 ≡ x.old.row). ⊎_elim (λ j. item_now row j)
+          (λ j. absurd (m (in_rest row x.old.row x.goes j)))
+          (u.stay row (subst (λ its. IsIn row (items its)) (ap (row_at s.words) same
+          ∙ old_true.spells) t.3)))
+          (λ (other : t.0 ≢ x.old.row).
+          let ne : t.0 ≢ new = λ e.
+          (let y : Base t.1 ≡ Out = sym t.2 ∙ (ap role e ∙ new_out) in cc) in
           item_linked z words' role' last' shape' t.0 t.1 (role_else t.0 ne other ∙ t.2) row
           (subst (λ its. IsIn row (items its)) (sym (base_stays t.0 t.1 t.2)) t.3)))
           (reached z s.words role last shape row l)
@@ -307,56 +382,78 @@ module _ (z : Sizes) (s : State (Unit {0}) (View TreeView)) (r : R z s) (id : �
       abbrev Coming : ℕ → Type 0
       Coming c = c ≡ new
 
-      routes_stay : (c : ℕ) (p : Place) (key : List ℕ) → r.above.role c ≡ Route p key → role' c ≡ Route p key
-      routes_stay c p key e = role_else c (λ n. (let y : Route p key ≡ Out = sym e ∙ (ap role n ∙ new_out) in cc))
+      routes_stay : (c : ℕ) (p : Place) (key : List ℕ) → r.above.role c ≡ Route p key
+          → role' c ≡ Route p key
+      routes_stay c p key e = role_else c
+          (λ n. (let y : Route p key ≡ Out = sym e ∙ (ap role n ∙ new_out) in cc))
           (λ o. (let y : Route p key ≡ Base place = sym e ∙ (ap role o ∙ is_old) in cc)) ∙ e
 
-      bases_stay : (c : ℕ) (p : Place) → r.above.role c ≡ Base p → (role' c ≡ Base p) ⊎ (role' c ≡ Out)
-      bases_stay c p e = dite (ℕ_discrete c x.old.row) (λ (o : c ≡ x.old.row). inr (ap role' o ∙ old_gone))
-          (λ (ne : c ≢ x.old.row). inl (role_else c (λ n. (let y : Base p ≡ Out = sym e ∙ (ap role n ∙ new_out) in cc)) ne ∙ e))
+      bases_stay : (c : ℕ) (p : Place) → r.above.role c ≡ Base p → (role' c ≡ Base p)
+          ⊎ (role' c ≡ Out)
+      bases_stay c p e = dite (ℕ_discrete c x.old.row)
+          (λ (o : c ≡ x.old.row). inr (ap role' o ∙ old_gone))
+          (λ (ne : c ≢ x.old.row). inl (role_else c
+          (λ n. (let y : Base p ≡ Out = sym e ∙ (ap role n ∙ new_out) in cc)) ne ∙ e))
 
       outs_stay : (c : ℕ) → r.above.role c ≡ Out → ¬ (c ≡ new) → role' c ≡ Out
-      outs_stay c e ne = role_else c ne (λ o. (let y : Base place ≡ Out = sym is_old ∙ (ap role (sym o) ∙ e) in cc)) ∙ e
+      outs_stay c e ne = role_else c ne
+          (λ o. (let y : Base place ≡ Out = sym is_old ∙ (ap role (sym o) ∙ e) in cc)) ∙ e
 
-      unnoted : (j : ℕ) (y : View TreeView) → get_elem? s.views j ≡ some y → (c : ℕ) → c ≡ new → ¬ IsNoted s.words y.upper c
+      unnoted : (j : ℕ) (y : View TreeView) → get_elem? s.views j ≡ some y → (c : ℕ) → c ≡ new
+          → ¬ IsNoted s.words y.upper c
       unnoted j y here c e n = new_row.4 j y here (subst (IsNoted s.words y.upper) e n)
 
-      pub note_keeps : (j : ℕ) (y : View TreeView) → get_elem? s.views j ≡ some y → (note : Note) → IsIn note y.upper.notes → IsTrue z.rows words' role' note
-      note_keeps j y here note i = note_stays z s.words role last shape x.old.row place is_old new role' last' shape' Coming routes_stay bases_stay outs_stay
+      pub note_keeps : (j : ℕ) (y : View TreeView) → get_elem? s.views j ≡ some y → (note : Note)
+          → IsIn note y.upper.notes → IsTrue z.rows words' role' note
+      note_keeps j y here note i =
+          note_stays z s.words role last shape x.old.row place is_old new role' last' shape' Coming
+          routes_stay bases_stay outs_stay
           y.upper (unnoted j y here) note i ((knows_upper z s r j y here).notes note i)
 
-      pub way_keeps : (j : ℕ) (y : View TreeView) → get_elem? s.views j ≡ some y → (way : Way) → IsIn way y.upper.ways → IsTrueWay words' role' way
-      way_keeps j y here way i = way_stays z s.words role last shape x.old.row place is_old new role' last' shape' Coming routes_stay bases_stay outs_stay
+      pub way_keeps : (j : ℕ) (y : View TreeView) → get_elem? s.views j ≡ some y → (way : Way)
+          → IsIn way y.upper.ways → IsTrueWay words' role' way
+      way_keeps j y here way i =
+          way_stays z s.words role last shape x.old.row place is_old new role' last' shape' Coming
+          routes_stay bases_stay outs_stay
           y.upper (unnoted j y here) way i ((knows_upper z s r j y here).ways way i)
 
-      notes_keep : (j : ℕ) (y : View TreeView) → get_elem? s.views j ≡ some y → (c : ℕ) → IsNoted words' y.upper c
+      notes_keep : (j : ℕ) (y : View TreeView) → get_elem? s.views j ≡ some y → (c : ℕ)
+          → IsNoted words' y.upper c
           → IsNoted s.words y.upper c ⊎ (IsLinked words' c × (y.pin.pinned ≡ true))
-      notes_keep j y here c n = ⊎_elim (λ o. inl o) (λ l. inr (l.0, (r.seat j y here).noted_pinned l.1.0 l.1.1))
-          (notes_stay z s.words role last shape x.old.row place is_old new role' last' shape' Coming routes_stay bases_stay outs_stay
+      notes_keep j y here c n = ⊎_elim (λ o. inl o)
+          (λ l. inr (l.0, (r.seat j y here).noted_pinned l.1.0 l.1.1))
+          (notes_stay z s.words role last shape x.old.row place is_old new role' last' shape' Coming
+          routes_stay bases_stay outs_stay
           y.upper (unnoted j y here) (knows_upper z s r j y here).ways c n)
 
       object_keeps : (row : ℕ) → IsIn row (items x.its) → row_at words' row ≡ row_at s.words row
       object_keeps row i = let w = words_of row i in
-          relinked_object z s.words role last shape x.old.row place is_old new row w.1 w.2 (ap form w.3 ∙ w.4.0)
+          relinked_object z s.words role last shape x.old.row place is_old new row w.1 w.2
+          (ap form w.3 ∙ w.4.0)
 
       pub new_true : IsTrue z.rows words' role' new_note
       new_true = record {
         some_row = new_row.0;
         in_range = new_row.1;
         spells = new_its;
-        named = λ _ row i. let w = words_of row i in (w.1, w.2, subst IsObjectRow (sym (object_keeps row i ∙ w.3)) w.4);
-        objects_are = λ _. map_same (λ row. row_at words' row) (λ row. row_at s.words row) (items x.its) object_keeps ∙ objects_now;
+        named = λ _ row i. let w = words_of row i in
+            (w.1, w.2, subst IsObjectRow (sym (object_keeps row i ∙ w.3)) w.4);
+        objects_are = λ _. map_same (λ row. row_at words' row)
+            (λ row. row_at s.words row) (items x.its) object_keeps ∙ objects_now;
         stands = inl is_new;
       }
 
       -- No other control word changes.
       control : (i : ℕ) → i < 136 → i ≢ 130 → get_or words' i 0 ≡ get_or s.words i 0
-      control i l ne = else_word i (λ e. ⊎_elim (λ (t : x.old.place.link ≡ 130). ne (omega arith)) (λ t. let lo = t.0 in omega arith)
+      control i l ne = else_word i
+          (λ e. ⊎_elim (λ (t : x.old.place.link ≡ 130). ne (omega arith))
+          (λ t. let lo = t.0 in omega arith)
           (link_range z s.words role last shape x.old.place.link old_at.is_link))
 
       -- The new base is none of the objects that come.
       new_apart : ¬ IsIn new x.comes
-      new_apart i = let w = words_of new (u.come new i).0 in let b = u.is_base in let o : form x.its ≡ 1 = ap form (sym new_row.2 ∙ w.3) ∙ w.4.0 in omega arith
+      new_apart i = let w = words_of new (u.come new i).0 in let b = u.is_base in
+          let o : form x.its ≡ 1 = ap form (sym new_row.2 ∙ w.3) ∙ w.4.0 in omega arith
 
       -- the base that comes
       abbrev coming : ℕ × Place
@@ -369,59 +466,92 @@ module _ (z : Sizes) (s : State (Unit {0}) (View TreeView)) (r : R z s) (id : �
         goes = out_unlinked;
         back = stays_back;
         on = stays_on;
-        ins_once = ((λ (t : (y : ℕ) × IsIn y x.comes × (y ≡ new)). new_apart (subst (λ c. IsIn c x.comes) t.2 t.1)), u.come_once);
-        base_comes = λ row p i. let e = one row p i in ap (λ (b : ℕ × Place). role' b.0) (sym e) ∙ (is_new ∙ ap (λ (b : ℕ × Place). Base b.1) e);
+        ins_once = (
+          (λ (t : (y : ℕ) × IsIn y x.comes
+              × (y ≡ new)). new_apart (subst (λ c. IsIn c x.comes) t.2 t.1)),
+          u.come_once,
+        );
+        base_comes = λ row p i. let e = one row p i in
+            ap (λ (b : ℕ × Place). role' b.0) (sym e)
+            ∙ (is_new ∙ ap (λ (b : ℕ × Place). Base b.1) e);
         base_out = λ row p i. ap (λ (b : ℕ × Place). role b.0) (sym (one row p i)) ∙ new_out;
         base_back = λ row p e. dite (ℕ_discrete row new)
             (λ (same : row ≡ new). inl (
               0,
               ap some (ap (λ c. (c, x.old.place)) (sym same)
-                  ∙ ap (λ q. (row, q)) (same_place place p (sym is_new ∙ (ap role' (sym same) ∙ e)))),
+                  ∙ ap (λ q. (row, q)) (same_place place p (sym is_new
+                  ∙ (ap role' (sym same) ∙ e)))),
             ))
             (λ (ne : row ≢ new). inr (was_base row p e ne));
-        base_on = λ row p e ne. role_else row (λ n. (let y : Base p ≡ Out = sym e ∙ (ap role n ∙ new_out) in cc)) ne ∙ e;
-        bases_once = ((λ (t : (y : ℕ × Place) × IsIn y [] × (y.0 ≡ new)). in_nothing t.0 [] refl t.1), tt);
+        base_on = λ row p e ne. role_else row
+            (λ n. (let y : Base p ≡ Out = sym e ∙ (ap role n ∙ new_out) in cc)) ne ∙ e;
+        bases_once =
+            ((λ (t : (y : ℕ × Place) × IsIn y [] × (y.0 ≡ new)). in_nothing t.0 [] refl t.1), tt);
       }
         where
-          one : (row : ℕ) (p : Place) → IsIn {A = ℕ × Place} (row, p) (coming ∷ []) → coming ≡ (row, p)
-          one row p i = ⊎_elim (λ e. e) (λ j. absurd (in_nothing (row, p) [] refl j)) (in_more coming (row, p) [] i)
+          one : (row : ℕ) (p : Place) → IsIn {A = ℕ × Place} (row, p) (coming ∷ [])
+              → coming ≡ (row, p)
+          one row p i = ⊎_elim (λ e. e)
+              (λ j. absurd (in_nothing (row, p) [] refl j)) (in_more coming (row, p) [] i)
 
       listed_now : IsInventory words' role' (updated_inventory new x r.above.inventory)
-      listed_now = listed_again s.words words' role role' ins outs (coming ∷ []) x.old.row f.inventory relists f.listed
+      listed_now =
+          listed_again s.words words' role role' ins outs (coming ∷ []) x.old.row f.inventory
+          relists f.listed
 
       -- A seat's own new note is on rows that are linked.
-      own_notes : (v : TreeView) → v.notes ≡ new_note ∷ d.upper.notes → v.ways ≡ d.upper.ways → (row : ℕ) → IsNoted words' v row
+      own_notes : (v : TreeView) → v.notes ≡ new_note ∷ d.upper.notes → v.ways ≡ d.upper.ways
+          → (row : ℕ) → IsNoted words' v row
           → IsNoted words' d.upper row ⊎ IsLinked words' row
-      own_notes v same ways _ (by_note n row i e) = ⊎_elim (λ (new_one : new_note ≡ n). inr (subst (IsLinked words') (ap (λ (y : Note). y.row) new_one ∙ e) new_linked))
-          (λ (o : IsIn n d.upper.notes). inl (by_note n row o e)) (in_more new_note n d.upper.notes (subst (IsIn n) same i))
+      own_notes v same ways _ (by_note n row i e) = ⊎_elim
+          (λ (new_one : new_note ≡ n).
+          inr (subst (IsLinked words') (ap (λ (y : Note). y.row) new_one ∙ e) new_linked))
+          (λ (o : IsIn n d.upper.notes). inl (by_note n row o e))
+          (in_more new_note n d.upper.notes (subst (IsIn n) same i))
       own_notes v same ways _ (by_item n row i b k) = ⊎_elim
-          (λ (new_one : new_note ≡ n). inr (item_now row (subst (λ (y : Note). IsIn row (items y.its)) (sym new_one) k)))
-          (λ (o : IsIn n d.upper.notes). inl (by_item n row o b k)) (in_more new_note n d.upper.notes (subst (IsIn n) same i))
-      own_notes v same ways _ (by_way way row i e) = inl (by_way way row (subst (IsIn way) ways i) e)
-      own_notes v same ways _ (by_link way row i e) = inl (by_link way row (subst (IsIn way) ways i) e)
-      own_notes v same ways _ (by_link_item way base row i e g k) = inl (by_link_item way base row (subst (IsIn way) ways i) e g k)
+          (λ (new_one : new_note ≡ n).
+          inr (item_now row (subst (λ (y : Note). IsIn row (items y.its)) (sym new_one) k)))
+          (λ (o : IsIn n d.upper.notes). inl (by_item n row o b k))
+          (in_more new_note n d.upper.notes (subst (IsIn n) same i))
+      own_notes v same ways _ (by_way way row i e) =
+          inl (by_way way row (subst (IsIn way) ways i) e)
+      own_notes v same ways _ (by_link way row i e) =
+          inl (by_link way row (subst (IsIn way) ways i) e)
+      own_notes v same ways _ (by_link_item way base row i e g k) =
+          inl (by_link_item way base row (subst (IsIn way) ways i) e g k)
 
-      claims_in : (row : ℕ) (c : Claim) → claim_of (taken_out outs (given ins d.claims)) row ≡ some c → (0 < row) × (row ≤ z.rows)
-      claims_in row c e = ⊎_elim (λ o. linked_range z s.words role last shape row (out_linked row o))
+      claims_in : (row : ℕ) (c : Claim)
+          → claim_of (taken_out outs (given ins d.claims)) row ≡ some c → (0 < row) × (row ≤ z.rows)
+      claims_in row c e = ⊎_elim
+          (λ o. linked_range z s.words role last shape row (out_linked row o))
           (λ m. ⊎_elim (λ i. let h = held_in row i in let w = held row h.0 h.1 in (w.0, w.1))
-          (λ n. (r.seat id d at).in_range row c (sym (taken_else outs (given ins d.claims) row m ∙ given_else ins d.claims row n) ∙ e)) (has ins row))
+          (λ n. (r.seat id d at).in_range row c (sym (taken_else outs (given ins d.claims) row m
+          ∙ given_else ins d.claims row n) ∙ e)) (has ins row))
           (has outs row)
 
       -- A row that isn't linked keeps its words.
-      unlinked_keeps : (c k : ℕ) → 0 < c → ¬ IsLinked s.words c → k < 136 → get_or words' (136 * c + k) 0 ≡ get_or s.words (136 * c + k) 0
-      unlinked_keeps c k lo n l = relinked_keeps z s.words role last shape x.old.row place is_old new c lo
+      unlinked_keeps : (c k : ℕ) → 0 < c → ¬ IsLinked s.words c → k < 136
+          → get_or words' (136 * c + k) 0 ≡ get_or s.words (136 * c + k) 0
+      unlinked_keeps c k lo n l =
+          relinked_keeps z s.words role last shape x.old.row place is_old new c lo
           (out_no_route role c (unlinked_out z s.words role last shape c n)) k l
 
       -- The seat knows this then, with one note more, and so do the others.
-      module _ (u' : TreeView) (same_notes : u'.notes ≡ new_note ∷ d.upper.notes) (same_ways : u'.ways ≡ d.upper.ways)
-          (same_inventory : u'.inventory ≡ updated_inventory new x d.upper.inventory) (edits : AreEdits z.keypos next) (by_passes : AreByPasses r.made next)
-          (own_knows : Knows z.rows r.made (set s.words x.old.place.link new) role' (set (map upper_of s.views) id u') next id u')
-          (others_know : (j : ℕ) (v : TreeView) → j ≢ id → get_elem? (map upper_of s.views) j ≡ some v
-          → Knows z.rows r.made (set s.words x.old.place.link new) role' (set (map upper_of s.views) id u') next j v) where
+      module _ (u' : TreeView) (same_notes : u'.notes ≡ new_note ∷ d.upper.notes)
+          (same_ways : u'.ways ≡ d.upper.ways)
+          (same_inventory : u'.inventory ≡ updated_inventory new x d.upper.inventory)
+          (edits : AreEdits z.keypos next) (by_passes : AreByPasses r.made next)
+          (own_knows : Knows z.rows r.made (set s.words x.old.place.link new) role'
+          (set (map upper_of s.views) id u') next id u')
+          (others_know : (j : ℕ) (v : TreeView) → j ≢ id
+          → get_elem? (map upper_of s.views) j ≡ some v
+          → Knows z.rows r.made (set s.words x.old.place.link new) role'
+          (set (map upper_of s.views) id u') next j v) where
         abbrev d' : View TreeView
         d' = (relinked me (taken_out outs (given ins d.claims)) u').0
 
-        kind_by : (row : ℕ) → IsIn row ins ⊎ ¬ IsIn row ins → IsIn row outs ⊎ ¬ IsIn row outs → Change
+        kind_by : (row : ℕ) → IsIn row ins ⊎ ¬ IsIn row ins → IsIn row outs ⊎ ¬ IsIn row outs
+            → Change
         kind_by row (inl i) o = Comes
         kind_by row (inr n) (inl o) = Goes
         kind_by row (inr n) (inr m) = Stays
@@ -432,7 +562,8 @@ module _ (z : Sizes) (s : State (Unit {0}) (View TreeView)) (r : R z s) (id : �
         abbrev IsSo : ℕ → Change → Type 0
         IsSo = IsChange IsLinked IsLent IsNoted IsTree tree_lends z s r id d d' words' kind
 
-        changed : (row : ℕ) (a : IsIn row ins ⊎ ¬ IsIn row ins) (b : IsIn row outs ⊎ ¬ IsIn row outs) → IsSo row (kind_by row a b)
+        changed : (row : ℕ) (a : IsIn row ins ⊎ ¬ IsIn row ins)
+            (b : IsIn row outs ⊎ ¬ IsIn row outs) → IsSo row (kind_by row a b)
         unfolding kind_by
         changed row (inl i) b = (
           in_linked row i,
@@ -472,37 +603,56 @@ module _ (z : Sizes) (s : State (Unit {0}) (View TreeView)) (r : R z s) (id : �
           levels = control 133 (omega arith) (λ e. omega arith) ∙ f.levels;
           role = role';
           shape = shape';
-          each_seat = all_seats (Knows z.rows r.made words' role' (set (map upper_of s.views) id u') next)
+          each_seat =
+              all_seats (Knows z.rows r.made words' role' (set (map upper_of s.views) id u') next)
               (map upper_of s.views) id u' own_knows others_know;
           inventory = updated_inventory new x f.inventory;
           listed = listed_now;
-          at_first = λ (e : r.made ≡ 0). let lo = u.is_pass in let hi = knows.made_before in absurd (omega arith);
-          only_one = known_by_one z.rows r.made s.words role (map upper_of s.views) f.history f.each_seat id d.upper u'
-              (updated_inventory new x f.inventory) first u.is_pass (λ few. same_inventory ∙ ap (updated_inventory new x) (f.only_one id d.upper first few u.is_pass));
+          at_first = λ (e : r.made ≡ 0). let lo = u.is_pass in let hi = knows.made_before in
+              absurd (omega arith);
+          only_one =
+              known_by_one z.rows r.made s.words role (map upper_of s.views) f.history f.each_seat
+              id d.upper u'
+              (updated_inventory new x f.inventory) first u.is_pass
+              (λ few. same_inventory
+              ∙ ap (updated_inventory new x) (f.only_one id d.upper first few u.is_pass));
         }
 
         -- Where the link names the old base, the whole rule holds again.
-        pub exchange_step : R z record { words = words'; homes = s.homes; views = set s.views id d' }
-        exchange_step = relinks IsLinked IsLent IsNoted IsTree tree_lends z s r id d d' words' kind record {
-          at = at;
-          same_sizes = refl;
-          same_made = refl;
-          same_stage = refl;
-          same_pin = refl;
-          wide = wide' ∙ sym r.wide;
-          low = λ i l. control i (omega arith) (λ e. omega arith);
-          unlinked_rows = λ c k lo hi n l. unlinked_keeps c k lo n l;
-          changes = λ c _ _. changed_now c;
-          in_range = claims_in;
-          notes = λ j y here c n. ⊎_elim
-              (λ (t : (j ≡ id) × (d' ≡ y)). ⊎_elim
-              (λ (o : IsNoted words' d.upper c). ⊎_elim
-              (λ (w : IsNoted s.words d.upper c). inl (d, ap (get_elem? s.views) t.0 ∙ at, w))
-              (λ (l : IsLinked words' c × (d.pin.pinned ≡ true)). inr (l.0, ap (λ (w : View TreeView). w.pin.pinned) (sym t.1) ∙ l.1))
-              (notes_keep id d at c o))
-              (λ (l : IsLinked words' c). inr (l, ap (λ (w : View TreeView). w.pin.pinned) (sym t.1) ∙ u.is_pinned))
-              (own_notes u' same_notes same_ways c (subst (λ (w : View TreeView). IsNoted words' w.upper c) (sym t.1) n)))
-              (λ (t : (j ≢ id) × (get_elem? s.views j ≡ some y)). ⊎_elim (λ w. inl (y, t.1, w)) (λ l. inr l) (notes_keep j y t.1 c n))
-              (at_set s.views id j d' y here);
-          above = subst (IsTree z r.made words') (sym (map-set upper_of s.views id d')) tree_now;
+        pub exchange_step : R z record {
+          words =
+              words';
+          homes = s.homes;
+          views = set s.views id d';
         }
+        exchange_step =
+            relinks IsLinked IsLent IsNoted IsTree tree_lends z s r id d d' words' kind record {
+              at = at;
+              same_sizes = refl;
+              same_made = refl;
+              same_stage = refl;
+              same_pin = refl;
+              wide = wide' ∙ sym r.wide;
+              low = λ i l. control i (omega arith) (λ e. omega arith);
+              unlinked_rows = λ c k lo hi n l. unlinked_keeps c k lo n l;
+              changes = λ c _ _. changed_now c;
+              in_range = claims_in;
+              notes = λ j y here c n. ⊎_elim
+                  (λ (t : (j ≡ id) × (d' ≡ y)). ⊎_elim
+                  (λ (o : IsNoted words' d.upper c). ⊎_elim
+                  (λ (w : IsNoted s.words d.upper c). inl (d, ap (get_elem? s.views) t.0 ∙ at, w))
+                  (λ (l : IsLinked words' c
+                  × (d.pin.pinned ≡ true)). inr (
+                    l.0,
+                    ap (λ (w : View TreeView). w.pin.pinned) (sym t.1) ∙ l.1,
+                  ))
+                  (notes_keep id d at c o))
+                  (λ (l : IsLinked words' c).
+                  inr (l, ap (λ (w : View TreeView). w.pin.pinned) (sym t.1) ∙ u.is_pinned))
+                  (own_notes u' same_notes same_ways c (subst
+                  (λ (w : View TreeView). IsNoted words' w.upper c) (sym t.1) n)))
+                  (λ (t : (j ≢ id) × (get_elem? s.views j ≡ some y)). ⊎_elim (λ w. inl (y, t.1, w))
+                  (λ l. inr l) (notes_keep j y t.1 c n))
+                  (at_set s.views id j d' y here);
+              above = subst (IsTree z r.made words') (sym (map-set upper_of s.views id d')) tree_now;
+            }

@@ -25,7 +25,8 @@ use Rattle.ca_node.proofs.Looking.{R, further, longer_past}
 two_first : (a b x y : History) → a ++ x ≡ b ++ y → length a ≤ length b → StartsWith b a
 two_first [] b x y e l = (b, refl)
 two_first (p ∷ a) [] x y e l = absurd (omega arith)
-two_first (p ∷ a) (q ∷ b) x y e l = let head : q ≡ p = cc in let tail : a ++ x ≡ b ++ y = cc in let rest = two_first a b x y tail (omega arith) in
+two_first (p ∷ a) (q ∷ b) x y e l = let head : q ≡ p = cc in let tail : a ++ x ≡ b ++ y = cc in
+    let rest = two_first a b x y tail (omega arith) in
     (rest.0, ap (λ h. q ∷ h) rest.1 ∙ ap (λ c. c ∷ (a ++ rest.0)) head)
 
 by_bool : {A : Type 0} (b : Bool) → (b ≡ true → A) → (b ≡ false → A) → A
@@ -41,18 +42,25 @@ not_less a b e = grind (arith, nat_tests)
 -- The longer one is as long as each of the two.
 pub longer_first : (a b : History) → length a ≤ length (longer a b)
 longer_first a b = by_bool (nat_lt (length a) (length b))
-    (λ t. subst (λ (c : Bool). length a ≤ length (cond c b a)) (sym t) (let l = less_is (length a) (length b) t in omega arith))
+    (λ t. subst (λ (c : Bool). length a ≤ length (cond c b a)) (sym t) (let l =
+    less_is (length a) (length b) t in omega arith))
     (λ t. subst (λ (c : Bool). length a ≤ length (cond c b a)) (sym t) (omega arith))
 
 -- Where both are beginnings of a history, so is it, and the first is its beginning.
-longer_is : (h a b : History) → StartsWith h a → StartsWith h b → StartsWith h (longer a b) × StartsWith (longer a b) a
+longer_is : (h a b : History) → StartsWith h a → StartsWith h b → StartsWith h (longer a b)
+    × StartsWith (longer a b) a
 longer_is h a b s t = by_bool (nat_lt (length a) (length b))
-    (λ e. subst (λ (c : Bool). StartsWith h (cond c b a) × StartsWith (cond c b a) a) (sym e)
-    (t, two_first a b s.0 t.0 (sym s.1 ∙ t.1) (let l = less_is (length a) (length b) e in omega arith)))
-    (λ e. subst (λ (c : Bool). StartsWith h (cond c b a) × StartsWith (cond c b a) a) (sym e) (s, ([], sym (append-nil a))))
+    (λ e. subst (λ (c : Bool). StartsWith h (cond c b a) × StartsWith (cond c b a) a) (sym e) (
+      t,
+      two_first a b s.0 t.0 (sym s.1 ∙ t.1) (let l = less_is (length a) (length b) e in
+          omega arith),
+    ))
+    (λ e. subst (λ (c : Bool). StartsWith h (cond c b a)
+    × StartsWith (cond c b a) a) (sym e) (s, ([], sym (append-nil a))))
 
 -- A note of a pass that learnt is one that it had.
-learnt_notes : (words : List ℕ) (u v : TreeView) (row : ℕ) → IsNoted words (learnt u v) row → IsNoted words u row
+learnt_notes : (words : List ℕ) (u v : TreeView) (row : ℕ) → IsNoted words (learnt u v) row
+    → IsNoted words u row
 learnt_notes words u v _ (by_note note row i e) = by_note note row i e
 learnt_notes words u v _ (by_item note row i b k) = by_item note row i b k
 learnt_notes words u v _ (by_way way row i e) = by_way way row i e
@@ -62,77 +70,94 @@ learnt_notes words u v _ (by_link_item way base row i e f k) = by_link_item way 
 -- Taking a front in keeps the rule of the tree.
 pub tree_learning : Closing IsLinked IsLent IsNoted IsTree learnt (blank 0)
 tree_learning = record {
-  keeps_closing = λ z made uppers words i j v w f at ne there. let u' : TreeView = learnt v w in let us : List TreeView = set uppers i u' in
-      let k = relisted z.rows made words f.role uppers us f.history i v (numbered uppers i v u' at (λ _. refl)) (f.each_seat i v at) in
-      let long = longer_is f.history v.seen w.seen k.seen_first (f.each_seat j w there).seen_first in
+  keeps_closing = λ z made uppers words i j v w f at ne there. let u' : TreeView = learnt v w in
+      let us : List TreeView = set uppers i u' in
+      let k = relisted z.rows made words f.role uppers us f.history i v (numbered uppers i v u' at
+      (λ _. refl)) (f.each_seat i v at) in
+      let long =
+      longer_is f.history v.seen w.seen k.seen_first (f.each_seat j w there).seen_first in
       let g = seat_changed z made words uppers i v u' f at (λ _. refl) (λ _. refl) record {
         made_before = k.made_before;
         alone = k.alone;
         seen_first = long.0;
         since_first = further (longer v.seen w.seen) v.seen v.since long.1 k.since_first;
         lawful = k.lawful;
-        past = longer_past (length v.seen) (length (longer v.seen w.seen)) v.log (longer_first v.seen w.seen) k.past;
+        past = longer_past (length v.seen) (length (longer v.seen w.seen)) v.log
+            (longer_first v.seen w.seen) k.past;
         notes = k.notes;
         links = k.links;
         ways = k.ways;
         ended = k.ended;
       } in
-      seat_changed z made words us j w (blank 0) g (set_else uppers i j u' ne ∙ there) (λ lo. absurd (omega arith))
+      seat_changed z made words us j w (blank 0) g (set_else uppers i j u' ne ∙ there)
       (λ lo. absurd (omega arith))
-      (knows_nothing z.rows made words g.role (set us j (blank 0)) g.history j 0 (omega arith) (λ lo. absurd (omega arith))
+      (λ lo. absurd (omega arith))
+      (knows_nothing z.rows made words g.role (set us j (blank 0)) g.history j 0 (omega arith)
+      (λ lo. absurd (omega arith))
       (none_made made 0 g.history g.by_passes (inl refl)));
   closing_notes = λ words v w r n. inl (learnt_notes words v w r n);
   spent_notes = λ words r. no_notes words (blank 0) r refl refl;
 }
 
 -- A front more.
-front_more : (z : Sizes) (made : ℕ) (words : List ℕ) (uppers : List TreeView) (id : ℕ) (u : TreeView) → IsTree z made words uppers
+front_more : (z : Sizes) (made : ℕ) (words : List ℕ) (uppers : List TreeView) (id : ℕ)
+    (u : TreeView) → IsTree z made words uppers
     → get_elem? uppers id ≡ some u → IsTree z made words (uppers ++ front_of u ∷ [])
-front_more z made words uppers id u f at = let next : List TreeView = uppers ++ front_of u ∷ [] in record {
-  usable = f.usable;
-  history = f.history;
-  edits = f.edits;
-  by_passes = f.by_passes;
-  keypos = f.keypos;
-  leaf = f.leaf;
-  levels = f.levels;
-  role = f.role;
-  shape = f.shape;
-  each_seat = λ j v here. ⊎_elim
-      (λ (was : get_elem? uppers j ≡ some v). let k = f.each_seat j v was in record {
-        made_before = k.made_before;
-        alone = λ lo i y there same. ⊎_elim (λ (old : get_elem? uppers i ≡ some y). k.alone lo i y old same)
-            (λ (t : (i ≡ length uppers) × (front_of u ≡ y)). let n : 0 ≡ y.number = ap (λ (x : TreeView). x.number) t.1 in absurd (omega arith))
-            (at_place uppers (front_of u) y i there);
-        seen_first = k.seen_first;
-        since_first = k.since_first;
-        lawful = k.lawful;
-        past = k.past;
-        notes = k.notes;
-        links = k.links;
-        ways = k.ways;
-        ended = λ x i. let e = k.ended x i in let lo = e.some_number in record {
-          some_number = lo;
-          made_before = e.made_before;
-          lawful = e.lawful;
-          gone = λ s y there same. ⊎_elim (λ (old : get_elem? uppers s ≡ some y). e.gone s y old same)
-              (λ (t : (s ≡ length uppers) × (front_of u ≡ y)). let n : 0 ≡ y.number = ap (λ (x : TreeView). x.number) t.1 in absurd (omega arith))
-              (at_place uppers (front_of u) y s there);
-        };
-      })
-      (λ (t : (j ≡ length uppers) × (front_of u ≡ v)). subst (Knows z.rows made words f.role next f.history j) t.1
-      (front_knows next f.history (f.each_seat id u at).seen_first (none_made made 0 f.history f.by_passes (inl refl)) j))
-      (at_place uppers (front_of u) v j here);
-  inventory = f.inventory;
-  listed = f.listed;
-  at_first = f.at_first;
-  only_one = λ j v here few lo. ⊎_elim
-      (λ (was : get_elem? uppers j ≡ some v). f.only_one j v was few lo)
-      (λ (t : (j ≡ length uppers) × (front_of u ≡ v)). let n : 0 ≡ v.number = ap (λ (x : TreeView). x.number) t.1 in absurd (omega arith))
-      (at_place uppers (front_of u) v j here);
-}
+front_more z made words uppers id u f at = let next : List TreeView = uppers ++ front_of u ∷ [] in
+    record {
+      usable = f.usable;
+      history = f.history;
+      edits = f.edits;
+      by_passes = f.by_passes;
+      keypos = f.keypos;
+      leaf = f.leaf;
+      levels = f.levels;
+      role = f.role;
+      shape = f.shape;
+      each_seat = λ j v here. ⊎_elim
+          (λ (was : get_elem? uppers j ≡ some v). let k = f.each_seat j v was in record {
+            made_before = k.made_before;
+            alone = λ lo i y there same. ⊎_elim
+                (λ (old : get_elem? uppers i ≡ some y). k.alone lo i y old same)
+                (λ (t : (i ≡ length uppers) × (front_of u ≡ y)).
+                let n : 0 ≡ y.number = ap (λ (x : TreeView). x.number) t.1 in absurd (omega arith))
+                (at_place uppers (front_of u) y i there);
+            seen_first = k.seen_first;
+            since_first = k.since_first;
+            lawful = k.lawful;
+            past = k.past;
+            notes = k.notes;
+            links = k.links;
+            ways = k.ways;
+            ended = λ x i. let e = k.ended x i in let lo = e.some_number in record {
+              some_number = lo;
+              made_before = e.made_before;
+              lawful = e.lawful;
+              gone = λ s y there same. ⊎_elim
+                  (λ (old : get_elem? uppers s ≡ some y). e.gone s y old same)
+                  (λ (t : (s ≡ length uppers) × (front_of u ≡ y)).
+                  let n : 0 ≡ y.number = ap (λ (x : TreeView). x.number) t.1 in
+                  absurd (omega arith))
+                  (at_place uppers (front_of u) y s there);
+            };
+          })
+          (λ (t : (j ≡ length uppers) × (front_of u ≡ v)).
+          subst (Knows z.rows made words f.role next f.history j) t.1
+          (front_knows next f.history (f.each_seat id u at).seen_first
+          (none_made made 0 f.history f.by_passes (inl refl)) j))
+          (at_place uppers (front_of u) v j here);
+      inventory = f.inventory;
+      listed = f.listed;
+      at_first = f.at_first;
+      only_one = λ j v here few lo. ⊎_elim
+          (λ (was : get_elem? uppers j ≡ some v). f.only_one j v was few lo)
+          (λ (t : (j ≡ length uppers) × (front_of u ≡ v)).
+          let n : 0 ≡ v.number = ap (λ (x : TreeView). x.number) t.1 in absurd (omega arith))
+          (at_place uppers (front_of u) v j here);
+    }
   where
-    front_knows : (next : List TreeView) (h : History) → StartsWith h u.seen → edits_of_pass 0 h ≡ [] → (j : ℕ) → Knows z.rows made words f.role next h j (front_of u)
+    front_knows : (next : List TreeView) (h : History) → StartsWith h u.seen
+        → edits_of_pass 0 h ≡ [] → (j : ℕ) → Knows z.rows made words f.role next h j (front_of u)
     front_knows next h first unmade j = record {
       made_before = omega arith;
       alone = λ lo. absurd (omega arith);
@@ -148,11 +173,17 @@ front_more z made words uppers id u f at = let next : List TreeView = uppers ++ 
 
 module _ (z : Sizes) where
   -- A pass is cut in two: what it has seen goes into a front.
-  pub fronts : (id : ℕ) (v : View TreeView) → Splits (R z) id v v (fresh no_sizes 0 (front_of v.upper))
-  fronts id v s r at = forks IsLinked IsLent IsNoted IsTree z s r id v at (front_of v.upper) (λ q. no_notes s.words (front_of v.upper) q refl refl)
-      (front_more z r.made s.words (map upper_of s.views) id v.upper r.above (at_map upper_of s.views id v at))
+  pub fronts : (id : ℕ) (v : View TreeView)
+      → Splits (R z) id v v (fresh no_sizes 0 (front_of v.upper))
+  fronts id v s r at = forks IsLinked IsLent IsNoted IsTree z s r id v at (front_of v.upper)
+      (λ q. no_notes s.words (front_of v.upper) q refl refl)
+      (front_more z r.made s.words (map upper_of s.views) id v.upper r.above
+      (at_map upper_of s.views id v at))
 
   -- A pass takes a front in.
-  pub learns : (id : ℕ) (v : View TreeView) (seat : ℕ) (w : View TreeView) → v.pin.pinned ≡ false → w.pin.pinned ≡ false → w.made ≡ 0
+  pub learns : (id : ℕ) (v : View TreeView) (seat : ℕ) (w : View TreeView) → v.pin.pinned ≡ false
+      → w.pin.pinned ≡ false → w.made ≡ 0
       → Joins (R z) id v seat w (joined learnt v w) (fresh no_sizes 0 (blank 0))
-  learns id v seat w out out' none_made_is = joins IsLinked IsLent IsNoted IsTree learnt (blank 0) tree_learning z id v w seat out out' (λ _ _. none_made_is)
+  learns id v seat w out out' none_made_is =
+      joins IsLinked IsLent IsNoted IsTree learnt (blank 0) tree_learning z id v w seat out out'
+      (λ _ _. none_made_is)

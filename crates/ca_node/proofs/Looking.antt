@@ -33,13 +33,23 @@ module _ (z : Sizes) where
   abbrev pub R : State (Unit {0}) (View TreeView) → Type 0
   R = Ruled IsLinked IsLent IsNoted IsTree z
 
-  -- A load after which the seat knows something else of the tree: each new note is on a linked row, and the seat is pinned.
-  pub looked : (s : State (Unit {0}) (View TreeView)) (r : R s) (i id : ℕ) (d : View TreeView) (u : TreeView) → get_elem? s.views id ≡ some d
-      → ((row : ℕ) → IsNoted s.words u row → IsNoted s.words d.upper row ⊎ (IsLinked s.words row × (d.pin.pinned ≡ true)))
+  -- A load after which the seat knows something else of the tree: each new note is on a linked row,
+  -- and the seat is pinned.
+  pub looked : (s : State (Unit {0}) (View TreeView)) (r : R s) (i id : ℕ) (d : View TreeView)
+      (u : TreeView) → get_elem? s.views id ≡ some d
+      → ((row : ℕ) → IsNoted s.words u row → IsNoted s.words d.upper row
+      ⊎ (IsLinked s.words row × (d.pin.pinned ≡ true)))
       → IsTree z r.made s.words (set (map upper_of s.views) id u)
-      → R record { words = set s.words i (get_or s.words i 0); homes = s.homes; views = set s.views id (record d { upper = u }) }
+      → R record {
+        words =
+            set s.words i (get_or s.words i 0);
+        homes =
+            s.homes;
+        views = set s.views id (record d { upper = u });
+      }
   looked s r i id d u at notes above = let d' : View TreeView = record d { upper = u } in
-      subst (λ (ws : List ℕ). R record { words = ws; homes = s.homes; views = set s.views id d' }) (sym (set-get_or s.words i 0))
+      subst (λ (ws : List ℕ). R record { words = ws; homes = s.homes; views = set s.views id d' })
+      (sym (set-get_or s.words i 0))
       (relinks IsLinked IsLent IsNoted IsTree tree_lends z s r id d d' s.words (λ _. Stays) record {
         at = at;
         same_sizes = refl;
@@ -54,14 +64,20 @@ module _ (z : Sizes) where
         notes = λ j x here c n. ⊎_elim
             (λ (t : (j ≡ id) × (d' ≡ x)). ⊎_elim
             (λ (o : IsNoted s.words d.upper c). inl (d, ap (get_elem? s.views) t.0 ∙ at, o))
-            (λ (l : IsLinked s.words c × (d.pin.pinned ≡ true)). inr (l.0, ap (λ (y : View TreeView). y.pin.pinned) (sym t.1) ∙ l.1))
+            (λ (l : IsLinked s.words c
+            × (d.pin.pinned ≡ true)). inr (
+              l.0,
+              ap (λ (y : View TreeView). y.pin.pinned) (sym t.1) ∙ l.1,
+            ))
             (notes c (subst (λ (y : View TreeView). IsNoted s.words y.upper c) (sym t.1) n)))
-            (λ (t : (j ≢ id) × (get_elem? s.views j ≡ some x)). inl (x, t.1, n)) (at_set s.views id j d' x here);
+            (λ (t : (j ≢ id) × (get_elem? s.views j ≡ some x)). inl (x, t.1, n))
+            (at_set s.views id j d' x here);
         above = subst (IsTree z r.made s.words) (sym (map-set upper_of s.views id d')) above;
       })
 
   -- What a seat knows of the tree, by its view.
-  pub knows_upper : (s : State (Unit {0}) (View TreeView)) (r : R s) (id : ℕ) (d : View TreeView) → get_elem? s.views id ≡ some d
+  pub knows_upper : (s : State (Unit {0}) (View TreeView)) (r : R s) (id : ℕ) (d : View TreeView)
+      → get_elem? s.views id ≡ some d
       → Knows z.rows r.made s.words r.above.role (map upper_of s.views) r.above.history id d.upper
   knows_upper s r id d at = r.above.each_seat id d.upper (at_map upper_of s.views id d at)
 
@@ -74,16 +90,19 @@ in_more x y xs i = by i.0 i.1
     by (suc k) e = inr (k, e)
 
 -- A member of what a function gives a list comes from a member of the list.
-pub of_map : {A B : Type 0} (f : A → B) (xs : List A) (k : ℕ) (y : B) → get_elem? (map f xs) k ≡ some y
+pub of_map : {A B : Type 0} (f : A → B) (xs : List A) (k : ℕ) (y : B)
+    → get_elem? (map f xs) k ≡ some y
     → (x : A) × (get_elem? xs k ≡ some x) × (f x ≡ y)
 of_map f [] k y e = absurd (some-ne-none y (sym e))
 of_map f (x ∷ xs) zero y e = (x, refl, some-injective (f x) y e)
 of_map f (x ∷ xs) (suc k) y e = of_map f xs k y e
 
 -- Edits by some passes are edits by more.
-pub fewer_passes : (made most : ℕ) (h : History) → made ≤ most → AreByPasses made h → AreByPasses most h
+pub fewer_passes : (made most : ℕ) (h : History) → made ≤ most → AreByPasses made h
+    → AreByPasses most h
 fewer_passes made most [] l b = tt
-fewer_passes made most (x ∷ xs) l b = let hi = b.1 in (b.0, omega arith, fewer_passes made most xs l b.2)
+fewer_passes made most (x ∷ xs) l b = let hi = b.1 in
+    (b.0, omega arith, fewer_passes made most xs l b.2)
 
 -- Places that are not behind one place are not behind a later one.
 pub longer_past : (n m : ℕ) (log : List Entry) → n ≤ m → ArePast n log → ArePast m log
@@ -92,37 +111,52 @@ longer_past n m (x ∷ xs) l p = let hi = p.0 in (omega arith, longer_past n m x
 
 -- The beginning of a history is no longer than the history.
 pub starts_shorter : (h seen : History) → StartsWith h seen → length seen ≤ length h
-starts_shorter h seen s = let e = ap (λ (x : History). length x) s.1 in let m = length-append seen s.0 in omega arith
+starts_shorter h seen s = let e = ap (λ (x : History). length x) s.1 in
+    let m = length-append seen s.0 in omega arith
 
 -- The beginning of a beginning.
 pub further : (a b c : History) → StartsWith a b → StartsWith b c → StartsWith a c
 further a b c x y = (y.0 ++ x.0, x.1 ∙ (ap (λ h. h ++ x.0) y.1 ∙ append_assoc c y.0 x.0))
 
 -- A note more: on a base that is linked.
-pub new_note : (words : List ℕ) (u : TreeView) (more : History) (note last : Note) (shown : ℕ) → IsLinked words note.row
-    → ((r : ℕ) → IsIn r (items note.its) → IsLinked words r) → (row : ℕ) → IsNoted words (led_to_base u more note last shown) row
+pub new_note : (words : List ℕ) (u : TreeView) (more : History) (note last : Note) (shown : ℕ)
+    → IsLinked words note.row
+    → ((r : ℕ) → IsIn r (items note.its) → IsLinked words r) → (row : ℕ)
+    → IsNoted words (led_to_base u more note last shown) row
     → IsNoted words u row ⊎ IsLinked words row
-new_note words u more note last shown here named _ (by_note n row i e) = ⊎_elim (λ (same : note ≡ n). inr (subst (IsLinked words)
-    (ap (λ (x : Note). x.row) same ∙ e) here)) (λ (o : IsIn n u.notes). inl (by_note n row o e)) (in_more note n u.notes i)
+new_note words u more note last shown here named _ (by_note n row i e) = ⊎_elim
+    (λ (same : note ≡ n). inr (subst (IsLinked words)
+    (ap (λ (x : Note). x.row) same ∙ e) here))
+    (λ (o : IsIn n u.notes). inl (by_note n row o e)) (in_more note n u.notes i)
 new_note words u more note last shown here named _ (by_item n row i b m) = ⊎_elim
-    (λ (same : note ≡ n). inr (named row (subst (λ (x : Note). IsIn row (items x.its)) (sym same) m)))
+    (λ (same : note ≡ n).
+    inr (named row (subst (λ (x : Note). IsIn row (items x.its)) (sym same) m)))
     (λ (o : IsIn n u.notes). inl (by_item n row o b m)) (in_more note n u.notes i)
 new_note words u more note last shown here named _ (by_way way row i e) = inl (by_way way row i e)
-new_note words u more note last shown here named _ (by_link way row i under) = inl (by_link way row i under)
-new_note words u more note last shown here named _ (by_link_item way base row i under f m) = inl (by_link_item way base row i under f m)
+new_note words u more note last shown here named _ (by_link way row i under) =
+    inl (by_link way row i under)
+new_note words u more note last shown here named _ (by_link_item way base row i under f m) =
+    inl (by_link_item way base row i under f m)
 
 -- A route more: one that is linked, and so is what its links name.
-pub new_way : (words : List ℕ) (u : TreeView) (more : History) (way : Way) → IsLinked words way.row → IsRouteRow (row_at words way.row) → (row : ℕ)
+pub new_way : (words : List ℕ) (u : TreeView) (more : History) (way : Way) → IsLinked words way.row
+    → IsRouteRow (row_at words way.row) → (row : ℕ)
     → IsNoted words (led_to_route u more way) row → IsNoted words u row ⊎ IsLinked words row
 new_way words u more way here form _ (by_note n row i e) = inl (by_note n row i e)
 new_way words u more way here form _ (by_item n row i b m) = inl (by_item n row i b m)
-new_way words u more way here form _ (by_way w row i e) = ⊎_elim (λ (same : way ≡ w). inr (subst (IsLinked words)
-    (ap (λ (x : Way). x.row) same ∙ e) here)) (λ (o : IsIn w u.ways). inl (by_way w row o e)) (in_more way w u.ways i)
+new_way words u more way here form _ (by_way w row i e) = ⊎_elim
+    (λ (same : way ≡ w). inr (subst (IsLinked words)
+    (ap (λ (x : Way). x.row) same ∙ e) here))
+    (λ (o : IsIn w u.ways). inl (by_way w row o e)) (in_more way w u.ways i)
 new_way words u more way here form _ (by_link w row i under) = ⊎_elim
-    (λ (same : way ≡ w). inr (by_route way.row row here form (subst (λ (x : Way). IsUnder words x.row row) (sym same) under)))
+    (λ (same : way ≡ w).
+    inr (by_route way.row row here form (subst
+    (λ (x : Way). IsUnder words x.row row) (sym same) under)))
     (λ (o : IsIn w u.ways). inl (by_link w row o under)) (in_more way w u.ways i)
 new_way words u more way here form _ (by_link_item w base row i under f m) = ⊎_elim
-    (λ (same : way ≡ w). inr (by_base base row (by_route way.row base here form (subst (λ (x : Way). IsUnder words x.row base) (sym same) under)) f m))
+    (λ (same : way ≡ w).
+    inr (by_base base row (by_route way.row base here form (subst
+    (λ (x : Way). IsUnder words x.row base) (sym same) under)) f m))
     (λ (o : IsIn w u.ways). inl (by_link_item w base row o under f m)) (in_more way w u.ways i)
 
 -- What a seat counts gives no note.
@@ -132,10 +166,12 @@ counted_notes words u counts lost _ (by_note note row i e) = by_note note row i 
 counted_notes words u counts lost _ (by_item note row i b k) = by_item note row i b k
 counted_notes words u counts lost _ (by_way way row i e) = by_way way row i e
 counted_notes words u counts lost _ (by_link way row i e) = by_link way row i e
-counted_notes words u counts lost _ (by_link_item way base row i e f k) = by_link_item way base row i e f k
+counted_notes words u counts lost _ (by_link_item way base row i e f k) =
+    by_link_item way base row i e f k
 
 -- A seat that remembers no base any more has no note more.
-pub lost_notes : (words : List ℕ) (u : TreeView) (row : ℕ) → IsNoted words (one_more_lost u) row → IsNoted words u row
+pub lost_notes : (words : List ℕ) (u : TreeView) (row : ℕ) → IsNoted words (one_more_lost u) row
+    → IsNoted words u row
 lost_notes words u _ (by_note note row i e) = absurd (some-ne-none note (sym i.1))
 lost_notes words u _ (by_item note row i b k) = absurd (some-ne-none note (sym i.1))
 lost_notes words u _ (by_way way row i e) = by_way way row i e
@@ -143,26 +179,36 @@ lost_notes words u _ (by_link way row i e) = by_link way row i e
 lost_notes words u _ (by_link_item way base row i e f k) = by_link_item way base row i e f k
 
 -- An entry in the log gives no note.
-pub entered_notes : (words : List ℕ) (u : TreeView) (event : Event) (row : ℕ) → IsNoted words (entered u event) row → IsNoted words u row
+pub entered_notes : (words : List ℕ) (u : TreeView) (event : Event) (row : ℕ)
+    → IsNoted words (entered u event) row → IsNoted words u row
 entered_notes words u event _ (by_note note row i e) = by_note note row i e
 entered_notes words u event _ (by_item note row i b k) = by_item note row i b k
 entered_notes words u event _ (by_way way row i e) = by_way way row i e
 entered_notes words u event _ (by_link way row i e) = by_link way row i e
-entered_notes words u event _ (by_link_item way base row i e f k) = by_link_item way base row i e f k
+entered_notes words u event _ (by_link_item way base row i e f k) =
+    by_link_item way base row i e f k
 
 -- What a list of rows spells, one after another.
-pub in_turn : (words : List ℕ) (xs : List ℕ) → map pair (map (λ r. row_at words r) xs) ≡ map (λ r. pair (row_at words r)) xs
+pub in_turn : (words : List ℕ) (xs : List ℕ)
+    → map pair (map (λ r. row_at words r) xs) ≡ map (λ r. pair (row_at words r)) xs
 in_turn words [] = refl
 in_turn words (x ∷ xs) = ap (λ ys. pair (row_at words x) ∷ ys) (in_turn words xs)
 
-module _ (z : Sizes) (made : ℕ) (words : List ℕ) (uppers : List TreeView) (f : IsTree z made words uppers) where
+module _ (z : Sizes) (made : ℕ) (words : List ℕ) (uppers : List TreeView)
+    (f : IsTree z made words uppers) where
   abbrev last : StoreMap
   last = after f.history []
 
   -- A base of the tree, as a note.
   module _ (row : ℕ) (place : Place) (is : f.role row ≡ Base place) where
     abbrev pub base_note : Note
-    base_note = record { row = row; its = row_at words row; objects = map (λ r. row_at words r) (items (row_at words row)); place = place }
+    base_note = record {
+      row = row;
+      its = row_at words row;
+      objects = map
+          (λ r. row_at words r) (items (row_at words row));
+      place = place;
+    }
 
     at : IsBaseAt z words f.role last place row
     at = base_at z words f.role last f.shape row place is
@@ -192,9 +238,11 @@ module _ (z : Sizes) (made : ℕ) (words : List ℕ) (uppers : List TreeView) (f
       marked = mark_of words place (row_at words row) at.marked;
       named = λ r i. let o = at.are_objects r i in (o.0, o.1);
       as_many = length-map (items (row_at words row)) (λ r. row_at words r);
-      objects_long = λ its i. let from = of_map (λ r. row_at words r) (items (row_at words row)) i.0 its i.1 in
+      objects_long = λ its i. let from = of_map
+          (λ r. row_at words r) (items (row_at words row)) i.0 its i.1 in
           let o = at.are_objects from.0 (i.0, from.1) in
-          subst (λ (x : List ℕ). (length x ≡ 136) × IsObjectRow x) from.2 (row_long words z.rows from.0 f.shape.wide o.1, o.2);
+          subst (λ (x : List ℕ). (length x ≡ 136)
+          × IsObjectRow x) from.2 (row_long words z.rows from.0 f.shape.wide o.1, o.2);
     }
 
     -- Its objects are what the last state has of the keys that are led there.
@@ -231,12 +279,17 @@ module _ (z : Sizes) (made : ℕ) (words : List ℕ) (uppers : List TreeView) (f
   -- What one seat knows of links and words.
   module _ (j : ℕ) (u : TreeView) (k : Knows z.rows made words f.role uppers f.history j u) where
     -- A link that it knows leads there.
-    pub known_leads : (link least : ℕ) (span : Span) → IsKnownLink u link least span → LeadsTo words f.role link least span
+    pub known_leads : (link least : ℕ) (span : Span) → IsKnownLink u link least span
+        → LeadsTo words f.role link least span
     known_leads link least span known = ⊎_elim
-        (λ (t : (link ≡ 130) × (least ≡ 0) × (span ≡ all_keys)). subst (λ (i : ℕ). LeadsTo words f.role i least span) (sym t.0)
-        (subst (λ (i : ℕ). LeadsTo words f.role 130 i span) (sym t.1) (subst (LeadsTo words f.role 130 0) (sym t.2) f.shape.top)))
-        (λ (t : (way : Way) × IsIn way u.ways × (least ≡ way.place.level + 1) × (((link ≡ 136 * way.row + 1)
-        × (span ≡ left_of (route_key way.its) way.place.span)) ⊎ ((link ≡ 136 * way.row + 2) × (span ≡ right_of (route_key way.its) way.place.span)))).
+        (λ (t : (link ≡ 130) × (least ≡ 0) × (span ≡ all_keys)). subst
+        (λ (i : ℕ). LeadsTo words f.role i least span) (sym t.0)
+        (subst (λ (i : ℕ). LeadsTo words f.role 130 i span) (sym t.1)
+        (subst (LeadsTo words f.role 130 0) (sym t.2) f.shape.top)))
+        (λ (t : (way : Way) × IsIn way u.ways × (least ≡ way.place.level + 1)
+        × (((link ≡ 136 * way.row + 1)
+        × (span ≡ left_of (route_key way.its) way.place.span))
+        ⊎ ((link ≡ 136 * way.row + 2) × (span ≡ right_of (route_key way.its) way.place.span)))).
         let r = there t.0.row t.0.place (route_key t.0.its) (k.ways t.0 t.1).stands in
         subst (λ (i : ℕ). LeadsTo words f.role link i span) (sym t.2) (⊎_elim
         (λ (e : (link ≡ 136 * t.0.row + 1) × (span ≡ left_of (route_key t.0.its) t.0.place.span)).
@@ -244,44 +297,66 @@ module _ (z : Sizes) (made : ℕ) (words : List ℕ) (uppers : List TreeView) (f
         (subst (LeadsTo words f.role (136 * t.0.row + 1) (t.0.place.level + 1)) (sym e.1) r.left))
         (λ (e : (link ≡ 136 * t.0.row + 2) × (span ≡ right_of (route_key t.0.its) t.0.place.span)).
         subst (λ (i : ℕ). LeadsTo words f.role i (t.0.place.level + 1) span) (sym e.0)
-        (subst (LeadsTo words f.role (136 * t.0.row + 2) (t.0.place.level + 1)) (sym e.1) r.right)) t.3))
+        (subst (LeadsTo words f.role (136 * t.0.row + 2) (t.0.place.level + 1)) (sym e.1) r.right))
+        t.3))
         known
 
     -- It is a link that the view knows.
-    pub link_of_view : (link least : ℕ) (span : Span) → IsKnownLink u link least span → IsLinkOfView u link
-    link_of_view link least span known = ⊎_elim (λ t. inl t.0) (λ t. inr (t.0, t.1, ⊎_elim (λ e. inl e.0) (λ e. inr e.0) t.3)) known
+    pub link_of_view : (link least : ℕ) (span : Span) → IsKnownLink u link least span
+        → IsLinkOfView u link
+    link_of_view link least span known = ⊎_elim (λ t. inl t.0)
+        (λ t. inr (t.0, t.1, ⊎_elim (λ e. inl e.0) (λ e. inr e.0) t.3)) known
 
     -- What hangs there hangs at a place as the seat knows it.
-    pub place_known : (link : ℕ) (place : Place) → place.link ≡ link → place_of (f.role (get_or words link 0)) ≡ some place → IsPlaceOf u link place
+    pub place_known : (link : ℕ) (place : Place) → place.link ≡ link
+        → place_of (f.role (get_or words link 0)) ≡ some place → IsPlaceOf u link place
     place_known link place here is = (
       here,
       λ least span known. let l = known_leads link least span known in
-          let same : place ≡ record { link = link; level = l.level; span = span } = some-injective place _ (sym is ∙ l.hangs) in
-          (subst (λ (p : Place). least ≤ p.level) (sym same) l.greater, ap (λ (p : Place). p.span) same),
+          let same : place ≡ record {
+            link =
+                link;
+            level = l.level;
+            span = span;
+          } = some-injective place _ (sym is ∙ l.hangs) in (
+            subst (λ (p : Place). least ≤ p.level) (sym same) l.greater,
+            ap (λ (p : Place). p.span) same,
+          ),
     )
 
     -- Of a row that was shown, a load gives the word that was shown.
-    pub shown_word : (row index : ℕ) (its : List ℕ) → index < 136 → IsShown u row its → get_or words (136 * row + index) 0 ≡ get_or its index 0
-    shown_word row index its inside shown = sym (word_at words row index inside) ∙ ap (λ (x : List ℕ). get_or x index 0) (⊎_elim
-        (λ (t : (shown.0.row ≡ row) × (shown.0.its ≡ its)). ap (row_at words) (sym t.0) ∙ ((k.notes shown.0 shown.1).spells ∙ t.1))
-        (λ (t : IsBaseRow shown.0.its × ((i : ℕ) × (get_elem? (items shown.0.its) i ≡ some row) × (get_elem? shown.0.objects i ≡ some its))).
+    pub shown_word : (row index : ℕ) (its : List ℕ) → index < 136 → IsShown u row its
+        → get_or words (136 * row + index) 0 ≡ get_or its index 0
+    shown_word row index its inside shown = sym (word_at words row index inside)
+        ∙ ap (λ (x : List ℕ). get_or x index 0) (⊎_elim
+        (λ (t : (shown.0.row ≡ row) × (shown.0.its ≡ its)). ap (row_at words) (sym t.0)
+        ∙ ((k.notes shown.0 shown.1).spells ∙ t.1))
+        (λ (t : IsBaseRow shown.0.its
+        × ((i : ℕ) × (get_elem? (items shown.0.its) i ≡ some row)
+        × (get_elem? shown.0.objects i ≡ some its))).
         let named = at_map (λ r. row_at words r) (items shown.0.its) t.1.0 row t.1.1 in
-        some-injective (row_at words row) its (sym named ∙ (ap (λ xs. get_elem? xs t.1.0) ((k.notes shown.0 shown.1).objects_are t.0) ∙ t.1.2)))
+        some-injective (row_at words row) its (sym named
+        ∙ (ap (λ xs. get_elem? xs t.1.0) ((k.notes shown.0 shown.1).objects_are t.0) ∙ t.1.2)))
         shown.2)
 
     -- So it is of a route, but for its links and its join word.
-    pub shown_fixed : (row index : ℕ) (its : List ℕ) → IsFixed index → IsShownRoute u row its → get_or words (136 * row + index) 0 ≡ get_or its index 0
-    shown_fixed row index its fixed shown = ap (λ (r : ℕ). get_or words (136 * r + index) 0) (sym shown.2)
-        ∙ ((k.ways shown.0 shown.1).spells index fixed ∙ ap (λ (x : List ℕ). get_or x index 0) shown.3)
+    pub shown_fixed : (row index : ℕ) (its : List ℕ) → IsFixed index → IsShownRoute u row its
+        → get_or words (136 * row + index) 0 ≡ get_or its index 0
+    shown_fixed row index its fixed shown = ap
+        (λ (r : ℕ). get_or words (136 * r + index) 0) (sym shown.2)
+        ∙ ((k.ways shown.0 shown.1).spells index fixed
+        ∙ ap (λ (x : List ℕ). get_or x index 0) shown.3)
 
     pub read_is : (place : ℕ) → IsRead u place (get_or words place 0)
     read_is place row index word is inside shown = ap (λ (i : ℕ). get_or words i 0) is ∙ (⊎_elim
         (λ (x : IsShown u row shown.0). shown_word row index shown.0 inside x)
-        (λ (x : IsShownRoute u row shown.0 × IsFixed index). shown_fixed row index shown.0 x.1 x.0) shown.1 ∙ sym shown.2)
+        (λ (x : IsShownRoute u row shown.0
+        × IsFixed index). shown_fixed row index shown.0 x.1 x.0) shown.1 ∙ sym shown.2)
 
 module _ (z : Sizes) where
   -- A load of a link that the seat knows.
-  module _ (s : State (Unit {0}) (View TreeView)) (r : R z s) (id : ℕ) (me : MyTree) (at : get_elem? s.views id ≡ some me.0) (is_pinned : me.0.pin.pinned ≡ true)
+  module _ (s : State (Unit {0}) (View TreeView)) (r : R z s) (id : ℕ) (me : MyTree)
+      (at : get_elem? s.views id ≡ some me.0) (is_pinned : me.0.pin.pinned ≡ true)
       (walks : Bool) (link : ℕ) (any : IsAnyLink me.0.upper link) where
     abbrev f : IsTree z r.made s.words (map upper_of s.views)
     f = r.above
@@ -289,7 +364,8 @@ module _ (z : Sizes) where
     abbrev u : TreeView
     u = me.0.upper
 
-    abbrev k : Knows z.rows r.made s.words r.above.role (map upper_of s.views) r.above.history id me.0.upper
+    abbrev k : Knows z.rows r.made s.words r.above.role (map upper_of s.views) r.above.history id
+        me.0.upper
     k = knows_upper z s r id me.0 at
 
     n : ℕ
@@ -308,30 +384,46 @@ module _ (z : Sizes) where
     long = starts_shorter f.history u.seen k.seen_first
 
     abbrev leads_there : LeadsTo s.words f.role link any.0 any.1
-    leads_there = known_leads z r.made s.words (map upper_of s.views) f id u k link any.0 any.1 any.2
+    leads_there =
+        known_leads z r.made s.words (map upper_of s.views) f id u k link any.0 any.1 any.2
 
     -- What it has seen then is the whole history.
-    known_now : (u' : TreeView) → u'.number ≡ u.number → u'.log ≡ u.log → u'.seen ≡ u.seen ++ k.seen_first.0 → IsKnown z u'
-    known_now u' same_number same_log same_seen = let e : f.history ≡ u'.seen = whole ∙ sym same_seen in let low = k.made_before in
+    known_now : (u' : TreeView) → u'.number ≡ u.number → u'.log ≡ u.log
+        → u'.seen ≡ u.seen ++ k.seen_first.0 → IsKnown z u'
+    known_now u' same_number same_log same_seen = let e : f.history ≡ u'.seen = whole
+        ∙ sym same_seen in let low = k.made_before in
         let within = r.within in record {
           lawful = subst (λ (log : List Entry). IsLawful u'.number u'.seen log) (sym same_log)
-              (subst (λ (h : History). IsLawful u'.number h u.log) e (subst (λ (m : ℕ). IsLawful m f.history u.log) (sym same_number) k.lawful));
+              (subst (λ (h : History). IsLawful u'.number h u.log) e (subst
+              (λ (m : ℕ). IsLawful m f.history u.log) (sym same_number) k.lawful));
           past = subst (ArePast (length u'.seen)) (sym same_log)
-              (subst (λ (h : History). ArePast (length h) u.log) e (longer_past (length u.seen) (length f.history) u.log long k.past));
+              (subst (λ (h : History).
+              ArePast (length h) u.log) e
+              (longer_past (length u.seen) (length f.history) u.log long k.past));
           edits = subst (AreEdits z.keypos) e f.edits;
           enrolled = omega arith;
-          by_passes = subst (AreByPasses z.passes) e (fewer_passes r.made z.passes f.history r.within f.by_passes);
+          by_passes =
+              subst (AreByPasses z.passes) e
+              (fewer_passes r.made z.passes f.history r.within f.by_passes);
         }
 
     -- The seat knows the sizes, if it has any rows.
     sized : (P : Sizes → Type 0) → P z → 0 < me.0.sizes.rows → P me.0.sizes
-    sized P p some_rows = subst P (sym (⊎_elim (λ (e : me.0.sizes.rows ≡ 0). absurd (omega arith)) (λ (e : me.0.sizes ≡ z). e) (r.seat id me.0 at).sizes_are)) p
+    sized P p some_rows =
+        subst P (sym (⊎_elim (λ (e : me.0.sizes.rows ≡ 0). absurd (omega arith))
+        (λ (e : me.0.sizes ≡ z). e) (r.seat id me.0 at).sizes_are)) p
 
     abbrev Next : TreeView → Type 0
-    Next u' = R z record { words = set s.words link (get_or s.words link 0); homes = s.homes; views = set s.views id (record me.0 { upper = u' }) }
+    Next u' = R z record {
+      words = set s.words link (get_or s.words link 0);
+      homes =
+          s.homes;
+      views = set s.views id (record me.0 { upper = u' });
+    }
 
     -- It names a base,
-    module _ (place : Place) (is : f.role (get_or s.words link 0) ≡ Base place) (here : place.link ≡ link) where
+    module _ (place : Place) (is : f.role (get_or s.words link 0) ≡ Base place)
+        (here : place.link ≡ link) where
       abbrev note : Note
       note = base_note z r.made s.words (map upper_of s.views) f (get_or s.words link 0) place is
 
@@ -339,26 +431,41 @@ module _ (z : Sizes) where
       with_base = led_to_base u k.seen_first.0 note (come_to walks u note) (come_at walks u)
 
       base_linked : IsLinked s.words (get_or s.words link 0)
-      base_linked = placed_linked z s.words f.role (after f.history []) f.shape (get_or s.words link 0) place (ap place_of is)
+      base_linked =
+          placed_linked z s.words f.role (after f.history []) f.shape (get_or s.words link 0) place
+          (ap place_of is)
 
       pub to_base : Next with_base
-      to_base = let k' = relisted z.rows r.made s.words f.role (map upper_of s.views) (set (map upper_of s.views) id with_base) f.history id u
+      to_base = let k' = relisted z.rows r.made s.words f.role (map upper_of s.views)
+          (set (map upper_of s.views) id with_base) f.history id u
           (numbered (map upper_of s.views) id u with_base first (λ _. refl)) k in
-          looked z s r link id me.0 with_base at (λ row m. ⊎_elim (λ o. inl o) (λ l. inr (l, is_pinned))
-          (new_note s.words u k.seen_first.0 note (come_to walks u note) (come_at walks u) base_linked
-          (λ x i. item_linked z s.words f.role (after f.history []) f.shape (get_or s.words link 0) place is x i) row m))
-          (seat_changed z r.made s.words (map upper_of s.views) id u with_base f first (λ _. refl) (λ _. refl) record {
+          looked z s r link id me.0 with_base at
+          (λ row m. ⊎_elim (λ o. inl o) (λ l. inr (l, is_pinned))
+          (new_note s.words u k.seen_first.0 note (come_to walks u note) (come_at walks u)
+          base_linked
+          (λ x i. item_linked z s.words f.role (after f.history []) f.shape (get_or s.words link 0)
+          place is x i) row m))
+          (seat_changed z r.made s.words (map upper_of s.views) id u with_base f first (λ _. refl)
+          (λ _. refl) record {
             made_before = k'.made_before;
             alone = k'.alone;
             seen_first = subst (StartsWith f.history) whole (starts_whole f.history);
-            since_first = subst (λ (h : History). StartsWith h u.since) whole (further f.history u.seen u.since k.seen_first k.since_first);
+            since_first = subst
+                (λ (h : History). StartsWith h u.since) whole
+                (further f.history u.seen u.since k.seen_first k.since_first);
             lawful = k'.lawful;
-            past = subst (λ (h : History). ArePast (length h) u.log) whole (longer_past (length u.seen) (length f.history) u.log long k.past);
+            past = subst
+                (λ (h : History). ArePast (length h) u.log) whole
+                (longer_past (length u.seen) (length f.history) u.log long k.past);
             notes = λ m i. ⊎_elim (λ (e : note ≡ m). subst (IsTrue z.rows s.words f.role) e
-                (base_true z r.made s.words (map upper_of s.views) f (get_or s.words link 0) place is))
+                (base_true z r.made s.words (map upper_of s.views) f (get_or s.words link 0) place
+                is))
                 (λ (o : IsIn m u.notes). k.notes m o) (in_more note m u.notes i);
-            links = λ m i. ⊎_elim (λ (e : note ≡ m). subst (λ (x : Note). IsLinkOfView u x.place.link) e
-                (subst (IsLinkOfView u) (sym here) (link_of_view z r.made s.words (map upper_of s.views) f id u k link any.0 any.1 any.2)))
+            links = λ m i. ⊎_elim (λ (e : note ≡ m). subst
+                (λ (x : Note). IsLinkOfView u x.place.link) e
+                (subst (IsLinkOfView u) (sym here)
+                (link_of_view z r.made s.words (map upper_of s.views) f id u k link any.0 any.1
+                any.2)))
                 (λ (o : IsIn m u.notes). k.links m o) (in_more note m u.notes i);
             ways = k.ways;
             ended = k'.ended;
@@ -367,10 +474,13 @@ module _ (z : Sizes) where
       -- It is listed, and so it is in the list of a pass that is the only one.
       base_listed : IsAlone z u → IsListed u.inventory note
       base_listed alone = let one = alone.0 in let within = r.within in
-          subst (λ (i : Inventory). IsListed i note) (sym (f.only_one id u first (omega arith) alone.1)) record {
+          subst (λ (i : Inventory).
+          IsListed i note) (sym (f.only_one id u first (omega arith) alone.1)) record {
             row = f.listed.linked (get_or s.words link 0) base_linked;
             base = f.listed.based (get_or s.words link 0) place is;
-            only = λ row at_place key i has here. f.shape.apart row (get_or s.words link 0) at_place place key (f.listed.bases row at_place i) is has here;
+            only = λ row at_place key i has here.
+                f.shape.apart row (get_or s.words link 0) at_place place key
+                (f.listed.bases row at_place i) is has here;
           }
 
       pub base_told : IsLedToBase walks link me (get_or s.words link 0) (with_upper me with_base)
@@ -379,16 +489,20 @@ module _ (z : Sizes) where
         more = k.seen_first.0;
         now = refl;
         row_is = refl;
-        place = place_known z r.made s.words (map upper_of s.views) f id u k link place here (ap place_of is);
+        place = place_known z r.made s.words (map upper_of s.views) f id u k link place here
+            (ap place_of is);
         has = subst (λ (h : History). map pair note.objects ≡ part place.span (after h [])) whole
             (base_has z r.made s.words (map upper_of s.views) f (get_or s.words link 0) place is);
-        known = sized (λ y. IsBaseNote y note × IsKnown y with_base)
-            (base_is z r.made s.words (map upper_of s.views) f (get_or s.words link 0) place is, known_now with_base refl refl refl);
+        known = sized (λ y. IsBaseNote y note × IsKnown y with_base) (
+          base_is z r.made s.words (map upper_of s.views) f (get_or s.words link 0) place is,
+          known_now with_base refl refl refl,
+        );
         listed = sized (λ y. IsAlone y u → IsListed u.inventory note) base_listed;
       }
 
     -- or a route.
-    module _ (place : Place) (key : List ℕ) (is : f.role (get_or s.words link 0) ≡ Route place key) (here : place.link ≡ link) where
+    module _ (place : Place) (key : List ℕ) (is : f.role (get_or s.words link 0) ≡ Route place key)
+        (here : place.link ≡ link) where
       abbrev way : Way
       way = route_way z r.made s.words (map upper_of s.views) f (get_or s.words link 0) place key is
 
@@ -396,29 +510,41 @@ module _ (z : Sizes) where
       with_route = led_to_route u k.seen_first.0 way
 
       route_linked : IsLinked s.words (get_or s.words link 0)
-      route_linked = placed_linked z s.words f.role (after f.history []) f.shape (get_or s.words link 0) place (ap place_of is)
+      route_linked =
+          placed_linked z s.words f.role (after f.history []) f.shape (get_or s.words link 0) place
+          (ap place_of is)
 
       -- A link that was known is known.
       more_links : (i : ℕ) → IsLinkOfView u i → IsLinkOfView with_route i
       more_links i known = ⊎_elim (λ e. inl e) (λ t. inr (t.0, (suc t.1.0, t.1.1), t.2)) known
 
       pub to_route : Next with_route
-      to_route = let k' = relisted z.rows r.made s.words f.role (map upper_of s.views) (set (map upper_of s.views) id with_route) f.history id u
+      to_route =
+          let k' = relisted z.rows r.made s.words f.role (map upper_of s.views)
+          (set (map upper_of s.views) id with_route) f.history id u
           (numbered (map upper_of s.views) id u with_route first (λ _. refl)) k in
-          looked z s r link id me.0 with_route at (λ row m. ⊎_elim (λ o. inl o) (λ l. inr (l, is_pinned))
+          looked z s r link id me.0 with_route at
+          (λ row m. ⊎_elim (λ o. inl o) (λ l. inr (l, is_pinned))
           (new_way s.words u k.seen_first.0 way route_linked
-          (there z r.made s.words (map upper_of s.views) f (get_or s.words link 0) place key is).is_route row m))
-          (seat_changed z r.made s.words (map upper_of s.views) id u with_route f first (λ _. refl) (λ _. refl) record {
+          (there z r.made s.words (map upper_of s.views) f (get_or s.words link 0) place key
+          is).is_route row m))
+          (seat_changed z r.made s.words (map upper_of s.views) id u with_route f first (λ _. refl)
+          (λ _. refl) record {
             made_before = k'.made_before;
             alone = k'.alone;
             seen_first = subst (StartsWith f.history) whole (starts_whole f.history);
-            since_first = subst (λ (h : History). StartsWith h u.since) whole (further f.history u.seen u.since k.seen_first k.since_first);
+            since_first = subst
+                (λ (h : History). StartsWith h u.since) whole
+                (further f.history u.seen u.since k.seen_first k.since_first);
             lawful = k'.lawful;
-            past = subst (λ (h : History). ArePast (length h) u.log) whole (longer_past (length u.seen) (length f.history) u.log long k.past);
+            past = subst
+                (λ (h : History). ArePast (length h) u.log) whole
+                (longer_past (length u.seen) (length f.history) u.log long k.past);
             notes = k.notes;
             links = λ m i. more_links m.place.link (k.links m i);
             ways = λ w i. ⊎_elim (λ (e : way ≡ w). subst (IsTrueWay s.words f.role) e
-                (way_true z r.made s.words (map upper_of s.views) f (get_or s.words link 0) place key is))
+                (way_true z r.made s.words (map upper_of s.views) f (get_or s.words link 0) place
+                key is))
                 (λ (o : IsIn w u.ways). k.ways w o) (in_more way w u.ways i);
             ended = k'.ended;
           })
@@ -429,15 +555,20 @@ module _ (z : Sizes) where
         more = k.seen_first.0;
         now = refl;
         row_is = refl;
-        place = place_known z r.made s.words (map upper_of s.views) f id u k link place here (ap place_of is);
-        known = sized (λ y. IsRouteNote y way × IsKnown y with_route)
-            (route_is z r.made s.words (map upper_of s.views) f (get_or s.words link 0) place key is, known_now with_route refl refl refl);
+        place = place_known z r.made s.words (map upper_of s.views) f id u k link place here
+            (ap place_of is);
+        known = sized (λ y. IsRouteNote y way × IsKnown y with_route) (
+          route_is z r.made s.words (map upper_of s.views) f (get_or s.words link 0) place key
+              is,
+          known_now with_route refl refl refl,
+        );
       }
 
     abbrev there_place : Place
     there_place = record { link = link; level = leads_there.level; span = any.1 }
 
-    pub link_loaded : (d' : View TreeView) × Next d'.upper × (d' ≡ record me.0 { upper = d'.upper }) × IsLed walks link me (get_or s.words link 0) (d', me.1)
+    pub link_loaded : (d' : View TreeView) × Next d'.upper × (d' ≡ record me.0 { upper = d'.upper })
+        × IsLed walks link me (get_or s.words link 0) (d', me.1)
     link_loaded = ⊎_elim
         (λ (b : f.role (get_or s.words link 0) ≡ Base there_place). (
           record me.0 { upper = with_base there_place b refl },
@@ -454,10 +585,15 @@ module _ (z : Sizes) where
         (by_place (f.role (get_or s.words link 0)) there_place leads_there.hangs)
 
   -- The load of a link.
-  pub leads : (walks : Bool) (slots id : ℕ) (me : MyTree) (link : ℕ) → me.0.pin.pinned ≡ true → IsAnyLink me.0.upper link
-      → Allows (R z) slots id me link (λ x. x) (Raises MayLoad (Leads walks) (step slots link 0 0 none) me)
-  leads walks slots id me link is_pinned any s r _ at _ = let x = link_loaded s r id me at is_pinned walks link any in
-      let led = subst (λ (d' : View TreeView). IsLed walks link me (get_or s.words link 0) (d', me.1)) x.2 x.3 in (
+  pub leads : (walks : Bool) (slots id : ℕ) (me : MyTree) (link : ℕ) → me.0.pin.pinned ≡ true
+      → IsAnyLink me.0.upper link
+      → Allows (R z) slots id me link
+      (λ x. x) (Raises MayLoad (Leads walks) (step slots link 0 0 none) me)
+  leads walks slots id me link is_pinned any s r _ at _ =
+      let x = link_loaded s r id me at is_pinned walks link any in
+      let led = subst
+      (λ (d' : View TreeView).
+      IsLed walks link me (get_or s.words link 0) (d', me.1)) x.2 x.3 in (
         record me.0 { upper = x.0.upper },
         keeps,
         tt,
@@ -466,27 +602,38 @@ module _ (z : Sizes) where
       )
 
   -- The load of a word of a row that was shown.
-  pub reads : (slots id : ℕ) (me : MyTree) (i : ℕ) → Allows (R z) slots id me i (λ x. x) (Raises MayLoad Reads (step slots i 0 0 none) me)
-  reads slots id me i s r _ at _ = let f = r.above in let d = me.0 in let k = knows_upper z s r id d at in let us : List TreeView = map upper_of s.views in
+  pub reads : (slots id : ℕ) (me : MyTree) (i : ℕ)
+      → Allows (R z) slots id me i (λ x. x) (Raises MayLoad Reads (step slots i 0 0 none) me)
+  reads slots id me i s r _ at _ = let f = r.above in let d = me.0 in
+      let k = knows_upper z s r id d at in let us : List TreeView = map upper_of s.views in
       let first = at_map upper_of s.views id d at in
-      let read : Reads (step slots i 0 0 none) me (get_or s.words i 0) me = (refl, read_is z r.made s.words us f id d.upper k i) in (
+      let read : Reads (step slots i 0 0 none) me (get_or s.words i 0) me =
+      (refl, read_is z r.made s.words us f id d.upper k i) in (
         d,
         keeps,
         tt,
-        looked z s r i id d d.upper at (λ row n. inl n) (subst (IsTree z r.made s.words) (sym (set_again us id d.upper first)) f),
+        looked z s r i id d d.upper at
+            (λ row n. inl n) (subst (IsTree z r.made s.words) (sym (set_again us id d.upper first))
+            f),
         (refl, inr (inl read), read),
       )
 
   -- The same load, which ends a call that edits nothing.
   pub reads_last : (slots id : ℕ) (me : MyTree) (i : ℕ) (event : Event) → IsReadNow event me.0.upper
-      → Allows (R z) slots id me i (λ x. x) (Raises MayLoad (ReadsLast event) (step slots i 0 0 none) me)
-  reads_last slots id me i event now s r _ at _ = let f = r.above in let d = me.0 in let k = knows_upper z s r id d at in
+      → Allows (R z) slots id me i
+      (λ x. x) (Raises MayLoad (ReadsLast event) (step slots i 0 0 none) me)
+  reads_last slots id me i event now s r _ at _ = let f = r.above in let d = me.0 in
+      let k = knows_upper z s r id d at in
       let us : List TreeView = map upper_of s.views in
-      let first = at_map upper_of s.views id d at in let u' : TreeView = entered d.upper event in let p : ℕ = length d.upper.seen in
+      let first = at_map upper_of s.views id d at in let u' : TreeView = entered d.upper event in
+      let p : ℕ = length d.upper.seen in
       let low = starts_shorter f.history d.upper.seen k.seen_first in
-      let k' = relisted z.rows r.made s.words f.role us (set us id u') f.history id d.upper (numbered us id d.upper u' first (λ _. refl)) k in
-      let there : state f.history p ≡ after d.upper.seen [] = ap (λ h. state h p) k.seen_first.1 ∙ state_there d.upper.seen k.seen_first.0 in
-      let read : ReadsLast event (step slots i 0 0 none) me (get_or s.words i 0) (with_upper me u') = (refl, read_is z r.made s.words us f id d.upper k i) in (
+      let k' = relisted z.rows r.made s.words f.role us (set us id u') f.history id d.upper
+      (numbered us id d.upper u' first (λ _. refl)) k in
+      let there : state f.history p ≡ after d.upper.seen [] = ap (λ h. state h p) k.seen_first.1
+      ∙ state_there d.upper.seen k.seen_first.0 in
+      let read : ReadsLast event (step slots i 0 0 none) me (get_or s.words i 0)
+      (with_upper me u') = (refl, read_is z r.made s.words us f id d.upper k i) in (
         record d { upper = u' },
         keeps,
         tt,
@@ -496,7 +643,8 @@ module _ (z : Sizes) where
               alone = k'.alone;
               seen_first = k'.seen_first;
               since_first = k'.since_first;
-              lawful = read_lawful d.upper.number event f.history p d.upper.log now.0 low (subst (IsAnswer event) (sym there) now.1) k.past k.lawful;
+              lawful = read_lawful d.upper.number event f.history p d.upper.log now.0 low
+                  (subst (IsAnswer event) (sym there) now.1) k.past k.lawful;
               past = past_more p d.upper.log (event, p) k.past (omega arith);
               notes = k'.notes;
               links = k'.links;
@@ -507,16 +655,21 @@ module _ (z : Sizes) where
       )
 
   -- A load after which the seat counts otherwise, and knows what it knew.
-  pub recounted : (s : State (Unit {0}) (View TreeView)) (r : R z s) (i id : ℕ) (d : View TreeView) (counts : Counts) (lost : ℕ)
+  pub recounted : (s : State (Unit {0}) (View TreeView)) (r : R z s) (i id : ℕ) (d : View TreeView)
+      (counts : Counts) (lost : ℕ)
       → get_elem? s.views id ≡ some d
       → R z record {
         words = set s.words i (get_or s.words i 0);
         homes = s.homes;
-        views = set s.views id (record d { upper = record d.upper { counts = counts; lost = lost } });
+        views = set s.views id
+            (record d { upper = record d.upper { counts = counts; lost = lost } });
       }
-  recounted s r i id d counts lost at = let f = r.above in let us : List TreeView = map upper_of s.views in
-      let first = at_map upper_of s.views id d at in let u' : TreeView = record d.upper { counts = counts; lost = lost } in
-      let k = relisted z.rows r.made s.words f.role us (set us id u') f.history id d.upper (numbered us id d.upper u' first (λ _. refl))
+  recounted s r i id d counts lost at = let f = r.above in
+      let us : List TreeView = map upper_of s.views in
+      let first = at_map upper_of s.views id d at in
+      let u' : TreeView = record d.upper { counts = counts; lost = lost } in
+      let k = relisted z.rows r.made s.words f.role us (set us id u') f.history id d.upper
+      (numbered us id d.upper u' first (λ _. refl))
       (knows_upper z s r id d at) in
       looked z s r i id d u' at (λ row n. inl (counted_notes s.words d.upper counts lost row n))
       (seat_changed z r.made s.words us id d.upper u' f first (λ _. refl) (λ _. refl) record {
@@ -533,7 +686,8 @@ module _ (z : Sizes) where
       })
 
   -- An exchange after which the seat counts one more that was lost, and remembers no base.
-  pub loses : (s : State (Unit {0}) (View TreeView)) (r : R z s) (i id : ℕ) (d : View TreeView) → get_elem? s.views id ≡ some d
+  pub loses : (s : State (Unit {0}) (View TreeView)) (r : R z s) (i id : ℕ) (d : View TreeView)
+      → get_elem? s.views id ≡ some d
       → R z record {
         words = set s.words i (get_or s.words i 0);
         homes = s.homes;
@@ -541,7 +695,8 @@ module _ (z : Sizes) where
       }
   loses s r i id d at = let f = r.above in let us : List TreeView = map upper_of s.views in
       let first = at_map upper_of s.views id d at in let u' : TreeView = one_more_lost d.upper in
-      let k = relisted z.rows r.made s.words f.role us (set us id u') f.history id d.upper (numbered us id d.upper u' first (λ _. refl))
+      let k = relisted z.rows r.made s.words f.role us (set us id u') f.history id d.upper
+      (numbered us id d.upper u' first (λ _. refl))
       (knows_upper z s r id d at) in
       looked z s r i id d u' at (λ row n. inl (lost_notes s.words d.upper row n))
       (seat_changed z r.made s.words us id d.upper u' f first (λ _. refl) (λ _. refl) record {
@@ -558,18 +713,24 @@ module _ (z : Sizes) where
       })
 
   -- A base that a pass lists which is alone hangs under its link.
-  pub hangs_still : (s : State (Unit {0}) (View TreeView)) (r : R z s) (id : ℕ) (me : MyTree) (note : Note) → get_elem? s.views id ≡ some me.0
+  pub hangs_still : (s : State (Unit {0}) (View TreeView)) (r : R z s) (id : ℕ) (me : MyTree)
+      (note : Note) → get_elem? s.views id ≡ some me.0
       → get_or s.words note.place.link 0 ≢ note.row → IsMissed note me
   hangs_still s r id me note at miss some_rows alone i = let f = r.above in let within = r.within in
-      let same : me.0.sizes ≡ z = ⊎_elim (λ (e : me.0.sizes.rows ≡ 0). absurd (omega arith)) (λ (e : me.0.sizes ≡ z). e) (r.seat id me.0 at).sizes_are in
+      let same : me.0.sizes ≡ z = ⊎_elim (λ (e : me.0.sizes.rows ≡ 0). absurd (omega arith))
+      (λ (e : me.0.sizes ≡ z). e) (r.seat id me.0 at).sizes_are in
       let one : z.passes ≡ 1 = ap (λ (y : Sizes). y.passes) (sym same) ∙ alone.0 in
-      let whole = f.only_one id me.0.upper (at_map upper_of s.views id me.0 at) (omega arith) alone.1 in
-      let listed : IsIn (note.row, note.place) f.inventory.bases = subst (λ (y : Inventory). IsIn (note.row, note.place) y.bases) whole i in
-      miss (base_at z s.words f.role (after f.history []) f.shape note.row note.place (f.listed.bases note.row note.place listed)).under
+      let whole =
+      f.only_one id me.0.upper (at_map upper_of s.views id me.0 at) (omega arith) alone.1 in
+      let listed : IsIn (note.row, note.place) f.inventory.bases = subst
+      (λ (y : Inventory). IsIn (note.row, note.place) y.bases) whole i in
+      miss (base_at z s.words f.role (after f.history []) f.shape note.row note.place
+      (f.listed.bases note.row note.place listed)).under
 
   -- A load that ends a refused call.
   pub refuses : (slots id : ℕ) (me : MyTree) (i : ℕ) (one_more : Counts → Counts) → IsRise one_more
-      → Allows (R z) slots id me i (λ x. x) (Raises MayLoad (Refuses one_more) (step slots i 0 0 none) me)
+      → Allows (R z) slots id me i
+      (λ x. x) (Raises MayLoad (Refuses one_more) (step slots i 0 0 none) me)
   refuses slots id me i one_more rise s r _ at _ = let d = me.0 in (
     record d { upper = record d.upper { counts = one_more d.upper.counts } },
     keeps,

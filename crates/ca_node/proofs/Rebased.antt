@@ -1,4 +1,5 @@
--- One exchange of a link of the tree: what it changes in the words, and what stands of the tree's shape. By one such exchange a base takes
+-- One exchange of a link of the tree: what it changes in the words, and what stands of the tree's
+-- shape. By one such exchange a base takes
 -- the place of a base.
 use Rattle.std.proofs.Common.{◌≡◌, ◌≢◌, ◌⊎◌, ℕ, ◌+◌, ◌*◌, ◌%◌, ◌<◌, ◌≤◌, eqb, cond, List, get_or, set, sym, refl, ap, ◌∙◌, subst, inl, inr, ⊎_elim, arith, length-set, get_or-set_other, get_or-set_same}
 use Rattle.std.proofs.lemmas.Bool.Decides.{nat_tests}
@@ -27,11 +28,14 @@ pub out_no_route : (role : ℕ → Role) (row : ℕ) → role row ≡ Out → ¬
 out_no_route role row e t = some-ne-none t.0 (sym (ap place_of (sym e ∙ t.2)))
 
 -- A base is no route.
-pub base_no_route : (role : ℕ → Role) (row : ℕ) (place : Place) → role row ≡ Base place → ¬ IsRoute role row
+pub base_no_route : (role : ℕ → Role) (row : ℕ) (place : Place) → role row ≡ Base place
+    → ¬ IsRoute role row
 base_no_route role row place e t = let f : Base place ≡ Route t.0 t.1 = sym e ∙ t.2 in cc
 
--- The row is to be a base of the tree at this place: it is nothing in it yet, and its words are those of such a base.
-pub record IsNewBase (z : Sizes) (words : List ℕ) (role : ℕ → Role) (place : Place) (row : ℕ) : Type 0 where
+-- The row is to be a base of the tree at this place: it is nothing in it yet, and its words are
+-- those of such a base.
+pub record IsNewBase (z : Sizes) (words : List ℕ) (role : ℕ → Role) (place : Place)
+    (row : ℕ) : Type 0 where
   pub some_row : 0 < row
   pub in_range : row ≤ z.rows
   pub is_out : role row ≡ Out
@@ -39,50 +43,62 @@ pub record IsNewBase (z : Sizes) (words : List ℕ) (role : ℕ → Role) (place
   pub level_is : level (row_at words row) ≡ place.level
   pub few : count (row_at words row) ≤ z.leaf
   pub marked : IsMarkIn words place (row_at words row)
-  pub are_objects : (r : ℕ) → IsIn r (items (row_at words row)) → (0 < r) × (r ≤ z.rows) × IsObjectRow (row_at words r)
+  pub are_objects : (r : ℕ) → IsIn r (items (row_at words row)) → (0 < r) × (r ≤ z.rows)
+      × IsObjectRow (row_at words r)
 
 -- What is linked beside a base and its objects.
-module _ (z : Sizes) (words : List ℕ) (role : ℕ → Role) (m : StoreMap) (shape : IsShape z words role m) (old : ℕ) (place : Place)
+module _ (z : Sizes) (words : List ℕ) (role : ℕ → Role) (m : StoreMap)
+    (shape : IsShape z words role m) (old : ℕ) (place : Place)
     (is : role old ≡ Base place) where
   -- The row has another place, or is an object of another base.
   abbrev pub IsBeside : ℕ → Type 0
   IsBeside c = ((p : Place) × (place_of (role c) ≡ some p) × (c ≢ old))
-      ⊎ ((base : ℕ) × (p : Place) × (role base ≡ Base p) × (base ≢ old) × IsIn c (items (row_at words base)))
+      ⊎ ((base : ℕ) × (p : Place) × (role base ≡ Base p) × (base ≢ old)
+      × IsIn c (items (row_at words base)))
 
   -- It is linked.
   pub beside_linked : (c : ℕ) → IsBeside c → IsLinked words c
   beside_linked c b = ⊎_elim
-      (λ (t : (p : Place) × (place_of (role c) ≡ some p) × (c ≢ old)). placed_linked z words role m shape c t.0 t.1)
-      (λ (t : (base : ℕ) × (p : Place) × (role base ≡ Base p) × (base ≢ old) × IsIn c (items (row_at words base))).
+      (λ (t : (p : Place) × (place_of (role c) ≡ some p) × (c ≢ old)).
+      placed_linked z words role m shape c t.0 t.1)
+      (λ (t : (base : ℕ) × (p : Place) × (role base ≡ Base p) × (base ≢ old)
+      × IsIn c (items (row_at words base))).
       item_linked z words role m shape t.0 t.1 t.2 c t.4)
       b
 
   -- What is linked is the base, one of its objects, or beside it.
-  pub linked_was : (c : ℕ) → IsLinked words c → (c ≡ old) ⊎ (IsIn c (items (row_at words old)) ⊎ IsBeside c)
+  pub linked_was : (c : ℕ) → IsLinked words c → (c ≡ old)
+      ⊎ (IsIn c (items (row_at words old)) ⊎ IsBeside c)
   linked_was c l = ⊎_elim
       (λ (t : (p : Place) × (place_of (role c) ≡ some p)). dite (ℕ_discrete c old)
       (λ (e : c ≡ old). inl e) (λ (d : c ≢ old). inr (inr (inl (t.0, t.1, d)))))
-      (λ (t : (base : ℕ) × (p : Place) × (role base ≡ Base p) × IsIn c (items (row_at words base))). dite (ℕ_discrete t.0 old)
+      (λ (t : (base : ℕ) × (p : Place) × (role base ≡ Base p) × IsIn c (items (row_at words base))).
+      dite (ℕ_discrete t.0 old)
       (λ (e : t.0 ≡ old). inr (inl (subst (λ (y : ℕ). IsIn c (items (row_at words y))) e t.3)))
       (λ (d : t.0 ≢ old). inr (inr (inr (t.0, t.1, t.2, d, t.3)))))
       (reached z words role m shape c l)
 
   -- What is beside the base is neither the base nor one of its objects.
-  pub beside_other : (p : ℕ) → IsStoreMap p m → (c : ℕ) → IsBeside c → (c ≢ old) × ¬ IsIn c (items (row_at words old))
+  pub beside_other : (p : ℕ) → IsStoreMap p m → (c : ℕ) → IsBeside c → (c ≢ old)
+      × ¬ IsIn c (items (row_at words old))
   beside_other p is_map c b = ⊎_elim
       (λ (t : (q : Place) × (place_of (role c) ≡ some q) × (c ≢ old)). (
         t.2,
         λ i. some-ne-none t.0
             (sym t.1 ∙ ap place_of (item_out z words role m shape old place is c i)),
       ))
-      (λ (t : (base : ℕ) × (q : Place) × (role base ≡ Base q) × (base ≢ old) × IsIn c (items (row_at words base))). (
-        (λ e. let f : Base place ≡ Out = sym is ∙ (ap role (sym e) ∙ item_out z words role m shape t.0 t.1 t.2 c t.4) in cc),
-        (λ i. t.3 (named_once z words role m shape p is_map t.0 old t.1 place t.2 is t.4.0 i.0 c t.4.1 i.1).0),
+      (λ (t : (base : ℕ) × (q : Place) × (role base ≡ Base q) × (base ≢ old)
+      × IsIn c (items (row_at words base))). (
+        (λ e. let f : Base place ≡ Out = sym is
+            ∙ (ap role (sym e) ∙ item_out z words role m shape t.0 t.1 t.2 c t.4) in cc),
+        (λ i. t.3 (named_once z words role m shape p is_map t.0 old t.1 place t.2 is t.4.0 i.0 c
+            t.4.1 i.1).0),
       ))
       b
 
 -- The link of a base is exchanged: it names this row then.
-module _ (z : Sizes) (words : List ℕ) (role : ℕ → Role) (m : StoreMap) (shape : IsShape z words role m) (old : ℕ) (place : Place)
+module _ (z : Sizes) (words : List ℕ) (role : ℕ → Role) (m : StoreMap)
+    (shape : IsShape z words role m) (old : ℕ) (place : Place)
     (is : role old ≡ Base place) (row : ℕ) where
   -- the words then
   abbrev words' : List ℕ
@@ -100,55 +116,73 @@ module _ (z : Sizes) (words : List ℕ) (role : ℕ → Role) (m : StoreMap) (sh
   pub relinked_here : get_or (set words place.link row) place.link 0 ≡ row
   relinked_here = let w = shape.wide in ⊎_elim
       (λ (e : place.link ≡ 130). get_or-set_same words place.link row 0 (omega arith))
-      (λ (t : (136 < place.link) × (place.link < 136 * z.rows + 136)). let hi = t.1 in get_or-set_same words place.link row 0 (omega arith))
+      (λ (t : (136 < place.link) × (place.link < 136 * z.rows + 136)). let hi = t.1 in
+      get_or-set_same words place.link row 0 (omega arith))
       (link_range z words role m shape place.link was.is_link)
 
   -- No other word changes.
-  pub relinked_else : (i : ℕ) → i ≢ place.link → get_or (set words place.link row) i 0 ≡ get_or words i 0
+  pub relinked_else : (i : ℕ) → i ≢ place.link
+      → get_or (set words place.link row) i 0 ≡ get_or words i 0
   relinked_else i n = get_or-set_other words place.link i row 0 n
 
   -- Each row but the one that has the link keeps its words.
-  pub relinked_apart : (c : ℕ) → 0 < c → ¬ IsLinkOf c place.link → IsSameRow words (set words place.link row) c
+  pub relinked_apart : (c : ℕ) → 0 < c → ¬ IsLinkOf c place.link
+      → IsSameRow words (set words place.link row) c
   relinked_apart c lo n k l = relinked_else (136 * c + k) (λ e. ⊎_elim
       (λ (top : place.link ≡ 130). omega arith)
-      (λ (t : (route : ℕ) × (p : Place) × (key : List ℕ) × (role route ≡ Route p key) × IsLinkOf route place.link). n (⊎_elim
-      (λ (f : place.link ≡ 136 * t.0 + 1). inl (omega arith)) (λ (f : place.link ≡ 136 * t.0 + 2). inr (omega arith)) t.4))
+      (λ (t : (route : ℕ) × (p : Place) × (key : List ℕ) × (role route ≡ Route p key)
+      × IsLinkOf route place.link). n (⊎_elim
+      (λ (f : place.link ≡ 136 * t.0 + 1). inl (omega arith))
+      (λ (f : place.link ≡ 136 * t.0 + 2). inr (omega arith)) t.4))
       was.is_link)
 
   -- No word of a range changes.
-  pub relinked_ranges : (pass : ℕ) → 0 < pass → pass ≤ 64 → get_or (set words place.link row) (65 + pass) 0 ≡ get_or words (65 + pass) 0
+  pub relinked_ranges : (pass : ℕ) → 0 < pass → pass ≤ 64
+      → get_or (set words place.link row) (65 + pass) 0 ≡ get_or words (65 + pass) 0
   relinked_ranges pass lo hi = relinked_else (65 + pass) (λ e. ⊎_elim
       (λ (top : place.link ≡ 130). omega arith)
       (λ (t : (136 < place.link) × (place.link < 136 * z.rows + 136)). let far = t.0 in omega arith)
       (link_range z words role m shape place.link was.is_link))
 
   -- No join word changes.
-  pub relinked_joins : (route : ℕ) → get_or (set words place.link row) (136 * route + 3) 0 ≡ get_or words (136 * route + 3) 0
+  pub relinked_joins : (route : ℕ)
+      → get_or (set words place.link row) (136 * route + 3) 0 ≡ get_or words (136 * route + 3) 0
   relinked_joins route = relinked_else (136 * route + 3) (λ e. ⊎_elim
       (λ (top : place.link ≡ 130). omega arith)
-      (λ (t : (r : ℕ) × (p : Place) × (key : List ℕ) × (role r ≡ Route p key) × IsLinkOf r place.link). ⊎_elim
-      (λ (f : place.link ≡ 136 * t.0 + 1). omega arith) (λ (f : place.link ≡ 136 * t.0 + 2). omega arith) t.4)
+      (λ (t : (r : ℕ) × (p : Place) × (key : List ℕ) × (role r ≡ Route p key)
+      × IsLinkOf r place.link). ⊎_elim
+      (λ (f : place.link ≡ 136 * t.0 + 1). omega arith)
+      (λ (f : place.link ≡ 136 * t.0 + 2). omega arith) t.4)
       was.is_link)
 
   -- So a mark stays one,
-  pub relinked_marks : (p : Place) (its : List ℕ) → IsMarkIn words p its → IsMarkIn (set words place.link row) p its
-  relinked_marks p its = mark_stays words words' p its (λ pass lo hi. let e = relinked_ranges pass lo hi in omega arith)
+  pub relinked_marks : (p : Place) (its : List ℕ) → IsMarkIn words p its
+      → IsMarkIn (set words place.link row) p its
+  relinked_marks p its = mark_stays words words' p its
+      (λ pass lo hi. let e = relinked_ranges pass lo hi in omega arith)
       (λ route _. let e = relinked_joins route in omega arith)
 
   -- no range becomes active,
   pub relinked_quiet : (pass sequence : ℕ) → ¬ IsActive (set words place.link row) pass sequence
-  relinked_quiet pass sequence x = shape.quiet pass sequence (x.0, x.1, sym (relinked_ranges pass x.0 x.1) ∙ x.2)
+  relinked_quiet pass sequence x =
+      shape.quiet pass sequence (x.0, x.1, sym (relinked_ranges pass x.0 x.1) ∙ x.2)
 
   -- and no join gets under way.
-  pub relinked_idle : (route : ℕ) → IsIdle (row_at words route) → IsIdle (row_at (set words place.link row) route)
-  relinked_idle route idle = ap (λ n. n % 4) (word_at words' route 3 (omega arith) ∙ (relinked_joins route ∙ sym (word_at words route 3 (omega arith)))) ∙ idle
+  pub relinked_idle : (route : ℕ) → IsIdle (row_at words route)
+      → IsIdle (row_at (set words place.link row) route)
+  relinked_idle route idle = ap
+      (λ n. n % 4) (word_at words' route 3 (omega arith)
+      ∙ (relinked_joins route ∙ sym (word_at words route 3 (omega arith)))) ∙ idle
 
   -- Each row that is no route keeps its words.
-  pub relinked_keeps : (c : ℕ) → 0 < c → ¬ IsRoute role c → IsSameRow words (set words place.link row) c
+  pub relinked_keeps : (c : ℕ) → 0 < c → ¬ IsRoute role c
+      → IsSameRow words (set words place.link row) c
   relinked_keeps c lo n k l = relinked_else (136 * c + k) (λ e. ⊎_elim
       (λ (top : place.link ≡ 130). omega arith)
-      (λ (t : (route : ℕ) × (p : Place) × (key : List ℕ) × (role route ≡ Route p key) × IsLinkOf route place.link).
-      let same : t.0 ≡ c = ⊎_elim (λ (f : place.link ≡ 136 * t.0 + 1). omega arith) (λ (f : place.link ≡ 136 * t.0 + 2). omega arith) t.4 in
+      (λ (t : (route : ℕ) × (p : Place) × (key : List ℕ) × (role route ≡ Route p key)
+      × IsLinkOf route place.link).
+      let same : t.0 ≡ c = ⊎_elim (λ (f : place.link ≡ 136 * t.0 + 1). omega arith)
+      (λ (f : place.link ≡ 136 * t.0 + 2). omega arith) t.4 in
       n (t.1, t.2, sym (ap role same) ∙ t.3))
       was.is_link)
 
@@ -156,66 +190,94 @@ module _ (z : Sizes) (words : List ℕ) (role : ℕ → Role) (m : StoreMap) (sh
   pub relinked_routes : (c : ℕ) → 0 < c → IsSameButLinks words (set words place.link row) c
   relinked_routes c lo k l n n' = relinked_else (136 * c + k) (λ e. ⊎_elim
       (λ (top : place.link ≡ 130). omega arith)
-      (λ (t : (route : ℕ) × (p : Place) × (key : List ℕ) × (role route ≡ Route p key) × IsLinkOf route place.link). ⊎_elim
-      (λ (f : place.link ≡ 136 * t.0 + 1). n (omega arith)) (λ (f : place.link ≡ 136 * t.0 + 2). n' (omega arith)) t.4)
+      (λ (t : (route : ℕ) × (p : Place) × (key : List ℕ) × (role route ≡ Route p key)
+      × IsLinkOf route place.link). ⊎_elim
+      (λ (f : place.link ≡ 136 * t.0 + 1). n (omega arith))
+      (λ (f : place.link ≡ 136 * t.0 + 2). n' (omega arith)) t.4)
       was.is_link)
 
   -- A row in range that is no route spells what it spelled.
-  pub relinked_row : (c : ℕ) → 0 < c → c ≤ z.rows → ¬ IsRoute role c → row_at (set words place.link row) c ≡ row_at words c
-  relinked_row c lo hi n = row_same words words' z.rows c shape.wide relinked_wide hi (relinked_keeps c lo n)
+  pub relinked_row : (c : ℕ) → 0 < c → c ≤ z.rows → ¬ IsRoute role c
+      → row_at (set words place.link row) c ≡ row_at words c
+  relinked_row c lo hi n =
+      row_same words words' z.rows c shape.wide relinked_wide hi (relinked_keeps c lo n)
 
   -- So does an object row.
-  pub relinked_object : (c : ℕ) → 0 < c → c ≤ z.rows → form (row_at words c) ≡ 1 → row_at (set words place.link row) c ≡ row_at words c
-  relinked_object c lo hi f = relinked_row c lo hi (out_no_route role c (object_out z words role m shape c f))
+  pub relinked_object : (c : ℕ) → 0 < c → c ≤ z.rows → form (row_at words c) ≡ 1
+      → row_at (set words place.link row) c ≡ row_at words c
+  relinked_object c lo hi f =
+      relinked_row c lo hi (out_no_route role c (object_out z words role m shape c f))
 
   -- What has another row's place has another link.
   other_link : (c : ℕ) (p : Place) → place_of (role c) ≡ some p → c ≢ old → p.link ≢ place.link
-  other_link c p e n same = n (sym (hung z words role m shape c p e).0 ∙ (ap (λ (i : ℕ). get_or words i 0) same ∙ was.under))
+  other_link c p e n same =
+      n (sym (hung z words role m shape c p e).0
+      ∙ (ap (λ (i : ℕ). get_or words i 0) same ∙ was.under))
 
-  -- The row takes the base's place under other roles, which are the same elsewhere, with a map that has the same for each other base.
+  -- The row takes the base's place under other roles, which are the same elsewhere, with a map that
+  -- has the same for each other base.
   module _ (role' : ℕ → Role) (n : StoreMap) (fills : place_of (role' row) ≡ some place)
       (still : (c : ℕ) (p : Place) → place_of (role c) ≡ some p → c ≢ old → role' c ≡ role c)
-      (parts : (c : ℕ) (p : Place) → role c ≡ Base p → c ≢ old → part p.span n ≡ part p.span m) where
+      (parts : (c : ℕ) (p : Place) → role c ≡ Base p → c ≢ old
+      → part p.span n ≡ part p.span m) where
     -- The links of the tree are links of it.
     pub link_still : (link : ℕ) → IsLink role link → IsLink role' link
     link_still link h = ⊎_elim
         (λ (e : link ≡ 130). inl e)
-        (λ (t : (route : ℕ) × (p : Place) × (key : List ℕ) × (role route ≡ Route p key) × IsLinkOf route link).
-        let other : t.0 ≢ old = λ e. base_no_route role old place is (t.1, t.2, sym (ap role e) ∙ t.3) in
+        (λ (t : (route : ℕ) × (p : Place) × (key : List ℕ) × (role route ≡ Route p key)
+        × IsLinkOf route link).
+        let other : t.0 ≢ old = λ e.
+        base_no_route role old place is (t.1, t.2, sym (ap role e) ∙ t.3) in
         inr (t.0, t.1, t.2, still t.0 t.1 (ap place_of t.3) other ∙ t.3, t.4))
         h
 
     -- They lead where they led.
-    pub lead_still : (link least : ℕ) (span : Span) → LeadsTo words role link least span → LeadsTo (set words place.link row) role' link least span
+    pub lead_still : (link least : ℕ) (span : Span) → LeadsTo words role link least span
+        → LeadsTo (set words place.link row) role' link least span
     lead_still link least span l = let spot = led_to words role link least span l in record {
       level = l.level;
       greater = l.greater;
       hangs = dite (ℕ_discrete link place.link)
-          (λ (e : link ≡ place.link). let same : place ≡ spot = some-injective place spot (sym (ap place_of is)
-          ∙ (ap (λ (c : ℕ). place_of (role c)) (sym was.under ∙ ap (λ (i : ℕ). get_or words i 0) (sym e)) ∙ l.hangs)) in
-          ap (λ (c : ℕ). place_of (role' c)) (ap (λ (i : ℕ). get_or words' i 0) e ∙ relinked_here) ∙ (fills ∙ ap some same))
-          (λ (d : link ≢ place.link). let other : get_or words link 0 ≢ old = λ e. d (ap (λ (p : Place). p.link)
-          (some-injective spot place (sym l.hangs ∙ (ap (λ (c : ℕ). place_of (role c)) e ∙ ap place_of is)))) in
-          ap (λ (c : ℕ). place_of (role' c)) (relinked_else link d) ∙ (ap place_of (still (get_or words link 0) spot l.hangs other) ∙ l.hangs));
+          (λ (e : link ≡ place.link).
+          let same : place ≡ spot = some-injective place spot (sym (ap place_of is)
+          ∙ (ap (λ (c : ℕ). place_of (role c)) (sym was.under
+          ∙ ap (λ (i : ℕ). get_or words i 0) (sym e)) ∙ l.hangs)) in
+          ap (λ (c : ℕ). place_of (role' c)) (ap (λ (i : ℕ). get_or words' i 0) e ∙ relinked_here)
+          ∙ (fills ∙ ap some same))
+          (λ (d : link ≢ place.link).
+          let other : get_or words link 0 ≢ old = λ e. d (ap (λ (p : Place). p.link)
+          (some-injective spot place (sym l.hangs
+          ∙ (ap (λ (c : ℕ). place_of (role c)) e ∙ ap place_of is)))) in
+          ap (λ (c : ℕ). place_of (role' c)) (relinked_else link d)
+          ∙ (ap place_of (still (get_or words link 0) spot l.hangs other) ∙ l.hangs));
     }
 
     -- Each other row is what it was.
-    pub row_still : (c : ℕ) → c ≢ old → (o : Role) → role c ≡ o → IsSo z words role m c o → IsSo z (set words place.link row) role' n c o
+    pub row_still : (c : ℕ) → c ≢ old → (o : Role) → role c ≡ o → IsSo z words role m c o
+        → IsSo z (set words place.link row) role' n c o
     row_still c d Out e s = tt
     row_still c d (Base p) e s = base_stands z words words' role role' m n p c s
         (relinked_row c s.some_row s.in_range (base_no_route role c p e))
         (λ r i. let o = s.are_objects r i in relinked_object r o.0 o.1 o.2.0)
-        (relinked_else p.link (other_link c p (ap place_of e) d) ∙ s.under) (link_still p.link s.is_link) (parts c p e d)
+        (relinked_else p.link (other_link c p (ap place_of e) d)
+        ∙ s.under) (link_still p.link s.is_link) (parts c p e d)
         (relinked_marks p (row_at words c))
-    row_still c d (Route p key) e s = route_stands z words words' role role' p key c s shape.wide relinked_wide (relinked_routes c s.some_row)
-        (relinked_else p.link (other_link c p (ap place_of e) d) ∙ s.under) (link_still p.link s.is_link) (shape.idle c p key e)
+    row_still c d (Route p key) e s =
+        route_stands z words words' role role' p key c s shape.wide relinked_wide
+        (relinked_routes c s.some_row)
+        (relinked_else p.link (other_link c p (ap place_of e) d)
+        ∙ s.under) (link_still p.link s.is_link) (shape.idle c p key e)
         (lead_still (136 * c + 1) (p.level + 1) (left_of key p.span) s.left)
         (lead_still (136 * c + 2) (p.level + 1) (right_of key p.span) s.right)
 
-    -- A row that is to be a base is one at the place of a link that names it, if it has what the map has there.
-    pub base_comes : (c : ℕ) (p : Place) → IsNewBase z words role p c → get_or (set words place.link row) p.link 0 ≡ c → IsLink role' p.link
-        → p.level ≤ z.levels → objects_in words c ≡ part p.span n → IsBaseAt z (set words place.link row) role' n p c
-    base_comes c p b under link deep has = let e = relinked_row c b.some_row b.in_range (out_no_route role c b.is_out) in
+    -- A row that is to be a base is one at the place of a link that names it, if it has what the
+    -- map has there.
+    pub base_comes : (c : ℕ) (p : Place) → IsNewBase z words role p c
+        → get_or (set words place.link row) p.link 0 ≡ c → IsLink role' p.link
+        → p.level ≤ z.levels → objects_in words c ≡ part p.span n
+        → IsBaseAt z (set words place.link row) role' n p c
+    base_comes c p b under link deep has =
+        let e = relinked_row c b.some_row b.in_range (out_no_route role c b.is_out) in
         let same : (r : ℕ) → IsIn r (items (row_at words c)) → row_at words' r ≡ row_at words r
         = λ r i. let o = b.are_objects r i in relinked_object r o.0 o.1 o.2.0 in record {
           some_row = b.some_row;
@@ -226,31 +288,39 @@ module _ (z : Sizes) (words : List ℕ) (role : ℕ → Role) (m : StoreMap) (sh
           is_base = subst IsBaseRow (sym e) b.is_base;
           level_is = subst (λ its. level its ≡ p.level) (sym e) b.level_is;
           few = subst (λ its. count its ≤ z.leaf) (sym e) b.few;
-          marked = subst (IsMarkIn (set words place.link row) p) (sym e) (relinked_marks p (row_at words c) b.marked);
-          are_objects = λ r i. let i' = subst (λ its. IsIn r (items its)) e i in let o = b.are_objects r i' in
+          marked = subst (IsMarkIn (set words place.link row) p) (sym e)
+              (relinked_marks p (row_at words c) b.marked);
+          are_objects = λ r i. let i' = subst (λ its. IsIn r (items its)) e i in
+              let o = b.are_objects r i' in
               (o.0, o.1, subst IsObjectRow (sym (same r i')) o.2);
           has = objects_same words words' c e same ∙ has;
         }
 
 -- the roles where a base takes the place of another one
 abbrev pub with_base : (ℕ → Role) → Place → ℕ → ℕ → ℕ → Role
-with_base role place old new row = cond (eqb row new) (Base place) (cond (eqb row old) Out (role row))
+with_base role place old new row =
+    cond (eqb row new) (Base place) (cond (eqb row old) Out (role row))
 
 -- The new row is the base there.
-pub with_base_new : (role : ℕ → Role) (place : Place) (old new : ℕ) → with_base role place old new new ≡ Base place
+pub with_base_new : (role : ℕ → Role) (place : Place) (old new : ℕ)
+    → with_base role place old new new ≡ Base place
 with_base_new role place old new = grind (arith, nat_tests)
 
 -- The old one is nothing.
-pub with_base_old : (role : ℕ → Role) (place : Place) (old new : ℕ) → old ≢ new → with_base role place old new old ≡ Out
+pub with_base_old : (role : ℕ → Role) (place : Place) (old new : ℕ) → old ≢ new
+    → with_base role place old new old ≡ Out
 with_base_old role place old new n = grind (arith, nat_tests)
 
 -- Each other row is what it was.
-pub with_base_else : (role : ℕ → Role) (place : Place) (old new row : ℕ) → row ≢ new → row ≢ old → with_base role place old new row ≡ role row
+pub with_base_else : (role : ℕ → Role) (place : Place) (old new row : ℕ) → row ≢ new → row ≢ old
+    → with_base role place old new row ≡ role row
 with_base_else role place old new row n n' = grind (arith, nat_tests)
 
 -- A base takes the place of a base.
-module _ (z : Sizes) (words : List ℕ) (role : ℕ → Role) (m : StoreMap) (shape : IsShape z words role m) (old : ℕ) (place : Place)
-    (is : role old ≡ Base place) (new : ℕ) (b : IsNewBase z words role place new) (n : StoreMap) (has : objects_in words new ≡ part place.span n)
+module _ (z : Sizes) (words : List ℕ) (role : ℕ → Role) (m : StoreMap)
+    (shape : IsShape z words role m) (old : ℕ) (place : Place)
+    (is : role old ≡ Base place) (new : ℕ) (b : IsNewBase z words role place new) (n : StoreMap)
+    (has : objects_in words new ≡ part place.span n)
     (parts : (c : ℕ) (p : Place) → role c ≡ Base p → c ≢ old → part p.span n ≡ part p.span m) where
   -- the roles then
   abbrev roles : ℕ → Role
@@ -262,7 +332,8 @@ module _ (z : Sizes) (words : List ℕ) (role : ℕ → Role) (m : StoreMap) (sh
 
   -- What had another place keeps its role.
   keeps : (c : ℕ) (p : Place) → place_of (role c) ≡ some p → c ≢ old → roles c ≡ role c
-  keeps c p e d = with_base_else role place old new c (λ f. some-ne-none p (sym e ∙ (ap (λ (y : ℕ). place_of (role y)) f ∙ ap place_of b.is_out))) d
+  keeps c p e d = with_base_else role place old new c
+      (λ f. some-ne-none p (sym e ∙ (ap (λ (y : ℕ). place_of (role y)) f ∙ ap place_of b.is_out))) d
 
   -- The new base has the old one's place.
   fills : place_of (roles new) ≡ some place
@@ -271,47 +342,67 @@ module _ (z : Sizes) (words : List ℕ) (role : ℕ → Role) (m : StoreMap) (sh
   -- Each row is what its role says.
   so : (c : ℕ) → IsSo z (set words place.link new) roles n c (roles c)
   so c = dite (ℕ_discrete c new)
-      (λ (e : c ≡ new). subst (IsSo z (set words place.link new) roles n c) (sym (ap roles e ∙ with_base_new role place old new))
+      (λ (e : c ≡ new).
+      subst (IsSo z (set words place.link new) roles n c) (sym (ap roles e
+      ∙ with_base_new role place old new))
       (subst (λ (y : ℕ). IsBaseAt z (set words place.link new) roles n place y) (sym e)
-      (base_comes z words role m shape old place is new roles n fills keeps parts new place b (relinked_here z words role m shape old place is new)
-      (link_still z words role m shape old place is new roles n fills keeps parts place.link (base_at z words role m shape old place is).is_link)
+      (base_comes z words role m shape old place is new roles n fills keeps parts new place b
+      (relinked_here z words role m shape old place is new)
+      (link_still z words role m shape old place is new roles n fills keeps parts place.link
+      (base_at z words role m shape old place is).is_link)
       (base_at z words role m shape old place is).deep has)))
       (λ (d : c ≢ new). dite (ℕ_discrete c old)
-      (λ (e : c ≡ old). subst (IsSo z (set words place.link new) roles n c) (sym (ap roles e ∙ with_base_old role place old new rebased_other)) tt)
-      (λ (d' : c ≢ old). subst (IsSo z (set words place.link new) roles n c) (sym (with_base_else role place old new c d d'))
-      (row_still z words role m shape old place is new roles n fills keeps parts c d' (role c) refl (shape.each_row c))))
+      (λ (e : c ≡ old).
+      subst (IsSo z (set words place.link new) roles n c) (sym (ap roles e
+      ∙ with_base_old role place old new rebased_other)) tt)
+      (λ (d' : c ≢ old).
+      subst (IsSo z (set words place.link new) roles n c)
+      (sym (with_base_else role place old new c d d'))
+      (row_still z words role m shape old place is new roles n fills keeps parts c d' (role c) refl
+      (shape.each_row c))))
 
   -- A base of the new tree stands for one of the old tree, at the same place.
   stood : (c : ℕ) (p : Place) → roles c ≡ Base p
       → ((c ≡ new) × (role old ≡ Base p)) ⊎ ((c ≢ old) × (role c ≡ Base p))
   stood c p e = dite (ℕ_discrete c new)
-      (λ (f : c ≡ new). inl (f, is ∙ (sym (with_base_new role place old new) ∙ (ap roles (sym f) ∙ e))))
+      (λ (f : c ≡ new). inl (
+        f,
+        is
+            ∙ (sym (with_base_new role place old new) ∙ (ap roles (sym f) ∙ e)),
+      ))
       (λ (d : c ≢ new). dite (ℕ_discrete c old)
-      (λ (f : c ≡ old). let g : Out ≡ Base p = sym (with_base_old role place old new rebased_other) ∙ (ap roles (sym f) ∙ e) in cc)
+      (λ (f : c ≡ old). let g : Out ≡ Base p = sym (with_base_old role place old new rebased_other)
+      ∙ (ap roles (sym f) ∙ e) in cc)
       (λ (d' : c ≢ old). inr (d', sym (with_base_else role place old new c d d') ∙ e)))
 
   -- A base spells what it spelled.
-  base_row : (c : ℕ) (p : Place) → role c ≡ Base p → row_at (set words place.link new) c ≡ row_at words c
+  base_row : (c : ℕ) (p : Place) → role c ≡ Base p
+      → row_at (set words place.link new) c ≡ row_at words c
   base_row c p e = let at = base_at z words role m shape c p e in
-      relinked_row z words role m shape old place is new c at.some_row at.in_range (base_no_route role c p e)
+      relinked_row z words role m shape old place is new c at.some_row at.in_range
+      (base_no_route role c p e)
 
   -- A route is one of the old tree.
   route_was : (c : ℕ) (p : Place) (key : List ℕ) → roles c ≡ Route p key → role c ≡ Route p key
   route_was c p key e = dite (ℕ_discrete c new)
-      (λ (f : c ≡ new). let g : Base place ≡ Route p key = sym (with_base_new role place old new) ∙ (ap roles (sym f) ∙ e) in cc)
+      (λ (f : c ≡ new). let g : Base place ≡ Route p key = sym (with_base_new role place old new)
+      ∙ (ap roles (sym f) ∙ e) in cc)
       (λ (d : c ≢ new). dite (ℕ_discrete c old)
-      (λ (f : c ≡ old). let g : Out ≡ Route p key = sym (with_base_old role place old new rebased_other) ∙ (ap roles (sym f) ∙ e) in cc)
+      (λ (f : c ≡ old). let g : Out ≡ Route p key =
+      sym (with_base_old role place old new rebased_other) ∙ (ap roles (sym f) ∙ e) in cc)
       (λ (d' : c ≢ old). sym (with_base_else role place old new c d d') ∙ e))
 
   -- No key is led to two bases.
-  alone : (c d : ℕ) (p q : Place) (key : List ℕ) → roles c ≡ Base p → roles d ≡ Base q → HasKey p.span key → HasKey q.span key → c ≡ d
+  alone : (c d : ℕ) (p q : Place) (key : List ℕ) → roles c ≡ Base p → roles d ≡ Base q
+      → HasKey p.span key → HasKey q.span key → c ≡ d
   alone c d p q key e f h k = ⊎_elim
       (λ (s : (c ≡ new) × (role old ≡ Base p)). ⊎_elim
       (λ (t : (d ≡ new) × (role old ≡ Base q)). s.0 ∙ sym t.0)
       (λ (t : (d ≢ old) × (role d ≡ Base q)). absurd (t.0 (shape.apart d old q p key t.1 s.1 k h)))
       (stood d q f))
       (λ (s : (c ≢ old) × (role c ≡ Base p)). ⊎_elim
-      (λ (t : (d ≡ new) × (role old ≡ Base q)). absurd (s.0 (shape.apart c old p q key s.1 t.1 h k)))
+      (λ (t : (d ≡ new) × (role old ≡ Base q)).
+      absurd (s.0 (shape.apart c old p q key s.1 t.1 h k)))
       (λ (t : (d ≢ old) × (role d ≡ Base q)). shape.apart c d p q key s.1 t.1 h k)
       (stood d q f))
       (stood c p e)
@@ -320,26 +411,39 @@ module _ (z : Sizes) (words : List ℕ) (role : ℕ → Role) (m : StoreMap) (sh
   pub shape_rebased : IsShape z (set words place.link new) (with_base role place old new) n
   shape_rebased = record {
     wide = relinked_wide z words role m shape old place is new;
-    top = lead_still z words role m shape old place is new roles n fills keeps parts 130 0 all_keys shape.top;
+    top = lead_still z words role m shape old place is new roles n fills keeps parts 130 0 all_keys
+        shape.top;
     each_row = so;
     apart = alone;
     quiet = relinked_quiet z words role m shape old place is new;
-    idle = λ c p key e. relinked_idle z words role m shape old place is new c (shape.idle c p key (route_was c p key e));
+    idle = λ c p key e.
+        relinked_idle z words role m shape old place is new c
+        (shape.idle c p key (route_was c p key e));
   }
 
-  -- What is linked then is the new base, one of its objects, or what was linked beside the old base.
+  -- What is linked then is the new base, one of its objects, or what was linked beside the old
+  -- base.
   pub linked_rebased : (c : ℕ) → IsLinked (set words place.link new) c
-      → (c ≡ new) ⊎ (IsIn c (items (row_at words new)) ⊎ IsBeside z words role m shape old place is c)
+      → (c ≡ new) ⊎ (IsIn c (items (row_at words new))
+      ⊎ IsBeside z words role m shape old place is c)
   linked_rebased c l = ⊎_elim
       (λ (t : (p : Place) × (place_of (roles c) ≡ some p)). dite (ℕ_discrete c new)
       (λ (e : c ≡ new). inl e)
       (λ (d : c ≢ new). dite (ℕ_discrete c old)
       (λ (e : c ≡ old). absurd (some-ne-none t.0 (sym t.1 ∙ (ap (λ (y : ℕ). place_of (roles y)) e
       ∙ ap place_of (with_base_old role place old new rebased_other)))))
-      (λ (d' : c ≢ old). inr (inr (inl (t.0, sym (ap place_of (with_base_else role place old new c d d')) ∙ t.1, d'))))))
-      (λ (t : (base : ℕ) × (p : Place) × (roles base ≡ Base p) × IsIn c (items (row_at (set words place.link new) base))). ⊎_elim
+      (λ (d' : c ≢ old).
+      inr (inr (inl (
+        t.0,
+        sym (ap place_of (with_base_else role place old new c d d')) ∙ t.1,
+        d',
+      ))))))
+      (λ (t : (base : ℕ) × (p : Place) × (roles base ≡ Base p)
+      × IsIn c (items (row_at (set words place.link new) base))). ⊎_elim
       (λ (y : (t.0 ≡ new) × (role old ≡ Base t.1)). inr (inl (subst (λ ws. IsIn c (items ws))
-      (ap (row_at (set words place.link new)) y.0 ∙ relinked_row z words role m shape old place is new new b.some_row b.in_range (out_no_route role new b.is_out)) t.3)))
+      (ap (row_at (set words place.link new)) y.0
+      ∙ relinked_row z words role m shape old place is new new b.some_row b.in_range
+      (out_no_route role new b.is_out)) t.3)))
       (λ (y : (t.0 ≢ old) × (role t.0 ≡ Base t.1)). inr (inr (inr (
         t.0,
         t.1,
@@ -352,12 +456,16 @@ module _ (z : Sizes) (words : List ℕ) (role : ℕ → Role) (m : StoreMap) (sh
       (reached z (set words place.link new) roles n shape_rebased c l)
 
   -- What is beside the old base is linked then.
-  pub beside_rebased : (c : ℕ) → IsBeside z words role m shape old place is c → IsLinked (set words place.link new) c
+  pub beside_rebased : (c : ℕ) → IsBeside z words role m shape old place is c
+      → IsLinked (set words place.link new) c
   beside_rebased c y = ⊎_elim
-      (λ (t : (p : Place) × (place_of (role c) ≡ some p) × (c ≢ old)). placed_linked z (set words place.link new) roles n shape_rebased c t.0
+      (λ (t : (p : Place) × (place_of (role c) ≡ some p) × (c ≢ old)).
+      placed_linked z (set words place.link new) roles n shape_rebased c t.0
       (ap place_of (keeps c t.0 t.1 t.2) ∙ t.1))
-      (λ (t : (base : ℕ) × (p : Place) × (role base ≡ Base p) × (base ≢ old) × IsIn c (items (row_at words base))).
-      item_linked z (set words place.link new) roles n shape_rebased t.0 t.1 (keeps t.0 t.1 (ap place_of t.2) t.3 ∙ t.2) c
+      (λ (t : (base : ℕ) × (p : Place) × (role base ≡ Base p) × (base ≢ old)
+      × IsIn c (items (row_at words base))).
+      item_linked z (set words place.link new) roles n shape_rebased t.0 t.1
+      (keeps t.0 t.1 (ap place_of t.2) t.3 ∙ t.2) c
       (subst (λ ws. IsIn c (items ws)) (sym (base_row t.0 t.1 t.2)) t.4))
       y
 
@@ -366,6 +474,11 @@ module _ (z : Sizes) (words : List ℕ) (role : ℕ → Role) (m : StoreMap) (sh
   new_rebased = placed_linked z (set words place.link new) roles n shape_rebased new place fills
 
   -- So are its objects.
-  pub item_rebased : (c : ℕ) → IsIn c (items (row_at words new)) → IsLinked (set words place.link new) c
-  item_rebased c i = item_linked z (set words place.link new) roles n shape_rebased new place (with_base_new role place old new) c
-      (subst (λ ws. IsIn c (items ws)) (sym (relinked_row z words role m shape old place is new new b.some_row b.in_range (out_no_route role new b.is_out))) i)
+  pub item_rebased : (c : ℕ) → IsIn c (items (row_at words new))
+      → IsLinked (set words place.link new) c
+  item_rebased c i =
+      item_linked z (set words place.link new) roles n shape_rebased new place
+      (with_base_new role place old new) c
+      (subst (λ ws. IsIn c (items ws))
+      (sym (relinked_row z words role m shape old place is new new b.some_row b.in_range
+      (out_no_route role new b.is_out))) i)

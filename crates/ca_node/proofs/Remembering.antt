@@ -14,33 +14,54 @@ use Rattle.ca_node.specs.TreeView.{Note, Way, TreeView}
 use Rattle.ca_node.proofs.Rebased.{IsRoute, base_no_route, out_no_route, relinked_row, relinked_object, relinked_routes}
 
 -- A link that a seat remembers leads somewhere.
-pub remembered_leads : (z : Sizes) (words : List ℕ) (role : ℕ → Role) (m : StoreMap) → IsShape z words role m → (u : TreeView)
+pub remembered_leads : (z : Sizes) (words : List ℕ) (role : ℕ → Role) (m : StoreMap)
+    → IsShape z words role m → (u : TreeView)
     → ((way : Way) → IsIn way u.ways → IsTrueWay words role way) → (link : ℕ) → IsLinkOfView u link
     → (place : Place) × (place.link ≡ link) × (place_of (role (get_or words link 0)) ≡ some place)
 remembered_leads z words role m shape u ways link known = ⊎_elim
-    (λ (e : link ≡ 130). (led_to words role 130 _ _ shape.top, sym e, ap (λ (i : ℕ). place_of (role (get_or words i 0))) e ∙ shape.top.hangs))
-    (λ t. let r = route_at z words role m shape t.0.row t.0.place (route_key t.0.its) (ways t.0 t.1).stands in ⊎_elim
-    (λ (e : link ≡ 136 * t.0.row + 1). (led_to words role (136 * t.0.row + 1) _ _ r.left, sym e, ap (λ (i : ℕ). place_of (role (get_or words i 0))) e ∙ r.left.hangs))
-    (λ (e : link ≡ 136 * t.0.row + 2). (led_to words role (136 * t.0.row + 2) _ _ r.right, sym e, ap (λ (i : ℕ). place_of (role (get_or words i 0))) e ∙ r.right.hangs))
+    (λ (e : link ≡ 130). (
+      led_to words role 130 _ _ shape.top,
+      sym e,
+      ap (λ (i : ℕ). place_of (role (get_or words i 0))) e ∙ shape.top.hangs,
+    ))
+    (λ t. let r =
+    route_at z words role m shape t.0.row t.0.place (route_key t.0.its) (ways t.0 t.1).stands in
+    ⊎_elim
+    (λ (e : link ≡ 136 * t.0.row + 1). (
+      led_to words role (136 * t.0.row + 1) _ _ r.left,
+      sym e,
+      ap (λ (i : ℕ). place_of (role (get_or words i 0))) e ∙ r.left.hangs,
+    ))
+    (λ (e : link ≡ 136 * t.0.row + 2). (
+      led_to words role (136 * t.0.row + 2) _ _ r.right,
+      sym e,
+      ap (λ (i : ℕ). place_of (role (get_or words i 0))) e ∙ r.right.hangs,
+    ))
     t.2)
     known
 
 -- A row that is nothing the root link reaches is nothing in the tree.
-pub unlinked_out : (z : Sizes) (words : List ℕ) (role : ℕ → Role) (m : StoreMap) → IsShape z words role m → (row : ℕ) → ¬ IsLinked words row
+pub unlinked_out : (z : Sizes) (words : List ℕ) (role : ℕ → Role) (m : StoreMap)
+    → IsShape z words role m → (row : ℕ) → ¬ IsLinked words row
     → role row ≡ Out
 unlinked_out z words role m shape row n = by (role row) refl
   where
     by : (is : Role) → role row ≡ is → role row ≡ Out
     by Out e = e
     by (Base place) e = absurd (n (placed_linked z words role m shape row place (ap place_of e)))
-    by (Route place key) e = absurd (n (placed_linked z words role m shape row place (ap place_of e)))
+    by (Route place key) e =
+        absurd (n (placed_linked z words role m shape row place (ap place_of e)))
 
--- The link of the base `old` is exchanged, after which the rows have other roles: routes stay, a base stays or goes, and what is nothing stays so,
+-- The link of the base `old` is exchanged, after which the rows have other roles: routes stay, a
+-- base stays or goes, and what is nothing stays so,
 -- but for rows that come.
-module _ (z : Sizes) (words : List ℕ) (role : ℕ → Role) (m : StoreMap) (shape : IsShape z words role m) (old : ℕ) (place : Place)
-    (is : role old ≡ Base place) (row : ℕ) (role' : ℕ → Role) (n : StoreMap) (shape' : IsShape z (set words place.link row) role' n)
+module _ (z : Sizes) (words : List ℕ) (role : ℕ → Role) (m : StoreMap)
+    (shape : IsShape z words role m) (old : ℕ) (place : Place)
+    (is : role old ≡ Base place) (row : ℕ) (role' : ℕ → Role) (n : StoreMap)
+    (shape' : IsShape z (set words place.link row) role' n)
     (comes : ℕ → Type 0)
-    (routes_stay : (c : ℕ) (p : Place) (key : List ℕ) → role c ≡ Route p key → role' c ≡ Route p key)
+    (routes_stay : (c : ℕ) (p : Place) (key : List ℕ) → role c ≡ Route p key
+    → role' c ≡ Route p key)
     (bases_stay : (c : ℕ) (p : Place) → role c ≡ Base p → (role' c ≡ Base p) ⊎ (role' c ≡ Out))
     (outs_stay : (c : ℕ) → role c ≡ Out → ¬ comes c → role' c ≡ Out) where
   abbrev words' : List ℕ
@@ -49,47 +70,65 @@ module _ (z : Sizes) (words : List ℕ) (role : ℕ → Role) (m : StoreMap) (sh
   -- What a seat remembers that has no note on a row that comes.
   module _ (u : TreeView) (unnoted : (c : ℕ) → comes c → ¬ IsNoted words u c) where
     -- A note of it says what is so still.
-    pub note_stays : (note : Note) → IsIn note u.notes → IsTrue z.rows words role note → IsTrue z.rows (set words place.link row) role' note
+    pub note_stays : (note : Note) → IsIn note u.notes → IsTrue z.rows words role note
+        → IsTrue z.rows (set words place.link row) role' note
     note_stays note i t = record {
       some_row = t.some_row;
       in_range = t.in_range;
-      spells = relinked_row z words role m shape old place is row note.row t.some_row t.in_range no_route ∙ t.spells;
-      named = λ b r j. let o = t.named b r j in (o.0, o.1, subst IsObjectRow (sym (object_stays b r j)) o.2);
-      objects_are = λ b. map_same (λ r. row_at words' r) (λ r. row_at words r) (items note.its) (object_stays b) ∙ t.objects_are b;
+      spells = relinked_row z words role m shape old place is row note.row t.some_row t.in_range
+          no_route ∙ t.spells;
+      named = λ b r j. let o = t.named b r j in
+          (o.0, o.1, subst IsObjectRow (sym (object_stays b r j)) o.2);
+      objects_are = λ b. map_same (λ r. row_at words' r)
+          (λ r. row_at words r) (items note.its) (object_stays b) ∙ t.objects_are b;
       stands = ⊎_elim
           (λ (e : role note.row ≡ Base note.place). bases_stay note.row note.place e)
-          (λ (e : role note.row ≡ Out). inr (outs_stay note.row e (λ c. unnoted note.row c (by_note note note.row i refl))))
+          (λ (e : role note.row ≡ Out). inr (outs_stay note.row e
+          (λ c. unnoted note.row c (by_note note note.row i refl))))
           t.stands;
     }
       where
         no_route : ¬ IsRoute role note.row
-        no_route = ⊎_elim (λ (e : role note.row ≡ Base note.place). base_no_route role note.row note.place e)
+        no_route = ⊎_elim
+            (λ (e : role note.row ≡ Base note.place). base_no_route role note.row note.place e)
             (λ (e : role note.row ≡ Out). out_no_route role note.row e) t.stands
 
-        object_stays : IsBaseRow note.its → (r : ℕ) → IsIn r (items note.its) → row_at words' r ≡ row_at words r
-        object_stays b r j = let o = t.named b r j in relinked_object z words role m shape old place is row r o.0 o.1 o.2.0
+        object_stays : IsBaseRow note.its → (r : ℕ) → IsIn r (items note.its)
+            → row_at words' r ≡ row_at words r
+        object_stays b r j = let o = t.named b r j in
+            relinked_object z words role m shape old place is row r o.0 o.1 o.2.0
 
     -- A route that it remembers is as it was.
-    pub way_stays : (way : Way) → IsIn way u.ways → IsTrueWay words role way → IsTrueWay (set words place.link row) role' way
+    pub way_stays : (way : Way) → IsIn way u.ways → IsTrueWay words role way
+        → IsTrueWay (set words place.link row) role' way
     way_stays way i t = record {
       stands = routes_stay way.row way.place (route_key way.its) t.stands;
       spells = λ index fixed. relinked_routes z words role m shape old place is row way.row
-          (route_at z words role m shape way.row way.place (route_key way.its) t.stands).some_row index fixed.0 fixed.1 fixed.2 ∙ t.spells index fixed;
+          (route_at z words role m shape way.row way.place (route_key way.its) t.stands).some_row
+          index fixed.0 fixed.1 fixed.2 ∙ t.spells index fixed;
     }
 
     -- What a link of such a route names is linked.
-    under_linked : ((way : Way) → IsIn way u.ways → IsTrueWay words role way) → (way : Way) → IsIn way u.ways → (c : ℕ)
+    under_linked : ((way : Way) → IsIn way u.ways → IsTrueWay words role way) → (way : Way)
+        → IsIn way u.ways → (c : ℕ)
         → IsUnder (set words place.link row) way.row c → IsLinked (set words place.link row) c
-    under_linked ways way i c under = let e = routes_stay way.row way.place (route_key way.its) (ways way i).stands in
+    under_linked ways way i c under =
+        let e = routes_stay way.row way.place (route_key way.its) (ways way i).stands in
         by_route way.row c (placed_linked z words' role' n shape' way.row way.place (ap place_of e))
         (route_at z words' role' n shape' way.row way.place (route_key way.its) e).is_route under
 
     -- What it has a note on now is what it had one on, or is linked; and then it had some note.
-    pub notes_stay : ((way : Way) → IsIn way u.ways → IsTrueWay words role way) → (c : ℕ) → IsNoted (set words place.link row) u c
-        → IsNoted words u c ⊎ (IsLinked (set words place.link row) c × ((d : ℕ) × IsNoted words u d))
+    pub notes_stay : ((way : Way) → IsIn way u.ways → IsTrueWay words role way) → (c : ℕ)
+        → IsNoted (set words place.link row) u c
+        → IsNoted words u c ⊎ (IsLinked (set words place.link row) c
+        × ((d : ℕ) × IsNoted words u d))
     notes_stay ways _ (by_note note c i e) = inl (by_note note c i e)
     notes_stay ways _ (by_item note c i b k) = inl (by_item note c i b k)
     notes_stay ways _ (by_way way c i e) = inl (by_way way c i e)
-    notes_stay ways _ (by_link way c i under) = inr (under_linked ways way i c under, (way.row, by_way way way.row i refl))
+    notes_stay ways _ (by_link way c i under) =
+        inr (under_linked ways way i c under, (way.row, by_way way way.row i refl))
     notes_stay ways _ (by_link_item way base c i under b k) =
-        inr (by_base base c (under_linked ways way i base under) b k, (way.row, by_way way way.row i refl))
+        inr (
+          by_base base c (under_linked ways way i base under) b k,
+          (way.row, by_way way way.row i refl),
+        )

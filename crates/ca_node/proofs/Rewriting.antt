@@ -1,4 +1,5 @@
--- An exchange of a base that carries out no edit: the new base has the objects of the old one. A mark of a range or of a join comes by such an exchange.
+-- An exchange of a base that carries out no edit: the new base has the objects of the old one. A
+-- mark of a range or of a join comes by such an exchange.
 use Rattle.std.proofs.Common.{◌≡◌, ◌≢◌, ℕ, List, [], ◌∷◌, map, get_or, set, sym, refl, ◌∙◌, subst, ⊎_elim}
 use mathlib.Core.Option.{some}
 use lib.ListN.{get_elem?}
@@ -23,8 +24,10 @@ use Rattle.ca_node.proofs.Looking.{R, of_map, knows_upper, in_more}
 use Rattle.ca_node.proofs.Members.{in_notes}
 use Rattle.ca_node.proofs.Rebased.{with_base}
 
-module _ (z : Sizes) (s : State (Unit {0}) (View TreeView)) (r : R z s) (id : ℕ) (me : MyTree) (at : get_elem? s.views id ≡ some me.0) (new : ℕ) (x : Update)
-    (u : IsExchange z me new x) (hit : get_or s.words x.old.place.link 0 ≡ x.old.row) (mark : IsMarkIn s.words x.old.place x.its)
+module _ (z : Sizes) (s : State (Unit {0}) (View TreeView)) (r : R z s) (id : ℕ) (me : MyTree)
+    (at : get_elem? s.views id ≡ some me.0) (new : ℕ) (x : Update)
+    (u : IsExchange z me new x) (hit : get_or s.words x.old.place.link 0 ≡ x.old.row)
+    (mark : IsMarkIn s.words x.old.place x.its)
     (same : map pair x.objects ≡ map pair x.old.objects) where
   abbrev d : View TreeView
   d = me.0
@@ -50,16 +53,25 @@ module _ (z : Sizes) (s : State (Unit {0}) (View TreeView)) (r : R z s) (id : �
 
   -- what the seat knows then: the new base was shown to it
   abbrev pub rewritten : TreeView
-  rewritten = record d.upper { notes = new_note ∷ d.upper.notes; inventory = updated_inventory new x d.upper.inventory }
+  rewritten =
+      record d.upper {
+        notes =
+            new_note ∷ d.upper.notes;
+        inventory = updated_inventory new x d.upper.inventory;
+      }
 
-  abbrev knows : Knows z.rows r.made s.words r.above.role (map upper_of s.views) r.above.history id d.upper
+  abbrev knows : Knows z.rows r.made s.words r.above.role (map upper_of s.views) r.above.history id
+      d.upper
   knows = knows_upper z s r id d at
 
   first : get_elem? (map upper_of s.views) id ≡ some d.upper
   first = at_map upper_of s.views id d at
 
-  own_knows : Knows z.rows r.made words' role' (set (map upper_of s.views) id rewritten) r.above.history id rewritten
-  own_knows = let k = relisted z.rows r.made s.words r.above.role (map upper_of s.views) (set (map upper_of s.views) id rewritten) f.history id d.upper
+  own_knows : Knows z.rows r.made words' role' (set (map upper_of s.views) id rewritten)
+      r.above.history id rewritten
+  own_knows =
+      let k = relisted z.rows r.made s.words r.above.role (map upper_of s.views)
+      (set (map upper_of s.views) id rewritten) f.history id d.upper
       (numbered (map upper_of s.views) id d.upper rewritten first (λ _. refl)) knows in record {
         made_before = k.made_before;
         alone = k.alone;
@@ -69,30 +81,41 @@ module _ (z : Sizes) (s : State (Unit {0}) (View TreeView)) (r : R z s) (id : �
         past = k.past;
         notes = λ note i. ⊎_elim (λ (e : new_note ≡ note). subst (IsTrue z.rows words' role') e
             (new_true z s r id me at new x u hit r.above.history mark has_then others_have))
-            (λ (o : IsIn note d.upper.notes). note_keeps z s r id me at new x u hit r.above.history mark has_then others_have id d at note o)
+            (λ (o : IsIn note d.upper.notes). note_keeps z s r id me at new x u hit r.above.history
+            mark has_then others_have id d at note o)
             (in_more new_note note d.upper.notes i);
-        links = λ note i. ⊎_elim (λ (e : new_note ≡ note). subst (λ (y : Note). IsLinkOfView d.upper y.place.link) e
+        links = λ note i. ⊎_elim
+            (λ (e : new_note ≡ note). subst (λ (y : Note). IsLinkOfView d.upper y.place.link) e
             (knows.links x.old (in_notes x.old d.upper.notes u.shown)))
-            (λ (o : IsIn note d.upper.notes). knows.links note o) (in_more new_note note d.upper.notes i);
-        ways = way_keeps z s r id me at new x u hit r.above.history mark has_then others_have id d at;
+            (λ (o : IsIn note d.upper.notes). knows.links note o)
+            (in_more new_note note d.upper.notes i);
+        ways = way_keeps z s r id me at new x u hit r.above.history mark has_then others_have id d
+            at;
         ended = k.ended;
       }
 
   others_know : (j : ℕ) (v : TreeView) → j ≢ id → get_elem? (map upper_of s.views) j ≡ some v
-      → Knows z.rows r.made words' role' (set (map upper_of s.views) id rewritten) r.above.history j v
+      → Knows z.rows r.made words' role' (set (map upper_of s.views) id rewritten) r.above.history j
+      v
   others_know j v ne here = let y = of_map upper_of s.views j v here in
-      let k = relisted z.rows r.made s.words r.above.role (map upper_of s.views) (set (map upper_of s.views) id rewritten) f.history j v
-      (numbered (map upper_of s.views) id d.upper rewritten first (λ _. refl)) (f.each_seat j v here) in record {
+      let k = relisted z.rows r.made s.words r.above.role (map upper_of s.views)
+      (set (map upper_of s.views) id rewritten) f.history j v
+      (numbered (map upper_of s.views) id d.upper rewritten first
+      (λ _. refl)) (f.each_seat j v here) in record {
         made_before = k.made_before;
         alone = k.alone;
         seen_first = k.seen_first;
         since_first = k.since_first;
         lawful = k.lawful;
         past = k.past;
-        notes = λ note i. note_keeps z s r id me at new x u hit r.above.history mark has_then others_have j y.0 y.1 note
+        notes = λ note i.
+            note_keeps z s r id me at new x u hit r.above.history mark has_then others_have j y.0
+            y.1 note
             (subst (λ (w : TreeView). IsIn note w.notes) (sym y.2) i);
         links = k.links;
-        ways = λ way i. way_keeps z s r id me at new x u hit r.above.history mark has_then others_have j y.0 y.1 way
+        ways = λ way i.
+            way_keeps z s r id me at new x u hit r.above.history mark has_then others_have j y.0 y.1
+            way
             (subst (λ (w : TreeView). IsIn way w.ways) (sym y.2) i);
         ended = k.ended;
       }
@@ -101,7 +124,10 @@ module _ (z : Sizes) (s : State (Unit {0}) (View TreeView)) (r : R z s) (id : �
   pub rewrite_step : R z record {
     words = words';
     homes = s.homes;
-    views = set s.views id (relinked me (taken_out (x.old.row ∷ x.goes) (given (new ∷ x.comes) d.claims)) rewritten).0;
+    views = set s.views id (relinked me
+        (taken_out (x.old.row ∷ x.goes) (given (new ∷ x.comes) d.claims)) rewritten).0;
   }
-  rewrite_step = exchange_step z s r id me at new x u hit r.above.history mark has_then others_have rewritten refl refl refl f.edits f.by_passes own_knows
+  rewrite_step =
+      exchange_step z s r id me at new x u hit r.above.history mark has_then others_have rewritten
+      refl refl refl f.edits f.by_passes own_knows
       others_know

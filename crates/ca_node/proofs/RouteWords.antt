@@ -6,7 +6,8 @@ use Rattle.ca_node.specs.TreeView.{TreeView}
 use Rattle.ca_node.specs.Walking.{IsRouteShown}
 
 -- The word at a fixed place of the route was shown.
-pub fixed_word : (u : TreeView) (row : ℕ) (its : List ℕ) (index : ℕ) → IsRouteShown u row its → IsFixed index → IsShownWord u row index (get_or its index 0)
+pub fixed_word : (u : TreeView) (row : ℕ) (its : List ℕ) (index : ℕ) → IsRouteShown u row its
+    → IsFixed index → IsShownWord u row index (get_or its index 0)
 fixed_word u row its index shown fixed = (its, inr (shown.shown, fixed), refl)
 
 -- The first word of a row is at such a place.

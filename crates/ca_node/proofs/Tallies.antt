@@ -10,27 +10,34 @@ abbrev most : ℕ
 most = 18446744073709551615
 
 -- Nothing was carried out, and nothing is counted.
-pub tallied_still : (t t' : Tally) (u v : TreeView) → t' ≡ t → v.splits ≡ u.splits → v.joins ≡ u.joins → IsTallied t u → IsTallied t' v
+pub tallied_still : (t t' : Tally) (u v : TreeView) → t' ≡ t → v.splits ≡ u.splits
+    → v.joins ≡ u.joins → IsTallied t u → IsTallied t' v
 tallied_still t t' u v same s j h = (
   ap (λ (x : Tally). x.splits) same ∙ (h.0 ∙ ap (min most) (sym s)),
   ap (λ (x : Tally). x.joins) same ∙ (h.1 ∙ ap (min most) (sym j)),
 )
 
 -- An exchange against a route: one split more is carried out and counted, or none.
-pub tallied_split : (won : Bool) (x : Division) (m m' : MyTree) (t t' : Tally) → HasDivided won x m m' → HasTallied won t t' → IsTallied t m.0.upper
+pub tallied_split : (won : Bool) (x : Division) (m m' : MyTree) (t t' : Tally)
+    → HasDivided won x m m' → HasTallied won t t' → IsTallied t m.0.upper
     → IsTallied t' m'.0.upper
-tallied_split true x m m' t t' d c h = let s = h.0 in let more = ap (λ (y : MyTree). y.0.upper.splits) d.now in
+tallied_split true x m m' t t' d c h = let s = h.0 in
+    let more = ap (λ (y : MyTree). y.0.upper.splits) d.now in
     let one = ap (λ (y : Tally). y.splits) c in (
       omega arith,
-      ap (λ (y : Tally). y.joins) c ∙ (h.1 ∙ ap (λ (y : MyTree). min most y.0.upper.joins) (sym d.now)),
+      ap (λ (y : Tally). y.joins) c
+          ∙ (h.1 ∙ ap (λ (y : MyTree). min most y.0.upper.joins) (sym d.now)),
     )
 tallied_split false x m m' t t' d c h =
-    tallied_still t t' m.0.upper m'.0.upper c (ap (λ (y : MyTree). y.0.upper.splits) d) (ap (λ (y : MyTree). y.0.upper.joins) d) h
+    tallied_still t t' m.0.upper m'.0.upper c (ap (λ (y : MyTree). y.0.upper.splits) d) (ap
+    (λ (y : MyTree). y.0.upper.joins) d) h
 
 -- The load of a link is neither a split nor a join.
 pub led_counts : (walks : Bool) (link : ℕ) (m m' : MyTree) (row : ℕ) → IsLed walks link m row m'
     → (m'.0.upper.splits ≡ m.0.upper.splits) × (m'.0.upper.joins ≡ m.0.upper.joins)
 led_counts walks link m m' row led = ⊎_elim
-    (λ (b : IsLedToBase walks link m row m'). (ap (λ (y : MyTree). y.0.upper.splits) b.now, ap (λ (y : MyTree). y.0.upper.joins) b.now))
-    (λ (w : IsLedToRoute link m row m'). (ap (λ (y : MyTree). y.0.upper.splits) w.now, ap (λ (y : MyTree). y.0.upper.joins) w.now))
+    (λ (b : IsLedToBase walks link m row m').
+    (ap (λ (y : MyTree). y.0.upper.splits) b.now, ap (λ (y : MyTree). y.0.upper.joins) b.now))
+    (λ (w : IsLedToRoute link m row m').
+    (ap (λ (y : MyTree). y.0.upper.splits) w.now, ap (λ (y : MyTree). y.0.upper.joins) w.now))
     led

@@ -35,19 +35,23 @@ use Rattle.ca_node.proofs.Parts.{part_edited, part_left, answer_whole, about_edi
 use Rattle.ca_node.proofs.Rebased.{with_base}
 
 -- The old base of an update is among the seat's notes.
-pub was_shown : (z : Sizes) (m : MyTree) (new : ℕ) (x : Update) → IsUpdate z m new x → IsIn x.old m.0.upper.notes
+pub was_shown : (z : Sizes) (m : MyTree) (new : ℕ) (x : Update) → IsUpdate z m new x
+    → IsIn x.old m.0.upper.notes
 was_shown z m new x u = in_notes x.old m.0.upper.notes u.shown
 
-edits_more : (keypos : ℕ) (h : History) (n : ℕ) (e : Edit) → AreEdits keypos h → IsEdit keypos e → AreEdits keypos (h ++ (n, e) ∷ [])
+edits_more : (keypos : ℕ) (h : History) (n : ℕ) (e : Edit) → AreEdits keypos h → IsEdit keypos e
+    → AreEdits keypos (h ++ (n, e) ∷ [])
 edits_more keypos [] n e a is = (is, tt)
 edits_more keypos (x ∷ xs) n e a is = (a.0, edits_more keypos xs n e a.1 is)
 
-passes_more : (made : ℕ) (h : History) (n : ℕ) (e : Edit) → AreByPasses made h → 1 ≤ n → n ≤ made → AreByPasses made (h ++ (n, e) ∷ [])
+passes_more : (made : ℕ) (h : History) (n : ℕ) (e : Edit) → AreByPasses made h → 1 ≤ n → n ≤ made
+    → AreByPasses made (h ++ (n, e) ∷ [])
 passes_more made [] n e a lo hi = (lo, hi, tt)
 passes_more made (x ∷ xs) n e a lo hi = (a.0, a.1, passes_more made xs n e a.2 lo hi)
 
 -- An update is an exchange.
-pub exchange_of : (z : Sizes) (m : MyTree) (new : ℕ) (x : Update) → IsUpdate z m new x → IsExchange z m new x
+pub exchange_of : (z : Sizes) (m : MyTree) (new : ℕ) (x : Update) → IsUpdate z m new x
+    → IsExchange z m new x
 exchange_of z m new x u = record {
   is_pinned = u.is_pinned;
   is_pass = u.is_pass;
@@ -65,7 +69,8 @@ exchange_of z m new x u = record {
   stay = u.stay;
 }
 
-module _ (z : Sizes) (s : State (Unit {0}) (View TreeView)) (r : R z s) (id : ℕ) (me : MyTree) (at : get_elem? s.views id ≡ some me.0) (new : ℕ) (x : Update)
+module _ (z : Sizes) (s : State (Unit {0}) (View TreeView)) (r : R z s) (id : ℕ) (me : MyTree)
+    (at : get_elem? s.views id ≡ some me.0) (new : ℕ) (x : Update)
     (u : IsUpdate z me new x) (hit : get_or s.words x.old.place.link 0 ≡ x.old.row) where
   abbrev ex : IsExchange z me new x
   ex = exchange_of z me new x u
@@ -88,7 +93,8 @@ module _ (z : Sizes) (s : State (Unit {0}) (View TreeView)) (r : R z s) (id : �
   abbrev words' : List ℕ
   words' = set s.words x.old.place.link new
 
-  abbrev knows : Knows z.rows r.made s.words r.above.role (map upper_of s.views) r.above.history id d.upper
+  abbrev knows : Knows z.rows r.made s.words r.above.role (map upper_of s.views) r.above.history id
+      d.upper
   knows = knows_upper z s r id d at
 
   -- The last state after the edit, and what of it is led to each base.
@@ -106,16 +112,21 @@ module _ (z : Sizes) (s : State (Unit {0}) (View TreeView)) (r : R z s) (id : �
 
   has_now : map pair x.objects ≡ part x.old.place.span (after (r.above.history ++ own ∷ []) [])
   has_now = u.map_is ∙ (ap (after_edit x.edit) (old_map z s r id me at new x ex hit)
-      ∙ (sym (part_edited z.keypos place.span x.edit last was_map u.about) ∙ ap (part place.span) (sym one_more)))
+      ∙ (sym (part_edited z.keypos place.span x.edit last was_map u.about)
+      ∙ ap (part place.span) (sym one_more)))
 
   by_bool : (b : Bool) → (b ≡ true) ⊎ (b ≡ false)
   by_bool true = inl refl
   by_bool false = inr refl
 
   others_have : (c : ℕ) (p : Place) → r.above.role c ≡ Base p → c ≢ x.old.row
-      → part p.span (after (r.above.history ++ own ∷ []) []) ≡ part p.span (after r.above.history [])
+      → part p.span (after (r.above.history ++ own ∷ []) [])
+      ≡ part p.span (after r.above.history [])
   others_have c p is ne = ap (part p.span) one_more ∙ ⊎_elim
-      (λ (h : has_key p.span (edit_key x.edit) ≡ true). absurd (ne (f.shape.apart c x.old.row p place (edit_key x.edit) is (is_old z s r id me at new x ex hit) h u.about)))
+      (λ (h : has_key p.span (edit_key x.edit)
+      ≡ true). absurd
+      (ne (f.shape.apart c x.old.row p place (edit_key x.edit) is
+      (is_old z s r id me at new x ex hit) h u.about)))
       (λ h. part_left z.keypos p.span x.edit last was_map h)
       (by_bool (has_key p.span (edit_key x.edit)))
 
@@ -144,123 +155,192 @@ module _ (z : Sizes) (s : State (Unit {0}) (View TreeView)) (r : R z s) (id : �
   long = starts_shorter f.history d.upper.seen knows.seen_first
 
   answered : IsAnswer x.event (after r.above.history [])
-  answered = answer_whole place.span last (edit_key x.edit) x.event u.about (about_edit x.event x.edit u.does) (subst (IsAnswer x.event) (old_map z s r id me at new x ex hit) u.answer)
+  answered =
+      answer_whole place.span last (edit_key x.edit) x.event u.about
+      (about_edit x.event x.edit u.does)
+      (subst (IsAnswer x.event) (old_map z s r id me at new x ex hit) u.answer)
 
-  own_knows : Knows z.rows r.made words' role' (set (map upper_of s.views) id u') (r.above.history ++ own ∷ []) id u'
+  own_knows : Knows z.rows r.made words' role' (set (map upper_of s.views) id u')
+      (r.above.history ++ own ∷ []) id u'
   own_knows = let k' = relisted z.rows r.made s.words role (map upper_of s.views)
-      (set (map upper_of s.views) id u') f.history id d.upper (numbered (map upper_of s.views) id d.upper u' first (λ _. refl)) knows in record {
+      (set (map upper_of s.views) id u') f.history id d.upper
+      (numbered (map upper_of s.views) id d.upper u' first (λ _. refl)) knows in record {
         made_before = k'.made_before;
         alone = k'.alone;
-        seen_first = subst (λ (h : History). StartsWith (h ++ own ∷ []) u'.seen) (sym whole) (starts_whole u'.seen);
+        seen_first = subst
+            (λ (h : History). StartsWith (h ++ own ∷ []) u'.seen) (sym whole)
+            (starts_whole u'.seen);
         since_first = further u'.seen d.upper.seen d.upper.since (
           knows.seen_first.0 ++ own ∷ [],
           append_assoc d.upper.seen knows.seen_first.0 (own ∷ []),
         ) knows.since_first;
-        lawful = subst (λ (h : History). IsLawful d.upper.number (f.history ++ own ∷ []) (d.upper.log ++ (x.event, length h + 1) ∷ [])) whole
+        lawful = subst
+            (λ (h : History).
+            IsLawful d.upper.number (f.history ++ own ∷ []) (d.upper.log ++ (
+              x.event,
+              length h + 1,
+            ) ∷ [])) whole
             (own_lawful d.upper.number x.edit x.event f.history d.upper.log u.does answered
-            (longer_past (length d.upper.seen) (length f.history) d.upper.log long knows.past) knows.lawful);
-        past = let l = length-append (d.upper.seen ++ knows.seen_first.0) (own ∷ []) in let m = length-append d.upper.seen knows.seen_first.0 in
-            past_more (length u'.seen) d.upper.log (x.event, length (d.upper.seen ++ knows.seen_first.0) + 1)
-            (longer_past (length d.upper.seen) (length u'.seen) d.upper.log (omega arith) knows.past) (omega arith);
-        notes = λ note i. ⊎_elim (λ (e : new_note ≡ note). subst (IsTrue z.rows words' role') e (new_true z s r id me at new x ex hit (r.above.history ++ own ∷ []) mark has_now others_have))
-            (λ (o : IsIn note d.upper.notes). note_keeps z s r id me at new x ex hit (r.above.history ++ own ∷ []) mark has_now others_have id d at note o) (in_more new_note note d.upper.notes i);
-        links = λ note i. ⊎_elim (λ (e : new_note ≡ note). subst (λ (y : Note). IsLinkOfView d.upper y.place.link) e
+            (longer_past (length d.upper.seen) (length f.history) d.upper.log long knows.past)
+            knows.lawful);
+        past = let l = length-append (d.upper.seen ++ knows.seen_first.0) (own ∷ []) in
+            let m = length-append d.upper.seen knows.seen_first.0 in
+            past_more (length u'.seen) d.upper.log (
+              x.event,
+              length (d.upper.seen ++ knows.seen_first.0) + 1,
+            )
+            (longer_past (length d.upper.seen) (length u'.seen) d.upper.log (omega arith)
+            knows.past) (omega arith);
+        notes = λ note i. ⊎_elim
+            (λ (e : new_note ≡ note).
+            subst (IsTrue z.rows words' role') e
+            (new_true z s r id me at new x ex hit (r.above.history ++ own ∷ []) mark has_now
+            others_have))
+            (λ (o : IsIn note d.upper.notes). note_keeps z s r id me at new x ex hit
+            (r.above.history ++ own ∷ []) mark has_now others_have id d at note o)
+            (in_more new_note note d.upper.notes i);
+        links = λ note i. ⊎_elim
+            (λ (e : new_note ≡ note). subst (λ (y : Note). IsLinkOfView d.upper y.place.link) e
             (knows.links x.old (was_shown z me new x u)))
-            (λ (o : IsIn note d.upper.notes). knows.links note o) (in_more new_note note d.upper.notes i);
-        ways = way_keeps z s r id me at new x ex hit (r.above.history ++ own ∷ []) mark has_now others_have id d at;
-        ended = λ y i. ended_more r.made (set (map upper_of s.views) id u') d.upper.number x.edit f.history y ((knows.ended y i).gone id d.upper first) (k'.ended y i);
+            (λ (o : IsIn note d.upper.notes). knows.links note o)
+            (in_more new_note note d.upper.notes i);
+        ways = way_keeps z s r id me at new x ex hit (r.above.history ++ own ∷ []) mark has_now
+            others_have id d at;
+        ended = λ y i.
+            ended_more r.made (set (map upper_of s.views) id u') d.upper.number x.edit f.history y
+            ((knows.ended y i).gone id d.upper first) (k'.ended y i);
       }
 
   others_know : (j : ℕ) (v : TreeView) → j ≢ id → get_elem? (map upper_of s.views) j ≡ some v
-      → Knows z.rows r.made words' role' (set (map upper_of s.views) id u') (r.above.history ++ own ∷ []) j v
+      → Knows z.rows r.made words' role' (set (map upper_of s.views) id u')
+      (r.above.history ++ own ∷ []) j v
   others_know j v ne here = let y = of_map upper_of s.views j v here in
       let k = relisted z.rows r.made s.words role (map upper_of s.views)
-      (set (map upper_of s.views) id u') f.history j v (numbered (map upper_of s.views) id d.upper u' first (λ _. refl)) (f.each_seat j v here) in record {
+      (set (map upper_of s.views) id u') f.history j v
+      (numbered (map upper_of s.views) id d.upper u' first
+      (λ _. refl)) (f.each_seat j v here) in record {
         made_before = k.made_before;
         alone = k.alone;
         seen_first = further (f.history ++ own ∷ []) f.history v.seen (own ∷ [], refl) k.seen_first;
         since_first = k.since_first;
-        lawful = others_lawful v.number d.upper.number x.edit f.history v.log (λ same. ne (knows.alone u.is_pass j v here (sym same))) k.lawful;
+        lawful = others_lawful v.number d.upper.number x.edit f.history v.log
+            (λ same. ne (knows.alone u.is_pass j v here (sym same))) k.lawful;
         past = k.past;
-        notes = λ note i. note_keeps z s r id me at new x ex hit (r.above.history ++ own ∷ []) mark has_now others_have j y.0 y.1 note (subst (λ (w : TreeView). IsIn note w.notes) (sym y.2) i);
+        notes = λ note i.
+            note_keeps z s r id me at new x ex hit (r.above.history ++ own ∷ []) mark has_now
+            others_have j y.0 y.1 note (subst (λ (w : TreeView). IsIn note w.notes) (sym y.2) i);
         links = k.links;
-        ways = λ way i. way_keeps z s r id me at new x ex hit (r.above.history ++ own ∷ []) mark has_now others_have j y.0 y.1 way (subst (λ (w : TreeView). IsIn way w.ways) (sym y.2) i);
-        ended = λ e i. ended_more r.made (set (map upper_of s.views) id u') d.upper.number x.edit f.history e (((f.each_seat j v here).ended e i).gone id d.upper first) (k.ended e i);
+        ways = λ way i.
+            way_keeps z s r id me at new x ex hit (r.above.history ++ own ∷ []) mark has_now
+            others_have j y.0 y.1 way (subst (λ (w : TreeView). IsIn way w.ways) (sym y.2) i);
+        ended = λ e i.
+            ended_more r.made (set (map upper_of s.views) id u') d.upper.number x.edit f.history e
+            (((f.each_seat j v here).ended e i).gone id d.upper first) (k.ended e i);
       }
 
   edits_now : AreEdits z.keypos (r.above.history ++ own ∷ [])
   edits_now = edits_more z.keypos f.history d.upper.number x.edit f.edits u.is_edit
 
   passes_now : AreByPasses r.made (r.above.history ++ own ∷ [])
-  passes_now = let lo = u.is_pass in passes_more r.made f.history d.upper.number x.edit f.by_passes (omega arith) knows.made_before
+  passes_now = let lo = u.is_pass in
+      passes_more r.made f.history d.upper.number x.edit f.by_passes (omega arith) knows.made_before
 
   -- Where the link names the old base, the exchange carries out the update.
   pub update_step : R z record { words = words'; homes = s.homes; views = set s.views id d' }
-  update_step = exchange_step z s r id me at new x ex hit (r.above.history ++ own ∷ []) mark has_now others_have u' refl refl refl
+  update_step =
+      exchange_step z s r id me at new x ex hit (r.above.history ++ own ∷ []) mark has_now
+      others_have u' refl refl refl
       edits_now passes_now own_knows others_know
 
   -- What the seat has seen then is the whole history.
   known_now : IsKnown z u'
-  known_now = let few : r.made ≤ z.passes = r.within in let mine : d.upper.number ≤ r.made = knows.made_before in
-      let same : f.history ++ own ∷ [] ≡ u'.seen = ap (λ (h : History). h ++ own ∷ []) whole in record {
+  known_now = let few : r.made ≤ z.passes = r.within in
+      let mine : d.upper.number ≤ r.made = knows.made_before in
+      let same : f.history ++ own ∷ [] ≡ u'.seen = ap (λ (h : History). h ++ own ∷ []) whole in
+      record {
         lawful = subst (λ (h : History). IsLawful d.upper.number h u'.log) same own_knows.lawful;
         past = own_knows.past;
         edits = subst (AreEdits z.keypos) same edits_now;
         enrolled = omega arith;
-        by_passes = subst (AreByPasses z.passes) same (fewer_passes r.made z.passes (f.history ++ own ∷ []) few passes_now);
+        by_passes =
+            subst (AreByPasses z.passes) same
+            (fewer_passes r.made z.passes (f.history ++ own ∷ []) few passes_now);
       }
 
   updated_now : IsUpdated new x me (d', me.1)
   updated_now = record {
     more = knows.seen_first.0;
     now = refl;
-    unclaimed = λ row o. unclaimed_row z s r id d at row (out_linked z s r id me at new x ex hit (r.above.history ++ own ∷ []) mark has_now others_have row o);
-    apart = old_apart z s r id me at new x ex hit (r.above.history ++ own ∷ []) mark has_now others_have;
-    known = λ some_rows. let same : d.sizes ≡ z = ⊎_elim (λ (e : d.sizes.rows ≡ 0). absurd (omega arith)) (λ (e : d.sizes ≡ z). e)
+    unclaimed =
+        λ row o. unclaimed_row z s r id d at row
+        (out_linked z s r id me at new x ex hit (r.above.history ++ own ∷ []) mark has_now
+        others_have row o);
+    apart = old_apart z s r id me at new x ex hit (r.above.history ++ own ∷ []) mark has_now
+        others_have;
+    known = λ some_rows. let same : d.sizes ≡ z = ⊎_elim
+        (λ (e : d.sizes.rows ≡ 0). absurd (omega arith)) (λ (e : d.sizes ≡ z). e)
         (r.seat id d at).sizes_are in subst (λ (y : Sizes). IsKnown y u') (sym same) known_now;
   }
 
 module _ (z : Sizes) where
   -- The exchange of a link that carries out an update.
   pub updates : (slots id : ℕ) (me : MyTree) (new : ℕ) (x : Update) → IsUpdate z me new x
-      → Allows (R z) slots id me x.old.place.link (λ n. either (eqb n x.old.row) new n) (Relinks MaySwap (Updates x) (step slots x.old.place.link x.old.row new none) me)
-  updates slots id me new x u s r _ at _ = let n : ℕ = get_or s.words x.old.place.link 0 in let d = me.0 in dite (ℕ_discrete n x.old.row)
+      → Allows (R z) slots id me x.old.place.link
+      (λ n. either (eqb n x.old.row) new n)
+      (Relinks MaySwap (Updates x) (step slots x.old.place.link x.old.row new none) me)
+  updates slots id me new x u s r _ at _ = let n : ℕ = get_or s.words x.old.place.link 0 in
+      let d = me.0 in dite (ℕ_discrete n x.old.row)
       (λ (hit : n ≡ x.old.row). let w = (knows_upper z s r id d at).seen_first.0 in
-      let d' : View TreeView = (relinked me (taken_out (x.old.row ∷ x.goes) (given (new ∷ x.comes) d.claims)) (updated (met_of me) d.upper w new x)).0 in
-      let won : Updates x (step slots x.old.place.link x.old.row new none) me n (d', me.1) = ((λ _. updated_now z s r id me at new x u hit), λ miss. absurd (miss hit)) in (
+      let d' : View TreeView =
+      (relinked me (taken_out (x.old.row ∷ x.goes) (given (new ∷ x.comes) d.claims))
+      (updated (met_of me) d.upper w new x)).0 in
+      let won : Updates x (step slots x.old.place.link x.old.row new none) me n (d', me.1) =
+      ((λ _. updated_now z s r id me at new x u hit), λ miss. absurd (miss hit)) in (
         d',
         keeps,
         tt,
-        subst (λ (y : ℕ). R z (stepped s x.old.place.link y id me.1 d' keeps)) (sym (ap (λ b. either b new n) (eq-eqb n x.old.row hit)))
+        subst (λ (y : ℕ). R z (stepped s x.old.place.link y id me.1 d' keeps))
+            (sym (ap (λ b. either b new n) (eq-eqb n x.old.row hit)))
             (update_step z s r id me at new x u hit),
         ((λ _. refl), (λ miss. absurd (miss hit)), inl (x, (u.shown, refl, refl), won), won),
       ))
       (λ miss. let lost : View TreeView = record d { upper = one_more_lost d.upper } in
-      let missed : Updates x (step slots x.old.place.link x.old.row new none) me n (lost, me.1) = ((λ hit. absurd (miss hit)), λ _. (refl, hangs_still z s r id me x.old at miss)) in (
+      let missed : Updates x (step slots x.old.place.link x.old.row new none) me n (lost, me.1) =
+      ((λ hit. absurd (miss hit)), λ _. (refl, hangs_still z s r id me x.old at miss)) in (
         lost,
         keeps,
         tt,
-        subst (λ (y : ℕ). R z (stepped s x.old.place.link y id me.1 lost keeps)) (sym (ap (λ b. either b new n) (ne_eqb n x.old.row miss)))
+        subst (λ (y : ℕ). R z (stepped s x.old.place.link y id me.1 lost keeps))
+            (sym (ap (λ b. either b new n) (ne_eqb n x.old.row miss)))
             (loses z s r x.old.place.link id d at),
         ((λ hit. absurd (miss hit)), (λ _. refl), inl (x, (u.shown, refl, refl), missed), missed),
       ))
 
   -- The same, where the old row and the link have other names.
-  pub updates_from : (slots id : ℕ) (me : MyTree) (link old new : ℕ) (x : Update) → IsUpdate z me new x → x.old.row ≡ old → x.old.place.link ≡ link
-      → Allows (R z) slots id me link (λ n. either (eqb n old) new n) (Relinks MaySwap (Updates x) (step slots link old new none) me)
-  updates_from slots id me link old new x u same here = subst (λ (i : ℕ). Allows (R z) slots id me i (λ n. either (eqb n old) new n)
-      (Relinks MaySwap (Updates x) (step slots i old new none) me)) here (subst (λ (o : ℕ). Allows (R z) slots id me x.old.place.link (λ n. either (eqb n o) new n)
-      (Relinks MaySwap (Updates x) (step slots x.old.place.link o new none) me)) same (updates slots id me new x u))
+  pub updates_from : (slots id : ℕ) (me : MyTree) (link old new : ℕ) (x : Update)
+      → IsUpdate z me new x → x.old.row ≡ old → x.old.place.link ≡ link
+      → Allows (R z) slots id me link
+      (λ n. either (eqb n old) new n)
+      (Relinks MaySwap (Updates x) (step slots link old new none) me)
+  updates_from slots id me link old new x u same here = subst
+      (λ (i : ℕ). Allows (R z) slots id me i (λ n. either (eqb n old) new n)
+      (Relinks MaySwap (Updates x) (step slots i old new none) me)) here (subst
+      (λ (o : ℕ). Allows (R z) slots id me x.old.place.link (λ n. either (eqb n o) new n)
+      (Relinks MaySwap (Updates x) (step slots x.old.place.link o new none) me)) same
+      (updates slots id me new x u))
 
 -- The two ways that the exchange goes.
-pub has_updated : (n link old new : ℕ) (x : Update) (m m' : MyTree) (slots : ℕ) → Updates x (step slots link old new none) m n m'
+pub has_updated : (n link old new : ℕ) (x : Update) (m m' : MyTree) (slots : ℕ)
+    → Updates x (step slots link old new none) m n m'
     → HasUpdated (eqb n old) new x m m'
 has_updated n link old new x m m' slots told = dite (ℕ_discrete n old)
     (λ hit. subst (λ (b : Bool). HasUpdated b new x m m') (sym (eq-eqb n old hit)) (told.0 hit))
-    (λ miss. subst (λ (b : Bool). HasUpdated b new x m m') (sym (ne_eqb n old miss)) (told.1 miss).0)
+    (λ miss. subst
+    (λ (b : Bool). HasUpdated b new x m m') (sym (ne_eqb n old miss)) (told.1 miss).0)
 
 -- Where it was lost, a pass that is alone doesn't list the base.
-pub missed_update : (n link old new : ℕ) (x : Update) (m m' : MyTree) (slots : ℕ) (won : Bool) → Updates x (step slots link old new none) m n m'
+pub missed_update : (n link old new : ℕ) (x : Update) (m m' : MyTree) (slots : ℕ) (won : Bool)
+    → Updates x (step slots link old new none) m n m'
     → won ≡ eqb n old → won ≡ false → IsMissed x.old m
 missed_update n link old new x m m' slots won told is lost = dite (ℕ_discrete n old)
     (λ hit. let y : true ≡ false = sym (eq-eqb n old hit) ∙ (sym is ∙ lost) in absurd cc)

@@ -37,7 +37,8 @@ flipped : (a b : List ℕ) (o : Ordering) → bytes_cmp b a ≡ o → bytes_cmp 
 flipped a b o e = bytes_flip a b ∙ ap ordering_reverse e
 
 -- What is left of a route's key is sought there.
-pub sought_left : (s : Spot) (key : List ℕ) (span : Span) → IsSide true s key → IsSought s span → IsSought s (left_of key span)
+pub sought_left : (s : Spot) (key : List ℕ) (span : Span) → IsSide true s key → IsSought s span
+    → IsSought s (left_of key span)
 sought_left spot.First key span side is = is
 sought_left (spot.At k) key span side is = by (bytes_cmp key k.now) refl side
   where
@@ -47,24 +48,30 @@ sought_left (spot.At k) key span side is = by (bytes_cmp key k.now) refl side
     by Greater e d = goes_left key k.now span is (flipped k.now key Greater e)
 sought_left (spot.Below k) key span side is = (is.0, by (bytes_cmp key k.now) refl side)
   where
-    by : (o : Ordering) → bytes_cmp key k.now ≡ o → true ≡ not (is_lt o) → bytes_cmp k.now key ≢ Greater
+    by : (o : Ordering) → bytes_cmp key k.now ≡ o → true ≡ not (is_lt o)
+        → bytes_cmp k.now key ≢ Greater
     by Less e d = cc
     by Equal e d = λ g. let f = sym (flipped k.now key Equal e) ∙ g in cc
     by Greater e d = λ g. let f = sym (flipped k.now key Greater e) ∙ g in cc
 sought_left spot.Last key span side is = let no : true ≡ false = side in cc
 
 -- What isn't left of it is sought on the right.
-pub sought_right : (s : Spot) (key : List ℕ) (span : Span) → IsSide false s key → IsSought s span → IsSought s (right_of key span)
+pub sought_right : (s : Spot) (key : List ℕ) (span : Span) → IsSide false s key → IsSought s span
+    → IsSought s (right_of key span)
 sought_right spot.First key span side is = let no : false ≡ true = side in cc
 sought_right (spot.At k) key span side is = by (bytes_cmp key k.now) refl side
   where
-    by : (o : Ordering) → bytes_cmp key k.now ≡ o → false ≡ is_gt o → HasKey (right_of key span) k.now
-    by Less e d = goes_right key k.now span is (λ l. let f = sym (flipped k.now key Less e) ∙ l in cc)
-    by Equal e d = goes_right key k.now span is (λ l. let f = sym (flipped k.now key Equal e) ∙ l in cc)
+    by : (o : Ordering) → bytes_cmp key k.now ≡ o → false ≡ is_gt o
+        → HasKey (right_of key span) k.now
+    by Less e d = goes_right key k.now span is
+        (λ l. let f = sym (flipped k.now key Less e) ∙ l in cc)
+    by Equal e d = goes_right key k.now span is
+        (λ l. let f = sym (flipped k.now key Equal e) ∙ l in cc)
     by Greater e d = cc
 sought_right (spot.Below k) key span side is = (by (bytes_cmp key k.now) refl side, is.1)
   where
-    by : (o : Ordering) → bytes_cmp key k.now ≡ o → false ≡ not (is_lt o) → bytes_cmp key k.now ≡ Less
+    by : (o : Ordering) → bytes_cmp key k.now ≡ o → false ≡ not (is_lt o)
+        → bytes_cmp key k.now ≡ Less
     by Less e d = e
     by Equal e d = cc
     by Greater e d = cc
@@ -75,7 +82,8 @@ more_in : {A : Type 0} (x y : A) (xs : List A) → IsIn x xs → IsIn x (y ∷ x
 more_in x y xs i = (suc i.0, i.1)
 
 -- What some of the routes tell of the link above, more routes do.
-above_more : (way : Way) (ways : List Way) (l : Link) (a : Option Link) → IsAbove ways l a → IsAbove (way ∷ ways) l a
+above_more : (way : Way) (ways : List Way) (l : Link) (a : Option Link) → IsAbove ways l a
+    → IsAbove (way ∷ ways) l a
 above_more way ways link.Root a is = is
 above_more way ways (link.Left route) None is = is
 above_more way ways (link.Left route) (Some a) is = (is.0, more_in is.0 way ways is.1, is.2, is.3)
@@ -83,17 +91,20 @@ above_more way ways (link.Right route) None is = is
 above_more way ways (link.Right route) (Some a) is = (is.0, more_in is.0 way ways is.1, is.2, is.3)
 
 -- So they do of the lower bound.
-low_more : (way : Way) (ways : List Way) (route : Option ℕ) (bound : Bound) → IsLowRoute ways route bound → IsLowRoute (way ∷ ways) route bound
+low_more : (way : Way) (ways : List Way) (route : Option ℕ) (bound : Bound)
+    → IsLowRoute ways route bound → IsLowRoute (way ∷ ways) route bound
 low_more way ways None bound is = is
 low_more way ways (Some route) bound is = (is.0, more_in is.0 way ways is.1, is.2, is.3)
 
 -- So they do of the upper bound.
-high_more : (way : Way) (ways : List Way) (route : Option ℕ) (bound : Bound) → IsHighRoute ways route bound → IsHighRoute (way ∷ ways) route bound
+high_more : (way : Way) (ways : List Way) (route : Option ℕ) (bound : Bound)
+    → IsHighRoute ways route bound → IsHighRoute (way ∷ ways) route bound
 high_more way ways None bound is = is
 high_more way ways (Some route) bound is = (is.0, more_in is.0 way ways is.1, is.2, is.3)
 
 -- So they do of all that the cursor tells.
-placed_more : (z : Sizes) (way : Way) (ways : List Way) (place : Place) (cursor : Cursor) → IsPlaced z ways place cursor → IsPlaced z (way ∷ ways) place cursor
+placed_more : (z : Sizes) (way : Way) (ways : List Way) (place : Place) (cursor : Cursor)
+    → IsPlaced z ways place cursor → IsPlaced z (way ∷ ways) place cursor
 placed_more z way ways place cursor p = record {
   link = p.link;
   inside = p.inside;
@@ -104,17 +115,33 @@ placed_more z way ways place cursor p = record {
 
 -- the cursor one link further, on the left of a route
 abbrev pub left_cursor : Cursor → ℕ → Cursor
-left_cursor cursor base = record cursor { base = base; link = link.Left cursor.base; above = Some cursor.link; high = Some cursor.base }
+left_cursor cursor base =
+    record cursor {
+      base =
+          base;
+      link = link.Left cursor.base;
+      above = Some cursor.link;
+      high = Some cursor.base;
+    }
 
 -- the same on its right
 abbrev pub right_cursor : Cursor → ℕ → Cursor
-right_cursor cursor base = record cursor { base = base; link = link.Right cursor.base; above = Some cursor.link; low = Some cursor.base }
+right_cursor cursor base =
+    record cursor {
+      base =
+          base;
+      link = link.Right cursor.base;
+      above = Some cursor.link;
+      low = Some cursor.base;
+    }
 
 -- The routes that were shown lead to a link of the last one.
-module _ (z : Sizes) (ways : List Way) (way : Way) (cursor : Cursor) (base : ℕ) (place : Place) (shown : IsIn way ways) (row : way.row ≡ cursor.base)
+module _ (z : Sizes) (ways : List Way) (way : Way) (cursor : Cursor) (base : ℕ) (place : Place)
+    (shown : IsIn way ways) (row : way.row ≡ cursor.base)
     (in_range : way.row ≤ z.rows) (placed : IsPlaced z ways way.place cursor) where
   -- The cursor tells where its left link leads.
-  left_placed : place.link ≡ 136 * cursor.base + 1 → place.span ≡ left_of (route_key way.its) way.place.span
+  left_placed : place.link ≡ 136 * cursor.base + 1
+      → place.span ≡ left_of (route_key way.its) way.place.span
       → IsPlaced z ways place (left_cursor cursor base)
   left_placed link_is span_is = record {
     link = link_is;
@@ -125,7 +152,8 @@ module _ (z : Sizes) (ways : List Way) (way : Way) (cursor : Cursor) (base : ℕ
   }
 
   -- The cursor tells where its right link leads.
-  right_placed : place.link ≡ 136 * cursor.base + 2 → place.span ≡ right_of (route_key way.its) way.place.span
+  right_placed : place.link ≡ 136 * cursor.base + 2
+      → place.span ≡ right_of (route_key way.its) way.place.span
       → IsPlaced z ways place (right_cursor cursor base)
   right_placed link_is span_is = record {
     link = link_is;
@@ -136,12 +164,27 @@ module _ (z : Sizes) (ways : List Way) (way : Way) (cursor : Cursor) (base : ℕ
   }
 
 -- What a seat knows after one link more, which named a base.
-walked_on : (m m' m'' : MyTree) (more next : History) (note : Note) (ways : List Way) (loads : ℕ) → m' ≡ with_upper m (passed m.0.upper more ways loads)
-    → m'' ≡ with_upper m' (led_to_base m'.0.upper next note note (m'.0.upper.loads + 1)) → m'' ≡ with_upper m (walked m.0.upper (more ++ next) note ways (loads + 1))
+walked_on : (m m' m'' : MyTree) (more next : History) (note : Note) (ways : List Way) (loads : ℕ)
+    → m' ≡ with_upper m (passed m.0.upper more ways loads)
+    → m'' ≡ with_upper m' (led_to_base m'.0.upper next note note (m'.0.upper.loads + 1))
+    → m'' ≡ with_upper m (walked m.0.upper (more ++ next) note ways (loads + 1))
 walked_on m m' m'' more next note ways loads e d =
-    let u : TreeView = m.0.upper in let n : u.loads + loads + 1 ≡ u.loads + (loads + 1) = omega arith in
-    d ∙ (ap (λ (x : MyTree). with_upper x (led_to_base x.0.upper next note note (x.0.upper.loads + 1))) e
-    ∙ (ap (λ (h : History). with_upper m (record u { seen = h; notes = note ∷ u.notes; ways = ways ++ u.ways; loads = u.loads + loads + 1; last = note; shown = u.loads + loads + 1 }))
+    let u : TreeView = m.0.upper in
+    let n : u.loads + loads + 1 ≡ u.loads + (loads + 1) = omega arith in
+    d ∙ (ap (λ (x : MyTree).
+    with_upper x (led_to_base x.0.upper next note note (x.0.upper.loads + 1))) e
+    ∙ (ap (λ (h : History).
+    with_upper m (record u {
+      seen =
+          h;
+      notes =
+          note ∷ u.notes;
+      ways =
+          ways ++ u.ways;
+      loads = u.loads + loads + 1;
+      last = note;
+      shown = u.loads + loads + 1;
+    }))
     (append_assoc u.seen more next)
     ∙ ap (λ (k : ℕ). with_upper m (record u {
       seen = u.seen ++ (more ++ next);
@@ -153,66 +196,96 @@ walked_on m m' m'' more next note ways loads e d =
     })) n))
 
 -- The same of a link that named a route.
-passed_on : (m m' m'' : MyTree) (more next : History) (way : Way) (ways : List Way) (loads : ℕ) → m' ≡ with_upper m (passed m.0.upper more ways loads)
-    → m'' ≡ with_upper m' (led_to_route m'.0.upper next way) → m'' ≡ with_upper m (passed m.0.upper (more ++ next) (way ∷ ways) (loads + 1))
+passed_on : (m m' m'' : MyTree) (more next : History) (way : Way) (ways : List Way) (loads : ℕ)
+    → m' ≡ with_upper m (passed m.0.upper more ways loads)
+    → m'' ≡ with_upper m' (led_to_route m'.0.upper next way)
+    → m'' ≡ with_upper m (passed m.0.upper (more ++ next) (way ∷ ways) (loads + 1))
 passed_on m m' m'' more next way ways loads e d =
-    let u : TreeView = m.0.upper in let n : u.loads + loads + 1 ≡ u.loads + (loads + 1) = omega arith in
+    let u : TreeView = m.0.upper in
+    let n : u.loads + loads + 1 ≡ u.loads + (loads + 1) = omega arith in
     d ∙ (ap (λ (x : MyTree). with_upper x (led_to_route x.0.upper next way)) e
-    ∙ (ap (λ (h : History). with_upper m (record u { seen = h; ways = way ∷ ways ++ u.ways; loads = u.loads + loads + 1 })) (append_assoc u.seen more next)
-    ∙ ap (λ (k : ℕ). with_upper m (record u { seen = u.seen ++ (more ++ next); ways = way ∷ ways ++ u.ways; loads = k })) n))
+    ∙ (ap (λ (h : History).
+    with_upper m (record u {
+      seen =
+          h;
+      ways = way ∷ ways ++ u.ways;
+      loads = u.loads + loads + 1;
+    }))
+    (append_assoc u.seen more next)
+    ∙ ap (λ (k : ℕ).
+    with_upper m (record u {
+      seen =
+          u.seen ++ (more ++ next);
+      ways = way ∷ ways ++ u.ways;
+      loads = k;
+    })) n))
 
 -- A link was loaded of which the seat knows where it leads.
-module _ (z : Sizes) (s : Spot) (m m' m'' : MyTree) (some_rows : 0 < z.rows) (sizes : m'.0.sizes ≡ z) (more : History) (ways : List Way) (loads : ℕ)
-    (now : m' ≡ with_upper m (passed m.0.upper more ways loads)) (word least : ℕ) (span : Span) (is_link : IsKnownLink m'.0.upper word least span)
+module _ (z : Sizes) (s : Spot) (m m' m'' : MyTree) (some_rows : 0 < z.rows)
+    (sizes : m'.0.sizes ≡ z) (more : History) (ways : List Way) (loads : ℕ)
+    (now : m' ≡ with_upper m (passed m.0.upper more ways loads)) (word least : ℕ) (span : Span)
+    (is_link : IsKnownLink m'.0.upper word least span)
     (few : loads ≤ least) (sought : IsSought s span) (next : Cursor)
-    (placed : (place : Place) → place.link ≡ word → place.span ≡ span → IsPlaced z m'.0.upper.ways place next) where
+    (placed : (place : Place) → place.link ≡ word → place.span ≡ span
+    → IsPlaced z m'.0.upper.ways place next) where
   -- The seat knows that there are rows.
   rows_too : 0 < m'.0.sizes.rows
   rows_too = subst (λ (y : Sizes). 0 < y.rows) (sym sizes) some_rows
 
   -- The walk came to a base.
   to_base : IsLedToBase true word m' next.base m'' → IsAtBase z s m next m''
-  to_base led = let at = led.place.1 least span is_link in let told = led.known rows_too in let low = at.0 in record {
-    note = led.note;
-    more = more ++ led.more;
-    ways = ways;
-    loads = loads + 1;
-    now = walked_on m m' m'' more led.more led.note ways loads now led.now;
-    some = omega arith;
-    few = omega arith;
-    sought = subst (λ (p : Span). IsSought s p) (sym at.1) sought;
-    row = led.row_is;
-    placed = subst (λ (x : MyTree). IsPlaced z x.0.upper.ways led.note.place next) (sym led.now) (placed led.note.place led.place.0 at.1);
-    is_base = subst (λ (y : Sizes). IsBaseNote y led.note) sizes told.0;
-    has = subst (λ (x : MyTree). map pair led.note.objects ≡ part led.note.place.span (after x.0.upper.seen [])) (sym led.now) led.has;
-    known = subst (λ (x : MyTree). IsKnown z x.0.upper) (sym led.now)
-        (subst (λ (y : Sizes). IsKnown y (led_to_base m'.0.upper led.more led.note led.note (m'.0.upper.loads + 1))) sizes told.1);
-    listed = λ alone. subst (λ (x : MyTree). IsListed x.0.upper.inventory led.note) now (led.listed rows_too
-        (subst (λ (y : Sizes). IsAlone y m'.0.upper) (sym sizes) (subst (λ (x : MyTree). IsAlone z x.0.upper) (sym now) alone)));
-  }
+  to_base led = let at = led.place.1 least span is_link in let told = led.known rows_too in
+      let low = at.0 in record {
+        note = led.note;
+        more = more ++ led.more;
+        ways = ways;
+        loads = loads + 1;
+        now = walked_on m m' m'' more led.more led.note ways loads now led.now;
+        some = omega arith;
+        few = omega arith;
+        sought = subst (λ (p : Span). IsSought s p) (sym at.1) sought;
+        row = led.row_is;
+        placed = subst
+            (λ (x : MyTree). IsPlaced z x.0.upper.ways led.note.place next) (sym led.now)
+            (placed led.note.place led.place.0 at.1);
+        is_base = subst (λ (y : Sizes). IsBaseNote y led.note) sizes told.0;
+        has = subst (λ (x : MyTree). map pair led.note.objects
+            ≡ part led.note.place.span (after x.0.upper.seen [])) (sym led.now) led.has;
+        known = subst (λ (x : MyTree). IsKnown z x.0.upper) (sym led.now)
+            (subst (λ (y : Sizes).
+            IsKnown y (led_to_base m'.0.upper led.more led.note led.note (m'.0.upper.loads + 1)))
+            sizes told.1);
+        listed = λ alone. subst
+            (λ (x : MyTree). IsListed x.0.upper.inventory led.note) now (led.listed rows_too
+            (subst (λ (y : Sizes). IsAlone y m'.0.upper) (sym sizes) (subst
+            (λ (x : MyTree). IsAlone z x.0.upper) (sym now) alone)));
+      }
 
   -- The walk came to a route.
   to_route : IsLedToRoute word m' next.base m'' → IsAtRoute z s m next m''
-  to_route led = let at = led.place.1 least span is_link in let told = led.known rows_too in let low = at.0 in record {
-    way = led.way;
-    more = more ++ led.more;
-    ways = ways;
-    loads = loads + 1;
-    now = passed_on m m' m'' more led.more led.way ways loads now led.now;
-    few = omega arith;
-    sought = subst (λ (p : Span). IsSought s p) (sym at.1) sought;
-    row = led.row_is;
-    placed = subst (λ (x : MyTree). IsPlaced z x.0.upper.ways led.way.place next) (sym led.now)
-        (placed_more z led.way m'.0.upper.ways led.way.place next (placed led.way.place led.place.0 at.1));
-    is_route = subst (λ (y : Sizes). IsRouteNote y led.way) sizes told.0;
-  }
+  to_route led = let at = led.place.1 least span is_link in let told = led.known rows_too in
+      let low = at.0 in record {
+        way = led.way;
+        more = more ++ led.more;
+        ways = ways;
+        loads = loads + 1;
+        now = passed_on m m' m'' more led.more led.way ways loads now led.now;
+        few = omega arith;
+        sought = subst (λ (p : Span). IsSought s p) (sym at.1) sought;
+        row = led.row_is;
+        placed = subst (λ (x : MyTree). IsPlaced z x.0.upper.ways led.way.place next) (sym led.now)
+            (placed_more z led.way m'.0.upper.ways led.way.place next
+            (placed led.way.place led.place.0 at.1));
+        is_route = subst (λ (y : Sizes). IsRouteNote y led.way) sizes told.0;
+      }
 
   -- The walk goes on one link further.
   pub comes_to : IsLed true word m' next.base m'' → IsWalking z s m next m''
   comes_to led = ⊎_elim (λ l. inl (to_base l)) (λ l. inr (to_route l)) led
 
 -- The walk is at a route, and goes left or right from there.
-module _ (z : Sizes) (s : Spot) (m : MyTree) (cursor : Cursor) (m' : MyTree) (at : IsAtRoute z s m cursor m') where
+module _ (z : Sizes) (s : Spot) (m : MyTree) (cursor : Cursor) (m' : MyTree)
+    (at : IsAtRoute z s m cursor m') where
   -- the route's words
   abbrev route : List ℕ
   route = at.way.its
@@ -227,14 +300,26 @@ module _ (z : Sizes) (s : Spot) (m : MyTree) (cursor : Cursor) (m' : MyTree) (at
 
   -- The route was shown.
   pub route_shown : IsRouteShown m'.0.upper cursor.base at.way.its
-  route_shown = record { shown = (at.way, here, at.row, refl); long = at.is_route.long; short = at.is_route.short }
+  route_shown =
+      record {
+        shown = (
+          at.way,
+          here,
+          at.row,
+          refl,
+        );
+        long = at.is_route.long;
+        short = at.is_route.short;
+      }
 
   -- The seat knows where the left link leads.
-  left_known : IsKnownLink m'.0.upper (136 * cursor.base + 1) (at.way.place.level + 1) (left_of (route_key route) span)
+  left_known : IsKnownLink m'.0.upper (136 * cursor.base + 1) (at.way.place.level + 1)
+      (left_of (route_key route) span)
   left_known = inr (at.way, here, refl, inl (ap (λ (r : ℕ). 136 * r + 1) (sym at.row), refl))
 
   -- The seat knows where the right link leads.
-  right_known : IsKnownLink m'.0.upper (136 * cursor.base + 2) (at.way.place.level + 1) (right_of (route_key route) span)
+  right_known : IsKnownLink m'.0.upper (136 * cursor.base + 2) (at.way.place.level + 1)
+      (right_of (route_key route) span)
   right_known = inr (at.way, here, refl, inr (ap (λ (r : ℕ). 136 * r + 2) (sym at.row), refl))
 
   -- So it may load the left link.
@@ -247,33 +332,53 @@ module _ (z : Sizes) (s : Spot) (m : MyTree) (cursor : Cursor) (m' : MyTree) (at
 
   -- There are as many links left to load as levels below the route.
   pub few_left : m'.0.upper.loads + 1 ≤ m.0.upper.loads + z.levels + 1
-  few_left = let e = ap (λ (x : MyTree). x.0.upper.loads) at.now in let l = at.few in let a = at.is_route.above in omega arith
+  few_left = let e = ap (λ (x : MyTree). x.0.upper.loads) at.now in let l = at.few in
+      let a = at.is_route.above in omega arith
 
   module _ (m'' : MyTree) (base : ℕ) (some_rows : 0 < z.rows) (sizes : m'.0.sizes ≡ z) where
     -- The walk goes left.
-    pub goes_left_on : IsSide true s (route_key route) → IsLed true (136 * cursor.base + 1) m' base m'' → IsWalking z s m (left_cursor cursor base) m''
-    goes_left_on side led = comes_to z s m m' m'' some_rows sizes at.more (at.way ∷ at.ways) at.loads at.now (136 * cursor.base + 1) (at.way.place.level + 1)
-        (left_of (route_key route) span) left_known at.few (sought_left s (route_key route) span side at.sought) (left_cursor cursor base)
-        (λ place l p. left_placed z m'.0.upper.ways at.way cursor base place here at.row at.is_route.in_range at.placed l p) led
+    pub goes_left_on : IsSide true s (route_key route)
+        → IsLed true (136 * cursor.base + 1) m' base m''
+        → IsWalking z s m (left_cursor cursor base) m''
+    goes_left_on side led =
+        comes_to z s m m' m'' some_rows sizes at.more (at.way ∷ at.ways) at.loads at.now
+        (136 * cursor.base + 1) (at.way.place.level + 1)
+        (left_of (route_key route) span) left_known at.few
+        (sought_left s (route_key route) span side at.sought) (left_cursor cursor base)
+        (λ place l p.
+        left_placed z m'.0.upper.ways at.way cursor base place here at.row at.is_route.in_range
+        at.placed l p) led
 
     -- The walk goes right.
-    pub goes_right_on : IsSide false s (route_key route) → IsLed true (136 * cursor.base + 2) m' base m'' → IsWalking z s m (right_cursor cursor base) m''
-    goes_right_on side led = comes_to z s m m' m'' some_rows sizes at.more (at.way ∷ at.ways) at.loads at.now (136 * cursor.base + 2) (at.way.place.level + 1)
-        (right_of (route_key route) span) right_known at.few (sought_right s (route_key route) span side at.sought) (right_cursor cursor base)
-        (λ place l p. right_placed z m'.0.upper.ways at.way cursor base place here at.row at.is_route.in_range at.placed l p) led
+    pub goes_right_on : IsSide false s (route_key route)
+        → IsLed true (136 * cursor.base + 2) m' base m''
+        → IsWalking z s m (right_cursor cursor base) m''
+    goes_right_on side led =
+        comes_to z s m m' m'' some_rows sizes at.more (at.way ∷ at.ways) at.loads at.now
+        (136 * cursor.base + 2) (at.way.place.level + 1)
+        (right_of (route_key route) span) right_known at.few
+        (sought_right s (route_key route) span side at.sought) (right_cursor cursor base)
+        (λ place l p.
+        right_placed z m'.0.upper.ways at.way cursor base place here at.row at.is_route.in_range
+        at.placed l p) led
 
 -- One load more of at most so many.
-pub one_load_less : (first before after levels : ℕ) → before + 1 ≤ first + levels + 1 → after ≡ before + 1
+pub one_load_less : (first before after levels : ℕ) → before + 1 ≤ first + levels + 1
+    → after ≡ before + 1
     → first + levels + 1 - after < first + levels + 1 - before
 one_load_less first before after levels few one = omega arith
 
 -- the cursor at the row that the root link names
 abbrev pub root_cursor : ℕ → Cursor
-root_cursor base = record { base = base; link = link.Root; above = None; level = 0; low = None; high = None }
+root_cursor base =
+    record { base = base; link = link.Root; above = None; level = 0; low = None; high = None }
 
 -- The walk begins with a load of the root link.
-pub begins : (z : Sizes) (s : Spot) (m m' : MyTree) (base : ℕ) → 0 < z.rows → m.0.sizes ≡ z → IsLed true 130 m base m' → IsWalking z s m (root_cursor base) m'
-begins z s m m' base some_rows sizes led = comes_to z s m m m' some_rows sizes [] [] 0 here 130 0 all_keys (inl (refl, refl, refl)) (omega arith)
+pub begins : (z : Sizes) (s : Spot) (m m' : MyTree) (base : ℕ) → 0 < z.rows → m.0.sizes ≡ z
+    → IsLed true 130 m base m' → IsWalking z s m (root_cursor base) m'
+begins z s m m' base some_rows sizes led =
+    comes_to z s m m m' some_rows sizes [] [] 0 here 130 0 all_keys (inl (refl, refl, refl))
+    (omega arith)
     (sought_first s) (root_cursor base) placed led
   where
     here : m ≡ with_upper m (passed m.0.upper [] [] 0)
@@ -281,7 +386,8 @@ begins z s m m' base some_rows sizes led = comes_to z s m m m' some_rows sizes [
         ap (λ (h : History). with_upper m (record u { seen = h })) (sym (append-nil u.seen))
         ∙ ap (λ (k : ℕ). with_upper m (record u { seen = u.seen ++ []; loads = k })) n
 
-    placed : (place : Place) → place.link ≡ 130 → place.span ≡ all_keys → IsPlaced z m.0.upper.ways place (root_cursor base)
+    placed : (place : Place) → place.link ≡ 130 → place.span ≡ all_keys
+        → IsPlaced z m.0.upper.ways place (root_cursor base)
     placed place l p = record {
       link = l;
       inside = omega arith;
@@ -300,40 +406,54 @@ module _ (z : Sizes) (s : Spot) (m : MyTree) (cursor : Cursor) (m' : MyTree) whe
   base_word : (at : IsAtBase z s m cursor m') → IsFirstWord (get_or at.note.its 0 0)
   base_word at = (
     at.note.its,
-    inl
-        (at.note, subst (λ (x : MyTree). IsIn at.note x.0.upper.notes) (sym at.now) (0, refl), inl (at.row, refl)),
+    inl (
+      at.note,
+      subst (λ (x : MyTree). IsIn at.note x.0.upper.notes) (sym at.now) (0, refl),
+      inl (at.row, refl),
+    ),
     refl,
   )
 
   -- Of a route it was shown.
   route_word : (at : IsAtRoute z s m cursor m') → IsFirstWord (get_or at.way.its 0 0)
-  route_word at = fixed_word m'.0.upper cursor.base at.way.its 0 (route_shown z s m cursor m' at) first_fixed
+  route_word at =
+      fixed_word m'.0.upper cursor.base at.way.its 0 (route_shown z s m cursor m' at) first_fixed
 
   -- So it was shown of any row on the way.
   pub first_word : IsWalking z s m cursor m' → (word : ℕ) × IsFirstWord word
-  first_word w = ⊎_elim (λ b. (get_or b.note.its 0 0, base_word b)) (λ r. (get_or r.way.its 0 0, route_word r)) w
+  first_word w = ⊎_elim (λ b. (get_or b.note.its 0 0, base_word b))
+      (λ r. (get_or r.way.its 0 0, route_word r)) w
 
   -- The row under the cursor is in the table.
   pub row_inside : IsWalking z s m cursor m' → cursor.base ≤ z.rows
-  row_inside w = ⊎_elim (λ b. subst (λ (r : ℕ). r ≤ z.rows) b.row b.is_base.in_range) (λ r. subst (λ (r : ℕ). r ≤ z.rows) r.row r.is_route.in_range) w
+  row_inside w = ⊎_elim (λ b. subst (λ (r : ℕ). r ≤ z.rows) b.row b.is_base.in_range)
+      (λ r. subst (λ (r : ℕ). r ≤ z.rows) r.row r.is_route.in_range) w
 
   -- Where the word is that of a route, the walk is at one.
-  pub is_at_route : IsWalking z s m cursor m' → (word : ℕ) → ((w : ℕ) → IsFirstWord w → word ≡ w) → word / 72057594037927936 ≡ 3
+  pub is_at_route : IsWalking z s m cursor m' → (word : ℕ) → ((w : ℕ) → IsFirstWord w → word ≡ w)
+      → word / 72057594037927936 ≡ 3
       → IsAtRoute z s m cursor m'
-  is_at_route w word is route = ⊎_elim (λ b. let f = b.is_base.is_base in let e = is (get_or b.note.its 0 0) (base_word b) in absurd (omega arith)) (λ r. r) w
+  is_at_route w word is route = ⊎_elim
+      (λ b. let f = b.is_base.is_base in let e = is (get_or b.note.its 0 0) (base_word b) in
+      absurd (omega arith)) (λ r. r) w
 
   -- Else it is at a base.
-  pub is_at_base : IsWalking z s m cursor m' → (word : ℕ) → ((w : ℕ) → IsFirstWord w → word ≡ w) → word / 72057594037927936 ≢ 3
+  pub is_at_base : IsWalking z s m cursor m' → (word : ℕ) → ((w : ℕ) → IsFirstWord w → word ≡ w)
+      → word / 72057594037927936 ≢ 3
       → IsAtBase z s m cursor m'
-  is_at_base w word is other = ⊎_elim (λ b. b) (λ r. let f = r.is_route.is_route in let e = is (get_or r.way.its 0 0) (route_word r) in absurd (omega arith)) w
+  is_at_base w word is other = ⊎_elim (λ b. b)
+      (λ r. let f = r.is_route.is_route in let e = is (get_or r.way.its 0 0) (route_word r) in
+      absurd (omega arith)) w
 
   -- The word tells the level of a base.
   pub level_told : (at : IsAtBase z s m cursor m') (word : ℕ) → ((w : ℕ) → IsFirstWord w → word ≡ w)
       → at.note.place.level ≡ word / 65536 % 1099511627776
-  level_told at word is = sym at.is_base.level_is ∙ ap (λ (k : ℕ). k / 65536 % 1099511627776) (sym (is (get_or at.note.its 0 0) (base_word at)))
+  level_told at word is = sym at.is_base.level_is
+      ∙ ap (λ (k : ℕ). k / 65536 % 1099511627776) (sym (is (get_or at.note.its 0 0) (base_word at)))
 
   -- The walk ends at a base.
-  pub ends : (level : ℕ) (at : IsAtBase z s m cursor m') → at.note.place.level ≡ level → IsWalked z s m (record cursor { level = level }) m'
+  pub ends : (level : ℕ) (at : IsAtBase z s m cursor m') → at.note.place.level ≡ level
+      → IsWalked z s m (record cursor { level = level }) m'
   ends level at level_is = let l = at.few in let d = at.is_base.deep in record {
     note = at.note;
     more = at.more;
@@ -359,8 +479,10 @@ module _ (z : Sizes) (s : Spot) (m : MyTree) (cursor : Cursor) (m' : MyTree) whe
   }
 
 -- The first word of the base that a walk came to was shown.
-pub walked_shows : (z : Sizes) (s : Spot) (m : MyTree) (cursor : Cursor) (m' : MyTree) → IsWalked z s m cursor m'
+pub walked_shows : (z : Sizes) (s : Spot) (m : MyTree) (cursor : Cursor) (m' : MyTree)
+    → IsWalked z s m cursor m'
     → (word : ℕ) × IsShownWord m'.0.upper cursor.base 0 word
 walked_shows z s m cursor m' w =
-    let shown : IsIn w.note m'.0.upper.notes = subst (λ (x : MyTree). IsIn w.note x.0.upper.notes) (sym w.now) (0, refl) in
+    let shown : IsIn w.note m'.0.upper.notes = subst
+    (λ (x : MyTree). IsIn w.note x.0.upper.notes) (sym w.now) (0, refl) in
     (get_or w.note.its 0 0, (w.note.its, inl (w.note, shown, inl (w.cursor_is.base, refl)), refl))

@@ -22,23 +22,37 @@ use Rattle.ca_rows.specs.declared.kept.Kept.{Kept}
 use Rattle.ca_rows.specs.declared.sizes.Sizes.{Sizes}
 
 -- Where rows were given back and the epoch isn't the cause, none is kept or an exchange was lost.
-pub none_or_lost : (lost : Bool) (losses before after budget kept kept' : ℕ) → (IsTrue lost ↔ (0 < losses)) → after < budget → budget ≤ 4294967295
-    → after ≡ min (before + losses) 4294967295 → kept ≡ kept' → (lost ≡ false → kept ≡ 0) → (kept' ≡ 0) ⊎ (before < after)
-none_or_lost true losses before after budget kept kept' some room most sum is none = let more = some.0 refl in inr (omega (arith, sum))
-none_or_lost false losses before after budget kept kept' some room most sum is none = let n = none refl in inl (omega (arith, is, n))
+pub none_or_lost : (lost : Bool) (losses before after budget kept kept' : ℕ)
+    → (IsTrue lost ↔ (0 < losses)) → after < budget → budget ≤ 4294967295
+    → after ≡ min (before + losses) 4294967295 → kept ≡ kept' → (lost ≡ false → kept ≡ 0)
+    → (kept' ≡ 0) ⊎ (before < after)
+none_or_lost true losses before after budget kept kept' some room most sum is none =
+    let more = some.0 refl in inr (omega (arith, sum))
+none_or_lost false losses before after budget kept kept' some room most sum is none =
+    let n = none refl in inl (omega (arith, is, n))
 
 -- The same, by the exchanges that were lost.
-pub none_or_more : (lost : Bool) (more kept : ℕ) → (IsTrue lost ↔ (0 < more)) → (lost ≡ false → kept ≡ 0) → (kept' : ℕ) → kept ≡ kept' → (m m' : MyTree)
+pub none_or_more : (lost : Bool) (more kept : ℕ) → (IsTrue lost ↔ (0 < more))
+    → (lost ≡ false → kept ≡ 0) → (kept' : ℕ) → kept ≡ kept' → (m m' : MyTree)
     → m'.0.lost ≡ m.0.lost + more → m'.0.upper ≡ m.0.upper → (kept' ≡ 0) ⊎ (losses m < losses m')
-none_or_more true more kept some none kept' is m m' sum same = let up = some.0 refl in let links = ap (λ (u : TreeView). u.lost) same in inr (omega arith)
-none_or_more false more kept some none kept' is m m' sum same = let n = none refl in inl (omega arith)
+none_or_more true more kept some none kept' is m m' sum same = let up = some.0 refl in
+    let links = ap (λ (u : TreeView). u.lost) same in inr (omega arith)
+none_or_more false more kept some none kept' is m m' sum same = let n = none refl in
+    inl (omega arith)
 
--- Each turn of the attempts brings their end nearer: fewer turns are left to be lost, or no row is kept any more.
-pub nearer : (budget before middle after kept kept' : ℕ) → before ≤ middle → middle ≤ after → (0 < kept) × (after < budget) × ((kept' ≡ 0) ⊎ (middle < after))
+-- Each turn of the attempts brings their end nearer: fewer turns are left to be lost, or no row is
+-- kept any more.
+pub nearer : (budget before middle after kept kept' : ℕ) → before ≤ middle → middle ≤ after
+    → (0 < kept) × (after < budget) × ((kept' ≡ 0) ⊎ (middle < after))
     → 2 * (budget - after) + min kept' 1 < 2 * (budget - before) + min kept 1
-nearer budget before middle after kept kept' a b again = let some = again.0 in let room = again.1 in ⊎_elim
-    (λ (e : kept' ≡ 0). let less : 2 * (budget - after) + min kept' 1 < 2 * (budget - before) + min kept 1 = omega (arith, e) in less)
-    (λ (l : middle < after). let less : 2 * (budget - after) + min kept' 1 < 2 * (budget - before) + min kept 1 = omega arith in less) again.2
+nearer budget before middle after kept kept' a b again = let some = again.0 in let room = again.1 in
+    ⊎_elim
+    (λ (e : kept' ≡ 0).
+    let less : 2 * (budget - after) + min kept' 1 < 2 * (budget - before) + min kept 1 =
+    omega (arith, e) in less)
+    (λ (l : middle < after).
+    let less : 2 * (budget - after) + min kept' 1 < 2 * (budget - before) + min kept 1 =
+    omega arith in less) again.2
 
 -- By the end of a call it has spent this in all since it began, when it had spent nothing.
 pub record HasSpentInAll (now : Spent) (m m' : MyTree) : Type 0 where
@@ -46,8 +60,10 @@ pub record HasSpentInAll (now : Spent) (m m' : MyTree) : Type 0 where
   pub none : (spent.lost ≡ 0) × (spent.helped ≡ 0) × (spent.passed ≡ 0)
   pub counted : IsPaid spent now m m'
 
--- What a call's last attempt tells of its end, which found the rows that it wanted and split no full base.
-pub record EndsSo {T : Type 0} (z : Sizes) (budget : ℕ) (adds : Option (List ℕ)) (tried : Result T Stop) (now : Spent) (m m' : MyTree) : Type 0 where
+-- What a call's last attempt tells of its end, which found the rows that it wanted and split no
+-- full base.
+pub record EndsSo {T : Type 0} (z : Sizes) (budget : ℕ) (adds : Option (List ℕ))
+    (tried : Result T Stop) (now : Spent) (m m' : MyTree) : Type 0 where
   pub full : tried ≡ Err stop.Empty → ⊥
   pub split : tried ≡ Err stop.Split → ⊥
   pub deep : tried ≡ Err stop.Deep → IsFull z adds m'.0.upper.last (after m'.0.upper.seen [])
@@ -56,19 +72,23 @@ pub record EndsSo {T : Type 0} (z : Sizes) (budget : ℕ) (adds : Option (List �
   pub worn : tried ≡ Err stop.Worn → m'.0.worn ≡ m.0.worn + 1
 
 -- Where the last attempt refuses the call, it has a cause.
-caused : {T : Type 0} (z : Sizes) (number budget : ℕ) (adds : Option (List ℕ)) (tried : Result T Stop) (now : Spent) (levels : ℕ) (m m' : MyTree)
+caused : {T : Type 0} (z : Sizes) (number budget : ℕ) (adds : Option (List ℕ))
+    (tried : Result T Stop) (now : Spent) (levels : ℕ) (m m' : MyTree)
     (kept kept' : Vec Kept Global) → levels ≡ z.levels → EndsSo z budget adds tried now m m'
     → IfErr (refused_as tried now levels) (λ why. IsCaused z number budget adds why m kept m' kept')
 caused z number budget adds (Ok x) now levels m m' kept kept' same e = tt
-caused z number budget adds (Err stop.Lost) now levels m m' kept kept' same e = let none = e.paid.none in let counted = e.paid.counted in
+caused z number budget adds (Err stop.Lost) now levels m m' kept kept' same e =
+    let none = e.paid.none in let counted = e.paid.counted in
     let zero = none.0 in let zero' = none.2 in (
       e.lost refl,
       (let sum = counted.lost (omega arith) in omega arith),
       counted.helped ∙ none.1,
       (let sum = counted.passed (omega arith) in omega arith),
     )
-caused z number budget adds (Err stop.Split) now levels m m' kept kept' same e = absurd (e.split refl)
-caused z number budget adds (Err stop.Empty) now levels m m' kept kept' same e = absurd (e.full refl)
+caused z number budget adds (Err stop.Split) now levels m m' kept kept' same e =
+    absurd (e.split refl)
+caused z number budget adds (Err stop.Empty) now levels m m' kept kept' same e =
+    absurd (e.full refl)
 caused z number budget adds (Err stop.Worn) now levels m m' kept kept' same e = e.worn refl
 caused z number budget adds (Err stop.Deep) now levels m m' kept kept' same e = (same, e.deep refl)
 
@@ -77,116 +97,172 @@ abbrev pub HasRefused : {T : Type 0} → Sizes → Result T Stop → Spent → R
 HasRefused z tried now r = (levels : ℕ) × (r ≡ refused_as tried now levels) × (levels ≡ z.levels)
 
 -- So it has by what the call comes to then.
-pub caused_as : {T : Type 0} (z : Sizes) (number budget : ℕ) (adds : Option (List ℕ)) (tried : Result T Stop) (r : Result T Refusal) (now : Spent)
+pub caused_as : {T : Type 0} (z : Sizes) (number budget : ℕ) (adds : Option (List ℕ))
+    (tried : Result T Stop) (r : Result T Refusal) (now : Spent)
     (m m' : MyTree) (kept kept' : Vec Kept Global) → HasRefused z tried now r
-    → EndsSo z budget adds tried now m m' → IfErr r (λ why. IsCaused z number budget adds why m kept m' kept')
+    → EndsSo z budget adds tried now m m'
+    → IfErr r (λ why. IsCaused z number budget adds why m kept m' kept')
 caused_as z number budget adds tried r now m m' kept kept' refused e =
     subst (λ x. IfErr x (λ why. IsCaused z number budget adds why m kept m' kept')) (sym refused.1)
     (caused z number budget adds tried now refused.0 m m' kept kept' refused.2 e)
 
--- What was added up is less than the budget, and so are the exchanges that were lost and the splits.
-unspent : (budget : ℕ) (now : Spent) (m m' : MyTree) → HasSpentInAll now m m' → total now < budget → IsUnspent budget m m'
-unspent budget now m m' paid room = let none = paid.none in let counted = paid.counted in let zero = none.0 in let zero' = none.2 in
-    let lost = counted.lost (omega arith) in let passed = counted.passed (omega arith) in omega arith
+-- What was added up is less than the budget, and so are the exchanges that were lost and the
+-- splits.
+unspent : (budget : ℕ) (now : Spent) (m m' : MyTree) → HasSpentInAll now m m' → total now < budget
+    → IsUnspent budget m m'
+unspent budget now m m' paid room = let none = paid.none in let counted = paid.counted in
+    let zero = none.0 in let zero' = none.2 in
+    let lost = counted.lost (omega arith) in let passed = counted.passed (omega arith) in
+    omega arith
 
--- So has a refusal once rows were given back, of an attempt that found the head empty: the first one, or one behind another that did so.
-pub refill_caused : (z : Sizes) (number budget begun : ℕ) (adds : Option (List ℕ)) (why : Refusal) (now : Spent) (m n m' : MyTree)
+-- So has a refusal once rows were given back, of an attempt that found the head empty: the first
+-- one, or one behind another that did so.
+pub refill_caused : (z : Sizes) (number budget begun : ℕ) (adds : Option (List ℕ)) (why : Refusal)
+    (now : Spent) (m n m' : MyTree)
     (kept kept' : Vec Kept Global)
     → HasSpentInAll now m m' → HasBegun begun (vec_len kept) m m'
-    → m.0.pin.looks ≤ n.0.pin.looks → IsRefill z.passes number budget begun now why n m' kept' → IsCaused z number budget adds why m kept m' kept'
-refill_caused z number budget begun adds (refusal.Busy s) now m n m' kept kept' paid first before h =
-    subst (λ (x : Spent). (budget ≤ total x) × (x.lost ≡ min 4294967295 (losses m' - losses m)) × (x.helped ≡ 0)
+    → m.0.pin.looks ≤ n.0.pin.looks → IsRefill z.passes number budget begun now why n m' kept'
+    → IsCaused z number budget adds why m kept m' kept'
+refill_caused z number budget begun adds (refusal.Busy s) now m n m' kept kept' paid first before
+    h =
+    subst (λ (x : Spent). (budget ≤ total x) × (x.lost ≡ min 4294967295 (losses m' - losses m))
+    × (x.helped ≡ 0)
     × (x.passed ≡ min 4294967295 (splits m' - splits m))) (sym h.0)
-    (let none = paid.none in let counted = paid.counted in let zero = none.0 in let zero' = none.2 in let same = h.0 in let enough : budget ≤ total now = subst (λ (x : Spent). budget ≤ total x) same h.1 in (
+    (let none = paid.none in let counted = paid.counted in let zero = none.0 in
+    let zero' = none.2 in let same = h.0 in
+    let enough : budget ≤ total now = subst (λ (x : Spent). budget ≤ total x) same h.1 in (
       enough,
       (let sum = counted.lost (omega arith) in omega arith),
       counted.helped ∙ none.1,
       (let sum = counted.passed (omega arith) in omega arith),
     ))
-refill_caused z number budget begun adds (refusal.Full cause) now m n m' kept kept' paid first before h = (
-  subst (λ k. HasBegun k (vec_len kept) m m') (sym h.0) first,
-  ⊎_elim (λ (e : begun ≡ 0). inl (h.0 ∙ e)) (λ (l : cause.lag ≢ Nothing). inr l) h.1,
-  (let more = h.2 in omega arith),
-  h.3,
-  unspent budget now m m' paid h.4,
-)
-refill_caused z number budget begun adds (refusal.Deep level) now m n m' kept kept' paid first before h = absurd h
-refill_caused z number budget begun adds (refusal.Worn counter.PoolTag) now m n m' kept kept' paid first before h = absurd h
-refill_caused z number budget begun adds (refusal.Worn counter.Epoch) now m n m' kept kept' paid first before h = (
-  (begun, h.4, first),
-  (let more = h.0 in omega arith),
-  h.1,
-  h.2,
-  h.5,
-  unspent budget now m m' paid h.3,
-)
-refill_caused z number budget begun adds (refusal.Worn counter.Sequence) now m n m' kept kept' paid first before h = absurd h
+refill_caused z number budget begun adds (refusal.Full cause) now m n m' kept kept' paid first
+    before h = (
+      subst (λ k. HasBegun k (vec_len kept) m m') (sym h.0) first,
+      ⊎_elim (λ (e : begun ≡ 0). inl (h.0 ∙ e)) (λ (l : cause.lag ≢ Nothing). inr l) h.1,
+      (let more = h.2 in omega arith),
+      h.3,
+      unspent budget now m m' paid h.4,
+    )
+refill_caused z number budget begun adds (refusal.Deep level) now m n m' kept kept' paid first
+    before h = absurd h
+refill_caused z number budget begun adds (refusal.Worn counter.PoolTag) now m n m' kept kept' paid
+    first before h = absurd h
+refill_caused z number budget begun adds (refusal.Worn counter.Epoch) now m n m' kept kept' paid
+    first before h = (
+      (begun, h.4, first),
+      (let more = h.0 in omega arith),
+      h.1,
+      h.2,
+      h.5,
+      unspent budget now m m' paid h.3,
+    )
+refill_caused z number budget begun adds (refusal.Worn counter.Sequence) now m n m' kept kept' paid
+    first before h = absurd h
 
 -- What is known of a refusal is so still once it is counted.
 module _ (m m' m'' : MyTree) (counts : Counts) (kept kept' kept'' : Vec Kept Global)
-    (counted : m'' ≡ with_upper m' (record m'.0.upper { counts = counts })) (same : kept'' ≡ kept') where
-  as_counted : (P : MyTree → Vec Kept Global → Type 0) → P (with_upper m' (record m'.0.upper { counts = counts })) kept' → P m'' kept''
-  as_counted P h = subst (λ (x : MyTree × Vec Kept Global). P x.0 x.1) (λ i. (sym counted i, sym same i)) h
+    (counted : m'' ≡ with_upper m' (record m'.0.upper { counts = counts }))
+    (same : kept'' ≡ kept') where
+  as_counted : (P : MyTree → Vec Kept Global → Type 0)
+      → P (with_upper m' (record m'.0.upper { counts = counts })) kept' → P m'' kept''
+  as_counted P h = subst (λ (x : MyTree × Vec Kept Global). P x.0 x.1)
+      (λ i. (sym counted i, sym same i)) h
 
-  pub caused_still : {T : Type 0} (z : Sizes) (number budget : ℕ) (adds : Option (List ℕ)) (why : Refusal) (o : Outcome T) → o ≡ outcome_of why
-      → IsCaused z number budget adds why m kept m' kept' → IfRefusedAs o (λ why. IsCaused z number budget adds why m kept m'' kept'')
-  caused_still {T} z number budget adds why o is h = subst (λ (x : Outcome T). IfRefusedAs x (λ y. IsCaused z number budget adds y m kept m'' kept''))
+  pub caused_still : {T : Type 0} (z : Sizes) (number budget : ℕ) (adds : Option (List ℕ))
+      (why : Refusal) (o : Outcome T) → o ≡ outcome_of why
+      → IsCaused z number budget adds why m kept m' kept'
+      → IfRefusedAs o (λ why. IsCaused z number budget adds why m kept m'' kept'')
+  caused_still {T} z number budget adds why o is h = subst
+      (λ (x : Outcome T). IfRefusedAs x (λ y. IsCaused z number budget adds y m kept m'' kept''))
       (sym is) (by why h)
     where
       by : (why : Refusal) → IsCaused z number budget adds why m kept m' kept'
-          → IfRefusedAs {T = T} (outcome_of why) (λ y. IsCaused z number budget adds y m kept m'' kept'')
-      by (refusal.Busy spent) h = as_counted (λ x k. IsCaused z number budget adds (refusal.Busy spent) m kept x k) h
-      by (refusal.Full cause) h = as_counted (λ x k. IsCaused z number budget adds (refusal.Full cause) m kept x k) h
-      by (refusal.Deep level) h = as_counted (λ x k. IsCaused z number budget adds (refusal.Deep level) m kept x k) h
-      by (refusal.Worn counter.PoolTag) h = as_counted (λ x k. IsCaused z number budget adds (refusal.Worn counter.PoolTag) m kept x k) h
-      by (refusal.Worn counter.Epoch) h = as_counted (λ x k. IsCaused z number budget adds (refusal.Worn counter.Epoch) m kept x k) h
+          → IfRefusedAs {T = T} (outcome_of why)
+          (λ y. IsCaused z number budget adds y m kept m'' kept'')
+      by (refusal.Busy spent) h = as_counted
+          (λ x k. IsCaused z number budget adds (refusal.Busy spent) m kept x k) h
+      by (refusal.Full cause) h = as_counted
+          (λ x k. IsCaused z number budget adds (refusal.Full cause) m kept x k) h
+      by (refusal.Deep level) h = as_counted
+          (λ x k. IsCaused z number budget adds (refusal.Deep level) m kept x k) h
+      by (refusal.Worn counter.PoolTag) h = as_counted
+          (λ x k. IsCaused z number budget adds (refusal.Worn counter.PoolTag) m kept x k) h
+      by (refusal.Worn counter.Epoch) h = as_counted
+          (λ x k. IsCaused z number budget adds (refusal.Worn counter.Epoch) m kept x k) h
       by (refusal.Worn counter.Sequence) h = absurd h
 
   pub few_still : KeepsFew m m' kept' → KeepsFew m m'' kept''
   few_still h = as_counted (λ x k. KeepsFew m x k) h
 
 -- A call that is refused for want of levels may add a key.
-pub deep_adds : {T : Type 0} (z : Sizes) (number budget : ℕ) (adds : Option (List ℕ)) (why : Refusal) (o : Outcome T) (m m' : MyTree)
-    (kept kept' : Vec Kept Global) → o ≡ outcome_of why → IsCaused z number budget adds why m kept m' kept' → IfDeep o (adds ≢ Nothing)
-deep_adds {T} z number budget adds why o m m' kept kept' is h = subst (λ (x : Outcome T). IfDeep x (adds ≢ Nothing)) (sym is) (by why h)
+pub deep_adds : {T : Type 0} (z : Sizes) (number budget : ℕ) (adds : Option (List ℕ))
+    (why : Refusal) (o : Outcome T) (m m' : MyTree)
+    (kept kept' : Vec Kept Global) → o ≡ outcome_of why
+    → IsCaused z number budget adds why m kept m' kept' → IfDeep o (adds ≢ Nothing)
+deep_adds {T} z number budget adds why o m m' kept kept' is h = subst
+    (λ (x : Outcome T). IfDeep x (adds ≢ Nothing)) (sym is) (by why h)
   where
-    adds_one : (a : Option (List ℕ)) → IsFull z a m'.0.upper.last (after m'.0.upper.seen []) → a ≢ Nothing
+    adds_one : (a : Option (List ℕ)) → IsFull z a m'.0.upper.last (after m'.0.upper.seen [])
+        → a ≢ Nothing
     adds_one Nothing full = absurd full
     adds_one (Just key) full = λ e. cc
 
-    by : (why : Refusal) → IsCaused z number budget adds why m kept m' kept' → IfDeep {T = T} (outcome_of why) (adds ≢ Nothing)
+    by : (why : Refusal) → IsCaused z number budget adds why m kept m' kept'
+        → IfDeep {T = T} (outcome_of why) (adds ≢ Nothing)
     by (refusal.Busy spent) h = tt
     by (refusal.Full cause) h = tt
     by (refusal.Deep level) h = adds_one adds h.1
     by (refusal.Worn counter) h = tt
 
 -- Few rows are kept, as seen from a moment before.
-pub few_from : (k m m' : MyTree) (kept : Vec Kept Global) → k.0.pin.looks ≤ m.0.pin.looks → KeepsFew m m' kept → KeepsFew k m' kept
-few_from k m m' kept looks few = ⊎_elim inl (λ rest. let more = rest.0 in inr (omega arith, rest.1)) few
+pub few_from : (k m m' : MyTree) (kept : Vec Kept Global) → k.0.pin.looks ≤ m.0.pin.looks
+    → KeepsFew m m' kept → KeepsFew k m' kept
+few_from k m m' kept looks few = ⊎_elim inl
+    (λ rest. let more = rest.0 in inr (omega arith, rest.1)) few
 
--- No attempt found the head empty until now, and so many rows are kept as at first; or one did, of a call that had begun with rows kept, and none is
+-- No attempt found the head empty until now, and so many rows are kept as at first; or one did, of
+-- a call that had begun with rows kept, and none is
 -- kept now, unless an exchange was lost.
 abbrev pub Before : ℕ → MyTree → MyTree → Vec Kept Global → Type 0
-Before kept m0 m kept0 = ((kept ≡ vec_len kept0) × (m.0.empty ≡ m0.0.empty)) ⊎ ((m0.0.empty + 1 ≤ m.0.empty) × (0 < vec_len kept0)
+Before kept m0 m kept0 = ((kept ≡ vec_len kept0) × (m.0.empty ≡ m0.0.empty))
+    ⊎ ((m0.0.empty + 1 ≤ m.0.empty) × (0 < vec_len kept0)
     × ((kept ≡ 0) ⊎ (losses m0 < losses m)))
 
--- An attempt that found the head empty, behind others that did so or as the first one, and then rows were given back.
+-- An attempt that found the head empty, behind others that did so or as the first one, and then
+-- rows were given back.
 pub begun_with : (begun kept : ℕ) (m0 m m1 m2 : MyTree) (kept0 : Vec Kept Global) → begun ≡ kept
-    → Before kept m0 m kept0 → losses m ≤ losses m2 → HasMet 1 0 m m1 → HasMet 0 0 m1 m2 → HasBegun begun (vec_len kept0) m0 m2
-begun_with begun kept m0 m m1 m2 kept0 is so more one two = let up = one.0 in let same = two.0 in ⊎_elim
-    (λ (e : (kept ≡ vec_len kept0) × (m.0.empty ≡ m0.0.empty)). let none = e.1 in inl (is ∙ e.0, omega arith))
-    (λ (l : (m0.0.empty + 1 ≤ m.0.empty) × (0 < vec_len kept0) × ((kept ≡ 0) ⊎ (losses m0 < losses m))). let before = l.0 in
-    inr (omega arith, l.1, ⊎_elim (λ (z : kept ≡ 0). inl (is ∙ z)) (λ (lost : losses m0 < losses m). inr (omega arith)) l.2)) so
+    → Before kept m0 m kept0 → losses m ≤ losses m2 → HasMet 1 0 m m1 → HasMet 0 0 m1 m2
+    → HasBegun begun (vec_len kept0) m0 m2
+begun_with begun kept m0 m m1 m2 kept0 is so more one two = let up = one.0 in let same = two.0 in
+    ⊎_elim
+    (λ (e : (kept ≡ vec_len kept0) × (m.0.empty ≡ m0.0.empty)). let none = e.1 in
+    inl (is ∙ e.0, omega arith))
+    (λ (l : (m0.0.empty + 1 ≤ m.0.empty) × (0 < vec_len kept0)
+    × ((kept ≡ 0) ⊎ (losses m0 < losses m))). let before = l.0 in
+    inr (
+      omega arith,
+      l.1,
+      ⊎_elim (λ (z : kept ≡ 0). inl (is ∙ z))
+          (λ (lost : losses m0 < losses m). inr (omega arith)) l.2,
+    )) so
 
 -- So the head was found empty before, as seen from the next attempt.
-pub empty_before : (kept begun kept2 : ℕ) (m0 m m1 m2 : MyTree) (kept0 : Vec Kept Global) → begun ≡ kept → 0 < begun → losses m0 ≤ losses m1
-    → (kept2 ≡ 0) ⊎ (losses m1 < losses m2) → Before kept m0 m kept0 → HasMet 1 0 m m1 → HasMet 0 0 m1 m2
+pub empty_before : (kept begun kept2 : ℕ) (m0 m m1 m2 : MyTree) (kept0 : Vec Kept Global)
+    → begun ≡ kept → 0 < begun → losses m0 ≤ losses m1
+    → (kept2 ≡ 0) ⊎ (losses m1 < losses m2) → Before kept m0 m kept0 → HasMet 1 0 m m1
+    → HasMet 0 0 m1 m2
     → (m0.0.empty + 1 ≤ m2.0.empty) × (0 < vec_len kept0) × ((kept2 ≡ 0) ⊎ (losses m0 < losses m2))
-empty_before kept begun kept2 m0 m m1 m2 kept0 is some more now so one two = let up = one.0 in let same = two.0 in (
-  ⊎_elim (λ (e : (kept ≡ vec_len kept0) × (m.0.empty ≡ m0.0.empty)). let none = e.1 in let l : m0.0.empty + 1 ≤ m2.0.empty = omega arith in l)
-      (λ (b : (m0.0.empty + 1 ≤ m.0.empty) × (0 < vec_len kept0) × ((kept ≡ 0) ⊎ (losses m0 < losses m))). let before = b.0 in
-      let l : m0.0.empty + 1 ≤ m2.0.empty = omega arith in l) so,
-  ⊎_elim (λ (e : (kept ≡ vec_len kept0) × (m.0.empty ≡ m0.0.empty)). let as_many = e.0 in let l : 0 < vec_len kept0 = omega arith in l)
-      (λ (b : (m0.0.empty + 1 ≤ m.0.empty) × (0 < vec_len kept0) × ((kept ≡ 0) ⊎ (losses m0 < losses m))). b.1) so,
-  ⊎_elim inl (λ (l : losses m1 < losses m2). inr (omega arith)) now,
-)
+empty_before kept begun kept2 m0 m m1 m2 kept0 is some more now so one two = let up = one.0 in
+    let same = two.0 in (
+      ⊎_elim (λ (e : (kept ≡ vec_len kept0) × (m.0.empty ≡ m0.0.empty)). let none = e.1 in
+          let l : m0.0.empty + 1 ≤ m2.0.empty = omega arith in l)
+          (λ (b : (m0.0.empty + 1 ≤ m.0.empty) × (0 < vec_len kept0)
+          × ((kept ≡ 0) ⊎ (losses m0 < losses m))). let before = b.0 in
+          let l : m0.0.empty + 1 ≤ m2.0.empty = omega arith in l) so,
+      ⊎_elim (λ (e : (kept ≡ vec_len kept0) × (m.0.empty ≡ m0.0.empty)). let as_many = e.0 in
+          let l : 0 < vec_len kept0 = omega arith in l)
+          (λ (b : (m0.0.empty + 1 ≤ m.0.empty) × (0 < vec_len kept0)
+          × ((kept ≡ 0) ⊎ (losses m0 < losses m))). b.1) so,
+      ⊎_elim inl (λ (l : losses m1 < losses m2). inr (omega arith)) now,
+    )

@@ -14,7 +14,8 @@ pub none_met : (m : MyTree) → HasMet 0 0 m m
 none_met m = (omega arith, omega arith)
 
 -- What was met by an attempt, behind others that met nothing.
-pub met_then : {T : Type 0} (r : Result T Stop) (k m n : MyTree) → HasMet 0 0 k m → HasMetBy r m n → HasMetBy r k n
+pub met_then : {T : Type 0} (r : Result T Stop) (k m n : MyTree) → HasMet 0 0 k m → HasMetBy r m n
+    → HasMetBy r k n
 met_then (Ok x) k m n a b = tt
 met_then (Err stop.Lost) k m n a b = met_both 0 0 0 0 k m n a b
 met_then (Err stop.Split) k m n a b = met_both 0 0 0 0 k m n a b
@@ -22,24 +23,32 @@ met_then (Err stop.Empty) k m n a b = met_both 0 0 1 0 k m n a b
 met_then (Err stop.Worn) k m n a b = met_both 0 0 0 1 k m n a b
 met_then (Err stop.Deep) k m n a b = met_both 0 0 0 0 k m n a b
 
--- An attempt after which another turn may follow met nothing; an exchange was lost, or a base was split.
-pub met_turn : {T : Type 0} (r : Result T Stop) (m m' : MyTree) → (r ≡ Err stop.Lost) ⊎ (r ≡ Err stop.Split) → HasStopped r m m'
+-- An attempt after which another turn may follow met nothing; an exchange was lost, or a base was
+-- split.
+pub met_turn : {T : Type 0} (r : Result T Stop) (m m' : MyTree) → (r ≡ Err stop.Lost)
+    ⊎ (r ≡ Err stop.Split) → HasStopped r m m'
     → HasMet 0 0 m m' × ((losses m < losses m') ⊎ (splits m < splits m'))
-met_turn r m m' e h = ⊎_elim (λ (l : r ≡ Err stop.Lost). (subst (λ (x : Result _ Stop). HasMetBy x m m') l h.0, inl (h.1 l)))
-    (λ (s : r ≡ Err stop.Split). (subst (λ (x : Result _ Stop). HasMetBy x m m') s h.0, inr (h.2 s))) e
+met_turn r m m' e h = ⊎_elim
+    (λ (l : r ≡ Err stop.Lost). (subst (λ (x : Result _ Stop). HasMetBy x m m') l h.0, inl (h.1 l)))
+    (λ (s : r ≡ Err stop.Split). (
+      subst (λ (x : Result _ Stop). HasMetBy x m m') s h.0,
+      inr (h.2 s),
+    )) e
 
 -- What was paid in two parts.
 pub paid_both : (a b c : Spent) (k m n : MyTree) → IsPaid a b k m → IsPaid b c m n → IsPaid a c k n
-paid_both a b c k m n x y = let more = x.more in let more' = y.more in let cut = x.more_splits in let cut' = y.more_splits in record {
-  more = omega arith;
-  lost = λ fits. let one = x.lost fits in let two = y.lost (omega arith) in omega arith;
-  helped = y.helped ∙ x.helped;
-  more_splits = omega arith;
-  passed = λ fits. let one = x.passed fits in let two = y.passed (omega arith) in omega arith;
-}
+paid_both a b c k m n x y = let more = x.more in let more' = y.more in let cut = x.more_splits in
+    let cut' = y.more_splits in record {
+      more = omega arith;
+      lost = λ fits. let one = x.lost fits in let two = y.lost (omega arith) in omega arith;
+      helped = y.helped ∙ x.helped;
+      more_splits = omega arith;
+      passed = λ fits. let one = x.passed fits in let two = y.passed (omega arith) in omega arith;
+    }
 
 -- Nothing was paid.
-pub none_paid : (a : Spent) (m m' : MyTree) → losses m' ≡ losses m → splits m' ≡ splits m → IsPaid a a m m'
+pub none_paid : (a : Spent) (m m' : MyTree) → losses m' ≡ losses m → splits m' ≡ splits m
+    → IsPaid a a m m'
 none_paid a m m' same same' = record {
   more = omega arith;
   lost = λ fits. omega arith;
@@ -49,7 +58,8 @@ none_paid a m m' same same' = record {
 }
 
 -- Exchanges alone were lost, and no base was split.
-pub paid_of : (a b : Spent) (m m' : MyTree) → IsSpent a b m m' → splits m' ≡ splits m → IsPaid a b m m'
+pub paid_of : (a b : Spent) (m m' : MyTree) → IsSpent a b m m' → splits m' ≡ splits m
+    → IsPaid a b m m'
 paid_of a b m m' x same = let also = x.passed in record {
   more = x.more;
   lost = x.lost;
@@ -59,20 +69,28 @@ paid_of a b m m' x same = let also = x.passed in record {
 }
 
 -- Each such turn is a turn less.
-pub one_turn_less : (a b : Spent) (budget : ℕ) (m m' : MyTree) → min 4294967295 (total a) < budget → budget ≤ 4294967295 → IsPaid a b m m'
+pub one_turn_less : (a b : Spent) (budget : ℕ) (m m' : MyTree) → min 4294967295 (total a) < budget
+    → budget ≤ 4294967295 → IsPaid a b m m'
     → (losses m < losses m') ⊎ (splits m < splits m') → budget - total b < budget - total a
-one_turn_less a b budget m m' room most paid more = let sum = paid.lost (omega arith) in let cut = paid.passed (omega arith) in let also = paid.helped in
+one_turn_less a b budget m m' room most paid more = let sum = paid.lost (omega arith) in
+    let cut = paid.passed (omega arith) in let also = paid.helped in
     let up = paid.more in let up' = paid.more_splits in ⊎_elim
-    (λ (l : losses m < losses m'). let less : budget - total b < budget - total a = omega arith in less)
-    (λ (l : splits m < splits m'). let less : budget - total b < budget - total a = omega arith in less) more
+    (λ (l : losses m < losses m'). let less : budget - total b < budget - total a = omega arith in
+    less)
+    (λ (l : splits m < splits m'). let less : budget - total b < budget - total a = omega arith in
+    less) more
 
 -- What was spent doesn't fall.
-pub spends_more : (a b c : Spent) (k m n : MyTree) → (a.lost ≡ 0) × (a.helped ≡ 0) × (a.passed ≡ 0) → IsPaid a b k m → IsPaid b c m n → total b ≤ total c
-spends_more a b c k m n none x y = let zero = none.0 in let zero' = none.2 in let one = x.lost (omega arith) in let two = y.lost (omega arith) in
-    let cut = x.passed (omega arith) in let cut' = y.passed (omega arith) in let also = y.helped in omega arith
+pub spends_more : (a b c : Spent) (k m n : MyTree) → (a.lost ≡ 0) × (a.helped ≡ 0) × (a.passed ≡ 0)
+    → IsPaid a b k m → IsPaid b c m n → total b ≤ total c
+spends_more a b c k m n none x y = let zero = none.0 in let zero' = none.2 in
+    let one = x.lost (omega arith) in let two = y.lost (omega arith) in
+    let cut = x.passed (omega arith) in let cut' = y.passed (omega arith) in let also = y.helped in
+    omega arith
 
 -- What an attempt met behind a look.
-pub stopped_behind : {T : Type 0} (r : Result T Stop) (k m n : MyTree) → IsQuiet k m → HasStopped r m n → HasStopped r k n
+pub stopped_behind : {T : Type 0} (r : Result T Stop) (k m n : MyTree) → IsQuiet k m
+    → HasStopped r m n → HasStopped r k n
 stopped_behind r k m n q h = let lost = q.lost in let same = q.splits_are in (
   met_then r k m n q.met h.0,
   (λ e. let more = h.1 e in omega arith),
@@ -84,7 +102,8 @@ pub done_stopped : {T : Type 0} (x : T) (m n : MyTree) → HasStopped (Ok x) m n
 done_stopped x m n = (tt, (λ e. cc), λ e. cc)
 
 -- One that came to a stop, told of another type of answers.
-pub stop_stopped : (T U : Type 0) (why : Stop) (k m n : MyTree) → IsQuiet k m → HasStopped {T = T} (Err why) m n → HasStopped {T = U} (Err why) k n
+pub stop_stopped : (T U : Type 0) (why : Stop) (k m n : MyTree) → IsQuiet k m
+    → HasStopped {T = T} (Err why) m n → HasStopped {T = U} (Err why) k n
 stop_stopped T U why k m n q h = by why (stopped_behind {T = T} (Err why) k m n q h)
   where
     by : (why : Stop) → HasStopped {T = T} (Err why) k n → HasStopped {T = U} (Err why) k n
@@ -95,12 +114,14 @@ stop_stopped T U why k m n q h = by why (stopped_behind {T = T} (Err why) k m n 
     by stop.Deep h = (h.0, (λ e. cc), λ e. cc)
 
 -- What was lost as rows were given back was paid, too.
-pub paid_given : (a : Spent) (lost sum : ℕ) (m m' : MyTree) → sum ≡ min (a.lost + lost) 4294967295 → m'.0.lost ≡ m.0.lost + lost → m'.0.upper ≡ m.0.upper
+pub paid_given : (a : Spent) (lost sum : ℕ) (m m' : MyTree) → sum ≡ min (a.lost + lost) 4294967295
+    → m'.0.lost ≡ m.0.lost + lost → m'.0.upper ≡ m.0.upper
     → IsPaid a (record a { lost = sum }) m m'
-paid_given a lost sum m m' is more same = let upper = ap (λ (u : TreeView). u.lost) same in let cut = ap (λ (u : TreeView). u.splits) same in record {
-  more = omega arith;
-  lost = λ fits. omega arith;
-  helped = refl;
-  more_splits = omega arith;
-  passed = λ fits. omega arith;
-}
+paid_given a lost sum m m' is more same = let upper = ap (λ (u : TreeView). u.lost) same in
+    let cut = ap (λ (u : TreeView). u.splits) same in record {
+      more = omega arith;
+      lost = λ fits. omega arith;
+      helped = refl;
+      more_splits = omega arith;
+      passed = λ fits. omega arith;
+    }

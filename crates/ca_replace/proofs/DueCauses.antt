@@ -22,8 +22,10 @@ use Rattle.ca_rows.specs.declared.sizes.Sizes.{Sizes}
 use Rattle.ca_rows.specs.declared.view.Met.{Met}
 use Rattle.ca_rows.specs.Told.{met_of}
 
--- What a try to split a base answers was met since the update, where nothing had been met since until then.
-split_met_by : (z : Sizes) (note : Note) (w : Why) (m m' : MyTree) → met_of m ≡ m.0.upper.renewal.met → m.0.upper.lost ≡ m.0.upper.renewal.lost
+-- What a try to split a base answers was met since the update, where nothing had been met since
+-- until then.
+split_met_by : (z : Sizes) (note : Note) (w : Why) (m m' : MyTree)
+    → met_of m ≡ m.0.upper.renewal.met → m.0.upper.lost ≡ m.0.upper.renewal.lost
     → IsNotSplitBy z note w m m' → IsMetAs (adapted.NotSplit w) (met_of m') m'.0.upper
 split_met_by z note why.Root m m' met lost h = tt
 split_met_by z note why.OneObject m m' met lost h = tt
@@ -31,39 +33,53 @@ split_met_by z note why.AtLevel m m' met lost h = tt
 split_met_by z note why.SiblingRoute m m' met lost h = tt
 split_met_by z note why.TooMany m m' met lost h = tt
 split_met_by z note why.Taken m m' met lost h = tt
-split_met_by z note why.Lost m m' met lost h = let pool = ap (λ (x : Met). x.lost) met in let more = h.1 in ⊎_elim
-    (λ (e : m'.0.upper ≡ m.0.upper). let then = ap (λ (u : TreeView). u.renewal.met.lost) e in let links = ap (λ (u : TreeView). u.lost) e in
+split_met_by z note why.Lost m m' met lost h = let pool = ap (λ (x : Met). x.lost) met in
+    let more = h.1 in ⊎_elim
+    (λ (e : m'.0.upper ≡ m.0.upper). let then = ap (λ (u : TreeView). u.renewal.met.lost) e in
+    let links = ap (λ (u : TreeView). u.lost) e in
     inl (omega arith))
-    (λ (e : m'.0.upper ≡ one_more_lost m.0.upper). let then = ap (λ (u : TreeView). u.renewal.lost) e in let links = ap (λ (u : TreeView). u.lost) e in
+    (λ (e : m'.0.upper ≡ one_more_lost m.0.upper). let
+    then = ap (λ (u : TreeView). u.renewal.lost) e in
+    let links = ap (λ (u : TreeView). u.lost) e in
     inr (omega arith)) h.3
-split_met_by z note why.NoRow m m' met lost h = let pool = ap (λ (x : Met). x.empty) met in let one = h.1.0 in
+split_met_by z note why.NoRow m m' met lost h = let pool = ap (λ (x : Met). x.empty) met in
+    let one = h.1.0 in
     let then = ap (λ (u : TreeView). u.renewal.met.empty) h.2 in omega arith
-split_met_by z note why.Worn m m' met lost h = let pool = ap (λ (x : Met). x.worn) met in let one = h.1.1 in
+split_met_by z note why.Worn m m' met lost h = let pool = ap (λ (x : Met). x.worn) met in
+    let one = h.1.1 in
     let then = ap (λ (u : TreeView). u.renewal.met.worn) h.2 in omega arith
 
 -- The pass walked to the key of its update anew, and tried to split the base that it came to.
-pub split_met : (z : Sizes) (key : Bor (List ℕ)) (placed : ℕ) (note : Note) (a : Adapted) (k m m' : MyTree) (cursor : Cursor)
-    → IsNew placed key.now (met_of k) k.0.upper → IsWalked z (spot.At key) k cursor m → IsSplitAs z note a m m' → IsMetAs a (met_of m') m'.0.upper
+pub split_met : (z : Sizes) (key : Bor (List ℕ)) (placed : ℕ) (note : Note) (a : Adapted)
+    (k m m' : MyTree) (cursor : Cursor)
+    → IsNew placed key.now (met_of k) k.0.upper → IsWalked z (spot.At key) k cursor m
+    → IsSplitAs z note a m m' → IsMetAs a (met_of m') m'.0.upper
 split_met z key placed note adapted.Stay k m m' cursor new w h = tt
 split_met z key placed note adapted.Split k m m' cursor new w h = tt
 split_met z key placed note adapted.Joined k m m' cursor new w h = tt
 split_met z key placed note (adapted.NotSplit r) k m m' cursor new w h = split_met_by z note r m m'
     (ap met_of w.now ∙ (new.met_are ∙ ap (λ (x : MyTree). x.0.upper.renewal.met) (sym w.now)))
-    (ap (λ (x : MyTree). x.0.upper.lost) w.now ∙ (new.lost_are ∙ ap (λ (x : MyTree). x.0.upper.renewal.lost) (sym w.now))) h
+    (ap (λ (x : MyTree). x.0.upper.lost) w.now
+    ∙ (new.lost_are ∙ ap (λ (x : MyTree). x.0.upper.renewal.lost) (sym w.now))) h
 split_met z key placed note (adapted.NotJoined r) k m m' cursor new w h = tt
 
 -- So it was by what followed an attempt's exchange.
-settled_by : (P : Type 0) (tried : Result Bool NoRow) → (tried ≡ Ok true → P) → IfEdited {E = Stop} (λ _. true) (come_to tried) P
+settled_by : (P : Type 0) (tried : Result Bool NoRow) → (tried ≡ Ok true → P)
+    → IfEdited {E = Stop} (λ _. true) (come_to tried) P
 settled_by P (Ok true) met = met refl
 settled_by P (Ok false) met = tt
 settled_by P (Err why) met = tt
 
-pub settled_met : (P : Type 0) (tried : Result Bool NoRow) (r : Result (Unit {0}) Stop) → r ≡ come_to tried → (tried ≡ Ok true → P)
+pub settled_met : (P : Type 0) (tried : Result Bool NoRow) (r : Result (Unit {0}) Stop)
+    → r ≡ come_to tried → (tried ≡ Ok true → P)
     → IfEdited (λ (_ : Unit {0}). true) r P
-settled_met P tried r is met = subst (λ (x : Result (Unit {0}) Stop). IfEdited (λ (_ : Unit {0}). true) x P) (sym is) (settled_by P tried met)
+settled_met P tried r is met = subst
+    (λ (x : Result (Unit {0}) Stop). IfEdited
+    (λ (_ : Unit {0}). true) x P) (sym is) (settled_by P tried met)
 
 -- So it is as attempts end a call.
-met_refused : {T : Type 0} (P : Type 0) (edits : T → Bool) (tried : Result T Stop) (spent : Spent) (levels : ℕ) → IfEdited edits tried P
+met_refused : {T : Type 0} (P : Type 0) (edits : T → Bool) (tried : Result T Stop) (spent : Spent)
+    (levels : ℕ) → IfEdited edits tried P
     → IfEdited edits (refused_as tried spent levels) P
 met_refused P edits (Ok x) spent levels h = h
 met_refused P edits (Err stop.Lost) spent levels h = tt
@@ -72,7 +88,9 @@ met_refused P edits (Err stop.Empty) spent levels h = tt
 met_refused P edits (Err stop.Worn) spent levels h = tt
 met_refused P edits (Err stop.Deep) spent levels h = tt
 
-pub refused_met : {T : Type 0} (P : Type 0) (edits : T → Bool) (tried : Result T Stop) (r : Result T Refusal) (spent : Spent) (levels : ℕ)
+pub refused_met : {T : Type 0} (P : Type 0) (edits : T → Bool) (tried : Result T Stop)
+    (r : Result T Refusal) (spent : Spent) (levels : ℕ)
     → r ≡ refused_as tried spent levels → IfEdited edits tried P → IfEdited edits r P
-refused_met {T} P edits tried r spent levels is h = subst (λ (x : Result T Refusal). IfEdited edits x P) (sym is)
+refused_met {T} P edits tried r spent levels is h = subst
+    (λ (x : Result T Refusal). IfEdited edits x P) (sym is)
     (met_refused P edits tried spent levels h)

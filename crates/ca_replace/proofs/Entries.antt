@@ -18,9 +18,11 @@ pub last_state : (h : History) → state h (length h) ≡ after h []
 last_state h = ap (λ (x : History). state x (length h)) (sym (append-nil h)) ∙ state_there h []
 
 -- The log is lawful with the call in it.
-pub known_read : (z : Sizes) (u : TreeView) (event : Event) → IsKnown z u → IsReadNow event u → IsKnown z (entered u event)
+pub known_read : (z : Sizes) (u : TreeView) (event : Event) → IsKnown z u → IsReadNow event u
+    → IsKnown z (entered u event)
 known_read z u event k now = record {
-  lawful = read_lawful u.number event u.seen (length u.seen) u.log now.0 (omega arith) (subst (IsAnswer event) (sym (last_state u.seen)) now.1) k.past k.lawful;
+  lawful = read_lawful u.number event u.seen (length u.seen) u.log now.0 (omega arith)
+      (subst (IsAnswer event) (sym (last_state u.seen)) now.1) k.past k.lawful;
   past = past_more (length u.seen) u.log (event, length u.seen) k.past (omega arith);
   edits = k.edits;
   enrolled = k.enrolled;
@@ -28,21 +30,28 @@ known_read z u event k now = record {
 }
 
 -- What the pass holds doesn't depend on what it knows of the tree.
-pub held_upper : (rows : ℕ) (kept kept' : KeptRows) (m m' : MyTree) (u : TreeView) (held : List ℕ) → AreHeld rows kept.rows m.0 held → m' ≡ with_upper m u
+pub held_upper : (rows : ℕ) (kept kept' : KeptRows) (m m' : MyTree) (u : TreeView) (held : List ℕ)
+    → AreHeld rows kept.rows m.0 held → m' ≡ with_upper m u
     → kept' ≡ kept → AreHeld rows kept'.rows m'.0 held
-held_upper rows kept kept' m m' u held h is same = subst (λ (x : MyTree × KeptRows). AreHeld rows x.1.rows x.0.0 held) (λ i. (sym is i, sym same i))
-    (record { are_kept = h.0.are_kept; only = h.0.only; each = h.0.each }, record { now = h.1.now; ever = h.1.ever })
+held_upper rows kept kept' m m' u held h is same = subst
+    (λ (x : MyTree × KeptRows). AreHeld rows x.1.rows x.0.0 held) (λ i. (sym is i, sym same i)) (
+      record { are_kept = h.0.are_kept; only = h.0.only; each = h.0.each },
+      record { now = h.1.now; ever = h.1.ever },
+    )
 
 -- Nor on what it was shown by a look.
-pub held_looked : (rows : ℕ) (kept kept' : KeptRows) (m m' : MyTree) (held : List ℕ) → AreHeld rows kept.rows m.0 held → kept' ≡ kept
+pub held_looked : (rows : ℕ) (kept kept' : KeptRows) (m m' : MyTree) (held : List ℕ)
+    → AreHeld rows kept.rows m.0 held → kept' ≡ kept
     → m'.0.claims ≡ m.0.claims → m'.0.most ≡ m.0.most → AreHeld rows kept'.rows m'.0 held
 held_looked rows kept kept' m m' held h same claims most = let ever = h.1.ever in (
-  subst (λ (k : KeptRows). HasHeld rows k.rows m'.0.claims held) (sym same) (subst (λ x. HasHeld rows kept.rows x held) (sym claims) h.0),
+  subst (λ (k : KeptRows). HasHeld rows k.rows m'.0.claims held) (sym same) (subst
+      (λ x. HasHeld rows kept.rows x held) (sym claims) h.0),
   record { now = subst (λ x. held_count x ≤ length held) (sym claims) h.1.now; ever = omega arith },
 )
 
 -- What such a call answers.
-pub got_is : (a b : Known) (key object : List ℕ) (found : Bool) → Meets a b (get_event key found object) → (found ≡ false → object ≡ [])
+pub got_is : (a b : Known) (key object : List ℕ) (found : Bool)
+    → Meets a b (get_event key found object) → (found ≡ false → object ≡ [])
     → Got a b key found object
 got_is a b key object true meets none = meets
 got_is a b key object false meets none = (meets, none refl)

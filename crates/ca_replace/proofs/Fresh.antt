@@ -17,17 +17,23 @@ use Rattle.ca_rows.specs.Kept.{AreKept}
 use Rattle.ca_rows.specs.Rule.{fresh}
 
 -- Such a pass rests: it knows nothing yet, and keeps nothing.
-pub rests : (table : TableId) (z : Sizes) (number : ℕ) (tally : Tally) (kept : Vec Kept Global) (seat : Seat (Unit {0}) (View TreeView)) → 0 < number
-    → number ≤ 64 → number ≤ z.passes → AreKept z.rows seat.me.0.claims kept → (seat.table_id ≡ table) × (seat.me ≡ (fresh z number (blank number), []))
+pub rests : (table : TableId) (z : Sizes) (number : ℕ) (tally : Tally) (kept : Vec Kept Global)
+    (seat : Seat (Unit {0}) (View TreeView)) → 0 < number
+    → number ≤ 64 → number ≤ z.passes → AreKept z.rows seat.me.0.claims kept
+    → (seat.table_id ≡ table) × (seat.me ≡ (fresh z number (blank number), []))
     → tally ≡ (record { splits = 0; joins = 0 }) → IsResting table z number tally kept seat
 rests table z number tally kept seat low few enrolled keeps is none = record {
   of = (is.0, ap (λ (m : MyTree). m.0.sizes) is.1);
   numbered = (ap (λ (m : MyTree). m.0.pin.number) is.1, low, few);
   same_number = ap (λ (m : MyTree). m.0.upper.number) is.1;
   is_unpinned = ap (λ (m : MyTree). m.0.pin.pinned) is.1;
-  only_keeps = λ row c e. absurd (some-ne-none c (sym e ∙ ap (λ (m : MyTree). claim_of m.0.claims row) is.1));
+  only_keeps =
+      λ row c e.
+      absurd (some-ne-none c (sym e ∙ ap (λ (m : MyTree). claim_of m.0.claims row) is.1));
   are_kept = keeps;
-  few = subst (λ (m : MyTree). HoldsFew 0 m.0) (sym is.1) (record { now = omega arith; ever = omega arith });
+  few = subst
+      (λ (m : MyTree). HoldsFew 0 m.0) (sym is.1)
+      (record { now = omega arith; ever = omega arith });
   known = subst (λ (m : MyTree). IsKnown z m.0.upper) (sym is.1) record {
     lawful = record { entries = tt; places = tt; edits = refl };
     past = tt;
@@ -37,7 +43,9 @@ rests table z number tally kept seat low few enrolled keeps is none = record {
   };
   left_before = subst (λ (m : MyTree). m.0.pin.left.lost ≤ m.0.lost) (sym is.1) (omega arith);
   tallied = (
-    ap (λ (t : Tally). t.splits) none ∙ ap (λ (m : MyTree). min 18446744073709551615 m.0.upper.splits) (sym is.1),
-    ap (λ (t : Tally). t.joins) none ∙ ap (λ (m : MyTree). min 18446744073709551615 m.0.upper.joins) (sym is.1),
+    ap (λ (t : Tally). t.splits) none
+        ∙ ap (λ (m : MyTree). min 18446744073709551615 m.0.upper.splits) (sym is.1),
+    ap (λ (t : Tally). t.joins) none
+        ∙ ap (λ (m : MyTree). min 18446744073709551615 m.0.upper.joins) (sym is.1),
   );
 }

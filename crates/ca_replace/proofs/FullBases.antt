@@ -15,7 +15,8 @@ use Rattle.ca_replace.specs.Turning.{course_after}
 use Rattle.ca_replace.proofs.GoingOn.{paid_split, paid_unsplit}
 
 -- No update was carried out; whether an exchange of a link was lost is noted.
-pub room_waits : (many attempt : ℕ) (r : Result Bool NoRow) (a : Adapting) (c : Course) (u v : TreeView) → c.adapting ≡ a → HasSplit many attempt r u v
+pub room_waits : (many attempt : ℕ) (r : Result Bool NoRow) (a : Adapting) (c : Course)
+    (u v : TreeView) → c.adapting ≡ a → HasSplit many attempt r u v
     → Waits a (course_after r c).adapting u v
 room_waits many attempt (Ok true) a c u v same h = (
   ap (λ (x : Adapting). x.last) same,
@@ -34,16 +35,22 @@ room_waits many attempt (Err why) a c u v same h = (
 )
 
 -- What it lost is added up, and the split, where it was carried out.
-pub room_paid : (many attempt : ℕ) (r : Result Bool NoRow) (a : Spent) (c : Course) (m m' : MyTree) → HasSplit many attempt r m.0.upper m'.0.upper
+pub room_paid : (many attempt : ℕ) (r : Result Bool NoRow) (a : Spent) (c : Course) (m m' : MyTree)
+    → HasSplit many attempt r m.0.upper m'.0.upper
     → IsSpent a c.spent m m' → IsPaid a (course_after r c).spent m m'
-room_paid many attempt (Ok true) a c m m' h x = paid_split many attempt _ (Ok true) a c.spent m m' h x refl refl
-room_paid many attempt (Ok false) a c m m' h x = paid_unsplit many attempt (Ok false) a c.spent m m' h x (λ e. cc)
-room_paid many attempt (Err why) a c m m' h x = paid_unsplit many attempt (Err why) a c.spent m m' h x (λ e. cc)
+room_paid many attempt (Ok true) a c m m' h x =
+    paid_split many attempt _ (Ok true) a c.spent m m' h x refl refl
+room_paid many attempt (Ok false) a c m m' h x =
+    paid_unsplit many attempt (Ok false) a c.spent m m' h x (λ e. cc)
+room_paid many attempt (Err why) a c m m' h x =
+    paid_unsplit many attempt (Err why) a c.spent m m' h x (λ e. cc)
 
 -- It met the pool by what became of it.
-pub room_found : (many attempt : ℕ) (r : Result Bool NoRow) (m m' : MyTree) → HasEnded r m m' → HasSplit many attempt r m.0.upper m'.0.upper
+pub room_found : (many attempt : ℕ) (r : Result Bool NoRow) (m m' : MyTree) → HasEnded r m m'
+    → HasSplit many attempt r m.0.upper m'.0.upper
     → HasStopped {T = Unit {0}} (Err (split_to r)) m m'
-room_found many attempt (Ok true) m m' ended h = (ended.0, (λ e. cc), λ e. (let cut = ap (λ (y : TreeView). y.splits) h.2 in omega arith))
+room_found many attempt (Ok true) m m' ended h =
+    (ended.0, (λ e. cc), λ e. (let cut = ap (λ (y : TreeView). y.splits) h.2 in omega arith))
 room_found many attempt (Ok false) m m' ended h = (ended.1, (λ e. ended.0), λ e. cc)
 room_found many attempt (Err norow.Lost) m m' ended h = (ended.1, (λ e. ended.0), λ e. cc)
 room_found many attempt (Err norow.Empty) m m' ended h = (ended, (λ e. cc), λ e. cc)

@@ -20,12 +20,15 @@ use Rattle.ca_replace.proofs.OneHand.{own_alone}
 use Rattle.ca_rows.specs.declared.sizes.Sizes.{Sizes}
 
 -- The edits of a pass in two parts of a history.
-edits_in_parts : (pass : ℕ) (xs ys : History) → edits_of_pass pass (xs ++ ys) ≡ edits_of_pass pass xs ++ edits_of_pass pass ys
+edits_in_parts : (pass : ℕ) (xs ys : History)
+    → edits_of_pass pass (xs ++ ys) ≡ edits_of_pass pass xs ++ edits_of_pass pass ys
 edits_in_parts pass [] ys = refl
 edits_in_parts pass (x ∷ xs) ys = by (x.0 == pass) (edits_in_parts pass xs ys)
   where
-    by : (own : Bool) → edits_of_pass pass (xs ++ ys) ≡ edits_of_pass pass xs ++ edits_of_pass pass ys
-        → (if own then x.1 ∷ edits_of_pass pass (xs ++ ys) else edits_of_pass pass (xs ++ ys)) ≡ (if own then x.1 ∷ edits_of_pass pass xs else
+    by : (own : Bool) → edits_of_pass pass (xs ++ ys)
+        ≡ edits_of_pass pass xs ++ edits_of_pass pass ys
+        → (if own then x.1 ∷ edits_of_pass pass (xs ++ ys) else edits_of_pass pass (xs ++ ys))
+        ≡ (if own then x.1 ∷ edits_of_pass pass xs else
         edits_of_pass pass xs) ++ edits_of_pass pass ys
     by true e = ap (λ (es : List Edit). x.1 ∷ es) e
     by false e = e
@@ -38,7 +41,8 @@ by_others pass (x ∷ xs) e = by (x.0 == pass) refl e (λ none. by_others pass x
     differs : x.0 ≡ pass → (x.0 == pass) ≡ false → ⊥
     differs same is = grind (arith, nat_tests, same, is)
 
-    by : (own : Bool) → (x.0 == pass) ≡ own → (if own then x.1 ∷ edits_of_pass pass xs else edits_of_pass pass xs) ≡ []
+    by : (own : Bool) → (x.0 == pass) ≡ own
+        → (if own then x.1 ∷ edits_of_pass pass xs else edits_of_pass pass xs) ≡ []
         → (edits_of_pass pass xs ≡ [] → AreByOthers pass xs) → AreByOthers pass (x ∷ xs)
     by true is e rest = cc
     by false is e rest = (λ same. differs same is, rest e)
@@ -56,13 +60,16 @@ same_behind [] ys zs e = e
 same_behind (x ∷ xs) ys zs e = same_behind xs ys zs cc
 
 -- The edits of a log with one entry more.
-log_more : (log : List Entry) (event : Event) (p : ℕ) → edits_of_log (log ++ (event, p) ∷ []) ≡ edits_of_log log ++ effect event
+log_more : (log : List Entry) (event : Event) (p : ℕ)
+    → edits_of_log (log ++ (event, p) ∷ []) ≡ edits_of_log log ++ effect event
 log_more [] event p = append-nil (effect event)
-log_more (entry ∷ log) event p = ap (λ (es : List Edit). effect entry.0 ++ es) (log_more log event p)
+log_more (entry ∷ log) event p = ap
+    (λ (es : List Edit). effect entry.0 ++ es) (log_more log event p)
     ∙ sym (append_assoc (effect entry.0) (edits_of_log log) (effect event))
 
 -- What is known is what was seen.
-has_seen : (table : TableId) (z : Sizes) (u : TreeView) → IsKnown z u → HasSeen (known_of table z u) u.seen u.log
+has_seen : (table : TableId) (z : Sizes) (u : TreeView) → IsKnown z u
+    → HasSeen (known_of table z u) u.seen u.log
 has_seen table z u k = record {
   seen = refl;
   map = sym (ap (λ h. state h (length u.seen)) (sym (append-nil u.seen)) ∙ state_there u.seen []);
@@ -83,57 +90,88 @@ abbrev only_one : ℕ → ℕ → Bool
 only_one passes number = cond (passes == 1) (number == 1) false
 
 is_alone : (passes number : ℕ) → only_one passes number ≡ true → (passes ≡ 1) × (number ≡ 1)
-is_alone passes number e = let t = by_test (passes == 1) (number == 1) e in (same_numbers passes 1 t.0, same_numbers number 1 t.1)
+is_alone passes number e = let t = by_test (passes == 1) (number == 1) e in
+    (same_numbers passes 1 t.0, same_numbers number 1 t.1)
 
-module _ (table : TableId) (z : Sizes) (u v : TreeView) (before : IsKnown z u) (behind : IsKnown z v) where
+module _ (table : TableId) (z : Sizes) (u v : TreeView) (before : IsKnown z u)
+    (behind : IsKnown z v) where
   -- What was learnt since was made by passes that there are.
   learnt_by : (more : History) → v.seen ≡ u.seen ++ more → AreByPasses z.passes more
-  learnt_by more whole = second_passes z.passes u.seen more (subst (AreByPasses z.passes) whole behind.by_passes)
+  learnt_by more whole =
+      second_passes z.passes u.seen more (subst (AreByPasses z.passes) whole behind.by_passes)
 
   -- A pass that is alone learns of its own edits.
-  own_more : (more : History) (edits : List Edit) → v.seen ≡ u.seen ++ more → edits_of_pass u.number more ≡ edits → only_one z.passes u.number ≡ true
+  own_more : (more : History) (edits : List Edit) → v.seen ≡ u.seen ++ more
+      → edits_of_pass u.number more ≡ edits → only_one z.passes u.number ≡ true
       → more ≡ by_pass u.number edits
   own_more more edits whole own e = let a = is_alone z.passes u.number e in
-      subst (λ (n : ℕ). more ≡ by_pass n edits) (sym a.1) (own_alone more (subst (λ (n : ℕ). AreByPasses n more) a.0 (learnt_by more whole))
+      subst (λ (n : ℕ). more ≡ by_pass n edits) (sym a.1)
+      (own_alone more (subst (λ (n : ℕ). AreByPasses n more) a.0 (learnt_by more whole))
       ∙ ap (by_pass 1) (ap (λ (n : ℕ). edits_of_pass n more) (sym a.1) ∙ own))
 
   -- What the pass itself edited is what its log has more.
-  own_since : {event : Event} (d : HasDone event u v) → edits_of_pass u.number d.seen.0 ≡ effect event
-  own_since {event} d = same_behind (edits_of_pass u.number u.seen) (edits_of_pass u.number d.seen.0) (effect event)
-      (sym (edits_in_parts u.number u.seen d.seen.0) ∙ (ap (edits_of_pass u.number) (sym d.seen.1) ∙ (ap (λ n. edits_of_pass n v.seen) (sym d.number)
+  own_since : {event : Event} (d : HasDone event u v)
+      → edits_of_pass u.number d.seen.0 ≡ effect event
+  own_since {event} d =
+      same_behind (edits_of_pass u.number u.seen) (edits_of_pass u.number d.seen.0) (effect event)
+      (sym (edits_in_parts u.number u.seen d.seen.0)
+      ∙ (ap (edits_of_pass u.number) (sym d.seen.1)
+      ∙ (ap (λ n. edits_of_pass n v.seen) (sym d.number)
       ∙ (behind.lawful.edits ∙ (ap edits_of_log d.log ∙ (log_more u.log event d.at
       ∙ ap (λ (es : List Edit). es ++ effect event) (sym before.lawful.edits)))))))
 
   -- A call that was entered in the log.
-  pub meets : (event : Event) → HasDone event u v → Meets (known_of table z u) (known_of table z v) event
+  pub meets : (event : Event) → HasDone event u v
+      → Meets (known_of table z u) (known_of table z v) event
   meets event d = passes_meet (known_of table z u) (known_of table z v) event record {
     history = u.seen;
     more = d.seen.0;
     log = u.log;
     at = d.at;
-    same = record { store = refl; keypos = refl; pass = d.number; passes = refl; alone = ap (only_one z.passes) d.number; sure = refl };
+    same = record {
+      store = refl;
+      keypos = refl;
+      pass = d.number;
+      passes = refl;
+      alone =
+          ap (only_one z.passes) d.number;
+      sure = refl;
+    };
     before = has_seen table z u before;
-    behind = subst (λ (x : History × List Entry). HasSeen (known_of table z v) x.0 x.1) (λ i. (d.seen.1 i, d.log i)) (has_seen table z v behind);
+    behind = subst (λ (x : History × List Entry). HasSeen (known_of table z v) x.0 x.1)
+        (λ i. (d.seen.1 i, d.log i)) (has_seen table z v behind);
     from = d.from;
     alone = own_more d.seen.0 (effect event) d.seen.1 (own_since d);
     counts = d.counts;
   }
 
   -- One that was refused.
-  pub declines : (rise : Counts → Counts) → IsRefused rise u v → Declines (known_of table z u) (known_of table z v) (rise u.counts)
+  pub declines : (rise : Counts → Counts) → IsRefused rise u v
+      → Declines (known_of table z u) (known_of table z v) (rise u.counts)
   declines rise d = let whole = d.seen.1 in
-      let own : edits_of_pass u.number v.seen ≡ edits_of_pass u.number u.seen = ap (λ n. edits_of_pass n v.seen) (sym d.number)
+      let own : edits_of_pass u.number v.seen ≡ edits_of_pass u.number u.seen = ap
+      (λ n. edits_of_pass n v.seen) (sym d.number)
       ∙ (behind.lawful.edits ∙ (ap edits_of_log d.log ∙ sym before.lawful.edits)) in
       let none = same_behind (edits_of_pass u.number u.seen) (edits_of_pass u.number d.seen.0) []
       (sym (edits_in_parts u.number u.seen d.seen.0) ∙ (ap (edits_of_pass u.number) (sym whole)
       ∙ (own ∙ sym (append-nil (edits_of_pass u.number u.seen))))) in record {
         learnt = d.seen.0;
         learns = record {
-          same = record { store = refl; keypos = refl; pass = d.number; passes = refl; alone = ap (only_one z.passes) d.number; sure = refl };
+          same = record {
+            store = refl;
+            keypos = refl;
+            pass = d.number;
+            passes = refl;
+            alone =
+                ap (only_one z.passes) d.number;
+            sure = refl;
+          };
           map = ap (λ (h : History). after h []) whole ∙ after_more u.seen d.seen.0 [];
-          seen = ap (λ (x : History × List Entry). Some (record { history = x.0; log = x.1 })) (λ i. (whole i, (d.log ∙ sym (append-nil u.log)) i));
+          seen = ap (λ (x : History × List Entry). Some (record { history = x.0; log = x.1 }))
+              (λ i. (whole i, (d.log ∙ sym (append-nil u.log)) i));
           valid = map_after z.keypos u.seen [] before.edits tt;
-          edits = second_edits z.keypos u.seen d.seen.0 (subst (AreEdits z.keypos) whole behind.edits);
+          edits = second_edits z.keypos u.seen d.seen.0
+              (subst (AreEdits z.keypos) whole behind.edits);
           passes = learnt_by d.seen.0 whole;
         };
         others = by_others u.number d.seen.0 none;
@@ -152,7 +190,8 @@ further_on u v w a b = record {
 }
 
 -- A call that is done after that.
-pub done_on : (u v w : TreeView) (event : Event) → IsFurther u v → HasDone event v w → HasDone event u w
+pub done_on : (u v w : TreeView) (event : Event) → IsFurther u v → HasDone event v w
+    → HasDone event u w
 done_on u v w event a b = record {
   number = b.number ∙ a.number;
   seen = further w.seen v.seen u.seen b.seen a.seen;
@@ -162,6 +201,7 @@ done_on u v w event a b = record {
   counts = b.counts ∙ a.counts;
 }
   where
-    lower : (edits : List Edit) → length u.seen ≤ length v.seen → IsPlaceFrom (length v.seen) b.at edits → IsPlaceFrom (length u.seen) b.at edits
+    lower : (edits : List Edit) → length u.seen ≤ length v.seen
+        → IsPlaceFrom (length v.seen) b.at edits → IsPlaceFrom (length u.seen) b.at edits
     lower [] l p = omega arith
     lower (e ∷ es) l p = omega arith

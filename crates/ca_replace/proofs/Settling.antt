@@ -13,9 +13,11 @@ use Rattle.ca_replace.specs.Attempting.{come_to}
 use Rattle.ca_rows.specs.declared.sizes.Sizes.{Sizes}
 use Rattle.ca_rows.specs.declared.view.Met.{Met}
 
-pub record IsSettling (z : Sizes) (t : Tuning) (tried : Result Bool NoRow) (r : Result (Unit {0}) Stop) (a b : Adapting)
+pub record IsSettling (z : Sizes) (t : Tuning) (tried : Result Bool NoRow)
+    (r : Result (Unit {0}) Stop) (a b : Adapting)
     (k m m' m'' : MyTree) : Type 0 where
-  -- the update, the statistic of its new base with the word for it, and what was met of the pool until then
+  -- the update, the statistic of its new base with the word for it, and what was met of the pool
+  -- until then
   pub event : Event
   pub edit : Edit
   pub statistic : ℤ

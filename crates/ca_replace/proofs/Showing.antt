@@ -37,22 +37,34 @@ not_less : (a b : ℕ) → ¬ (b < a) → a ≤ b
 not_less a b n = omega (arith, n)
 
 -- After a walk to a key's base that base is shown last.
-pub looking : (z : Sizes) (key : Bor (List ℕ)) (m m' : MyTree) (cursor : Cursor) → IsWalked z (spot.At key) m cursor m' → z.leaf ≤ 120
+pub looking : (z : Sizes) (key : Bor (List ℕ)) (m m' : MyTree) (cursor : Cursor)
+    → IsWalked z (spot.At key) m cursor m' → z.leaf ≤ 120
     → IsLooking z m'.0.upper key.now cursor
-looking z key m m' cursor w most = let u : TreeView = walked m.0.upper w.more w.note w.ways w.loads in
+looking z key m m' cursor w most =
+    let u : TreeView = walked m.0.upper w.more w.note w.ways w.loads in
     let here : m'.0.upper ≡ u = ap (λ (x : MyTree). x.0.upper) w.now in
-    let has : map pair w.note.objects ≡ part w.note.place.span (after u.seen []) = subst (λ (v : TreeView).
-    map pair w.note.objects ≡ part w.note.place.span (after v.seen [])) here w.has in let known : IsKnown z u = subst (IsKnown z) here w.known in
-    let few = w.is_base.few in subst (λ (v : TreeView). IsLooking z v key.now cursor) (sym here) record {
+    let has : map pair w.note.objects ≡ part w.note.place.span (after u.seen []) = subst
+    (λ (v : TreeView).
+    map pair w.note.objects ≡ part w.note.place.span (after v.seen [])) here w.has in
+    let known : IsKnown z u = subst (IsKnown z) here w.known in
+    let few = w.is_base.few in
+    subst (λ (v : TreeView). IsLooking z v key.now cursor) (sym here) record {
       readable = record {
         noted = (0, refl);
         here = w.cursor_is.base;
         is_base = w.is_base;
         few = omega arith;
         ordered = subst (IsStoreMap z.keypos) (sym has)
-            (part_map z.keypos w.note.place.span (after u.seen []) (map_after z.keypos u.seen [] known.edits tt));
+            (part_map z.keypos w.note.place.span (after u.seen [])
+            (map_after z.keypos u.seen [] known.edits tt));
       };
-      at = record { base = w.cursor_is.base; link = w.cursor_is.link; level = w.cursor_is.level; inside = w.inside };
+      at = record {
+        base = w.cursor_is.base;
+        link = w.cursor_is.link;
+        level =
+            w.cursor_is.level;
+        inside = w.inside;
+      };
       last = refl;
       about = w.sought;
       has = has;
@@ -61,11 +73,14 @@ looking z key m m' cursor w most = let u : TreeView = walked m.0.upper w.more w.
     }
 
 -- On the way it learnt of others' edits alone, and lost nothing.
-pub walked_further : (z : Sizes) (spot : Spot) (m m' : MyTree) (cursor : Cursor) → IsWalked z spot m cursor m' → IsFurther m.0.upper m'.0.upper
-walked_further z spot m m' cursor w = subst (λ (x : MyTree). IsFurther m.0.upper x.0.upper) (sym w.now)
+pub walked_further : (z : Sizes) (spot : Spot) (m m' : MyTree) (cursor : Cursor)
+    → IsWalked z spot m cursor m' → IsFurther m.0.upper m'.0.upper
+walked_further z spot m m' cursor w = subst
+    (λ (x : MyTree). IsFurther m.0.upper x.0.upper) (sym w.now)
     record { number = refl; seen = (w.more, refl); log = refl; counts = refl }
 
-pub walked_quiet : (z : Sizes) (spot : Spot) (m m' : MyTree) (cursor : Cursor) → IsWalked z spot m cursor m' → IsQuiet m m'
+pub walked_quiet : (z : Sizes) (spot : Spot) (m m' : MyTree) (cursor : Cursor)
+    → IsWalked z spot m cursor m' → IsQuiet m m'
 walked_quiet z spot m m' cursor w = subst (IsQuiet m) (sym w.now) record {
   lost = refl;
   met = none_met m;
@@ -77,26 +92,36 @@ walked_quiet z spot m m' cursor w = subst (IsQuiet m) (sym w.now) record {
 }
 
 -- So it did by the load of a link, after which the history that it has seen is known.
-pub led_further : (z : Sizes) (link : ℕ) (m m' : MyTree) (row : ℕ) → IsLed false link m row m' → m.0.sizes ≡ z → 0 < z.rows
+pub led_further : (z : Sizes) (link : ℕ) (m m' : MyTree) (row : ℕ) → IsLed false link m row m'
+    → m.0.sizes ≡ z → 0 < z.rows
     → (u : TreeView) × (m' ≡ with_upper m u) × IsFurther m.0.upper m'.0.upper × IsKnown z m'.0.upper
-led_further z link m m' row led sized some_rows = let rows : 0 < m.0.sizes.rows = subst (λ (y : Sizes). 0 < y.rows) (sym sized) some_rows in ⊎_elim
+led_further z link m m' row led sized some_rows = let rows : 0 < m.0.sizes.rows = subst
+    (λ (y : Sizes). 0 < y.rows) (sym sized) some_rows in ⊎_elim
     (λ (b : IsLedToBase false link m row m'). (
       led_to_base m.0.upper b.more b.note m.0.upper.last m.0.upper.shown,
       b.now,
-      subst (λ (x : MyTree). IsFurther m.0.upper x.0.upper) (sym b.now) (record { number = refl; seen = (b.more, refl); log = refl; counts = refl }),
-      subst (λ (x : MyTree). IsKnown z x.0.upper) (sym b.now) (subst (λ (y : Sizes). IsKnown y (led_to_base m.0.upper b.more b.note m.0.upper.last m.0.upper.shown)) sized (b.known rows).1),
+      subst (λ (x : MyTree). IsFurther m.0.upper x.0.upper) (sym b.now)
+          (record { number = refl; seen = (b.more, refl); log = refl; counts = refl }),
+      subst (λ (x : MyTree). IsKnown z x.0.upper) (sym b.now) (subst
+          (λ (y : Sizes).
+          IsKnown y (led_to_base m.0.upper b.more b.note m.0.upper.last m.0.upper.shown)) sized
+          (b.known rows).1),
     ))
     (λ (w : IsLedToRoute link m row m'). (
       led_to_route m.0.upper w.more w.way,
       w.now,
-      subst (λ (x : MyTree). IsFurther m.0.upper x.0.upper) (sym w.now) (record { number = refl; seen = (w.more, refl); log = refl; counts = refl }),
-      subst (λ (x : MyTree). IsKnown z x.0.upper) (sym w.now) (subst (λ (y : Sizes). IsKnown y (led_to_route m.0.upper w.more w.way)) sized (w.known rows).1),
+      subst (λ (x : MyTree). IsFurther m.0.upper x.0.upper) (sym w.now)
+          (record { number = refl; seen = (w.more, refl); log = refl; counts = refl }),
+      subst (λ (x : MyTree). IsKnown z x.0.upper) (sym w.now) (subst
+          (λ (y : Sizes). IsKnown y (led_to_route m.0.upper w.more w.way)) sized (w.known rows).1),
     ))
     led
 
 -- So it is the one that an update takes the place of.
-pub shown_last : (z : Sizes) (u : TreeView) (key : List ℕ) (cursor : Cursor) → IsLooking z u key cursor → IsShownLast z u cursor.base
-shown_last z u key cursor l = record { noted = l.readable.noted; here = l.readable.here; is_base = l.readable.is_base }
+pub shown_last : (z : Sizes) (u : TreeView) (key : List ℕ) (cursor : Cursor)
+    → IsLooking z u key cursor → IsShownLast z u cursor.base
+shown_last z u key cursor l =
+    record { noted = l.readable.noted; here = l.readable.here; is_base = l.readable.is_base }
 
 -- Nothing changed.
 pub stopped : (z : Sizes) (u v : TreeView) → IsKnown z u → v ≡ u → IsFurther u v × IsKnown z v
@@ -104,105 +129,145 @@ stopped z u v k same = subst (λ (y : TreeView). IsFurther u y × IsKnown z y) (
     (record { number = refl; seen = starts_whole u.seen; log = refl; counts = refl }, k)
 
 -- A call that edits nothing was entered in the log.
-pub entered_done : (z : Sizes) (u w v : TreeView) (event : Event) → IsFurther u w → IsKnown z w → IsReadNow event w → v ≡ entered w event
+pub entered_done : (z : Sizes) (u w v : TreeView) (event : Event) → IsFurther u w → IsKnown z w
+    → IsReadNow event w → v ≡ entered w event
     → HasDone event u v × IsKnown z v
-entered_done z u w v event f k now same = subst (λ (y : TreeView). HasDone event u y × IsKnown z y) (sym same) (
-  record {
-    number = f.number;
-    seen = f.seen;
-    at = length w.seen;
-    from = subst (IsPlaceFrom (length u.seen) (length w.seen)) (sym now.0) (starts_shorter w.seen u.seen f.seen);
-    log = ap (λ (l : List Entry). l ++ (event, length w.seen) ∷ []) f.log;
-    counts = f.counts;
-  },
-  known_read z w event k now,
-)
+entered_done z u w v event f k now same = subst
+    (λ (y : TreeView). HasDone event u y × IsKnown z y) (sym same) (
+      record {
+        number = f.number;
+        seen = f.seen;
+        at = length w.seen;
+        from = subst (IsPlaceFrom (length u.seen) (length w.seen)) (sym now.0)
+            (starts_shorter w.seen u.seen f.seen);
+        log = ap (λ (l : List Entry). l ++ (event, length w.seen) ∷ []) f.log;
+        counts = f.counts;
+      },
+      known_read z w event k now,
+    )
 
 -- What was tried after a look.
-pub tried_on : {T : Type 0} (tells : T → Event → Type 0) (z : Sizes) (r : Result T Stop) (u w v : TreeView) → IsFurther u w → HasTriedTo tells z r w v
+pub tried_on : {T : Type 0} (tells : T → Event → Type 0) (z : Sizes) (r : Result T Stop)
+    (u w v : TreeView) → IsFurther u w → HasTriedTo tells z r w v
     → HasTriedTo tells z r u v
 tried_on tells z (Ok x) u w v f h = ((h.0.0, h.0.1, done_on u w v h.0.0 f h.0.2), h.1)
 tried_on tells z (Err stop) u w v f h = (further_on u w v f h.0, h.1)
 
 -- The object that was found has the key: a new one isn't put.
-pub not_new : (z : Sizes) (u : TreeView) (cursor : Cursor) (k o : List ℕ) (place : Result ℕ ℕ) → IsOk place → IsLooking z u k cursor
+pub not_new : (z : Sizes) (u : TreeView) (cursor : Cursor) (k o : List ℕ) (place : Result ℕ ℕ)
+    → IsOk place → IsLooking z u k cursor
     → IsPlace (map pair (first_note u.notes).objects) k place → IsReadNow (WriteNew k o false) u
 not_new z u cursor k o (Ok at) ok l p = (
   refl,
-  λ none. let found = p.equal in let same : get (map pair (first_note u.notes).objects) k ≡ [] = ap (λ (m : StoreMap). get m k) l.has
+  λ none. let found = p.equal in
+      let same : get (map pair (first_note u.notes).objects) k ≡ [] = ap
+      (λ (m : StoreMap). get m k) l.has
       ∙ (part_get (first_note u.notes).place.span (after u.seen []) k l.about ∙ none) in absurd cc,
 )
 not_new z u cursor k o (Err at) ok l p = absurd cc
 
 -- Where no object of the base has the key, none has it.
-pub none_found : (z : Sizes) (u : TreeView) (cursor : Cursor) (k : List ℕ) (at : ℕ) → IsLooking z u k cursor
+pub none_found : (z : Sizes) (u : TreeView) (cursor : Cursor) (k : List ℕ) (at : ℕ)
+    → IsLooking z u k cursor
     → IsPlace (map pair (first_note u.notes).objects) k (Err at) → IsFound (after u.seen []) k None
-none_found z u cursor k at l p = sym (part_get (first_note u.notes).place.span (after u.seen []) k l.about)
+none_found z u cursor k at l p =
+    sym (part_get (first_note u.notes).place.span (after u.seen []) k l.about)
     ∙ (ap (λ (m : StoreMap). get m k) (sym l.has) ∙ p.equal)
 
 -- What an object of the base is, that is the key's object.
 pub one_found : (z : Sizes) (u : TreeView) (cursor : Cursor) (k o : List ℕ) → IsLooking z u k cursor
-    → IsFound (map pair (first_note u.notes).objects) k (Some o) → IsFound (after u.seen []) k (Some o)
-one_found z u cursor k o l found = sym (part_get (first_note u.notes).place.span (after u.seen []) k l.about)
+    → IsFound (map pair (first_note u.notes).objects) k (Some o)
+    → IsFound (after u.seen []) k (Some o)
+one_found z u cursor k o l found =
+    sym (part_get (first_note u.notes).place.span (after u.seen []) k l.about)
     ∙ (ap (λ (m : StoreMap). get m k) (sym l.has) ∙ found)
 
 -- A call that edits nothing is done.
-pub read_done : {T : Type 0} (tells : T → Event → Type 0) (z : Sizes) (u w v : TreeView) (x : T) (event : Event) → tells x event → IsFurther u w
+pub read_done : {T : Type 0} (tells : T → Event → Type 0) (z : Sizes) (u w v : TreeView) (x : T)
+    (event : Event) → tells x event → IsFurther u w
     → IsKnown z w → IsReadNow event w → v ≡ entered w event → HasTriedTo tells z (Ok x) u v
-read_done tells z u w v x event t f k now same = let d = entered_done z u w v event f k now same in ((event, t, d.0), d.1)
+read_done tells z u w v x event t f k now same = let d = entered_done z u w v event f k now same in
+    ((event, t, d.0), d.1)
 
 -- A read of a key is done, after a walk to its base.
-pub read_tried : (z : Sizes) (key : Bor (List ℕ)) (m w m' : MyTree) (cursor : Cursor) (event : Event) (found : Bool) → IsWalked z (spot.At key) m cursor w
+pub read_tried : (z : Sizes) (key : Bor (List ℕ)) (m w m' : MyTree) (cursor : Cursor)
+    (event : Event) (found : Bool) → IsWalked z (spot.At key) m cursor w
     → z.leaf ≤ 120 → IsReadNow event w.0.upper → m' ≡ with_upper w (entered w.0.upper event)
     → HasTriedTo (λ (_ : Bool) (e : Event). e ≡ event) z (Ok found) m.0.upper m'.0.upper
-read_tried z key m w m' cursor event found walk most now same = read_done (λ (_ : Bool) (e : Event). e ≡ event) z m.0.upper w.0.upper m'.0.upper found event
-    refl (walked_further z (spot.At key) m w cursor walk) (looking z key m w cursor walk most).known now (ap (λ (x : MyTree). x.0.upper) same)
+read_tried z key m w m' cursor event found walk most now same = read_done
+    (λ (_ : Bool) (e : Event). e ≡ event) z m.0.upper w.0.upper m'.0.upper found event
+    refl (walked_further z (spot.At key) m w cursor walk) (looking z key m w cursor walk most).known
+    now (ap (λ (x : MyTree). x.0.upper) same)
 
 -- The place that was found is one among the objects of the base that was shown last.
-pub place_still : (z : Sizes) (m m' : MyTree) (cursor : Cursor) (k : List ℕ) (place : Result ℕ ℕ) → m' ≡ m → IsLooking z m.0.upper k cursor
-    → IsPlaceIn z m.0.upper cursor.base k place → IsPlace (map pair (first_note m'.0.upper.notes).objects) k place
-place_still z m m' cursor k place same l p = subst (λ (x : MyTree). IsPlace (map pair (first_note x.0.upper.notes).objects) k place) (sym same)
+pub place_still : (z : Sizes) (m m' : MyTree) (cursor : Cursor) (k : List ℕ) (place : Result ℕ ℕ)
+    → m' ≡ m → IsLooking z m.0.upper k cursor
+    → IsPlaceIn z m.0.upper cursor.base k place
+    → IsPlace (map pair (first_note m'.0.upper.notes).objects) k place
+place_still z m m' cursor k place same l p = subst
+    (λ (x : MyTree). IsPlace (map pair (first_note x.0.upper.notes).objects) k place) (sym same)
     (p (first_note m.0.upper.notes) l.readable)
 
 -- A call that was told as this event is done, after a look.
-pub did : {T : Type 0} (tells : T → Event → Type 0) (z : Sizes) (event : Event) (x : T) (u w v : TreeView) → tells x event → IsFurther u w
+pub did : {T : Type 0} (tells : T → Event → Type 0) (z : Sizes) (event : Event) (x : T)
+    (u w v : TreeView) → tells x event → IsFurther u w
     → HasDoneAs (λ e. e ≡ event) w v × IsKnown z v → HasTriedTo tells z (Ok x) u v
-did tells z event x u w v t f h = ((event, t, done_on u w v event f (subst (λ (e : Event). HasDone e w v) h.0.1 h.0.2)), h.1)
+did tells z event x u w v t f h =
+    ((event, t, done_on u w v event f (subst (λ (e : Event). HasDone e w v) h.0.1 h.0.2)), h.1)
 
 -- What was copied is the key's object.
-pub fetched : (z : Sizes) (u : TreeView) (cursor : Cursor) (at : ℕ) (key old : List ℕ) → IsLooking z u key cursor
-    → IsPlace (map pair (first_note u.notes).objects) key (Ok at) → old ≡ object (get_or (first_note u.notes).objects at []) → HasFetched z u key (Ok at) old
-fetched z u cursor at key old l p e = let note = first_note u.notes in let found = found_object note key old at p e in (
-  one_found z u cursor key old l found,
-  found_pair z.keypos (map pair note.objects) key old l.readable.ordered found,
-  sym e,
-)
+pub fetched : (z : Sizes) (u : TreeView) (cursor : Cursor) (at : ℕ) (key old : List ℕ)
+    → IsLooking z u key cursor
+    → IsPlace (map pair (first_note u.notes).objects) key (Ok at)
+    → old ≡ object (get_or (first_note u.notes).objects at []) → HasFetched z u key (Ok at) old
+fetched z u cursor at key old l p e = let note = first_note u.notes in
+    let found = found_object note key old at p e in (
+      one_found z u cursor key old l found,
+      found_pair z.keypos (map pair note.objects) key old l.readable.ordered found,
+      sym e,
+    )
 
 -- A full base at the last level has no room for a key that is new there.
-pub full_there : (z : Sizes) (u v : TreeView) (cursor : Cursor) (key : List ℕ) (place : Result ℕ ℕ) (many : ℕ) → IsLooking z u key cursor
-    → (v.seen ≡ u.seen) × (v.last ≡ u.last) → z.levels ≤ (first_note u.notes).place.level → IsPlace (map pair (first_note u.notes).objects) key place
-    → ¬ IsRoom place many z.leaf → many ≡ length (first_note u.notes).objects → IsFull z (Some key) v.last (after v.seen [])
+pub full_there : (z : Sizes) (u v : TreeView) (cursor : Cursor) (key : List ℕ) (place : Result ℕ ℕ)
+    (many : ℕ) → IsLooking z u key cursor
+    → (v.seen ≡ u.seen) × (v.last ≡ u.last) → z.levels ≤ (first_note u.notes).place.level
+    → IsPlace (map pair (first_note u.notes).objects) key place
+    → ¬ IsRoom place many z.leaf → many ≡ length (first_note u.notes).objects
+    → IsFull z (Some key) v.last (after v.seen [])
 full_there z u v cursor key (Ok at) many l same level p no_room is = absurd (no_room tt)
-full_there z u v cursor key (Err at) many l same level p no_room is = subst (λ (x : History × Note). IsFull z (Some key) x.1 (after x.0 []))
+full_there z u v cursor key (Err at) many l same level p no_room is = subst
+    (λ (x : History × Note). IsFull z (Some key) x.1 (after x.0 []))
     (λ i. (sym same.0 i, sym (same.1 ∙ l.last) i)) (
       none_found z u cursor key at l p,
       l.about,
       level,
-      let long = length-map (first_note u.notes).objects pair in let e = ap (λ (x : StoreMap). length x) l.has in
+      let long = length-map (first_note u.notes).objects pair in
+          let e = ap (λ (x : StoreMap). length x) l.has in
           let full : z.leaf ≤ many = not_less z.leaf many no_room in omega arith,
     )
 
-tried_from : (z : Sizes) (event : Event) (r : Result Bool NoRow) (u v : TreeView) → IsKnown z u → HasTried event z r u v
+tried_from : (z : Sizes) (event : Event) (r : Result Bool NoRow) (u v : TreeView) → IsKnown z u
+    → HasTried event z r u v
     → HasTriedTo (λ _ e. e ≡ event) z (come_to r) u v
 tried_from z event (Ok true) u v k h = ((event, refl, h.0), h.1)
-tried_from z event (Ok false) u v k h = subst (λ (y : TreeView). IsFurther u y × IsKnown z y) (sym h) (
-  record { number = refl; seen = starts_whole u.seen; log = refl; counts = refl },
-  record { lawful = k.lawful; past = k.past; edits = k.edits; enrolled = k.enrolled; by_passes = k.by_passes },
-)
+tried_from z event (Ok false) u v k h = subst
+    (λ (y : TreeView). IsFurther u y × IsKnown z y) (sym h) (
+      record { number = refl; seen = starts_whole u.seen; log = refl; counts = refl },
+      record {
+        lawful =
+            k.lawful;
+        past = k.past;
+        edits = k.edits;
+        enrolled = k.enrolled;
+        by_passes = k.by_passes;
+      },
+    )
 tried_from z event (Err why) u v k h = stopped z u v k h
 
 -- What was tried, by what became of its exchange.
-pub tried_by : (z : Sizes) (event : TreeView → Event) (r : Result Bool NoRow) (x : Result (Unit {0}) Stop) (u w v : TreeView) → w ≡ u → x ≡ come_to r
+pub tried_by : (z : Sizes) (event : TreeView → Event) (r : Result Bool NoRow)
+    (x : Result (Unit {0}) Stop) (u w v : TreeView) → w ≡ u → x ≡ come_to r
     → IsKnown z u → HasTried (event w) z r w v → HasTriedTo (λ _ e. e ≡ event u) z x u v
-tried_by z event r x u w v same is k h = subst (λ (y : Result (Unit {0}) Stop). HasTriedTo (λ _ e. e ≡ event u) z y u v) (sym is)
+tried_by z event r x u w v same is k h = subst
+    (λ (y : Result (Unit {0}) Stop). HasTriedTo (λ _ e. e ≡ event u) z y u v) (sym is)
     (tried_from z (event u) r u v k (subst (λ (y : TreeView). HasTried (event y) z r y v) same h))

@@ -21,7 +21,8 @@ use Rattle.ca_replace.proofs.Meeting.{meets}
 use Rattle.ca_rows.specs.declared.sizes.Sizes.{Sizes}
 
 -- What follows from the value of a call that is done.
-pub if_then : {T : Type 0} (P Q : T → Type 0) (o : Outcome T) → ((x : T) → P x → Q x) → IfDone o P → IfDone o Q
+pub if_then : {T : Type 0} (P Q : T → Type 0) (o : Outcome T) → ((x : T) → P x → Q x) → IfDone o P
+    → IfDone o Q
 if_then P Q (outcome.Done x) h p = h x p
 if_then P Q (outcome.Busy s) h p = tt
 if_then P Q (outcome.Full s) h p = tt
@@ -29,7 +30,8 @@ if_then P Q (outcome.Deep s) h p = tt
 if_then P Q (outcome.Worn s) h p = tt
 
 -- It stays so where the object that was left is not emptied.
-pub if_still : {T : Type 0} (P : T → ArrayVec ℕ → Type 0) (o : Outcome T) (left now : ArrayVec ℕ) → IfDone o (λ _. now ≡ left)
+pub if_still : {T : Type 0} (P : T → ArrayVec ℕ → Type 0) (o : Outcome T) (left now : ArrayVec ℕ)
+    → IfDone o (λ _. now ≡ left)
     → IfDone o (λ x. P x left) → IfDone o (λ x. P x now)
 if_still P (outcome.Done x) left now same p = subst (P x) (sym same) p
 if_still P (outcome.Busy s) left now same p = tt
@@ -37,25 +39,33 @@ if_still P (outcome.Full s) left now same p = tt
 if_still P (outcome.Deep s) left now same p = tt
 if_still P (outcome.Worn s) left now same p = tt
 
-module _ (table : TableId) (z : Sizes) (u v : TreeView) (before : IsKnown z u) (behind : IsKnown z v) (key old : List ℕ) where
-  met : (event e : Event) → e ≡ event → HasDone e u v → Meets (known_of table z u) (known_of table z v) event
-  met event e same done = meets table z u v before behind event (subst (λ (x : Event). HasDone x u v) same done)
+module _ (table : TableId) (z : Sizes) (u v : TreeView) (before : IsKnown z u)
+    (behind : IsKnown z v) (key old : List ℕ) where
+  met : (event e : Event) → e ≡ event → HasDone e u v
+      → Meets (known_of table z u) (known_of table z v) event
+  met event e same done = meets table z u v before behind event (subst
+      (λ (x : Event). HasDone x u v) same done)
 
   -- The call removed the object.
-  pub removed : (was : Bool) → HasDoneAs (Removes key was old) u v → Removed (known_of table z u) (known_of table z v) key was old
+  pub removed : (was : Bool) → HasDoneAs (Removes key was old) u v
+      → Removed (known_of table z u) (known_of table z v) key was old
   removed true h = met (Remove key (Some old)) h.0 h.1 h.2
   removed false h = (met (Remove key None) h.0 h.1.0 h.2, h.1.1)
 
   -- It changed the object.
-  pub altered : {F : Type 0} (g : Shared F (Bor (List ℕ) × (MutBor (ArrayVec ℕ) × (MutBor ℕ × Unit {0}))) (Bool
-      × (MutBor (ArrayVec ℕ) × (MutBor ℕ × Unit {0})))) (f : F) (x : Changed) → HasDoneAs (Alters g f key x old) u v
+  pub altered : {F : Type 0} (g : Shared F (Bor (List ℕ)
+      × (MutBor (ArrayVec ℕ) × (MutBor ℕ × Unit {0}))) (Bool
+      × (MutBor (ArrayVec ℕ) × (MutBor ℕ × Unit {0})))) (f : F) (x : Changed)
+      → HasDoneAs (Alters g f key x old) u v
       → Altered g f (known_of table z u) (known_of table z v) key x old
   altered g f changed.Absent h = (met (Change key None None) h.0 h.1.0 h.2, h.1.1)
   altered g f changed.Kept h = (h.1.0, met (Change key (Some old) None) h.0 h.1.1 h.2)
-  altered g f changed.Put h = (h.1.0, h.1.1, h.1.2, met (Change key (Some old) (Some h.1.0)) h.0 h.1.3 h.2)
+  altered g f changed.Put h =
+      (h.1.0, h.1.1, h.1.2, met (Change key (Some old) (Some h.1.0)) h.0 h.1.3 h.2)
 
   -- It removed the object where the function said so.
-  pub removed_if : {F : Type 0} (g : Shared F (Bor (List ℕ) × Unit {0}) Bool) (f : F) (x : Changed) → HasDoneAs (RemovesIf g f key x old) u v
+  pub removed_if : {F : Type 0} (g : Shared F (Bor (List ℕ) × Unit {0}) Bool) (f : F) (x : Changed)
+      → HasDoneAs (RemovesIf g f key x old) u v
       → RemovedIf g f (known_of table z u) (known_of table z v) key x old
   removed_if g f changed.Absent h = (met (Get key None) h.0 h.1.0 h.2, h.1.1)
   removed_if g f changed.Kept h = (h.1.0, met (Get key (Some old)) h.0 h.1.1 h.2)

@@ -33,29 +33,43 @@ use Rattle.ca_rows.specs.declared.sizes.Sizes.{Sizes}
 use Rattle.ca_rows.specs.Told.{met_of}
 
 -- The walk behind an update comes to the new base: it is listed, and has the key.
-pub comes_there : (z : Sizes) (key : Bor (List ℕ)) (placed : ℕ) (m m' : MyTree) (cursor : Cursor) → IsNew placed key.now (met_of m) m.0.upper
+pub comes_there : (z : Sizes) (key : Bor (List ℕ)) (placed : ℕ) (m m' : MyTree) (cursor : Cursor)
+    → IsNew placed key.now (met_of m) m.0.upper
     → IsWalked z (spot.At key) m cursor m' → IsAlone z m.0.upper → cursor.base ≡ placed
 comes_there z key placed m m' cursor new w alone = sym (new.listed.2 ∙ (let l = w.listed alone in
-    l.only m.0.upper.renewal.new.row new.listed.0 key.now new.listed.1 new.listed.3 w.sought ∙ w.cursor_is.base))
+    l.only m.0.upper.renewal.new.row new.listed.0 key.now new.listed.1 new.listed.3 w.sought
+    ∙ w.cursor_is.base))
 
 -- What became of the due split.
-pub due_won : (z : Sizes) (key : Bor (List ℕ)) (placed : ℕ) (m m' m'' : MyTree) (cursor : Cursor) (a : Adapted) → IsNew placed key.now (met_of m) m.0.upper
-    → IsWalked z (spot.At key) m cursor m' → cursor.base ≡ placed → IsSplitAs z (first_note m'.0.upper.notes) a m' m'' → IsPoolsLoss a m' m''
+pub due_won : (z : Sizes) (key : Bor (List ℕ)) (placed : ℕ) (m m' m'' : MyTree) (cursor : Cursor)
+    (a : Adapted) → IsNew placed key.now (met_of m) m.0.upper
+    → IsWalked z (spot.At key) m cursor m' → cursor.base ≡ placed
+    → IsSplitAs z (first_note m'.0.upper.notes) a m' m'' → IsPoolsLoss a m' m''
     → (m''.0.upper.lost ≡ m.0.upper.lost) × (m''.0.upper.last.row ≡ m''.0.upper.renewal.new.row)
 due_won z key placed m m' m'' cursor a new w same h pools = let t = by a h pools in (
   t.0 ∙ ap (λ (x : MyTree). x.0.upper.lost) w.now,
-  ap (λ (n : Note). n.row) (t.1 ∙ ap (λ (x : MyTree). x.0.upper.last) w.now) ∙ (w.cursor_is.base ∙ (same ∙ (new.row
-      ∙ ap (λ (r : Renewal). r.new.row) (sym (t.2 ∙ ap (λ (x : MyTree). x.0.upper.renewal) w.now))))),
+  ap (λ (n : Note). n.row) (t.1 ∙ ap (λ (x : MyTree). x.0.upper.last) w.now)
+      ∙ (w.cursor_is.base ∙ (same ∙ (new.row
+      ∙ ap (λ (r : Renewal). r.new.row) (sym (t.2
+      ∙ ap (λ (x : MyTree). x.0.upper.renewal) w.now))))),
 )
   where
     Same : Type 0
-    Same = (m''.0.upper.lost ≡ m'.0.upper.lost) × (m''.0.upper.last ≡ m'.0.upper.last) × (m''.0.upper.renewal ≡ m'.0.upper.renewal)
+    Same = (m''.0.upper.lost ≡ m'.0.upper.lost) × (m''.0.upper.last ≡ m'.0.upper.last)
+        × (m''.0.upper.renewal ≡ m'.0.upper.renewal)
 
-    still : m''.0.upper ≡ m'.0.upper → (m''.0.upper.lost ≡ m'.0.upper.lost) × (m''.0.upper.last ≡ m'.0.upper.last) × (m''.0.upper.renewal ≡ m'.0.upper.renewal)
-    still e = (ap (λ (x : TreeView). x.lost) e, ap (λ (x : TreeView). x.last) e, ap (λ (x : TreeView). x.renewal) e)
+    still : m''.0.upper ≡ m'.0.upper → (m''.0.upper.lost ≡ m'.0.upper.lost)
+        × (m''.0.upper.last ≡ m'.0.upper.last) × (m''.0.upper.renewal ≡ m'.0.upper.renewal)
+    still e = (
+      ap (λ (x : TreeView). x.lost) e,
+      ap (λ (x : TreeView). x.last) e,
+      ap (λ (x : TreeView). x.renewal) e,
+    )
 
-    not_by : (r : Why) → IsNotSplitBy z (first_note m'.0.upper.notes) r m' m'' → IsPoolsLoss (adapted.NotSplit r) m' m''
-        → (m''.0.upper.lost ≡ m'.0.upper.lost) × (m''.0.upper.last ≡ m'.0.upper.last) × (m''.0.upper.renewal ≡ m'.0.upper.renewal)
+    not_by : (r : Why) → IsNotSplitBy z (first_note m'.0.upper.notes) r m' m''
+        → IsPoolsLoss (adapted.NotSplit r) m' m''
+        → (m''.0.upper.lost ≡ m'.0.upper.lost) × (m''.0.upper.last ≡ m'.0.upper.last)
+        × (m''.0.upper.renewal ≡ m'.0.upper.renewal)
     not_by why.Root h pools = absurd h
     not_by why.OneObject h pools = still (ap (λ (x : MyTree). x.0.upper) h.1)
     not_by why.AtLevel h pools = still (ap (λ (x : MyTree). x.0.upper) h.2)
@@ -67,85 +81,119 @@ due_won z key placed m m' m'' cursor a new w same h pools = let t = by a h pools
     not_by why.Worn h pools = still h.2
 
     by : (a : Adapted) → IsSplitAs z (first_note m'.0.upper.notes) a m' m'' → IsPoolsLoss a m' m''
-        → (m''.0.upper.lost ≡ m'.0.upper.lost) × (m''.0.upper.last ≡ m'.0.upper.last) × (m''.0.upper.renewal ≡ m'.0.upper.renewal)
+        → (m''.0.upper.lost ≡ m'.0.upper.lost) × (m''.0.upper.last ≡ m'.0.upper.last)
+        × (m''.0.upper.renewal ≡ m'.0.upper.renewal)
     by adapted.Stay h pools = absurd h
-    by adapted.Split h pools = let e = h.2.2 in (ap (λ (x : TreeView). x.lost) e, ap (λ (x : TreeView). x.last) e, ap (λ (x : TreeView). x.renewal) e)
+    by adapted.Split h pools = let e = h.2.2 in (
+      ap (λ (x : TreeView). x.lost) e,
+      ap (λ (x : TreeView). x.last) e,
+      ap (λ (x : TreeView). x.renewal) e,
+    )
     by adapted.Joined h pools = absurd h
     by (adapted.NotSplit r) h pools = not_by r h pools
     by (adapted.NotJoined r) h pools = absurd h
 
 -- A full base that was to be split: its exchange was won, or no row was free.
-pub room_won : {T : Type 0} (edits : T → Bool) (many attempt : ℕ) (r : Result Bool NoRow) (u v : TreeView) → r ≢ Ok false → HasSplit many attempt r u v
+pub room_won : {T : Type 0} (edits : T → Bool) (many attempt : ℕ) (r : Result Bool NoRow)
+    (u v : TreeView) → r ≢ Ok false → HasSplit many attempt r u v
     → HasWonAs {T = T} edits (Err (split_to r)) u v
 room_won edits many attempt (Ok true) u v won h = ap (λ (x : TreeView). x.lost) h.2
 room_won edits many attempt (Ok false) u v won h = absurd (won refl)
 room_won edits many attempt (Err why) u v won h = ap (λ (x : TreeView). x.lost) h
 
 -- What an attempt comes to by its exchange, given what followed.
-pub settled_won : {z : Sizes} {t : Tuning} {tried : Result Bool NoRow} {r : Result (Unit {0}) Stop} {a b : Adapting} {k m m' m'' : MyTree}
-    (s : IsSettling z t tried r a b k m m' m'') → (IsAlone z k.0.upper → IsListed k.0.upper.inventory (first_note k.0.upper.notes))
-    → (IsAlone z m.0.upper → IsListed m.0.upper.inventory (first_note m.0.upper.notes) → tried ≢ Ok false)
-    → (IsAlone z m'.0.upper → tried ≡ Ok true → (m''.0.upper.lost ≡ m'.0.upper.lost) × (m''.0.upper.last.row ≡ m''.0.upper.renewal.new.row))
+pub settled_won : {z : Sizes} {t : Tuning} {tried : Result Bool NoRow} {r : Result (Unit {0}) Stop}
+    {a b : Adapting} {k m m' m'' : MyTree}
+    (s : IsSettling z t tried r a b k m m' m'')
+    → (IsAlone z k.0.upper → IsListed k.0.upper.inventory (first_note k.0.upper.notes))
+    → (IsAlone z m.0.upper → IsListed m.0.upper.inventory (first_note m.0.upper.notes)
+    → tried ≢ Ok false)
+    → (IsAlone z m'.0.upper → tried ≡ Ok true → (m''.0.upper.lost ≡ m'.0.upper.lost)
+    × (m''.0.upper.last.row ≡ m''.0.upper.renewal.new.row))
     → IsAlone z k.0.upper → HasWonAs (λ _. true) r k.0.upper m''.0.upper
 settled_won {z} {t} {tried} {r} {a} {b} {k} {m} {m'} {m''} s listed won then alone = subst
     (λ (x : Result (Unit {0}) Stop). HasWonAs (λ _. true) x k.0.upper m''.0.upper) (sym s.is)
-    (subst (λ (x : MyTree). HasWonAs {T = Unit {0}} (λ _. true) (come_to tried) x.0.upper m''.0.upper) s.same
-    (by tried s.entered s.renewed s.settled (won (subst (λ (x : MyTree). IsAlone z x.0.upper) (sym s.same) alone)
-    (subst (λ (x : MyTree). IsListed x.0.upper.inventory (first_note x.0.upper.notes)) (sym s.same) (listed alone))) then))
+    (subst (λ (x : MyTree). HasWonAs {T = Unit {0}}
+    (λ _. true) (come_to tried) x.0.upper m''.0.upper) s.same
+    (by tried s.entered s.renewed s.settled
+    (won (subst (λ (x : MyTree). IsAlone z x.0.upper) (sym s.same) alone)
+    (subst (λ (x : MyTree). IsListed x.0.upper.inventory (first_note x.0.upper.notes)) (sym s.same)
+    (listed alone))) then))
   where
     still : (x : TreeView) → x ≡ m.0.upper → m''.0.upper ≡ x → m''.0.upper.lost ≡ m.0.upper.lost
     still x e f = ap (λ (y : TreeView). y.lost) (f ∙ e)
 
-    by : (x : Result Bool NoRow) → HasTried s.event z x m.0.upper m'.0.upper → HasRenewed z s.met s.word s.edit x m.0.upper m'.0.upper
+    by : (x : Result Bool NoRow) → HasTried s.event z x m.0.upper m'.0.upper
+        → HasRenewed z s.met s.word s.edit x m.0.upper m'.0.upper
         → HasSettled z t s.statistic x a b m' m'' → x ≢ Ok false
-        → (IsAlone z m'.0.upper → x ≡ Ok true → (m''.0.upper.lost ≡ m'.0.upper.lost) × (m''.0.upper.last.row ≡ m''.0.upper.renewal.new.row))
+        → (IsAlone z m'.0.upper → x ≡ Ok true → (m''.0.upper.lost ≡ m'.0.upper.lost)
+        × (m''.0.upper.last.row ≡ m''.0.upper.renewal.new.row))
         → HasWonAs {T = Unit {0}} (λ _. true) (come_to x) m.0.upper m''.0.upper
     by (Ok true) h renewed q won then = let same_number = h.0.number in
-        let w = then (alone.0, subst (λ (n : ℕ). 0 < n) (sym (same_number ∙ ap (λ (x : MyTree). x.0.upper.number) s.same)) alone.1) refl in (
+        let w = then (
+          alone.0,
+          subst
+              (λ (n : ℕ). 0 < n) (sym (same_number ∙ ap (λ (x : MyTree). x.0.upper.number) s.same))
+              alone.1,
+        ) refl in (
           w.0 ∙ renewed.same_lost,
           ap (λ (x : Renewal). x.lost) (q.1.0 ∙ renewed.renewal),
           w.1,
         )
     by (Ok false) h renewed q won then = absurd (won refl)
-    by (Err norow.Lost) h renewed q won then = still m'.0.upper h (ap (λ (x : MyTree). x.0.upper) q.1)
-    by (Err norow.Empty) h renewed q won then = still m'.0.upper h (ap (λ (x : MyTree). x.0.upper) q.1)
-    by (Err norow.Worn) h renewed q won then = still m'.0.upper h (ap (λ (x : MyTree). x.0.upper) q.1)
+    by (Err norow.Lost) h renewed q won
+        then = still m'.0.upper h (ap (λ (x : MyTree). x.0.upper) q.1)
+    by (Err norow.Empty) h renewed q won
+        then = still m'.0.upper h (ap (λ (x : MyTree). x.0.upper) q.1)
+    by (Err norow.Worn) h renewed q won
+        then = still m'.0.upper h (ap (λ (x : MyTree). x.0.upper) q.1)
 
 -- Attempts behind others that lost nothing.
-pub won_on : (edited : Bool) (u w v : TreeView) → w.lost ≡ u.lost → HasWon edited w v → HasWon edited u v
+pub won_on : (edited : Bool) (u w v : TreeView) → w.lost ≡ u.lost → HasWon edited w v
+    → HasWon edited u v
 won_on true u w v before h = (h.0 ∙ before, h.1 ∙ before, h.2)
 won_on false u w v before h = h ∙ before
 
-pub won_behind : {T E : Type 0} (edits : T → Bool) (r : Result T E) (u w v : TreeView) → w.lost ≡ u.lost → HasWonAs edits r w v → HasWonAs edits r u v
+pub won_behind : {T E : Type 0} (edits : T → Bool) (r : Result T E) (u w v : TreeView)
+    → w.lost ≡ u.lost → HasWonAs edits r w v → HasWonAs edits r u v
 won_behind edits (Ok x) u w v before h = won_on (edits x) u w v before h
 won_behind edits (Err why) u w v before h = won_on false u w v before h
 
 -- Attempts that came to a stop.
-pub stop_won : {T E : Type 0} (edits : T → Bool) (r : Result T E) (why : E) (u v : TreeView) → r ≡ Err why → HasWonAs edits r u v → v.lost ≡ u.lost
+pub stop_won : {T E : Type 0} (edits : T → Bool) (r : Result T E) (why : E) (u v : TreeView)
+    → r ≡ Err why → HasWonAs edits r u v → v.lost ≡ u.lost
 stop_won {T} {E} edits r why u v e h = subst (λ (x : Result T E). HasWonAs edits x u v) e h
 
-pub turn_won : {T : Type 0} (edits : T → Bool) (r : Result T Stop) (u v : TreeView) → (r ≡ Err stop.Lost) ⊎ (r ≡ Err stop.Split) → HasWonAs edits r u v
+pub turn_won : {T : Type 0} (edits : T → Bool) (r : Result T Stop) (u v : TreeView)
+    → (r ≡ Err stop.Lost) ⊎ (r ≡ Err stop.Split) → HasWonAs edits r u v
     → v.lost ≡ u.lost
 turn_won edits r u v e h = ⊎_elim (λ (l : r ≡ Err stop.Lost). stop_won edits r stop.Lost u v l h)
     (λ (s : r ≡ Err stop.Split). stop_won edits r stop.Split u v s h) e
 
 -- What was done while the pass was pinned.
-won_unpinned : (edited : Bool) (u v : TreeView) → HasWon edited (pinned u) v → HasWon edited u (unpinned v)
+won_unpinned : (edited : Bool) (u v : TreeView) → HasWon edited (pinned u) v
+    → HasWon edited u (unpinned v)
 won_unpinned true u v h = h
 won_unpinned false u v h = h
 
-pub won_pinned : {T E : Type 0} (edits : T → Bool) (r : Result T E) (u v w : TreeView) → w ≡ unpinned v → HasWonAs edits r (pinned u) v
+pub won_pinned : {T E : Type 0} (edits : T → Bool) (r : Result T E) (u v w : TreeView)
+    → w ≡ unpinned v → HasWonAs edits r (pinned u) v
     → HasWonAs edits r u w
-won_pinned edits (Ok x) u v w same h = subst (λ (y : TreeView). HasWon (edits x) u y) (sym same) (won_unpinned (edits x) u v h)
+won_pinned edits (Ok x) u v w same h = subst
+    (λ (y : TreeView). HasWon (edits x) u y) (sym same) (won_unpinned (edits x) u v h)
 won_pinned edits (Err why) u v w same h = subst (λ (y : TreeView). y.lost ≡ u.lost) (sym same) h
 
 -- What the attempts come to where the last one's is told otherwise.
-pub won_refused : {T : Type 0} (edits : T → Bool) (tried : Result T Stop) (r : Result T Refusal) (spent : Spent) (levels : ℕ) (u w v : TreeView)
+pub won_refused : {T : Type 0} (edits : T → Bool) (tried : Result T Stop) (r : Result T Refusal)
+    (spent : Spent) (levels : ℕ) (u w v : TreeView)
     → v ≡ w → r ≡ refused_as tried spent levels → HasWonAs edits tried u w → HasWonAs edits r u v
-won_refused {T} edits tried r spent levels u w v same is h = subst (λ (x : Result T Refusal). HasWonAs edits x u v) (sym is)
-    (subst (λ (x : TreeView). HasWonAs edits (refused_as tried spent levels) u x) (sym same) (by tried h))
+won_refused {T} edits tried r spent levels u w v same is h = subst
+    (λ (x : Result T Refusal). HasWonAs edits x u v) (sym is)
+    (subst (λ (x : TreeView).
+    HasWonAs edits (refused_as tried spent levels) u x) (sym same) (by tried h))
   where
-    by : (tried : Result T Stop) → HasWonAs edits tried u w → HasWonAs edits (refused_as tried spent levels) u w
+    by : (tried : Result T Stop) → HasWonAs edits tried u w
+        → HasWonAs edits (refused_as tried spent levels) u w
     by (Ok x) h = h
     by (Err stop.Lost) h = h
     by (Err stop.Split) h = h
@@ -154,8 +202,10 @@ won_refused {T} edits tried r spent levels u w v same is h = subst (λ (x : Resu
     by (Err stop.Deep) h = h
 
 -- A refused call.
-pub refused_wins : {T : Type 0} (edits : T → Bool) (why : Refusal) (o : Outcome T) (u v : TreeView) → o ≡ outcome_of why → v.lost ≡ u.lost → WinsAs edits o u v
-refused_wins {T} edits why o u v is same = subst (λ (x : Outcome T). WinsAs edits x u v) (sym is) (by why)
+pub refused_wins : {T : Type 0} (edits : T → Bool) (why : Refusal) (o : Outcome T) (u v : TreeView)
+    → o ≡ outcome_of why → v.lost ≡ u.lost → WinsAs edits o u v
+refused_wins {T} edits why o u v is same = subst
+    (λ (x : Outcome T). WinsAs edits x u v) (sym is) (by why)
   where
     by : (why : Refusal) → WinsAs edits (outcome_of {T = T} why) u v
     by (refusal.Busy spent) = same

@@ -18,9 +18,13 @@ module _ {U : Type 0} (a b c d : Mine U) (one two : Stage) (looked : b ≡ with_
   -- Two loads and an exchange that took the row.
   pub row_taken : (q : ℕ) (its : List ℕ) → c ≡ with_stage b two → claim_of c.0.claims q ≡ none
       → d ≡ with_most (with_claims c (claimed q (Holds its) c.0.claims))
-      → (claim_of a.0.claims q ≡ none) × (d ≡ with_most (with_claims a (claimed q (Holds its) a.0.claims)))
-  row_taken q its peeked free took = let e = peeked_too peeked in
-      (ap (λ (m : Mine U). claim_of m.0.claims q) (sym e) ∙ free, took ∙ ap (λ (m : Mine U). with_most (with_claims m (claimed q (Holds its) m.0.claims))) e)
+      → (claim_of a.0.claims q ≡ none)
+      × (d ≡ with_most (with_claims a (claimed q (Holds its) a.0.claims)))
+  row_taken q its peeked free took = let e = peeked_too peeked in (
+    ap (λ (m : Mine U). claim_of m.0.claims q) (sym e) ∙ free,
+    took
+        ∙ ap (λ (m : Mine U). with_most (with_claims m (claimed q (Holds its) m.0.claims))) e,
+  )
 
   -- Two loads and an exchange that lost.
   pub row_missed : c ≡ with_stage b two → d ≡ missed c → d ≡ missed a
@@ -30,19 +34,43 @@ abbrev pub with_its : {U : Type 0} → Mine U → ℕ → List ℕ → Mine U
 with_its m q its = (record m.0 { claims = claimed q (Holds its) m.0.claims }, m.1)
 
 -- A load, a store in the row, and an exchange that found n.
-pub row_put : {U : Type 0} (a b c d : Mine U) (one : Stage) (q q' n old : ℕ) (its : List ℕ) → length its ≡ 136 → b ≡ with_stage a one → c ≡ with_its b q its
+pub row_put : {U : Type 0} (a b c d : Mine U) (one : Stage) (q q' n old : ℕ) (its : List ℕ)
+    → length its ≡ 136 → b ≡ with_stage a one → c ≡ with_its b q its
     → q' ≡ q
-    → (n ≡ old → d ≡ with_claims c (dropped q' c.0.claims)) → (n ≢ old → d ≡ missed c) → PutsRow (eqb n old) q a d
-row_put {U} a b c d one q q' n old its long looked wrote same gave lost = let now : c ≡ with_its (with_stage a one) q its = wrote
+    → (n ≡ old → d ≡ with_claims c (dropped q' c.0.claims)) → (n ≢ old → d ≡ missed c)
+    → PutsRow (eqb n old) q a d
+row_put {U} a b c d one q q' n old its long looked wrote same gave lost = let now : c
+    ≡ with_its (with_stage a one) q its = wrote
     ∙ ap (λ (m : Mine U). with_its m q its) looked in dite (ℕ_discrete n old)
     (λ hit. subst (λ (x : Bool). PutsRow x q a d) (sym (eq-eqb n old hit))
     (gave hit ∙ (ap (λ (y : ℕ). with_claims c (dropped y c.0.claims)) same
     ∙ (ap (λ (m : Mine U). with_claims m (dropped q m.0.claims)) now
     ∙ ap (λ (xs : List Claimed). with_claims a xs) (dropped_claimed a.0.claims q (Holds its))))))
-    (λ miss. subst (λ (x : Bool). PutsRow x q a d) (sym (ne_eqb n old miss)) (its, long, lost miss ∙ ap missed now))
+    (λ miss. subst (λ (x : Bool). PutsRow x q a d) (sym (ne_eqb n old miss)) (
+      its,
+      long,
+      lost miss
+          ∙ ap missed now,
+    ))
 
--- Where only the pool's part of a view changed, its size, its pin and its upper part are as they were.
+-- Where only the pool's part of a view changed, its size, its pin and its upper part are as they
+-- were.
 pub still : {U : Type 0} (m m' : Mine U) (st : Stage) (xs : List Claimed) (lost empty worn most : ℕ)
-    → m' ≡ (record m.0 { stage = st; claims = xs; lost = lost; empty = empty; worn = worn; most = most }, m.1)
+    → m' ≡ (
+      record m.0 {
+        stage =
+            st;
+        claims = xs;
+        lost = lost;
+        empty = empty;
+        worn = worn;
+        most = most;
+      },
+      m.1,
+    )
     → (m'.0.sizes ≡ m.0.sizes) × (m'.0.pin ≡ m.0.pin) × (m'.0.upper ≡ m.0.upper)
-still {U} m m' st xs lost empty worn most e = (ap (λ (x : Mine U). x.0.sizes) e, ap (λ (x : Mine U). x.0.pin) e, ap (λ (x : Mine U). x.0.upper) e)
+still {U} m m' st xs lost empty worn most e = (
+  ap (λ (x : Mine U). x.0.sizes) e,
+  ap (λ (x : Mine U). x.0.pin) e,
+  ap (λ (x : Mine U). x.0.upper) e,
+)

@@ -28,7 +28,8 @@ same_height k m e = cc
 
 module _ (rows : ℕ) (owner : ℕ → Owner) where
   -- A row at the top is free.
-  pub top_free : (n row : ℕ) → 0 < row → IsTop rows owner n row → (m : ℕ) × (n ≡ suc m) × (row ≤ rows) × (owner row ≡ Free m)
+  pub top_free : (n row : ℕ) → 0 < row → IsTop rows owner n row → (m : ℕ) × (n ≡ suc m)
+      × (row ≤ rows) × (owner row ≡ Free m)
   top_free zero row some t = absurd (omega arith)
   top_free (suc m) row some t = (m, refl, t.1, t.2)
 
@@ -37,7 +38,9 @@ module _ (rows : ℕ) (owner : ℕ → Owner) where
   top_in_range (suc m) row t = t.1
 
   -- where another function says the same of the rows below n
-  top_as : (owner' : ℕ → Owner) (n row : ℕ) → ((r k : ℕ) → 0 < r → r ≤ rows → owner r ≡ Free k → k < n → owner' r ≡ Free k) → IsTop rows owner n row
+  top_as : (owner' : ℕ → Owner) (n row : ℕ)
+      → ((r k : ℕ) → 0 < r → r ≤ rows → owner r ≡ Free k → k < n → owner' r ≡ Free k)
+      → IsTop rows owner n row
       → IsTop rows owner' n row
   top_as owner' zero row same t = t
   top_as owner' (suc m) row same t = (t.0, t.1, same row m t.0 t.1 t.2 (omega arith))
@@ -45,33 +48,49 @@ module _ (rows : ℕ) (owner : ℕ → Owner) where
   module _ (words words' : List ℕ) (n : ℕ) (chain : IsChain rows owner words n) where
     -- The chain stays where head, free rows and their next rows do.
     pub chain_stays : (owner' : ℕ → Owner) → head_row words' ≡ head_row words
-        → ((r k : ℕ) → 0 < r → r ≤ rows → owner r ≡ Free k → (owner' r ≡ Free k) × (next_of words' r ≡ next_of words r))
-        → ((r k : ℕ) → 0 < r → r ≤ rows → owner' r ≡ Free k → owner r ≡ Free k) → IsChain rows owner' words' n
+        → ((r k : ℕ) → 0 < r → r ≤ rows → owner r ≡ Free k → (owner' r ≡ Free k)
+        × (next_of words' r ≡ next_of words r))
+        → ((r k : ℕ) → 0 < r → r ≤ rows → owner' r ≡ Free k → owner r ≡ Free k)
+        → IsChain rows owner' words' n
     chain_stays owner' head same back = record {
-      top = subst (IsTop rows owner' n) (sym head) (top_as owner' n _ (λ r k lo hi e _. (same r k lo hi e).0) chain.top);
-      below = λ r k lo hi e. let was = back r k lo hi e in let b = chain.below r k lo hi was in
-          (b.0, subst (IsTop rows owner' k) (sym (same r k lo hi was).1) (top_as owner' k _ (λ q m l h f _. (same q m l h f).0) b.1));
-      apart = λ r q k lo hi lo' hi' e f. chain.apart r q k lo hi lo' hi' (back r k lo hi e) (back q k lo' hi' f);
+      top = subst (IsTop rows owner' n) (sym head) (top_as owner' n _
+          (λ r k lo hi e _. (same r k lo hi e).0) chain.top);
+      below = λ r k lo hi e. let was = back r k lo hi e in let b = chain.below r k lo hi was in (
+        b.0,
+        subst (IsTop rows owner' k) (sym (same r k lo hi was).1) (top_as owner' k _
+            (λ q m l h f _. (same q m l h f).0) b.1),
+      );
+      apart = λ r q k lo hi lo' hi' e f.
+          chain.apart r q k lo hi lo' hi' (back r k lo hi e) (back q k lo' hi' f);
     }
 
     -- The uppermost row is taken.
-    pub chain_takes : (q m : ℕ) (o : Owner) → ((k : ℕ) → o ≢ Free k) → 0 < q → q ≤ rows → owner q ≡ Free m → n ≡ suc m → head_row words' ≡ next_of words q
-        → ((r : ℕ) → 0 < r → next_of words' r ≡ next_of words r) → IsChain rows (put owner q o) words' m
+    pub chain_takes : (q m : ℕ) (o : Owner) → ((k : ℕ) → o ≢ Free k) → 0 < q → q ≤ rows
+        → owner q ≡ Free m → n ≡ suc m → head_row words' ≡ next_of words q
+        → ((r : ℕ) → 0 < r → next_of words' r ≡ next_of words r)
+        → IsChain rows (put owner q o) words' m
     chain_takes q m o not_free lo_q hi_q is count head same = record {
-      top = subst (IsTop rows (put owner q o) m) (sym head) (top_as (put owner q o) m _ stays (chain.below q m lo_q hi_q is).1);
+      top = subst (IsTop rows (put owner q o) m) (sym head)
+          (top_as (put owner q o) m _ stays (chain.below q m lo_q hi_q is).1);
       below = λ r k lo hi e. let w = was r k e in let b = chain.below r k lo hi w.1 in (
         lower r k lo hi w.0 w.1,
         subst (IsTop rows (put owner q o) k) (sym (same r lo))
-            (top_as (put owner q o) k _ (λ c j l h f s. stays c j l h f (let z = lower r k lo hi w.0 w.1 in omega arith)) b.1),
+            (top_as (put owner q o) k _
+            (λ c j l h f s. stays c j l h f (let z = lower r k lo hi w.0 w.1 in
+            omega arith)) b.1),
       );
-      apart = λ r c k lo hi lo' hi' e f. chain.apart r c k lo hi lo' hi' (was r k e).1 (was c k f).1;
+      apart = λ r c k lo hi lo' hi' e f.
+          chain.apart r c k lo hi lo' hi' (was r k e).1 (was c k f).1;
     }
       where
         stays : (r k : ℕ) → 0 < r → r ≤ rows → owner r ≡ Free k → k < m → put owner q o r ≡ Free k
-        stays r k lo hi e l = put_else owner q o r (λ (s : r ≡ q). let z : k ≡ m = same_height k m (sym e ∙ (ap owner s ∙ is)) in absurd (omega arith)) ∙ e
+        stays r k lo hi e l = put_else owner q o r
+            (λ (s : r ≡ q). let z : k ≡ m = same_height k m (sym e ∙ (ap owner s ∙ is)) in
+            absurd (omega arith)) ∙ e
 
         was : (r k : ℕ) → put owner q o r ≡ Free k → (r ≢ q) × (owner r ≡ Free k)
-        was r k e = let n : r ≢ q = λ s. not_free k (sym (put_here owner q o r s) ∙ e) in (n, sym (put_else owner q o r n) ∙ e)
+        was r k e = let n : r ≢ q = λ s. not_free k (sym (put_here owner q o r s) ∙ e) in
+            (n, sym (put_else owner q o r n) ∙ e)
 
         lower : (r k : ℕ) → 0 < r → r ≤ rows → r ≢ q → owner r ≡ Free k → k < m
         lower r k lo hi other e = dite (ℕ_discrete k m)
@@ -79,46 +98,69 @@ module _ (rows : ℕ) (owner : ℕ → Owner) where
             (λ ne. let b = (chain.below r k lo hi e).0 in omega arith)
 
     -- A row is put on top.
-    pub chain_gives : (q : ℕ) → ((k : ℕ) → owner q ≢ Free k) → 0 < q → q ≤ rows → head_row words' ≡ q → next_of words' q ≡ head_row words
-        → ((r : ℕ) → 0 < r → r ≢ q → next_of words' r ≡ next_of words r) → IsChain rows (put owner q (Free n)) words' (suc n)
+    pub chain_gives : (q : ℕ) → ((k : ℕ) → owner q ≢ Free k) → 0 < q → q ≤ rows
+        → head_row words' ≡ q → next_of words' q ≡ head_row words
+        → ((r : ℕ) → 0 < r → r ≢ q → next_of words' r ≡ next_of words r)
+        → IsChain rows (put owner q (Free n)) words' (suc n)
     chain_gives q not_free lo_q hi_q head next same = record {
-      top = (subst (λ x. 0 < x) (sym head) lo_q, subst (λ x. x ≤ rows) (sym head) hi_q, put_here owner q (Free n) _ head);
+      top = (
+        subst (λ x. 0 < x) (sym head) lo_q,
+        subst (λ x. x ≤ rows) (sym head) hi_q,
+        put_here owner q (Free n) _ head,
+      );
       below = λ r k lo hi e. dite (ℕ_discrete r q)
-          (λ (s : r ≡ q). let h : n ≡ k = same_height n k (sym (put_here owner q (Free n) r s) ∙ e) in (
+          (λ (s : r ≡ q). let h : n ≡ k =
+          same_height n k (sym (put_here owner q (Free n) r s) ∙ e) in (
             omega arith,
-            subst (λ (x : ℕ × ℕ). IsTop rows (put owner q (Free n)) x.0 x.1) (λ i. (h i, sym (ap (next_of words') s ∙ next) i))
+            subst (λ (x : ℕ × ℕ). IsTop rows (put owner q (Free n)) x.0 x.1)
+                (λ i. (h i, sym (ap (next_of words') s ∙ next) i))
                 (top_as (put owner q (Free n)) n _ stays chain.top),
           ))
           (λ ne. let w = was r k ne e in let b = chain.below r k lo hi w in (
             (let z = b.0 in omega arith),
             subst (IsTop rows (put owner q (Free n)) k) (sym (same r lo ne))
-                (top_as (put owner q (Free n)) k _ (λ c j l h f x. stays c j l h f (let z = b.0 in omega arith)) b.1),
+                (top_as (put owner q (Free n)) k _
+                (λ c j l h f x. stays c j l h f (let z = b.0 in omega arith)) b.1),
           ));
       apart = λ r c k lo hi lo' hi' e f. dite (ℕ_discrete r q)
           (λ (s : r ≡ q). dite (ℕ_discrete c q) (λ (t : c ≡ q). s ∙ sym t)
-          (λ ne. absurd (too_high c k lo' hi' ne f (same_height n k (sym (put_here owner q (Free n) r s) ∙ e)))))
-          (λ ne. dite (ℕ_discrete c q) (λ (t : c ≡ q). absurd (too_high r k lo hi ne e (same_height n k (sym (put_here owner q (Free n) c t) ∙ f))))
+          (λ ne. absurd (too_high c k lo' hi' ne f
+          (same_height n k (sym (put_here owner q (Free n) r s) ∙ e)))))
+          (λ ne. dite (ℕ_discrete c q)
+          (λ (t : c ≡ q).
+          absurd (too_high r k lo hi ne e (same_height n k (sym (put_here owner q (Free n) c t)
+          ∙ f))))
           (λ ne'. chain.apart r c k lo hi lo' hi' (was r k ne e) (was c k ne' f)));
     }
       where
         was : (r k : ℕ) → r ≢ q → put owner q (Free n) r ≡ Free k → owner r ≡ Free k
         was r k ne e = sym (put_else owner q (Free n) r ne) ∙ e
 
-        stays : (r k : ℕ) → 0 < r → r ≤ rows → owner r ≡ Free k → k < n → put owner q (Free n) r ≡ Free k
-        stays r k lo hi e l = put_else owner q (Free n) r (λ (s : r ≡ q). not_free k (sym (ap owner s) ∙ e)) ∙ e
+        stays : (r k : ℕ) → 0 < r → r ≤ rows → owner r ≡ Free k → k < n
+            → put owner q (Free n) r ≡ Free k
+        stays r k lo hi e l = put_else owner q (Free n) r
+            (λ (s : r ≡ q). not_free k (sym (ap owner s) ∙ e)) ∙ e
 
-        too_high : (r k : ℕ) → 0 < r → r ≤ rows → r ≢ q → put owner q (Free n) r ≡ Free k → n ≡ k → ⊥
-        too_high r k lo hi ne e same = let b = (chain.below r k lo hi (was r k ne e)).0 in omega arith
+        too_high : (r k : ℕ) → 0 < r → r ≤ rows → r ≢ q → put owner q (Free n) r ≡ Free k → n ≡ k
+            → ⊥
+        too_high r k lo hi ne e same = let b = (chain.below r k lo hi (was r k ne e)).0 in
+            omega arith
 
-    -- What a seat saw of the head stays true: the tag falls never, and while it stays what is free does.
+    -- What a seat saw of the head stays true: the tag falls never, and while it stays what is free
+    -- does.
     pub stage_stays : (owner' : ℕ → Owner) → head_tag words ≤ head_tag words'
-        → (head_tag words ≡ head_tag words' → (r k : ℕ) → 0 < r → r ≤ rows → owner r ≡ Free k → IsFree rows owner' r × (next_of words' r ≡ next_of words r))
+        → (head_tag words ≡ head_tag words' → (r k : ℕ) → 0 < r → r ≤ rows → owner r ≡ Free k
+        → IsFree rows owner' r × (next_of words' r ≡ next_of words r))
         → (st : Stage) → IsStage rows owner words st → IsStage rows owner' words' st
     stage_stays owner' up same Idle k = tt
-    stage_stays owner' up same (Saw t r) k = let a = k.0 in
-        (omega arith, λ e lo. let z : head_tag words ≡ head_tag words' = omega arith in let f = k.1 (e ∙ sym z) lo in (same z r f.0 f.1 f.2 f.3).0)
+    stage_stays owner' up same (Saw t r) k = let a = k.0 in (
+      omega arith,
+      λ e lo. let z : head_tag words ≡ head_tag words' = omega arith in
+          let f = k.1 (e ∙ sym z) lo in (same z r f.0 f.1 f.2 f.3).0,
+    )
     stage_stays owner' up same (Knew t r x) k = let a = k.0 in (
       omega arith,
-      λ e. let z : head_tag words ≡ head_tag words' = omega arith in let w = k.1 (e ∙ sym z) in let f = w.0 in
+      λ e. let z : head_tag words ≡ head_tag words' = omega arith in let w = k.1 (e ∙ sym z) in
+          let f = w.0 in
           let now = same z r f.0 f.1 f.2 f.3 in (now.0, now.1 ∙ w.1),
     )

@@ -15,7 +15,8 @@ use Rattle.ca_rows.specs.Told.{Mine, Asked, Announced, Left, met_of}
 use Rattle.ca_rows.specs.Words.{epoch, announced}
 use Rattle.ca_rows.proofs.Pinned.{NewPin, pins_step, repinned}
 
-module _ {U : Type 0} (linked lent : List ℕ → ℕ → Type 0) (noted : List ℕ → U → ℕ → Type 0) (fact : Sizes → ℕ → List ℕ → List U → Type 0)
+module _ {U : Type 0} (linked lent : List ℕ → ℕ → Type 0) (noted : List ℕ → U → ℕ → Type 0)
+    (fact : Sizes → ℕ → List ℕ → List U → Type 0)
     (frames : Frames linked lent noted fact) (z : Sizes) where
   abbrev R : State (Unit {0}) (View U) → Type 0
   R = Ruled linked lent noted fact z
@@ -23,14 +24,16 @@ module _ {U : Type 0} (linked lent : List ℕ → ℕ → Type 0) (noted : List 
   pub nothing : (us : List U) (words : List ℕ) → Agrees linked lent noted fact us words words
   nothing us words = record { wide = refl; control = λ i _ _. refl; seen = λ r k _ _ _. refl }
 
-  pub low_agrees : (us : List U) (words : List ℕ) (i x : ℕ) → i < 66 → Agrees linked lent noted fact us words (set words i x)
+  pub low_agrees : (us : List U) (words : List ℕ) (i x : ℕ) → i < 66
+      → Agrees linked lent noted fact us words (set words i x)
   low_agrees us words i x l = record {
     wide = length-set words i x;
     control = λ j lo _. get_or-set_other words i j x 0 (λ e. omega arith);
     seen = λ r k lo _ _. get_or-set_other words i (136 * r + k) x 0 (λ e. omega arith);
   }
 
-  module _ (s : State (Unit {0}) (View U)) (r : R s) (id : ℕ) (d : View U) (at : get_elem? s.views id ≡ some d) where
+  module _ (s : State (Unit {0}) (View U)) (r : R s) (id : ℕ) (d : View U)
+      (at : get_elem? s.views id ≡ some d) where
     pub pin_at : get_elem? (map pin_of s.views) id ≡ some d.pin
     pin_at = at_map pin_of s.views id d at
 
@@ -41,9 +44,12 @@ module _ {U : Type 0} (linked lent : List ℕ → ℕ → Type 0) (noted : List 
     own = r.pins.each id d.pin pin_at
 
     -- Where the seat isn't pinned afterwards, what it saw of the others is so still.
-    others_pinned : (e' : Pin) → e'.pinned ≡ false → (i : ℕ) (x : Pin) → get_elem? (set (map pin_of s.views) id e') i ≡ some x → x.pinned ≡ true
+    others_pinned : (e' : Pin) → e'.pinned ≡ false → (i : ℕ) (x : Pin)
+        → get_elem? (set (map pin_of s.views) id e') i ≡ some x → x.pinned ≡ true
         → get_elem? (map pin_of s.views) i ≡ some x
-    others_pinned e' un i x there pinned = ⊎_elim (λ (t : (i ≡ id) × (e' ≡ x)). let no : false ≡ true = sym un ∙ (ap (λ (y : Pin). y.pinned) t.1 ∙ pinned) in
+    others_pinned e' un i x there pinned = ⊎_elim
+        (λ (t : (i ≡ id) × (e' ≡ x)). let no : false ≡ true = sym un
+        ∙ (ap (λ (y : Pin). y.pinned) t.1 ∙ pinned) in
         absurd cc) (λ (t : (i ≢ id) × (get_elem? (map pin_of s.views) i ≡ some x)). t.1)
         (at_set (map pin_of s.views) id i e' x there)
 
@@ -54,7 +60,8 @@ module _ {U : Type 0} (linked lent : List ℕ → ℕ → Type 0) (noted : List 
       asked : View U
       asked = record d { pin = record d.pin { told = epoch s.words } }
 
-      asks_pin : NewPin r.made s.words s.words (map pin_of s.views) r.pins id d.pin (record d.pin { told = epoch s.words }) pin_at
+      asks_pin : NewPin r.made s.words s.words (map pin_of s.views) r.pins id d.pin
+          (record d.pin { told = epoch s.words }) pin_at
       asks_pin = record {
         number_is = refl;
         same_epoch = refl;
@@ -66,7 +73,9 @@ module _ {U : Type 0} (linked lent : List ℕ → ℕ → Type 0) (noted : List 
         pinned_at = λ p. not_pinned p;
         told_past = le_refl (epoch s.words);
         scan_past = own.scan_past;
-        scanned = λ now i x there low p. own.scanned now i x (others_pinned (record d.pin { told = epoch s.words }) un i x there p) low p;
+        scanned = λ now i x there low p.
+            own.scanned now i x (others_pinned (record d.pin { told = epoch s.words }) un i x there
+            p) low p;
       }
 
       ask_step : R record {
@@ -75,8 +84,14 @@ module _ {U : Type 0} (linked lent : List ℕ → ℕ → Type 0) (noted : List 
         views = set s.views id (record d { pin = record d.pin { told = epoch s.words } });
       }
       ask_step = let w : View U = record d { pin = record d.pin { told = epoch s.words } } in
-          subst (λ (ws : List ℕ). R record { words = ws; homes = s.homes; views = set s.views id w }) (sym (set-get_or s.words 1 0))
-          (repinned linked lent noted fact frames z s r id d w at s.words (nothing (map upper_of s.views) s.words) record {
+          subst (λ (ws : List ℕ). R record {
+            words =
+                ws;
+            homes = s.homes;
+            views = set s.views id w;
+          }) (sym (set-get_or s.words 1 0))
+          (repinned linked lent noted fact frames z s r id d w at s.words
+          (nothing (map upper_of s.views) s.words) record {
             same_sizes = refl;
             same_made = refl;
             same_stage = refl;
@@ -85,8 +100,10 @@ module _ {U : Type 0} (linked lent : List ℕ → ℕ → Type 0) (noted : List 
             rows_are = λ i _. refl;
             later = le_refl (epoch s.words);
             notes = λ q n. (n, refl, (r.seat id d at).noted_pinned q n);
-            pins = pins_step r.made s.words s.words (map pin_of s.views) r.pins id d.pin (record d.pin { told = epoch s.words }) pin_at asks_pin;
-            above = subst (fact z r.made s.words) (sym (set_again (map upper_of s.views) id d.upper upper_at)) r.above;
+            pins = pins_step r.made s.words s.words (map pin_of s.views) r.pins id d.pin
+                (record d.pin { told = epoch s.words }) pin_at asks_pin;
+            above = subst (fact z r.made s.words)
+                (sym (set_again (map upper_of s.views) id d.upper upper_at)) r.above;
           })
 
     -- A store of the seat's own announcement.
@@ -101,41 +118,78 @@ module _ {U : Type 0} (linked lent : List ℕ → ℕ → Type 0) (noted : List 
       else_word i n = get_or-set_other s.words (d.pin.number + 1) i x 0 n
 
       own_word : announced new_words d.pin.number ≡ x
-      own_word = let w = r.wide in let s' = small in get_or-set_same s.words (d.pin.number + 1) x 0 (omega arith)
+      own_word = let w = r.wide in let s' = small in
+          get_or-set_same s.words (d.pin.number + 1) x 0 (omega arith)
 
       agrees : Agrees linked lent noted fact (map upper_of s.views) s.words new_words
-      agrees = let s' = small in low_agrees (map upper_of s.views) s.words (d.pin.number + 1) x (omega arith)
+      agrees = let s' = small in
+          low_agrees (map upper_of s.views) s.words (d.pin.number + 1) x (omega arith)
 
       same_epoch : epoch new_words ≡ epoch s.words
       same_epoch = else_word 1 (λ e. omega arith)
 
       -- The seat's pin and upper part become these.
-      stores : (e' : Pin) (u' : U) → NewPin r.made s.words new_words (map pin_of s.views) r.pins id d.pin e' pin_at → ((q : ℕ) → ¬ noted new_words u' q)
+      stores : (e' : Pin) (u' : U)
+          → NewPin r.made s.words new_words (map pin_of s.views) r.pins id d.pin e' pin_at
+          → ((q : ℕ) → ¬ noted new_words u' q)
           → fact z r.made new_words (set (map upper_of s.views) id u')
-          → R record { words = new_words; homes = s.homes; views = set s.views id (record d { pin = e'; upper = u' }) }
-      stores e' u' pin unnoted above = repinned linked lent noted fact frames z s r id d (record d { pin = e'; upper = u' }) at new_words agrees record {
-        same_sizes = refl;
-        same_made = refl;
-        same_stage = refl;
-        same_claims = refl;
-        head = else_word 0 (λ e. omega arith);
-        rows_are = λ i l. let s' = small in else_word i (λ e. omega arith);
-        later = subst (λ y. epoch s.words ≤ y) (sym same_epoch) (le_refl (epoch s.words));
-        notes = λ q n. absurd (unnoted q n);
-        pins = pins_step r.made s.words new_words (map pin_of s.views) r.pins id d.pin e' pin_at pin;
-        above = above;
-      }
+          → R record {
+            words =
+                new_words;
+            homes =
+                s.homes;
+            views = set s.views id (record d { pin = e'; upper = u' });
+          }
+      stores e' u' pin unnoted above =
+          repinned linked lent noted fact frames z s r id d (record d { pin = e'; upper = u' }) at
+          new_words agrees record {
+            same_sizes = refl;
+            same_made = refl;
+            same_stage = refl;
+            same_claims = refl;
+            head = else_word 0 (λ e. omega arith);
+            rows_are = λ i l. let s' = small in else_word i (λ e. omega arith);
+            later = subst (λ y. epoch s.words ≤ y) (sym same_epoch) (le_refl (epoch s.words));
+            notes = λ q n. absurd (unnoted q n);
+            pins = pins_step r.made s.words new_words (map pin_of s.views) r.pins id d.pin e' pin_at
+                pin;
+            above = above;
+          }
 
       framed_now : Framed linked lent noted fact z r.made (map upper_of s.views) s.words new_words
       framed_now = frames z r.made (map upper_of s.views) s.words new_words r.above agrees
 
-    module _ (enters leaves : U → U) (law : Pinning linked lent noted fact enters leaves) (lo : 0 < d.pin.number) where
+    module _ (enters leaves : U → U) (law : Pinning linked lent noted fact enters leaves)
+        (lo : 0 < d.pin.number) where
       announce_step : d.pin.pinned ≡ false → R record {
         words = set s.words (d.pin.number + 1) (d.pin.told + 1);
         homes = s.homes;
-        views = set s.views id (record d { pin = record d.pin { pinned = true; moment = epoch s.words; entered = record { lost = d.lost; empty = d.empty; worn = d.worn; lags = d.pin.lags } }; upper = enters d.upper });
+        views = set s.views id
+            (record d {
+              pin =
+                  record d.pin {
+                    pinned =
+                        true;
+                    moment =
+                        epoch s.words;
+                    entered =
+                        record { lost = d.lost; empty = d.empty; worn = d.worn; lags = d.pin.lags };
+                  };
+              upper =
+                  enters d.upper;
+            });
       }
-      announce_step un = let e' : Pin = record d.pin { pinned = true; moment = epoch s.words; entered = record { lost = d.lost; empty = d.empty; worn = d.worn; lags = d.pin.lags } } in stores lo (d.pin.told + 1) e' (enters d.upper)
+      announce_step un =
+          let e' : Pin =
+          record d.pin {
+            pinned =
+                true;
+            moment =
+                epoch s.words;
+            entered =
+                record { lost = d.lost; empty = d.empty; worn = d.worn; lags = d.pin.lags };
+          } in
+          stores lo (d.pin.told + 1) e' (enters d.upper)
           record {
             number_is = refl;
             same_epoch = same_epoch lo (d.pin.told + 1);
@@ -147,19 +201,45 @@ module _ {U : Type 0} (linked lent : List ℕ → ℕ → Type 0) (noted : List 
             pinned_at = λ _. (own.told_past, le_refl (epoch s.words), omega arith);
             told_past = own.told_past;
             scan_past = own.scan_past;
-            scanned = λ now i y there low p. ⊎_elim (λ (t : (i ≡ id) × (e' ≡ y)). subst (λ (w : Pin). d.pin.scan ≤ w.moment) t.1 own.scan_past)
-                (λ (t : (i ≢ id) × (get_elem? (map pin_of s.views) i ≡ some y)). own.scanned now i y t.1 low p) (at_set (map pin_of s.views) id i e' y there);
+            scanned = λ now i y there low p. ⊎_elim
+                (λ (t : (i ≡ id) × (e' ≡ y)). subst
+                (λ (w : Pin). d.pin.scan ≤ w.moment) t.1 own.scan_past)
+                (λ (t : (i ≢ id)
+                × (get_elem? (map pin_of s.views) i ≡ some y)). own.scanned now i y t.1 low p)
+                (at_set (map pin_of s.views) id i e' y there);
           }
-          (λ q n. let before = (framed_now lo (d.pin.told + 1)).notes id d.upper upper_at q (law.entering_notes (new_words lo (d.pin.told + 1)) d.upper q n) in
+          (λ q n. let before =
+          (framed_now lo (d.pin.told + 1)).notes id d.upper upper_at q
+          (law.entering_notes (new_words lo (d.pin.told + 1)) d.upper q n) in
           not_pinned un ((r.seat id d at).noted_pinned q before))
-          (law.keeps_entering z r.made (map upper_of s.views) (new_words lo (d.pin.told + 1)) id d.upper (framed_now lo (d.pin.told + 1)).stays upper_at)
+          (law.keeps_entering z r.made (map upper_of s.views) (new_words lo (d.pin.told + 1)) id
+          d.upper (framed_now lo (d.pin.told + 1)).stays upper_at)
 
       leave_step : R record {
         words = set s.words (d.pin.number + 1) 0;
         homes = s.homes;
-        views = set s.views id (record d { pin = record d.pin { pinned = false; left = record { lost = d.lost; empty = d.empty; worn = d.worn; lags = d.pin.lags } }; upper = leaves d.upper });
+        views = set s.views id
+            (record d {
+              pin =
+                  record d.pin {
+                    pinned =
+                        false;
+                    left =
+                        record { lost = d.lost; empty = d.empty; worn = d.worn; lags = d.pin.lags };
+                  };
+              upper =
+                  leaves d.upper;
+            });
       }
-      leave_step = let e' : Pin = record d.pin { pinned = false; left = record { lost = d.lost; empty = d.empty; worn = d.worn; lags = d.pin.lags } } in stores lo 0 e' (leaves d.upper)
+      leave_step =
+          let e' : Pin =
+          record d.pin {
+            pinned =
+                false;
+            left =
+                record { lost = d.lost; empty = d.empty; worn = d.worn; lags = d.pin.lags };
+          } in
+          stores lo 0 e' (leaves d.upper)
           record {
             number_is = refl;
             same_epoch = same_epoch lo 0;
@@ -171,12 +251,15 @@ module _ {U : Type 0} (linked lent : List ℕ → ℕ → Type 0) (noted : List 
             pinned_at = λ p. absurd cc;
             told_past = own.told_past;
             scan_past = own.scan_past;
-            scanned = λ now i y there low p. own.scanned now i y (others_pinned e' refl i y there p) low p;
+            scanned = λ now i y there low p.
+                own.scanned now i y (others_pinned e' refl i y there p) low p;
           }
           (λ q n. law.leaving_notes (new_words lo 0) d.upper q n)
-          (law.keeps_leaving z r.made (map upper_of s.views) (new_words lo 0) id d.upper (framed_now lo 0).stays upper_at)
+          (law.keeps_leaving z r.made (map upper_of s.views) (new_words lo 0) id d.upper
+          (framed_now lo 0).stays upper_at)
 
-  pub asks : (slots id : ℕ) (me : Mine U) → me.0.pin.pinned ≡ false → Allows R slots id me 1 (λ x. x) (Asked (step slots 1 0 0 none) me)
+  pub asks : (slots id : ℕ) (me : Mine U) → me.0.pin.pinned ≡ false
+      → Allows R slots id me 1 (λ x. x) (Asked (step slots 1 0 0 none) me)
   asks slots id me un s r _ at _ = (
     record me.0 { pin = record me.0.pin { told = epoch s.words } },
     keeps,
@@ -186,25 +269,53 @@ module _ {U : Type 0} (linked lent : List ℕ → ℕ → Type 0) (noted : List 
   )
 
   module _ (enters leaves : U → U) (law : Pinning linked lent noted fact enters leaves) where
-    pub announces : (slots id : ℕ) (me : Mine U) (i x : ℕ) → i ≡ me.0.pin.number + 1 → x ≡ me.0.pin.told + 1 → 0 < me.0.pin.number → me.0.pin.pinned ≡ false
+    pub announces : (slots id : ℕ) (me : Mine U) (i x : ℕ) → i ≡ me.0.pin.number + 1
+        → x ≡ me.0.pin.told + 1 → 0 < me.0.pin.number → me.0.pin.pinned ≡ false
         → Allows R slots id me i (λ _. x) (λ _. Announced enters (step slots i x 0 none) me x)
     announces slots id me i x is_i is_x lo un s r _ at _ = let w : View U =
-        record me.0 { pin = record me.0.pin { pinned = true; moment = epoch s.words; entered = met_of me }; upper = enters me.0.upper } in (
+        record me.0 {
+          pin =
+              record me.0.pin {
+                pinned =
+                    true;
+                moment = epoch s.words;
+                entered = met_of me;
+              };
+          upper = enters me.0.upper;
+        } in (
           w,
           keeps,
           tt,
-          subst (λ (y : ℕ × ℕ). R record { words = set s.words y.0 y.1; homes = s.homes; views = set s.views id w }) (λ j. (sym is_i j, sym is_x j))
+          subst (λ (y : ℕ × ℕ). R record {
+            words =
+                set s.words y.0 y.1;
+            homes = s.homes;
+            views = set s.views id w;
+          })
+              (λ j. (sym is_i j, sym is_x j))
               (announce_step s r id me.0 at enters leaves law lo un),
           (epoch s.words, (own s r id me.0 at).told_past, refl),
         )
 
-    pub unpins : (slots id : ℕ) (me : Mine U) (i : ℕ) → i ≡ me.0.pin.number + 1 → 0 < me.0.pin.number
+    pub unpins : (slots id : ℕ) (me : Mine U) (i : ℕ) → i ≡ me.0.pin.number + 1
+        → 0 < me.0.pin.number
         → Allows R slots id me i (λ _. 0) (λ _. Left leaves (step slots i 0 0 none) me 0)
-    unpins slots id me i is_i lo s r _ at _ = let w : View U = record me.0 { pin = record me.0.pin { pinned = false; left = met_of me }; upper = leaves me.0.upper } in (
-      w,
-      keeps,
-      tt,
-      subst (λ (y : ℕ). R record { words = set s.words y 0; homes = s.homes; views = set s.views id w }) (sym is_i)
-          (leave_step s r id me.0 at enters leaves law lo),
-      refl,
-    )
+    unpins slots id me i is_i lo s r _ at _ =
+        let w : View U =
+        record me.0 {
+          pin =
+              record me.0.pin { pinned = false; left = met_of me };
+          upper = leaves me.0.upper;
+        } in (
+          w,
+          keeps,
+          tt,
+          subst (λ (y : ℕ). R record {
+            words =
+                set s.words y 0;
+            homes = s.homes;
+            views = set s.views id w;
+          }) (sym is_i)
+              (leave_step s r id me.0 at enters leaves law lo),
+          refl,
+        )

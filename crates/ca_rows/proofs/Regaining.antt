@@ -17,7 +17,8 @@ use Rattle.ca_rows.proofs.Claiming.{claim_mine, claim_others, claimed_here, clai
 use Rattle.ca_rows.proofs.Rules.{St, Rule, uppers, Is, alone_now, keeps_rule}
 use Rattle.ca_rows.proofs.Steps.{owned, row_of, row_of_long, row_of_spells}
 
-module _ {U : Type 0} (linked lent : List ℕ → ℕ → Type 0) (noted : List ℕ → U → ℕ → Type 0) (fact : Sizes → ℕ → List ℕ → List U → Type 0)
+module _ {U : Type 0} (linked lent : List ℕ → ℕ → Type 0) (noted : List ℕ → U → ℕ → Type 0)
+    (fact : Sizes → ℕ → List ℕ → List U → Type 0)
     (frames : Frames linked lent noted fact) (z : Sizes) where
   abbrev S : Type 0
   S = St linked lent noted fact frames z
@@ -28,13 +29,17 @@ module _ {U : Type 0} (linked lent : List ℕ → ℕ → Type 0) (noted : List 
   same : (us : List U) (words : List ℕ) → Agrees linked lent noted fact us words words
   same us words = record { wide = refl; control = λ i _ _. refl; seen = λ r k _ _ _. refl }
 
-  module _ (s : S) (r : R s) (id : ℕ) (d : View U) (at : get_elem? s.views id ≡ some d) (q t : ℕ) (kept : claim_of d.claims q ≡ some (Keeps t))
+  module _ (s : S) (r : R s) (id : ℕ) (d : View U) (at : get_elem? s.views id ≡ some d) (q t : ℕ)
+      (kept : claim_of d.claims q ≡ some (Keeps t))
       (old : t + 2 ≤ d.pin.scan) where
-    -- Who has a note on it was pinned no later than its age, and the epoch moves at most once while a pass is pinned.
+    -- Who has a note on it was pinned no later than its age, and the epoch moves at most once while
+    -- a pass is pinned.
     unnoted : (m : ℕ) → ¬ NotedAt noted s.words s.views m q
-    unnoted m n = let claim = (owned linked lent noted fact frames z s r id d at q (Keeps t) kept).3 in
+    unnoted m n =
+        let claim = (owned linked lent noted fact frames z s r id d at q (Keeps t) kept).3 in
         let pinned = (r.seat n.seat n.d n.here).noted_pinned q n.note in
-        let pin = (r.pins.each n.seat n.d.pin (at_map pin_of s.views n.seat n.d n.here)).pinned_at pinned in
+        let pin = (r.pins.each n.seat n.d.pin (at_map pin_of s.views n.seat n.d n.here)).pinned_at
+        pinned in
         let past = (r.pins.each id d.pin (at_map pin_of s.views id d at)).scan_past in
         let young = claim.1 in
         let before = claim.3.2 m n in
@@ -46,23 +51,39 @@ module _ {U : Type 0} (linked lent : List ℕ → ℕ → Type 0) (noted : List 
     alone = ((owned linked lent noted fact frames z s r id d at q (Keeps t) kept).3.3.0, unnoted)
 
     abbrev holding : View U
-    holding = let xs = claimed q (Holds (row_of s.words q)) d.claims in record d { claims = xs; most = max d.most (held_count xs) }
+    holding = let xs = claimed q (Holds (row_of s.words q)) d.claims in
+        record d { claims = xs; most = max d.most (held_count xs) }
 
-    regain_step : R record { words = set s.words 1 (get_or s.words 1 0); homes = s.homes; views = set s.views id holding }
+    regain_step : R record {
+      words =
+          set s.words 1 (get_or s.words 1 0);
+      homes = s.homes;
+      views = set s.views id holding;
+    }
     regain_step = let o = owned linked lent noted fact frames z s r id d at q (Keeps t) kept in
         let w : View U = holding in
         let agrees = same (uppers linked lent noted fact frames z s) s.words in
-        subst (λ (ws : List ℕ). R record { words = ws; homes = s.homes; views = set s.views id w }) (sym (set-get_or s.words 1 0))
-        (keeps_rule linked lent noted fact frames z s r id d w at refl refl s.words agrees (λ i _ _. refl) refl refl q
-        r.owner r.count r.chain (λ c' _ _ n. record { owner_is = refl; claim_is = claimed_else d.claims q c' _ n; words_are = λ _ _ _. refl })
-        (λ _ _. subst (Is linked lent noted fact frames z s r id d w at refl refl s.words agrees q) (sym o.2) (
+        subst (λ (ws : List ℕ). R record { words = ws; homes = s.homes; views = set s.views id w })
+        (sym (set-get_or s.words 1 0))
+        (keeps_rule linked lent noted fact frames z s r id d w at refl refl s.words agrees
+        (λ i _ _. refl) refl refl q
+        r.owner r.count r.chain
+        (λ c' _ _ n. record {
+          owner_is =
+              refl;
+          claim_is = claimed_else d.claims q c' _ n;
+          words_are = λ _ _ _. refl;
+        })
+        (λ _ _. subst (Is linked lent noted fact frames z s r id d w at refl refl s.words agrees q)
+        (sym o.2) (
           (
             Holds (row_of s.words q),
             claim_mine s.views id d w at q ∙ claimed_here d.claims q _,
             (
               row_of_long s.words z.rows q r.wide o.1,
               row_of_spells s.words q,
-              alone_now linked lent noted fact frames z s r id d w at refl refl s.words agrees q alone,
+              alone_now linked lent noted fact frames z s r id d w at refl refl s.words agrees q
+                  alone,
             ),
           ),
           λ j n. claim_others s.views id d w at j q n ∙ o.4 j n,
@@ -70,12 +91,14 @@ module _ {U : Type 0} (linked lent : List ℕ → ℕ → Type 0) (noted : List 
         (λ _ _. (o.0, o.1)) (λ c' n. claimed_else d.claims q c' _ n)
         (λ _ k. k) (r.seat id d at).stage_is)
 
-  pub regains : (slots id : ℕ) (me : Mine U) (q t : ℕ) → claim_of me.0.claims q ≡ some (Keeps t) → t + 2 ≤ me.0.pin.scan
+  pub regains : (slots id : ℕ) (me : Mine U) (q t : ℕ) → claim_of me.0.claims q ≡ some (Keeps t)
+      → t + 2 ≤ me.0.pin.scan
       → Allows R slots id me 1 (λ x. x) (Regained q (step slots 1 0 0 none) me)
-  regains slots id me q t kept old s r _ at _ = let o = owned linked lent noted fact frames z s r id me.0 at q (Keeps t) kept in (
-    holding s r id me.0 at q t kept old,
-    keeps,
-    tt,
-    regain_step s r id me.0 at q t kept old,
-    (row_of s.words q, row_of_long s.words z.rows q r.wide o.1, refl),
-  )
+  regains slots id me q t kept old s r _ at _ =
+      let o = owned linked lent noted fact frames z s r id me.0 at q (Keeps t) kept in (
+        holding s r id me.0 at q t kept old,
+        keeps,
+        tt,
+        regain_step s r id me.0 at q t kept old,
+        (row_of s.words q, row_of_long s.words z.rows q r.wide o.1, refl),
+      )

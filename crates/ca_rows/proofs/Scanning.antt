@@ -23,36 +23,43 @@ use Rattle.ca_rows.proofs.PinSteps.{nothing, low_agrees, pin_at, upper_at, own}
 use Rattle.ca_rows.proofs.Steps.{owned}
 
 pub less_or_not : (a b : ℕ) → (a < b) ⊎ (b ≤ a)
-less_or_not a b = ⊎_elim (λ (e : a ≡ b). inr (omega arith)) (λ t. ⊎_elim (λ l. inl l) (λ (l : b < a). inr (omega arith)) t) (cases_order a b)
+less_or_not a b = ⊎_elim (λ (e : a ≡ b). inr (omega arith))
+    (λ t. ⊎_elim (λ l. inl l) (λ (l : b < a). inr (omega arith)) t) (cases_order a b)
 
 -- The epoch moves by one, past no pass that is pinned.
-pins_moved : (made : ℕ) (words words' : List ℕ) (pins : List Pin) → ArePins made words pins → epoch words' ≡ epoch words + 1 → epoch words < 4611686018427387904
+pins_moved : (made : ℕ) (words words' : List ℕ) (pins : List Pin) → ArePins made words pins
+    → epoch words' ≡ epoch words + 1 → epoch words < 4611686018427387904
     → ((i : ℕ) → 0 < i → i ≤ 64 → announced words' i ≡ announced words i)
-    → ((j : ℕ) (e : Pin) → get_elem? pins j ≡ some e → e.pinned ≡ true → epoch words ≤ e.moment) → ArePins made words' pins
+    → ((j : ℕ) (e : Pin) → get_elem? pins j ≡ some e → e.pinned ≡ true → epoch words ≤ e.moment)
+    → ArePins made words' pins
 pins_moved made words words' pins p next room same past = record {
   few = p.few;
   small = omega arith;
-  each = λ j e here. let k = p.each j e here in let in_range = k.in_range in let few = p.few in record {
-    in_range = k.in_range;
-    is_pass = k.is_pass;
-    alone = k.alone;
-    absent = λ lo un. same e.number lo (omega arith) ∙ k.absent lo un;
-    present = λ pinned. same e.number (k.is_pass pinned) (omega arith) ∙ k.present pinned;
-    pinned_at = λ pinned. let was = k.pinned_at pinned in let low = was.0 in let mid = was.1 in let now = past j e here pinned in
-        (was.0, omega arith, omega arith);
-    told_past = let low = k.told_past in omega arith;
-    scan_past = let low = k.scan_past in omega arith;
-    scanned = λ is. let low = k.scan_past in absurd (omega arith);
-  };
+  each = λ j e here. let k = p.each j e here in let in_range = k.in_range in let few = p.few in
+      record {
+        in_range = k.in_range;
+        is_pass = k.is_pass;
+        alone = k.alone;
+        absent = λ lo un. same e.number lo (omega arith) ∙ k.absent lo un;
+        present = λ pinned. same e.number (k.is_pass pinned) (omega arith) ∙ k.present pinned;
+        pinned_at = λ pinned. let was = k.pinned_at pinned in let low = was.0 in let mid = was.1 in
+            let now = past j e here pinned in
+            (was.0, omega arith, omega arith);
+        told_past = let low = k.told_past in omega arith;
+        scan_past = let low = k.scan_past in omega arith;
+        scanned = λ is. let low = k.scan_past in absurd (omega arith);
+      };
   unused = λ i lo hi. same i (omega arith) hi ∙ p.unused i lo hi;
 }
 
-module _ {U : Type 0} (linked lent : List ℕ → ℕ → Type 0) (noted : List ℕ → U → ℕ → Type 0) (fact : Sizes → ℕ → List ℕ → List U → Type 0)
+module _ {U : Type 0} (linked lent : List ℕ → ℕ → Type 0) (noted : List ℕ → U → ℕ → Type 0)
+    (fact : Sizes → ℕ → List ℕ → List U → Type 0)
     (frames : Frames linked lent noted fact) (z : Sizes) where
   abbrev R : State (Unit {0}) (View U) → Type 0
   R = Ruled linked lent noted fact z
 
-  module _ (s : State (Unit {0}) (View U)) (r : R s) (id : ℕ) (d : View U) (at : get_elem? s.views id ≡ some d) where
+  module _ (s : State (Unit {0}) (View U)) (r : R s) (id : ℕ) (d : View U)
+      (at : get_elem? s.views id ≡ some d) where
     here : get_elem? (map pin_of s.views) id ≡ some d.pin
     here = pin_at linked lent noted fact frames z s r id d at
 
@@ -61,32 +68,47 @@ module _ {U : Type 0} (linked lent : List ℕ → ℕ → Type 0) (noted : List 
 
     -- What the seat saw of the others becomes this, which is so.
     may_see : (scan upto lag looks lags : ℕ) → scan ≤ epoch s.words
-        → (scan ≡ epoch s.words → (i : ℕ) (x : Pin) → get_elem? (map pin_of s.views) i ≡ some x → x.number ≤ upto → x.pinned ≡ true → scan ≤ x.moment)
-        → NewPin r.made s.words s.words (map pin_of s.views) r.pins id d.pin (record d.pin { scan = scan; upto = upto; lag = lag; looks = looks; lags = lags })
+        → (scan ≡ epoch s.words → (i : ℕ) (x : Pin) → get_elem? (map pin_of s.views) i ≡ some x
+        → x.number ≤ upto → x.pinned ≡ true → scan ≤ x.moment)
+        → NewPin r.made s.words s.words (map pin_of s.views) r.pins id d.pin
+        (record d.pin { scan = scan; upto = upto; lag = lag; looks = looks; lags = lags })
         here
-    may_see scan upto lag looks lags past ok = let e' : Pin = record d.pin { scan = scan; upto = upto; lag = lag; looks = looks; lags = lags } in record {
-      number_is = refl;
-      same_epoch = refl;
-      others = λ i _ _ _. refl;
-      moments = λ p. inl (p, refl);
-      is_pass = mine.is_pass;
-      absent = mine.absent;
-      present = mine.present;
-      pinned_at = mine.pinned_at;
-      told_past = mine.told_past;
-      scan_past = past;
-      scanned = λ now i x there low p. ⊎_elim
-          (λ (t : (i ≡ id) × (e' ≡ x)). subst (λ (y : Pin). scan ≤ y.moment) t.1
-          (ok now id d.pin here (subst (λ (y : Pin). y.number ≤ upto) (sym t.1) low) (ap (λ (y : Pin). y.pinned) t.1 ∙ p)))
-          (λ (t : (i ≢ id) × (get_elem? (map pin_of s.views) i ≡ some x)). ok now i x t.1 low p) (at_set (map pin_of s.views) id i e' x there);
-    }
+    may_see scan upto lag looks lags past ok =
+        let e' : Pin =
+        record d.pin { scan = scan; upto = upto; lag = lag; looks = looks; lags = lags } in record {
+          number_is = refl;
+          same_epoch = refl;
+          others = λ i _ _ _. refl;
+          moments = λ p. inl (p, refl);
+          is_pass = mine.is_pass;
+          absent = mine.absent;
+          present = mine.present;
+          pinned_at = mine.pinned_at;
+          told_past = mine.told_past;
+          scan_past = past;
+          scanned = λ now i x there low p. ⊎_elim
+              (λ (t : (i ≡ id) × (e' ≡ x)). subst (λ (y : Pin). scan ≤ y.moment) t.1
+              (ok now id d.pin here (subst (λ (y : Pin). y.number ≤ upto) (sym t.1) low) (ap
+              (λ (y : Pin). y.pinned) t.1 ∙ p)))
+              (λ (t : (i ≢ id) × (get_elem? (map pin_of s.views) i ≡ some x)). ok now i x t.1 low p)
+              (at_set (map pin_of s.views) id i e' x there);
+        }
 
     -- A load after which the seat has this pin, or counts a loss.
-    loaded : (i : ℕ) (e' : Pin) (lost : ℕ) → ArePins r.made s.words (set (map pin_of s.views) id e') → e'.moment ≡ d.pin.moment → e'.pinned ≡ d.pin.pinned
-        → R record { words = set s.words i (get_or s.words i 0); homes = s.homes; views = set s.views id (record d { pin = e'; lost = lost }) }
+    loaded : (i : ℕ) (e' : Pin) (lost : ℕ) → ArePins r.made s.words (set (map pin_of s.views) id e')
+        → e'.moment ≡ d.pin.moment → e'.pinned ≡ d.pin.pinned
+        → R record {
+          words =
+              set s.words i (get_or s.words i 0);
+          homes =
+              s.homes;
+          views = set s.views id (record d { pin = e'; lost = lost });
+        }
     loaded i e' lost pins moment pinned = let w : View U = record d { pin = e'; lost = lost } in
-        subst (λ (ws : List ℕ). R record { words = ws; homes = s.homes; views = set s.views id w }) (sym (set-get_or s.words i 0))
-        (repinned linked lent noted fact frames z s r id d w at s.words (nothing linked lent noted fact frames z (map upper_of s.views) s.words) record {
+        subst (λ (ws : List ℕ). R record { words = ws; homes = s.homes; views = set s.views id w })
+        (sym (set-get_or s.words i 0))
+        (repinned linked lent noted fact frames z s r id d w at s.words
+        (nothing linked lent noted fact frames z (map upper_of s.views) s.words) record {
           same_sizes = refl;
           same_made = refl;
           same_stage = refl;
@@ -96,26 +118,38 @@ module _ {U : Type 0} (linked lent : List ℕ → ℕ → Type 0) (noted : List 
           later = le_refl (epoch s.words);
           notes = λ q n. (n, moment, pinned ∙ (r.seat id d at).noted_pinned q n);
           pins = pins;
-          above = subst (fact z r.made s.words) (sym (set_again (map upper_of s.views) id d.upper (upper_at linked lent noted fact frames z s r id d at)))
+          above = subst (fact z r.made s.words)
+              (sym (set_again (map upper_of s.views) id d.upper
+              (upper_at linked lent noted fact frames z s r id d at)))
               r.above;
         })
 
     looked : (i scan upto lag looks lags : ℕ) → scan ≤ epoch s.words
-        → (scan ≡ epoch s.words → (i : ℕ) (x : Pin) → get_elem? (map pin_of s.views) i ≡ some x → x.number ≤ upto → x.pinned ≡ true → scan ≤ x.moment)
+        → (scan ≡ epoch s.words → (i : ℕ) (x : Pin) → get_elem? (map pin_of s.views) i ≡ some x
+        → x.number ≤ upto → x.pinned ≡ true → scan ≤ x.moment)
         → R record {
           words = set s.words i (get_or s.words i 0);
           homes = s.homes;
-          views = set s.views id (record d { pin = record d.pin { scan = scan; upto = upto; lag = lag; looks = looks; lags = lags } });
+          views = set s.views id
+              (record d {
+                pin =
+                    record d.pin { scan = scan; upto = upto; lag = lag; looks = looks; lags = lags };
+              });
         }
-    looked i scan upto lag looks lags past ok = let e' : Pin = record d.pin { scan = scan; upto = upto; lag = lag; looks = looks; lags = lags } in
-        loaded i e' d.lost (pins_step r.made s.words s.words (map pin_of s.views) r.pins id d.pin e' here (may_see scan upto lag looks lags past ok)) refl refl
+    looked i scan upto lag looks lags past ok =
+        let e' : Pin =
+        record d.pin { scan = scan; upto = upto; lag = lag; looks = looks; lags = lags } in
+        loaded i e' d.lost (pins_step r.made s.words s.words (map pin_of s.views) r.pins id d.pin e'
+        here (may_see scan upto lag looks lags past ok)) refl refl
 
     -- Nobody is looked at yet.
-    nobody : {A : Type 0} (i : ℕ) (x : Pin) → get_elem? (map pin_of s.views) i ≡ some x → x.number ≤ 0 → x.pinned ≡ true → A
+    nobody : {A : Type 0} (i : ℕ) (x : Pin) → get_elem? (map pin_of s.views) i ≡ some x
+        → x.number ≤ 0 → x.pinned ≡ true → A
     nobody i x there low p = let lo = (r.pins.each i x there).is_pass p in absurd (omega arith)
 
     -- The exchange of an epoch that all passes were found at.
-    module _ (found : d.pin.scan ≡ epoch s.words) (all : r.made ≤ d.pin.upto) (room : epoch s.words < 4611686018427387904) where
+    module _ (found : d.pin.scan ≡ epoch s.words) (all : r.made ≤ d.pin.upto)
+        (room : epoch s.words < 4611686018427387904) where
       abbrev moved_words : List ℕ
       moved_words = set s.words 1 (epoch s.words + 1)
 
@@ -126,17 +160,24 @@ module _ {U : Type 0} (linked lent : List ℕ → ℕ → Type 0) (noted : List 
       next = let w = r.wide in get_or-set_same s.words 1 (epoch s.words + 1) 0 (omega arith)
 
       moved_pins : ArePins r.made moved_words (map pin_of s.views)
-      moved_pins = pins_moved r.made s.words moved_words (map pin_of s.views) r.pins next room (λ i lo hi. else_word (i + 1) (λ e. omega arith))
-          (λ j x there p. let low = (r.pins.each j x there).in_range in subst (λ y. y ≤ x.moment) found (mine.scanned found j x there (omega arith) p))
+      moved_pins = pins_moved r.made s.words moved_words (map pin_of s.views) r.pins next room
+          (λ i lo hi. else_word (i + 1) (λ e. omega arith))
+          (λ j x there p. let low = (r.pins.each j x there).in_range in
+          subst (λ y. y ≤ x.moment) found (mine.scanned found j x there (omega arith) p))
 
       move_step : R record {
         words = set s.words 1 (epoch s.words + 1);
         homes = s.homes;
-        views = set s.views id (record d { pin = record d.pin { scan = epoch s.words + 1; upto = 0 } });
+        views = set s.views id
+            (record d { pin = record d.pin { scan = epoch s.words + 1; upto = 0 } });
       }
-      move_step = let e' : Pin = record d.pin { scan = epoch s.words + 1; upto = 0 } in let k = moved_pins.each id d.pin here in
-          let agrees = low_agrees linked lent noted fact frames z (map upper_of s.views) s.words 1 (epoch s.words + 1) (omega arith) in
-          repinned linked lent noted fact frames z s r id d (record d { pin = e' }) at moved_words agrees record {
+      move_step = let e' : Pin = record d.pin { scan = epoch s.words + 1; upto = 0 } in
+          let k = moved_pins.each id d.pin here in
+          let agrees =
+          low_agrees linked lent noted fact frames z (map upper_of s.views) s.words 1
+          (epoch s.words + 1) (omega arith) in
+          repinned linked lent noted fact frames z s r id d (record d { pin = e' }) at moved_words
+          agrees record {
             same_sizes = refl;
             same_made = refl;
             same_stage = refl;
@@ -144,33 +185,48 @@ module _ {U : Type 0} (linked lent : List ℕ → ℕ → Type 0) (noted : List 
             head = else_word 0 (λ e. omega arith);
             rows_are = λ i l. else_word i (λ e. omega arith);
             later = let up = next in omega arith;
-            notes = λ q n. let was = (framed linked lent noted fact frames z s r id d d at moved_words agrees).notes id d.upper
-                (upper_at linked lent noted fact frames z s r id d at) q n in (was, refl, (r.seat id d at).noted_pinned q was);
-            pins = pins_step r.made moved_words moved_words (map pin_of s.views) moved_pins id d.pin e' here record {
-              number_is = refl;
-              same_epoch = refl;
-              others = λ i _ _ _. refl;
-              moments = λ p. inl (p, refl);
-              is_pass = k.is_pass;
-              absent = k.absent;
-              present = k.present;
-              pinned_at = k.pinned_at;
-              told_past = k.told_past;
-              scan_past = let up = next in omega arith;
-              scanned = λ _ i x there low p. ⊎_elim
-                  (λ (t : (i ≡ id) × (e' ≡ x)). nobody id d.pin here (subst (λ (y : Pin). y.number ≤ 0) (sym t.1) low) (ap (λ (y : Pin). y.pinned) t.1 ∙ p))
-                  (λ (t : (i ≢ id) × (get_elem? (map pin_of s.views) i ≡ some x)). nobody i x t.1 low p) (at_set (map pin_of s.views) id i e' x there);
-            };
-            above = subst (fact z r.made moved_words) (sym (set_again (map upper_of s.views) id d.upper (upper_at linked lent noted fact frames z s r id d at)))
+            notes = λ q n.
+                let was = (framed linked lent noted fact frames z s r id d d at moved_words
+                agrees).notes id d.upper
+                (upper_at linked lent noted fact frames z s r id d at) q n in
+                (was, refl, (r.seat id d at).noted_pinned q was);
+            pins = pins_step r.made moved_words moved_words (map pin_of s.views) moved_pins id d.pin
+                e' here record {
+                  number_is = refl;
+                  same_epoch = refl;
+                  others = λ i _ _ _. refl;
+                  moments = λ p. inl (p, refl);
+                  is_pass = k.is_pass;
+                  absent = k.absent;
+                  present = k.present;
+                  pinned_at = k.pinned_at;
+                  told_past = k.told_past;
+                  scan_past = let up = next in omega arith;
+                  scanned = λ _ i x there low p. ⊎_elim
+                      (λ (t : (i ≡ id) × (e' ≡ x)).
+                      nobody id d.pin here (subst (λ (y : Pin). y.number ≤ 0) (sym t.1) low) (ap
+                      (λ (y : Pin). y.pinned) t.1 ∙ p))
+                      (λ (t : (i ≢ id)
+                      × (get_elem? (map pin_of s.views) i ≡ some x)). nobody i x t.1 low p)
+                      (at_set (map pin_of s.views) id i e' x there);
+                };
+            above = subst (fact z r.made moved_words)
+                (sym (set_again (map upper_of s.views) id d.upper
+                (upper_at linked lent noted fact frames z s r id d at)))
                 (framed linked lent noted fact frames z s r id d d at moved_words agrees).stays;
           }
 
-  pub begins : (slots id : ℕ) (me : Mine U) → Allows R slots id me 1 (λ x. x) (Began (step slots 1 0 0 none) me)
+  pub begins : (slots id : ℕ) (me : Mine U)
+      → Allows R slots id me 1 (λ x. x) (Began (step slots 1 0 0 none) me)
   begins slots id me s r _ at _ = (
-    record me.0 { pin = record me.0.pin { scan = epoch s.words; upto = 0; lag = 0; looks = me.0.pin.looks + 1 } },
+    record me.0 {
+      pin =
+          record me.0.pin { scan = epoch s.words; upto = 0; lag = 0; looks = me.0.pin.looks + 1 };
+    },
     keeps,
     tt,
-    looked s r id me.0 at 1 (epoch s.words) 0 0 (me.0.pin.looks + 1) me.0.pin.lags (le_refl (epoch s.words)) (λ _ i x there low p. nobody s r id me.0 at i x there low p),
+    looked s r id me.0 at 1 (epoch s.words) 0 0 (me.0.pin.looks + 1) me.0.pin.lags
+        (le_refl (epoch s.words)) (λ _ i x there low p. nobody s r id me.0 at i x there low p),
     (
       r.pins.small,
       (mine s r id me.0 at).scan_past,
@@ -179,23 +235,35 @@ module _ {U : Type 0} (linked lent : List ℕ → ℕ → Type 0) (noted : List 
     ),
   )
 
-  pub scans : (slots id : ℕ) (me : Mine U) (i : ℕ) → i ≡ me.0.pin.upto + 2 → Allows R slots id me i (λ x. x) (Scanned (step slots i 0 0 none) me)
-  scans slots id me i is s r _ at _ = let d = me.0 in let k = mine s r id d at in let n : ℕ = get_or s.words i 0 in
-      let word : announced s.words (d.pin.upto + 1) ≡ n = ap (λ j. get_or s.words j 0) (omega arith) in
+  pub scans : (slots id : ℕ) (me : Mine U) (i : ℕ) → i ≡ me.0.pin.upto + 2
+      → Allows R slots id me i (λ x. x) (Scanned (step slots i 0 0 none) me)
+  scans slots id me i is s r _ at _ = let d = me.0 in let k = mine s r id d at in
+      let n : ℕ = get_or s.words i 0 in
+      let word : announced s.words (d.pin.upto + 1) ≡ n = ap
+      (λ j. get_or s.words j 0) (omega arith) in
       let fine : (n ≡ 0 ⊎ d.pin.scan < n) → R record {
         words = set s.words i n;
         homes = s.homes;
         views = set s.views id (record d { pin = record d.pin { upto = d.pin.upto + 1 } });
       } =
-      λ f. looked s r id d at i d.pin.scan (d.pin.upto + 1) d.pin.lag d.pin.looks d.pin.lags k.scan_past
+      λ f. looked s r id d at i d.pin.scan (d.pin.upto + 1) d.pin.lag d.pin.looks d.pin.lags
+      k.scan_past
       (λ now j x there low p. dite (ℕ_discrete x.number (d.pin.upto + 1))
-      (λ e. let own = r.pins.each j x there in let told : n ≡ x.told + 1 = sym word ∙ (ap (announced s.words) (sym e) ∙ own.present p) in
+      (λ e. let own = r.pins.each j x there in
+      let told : n ≡ x.told + 1 = sym word ∙ (ap (announced s.words) (sym e) ∙ own.present p) in
       let after = (own.pinned_at p).0 in ⊎_elim (λ o. absurd (omega arith)) (λ l. omega arith) f)
       (λ e. k.scanned now j x there (omega arith) p)) in
-      let behind : 0 < n → d.pin.pinned ≡ false → d.pin.upto + 1 ≢ d.pin.number = λ lo un e. let absent = k.absent (omega arith) un in
+      let behind : 0 < n → d.pin.pinned ≡ false
+      → d.pin.upto + 1 ≢ d.pin.number = λ lo un e. let absent = k.absent (omega arith) un in
       let none_is : n ≡ 0 = sym word ∙ (ap (announced s.words) e ∙ absent) in omega arith in
       dite (ℕ_discrete n 0)
-      (λ e. (record d { pin = record d.pin { upto = d.pin.upto + 1 } }, keeps, tt, fine (inl e), ((λ _. refl), λ lo _. absurd (omega arith))))
+      (λ e. (
+        record d { pin = record d.pin { upto = d.pin.upto + 1 } },
+        keeps,
+        tt,
+        fine (inl e),
+        ((λ _. refl), λ lo _. absurd (omega arith)),
+      ))
       (λ ne. ⊎_elim
       (λ (l : d.pin.scan < n). (
         record d { pin = record d.pin { upto = d.pin.upto + 1 } },
@@ -208,21 +276,27 @@ module _ {U : Type 0} (linked lent : List ℕ → ℕ → Type 0) (noted : List 
         record d { pin = record d.pin { lag = d.pin.upto + 1; lags = d.pin.lags + 1 } },
         keeps,
         tt,
-        looked s r id d at i d.pin.scan d.pin.upto (d.pin.upto + 1) d.pin.looks (d.pin.lags + 1) k.scan_past k.scanned,
+        looked s r id d at i d.pin.scan d.pin.upto (d.pin.upto + 1) d.pin.looks (d.pin.lags + 1)
+            k.scan_past k.scanned,
         ((λ f. absurd (⊎_elim ne (λ l. omega arith) f)), λ lo _. (behind lo, refl)),
       ))
       (less_or_not d.pin.scan n))
 
-  pub moves : (slots id : ℕ) (me : Mine U) (e : ℕ) → me.0.pin.scan ≡ e → z.passes ≤ me.0.pin.upto → e < 4611686018427387904
-      → Allows R slots id me 1 (λ n. either (eqb n e) (e + 1) n) (Moved (step slots 1 e (e + 1) none) me)
-  moves slots id me e is all room s r _ at _ = let d = me.0 in let within = r.within in let k = mine s r id d at in
-      let w1 : View U = record d { pin = record d.pin { scan = e + 1; upto = 0 } } in let w0 : View U = record d { lost = d.lost + 1 } in
+  pub moves : (slots id : ℕ) (me : Mine U) (e : ℕ) → me.0.pin.scan ≡ e → z.passes ≤ me.0.pin.upto
+      → e < 4611686018427387904
+      → Allows R slots id me 1
+      (λ n. either (eqb n e) (e + 1) n) (Moved (step slots 1 e (e + 1) none) me)
+  moves slots id me e is all room s r _ at _ = let d = me.0 in let within = r.within in
+      let k = mine s r id d at in
+      let w1 : View U = record d { pin = record d.pin { scan = e + 1; upto = 0 } } in
+      let w0 : View U = record d { lost = d.lost + 1 } in
       dite (ℕ_discrete (epoch s.words) e)
       (λ (hit : epoch s.words ≡ e). (
         w1,
         keeps,
         tt,
-        subst (λ (x : ℕ). R (stepped s 1 x id me.1 w1 keeps)) (sym (ap (λ b. either b (e + 1) (epoch s.words)) (eq-eqb (epoch s.words) e hit)))
+        subst (λ (x : ℕ). R (stepped s 1 x id me.1 w1 keeps))
+            (sym (ap (λ b. either b (e + 1) (epoch s.words)) (eq-eqb (epoch s.words) e hit)))
             (subst (λ (x : ℕ). R record {
               words = set s.words 1 (x + 1);
               homes = s.homes;
@@ -235,8 +309,11 @@ module _ {U : Type 0} (linked lent : List ℕ → ℕ → Type 0) (noted : List 
         w0,
         keeps,
         tt,
-        subst (λ (x : ℕ). R (stepped s 1 x id me.1 w0 keeps)) (sym (ap (λ b. either b (e + 1) (epoch s.words)) (ne_eqb (epoch s.words) e miss)))
-            (loaded s r id d at 1 d.pin (d.lost + 1) (subst (ArePins r.made s.words) (sym (set_again (map pin_of s.views) id d.pin (here s r id d at))) r.pins)
+        subst (λ (x : ℕ). R (stepped s 1 x id me.1 w0 keeps))
+            (sym (ap (λ b. either b (e + 1) (epoch s.words)) (ne_eqb (epoch s.words) e miss)))
+            (loaded s r id d at 1 d.pin (d.lost + 1)
+            (subst (ArePins r.made s.words)
+            (sym (set_again (map pin_of s.views) id d.pin (here s r id d at))) r.pins)
             refl refl),
         (sym is, (λ hit. absurd (miss hit)), λ _. refl),
       ))

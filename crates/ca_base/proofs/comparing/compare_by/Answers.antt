@@ -9,42 +9,60 @@ use Rattle.ca_base.proofs.ObjectBytes.{joined_part}
 use Rattle.ca_base.proofs.comparing.compare_by.Goals as goal
 
 pub loop-at-init : goal.loop-at-init
-loop-at-init c = let start : ℕ = c.key_bytes-start.result.0 in let none : start - start ≡ 0 = omega arith in record {
-  own = search rules;
-  same = search rules;
-  number = search rules;
-  tally = search rules;
-  kept = search rules;
-  still = search rules;
-  low = omega arith;
-  high = omega arith;
-  word = λ its shown. c.word_with-word.ensures.word its
-      (subst (λ (m : MyTree). IsObjectShown m.0.upper c.args.row its) (sym c.key_bytes-start.ensures.frame.still) shown);
-  other = first_word c.args.key.now (start - start) c.args.front none c.requires.front;
-  left = λ its _. left_first (bytes_in (drop 11 its)) c.args.key.now start c.key_bytes-start.result.1;
-}
+loop-at-init c = let start : ℕ = c.key_bytes-start.result.0 in
+    let none : start - start ≡ 0 = omega arith in record {
+      own = search rules;
+      same = search rules;
+      number = search rules;
+      tally = search rules;
+      kept = search rules;
+      still = search rules;
+      low = omega arith;
+      high = omega arith;
+      word = λ its shown. c.word_with-word.ensures.word its
+          (subst (λ (m : MyTree). IsObjectShown m.0.upper c.args.row its)
+          (sym c.key_bytes-start.ensures.frame.still) shown);
+      other = first_word c.args.key.now (start - start) c.args.front none c.requires.front;
+      left = λ its _.
+          left_first (bytes_in (drop 11 its)) c.args.key.now start c.key_bytes-start.result.1;
+    }
 
 pub returns-then-is_ne-clause-order : goal.returns-then-is_ne-clause-order
-returns-then-is_ne-clause-order c its shown = let start : ℕ = c.key_bytes-start.result.0 in let end : ℕ = c.key_bytes-start.result.1 in
-    let at : ℕ = c.loop-at.at in let n : ℕ = c.min-count.result in let key : List ℕ = c.args.key.now in
-    let i = c.loop-at.invariant in let low = i.low in let more = c.loop-at-test.true in let m = c.min-count.ensures in let s = c.min.ensures in
+returns-then-is_ne-clause-order c its shown = let start : ℕ = c.key_bytes-start.result.0 in
+    let end : ℕ = c.key_bytes-start.result.1 in
+    let at : ℕ = c.loop-at.at in let n : ℕ = c.min-count.result in
+    let key : List ℕ = c.args.key.now in
+    let i = c.loop-at.invariant in let low = i.low in let more = c.loop-at-test.true in
+    let m = c.min-count.ensures in let s = c.min.ensures in
     let range = c.key_bytes-start.ensures.range in let long = shown.long in
-    let there = subst (λ (m : MyTree). IsObjectShown m.0.upper c.args.row its) (sym i.still) shown in
-    let has = joined_part (drop 11 its) at n c.loop-at.word c.word_with-next.result c.joined.result (omega arith) (omega (arith, length-drop 11 its))
-    c.joined.ensures (i.word its shown more) (λ (l : at / 8 * 8 + 8 < at + n). c.word_with-next.ensures.word its there (omega arith)) in
-    let has_too = front_part key (at - start) n c.loop-at.other i.other (omega arith) (omega arith) in
-    decided (bytes_in (drop 11 its)) key start end at n c.joined.result c.loop-at.other low (omega arith) (i.left its shown) has has_too
-    c.compare_tops-order.result c.compare_tops-order.ensures (is_other c.compare_tops-order.result (sym c.is_ne.ensures ∙ c.if-is_ne.true))
+    let there = subst
+    (λ (m : MyTree). IsObjectShown m.0.upper c.args.row its) (sym i.still) shown in
+    let has = joined_part (drop 11 its) at n c.loop-at.word c.word_with-next.result c.joined.result
+    (omega arith) (omega (arith, length-drop 11 its))
+    c.joined.ensures (i.word its shown more)
+    (λ (l : at / 8 * 8 + 8 < at + n). c.word_with-next.ensures.word its there (omega arith)) in
+    let has_too =
+    front_part key (at - start) n c.loop-at.other i.other (omega arith) (omega arith) in
+    decided (bytes_in (drop 11 its)) key start end at n c.joined.result c.loop-at.other low
+    (omega arith) (i.left its shown) has has_too
+    c.compare_tops-order.result c.compare_tops-order.ensures
+    (is_other c.compare_tops-order.result (sym c.is_ne.ensures ∙ c.if-is_ne.true))
     ∙ ap (λ (k : List ℕ). bytes_cmp k key) (sym (c.key_bytes-start.ensures.key its shown))
 
 pub loop-at-preserved : goal.loop-at-preserved
-loop-at-preserved c = let start : ℕ = c.key_bytes-start.result.0 in let end : ℕ = c.key_bytes-start.result.1 in
-    let at : ℕ = c.loop-at.at in let n : ℕ = c.min-count.result in let key : List ℕ = c.args.key.now in
-    let i = c.loop-at.invariant in let low = i.low in let more = c.loop-at-test.true in let m = c.min-count.ensures in let s = c.min.ensures in
+loop-at-preserved c = let start : ℕ = c.key_bytes-start.result.0 in
+    let end : ℕ = c.key_bytes-start.result.1 in
+    let at : ℕ = c.loop-at.at in let n : ℕ = c.min-count.result in
+    let key : List ℕ = c.args.key.now in
+    let i = c.loop-at.invariant in let low = i.low in let more = c.loop-at-test.true in
+    let m = c.min-count.ensures in let s = c.min.ensures in
     let range = c.key_bytes-start.ensures.range in
-    let next = λ (its : List ℕ) (shown : IsObjectShown c.args.pass.now.seat.me.0.upper c.args.row its).
-    c.word_with-next.ensures.word its (subst (λ (m : MyTree). IsObjectShown m.0.upper c.args.row its) (sym i.still) shown) in
-    let has_too = front_part key (at - start) n c.loop-at.other i.other (omega arith) (omega arith) in
+    let next = λ (its : List ℕ)
+    (shown : IsObjectShown c.args.pass.now.seat.me.0.upper c.args.row its).
+    c.word_with-next.ensures.word its (subst
+    (λ (m : MyTree). IsObjectShown m.0.upper c.args.row its) (sym i.still) shown) in
+    let has_too =
+    front_part key (at - start) n c.loop-at.other i.other (omega arith) (omega arith) in
     record {
       own = search rules;
       same = search rules;
@@ -58,17 +76,28 @@ loop-at-preserved c = let start : ℕ = c.key_bytes-start.result.0 in let end : 
           next its shown (omega arith) ∙ ap (λ (k : ℕ). get_or (drop 11 its) k 0) e;
       other = c.next_word-other.ensures;
       left = λ its shown. let long = shown.long in
-          let has = joined_part (drop 11 its) at n c.loop-at.word c.word_with-next.result c.joined.result (omega arith) (omega (arith, length-drop 11 its))
-          c.joined.ensures (i.word its shown more) (λ (l : at / 8 * 8 + 8 < at + n). next its shown (omega arith)) in
-          left_on (bytes_in (drop 11 its)) key start end at n c.joined.result c.loop-at.other low (omega arith) (i.left its shown) has has_too
-          c.compare_tops-order.result c.compare_tops-order.ensures (is_equal c.compare_tops-order.result (sym c.is_ne.ensures ∙ c.if-is_ne.false));
+          let has = joined_part (drop 11 its) at n c.loop-at.word c.word_with-next.result
+          c.joined.result (omega arith) (omega (arith, length-drop 11 its))
+          c.joined.ensures (i.word its shown more)
+          (λ (l : at / 8 * 8 + 8 < at + n). next its shown (omega arith)) in
+          left_on (bytes_in (drop 11 its)) key start end at n c.joined.result c.loop-at.other low
+          (omega arith) (i.left its shown) has has_too
+          c.compare_tops-order.result c.compare_tops-order.ensures
+          (is_equal c.compare_tops-order.result (sym c.is_ne.ensures ∙ c.if-is_ne.false));
     }
 
 pub returns-clause-order : goal.returns-clause-order
-returns-clause-order c its shown = let start : ℕ = c.key_bytes-start.result.0 in let end : ℕ = c.key_bytes-start.result.1 in
+returns-clause-order c its shown = let start : ℕ = c.key_bytes-start.result.0 in
+    let end : ℕ = c.key_bytes-start.result.1 in
     let bytes : List ℕ = bytes_in (drop 11 its) in let key : List ℕ = c.args.key.now in
-    let i = c.loop-at.invariant in let low = i.low in let high = i.high in let over = c.loop-at-test.false in let s = c.min.ensures in
+    let i = c.loop-at.invariant in let low = i.low in let high = i.high in
+    let over = c.loop-at-test.false in let s = c.min.ensures in
     let range = c.key_bytes-start.ensures.range in let long = shown.long in
-    c.cmp.ensures ∙ (left_none bytes key start end c.loop-at.at (omega arith) (omega (arith, bytes_long (drop 11 its), length-drop 11 its)) (omega arith)
+    c.cmp.ensures
+    ∙ (left_none bytes key start end c.loop-at.at (omega arith) (omega (
+      arith,
+      bytes_long (drop 11 its),
+      length-drop 11 its,
+    )) (omega arith)
     (i.left its shown)
     ∙ ap (λ (k : List ℕ). bytes_cmp k key) (sym (c.key_bytes-start.ensures.key its shown)))

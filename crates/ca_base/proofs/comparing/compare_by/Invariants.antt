@@ -15,9 +15,11 @@ invariant-loop-at l = record {
   still : l.pass.seat.me ≡ l.fn.pass.seat.me;
   low : l.start ≤ l.at;
   high : l.at ≤ l.stop;
-  word : (its : List ℕ) → IsObjectShown l.fn.pass.seat.me.0.upper l.row its → l.at < l.stop → l.word ≡ get_or (drop 11 its) (l.at / 8) 0;
+  word : (its : List ℕ) → IsObjectShown l.fn.pass.seat.me.0.upper l.row its → l.at < l.stop
+      → l.word ≡ get_or (drop 11 its) (l.at / 8) 0;
   other : IsNext l.key (l.at - l.start) l.other;
-  left : (its : List ℕ) → IsObjectShown l.fn.pass.seat.me.0.upper l.row its → IsLeft (bytes_in (drop 11 its)) l.key l.start l.end l.at;
+  left : (its : List ℕ) → IsObjectShown l.fn.pass.seat.me.0.upper l.row its
+      → IsLeft (bytes_in (drop 11 its)) l.key l.start l.end l.at;
 }
 
 abbrev pub decreases-loop-at : goal.decreases-loop-at

@@ -3,4 +3,5 @@ use Rattle.ca_base.proofs.WordBytes.{tops_compare}
 use Rattle.ca_base.proofs.comparing.compare_tops.Goals as goal
 
 pub returns : goal.returns
-returns c = c.cmp.ensures ∙ tops_compare c.args.count c.args.word c.args.other (omega arith) (omega arith) (omega arith)
+returns c = c.cmp.ensures
+    ∙ tops_compare c.args.count c.args.word c.args.other (omega arith) (omega arith) (omega arith)

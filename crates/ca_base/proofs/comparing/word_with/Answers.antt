@@ -4,8 +4,10 @@ use Rattle.ca_base.proofs.Items.{word_shown, as_shown}
 use Rattle.ca_base.proofs.comparing.word_with.Goals as goal
 
 pub load_word-requires-clause-shown : goal.load_word-requires-clause-shown
-load_word-requires-clause-shown c = word_shown c.args.pass.now.seat.me.0.upper _ _ (c.requires.shown.0, c.requires.shown.1.shown)
+load_word-requires-clause-shown c =
+    word_shown c.args.pass.now.seat.me.0.upper _ _ (c.requires.shown.0, c.requires.shown.1.shown)
 
 pub returns-then-at-stop-clause-word : goal.returns-then-at-stop-clause-word
-returns-then-at-stop-clause-word c its shown l = as_shown c.args.pass.now.seat.me.0.upper _ _ _ c.load_word.ensures.word its shown.shown
+returns-then-at-stop-clause-word c its shown l =
+    as_shown c.args.pass.now.seat.me.0.upper _ _ _ c.load_word.ensures.word its shown.shown
     ∙ sym (get_or-drop 11 its (c.args.at / 8) 0)

@@ -20,13 +20,17 @@ load_word-item-requires-clause-inside c = (last_inside _ _ _ c.requires.shown, o
 pub load_word-item-requires-clause-shown : goal.load_word-item-requires-clause-shown
 load_word-item-requires-clause-shown c = word_shown c.loop-place.pass.seat.me.0.upper _ _ (
   (first_note c.args.pass.now.seat.me.0.upper.notes).its,
-  subst (λ (u : TreeView). IsShown u c.args.run.base (first_note c.args.pass.now.seat.me.0.upper.notes).its) (sym c.loop-place.invariant.0.still.4)
+  subst (λ (u : TreeView).
+      IsShown u c.args.run.base (first_note c.args.pass.now.seat.me.0.upper.notes).its)
+      (sym c.loop-place.invariant.0.still.4)
       (last_shown _ _ _ c.requires.shown),
 )
 
 pub loop-place-init : goal.loop-place-init
 loop-place-init c = (
-  begins _ _ c.args.row (11 + c.args.to) (λ k word. word ≡ get_or (last_items c.args.pass.now.seat.me.0.upper) (c.args.run.from + k) 0) c.args.pass.now.seat
+  begins _ _ c.args.row (11 + c.args.to)
+      (λ k word. word ≡ get_or (last_items c.args.pass.now.seat.me.0.upper) (c.args.run.from + k) 0)
+      c.args.pass.now.seat
       c.requires.reading.own c.requires.held,
   refl,
   refl,
@@ -34,15 +38,24 @@ loop-place-init c = (
 )
 
 pub loop-place-preserved : goal.loop-place-preserved
-loop-place-preserved c = let i = c.loop-place.invariant in let u = c.args.pass.now.seat.me.0.upper in let its = (first_note u.notes).its in
-    let shown = subst (λ (v : TreeView). IsShown v c.args.run.base its) (sym i.0.still.4) (last_shown _ _ _ c.requires.shown) in
-    let there : 11 + c.args.run.from + c.loop-place.place ≡ 11 + (c.args.run.from + c.loop-place.place) = omega arith in
-    let word : c.load_word-item.result ≡ get_or (last_items u) (c.args.run.from + c.loop-place.place) 0 =
+loop-place-preserved c = let i = c.loop-place.invariant in
+    let u = c.args.pass.now.seat.me.0.upper in let its = (first_note u.notes).its in
+    let shown = subst
+    (λ (v : TreeView). IsShown v c.args.run.base its) (sym i.0.still.4)
+    (last_shown _ _ _ c.requires.shown) in
+    let there : 11 + c.args.run.from + c.loop-place.place
+    ≡ 11 + (c.args.run.from + c.loop-place.place) = omega arith in
+    let word : c.load_word-item.result
+    ≡ get_or (last_items u) (c.args.run.from + c.loop-place.place) 0 =
     last_item _ u _ c.requires.shown (c.args.run.from + c.loop-place.place) c.load_word-item.result
-    (as_shown c.loop-place.pass.seat.me.0.upper _ _ _ c.load_word-item.ensures.word its shown ∙ ap (λ k. get_or its k 0) there) (omega arith) in (
-      goes_on_behind _ _ c.args.row (11 + c.args.to) (λ k word. word ≡ get_or (last_items u) (c.args.run.from + k) 0) c.args.pass.now.seat
-          c.loop-place.pass.seat c.load_word-item.new.pass.seat c.set_word.new.pass.seat c.loop-place.place _ _ (omega arith) (omega arith) word i.0
-          c.load_word-item.ensures.frame.same c.load_word-item.ensures.frame.still c.set_word.ensures.frame.same c.set_word.ensures.set,
+    (as_shown c.loop-place.pass.seat.me.0.upper _ _ _ c.load_word-item.ensures.word its shown
+    ∙ ap (λ k. get_or its k 0) there) (omega arith) in (
+      goes_on_behind _ _ c.args.row (11 + c.args.to)
+          (λ k word. word ≡ get_or (last_items u) (c.args.run.from + k) 0) c.args.pass.now.seat
+          c.loop-place.pass.seat c.load_word-item.new.pass.seat c.set_word.new.pass.seat
+          c.loop-place.place _ _ (omega arith) (omega arith) word i.0
+          c.load_word-item.ensures.frame.same c.load_word-item.ensures.frame.still
+          c.set_word.ensures.frame.same c.set_word.ensures.set,
       c.set_word.ensures.frame.number ∙ (c.load_word-item.ensures.frame.number ∙ i.1),
       c.set_word.ensures.frame.kept ∙ (c.load_word-item.ensures.frame.kept ∙ i.2),
       c.set_word.ensures.frame.tally ∙ (c.load_word-item.ensures.frame.tally ∙ i.3),

@@ -12,11 +12,15 @@ load_word-requires-clause-shown c = word_shown c.args.pass.now.seat.me.0.upper _
     ((first_note c.args.pass.now.seat.me.0.upper.notes).its, last_shown _ _ _ c.requires.shown)
 
 pub overflow_cast-result : goal.overflow_cast-result
-overflow_cast-result c = let few = c.args.space.now.few.1 in let u = c.args.pass.now.seat.me.0.upper in
+overflow_cast-result c = let few = c.args.space.now.few.1 in
+    let u = c.args.pass.now.seat.me.0.upper in
     let high = item_names _ u _ c.requires.shown c.args.at c.load_word.result
-    (as_shown c.args.pass.now.seat.me.0.upper _ _ _ c.load_word.ensures.word (first_note u.notes).its (last_shown _ _ _ c.requires.shown))
+    (as_shown c.args.pass.now.seat.me.0.upper _ _ _ c.load_word.ensures.word
+    (first_note u.notes).its (last_shown _ _ _ c.requires.shown))
     c.requires.place.0 in omega arith
 
 pub returns-clause-item : goal.returns-clause-item
-returns-clause-item c = let u = c.args.pass.now.seat.me.0.upper in last_item _ u _ c.requires.shown c.args.at c.load_word.result
-    (as_shown c.args.pass.now.seat.me.0.upper _ _ _ c.load_word.ensures.word (first_note u.notes).its (last_shown _ _ _ c.requires.shown)) c.requires.place.0
+returns-clause-item c = let u = c.args.pass.now.seat.me.0.upper in
+    last_item _ u _ c.requires.shown c.args.at c.load_word.result
+    (as_shown c.args.pass.now.seat.me.0.upper _ _ _ c.load_word.ensures.word
+    (first_note u.notes).its (last_shown _ _ _ c.requires.shown)) c.requires.place.0

@@ -7,16 +7,27 @@ use Rattle.ca_base.proofs.copying.write_around.Goals as goal
 
 pub returns-clause-written : goal.returns-clause-written
 returns-clause-written c = let u = c.args.pass.now.seat.me.0.upper in let m = c.requires.many.0 in
-    let one = c.write_head.ensures.frame.same in let two = c.copy_items.ensures.frame.same in let three = c.write_items.ensures.frame.same in
-    let rest : c.args.target.now.many - c.args.around.now.behind ≡ length (last_items u) - c.args.around.now.behind = omega arith in
-    around_written (last_items u) c.args.around.now.these.now c.args.around.now.before c.args.around.now.behind (omega arith) (omega arith) c.args.row c.args.target.now.cursor.level _ c.args.target.now.statistic
-    c.args.pass.now.seat.me c.write_head.new.pass.seat.me c.copy_items.new.pass.seat.me c.write_items.new.pass.seat.me c.copy_items-2.new.pass.seat.me
+    let one = c.write_head.ensures.frame.same in let two = c.copy_items.ensures.frame.same in
+    let three = c.write_items.ensures.frame.same in
+    let rest : c.args.target.now.many - c.args.around.now.behind
+    ≡ length (last_items u) - c.args.around.now.behind = omega arith in
+    around_written (last_items u) c.args.around.now.these.now c.args.around.now.before
+    c.args.around.now.behind (omega arith) (omega arith) c.args.row
+    c.args.target.now.cursor.level _ c.args.target.now.statistic
+    c.args.pass.now.seat.me c.write_head.new.pass.seat.me c.copy_items.new.pass.seat.me
+    c.write_items.new.pass.seat.me c.copy_items-2.new.pass.seat.me
     c.requires.held (omega arith) (omega arith) (omega arith) c.write_head.ensures.filled
-    (subst (λ (v : TreeView). HasFilled c.args.row (11 + 0) c.args.around.now.before (λ k word. word ≡ get_or (last_items v) (0 + k) 0) c.write_head.new.pass.seat.me
+    (subst (λ (v : TreeView). HasFilled c.args.row (11 + 0) c.args.around.now.before
+    (λ k word. word ≡ get_or (last_items v) (0 + k) 0) c.write_head.new.pass.seat.me
     c.copy_items.new.pass.seat.me) one.4 c.copy_items.ensures.filled)
     c.write_items.ensures.filled
-    (subst (λ n. HasFilled c.args.row (11 + (c.args.around.now.before + length c.args.around.now.these.now)) n (λ k word. word ≡ get_or (last_items u) (c.args.around.now.behind + k) 0)
+    (subst (λ n.
+    HasFilled c.args.row (11 + (c.args.around.now.before + length c.args.around.now.these.now))
+    n (λ k word. word ≡ get_or (last_items u) (c.args.around.now.behind + k) 0)
     c.write_items.new.pass.seat.me c.copy_items-2.new.pass.seat.me) rest
-    (subst (λ (v : TreeView). HasFilled c.args.row (11 + (c.args.around.now.before + length c.args.around.now.these.now)) (c.args.target.now.many - c.args.around.now.behind)
-    (λ k word. word ≡ get_or (last_items v) (c.args.around.now.behind + k) 0) c.write_items.new.pass.seat.me c.copy_items-2.new.pass.seat.me)
+    (subst (λ (v : TreeView).
+    HasFilled c.args.row (11 + (c.args.around.now.before + length c.args.around.now.these.now))
+    (c.args.target.now.many - c.args.around.now.behind)
+    (λ k word. word ≡ get_or (last_items v) (c.args.around.now.behind + k) 0)
+    c.write_items.new.pass.seat.me c.copy_items-2.new.pass.seat.me)
     (three.4 ∙ (two.4 ∙ one.4)) c.copy_items-2.ensures.filled))

@@ -15,7 +15,8 @@ invariant-loop-low l = record {
   still : l.pass.seat.me ≡ l.fn.pass.seat.me;
   order : l.low ≤ l.high;
   few : l.high ≤ 120;
-  left : (note : Note) → IsReadable l.space.table.shared.key l.fn.pass.seat.me.0.upper l.base note → IsLeft note l.key l.low l.high;
+  left : (note : Note) → IsReadable l.space.table.shared.key l.fn.pass.seat.me.0.upper l.base note
+      → IsLeft note l.key l.low l.high;
 }
 
 abbrev pub decreases-loop-low : goal.decreases-loop-low

@@ -10,16 +10,20 @@ use Rattle.ca_node.proofs.WordOrder.{bytes_long}
 use Rattle.ca_base.proofs.reading.copy_object.Goals as goal
 
 pub load_word-requires-clause-shown : goal.load_word-requires-clause-shown
-load_word-requires-clause-shown c = word_shown c.args.pass.now.seat.me.0.upper _ _ (c.requires.shown.0, c.requires.shown.1.shown)
+load_word-requires-clause-shown c =
+    word_shown c.args.pass.now.seat.me.0.upper _ _ (c.requires.shown.0, c.requires.shown.1.shown)
 
 pub load_word-requires-in-loop-i-clause-shown : goal.load_word-requires-in-loop-i-clause-shown
-load_word-requires-in-loop-i-clause-shown c = let its = c.requires.shown.0 in word_shown c.loop-i.pass.seat.me.0.upper _ _ (
-  its,
-  (subst (λ (m : MyTree). IsObjectShown m.0.upper c.args.row its) (sym c.loop-i.invariant.still) c.requires.shown.1).shown,
-)
+load_word-requires-in-loop-i-clause-shown c = let its = c.requires.shown.0 in
+    word_shown c.loop-i.pass.seat.me.0.upper _ _ (
+      its,
+      (subst (λ (m : MyTree). IsObjectShown m.0.upper c.args.row its) (sym c.loop-i.invariant.still)
+          c.requires.shown.1).shown,
+    )
 
 pub loop-i-preserved : goal.loop-i-preserved
-loop-i-preserved c = let i : ℕ = c.loop-i.i in let len : ℕ = c.min-len.result in let more = c.loop-i-test.true in let inv = c.loop-i.invariant in
+loop-i-preserved c = let i : ℕ = c.loop-i.i in let len : ℕ = c.min-len.result in
+    let more = c.loop-i-test.true in let inv = c.loop-i.invariant in
     record {
       own = search rules;
       same = search rules;
@@ -28,19 +32,34 @@ loop-i-preserved c = let i : ℕ = c.loop-i.i in let len : ℕ = c.min-len.resul
       kept = search rules;
       still = search rules;
       copied = λ its shown. let long = shown.long in let m = c.min-len.ensures in
-          let s = subst (λ (m : MyTree). IsObjectShown m.0.upper c.args.row its) (sym inv.still) shown in
+          let s = subst
+          (λ (m : MyTree). IsObjectShown m.0.upper c.args.row its) (sym inv.still) shown in
           let word : c.load_word-in-loop-i.result ≡ get_or (drop 11 its) i 0 =
-          as_shown c.loop-i.pass.seat.me.0.upper _ _ _ c.load_word-in-loop-i.ensures.word its s.shown ∙ sym (get_or-drop 11 its i 0) in
-          let bytes : c.to_be_bytes-bytes.result ≡ to_be_bytes w64 (get_or (drop 11 its) i 0) = c.to_be_bytes-bytes.ensures ∙ ap (to_be_bytes w64) word in
-          c.append.ensures ∙ (ap (λ (xs : List ℕ). xs ++ take c.min.result c.to_be_bytes-bytes.result) (inv.copied its shown)
-          ∙ (ap (λ (xs : List ℕ). take (min len (8 * i)) (bytes_in (drop 11 its)) ++ take c.min.result xs) bytes
-          ∙ one_more (drop 11 its) len i c.min.result (omega arith) (omega (arith, length-drop 11 its)) c.min.ensures));
+          as_shown c.loop-i.pass.seat.me.0.upper _ _ _ c.load_word-in-loop-i.ensures.word its
+          s.shown ∙ sym (get_or-drop 11 its i 0) in
+          let bytes : c.to_be_bytes-bytes.result ≡ to_be_bytes w64 (get_or (drop 11 its) i 0) =
+          c.to_be_bytes-bytes.ensures ∙ ap (to_be_bytes w64) word in
+          c.append.ensures
+          ∙ (ap (λ (xs : List ℕ). xs ++ take c.min.result c.to_be_bytes-bytes.result)
+          (inv.copied its shown)
+          ∙ (ap (λ (xs : List ℕ).
+          take (min len (8 * i)) (bytes_in (drop 11 its)) ++ take c.min.result xs) bytes
+          ∙ one_more (drop 11 its) len i c.min.result (omega arith) (omega (
+            arith,
+            length-drop 11 its,
+          )) c.min.ensures));
     }
 
 pub returns-clause-object : goal.returns-clause-object
-returns-clause-object c its shown = let over = c.loop-i-test.false in let bytes : List ℕ = bytes_in (drop 11 its) in
-    let long = shown.long in let all : length bytes ≡ 1000 = omega (arith, bytes_long (drop 11 its), length-drop 11 its) in
+returns-clause-object c its shown = let over = c.loop-i-test.false in
+    let bytes : List ℕ = bytes_in (drop 11 its) in
+    let long = shown.long in
+    let all : length bytes ≡ 1000 =
+    omega (arith, bytes_long (drop 11 its), length-drop 11 its) in
     let whole : min c.min-len.result (8 * c.loop-i.i) ≡ c.min-len.result = omega arith in
-    let word = as_shown c.args.pass.now.seat.me.0.upper _ _ _ c.load_word.ensures.word its shown.shown in
-    let len : c.min-len.result ≡ min (count its) (length bytes) = omega (arith, c.min-len.ensures, ap (λ (n : ℕ). n % 65536) word) in
-    c.loop-i.invariant.copied its shown ∙ (ap (λ (k : ℕ). take k bytes) (whole ∙ len) ∙ take_min (count its) bytes)
+    let word =
+    as_shown c.args.pass.now.seat.me.0.upper _ _ _ c.load_word.ensures.word its shown.shown in
+    let len : c.min-len.result ≡ min (count its) (length bytes) =
+    omega (arith, c.min-len.ensures, ap (λ (n : ℕ). n % 65536) word) in
+    c.loop-i.invariant.copied its shown
+    ∙ (ap (λ (k : ℕ). take k bytes) (whole ∙ len) ∙ take_min (count its) bytes)

@@ -12,5 +12,6 @@ invariant-loop-i l = record {
   tally : l.pass.tally ≡ l.fn.pass.tally;
   kept : l.pass.kept ≡ l.fn.pass.kept;
   still : l.pass.seat.me ≡ l.fn.pass.seat.me;
-  copied : (its : List ℕ) → IsObjectShown l.fn.pass.seat.me.0.upper l.row its → l.into.items ≡ take (min l.len (8 * l.i)) (bytes_in (drop 11 its));
+  copied : (its : List ℕ) → IsObjectShown l.fn.pass.seat.me.0.upper l.row its
+      → l.into.items ≡ take (min l.len (8 * l.i)) (bytes_in (drop 11 its));
 }

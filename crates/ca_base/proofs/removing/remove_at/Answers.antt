@@ -24,10 +24,14 @@ returns-in-Err-clause-frame c = record {
 }
 
 pub write_base_without-old-requires-clause-held : goal.write_base_without-old-requires-clause-held
-write_base_without-old-requires-clause-held c = ((c.in-Ok.ensures.taken [] (omega arith) c.requires.ready.none).1.0.each c.in-Ok.row (in_first c.in-Ok.row [])).2
+write_base_without-old-requires-clause-held c =
+    ((c.in-Ok.ensures.taken [] (omega arith) c.requires.ready.none).1.0.each c.in-Ok.row
+    (in_first c.in-Ok.row [])).2
 
 pub write_base_without-old-requires-clause-inside : goal.write_base_without-old-requires-clause-inside
-write_base_without-old-requires-clause-inside c = ((c.in-Ok.ensures.taken [] (omega arith) c.requires.ready.none).1.0.each c.in-Ok.row (in_first c.in-Ok.row [])).1
+write_base_without-old-requires-clause-inside c =
+    ((c.in-Ok.ensures.taken [] (omega arith) c.requires.ready.none).1.0.each c.in-Ok.row
+    (in_first c.in-Ok.row [])).1
 
 pub write_base_without-old-requires-clause-reading : goal.write_base_without-old-requires-clause-reading
 write_base_without-old-requires-clause-reading c = record {
@@ -39,91 +43,135 @@ write_base_without-old-requires-clause-reading c = record {
 }
 
 pub write_base_without-old-requires-clause-shown : goal.write_base_without-old-requires-clause-shown
-write_base_without-old-requires-clause-shown c = subst (λ (u : TreeView). IsShownLast c.args.space.now.table.shared.key u c.args.target.now.cursor.base)
+write_base_without-old-requires-clause-shown c = subst
+    (λ (u : TreeView).
+    IsShownLast c.args.space.now.table.shared.key u c.args.target.now.cursor.base)
     (sym c.take.ensures.frame.same.4) c.requires.target.shown
 
 pub write_base_without-old-requires-clause-many : goal.write_base_without-old-requires-clause-many
 write_base_without-old-requires-clause-many c = let u = c.args.pass.now.seat.me.0.upper in (
-  subst (λ (v : TreeView). c.args.target.now.many ≡ length (last_items v)) (sym c.take.ensures.frame.same.4)
-      (many_are _ u c.args.target.now.cursor.base c.args.target.now.many c.requires.target.shown c.requires.target.many_are),
-  few_are _ u c.args.target.now.cursor.base c.args.target.now.many c.requires.target.shown c.requires.target.many_are c.requires.target.leaf,
+  subst (λ (v : TreeView). c.args.target.now.many
+      ≡ length (last_items v)) (sym c.take.ensures.frame.same.4)
+      (many_are _ u c.args.target.now.cursor.base c.args.target.now.many c.requires.target.shown
+      c.requires.target.many_are),
+  few_are _ u c.args.target.now.cursor.base c.args.target.now.many c.requires.target.shown
+      c.requires.target.many_are c.requires.target.leaf,
 )
 
 pub write_base_without-old-requires-clause-place : goal.write_base_without-old-requires-clause-place
-write_base_without-old-requires-clause-place c = place_in c.args.space.now.table.shared.key c.args.pass.now.seat.me.0.upper c.args.target.now.cursor.base c.args.target.now.many
+write_base_without-old-requires-clause-place c =
+    place_in c.args.space.now.table.shared.key c.args.pass.now.seat.me.0.upper
+    c.args.target.now.cursor.base c.args.target.now.many
     (Ok c.args.removal.now.at) _ c.requires.target.shown c.requires.target.many_are c.requires.place
 
 pub swap_in-requires-clause-held : goal.swap_in-requires-clause-held
 swap_in-requires-clause-held c = let v = c.write_base_without-old.ensures.written in
-    written_row c.args.space.now.table.shared.key.rows c.take.new.pass.kept c.write_base_without-old.new.pass.kept c.take.new.pass.seat.me
-    c.write_base_without-old.new.pass.seat.me (c.in-Ok.row ∷ []) c.in-Ok.row v.0 (in_first c.in-Ok.row []) v.1.long v.2
-    c.write_base_without-old.ensures.frame.kept (c.in-Ok.ensures.taken [] (omega arith) c.requires.ready.none).1
+    written_row c.args.space.now.table.shared.key.rows c.take.new.pass.kept
+    c.write_base_without-old.new.pass.kept c.take.new.pass.seat.me
+    c.write_base_without-old.new.pass.seat.me (c.in-Ok.row ∷ []) c.in-Ok.row v.0
+    (in_first c.in-Ok.row []) v.1.long v.2
+    c.write_base_without-old.ensures.frame.kept
+    (c.in-Ok.ensures.taken [] (omega arith) c.requires.ready.none).1
 
 pub swap_in-requires-clause-old_base : goal.swap_in-requires-clause-old_base
-swap_in-requires-clause-old_base c = subst (λ (u : TreeView). IsBaseNote c.args.space.now.table.shared.key (first_note u.notes))
-    (sym (c.write_base_without-old.ensures.frame.same.4 ∙ c.take.ensures.frame.same.4)) c.requires.target.shown.is_base
+swap_in-requires-clause-old_base c = subst
+    (λ (u : TreeView). IsBaseNote c.args.space.now.table.shared.key (first_note u.notes))
+    (sym (c.write_base_without-old.ensures.frame.same.4 ∙ c.take.ensures.frame.same.4))
+    c.requires.target.shown.is_base
 
 pub swap_in-requires-clause-cursor : goal.swap_in-requires-clause-cursor
-swap_in-requires-clause-cursor c = subst (λ (u : TreeView). IsAtCursor c.args.space.now.table.shared.key (first_note u.notes) c.args.target.now.cursor)
-    (sym (c.write_base_without-old.ensures.frame.same.4 ∙ c.take.ensures.frame.same.4)) c.requires.target.at
+swap_in-requires-clause-cursor c = subst
+    (λ (u : TreeView).
+    IsAtCursor c.args.space.now.table.shared.key (first_note u.notes) c.args.target.now.cursor)
+    (sym (c.write_base_without-old.ensures.frame.same.4 ∙ c.take.ensures.frame.same.4))
+    c.requires.target.at
 
 pub swap_in-requires-clause-rows : goal.swap_in-requires-clause-rows
-swap_in-requires-clause-rows c = let one = c.take.ensures.frame.same in let two = c.write_base_without-old.ensures.frame.same in (
-  refl,
-  ap (λ (u : TreeView). gone (Ok c.args.removal.now.at) (last_items u)) two.4
-      ∙ (ap (λ x. x ∷ []) (sym c.write_base_without-old.ensures.gone) ∙ sym c.from_ref.ensures.value),
-)
+swap_in-requires-clause-rows c = let one = c.take.ensures.frame.same in
+    let two = c.write_base_without-old.ensures.frame.same in (
+      refl,
+      ap (λ (u : TreeView). gone (Ok c.args.removal.now.at) (last_items u)) two.4
+          ∙ (ap (λ x. x ∷ []) (sym c.write_base_without-old.ensures.gone)
+          ∙ sym c.from_ref.ensures.value),
+    )
 
 pub swap_in-requires-clause-update : goal.swap_in-requires-clause-update
-swap_in-requires-clause-update c = let v = c.write_base_without-old.ensures.written in let r = c.requires in
+swap_in-requires-clause-update c = let v = c.write_base_without-old.ensures.written in
+    let r = c.requires in
     let one = c.take.ensures.frame.same in let two = c.write_base_without-old.ensures.frame.same in
-    ready_without c.args.space.now.table.shared.key c.args.pass.now.seat.me c.take.new.pass.seat.me c.write_base_without-old.new.pass.seat.me c.in-Ok.row
-    c.args.target.now.cursor.base c.args.removal.now.at c.args.target.now.statistic c.args.removal.now.key.now v.0 r.target.shown (two.4 ∙ one.4) r.place
-    (spells_there c.args.pass.now.seat.me.0.upper c.take.new.pass.seat.me.0.upper (λ xs. remove xs c.args.removal.now.at) _ c.args.target.now.cursor.level c.args.target.now.statistic v.0 one.4
+    ready_without c.args.space.now.table.shared.key c.args.pass.now.seat.me c.take.new.pass.seat.me
+    c.write_base_without-old.new.pass.seat.me c.in-Ok.row
+    c.args.target.now.cursor.base c.args.removal.now.at c.args.target.now.statistic
+    c.args.removal.now.key.now v.0 r.target.shown (two.4 ∙ one.4) r.place
+    (spells_there c.args.pass.now.seat.me.0.upper c.take.new.pass.seat.me.0.upper
+    (λ xs. remove xs c.args.removal.now.at) _ c.args.target.now.cursor.level
+    c.args.target.now.statistic v.0 one.4
     r.target.at.level v.1) v.2 r.ready.pinned r.ready.number (two.3 ∙ one.3) r.ordered r.about
 
 pub returns-clause-removed : goal.returns-clause-removed
 returns-clause-removed c = let v = c.write_base_without-old.ensures.written in let r = c.requires in
     let one = c.take.ensures.frame.same in let two = c.write_base_without-old.ensures.frame.same in
-    removed c.args.space.now.table.shared.key c.args.pass.now.seat.me c.take.new.pass.seat.me c.write_base_without-old.new.pass.seat.me c.in-Ok.row
-    c.args.target.now.cursor.base c.args.removal.now.at c.args.target.now.statistic c.args.removal.now.key.now v.0 r.target.shown (two.4 ∙ one.4) r.place
-    (spells_there c.args.pass.now.seat.me.0.upper c.take.new.pass.seat.me.0.upper (λ xs. remove xs c.args.removal.now.at) _ c.args.target.now.cursor.level c.args.target.now.statistic v.0 one.4
+    removed c.args.space.now.table.shared.key c.args.pass.now.seat.me c.take.new.pass.seat.me
+    c.write_base_without-old.new.pass.seat.me c.in-Ok.row
+    c.args.target.now.cursor.base c.args.removal.now.at c.args.target.now.statistic
+    c.args.removal.now.key.now v.0 r.target.shown (two.4 ∙ one.4) r.place
+    (spells_there c.args.pass.now.seat.me.0.upper c.take.new.pass.seat.me.0.upper
+    (λ xs. remove xs c.args.removal.now.at) _ c.args.target.now.cursor.level
+    c.args.target.now.statistic v.0 one.4
     r.target.at.level v.1) v.2
     c.swap_in.result c.swap_in.new.pass.seat.me.0.upper c.swap_in.ensures.done
 
 pub returns-clause-renewed : goal.returns-clause-renewed
 returns-clause-renewed c = let v = c.write_base_without-old.ensures.written in let r = c.requires in
     let one = c.take.ensures.frame.same in let two = c.write_base_without-old.ensures.frame.same in
-    renewed_without c.args.space.now.table.shared.key c.args.pass.now.seat.me c.take.new.pass.seat.me c.write_base_without-old.new.pass.seat.me c.in-Ok.row
-    c.args.target.now.cursor.base c.args.removal.now.at c.args.target.now.statistic c.args.removal.now.key.now v.0 r.target.shown (two.4 ∙ one.4) r.place
-    (spells_there c.args.pass.now.seat.me.0.upper c.take.new.pass.seat.me.0.upper (λ xs. remove xs c.args.removal.now.at) _ c.args.target.now.cursor.level c.args.target.now.statistic v.0 one.4
+    renewed_without c.args.space.now.table.shared.key c.args.pass.now.seat.me
+    c.take.new.pass.seat.me c.write_base_without-old.new.pass.seat.me c.in-Ok.row
+    c.args.target.now.cursor.base c.args.removal.now.at c.args.target.now.statistic
+    c.args.removal.now.key.now v.0 r.target.shown (two.4 ∙ one.4) r.place
+    (spells_there c.args.pass.now.seat.me.0.upper c.take.new.pass.seat.me.0.upper
+    (λ xs. remove xs c.args.removal.now.at) _ c.args.target.now.cursor.level
+    c.args.target.now.statistic v.0 one.4
     r.target.at.level v.1) v.2
-    (met_of c.swap_in.new.pass.seat.me) c.swap_in.result c.swap_in.new.pass.seat.me.0.upper c.swap_in.ensures.renewed
+    (met_of c.swap_in.new.pass.seat.me) c.swap_in.result c.swap_in.new.pass.seat.me.0.upper
+    c.swap_in.ensures.renewed
 
 pub returns-clause-frame : goal.returns-clause-frame
 returns-clause-frame c = record {
   same = (
-    c.swap_in.ensures.frame.same.0 ∙ (c.write_base_without-old.ensures.frame.same.0 ∙ c.take.ensures.frame.same.0),
-    c.swap_in.ensures.frame.same.1 ∙ (c.write_base_without-old.ensures.frame.same.1 ∙ c.take.ensures.frame.same.1),
+    c.swap_in.ensures.frame.same.0
+        ∙ (c.write_base_without-old.ensures.frame.same.0 ∙ c.take.ensures.frame.same.0),
+    c.swap_in.ensures.frame.same.1
+        ∙ (c.write_base_without-old.ensures.frame.same.1 ∙ c.take.ensures.frame.same.1),
   );
-  number = c.swap_in.ensures.frame.number ∙ (c.write_base_without-old.ensures.frame.number ∙ c.take.ensures.frame.number);
-  tally = λ h. c.swap_in.ensures.frame.tally (tallied_as c.args.pass.now.tally c.write_base_without-old.new.pass.tally
+  number = c.swap_in.ensures.frame.number
+      ∙ (c.write_base_without-old.ensures.frame.number ∙ c.take.ensures.frame.number);
+  tally = λ h.
+      c.swap_in.ensures.frame.tally
+      (tallied_as c.args.pass.now.tally c.write_base_without-old.new.pass.tally
       c.args.pass.now.seat.me.0.upper c.write_base_without-old.new.pass.seat.me.0.upper
-      (c.write_base_without-old.ensures.frame.tally ∙ c.take.ensures.frame.tally) (c.write_base_without-old.ensures.frame.same.4 ∙ c.take.ensures.frame.same.4) h);
+      (c.write_base_without-old.ensures.frame.tally
+      ∙ c.take.ensures.frame.tally) (c.write_base_without-old.ensures.frame.same.4
+      ∙ c.take.ensures.frame.same.4) h);
   pin = (
-    c.swap_in.ensures.frame.pin.0 ∙ (c.write_base_without-old.ensures.frame.same.2 ∙ c.take.ensures.frame.same.2),
-    c.swap_in.ensures.frame.pin.1 ∙ (c.write_base_without-old.ensures.frame.same.3 ∙ c.take.ensures.frame.same.3),
+    c.swap_in.ensures.frame.pin.0
+        ∙ (c.write_base_without-old.ensures.frame.same.2 ∙ c.take.ensures.frame.same.2),
+    c.swap_in.ensures.frame.pin.1
+        ∙ (c.write_base_without-old.ensures.frame.same.3 ∙ c.take.ensures.frame.same.3),
   );
   none = c.swap_in.ensures.frame.none;
 }
 
 pub returns-clause-won : goal.returns-clause-won
-returns-clause-won c alone listed = won_then c.args.space.now.table.shared.key c.args.pass.now.seat.me.0.upper
+returns-clause-won c alone listed =
+    won_then c.args.space.now.table.shared.key c.args.pass.now.seat.me.0.upper
     c.write_base_without-old.new.pass.seat.me.0.upper c.swap_in.result
-    (c.write_base_without-old.ensures.frame.same.4 ∙ c.take.ensures.frame.same.4) c.swap_in.ensures.won alone listed _ refl
+    (c.write_base_without-old.ensures.frame.same.4
+    ∙ c.take.ensures.frame.same.4) c.swap_in.ensures.won alone listed _ refl
 
 pub swap_in-requires-clause-own : goal.swap_in-requires-clause-own
 swap_in-requires-clause-own c = (
-  c.write_base_without-old.ensures.frame.same.0 ∙ (c.take.ensures.frame.same.0 ∙ c.requires.ready.own.0),
-  c.write_base_without-old.ensures.frame.same.2 ∙ (c.take.ensures.frame.same.2 ∙ c.requires.ready.own.1),
+  c.write_base_without-old.ensures.frame.same.0
+      ∙ (c.take.ensures.frame.same.0 ∙ c.requires.ready.own.0),
+  c.write_base_without-old.ensures.frame.same.2
+      ∙ (c.take.ensures.frame.same.2 ∙ c.requires.ready.own.1),
 )

@@ -10,28 +10,46 @@ use Rattle.ca_base.proofs.SplitKeys.{next_part}
 use Rattle.ca_base.proofs.routing.copy_key.Goals as goal
 
 pub load_word-requires-clause-shown : goal.load_word-requires-clause-shown
-load_word-requires-clause-shown c = let s = c.requires.shown in word_shown c.loop-at.pass.seat.me.0.upper c.args.row (11 + c.loop-at.at / 8) (
-  s.0,
-  subst (λ (m : MyTree). IsShown m.0.upper c.args.row s.0) (sym c.loop-at.invariant.still) s.1.shown,
-)
+load_word-requires-clause-shown c = let s = c.requires.shown in
+    word_shown c.loop-at.pass.seat.me.0.upper c.args.row (11 + c.loop-at.at / 8) (
+      s.0,
+      subst (λ (m : MyTree). IsShown m.0.upper c.args.row s.0) (sym c.loop-at.invariant.still)
+          s.1.shown,
+    )
 
 pub loop-at-preserved : goal.loop-at-preserved
-loop-at-preserved c = let start : ℕ = c.key_bytes-start.result.0 in let end : ℕ = c.key_bytes-start.result.1 in
-    let at : ℕ = c.loop-at.at in let to : ℕ = c.min-to.result in let i = c.loop-at.invariant in let low = i.low in let high = i.high in
-    let more = c.loop-at-test.true in let m = c.min-to.ensures in let range = c.key_bytes-start.ensures.range.1 in
+loop-at-preserved c = let start : ℕ = c.key_bytes-start.result.0 in
+    let end : ℕ = c.key_bytes-start.result.1 in
+    let at : ℕ = c.loop-at.at in let to : ℕ = c.min-to.result in let i = c.loop-at.invariant in
+    let low = i.low in let high = i.high in
+    let more = c.loop-at-test.true in let m = c.min-to.ensures in
+    let range = c.key_bytes-start.ensures.range.1 in
     let n : at % 8 + (to - at) - at % 8 ≡ to - at = omega arith in
-    let bytes : c.to_be_bytes-bytes.result ≡ to_be_bytes w64 c.load_word.result = c.to_be_bytes-bytes.ensures in
-    let copied = λ (its : List ℕ) (shown : IsObjectShown c.args.pass.now.seat.me.0.upper c.args.row its). let long = shown.long in
+    let bytes : c.to_be_bytes-bytes.result ≡ to_be_bytes w64 c.load_word.result =
+    c.to_be_bytes-bytes.ensures in
+    let copied = λ (its : List ℕ)
+    (shown : IsObjectShown c.args.pass.now.seat.me.0.upper c.args.row its).
+    let long = shown.long in
     let all : 8 * length (drop 11 its) ≡ 1000 = omega (arith, length-drop 11 its) in
     let s = subst (λ (m : MyTree). IsShown m.0.upper c.args.row its) (sym i.still) shown.shown in
     let word : c.load_word.result ≡ get_or (drop 11 its) (at / 8) 0 =
-    as_shown c.loop-at.pass.seat.me.0.upper c.args.row (11 + at / 8) c.load_word.result c.load_word.ensures.word its s ∙ sym (get_or-drop 11 its (at / 8) 0) in
-    c.append.ensures ∙ (ap (λ (bs : List ℕ). c.loop-at.into.items ++ take (at % 8 + (to - at) - at % 8) (drop (at % 8) bs)) bytes
-    ∙ (ap (λ (k : ℕ). c.loop-at.into.items ++ take k (drop (at % 8) (to_be_bytes w64 c.load_word.result))) n
-    ∙ next_part (drop 11 its) c.loop-at.into.items start at to c.load_word.result low (omega arith) (omega arith) (omega arith) word (i.copied its shown))) in
+    as_shown c.loop-at.pass.seat.me.0.upper c.args.row (11 + at / 8) c.load_word.result
+    c.load_word.ensures.word its s ∙ sym (get_or-drop 11 its (at / 8) 0) in
+    c.append.ensures
+    ∙ (ap (λ (bs : List ℕ).
+    c.loop-at.into.items ++ take (at % 8 + (to - at) - at % 8) (drop (at % 8) bs)) bytes
+    ∙ (ap (λ (k : ℕ).
+    c.loop-at.into.items ++ take k (drop (at % 8) (to_be_bytes w64 c.load_word.result))) n
+    ∙ next_part (drop 11 its) c.loop-at.into.items start at to c.load_word.result low (omega arith)
+    (omega arith) (omega arith) word (i.copied its shown))) in
     let its : List ℕ = c.requires.shown.0 in let long = c.requires.shown.1.long in
     let there : length (drop start (bytes_in (drop 11 its))) ≡ 1000 - start =
-    omega (arith, length-drop start (bytes_in (drop 11 its)), bytes_long (drop 11 its), length-drop 11 its) in
+    omega (
+      arith,
+      length-drop start (bytes_in (drop 11 its)),
+      bytes_long (drop 11 its),
+      length-drop 11 its,
+    ) in
     record {
       own = search rules;
       same = search rules;
@@ -41,6 +59,7 @@ loop-at-preserved c = let start : ℕ = c.key_bytes-start.result.0 in let end : 
       still = search rules;
       low = omega arith;
       high = omega arith;
-      many = ap (λ (xs : List ℕ). length xs) (copied its c.requires.shown.1) ∙ length-take-le (to - start) (drop start (bytes_in (drop 11 its))) (omega arith);
+      many = ap (λ (xs : List ℕ). length xs) (copied its c.requires.shown.1)
+          ∙ length-take-le (to - start) (drop start (bytes_in (drop 11 its))) (omega arith);
       copied = copied;
     }

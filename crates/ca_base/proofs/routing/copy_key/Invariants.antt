@@ -14,7 +14,8 @@ invariant-loop-at l = record {
   low : l.start ≤ l.at;
   high : l.at ≤ l.end;
   many : length l.into.items ≡ l.at - l.start;
-  copied : (its : List ℕ) → IsObjectShown l.fn.pass.seat.me.0.upper l.row its → l.into.items ≡ take (l.at - l.start) (drop l.start (all_bytes its));
+  copied : (its : List ℕ) → IsObjectShown l.fn.pass.seat.me.0.upper l.row its
+      → l.into.items ≡ take (l.at - l.start) (drop l.start (all_bytes its));
 }
 
 abbrev pub decreases-loop-at : goal.decreases-loop-at

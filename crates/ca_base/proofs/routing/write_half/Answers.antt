@@ -7,7 +7,11 @@ use Rattle.ca_base.proofs.routing.write_half.Goals as goal
 
 pub returns-clause-written : goal.returns-clause-written
 returns-clause-written c = let u = c.args.pass.now.seat.me.0.upper in
-    half_written c.args.row c.args.level _ c.args.run.from c.args.run.count (last_items u) c.args.pass.now.seat.me c.write_head.new.pass.seat.me
-    c.copy_items.new.pass.seat.me c.requires.held (omega arith) c.requires.places.0 (omega arith) c.write_head.ensures.filled
-    (subst (λ (v : TreeView). HasFilled c.args.row (11 + 0) c.args.run.count (λ i word. word ≡ get_or (last_items v) (c.args.run.from + i) 0)
-    c.write_head.new.pass.seat.me c.copy_items.new.pass.seat.me) c.write_head.ensures.frame.same.4 c.copy_items.ensures.filled)
+    half_written c.args.row c.args.level _ c.args.run.from c.args.run.count (last_items u)
+    c.args.pass.now.seat.me c.write_head.new.pass.seat.me
+    c.copy_items.new.pass.seat.me c.requires.held (omega arith) c.requires.places.0 (omega arith)
+    c.write_head.ensures.filled
+    (subst (λ (v : TreeView). HasFilled c.args.row (11 + 0) c.args.run.count
+    (λ i word. word ≡ get_or (last_items v) (c.args.run.from + i) 0)
+    c.write_head.new.pass.seat.me c.copy_items.new.pass.seat.me) c.write_head.ensures.frame.same.4
+    c.copy_items.ensures.filled)

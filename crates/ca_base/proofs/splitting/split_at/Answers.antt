@@ -23,31 +23,46 @@ pub write_half-requires-clause-inside : goal.write_half-requires-clause-inside
 write_half-requires-clause-inside c = (c.in-Ok.ensures.taken.1.0.each c.in-Ok.rows.1 (1, refl)).1
 
 pub write_half-requires-2-clause-held : goal.write_half-requires-2-clause-held
-write_half-requires-2-clause-held c = let t = c.in-Ok.ensures.taken in let own = (t.1.0.each c.in-Ok.rows.2 (2, refl)).2 in
-    let apart = three_apart c.in-Ok.rows.0 c.in-Ok.rows.1 c.in-Ok.rows.2 t.0 in
-    (own.0, own.1, c.write_half.ensures.written.2.others c.in-Ok.rows.2 (λ e. apart.2 (sym e)) ∙ own.2)
+write_half-requires-2-clause-held c = let t = c.in-Ok.ensures.taken in
+    let own = (t.1.0.each c.in-Ok.rows.2 (2, refl)).2 in
+    let apart = three_apart c.in-Ok.rows.0 c.in-Ok.rows.1 c.in-Ok.rows.2 t.0 in (
+      own.0,
+      own.1,
+      c.write_half.ensures.written.2.others c.in-Ok.rows.2 (λ e. apart.2 (sym e))
+          ∙ own.2,
+    )
 
 pub write_half-requires-2-clause-inside : goal.write_half-requires-2-clause-inside
 write_half-requires-2-clause-inside c = (c.in-Ok.ensures.taken.1.0.each c.in-Ok.rows.2 (2, refl)).1
 
 pub copy_key-requires-clause-shown : goal.copy_key-requires-clause-shown
 copy_key-requires-clause-shown c = let r = c.requires in let u = c.args.pass.now.seat.me.0.upper in
-    let upper = c.write_half-2.ensures.frame.same.4 ∙ (c.write_half.ensures.frame.same.4 ∙ c.take_three.ensures.frame.same.4) in
+    let upper = c.write_half-2.ensures.frame.same.4
+    ∙ (c.write_half.ensures.frame.same.4 ∙ c.take_three.ensures.frame.same.4) in
     let many = r.target.many_are in let some = r.two in
-    let read = subst (λ (v : TreeView). IsReadable c.args.space.now.table.shared.key v c.args.cursor.base (first_note u.notes)) (sym upper)
-    (last_readable c.args.space.now.table.shared.key u c.args.cursor.base r.target.shown r.target.leaf r.ordered) in (
+    let read = subst
+    (λ (v : TreeView).
+    IsReadable c.args.space.now.table.shared.key v c.args.cursor.base (first_note u.notes))
+    (sym upper)
+    (last_readable c.args.space.now.table.shared.key u c.args.cursor.base r.target.shown
+    r.target.leaf r.ordered) in (
       get_or (first_note u.notes).objects (c.args.many / 2) [],
-      subst (λ (m : MyTree). IsObjectShown m.0.upper c.item-first.result (get_or (first_note u.notes).objects (c.args.many / 2) []))
-          (sym c.item-first.ensures.frame.still) (c.item-first.ensures.item (first_note u.notes) read (omega arith)).1,
+      subst (λ (m : MyTree).
+          IsObjectShown m.0.upper c.item-first.result
+          (get_or (first_note u.notes).objects (c.args.many / 2) []))
+          (sym c.item-first.ensures.frame.still)
+          (c.item-first.ensures.item (first_note u.notes) read (omega arith)).1,
     )
 
 pub write_route-requires-clause-held : goal.write_route-requires-clause-held
-write_route-requires-clause-held c = let t = c.in-Ok.ensures.taken in let own = (t.1.0.each c.in-Ok.rows.0 (0, refl)).2 in
+write_route-requires-clause-held c = let t = c.in-Ok.ensures.taken in
+    let own = (t.1.0.each c.in-Ok.rows.0 (0, refl)).2 in
     let apart = three_apart c.in-Ok.rows.0 c.in-Ok.rows.1 c.in-Ok.rows.2 t.0 in
     let still = c.copy_key.ensures.frame.still ∙ c.item-first.ensures.frame.still in (
       own.0,
       own.1,
-      ap (λ (m : MyTree). claim_of m.0.claims c.in-Ok.rows.0) still ∙ (c.write_half-2.ensures.written.2.others c.in-Ok.rows.0 apart.1
+      ap (λ (m : MyTree). claim_of m.0.claims c.in-Ok.rows.0) still
+          ∙ (c.write_half-2.ensures.written.2.others c.in-Ok.rows.0 apart.1
           ∙ (c.write_half.ensures.written.2.others c.in-Ok.rows.0 apart.0 ∙ own.2)),
     )
 
@@ -55,17 +70,30 @@ pub write_route-requires-clause-inside : goal.write_route-requires-clause-inside
 write_route-requires-clause-inside c = (c.in-Ok.ensures.taken.1.0.each c.in-Ok.rows.0 (0, refl)).1
 
 pub divide_in-requires-clause-division : goal.divide_in-requires-clause-division
-divide_in-requires-clause-division c = let r = c.requires in let u = c.args.pass.now.seat.me.0.upper in
-    let its : List ℕ = get_or (first_note u.notes).objects (c.args.many / 2) [] in let t = c.in-Ok.ensures.taken in let one = c.take_three.ensures.frame.same in let two = c.write_half.ensures.frame.same in let three = c.write_half-2.ensures.frame.same in
-    let four = c.write_route.ensures.frame.same in let still = c.copy_key.ensures.frame.still ∙ c.item-first.ensures.frame.still in
-    let first = c.write_half.ensures.written in let last = c.write_half-2.ensures.written in let over = c.write_route.ensures.written in
-    let many = r.target.many_are in let some = r.two in let base = c.args.cursor.base in let z = c.args.space.now.table.shared.key in
+divide_in-requires-clause-division c = let r = c.requires in
+    let u = c.args.pass.now.seat.me.0.upper in
+    let its : List ℕ = get_or (first_note u.notes).objects (c.args.many / 2) [] in
+    let t = c.in-Ok.ensures.taken in let one = c.take_three.ensures.frame.same in
+    let two = c.write_half.ensures.frame.same in
+    let three = c.write_half-2.ensures.frame.same in
+    let four = c.write_route.ensures.frame.same in
+    let still = c.copy_key.ensures.frame.still ∙ c.item-first.ensures.frame.still in
+    let first = c.write_half.ensures.written in let last = c.write_half-2.ensures.written in
+    let over = c.write_route.ensures.written in
+    let many = r.target.many_are in let some = r.two in let base = c.args.cursor.base in
+    let z = c.args.space.now.table.shared.key in
     let upper = three.4 ∙ (two.4 ∙ one.4) in
-    let read = subst (λ (v : TreeView). IsReadable z v base (first_note u.notes)) (sym upper) (last_readable z u base r.target.shown r.target.leaf r.ordered) in
+    let read = subst
+    (λ (v : TreeView). IsReadable z v base (first_note u.notes)) (sym upper)
+    (last_readable z u base r.target.shown r.target.leaf r.ordered) in
     let told = (c.item-first.ensures.item (first_note u.notes) read (omega arith)).1 in
-    let shown = subst (λ (m : MyTree). IsObjectShown m.0.upper c.item-first.result its) (sym c.item-first.ensures.frame.still) told in
-    divides_of z c.args.pass.now.seat.me c.take_three.new.pass.seat.me c.write_half.new.pass.seat.me c.write_half-2.new.pass.seat.me
-    c.write_route.new.pass.seat.me c.in-Ok.rows.0 c.in-Ok.rows.1 c.in-Ok.rows.2 c.args.many c.args.attempt c.args.cursor first.0 last.0 over.0
+    let shown = subst
+    (λ (m : MyTree). IsObjectShown m.0.upper c.item-first.result its)
+    (sym c.item-first.ensures.frame.still) told in
+    divides_of z c.args.pass.now.seat.me c.take_three.new.pass.seat.me c.write_half.new.pass.seat.me
+    c.write_half-2.new.pass.seat.me
+    c.write_route.new.pass.seat.me c.in-Ok.rows.0 c.in-Ok.rows.1 c.in-Ok.rows.2 c.args.many
+    c.args.attempt c.args.cursor first.0 last.0 over.0
     record {
       shown = r.target.shown;
       at = r.target.at;
@@ -75,12 +103,22 @@ divide_in-requires-clause-division c = let r = c.requires in let u = c.args.pass
       apart = t.0;
       wrote_left = first.2;
       wrote_right = last.2;
-      wrote_route = subst (λ (m : MyTree). IsRewritten c.in-Ok.rows.0 over.0 m c.write_route.new.pass.seat.me) still over.2;
-      is_left = subst (λ (v : TreeView). SpellsBase (take (c.args.many / 2) (drop 0 (last_items v))) (c.args.cursor.level + 1) 4294967296 first.0) one.4
+      wrote_route = subst
+          (λ (m : MyTree). IsRewritten c.in-Ok.rows.0 over.0 m c.write_route.new.pass.seat.me) still
+          over.2;
+      is_left = subst
+          (λ (v : TreeView).
+          SpellsBase (take (c.args.many / 2) (drop 0 (last_items v))) (c.args.cursor.level + 1)
+          4294967296 first.0) one.4
           first.1;
-      is_right = subst (λ (v : TreeView). SpellsBase (take (c.args.many - c.args.many / 2) (drop (c.args.many / 2) (last_items v))) (c.args.cursor.level + 1)
+      is_right = subst
+          (λ (v : TreeView).
+          SpellsBase (take (c.args.many - c.args.many / 2) (drop (c.args.many / 2) (last_items v)))
+          (c.args.cursor.level + 1)
           4294967296 last.0) (two.4 ∙ one.4) last.1;
-      is_route = subst (λ (k : List ℕ). SpellsRoute c.args.cursor.level k c.in-Ok.rows.1 c.in-Ok.rows.2 c.args.attempt over.0)
+      is_route = subst
+          (λ (k : List ℕ).
+          SpellsRoute c.args.cursor.level k c.in-Ok.rows.1 c.in-Ok.rows.2 c.args.attempt over.0)
           (c.deref.ensures.0 ∙ c.copy_key.ensures.key its shown) over.1;
       short = short_key its told.long;
       is_pinned = r.ready.pinned;
@@ -90,49 +128,82 @@ divide_in-requires-clause-division c = let r = c.requires in let u = c.args.pass
     }
 
 pub divide_in-requires-clause-held : goal.divide_in-requires-clause-held
-divide_in-requires-clause-held c = let t = c.in-Ok.ensures.taken in let rows : List ℕ = c.in-Ok.rows.0 ∷ c.in-Ok.rows.1 ∷ c.in-Ok.rows.2 ∷ [] in
-    let all = c.args.space.now.table.shared.key.rows in let first = c.write_half.ensures.written in let last = c.write_half-2.ensures.written in
-    let over = c.write_route.ensures.written in let still = c.copy_key.ensures.frame.still ∙ c.item-first.ensures.frame.still in
+divide_in-requires-clause-held c = let t = c.in-Ok.ensures.taken in
+    let rows : List ℕ = c.in-Ok.rows.0 ∷ c.in-Ok.rows.1 ∷ c.in-Ok.rows.2 ∷ [] in
+    let all = c.args.space.now.table.shared.key.rows in let first = c.write_half.ensures.written in
+    let last = c.write_half-2.ensures.written in
+    let over = c.write_route.ensures.written in
+    let still = c.copy_key.ensures.frame.still ∙ c.item-first.ensures.frame.still in
     let kept = c.copy_key.ensures.frame.kept ∙ c.item-first.ensures.frame.kept in
-    let one = written_row all c.take_three.new.pass.kept c.write_half.new.pass.kept c.take_three.new.pass.seat.me c.write_half.new.pass.seat.me rows
+    let one = written_row all c.take_three.new.pass.kept c.write_half.new.pass.kept
+    c.take_three.new.pass.seat.me c.write_half.new.pass.seat.me rows
     c.in-Ok.rows.1 first.0 (1, refl) first.1.long first.2 c.write_half.ensures.frame.kept t.1 in
-    let two = written_row all c.write_half.new.pass.kept c.write_half-2.new.pass.kept c.write_half.new.pass.seat.me c.write_half-2.new.pass.seat.me rows
+    let two = written_row all c.write_half.new.pass.kept c.write_half-2.new.pass.kept
+    c.write_half.new.pass.seat.me c.write_half-2.new.pass.seat.me rows
     c.in-Ok.rows.2 last.0 (2, refl) last.1.long last.2 c.write_half-2.ensures.frame.kept one in
-    written_row all c.copy_key.new.pass.kept c.write_route.new.pass.kept c.copy_key.new.pass.seat.me c.write_route.new.pass.seat.me rows
+    written_row all c.copy_key.new.pass.kept c.write_route.new.pass.kept c.copy_key.new.pass.seat.me
+    c.write_route.new.pass.seat.me rows
     c.in-Ok.rows.0 over.0 (0, refl) over.1.long over.2 c.write_route.ensures.frame.kept
-    (subst (λ (x : MyTree × KeptRows). AreHeld all x.1.rows x.0.0 rows) (λ i. (sym still i, sym kept i)) two)
+    (subst (λ (x : MyTree × KeptRows). AreHeld all x.1.rows x.0.0 rows)
+    (λ i. (sym still i, sym kept i)) two)
 
 pub returns-clause-frame : goal.returns-clause-frame
 returns-clause-frame c = record {
   same = (
-    c.divide_in.ensures.frame.same.0 ∙ (c.write_route.ensures.frame.same.0 ∙ (c.copy_key.ensures.frame.same.0 ∙ (c.item-first.ensures.frame.same.0 ∙ (c.write_half-2.ensures.frame.same.0 ∙
+    c.divide_in.ensures.frame.same.0
+        ∙ (c.write_route.ensures.frame.same.0
+        ∙ (c.copy_key.ensures.frame.same.0
+        ∙ (c.item-first.ensures.frame.same.0 ∙ (c.write_half-2.ensures.frame.same.0 ∙
         (c.write_half.ensures.frame.same.0 ∙ c.take_three.ensures.frame.same.0))))),
-    c.divide_in.ensures.frame.same.1 ∙ (c.write_route.ensures.frame.same.1 ∙ (c.copy_key.ensures.frame.same.1 ∙ (c.item-first.ensures.frame.same.1 ∙ (c.write_half-2.ensures.frame.same.1 ∙
+    c.divide_in.ensures.frame.same.1
+        ∙ (c.write_route.ensures.frame.same.1
+        ∙ (c.copy_key.ensures.frame.same.1
+        ∙ (c.item-first.ensures.frame.same.1 ∙ (c.write_half-2.ensures.frame.same.1 ∙
         (c.write_half.ensures.frame.same.1 ∙ c.take_three.ensures.frame.same.1))))),
   );
-  number = c.divide_in.ensures.frame.number ∙ (c.write_route.ensures.frame.number ∙ (c.copy_key.ensures.frame.number ∙ (c.item-first.ensures.frame.number ∙
-      (c.write_half-2.ensures.frame.number ∙ (c.write_half.ensures.frame.number ∙ c.take_three.ensures.frame.number)))));
+  number = c.divide_in.ensures.frame.number
+      ∙ (c.write_route.ensures.frame.number
+      ∙ (c.copy_key.ensures.frame.number ∙ (c.item-first.ensures.frame.number ∙
+      (c.write_half-2.ensures.frame.number
+      ∙ (c.write_half.ensures.frame.number ∙ c.take_three.ensures.frame.number)))));
   tally = λ h. let still = c.copy_key.ensures.frame.still ∙ c.item-first.ensures.frame.still in
-      c.divide_in.ensures.frame.tally (tallied_as c.args.pass.now.tally c.write_route.new.pass.tally c.args.pass.now.seat.me.0.upper
+      c.divide_in.ensures.frame.tally
+      (tallied_as c.args.pass.now.tally c.write_route.new.pass.tally
+      c.args.pass.now.seat.me.0.upper
       c.write_route.new.pass.seat.me.0.upper
-      (c.write_route.ensures.frame.tally ∙ (c.copy_key.ensures.frame.tally ∙ (c.item-first.ensures.frame.tally
-      ∙ (c.write_half-2.ensures.frame.tally ∙ (c.write_half.ensures.frame.tally ∙ c.take_three.ensures.frame.tally)))))
+      (c.write_route.ensures.frame.tally
+      ∙ (c.copy_key.ensures.frame.tally ∙ (c.item-first.ensures.frame.tally
+      ∙ (c.write_half-2.ensures.frame.tally
+      ∙ (c.write_half.ensures.frame.tally ∙ c.take_three.ensures.frame.tally)))))
       (c.write_route.ensures.frame.same.4 ∙ (ap (λ (m : MyTree). m.0.upper) still
-      ∙ (c.write_half-2.ensures.frame.same.4 ∙ (c.write_half.ensures.frame.same.4 ∙ c.take_three.ensures.frame.same.4)))) h);
+      ∙ (c.write_half-2.ensures.frame.same.4
+      ∙ (c.write_half.ensures.frame.same.4 ∙ c.take_three.ensures.frame.same.4)))) h);
   pin = (
-    c.divide_in.ensures.frame.pin.0 ∙ (c.write_route.ensures.frame.same.2 ∙ (ap (λ (m : MyTree). m.0.sizes) c.copy_key.ensures.frame.still ∙ (ap (λ
-        (m : MyTree). m.0.sizes) c.item-first.ensures.frame.still ∙ (c.write_half-2.ensures.frame.same.2 ∙ (c.write_half.ensures.frame.same.2 ∙ c.take_three.ensures.frame.same.2))))),
-    c.divide_in.ensures.frame.pin.1 ∙ (c.write_route.ensures.frame.same.3 ∙ (ap (λ (m : MyTree). m.0.pin) c.copy_key.ensures.frame.still ∙ (ap (λ
-        (m : MyTree). m.0.pin) c.item-first.ensures.frame.still ∙ (c.write_half-2.ensures.frame.same.3 ∙ (c.write_half.ensures.frame.same.3 ∙ c.take_three.ensures.frame.same.3))))),
+    c.divide_in.ensures.frame.pin.0
+        ∙ (c.write_route.ensures.frame.same.2
+        ∙ (ap (λ (m : MyTree). m.0.sizes) c.copy_key.ensures.frame.still ∙ (ap (λ
+        (m : MyTree). m.0.sizes) c.item-first.ensures.frame.still
+        ∙ (c.write_half-2.ensures.frame.same.2
+        ∙ (c.write_half.ensures.frame.same.2 ∙ c.take_three.ensures.frame.same.2))))),
+    c.divide_in.ensures.frame.pin.1
+        ∙ (c.write_route.ensures.frame.same.3
+        ∙ (ap (λ (m : MyTree). m.0.pin) c.copy_key.ensures.frame.still ∙ (ap (λ
+        (m : MyTree). m.0.pin) c.item-first.ensures.frame.still
+        ∙ (c.write_half-2.ensures.frame.same.3
+        ∙ (c.write_half.ensures.frame.same.3 ∙ c.take_three.ensures.frame.same.3))))),
   );
   none = c.divide_in.ensures.frame.none;
 }
 
 pub returns-clause-won : goal.returns-clause-won
-returns-clause-won c alone listed = let still = c.copy_key.ensures.frame.still ∙ c.item-first.ensures.frame.still in
-    won_then c.args.space.now.table.shared.key c.args.pass.now.seat.me.0.upper c.write_route.new.pass.seat.me.0.upper c.divide_in.result
+returns-clause-won c alone listed = let still = c.copy_key.ensures.frame.still
+    ∙ c.item-first.ensures.frame.still in
+    won_then c.args.space.now.table.shared.key c.args.pass.now.seat.me.0.upper
+    c.write_route.new.pass.seat.me.0.upper c.divide_in.result
     (c.write_route.ensures.frame.same.4 ∙ (ap (λ (m : MyTree). m.0.upper) still
-    ∙ (c.write_half-2.ensures.frame.same.4 ∙ (c.write_half.ensures.frame.same.4 ∙ c.take_three.ensures.frame.same.4)))) c.divide_in.ensures.won alone listed _ refl
+    ∙ (c.write_half-2.ensures.frame.same.4
+    ∙ (c.write_half.ensures.frame.same.4 ∙ c.take_three.ensures.frame.same.4))))
+    c.divide_in.ensures.won alone listed _ refl
 
 pub write_half-requires-clause-reading : goal.write_half-requires-clause-reading
 write_half-requires-clause-reading c = record {
@@ -146,47 +217,74 @@ write_half-requires-clause-reading c = record {
 pub write_half-requires-2-clause-reading : goal.write_half-requires-2-clause-reading
 write_half-requires-2-clause-reading c = record {
   own = (
-    c.write_half.ensures.frame.same.0 ∙ (c.take_three.ensures.frame.same.0 ∙ c.requires.ready.own.0),
-    c.write_half.ensures.frame.same.2 ∙ (c.take_three.ensures.frame.same.2 ∙ c.requires.ready.own.1),
+    c.write_half.ensures.frame.same.0
+        ∙ (c.take_three.ensures.frame.same.0 ∙ c.requires.ready.own.0),
+    c.write_half.ensures.frame.same.2
+        ∙ (c.take_three.ensures.frame.same.2 ∙ c.requires.ready.own.1),
   );
-  pinned = ap (λ (p : Pin). p.pinned) (c.write_half.ensures.frame.same.3 ∙ c.take_three.ensures.frame.same.3)
+  pinned = ap (λ (p : Pin). p.pinned) (c.write_half.ensures.frame.same.3
+      ∙ c.take_three.ensures.frame.same.3)
       ∙ c.requires.ready.pinned;
 }
 
 pub item-first-requires-clause-reading : goal.item-first-requires-clause-reading
 item-first-requires-clause-reading c = record {
   own = (
-    c.write_half-2.ensures.frame.same.0 ∙ (c.write_half.ensures.frame.same.0 ∙ (c.take_three.ensures.frame.same.0 ∙ c.requires.ready.own.0)),
-    c.write_half-2.ensures.frame.same.2 ∙ (c.write_half.ensures.frame.same.2 ∙ (c.take_three.ensures.frame.same.2 ∙ c.requires.ready.own.1)),
+    c.write_half-2.ensures.frame.same.0
+        ∙ (c.write_half.ensures.frame.same.0
+        ∙ (c.take_three.ensures.frame.same.0 ∙ c.requires.ready.own.0)),
+    c.write_half-2.ensures.frame.same.2
+        ∙ (c.write_half.ensures.frame.same.2
+        ∙ (c.take_three.ensures.frame.same.2 ∙ c.requires.ready.own.1)),
   );
-  pinned = ap (λ (p : Pin). p.pinned) (c.write_half-2.ensures.frame.same.3 ∙ (c.write_half.ensures.frame.same.3 ∙ c.take_three.ensures.frame.same.3))
+  pinned = ap (λ (p : Pin). p.pinned) (c.write_half-2.ensures.frame.same.3
+      ∙ (c.write_half.ensures.frame.same.3 ∙ c.take_three.ensures.frame.same.3))
       ∙ c.requires.ready.pinned;
 }
 
 pub copy_key-requires-clause-reading : goal.copy_key-requires-clause-reading
 copy_key-requires-clause-reading c = record {
   own = (
-    c.item-first.ensures.frame.same.0 ∙ (c.write_half-2.ensures.frame.same.0 ∙ (c.write_half.ensures.frame.same.0 ∙ (c.take_three.ensures.frame.same.0 ∙ c.requires.ready.own.0))),
-    ap (λ (m : MyTree). m.0.sizes) c.item-first.ensures.frame.still ∙ (c.write_half-2.ensures.frame.same.2 ∙ (c.write_half.ensures.frame.same.2 ∙ (c.take_three.ensures.frame.same.2
+    c.item-first.ensures.frame.same.0
+        ∙ (c.write_half-2.ensures.frame.same.0
+        ∙ (c.write_half.ensures.frame.same.0
+        ∙ (c.take_three.ensures.frame.same.0 ∙ c.requires.ready.own.0))),
+    ap (λ (m : MyTree). m.0.sizes) c.item-first.ensures.frame.still
+        ∙ (c.write_half-2.ensures.frame.same.2
+        ∙ (c.write_half.ensures.frame.same.2 ∙ (c.take_three.ensures.frame.same.2
         ∙ c.requires.ready.own.1))),
   );
-  pinned = ap (λ (p : Pin). p.pinned) (ap (λ (m : MyTree). m.0.pin) c.item-first.ensures.frame.still ∙ (c.write_half-2.ensures.frame.same.3 ∙
+  pinned = ap (λ (p : Pin). p.pinned) (ap (λ (m : MyTree). m.0.pin) c.item-first.ensures.frame.still
+      ∙ (c.write_half-2.ensures.frame.same.3 ∙
       (c.write_half.ensures.frame.same.3 ∙ c.take_three.ensures.frame.same.3)))
       ∙ c.requires.ready.pinned;
 }
 
 pub write_route-requires-clause-own : goal.write_route-requires-clause-own
 write_route-requires-clause-own c = (
-  c.copy_key.ensures.frame.same.0 ∙ (c.item-first.ensures.frame.same.0 ∙ (c.write_half-2.ensures.frame.same.0 ∙ (c.write_half.ensures.frame.same.0 ∙ (c.take_three.ensures.frame.same.0
+  c.copy_key.ensures.frame.same.0
+      ∙ (c.item-first.ensures.frame.same.0
+      ∙ (c.write_half-2.ensures.frame.same.0
+      ∙ (c.write_half.ensures.frame.same.0 ∙ (c.take_three.ensures.frame.same.0
       ∙ c.requires.ready.own.0)))),
-  ap (λ (m : MyTree). m.0.sizes) c.copy_key.ensures.frame.still ∙ (ap (λ (m : MyTree). m.0.sizes) c.item-first.ensures.frame.still ∙ (c.write_half-2.ensures.frame.same.2 ∙
-      (c.write_half.ensures.frame.same.2 ∙ (c.take_three.ensures.frame.same.2 ∙ c.requires.ready.own.1)))),
+  ap (λ (m : MyTree). m.0.sizes) c.copy_key.ensures.frame.still
+      ∙ (ap (λ (m : MyTree). m.0.sizes) c.item-first.ensures.frame.still
+      ∙ (c.write_half-2.ensures.frame.same.2 ∙
+      (c.write_half.ensures.frame.same.2
+      ∙ (c.take_three.ensures.frame.same.2 ∙ c.requires.ready.own.1)))),
 )
 
 pub divide_in-requires-clause-own : goal.divide_in-requires-clause-own
 divide_in-requires-clause-own c = (
-  c.write_route.ensures.frame.same.0 ∙ (c.copy_key.ensures.frame.same.0 ∙ (c.item-first.ensures.frame.same.0 ∙ (c.write_half-2.ensures.frame.same.0 ∙ (c.write_half.ensures.frame.same.0 ∙
+  c.write_route.ensures.frame.same.0
+      ∙ (c.copy_key.ensures.frame.same.0
+      ∙ (c.item-first.ensures.frame.same.0
+      ∙ (c.write_half-2.ensures.frame.same.0 ∙ (c.write_half.ensures.frame.same.0 ∙
       (c.take_three.ensures.frame.same.0 ∙ c.requires.ready.own.0))))),
-  c.write_route.ensures.frame.same.2 ∙ (ap (λ (m : MyTree). m.0.sizes) c.copy_key.ensures.frame.still ∙ (ap (λ (m : MyTree). m.0.sizes) c.item-first.ensures.frame.still ∙
-      (c.write_half-2.ensures.frame.same.2 ∙ (c.write_half.ensures.frame.same.2 ∙ (c.take_three.ensures.frame.same.2 ∙ c.requires.ready.own.1))))),
+  c.write_route.ensures.frame.same.2
+      ∙ (ap (λ (m : MyTree). m.0.sizes) c.copy_key.ensures.frame.still
+      ∙ (ap (λ (m : MyTree). m.0.sizes) c.item-first.ensures.frame.still ∙
+      (c.write_half-2.ensures.frame.same.2
+      ∙ (c.write_half.ensures.frame.same.2
+      ∙ (c.take_three.ensures.frame.same.2 ∙ c.requires.ready.own.1))))),
 )

@@ -6,21 +6,25 @@ use Rattle.ca_base.proofs.swapping.retire_all.Goals as goal
 
 pub retire_unlinked-requires-clause-unlinked : goal.retire_unlinked-requires-clause-unlinked
 retire_unlinked-requires-clause-unlinked c =
-    let h = from_place (AreUnlinked c.args.space.now.table.shared.key.rows c.loop-at.pass.kept.rows c.loop-at.pass.seat.me.0) c.args.rows.now
+    let h = from_place (AreUnlinked c.args.space.now.table.shared.key.rows c.loop-at.pass.kept.rows
+    c.loop-at.pass.seat.me.0) c.args.rows.now
     c.loop-at.at (omega arith) c.requires.apart c.loop-at.invariant.unlinked in
     (drop (c.loop-at.at + 1) c.args.rows.now, h.0, h.1)
 
 pub loop-at-preserved : goal.loop-at-preserved
 loop-at-preserved c = let i = c.loop-at.invariant in let s = c.retire_unlinked.ensures.frame.same in
-    let h = from_place (AreUnlinked c.args.space.now.table.shared.key.rows c.loop-at.pass.kept.rows c.loop-at.pass.seat.me.0) c.args.rows.now
+    let h = from_place (AreUnlinked c.args.space.now.table.shared.key.rows c.loop-at.pass.kept.rows
+    c.loop-at.pass.seat.me.0) c.args.rows.now
     c.loop-at.at (omega arith) c.requires.apart i.unlinked in record {
       own = (s.0 ∙ i.own.0, s.2 ∙ i.own.1);
       still = (s.0 ∙ i.still.0, s.1 ∙ i.still.1, s.2 ∙ i.still.2, s.3 ∙ i.still.3, s.4 ∙ i.still.4);
       number = c.retire_unlinked.ensures.frame.number ∙ i.number;
       tally = c.retire_unlinked.ensures.frame.tally ∙ i.tally;
-      unlinked = c.retire_unlinked.ensures.retired (drop (c.loop-at.at + 1) c.args.rows.now) h.0 h.1;
+      unlinked =
+          c.retire_unlinked.ensures.retired (drop (c.loop-at.at + 1) c.args.rows.now) h.0 h.1;
       met = let m = c.retire_unlinked.ensures.met in (
         m.0 ∙ i.met.0,
-        met_both 0 0 0 0 c.args.pass.now.seat.me c.loop-at.pass.seat.me c.retire_unlinked.new.pass.seat.me i.met.1 m.1,
+        met_both 0 0 0 0 c.args.pass.now.seat.me c.loop-at.pass.seat.me
+            c.retire_unlinked.new.pass.seat.me i.met.1 m.1,
       );
     }

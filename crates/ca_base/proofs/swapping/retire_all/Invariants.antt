@@ -10,6 +10,8 @@ invariant-loop-at l = record {
   still : IsStill l.fn.pass.seat l.pass.seat;
   number : l.pass.number ≡ l.fn.pass.number;
   tally : l.pass.tally ≡ l.fn.pass.tally;
-  unlinked : AreUnlinked l.space.table.shared.key.rows l.pass.kept.rows l.pass.seat.me.0 (drop l.at l.rows);
-  met : (losses l.pass.seat.me ≡ losses l.fn.pass.seat.me) × HasMet 0 0 l.fn.pass.seat.me l.pass.seat.me;
+  unlinked : AreUnlinked l.space.table.shared.key.rows l.pass.kept.rows l.pass.seat.me.0
+      (drop l.at l.rows);
+  met : (losses l.pass.seat.me ≡ losses l.fn.pass.seat.me)
+      × HasMet 0 0 l.fn.pass.seat.me l.pass.seat.me;
 }

@@ -15,71 +15,106 @@ pub give_back-requires-clause-held : goal.give_back-requires-clause-held
 give_back-requires-clause-held g c = (
   c.args.rows.now.comes.now,
   c.requires.apart.0.0,
-  held_still c.args.space.now.table.shared.key.rows c.args.pass.now.kept c.replace_base.new.pass.kept c.args.pass.now.seat.me c.replace_base.new.pass.seat.me
-      (c.args.rows.now.new ∷ c.args.rows.now.comes.now) c.if-not-replace_base.ensures.done c.replace_base.ensures.frame.kept c.requires.held,
+  held_still c.args.space.now.table.shared.key.rows c.args.pass.now.kept
+      c.replace_base.new.pass.kept c.args.pass.now.seat.me c.replace_base.new.pass.seat.me
+      (c.args.rows.now.new ∷ c.args.rows.now.comes.now) c.if-not-replace_base.ensures.done
+      c.replace_base.ensures.frame.kept c.requires.held,
 )
 
 pub give_back_all-requires-clause-held : goal.give_back_all-requires-clause-held
-give_back_all-requires-clause-held g c = c.give_back.ensures.given c.args.rows.now.comes.now c.requires.apart.0.0
-    (held_still c.args.space.now.table.shared.key.rows c.args.pass.now.kept c.replace_base.new.pass.kept c.args.pass.now.seat.me c.replace_base.new.pass.seat.me
-    (c.args.rows.now.new ∷ c.args.rows.now.comes.now) c.if-not-replace_base.ensures.done c.replace_base.ensures.frame.kept c.requires.held)
+give_back_all-requires-clause-held g c =
+    c.give_back.ensures.given c.args.rows.now.comes.now c.requires.apart.0.0
+    (held_still c.args.space.now.table.shared.key.rows c.args.pass.now.kept
+    c.replace_base.new.pass.kept c.args.pass.now.seat.me c.replace_base.new.pass.seat.me
+    (c.args.rows.now.new ∷ c.args.rows.now.comes.now) c.if-not-replace_base.ensures.done
+    c.replace_base.ensures.frame.kept c.requires.held)
 
 pub retire_unlinked-requires-clause-unlinked : goal.retire_unlinked-requires-clause-unlinked
 retire_unlinked-requires-clause-unlinked g c = let r = c.requires.rows in
-    let now = swapped c.args.space.now.table.shared.key.rows c.args.pass.now.kept c.replace_base.new.pass.kept c.args.pass.now.seat.me
-    c.replace_base.new.pass.seat.me c.args.rows.now.new g.K.Intent.update c.args.cursor.base (c.args.rows.now.new ∷ c.args.rows.now.comes.now) c.args.rows.now.goes.now
-    (ap (λ xs. c.args.rows.now.new ∷ xs) r.0) c.requires.cursor.base r.1 c.requires.few.1 c.if-not-replace_base.ensures.done c.replace_base.ensures.frame.kept c.requires.apart.0
+    let now = swapped c.args.space.now.table.shared.key.rows c.args.pass.now.kept
+    c.replace_base.new.pass.kept c.args.pass.now.seat.me
+    c.replace_base.new.pass.seat.me c.args.rows.now.new g.K.Intent.update c.args.cursor.base
+    (c.args.rows.now.new ∷ c.args.rows.now.comes.now) c.args.rows.now.goes.now
+    (ap (λ xs. c.args.rows.now.new ∷ xs) r.0) c.requires.cursor.base r.1 c.requires.few.1
+    c.if-not-replace_base.ensures.done c.replace_base.ensures.frame.kept c.requires.apart.0
     c.requires.held in
     (c.args.rows.now.goes.now, now.0, now.1)
 
 pub retire_all-requires-clause-unlinked : goal.retire_all-requires-clause-unlinked
 retire_all-requires-clause-unlinked g c = let r = c.requires.rows in
-    let now = swapped c.args.space.now.table.shared.key.rows c.args.pass.now.kept c.replace_base.new.pass.kept c.args.pass.now.seat.me
-    c.replace_base.new.pass.seat.me c.args.rows.now.new g.K.Intent.update c.args.cursor.base (c.args.rows.now.new ∷ c.args.rows.now.comes.now) c.args.rows.now.goes.now
-    (ap (λ xs. c.args.rows.now.new ∷ xs) r.0) c.requires.cursor.base r.1 c.requires.few.1 c.if-not-replace_base.ensures.done c.replace_base.ensures.frame.kept c.requires.apart.0
+    let now = swapped c.args.space.now.table.shared.key.rows c.args.pass.now.kept
+    c.replace_base.new.pass.kept c.args.pass.now.seat.me
+    c.replace_base.new.pass.seat.me c.args.rows.now.new g.K.Intent.update c.args.cursor.base
+    (c.args.rows.now.new ∷ c.args.rows.now.comes.now) c.args.rows.now.goes.now
+    (ap (λ xs. c.args.rows.now.new ∷ xs) r.0) c.requires.cursor.base r.1 c.requires.few.1
+    c.if-not-replace_base.ensures.done c.replace_base.ensures.frame.kept c.requires.apart.0
     c.requires.held in
     c.retire_unlinked.ensures.retired c.args.rows.now.goes.now now.0 now.1
 
 pub returns-clause-done : goal.returns-clause-done
-returns-clause-done g c = is_done c.args.space.now.table.shared.key c.args.rows.now.new g.K.Intent.update c.args.pass.now.seat.me c.replace_base.new.pass.seat.me
-    c.retire_all.new.pass.seat.me.0.upper c.requires.own.1 c.args.space.now.few.0 c.requires.update.does c.if-not-replace_base.ensures.done
+returns-clause-done g c =
+    is_done c.args.space.now.table.shared.key c.args.rows.now.new g.K.Intent.update
+    c.args.pass.now.seat.me c.replace_base.new.pass.seat.me
+    c.retire_all.new.pass.seat.me.0.upper c.requires.own.1 c.args.space.now.few.0
+    c.requires.update.does c.if-not-replace_base.ensures.done
     (c.retire_all.ensures.frame.same.4 ∙ c.retire_unlinked.ensures.frame.same.4)
 
 pub returns-clause-counted : goal.returns-clause-counted
-returns-clause-counted g c = none_spent c.args.spent.now c.args.pass.now.seat.me c.retire_all.new.pass.seat.me
-    (c.retire_all.ensures.met.0 ∙ (c.retire_unlinked.ensures.met.0 ∙ ap losses c.if-not-replace_base.ensures.done.now))
+returns-clause-counted g c =
+    none_spent c.args.spent.now c.args.pass.now.seat.me c.retire_all.new.pass.seat.me
+    (c.retire_all.ensures.met.0
+    ∙ (c.retire_unlinked.ensures.met.0 ∙ ap losses c.if-not-replace_base.ensures.done.now))
 
 pub returns-clause-renewed : goal.returns-clause-renewed
-returns-clause-renewed g c = let first = c.retire_unlinked.ensures in let rest = c.retire_all.ensures in
-    subst (λ (met : Met). IsRenewed c.args.space.now.table.shared.key met (get_or g.K.Intent.update.its 1 0) g.K.Intent.update.edit
+returns-clause-renewed g c = let first = c.retire_unlinked.ensures in
+    let rest = c.retire_all.ensures in
+    subst (λ (met : Met).
+    IsRenewed c.args.space.now.table.shared.key met (get_or g.K.Intent.update.its 1 0)
+    g.K.Intent.update.edit
     c.args.pass.now.seat.me.0.upper c.retire_all.new.pass.seat.me.0.upper)
-    (met_still c.args.pass.now.seat.me c.replace_base.new.pass.seat.me c.retire_all.new.pass.seat.me (ap met_of c.if-not-replace_base.ensures.done.now)
-    (rest.met.0 ∙ first.met.0) (met_both 0 0 0 0 c.replace_base.new.pass.seat.me c.retire_unlinked.new.pass.seat.me c.retire_all.new.pass.seat.me
-    first.met.1 rest.met.1) (rest.frame.same.4 ∙ first.frame.same.4) (rest.frame.same.3 ∙ first.frame.same.3))
-    (renewed c.args.space.now.table.shared.key c.args.pass.now.kept.rows c.args.pass.now.seat.me c.args.rows.now.new g.K.Intent.update
+    (met_still c.args.pass.now.seat.me c.replace_base.new.pass.seat.me c.retire_all.new.pass.seat.me
+    (ap met_of c.if-not-replace_base.ensures.done.now)
+    (rest.met.0 ∙ first.met.0)
+    (met_both 0 0 0 0 c.replace_base.new.pass.seat.me c.retire_unlinked.new.pass.seat.me
+    c.retire_all.new.pass.seat.me
+    first.met.1 rest.met.1) (rest.frame.same.4 ∙ first.frame.same.4) (rest.frame.same.3
+    ∙ first.frame.same.3))
+    (renewed c.args.space.now.table.shared.key c.args.pass.now.kept.rows c.args.pass.now.seat.me
+    c.args.rows.now.new g.K.Intent.update
     c.requires.update c.requires.old_base c.requires.last
-    (subst (λ (xs : List ℕ). HasHeld c.args.space.now.table.shared.key.rows c.args.pass.now.kept.rows c.args.pass.now.seat.me.0.claims (c.args.rows.now.new ∷ xs))
+    (subst (λ (xs : List ℕ).
+    HasHeld c.args.space.now.table.shared.key.rows c.args.pass.now.kept.rows
+    c.args.pass.now.seat.me.0.claims (c.args.rows.now.new ∷ xs))
     (sym c.requires.rows.0) c.requires.held.0)
     c.replace_base.new.pass.seat.me c.retire_all.new.pass.seat.me.0.upper
-    (subst (λ (xs : List ℕ). length xs ≤ 1) (sym c.requires.rows.0) c.requires.few.0) c.if-not-replace_base.ensures.done
+    (subst (λ (xs : List ℕ). length xs ≤ 1) (sym c.requires.rows.0) c.requires.few.0)
+    c.if-not-replace_base.ensures.done
     (rest.frame.same.4 ∙ first.frame.same.4))
 
 pub returns-clause-placed : goal.returns-clause-placed
-returns-clause-placed g c = λ _. placed c.args.space.now.table.shared.key c.args.pass.now.kept.rows c.args.pass.now.seat.me c.args.rows.now.new g.K.Intent.update
+returns-clause-placed g c =
+    λ _. placed c.args.space.now.table.shared.key c.args.pass.now.kept.rows c.args.pass.now.seat.me
+    c.args.rows.now.new g.K.Intent.update
     c.requires.update c.requires.old_base c.requires.last
-    (subst (λ (xs : List ℕ). HasHeld c.args.space.now.table.shared.key.rows c.args.pass.now.kept.rows c.args.pass.now.seat.me.0.claims (c.args.rows.now.new ∷ xs))
+    (subst (λ (xs : List ℕ).
+    HasHeld c.args.space.now.table.shared.key.rows c.args.pass.now.kept.rows
+    c.args.pass.now.seat.me.0.claims (c.args.rows.now.new ∷ xs))
     (sym c.requires.rows.0) c.requires.held.0)
-    c.replace_base.new.pass.seat.me c.retire_all.new.pass.seat.me.0.upper c.if-not-replace_base.ensures.done
+    c.replace_base.new.pass.seat.me c.retire_all.new.pass.seat.me.0.upper
+    c.if-not-replace_base.ensures.done
     (c.retire_all.ensures.frame.same.4 ∙ c.retire_unlinked.ensures.frame.same.4)
 
 pub returns-then-not-replace_base-clause-frame : goal.returns-then-not-replace_base-clause-frame
 returns-then-not-replace_base-clause-frame g c = record {
   same = search rules;
   number = search rules;
-  tally = tallied_update false c.args.rows.now.new g.K.Intent.update c.args.pass.now.seat.me c.replace_base.new.pass.seat.me
-      c.give_back_all.new.pass.seat.me.0.upper c.args.pass.now.tally c.give_back_all.new.pass.tally c.if-not-replace_base.ensures.done
+  tally = tallied_update false c.args.rows.now.new g.K.Intent.update c.args.pass.now.seat.me
+      c.replace_base.new.pass.seat.me
+      c.give_back_all.new.pass.seat.me.0.upper c.args.pass.now.tally c.give_back_all.new.pass.tally
+      c.if-not-replace_base.ensures.done
       (c.give_back_all.ensures.frame.same.4 ∙ c.give_back.ensures.frame.same.4)
-      (c.give_back_all.ensures.frame.tally ∙ (c.give_back.ensures.frame.tally ∙ c.replace_base.ensures.frame.tally));
+      (c.give_back_all.ensures.frame.tally
+      ∙ (c.give_back.ensures.frame.tally ∙ c.replace_base.ensures.frame.tally));
   pin = search rules;
   none = search rules;
 }
@@ -88,14 +123,18 @@ pub returns-clause-frame : goal.returns-clause-frame
 returns-clause-frame g c = record {
   same = search rules;
   number = search rules;
-  tally = tallied_update true c.args.rows.now.new g.K.Intent.update c.args.pass.now.seat.me c.replace_base.new.pass.seat.me
-      c.retire_all.new.pass.seat.me.0.upper c.args.pass.now.tally c.retire_all.new.pass.tally c.if-not-replace_base.ensures.done
+  tally = tallied_update true c.args.rows.now.new g.K.Intent.update c.args.pass.now.seat.me
+      c.replace_base.new.pass.seat.me
+      c.retire_all.new.pass.seat.me.0.upper c.args.pass.now.tally c.retire_all.new.pass.tally
+      c.if-not-replace_base.ensures.done
       (c.retire_all.ensures.frame.same.4 ∙ c.retire_unlinked.ensures.frame.same.4)
-      (c.retire_all.ensures.frame.tally ∙ (c.retire_unlinked.ensures.frame.tally ∙ c.replace_base.ensures.frame.tally));
+      (c.retire_all.ensures.frame.tally
+      ∙ (c.retire_unlinked.ensures.frame.tally ∙ c.replace_base.ensures.frame.tally));
   pin = search rules;
   none = search rules;
 }
 
 pub returns-then-not-replace_base-clause-won : goal.returns-then-not-replace_base-clause-won
-returns-then-not-replace_base-clause-won g c alone listed _ = not_missed c.args.space.now.table.shared.key c.args.pass.now.seat.me g.K.Intent.update.old
+returns-then-not-replace_base-clause-won g c alone listed _ =
+    not_missed c.args.space.now.table.shared.key c.args.pass.now.seat.me g.K.Intent.update.old
     c.requires.own.1 c.args.space.now.few.0 (c.if-not-replace_base.ensures.won refl) alone listed

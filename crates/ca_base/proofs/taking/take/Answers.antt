@@ -6,26 +6,42 @@ use Rattle.ca_rows.specs.declared.sizes.Sizes.{Sizes}
 use Rattle.ca_base.proofs.taking.take.Goals as goal
 
 pub returns-in-Row-clause-taken : goal.returns-in-Row-clause-taken
-returns-in-Row-clause-taken c held few h = took_row c.args.space.now.table.shared.key.rows c.args.pass.now.kept c.take_row.new.pass.kept c.args.pass.now.seat.me
-    c.take_row.new.pass.seat.me c.in-Row.row (ap (λ (z : Sizes). z.rows) c.requires.own.1) c.in-Row.ensures.row c.take_row.ensures.frame.kept held few h
+returns-in-Row-clause-taken c held few h =
+    took_row c.args.space.now.table.shared.key.rows c.args.pass.now.kept c.take_row.new.pass.kept
+    c.args.pass.now.seat.me
+    c.take_row.new.pass.seat.me c.in-Row.row (ap
+    (λ (z : Sizes). z.rows) c.requires.own.1) c.in-Row.ensures.row c.take_row.ensures.frame.kept
+    held few h
 
 pub returns-in-Row-clause-counted : goal.returns-in-Row-clause-counted
-returns-in-Row-clause-counted c = none_spent c.args.spent.now c.args.pass.now.seat.me c.take_row.new.pass.seat.me (ap losses c.in-Row.ensures.row.3.2)
+returns-in-Row-clause-counted c =
+    none_spent c.args.spent.now c.args.pass.now.seat.me c.take_row.new.pass.seat.me
+    (ap losses c.in-Row.ensures.row.3.2)
 
 pub returns-in-Empty-clause-counted : goal.returns-in-Empty-clause-counted
-returns-in-Empty-clause-counted c = none_spent c.args.spent.now c.args.pass.now.seat.me c.take_row.new.pass.seat.me (ap losses c.in-Empty.ensures.row.1)
+returns-in-Empty-clause-counted c =
+    none_spent c.args.spent.now c.args.pass.now.seat.me c.take_row.new.pass.seat.me
+    (ap losses c.in-Empty.ensures.row.1)
 
 pub returns-in-Worn-clause-counted : goal.returns-in-Worn-clause-counted
-returns-in-Worn-clause-counted c = none_spent c.args.spent.now c.args.pass.now.seat.me c.take_row.new.pass.seat.me (ap losses c.in-Worn.ensures.row.2)
+returns-in-Worn-clause-counted c =
+    none_spent c.args.spent.now c.args.pass.now.seat.me c.take_row.new.pass.seat.me
+    (ap losses c.in-Worn.ensures.row.2)
 
 pub returns-in-Empty-clause-back : goal.returns-in-Empty-clause-back
-returns-in-Empty-clause-back c = none_back 0 c.args.pass.now.seat.me c.take_row.new.pass.seat.me c.args.pass.now.kept c.take_row.new.pass.kept
+returns-in-Empty-clause-back c =
+    none_back 0 c.args.pass.now.seat.me c.take_row.new.pass.seat.me c.args.pass.now.kept
+    c.take_row.new.pass.kept
     (let same = ap losses c.in-Empty.ensures.row.1 in omega arith) c.take_row.ensures.frame.kept
 
 pub returns-in-Lost-clause-back : goal.returns-in-Lost-clause-back
-returns-in-Lost-clause-back c = none_back 1 c.args.pass.now.seat.me c.take_row.new.pass.seat.me c.args.pass.now.kept c.take_row.new.pass.kept
+returns-in-Lost-clause-back c =
+    none_back 1 c.args.pass.now.seat.me c.take_row.new.pass.seat.me c.args.pass.now.kept
+    c.take_row.new.pass.kept
     (let same = ap losses c.in-Lost.ensures.row in omega arith) c.take_row.ensures.frame.kept
 
 pub returns-in-Worn-clause-back : goal.returns-in-Worn-clause-back
-returns-in-Worn-clause-back c = none_back 0 c.args.pass.now.seat.me c.take_row.new.pass.seat.me c.args.pass.now.kept c.take_row.new.pass.kept
+returns-in-Worn-clause-back c =
+    none_back 0 c.args.pass.now.seat.me c.take_row.new.pass.seat.me c.args.pass.now.kept
+    c.take_row.new.pass.kept
     (let same = ap losses c.in-Worn.ensures.row.2 in omega arith) c.take_row.ensures.frame.kept

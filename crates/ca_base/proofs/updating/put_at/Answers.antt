@@ -16,140 +16,218 @@ use Rattle.ca_base.proofs.updating.put_at.Goals as goal
 
 pub write_object-requires-clause-held : goal.write_object-requires-clause-held
 write_object-requires-clause-held c = let t = c.in-Ok.ensures.taken in
-    (t.1.0.each c.in-Ok.rows.1 (in_rest c.in-Ok.rows.1 c.in-Ok.rows.0 (c.in-Ok.rows.1 ∷ []) (in_first c.in-Ok.rows.1 []))).2
+    (t.1.0.each c.in-Ok.rows.1
+    (in_rest c.in-Ok.rows.1 c.in-Ok.rows.0 (c.in-Ok.rows.1 ∷ [])
+    (in_first c.in-Ok.rows.1 []))).2
 
 pub write_object-requires-clause-inside : goal.write_object-requires-clause-inside
 write_object-requires-clause-inside c = let t = c.in-Ok.ensures.taken in
-    (t.1.0.each c.in-Ok.rows.1 (in_rest c.in-Ok.rows.1 c.in-Ok.rows.0 (c.in-Ok.rows.1 ∷ []) (in_first c.in-Ok.rows.1 []))).1
+    (t.1.0.each c.in-Ok.rows.1
+    (in_rest c.in-Ok.rows.1 c.in-Ok.rows.0 (c.in-Ok.rows.1 ∷ [])
+    (in_first c.in-Ok.rows.1 []))).1
 
 pub write_base_with-old-requires-clause-held : goal.write_base_with-old-requires-clause-held
-write_base_with-old-requires-clause-held c = let t = c.in-Ok.ensures.taken in let w = c.write_object.ensures.written in
+write_base_with-old-requires-clause-held c = let t = c.in-Ok.ensures.taken in
+    let w = c.write_object.ensures.written in
     let own = (t.1.0.each c.in-Ok.rows.0 (in_first c.in-Ok.rows.0 (c.in-Ok.rows.1 ∷ []))).2 in
     (own.0, own.1, w.2.others c.in-Ok.rows.0 t.0 ∙ own.2)
 
 pub write_base_with-old-requires-clause-inside : goal.write_base_with-old-requires-clause-inside
-write_base_with-old-requires-clause-inside c = (c.in-Ok.ensures.taken.1.0.each c.in-Ok.rows.0 (in_first c.in-Ok.rows.0 (c.in-Ok.rows.1 ∷ []))).1
+write_base_with-old-requires-clause-inside c =
+    (c.in-Ok.ensures.taken.1.0.each c.in-Ok.rows.0
+    (in_first c.in-Ok.rows.0 (c.in-Ok.rows.1 ∷ []))).1
 
 pub write_base_with-old-requires-clause-reading : goal.write_base_with-old-requires-clause-reading
 write_base_with-old-requires-clause-reading c = record {
   own = (
-    c.write_object.ensures.frame.same.0 ∙ (c.take_two.ensures.frame.same.0 ∙ c.requires.ready.own.0),
-    c.write_object.ensures.frame.same.2 ∙ (c.take_two.ensures.frame.same.2 ∙ c.requires.ready.own.1),
+    c.write_object.ensures.frame.same.0
+        ∙ (c.take_two.ensures.frame.same.0 ∙ c.requires.ready.own.0),
+    c.write_object.ensures.frame.same.2
+        ∙ (c.take_two.ensures.frame.same.2 ∙ c.requires.ready.own.1),
   );
-  pinned = ap (λ (e : Pin). e.pinned) (c.write_object.ensures.frame.same.3 ∙ c.take_two.ensures.frame.same.3) ∙ c.requires.ready.pinned;
+  pinned = ap (λ (e : Pin). e.pinned) (c.write_object.ensures.frame.same.3
+      ∙ c.take_two.ensures.frame.same.3) ∙ c.requires.ready.pinned;
 }
 
 pub write_base_with-old-requires-clause-shown : goal.write_base_with-old-requires-clause-shown
-write_base_with-old-requires-clause-shown c = subst (λ (u : TreeView). IsShownLast c.args.space.now.table.shared.key u c.args.target.now.cursor.base)
-    (sym (c.write_object.ensures.frame.same.4 ∙ c.take_two.ensures.frame.same.4)) c.requires.target.shown
+write_base_with-old-requires-clause-shown c = subst
+    (λ (u : TreeView).
+    IsShownLast c.args.space.now.table.shared.key u c.args.target.now.cursor.base)
+    (sym (c.write_object.ensures.frame.same.4 ∙ c.take_two.ensures.frame.same.4))
+    c.requires.target.shown
 
 pub write_base_with-old-requires-clause-many : goal.write_base_with-old-requires-clause-many
 write_base_with-old-requires-clause-many c = let u = c.args.pass.now.seat.me.0.upper in (
-  subst (λ (v : TreeView). c.args.target.now.many ≡ length (last_items v)) (sym (c.write_object.ensures.frame.same.4 ∙ c.take_two.ensures.frame.same.4))
-      (many_are _ u c.args.target.now.cursor.base c.args.target.now.many c.requires.target.shown c.requires.target.many_are),
-  few_are _ u c.args.target.now.cursor.base c.args.target.now.many c.requires.target.shown c.requires.target.many_are c.requires.target.leaf,
+  subst (λ (v : TreeView). c.args.target.now.many
+      ≡ length (last_items v)) (sym (c.write_object.ensures.frame.same.4
+      ∙ c.take_two.ensures.frame.same.4))
+      (many_are _ u c.args.target.now.cursor.base c.args.target.now.many c.requires.target.shown
+      c.requires.target.many_are),
+  few_are _ u c.args.target.now.cursor.base c.args.target.now.many c.requires.target.shown
+      c.requires.target.many_are c.requires.target.leaf,
 )
 
 pub write_base_with-old-requires-clause-place : goal.write_base_with-old-requires-clause-place
-write_base_with-old-requires-clause-place c = finds_place c.args.insertion.now.place c.args.target.now.many c.args.space.now.table.shared.key.leaf
-    (place_in c.args.space.now.table.shared.key c.args.pass.now.seat.me.0.upper c.args.target.now.cursor.base c.args.target.now.many c.args.insertion.now.place _ c.requires.target.shown c.requires.target.many_are
+write_base_with-old-requires-clause-place c =
+    finds_place c.args.insertion.now.place c.args.target.now.many
+    c.args.space.now.table.shared.key.leaf
+    (place_in c.args.space.now.table.shared.key c.args.pass.now.seat.me.0.upper
+    c.args.target.now.cursor.base c.args.target.now.many c.args.insertion.now.place _
+    c.requires.target.shown c.requires.target.many_are
     c.requires.place)
     c.requires.room c.requires.target.leaf
 
 pub swap_in-requires-clause-held : goal.swap_in-requires-clause-held
-swap_in-requires-clause-held c = let t = c.in-Ok.ensures.taken in let w = c.write_object.ensures.written in
-    let v = c.write_base_with-old.ensures.written in let rows : List ℕ = c.in-Ok.rows.0 ∷ c.in-Ok.rows.1 ∷ [] in
-    written_row c.args.space.now.table.shared.key.rows c.write_object.new.pass.kept c.write_base_with-old.new.pass.kept c.write_object.new.pass.seat.me
-    c.write_base_with-old.new.pass.seat.me rows c.in-Ok.rows.0 v.0 (in_first c.in-Ok.rows.0 (c.in-Ok.rows.1 ∷ [])) v.1.long v.2
+swap_in-requires-clause-held c = let t = c.in-Ok.ensures.taken in
+    let w = c.write_object.ensures.written in
+    let v = c.write_base_with-old.ensures.written in
+    let rows : List ℕ = c.in-Ok.rows.0 ∷ c.in-Ok.rows.1 ∷ [] in
+    written_row c.args.space.now.table.shared.key.rows c.write_object.new.pass.kept
+    c.write_base_with-old.new.pass.kept c.write_object.new.pass.seat.me
+    c.write_base_with-old.new.pass.seat.me rows c.in-Ok.rows.0 v.0
+    (in_first c.in-Ok.rows.0 (c.in-Ok.rows.1 ∷ [])) v.1.long v.2
     c.write_base_with-old.ensures.frame.kept
-    (written_row c.args.space.now.table.shared.key.rows c.take_two.new.pass.kept c.write_object.new.pass.kept c.take_two.new.pass.seat.me
-    c.write_object.new.pass.seat.me rows c.in-Ok.rows.1 w.0 (in_rest c.in-Ok.rows.1 c.in-Ok.rows.0 (c.in-Ok.rows.1 ∷ []) (in_first c.in-Ok.rows.1 []))
+    (written_row c.args.space.now.table.shared.key.rows c.take_two.new.pass.kept
+    c.write_object.new.pass.kept c.take_two.new.pass.seat.me
+    c.write_object.new.pass.seat.me rows c.in-Ok.rows.1 w.0
+    (in_rest c.in-Ok.rows.1 c.in-Ok.rows.0 (c.in-Ok.rows.1 ∷ []) (in_first c.in-Ok.rows.1 []))
     w.1.long w.2 c.write_object.ensures.frame.kept t.1)
 
 pub swap_in-requires-clause-old_base : goal.swap_in-requires-clause-old_base
-swap_in-requires-clause-old_base c = let same = c.write_base_with-old.ensures.frame.same.4 ∙ (c.write_object.ensures.frame.same.4 ∙ c.take_two.ensures.frame.same.4) in
-    subst (λ (u : TreeView). IsBaseNote c.args.space.now.table.shared.key (first_note u.notes)) (sym same) c.requires.target.shown.is_base
+swap_in-requires-clause-old_base c = let same = c.write_base_with-old.ensures.frame.same.4
+    ∙ (c.write_object.ensures.frame.same.4 ∙ c.take_two.ensures.frame.same.4) in
+    subst (λ (u : TreeView).
+    IsBaseNote c.args.space.now.table.shared.key (first_note u.notes)) (sym same)
+    c.requires.target.shown.is_base
 
 pub swap_in-requires-clause-cursor : goal.swap_in-requires-clause-cursor
-swap_in-requires-clause-cursor c = let same = c.write_base_with-old.ensures.frame.same.4 ∙ (c.write_object.ensures.frame.same.4 ∙ c.take_two.ensures.frame.same.4) in
-    subst (λ (u : TreeView). IsAtCursor c.args.space.now.table.shared.key (first_note u.notes) c.args.target.now.cursor) (sym same) c.requires.target.at
+swap_in-requires-clause-cursor c = let same = c.write_base_with-old.ensures.frame.same.4
+    ∙ (c.write_object.ensures.frame.same.4 ∙ c.take_two.ensures.frame.same.4) in
+    subst (λ (u : TreeView).
+    IsAtCursor c.args.space.now.table.shared.key (first_note u.notes) c.args.target.now.cursor)
+    (sym same) c.requires.target.at
 
 pub swap_in-requires-clause-rows : goal.swap_in-requires-clause-rows
-swap_in-requires-clause-rows c = let one = c.take_two.ensures.frame.same in let two = c.write_object.ensures.frame.same in
+swap_in-requires-clause-rows c = let one = c.take_two.ensures.frame.same in
+    let two = c.write_object.ensures.frame.same in
     let three = c.write_base_with-old.ensures.frame.same in (
       refl,
-      ap (λ (u : TreeView). gone c.args.insertion.now.place (last_items u)) three.4 ∙ sym (c.gone.ensures _ c.write_base_with-old.ensures.gone),
+      ap (λ (u : TreeView). gone c.args.insertion.now.place (last_items u)) three.4
+          ∙ sym (c.gone.ensures _ c.write_base_with-old.ensures.gone),
     )
 
 pub swap_in-requires-clause-update : goal.swap_in-requires-clause-update
-swap_in-requires-clause-update c = let t = c.in-Ok.ensures.taken in let w = c.write_object.ensures.written in
+swap_in-requires-clause-update c = let t = c.in-Ok.ensures.taken in
+    let w = c.write_object.ensures.written in
     let v = c.write_base_with-old.ensures.written in let r = c.requires in
-    let one = c.take_two.ensures.frame.same in let two = c.write_object.ensures.frame.same in let three = c.write_base_with-old.ensures.frame.same in
-    ready c.args.space.now.table.shared.key c.args.pass.now.seat.me c.take_two.new.pass.seat.me c.write_object.new.pass.seat.me
-    c.write_base_with-old.new.pass.seat.me c.in-Ok.rows.1 c.in-Ok.rows.0 c.args.target.now.cursor.base c.args.insertion.now.place c.args.insertion.now.why c.args.insertion.now.keyed.object.now
-    c.args.insertion.now.keyed.key_at c.args.insertion.now.keyed.key_end c.args.target.now.statistic w.0 v.0 r.target.shown (three.4 ∙ (two.4 ∙ one.4)) (λ e. t.0 (sym e)) w.1 w.2
-    (spells_there c.args.pass.now.seat.me.0.upper c.write_object.new.pass.seat.me.0.upper (λ xs. put_in xs c.args.insertion.now.place c.in-Ok.rows.1) _ c.args.target.now.cursor.level
+    let one = c.take_two.ensures.frame.same in let two = c.write_object.ensures.frame.same in
+    let three = c.write_base_with-old.ensures.frame.same in
+    ready c.args.space.now.table.shared.key c.args.pass.now.seat.me c.take_two.new.pass.seat.me
+    c.write_object.new.pass.seat.me
+    c.write_base_with-old.new.pass.seat.me c.in-Ok.rows.1 c.in-Ok.rows.0
+    c.args.target.now.cursor.base c.args.insertion.now.place c.args.insertion.now.why
+    c.args.insertion.now.keyed.object.now
+    c.args.insertion.now.keyed.key_at c.args.insertion.now.keyed.key_end c.args.target.now.statistic
+    w.0 v.0 r.target.shown (three.4 ∙ (two.4 ∙ one.4)) (λ e. t.0 (sym e)) w.1 w.2
+    (spells_there c.args.pass.now.seat.me.0.upper c.write_object.new.pass.seat.me.0.upper
+    (λ xs. put_in xs c.args.insertion.now.place c.in-Ok.rows.1) _ c.args.target.now.cursor.level
     c.args.target.now.statistic v.0 (two.4 ∙ one.4) r.target.at.level v.1) v.2
     r.ready.pinned r.ready.number
-    (subst (λ (n : ℕ). IsRoom c.args.insertion.now.place n c.args.space.now.table.shared.key.leaf) (many_are _ _ c.args.target.now.cursor.base c.args.target.now.many r.target.shown r.target.many_are) r.room)
+    (subst (λ (n : ℕ). IsRoom c.args.insertion.now.place n c.args.space.now.table.shared.key.leaf)
+    (many_are _ _ c.args.target.now.cursor.base c.args.target.now.many r.target.shown
+    r.target.many_are) r.room)
     r.keyed.pair_is r.place r.call (three.3 ∙ (two.3 ∙ one.3)) r.about
 
 pub swap_in-requires-clause-apart : goal.swap_in-requires-clause-apart
 swap_in-requires-clause-apart c = (
   two_apart c.in-Ok.rows.0 c.in-Ok.rows.1 c.in-Ok.ensures.taken.0,
-  subst AreApart (sym (c.gone.ensures _ c.write_base_with-old.ensures.gone)) (gone_apart c.args.insertion.now.place _),
+  subst AreApart (sym (c.gone.ensures _ c.write_base_with-old.ensures.gone))
+      (gone_apart c.args.insertion.now.place _),
 )
 
 pub swap_in-requires-clause-few : goal.swap_in-requires-clause-few
 swap_in-requires-clause-few c = (
   omega arith,
-  subst (λ (xs : List ℕ). length xs ≤ 1) (sym (c.gone.ensures _ c.write_base_with-old.ensures.gone)) (gone_few c.args.insertion.now.place _),
+  subst (λ (xs : List ℕ). length xs ≤ 1) (sym (c.gone.ensures _ c.write_base_with-old.ensures.gone))
+      (gone_few c.args.insertion.now.place _),
 )
 
 pub returns-clause-put : goal.returns-clause-put
 returns-clause-put c = let t = c.in-Ok.ensures.taken in let w = c.write_object.ensures.written in
     let v = c.write_base_with-old.ensures.written in let r = c.requires in
-    let one = c.take_two.ensures.frame.same in let two = c.write_object.ensures.frame.same in let three = c.write_base_with-old.ensures.frame.same in
-    tried c.args.space.now.table.shared.key c.args.pass.now.seat.me c.take_two.new.pass.seat.me c.write_object.new.pass.seat.me
-    c.write_base_with-old.new.pass.seat.me c.in-Ok.rows.1 c.in-Ok.rows.0 c.args.target.now.cursor.base c.args.insertion.now.place c.args.insertion.now.why c.args.insertion.now.keyed.object.now
-    c.args.insertion.now.keyed.key_at c.args.insertion.now.keyed.key_end c.args.target.now.statistic w.0 v.0 r.target.shown (three.4 ∙ (two.4 ∙ one.4)) (λ e. t.0 (sym e)) w.1 w.2
-    (spells_there c.args.pass.now.seat.me.0.upper c.write_object.new.pass.seat.me.0.upper (λ xs. put_in xs c.args.insertion.now.place c.in-Ok.rows.1) _ c.args.target.now.cursor.level
+    let one = c.take_two.ensures.frame.same in let two = c.write_object.ensures.frame.same in
+    let three = c.write_base_with-old.ensures.frame.same in
+    tried c.args.space.now.table.shared.key c.args.pass.now.seat.me c.take_two.new.pass.seat.me
+    c.write_object.new.pass.seat.me
+    c.write_base_with-old.new.pass.seat.me c.in-Ok.rows.1 c.in-Ok.rows.0
+    c.args.target.now.cursor.base c.args.insertion.now.place c.args.insertion.now.why
+    c.args.insertion.now.keyed.object.now
+    c.args.insertion.now.keyed.key_at c.args.insertion.now.keyed.key_end c.args.target.now.statistic
+    w.0 v.0 r.target.shown (three.4 ∙ (two.4 ∙ one.4)) (λ e. t.0 (sym e)) w.1 w.2
+    (spells_there c.args.pass.now.seat.me.0.upper c.write_object.new.pass.seat.me.0.upper
+    (λ xs. put_in xs c.args.insertion.now.place c.in-Ok.rows.1) _ c.args.target.now.cursor.level
     c.args.target.now.statistic v.0 (two.4 ∙ one.4) r.target.at.level v.1) v.2
     c.swap_in.result c.swap_in.new.pass.seat.me.0.upper c.swap_in.ensures.done
 
 pub returns-clause-renewed : goal.returns-clause-renewed
-returns-clause-renewed c = let t = c.in-Ok.ensures.taken in let w = c.write_object.ensures.written in
+returns-clause-renewed c = let t = c.in-Ok.ensures.taken in
+    let w = c.write_object.ensures.written in
     let v = c.write_base_with-old.ensures.written in let r = c.requires in
-    let one = c.take_two.ensures.frame.same in let two = c.write_object.ensures.frame.same in let three = c.write_base_with-old.ensures.frame.same in
-    renewed_so c.args.space.now.table.shared.key c.args.pass.now.seat.me c.take_two.new.pass.seat.me c.write_object.new.pass.seat.me
-    c.write_base_with-old.new.pass.seat.me c.in-Ok.rows.1 c.in-Ok.rows.0 c.args.target.now.cursor.base c.args.insertion.now.place c.args.insertion.now.why c.args.insertion.now.keyed.object.now
-    c.args.insertion.now.keyed.key_at c.args.insertion.now.keyed.key_end c.args.target.now.statistic w.0 v.0 r.target.shown (three.4 ∙ (two.4 ∙ one.4)) (λ e. t.0 (sym e)) w.1 w.2
-    (spells_there c.args.pass.now.seat.me.0.upper c.write_object.new.pass.seat.me.0.upper (λ xs. put_in xs c.args.insertion.now.place c.in-Ok.rows.1) _ c.args.target.now.cursor.level
+    let one = c.take_two.ensures.frame.same in let two = c.write_object.ensures.frame.same in
+    let three = c.write_base_with-old.ensures.frame.same in
+    renewed_so c.args.space.now.table.shared.key c.args.pass.now.seat.me c.take_two.new.pass.seat.me
+    c.write_object.new.pass.seat.me
+    c.write_base_with-old.new.pass.seat.me c.in-Ok.rows.1 c.in-Ok.rows.0
+    c.args.target.now.cursor.base c.args.insertion.now.place c.args.insertion.now.why
+    c.args.insertion.now.keyed.object.now
+    c.args.insertion.now.keyed.key_at c.args.insertion.now.keyed.key_end c.args.target.now.statistic
+    w.0 v.0 r.target.shown (three.4 ∙ (two.4 ∙ one.4)) (λ e. t.0 (sym e)) w.1 w.2
+    (spells_there c.args.pass.now.seat.me.0.upper c.write_object.new.pass.seat.me.0.upper
+    (λ xs. put_in xs c.args.insertion.now.place c.in-Ok.rows.1) _ c.args.target.now.cursor.level
     c.args.target.now.statistic v.0 (two.4 ∙ one.4) r.target.at.level v.1) v.2
-    (met_of c.swap_in.new.pass.seat.me) c.swap_in.result c.swap_in.new.pass.seat.me.0.upper c.swap_in.ensures.renewed
+    (met_of c.swap_in.new.pass.seat.me) c.swap_in.result c.swap_in.new.pass.seat.me.0.upper
+    c.swap_in.ensures.renewed
 
 pub returns-clause-frame : goal.returns-clause-frame
 returns-clause-frame c = record {
   same = (
-    c.swap_in.ensures.frame.same.0 ∙ (c.write_base_with-old.ensures.frame.same.0 ∙ (c.write_object.ensures.frame.same.0 ∙ c.take_two.ensures.frame.same.0)),
-    c.swap_in.ensures.frame.same.1 ∙ (c.write_base_with-old.ensures.frame.same.1 ∙ (c.write_object.ensures.frame.same.1 ∙ c.take_two.ensures.frame.same.1)),
+    c.swap_in.ensures.frame.same.0
+        ∙ (c.write_base_with-old.ensures.frame.same.0
+        ∙ (c.write_object.ensures.frame.same.0 ∙ c.take_two.ensures.frame.same.0)),
+    c.swap_in.ensures.frame.same.1
+        ∙ (c.write_base_with-old.ensures.frame.same.1
+        ∙ (c.write_object.ensures.frame.same.1 ∙ c.take_two.ensures.frame.same.1)),
   );
-  number = c.swap_in.ensures.frame.number ∙ (c.write_base_with-old.ensures.frame.number ∙ (c.write_object.ensures.frame.number ∙ c.take_two.ensures.frame.number));
-  tally = λ h. c.swap_in.ensures.frame.tally (tallied_as c.args.pass.now.tally c.write_base_with-old.new.pass.tally c.args.pass.now.seat.me.0.upper
+  number = c.swap_in.ensures.frame.number
+      ∙ (c.write_base_with-old.ensures.frame.number
+      ∙ (c.write_object.ensures.frame.number ∙ c.take_two.ensures.frame.number));
+  tally = λ h.
+      c.swap_in.ensures.frame.tally
+      (tallied_as c.args.pass.now.tally c.write_base_with-old.new.pass.tally
+      c.args.pass.now.seat.me.0.upper
       c.write_base_with-old.new.pass.seat.me.0.upper
-      (c.write_base_with-old.ensures.frame.tally ∙ (c.write_object.ensures.frame.tally ∙ c.take_two.ensures.frame.tally))
-      (c.write_base_with-old.ensures.frame.same.4 ∙ (c.write_object.ensures.frame.same.4 ∙ c.take_two.ensures.frame.same.4)) h);
+      (c.write_base_with-old.ensures.frame.tally
+      ∙ (c.write_object.ensures.frame.tally ∙ c.take_two.ensures.frame.tally))
+      (c.write_base_with-old.ensures.frame.same.4
+      ∙ (c.write_object.ensures.frame.same.4 ∙ c.take_two.ensures.frame.same.4)) h);
   pin = (
-    c.swap_in.ensures.frame.pin.0 ∙ (c.write_base_with-old.ensures.frame.same.2 ∙ (c.write_object.ensures.frame.same.2 ∙ c.take_two.ensures.frame.same.2)),
-    c.swap_in.ensures.frame.pin.1 ∙ (c.write_base_with-old.ensures.frame.same.3 ∙ (c.write_object.ensures.frame.same.3 ∙ c.take_two.ensures.frame.same.3)),
+    c.swap_in.ensures.frame.pin.0
+        ∙ (c.write_base_with-old.ensures.frame.same.2
+        ∙ (c.write_object.ensures.frame.same.2 ∙ c.take_two.ensures.frame.same.2)),
+    c.swap_in.ensures.frame.pin.1
+        ∙ (c.write_base_with-old.ensures.frame.same.3
+        ∙ (c.write_object.ensures.frame.same.3 ∙ c.take_two.ensures.frame.same.3)),
   );
   none = c.swap_in.ensures.frame.none;
 }
 
 pub returns-clause-won : goal.returns-clause-won
-returns-clause-won c alone listed = won_then c.args.space.now.table.shared.key c.args.pass.now.seat.me.0.upper
+returns-clause-won c alone listed =
+    won_then c.args.space.now.table.shared.key c.args.pass.now.seat.me.0.upper
     c.write_base_with-old.new.pass.seat.me.0.upper c.swap_in.result
-    (c.write_base_with-old.ensures.frame.same.4 ∙ (c.write_object.ensures.frame.same.4 ∙ c.take_two.ensures.frame.same.4)) c.swap_in.ensures.won alone listed _ refl
+    (c.write_base_with-old.ensures.frame.same.4
+    ∙ (c.write_object.ensures.frame.same.4 ∙ c.take_two.ensures.frame.same.4))
+    c.swap_in.ensures.won alone listed _ refl
 
 pub write_object-requires-clause-own : goal.write_object-requires-clause-own
 write_object-requires-clause-own c = (
@@ -159,6 +237,10 @@ write_object-requires-clause-own c = (
 
 pub swap_in-requires-clause-own : goal.swap_in-requires-clause-own
 swap_in-requires-clause-own c = (
-  c.write_base_with-old.ensures.frame.same.0 ∙ (c.write_object.ensures.frame.same.0 ∙ (c.take_two.ensures.frame.same.0 ∙ c.requires.ready.own.0)),
-  c.write_base_with-old.ensures.frame.same.2 ∙ (c.write_object.ensures.frame.same.2 ∙ (c.take_two.ensures.frame.same.2 ∙ c.requires.ready.own.1)),
+  c.write_base_with-old.ensures.frame.same.0
+      ∙ (c.write_object.ensures.frame.same.0
+      ∙ (c.take_two.ensures.frame.same.0 ∙ c.requires.ready.own.0)),
+  c.write_base_with-old.ensures.frame.same.2
+      ∙ (c.write_object.ensures.frame.same.2
+      ∙ (c.take_two.ensures.frame.same.2 ∙ c.requires.ready.own.1)),
 )

@@ -11,12 +11,20 @@ pub set_word-requires-clause-held : goal.set_word-requires-clause-held
 set_word-requires-clause-held c = c.loop-place.invariant.0.held
 
 pub loop-place-init : goal.loop-place-init
-loop-place-init c = (begins _ _ c.args.row 11 (HasEight c.args.bytes.now) c.args.pass.now.seat c.requires.own c.requires.held, refl, refl, refl)
+loop-place-init c = (
+  begins _ _ c.args.row 11 (HasEight c.args.bytes.now) c.args.pass.now.seat c.requires.own
+      c.requires.held,
+  refl,
+  refl,
+  refl,
+)
 
 pub loop-place-preserved : goal.loop-place-preserved
 loop-place-preserved c = let i = c.loop-place.invariant in (
-  goes_on _ _ c.args.row 11 (HasEight c.args.bytes.now) c.args.pass.now.seat c.loop-place.pass.seat c.set_word.new.pass.seat c.loop-place.place
-      _ _ (omega arith) (omega arith) (eight_at c.args.bytes.now c.loop-place.place _ c.word_of-word.ensures) i.0
+  goes_on _ _ c.args.row 11 (HasEight c.args.bytes.now) c.args.pass.now.seat c.loop-place.pass.seat
+      c.set_word.new.pass.seat c.loop-place.place
+      _ _ (omega arith) (omega arith)
+      (eight_at c.args.bytes.now c.loop-place.place _ c.word_of-word.ensures) i.0
       c.set_word.ensures.frame.same c.set_word.ensures.set,
   c.set_word.ensures.frame.number ∙ i.1,
   c.set_word.ensures.frame.kept ∙ i.2,

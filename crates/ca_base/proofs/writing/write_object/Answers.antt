@@ -5,29 +5,43 @@ use Rattle.ca_base.proofs.Spelling.{spells_object}
 use Rattle.ca_base.proofs.writing.write_object.Goals as goal
 
 pub write_bytes-requires-clause-held : goal.write_bytes-requires-clause-held
-write_bytes-requires-clause-held c = let h = c.requires.held in let its : List ℕ = set h.0 0 c.object_form-form.result in (
-  its,
-  length-set h.0 0 c.object_form-form.result ∙ h.1,
-  (rewritten c.args.row h.0 its c.args.pass.now.seat.me c.write_word.new.pass.seat.me h.2 (c.write_word.ensures.written h.0 h.2)).here,
-)
+write_bytes-requires-clause-held c = let h = c.requires.held in
+    let its : List ℕ = set h.0 0 c.object_form-form.result in (
+      its,
+      length-set h.0 0 c.object_form-form.result ∙ h.1,
+      (rewritten c.args.row h.0 its c.args.pass.now.seat.me c.write_word.new.pass.seat.me h.2
+          (c.write_word.ensures.written h.0 h.2)).here,
+    )
 
 pub clear-requires-clause-held : goal.clear-requires-clause-held
-clear-requires-clause-held c = let h = c.requires.held in let its : List ℕ = set h.0 0 c.object_form-form.result in
-    let one = rewritten c.args.row h.0 its c.args.pass.now.seat.me c.write_word.new.pass.seat.me h.2 (c.write_word.ensures.written h.0 h.2) in
-    let more = c.write_bytes.ensures.filled its (length-set h.0 0 c.object_form-form.result ∙ h.1) one.here in
+clear-requires-clause-held c = let h = c.requires.held in
+    let its : List ℕ = set h.0 0 c.object_form-form.result in
+    let one = rewritten c.args.row h.0 its c.args.pass.now.seat.me c.write_word.new.pass.seat.me h.2
+    (c.write_word.ensures.written h.0 h.2) in
+    let more = c.write_bytes.ensures.filled its (length-set h.0 0 c.object_form-form.result
+    ∙ h.1) one.here in
     (more.0, more.1.long ∙ (length-set h.0 0 c.object_form-form.result ∙ h.1), more.2.here)
 
 pub returns-clause-written : goal.returns-clause-written
-returns-clause-written c = let h = c.requires.held in let form : ℕ = c.object_form-form.result in let its : List ℕ = set h.0 0 form in
+returns-clause-written c = let h = c.requires.held in let form : ℕ = c.object_form-form.result in
+    let its : List ℕ = set h.0 0 form in
     let told = c.object_form-form.ensures in let place = c.requires.place in
-    let one = rewritten c.args.row h.0 its c.args.pass.now.seat.me c.write_word.new.pass.seat.me h.2 (c.write_word.ensures.written h.0 h.2) in
+    let one = rewritten c.args.row h.0 its c.args.pass.now.seat.me c.write_word.new.pass.seat.me h.2
+    (c.write_word.ensures.written h.0 h.2) in
     let more = c.write_bytes.ensures.filled its (length-set h.0 0 form ∙ h.1) one.here in
-    let last = c.clear.ensures.filled more.0 (more.1.long ∙ (length-set h.0 0 form ∙ h.1)) more.2.here in
-    let words : c.div_ceil.result ≡ (length c.args.object.now + 7) / 8 = omega (arith, c.div_ceil.ensures) in (
+    let last = c.clear.ensures.filled more.0 (more.1.long
+    ∙ (length-set h.0 0 form ∙ h.1)) more.2.here in
+    let words : c.div_ceil.result ≡ (length c.args.object.now + 7) / 8 =
+    omega (arith, c.div_ceil.ensures) in (
       last.0,
-      spells_object c.args.object.now c.args.key_at c.args.key_end form its more.0 last.0 (length-set h.0 0 form ∙ h.1)
-          (get_or-set_same h.0 0 form 0 (omega (arith, h.1))) told.form told.key_length told.key_place told.count place.2 more.1
-          (subst (λ n. IsFilled (11 + n) (136 - (11 + n)) (λ _ word. word ≡ 0) more.0 last.0) words last.1),
-      rewritten_again c.args.row more.0 last.0 c.args.pass.now.seat.me c.write_bytes.new.pass.seat.me c.clear.new.pass.seat.me
-          (rewritten_again c.args.row its more.0 c.args.pass.now.seat.me c.write_word.new.pass.seat.me c.write_bytes.new.pass.seat.me one more.2) last.2,
+      spells_object c.args.object.now c.args.key_at c.args.key_end form its more.0 last.0
+          (length-set h.0 0 form ∙ h.1)
+          (get_or-set_same h.0 0 form 0 (omega (arith, h.1))) told.form told.key_length
+          told.key_place told.count place.2 more.1
+          (subst (λ n. IsFilled (11 + n) (136 - (11 + n))
+          (λ _ word. word ≡ 0) more.0 last.0) words last.1),
+      rewritten_again c.args.row more.0 last.0 c.args.pass.now.seat.me
+          c.write_bytes.new.pass.seat.me c.clear.new.pass.seat.me
+          (rewritten_again c.args.row its more.0 c.args.pass.now.seat.me
+          c.write_word.new.pass.seat.me c.write_bytes.new.pass.seat.me one more.2) last.2,
     )

@@ -10,7 +10,8 @@ set_word-requires-clause-held c = c.loop-place.invariant.0.held
 
 pub loop-place-init : goal.loop-place-init
 loop-place-init c = (
-  begins _ _ c.args.row 0 (λ k word. word ≡ get_or c.args.words.now k 0) c.args.pass.now.seat c.requires.own c.requires.held,
+  begins _ _ c.args.row 0 (λ k word. word
+      ≡ get_or c.args.words.now k 0) c.args.pass.now.seat c.requires.own c.requires.held,
   refl,
   refl,
   refl,
@@ -18,7 +19,9 @@ loop-place-init c = (
 
 pub loop-place-preserved : goal.loop-place-preserved
 loop-place-preserved c = let i = c.loop-place.invariant in (
-  goes_on _ _ c.args.row 0 (λ k word. word ≡ get_or c.args.words.now k 0) c.args.pass.now.seat c.loop-place.pass.seat c.set_word.new.pass.seat
+  goes_on _ _ c.args.row 0
+      (λ k word. word ≡ get_or c.args.words.now k 0) c.args.pass.now.seat c.loop-place.pass.seat
+      c.set_word.new.pass.seat
       c.loop-place.place _ _ (omega arith) (omega arith) refl i.0
       c.set_word.ensures.frame.same c.set_word.ensures.set,
   c.set_word.ensures.frame.number ∙ i.1,

@@ -15,4 +15,5 @@ invariant-loop-level l = record {
 }
 
 abbrev pub decreases-loop-level : goal.decreases-loop-level
-decreases-loop-level l = l.fn.pass.seat.me.0.upper.loads + l.space.table.shared.key.levels + 1 - l.pass.seat.me.0.upper.loads
+decreases-loop-level l =
+    l.fn.pass.seat.me.0.upper.loads + l.space.table.shared.key.levels + 1 - l.pass.seat.me.0.upper.loads

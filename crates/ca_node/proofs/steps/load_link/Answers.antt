@@ -4,8 +4,11 @@ use Rattle.ca_node.proofs.Looking.{leads}
 use Rattle.ca_node.proofs.steps.load_link.Goals as goal
 
 pub load-requires-clause-rule : goal.load-requires-clause-rule
-load-requires-clause-rule c = leads c.args.space.now.table.shared.key false _ _ _ c.word_of.result c.requires.reading.pinned
+load-requires-clause-rule c =
+    leads c.args.space.now.table.shared.key false _ _ _ c.word_of.result c.requires.reading.pinned
     (subst (IsAnyLink c.args.pass.now.seat.me.0.upper) (sym c.word_of.ensures) c.requires.known)
 
 pub returns-clause-led : goal.returns-clause-led
-returns-clause-led c = subst (λ (i : ℕ). IsLed false i c.args.pass.now.seat.me c.load.result c.load.new.pass.seat.me) c.word_of.ensures c.load.ensures.told
+returns-clause-led c = subst
+    (λ (i : ℕ). IsLed false i c.args.pass.now.seat.me c.load.result c.load.new.pass.seat.me)
+    c.word_of.ensures c.load.ensures.told

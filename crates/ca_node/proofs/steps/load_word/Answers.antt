@@ -6,4 +6,5 @@ pub load-requires-clause-rule : goal.load-requires-clause-rule
 load-requires-clause-rule c = reads c.args.space.now.table.shared.key _ _ _ _
 
 pub returns-clause-word : goal.returns-clause-word
-returns-clause-word c word shown = c.load.ensures.told.1 c.args.row c.args.index word refl c.requires.inside.1 shown
+returns-clause-word c word shown =
+    c.load.ensures.told.1 c.args.row c.args.index word refl c.requires.inside.1 shown

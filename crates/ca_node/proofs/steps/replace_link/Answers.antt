@@ -8,6 +8,9 @@ use Rattle.ca_node.proofs.Looking.{R}
 use Rattle.ca_node.proofs.steps.replace_link.Goals as goal
 
 pub swap-requires-clause-rule : goal.swap-requires-clause-rule
-swap-requires-clause-rule g c = let id = c.args.space.now.table.shared in let p = c.args.pass.now.seat in
-    subst (λ (i : ℕ). Allows (R id.key) id.table_id.slots p.id p.me i (λ n. either (eqb n c.args.old) c.args.new n)
-    (Relinks MaySwap g.M.Play.then (step id.table_id.slots i c.args.old c.args.new none) p.me)) (sym c.word_of.ensures) c.requires.rule
+swap-requires-clause-rule g c = let id = c.args.space.now.table.shared in
+    let p = c.args.pass.now.seat in
+    subst (λ (i : ℕ). Allows (R id.key) id.table_id.slots p.id p.me i
+    (λ n. either (eqb n c.args.old) c.args.new n)
+    (Relinks MaySwap g.M.Play.then (step id.table_id.slots i c.args.old c.args.new none) p.me))
+    (sym c.word_of.ensures) c.requires.rule

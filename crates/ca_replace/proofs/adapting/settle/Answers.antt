@@ -7,20 +7,41 @@ use Rattle.ca_replace.proofs.adapting.settle.Goals.{in-Ok-true, in-Ok-false, in-
 use Rattle.ca_replace.proofs.adapting.settle.Goals as goal
 
 pub returns-clause-settled : goal.returns-clause-settled
-returns-clause-settled c = let z = c.args.tree.now.space.table.shared.key in let t = c.args.tree.now.tuning in let a = c.args.course.now.adapting in
+returns-clause-settled c = let z = c.args.tree.now.space.table.shared.key in
+    let t = c.args.tree.now.tuning in let a = c.args.course.now.adapting in
     let m = c.args.pass.now.seat.me in
     elim c.match-tried.branch [
       | in-Ok-true w ↦
-          subst (λ (k : ℤ). HasSettled z t k c.args.tried a c.match-tried.course.adapting m c.match-tried.pass.seat.me)
-          (to_z-of_z w32 c.args.statistic (let small = c.ranges.statistic.sfits in omega (arith, ints)))
-          (settled_as z t (to_z w32 (of_z w32 c.args.statistic)) c.args.tried (Ok true) a c.match-tried.course.adapting
-          (record a { last = record { statistic = to_z w32 (of_z w32 c.args.statistic); adapted = w.adapt-adapted.result } }) m
-          c.match-tried.pass.seat.me w.adapt-adapted.new.pass.seat.me (w.in-Ok-true.is ∙ ap Ok w.in-Ok-true.field-0-test) (ap (λ (k : Course). k.adapting) w.course-is)
+          subst (λ (k : ℤ).
+          HasSettled z t k c.args.tried a c.match-tried.course.adapting m
+          c.match-tried.pass.seat.me)
+          (to_z-of_z w32 c.args.statistic (let small = c.ranges.statistic.sfits in
+          omega (arith, ints)))
+          (settled_as z t (to_z w32 (of_z w32 c.args.statistic)) c.args.tried (Ok true) a
+          c.match-tried.course.adapting
+          (record a {
+            last =
+                record {
+                  statistic =
+                      to_z w32 (of_z w32 c.args.statistic);
+                  adapted = w.adapt-adapted.result;
+                };
+          }) m
+          c.match-tried.pass.seat.me w.adapt-adapted.new.pass.seat.me (w.in-Ok-true.is
+          ∙ ap Ok w.in-Ok-true.field-0-test) (ap (λ (k : Course). k.adapting) w.course-is)
           (ap (λ p. p.seat.me) w.pass-is) (refl, w.adapt-adapted.ensures.adapted))
       | in-Ok-false w ↦
-          settled_as z t c.args.statistic c.args.tried (Ok false) a c.match-tried.course.adapting (record a { lost = true }) m c.match-tried.pass.seat.me
-          m (w.in-Ok-false.is ∙ ap Ok w.in-Ok-false.field-0-test) (ap (λ (k : Course). k.adapting) w.course-is) (ap (λ p. p.seat.me) w.pass-is) (refl, refl, refl)
+          settled_as z t c.args.statistic c.args.tried (Ok false) a c.match-tried.course.adapting
+          (record a { lost = true }) m c.match-tried.pass.seat.me
+          m (w.in-Ok-false.is ∙ ap Ok w.in-Ok-false.field-0-test) (ap
+          (λ (k : Course). k.adapting) w.course-is) (ap (λ p. p.seat.me) w.pass-is) (
+            refl,
+            refl,
+            refl,
+          )
       | in-Err w ↦
-          settled_as z t c.args.statistic c.args.tried (Err w.in-Err.field-0) a c.match-tried.course.adapting a m c.match-tried.pass.seat.me
-          m w.in-Err.is (ap (λ (k : Course). k.adapting) w.course-is) (ap (λ p. p.seat.me) w.pass-is) (refl, refl)
+          settled_as z t c.args.statistic c.args.tried (Err w.in-Err.field-0) a
+          c.match-tried.course.adapting a m c.match-tried.pass.seat.me
+          m w.in-Err.is (ap (λ (k : Course). k.adapting) w.course-is) (ap
+          (λ p. p.seat.me) w.pass-is) (refl, refl)
     ]

@@ -14,13 +14,18 @@ use Rattle.ca_replace.proofs.Winning.{comes_there, due_won}
 use Rattle.ca_replace.proofs.adapting.split_again.Goals as goal
 
 pub try_split-adapted-requires-clause-readable : goal.try_split-adapted-requires-clause-readable
-try_split-adapted-requires-clause-readable c = let most = (tuned_on c.args.tree.now).allowed.most_leaf in let same = (tuned_on c.args.tree.now).leaf in
-    (looking c.args.tree.now.space.table.shared.key c.args.placed.now.key c.args.pass.now.seat.me c.walk-cursor.new.pass.seat.me c.walk-cursor.result
+try_split-adapted-requires-clause-readable c =
+    let most = (tuned_on c.args.tree.now).allowed.most_leaf in
+    let same = (tuned_on c.args.tree.now).leaf in
+    (looking c.args.tree.now.space.table.shared.key c.args.placed.now.key c.args.pass.now.seat.me
+    c.walk-cursor.new.pass.seat.me c.walk-cursor.result
     c.walk-cursor.ensures.walked (omega arith)).readable
 
 pub try_split-adapted-requires-clause-at : goal.try_split-adapted-requires-clause-at
-try_split-adapted-requires-clause-at c = let most = (tuned_on c.args.tree.now).allowed.most_leaf in let same = (tuned_on c.args.tree.now).leaf in
-    (looking c.args.tree.now.space.table.shared.key c.args.placed.now.key c.args.pass.now.seat.me c.walk-cursor.new.pass.seat.me c.walk-cursor.result
+try_split-adapted-requires-clause-at c = let most = (tuned_on c.args.tree.now).allowed.most_leaf in
+    let same = (tuned_on c.args.tree.now).leaf in
+    (looking c.args.tree.now.space.table.shared.key c.args.placed.now.key c.args.pass.now.seat.me
+    c.walk-cursor.new.pass.seat.me c.walk-cursor.result
     c.walk-cursor.ensures.walked (omega arith)).at
 
 pub try_split-adapted-requires-clause-ready : goal.try_split-adapted-requires-clause-ready
@@ -28,85 +33,124 @@ try_split-adapted-requires-clause-ready c = record {
   own = search rules;
   pinned = search rules;
   number = search rules;
-  none = held_upper c.args.tree.now.space.table.shared.key.rows c.args.pass.now.kept c.walk-cursor.new.pass.kept
-      c.args.pass.now.seat.me c.walk-cursor.new.pass.seat.me _ [] c.requires.ready.none c.walk-cursor.ensures.walked.now c.walk-cursor.ensures.frame.kept;
+  none = held_upper c.args.tree.now.space.table.shared.key.rows c.args.pass.now.kept
+      c.walk-cursor.new.pass.kept
+      c.args.pass.now.seat.me c.walk-cursor.new.pass.seat.me _ [] c.requires.ready.none
+      c.walk-cursor.ensures.walked.now c.walk-cursor.ensures.frame.kept;
 }
 
 pub returns-then-cursor-placed-clause-frame : goal.returns-then-cursor-placed-clause-frame
 returns-then-cursor-placed-clause-frame c = record {
   same = search rules;
   number = search rules;
-  tally = λ h. tallied_walk c.args.tree.now.space.table.shared.key (spot.At c.args.placed.now.key) c.args.pass.now.seat.me
-      c.walk-cursor.new.pass.seat.me c.walk-cursor.result c.args.pass.now.tally c.walk-cursor.new.pass.tally c.walk-cursor.ensures.walked
+  tally = λ h.
+      tallied_walk c.args.tree.now.space.table.shared.key (spot.At c.args.placed.now.key)
+      c.args.pass.now.seat.me
+      c.walk-cursor.new.pass.seat.me c.walk-cursor.result c.args.pass.now.tally
+      c.walk-cursor.new.pass.tally c.walk-cursor.ensures.walked
       c.walk-cursor.ensures.frame.tally h;
   pin = search rules;
-  none = held_upper c.args.tree.now.space.table.shared.key.rows c.args.pass.now.kept c.walk-cursor.new.pass.kept
-      c.args.pass.now.seat.me c.walk-cursor.new.pass.seat.me _ [] c.requires.ready.none c.walk-cursor.ensures.walked.now c.walk-cursor.ensures.frame.kept;
+  none = held_upper c.args.tree.now.space.table.shared.key.rows c.args.pass.now.kept
+      c.walk-cursor.new.pass.kept
+      c.args.pass.now.seat.me c.walk-cursor.new.pass.seat.me _ [] c.requires.ready.none
+      c.walk-cursor.ensures.walked.now c.walk-cursor.ensures.frame.kept;
 }
 
 pub returns-then-cursor-placed-clause-further : goal.returns-then-cursor-placed-clause-further
 returns-then-cursor-placed-clause-further c = let z = c.args.tree.now.space.table.shared.key in (
-  walked_further z (spot.At c.args.placed.now.key) c.args.pass.now.seat.me c.walk-cursor.new.pass.seat.me c.walk-cursor.result c.walk-cursor.ensures.walked,
+  walked_further z (spot.At c.args.placed.now.key) c.args.pass.now.seat.me
+      c.walk-cursor.new.pass.seat.me c.walk-cursor.result c.walk-cursor.ensures.walked,
   c.walk-cursor.ensures.walked.known,
 )
 
 pub returns-then-cursor-placed-clause-tried : goal.returns-then-cursor-placed-clause-tried
-returns-then-cursor-placed-clause-tried c = led_elsewhere c.args.tree.now.space.table.shared.key c.args.placed.now.key c.args.placed.now.row c.args.pass.now.seat.me
-    c.walk-cursor.new.pass.seat.me c.walk-cursor.result c.requires.placed c.walk-cursor.ensures.walked c.if-cursor-placed.true
+returns-then-cursor-placed-clause-tried c =
+    led_elsewhere c.args.tree.now.space.table.shared.key c.args.placed.now.key c.args.placed.now.row
+    c.args.pass.now.seat.me
+    c.walk-cursor.new.pass.seat.me c.walk-cursor.result c.requires.placed
+    c.walk-cursor.ensures.walked c.if-cursor-placed.true
 
 pub returns-then-cursor-placed-clause-counted : goal.returns-then-cursor-placed-clause-counted
-returns-then-cursor-placed-clause-counted c = let quiet = walked_quiet c.args.tree.now.space.table.shared.key (spot.At c.args.placed.now.key) c.args.pass.now.seat.me
+returns-then-cursor-placed-clause-counted c =
+    let quiet =
+    walked_quiet c.args.tree.now.space.table.shared.key (spot.At c.args.placed.now.key)
+    c.args.pass.now.seat.me
     c.walk-cursor.new.pass.seat.me c.walk-cursor.result c.walk-cursor.ensures.walked in
-    none_paid c.args.spent.now c.args.pass.now.seat.me c.walk-cursor.new.pass.seat.me quiet.lost quiet.splits_are
+    none_paid c.args.spent.now c.args.pass.now.seat.me c.walk-cursor.new.pass.seat.me quiet.lost
+    quiet.splits_are
 
 pub returns-then-was_split-clause-further : goal.returns-then-was_split-clause-further
-returns-then-was_split-clause-further c = let most = (tuned_on c.args.tree.now).allowed.most_leaf in let same = (tuned_on c.args.tree.now).leaf in
-    (led_there c.args.tree.now.space.table.shared.key c.args.placed.now.key c.args.placed.now.row c.args.pass.now.seat.me c.walk-cursor.new.pass.seat.me
-    c.try_split-adapted.new.pass.seat.me c.walk-cursor.result c.try_split-adapted.result c.requires.placed c.walk-cursor.ensures.walked (omega arith)
+returns-then-was_split-clause-further c = let most = (tuned_on c.args.tree.now).allowed.most_leaf in
+    let same = (tuned_on c.args.tree.now).leaf in
+    (led_there c.args.tree.now.space.table.shared.key c.args.placed.now.key c.args.placed.now.row
+    c.args.pass.now.seat.me c.walk-cursor.new.pass.seat.me
+    c.try_split-adapted.new.pass.seat.me c.walk-cursor.result c.try_split-adapted.result
+    c.requires.placed c.walk-cursor.ensures.walked (omega arith)
     (c.if-cursor-placed.false) c.try_split-adapted.ensures.split).1
 
 pub returns-then-was_split-clause-tried : goal.returns-then-was_split-clause-tried
-returns-then-was_split-clause-tried c = let most = (tuned_on c.args.tree.now).allowed.most_leaf in let same = (tuned_on c.args.tree.now).leaf in
-    (led_there c.args.tree.now.space.table.shared.key c.args.placed.now.key c.args.placed.now.row c.args.pass.now.seat.me c.walk-cursor.new.pass.seat.me
-    c.try_split-adapted.new.pass.seat.me c.walk-cursor.result c.try_split-adapted.result c.requires.placed c.walk-cursor.ensures.walked (omega arith)
+returns-then-was_split-clause-tried c = let most = (tuned_on c.args.tree.now).allowed.most_leaf in
+    let same = (tuned_on c.args.tree.now).leaf in
+    (led_there c.args.tree.now.space.table.shared.key c.args.placed.now.key c.args.placed.now.row
+    c.args.pass.now.seat.me c.walk-cursor.new.pass.seat.me
+    c.try_split-adapted.new.pass.seat.me c.walk-cursor.result c.try_split-adapted.result
+    c.requires.placed c.walk-cursor.ensures.walked (omega arith)
     (c.if-cursor-placed.false) c.try_split-adapted.ensures.split).0
 
 pub returns-else-was_split-clause-further : goal.returns-else-was_split-clause-further
-returns-else-was_split-clause-further c = let most = (tuned_on c.args.tree.now).allowed.most_leaf in let same = (tuned_on c.args.tree.now).leaf in
-    (led_there c.args.tree.now.space.table.shared.key c.args.placed.now.key c.args.placed.now.row c.args.pass.now.seat.me c.walk-cursor.new.pass.seat.me
-    c.try_split-adapted.new.pass.seat.me c.walk-cursor.result c.try_split-adapted.result c.requires.placed c.walk-cursor.ensures.walked (omega arith)
+returns-else-was_split-clause-further c = let most = (tuned_on c.args.tree.now).allowed.most_leaf in
+    let same = (tuned_on c.args.tree.now).leaf in
+    (led_there c.args.tree.now.space.table.shared.key c.args.placed.now.key c.args.placed.now.row
+    c.args.pass.now.seat.me c.walk-cursor.new.pass.seat.me
+    c.try_split-adapted.new.pass.seat.me c.walk-cursor.result c.try_split-adapted.result
+    c.requires.placed c.walk-cursor.ensures.walked (omega arith)
     (c.if-cursor-placed.false) c.try_split-adapted.ensures.split).1
 
 pub returns-else-was_split-clause-tried : goal.returns-else-was_split-clause-tried
-returns-else-was_split-clause-tried c = let most = (tuned_on c.args.tree.now).allowed.most_leaf in let same = (tuned_on c.args.tree.now).leaf in
-    (led_there c.args.tree.now.space.table.shared.key c.args.placed.now.key c.args.placed.now.row c.args.pass.now.seat.me c.walk-cursor.new.pass.seat.me
-    c.try_split-adapted.new.pass.seat.me c.walk-cursor.result c.try_split-adapted.result c.requires.placed c.walk-cursor.ensures.walked (omega arith)
+returns-else-was_split-clause-tried c = let most = (tuned_on c.args.tree.now).allowed.most_leaf in
+    let same = (tuned_on c.args.tree.now).leaf in
+    (led_there c.args.tree.now.space.table.shared.key c.args.placed.now.key c.args.placed.now.row
+    c.args.pass.now.seat.me c.walk-cursor.new.pass.seat.me
+    c.try_split-adapted.new.pass.seat.me c.walk-cursor.result c.try_split-adapted.result
+    c.requires.placed c.walk-cursor.ensures.walked (omega arith)
     (c.if-cursor-placed.false) c.try_split-adapted.ensures.split).0
 
 pub returns-then-was_split-clause-counted : goal.returns-then-was_split-clause-counted
-returns-then-was_split-clause-counted c = paid_cut c.args.spent.now c.try_split-adapted.new.spent c.saturating_add-spent.result c.args.pass.now.seat.me
+returns-then-was_split-clause-counted c =
+    paid_cut c.args.spent.now c.try_split-adapted.new.spent c.saturating_add-spent.result
+    c.args.pass.now.seat.me
     c.walk-cursor.new.pass.seat.me c.try_split-adapted.new.pass.seat.me
-    (walked_quiet c.args.tree.now.space.table.shared.key (spot.At c.args.placed.now.key) c.args.pass.now.seat.me c.walk-cursor.new.pass.seat.me c.walk-cursor.result
+    (walked_quiet c.args.tree.now.space.table.shared.key (spot.At c.args.placed.now.key)
+    c.args.pass.now.seat.me c.walk-cursor.new.pass.seat.me c.walk-cursor.result
     c.walk-cursor.ensures.walked) c.try_split-adapted.ensures.counted
-    ((come_splits c.args.tree.now.space.table.shared.key (first_note c.walk-cursor.new.pass.seat.me.0.upper.notes) c.try_split-adapted.result
-    c.walk-cursor.new.pass.seat.me c.try_split-adapted.new.pass.seat.me c.try_split-adapted.ensures.split).0 (c.if-was_split.ensures.0 refl))
+    ((come_splits c.args.tree.now.space.table.shared.key
+    (first_note c.walk-cursor.new.pass.seat.me.0.upper.notes) c.try_split-adapted.result
+    c.walk-cursor.new.pass.seat.me c.try_split-adapted.new.pass.seat.me
+    c.try_split-adapted.ensures.split).0 (c.if-was_split.ensures.0 refl))
     c.saturating_add-spent.ensures
 
 pub returns-else-was_split-clause-counted : goal.returns-else-was_split-clause-counted
-returns-else-was_split-clause-counted c = paid_still c.args.spent.now c.try_split-adapted.new.spent c.args.pass.now.seat.me
+returns-else-was_split-clause-counted c =
+    paid_still c.args.spent.now c.try_split-adapted.new.spent c.args.pass.now.seat.me
     c.walk-cursor.new.pass.seat.me c.try_split-adapted.new.pass.seat.me
-    (walked_quiet c.args.tree.now.space.table.shared.key (spot.At c.args.placed.now.key) c.args.pass.now.seat.me c.walk-cursor.new.pass.seat.me c.walk-cursor.result
+    (walked_quiet c.args.tree.now.space.table.shared.key (spot.At c.args.placed.now.key)
+    c.args.pass.now.seat.me c.walk-cursor.new.pass.seat.me c.walk-cursor.result
     c.walk-cursor.ensures.walked) c.try_split-adapted.ensures.counted
-    ((come_splits c.args.tree.now.space.table.shared.key (first_note c.walk-cursor.new.pass.seat.me.0.upper.notes) c.try_split-adapted.result
-    c.walk-cursor.new.pass.seat.me c.try_split-adapted.new.pass.seat.me c.try_split-adapted.ensures.split).1 (λ e. let f = c.if-was_split.ensures.1 e in cc))
+    ((come_splits c.args.tree.now.space.table.shared.key
+    (first_note c.walk-cursor.new.pass.seat.me.0.upper.notes) c.try_split-adapted.result
+    c.walk-cursor.new.pass.seat.me c.try_split-adapted.new.pass.seat.me
+    c.try_split-adapted.ensures.split).1 (λ e. let f = c.if-was_split.ensures.1 e in cc))
 
 pub returns-then-was_split-clause-frame : goal.returns-then-was_split-clause-frame
 returns-then-was_split-clause-frame c = record {
   same = search rules;
   number = search rules;
-  tally = λ h. c.try_split-adapted.ensures.frame.tally (tallied_walk c.args.tree.now.space.table.shared.key (spot.At c.args.placed.now.key)
+  tally = λ h.
+      c.try_split-adapted.ensures.frame.tally
+      (tallied_walk c.args.tree.now.space.table.shared.key (spot.At c.args.placed.now.key)
       c.args.pass.now.seat.me
-      c.walk-cursor.new.pass.seat.me c.walk-cursor.result c.args.pass.now.tally c.walk-cursor.new.pass.tally c.walk-cursor.ensures.walked
+      c.walk-cursor.new.pass.seat.me c.walk-cursor.result c.args.pass.now.tally
+      c.walk-cursor.new.pass.tally c.walk-cursor.ensures.walked
       c.walk-cursor.ensures.frame.tally h);
   pin = search rules;
   none = search rules;
@@ -116,84 +160,140 @@ pub returns-else-was_split-clause-frame : goal.returns-else-was_split-clause-fra
 returns-else-was_split-clause-frame c = record {
   same = search rules;
   number = search rules;
-  tally = λ h. c.try_split-adapted.ensures.frame.tally (tallied_walk c.args.tree.now.space.table.shared.key (spot.At c.args.placed.now.key)
+  tally = λ h.
+      c.try_split-adapted.ensures.frame.tally
+      (tallied_walk c.args.tree.now.space.table.shared.key (spot.At c.args.placed.now.key)
       c.args.pass.now.seat.me
-      c.walk-cursor.new.pass.seat.me c.walk-cursor.result c.args.pass.now.tally c.walk-cursor.new.pass.tally c.walk-cursor.ensures.walked
+      c.walk-cursor.new.pass.seat.me c.walk-cursor.result c.args.pass.now.tally
+      c.walk-cursor.new.pass.tally c.walk-cursor.ensures.walked
       c.walk-cursor.ensures.frame.tally h);
   pin = search rules;
   none = search rules;
 }
 
 pub returns-then-was_split-clause-met : goal.returns-then-was_split-clause-met
-returns-then-was_split-clause-met c = split_met c.args.tree.now.space.table.shared.key c.args.placed.now.key c.args.placed.now.row
-    (first_note c.walk-cursor.new.pass.seat.me.0.upper.notes) c.try_split-adapted.result c.args.pass.now.seat.me c.walk-cursor.new.pass.seat.me
-    c.try_split-adapted.new.pass.seat.me c.walk-cursor.result c.requires.placed c.walk-cursor.ensures.walked c.try_split-adapted.ensures.split
+returns-then-was_split-clause-met c =
+    split_met c.args.tree.now.space.table.shared.key c.args.placed.now.key c.args.placed.now.row
+    (first_note c.walk-cursor.new.pass.seat.me.0.upper.notes) c.try_split-adapted.result
+    c.args.pass.now.seat.me c.walk-cursor.new.pass.seat.me
+    c.try_split-adapted.new.pass.seat.me c.walk-cursor.result c.requires.placed
+    c.walk-cursor.ensures.walked c.try_split-adapted.ensures.split
 
 pub returns-else-was_split-clause-met : goal.returns-else-was_split-clause-met
-returns-else-was_split-clause-met c = split_met c.args.tree.now.space.table.shared.key c.args.placed.now.key c.args.placed.now.row
-    (first_note c.walk-cursor.new.pass.seat.me.0.upper.notes) c.try_split-adapted.result c.args.pass.now.seat.me c.walk-cursor.new.pass.seat.me
-    c.try_split-adapted.new.pass.seat.me c.walk-cursor.result c.requires.placed c.walk-cursor.ensures.walked c.try_split-adapted.ensures.split
+returns-else-was_split-clause-met c =
+    split_met c.args.tree.now.space.table.shared.key c.args.placed.now.key c.args.placed.now.row
+    (first_note c.walk-cursor.new.pass.seat.me.0.upper.notes) c.try_split-adapted.result
+    c.args.pass.now.seat.me c.walk-cursor.new.pass.seat.me
+    c.try_split-adapted.new.pass.seat.me c.walk-cursor.result c.requires.placed
+    c.walk-cursor.ensures.walked c.try_split-adapted.ensures.split
 
 pub returns-then-was_split-clause-grows : goal.returns-then-was_split-clause-grows
-returns-then-was_split-clause-grows c alone = let most = (tuned_on c.args.tree.now).allowed.most_leaf in let same = (tuned_on c.args.tree.now).leaf in
+returns-then-was_split-clause-grows c alone =
+    let most = (tuned_on c.args.tree.now).allowed.most_leaf in
+    let same = (tuned_on c.args.tree.now).leaf in
     let z = c.args.tree.now.space.table.shared.key in
-    let quiet = walked_quiet z (spot.At c.args.placed.now.key) c.args.pass.now.seat.me c.walk-cursor.new.pass.seat.me c.walk-cursor.result c.walk-cursor.ensures.walked in
-    let further = walked_further z (spot.At c.args.placed.now.key) c.args.pass.now.seat.me c.walk-cursor.new.pass.seat.me c.walk-cursor.result
+    let quiet =
+    walked_quiet z (spot.At c.args.placed.now.key) c.args.pass.now.seat.me
+    c.walk-cursor.new.pass.seat.me c.walk-cursor.result c.walk-cursor.ensures.walked in
+    let further =
+    walked_further z (spot.At c.args.placed.now.key) c.args.pass.now.seat.me
+    c.walk-cursor.new.pass.seat.me c.walk-cursor.result
     c.walk-cursor.ensures.walked in
-    let l = looking z c.args.placed.now.key c.args.pass.now.seat.me c.walk-cursor.new.pass.seat.me c.walk-cursor.result c.walk-cursor.ensures.walked (omega arith) in
-    due_grows z c.try_split-adapted.result c.args.pass.now.seat.me c.walk-cursor.new.pass.seat.me c.try_split-adapted.new.pass.seat.me
-    (l.listed (alone_on z c.args.pass.now.seat.me.0.upper c.walk-cursor.new.pass.seat.me.0.upper further.number alone))
+    let l = looking z c.args.placed.now.key c.args.pass.now.seat.me c.walk-cursor.new.pass.seat.me
+    c.walk-cursor.result c.walk-cursor.ensures.walked (omega arith) in
+    due_grows z c.try_split-adapted.result c.args.pass.now.seat.me c.walk-cursor.new.pass.seat.me
+    c.try_split-adapted.new.pass.seat.me
+    (l.listed (alone_on z c.args.pass.now.seat.me.0.upper c.walk-cursor.new.pass.seat.me.0.upper
+    further.number alone))
     (quiet.splits_are, quiet.same_inventory) c.try_split-adapted.ensures.split
 
 pub returns-else-was_split-clause-grows : goal.returns-else-was_split-clause-grows
-returns-else-was_split-clause-grows c alone = let most = (tuned_on c.args.tree.now).allowed.most_leaf in let same = (tuned_on c.args.tree.now).leaf in
+returns-else-was_split-clause-grows c alone =
+    let most = (tuned_on c.args.tree.now).allowed.most_leaf in
+    let same = (tuned_on c.args.tree.now).leaf in
     let z = c.args.tree.now.space.table.shared.key in
-    let quiet = walked_quiet z (spot.At c.args.placed.now.key) c.args.pass.now.seat.me c.walk-cursor.new.pass.seat.me c.walk-cursor.result c.walk-cursor.ensures.walked in
-    let further = walked_further z (spot.At c.args.placed.now.key) c.args.pass.now.seat.me c.walk-cursor.new.pass.seat.me c.walk-cursor.result
+    let quiet =
+    walked_quiet z (spot.At c.args.placed.now.key) c.args.pass.now.seat.me
+    c.walk-cursor.new.pass.seat.me c.walk-cursor.result c.walk-cursor.ensures.walked in
+    let further =
+    walked_further z (spot.At c.args.placed.now.key) c.args.pass.now.seat.me
+    c.walk-cursor.new.pass.seat.me c.walk-cursor.result
     c.walk-cursor.ensures.walked in
-    let l = looking z c.args.placed.now.key c.args.pass.now.seat.me c.walk-cursor.new.pass.seat.me c.walk-cursor.result c.walk-cursor.ensures.walked (omega arith) in
-    due_grows z c.try_split-adapted.result c.args.pass.now.seat.me c.walk-cursor.new.pass.seat.me c.try_split-adapted.new.pass.seat.me
-    (l.listed (alone_on z c.args.pass.now.seat.me.0.upper c.walk-cursor.new.pass.seat.me.0.upper further.number alone))
+    let l = looking z c.args.placed.now.key c.args.pass.now.seat.me c.walk-cursor.new.pass.seat.me
+    c.walk-cursor.result c.walk-cursor.ensures.walked (omega arith) in
+    due_grows z c.try_split-adapted.result c.args.pass.now.seat.me c.walk-cursor.new.pass.seat.me
+    c.try_split-adapted.new.pass.seat.me
+    (l.listed (alone_on z c.args.pass.now.seat.me.0.upper c.walk-cursor.new.pass.seat.me.0.upper
+    further.number alone))
     (quiet.splits_are, quiet.same_inventory) c.try_split-adapted.ensures.split
 
 pub returns-then-cursor-placed-clause-cut : goal.returns-then-cursor-placed-clause-cut
-returns-then-cursor-placed-clause-cut c = inl (walked_quiet c.args.tree.now.space.table.shared.key (spot.At c.args.placed.now.key) c.args.pass.now.seat.me
+returns-then-cursor-placed-clause-cut c =
+    inl (walked_quiet c.args.tree.now.space.table.shared.key (spot.At c.args.placed.now.key)
+    c.args.pass.now.seat.me
     c.walk-cursor.new.pass.seat.me c.walk-cursor.result c.walk-cursor.ensures.walked).same_cuts
 
 pub returns-then-was_split-clause-cut : goal.returns-then-was_split-clause-cut
-returns-then-was_split-clause-cut c = let most = (tuned_on c.args.tree.now).allowed.most_leaf in let same = (tuned_on c.args.tree.now).leaf in
-    due_there c.args.tree.now.space.table.shared.key c.args.placed.now.key c.args.placed.now.row c.args.pass.now.seat.me c.walk-cursor.new.pass.seat.me
-    c.try_split-adapted.new.pass.seat.me c.walk-cursor.result c.try_split-adapted.result c.requires.placed c.walk-cursor.ensures.walked (omega arith)
+returns-then-was_split-clause-cut c = let most = (tuned_on c.args.tree.now).allowed.most_leaf in
+    let same = (tuned_on c.args.tree.now).leaf in
+    due_there c.args.tree.now.space.table.shared.key c.args.placed.now.key c.args.placed.now.row
+    c.args.pass.now.seat.me c.walk-cursor.new.pass.seat.me
+    c.try_split-adapted.new.pass.seat.me c.walk-cursor.result c.try_split-adapted.result
+    c.requires.placed c.walk-cursor.ensures.walked (omega arith)
     (c.if-cursor-placed.false) c.try_split-adapted.ensures.split
 
 pub returns-else-was_split-clause-cut : goal.returns-else-was_split-clause-cut
-returns-else-was_split-clause-cut c = let most = (tuned_on c.args.tree.now).allowed.most_leaf in let same = (tuned_on c.args.tree.now).leaf in
-    due_there c.args.tree.now.space.table.shared.key c.args.placed.now.key c.args.placed.now.row c.args.pass.now.seat.me c.walk-cursor.new.pass.seat.me
-    c.try_split-adapted.new.pass.seat.me c.walk-cursor.result c.try_split-adapted.result c.requires.placed c.walk-cursor.ensures.walked (omega arith)
+returns-else-was_split-clause-cut c = let most = (tuned_on c.args.tree.now).allowed.most_leaf in
+    let same = (tuned_on c.args.tree.now).leaf in
+    due_there c.args.tree.now.space.table.shared.key c.args.placed.now.key c.args.placed.now.row
+    c.args.pass.now.seat.me c.walk-cursor.new.pass.seat.me
+    c.try_split-adapted.new.pass.seat.me c.walk-cursor.result c.try_split-adapted.result
+    c.requires.placed c.walk-cursor.ensures.walked (omega arith)
     (c.if-cursor-placed.false) c.try_split-adapted.ensures.split
 
 pub returns-then-cursor-placed-clause-won : goal.returns-then-cursor-placed-clause-won
-returns-then-cursor-placed-clause-won c alone = absurd (c.if-cursor-placed.true (comes_there c.args.tree.now.space.table.shared.key c.args.placed.now.key c.args.placed.now.row
-    c.args.pass.now.seat.me c.walk-cursor.new.pass.seat.me c.walk-cursor.result c.requires.placed c.walk-cursor.ensures.walked alone))
+returns-then-cursor-placed-clause-won c alone =
+    absurd (c.if-cursor-placed.true
+    (comes_there c.args.tree.now.space.table.shared.key c.args.placed.now.key c.args.placed.now.row
+    c.args.pass.now.seat.me c.walk-cursor.new.pass.seat.me c.walk-cursor.result c.requires.placed
+    c.walk-cursor.ensures.walked alone))
 
 pub returns-then-was_split-clause-won : goal.returns-then-was_split-clause-won
-returns-then-was_split-clause-won c alone = let most = (tuned_on c.args.tree.now).allowed.most_leaf in let same = (tuned_on c.args.tree.now).leaf in
+returns-then-was_split-clause-won c alone =
+    let most = (tuned_on c.args.tree.now).allowed.most_leaf in
+    let same = (tuned_on c.args.tree.now).leaf in
     let z = c.args.tree.now.space.table.shared.key in
-    let further = walked_further z (spot.At c.args.placed.now.key) c.args.pass.now.seat.me c.walk-cursor.new.pass.seat.me c.walk-cursor.result
+    let further =
+    walked_further z (spot.At c.args.placed.now.key) c.args.pass.now.seat.me
+    c.walk-cursor.new.pass.seat.me c.walk-cursor.result
     c.walk-cursor.ensures.walked in
-    let l = looking z c.args.placed.now.key c.args.pass.now.seat.me c.walk-cursor.new.pass.seat.me c.walk-cursor.result c.walk-cursor.ensures.walked (omega arith) in
-    let here = alone_on z c.args.pass.now.seat.me.0.upper c.walk-cursor.new.pass.seat.me.0.upper further.number alone in
-    due_won z c.args.placed.now.key c.args.placed.now.row c.args.pass.now.seat.me c.walk-cursor.new.pass.seat.me c.try_split-adapted.new.pass.seat.me c.walk-cursor.result
-    c.try_split-adapted.result c.requires.placed c.walk-cursor.ensures.walked (c.if-cursor-placed.false) c.try_split-adapted.ensures.split
+    let l = looking z c.args.placed.now.key c.args.pass.now.seat.me c.walk-cursor.new.pass.seat.me
+    c.walk-cursor.result c.walk-cursor.ensures.walked (omega arith) in
+    let here =
+    alone_on z c.args.pass.now.seat.me.0.upper c.walk-cursor.new.pass.seat.me.0.upper
+    further.number alone in
+    due_won z c.args.placed.now.key c.args.placed.now.row c.args.pass.now.seat.me
+    c.walk-cursor.new.pass.seat.me c.try_split-adapted.new.pass.seat.me c.walk-cursor.result
+    c.try_split-adapted.result c.requires.placed c.walk-cursor.ensures.walked
+    (c.if-cursor-placed.false) c.try_split-adapted.ensures.split
     (c.try_split-adapted.ensures.won here (l.listed here))
 
 pub returns-else-was_split-clause-won : goal.returns-else-was_split-clause-won
-returns-else-was_split-clause-won c alone = let most = (tuned_on c.args.tree.now).allowed.most_leaf in let same = (tuned_on c.args.tree.now).leaf in
+returns-else-was_split-clause-won c alone =
+    let most = (tuned_on c.args.tree.now).allowed.most_leaf in
+    let same = (tuned_on c.args.tree.now).leaf in
     let z = c.args.tree.now.space.table.shared.key in
-    let further = walked_further z (spot.At c.args.placed.now.key) c.args.pass.now.seat.me c.walk-cursor.new.pass.seat.me c.walk-cursor.result
+    let further =
+    walked_further z (spot.At c.args.placed.now.key) c.args.pass.now.seat.me
+    c.walk-cursor.new.pass.seat.me c.walk-cursor.result
     c.walk-cursor.ensures.walked in
-    let l = looking z c.args.placed.now.key c.args.pass.now.seat.me c.walk-cursor.new.pass.seat.me c.walk-cursor.result c.walk-cursor.ensures.walked (omega arith) in
-    let here = alone_on z c.args.pass.now.seat.me.0.upper c.walk-cursor.new.pass.seat.me.0.upper further.number alone in
-    due_won z c.args.placed.now.key c.args.placed.now.row c.args.pass.now.seat.me c.walk-cursor.new.pass.seat.me c.try_split-adapted.new.pass.seat.me c.walk-cursor.result
-    c.try_split-adapted.result c.requires.placed c.walk-cursor.ensures.walked (c.if-cursor-placed.false) c.try_split-adapted.ensures.split
+    let l = looking z c.args.placed.now.key c.args.pass.now.seat.me c.walk-cursor.new.pass.seat.me
+    c.walk-cursor.result c.walk-cursor.ensures.walked (omega arith) in
+    let here =
+    alone_on z c.args.pass.now.seat.me.0.upper c.walk-cursor.new.pass.seat.me.0.upper
+    further.number alone in
+    due_won z c.args.placed.now.key c.args.placed.now.row c.args.pass.now.seat.me
+    c.walk-cursor.new.pass.seat.me c.try_split-adapted.new.pass.seat.me c.walk-cursor.result
+    c.try_split-adapted.result c.requires.placed c.walk-cursor.ensures.walked
+    (c.if-cursor-placed.false) c.try_split-adapted.ensures.split
     (c.try_split-adapted.ensures.won here (l.listed here))

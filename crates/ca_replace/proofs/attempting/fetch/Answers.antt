@@ -12,29 +12,50 @@ use Rattle.ca_base.proofs.Tallies.{tallied_as}
 use Rattle.ca_replace.proofs.attempting.fetch.Goals as goal
 
 pub copy_at-requires-clause-readable : goal.copy_at-requires-clause-readable
-copy_at-requires-clause-readable c = let note = first_note c.find-place.new.pass.seat.me.0.upper.notes in
-    let at = subst (λ (p : Result ℕ ℕ). IsPlace (map pair note.objects) c.args.key.now p) c.in-Ok.is c.find-place.ensures.looked.place in
-    (note, c.find-place.ensures.looked.looking.readable, place_inside note c.args.key.now c.in-Ok.at at)
+copy_at-requires-clause-readable c =
+    let note = first_note c.find-place.new.pass.seat.me.0.upper.notes in
+    let at = subst
+    (λ (p : Result ℕ ℕ). IsPlace (map pair note.objects) c.args.key.now p) c.in-Ok.is
+    c.find-place.ensures.looked.place in (
+      note,
+      c.find-place.ensures.looked.looking.readable,
+      place_inside note c.args.key.now c.in-Ok.at at,
+    )
 
 pub returns-in-Ok-clause-fetched : goal.returns-in-Ok-clause-fetched
-returns-in-Ok-clause-fetched c = let z = c.args.space.now.table.shared.key in let w = c.find-place.new.pass.seat.me.0.upper in let note = first_note w.notes in
+returns-in-Ok-clause-fetched c = let z = c.args.space.now.table.shared.key in
+    let w = c.find-place.new.pass.seat.me.0.upper in let note = first_note w.notes in
     let old = c.copy_at.new.into.items in
-    let at = subst (λ (p : Result ℕ ℕ). IsPlace (map pair note.objects) c.args.key.now p) c.in-Ok.is c.find-place.ensures.looked.place in
-    subst (λ (m : MyTree). HasFetched z m.0.upper c.args.key.now (Ok c.in-Ok.at) old) (sym c.copy_at.ensures.frame.still)
-    (fetched z w c.find-place.result.0 c.in-Ok.at c.args.key.now old c.find-place.ensures.looked.looking at
-    (c.copy_at.ensures.object note c.find-place.ensures.looked.looking.readable (place_inside note c.args.key.now c.in-Ok.at at)))
+    let at = subst
+    (λ (p : Result ℕ ℕ). IsPlace (map pair note.objects) c.args.key.now p) c.in-Ok.is
+    c.find-place.ensures.looked.place in
+    subst (λ (m : MyTree). HasFetched z m.0.upper c.args.key.now (Ok c.in-Ok.at) old)
+    (sym c.copy_at.ensures.frame.still)
+    (fetched z w c.find-place.result.0 c.in-Ok.at c.args.key.now old
+    c.find-place.ensures.looked.looking at
+    (c.copy_at.ensures.object note c.find-place.ensures.looked.looking.readable
+    (place_inside note c.args.key.now c.in-Ok.at at)))
 
 pub returns-in-Err-clause-fetched : goal.returns-in-Err-clause-fetched
-returns-in-Err-clause-fetched c = let z = c.args.space.now.table.shared.key in let w = c.find-place.new.pass.seat.me.0.upper in let note = first_note w.notes in
-    let at = subst (λ (p : Result ℕ ℕ). IsPlace (map pair note.objects) c.args.key.now p) c.in-Err.is c.find-place.ensures.looked.place in
-    (none_found z w c.find-place.result.0 c.args.key.now _ c.find-place.ensures.looked.looking at, c.clear.ensures)
+returns-in-Err-clause-fetched c = let z = c.args.space.now.table.shared.key in
+    let w = c.find-place.new.pass.seat.me.0.upper in let note = first_note w.notes in
+    let at = subst
+    (λ (p : Result ℕ ℕ). IsPlace (map pair note.objects) c.args.key.now p) c.in-Err.is
+    c.find-place.ensures.looked.place in (
+      none_found z w c.find-place.result.0 c.args.key.now _ c.find-place.ensures.looked.looking at,
+      c.clear.ensures,
+    )
 
 pub returns-in-Ok-clause-looked : goal.returns-in-Ok-clause-looked
 returns-in-Ok-clause-looked c = record {
   same = search rules;
   number = search rules;
-  tally = λ h. tallied_as c.find-place.new.pass.tally c.copy_at.new.pass.tally c.find-place.new.pass.seat.me.0.upper
-      c.copy_at.new.pass.seat.me.0.upper c.copy_at.ensures.frame.tally (ap (λ (m : MyTree). m.0.upper) c.copy_at.ensures.frame.still) (c.find-place.ensures.looked.tally h);
+  tally = λ h.
+      tallied_as c.find-place.new.pass.tally c.copy_at.new.pass.tally
+      c.find-place.new.pass.seat.me.0.upper
+      c.copy_at.new.pass.seat.me.0.upper c.copy_at.ensures.frame.tally (ap
+      (λ (m : MyTree). m.0.upper) c.copy_at.ensures.frame.still)
+      (c.find-place.ensures.looked.tally h);
   kept = search rules;
   still = search rules;
   quiet = search rules;
@@ -45,5 +66,7 @@ returns-in-Ok-clause-looked c = record {
 
 pub returns-in-Err-clause-looked : goal.returns-in-Err-clause-looked
 returns-in-Err-clause-looked c =
-    subst (λ (p : Result ℕ ℕ). HasLooked c.args.space.now c.args.key.now c.find-place.result.0 p c.args.pass.now c.find-place.new.pass) c.in-Err.is
+    subst (λ (p : Result ℕ ℕ).
+    HasLooked c.args.space.now c.args.key.now c.find-place.result.0 p c.args.pass.now
+    c.find-place.new.pass) c.in-Err.is
     c.find-place.ensures.looked

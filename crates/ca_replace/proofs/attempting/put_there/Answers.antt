@@ -50,46 +50,65 @@ why_of (Ok x) = IsDeep
 why_of (Err why) = why
 
 pub count-many-requires-clause-readable : goal.count-many-requires-clause-readable
-count-many-requires-clause-readable c = (first_note c.args.pass.now.seat.me.0.upper.notes, c.requires.looking.readable)
+count-many-requires-clause-readable c =
+    (first_note c.args.pass.now.seat.me.0.upper.notes, c.requires.looking.readable)
 
 pub next_statistic-statistic-requires-clause-readable : goal.next_statistic-statistic-requires-clause-readable
 next_statistic-statistic-requires-clause-readable c = (
   first_note c.args.pass.now.seat.me.0.upper.notes,
-  subst (λ (m : MyTree). IsReadable c.args.tree.now.space.table.shared.key m.0.upper c.args.cursor.base (first_note c.args.pass.now.seat.me.0.upper.notes))
+  subst (λ (m : MyTree).
+      IsReadable c.args.tree.now.space.table.shared.key m.0.upper c.args.cursor.base
+      (first_note c.args.pass.now.seat.me.0.upper.notes))
       (sym c.count-many.ensures.frame.still) c.requires.looking.readable,
 )
 
 pub settle-requires-clause-known : goal.settle-requires-clause-known
 settle-requires-clause-known c = known_then c.args.tree.now.space.table.shared.key
-    (λ (u : TreeView). put_event c.args.insertion.now.why (key_in c.args.insertion.now.keyed) (object_at c.args.insertion.now.place (first_note u.notes).objects)
+    (λ (u : TreeView).
+    put_event c.args.insertion.now.why (key_in c.args.insertion.now.keyed)
+    (object_at c.args.insertion.now.place (first_note u.notes).objects)
     c.args.insertion.now.keyed.object.now)
-    c.put_at-tried.result c.args.pass.now.seat.me.0.upper c.next_statistic-statistic.new.pass.seat.me.0.upper c.put_at-tried.new.pass.seat.me.0.upper
-    (ap (λ (m : MyTree). m.0.upper) (c.next_statistic-statistic.ensures.frame.still ∙ c.count-many.ensures.frame.still)) c.requires.looking.known
+    c.put_at-tried.result c.args.pass.now.seat.me.0.upper
+    c.next_statistic-statistic.new.pass.seat.me.0.upper c.put_at-tried.new.pass.seat.me.0.upper
+    (ap (λ (m : MyTree). m.0.upper) (c.next_statistic-statistic.ensures.frame.still
+    ∙ c.count-many.ensures.frame.still)) c.requires.looking.known
     c.put_at-tried.ensures.put
 
 pub settle-requires-clause-placed : goal.settle-requires-clause-placed
 settle-requires-clause-placed c won = is_new _ c.args.tree.now.space.table.shared.key
-    (Put (key_in c.args.insertion.now.keyed) c.args.insertion.now.keyed.object.now) c.word_of.result c.put_at-tried.new.placed
-    c.put_at-tried.result c.next_statistic-statistic.new.pass.seat.me.0.upper c.put_at-tried.new.pass.seat.me.0.upper
-    (subst (λ (m : MyTree). HasKey (first_note m.0.upper.notes).place.span (key_in c.args.insertion.now.keyed))
-    (sym (c.next_statistic-statistic.ensures.frame.still ∙ c.count-many.ensures.frame.still)) c.requires.looking.about) c.put_at-tried.ensures.renewed
+    (Put (key_in c.args.insertion.now.keyed) c.args.insertion.now.keyed.object.now) c.word_of.result
+    c.put_at-tried.new.placed
+    c.put_at-tried.result c.next_statistic-statistic.new.pass.seat.me.0.upper
+    c.put_at-tried.new.pass.seat.me.0.upper
+    (subst (λ (m : MyTree).
+    HasKey (first_note m.0.upper.notes).place.span (key_in c.args.insertion.now.keyed))
+    (sym (c.next_statistic-statistic.ensures.frame.still ∙ c.count-many.ensures.frame.still))
+    c.requires.looking.about) c.put_at-tried.ensures.renewed
     c.put_at-tried.ensures.placed won
 
 pub returns-clause-tried : goal.returns-clause-tried
 returns-clause-tried c = settled_tried c.args.tree.now.space.table.shared.key
-    (λ (u : TreeView). put_event c.args.insertion.now.why (key_in c.args.insertion.now.keyed) (object_at c.args.insertion.now.place (first_note u.notes).objects)
+    (λ (u : TreeView).
+    put_event c.args.insertion.now.why (key_in c.args.insertion.now.keyed)
+    (object_at c.args.insertion.now.place (first_note u.notes).objects)
     c.args.insertion.now.keyed.object.now)
-    c.put_at-tried.result c.settle.result c.args.pass.now.seat.me.0.upper c.next_statistic-statistic.new.pass.seat.me.0.upper
+    c.put_at-tried.result c.settle.result c.args.pass.now.seat.me.0.upper
+    c.next_statistic-statistic.new.pass.seat.me.0.upper
     c.put_at-tried.new.pass.seat.me.0.upper c.settle.new.pass.seat.me.0.upper
-    (ap (λ (m : MyTree). m.0.upper) (c.next_statistic-statistic.ensures.frame.still ∙ c.count-many.ensures.frame.still)) c.settle.ensures.come
+    (ap (λ (m : MyTree). m.0.upper) (c.next_statistic-statistic.ensures.frame.still
+    ∙ c.count-many.ensures.frame.still)) c.settle.ensures.come
     c.requires.looking.known c.put_at-tried.ensures.put c.settle.ensures.further
 
 -- The exchange and what followed it.
-abbrev settling : (c : goal.After-settle) → IsSettling c.args.tree.now.space.table.shared.key c.args.tree.now.tuning c.put_at-tried.result c.settle.result
-    c.args.course.now.adapting c.settle.new.course.adapting c.args.pass.now.seat.me c.next_statistic-statistic.new.pass.seat.me
+abbrev settling : (c : goal.After-settle)
+    → IsSettling c.args.tree.now.space.table.shared.key c.args.tree.now.tuning c.put_at-tried.result
+    c.settle.result
+    c.args.course.now.adapting c.settle.new.course.adapting c.args.pass.now.seat.me
+    c.next_statistic-statistic.new.pass.seat.me
     c.put_at-tried.new.pass.seat.me c.settle.new.pass.seat.me
 settling c = record {
-  event = event_of c.args.insertion.now (first_note c.next_statistic-statistic.new.pass.seat.me.0.upper.notes).objects;
+  event = event_of c.args.insertion.now
+      (first_note c.next_statistic-statistic.new.pass.seat.me.0.upper.notes).objects;
   edit = edit_of c.args.insertion.now;
   statistic = to_z w32 (of_z w32 c.next_statistic-statistic.result);
   word = c.word_of.result;
@@ -102,27 +121,41 @@ settling c = record {
 }
 
 pub returns-then-not-has_room-clause-full : goal.returns-then-not-has_room-clause-full
-returns-then-not-has_room-clause-full c = λ deep. full_there c.args.tree.now.space.table.shared.key c.args.pass.now.seat.me.0.upper
-    c.make_room.new.pass.seat.me.0.upper c.args.cursor (key_in c.args.insertion.now.keyed) c.args.insertion.now.place c.count-many.result
+returns-then-not-has_room-clause-full c =
+    λ deep. full_there c.args.tree.now.space.table.shared.key c.args.pass.now.seat.me.0.upper
+    c.make_room.new.pass.seat.me.0.upper c.args.cursor (key_in c.args.insertion.now.keyed)
+    c.args.insertion.now.place c.count-many.result
     c.requires.looking (
-      c.make_room.ensures.same_seen.0 ∙ ap (λ (m : MyTree). m.0.upper.seen) c.count-many.ensures.frame.still,
-      c.make_room.ensures.same_seen.1 ∙ ap (λ (m : MyTree). m.0.upper.last) c.count-many.ensures.frame.still,
+      c.make_room.ensures.same_seen.0
+          ∙ ap (λ (m : MyTree). m.0.upper.seen) c.count-many.ensures.frame.still,
+      c.make_room.ensures.same_seen.1
+          ∙ ap (λ (m : MyTree). m.0.upper.last) c.count-many.ensures.frame.still,
     )
-    (subst (λ (m : MyTree). c.args.tree.now.space.table.shared.key.levels ≤ (first_note m.0.upper.notes).place.level) c.count-many.ensures.frame.still
+    (subst (λ (m : MyTree).
+    c.args.tree.now.space.table.shared.key.levels ≤ (first_note m.0.upper.notes).place.level)
+    c.count-many.ensures.frame.still
     (c.make_room.ensures.deep (ap why_of deep))) c.requires.place
-    (λ room. no_room c.has_room.result c.if-not-has_room.true (c.has_room.ensures.1 (subst (λ n. IsRoom c.args.insertion.now.place c.count-many.result n)
+    (λ room. no_room c.has_room.result c.if-not-has_room.true
+    (c.has_room.ensures.1 (subst (λ n. IsRoom c.args.insertion.now.place c.count-many.result n)
     (tuned_on c.args.tree.now).leaf room)))
-    (c.count-many.ensures.count (first_note c.args.pass.now.seat.me.0.upper.notes) c.requires.looking.readable)
+    (c.count-many.ensures.count (first_note c.args.pass.now.seat.me.0.upper.notes)
+    c.requires.looking.readable)
 
 pub returns-then-not-has_room-clause-frame : goal.returns-then-not-has_room-clause-frame
 returns-then-not-has_room-clause-frame c = record {
-  same = (c.make_room.ensures.frame.same.0 ∙ c.count-many.ensures.frame.same.0, c.make_room.ensures.frame.same.1 ∙ c.count-many.ensures.frame.same.1);
+  same = (
+    c.make_room.ensures.frame.same.0 ∙ c.count-many.ensures.frame.same.0,
+    c.make_room.ensures.frame.same.1 ∙ c.count-many.ensures.frame.same.1,
+  );
   number = c.make_room.ensures.frame.number ∙ c.count-many.ensures.frame.number;
-  tally = λ h. c.make_room.ensures.frame.tally (tallied_as c.args.pass.now.tally c.count-many.new.pass.tally
-      c.args.pass.now.seat.me.0.upper c.count-many.new.pass.seat.me.0.upper c.count-many.ensures.frame.tally
+  tally = λ h.
+      c.make_room.ensures.frame.tally (tallied_as c.args.pass.now.tally c.count-many.new.pass.tally
+      c.args.pass.now.seat.me.0.upper c.count-many.new.pass.seat.me.0.upper
+      c.count-many.ensures.frame.tally
       (ap (λ (m : MyTree). m.0.upper) c.count-many.ensures.frame.still) h);
   pin = (
-    c.make_room.ensures.frame.pin.0 ∙ ap (λ (m : MyTree). m.0.sizes) c.count-many.ensures.frame.still,
+    c.make_room.ensures.frame.pin.0
+        ∙ ap (λ (m : MyTree). m.0.sizes) c.count-many.ensures.frame.still,
     c.make_room.ensures.frame.pin.1 ∙ ap (λ (m : MyTree). m.0.pin) c.count-many.ensures.frame.still,
   );
   none = c.make_room.ensures.frame.none;
@@ -131,19 +164,32 @@ returns-then-not-has_room-clause-frame c = record {
 pub returns-clause-frame : goal.returns-clause-frame
 returns-clause-frame c = record {
   same = (
-    c.settle.ensures.frame.same.0 ∙ (c.put_at-tried.ensures.frame.same.0 ∙ (c.next_statistic-statistic.ensures.frame.same.0 ∙ c.count-many.ensures.frame.same.0)),
-    c.settle.ensures.frame.same.1 ∙ (c.put_at-tried.ensures.frame.same.1 ∙ (c.next_statistic-statistic.ensures.frame.same.1 ∙ c.count-many.ensures.frame.same.1)),
+    c.settle.ensures.frame.same.0
+        ∙ (c.put_at-tried.ensures.frame.same.0
+        ∙ (c.next_statistic-statistic.ensures.frame.same.0 ∙ c.count-many.ensures.frame.same.0)),
+    c.settle.ensures.frame.same.1
+        ∙ (c.put_at-tried.ensures.frame.same.1
+        ∙ (c.next_statistic-statistic.ensures.frame.same.1 ∙ c.count-many.ensures.frame.same.1)),
   );
-  number = c.settle.ensures.frame.number ∙ (c.put_at-tried.ensures.frame.number ∙ (c.next_statistic-statistic.ensures.frame.number
+  number = c.settle.ensures.frame.number
+      ∙ (c.put_at-tried.ensures.frame.number ∙ (c.next_statistic-statistic.ensures.frame.number
       ∙ c.count-many.ensures.frame.number));
-  tally = λ h. c.settle.ensures.frame.tally (c.put_at-tried.ensures.frame.tally (tallied_as c.args.pass.now.tally c.next_statistic-statistic.new.pass.tally
+  tally = λ h.
+      c.settle.ensures.frame.tally
+      (c.put_at-tried.ensures.frame.tally
+      (tallied_as c.args.pass.now.tally c.next_statistic-statistic.new.pass.tally
       c.args.pass.now.seat.me.0.upper c.next_statistic-statistic.new.pass.seat.me.0.upper
       (c.next_statistic-statistic.ensures.frame.tally ∙ c.count-many.ensures.frame.tally)
-      (ap (λ (m : MyTree). m.0.upper) (c.next_statistic-statistic.ensures.frame.still ∙ c.count-many.ensures.frame.still)) h));
+      (ap (λ (m : MyTree). m.0.upper) (c.next_statistic-statistic.ensures.frame.still
+      ∙ c.count-many.ensures.frame.still)) h));
   pin = (
-    c.settle.ensures.frame.pin.0 ∙ (c.put_at-tried.ensures.frame.pin.0 ∙ ap (λ (m : MyTree). m.0.sizes) (c.next_statistic-statistic.ensures.frame.still
+    c.settle.ensures.frame.pin.0
+        ∙ (c.put_at-tried.ensures.frame.pin.0
+        ∙ ap (λ (m : MyTree). m.0.sizes) (c.next_statistic-statistic.ensures.frame.still
         ∙ c.count-many.ensures.frame.still)),
-    c.settle.ensures.frame.pin.1 ∙ (c.put_at-tried.ensures.frame.pin.1 ∙ ap (λ (m : MyTree). m.0.pin) (c.next_statistic-statistic.ensures.frame.still
+    c.settle.ensures.frame.pin.1
+        ∙ (c.put_at-tried.ensures.frame.pin.1
+        ∙ ap (λ (m : MyTree). m.0.pin) (c.next_statistic-statistic.ensures.frame.still
         ∙ c.count-many.ensures.frame.still)),
   );
   none = c.settle.ensures.frame.none;
@@ -157,7 +203,9 @@ pub returns-clause-deep : goal.returns-clause-deep
 returns-clause-deep c = on_ok c.args.insertion.now.place c.settle.ensures.deep
 
 pub returns-clause-no_split : goal.returns-clause-no_split
-returns-clause-no_split c = on_ok c.args.insertion.now.place (come_unsplit c.put_at-tried.result c.settle.result c.settle.ensures.come)
+returns-clause-no_split c =
+    on_ok c.args.insertion.now.place
+    (come_unsplit c.put_at-tried.result c.settle.result c.settle.ensures.come)
 
 pub next_statistic-statistic-requires-clause-reading : goal.next_statistic-statistic-requires-clause-reading
 next_statistic-statistic-requires-clause-reading c = record {
@@ -166,47 +214,68 @@ next_statistic-statistic-requires-clause-reading c = record {
     ap (λ (m : MyTree). m.0.sizes) c.count-many.ensures.frame.still
         ∙ c.requires.ready.own.1,
   );
-  pinned = ap (λ (m : MyTree). m.0.pin.pinned) c.count-many.ensures.frame.still ∙ c.requires.ready.pinned;
+  pinned = ap (λ (m : MyTree). m.0.pin.pinned) c.count-many.ensures.frame.still
+      ∙ c.requires.ready.pinned;
 }
 
 pub put_at-tried-requires-clause-ready : goal.put_at-tried-requires-clause-ready
 put_at-tried-requires-clause-ready c = record {
   own = (
-    c.next_statistic-statistic.ensures.frame.same.0 ∙ (c.count-many.ensures.frame.same.0 ∙ c.requires.ready.own.0),
-    ap (λ (m : MyTree). m.0.sizes) (c.next_statistic-statistic.ensures.frame.still ∙ c.count-many.ensures.frame.still) ∙ c.requires.ready.own.1,
+    c.next_statistic-statistic.ensures.frame.same.0
+        ∙ (c.count-many.ensures.frame.same.0 ∙ c.requires.ready.own.0),
+    ap (λ (m : MyTree). m.0.sizes) (c.next_statistic-statistic.ensures.frame.still
+        ∙ c.count-many.ensures.frame.still) ∙ c.requires.ready.own.1,
   );
-  pinned = ap (λ (m : MyTree). m.0.pin.pinned) (c.next_statistic-statistic.ensures.frame.still ∙ c.count-many.ensures.frame.still)
+  pinned = ap (λ (m : MyTree). m.0.pin.pinned) (c.next_statistic-statistic.ensures.frame.still
+      ∙ c.count-many.ensures.frame.still)
       ∙ c.requires.ready.pinned;
-  number = subst (λ (m : MyTree). 0 < m.0.upper.number) (sym (c.next_statistic-statistic.ensures.frame.still
+  number = subst
+      (λ (m : MyTree). 0 < m.0.upper.number) (sym (c.next_statistic-statistic.ensures.frame.still
       ∙ c.count-many.ensures.frame.still)) c.requires.ready.number;
-  none = held_looked c.args.tree.now.space.table.shared.key.rows c.args.pass.now.kept c.next_statistic-statistic.new.pass.kept
+  none = held_looked c.args.tree.now.space.table.shared.key.rows c.args.pass.now.kept
+      c.next_statistic-statistic.new.pass.kept
       c.args.pass.now.seat.me
-      c.next_statistic-statistic.new.pass.seat.me [] c.requires.ready.none (c.next_statistic-statistic.ensures.frame.kept ∙ c.count-many.ensures.frame.kept)
-      (ap (λ (m : MyTree). m.0.claims) (c.next_statistic-statistic.ensures.frame.still ∙ c.count-many.ensures.frame.still))
-      (ap (λ (m : MyTree). m.0.most) (c.next_statistic-statistic.ensures.frame.still ∙ c.count-many.ensures.frame.still));
+      c.next_statistic-statistic.new.pass.seat.me [] c.requires.ready.none
+      (c.next_statistic-statistic.ensures.frame.kept ∙ c.count-many.ensures.frame.kept)
+      (ap (λ (m : MyTree). m.0.claims) (c.next_statistic-statistic.ensures.frame.still
+      ∙ c.count-many.ensures.frame.still))
+      (ap (λ (m : MyTree). m.0.most) (c.next_statistic-statistic.ensures.frame.still
+      ∙ c.count-many.ensures.frame.still));
 }
 
 pub put_at-tried-requires-clause-place : goal.put_at-tried-requires-clause-place
-put_at-tried-requires-clause-place c = subst (λ (m : MyTree). IsPlace (map pair (first_note m.0.upper.notes).objects)
+put_at-tried-requires-clause-place c = subst
+    (λ (m : MyTree). IsPlace (map pair (first_note m.0.upper.notes).objects)
     (key_in c.args.insertion.now.keyed) c.args.insertion.now.place)
-    (sym (c.next_statistic-statistic.ensures.frame.still ∙ c.count-many.ensures.frame.still)) c.requires.place
+    (sym (c.next_statistic-statistic.ensures.frame.still ∙ c.count-many.ensures.frame.still))
+    c.requires.place
 
 pub put_at-tried-requires-clause-about : goal.put_at-tried-requires-clause-about
-put_at-tried-requires-clause-about c = subst (λ (m : MyTree). HasKey (first_note m.0.upper.notes).place.span (key_in c.args.insertion.now.keyed))
-    (sym (c.next_statistic-statistic.ensures.frame.still ∙ c.count-many.ensures.frame.still)) c.requires.looking.about
+put_at-tried-requires-clause-about c = subst
+    (λ (m : MyTree).
+    HasKey (first_note m.0.upper.notes).place.span (key_in c.args.insertion.now.keyed))
+    (sym (c.next_statistic-statistic.ensures.frame.still ∙ c.count-many.ensures.frame.still))
+    c.requires.looking.about
 
 pub put_at-tried-requires-clause-room : goal.put_at-tried-requires-clause-room
-put_at-tried-requires-clause-room c = subst (λ n. IsRoom c.args.insertion.now.place c.count-many.result n) (sym (tuned_on c.args.tree.now).leaf)
+put_at-tried-requires-clause-room c = subst
+    (λ n. IsRoom c.args.insertion.now.place c.count-many.result n)
+    (sym (tuned_on c.args.tree.now).leaf)
     (c.has_room.ensures.0 c.if-not-has_room.false)
 
 pub settle-requires-clause-ready : goal.settle-requires-clause-ready
 settle-requires-clause-ready c = record {
   own = (
-    c.put_at-tried.ensures.frame.same.0 ∙ (c.next_statistic-statistic.ensures.frame.same.0 ∙ (c.count-many.ensures.frame.same.0 ∙ c.requires.ready.own.0)),
-    c.put_at-tried.ensures.frame.pin.0 ∙ (ap (λ (m : MyTree). m.0.sizes) (c.next_statistic-statistic.ensures.frame.still ∙ c.count-many.ensures.frame.still) ∙ c.requires.ready.own.1),
+    c.put_at-tried.ensures.frame.same.0
+        ∙ (c.next_statistic-statistic.ensures.frame.same.0
+        ∙ (c.count-many.ensures.frame.same.0 ∙ c.requires.ready.own.0)),
+    c.put_at-tried.ensures.frame.pin.0
+        ∙ (ap (λ (m : MyTree). m.0.sizes) (c.next_statistic-statistic.ensures.frame.still
+        ∙ c.count-many.ensures.frame.still) ∙ c.requires.ready.own.1),
   );
   pinned = ap (λ (p : Pin). p.pinned) c.put_at-tried.ensures.frame.pin.1
-      ∙ (ap (λ (m : MyTree). m.0.pin.pinned) (c.next_statistic-statistic.ensures.frame.still ∙ c.count-many.ensures.frame.still) ∙ c.requires.ready.pinned);
+      ∙ (ap (λ (m : MyTree). m.0.pin.pinned) (c.next_statistic-statistic.ensures.frame.still
+      ∙ c.count-many.ensures.frame.still) ∙ c.requires.ready.pinned);
   number = search rules;
   none = c.put_at-tried.ensures.frame.none;
 }
@@ -221,108 +290,162 @@ make_room-requires-clause-ready c = record {
     ap (λ (m : MyTree). m.0.sizes) c.count-many.ensures.frame.still
         ∙ c.requires.ready.own.1,
   );
-  pinned = ap (λ (m : MyTree). m.0.pin.pinned) c.count-many.ensures.frame.still ∙ c.requires.ready.pinned;
-  number = subst (λ (m : MyTree). 0 < m.0.upper.number) (sym c.count-many.ensures.frame.still) c.requires.ready.number;
-  none = held_looked c.args.tree.now.space.table.shared.key.rows c.args.pass.now.kept c.count-many.new.pass.kept c.args.pass.now.seat.me
-      c.count-many.new.pass.seat.me [] c.requires.ready.none c.count-many.ensures.frame.kept (ap (λ (m : MyTree). m.0.claims) c.count-many.ensures.frame.still)
+  pinned = ap (λ (m : MyTree). m.0.pin.pinned) c.count-many.ensures.frame.still
+      ∙ c.requires.ready.pinned;
+  number = subst
+      (λ (m : MyTree). 0 < m.0.upper.number) (sym c.count-many.ensures.frame.still)
+      c.requires.ready.number;
+  none = held_looked c.args.tree.now.space.table.shared.key.rows c.args.pass.now.kept
+      c.count-many.new.pass.kept c.args.pass.now.seat.me
+      c.count-many.new.pass.seat.me [] c.requires.ready.none c.count-many.ensures.frame.kept (ap
+      (λ (m : MyTree). m.0.claims) c.count-many.ensures.frame.still)
       (ap (λ (m : MyTree). m.0.most) c.count-many.ensures.frame.still);
 }
 
 pub make_room-requires-clause-looking : goal.make_room-requires-clause-looking
 make_room-requires-clause-looking c = (
   (key_in c.args.insertion.now.keyed),
-  subst (λ (m : MyTree). IsLooking c.args.tree.now.space.table.shared.key m.0.upper (key_in c.args.insertion.now.keyed) c.args.cursor)
+  subst (λ (m : MyTree).
+      IsLooking c.args.tree.now.space.table.shared.key m.0.upper (key_in c.args.insertion.now.keyed)
+      c.args.cursor)
       (sym c.count-many.ensures.frame.still) c.requires.looking,
 )
 
 pub make_room-requires-clause-many : goal.make_room-requires-clause-many
 make_room-requires-clause-many c = (
-  subst (λ (m : MyTree). c.count-many.result ≡ length (first_note m.0.upper.notes).objects) (sym c.count-many.ensures.frame.still)
-      (c.count-many.ensures.count (first_note c.args.pass.now.seat.me.0.upper.notes) c.requires.looking.readable),
-  no_less c.args.insertion.now.place c.count-many.result c.args.tree.now.tuning.leaf (λ room. no_room c.has_room.result c.if-not-has_room.true (c.has_room.ensures.1 room)),
+  subst (λ (m : MyTree). c.count-many.result
+      ≡ length (first_note m.0.upper.notes).objects) (sym c.count-many.ensures.frame.still)
+      (c.count-many.ensures.count (first_note c.args.pass.now.seat.me.0.upper.notes)
+      c.requires.looking.readable),
+  no_less c.args.insertion.now.place c.count-many.result c.args.tree.now.tuning.leaf
+      (λ room. no_room c.has_room.result c.if-not-has_room.true (c.has_room.ensures.1 room)),
 )
 
 pub returns-then-not-has_room-clause-tried : goal.returns-then-not-has_room-clause-tried
-returns-then-not-has_room-clause-tried c = subst (λ (m : MyTree). IsFurther m.0.upper c.make_room.new.pass.seat.me.0.upper × IsKnown
-    c.args.tree.now.space.table.shared.key c.make_room.new.pass.seat.me.0.upper) c.count-many.ensures.frame.still
+returns-then-not-has_room-clause-tried c = subst
+    (λ (m : MyTree). IsFurther m.0.upper c.make_room.new.pass.seat.me.0.upper × IsKnown
+    c.args.tree.now.space.table.shared.key c.make_room.new.pass.seat.me.0.upper)
+    c.count-many.ensures.frame.still
     c.make_room.ensures.further
 
 pub returns-then-not-has_room-clause-deep : goal.returns-then-not-has_room-clause-deep
-returns-then-not-has_room-clause-deep c = no_place _ c.args.insertion.now.place c.count-many.result c.args.tree.now.tuning.leaf (λ room. no_room c.has_room.result
+returns-then-not-has_room-clause-deep c =
+    no_place _ c.args.insertion.now.place c.count-many.result c.args.tree.now.tuning.leaf
+    (λ room. no_room c.has_room.result
     c.if-not-has_room.true (c.has_room.ensures.1 room))
 
 pub returns-then-not-has_room-clause-no_split : goal.returns-then-not-has_room-clause-no_split
-returns-then-not-has_room-clause-no_split c = no_place _ c.args.insertion.now.place c.count-many.result c.args.tree.now.tuning.leaf
+returns-then-not-has_room-clause-no_split c =
+    no_place _ c.args.insertion.now.place c.count-many.result c.args.tree.now.tuning.leaf
     (λ room. no_room c.has_room.result c.if-not-has_room.true (c.has_room.ensures.1 room))
 
 pub put_at-tried-requires-clause-target : goal.put_at-tried-requires-clause-target
-put_at-tried-requires-clause-target c = let z = c.args.tree.now.space.table.shared.key in let u = c.args.pass.now.seat.me.0.upper in
-    let same = sym (c.next_statistic-statistic.ensures.frame.still ∙ c.count-many.ensures.frame.still) in record {
-      leaf = let most = (tuned_on c.args.tree.now).allowed.most_leaf in let leaf = (tuned_on c.args.tree.now).leaf in omega arith;
-      shown = subst (λ (m : MyTree). IsShownLast z m.0.upper c.args.cursor.base) same (shown_last z u _ c.args.cursor c.requires.looking);
-      at = subst (λ (m : MyTree). IsAtCursor z (first_note m.0.upper.notes) c.args.cursor) same c.requires.looking.at;
-      many_are = subst (λ (m : MyTree). c.count-many.result ≡ length (first_note m.0.upper.notes).objects) same
+put_at-tried-requires-clause-target c = let z = c.args.tree.now.space.table.shared.key in
+    let u = c.args.pass.now.seat.me.0.upper in
+    let same = sym (c.next_statistic-statistic.ensures.frame.still
+    ∙ c.count-many.ensures.frame.still) in record {
+      leaf = let most = (tuned_on c.args.tree.now).allowed.most_leaf in
+          let leaf = (tuned_on c.args.tree.now).leaf in omega arith;
+      shown = subst
+          (λ (m : MyTree). IsShownLast z m.0.upper c.args.cursor.base) same
+          (shown_last z u _ c.args.cursor c.requires.looking);
+      at = subst
+          (λ (m : MyTree). IsAtCursor z (first_note m.0.upper.notes) c.args.cursor) same
+          c.requires.looking.at;
+      many_are = subst (λ (m : MyTree). c.count-many.result
+          ≡ length (first_note m.0.upper.notes).objects) same
           (c.count-many.ensures.count (first_note u.notes) c.requires.looking.readable);
     }
 
 pub returns-clause-turn : goal.returns-clause-turn
 returns-clause-turn c = record {
-  met_as = settled_met (IsMetAs c.settle.new.course.adapting.last.adapted (met_of c.settle.new.pass.seat.me) c.settle.new.pass.seat.me.0.upper)
+  met_as = settled_met (IsMetAs c.settle.new.course.adapting.last.adapted
+      (met_of c.settle.new.pass.seat.me) c.settle.new.pass.seat.me.0.upper)
       c.put_at-tried.result c.settle.result c.settle.ensures.come c.settle.ensures.met;
-  gone_on = let note = first_note c.args.pass.now.seat.me.0.upper.notes in let k : ℤ = c.next_statistic-statistic.result in
+  gone_on = let note = first_note c.args.pass.now.seat.me.0.upper.notes in
+      let k : ℤ = c.next_statistic-statistic.result in
       settled_on (settling c)
-      (subst (λ (x : ℤ). IsMoved c.args.tree.now.tuning (get_or note.its 1 0) c.args.course.now.adapting.lost x)
-      (sym (to_z-of_z w32 k (let small = c.next_statistic-statistic.type_inv in omega (arith, ints)))) (c.next_statistic-statistic.ensures.moved note
-      (subst (λ (m : MyTree). IsReadable c.args.tree.now.space.table.shared.key m.0.upper c.args.cursor.base note) (sym c.count-many.ensures.frame.still)
+      (subst (λ (x : ℤ).
+      IsMoved c.args.tree.now.tuning (get_or note.its 1 0) c.args.course.now.adapting.lost x)
+      (sym (to_z-of_z w32 k (let small = c.next_statistic-statistic.type_inv in
+      omega (arith, ints)))) (c.next_statistic-statistic.ensures.moved note
+      (subst (λ (m : MyTree).
+      IsReadable c.args.tree.now.space.table.shared.key m.0.upper c.args.cursor.base note)
+      (sym c.count-many.ensures.frame.still)
       c.requires.looking.readable)))
       c.word_of.ensures;
-  counted = settled_paid c.args.course.now.spent c.put_at-tried.new.spent c.settle.new.course.spent c.args.pass.now.seat.me
-      c.next_statistic-statistic.new.pass.seat.me c.put_at-tried.new.pass.seat.me c.settle.new.pass.seat.me
+  counted = settled_paid c.args.course.now.spent c.put_at-tried.new.spent c.settle.new.course.spent
+      c.args.pass.now.seat.me
+      c.next_statistic-statistic.new.pass.seat.me c.put_at-tried.new.pass.seat.me
+      c.settle.new.pass.seat.me
       (c.next_statistic-statistic.ensures.frame.still ∙ c.count-many.ensures.frame.still)
-      (tried_splits _ c.args.tree.now.space.table.shared.key _ _ c.word_of.result c.put_at-tried.result
-      c.next_statistic-statistic.new.pass.seat.me.0.upper c.put_at-tried.new.pass.seat.me.0.upper c.put_at-tried.ensures.put c.put_at-tried.ensures.renewed)
-      c.put_at-tried.ensures.counted c.settle.ensures.counted;
-  found = settled_found c.args.tree.now.space.table.shared.key c.args.tree.now.tuning (to_z w32 (of_z w32 c.next_statistic-statistic.result))
+      (tried_splits _ c.args.tree.now.space.table.shared.key _ _ c.word_of.result
       c.put_at-tried.result
-      c.settle.result c.args.course.now.adapting c.settle.new.course.adapting c.args.pass.now.seat.me c.next_statistic-statistic.new.pass.seat.me
-      c.put_at-tried.new.pass.seat.me c.settle.new.pass.seat.me (c.next_statistic-statistic.ensures.frame.still ∙ c.count-many.ensures.frame.still)
+      c.next_statistic-statistic.new.pass.seat.me.0.upper c.put_at-tried.new.pass.seat.me.0.upper
+      c.put_at-tried.ensures.put c.put_at-tried.ensures.renewed)
+      c.put_at-tried.ensures.counted c.settle.ensures.counted;
+  found = settled_found c.args.tree.now.space.table.shared.key c.args.tree.now.tuning
+      (to_z w32 (of_z w32 c.next_statistic-statistic.result))
+      c.put_at-tried.result
+      c.settle.result c.args.course.now.adapting c.settle.new.course.adapting
+      c.args.pass.now.seat.me c.next_statistic-statistic.new.pass.seat.me
+      c.put_at-tried.new.pass.seat.me c.settle.new.pass.seat.me
+      (c.next_statistic-statistic.ensures.frame.still ∙ c.count-many.ensures.frame.still)
       c.settle.ensures.come c.put_at-tried.ensures.found c.settle.ensures.settled;
-  grown = settled_grown (settling c) (Some (key_in c.args.insertion.now.keyed)) c.requires.looking.listed c.settle.ensures.grows;
-  won = settled_won (settling c) c.requires.looking.listed c.put_at-tried.ensures.won c.settle.ensures.won;
+  grown = settled_grown (settling c) (Some (key_in c.args.insertion.now.keyed))
+      c.requires.looking.listed c.settle.ensures.grows;
+  won = settled_won (settling c) c.requires.looking.listed c.put_at-tried.ensures.won
+      c.settle.ensures.won;
   cut = settled_cut (settling c) (Some (key_in c.args.insertion.now.keyed)) c.settle.ensures.cut;
 }
 
 pub returns-then-not-has_room-clause-turn : goal.returns-then-not-has_room-clause-turn
 returns-then-not-has_room-clause-turn c = record {
   met_as = tt;
-  gone_on = subst (λ (m : MyTree). Waits c.args.course.now.adapting c.make_room.new.course.adapting m.0.upper
+  gone_on = subst
+      (λ (m : MyTree). Waits c.args.course.now.adapting c.make_room.new.course.adapting m.0.upper
       c.make_room.new.pass.seat.me.0.upper)
       c.count-many.ensures.frame.still c.make_room.ensures.waits;
-  counted = subst (λ (m : MyTree). IsPaid c.args.course.now.spent c.make_room.new.course.spent m c.make_room.new.pass.seat.me)
+  counted = subst
+      (λ (m : MyTree).
+      IsPaid c.args.course.now.spent c.make_room.new.course.spent m c.make_room.new.pass.seat.me)
       c.count-many.ensures.frame.still
       c.make_room.ensures.counted;
-  found = subst (λ (m : MyTree). HasStopped {T = Unit {0}} (Err c.make_room.result) m c.make_room.new.pass.seat.me)
+  found = subst
+      (λ (m : MyTree). HasStopped {T =
+      Unit {0}} (Err c.make_room.result) m c.make_room.new.pass.seat.me)
       c.count-many.ensures.frame.still
       c.make_room.ensures.found;
   grown = subst (λ (m : MyTree). IsLooking c.args.tree.now.space.table.shared.key m.0.upper
       (key_in c.args.insertion.now.keyed) c.args.cursor
-      → IsAlone c.args.tree.now.space.table.shared.key m.0.upper → HasGrown {T = Unit {0}} c.args.tree.now.space.table.shared.key (Some
+      → IsAlone c.args.tree.now.space.table.shared.key m.0.upper
+      → HasGrown {T = Unit {0}} c.args.tree.now.space.table.shared.key (Some
       (key_in c.args.insertion.now.keyed))
-      (Err c.make_room.result) m.0.upper c.make_room.new.pass.seat.me.0.upper) c.count-many.ensures.frame.still (c.make_room.ensures.grown
+      (Err c.make_room.result) m.0.upper c.make_room.new.pass.seat.me.0.upper)
+      c.count-many.ensures.frame.still (c.make_room.ensures.grown
       (key_in c.args.insertion.now.keyed))
       c.requires.looking;
   won = subst (λ (m : MyTree). IsLooking c.args.tree.now.space.table.shared.key m.0.upper
       (key_in c.args.insertion.now.keyed) c.args.cursor
-      → IsAlone c.args.tree.now.space.table.shared.key m.0.upper → HasWonAs {T = Unit {0}} (λ _. true) (Err c.make_room.result) m.0.upper
-      c.make_room.new.pass.seat.me.0.upper) c.count-many.ensures.frame.still (c.make_room.ensures.won (key_in c.args.insertion.now.keyed))
+      → IsAlone c.args.tree.now.space.table.shared.key m.0.upper
+      → HasWonAs {T = Unit {0}} (λ _. true) (Err c.make_room.result) m.0.upper
+      c.make_room.new.pass.seat.me.0.upper) c.count-many.ensures.frame.still
+      (c.make_room.ensures.won (key_in c.args.insertion.now.keyed))
       c.requires.looking;
   cut = let z = c.args.tree.now.space.table.shared.key in
       let key = key_in c.args.insertion.now.keyed in let u = c.args.pass.now.seat.me.0.upper in
-      let full = full_for z u c.args.cursor key c.args.insertion.now.place c.count-many.result c.requires.looking c.requires.place
-      (λ room. no_room c.has_room.result c.if-not-has_room.true (c.has_room.ensures.1 (subst (λ n. IsRoom c.args.insertion.now.place c.count-many.result n)
+      let full =
+      full_for z u c.args.cursor key c.args.insertion.now.place c.count-many.result
+      c.requires.looking c.requires.place
+      (λ room. no_room c.has_room.result c.if-not-has_room.true
+      (c.has_room.ensures.1 (subst
+      (λ n. IsRoom c.args.insertion.now.place c.count-many.result n)
       (tuned_on c.args.tree.now).leaf room)))
       (c.count-many.ensures.count (first_note u.notes) c.requires.looking.readable) in
-      subst (λ (m : MyTree). HasCut {T = Unit {0}} (λ _. true) z (Some key) (Err c.make_room.result) m.0.upper c.make_room.new.pass.seat.me.0.upper)
+      subst (λ (m : MyTree). HasCut {T = Unit {0}}
+      (λ _. true) z (Some key) (Err c.make_room.result) m.0.upper
+      c.make_room.new.pass.seat.me.0.upper)
       c.count-many.ensures.frame.still (c.make_room.ensures.cut key
-      (subst (λ (m : MyTree). IsFullFor z (Some key) (first_note m.0.upper.notes)) (sym c.count-many.ensures.frame.still) full));
+      (subst (λ (m : MyTree). IsFullFor z (Some key) (first_note m.0.upper.notes))
+      (sym c.count-many.ensures.frame.still) full));
 }

@@ -25,45 +25,64 @@ use Rattle.ca_replace.proofs.Entries.{held_looked}
 use Rattle.ca_replace.proofs.attempting.remove_there.Goals as goal
 
 pub count-many-requires-clause-readable : goal.count-many-requires-clause-readable
-count-many-requires-clause-readable c = (first_note c.args.pass.now.seat.me.0.upper.notes, c.requires.looking.readable)
+count-many-requires-clause-readable c =
+    (first_note c.args.pass.now.seat.me.0.upper.notes, c.requires.looking.readable)
 
 pub next_statistic-statistic-requires-clause-readable : goal.next_statistic-statistic-requires-clause-readable
 next_statistic-statistic-requires-clause-readable c = (
   first_note c.args.pass.now.seat.me.0.upper.notes,
-  subst (λ (m : MyTree). IsReadable c.args.tree.now.space.table.shared.key m.0.upper c.args.cursor.base (first_note c.args.pass.now.seat.me.0.upper.notes))
+  subst (λ (m : MyTree).
+      IsReadable c.args.tree.now.space.table.shared.key m.0.upper c.args.cursor.base
+      (first_note c.args.pass.now.seat.me.0.upper.notes))
       (sym c.count-many.ensures.frame.still) c.requires.looking.readable,
 )
 
 pub settle-requires-clause-known : goal.settle-requires-clause-known
 settle-requires-clause-known c = known_then c.args.tree.now.space.table.shared.key
-    (λ (u : TreeView). Remove c.args.removal.now.key.now (Some (object_at (Ok c.args.removal.now.at) (first_note u.notes).objects)))
-    c.remove_at-tried.result c.args.pass.now.seat.me.0.upper c.next_statistic-statistic.new.pass.seat.me.0.upper c.remove_at-tried.new.pass.seat.me.0.upper
-    (ap (λ (m : MyTree). m.0.upper) (c.next_statistic-statistic.ensures.frame.still ∙ c.count-many.ensures.frame.still)) c.requires.looking.known
+    (λ (u : TreeView).
+    Remove c.args.removal.now.key.now
+    (Some (object_at (Ok c.args.removal.now.at) (first_note u.notes).objects)))
+    c.remove_at-tried.result c.args.pass.now.seat.me.0.upper
+    c.next_statistic-statistic.new.pass.seat.me.0.upper
+    c.remove_at-tried.new.pass.seat.me.0.upper
+    (ap (λ (m : MyTree). m.0.upper) (c.next_statistic-statistic.ensures.frame.still
+    ∙ c.count-many.ensures.frame.still)) c.requires.looking.known
     c.remove_at-tried.ensures.removed
 
 pub settle-requires-clause-placed : goal.settle-requires-clause-placed
 settle-requires-clause-placed c won = is_new _ c.args.tree.now.space.table.shared.key
     (Del c.args.removal.now.key.now) c.word_of.result c.remove_at-tried.new.placed
-    c.remove_at-tried.result c.next_statistic-statistic.new.pass.seat.me.0.upper c.remove_at-tried.new.pass.seat.me.0.upper
-    (subst (λ (m : MyTree). HasKey (first_note m.0.upper.notes).place.span c.args.removal.now.key.now)
-    (sym (c.next_statistic-statistic.ensures.frame.still ∙ c.count-many.ensures.frame.still)) c.requires.looking.about) c.remove_at-tried.ensures.renewed
+    c.remove_at-tried.result c.next_statistic-statistic.new.pass.seat.me.0.upper
+    c.remove_at-tried.new.pass.seat.me.0.upper
+    (subst (λ (m : MyTree).
+    HasKey (first_note m.0.upper.notes).place.span c.args.removal.now.key.now)
+    (sym (c.next_statistic-statistic.ensures.frame.still ∙ c.count-many.ensures.frame.still))
+    c.requires.looking.about) c.remove_at-tried.ensures.renewed
     c.remove_at-tried.ensures.placed won
 
 pub returns-clause-tried : goal.returns-clause-tried
 returns-clause-tried c = settled_tried c.args.tree.now.space.table.shared.key
-    (λ (u : TreeView). Remove c.args.removal.now.key.now (Some (object_at (Ok c.args.removal.now.at) (first_note u.notes).objects)))
-    c.remove_at-tried.result c.settle.result c.args.pass.now.seat.me.0.upper c.next_statistic-statistic.new.pass.seat.me.0.upper
+    (λ (u : TreeView).
+    Remove c.args.removal.now.key.now
+    (Some (object_at (Ok c.args.removal.now.at) (first_note u.notes).objects)))
+    c.remove_at-tried.result c.settle.result c.args.pass.now.seat.me.0.upper
+    c.next_statistic-statistic.new.pass.seat.me.0.upper
     c.remove_at-tried.new.pass.seat.me.0.upper c.settle.new.pass.seat.me.0.upper
-    (ap (λ (m : MyTree). m.0.upper) (c.next_statistic-statistic.ensures.frame.still ∙ c.count-many.ensures.frame.still)) c.settle.ensures.come
+    (ap (λ (m : MyTree). m.0.upper) (c.next_statistic-statistic.ensures.frame.still
+    ∙ c.count-many.ensures.frame.still)) c.settle.ensures.come
     c.requires.looking.known c.remove_at-tried.ensures.removed c.settle.ensures.further
 
 -- The exchange and what followed it.
-abbrev settling : (c : goal.After-settle) → IsSettling c.args.tree.now.space.table.shared.key c.args.tree.now.tuning c.remove_at-tried.result c.settle.result
-    c.args.course.now.adapting c.settle.new.course.adapting c.args.pass.now.seat.me c.next_statistic-statistic.new.pass.seat.me
+abbrev settling : (c : goal.After-settle)
+    → IsSettling c.args.tree.now.space.table.shared.key c.args.tree.now.tuning
+    c.remove_at-tried.result c.settle.result
+    c.args.course.now.adapting c.settle.new.course.adapting c.args.pass.now.seat.me
+    c.next_statistic-statistic.new.pass.seat.me
     c.remove_at-tried.new.pass.seat.me c.settle.new.pass.seat.me
 settling c = record {
   event = Remove c.args.removal.now.key.now
-      (Some (object_at (Ok c.args.removal.now.at) (first_note c.next_statistic-statistic.new.pass.seat.me.0.upper.notes).objects));
+      (Some (object_at (Ok c.args.removal.now.at)
+      (first_note c.next_statistic-statistic.new.pass.seat.me.0.upper.notes).objects));
   edit = Del c.args.removal.now.key.now;
   statistic = to_z w32 (of_z w32 c.next_statistic-statistic.result);
   word = c.word_of.result;
@@ -78,19 +97,32 @@ settling c = record {
 pub returns-clause-frame : goal.returns-clause-frame
 returns-clause-frame c = record {
   same = (
-    c.settle.ensures.frame.same.0 ∙ (c.remove_at-tried.ensures.frame.same.0 ∙ (c.next_statistic-statistic.ensures.frame.same.0 ∙ c.count-many.ensures.frame.same.0)),
-    c.settle.ensures.frame.same.1 ∙ (c.remove_at-tried.ensures.frame.same.1 ∙ (c.next_statistic-statistic.ensures.frame.same.1 ∙ c.count-many.ensures.frame.same.1)),
+    c.settle.ensures.frame.same.0
+        ∙ (c.remove_at-tried.ensures.frame.same.0
+        ∙ (c.next_statistic-statistic.ensures.frame.same.0 ∙ c.count-many.ensures.frame.same.0)),
+    c.settle.ensures.frame.same.1
+        ∙ (c.remove_at-tried.ensures.frame.same.1
+        ∙ (c.next_statistic-statistic.ensures.frame.same.1 ∙ c.count-many.ensures.frame.same.1)),
   );
-  number = c.settle.ensures.frame.number ∙ (c.remove_at-tried.ensures.frame.number ∙ (c.next_statistic-statistic.ensures.frame.number
+  number = c.settle.ensures.frame.number
+      ∙ (c.remove_at-tried.ensures.frame.number ∙ (c.next_statistic-statistic.ensures.frame.number
       ∙ c.count-many.ensures.frame.number));
-  tally = λ h. c.settle.ensures.frame.tally (c.remove_at-tried.ensures.frame.tally (tallied_as c.args.pass.now.tally c.next_statistic-statistic.new.pass.tally
+  tally = λ h.
+      c.settle.ensures.frame.tally
+      (c.remove_at-tried.ensures.frame.tally
+      (tallied_as c.args.pass.now.tally c.next_statistic-statistic.new.pass.tally
       c.args.pass.now.seat.me.0.upper c.next_statistic-statistic.new.pass.seat.me.0.upper
       (c.next_statistic-statistic.ensures.frame.tally ∙ c.count-many.ensures.frame.tally)
-      (ap (λ (m : MyTree). m.0.upper) (c.next_statistic-statistic.ensures.frame.still ∙ c.count-many.ensures.frame.still)) h));
+      (ap (λ (m : MyTree). m.0.upper) (c.next_statistic-statistic.ensures.frame.still
+      ∙ c.count-many.ensures.frame.still)) h));
   pin = (
-    c.settle.ensures.frame.pin.0 ∙ (c.remove_at-tried.ensures.frame.pin.0 ∙ ap (λ (m : MyTree). m.0.sizes) (c.next_statistic-statistic.ensures.frame.still
+    c.settle.ensures.frame.pin.0
+        ∙ (c.remove_at-tried.ensures.frame.pin.0
+        ∙ ap (λ (m : MyTree). m.0.sizes) (c.next_statistic-statistic.ensures.frame.still
         ∙ c.count-many.ensures.frame.still)),
-    c.settle.ensures.frame.pin.1 ∙ (c.remove_at-tried.ensures.frame.pin.1 ∙ ap (λ (m : MyTree). m.0.pin) (c.next_statistic-statistic.ensures.frame.still
+    c.settle.ensures.frame.pin.1
+        ∙ (c.remove_at-tried.ensures.frame.pin.1
+        ∙ ap (λ (m : MyTree). m.0.pin) (c.next_statistic-statistic.ensures.frame.still
         ∙ c.count-many.ensures.frame.still)),
   );
   none = c.settle.ensures.frame.none;
@@ -103,80 +135,122 @@ next_statistic-statistic-requires-clause-reading c = record {
     ap (λ (m : MyTree). m.0.sizes) c.count-many.ensures.frame.still
         ∙ c.requires.ready.own.1,
   );
-  pinned = ap (λ (m : MyTree). m.0.pin.pinned) c.count-many.ensures.frame.still ∙ c.requires.ready.pinned;
+  pinned = ap (λ (m : MyTree). m.0.pin.pinned) c.count-many.ensures.frame.still
+      ∙ c.requires.ready.pinned;
 }
 
 pub remove_at-tried-requires-clause-ready : goal.remove_at-tried-requires-clause-ready
 remove_at-tried-requires-clause-ready c = record {
   own = (
-    c.next_statistic-statistic.ensures.frame.same.0 ∙ (c.count-many.ensures.frame.same.0 ∙ c.requires.ready.own.0),
-    ap (λ (m : MyTree). m.0.sizes) (c.next_statistic-statistic.ensures.frame.still ∙ c.count-many.ensures.frame.still) ∙ c.requires.ready.own.1,
+    c.next_statistic-statistic.ensures.frame.same.0
+        ∙ (c.count-many.ensures.frame.same.0 ∙ c.requires.ready.own.0),
+    ap (λ (m : MyTree). m.0.sizes) (c.next_statistic-statistic.ensures.frame.still
+        ∙ c.count-many.ensures.frame.still) ∙ c.requires.ready.own.1,
   );
-  pinned = ap (λ (m : MyTree). m.0.pin.pinned) (c.next_statistic-statistic.ensures.frame.still ∙ c.count-many.ensures.frame.still)
+  pinned = ap (λ (m : MyTree). m.0.pin.pinned) (c.next_statistic-statistic.ensures.frame.still
+      ∙ c.count-many.ensures.frame.still)
       ∙ c.requires.ready.pinned;
-  number = subst (λ (m : MyTree). 0 < m.0.upper.number) (sym (c.next_statistic-statistic.ensures.frame.still
+  number = subst
+      (λ (m : MyTree). 0 < m.0.upper.number) (sym (c.next_statistic-statistic.ensures.frame.still
       ∙ c.count-many.ensures.frame.still)) c.requires.ready.number;
-  none = held_looked c.args.tree.now.space.table.shared.key.rows c.args.pass.now.kept c.next_statistic-statistic.new.pass.kept
+  none = held_looked c.args.tree.now.space.table.shared.key.rows c.args.pass.now.kept
+      c.next_statistic-statistic.new.pass.kept
       c.args.pass.now.seat.me
-      c.next_statistic-statistic.new.pass.seat.me [] c.requires.ready.none (c.next_statistic-statistic.ensures.frame.kept ∙ c.count-many.ensures.frame.kept)
-      (ap (λ (m : MyTree). m.0.claims) (c.next_statistic-statistic.ensures.frame.still ∙ c.count-many.ensures.frame.still))
-      (ap (λ (m : MyTree). m.0.most) (c.next_statistic-statistic.ensures.frame.still ∙ c.count-many.ensures.frame.still));
+      c.next_statistic-statistic.new.pass.seat.me [] c.requires.ready.none
+      (c.next_statistic-statistic.ensures.frame.kept ∙ c.count-many.ensures.frame.kept)
+      (ap (λ (m : MyTree). m.0.claims) (c.next_statistic-statistic.ensures.frame.still
+      ∙ c.count-many.ensures.frame.still))
+      (ap (λ (m : MyTree). m.0.most) (c.next_statistic-statistic.ensures.frame.still
+      ∙ c.count-many.ensures.frame.still));
 }
 
 pub remove_at-tried-requires-clause-place : goal.remove_at-tried-requires-clause-place
-remove_at-tried-requires-clause-place c = subst (λ (m : MyTree). IsPlace (map pair (first_note m.0.upper.notes).objects) c.args.removal.now.key.now (Ok c.args.removal.now.at))
-    (sym (c.next_statistic-statistic.ensures.frame.still ∙ c.count-many.ensures.frame.still)) c.requires.place
+remove_at-tried-requires-clause-place c = subst
+    (λ (m : MyTree).
+    IsPlace (map pair (first_note m.0.upper.notes).objects) c.args.removal.now.key.now
+    (Ok c.args.removal.now.at))
+    (sym (c.next_statistic-statistic.ensures.frame.still ∙ c.count-many.ensures.frame.still))
+    c.requires.place
 
 pub remove_at-tried-requires-clause-about : goal.remove_at-tried-requires-clause-about
-remove_at-tried-requires-clause-about c = subst (λ (m : MyTree). HasKey (first_note m.0.upper.notes).place.span c.args.removal.now.key.now)
-    (sym (c.next_statistic-statistic.ensures.frame.still ∙ c.count-many.ensures.frame.still)) c.requires.looking.about
+remove_at-tried-requires-clause-about c = subst
+    (λ (m : MyTree). HasKey (first_note m.0.upper.notes).place.span c.args.removal.now.key.now)
+    (sym (c.next_statistic-statistic.ensures.frame.still ∙ c.count-many.ensures.frame.still))
+    c.requires.looking.about
 
 pub settle-requires-clause-ready : goal.settle-requires-clause-ready
 settle-requires-clause-ready c = record {
   own = (
-    c.remove_at-tried.ensures.frame.same.0 ∙ (c.next_statistic-statistic.ensures.frame.same.0 ∙ (c.count-many.ensures.frame.same.0 ∙ c.requires.ready.own.0)),
-    c.remove_at-tried.ensures.frame.pin.0 ∙ (ap (λ (m : MyTree). m.0.sizes) (c.next_statistic-statistic.ensures.frame.still ∙ c.count-many.ensures.frame.still)
+    c.remove_at-tried.ensures.frame.same.0
+        ∙ (c.next_statistic-statistic.ensures.frame.same.0
+        ∙ (c.count-many.ensures.frame.same.0 ∙ c.requires.ready.own.0)),
+    c.remove_at-tried.ensures.frame.pin.0
+        ∙ (ap (λ (m : MyTree). m.0.sizes) (c.next_statistic-statistic.ensures.frame.still
+        ∙ c.count-many.ensures.frame.still)
         ∙ c.requires.ready.own.1),
   );
   pinned = ap (λ (p : Pin). p.pinned) c.remove_at-tried.ensures.frame.pin.1
-      ∙ (ap (λ (m : MyTree). m.0.pin.pinned) (c.next_statistic-statistic.ensures.frame.still ∙ c.count-many.ensures.frame.still) ∙ c.requires.ready.pinned);
+      ∙ (ap (λ (m : MyTree). m.0.pin.pinned) (c.next_statistic-statistic.ensures.frame.still
+      ∙ c.count-many.ensures.frame.still) ∙ c.requires.ready.pinned);
   number = search rules;
   none = c.remove_at-tried.ensures.frame.none;
 }
 
 pub remove_at-tried-requires-clause-target : goal.remove_at-tried-requires-clause-target
-remove_at-tried-requires-clause-target c = let z = c.args.tree.now.space.table.shared.key in let u = c.args.pass.now.seat.me.0.upper in
-    let same = sym (c.next_statistic-statistic.ensures.frame.still ∙ c.count-many.ensures.frame.still) in record {
-      leaf = let most = (tuned_on c.args.tree.now).allowed.most_leaf in let leaf = (tuned_on c.args.tree.now).leaf in omega arith;
-      shown = subst (λ (m : MyTree). IsShownLast z m.0.upper c.args.cursor.base) same (shown_last z u _ c.args.cursor c.requires.looking);
-      at = subst (λ (m : MyTree). IsAtCursor z (first_note m.0.upper.notes) c.args.cursor) same c.requires.looking.at;
-      many_are = subst (λ (m : MyTree). c.count-many.result ≡ length (first_note m.0.upper.notes).objects) same
+remove_at-tried-requires-clause-target c = let z = c.args.tree.now.space.table.shared.key in
+    let u = c.args.pass.now.seat.me.0.upper in
+    let same = sym (c.next_statistic-statistic.ensures.frame.still
+    ∙ c.count-many.ensures.frame.still) in record {
+      leaf = let most = (tuned_on c.args.tree.now).allowed.most_leaf in
+          let leaf = (tuned_on c.args.tree.now).leaf in omega arith;
+      shown = subst
+          (λ (m : MyTree). IsShownLast z m.0.upper c.args.cursor.base) same
+          (shown_last z u _ c.args.cursor c.requires.looking);
+      at = subst
+          (λ (m : MyTree). IsAtCursor z (first_note m.0.upper.notes) c.args.cursor) same
+          c.requires.looking.at;
+      many_are = subst (λ (m : MyTree). c.count-many.result
+          ≡ length (first_note m.0.upper.notes).objects) same
           (c.count-many.ensures.count (first_note u.notes) c.requires.looking.readable);
     }
 
 pub returns-clause-turn : goal.returns-clause-turn
 returns-clause-turn c = record {
-  met_as = settled_met (IsMetAs c.settle.new.course.adapting.last.adapted (met_of c.settle.new.pass.seat.me) c.settle.new.pass.seat.me.0.upper)
+  met_as = settled_met (IsMetAs c.settle.new.course.adapting.last.adapted
+      (met_of c.settle.new.pass.seat.me) c.settle.new.pass.seat.me.0.upper)
       c.remove_at-tried.result c.settle.result c.settle.ensures.come c.settle.ensures.met;
-  gone_on = let note = first_note c.args.pass.now.seat.me.0.upper.notes in let k : ℤ = c.next_statistic-statistic.result in
+  gone_on = let note = first_note c.args.pass.now.seat.me.0.upper.notes in
+      let k : ℤ = c.next_statistic-statistic.result in
       settled_on (settling c)
-      (subst (λ (x : ℤ). IsMoved c.args.tree.now.tuning (get_or note.its 1 0) c.args.course.now.adapting.lost x)
-      (sym (to_z-of_z w32 k (let small = c.next_statistic-statistic.type_inv in omega (arith, ints)))) (c.next_statistic-statistic.ensures.moved note
-      (subst (λ (m : MyTree). IsReadable c.args.tree.now.space.table.shared.key m.0.upper c.args.cursor.base note) (sym c.count-many.ensures.frame.still)
+      (subst (λ (x : ℤ).
+      IsMoved c.args.tree.now.tuning (get_or note.its 1 0) c.args.course.now.adapting.lost x)
+      (sym (to_z-of_z w32 k (let small = c.next_statistic-statistic.type_inv in
+      omega (arith, ints)))) (c.next_statistic-statistic.ensures.moved note
+      (subst (λ (m : MyTree).
+      IsReadable c.args.tree.now.space.table.shared.key m.0.upper c.args.cursor.base note)
+      (sym c.count-many.ensures.frame.still)
       c.requires.looking.readable)))
       c.word_of.ensures;
-  counted = settled_paid c.args.course.now.spent c.remove_at-tried.new.spent c.settle.new.course.spent c.args.pass.now.seat.me
-      c.next_statistic-statistic.new.pass.seat.me c.remove_at-tried.new.pass.seat.me c.settle.new.pass.seat.me
+  counted = settled_paid c.args.course.now.spent c.remove_at-tried.new.spent
+      c.settle.new.course.spent c.args.pass.now.seat.me
+      c.next_statistic-statistic.new.pass.seat.me c.remove_at-tried.new.pass.seat.me
+      c.settle.new.pass.seat.me
       (c.next_statistic-statistic.ensures.frame.still ∙ c.count-many.ensures.frame.still)
-      (tried_splits _ c.args.tree.now.space.table.shared.key _ _ c.word_of.result c.remove_at-tried.result
-      c.next_statistic-statistic.new.pass.seat.me.0.upper c.remove_at-tried.new.pass.seat.me.0.upper c.remove_at-tried.ensures.removed c.remove_at-tried.ensures.renewed)
-      c.remove_at-tried.ensures.counted c.settle.ensures.counted;
-  found = settled_found c.args.tree.now.space.table.shared.key c.args.tree.now.tuning (to_z w32 (of_z w32 c.next_statistic-statistic.result))
+      (tried_splits _ c.args.tree.now.space.table.shared.key _ _ c.word_of.result
       c.remove_at-tried.result
-      c.settle.result c.args.course.now.adapting c.settle.new.course.adapting c.args.pass.now.seat.me c.next_statistic-statistic.new.pass.seat.me
-      c.remove_at-tried.new.pass.seat.me c.settle.new.pass.seat.me (c.next_statistic-statistic.ensures.frame.still ∙ c.count-many.ensures.frame.still)
+      c.next_statistic-statistic.new.pass.seat.me.0.upper c.remove_at-tried.new.pass.seat.me.0.upper
+      c.remove_at-tried.ensures.removed c.remove_at-tried.ensures.renewed)
+      c.remove_at-tried.ensures.counted c.settle.ensures.counted;
+  found = settled_found c.args.tree.now.space.table.shared.key c.args.tree.now.tuning
+      (to_z w32 (of_z w32 c.next_statistic-statistic.result))
+      c.remove_at-tried.result
+      c.settle.result c.args.course.now.adapting c.settle.new.course.adapting
+      c.args.pass.now.seat.me c.next_statistic-statistic.new.pass.seat.me
+      c.remove_at-tried.new.pass.seat.me c.settle.new.pass.seat.me
+      (c.next_statistic-statistic.ensures.frame.still ∙ c.count-many.ensures.frame.still)
       c.settle.ensures.come c.remove_at-tried.ensures.found c.settle.ensures.settled;
   grown = settled_grown (settling c) None c.requires.looking.listed c.settle.ensures.grows;
-  won = settled_won (settling c) c.requires.looking.listed c.remove_at-tried.ensures.won c.settle.ensures.won;
+  won = settled_won (settling c) c.requires.looking.listed c.remove_at-tried.ensures.won
+      c.settle.ensures.won;
   cut = settled_cut (settling c) None c.settle.ensures.cut;
 }

@@ -28,14 +28,18 @@ loop-come-init g c = record {
   number = refl;
   resting = c.requires.resting;
   further = no_further c.args.pass.now.seat.me.0.upper;
-  counted = none_paid c.args.course.now.spent c.args.pass.now.seat.me c.args.pass.now.seat.me refl refl;
+  counted = none_paid c.args.course.now.spent c.args.pass.now.seat.me c.args.pass.now.seat.me refl
+      refl;
   looks = omega arith;
   lags = refl;
-  unspent = let none = c.requires.none in let some = c.requires.budget in omega (arith, none.0, none.1, none.2);
-  waits = idle_waits c.args.course.now.adapting c.args.pass.now.seat.me.0.upper c.args.pass.now.seat.me.0.upper (refl, refl);
+  unspent = let none = c.requires.none in let some = c.requires.budget in
+      omega (arith, none.0, none.1, none.2);
+  waits = idle_waits c.args.course.now.adapting c.args.pass.now.seat.me.0.upper
+      c.args.pass.now.seat.me.0.upper (refl, refl);
   won = λ _. refl;
   waited = λ _. inl (refl, refl);
-  full = none_full c.args.tree.now.space.table.shared.key (g.A.Attempt.adds c.args.order.now.what.now) c.args.pass.now.seat.me.0.upper.cuts
+  full = none_full c.args.tree.now.space.table.shared.key
+      (g.A.Attempt.adds c.args.order.now.what.now) c.args.pass.now.seat.me.0.upper.cuts
       c.args.pass.now.seat.me.0.upper.cuts refl;
   worn = refl;
   first = inl (refl, refl);
@@ -45,185 +49,301 @@ pub turns-come-requires-clause-resting : goal.turns-come-requires-clause-resting
 turns-come-requires-clause-resting g c = c.loop-come.invariant.resting
 
 pub loop-come-smaller : goal.loop-come-smaller
-loop-come-smaller g c = let again = c.in_default.ensures.again refl in let i = c.loop-come.invariant in let turns = c.turns-come.ensures.counted in
-    let so_far = paid_both c.args.course.now.spent c.loop-come.course.spent c.turns-come.new.course.spent c.args.pass.now.seat.me c.loop-come.pass.seat.me
+loop-come-smaller g c = let again = c.in_default.ensures.again refl in
+    let i = c.loop-come.invariant in let turns = c.turns-come.ensures.counted in
+    let so_far =
+    paid_both c.args.course.now.spent c.loop-come.course.spent c.turns-come.new.course.spent
+    c.args.pass.now.seat.me c.loop-come.pass.seat.me
     c.turns-come.new.pass.seat.me i.counted turns in
-    nearer c.args.order.now.budget (total c.loop-come.course.spent) (total c.turns-come.new.course.spent) (total c.refill.new.spent) (vec_len c.loop-come.pass.kept.rows)
+    nearer c.args.order.now.budget (total c.loop-come.course.spent)
+    (total c.turns-come.new.course.spent) (total c.refill.new.spent)
+    (vec_len c.loop-come.pass.kept.rows)
     (vec_len c.refill.new.pass.kept.rows)
-    (spends_more c.args.course.now.spent c.loop-come.course.spent c.turns-come.new.course.spent c.args.pass.now.seat.me c.loop-come.pass.seat.me c.turns-come.new.pass.seat.me
+    (spends_more c.args.course.now.spent c.loop-come.course.spent c.turns-come.new.course.spent
+    c.args.pass.now.seat.me c.loop-come.pass.seat.me c.turns-come.new.pass.seat.me
     c.requires.none i.counted turns)
-    (spends_more c.args.course.now.spent c.turns-come.new.course.spent c.refill.new.spent c.args.pass.now.seat.me c.turns-come.new.pass.seat.me c.refill.new.pass.seat.me
+    (spends_more c.args.course.now.spent c.turns-come.new.course.spent c.refill.new.spent
+    c.args.pass.now.seat.me c.turns-come.new.pass.seat.me c.refill.new.pass.seat.me
     c.requires.none so_far c.refill.ensures.counted)
     (subst (λ n. 0 < n) c.kept-kept.ensures again.0, again.1, again.2)
 
 -- An attempt that found no free row, and rows that were given back, behind the attempts so far.
 pub loop-come-preserved : goal.loop-come-preserved
-loop-come-preserved g c = let i = c.loop-come.invariant in let tells = λ (x : _). g.A.Attempt.tells c.args.order.now.what.now x c.turns-come.new.left in
-    let start = c.args.pass.now.seat.me in let before = c.loop-come.pass.seat.me in let behind = c.turns-come.new.pass.seat.me in
+loop-come-preserved g c = let i = c.loop-come.invariant in
+    let tells = λ (x : _). g.A.Attempt.tells c.args.order.now.what.now x c.turns-come.new.left in
+    let start = c.args.pass.now.seat.me in let before = c.loop-come.pass.seat.me in
+    let behind = c.turns-come.new.pass.seat.me in
     let last = c.refill.new.pass.seat.me in let empty = c.if-is_empty.ensures.0 refl in
-    let met = subst (λ (x : Result _ Stop). HasMetBy x before behind) empty c.turns-come.ensures.found in let given = c.refill.ensures.met in record {
+    let met = subst
+    (λ (x : Result _ Stop). HasMetBy x before behind) empty c.turns-come.ensures.found in
+    let given = c.refill.ensures.met in record {
       number = c.refill.ensures.frame.number ∙ (c.turns-come.ensures.frame.number ∙ i.number);
       resting = c.refill.ensures.frame.resting;
-      further = subst (IsFurther start.0.upper) (sym c.refill.ensures.upper) (further_on start.0.upper before.0.upper behind.0.upper i.further
-          (stopped_further tells c.args.tree.now.space.table.shared.key c.turns-come.result stop.Empty before.0.upper behind.0.upper empty
+      further = subst (IsFurther start.0.upper) (sym c.refill.ensures.upper)
+          (further_on start.0.upper before.0.upper behind.0.upper i.further
+          (stopped_further tells c.args.tree.now.space.table.shared.key c.turns-come.result
+          stop.Empty before.0.upper behind.0.upper empty
           c.turns-come.ensures.tried));
-      counted = paid_both c.args.course.now.spent c.turns-come.new.course.spent c.refill.new.spent start behind last
-          (paid_both c.args.course.now.spent c.loop-come.course.spent c.turns-come.new.course.spent start before behind i.counted c.turns-come.ensures.counted)
+      counted = paid_both c.args.course.now.spent c.turns-come.new.course.spent c.refill.new.spent
+          start behind last
+          (paid_both c.args.course.now.spent c.loop-come.course.spent c.turns-come.new.course.spent
+          start before behind i.counted c.turns-come.ensures.counted)
           c.refill.ensures.counted;
-      looks = let before = i.looks in let same = c.turns-come.ensures.looks in let more = c.refill.ensures.looked in omega arith;
-      waits = subst (Waits c.args.course.now.adapting c.turns-come.new.course.adapting start.0.upper) (sym c.refill.ensures.upper)
-          (waits_on c.args.course.now.adapting c.loop-come.course.adapting c.turns-come.new.course.adapting start.0.upper before.0.upper behind.0.upper i.waits
-          (stopped_waits (λ (x : _). g.A.Attempt.edits c.args.order.now.what.now x) c.args.tree.now.space.table.shared.key c.args.tree.now.tuning
-          c.loop-come.course.adapting c.turns-come.new.course.adapting c.turns-come.result stop.Empty before.0.upper behind.0.upper empty c.turns-come.ensures.turns.gone_on));
-      won = λ alone. ap (λ (u : TreeView). u.lost) c.refill.ensures.upper ∙ (stop_won (λ (x : _). g.A.Attempt.edits c.args.order.now.what.now x)
-          c.turns-come.result stop.Empty before.0.upper behind.0.upper empty (c.turns-come.ensures.turns.won (alone_on
-          c.args.tree.now.space.table.shared.key start.0.upper before.0.upper i.further.number alone)) ∙ i.won alone);
-      waited = λ alone. subst (HasWaited c.args.tree.now.space.table.shared.key (g.A.Attempt.adds c.args.order.now.what.now) start.0.upper) (sym c.refill.ensures.upper)
-          (has_waited c.args.tree.now.space.table.shared.key (g.A.Attempt.adds c.args.order.now.what.now) c.turns-come.result stop.Empty start.0.upper behind.0.upper
+      looks = let before = i.looks in let same = c.turns-come.ensures.looks in
+          let more = c.refill.ensures.looked in omega arith;
+      waits = subst (Waits c.args.course.now.adapting c.turns-come.new.course.adapting
+          start.0.upper) (sym c.refill.ensures.upper)
+          (waits_on c.args.course.now.adapting c.loop-come.course.adapting
+          c.turns-come.new.course.adapting start.0.upper before.0.upper behind.0.upper i.waits
+          (stopped_waits
+          (λ (x : _). g.A.Attempt.edits c.args.order.now.what.now x)
+          c.args.tree.now.space.table.shared.key c.args.tree.now.tuning
+          c.loop-come.course.adapting c.turns-come.new.course.adapting c.turns-come.result
+          stop.Empty before.0.upper behind.0.upper empty c.turns-come.ensures.turns.gone_on));
+      won = λ alone. ap (λ (u : TreeView). u.lost) c.refill.ensures.upper
+          ∙ (stop_won (λ (x : _). g.A.Attempt.edits c.args.order.now.what.now x)
+          c.turns-come.result stop.Empty before.0.upper behind.0.upper empty
+          (c.turns-come.ensures.turns.won (alone_on
+          c.args.tree.now.space.table.shared.key start.0.upper before.0.upper i.further.number
+          alone)) ∙ i.won alone);
+      waited = λ alone.
+          subst (HasWaited c.args.tree.now.space.table.shared.key
+          (g.A.Attempt.adds c.args.order.now.what.now) start.0.upper) (sym c.refill.ensures.upper)
+          (has_waited c.args.tree.now.space.table.shared.key
+          (g.A.Attempt.adds c.args.order.now.what.now) c.turns-come.result stop.Empty
+          start.0.upper behind.0.upper
           empty
-          (attempts_so_far tells c.args.tree.now.space.table.shared.key (g.A.Attempt.adds c.args.order.now.what.now) c.turns-come.result start.0.upper before.0.upper
-          behind.0.upper c.requires.resting.known i.resting.known i.further i.waited c.turns-come.ensures.tried c.turns-come.ensures.turns.grown alone));
-      full = let edits = λ (x : _). g.A.Attempt.edits c.args.order.now.what.now x in let z = c.args.tree.now.space.table.shared.key in
-          let adds = g.A.Attempt.adds c.args.order.now.what.now in subst (HasCutFull z adds start.0.upper) (sym c.refill.ensures.upper)
-          (stopped_cut edits z adds c.turns-come.result stop.Empty start.0.upper behind.0.upper empty
-          (cuts_so_far edits z adds c.turns-come.result start.0.upper before.0.upper behind.0.upper i.full c.turns-come.ensures.turns.cut));
+          (attempts_so_far tells c.args.tree.now.space.table.shared.key
+          (g.A.Attempt.adds c.args.order.now.what.now) c.turns-come.result start.0.upper
+          before.0.upper
+          behind.0.upper c.requires.resting.known i.resting.known i.further i.waited
+          c.turns-come.ensures.tried c.turns-come.ensures.turns.grown alone));
+      full = let edits = λ (x : _). g.A.Attempt.edits c.args.order.now.what.now x in
+          let z = c.args.tree.now.space.table.shared.key in
+          let adds = g.A.Attempt.adds c.args.order.now.what.now in
+          subst (HasCutFull z adds start.0.upper) (sym c.refill.ensures.upper)
+          (stopped_cut edits z adds c.turns-come.result stop.Empty start.0.upper behind.0.upper
+          empty
+          (cuts_so_far edits z adds c.turns-come.result start.0.upper before.0.upper behind.0.upper
+          i.full c.turns-come.ensures.turns.cut));
       worn = omega (arith, i.worn, met.1, given.1);
       unspent = (c.in_default.ensures.again refl).1;
       lags = c.in_default.ensures.unlagged refl ∙ (c.turns-come.ensures.lags ∙ i.lags);
-      first = inr (empty_before (vec_len c.loop-come.pass.kept.rows) c.kept-kept.result (vec_len c.refill.new.pass.kept.rows) start before behind last
-          c.args.pass.now.kept.rows c.kept-kept.ensures (c.in_default.ensures.again refl).0 (let one = i.counted.more in let two = c.turns-come.ensures.counted.more in omega arith)
+      first = inr (empty_before (vec_len c.loop-come.pass.kept.rows) c.kept-kept.result
+          (vec_len c.refill.new.pass.kept.rows) start before behind last
+          c.args.pass.now.kept.rows c.kept-kept.ensures (c.in_default.ensures.again refl).0
+          (let one = i.counted.more in let two = c.turns-come.ensures.counted.more in
+          omega arith)
           (c.in_default.ensures.begins refl) i.first met given);
     }
 
 pub returns-in-Err-clause-few : goal.returns-in-Err-clause-few
 returns-in-Err-clause-few g c =
-    few_from c.args.pass.now.seat.me c.turns-come.new.pass.seat.me c.refill.new.pass.seat.me c.refill.new.pass.kept.rows
-    (let before = c.loop-come.invariant.looks in let same = c.turns-come.ensures.looks in omega arith) (c.in-Err.ensures.few refl)
+    few_from c.args.pass.now.seat.me c.turns-come.new.pass.seat.me c.refill.new.pass.seat.me
+    c.refill.new.pass.kept.rows
+    (let before = c.loop-come.invariant.looks in let same = c.turns-come.ensures.looks in
+    omega arith) (c.in-Err.ensures.few refl)
 
 pub returns-else-is_empty-clause-few : goal.returns-else-is_empty-clause-few
 returns-else-is_empty-clause-few g c =
-    few_from c.args.pass.now.seat.me c.turns-come.new.pass.seat.me c.keep_few.new.pass.seat.me c.keep_few.new.pass.kept.rows
-    (let before = c.loop-come.invariant.looks in let same = c.turns-come.ensures.looks in omega arith) c.keep_few.ensures.few
+    few_from c.args.pass.now.seat.me c.turns-come.new.pass.seat.me c.keep_few.new.pass.seat.me
+    c.keep_few.new.pass.kept.rows
+    (let before = c.loop-come.invariant.looks in let same = c.turns-come.ensures.looks in
+    omega arith) c.keep_few.ensures.few
 
 pub returns-else-is_empty-clause-come : goal.returns-else-is_empty-clause-come
-returns-else-is_empty-clause-come g c = let tells = λ (x : _). g.A.Attempt.tells c.args.order.now.what.now x c.turns-come.new.left in
+returns-else-is_empty-clause-come g c =
+    let tells = λ (x : _). g.A.Attempt.tells c.args.order.now.what.now x c.turns-come.new.left in
     let z = c.args.tree.now.space.table.shared.key in let u = c.args.pass.now.seat.me.0.upper in
-    attempted_as tells z c.turns-come.result c.or_refusal.result _ _ u c.turns-come.new.pass.seat.me.0.upper c.keep_few.new.pass.seat.me.0.upper
-    c.keep_few.ensures.upper c.or_refusal.ensures (tried_on tells z c.turns-come.result u c.loop-come.pass.seat.me.0.upper
+    attempted_as tells z c.turns-come.result c.or_refusal.result _ _ u
+    c.turns-come.new.pass.seat.me.0.upper c.keep_few.new.pass.seat.me.0.upper
+    c.keep_few.ensures.upper c.or_refusal.ensures
+    (tried_on tells z c.turns-come.result u c.loop-come.pass.seat.me.0.upper
     c.turns-come.new.pass.seat.me.0.upper c.loop-come.invariant.further c.turns-come.ensures.tried)
 
 pub returns-in-Err-clause-caused : goal.returns-in-Err-clause-caused
-returns-in-Err-clause-caused g c = let i = c.loop-come.invariant in let start = c.args.pass.now.seat.me in let before = c.loop-come.pass.seat.me in
-    let behind = c.turns-come.new.pass.seat.me in let last = c.refill.new.pass.seat.me in let z = c.args.tree.now.space.table.shared.key in
-    let met = subst (λ (x : Result _ Stop). HasMetBy x before behind) (c.if-is_empty.ensures.0 refl) c.turns-come.ensures.found in
-    refill_caused z c.args.pass.now.number c.args.order.now.budget c.kept-kept.result (g.A.Attempt.adds c.args.order.now.what.now) c.in-Err.why
+returns-in-Err-clause-caused g c = let i = c.loop-come.invariant in
+    let start = c.args.pass.now.seat.me in let before = c.loop-come.pass.seat.me in
+    let behind = c.turns-come.new.pass.seat.me in let last = c.refill.new.pass.seat.me in
+    let z = c.args.tree.now.space.table.shared.key in
+    let met = subst
+    (λ (x : Result _ Stop). HasMetBy x before behind) (c.if-is_empty.ensures.0 refl)
+    c.turns-come.ensures.found in
+    refill_caused z c.args.pass.now.number c.args.order.now.budget c.kept-kept.result
+    (g.A.Attempt.adds c.args.order.now.what.now) c.in-Err.why
     c.refill.new.spent start behind last c.args.pass.now.kept.rows c.refill.new.pass.kept.rows
     record {
       spent = c.args.course.now.spent;
       none = c.requires.none;
-      counted = paid_both c.args.course.now.spent c.turns-come.new.course.spent c.refill.new.spent start behind last
-          (paid_both c.args.course.now.spent c.loop-come.course.spent c.turns-come.new.course.spent start before behind i.counted
+      counted = paid_both c.args.course.now.spent c.turns-come.new.course.spent c.refill.new.spent
+          start behind last
+          (paid_both c.args.course.now.spent c.loop-come.course.spent c.turns-come.new.course.spent
+          start before behind i.counted
           c.turns-come.ensures.counted) c.refill.ensures.counted;
     }
-    (begun_with c.kept-kept.result (vec_len c.loop-come.pass.kept.rows) start before behind last c.args.pass.now.kept.rows c.kept-kept.ensures i.first
-    (let two = c.turns-come.ensures.counted.more in let three = c.refill.ensures.counted.more in omega arith) met c.refill.ensures.met)
+    (begun_with c.kept-kept.result (vec_len c.loop-come.pass.kept.rows) start before behind last
+    c.args.pass.now.kept.rows c.kept-kept.ensures i.first
+    (let two = c.turns-come.ensures.counted.more in let three = c.refill.ensures.counted.more in
+    omega arith) met c.refill.ensures.met)
     (let more = i.looks in let same = c.turns-come.ensures.looks in omega arith)
-    (subst (λ (k : ℕ). IsRefill z.passes k c.args.order.now.budget c.kept-kept.result c.refill.new.spent c.in-Err.why behind last c.refill.new.pass.kept.rows)
+    (subst (λ (k : ℕ).
+    IsRefill z.passes k c.args.order.now.budget c.kept-kept.result c.refill.new.spent
+    c.in-Err.why behind last c.refill.new.pass.kept.rows)
     (c.turns-come.ensures.frame.number ∙ i.number) c.in-Err.ensures.refused)
 
 pub returns-else-is_empty-clause-caused : goal.returns-else-is_empty-clause-caused
-returns-else-is_empty-clause-caused g c = let i = c.loop-come.invariant in let start = c.args.pass.now.seat.me in let before = c.loop-come.pass.seat.me in
-    let behind = c.turns-come.new.pass.seat.me in let last = c.keep_few.new.pass.seat.me in let tree = c.args.tree.now in
-    let z = tree.space.table.shared.key in let adds = g.A.Attempt.adds c.args.order.now.what.now in let upper = c.keep_few.ensures.upper in
+returns-else-is_empty-clause-caused g c = let i = c.loop-come.invariant in
+    let start = c.args.pass.now.seat.me in let before = c.loop-come.pass.seat.me in
+    let behind = c.turns-come.new.pass.seat.me in let last = c.keep_few.new.pass.seat.me in
+    let tree = c.args.tree.now in
+    let z = tree.space.table.shared.key in let adds = g.A.Attempt.adds c.args.order.now.what.now in
+    let upper = c.keep_few.ensures.upper in
     let found = c.turns-come.ensures.found in let given = c.keep_few.ensures.met in
-    caused_as z c.args.pass.now.number c.args.order.now.budget adds c.turns-come.result c.or_refusal.result _ start last
-    c.args.pass.now.kept.rows c.keep_few.new.pass.kept.rows
-    (_, c.or_refusal.ensures, (let levels = tree.tuned.levels in let same = ap (λ (y : Sizes). y.levels) tree.space.same in omega arith))
+    caused_as z c.args.pass.now.number c.args.order.now.budget adds c.turns-come.result
+    c.or_refusal.result _ start last
+    c.args.pass.now.kept.rows c.keep_few.new.pass.kept.rows (
+      _,
+      c.or_refusal.ensures,
+      (let levels = tree.tuned.levels in
+          let same = ap (λ (y : Sizes). y.levels) tree.space.same in omega arith),
+    )
     record {
       full = λ e. let wrong : false ≡ true = c.if-is_empty.ensures.1 e in cc;
       split = c.turns-come.ensures.no_split;
-      deep = λ e. subst (λ (u : TreeView). IsFull z adds u.last (after u.seen [])) (sym upper) (c.turns-come.ensures.deep e);
-      lost = λ e. let most = c.turns-come.ensures.lost e in let more = c.add-course.ensures.more in omega arith;
+      deep = λ e. subst
+          (λ (u : TreeView). IsFull z adds u.last (after u.seen [])) (sym upper)
+          (c.turns-come.ensures.deep e);
+      lost = λ e. let most = c.turns-come.ensures.lost e in let more = c.add-course.ensures.more in
+          omega arith;
       paid = record {
         spent = c.args.course.now.spent;
         none = c.requires.none;
-        counted = paid_both c.args.course.now.spent c.turns-come.new.course.spent _ start behind last
-            (paid_both c.args.course.now.spent c.loop-come.course.spent c.turns-come.new.course.spent start before behind i.counted
+        counted = paid_both c.args.course.now.spent c.turns-come.new.course.spent _ start behind
+            last
+            (paid_both c.args.course.now.spent c.loop-come.course.spent
+            c.turns-come.new.course.spent start before behind i.counted
             c.turns-come.ensures.counted)
-            (paid_given c.turns-come.new.course.spent c.keep_few.result c.add-course.result behind last c.add-course.ensures.sum
+            (paid_given c.turns-come.new.course.spent c.keep_few.result c.add-course.result behind
+            last c.add-course.ensures.sum
             c.keep_few.ensures.lost upper);
       };
-      worn = λ e. let met = subst (λ (x : Result _ Stop). HasMetBy x before behind) e found in omega (arith, i.worn, met.1, given.1);
+      worn = λ e. let met = subst (λ (x : Result _ Stop). HasMetBy x before behind) e found in
+          omega (arith, i.worn, met.1, given.1);
     }
 
 pub returns-in-Err-clause-lags : goal.returns-in-Err-clause-lags
-returns-in-Err-clause-lags g c = let i = c.loop-come.invariant in let same = c.turns-come.ensures.lags in let once = c.refill.ensures.lags in (
-  (let before = i.lags in let one = once.0 in omega arith),
-  ap (λ (x : Met). x.lags) once.1 ∙ (c.turns-come.ensures.entered i.unspent ∙ i.lags),
-)
+returns-in-Err-clause-lags g c = let i = c.loop-come.invariant in
+    let same = c.turns-come.ensures.lags in let once = c.refill.ensures.lags in (
+      (let before = i.lags in let one = once.0 in omega arith),
+      ap (λ (x : Met). x.lags) once.1 ∙ (c.turns-come.ensures.entered i.unspent ∙ i.lags),
+    )
 
 pub returns-else-is_empty-clause-lags : goal.returns-else-is_empty-clause-lags
-returns-else-is_empty-clause-lags g c = let i = c.loop-come.invariant in let same = c.turns-come.ensures.lags in let once = c.keep_few.ensures.lags in (
-  (let before = i.lags in let one = once.0 in omega arith),
-  ap (λ (x : Met). x.lags) once.1 ∙ (c.turns-come.ensures.entered i.unspent ∙ i.lags),
-)
+returns-else-is_empty-clause-lags g c = let i = c.loop-come.invariant in
+    let same = c.turns-come.ensures.lags in let once = c.keep_few.ensures.lags in (
+      (let before = i.lags in let one = once.0 in omega arith),
+      ap (λ (x : Met). x.lags) once.1 ∙ (c.turns-come.ensures.entered i.unspent ∙ i.lags),
+    )
 
 pub returns-in-Err-clause-turns : goal.returns-in-Err-clause-turns
 returns-in-Err-clause-turns g c = record {
   met_as = tt;
-  gone_on = subst (Waits c.args.course.now.adapting c.turns-come.new.course.adapting c.args.pass.now.seat.me.0.upper) (sym c.refill.ensures.upper)
-      (waits_on c.args.course.now.adapting c.loop-come.course.adapting c.turns-come.new.course.adapting c.args.pass.now.seat.me.0.upper c.loop-come.pass.seat.me.0.upper
+  gone_on = subst (Waits c.args.course.now.adapting c.turns-come.new.course.adapting
+      c.args.pass.now.seat.me.0.upper) (sym c.refill.ensures.upper)
+      (waits_on c.args.course.now.adapting c.loop-come.course.adapting
+      c.turns-come.new.course.adapting c.args.pass.now.seat.me.0.upper
+      c.loop-come.pass.seat.me.0.upper
       c.turns-come.new.pass.seat.me.0.upper c.loop-come.invariant.waits
-      (stopped_waits (λ (x : _). g.A.Attempt.edits c.args.order.now.what.now x) c.args.tree.now.space.table.shared.key c.args.tree.now.tuning
-      c.loop-come.course.adapting c.turns-come.new.course.adapting c.turns-come.result stop.Empty c.loop-come.pass.seat.me.0.upper c.turns-come.new.pass.seat.me.0.upper
+      (stopped_waits
+      (λ (x : _). g.A.Attempt.edits c.args.order.now.what.now x)
+      c.args.tree.now.space.table.shared.key c.args.tree.now.tuning
+      c.loop-come.course.adapting c.turns-come.new.course.adapting c.turns-come.result stop.Empty
+      c.loop-come.pass.seat.me.0.upper c.turns-come.new.pass.seat.me.0.upper
       (c.if-is_empty.ensures.0 refl) c.turns-come.ensures.turns.gone_on));
-  grown = λ alone. let tells = λ (x : _). g.A.Attempt.tells c.args.order.now.what.now x c.turns-come.new.left in
-      let z = c.args.tree.now.space.table.shared.key in let adds = g.A.Attempt.adds c.args.order.now.what.now in let u = c.args.pass.now.seat.me.0.upper in
+  grown = λ alone. let tells = λ (x : _).
+      g.A.Attempt.tells c.args.order.now.what.now x c.turns-come.new.left in
+      let z = c.args.tree.now.space.table.shared.key in
+      let adds = g.A.Attempt.adds c.args.order.now.what.now in
+      let u = c.args.pass.now.seat.me.0.upper in
       let i = c.loop-come.invariant in
-      subst (HasWaited z adds u) (sym c.refill.ensures.upper) (has_waited z adds c.turns-come.result stop.Empty u c.turns-come.new.pass.seat.me.0.upper
-      (c.if-is_empty.ensures.0 refl) (attempts_so_far tells z adds c.turns-come.result u c.loop-come.pass.seat.me.0.upper c.turns-come.new.pass.seat.me.0.upper
-      c.requires.resting.known i.resting.known i.further i.waited c.turns-come.ensures.tried c.turns-come.ensures.turns.grown alone));
+      subst (HasWaited z adds u) (sym c.refill.ensures.upper)
+      (has_waited z adds c.turns-come.result stop.Empty u c.turns-come.new.pass.seat.me.0.upper
+      (c.if-is_empty.ensures.0 refl)
+      (attempts_so_far tells z adds c.turns-come.result u c.loop-come.pass.seat.me.0.upper
+      c.turns-come.new.pass.seat.me.0.upper
+      c.requires.resting.known i.resting.known i.further i.waited c.turns-come.ensures.tried
+      c.turns-come.ensures.turns.grown alone));
   won = λ alone. let i = c.loop-come.invariant in
-      ap (λ (u : TreeView). u.lost) c.refill.ensures.upper ∙ (stop_won (λ (x : _). g.A.Attempt.edits c.args.order.now.what.now x) c.turns-come.result stop.Empty
-      c.loop-come.pass.seat.me.0.upper c.turns-come.new.pass.seat.me.0.upper (c.if-is_empty.ensures.0 refl) (c.turns-come.ensures.turns.won (alone_on
-      c.args.tree.now.space.table.shared.key c.args.pass.now.seat.me.0.upper c.loop-come.pass.seat.me.0.upper i.further.number alone)) ∙ i.won alone);
-  cut = let edits = λ (x : _). g.A.Attempt.edits c.args.order.now.what.now x in let z = c.args.tree.now.space.table.shared.key in
-      let adds = g.A.Attempt.adds c.args.order.now.what.now in let u = c.args.pass.now.seat.me.0.upper in
+      ap (λ (u : TreeView). u.lost) c.refill.ensures.upper
+      ∙ (stop_won
+      (λ (x : _). g.A.Attempt.edits c.args.order.now.what.now x) c.turns-come.result stop.Empty
+      c.loop-come.pass.seat.me.0.upper c.turns-come.new.pass.seat.me.0.upper
+      (c.if-is_empty.ensures.0 refl) (c.turns-come.ensures.turns.won (alone_on
+      c.args.tree.now.space.table.shared.key c.args.pass.now.seat.me.0.upper
+      c.loop-come.pass.seat.me.0.upper i.further.number alone)) ∙ i.won alone);
+  cut = let edits = λ (x : _). g.A.Attempt.edits c.args.order.now.what.now x in
+      let z = c.args.tree.now.space.table.shared.key in
+      let adds = g.A.Attempt.adds c.args.order.now.what.now in
+      let u = c.args.pass.now.seat.me.0.upper in
       subst (HasCutFull z adds u) (sym c.refill.ensures.upper)
-      (stopped_cut edits z adds c.turns-come.result stop.Empty u c.turns-come.new.pass.seat.me.0.upper (c.if-is_empty.ensures.0 refl)
-      (cuts_so_far edits z adds c.turns-come.result u c.loop-come.pass.seat.me.0.upper c.turns-come.new.pass.seat.me.0.upper c.loop-come.invariant.full
+      (stopped_cut edits z adds c.turns-come.result stop.Empty u
+      c.turns-come.new.pass.seat.me.0.upper (c.if-is_empty.ensures.0 refl)
+      (cuts_so_far edits z adds c.turns-come.result u c.loop-come.pass.seat.me.0.upper
+      c.turns-come.new.pass.seat.me.0.upper c.loop-come.invariant.full
       c.turns-come.ensures.turns.cut));
 }
 
 pub returns-else-is_empty-clause-turns : goal.returns-else-is_empty-clause-turns
 returns-else-is_empty-clause-turns g c = record {
-  met_as = let edits = λ (x : _). g.A.Attempt.edits c.args.order.now.what.now x in let last = c.turns-come.new.course.adapting.last in
-      refused_met (IsMetAs last.adapted c.keep_few.new.pass.seat.me.0.pin.left c.keep_few.new.pass.seat.me.0.upper) edits c.turns-come.result
-      c.or_refusal.result _ _ c.or_refusal.ensures (subst (λ (x : Met × TreeView). MeetsAs edits last c.turns-come.result x.0 x.1)
-      (λ i. (sym c.keep_few.ensures.left i, sym c.keep_few.ensures.upper i)) c.turns-come.ensures.turns.met_as);
-  gone_on = let edits = λ (x : _). g.A.Attempt.edits c.args.order.now.what.now x in let z = c.args.tree.now.space.table.shared.key in
-      let t = c.args.tree.now.tuning in let a = c.args.course.now.adapting in let b = c.turns-come.new.course.adapting in let u = c.args.pass.now.seat.me.0.upper in
-      refused_gone edits z t a b c.turns-come.result c.or_refusal.result u c.turns-come.new.pass.seat.me.0.upper c.keep_few.new.pass.seat.me.0.upper
+  met_as = let edits = λ (x : _). g.A.Attempt.edits c.args.order.now.what.now x in
+      let last = c.turns-come.new.course.adapting.last in
+      refused_met (IsMetAs last.adapted c.keep_few.new.pass.seat.me.0.pin.left
+      c.keep_few.new.pass.seat.me.0.upper) edits c.turns-come.result
+      c.or_refusal.result _ _ c.or_refusal.ensures (subst
+      (λ (x : Met × TreeView). MeetsAs edits last c.turns-come.result x.0 x.1)
+      (λ i. (sym c.keep_few.ensures.left i, sym c.keep_few.ensures.upper i))
+      c.turns-come.ensures.turns.met_as);
+  gone_on = let edits = λ (x : _). g.A.Attempt.edits c.args.order.now.what.now x in
+      let z = c.args.tree.now.space.table.shared.key in
+      let t = c.args.tree.now.tuning in let a = c.args.course.now.adapting in
+      let b = c.turns-come.new.course.adapting in let u = c.args.pass.now.seat.me.0.upper in
+      refused_gone edits z t a b c.turns-come.result c.or_refusal.result u
+      c.turns-come.new.pass.seat.me.0.upper c.keep_few.new.pass.seat.me.0.upper
       c.keep_few.ensures.upper (_, _, c.or_refusal.ensures)
-      (gone_on edits z t a c.loop-come.course.adapting b c.turns-come.result u c.loop-come.pass.seat.me.0.upper c.turns-come.new.pass.seat.me.0.upper
+      (gone_on edits z t a c.loop-come.course.adapting b c.turns-come.result u
+      c.loop-come.pass.seat.me.0.upper c.turns-come.new.pass.seat.me.0.upper
       c.loop-come.invariant.waits c.turns-come.ensures.turns.gone_on);
-  grown = λ alone. let tells = λ (x : _). g.A.Attempt.tells c.args.order.now.what.now x c.turns-come.new.left in
-      let z = c.args.tree.now.space.table.shared.key in let adds = g.A.Attempt.adds c.args.order.now.what.now in let u = c.args.pass.now.seat.me.0.upper in
+  grown = λ alone. let tells = λ (x : _).
+      g.A.Attempt.tells c.args.order.now.what.now x c.turns-come.new.left in
+      let z = c.args.tree.now.space.table.shared.key in
+      let adds = g.A.Attempt.adds c.args.order.now.what.now in
+      let u = c.args.pass.now.seat.me.0.upper in
       let i = c.loop-come.invariant in
-      grown_refused z adds c.turns-come.result c.or_refusal.result _ _ u c.turns-come.new.pass.seat.me.0.upper c.keep_few.new.pass.seat.me.0.upper
-      c.keep_few.ensures.upper c.or_refusal.ensures (attempts_so_far tells z adds c.turns-come.result u c.loop-come.pass.seat.me.0.upper
-      c.turns-come.new.pass.seat.me.0.upper c.requires.resting.known i.resting.known i.further i.waited c.turns-come.ensures.tried
-      c.turns-come.ensures.turns.grown alone);
-  won = λ alone. let edits = λ (x : _). g.A.Attempt.edits c.args.order.now.what.now x in let u = c.args.pass.now.seat.me.0.upper in
-      let i = c.loop-come.invariant in
-      won_refused edits c.turns-come.result c.or_refusal.result _ _ u c.turns-come.new.pass.seat.me.0.upper c.keep_few.new.pass.seat.me.0.upper
-      c.keep_few.ensures.upper c.or_refusal.ensures (won_behind edits c.turns-come.result u c.loop-come.pass.seat.me.0.upper
-      c.turns-come.new.pass.seat.me.0.upper (i.won alone) (c.turns-come.ensures.turns.won (alone_on c.args.tree.now.space.table.shared.key u
-      c.loop-come.pass.seat.me.0.upper i.further.number alone)));
-  cut = let edits = λ (x : _). g.A.Attempt.edits c.args.order.now.what.now x in let z = c.args.tree.now.space.table.shared.key in
-      let adds = g.A.Attempt.adds c.args.order.now.what.now in let u = c.args.pass.now.seat.me.0.upper in
-      cut_refused edits z adds c.turns-come.result c.or_refusal.result _ _ u c.turns-come.new.pass.seat.me.0.upper c.keep_few.new.pass.seat.me.0.upper
+      grown_refused z adds c.turns-come.result c.or_refusal.result _ _ u
+      c.turns-come.new.pass.seat.me.0.upper c.keep_few.new.pass.seat.me.0.upper
       c.keep_few.ensures.upper c.or_refusal.ensures
-      (cuts_so_far edits z adds c.turns-come.result u c.loop-come.pass.seat.me.0.upper c.turns-come.new.pass.seat.me.0.upper c.loop-come.invariant.full
+      (attempts_so_far tells z adds c.turns-come.result u c.loop-come.pass.seat.me.0.upper
+      c.turns-come.new.pass.seat.me.0.upper c.requires.resting.known i.resting.known i.further
+      i.waited c.turns-come.ensures.tried
+      c.turns-come.ensures.turns.grown alone);
+  won = λ alone. let edits = λ (x : _). g.A.Attempt.edits c.args.order.now.what.now x in
+      let u = c.args.pass.now.seat.me.0.upper in
+      let i = c.loop-come.invariant in
+      won_refused edits c.turns-come.result c.or_refusal.result _ _ u
+      c.turns-come.new.pass.seat.me.0.upper c.keep_few.new.pass.seat.me.0.upper
+      c.keep_few.ensures.upper c.or_refusal.ensures
+      (won_behind edits c.turns-come.result u c.loop-come.pass.seat.me.0.upper
+      c.turns-come.new.pass.seat.me.0.upper (i.won alone)
+      (c.turns-come.ensures.turns.won (alone_on c.args.tree.now.space.table.shared.key u
+      c.loop-come.pass.seat.me.0.upper i.further.number alone)));
+  cut = let edits = λ (x : _). g.A.Attempt.edits c.args.order.now.what.now x in
+      let z = c.args.tree.now.space.table.shared.key in
+      let adds = g.A.Attempt.adds c.args.order.now.what.now in
+      let u = c.args.pass.now.seat.me.0.upper in
+      cut_refused edits z adds c.turns-come.result c.or_refusal.result _ _ u
+      c.turns-come.new.pass.seat.me.0.upper c.keep_few.new.pass.seat.me.0.upper
+      c.keep_few.ensures.upper c.or_refusal.ensures
+      (cuts_so_far edits z adds c.turns-come.result u c.loop-come.pass.seat.me.0.upper
+      c.turns-come.new.pass.seat.me.0.upper c.loop-come.invariant.full
       c.turns-come.ensures.turns.cut);
 }

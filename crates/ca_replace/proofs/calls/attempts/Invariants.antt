@@ -12,22 +12,30 @@ use Rattle.ca_replace.proofs.calls.attempts.Given as goal
 abbrev pub invariant-loop-come : goal.invariant-loop-come
 invariant-loop-come g l = record {
   number : l.pass.number ≡ l.fn.pass.number;
-  resting : IsResting l.tree.space.table.shared.table_id l.tree.space.table.shared.key l.pass.number l.pass.tally l.pass.kept.rows l.pass.seat;
+  resting : IsResting l.tree.space.table.shared.table_id l.tree.space.table.shared.key l.pass.number
+      l.pass.tally l.pass.kept.rows l.pass.seat;
   further : IsFurther l.fn.pass.seat.me.0.upper l.pass.seat.me.0.upper;
   counted : IsPaid l.fn.course.spent l.course.spent l.fn.pass.seat.me l.pass.seat.me;
   looks : l.fn.pass.seat.me.0.pin.looks ≤ l.pass.seat.me.0.pin.looks;
-  waits : Waits l.fn.course.adapting l.course.adapting l.fn.pass.seat.me.0.upper l.pass.seat.me.0.upper;
-  won : IsAlone l.tree.space.table.shared.key l.fn.pass.seat.me.0.upper → l.pass.seat.me.0.upper.lost ≡ l.fn.pass.seat.me.0.upper.lost;
-  waited : IsAlone l.tree.space.table.shared.key l.fn.pass.seat.me.0.upper → HasWaited l.tree.space.table.shared.key (g.A.Attempt.adds l.order.what.now)
+  waits : Waits l.fn.course.adapting l.course.adapting l.fn.pass.seat.me.0.upper
+      l.pass.seat.me.0.upper;
+  won : IsAlone l.tree.space.table.shared.key l.fn.pass.seat.me.0.upper
+      → l.pass.seat.me.0.upper.lost ≡ l.fn.pass.seat.me.0.upper.lost;
+  waited : IsAlone l.tree.space.table.shared.key l.fn.pass.seat.me.0.upper
+      → HasWaited l.tree.space.table.shared.key (g.A.Attempt.adds l.order.what.now)
       l.fn.pass.seat.me.0.upper l.pass.seat.me.0.upper;
-  full : HasCutFull l.tree.space.table.shared.key (g.A.Attempt.adds l.order.what.now) l.fn.pass.seat.me.0.upper l.pass.seat.me.0.upper;
+  full : HasCutFull l.tree.space.table.shared.key (g.A.Attempt.adds l.order.what.now)
+      l.fn.pass.seat.me.0.upper l.pass.seat.me.0.upper;
   worn : l.pass.seat.me.0.worn ≡ l.fn.pass.seat.me.0.worn;
-  first : ((vec_len l.pass.kept.rows ≡ vec_len l.fn.pass.kept.rows) × (l.pass.seat.me.0.empty ≡ l.fn.pass.seat.me.0.empty))
-      ⊎ ((l.fn.pass.seat.me.0.empty + 1 ≤ l.pass.seat.me.0.empty) × (0 < vec_len l.fn.pass.kept.rows)
+  first : ((vec_len l.pass.kept.rows ≡ vec_len l.fn.pass.kept.rows)
+      × (l.pass.seat.me.0.empty ≡ l.fn.pass.seat.me.0.empty))
+      ⊎ ((l.fn.pass.seat.me.0.empty + 1 ≤ l.pass.seat.me.0.empty)
+      × (0 < vec_len l.fn.pass.kept.rows)
       × ((vec_len l.pass.kept.rows ≡ 0) ⊎ (losses l.fn.pass.seat.me < losses l.pass.seat.me)));
   unspent : total l.course.spent < l.order.budget;
   lags : l.pass.seat.me.0.pin.lags ≡ l.fn.pass.seat.me.0.pin.lags;
 }
 
 abbrev pub decreases-loop-come : goal.decreases-loop-come
-decreases-loop-come g l = 2 * (l.order.budget - total l.course.spent) + min (vec_len l.pass.kept.rows) 1
+decreases-loop-come g l =
+    2 * (l.order.budget - total l.course.spent) + min (vec_len l.pass.kept.rows) 1

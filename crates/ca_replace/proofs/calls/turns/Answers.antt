@@ -16,15 +16,18 @@ loop-pass-init g c = record {
   number = refl;
   resting = c.requires.resting;
   further = no_further c.args.pass.now.seat.me.0.upper;
-  counted = none_paid c.args.course.now.spent c.args.pass.now.seat.me c.args.pass.now.seat.me refl refl;
+  counted = none_paid c.args.course.now.spent c.args.pass.now.seat.me c.args.pass.now.seat.me refl
+      refl;
   looks = refl;
   lags = refl;
   entered = inl refl;
   met = none_met c.args.pass.now.seat.me;
-  waits = idle_waits c.args.course.now.adapting c.args.pass.now.seat.me.0.upper c.args.pass.now.seat.me.0.upper (refl, refl);
+  waits = idle_waits c.args.course.now.adapting c.args.pass.now.seat.me.0.upper
+      c.args.pass.now.seat.me.0.upper (refl, refl);
   won = λ _. refl;
   waited = λ _. inl (refl, refl);
-  full = none_full c.args.tree.now.space.table.shared.key (g.A.Attempt.adds c.args.order.now.what.now) c.args.pass.now.seat.me.0.upper.cuts
+  full = none_full c.args.tree.now.space.table.shared.key
+      (g.A.Attempt.adds c.args.order.now.what.now) c.args.pass.now.seat.me.0.upper.cuts
       c.args.pass.now.seat.me.0.upper.cuts refl;
 }
 
@@ -32,42 +35,72 @@ pub once-tried-requires-clause-resting : goal.once-tried-requires-clause-resting
 once-tried-requires-clause-resting g c = c.loop-pass.invariant.resting
 
 pub loop-pass-preserved : goal.loop-pass-preserved
-loop-pass-preserved g c = let tells = λ (x : _). g.A.Attempt.tells c.args.order.now.what.now x c.once-tried.new.left in record {
-  number = c.once-tried.ensures.frame.number ∙ c.loop-pass.invariant.number;
-  resting = c.once-tried.ensures.frame.resting;
-  further = further_on c.args.pass.now.seat.me.0.upper c.loop-pass.pass.seat.me.0.upper c.once-tried.new.pass.seat.me.0.upper c.loop-pass.invariant.further
-      (turn_further tells c.args.tree.now.space.table.shared.key c.once-tried.result c.loop-pass.pass.seat.me.0.upper
-      c.once-tried.new.pass.seat.me.0.upper (c.if-not-has_next.ensures.0 refl) c.once-tried.ensures.tried);
-  counted = paid_both c.args.course.now.spent c.loop-pass.course.spent c.once-tried.new.course.spent c.args.pass.now.seat.me c.loop-pass.pass.seat.me
-      c.once-tried.new.pass.seat.me c.loop-pass.invariant.counted c.once-tried.ensures.turn.counted;
-  looks = c.once-tried.ensures.looks ∙ c.loop-pass.invariant.looks;
-  lags = c.once-tried.ensures.lags.0 ∙ c.loop-pass.invariant.lags;
-  entered = inr (c.once-tried.ensures.lags.1 ∙ c.loop-pass.invariant.lags);
-  met = met_both 0 0 0 0 c.args.pass.now.seat.me c.loop-pass.pass.seat.me c.once-tried.new.pass.seat.me c.loop-pass.invariant.met
-      (met_turn c.once-tried.result c.loop-pass.pass.seat.me c.once-tried.new.pass.seat.me (c.if-not-has_next.ensures.0 refl) c.once-tried.ensures.turn.found).0;
-  waits = waits_on c.args.course.now.adapting c.loop-pass.course.adapting c.once-tried.new.course.adapting c.args.pass.now.seat.me.0.upper c.loop-pass.pass.seat.me.0.upper
-      c.once-tried.new.pass.seat.me.0.upper c.loop-pass.invariant.waits
-      (turn_waits (λ (x : _). g.A.Attempt.edits c.args.order.now.what.now x) c.args.tree.now.space.table.shared.key c.args.tree.now.tuning c.loop-pass.course.adapting
-      c.once-tried.new.course.adapting c.once-tried.result c.loop-pass.pass.seat.me.0.upper c.once-tried.new.pass.seat.me.0.upper
-      (c.if-not-has_next.ensures.0 refl) c.once-tried.ensures.turn.gone_on);
-  won = λ alone. turn_won (λ (x : _). g.A.Attempt.edits c.args.order.now.what.now x) c.once-tried.result c.args.pass.now.seat.me.0.upper
-      c.once-tried.new.pass.seat.me.0.upper (c.if-not-has_next.ensures.0 refl)
-      (won_behind (λ (x : _). g.A.Attempt.edits c.args.order.now.what.now x) c.once-tried.result c.args.pass.now.seat.me.0.upper
-      c.loop-pass.pass.seat.me.0.upper c.once-tried.new.pass.seat.me.0.upper (c.loop-pass.invariant.won alone)
-      (c.once-tried.ensures.turn.won (alone_on c.args.tree.now.space.table.shared.key c.args.pass.now.seat.me.0.upper c.loop-pass.pass.seat.me.0.upper
-      c.loop-pass.invariant.further.number alone)));
-  waited = λ alone. turn_waited c.args.tree.now.space.table.shared.key (g.A.Attempt.adds c.args.order.now.what.now) c.once-tried.result
-      c.args.pass.now.seat.me.0.upper c.once-tried.new.pass.seat.me.0.upper (c.if-not-has_next.ensures.0 refl)
-      (one_more_attempt tells c.args.tree.now.space.table.shared.key (g.A.Attempt.adds c.args.order.now.what.now) c.once-tried.result
-      c.args.pass.now.seat.me.0.upper c.loop-pass.pass.seat.me.0.upper c.once-tried.new.pass.seat.me.0.upper c.requires.resting.known
-      c.loop-pass.invariant.resting.known c.loop-pass.invariant.further c.loop-pass.invariant.waited c.once-tried.ensures.tried
-      c.once-tried.ensures.turn.grown alone);
-  full = let edits = λ (x : _). g.A.Attempt.edits c.args.order.now.what.now x in let z = c.args.tree.now.space.table.shared.key in
-      let adds = g.A.Attempt.adds c.args.order.now.what.now in
-      turn_cut edits z adds c.once-tried.result c.args.pass.now.seat.me.0.upper c.once-tried.new.pass.seat.me.0.upper (c.if-not-has_next.ensures.0 refl)
-      (one_more_cut edits z adds c.once-tried.result c.args.pass.now.seat.me.0.upper c.loop-pass.pass.seat.me.0.upper
-      c.once-tried.new.pass.seat.me.0.upper c.loop-pass.invariant.full c.once-tried.ensures.turn.cut);
-}
+loop-pass-preserved g c =
+    let tells = λ (x : _). g.A.Attempt.tells c.args.order.now.what.now x c.once-tried.new.left in
+    record {
+      number = c.once-tried.ensures.frame.number ∙ c.loop-pass.invariant.number;
+      resting = c.once-tried.ensures.frame.resting;
+      further = further_on c.args.pass.now.seat.me.0.upper c.loop-pass.pass.seat.me.0.upper
+          c.once-tried.new.pass.seat.me.0.upper c.loop-pass.invariant.further
+          (turn_further tells c.args.tree.now.space.table.shared.key c.once-tried.result
+          c.loop-pass.pass.seat.me.0.upper
+          c.once-tried.new.pass.seat.me.0.upper (c.if-not-has_next.ensures.0 refl)
+          c.once-tried.ensures.tried);
+      counted = paid_both c.args.course.now.spent c.loop-pass.course.spent c.once-tried.new.course.spent
+          c.args.pass.now.seat.me c.loop-pass.pass.seat.me
+          c.once-tried.new.pass.seat.me c.loop-pass.invariant.counted c.once-tried.ensures.turn.counted;
+      looks = c.once-tried.ensures.looks ∙ c.loop-pass.invariant.looks;
+      lags = c.once-tried.ensures.lags.0 ∙ c.loop-pass.invariant.lags;
+      entered = inr (c.once-tried.ensures.lags.1 ∙ c.loop-pass.invariant.lags);
+      met = met_both 0 0 0 0 c.args.pass.now.seat.me c.loop-pass.pass.seat.me
+          c.once-tried.new.pass.seat.me c.loop-pass.invariant.met
+          (met_turn c.once-tried.result c.loop-pass.pass.seat.me c.once-tried.new.pass.seat.me
+          (c.if-not-has_next.ensures.0 refl) c.once-tried.ensures.turn.found).0;
+      waits = waits_on c.args.course.now.adapting c.loop-pass.course.adapting
+          c.once-tried.new.course.adapting c.args.pass.now.seat.me.0.upper
+          c.loop-pass.pass.seat.me.0.upper
+          c.once-tried.new.pass.seat.me.0.upper c.loop-pass.invariant.waits
+          (turn_waits
+          (λ (x : _). g.A.Attempt.edits c.args.order.now.what.now x)
+          c.args.tree.now.space.table.shared.key c.args.tree.now.tuning c.loop-pass.course.adapting
+          c.once-tried.new.course.adapting c.once-tried.result c.loop-pass.pass.seat.me.0.upper
+          c.once-tried.new.pass.seat.me.0.upper
+          (c.if-not-has_next.ensures.0 refl) c.once-tried.ensures.turn.gone_on);
+      won = λ alone. turn_won
+          (λ (x : _). g.A.Attempt.edits c.args.order.now.what.now x) c.once-tried.result
+          c.args.pass.now.seat.me.0.upper
+          c.once-tried.new.pass.seat.me.0.upper (c.if-not-has_next.ensures.0 refl)
+          (won_behind
+          (λ (x : _). g.A.Attempt.edits c.args.order.now.what.now x) c.once-tried.result
+          c.args.pass.now.seat.me.0.upper
+          c.loop-pass.pass.seat.me.0.upper c.once-tried.new.pass.seat.me.0.upper
+          (c.loop-pass.invariant.won alone)
+          (c.once-tried.ensures.turn.won
+          (alone_on c.args.tree.now.space.table.shared.key c.args.pass.now.seat.me.0.upper
+          c.loop-pass.pass.seat.me.0.upper
+          c.loop-pass.invariant.further.number alone)));
+      waited = λ alone.
+          turn_waited c.args.tree.now.space.table.shared.key
+          (g.A.Attempt.adds c.args.order.now.what.now) c.once-tried.result
+          c.args.pass.now.seat.me.0.upper c.once-tried.new.pass.seat.me.0.upper
+          (c.if-not-has_next.ensures.0 refl)
+          (one_more_attempt tells c.args.tree.now.space.table.shared.key
+          (g.A.Attempt.adds c.args.order.now.what.now) c.once-tried.result
+          c.args.pass.now.seat.me.0.upper c.loop-pass.pass.seat.me.0.upper
+          c.once-tried.new.pass.seat.me.0.upper c.requires.resting.known
+          c.loop-pass.invariant.resting.known c.loop-pass.invariant.further c.loop-pass.invariant.waited
+          c.once-tried.ensures.tried
+          c.once-tried.ensures.turn.grown alone);
+      full = let edits = λ (x : _). g.A.Attempt.edits c.args.order.now.what.now x in
+          let z = c.args.tree.now.space.table.shared.key in
+          let adds = g.A.Attempt.adds c.args.order.now.what.now in
+          turn_cut edits z adds c.once-tried.result c.args.pass.now.seat.me.0.upper
+          c.once-tried.new.pass.seat.me.0.upper (c.if-not-has_next.ensures.0 refl)
+          (one_more_cut edits z adds c.once-tried.result c.args.pass.now.seat.me.0.upper
+          c.loop-pass.pass.seat.me.0.upper
+          c.once-tried.new.pass.seat.me.0.upper c.loop-pass.invariant.full
+          c.once-tried.ensures.turn.cut);
+    }
 
 pub returns-clause-frame : goal.returns-clause-frame
 returns-clause-frame g c = record {
@@ -85,21 +118,33 @@ returns-then-not-has_next-clause-frame g c = record {
 }
 
 pub returns-then-not-has_next-clause-tried : goal.returns-then-not-has_next-clause-tried
-returns-then-not-has_next-clause-tried g c = let tells = λ (x : _). g.A.Attempt.tells c.args.order.now.what.now x c.once-tried.new.left in
-    tried_on tells c.args.tree.now.space.table.shared.key c.once-tried.result c.args.pass.now.seat.me.0.upper c.loop-pass.pass.seat.me.0.upper
+returns-then-not-has_next-clause-tried g c =
+    let tells = λ (x : _). g.A.Attempt.tells c.args.order.now.what.now x c.once-tried.new.left in
+    tried_on tells c.args.tree.now.space.table.shared.key c.once-tried.result
+    c.args.pass.now.seat.me.0.upper c.loop-pass.pass.seat.me.0.upper
     c.once-tried.new.pass.seat.me.0.upper c.loop-pass.invariant.further c.once-tried.ensures.tried
 
 pub loop-pass-smaller : goal.loop-pass-smaller
-loop-pass-smaller g c = let most = c.budget-budget.type_inv in one_turn_less c.loop-pass.course.spent c.once-tried.new.course.spent c.budget-budget.result c.loop-pass.pass.seat.me
-    c.once-tried.new.pass.seat.me (subst (λ n. n < c.budget-budget.result) c.spent_in_all.ensures c.loop-pass-test.true) (omega arith) c.once-tried.ensures.turn.counted
-    (met_turn c.once-tried.result c.loop-pass.pass.seat.me c.once-tried.new.pass.seat.me (c.if-not-has_next.ensures.0 refl) c.once-tried.ensures.turn.found).1
+loop-pass-smaller g c = let most = c.budget-budget.type_inv in
+    one_turn_less c.loop-pass.course.spent c.once-tried.new.course.spent c.budget-budget.result
+    c.loop-pass.pass.seat.me
+    c.once-tried.new.pass.seat.me (subst
+    (λ n. n < c.budget-budget.result) c.spent_in_all.ensures c.loop-pass-test.true)
+    (omega arith) c.once-tried.ensures.turn.counted
+    (met_turn c.once-tried.result c.loop-pass.pass.seat.me c.once-tried.new.pass.seat.me
+    (c.if-not-has_next.ensures.0 refl) c.once-tried.ensures.turn.found).1
 
 pub returns-then-not-has_next-clause-counted : goal.returns-then-not-has_next-clause-counted
-returns-then-not-has_next-clause-counted g c = paid_both c.args.course.now.spent c.loop-pass.course.spent c.once-tried.new.course.spent c.args.pass.now.seat.me
-    c.loop-pass.pass.seat.me c.once-tried.new.pass.seat.me c.loop-pass.invariant.counted c.once-tried.ensures.turn.counted
+returns-then-not-has_next-clause-counted g c =
+    paid_both c.args.course.now.spent c.loop-pass.course.spent c.once-tried.new.course.spent
+    c.args.pass.now.seat.me
+    c.loop-pass.pass.seat.me c.once-tried.new.pass.seat.me c.loop-pass.invariant.counted
+    c.once-tried.ensures.turn.counted
 
 pub returns-then-not-has_next-clause-found : goal.returns-then-not-has_next-clause-found
-returns-then-not-has_next-clause-found g c = met_then c.once-tried.result c.args.pass.now.seat.me c.loop-pass.pass.seat.me c.once-tried.new.pass.seat.me
+returns-then-not-has_next-clause-found g c =
+    met_then c.once-tried.result c.args.pass.now.seat.me c.loop-pass.pass.seat.me
+    c.once-tried.new.pass.seat.me
     c.loop-pass.invariant.met c.once-tried.ensures.turn.found.0
 
 pub returns-clause-counted : goal.returns-clause-counted
@@ -110,12 +155,16 @@ returns-clause-found g c = c.loop-pass.invariant.met
 
 pub returns-clause-entered : goal.returns-clause-entered
 returns-clause-entered g c unspent = ⊎_elim
-    (λ (same : c.loop-pass.course.spent ≡ c.args.course.now.spent). let most = c.budget-budget.type_inv in let is = c.budget-budget.ensures in let none = ap total same in
+    (λ (same : c.loop-pass.course.spent ≡ c.args.course.now.spent).
+    let most = c.budget-budget.type_inv in let is = c.budget-budget.ensures in
+    let none = ap total same in
     let spent = c.loop-pass-test.false in let all = c.spent_in_all.ensures in absurd (omega arith))
-    (λ (e : c.loop-pass.pass.seat.me.0.pin.entered.lags ≡ c.args.pass.now.seat.me.0.pin.lags). e) c.loop-pass.invariant.entered
+    (λ (e : c.loop-pass.pass.seat.me.0.pin.entered.lags ≡ c.args.pass.now.seat.me.0.pin.lags). e)
+    c.loop-pass.invariant.entered
 
 pub returns-then-not-has_next-clause-entered : goal.returns-then-not-has_next-clause-entered
-returns-then-not-has_next-clause-entered g c _ = c.once-tried.ensures.lags.1 ∙ c.loop-pass.invariant.lags
+returns-then-not-has_next-clause-entered g c _ = c.once-tried.ensures.lags.1
+    ∙ c.loop-pass.invariant.lags
 
 pub returns-then-not-has_next-clause-lags : goal.returns-then-not-has_next-clause-lags
 returns-then-not-has_next-clause-lags g c = c.once-tried.ensures.lags.0 ∙ c.loop-pass.invariant.lags
@@ -132,18 +181,34 @@ returns-clause-turns g c = record {
 pub returns-then-not-has_next-clause-turns : goal.returns-then-not-has_next-clause-turns
 returns-then-not-has_next-clause-turns g c = record {
   met_as = c.once-tried.ensures.turn.met_as;
-  gone_on = gone_on (λ (x : _). g.A.Attempt.edits c.args.order.now.what.now x) c.args.tree.now.space.table.shared.key
-      c.args.tree.now.tuning c.args.course.now.adapting c.loop-pass.course.adapting c.once-tried.new.course.adapting c.once-tried.result c.args.pass.now.seat.me.0.upper
-      c.loop-pass.pass.seat.me.0.upper c.once-tried.new.pass.seat.me.0.upper c.loop-pass.invariant.waits c.once-tried.ensures.turn.gone_on;
-  grown = let tells = λ (x : _). g.A.Attempt.tells c.args.order.now.what.now x c.once-tried.new.left in
-      one_more_attempt tells c.args.tree.now.space.table.shared.key (g.A.Attempt.adds c.args.order.now.what.now) c.once-tried.result
-      c.args.pass.now.seat.me.0.upper c.loop-pass.pass.seat.me.0.upper c.once-tried.new.pass.seat.me.0.upper c.requires.resting.known
-      c.loop-pass.invariant.resting.known c.loop-pass.invariant.further c.loop-pass.invariant.waited c.once-tried.ensures.tried c.once-tried.ensures.turn.grown;
-  won = λ alone. won_behind (λ (x : _). g.A.Attempt.edits c.args.order.now.what.now x) c.once-tried.result
-      c.args.pass.now.seat.me.0.upper c.loop-pass.pass.seat.me.0.upper c.once-tried.new.pass.seat.me.0.upper (c.loop-pass.invariant.won alone)
-      (c.once-tried.ensures.turn.won (alone_on c.args.tree.now.space.table.shared.key c.args.pass.now.seat.me.0.upper c.loop-pass.pass.seat.me.0.upper
+  gone_on = gone_on
+      (λ (x : _). g.A.Attempt.edits c.args.order.now.what.now x)
+      c.args.tree.now.space.table.shared.key
+      c.args.tree.now.tuning c.args.course.now.adapting c.loop-pass.course.adapting
+      c.once-tried.new.course.adapting c.once-tried.result c.args.pass.now.seat.me.0.upper
+      c.loop-pass.pass.seat.me.0.upper c.once-tried.new.pass.seat.me.0.upper
+      c.loop-pass.invariant.waits c.once-tried.ensures.turn.gone_on;
+  grown = let tells = λ (x : _).
+      g.A.Attempt.tells c.args.order.now.what.now x c.once-tried.new.left in
+      one_more_attempt tells c.args.tree.now.space.table.shared.key
+      (g.A.Attempt.adds c.args.order.now.what.now) c.once-tried.result
+      c.args.pass.now.seat.me.0.upper c.loop-pass.pass.seat.me.0.upper
+      c.once-tried.new.pass.seat.me.0.upper c.requires.resting.known
+      c.loop-pass.invariant.resting.known c.loop-pass.invariant.further c.loop-pass.invariant.waited
+      c.once-tried.ensures.tried c.once-tried.ensures.turn.grown;
+  won = λ alone. won_behind
+      (λ (x : _). g.A.Attempt.edits c.args.order.now.what.now x) c.once-tried.result
+      c.args.pass.now.seat.me.0.upper c.loop-pass.pass.seat.me.0.upper
+      c.once-tried.new.pass.seat.me.0.upper (c.loop-pass.invariant.won alone)
+      (c.once-tried.ensures.turn.won
+      (alone_on c.args.tree.now.space.table.shared.key c.args.pass.now.seat.me.0.upper
+      c.loop-pass.pass.seat.me.0.upper
       c.loop-pass.invariant.further.number alone));
-  cut = one_more_cut (λ (x : _). g.A.Attempt.edits c.args.order.now.what.now x) c.args.tree.now.space.table.shared.key
-      (g.A.Attempt.adds c.args.order.now.what.now) c.once-tried.result c.args.pass.now.seat.me.0.upper c.loop-pass.pass.seat.me.0.upper
-      c.once-tried.new.pass.seat.me.0.upper c.loop-pass.invariant.full c.once-tried.ensures.turn.cut;
+  cut = one_more_cut
+      (λ (x : _). g.A.Attempt.edits c.args.order.now.what.now x)
+      c.args.tree.now.space.table.shared.key
+      (g.A.Attempt.adds c.args.order.now.what.now) c.once-tried.result
+      c.args.pass.now.seat.me.0.upper c.loop-pass.pass.seat.me.0.upper
+      c.once-tried.new.pass.seat.me.0.upper c.loop-pass.invariant.full
+      c.once-tried.ensures.turn.cut;
 }

@@ -12,19 +12,26 @@ use Rattle.ca_replace.proofs.calls.turns.Given as goal
 abbrev pub invariant-loop-pass : goal.invariant-loop-pass
 invariant-loop-pass g l = record {
   number : l.pass.number ≡ l.fn.pass.number;
-  resting : IsResting l.tree.space.table.shared.table_id l.tree.space.table.shared.key l.pass.number l.pass.tally l.pass.kept.rows l.pass.seat;
+  resting : IsResting l.tree.space.table.shared.table_id l.tree.space.table.shared.key l.pass.number
+      l.pass.tally l.pass.kept.rows l.pass.seat;
   further : IsFurther l.fn.pass.seat.me.0.upper l.pass.seat.me.0.upper;
   counted : IsPaid l.fn.course.spent l.course.spent l.fn.pass.seat.me l.pass.seat.me;
   looks : l.pass.seat.me.0.pin.looks ≡ l.fn.pass.seat.me.0.pin.looks;
   lags : l.pass.seat.me.0.pin.lags ≡ l.fn.pass.seat.me.0.pin.lags;
-  -- No attempt was made yet, or the pass pinned in this call: no other one had been found to lag until then.
-  entered : (l.course.spent ≡ l.fn.course.spent) ⊎ (l.pass.seat.me.0.pin.entered.lags ≡ l.fn.pass.seat.me.0.pin.lags);
+  -- No attempt was made yet, or the pass pinned in this call: no other one had been found to lag
+  -- until then.
+  entered : (l.course.spent ≡ l.fn.course.spent)
+      ⊎ (l.pass.seat.me.0.pin.entered.lags ≡ l.fn.pass.seat.me.0.pin.lags);
   met : HasMet 0 0 l.fn.pass.seat.me l.pass.seat.me;
-  waits : Waits l.fn.course.adapting l.course.adapting l.fn.pass.seat.me.0.upper l.pass.seat.me.0.upper;
-  won : IsAlone l.tree.space.table.shared.key l.fn.pass.seat.me.0.upper → l.pass.seat.me.0.upper.lost ≡ l.fn.pass.seat.me.0.upper.lost;
-  waited : IsAlone l.tree.space.table.shared.key l.fn.pass.seat.me.0.upper → HasWaited l.tree.space.table.shared.key (g.A.Attempt.adds l.order.what.now)
+  waits : Waits l.fn.course.adapting l.course.adapting l.fn.pass.seat.me.0.upper
+      l.pass.seat.me.0.upper;
+  won : IsAlone l.tree.space.table.shared.key l.fn.pass.seat.me.0.upper
+      → l.pass.seat.me.0.upper.lost ≡ l.fn.pass.seat.me.0.upper.lost;
+  waited : IsAlone l.tree.space.table.shared.key l.fn.pass.seat.me.0.upper
+      → HasWaited l.tree.space.table.shared.key (g.A.Attempt.adds l.order.what.now)
       l.fn.pass.seat.me.0.upper l.pass.seat.me.0.upper;
-  full : HasCutFull l.tree.space.table.shared.key (g.A.Attempt.adds l.order.what.now) l.fn.pass.seat.me.0.upper l.pass.seat.me.0.upper;
+  full : HasCutFull l.tree.space.table.shared.key (g.A.Attempt.adds l.order.what.now)
+      l.fn.pass.seat.me.0.upper l.pass.seat.me.0.upper;
 }
 
 abbrev pub decreases-loop-pass : goal.decreases-loop-pass

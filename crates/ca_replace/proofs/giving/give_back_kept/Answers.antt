@@ -6,8 +6,10 @@ pub returns-clause-frame : goal.returns-clause-frame
 returns-clause-frame c = record {
   number = search rules;
   resting = let space = c.args.tree.now.space.table.shared in
-      rests_still space.table_id space.key c.args.pass.now.number c.reclaim.new.pass.number c.args.pass.now.tally c.reclaim.new.pass.tally
+      rests_still space.table_id space.key c.args.pass.now.number c.reclaim.new.pass.number
+      c.args.pass.now.tally c.reclaim.new.pass.tally
       c.args.pass.now.kept.rows c.reclaim.new.pass.kept.rows
-      c.args.pass.now.seat c.reclaim.new.pass.seat c.requires.resting c.reclaim.ensures.frame.number c.reclaim.ensures.frame.tally c.reclaim.ensures.frame.same.0
+      c.args.pass.now.seat c.reclaim.new.pass.seat c.requires.resting c.reclaim.ensures.frame.number
+      c.reclaim.ensures.frame.tally c.reclaim.ensures.frame.same.0
       c.reclaim.ensures.reclaims c.reclaim.ensures.list;
 }

@@ -5,9 +5,11 @@ use Rattle.ca_rows.proofs.close.gather.Given as goal
 
 abbrev pub invariant-loop-pass : goal.invariant-loop-pass
 invariant-loop-pass g l =
-    (l.seat.table_id ≡ l.fn.seat.table_id) × (l.seat.id ≡ l.fn.seat.id) × (l.seat.me.0.pin.pinned ≡ false)
+    (l.seat.table_id ≡ l.fn.seat.table_id) × (l.seat.id ≡ l.fn.seat.id)
+    × (l.seat.me.0.pin.pinned ≡ false)
     × All (λ pass. IsClosable l.table.shared.table_id pass.seat) l.passes.items
-    × (joined_from g.R.RowRule.both l.seat.me.0 (map (λ pass. pass.seat.me.0) l.passes.items) ≡ joined_from g.R.RowRule.both l.fn.seat.me.0
+    × (joined_from g.R.RowRule.both l.seat.me.0 (map (λ pass. pass.seat.me.0) l.passes.items)
+    ≡ joined_from g.R.RowRule.both l.fn.seat.me.0
     (map (λ pass. pass.seat.me.0) l.fn.passes.items))
 
 abbrev pub decreases-loop-pass : goal.decreases-loop-pass

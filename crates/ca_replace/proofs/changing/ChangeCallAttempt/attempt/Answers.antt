@@ -28,88 +28,157 @@ use Rattle.ca_replace.proofs.Winning.{won_on}
 use Rattle.ca_replace.proofs.changing.ChangeCallAttempt.attempt.Goals as goal
 
 pub returns-in_default-clause-tried : goal.returns-in_default-clause-tried
-returns-in_default-clause-tried g c = let key : List ℕ = c.args.self.now.key.now in let z = c.args.tree.now.space.table.shared.key in
-    let w = c.fetch-place.new.pass.seat.me.0.upper in let old : List ℕ = c.fetch-place.new.old.items in
-    let none = subst (λ (p : Result ℕ ℕ). HasFetched z w key p old) c.in_default.is c.fetch-place.ensures.fetched in
-    read_done (λ (x : Changed) (e : Event). Alters g.F.Fn c.args.self.now.f.now key x old e) z c.args.pass.now.seat.me.0.upper w
-    c.enter.new.pass.seat.me.0.upper changed.Absent (Change key None None) (refl, none.1) c.fetch-place.ensures.looked.further c.fetch-place.ensures.looked.looking.known
+returns-in_default-clause-tried g c = let key : List ℕ = c.args.self.now.key.now in
+    let z = c.args.tree.now.space.table.shared.key in
+    let w = c.fetch-place.new.pass.seat.me.0.upper in
+    let old : List ℕ = c.fetch-place.new.old.items in
+    let none = subst
+    (λ (p : Result ℕ ℕ). HasFetched z w key p old) c.in_default.is
+    c.fetch-place.ensures.fetched in
+    read_done (λ (x : Changed)
+    (e : Event). Alters g.F.Fn c.args.self.now.f.now key x old e) z
+    c.args.pass.now.seat.me.0.upper w
+    c.enter.new.pass.seat.me.0.upper changed.Absent (Change key None None) (
+      refl,
+      none.1,
+    ) c.fetch-place.ensures.looked.further c.fetch-place.ensures.looked.looking.known
     (refl, none.0) (ap (λ (m : MyTree). m.0.upper) c.enter.ensures.entered)
 
 pub returns-then-not-f-clause-tried : goal.returns-then-not-f-clause-tried
-returns-then-not-f-clause-tried g c = let key : List ℕ = c.args.self.now.key.now in let z = c.args.tree.now.space.table.shared.key in
-    let w = c.fetch-place.new.pass.seat.me.0.upper in let old : List ℕ = c.fetch-place.new.old.items in
-    let found = subst (λ (p : Result ℕ ℕ). HasFetched z w key p old) c.in-Ok.is c.fetch-place.ensures.fetched in
-    read_done (λ (x : Changed) (e : Event). Alters g.F.Fn c.args.self.now.f.now key x old e) z c.args.pass.now.seat.me.0.upper w
-    c.enter-then-not-f.new.pass.seat.me.0.upper changed.Kept (Change key (Some old) None)
-    ((_, _, may_leave g.F.Fn c.args.self.now.f.now old c.f.result false _ _ _ _ _ c.if-not-f.true c.as_slice.ensures.value c.clear.ensures c.f.ensures), refl)
+returns-then-not-f-clause-tried g c = let key : List ℕ = c.args.self.now.key.now in
+    let z = c.args.tree.now.space.table.shared.key in
+    let w = c.fetch-place.new.pass.seat.me.0.upper in
+    let old : List ℕ = c.fetch-place.new.old.items in
+    let found = subst
+    (λ (p : Result ℕ ℕ). HasFetched z w key p old) c.in-Ok.is c.fetch-place.ensures.fetched in
+    read_done (λ (x : Changed)
+    (e : Event). Alters g.F.Fn c.args.self.now.f.now key x old e) z
+    c.args.pass.now.seat.me.0.upper w
+    c.enter-then-not-f.new.pass.seat.me.0.upper changed.Kept (Change key (Some old) None) (
+      (
+        _,
+        _,
+        may_leave g.F.Fn c.args.self.now.f.now old c.f.result false _ _ _ _ _ c.if-not-f.true
+            c.as_slice.ensures.value c.clear.ensures c.f.ensures,
+      ),
+      refl,
+    )
     c.fetch-place.ensures.looked.further c.fetch-place.ensures.looked.looking.known (refl, found.0)
     (ap (λ (m : MyTree). m.0.upper) c.enter-then-not-f.ensures.entered
     ∙ ap (λ (o : List ℕ). entered w (Change key (Some o) None)) c.as_slice-then-not-f.ensures.value)
 
 pub overflow_add-end : goal.overflow_add-end
-overflow_add-end g c = let key : List ℕ = c.args.self.now.key.now in let z = c.args.tree.now.space.table.shared.key in
-    let found = subst (λ (p : Result ℕ ℕ). HasFetched z c.fetch-place.new.pass.seat.me.0.upper key p c.fetch-place.new.old.items) c.in-Ok.is
+overflow_add-end g c = let key : List ℕ = c.args.self.now.key.now in
+    let z = c.args.tree.now.space.table.shared.key in
+    let found = subst
+    (λ (p : Result ℕ ℕ).
+    HasFetched z c.fetch-place.new.pass.seat.me.0.upper key p c.fetch-place.new.old.items)
+    c.in-Ok.is
     c.fetch-place.ensures.fetched in
-    let l = left_of g.F.Fn c.args.self.now.f.now z.keypos key c.fetch-place.new.old.items c.f.result _ _ _ _ _ c.if-not-f.false c.as_slice.ensures.value
-    c.clear.ensures c.requires.may found.1 c.f.ensures in record { fits = omega (arith, l.inside, l.pair.short) }
+    let l = left_of g.F.Fn c.args.self.now.f.now z.keypos key c.fetch-place.new.old.items c.f.result
+    _ _ _ _ _ c.if-not-f.false c.as_slice.ensures.value
+    c.clear.ensures c.requires.may found.1 c.f.ensures in
+    record { fits = omega (arith, l.inside, l.pair.short) }
 
 -- what the function left, as the pair that is put
-left : (g : _) → (c : goal.After-put_there-arg-2-1 g) → IsLeft c.args.tree.now.space.table.shared.key.keypos c.args.self.now.key.now c.f.new.arg3.items c.f.new.arg4
-left g c = let key : List ℕ = c.args.self.now.key.now in let z = c.args.tree.now.space.table.shared.key in
-    let found = subst (λ (p : Result ℕ ℕ). HasFetched z c.fetch-place.new.pass.seat.me.0.upper key p c.fetch-place.new.old.items) c.in-Ok.is
+left : (g : _) → (c : goal.After-put_there-arg-2-1 g)
+    → IsLeft c.args.tree.now.space.table.shared.key.keypos c.args.self.now.key.now
+    c.f.new.arg3.items c.f.new.arg4
+left g c = let key : List ℕ = c.args.self.now.key.now in
+    let z = c.args.tree.now.space.table.shared.key in
+    let found = subst
+    (λ (p : Result ℕ ℕ).
+    HasFetched z c.fetch-place.new.pass.seat.me.0.upper key p c.fetch-place.new.old.items)
+    c.in-Ok.is
     c.fetch-place.ensures.fetched in
-    left_of g.F.Fn c.args.self.now.f.now z.keypos key c.fetch-place.new.old.items c.f.result _ _ _ _ _ c.if-not-f.false c.as_slice.ensures.value
+    left_of g.F.Fn c.args.self.now.f.now z.keypos key c.fetch-place.new.old.items c.f.result _ _ _ _
+    _ c.if-not-f.false c.as_slice.ensures.value
     c.clear.ensures c.requires.may found.1 c.f.ensures
 
 pub put_there-requires-clause-keyed : goal.put_there-requires-clause-keyed
 put_there-requires-clause-keyed g c = let l = left g c in record {
-  within = (omega arith, omega (arith, l.inside, ap (λ (x : List ℕ). length x) c.as_slice-2.ensures.value));
+  within = (
+    omega arith,
+    omega (
+      arith,
+      l.inside,
+      ap (λ (x : List ℕ). length x) c.as_slice-2.ensures.value,
+    ),
+  );
   pair_is = subst (λ (q : Pair). IsPair c.args.tree.now.space.table.shared.key.keypos q)
-      (sym (pair_of_bytes c.as_slice-2.result.now c.f.new.arg3.items c.args.self.now.key.now c.f.new.arg4 c.as_slice-2.ensures.value l.key)) l.pair;
+      (sym (pair_of_bytes c.as_slice-2.result.now c.f.new.arg3.items c.args.self.now.key.now
+      c.f.new.arg4 c.as_slice-2.ensures.value l.key)) l.pair;
 }
 
 pub put_there-requires-clause-looking : goal.put_there-requires-clause-looking
 put_there-requires-clause-looking g c = let l = left g c in
-    subst (λ (q : Pair). IsLooking c.args.tree.now.space.table.shared.key c.fetch-place.new.pass.seat.me.0.upper q.0 c.fetch-place.result.0)
-    (sym (pair_of_bytes c.as_slice-2.result.now c.f.new.arg3.items c.args.self.now.key.now c.f.new.arg4 c.as_slice-2.ensures.value l.key))
+    subst (λ (q : Pair).
+    IsLooking c.args.tree.now.space.table.shared.key c.fetch-place.new.pass.seat.me.0.upper q.0
+    c.fetch-place.result.0)
+    (sym (pair_of_bytes c.as_slice-2.result.now c.f.new.arg3.items c.args.self.now.key.now
+    c.f.new.arg4 c.as_slice-2.ensures.value l.key))
     c.fetch-place.ensures.looked.looking
 
 pub put_there-requires-clause-place : goal.put_there-requires-clause-place
-put_there-requires-clause-place g c = let l = left g c in let m = map pair (first_note c.fetch-place.new.pass.seat.me.0.upper.notes).objects in
-    subst (λ (q : Pair). IsPlace m q.0 (Ok c.in-Ok.at)) (sym (pair_of_bytes c.as_slice-2.result.now c.f.new.arg3.items c.args.self.now.key.now
+put_there-requires-clause-place g c = let l = left g c in
+    let m = map pair (first_note c.fetch-place.new.pass.seat.me.0.upper.notes).objects in
+    subst (λ (q : Pair). IsPlace m q.0 (Ok c.in-Ok.at))
+    (sym (pair_of_bytes c.as_slice-2.result.now c.f.new.arg3.items c.args.self.now.key.now
     c.f.new.arg4 c.as_slice-2.ensures.value l.key))
-    (subst (λ (p : Result ℕ ℕ). IsPlace m c.args.self.now.key.now p) c.in-Ok.is c.fetch-place.ensures.looked.place)
+    (subst (λ (p : Result ℕ ℕ).
+    IsPlace m c.args.self.now.key.now p) c.in-Ok.is c.fetch-place.ensures.looked.place)
 
 pub returns-in-Ok-put_there-clause-tried : goal.returns-in-Ok-put_there-clause-tried
-returns-in-Ok-put_there-clause-tried g c = let key : List ℕ = c.args.self.now.key.now in let z = c.args.tree.now.space.table.shared.key in
-    let w = c.fetch-place.new.pass.seat.me.0.upper in let old : List ℕ = c.fetch-place.new.old.items in
+returns-in-Ok-put_there-clause-tried g c = let key : List ℕ = c.args.self.now.key.now in
+    let z = c.args.tree.now.space.table.shared.key in
+    let w = c.fetch-place.new.pass.seat.me.0.upper in
+    let old : List ℕ = c.fetch-place.new.old.items in
     let slice : List ℕ = c.as_slice-2.result.now in let start : ℕ = c.f.new.arg4 in
-    let found = subst (λ (p : Result ℕ ℕ). HasFetched z w key p old) c.in-Ok.is c.fetch-place.ensures.fetched in
-    let may = may_leave g.F.Fn c.args.self.now.f.now old c.f.result true _ _ _ _ _ c.if-not-f.false c.as_slice.ensures.value c.clear.ensures c.f.ensures in
-    let l = left_of g.F.Fn c.args.self.now.f.now z.keypos key old c.f.result _ _ _ _ _ c.if-not-f.false c.as_slice.ensures.value
+    let found = subst
+    (λ (p : Result ℕ ℕ). HasFetched z w key p old) c.in-Ok.is c.fetch-place.ensures.fetched in
+    let may = may_leave g.F.Fn c.args.self.now.f.now old c.f.result true _ _ _ _ _ c.if-not-f.false
+    c.as_slice.ensures.value c.clear.ensures c.f.ensures in
+    let l = left_of g.F.Fn c.args.self.now.f.now z.keypos key old c.f.result _ _ _ _ _
+    c.if-not-f.false c.as_slice.ensures.value
     c.clear.ensures c.requires.may found.1 c.f.ensures in
     let own = pair_of_bytes slice c.f.new.arg3.items key start c.as_slice-2.ensures.value l.key in
     did (λ (x : Changed) (e : Event). Alters g.F.Fn c.args.self.now.f.now key x old e) z
-    (Change (slice_range slice start (start + length key)) (Some (object_at (Ok c.in-Ok.at) (first_note w.notes).objects)) (Some slice)) changed.Put
-    c.args.pass.now.seat.me.0.upper w c.put_there.new.pass.seat.me.0.upper
-    (c.f.new.arg3.items, start, may, λ i. Change (own i).0 (Some (found.2 i)) (Some (own i).1)) c.fetch-place.ensures.looked.further
+    (Change (slice_range slice start (start + length key))
+    (Some (object_at (Ok c.in-Ok.at) (first_note w.notes).objects)) (Some slice)) changed.Put
+    c.args.pass.now.seat.me.0.upper w c.put_there.new.pass.seat.me.0.upper (
+      c.f.new.arg3.items,
+      start,
+      may,
+      λ i. Change (own i).0 (Some (found.2 i)) (Some (own i).1),
+    )
+    c.fetch-place.ensures.looked.further
     c.in-Ok-put_there.ensures.tried
 
 pub returns-in_default-clause-frame : goal.returns-in_default-clause-frame
 returns-in_default-clause-frame g c = record {
-  same = (c.enter.ensures.frame.same.0 ∙ c.fetch-place.ensures.looked.same.0, c.enter.ensures.frame.same.1 ∙ c.fetch-place.ensures.looked.same.1);
+  same = (
+    c.enter.ensures.frame.same.0 ∙ c.fetch-place.ensures.looked.same.0,
+    c.enter.ensures.frame.same.1 ∙ c.fetch-place.ensures.looked.same.1,
+  );
   number = c.enter.ensures.frame.number ∙ c.fetch-place.ensures.looked.number;
-  tally = λ h. tallied_read c.fetch-place.new.pass.tally c.enter.new.pass.tally c.fetch-place.new.pass.seat.me
-      c.enter.new.pass.seat.me _ c.enter.ensures.frame.tally c.enter.ensures.entered (c.fetch-place.ensures.looked.tally h);
+  tally = λ h.
+      tallied_read c.fetch-place.new.pass.tally c.enter.new.pass.tally
+      c.fetch-place.new.pass.seat.me
+      c.enter.new.pass.seat.me _ c.enter.ensures.frame.tally c.enter.ensures.entered
+      (c.fetch-place.ensures.looked.tally h);
   pin = (
     ap (λ (m : MyTree). m.0.sizes) c.enter.ensures.entered ∙ c.fetch-place.ensures.looked.still.0,
     ap (λ (m : MyTree). m.0.pin) c.enter.ensures.entered ∙ c.fetch-place.ensures.looked.still.1,
   );
-  none = held_upper c.args.tree.now.space.table.shared.key.rows c.fetch-place.new.pass.kept c.enter.new.pass.kept
+  none = held_upper c.args.tree.now.space.table.shared.key.rows c.fetch-place.new.pass.kept
+      c.enter.new.pass.kept
       c.fetch-place.new.pass.seat.me c.enter.new.pass.seat.me _ []
-      (held_looked c.args.tree.now.space.table.shared.key.rows c.args.pass.now.kept c.fetch-place.new.pass.kept c.args.pass.now.seat.me
+      (held_looked c.args.tree.now.space.table.shared.key.rows c.args.pass.now.kept
+      c.fetch-place.new.pass.kept c.args.pass.now.seat.me
       c.fetch-place.new.pass.seat.me [] c.requires.ready.none
-      c.fetch-place.ensures.looked.kept c.fetch-place.ensures.looked.still.2 c.fetch-place.ensures.looked.quiet.most) c.enter.ensures.entered c.enter.ensures.frame.kept;
+      c.fetch-place.ensures.looked.kept c.fetch-place.ensures.looked.still.2
+      c.fetch-place.ensures.looked.quiet.most) c.enter.ensures.entered
+      c.enter.ensures.frame.kept;
 }
 
 pub returns-then-not-f-clause-frame : goal.returns-then-not-f-clause-frame
@@ -120,17 +189,25 @@ returns-then-not-f-clause-frame g c = record {
         ∙ c.fetch-place.ensures.looked.same.1,
   );
   number = c.enter-then-not-f.ensures.frame.number ∙ c.fetch-place.ensures.looked.number;
-  tally = λ h. tallied_read c.fetch-place.new.pass.tally c.enter-then-not-f.new.pass.tally c.fetch-place.new.pass.seat.me
-      c.enter-then-not-f.new.pass.seat.me _ c.enter-then-not-f.ensures.frame.tally c.enter-then-not-f.ensures.entered (c.fetch-place.ensures.looked.tally h);
+  tally = λ h.
+      tallied_read c.fetch-place.new.pass.tally c.enter-then-not-f.new.pass.tally
+      c.fetch-place.new.pass.seat.me
+      c.enter-then-not-f.new.pass.seat.me _ c.enter-then-not-f.ensures.frame.tally
+      c.enter-then-not-f.ensures.entered (c.fetch-place.ensures.looked.tally h);
   pin = (
-    ap (λ (m : MyTree). m.0.sizes) c.enter-then-not-f.ensures.entered ∙ c.fetch-place.ensures.looked.still.0,
-    ap (λ (m : MyTree). m.0.pin) c.enter-then-not-f.ensures.entered ∙ c.fetch-place.ensures.looked.still.1,
+    ap (λ (m : MyTree). m.0.sizes) c.enter-then-not-f.ensures.entered
+        ∙ c.fetch-place.ensures.looked.still.0,
+    ap (λ (m : MyTree). m.0.pin) c.enter-then-not-f.ensures.entered
+        ∙ c.fetch-place.ensures.looked.still.1,
   );
-  none = held_upper c.args.tree.now.space.table.shared.key.rows c.fetch-place.new.pass.kept c.enter-then-not-f.new.pass.kept
+  none = held_upper c.args.tree.now.space.table.shared.key.rows c.fetch-place.new.pass.kept
+      c.enter-then-not-f.new.pass.kept
       c.fetch-place.new.pass.seat.me c.enter-then-not-f.new.pass.seat.me _ []
-      (held_looked c.args.tree.now.space.table.shared.key.rows c.args.pass.now.kept c.fetch-place.new.pass.kept c.args.pass.now.seat.me
+      (held_looked c.args.tree.now.space.table.shared.key.rows c.args.pass.now.kept
+      c.fetch-place.new.pass.kept c.args.pass.now.seat.me
       c.fetch-place.new.pass.seat.me [] c.requires.ready.none
-      c.fetch-place.ensures.looked.kept c.fetch-place.ensures.looked.still.2 c.fetch-place.ensures.looked.quiet.most) c.enter-then-not-f.ensures.entered
+      c.fetch-place.ensures.looked.kept c.fetch-place.ensures.looked.still.2
+      c.fetch-place.ensures.looked.quiet.most) c.enter-then-not-f.ensures.entered
       c.enter-then-not-f.ensures.frame.kept;
 }
 
@@ -153,103 +230,163 @@ returns-in-Ok-put_there-clause-frame g c = record {
 
 pub returns-in-Err-clause-frame : goal.returns-in-Err-clause-frame
 returns-in-Err-clause-frame g c = record {
-  same = (c.put_there.ensures.frame.same.0 ∙ c.fetch-place.ensures.looked.same.0, c.put_there.ensures.frame.same.1 ∙ c.fetch-place.ensures.looked.same.1);
+  same = (
+    c.put_there.ensures.frame.same.0 ∙ c.fetch-place.ensures.looked.same.0,
+    c.put_there.ensures.frame.same.1 ∙ c.fetch-place.ensures.looked.same.1,
+  );
   number = c.put_there.ensures.frame.number ∙ c.fetch-place.ensures.looked.number;
   tally = λ h. c.put_there.ensures.frame.tally (c.fetch-place.ensures.looked.tally h);
-  pin = (c.put_there.ensures.frame.pin.0 ∙ c.fetch-place.ensures.looked.still.0, c.put_there.ensures.frame.pin.1 ∙ c.fetch-place.ensures.looked.still.1);
+  pin = (
+    c.put_there.ensures.frame.pin.0 ∙ c.fetch-place.ensures.looked.still.0,
+    c.put_there.ensures.frame.pin.1 ∙ c.fetch-place.ensures.looked.still.1,
+  );
   none = c.put_there.ensures.frame.none;
 }
 
 pub returns-in-Err-clause-tried : goal.returns-in-Err-clause-tried
 returns-in-Err-clause-tried g c = (
-  further_on c.args.pass.now.seat.me.0.upper c.fetch-place.new.pass.seat.me.0.upper c.put_there.new.pass.seat.me.0.upper c.fetch-place.ensures.looked.further
+  further_on c.args.pass.now.seat.me.0.upper c.fetch-place.new.pass.seat.me.0.upper
+      c.put_there.new.pass.seat.me.0.upper c.fetch-place.ensures.looked.further
       c.in-Err.ensures.tried.0,
   c.in-Err.ensures.tried.1,
 )
 
 pub put_there-requires-clause-ready : goal.put_there-requires-clause-ready
 put_there-requires-clause-ready g c = record {
-  own = (c.fetch-place.ensures.looked.same.0 ∙ c.requires.ready.own.0, c.fetch-place.ensures.looked.still.0 ∙ c.requires.ready.own.1);
-  pinned = ap (λ (p : Pin). p.pinned) c.fetch-place.ensures.looked.still.1 ∙ c.requires.ready.pinned;
-  number = subst (λ n. 0 < n) (sym c.fetch-place.ensures.looked.further.number) c.requires.ready.number;
-  none = held_looked c.args.tree.now.space.table.shared.key.rows c.args.pass.now.kept c.fetch-place.new.pass.kept
+  own = (
+    c.fetch-place.ensures.looked.same.0 ∙ c.requires.ready.own.0,
+    c.fetch-place.ensures.looked.still.0 ∙ c.requires.ready.own.1,
+  );
+  pinned = ap (λ (p : Pin). p.pinned) c.fetch-place.ensures.looked.still.1
+      ∙ c.requires.ready.pinned;
+  number = subst
+      (λ n. 0 < n) (sym c.fetch-place.ensures.looked.further.number) c.requires.ready.number;
+  none = held_looked c.args.tree.now.space.table.shared.key.rows c.args.pass.now.kept
+      c.fetch-place.new.pass.kept
       c.args.pass.now.seat.me c.fetch-place.new.pass.seat.me []
-      c.requires.ready.none c.fetch-place.ensures.looked.kept c.fetch-place.ensures.looked.still.2 c.fetch-place.ensures.looked.quiet.most;
+      c.requires.ready.none c.fetch-place.ensures.looked.kept c.fetch-place.ensures.looked.still.2
+      c.fetch-place.ensures.looked.quiet.most;
 }
 
 pub returns-in_default-clause-turn : goal.returns-in_default-clause-turn
 returns-in_default-clause-turn g c = record {
   met_as = tt;
-  gone_on = entered_waits c.args.course.now.adapting c.args.pass.now.seat.me.0.upper c.fetch-place.new.pass.seat.me.0.upper
-      c.fetch-place.new.pass.seat.me c.enter.new.pass.seat.me _ refl c.fetch-place.ensures.looked.quiet.idle c.enter.ensures.entered;
+  gone_on = entered_waits c.args.course.now.adapting c.args.pass.now.seat.me.0.upper
+      c.fetch-place.new.pass.seat.me.0.upper
+      c.fetch-place.new.pass.seat.me c.enter.new.pass.seat.me _ refl
+      c.fetch-place.ensures.looked.quiet.idle c.enter.ensures.entered;
   counted = none_paid c.args.course.now.spent c.args.pass.now.seat.me c.enter.new.pass.seat.me
-      (ap losses c.enter.ensures.entered ∙ c.fetch-place.ensures.looked.quiet.lost) (ap splits c.enter.ensures.entered ∙ c.fetch-place.ensures.looked.quiet.splits_are);
+      (ap losses c.enter.ensures.entered
+      ∙ c.fetch-place.ensures.looked.quiet.lost) (ap splits c.enter.ensures.entered
+      ∙ c.fetch-place.ensures.looked.quiet.splits_are);
   found = done_stopped _ c.args.pass.now.seat.me c.enter.new.pass.seat.me;
-  grown = λ alone. entered_grown c.args.pass.now.seat.me c.fetch-place.new.pass.seat.me c.enter.new.pass.seat.me _
+  grown = λ alone.
+      entered_grown c.args.pass.now.seat.me c.fetch-place.new.pass.seat.me c.enter.new.pass.seat.me
+      _
       c.fetch-place.ensures.looked.quiet c.enter.ensures.entered;
-  won = λ alone. ap (λ (m : MyTree). m.0.upper.lost) c.enter.ensures.entered ∙ c.fetch-place.ensures.looked.quiet.idle.1;
-  cut = entered_cut c.args.pass.now.seat.me c.fetch-place.new.pass.seat.me c.enter.new.pass.seat.me _
+  won = λ alone. ap (λ (m : MyTree). m.0.upper.lost) c.enter.ensures.entered
+      ∙ c.fetch-place.ensures.looked.quiet.idle.1;
+  cut = entered_cut c.args.pass.now.seat.me c.fetch-place.new.pass.seat.me c.enter.new.pass.seat.me
+      _
       c.fetch-place.ensures.looked.quiet c.enter.ensures.entered;
 }
 
 pub returns-then-not-f-clause-turn : goal.returns-then-not-f-clause-turn
 returns-then-not-f-clause-turn g c = record {
   met_as = tt;
-  gone_on = entered_waits c.args.course.now.adapting c.args.pass.now.seat.me.0.upper c.fetch-place.new.pass.seat.me.0.upper
-      c.fetch-place.new.pass.seat.me c.enter-then-not-f.new.pass.seat.me _ refl c.fetch-place.ensures.looked.quiet.idle c.enter-then-not-f.ensures.entered;
-  counted = none_paid c.args.course.now.spent c.args.pass.now.seat.me c.enter-then-not-f.new.pass.seat.me
-      (ap losses c.enter-then-not-f.ensures.entered ∙ c.fetch-place.ensures.looked.quiet.lost) (ap splits c.enter-then-not-f.ensures.entered
+  gone_on = entered_waits c.args.course.now.adapting c.args.pass.now.seat.me.0.upper
+      c.fetch-place.new.pass.seat.me.0.upper
+      c.fetch-place.new.pass.seat.me c.enter-then-not-f.new.pass.seat.me _ refl
+      c.fetch-place.ensures.looked.quiet.idle c.enter-then-not-f.ensures.entered;
+  counted = none_paid c.args.course.now.spent c.args.pass.now.seat.me
+      c.enter-then-not-f.new.pass.seat.me
+      (ap losses c.enter-then-not-f.ensures.entered
+      ∙ c.fetch-place.ensures.looked.quiet.lost) (ap splits c.enter-then-not-f.ensures.entered
       ∙ c.fetch-place.ensures.looked.quiet.splits_are);
   found = done_stopped _ c.args.pass.now.seat.me c.enter-then-not-f.new.pass.seat.me;
-  grown = λ alone. entered_grown c.args.pass.now.seat.me c.fetch-place.new.pass.seat.me c.enter-then-not-f.new.pass.seat.me _
+  grown = λ alone.
+      entered_grown c.args.pass.now.seat.me c.fetch-place.new.pass.seat.me
+      c.enter-then-not-f.new.pass.seat.me _
       c.fetch-place.ensures.looked.quiet c.enter-then-not-f.ensures.entered;
-  won = λ alone. ap (λ (m : MyTree). m.0.upper.lost) c.enter-then-not-f.ensures.entered ∙ c.fetch-place.ensures.looked.quiet.idle.1;
-  cut = entered_cut c.args.pass.now.seat.me c.fetch-place.new.pass.seat.me c.enter-then-not-f.new.pass.seat.me _
+  won = λ alone. ap (λ (m : MyTree). m.0.upper.lost) c.enter-then-not-f.ensures.entered
+      ∙ c.fetch-place.ensures.looked.quiet.idle.1;
+  cut = entered_cut c.args.pass.now.seat.me c.fetch-place.new.pass.seat.me
+      c.enter-then-not-f.new.pass.seat.me _
       c.fetch-place.ensures.looked.quiet c.enter-then-not-f.ensures.entered;
 }
 
 pub returns-in-Ok-put_there-clause-turn : goal.returns-in-Ok-put_there-clause-turn
 returns-in-Ok-put_there-clause-turn g c = record {
   met_as = c.in-Ok-put_there.ensures.turn.met_as;
-  gone_on = adapts_after c.args.tree.now.space.table.shared.key c.args.tree.now.tuning c.args.course.now.adapting
-      c.put_there.new.course.adapting.last c.args.pass.now.seat.me.0.upper c.fetch-place.new.pass.seat.me.0.upper c.put_there.new.pass.seat.me.0.upper
+  gone_on = adapts_after c.args.tree.now.space.table.shared.key c.args.tree.now.tuning
+      c.args.course.now.adapting
+      c.put_there.new.course.adapting.last c.args.pass.now.seat.me.0.upper
+      c.fetch-place.new.pass.seat.me.0.upper c.put_there.new.pass.seat.me.0.upper
       c.fetch-place.ensures.looked.quiet.idle c.in-Ok-put_there.ensures.turn.gone_on;
-  counted = paid_behind c.args.course.now.spent c.put_there.new.course.spent c.args.pass.now.seat.me c.fetch-place.new.pass.seat.me
-      c.put_there.new.pass.seat.me c.fetch-place.ensures.looked.quiet c.put_there.ensures.turn.counted;
+  counted = paid_behind c.args.course.now.spent c.put_there.new.course.spent c.args.pass.now.seat.me
+      c.fetch-place.new.pass.seat.me
+      c.put_there.new.pass.seat.me c.fetch-place.ensures.looked.quiet
+      c.put_there.ensures.turn.counted;
   found = done_stopped _ c.args.pass.now.seat.me c.put_there.new.pass.seat.me;
-  grown = looked_grown {T = Unit {0}} c.args.tree.now.space.table.shared.key None (Ok tt) c.args.pass.now.seat.me
-      c.fetch-place.new.pass.seat.me c.put_there.new.pass.seat.me.0.upper c.requires.known c.fetch-place.ensures.looked.looking.known c.fetch-place.ensures.looked.further
+  grown = looked_grown {T = Unit {0}} c.args.tree.now.space.table.shared.key None (Ok tt)
+      c.args.pass.now.seat.me
+      c.fetch-place.new.pass.seat.me c.put_there.new.pass.seat.me.0.upper c.requires.known
+      c.fetch-place.ensures.looked.looking.known c.fetch-place.ensures.looked.further
       c.fetch-place.ensures.looked.quiet c.in-Ok-put_there.ensures.turn.grown;
   won = λ alone. won_on true c.args.pass.now.seat.me.0.upper c.fetch-place.new.pass.seat.me.0.upper
       c.put_there.new.pass.seat.me.0.upper
-      c.fetch-place.ensures.looked.quiet.idle.1 (c.in-Ok-put_there.ensures.turn.won (alone_on c.args.tree.now.space.table.shared.key c.args.pass.now.seat.me.0.upper
+      c.fetch-place.ensures.looked.quiet.idle.1
+      (c.in-Ok-put_there.ensures.turn.won
+      (alone_on c.args.tree.now.space.table.shared.key c.args.pass.now.seat.me.0.upper
       c.fetch-place.new.pass.seat.me.0.upper
       c.fetch-place.ensures.looked.further.number alone));
-  cut = looked_cut (λ (_ : Unit {0}). true) c.args.tree.now.space.table.shared.key None (Ok tt) c.args.pass.now.seat.me
-      c.fetch-place.new.pass.seat.me c.put_there.new.pass.seat.me.0.upper c.fetch-place.ensures.looked.quiet c.in-Ok-put_there.ensures.turn.cut;
+  cut = looked_cut
+      (λ (_ : Unit {0}). true) c.args.tree.now.space.table.shared.key None (Ok tt)
+      c.args.pass.now.seat.me
+      c.fetch-place.new.pass.seat.me c.put_there.new.pass.seat.me.0.upper
+      c.fetch-place.ensures.looked.quiet c.in-Ok-put_there.ensures.turn.cut;
 }
 
 pub returns-in-Err-clause-turn : goal.returns-in-Err-clause-turn
 returns-in-Err-clause-turn g c = record {
   met_as = tt;
-  gone_on = waits_on c.args.course.now.adapting c.args.course.now.adapting c.put_there.new.course.adapting c.args.pass.now.seat.me.0.upper
+  gone_on = waits_on c.args.course.now.adapting c.args.course.now.adapting
+      c.put_there.new.course.adapting c.args.pass.now.seat.me.0.upper
       c.fetch-place.new.pass.seat.me.0.upper c.put_there.new.pass.seat.me.0.upper
-      (idle_waits c.args.course.now.adapting c.args.pass.now.seat.me.0.upper c.fetch-place.new.pass.seat.me.0.upper c.fetch-place.ensures.looked.quiet.idle)
+      (idle_waits c.args.course.now.adapting c.args.pass.now.seat.me.0.upper
+      c.fetch-place.new.pass.seat.me.0.upper c.fetch-place.ensures.looked.quiet.idle)
       c.in-Err.ensures.turn.gone_on;
-  counted = paid_behind c.args.course.now.spent c.put_there.new.course.spent c.args.pass.now.seat.me c.fetch-place.new.pass.seat.me
-      c.put_there.new.pass.seat.me c.fetch-place.ensures.looked.quiet c.put_there.ensures.turn.counted;
-  found = stop_stopped (Unit {0}) Changed c.in-Err.stop c.args.pass.now.seat.me c.fetch-place.new.pass.seat.me
+  counted = paid_behind c.args.course.now.spent c.put_there.new.course.spent c.args.pass.now.seat.me
+      c.fetch-place.new.pass.seat.me
+      c.put_there.new.pass.seat.me c.fetch-place.ensures.looked.quiet
+      c.put_there.ensures.turn.counted;
+  found = stop_stopped (Unit {0}) Changed c.in-Err.stop c.args.pass.now.seat.me
+      c.fetch-place.new.pass.seat.me
       c.put_there.new.pass.seat.me c.fetch-place.ensures.looked.quiet c.in-Err.ensures.turn.found;
-  grown = looked_grown {T = Changed} c.args.tree.now.space.table.shared.key None (Err c.in-Err.stop) c.args.pass.now.seat.me
-      c.fetch-place.new.pass.seat.me c.put_there.new.pass.seat.me.0.upper c.requires.known c.fetch-place.ensures.looked.looking.known
-      c.fetch-place.ensures.looked.further c.fetch-place.ensures.looked.quiet (λ alone. stop_unsplit (Unit {0}) Changed c.args.tree.now.space.table.shared.key (Some _) None c.in-Err.stop c.fetch-place.new.pass.seat.me.0.upper
-      c.put_there.new.pass.seat.me.0.upper (λ e. c.put_there.ensures.no_split (c.in-Err.is ∙ ap Err e)) (c.in-Err.ensures.turn.grown alone));
-  won = λ alone. won_on false c.args.pass.now.seat.me.0.upper c.fetch-place.new.pass.seat.me.0.upper c.put_there.new.pass.seat.me.0.upper
-      c.fetch-place.ensures.looked.quiet.idle.1 (c.in-Err.ensures.turn.won (alone_on c.args.tree.now.space.table.shared.key c.args.pass.now.seat.me.0.upper
+  grown = looked_grown {T = Changed} c.args.tree.now.space.table.shared.key None (Err c.in-Err.stop)
+      c.args.pass.now.seat.me
+      c.fetch-place.new.pass.seat.me c.put_there.new.pass.seat.me.0.upper c.requires.known
+      c.fetch-place.ensures.looked.looking.known
+      c.fetch-place.ensures.looked.further c.fetch-place.ensures.looked.quiet
+      (λ alone. stop_unsplit (Unit {0}) Changed c.args.tree.now.space.table.shared.key (Some _)
+      None c.in-Err.stop c.fetch-place.new.pass.seat.me.0.upper
+      c.put_there.new.pass.seat.me.0.upper
+      (λ e. c.put_there.ensures.no_split (c.in-Err.is ∙ ap Err e))
+      (c.in-Err.ensures.turn.grown alone));
+  won = λ alone.
+      won_on false c.args.pass.now.seat.me.0.upper c.fetch-place.new.pass.seat.me.0.upper
+      c.put_there.new.pass.seat.me.0.upper
+      c.fetch-place.ensures.looked.quiet.idle.1
+      (c.in-Err.ensures.turn.won
+      (alone_on c.args.tree.now.space.table.shared.key c.args.pass.now.seat.me.0.upper
       c.fetch-place.new.pass.seat.me.0.upper
       c.fetch-place.ensures.looked.further.number alone));
-  cut = stop_cut (Unit {0}) Changed (λ _. true) is_put c.args.tree.now.space.table.shared.key None c.in-Err.stop
-      c.args.pass.now.seat.me c.fetch-place.new.pass.seat.me c.put_there.new.pass.seat.me.0.upper c.fetch-place.ensures.looked.quiet
-      (never_cut {T = Unit {0}} (λ _. true) c.args.tree.now.space.table.shared.key (Some _) None (Err c.in-Err.stop) c.fetch-place.new.pass.seat.me.0.upper
+  cut = stop_cut (Unit {0}) Changed
+      (λ _. true) is_put c.args.tree.now.space.table.shared.key None c.in-Err.stop
+      c.args.pass.now.seat.me c.fetch-place.new.pass.seat.me c.put_there.new.pass.seat.me.0.upper
+      c.fetch-place.ensures.looked.quiet
+      (never_cut {T = Unit {0}}
+      (λ _. true) c.args.tree.now.space.table.shared.key (Some _) None (Err c.in-Err.stop)
+      c.fetch-place.new.pass.seat.me.0.upper
       c.put_there.new.pass.seat.me.0.upper c.in-Err.ensures.no_split c.in-Err.ensures.turn.cut);
 }

@@ -21,21 +21,33 @@ use Rattle.ca_replace.proofs.Winning.{won_on}
 use Rattle.ca_replace.proofs.removing.RemoveCallAttempt.attempt.Goals as goal
 
 pub returns-in_default-clause-tried : goal.returns-in_default-clause-tried
-returns-in_default-clause-tried c = let key : List ℕ = c.args.self.now.key.now in let z = c.args.tree.now.space.table.shared.key in
-    let w = c.fetch-place.new.pass.seat.me.0.upper in let old : List ℕ = c.fetch-place.new.old.items in
-    let none = subst (λ (p : Result ℕ ℕ). HasFetched z w key p old) c.in_default.is c.fetch-place.ensures.fetched in
+returns-in_default-clause-tried c = let key : List ℕ = c.args.self.now.key.now in
+    let z = c.args.tree.now.space.table.shared.key in
+    let w = c.fetch-place.new.pass.seat.me.0.upper in
+    let old : List ℕ = c.fetch-place.new.old.items in
+    let none = subst
+    (λ (p : Result ℕ ℕ). HasFetched z w key p old) c.in_default.is
+    c.fetch-place.ensures.fetched in
     read_done (λ (x : Bool) (e : Event). Removes key x old e) z c.args.pass.now.seat.me.0.upper w
-    c.enter.new.pass.seat.me.0.upper false (Remove key None) (refl, none.1) c.fetch-place.ensures.looked.further c.fetch-place.ensures.looked.looking.known
+    c.enter.new.pass.seat.me.0.upper false (Remove key None) (
+      refl,
+      none.1,
+    ) c.fetch-place.ensures.looked.further c.fetch-place.ensures.looked.looking.known
     (refl, none.0) (ap (λ (m : MyTree). m.0.upper) c.enter.ensures.entered)
 
 pub remove_there-requires-clause-place : goal.remove_there-requires-clause-place
-remove_there-requires-clause-place c = let m = map pair (first_note c.fetch-place.new.pass.seat.me.0.upper.notes).objects in
-    subst (λ (p : Result ℕ ℕ). IsPlace m c.args.self.now.key.now p) c.in-Ok.is c.fetch-place.ensures.looked.place
+remove_there-requires-clause-place c =
+    let m = map pair (first_note c.fetch-place.new.pass.seat.me.0.upper.notes).objects in
+    subst (λ (p : Result ℕ ℕ).
+    IsPlace m c.args.self.now.key.now p) c.in-Ok.is c.fetch-place.ensures.looked.place
 
 pub returns-in-Ok-remove_there-clause-tried : goal.returns-in-Ok-remove_there-clause-tried
-returns-in-Ok-remove_there-clause-tried c = let key : List ℕ = c.args.self.now.key.now in let z = c.args.tree.now.space.table.shared.key in
-    let w = c.fetch-place.new.pass.seat.me.0.upper in let old : List ℕ = c.fetch-place.new.old.items in
-    let found = subst (λ (p : Result ℕ ℕ). HasFetched z w key p old) c.in-Ok.is c.fetch-place.ensures.fetched in
+returns-in-Ok-remove_there-clause-tried c = let key : List ℕ = c.args.self.now.key.now in
+    let z = c.args.tree.now.space.table.shared.key in
+    let w = c.fetch-place.new.pass.seat.me.0.upper in
+    let old : List ℕ = c.fetch-place.new.old.items in
+    let found = subst
+    (λ (p : Result ℕ ℕ). HasFetched z w key p old) c.in-Ok.is c.fetch-place.ensures.fetched in
     did (λ (x : Bool) (e : Event). Removes key x old e) z
     (Remove key (Some (object_at (Ok c.in-Ok.at) (first_note w.notes).objects))) true
     c.args.pass.now.seat.me.0.upper w c.remove_there.new.pass.seat.me.0.upper
@@ -44,19 +56,29 @@ returns-in-Ok-remove_there-clause-tried c = let key : List ℕ = c.args.self.now
 
 pub returns-in_default-clause-frame : goal.returns-in_default-clause-frame
 returns-in_default-clause-frame c = record {
-  same = (c.enter.ensures.frame.same.0 ∙ c.fetch-place.ensures.looked.same.0, c.enter.ensures.frame.same.1 ∙ c.fetch-place.ensures.looked.same.1);
+  same = (
+    c.enter.ensures.frame.same.0 ∙ c.fetch-place.ensures.looked.same.0,
+    c.enter.ensures.frame.same.1 ∙ c.fetch-place.ensures.looked.same.1,
+  );
   number = c.enter.ensures.frame.number ∙ c.fetch-place.ensures.looked.number;
-  tally = λ h. tallied_read c.fetch-place.new.pass.tally c.enter.new.pass.tally c.fetch-place.new.pass.seat.me
-      c.enter.new.pass.seat.me _ c.enter.ensures.frame.tally c.enter.ensures.entered (c.fetch-place.ensures.looked.tally h);
+  tally = λ h.
+      tallied_read c.fetch-place.new.pass.tally c.enter.new.pass.tally
+      c.fetch-place.new.pass.seat.me
+      c.enter.new.pass.seat.me _ c.enter.ensures.frame.tally c.enter.ensures.entered
+      (c.fetch-place.ensures.looked.tally h);
   pin = (
     ap (λ (m : MyTree). m.0.sizes) c.enter.ensures.entered ∙ c.fetch-place.ensures.looked.still.0,
     ap (λ (m : MyTree). m.0.pin) c.enter.ensures.entered ∙ c.fetch-place.ensures.looked.still.1,
   );
-  none = held_upper c.args.tree.now.space.table.shared.key.rows c.fetch-place.new.pass.kept c.enter.new.pass.kept
+  none = held_upper c.args.tree.now.space.table.shared.key.rows c.fetch-place.new.pass.kept
+      c.enter.new.pass.kept
       c.fetch-place.new.pass.seat.me c.enter.new.pass.seat.me _ []
-      (held_looked c.args.tree.now.space.table.shared.key.rows c.args.pass.now.kept c.fetch-place.new.pass.kept c.args.pass.now.seat.me
+      (held_looked c.args.tree.now.space.table.shared.key.rows c.args.pass.now.kept
+      c.fetch-place.new.pass.kept c.args.pass.now.seat.me
       c.fetch-place.new.pass.seat.me [] c.requires.ready.none
-      c.fetch-place.ensures.looked.kept c.fetch-place.ensures.looked.still.2 c.fetch-place.ensures.looked.quiet.most) c.enter.ensures.entered c.enter.ensures.frame.kept;
+      c.fetch-place.ensures.looked.kept c.fetch-place.ensures.looked.still.2
+      c.fetch-place.ensures.looked.quiet.most) c.enter.ensures.entered
+      c.enter.ensures.frame.kept;
 }
 
 pub returns-in-Ok-remove_there-clause-frame : goal.returns-in-Ok-remove_there-clause-frame
@@ -78,86 +100,131 @@ returns-in-Ok-remove_there-clause-frame c = record {
 
 pub returns-in-Err-clause-frame : goal.returns-in-Err-clause-frame
 returns-in-Err-clause-frame c = record {
-  same = (c.remove_there.ensures.frame.same.0 ∙ c.fetch-place.ensures.looked.same.0, c.remove_there.ensures.frame.same.1 ∙ c.fetch-place.ensures.looked.same.1);
+  same = (
+    c.remove_there.ensures.frame.same.0 ∙ c.fetch-place.ensures.looked.same.0,
+    c.remove_there.ensures.frame.same.1 ∙ c.fetch-place.ensures.looked.same.1,
+  );
   number = c.remove_there.ensures.frame.number ∙ c.fetch-place.ensures.looked.number;
   tally = λ h. c.remove_there.ensures.frame.tally (c.fetch-place.ensures.looked.tally h);
-  pin = (c.remove_there.ensures.frame.pin.0 ∙ c.fetch-place.ensures.looked.still.0, c.remove_there.ensures.frame.pin.1 ∙ c.fetch-place.ensures.looked.still.1);
+  pin = (
+    c.remove_there.ensures.frame.pin.0 ∙ c.fetch-place.ensures.looked.still.0,
+    c.remove_there.ensures.frame.pin.1 ∙ c.fetch-place.ensures.looked.still.1,
+  );
   none = c.remove_there.ensures.frame.none;
 }
 
 pub returns-in-Err-clause-tried : goal.returns-in-Err-clause-tried
 returns-in-Err-clause-tried c = (
-  further_on c.args.pass.now.seat.me.0.upper c.fetch-place.new.pass.seat.me.0.upper c.remove_there.new.pass.seat.me.0.upper c.fetch-place.ensures.looked.further
+  further_on c.args.pass.now.seat.me.0.upper c.fetch-place.new.pass.seat.me.0.upper
+      c.remove_there.new.pass.seat.me.0.upper c.fetch-place.ensures.looked.further
       c.in-Err.ensures.tried.0,
   c.in-Err.ensures.tried.1,
 )
 
 pub remove_there-requires-clause-ready : goal.remove_there-requires-clause-ready
 remove_there-requires-clause-ready c = record {
-  own = (c.fetch-place.ensures.looked.same.0 ∙ c.requires.ready.own.0, c.fetch-place.ensures.looked.still.0 ∙ c.requires.ready.own.1);
-  pinned = ap (λ (p : Pin). p.pinned) c.fetch-place.ensures.looked.still.1 ∙ c.requires.ready.pinned;
-  number = subst (λ n. 0 < n) (sym c.fetch-place.ensures.looked.further.number) c.requires.ready.number;
-  none = held_looked c.args.tree.now.space.table.shared.key.rows c.args.pass.now.kept c.fetch-place.new.pass.kept
+  own = (
+    c.fetch-place.ensures.looked.same.0 ∙ c.requires.ready.own.0,
+    c.fetch-place.ensures.looked.still.0 ∙ c.requires.ready.own.1,
+  );
+  pinned = ap (λ (p : Pin). p.pinned) c.fetch-place.ensures.looked.still.1
+      ∙ c.requires.ready.pinned;
+  number = subst
+      (λ n. 0 < n) (sym c.fetch-place.ensures.looked.further.number) c.requires.ready.number;
+  none = held_looked c.args.tree.now.space.table.shared.key.rows c.args.pass.now.kept
+      c.fetch-place.new.pass.kept
       c.args.pass.now.seat.me c.fetch-place.new.pass.seat.me []
-      c.requires.ready.none c.fetch-place.ensures.looked.kept c.fetch-place.ensures.looked.still.2 c.fetch-place.ensures.looked.quiet.most;
+      c.requires.ready.none c.fetch-place.ensures.looked.kept c.fetch-place.ensures.looked.still.2
+      c.fetch-place.ensures.looked.quiet.most;
 }
 
 pub returns-in_default-clause-turn : goal.returns-in_default-clause-turn
 returns-in_default-clause-turn c = record {
   met_as = tt;
-  gone_on = entered_waits c.args.course.now.adapting c.args.pass.now.seat.me.0.upper c.fetch-place.new.pass.seat.me.0.upper
-      c.fetch-place.new.pass.seat.me c.enter.new.pass.seat.me _ refl c.fetch-place.ensures.looked.quiet.idle c.enter.ensures.entered;
+  gone_on = entered_waits c.args.course.now.adapting c.args.pass.now.seat.me.0.upper
+      c.fetch-place.new.pass.seat.me.0.upper
+      c.fetch-place.new.pass.seat.me c.enter.new.pass.seat.me _ refl
+      c.fetch-place.ensures.looked.quiet.idle c.enter.ensures.entered;
   counted = none_paid c.args.course.now.spent c.args.pass.now.seat.me c.enter.new.pass.seat.me
-      (ap losses c.enter.ensures.entered ∙ c.fetch-place.ensures.looked.quiet.lost) (ap splits c.enter.ensures.entered ∙ c.fetch-place.ensures.looked.quiet.splits_are);
+      (ap losses c.enter.ensures.entered
+      ∙ c.fetch-place.ensures.looked.quiet.lost) (ap splits c.enter.ensures.entered
+      ∙ c.fetch-place.ensures.looked.quiet.splits_are);
   found = done_stopped _ c.args.pass.now.seat.me c.enter.new.pass.seat.me;
-  grown = λ alone. entered_grown c.args.pass.now.seat.me c.fetch-place.new.pass.seat.me c.enter.new.pass.seat.me _
+  grown = λ alone.
+      entered_grown c.args.pass.now.seat.me c.fetch-place.new.pass.seat.me c.enter.new.pass.seat.me
+      _
       c.fetch-place.ensures.looked.quiet c.enter.ensures.entered;
-  won = λ alone. ap (λ (m : MyTree). m.0.upper.lost) c.enter.ensures.entered ∙ c.fetch-place.ensures.looked.quiet.idle.1;
-  cut = entered_cut c.args.pass.now.seat.me c.fetch-place.new.pass.seat.me c.enter.new.pass.seat.me _
+  won = λ alone. ap (λ (m : MyTree). m.0.upper.lost) c.enter.ensures.entered
+      ∙ c.fetch-place.ensures.looked.quiet.idle.1;
+  cut = entered_cut c.args.pass.now.seat.me c.fetch-place.new.pass.seat.me c.enter.new.pass.seat.me
+      _
       c.fetch-place.ensures.looked.quiet c.enter.ensures.entered;
 }
 
 pub returns-in-Ok-remove_there-clause-turn : goal.returns-in-Ok-remove_there-clause-turn
 returns-in-Ok-remove_there-clause-turn c = record {
   met_as = c.in-Ok-remove_there.ensures.turn.met_as;
-  gone_on = adapts_after c.args.tree.now.space.table.shared.key c.args.tree.now.tuning c.args.course.now.adapting
-      c.remove_there.new.course.adapting.last c.args.pass.now.seat.me.0.upper c.fetch-place.new.pass.seat.me.0.upper c.remove_there.new.pass.seat.me.0.upper
+  gone_on = adapts_after c.args.tree.now.space.table.shared.key c.args.tree.now.tuning
+      c.args.course.now.adapting
+      c.remove_there.new.course.adapting.last c.args.pass.now.seat.me.0.upper
+      c.fetch-place.new.pass.seat.me.0.upper c.remove_there.new.pass.seat.me.0.upper
       c.fetch-place.ensures.looked.quiet.idle c.in-Ok-remove_there.ensures.turn.gone_on;
-  counted = paid_behind c.args.course.now.spent c.remove_there.new.course.spent c.args.pass.now.seat.me c.fetch-place.new.pass.seat.me
-      c.remove_there.new.pass.seat.me c.fetch-place.ensures.looked.quiet c.remove_there.ensures.turn.counted;
+  counted = paid_behind c.args.course.now.spent c.remove_there.new.course.spent
+      c.args.pass.now.seat.me c.fetch-place.new.pass.seat.me
+      c.remove_there.new.pass.seat.me c.fetch-place.ensures.looked.quiet
+      c.remove_there.ensures.turn.counted;
   found = done_stopped _ c.args.pass.now.seat.me c.remove_there.new.pass.seat.me;
-  grown = looked_grown {T = Unit {0}} c.args.tree.now.space.table.shared.key None (Ok tt) c.args.pass.now.seat.me
-      c.fetch-place.new.pass.seat.me c.remove_there.new.pass.seat.me.0.upper c.requires.known c.fetch-place.ensures.looked.looking.known c.fetch-place.ensures.looked.further
+  grown = looked_grown {T = Unit {0}} c.args.tree.now.space.table.shared.key None (Ok tt)
+      c.args.pass.now.seat.me
+      c.fetch-place.new.pass.seat.me c.remove_there.new.pass.seat.me.0.upper c.requires.known
+      c.fetch-place.ensures.looked.looking.known c.fetch-place.ensures.looked.further
       c.fetch-place.ensures.looked.quiet c.in-Ok-remove_there.ensures.turn.grown;
   won = λ alone. won_on true c.args.pass.now.seat.me.0.upper c.fetch-place.new.pass.seat.me.0.upper
       c.remove_there.new.pass.seat.me.0.upper
-      c.fetch-place.ensures.looked.quiet.idle.1 (c.in-Ok-remove_there.ensures.turn.won (alone_on c.args.tree.now.space.table.shared.key c.args.pass.now.seat.me.0.upper
+      c.fetch-place.ensures.looked.quiet.idle.1
+      (c.in-Ok-remove_there.ensures.turn.won
+      (alone_on c.args.tree.now.space.table.shared.key c.args.pass.now.seat.me.0.upper
       c.fetch-place.new.pass.seat.me.0.upper
       c.fetch-place.ensures.looked.further.number alone));
-  cut = looked_cut (λ (_ : Unit {0}). true) c.args.tree.now.space.table.shared.key None (Ok tt) c.args.pass.now.seat.me
-      c.fetch-place.new.pass.seat.me c.remove_there.new.pass.seat.me.0.upper c.fetch-place.ensures.looked.quiet c.in-Ok-remove_there.ensures.turn.cut;
+  cut = looked_cut
+      (λ (_ : Unit {0}). true) c.args.tree.now.space.table.shared.key None (Ok tt)
+      c.args.pass.now.seat.me
+      c.fetch-place.new.pass.seat.me c.remove_there.new.pass.seat.me.0.upper
+      c.fetch-place.ensures.looked.quiet c.in-Ok-remove_there.ensures.turn.cut;
 }
 
 pub returns-in-Err-clause-turn : goal.returns-in-Err-clause-turn
 returns-in-Err-clause-turn c = record {
   met_as = tt;
-  gone_on = waits_on c.args.course.now.adapting c.args.course.now.adapting c.remove_there.new.course.adapting c.args.pass.now.seat.me.0.upper
+  gone_on = waits_on c.args.course.now.adapting c.args.course.now.adapting
+      c.remove_there.new.course.adapting c.args.pass.now.seat.me.0.upper
       c.fetch-place.new.pass.seat.me.0.upper c.remove_there.new.pass.seat.me.0.upper
-      (idle_waits c.args.course.now.adapting c.args.pass.now.seat.me.0.upper c.fetch-place.new.pass.seat.me.0.upper c.fetch-place.ensures.looked.quiet.idle)
+      (idle_waits c.args.course.now.adapting c.args.pass.now.seat.me.0.upper
+      c.fetch-place.new.pass.seat.me.0.upper c.fetch-place.ensures.looked.quiet.idle)
       c.in-Err.ensures.turn.gone_on;
-  counted = paid_behind c.args.course.now.spent c.remove_there.new.course.spent c.args.pass.now.seat.me c.fetch-place.new.pass.seat.me
-      c.remove_there.new.pass.seat.me c.fetch-place.ensures.looked.quiet c.remove_there.ensures.turn.counted;
-  found = stop_stopped (Unit {0}) Bool c.in-Err.stop c.args.pass.now.seat.me c.fetch-place.new.pass.seat.me
-      c.remove_there.new.pass.seat.me c.fetch-place.ensures.looked.quiet c.in-Err.ensures.turn.found;
-  grown = stop_grown (Unit {0}) Bool c.args.tree.now.space.table.shared.key None c.in-Err.stop c.args.pass.now.seat.me
-      c.fetch-place.new.pass.seat.me c.remove_there.new.pass.seat.me.0.upper c.requires.known c.fetch-place.ensures.looked.looking.known c.fetch-place.ensures.looked.further
+  counted = paid_behind c.args.course.now.spent c.remove_there.new.course.spent
+      c.args.pass.now.seat.me c.fetch-place.new.pass.seat.me
+      c.remove_there.new.pass.seat.me c.fetch-place.ensures.looked.quiet
+      c.remove_there.ensures.turn.counted;
+  found = stop_stopped (Unit {0}) Bool c.in-Err.stop c.args.pass.now.seat.me
+      c.fetch-place.new.pass.seat.me
+      c.remove_there.new.pass.seat.me c.fetch-place.ensures.looked.quiet
+      c.in-Err.ensures.turn.found;
+  grown = stop_grown (Unit {0}) Bool c.args.tree.now.space.table.shared.key None c.in-Err.stop
+      c.args.pass.now.seat.me
+      c.fetch-place.new.pass.seat.me c.remove_there.new.pass.seat.me.0.upper c.requires.known
+      c.fetch-place.ensures.looked.looking.known c.fetch-place.ensures.looked.further
       c.fetch-place.ensures.looked.quiet c.in-Err.ensures.turn.grown;
   won = λ alone. won_on false c.args.pass.now.seat.me.0.upper c.fetch-place.new.pass.seat.me.0.upper
       c.remove_there.new.pass.seat.me.0.upper
-      c.fetch-place.ensures.looked.quiet.idle.1 (c.in-Err.ensures.turn.won (alone_on c.args.tree.now.space.table.shared.key c.args.pass.now.seat.me.0.upper
+      c.fetch-place.ensures.looked.quiet.idle.1
+      (c.in-Err.ensures.turn.won
+      (alone_on c.args.tree.now.space.table.shared.key c.args.pass.now.seat.me.0.upper
       c.fetch-place.new.pass.seat.me.0.upper
       c.fetch-place.ensures.looked.further.number alone));
-  cut = stop_cut (Unit {0}) Bool (λ _. true) (λ (was : Bool). was) c.args.tree.now.space.table.shared.key None c.in-Err.stop
-      c.args.pass.now.seat.me c.fetch-place.new.pass.seat.me c.remove_there.new.pass.seat.me.0.upper c.fetch-place.ensures.looked.quiet
+  cut = stop_cut (Unit {0}) Bool (λ _. true)
+      (λ (was : Bool). was) c.args.tree.now.space.table.shared.key None c.in-Err.stop
+      c.args.pass.now.seat.me c.fetch-place.new.pass.seat.me c.remove_there.new.pass.seat.me.0.upper
+      c.fetch-place.ensures.looked.quiet
       c.in-Err.ensures.turn.cut;
 }

@@ -16,57 +16,104 @@ use Rattle.ca_replace.proofs.Turns.{none_pinned, rests_as, rests_again, tried_kn
 use Rattle.ca_replace.proofs.store.TreeStore.get.Goals as goal
 
 pub look_up-found-requires-clause-looking : goal.look_up-found-requires-clause-looking
-look_up-found-requires-clause-looking c = let tree = c.self.inside.tree.now in let z : Sizes = tree.space.table.shared.key in
-    let tuned = tree.tuned.leaf in let most = tree.tuned.allowed.most_leaf in let same = ap (λ (y : Sizes). y.leaf) tree.space.same in
-    looking z c.args.key c.pin.new.pass.seat.me c.walk-cursor.new.pass.seat.me c.walk-cursor.result c.walk-cursor.ensures.walked (omega arith)
+look_up-found-requires-clause-looking c = let tree = c.self.inside.tree.now in
+    let z : Sizes = tree.space.table.shared.key in
+    let tuned = tree.tuned.leaf in let most = tree.tuned.allowed.most_leaf in
+    let same = ap (λ (y : Sizes). y.leaf) tree.space.same in
+    looking z c.args.key c.pin.new.pass.seat.me c.walk-cursor.new.pass.seat.me c.walk-cursor.result
+    c.walk-cursor.ensures.walked (omega arith)
 
 pub keep_few-requires : goal.keep_few-requires
-keep_few-requires c = let tree = c.self.inside.tree.now in let z : Sizes = tree.space.table.shared.key in let table = tree.space.table.shared.table_id in
-    let tuned = tree.tuned.leaf in let most = tree.tuned.allowed.most_leaf in let same = ap (λ (y : Sizes). y.leaf) tree.space.same in
-    let pass = c.self.inside.pass in let pin = c.pin.ensures.pinned.3 in let walk = c.walk-cursor.ensures.walked.now in
+keep_few-requires c = let tree = c.self.inside.tree.now in
+    let z : Sizes = tree.space.table.shared.key in let table = tree.space.table.shared.table_id in
+    let tuned = tree.tuned.leaf in let most = tree.tuned.allowed.most_leaf in
+    let same = ap (λ (y : Sizes). y.leaf) tree.space.same in
+    let pass = c.self.inside.pass in let pin = c.pin.ensures.pinned.3 in
+    let walk = c.walk-cursor.ensures.walked.now in
     let look = c.look_up-found.ensures.entered in
     let event = get_event c.args.key.now c.look_up-found.result c.look_up-found.new.into.items in
-    let told = λ (_ : Bool) (e : Event). e ≡ get_event c.args.key.now c.look_up-found.result c.look_up-found.new.into.items in
-    let tried = read_tried z c.args.key c.pin.new.pass.seat.me c.walk-cursor.new.pass.seat.me c.look_up-found.new.pass.seat.me c.walk-cursor.result event
-    c.look_up-found.result c.walk-cursor.ensures.walked (omega arith) c.look_up-found.ensures.answer look in record {
-      resting = rests_as table z pass.number c.unpin.new.pass.number c.look_up-found.new.pass.kept c.unpin.new.pass.kept c.unpin.new.pass.seat
-          (c.unpin.ensures.frame.number ∙ (c.look_up-found.ensures.frame.number ∙ (c.walk-cursor.ensures.frame.number ∙ c.pin.ensures.frame.number))) c.unpin.ensures.frame.tally
+    let told = λ (_ : Bool) (e : Event). e
+    ≡ get_event c.args.key.now c.look_up-found.result c.look_up-found.new.into.items in
+    let tried =
+    read_tried z c.args.key c.pin.new.pass.seat.me c.walk-cursor.new.pass.seat.me
+    c.look_up-found.new.pass.seat.me c.walk-cursor.result event
+    c.look_up-found.result c.walk-cursor.ensures.walked (omega arith) c.look_up-found.ensures.answer
+    look in record {
+      resting = rests_as table z pass.number c.unpin.new.pass.number c.look_up-found.new.pass.kept
+          c.unpin.new.pass.kept c.unpin.new.pass.seat
+          (c.unpin.ensures.frame.number
+          ∙ (c.look_up-found.ensures.frame.number
+          ∙ (c.walk-cursor.ensures.frame.number ∙ c.pin.ensures.frame.number)))
+          c.unpin.ensures.frame.tally
           c.unpin.ensures.frame.kept
-          (rests_again table z pass.number pass.kept.rows c.look_up-found.new.pass.kept.rows pass.seat c.pin.new.pass.seat c.look_up-found.new.pass.seat
-          c.unpin.new.pass.seat c.self.invariant
-          (ap (λ (m : MyTree). m.0.sizes) pin, ap (λ (m : MyTree). m.0.pin.number) pin, ap (λ (m : MyTree). m.0.upper.number) pin)
-          (c.look_up-found.ensures.frame.same.0 ∙ (c.walk-cursor.ensures.frame.same.0 ∙ c.pin.ensures.frame.same.0))
-          (ap (λ (m : MyTree). m.0.sizes) look ∙ ap (λ (m : MyTree). m.0.sizes) walk, ap (λ (m : MyTree). m.0.pin) look ∙ ap (λ (m : MyTree). m.0.pin) walk)
-          (held_upper z.rows c.walk-cursor.new.pass.kept c.look_up-found.new.pass.kept c.walk-cursor.new.pass.seat.me c.look_up-found.new.pass.seat.me _ _
-          (held_upper z.rows c.pin.new.pass.kept c.walk-cursor.new.pass.kept c.pin.new.pass.seat.me c.walk-cursor.new.pass.seat.me _ _
-          (none_pinned table z pass.number pass.kept c.pin.new.pass.kept pass.seat c.pin.new.pass.seat _ _ c.self.invariant pin c.pin.ensures.frame.kept)
+          (rests_again table z pass.number pass.kept.rows c.look_up-found.new.pass.kept.rows
+          pass.seat c.pin.new.pass.seat c.look_up-found.new.pass.seat
+          c.unpin.new.pass.seat c.self.invariant (
+            ap (λ (m : MyTree). m.0.sizes) pin,
+            ap (λ (m : MyTree). m.0.pin.number) pin,
+            ap (λ (m : MyTree). m.0.upper.number) pin,
+          )
+          (c.look_up-found.ensures.frame.same.0
+          ∙ (c.walk-cursor.ensures.frame.same.0 ∙ c.pin.ensures.frame.same.0)) (
+            ap (λ (m : MyTree). m.0.sizes) look ∙ ap (λ (m : MyTree). m.0.sizes) walk,
+            ap (λ (m : MyTree). m.0.pin) look ∙ ap (λ (m : MyTree). m.0.pin) walk,
+          )
+          (held_upper z.rows c.walk-cursor.new.pass.kept c.look_up-found.new.pass.kept
+          c.walk-cursor.new.pass.seat.me c.look_up-found.new.pass.seat.me _ _
+          (held_upper z.rows c.pin.new.pass.kept c.walk-cursor.new.pass.kept c.pin.new.pass.seat.me
+          c.walk-cursor.new.pass.seat.me _ _
+          (none_pinned table z pass.number pass.kept c.pin.new.pass.kept pass.seat
+          c.pin.new.pass.seat _ _ c.self.invariant pin c.pin.ensures.frame.kept)
           walk c.walk-cursor.ensures.frame.kept) look c.look_up-found.ensures.frame.kept)
-          (tried_known told z (Ok c.look_up-found.result) c.pin.new.pass.seat.me.0.upper c.look_up-found.new.pass.seat.me.0.upper tried)
+          (tried_known told z (Ok c.look_up-found.result) c.pin.new.pass.seat.me.0.upper
+          c.look_up-found.new.pass.seat.me.0.upper tried)
           c.unpin.ensures.frame.same.0 c.unpin.ensures.unpinned
-          (tallied_still pass.tally c.look_up-found.new.pass.tally pass.seat.me.0.upper c.look_up-found.new.pass.seat.me.0.upper
-          (c.look_up-found.ensures.frame.tally ∙ (c.walk-cursor.ensures.frame.tally ∙ c.pin.ensures.frame.tally))
-          (ap (λ (m : MyTree). m.0.upper.splits) look ∙ (ap (λ (m : MyTree). m.0.upper.splits) walk ∙ ap (λ (m : MyTree). m.0.upper.splits) pin))
-          (ap (λ (m : MyTree). m.0.upper.joins) look ∙ (ap (λ (m : MyTree). m.0.upper.joins) walk ∙ ap (λ (m : MyTree). m.0.upper.joins) pin))));
+          (tallied_still pass.tally c.look_up-found.new.pass.tally pass.seat.me.0.upper
+          c.look_up-found.new.pass.seat.me.0.upper
+          (c.look_up-found.ensures.frame.tally
+          ∙ (c.walk-cursor.ensures.frame.tally ∙ c.pin.ensures.frame.tally))
+          (ap (λ (m : MyTree). m.0.upper.splits) look
+          ∙ (ap (λ (m : MyTree). m.0.upper.splits) walk
+          ∙ ap (λ (m : MyTree). m.0.upper.splits) pin))
+          (ap (λ (m : MyTree). m.0.upper.joins) look
+          ∙ (ap (λ (m : MyTree). m.0.upper.joins) walk
+          ∙ ap (λ (m : MyTree). m.0.upper.joins) pin))));
     }
 
 pub invariant_of-self : goal.invariant_of-self
 invariant_of-self c = c.keep_few.ensures.frame.resting
 
 pub returns-clause-got : goal.returns-clause-got
-returns-clause-got c = let tree = c.self.inside.tree.now in let table = tree.space.table.shared.table_id in
+returns-clause-got c = let tree = c.self.inside.tree.now in
+    let table = tree.space.table.shared.table_id in
     let z : Sizes = tree.space.table.shared.key in let pass = c.self.inside.pass in
-    let behind = c.unpin.new.pass.seat.me.0.upper in let found : Bool = c.look_up-found.result in let into : List ℕ = c.look_up-found.new.into.items in
+    let behind = c.unpin.new.pass.seat.me.0.upper in let found : Bool = c.look_up-found.result in
+    let into : List ℕ = c.look_up-found.new.into.items in
     let event = get_event c.args.key.now c.look_up-found.result c.look_up-found.new.into.items in
-    let told = λ (_ : Bool) (e : Event). e ≡ get_event c.args.key.now c.look_up-found.result c.look_up-found.new.into.items in
-    let tuned = tree.tuned.leaf in let most = tree.tuned.allowed.most_leaf in let same = ap (λ (y : Sizes). y.leaf) tree.space.same in
-    let tried = read_tried z c.args.key c.pin.new.pass.seat.me c.walk-cursor.new.pass.seat.me c.look_up-found.new.pass.seat.me c.walk-cursor.result event
-    found c.walk-cursor.ensures.walked (omega arith) c.look_up-found.ensures.answer c.look_up-found.ensures.entered in
-    let done = tried_pinned told z (Ok found) pass.seat.me.0.upper c.look_up-found.new.pass.seat.me.0.upper behind
+    let told = λ (_ : Bool) (e : Event). e
+    ≡ get_event c.args.key.now c.look_up-found.result c.look_up-found.new.into.items in
+    let tuned = tree.tuned.leaf in let most = tree.tuned.allowed.most_leaf in
+    let same = ap (λ (y : Sizes). y.leaf) tree.space.same in
+    let tried =
+    read_tried z c.args.key c.pin.new.pass.seat.me c.walk-cursor.new.pass.seat.me
+    c.look_up-found.new.pass.seat.me c.walk-cursor.result event
+    found c.walk-cursor.ensures.walked (omega arith) c.look_up-found.ensures.answer
+    c.look_up-found.ensures.entered in
+    let done =
+    tried_pinned told z (Ok found) pass.seat.me.0.upper c.look_up-found.new.pass.seat.me.0.upper
+    behind
     (ap (λ (m : MyTree). m.0.upper) c.unpin.ensures.unpinned)
-    (subst (λ (m : MyTree). HasTriedTo told z (Ok found) m.0.upper c.look_up-found.new.pass.seat.me.0.upper) c.pin.ensures.pinned.3 tried) in
-    subst (λ (u : TreeView). Got (knows c.args.self.now) (known_of table z u) c.args.key.now found into) (sym c.keep_few.ensures.upper)
-    (subst (λ (s : StoreView). Got (knows s) (known_of table z behind) c.args.key.now found into) c.self.view_is
-    (got_is (known_of table z pass.seat.me.0.upper) (known_of table z behind) c.args.key.now into found
-    (subst (λ (e : Event). Meets (known_of table z pass.seat.me.0.upper) (known_of table z behind) e) done.0.1
+    (subst (λ (m : MyTree).
+    HasTriedTo told z (Ok found) m.0.upper c.look_up-found.new.pass.seat.me.0.upper)
+    c.pin.ensures.pinned.3 tried) in
+    subst (λ (u : TreeView).
+    Got (knows c.args.self.now) (known_of table z u) c.args.key.now found into)
+    (sym c.keep_few.ensures.upper)
+    (subst (λ (s : StoreView).
+    Got (knows s) (known_of table z behind) c.args.key.now found into) c.self.view_is
+    (got_is (known_of table z pass.seat.me.0.upper) (known_of table z behind) c.args.key.now into
+    found
+    (subst (λ (e : Event).
+    Meets (known_of table z pass.seat.me.0.upper) (known_of table z behind) e) done.0.1
     (meets table z pass.seat.me.0.upper behind c.self.invariant.known done.1 done.0.0 done.0.2))
     c.look_up-found.ensures.emptied))

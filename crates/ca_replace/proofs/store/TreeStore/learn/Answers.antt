@@ -14,33 +14,59 @@ pub load_link-requires-clause-known : goal.load_link-requires-clause-known
 load_link-requires-clause-known c = (0, all_keys, inl (refl, refl, refl))
 
 pub keep_few-requires : goal.keep_few-requires
-keep_few-requires c = let tree = c.self.inside.tree.now in let z : Sizes = tree.space.table.shared.key in let table = tree.space.table.shared.table_id in
-    let pass = c.self.inside.pass in let pin = c.pin.ensures.pinned.3 in let learnt = c.learn.ensures.learnt in
+keep_few-requires c = let tree = c.self.inside.tree.now in
+    let z : Sizes = tree.space.table.shared.key in let table = tree.space.table.shared.table_id in
+    let pass = c.self.inside.pass in let pin = c.pin.ensures.pinned.3 in
+    let learnt = c.learn.ensures.learnt in
     let both = pin ∙ ap (λ (m : MyTree). (
       record m.0 {
-        pin = record m.0.pin { pinned = true; told = c.pin.ensures.pinned.0; moment = c.pin.ensures.pinned.1; entered = met_of m };
+        pin = record m.0.pin {
+          pinned = true;
+          told = c.pin.ensures.pinned.0;
+          moment =
+              c.pin.ensures.pinned.1;
+          entered = met_of m;
+        };
         upper = pinned m.0.upper;
       },
       m.1,
     )) learnt in
-    let led = led_further z 130 c.pin.new.pass.seat.me c.load_link.new.pass.seat.me c.load_link.result c.load_link.ensures.led
+    let led = led_further z 130 c.pin.new.pass.seat.me c.load_link.new.pass.seat.me
+    c.load_link.result c.load_link.ensures.led
     (ap (λ (m : MyTree). m.0.sizes) both ∙ c.self.invariant.of.1) tree.space.few.0 in
-    let counts = led_counts false 130 c.pin.new.pass.seat.me c.load_link.new.pass.seat.me c.load_link.result c.load_link.ensures.led in record {
-      resting = rests_as table z pass.number c.unpin.new.pass.number c.load_link.new.pass.kept c.unpin.new.pass.kept c.unpin.new.pass.seat
-          (c.unpin.ensures.frame.number ∙ (c.load_link.ensures.frame.number ∙ (c.pin.ensures.frame.number ∙ c.learn.ensures.frame.number))) c.unpin.ensures.frame.tally
+    let counts =
+    led_counts false 130 c.pin.new.pass.seat.me c.load_link.new.pass.seat.me c.load_link.result
+    c.load_link.ensures.led in record {
+      resting = rests_as table z pass.number c.unpin.new.pass.number c.load_link.new.pass.kept
+          c.unpin.new.pass.kept c.unpin.new.pass.seat
+          (c.unpin.ensures.frame.number
+          ∙ (c.load_link.ensures.frame.number
+          ∙ (c.pin.ensures.frame.number ∙ c.learn.ensures.frame.number)))
+          c.unpin.ensures.frame.tally
           c.unpin.ensures.frame.kept
-          (rests_again table z pass.number pass.kept.rows c.load_link.new.pass.kept.rows pass.seat c.pin.new.pass.seat c.load_link.new.pass.seat
-          c.unpin.new.pass.seat c.self.invariant
-          (ap (λ (m : MyTree). m.0.sizes) both, ap (λ (m : MyTree). m.0.pin.number) both, ap (λ (m : MyTree). m.0.upper.number) both)
-          (c.load_link.ensures.frame.same.0 ∙ (c.pin.ensures.frame.same.0 ∙ c.learn.ensures.frame.same.0))
+          (rests_again table z pass.number pass.kept.rows c.load_link.new.pass.kept.rows pass.seat
+          c.pin.new.pass.seat c.load_link.new.pass.seat
+          c.unpin.new.pass.seat c.self.invariant (
+            ap (λ (m : MyTree). m.0.sizes) both,
+            ap (λ (m : MyTree). m.0.pin.number) both,
+            ap (λ (m : MyTree). m.0.upper.number) both,
+          )
+          (c.load_link.ensures.frame.same.0
+          ∙ (c.pin.ensures.frame.same.0 ∙ c.learn.ensures.frame.same.0))
           (ap (λ (m : MyTree). m.0.sizes) led.1, ap (λ (m : MyTree). m.0.pin) led.1)
-          (held_upper z.rows c.pin.new.pass.kept c.load_link.new.pass.kept c.pin.new.pass.seat.me c.load_link.new.pass.seat.me led.0 _
-          (none_pinned table z pass.number pass.kept c.pin.new.pass.kept pass.seat c.pin.new.pass.seat _ _ c.self.invariant both
-          (c.pin.ensures.frame.kept ∙ c.learn.ensures.frame.kept)) led.1 c.load_link.ensures.frame.kept)
+          (held_upper z.rows c.pin.new.pass.kept c.load_link.new.pass.kept c.pin.new.pass.seat.me
+          c.load_link.new.pass.seat.me led.0 _
+          (none_pinned table z pass.number pass.kept c.pin.new.pass.kept pass.seat
+          c.pin.new.pass.seat _ _ c.self.invariant both
+          (c.pin.ensures.frame.kept ∙ c.learn.ensures.frame.kept)) led.1
+          c.load_link.ensures.frame.kept)
           (led.3, led.2.number) c.unpin.ensures.frame.same.0 c.unpin.ensures.unpinned
-          (tallied_still pass.tally c.load_link.new.pass.tally pass.seat.me.0.upper c.load_link.new.pass.seat.me.0.upper
-          (c.load_link.ensures.frame.tally ∙ (c.pin.ensures.frame.tally ∙ c.learn.ensures.frame.tally))
-          (counts.0 ∙ ap (λ (m : MyTree). m.0.upper.splits) both) (counts.1 ∙ ap (λ (m : MyTree). m.0.upper.joins) both)));
+          (tallied_still pass.tally c.load_link.new.pass.tally pass.seat.me.0.upper
+          c.load_link.new.pass.seat.me.0.upper
+          (c.load_link.ensures.frame.tally
+          ∙ (c.pin.ensures.frame.tally ∙ c.learn.ensures.frame.tally))
+          (counts.0 ∙ ap (λ (m : MyTree). m.0.upper.splits) both) (counts.1
+          ∙ ap (λ (m : MyTree). m.0.upper.joins) both)));
     }
 
 pub invariant_of-self : goal.invariant_of-self

@@ -12,19 +12,33 @@ use Rattle.ca_rows.proofs.rest.Rest.take_up.Code as code
 
 pub take_up_spec : {M : Type 1} → statement M
 take_up_spec 𝓤 𝓛 𝓜 𝓡 wired S V _ _ =
-    let H = 𝓛.H in let 𝓣 = tables 𝓤 H 𝓜 𝓡 𝓡.env in let Row : RattleType = param 0 S in let View : RattleType = param 1 V in let En = ended S V in
+    let H = 𝓛.H in let 𝓣 = tables 𝓤 H 𝓜 𝓡 𝓡.env in let Row : RattleType = param 0 S in
+    let View : RattleType = param 1 V in let En = ended S V in
     let c = clauses S V 𝓛 𝓜.mem 𝓡.returns in
-    let inst = layouts (a_type ∷ a_type ∷ []) (S, (V, tt)) in let fn = inst_fn inst code.function in let Lr : RattleType = seat.the_row Row View in
+    let inst = layouts (a_type ∷ a_type ∷ []) (S, (V, tt)) in let fn = inst_fn inst code.function in
+    let Lr : RattleType = seat.the_row Row View in
     let Rr : RattleType = rest.the_row Row View in
     let hs : Stays En.signature.params En.kept = (stay_dropped (plain (λ _. Rr)) no, tt) in
-    proved 𝓛 En hs c 𝓜 𝓡 (Goes-blank 𝓛 2 (plain (λ _. Rr)) no (λ κs x f. tt), tt) (#self inst) fn (code.unfolded 𝓤 H 𝓜 𝓡 wired (S, (V, tt)))
-    (λ κs. ((λ x. rest_val ∷ []), tt)) (λ κs. ((λ x vs so. rest_told Row View x vs so), tt)) (λ κs qs bounds a gh are.
+    proved 𝓛 En hs c 𝓜 𝓡 (
+      Goes-blank 𝓛 2 (plain (λ _. Rr)) no (λ κs x f. tt),
+      tt,
+    ) (#self inst) fn (code.unfolded 𝓤 H 𝓜 𝓡 wired (S, (V, tt)))
+    (λ κs. ((λ x. rest_val ∷ []), tt)) (λ κs. ((λ x vs so. rest_told Row View x vs so), tt))
+    (λ κs qs bounds a gh are.
     let x : Lr.Denot = a.0.seat in let v : Val = token_val in let u : Val = rest_val in
-    let y : (walk_of 𝓛 En hs c).Ghost = ((κs, qs, bounds, a, (u ∷ [], tt)), gh) in let Post : Val → SProp 𝓤 = (walk_of 𝓛 En hs c).post y in
-    qed 𝓛 ((raw (alive 𝓛 En.signature κs qs) ⊛ ‵ (owns (types_at En.signature.params κs) a y.0.4)) ∷ raw ((c κs a).requires gh) ∷ []) ∵
-    split ! $ move ! (1 ∷ []) $ fsplit ! $ fsplit ! $ fpick ! (λ vss. fsplit3 ! $ drop ! $ peeks ! Lr (Is Lr) (shows 𝓛 Lr) x vss.0 (λ so.
-    rewrite ! 0 (λ (ws : List Val). ‵ (Lr.own_val x ws)) (seat_told Row View x vss.0 so) refl $ keep ! (0 ∷ 4 ∷ []) $
+    let y : (walk_of 𝓛 En hs c).Ghost = ((κs, qs, bounds, a, (u ∷ [], tt)), gh) in let Post : Val
+    → SProp 𝓤 = (walk_of 𝓛 En hs c).post y in
+    qed 𝓛 ((raw (alive 𝓛 En.signature κs qs) ⊛ ‵ (owns (types_at En.signature.params κs) a y.0.4)) ∷
+    raw ((c κs a).requires gh) ∷ []) ∵
+    split ! $ move ! (1 ∷ []) $ fsplit ! $ fsplit ! $ fpick !
+    (λ vss. fsplit3 ! $ drop ! $ peeks ! Lr (Is Lr) (shows 𝓛 Lr) x vss.0 (λ so.
+    rewrite ! 0
+    (λ (ws : List Val). ‵ (Lr.own_val x ws)) (seat_told Row View x vss.0 so) refl $ keep !
+    (0 ∷ 4 ∷ []) $
     enter ! 𝓣.C 𝓣.Λ fn (u ∷ []) Post $ alloc_all ! (λ l. pass_all ! refl (rest_good, tt) $
-    sets ! (of_opd ! (get_in ! (fld ! refl (stop !)) (sub ! 0 refl (whole !)))) refl (seat_good) $ sets ! (of_opd ! (get ! refl)) refl (seat_good) $
-    use0 𝓛 (raw (fact 𝓤 (x ≡ x))) (fact_i 𝓤 (x ≡ x) (emp 𝓤) refl) $ nothing ! $ nothing ! $ fjoin ! $
-    returns ! (look_at ! 0 refl) $ free_all ! refl $ keep ! (3 ∷ 0 ∷ 2 ∷ 1 ∷ []) $ by ! (leaves 𝓛 En hs c y v x ((tt, tt), tt) (tt, tt))))))
+    sets ! (of_opd ! (get_in ! (fld ! refl (stop !)) (sub ! 0 refl (whole !)))) refl (seat_good) $
+    sets ! (of_opd ! (get ! refl)) refl (seat_good) $
+    use0 𝓛 (raw (fact 𝓤 (x ≡ x))) (fact_i 𝓤 (x ≡ x) (emp 𝓤) refl) $ nothing ! $ nothing ! $ fjoin !
+    $
+    returns ! (look_at ! 0 refl) $ free_all ! refl $ keep ! (3 ∷ 0 ∷ 2 ∷ 1 ∷ []) $ by !
+    (leaves 𝓛 En hs c y v x ((tt, tt), tt) (tt, tt))))))

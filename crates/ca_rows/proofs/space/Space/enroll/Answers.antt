@@ -12,9 +12,11 @@ pub split_seat-new-requires : goal.split_seat-new-requires
 split_seat-new-requires g c =
     let space = c.args.self.now in
     let seat = c.take_up-seat.result in
-    let own : IsOwnSeat space.table.shared.table_id space.sizes space.made c.in-Some.rest.seat = search rules in
+    let own : IsOwnSeat space.table.shared.table_id space.sizes space.made c.in-Some.rest.seat =
+    search rules in
     let mine : IsOwnSeat space.table.shared.table_id space.sizes space.made seat =
-    subst (λ (p : Seat (Unit {0}) (View g.row.R-Upper.Denot)). IsOwnSeat space.table.shared.table_id space.sizes space.made p)
+    subst (λ (p : Seat (Unit {0}) (View g.row.R-Upper.Denot)). IsOwnSeat space.table.shared.table_id
+    space.sizes space.made p)
     (sym c.take_up-seat.ensures) own in
     let left = c.if-self.false in
     let bounds = space.passes in
@@ -24,8 +26,13 @@ split_seat-new-requires g c =
     let free : seat.me.0.made < space.table.shared.key.passes = let is = mine.4 in omega arith in (
       mine.0,
       omega arith,
-      subst (λ (id : ℕ). Splits (Ruled g.R.RowRule.linked g.R.RowRule.lent g.R.RowRule.noted g.R.RowRule.fact space.table.shared.key) id seat.me.0
-          (record seat.me.0 { made = seat.me.0.made + 1 }) (fresh seat.me.0.sizes (seat.me.0.made + 1) (g.R.RowRule.begins (seat.me.0.made + 1)))) (sym mine.1)
-          (splits g.R.RowRule.linked g.R.RowRule.lent g.R.RowRule.noted g.R.RowRule.fact g.R.RowRule.begins g.met.R.RowRule.making space.table.shared.key
+      subst (λ (id : ℕ).
+          Splits (Ruled g.R.RowRule.linked g.R.RowRule.lent g.R.RowRule.noted g.R.RowRule.fact
+          space.table.shared.key) id seat.me.0
+          (record seat.me.0 { made = seat.me.0.made + 1 })
+          (fresh seat.me.0.sizes (seat.me.0.made + 1)
+          (g.R.RowRule.begins (seat.me.0.made + 1)))) (sym mine.1)
+          (splits g.R.RowRule.linked g.R.RowRule.lent g.R.RowRule.noted g.R.RowRule.fact
+          g.R.RowRule.begins g.met.R.RowRule.making space.table.shared.key
           seat.me.0 few free),
     )

@@ -11,13 +11,15 @@ abbrev nobody : Kept
 nobody = record { row = 0; at = 0 }
 
 pub loop-at-init : goal.loop-at-init
-loop-at-init g c = let p = c.args.pass.now in let ks = p.kept.rows in let long = ks.ok.0 in let n : ℕ = c.old_count-at.result in
+loop-at-init g c = let p = c.args.pass.now in let ks = p.kept.rows in let long = ks.ok.0 in
+    let n : ℕ = c.old_count-at.result in
     let told = c.old_count-at.ensures in let within = told.within in record {
       table = refl;
       id = refl;
       number = refl;
       tally = refl;
-      list = subst (AreListed c.args.self.now.table.shared.key.rows p.seat.me.0.claims) (sym (take-append-drop n ks.items)) c.requires.list.are;
+      list = subst (AreListed c.args.self.now.table.shared.key.rows p.seat.me.0.claims)
+          (sym (take-append-drop n ks.items)) c.requires.list.are;
       room = c.requires.list.room;
       pin = refl;
       reclaims = reclaims_refl p.seat.me;
@@ -26,33 +28,44 @@ loop-at-init g c = let p = c.args.pass.now in let ks = p.kept.rows in let long =
       few = omega arith;
       old = told.old;
       young = λ _ r t e. ⊎_elim
-          (λ (l : n < length ks.items). young_behind ks.items n c.args.epoch nobody c.requires.list.are.rising l (told.young (omega arith)) r t e)
-          (λ (l : length ks.items ≤ n). absurd (none_behind ks.items n r t l e)) (less_or_not n (length ks.items));
+          (λ (l : n < length ks.items). young_behind ks.items n c.args.epoch nobody
+          c.requires.list.are.rising l (told.young (omega arith)) r t e)
+          (λ (l : length ks.items ≤ n). absurd (none_behind ks.items n r t l e))
+          (less_or_not n (length ks.items));
       before = omega arith;
       within = told.within;
     }
 
 pub loop-at-preserved : goal.loop-at-preserved
-loop-at-preserved g c = let inv = c.loop-at.invariant in let told = c.if-give_back.ensures in let missed = told.given.rows_kept refl in
-    let ks = c.loop-at.pass.kept.rows in let ks' = c.give_back.new.pass.kept.rows in let long = ks.ok.0 in let long' = ks'.ok.0 in let within = inv.within in
-    let before = inv.before in let some_left = c.loop-at-test.true in let freed = inv.freed in let at : ℕ = c.loop-at.at - 1 in
-    let ys : List Kept = drop c.loop-at.end ks.items ++ missed.0.0 ∷ [] in let list : ks'.items ≡ take at ks.items ++ ys = missed.0.1 in
+loop-at-preserved g c = let inv = c.loop-at.invariant in let told = c.if-give_back.ensures in
+    let missed = told.given.rows_kept refl in
+    let ks = c.loop-at.pass.kept.rows in let ks' = c.give_back.new.pass.kept.rows in
+    let long = ks.ok.0 in let long' = ks'.ok.0 in let within = inv.within in
+    let before = inv.before in let some_left = c.loop-at-test.true in let freed = inv.freed in
+    let at : ℕ = c.loop-at.at - 1 in
+    let ys : List Kept = drop c.loop-at.end ks.items ++ missed.0.0 ∷ [] in
+    let list : ks'.items ≡ take at ks.items ++ ys = missed.0.1 in
     let many = ap (λ (xs : List Kept). length xs) list ∙ part_length ks.items ys at (omega arith) in
-    let behind = length-drop c.loop-at.end ks.items in let more = length-append (drop c.loop-at.end ks.items) (missed.0.0 ∷ []) in record {
+    let behind = length-drop c.loop-at.end ks.items in
+    let more = length-append (drop c.loop-at.end ks.items) (missed.0.0 ∷ []) in record {
       table = told.frame.same.0 ∙ inv.table;
       id = told.frame.same.1 ∙ inv.id;
       number = told.frame.number ∙ inv.number;
       tally = told.frame.tally ∙ inv.tally;
-      list = subst (AreListed c.args.self.now.table.shared.key.rows c.give_back.new.pass.seat.me.0.claims) (sym (take-append-drop at ks'.items))
+      list = subst (AreListed c.args.self.now.table.shared.key.rows
+          c.give_back.new.pass.seat.me.0.claims) (sym (take-append-drop at ks'.items))
           (told.again refl);
       room = told.room;
       pin = told.given.same_pin ∙ inv.pin;
-      reclaims = reclaims_trans c.args.pass.now.seat.me c.loop-at.pass.seat.me c.give_back.new.pass.seat.me inv.reclaims told.given.reclaims;
+      reclaims =
+          reclaims_trans c.args.pass.now.seat.me c.loop-at.pass.seat.me c.give_back.new.pass.seat.me
+          inv.reclaims told.given.reclaims;
       freed = omega arith;
       lost = let lost = inv.lost in let one = missed.1 in omega arith;
       few = let few = inv.few in omega arith;
       old = λ i l. subst (λ (x : Kept). x.at + 2 ≤ c.args.epoch)
-          (sym (ap (λ (xs : List Kept). get_or xs i nobody) list ∙ part_before ys nobody ks.items at i l (omega arith))) (inv.old i (omega arith));
+          (sym (ap (λ (xs : List Kept). get_or xs i nobody) list
+          ∙ part_before ys nobody ks.items at i l (omega arith))) (inv.old i (omega arith));
       young = λ none. absurd (omega arith);
       before = omega arith;
       within = omega arith;

@@ -14,7 +14,8 @@ invariant-loop-at g l = record {
   id : l.pass.seat.id ≡ l.fn.pass.seat.id;
   number : l.pass.number ≡ l.fn.pass.number;
   tally : l.pass.tally ≡ l.fn.pass.tally;
-  list : AreListed l.self.table.shared.key.rows l.pass.seat.me.0.claims (take l.at l.pass.kept.rows.items ++ drop l.end l.pass.kept.rows.items);
+  list : AreListed l.self.table.shared.key.rows l.pass.seat.me.0.claims
+      (take l.at l.pass.kept.rows.items ++ drop l.end l.pass.kept.rows.items);
   room : l.self.table.shared.key.rows ≤ vec_capacity l.pass.kept.rows;
   pin : l.pass.seat.me.0.pin ≡ l.fn.pass.seat.me.0.pin;
   reclaims : Reclaims l.fn.pass.seat.me l.pass.seat.me;
@@ -22,7 +23,8 @@ invariant-loop-at g l = record {
   lost : l.pass.seat.me.0.lost ≡ l.fn.pass.seat.me.0.lost + l.losses;
   few : l.freed + l.losses + l.at ≤ vec_len l.fn.pass.kept.rows;
   old : (i : ℕ) → i < l.at → (get_or l.pass.kept.rows.items i nobody).at + 2 ≤ l.epoch;
-  young : l.losses ≡ 0 → (r t : ℕ) → kept_of (drop l.end l.pass.kept.rows.items) r ≡ some t → l.epoch < t + 2;
+  young : l.losses ≡ 0 → (r t : ℕ) → kept_of (drop l.end l.pass.kept.rows.items) r ≡ some t
+      → l.epoch < t + 2;
   before : l.at ≤ l.end;
   within : l.end ≤ vec_len l.pass.kept.rows;
 }

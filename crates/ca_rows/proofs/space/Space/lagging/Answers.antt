@@ -4,10 +4,14 @@ use Rattle.ca_rows.proofs.Scanning.{scans}
 use Rattle.ca_rows.proofs.space.Space.lagging.Goals as goal
 
 pub load-announced-requires : goal.load-announced-requires
-load-announced-requires g c = let sized = c.args.self.now.sized in let some_rows = c.args.self.now.few.0 in let few = c.args.self.now.passes.1 in
-    let more = c.loop-seen-test.true in let upto = ap (λ (m : Mine g.row.R-Upper.Denot). m.0.pin.upto) c.loop-seen.invariant.looked in (
+load-announced-requires g c = let sized = c.args.self.now.sized in
+    let some_rows = c.args.self.now.few.0 in let few = c.args.self.now.passes.1 in
+    let more = c.loop-seen-test.true in
+    let upto = ap
+    (λ (m : Mine g.row.R-Upper.Denot). m.0.pin.upto) c.loop-seen.invariant.looked in (
       search rules,
       omega arith,
-      scans g.R.RowRule.linked g.R.RowRule.lent g.R.RowRule.noted g.R.RowRule.fact g.met.R.RowRule.frames
+      scans g.R.RowRule.linked g.R.RowRule.lent g.R.RowRule.noted g.R.RowRule.fact
+          g.met.R.RowRule.frames
           c.args.self.now.table.shared.key _ _ _ (c.loop-seen.seen + 2) (omega arith),
     )

@@ -10,7 +10,8 @@ invariant-loop-seen g l = record {
   tally : l.pass.tally ≡ l.fn.pass.tally;
   kept : l.pass.kept ≡ l.fn.pass.kept;
   within : l.seen ≤ l.self.sizes.passes;
-  looked : l.pass.seat.me ≡ with_pin l.fn.pass.seat.me (record l.fn.pass.seat.me.0.pin { upto = l.seen });
+  looked : l.pass.seat.me
+      ≡ with_pin l.fn.pass.seat.me (record l.fn.pass.seat.me.0.pin { upto = l.seen });
 }
 
 abbrev pub decreases-loop-seen : goal.decreases-loop-seen

@@ -6,6 +6,8 @@ pub compare_exchange-requires : goal.compare_exchange-requires
 compare_exchange-requires g c = let sized = c.args.self.now.sized in let seen = c.requires.seen.1 in (
   search rules,
   omega arith,
-  moves g.R.RowRule.linked g.R.RowRule.lent g.R.RowRule.noted g.R.RowRule.fact g.met.R.RowRule.frames
-      c.args.self.now.table.shared.key _ _ _ c.args.epoch c.requires.seen.0 (omega arith) c.requires.room,
+  moves g.R.RowRule.linked g.R.RowRule.lent g.R.RowRule.noted g.R.RowRule.fact
+      g.met.R.RowRule.frames
+      c.args.self.now.table.shared.key _ _ _ c.args.epoch c.requires.seen.0 (omega arith)
+      c.requires.room,
 )

@@ -18,7 +18,10 @@ of_words-requires g c =
     } in
     let bounds : AreInBounds z = search rules in
     let opened : IsOpening g.R.RowRule.opens z c.in-Ok.words.items = search rules in
-    subst (λ (words : List ℕ). Ruled g.R.RowRule.linked g.R.RowRule.lent g.R.RowRule.noted g.R.RowRule.fact z (opening words [] (fresh z 0 g.R.RowRule.first)))
+    subst (λ (words : List ℕ).
+    Ruled g.R.RowRule.linked g.R.RowRule.lent g.R.RowRule.noted g.R.RowRule.fact z
+    (opening words [] (fresh z 0 g.R.RowRule.first)))
     (sym c.as_slice.ensures.value)
-    (starts_ruled g.R.RowRule.linked g.R.RowRule.lent g.R.RowRule.noted g.R.RowRule.fact g.R.RowRule.opens g.R.RowRule.first g.met.R.RowRule.opening z
+    (starts_ruled g.R.RowRule.linked g.R.RowRule.lent g.R.RowRule.noted g.R.RowRule.fact
+    g.R.RowRule.opens g.R.RowRule.first g.met.R.RowRule.opening z
     c.in-Ok.words.items bounds c.requires opened)

@@ -18,14 +18,18 @@ store-requires g c =
     let some_rows = c.args.self.now.few.0 in
     let asked = c.load-epoch.ensures.2.1 in
     let same = ap (λ (m : Mine g.row.R-Upper.Denot). m.0.pin) asked in
-    let number : c.load-epoch.new.seat.me.0.pin.number ≡ c.args.pass.now.number = ap (λ (e : Pin). e.number) same ∙ c.requires.number.0 in
-    let told : c.load-epoch.new.seat.me.0.pin.told ≡ c.load-epoch.result = ap (λ (e : Pin). e.told) same in
+    let number : c.load-epoch.new.seat.me.0.pin.number ≡ c.args.pass.now.number = ap
+    (λ (e : Pin). e.number) same ∙ c.requires.number.0 in
+    let told : c.load-epoch.new.seat.me.0.pin.told ≡ c.load-epoch.result = ap
+    (λ (e : Pin). e.told) same in
     let low = c.requires.number.1 in
     let high = c.requires.number.2 in (
       search rules,
       omega arith,
-      announces g.R.RowRule.linked g.R.RowRule.lent g.R.RowRule.noted g.R.RowRule.fact g.met.R.RowRule.frames c.args.self.now.table.shared.key
+      announces g.R.RowRule.linked g.R.RowRule.lent g.R.RowRule.noted g.R.RowRule.fact
+          g.met.R.RowRule.frames c.args.self.now.table.shared.key
           g.R.RowRule.enters g.R.RowRule.leaves g.met.R.RowRule.pinning
-          _ _ _ (c.args.pass.now.number + 1) (c.load-epoch.result + 1) (omega arith) (omega arith) (omega arith)
+          _ _ _ (c.args.pass.now.number + 1) (c.load-epoch.result + 1) (omega arith) (omega arith)
+          (omega arith)
           (ap (λ (e : Pin). e.pinned) same ∙ c.requires.unpinned),
     )

@@ -12,7 +12,8 @@ pub load-head-requires : goal.load-head-requires
 load-head-requires g c = let sized = c.args.self.now.sized in (
   search rules,
   omega arith,
-  glances g.R.RowRule.linked g.R.RowRule.lent g.R.RowRule.noted g.R.RowRule.fact g.met.R.RowRule.frames
+  glances g.R.RowRule.linked g.R.RowRule.lent g.R.RowRule.noted g.R.RowRule.fact
+      g.met.R.RowRule.frames
       c.args.self.now.table.shared.key _ _ _,
 )
 
@@ -28,14 +29,17 @@ compare_exchange-requires g c =
     let had : claim_of c.load-head.new.seat.me.0.claims c.args.row ≡ some (Holds its) = ap
     (λ (m : Mine g.row.R-Upper.Denot). claim_of m.0.claims c.args.row) saw ∙ c.requires.held.2 in
     let wrote = c.write_word.ensures.written its had in
-    let has : claim_of c.write_word.new.pass.seat.me.0.claims c.args.row ≡ some (Holds (set its 0 h)) =
+    let has : claim_of c.write_word.new.pass.seat.me.0.claims c.args.row
+    ≡ some (Holds (set its 0 h)) =
     ap (λ (m : Mine g.row.R-Upper.Denot). claim_of m.0.claims c.args.row) wrote
     ∙ claimed_here c.load-head.new.seat.me.0.claims c.args.row (Holds (set its 0 h)) in (
       search rules,
       omega arith,
-      gives g.R.RowRule.linked g.R.RowRule.lent g.R.RowRule.noted g.R.RowRule.fact g.met.R.RowRule.frames c.args.self.now.table.shared.key _ _ _
+      gives g.R.RowRule.linked g.R.RowRule.lent g.R.RowRule.noted g.R.RowRule.fact
+          g.met.R.RowRule.frames c.args.self.now.table.shared.key _ _ _
           (c.load-head.result / 65536) h c.args.row (set its 0 h)
-          (ap (λ (m : Mine g.row.R-Upper.Denot). m.0.stage) wrote ∙ ap (λ (m : Mine g.row.R-Upper.Denot). m.0.stage) saw)
+          (ap (λ (m : Mine g.row.R-Upper.Denot). m.0.stage) wrote
+          ∙ ap (λ (m : Mine g.row.R-Upper.Denot). m.0.stage) saw)
           (omega arith) (omega arith) has (get_or-set_same its 0 h 0 (omega arith)),
     )
 
@@ -49,6 +53,8 @@ returns-clause-given g c =
     let had : claim_of c.load-head.new.seat.me.0.claims c.args.row ≡ some (Holds its) = ap
     (λ (m : Mine g.row.R-Upper.Denot). claim_of m.0.claims c.args.row) saw ∙ c.requires.held.2 in
     let wrote = c.write_word.ensures.written its had in
-    row_put c.args.pass.now.seat.me c.load-head.new.seat.me c.write_word.new.pass.seat.me c.compare_exchange.new.seat.me _ c.args.row _
+    row_put c.args.pass.now.seat.me c.load-head.new.seat.me c.write_word.new.pass.seat.me
+    c.compare_exchange.new.seat.me _ c.args.row _
     c.compare_exchange.result _ (set its 0 h)
-    (length-set its 0 h ∙ c.requires.held.1) saw wrote (omega arith) c.compare_exchange.ensures.2.1 c.compare_exchange.ensures.2.2
+    (length-set its 0 h ∙ c.requires.held.1) saw wrote (omega arith) c.compare_exchange.ensures.2.1
+    c.compare_exchange.ensures.2.2

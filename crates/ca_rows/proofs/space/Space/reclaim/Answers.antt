@@ -7,12 +7,19 @@ use Rattle.ca_rows.proofs.Rounding.{fewer, one_less, older_still, none_left, tru
 use Rattle.ca_rows.proofs.space.Space.reclaim.Goals as goal
 
 pub loop-left-preserved : goal.loop-left-preserved
-loop-left-preserved g c = let inv = c.loop-left.invariant in let some_left = c.loop-left-test.true in let told = c.round-round.ensures in let x = told.rounds in
-    let m = c.args.pass.now.seat.me in let m1 = c.loop-left.pass.seat.me in let m2 = c.round-round.new.pass.seat.me in let few = inv.few in
-    let kept1 = c.loop-left.pass.kept.rows in let kept2 = c.round-round.new.pass.kept.rows in let long1 = kept1.ok.0 in let long2 = kept2.ok.0 in
-    let answer = c.round-round.result in let left : ℕ = c.loop-left.left in let left' : ℕ = c.rounds_left-left.result in
-    let go_on = λ (e : answer.more ≡ true). c.rounds_left-left.ensures ∙ ap (λ b. cond b (left - 1) 0) e in
-    let stop = λ (e : answer.more ≡ false). c.rounds_left-left.ensures ∙ ap (λ b. cond b (left - 1) 0) e in
+loop-left-preserved g c = let inv = c.loop-left.invariant in
+    let some_left = c.loop-left-test.true in let told = c.round-round.ensures in
+    let x = told.rounds in
+    let m = c.args.pass.now.seat.me in let m1 = c.loop-left.pass.seat.me in
+    let m2 = c.round-round.new.pass.seat.me in let few = inv.few in
+    let kept1 = c.loop-left.pass.kept.rows in let kept2 = c.round-round.new.pass.kept.rows in
+    let long1 = kept1.ok.0 in let long2 = kept2.ok.0 in
+    let answer = c.round-round.result in let left : ℕ = c.loop-left.left in
+    let left' : ℕ = c.rounds_left-left.result in
+    let go_on = λ (e : answer.more ≡ true). c.rounds_left-left.ensures
+    ∙ ap (λ b. cond b (left - 1) 0) e in
+    let stop = λ (e : answer.more ≡ false). c.rounds_left-left.ensures
+    ∙ ap (λ b. cond b (left - 1) 0) e in
     let freed = inv.freed in let freed' = x.freed in record {
       table = told.frame.same.0 ∙ inv.table;
       id = told.frame.same.1 ∙ inv.id;
@@ -24,25 +31,41 @@ loop-left-preserved g c = let inv = c.loop-left.invariant in let some_left = c.l
       freed = omega arith;
       lost = let lost = inv.lost in let lost' = x.lost in omega arith;
       few = fewer answer.more left left' inv.few c.rounds_left-left.ensures;
-      bound = let bound = inv.bound in let more = x.few in let fewer_left = one_less answer.more left left' some_left c.rounds_left-left.ensures in omega arith;
+      bound = let bound = inv.bound in let more = x.few in
+          let fewer_left = one_less answer.more left left' some_left c.rounds_left-left.ensures in
+          omega arith;
       epoch = λ _. x.epoch_is;
-      lag = λ _. subst (λ (n : ℕ). IsLag c.args.self.now.table.shared.key.passes n answer.lag m2.0.pin) inv.number x.lag;
+      lag = λ _. subst
+          (λ (n : ℕ). IsLag c.args.self.now.table.shared.key.passes n answer.lag m2.0.pin)
+          inv.number x.lag;
       lags = λ _. let now = x.lags in ⊎_elim
-          (λ (later : left < 3). let before = inv.lags later ∙ ap (λ (a : Option ℕ). c.args.pass.now.seat.me.0.pin.lags + lag_count a)
-          (inv.unlagged some_left later) in omega arith) (λ (first : 3 ≤ left). let before = inv.at_first first in omega arith) (less_or_not left 3);
+          (λ (later : left < 3). let before = inv.lags later
+          ∙ ap (λ (a : Option ℕ). c.args.pass.now.seat.me.0.pin.lags + lag_count a)
+          (inv.unlagged some_left later) in omega arith)
+          (λ (first : 3 ≤ left). let before = inv.at_first first in
+          omega arith) (less_or_not left 3);
       unlagged = λ lo _. ⊎_elim (λ (more : answer.more ≡ true). x.unlagged more)
-          (λ (more : answer.more ≡ false). let zero_is = stop more in absurd (omega arith)) (true_or_false answer.more);
-      at_first = λ many. let fewer_left = one_less answer.more left left' some_left c.rounds_left-left.ensures in let at_most = inv.few in absurd (omega arith);
-      older = λ lo _ f. let before : c.loop-left.losses ≡ 0 = omega arith in let now : answer.losses ≡ 0 = omega arith in
-          older_still c.args.self.now.table.shared.key.rows c.args.self.now.table.shared.key.passes c.loop-left.pass.number m1 m2 kept1 kept2 inv.list told.list
+          (λ (more : answer.more ≡ false). let zero_is = stop more in
+          absurd (omega arith)) (true_or_false answer.more);
+      at_first = λ many.
+          let fewer_left = one_less answer.more left left' some_left c.rounds_left-left.ensures in
+          let at_most = inv.few in absurd (omega arith);
+      older = λ lo _ f. let before : c.loop-left.losses ≡ 0 = omega arith in
+          let now : answer.losses ≡ 0 = omega arith in
+          older_still c.args.self.now.table.shared.key.rows c.args.self.now.table.shared.key.passes
+          c.loop-left.pass.number m1 m2 kept1 kept2 inv.list told.list
           answer x left left' few go_on stop
           (λ l r t e. inv.older some_left l before r t e) some_left now lo;
-      young = λ zero_is f. let before : c.loop-left.losses ≡ 0 = omega arith in let now : answer.losses ≡ 0 = omega arith in
-          young_left c.args.self.now.table.shared.key.rows c.args.self.now.table.shared.key.passes c.loop-left.pass.number m1 m2 kept1 kept2 inv.list told.list
+      young = λ zero_is f. let before : c.loop-left.losses ≡ 0 = omega arith in
+          let now : answer.losses ≡ 0 = omega arith in
+          young_left c.args.self.now.table.shared.key.rows c.args.self.now.table.shared.key.passes
+          c.loop-left.pass.number m1 m2 kept1 kept2 inv.list told.list
           answer x left left' few go_on stop
           (λ l r t e. inv.older some_left l before r t e) some_left now zero_is;
-      ended = λ zero_is lag f room. let before : c.loop-left.losses ≡ 0 = omega arith in let now : answer.losses ≡ 0 = omega arith in
-          none_left c.args.self.now.table.shared.key.rows c.args.self.now.table.shared.key.passes c.loop-left.pass.number m1 m2 kept1 kept2 inv.list told.list
+      ended = λ zero_is lag f room. let before : c.loop-left.losses ≡ 0 = omega arith in
+          let now : answer.losses ≡ 0 = omega arith in
+          none_left c.args.self.now.table.shared.key.rows c.args.self.now.table.shared.key.passes
+          c.loop-left.pass.number m1 m2 kept1 kept2 inv.list told.list
           answer x left left' few go_on stop
           (λ l r t e. inv.older some_left l before r t e) some_left now zero_is lag room;
     }

@@ -19,13 +19,17 @@ invariant-loop-left g l = record {
   few : l.left ≤ 3;
   bound : l.losses + 65536 * l.left ≤ 196608;
   epoch : l.left < 3 → l.epoch ≡ l.pass.seat.me.0.pin.scan;
-  lag : l.left < 3 → IsLag l.self.table.shared.key.passes l.fn.pass.number l.lag l.pass.seat.me.0.pin;
+  lag : l.left < 3
+      → IsLag l.self.table.shared.key.passes l.fn.pass.number l.lag l.pass.seat.me.0.pin;
   lags : l.left < 3 → l.pass.seat.me.0.pin.lags ≡ l.fn.pass.seat.me.0.pin.lags + lag_count l.lag;
   unlagged : 0 < l.left → l.left < 3 → l.lag ≡ None;
   at_first : 3 ≤ l.left → l.pass.seat.me.0.pin.lags ≡ l.fn.pass.seat.me.0.pin.lags;
-  older : 0 < l.left → l.left < 3 → l.losses ≡ 0 → (r t : ℕ) → kept_of l.pass.kept.rows.items r ≡ some t → t + 3 ≤ l.pass.seat.me.0.pin.scan + l.left;
-  young : l.left ≡ 0 → l.losses ≡ 0 → (r t : ℕ) → kept_of l.pass.kept.rows.items r ≡ some t → l.pass.seat.me.0.pin.scan < t + 2;
-  ended : l.left ≡ 0 → l.lag ≡ None → l.losses ≡ 0 → l.pass.seat.me.0.pin.scan < 4611686018427387904 → l.pass.kept.rows.items ≡ [];
+  older : 0 < l.left → l.left < 3 → l.losses ≡ 0 → (r t : ℕ)
+      → kept_of l.pass.kept.rows.items r ≡ some t → t + 3 ≤ l.pass.seat.me.0.pin.scan + l.left;
+  young : l.left ≡ 0 → l.losses ≡ 0 → (r t : ℕ) → kept_of l.pass.kept.rows.items r ≡ some t
+      → l.pass.seat.me.0.pin.scan < t + 2;
+  ended : l.left ≡ 0 → l.lag ≡ None → l.losses ≡ 0 → l.pass.seat.me.0.pin.scan < 4611686018427387904
+      → l.pass.kept.rows.items ≡ [];
 }
 
 abbrev pub decreases-loop-left : goal.decreases-loop-left

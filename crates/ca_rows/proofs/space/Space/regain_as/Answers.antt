@@ -6,6 +6,8 @@ pub load-requires : goal.load-requires
 load-requires g c = let sized = c.args.self.now.sized in (
   search rules,
   omega arith,
-  regains g.R.RowRule.linked g.R.RowRule.lent g.R.RowRule.noted g.R.RowRule.fact g.met.R.RowRule.frames
-      c.args.self.now.table.shared.key _ _ _ g.K.Named.about c.requires.old.0 c.requires.old.1 c.requires.old.2,
+  regains g.R.RowRule.linked g.R.RowRule.lent g.R.RowRule.noted g.R.RowRule.fact
+      g.met.R.RowRule.frames
+      c.args.self.now.table.shared.key _ _ _ g.K.Named.about c.requires.old.0 c.requires.old.1
+      c.requires.old.2,
 )

@@ -11,40 +11,53 @@ pub load-head-requires : goal.load-head-requires
 load-head-requires g c = let sized = c.args.self.now.sized in (
   search rules,
   omega arith,
-  looks g.R.RowRule.linked g.R.RowRule.lent g.R.RowRule.noted g.R.RowRule.fact g.met.R.RowRule.frames
+  looks g.R.RowRule.linked g.R.RowRule.lent g.R.RowRule.noted g.R.RowRule.fact
+      g.met.R.RowRule.frames
       c.args.self.now.table.shared.key _ _ _,
 )
 
 pub load-next-requires : goal.load-next-requires
-load-next-requires g c = let sized = c.args.self.now.sized in let few = c.args.self.now.few.1 in let some_free = c.if-row-eq0.false in
+load-next-requires g c = let sized = c.args.self.now.sized in let few = c.args.self.now.few.1 in
+    let some_free = c.if-row-eq0.false in
     let saw = c.load-head.ensures.2.3 (omega arith) c.if-tag.false in (
       search rules,
-      (let same = ap (λ (z : Sizes). z.rows) c.requires.own.1 in let some_rows = c.args.self.now.few.0 in let lim = c.load-head.ensures.2.0 (omega arith) in
+      (let same = ap (λ (z : Sizes). z.rows) c.requires.own.1 in
+          let some_rows = c.args.self.now.few.0 in
+          let lim = c.load-head.ensures.2.0 (omega arith) in
           omega arith),
-      peeks g.R.RowRule.linked g.R.RowRule.lent g.R.RowRule.noted g.R.RowRule.fact g.met.R.RowRule.frames c.args.self.now.table.shared.key _ _ _
+      peeks g.R.RowRule.linked g.R.RowRule.lent g.R.RowRule.noted g.R.RowRule.fact
+          g.met.R.RowRule.frames c.args.self.now.table.shared.key _ _ _
           (c.load-head.result / 65536) (c.load-head.result % 65536)
           (ap (λ (m : Mine g.row.R-Upper.Denot). m.0.stage) saw) (omega arith),
     )
 
 pub compare_exchange-found-requires : goal.compare_exchange-found-requires
-compare_exchange-found-requires g c = let sized = c.args.self.now.sized in let some_free = c.if-row-eq0.false in
+compare_exchange-found-requires g c = let sized = c.args.self.now.sized in
+    let some_free = c.if-row-eq0.false in
     let saw = c.load-head.ensures.2.3 (omega arith) c.if-tag.false in
-    let next = c.load-next.ensures.2 (c.load-head.result / 65536) (c.load-head.result % 65536) (ap (λ (m : Mine g.row.R-Upper.Denot). m.0.stage) saw) in (
+    let next = c.load-next.ensures.2 (c.load-head.result / 65536) (c.load-head.result % 65536) (ap
+    (λ (m : Mine g.row.R-Upper.Denot). m.0.stage) saw) in (
       search rules,
       omega arith,
-      takes g.R.RowRule.linked g.R.RowRule.lent g.R.RowRule.noted g.R.RowRule.fact g.met.R.RowRule.frames c.args.self.now.table.shared.key _ _ _
+      takes g.R.RowRule.linked g.R.RowRule.lent g.R.RowRule.noted g.R.RowRule.fact
+          g.met.R.RowRule.frames c.args.self.now.table.shared.key _ _ _
           (c.load-head.result / 65536) (c.load-head.result % 65536) c.load-next.result
           (ap (λ (m : Mine g.row.R-Upper.Denot). m.0.stage) next) (omega arith) (omega arith),
     )
 
 pub returns-then-found-old-clause-row : goal.returns-then-found-old-clause-row
 returns-then-found-old-clause-row g c =
-    let some_free = c.if-row-eq0.false in let saw = c.load-head.ensures.2.3 (omega arith) c.if-tag.false in
+    let some_free = c.if-row-eq0.false in
+    let saw = c.load-head.ensures.2.3 (omega arith) c.if-tag.false in
     let t' : ℕ = c.load-head.result / 65536 in
     let q : ℕ = c.load-head.result % 65536 in
     let next = c.load-next.ensures.2 t' q (ap (λ (m : Mine g.row.R-Upper.Denot). m.0.stage) saw) in
-    let took = (c.compare_exchange-found.ensures.2.1 t' q c.load-next.result (ap (λ (m : Mine g.row.R-Upper.Denot). m.0.stage) next)).0 c.if-found-old.true in
-    let same = row_taken c.args.pass.now.seat.me c.load-head.new.seat.me c.load-next.new.seat.me c.compare_exchange-found.new.seat.me _ _ saw q took.1.0 next
+    let took =
+    (c.compare_exchange-found.ensures.2.1 t' q c.load-next.result (ap
+    (λ (m : Mine g.row.R-Upper.Denot). m.0.stage) next)).0 c.if-found-old.true in
+    let same =
+    row_taken c.args.pass.now.seat.me c.load-head.new.seat.me c.load-next.new.seat.me
+    c.compare_exchange-found.new.seat.me _ _ saw q took.1.0 next
     took.0 took.1.2 in
     let rows = ap (λ (z : Sizes). z.rows) c.requires.own.1 in
     let some_rows = c.args.self.now.few.0 in
@@ -53,17 +66,22 @@ returns-then-found-old-clause-row g c =
 
 pub returns-else-found-old-clause-row : goal.returns-else-found-old-clause-row
 returns-else-found-old-clause-row g c =
-    let some_free = c.if-row-eq0.false in let saw = c.load-head.ensures.2.3 (omega arith) c.if-tag.false in
+    let some_free = c.if-row-eq0.false in
+    let saw = c.load-head.ensures.2.3 (omega arith) c.if-tag.false in
     let t' : ℕ = c.load-head.result / 65536 in
     let q : ℕ = c.load-head.result % 65536 in
     let next = c.load-next.ensures.2 t' q (ap (λ (m : Mine g.row.R-Upper.Denot). m.0.stage) saw) in
-    let took = (c.compare_exchange-found.ensures.2.1 t' q c.load-next.result (ap (λ (m : Mine g.row.R-Upper.Denot). m.0.stage) next)).1 c.if-found-old.false in
-    row_missed c.args.pass.now.seat.me c.load-head.new.seat.me c.load-next.new.seat.me c.compare_exchange-found.new.seat.me _ _ saw next took
+    let took =
+    (c.compare_exchange-found.ensures.2.1 t' q c.load-next.result (ap
+    (λ (m : Mine g.row.R-Upper.Denot). m.0.stage) next)).1 c.if-found-old.false in
+    row_missed c.args.pass.now.seat.me c.load-head.new.seat.me c.load-next.new.seat.me
+    c.compare_exchange-found.new.seat.me _ _ saw next took
 
 pub returns-then-found-old-clause-frame : goal.returns-then-found-old-clause-frame
 returns-then-found-old-clause-frame g c = record {
   same = let row = returns-then-found-old-clause-row g c in
-      let rest = still c.args.pass.now.seat.me c.compare_exchange-found.new.seat.me _ _ _ _ _ _ row.3.2 in (
+      let rest =
+      still c.args.pass.now.seat.me c.compare_exchange-found.new.seat.me _ _ _ _ _ _ row.3.2 in (
         c.compare_exchange-found.ensures.0 ∙ (c.load-next.ensures.0 ∙ c.load-head.ensures.0),
         c.compare_exchange-found.ensures.1
             ∙ (c.load-next.ensures.1 ∙ c.load-head.ensures.1),
@@ -78,14 +96,15 @@ returns-then-found-old-clause-frame g c = record {
 
 pub returns-else-found-old-clause-frame : goal.returns-else-found-old-clause-frame
 returns-else-found-old-clause-frame g c = record {
-  same = let rest = still c.args.pass.now.seat.me c.compare_exchange-found.new.seat.me _ _ _ _ _ _ (returns-else-found-old-clause-row g c) in (
-    c.compare_exchange-found.ensures.0 ∙ (c.load-next.ensures.0 ∙ c.load-head.ensures.0),
-    c.compare_exchange-found.ensures.1
-        ∙ (c.load-next.ensures.1 ∙ c.load-head.ensures.1),
-    rest.0,
-    rest.1,
-    rest.2,
-  );
+  same = let rest = still c.args.pass.now.seat.me c.compare_exchange-found.new.seat.me _ _ _ _ _ _
+      (returns-else-found-old-clause-row g c) in (
+        c.compare_exchange-found.ensures.0 ∙ (c.load-next.ensures.0 ∙ c.load-head.ensures.0),
+        c.compare_exchange-found.ensures.1
+            ∙ (c.load-next.ensures.1 ∙ c.load-head.ensures.1),
+        rest.0,
+        rest.1,
+        rest.2,
+      );
   number = search rules;
   tally = search rules;
   kept = search rules;
@@ -93,12 +112,15 @@ returns-else-found-old-clause-frame g c = record {
 
 pub invariant_of-pass-2 : goal.invariant_of-pass-2
 invariant_of-pass-2 g c =
-    let some_free = c.if-row-eq0.false in let saw = c.load-head.ensures.2.3 (omega arith) c.if-tag.false in
+    let some_free = c.if-row-eq0.false in
+    let saw = c.load-head.ensures.2.3 (omega arith) c.if-tag.false in
     let t' : ℕ = c.load-head.result / 65536 in
     let q : ℕ = c.load-head.result % 65536 in
     let next = c.load-next.ensures.2 t' q (ap (λ (m : Mine g.row.R-Upper.Denot). m.0.stage) saw) in
-    let took = c.compare_exchange-found.ensures.2.1 t' q c.load-next.result (ap (λ (m : Mine g.row.R-Upper.Denot). m.0.stage) next) in
-    let before = ap (λ (m : Mine g.row.R-Upper.Denot). m.1) next ∙ (ap (λ (m : Mine g.row.R-Upper.Denot). m.1) saw ∙ c.args.pass.now.hands) in record {
+    let took = c.compare_exchange-found.ensures.2.1 t' q c.load-next.result (ap
+    (λ (m : Mine g.row.R-Upper.Denot). m.0.stage) next) in
+    let before = ap (λ (m : Mine g.row.R-Upper.Denot). m.1) next
+    ∙ (ap (λ (m : Mine g.row.R-Upper.Denot). m.1) saw ∙ c.args.pass.now.hands) in record {
       hands = dite (ℕ_discrete c.compare_exchange-found.result (t' * 65536 + q))
           (λ hit. ap (λ (m : Mine g.row.R-Upper.Denot). m.1) (took.0 hit).1.2 ∙ before)
           (λ miss. ap (λ (m : Mine g.row.R-Upper.Denot). m.1) (took.1 miss) ∙ before);

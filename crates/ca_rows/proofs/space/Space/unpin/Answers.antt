@@ -11,7 +11,8 @@ store-requires g c =
     let high = c.requires.number.2 in (
       search rules,
       omega arith,
-      unpins g.R.RowRule.linked g.R.RowRule.lent g.R.RowRule.noted g.R.RowRule.fact g.met.R.RowRule.frames c.args.self.now.table.shared.key g.R.RowRule.enters
+      unpins g.R.RowRule.linked g.R.RowRule.lent g.R.RowRule.noted g.R.RowRule.fact
+          g.met.R.RowRule.frames c.args.self.now.table.shared.key g.R.RowRule.enters
           g.R.RowRule.leaves g.met.R.RowRule.pinning
           _ _ _ (c.args.pass.now.number + 1) (omega arith) (omega arith),
     )

@@ -8,13 +8,16 @@ pub store-requires : goal.store-requires
 store-requires g c = let sized = c.args.self.now.sized in (
   search rules,
   omega arith,
-  writes g.R.RowRule.linked g.R.RowRule.lent g.R.RowRule.noted g.R.RowRule.fact g.met.R.RowRule.frames c.args.self.now.table.shared.key _ _ _ _ c.args.row
-      c.args.index c.args.value c.requires.held.0 (omega arith) c.requires.held.1 c.requires.inside.1,
+  writes g.R.RowRule.linked g.R.RowRule.lent g.R.RowRule.noted g.R.RowRule.fact
+      g.met.R.RowRule.frames c.args.self.now.table.shared.key _ _ _ _ c.args.row
+      c.args.index c.args.value c.requires.held.0 (omega arith) c.requires.held.1
+      c.requires.inside.1,
 )
 
 pub returns-clause-frame : goal.returns-clause-frame
 returns-clause-frame g c = record {
-  same = let wrote = c.store.ensures.2 c.args.row c.args.index c.requires.held.0 refl c.requires.inside.1 c.requires.held.1 in
+  same = let wrote = c.store.ensures.2 c.args.row c.args.index c.requires.held.0 refl
+      c.requires.inside.1 c.requires.held.1 in
       let rest = still c.args.pass.now.seat.me c.store.new.seat.me _ _ _ _ _ _ wrote in
       (c.store.ensures.0, c.store.ensures.1, rest.0, rest.1, rest.2);
   number = search rules;
@@ -24,5 +27,7 @@ returns-clause-frame g c = record {
 
 pub invariant_of-pass : goal.invariant_of-pass
 invariant_of-pass g c =
-    let wrote = c.store.ensures.2 c.args.row c.args.index c.requires.held.0 refl c.requires.inside.1 c.requires.held.1 in
+    let wrote =
+    c.store.ensures.2 c.args.row c.args.index c.requires.held.0 refl c.requires.inside.1
+    c.requires.held.1 in
     record { hands = ap (λ (m : Mine g.row.R-Upper.Denot). m.1) wrote ∙ c.args.pass.now.hands }
