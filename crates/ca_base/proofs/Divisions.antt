@@ -5,12 +5,12 @@ use Rattle.std.proofs.lemmas.List.{take_rest}
 use mathlib.Core.Option.{some, none}
 use Rattle.ca_model.specs.StoreMap.{IsStoreMap}
 use Rattle.ca_node.specs.Laws.{in_nothing}
-use Rattle.ca_node.specs.Links.{IsIn}
+use Rattle.ca_node.specs.Links.{IsIn, AreApart}
 use Rattle.ca_node.specs.Row.{count, items, key, pair}
 use Rattle.ca_node.specs.Told.{MyTree, IsLastThere, IsDivision, IsDivided, given}
 use Rattle.ca_node.specs.TreeView.{Note, TreeView, Division}
 use Rattle.ca_node.specs.declared.cursor.Cursor.{Cursor}
-use Rattle.ca_node.proofs.HeldRows.{AreApart, given_fewer, taken_out_more}
+use Rattle.ca_node.proofs.HeldRows.{given_fewer, taken_out_more}
 use Rattle.ca_node.proofs.Looking.{in_more}
 use Rattle.ca_base.specs.Finding.{IsAtCursor, IsReadable}
 use Rattle.ca_base.specs.Putting.{IsShownLast, first_note, last_items, words_of}

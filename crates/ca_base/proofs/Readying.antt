@@ -6,7 +6,7 @@ use mathlib.Core.Option.{some}
 use Rattle.ca_model.specs.Event.{Event}
 use Rattle.ca_model.specs.History.{Edit, Put}
 use Rattle.ca_model.specs.StoreMap.{IsPair}
-use Rattle.ca_model.proofs.Places.{IsPlace}
+use Rattle.ca_model.specs.Places.{IsPlace}
 use Rattle.ca_node.specs.Place.{HasKey}
 use Rattle.ca_node.specs.Row.{count, object, key, pair}
 use Rattle.ca_node.specs.Told.{MyTree, IsUpdate}

@@ -7,7 +7,8 @@ use Rattle.ca_model.specs.Event.{IsAnswer, effect}
 use Rattle.ca_model.specs.History.{IsEdit, after_edit}
 use Rattle.ca_model.specs.StoreMap.{Pair, IsFound}
 use Rattle.ca_model.specs.Slab.{nothing}
-use Rattle.ca_model.proofs.Places.{IsAt, is_found}
+use Rattle.ca_model.proofs.Places.{is_found}
+use Rattle.ca_model.specs.Places.{IsAt}
 use Rattle.ca_node.specs.Laws.{in_nothing}
 use Rattle.ca_node.specs.Inventory.{AreOnce, row_itself}
 use Rattle.ca_node.specs.Links.{IsIn}

@@ -9,7 +9,8 @@ use Rattle.atomic_table.proofs.Lists.{at_set, set_else}
 use Rattle.ca_model.specs.Event.{IsAnswer, effect}
 use Rattle.ca_model.specs.History.{Put}
 use Rattle.ca_model.specs.StoreMap.{StoreMap, IsPair}
-use Rattle.ca_model.proofs.Places.{IsPlace, placed_is}
+use Rattle.ca_model.proofs.Places.{placed_is}
+use Rattle.ca_model.specs.Places.{IsPlace}
 use Rattle.ca_node.specs.Links.{IsIn}
 use Rattle.ca_node.specs.Place.{HasKey}
 use Rattle.ca_node.specs.Row.{IsObjectRow, items, count, object, key, pair}

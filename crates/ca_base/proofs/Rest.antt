@@ -2,8 +2,7 @@
 use Rattle.std.proofs.Common.{◌≡◌, ◌≢◌, ℕ, zero, suc, ◌+◌, ◌<◌, ◌≤◌, List, [], ◌∷◌, length, drop, get_or, Result, Ok, Err, refl, sym, subst, ⊎_elim, arith}
 use Rattle.std.proofs.Math.Seq.{drop-cons}
 use Rattle.ca_node.specs.Laws.{in_nothing}
-use Rattle.ca_node.specs.Links.{IsIn}
-use Rattle.ca_node.proofs.HeldRows.{AreApart}
+use Rattle.ca_node.specs.Links.{IsIn, AreApart}
 use Rattle.ca_node.proofs.Looking.{in_more}
 use Rattle.ca_base.specs.Putting.{gone}
 

@@ -6,7 +6,8 @@ use Rattle.std.specs.declared.cmp.Ordering.{Ordering}
 use Rattle.std.specs.declared.cmp.Ordering.TheVariants.{Less, Equal, Greater}
 use Rattle.ca_model.specs.StoreMap.{Pair, StoreMap, bytes_cmp, IsFound, IsStoreMap}
 use Rattle.ca_model.specs.Slab.{nothing}
-use Rattle.ca_model.proofs.Places.{IsPlace, searched, is_found}
+use Rattle.ca_model.proofs.Places.{searched, is_found}
+use Rattle.ca_model.specs.Places.{IsPlace}
 use Rattle.ca_node.specs.Row.{pair}
 use Rattle.ca_node.specs.TreeView.{Note}
 

@@ -11,7 +11,8 @@ use Rattle.ca_model.specs.Event.{Event, Remove}
 use Rattle.ca_model.specs.History.{Edit, Del}
 use Rattle.ca_model.specs.StoreMap.{Pair, IsStoreMap}
 use Rattle.ca_model.specs.Slab.{nothing}
-use Rattle.ca_model.proofs.Places.{IsAt, is_found, removed_is}
+use Rattle.ca_model.proofs.Places.{is_found, removed_is}
+use Rattle.ca_model.specs.Places.{IsAt}
 use Rattle.ca_node.specs.Laws.{in_nothing}
 use Rattle.ca_node.specs.Links.{IsIn}
 use Rattle.ca_node.specs.Place.{HasKey}

@@ -7,11 +7,11 @@ use native.Mathlib.Decide.{ℕ_discrete}
 use Rattle.ca_model.specs.Event.{effect}
 use Rattle.ca_model.specs.Lawful.{IsPlaceFrom}
 use Rattle.ca_node.specs.Laws.{in_nothing}
-use Rattle.ca_node.specs.Links.{IsIn}
+use Rattle.ca_node.specs.Links.{IsIn, AreApart}
 use Rattle.ca_rows.specs.Told.{met_of}
 use Rattle.ca_node.specs.Told.{MyTree, IsKnown, Update, IsUpdated, given, one_more_lost, taken_out, updated, with_upper}
 use Rattle.ca_node.specs.TreeView.{TreeView}
-use Rattle.ca_node.proofs.HeldRows.{AreApart, given_fewer, taken_out_more}
+use Rattle.ca_node.proofs.HeldRows.{given_fewer, taken_out_more}
 use Rattle.ca_node.proofs.Looking.{in_more}
 use Rattle.ca_node.proofs.Members.{in_rest, has, given_here, given_else, taken_here, taken_else, in_first}
 use Rattle.ca_base.specs.Progress.{HasDone}

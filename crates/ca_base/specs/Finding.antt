@@ -4,7 +4,7 @@ use mathlib.Core.Option.{some}
 use lib.ListN.{get_elem?}
 use Rattle.ca_model.specs.History.{after}
 use Rattle.ca_model.specs.StoreMap.{IsStoreMap}
-use Rattle.ca_model.proofs.Places.{IsPlace}
+use Rattle.ca_model.specs.Places.{IsPlace}
 use Rattle.ca_node.specs.declared.cursor.Cursor.{Cursor}
 use Rattle.ca_node.specs.Links.{IsIn}
 use Rattle.ca_node.specs.Place.{part}

@@ -3,7 +3,7 @@ use Rattle.std.specs.Prelude.{◌≡◌, ℕ, ◌*◌, ◌/◌, Bool, true, fals
 use Rattle.ca_node.specs.Row.{IsRouteRow, count, items, key, level, route_key}
 use Rattle.ca_node.specs.Told.{MyTree, divided, one_more_lost}
 use Rattle.ca_node.specs.TreeView.{Note, TreeView, Division}
-use Rattle.ca_node.proofs.HeldRows.{AreApart}
+use Rattle.ca_node.specs.Links.{AreApart}
 use Rattle.ca_base.specs.declared.taking.NoRow.{NoRow}
 use Rattle.ca_base.specs.Putting.{first_note, words_of}
 use Rattle.ca_rows.specs.Claims.{claim_of}

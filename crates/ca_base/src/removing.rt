@@ -1,6 +1,6 @@
 //! An object is taken away from a base.
 ghost use Rattle.std.specs.Prelude.{◌≢◌, [], map, false, Ok, Some};
-ghost use Rattle.ca_model.proofs.Places.{IsPlace};
+ghost use Rattle.ca_model.specs.Places.{IsPlace};
 ghost use Rattle.ca_model.specs.Event.{Remove};
 ghost use Rattle.ca_model.specs.History.{Del};
 ghost use Rattle.ca_model.specs.StoreMap.{IsStoreMap};

@@ -1,9 +1,8 @@
 //! A base that a pass wrote takes the place of the one that it was shown last.
 ghost use Rattle.std.specs.Prelude.{◌≡◌, ◌≢◌, ◌<◌, ◌≤◌, ℕ, false, List, [], ◌∷◌, length, Ok, slice_index};
 ghost use Rattle.ca_node.specs.Inventory.{IsListed};
-ghost use Rattle.ca_node.specs.Links.{IsIn};
+ghost use Rattle.ca_node.specs.Links.{IsIn, AreApart};
 ghost use Rattle.ca_node.specs.Told.{IsAlone, IsBaseNote, IsUpdate};
-ghost use Rattle.ca_node.proofs.HeldRows.{AreApart};
 ghost use Rattle.ca_base.specs.Counting.{losses, IsSpent, HasCleared, HasEnded, HasMet, PutsBack};
 ghost use Rattle.ca_base.specs.Finding.{IsAtCursor};
 ghost use Rattle.ca_base.specs.Putting.{HasRenewed, IsNewRow, HasSwapped, first_note};

@@ -1,6 +1,6 @@
 //! An object is put into a base.
 ghost use Rattle.std.specs.Prelude.{◌≡◌, ◌≢◌, ℕ, List, [], map, false, Ok};
-ghost use Rattle.ca_model.proofs.Places.{IsPlace};
+ghost use Rattle.ca_model.specs.Places.{IsPlace};
 ghost use Rattle.ca_node.specs.Inventory.{IsListed};
 ghost use Rattle.ca_node.specs.Place.{HasKey};
 ghost use Rattle.ca_node.specs.Row.{pair};

@@ -16,7 +16,8 @@ use Rattle.ca_model.specs.Slab.{nothing, placed}
 use Rattle.ca_model.specs.PlainView.{known_alone}
 use Rattle.ca_model.specs.RunView.{left_in, IsPart}
 use Rattle.ca_model.specs.declared.run.Run.{Run}
-use Rattle.ca_model.proofs.Places.{IsPlace, IsAt, IsBefore, searched, placed_is, is_found}
+use Rattle.ca_model.proofs.Places.{searched, placed_is, is_found}
+use Rattle.ca_model.specs.Places.{IsPlace, IsAt, IsBefore}
 use Rattle.ca_model.proofs.Edits.{map_after_edit, found_pair}
 
 -- A call that reads, and leaves this run open or none.

@@ -1,6 +1,7 @@
 pub mod Alone
 pub mod Cuts
 pub mod Edits
+pub mod Parts
 pub mod Passing
 pub mod Places
 pub mod Samples

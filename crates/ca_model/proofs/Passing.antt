@@ -10,6 +10,7 @@ use Rattle.ca_model.specs.Lawful.{IsEntryAt, AreEntries, IsPlaceFrom, edits_of_l
 use Rattle.ca_model.specs.Known.{Known, Seen, Meets, around, place, place_of, seen_with}
 use Rattle.ca_model.specs.Passes.{HasSeen, Advances, PassesMeet}
 use Rattle.ca_model.proofs.Edits.{map_after}
+use Rattle.ca_model.proofs.Parts.{by_others, edits_in_parts, log_more, same_behind, second_edits, second_passes}
 
 after-append : (xs ys : History) (m : StoreMap) → after (xs ++ ys) m ≡ after ys (after xs m)
 after-append [] ys m = refl
@@ -65,49 +66,9 @@ last_entry : (pass : ℕ) (history : History) (log : List Entry) (event : Event)
 last_entry pass history [] event p h = h.0
 last_entry pass history (entry ∷ log) event p h = last_entry pass history log event p h.1
 
-edits_of_log-append : (log : List Entry) (event : Event) (p : ℕ) → edits_of_log (log ++ (event, p) ∷ []) ≡ edits_of_log log ++ effect event
-edits_of_log-append [] event p = append-nil (effect event)
-edits_of_log-append (entry ∷ log) event p = ap (λ (es : List Edit). effect entry.0 ++ es) (edits_of_log-append log event p)
-    ∙ sym (append_assoc (effect entry.0) (edits_of_log log) (effect event))
-
-edits_of_pass-append : (pass : ℕ) (xs ys : History) → edits_of_pass pass (xs ++ ys) ≡ edits_of_pass pass xs ++ edits_of_pass pass ys
-edits_of_pass-append pass [] ys = refl
-edits_of_pass-append pass (x ∷ xs) ys = by (x.0 == pass) (edits_of_pass-append pass xs ys)
-  where
-    by : (own : Bool) → edits_of_pass pass (xs ++ ys) ≡ edits_of_pass pass xs ++ edits_of_pass pass ys
-        → (if own then x.1 ∷ edits_of_pass pass (xs ++ ys) else edits_of_pass pass (xs ++ ys)) ≡ (if own then x.1 ∷ edits_of_pass pass xs else
-        edits_of_pass pass xs) ++ edits_of_pass pass ys
-    by true e = ap (λ (es : List Edit). x.1 ∷ es) e
-    by false e = e
-
--- a history without edits of a pass was made by others
-by_others : (pass : ℕ) (xs : History) → edits_of_pass pass xs ≡ [] → AreByOthers pass xs
-by_others pass [] e = tt
-by_others pass (x ∷ xs) e = by (x.0 == pass) refl e (λ none. by_others pass xs none)
-  where
-    differs : x.0 ≡ pass → (x.0 == pass) ≡ false → ⊥
-    differs same is = grind (arith, nat_tests, same, is)
-
-    by : (own : Bool) → (x.0 == pass) ≡ own → (if own then x.1 ∷ edits_of_pass pass xs else edits_of_pass pass xs) ≡ []
-        → (edits_of_pass pass xs ≡ [] → AreByOthers pass xs) → AreByOthers pass (x ∷ xs)
-    by true is e rest = cc
-    by false is e rest = (λ same. differs same is, rest e)
-
-second_part : (p : ℕ) (xs ys : History) → AreEdits p (xs ++ ys) → AreEdits p ys
-second_part p [] ys h = h
-second_part p (x ∷ xs) ys h = second_part p xs ys h.1
-
-second_passes : (n : ℕ) (xs ys : History) → AreByPasses n (xs ++ ys) → AreByPasses n ys
-second_passes n [] ys h = h
-second_passes n (x ∷ xs) ys h = second_passes n xs ys h.2
-
 no_edit : {A : Type 0} (xs : List A) → length xs ≡ 0 → xs ≡ []
 no_edit [] e = refl
 no_edit (x ∷ xs) e = absurd (omega (arith, e))
-
-same_behind : (xs ys zs : List Edit) → xs ++ ys ≡ xs ++ zs → ys ≡ zs
-same_behind [] ys zs e = e
-same_behind (x ∷ xs) ys zs e = same_behind xs ys zs cc
 
 first_empty : (xs ys : List Edit) → xs ++ ys ≡ [] → xs ≡ []
 first_empty [] ys e = refl
@@ -133,7 +94,7 @@ own_edits a b event adv =
     let all_own : edits_of_pass a.pass (adv.history ++ adv.more) ≡ edits_of_log (adv.log ++ (event, adv.at) ∷ []) =
     subst (λ (n : ℕ). edits_of_pass n (adv.history ++ adv.more) ≡ edits_of_log (adv.log ++ (event, adv.at) ∷ [])) adv.same.pass all in
     same_behind (edits_of_pass a.pass adv.history) (edits_of_pass a.pass adv.more) (effect event)
-    (sym (edits_of_pass-append a.pass adv.history adv.more) ∙ all_own ∙ edits_of_log-append adv.log event adv.at
+    (sym (edits_in_parts a.pass adv.history adv.more) ∙ all_own ∙ log_more adv.log event adv.at
     ∙ ap (λ (es : List Edit). es ++ effect event) (sym adv.before.lawful.edits))
 
 map_seen : (a : Known) (history : History) (log : List Entry) → HasSeen a history log → a.map ≡ after history []
@@ -171,7 +132,7 @@ parts_of a event history more p own entry from = by (effect event) refl own entr
         let short : n ≤ length more = omega (arith, entry.0, length-append history more) in
         let split : take n more ++ drop n more ≡ more = take-append-drop n more in
         let owns : edits_of_pass a.pass (take n more) ++ edits_of_pass a.pass (drop n more) ≡ [] =
-        sym (edits_of_pass-append a.pass (take n more) (drop n more)) ∙ ap (edits_of_pass a.pass) split ∙ own in
+        sym (edits_in_parts a.pass (take n more) (drop n more)) ∙ ap (edits_of_pass a.pass) split ∙ own in
         record {
           earlier = take n more;
           later = drop n more;
@@ -191,7 +152,7 @@ parts_of a event history more p own entry from = by (effect event) refl own entr
         let single : effect event ≡ edit ∷ [] = one ∙ ap (λ (es : List Edit). edit ∷ es) (one_edit event edit edits one) in
         let split : take n more ++ (a.pass, edit) ∷ drop (suc n) more ≡ more = parts_at more n (a.pass, edit) here in
         let owns : edits_of_pass a.pass (take n more) ++ edits_of_pass a.pass ((a.pass, edit) ∷ drop (suc n) more) ≡ edit ∷ edits =
-        sym (edits_of_pass-append a.pass (take n more) ((a.pass, edit) ∷ drop (suc n) more)) ∙ ap (edits_of_pass a.pass) split ∙ own in
+        sym (edits_in_parts a.pass (take n more) ((a.pass, edit) ∷ drop (suc n) more)) ∙ ap (edits_of_pass a.pass) split ∙ own in
         let alone : length (edits_of_pass a.pass (take n more)) + length (edits_of_pass a.pass (drop (suc n) more)) ≡ 0 =
         counted n edit edits owns (one_edit event edit edits one) in
         record {
@@ -232,7 +193,7 @@ met a b event adv parts =
     }
   where
     learnt_edits : (a b : Known) (event : Event) (adv : Advances a b event) → AreEdits a.keypos adv.more
-    learnt_edits a b event adv = second_part a.keypos adv.history adv.more (subst (λ (n : ℕ). AreEdits n (adv.history ++ adv.more)) adv.same.keypos
+    learnt_edits a b event adv = second_edits a.keypos adv.history adv.more (subst (λ (n : ℕ). AreEdits n (adv.history ++ adv.more)) adv.same.keypos
         adv.behind.edits)
 
     learnt_passes : (a b : Known) (event : Event) (adv : Advances a b event) → AreByPasses a.passes adv.more

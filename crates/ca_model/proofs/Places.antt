@@ -12,24 +12,7 @@ use Rattle.std.specs.Cmp.Lexicographic.{nat_list_cmp_total}
 use Rattle.ca_term.proofs.Bytes.{same_bytes}
 use Rattle.ca_model.specs.StoreMap.{Pair, StoreMap, bytes_cmp, below, get, above, put, del, IsFound, AreAbove, IsStoreMap}
 use Rattle.ca_model.specs.Slab.{nothing, placed}
-
--- The pair at this place has the key.
-pub record IsAt (map : StoreMap) (k : List ℕ) (at : ℕ) : Type 0 where
-  pub in_range : at < length map
-  pub less : below map k ≡ take at map
-  pub equal : get map k ≡ get_or map at nothing ∷ []
-  pub greater : above map k ≡ drop (at + 1) map
-
--- No pair has the key, and one that had it would stand before this place.
-pub record IsBefore (map : StoreMap) (k : List ℕ) (at : ℕ) : Type 0 where
-  pub in_range : at ≤ length map
-  pub less : below map k ≡ take at map
-  pub equal : get map k ≡ []
-  pub greater : above map k ≡ drop at map
-
-abbrev pub IsPlace : StoreMap → List ℕ → Result ℕ ℕ → Type 0
-IsPlace map k (Ok at) = IsAt map k at
-IsPlace map k (Err at) = IsBefore map k at
+use Rattle.ca_model.specs.Places.{IsAt, IsBefore, IsPlace}
 
 -- Byte lists compare the other way round.
 pub bytes_flip : (a b : List ℕ) → bytes_cmp a b ≡ ordering_reverse (bytes_cmp b a)

@@ -11,7 +11,8 @@ use Rattle.ca_model.specs.StoreMap.{Pair, StoreMap, bytes_cmp, below, get, above
 use Rattle.ca_model.specs.Slab.{nothing}
 use Rattle.ca_model.specs.Edges.{Bound, Unbounded, Included, Excluded, is_up_to, from, up_to, within, objects_of, first_object, last_object}
 use Rattle.ca_model.specs.RunView.{ArePlaces}
-use Rattle.ca_model.proofs.Places.{IsAt, IsBefore, IsPlace, searched, AreGreater, greater, greater_than, none_below, none_at}
+use Rattle.ca_model.proofs.Places.{searched, AreGreater, greater, greater_than, none_below, none_at}
+use Rattle.ca_model.specs.Places.{IsAt, IsBefore, IsPlace}
 
 -- The parts of a map within an edge at a key are those that an edit knows.
 from_parts : (p : ℕ) (m : StoreMap) (k : List ℕ) → IsStoreMap p m → from (Included k) m ≡ get m k ++ above m k

@@ -6,6 +6,7 @@ pub mod History
 pub mod Known
 pub mod Lawful
 pub mod Passes
+pub mod Places
 pub mod PlainView
 pub mod Promises
 pub mod RowView

@@ -5,14 +5,9 @@ use Rattle.ca_rows.specs.declared.view.Claim.TheVariants.{Holds}
 use Rattle.ca_rows.specs.declared.view.Claimed.{Claimed}
 use Rattle.ca_rows.specs.Claims.{claim_of, held_count}
 use Rattle.ca_rows.proofs.HeldCount.{dropped_no_more, dropped_one_less}
-use Rattle.ca_node.specs.Links.{IsIn}
+use Rattle.ca_node.specs.Links.{IsIn, AreApart}
 use Rattle.ca_node.specs.Told.{given, taken_out}
 use Rattle.ca_node.proofs.Members.{in_rest, given_else}
-
--- No row of the list is in it twice.
-abbrev pub AreApart : List ℕ → Type 0
-AreApart [] = Unit {0}
-AreApart (row ∷ rows) = (¬ IsIn row rows) × AreApart rows
 
 -- Where rows are linked, no more are held.
 pub given_no_more : (rows : List ℕ) (claims : List Claimed)

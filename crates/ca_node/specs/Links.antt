@@ -1,5 +1,5 @@
 -- What the root link reaches, what is lent to an operation, and which rows a seat has a note on: each by the words.
-use Rattle.std.specs.Prelude.{◌≡◌, ◌⊎◌, ℕ, ◌+◌, ◌*◌, ◌<◌, ◌≤◌, List, slice_index}
+use Rattle.std.specs.Prelude.{◌≡◌, ◌⊎◌, ℕ, ◌+◌, ◌*◌, ◌<◌, ◌≤◌, List, [], ◌∷◌, slice_index}
 use mathlib.Core.Option.{some}
 use lib.ListN.{get_elem?}
 use Rattle.ca_node.specs.Row.{row_at, IsBaseRow, IsRouteRow, items, mark, mark_owner, mark_number, mark_bound}
@@ -11,6 +11,11 @@ root words = slice_index words 130
 
 abbrev pub IsIn : {A : Type 0} → A → List A → Type 0
 IsIn x xs = (k : ℕ) × (get_elem? xs k ≡ some x)
+
+-- No row of the list is in it twice.
+abbrev pub AreApart : List ℕ → Type 0
+AreApart [] = Unit {0}
+AreApart (row ∷ rows) = (¬ IsIn row rows) × AreApart rows
 
 -- The row is named by a link of this route.
 abbrev pub IsUnder : List ℕ → ℕ → ℕ → Type 0

@@ -1,14 +1,14 @@
 -- What a pass knows more after a call meets a store's contract.
-use Rattle.std.proofs.Common.{◌≡◌, ℕ, ◌≤◌, ◌==◌, Bool, true, false, cond, List, [], ◌∷◌, ◌++◌, if◌then◌else◌, length, Some, sym, refl, ap, ◌∙◌, subst, arith, append-nil}
+use Rattle.std.proofs.Common.{◌≡◌, ℕ, ◌≤◌, ◌==◌, Bool, true, false, cond, List, [], ◌∷◌, ◌++◌, length, Some, sym, refl, ap, ◌∙◌, subst, arith, append-nil}
 use Rattle.std.proofs.lemmas.Bool.Decides.{nat_tests}
-use Rattle.std.proofs.lemmas.List.{append_assoc}
 use Rattle.atomic_table.specs.Seated.{TableId}
 use Rattle.ca_model.specs.Event.{Event, Entry, effect}
-use Rattle.ca_model.specs.History.{Edit, History, state, after, by_pass, edits_of_pass, AreEdits, AreByPasses, AreByOthers}
+use Rattle.ca_model.specs.History.{Edit, History, state, after, by_pass, edits_of_pass, AreEdits, AreByPasses}
 use Rattle.ca_model.specs.Known.{Counts, Meets, Declines}
 use Rattle.ca_model.specs.Lawful.{IsPlaceFrom, edits_of_log}
 use Rattle.ca_model.specs.Passes.{HasSeen}
 use Rattle.ca_model.proofs.Edits.{map_after}
+use Rattle.ca_model.proofs.Parts.{by_others, edits_in_parts, log_more, same_behind, second_edits, second_passes}
 use Rattle.ca_model.proofs.Passing.{passes_meet}
 use Rattle.ca_node.specs.Told.{IsKnown}
 use Rattle.ca_node.specs.TreeView.{TreeView}
@@ -18,54 +18,6 @@ use Rattle.ca_base.specs.Progress.{IsFurther, HasDone, IsRefused}
 use Rattle.ca_replace.specs.Resting.{known_of}
 use Rattle.ca_replace.proofs.OneHand.{own_alone}
 use Rattle.ca_rows.specs.declared.sizes.Sizes.{Sizes}
-
--- The edits of a pass in two parts of a history.
-edits_in_parts : (pass : ℕ) (xs ys : History)
-    → edits_of_pass pass (xs ++ ys) ≡ edits_of_pass pass xs ++ edits_of_pass pass ys
-edits_in_parts pass [] ys = refl
-edits_in_parts pass (x ∷ xs) ys = by (x.0 == pass) (edits_in_parts pass xs ys)
-  where
-    by : (own : Bool) → edits_of_pass pass (xs ++ ys)
-        ≡ edits_of_pass pass xs ++ edits_of_pass pass ys
-        → (if own then x.1 ∷ edits_of_pass pass (xs ++ ys) else edits_of_pass pass (xs ++ ys))
-        ≡ (if own then x.1 ∷ edits_of_pass pass xs else
-        edits_of_pass pass xs) ++ edits_of_pass pass ys
-    by true e = ap (λ (es : List Edit). x.1 ∷ es) e
-    by false e = e
-
--- A history without edits of a pass was made by others.
-by_others : (pass : ℕ) (xs : History) → edits_of_pass pass xs ≡ [] → AreByOthers pass xs
-by_others pass [] e = tt
-by_others pass (x ∷ xs) e = by (x.0 == pass) refl e (λ none. by_others pass xs none)
-  where
-    differs : x.0 ≡ pass → (x.0 == pass) ≡ false → ⊥
-    differs same is = grind (arith, nat_tests, same, is)
-
-    by : (own : Bool) → (x.0 == pass) ≡ own
-        → (if own then x.1 ∷ edits_of_pass pass xs else edits_of_pass pass xs) ≡ []
-        → (edits_of_pass pass xs ≡ [] → AreByOthers pass xs) → AreByOthers pass (x ∷ xs)
-    by true is e rest = cc
-    by false is e rest = (λ same. differs same is, rest e)
-
-second_edits : (p : ℕ) (xs ys : History) → AreEdits p (xs ++ ys) → AreEdits p ys
-second_edits p [] ys h = h
-second_edits p (x ∷ xs) ys h = second_edits p xs ys h.1
-
-second_passes : (n : ℕ) (xs ys : History) → AreByPasses n (xs ++ ys) → AreByPasses n ys
-second_passes n [] ys h = h
-second_passes n (x ∷ xs) ys h = second_passes n xs ys h.2
-
-same_behind : (xs ys zs : List Edit) → xs ++ ys ≡ xs ++ zs → ys ≡ zs
-same_behind [] ys zs e = e
-same_behind (x ∷ xs) ys zs e = same_behind xs ys zs cc
-
--- The edits of a log with one entry more.
-log_more : (log : List Entry) (event : Event) (p : ℕ)
-    → edits_of_log (log ++ (event, p) ∷ []) ≡ edits_of_log log ++ effect event
-log_more [] event p = append-nil (effect event)
-log_more (entry ∷ log) event p = ap
-    (λ (es : List Edit). effect entry.0 ++ es) (log_more log event p)
-    ∙ sym (append_assoc (effect entry.0) (edits_of_log log) (effect event))
 
 -- What is known is what was seen.
 has_seen : (table : TableId) (z : Sizes) (u : TreeView) → IsKnown z u

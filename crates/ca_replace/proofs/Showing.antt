@@ -7,7 +7,7 @@ use Rattle.ca_model.specs.History.{History, after}
 use Rattle.ca_model.specs.Lawful.{IsPlaceFrom}
 use Rattle.ca_model.specs.StoreMap.{StoreMap, IsFound, IsStoreMap, get}
 use Rattle.ca_model.proofs.Edits.{map_after, found_pair}
-use Rattle.ca_model.proofs.Places.{IsPlace}
+use Rattle.ca_model.specs.Places.{IsPlace}
 use Rattle.ca_node.specs.declared.cursor.Cursor.{Cursor}
 use Rattle.ca_node.specs.declared.cursor.Spot.{Spot}
 use Rattle.ca_node.specs.declared.cursor.Spot.TheVariants as spot

@@ -1,6 +1,6 @@
 -- Looks for a key, with which each attempt begins.
 use Rattle.std.specs.Prelude.{◌≡◌, ℕ, List, map, Result}
-use Rattle.ca_model.proofs.Places.{IsPlace}
+use Rattle.ca_model.specs.Places.{IsPlace}
 use Rattle.ca_node.specs.declared.cursor.Cursor.{Cursor}
 use Rattle.ca_node.specs.Row.{pair}
 use Rattle.ca_node.specs.Tallied.{IsTallied}

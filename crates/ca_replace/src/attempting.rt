@@ -1,7 +1,7 @@
 //! Attempts of a call that edits.
 ghost use Rattle.std.specs.Prelude.{◌≡◌, ◌≢◌, ◌<◌, ◌≤◌, ◌↔◌, ℕ, Bool, Err, List, None, Ok, OnOk, Some, [], false, length, map, true, IsTrue};
 ghost use Rattle.std.specs.declared.option.Option.{Option};
-ghost use Rattle.ca_model.proofs.Places.{IsPlace};
+ghost use Rattle.ca_model.specs.Places.{IsPlace};
 ghost use Rattle.ca_model.specs.Event.{Event, Remove};
 ghost use Rattle.ca_model.specs.History.{after};
 ghost use Rattle.ca_node.specs.Row.{pair};

@@ -1,6 +1,6 @@
 use Rattle.std.proofs.Common.{ℕ, map, Ok, sym, subst, ap, rules}
 use Rattle.std.specs.Prelude.{Result}
-use Rattle.ca_model.proofs.Places.{IsPlace}
+use Rattle.ca_model.specs.Places.{IsPlace}
 use Rattle.ca_node.specs.Row.{pair}
 use Rattle.ca_node.specs.Told.{MyTree}
 use Rattle.ca_base.specs.Putting.{first_note}

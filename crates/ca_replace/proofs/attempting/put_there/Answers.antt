@@ -23,7 +23,7 @@ use Rattle.ca_replace.proofs.Cutting.{full_for, settled_cut}
 use Rattle.ca_replace.proofs.Winning.{settled_won}
 use Rattle.ca_node.specs.Row.{pair}
 use Rattle.ca_base.specs.Progress.{IsFurther}
-use Rattle.ca_model.proofs.Places.{IsPlace}
+use Rattle.ca_model.specs.Places.{IsPlace}
 use Rattle.ca_replace.specs.Attempting.{IsPaid, HasStopped, IsLooking}
 use Rattle.ca_replace.specs.Growing.{HasGrown}
 use Rattle.ca_replace.specs.Winning.{HasWonAs}

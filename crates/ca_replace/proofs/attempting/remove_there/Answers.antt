@@ -19,7 +19,7 @@ use Rattle.ca_replace.proofs.Growing.{settled_grown}
 use Rattle.ca_replace.proofs.Cutting.{settled_cut}
 use Rattle.ca_replace.proofs.Winning.{settled_won}
 use Rattle.ca_node.specs.Row.{pair}
-use Rattle.ca_model.proofs.Places.{IsPlace}
+use Rattle.ca_model.specs.Places.{IsPlace}
 use Rattle.ca_rows.specs.declared.view.Pin.{Pin}
 use Rattle.ca_replace.proofs.Entries.{held_looked}
 use Rattle.ca_replace.proofs.attempting.remove_there.Goals as goal

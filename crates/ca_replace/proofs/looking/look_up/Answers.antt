@@ -3,7 +3,7 @@ use Rattle.std.specs.Prelude.{Result}
 use Rattle.ca_model.specs.Event.{Get}
 use Rattle.ca_model.specs.StoreMap.{IsFound}
 use Rattle.ca_model.specs.History.{after}
-use Rattle.ca_model.proofs.Places.{IsPlace}
+use Rattle.ca_model.specs.Places.{IsPlace}
 use Rattle.ca_node.specs.Row.{pair}
 use Rattle.ca_node.specs.Told.{MyTree, entered, with_upper}
 use Rattle.ca_base.specs.Finding.{IsReadable}

@@ -6,7 +6,7 @@ use Rattle.ca_model.specs.declared.outcome.Changed.TheVariants as changed
 use Rattle.ca_model.specs.Event.{Event, Change}
 use Rattle.ca_model.specs.StoreMap.{Pair, IsPair}
 use Rattle.ca_model.proofs.Alone.{may_leave, IsLeft, pair_of_bytes}
-use Rattle.ca_model.proofs.Places.{IsPlace}
+use Rattle.ca_model.specs.Places.{IsPlace}
 use Rattle.ca_node.specs.Row.{pair}
 use Rattle.ca_node.specs.Told.{MyTree, entered}
 use Rattle.ca_base.specs.Putting.{first_note, object_at}

@@ -1,7 +1,7 @@
 use Rattle.std.proofs.Common.{ℕ, Bool, List, map, Ok, Some, None, false, true, refl, ap, subst, ◌∙◌, sym, ◌<◌, []}
 use Rattle.std.specs.Prelude.{Result}
 use Rattle.ca_model.specs.Event.{Event, Remove}
-use Rattle.ca_model.proofs.Places.{IsPlace}
+use Rattle.ca_model.specs.Places.{IsPlace}
 use Rattle.ca_node.specs.Row.{pair}
 use Rattle.ca_node.specs.Told.{MyTree}
 use Rattle.ca_base.specs.Putting.{first_note, object_at}

@@ -3,7 +3,7 @@ use Rattle.std.specs.Prelude.{Result}
 use Rattle.ca_model.specs.declared.outcome.Changed.{Changed}
 use Rattle.ca_model.specs.declared.outcome.Changed.TheVariants as changed
 use Rattle.ca_model.specs.Event.{Event, Get, Remove}
-use Rattle.ca_model.proofs.Places.{IsPlace}
+use Rattle.ca_model.specs.Places.{IsPlace}
 use Rattle.ca_node.specs.Row.{pair}
 use Rattle.ca_node.specs.Told.{MyTree, entered}
 use Rattle.ca_base.specs.Putting.{first_note, object_at}
