@@ -16,6 +16,7 @@ use Rattle.ca_rows.specs.Calls.{IsOf, IsSame, IsStill}
 use Rattle.ca_rows.specs.Claims.{claim_of, claimed, held_count}
 use Rattle.ca_rows.proofs.Claiming.{claimed_here, claimed_else}
 use Rattle.ca_rows.proofs.HeldCount.{written_no_more}
+use Rattle.ca_rows.specs.Layout.{row_words}
 
 abbrev pub MySeat : Type 0
 MySeat = Seat (Unit {0}) (View TreeView)
@@ -112,7 +113,7 @@ begins table z row at says first of held =
 -- One more word was written, at its place.
 pub goes_on : (table : TableId) (z : Sizes) (row at : ℕ) (says : ℕ → ℕ → Type 0)
     (first a b : MySeat) (count place v : ℕ) → place ≡ at + count
-    → place < 136 → says count v → IsFilling table z row at says first a count → IsStill a b
+    → place < row_words → says count v → IsFilling table z row at says first a count → IsStill a b
     → HasSet row place v a.me b.me
     → IsFilling table z row at says first b (count + 1)
 goes_on table z row at says first a b count place v is l say f s wrote' = let h = f.held in
@@ -131,7 +132,7 @@ goes_on table z row at says first a b count place v is l say f s wrote' = let h 
 -- The same where the row was looked at before the word was written.
 pub goes_on_behind : (table : TableId) (z : Sizes) (row at : ℕ) (says : ℕ → ℕ → Type 0)
     (first a b d : MySeat) (count place v : ℕ) → place ≡ at + count
-    → place < 136 → says count v → IsFilling table z row at says first a count → IsSame a b
+    → place < row_words → says count v → IsFilling table z row at says first a count → IsSame a b
     → b.me ≡ a.me → IsStill b d → HasSet row place v b.me d.me
     → IsFilling table z row at says first d (count + 1)
 goes_on_behind table z row at says first a b d count place v is l say f same looked s wrote =

@@ -25,6 +25,7 @@ use Rattle.ca_rows.specs.Kept.{AreKept}
 use Rattle.ca_rows.proofs.Claiming.{claimed_here, claimed_else, dropped_here, dropped_else}
 use Rattle.ca_rows.proofs.HeldCount.{taken_one_more, dropped_one_less, written_no_more, claimed_one_less}
 use Rattle.ca_rows.proofs.Keeping.{claimed_too, dropped_too, kept_as}
+use Rattle.ca_rows.specs.Layout.{row_words}
 
 not_kept : (claims : List Claimed) (row : ℕ) (its : List ℕ) (t : ℕ)
     → claim_of claims row ≡ some (Holds its) → claim_of claims row ≢ some (Keeps t)
@@ -48,7 +49,7 @@ module _ (rows : ℕ) (kept : Vec Kept Global) where
   -- A row that nobody claimed was taken.
   pub took : (claims : List Claimed) (held : List ℕ) (row : ℕ) (its : List ℕ)
       → HasHeld rows kept claims held → claim_of claims row ≡ none → 0 < row
-      → row ≤ rows → length its ≡ 136 → (¬ IsIn row held)
+      → row ≤ rows → length its ≡ row_words → (¬ IsIn row held)
       × HasHeld rows kept (claimed row (Holds its) claims) (row ∷ held)
   took claims held row its h free lo hi long = (
     new,
@@ -61,7 +62,7 @@ module _ (rows : ℕ) (kept : Vec Kept Global) where
           (h.only r c (sym (claimed_else claims row r (Holds its) n) ∙ e)));
       each = λ r i. ⊎_elim
           (λ (f : row ≡ r). subst (λ (y : ℕ). (0 < y) × (y ≤ rows)
-          × ((x : List ℕ) × (length x ≡ 136)
+          × ((x : List ℕ) × (length x ≡ row_words)
           × (claim_of (claimed row (Holds its) claims) y ≡ some (Holds x)))) f (
             lo,
             hi,
@@ -112,7 +113,7 @@ module _ (rows : ℕ) (kept : Vec Kept Global) where
 
   -- A row that was held was written.
   pub wrote : (m m' : MyTree) (held : List ℕ) (row : ℕ) (its : List ℕ) → IsIn row held
-      → length its ≡ 136 → HasHeld rows kept m.0.claims held
+      → length its ≡ row_words → HasHeld rows kept m.0.claims held
       → IsRewritten row its m m' → HasHeld rows kept m'.0.claims held
   wrote m m' held row its i long h w = let own = h.each row i in record {
     are_kept =
@@ -122,7 +123,7 @@ module _ (rows : ℕ) (kept : Vec Kept Global) where
         (λ (f : r ≡ row). inr (subst (λ (y : ℕ). IsIn y held) (sym f) i))
         (λ n. h.only r c (sym (w.others r n) ∙ e));
     each = λ r j. dite (ℕ_discrete r row)
-        (λ (f : r ≡ row). subst (λ (y : ℕ). (0 < y) × (y ≤ rows) × ((x : List ℕ) × (length x ≡ 136)
+        (λ (f : r ≡ row). subst (λ (y : ℕ). (0 < y) × (y ≤ rows) × ((x : List ℕ) × (length x ≡ row_words)
         × (claim_of m'.0.claims y ≡ some (Holds x)))) (sym f) (own.0, own.1, (its, long, w.here)))
         (λ n. let k = h.each r j in (k.0, k.1, (k.2.0, k.2.1, w.others r n ∙ k.2.2)));
   }

@@ -20,6 +20,7 @@ use Rattle.ca_rows.specs.declared.sizes.Sizes.{Sizes}
 use Rattle.ca_rows.specs.declared.view.Claim.{Claim}
 use Rattle.ca_rows.specs.declared.view.Claim.TheVariants.{Holds}
 use Rattle.ca_rows.specs.Claims.{claim_of}
+use Rattle.ca_rows.specs.Layout.{row_words}
 
 -- Words that are held as two lists are one list.
 held_once : (c : Claim) (a b : List ℕ) → c ≡ Holds a → c ≡ Holds b → a ≡ b
@@ -35,9 +36,9 @@ module _ (z : Sizes) (kept : Vec Kept Global) (m : MyTree) (new : ℕ) (x : Upda
 
   -- The words of a row that the seat holds are as many as a row has.
   long_held : (row : ℕ) (its : List ℕ) → IsIn row (new ∷ x.comes)
-      → claim_of m.0.claims row ≡ some (Holds its) → length its ≡ 136
+      → claim_of m.0.claims row ≡ some (Holds its) → length its ≡ row_words
   long_held row its i is = let own = (h.each row i).2 in
-      subst (λ (ys : List ℕ). length ys ≡ 136) (held own.0 own.2) own.1
+      subst (λ (ys : List ℕ). length ys ≡ row_words) (held own.0 own.2) own.1
     where
       held : (ys : List ℕ) → claim_of m.0.claims row ≡ some (Holds ys) → ys ≡ its
       held ys e =
@@ -53,7 +54,7 @@ module _ (z : Sizes) (kept : Vec Kept Global) (m : MyTree) (new : ℕ) (x : Upda
       let own = h.each r (in_rest r new x.comes o.0) in (own.0, own.1))
       (up.are_objects i.0 r (get_or x.objects i.0 []) i.1 (elem_or x.objects i.0 [] (omega arith)))
 
-  long_new : (its : List ℕ) → IsIn its x.objects → (length its ≡ 136) × IsObjectRow its
+  long_new : (its : List ℕ) → IsIn its x.objects → (length its ≡ row_words) × IsObjectRow its
   long_new its i = let many = up.as_many in let l = within x.objects i.0 its i.1 in ⊎_elim
       (λ (o : (k : ℕ) × (get_elem? (items x.old.its) k ≡ some (get_or (items x.its) i.0 0))
       × (get_elem? x.old.objects k ≡ some its)).

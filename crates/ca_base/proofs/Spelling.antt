@@ -5,25 +5,27 @@ use Rattle.std.proofs.lemmas.List.{length-take-le, get_or-take, get_or-drop}
 use Rattle.ca_node.specs.Row.{bytes_in, object, key_place, count}
 use Rattle.ca_base.specs.Writing.{HasEight, IsFilled, SpellsObject, SpellsBase}
 use Rattle.ca_base.proofs.Words.{packed, padded}
+use Rattle.ca_rows.specs.Layout.{row_words}
+use Rattle.ca_node.specs.Layout.{body_word, form_unit}
 
 -- An object row: its first word, and its bytes from word 11 on.
 pub spells_object : (bytes : List ℕ) (key_at key_end form : ℕ) (its one new : List ℕ)
-    → length its ≡ 136 → get_or its 0 0 ≡ form
-    → form / 72057594037927936 ≡ 1 → form / 4294967296 % 16777216 ≡ key_end - key_at
+    → length its ≡ row_words → get_or its 0 0 ≡ form
+    → form / form_unit ≡ 1 → form / 4294967296 % 16777216 ≡ key_end - key_at
     → form / 65536 % 65536 ≡ key_at → form % 65536 ≡ length bytes
-    → length bytes ≤ 1000 → IsFilled 11 ((length bytes + 7) / 8) (HasEight bytes) its one
-    → IsFilled (11 + (length bytes + 7) / 8) (136 - (11 + (length bytes + 7) / 8))
+    → length bytes ≤ 1000 → IsFilled body_word ((length bytes + 7) / 8) (HasEight bytes) its one
+    → IsFilled (body_word + (length bytes + 7) / 8) (row_words - (body_word + (length bytes + 7) / 8))
     (λ _ word. word ≡ 0) one new → SpellsObject bytes key_at key_end new
 spells_object bytes key_at key_end form its one new long first is_object is_length is_place is_count
     short f g = record {
       long = wide;
       is_object = (
-        ap (λ x. x / 72057594037927936) first' ∙ is_object,
+        ap (λ x. x / form_unit) first' ∙ is_object,
         λ i l. let behind : length bytes ≤ i = subst
             (λ n. n ≤ i) (ap (λ x. x % 65536) first' ∙ is_count) l in
-            padded (drop 11 new) bytes ((length bytes + 7) / 8) i behind (omega (
+            padded (drop body_word new) bytes ((length bytes + 7) / 8) i behind (omega (
               arith,
-              length-drop 11 new,
+              length-drop body_word new,
               wide,
             )) has_eight is_zero,
       );
@@ -38,50 +40,50 @@ spells_object bytes key_at key_end form its one new long first is_object is_leng
     first' : get_or new 0 0 ≡ form
     first' = g.before 0 (omega arith) ∙ (f.before 0 (omega arith) ∙ first)
 
-    wide : length new ≡ 136
+    wide : length new ≡ row_words
     wide = g.long ∙ (f.long ∙ long)
 
-    has_eight : (k : ℕ) → k < (length bytes + 7) / 8 → HasEight bytes k (get_or (drop 11 new) k 0)
-    has_eight k l = subst (HasEight bytes k) (sym (g.before (11 + k) (omega arith))
-        ∙ sym (get_or-drop 11 new k 0)) (f.inside k l)
+    has_eight : (k : ℕ) → k < (length bytes + 7) / 8 → HasEight bytes k (get_or (drop body_word new) k 0)
+    has_eight k l = subst (HasEight bytes k) (sym (g.before (body_word + k) (omega arith))
+        ∙ sym (get_or-drop body_word new k 0)) (f.inside k l)
 
-    is_zero : (k : ℕ) → (length bytes + 7) / 8 ≤ k → k < length (drop 11 new)
-        → get_or (drop 11 new) k 0 ≡ 0
-    is_zero k l h = let e : 11 + (length bytes + 7) / 8 + (k - (length bytes + 7) / 8)
-        ≡ 11 + k = omega arith in
-        get_or-drop 11 new k 0 ∙ (ap (λ n. get_or new n 0) (sym e)
-        ∙ g.inside (k - (length bytes + 7) / 8) (omega (arith, length-drop 11 new, wide)))
+    is_zero : (k : ℕ) → (length bytes + 7) / 8 ≤ k → k < length (drop body_word new)
+        → get_or (drop body_word new) k 0 ≡ 0
+    is_zero k l h = let e : body_word + (length bytes + 7) / 8 + (k - (length bytes + 7) / 8)
+        ≡ body_word + k = omega arith in
+        get_or-drop body_word new k 0 ∙ (ap (λ n. get_or new n 0) (sym e)
+        ∙ g.inside (k - (length bytes + 7) / 8) (omega (arith, length-drop body_word new, wide)))
 
     object_is : object new ≡ bytes
-    object_is = ap (λ n. take n (bytes_in (drop 11 new))) (ap (λ x. x % 65536) first' ∙ is_count)
-        ∙ packed (drop 11 new) bytes ((length bytes + 7) / 8) (omega arith) (omega (
+    object_is = ap (λ n. take n (bytes_in (drop body_word new))) (ap (λ x. x % 65536) first' ∙ is_count)
+        ∙ packed (drop body_word new) bytes ((length bytes + 7) / 8) (omega arith) (omega (
           arith,
-          length-drop 11 new,
+          length-drop body_word new,
           wide,
         )) has_eight
 
 -- A base row: the words up to its mark, and its items from word 11 on.
 pub spells_base : (these : List ℕ) (at_level form statistic : ℕ) (its one new : List ℕ)
-    → length its ≡ 136 → at_level < 65536
+    → length its ≡ row_words → at_level < 65536
     → form ≡ 144115188075855872 + at_level * 65536 + length these → length these ≤ 120
     → IsFilled 0 7 (λ k word. word ≡ get_or (form ∷ statistic ∷ 0 ∷ 0 ∷ 0 ∷ 0 ∷ 0 ∷ []) k 0) its one
-    → IsFilled 11 (length these) (λ k word. word ≡ get_or these k 0) one new
+    → IsFilled body_word (length these) (λ k word. word ≡ get_or these k 0) one new
     → SpellsBase these at_level statistic new
 spells_base these at_level form statistic its one new long low is few f g = record {
   long = wide;
   is_base = let h = first in omega arith;
-  items_are = ap (λ n. take n (drop 11 new)) count_is
-      ∙ same_number_lists (take (length these) (drop 11 new)) these wide_items
+  items_are = ap (λ n. take n (drop body_word new)) count_is
+      ∙ same_number_lists (take (length these) (drop body_word new)) these wide_items
       (λ k l. let small : k < length these = omega (arith, wide_items) in
-      get_or-take (length these) (drop 11 new) k 0 small
-      ∙ (get_or-drop 11 new k 0 ∙ g.inside k small));
+      get_or-take (length these) (drop body_word new) k 0 small
+      ∙ (get_or-drop body_word new k 0 ∙ g.inside k small));
   level_is = let h = first in omega arith;
   count_is = count_is;
   unmarked = g.before 2 (omega arith) ∙ f.inside 2 (omega arith);
   statistic_is = g.before 1 (omega arith) ∙ f.inside 1 (omega arith);
 }
   where
-    wide : length new ≡ 136
+    wide : length new ≡ row_words
     wide = g.long ∙ (f.long ∙ long)
 
     first : get_or new 0 0 ≡ form
@@ -90,6 +92,6 @@ spells_base these at_level form statistic its one new long low is few f g = reco
     count_is : count new ≡ length these
     count_is = let h = first in omega arith
 
-    wide_items : length (take (length these) (drop 11 new)) ≡ length these
+    wide_items : length (take (length these) (drop body_word new)) ≡ length these
     wide_items =
-        length-take-le (length these) (drop 11 new) (omega (arith, length-drop 11 new, wide))
+        length-take-le (length these) (drop body_word new) (omega (arith, length-drop body_word new, wide))

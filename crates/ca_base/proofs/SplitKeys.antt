@@ -6,6 +6,8 @@ use Rattle.std.specs.Int.{to_be_bytes, w64}
 use Rattle.ca_node.specs.Row.{bytes_in, count, object, key, key_place, key_length}
 use Rattle.ca_node.proofs.WordOrder.{bytes_long}
 use Rattle.ca_base.proofs.ObjectBytes.{part_is}
+use Rattle.ca_rows.specs.Layout.{row_words}
+use Rattle.ca_node.specs.Layout.{body_word}
 
 -- Behind the bytes from a start on to a place stand those of the next word, up to another place.
 pub next_part : (words so_far : List ℕ) (start at to w : ℕ) → start ≤ at → at < to
@@ -29,12 +31,12 @@ next_part words so_far start at to w low some one inside is before =
     ∙ ap (λ (n : ℕ). take n (drop start bytes)) all))
 
 -- The key of an object row is no longer than the row has room for.
-pub short_key : (its : List ℕ) → length its ≡ 136 → length (key its) ≤ 1000
+pub short_key : (its : List ℕ) → length its ≡ row_words → length (key its) ≤ 1000
 short_key its long = omega (
   arith,
   length-take (key_length its) (drop (key_place its) (object its)),
   length-drop (key_place its) (object its),
-  length-take (count its) (bytes_in (drop 11 its)),
-  bytes_long (drop 11 its),
-  length-drop 11 its,
+  length-take (count its) (bytes_in (drop body_word its)),
+  bytes_long (drop body_word its),
+  length-drop body_word its,
 )

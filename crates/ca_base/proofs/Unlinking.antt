@@ -30,6 +30,7 @@ use Rattle.ca_rows.specs.Kept.{AreKept}
 use Rattle.ca_rows.proofs.Claiming.{claimed_here, claimed_else}
 use Rattle.ca_rows.proofs.HeldCount.{claimed_one_less}
 use Rattle.ca_rows.proofs.Keeping.{kept_as}
+use Rattle.ca_rows.specs.Layout.{row_words}
 
 module _ (rows : ℕ) (kept : Vec Kept Global) (claims : List Claimed) (ins outs : List ℕ)
     (h : HasHeld rows kept claims ins)
@@ -195,7 +196,7 @@ is_done z new x m m' v sizes some_rows does u same = let w : v
 
 -- A row that is held was written: the same rows are held.
 pub written_row : (rows : ℕ) (kept kept' : KeptRows) (m m' : MyTree) (held : List ℕ) (row : ℕ)
-    (its : List ℕ) → IsIn row held → length its ≡ 136
+    (its : List ℕ) → IsIn row held → length its ≡ row_words
     → IsRewritten row its m m' → kept' ≡ kept → AreHeld rows kept.rows m.0 held
     → AreHeld rows kept'.rows m'.0 held
 written_row rows kept kept' m m' held row its i long w too h = let n = w.no_more in

@@ -12,6 +12,8 @@ use Rattle.ca_node.specs.Row.{bytes_in, count, items, pair}
 use Rattle.ca_node.specs.Told.{IsBaseNote, IsShown, link_word}
 use Rattle.ca_node.specs.TreeView.{Note, TreeView}
 use Rattle.ca_rows.specs.declared.sizes.Sizes.{Sizes}
+use Rattle.ca_rows.specs.Layout.{row_words}
+use Rattle.ca_node.specs.Layout.{body_word}
 
 -- The pass was shown the base, with its objects. They are few enough for a row, and their keys ascend.
 pub record IsReadable (z : Sizes) (u : TreeView) (base : ℕ) (note : Note) : Type 0 where
@@ -30,16 +32,16 @@ pub record IsAtCursor (z : Sizes) (note : Note) (cursor : Cursor) : Type 0 where
   pub base : note.row ≡ cursor.base
   pub link : note.place.link ≡ link_word cursor.link
   pub level : note.place.level ≡ cursor.level
-  pub inside : link_word cursor.link < 136 * z.rows + 136
+  pub inside : link_word cursor.link < row_words * z.rows + row_words
 
 -- The pass was shown the object row with these words.
 pub record IsObjectShown (u : TreeView) (row : ℕ) (its : List ℕ) : Type 0 where
   pub shown : IsShown u row its
-  pub long : length its ≡ 136
+  pub long : length its ≡ row_words
 
 -- all bytes that an object row has room for; the object's are the first of them
 abbrev pub all_bytes : List ℕ → List ℕ
-all_bytes its = bytes_in (drop 11 its)
+all_bytes its = bytes_in (drop body_word its)
 
 -- The pass was shown the base, which has an object at this place.
 abbrev pub HasPlace : Sizes → TreeView → ℕ → ℕ → Type 0

@@ -7,10 +7,11 @@ use Rattle.ca_node.specs.Links.{AreApart}
 use Rattle.ca_base.specs.declared.taking.NoRow.{NoRow}
 use Rattle.ca_base.specs.Putting.{first_note, words_of}
 use Rattle.ca_rows.specs.Claims.{claim_of}
+use Rattle.ca_rows.specs.Layout.{row_words}
 
 -- The words are a route's, at this level: this key, these two links, and a join word that says so many attempts, and that none is under way.
 pub record SpellsRoute (at_level : ℕ) (bytes : List ℕ) (left right attempt : ℕ) (its : List ℕ) : Type 0 where
-  pub long : length its ≡ 136
+  pub long : length its ≡ row_words
   pub is_route : IsRouteRow its
   pub level_is : level its ≡ at_level
   pub count_is : count its ≡ length bytes

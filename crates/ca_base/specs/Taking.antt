@@ -12,12 +12,13 @@ use Rattle.ca_rows.specs.declared.view.Claimed.{Claimed}
 use Rattle.ca_rows.specs.declared.view.View.{View}
 use Rattle.ca_rows.specs.Claims.{claim_of, held_count}
 use Rattle.ca_rows.specs.Kept.{AreKept}
+use Rattle.ca_rows.specs.Layout.{row_words}
 
 -- By these claims a seat holds these rows, and has no others but those that it keeps, which are those of the list.
 pub record HasHeld (rows : ℕ) (kept : Vec Kept Global) (claims : List Claimed) (held : List ℕ) : Type 0 where
   pub are_kept : AreKept rows claims kept
   pub only : (row : ℕ) (c : Claim) → claim_of claims row ≡ some c → ((at : ℕ) × (c ≡ Keeps at)) ⊎ IsIn row held
-  pub each : (row : ℕ) → IsIn row held → (0 < row) × (row ≤ rows) × ((its : List ℕ) × (length its ≡ 136) × (claim_of claims row ≡ some (Holds its)))
+  pub each : (row : ℕ) → IsIn row held → (0 < row) × (row ≤ rows) × ((its : List ℕ) × (length its ≡ row_words) × (claim_of claims row ≡ some (Holds its)))
 
 -- The seat holds so many rows at most, with those that it unlinked and doesn't keep yet, and never held more than eight at once.
 pub record HoldsFew (count : ℕ) (view : View TreeView) : Type 0 where

@@ -6,10 +6,11 @@ use Rattle.ca_rows.specs.declared.view.Claim.TheVariants.{Holds}
 use Rattle.ca_rows.specs.Claims.{claim_of, held_count}
 use Rattle.ca_node.specs.Told.{MyTree}
 use Rattle.ca_node.specs.Row.{IsObjectRow, IsBaseRow, items, count, level, IsUnmarked, object, key}
+use Rattle.ca_rows.specs.Layout.{row_words}
 
 -- The seat holds the row.
 abbrev pub IsHeld : MyTree → ℕ → Type 0
-IsHeld m row = (its : List ℕ) × (length its ≡ 136) × (claim_of m.0.claims row ≡ some (Holds its))
+IsHeld m row = (its : List ℕ) × (length its ≡ row_words) × (claim_of m.0.claims row ≡ some (Holds its))
 
 -- The seat holds the row with these words now, and its other rows as before. Nothing else changed.
 pub record IsRewritten (row : ℕ) (its : List ℕ) (m m' : MyTree) : Type 0 where
@@ -31,7 +32,7 @@ pub record IsFilled (at count : ℕ) (says : ℕ → ℕ → Type 0) (its new : 
 
 -- So the row was filled.
 abbrev pub HasFilled : ℕ → ℕ → ℕ → (ℕ → ℕ → Type 0) → MyTree → MyTree → Type 0
-HasFilled row at count says m m' = (its : List ℕ) → length its ≡ 136 → claim_of m.0.claims row ≡ some (Holds its)
+HasFilled row at count says m m' = (its : List ℕ) → length its ≡ row_words → claim_of m.0.claims row ≡ some (Holds its)
     → (new : List ℕ) × IsFilled at count says its new × IsRewritten row new m m'
 
 -- The word has the eight bytes at the front, with zeros behind their end.
@@ -45,14 +46,14 @@ HasEight bytes k word = HasBytes (drop (8 * k) bytes) word
 
 -- The words are an object row's: these bytes, in which the key stands there.
 pub record SpellsObject (bytes : List ℕ) (key_at key_end : ℕ) (its : List ℕ) : Type 0 where
-  pub long : length its ≡ 136
+  pub long : length its ≡ row_words
   pub is_object : IsObjectRow its
   pub object_is : object its ≡ bytes
   pub key_is : key its ≡ slice_range bytes key_at key_end
 
 -- The words are a base's: these items, at this level, with this word for the statistic, and no mark.
 pub record SpellsBase (these : List ℕ) (at_level statistic : ℕ) (its : List ℕ) : Type 0 where
-  pub long : length its ≡ 136
+  pub long : length its ≡ row_words
   pub is_base : IsBaseRow its
   pub items_are : items its ≡ these
   pub level_is : level its ≡ at_level

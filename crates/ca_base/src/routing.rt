@@ -14,10 +14,7 @@ use crate::reading::append;
 use crate::swapping::STATISTIC;
 use crate::writing::{write_bytes, write_head, write_words};
 use ca_model::Code;
-use ca_node::{TreePass, TreeSpace, load_word};
-
-// The form of a route, in the first word.
-const ROUTE: u64 = 3 << 56;
+use ca_node::{BODY, ROUTE, TreePass, TreeSpace, load_word};
 
 /// The rows of a split: a route, and the two bases under it.
 #[derive(Clone, Copy)]
@@ -79,7 +76,7 @@ pub(crate) fn copy_key(space: &TreeSpace, pass: &mut TreePass, row: u32, into: &
     let mut at = start;
     while at < end {
         let to = end.min(at / 8 * 8 + 8);
-        let bytes = load_word(space, pass, row, (11 + at / 8) as u32).to_be_bytes();
+        let bytes = load_word(space, pass, row, (BODY as usize + at / 8) as u32).to_be_bytes();
         let first = at % 8;
         append(into, &bytes[first..first + (to - at)]);
         at = to;

@@ -1,4 +1,5 @@
 //! A base is split: a route over two halves takes its place.
+ghost use Rattle.ca_rows.specs.Layout.{row_words};
 ghost use Rattle.std.specs.Prelude.{◌≡◌, ◌≢◌, ◌+◌, ◌*◌, ◌<◌, ◌≤◌, [], ◌∷◌, map, false, Ok};
 ghost use Rattle.ca_model.specs.StoreMap.{IsStoreMap};
 ghost use Rattle.ca_node.specs.Inventory.{IsListed};
@@ -123,7 +124,7 @@ fn divide_in<K: Plan>(
     requires last { shown_last pass.old ≡ K.division.old }
     requires rows { (K.division.old.row ≡ cursor.base) × (K.division.route ≡ fork.route) × (K.division.left ≡ fork.left) × (K.division.right ≡ fork.right) }
     requires link { K.division.old.place.link ≡ link_word cursor.link }
-    requires inside { link_word cursor.link < 136 * (sizes space.now).rows + 136 }
+    requires inside { link_word cursor.link < row_words * (sizes space.now).rows + row_words }
     requires apart { AreApart (fork.route ∷ fork.left ∷ fork.right ∷ []) }
     requires held { AreHeld (sizes space.now).rows pass.old.kept.rows (view pass.old) (fork.route ∷ fork.left ∷ fork.right ∷ []) }
     ensures frame { StaysReady space.now pass.old pass.new }

@@ -1,14 +1,12 @@
 //! Rows that a pass holds are written: objects and bases.
+ghost use Rattle.ca_node.specs.Layout.{body_word, form_unit};
+ghost use Rattle.ca_rows.specs.Layout.{row_words};
 ghost use Rattle.std.specs.Prelude.{◌≡◌, ◌+◌, ◌-◌, ◌*◌, ◌/◌, ◌%◌, ◌<◌, ◌≤◌, length, slice_index};
 ghost use Rattle.ca_base.specs.Writing.{IsHeld, HasSet, HasFilled, HasBytes, HasEight, SpellsObject, SpellsBase, HasWritten, base_head};
 ghost use Rattle.ca_rows.specs.Passes.{IsOn, StillKeepsList, sizes, known};
 
-use ca_node::{TreePass, TreeSpace};
-
-// The form of an object row and that of a base, in the first word.
-const OBJECT: u64 = 1 << 56;
-
-const BASE: u64 = 2 << 56;
+use ca_node::{BASE, BODY, OBJECT, TreePass, TreeSpace};
+use ca_rows::ROW_WORDS;
 
 /// Writes an object row: the first word, and the object's bytes, eight a word, with zeros behind their end to the end of the row. Its key stands
 /// in it from `key_at` to `key_end`.
@@ -30,7 +28,7 @@ pub fn write_object(
     let form = object_form(object.len(), key_at, key_end);
     space.write_word(pass, row, 0, form);
     write_bytes(space, pass, row, object);
-    clear(space, pass, row, 11 + object.len().div_ceil(8));
+    clear(space, pass, row, BODY as usize + object.len().div_ceil(8));
 }
 
 /// Writes a base row of a level without a mark: its items, and the word for its statistic.
@@ -75,7 +73,7 @@ pub(crate) fn write_head(
 // The first word of an object row.
 fn object_form(length: usize, key_at: usize, key_end: usize) -> u64
     requires { (key_at ≤ key_end) × (key_end ≤ length) × (length ≤ 1000) }
-    ensures form { result / 72057594037927936 ≡ 1 }
+    ensures form { result / form_unit ≡ 1 }
     ensures key_length { result / 4294967296 % 16777216 ≡ key_end - key_at }
     ensures key_place { result / 65536 % 65536 ≡ key_at }
     ensures count { result % 65536 ≡ length }
@@ -88,7 +86,7 @@ fn object_form(length: usize, key_at: usize, key_end: usize) -> u64
 pub(crate) fn set_word(space: &TreeSpace, pass: &mut TreePass, row: u32, index: u32, value: u64)
     requires own { IsOn space.now pass.old }
     requires held { IsHeld (known pass.old) row }
-    requires inside { (row ≤ (sizes space.now).rows) × (index < 136) }
+    requires inside { (row ≤ (sizes space.now).rows) × (index < row_words) }
     ensures frame { StillKeepsList pass.old pass.new }
     ensures set { HasSet row index value (known pass.old) (known pass.new) }
 {
@@ -101,11 +99,11 @@ pub(crate) fn set_word(space: &TreeSpace, pass: &mut TreePass, row: u32, index: 
 fn clear(space: &TreeSpace, pass: &mut TreePass, row: u32, from: usize)
     requires own { IsOn space.now pass.old }
     requires held { IsHeld (known pass.old) row }
-    requires inside { (row ≤ (sizes space.now).rows) × (from ≤ 136) }
+    requires inside { (row ≤ (sizes space.now).rows) × (from ≤ row_words) }
     ensures frame { StillKeepsList pass.old pass.new }
-    ensures filled { HasFilled row from (136 - from) (λ _ word. word ≡ 0) (known pass.old) (known pass.new) }
+    ensures filled { HasFilled row from (row_words - from) (λ _ word. word ≡ 0) (known pass.old) (known pass.new) }
 {
-    for place in from..136 {
+    for place in from..ROW_WORDS {
         set_word(space, pass, row, place as u32, 0);
     }
 }
@@ -115,7 +113,7 @@ pub(crate) fn write_words(space: &TreeSpace, pass: &mut TreePass, row: u32, word
     requires own { IsOn space.now pass.old }
     requires held { IsHeld (known pass.old) row }
     requires inside { row ≤ (sizes space.now).rows }
-    requires few { length words.now ≤ 136 }
+    requires few { length words.now ≤ row_words }
     ensures frame { StillKeepsList pass.old pass.new }
     ensures filled { HasFilled row 0 (length words.now) (λ k word. word ≡ slice_index words.now k) (known pass.old) (known pass.new) }
 {
@@ -131,11 +129,11 @@ pub(crate) fn write_items(space: &TreeSpace, pass: &mut TreePass, row: u32, at: 
     requires inside { row ≤ (sizes space.now).rows }
     requires few { at + length items.now ≤ 120 }
     ensures frame { StillKeepsList pass.old pass.new }
-    ensures filled { HasFilled row (11 + at) (length items.now) (λ k word. word ≡ slice_index items.now k) (known pass.old) (known pass.new) }
+    ensures filled { HasFilled row (body_word + at) (length items.now) (λ k word. word ≡ slice_index items.now k) (known pass.old) (known pass.new) }
 {
     for place in 0..items.len() {
         let item = items[place] as u64;
-        set_word(space, pass, row, 11 + at + place as u32, item);
+        set_word(space, pass, row, BODY + at + place as u32, item);
     }
 }
 
@@ -146,11 +144,11 @@ pub(crate) fn write_bytes(space: &TreeSpace, pass: &mut TreePass, row: u32, byte
     requires inside { row ≤ (sizes space.now).rows }
     requires short { length bytes.now ≤ 1000 }
     ensures frame { StillKeepsList pass.old pass.new }
-    ensures filled { HasFilled row 11 ((length bytes.now + 7) / 8) (HasEight bytes.now) (known pass.old) (known pass.new) }
+    ensures filled { HasFilled row body_word ((length bytes.now + 7) / 8) (HasEight bytes.now) (known pass.old) (known pass.new) }
 {
     for place in 0..bytes.len().div_ceil(8) {
         let word = word_of(&bytes[8 * place..]);
-        set_word(space, pass, row, 11 + place as u32, word);
+        set_word(space, pass, row, BODY + place as u32, word);
     }
 }
 

@@ -17,6 +17,8 @@ use Rattle.ca_node.proofs.Parts.{part_cut, two_sides, left_is_in, right_is_in}
 use Rattle.ca_node.proofs.Named.{key_in}
 use Rattle.ca_node.specs.Reached.{same_place, base_at}
 use Rattle.ca_node.proofs.Rebased.{out_no_route, IsNewBase, relinked_wide, relinked_here, relinked_keeps, relinked_row, relinked_quiet, relinked_idle, link_still, lead_still, row_still, base_comes}
+use Rattle.ca_rows.specs.Layout.{row_words}
+use Rattle.ca_node.specs.Layout.{root_word}
 
 -- Behind some members of a list stands the next one.
 pub behind : {A : Type 0} (xs ys : List A) (a : A) → get_elem? (xs ++ a ∷ ys) (length xs) ≡ some a
@@ -196,18 +198,18 @@ module _ (z : Sizes) (words : List ℕ) (role : ℕ → Role) (m : StoreMap)
       (out_no_route role route r.is_out)
 
   -- So does each of its words.
-  link_word : (i : ℕ) → i < 136
-      → get_or words' (136 * route + i) 0 ≡ get_or (row_at words route) i 0
+  link_word : (i : ℕ) → i < row_words
+      → get_or words' (row_words * route + i) 0 ≡ get_or (row_at words route) i 0
   link_word i l =
       relinked_keeps z words role m shape old place is route route r.some_row
       (out_no_route role route r.is_out) i l ∙ sym (word_at words route i l)
 
   -- Its first link names the left base.
-  left_now : get_or words' (136 * route + 1) 0 ≡ left
+  left_now : get_or words' (row_words * route + 1) 0 ≡ left
   left_now = link_word 1 (omega arith) ∙ r.left_is
 
   -- Its second one names the right base.
-  right_now : get_or words' (136 * route + 2) 0 ≡ right
+  right_now : get_or words' (row_words * route + 2) 0 ≡ right
   right_now = link_word 2 (omega arith) ∙ r.right_is
 
   -- The route is one at the old base's place.
@@ -364,7 +366,7 @@ module _ (z : Sizes) (words : List ℕ) (role : ℕ → Role) (m : StoreMap)
       (with_route role place k old route left right) m
   shape_divided = record {
     wide = relinked_wide z words role m shape old place is route;
-    top = lead_now 130 0 all_keys shape.top;
+    top = lead_now root_word 0 all_keys shape.top;
     each_row = so;
     apart = alone;
     quiet = relinked_quiet z words role m shape old place is route;

@@ -39,6 +39,8 @@ use Rattle.ca_node.proofs.Looking.{R, loses, hangs_still, of_map, knows_upper, i
 use Rattle.ca_node.proofs.Members.{in_notes, has, given_here, given_else, taken_here, taken_else}
 use Rattle.ca_node.proofs.Rebased.{IsNewBase, relinked_wide, relinked_else, relinked_keeps, relinked_row, base_no_route, out_no_route}
 use Rattle.ca_node.proofs.Remembering.{remembered_leads, unlinked_out, note_stays, way_stays, notes_stay}
+use Rattle.ca_rows.specs.Layout.{row_words}
+use Rattle.ca_node.specs.Layout.{root_word}
 
 -- The base of a split is among the seat's notes.
 pub was_shown : (z : Sizes) (m : MyTree) (x : Division) → IsDivision z m x
@@ -538,9 +540,9 @@ module _ (z : Sizes) (s : State (Unit {0}) (View TreeView)) (r : R z s) (id : �
   }
 
   -- No other control word changes.
-  control : (i : ℕ) → i < 136 → i ≢ 130 → get_or words' i 0 ≡ get_or s.words i 0
+  control : (i : ℕ) → i < row_words → i ≢ root_word → get_or words' i 0 ≡ get_or s.words i 0
   control i l ne = relinked_else z s.words role last shape x.old.row place is_old x.route i
-      (λ e. ⊎_elim (λ (t : x.old.place.link ≡ 130). ne (omega arith))
+      (λ e. ⊎_elim (λ (t : x.old.place.link ≡ root_word). ne (omega arith))
       (λ t. let lo = t.0 in
       omega arith) (link_range z s.words role last shape x.old.place.link old_at.is_link))
 
@@ -685,8 +687,8 @@ module _ (z : Sizes) (s : State (Unit {0}) (View TreeView)) (r : R z s) (id : �
       (has outs row)
 
   -- A row that isn't linked keeps its words.
-  unlinked_keeps : (c k : ℕ) → 0 < c → ¬ IsLinked s.words c → k < 136
-      → get_or words' (136 * c + k) 0 ≡ get_or s.words (136 * c + k) 0
+  unlinked_keeps : (c k : ℕ) → 0 < c → ¬ IsLinked s.words c → k < row_words
+      → get_or words' (row_words * c + k) 0 ≡ get_or s.words (row_words * c + k) 0
   unlinked_keeps c k lo n l =
       relinked_keeps z s.words role last shape x.old.row place is_old x.route c lo
       (out_no_route role c (unlinked_out z s.words role last shape c n)) k l

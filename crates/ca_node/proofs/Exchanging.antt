@@ -40,6 +40,8 @@ use Rattle.ca_node.proofs.Members.{in_notes, in_rest, has, given_here, given_els
 use Rattle.ca_node.proofs.Named.{named_once}
 use Rattle.ca_node.proofs.Rebased.{IsNewBase, relinked_wide, relinked_else, relinked_row, relinked_object, base_no_route, out_no_route, relinked_keeps, with_base, with_base_new, with_base_old, with_base_else, shape_rebased}
 use Rattle.ca_node.proofs.Remembering.{remembered_leads, unlinked_out, note_stays, way_stays, notes_stay}
+use Rattle.ca_rows.specs.Layout.{row_words}
+use Rattle.ca_node.specs.Layout.{root_word}
 
 -- The seat may put the new row in the place of the old base, as far as the rows and the items go:
 -- it is pinned, its last load of that link showed that
@@ -444,9 +446,9 @@ module _ (z : Sizes) (s : State (Unit {0}) (View TreeView)) (r : R z s) (id : �
       }
 
       -- No other control word changes.
-      control : (i : ℕ) → i < 136 → i ≢ 130 → get_or words' i 0 ≡ get_or s.words i 0
+      control : (i : ℕ) → i < row_words → i ≢ root_word → get_or words' i 0 ≡ get_or s.words i 0
       control i l ne = else_word i
-          (λ e. ⊎_elim (λ (t : x.old.place.link ≡ 130). ne (omega arith))
+          (λ e. ⊎_elim (λ (t : x.old.place.link ≡ root_word). ne (omega arith))
           (λ t. let lo = t.0 in omega arith)
           (link_range z s.words role last shape x.old.place.link old_at.is_link))
 
@@ -530,8 +532,8 @@ module _ (z : Sizes) (s : State (Unit {0}) (View TreeView)) (r : R z s) (id : �
           (has outs row)
 
       -- A row that isn't linked keeps its words.
-      unlinked_keeps : (c k : ℕ) → 0 < c → ¬ IsLinked s.words c → k < 136
-          → get_or words' (136 * c + k) 0 ≡ get_or s.words (136 * c + k) 0
+      unlinked_keeps : (c k : ℕ) → 0 < c → ¬ IsLinked s.words c → k < row_words
+          → get_or words' (row_words * c + k) 0 ≡ get_or s.words (row_words * c + k) 0
       unlinked_keeps c k lo n l =
           relinked_keeps z s.words role last shape x.old.row place is_old new c lo
           (out_no_route role c (unlinked_out z s.words role last shape c n)) k l

@@ -21,6 +21,8 @@ use Rattle.ca_node.specs.Shape.{Role, Base, Route, LeadsTo, IsBaseAt, IsRouteAt,
 use Rattle.ca_node.specs.Tree.{IsTree}
 use Rattle.ca_node.specs.TreeView.{Ended, TreeView, ended_of, and_ended, ended_with}
 use Rattle.ca_node.proofs.Parts.{part_sides, part_all}
+use Rattle.ca_rows.specs.Layout.{row_words}
+use Rattle.ca_node.specs.Layout.{root_word}
 
 abbrev R : Sizes → State (Unit {0}) (View TreeView) → Type 0
 R = Ruled IsLinked IsLent IsNoted IsTree
@@ -81,8 +83,8 @@ module _ (z : Sizes) (words : List ℕ) (role : ℕ → Role) (m : StoreMap)
       let d = t.1.above in absurd (omega arith))
       (led_place z words role m shape link least span l)
   in_order (suc deep) link least span l enough = let row : ℕ = get_or words link 0 in
-      let lefts : List ℕ = rows_under deep words (136 * row + 1) in
-      let rights : List ℕ = rows_under deep words (136 * row + 2) in ⊎_elim
+      let lefts : List ℕ = rows_under deep words (row_words * row + 1) in
+      let rights : List ℕ = rows_under deep words (row_words * row + 2) in ⊎_elim
       (λ (b : IsBaseAt z words role m (led_to words role link least span l) row
       × (role row ≡ Base (led_to words role link least span l))).
       ap (λ c. pairs (cond c (lefts ++ rights) (items (row_at words row))))
@@ -95,21 +97,21 @@ module _ (z : Sizes) (words : List ℕ) (role : ℕ → Role) (m : StoreMap)
       (eq-eqb (form (row_at words row)) 3 at.is_route)
       ∙ (both (λ r. pair (row_at words r)) lefts rights
       ∙ (ap (λ (xs : StoreMap).
-      xs ++ pairs rights) (in_order deep (136 * row + 1) (l.level + 1) (left_of t.0 span)
+      xs ++ pairs rights) (in_order deep (row_words * row + 1) (l.level + 1) (left_of t.0 span)
       at.left (omega arith))
       ∙ (ap (λ (xs : StoreMap).
       part (left_of t.0 span) m ++ xs)
-      (in_order deep (136 * row + 2) (l.level + 1) (right_of t.0 span) at.right (omega arith))
+      (in_order deep (row_words * row + 2) (l.level + 1) (right_of t.0 span) at.right (omega arith))
       ∙ sym (part_sides p span m t.0 valid at.inside)))))
       (led_place z words role m shape link least span l)
 
 -- So all of them are the whole map.
 all_in_order : (z : Sizes) (words : List ℕ) (role : ℕ → Role) (h : History) → AreEdits z.keypos h
     → IsShape z words role (after h [])
-    → map (λ row. pair (row_at words row)) (rows_under (suc z.levels) words 130) ≡ after h []
+    → map (λ row. pair (row_at words row)) (rows_under (suc z.levels) words root_word) ≡ after h []
 all_in_order z words role h edits shape =
     in_order z words role (after h []) shape z.keypos (map_after z.keypos h [] edits tt)
-    (suc z.levels) 130 0 all_keys shape.top (omega arith) ∙ part_all (after h [])
+    (suc z.levels) root_word 0 all_keys shape.top (omega arith) ∙ part_all (after h [])
 
 -- What is known of the words of a closed space.
 pub last_tree : (z : Sizes) (made : ℕ) (own : View TreeView) (views : List (View TreeView))

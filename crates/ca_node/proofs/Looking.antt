@@ -28,6 +28,8 @@ use Rattle.ca_node.specs.Told.{MyTree, with_upper, IsBaseNote, IsRouteNote, IsKn
 use Rattle.ca_node.specs.Tree.{StartsWith, ArePast, IsLinkOfView, IsFixed, IsTrue, IsTrueWay, Knows, IsTree}
 use Rattle.ca_node.specs.TreeView.{Note, Way, Inventory, TreeView}
 use Rattle.ca_node.proofs.Logs.{state_there, read_lawful, past_more}
+use Rattle.ca_rows.specs.Layout.{row_words}
+use Rattle.ca_node.specs.Layout.{root_word}
 
 module _ (z : Sizes) where
   abbrev pub R : State (Unit {0}) (View TreeView) → Type 0
@@ -241,7 +243,7 @@ module _ (z : Sizes) (made : ℕ) (words : List ℕ) (uppers : List TreeView)
       objects_long = λ its i. let from = of_map
           (λ r. row_at words r) (items (row_at words row)) i.0 its i.1 in
           let o = at.are_objects from.0 (i.0, from.1) in
-          subst (λ (x : List ℕ). (length x ≡ 136)
+          subst (λ (x : List ℕ). (length x ≡ row_words)
           × IsObjectRow x) from.2 (row_long words z.rows from.0 f.shape.wide o.1, o.2);
     }
 
@@ -282,22 +284,22 @@ module _ (z : Sizes) (made : ℕ) (words : List ℕ) (uppers : List TreeView)
     pub known_leads : (link least : ℕ) (span : Span) → IsKnownLink u link least span
         → LeadsTo words f.role link least span
     known_leads link least span known = ⊎_elim
-        (λ (t : (link ≡ 130) × (least ≡ 0) × (span ≡ all_keys)). subst
+        (λ (t : (link ≡ root_word) × (least ≡ 0) × (span ≡ all_keys)). subst
         (λ (i : ℕ). LeadsTo words f.role i least span) (sym t.0)
-        (subst (λ (i : ℕ). LeadsTo words f.role 130 i span) (sym t.1)
-        (subst (LeadsTo words f.role 130 0) (sym t.2) f.shape.top)))
+        (subst (λ (i : ℕ). LeadsTo words f.role root_word i span) (sym t.1)
+        (subst (LeadsTo words f.role root_word 0) (sym t.2) f.shape.top)))
         (λ (t : (way : Way) × IsIn way u.ways × (least ≡ way.place.level + 1)
-        × (((link ≡ 136 * way.row + 1)
+        × (((link ≡ row_words * way.row + 1)
         × (span ≡ left_of (route_key way.its) way.place.span))
-        ⊎ ((link ≡ 136 * way.row + 2) × (span ≡ right_of (route_key way.its) way.place.span)))).
+        ⊎ ((link ≡ row_words * way.row + 2) × (span ≡ right_of (route_key way.its) way.place.span)))).
         let r = there t.0.row t.0.place (route_key t.0.its) (k.ways t.0 t.1).stands in
         subst (λ (i : ℕ). LeadsTo words f.role link i span) (sym t.2) (⊎_elim
-        (λ (e : (link ≡ 136 * t.0.row + 1) × (span ≡ left_of (route_key t.0.its) t.0.place.span)).
+        (λ (e : (link ≡ row_words * t.0.row + 1) × (span ≡ left_of (route_key t.0.its) t.0.place.span)).
         subst (λ (i : ℕ). LeadsTo words f.role i (t.0.place.level + 1) span) (sym e.0)
-        (subst (LeadsTo words f.role (136 * t.0.row + 1) (t.0.place.level + 1)) (sym e.1) r.left))
-        (λ (e : (link ≡ 136 * t.0.row + 2) × (span ≡ right_of (route_key t.0.its) t.0.place.span)).
+        (subst (LeadsTo words f.role (row_words * t.0.row + 1) (t.0.place.level + 1)) (sym e.1) r.left))
+        (λ (e : (link ≡ row_words * t.0.row + 2) × (span ≡ right_of (route_key t.0.its) t.0.place.span)).
         subst (λ (i : ℕ). LeadsTo words f.role i (t.0.place.level + 1) span) (sym e.0)
-        (subst (LeadsTo words f.role (136 * t.0.row + 2) (t.0.place.level + 1)) (sym e.1) r.right))
+        (subst (LeadsTo words f.role (row_words * t.0.row + 2) (t.0.place.level + 1)) (sym e.1) r.right))
         t.3))
         known
 
@@ -325,8 +327,8 @@ module _ (z : Sizes) (made : ℕ) (words : List ℕ) (uppers : List TreeView)
     )
 
     -- Of a row that was shown, a load gives the word that was shown.
-    pub shown_word : (row index : ℕ) (its : List ℕ) → index < 136 → IsShown u row its
-        → get_or words (136 * row + index) 0 ≡ get_or its index 0
+    pub shown_word : (row index : ℕ) (its : List ℕ) → index < row_words → IsShown u row its
+        → get_or words (row_words * row + index) 0 ≡ get_or its index 0
     shown_word row index its inside shown = sym (word_at words row index inside)
         ∙ ap (λ (x : List ℕ). get_or x index 0) (⊎_elim
         (λ (t : (shown.0.row ≡ row) × (shown.0.its ≡ its)). ap (row_at words) (sym t.0)
@@ -341,9 +343,9 @@ module _ (z : Sizes) (made : ℕ) (words : List ℕ) (uppers : List TreeView)
 
     -- So it is of a route, but for its links and its join word.
     pub shown_fixed : (row index : ℕ) (its : List ℕ) → IsFixed index → IsShownRoute u row its
-        → get_or words (136 * row + index) 0 ≡ get_or its index 0
+        → get_or words (row_words * row + index) 0 ≡ get_or its index 0
     shown_fixed row index its fixed shown = ap
-        (λ (r : ℕ). get_or words (136 * r + index) 0) (sym shown.2)
+        (λ (r : ℕ). get_or words (row_words * r + index) 0) (sym shown.2)
         ∙ ((k.ways shown.0 shown.1).spells index fixed
         ∙ ap (λ (x : List ℕ). get_or x index 0) shown.3)
 

@@ -18,6 +18,8 @@ use Rattle.ca_node.specs.Stays.{IsSameRow, word_at, row_same}
 use Rattle.ca_node.proofs.Named.{named_once}
 use Rattle.ca_node.specs.Reached.{led_to, base_at, hung, link_range, object_out, item_out, placed_linked, item_linked, reached}
 use Rattle.ca_node.specs.Standing.{IsSameButLinks, objects_same, mark_stays, base_stands, route_stands}
+use Rattle.ca_rows.specs.Layout.{row_words}
+use Rattle.ca_node.specs.Layout.{range_word, root_word}
 
 -- The row is a route.
 abbrev pub IsRoute : (ℕ → Role) → ℕ → Type 0
@@ -115,8 +117,8 @@ module _ (z : Sizes) (words : List ℕ) (role : ℕ → Role) (m : StoreMap)
   -- The link named the base, and names the row.
   pub relinked_here : get_or (set words place.link row) place.link 0 ≡ row
   relinked_here = let w = shape.wide in ⊎_elim
-      (λ (e : place.link ≡ 130). get_or-set_same words place.link row 0 (omega arith))
-      (λ (t : (136 < place.link) × (place.link < 136 * z.rows + 136)). let hi = t.1 in
+      (λ (e : place.link ≡ root_word). get_or-set_same words place.link row 0 (omega arith))
+      (λ (t : (row_words < place.link) × (place.link < row_words * z.rows + row_words)). let hi = t.1 in
       get_or-set_same words place.link row 0 (omega arith))
       (link_range z words role m shape place.link was.is_link)
 
@@ -128,31 +130,31 @@ module _ (z : Sizes) (words : List ℕ) (role : ℕ → Role) (m : StoreMap)
   -- Each row but the one that has the link keeps its words.
   pub relinked_apart : (c : ℕ) → 0 < c → ¬ IsLinkOf c place.link
       → IsSameRow words (set words place.link row) c
-  relinked_apart c lo n k l = relinked_else (136 * c + k) (λ e. ⊎_elim
-      (λ (top : place.link ≡ 130). omega arith)
+  relinked_apart c lo n k l = relinked_else (row_words * c + k) (λ e. ⊎_elim
+      (λ (top : place.link ≡ root_word). omega arith)
       (λ (t : (route : ℕ) × (p : Place) × (key : List ℕ) × (role route ≡ Route p key)
       × IsLinkOf route place.link). n (⊎_elim
-      (λ (f : place.link ≡ 136 * t.0 + 1). inl (omega arith))
-      (λ (f : place.link ≡ 136 * t.0 + 2). inr (omega arith)) t.4))
+      (λ (f : place.link ≡ row_words * t.0 + 1). inl (omega arith))
+      (λ (f : place.link ≡ row_words * t.0 + 2). inr (omega arith)) t.4))
       was.is_link)
 
   -- No word of a range changes.
   pub relinked_ranges : (pass : ℕ) → 0 < pass → pass ≤ 64
-      → get_or (set words place.link row) (65 + pass) 0 ≡ get_or words (65 + pass) 0
-  relinked_ranges pass lo hi = relinked_else (65 + pass) (λ e. ⊎_elim
-      (λ (top : place.link ≡ 130). omega arith)
-      (λ (t : (136 < place.link) × (place.link < 136 * z.rows + 136)). let far = t.0 in omega arith)
+      → get_or (set words place.link row) (range_word pass) 0 ≡ get_or words (range_word pass) 0
+  relinked_ranges pass lo hi = relinked_else (range_word pass) (λ e. ⊎_elim
+      (λ (top : place.link ≡ root_word). omega arith)
+      (λ (t : (row_words < place.link) × (place.link < row_words * z.rows + row_words)). let far = t.0 in omega arith)
       (link_range z words role m shape place.link was.is_link))
 
   -- No join word changes.
   pub relinked_joins : (route : ℕ)
-      → get_or (set words place.link row) (136 * route + 3) 0 ≡ get_or words (136 * route + 3) 0
-  relinked_joins route = relinked_else (136 * route + 3) (λ e. ⊎_elim
-      (λ (top : place.link ≡ 130). omega arith)
+      → get_or (set words place.link row) (row_words * route + 3) 0 ≡ get_or words (row_words * route + 3) 0
+  relinked_joins route = relinked_else (row_words * route + 3) (λ e. ⊎_elim
+      (λ (top : place.link ≡ root_word). omega arith)
       (λ (t : (r : ℕ) × (p : Place) × (key : List ℕ) × (role r ≡ Route p key)
       × IsLinkOf r place.link). ⊎_elim
-      (λ (f : place.link ≡ 136 * t.0 + 1). omega arith)
-      (λ (f : place.link ≡ 136 * t.0 + 2). omega arith) t.4)
+      (λ (f : place.link ≡ row_words * t.0 + 1). omega arith)
+      (λ (f : place.link ≡ row_words * t.0 + 2). omega arith) t.4)
       was.is_link)
 
   -- So a mark stays one,
@@ -177,23 +179,23 @@ module _ (z : Sizes) (words : List ℕ) (role : ℕ → Role) (m : StoreMap)
   -- Each row that is no route keeps its words.
   pub relinked_keeps : (c : ℕ) → 0 < c → ¬ IsRoute role c
       → IsSameRow words (set words place.link row) c
-  relinked_keeps c lo n k l = relinked_else (136 * c + k) (λ e. ⊎_elim
-      (λ (top : place.link ≡ 130). omega arith)
+  relinked_keeps c lo n k l = relinked_else (row_words * c + k) (λ e. ⊎_elim
+      (λ (top : place.link ≡ root_word). omega arith)
       (λ (t : (route : ℕ) × (p : Place) × (key : List ℕ) × (role route ≡ Route p key)
       × IsLinkOf route place.link).
-      let same : t.0 ≡ c = ⊎_elim (λ (f : place.link ≡ 136 * t.0 + 1). omega arith)
-      (λ (f : place.link ≡ 136 * t.0 + 2). omega arith) t.4 in
+      let same : t.0 ≡ c = ⊎_elim (λ (f : place.link ≡ row_words * t.0 + 1). omega arith)
+      (λ (f : place.link ≡ row_words * t.0 + 2). omega arith) t.4 in
       n (t.1, t.2, sym (ap role same) ∙ t.3))
       was.is_link)
 
   -- Each row keeps all its words but those of a route's links.
   pub relinked_routes : (c : ℕ) → 0 < c → IsSameButLinks words (set words place.link row) c
-  relinked_routes c lo k l n n' = relinked_else (136 * c + k) (λ e. ⊎_elim
-      (λ (top : place.link ≡ 130). omega arith)
+  relinked_routes c lo k l n n' = relinked_else (row_words * c + k) (λ e. ⊎_elim
+      (λ (top : place.link ≡ root_word). omega arith)
       (λ (t : (route : ℕ) × (p : Place) × (key : List ℕ) × (role route ≡ Route p key)
       × IsLinkOf route place.link). ⊎_elim
-      (λ (f : place.link ≡ 136 * t.0 + 1). n (omega arith))
-      (λ (f : place.link ≡ 136 * t.0 + 2). n' (omega arith)) t.4)
+      (λ (f : place.link ≡ row_words * t.0 + 1). n (omega arith))
+      (λ (f : place.link ≡ row_words * t.0 + 2). n' (omega arith)) t.4)
       was.is_link)
 
   -- A row in range that is no route spells what it spelled.
@@ -223,7 +225,7 @@ module _ (z : Sizes) (words : List ℕ) (role : ℕ → Role) (m : StoreMap)
     -- The links of the tree are links of it.
     pub link_still : (link : ℕ) → IsLink role link → IsLink role' link
     link_still link h = ⊎_elim
-        (λ (e : link ≡ 130). inl e)
+        (λ (e : link ≡ root_word). inl e)
         (λ (t : (route : ℕ) × (p : Place) × (key : List ℕ) × (role route ≡ Route p key)
         × IsLinkOf route link).
         let other : t.0 ≢ old = λ e.
@@ -267,8 +269,8 @@ module _ (z : Sizes) (words : List ℕ) (role : ℕ → Role) (m : StoreMap)
         (relinked_routes c s.some_row)
         (relinked_else p.link (other_link c p (ap place_of e) d)
         ∙ s.under) (link_still p.link s.is_link) (shape.idle c p key e)
-        (lead_still (136 * c + 1) (p.level + 1) (left_of key p.span) s.left)
-        (lead_still (136 * c + 2) (p.level + 1) (right_of key p.span) s.right)
+        (lead_still (row_words * c + 1) (p.level + 1) (left_of key p.span) s.left)
+        (lead_still (row_words * c + 2) (p.level + 1) (right_of key p.span) s.right)
 
     -- A row that is to be a base is one at the place of a link that names it, if it has what the
     -- map has there.
@@ -411,7 +413,7 @@ module _ (z : Sizes) (words : List ℕ) (role : ℕ → Role) (m : StoreMap)
   pub shape_rebased : IsShape z (set words place.link new) (with_base role place old new) n
   shape_rebased = record {
     wide = relinked_wide z words role m shape old place is new;
-    top = lead_still z words role m shape old place is new roles n fills keeps parts 130 0 all_keys
+    top = lead_still z words role m shape old place is new roles n fills keeps parts root_word 0 all_keys
         shape.top;
     each_row = so;
     apart = alone;

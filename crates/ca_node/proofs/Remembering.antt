@@ -12,6 +12,8 @@ use Rattle.ca_node.specs.Stays.{map_same}
 use Rattle.ca_node.specs.Tree.{IsLinkOfView, IsTrue, IsTrueWay}
 use Rattle.ca_node.specs.TreeView.{Note, Way, TreeView}
 use Rattle.ca_node.proofs.Rebased.{IsRoute, base_no_route, out_no_route, relinked_row, relinked_object, relinked_routes}
+use Rattle.ca_rows.specs.Layout.{row_words}
+use Rattle.ca_node.specs.Layout.{root_word}
 
 -- A link that a seat remembers leads somewhere.
 pub remembered_leads : (z : Sizes) (words : List ℕ) (role : ℕ → Role) (m : StoreMap)
@@ -19,21 +21,21 @@ pub remembered_leads : (z : Sizes) (words : List ℕ) (role : ℕ → Role) (m :
     → ((way : Way) → IsIn way u.ways → IsTrueWay words role way) → (link : ℕ) → IsLinkOfView u link
     → (place : Place) × (place.link ≡ link) × (place_of (role (get_or words link 0)) ≡ some place)
 remembered_leads z words role m shape u ways link known = ⊎_elim
-    (λ (e : link ≡ 130). (
-      led_to words role 130 _ _ shape.top,
+    (λ (e : link ≡ root_word). (
+      led_to words role root_word _ _ shape.top,
       sym e,
       ap (λ (i : ℕ). place_of (role (get_or words i 0))) e ∙ shape.top.hangs,
     ))
     (λ t. let r =
     route_at z words role m shape t.0.row t.0.place (route_key t.0.its) (ways t.0 t.1).stands in
     ⊎_elim
-    (λ (e : link ≡ 136 * t.0.row + 1). (
-      led_to words role (136 * t.0.row + 1) _ _ r.left,
+    (λ (e : link ≡ row_words * t.0.row + 1). (
+      led_to words role (row_words * t.0.row + 1) _ _ r.left,
       sym e,
       ap (λ (i : ℕ). place_of (role (get_or words i 0))) e ∙ r.left.hangs,
     ))
-    (λ (e : link ≡ 136 * t.0.row + 2). (
-      led_to words role (136 * t.0.row + 2) _ _ r.right,
+    (λ (e : link ≡ row_words * t.0.row + 2). (
+      led_to words role (row_words * t.0.row + 2) _ _ r.right,
       sym e,
       ap (λ (i : ℕ). place_of (role (get_or words i 0))) e ∙ r.right.hangs,
     ))

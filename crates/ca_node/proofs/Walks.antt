@@ -24,6 +24,8 @@ use Rattle.ca_node.specs.TreeView.{Note, Way, TreeView}
 use Rattle.ca_node.specs.Walking.{IsSought, IsSide, IsAbove, IsLowRoute, IsHighRoute, IsPlaced, IsRouteShown, IsAtRoute, IsAtBase, IsWalking, IsWalked, walked, passed}
 use Rattle.ca_node.proofs.Parts.{goes_left, goes_right, of_all}
 use Rattle.ca_node.proofs.RouteWords.{fixed_word, first_fixed}
+use Rattle.ca_rows.specs.Layout.{row_words}
+use Rattle.ca_node.specs.Layout.{form_unit, root_word}
 
 -- What is looked for is one of all keys.
 pub sought_first : (s : Spot) → IsSought s all_keys
@@ -140,7 +142,7 @@ module _ (z : Sizes) (ways : List Way) (way : Way) (cursor : Cursor) (base : ℕ
     (shown : IsIn way ways) (row : way.row ≡ cursor.base)
     (in_range : way.row ≤ z.rows) (placed : IsPlaced z ways way.place cursor) where
   -- The cursor tells where its left link leads.
-  left_placed : place.link ≡ 136 * cursor.base + 1
+  left_placed : place.link ≡ row_words * cursor.base + 1
       → place.span ≡ left_of (route_key way.its) way.place.span
       → IsPlaced z ways place (left_cursor cursor base)
   left_placed link_is span_is = record {
@@ -152,7 +154,7 @@ module _ (z : Sizes) (ways : List Way) (way : Way) (cursor : Cursor) (base : ℕ
   }
 
   -- The cursor tells where its right link leads.
-  right_placed : place.link ≡ 136 * cursor.base + 2
+  right_placed : place.link ≡ row_words * cursor.base + 2
       → place.span ≡ right_of (route_key way.its) way.place.span
       → IsPlaced z ways place (right_cursor cursor base)
   right_placed link_is span_is = record {
@@ -313,21 +315,21 @@ module _ (z : Sizes) (s : Spot) (m : MyTree) (cursor : Cursor) (m' : MyTree)
       }
 
   -- The seat knows where the left link leads.
-  left_known : IsKnownLink m'.0.upper (136 * cursor.base + 1) (at.way.place.level + 1)
+  left_known : IsKnownLink m'.0.upper (row_words * cursor.base + 1) (at.way.place.level + 1)
       (left_of (route_key route) span)
-  left_known = inr (at.way, here, refl, inl (ap (λ (r : ℕ). 136 * r + 1) (sym at.row), refl))
+  left_known = inr (at.way, here, refl, inl (ap (λ (r : ℕ). row_words * r + 1) (sym at.row), refl))
 
   -- The seat knows where the right link leads.
-  right_known : IsKnownLink m'.0.upper (136 * cursor.base + 2) (at.way.place.level + 1)
+  right_known : IsKnownLink m'.0.upper (row_words * cursor.base + 2) (at.way.place.level + 1)
       (right_of (route_key route) span)
-  right_known = inr (at.way, here, refl, inr (ap (λ (r : ℕ). 136 * r + 2) (sym at.row), refl))
+  right_known = inr (at.way, here, refl, inr (ap (λ (r : ℕ). row_words * r + 2) (sym at.row), refl))
 
   -- So it may load the left link.
-  pub left_any : IsAnyLink m'.0.upper (136 * cursor.base + 1)
+  pub left_any : IsAnyLink m'.0.upper (row_words * cursor.base + 1)
   left_any = (at.way.place.level + 1, left_of (route_key route) span, left_known)
 
   -- So it may load the right link.
-  pub right_any : IsAnyLink m'.0.upper (136 * cursor.base + 2)
+  pub right_any : IsAnyLink m'.0.upper (row_words * cursor.base + 2)
   right_any = (at.way.place.level + 1, right_of (route_key route) span, right_known)
 
   -- There are as many links left to load as levels below the route.
@@ -338,11 +340,11 @@ module _ (z : Sizes) (s : Spot) (m : MyTree) (cursor : Cursor) (m' : MyTree)
   module _ (m'' : MyTree) (base : ℕ) (some_rows : 0 < z.rows) (sizes : m'.0.sizes ≡ z) where
     -- The walk goes left.
     pub goes_left_on : IsSide true s (route_key route)
-        → IsLed true (136 * cursor.base + 1) m' base m''
+        → IsLed true (row_words * cursor.base + 1) m' base m''
         → IsWalking z s m (left_cursor cursor base) m''
     goes_left_on side led =
         comes_to z s m m' m'' some_rows sizes at.more (at.way ∷ at.ways) at.loads at.now
-        (136 * cursor.base + 1) (at.way.place.level + 1)
+        (row_words * cursor.base + 1) (at.way.place.level + 1)
         (left_of (route_key route) span) left_known at.few
         (sought_left s (route_key route) span side at.sought) (left_cursor cursor base)
         (λ place l p.
@@ -351,11 +353,11 @@ module _ (z : Sizes) (s : Spot) (m : MyTree) (cursor : Cursor) (m' : MyTree)
 
     -- The walk goes right.
     pub goes_right_on : IsSide false s (route_key route)
-        → IsLed true (136 * cursor.base + 2) m' base m''
+        → IsLed true (row_words * cursor.base + 2) m' base m''
         → IsWalking z s m (right_cursor cursor base) m''
     goes_right_on side led =
         comes_to z s m m' m'' some_rows sizes at.more (at.way ∷ at.ways) at.loads at.now
-        (136 * cursor.base + 2) (at.way.place.level + 1)
+        (row_words * cursor.base + 2) (at.way.place.level + 1)
         (right_of (route_key route) span) right_known at.few
         (sought_right s (route_key route) span side at.sought) (right_cursor cursor base)
         (λ place l p.
@@ -375,9 +377,9 @@ root_cursor base =
 
 -- The walk begins with a load of the root link.
 pub begins : (z : Sizes) (s : Spot) (m m' : MyTree) (base : ℕ) → 0 < z.rows → m.0.sizes ≡ z
-    → IsLed true 130 m base m' → IsWalking z s m (root_cursor base) m'
+    → IsLed true root_word m base m' → IsWalking z s m (root_cursor base) m'
 begins z s m m' base some_rows sizes led =
-    comes_to z s m m m' some_rows sizes [] [] 0 here 130 0 all_keys (inl (refl, refl, refl))
+    comes_to z s m m m' some_rows sizes [] [] 0 here root_word 0 all_keys (inl (refl, refl, refl))
     (omega arith)
     (sought_first s) (root_cursor base) placed led
   where
@@ -386,7 +388,7 @@ begins z s m m' base some_rows sizes led =
         ap (λ (h : History). with_upper m (record u { seen = h })) (sym (append-nil u.seen))
         ∙ ap (λ (k : ℕ). with_upper m (record u { seen = u.seen ++ []; loads = k })) n
 
-    placed : (place : Place) → place.link ≡ 130 → place.span ≡ all_keys
+    placed : (place : Place) → place.link ≡ root_word → place.span ≡ all_keys
         → IsPlaced z m.0.upper.ways place (root_cursor base)
     placed place l p = record {
       link = l;
@@ -431,7 +433,7 @@ module _ (z : Sizes) (s : Spot) (m : MyTree) (cursor : Cursor) (m' : MyTree) whe
 
   -- Where the word is that of a route, the walk is at one.
   pub is_at_route : IsWalking z s m cursor m' → (word : ℕ) → ((w : ℕ) → IsFirstWord w → word ≡ w)
-      → word / 72057594037927936 ≡ 3
+      → word / form_unit ≡ 3
       → IsAtRoute z s m cursor m'
   is_at_route w word is route = ⊎_elim
       (λ b. let f = b.is_base.is_base in let e = is (get_or b.note.its 0 0) (base_word b) in
@@ -439,7 +441,7 @@ module _ (z : Sizes) (s : Spot) (m : MyTree) (cursor : Cursor) (m' : MyTree) whe
 
   -- Else it is at a base.
   pub is_at_base : IsWalking z s m cursor m' → (word : ℕ) → ((w : ℕ) → IsFirstWord w → word ≡ w)
-      → word / 72057594037927936 ≢ 3
+      → word / form_unit ≢ 3
       → IsAtBase z s m cursor m'
   is_at_base w word is other = ⊎_elim (λ b. b)
       (λ r. let f = r.is_route.is_route in let e = is (get_or r.way.its 0 0) (route_word r) in

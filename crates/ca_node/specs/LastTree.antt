@@ -8,13 +8,15 @@ use Rattle.ca_node.specs.Links.{IsIn}
 use Rattle.ca_node.specs.Row.{row_at, form, items, pair}
 use Rattle.ca_node.specs.Shape.{Role, IsShape}
 use Rattle.ca_node.specs.TreeView.{TreeView}
+use Rattle.ca_rows.specs.Layout.{row_words}
+use Rattle.ca_node.specs.Layout.{root_word}
 
 -- the object rows under a link, in order, down to so many levels: a route's are those on its left and then those on its right
 abbrev pub rows_under : ℕ → List ℕ → ℕ → List ℕ
 rows_under zero words link = []
 rows_under (suc deep) words link =
     let row = slice_index words link in
-    cond (form (row_at words row) == 3) (rows_under deep words (136 * row + 1) ++ rows_under deep words (136 * row + 2)) (items (row_at words row))
+    cond (form (row_at words row) == 3) (rows_under deep words (row_words * row + 1) ++ rows_under deep words (row_words * row + 2)) (items (row_at words row))
 
 -- The words are those of a tree with the last state of one history, of so many passes, for which the logs of these passes are lawful.
 pub record IsLastTree (z : Sizes) (made : ℕ) (passes : List TreeView) (words : List ℕ) : Type 0 where
@@ -25,4 +27,4 @@ pub record IsLastTree (z : Sizes) (made : ℕ) (passes : List TreeView) (words :
   pub role : ℕ → Role
   pub shape : IsShape z words role (after history [])
   -- The objects under the root link are the whole map, in order.
-  pub has : map (λ row. pair (row_at words row)) (rows_under (suc z.levels) words 130) ≡ after history []
+  pub has : map (λ row. pair (row_at words row)) (rows_under (suc z.levels) words root_word) ≡ after history []

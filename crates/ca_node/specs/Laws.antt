@@ -25,6 +25,8 @@ use Rattle.ca_node.specs.Standing.{shape_stands}
 use Rattle.ca_node.specs.Stays.{IsSameRow, word_at, row_same, map_same, linked_on, linked_back, lent_on, lent_back}
 use Rattle.ca_node.specs.Tree.{StartsWith, IsTrue, IsTrueWay, IsEnded, Knows, IsTree}
 use Rattle.ca_node.specs.TreeView.{Note, Way, Ended, TreeView, first_inventory, blank, ended_of, and_ended, ended_with, pinned, unpinned}
+use Rattle.ca_rows.specs.Layout.{row_words}
+use Rattle.ca_node.specs.Layout.{body_word, form_unit, range_word, root_word}
 
 pub in_nothing : {A : Type 0} (x : A) (xs : List A) → xs ≡ [] → IsIn x xs → ⊥
 in_nothing x xs e i = some-ne-none x (sym (ap (λ ys. get_elem? ys i.0) (sym e) ∙ i.1))
@@ -51,8 +53,8 @@ placed_range z words role map shape row place e = by (role row) refl (shape.each
 pub under_placed : (z : Sizes) (words : List ℕ) (role : ℕ → Role) (map : StoreMap) → IsShape z words role map → (route row : ℕ) (place : Place) (key : List ℕ)
     → role route ≡ Route place key → IsUnder words route row → (at : Place) × (place_of (role row) ≡ some at)
 under_placed z words role map shape route row place key is under = let so = subst (IsSo z words role map route) is (shape.each_row route) in ⊎_elim
-    (λ (e : get_or words (136 * route + 1) 0 ≡ row). (_, ap (λ r. place_of (role r)) (sym e) ∙ so.left.hangs))
-    (λ (e : get_or words (136 * route + 2) 0 ≡ row). (_, ap (λ r. place_of (role r)) (sym e) ∙ so.right.hangs)) under
+    (λ (e : get_or words (row_words * route + 1) 0 ≡ row). (_, ap (λ r. place_of (role r)) (sym e) ∙ so.left.hangs))
+    (λ (e : get_or words (row_words * route + 2) 0 ≡ row). (_, ap (λ r. place_of (role r)) (sym e) ∙ so.right.hangs)) under
 
 -- The rows are the same where a table agrees with another on what is linked or noted.
 module _ (z : Sizes) (made : ℕ) (uppers : List TreeView) (words others : List ℕ) (f : IsTree z made words uppers)
@@ -61,12 +63,12 @@ module _ (z : Sizes) (made : ℕ) (uppers : List TreeView) (words others : List 
   wide' = a.wide ∙ f.shape.wide
 
   same_root : root others ≡ root words
-  same_root = a.control 130 (omega arith) (omega arith)
+  same_root = a.control root_word (omega arith) (omega arith)
 
   active : (pass sequence : ℕ) → (IsActive others pass sequence → IsActive words pass sequence) × (IsActive words pass sequence → IsActive others pass sequence)
   active pass sequence = (
-    (λ x. let lo = x.0 in let hi = x.1 in (x.0, x.1, sym (a.control (65 + pass) (omega arith) (omega arith)) ∙ x.2)),
-    (λ x. let lo = x.0 in let hi = x.1 in (x.0, x.1, a.control (65 + pass) (omega arith) (omega arith) ∙ x.2)),
+    (λ x. let lo = x.0 in let hi = x.1 in (x.0, x.1, sym (a.control (range_word pass) (omega arith) (omega arith)) ∙ x.2)),
+    (λ x. let lo = x.0 in let hi = x.1 in (x.0, x.1, a.control (range_word pass) (omega arith) (omega arith) ∙ x.2)),
   )
 
   range : (row : ℕ) → IsLinked words row → (0 < row) × (row ≤ z.rows)
@@ -80,7 +82,7 @@ module _ (z : Sizes) (made : ℕ) (uppers : List TreeView) (words others : List 
 
   shape_now : IsShape z others f.role (after f.history [])
   shape_now = shape_stands z words others f.role (after f.history []) f.shape wide' same_root
-      (λ pass lo hi. a.control (65 + pass) (omega arith) (omega arith)) same
+      (λ pass lo hi. a.control (range_word pass) (omega arith) (omega arith)) same
 
   -- What one seat has a note on.
   module _ (j : ℕ) (u : TreeView) (at : get_elem? uppers j ≡ some u) where
@@ -466,20 +468,20 @@ tree_closing = record {
 }
 
 -- The words of ranges at the start.
-opens_low : (z : Sizes) (i : ℕ) → i < 130 → opens_at z i ≡ 262144 * z.starts.sequence
+opens_low : (z : Sizes) (i : ℕ) → i < root_word → opens_at z i ≡ 262144 * z.starts.sequence
 opens_low z i l = grind (arith, nat_tests)
 
 -- The words at the start.
 module _ (z : Sizes) (words : List ℕ) (bounds : AreInBounds z) (usable : AreUsable z) (wide : IsWide z.rows words)
     (above : (i : ℕ) → 66 ≤ i → i < 272 → get_or words i 0 ≡ opens_at z i) where
   root_is : root words ≡ 1
-  root_is = above 130 (omega arith) (omega arith)
+  root_is = above root_word (omega arith) (omega arith)
 
   first_word : get_or (row_at words 1) 0 0 ≡ 144115188075855872
-  first_word = word_at words 1 0 (omega arith) ∙ above 136 (omega arith) (omega arith)
+  first_word = word_at words 1 0 (omega arith) ∙ above row_words (omega arith) (omega arith)
 
   no_items : items (row_at words 1) ≡ []
-  no_items = ap (λ n. take (n % 65536) (drop 11 (row_at words 1))) first_word
+  no_items = ap (λ n. take (n % 65536) (drop body_word (row_at words 1))) first_word
 
   -- row 1 is the one base
   role_of : ℕ → Role
@@ -500,7 +502,7 @@ module _ (z : Sizes) (words : List ℕ) (bounds : AreInBounds z) (usable : AreUs
     under = root_is;
     is_link = inl refl;
     deep = omega arith;
-    is_base = ap (λ n. n / 72057594037927936) first_word;
+    is_base = ap (λ n. n / form_unit) first_word;
     level_is = ap (λ n. n / 65536 % 1099511627776) first_word;
     few = let e = ap (λ n. n % 65536) first_word in omega arith;
     marked = inl (word_at words 1 2 (omega arith) ∙ above 138 (omega arith) (omega arith));
@@ -516,8 +518,8 @@ module _ (z : Sizes) (words : List ℕ) (bounds : AreInBounds z) (usable : AreUs
       (λ (same : row ≡ 1). let x : Base root_place ≡ Route p key = sym role_one ∙ (ap role_of (sym same) ∙ e) in cc)
       (λ n. let x : Out ≡ Route p key = sym (role_other row n) ∙ e in cc)
 
-  range_word : (pass : ℕ) → 0 < pass → pass ≤ 64 → get_or words (65 + pass) 0 ≡ 262144 * z.starts.sequence
-  range_word pass lo hi = above (65 + pass) (omega arith) (omega arith) ∙ opens_low z (65 + pass) (omega arith)
+  range_is : (pass : ℕ) → 0 < pass → pass ≤ 64 → get_or words (range_word pass) 0 ≡ 262144 * z.starts.sequence
+  range_is pass lo hi = above (range_word pass) (omega arith) (omega arith) ∙ opens_low z (range_word pass) (omega arith)
 
   shape_there : IsShape z words role_of []
   shape_there = record {
@@ -527,7 +529,7 @@ module _ (z : Sizes) (words : List ℕ) (bounds : AreInBounds z) (usable : AreUs
         (λ (e : row ≡ 1). subst (λ r. IsSo z words role_of [] r (role_of r)) (sym e) (subst (IsSo z words role_of [] 1) (sym role_one) first_base))
         (λ n. subst (IsSo z words role_of [] row) (sym (role_other row n)) tt);
     apart = λ a b p q key is is' _ _. base_one a p is ∙ sym (base_one b q is');
-    quiet = λ pass sequence x. let lo = x.0 in let hi = x.1 in let e = x.2 in let here = range_word pass lo hi in omega arith;
+    quiet = λ pass sequence x. let lo = x.0 in let hi = x.1 in let e = x.2 in let here = range_is pass lo hi in omega arith;
     idle = λ route p key e. absurd (no_route route p key e);
   }
 

@@ -1,6 +1,7 @@
 pub mod Inventory
 pub mod LastTree
 pub mod Laws
+pub mod Layout
 pub mod Links
 pub mod Marks
 pub mod Opened

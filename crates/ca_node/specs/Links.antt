@@ -4,10 +4,12 @@ use mathlib.Core.Option.{some}
 use lib.ListN.{get_elem?}
 use Rattle.ca_node.specs.Row.{row_at, IsBaseRow, IsRouteRow, items, mark, mark_owner, mark_number, mark_bound}
 use Rattle.ca_node.specs.TreeView.{Note, Way, TreeView}
+use Rattle.ca_rows.specs.Layout.{row_words}
+use Rattle.ca_node.specs.Layout.{range_word, root_word}
 
 -- the row that the root link names
 abbrev pub root : List ℕ → ℕ
-root words = slice_index words 130
+root words = slice_index words root_word
 
 abbrev pub IsIn : {A : Type 0} → A → List A → Type 0
 IsIn x xs = (k : ℕ) × (get_elem? xs k ≡ some x)
@@ -19,11 +21,11 @@ AreApart (row ∷ rows) = (¬ IsIn row rows) × AreApart rows
 
 -- The row is named by a link of this route.
 abbrev pub IsUnder : List ℕ → ℕ → ℕ → Type 0
-IsUnder words route row = (slice_index words (136 * route + 1) ≡ row) ⊎ (slice_index words (136 * route + 2) ≡ row)
+IsUnder words route row = (slice_index words (row_words * route + 1) ≡ row) ⊎ (slice_index words (row_words * route + 2) ≡ row)
 
 -- The range with this sequence of this pass is active.
 abbrev pub IsActive : List ℕ → ℕ → ℕ → Type 0
-IsActive words pass sequence = (0 < pass) × (pass ≤ 64) × (slice_index words (65 + pass) ≡ 262144 * sequence + 65536)
+IsActive words pass sequence = (0 < pass) × (pass ≤ 64) × (slice_index words (range_word pass) ≡ 262144 * sequence + 65536)
 
 -- An active range marked the base, and ends where this row says.
 abbrev pub IsBoundOf : List ℕ → ℕ → ℕ → Type 0

@@ -3,6 +3,8 @@ use Rattle.std.specs.Prelude.{◌≡◌, ◌⊎◌, ℕ, ◌+◌, ◌*◌, ◌/�
 use Rattle.ca_rows.specs.declared.sizes.Sizes.{Sizes}
 use Rattle.ca_node.specs.Place.{Place, IsLinkOf}
 use Rattle.ca_node.specs.Row.{row_at, IsBaseRow, count, mark, mark_owner, mark_number, IsUnmarked, join_word, IsIdle, IsPreparing, IsSecured}
+use Rattle.ca_rows.specs.Layout.{row_words}
+use Rattle.ca_node.specs.Layout.{range_word}
 
 -- The mark is that of a range of a pass.
 abbrev pub IsOfRange : List ℕ → Type 0
@@ -19,8 +21,8 @@ IsMark place its = IsUnmarked its ⊎ (IsOfRange its ⊎ IsOfJoin place its)
 -- The operation that marked the base was begun: the range's sequence is no greater than the last one of its pass, and the join's attempt no
 -- greater than the last one of its route.
 abbrev pub IsMarkIn : List ℕ → Place → List ℕ → Type 0
-IsMarkIn words place its = IsUnmarked its ⊎ ((IsOfRange its × (mark_number its ≤ slice_index words (65 + mark_owner its) / 262144))
-    ⊎ (IsOfJoin place its × (4 * mark_number its ≤ slice_index words (136 * mark_owner its + 3))))
+IsMarkIn words place its = IsUnmarked its ⊎ ((IsOfRange its × (mark_number its ≤ slice_index words (range_word (mark_owner its)) / 262144))
+    ⊎ (IsOfJoin place its × (4 * mark_number its ≤ slice_index words (row_words * mark_owner its + 3))))
 
 -- This attempt of the route marked the base that one of its links names.
 pub record IsMarkedUnder (words : List ℕ) (route attempt link : ℕ) : Type 0 where
@@ -31,9 +33,9 @@ pub record IsMarkedUnder (words : List ℕ) (route attempt link : ℕ) : Type 0 
 
 -- Both bases under a route whose join is secured have its mark, and together no more items than a leaf may have.
 pub record AreJoined (z : Sizes) (words : List ℕ) (route : ℕ) : Type 0 where
-  pub left : IsMarkedUnder words route (join_word (row_at words route) / 4) (136 * route + 1)
-  pub right : IsMarkedUnder words route (join_word (row_at words route) / 4) (136 * route + 2)
-  pub few : count (row_at words (slice_index words (136 * route + 1))) + count (row_at words (slice_index words (136 * route + 2))) ≤ z.leaf
+  pub left : IsMarkedUnder words route (join_word (row_at words route) / 4) (row_words * route + 1)
+  pub right : IsMarkedUnder words route (join_word (row_at words route) / 4) (row_words * route + 2)
+  pub few : count (row_at words (slice_index words (row_words * route + 1))) + count (row_at words (slice_index words (row_words * route + 2))) ≤ z.leaf
 
 -- The route's join word says that no join is under way, or that one is prepared, or that one is secured.
 abbrev pub IsJoinWord : Sizes → List ℕ → ℕ → Type 0

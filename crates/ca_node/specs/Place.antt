@@ -4,6 +4,8 @@ use Rattle.ca_model.specs.Edges.{Bound, Unbounded, Included, Excluded, is_from, 
 use Rattle.ca_model.specs.Event.{Event, Get, Write, WriteNew, Remove, Change, Above, Below, Range}
 use Rattle.ca_model.specs.History.{Edit, Put, Del}
 use Rattle.ca_model.specs.StoreMap.{StoreMap}
+use Rattle.ca_rows.specs.Layout.{row_words}
+use Rattle.ca_node.specs.Layout.{root_word}
 
 -- a part of the keys: those within a lower and an upper bound
 pub record Span : Type 0 where
@@ -38,18 +40,18 @@ pub record Place : Type 0 where
   pub span : Span
 
 abbrev pub root_place : Place
-root_place = record { link = 130; level = 0; span = all_keys }
+root_place = record { link = root_word; level = 0; span = all_keys }
 
 -- the place on the left of a route that stands here, and that on its right
 abbrev pub left_place : Place → List ℕ → ℕ → Place
-left_place place key route = record { link = 136 * route + 1; level = place.level + 1; span = left_of key place.span }
+left_place place key route = record { link = row_words * route + 1; level = place.level + 1; span = left_of key place.span }
 
 abbrev pub right_place : Place → List ℕ → ℕ → Place
-right_place place key route = record { link = 136 * route + 2; level = place.level + 1; span = right_of key place.span }
+right_place place key route = record { link = row_words * route + 2; level = place.level + 1; span = right_of key place.span }
 
 -- The word is one of the two links of this route.
 abbrev pub IsLinkOf : ℕ → ℕ → Type 0
-IsLinkOf route link = (link ≡ 136 * route + 1) ⊎ (link ≡ 136 * route + 2)
+IsLinkOf route link = (link ≡ row_words * route + 1) ⊎ (link ≡ row_words * route + 2)
 
 -- the key that an edit is about
 abbrev pub edit_key : Edit → List ℕ

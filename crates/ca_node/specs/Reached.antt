@@ -7,6 +7,8 @@ use Rattle.ca_node.specs.Links.{IsIn, IsLinked, by_root, by_route, by_base, by_r
 use Rattle.ca_node.specs.Place.{Span, all_keys, left_of, right_of, Place, IsLinkOf}
 use Rattle.ca_node.specs.Row.{row_at, form, IsObjectRow, IsBaseRow, IsRouteRow, items, mark_owner, mark_number, key}
 use Rattle.ca_node.specs.Shape.{Role, Out, Base, Route, place_of, IsLink, LeadsTo, IsBaseAt, IsRouteAt, IsSo, IsShape}
+use Rattle.ca_rows.specs.Layout.{row_words}
+use Rattle.ca_node.specs.Layout.{root_word}
 
 -- What has a place is a base there, or a route.
 pub by_place : (is : Role) (place : Place) → place_of is ≡ some place → (is ≡ Base place) ⊎ ((key : List ℕ) × (is ≡ Route place key))
@@ -46,15 +48,15 @@ module _ (z : Sizes) (words : List ℕ) (role : ℕ → Role) (m : StoreMap) (sh
   -- A link of the tree leads somewhere.
   pub link_leads : (link : ℕ) → IsLink role link → (least : ℕ) × (span : Span) × LeadsTo words role link least span
   link_leads link is = ⊎_elim
-      (λ (e : link ≡ 130). (0, all_keys, subst (λ (i : ℕ). LeadsTo words role i 0 all_keys) (sym e) shape.top))
+      (λ (e : link ≡ root_word). (0, all_keys, subst (λ (i : ℕ). LeadsTo words role i 0 all_keys) (sym e) shape.top))
       (λ (t : (route : ℕ) × (place : Place) × (key : List ℕ) × (role route ≡ Route place key) × IsLinkOf route link).
       let at = route_at t.0 t.1 t.2 t.3 in ⊎_elim
-      (λ (e : link ≡ 136 * t.0 + 1). (
+      (λ (e : link ≡ row_words * t.0 + 1). (
         t.1.level + 1,
         left_of t.2 t.1.span,
         subst (λ (i : ℕ). LeadsTo words role i (t.1.level + 1) (left_of t.2 t.1.span)) (sym e) at.left,
       ))
-      (λ (e : link ≡ 136 * t.0 + 2). (
+      (λ (e : link ≡ row_words * t.0 + 2). (
         t.1.level + 1,
         right_of t.2 t.1.span,
         subst (λ (i : ℕ). LeadsTo words role i (t.1.level + 1) (right_of t.2 t.1.span)) (sym e) at.right,
@@ -71,12 +73,12 @@ module _ (z : Sizes) (words : List ℕ) (role : ℕ → Role) (m : StoreMap) (sh
       (by_place (role row) place e)
 
   -- A link is the root link, or a word of the rows.
-  pub link_range : (link : ℕ) → IsLink role link → (link ≡ 130) ⊎ ((136 < link) × (link < 136 * z.rows + 136))
+  pub link_range : (link : ℕ) → IsLink role link → (link ≡ root_word) ⊎ ((row_words < link) × (link < row_words * z.rows + row_words))
   link_range link is = ⊎_elim
-      (λ (e : link ≡ 130). inl e)
+      (λ (e : link ≡ root_word). inl e)
       (λ (t : (route : ℕ) × (place : Place) × (key : List ℕ) × (role route ≡ Route place key) × IsLinkOf route link).
       let lo = (route_at t.0 t.1 t.2 t.3).some_row in let hi = (route_at t.0 t.1 t.2 t.3).in_range in inr (⊎_elim
-      (λ (e : link ≡ 136 * t.0 + 1). (omega arith, omega arith)) (λ (e : link ≡ 136 * t.0 + 2). (omega arith, omega arith)) t.4))
+      (λ (e : link ≡ row_words * t.0 + 1). (omega arith, omega arith)) (λ (e : link ≡ row_words * t.0 + 2). (omega arith, omega arith)) t.4))
       is
 
   -- What is led to at a link is what has its place there.
@@ -95,12 +97,12 @@ module _ (z : Sizes) (words : List ℕ) (role : ℕ → Role) (m : StoreMap) (sh
   linked_to : (n row : ℕ) (place : Place) → place.level < n → place_of (role row) ≡ some place → IsLinked words row
   linked_to zero row place deep e = absurd (omega arith)
   linked_to (suc n) row place deep e = let h = hung row place e in ⊎_elim
-      (λ (top : place.link ≡ 130). by_root row (sym (ap (λ (i : ℕ). get_or words i 0) top) ∙ h.0))
+      (λ (top : place.link ≡ root_word). by_root row (sym (ap (λ (i : ℕ). get_or words i 0) top) ∙ h.0))
       (λ (t : (route : ℕ) × (p : Place) × (key : List ℕ) × (role route ≡ Route p key) × IsLinkOf route place.link).
       let at = route_at t.0 t.1 t.2 t.3 in ⊎_elim
-      (λ (here : place.link ≡ 136 * t.0 + 1). let far = deeper (136 * t.0 + 1) (t.1.level + 1) (left_of t.2 t.1.span) at.left row place e here in
+      (λ (here : place.link ≡ row_words * t.0 + 1). let far = deeper (row_words * t.0 + 1) (t.1.level + 1) (left_of t.2 t.1.span) at.left row place e here in
       by_route t.0 row (linked_to n t.0 t.1 (omega arith) (ap place_of t.3)) at.is_route (inl (sym (ap (λ (i : ℕ). get_or words i 0) here) ∙ h.0)))
-      (λ (here : place.link ≡ 136 * t.0 + 2). let far = deeper (136 * t.0 + 2) (t.1.level + 1) (right_of t.2 t.1.span) at.right row place e here in
+      (λ (here : place.link ≡ row_words * t.0 + 2). let far = deeper (row_words * t.0 + 2) (t.1.level + 1) (right_of t.2 t.1.span) at.right row place e here in
       by_route t.0 row (linked_to n t.0 t.1 (omega arith) (ap place_of t.3)) at.is_route (inr (sym (ap (λ (i : ℕ). get_or words i 0) here) ∙ h.0)))
       t.4)
       h.1
@@ -151,10 +153,10 @@ module _ (z : Sizes) (words : List ℕ) (role : ℕ → Role) (m : StoreMap) (sh
 
   -- The root link reaches nothing else.
   pub reached : (row : ℕ) → IsLinked words row → IsOfTree row
-  reached _ (by_root row e) = of_lead 130 0 all_keys shape.top row e
+  reached _ (by_root row e) = of_lead root_word 0 all_keys shape.top row e
   reached _ (by_route route row l f u) = let t = of_route route (reached route l) f in let at = route_at route t.0 t.1 t.2 in ⊎_elim
-      (of_lead (136 * route + 1) (t.0.level + 1) (left_of t.1 t.0.span) at.left row)
-      (of_lead (136 * route + 2) (t.0.level + 1) (right_of t.1 t.0.span) at.right row)
+      (of_lead (row_words * route + 1) (t.0.level + 1) (left_of t.1 t.0.span) at.left row)
+      (of_lead (row_words * route + 2) (t.0.level + 1) (right_of t.1 t.0.span) at.right row)
       u
   reached _ (by_base base row l f i) = let t = of_base base (reached base l) f in inr (base, t.0, t.1, i)
   reached _ (by_range base row l f x) = absurd (shape.quiet (mark_owner (row_at words base)) (mark_number (row_at words base)) x.1)

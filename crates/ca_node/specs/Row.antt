@@ -2,14 +2,16 @@
 use Rattle.std.specs.Prelude.{◌≡◌, ℕ, ◌*◌, ◌/◌, ◌%◌, ◌≤◌, List, [], ◌∷◌, ◌++◌, take, drop, map, slice_index}
 use Rattle.std.specs.Int.{to_be_bytes, w64}
 use Rattle.ca_model.specs.StoreMap.{Pair, StoreMap}
+use Rattle.ca_rows.specs.Layout.{row_words}
+use Rattle.ca_node.specs.Layout.{body_word, form_unit}
 
 -- the 136 words of a row
 abbrev pub row_at : List ℕ → ℕ → List ℕ
-row_at words row = take 136 (drop (136 * row) words)
+row_at words row = take row_words (drop (row_words * row) words)
 
 -- the form, in the first word
 abbrev pub form : List ℕ → ℕ
-form its = slice_index its 0 / 72057594037927936
+form its = slice_index its 0 / form_unit
 
 abbrev pub IsBaseRow : List ℕ → Type 0
 IsBaseRow its = form its ≡ 2
@@ -27,7 +29,7 @@ level its = slice_index its 0 / 65536 % 1099511627776
 
 -- of a base: the object rows that it names, in the order of their keys
 abbrev pub items : List ℕ → List ℕ
-items its = take (count its) (drop 11 its)
+items its = take (count its) (drop body_word its)
 
 -- of a base: which kind of operation marked it (0 none, 1 a range, 2 a join), whose (a pass or a route), which one (a sequence or an
 -- attempt), the row to its left in the same range, and the row that tells where the range ends
@@ -70,11 +72,11 @@ bytes_in (word ∷ words) = to_be_bytes w64 word ++ bytes_in words
 
 -- of an object: its bytes, and where its key stands in them
 abbrev pub object : List ℕ → List ℕ
-object its = take (count its) (bytes_in (drop 11 its))
+object its = take (count its) (bytes_in (drop body_word its))
 
 -- The bytes behind the object are 0, to the end of the row.
 abbrev pub IsPadded : List ℕ → Type 0
-IsPadded its = (i : ℕ) → count its ≤ i → slice_index (bytes_in (drop 11 its)) i ≡ 0
+IsPadded its = (i : ℕ) → count its ≤ i → slice_index (bytes_in (drop body_word its)) i ≡ 0
 
 abbrev pub IsObjectRow : List ℕ → Type 0
 IsObjectRow its = (form its ≡ 1) × IsPadded its

@@ -8,6 +8,8 @@ use Rattle.ca_node.specs.Links.{IsIn, IsActive}
 use Rattle.ca_node.specs.Marks.{IsMarkIn, IsJoinWord}
 use Rattle.ca_node.specs.Place.{Span, all_keys, left_of, right_of, HasKey, part, Place, IsLinkOf}
 use Rattle.ca_node.specs.Row.{row_at, IsObjectRow, IsBaseRow, IsRouteRow, count, level, items, IsIdle, route_key, objects_in}
+use Rattle.ca_rows.specs.Layout.{row_words}
+use Rattle.ca_node.specs.Layout.{root_word}
 
 -- what a row is in the tree: nothing, a base, or a route with its key
 pub data Role : Type 0 where
@@ -22,7 +24,7 @@ place_of (Route place key) = some place
 
 -- The word is the root link, or a link of a route.
 abbrev pub IsLink : (ℕ → Role) → ℕ → Type 0
-IsLink role link = (link ≡ 130) ⊎ ((route : ℕ) × (place : Place) × (key : List ℕ) × (role route ≡ Route place key) × IsLinkOf route link)
+IsLink role link = (link ≡ root_word) ⊎ ((route : ℕ) × (place : Place) × (key : List ℕ) × (role route ≡ Route place key) × IsLinkOf route link)
 
 -- The link leads these keys to a row that hangs there, at this level or a greater one.
 pub record LeadsTo (words : List ℕ) (role : ℕ → Role) (link least : ℕ) (span : Span) : Type 0 where
@@ -59,8 +61,8 @@ pub record IsRouteAt (z : Sizes) (words : List ℕ) (role : ℕ → Role) (place
   pub key_is : route_key (row_at words row) ≡ key
   pub inside : HasKey place.span key
   pub joins : IsJoinWord z words row
-  pub left : LeadsTo words role (136 * row + 1) (place.level + 1) (left_of key place.span)
-  pub right : LeadsTo words role (136 * row + 2) (place.level + 1) (right_of key place.span)
+  pub left : LeadsTo words role (row_words * row + 1) (place.level + 1) (left_of key place.span)
+  pub right : LeadsTo words role (row_words * row + 2) (place.level + 1) (right_of key place.span)
 
 abbrev pub IsSo : Sizes → List ℕ → (ℕ → Role) → StoreMap → ℕ → Role → Type 0
 IsSo z words role map row Out = Unit {0}
@@ -70,7 +72,7 @@ IsSo z words role map row (Route place key) = IsRouteAt z words role place key r
 -- The rows under the root link are a tree: each is what its role says, and no key is led to two bases. The bases have this map together.
 pub record IsShape (z : Sizes) (words : List ℕ) (role : ℕ → Role) (map : StoreMap) : Type 0 where
   pub wide : IsWide z.rows words
-  pub top : LeadsTo words role 130 0 all_keys
+  pub top : LeadsTo words role root_word 0 all_keys
   pub each_row : (row : ℕ) → IsSo z words role map row (role row)
   pub apart : (a b : ℕ) (p q : Place) (key : List ℕ) → role a ≡ Base p → role b ≡ Base q → HasKey p.span key → HasKey q.span key → a ≡ b
   -- So far no range is active, and no join is under way.

@@ -14,16 +14,18 @@ use Rattle.ca_node.specs.Row.{row_at, form, IsObjectRow, IsBaseRow, count, level
 use Rattle.ca_node.specs.Shape.{Role, Out, Base, Route, place_of, IsLink, LeadsTo, IsBaseAt, IsRouteAt, IsSo, IsShape}
 use Rattle.ca_node.specs.Stays.{IsSameRow, word_at, row_long, row_same, map_same}
 use Rattle.ca_node.specs.Reached.{linked_range, placed_linked, item_linked}
+use Rattle.ca_rows.specs.Layout.{row_words}
+use Rattle.ca_node.specs.Layout.{body_word, form_unit, range_word, root_word}
 
 -- The row has the same words in both tables, but for those of a route's links.
 abbrev pub IsSameButLinks : List ℕ → List ℕ → ℕ → Type 0
-IsSameButLinks words others row = (k : ℕ) → k < 136 → k ≢ 1 → k ≢ 2 → get_or others (136 * row + k) 0 ≡ get_or words (136 * row + k) 0
+IsSameButLinks words others row = (k : ℕ) → k < row_words → k ≢ 1 → k ≢ 2 → get_or others (row_words * row + k) 0 ≡ get_or words (row_words * row + k) 0
 
 -- What a row says without the words of its links.
 module _ (words others : List ℕ) (rows row : ℕ) (wide : IsWide rows words) (wide' : IsWide rows others) (hi : row ≤ rows)
     (same : IsSameButLinks words others row) where
   -- A word of the row is the same, unless it is a link.
-  pub word_same : (k : ℕ) → k < 136 → k ≢ 1 → k ≢ 2 → get_or (row_at others row) k 0 ≡ get_or (row_at words row) k 0
+  pub word_same : (k : ℕ) → k < row_words → k ≢ 1 → k ≢ 2 → get_or (row_at others row) k 0 ≡ get_or (row_at words row) k 0
   word_same k l n m = word_at others row k l ∙ (same k l n m ∙ sym (word_at words row k l))
 
   -- So is the first word.
@@ -31,21 +33,21 @@ module _ (words others : List ℕ) (rows row : ℕ) (wide : IsWide rows words) (
   first_same = word_same 0 (omega arith) (λ e. omega arith) (λ e. omega arith)
 
   -- So are the words of the bytes.
-  rest_same : drop 11 (row_at others row) ≡ drop 11 (row_at words row)
+  rest_same : drop body_word (row_at others row) ≡ drop body_word (row_at words row)
   rest_same = let long = row_long words rows row wide hi in let long' = row_long others rows row wide' hi in
-      let a = length-drop 11 (row_at words row) in let b = length-drop 11 (row_at others row) in
-      same_number_lists (drop 11 (row_at others row)) (drop 11 (row_at words row)) (omega arith)
-      (λ k l. get_or-drop 11 (row_at others row) k 0
-      ∙ (word_same (11 + k) (omega arith) (λ e. omega arith) (λ e. omega arith) ∙ sym (get_or-drop 11 (row_at words row) k 0)))
+      let a = length-drop body_word (row_at words row) in let b = length-drop body_word (row_at others row) in
+      same_number_lists (drop body_word (row_at others row)) (drop body_word (row_at words row)) (omega arith)
+      (λ k l. get_or-drop body_word (row_at others row) k 0
+      ∙ (word_same (body_word + k) (omega arith) (λ e. omega arith) (λ e. omega arith) ∙ sym (get_or-drop body_word (row_at words row) k 0)))
 
   -- So it has the same key, if it is a route.
   pub key_same : route_key (row_at others row) ≡ route_key (row_at words row)
-  key_same = ap (λ n. take (n % 65536) (bytes_in (drop 11 (row_at others row)))) first_same
+  key_same = ap (λ n. take (n % 65536) (bytes_in (drop body_word (row_at others row)))) first_same
       ∙ ap (λ xs. take (count (row_at words row)) (bytes_in xs)) rest_same
 
   -- It has the same form.
   pub form_same : form (row_at others row) ≡ form (row_at words row)
-  form_same = ap (λ n. n / 72057594037927936) first_same
+  form_same = ap (λ n. n / form_unit) first_same
 
   -- It has the same count.
   pub count_same : count (row_at others row) ≡ count (row_at words row)
@@ -66,21 +68,21 @@ pub mark_of : (words : List ℕ) (place : Place) (its : List ℕ) → IsMarkIn w
 mark_of words place its m = ⊎_elim
     (λ (none : IsUnmarked its). inl none)
     (λ some_mark. ⊎_elim
-    (λ (r : IsOfRange its × (mark_number its ≤ get_or words (65 + mark_owner its) 0 / 262144)). inr (inl r.0))
-    (λ (j : IsOfJoin place its × (4 * mark_number its ≤ get_or words (136 * mark_owner its + 3) 0)). inr (inr j.0))
+    (λ (r : IsOfRange its × (mark_number its ≤ get_or words (range_word (mark_owner its)) 0 / 262144)). inr (inl r.0))
+    (λ (j : IsOfJoin place its × (4 * mark_number its ≤ get_or words (row_words * mark_owner its + 3) 0)). inr (inr j.0))
     some_mark) m
 
 -- A mark stays one, where no pass's sequence falls, nor the attempt of the route above.
 pub mark_stays : (words others : List ℕ) (place : Place) (its : List ℕ)
-    → ((pass : ℕ) → 0 < pass → pass ≤ 64 → get_or words (65 + pass) 0 ≤ get_or others (65 + pass) 0)
-    → ((route : ℕ) → IsLinkOf route place.link → get_or words (136 * route + 3) 0 ≤ get_or others (136 * route + 3) 0)
+    → ((pass : ℕ) → 0 < pass → pass ≤ 64 → get_or words (range_word pass) 0 ≤ get_or others (range_word pass) 0)
+    → ((route : ℕ) → IsLinkOf route place.link → get_or words (row_words * route + 3) 0 ≤ get_or others (row_words * route + 3) 0)
     → IsMarkIn words place its → IsMarkIn others place its
 mark_stays words others place its ranges joins m = ⊎_elim
     (λ (none : IsUnmarked its). inl none)
     (λ some_mark. ⊎_elim
-    (λ (r : IsOfRange its × (mark_number its ≤ get_or words (65 + mark_owner its) 0 / 262144)).
+    (λ (r : IsOfRange its × (mark_number its ≤ get_or words (range_word (mark_owner its)) 0 / 262144)).
     let before = r.1 in let rises = ranges (mark_owner its) r.0.1 r.0.2 in inr (inl (r.0, omega arith)))
-    (λ (j : IsOfJoin place its × (4 * mark_number its ≤ get_or words (136 * mark_owner its + 3) 0)).
+    (λ (j : IsOfJoin place its × (4 * mark_number its ≤ get_or words (row_words * mark_owner its + 3) 0)).
     let before = j.1 in let rises = joins (mark_owner its) j.0.1 in inr (inr (j.0, omega arith)))
     some_mark) m
 
@@ -88,11 +90,11 @@ mark_stays words others place its ranges joins m = ⊎_elim
 pub link_route : (role : ℕ → Role) (link route : ℕ) → IsLink role link → IsLinkOf route link
     → (place : Place) × (key : List ℕ) × (role route ≡ Route place key)
 link_route role link route is of = ⊎_elim
-    (λ (e : link ≡ 130). absurd (⊎_elim (λ (l : link ≡ 136 * route + 1). omega arith) (λ (r : link ≡ 136 * route + 2). omega arith) of))
+    (λ (e : link ≡ root_word). absurd (⊎_elim (λ (l : link ≡ row_words * route + 1). omega arith) (λ (r : link ≡ row_words * route + 2). omega arith) of))
     (λ (t : (r : ℕ) × (place : Place) × (key : List ℕ) × (role r ≡ Route place key) × IsLinkOf r link).
     let same : t.0 ≡ route = ⊎_elim
-    (λ (e : link ≡ 136 * t.0 + 1). ⊎_elim (λ (f : link ≡ 136 * route + 1). omega arith) (λ (f : link ≡ 136 * route + 2). omega arith) of)
-    (λ (e : link ≡ 136 * t.0 + 2). ⊎_elim (λ (f : link ≡ 136 * route + 1). omega arith) (λ (f : link ≡ 136 * route + 2). omega arith) of) t.4 in
+    (λ (e : link ≡ row_words * t.0 + 1). ⊎_elim (λ (f : link ≡ row_words * route + 1). omega arith) (λ (f : link ≡ row_words * route + 2). omega arith) of)
+    (λ (e : link ≡ row_words * t.0 + 2). ⊎_elim (λ (f : link ≡ row_words * route + 1). omega arith) (λ (f : link ≡ row_words * route + 2). omega arith) of) t.4 in
     (t.1, t.2, sym (ap role same) ∙ t.3))
     is
 
@@ -123,8 +125,8 @@ base_stands z words others role role' m n place row b e same under is parts mark
 pub route_stands : (z : Sizes) (words others : List ℕ) (role role' : ℕ → Role) (place : Place) (key : List ℕ) (row : ℕ)
     → IsRouteAt z words role place key row → IsWide z.rows words → IsWide z.rows others → IsSameButLinks words others row
     → get_or others place.link 0 ≡ row → IsLink role' place.link → IsIdle (row_at words row)
-    → LeadsTo others role' (136 * row + 1) (place.level + 1) (left_of key place.span)
-    → LeadsTo others role' (136 * row + 2) (place.level + 1) (right_of key place.span) → IsRouteAt z others role' place key row
+    → LeadsTo others role' (row_words * row + 1) (place.level + 1) (left_of key place.span)
+    → LeadsTo others role' (row_words * row + 2) (place.level + 1) (right_of key place.span) → IsRouteAt z others role' place key row
 route_stands z words others role role' place key row r wide wide' same under is idle left right = record {
   some_row = r.some_row;
   in_range = r.in_range;
@@ -143,7 +145,7 @@ route_stands z words others role role' place key row r wide wide' same under is 
 
 -- Two tables that agree on the root link, on the words of ranges and on each linked row have the same shape.
 module _ (z : Sizes) (words others : List ℕ) (role : ℕ → Role) (m : StoreMap) (shape : IsShape z words role m) (wide : IsWide z.rows others)
-    (same_root : root others ≡ root words) (ranges : (pass : ℕ) → 0 < pass → pass ≤ 64 → get_or others (65 + pass) 0 ≡ get_or words (65 + pass) 0)
+    (same_root : root others ≡ root words) (ranges : (pass : ℕ) → 0 < pass → pass ≤ 64 → get_or others (range_word pass) 0 ≡ get_or words (range_word pass) 0)
     (same : (row : ℕ) → IsLinked words row → IsSameRow words others row) where
   -- A linked row has the same words.
   its_same : (row : ℕ) → IsLinked words row → row_at others row ≡ row_at words row
@@ -156,11 +158,11 @@ module _ (z : Sizes) (words others : List ℕ) (role : ℕ → Role) (m : StoreM
   -- A link names what it named.
   pub link_same : (link : ℕ) → IsLink role link → get_or others link 0 ≡ get_or words link 0
   link_same link is = ⊎_elim
-      (λ (e : link ≡ 130). ap (λ (i : ℕ). get_or others i 0) e ∙ (same_root ∙ sym (ap (λ (i : ℕ). get_or words i 0) e)))
+      (λ (e : link ≡ root_word). ap (λ (i : ℕ). get_or others i 0) e ∙ (same_root ∙ sym (ap (λ (i : ℕ). get_or words i 0) e)))
       (λ (t : (route : ℕ) × (place : Place) × (key : List ℕ) × (role route ≡ Route place key) × IsLinkOf route link).
       let s = same t.0 (placed t.0 t.1 (ap place_of t.3)) in ⊎_elim
-      (λ (e : link ≡ 136 * t.0 + 1). ap (λ (i : ℕ). get_or others i 0) e ∙ (s 1 (omega arith) ∙ sym (ap (λ (i : ℕ). get_or words i 0) e)))
-      (λ (e : link ≡ 136 * t.0 + 2). ap (λ (i : ℕ). get_or others i 0) e ∙ (s 2 (omega arith) ∙ sym (ap (λ (i : ℕ). get_or words i 0) e)))
+      (λ (e : link ≡ row_words * t.0 + 1). ap (λ (i : ℕ). get_or others i 0) e ∙ (s 1 (omega arith) ∙ sym (ap (λ (i : ℕ). get_or words i 0) e)))
+      (λ (e : link ≡ row_words * t.0 + 2). ap (λ (i : ℕ). get_or others i 0) e ∙ (s 2 (omega arith) ∙ sym (ap (λ (i : ℕ). get_or words i 0) e)))
       t.4)
       is
 
@@ -185,14 +187,14 @@ module _ (z : Sizes) (words others : List ℕ) (role : ℕ → Role) (m : StoreM
       (marks place (row_at words row) s.is_link)
   so row (Route place key) e s = route_stands z words others role role place key row s shape.wide wide
       (λ k l _ _. same row (placed row place (ap place_of e)) k l) (link_same place.link s.is_link ∙ s.under) s.is_link (shape.idle row place key e)
-      (lead_same (136 * row + 1) (place.level + 1) (left_of key place.span) (inr (row, place, key, e, inl refl)) s.left)
-      (lead_same (136 * row + 2) (place.level + 1) (right_of key place.span) (inr (row, place, key, e, inr refl)) s.right)
+      (lead_same (row_words * row + 1) (place.level + 1) (left_of key place.span) (inr (row, place, key, e, inl refl)) s.left)
+      (lead_same (row_words * row + 2) (place.level + 1) (right_of key place.span) (inr (row, place, key, e, inr refl)) s.right)
 
   -- The other table has the same shape.
   pub shape_stands : IsShape z others role m
   shape_stands = record {
     wide = wide;
-    top = lead_same 130 0 all_keys (inl refl) shape.top;
+    top = lead_same root_word 0 all_keys (inl refl) shape.top;
     each_row = λ row. so row (role row) refl (shape.each_row row);
     apart = shape.apart;
     quiet = λ pass sequence x. shape.quiet pass sequence (x.0, x.1, sym (ranges pass x.0 x.1) ∙ x.2);

@@ -5,22 +5,23 @@ use Rattle.std.proofs.lemmas.Grind.{same_number_lists}
 use Rattle.ca_rows.specs.Words.{IsWide}
 use Rattle.ca_node.specs.Links.{root, IsIn, IsUnder, IsActive, IsBoundOf, IsLinked, by_root, by_route, by_base, by_range, IsLent}
 use Rattle.ca_node.specs.Row.{row_at, IsBaseRow, IsRouteRow, items, mark, mark_owner, mark_number, mark_bound}
+use Rattle.ca_rows.specs.Layout.{row_words}
 
 -- The row has the same words in both tables.
 abbrev pub IsSameRow : List ℕ → List ℕ → ℕ → Type 0
-IsSameRow words others row = (k : ℕ) → k < 136 → get_or others (136 * row + k) 0 ≡ get_or words (136 * row + k) 0
+IsSameRow words others row = (k : ℕ) → k < row_words → get_or others (row_words * row + k) 0 ≡ get_or words (row_words * row + k) 0
 
-pub word_at : (words : List ℕ) (row k : ℕ) → k < 136 → get_or (row_at words row) k 0 ≡ get_or words (136 * row + k) 0
-word_at words row k l = get_or-take 136 (drop (136 * row) words) k 0 l ∙ get_or-drop (136 * row) words k 0
+pub word_at : (words : List ℕ) (row k : ℕ) → k < row_words → get_or (row_at words row) k 0 ≡ get_or words (row_words * row + k) 0
+word_at words row k l = get_or-take row_words (drop (row_words * row) words) k 0 l ∙ get_or-drop (row_words * row) words k 0
 
-pub row_long : (words : List ℕ) (rows row : ℕ) → IsWide rows words → row ≤ rows → length (row_at words row) ≡ 136
-row_long words rows row wide hi = length-take-le 136 (drop (136 * row) words) (omega (arith, length-drop (136 * row) words))
+pub row_long : (words : List ℕ) (rows row : ℕ) → IsWide rows words → row ≤ rows → length (row_at words row) ≡ row_words
+row_long words rows row wide hi = length-take-le row_words (drop (row_words * row) words) (omega (arith, length-drop (row_words * row) words))
 
 pub row_same : (words others : List ℕ) (rows row : ℕ) → IsWide rows words → IsWide rows others → row ≤ rows → IsSameRow words others row
     → row_at others row ≡ row_at words row
 row_same words others rows row wide wide' hi same = let a = row_long words rows row wide hi in let b = row_long others rows row wide' hi in
     same_number_lists (row_at others row) (row_at words row) (b ∙ sym a)
-    (λ k l. let inside : k < 136 = omega arith in word_at others row k inside ∙ (same k inside ∙ sym (word_at words row k inside)))
+    (λ k l. let inside : k < row_words = omega arith in word_at others row k inside ∙ (same k inside ∙ sym (word_at words row k inside)))
 
 -- What two functions give each member of a list.
 pub map_same : {A B : Type 0} (f g : A → B) (xs : List A) → ((x : A) → IsIn x xs → f x ≡ g x) → map f xs ≡ map g xs

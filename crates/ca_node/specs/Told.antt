@@ -24,6 +24,8 @@ use Rattle.ca_node.specs.Place.{Span, all_keys, left_of, right_of, HasKey, part,
 use Rattle.ca_node.specs.Row.{IsObjectRow, IsBaseRow, IsRouteRow, count, level, items, IsUnmarked, IsIdle, key, route_key, pair}
 use Rattle.ca_node.specs.Tree.{ArePast, IsFixed}
 use Rattle.ca_node.specs.TreeView.{Note, Way, Renewal, Division, Inventory, TreeView, blank, no_note}
+use Rattle.ca_rows.specs.Layout.{row_words}
+use Rattle.ca_node.specs.Layout.{root_word}
 
 abbrev pub MyTree : Type 0
 MyTree = Mine TreeView
@@ -36,7 +38,7 @@ pub record IsBaseNote (z : Sizes) (note : Note) : Type 0 where
   pub some_row : 0 < note.row
   pub in_range : note.row ≤ z.rows
   pub is_base : IsBaseRow note.its
-  pub long : length note.its ≡ 136
+  pub long : length note.its ≡ row_words
   pub level_is : level note.its ≡ note.place.level
   pub deep : note.place.level ≤ z.levels
   pub most_levels : z.levels ≤ 4096
@@ -45,14 +47,14 @@ pub record IsBaseNote (z : Sizes) (note : Note) : Type 0 where
   -- as many objects as items, each in range, with the words of an object row
   pub named : (r : ℕ) → IsIn r (items note.its) → (0 < r) × (r ≤ z.rows)
   pub as_many : length note.objects ≡ length (items note.its)
-  pub objects_long : (its : List ℕ) → IsIn its note.objects → (length its ≡ 136) × IsObjectRow its
+  pub objects_long : (its : List ℕ) → IsIn its note.objects → (length its ≡ row_words) × IsObjectRow its
 
 -- The route has these words, and stands above the last level; its key is one of those that are led to it.
 pub record IsRouteNote (z : Sizes) (way : Way) : Type 0 where
   pub some_row : 0 < way.row
   pub in_range : way.row ≤ z.rows
   pub is_route : IsRouteRow way.its
-  pub long : length way.its ≡ 136
+  pub long : length way.its ≡ row_words
   pub level_is : level way.its ≡ way.place.level
   pub above : way.place.level < z.levels
   pub short : count way.its ≤ 1000
@@ -74,19 +76,19 @@ IsAlone z u = (z.passes ≡ 1) × (0 < u.number)
 -- The seat knows of the link which keys are led there, and from which level on rows hang there: it is the root link, or one of a route that it
 -- was shown.
 abbrev pub IsKnownLink : TreeView → ℕ → ℕ → Span → Type 0
-IsKnownLink u link least span = ((link ≡ 130) × (least ≡ 0) × (span ≡ all_keys))
+IsKnownLink u link least span = ((link ≡ root_word) × (least ≡ 0) × (span ≡ all_keys))
     ⊎ ((way : Way) × IsIn way u.ways × (least ≡ way.place.level + 1)
-    × (((link ≡ 136 * way.row + 1) × (span ≡ left_of (route_key way.its) way.place.span))
-    ⊎ ((link ≡ 136 * way.row + 2) × (span ≡ right_of (route_key way.its) way.place.span))))
+    × (((link ≡ row_words * way.row + 1) × (span ≡ left_of (route_key way.its) way.place.span))
+    ⊎ ((link ≡ row_words * way.row + 2) × (span ≡ right_of (route_key way.its) way.place.span))))
 
 abbrev pub IsAnyLink : TreeView → ℕ → Type 0
 IsAnyLink u link = (least : ℕ) × (span : Span) × IsKnownLink u link least span
 
 -- the word of a link
 abbrev pub link_word : Link → ℕ
-link_word link.Root = 130
-link_word (link.Left route) = 136 * route + 1
-link_word (link.Right route) = 136 * route + 2
+link_word link.Root = root_word
+link_word (link.Left route) = row_words * route + 1
+link_word (link.Right route) = row_words * route + 2
 
 -- the base that a walk came to last, once a link that names this one was loaded, by a walk or not
 abbrev pub come_to : Bool → TreeView → Note → Note
@@ -153,7 +155,7 @@ IsShownWord u row index word = (its : List ℕ) × (IsShown u row its ⊎ (IsSho
 
 -- A word of a row was loaded: where it was shown, it is the word that was shown.
 abbrev pub IsRead : TreeView → ℕ → ℕ → Type 0
-IsRead u place n = (row index word : ℕ) → place ≡ 136 * row + index → index < 136 → IsShownWord u row index word → n ≡ word
+IsRead u place n = (row index word : ℕ) → place ≡ row_words * row + index → index < row_words → IsShownWord u row index word → n ≡ word
 
 abbrev pub Reads : Step (Unit {0}) → MyTree → ℕ → MyTree → Type 0
 Reads st m n m' = (m' ≡ m) × IsRead m.0.upper st.word n

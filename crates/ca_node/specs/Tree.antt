@@ -13,6 +13,8 @@ use Rattle.ca_node.specs.Place.{IsLinkOf}
 use Rattle.ca_node.specs.Row.{row_at, IsObjectRow, IsBaseRow, items, route_key}
 use Rattle.ca_node.specs.Shape.{Role, Out, Base, Route, IsShape}
 use Rattle.ca_node.specs.TreeView.{Note, Way, Inventory, Ended, TreeView, first_inventory}
+use Rattle.ca_rows.specs.Layout.{row_words}
+use Rattle.ca_node.specs.Layout.{root_word}
 
 abbrev pub StartsWith : History → History → Type 0
 StartsWith history seen = (rest : History) × (history ≡ seen ++ rest)
@@ -24,7 +26,7 @@ ArePast place (entry ∷ log) = (entry.1 ≤ place) × ArePast place log
 
 -- The seat remembers the route whose link this is, or it is the root link.
 abbrev pub IsLinkOfView : TreeView → ℕ → Type 0
-IsLinkOfView u link = (link ≡ 130) ⊎ ((way : Way) × IsIn way u.ways × IsLinkOf way.row link)
+IsLinkOfView u link = (link ≡ root_word) ⊎ ((way : Way) × IsIn way u.ways × IsLinkOf way.row link)
 
 -- The row has the words that the note says, and so have the object rows that it names. It hangs where it hung, or isn't in the tree any more.
 pub record IsTrue (rows : ℕ) (words : List ℕ) (role : ℕ → Role) (note : Note) : Type 0 where
@@ -37,12 +39,12 @@ pub record IsTrue (rows : ℕ) (words : List ℕ) (role : ℕ → Role) (note : 
 
 -- The word of a row is neither one of a route's links nor its join word.
 abbrev pub IsFixed : ℕ → Type 0
-IsFixed index = (index < 136) × (index ≢ 1) × (index ≢ 2) × (index ≢ 3)
+IsFixed index = (index < row_words) × (index ≢ 1) × (index ≢ 2) × (index ≢ 3)
 
 -- The route hangs where it hung, and has the words that it had, but for its links and its join word.
 pub record IsTrueWay (words : List ℕ) (role : ℕ → Role) (way : Way) : Type 0 where
   pub stands : role way.row ≡ Route way.place (route_key way.its)
-  pub spells : (index : ℕ) → IsFixed index → slice_index words (136 * way.row + index) ≡ slice_index way.its index
+  pub spells : (index : ℕ) → IsFixed index → slice_index words (row_words * way.row + index) ≡ slice_index way.its index
 
 -- A pass that was joined into a seat: its log is lawful, and no seat has its number any more.
 pub record IsEnded (made : ℕ) (uppers : List TreeView) (history : History) (x : Ended) : Type 0 where

@@ -17,6 +17,7 @@ use Rattle.ca_node.specs.Place.{Span, HasKey, part, Place}
 use Rattle.ca_node.specs.Row.{count, route_key, pair}
 use Rattle.ca_node.specs.Told.{MyTree, with_upper, IsBaseNote, IsRouteNote, IsKnown, IsAlone, IsShownRoute, link_word}
 use Rattle.ca_node.specs.TreeView.{Note, Way, TreeView}
+use Rattle.ca_rows.specs.Layout.{row_words}
 
 -- A lower bound lets keys in that are less than this one.
 abbrev pub LetsLess : Bound → List ℕ → Type 0
@@ -44,7 +45,7 @@ walked u more note ways loads = record u { seen = u.seen ++ more; notes = note �
 -- The pass was shown the route with these words.
 pub record IsRouteShown (u : TreeView) (row : ℕ) (its : List ℕ) : Type 0 where
   pub shown : IsShownRoute u row its
-  pub long : length its ≡ 136
+  pub long : length its ≡ row_words
   pub short : count its ≤ 1000
 
 -- The route, if one is named, is one that was shown, and its key is the lower bound, or the upper one.
@@ -83,7 +84,7 @@ IsSide left spot.Last key = left ≡ false
 -- The cursor tells where a row hangs to which the routes lead that were shown.
 pub record IsPlaced (z : Sizes) (ways : List Way) (place : Place) (cursor : Cursor) : Type 0 where
   pub link : place.link ≡ link_word cursor.link
-  pub inside : link_word cursor.link < 136 * z.rows + 136
+  pub inside : link_word cursor.link < row_words * z.rows + row_words
   pub above : IsAbove ways cursor.link cursor.above
   pub low : IsLowRoute ways cursor.low place.span.low
   pub high : IsHighRoute ways cursor.high place.span.high
@@ -138,7 +139,7 @@ pub record IsWalked (z : Sizes) (spot : Spot) (m : MyTree) (cursor : Cursor) (m'
   pub sought : IsSought spot note.place.span
   pub cursor_is : IsCursor m'.0.upper.ways note cursor
   -- The link is within the table.
-  pub inside : link_word cursor.link < 136 * z.rows + 136
+  pub inside : link_word cursor.link < row_words * z.rows + row_words
   pub is_base : IsBaseNote z note
   pub has : map pair note.objects ≡ part note.place.span (after m'.0.upper.seen [])
   pub known : IsKnown z m'.0.upper

@@ -7,14 +7,10 @@ ghost use Rattle.ca_rows.specs.Passes.{OnlyReads, IsReading, KeepsList, sizes, k
 ghost use Rattle.ca_node.specs.TreePasses.{tree_of};
 
 use crate::comparing::compare;
+use crate::layout::{FORM, ROUTE};
 use crate::link::Link;
 use crate::rule::{TreePass, TreeSpace};
 use crate::steps::{descend, load_word};
-
-// The form of a row stands above this bit; that of a route is 3.
-const FORM: u64 = 1 << 56;
-
-const ROUTE: u64 = 3;
 
 /// Which base is looked for.
 #[derive(Clone, Copy)]
@@ -60,7 +56,7 @@ pub fn walk(space: &TreeSpace, pass: &mut TreePass, spot: Spot<'_>) -> Cursor
     };
     loop {
         let word = load_word(space, pass, cursor.base, 0);
-        if word / FORM != ROUTE {
+        if word / FORM != ROUTE / FORM {
             let level = (word / 65_536 % 1_099_511_627_776) as u16;
             return Cursor { level, ..cursor };
         }

@@ -1,4 +1,5 @@
 //! Exchanges of a base: updates and splits.
+ghost use Rattle.ca_rows.specs.Layout.{row_words};
 ghost use Rattle.std.specs.Prelude.{◌≡◌, ◌+◌, ◌*◌, ◌<◌, false};
 ghost use Rattle.ca_node.specs.Told.{IsUpdate, HasUpdated, IsDivision, HasDivided, IsMissed, link_word};
 ghost use Rattle.ca_rows.specs.Passes.{CountsSplit, IsOn, KeepsList, sizes, known};
@@ -22,7 +23,7 @@ pub fn replace_base<K: Intent>(
     requires update { IsUpdate (sizes space.now) (known pass.old) new K.update }
     requires old { K.update.old.row ≡ old }
     requires link { K.update.old.place.link ≡ link_word link }
-    requires inside { link_word link < 136 * (sizes space.now).rows + 136 }
+    requires inside { link_word link < row_words * (sizes space.now).rows + row_words }
     ensures frame { KeepsList pass.old pass.new }
     ensures done { HasUpdated result new K.update (known pass.old) (known pass.new) }
     ensures won { result ≡ false → IsMissed K.update.old (known pass.old) }
@@ -46,7 +47,7 @@ pub fn divide_base<K: Plan>(
     requires old { K.division.old.row ≡ old }
     requires route { K.division.route ≡ route }
     requires link { K.division.old.place.link ≡ link_word link }
-    requires inside { link_word link < 136 * (sizes space.now).rows + 136 }
+    requires inside { link_word link < row_words * (sizes space.now).rows + row_words }
     ensures frame { CountsSplit result pass.old pass.new }
     ensures done { HasDivided result K.division (known pass.old) (known pass.new) }
     ensures won { result ≡ false → IsMissed K.division.old (known pass.old) }

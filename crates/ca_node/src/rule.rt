@@ -6,6 +6,7 @@ ghost use Rattle.ca_node.specs.Told.{MayLoad, MaySwap, learnt};
 ghost use Rattle.ca_node.specs.Tree.{IsTree};
 ghost use Rattle.ca_node.specs.TreeView.{blank, ended_with, pinned, unpinned};
 
+use crate::layout::{BASE, FIRST_BASE, ROOT};
 use crate::view::Knowledge;
 use ca_rows::{Pass, RowRule, Sizes, Space};
 
@@ -49,12 +50,12 @@ impl RowRule for TreeRule {
 
     fn open(sizes: &Sizes, word: u32) -> u64 {
         match word {
-            0..130 => 262_144 * sizes.starts.sequence,
-            130 => 1,
+            0..ROOT => 262_144 * sizes.starts.sequence,
+            ROOT => 1,
             131 => sizes.keypos as u64,
             132 => sizes.leaf as u64,
             133 => sizes.levels as u64,
-            136 => 2 << 56,
+            FIRST_BASE => BASE,
             137 => 1 << 32,
             _ => 0,
         }

@@ -1,4 +1,5 @@
 //! Single steps on the words of the tree.
+ghost use Rattle.ca_rows.specs.Layout.{row_words};
 ghost use Rattle.std.specs.Prelude.{◌≡◌, ◌==◌, ℕ, ◌+◌, ◌*◌, ◌<◌, ◌≤◌, List, true, false};
 ghost use mathlib.Core.Option.{none};
 ghost use prog.Atomic.{either};
@@ -11,22 +12,20 @@ ghost use Rattle.ca_rows.specs.Rule.{Ruled};
 ghost use Rattle.ca_rows.specs.Passes.{CountsSplit, OnlyReads, IsReading, KeepsList, sizes, known};
 ghost use Rattle.ca_node.specs.TreePasses.{tree_of};
 
+use crate::layout::ROOT;
 use crate::link::Link;
 use crate::plays::{Descend, Lead, Read};
 use crate::rule::{TreePass, TreeSpace};
 use crate::view::Knowledge;
 use atomic_table::Play;
-use ca_rows::View;
-
-// The word of the root link.
-const ROOT: u32 = 130;
+use ca_rows::{ROW_WORDS, View};
 
 /// One load of a link, the root link or one of a route that the pass was shown. It shows the base that the link names, with the objects that the
 /// base names, or the route. At that moment the base's objects were what the last state of the history has of the keys that are led there. Which
 /// base a walk came to last stays.
 pub fn load_link(space: &TreeSpace, pass: &mut TreePass, link: Link) -> u32
     requires reading { IsReading space.now pass.old }
-    requires inside { link_word link < 136 * (sizes space.now).rows + 136 }
+    requires inside { link_word link < row_words * (sizes space.now).rows + row_words }
     requires known { IsAnyLink (tree_of pass.old) (link_word link) }
     ensures frame { KeepsList pass.old pass.new }
     ensures led { IsLed false (link_word link) (known pass.old) result (known pass.new) }
@@ -37,7 +36,7 @@ pub fn load_link(space: &TreeSpace, pass: &mut TreePass, link: Link) -> u32
 // The same by a walk: where the link names a base, it is the one that a walk came to last.
 pub(crate) fn descend(space: &TreeSpace, pass: &mut TreePass, link: Link) -> u32
     requires reading { IsReading space.now pass.old }
-    requires inside { link_word link < 136 * (sizes space.now).rows + 136 }
+    requires inside { link_word link < row_words * (sizes space.now).rows + row_words }
     requires known { IsAnyLink (tree_of pass.old) (link_word link) }
     ensures frame { KeepsList pass.old pass.new }
     ensures led { IsLed true (link_word link) (known pass.old) result (known pass.new) }
@@ -49,12 +48,12 @@ pub(crate) fn descend(space: &TreeSpace, pass: &mut TreePass, link: Link) -> u32
 /// word.
 pub fn load_word(space: &TreeSpace, pass: &mut TreePass, row: u32, index: u32) -> u64
     requires reading { IsReading space.now pass.old }
-    requires inside { (row ≤ (sizes space.now).rows) × (index < 136) }
+    requires inside { (row ≤ (sizes space.now).rows) × (index < row_words) }
     requires shown { (word : ℕ) × IsShownWord (tree_of pass.old) row index word }
     ensures frame { OnlyReads pass.old pass.new }
     ensures word { (word : ℕ) → IsShownWord (tree_of pass.old) row index word → result ≡ word }
 {
-    space.load::<Read>(pass, 136 * row + index)
+    space.load::<Read>(pass, ROW_WORDS as u32 * row + index)
 }
 
 /// One exchange of a link, of a row that the pass was shown against a row that it may hold. False exactly where the exchange was lost.
@@ -66,7 +65,7 @@ pub fn replace_link<M: Play<(), View<Knowledge>>>(
     new: u32,
 ) -> bool
     requires reading { IsReading space.now pass.old }
-    requires inside { link_word link < 136 * (sizes space.now).rows + 136 }
+    requires inside { link_word link < row_words * (sizes space.now).rows + row_words }
     requires shown { (its : List ℕ) × IsShown (tree_of pass.old) old its }
     requires rule { Allows (Ruled IsLinked IsLent IsNoted IsTree (sizes space.now)) space.now.table.shared.table_id.slots pass.old.seat.id
         (known pass.old) (link_word link) (λ n. either (n == old) new n) (Relinks MaySwap M.then (step space.now.table.shared.table_id.slots
@@ -87,7 +86,7 @@ pub(crate) fn divide_link<M: Play<(), View<Knowledge>>>(
     new: u32,
 ) -> bool
     requires reading { IsReading space.now pass.old }
-    requires inside { link_word link < 136 * (sizes space.now).rows + 136 }
+    requires inside { link_word link < row_words * (sizes space.now).rows + row_words }
     requires rule { Allows (Ruled IsLinked IsLent IsNoted IsTree (sizes space.now)) space.now.table.shared.table_id.slots pass.old.seat.id
         (known pass.old) (link_word link) (λ n. either (n == old) new n) (Relinks MaySwap M.then (step space.now.table.shared.table_id.slots
         (link_word link) old new none) (known pass.old)) }
@@ -105,7 +104,7 @@ fn word_of(link: Link) -> u32
 {
     match link {
         Link::Root => ROOT,
-        Link::Left(route) => 136 * route + 1,
-        Link::Right(route) => 136 * route + 2,
+        Link::Left(route) => ROW_WORDS as u32 * route + 1,
+        Link::Right(route) => ROW_WORDS as u32 * route + 2,
     }
 }

@@ -8,7 +8,7 @@ ghost use Rattle.ca_node.specs.TreePasses.{tree_of};
 
 use atomic_table::Play;
 use ca_node::{Knowledge, TreePass, TreeSpace};
-use ca_rows::View;
+use ca_rows::{ROW_WORDS, View};
 use std::marker::{Brand, PhantomData};
 
 // A call that edits nothing, with its answer.
@@ -66,5 +66,5 @@ fn enter_as<K: Entered>(space: &TreeSpace, pass: &mut TreePass, row: u32, _read:
     ensures frame { KeepsList pass.old pass.new }
     ensures entered { known pass.new ≡ with_upper (known pass.old) (entered (tree_of pass.old) K.event) }
 {
-    space.load::<ReadLast<K>>(pass, 136 * row);
+    space.load::<ReadLast<K>>(pass, ROW_WORDS as u32 * row);
 }

@@ -6,13 +6,14 @@ use Rattle.ca_rows.specs.declared.view.Claim.TheVariants.{Holds, Lends, Unlinked
 use Rattle.ca_rows.specs.Chain.{Owner, Free, Linked, Of}
 use Rattle.ca_rows.specs.Words.{epoch}
 use Rattle.ca_rows.specs.Account.{IsAlone, IsOut, IsClaim, IsRow}
+use Rattle.ca_rows.specs.Layout.{row_words}
 
 module _ (words words' : List ℕ) (L L' B B' : ℕ → Type 0) (N N' : ℕ → ℕ → Type 0)
     (claim claim' : ℕ → ℕ → Option Claim) where
   -- The row is as it was. What nobody can reach keeps its words and gets no note.
   pub record IsAsItWas (r : ℕ) : Type 0 where
-    pub words_are : ¬ L r → (k : ℕ) → k < 136
-        → get_or words' (136 * r + k) 0 ≡ get_or words (136 * r + k) 0
+    pub words_are : ¬ L r → (k : ℕ) → k < row_words
+        → get_or words' (row_words * r + k) 0 ≡ get_or words (row_words * r + k) 0
     pub links : (L' r → L r) × (L r → L' r)
     pub lents : (B' r → B r) × (B r → B' r)
     pub notes : ¬ L r → (m : ℕ) → N' m r → N m r

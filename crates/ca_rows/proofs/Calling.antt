@@ -10,6 +10,7 @@ use Rattle.ca_rows.specs.Calls.{PutsRow}
 use Rattle.ca_rows.specs.Claims.{claim_of, claimed, dropped}
 use Rattle.ca_rows.specs.Told.{Mine, with_stage, with_claims, with_most, missed}
 use Rattle.ca_rows.proofs.Claiming.{dropped_claimed}
+use Rattle.ca_rows.specs.Layout.{row_words}
 
 module _ {U : Type 0} (a b c d : Mine U) (one two : Stage) (looked : b ≡ with_stage a one) where
   peeked_too : c ≡ with_stage b two → c ≡ with_stage a two
@@ -35,7 +36,7 @@ with_its m q its = (record m.0 { claims = claimed q (Holds its) m.0.claims }, m.
 
 -- A load, a store in the row, and an exchange that found n.
 pub row_put : {U : Type 0} (a b c d : Mine U) (one : Stage) (q q' n old : ℕ) (its : List ℕ)
-    → length its ≡ 136 → b ≡ with_stage a one → c ≡ with_its b q its
+    → length its ≡ row_words → b ≡ with_stage a one → c ≡ with_its b q its
     → q' ≡ q
     → (n ≡ old → d ≡ with_claims c (dropped q' c.0.claims)) → (n ≢ old → d ≡ missed c)
     → PutsRow (eqb n old) q a d

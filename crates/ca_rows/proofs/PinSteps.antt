@@ -14,6 +14,7 @@ use Rattle.ca_rows.specs.Rule.{upper_of, pin_of, Ruled}
 use Rattle.ca_rows.specs.Told.{Mine, Asked, Announced, Left, met_of}
 use Rattle.ca_rows.specs.Words.{epoch, announced}
 use Rattle.ca_rows.proofs.Pinned.{NewPin, pins_step, repinned}
+use Rattle.ca_rows.specs.Layout.{row_words}
 
 module _ {U : Type 0} (linked lent : List ℕ → ℕ → Type 0) (noted : List ℕ → U → ℕ → Type 0)
     (fact : Sizes → ℕ → List ℕ → List U → Type 0)
@@ -29,7 +30,7 @@ module _ {U : Type 0} (linked lent : List ℕ → ℕ → Type 0) (noted : List 
   low_agrees us words i x l = record {
     wide = length-set words i x;
     control = λ j lo _. get_or-set_other words i j x 0 (λ e. omega arith);
-    seen = λ r k lo _ _. get_or-set_other words i (136 * r + k) x 0 (λ e. omega arith);
+    seen = λ r k lo _ _. get_or-set_other words i (row_words * r + k) x 0 (λ e. omega arith);
   }
 
   module _ (s : State (Unit {0}) (View U)) (r : R s) (id : ℕ) (d : View U)

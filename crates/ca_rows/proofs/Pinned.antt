@@ -21,6 +21,7 @@ use Rattle.ca_rows.proofs.Accounts.{row_stays}
 use Rattle.ca_rows.proofs.Chains.{chain_stays, stage_stays}
 use Rattle.ca_rows.proofs.Claiming.{claim_mine, claim_others, claim_there}
 use Rattle.ca_rows.proofs.Rules.{all_seats}
+use Rattle.ca_rows.specs.Layout.{row_words}
 
 module _ (made : ℕ) (words words' : List ℕ) (pins : List Pin) (p : ArePins made words pins) (id : ℕ)
     (e e' : Pin) (at : get_elem? pins id ≡ some e) where
@@ -158,7 +159,7 @@ module _ {U : Type 0} (linked lent : List ℕ → ℕ → Type 0) (noted : List 
         (NotedAt noted words' (set s.views id d')) (claim_at s.views) (claim_at (set s.views id d'))
         n.later c
         record {
-          words_are = λ _ k _. n.rows_are (136 * c + k)
+          words_are = λ _ k _. n.rows_are (row_words * c + k)
               (omega arith);
           links = framed.links c;
           lents = framed.lents c;
@@ -187,7 +188,7 @@ module _ {U : Type 0} (linked lent : List ℕ → ℕ → Type 0) (noted : List 
   }
     where
       next : (c : ℕ) → 0 < c → next_of words' c ≡ next_of s.words c
-      next c lo = n.rows_are (136 * c) (omega arith)
+      next c lo = n.rows_are (row_words * c) (omega arith)
 
       stages : (st : Stage) → IsStage z.rows r.owner s.words st → IsStage z.rows r.owner words' st
       stages = let same = ap (λ x. x / 65536) n.head in

@@ -26,6 +26,7 @@ use Rattle.ca_rows.proofs.Accounts.{row_stays}
 use Rattle.ca_rows.proofs.Chains.{chain_stays, stage_stays}
 use Rattle.ca_rows.proofs.Claiming.{claim_mine, claim_others, claim_there}
 use Rattle.ca_rows.proofs.Rules.{all_seats, pins_stay}
+use Rattle.ca_rows.specs.Layout.{row_words}
 
 -- what becomes of a row
 pub data Change : Type 0 where
@@ -85,8 +86,8 @@ module _ {U : Type 0} (linked lent : List ℕ → ℕ → Type 0) (noted : List 
     -- The pool's head, the epoch and the announcements are as they were, and so is each row that
     -- wasn't linked.
     pub low : (i : ℕ) → i < 66 → get_or words' i 0 ≡ get_or s.words i 0
-    pub unlinked_rows : (c k : ℕ) → 0 < c → c ≤ z.rows → ¬ linked s.words c → k < 136
-        → get_or words' (136 * c + k) 0 ≡ get_or s.words (136 * c + k) 0
+    pub unlinked_rows : (c k : ℕ) → 0 < c → c ≤ z.rows → ¬ linked s.words c → k < row_words
+        → get_or words' (row_words * c + k) 0 ≡ get_or s.words (row_words * c + k) 0
     pub changes : (c : ℕ) → 0 < c → c ≤ z.rows → IsChange c (kind c)
     pub in_range : (c : ℕ) (x : Claim) → claim_of d'.claims c ≡ some x → (0 < c) × (c ≤ z.rows)
     -- A new note is a pinned pass's, and on a row that is linked now.
@@ -271,7 +272,7 @@ module _ {U : Type 0} (linked lent : List ℕ → ℕ → Type 0) (noted : List 
 
     next : (c j : ℕ) → 0 < c → c ≤ z.rows → r.owner c ≡ Free j
         → next_of words' c ≡ next_of s.words c
-    next c j lo hi is = let zero_is : 136 * c + 0 ≡ 136 * c = omega arith in
+    next c j lo hi is = let zero_is : row_words * c + 0 ≡ row_words * c = omega arith in
         subst (λ i. get_or words' i 0
         ≡ get_or s.words i 0) zero_is
         (m.unlinked_rows c 0 lo hi (was c (Free j) lo hi is).0.0 (omega arith))

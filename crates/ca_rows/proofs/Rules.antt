@@ -21,6 +21,7 @@ use Rattle.ca_rows.specs.Rule.{upper_of, pin_of, NotedAt, Knows, Ruled}
 use Rattle.ca_rows.specs.Words.{epoch}
 use Rattle.ca_rows.proofs.Accounts.{row_stays}
 use Rattle.ca_rows.proofs.Claiming.{claim_mine, claim_others, claim_there}
+use Rattle.ca_rows.specs.Layout.{row_words}
 
 -- What holds of each seat holds after a step of one.
 pub all_seats : {A : Type 0} (K : ℕ → A → Type 0) (l : List A) (me : ℕ) (w : A) → K me w
@@ -133,8 +134,8 @@ module _ {U : Type 0} (linked lent : List ℕ → ℕ → Type 0) (noted : List 
       pub record Elsewhere (owner' : ℕ → Owner) (c : ℕ) : Type 0 where
         pub owner_is : owner' c ≡ r.owner c
         pub claim_is : claim_of d'.claims c ≡ claim_of d.claims c
-        pub words_are : ¬ linked s.words c → (k : ℕ) → k < 136
-            → get_or words' (136 * c + k) 0 ≡ get_or s.words (136 * c + k) 0
+        pub words_are : ¬ linked s.words c → (k : ℕ) → k < row_words
+            → get_or words' (row_words * c + k) 0 ≡ get_or s.words (row_words * c + k) 0
 
       -- The step keeps the rule, given the row that it changes, the chain, and what the seats know
       -- of the head.

@@ -23,24 +23,25 @@ use Rattle.ca_rows.specs.Words.{IsWide, Spells, head_tag, head_row, next_of}
 use Rattle.ca_rows.proofs.Chains.{put, put_here, put_else, in_head, top_free, top_in_range, chain_stays, chain_takes, chain_gives, stage_stays}
 use Rattle.ca_rows.proofs.Claiming.{claim_mine, claim_others, claim_there, claimed_here, claimed_else, dropped_here, dropped_else}
 use Rattle.ca_rows.proofs.Rules.{St, Rule, uppers, Is, alone_now, keeps_rule}
+use Rattle.ca_rows.specs.Layout.{row_words}
 
 -- the words of a row
 pub row_of : List ℕ → ℕ → List ℕ
-row_of words r = take 136 (drop (136 * r) words)
+row_of words r = take row_words (drop (row_words * r) words)
 
 pub row_of_spells : (words : List ℕ) (r : ℕ) → Spells words r (row_of words r)
 unfolding row_of
 row_of_spells words r k l =
-    sym (get_or-take 136 (drop (136 * r) words) k 0 l ∙ get_or-drop (136 * r) words k 0)
+    sym (get_or-take row_words (drop (row_words * r) words) k 0 l ∙ get_or-drop (row_words * r) words k 0)
 
 pub row_of_long : (words : List ℕ) (rows r : ℕ) → IsWide rows words → r ≤ rows
-    → length (row_of words r) ≡ 136
+    → length (row_of words r) ≡ row_words
 unfolding row_of
 row_of_long words rows r wide hi =
-    length-take-le 136 (drop (136 * r) words) (omega (arith, length-drop (136 * r) words))
+    length-take-le row_words (drop (row_words * r) words) (omega (arith, length-drop (row_words * r) words))
 
 -- The place of a word tells its row and its index.
-apart : (r q k i : ℕ) → k < 136 → i < 136 → 136 * r + k ≡ 136 * q + i → (r ≡ q) × (k ≡ i)
+apart : (r q k i : ℕ) → k < row_words → i < row_words → row_words * r + k ≡ row_words * q + i → (r ≡ q) × (k ≡ i)
 apart r q k i a b e = (omega arith, omega arith)
 
 at_map_back : {A B : Type 0} (f : A → B) (l : List A) (i : ℕ) (b : B)
@@ -152,13 +153,13 @@ module _ {U : Type 0} (linked lent : List ℕ → ℕ → Type 0) (noted : List 
   seen_in (Knew t q x) = (t, q, x)
 
   pub peeks : (slots id : ℕ) (me : Mine U) (t q : ℕ) → me.0.stage ≡ Saw t q → 0 < q
-      → Allows R slots id me (136 * q) (λ x. x) (Peeked (step slots (136 * q) 0 0 none) me)
-  peeks slots id me t q is lo s r _ at small = let x : ℕ = get_or s.words (136 * q) 0 in
+      → Allows R slots id me (row_words * q) (λ x. x) (Peeked (step slots (row_words * q) 0 0 none) me)
+  peeks slots id me t q is lo s r _ at small = let x : ℕ = get_or s.words (row_words * q) 0 in
       let k = subst (IsStage z.rows r.owner s.words) is (r.seat id me.0 at).stage_is in (
         record me.0 { stage = Knew t q x },
         keeps,
         tt,
-        loaded s r (136 * q) id me.0 (Knew t q x) me.0.lost me.0.empty me.0.worn at (
+        loaded s r (row_words * q) id me.0 (Knew t q x) me.0.lost me.0.empty me.0.worn at (
           k.0,
           λ e. (k.1 e lo, refl),
         ),
@@ -182,7 +183,7 @@ module _ {U : Type 0} (linked lent : List ℕ → ℕ → Type 0) (noted : List 
   head_agrees us words x = record {
     wide = length-set words 0 x;
     control = λ i lo hi. get_or-set_other words 0 i x 0 (λ e. omega arith);
-    seen = λ r k lo _ _. get_or-set_other words 0 (136 * r + k) x 0 (λ e. omega arith);
+    seen = λ r k lo _ _. get_or-set_other words 0 (row_words * r + k) x 0 (λ e. omega arith);
   }
 
   head_else : (words : List ℕ) (x i : ℕ) → 0 < i → get_or (set words 0 x) i 0 ≡ get_or words i 0
@@ -275,11 +276,11 @@ module _ {U : Type 0} (linked lent : List ℕ → ℕ → Type 0) (noted : List 
           (λ i l _. head_else s.words _ i l) refl refl q
           (put r.owner q (Of id)) m
           (chain_takes z.rows r.owner s.words new_head r.count r.chain q m (Of id)
-          (λ k e. cc) lo hi is count row' (λ c l. head_else s.words _ (136 * c) (omega arith)))
+          (λ k e. cc) lo hi is count row' (λ c l. head_else s.words _ (row_words * c) (omega arith)))
           (λ c l _ n. record {
             owner_is = put_else r.owner q (Of id) c n;
             claim_is = claimed_else d.claims q c _ n;
-            words_are = λ _ k _. head_else s.words _ (136 * c + k) (omega arith);
+            words_are = λ _ k _. head_else s.words _ (row_words * c + k) (omega arith);
           })
           (λ _ _. subst (Is linked lent noted fact frames z s r id d taken at refl refl new_head
           (head_agrees (uppers linked lent noted fact frames z s) s.words _) q)
@@ -289,7 +290,7 @@ module _ {U : Type 0} (linked lent : List ℕ → ℕ → Type 0) (noted : List 
               claim_mine s.views id d taken at q ∙ claimed_here d.claims q _,
               (
                 row_of_long s.words z.rows q r.wide hi,
-                (λ k l. head_else s.words _ (136 * q + k) (omega arith)
+                (λ k l. head_else s.words _ (row_words * q + k) (omega arith)
                     ∙ row_of_spells s.words q k l),
                 alone_now linked lent noted fact frames z s r id d taken at refl refl new_head
                     (head_agrees (uppers linked lent noted fact frames z s) s.words _) q free.0,
@@ -303,26 +304,26 @@ module _ {U : Type 0} (linked lent : List ℕ → ℕ → Type 0) (noted : List 
 
     -- A row that the seat holds is written.
     module _ (q k v : ℕ) (its : List ℕ) (held : claim_of d.claims q ≡ some (Holds its))
-        (inside : k < 136) where
+        (inside : k < row_words) where
       abbrev written : View U
       written = record d { claims = claimed q (Holds (set its k v)) d.claims }
 
       abbrev new_words : List ℕ
-      new_words = set s.words (136 * q + k) v
+      new_words = set s.words (row_words * q + k) v
 
-      else_word : (c i : ℕ) → i < 136 → c ≢ q
-          → get_or new_words (136 * c + i) 0 ≡ get_or s.words (136 * c + i) 0
-      else_word c i l n = get_or-set_other s.words (136 * q + k) (136 * c + i) v 0
+      else_word : (c i : ℕ) → i < row_words → c ≢ q
+          → get_or new_words (row_words * c + i) 0 ≡ get_or s.words (row_words * c + i) 0
+      else_word c i l n = get_or-set_other s.words (row_words * q + k) (row_words * c + i) v 0
           (λ e. n (apart c q i k l inside e).0)
 
-      low_word : (i : ℕ) → i < 136 → get_or new_words i 0 ≡ get_or s.words i 0
+      low_word : (i : ℕ) → i < row_words → get_or new_words i 0 ≡ get_or s.words i 0
       low_word i l = let o = owned q (Holds its) held in let some_q = o.0 in
-          get_or-set_other s.words (136 * q + k) i v 0 (λ e. omega arith)
+          get_or-set_other s.words (row_words * q + k) i v 0 (λ e. omega arith)
 
       write_agrees : Agrees linked lent noted fact (uppers linked lent noted fact frames z s)
           s.words new_words
       write_agrees = let o = owned q (Holds its) held in let alone = o.3.2 in record {
-        wide = length-set s.words (136 * q + k) v;
+        wide = length-set s.words (row_words * q + k) v;
         control = λ i _ l. low_word i l;
         seen = λ c i _ who l. else_word c i l
             (λ (e : c ≡ q). ⊎_elim (λ (y : linked s.words c). alone.0 (subst (linked s.words) e y))
@@ -334,18 +335,18 @@ module _ {U : Type 0} (linked lent : List ℕ → ℕ → Type 0) (noted : List 
       free_next : (c j : ℕ) → r.owner c ≡ Free j → next_of new_words c ≡ next_of s.words c
       free_next c j is = let o = owned q (Holds its) held in
           let n : c ≢ q = λ f. let y : Of id ≡ Free j = sym o.2 ∙ (ap r.owner (sym f) ∙ is) in cc in
-          let zero_is : 136 * c + 0 ≡ 136 * c = omega arith in
+          let zero_is : row_words * c + 0 ≡ row_words * c = omega arith in
           subst (λ i. get_or new_words i 0
           ≡ get_or s.words i 0) zero_is (else_word c 0 (omega arith) n)
 
       spells_now : Spells new_words q (set its k v)
       spells_now i l = let o = owned q (Holds its) held in let hi = o.1 in let wide = r.wide in
-          let long : length its ≡ 136 = o.3.0 in dite (ℕ_discrete i k)
-          (λ (e : i ≡ k). ap (λ (j : ℕ). get_or new_words (136 * q + j) 0) e
-          ∙ (get_or-set_same s.words (136 * q + k) v 0 (omega arith)
+          let long : length its ≡ row_words = o.3.0 in dite (ℕ_discrete i k)
+          (λ (e : i ≡ k). ap (λ (j : ℕ). get_or new_words (row_words * q + j) 0) e
+          ∙ (get_or-set_same s.words (row_words * q + k) v 0 (omega arith)
           ∙ sym (ap (λ (j : ℕ). get_or (set its k v) j 0) e
           ∙ get_or-set_same its k v 0 (omega arith))))
-          (λ n. get_or-set_other s.words (136 * q + k) (136 * q + i) v 0 (λ e. n (omega arith))
+          (λ n. get_or-set_other s.words (row_words * q + k) (row_words * q + i) v 0 (λ e. n (omega arith))
           ∙ (o.3.1 i l ∙ sym (get_or-set_other its k i v 0 n)))
 
       write_step : R record { words = new_words; homes = s.homes; views = set s.views id written }
@@ -405,11 +406,11 @@ module _ {U : Type 0} (linked lent : List ℕ → ℕ → Type 0) (noted : List 
           let parts = in_head t q (omega arith) in
           let tag : head_tag head_with ≡ head_tag s.words = ap (λ n. n / 65536) head
           ∙ (parts.0 ∙ sym (ap (λ n. n / 65536) found ∙ (in_head t h small).0)) in
-          let zero_is : 136 * q + 0 ≡ 136 * q = omega arith in
+          let zero_is : row_words * q + 0 ≡ row_words * q = omega arith in
           let its_next : next_of s.words q ≡ get_or its 0 0 = subst
           (λ i. get_or s.words i 0 ≡ get_or its 0 0) zero_is (o.3.1 0 (omega arith)) in
           let next' : next_of head_with q ≡ head_row s.words =
-          head_else s.words _ (136 * q) (let some_q = o.0 in omega arith)
+          head_else s.words _ (row_words * q) (let some_q = o.0 in omega arith)
           ∙ (its_next ∙ (next ∙ sym (ap (λ n. n % 65536) found ∙ (in_head t h small).1))) in
           let not_free : (k : ℕ) → r.owner q ≢ Free k = λ k e. let y : Of id ≡ Free k = sym o.2
           ∙ e in cc in
@@ -420,11 +421,11 @@ module _ {U : Type 0} (linked lent : List ℕ → ℕ → Type 0) (noted : List 
           (put r.owner q (Free r.count)) (suc r.count)
           (chain_gives z.rows r.owner s.words head_with r.count r.chain q not_free o.0 hi (ap
           (λ n. n % 65536) head
-          ∙ parts.1) next' (λ c l _. head_else s.words _ (136 * c) (omega arith)))
+          ∙ parts.1) next' (λ c l _. head_else s.words _ (row_words * c) (omega arith)))
           (λ c l _ n. record {
             owner_is = put_else r.owner q (Free r.count) c n;
             claim_is = dropped_else d.claims q c n;
-            words_are = λ _ k _. head_else s.words _ (136 * c + k) (omega arith);
+            words_are = λ _ k _. head_else s.words _ (row_words * c + k) (omega arith);
           })
           (λ _ _. subst (Is linked lent noted fact frames z s r id d given at refl refl head_with
           agrees q) (sym (put_here r.owner q (Free r.count) q refl)) (
@@ -447,7 +448,7 @@ module _ {U : Type 0} (linked lent : List ℕ → ℕ → Type 0) (noted : List 
               put_else r.owner q (Free r.count) c
                   (λ f. not_free j (ap r.owner (sym f) ∙ e)) ∙ e,
             ),
-            head_else s.words _ (136 * c) (omega arith),
+            head_else s.words _ (row_words * c) (omega arith),
           ))) tt
 
   at_hit : (n old new : ℕ) → n ≡ old → either (eqb n old) new n ≡ new
@@ -522,8 +523,8 @@ module _ {U : Type 0} (linked lent : List ℕ → ℕ → Type 0) (noted : List 
     ),
   )
 
-  pub writes : (slots id : ℕ) (me : Mine U) (i q k v : ℕ) (its : List ℕ) → i ≡ 136 * q + k
-      → claim_of me.0.claims q ≡ some (Holds its) → k < 136
+  pub writes : (slots id : ℕ) (me : Mine U) (i q k v : ℕ) (its : List ℕ) → i ≡ row_words * q + k
+      → claim_of me.0.claims q ≡ some (Holds its) → k < row_words
       → Allows R slots id me i (λ _. v) (λ _. Wrote (step slots i v 0 none) me v)
   writes slots id me i q k v its is held inside s r _ at _ = (
     written s r id me.0 at q k v its held inside,

@@ -5,6 +5,7 @@ use Rattle.ca_rows.specs.declared.view.Claim.{Claim}
 use Rattle.ca_rows.specs.declared.view.Claim.TheVariants.{Holds, Lends, Unlinked, Keeps, Returns}
 use Rattle.ca_rows.specs.Chain.{Owner, Free, Linked, Of}
 use Rattle.ca_rows.specs.Words.{epoch, Spells}
+use Rattle.ca_rows.specs.Layout.{row_words}
 
 -- IsLinked, IsLent: of the words. Noted m r: a pass that was pinned at the epoch m has a note on the row r. claim j r: why the row r is the seat j's
 module _ (words : List ℕ) (IsLinked IsLent : ℕ → Type 0) (Noted : ℕ → ℕ → Type 0) where
@@ -17,11 +18,11 @@ module _ (words : List ℕ) (IsLinked IsLent : ℕ → Type 0) (Noted : ℕ → 
   IsOut r age = ¬ IsLinked r × (age ≤ epoch words) × ((m : ℕ) → Noted m r → m ≤ age)
 
   abbrev pub IsClaim : ℕ → Claim → Type 0
-  IsClaim r (Holds its) = (length its ≡ 136) × Spells words r its × IsAlone r
+  IsClaim r (Holds its) = (length its ≡ row_words) × Spells words r its × IsAlone r
   IsClaim r Lends = IsLent r ⊎ ((age : ℕ) × IsOut r age)
   IsClaim r Unlinked = (age : ℕ) × IsOut r age
   IsClaim r (Keeps t) = (age : ℕ) × (age ≤ t) × (t ≤ epoch words) × IsOut r age
-  IsClaim r (Returns t its) = (t ≤ epoch words) × (length its ≡ 136) × Spells words r its × IsAlone r
+  IsClaim r (Returns t its) = (t ≤ epoch words) × (length its ≡ row_words) × Spells words r its × IsAlone r
 
   -- A row is free, linked, or one seat's and no other's.
   abbrev pub IsRow : (ℕ → ℕ → Option Claim) → ℕ → Owner → Type 0

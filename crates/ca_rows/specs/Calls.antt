@@ -12,6 +12,7 @@ use Rattle.ca_rows.specs.declared.view.Pin.{Pin}
 use Rattle.ca_rows.specs.declared.view.View.{View}
 use Rattle.ca_rows.specs.Claims.{claim_of, claimed, dropped}
 use Rattle.ca_rows.specs.Told.{Mine, with_claims, with_most, found_empty, found_worn, missed, relinked}
+use Rattle.ca_rows.specs.Layout.{row_words}
 
 module _ {U : Type 0} where
   -- The seat is one of this table, and knows what the space was made with.
@@ -51,7 +52,7 @@ module _ {U : Type 0} where
   -- each is counted, once and nowhere else.
   abbrev pub TakesRow : Taken → Mine U → Mine U → Type 0
   TakesRow (Row r) m m' = (0 < r) × (r ≤ m.0.sizes.rows) × (claim_of m.0.claims r ≡ none)
-      × ((its : List ℕ) × (length its ≡ 136) × (m' ≡ with_most (with_claims m (claimed r (Holds its) m.0.claims))))
+      × ((its : List ℕ) × (length its ≡ row_words) × (m' ≡ with_most (with_claims m (claimed r (Holds its) m.0.claims))))
   TakesRow Empty m m' = (t : ℕ) × (m' ≡ found_empty m t)
   TakesRow Lost m m' = m' ≡ missed m
   TakesRow Worn m m' = (r : ℕ) × (0 < r) × (m' ≡ found_worn m r)
@@ -59,7 +60,7 @@ module _ {U : Type 0} where
   -- The row is the pool's again, or the exchange lost, and the pass holds it still.
   abbrev pub PutsRow : Bool → ℕ → Mine U → Mine U → Type 0
   PutsRow true r m m' = m' ≡ with_claims m (dropped r m.0.claims)
-  PutsRow false r m m' = (its : List ℕ) × (length its ≡ 136) × (m' ≡ missed (with_claims m (claimed r (Holds its) m.0.claims)))
+  PutsRow false r m m' = (its : List ℕ) × (length its ≡ row_words) × (m' ≡ missed (with_claims m (claimed r (Holds its) m.0.claims)))
 
 -- The pass has this number, which its announcement goes by.
 abbrev pub IsNumbered : ℕ → Pin → Type 0

@@ -5,6 +5,7 @@ use lib.ListN.{get_elem?}
 use Rattle.ca_rows.specs.declared.sizes.Sizes.{Sizes}
 use Rattle.ca_rows.specs.Opening.{AreInBounds, AreUsable}
 use Rattle.ca_rows.specs.Words.{IsWide}
+use Rattle.ca_rows.specs.Layout.{row_words}
 
 module _ {U : Type 0} (linked lent : List ℕ → ℕ → Type 0) (noted : List ℕ → U → ℕ → Type 0) (fact : Sizes → ℕ → List ℕ → List U → Type 0) where
   -- A seat has a note on the row.
@@ -14,8 +15,8 @@ module _ {U : Type 0} (linked lent : List ℕ → ℕ → Type 0) (noted : List 
   -- The rule above doesn't see the difference: its control words are the same, and so is each row that is linked or noted.
   pub record Agrees (uppers : List U) (words others : List ℕ) : Type 0 where
     pub wide : length others ≡ length words
-    pub control : (i : ℕ) → 66 ≤ i → i < 136 → slice_index others i ≡ slice_index words i
-    pub seen : (r k : ℕ) → 0 < r → linked words r ⊎ IsNoted words uppers r → k < 136 → slice_index others (136 * r + k) ≡ slice_index words (136 * r + k)
+    pub control : (i : ℕ) → 66 ≤ i → i < row_words → slice_index others i ≡ slice_index words i
+    pub seen : (r k : ℕ) → 0 < r → linked words r ⊎ IsNoted words uppers r → k < row_words → slice_index others (row_words * r + k) ≡ slice_index words (row_words * r + k)
 
   -- The upper fact stays, the same rows are linked and lent, and nobody has a note more.
   pub record Framed (z : Sizes) (made : ℕ) (uppers : List U) (words others : List ℕ) : Type 0 where

@@ -4,6 +4,7 @@ pub mod Chain
 pub mod Claims
 pub mod Closed
 pub mod Kept
+pub mod Layout
 pub mod Laws
 pub mod Opening
 pub mod Owned

@@ -10,6 +10,7 @@ use Rattle.ca_rows.specs.declared.view.Stage.TheVariants.{Idle, Saw, Knew}
 use Rattle.ca_rows.specs.declared.view.Claimed.{Claimed}
 use Rattle.ca_rows.specs.declared.view.View.{View}
 use Rattle.ca_rows.specs.Claims.{claim_of, claimed, dropped, held_count}
+use Rattle.ca_rows.specs.Layout.{row_words}
 
 abbrev pub Mine : Type 0 → Type 0
 Mine U = Me (Unit {0}) (View U)
@@ -65,18 +66,18 @@ module _ {U : Type 0} where
   -- The row was taken, or the exchange lost. It expected the head that was seen last.
   abbrev pub Took : Step (Unit {0}) → Mine U → ℕ → Mine U → Type 0
   Took st m n m' = Expects m.0.stage st.first × ((t q x : ℕ) → m.0.stage ≡ Knew t q x →
-      (n ≡ st.first → (claim_of m.0.claims q ≡ none) × ((its : List ℕ) × (length its ≡ 136)
+      (n ≡ st.first → (claim_of m.0.claims q ≡ none) × ((its : List ℕ) × (length its ≡ row_words)
       × (m' ≡ with_most (with_claims m (claimed q (Holds its) m.0.claims)))))
       × (n ≢ st.first → m' ≡ missed m))
 
   -- A word of a held row was loaded: it is the one that the seat knows.
   abbrev pub Recalled : Step (Unit {0}) → Mine U → ℕ → Mine U → Type 0
-  Recalled st m n m' = (m' ≡ m) × ((q k : ℕ) (its : List ℕ) → st.word ≡ 136 * q + k → k < 136 → claim_of m.0.claims q ≡ some (Holds its)
+  Recalled st m n m' = (m' ≡ m) × ((q k : ℕ) (its : List ℕ) → st.word ≡ row_words * q + k → k < row_words → claim_of m.0.claims q ≡ some (Holds its)
       → n ≡ slice_index its k)
 
   -- A word of a held row was written.
   abbrev pub Wrote : Step (Unit {0}) → Mine U → ℕ → Mine U → Type 0
-  Wrote st m n m' = (q k : ℕ) (its : List ℕ) → st.word ≡ 136 * q + k → k < 136 → claim_of m.0.claims q ≡ some (Holds its)
+  Wrote st m n m' = (q k : ℕ) (its : List ℕ) → st.word ≡ row_words * q + k → k < row_words → claim_of m.0.claims q ≡ some (Holds its)
       → m' ≡ (record m.0 { claims = claimed q (Holds (slice_set its k n)) m.0.claims }, m.1)
 
   -- A held row was put back, or the exchange lost. It expected the head that was seen last.
@@ -128,4 +129,4 @@ module _ {U : Type 0} where
 
   -- The pass holds a row that it kept.
   abbrev pub Regained : ℕ → Step (Unit {0}) → Mine U → ℕ → Mine U → Type 0
-  Regained q st m n m' = (its : List ℕ) × (length its ≡ 136) × (m' ≡ with_most (record m.0 { claims = claimed q (Holds its) m.0.claims }, m.1))
+  Regained q st m n m' = (its : List ℕ) × (length its ≡ row_words) × (m' ≡ with_most (record m.0 { claims = claimed q (Holds its) m.0.claims }, m.1))

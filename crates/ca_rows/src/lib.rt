@@ -5,6 +5,7 @@ mod above;
 mod close;
 mod fault;
 mod kept;
+mod layout;
 mod make;
 mod opening;
 mod pin;
@@ -24,6 +25,7 @@ mod words;
 
 pub use fault::RowsFault;
 pub use kept::{Kept, KeptRows};
+pub use layout::ROW_WORDS;
 pub use reclaimed::Reclaimed;
 pub use rule::{RowRule, Rows};
 pub use sizes::{Sizes, Starts};

@@ -1,7 +1,9 @@
 //! The words of a space at the start.
+ghost use Rattle.ca_rows.specs.Layout.{row_words};
 ghost use Rattle.std.specs.Prelude.{◌≡◌, ℕ, ◌+◌, ◌*◌, ◌<◌, ◌≤◌, length, slice_index, IfOk};
 ghost use Rattle.ca_rows.specs.Opening.{AreInBounds, IsOpening};
 
+use crate::layout::ROW_WORDS;
 use crate::rule::RowRule;
 use crate::sizes::Sizes;
 use std::alloc::{AllocError, Global};
@@ -11,7 +13,7 @@ pub(crate) fn opening<R: RowRule>(alloc: Global, sizes: &Sizes) -> Result<Vec<u6
     requires { AreInBounds sizes.now }
     ensures { IfOk result (λ words. IsOpening R.opens sizes.now words.items) }
 {
-    let mut words = Vec::from_elem(alloc, 0_u64, 136 * sizes.rows as usize + 136)?;
+    let mut words = Vec::from_elem(alloc, 0_u64, ROW_WORDS * sizes.rows as usize + ROW_WORDS)?;
     fill::<R>(words.as_mut_slice(), sizes);
     Ok(words)
 }
@@ -19,7 +21,7 @@ pub(crate) fn opening<R: RowRule>(alloc: Global, sizes: &Sizes) -> Result<Vec<u6
 // Fills words that are all 0.
 fn fill<R: RowRule>(words: &mut [u64], sizes: &Sizes)
     requires bounds { AreInBounds sizes.now }
-    requires wide { length words.old ≡ 136 * sizes.now.rows + 136 }
+    requires wide { length words.old ≡ row_words * sizes.now.rows + row_words }
     requires zeros { (i : ℕ) → slice_index words.old i ≡ 0 }
     ensures { IsOpening R.opens sizes.now words.new }
 {
@@ -47,15 +49,15 @@ fn fill_above<R: RowRule>(words: &mut [u64], sizes: &Sizes)
 
 // Chains the rows from 2 on, in rising order.
 fn chain(words: &mut [u64], rows: usize)
-    requires { (length words.old ≡ 136 * rows + 136) × (2 ≤ rows) × (rows ≤ 65535) }
+    requires { (length words.old ≡ row_words * rows + row_words) × (2 ≤ rows) × (rows ≤ 65535) }
     ensures length { length words.new ≡ length words.old }
-    ensures next { (r : ℕ) → 2 ≤ r → r < rows → slice_index words.new (136 * r) ≡ r + 1 }
+    ensures next { (r : ℕ) → 2 ≤ r → r < rows → slice_index words.new (row_words * r) ≡ r + 1 }
     ensures before { (i : ℕ) → i < 272 → slice_index words.new i ≡ slice_index words.old i }
-    ensures last { slice_index words.new (136 * rows) ≡ slice_index words.old (136 * rows) }
+    ensures last { slice_index words.new (row_words * rows) ≡ slice_index words.old (row_words * rows) }
 {
     let mut row = 2;
     while row < rows {
-        words[136 * row] = row as u64 + 1;
+        words[ROW_WORDS * row] = row as u64 + 1;
         row += 1;
     }
 }

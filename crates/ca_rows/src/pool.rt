@@ -1,4 +1,5 @@
 //! Rows are taken from the pool of free rows, read and written while a pass holds them, and put back.
+ghost use Rattle.ca_rows.specs.Layout.{row_words};
 ghost use Rattle.std.specs.Prelude.{◌≡◌, ℕ, ◌<◌, ◌≤◌, List, length, slice_index, slice_set};
 ghost use mathlib.Core.Option.{some};
 ghost use Rattle.ca_rows.specs.declared.view.Claim.TheVariants.{Holds as IsHeld};
@@ -6,6 +7,7 @@ ghost use Rattle.ca_rows.specs.Claims.{claim_of, claimed};
 ghost use Rattle.ca_rows.specs.Calls.{TakesRow, PutsRow};
 ghost use Rattle.ca_rows.specs.Passes.{OnlyReads, IsOn, StillKeepsList, sizes, known, view};
 
+use crate::layout::ROW_WORDS;
 use crate::plays::{Give, Glance, Look, Peek, Recall, Take, Write};
 use crate::rule::RowRule;
 use crate::space::{Pass, Space};
@@ -30,7 +32,7 @@ impl<R: RowRule> Space<R> {
         let next = self
             .table
             .shared
-            .load::<Peek>(&mut pass.seat, 136 * row as usize);
+            .load::<Peek>(&mut pass.seat, ROW_WORDS * row as usize);
         let old = tag * 65_536 + row;
         let new = (tag + 1) * 65_536 + next % 65_536;
         let found = self
@@ -48,20 +50,20 @@ impl<R: RowRule> Space<R> {
     pub fn read_word(&self, pass: &mut Pass<R>, row: u32, index: u32) -> u64
         requires own { IsOn self.now pass.old }
         requires held { (its : List ℕ) × (claim_of (view pass.old).claims row ≡ some (IsHeld its)) }
-        requires inside { (row ≤ (sizes self.now).rows) × (index < 136) }
+        requires inside { (row ≤ (sizes self.now).rows) × (index < row_words) }
         ensures frame { OnlyReads pass.old pass.new }
         ensures word { (its : List ℕ) → claim_of (view pass.old).claims row ≡ some (IsHeld its) → result ≡ slice_index its index }
     {
         self.table
             .shared
-            .load::<Recall>(&mut pass.seat, 136 * row as usize + index as usize)
+            .load::<Recall>(&mut pass.seat, ROW_WORDS * row as usize + index as usize)
     }
 
     /// Writes a word of a row that the pass holds.
     pub fn write_word(&self, pass: &mut Pass<R>, row: u32, index: u32, value: u64)
         requires own { IsOn self.now pass.old }
         requires held { (its : List ℕ) × (claim_of (view pass.old).claims row ≡ some (IsHeld its)) }
-        requires inside { (row ≤ (sizes self.now).rows) × (index < 136) }
+        requires inside { (row ≤ (sizes self.now).rows) × (index < row_words) }
         ensures frame { StillKeepsList pass.old pass.new }
         ensures written { (its : List ℕ) → claim_of (view pass.old).claims row ≡ some (IsHeld its)
             → known pass.new ≡ (
@@ -69,15 +71,17 @@ impl<R: RowRule> Space<R> {
               pass.old.seat.me.1,
             ) }
     {
-        self.table
-            .shared
-            .store::<Write>(&mut pass.seat, 136 * row as usize + index as usize, value);
+        self.table.shared.store::<Write>(
+            &mut pass.seat,
+            ROW_WORDS * row as usize + index as usize,
+            value,
+        );
     }
 
     /// Puts a row back that the pass holds. False exactly where the exchange lost: the pass holds the row still.
     pub fn put_row(&self, pass: &mut Pass<R>, row: u32) -> bool
         requires own { IsOn self.now pass.old }
-        requires held { (its : List ℕ) × (length its ≡ 136) × (claim_of (view pass.old).claims row ≡ some (IsHeld its)) }
+        requires held { (its : List ℕ) × (length its ≡ row_words) × (claim_of (view pass.old).claims row ≡ some (IsHeld its)) }
         requires inside { row ≤ (sizes self.now).rows }
         ensures frame { StillKeepsList pass.old pass.new }
         ensures given { PutsRow result row (known pass.old) (known pass.new) }

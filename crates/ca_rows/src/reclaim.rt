@@ -1,4 +1,5 @@
 //! Passes give back the rows that they keep, once nobody can have a note on them.
+ghost use Rattle.ca_rows.specs.Layout.{row_words};
 ghost use Rattle.std.specs.Prelude.{◌≡◌, ◌↔◌, IsTrue, ℕ, ◌+◌, ◌-◌, ◌<◌, ◌≤◌, ◌++◌, cond, true, false, List, length, take, drop, slice_index_or, vec_len, vec_capacity};
 ghost use Rattle.std.specs.declared.option.Option.TheVariants.{None, Some};
 ghost use mathlib.Core.Option.{some};
@@ -22,7 +23,7 @@ impl<R: RowRule> Space<R> {
         requires own { IsOn self.now pass.old }
         requires old { (t : ℕ) × (claim_of (view pass.old).claims K.about ≡ some (IsKept t)) × (t + 2 ≤ (view pass.old).pin.scan) }
         ensures frame { KeepsList pass.old pass.new }
-        ensures held { (its : List ℕ) × (length its ≡ 136) × (known pass.new ≡ with_most
+        ensures held { (its : List ℕ) × (length its ≡ row_words) × (known pass.new ≡ with_most
             (record (view pass.old) { claims = claimed K.about (IsHeld its) (view pass.old).claims }, pass.old.seat.me.1)) }
     {
         self.table.shared.load::<Regain<K>>(&mut pass.seat, 1);

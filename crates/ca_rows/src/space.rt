@@ -1,4 +1,5 @@
 //! The words of a space, and its passes.
+ghost use Rattle.ca_rows.specs.Layout.{row_words};
 ghost use Rattle.std.specs.Prelude.{◌≡◌, ◌+◌, ◌*◌, ◌<◌, ◌≤◌, IsSome};
 ghost use Rattle.std.specs.Option.{ForSome};
 ghost use Rattle.ca_rows.specs.Owned.{HasNoSlot, IsOwnSeat};
@@ -20,7 +21,7 @@ pub struct Space<R: RowRule> {
     pub(crate) sizes: Sizes,
     pub(crate) made: u32,
     pub ghost same: { sizes ≡ table.shared.key },
-    pub ghost sized: { table.shared.table_id.words ≡ 136 * table.shared.key.rows + 136 },
+    pub ghost sized: { table.shared.table_id.words ≡ row_words * table.shared.key.rows + row_words },
     pub ghost no_slots: { table.shared.table_id.slots ≡ 0 },
     pub ghost few: { (0 < table.shared.key.rows) × (table.shared.key.rows < 65536) },
     pub ghost passes: { (made ≤ sizes.passes) × (sizes.passes ≤ 64) },

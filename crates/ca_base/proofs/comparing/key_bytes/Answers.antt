@@ -4,6 +4,7 @@ use Rattle.ca_node.proofs.WordOrder.{bytes_long}
 use Rattle.ca_base.proofs.Items.{word_shown, as_shown}
 use Rattle.ca_base.proofs.ObjectBytes.{clipped}
 use Rattle.ca_base.proofs.comparing.key_bytes.Goals as goal
+use Rattle.ca_node.specs.Layout.{body_word}
 
 pub load_word-word-requires-clause-shown : goal.load_word-word-requires-clause-shown
 load_word-word-requires-clause-shown c =
@@ -11,11 +12,11 @@ load_word-word-requires-clause-shown c =
 
 pub returns-clause-key : goal.returns-clause-key
 returns-clause-key c its shown = let long = shown.long in
-    let bytes : List ℕ = bytes_in (drop 11 its) in
+    let bytes : List ℕ = bytes_in (drop body_word its) in
     let word =
     as_shown c.args.pass.now.seat.me.0.upper _ _ _ c.load_word-word.ensures.word its
     shown.shown in
-    let all : length bytes ≡ 1000 = omega (arith, bytes_long (drop 11 its), length-drop 11 its) in
+    let all : length bytes ≡ 1000 = omega (arith, bytes_long (drop body_word its), length-drop body_word its) in
     let end : ℕ = c.min-end.result in let start : ℕ = c.min-start.result in
     let len : ℕ = c.min-len.result in
     let e : end ≡ min (length bytes) (count its) = c.min-end.ensures

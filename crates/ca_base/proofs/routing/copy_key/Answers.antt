@@ -8,10 +8,11 @@ use Rattle.ca_base.proofs.Items.{word_shown, as_shown}
 use Rattle.ca_node.proofs.WordOrder.{bytes_long}
 use Rattle.ca_base.proofs.SplitKeys.{next_part}
 use Rattle.ca_base.proofs.routing.copy_key.Goals as goal
+use Rattle.ca_node.specs.Layout.{body_word}
 
 pub load_word-requires-clause-shown : goal.load_word-requires-clause-shown
 load_word-requires-clause-shown c = let s = c.requires.shown in
-    word_shown c.loop-at.pass.seat.me.0.upper c.args.row (11 + c.loop-at.at / 8) (
+    word_shown c.loop-at.pass.seat.me.0.upper c.args.row (body_word + c.loop-at.at / 8) (
       s.0,
       subst (λ (m : MyTree). IsShown m.0.upper c.args.row s.0) (sym c.loop-at.invariant.still)
           s.1.shown,
@@ -30,25 +31,25 @@ loop-at-preserved c = let start : ℕ = c.key_bytes-start.result.0 in
     let copied = λ (its : List ℕ)
     (shown : IsObjectShown c.args.pass.now.seat.me.0.upper c.args.row its).
     let long = shown.long in
-    let all : 8 * length (drop 11 its) ≡ 1000 = omega (arith, length-drop 11 its) in
+    let all : 8 * length (drop body_word its) ≡ 1000 = omega (arith, length-drop body_word its) in
     let s = subst (λ (m : MyTree). IsShown m.0.upper c.args.row its) (sym i.still) shown.shown in
-    let word : c.load_word.result ≡ get_or (drop 11 its) (at / 8) 0 =
-    as_shown c.loop-at.pass.seat.me.0.upper c.args.row (11 + at / 8) c.load_word.result
-    c.load_word.ensures.word its s ∙ sym (get_or-drop 11 its (at / 8) 0) in
+    let word : c.load_word.result ≡ get_or (drop body_word its) (at / 8) 0 =
+    as_shown c.loop-at.pass.seat.me.0.upper c.args.row (body_word + at / 8) c.load_word.result
+    c.load_word.ensures.word its s ∙ sym (get_or-drop body_word its (at / 8) 0) in
     c.append.ensures
     ∙ (ap (λ (bs : List ℕ).
     c.loop-at.into.items ++ take (at % 8 + (to - at) - at % 8) (drop (at % 8) bs)) bytes
     ∙ (ap (λ (k : ℕ).
     c.loop-at.into.items ++ take k (drop (at % 8) (to_be_bytes w64 c.load_word.result))) n
-    ∙ next_part (drop 11 its) c.loop-at.into.items start at to c.load_word.result low (omega arith)
+    ∙ next_part (drop body_word its) c.loop-at.into.items start at to c.load_word.result low (omega arith)
     (omega arith) (omega arith) word (i.copied its shown))) in
     let its : List ℕ = c.requires.shown.0 in let long = c.requires.shown.1.long in
-    let there : length (drop start (bytes_in (drop 11 its))) ≡ 1000 - start =
+    let there : length (drop start (bytes_in (drop body_word its))) ≡ 1000 - start =
     omega (
       arith,
-      length-drop start (bytes_in (drop 11 its)),
-      bytes_long (drop 11 its),
-      length-drop 11 its,
+      length-drop start (bytes_in (drop body_word its)),
+      bytes_long (drop body_word its),
+      length-drop body_word its,
     ) in
     record {
       own = search rules;
@@ -60,6 +61,6 @@ loop-at-preserved c = let start : ℕ = c.key_bytes-start.result.0 in
       low = omega arith;
       high = omega arith;
       many = ap (λ (xs : List ℕ). length xs) (copied its c.requires.shown.1)
-          ∙ length-take-le (to - start) (drop start (bytes_in (drop 11 its))) (omega arith);
+          ∙ length-take-le (to - start) (drop start (bytes_in (drop body_word its))) (omega arith);
       copied = copied;
     }

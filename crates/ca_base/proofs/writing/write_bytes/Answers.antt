@@ -3,6 +3,7 @@ use Rattle.ca_base.specs.Writing.{HasEight}
 use Rattle.ca_base.proofs.Filling.{begins, goes_on}
 use Rattle.ca_base.proofs.Words.{eight_at}
 use Rattle.ca_base.proofs.writing.write_bytes.Goals as goal
+use Rattle.ca_node.specs.Layout.{body_word}
 
 pub set_word-requires-clause-own : goal.set_word-requires-clause-own
 set_word-requires-clause-own c = c.loop-place.invariant.0.of
@@ -12,7 +13,7 @@ set_word-requires-clause-held c = c.loop-place.invariant.0.held
 
 pub loop-place-init : goal.loop-place-init
 loop-place-init c = (
-  begins _ _ c.args.row 11 (HasEight c.args.bytes.now) c.args.pass.now.seat c.requires.own
+  begins _ _ c.args.row body_word (HasEight c.args.bytes.now) c.args.pass.now.seat c.requires.own
       c.requires.held,
   refl,
   refl,
@@ -21,7 +22,7 @@ loop-place-init c = (
 
 pub loop-place-preserved : goal.loop-place-preserved
 loop-place-preserved c = let i = c.loop-place.invariant in (
-  goes_on _ _ c.args.row 11 (HasEight c.args.bytes.now) c.args.pass.now.seat c.loop-place.pass.seat
+  goes_on _ _ c.args.row body_word (HasEight c.args.bytes.now) c.args.pass.now.seat c.loop-place.pass.seat
       c.set_word.new.pass.seat c.loop-place.place
       _ _ (omega arith) (omega arith)
       (eight_at c.args.bytes.now c.loop-place.place _ c.word_of-word.ensures) i.0

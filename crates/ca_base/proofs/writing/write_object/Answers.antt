@@ -3,6 +3,8 @@ use Rattle.ca_base.specs.Writing.{IsFilled}
 use Rattle.ca_base.proofs.Filling.{rewritten, rewritten_again}
 use Rattle.ca_base.proofs.Spelling.{spells_object}
 use Rattle.ca_base.proofs.writing.write_object.Goals as goal
+use Rattle.ca_rows.specs.Layout.{row_words}
+use Rattle.ca_node.specs.Layout.{body_word}
 
 pub write_bytes-requires-clause-held : goal.write_bytes-requires-clause-held
 write_bytes-requires-clause-held c = let h = c.requires.held in
@@ -38,7 +40,7 @@ returns-clause-written c = let h = c.requires.held in let form : ℕ = c.object_
           (length-set h.0 0 form ∙ h.1)
           (get_or-set_same h.0 0 form 0 (omega (arith, h.1))) told.form told.key_length
           told.key_place told.count place.2 more.1
-          (subst (λ n. IsFilled (11 + n) (136 - (11 + n))
+          (subst (λ n. IsFilled (body_word + n) (row_words - (body_word + n))
           (λ _ word. word ≡ 0) more.0 last.0) words last.1),
       rewritten_again c.args.row more.0 last.0 c.args.pass.now.seat.me
           c.write_bytes.new.pass.seat.me c.clear.new.pass.seat.me

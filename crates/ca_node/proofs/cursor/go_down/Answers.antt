@@ -4,17 +4,18 @@ use Rattle.ca_node.specs.Told.{MyTree, IsAnyLink, IsLed}
 use Rattle.ca_node.specs.Walking.{IsSide}
 use Rattle.ca_node.proofs.Walks.{route_shown, left_any, right_any, goes_left_on, goes_right_on}
 use Rattle.ca_node.proofs.cursor.go_down.Goals as goal
+use Rattle.ca_rows.specs.Layout.{row_words}
 
 pub descend-requires-clause-known : goal.descend-requires-clause-known
 descend-requires-clause-known c = subst
-    (λ (m : MyTree). IsAnyLink m.0.upper (136 * c.args.cursor.base + 1))
+    (λ (m : MyTree). IsAnyLink m.0.upper (row_words * c.args.cursor.base + 1))
     (sym c.goes_left.ensures.frame.still)
     (left_any c.args.space.now.table.shared.key c.args.spot c.requires.at.0 c.args.cursor
     c.args.pass.now.seat.me c.requires.at.1)
 
 pub descend-requires-else-goes_left-clause-known : goal.descend-requires-else-goes_left-clause-known
 descend-requires-else-goes_left-clause-known c =
-    subst (λ (m : MyTree). IsAnyLink m.0.upper (136 * c.args.cursor.base + 2))
+    subst (λ (m : MyTree). IsAnyLink m.0.upper (row_words * c.args.cursor.base + 2))
     (sym c.goes_left.ensures.frame.still)
     (right_any c.args.space.now.table.shared.key c.args.spot c.requires.at.0 c.args.cursor
     c.args.pass.now.seat.me c.requires.at.1)
@@ -29,7 +30,7 @@ returns-then-goes_left-clause-walking c m at =
     (route_shown c.args.space.now.table.shared.key c.args.spot m c.args.cursor
     c.args.pass.now.seat.me at)))
     (subst (λ (x : MyTree).
-    IsLed true (136 * c.args.cursor.base + 1) x c.descend.result c.descend.new.pass.seat.me)
+    IsLed true (row_words * c.args.cursor.base + 1) x c.descend.result c.descend.new.pass.seat.me)
     c.goes_left.ensures.frame.still
     c.descend.ensures.led)
 
@@ -43,6 +44,6 @@ returns-else-goes_left-clause-walking c m at =
     (route_shown c.args.space.now.table.shared.key c.args.spot m c.args.cursor
     c.args.pass.now.seat.me at)))
     (subst (λ (x : MyTree).
-    IsLed true (136 * c.args.cursor.base + 2) x c.descend-else-goes_left.result
+    IsLed true (row_words * c.args.cursor.base + 2) x c.descend-else-goes_left.result
     c.descend-else-goes_left.new.pass.seat.me)
     c.goes_left.ensures.frame.still c.descend-else-goes_left.ensures.led)

@@ -33,7 +33,7 @@ overflow_cast-level c =
     let at = is_at_base c.args.space.now.table.shared.key c.args.spot c.args.pass.now.seat.me
     c.loop-level.cursor c.loop-level.pass.seat.me
     c.loop-level.invariant.walking c.load_word-word.result c.load_word-word.ensures.word
-    c.if-word-ne-ROUTE.true in
+    c.if-word.true in
     let level =
     level_told c.args.space.now.table.shared.key c.args.spot c.args.pass.now.seat.me
     c.loop-level.cursor c.loop-level.pass.seat.me at
@@ -41,12 +41,12 @@ overflow_cast-level c =
     let deep = at.is_base.deep in let most = at.is_base.most_levels in
     omega arith
 
-pub returns-then-word-ne-ROUTE-clause-walked : goal.returns-then-word-ne-ROUTE-clause-walked
-returns-then-word-ne-ROUTE-clause-walked c =
+pub returns-then-word-clause-walked : goal.returns-then-word-clause-walked
+returns-then-word-clause-walked c =
     let at = is_at_base c.args.space.now.table.shared.key c.args.spot c.args.pass.now.seat.me
     c.loop-level.cursor c.loop-level.pass.seat.me
     c.loop-level.invariant.walking c.load_word-word.result c.load_word-word.ensures.word
-    c.if-word-ne-ROUTE.true in
+    c.if-word.true in
     let level =
     level_told c.args.space.now.table.shared.key c.args.spot c.args.pass.now.seat.me
     c.loop-level.cursor c.loop-level.pass.seat.me at
@@ -69,7 +69,7 @@ go_down-cursor-requires-clause-at c = (
       (is_at_route c.args.space.now.table.shared.key c.args.spot c.args.pass.now.seat.me
       c.loop-level.cursor c.loop-level.pass.seat.me
       c.loop-level.invariant.walking c.load_word-word.result c.load_word-word.ensures.word
-      c.if-word-ne-ROUTE.false),
+      c.if-word.false),
 )
 
 pub loop-level-smaller : goal.loop-level-smaller
@@ -78,7 +78,7 @@ loop-level-smaller c =
     let at = is_at_route z c.args.spot c.args.pass.now.seat.me c.loop-level.cursor
     c.loop-level.pass.seat.me
     c.loop-level.invariant.walking c.load_word-word.result c.load_word-word.ensures.word
-    c.if-word-ne-ROUTE.false in
+    c.if-word.false in
     one_load_less c.args.pass.now.seat.me.0.upper.loads c.loop-level.pass.seat.me.0.upper.loads
     c.go_down-cursor.new.pass.seat.me.0.upper.loads z.levels
     (few_left z c.args.spot c.args.pass.now.seat.me c.loop-level.cursor c.loop-level.pass.seat.me
@@ -102,5 +102,5 @@ loop-level-preserved c = record {
       (is_at_route c.args.space.now.table.shared.key c.args.spot c.args.pass.now.seat.me
       c.loop-level.cursor c.loop-level.pass.seat.me
       c.loop-level.invariant.walking c.load_word-word.result c.load_word-word.ensures.word
-      c.if-word-ne-ROUTE.false));
+      c.if-word.false));
 }

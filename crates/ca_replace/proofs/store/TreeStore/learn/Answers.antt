@@ -9,6 +9,7 @@ use Rattle.ca_replace.proofs.Entries.{held_upper}
 use Rattle.ca_replace.proofs.Showing.{led_further}
 use Rattle.ca_replace.proofs.Turns.{none_pinned, rests_as, rests_again}
 use Rattle.ca_replace.proofs.store.TreeStore.learn.Goals as goal
+use Rattle.ca_node.specs.Layout.{root_word}
 
 pub load_link-requires-clause-known : goal.load_link-requires-clause-known
 load_link-requires-clause-known c = (0, all_keys, inl (refl, refl, refl))
@@ -31,11 +32,11 @@ keep_few-requires c = let tree = c.self.inside.tree.now in
       },
       m.1,
     )) learnt in
-    let led = led_further z 130 c.pin.new.pass.seat.me c.load_link.new.pass.seat.me
+    let led = led_further z root_word c.pin.new.pass.seat.me c.load_link.new.pass.seat.me
     c.load_link.result c.load_link.ensures.led
     (ap (λ (m : MyTree). m.0.sizes) both ∙ c.self.invariant.of.1) tree.space.few.0 in
     let counts =
-    led_counts false 130 c.pin.new.pass.seat.me c.load_link.new.pass.seat.me c.load_link.result
+    led_counts false root_word c.pin.new.pass.seat.me c.load_link.new.pass.seat.me c.load_link.result
     c.load_link.ensures.led in record {
       resting = rests_as table z pass.number c.unpin.new.pass.number c.load_link.new.pass.kept
           c.unpin.new.pass.kept c.unpin.new.pass.seat

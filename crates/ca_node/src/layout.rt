@@ -1,0 +1,23 @@
+//! Where the words of a tree stand, and what the first word of a row tells.
+use ca_rows::ROW_WORDS;
+
+/// The word of the root link.
+pub const ROOT: u32 = 130;
+
+/// The first word of the base in row 1, which is there at the start.
+pub const FIRST_BASE: u32 = ROW_WORDS as u32;
+
+/// What a row is stands in its first word above this bit.
+pub const FORM: u64 = 1 << 56;
+
+/// An object row.
+pub const OBJECT: u64 = 1 << 56;
+
+/// A base row.
+pub const BASE: u64 = 2 << 56;
+
+/// A route.
+pub const ROUTE: u64 = 3 << 56;
+
+/// The first word of an object's bytes, of a base's items and of the bytes of a route's key.
+pub const BODY: u32 = 11;
