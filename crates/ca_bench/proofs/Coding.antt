@@ -7,7 +7,7 @@ use Rattle.ca_term.specs.Tree.{Tree, IsTerm}
 use Rattle.ca_term.specs.declared.bounds.TheConstants.{MOST_CODE_BYTES}
 use Rattle.ca_model.specs.StoreMap.{Pair, IsPair}
 use Rattle.ca_order.specs.KeyParts.{IsKeyParts}
-use Rattle.ca_merge.proofs.Pairs.{pair_of_object}
+use Rattle.ca_explain.proofs.Pairs.{pair_of_object}
 use Rattle.ca_table.proofs.KeyParts.{has_code}
 
 -- The code of an object with its key's part is a pair.

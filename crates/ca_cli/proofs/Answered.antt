@@ -2,8 +2,8 @@
 use Rattle.std.proofs.Common.{◌≡◌, ℕ, List, [], ◌++◌, map, sym, ◌∙◌, ap, subst}
 use Rattle.ca_term.specs.Tree.{Tree}
 use Rattle.ca_model.specs.Known.{Known}
-use Rattle.ca_merge.specs.Stands.{Stands}
-use Rattle.ca_merge.proofs.Filters.{empty_stands, same_table}
+use Rattle.ca_explain.specs.Stands.{Stands}
+use Rattle.ca_explain.proofs.Filters.{empty_stands, same_table}
 use Rattle.ca_cmd.specs.File.{Numbered, commands_in}
 use Rattle.ca_cmd.specs.Output.{client_lines, table_text}
 use Rattle.ca_cli.specs.Headline.{IsAnswer}

@@ -5,10 +5,10 @@ use Rattle.ca_term.specs.Tree.{Tree}
 use Rattle.ca_ets.specs.Command.{Command, Response, Continuation, Never}
 use Rattle.ca_ets.specs.InOrder.{run_in_order}
 use Rattle.ca_model.specs.Known.{Known, IsSameStore}
-use Rattle.ca_merge.specs.Steps.{Steps}
-use Rattle.ca_merge.proofs.Alone.{alone}
-use Rattle.ca_merge.proofs.Learning.{same_store}
-use Rattle.ca_merge.specs.Stands.{Stands}
+use Rattle.ca_explain.specs.Steps.{Steps}
+use Rattle.ca_explain.proofs.Alone.{alone}
+use Rattle.ca_explain.proofs.Learning.{same_store}
+use Rattle.ca_explain.specs.Stands.{Stands}
 use Rattle.ca_cmd.specs.File.{Numbered, commands_in}
 use Rattle.ca_cmd.specs.Generator.{generated}
 use Rattle.ca_cmd.specs.Output.{answer_lines, client_lines}

@@ -5,8 +5,8 @@ use Rattle.std.specs.Prelude.{sum_by, Ok, Err}
 use Rattle.ca_term.specs.Tree.{Tree}
 use Rattle.ca_ets.specs.Command.{Answer}
 use Rattle.ca_model.specs.Known.{Known}
-use Rattle.ca_merge.specs.Stands.{Stands}
-use Rattle.ca_merge.proofs.Filters.{empty_stands, same_table}
+use Rattle.ca_explain.specs.Stands.{Stands}
+use Rattle.ca_explain.proofs.Filters.{empty_stands, same_table}
 use Rattle.ca_cmd.specs.File.{commands_in}
 use Rattle.ca_cli.specs.Headline.{AreReplies, AllAreReplies}
 use Rattle.ca_cli.specs.InTurn.{run_in_turn}

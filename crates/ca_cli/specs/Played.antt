@@ -5,8 +5,8 @@ use Rattle.ca_ets.specs.Command.{Command, Response, Continuation, Never}
 use Rattle.ca_ets.specs.InOrder.{run_in_order}
 use Rattle.ca_ets.specs.Step.{step}
 use Rattle.ca_model.specs.Known.{Known, IsSameStore}
-use Rattle.ca_merge.specs.Carries.{Gives}
-use Rattle.ca_merge.specs.Stands.{Stands}
+use Rattle.ca_explain.specs.Carries.{Gives}
+use Rattle.ca_explain.specs.Stands.{Stands}
 use Rattle.ca_cmd.specs.File.{Numbered, commands_in}
 use Rattle.ca_cmd.specs.Output.{answer_lines, client_lines}
 use Rattle.ca_cli.specs.InTurn.{answers_of, run_in_turn}

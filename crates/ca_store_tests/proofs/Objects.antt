@@ -6,9 +6,9 @@ use Rattle.ca_term.specs.Tree.{Tree}
 use Rattle.ca_model.specs.StoreMap.{Pair, IsPair}
 use Rattle.ca_model.specs.History.{Edit}
 use Rattle.ca_model.specs.Function.{StandsAt}
-use Rattle.ca_merge.proofs.Pairs.{pair_of_object}
+use Rattle.ca_explain.proofs.Pairs.{pair_of_object}
 use Rattle.ca_table.specs.Codes.{HasObjectCode}
-use Rattle.ca_scripted.specs.Script.{IsProper, AreProper}
+use Rattle.ca_test_store.specs.Script.{IsProper, AreProper}
 use Rattle.ca_store_tests.specs.Samples.{HasKeyAt}
 
 -- A part that is cut out of bytes stands there.

@@ -2,15 +2,15 @@
 ghost use Rattle.std.specs.Prelude.{◌≡◌, ◌≤◌, IfOk, IfSome};
 ghost use Rattle.ca_term.specs.Object.{is_object};
 ghost use Rattle.ca_term.specs.Tree.{IsTerm};
-ghost use Rattle.ca_scripted.specs.Script.{IsProper, AreProper};
+ghost use Rattle.ca_test_store.specs.Script.{IsProper, AreProper};
 ghost use Rattle.ca_store_tests.specs.Samples.{HasKeyAt};
 
 use crate::player::lines_of;
 use ca_ets::Cmd;
 use ca_model::Code;
 use ca_order::{encode, object_parts};
-use ca_scripted::Foreign;
 use ca_term::{Kind, Term};
+use ca_test_store::Foreign;
 use std::alloc::{AllocError, Global};
 
 #[tactic(auto, using(ca_table::proofs::KeyParts::tuple_is))]

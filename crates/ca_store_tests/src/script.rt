@@ -2,8 +2,8 @@
 use crate::edit::edits;
 use crate::player::{CAUSE, LEVEL, lines_of, play};
 use ca_model::{Counter, OrderedStore};
-use ca_scripted::{Refusal, Scripted, Turn};
 use ca_table::Table;
+use ca_test_store::{Refusal, Scripted, Turn};
 use std::alloc::{AllocError, Global};
 
 // What a table has before its script begins.

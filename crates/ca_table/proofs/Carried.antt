@@ -8,10 +8,10 @@ use Rattle.ca_ets.specs.Command.{Continuation, Items, Truth}
 use Rattle.ca_ets.specs.Step.{is_found}
 use Rattle.ca_ets.specs.declared.command.Cmd.TheVariants.{InsertNew, Member, Delete, Take}
 use Rattle.ca_model.specs.Event.{Get, WriteNew, Remove}
-use Rattle.ca_merge.specs.Carries.{Carries}
-use Rattle.ca_merge.proofs.Filters.{put_stands, del_stands}
-use Rattle.ca_merge.proofs.Founds.{absent, present, found, found_object, del_none}
-use Rattle.ca_merge.proofs.Keys.{key_is_term}
+use Rattle.ca_explain.specs.Carries.{Carries}
+use Rattle.ca_explain.proofs.Filters.{put_stands, del_stands}
+use Rattle.ca_explain.proofs.Founds.{absent, present, found, found_object, del_none}
+use Rattle.ca_explain.proofs.Keys.{key_is_term}
 
 found_some : (t : List Tree) → t ≢ [] → is_found t ≡ true
 found_some [] some = absurd (some refl)

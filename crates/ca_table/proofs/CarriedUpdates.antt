@@ -16,10 +16,10 @@ use Rattle.ca_ets.specs.declared.command.Cmd.TheVariants.{UpdateCounter, UpdateE
 use Rattle.ca_model.specs.StoreMap as bytes
 use Rattle.ca_model.specs.StoreMap.{StoreMap, IsFound}
 use Rattle.ca_model.specs.Event.{Get, Change}
-use Rattle.ca_merge.specs.Stands.{Stands}
-use Rattle.ca_merge.specs.Carries.{Carries}
-use Rattle.ca_merge.proofs.Filters.{put_stands, same_code}
-use Rattle.ca_merge.proofs.Founds.{absent, found, found_object}
+use Rattle.ca_explain.specs.Stands.{Stands}
+use Rattle.ca_explain.specs.Carries.{Carries}
+use Rattle.ca_explain.proofs.Filters.{put_stands, same_code}
+use Rattle.ca_explain.proofs.Founds.{absent, found, found_object}
 use Rattle.ca_table.proofs.SamePut.{put_same}
 
 same_object : (p : ℕ) (o : Tree) → is_object p o ≡ true → Tuple (row_of (elements_of o)) ≡ o

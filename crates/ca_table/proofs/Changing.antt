@@ -18,7 +18,7 @@ use Rattle.ca_model.specs.Event.{Change}
 use Rattle.ca_model.specs.Function.{KeepsKey, MayLeave, StandsAt}
 use Rattle.ca_model.specs.Known.{Known, Meets}
 use Rattle.ca_model.specs.Answer.{Altered, IfDone}
-use Rattle.ca_merge.proofs.Pairs.{pair_of_object}
+use Rattle.ca_explain.proofs.Pairs.{pair_of_object}
 use Rattle.ca_table.specs.Renewed.{IsObjectCode, IsWritten, Renews, Update, Updated}
 use Rattle.ca_table.proofs.ReadBack.{met_pair, row_of_pair}
 

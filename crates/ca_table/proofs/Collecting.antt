@@ -20,13 +20,13 @@ use Rattle.ca_ets.specs.declared.command.Reply.{Reply}
 use Rattle.ca_model.specs.declared.outcome.Outcome.{Outcome}
 use Rattle.ca_model.specs.declared.outcome.Outcome.TheVariants as outcome
 use Rattle.ca_model.specs.Answer.{IfDone}
-use Rattle.ca_merge.proofs.Filters.{same_code}
+use Rattle.ca_explain.proofs.Filters.{same_code}
 use Rattle.ca_table.specs.Refusals.{IsParted}
 use Rattle.ca_model.specs.Runs.{HandedOut, HasCounted, Opens, Reaches}
 use Rattle.ca_model.proofs.Edits.{map_after, map_filter}
-use Rattle.ca_merge.proofs.Calls.{beside_run_meets, both_beside_run, one_read}
-use Rattle.ca_merge.proofs.Pairs.{object_of_pair}
-use Rattle.ca_merge.proofs.Results.{keyed_append, keyed_none, keyed_some, last_append}
+use Rattle.ca_explain.proofs.Calls.{beside_run_meets, both_beside_run, one_read}
+use Rattle.ca_explain.proofs.Pairs.{object_of_pair}
+use Rattle.ca_explain.proofs.Results.{keyed_append, keyed_none, keyed_some, last_append}
 use Rattle.ca_table.specs.Collected.{AddsObject, Adds, AreCollected, AreObjectsOf, AreResults, AreUpTo, AreWithin, CountsOnly, IsLastOf, IsObjectOf, IsOpenRun, is_full, left_of, wanted}
 use Rattle.ca_table.specs.ComesTo.{EditsNothing}
 use Rattle.ca_table.proofs.Listed.{terms_more}

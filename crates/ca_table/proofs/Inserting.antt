@@ -9,9 +9,9 @@ use Rattle.ca_ets.specs.declared.command.Cmd.TheVariants.{Insert, InsertNew}
 use Rattle.ca_model.specs.StoreMap.{Pair, IsPair}
 use Rattle.ca_model.specs.Event.{Event, Write, WriteNew}
 use Rattle.ca_model.specs.Known.{Known, Meets, Stays}
-use Rattle.ca_merge.proofs.Calls.{stays_meets}
-use Rattle.ca_merge.proofs.Carrying.{insert_put}
-use Rattle.ca_merge.proofs.Pairs.{pair_of_object}
+use Rattle.ca_explain.proofs.Calls.{stays_meets}
+use Rattle.ca_explain.proofs.Carrying.{insert_put}
+use Rattle.ca_explain.proofs.Pairs.{pair_of_object}
 use Rattle.ca_table.specs.Codes.{HasObjectCode}
 use Rattle.ca_table.proofs.Carried.{insert_new_call}
 use Rattle.ca_table.specs.ComesTo.{StepsOnce}

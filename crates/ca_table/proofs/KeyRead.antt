@@ -9,8 +9,8 @@ use Rattle.ca_order.specs.Languages.{IsTermCode}
 use Rattle.ca_order.specs.Reads.{IsDecodeFault}
 use Rattle.ca_order.specs.declared.fault.DecodeFault.{DecodeFault}
 use Rattle.ca_order.specs.declared.fault.DecodeFault.TheVariants as decode
-use Rattle.ca_merge.proofs.Filters.{same_code}
-use Rattle.ca_merge.proofs.Keys.{key_is_term}
+use Rattle.ca_explain.proofs.Filters.{same_code}
+use Rattle.ca_explain.proofs.Keys.{key_is_term}
 use Rattle.ca_table.specs.Renewed.{IsObjectCode}
 use Rattle.ca_table.proofs.KeyParts.{KeyStands, key_stands, has_parts}
 

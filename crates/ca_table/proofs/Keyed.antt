@@ -10,10 +10,10 @@ use Rattle.ca_model.specs.Event.{Get, Remove}
 use Rattle.ca_model.specs.Known.{Known, Meets}
 use Rattle.ca_model.specs.Answer.{Got, Removed}
 use Rattle.ca_model.specs.declared.outcome.Changed.TheVariants as changed
-use Rattle.ca_merge.specs.Steps.{Refrains, Overtaken}
-use Rattle.ca_merge.proofs.Calls.{one_read, one_read_left}
-use Rattle.ca_merge.proofs.Carrying.{lookup_found, lookup_absent}
-use Rattle.ca_merge.proofs.Overtaking.{overtaken}
+use Rattle.ca_explain.specs.Steps.{Refrains, Overtaken}
+use Rattle.ca_explain.proofs.Calls.{one_read, one_read_left}
+use Rattle.ca_explain.proofs.Carrying.{lookup_found, lookup_absent}
+use Rattle.ca_explain.proofs.Overtaking.{overtaken}
 use Rattle.ca_table.specs.Codes.{HasKeyCode, IsOnly}
 use Rattle.ca_table.specs.Refusals.{RemovedSame}
 use Rattle.ca_table.proofs.ReadBack.{found_code}

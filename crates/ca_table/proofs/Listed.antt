@@ -10,10 +10,10 @@ use Rattle.ca_ets.specs.OrderedMap as terms
 use Rattle.ca_ets.specs.OrderedMap.{IsTable, IsEntry}
 use Rattle.ca_model.specs.StoreMap.{Pair, StoreMap, AreAbove, IsStoreMap, IsPair}
 use Rattle.ca_model.specs.Slab.{nothing}
-use Rattle.ca_merge.specs.Stands.{Stands, pair_of}
-use Rattle.ca_merge.proofs.Filters.{same_code}
-use Rattle.ca_merge.proofs.Keys.{key_is_term}
-use Rattle.ca_merge.proofs.Pairs.{object_of_pair}
+use Rattle.ca_explain.specs.Stands.{Stands, pair_of}
+use Rattle.ca_explain.proofs.Filters.{same_code}
+use Rattle.ca_explain.proofs.Keys.{key_is_term}
+use Rattle.ca_explain.proofs.Pairs.{object_of_pair}
 
 -- These terms are the first objects of the map.
 pub record AreListed (p : ℕ) (m : StoreMap) (at : ℕ) (ts : List Tree) : Type 0 where

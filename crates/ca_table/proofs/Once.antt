@@ -4,9 +4,9 @@ use Rattle.ca_ets.specs.Command.{Command, Continuation, Response}
 use Rattle.ca_ets.specs.Step.{nature_of}
 use Rattle.ca_model.specs.Event.{Entry, Event}
 use Rattle.ca_model.specs.Known.{Known, Meets}
-use Rattle.ca_merge.specs.Carries.{Carries}
-use Rattle.ca_merge.specs.Steps.{Refrains, Steps}
-use Rattle.ca_merge.proofs.Calls.{one_call, one_call_left, then_call, then_call_left}
+use Rattle.ca_explain.specs.Carries.{Carries}
+use Rattle.ca_explain.specs.Steps.{Refrains, Steps}
+use Rattle.ca_explain.proofs.Calls.{one_call, one_call_left, then_call, then_call_left}
 use Rattle.ca_table.specs.ComesTo.{StepsOnce, reads_before}
 
 none_before : {A : Type 0} {es : List A} (n : ℕ) → es ≡ [] → length es ≤ n

@@ -11,7 +11,7 @@ use Rattle.ca_model.specs.History.{History, after, by_pass, AreEdits}
 use Rattle.ca_model.specs.Event.{Event, Get, Above, Below, effect}
 use Rattle.ca_model.specs.Known.{Known, Meets}
 use Rattle.ca_model.proofs.Edits.{map_after, map_filter, found_pair}
-use Rattle.ca_merge.proofs.Pairs.{object_of_pair}
+use Rattle.ca_explain.proofs.Pairs.{object_of_pair}
 use Rattle.ca_table.specs.Renewed.{IsObjectCode}
 
 -- The first edits of a history of edits.

@@ -8,8 +8,8 @@ use Rattle.ca_model.specs.declared.outcome.Outcome.TheVariants as outcome
 use Rattle.ca_model.specs.declared.outcome.Cause.TheVariants as cause
 use Rattle.ca_model.specs.Answer.{IsNeverDeep}
 use Rattle.ca_model.specs.Known.{Known, one_more}
-use Rattle.ca_merge.specs.Steps.{Refrains}
-use Rattle.ca_merge.proofs.Calls.{then_refusal}
+use Rattle.ca_explain.specs.Steps.{Refrains}
+use Rattle.ca_explain.proofs.Calls.{then_refusal}
 use Rattle.ca_table.specs.ComesTo.{HasOutcome}
 use Rattle.ca_table.specs.Refusals.{IsRefusal}
 

@@ -28,15 +28,15 @@ use Rattle.ca_model.specs.Known.{Known}
 use Rattle.ca_table.specs.Collected.{Adds, AddsObject, IsPlaceOf}
 use Rattle.ca_table.specs.declared.batch.Place.TheVariants as place
 use Rattle.ca_table.proofs.Keyed.{got_none, got_some}
-use Rattle.ca_merge.specs.Carries.{Gives}
-use Rattle.ca_merge.specs.Stands.{Stands}
-use Rattle.ca_merge.specs.Steps.{Refrains}
-use Rattle.ca_merge.proofs.Calls.{one_read}
-use Rattle.ca_merge.proofs.Edged.{within_all, within_between, within_past}
-use Rattle.ca_merge.proofs.Founds.{absent, found_object}
-use Rattle.ca_merge.proofs.Pairs.{pair_of_object}
-use Rattle.ca_merge.proofs.Results.{keyed_append, results_chosen, batch_full, batch_last, batch_none}
-use Rattle.ca_merge.proofs.Within.{run_begins, run_is}
+use Rattle.ca_explain.specs.Carries.{Gives}
+use Rattle.ca_explain.specs.Stands.{Stands}
+use Rattle.ca_explain.specs.Steps.{Refrains}
+use Rattle.ca_explain.proofs.Calls.{one_read}
+use Rattle.ca_explain.proofs.Edged.{within_all, within_between, within_past}
+use Rattle.ca_explain.proofs.Founds.{absent, found_object}
+use Rattle.ca_explain.proofs.Pairs.{pair_of_object}
+use Rattle.ca_explain.proofs.Results.{keyed_append, results_chosen, batch_full, batch_last, batch_none}
+use Rattle.ca_explain.proofs.Within.{run_begins, run_is}
 use Rattle.ca_table.proofs.Collecting.{length_values}
 use Rattle.ca_table.specs.Codes.{HasKeyCode}
 use Rattle.ca_table.specs.Collected.{AreWithin, IsBatch, IsLastOf, IsNextOf, is_full, reply_of_batch}

@@ -9,7 +9,7 @@ use Rattle.ca_model.specs.declared.outcome.Outcome.{Outcome}
 use Rattle.ca_model.specs.declared.outcome.Outcome.TheVariants as outcome
 use Rattle.ca_model.specs.declared.outcome.Spent.{Spent}
 use Rattle.ca_model.specs.Known.{Known}
-use Rattle.ca_merge.proofs.Alone.{never_refused, never_overtaken}
+use Rattle.ca_explain.proofs.Alone.{never_refused, never_overtaken}
 use Rattle.ca_table.specs.ComesTo.{ComesTo, ComesToFrom, IsOvertaken, SureAndAloneIsDone, SureAndAloneIsDoneFrom}
 
 not_overtaken : (a b : Known) (asks : Asking) (spent : Spent) → a.alone ≡ true → IsOvertaken a b asks spent → ⊥

@@ -20,8 +20,8 @@ use Rattle.ca_ets.specs.declared.command.Cmd.TheVariants.{UpdateCounter, UpdateE
 use Rattle.ca_model.specs.Event.{Get, Change}
 use Rattle.ca_model.specs.Known.{Known, Meets}
 use Rattle.ca_model.specs.Answer.{Got}
-use Rattle.ca_merge.specs.Steps.{Refrains}
-use Rattle.ca_merge.proofs.Calls.{one_read}
+use Rattle.ca_explain.specs.Steps.{Refrains}
+use Rattle.ca_explain.proofs.Calls.{one_read}
 use Rattle.ca_table.specs.Codes.{HasKeyCode, IsAsked}
 use Rattle.ca_table.specs.Renewed.{IsPut, IsKept, by_element, by_operations}
 use Rattle.ca_table.proofs.Keyed.{got_none, got_some}

@@ -12,7 +12,7 @@ use Rattle.ca_model.specs.Edges.{Bound, Unbounded, Excluded, IsProperBound}
 use Rattle.ca_model.specs.Event.{Above, Below}
 use Rattle.ca_model.specs.Known.{Known, Meets}
 use Rattle.ca_model.specs.Answer.{FoundAbove, FoundBelow}
-use Rattle.ca_merge.proofs.Walks.{IsKeyFound, first_call, last_call, next_call, prev_call}
+use Rattle.ca_explain.proofs.Walks.{IsKeyFound, first_call, last_call, next_call, prev_call}
 use Rattle.ca_table.specs.Codes.{HasKeyCode}
 use Rattle.ca_table.specs.ComesTo.{HasFound, StepsOnce}
 use Rattle.ca_table.specs.Renewed.{IsObjectCode}

@@ -13,8 +13,8 @@ use Rattle.ca_model.specs.Event.{Range, IsAnswer}
 use Rattle.ca_model.specs.Known.{Known, Meets}
 use Rattle.ca_model.specs.Answer.{IsNeverDeep}
 use Rattle.ca_model.specs.declared.outcome.Outcome.{Outcome}
-use Rattle.ca_merge.specs.Carries.{Gives}
-use Rattle.ca_merge.specs.Stands.{Stands}
+use Rattle.ca_explain.specs.Carries.{Gives}
+use Rattle.ca_explain.specs.Stands.{Stands}
 use Rattle.ca_table.specs.Codes.{HasKeyCode}
 use Rattle.ca_table.specs.ComesTo.{EditsNothing}
 use Rattle.ca_table.specs.Refusals.{IsRefusal}

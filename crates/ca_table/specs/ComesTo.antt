@@ -15,7 +15,7 @@ use Rattle.ca_model.specs.Edges.{Excluded, Unbounded}
 use Rattle.ca_model.specs.Event.{Above, Below, Event, Get}
 use Rattle.ca_model.specs.Known.{Known, Meets, Stays, one_more}
 use Rattle.ca_plan.specs.Plan.{shared_key}
-use Rattle.ca_merge.specs.Steps.{ByCall, ByNone, Refrains, Refused, Overtaken}
+use Rattle.ca_explain.specs.Steps.{ByCall, ByNone, Refrains, Refused, Overtaken}
 
 -- one turn that was lost to others
 abbrev pub one_lost : Spent

@@ -3,7 +3,7 @@ ghost use Rattle.std.specs.Prelude.{◌≡◌, IfOk};
 ghost use Rattle.ca_term.specs.Code.{code_of};
 ghost use Rattle.ca_term.specs.Tree.{IsTerm};
 ghost use Rattle.ca_order.specs.Languages.{IsTermCode};
-ghost use Rattle.ca_merge.specs.Stands.{Stands};
+ghost use Rattle.ca_explain.specs.Stands.{Stands};
 
 use ca_model::Plain;
 use ca_order::{DecodeFault, decode};

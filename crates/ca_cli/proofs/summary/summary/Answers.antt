@@ -1,7 +1,7 @@
 use Rattle.std.proofs.Common.{◌≡◌, ◌++◌, [], ℕ, List, map, ◌∙◌, ap, subst}
 use Rattle.ca_term.specs.Tree.{Tree}
 use Rattle.ca_model.specs.Known.{Known}
-use Rattle.ca_merge.specs.Stands.{Stands}
+use Rattle.ca_explain.specs.Stands.{Stands}
 use Rattle.ca_cmd.specs.File.{commands_in}
 use Rattle.ca_cli.specs.Played.{HaveLeft}
 use Rattle.ca_cli.specs.Summary.{clients_from, summary_text}

@@ -1,6 +1,6 @@
 use Rattle.std.proofs.Common.{List, sym, subst}
 use Rattle.ca_model.specs.History.{Edit}
-use Rattle.ca_scripted.specs.Script.{AreProper}
+use Rattle.ca_test_store.specs.Script.{AreProper}
 use Rattle.ca_store_tests.proofs.Objects.{proper_added}
 use Rattle.ca_store_tests.proofs.edit.edits.Goals as goal
 

@@ -1,7 +1,7 @@
 use Rattle.std.proofs.Common.{◌∙◌, sym, ap}
 use Rattle.ca_table.specs.Collected.{is_full, left_of}
 use Rattle.ca_table.proofs.Collecting.{collecting_none, collecting_more, collected_all, collected_full, handed_code, run_falls}
-use Rattle.ca_merge.proofs.Calls.{both_beside_run}
+use Rattle.ca_explain.proofs.Calls.{both_beside_run}
 use Rattle.ca_table.proofs.run.collect.Goals as goal
 
 pub objects-init : goal.objects-init

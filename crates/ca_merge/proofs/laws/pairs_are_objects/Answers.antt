@@ -1,5 +1,0 @@
-use Rattle.ca_merge.proofs.Pairs.{pairs_are_objects}
-use Rattle.ca_merge.proofs.laws.pairs_are_objects.Goals as goal
-
-pub returns : goal.returns
-returns c = pairs_are_objects

@@ -1,6 +1,0 @@
-use Rattle.std.proofs.Common.{refl}
-use Rattle.ca_merge.proofs.Worked.{worked_logs}
-use Rattle.ca_merge.proofs.laws.worked_merge.Goals as goal
-
-pub returns : goal.returns
-returns c = record { logs = worked_logs; merge = refl }
