@@ -9,15 +9,15 @@ use Rattle.ca_model.specs.declared.outcome.Outcome.{Outcome}
 use Rattle.ca_node.specs.Told.{MyTree, with_upper}
 use Rattle.ca_node.specs.TreeView.{TreeView}
 use Rattle.ca_model.specs.declared.outcome.Counter.TheVariants as counter
-use Rattle.ca_replace.specs.declared.refusing.Refusal.{Refusal}
-use Rattle.ca_replace.specs.declared.refusing.Refusal.TheVariants as refusal
+use Rattle.ca_model.specs.declared.outcome.Cause.{Cause}
+use Rattle.ca_model.specs.declared.outcome.Cause.TheVariants as refusal
 use Rattle.std.specs.declared.option.Option.{Option}
 use Rattle.std.specs.declared.option.Option.TheVariants.{None as Nothing, Some as Just}
 use Rattle.ca_base.specs.Counting.{losses, HasMet}
 use Rattle.ca_model.specs.Known.{Counts}
 use Rattle.ca_replace.specs.Attempting.{splits, total, IsPaid, IfDeep, refused_as}
 use Rattle.ca_replace.specs.Causes.{HasBegun, IsCaused, IsFull, IsRefill, IsUnspent, IfRefusedAs, KeepsFew}
-use Rattle.ca_replace.specs.Refusals.{outcome_of}
+use Rattle.ca_replace.specs.Refusals.{outcome_by}
 use Rattle.ca_rows.specs.declared.kept.Kept.{Kept}
 use Rattle.ca_rows.specs.declared.sizes.Sizes.{Sizes}
 
@@ -93,12 +93,12 @@ caused z number budget adds (Err stop.Worn) now levels m m' kept kept' same e = 
 caused z number budget adds (Err stop.Deep) now levels m m' kept kept' same e = (same, e.deep refl)
 
 -- So the call is refused, given what was spent, and how many levels there are.
-abbrev pub HasRefused : {T : Type 0} → Sizes → Result T Stop → Spent → Result T Refusal → Type 0
+abbrev pub HasRefused : {T : Type 0} → Sizes → Result T Stop → Spent → Result T Cause → Type 0
 HasRefused z tried now r = (levels : ℕ) × (r ≡ refused_as tried now levels) × (levels ≡ z.levels)
 
 -- So it has by what the call comes to then.
 pub caused_as : {T : Type 0} (z : Sizes) (number budget : ℕ) (adds : Option (List ℕ))
-    (tried : Result T Stop) (r : Result T Refusal) (now : Spent)
+    (tried : Result T Stop) (r : Result T Cause) (now : Spent)
     (m m' : MyTree) (kept kept' : Vec Kept Global) → HasRefused z tried now r
     → EndsSo z budget adds tried now m m'
     → IfErr r (λ why. IsCaused z number budget adds why m kept m' kept')
@@ -117,7 +117,7 @@ unspent budget now m m' paid room = let none = paid.none in let counted = paid.c
 
 -- So has a refusal once rows were given back, of an attempt that found the head empty: the first
 -- one, or one behind another that did so.
-pub refill_caused : (z : Sizes) (number budget begun : ℕ) (adds : Option (List ℕ)) (why : Refusal)
+pub refill_caused : (z : Sizes) (number budget begun : ℕ) (adds : Option (List ℕ)) (why : Cause)
     (now : Spent) (m n m' : MyTree)
     (kept kept' : Vec Kept Global)
     → HasSpentInAll now m m' → HasBegun begun (vec_len kept) m m'
@@ -170,15 +170,15 @@ module _ (m m' m'' : MyTree) (counts : Counts) (kept kept' kept'' : Vec Kept Glo
       (λ i. (sym counted i, sym same i)) h
 
   pub caused_still : {T : Type 0} (z : Sizes) (number budget : ℕ) (adds : Option (List ℕ))
-      (why : Refusal) (o : Outcome T) → o ≡ outcome_of why
+      (why : Cause) (o : Outcome T) → o ≡ outcome_by why
       → IsCaused z number budget adds why m kept m' kept'
       → IfRefusedAs o (λ why. IsCaused z number budget adds why m kept m'' kept'')
   caused_still {T} z number budget adds why o is h = subst
       (λ (x : Outcome T). IfRefusedAs x (λ y. IsCaused z number budget adds y m kept m'' kept''))
       (sym is) (by why h)
     where
-      by : (why : Refusal) → IsCaused z number budget adds why m kept m' kept'
-          → IfRefusedAs {T = T} (outcome_of why)
+      by : (why : Cause) → IsCaused z number budget adds why m kept m' kept'
+          → IfRefusedAs {T = T} (outcome_by why)
           (λ y. IsCaused z number budget adds y m kept m'' kept'')
       by (refusal.Busy spent) h = as_counted
           (λ x k. IsCaused z number budget adds (refusal.Busy spent) m kept x k) h
@@ -197,8 +197,8 @@ module _ (m m' m'' : MyTree) (counts : Counts) (kept kept' kept'' : Vec Kept Glo
 
 -- A call that is refused for want of levels may add a key.
 pub deep_adds : {T : Type 0} (z : Sizes) (number budget : ℕ) (adds : Option (List ℕ))
-    (why : Refusal) (o : Outcome T) (m m' : MyTree)
-    (kept kept' : Vec Kept Global) → o ≡ outcome_of why
+    (why : Cause) (o : Outcome T) (m m' : MyTree)
+    (kept kept' : Vec Kept Global) → o ≡ outcome_by why
     → IsCaused z number budget adds why m kept m' kept' → IfDeep o (adds ≢ Nothing)
 deep_adds {T} z number budget adds why o m m' kept kept' is h = subst
     (λ (x : Outcome T). IfDeep x (adds ≢ Nothing)) (sym is) (by why h)
@@ -208,8 +208,8 @@ deep_adds {T} z number budget adds why o m m' kept kept' is h = subst
     adds_one Nothing full = absurd full
     adds_one (Just key) full = λ e. cc
 
-    by : (why : Refusal) → IsCaused z number budget adds why m kept m' kept'
-        → IfDeep {T = T} (outcome_of why) (adds ≢ Nothing)
+    by : (why : Cause) → IsCaused z number budget adds why m kept m' kept'
+        → IfDeep {T = T} (outcome_by why) (adds ≢ Nothing)
     by (refusal.Busy spent) h = tt
     by (refusal.Full cause) h = tt
     by (refusal.Deep level) h = adds_one adds h.1

@@ -32,12 +32,12 @@ use Rattle.ca_node.proofs.Looking.{in_more}
 use Rattle.ca_replace.specs.declared.adapting.Adapting.{Adapting}
 use Rattle.ca_replace.specs.declared.attempting.Stop.{Stop}
 use Rattle.ca_replace.specs.declared.attempting.Stop.TheVariants as stop
-use Rattle.ca_replace.specs.declared.refusing.Refusal.{Refusal}
-use Rattle.ca_replace.specs.declared.refusing.Refusal.TheVariants as refusal
+use Rattle.ca_model.specs.declared.outcome.Cause.{Cause}
+use Rattle.ca_model.specs.declared.outcome.Cause.TheVariants as refusal
 use Rattle.ca_replace.specs.Adapting.{IsNew}
 use Rattle.ca_replace.specs.Attempting.{IsLooking, IsQuiet, come_to, refused_as, split_to}
 use Rattle.ca_replace.specs.Cutting.{AreCutFull, CutsBy, HasCut, HasCutAs, HasCutDue, HasCutFull, HasCutIf, HasCutSoFar, IsCutInTwo, IsFullFor}
-use Rattle.ca_replace.specs.Refusals.{outcome_of}
+use Rattle.ca_replace.specs.Refusals.{outcome_by}
 use Rattle.ca_replace.proofs.Settling.{IsSettling}
 use Rattle.ca_replace.proofs.Growing.{settled_still}
 use Rattle.ca_replace.proofs.Showing.{looking, walked_quiet}
@@ -332,11 +332,11 @@ turn_cut edits z adds r u v e h = ⊎_elim
 
 -- What the attempts come to where the last one's is told otherwise.
 pub cut_refused : {T : Type 0} (edits : T → Bool) (z : Sizes) (adds : Option (List ℕ))
-    (tried : Result T Stop) (r : Result T Refusal) (spent : Spent)
+    (tried : Result T Stop) (r : Result T Cause) (spent : Spent)
     (levels : ℕ) (u w v : TreeView) → v ≡ w → r ≡ refused_as tried spent levels
     → HasCutSoFar edits z adds tried u w → HasCutSoFar edits z adds r u v
 cut_refused {T} edits z adds tried r spent levels u w v same is h = subst
-    (λ (x : Result T Refusal). HasCutSoFar edits z adds x u v) (sym is)
+    (λ (x : Result T Cause). HasCutSoFar edits z adds x u v) (sym is)
     (subst (λ (x : TreeView).
     HasCutSoFar edits z adds (refused_as tried spent levels) u x) (sym same) (by tried h))
   where
@@ -351,16 +351,16 @@ cut_refused {T} edits z adds tried r spent levels u w v same is h = subst
 
 -- A call that is refused is counted then.
 pub refused_cuts : {T : Type 0} (edits : T → Bool) (z : Sizes) (adds : Option (List ℕ))
-    (counts : Counts) (why : Refusal) (o : Outcome T) (u : TreeView)
-    (m m' : MyTree) → HasCutFull z adds u m.0.upper → o ≡ outcome_of why
+    (counts : Counts) (why : Cause) (o : Outcome T) (u : TreeView)
+    (m m' : MyTree) → HasCutFull z adds u m.0.upper → o ≡ outcome_by why
     → m' ≡ with_upper m (record m.0.upper { counts = counts })
     → HasCutAs edits z adds o u m'.0.upper
 refused_cuts {T} edits z adds counts why o u m m' h come is = subst
     (λ (x : Outcome T). HasCutAs edits z adds x u m'.0.upper) (sym come)
     (by why (subst (λ (x : MyTree). HasCutFull z adds u x.0.upper) (sym is) h))
   where
-    by : (why : Refusal) → HasCutFull z adds u m'.0.upper
-        → HasCutAs edits z adds (outcome_of {T = T} why) u m'.0.upper
+    by : (why : Cause) → HasCutFull z adds u m'.0.upper
+        → HasCutAs edits z adds (outcome_by {T = T} why) u m'.0.upper
     by (refusal.Busy spent) h = h
     by (refusal.Full cause) h = h
     by (refusal.Deep level) h = h

@@ -15,7 +15,7 @@ use Rattle.ca_node.specs.TreeView.{Note, TreeView}
 use Rattle.ca_node.specs.Walking.{IsWalked}
 use Rattle.ca_replace.specs.declared.attempting.Stop.{Stop}
 use Rattle.ca_replace.specs.declared.attempting.Stop.TheVariants as stop
-use Rattle.ca_replace.specs.declared.refusing.Refusal.{Refusal}
+use Rattle.ca_model.specs.declared.outcome.Cause.{Cause}
 use Rattle.ca_replace.specs.Adapting.{IfEdited, IsMetAs, IsNew}
 use Rattle.ca_replace.specs.Attempting.{come_to, refused_as}
 use Rattle.ca_rows.specs.declared.sizes.Sizes.{Sizes}
@@ -89,8 +89,8 @@ met_refused P edits (Err stop.Worn) spent levels h = tt
 met_refused P edits (Err stop.Deep) spent levels h = tt
 
 pub refused_met : {T : Type 0} (P : Type 0) (edits : T → Bool) (tried : Result T Stop)
-    (r : Result T Refusal) (spent : Spent) (levels : ℕ)
+    (r : Result T Cause) (spent : Spent) (levels : ℕ)
     → r ≡ refused_as tried spent levels → IfEdited edits tried P → IfEdited edits r P
 refused_met {T} P edits tried r spent levels is h = subst
-    (λ (x : Result T Refusal). IfEdited edits x P) (sym is)
+    (λ (x : Result T Cause). IfEdited edits x P) (sym is)
     (met_refused P edits tried spent levels h)

@@ -32,9 +32,9 @@ use Rattle.ca_replace.specs.declared.adapting.Last.{Last}
 use Rattle.ca_model.specs.declared.outcome.Outcome.{Outcome}
 use Rattle.ca_replace.specs.declared.attempting.Stop.{Stop}
 use Rattle.ca_replace.specs.declared.attempting.Stop.TheVariants as stop
-use Rattle.ca_replace.specs.declared.refusing.Refusal.{Refusal}
-use Rattle.ca_replace.specs.declared.refusing.Refusal.TheVariants as refusal
-use Rattle.ca_replace.specs.Refusals.{outcome_of}
+use Rattle.ca_model.specs.declared.outcome.Cause.{Cause}
+use Rattle.ca_model.specs.declared.outcome.Cause.TheVariants as refusal
+use Rattle.ca_replace.specs.Refusals.{outcome_by}
 use Rattle.ca_replace.specs.Adapting.{Adapts, Goes, HasGoneOn, HasLookedAgain, HasLostSince, HasSettled, HasTriedOnce, IsAdaptedBy, IsMoved, IsNew, IsReason, Leaves, LeavesAs, Waits}
 use Rattle.ca_replace.specs.Attempting.{HasStopped, HasTriedTo, IsPaid, IsQuiet, come_to, refused_as, splits}
 use Rattle.ca_replace.proofs.Settling.{IsSettling}
@@ -589,15 +589,15 @@ gone_refused edits z t a b (Err stop.Worn) spent levels u v h = h
 gone_refused edits z t a b (Err stop.Deep) spent levels u v h = h
 
 -- The call is refused by what its last attempt came to.
-abbrev pub IsRefusedAs : {T : Type 0} → Result T Stop → Result T Refusal → Type 0
+abbrev pub IsRefusedAs : {T : Type 0} → Result T Stop → Result T Cause → Type 0
 IsRefusedAs tried r = (spent : Spent) × (levels : ℕ) × (r ≡ refused_as tried spent levels)
 
 pub refused_gone : {T : Type 0} (edits : T → Bool) (z : Sizes) (t : Tuning) (a b : Adapting)
-    (tried : Result T Stop) (r : Result T Refusal)
+    (tried : Result T Stop) (r : Result T Cause)
     (u w v : TreeView) → v ≡ w → IsRefusedAs tried r → HasGoneOn edits z t a b tried u w
     → HasGoneOn edits z t a b r u v
 refused_gone {T} edits z t a b tried r u w v same refused h = subst
-    (λ (x : Result T Refusal). HasGoneOn edits z t a b x u v) (sym refused.2)
+    (λ (x : Result T Cause). HasGoneOn edits z t a b x u v) (sym refused.2)
     (subst (λ (y : TreeView).
     HasGoneOn edits z t a b (refused_as tried refused.0 refused.1) u y) (sym same)
     (gone_refused edits z t a b tried refused.0 refused.1 u w h))
@@ -610,12 +610,12 @@ goes_leaves true z t a b u v none h = subst (λ (x : Bool). Adapts z t x b.last 
 goes_leaves false z t a b u v none h = (h.0, h.1)
 
 pub leaves_refused : {T : Type 0} (edits : T → Bool) (z : Sizes) (t : Tuning) (last : Last)
-    (why : Refusal) (o : Outcome T) (u v : TreeView)
-    → o ≡ outcome_of why → v.renewal ≡ u.renewal → LeavesAs edits z t last last o u v
+    (why : Cause) (o : Outcome T) (u v : TreeView)
+    → o ≡ outcome_by why → v.renewal ≡ u.renewal → LeavesAs edits z t last last o u v
 leaves_refused {T} edits z t last why o u v is same = subst
     (λ (x : Outcome T). LeavesAs edits z t last last x u v) (sym is) (by why)
   where
-    by : (why : Refusal) → LeavesAs edits z t last last (outcome_of {T = T} why) u v
+    by : (why : Cause) → LeavesAs edits z t last last (outcome_by {T = T} why) u v
     by (refusal.Busy spent) = (refl, same)
     by (refusal.Full cause) = (refl, same)
     by (refusal.Deep level) = (refl, same)

@@ -33,7 +33,7 @@ use Rattle.ca_base.specs.Splitting.{IsSplit, HasSplit}
 use Rattle.ca_replace.specs.declared.adapting.Adapting.{Adapting}
 use Rattle.ca_replace.specs.declared.attempting.Stop.{Stop}
 use Rattle.ca_replace.specs.declared.attempting.Stop.TheVariants as stop
-use Rattle.ca_replace.specs.declared.refusing.Refusal.{Refusal}
+use Rattle.ca_model.specs.declared.outcome.Cause.{Cause}
 use Rattle.ca_replace.specs.Adapting.{HasSettled}
 use Rattle.ca_replace.specs.Attempting.{IsLooking, IsQuiet, HasTriedTo, come_to, refused_as, split_to}
 use Rattle.ca_replace.specs.Growing.{Grows, GrowsBy, IsSameTree, HasRoom, HasRoomFor, HasGrown, HasWaited, HasGrownSoFar}
@@ -583,12 +583,12 @@ grown_pinned {T} z adds r u v w same h = subst
 
 -- What the attempts come to where the last one's is told otherwise.
 pub grown_refused : {T : Type 0} (z : Sizes) (adds : Option (List ℕ)) (tried : Result T Stop)
-    (r : Result T Refusal) (spent : Spent) (levels : ℕ)
+    (r : Result T Cause) (spent : Spent) (levels : ℕ)
     (u w v : TreeView)
     → v ≡ w → r ≡ refused_as tried spent levels → HasGrownSoFar z adds tried u w
     → HasGrownSoFar z adds r u v
 grown_refused {T} z adds tried r spent levels u w v same is h = subst
-    (λ (x : Result T Refusal). HasGrownSoFar z adds x u v) (sym is)
+    (λ (x : Result T Cause). HasGrownSoFar z adds x u v) (sym is)
     (subst (λ (x : TreeView).
     HasGrownSoFar z adds (refused_as tried spent levels) u x) (sym same) (by tried h))
   where

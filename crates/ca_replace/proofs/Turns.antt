@@ -16,7 +16,7 @@ use Rattle.ca_node.specs.Told.{MyTree, IsKnown}
 use Rattle.ca_rows.specs.Told.{met_of}
 use Rattle.ca_node.specs.TreeView.{TreeView, pinned, unpinned}
 use Rattle.ca_replace.specs.declared.attempting.Stop.{Stop}
-use Rattle.ca_replace.specs.declared.refusing.Refusal.{Refusal}
+use Rattle.ca_model.specs.declared.outcome.Cause.{Cause}
 use Rattle.ca_model.specs.declared.outcome.Spent.{Spent}
 use Rattle.ca_replace.specs.declared.attempting.Stop.TheVariants as stop
 use Rattle.ca_replace.specs.Attempting.{HasAttempted, HasDoneAs, HasTriedTo, refused_as}
@@ -109,11 +109,11 @@ tried_known tells z (Err stop) u v h = (h.1, h.0.number)
 
 -- What the last attempt came to is what the attempts came to.
 pub attempted_as : {T : Type 0} (tells : T → Event → Type 0) (z : Sizes) (tried : Result T Stop)
-    (r : Result T Refusal) (spent : Spent) (levels : ℕ)
+    (r : Result T Cause) (spent : Spent) (levels : ℕ)
     (u w v : TreeView) → v ≡ w → r ≡ refused_as tried spent levels → HasTriedTo tells z tried u w
     → HasAttempted tells r u v
 attempted_as {T} tells z tried r spent levels u w v same is h = subst
-    (λ (x : Result T Refusal). HasAttempted tells x u v) (sym is)
+    (λ (x : Result T Cause). HasAttempted tells x u v) (sym is)
     (subst (λ (x : TreeView).
     HasAttempted tells (refused_as tried spent levels) u x) (sym same) (by tried h))
   where

@@ -22,11 +22,11 @@ use Rattle.ca_base.specs.Splitting.{HasSplit}
 use Rattle.ca_replace.specs.declared.adapting.Adapting.{Adapting}
 use Rattle.ca_replace.specs.declared.attempting.Stop.{Stop}
 use Rattle.ca_replace.specs.declared.attempting.Stop.TheVariants as stop
-use Rattle.ca_replace.specs.declared.refusing.Refusal.{Refusal}
-use Rattle.ca_replace.specs.declared.refusing.Refusal.TheVariants as refusal
+use Rattle.ca_model.specs.declared.outcome.Cause.{Cause}
+use Rattle.ca_model.specs.declared.outcome.Cause.TheVariants as refusal
 use Rattle.ca_replace.specs.Adapting.{HasSettled, IsNew}
 use Rattle.ca_replace.specs.Attempting.{come_to, refused_as, split_to}
-use Rattle.ca_replace.specs.Refusals.{outcome_of}
+use Rattle.ca_replace.specs.Refusals.{outcome_by}
 use Rattle.ca_replace.specs.Winning.{HasWon, HasWonAs, WinsAs}
 use Rattle.ca_replace.proofs.Settling.{IsSettling}
 use Rattle.ca_rows.specs.declared.sizes.Sizes.{Sizes}
@@ -184,11 +184,11 @@ won_pinned edits (Ok x) u v w same h = subst
 won_pinned edits (Err why) u v w same h = subst (λ (y : TreeView). y.lost ≡ u.lost) (sym same) h
 
 -- What the attempts come to where the last one's is told otherwise.
-pub won_refused : {T : Type 0} (edits : T → Bool) (tried : Result T Stop) (r : Result T Refusal)
+pub won_refused : {T : Type 0} (edits : T → Bool) (tried : Result T Stop) (r : Result T Cause)
     (spent : Spent) (levels : ℕ) (u w v : TreeView)
     → v ≡ w → r ≡ refused_as tried spent levels → HasWonAs edits tried u w → HasWonAs edits r u v
 won_refused {T} edits tried r spent levels u w v same is h = subst
-    (λ (x : Result T Refusal). HasWonAs edits x u v) (sym is)
+    (λ (x : Result T Cause). HasWonAs edits x u v) (sym is)
     (subst (λ (x : TreeView).
     HasWonAs edits (refused_as tried spent levels) u x) (sym same) (by tried h))
   where
@@ -202,12 +202,12 @@ won_refused {T} edits tried r spent levels u w v same is h = subst
     by (Err stop.Deep) h = h
 
 -- A refused call.
-pub refused_wins : {T : Type 0} (edits : T → Bool) (why : Refusal) (o : Outcome T) (u v : TreeView)
-    → o ≡ outcome_of why → v.lost ≡ u.lost → WinsAs edits o u v
+pub refused_wins : {T : Type 0} (edits : T → Bool) (why : Cause) (o : Outcome T) (u v : TreeView)
+    → o ≡ outcome_by why → v.lost ≡ u.lost → WinsAs edits o u v
 refused_wins {T} edits why o u v is same = subst
     (λ (x : Outcome T). WinsAs edits x u v) (sym is) (by why)
   where
-    by : (why : Refusal) → WinsAs edits (outcome_of {T = T} why) u v
+    by : (why : Cause) → WinsAs edits (outcome_by {T = T} why) u v
     by (refusal.Busy spent) = same
     by (refusal.Full cause) = same
     by (refusal.Deep level) = same

@@ -14,8 +14,8 @@ use Rattle.ca_node.specs.Row.{pair}
 use Rattle.ca_base.specs.Counting.{losses, HasMet}
 use Rattle.ca_node.specs.Told.{IsAlone, IsKnown, MyTree}
 use Rattle.ca_node.specs.TreeView.{TreeView}
-use Rattle.ca_replace.specs.declared.refusing.Refusal.{Refusal}
-use Rattle.ca_replace.specs.declared.refusing.Refusal.TheVariants as refusal
+use Rattle.ca_model.specs.declared.outcome.Cause.{Cause}
+use Rattle.ca_model.specs.declared.outcome.Cause.TheVariants as refusal
 use Rattle.ca_replace.specs.declared.attempting.Stop.{Stop}
 use Rattle.ca_replace.specs.declared.attempting.Stop.TheVariants as stop
 use Rattle.ca_base.specs.declared.taking.NoRow.{NoRow}
@@ -69,12 +69,12 @@ come_to (Ok false) = Err stop.Lost
 come_to (Err why) = Err (stop_of why)
 
 -- Attempts did the call, which is told so; or it is refused, and they learnt of others' edits alone.
-abbrev pub HasAttempted : {T : Type 0} → (T → Event → Type 0) → Result T Refusal → TreeView → TreeView → Type 0
+abbrev pub HasAttempted : {T : Type 0} → (T → Event → Type 0) → Result T Cause → TreeView → TreeView → Type 0
 HasAttempted tells (Ok x) u v = HasDoneAs (tells x) u v
 HasAttempted tells (Err why) u v = IsFurther u v
 
 -- what a call comes to by its last attempt, which found the rows that it wanted, given what was spent and how many levels there are
-abbrev pub refused_as : {T : Type 0} → Result T Stop → Spent → ℕ → Result T Refusal
+abbrev pub refused_as : {T : Type 0} → Result T Stop → Spent → ℕ → Result T Cause
 refused_as (Ok x) spent levels = Ok x
 refused_as (Err stop.Lost) spent levels = Err (refusal.Busy spent)
 refused_as (Err stop.Split) spent levels = Err (refusal.Busy spent)

@@ -15,8 +15,8 @@ use Rattle.ca_node.specs.Told.{MyTree}
 use Rattle.ca_node.specs.TreeView.{Note}
 use Rattle.ca_replace.specs.Attempting.{splits, total}
 use Rattle.ca_replace.specs.Resting.{StoreView}
-use Rattle.ca_replace.specs.declared.refusing.Refusal.{Refusal}
-use Rattle.ca_replace.specs.declared.refusing.Refusal.TheVariants as refusal
+use Rattle.ca_model.specs.declared.outcome.Cause.{Cause}
+use Rattle.ca_model.specs.declared.outcome.Cause.TheVariants as refusal
 use Rattle.ca_rows.specs.declared.kept.Kept.{Kept}
 use Rattle.ca_rows.specs.declared.sizes.Sizes.{Sizes}
 use Rattle.ca_rows.specs.Reclaiming.{IsLag}
@@ -26,7 +26,7 @@ abbrev pub HasLooked : MyTree → MyTree → Type 0
 HasLooked m m' = m.0.pin.looks < m'.0.pin.looks
 
 -- A call with this budget whose attempt began with so many rows kept is refused so, once rows were given back and these turns were spent.
-abbrev pub IsRefill : ℕ → ℕ → ℕ → ℕ → Spent → Refusal → MyTree → MyTree → Vec Kept Global → Type 0
+abbrev pub IsRefill : ℕ → ℕ → ℕ → ℕ → Spent → Cause → MyTree → MyTree → Vec Kept Global → Type 0
 -- Its turns were lost.
 IsRefill passes number budget begun spent (refusal.Busy s) m m' kept' = (s ≡ spent) × (budget ≤ total s)
 -- The budget isn't spent. The attempt began with no row kept, or another pass lagged.
@@ -57,7 +57,7 @@ IsFull z (Some key) base map = IsFound map key None × HasKey base.place.span ke
     × (z.leaf ≤ length (part base.place.span map))
 
 -- A call with this budget that may add this key, if any, may be refused so, given what its pass knew and kept before it and what it knows and keeps behind it.
-abbrev pub IsCaused : Sizes → ℕ → ℕ → Option (List ℕ) → Refusal → MyTree → Vec Kept Global → MyTree → Vec Kept Global → Type 0
+abbrev pub IsCaused : Sizes → ℕ → ℕ → Option (List ℕ) → Cause → MyTree → Vec Kept Global → MyTree → Vec Kept Global → Type 0
 -- So many exchanges were lost in this call, and so many bases were split.
 IsCaused z number budget adds (refusal.Busy spent) m kept m' kept' = (budget ≤ total spent) × (spent.lost ≡ min 4294967295 (losses m' - losses m))
     × (spent.helped ≡ 0) × (spent.passed ≡ min 4294967295 (splits m' - splits m))
@@ -75,7 +75,7 @@ IsCaused z number budget adds (refusal.Worn counter.Epoch) m kept m' kept' = ((b
 IsCaused z number budget adds (refusal.Worn counter.Sequence) m kept m' kept' = ⊥
 
 -- Where the call is refused, this holds of the refusal.
-abbrev pub IfRefusedAs : {T : Type 0} → Outcome T → (Refusal → Type 0) → Type 0
+abbrev pub IfRefusedAs : {T : Type 0} → Outcome T → (Cause → Type 0) → Type 0
 IfRefusedAs (outcome.Done x) P = Unit {0}
 IfRefusedAs (outcome.Busy spent) P = P (refusal.Busy spent)
 IfRefusedAs (outcome.Full cause) P = P (refusal.Full cause)

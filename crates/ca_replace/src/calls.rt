@@ -11,7 +11,7 @@ ghost use Rattle.ca_replace.specs.Growing.{GrowsBy};
 ghost use Rattle.ca_replace.specs.Cutting.{HasCutAs};
 ghost use Rattle.ca_replace.specs.Winning.{WinsAs};
 ghost use Rattle.ca_base.specs.Progress.{IsRefused};
-ghost use Rattle.ca_replace.specs.Refusals.{risen};
+ghost use Rattle.ca_model.specs.Known.{one_more};
 ghost use Rattle.ca_replace.specs.Turning.{AreTurns, IsTurn};
 ghost use Rattle.ca_rows.specs.Passes.{sizes, known, view};
 ghost use Rattle.ca_node.specs.TreePasses.{tree_of};
@@ -20,9 +20,9 @@ ghost use Rattle.ca_replace.specs.Resting.{IsAtRest, StaysAtRest};
 use crate::adapting::{Adapting, Course, Last};
 use crate::attempting::{Attempt, Stop};
 use crate::giving::{add, keep_few, refill, spent_in_all};
-use crate::refusing::{Refusal, refuse};
+use crate::refusing::{outcome_by, refuse};
 use crate::tree::Tree;
-use ca_model::{Code, Counter, Outcome, Spent};
+use ca_model::{Cause, Code, Counter, Outcome, Spent};
 use ca_node::TreePass;
 
 /// A call that is to be made, and by how many turns it may be lost.
@@ -87,7 +87,7 @@ pub(crate) fn call<A: Attempt>(
         }
         Err(why) => {
             give_up(tree, pass, why);
-            why.outcome()
+            outcome_by(why)
         }
     }
 }
@@ -110,7 +110,7 @@ fn attempts<A: Attempt>(
     left: &mut A::Left,
     room: &mut A::Room,
     course: &mut Course,
-) -> Result<A::Answer, Refusal>
+) -> Result<A::Answer, Cause>
     requires resting { IsAtRest tree.now.space pass.old }
     requires may { A.may order.now.what.now (sizes tree.now.space) }
     requires budget { 1 ≤ order.now.budget }
@@ -146,15 +146,15 @@ fn is_empty<T>(tried: &Result<T, Stop>) -> bool
 }
 
 // What an attempt came to that found the rows it wanted.
-fn or_refusal<T>(tried: Result<T, Stop>, spent: Spent, levels: u16) -> Result<T, Refusal>
+fn or_refusal<T>(tried: Result<T, Stop>, spent: Spent, levels: u16) -> Result<T, Cause>
     requires { tried ≢ Err IsEmpty }
     ensures { result ≡ refused_as tried spent levels }
 {
     match tried {
         Ok(answer) => Ok(answer),
-        Err(Stop::Lost | Stop::Split | Stop::Empty) => Err(Refusal::Busy(spent)),
-        Err(Stop::Deep) => Err(Refusal::Deep(levels)),
-        Err(Stop::Worn) => Err(Refusal::Worn(Counter::PoolTag)),
+        Err(Stop::Lost | Stop::Split | Stop::Empty) => Err(Cause::Busy(spent)),
+        Err(Stop::Deep) => Err(Cause::Deep(levels)),
+        Err(Stop::Worn) => Err(Cause::Worn(Counter::PoolTag)),
     }
 }
 
@@ -226,12 +226,12 @@ fn once<A: Attempt>(
 }
 
 // Counts a refusal.
-fn give_up(tree: &Tree, pass: &mut TreePass, why: Refusal)
+fn give_up(tree: &Tree, pass: &mut TreePass, why: Cause)
     requires resting { IsAtRest tree.now.space pass.old }
     ensures frame { StaysAtRest tree.now.space pass.old pass.new }
     ensures kept { pass.new.kept ≡ pass.old.kept }
-    ensures counted { known pass.new ≡ with_upper (known pass.old) (record (tree_of pass.old) { counts = risen why (tree_of pass.old).counts }) }
-    ensures refused { IsRefused (risen why) (tree_of pass.old) (tree_of pass.new) }
+    ensures counted { known pass.new ≡ with_upper (known pass.old) (record (tree_of pass.old) { counts = one_more why (tree_of pass.old).counts }) }
+    ensures refused { IsRefused (one_more why) (tree_of pass.old) (tree_of pass.new) }
 {
     refuse(&tree.space, pass, why);
 }

@@ -9,9 +9,8 @@ ghost use Rattle.ca_rows.specs.Passes.{sizes, known, view};
 ghost use Rattle.ca_node.specs.TreePasses.{tree_of};
 ghost use Rattle.ca_replace.specs.Resting.{IsAtRest, StaysAtRest};
 
-use crate::refusing::Refusal;
 use crate::tree::Tree;
-use ca_model::{Counter, FullCause, Spent};
+use ca_model::{Cause, Counter, FullCause, Spent};
 use ca_node::TreePass;
 use ca_rows::Reclaimed;
 
@@ -46,7 +45,7 @@ pub(crate) fn refill(
     kept: u32,
     budget: u32,
     spent: &mut Spent,
-) -> Result<(), Refusal>
+) -> Result<(), Cause>
     requires resting { IsAtRest tree.now.space pass.old }
     ensures frame { StaysAtRest tree.now.space pass.old pass.new }
     ensures upper { tree_of pass.new ≡ tree_of pass.old }
@@ -64,16 +63,16 @@ pub(crate) fn refill(
     let given = give_back_kept(tree, pass);
     spent.lost = add(spent.lost, given.losses);
     if spent_in_all(spent) >= budget {
-        return Err(Refusal::Busy(*spent));
+        return Err(Cause::Busy(*spent));
     }
     if kept == 0 || given.lag.is_some() {
-        return Err(Refusal::Full(FullCause {
+        return Err(Cause::Full(FullCause {
             kept,
             lag: given.lag,
         }));
     }
     if given.epoch >= LAST_EPOCH && given.kept > 0 {
-        return Err(Refusal::Worn(Counter::Epoch));
+        return Err(Cause::Worn(Counter::Epoch));
     }
     Ok(())
 }

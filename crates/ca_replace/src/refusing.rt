@@ -2,12 +2,12 @@
 ghost use Rattle.std.specs.Prelude.{◌≡◌};
 ghost use Rattle.ca_model.specs.Known.{Counts, one_more};
 ghost use Rattle.ca_node.specs.Told.{IsRise, Refuses, with_upper};
-ghost use Rattle.ca_replace.specs.Refusals.{outcome_of, risen};
+ghost use Rattle.ca_replace.specs.Refusals.{outcome_by};
 ghost use Rattle.ca_rows.specs.Passes.{IsOn, KeepsList, known};
 ghost use Rattle.ca_node.specs.TreePasses.{tree_of};
 
 use atomic_table::Play;
-use ca_model::{Counter, FullCause, Outcome, Spent};
+use ca_model::{Cause, Outcome};
 use ca_node::{Knowledge, TreePass, TreeSpace};
 use ca_rows::View;
 use std::marker::{Brand, PhantomData};
@@ -15,30 +15,15 @@ use std::marker::{Brand, PhantomData};
 // The word that a refused call loads last.
 const LAST: u32 = 0;
 
-/// Why a call is refused.
-#[derive(Clone, Copy)]
-pub(crate) enum Refusal {
-    /// Its budget was spent, by these turns.
-    Busy(Spent),
-    /// No row was free.
-    Full(FullCause),
-    /// The base at this level that must take a new key has as many as it may.
-    Deep(u16),
-    /// A counter can rise no more.
-    Worn(Counter),
-}
-
-impl Refusal {
-    /// What the call comes to.
-    pub(crate) fn outcome<T>(self) -> Outcome<T>
-        ensures { result ≡ outcome_of self }
-    {
-        match self {
-            Refusal::Busy(spent) => Outcome::Busy(spent),
-            Refusal::Full(cause) => Outcome::Full(cause),
-            Refusal::Deep(level) => Outcome::Deep(level),
-            Refusal::Worn(counter) => Outcome::Worn(counter),
-        }
+/// What a call comes to that is refused by this cause.
+pub(crate) fn outcome_by<T>(why: Cause) -> Outcome<T>
+    ensures { result ≡ outcome_by why }
+{
+    match why {
+        Cause::Busy(spent) => Outcome::Busy(spent),
+        Cause::Full(cause) => Outcome::Full(cause),
+        Cause::Deep(level) => Outcome::Deep(level),
+        Cause::Worn(counter) => Outcome::Worn(counter),
     }
 }
 
@@ -69,16 +54,16 @@ impl<K: Counting> Play<(), View<Knowledge>> for CountRefusal<K> {
 }
 
 /// Ends a refused call by one load of the pool's head, at which the refusal is counted.
-pub(crate) fn refuse(space: &TreeSpace, pass: &mut TreePass, why: Refusal)
+pub(crate) fn refuse(space: &TreeSpace, pass: &mut TreePass, why: Cause)
     requires own { IsOn space.now pass.old }
     ensures frame { KeepsList pass.old pass.new }
-    ensures counted { known pass.new ≡ with_upper (known pass.old) (record (tree_of pass.old) { counts = risen why (tree_of pass.old).counts }) }
+    ensures counted { known pass.new ≡ with_upper (known pass.old) (record (tree_of pass.old) { counts = one_more why (tree_of pass.old).counts }) }
 {
     refuse_as::<Brand>(space, pass, why);
 }
 
 // The load at which the counts change as K names.
-fn refuse_as<K: Counting>(space: &TreeSpace, pass: &mut TreePass, _why: Refusal)
+fn refuse_as<K: Counting>(space: &TreeSpace, pass: &mut TreePass, _why: Cause)
     requires own { IsOn space.now pass.old }
     ensures frame { KeepsList pass.old pass.new }
     ensures counted { known pass.new ≡ with_upper (known pass.old) (record (tree_of pass.old) { counts = K.rise (tree_of pass.old).counts }) }

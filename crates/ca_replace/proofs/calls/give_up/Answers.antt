@@ -1,5 +1,5 @@
 use Rattle.std.proofs.Common.{rules}
-use Rattle.ca_replace.specs.Refusals.{risen}
+use Rattle.ca_model.specs.Known.{one_more}
 use Rattle.ca_replace.proofs.Turns.{rests_as, rests_refused, is_refused}
 use Rattle.ca_replace.proofs.calls.give_up.Goals as goal
 
@@ -17,5 +17,5 @@ returns-clause-frame c = record {
 
 pub returns-clause-refused : goal.returns-clause-refused
 returns-clause-refused c =
-    is_refused (risen c.args.why) c.args.pass.now.seat.me c.refuse.new.pass.seat.me
+    is_refused (one_more c.args.why) c.args.pass.now.seat.me c.refuse.new.pass.seat.me
     c.refuse.ensures.counted
