@@ -8,7 +8,8 @@ use Rattle.ca_base.specs.Counting.{HasCleared, HasEnded}
 use Rattle.ca_base.specs.Putting.{first_note}
 use Rattle.ca_base.specs.Splitting.{HasSplit}
 use Rattle.ca_node.specs.Inventory.{IsListed}
-use Rattle.ca_node.specs.Told.{MyTree, IsAlone}
+use Rattle.ca_node.specs.Told.{MyTree}
+use Rattle.ca_node.specs.States.{IsAlone}
 use Rattle.ca_node.specs.TreeView.{Note}
 use Rattle.ca_rows.specs.declared.kept.KeptRows.{KeptRows}
 use Rattle.ca_rows.specs.declared.sizes.Sizes.{Sizes}

@@ -5,7 +5,7 @@ ghost use Rattle.ca_adapt.specs.Tuned.{IsTuned};
 ghost use Rattle.ca_base.specs.Counting.{IsSpent};
 ghost use Rattle.ca_base.specs.Finding.{IsAtCursor, IsReadable};
 ghost use Rattle.ca_node.specs.Inventory.{IsListed};
-ghost use Rattle.ca_node.specs.Told.{IsAlone};
+ghost use Rattle.ca_node.specs.States.{IsAlone};
 ghost use Rattle.ca_rows.specs.Passes.{sizes, known};
 ghost use Rattle.ca_node.specs.TreePasses.{tree_of};
 ghost use Rattle.ca_base.specs.Readiness.{IsReady, StaysReady, shown_last};

@@ -1,7 +1,8 @@
 -- Exchanges of a base by a pass that is alone: none is lost of a base that its list has.
 use Rattle.std.proofs.Common.{◌≡◌, ◌≢◌, ◌<◌, Bool, true, false, Result, Ok, sym, refl, ◌∙◌, subst}
 use Rattle.ca_node.specs.Inventory.{IsListed}
-use Rattle.ca_node.specs.Told.{MyTree, IsAlone, IsMissed}
+use Rattle.ca_node.specs.Told.{MyTree, IsMissed}
+use Rattle.ca_node.specs.States.{IsAlone}
 use Rattle.ca_node.specs.TreeView.{Note, TreeView}
 use Rattle.ca_base.specs.declared.taking.NoRow.{NoRow}
 use Rattle.ca_base.specs.Putting.{first_note}

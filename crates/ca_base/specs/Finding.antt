@@ -2,12 +2,10 @@
 use Rattle.std.specs.Prelude.{◌≡◌, ℕ, ◌+◌, ◌*◌, ◌<◌, ◌≤◌, List, [], length, map, drop, slice_index_or, Result}
 use mathlib.Core.Option.{some}
 use lib.ListN.{get_elem?}
-use Rattle.ca_model.specs.History.{after}
 use Rattle.ca_model.specs.StoreMap.{IsStoreMap}
 use Rattle.ca_model.specs.Places.{IsPlace}
 use Rattle.ca_node.specs.declared.cursor.Cursor.{Cursor}
 use Rattle.ca_node.specs.Links.{IsIn}
-use Rattle.ca_node.specs.Place.{part}
 use Rattle.ca_node.specs.Row.{bytes_in, count, items, pair}
 use Rattle.ca_node.specs.Told.{IsBaseNote, IsShown, link_word}
 use Rattle.ca_node.specs.TreeView.{Note, TreeView}
@@ -22,10 +20,6 @@ pub record IsReadable (z : Sizes) (u : TreeView) (base : ℕ) (note : Note) : Ty
   pub is_base : IsBaseNote z note
   pub few : count note.its ≤ 120
   pub ordered : IsStoreMap z.keypos (map pair note.objects)
-
--- The pass was shown the base, whose objects are what the last state that it has seen has of the keys that are led there.
-abbrev pub IsLastState : Sizes → TreeView → ℕ → Type 0
-IsLastState z u base = (note : Note) × IsReadable z u base note × (map pair note.objects ≡ part note.place.span (after u.seen []))
 
 -- The cursor tells the base that was shown, and where it hung: a link within a space of these sizes, and the level.
 pub record IsAtCursor (z : Sizes) (note : Note) (cursor : Cursor) : Type 0 where

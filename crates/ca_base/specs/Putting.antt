@@ -138,6 +138,7 @@ pub record IsRenewed (z : Sizes) (met : Met) (statistic : ℕ) (edit : Edit) (u 
   pub statistic_is : slice_index (first_note v.notes).its 1 ≡ statistic
   -- No base was split, no exchange of a link was lost, and no link was loaded.
   pub same_splits : v.splits ≡ u.splits
+  pub same_turns : v.turns ≡ u.turns
   pub same_cuts : v.cuts ≡ u.cuts
   pub same_lost : v.lost ≡ u.lost
   pub same_loads : v.loads ≡ u.loads

@@ -7,7 +7,7 @@ ghost use Rattle.ca_model.specs.StoreMap.{IsStoreMap};
 ghost use Rattle.ca_node.specs.Inventory.{IsListed};
 ghost use Rattle.ca_node.specs.Place.{HasKey};
 ghost use Rattle.ca_node.specs.Row.{pair};
-ghost use Rattle.ca_node.specs.Told.{IsAlone};
+ghost use Rattle.ca_node.specs.States.{IsAlone};
 ghost use Rattle.ca_base.specs.Counting.{IsSpent, HasCleared, HasEnded};
 ghost use Rattle.ca_base.specs.Targets.{IsTarget};
 ghost use Rattle.ca_base.specs.Putting.{object_at, HasRenewed, IsNewRow, HasTried};

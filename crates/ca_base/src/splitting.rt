@@ -4,7 +4,8 @@ ghost use Rattle.std.specs.Prelude.{◌≡◌, ◌≢◌, ◌+◌, ◌*◌, ◌<
 ghost use Rattle.ca_model.specs.StoreMap.{IsStoreMap};
 ghost use Rattle.ca_node.specs.Inventory.{IsListed};
 ghost use Rattle.ca_node.specs.Row.{pair};
-ghost use Rattle.ca_node.specs.Told.{IsAlone, IsDivision, link_word};
+ghost use Rattle.ca_node.specs.Told.{IsDivision, link_word};
+ghost use Rattle.ca_node.specs.States.{IsAlone};
 ghost use Rattle.ca_node.specs.Links.{AreApart};
 ghost use Rattle.ca_base.specs.Counting.{IsSpent, HasCleared, HasEnded, HasFound, HasPutBack};
 ghost use Rattle.ca_base.specs.Targets.{IsTarget};

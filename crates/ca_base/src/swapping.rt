@@ -2,7 +2,8 @@
 ghost use Rattle.std.specs.Prelude.{◌≡◌, ◌≢◌, ◌<◌, ◌≤◌, ℕ, false, List, [], ◌∷◌, length, Ok, slice_index};
 ghost use Rattle.ca_node.specs.Inventory.{IsListed};
 ghost use Rattle.ca_node.specs.Links.{IsIn, AreApart};
-ghost use Rattle.ca_node.specs.Told.{IsAlone, IsBaseNote, IsUpdate};
+ghost use Rattle.ca_node.specs.Told.{IsBaseNote, IsUpdate};
+ghost use Rattle.ca_node.specs.States.{IsAlone};
 ghost use Rattle.ca_base.specs.Counting.{losses, IsSpent, HasCleared, HasEnded, HasMet, PutsBack};
 ghost use Rattle.ca_base.specs.Finding.{IsAtCursor};
 ghost use Rattle.ca_base.specs.Putting.{HasRenewed, IsNewRow, HasSwapped, first_note};

@@ -4,7 +4,7 @@ ghost use Rattle.ca_model.specs.Places.{IsPlace};
 ghost use Rattle.ca_node.specs.Inventory.{IsListed};
 ghost use Rattle.ca_node.specs.Place.{HasKey};
 ghost use Rattle.ca_node.specs.Row.{pair};
-ghost use Rattle.ca_node.specs.Told.{IsAlone};
+ghost use Rattle.ca_node.specs.States.{IsAlone};
 ghost use Rattle.ca_base.specs.Counting.{IsSpent, HasCleared, HasEnded};
 ghost use Rattle.ca_base.specs.Putting.{gone as gone_at, IsItemAt, IsNewRow, IsRoom, IsFor, HasRenewed, HasTried};
 ghost use Rattle.ca_base.specs.Targets.{IsKeyed, IsTarget, edit_of, event_of, key_in};

@@ -1,5 +1,5 @@
 -- Logs as the history grows, and as they grow.
-use Rattle.std.proofs.Common.{◌≡◌, ◌≢◌, ℕ, zero, suc, ◌+◌, ◌-◌, ◌<◌, ◌≤◌, List, [], ◌∷◌, ◌++◌, length, take, Some, slice_get, sym, refl, ap, ◌∙◌, subst, arith, length-append, if◌then◌else◌, eqb, eq-eqb, ne_eqb}
+use Rattle.std.proofs.Common.{◌≡◌, ◌≢◌, ℕ, zero, suc, ◌+◌, ◌-◌, ◌<◌, ◌≤◌, List, [], ◌∷◌, ◌++◌, length, take, Some, slice_get, sym, refl, ap, ◌∙◌, subst, arith, length-append, append-nil, if◌then◌else◌, eqb, eq-eqb, ne_eqb}
 use Rattle.std.proofs.lemmas.List.{take-append-le, append_assoc}
 use mathlib.Core.Logic.{dite}
 use native.Mathlib.Decide.{ℕ_discrete}
@@ -22,6 +22,10 @@ take_whole (x ∷ xs) ys = ap (λ zs. x ∷ zs) (take_whole xs ys)
 -- The state at the end of the first part.
 pub state_there : (xs ys : History) → state (xs ++ ys) (length xs) ≡ after xs []
 state_there xs ys = ap (λ h. after h []) (take_whole xs ys)
+
+-- The state at the end of a history.
+pub last_state : (h : History) → state h (length h) ≡ after h []
+last_state h = ap (λ (x : History). state x (length h)) (sym (append-nil h)) ∙ state_there h []
 
 -- A state within a history stays as it grows.
 pub state_stays : (h t : History) (p : ℕ) → p ≤ length h → state (h ++ t) p ≡ state h p

@@ -1,5 +1,5 @@
 -- Loads: of links, and of words of rows that were shown.
-use Rattle.std.proofs.Common.{◌≡◌, ◌≢◌, ◌⊎◌, ℕ, zero, suc, ◌+◌, ◌*◌, ◌<◌, ◌≤◌, Bool, true, List, [], ◌∷◌, ◌++◌, length, map, get_or, set, sym, refl, ap, ◌∙◌, subst, inl, inr, ⊎_elim, arith, length-append}
+use Rattle.std.proofs.Common.{◌≡◌, ◌≢◌, ◌⊎◌, ℕ, zero, suc, ◌+◌, ◌*◌, ◌<◌, ◌≤◌, le_refl, Bool, true, List, [], ◌∷◌, ◌++◌, length, map, get_or, set, sym, refl, ap, ◌∙◌, subst, inl, inr, ⊎_elim, arith, length-append}
 use Rattle.std.proofs.lemmas.List.{map-set, set-get_or, append_assoc, length-map}
 use mathlib.Core.Option.{some, none, some-injective, some-ne-none}
 use lib.ListN.{get_elem?}
@@ -16,7 +16,7 @@ use Rattle.ca_rows.specs.Calls.{Raises}
 use Rattle.ca_rows.specs.Rule.{upper_of, Ruled}
 use Rattle.ca_rows.proofs.Relinking.{Stays, relinks}
 use Rattle.ca_node.specs.Inventory.{IsListed}
-use Rattle.ca_node.specs.Laws.{tree_lends, numbered, relisted, seat_changed, starts_whole}
+use Rattle.ca_node.specs.Laws.{alive, tree_lends, numbered, relisted, seat_changed, starts_whole}
 use Rattle.ca_node.specs.Links.{IsIn, IsUnder, IsLinked, by_route, by_base, IsLent, IsNoted, by_note, by_item, by_way, by_link, by_link_item}
 use Rattle.ca_node.specs.Place.{Span, all_keys, left_of, right_of, HasKey, part, Place}
 use Rattle.ca_node.specs.Reached.{by_place, base_at, route_at, placed_linked, item_linked}
@@ -24,10 +24,11 @@ use Rattle.ca_node.specs.Row.{row_at, IsObjectRow, IsBaseRow, IsRouteRow, items,
 use Rattle.ca_node.specs.Shape.{Base, Route, place_of, LeadsTo, IsBaseAt, IsRouteAt}
 use Rattle.ca_node.specs.Standing.{mark_of}
 use Rattle.ca_node.specs.Stays.{word_at, row_long}
-use Rattle.ca_node.specs.Told.{MyTree, with_upper, IsBaseNote, IsRouteNote, IsKnown, IsAlone, IsMissed, IsKnownLink, IsAnyLink, IsPlaceOf, come_to, come_at, led_to_base, led_to_route, IsLedToBase, IsLedToRoute, IsLed, Leads, IsShown, IsShownRoute, IsRead, Reads, IsReadNow, entered, ReadsLast, Refuses, IsRise, one_more_lost, MayLoad}
+use Rattle.ca_node.specs.Told.{MyTree, with_upper, IsBaseNote, IsRouteNote, IsKnown, IsMissed, IsKnownLink, IsAnyLink, IsPlaceOf, come_to, come_at, led_to_base, led_to_route, IsLedToBase, IsLedToRoute, IsLed, Leads, IsShown, IsShownRoute, IsRead, Reads, entered, ReadsLast, Refuses, IsRise, one_more_lost, MayLoad}
+use Rattle.ca_node.specs.States.{IsAlone, IsReadSince}
 use Rattle.ca_node.specs.Tree.{StartsWith, ArePast, IsLinkOfView, IsFixed, IsTrue, IsTrueWay, Knows, IsTree}
 use Rattle.ca_node.specs.TreeView.{Note, Way, Inventory, TreeView}
-use Rattle.ca_node.proofs.Logs.{state_there, read_lawful, past_more}
+use Rattle.ca_node.proofs.Logs.{last_state, state_stays, read_lawful, past_more}
 use Rattle.ca_rows.specs.Layout.{row_words}
 use Rattle.ca_node.specs.Layout.{root_word}
 
@@ -181,13 +182,13 @@ lost_notes words u _ (by_link way row i e) = by_link way row i e
 lost_notes words u _ (by_link_item way base row i e f k) = by_link_item way base row i e f k
 
 -- An entry in the log gives no note.
-pub entered_notes : (words : List ℕ) (u : TreeView) (event : Event) (row : ℕ)
-    → IsNoted words (entered u event) row → IsNoted words u row
-entered_notes words u event _ (by_note note row i e) = by_note note row i e
-entered_notes words u event _ (by_item note row i b k) = by_item note row i b k
-entered_notes words u event _ (by_way way row i e) = by_way way row i e
-entered_notes words u event _ (by_link way row i e) = by_link way row i e
-entered_notes words u event _ (by_link_item way base row i e f k) =
+pub entered_notes : (words : List ℕ) (u : TreeView) (event : Event) (at row : ℕ)
+    → IsNoted words (entered u event at) row → IsNoted words u row
+entered_notes words u event at _ (by_note note row i e) = by_note note row i e
+entered_notes words u event at _ (by_item note row i b k) = by_item note row i b k
+entered_notes words u event at _ (by_way way row i e) = by_way way row i e
+entered_notes words u event at _ (by_link way row i e) = by_link way row i e
+entered_notes words u event at _ (by_link_item way base row i e f k) =
     by_link_item way base row i e f k
 
 -- What a list of rows spells, one after another.
@@ -262,7 +263,7 @@ module _ (z : Sizes) (made : ℕ) (words : List ℕ) (uppers : List TreeView)
     -- It is what the words spell.
     pub way_true : IsTrueWay words f.role route_way
     way_true = record {
-      stands = is ∙ ap (Route place) (sym there.key_is);
+      stands = inl (is ∙ ap (Route place) (sym there.key_is));
       spells = λ index fixed. sym (word_at words row index fixed.0);
     }
 
@@ -292,7 +293,8 @@ module _ (z : Sizes) (made : ℕ) (words : List ℕ) (uppers : List TreeView)
         × (((link ≡ row_words * way.row + 1)
         × (span ≡ left_of (route_key way.its) way.place.span))
         ⊎ ((link ≡ row_words * way.row + 2) × (span ≡ right_of (route_key way.its) way.place.span)))).
-        let r = there t.0.row t.0.place (route_key t.0.its) (k.ways t.0 t.1).stands in
+        let r = there t.0.row t.0.place (route_key t.0.its)
+        (alive f.role t.0 (k.ways t.0 t.1).stands) in
         subst (λ (i : ℕ). LeadsTo words f.role link i span) (sym t.2) (⊎_elim
         (λ (e : (link ≡ row_words * t.0.row + 1) × (span ≡ left_of (route_key t.0.its) t.0.place.span)).
         subst (λ (i : ℕ). LeadsTo words f.role i (t.0.place.level + 1) span) (sym e.0)
@@ -493,8 +495,20 @@ module _ (z : Sizes) where
         row_is = refl;
         place = place_known z r.made s.words (map upper_of s.views) f id u k link place here
             (ap place_of is);
-        has = subst (λ (h : History). map pair note.objects ≡ part place.span (after h [])) whole
-            (base_has z r.made s.words (map upper_of s.views) f (get_or s.words link 0) place is);
+        has = record {
+          at = length (u.seen ++ k.seen_first.0);
+          since = (
+            (let more = starts_shorter u.seen u.since k.since_first in
+                let sum = length-append u.seen k.seen_first.0 in omega arith),
+            le_refl (length (u.seen ++ k.seen_first.0)),
+          );
+          has = subst (λ (m : StoreMap). map pair note.objects ≡ part place.span m)
+              (sym (last_state (u.seen ++ k.seen_first.0))) (subst
+              (λ (h : History). map pair note.objects ≡ part place.span (after h [])) whole
+              (base_has z r.made s.words (map upper_of s.views) f (get_or s.words link 0) place
+              is));
+          last = λ _. refl;
+        };
         known = sized (λ y. IsBaseNote y note × IsKnown y with_base) (
           base_is z r.made s.words (map upper_of s.views) f (get_or s.words link 0) place is,
           known_now with_base refl refl refl,
@@ -621,33 +635,39 @@ module _ (z : Sizes) where
       )
 
   -- The same load, which ends a call that edits nothing.
-  pub reads_last : (slots id : ℕ) (me : MyTree) (i : ℕ) (event : Event) → IsReadNow event me.0.upper
+  pub reads_last : (slots id : ℕ) (me : MyTree) (i : ℕ) (event : Event)
+      → IsReadSince event me.0.upper
       → Allows (R z) slots id me i
       (λ x. x) (Raises MayLoad (ReadsLast event) (step slots i 0 0 none) me)
-  reads_last slots id me i event now s r _ at _ = let f = r.above in let d = me.0 in
+  reads_last slots id me i event (p, now) s r _ at _ = let f = r.above in let d = me.0 in
       let k = knows_upper z s r id d at in
       let us : List TreeView = map upper_of s.views in
-      let first = at_map upper_of s.views id d at in let u' : TreeView = entered d.upper event in
-      let p : ℕ = length d.upper.seen in
+      let first = at_map upper_of s.views id d at in
+      let u' : TreeView = entered d.upper event p in
       let low = starts_shorter f.history d.upper.seen k.seen_first in
+      let inside = now.since.1 in
       let k' = relisted z.rows r.made s.words f.role us (set us id u') f.history id d.upper
       (numbered us id d.upper u' first (λ _. refl)) k in
-      let there : state f.history p ≡ after d.upper.seen [] = ap (λ h. state h p) k.seen_first.1
-      ∙ state_there d.upper.seen k.seen_first.0 in
+      let there : state f.history p ≡ state d.upper.seen p = ap (λ h. state h p) k.seen_first.1
+      ∙ state_stays d.upper.seen k.seen_first.0 p now.since.1 in
       let read : ReadsLast event (step slots i 0 0 none) me (get_or s.words i 0)
-      (with_upper me u') = (refl, read_is z r.made s.words us f id d.upper k i) in (
+      (with_upper me u') = (
+        record { at = p; is_read = now; now = refl },
+        read_is z r.made s.words us f id d.upper k i,
+      ) in (
         record d { upper = u' },
         keeps,
         tt,
-        looked z s r i id d u' at (λ row n. inl (entered_notes s.words d.upper event row n))
+        looked z s r i id d u' at (λ row n. inl (entered_notes s.words d.upper event p row n))
             (seat_changed z r.made s.words us id d.upper u' f first (λ _. refl) (λ _. refl) record {
               made_before = k'.made_before;
               alone = k'.alone;
               seen_first = k'.seen_first;
               since_first = k'.since_first;
-              lawful = read_lawful d.upper.number event f.history p d.upper.log now.0 low
-                  (subst (IsAnswer event) (sym there) now.1) k.past k.lawful;
-              past = past_more p d.upper.log (event, p) k.past (omega arith);
+              lawful = read_lawful d.upper.number event f.history p d.upper.log now.edits_nothing
+                  (omega arith)
+                  (subst (IsAnswer event) (sym there) now.answer) now.first k.lawful;
+              past = past_more (length d.upper.seen) d.upper.log (event, p) k.past now.since.1;
               notes = k'.notes;
               links = k'.links;
               ways = k'.ways;

@@ -3,13 +3,14 @@ use Rattle.std.proofs.Common.{◌≡◌, ◌⊎◌, ℕ, ◌+◌, ◌*◌, List,
 use mathlib.Core.Option.{some}
 use Rattle.ca_model.specs.StoreMap.{StoreMap}
 use Rattle.ca_rows.specs.declared.sizes.Sizes.{Sizes}
+use Rattle.ca_node.specs.Laws.{alive}
 use Rattle.ca_node.specs.Links.{IsIn, IsUnder, IsLinked, by_route, by_base, IsNoted, by_note, by_item, by_way, by_link, by_link_item}
 use Rattle.ca_node.specs.Place.{Place}
 use Rattle.ca_node.specs.Reached.{led_to, route_at, placed_linked}
 use Rattle.ca_node.specs.Row.{row_at, IsObjectRow, IsBaseRow, items, route_key}
 use Rattle.ca_node.specs.Shape.{Role, Out, Base, Route, place_of, IsShape}
 use Rattle.ca_node.specs.Stays.{map_same}
-use Rattle.ca_node.specs.Tree.{IsLinkOfView, IsTrue, IsTrueWay}
+use Rattle.ca_node.specs.Tree.{IsAlive, IsLinkOfView, IsTrue, IsTrueWay}
 use Rattle.ca_node.specs.TreeView.{Note, Way, TreeView}
 use Rattle.ca_node.proofs.Rebased.{IsRoute, base_no_route, out_no_route, relinked_row, relinked_object, relinked_routes}
 use Rattle.ca_rows.specs.Layout.{row_words}
@@ -27,7 +28,8 @@ remembered_leads z words role m shape u ways link known = ⊎_elim
       ap (λ (i : ℕ). place_of (role (get_or words i 0))) e ∙ shape.top.hangs,
     ))
     (λ t. let r =
-    route_at z words role m shape t.0.row t.0.place (route_key t.0.its) (ways t.0 t.1).stands in
+    route_at z words role m shape t.0.row t.0.place (route_key t.0.its)
+    (alive role t.0 (ways t.0 t.1).stands) in
     ⊎_elim
     (λ (e : link ≡ row_words * t.0.row + 1). (
       led_to words role (row_words * t.0.row + 1) _ _ r.left,
@@ -104,9 +106,12 @@ module _ (z : Sizes) (words : List ℕ) (role : ℕ → Role) (m : StoreMap)
     pub way_stays : (way : Way) → IsIn way u.ways → IsTrueWay words role way
         → IsTrueWay (set words place.link row) role' way
     way_stays way i t = record {
-      stands = routes_stay way.row way.place (route_key way.its) t.stands;
+      stands = ⊎_elim
+          (λ (e : IsAlive role way). inl (routes_stay way.row way.place (route_key way.its) e))
+          (λ d. inr d) t.stands;
       spells = λ index fixed. relinked_routes z words role m shape old place is row way.row
-          (route_at z words role m shape way.row way.place (route_key way.its) t.stands).some_row
+          (route_at z words role m shape way.row way.place (route_key way.its)
+          (alive role way t.stands)).some_row
           index fixed.0 fixed.1 fixed.2 ∙ t.spells index fixed;
     }
 
@@ -115,7 +120,8 @@ module _ (z : Sizes) (words : List ℕ) (role : ℕ → Role) (m : StoreMap)
         → IsIn way u.ways → (c : ℕ)
         → IsUnder (set words place.link row) way.row c → IsLinked (set words place.link row) c
     under_linked ways way i c under =
-        let e = routes_stay way.row way.place (route_key way.its) (ways way i).stands in
+        let e = routes_stay way.row way.place (route_key way.its)
+        (alive role way (ways way i).stands) in
         by_route way.row c (placed_linked z words' role' n shape' way.row way.place (ap place_of e))
         (route_at z words' role' n shape' way.row way.place (route_key way.its) e).is_route under
 

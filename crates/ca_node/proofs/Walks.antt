@@ -19,7 +19,8 @@ use Rattle.ca_node.specs.Inventory.{IsListed}
 use Rattle.ca_node.specs.Links.{IsIn}
 use Rattle.ca_node.specs.Place.{Span, all_keys, left_of, right_of, HasKey, part, Place}
 use Rattle.ca_node.specs.Row.{level, route_key, pair}
-use Rattle.ca_node.specs.Told.{MyTree, with_upper, IsBaseNote, IsRouteNote, IsKnown, IsAlone, IsKnownLink, IsAnyLink, IsLed, IsLedToBase, IsLedToRoute, IsShownWord, led_to_base, led_to_route}
+use Rattle.ca_node.specs.Told.{MyTree, with_upper, IsBaseNote, IsRouteNote, IsKnown, IsKnownLink, IsAnyLink, IsLed, IsLedToBase, IsLedToRoute, IsShownWord, led_to_base, led_to_route}
+use Rattle.ca_node.specs.States.{IsAlone, HasState}
 use Rattle.ca_node.specs.TreeView.{Note, Way, TreeView}
 use Rattle.ca_node.specs.Walking.{IsSought, IsSide, IsAbove, IsLowRoute, IsHighRoute, IsPlaced, IsRouteShown, IsAtRoute, IsAtBase, IsWalking, IsWalked, walked, passed}
 use Rattle.ca_node.proofs.Parts.{goes_left, goes_right, of_all}
@@ -251,8 +252,10 @@ module _ (z : Sizes) (s : Spot) (m m' m'' : MyTree) (some_rows : 0 < z.rows)
             (λ (x : MyTree). IsPlaced z x.0.upper.ways led.note.place next) (sym led.now)
             (placed led.note.place led.place.0 at.1);
         is_base = subst (λ (y : Sizes). IsBaseNote y led.note) sizes told.0;
-        has = subst (λ (x : MyTree). map pair led.note.objects
-            ≡ part led.note.place.span (after x.0.upper.seen [])) (sym led.now) led.has;
+        has = subst (λ (x : MyTree). HasState z x.0.upper led.note) (sym led.now) (subst
+            (λ (y : Sizes).
+            HasState y (led_to_base m'.0.upper led.more led.note led.note (m'.0.upper.loads + 1))
+            led.note) sizes led.has);
         known = subst (λ (x : MyTree). IsKnown z x.0.upper) (sym led.now)
             (subst (λ (y : Sizes).
             IsKnown y (led_to_base m'.0.upper led.more led.note led.note (m'.0.upper.loads + 1)))

@@ -23,10 +23,14 @@ use Rattle.ca_node.specs.Row.{row_at, IsObjectRow, IsBaseRow, items, route_key, 
 use Rattle.ca_node.specs.Shape.{Role, Out, Base, Route, place_of, IsBaseAt, IsSo, IsShape}
 use Rattle.ca_node.specs.Standing.{shape_stands}
 use Rattle.ca_node.specs.Stays.{IsSameRow, word_at, row_same, map_same, linked_on, linked_back, lent_on, lent_back}
-use Rattle.ca_node.specs.Tree.{StartsWith, IsTrue, IsTrueWay, IsEnded, Knows, IsTree}
+use Rattle.ca_node.specs.Tree.{StartsWith, IsAlive, IsDead, IsTrue, IsTrueWay, IsEnded, Knows, IsTree}
 use Rattle.ca_node.specs.TreeView.{Note, Way, Ended, TreeView, first_inventory, blank, ended_of, and_ended, ended_with, pinned, unpinned}
 use Rattle.ca_rows.specs.Layout.{row_words}
 use Rattle.ca_node.specs.Layout.{body_word, form_unit, range_word, root_word}
+
+-- A route that a seat remembers is alive, since none is dead as yet.
+pub alive : (role : ℕ → Role) (way : Way) → IsAlive role way ⊎ ((at : ℕ) × IsDead way at) → IsAlive role way
+alive role way stands = ⊎_elim (λ (e : IsAlive role way). e) (λ d. absurd d.1) stands
 
 pub in_nothing : {A : Type 0} (x : A) (xs : List A) → xs ≡ [] → IsIn x xs → ⊥
 in_nothing x xs e i = some-ne-none x (sym (ap (λ ys. get_elem? ys i.0) (sym e) ∙ i.1))
@@ -108,7 +112,7 @@ module _ (z : Sizes) (made : ℕ) (uppers : List TreeView) (words others : List 
 
     way_range : (way : Way) → IsIn way u.ways → (0 < way.row) × (way.row ≤ z.rows)
     way_range way i = let t = knows.ways way i in
-        placed_range z words f.role (after f.history []) f.shape way.row way.place (ap place_of t.stands)
+        placed_range z words f.role (after f.history []) f.shape way.row way.place (ap place_of (alive f.role way t.stands))
 
     way_now : (way : Way) → IsIn way u.ways → IsTrueWay others f.role way
     way_now way i = let t = knows.ways way i in record {
@@ -122,7 +126,7 @@ module _ (z : Sizes) (made : ℕ) (uppers : List TreeView) (words others : List 
 
     under_range : (way : Way) → IsIn way u.ways → (row : ℕ) → IsUnder words way.row row → (0 < row) × (row ≤ z.rows)
     under_range way i row under = let t = knows.ways way i in
-        let p = under_placed z words f.role (after f.history []) f.shape way.row row way.place (route_key way.its) t.stands under in
+        let p = under_placed z words f.role (after f.history []) f.shape way.row row way.place (route_key way.its) (alive f.role way t.stands) under in
         placed_range z words f.role (after f.history []) f.shape row p.0 p.1
 
     notes_back : (row : ℕ) → IsNoted others u row → IsNoted words u row

@@ -10,6 +10,7 @@ pub mod Reached
 pub mod Row
 pub mod Shape
 pub mod Standing
+pub mod States
 pub mod Stays
 pub mod Tallied
 pub mod Told

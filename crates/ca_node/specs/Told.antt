@@ -22,8 +22,9 @@ use Rattle.ca_node.specs.declared.link.Link.TheVariants as link
 use Rattle.ca_node.specs.Marks.{IsMark}
 use Rattle.ca_node.specs.Place.{Span, all_keys, left_of, right_of, HasKey, part, Place, left_place, right_place, edit_key}
 use Rattle.ca_node.specs.Row.{IsObjectRow, IsBaseRow, IsRouteRow, count, level, items, IsUnmarked, IsIdle, key, route_key, pair}
+use Rattle.ca_node.specs.States.{HasState, IsAlone, IsReadAt}
 use Rattle.ca_node.specs.Tree.{ArePast, IsFixed}
-use Rattle.ca_node.specs.TreeView.{Note, Way, Renewal, Division, Inventory, TreeView, blank, no_note}
+use Rattle.ca_node.specs.TreeView.{Note, Way, Renewal, Division, Inventory, TreeView, blank, no_note, one_passed}
 use Rattle.ca_rows.specs.Layout.{row_words}
 use Rattle.ca_node.specs.Layout.{root_word}
 
@@ -69,10 +70,6 @@ pub record IsKnown (z : Sizes) (u : TreeView) : Type 0 where
   pub enrolled : u.number ≤ z.passes
   pub by_passes : AreByPasses z.passes u.seen
 
--- The seat is that of a pass, and the space is for one pass alone.
-abbrev pub IsAlone : Sizes → TreeView → Type 0
-IsAlone z u = (z.passes ≡ 1) × (0 < u.number)
-
 -- The seat knows of the link which keys are led there, and from which level on rows hang there: it is the root link, or one of a route that it
 -- was shown.
 abbrev pub IsKnownLink : TreeView → ℕ → ℕ → Span → Type 0
@@ -111,15 +108,14 @@ led_to_route u more way = record u { seen = u.seen ++ more; ways = way ∷ u.way
 abbrev pub IsPlaceOf : TreeView → ℕ → Place → Type 0
 IsPlaceOf u link place = (place.link ≡ link) × ((least : ℕ) (span : Span) → IsKnownLink u link least span → (least ≤ place.level) × (place.span ≡ span))
 
--- The link was loaded, by a walk or not: it names this base, which has what the last state of the history has of the keys that are led there. The seat has seen
--- the whole history now.
+-- The link was loaded, by a walk or not: it names this base, which has what a state since the pin has of the keys that are led there.
 pub record IsLedToBase (walks : Bool) (link : ℕ) (m : MyTree) (n : ℕ) (m' : MyTree) : Type 0 where
   pub note : Note
   pub more : History
   pub now : m' ≡ with_upper m (led_to_base m.0.upper more note (come_to walks m.0.upper note) (come_at walks m.0.upper))
   pub row_is : note.row ≡ n
   pub place : IsPlaceOf m.0.upper link note.place
-  pub has : map pair note.objects ≡ part note.place.span (after (m.0.upper.seen ++ more) [])
+  pub has : HasState m.0.sizes (led_to_base m.0.upper more note (come_to walks m.0.upper note) (come_at walks m.0.upper)) note
   pub known : 0 < m.0.sizes.rows → IsBaseNote m.0.sizes note × IsKnown m.0.sizes (led_to_base m.0.upper more note (come_to walks m.0.upper note) (come_at walks m.0.upper))
   pub listed : 0 < m.0.sizes.rows → IsAlone m.0.sizes m.0.upper → IsListed m.0.upper.inventory note
 
@@ -160,17 +156,19 @@ IsRead u place n = (row index word : ℕ) → place ≡ row_words * row + index 
 abbrev pub Reads : Step (Unit {0}) → MyTree → ℕ → MyTree → Type 0
 Reads st m n m' = (m' ≡ m) × IsRead m.0.upper st.word n
 
--- The call is one that edits nothing, and its answer is that of the last state that the seat has seen.
-abbrev pub IsReadNow : Event → TreeView → Type 0
-IsReadNow event u = (effect event ≡ []) × IsAnswer event (after u.seen [])
+-- what a seat knows once its log has this call, at this place
+abbrev pub entered : TreeView → Event → ℕ → TreeView
+entered u event at = record u { log = u.log ++ (event, at) ∷ [] }
 
--- what a seat knows once its log has this call, at the place as far as which it has seen the history
-abbrev pub entered : TreeView → Event → TreeView
-entered u event = record u { log = u.log ++ (event, length u.seen) ∷ [] }
+-- The call was entered in the log, at the place of a state since the pin, by which it answers.
+pub record IsEntered (event : Event) (m m' : MyTree) : Type 0 where
+  pub at : ℕ
+  pub is_read : IsReadAt event at m.0.upper
+  pub now : m' ≡ with_upper m (entered m.0.upper event at)
 
 -- A word of a row was loaded, and the call that it ends was entered in the log.
 abbrev pub ReadsLast : Event → Step (Unit {0}) → MyTree → ℕ → MyTree → Type 0
-ReadsLast event st m n m' = (m' ≡ with_upper m (entered m.0.upper event)) × IsRead m.0.upper st.word n
+ReadsLast event st m n m' = IsEntered event m m' × IsRead m.0.upper st.word n
 
 -- The note is among these, the last one first, and it is the last one of its link.
 abbrev pub IsLastThere : Note → List Note → Type 0
@@ -344,7 +342,13 @@ divided_inventory x i = record {
 
 -- what a seat knows after it carried out the split: it remembers no base, so that it exchanges none before it is shown one again
 abbrev pub divided : Division → TreeView → TreeView
-divided x u = record u { notes = []; splits = u.splits + 1; inventory = divided_inventory x u.inventory; cuts = x ∷ u.cuts }
+divided x u = record u {
+  notes = [];
+  splits = u.splits + 1;
+  turns = one_passed u.turns;
+  inventory = divided_inventory x u.inventory;
+  cuts = x ∷ u.cuts;
+}
 
 -- The split is carried out: the route and its bases are linked, and the old base, which nobody claimed until then, is unlinked by the seat.
 pub record IsDivided (x : Division) (m m' : MyTree) : Type 0 where

@@ -41,9 +41,17 @@ pub record IsTrue (rows : ℕ) (words : List ℕ) (role : ℕ → Role) (note : 
 abbrev pub IsFixed : ℕ → Type 0
 IsFixed index = (index < row_words) × (index ≢ 1) × (index ≢ 2) × (index ≢ 3)
 
--- The route hangs where it hung, and has the words that it had, but for its links and its join word.
+-- The route hangs where it hung.
+abbrev pub IsAlive : (ℕ → Role) → Way → Type 0
+IsAlive role way = role way.row ≡ Route way.place (route_key way.its)
+
+-- The route was unlinked since the seat was pinned, at this place of the history. No step unlinks a route as yet.
+abbrev pub IsDead : Way → ℕ → Type 0
+IsDead way at = ⊥
+
+-- The route is alive, or dead with its place. It has the words that it had, but for its links and its join word.
 pub record IsTrueWay (words : List ℕ) (role : ℕ → Role) (way : Way) : Type 0 where
-  pub stands : role way.row ≡ Route way.place (route_key way.its)
+  pub stands : IsAlive role way ⊎ ((at : ℕ) × IsDead way at)
   pub spells : (index : ℕ) → IsFixed index → slice_index words (row_words * way.row + index) ≡ slice_index way.its index
 
 -- A pass that was joined into a seat: its log is lawful, and no seat has its number any more.

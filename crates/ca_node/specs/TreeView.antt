@@ -1,5 +1,5 @@
 -- What a seat knows of the tree. It is data of proofs alone: lists, since a function is no value.
-use Rattle.std.specs.Prelude.{ℕ, List, [], ◌∷◌, None}
+use Rattle.std.specs.Prelude.{ℕ, ◌+◌, List, [], ◌∷◌, None}
 use Prim.Native.Nat.{zero, suc}
 use Rattle.ca_model.specs.Event.{Entry}
 use Rattle.ca_model.specs.History.{History}
@@ -61,6 +61,12 @@ pub record Ended : Type 0 where
   pub splits : ℕ
   pub joins : ℕ
 
+-- What the budget of a call counts beside the exchanges that a seat lost: how often it passed on to another place, as by a split, and how many
+-- operations of others it helped to their end.
+pub record Turns : Type 0 where
+  pub passed : ℕ
+  pub helped : ℕ
+
 pub record TreeView : Type 0 where
   -- the number of its pass; 0 of a seat that is no pass's
   pub number : ℕ
@@ -77,8 +83,9 @@ pub record TreeView : Type 0 where
   pub loads : ℕ
   pub splits : ℕ
   pub joins : ℕ
-  -- how many exchanges of a link it lost
+  -- how many exchanges of a link it lost, and what else the budgets of its calls count
   pub lost : ℕ
+  pub turns : Turns
   -- the base that a walk or an update came to last, whether it is pinned or not, how many links it had loaded as a walk came to a base last, and its
   -- last update
   pub last : Note
@@ -100,6 +107,13 @@ no_renewal = record { count = 0; key = []; old = no_note; new = no_note; lost = 
 abbrev pub no_refusals : Counts
 no_refusals = record { busy = 0; full = 0; deep = 0; worn = 0; last = None }
 
+abbrev pub no_turns : Turns
+no_turns = record { passed = 0; helped = 0 }
+
+-- one turn more, by which a seat passed on
+abbrev pub one_passed : Turns → Turns
+one_passed turns = record turns { passed = turns.passed + 1 }
+
 -- what the tree has at first: row 1, a base
 abbrev pub first_inventory : Inventory
 first_inventory = record { rows = 1 ∷ []; bases = (1, root_place) ∷ []; most = 1 }
@@ -118,6 +132,7 @@ blank number = record {
   splits = 0;
   joins = 0;
   lost = 0;
+  turns = no_turns;
   last = no_note;
   shown = 0;
   renewal = no_renewal;

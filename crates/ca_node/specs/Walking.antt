@@ -15,7 +15,8 @@ use Rattle.ca_node.specs.Inventory.{IsListed}
 use Rattle.ca_node.specs.Links.{IsIn}
 use Rattle.ca_node.specs.Place.{Span, HasKey, part, Place}
 use Rattle.ca_node.specs.Row.{count, route_key, pair}
-use Rattle.ca_node.specs.Told.{MyTree, with_upper, IsBaseNote, IsRouteNote, IsKnown, IsAlone, IsShownRoute, link_word}
+use Rattle.ca_node.specs.Told.{MyTree, with_upper, IsBaseNote, IsRouteNote, IsKnown, IsShownRoute, link_word}
+use Rattle.ca_node.specs.States.{HasState, IsAlone}
 use Rattle.ca_node.specs.TreeView.{Note, Way, TreeView}
 use Rattle.ca_rows.specs.Layout.{row_words}
 
@@ -119,7 +120,7 @@ pub record IsAtBase (z : Sizes) (spot : Spot) (m : MyTree) (cursor : Cursor) (m'
   pub row : note.row ≡ cursor.base
   pub placed : IsPlaced z m'.0.upper.ways note.place cursor
   pub is_base : IsBaseNote z note
-  pub has : map pair note.objects ≡ part note.place.span (after m'.0.upper.seen [])
+  pub has : HasState z m'.0.upper note
   pub known : IsKnown z m'.0.upper
   pub listed : IsAlone z m.0.upper → IsListed m.0.upper.inventory note
 
@@ -141,6 +142,6 @@ pub record IsWalked (z : Sizes) (spot : Spot) (m : MyTree) (cursor : Cursor) (m'
   -- The link is within the table.
   pub inside : link_word cursor.link < row_words * z.rows + row_words
   pub is_base : IsBaseNote z note
-  pub has : map pair note.objects ≡ part note.place.span (after m'.0.upper.seen [])
+  pub has : HasState z m'.0.upper note
   pub known : IsKnown z m'.0.upper
   pub listed : IsAlone z m.0.upper → IsListed m.0.upper.inventory note

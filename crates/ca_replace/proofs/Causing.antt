@@ -4,7 +4,6 @@ use Rattle.std.specs.Global.{Global}
 use Rattle.ca_replace.specs.declared.attempting.Stop.{Stop}
 use Rattle.ca_replace.specs.declared.attempting.Stop.TheVariants as stop
 use Rattle.ca_model.specs.declared.outcome.Spent.{Spent}
-use Rattle.ca_model.specs.History.{after}
 use Rattle.ca_model.specs.declared.outcome.Outcome.{Outcome}
 use Rattle.ca_node.specs.Told.{MyTree, with_upper}
 use Rattle.ca_node.specs.TreeView.{TreeView}
@@ -15,8 +14,8 @@ use Rattle.std.specs.declared.option.Option.{Option}
 use Rattle.std.specs.declared.option.Option.TheVariants.{None as Nothing, Some as Just}
 use Rattle.ca_base.specs.Counting.{losses, HasMet}
 use Rattle.ca_model.specs.Known.{Counts}
-use Rattle.ca_replace.specs.Attempting.{splits, total, IsPaid, IfDeep, refused_as}
-use Rattle.ca_replace.specs.Causes.{HasBegun, IsCaused, IsFull, IsRefill, IsUnspent, IfRefusedAs, KeepsFew}
+use Rattle.ca_replace.specs.Attempting.{helps, passes, total, IsPaid, IfDeep, refused_as}
+use Rattle.ca_replace.specs.Causes.{HasBegun, IsCaused, IsFullSince, IsRefill, IsUnspent, IfRefusedAs, KeepsFew}
 use Rattle.ca_replace.specs.Refusals.{outcome_by}
 use Rattle.ca_rows.specs.declared.kept.Kept.{Kept}
 use Rattle.ca_rows.specs.declared.sizes.Sizes.{Sizes}
@@ -66,7 +65,7 @@ pub record EndsSo {T : Type 0} (z : Sizes) (budget : ℕ) (adds : Option (List �
     (tried : Result T Stop) (now : Spent) (m m' : MyTree) : Type 0 where
   pub full : tried ≡ Err stop.Empty → ⊥
   pub split : tried ≡ Err stop.Split → ⊥
-  pub deep : tried ≡ Err stop.Deep → IsFull z adds m'.0.upper.last (after m'.0.upper.seen [])
+  pub deep : tried ≡ Err stop.Deep → IsFullSince z adds m'.0.upper
   pub lost : tried ≡ Err stop.Lost → budget ≤ total now
   pub paid : HasSpentInAll now m m'
   pub worn : tried ≡ Err stop.Worn → m'.0.worn ≡ m.0.worn + 1
@@ -79,10 +78,10 @@ caused : {T : Type 0} (z : Sizes) (number budget : ℕ) (adds : Option (List ℕ
 caused z number budget adds (Ok x) now levels m m' kept kept' same e = tt
 caused z number budget adds (Err stop.Lost) now levels m m' kept kept' same e =
     let none = e.paid.none in let counted = e.paid.counted in
-    let zero = none.0 in let zero' = none.2 in (
+    let zero = none.0 in let zero' = none.1 in let zero'' = none.2 in (
       e.lost refl,
       (let sum = counted.lost (omega arith) in omega arith),
-      counted.helped ∙ none.1,
+      (let sum = counted.helped (omega arith) in omega arith),
       (let sum = counted.passed (omega arith) in omega arith),
     )
 caused z number budget adds (Err stop.Split) now levels m m' kept kept' same e =
@@ -111,9 +110,9 @@ caused_as z number budget adds tried r now m m' kept kept' refused e =
 unspent : (budget : ℕ) (now : Spent) (m m' : MyTree) → HasSpentInAll now m m' → total now < budget
     → IsUnspent budget m m'
 unspent budget now m m' paid room = let none = paid.none in let counted = paid.counted in
-    let zero = none.0 in let zero' = none.2 in
-    let lost = counted.lost (omega arith) in let passed = counted.passed (omega arith) in
-    omega arith
+    let zero = none.0 in let zero' = none.1 in let zero'' = none.2 in
+    let lost = counted.lost (omega arith) in let helped = counted.helped (omega arith) in
+    let passed = counted.passed (omega arith) in omega arith
 
 -- So has a refusal once rows were given back, of an attempt that found the head empty: the first
 -- one, or one behind another that did so.
@@ -126,14 +125,14 @@ pub refill_caused : (z : Sizes) (number budget begun : ℕ) (adds : Option (List
 refill_caused z number budget begun adds (refusal.Busy s) now m n m' kept kept' paid first before
     h =
     subst (λ (x : Spent). (budget ≤ total x) × (x.lost ≡ min 4294967295 (losses m' - losses m))
-    × (x.helped ≡ 0)
-    × (x.passed ≡ min 4294967295 (splits m' - splits m))) (sym h.0)
+    × (x.helped ≡ min 4294967295 (helps m' - helps m))
+    × (x.passed ≡ min 4294967295 (passes m' - passes m))) (sym h.0)
     (let none = paid.none in let counted = paid.counted in let zero = none.0 in
-    let zero' = none.2 in let same = h.0 in
+    let zero' = none.1 in let zero'' = none.2 in let same = h.0 in
     let enough : budget ≤ total now = subst (λ (x : Spent). budget ≤ total x) same h.1 in (
       enough,
       (let sum = counted.lost (omega arith) in omega arith),
-      counted.helped ∙ none.1,
+      (let sum = counted.helped (omega arith) in omega arith),
       (let sum = counted.passed (omega arith) in omega arith),
     ))
 refill_caused z number budget begun adds (refusal.Full cause) now m n m' kept kept' paid first
@@ -203,9 +202,8 @@ pub deep_adds : {T : Type 0} (z : Sizes) (number budget : ℕ) (adds : Option (L
 deep_adds {T} z number budget adds why o m m' kept kept' is h = subst
     (λ (x : Outcome T). IfDeep x (adds ≢ Nothing)) (sym is) (by why h)
   where
-    adds_one : (a : Option (List ℕ)) → IsFull z a m'.0.upper.last (after m'.0.upper.seen [])
-        → a ≢ Nothing
-    adds_one Nothing full = absurd full
+    adds_one : (a : Option (List ℕ)) → IsFullSince z a m'.0.upper → a ≢ Nothing
+    adds_one Nothing full = absurd full.2
     adds_one (Just key) full = λ e. cc
 
     by : (why : Cause) → IsCaused z number budget adds why m kept m' kept'

@@ -4,10 +4,10 @@ use Rattle.ca_model.specs.declared.outcome.Spent.{Spent}
 use Rattle.ca_base.specs.Counting.{losses, HasMet, IsSpent}
 use Rattle.ca_base.proofs.Counts.{met_both}
 use Rattle.ca_node.specs.Told.{MyTree}
-use Rattle.ca_node.specs.TreeView.{TreeView}
+use Rattle.ca_node.specs.TreeView.{TreeView, Turns}
 use Rattle.ca_replace.specs.declared.attempting.Stop.{Stop}
 use Rattle.ca_replace.specs.declared.attempting.Stop.TheVariants as stop
-use Rattle.ca_replace.specs.Attempting.{splits, total, HasMetBy, HasStopped, IsPaid, IsQuiet}
+use Rattle.ca_replace.specs.Attempting.{helps, passes, total, HasMetBy, HasStopped, IsPaid, IsQuiet}
 
 -- Nothing was met.
 pub none_met : (m : MyTree) → HasMet 0 0 m m
@@ -23,11 +23,11 @@ met_then (Err stop.Empty) k m n a b = met_both 0 0 1 0 k m n a b
 met_then (Err stop.Worn) k m n a b = met_both 0 0 0 1 k m n a b
 met_then (Err stop.Deep) k m n a b = met_both 0 0 0 0 k m n a b
 
--- An attempt after which another turn may follow met nothing; an exchange was lost, or a base was
--- split.
+-- An attempt after which another turn may follow met nothing; an exchange was lost, or the pass
+-- passed on.
 pub met_turn : {T : Type 0} (r : Result T Stop) (m m' : MyTree) → (r ≡ Err stop.Lost)
     ⊎ (r ≡ Err stop.Split) → HasStopped r m m'
-    → HasMet 0 0 m m' × ((losses m < losses m') ⊎ (splits m < splits m'))
+    → HasMet 0 0 m m' × ((losses m < losses m') ⊎ (passes m < passes m'))
 met_turn r m m' e h = ⊎_elim
     (λ (l : r ≡ Err stop.Lost). (subst (λ (x : Result _ Stop). HasMetBy x m m') l h.0, inl (h.1 l)))
     (λ (s : r ≡ Err stop.Split). (
@@ -37,61 +37,69 @@ met_turn r m m' e h = ⊎_elim
 
 -- What was paid in two parts.
 pub paid_both : (a b c : Spent) (k m n : MyTree) → IsPaid a b k m → IsPaid b c m n → IsPaid a c k n
-paid_both a b c k m n x y = let more = x.more in let more' = y.more in let cut = x.more_splits in
-    let cut' = y.more_splits in record {
+paid_both a b c k m n x y = let more = x.more in let more' = y.more in
+    let help = x.more_helped in let help' = y.more_helped in
+    let pass = x.more_passed in let pass' = y.more_passed in record {
       more = omega arith;
       lost = λ fits. let one = x.lost fits in let two = y.lost (omega arith) in omega arith;
-      helped = y.helped ∙ x.helped;
-      more_splits = omega arith;
+      more_helped = omega arith;
+      helped = λ fits. let one = x.helped fits in let two = y.helped (omega arith) in omega arith;
+      more_passed = omega arith;
       passed = λ fits. let one = x.passed fits in let two = y.passed (omega arith) in omega arith;
     }
 
 -- Nothing was paid.
-pub none_paid : (a : Spent) (m m' : MyTree) → losses m' ≡ losses m → splits m' ≡ splits m
-    → IsPaid a a m m'
-none_paid a m m' same same' = record {
-  more = omega arith;
-  lost = λ fits. omega arith;
-  helped = refl;
-  more_splits = omega arith;
-  passed = λ fits. omega arith;
-}
+pub none_paid : (a : Spent) (m m' : MyTree) → losses m' ≡ losses m
+    → m'.0.upper.turns ≡ m.0.upper.turns → IsPaid a a m m'
+none_paid a m m' same turns = let pass = ap (λ (t : Turns). t.passed) turns in
+    let help = ap (λ (t : Turns). t.helped) turns in record {
+      more = omega arith;
+      lost = λ fits. omega arith;
+      more_helped = omega arith;
+      helped = λ fits. omega arith;
+      more_passed = omega arith;
+      passed = λ fits. omega arith;
+    }
 
--- Exchanges alone were lost, and no base was split.
-pub paid_of : (a b : Spent) (m m' : MyTree) → IsSpent a b m m' → splits m' ≡ splits m
-    → IsPaid a b m m'
-paid_of a b m m' x same = let also = x.passed in record {
-  more = x.more;
-  lost = x.lost;
-  helped = x.helped;
-  more_splits = omega arith;
-  passed = λ fits. omega arith;
-}
+-- Exchanges alone were lost, and no other turn was taken.
+pub paid_of : (a b : Spent) (m m' : MyTree) → IsSpent a b m m'
+    → m'.0.upper.turns ≡ m.0.upper.turns → IsPaid a b m m'
+paid_of a b m m' x turns = let passed = x.passed in let helped = x.helped in
+    let pass = ap (λ (t : Turns). t.passed) turns in
+    let help = ap (λ (t : Turns). t.helped) turns in record {
+      more = x.more;
+      lost = x.lost;
+      more_helped = omega arith;
+      helped = λ fits. omega arith;
+      more_passed = omega arith;
+      passed = λ fits. omega arith;
+    }
 
 -- Each such turn is a turn less.
 pub one_turn_less : (a b : Spent) (budget : ℕ) (m m' : MyTree) → min 4294967295 (total a) < budget
     → budget ≤ 4294967295 → IsPaid a b m m'
-    → (losses m < losses m') ⊎ (splits m < splits m') → budget - total b < budget - total a
+    → (losses m < losses m') ⊎ (passes m < passes m') → budget - total b < budget - total a
 one_turn_less a b budget m m' room most paid more = let sum = paid.lost (omega arith) in
-    let cut = paid.passed (omega arith) in let also = paid.helped in
-    let up = paid.more in let up' = paid.more_splits in ⊎_elim
+    let pass = paid.passed (omega arith) in let help = paid.helped (omega arith) in
+    let up = paid.more in let up' = paid.more_passed in ⊎_elim
     (λ (l : losses m < losses m'). let less : budget - total b < budget - total a = omega arith in
     less)
-    (λ (l : splits m < splits m'). let less : budget - total b < budget - total a = omega arith in
+    (λ (l : passes m < passes m'). let less : budget - total b < budget - total a = omega arith in
     less) more
 
 -- What was spent doesn't fall.
 pub spends_more : (a b c : Spent) (k m n : MyTree) → (a.lost ≡ 0) × (a.helped ≡ 0) × (a.passed ≡ 0)
     → IsPaid a b k m → IsPaid b c m n → total b ≤ total c
-spends_more a b c k m n none x y = let zero = none.0 in let zero' = none.2 in
+spends_more a b c k m n none x y = let zero = none.0 in let zero' = none.1 in let zero'' = none.2 in
     let one = x.lost (omega arith) in let two = y.lost (omega arith) in
-    let cut = x.passed (omega arith) in let cut' = y.passed (omega arith) in let also = y.helped in
-    omega arith
+    let pass = x.passed (omega arith) in let pass' = y.passed (omega arith) in
+    let help = x.helped (omega arith) in let help' = y.helped (omega arith) in omega arith
 
 -- What an attempt met behind a look.
 pub stopped_behind : {T : Type 0} (r : Result T Stop) (k m n : MyTree) → IsQuiet k m
     → HasStopped r m n → HasStopped r k n
-stopped_behind r k m n q h = let lost = q.lost in let same = q.splits_are in (
+stopped_behind r k m n q h = let lost = q.lost in
+    let same = ap (λ (t : Turns). t.passed) q.same_turns in (
   met_then r k m n q.met h.0,
   (λ e. let more = h.1 e in omega arith),
   λ e. let more = h.2 e in omega arith,
@@ -118,10 +126,12 @@ pub paid_given : (a : Spent) (lost sum : ℕ) (m m' : MyTree) → sum ≡ min (a
     → m'.0.lost ≡ m.0.lost + lost → m'.0.upper ≡ m.0.upper
     → IsPaid a (record a { lost = sum }) m m'
 paid_given a lost sum m m' is more same = let upper = ap (λ (u : TreeView). u.lost) same in
-    let cut = ap (λ (u : TreeView). u.splits) same in record {
+    let pass = ap (λ (u : TreeView). u.turns.passed) same in
+    let help = ap (λ (u : TreeView). u.turns.helped) same in record {
       more = omega arith;
       lost = λ fits. omega arith;
-      helped = refl;
-      more_splits = omega arith;
+      more_helped = omega arith;
+      helped = λ fits. omega arith;
+      more_passed = omega arith;
       passed = λ fits. omega arith;
     }

@@ -24,7 +24,7 @@ use Rattle.ca_node.specs.declared.cursor.Spot.TheVariants as spot
 use Rattle.ca_node.specs.Laws.{in_nothing}
 use Rattle.ca_node.specs.Links.{IsIn}
 use Rattle.ca_node.specs.Row.{pair}
-use Rattle.ca_node.specs.Told.{MyTree, with_upper, entered, one_more_lost}
+use Rattle.ca_node.specs.Told.{MyTree, with_upper, IsEntered, one_more_lost}
 use Rattle.ca_node.specs.TreeView.{Note, Division, TreeView, pinned, unpinned}
 use Rattle.ca_node.specs.Walking.{IsWalked}
 use Rattle.ca_node.proofs.Listing.{in_either}
@@ -241,8 +241,8 @@ stop_cut T U edits edits' z adds why m m' v q h =
 
 -- A call that edits nothing.
 pub entered_cut : (m m' m'' : MyTree) (event : Event) → IsQuiet m m'
-    → m'' ≡ with_upper m' (entered m'.0.upper event) → m''.0.upper.cuts ≡ m.0.upper.cuts
-entered_cut m m' m'' event q is = ap (λ (x : MyTree). x.0.upper.cuts) is ∙ q.same_cuts
+    → IsEntered event m' m'' → m''.0.upper.cuts ≡ m.0.upper.cuts
+entered_cut m m' m'' event q is = ap (λ (x : MyTree). x.0.upper.cuts) is.now ∙ q.same_cuts
 
 -- An attempt that split no full base did so whatever key its call adds.
 pub never_cut : {T : Type 0} (edits : T → Bool) (z : Sizes) (adds adds' : Option (List ℕ))

@@ -1,33 +1,45 @@
 -- Calls that edit nothing: what a pass knows after one, and what such a call tells.
-use Rattle.std.proofs.Common.{◌≡◌, ◌≤◌, ℕ, Bool, true, false, List, [], length, sym, refl, ap, ◌∙◌, subst, arith, append-nil}
+use Rattle.std.proofs.Common.{◌≡◌, ◌≤◌, ℕ, Bool, true, false, List, [], length, sym, refl, ap, ◌∙◌, subst, arith}
 use Rattle.ca_model.specs.Answer.{Got}
-use Rattle.ca_model.specs.Event.{Event, IsAnswer}
-use Rattle.ca_model.specs.History.{History, after, state}
+use Rattle.ca_model.specs.Event.{Event, IsAnswer, effect}
 use Rattle.ca_model.specs.Known.{Known, Meets}
-use Rattle.ca_node.specs.Told.{MyTree, with_upper, IsKnown, IsReadNow, entered}
+use Rattle.ca_node.specs.States.{IsReadSince, IsUnanswered, OfSomeState}
+use Rattle.ca_node.specs.Told.{MyTree, with_upper, IsEntered, IsKnown}
 use Rattle.ca_node.specs.TreeView.{TreeView}
-use Rattle.ca_node.proofs.Logs.{state_there, read_lawful, past_more}
+use Rattle.ca_node.proofs.Logs.{read_lawful, past_more}
+use Rattle.ca_node.proofs.Looking.{longer_past}
 use Rattle.ca_base.specs.Taking.{AreHeld, HasHeld}
 use Rattle.ca_replace.specs.Reads.{get_event}
 use Rattle.ca_rows.specs.declared.kept.KeptRows.{KeptRows}
 use Rattle.ca_rows.specs.declared.sizes.Sizes.{Sizes}
 use Rattle.ca_rows.specs.Claims.{held_count}
 
--- The state at the end of a history.
-pub last_state : (h : History) → state h (length h) ≡ after h []
-last_state h = ap (λ (x : History). state x (length h)) (sym (append-nil h)) ∙ state_there h []
+-- A call that edits nothing may be entered in the log by a state since the pin, where none was
+-- answered since.
+pub read_by : (u : TreeView) (event : Event) → IsUnanswered u → effect event ≡ []
+    → OfSomeState u (IsAnswer event) → IsReadSince event u
+read_by u event none nothing by = (
+  by.0,
+  record {
+    edits_nothing = nothing;
+    since = by.1;
+    answer = by.2;
+    first = longer_past (length u.since) by.0 u.log by.1.0 none;
+  },
+)
 
 -- The log is lawful with the call in it.
-pub known_read : (z : Sizes) (u : TreeView) (event : Event) → IsKnown z u → IsReadNow event u
-    → IsKnown z (entered u event)
-known_read z u event k now = record {
-  lawful = read_lawful u.number event u.seen (length u.seen) u.log now.0 (omega arith)
-      (subst (IsAnswer event) (sym (last_state u.seen)) now.1) k.past k.lawful;
-  past = past_more (length u.seen) u.log (event, length u.seen) k.past (omega arith);
-  edits = k.edits;
-  enrolled = k.enrolled;
-  by_passes = k.by_passes;
-}
+pub known_read : (z : Sizes) (m m' : MyTree) (event : Event) → IsKnown z m.0.upper
+    → IsEntered event m m' → IsKnown z m'.0.upper
+known_read z m m' event k e = let u = m.0.upper in let at = e.at in let read = e.is_read in
+    subst (λ (x : MyTree). IsKnown z x.0.upper) (sym e.now) record {
+      lawful = read_lawful u.number event u.seen at u.log read.edits_nothing read.since.1
+          read.answer read.first k.lawful;
+      past = past_more (length u.seen) u.log (event, at) k.past read.since.1;
+      edits = k.edits;
+      enrolled = k.enrolled;
+      by_passes = k.by_passes;
+    }
 
 -- What the pass holds doesn't depend on what it knows of the tree.
 pub held_upper : (rows : ℕ) (kept kept' : KeptRows) (m m' : MyTree) (u : TreeView) (held : List ℕ)

@@ -50,7 +50,7 @@ pub room_found : (many attempt : ℕ) (r : Result Bool NoRow) (m m' : MyTree) �
     → HasSplit many attempt r m.0.upper m'.0.upper
     → HasStopped {T = Unit {0}} (Err (split_to r)) m m'
 room_found many attempt (Ok true) m m' ended h =
-    (ended.0, (λ e. cc), λ e. (let cut = ap (λ (y : TreeView). y.splits) h.2 in omega arith))
+    (ended.0, (λ e. cc), λ e. (let cut = ap (λ (y : TreeView). y.turns.passed) h.2 in omega arith))
 room_found many attempt (Ok false) m m' ended h = (ended.1, (λ e. ended.0), λ e. cc)
 room_found many attempt (Err norow.Lost) m m' ended h = (ended.1, (λ e. ended.0), λ e. cc)
 room_found many attempt (Err norow.Empty) m m' ended h = (ended, (λ e. cc), λ e. cc)

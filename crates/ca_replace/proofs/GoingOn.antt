@@ -23,8 +23,8 @@ use Rattle.ca_node.specs.declared.cursor.Spot.TheVariants as spot
 use Rattle.ca_node.specs.Laws.{starts_whole}
 use Rattle.ca_node.specs.Links.{IsIn}
 use Rattle.ca_node.specs.Place.{HasKey, edit_key}
-use Rattle.ca_node.specs.Told.{MyTree, with_upper, IsKnown, entered, one_more_lost}
-use Rattle.ca_node.specs.TreeView.{Inventory, Note, Renewal, TreeView, pinned, unpinned}
+use Rattle.ca_node.specs.Told.{MyTree, with_upper, IsEntered, IsKnown, one_more_lost}
+use Rattle.ca_node.specs.TreeView.{Inventory, Note, Renewal, TreeView, Turns, one_passed, pinned, unpinned}
 use Rattle.ca_node.specs.Walking.{IsWalked}
 use Rattle.ca_node.proofs.Looking.{further}
 use Rattle.ca_replace.specs.declared.adapting.Adapting.{Adapting}
@@ -35,8 +35,8 @@ use Rattle.ca_replace.specs.declared.attempting.Stop.TheVariants as stop
 use Rattle.ca_model.specs.declared.outcome.Cause.{Cause}
 use Rattle.ca_model.specs.declared.outcome.Cause.TheVariants as refusal
 use Rattle.ca_replace.specs.Refusals.{outcome_by}
-use Rattle.ca_replace.specs.Adapting.{Adapts, Goes, HasGoneOn, HasLookedAgain, HasLostSince, HasSettled, HasTriedOnce, IsAdaptedBy, IsMoved, IsNew, IsReason, Leaves, LeavesAs, Waits}
-use Rattle.ca_replace.specs.Attempting.{HasStopped, HasTriedTo, IsPaid, IsQuiet, come_to, refused_as, splits}
+use Rattle.ca_replace.specs.Adapting.{Adapts, Goes, HasGoneOn, HasLookedAgain, HasLostSince, HasMetAs, HasSettled, HasTriedOnce, IsAdaptedBy, IsMoved, IsNew, IsReason, Leaves, LeavesAs, Waits}
+use Rattle.ca_replace.specs.Attempting.{HasStopped, HasTriedTo, IsPaid, IsQuiet, come_to, refused_as}
 use Rattle.ca_replace.proofs.Settling.{IsSettling}
 use Rattle.ca_replace.proofs.Counted.{none_paid, paid_both, paid_of}
 use Rattle.ca_replace.proofs.Meeting.{further_on}
@@ -107,7 +107,7 @@ adapts_after z t a last u w v idle h = adapts_on z t a a last u w v (idle_waits 
 pub paid_behind : (a b : Spent) (m m' m'' : MyTree) → IsQuiet m m' → IsPaid a b m' m''
     → IsPaid a b m m''
 paid_behind a b m m' m'' quiet paid =
-    paid_both a a b m m' m'' (none_paid a m m' quiet.lost quiet.splits_are) paid
+    paid_both a a b m m' m'' (none_paid a m m' quiet.lost quiet.same_turns) paid
 
 -- After a split the pass knows as much of the history.
 pub split_further : (z : Sizes) (many attempt : ℕ) (r : Result Bool NoRow) (u v : TreeView)
@@ -162,13 +162,13 @@ settled_as z t statistic tried x a b c m m' m'' is same here h = subst
     (λ (y : Result Bool NoRow × Adapting × MyTree). HasSettled z t statistic y.0 a y.1 m y.2)
     (λ i. (sym is i, sym same i, sym here i)) h
 
--- The exchange of a base split none.
-pub tried_splits : (met : Met) (z : Sizes) (event : Event) (edit : Edit) (word : ℕ)
+-- The exchange of a base took no turn but one that may be lost.
+pub tried_turns : (met : Met) (z : Sizes) (event : Event) (edit : Edit) (word : ℕ)
     (tried : Result Bool NoRow) (u w : TreeView) → HasTried event z tried u w
-    → HasRenewed z met word edit tried u w → w.splits ≡ u.splits
-tried_splits met z event edit word (Ok true) u w done h = h.same_splits
-tried_splits met z event edit word (Ok false) u w lost h = ap (λ (x : TreeView). x.splits) lost
-tried_splits met z event edit word (Err why) u w same h = ap (λ (x : TreeView). x.splits) same
+    → HasRenewed z met word edit tried u w → w.turns ≡ u.turns
+tried_turns met z event edit word (Ok true) u w done h = h.same_turns
+tried_turns met z event edit word (Ok false) u w lost h = ap (λ (x : TreeView). x.turns) lost
+tried_turns met z event edit word (Err why) u w same h = ap (λ (x : TreeView). x.turns) same
 
 -- Where it won, the new base is the one that was shown last.
 pub is_new : (met : Met) (z : Sizes) (edit : Edit) (word placed : ℕ) (tried : Result Bool NoRow)
@@ -331,29 +331,29 @@ come_of z note adapted.Joined m m' last h = absurd h
 come_of z note (adapted.NotSplit w) m m' last h = not_split_by z note w m m' last h
 come_of z note (adapted.NotJoined w) m m' last h = absurd h
 
--- How many splits there are behind it.
-pub come_splits : (z : Sizes) (note : Note) (a : Adapted) (m m' : MyTree) → IsSplitAs z note a m m'
-    → (a ≡ adapted.Split → splits m' ≡ splits m + 1)
-    × (a ≢ adapted.Split → splits m' ≡ splits m)
-come_splits z note adapted.Stay m m' h = absurd h
-come_splits z note adapted.Split m m' h =
-    ((λ e. ap (λ (y : TreeView). y.splits) h.2.2), λ n. absurd (n refl))
-come_splits z note adapted.Joined m m' h = absurd h
-come_splits z note (adapted.NotSplit w) m m' h = ((λ e. cc), λ n. none w h)
+-- How many turns there are behind it.
+pub come_turns : (z : Sizes) (note : Note) (a : Adapted) (m m' : MyTree) → IsSplitAs z note a m m'
+    → (a ≡ adapted.Split → m'.0.upper.turns ≡ one_passed m.0.upper.turns)
+    × (a ≢ adapted.Split → m'.0.upper.turns ≡ m.0.upper.turns)
+come_turns z note adapted.Stay m m' h = absurd h
+come_turns z note adapted.Split m m' h =
+    ((λ e. ap (λ (y : TreeView). y.turns) h.2.2), λ n. absurd (n refl))
+come_turns z note adapted.Joined m m' h = absurd h
+come_turns z note (adapted.NotSplit w) m m' h = ((λ e. cc), λ n. none w h)
   where
-    none : (w : Why) → IsNotSplitBy z note w m m' → splits m' ≡ splits m
+    none : (w : Why) → IsNotSplitBy z note w m m' → m'.0.upper.turns ≡ m.0.upper.turns
     none why.Root h = absurd h
-    none why.OneObject h = ap splits h.1
-    none why.AtLevel h = ap splits h.2
+    none why.OneObject h = ap (λ (y : MyTree). y.0.upper.turns) h.1
+    none why.AtLevel h = ap (λ (y : MyTree). y.0.upper.turns) h.2
     none why.SiblingRoute h = absurd h
     none why.TooMany h = absurd h
     none why.Taken h = absurd h
     none why.Lost h = ⊎_elim
-        (λ (same : m'.0.upper ≡ m.0.upper). ap (λ (y : TreeView). y.splits) same)
-        (λ (lost : m'.0.upper ≡ one_more_lost m.0.upper). ap (λ (y : TreeView). y.splits) lost) h.3
-    none why.NoRow h = ap (λ (y : TreeView). y.splits) h.2
-    none why.Worn h = ap (λ (y : TreeView). y.splits) h.2
-come_splits z note (adapted.NotJoined w) m m' h = absurd h
+        (λ (same : m'.0.upper ≡ m.0.upper). ap (λ (y : TreeView). y.turns) same)
+        (λ (lost : m'.0.upper ≡ one_more_lost m.0.upper). ap (λ (y : TreeView). y.turns) lost) h.3
+    none why.NoRow h = ap (λ (y : TreeView). y.turns) h.2
+    none why.Worn h = ap (λ (y : TreeView). y.turns) h.2
+come_turns z note (adapted.NotJoined w) m m' h = absurd h
 
 -- After an update the pass walked to its key again, and came to another base than the new one.
 pub led_elsewhere : (z : Sizes) (key : Bor (List ℕ)) (placed : ℕ) (m m' : MyTree) (cursor : Cursor)
@@ -412,18 +412,27 @@ led_there z key placed m m' m'' cursor a new w most same h =
       ),
     )
 
--- What was spent by such a try, behind a walk.
-pub paid_cut : (a b : Spent) (passed : ℕ) (m m' m'' : MyTree) → IsQuiet m m' → IsSpent a b m' m''
-    → splits m'' ≡ splits m' + 1
-    → passed ≡ min (b.passed + 1) 4294967295 → IsPaid a (record b { passed = passed }) m m''
-paid_cut a b passed m m' m'' q x cut is = let more = x.more in let lost = q.lost in
-    let splits_are = q.splits_are in let also = x.passed in record {
-      more = omega arith;
-      lost = λ fits. let one = x.lost fits in omega arith;
-      helped = x.helped;
-      more_splits = omega arith;
+-- One turn more was paid: the pass passed on, and no other one.
+passed_more : (a b : Spent) (passed : ℕ) (m m' : MyTree) → IsSpent a b m m'
+    → m'.0.upper.turns ≡ one_passed m.0.upper.turns → passed ≡ min (b.passed + 1) 4294967295
+    → IsPaid a (record b { passed = passed }) m m'
+passed_more a b passed m m' x cut is = let also = x.passed in let also' = x.helped in
+    let pass = ap (λ (t : Turns). t.passed) cut in
+    let help = ap (λ (t : Turns). t.helped) cut in record {
+      more = x.more;
+      lost = x.lost;
+      more_helped = omega arith;
+      helped = λ fits. omega arith;
+      more_passed = omega arith;
       passed = λ fits. omega arith;
     }
+
+-- What was spent by such a try, behind a walk.
+pub paid_cut : (a b : Spent) (passed : ℕ) (m m' m'' : MyTree) → IsQuiet m m' → IsSpent a b m' m''
+    → m''.0.upper.turns ≡ one_passed m'.0.upper.turns
+    → passed ≡ min (b.passed + 1) 4294967295 → IsPaid a (record b { passed = passed }) m m''
+paid_cut a b passed m m' m'' q x cut is =
+    paid_behind a (record b { passed = passed }) m m' m'' q (passed_more a b passed m' m'' x cut is)
 
 -- What was spent by a try to split a full base: one split more where it was carried out, and no
 -- other one.
@@ -434,34 +443,20 @@ pub paid_split : (many attempt passed : ℕ) (split : Result Bool NoRow) (a b : 
 paid_split many attempt passed split a b m m' h x won is =
     let told = subst
     (λ (r : Result Bool NoRow). HasSplit many attempt r m.0.upper m'.0.upper) won h in
-    let cut : splits m' ≡ splits m + 1 = ap (λ (u : TreeView). u.splits) told.2 in
-    let more = x.more in let also = x.passed in record {
-      more = x.more;
-      lost = x.lost;
-      helped = x.helped;
-      more_splits = omega arith;
-      passed = λ fits. omega arith;
-    }
+    passed_more a b passed m m' x (ap (λ (u : TreeView). u.turns) told.2) is
 
 pub paid_unsplit : (many attempt : ℕ) (split : Result Bool NoRow) (a b : Spent) (m m' : MyTree)
     → HasSplit many attempt split m.0.upper m'.0.upper
     → IsSpent a b m m' → split ≢ Ok true → IsPaid a b m m'
 paid_unsplit many attempt (Ok true) a b m m' h x other = absurd (other refl)
 paid_unsplit many attempt (Ok false) a b m m' h x other =
-    paid_of a b m m' x (ap (λ (u : TreeView). u.splits) h)
+    paid_of a b m m' x (ap (λ (u : TreeView). u.turns) h)
 paid_unsplit many attempt (Err why) a b m m' h x other =
-    paid_of a b m m' x (ap (λ (u : TreeView). u.splits) h)
+    paid_of a b m m' x (ap (λ (u : TreeView). u.turns) h)
 
 pub paid_still : (a b : Spent) (m m' m'' : MyTree) → IsQuiet m m' → IsSpent a b m' m''
-    → splits m'' ≡ splits m' → IsPaid a b m m''
-paid_still a b m m' m'' q x same = let more = x.more in let lost = q.lost in
-    let splits_are = q.splits_are in let also = x.passed in record {
-      more = omega arith;
-      lost = λ fits. let one = x.lost fits in omega arith;
-      helped = x.helped;
-      more_splits = omega arith;
-      passed = λ fits. omega arith;
-    }
+    → m''.0.upper.turns ≡ m'.0.upper.turns → IsPaid a b m m''
+paid_still a b m m' m'' q x same = paid_behind a b m m' m'' q (paid_of a b m' m'' x same)
 
 -- What an attempt's exchange and what followed it come to, given that the pass knew as much of the
 -- tree at first as this one.
@@ -526,8 +521,8 @@ settled_on {z} {t} {tried} {r} {a} {b} {k} {m} {m'} {m''} s moved word_is = let 
       inl (ap (λ (x : Adapting). x.lost) q.0, ap (λ (x : TreeView). x.lost) w),
     )
 
-pub settled_paid : (a b c : Spent) (k m m' m'' : MyTree) → m ≡ k → splits m' ≡ splits m
-    → IsSpent a b m m' → IsPaid b c m' m'' → IsPaid a c k m''
+pub settled_paid : (a b c : Spent) (k m m' m'' : MyTree) → m ≡ k
+    → m'.0.upper.turns ≡ m.0.upper.turns → IsSpent a b m m' → IsPaid b c m' m'' → IsPaid a c k m''
 settled_paid a b c k m m' m'' same still spent paid = subst (λ (x : MyTree). IsPaid a c x m'') same
     (paid_both a b c m m' m'' (paid_of a b m m' spent still) paid)
 
@@ -543,8 +538,8 @@ settled_found z t statistic tried r a b k m m' m'' same is ended s = subst
 -- The end of a call that edits nothing, behind a look.
 pub entered_waits : (a : Adapting) (u w : TreeView) (m m' : MyTree) (event : Event) → m.0.upper ≡ w
     → (w.renewal ≡ u.renewal) × (w.lost ≡ u.lost)
-    → m' ≡ with_upper m (entered m.0.upper event) → Waits a a u m'.0.upper
-entered_waits a u w m m' event same idle is = let up = ap (λ (x : MyTree). x.0.upper) is in
+    → IsEntered event m m' → Waits a a u m'.0.upper
+entered_waits a u w m m' event same idle is = let up = ap (λ (x : MyTree). x.0.upper) is.now in
     idle_waits a u m'.0.upper (
       ap (λ (x : TreeView). x.renewal) up ∙ (ap (λ (x : TreeView). x.renewal) same ∙ idle.0),
       ap (λ (x : TreeView). x.lost) up ∙ (ap (λ (x : TreeView). x.lost) same ∙ idle.1),
@@ -608,6 +603,18 @@ pub goes_leaves : (edited : Bool) (z : Sizes) (t : Tuning) (a b : Adapting) (u v
     → Leaves edited z t a.last b.last u v
 goes_leaves true z t a b u v none h = subst (λ (x : Bool). Adapts z t x b.last u v) none h
 goes_leaves false z t a b u v none h = (h.0, h.1)
+
+-- Of a call that is refused nothing is told of an update.
+pub none_met_as : {T : Type 0} (edits : T → Bool) (last : Last) (why : Cause) (o : Outcome T)
+    (m : MyTree) → o ≡ outcome_by why → HasMetAs edits last o m
+none_met_as {T} edits last why o m is = subst
+    (λ (x : Outcome T). HasMetAs edits last x m) (sym is) (by why)
+  where
+    by : (why : Cause) → HasMetAs edits last (outcome_by {T = T} why) m
+    by (refusal.Busy spent) = tt
+    by (refusal.Full cause) = tt
+    by (refusal.Deep level) = tt
+    by (refusal.Worn counter) = tt
 
 pub leaves_refused : {T : Type 0} (edits : T → Bool) (z : Sizes) (t : Tuning) (last : Last)
     (why : Cause) (o : Outcome T) (u v : TreeView)

@@ -20,7 +20,8 @@ use Rattle.ca_node.specs.Inventory.{but, but_all, row_itself, row_of_base, IsLis
 use Rattle.ca_node.specs.Links.{IsIn}
 use Rattle.ca_node.specs.Place.{Place, Span, left_of, right_of, left_place, right_place, part}
 use Rattle.ca_node.specs.Row.{count, pair, route_key}
-use Rattle.ca_node.specs.Told.{MyTree, IsAlone, IsKnown, with_upper, entered, divided, one_more_lost}
+use Rattle.ca_node.specs.Told.{MyTree, IsEntered, IsKnown, with_upper, divided, one_more_lost}
+use Rattle.ca_node.specs.States.{IsAlone}
 use Rattle.ca_node.specs.TreeView.{Inventory, Note, TreeView, pinned, unpinned, Division}
 use Rattle.ca_node.proofs.Listing.{of_but, but_shorter, but_all_shorter}
 use Rattle.ca_node.proofs.Looking.{in_more}
@@ -39,6 +40,7 @@ use Rattle.ca_replace.specs.Attempting.{IsLooking, IsQuiet, HasTriedTo, come_to,
 use Rattle.ca_replace.specs.Growing.{Grows, GrowsBy, IsSameTree, HasRoom, HasRoomFor, HasGrown, HasWaited, HasGrownSoFar}
 use Rattle.ca_replace.proofs.Settling.{IsSettling}
 use Rattle.ca_replace.proofs.OneHand.{seen_still}
+use Rattle.ca_replace.proofs.States.{has_last}
 use Rattle.ca_rows.specs.declared.sizes.Sizes.{Sizes}
 use Rattle.ca_rows.specs.declared.view.Met.{Met}
 use Rattle.ca_node.specs.Layout.{body_word}
@@ -168,7 +170,7 @@ module _ (p : ℕ) (m : StoreMap) (is : IsStoreMap p m) (s : Span) (xs : StoreMa
 -- After a base with objects was split in the middle, the one that has the key has room for one
 -- object more, of a pass that is alone: it is one of the halves.
 module _ (z : Sizes) (u : TreeView) (k : List ℕ) (cursor : Cursor) (l : IsLooking z u k cursor)
-    (listed : IsListed u.inventory (first_note u.notes))
+    (alone : IsAlone z u)
     (many attempt : ℕ) (x : Division) (h : IsSplit (first_note u.notes) many attempt x)
     (are : many ≡ length (first_note u.notes).objects)
     (least : 2 ≤ many) where
@@ -202,11 +204,17 @@ module _ (z : Sizes) (u : TreeView) (k : List ℕ) (cursor : Cursor) (l : IsLook
   is_map : IsStoreMap z.keypos (after u.seen [])
   is_map = map_after z.keypos u.seen [] l.known.edits tt
 
+  listed : IsListed u.inventory note
+  listed = l.listed alone
+
+  has : map pair note.objects ≡ part note.place.span (after u.seen [])
+  has = has_last z u note alone l.has
+
   left_few : length (part (left_of (route_key x.route_its) note.place.span)
       (after u.seen [])) < z.leaf
   left_few =
       let a = left_length z.keypos (after u.seen []) is_map note.place.span (map pair note.objects)
-      l.has x.middle inside (route_key x.route_its)
+      has x.middle inside (route_key x.route_its)
       first_key in
       let b = middle in let c = few in omega arith
 
@@ -214,7 +222,7 @@ module _ (z : Sizes) (u : TreeView) (k : List ℕ) (cursor : Cursor) (l : IsLook
       (after u.seen [])) < z.leaf
   right_few =
       let a = right_length z.keypos (after u.seen []) is_map note.place.span (map pair note.objects)
-      l.has x.middle inside (route_key x.route_its)
+      has x.middle inside (route_key x.route_its)
       first_key in
       let b = middle in let c = few in let d = as_many in omega arith
 
@@ -255,28 +263,28 @@ module _ (z : Sizes) (u : TreeView) (k : List ℕ) (cursor : Cursor) (l : IsLook
 
 -- A full base has none.
 pub no_room : (z : Sizes) (u : TreeView) (k : List ℕ) (cursor : Cursor) → IsLooking z u k cursor
-    → IsListed u.inventory (first_note u.notes)
+    → IsAlone z u
     → z.leaf ≤ length (first_note u.notes).objects → ¬ HasRoom z k u
-no_room z u k cursor l listed full room = let note = first_note u.notes in
-    let less = room note.row note.place listed.base l.about in
-    let same = ap (λ (xs : StoreMap). length xs) l.has in
+no_room z u k cursor l alone full room = let note = first_note u.notes in
+    let less = room note.row note.place (l.listed alone).base l.about in
+    let same = ap (λ (xs : StoreMap). length xs) (has_last z u note alone l.has) in
     omega (arith, length-map note.objects pair)
 
 -- What an attempt comes to that met a full base, and tried to split it.
 pub made_room : (z : Sizes) (u v : TreeView) (k : List ℕ) (cursor : Cursor) (many attempt : ℕ)
     (r : Result Bool NoRow) → IsLooking z u k cursor
-    → IsListed u.inventory (first_note u.notes) → many ≡ length (first_note u.notes).objects
+    → IsAlone z u → many ≡ length (first_note u.notes).objects
     → 2 ≤ many → z.leaf ≤ many → HasSplit many attempt r u v
     → HasGrown {T = Unit {0}} z (Some k) (Err (split_to r)) u v
-made_room z u v k cursor many attempt (Ok true) l listed are least full h = (
-  has_split_grows many attempt (Ok true) u v listed h,
+made_room z u v k cursor many attempt (Ok true) l alone are least full h = (
+  has_split_grows many attempt (Ok true) u v (l.listed alone) h,
   subst (λ (w : TreeView).
-      HasRoom z k w) (sym h.2) (room_then z u k cursor l listed many attempt h.0 h.1 are least),
-  no_room z u k cursor l listed (subst (λ (n : ℕ). z.leaf ≤ n) are full),
+      HasRoom z k w) (sym h.2) (room_then z u k cursor l alone many attempt h.0 h.1 are least),
+  no_room z u k cursor l alone (subst (λ (n : ℕ). z.leaf ≤ n) are full),
 )
-made_room z u v k cursor many attempt (Ok false) l listed are least full h =
+made_room z u v k cursor many attempt (Ok false) l alone are least full h =
     (ap (λ (w : TreeView). w.splits) h, ap (λ (w : TreeView). w.inventory) h)
-made_room z u v k cursor many attempt (Err why) l listed are least full h = by why
+made_room z u v k cursor many attempt (Err why) l alone are least full h = by why
   where
     same : IsSameTree u v
     same = (ap (λ (w : TreeView). w.splits) h, ap (λ (w : TreeView). w.inventory) h)
@@ -545,8 +553,8 @@ stop_unsplit T U z adds other stop.Deep u v none h = h
 
 -- A call that edits nothing.
 pub entered_grown : (m m' m'' : MyTree) (event : Event) → IsQuiet m m'
-    → m'' ≡ with_upper m' (entered m'.0.upper event) → Grows 1 3 1 m.0.upper m''.0.upper
-entered_grown m m' m'' event q is = let e = ap (λ (x : MyTree). x.0.upper) is in
+    → IsEntered event m' m'' → Grows 1 3 1 m.0.upper m''.0.upper
+entered_grown m m' m'' event q is = let e = ap (λ (x : MyTree). x.0.upper) is.now in
     same_grows 1 3 1 m.0.upper m''.0.upper (
       ap (λ (x : TreeView). x.splits) e ∙ q.splits_are,
       ap (λ (x : TreeView). x.inventory) e ∙ q.same_inventory,

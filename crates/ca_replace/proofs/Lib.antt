@@ -13,6 +13,7 @@ pub mod OneHand
 pub mod Reclaiming
 pub mod Settling
 pub mod Showing
+pub mod States
 pub mod Tallies
 pub mod Telling
 pub mod Tuning

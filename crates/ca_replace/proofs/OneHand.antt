@@ -3,7 +3,8 @@ use Rattle.std.proofs.Common.{◌≡◌, ℕ, ◌<◌, List, [], ◌∷◌, if�
 use Rattle.ca_model.specs.Event.{Entry}
 use Rattle.ca_model.specs.History.{History, by_pass, edits_of_pass, AreByPasses}
 use Rattle.ca_model.specs.Lawful.{edits_of_log}
-use Rattle.ca_node.specs.Told.{IsAlone, IsKnown}
+use Rattle.ca_node.specs.Told.{IsKnown}
+use Rattle.ca_node.specs.States.{IsAlone}
 use Rattle.ca_node.specs.TreeView.{TreeView}
 use Rattle.ca_base.specs.Progress.{IsFurther}
 use Rattle.ca_rows.specs.declared.sizes.Sizes.{Sizes}

@@ -3,31 +3,33 @@ use Rattle.std.proofs.Common.{◌≡◌, ℕ, Bool, true, false, ◌<◌, ◌≤
 use Rattle.std.proofs.lemmas.List.{length-map}
 use denote.Ref.{Bor}
 use Rattle.ca_model.specs.Event.{Event, Entry, WriteNew}
-use Rattle.ca_model.specs.History.{History, after}
+use Rattle.ca_model.specs.History.{History, state}
 use Rattle.ca_model.specs.Lawful.{IsPlaceFrom}
 use Rattle.ca_model.specs.StoreMap.{StoreMap, IsFound, IsStoreMap, get}
-use Rattle.ca_model.proofs.Edits.{map_after, found_pair}
+use Rattle.ca_model.proofs.Edits.{found_pair}
 use Rattle.ca_model.specs.Places.{IsPlace}
 use Rattle.ca_node.specs.declared.cursor.Cursor.{Cursor}
 use Rattle.ca_node.specs.declared.cursor.Spot.{Spot}
 use Rattle.ca_node.specs.declared.cursor.Spot.TheVariants as spot
+use Rattle.ca_node.specs.Inventory.{IsListed}
 use Rattle.ca_node.specs.Laws.{starts_whole}
 use Rattle.ca_node.specs.Place.{part}
+use Rattle.ca_node.specs.States.{HasState, IsAlone, IsAtPin, IsReadSince, IsUnanswered, OfSomeState}
 use Rattle.ca_node.specs.Row.{object, pair}
-use Rattle.ca_node.specs.Told.{MyTree, with_upper, IsKnown, IsReadNow, entered, led_to_base, led_to_route, IsLed, IsLedToBase, IsLedToRoute}
+use Rattle.ca_node.specs.Told.{MyTree, with_upper, IsEntered, IsKnown, led_to_base, led_to_route, IsLed, IsLedToBase, IsLedToRoute}
 use Rattle.ca_node.specs.TreeView.{Note, TreeView}
 use Rattle.ca_node.specs.Walking.{walked, IsWalked}
-use Rattle.ca_node.proofs.Looking.{starts_shorter}
 use Rattle.ca_node.proofs.Parts.{part_map, part_get}
 use Rattle.ca_replace.specs.declared.attempting.Stop.{Stop}
-use Rattle.ca_replace.specs.Attempting.{IsLooking, HasFetched, HasDoneAs, HasTriedTo, IsQuiet, come_to}
-use Rattle.ca_replace.specs.Causes.{IsFull}
+use Rattle.ca_replace.specs.Attempting.{IsLooking, HasFetched, HasDoneAs, HasSeenAlike, HasTriedTo, IsQuiet, come_to}
+use Rattle.ca_replace.specs.Causes.{IsFull, IsFullSince}
 use Rattle.ca_base.specs.declared.taking.NoRow.{NoRow}
 use Rattle.ca_base.specs.Finding.{IsPlaceIn}
 use Rattle.ca_base.specs.Progress.{IsFurther, HasDone}
 use Rattle.ca_base.proofs.Searching.{found_object}
 use Rattle.ca_replace.proofs.Counted.{none_met}
-use Rattle.ca_replace.proofs.Entries.{known_read}
+use Rattle.ca_replace.proofs.Entries.{known_read, read_by}
+use Rattle.ca_replace.proofs.States.{seen_before, state_map}
 use Rattle.ca_replace.proofs.Meeting.{further_on, done_on}
 use Rattle.ca_base.specs.Putting.{first_note, IsRoom, IsShownLast, HasTried}
 use Rattle.ca_rows.specs.declared.sizes.Sizes.{Sizes}
@@ -43,9 +45,7 @@ pub looking : (z : Sizes) (key : Bor (List ℕ)) (m m' : MyTree) (cursor : Curso
 looking z key m m' cursor w most =
     let u : TreeView = walked m.0.upper w.more w.note w.ways w.loads in
     let here : m'.0.upper ≡ u = ap (λ (x : MyTree). x.0.upper) w.now in
-    let has : map pair w.note.objects ≡ part w.note.place.span (after u.seen []) = subst
-    (λ (v : TreeView).
-    map pair w.note.objects ≡ part w.note.place.span (after v.seen [])) here w.has in
+    let has : HasState z u w.note = subst (λ (v : TreeView). HasState z v w.note) here w.has in
     let known : IsKnown z u = subst (IsKnown z) here w.known in
     let few = w.is_base.few in
     subst (λ (v : TreeView). IsLooking z v key.now cursor) (sym here) record {
@@ -54,9 +54,9 @@ looking z key m m' cursor w most =
         here = w.cursor_is.base;
         is_base = w.is_base;
         few = omega arith;
-        ordered = subst (IsStoreMap z.keypos) (sym has)
-            (part_map z.keypos w.note.place.span (after u.seen [])
-            (map_after z.keypos u.seen [] known.edits tt));
+        ordered = subst (IsStoreMap z.keypos) (sym has.has)
+            (part_map z.keypos w.note.place.span (state u.seen has.at)
+            (state_map z.keypos has.at u.seen known.edits));
       };
       at = record {
         base = w.cursor_is.base;
@@ -72,6 +72,20 @@ looking z key m m' cursor w most =
       listed = w.listed;
     }
 
+-- A pass that is alone lists the base that a walk came to.
+pub walked_listed : (z : Sizes) (spot : Spot) (m m' : MyTree) (cursor : Cursor)
+    → IsWalked z spot m cursor m' → IsAlone z m.0.upper
+    → IsListed m'.0.upper.inventory (first_note m'.0.upper.notes)
+walked_listed z spot m m' cursor w alone = subst
+    (λ (x : MyTree). IsListed x.0.upper.inventory (first_note x.0.upper.notes)) (sym w.now)
+    (w.listed alone)
+
+-- No call was answered on the way.
+pub walked_unanswered : (z : Sizes) (spot : Spot) (m m' : MyTree) (cursor : Cursor)
+    → IsWalked z spot m cursor m' → IsUnanswered m.0.upper → IsUnanswered m'.0.upper
+walked_unanswered z spot m m' cursor w none = subst
+    (λ (x : MyTree). IsUnanswered x.0.upper) (sym w.now) none
+
 -- On the way it learnt of others' edits alone, and lost nothing.
 pub walked_further : (z : Sizes) (spot : Spot) (m m' : MyTree) (cursor : Cursor)
     → IsWalked z spot m cursor m' → IsFurther m.0.upper m'.0.upper
@@ -86,6 +100,7 @@ walked_quiet z spot m m' cursor w = subst (IsQuiet m) (sym w.now) record {
   met = none_met m;
   most = refl;
   splits_are = refl;
+  same_turns = refl;
   idle = (refl, refl);
   same_inventory = refl;
   same_cuts = refl;
@@ -129,22 +144,20 @@ stopped z u v k same = subst (λ (y : TreeView). IsFurther u y × IsKnown z y) (
     (record { number = refl; seen = starts_whole u.seen; log = refl; counts = refl }, k)
 
 -- A call that edits nothing was entered in the log.
-pub entered_done : (z : Sizes) (u w v : TreeView) (event : Event) → IsFurther u w → IsKnown z w
-    → IsReadNow event w → v ≡ entered w event
-    → HasDone event u v × IsKnown z v
-entered_done z u w v event f k now same = subst
-    (λ (y : TreeView). HasDone event u y × IsKnown z y) (sym same) (
-      record {
-        number = f.number;
-        seen = f.seen;
-        at = length w.seen;
-        from = subst (IsPlaceFrom (length u.seen) (length w.seen)) (sym now.0)
-            (starts_shorter w.seen u.seen f.seen);
-        log = ap (λ (l : List Entry). l ++ (event, length w.seen) ∷ []) f.log;
-        counts = f.counts;
-      },
-      known_read z w event k now,
-    )
+pub entered_done : (z : Sizes) (u : TreeView) (m m' : MyTree) (event : Event)
+    → IsFurther u m.0.upper → IsKnown z m.0.upper → length u.seen ≤ length m.0.upper.since
+    → IsEntered event m m' → HasDone event u m'.0.upper × IsKnown z m'.0.upper
+entered_done z u m m' event f k before e = let w = m.0.upper in let from = e.is_read.since.0 in (
+  subst (λ (x : MyTree). HasDone event u x.0.upper) (sym e.now) record {
+    number = f.number;
+    seen = f.seen;
+    at = e.at;
+    from = subst (IsPlaceFrom (length u.seen) e.at) (sym e.is_read.edits_nothing) (omega arith);
+    log = ap (λ (l : List Entry). l ++ (event, e.at) ∷ []) f.log;
+    counts = f.counts;
+  },
+  known_read z m m' event k e,
+)
 
 -- What was tried after a look.
 pub tried_on : {T : Type 0} (tells : T → Event → Type 0) (z : Sizes) (r : Result T Stop)
@@ -153,51 +166,64 @@ pub tried_on : {T : Type 0} (tells : T → Event → Type 0) (z : Sizes) (r : Re
 tried_on tells z (Ok x) u w v f h = ((h.0.0, h.0.1, done_on u w v h.0.0 f h.0.2), h.1)
 tried_on tells z (Err stop) u w v f h = (further_on u w v f h.0, h.1)
 
--- The object that was found has the key: a new one isn't put.
-pub not_new : (z : Sizes) (u : TreeView) (cursor : Cursor) (k o : List ℕ) (place : Result ℕ ℕ)
-    → IsOk place → IsLooking z u k cursor
-    → IsPlace (map pair (first_note u.notes).objects) k place → IsReadNow (WriteNew k o false) u
-not_new z u cursor k o (Ok at) ok l p = (
-  refl,
-  λ none. let found = p.equal in
-      let same : get (map pair (first_note u.notes).objects) k ≡ [] = ap
-      (λ (m : StoreMap). get m k) l.has
-      ∙ (part_get (first_note u.notes).place.span (after u.seen []) k l.about ∙ none) in absurd cc,
-)
-not_new z u cursor k o (Err at) ok l p = absurd cc
+-- Where no object of the base has the key, none has it in the state that it was read from.
+pub none_there : (z : Sizes) (u : TreeView) (cursor : Cursor) (k : List ℕ) (at : ℕ)
+    → (l : IsLooking z u k cursor)
+    → IsPlace (map pair (first_note u.notes).objects) k (Err at)
+    → IsFound (state u.seen l.has.at) k None
+none_there z u cursor k at l p =
+    sym (part_get (first_note u.notes).place.span (state u.seen l.has.at) k l.about)
+    ∙ (ap (λ (m : StoreMap). get m k) (sym l.has.has) ∙ p.equal)
 
--- Where no object of the base has the key, none has it.
+-- So none has it in some state since the pin.
 pub none_found : (z : Sizes) (u : TreeView) (cursor : Cursor) (k : List ℕ) (at : ℕ)
-    → IsLooking z u k cursor
-    → IsPlace (map pair (first_note u.notes).objects) k (Err at) → IsFound (after u.seen []) k None
-none_found z u cursor k at l p =
-    sym (part_get (first_note u.notes).place.span (after u.seen []) k l.about)
-    ∙ (ap (λ (m : StoreMap). get m k) (sym l.has) ∙ p.equal)
+    → IsLooking z u k cursor → IsPlace (map pair (first_note u.notes).objects) k (Err at)
+    → OfSomeState u (λ m. IsFound m k None)
+none_found z u cursor k at l p = (l.has.at, l.has.since, none_there z u cursor k at l p)
 
 -- What an object of the base is, that is the key's object.
 pub one_found : (z : Sizes) (u : TreeView) (cursor : Cursor) (k o : List ℕ) → IsLooking z u k cursor
     → IsFound (map pair (first_note u.notes).objects) k (Some o)
-    → IsFound (after u.seen []) k (Some o)
-one_found z u cursor k o l found =
-    sym (part_get (first_note u.notes).place.span (after u.seen []) k l.about)
-    ∙ (ap (λ (m : StoreMap). get m k) (sym l.has) ∙ found)
+    → OfSomeState u (λ m. IsFound m k (Some o))
+one_found z u cursor k o l found = (
+  l.has.at,
+  l.has.since,
+  sym (part_get (first_note u.notes).place.span (state u.seen l.has.at) k l.about)
+      ∙ (ap (λ (m : StoreMap). get m k) (sym l.has.has) ∙ found),
+)
+
+-- The object that was found has the key: a new one isn't put.
+pub not_new : (z : Sizes) (u : TreeView) (cursor : Cursor) (k o : List ℕ) (place : Result ℕ ℕ)
+    → IsOk place → IsLooking z u k cursor → IsUnanswered u
+    → IsPlace (map pair (first_note u.notes).objects) k place → IsReadSince (WriteNew k o false) u
+not_new z u cursor k o (Ok at) ok l none_yet p = read_by u (WriteNew k o false) none_yet refl (
+  l.has.at,
+  l.has.since,
+  λ none. let found = p.equal in
+      let same : get (map pair (first_note u.notes).objects) k ≡ [] = ap
+      (λ (m : StoreMap). get m k) l.has.has
+      ∙ (part_get (first_note u.notes).place.span (state u.seen l.has.at) k l.about ∙ none) in
+      absurd cc,
+)
+not_new z u cursor k o (Err at) ok l none_yet p = absurd cc
 
 -- A call that edits nothing is done.
-pub read_done : {T : Type 0} (tells : T → Event → Type 0) (z : Sizes) (u w v : TreeView) (x : T)
-    (event : Event) → tells x event → IsFurther u w
-    → IsKnown z w → IsReadNow event w → v ≡ entered w event → HasTriedTo tells z (Ok x) u v
-read_done tells z u w v x event t f k now same = let d = entered_done z u w v event f k now same in
+pub read_done : {T : Type 0} (tells : T → Event → Type 0) (z : Sizes) (u : TreeView)
+    (m m' : MyTree) (x : T) (event : Event) → tells x event → IsFurther u m.0.upper
+    → IsKnown z m.0.upper → length u.seen ≤ length m.0.upper.since → IsEntered event m m'
+    → HasTriedTo tells z (Ok x) u m'.0.upper
+read_done tells z u m m' x event t f k before e = let d = entered_done z u m m' event f k before e in
     ((event, t, d.0), d.1)
 
 -- A read of a key is done, after a walk to its base.
 pub read_tried : (z : Sizes) (key : Bor (List ℕ)) (m w m' : MyTree) (cursor : Cursor)
     (event : Event) (found : Bool) → IsWalked z (spot.At key) m cursor w
-    → z.leaf ≤ 120 → IsReadNow event w.0.upper → m' ≡ with_upper w (entered w.0.upper event)
+    → IsAtPin m.0.upper → IsEntered event w m'
     → HasTriedTo (λ (_ : Bool) (e : Event). e ≡ event) z (Ok found) m.0.upper m'.0.upper
-read_tried z key m w m' cursor event found walk most now same = read_done
-    (λ (_ : Bool) (e : Event). e ≡ event) z m.0.upper w.0.upper m'.0.upper found event
-    refl (walked_further z (spot.At key) m w cursor walk) (looking z key m w cursor walk most).known
-    now (ap (λ (x : MyTree). x.0.upper) same)
+read_tried z key m w m' cursor event found walk first e = read_done
+    (λ (_ : Bool) (e : Event). e ≡ event) z m.0.upper w m' found event
+    refl (walked_further z (spot.At key) m w cursor walk) walk.known
+    (seen_before m.0.upper w.0.upper first (ap (λ (x : MyTree). x.0.upper.since) walk.now)) e
 
 -- The place that was found is one among the objects of the base that was shown last.
 pub place_still : (z : Sizes) (m m' : MyTree) (cursor : Cursor) (k : List ℕ) (place : Result ℕ ℕ)
@@ -230,21 +256,29 @@ fetched z u cursor at key old l p e = let note = first_note u.notes in
 -- A full base at the last level has no room for a key that is new there.
 pub full_there : (z : Sizes) (u v : TreeView) (cursor : Cursor) (key : List ℕ) (place : Result ℕ ℕ)
     (many : ℕ) → IsLooking z u key cursor
-    → (v.seen ≡ u.seen) × (v.last ≡ u.last) → z.levels ≤ (first_note u.notes).place.level
+    → HasSeenAlike u v → z.levels ≤ (first_note u.notes).place.level
     → IsPlace (map pair (first_note u.notes).objects) key place
     → ¬ IsRoom place many z.leaf → many ≡ length (first_note u.notes).objects
-    → IsFull z (Some key) v.last (after v.seen [])
+    → IsFullSince z (Some key) v
 full_there z u v cursor key (Ok at) many l same level p no_room is = absurd (no_room tt)
-full_there z u v cursor key (Err at) many l same level p no_room is = subst
-    (λ (x : History × Note). IsFull z (Some key) x.1 (after x.0 []))
-    (λ i. (sym same.0 i, sym (same.1 ∙ l.last) i)) (
-      none_found z u cursor key at l p,
-      l.about,
-      level,
-      let long = length-map (first_note u.notes).objects pair in
-          let e = ap (λ (x : StoreMap). length x) l.has in
-          let full : z.leaf ≤ many = not_less z.leaf many no_room in omega arith,
-    )
+full_there z u v cursor key (Err at) many l same level p no_room is = let place = l.has.at in (
+  place,
+  (
+    (let from = l.has.since.0 in let as_much = ap (λ (h : History). length h) same.1 in
+        omega arith),
+    (let to = l.has.since.1 in let as_much = ap (λ (h : History). length h) same.0 in
+        omega arith),
+  ),
+  subst (λ (x : History × Note). IsFull z (Some key) x.1 (state x.0 place))
+      (λ i. (sym same.0 i, sym (same.2 ∙ l.last) i)) (
+        none_there z u cursor key at l p,
+        l.about,
+        level,
+        let long = length-map (first_note u.notes).objects pair in
+            let e = ap (λ (x : StoreMap). length x) l.has.has in
+            let full : z.leaf ≤ many = not_less z.leaf many no_room in omega arith,
+      ),
+)
 
 tried_from : (z : Sizes) (event : Event) (r : Result Bool NoRow) (u v : TreeView) → IsKnown z u
     → HasTried event z r u v

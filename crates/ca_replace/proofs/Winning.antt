@@ -12,7 +12,8 @@ use Rattle.ca_model.specs.declared.outcome.Spent.{Spent}
 use Rattle.ca_node.specs.declared.cursor.Cursor.{Cursor}
 use Rattle.ca_node.specs.declared.cursor.Spot.TheVariants as spot
 use Rattle.ca_node.specs.Inventory.{IsListed}
-use Rattle.ca_node.specs.Told.{MyTree, IsAlone}
+use Rattle.ca_node.specs.Told.{MyTree}
+use Rattle.ca_node.specs.States.{IsAlone}
 use Rattle.ca_node.specs.TreeView.{Note, Renewal, TreeView, pinned, unpinned}
 use Rattle.ca_node.specs.Walking.{IsWalked}
 use Rattle.ca_base.specs.declared.taking.NoRow.{NoRow}

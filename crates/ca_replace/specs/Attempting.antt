@@ -5,14 +5,14 @@ use Rattle.ca_model.specs.declared.outcome.Outcome.{Outcome}
 use Rattle.ca_model.specs.declared.outcome.Outcome.TheVariants as outcome
 use Rattle.ca_model.specs.declared.outcome.Spent.{Spent}
 use Rattle.ca_model.specs.Event.{Event}
-use Rattle.ca_model.specs.History.{after}
 use Rattle.ca_model.specs.StoreMap.{IsFound, IsPair}
 use Rattle.ca_node.specs.declared.cursor.Cursor.{Cursor}
 use Rattle.ca_node.specs.Inventory.{IsListed}
-use Rattle.ca_node.specs.Place.{HasKey, part}
+use Rattle.ca_node.specs.Place.{HasKey}
 use Rattle.ca_node.specs.Row.{pair}
 use Rattle.ca_base.specs.Counting.{losses, HasMet}
-use Rattle.ca_node.specs.Told.{IsAlone, IsKnown, MyTree}
+use Rattle.ca_node.specs.Told.{IsKnown, MyTree}
+use Rattle.ca_node.specs.States.{HasState, IsAlone, OfSomeState}
 use Rattle.ca_node.specs.TreeView.{TreeView}
 use Rattle.ca_model.specs.declared.outcome.Cause.{Cause}
 use Rattle.ca_model.specs.declared.outcome.Cause.TheVariants as refusal
@@ -25,21 +25,25 @@ use Rattle.ca_base.specs.Progress.{IsFurther, HasDone}
 use Rattle.ca_base.specs.Putting.{first_note, object_at}
 use Rattle.ca_rows.specs.declared.sizes.Sizes.{Sizes}
 
--- The base under the cursor was shown last. This key is one of those that are led there, and the base has what the last state that was seen has
--- of them, of a history that is known.
+-- The base under the cursor was shown last. This key is one of those that are led there, and the base has what a state since the pin has of them,
+-- of a history that is known.
 pub record IsLooking (z : Sizes) (u : TreeView) (key : List ℕ) (cursor : Cursor) : Type 0 where
   pub readable : IsReadable z u cursor.base (first_note u.notes)
   pub at : IsAtCursor z (first_note u.notes) cursor
   pub last : u.last ≡ first_note u.notes
   pub about : HasKey (first_note u.notes).place.span key
-  pub has : map pair (first_note u.notes).objects ≡ part (first_note u.notes).place.span (after u.seen [])
+  pub has : HasState z u (first_note u.notes)
   pub known : IsKnown z u
   pub listed : IsAlone z u → IsListed u.inventory (first_note u.notes)
 
 -- The key's object was copied, or there is none.
 abbrev pub HasFetched : Sizes → TreeView → List ℕ → Result ℕ ℕ → List ℕ → Type 0
-HasFetched z u key (Ok at) o = IsFound (after u.seen []) key (Some o) × IsPair z.keypos (key, o) × (object_at (Ok at) (first_note u.notes).objects ≡ o)
-HasFetched z u key (Err at) o = IsFound (after u.seen []) key None × (o ≡ [])
+HasFetched z u key (Ok at) o = OfSomeState u (λ map. IsFound map key (Some o)) × IsPair z.keypos (key, o) × (object_at (Ok at) (first_note u.notes).objects ≡ o)
+HasFetched z u key (Err at) o = OfSomeState u (λ map. IsFound map key None) × (o ≡ [])
+
+-- It has seen as much of the history, since the same pin, and a walk came to the same base last.
+abbrev pub HasSeenAlike : TreeView → TreeView → Type 0
+HasSeenAlike u v = (v.seen ≡ u.seen) × (v.since ≡ u.since) × (v.last ≡ u.last)
 
 -- A call was entered in the log, one that is told so.
 abbrev pub HasDoneAs : (Event → Type 0) → TreeView → TreeView → Type 0
@@ -97,17 +101,26 @@ HasMetBy (Err stop.Deep) m m' = HasMet 0 0 m m'
 abbrev pub splits : MyTree → ℕ
 splits m = m.0.upper.splits
 
--- So it met the pool, and where it was lost to another pass, an exchange was lost; where it split a base, one more was split.
-abbrev pub HasStopped : {T : Type 0} → Result T Stop → MyTree → MyTree → Type 0
-HasStopped r m m' = HasMetBy r m m' × (r ≡ Err stop.Lost → losses m < losses m') × (r ≡ Err stop.Split → splits m < splits m')
+-- how often it passed on to another place, as by a split, and how many operations of others it helped to their end
+abbrev pub passes : MyTree → ℕ
+passes m = m.0.upper.turns.passed
 
--- What was spent was added up: the exchanges that were lost, and the splits, each up to the last number that 32 bits hold.
+abbrev pub helps : MyTree → ℕ
+helps m = m.0.upper.turns.helped
+
+-- So it met the pool, and where it was lost to another pass, an exchange was lost; where it split a base, that was a turn more.
+abbrev pub HasStopped : {T : Type 0} → Result T Stop → MyTree → MyTree → Type 0
+HasStopped r m m' = HasMetBy r m m' × (r ≡ Err stop.Lost → losses m < losses m') × (r ≡ Err stop.Split → passes m < passes m')
+
+-- What was spent was added up: the exchanges that were lost, the operations of others that were helped, and the other turns, each up to the last number
+-- that 32 bits hold.
 pub record IsPaid (before now : Spent) (m m' : MyTree) : Type 0 where
   pub more : losses m ≤ losses m'
   pub lost : before.lost ≤ 4294967295 → now.lost ≡ min 4294967295 (before.lost + (losses m' - losses m))
-  pub helped : now.helped ≡ before.helped
-  pub more_splits : splits m ≤ splits m'
-  pub passed : before.passed ≤ 4294967295 → now.passed ≡ min 4294967295 (before.passed + (splits m' - splits m))
+  pub more_helped : helps m ≤ helps m'
+  pub helped : before.helped ≤ 4294967295 → now.helped ≡ min 4294967295 (before.helped + (helps m' - helps m))
+  pub more_passed : passes m ≤ passes m'
+  pub passed : before.passed ≤ 4294967295 → now.passed ≡ min 4294967295 (before.passed + (passes m' - passes m))
 
 -- how many turns were spent in all
 abbrev pub total : Spent → ℕ
@@ -119,6 +132,7 @@ pub record IsQuiet (m m' : MyTree) : Type 0 where
   pub met : HasMet 0 0 m m'
   pub most : m'.0.most ≡ m.0.most
   pub splits_are : splits m' ≡ splits m
+  pub same_turns : m'.0.upper.turns ≡ m.0.upper.turns
   -- Nothing was updated.
   pub idle : (m'.0.upper.renewal ≡ m.0.upper.renewal) × (m'.0.upper.lost ≡ m.0.upper.lost)
   -- The tree has what it had.

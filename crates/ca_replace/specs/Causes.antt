@@ -8,12 +8,12 @@ use Rattle.ca_model.specs.declared.outcome.Outcome.{Outcome}
 use Rattle.ca_model.specs.declared.outcome.Outcome.TheVariants as outcome
 use Rattle.ca_model.specs.declared.outcome.Spent.{Spent}
 use Rattle.ca_base.specs.Counting.{losses}
-use Rattle.ca_model.specs.History.{after}
 use Rattle.ca_model.specs.StoreMap.{StoreMap, IsFound}
 use Rattle.ca_node.specs.Place.{HasKey, part}
+use Rattle.ca_node.specs.States.{OfSomeState}
 use Rattle.ca_node.specs.Told.{MyTree}
-use Rattle.ca_node.specs.TreeView.{Note}
-use Rattle.ca_replace.specs.Attempting.{splits, total}
+use Rattle.ca_node.specs.TreeView.{Note, TreeView}
+use Rattle.ca_replace.specs.Attempting.{helps, passes, total}
 use Rattle.ca_replace.specs.Resting.{StoreView}
 use Rattle.ca_model.specs.declared.outcome.Cause.{Cause}
 use Rattle.ca_model.specs.declared.outcome.Cause.TheVariants as refusal
@@ -45,9 +45,9 @@ abbrev pub HasBegun : ℕ → ℕ → MyTree → MyTree → Type 0
 HasBegun begun kept m m' = ((begun ≡ kept) × (m'.0.empty ≡ m.0.empty + 1)) ⊎ ((m.0.empty + 2 ≤ m'.0.empty) × (0 < kept)
     × ((begun ≡ 0) ⊎ (losses m < losses m')))
 
--- The budget isn't spent, by the exchanges that were lost and the bases that were split.
+-- The budget isn't spent, by the exchanges that were lost, the operations of others that were helped, and the other turns.
 abbrev pub IsUnspent : ℕ → MyTree → MyTree → Type 0
-IsUnspent budget m m' = min 4294967295 (losses m' - losses m) + min 4294967295 (splits m' - splits m) < budget
+IsUnspent budget m m' = min 4294967295 (losses m' - losses m) + min 4294967295 (helps m' - helps m) + min 4294967295 (passes m' - passes m) < budget
 
 -- A call that may add this key, if any, finds no room in this base, given the map: no object of the map has the key, it is led to the base, which stands
 -- at the last level, and of the keys that are led there the map has as many objects as a base may have.
@@ -56,16 +56,20 @@ IsFull z None base map = ⊥
 IsFull z (Some key) base map = IsFound map key None × HasKey base.place.span key × (z.levels ≤ base.place.level)
     × (z.leaf ≤ length (part base.place.span map))
 
+-- So it is by a state since the last pin, and the base that was shown last.
+abbrev pub IsFullSince : Sizes → Option (List ℕ) → TreeView → Type 0
+IsFullSince z adds u = OfSomeState u (λ map. IsFull z adds u.last map)
+
 -- A call with this budget that may add this key, if any, may be refused so, given what its pass knew and kept before it and what it knows and keeps behind it.
 abbrev pub IsCaused : Sizes → ℕ → ℕ → Option (List ℕ) → Cause → MyTree → Vec Kept Global → MyTree → Vec Kept Global → Type 0
--- So many exchanges were lost in this call, and so many bases were split.
+-- So many exchanges were lost in this call, so many operations of others were helped, and so many turns were other ones.
 IsCaused z number budget adds (refusal.Busy spent) m kept m' kept' = (budget ≤ total spent) × (spent.lost ≡ min 4294967295 (losses m' - losses m))
-    × (spent.helped ≡ 0) × (spent.passed ≡ min 4294967295 (splits m' - splits m))
+    × (spent.helped ≡ min 4294967295 (helps m' - helps m)) × (spent.passed ≡ min 4294967295 (passes m' - passes m))
 -- The last attempt found the head empty, and the budget isn't spent. It began with no row kept, or another pass lagged as rows were given back in this call.
 IsCaused z number budget adds (refusal.Full cause) m kept m' kept' = HasBegun cause.kept (vec_len kept) m m' × ((cause.kept ≡ 0) ⊎ (cause.lag ≢ None))
     × HasLooked m m' × IsLag z.passes number cause.lag m'.0.pin × IsUnspent budget m m'
--- By the last state that the pass has seen the key is a new one, and there is no room for it in the base that was shown last, at the last level.
-IsCaused z number budget adds (refusal.Deep level) m kept m' kept' = (level ≡ z.levels) × IsFull z adds m'.0.upper.last (after m'.0.upper.seen [])
+-- By a state since the last pin the key is a new one, and there is no room for it in the base that was shown last, at the last level.
+IsCaused z number budget adds (refusal.Deep level) m kept m' kept' = (level ≡ z.levels) × IsFullSince z adds m'.0.upper
 -- The head's tag was at its last value as a row was to be taken.
 IsCaused z number budget adds (refusal.Worn counter.PoolTag) m kept m' kept' = m'.0.worn ≡ m.0.worn + 1
 -- The last attempt found the head empty, and neither is the budget spent, nor did it begin with no row kept, nor does a pass lag. The epoch was at its

@@ -1,5 +1,6 @@
 pub mod Adapting
 pub mod Attempting
+pub mod Called
 pub mod Causes
 pub mod Cutting
 pub mod Growing
@@ -8,6 +9,7 @@ pub mod Made
 pub mod Reads
 pub mod Refusals
 pub mod Resting
+pub mod Seen
 pub mod StoreView
 pub mod Tells
 pub mod Turning

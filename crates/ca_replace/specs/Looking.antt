@@ -3,6 +3,7 @@ use Rattle.std.specs.Prelude.{◌≡◌, ℕ, List, map, Result}
 use Rattle.ca_model.specs.Places.{IsPlace}
 use Rattle.ca_node.specs.declared.cursor.Cursor.{Cursor}
 use Rattle.ca_node.specs.Row.{pair}
+use Rattle.ca_node.specs.States.{IsUnanswered}
 use Rattle.ca_node.specs.Tallied.{IsTallied}
 use Rattle.ca_node.specs.TreeView.{TreeView}
 use Rattle.ca_base.specs.Progress.{IsFurther}
@@ -14,7 +15,7 @@ use Rattle.ca_rows.specs.Calls.{IsSame}
 
 module _ {R : Type 0} where
   -- It is the same pass, pinned as before, with the rows that it had. It was shown the base under the cursor, to which the key is led, and this is the
-  -- key's place among the base's objects.
+  -- key's place among the base's objects. No call was answered since the pin.
   pub record HasLooked (space : Space R TreeView) (key : List ℕ) (cursor : Cursor) (found : Result ℕ ℕ) (pass new : Pass R TreeView) : Type 0 where
     pub same : IsSame pass.seat new.seat
     pub number : new.number ≡ pass.number
@@ -26,3 +27,5 @@ module _ {R : Type 0} where
     pub looking : IsLooking space.table.shared.key new.seat.me.0.upper key cursor
     pub place : IsPlace (map pair (first_note new.seat.me.0.upper.notes).objects) key found
     pub further : IsFurther pass.seat.me.0.upper new.seat.me.0.upper
+    pub since : new.seat.me.0.upper.since ≡ pass.seat.me.0.upper.since
+    pub unanswered : IsUnanswered new.seat.me.0.upper

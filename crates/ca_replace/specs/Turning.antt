@@ -3,7 +3,8 @@ use Rattle.std.specs.Prelude.{ℕ, ◌+◌, min, Bool, true, false, List, Result
 use Rattle.std.specs.declared.option.Option.{Option}
 use Rattle.ca_adapt.specs.declared.tuning.Tuning.{Tuning}
 use Rattle.ca_base.specs.declared.taking.NoRow.{NoRow}
-use Rattle.ca_node.specs.Told.{MyTree, IsAlone}
+use Rattle.ca_node.specs.Told.{MyTree}
+use Rattle.ca_node.specs.States.{IsAlone}
 use Rattle.ca_replace.specs.declared.adapting.Course.{Course}
 use Rattle.ca_replace.specs.declared.attempting.Stop.{Stop}
 use Rattle.ca_replace.specs.Adapting.{HasGoneOn, MeetsAs}

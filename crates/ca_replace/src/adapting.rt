@@ -3,7 +3,8 @@ ghost use Rattle.std.specs.Prelude.{◌≡◌, ◌≢◌, ◌↔◌, ◌<◌, Er
 ghost use Rattle.ca_adapt.specs.declared.adapted.Adapted.TheVariants.{Split as IsSplit};
 ghost use Rattle.ca_base.specs.Finding.{IsReadable};
 ghost use Rattle.ca_base.specs.Progress.{IsFurther};
-ghost use Rattle.ca_node.specs.Told.{IsAlone, IsKnown};
+ghost use Rattle.ca_node.specs.Told.{IsKnown};
+ghost use Rattle.ca_node.specs.States.{IsAlone};
 ghost use Rattle.ca_node.specs.TreeView.{Note};
 ghost use Rattle.ca_replace.specs.Adapting.{HasAdapted, HasLookedAgain, HasSettled, IsMetAs, IsMoved, IsNew};
 ghost use Rattle.ca_replace.specs.Growing.{Grows};

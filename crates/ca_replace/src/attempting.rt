@@ -3,16 +3,16 @@ ghost use Rattle.std.specs.Prelude.{◌≡◌, ◌≢◌, ◌<◌, ◌≤◌, �
 ghost use Rattle.std.specs.declared.option.Option.{Option};
 ghost use Rattle.ca_model.specs.Places.{IsPlace};
 ghost use Rattle.ca_model.specs.Event.{Event, Remove};
-ghost use Rattle.ca_model.specs.History.{after};
 ghost use Rattle.ca_node.specs.Row.{pair};
 ghost use Rattle.ca_replace.specs.declared.attempting.Stop.TheVariants.{Deep as IsDeep, Split as IsSplit};
 ghost use Rattle.ca_replace.specs.Adapting.{Waits};
-ghost use Rattle.ca_replace.specs.Causes.{IsFull};
+ghost use Rattle.ca_replace.specs.Causes.{IsFullSince};
 ghost use Rattle.ca_replace.specs.Growing.{HasGrown};
 ghost use Rattle.ca_replace.specs.Winning.{HasWonAs};
 ghost use Rattle.ca_replace.specs.Cutting.{HasCut, IsFullFor};
-ghost use Rattle.ca_replace.specs.Attempting.{IsLooking, HasFetched, HasTriedTo, come_to, split_to, HasStopped, IsPaid};
-ghost use Rattle.ca_node.specs.Told.{IsAlone, IsKnown};
+ghost use Rattle.ca_replace.specs.Attempting.{IsLooking, HasFetched, HasSeenAlike, HasTriedTo, come_to, split_to, HasStopped, IsPaid};
+ghost use Rattle.ca_node.specs.Told.{IsKnown};
+ghost use Rattle.ca_node.specs.States.{IsAlone, IsAtPin, IsUnanswered};
 ghost use Rattle.ca_base.specs.Progress.{IsFurther};
 ghost use Rattle.ca_base.specs.Putting.{object_at, IsRoom, IsFor};
 ghost use Rattle.ca_base.specs.Targets.{IsKeyed, event_of, key_in};
@@ -82,9 +82,10 @@ pub(crate) trait Attempt {
         requires ready { IsReady tree.now.space pass.old }
         requires may { may self.now (sizes tree.now.space) }
         requires known { IsKnown (sizes tree.now.space) (tree_of pass.old) }
+        requires first { IsAtPin (tree_of pass.old) }
         ensures frame { StaysReady tree.now.space pass.old pass.new }
         ensures tried { HasTriedTo (λ answer. tells self.now answer left.new) (sizes tree.now.space) result (tree_of pass.old) (tree_of pass.new) }
-        ensures deep { result ≡ Err IsDeep → IsFull (sizes tree.now.space) (adds self.now) (tree_of pass.new).last (after (tree_of pass.new).seen []) }
+        ensures deep { result ≡ Err IsDeep → IsFullSince (sizes tree.now.space) (adds self.now) (tree_of pass.new) }
         ensures turn { IsTurn (edits self.now) (adds self.now) (sizes tree.now.space) tree.now.tuning course.old course.new (met_of (known pass.new)) result
             (known pass.old) (known pass.new) };
 }
@@ -93,6 +94,7 @@ pub(crate) trait Attempt {
 pub(crate) fn find(space: &TreeSpace, pass: &mut TreePass, key: &[u8]) -> (Cursor, Result<u32, u32>)
     requires reading { IsReading space.now pass.old }
     requires leaf { (sizes space.now).leaf ≤ 120 }
+    requires unanswered { IsUnanswered (tree_of pass.old) }
     ensures looked { HasLooked space.now key.now result.0 result.1 pass.old pass.new }
 {
     let cursor = walk(space, pass, Spot::At(key));
@@ -109,6 +111,7 @@ pub(crate) fn fetch(
 ) -> (Cursor, Result<u32, u32>)
     requires reading { IsReading space.now pass.old }
     requires leaf { (sizes space.now).leaf ≤ 120 }
+    requires unanswered { IsUnanswered (tree_of pass.old) }
     ensures looked { HasLooked space.now key.now result.0 result.1 pass.old pass.new }
     ensures fetched { HasFetched (sizes space.now) (tree_of pass.new) key.now result.1 old.new.items }
 {
@@ -138,8 +141,7 @@ pub(crate) fn put_there(
         (tree_of pass.new) }
     ensures deep { OnOk insertion.now.place (result ≢ Err IsDeep) }
     ensures no_split { OnOk insertion.now.place (result ≢ Err IsSplit) }
-    ensures full { result ≡ Err IsDeep → IsFull (sizes tree.now.space) (Some (key_in insertion.now.keyed)) (tree_of pass.new).last (after
-        (tree_of pass.new).seen []) }
+    ensures full { result ≡ Err IsDeep → IsFullSince (sizes tree.now.space) (Some (key_in insertion.now.keyed)) (tree_of pass.new) }
     ensures turn { IsTurn (λ _. true) (Some (key_in insertion.now.keyed)) (sizes tree.now.space) tree.now.tuning course.old course.new (met_of (known pass.new))
         result (known pass.old) (known pass.new) }
 {
@@ -176,7 +178,7 @@ fn make_room(
     requires many { (many ≡ length (shown_last pass.old).objects) × (tree.now.tuning.leaf ≤ many) }
     ensures frame { StaysReady tree.now.space pass.old pass.new }
     ensures further { IsFurther (tree_of pass.old) (tree_of pass.new) × IsKnown (sizes tree.now.space) (tree_of pass.new) }
-    ensures same_seen { ((tree_of pass.new).seen ≡ (tree_of pass.old).seen) × ((tree_of pass.new).last ≡ (tree_of pass.old).last) }
+    ensures same_seen { HasSeenAlike (tree_of pass.old) (tree_of pass.new) }
     ensures deep { result ≡ IsDeep → (sizes tree.now.space).levels ≤ (shown_last pass.old).place.level }
     ensures waits { Waits course.old.adapting course.new.adapting (tree_of pass.old) (tree_of pass.new) }
     ensures counted { IsPaid course.old.spent course.new.spent (known pass.old) (known pass.new) }

@@ -1,15 +1,12 @@
 //! Calls of a pass that rests: attempts, the turns of each, and how a call ends.
 ghost use Rattle.std.specs.Prelude.{◌⊎◌, ◌≡◌, ◌≢◌, ◌↔◌, ◌<◌, ◌≤◌, Err, None, [], IfErr, IsTrue};
 ghost use Rattle.ca_model.specs.Answer.{IfBusy, IfDone, IfRefused};
-ghost use Rattle.ca_model.specs.History.{after};
 ghost use Rattle.ca_replace.specs.declared.attempting.Stop.TheVariants.{Deep as IsDeep, Empty as IsEmpty, Lost as IsLost, Split as IsSplit};
 ghost use Rattle.ca_node.specs.Told.{with_upper};
 ghost use Rattle.ca_replace.specs.Attempting.{IsPaid, total, HasAttempted, HasDoneAs, HasMetBy, HasTriedTo, IfDeep, refused_as};
-ghost use Rattle.ca_replace.specs.Adapting.{HasMetAs, LeavesAs};
-ghost use Rattle.ca_replace.specs.Causes.{EndsAtLag, IfRefusedAs, IsCaused, IsFull, KeepsFew};
-ghost use Rattle.ca_replace.specs.Growing.{GrowsBy};
-ghost use Rattle.ca_replace.specs.Cutting.{HasCutAs};
-ghost use Rattle.ca_replace.specs.Winning.{WinsAs};
+ghost use Rattle.ca_replace.specs.Called.{HasTold};
+ghost use Rattle.ca_replace.specs.Causes.{EndsAtLag, IsCaused, IsFullSince, KeepsFew};
+ghost use Rattle.ca_replace.specs.Seen.{store_of};
 ghost use Rattle.ca_base.specs.Progress.{IsRefused};
 ghost use Rattle.ca_model.specs.Known.{one_more};
 ghost use Rattle.ca_replace.specs.Turning.{AreTurns, IsTurn};
@@ -58,16 +55,8 @@ pub(crate) fn call<A: Attempt>(
     ensures refused { IfRefused result (λ rise. IsRefused rise (tree_of pass.old) (tree_of pass.new)) }
     ensures deep { IfDeep result (A.adds order.now.what.now ≢ None) }
     ensures busy { IfBusy result (λ spent. order.now.budget ≤ spent) }
-    ensures caused { IfRefusedAs result (λ why. IsCaused (sizes tree.now.space) pass.old.number order.now.budget (A.adds order.now.what.now) why (known pass.old)
-        pass.old.kept.rows (known pass.new) pass.new.kept.rows) }
-    ensures few { KeepsFew (known pass.old) (known pass.new) pass.new.kept.rows }
-    ensures lags { EndsAtLag (known pass.old) (known pass.new) }
-    ensures met_as { HasMetAs (A.edits order.now.what.now) last.new result (known pass.new) }
-    ensures leaves { LeavesAs (A.edits order.now.what.now) (sizes tree.now.space) tree.now.tuning last.old last.new result (tree_of pass.old)
-        (tree_of pass.new) }
-    ensures grows { (sizes tree.now.space).passes ≡ 1 → GrowsBy (A.adds order.now.what.now) (tree_of pass.old) (tree_of pass.new) }
-    ensures wins { (sizes tree.now.space).passes ≡ 1 → WinsAs (A.edits order.now.what.now) result (tree_of pass.old) (tree_of pass.new) }
-    ensures cut { HasCutAs (A.edits order.now.what.now) (sizes tree.now.space) (A.adds order.now.what.now) result (tree_of pass.old) (tree_of pass.new) }
+    ensures told { HasTold (A.edits order.now.what.now) (A.adds order.now.what.now) order.now.budget (store_of tree.now pass.old last.old)
+        (store_of tree.now pass.new last.new) result }
 {
     let mut course = Course {
         adapting: Adapting {
@@ -171,7 +160,7 @@ fn turns<A: Attempt>(
     requires may { A.may order.now.what.now (sizes tree.now.space) }
     ensures frame { StaysAtRest tree.now.space pass.old pass.new }
     ensures tried { HasTriedTo (λ answer. A.tells order.now.what.now answer left.new) (sizes tree.now.space) result (tree_of pass.old) (tree_of pass.new) }
-    ensures deep { result ≡ Err IsDeep → IsFull (sizes tree.now.space) (A.adds order.now.what.now) (tree_of pass.new).last (after (tree_of pass.new).seen []) }
+    ensures deep { result ≡ Err IsDeep → IsFullSince (sizes tree.now.space) (A.adds order.now.what.now) (tree_of pass.new) }
     ensures counted { IsPaid course.old.spent course.new.spent (known pass.old) (known pass.new) }
     ensures found { HasMetBy result (known pass.old) (known pass.new) }
     ensures looks { (view pass.new).pin.looks ≡ (view pass.old).pin.looks }
@@ -212,7 +201,7 @@ fn once<A: Attempt>(
     requires may { A.may what.now (sizes tree.now.space) }
     ensures frame { StaysAtRest tree.now.space pass.old pass.new }
     ensures tried { HasTriedTo (λ answer. A.tells what.now answer left.new) (sizes tree.now.space) result (tree_of pass.old) (tree_of pass.new) }
-    ensures deep { result ≡ Err IsDeep → IsFull (sizes tree.now.space) (A.adds what.now) (tree_of pass.new).last (after (tree_of pass.new).seen []) }
+    ensures deep { result ≡ Err IsDeep → IsFullSince (sizes tree.now.space) (A.adds what.now) (tree_of pass.new) }
     ensures looks { (view pass.new).pin.looks ≡ (view pass.old).pin.looks }
     ensures lags { ((view pass.new).pin.lags ≡ (view pass.old).pin.lags) × ((view pass.new).pin.entered.lags ≡ (view pass.old).pin.lags) }
     ensures turn { IsTurn (A.edits what.now) (A.adds what.now) (sizes tree.now.space) tree.now.tuning course.old course.new (view pass.new).pin.left result

@@ -1,7 +1,8 @@
 //! Ends of calls that edit nothing.
 ghost use Rattle.std.specs.Prelude.{◌≡◌, ◌≤◌, [], None};
 ghost use Rattle.ca_model.specs.Event.{Event, Get};
-ghost use Rattle.ca_node.specs.Told.{IsReadNow, ReadsLast, with_upper, entered};
+ghost use Rattle.ca_node.specs.States.{IsReadSince};
+ghost use Rattle.ca_node.specs.Told.{IsEntered, ReadsLast};
 ghost use Rattle.ca_replace.specs.Reads.{event_of};
 ghost use Rattle.ca_rows.specs.Passes.{IsOn, KeepsList, sizes, known};
 ghost use Rattle.ca_node.specs.TreePasses.{tree_of};
@@ -46,14 +47,14 @@ impl<K: Entered> Play<(), View<Knowledge>> for ReadLast<K> {
     ghost then = { λ st m n m'. ReadsLast K.event st m n m' };
 }
 
-// Ends a call that edits nothing, by one load of a row's first word: the call is entered in the log, at the place as far as which the pass
-// has seen the history. Its answer must be that of the last state seen.
+// Ends a call that edits nothing, by one load of a row's first word: the call is entered in the log, at the place of a state since the pin by which
+// it answers. No call was answered since the pin.
 pub(crate) fn enter(space: &TreeSpace, pass: &mut TreePass, row: u32, read: Read<'_>)
     requires own { IsOn space.now pass.old }
     requires inside { row ≤ (sizes space.now).rows }
-    requires answer { IsReadNow (event_of read) (tree_of pass.old) }
+    requires answer { IsReadSince (event_of read) (tree_of pass.old) }
     ensures frame { KeepsList pass.old pass.new }
-    ensures entered { known pass.new ≡ with_upper (known pass.old) (entered (tree_of pass.old) (event_of read.entry)) }
+    ensures entered { IsEntered (event_of read.entry) (known pass.old) (known pass.new) }
 {
     enter_as::<Brand>(space, pass, row, read);
 }
@@ -62,9 +63,9 @@ pub(crate) fn enter(space: &TreeSpace, pass: &mut TreePass, row: u32, read: Read
 fn enter_as<K: Entered>(space: &TreeSpace, pass: &mut TreePass, row: u32, _read: Read<'_>)
     requires own { IsOn space.now pass.old }
     requires inside { row ≤ (sizes space.now).rows }
-    requires answer { IsReadNow K.event (tree_of pass.old) }
+    requires answer { IsReadSince K.event (tree_of pass.old) }
     ensures frame { KeepsList pass.old pass.new }
-    ensures entered { known pass.new ≡ with_upper (known pass.old) (entered (tree_of pass.old) K.event) }
+    ensures entered { IsEntered K.event (known pass.old) (known pass.new) }
 {
     space.load::<ReadLast<K>>(pass, ROW_WORDS as u32 * row);
 }

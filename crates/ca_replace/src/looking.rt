@@ -1,7 +1,8 @@
 //! Reads of one key.
 ghost use Rattle.std.specs.Prelude.{◌≡◌, ◌<◌, [], length, slice_index_or, true, false};
 ghost use Rattle.ca_node.specs.Row.{object};
-ghost use Rattle.ca_node.specs.Told.{IsReadNow, with_upper, entered};
+ghost use Rattle.ca_node.specs.States.{IsUnanswered};
+ghost use Rattle.ca_node.specs.Told.{IsEntered};
 ghost use Rattle.ca_node.specs.TreeView.{Note};
 ghost use Rattle.ca_base.specs.Finding.{HasPlace, IsReadable};
 ghost use Rattle.ca_replace.specs.Attempting.{IsLooking};
@@ -14,8 +15,8 @@ use ca_base::{copy_object, item, search};
 use ca_model::Code;
 use ca_node::{Cursor, TreePass, TreeSpace};
 
-// Whether the base under the cursor, which the pass was shown last, has an object with this key; then `into` is the object, else it is empty. The base has what the last
-// state that the pass has seen has of the keys that are led there, and this key is one of them. The call is entered in the log.
+// Whether the base under the cursor, which the pass was shown last, has an object with this key; then `into` is the object, else it is empty. The
+// base has what a state since the pin has of the keys that are led there, and this key is one of them. The call is entered in the log.
 pub(crate) fn look_up(
     space: &TreeSpace,
     pass: &mut TreePass,
@@ -25,9 +26,9 @@ pub(crate) fn look_up(
 ) -> bool
     requires reading { IsReading space.now pass.old }
     requires looking { IsLooking (sizes space.now) (tree_of pass.old) key.now cursor }
+    requires unanswered { IsUnanswered (tree_of pass.old) }
     ensures frame { KeepsList pass.old pass.new }
-    ensures answer { IsReadNow (get_event key.now result into.new.items) (tree_of pass.old) }
-    ensures entered { known pass.new ≡ with_upper (known pass.old) (entered (tree_of pass.old) (get_event key.now result into.new.items)) }
+    ensures entered { IsEntered (get_event key.now result into.new.items) (known pass.old) (known pass.new) }
     ensures emptied { result ≡ false → into.new.items ≡ [] }
 {
     let base = cursor.base;

@@ -6,11 +6,10 @@ ghost use Rattle.ca_model.specs.Event.{Write, WriteNew};
 ghost use Rattle.ca_model.specs.Function.{KeepsKey, MayBeAskedFor};
 ghost use Rattle.ca_model.specs.Known.{Declines, Meets, Stays};
 ghost use Rattle.ca_model.specs.StoreMap.{IsPair};
-ghost use Rattle.ca_replace.specs.Adapting.{HasMetAs, LeavesAs, is_put};
-ghost use Rattle.ca_replace.specs.Growing.{Grows, IsSameTree};
-ghost use Rattle.ca_replace.specs.Winning.{WinsAs};
-ghost use Rattle.ca_replace.specs.Causes.{HasCause, IsSparing};
-ghost use Rattle.ca_replace.specs.Cutting.{HasCutAs};
+ghost use Rattle.ca_replace.specs.Adapting.{is_put};
+ghost use Rattle.ca_replace.specs.Called.{HasTold, StaysStore};
+ghost use Rattle.ca_replace.specs.Causes.{IsSparing};
+ghost use Rattle.ca_replace.specs.Growing.{IsSameTree};
 ghost use Rattle.ca_replace.specs.Resting.{IsResting, knows};
 ghost use Rattle.ca_term.specs.declared.bounds.TheConstants.{MOST_CODE_BYTES};
 ghost use Rattle.ca_rows.specs.Passes.{sizes};
@@ -137,10 +136,8 @@ impl TreeStore<'_> {
         ensures done { IsDone result }
         ensures got { IfDone result (λ found. Got (knows self.old) (knows self.new) key.now found into.new.items) }
         ensures closed { (knows self.new).run ≡ None }
-        ensures tree { (self.new.table ≡ self.old.table) × (self.new.z ≡ self.old.z) }
-        ensures tuning { self.new.tuning ≡ self.old.tuning }
+        ensures frame { StaysStore self.old self.new }
         ensures last { (self.new.last ≡ self.old.last) × IsSameTree self.old.seat.me.0.upper self.new.seat.me.0.upper }
-        ensures number { self.new.number ≡ self.old.number }
         ensures sparing { IsSparing self.old self.new }
     {
         let _budget = budget;
@@ -165,17 +162,9 @@ impl TreeStore<'_> {
         ensures put { IfDone result (λ _. Meets (knows self.old) (knows self.new) (Write (slice_range object.now key_at key_end) object.now)) }
         ensures refused { IfRefused result (λ rise. Declines (knows self.old) (knows self.new) (rise (knows self.old).counts)) }
         ensures busy { IfBusy result (λ spent. budget ≤ spent) }
-        ensures caused { HasCause budget (Some (slice_range object.now key_at key_end)) self.old self.new result }
-        ensures sparing { IsSparing self.old self.new }
+        ensures told { HasTold (λ _. true) (Some (slice_range object.now key_at key_end)) budget self.old self.new result }
         ensures closed { (knows self.new).run ≡ None }
-        ensures met_as { HasMetAs (λ _. true) self.new.last result self.new.seat.me }
-        ensures adapted { LeavesAs (λ _. true) self.old.z self.old.tuning self.old.last self.new.last result self.old.seat.me.0.upper self.new.seat.me.0.upper }
-        ensures grows { self.old.z.passes ≡ 1 → Grows 2 5 2 self.old.seat.me.0.upper self.new.seat.me.0.upper }
-        ensures wins { self.old.z.passes ≡ 1 → WinsAs (λ _. true) result self.old.seat.me.0.upper self.new.seat.me.0.upper }
-        ensures cut { HasCutAs (λ _. true) self.old.z (Some (slice_range object.now key_at key_end)) result self.old.seat.me.0.upper self.new.seat.me.0.upper }
-        ensures tree { (self.new.table ≡ self.old.table) × (self.new.z ≡ self.old.z) }
-        ensures tuning { self.new.tuning ≡ self.old.tuning }
-        ensures number { self.new.number ≡ self.old.number }
+        ensures frame { StaysStore self.old self.new }
     {
         let keyed = Keyed {
             object,
@@ -206,17 +195,9 @@ impl TreeStore<'_> {
         ensures put { IfDone result (λ new. Meets (knows self.old) (knows self.new) (WriteNew (slice_range object.now key_at key_end) object.now new)) }
         ensures refused { IfRefused result (λ rise. Declines (knows self.old) (knows self.new) (rise (knows self.old).counts)) }
         ensures busy { IfBusy result (λ spent. budget ≤ spent) }
-        ensures caused { HasCause budget (Some (slice_range object.now key_at key_end)) self.old self.new result }
-        ensures sparing { IsSparing self.old self.new }
+        ensures told { HasTold (λ new. new) (Some (slice_range object.now key_at key_end)) budget self.old self.new result }
         ensures closed { (knows self.new).run ≡ None }
-        ensures met_as { HasMetAs (λ new. new) self.new.last result self.new.seat.me }
-        ensures adapted { LeavesAs (λ new. new) self.old.z self.old.tuning self.old.last self.new.last result self.old.seat.me.0.upper self.new.seat.me.0.upper }
-        ensures grows { self.old.z.passes ≡ 1 → Grows 2 5 2 self.old.seat.me.0.upper self.new.seat.me.0.upper }
-        ensures wins { self.old.z.passes ≡ 1 → WinsAs (λ new. new) result self.old.seat.me.0.upper self.new.seat.me.0.upper }
-        ensures cut { HasCutAs (λ new. new) self.old.z (Some (slice_range object.now key_at key_end)) result self.old.seat.me.0.upper self.new.seat.me.0.upper }
-        ensures tree { (self.new.table ≡ self.old.table) × (self.new.z ≡ self.old.z) }
-        ensures tuning { self.new.tuning ≡ self.old.tuning }
-        ensures number { self.new.number ≡ self.old.number }
+        ensures frame { StaysStore self.old self.new }
     {
         let keyed = Keyed {
             object,
@@ -240,17 +221,9 @@ impl TreeStore<'_> {
         ensures emptied { IfRefused result (λ _. old.new.items ≡ []) }
         ensures never_deep { IsNeverDeep result }
         ensures busy { IfBusy result (λ spent. budget ≤ spent) }
-        ensures caused { HasCause budget None self.old self.new result }
-        ensures sparing { IsSparing self.old self.new }
+        ensures told { HasTold (λ was. was) None budget self.old self.new result }
         ensures closed { (knows self.new).run ≡ None }
-        ensures met_as { HasMetAs (λ was. was) self.new.last result self.new.seat.me }
-        ensures adapted { LeavesAs (λ was. was) self.old.z self.old.tuning self.old.last self.new.last result self.old.seat.me.0.upper self.new.seat.me.0.upper }
-        ensures grows { self.old.z.passes ≡ 1 → Grows 1 3 1 self.old.seat.me.0.upper self.new.seat.me.0.upper }
-        ensures wins { self.old.z.passes ≡ 1 → WinsAs (λ was. was) result self.old.seat.me.0.upper self.new.seat.me.0.upper }
-        ensures cut { HasCutAs (λ was. was) self.old.z None result self.old.seat.me.0.upper self.new.seat.me.0.upper }
-        ensures tree { (self.new.table ≡ self.old.table) × (self.new.z ≡ self.old.z) }
-        ensures tuning { self.new.tuning ≡ self.old.tuning }
-        ensures number { self.new.number ≡ self.old.number }
+        ensures frame { StaysStore self.old self.new }
     {
         let what = &RemoveCall { key };
         let order = Order { what, budget };
@@ -279,17 +252,9 @@ impl TreeStore<'_> {
         ensures emptied { IfRefused result (λ _. old.new.items ≡ []) }
         ensures never_deep { IsNeverDeep result }
         ensures busy { IfBusy result (λ spent. budget ≤ spent) }
-        ensures caused { HasCause budget None self.old self.new result }
-        ensures sparing { IsSparing self.old self.new }
+        ensures told { HasTold is_put None budget self.old self.new result }
         ensures closed { (knows self.new).run ≡ None }
-        ensures met_as { HasMetAs is_put self.new.last result self.new.seat.me }
-        ensures adapted { LeavesAs is_put self.old.z self.old.tuning self.old.last self.new.last result self.old.seat.me.0.upper self.new.seat.me.0.upper }
-        ensures grows { self.old.z.passes ≡ 1 → Grows 1 3 1 self.old.seat.me.0.upper self.new.seat.me.0.upper }
-        ensures wins { self.old.z.passes ≡ 1 → WinsAs is_put result self.old.seat.me.0.upper self.new.seat.me.0.upper }
-        ensures cut { HasCutAs is_put self.old.z None result self.old.seat.me.0.upper self.new.seat.me.0.upper }
-        ensures tree { (self.new.table ≡ self.old.table) × (self.new.z ≡ self.old.z) }
-        ensures tuning { self.new.tuning ≡ self.old.tuning }
-        ensures number { self.new.number ≡ self.old.number }
+        ensures frame { StaysStore self.old self.new }
     {
         let what = &RemoveIfCall { key, f };
         let order = Order { what, budget };
@@ -320,17 +285,9 @@ impl TreeStore<'_> {
         ensures emptied { IfRefused result (λ _. old.new.items ≡ []) }
         ensures never_deep { IsNeverDeep result }
         ensures busy { IfBusy result (λ spent. budget ≤ spent) }
-        ensures caused { HasCause budget None self.old self.new result }
-        ensures sparing { IsSparing self.old self.new }
+        ensures told { HasTold is_put None budget self.old self.new result }
         ensures closed { (knows self.new).run ≡ None }
-        ensures met_as { HasMetAs is_put self.new.last result self.new.seat.me }
-        ensures adapted { LeavesAs is_put self.old.z self.old.tuning self.old.last self.new.last result self.old.seat.me.0.upper self.new.seat.me.0.upper }
-        ensures grows { self.old.z.passes ≡ 1 → Grows 1 3 1 self.old.seat.me.0.upper self.new.seat.me.0.upper }
-        ensures wins { self.old.z.passes ≡ 1 → WinsAs is_put result self.old.seat.me.0.upper self.new.seat.me.0.upper }
-        ensures cut { HasCutAs is_put self.old.z None result self.old.seat.me.0.upper self.new.seat.me.0.upper }
-        ensures tree { (self.new.table ≡ self.old.table) × (self.new.z ≡ self.old.z) }
-        ensures tuning { self.new.tuning ≡ self.old.tuning }
-        ensures number { self.new.number ≡ self.old.number }
+        ensures frame { StaysStore self.old self.new }
     {
         let what = &ChangeCall { key, f };
         let order = Order { what, budget };
@@ -343,10 +300,9 @@ impl TreeStore<'_> {
 
     /// A copy of what the pass has seen of the tree's history.
     pub fn front(&mut self) -> Front
-        ensures tree { (self.new.table ≡ self.old.table) × (self.new.z ≡ self.old.z) }
-        ensures tuning { self.new.tuning ≡ self.old.tuning }
+        ensures frame { StaysStore self.old self.new }
         ensures last { (self.new.last ≡ self.old.last) × IsSameTree self.old.seat.me.0.upper self.new.seat.me.0.upper }
-        ensures pass { (self.new.number ≡ self.old.number) × (self.new.kept ≡ self.old.kept) × (self.new.seat.me ≡ self.old.seat.me) }
+        ensures pass { (self.new.kept ≡ self.old.kept) × (self.new.seat.me ≡ self.old.seat.me) }
         ensures table { result.half.seat.table_id ≡ self.old.table }
         ensures seen { result.half.seat.me.0.upper.seen ≡ self.old.seat.me.0.upper.seen }
     {
@@ -358,10 +314,8 @@ impl TreeStore<'_> {
     /// tree's history, for which the log is lawful.
     pub fn learn(&mut self, front: Front)
         requires table { front.half.seat.table_id ≡ self.old.table }
-        ensures tree { (self.new.table ≡ self.old.table) × (self.new.z ≡ self.old.z) }
-        ensures tuning { self.new.tuning ≡ self.old.tuning }
+        ensures frame { StaysStore self.old self.new }
         ensures last { (self.new.last ≡ self.old.last) × IsSameTree self.old.seat.me.0.upper self.new.seat.me.0.upper }
-        ensures number { self.new.number ≡ self.old.number }
         ensures sparing { IsSparing self.old self.new }
         ensures log { self.new.seat.me.0.upper.log ≡ self.old.seat.me.0.upper.log }
         ensures counts { self.new.seat.me.0.upper.counts ≡ self.old.seat.me.0.upper.counts }

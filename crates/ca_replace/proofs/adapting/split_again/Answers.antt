@@ -4,9 +4,9 @@ use Rattle.ca_node.specs.declared.cursor.Spot.TheVariants as spot
 use Rattle.ca_replace.proofs.Tuning.{tuned_on}
 use Rattle.ca_replace.proofs.Counted.{none_paid}
 use Rattle.ca_replace.proofs.Entries.{held_upper}
-use Rattle.ca_replace.proofs.GoingOn.{come_splits, led_elsewhere, led_there, paid_cut, paid_still}
+use Rattle.ca_replace.proofs.GoingOn.{come_turns, led_elsewhere, led_there, paid_cut, paid_still}
 use Rattle.ca_replace.proofs.Tallies.{tallied_walk}
-use Rattle.ca_replace.proofs.Showing.{looking, walked_further, walked_quiet}
+use Rattle.ca_replace.proofs.Showing.{looking, walked_further, walked_listed, walked_quiet}
 use Rattle.ca_replace.proofs.DueCauses.{split_met}
 use Rattle.ca_replace.proofs.Growing.{alone_on, due_grows}
 use Rattle.ca_replace.proofs.Cutting.{due_there}
@@ -77,7 +77,7 @@ returns-then-cursor-placed-clause-counted c =
     c.args.pass.now.seat.me
     c.walk-cursor.new.pass.seat.me c.walk-cursor.result c.walk-cursor.ensures.walked in
     none_paid c.args.spent.now c.args.pass.now.seat.me c.walk-cursor.new.pass.seat.me quiet.lost
-    quiet.splits_are
+    quiet.same_turns
 
 pub returns-then-was_split-clause-further : goal.returns-then-was_split-clause-further
 returns-then-was_split-clause-further c = let most = (tuned_on c.args.tree.now).allowed.most_leaf in
@@ -123,7 +123,7 @@ returns-then-was_split-clause-counted c =
     (walked_quiet c.args.tree.now.space.table.shared.key (spot.At c.args.placed.now.key)
     c.args.pass.now.seat.me c.walk-cursor.new.pass.seat.me c.walk-cursor.result
     c.walk-cursor.ensures.walked) c.try_split-adapted.ensures.counted
-    ((come_splits c.args.tree.now.space.table.shared.key
+    ((come_turns c.args.tree.now.space.table.shared.key
     (first_note c.walk-cursor.new.pass.seat.me.0.upper.notes) c.try_split-adapted.result
     c.walk-cursor.new.pass.seat.me c.try_split-adapted.new.pass.seat.me
     c.try_split-adapted.ensures.split).0 (c.if-was_split.ensures.0 refl))
@@ -136,7 +136,7 @@ returns-else-was_split-clause-counted c =
     (walked_quiet c.args.tree.now.space.table.shared.key (spot.At c.args.placed.now.key)
     c.args.pass.now.seat.me c.walk-cursor.new.pass.seat.me c.walk-cursor.result
     c.walk-cursor.ensures.walked) c.try_split-adapted.ensures.counted
-    ((come_splits c.args.tree.now.space.table.shared.key
+    ((come_turns c.args.tree.now.space.table.shared.key
     (first_note c.walk-cursor.new.pass.seat.me.0.upper.notes) c.try_split-adapted.result
     c.walk-cursor.new.pass.seat.me c.try_split-adapted.new.pass.seat.me
     c.try_split-adapted.ensures.split).1 (λ e. let f = c.if-was_split.ensures.1 e in cc))
@@ -189,42 +189,26 @@ returns-else-was_split-clause-met c =
 
 pub returns-then-was_split-clause-grows : goal.returns-then-was_split-clause-grows
 returns-then-was_split-clause-grows c alone =
-    let most = (tuned_on c.args.tree.now).allowed.most_leaf in
-    let same = (tuned_on c.args.tree.now).leaf in
     let z = c.args.tree.now.space.table.shared.key in
     let quiet =
     walked_quiet z (spot.At c.args.placed.now.key) c.args.pass.now.seat.me
     c.walk-cursor.new.pass.seat.me c.walk-cursor.result c.walk-cursor.ensures.walked in
-    let further =
-    walked_further z (spot.At c.args.placed.now.key) c.args.pass.now.seat.me
-    c.walk-cursor.new.pass.seat.me c.walk-cursor.result
-    c.walk-cursor.ensures.walked in
-    let l = looking z c.args.placed.now.key c.args.pass.now.seat.me c.walk-cursor.new.pass.seat.me
-    c.walk-cursor.result c.walk-cursor.ensures.walked (omega arith) in
     due_grows z c.try_split-adapted.result c.args.pass.now.seat.me c.walk-cursor.new.pass.seat.me
     c.try_split-adapted.new.pass.seat.me
-    (l.listed (alone_on z c.args.pass.now.seat.me.0.upper c.walk-cursor.new.pass.seat.me.0.upper
-    further.number alone))
+    (walked_listed z (spot.At c.args.placed.now.key) c.args.pass.now.seat.me
+    c.walk-cursor.new.pass.seat.me c.walk-cursor.result c.walk-cursor.ensures.walked alone)
     (quiet.splits_are, quiet.same_inventory) c.try_split-adapted.ensures.split
 
 pub returns-else-was_split-clause-grows : goal.returns-else-was_split-clause-grows
 returns-else-was_split-clause-grows c alone =
-    let most = (tuned_on c.args.tree.now).allowed.most_leaf in
-    let same = (tuned_on c.args.tree.now).leaf in
     let z = c.args.tree.now.space.table.shared.key in
     let quiet =
     walked_quiet z (spot.At c.args.placed.now.key) c.args.pass.now.seat.me
     c.walk-cursor.new.pass.seat.me c.walk-cursor.result c.walk-cursor.ensures.walked in
-    let further =
-    walked_further z (spot.At c.args.placed.now.key) c.args.pass.now.seat.me
-    c.walk-cursor.new.pass.seat.me c.walk-cursor.result
-    c.walk-cursor.ensures.walked in
-    let l = looking z c.args.placed.now.key c.args.pass.now.seat.me c.walk-cursor.new.pass.seat.me
-    c.walk-cursor.result c.walk-cursor.ensures.walked (omega arith) in
     due_grows z c.try_split-adapted.result c.args.pass.now.seat.me c.walk-cursor.new.pass.seat.me
     c.try_split-adapted.new.pass.seat.me
-    (l.listed (alone_on z c.args.pass.now.seat.me.0.upper c.walk-cursor.new.pass.seat.me.0.upper
-    further.number alone))
+    (walked_listed z (spot.At c.args.placed.now.key) c.args.pass.now.seat.me
+    c.walk-cursor.new.pass.seat.me c.walk-cursor.result c.walk-cursor.ensures.walked alone)
     (quiet.splits_are, quiet.same_inventory) c.try_split-adapted.ensures.split
 
 pub returns-then-cursor-placed-clause-cut : goal.returns-then-cursor-placed-clause-cut
@@ -260,15 +244,11 @@ returns-then-cursor-placed-clause-won c alone =
 
 pub returns-then-was_split-clause-won : goal.returns-then-was_split-clause-won
 returns-then-was_split-clause-won c alone =
-    let most = (tuned_on c.args.tree.now).allowed.most_leaf in
-    let same = (tuned_on c.args.tree.now).leaf in
     let z = c.args.tree.now.space.table.shared.key in
     let further =
     walked_further z (spot.At c.args.placed.now.key) c.args.pass.now.seat.me
     c.walk-cursor.new.pass.seat.me c.walk-cursor.result
     c.walk-cursor.ensures.walked in
-    let l = looking z c.args.placed.now.key c.args.pass.now.seat.me c.walk-cursor.new.pass.seat.me
-    c.walk-cursor.result c.walk-cursor.ensures.walked (omega arith) in
     let here =
     alone_on z c.args.pass.now.seat.me.0.upper c.walk-cursor.new.pass.seat.me.0.upper
     further.number alone in
@@ -276,19 +256,17 @@ returns-then-was_split-clause-won c alone =
     c.walk-cursor.new.pass.seat.me c.try_split-adapted.new.pass.seat.me c.walk-cursor.result
     c.try_split-adapted.result c.requires.placed c.walk-cursor.ensures.walked
     (c.if-cursor-placed.false) c.try_split-adapted.ensures.split
-    (c.try_split-adapted.ensures.won here (l.listed here))
+    (c.try_split-adapted.ensures.won here (walked_listed z (spot.At c.args.placed.now.key)
+    c.args.pass.now.seat.me c.walk-cursor.new.pass.seat.me c.walk-cursor.result
+    c.walk-cursor.ensures.walked alone))
 
 pub returns-else-was_split-clause-won : goal.returns-else-was_split-clause-won
 returns-else-was_split-clause-won c alone =
-    let most = (tuned_on c.args.tree.now).allowed.most_leaf in
-    let same = (tuned_on c.args.tree.now).leaf in
     let z = c.args.tree.now.space.table.shared.key in
     let further =
     walked_further z (spot.At c.args.placed.now.key) c.args.pass.now.seat.me
     c.walk-cursor.new.pass.seat.me c.walk-cursor.result
     c.walk-cursor.ensures.walked in
-    let l = looking z c.args.placed.now.key c.args.pass.now.seat.me c.walk-cursor.new.pass.seat.me
-    c.walk-cursor.result c.walk-cursor.ensures.walked (omega arith) in
     let here =
     alone_on z c.args.pass.now.seat.me.0.upper c.walk-cursor.new.pass.seat.me.0.upper
     further.number alone in
@@ -296,4 +274,6 @@ returns-else-was_split-clause-won c alone =
     c.walk-cursor.new.pass.seat.me c.try_split-adapted.new.pass.seat.me c.walk-cursor.result
     c.try_split-adapted.result c.requires.placed c.walk-cursor.ensures.walked
     (c.if-cursor-placed.false) c.try_split-adapted.ensures.split
-    (c.try_split-adapted.ensures.won here (l.listed here))
+    (c.try_split-adapted.ensures.won here (walked_listed z (spot.At c.args.placed.now.key)
+    c.args.pass.now.seat.me c.walk-cursor.new.pass.seat.me c.walk-cursor.result
+    c.walk-cursor.ensures.walked alone))

@@ -62,6 +62,8 @@ returns-in-Ok-clause-looked c = record {
   looking = search rules;
   place = search rules;
   further = search rules;
+  since = search rules;
+  unanswered = search rules;
 }
 
 pub returns-in-Err-clause-looked : goal.returns-in-Err-clause-looked

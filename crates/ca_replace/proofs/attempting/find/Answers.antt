@@ -1,9 +1,10 @@
-use Rattle.std.proofs.Common.{sym, subst, ap, rules}
+use Rattle.std.proofs.Common.{sym, subst, ap, ◌∙◌, rules}
+use Rattle.ca_node.specs.States.{IsUnanswered}
 use Rattle.ca_node.specs.Told.{MyTree}
 use Rattle.ca_replace.specs.Attempting.{IsLooking}
 use Rattle.ca_base.specs.Progress.{IsFurther}
 use Rattle.ca_base.specs.Putting.{first_note}
-use Rattle.ca_replace.proofs.Showing.{looking, walked_further, place_still}
+use Rattle.ca_replace.proofs.Showing.{looking, walked_further, walked_unanswered, place_still}
 use Rattle.ca_base.proofs.Tallies.{tallied_as}
 use Rattle.ca_replace.proofs.Tallies.{tallied_walk}
 use Rattle.ca_replace.proofs.attempting.find.Goals as goal
@@ -51,5 +52,12 @@ returns c = record {
         (walked_further c.args.space.now.table.shared.key _ c.args.pass.now.seat.me
         c.walk-cursor.new.pass.seat.me c.walk-cursor.result
         c.walk-cursor.ensures.walked);
+    since = ap (λ (m : MyTree). m.0.upper.since) c.search-place.ensures.frame.still
+        ∙ ap (λ (m : MyTree). m.0.upper.since) c.walk-cursor.ensures.walked.now;
+    unanswered = subst (λ (m : MyTree). IsUnanswered m.0.upper)
+        (sym c.search-place.ensures.frame.still)
+        (walked_unanswered c.args.space.now.table.shared.key _ c.args.pass.now.seat.me
+        c.walk-cursor.new.pass.seat.me c.walk-cursor.result c.walk-cursor.ensures.walked
+        c.requires.unanswered);
   };
 }

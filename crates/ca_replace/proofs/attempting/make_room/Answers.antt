@@ -33,7 +33,7 @@ returns-clause-grown c key looking alone =
     c.split_at-split.new.pass.seat.me.0.upper) (sym c.stop_of.ensures)
     (made_room c.args.tree.now.space.table.shared.key c.args.pass.now.seat.me.0.upper
     c.split_at-split.new.pass.seat.me.0.upper key c.args.cursor c.args.many _
-    c.split_at-split.result looking (looking.listed alone) c.requires.many.0 (omega arith)
+    c.split_at-split.result looking alone c.requires.many.0 (omega arith)
     (omega arith) c.split_at-split.ensures.split)
 
 pub returns-clause-cut : goal.returns-clause-cut

@@ -4,7 +4,8 @@ use Rattle.ca_base.specs.Targets.{key_in, edit_of, event_of}
 use Rattle.ca_model.specs.History.{Put}
 use Rattle.ca_base.specs.Finding.{IsReadable, IsAtCursor}
 use Rattle.ca_node.specs.Place.{HasKey}
-use Rattle.ca_node.specs.Told.{MyTree, IsKnown, IsAlone}
+use Rattle.ca_node.specs.Told.{MyTree, IsKnown}
+use Rattle.ca_node.specs.States.{IsAlone}
 use Rattle.ca_node.specs.TreeView.{TreeView}
 use Rattle.ca_base.specs.Putting.{IsRoom, IsShownLast, first_note, object_at, put_event}
 use Rattle.ca_replace.specs.declared.attempting.Stop.{Stop}
@@ -12,7 +13,7 @@ use Rattle.ca_replace.specs.declared.attempting.Stop.TheVariants.{Deep as IsDeep
 use Rattle.ca_replace.specs.Adapting.{IsMoved, Waits, IsMetAs}
 use Rattle.ca_replace.proofs.Tuning.{tuned_on}
 use Rattle.ca_replace.proofs.Settling.{IsSettling}
-use Rattle.ca_replace.proofs.GoingOn.{is_new, known_then, settled_found, settled_on, settled_paid, settled_tried, tried_splits}
+use Rattle.ca_replace.proofs.GoingOn.{is_new, known_then, settled_found, settled_on, settled_paid, settled_tried, tried_turns}
 use Rattle.ca_replace.proofs.Showing.{shown_last, full_there}
 use Rattle.ca_base.proofs.Tallies.{tallied_as}
 use Rattle.ca_rows.specs.Told.{met_of}
@@ -129,6 +130,8 @@ returns-then-not-has_room-clause-full c =
       c.make_room.ensures.same_seen.0
           ∙ ap (λ (m : MyTree). m.0.upper.seen) c.count-many.ensures.frame.still,
       c.make_room.ensures.same_seen.1
+          ∙ ap (λ (m : MyTree). m.0.upper.since) c.count-many.ensures.frame.still,
+      c.make_room.ensures.same_seen.2
           ∙ ap (λ (m : MyTree). m.0.upper.last) c.count-many.ensures.frame.still,
     )
     (subst (λ (m : MyTree).
@@ -379,7 +382,7 @@ returns-clause-turn c = record {
       c.next_statistic-statistic.new.pass.seat.me c.put_at-tried.new.pass.seat.me
       c.settle.new.pass.seat.me
       (c.next_statistic-statistic.ensures.frame.still ∙ c.count-many.ensures.frame.still)
-      (tried_splits _ c.args.tree.now.space.table.shared.key _ _ c.word_of.result
+      (tried_turns _ c.args.tree.now.space.table.shared.key _ _ c.word_of.result
       c.put_at-tried.result
       c.next_statistic-statistic.new.pass.seat.me.0.upper c.put_at-tried.new.pass.seat.me.0.upper
       c.put_at-tried.ensures.put c.put_at-tried.ensures.renewed)

@@ -10,7 +10,7 @@ use Rattle.ca_base.specs.Putting.{IsShownLast, first_note, object_at}
 use Rattle.ca_replace.specs.Adapting.{IsMoved, IsMetAs}
 use Rattle.ca_replace.proofs.Tuning.{tuned_on}
 use Rattle.ca_replace.proofs.Settling.{IsSettling}
-use Rattle.ca_replace.proofs.GoingOn.{is_new, known_then, settled_found, settled_on, settled_paid, settled_tried, tried_splits}
+use Rattle.ca_replace.proofs.GoingOn.{is_new, known_then, settled_found, settled_on, settled_paid, settled_tried, tried_turns}
 use Rattle.ca_replace.proofs.Showing.{shown_last}
 use Rattle.ca_base.proofs.Tallies.{tallied_as}
 use Rattle.ca_rows.specs.Told.{met_of}
@@ -236,7 +236,7 @@ returns-clause-turn c = record {
       c.next_statistic-statistic.new.pass.seat.me c.remove_at-tried.new.pass.seat.me
       c.settle.new.pass.seat.me
       (c.next_statistic-statistic.ensures.frame.still ∙ c.count-many.ensures.frame.still)
-      (tried_splits _ c.args.tree.now.space.table.shared.key _ _ c.word_of.result
+      (tried_turns _ c.args.tree.now.space.table.shared.key _ _ c.word_of.result
       c.remove_at-tried.result
       c.next_statistic-statistic.new.pass.seat.me.0.upper c.remove_at-tried.new.pass.seat.me.0.upper
       c.remove_at-tried.ensures.removed c.remove_at-tried.ensures.renewed)

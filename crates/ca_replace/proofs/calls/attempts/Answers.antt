@@ -1,11 +1,10 @@
 use Rattle.std.proofs.Common.{◌≡◌, ℕ, ◌<◌, refl, ap, ◌∙◌, sym, subst, inl, inr, vec_len, Result, [], false, true, arith}
-use Rattle.ca_model.specs.History.{after}
 use Rattle.ca_node.specs.TreeView.{TreeView}
 use Rattle.ca_base.specs.Progress.{IsFurther}
 use Rattle.ca_replace.specs.declared.attempting.Stop.{Stop}
 use Rattle.ca_replace.specs.declared.attempting.Stop.TheVariants as stop
 use Rattle.ca_replace.specs.Adapting.{IsMetAs, MeetsAs, Waits}
-use Rattle.ca_replace.specs.Causes.{IsFull, IsRefill}
+use Rattle.ca_replace.specs.Causes.{IsFullSince, IsRefill}
 use Rattle.ca_replace.specs.Attempting.{HasMetBy, total}
 use Rattle.ca_replace.specs.Growing.{HasWaited}
 use Rattle.ca_replace.proofs.Causing.{begun_with, caused_as, empty_before, few_from, nearer, refill_caused}
@@ -211,7 +210,7 @@ returns-else-is_empty-clause-caused g c = let i = c.loop-come.invariant in
       full = λ e. let wrong : false ≡ true = c.if-is_empty.ensures.1 e in cc;
       split = c.turns-come.ensures.no_split;
       deep = λ e. subst
-          (λ (u : TreeView). IsFull z adds u.last (after u.seen [])) (sym upper)
+          (λ (u : TreeView). IsFullSince z adds u) (sym upper)
           (c.turns-come.ensures.deep e);
       lost = λ e. let most = c.turns-come.ensures.lost e in let more = c.add-course.ensures.more in
           omega arith;

@@ -1,7 +1,7 @@
 use Rattle.std.proofs.Common.{◌≡◌, ◌⊎◌, ◌+◌, ◌-◌, ◌*◌, ◌<◌, ◌≤◌, min, vec_len}
 use Rattle.ca_base.specs.Counting.{losses}
 use Rattle.ca_base.specs.Progress.{IsFurther}
-use Rattle.ca_node.specs.Told.{IsAlone}
+use Rattle.ca_node.specs.States.{IsAlone}
 use Rattle.ca_replace.specs.Adapting.{Waits}
 use Rattle.ca_replace.specs.Attempting.{IsPaid, total}
 use Rattle.ca_replace.specs.Cutting.{HasCutFull}

@@ -1,9 +1,11 @@
-use Rattle.std.proofs.Common.{◌≡◌, ℕ, false, refl, ap, ◌∙◌, arith}
+use Rattle.std.proofs.Common.{◌≡◌, ℕ, false, refl, ap, ◌∙◌, sym, subst, arith}
 use Rattle.ca_rows.specs.declared.kept.KeptRows.{KeptRows}
 use Rattle.ca_model.specs.Known.{one_more}
 use Rattle.ca_replace.proofs.Causing.{caused_still, deep_adds, few_still}
-use Rattle.ca_node.specs.Told.{MyTree, IsAlone}
-use Rattle.ca_replace.proofs.GoingOn.{goes_leaves, leaves_refused}
+use Rattle.ca_node.specs.Told.{MyTree}
+use Rattle.ca_node.specs.States.{IsAlone}
+use Rattle.ca_replace.specs.Causes.{EndsAtLag}
+use Rattle.ca_replace.proofs.GoingOn.{goes_leaves, leaves_refused, none_met_as}
 use Rattle.atomic_table.specs.Seated.{TableId}
 use Rattle.ca_rows.specs.declared.sizes.Sizes.{Sizes}
 use Rattle.ca_rows.specs.declared.tally.Tally.{Tally}
@@ -14,47 +16,6 @@ use Rattle.ca_replace.proofs.Cutting.{refused_cuts}
 use Rattle.ca_replace.proofs.Winning.{refused_wins}
 use Rattle.ca_replace.proofs.calls.call.Goals as goal
 
-pub returns-in-Err-clause-caused : goal.returns-in-Err-clause-caused
-returns-in-Err-clause-caused g c = let last = c.attempts.new.pass in
-    caused_still c.args.pass.now.seat.me last.seat.me c.give_up.new.pass.seat.me
-    (one_more c.in-Err.why last.seat.me.0.upper.counts) c.args.pass.now.kept.rows
-    last.kept.rows c.give_up.new.pass.kept.rows c.give_up.ensures.counted (ap
-    (λ (k : KeptRows). k.rows) c.give_up.ensures.kept)
-    c.args.tree.now.space.table.shared.key c.args.pass.now.number c.args.order.now.budget
-    (g.A.Attempt.adds c.args.order.now.what.now) c.in-Err.why c.outcome_by.result
-    c.outcome_by.ensures c.in-Err.ensures.caused
-
-pub returns-in-Err-clause-few : goal.returns-in-Err-clause-few
-returns-in-Err-clause-few g c = let last = c.attempts.new.pass in
-    few_still c.args.pass.now.seat.me last.seat.me c.give_up.new.pass.seat.me
-    (one_more c.in-Err.why last.seat.me.0.upper.counts) c.args.pass.now.kept.rows
-    last.kept.rows c.give_up.new.pass.kept.rows c.give_up.ensures.counted (ap
-    (λ (k : KeptRows). k.rows) c.give_up.ensures.kept) c.attempts.ensures.few
-
-pub returns-in-Err-clause-deep : goal.returns-in-Err-clause-deep
-returns-in-Err-clause-deep g c = let last = c.attempts.new.pass in
-    deep_adds c.args.tree.now.space.table.shared.key c.args.pass.now.number c.args.order.now.budget
-    (g.A.Attempt.adds c.args.order.now.what.now) c.in-Err.why c.outcome_by.result
-    c.args.pass.now.seat.me last.seat.me c.args.pass.now.kept.rows last.kept.rows c.outcome_by.ensures
-    c.in-Err.ensures.caused
-
-pub returns-in-Ok-clause-leaves : goal.returns-in-Ok-clause-leaves
-returns-in-Ok-clause-leaves g c =
-    goes_leaves (g.A.Attempt.edits c.args.order.now.what.now c.in-Ok.answer)
-    c.args.tree.now.space.table.shared.key c.args.tree.now.tuning
-    (record { lost = false; last = c.args.last.now }) c.attempts.new.course.adapting
-    c.args.pass.now.seat.me.0.upper
-    c.attempts.new.pass.seat.me.0.upper refl c.in-Ok.ensures.turns.gone_on
-
-pub returns-in-Err-clause-leaves : goal.returns-in-Err-clause-leaves
-returns-in-Err-clause-leaves g c = leaves_refused
-    (λ (x : _). g.A.Attempt.edits c.args.order.now.what.now x)
-    c.args.tree.now.space.table.shared.key
-    c.args.tree.now.tuning c.args.last.now c.in-Err.why c.outcome_by.result
-    c.args.pass.now.seat.me.0.upper c.give_up.new.pass.seat.me.0.upper
-    c.outcome_by.ensures (ap (λ (m : MyTree). m.0.upper.renewal) c.give_up.ensures.counted
-    ∙ c.in-Err.ensures.turns.gone_on.1)
-
 -- The pass is alone where the space is for one pass.
 alone : (table : TableId) (z : Sizes) (number : ℕ) (tally : Tally) (kept : KeptRows) (seat : MySeat)
     → IsResting table z number tally kept.rows seat
@@ -62,48 +23,70 @@ alone : (table : TableId) (z : Sizes) (number : ℕ) (tally : Tally) (kept : Kep
 alone table z number tally kept seat r one = let n = r.numbered.1 in
     (one, omega (arith, r.same_number))
 
-pub returns-in-Ok-clause-grows : goal.returns-in-Ok-clause-grows
-returns-in-Ok-clause-grows g c one = let space = c.args.tree.now.space.table.shared in
-    done_grows space.key (g.A.Attempt.adds c.args.order.now.what.now)
-    c.args.pass.now.seat.me.0.upper c.attempts.new.pass.seat.me.0.upper
-    (c.in-Ok.ensures.turns.grown
-    (alone space.table_id space.key c.args.pass.now.number c.args.pass.now.tally
-    c.args.pass.now.kept c.args.pass.now.seat
-    c.requires.resting one))
+pub returns-in-Ok-clause-told : goal.returns-in-Ok-clause-told
+returns-in-Ok-clause-told g c = let space = c.args.tree.now.space.table.shared in
+    let pass = c.args.pass.now in let last = c.attempts.new.pass in
+    let turns = c.in-Ok.ensures.turns in record {
+      caused = tt;
+      sparing = (
+        c.attempts.ensures.few,
+        c.attempts.ensures.frame.resting.few.ever,
+        c.attempts.ensures.lags,
+      );
+      adapted = goes_leaves (g.A.Attempt.edits c.args.order.now.what.now c.in-Ok.answer)
+          space.key c.args.tree.now.tuning
+          (record { lost = false; last = c.args.last.now }) c.attempts.new.course.adapting
+          pass.seat.me.0.upper last.seat.me.0.upper refl turns.gone_on;
+      met_as = turns.met_as;
+      grows = λ one. done_grows space.key (g.A.Attempt.adds c.args.order.now.what.now)
+          pass.seat.me.0.upper last.seat.me.0.upper (turns.grown
+          (alone space.table_id space.key pass.number pass.tally pass.kept pass.seat
+          c.requires.resting one));
+      wins = λ one. turns.won
+          (alone space.table_id space.key pass.number pass.tally pass.kept pass.seat
+          c.requires.resting one);
+      cut = turns.cut;
+    }
 
-pub returns-in-Err-clause-grows : goal.returns-in-Err-clause-grows
-returns-in-Err-clause-grows g c one = let space = c.args.tree.now.space.table.shared in
-    refused_grows space.key (g.A.Attempt.adds c.args.order.now.what.now) _
-    c.args.pass.now.seat.me.0.upper c.attempts.new.pass.seat.me c.give_up.new.pass.seat.me
-    (c.in-Err.ensures.turns.grown
-    (alone space.table_id space.key c.args.pass.now.number c.args.pass.now.tally
-    c.args.pass.now.kept c.args.pass.now.seat
-    c.requires.resting one)) c.give_up.ensures.counted
+pub returns-in-Err-clause-deep : goal.returns-in-Err-clause-deep
+returns-in-Err-clause-deep g c = let last = c.attempts.new.pass in
+    deep_adds c.args.tree.now.space.table.shared.key c.args.pass.now.number c.args.order.now.budget
+    (g.A.Attempt.adds c.args.order.now.what.now) c.in-Err.why c.outcome_by.result
+    c.args.pass.now.seat.me last.seat.me c.args.pass.now.kept.rows last.kept.rows
+    c.outcome_by.ensures c.in-Err.ensures.caused
 
-pub returns-in-Err-clause-cut : goal.returns-in-Err-clause-cut
-returns-in-Err-clause-cut g c = refused_cuts
-    (λ (x : _). g.A.Attempt.edits c.args.order.now.what.now x)
-    c.args.tree.now.space.table.shared.key
-    (g.A.Attempt.adds c.args.order.now.what.now) _ c.in-Err.why c.outcome_by.result
-    c.args.pass.now.seat.me.0.upper c.attempts.new.pass.seat.me
-    c.give_up.new.pass.seat.me c.in-Err.ensures.turns.cut c.outcome_by.ensures
-    c.give_up.ensures.counted
-
-pub returns-in-Ok-clause-wins : goal.returns-in-Ok-clause-wins
-returns-in-Ok-clause-wins g c one = let space = c.args.tree.now.space.table.shared in
-    c.in-Ok.ensures.turns.won
-    (alone space.table_id space.key c.args.pass.now.number c.args.pass.now.tally
-    c.args.pass.now.kept c.args.pass.now.seat
-    c.requires.resting one)
-
-pub returns-in-Err-clause-wins : goal.returns-in-Err-clause-wins
-returns-in-Err-clause-wins g c one = let space = c.args.tree.now.space.table.shared in
-    refused_wins
-    (λ (x : _). g.A.Attempt.edits c.args.order.now.what.now x) c.in-Err.why c.outcome_by.result
-    c.args.pass.now.seat.me.0.upper
-    c.give_up.new.pass.seat.me.0.upper c.outcome_by.ensures (ap
-    (λ (m : MyTree). m.0.upper.lost) c.give_up.ensures.counted
-    ∙ c.in-Err.ensures.turns.won
-    (alone space.table_id space.key c.args.pass.now.number c.args.pass.now.tally
-    c.args.pass.now.kept c.args.pass.now.seat
-    c.requires.resting one))
+pub returns-in-Err-clause-told : goal.returns-in-Err-clause-told
+returns-in-Err-clause-told g c = let space = c.args.tree.now.space.table.shared in
+    let pass = c.args.pass.now in let last = c.attempts.new.pass in
+    let behind = c.give_up.new.pass in let turns = c.in-Err.ensures.turns in
+    let edits = λ (x : _). g.A.Attempt.edits c.args.order.now.what.now x in
+    let adds = g.A.Attempt.adds c.args.order.now.what.now in
+    let counts = one_more c.in-Err.why last.seat.me.0.upper.counts in
+    let kept = ap (λ (k : KeptRows). k.rows) c.give_up.ensures.kept in
+    let here = λ (one : space.key.passes ≡ 1). alone space.table_id space.key pass.number pass.tally
+    pass.kept pass.seat c.requires.resting one in record {
+      caused = caused_still pass.seat.me last.seat.me behind.seat.me counts pass.kept.rows
+          last.kept.rows behind.kept.rows c.give_up.ensures.counted kept space.key pass.number
+          c.args.order.now.budget adds c.in-Err.why c.outcome_by.result c.outcome_by.ensures
+          c.in-Err.ensures.caused;
+      sparing = (
+        few_still pass.seat.me last.seat.me behind.seat.me counts pass.kept.rows last.kept.rows
+            behind.kept.rows c.give_up.ensures.counted kept c.attempts.ensures.few,
+        c.give_up.ensures.frame.resting.few.ever,
+        subst (λ (m : MyTree). EndsAtLag pass.seat.me m) (sym c.give_up.ensures.counted)
+            c.attempts.ensures.lags,
+      );
+      adapted = leaves_refused edits space.key c.args.tree.now.tuning c.args.last.now c.in-Err.why
+          c.outcome_by.result pass.seat.me.0.upper behind.seat.me.0.upper c.outcome_by.ensures
+          (ap (λ (m : MyTree). m.0.upper.renewal) c.give_up.ensures.counted ∙ turns.gone_on.1);
+      met_as = none_met_as edits c.args.last.now c.in-Err.why c.outcome_by.result behind.seat.me
+          c.outcome_by.ensures;
+      grows = λ one. refused_grows space.key adds _ pass.seat.me.0.upper last.seat.me
+          behind.seat.me (turns.grown (here one)) c.give_up.ensures.counted;
+      wins = λ one. refused_wins edits c.in-Err.why c.outcome_by.result pass.seat.me.0.upper
+          behind.seat.me.0.upper c.outcome_by.ensures
+          (ap (λ (m : MyTree). m.0.upper.lost) c.give_up.ensures.counted ∙ turns.won (here one));
+      cut = refused_cuts edits space.key adds _ c.in-Err.why c.outcome_by.result
+          pass.seat.me.0.upper last.seat.me behind.seat.me turns.cut c.outcome_by.ensures
+          c.give_up.ensures.counted;
+    }

@@ -1,12 +1,14 @@
-use Rattle.std.proofs.Common.{sym, ap, ◌∙◌, subst, arith, rules}
+use Rattle.std.proofs.Common.{refl, sym, ap, ◌∙◌, subst, arith, rules}
 use Rattle.ca_replace.specs.Adapting.{HasGoneOn, MeetsAs}
 use Rattle.ca_node.proofs.Tallies.{tallied_still}
 use Rattle.ca_replace.specs.Attempting.{HasTriedTo}
+use Rattle.ca_replace.specs.Causes.{IsFullSince}
 use Rattle.ca_replace.proofs.GoingOn.{gone_pinned}
 use Rattle.ca_replace.proofs.Turns.{known_pinned, rests_as, rests_again, none_pinned, tried_pinned, tried_known}
 use Rattle.ca_rows.specs.declared.view.Pin.{Pin}
 use Rattle.ca_replace.proofs.Growing.{grown_pinned}
-use Rattle.ca_node.specs.Told.{MyTree, IsAlone, IsKnown}
+use Rattle.ca_node.specs.Told.{MyTree, IsKnown}
+use Rattle.ca_node.specs.States.{IsAlone, IsAtPin}
 use Rattle.ca_replace.specs.Growing.{HasGrown}
 use Rattle.ca_replace.specs.Cutting.{HasCut}
 use Rattle.ca_replace.proofs.Cutting.{cut_pinned}
@@ -74,6 +76,16 @@ pub attempt-tried-requires-clause-known : goal.attempt-tried-requires-clause-kno
 attempt-tried-requires-clause-known g c = let z = c.args.tree.now.space.table.shared.key in
     subst (λ (m : MyTree). IsKnown z m.0.upper) (sym c.pin.ensures.pinned.3)
     (known_pinned z c.args.pass.now.seat.me.0.upper c.requires.resting.known)
+
+pub attempt-tried-requires-clause-first : goal.attempt-tried-requires-clause-first
+attempt-tried-requires-clause-first g c =
+    subst (λ (m : MyTree). IsAtPin m.0.upper) (sym c.pin.ensures.pinned.3) refl
+
+pub returns-clause-deep : goal.returns-clause-deep
+returns-clause-deep g c deep = subst
+    (λ (m : MyTree). IsFullSince c.args.tree.now.space.table.shared.key
+    (g.A.Attempt.adds c.args.what.now) m.0.upper) (sym c.unpin.ensures.unpinned)
+    (c.attempt-tried.ensures.deep deep)
 
 pub returns-clause-lags : goal.returns-clause-lags
 returns-clause-lags g c = let pin = ap (λ (m : MyTree). m.0.pin) c.pin.ensures.pinned.3 in

@@ -8,13 +8,15 @@ use Rattle.ca_model.specs.StoreMap.{Pair, IsPair}
 use Rattle.ca_model.proofs.Alone.{may_leave, IsLeft, pair_of_bytes}
 use Rattle.ca_model.specs.Places.{IsPlace}
 use Rattle.ca_node.specs.Row.{pair}
-use Rattle.ca_node.specs.Told.{MyTree, entered}
+use Rattle.ca_node.specs.States.{IsReadSince}
+use Rattle.ca_node.specs.Told.{MyTree, IsEntered}
 use Rattle.ca_base.specs.Putting.{first_note, object_at}
-use Rattle.ca_replace.specs.Attempting.{IsLooking, HasFetched, splits}
+use Rattle.ca_replace.specs.Attempting.{IsLooking, HasFetched}
 use Rattle.ca_replace.specs.Tells.{Alters}
 use Rattle.ca_replace.proofs.Asking.{left_of}
 use Rattle.ca_replace.proofs.GoingOn.{adapts_after, entered_waits, idle_waits, paid_behind, waits_on}
 use Rattle.ca_replace.proofs.Showing.{did, read_done}
+use Rattle.ca_replace.proofs.States.{none_since, seen_before}
 use Rattle.ca_replace.proofs.Tallies.{tallied_read}
 use Rattle.ca_replace.proofs.Meeting.{further_on}
 use Rattle.ca_replace.specs.Adapting.{is_put}
@@ -22,10 +24,34 @@ use Rattle.ca_replace.proofs.Cutting.{entered_cut, looked_cut, never_cut, stop_c
 use Rattle.ca_base.specs.Counting.{losses}
 use Rattle.ca_rows.specs.declared.view.Pin.{Pin}
 use Rattle.ca_replace.proofs.Counted.{none_paid, done_stopped, stop_stopped}
-use Rattle.ca_replace.proofs.Entries.{held_upper, held_looked}
+use Rattle.ca_replace.proofs.Entries.{held_upper, held_looked, read_by}
 use Rattle.ca_replace.proofs.Growing.{alone_on, entered_grown, looked_grown, stop_unsplit}
 use Rattle.ca_replace.proofs.Winning.{won_on}
 use Rattle.ca_replace.proofs.changing.ChangeCallAttempt.attempt.Goals as goal
+
+pub fetch-place-requires-clause-unanswered : goal.fetch-place-requires-clause-unanswered
+fetch-place-requires-clause-unanswered g c = none_since c.args.tree.now.space.table.shared.key
+    c.args.pass.now.seat.me.0.upper c.requires.known c.requires.first
+
+pub enter-requires-clause-answer : goal.enter-requires-clause-answer
+enter-requires-clause-answer g c = let key : List ℕ = c.args.self.now.key.now in
+    let w = c.fetch-place.new.pass.seat.me.0.upper in
+    let none = subst
+    (λ (p : Result ℕ ℕ).
+    HasFetched c.args.tree.now.space.table.shared.key w key p c.fetch-place.new.old.items)
+    c.in_default.is c.fetch-place.ensures.fetched in
+    read_by w (Change key None None) c.fetch-place.ensures.looked.unanswered refl none.0
+
+pub enter-requires-then-not-f-clause-answer : goal.enter-requires-then-not-f-clause-answer
+enter-requires-then-not-f-clause-answer g c = let key : List ℕ = c.args.self.now.key.now in
+    let w = c.fetch-place.new.pass.seat.me.0.upper in
+    let old : List ℕ = c.fetch-place.new.old.items in
+    let found = subst
+    (λ (p : Result ℕ ℕ). HasFetched c.args.tree.now.space.table.shared.key w key p old) c.in-Ok.is
+    c.fetch-place.ensures.fetched in
+    subst (λ (o : List ℕ). IsReadSince (Change key (Some o) None) w)
+    (sym c.as_slice-then-not-f.ensures.value)
+    (read_by w (Change key (Some old) None) c.fetch-place.ensures.looked.unanswered refl found.0)
 
 pub returns-in_default-clause-tried : goal.returns-in_default-clause-tried
 returns-in_default-clause-tried g c = let key : List ℕ = c.args.self.now.key.now in
@@ -37,12 +63,13 @@ returns-in_default-clause-tried g c = let key : List ℕ = c.args.self.now.key.n
     c.fetch-place.ensures.fetched in
     read_done (λ (x : Changed)
     (e : Event). Alters g.F.Fn c.args.self.now.f.now key x old e) z
-    c.args.pass.now.seat.me.0.upper w
-    c.enter.new.pass.seat.me.0.upper changed.Absent (Change key None None) (
+    c.args.pass.now.seat.me.0.upper
+    c.fetch-place.new.pass.seat.me c.enter.new.pass.seat.me changed.Absent (Change key None None) (
       refl,
       none.1,
     ) c.fetch-place.ensures.looked.further c.fetch-place.ensures.looked.looking.known
-    (refl, none.0) (ap (λ (m : MyTree). m.0.upper) c.enter.ensures.entered)
+    (seen_before c.args.pass.now.seat.me.0.upper c.fetch-place.new.pass.seat.me.0.upper
+    c.requires.first c.fetch-place.ensures.looked.since) c.enter.ensures.entered
 
 pub returns-then-not-f-clause-tried : goal.returns-then-not-f-clause-tried
 returns-then-not-f-clause-tried g c = let key : List ℕ = c.args.self.now.key.now in
@@ -53,8 +80,8 @@ returns-then-not-f-clause-tried g c = let key : List ℕ = c.args.self.now.key.n
     (λ (p : Result ℕ ℕ). HasFetched z w key p old) c.in-Ok.is c.fetch-place.ensures.fetched in
     read_done (λ (x : Changed)
     (e : Event). Alters g.F.Fn c.args.self.now.f.now key x old e) z
-    c.args.pass.now.seat.me.0.upper w
-    c.enter-then-not-f.new.pass.seat.me.0.upper changed.Kept (Change key (Some old) None) (
+    c.args.pass.now.seat.me.0.upper
+    c.fetch-place.new.pass.seat.me c.enter-then-not-f.new.pass.seat.me changed.Kept (Change key (Some old) None) (
       (
         _,
         _,
@@ -63,9 +90,12 @@ returns-then-not-f-clause-tried g c = let key : List ℕ = c.args.self.now.key.n
       ),
       refl,
     )
-    c.fetch-place.ensures.looked.further c.fetch-place.ensures.looked.looking.known (refl, found.0)
-    (ap (λ (m : MyTree). m.0.upper) c.enter-then-not-f.ensures.entered
-    ∙ ap (λ (o : List ℕ). entered w (Change key (Some o) None)) c.as_slice-then-not-f.ensures.value)
+    c.fetch-place.ensures.looked.further c.fetch-place.ensures.looked.looking.known
+    (seen_before c.args.pass.now.seat.me.0.upper c.fetch-place.new.pass.seat.me.0.upper
+    c.requires.first c.fetch-place.ensures.looked.since)
+    (subst (λ (o : List ℕ). IsEntered (Change key (Some o) None) c.fetch-place.new.pass.seat.me
+    c.enter-then-not-f.new.pass.seat.me) c.as_slice-then-not-f.ensures.value
+    c.enter-then-not-f.ensures.entered)
 
 pub overflow_add-end : goal.overflow_add-end
 overflow_add-end g c = let key : List ℕ = c.args.self.now.key.now in
@@ -167,8 +197,8 @@ returns-in_default-clause-frame g c = record {
       c.enter.new.pass.seat.me _ c.enter.ensures.frame.tally c.enter.ensures.entered
       (c.fetch-place.ensures.looked.tally h);
   pin = (
-    ap (λ (m : MyTree). m.0.sizes) c.enter.ensures.entered ∙ c.fetch-place.ensures.looked.still.0,
-    ap (λ (m : MyTree). m.0.pin) c.enter.ensures.entered ∙ c.fetch-place.ensures.looked.still.1,
+    ap (λ (m : MyTree). m.0.sizes) c.enter.ensures.entered.now ∙ c.fetch-place.ensures.looked.still.0,
+    ap (λ (m : MyTree). m.0.pin) c.enter.ensures.entered.now ∙ c.fetch-place.ensures.looked.still.1,
   );
   none = held_upper c.args.tree.now.space.table.shared.key.rows c.fetch-place.new.pass.kept
       c.enter.new.pass.kept
@@ -177,7 +207,7 @@ returns-in_default-clause-frame g c = record {
       c.fetch-place.new.pass.kept c.args.pass.now.seat.me
       c.fetch-place.new.pass.seat.me [] c.requires.ready.none
       c.fetch-place.ensures.looked.kept c.fetch-place.ensures.looked.still.2
-      c.fetch-place.ensures.looked.quiet.most) c.enter.ensures.entered
+      c.fetch-place.ensures.looked.quiet.most) c.enter.ensures.entered.now
       c.enter.ensures.frame.kept;
 }
 
@@ -195,9 +225,9 @@ returns-then-not-f-clause-frame g c = record {
       c.enter-then-not-f.new.pass.seat.me _ c.enter-then-not-f.ensures.frame.tally
       c.enter-then-not-f.ensures.entered (c.fetch-place.ensures.looked.tally h);
   pin = (
-    ap (λ (m : MyTree). m.0.sizes) c.enter-then-not-f.ensures.entered
+    ap (λ (m : MyTree). m.0.sizes) c.enter-then-not-f.ensures.entered.now
         ∙ c.fetch-place.ensures.looked.still.0,
-    ap (λ (m : MyTree). m.0.pin) c.enter-then-not-f.ensures.entered
+    ap (λ (m : MyTree). m.0.pin) c.enter-then-not-f.ensures.entered.now
         ∙ c.fetch-place.ensures.looked.still.1,
   );
   none = held_upper c.args.tree.now.space.table.shared.key.rows c.fetch-place.new.pass.kept
@@ -207,7 +237,7 @@ returns-then-not-f-clause-frame g c = record {
       c.fetch-place.new.pass.kept c.args.pass.now.seat.me
       c.fetch-place.new.pass.seat.me [] c.requires.ready.none
       c.fetch-place.ensures.looked.kept c.fetch-place.ensures.looked.still.2
-      c.fetch-place.ensures.looked.quiet.most) c.enter-then-not-f.ensures.entered
+      c.fetch-place.ensures.looked.quiet.most) c.enter-then-not-f.ensures.entered.now
       c.enter-then-not-f.ensures.frame.kept;
 }
 
@@ -276,15 +306,15 @@ returns-in_default-clause-turn g c = record {
       c.fetch-place.new.pass.seat.me c.enter.new.pass.seat.me _ refl
       c.fetch-place.ensures.looked.quiet.idle c.enter.ensures.entered;
   counted = none_paid c.args.course.now.spent c.args.pass.now.seat.me c.enter.new.pass.seat.me
-      (ap losses c.enter.ensures.entered
-      ∙ c.fetch-place.ensures.looked.quiet.lost) (ap splits c.enter.ensures.entered
-      ∙ c.fetch-place.ensures.looked.quiet.splits_are);
+      (ap losses c.enter.ensures.entered.now
+      ∙ c.fetch-place.ensures.looked.quiet.lost) (ap (λ (m : MyTree). m.0.upper.turns) c.enter.ensures.entered.now
+      ∙ c.fetch-place.ensures.looked.quiet.same_turns);
   found = done_stopped _ c.args.pass.now.seat.me c.enter.new.pass.seat.me;
   grown = λ alone.
       entered_grown c.args.pass.now.seat.me c.fetch-place.new.pass.seat.me c.enter.new.pass.seat.me
       _
       c.fetch-place.ensures.looked.quiet c.enter.ensures.entered;
-  won = λ alone. ap (λ (m : MyTree). m.0.upper.lost) c.enter.ensures.entered
+  won = λ alone. ap (λ (m : MyTree). m.0.upper.lost) c.enter.ensures.entered.now
       ∙ c.fetch-place.ensures.looked.quiet.idle.1;
   cut = entered_cut c.args.pass.now.seat.me c.fetch-place.new.pass.seat.me c.enter.new.pass.seat.me
       _
@@ -300,15 +330,15 @@ returns-then-not-f-clause-turn g c = record {
       c.fetch-place.ensures.looked.quiet.idle c.enter-then-not-f.ensures.entered;
   counted = none_paid c.args.course.now.spent c.args.pass.now.seat.me
       c.enter-then-not-f.new.pass.seat.me
-      (ap losses c.enter-then-not-f.ensures.entered
-      ∙ c.fetch-place.ensures.looked.quiet.lost) (ap splits c.enter-then-not-f.ensures.entered
-      ∙ c.fetch-place.ensures.looked.quiet.splits_are);
+      (ap losses c.enter-then-not-f.ensures.entered.now
+      ∙ c.fetch-place.ensures.looked.quiet.lost) (ap (λ (m : MyTree). m.0.upper.turns) c.enter-then-not-f.ensures.entered.now
+      ∙ c.fetch-place.ensures.looked.quiet.same_turns);
   found = done_stopped _ c.args.pass.now.seat.me c.enter-then-not-f.new.pass.seat.me;
   grown = λ alone.
       entered_grown c.args.pass.now.seat.me c.fetch-place.new.pass.seat.me
       c.enter-then-not-f.new.pass.seat.me _
       c.fetch-place.ensures.looked.quiet c.enter-then-not-f.ensures.entered;
-  won = λ alone. ap (λ (m : MyTree). m.0.upper.lost) c.enter-then-not-f.ensures.entered
+  won = λ alone. ap (λ (m : MyTree). m.0.upper.lost) c.enter-then-not-f.ensures.entered.now
       ∙ c.fetch-place.ensures.looked.quiet.idle.1;
   cut = entered_cut c.args.pass.now.seat.me c.fetch-place.new.pass.seat.me
       c.enter-then-not-f.new.pass.seat.me _

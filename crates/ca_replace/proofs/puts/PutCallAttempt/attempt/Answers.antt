@@ -3,6 +3,7 @@ use Rattle.ca_model.specs.Event.{Event, Write}
 use Rattle.std.proofs.Common.{◌≡◌, true, ap, ◌∙◌, sym, subst, ◌<◌, []}
 use Rattle.ca_replace.proofs.GoingOn.{gone_after, paid_behind}
 use Rattle.ca_replace.proofs.Showing.{tried_on}
+use Rattle.ca_replace.proofs.States.{none_since}
 use Rattle.ca_replace.proofs.Growing.{alone_on, looked_grown}
 use Rattle.std.proofs.Common.{Some}
 use Rattle.ca_replace.proofs.Cutting.{looked_cut}
@@ -20,6 +21,10 @@ returns-clause-tried c = let o = c.args.self.now.keyed in
     c.args.pass.now.seat.me.0.upper c.find-place.new.pass.seat.me.0.upper
     c.put_there.new.pass.seat.me.0.upper c.find-place.ensures.looked.further
     c.put_there.ensures.tried
+
+pub find-place-requires-clause-unanswered : goal.find-place-requires-clause-unanswered
+find-place-requires-clause-unanswered c = none_since c.args.tree.now.space.table.shared.key
+    c.args.pass.now.seat.me.0.upper c.requires.known c.requires.first
 
 pub returns-clause-frame : goal.returns-clause-frame
 returns-clause-frame c = record {

@@ -1,17 +1,19 @@
 use Rattle.std.proofs.Common.{◌≡◌, ◌∙◌, Bool, true, false, refl, sym, ap, subst, ◌<◌, []}
-use Rattle.std.specs.Prelude.{slice_range}
+use Rattle.std.specs.Prelude.{slice_range, Result}
 use Rattle.ca_model.specs.Event.{Event, WriteNew}
 use Rattle.ca_node.specs.Told.{MyTree}
 use Rattle.ca_replace.proofs.GoingOn.{adapts_after, entered_waits, idle_waits, paid_behind, waits_on}
 use Rattle.ca_replace.proofs.Showing.{did, not_new, read_done}
+use Rattle.ca_replace.proofs.States.{none_since, seen_before}
 use Rattle.ca_replace.proofs.Tallies.{tallied_read}
 use Rattle.ca_replace.proofs.Meeting.{further_on}
 use Rattle.ca_replace.proofs.Growing.{alone_on, entered_grown, looked_grown, stop_grown}
-use Rattle.std.proofs.Common.{Ok, Some}
+use Rattle.std.proofs.Common.{Ok, Err, Some}
+use Rattle.ca_replace.specs.declared.attempting.Stop.{Stop}
+use Rattle.ca_replace.specs.declared.attempting.Stop.TheVariants.{Deep as IsDeep}
 use Rattle.ca_replace.proofs.Cutting.{entered_cut, looked_cut, stop_cut}
 use Rattle.ca_replace.proofs.Winning.{won_on}
 use Rattle.ca_base.specs.Counting.{losses}
-use Rattle.ca_replace.specs.Attempting.{splits}
 use Rattle.ca_rows.specs.declared.view.Pin.{Pin}
 use Rattle.ca_replace.proofs.Counted.{none_paid, done_stopped, stop_stopped}
 use Rattle.ca_replace.proofs.Entries.{held_upper, held_looked}
@@ -23,22 +25,24 @@ enter-requires-clause-answer c = let o = c.args.self.now.keyed in
     c.find-place.result.0
     (slice_range o.object.now o.key_at o.key_end) o.object.now
     c.find-place.result.1 (sym c.is_ok.ensures.value
-    ∙ c.if-is_ok.true) c.find-place.ensures.looked.looking c.find-place.ensures.looked.place
+    ∙ c.if-is_ok.true) c.find-place.ensures.looked.looking
+    c.find-place.ensures.looked.unanswered c.find-place.ensures.looked.place
 
 pub returns-then-is_ok-clause-tried : goal.returns-then-is_ok-clause-tried
 returns-then-is_ok-clause-tried c = let o = c.args.self.now.keyed in
     let k = slice_range o.object.now o.key_at o.key_end in
     let z = c.args.tree.now.space.table.shared.key in
-    let w = c.find-place.new.pass.seat.me.0.upper in
     let event = WriteNew k o.object.now false in
     read_done (λ (new : Bool)
-    (e : Event). e ≡ WriteNew k o.object.now new) z c.args.pass.now.seat.me.0.upper w
-    c.enter.new.pass.seat.me.0.upper false event refl c.find-place.ensures.looked.further
-    c.find-place.ensures.looked.looking.known
-    (not_new z w c.find-place.result.0 k o.object.now c.find-place.result.1
-    (sym c.is_ok.ensures.value ∙ c.if-is_ok.true) c.find-place.ensures.looked.looking
-    c.find-place.ensures.looked.place)
-    (ap (λ (m : MyTree). m.0.upper) c.enter.ensures.entered)
+    (e : Event). e ≡ WriteNew k o.object.now new) z c.args.pass.now.seat.me.0.upper
+    c.find-place.new.pass.seat.me c.enter.new.pass.seat.me false event refl
+    c.find-place.ensures.looked.further c.find-place.ensures.looked.looking.known
+    (seen_before c.args.pass.now.seat.me.0.upper c.find-place.new.pass.seat.me.0.upper
+    c.requires.first c.find-place.ensures.looked.since) c.enter.ensures.entered
+
+pub find-place-requires-clause-unanswered : goal.find-place-requires-clause-unanswered
+find-place-requires-clause-unanswered c = none_since c.args.tree.now.space.table.shared.key
+    c.args.pass.now.seat.me.0.upper c.requires.known c.requires.first
 
 pub returns-in-Ok-clause-tried : goal.returns-in-Ok-clause-tried
 returns-in-Ok-clause-tried c = let o = c.args.self.now.keyed in
@@ -49,6 +53,17 @@ returns-in-Ok-clause-tried c = let o = c.args.self.now.keyed in
     c.args.pass.now.seat.me.0.upper
     c.find-place.new.pass.seat.me.0.upper c.put_there.new.pass.seat.me.0.upper refl
     c.find-place.ensures.looked.further c.in-Ok.ensures.tried
+
+-- what an attempt came to
+abbrev why_of : Result Bool Stop → Stop
+why_of (Ok x) = IsDeep
+why_of (Err why) = why
+
+abbrev stopped_so : Stop → Result (Unit {0}) Stop
+stopped_so why = Err why
+
+pub returns-in-Err-clause-deep : goal.returns-in-Err-clause-deep
+returns-in-Err-clause-deep c deep = c.in-Err.ensures.full (ap stopped_so (ap why_of deep))
 
 pub returns-then-is_ok-clause-frame : goal.returns-then-is_ok-clause-frame
 returns-then-is_ok-clause-frame c = record {
@@ -62,8 +77,8 @@ returns-then-is_ok-clause-frame c = record {
       c.enter.new.pass.seat.me _
       c.enter.ensures.frame.tally c.enter.ensures.entered (c.find-place.ensures.looked.tally h);
   pin = (
-    ap (λ (m : MyTree). m.0.sizes) c.enter.ensures.entered ∙ c.find-place.ensures.looked.still.0,
-    ap (λ (m : MyTree). m.0.pin) c.enter.ensures.entered ∙ c.find-place.ensures.looked.still.1,
+    ap (λ (m : MyTree). m.0.sizes) c.enter.ensures.entered.now ∙ c.find-place.ensures.looked.still.0,
+    ap (λ (m : MyTree). m.0.pin) c.enter.ensures.entered.now ∙ c.find-place.ensures.looked.still.1,
   );
   none = held_upper c.args.tree.now.space.table.shared.key.rows c.find-place.new.pass.kept
       c.enter.new.pass.kept
@@ -72,7 +87,7 @@ returns-then-is_ok-clause-frame c = record {
       c.find-place.new.pass.kept c.args.pass.now.seat.me c.find-place.new.pass.seat.me
       [] c.requires.ready.none
       c.find-place.ensures.looked.kept c.find-place.ensures.looked.still.2
-      c.find-place.ensures.looked.quiet.most) c.enter.ensures.entered
+      c.find-place.ensures.looked.quiet.most) c.enter.ensures.entered.now
       c.enter.ensures.frame.kept;
 }
 
@@ -138,14 +153,14 @@ returns-then-is_ok-clause-turn c = record {
       c.find-place.new.pass.seat.me c.enter.new.pass.seat.me _ refl
       c.find-place.ensures.looked.quiet.idle c.enter.ensures.entered;
   counted = none_paid c.args.course.now.spent c.args.pass.now.seat.me c.enter.new.pass.seat.me
-      (ap losses c.enter.ensures.entered
-      ∙ c.find-place.ensures.looked.quiet.lost) (ap splits c.enter.ensures.entered
-      ∙ c.find-place.ensures.looked.quiet.splits_are);
+      (ap losses c.enter.ensures.entered.now
+      ∙ c.find-place.ensures.looked.quiet.lost) (ap (λ (m : MyTree). m.0.upper.turns) c.enter.ensures.entered.now
+      ∙ c.find-place.ensures.looked.quiet.same_turns);
   found = done_stopped _ c.args.pass.now.seat.me c.enter.new.pass.seat.me;
   grown = λ alone.
       entered_grown c.args.pass.now.seat.me c.find-place.new.pass.seat.me c.enter.new.pass.seat.me _
       c.find-place.ensures.looked.quiet c.enter.ensures.entered;
-  won = λ alone. ap (λ (m : MyTree). m.0.upper.lost) c.enter.ensures.entered
+  won = λ alone. ap (λ (m : MyTree). m.0.upper.lost) c.enter.ensures.entered.now
       ∙ c.find-place.ensures.looked.quiet.idle.1;
   cut = entered_cut c.args.pass.now.seat.me c.find-place.new.pass.seat.me c.enter.new.pass.seat.me _
       c.find-place.ensures.looked.quiet c.enter.ensures.entered;

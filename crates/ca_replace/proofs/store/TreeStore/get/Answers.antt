@@ -2,7 +2,7 @@ use Rattle.std.proofs.Common.{◌≡◌, Bool, ℕ, List, Ok, sym, ap, subst, �
 use Rattle.ca_model.specs.Answer.{Got}
 use Rattle.ca_model.specs.Event.{Event}
 use Rattle.ca_model.specs.Known.{Meets}
-use Rattle.ca_node.specs.Told.{MyTree}
+use Rattle.ca_node.specs.Told.{MyTree, IsKnown}
 use Rattle.ca_node.proofs.Tallies.{tallied_still}
 use Rattle.ca_node.specs.TreeView.{TreeView}
 use Rattle.ca_rows.specs.declared.sizes.Sizes.{Sizes}
@@ -11,8 +11,10 @@ use Rattle.ca_replace.specs.Reads.{get_event}
 use Rattle.ca_replace.specs.Resting.{StoreView, known_of, knows}
 use Rattle.ca_replace.proofs.Entries.{held_upper, got_is}
 use Rattle.ca_replace.proofs.Meeting.{meets}
-use Rattle.ca_replace.proofs.Showing.{looking, read_tried}
-use Rattle.ca_replace.proofs.Turns.{none_pinned, rests_as, rests_again, tried_known, tried_pinned}
+use Rattle.ca_node.specs.declared.cursor.Spot.TheVariants as spot
+use Rattle.ca_replace.proofs.Showing.{looking, read_tried, walked_unanswered}
+use Rattle.ca_replace.proofs.States.{none_since, pinned_first}
+use Rattle.ca_replace.proofs.Turns.{known_pinned, none_pinned, rests_as, rests_again, tried_known, tried_pinned}
 use Rattle.ca_replace.proofs.store.TreeStore.get.Goals as goal
 
 pub look_up-found-requires-clause-looking : goal.look_up-found-requires-clause-looking
@@ -23,22 +25,32 @@ look_up-found-requires-clause-looking c = let tree = c.self.inside.tree.now in
     looking z c.args.key c.pin.new.pass.seat.me c.walk-cursor.new.pass.seat.me c.walk-cursor.result
     c.walk-cursor.ensures.walked (omega arith)
 
+pub look_up-found-requires-clause-unanswered : goal.look_up-found-requires-clause-unanswered
+look_up-found-requires-clause-unanswered c =
+    let z : Sizes = c.self.inside.tree.now.space.table.shared.key in
+    let u = c.self.inside.pass.seat.me.0.upper in let pinned_me = c.pin.new.pass.seat.me in
+    let pin = ap (λ (m : MyTree). m.0.upper) c.pin.ensures.pinned.3 in
+    walked_unanswered z (spot.At c.args.key) pinned_me c.walk-cursor.new.pass.seat.me
+    c.walk-cursor.result c.walk-cursor.ensures.walked
+    (none_since z pinned_me.0.upper
+    (subst (IsKnown z) (sym pin) (known_pinned z u c.self.invariant.known))
+    (pinned_first pinned_me.0.upper u pin))
+
 pub keep_few-requires : goal.keep_few-requires
 keep_few-requires c = let tree = c.self.inside.tree.now in
     let z : Sizes = tree.space.table.shared.key in let table = tree.space.table.shared.table_id in
-    let tuned = tree.tuned.leaf in let most = tree.tuned.allowed.most_leaf in
-    let same = ap (λ (y : Sizes). y.leaf) tree.space.same in
     let pass = c.self.inside.pass in let pin = c.pin.ensures.pinned.3 in
     let walk = c.walk-cursor.ensures.walked.now in
-    let look = c.look_up-found.ensures.entered in
+    let look = c.look_up-found.ensures.entered.now in
     let event = get_event c.args.key.now c.look_up-found.result c.look_up-found.new.into.items in
     let told = λ (_ : Bool) (e : Event). e
     ≡ get_event c.args.key.now c.look_up-found.result c.look_up-found.new.into.items in
     let tried =
     read_tried z c.args.key c.pin.new.pass.seat.me c.walk-cursor.new.pass.seat.me
     c.look_up-found.new.pass.seat.me c.walk-cursor.result event
-    c.look_up-found.result c.walk-cursor.ensures.walked (omega arith) c.look_up-found.ensures.answer
-    look in record {
+    c.look_up-found.result c.walk-cursor.ensures.walked (pinned_first c.pin.new.pass.seat.me.0.upper pass.seat.me.0.upper
+    (ap (λ (m : MyTree). m.0.upper) c.pin.ensures.pinned.3))
+    c.look_up-found.ensures.entered in record {
       resting = rests_as table z pass.number c.unpin.new.pass.number c.look_up-found.new.pass.kept
           c.unpin.new.pass.kept c.unpin.new.pass.seat
           (c.unpin.ensures.frame.number
@@ -92,12 +104,11 @@ returns-clause-got c = let tree = c.self.inside.tree.now in
     let event = get_event c.args.key.now c.look_up-found.result c.look_up-found.new.into.items in
     let told = λ (_ : Bool) (e : Event). e
     ≡ get_event c.args.key.now c.look_up-found.result c.look_up-found.new.into.items in
-    let tuned = tree.tuned.leaf in let most = tree.tuned.allowed.most_leaf in
-    let same = ap (λ (y : Sizes). y.leaf) tree.space.same in
     let tried =
     read_tried z c.args.key c.pin.new.pass.seat.me c.walk-cursor.new.pass.seat.me
     c.look_up-found.new.pass.seat.me c.walk-cursor.result event
-    found c.walk-cursor.ensures.walked (omega arith) c.look_up-found.ensures.answer
+    found c.walk-cursor.ensures.walked (pinned_first c.pin.new.pass.seat.me.0.upper pass.seat.me.0.upper
+    (ap (λ (m : MyTree). m.0.upper) c.pin.ensures.pinned.3))
     c.look_up-found.ensures.entered in
     let done =
     tried_pinned told z (Ok found) pass.seat.me.0.upper c.look_up-found.new.pass.seat.me.0.upper
