@@ -125,7 +125,7 @@ as_many (suc n) xs a range = let fewer = as_many n (without (suc n) xs) (apart_l
     let one = one_less xs (suc n) a in omega arith
 
 -- What is in a list with one row more behind it was in the list, or is that row.
-was_or_last : (xs : List Kept) (y : Kept) (r t : ℕ) → kept_of (xs ++ y ∷ []) r ≡ some t
+pub was_or_last : (xs : List Kept) (y : Kept) (r t : ℕ) → kept_of (xs ++ y ∷ []) r ≡ some t
     → (kept_of xs r ≡ some t) ⊎ (y.at ≡ t)
 was_or_last [] y r t e = dite (ℕ_discrete y.row r)
     (λ f. inr (some-injective y.at t (sym (here_is y [] r f) ∙ e)))

@@ -71,6 +71,11 @@ part_length ks ys zero l = omega arith
 part_length [] ys (suc at) l = absurd (omega arith)
 part_length (x ∷ xs) ys (suc at) l = let rest = part_length xs ys at (omega arith) in omega arith
 
+pub part_behind : (ks ys : List Kept) (at : ℕ) → at ≤ length ks → drop at (take at ks ++ ys) ≡ ys
+part_behind ks ys zero l = refl
+part_behind [] ys (suc at) l = absurd (omega arith)
+part_behind (x ∷ xs) ys (suc at) l = part_behind xs ys at (omega arith)
+
 pub part_cut : (ks ys : List Kept) (at : ℕ) → at < length ks
     → take at (take (suc at) ks ++ ys) ++ drop (suc at) (take (suc at) ks ++ ys) ≡ take at ks ++ ys
 part_cut [] ys at l = absurd (omega arith)

@@ -14,7 +14,7 @@ use Rattle.ca_rows.proofs.GivingBack.{reclaims_trans, was_kept}
 use Rattle.ca_rows.proofs.Keeping.{no_rows}
 use Rattle.ca_rows.proofs.Scanning.{less_or_not}
 
-nothing_in : (xs : List Kept) → length xs ≡ 0 → xs ≡ []
+pub nothing_in : (xs : List Kept) → length xs ≡ 0 → xs ≡ []
 nothing_in [] e = refl
 nothing_in (x ∷ xs) e = absurd (omega arith)
 
@@ -88,7 +88,7 @@ module _ {U : Type 0} where
       (gave : Reclaims m1 m2) (same : m2.0.pin ≡ m1.0.pin) (freed losses : ℕ)
       (ks ks' : List Kept) (count : freed + length ks' ≡ length ks)
       (lost : m2.0.lost ≡ m1.0.lost + losses) (few : freed + losses ≤ length ks)
-      (young : losses ≡ 0 → (r t : ℕ) → kept_of ks' r ≡ some t → e < t + 2) where
+      (young : (r t : ℕ) → kept_of ks' r ≡ some t → e < t + 2) where
     pin_is : m2.0.pin ≡ record m.0.pin { scan = e; upto = 0; lag = 0; looks = m.0.pin.looks + 1 }
     pin_is = same ∙ ap (λ (x : Mine U). x.0.pin) began
 
@@ -125,127 +125,143 @@ module _ {U : Type 0} where
       unlagged = λ go. absurd cc;
       young = young;
       goes_on = λ go _. absurd cc;
+      near = let scan = ap (λ (p : Pin). p.scan) pin_is in omega arith;
       stops = λ _. ap (λ (p : Pin). p.scan) pin_is;
-      ends = λ _ _ _ room. ⊎_elim (λ n. nothing_in ks' n)
+      ends = λ _ _ room. ⊎_elim (λ n. nothing_in ks' n)
           (λ (last : e ≡ 4611686018427387904). let scan = ap (λ (p : Pin). p.scan) pin_is in
           absurd (omega arith)) why;
+      rests = λ _. (refl, refl, omega arith);
     }
 
-    -- A pass lags.
-    pub round_lags : (j : ℕ) (m3 : Mine U) → m2.0.pin.number ≡ number → IsLook passes (Some j) m2 m3
-        → Rounds passes number (record {
-          freed =
-              freed;
-          lag = Some j;
-          losses = losses;
-          epoch = e;
-          more = false;
-        }) m m3 ks ks'
-    round_lags j m3 is look = let saw = look.3.1 in record {
-      e = e;
-      later = later;
-      past = past;
-      reclaims =
-          reclaims_trans m m2 m3 so_far
-          (saw_more m2 m3 m2.0.pin.scan look.3.0 j m2.0.pin.looks (m2.0.pin.lags + 1) saw
-          (le_refl m2.0.pin.scan) (le_refl m2.0.pin.looks) (omega arith));
-      looked = ap (λ (x : Mine U). x.0.pin.looks) saw ∙ ap (λ (p : Pin). p.looks) pin_is;
-      freed = count;
-      lost = ap (λ (x : Mine U). x.0.lost) saw ∙ lost_so_far;
-      few = omega arith;
-      epoch_is = sym (ap (λ (x : Mine U). x.0.pin.scan) saw ∙ ap (λ (p : Pin). p.scan) pin_is);
-      lag = (look.0, look.1, (λ f. look.2 (f ∙ sym is)), ap (λ (x : Mine U). x.0.pin.lag) saw);
-      lags = let one = ap (λ (x : Mine U). x.0.pin.lags) saw in
-          let none = ap (λ (p : Pin). p.lags) pin_is in omega arith;
-      unlagged = λ go. absurd cc;
-      young = young;
-      goes_on = λ go _. absurd cc;
-      stops = λ _. ap (λ (x : Mine U). x.0.pin.scan) saw ∙ ap (λ (p : Pin). p.scan) pin_is;
-      ends = λ _ f _ _. absurd cc;
-    }
+    -- Some rows are kept still.
+    module _ (some_kept : 0 < length ks') where
+      nothing_kept : ks' ≡ [] → ⊥
+      nothing_kept none = let n = ap (λ (xs : List Kept). length xs) none in absurd (omega arith)
 
-    -- None does, and the epoch moved by one.
-    pub round_moves : (m3 m4 : Mine U) → IsLook passes None m2 m3 → Moves true e m3 m4
-        → Rounds passes number (record {
-          freed =
-              freed;
-          lag = None;
-          losses = losses;
-          epoch = e + 1;
-          more = true;
-        }) m m4 ks ks'
-    round_moves m3 m4 look move = let scan = ap (λ (p : Pin). p.scan) pin_is in
-        let scan' = ap (λ (x : Mine U). x.0.pin.scan) look in
-        let to_3 =
-        saw_more m2 m3 m2.0.pin.scan passes m2.0.pin.lag m2.0.pin.looks m2.0.pin.lags look
-        (le_refl m2.0.pin.scan)
-        (le_refl m2.0.pin.looks) (le_refl m2.0.pin.lags) in
-        let to_4 =
-        saw_more m3 m4 (e + 1) 0 m3.0.pin.lag m3.0.pin.looks m3.0.pin.lags move (omega arith)
-        (le_refl m3.0.pin.looks) (le_refl m3.0.pin.lags) in record {
-          e = e;
-          later = later;
-          past = past;
-          reclaims = reclaims_trans m m2 m4 so_far (reclaims_trans m2 m3 m4 to_3 to_4);
-          looked = ap (λ (x : Mine U). x.0.pin.looks) move
-              ∙ (ap (λ (x : Mine U). x.0.pin.looks) look ∙ ap (λ (p : Pin). p.looks) pin_is);
-          freed = count;
-          lost = ap (λ (x : Mine U). x.0.lost) move
-              ∙ (ap (λ (x : Mine U). x.0.lost) look ∙ lost_so_far);
-          few = omega arith;
-          epoch_is = sym (ap (λ (x : Mine U). x.0.pin.scan) move);
-          lag = ap (λ (x : Mine U). x.0.pin.lag) move
-              ∙ (ap (λ (x : Mine U). x.0.pin.lag) look ∙ ap (λ (p : Pin). p.lag) pin_is);
-          lags = let same = ap (λ (x : Mine U). x.0.pin.lags) move
-              ∙ (ap (λ (x : Mine U). x.0.pin.lags) look ∙ ap (λ (p : Pin). p.lags) pin_is) in
-              omega arith;
-          unlagged = λ _. refl;
-          young = young;
-          goes_on = λ _ _. ap (λ (x : Mine U). x.0.pin.scan) move;
-          stops = λ f. absurd cc;
-          ends = λ f _ _ _. absurd cc;
-        }
+      -- A pass lags.
+      pub round_lags : (j : ℕ) (m3 : Mine U) → m2.0.pin.number ≡ number → IsLook passes (Some j) m2 m3
+          → Rounds passes number (record {
+            freed =
+                freed;
+            lag = Some j;
+            losses = losses;
+            epoch = e;
+            more = false;
+          }) m m3 ks ks'
+      round_lags j m3 is look = let saw = look.3.1 in record {
+        e = e;
+        later = later;
+        past = past;
+        reclaims =
+            reclaims_trans m m2 m3 so_far
+            (saw_more m2 m3 m2.0.pin.scan look.3.0 j m2.0.pin.looks (m2.0.pin.lags + 1) saw
+            (le_refl m2.0.pin.scan) (le_refl m2.0.pin.looks) (omega arith));
+        looked = ap (λ (x : Mine U). x.0.pin.looks) saw ∙ ap (λ (p : Pin). p.looks) pin_is;
+        freed = count;
+        lost = ap (λ (x : Mine U). x.0.lost) saw ∙ lost_so_far;
+        few = omega arith;
+        epoch_is = sym (ap (λ (x : Mine U). x.0.pin.scan) saw ∙ ap (λ (p : Pin). p.scan) pin_is);
+        lag = (look.0, look.1, (λ f. look.2 (f ∙ sym is)), ap (λ (x : Mine U). x.0.pin.lag) saw);
+        lags = let one = ap (λ (x : Mine U). x.0.pin.lags) saw in
+            let none = ap (λ (p : Pin). p.lags) pin_is in omega arith;
+        unlagged = λ go. absurd cc;
+        young = young;
+        goes_on = λ go _. absurd cc;
+        near = let scan = ap (λ (x : Mine U). x.0.pin.scan) saw ∙ ap (λ (p : Pin). p.scan) pin_is in
+            omega arith;
+        stops = λ _. ap (λ (x : Mine U). x.0.pin.scan) saw ∙ ap (λ (p : Pin). p.scan) pin_is;
+        ends = λ _ f _. absurd cc;
+        rests = λ none. absurd (nothing_kept none);
+      }
 
-    -- None does, and the exchange of the epoch lost.
-    pub round_misses : (m3 m4 : Mine U) → IsLook passes None m2 m3 → Moves false e m3 m4
-        → Rounds passes number (record {
-          freed =
-              freed;
-          lag = None;
-          losses = losses + 1;
-          epoch = e;
-          more = true;
-        }) m m4 ks ks'
-    round_misses m3 m4 look move =
-        let to_3 =
-        saw_more m2 m3 m2.0.pin.scan passes m2.0.pin.lag m2.0.pin.looks m2.0.pin.lags look
-        (le_refl m2.0.pin.scan)
-        (le_refl m2.0.pin.looks) (le_refl m2.0.pin.lags) in
-        let count_2 = lost_so_far in let count_3 = ap (λ (x : Mine U). x.0.lost) look in
-        let count_4 = ap (λ (x : Mine U). x.0.lost) move in record {
-          e = e;
-          later = later;
-          past = past;
-          reclaims =
-              reclaims_trans m m2 m4 so_far (reclaims_trans m2 m3 m4 to_3 (lost_one m3 m4 move));
-          looked = ap (λ (x : Mine U). x.0.pin.looks) move
-              ∙ (ap (λ (x : Mine U). x.0.pin.looks) look ∙ ap (λ (p : Pin). p.looks) pin_is);
-          freed = count;
-          lost = omega arith;
-          few = omega arith;
-          epoch_is = sym (ap (λ (x : Mine U). x.0.pin.scan) move
-              ∙ (ap (λ (x : Mine U). x.0.pin.scan) look ∙ ap (λ (p : Pin). p.scan) pin_is));
-          lag = ap (λ (x : Mine U). x.0.pin.lag) move
-              ∙ (ap (λ (x : Mine U). x.0.pin.lag) look ∙ ap (λ (p : Pin). p.lag) pin_is);
-          lags = let same = ap (λ (x : Mine U). x.0.pin.lags) move
-              ∙ (ap (λ (x : Mine U). x.0.pin.lags) look ∙ ap (λ (p : Pin). p.lags) pin_is) in
-              omega arith;
-          unlagged = λ _. refl;
-          young = λ f. absurd (omega arith);
-          goes_on = λ _ f. absurd (omega arith);
-          stops = λ f. absurd cc;
-          ends = λ f _ _ _. absurd cc;
-        }
+      -- None does, and the epoch moved by one.
+      pub round_moves : (m3 m4 : Mine U) → IsLook passes None m2 m3 → Moves true e m3 m4
+          → Rounds passes number (record {
+            freed =
+                freed;
+            lag = None;
+            losses = losses;
+            epoch = e + 1;
+            more = true;
+          }) m m4 ks ks'
+      round_moves m3 m4 look move = let scan = ap (λ (p : Pin). p.scan) pin_is in
+          let scan' = ap (λ (x : Mine U). x.0.pin.scan) look in
+          let to_3 =
+          saw_more m2 m3 m2.0.pin.scan passes m2.0.pin.lag m2.0.pin.looks m2.0.pin.lags look
+          (le_refl m2.0.pin.scan)
+          (le_refl m2.0.pin.looks) (le_refl m2.0.pin.lags) in
+          let to_4 =
+          saw_more m3 m4 (e + 1) 0 m3.0.pin.lag m3.0.pin.looks m3.0.pin.lags move (omega arith)
+          (le_refl m3.0.pin.looks) (le_refl m3.0.pin.lags) in record {
+            e = e;
+            later = later;
+            past = past;
+            reclaims = reclaims_trans m m2 m4 so_far (reclaims_trans m2 m3 m4 to_3 to_4);
+            looked = ap (λ (x : Mine U). x.0.pin.looks) move
+                ∙ (ap (λ (x : Mine U). x.0.pin.looks) look ∙ ap (λ (p : Pin). p.looks) pin_is);
+            freed = count;
+            lost = ap (λ (x : Mine U). x.0.lost) move
+                ∙ (ap (λ (x : Mine U). x.0.lost) look ∙ lost_so_far);
+            few = omega arith;
+            epoch_is = sym (ap (λ (x : Mine U). x.0.pin.scan) move);
+            lag = ap (λ (x : Mine U). x.0.pin.lag) move
+                ∙ (ap (λ (x : Mine U). x.0.pin.lag) look ∙ ap (λ (p : Pin). p.lag) pin_is);
+            lags = let same = ap (λ (x : Mine U). x.0.pin.lags) move
+                ∙ (ap (λ (x : Mine U). x.0.pin.lags) look ∙ ap (λ (p : Pin). p.lags) pin_is) in
+                omega arith;
+            unlagged = λ _. refl;
+            young = young;
+            goes_on = λ _ _. ap (λ (x : Mine U). x.0.pin.scan) move;
+            near = let moved = ap (λ (x : Mine U). x.0.pin.scan) move in omega arith;
+            stops = λ f. absurd cc;
+            ends = λ f _ _. absurd cc;
+            rests = λ none. absurd (nothing_kept none);
+          }
+
+      -- None does, and the exchange of the epoch lost.
+      pub round_misses : (m3 m4 : Mine U) → IsLook passes None m2 m3 → Moves false e m3 m4
+          → Rounds passes number (record {
+            freed =
+                freed;
+            lag = None;
+            losses = losses + 1;
+            epoch = e;
+            more = true;
+          }) m m4 ks ks'
+      round_misses m3 m4 look move =
+          let to_3 =
+          saw_more m2 m3 m2.0.pin.scan passes m2.0.pin.lag m2.0.pin.looks m2.0.pin.lags look
+          (le_refl m2.0.pin.scan)
+          (le_refl m2.0.pin.looks) (le_refl m2.0.pin.lags) in
+          let count_2 = lost_so_far in let count_3 = ap (λ (x : Mine U). x.0.lost) look in
+          let count_4 = ap (λ (x : Mine U). x.0.lost) move in record {
+            e = e;
+            later = later;
+            past = past;
+            reclaims =
+                reclaims_trans m m2 m4 so_far (reclaims_trans m2 m3 m4 to_3 (lost_one m3 m4 move));
+            looked = ap (λ (x : Mine U). x.0.pin.looks) move
+                ∙ (ap (λ (x : Mine U). x.0.pin.looks) look ∙ ap (λ (p : Pin). p.looks) pin_is);
+            freed = count;
+            lost = omega arith;
+            few = omega arith;
+            epoch_is = sym (ap (λ (x : Mine U). x.0.pin.scan) move
+                ∙ (ap (λ (x : Mine U). x.0.pin.scan) look ∙ ap (λ (p : Pin). p.scan) pin_is));
+            lag = ap (λ (x : Mine U). x.0.pin.lag) move
+                ∙ (ap (λ (x : Mine U). x.0.pin.lag) look ∙ ap (λ (p : Pin). p.lag) pin_is);
+            lags = let same = ap (λ (x : Mine U). x.0.pin.lags) move
+                ∙ (ap (λ (x : Mine U). x.0.pin.lags) look ∙ ap (λ (p : Pin). p.lags) pin_is) in
+                omega arith;
+            unlagged = λ _. refl;
+            young = young;
+            goes_on = λ _ f. absurd (omega arith);
+            near = let same = ap (λ (x : Mine U). x.0.pin.scan) move
+                ∙ (ap (λ (x : Mine U). x.0.pin.scan) look ∙ ap (λ (p : Pin). p.scan) pin_is) in
+                omega arith;
+            stops = λ f. absurd cc;
+            ends = λ f _ _. absurd cc;
+            rests = λ none. absurd (nothing_kept none);
+          }
 
 pub true_or_false : (b : Bool) → (b ≡ true) ⊎ (b ≡ false)
 true_or_false true = inl refl
@@ -293,10 +309,10 @@ module _ {U : Type 0} (rows passes number : ℕ) (m m' : Mine U) (kept kept' : V
   none_left zero_is lag room = ⊎_elim
       (λ more. let less = go_on more in nothing_in kept'.items
       (no_rows kept'.items (λ r t e. let low = before r t e in
-      let young = x.young none_lost r t e in omega arith)))
-      (λ more. x.ends more lag none_lost room) (true_or_false answer.more)
+      let young = x.young r t e in omega arith)))
+      (λ more. x.ends more lag room) (true_or_false answer.more)
 
   pub young_left : left' ≡ 0 → (r t : ℕ) → kept_of kept'.items r ≡ some t → m'.0.pin.scan < t + 2
-  young_left zero_is r t e = let young = x.young none_lost r t e in ⊎_elim
+  young_left zero_is r t e = let young = x.young r t e in ⊎_elim
       (λ more. let less = go_on more in let low = before r t e in absurd (omega arith))
       (λ more. let scan = x.stops more in omega arith) (true_or_false answer.more)

@@ -1,6 +1,6 @@
 -- What the calls of a space come to.
-use Rattle.std.specs.Prelude.{◌≡◌, ◌≢◌, ℕ, ◌<◌, ◌≤◌, Bool, true, false, List, length}
-use mathlib.Core.Option.{none}
+use Rattle.std.specs.Prelude.{◌≡◌, ◌≢◌, ℕ, ◌<◌, ◌≤◌, Bool, true, false, List, length, slice_set}
+use mathlib.Core.Option.{some, none}
 use Rattle.atomic_table.specs.Table.{Step}
 use Rattle.atomic_table.specs.declared.shared.Seat.{Seat}
 use Rattle.atomic_table.specs.Seated.{TableId}
@@ -11,7 +11,7 @@ use Rattle.ca_rows.specs.declared.view.Claim.TheVariants.{Holds}
 use Rattle.ca_rows.specs.declared.view.Pin.{Pin}
 use Rattle.ca_rows.specs.declared.view.View.{View}
 use Rattle.ca_rows.specs.Claims.{claim_of, claimed, dropped}
-use Rattle.ca_rows.specs.Told.{Mine, with_claims, with_most, found_empty, found_worn, missed, relinked}
+use Rattle.ca_rows.specs.Told.{Mine, with_claims, with_most, found_empty, found_worn, met_of, missed, relinked}
 use Rattle.ca_rows.specs.Layout.{row_words}
 
 module _ {U : Type 0} where
@@ -61,6 +61,22 @@ module _ {U : Type 0} where
   abbrev pub PutsRow : Bool → ℕ → Mine U → Mine U → Type 0
   PutsRow true r m m' = m' ≡ with_claims m (dropped r m.0.claims)
   PutsRow false r m m' = (its : List ℕ) × (length its ≡ row_words) × (m' ≡ missed (with_claims m (claimed r (Holds its) m.0.claims)))
+
+  -- A row that the pass holds has this value at this place of its words.
+  abbrev pub WritesWord : ℕ → ℕ → ℕ → Mine U → Mine U → Type 0
+  WritesWord row index value m m' = (its : List ℕ) → claim_of m.0.claims row ≡ some (Holds its)
+      → m' ≡ (record m.0 { claims = claimed row (Holds (slice_set its index value)) m.0.claims }, m.1)
+
+  -- The pass is pinned: it announced an epoch, at one that isn't lower. What it had met of the pool is noted.
+  abbrev pub Pins : (U → U) → Mine U → Mine U → Type 0
+  Pins enters m m' = (told : ℕ) × (moment : ℕ) × (told ≤ moment) × (m' ≡ (record m.0 {
+    pin = record m.0.pin { pinned = true; told = told; moment = moment; entered = met_of m };
+    upper = enters m.0.upper;
+  }, m.1))
+
+  -- It isn't pinned any more. What it had met of the pool is noted.
+  abbrev pub Unpins : (U → U) → Mine U → Mine U → Type 0
+  Unpins leaves m m' = m' ≡ (record m.0 { pin = record m.0.pin { pinned = false; left = met_of m }; upper = leaves m.0.upper }, m.1)
 
 -- The pass has this number, which its announcement goes by.
 abbrev pub IsNumbered : ℕ → Pin → Type 0

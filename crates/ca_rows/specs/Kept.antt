@@ -1,5 +1,5 @@
 -- The rows that a pass keeps, until nobody can have a note on them.
-use Rattle.std.specs.Prelude.{◌≡◌, ◌==◌, ℕ, ◌<◌, ◌≤◌, cond, List, [], ◌∷◌, Vec, vec_capacity}
+use Rattle.std.specs.Prelude.{◌≡◌, ◌==◌, ℕ, ◌<◌, ◌≤◌, cond, List, [], ◌∷◌, ◌++◌, take, drop, Vec, vec_capacity}
 use Rattle.std.specs.Global.{Global}
 use mathlib.Core.Option.{Option, some, none}
 use lib.ListN.{get_elem?}
@@ -36,6 +36,11 @@ pub record AreListed (rows : ℕ) (claims : List Claimed) (ks : List Kept) : Typ
 -- So is this one, and all rows have room in it.
 pub record AreKept (rows : ℕ) (claims : List Claimed) (kept : Vec Kept Global) : Type 0 where
   pub are : AreListed rows claims kept.items
+  pub room : rows ≤ vec_capacity kept
+
+-- Of the list only the rows before a place and those from an end on are kept still: the ones in between were given back, and stand there yet.
+pub record AreKeptBut (rows at end : ℕ) (claims : List Claimed) (kept : Vec Kept Global) : Type 0 where
+  pub are : AreListed rows claims (take at kept.items ++ drop end kept.items)
   pub room : rows ≤ vec_capacity kept
 
 module _ {U : Type 0} (lent : List ℕ → ℕ → Type 0) (fact : Sizes → ℕ → List ℕ → List U → Type 0) (z : Sizes) (id : ℕ) (d : View U) (row : ℕ) where

@@ -1,10 +1,11 @@
 -- Words for what contracts say of a space and its passes, and what stays of a pass.
-use Rattle.std.specs.Prelude.{◌≡◌, Bool, true}
+use Rattle.std.specs.Prelude.{◌≡◌, Bool, true, false}
 use Rattle.ca_rows.specs.declared.sizes.Sizes.{Sizes}
 use Rattle.ca_rows.specs.declared.space.Pass.{Pass}
 use Rattle.ca_rows.specs.declared.space.Space.{Space}
 use Rattle.ca_rows.specs.declared.view.View.{View}
-use Rattle.ca_rows.specs.Calls.{IsOf, IsSame, IsStill}
+use Rattle.ca_rows.specs.Calls.{IsNumbered, IsOf, IsSame, IsStill}
+use Rattle.ca_rows.specs.Kept.{AreKept}
 use Rattle.ca_rows.specs.Tallied.{HasTallied}
 use Rattle.ca_rows.specs.Told.{Mine}
 
@@ -28,6 +29,13 @@ module _ {R U : Type 0} where
   pub record IsReading (space : Space R U) (pass : Pass R U) : Type 0 where
     pub own : IsOn space pass
     pub pinned : pass.seat.me.0.pin.pinned ≡ true
+
+  -- The pass is one of this space, has its number, and isn't pinned. Its list is that of the rows that it keeps.
+  pub record MayReclaim (space : Space R U) (pass : Pass R U) : Type 0 where
+    pub own : IsOn space pass
+    pub number : IsNumbered pass.number pass.seat.me.0.pin
+    pub unpinned : pass.seat.me.0.pin.pinned ≡ false
+    pub list : AreKept space.table.shared.key.rows pass.seat.me.0.claims pass.kept.rows
 
   -- It is the same pass.
   pub record IsSamePass (pass new : Pass R U) : Type 0 where

@@ -1,7 +1,6 @@
 //! Passes announce that they read.
-ghost use Rattle.std.specs.Prelude.{◌≡◌, ℕ, ◌+◌, ◌<◌, ◌≤◌, true, false};
-ghost use Rattle.ca_rows.specs.Calls.{IsNumbered};
-ghost use Rattle.ca_rows.specs.Told.{met_of};
+ghost use Rattle.std.specs.Prelude.{◌≡◌, false};
+ghost use Rattle.ca_rows.specs.Calls.{IsNumbered, Pins, Unpins};
 ghost use Rattle.ca_rows.specs.Passes.{IsOn, IsReading, KeepsList, known, view};
 
 use crate::plays::{Announce, Ask, Leave};
@@ -15,14 +14,7 @@ impl<R: RowRule> Space<R> {
         requires number { IsNumbered pass.old.number (view pass.old).pin }
         requires unpinned { (view pass.old).pin.pinned ≡ false }
         ensures frame { KeepsList pass.old pass.new }
-        ensures pinned { (told : ℕ) × (moment : ℕ) × (told ≤ moment)
-            × (known pass.new ≡ (
-              record (view pass.old) {
-                pin = record (view pass.old).pin { pinned = true; told = told; moment = moment; entered = met_of (known pass.old) };
-                upper = R.enters (view pass.old).upper;
-              },
-              pass.old.seat.me.1,
-            )) }
+        ensures pinned { Pins R.enters (known pass.old) (known pass.new) }
     {
         let epoch = self.table.shared.load::<Ask>(&mut pass.seat, 1);
         let word = pass.number as usize + 1;
@@ -36,13 +28,7 @@ impl<R: RowRule> Space<R> {
         requires reading { IsReading self.now pass.old }
         requires number { IsNumbered pass.old.number (view pass.old).pin }
         ensures frame { KeepsList pass.old pass.new }
-        ensures unpinned { known pass.new ≡ (
-          record (view pass.old) {
-            pin = record (view pass.old).pin { pinned = false; left = met_of (known pass.old) };
-            upper = R.leaves (view pass.old).upper;
-          },
-          pass.old.seat.me.1,
-        ) }
+        ensures unpinned { Unpins R.leaves (known pass.old) (known pass.new) }
     {
         let word = pass.number as usize + 1;
         self.table.shared.store::<Leave<R>>(&mut pass.seat, word, 0);

@@ -1,10 +1,10 @@
 //! Rows are taken from the pool of free rows, read and written while a pass holds them, and put back.
 ghost use Rattle.ca_rows.specs.Layout.{row_words};
-ghost use Rattle.std.specs.Prelude.{◌≡◌, ℕ, ◌<◌, ◌≤◌, List, length, slice_index, slice_set};
+ghost use Rattle.std.specs.Prelude.{◌≡◌, ℕ, ◌<◌, ◌≤◌, List, length, slice_index};
 ghost use mathlib.Core.Option.{some};
 ghost use Rattle.ca_rows.specs.declared.view.Claim.TheVariants.{Holds as IsHeld};
-ghost use Rattle.ca_rows.specs.Claims.{claim_of, claimed};
-ghost use Rattle.ca_rows.specs.Calls.{TakesRow, PutsRow};
+ghost use Rattle.ca_rows.specs.Claims.{claim_of};
+ghost use Rattle.ca_rows.specs.Calls.{TakesRow, PutsRow, WritesWord};
 ghost use Rattle.ca_rows.specs.Passes.{OnlyReads, IsOn, StillKeepsList, sizes, known, view};
 
 use crate::layout::ROW_WORDS;
@@ -65,11 +65,7 @@ impl<R: RowRule> Space<R> {
         requires held { (its : List ℕ) × (claim_of (view pass.old).claims row ≡ some (IsHeld its)) }
         requires inside { (row ≤ (sizes self.now).rows) × (index < row_words) }
         ensures frame { StillKeepsList pass.old pass.new }
-        ensures written { (its : List ℕ) → claim_of (view pass.old).claims row ≡ some (IsHeld its)
-            → known pass.new ≡ (
-              record (view pass.old) { claims = claimed row (IsHeld (slice_set its index value)) (view pass.old).claims },
-              pass.old.seat.me.1,
-            ) }
+        ensures written { WritesWord row index value (known pass.old) (known pass.new) }
     {
         self.table.shared.store::<Write>(
             &mut pass.seat,

@@ -6,10 +6,10 @@ ghost use mathlib.Core.Option.{some};
 ghost use Rattle.ca_rows.specs.declared.view.Claim.TheVariants.{Holds as IsHeld, Keeps as IsKept};
 ghost use Rattle.ca_rows.specs.Calls.{IsNumbered};
 ghost use Rattle.ca_rows.specs.Claims.{claim_of, claimed};
-ghost use Rattle.ca_rows.specs.Kept.{AreListed, AreKept, kept_of};
-ghost use Rattle.ca_rows.specs.Reclaiming.{Reclaims, GivesBack, IsLag, lag_count, IsLook, Moves, Rounds};
-ghost use Rattle.ca_rows.specs.Told.{with_most};
-ghost use Rattle.ca_rows.specs.Passes.{IsOn, IsSamePass, KeepsList, sizes, known, view};
+ghost use Rattle.ca_rows.specs.Kept.{AreKept, AreKeptBut, kept_of};
+ghost use Rattle.ca_rows.specs.Reclaiming.{Reclaims, GivesBack, GivesOld, IsLag, lag_count, IsLook, MakesRounds, Moves, Rounds};
+ghost use Rattle.ca_rows.specs.Told.{HoldsAgain};
+ghost use Rattle.ca_rows.specs.Passes.{IsOn, IsSamePass, KeepsList, MayReclaim, sizes, known, view};
 
 use crate::plays::{Begin, Move, Named, Regain, Scan};
 use crate::reclaimed::{Reclaimed, Round};
@@ -23,8 +23,7 @@ impl<R: RowRule> Space<R> {
         requires own { IsOn self.now pass.old }
         requires old { (t : ℕ) × (claim_of (view pass.old).claims K.about ≡ some (IsKept t)) × (t + 2 ≤ (view pass.old).pin.scan) }
         ensures frame { KeepsList pass.old pass.new }
-        ensures held { (its : List ℕ) × (length its ≡ row_words) × (known pass.new ≡ with_most
-            (record (view pass.old) { claims = claimed K.about (IsHeld its) (view pass.old).claims }, pass.old.seat.me.1)) }
+        ensures held { HoldsAgain K.about (known pass.old) (known pass.new) }
     {
         self.table.shared.load::<Regain<K>>(&mut pass.seat, 1);
     }
@@ -33,16 +32,12 @@ impl<R: RowRule> Space<R> {
     // where the exchange lost: they are taken out then, and the row is kept since now, behind the others.
     fn give_back(&self, pass: &mut Pass<R>, at: u32, end: u32) -> bool
         requires own { IsOn self.now pass.old }
-        requires list { AreListed (sizes self.now).rows (view pass.old).claims (take (at + 1) pass.old.kept.rows.items ++ drop end
-            pass.old.kept.rows.items) }
-        requires room { (sizes self.now).rows ≤ vec_capacity pass.old.kept.rows }
+        requires list { AreKeptBut (sizes self.now).rows (at + 1) end (view pass.old).claims pass.old.kept.rows }
         requires place { (at < end) × (end ≤ vec_len pass.old.kept.rows) }
         requires old { (slice_index_or pass.old.kept.rows.items at (record { row = 0; at = 0 })).at + 2 ≤ (view pass.old).pin.scan }
         ensures frame { IsSamePass pass.old pass.new }
-        ensures list { result ≡ true → AreListed (sizes self.now).rows (view pass.new).claims (take at pass.new.kept.rows.items ++ drop end
-            pass.new.kept.rows.items) }
-        ensures again { result ≡ false → AreListed (sizes self.now).rows (view pass.new).claims pass.new.kept.rows.items }
-        ensures room { (sizes self.now).rows ≤ vec_capacity pass.new.kept.rows }
+        ensures list { result ≡ true → AreKeptBut (sizes self.now).rows at end (view pass.new).claims pass.new.kept.rows }
+        ensures again { result ≡ false → AreKept (sizes self.now).rows (view pass.new).claims pass.new.kept.rows }
         ensures given { GivesBack result at end (known pass.old) (known pass.new) pass.old.kept.rows.items pass.new.kept.rows.items }
     {
         let row = pass.kept.row(at);
@@ -56,18 +51,14 @@ impl<R: RowRule> Space<R> {
     }
 
     // Gives back the rows that were kept two epochs before this one, which stand before all others, from the last: how many, and how many exchanges lost.
+    // A row whose exchange lost doesn't keep the others from being tried.
     fn give_old(&self, pass: &mut Pass<R>, epoch: u64) -> (u32, u32)
         requires own { IsOn self.now pass.old }
         requires list { AreKept (sizes self.now).rows (view pass.old).claims pass.old.kept.rows }
         requires epoch { (view pass.old).pin.scan ≡ epoch }
         ensures frame { IsSamePass pass.old pass.new }
         ensures list { AreKept (sizes self.now).rows (view pass.new).claims pass.new.kept.rows }
-        ensures pin { (view pass.new).pin ≡ (view pass.old).pin }
-        ensures reclaims { Reclaims (known pass.old) (known pass.new) }
-        ensures freed { result.0 + vec_len pass.new.kept.rows ≡ vec_len pass.old.kept.rows }
-        ensures lost { (view pass.new).lost ≡ (view pass.old).lost + result.1 }
-        ensures few { result.0 + result.1 ≤ vec_len pass.old.kept.rows }
-        ensures young { result.1 ≡ 0 → (r t : ℕ) → kept_of pass.new.kept.rows.items r ≡ some t → epoch < t + 2 }
+        ensures gives { GivesOld epoch result.0 result.1 (known pass.old) (known pass.new) pass.old.kept.rows pass.new.kept.rows }
     {
         let mut freed = 0;
         let mut losses = 0;
@@ -122,10 +113,7 @@ impl<R: RowRule> Space<R> {
 
     // Loads the epoch, gives back what is kept since two epochs, and moves the epoch by one where all passes are absent or at it.
     fn round(&self, pass: &mut Pass<R>) -> Round
-        requires own { IsOn self.now pass.old }
-        requires number { IsNumbered pass.old.number (view pass.old).pin }
-        requires unpinned { (view pass.old).pin.pinned ≡ false }
-        requires list { AreKept (sizes self.now).rows (view pass.old).claims pass.old.kept.rows }
+        requires ready { MayReclaim self.now pass.old }
         ensures frame { IsSamePass pass.old pass.new }
         ensures list { AreKept (sizes self.now).rows (view pass.new).claims pass.new.kept.rows }
         ensures rounds { Rounds (sizes self.now).passes pass.old.number result (known pass.old) (known pass.new) pass.old.kept.rows.items
@@ -184,6 +172,7 @@ impl<R: RowRule> Space<R> {
         ensures lost { IsTrue result.lost ↔ 0 < result.losses }
         ensures epoch { result.epoch ≡ (view pass.new).pin.scan }
         ensures young { result.lost ≡ false → (r t : ℕ) → kept_of pass.new.kept.rows.items r ≡ some t → (view pass.new).pin.scan < t + 2 }
+        ensures rounds { MakesRounds result (known pass.old) (known pass.new) pass.old.kept.rows.items pass.new.kept.rows.items }
         ensures all { result.lag ≡ None → result.lost ≡ false → (view pass.new).pin.scan < 4611686018427387904 → result.kept ≡ 0 }
     {
         let mut freed = 0;

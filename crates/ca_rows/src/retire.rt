@@ -1,9 +1,9 @@
 //! Passes keep rows that they unlinked.
-ghost use Rattle.std.specs.Prelude.{◌≡◌, ℕ, ◌<◌, ◌≤◌, ◌++◌, ◌∷◌, []};
-ghost use mathlib.Core.Option.{some};
+ghost use Rattle.std.specs.Prelude.{◌≡◌, ℕ, ◌≤◌, ◌++◌, ◌∷◌, []};
 ghost use Rattle.ca_rows.specs.declared.view.Claim.TheVariants.{Keeps as IsKept};
-ghost use Rattle.ca_rows.specs.Claims.{claim_of, claimed};
+ghost use Rattle.ca_rows.specs.Claims.{claimed};
 ghost use Rattle.ca_rows.specs.Kept.{AreKept, MayRetire};
+ghost use Rattle.ca_rows.specs.Told.{KeepsSince};
 ghost use Rattle.ca_rows.specs.Passes.{IsOn, IsSamePass, KeepsList, sizes, known, view};
 
 use crate::plays::{Named, Retire};
@@ -17,11 +17,7 @@ impl<R: RowRule> Space<R> {
         requires own { IsOn self.now pass.old }
         requires mine { MayRetire R.lent R.fact (sizes self.now) pass.old.seat.id (view pass.old) K.about }
         ensures frame { KeepsList pass.old pass.new }
-        ensures inside { (0 < K.about) × (K.about ≤ (sizes self.now).rows) }
-        ensures epoch { (result ≤ 4611686018427387904) × ((view pass.old).pin.scan ≤ result) }
-        ensures last { (r t : ℕ) → claim_of (view pass.old).claims r ≡ some (IsKept t) → t ≤ result }
-        ensures told { (known pass.new)
-            ≡ (record (view pass.old) { claims = claimed K.about (IsKept result) (view pass.old).claims }, pass.old.seat.me.1) }
+        ensures keeps { KeepsSince K.about result (known pass.old) (known pass.new) }
     {
         self.table.shared.load::<Retire<K>>(&mut pass.seat, 1)
     }

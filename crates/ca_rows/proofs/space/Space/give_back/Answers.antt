@@ -28,7 +28,7 @@ regain_as-requires-clause-old g c = let p = c.args.pass.now in
     let within = c.requires.place.1 in
     let had = last_claimed rows p.seat.me.0.claims ks (drop c.args.end ks) c.args.at nobody
     (omega arith)
-    (listed rows c.args.at p.seat.me.0.claims ks (drop c.args.end ks) c.requires.list) in (
+    (listed rows c.args.at p.seat.me.0.claims ks (drop c.args.end ks) c.requires.list.are) in (
       (get_or ks c.args.at nobody).at,
       ap (claim_of p.seat.me.0.claims) c.row-row.ensures ∙ had.2,
       c.requires.old,
@@ -41,7 +41,7 @@ put_row-requires-clause-inside g c = let p = c.args.pass.now in
     let within = c.requires.place.1 in
     let had = last_claimed rows p.seat.me.0.claims ks (drop c.args.end ks) c.args.at nobody
     (omega arith)
-    (listed rows c.args.at p.seat.me.0.claims ks (drop c.args.end ks) c.requires.list) in
+    (listed rows c.args.at p.seat.me.0.claims ks (drop c.args.end ks) c.requires.list.are) in
     subst (λ (q : ℕ). q ≤ rows) (sym c.row-row.ensures) had.1
 
 pub returns-then-put_row-clause-list : goal.returns-then-put_row-clause-list
@@ -50,14 +50,18 @@ returns-then-put_row-clause-list g c = λ _. let p = c.args.pass.now in
     let long = p.kept.rows.ok.0 in let inside = c.requires.place.0 in
     let within = c.requires.place.1 in let held = c.regain_as.ensures.held in
     let same = c.if-put_row.ensures.frame.kept ∙ c.regain_as.ensures.frame.kept in
-    subst (λ (k : KeptRows).
-    AreListed rows c.put_row.new.pass.seat.me.0.claims
-    (take c.args.at k.rows.items ++ drop c.args.end k.rows.items)) (sym same)
-    (list_given rows p.seat.me c.regain_as.new.pass.seat.me c.put_row.new.pass.seat.me ks
-    (drop c.args.end ks) c.args.at nobody (omega arith)
-    (listed rows c.args.at p.seat.me.0.claims ks (drop c.args.end ks) c.requires.list)
-    c.row-row.result c.row-row.ensures held.0 held.2
-    c.if-put_row.ensures.given)
+    record {
+      are = subst (λ (k : KeptRows).
+          AreListed rows c.put_row.new.pass.seat.me.0.claims
+          (take c.args.at k.rows.items ++ drop c.args.end k.rows.items)) (sym same)
+          (list_given rows p.seat.me c.regain_as.new.pass.seat.me c.put_row.new.pass.seat.me ks
+          (drop c.args.end ks) c.args.at nobody (omega arith)
+          (listed rows c.args.at p.seat.me.0.claims ks (drop c.args.end ks) c.requires.list.are)
+          c.row-row.result c.row-row.ensures held.0 held.2
+          c.if-put_row.ensures.given);
+      room =
+          subst (λ (k : KeptRows). rows ≤ vec_capacity k.rows) (sym same) c.requires.list.room;
+    }
 
 pub retire-requires-clause-list : goal.retire-requires-clause-list
 retire-requires-clause-list g c = let p = c.args.pass.now in
@@ -73,10 +77,10 @@ retire-requires-clause-list g c = let p = c.args.pass.now in
       are = subst (AreListed rows c.put_row.new.pass.seat.me.0.claims) (sym cut)
           (list_lost rows p.seat.me c.regain_as.new.pass.seat.me c.put_row.new.pass.seat.me ks
           (drop c.args.end ks) c.args.at nobody (omega arith)
-          (listed rows c.args.at p.seat.me.0.claims ks (drop c.args.end ks) c.requires.list)
+          (listed rows c.args.at p.seat.me.0.claims ks (drop c.args.end ks) c.requires.list.are)
           c.row-row.result c.row-row.ensures held.0 held.2
           lost.0 lost.2);
-      room = subst (λ (n : ℕ). rows ≤ n) (sym wide) c.requires.room;
+      room = subst (λ (n : ℕ). rows ≤ n) (sym wide) c.requires.list.room;
     }
 
 pub retire-requires-clause-mine : goal.retire-requires-clause-mine
@@ -95,7 +99,7 @@ returns-then-put_row-clause-given g c = let p = c.args.pass.now in
     let within = c.requires.place.1 in let held = c.regain_as.ensures.held in
     let had = last_claimed rows p.seat.me.0.claims ks (drop c.args.end ks) c.args.at nobody
     (omega arith)
-    (listed rows c.args.at p.seat.me.0.claims ks (drop c.args.end ks) c.requires.list) in
+    (listed rows c.args.at p.seat.me.0.claims ks (drop c.args.end ks) c.requires.list.are) in
     let was = ap (claim_of p.seat.me.0.claims) c.row-row.ensures ∙ had.2 in
     let came = put_back p.seat.me c.put_row.new.pass.seat.me c.row-row.result
     (get_or ks c.args.at nobody).at was c.requires.old c.regain_as.new.pass.seat.me
@@ -119,7 +123,7 @@ returns-clause-given g c = let p = c.args.pass.now in
     let within = c.requires.place.1 in let held = c.regain_as.ensures.held in
     let had = last_claimed rows p.seat.me.0.claims ks (drop c.args.end ks) c.args.at nobody
     (omega arith)
-    (listed rows c.args.at p.seat.me.0.claims ks (drop c.args.end ks) c.requires.list) in
+    (listed rows c.args.at p.seat.me.0.claims ks (drop c.args.end ks) c.requires.list.are) in
     let was = ap (claim_of p.seat.me.0.claims) c.row-row.ensures ∙ had.2 in
     let lost = c.if-put_row.ensures.given in let again = c.retire.ensures.retired in
     let same = c.if-put_row.ensures.frame.kept ∙ c.regain_as.ensures.frame.kept in
@@ -128,6 +132,10 @@ returns-clause-given g c = let p = c.args.pass.now in
     c.put_row.new.pass.seat.me held.0 held.2
     lost.0 again.0 lost.2 again.2 again.3 in
     let one : Kept = record { row = c.row-row.result; at = again.0 } in
+    let later = again.3 in
+    let scan : c.put_row.new.pass.seat.me.0.pin.scan ≡ p.seat.me.0.pin.scan =
+    ap (λ (m : Mine g.row.R-Upper.Denot). m.0.pin.scan) lost.2
+    ∙ ap (λ (m : Mine g.row.R-Upper.Denot). m.0.pin.scan) held.2 in
     let cut : c.cut.new.self.rows.items ≡ take c.args.at ks ++ drop c.args.end ks =
     c.cut.ensures.rows
     ∙ ap (λ (k : KeptRows). take c.args.at k.rows.items ++ drop c.args.end k.rows.items) same in
@@ -138,6 +146,7 @@ returns-clause-given g c = let p = c.args.pass.now in
       rows_kept = λ _. (
         (
           one,
+          omega arith,
           again.1 ∙ (ap (λ (xs : List Kept). xs ++ one ∷ []) cut
               ∙ append_assoc (take c.args.at ks) (drop c.args.end ks) (one ∷ [])),
         ),

@@ -1,9 +1,11 @@
 use Rattle.std.proofs.Common.{◌≡◌, ℕ, ◌+◌, ◌-◌, ◌<◌, ◌≤◌, ◌++◌, ◌∷◌, [], List, length, length-append, length-drop, take, drop, get_or, sym, refl, ap, ◌∙◌, subst, ⊎_elim, arith}
 use Rattle.std.proofs.lemmas.List.{take-append-drop}
 use Rattle.ca_rows.specs.declared.kept.Kept.{Kept}
-use Rattle.ca_rows.specs.Kept.{AreListed}
+use Rattle.ca_rows.specs.declared.view.Pin.{Pin}
+use Rattle.ca_rows.specs.Kept.{AreKeptBut, AreListed, kept_of}
 use Rattle.ca_rows.proofs.GivingBack.{reclaims_refl, reclaims_trans}
-use Rattle.ca_rows.proofs.Listing.{young_behind, none_behind, part_before, part_length}
+use Rattle.ca_rows.proofs.Keeping.{was_or_last}
+use Rattle.ca_rows.proofs.Listing.{young_behind, none_behind, part_before, part_behind, part_length}
 use Rattle.ca_rows.proofs.Scanning.{less_or_not}
 use Rattle.ca_rows.proofs.space.Space.give_old.Goals as goal
 
@@ -18,16 +20,18 @@ loop-at-init g c = let p = c.args.pass.now in let ks = p.kept.rows in let long =
       id = refl;
       number = refl;
       tally = refl;
-      list = subst (AreListed c.args.self.now.table.shared.key.rows p.seat.me.0.claims)
-          (sym (take-append-drop n ks.items)) c.requires.list.are;
-      room = c.requires.list.room;
+      list = record {
+        are = subst (AreListed c.args.self.now.table.shared.key.rows p.seat.me.0.claims)
+            (sym (take-append-drop n ks.items)) c.requires.list.are;
+        room = c.requires.list.room;
+      };
       pin = refl;
       reclaims = reclaims_refl p.seat.me;
       freed = omega arith;
       lost = omega arith;
       few = omega arith;
       old = told.old;
-      young = λ _ r t e. ⊎_elim
+      young = λ r t e. ⊎_elim
           (λ (l : n < length ks.items). young_behind ks.items n c.args.epoch nobody
           c.requires.list.are.rising l (told.young (omega arith)) r t e)
           (λ (l : length ks.items ≤ n). absurd (none_behind ks.items n r t l e))
@@ -44,7 +48,7 @@ loop-at-preserved g c = let inv = c.loop-at.invariant in let told = c.if-give_ba
     let before = inv.before in let some_left = c.loop-at-test.true in let freed = inv.freed in
     let at : ℕ = c.loop-at.at - 1 in
     let ys : List Kept = drop c.loop-at.end ks.items ++ missed.0.0 ∷ [] in
-    let list : ks'.items ≡ take at ks.items ++ ys = missed.0.1 in
+    let list : ks'.items ≡ take at ks.items ++ ys = missed.0.2 in
     let many = ap (λ (xs : List Kept). length xs) list ∙ part_length ks.items ys at (omega arith) in
     let behind = length-drop c.loop-at.end ks.items in
     let more = length-append (drop c.loop-at.end ks.items) (missed.0.0 ∷ []) in record {
@@ -52,10 +56,12 @@ loop-at-preserved g c = let inv = c.loop-at.invariant in let told = c.if-give_ba
       id = told.frame.same.1 ∙ inv.id;
       number = told.frame.number ∙ inv.number;
       tally = told.frame.tally ∙ inv.tally;
-      list = subst (AreListed c.args.self.now.table.shared.key.rows
-          c.give_back.new.pass.seat.me.0.claims) (sym (take-append-drop at ks'.items))
-          (told.again refl);
-      room = told.room;
+      list = record {
+        are = subst (AreListed c.args.self.now.table.shared.key.rows
+            c.give_back.new.pass.seat.me.0.claims) (sym (take-append-drop at ks'.items))
+            (told.again refl).are;
+        room = (told.again refl).room;
+      };
       pin = told.given.same_pin ∙ inv.pin;
       reclaims =
           reclaims_trans c.args.pass.now.seat.me c.loop-at.pass.seat.me c.give_back.new.pass.seat.me
@@ -66,7 +72,30 @@ loop-at-preserved g c = let inv = c.loop-at.invariant in let told = c.if-give_ba
       old = λ i l. subst (λ (x : Kept). x.at + 2 ≤ c.args.epoch)
           (sym (ap (λ (xs : List Kept). get_or xs i nobody) list
           ∙ part_before ys nobody ks.items at i l (omega arith))) (inv.old i (omega arith));
-      young = λ none. absurd (omega arith);
+      young = λ r t e. ⊎_elim (λ was. inv.young r t was)
+          (λ (last : missed.0.0.at ≡ t). let later = missed.0.1 in
+          let scan = ap (λ (x : Pin). x.scan) inv.pin ∙ c.requires.epoch in omega arith)
+          (was_or_last (drop c.loop-at.end ks.items) missed.0.0 r t
+          (ap (λ (xs : List Kept). kept_of xs r) (sym (ap (drop at) list
+          ∙ part_behind ks.items ys at (omega arith))) ∙ e));
       before = omega arith;
       within = omega arith;
+    }
+
+pub give_back-requires-clause-list : goal.give_back-requires-clause-list
+give_back-requires-clause-list g c = let some_left = c.loop-at-test.true in
+    let next : c.loop-at.at ≡ c.loop-at.at - 1 + 1 = omega arith in
+    subst (λ (n : ℕ). AreKeptBut c.args.self.now.table.shared.key.rows n c.loop-at.end
+    c.loop-at.pass.seat.me.0.claims c.loop-at.pass.kept.rows) next c.loop-at.invariant.list
+
+pub returns-clause-gives : goal.returns-clause-gives
+returns-clause-gives g c = let inv = c.loop-at.invariant in let none_left = c.loop-at-test.false in
+    let freed = inv.freed in let few = inv.few in let long = c.cut.ensures.len in record {
+      reclaims = inv.reclaims;
+      same_pin = inv.pin;
+      freed_are = omega arith;
+      lost = inv.lost;
+      few = omega arith;
+      young = λ r t e. inv.young r t
+          (ap (λ (xs : List Kept). kept_of xs r) (sym c.cut.ensures.rows) ∙ e);
     }

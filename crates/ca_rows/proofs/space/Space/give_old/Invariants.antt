@@ -1,7 +1,7 @@
-use Rattle.std.proofs.Common.{◌≡◌, ℕ, ◌+◌, ◌<◌, ◌≤◌, ◌++◌, take, drop, get_or, vec_len, vec_capacity}
+use Rattle.std.proofs.Common.{◌≡◌, ℕ, ◌+◌, ◌<◌, ◌≤◌, drop, get_or, vec_len}
 use mathlib.Core.Option.{some}
 use Rattle.ca_rows.specs.declared.kept.Kept.{Kept}
-use Rattle.ca_rows.specs.Kept.{AreListed, kept_of}
+use Rattle.ca_rows.specs.Kept.{AreKeptBut, kept_of}
 use Rattle.ca_rows.specs.Reclaiming.{Reclaims}
 use Rattle.ca_rows.proofs.space.Space.give_old.Given as goal
 
@@ -14,17 +14,15 @@ invariant-loop-at g l = record {
   id : l.pass.seat.id ≡ l.fn.pass.seat.id;
   number : l.pass.number ≡ l.fn.pass.number;
   tally : l.pass.tally ≡ l.fn.pass.tally;
-  list : AreListed l.self.table.shared.key.rows l.pass.seat.me.0.claims
-      (take l.at l.pass.kept.rows.items ++ drop l.end l.pass.kept.rows.items);
-  room : l.self.table.shared.key.rows ≤ vec_capacity l.pass.kept.rows;
+  list : AreKeptBut l.self.table.shared.key.rows l.at l.end l.pass.seat.me.0.claims
+      l.pass.kept.rows;
   pin : l.pass.seat.me.0.pin ≡ l.fn.pass.seat.me.0.pin;
   reclaims : Reclaims l.fn.pass.seat.me l.pass.seat.me;
   freed : l.freed + vec_len l.pass.kept.rows + l.at ≡ vec_len l.fn.pass.kept.rows + l.end;
   lost : l.pass.seat.me.0.lost ≡ l.fn.pass.seat.me.0.lost + l.losses;
   few : l.freed + l.losses + l.at ≤ vec_len l.fn.pass.kept.rows;
   old : (i : ℕ) → i < l.at → (get_or l.pass.kept.rows.items i nobody).at + 2 ≤ l.epoch;
-  young : l.losses ≡ 0 → (r t : ℕ) → kept_of (drop l.end l.pass.kept.rows.items) r ≡ some t
-      → l.epoch < t + 2;
+  young : (r t : ℕ) → kept_of (drop l.end l.pass.kept.rows.items) r ≡ some t → l.epoch < t + 2;
   before : l.at ≤ l.end;
   within : l.end ≤ vec_len l.pass.kept.rows;
 }

@@ -1,9 +1,10 @@
-use Rattle.std.proofs.Common.{◌≡◌, ◌+◌, ◌-◌, ◌<◌, ◌≤◌, true, false, cond, ap, ◌∙◌, ℕ, subst, arith, ⊎_elim}
+use Rattle.std.proofs.Common.{◌≡◌, ◌+◌, ◌-◌, ◌<◌, ◌≤◌, true, false, cond, List, length, ap, ◌∙◌, ℕ, subst, arith, inl, inr, ⊎_elim}
+use Rattle.ca_rows.specs.declared.kept.Kept.{Kept}
 use Rattle.std.specs.declared.option.Option.{Option}
 use Rattle.ca_rows.specs.Reclaiming.{IsLag, lag_count}
 use Rattle.ca_rows.proofs.GivingBack.{reclaims_trans}
 use Rattle.ca_rows.proofs.Scanning.{less_or_not}
-use Rattle.ca_rows.proofs.Rounding.{fewer, one_less, older_still, none_left, true_or_false, young_left}
+use Rattle.ca_rows.proofs.Rounding.{fewer, nothing_in, one_less, older_still, none_left, true_or_false, young_left}
 use Rattle.ca_rows.proofs.space.Space.reclaim.Goals as goal
 
 pub loop-left-preserved : goal.loop-left-preserved
@@ -27,6 +28,29 @@ loop-left-preserved g c = let inv = c.loop-left.invariant in
       tally = told.frame.tally ∙ inv.tally;
       list = told.list;
       reclaims = reclaims_trans m m1 m2 inv.reclaims x.reclaims;
+      most = let most = inv.most in let one = x.looked in
+          let fewer_left = one_less answer.more left left' some_left c.rounds_left-left.ensures in
+          omega arith;
+      each = λ lo. let all = inv.each some_left in let one = x.looked in
+          ⊎_elim (λ (more : answer.more ≡ true). let less = go_on more in omega arith)
+          (λ (more : answer.more ≡ false). let zero_is = stop more in
+          absurd (omega arith)) (true_or_false answer.more);
+      three = λ zero_is lag room. let all = inv.each some_left in let one = x.looked in
+          ⊎_elim (λ (more : answer.more ≡ true). let less = go_on more in inr (omega arith))
+          (λ (more : answer.more ≡ false). inl (x.ends more lag room)) (true_or_false answer.more);
+      recent = λ _ r t e. let young = x.young r t e in let near = x.near in omega arith;
+      fresh = λ many.
+          let fewer_left = one_less answer.more left left' some_left c.rounds_left-left.ensures in
+          let at_most = inv.few in absurd (omega arith);
+      idle = λ none _. ⊎_elim
+          (λ (later : left < 3). let zero_is = (inv.idle none later).0 in absurd (omega arith))
+          (λ (first : 3 ≤ left). let same = inv.fresh first in let no_rows = same.0 ∙ none in
+          let count = ap (λ (xs : List Kept). length xs) no_rows in
+          let still = nothing_in kept2.items (omega arith) in
+          let rest = x.rests still in let no_loss = rest.2 in let before = same.1 in
+          let all = inv.each some_left in let one = x.looked in let zero_is = stop rest.0 in
+          (zero_is, omega arith, rest.1, omega arith))
+          (less_or_not left 3);
       looked = λ _. let more = inv.reclaims.more_looks in let one = x.looked in omega arith;
       freed = omega arith;
       lost = let lost = inv.lost in let lost' = x.lost in omega arith;

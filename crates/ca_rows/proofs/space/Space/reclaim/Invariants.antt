@@ -1,4 +1,4 @@
-use Rattle.std.proofs.Common.{◌≡◌, ℕ, ◌+◌, ◌*◌, ◌<◌, ◌≤◌, [], vec_len}
+use Rattle.std.proofs.Common.{◌≡◌, ◌⊎◌, ℕ, ◌+◌, ◌*◌, ◌<◌, ◌≤◌, [], vec_len}
 use Rattle.std.specs.declared.option.Option.TheVariants.{None}
 use mathlib.Core.Option.{some}
 use Rattle.ca_rows.specs.Kept.{AreKept, kept_of}
@@ -13,6 +13,17 @@ invariant-loop-left g l = record {
   tally : l.pass.tally ≡ l.fn.pass.tally;
   list : AreKept l.self.table.shared.key.rows l.pass.seat.me.0.claims l.pass.kept.rows;
   reclaims : Reclaims l.fn.pass.seat.me l.pass.seat.me;
+  most : l.pass.seat.me.0.pin.looks + l.left ≤ l.fn.pass.seat.me.0.pin.looks + 3;
+  each : 0 < l.left → l.pass.seat.me.0.pin.looks + l.left ≡ l.fn.pass.seat.me.0.pin.looks + 3;
+  three : l.left ≡ 0 → l.lag ≡ None → l.pass.seat.me.0.pin.scan < 4611686018427387904
+      → (l.pass.kept.rows.items ≡ [])
+      ⊎ (l.pass.seat.me.0.pin.looks ≡ l.fn.pass.seat.me.0.pin.looks + 3);
+  recent : l.left < 3 → (r t : ℕ) → kept_of l.pass.kept.rows.items r ≡ some t
+      → l.pass.seat.me.0.pin.scan ≤ t + 2;
+  fresh : 3 ≤ l.left → (l.pass.kept.rows.items ≡ l.fn.pass.kept.rows.items) × (l.losses ≡ 0);
+  idle : l.fn.pass.kept.rows.items ≡ [] → l.left < 3
+      → (l.left ≡ 0) × (l.pass.seat.me.0.pin.looks ≡ l.fn.pass.seat.me.0.pin.looks + 1)
+      × (l.lag ≡ None) × (l.losses ≡ 0);
   looked : l.left < 3 → l.fn.pass.seat.me.0.pin.looks < l.pass.seat.me.0.pin.looks;
   freed : l.freed + vec_len l.pass.kept.rows ≡ vec_len l.fn.pass.kept.rows;
   lost : l.pass.seat.me.0.lost ≡ l.fn.pass.seat.me.0.lost + l.losses;
