@@ -1,5 +1,5 @@
--- A binary search among the objects of a base.
-use Rattle.std.proofs.Common.{◌≡◌, ℕ, zero, suc, ◌+◌, ◌-◌, ◌<◌, ◌≤◌, List, [], ◌∷◌, length, map, get_or, sym, refl, ap, ◌∙◌, subst, Ok, Err, Some, arith}
+-- A key's place among the objects of a base, by comparisons with two of them at most.
+use Rattle.std.proofs.Common.{◌≡◌, ℕ, zero, suc, ◌-◌, ◌<◌, ◌≤◌, List, [], ◌∷◌, length, map, get_or, sym, refl, ap, ◌∙◌, subst, Ok, Err, Some, Result, arith}
 use Rattle.std.proofs.lemmas.List.{length-map}
 use Rattle.std.specs.Ordering.{ordering_index}
 use Rattle.std.specs.declared.cmp.Ordering.{Ordering}
@@ -9,40 +9,22 @@ use Rattle.ca_model.specs.Slab.{nothing}
 use Rattle.ca_model.proofs.Places.{searched, is_found}
 use Rattle.ca_model.specs.Places.{IsPlace}
 use Rattle.ca_node.specs.Row.{pair}
-use Rattle.ca_node.specs.TreeView.{Note}
+use Rattle.ca_node.specs.TreeView.{Note, TreeView}
+use Rattle.ca_base.specs.Finding.{IsReadable}
+use Rattle.ca_base.specs.Objects.{StandsAs}
+use Rattle.ca_leaf.specs.Place.{IsPlaceAmong}
+use Rattle.ca_rows.specs.declared.sizes.Sizes.{Sizes}
 
 -- the pair at a place
-pub map_at : (objects : List (List ℕ)) (k : ℕ) (d : Pair) → k < length objects
+map_at : (objects : List (List ℕ)) (k : ℕ) (d : Pair) → k < length objects
     → get_or (map pair objects) k d ≡ pair (get_or objects k [])
 map_at [] k d l = absurd (omega arith)
 map_at (x ∷ xs) zero d l = refl
 map_at (x ∷ xs) (suc k) d l = map_at xs k d (omega arith)
 
 -- how the key at a place stands to this key
-abbrev pub stands : Note → List ℕ → ℕ → Ordering
+abbrev stands : Note → List ℕ → ℕ → Ordering
 stands note key k = bytes_cmp (pair (get_or note.objects k [])).0 key
-
--- The key's place is not below `low`, and not above `high`.
-pub record IsLeft (note : Note) (key : List ℕ) (low high : ℕ) : Type 0 where
-  pub inside : high ≤ length note.objects
-  pub less : 0 < low → stands note key (low - 1) ≡ Less
-  pub greater : high < length note.objects → stands note key high ≡ Greater
-
-pub less_on : (note : Note) (key : List ℕ) (low high middle : ℕ) → IsLeft note key low high
-    → stands note key middle ≡ Less
-    → IsLeft note key (middle + 1) high
-less_on note key low high middle left is = let back : middle + 1 - 1 ≡ middle = omega arith in
-    record {
-      inside = left.inside;
-      less = λ _. ap (stands note key) back ∙ is;
-      greater = left.greater;
-    }
-
-pub greater_on : (note : Note) (key : List ℕ) (low high middle : ℕ) → middle < high
-    → IsLeft note key low high → stands note key middle ≡ Greater
-    → IsLeft note key low middle
-greater_on note key low high middle l left is = let h = left.inside in
-    record { inside = omega arith; less = left.less; greater = λ _. is }
 
 no_more : (o : Ordering) → ordering_index o ≤ ordering_index Less → o ≡ Less
 no_more Less l = refl
@@ -64,28 +46,40 @@ module _ (keypos : ℕ) (note : Note) (key : List ℕ)
       → bytes_cmp (get_or (map pair note.objects) k d).0 key ≡ stands note key k
   compared k d l = ap (λ (p : Pair). bytes_cmp p.0 key) (map_at note.objects k d l)
 
-  pub found : (at : ℕ) → at < length note.objects → stands note key at ≡ Equal
+  found : (at : ℕ) → at < length note.objects → stands note key at ≡ Equal
       → IsPlace (map pair note.objects) key (Ok at)
   found at l is = let m = long in
       searched keypos (map pair note.objects) key (Ok at) ordered (omega arith)
       (λ d. compared at d l ∙ is)
 
-  pub absent : (low high : ℕ) → low ≤ high → high ≤ low → IsLeft note key low high
-      → IsPlace (map pair note.objects) key (Err low)
-  absent low high a b left = let m = long in let inside = left.inside in
-      searched keypos (map pair note.objects) key (Err low) ordered (omega arith) (λ rises. (
+  absent : (at : ℕ) → at ≤ length note.objects → (0 < at → stands note key (at - 1) ≡ Less)
+      → (at < length note.objects → stands note key at ≡ Greater)
+      → IsPlace (map pair note.objects) key (Err at)
+  absent at inside less greater = let m = long in
+      searched keypos (map pair note.objects) key (Err at) ordered (omega arith) (λ rises. (
         (λ k d l h. no_more (bytes_cmp (get_or (map pair note.objects) k d).0 key) (subst
             (λ (o : Ordering). ordering_index
             (bytes_cmp (get_or (map pair note.objects) k d).0 key) ≤ ordering_index o)
-            (compared (low - 1) d (omega arith)
-            ∙ left.less (omega arith)) (rises k (low - 1) d (omega arith) (omega arith)))),
-        (λ k d l h. let same : high ≡ low = omega arith in
-            no_less (bytes_cmp (get_or (map pair note.objects) k d).0 key) (subst
+            (compared (at - 1) d (omega arith)
+            ∙ less (omega arith)) (rises k (at - 1) d (omega arith) (omega arith)))),
+        (λ k d l h. no_less (bytes_cmp (get_or (map pair note.objects) k d).0 key) (subst
             (λ (o : Ordering). ordering_index o ≤ ordering_index
             (bytes_cmp (get_or (map pair note.objects) k d).0 key))
-            (compared high d (omega arith)
-            ∙ left.greater (omega arith)) (rises high k d (omega arith) (omega arith)))),
+            (compared at d (omega arith)
+            ∙ greater (omega arith)) (rises at k d (omega arith) (omega arith)))),
       ))
+
+-- A place in the line of the objects is the key's place among them.
+pub place_is : (z : Sizes) (u : TreeView) (base many : ℕ) (key : List ℕ) (note : Note)
+    (place : Result ℕ ℕ) → IsReadable z u base note → many ≡ length note.objects
+    → IsPlaceAmong (StandsAs z u base key) many place
+    → IsPlace (map pair note.objects) key place
+place_is z u base many key note (Ok at) r e p = let l : at < length note.objects = omega arith in
+    found z.keypos note key r.ordered at l (sym (p.1 note r l))
+place_is z u base many key note (Err at) r e p =
+    absent z.keypos note key r.ordered at (omega arith)
+    (λ l. sym (p.1 l note r (omega arith)))
+    (λ l. sym (p.2 (omega arith) note r l))
 
 -- The object at the key's place is what the map has at the key.
 pub found_object : (note : Note) (key object : List ℕ) (at : ℕ)

@@ -1,5 +1,6 @@
 pub mod Counting
 pub mod Finding
+pub mod Objects
 pub mod Progress
 pub mod Putting
 pub mod Readiness

@@ -104,6 +104,10 @@ pub record IsShownLast (z : Sizes) (u : TreeView) (base : ℕ) : Type 0 where
   pub here : (first_note u.notes).row ≡ base
   pub is_base : IsBaseNote z (first_note u.notes)
 
+-- The base was shown last, and names so many items, few enough for a row.
+abbrev pub IsShownWith : Sizes → TreeView → ℕ → ℕ → Type 0
+IsShownWith z u base many = IsShownLast z u base × ((many ≡ length (last_items u)) × (many ≤ 120))
+
 -- The exchange of a base: the call is done, and what the pass has seen then is known of a history; or it was lost, which is counted.
 abbrev pub HasSwapped : Event → Sizes → Bool → TreeView → TreeView → Type 0
 HasSwapped event z true u v = HasDone event u v × IsKnown z v

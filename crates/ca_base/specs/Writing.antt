@@ -2,6 +2,7 @@
 use Rattle.std.specs.Prelude.{◌≡◌, ◌≢◌, ℕ, ◌+◌, ◌*◌, ◌<◌, ◌≤◌, List, [], ◌∷◌, length, take, drop, slice_index, slice_set, slice_range}
 use Rattle.std.specs.Int.{to_be_bytes, w64}
 use mathlib.Core.Option.{some}
+use Rattle.ca_rows.specs.declared.sizes.Sizes.{Sizes}
 use Rattle.ca_rows.specs.declared.view.Claim.TheVariants.{Holds}
 use Rattle.ca_rows.specs.Claims.{claim_of, held_count}
 use Rattle.ca_node.specs.Told.{MyTree}
@@ -11,6 +12,10 @@ use Rattle.ca_rows.specs.Layout.{row_words}
 -- The seat holds the row.
 abbrev pub IsHeld : MyTree → ℕ → Type 0
 IsHeld m row = (its : List ℕ) × (length its ≡ row_words) × (claim_of m.0.claims row ≡ some (Holds its))
+
+-- The seat holds the row, one of a space of these sizes.
+abbrev pub IsHeldIn : Sizes → MyTree → ℕ → Type 0
+IsHeldIn z m row = (row ≤ z.rows) × IsHeld m row
 
 -- The seat holds the row with these words now, and its other rows as before. Nothing else changed.
 pub record IsRewritten (row : ℕ) (its : List ℕ) (m m' : MyTree) : Type 0 where

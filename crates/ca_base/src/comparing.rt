@@ -4,7 +4,7 @@ ghost use Rattle.std.specs.Prelude.{◌≡◌, ℕ, ◌+◌, ◌-◌, ◌*◌, �
 ghost use Rattle.std.specs.Int.{to_be_bytes, w64};
 ghost use Rattle.ca_model.specs.StoreMap.{bytes_cmp};
 ghost use Rattle.ca_node.specs.Row.{pair};
-ghost use Rattle.ca_base.specs.Finding.{IsObjectShown, all_bytes};
+ghost use Rattle.ca_base.specs.Finding.{IsObjectIn, IsObjectShown, all_bytes};
 ghost use Rattle.ca_base.specs.Writing.{HasBytes};
 ghost use Rattle.ca_rows.specs.Passes.{OnlyReads, IsReading, sizes};
 ghost use Rattle.ca_node.specs.TreePasses.{tree_of};
@@ -14,19 +14,8 @@ use ca_node::{BODY, TreePass, TreeSpace, load_word};
 use ca_term::MOST_CODE_BYTES;
 use std::cmp::Ordering;
 
-// How the key of an object that the pass was shown stands to this key. They are compared as numbers, eight bytes at a time, and each word of the
-// row is loaded once. It loads no more than one word behind the first difference.
-pub fn compare(space: &TreeSpace, pass: &mut TreePass, row: u32, key: &[u8]) -> Ordering
-    requires reading { IsReading space.now pass.old }
-    requires inside { row ≤ (sizes space.now).rows }
-    requires shown { (its : List ℕ) × IsObjectShown (tree_of pass.old) row its }
-    ensures frame { OnlyReads pass.old pass.new }
-    ensures order { (its : List ℕ) → IsObjectShown (tree_of pass.old) row its → result ≡ bytes_cmp (pair its).0 key.now }
-{
-    compare_by(space, pass, row, key, word_of(key))
-}
-
-// The same, where the first eight bytes of the key were made a word before.
+// How the key of an object that the pass was shown stands to this key, of which the first eight bytes were made a word before. They are compared as
+// numbers, eight bytes at a time, and each word of the row is loaded once. It loads no more than one word behind the first difference.
 pub(crate) fn compare_by(
     space: &TreeSpace,
     pass: &mut TreePass,
@@ -35,8 +24,7 @@ pub(crate) fn compare_by(
     front: u64,
 ) -> Ordering
     requires reading { IsReading space.now pass.old }
-    requires inside { row ≤ (sizes space.now).rows }
-    requires shown { (its : List ℕ) × IsObjectShown (tree_of pass.old) row its }
+    requires shown { IsObjectIn (sizes space.now) (tree_of pass.old) row }
     requires front { HasBytes key.now front }
     ensures frame { OnlyReads pass.old pass.new }
     ensures order { (its : List ℕ) → IsObjectShown (tree_of pass.old) row its → result ≡ bytes_cmp (pair its).0 key.now }
@@ -63,8 +51,7 @@ pub(crate) fn compare_by(
 // Between which bytes of an object that the pass was shown its key stands.
 pub(crate) fn key_bytes(space: &TreeSpace, pass: &mut TreePass, row: u32) -> (usize, usize)
     requires reading { IsReading space.now pass.old }
-    requires inside { row ≤ (sizes space.now).rows }
-    requires shown { (its : List ℕ) × IsObjectShown (tree_of pass.old) row its }
+    requires shown { IsObjectIn (sizes space.now) (tree_of pass.old) row }
     ensures frame { OnlyReads pass.old pass.new }
     ensures range { (result.0 ≤ result.1) × (result.1 ≤ 1000) }
     ensures key { (its : List ℕ) → IsObjectShown (tree_of pass.old) row its → (pair its).0 ≡ slice_range (all_bytes its) result.0 result.1 }
@@ -79,8 +66,7 @@ pub(crate) fn key_bytes(space: &TreeSpace, pass: &mut TreePass, row: u32) -> (us
 // The word with a byte of an object that the pass was shown. Behind the last byte that is wanted nothing is loaded.
 fn word_with(space: &TreeSpace, pass: &mut TreePass, row: u32, at: usize, stop: usize) -> u64
     requires reading { IsReading space.now pass.old }
-    requires inside { row ≤ (sizes space.now).rows }
-    requires shown { (its : List ℕ) × IsObjectShown (tree_of pass.old) row its }
+    requires shown { IsObjectIn (sizes space.now) (tree_of pass.old) row }
     requires few { stop ≤ 1000 }
     ensures frame { OnlyReads pass.old pass.new }
     ensures word { (its : List ℕ) → IsObjectShown (tree_of pass.old) row its → at < stop → result ≡ slice_index (drop body_word its) (at / 8) }

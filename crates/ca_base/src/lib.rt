@@ -16,7 +16,6 @@ mod target;
 mod updating;
 mod writing;
 
-pub use comparing::compare;
 pub use place::search;
 pub use reading::{copy_object, count, item, statistic_word};
 pub use removing::remove_at;

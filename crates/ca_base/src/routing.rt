@@ -1,10 +1,10 @@
 //! The rows of a split are written: a route, its key, and the halves of a base.
 ghost use Rattle.std.specs.Prelude.{◌≡◌, ℕ, ◌+◌, ◌<◌, ◌≤◌, List, length, take, drop};
 ghost use Rattle.ca_node.specs.Row.{pair};
-ghost use Rattle.ca_base.specs.Finding.{IsObjectShown};
+ghost use Rattle.ca_base.specs.Finding.{IsObjectIn, IsObjectShown};
 ghost use Rattle.ca_base.specs.Putting.{IsShownLast, last_items};
 ghost use Rattle.ca_base.specs.Splitting.{SpellsRoute};
-ghost use Rattle.ca_base.specs.Writing.{IsHeld, SpellsBase, HasWritten};
+ghost use Rattle.ca_base.specs.Writing.{IsHeldIn, SpellsBase, HasWritten};
 ghost use Rattle.ca_rows.specs.Passes.{OnlyReads, IsOn, IsReading, StillKeepsList, sizes, known};
 ghost use Rattle.ca_node.specs.TreePasses.{tree_of};
 
@@ -35,8 +35,7 @@ pub(crate) fn write_route(
     attempt: u64,
 )
     requires own { IsOn space.now pass.old }
-    requires held { IsHeld (known pass.old) fork.route }
-    requires inside { fork.route ≤ (sizes space.now).rows }
+    requires held { IsHeldIn (sizes space.now) (known pass.old) fork.route }
     requires short { length key.now ≤ 1000 }
     requires attempt { attempt < 4611686018427387904 }
     ensures frame { StillKeepsList pass.old pass.new }
@@ -51,8 +50,7 @@ pub(crate) fn write_route(
 /// Writes a half of the base that was shown last: a base row of this level without a mark, with these of its items, and with a statistic of 0.
 pub(crate) fn write_half(space: &TreeSpace, pass: &mut TreePass, row: u32, level: u16, run: Run)
     requires reading { IsReading space.now pass.old }
-    requires held { IsHeld (known pass.old) row }
-    requires inside { row ≤ (sizes space.now).rows }
+    requires held { IsHeldIn (sizes space.now) (known pass.old) row }
     requires shown { IsShownLast (sizes space.now) (tree_of pass.old) run.base }
     requires places { (run.from + run.count ≤ length (last_items (tree_of pass.old))) × (run.from + run.count ≤ 120) }
     ensures frame { StillKeepsList pass.old pass.new }
@@ -66,8 +64,7 @@ pub(crate) fn write_half(space: &TreeSpace, pass: &mut TreePass, row: u32, level
 /// Copies the key of an object that the pass was shown, a word at a time.
 pub(crate) fn copy_key(space: &TreeSpace, pass: &mut TreePass, row: u32, into: &mut Code)
     requires reading { IsReading space.now pass.old }
-    requires inside { row ≤ (sizes space.now).rows }
-    requires shown { (its : List ℕ) × IsObjectShown (tree_of pass.old) row its }
+    requires shown { IsObjectIn (sizes space.now) (tree_of pass.old) row }
     ensures frame { OnlyReads pass.old pass.new }
     ensures key { (its : List ℕ) → IsObjectShown (tree_of pass.old) row its → into.new.items ≡ (pair its).0 }
 {

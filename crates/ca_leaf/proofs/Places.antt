@@ -1,5 +1,5 @@
 -- What an item's answer tells of the items before it and behind it.
-use Rattle.std.proofs.Common.{◌≡◌, ◌≢◌, ℕ, zero, suc, ◌≤◌, ◌<◌, ◌+◌, List, [], ◌∷◌, length, take, drop, get_or, arith, refl, sym, ◌∙◌, ap, ⊎_elim, length-take, length-drop}
+use Rattle.std.proofs.Common.{◌≡◌, ◌≢◌, ℕ, zero, suc, ◌≤◌, ◌<◌, ◌+◌, ◌-◌, List, [], ◌∷◌, length, take, drop, get_or, arith, refl, sym, ◌∙◌, ap, ⊎_elim, length-take, length-drop}
 use Rattle.std.proofs.Math.Nat.{eq-or-lt_of_le}
 use Rattle.std.proofs.lemmas.List.{get_or-take, get_or-drop, get_or_default}
 use Rattle.std.specs.declared.cmp.Ordering.{Ordering}
@@ -8,11 +8,11 @@ use Rattle.ca_leaf.specs.Place.{AreLess, AreGreater, Ascend, IsAt, IsBetween}
 
 module _ (s : ℕ → Ordering) where
   -- each of the first n items is less than the key
-  abbrev pub LessUpTo : List ℕ → ℕ → Type 0
+  abbrev LessUpTo : List ℕ → ℕ → Type 0
   LessUpTo items n = (i : ℕ) → i < n → s (get_or items i 0) ≡ Less
 
   -- each item but the first n is greater than the key
-  abbrev pub GreaterFrom : List ℕ → ℕ → Type 0
+  abbrev GreaterFrom : List ℕ → ℕ → Type 0
   GreaterFrom items n = (i : ℕ) → n ≤ i → i < length items → s (get_or items i 0) ≡ Greater
 
   -- behind an item that isn't less
@@ -35,24 +35,22 @@ module _ (s : ℕ → Ordering) where
       by Greater is =
           absurd (not (behind items i j up l h (λ e. let z : Greater ≡ Less = sym is ∙ e in cc)))
 
-  up_to : (i n : ℕ) → i < n + 1 → i ≤ n
-  up_to i n l = omega arith
+  -- Where the last one before a place is less, all before it are less.
+  less_to : (items : List ℕ) (at : ℕ) → Ascend s items → at ≤ length items
+      → (0 < at → s (get_or items (at - 1) 0) ≡ Less) → LessUpTo items at
+  less_to items at up h is i l = let last : i ≤ at - 1 = omega arith in
+      ⊎_elim
+      (λ (same : i ≡ at - 1). ap (λ (k : ℕ). s (get_or items k 0)) same ∙ is (omega arith))
+      (λ (lower : i < at - 1). before items i (at - 1) up lower (omega arith)
+      (λ e. let z : Less ≡ Greater = sym (is (omega arith)) ∙ e in cc)) (eq-or-lt_of_le last)
 
-  -- Up to an item that is less all are less.
-  pub less_to : (items : List ℕ) (at : ℕ) → Ascend s items → at < length items
-      → s (get_or items at 0) ≡ Less → LessUpTo items (at + 1)
-  less_to items at up h is i l = ⊎_elim
-      (λ (same : i ≡ at). ap (λ (k : ℕ). s (get_or items k 0)) same ∙ is)
-      (λ (lower : i < at). before items i at up lower h
-      (λ e. let z : Less ≡ Greater = sym is ∙ e in cc)) (eq-or-lt_of_le (up_to i at l))
-
-  -- From an item on that is greater all are greater.
-  pub greater_from : (items : List ℕ) (at : ℕ) → Ascend s items → at < length items
-      → s (get_or items at 0) ≡ Greater → GreaterFrom items at
-  greater_from items at up h is i l r = ⊎_elim
-      (λ (same : at ≡ i). ap (λ (k : ℕ). s (get_or items k 0)) (sym same) ∙ is)
+  -- Where the one at a place is greater, all from it on are greater.
+  greater_from : (items : List ℕ) (at : ℕ) → Ascend s items
+      → (at < length items → s (get_or items at 0) ≡ Greater) → GreaterFrom items at
+  greater_from items at up is i l r = ⊎_elim
+      (λ (same : at ≡ i). ap (λ (k : ℕ). s (get_or items k 0)) (sym same) ∙ is (omega arith))
       (λ (more : at < i). behind items at i up more r
-      (λ e. let z : Greater ≡ Less = sym is ∙ e in cc)) (eq-or-lt_of_le l)
+      (λ e. let z : Greater ≡ Less = sym (is (omega arith)) ∙ e in cc)) (eq-or-lt_of_le l)
 
   all_less : (items : List ℕ) (n : ℕ) → n ≤ length items → LessUpTo items n
       → AreLess s (take n items)
@@ -80,11 +78,12 @@ module _ (s : ℕ → Ordering) where
         (λ e. let z : Equal ≡ Less = sym is ∙ e in cc));
   }
 
-  -- Where nothing is left between the lesser items and the greater ones, no item has the key.
-  pub is_between : (items : List ℕ) (low high : ℕ) → low ≤ high → high ≤ low → high ≤ length items
-      → LessUpTo items low → GreaterFrom items high → IsBetween s items low
-  is_between items low high a b h less greater = record {
-    in_range = omega arith;
-    before = all_less items low (omega arith) less;
-    behind = all_greater items low (omega arith) (λ i l r. greater i (omega arith) r);
+  -- Where a place stands between a lesser item and a greater one, no item has the key.
+  pub is_between : (items : List ℕ) (at : ℕ) → Ascend s items → at ≤ length items
+      → (0 < at → s (get_or items (at - 1) 0) ≡ Less)
+      → (at < length items → s (get_or items at 0) ≡ Greater) → IsBetween s items at
+  is_between items at up h less greater = record {
+    in_range = h;
+    before = all_less items at h (less_to items at up h less);
+    behind = all_greater items at h (greater_from items at up greater);
   }

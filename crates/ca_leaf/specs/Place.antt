@@ -1,5 +1,5 @@
 -- Where a key stands among items, given how each item's key stands to it.
-use Rattle.std.specs.Prelude.{◌≡◌, ◌≢◌, ℕ, ◌+◌, ◌<◌, ◌≤◌, Bool, true, false, List, [], ◌∷◌, length, take, drop, slice_index, slice_set, Result, Ok, Err}
+use Rattle.std.specs.Prelude.{◌≡◌, ◌≢◌, ℕ, ◌+◌, ◌-◌, ◌<◌, ◌≤◌, Bool, true, false, List, [], ◌∷◌, length, take, drop, slice_index, slice_set, Result, Ok, Err}
 use Rattle.std.specs.List.{All, insert}
 use Rattle.std.specs.declared.cmp.Ordering.{Ordering}
 use Rattle.std.specs.declared.cmp.Ordering.TheVariants.{Less, Equal, Greater}
@@ -34,6 +34,12 @@ module _ (stands : ℕ → Ordering) where
   abbrev pub IsPlace : List ℕ → Result ℕ ℕ → Type 0
   IsPlace items (Ok at) = IsAt items at
   IsPlace items (Err at) = IsBetween items at
+
+-- A place among so many things of which each stands to one that is looked for as told: one with that, or one between a lesser thing and a greater
+-- one, each if there is any.
+abbrev pub IsPlaceAmong : (ℕ → Ordering → Type 0) → ℕ → Result ℕ ℕ → Type 0
+IsPlaceAmong stands count (Ok at) = (at < count) × stands at Equal
+IsPlaceAmong stands count (Err at) = (at ≤ count) × (0 < at → stands (at - 1) Less) × (at < count → stands at Greater)
 
 -- An item can be put at this place, in the place of another one or between two.
 abbrev pub IsRoomFor : Bool → ℕ → ℕ → Type 0

@@ -32,7 +32,7 @@ loop-place-init c = (
   begins _ _ c.args.row (body_word + c.args.to)
       (λ k word. word ≡ get_or (last_items c.args.pass.now.seat.me.0.upper) (c.args.run.from + k) 0)
       c.args.pass.now.seat
-      c.requires.reading.own c.requires.held,
+      c.requires.reading.own c.requires.held.1,
   refl,
   refl,
   refl,

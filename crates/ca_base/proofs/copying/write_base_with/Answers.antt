@@ -10,7 +10,7 @@ returns-in-Ok-clause-written c = let still = c.item_at-old.ensures.frame.still i
     let xs = last_items c.args.pass.now.seat.me.0.upper in let at = c.in-Ok.at in
     let low = subst
     (λ (p : Result ℕ ℕ). IsPlaceFor p c.args.target.now.many) c.in-Ok.is c.requires.place in
-    let many = c.requires.many.0 in
+    let many = c.requires.shown.1.0 in
     let next : at + 1 ≡ suc at = omega arith in
     let is : take at xs ++ c.args.item ∷ drop (at + 1) xs ≡ set xs at c.args.item =
     ap (λ n. take at xs ++ c.args.item ∷ drop n xs) next

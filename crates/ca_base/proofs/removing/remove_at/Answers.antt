@@ -25,13 +25,8 @@ returns-in-Err-clause-frame c = record {
 
 pub write_base_without-old-requires-clause-held : goal.write_base_without-old-requires-clause-held
 write_base_without-old-requires-clause-held c =
-    ((c.in-Ok.ensures.taken [] (omega arith) c.requires.ready.none).1.0.each c.in-Ok.row
-    (in_first c.in-Ok.row [])).2
-
-pub write_base_without-old-requires-clause-inside : goal.write_base_without-old-requires-clause-inside
-write_base_without-old-requires-clause-inside c =
-    ((c.in-Ok.ensures.taken [] (omega arith) c.requires.ready.none).1.0.each c.in-Ok.row
-    (in_first c.in-Ok.row [])).1
+    let each = (c.in-Ok.ensures.taken [] (omega arith) c.requires.ready.none).1.0.each c.in-Ok.row
+    (in_first c.in-Ok.row []) in (each.1, each.2)
 
 pub write_base_without-old-requires-clause-reading : goal.write_base_without-old-requires-clause-reading
 write_base_without-old-requires-clause-reading c = record {
@@ -43,19 +38,19 @@ write_base_without-old-requires-clause-reading c = record {
 }
 
 pub write_base_without-old-requires-clause-shown : goal.write_base_without-old-requires-clause-shown
-write_base_without-old-requires-clause-shown c = subst
-    (λ (u : TreeView).
-    IsShownLast c.args.space.now.table.shared.key u c.args.target.now.cursor.base)
-    (sym c.take.ensures.frame.same.4) c.requires.target.shown
-
-pub write_base_without-old-requires-clause-many : goal.write_base_without-old-requires-clause-many
-write_base_without-old-requires-clause-many c = let u = c.args.pass.now.seat.me.0.upper in (
-  subst (λ (v : TreeView). c.args.target.now.many
-      ≡ length (last_items v)) (sym c.take.ensures.frame.same.4)
-      (many_are _ u c.args.target.now.cursor.base c.args.target.now.many c.requires.target.shown
-      c.requires.target.many_are),
-  few_are _ u c.args.target.now.cursor.base c.args.target.now.many c.requires.target.shown
-      c.requires.target.many_are c.requires.target.leaf,
+write_base_without-old-requires-clause-shown c = let u = c.args.pass.now.seat.me.0.upper in (
+  subst
+      (λ (u : TreeView).
+      IsShownLast c.args.space.now.table.shared.key u c.args.target.now.cursor.base)
+      (sym c.take.ensures.frame.same.4) c.requires.target.shown,
+  (
+    subst (λ (v : TreeView). c.args.target.now.many
+        ≡ length (last_items v)) (sym c.take.ensures.frame.same.4)
+        (many_are _ u c.args.target.now.cursor.base c.args.target.now.many c.requires.target.shown
+        c.requires.target.many_are),
+    few_are _ u c.args.target.now.cursor.base c.args.target.now.many c.requires.target.shown
+        c.requires.target.many_are c.requires.target.leaf,
+  ),
 )
 
 pub write_base_without-old-requires-clause-place : goal.write_base_without-old-requires-clause-place

@@ -17,23 +17,21 @@ use Rattle.ca_rows.specs.declared.view.Pin.{Pin}
 use Rattle.ca_base.proofs.splitting.split_at.Goals as goal
 
 pub write_half-requires-clause-held : goal.write_half-requires-clause-held
-write_half-requires-clause-held c = (c.in-Ok.ensures.taken.1.0.each c.in-Ok.rows.1 (1, refl)).2
-
-pub write_half-requires-clause-inside : goal.write_half-requires-clause-inside
-write_half-requires-clause-inside c = (c.in-Ok.ensures.taken.1.0.each c.in-Ok.rows.1 (1, refl)).1
+write_half-requires-clause-held c =
+    let each = c.in-Ok.ensures.taken.1.0.each c.in-Ok.rows.1 (1, refl) in (each.1, each.2)
 
 pub write_half-requires-2-clause-held : goal.write_half-requires-2-clause-held
 write_half-requires-2-clause-held c = let t = c.in-Ok.ensures.taken in
-    let own = (t.1.0.each c.in-Ok.rows.2 (2, refl)).2 in
+    let each = t.1.0.each c.in-Ok.rows.2 (2, refl) in let own = each.2 in
     let apart = three_apart c.in-Ok.rows.0 c.in-Ok.rows.1 c.in-Ok.rows.2 t.0 in (
-      own.0,
-      own.1,
-      c.write_half.ensures.written.2.others c.in-Ok.rows.2 (λ e. apart.2 (sym e))
-          ∙ own.2,
+      each.1,
+      (
+        own.0,
+        own.1,
+        c.write_half.ensures.written.2.others c.in-Ok.rows.2 (λ e. apart.2 (sym e))
+            ∙ own.2,
+      ),
     )
-
-pub write_half-requires-2-clause-inside : goal.write_half-requires-2-clause-inside
-write_half-requires-2-clause-inside c = (c.in-Ok.ensures.taken.1.0.each c.in-Ok.rows.2 (2, refl)).1
 
 pub copy_key-requires-clause-shown : goal.copy_key-requires-clause-shown
 copy_key-requires-clause-shown c = let r = c.requires in let u = c.args.pass.now.seat.me.0.upper in
@@ -46,28 +44,31 @@ copy_key-requires-clause-shown c = let r = c.requires in let u = c.args.pass.now
     (sym upper)
     (last_readable c.args.space.now.table.shared.key u c.args.cursor.base r.target.shown
     r.target.leaf r.ordered) in (
-      get_or (first_note u.notes).objects (c.args.many / 2) [],
-      subst (λ (m : MyTree).
-          IsObjectShown m.0.upper c.item-first.result
-          (get_or (first_note u.notes).objects (c.args.many / 2) []))
-          (sym c.item-first.ensures.frame.still)
-          (c.item-first.ensures.item (first_note u.notes) read (omega arith)).1,
+      c.item-first.ensures.inside.1,
+      (
+        get_or (first_note u.notes).objects (c.args.many / 2) [],
+        subst (λ (m : MyTree).
+            IsObjectShown m.0.upper c.item-first.result
+            (get_or (first_note u.notes).objects (c.args.many / 2) []))
+            (sym c.item-first.ensures.frame.still)
+            (c.item-first.ensures.item (first_note u.notes) read (omega arith)).1,
+      ),
     )
 
 pub write_route-requires-clause-held : goal.write_route-requires-clause-held
 write_route-requires-clause-held c = let t = c.in-Ok.ensures.taken in
-    let own = (t.1.0.each c.in-Ok.rows.0 (0, refl)).2 in
+    let each = t.1.0.each c.in-Ok.rows.0 (0, refl) in let own = each.2 in
     let apart = three_apart c.in-Ok.rows.0 c.in-Ok.rows.1 c.in-Ok.rows.2 t.0 in
     let still = c.copy_key.ensures.frame.still ∙ c.item-first.ensures.frame.still in (
-      own.0,
-      own.1,
-      ap (λ (m : MyTree). claim_of m.0.claims c.in-Ok.rows.0) still
-          ∙ (c.write_half-2.ensures.written.2.others c.in-Ok.rows.0 apart.1
-          ∙ (c.write_half.ensures.written.2.others c.in-Ok.rows.0 apart.0 ∙ own.2)),
+      each.1,
+      (
+        own.0,
+        own.1,
+        ap (λ (m : MyTree). claim_of m.0.claims c.in-Ok.rows.0) still
+            ∙ (c.write_half-2.ensures.written.2.others c.in-Ok.rows.0 apart.1
+            ∙ (c.write_half.ensures.written.2.others c.in-Ok.rows.0 apart.0 ∙ own.2)),
+      ),
     )
-
-pub write_route-requires-clause-inside : goal.write_route-requires-clause-inside
-write_route-requires-clause-inside c = (c.in-Ok.ensures.taken.1.0.each c.in-Ok.rows.0 (0, refl)).1
 
 pub divide_in-requires-clause-division : goal.divide_in-requires-clause-division
 divide_in-requires-clause-division c = let r = c.requires in

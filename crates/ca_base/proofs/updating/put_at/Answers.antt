@@ -16,26 +16,15 @@ use Rattle.ca_base.proofs.updating.put_at.Goals as goal
 
 pub write_object-requires-clause-held : goal.write_object-requires-clause-held
 write_object-requires-clause-held c = let t = c.in-Ok.ensures.taken in
-    (t.1.0.each c.in-Ok.rows.1
+    let each = t.1.0.each c.in-Ok.rows.1
     (in_rest c.in-Ok.rows.1 c.in-Ok.rows.0 (c.in-Ok.rows.1 ∷ [])
-    (in_first c.in-Ok.rows.1 []))).2
-
-pub write_object-requires-clause-inside : goal.write_object-requires-clause-inside
-write_object-requires-clause-inside c = let t = c.in-Ok.ensures.taken in
-    (t.1.0.each c.in-Ok.rows.1
-    (in_rest c.in-Ok.rows.1 c.in-Ok.rows.0 (c.in-Ok.rows.1 ∷ [])
-    (in_first c.in-Ok.rows.1 []))).1
+    (in_first c.in-Ok.rows.1 [])) in (each.1, each.2)
 
 pub write_base_with-old-requires-clause-held : goal.write_base_with-old-requires-clause-held
 write_base_with-old-requires-clause-held c = let t = c.in-Ok.ensures.taken in
     let w = c.write_object.ensures.written in
-    let own = (t.1.0.each c.in-Ok.rows.0 (in_first c.in-Ok.rows.0 (c.in-Ok.rows.1 ∷ []))).2 in
-    (own.0, own.1, w.2.others c.in-Ok.rows.0 t.0 ∙ own.2)
-
-pub write_base_with-old-requires-clause-inside : goal.write_base_with-old-requires-clause-inside
-write_base_with-old-requires-clause-inside c =
-    (c.in-Ok.ensures.taken.1.0.each c.in-Ok.rows.0
-    (in_first c.in-Ok.rows.0 (c.in-Ok.rows.1 ∷ []))).1
+    let each = t.1.0.each c.in-Ok.rows.0 (in_first c.in-Ok.rows.0 (c.in-Ok.rows.1 ∷ [])) in
+    let own = each.2 in (each.1, (own.0, own.1, w.2.others c.in-Ok.rows.0 t.0 ∙ own.2))
 
 pub write_base_with-old-requires-clause-reading : goal.write_base_with-old-requires-clause-reading
 write_base_with-old-requires-clause-reading c = record {
@@ -50,21 +39,21 @@ write_base_with-old-requires-clause-reading c = record {
 }
 
 pub write_base_with-old-requires-clause-shown : goal.write_base_with-old-requires-clause-shown
-write_base_with-old-requires-clause-shown c = subst
-    (λ (u : TreeView).
-    IsShownLast c.args.space.now.table.shared.key u c.args.target.now.cursor.base)
-    (sym (c.write_object.ensures.frame.same.4 ∙ c.take_two.ensures.frame.same.4))
-    c.requires.target.shown
-
-pub write_base_with-old-requires-clause-many : goal.write_base_with-old-requires-clause-many
-write_base_with-old-requires-clause-many c = let u = c.args.pass.now.seat.me.0.upper in (
-  subst (λ (v : TreeView). c.args.target.now.many
-      ≡ length (last_items v)) (sym (c.write_object.ensures.frame.same.4
-      ∙ c.take_two.ensures.frame.same.4))
-      (many_are _ u c.args.target.now.cursor.base c.args.target.now.many c.requires.target.shown
-      c.requires.target.many_are),
-  few_are _ u c.args.target.now.cursor.base c.args.target.now.many c.requires.target.shown
-      c.requires.target.many_are c.requires.target.leaf,
+write_base_with-old-requires-clause-shown c = let u = c.args.pass.now.seat.me.0.upper in (
+  subst
+      (λ (u : TreeView).
+      IsShownLast c.args.space.now.table.shared.key u c.args.target.now.cursor.base)
+      (sym (c.write_object.ensures.frame.same.4 ∙ c.take_two.ensures.frame.same.4))
+      c.requires.target.shown,
+  (
+    subst (λ (v : TreeView). c.args.target.now.many
+        ≡ length (last_items v)) (sym (c.write_object.ensures.frame.same.4
+        ∙ c.take_two.ensures.frame.same.4))
+        (many_are _ u c.args.target.now.cursor.base c.args.target.now.many c.requires.target.shown
+        c.requires.target.many_are),
+    few_are _ u c.args.target.now.cursor.base c.args.target.now.many c.requires.target.shown
+        c.requires.target.many_are c.requires.target.leaf,
+  ),
 )
 
 pub write_base_with-old-requires-clause-place : goal.write_base_with-old-requires-clause-place

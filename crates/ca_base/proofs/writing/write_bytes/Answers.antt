@@ -9,12 +9,12 @@ pub set_word-requires-clause-own : goal.set_word-requires-clause-own
 set_word-requires-clause-own c = c.loop-place.invariant.0.of
 
 pub set_word-requires-clause-held : goal.set_word-requires-clause-held
-set_word-requires-clause-held c = c.loop-place.invariant.0.held
+set_word-requires-clause-held c = (c.requires.held.0, c.loop-place.invariant.0.held)
 
 pub loop-place-init : goal.loop-place-init
 loop-place-init c = (
   begins _ _ c.args.row body_word (HasEight c.args.bytes.now) c.args.pass.now.seat c.requires.own
-      c.requires.held,
+      c.requires.held.1,
   refl,
   refl,
   refl,

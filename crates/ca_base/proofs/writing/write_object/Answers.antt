@@ -7,25 +7,31 @@ use Rattle.ca_rows.specs.Layout.{row_words}
 use Rattle.ca_node.specs.Layout.{body_word}
 
 pub write_bytes-requires-clause-held : goal.write_bytes-requires-clause-held
-write_bytes-requires-clause-held c = let h = c.requires.held in
+write_bytes-requires-clause-held c = let h = c.requires.held.1 in
     let its : List ℕ = set h.0 0 c.object_form-form.result in (
-      its,
-      length-set h.0 0 c.object_form-form.result ∙ h.1,
-      (rewritten c.args.row h.0 its c.args.pass.now.seat.me c.write_word.new.pass.seat.me h.2
-          (c.write_word.ensures.written h.0 h.2)).here,
+      c.requires.held.0,
+      (
+        its,
+        length-set h.0 0 c.object_form-form.result ∙ h.1,
+        (rewritten c.args.row h.0 its c.args.pass.now.seat.me c.write_word.new.pass.seat.me h.2
+            (c.write_word.ensures.written h.0 h.2)).here,
+      ),
     )
 
 pub clear-requires-clause-held : goal.clear-requires-clause-held
-clear-requires-clause-held c = let h = c.requires.held in
+clear-requires-clause-held c = let h = c.requires.held.1 in
     let its : List ℕ = set h.0 0 c.object_form-form.result in
     let one = rewritten c.args.row h.0 its c.args.pass.now.seat.me c.write_word.new.pass.seat.me h.2
     (c.write_word.ensures.written h.0 h.2) in
     let more = c.write_bytes.ensures.filled its (length-set h.0 0 c.object_form-form.result
     ∙ h.1) one.here in
-    (more.0, more.1.long ∙ (length-set h.0 0 c.object_form-form.result ∙ h.1), more.2.here)
+    (
+      c.requires.held.0,
+      (more.0, more.1.long ∙ (length-set h.0 0 c.object_form-form.result ∙ h.1), more.2.here),
+    )
 
 pub returns-clause-written : goal.returns-clause-written
-returns-clause-written c = let h = c.requires.held in let form : ℕ = c.object_form-form.result in
+returns-clause-written c = let h = c.requires.held.1 in let form : ℕ = c.object_form-form.result in
     let its : List ℕ = set h.0 0 form in
     let told = c.object_form-form.ensures in let place = c.requires.place in
     let one = rewritten c.args.row h.0 its c.args.pass.now.seat.me c.write_word.new.pass.seat.me h.2
