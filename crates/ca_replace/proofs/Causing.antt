@@ -119,7 +119,7 @@ unspent budget now m m' paid room = let none = paid.none in let counted = paid.c
 pub refill_caused : (z : Sizes) (number budget begun : ℕ) (adds : Option (List ℕ)) (why : Cause)
     (now : Spent) (m n m' : MyTree)
     (kept kept' : Vec Kept Global)
-    → HasSpentInAll now m m' → HasBegun begun (vec_len kept) m m'
+    → HasSpentInAll now m m' → HasBegun z.rows begun (vec_len kept) m m'
     → m.0.pin.looks ≤ n.0.pin.looks → IsRefill z.passes number budget begun now why n m' kept'
     → IsCaused z number budget adds why m kept m' kept'
 refill_caused z number budget begun adds (refusal.Busy s) now m n m' kept kept' paid first before
@@ -137,7 +137,7 @@ refill_caused z number budget begun adds (refusal.Busy s) now m n m' kept kept' 
     ))
 refill_caused z number budget begun adds (refusal.Full cause) now m n m' kept kept' paid first
     before h = (
-      subst (λ k. HasBegun k (vec_len kept) m m') (sym h.0) first,
+      subst (λ k. HasBegun z.rows k (vec_len kept) m m') (sym h.0) first,
       ⊎_elim (λ (e : begun ≡ 0). inl (h.0 ∙ e)) (λ (l : cause.lag ≢ Nothing). inr l) h.1,
       (let more = h.2 in omega arith),
       h.3,
@@ -218,49 +218,3 @@ pub few_from : (k m m' : MyTree) (kept : Vec Kept Global) → k.0.pin.looks ≤ 
     → KeepsFew m m' kept → KeepsFew k m' kept
 few_from k m m' kept looks few = ⊎_elim inl
     (λ rest. let more = rest.0 in inr (omega arith, rest.1)) few
-
--- No attempt found the head empty until now, and so many rows are kept as at first; or one did, of
--- a call that had begun with rows kept, and none is
--- kept now, unless an exchange was lost.
-abbrev pub Before : ℕ → MyTree → MyTree → Vec Kept Global → Type 0
-Before kept m0 m kept0 = ((kept ≡ vec_len kept0) × (m.0.empty ≡ m0.0.empty))
-    ⊎ ((m0.0.empty + 1 ≤ m.0.empty) × (0 < vec_len kept0)
-    × ((kept ≡ 0) ⊎ (losses m0 < losses m)))
-
--- An attempt that found the head empty, behind others that did so or as the first one, and then
--- rows were given back.
-pub begun_with : (begun kept : ℕ) (m0 m m1 m2 : MyTree) (kept0 : Vec Kept Global) → begun ≡ kept
-    → Before kept m0 m kept0 → losses m ≤ losses m2 → HasMet 1 0 m m1 → HasMet 0 0 m1 m2
-    → HasBegun begun (vec_len kept0) m0 m2
-begun_with begun kept m0 m m1 m2 kept0 is so more one two = let up = one.0 in let same = two.0 in
-    ⊎_elim
-    (λ (e : (kept ≡ vec_len kept0) × (m.0.empty ≡ m0.0.empty)). let none = e.1 in
-    inl (is ∙ e.0, omega arith))
-    (λ (l : (m0.0.empty + 1 ≤ m.0.empty) × (0 < vec_len kept0)
-    × ((kept ≡ 0) ⊎ (losses m0 < losses m))). let before = l.0 in
-    inr (
-      omega arith,
-      l.1,
-      ⊎_elim (λ (z : kept ≡ 0). inl (is ∙ z))
-          (λ (lost : losses m0 < losses m). inr (omega arith)) l.2,
-    )) so
-
--- So the head was found empty before, as seen from the next attempt.
-pub empty_before : (kept begun kept2 : ℕ) (m0 m m1 m2 : MyTree) (kept0 : Vec Kept Global)
-    → begun ≡ kept → 0 < begun → losses m0 ≤ losses m1
-    → (kept2 ≡ 0) ⊎ (losses m1 < losses m2) → Before kept m0 m kept0 → HasMet 1 0 m m1
-    → HasMet 0 0 m1 m2
-    → (m0.0.empty + 1 ≤ m2.0.empty) × (0 < vec_len kept0) × ((kept2 ≡ 0) ⊎ (losses m0 < losses m2))
-empty_before kept begun kept2 m0 m m1 m2 kept0 is some more now so one two = let up = one.0 in
-    let same = two.0 in (
-      ⊎_elim (λ (e : (kept ≡ vec_len kept0) × (m.0.empty ≡ m0.0.empty)). let none = e.1 in
-          let l : m0.0.empty + 1 ≤ m2.0.empty = omega arith in l)
-          (λ (b : (m0.0.empty + 1 ≤ m.0.empty) × (0 < vec_len kept0)
-          × ((kept ≡ 0) ⊎ (losses m0 < losses m))). let before = b.0 in
-          let l : m0.0.empty + 1 ≤ m2.0.empty = omega arith in l) so,
-      ⊎_elim (λ (e : (kept ≡ vec_len kept0) × (m.0.empty ≡ m0.0.empty)). let as_many = e.0 in
-          let l : 0 < vec_len kept0 = omega arith in l)
-          (λ (b : (m0.0.empty + 1 ≤ m.0.empty) × (0 < vec_len kept0)
-          × ((kept ≡ 0) ⊎ (losses m0 < losses m))). b.1) so,
-      ⊎_elim inl (λ (l : losses m1 < losses m2). inr (omega arith)) now,
-    )

@@ -10,6 +10,7 @@ pub mod GoingOn
 pub mod Growing
 pub mod Meeting
 pub mod OneHand
+pub mod Pinning
 pub mod Reclaiming
 pub mod Settling
 pub mod Showing

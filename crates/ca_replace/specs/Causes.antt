@@ -19,6 +19,8 @@ use Rattle.ca_model.specs.declared.outcome.Cause.{Cause}
 use Rattle.ca_model.specs.declared.outcome.Cause.TheVariants as refusal
 use Rattle.ca_rows.specs.declared.kept.Kept.{Kept}
 use Rattle.ca_rows.specs.declared.sizes.Sizes.{Sizes}
+use Rattle.ca_rows.specs.declared.view.Claimed.{Claimed}
+use Rattle.ca_rows.specs.Kept.{AreKept}
 use Rattle.ca_rows.specs.Reclaiming.{IsLag}
 
 -- From one of these moments to the other the pass began a look at the others. What it knows then of a pass that lags, and of the epoch, is of its last look.
@@ -39,11 +41,16 @@ IsRefill passes number budget begun spent (refusal.Worn counter.Epoch) m m' kept
 IsRefill passes number budget begun spent (refusal.Worn counter.PoolTag) m m' kept' = ⊥
 IsRefill passes number budget begun spent (refusal.Worn counter.Sequence) m m' kept' = ⊥
 
+-- Of the rows that are noted so, a seat kept so many.
+abbrev pub HasKept : ℕ → List Claimed → ℕ → Type 0
+HasKept rows claims count = (kept : Vec Kept Global) × AreKept rows claims kept × (count ≡ vec_len kept)
+
 -- An attempt that found the head empty began with so many rows kept: it was the first one, and so many were kept as the call began; or the head had
--- been found empty before, by a call that had begun with rows kept, which were all given back then, unless an exchange was lost.
-abbrev pub HasBegun : ℕ → ℕ → MyTree → MyTree → Type 0
-HasBegun begun kept m m' = ((begun ≡ kept) × (m'.0.empty ≡ m.0.empty + 1)) ⊎ ((m.0.empty + 2 ≤ m'.0.empty) × (0 < kept)
-    × ((begun ≡ 0) ⊎ (losses m < losses m')))
+-- been found empty before, by a call that had begun with rows kept, and so many were kept as the pass pinned first behind the giving back that
+-- followed: none, unless an exchange was lost.
+abbrev pub HasBegun : ℕ → ℕ → ℕ → MyTree → MyTree → Type 0
+HasBegun rows begun kept m m' = ((begun ≡ kept) × (m'.0.empty ≡ m.0.empty + 1)) ⊎ ((m.0.empty + 2 ≤ m'.0.empty) × (0 < kept)
+    × ((begun ≡ 0) ⊎ (losses m < losses m')) × HasKept rows m'.0.pin.begun begun)
 
 -- The budget isn't spent, by the exchanges that were lost, the operations of others that were helped, and the other turns.
 abbrev pub IsUnspent : ℕ → MyTree → MyTree → Type 0
@@ -66,7 +73,7 @@ abbrev pub IsCaused : Sizes → ℕ → ℕ → Option (List ℕ) → Cause → 
 IsCaused z number budget adds (refusal.Busy spent) m kept m' kept' = (budget ≤ total spent) × (spent.lost ≡ min 4294967295 (losses m' - losses m))
     × (spent.helped ≡ min 4294967295 (helps m' - helps m)) × (spent.passed ≡ min 4294967295 (passes m' - passes m))
 -- The last attempt found the head empty, and the budget isn't spent. It began with no row kept, or another pass lagged as rows were given back in this call.
-IsCaused z number budget adds (refusal.Full cause) m kept m' kept' = HasBegun cause.kept (vec_len kept) m m' × ((cause.kept ≡ 0) ⊎ (cause.lag ≢ None))
+IsCaused z number budget adds (refusal.Full cause) m kept m' kept' = HasBegun z.rows cause.kept (vec_len kept) m m' × ((cause.kept ≡ 0) ⊎ (cause.lag ≢ None))
     × HasLooked m m' × IsLag z.passes number cause.lag m'.0.pin × IsUnspent budget m m'
 -- By a state since the last pin the key is a new one, and there is no room for it in the base that was shown last, at the last level.
 IsCaused z number budget adds (refusal.Deep level) m kept m' kept' = (level ≡ z.levels) × IsFullSince z adds m'.0.upper
@@ -74,7 +81,7 @@ IsCaused z number budget adds (refusal.Deep level) m kept m' kept' = (level ≡ 
 IsCaused z number budget adds (refusal.Worn counter.PoolTag) m kept m' kept' = m'.0.worn ≡ m.0.worn + 1
 -- The last attempt found the head empty, and neither is the budget spent, nor did it begin with no row kept, nor does a pass lag. The epoch was at its
 -- last value as rows were given back in this call, and rows are kept.
-IsCaused z number budget adds (refusal.Worn counter.Epoch) m kept m' kept' = ((begun : ℕ) × (0 < begun) × HasBegun begun (vec_len kept) m m')
+IsCaused z number budget adds (refusal.Worn counter.Epoch) m kept m' kept' = ((begun : ℕ) × (0 < begun) × HasBegun z.rows begun (vec_len kept) m m')
     × HasLooked m m' × (4611686018427387904 ≤ m'.0.pin.scan) × (0 < vec_len kept') × (m'.0.pin.lag ≡ 0) × IsUnspent budget m m'
 IsCaused z number budget adds (refusal.Worn counter.Sequence) m kept m' kept' = ⊥
 
@@ -93,7 +100,18 @@ KeepsFew m m' kept = (vec_len kept ≤ 64) ⊎ (HasLooked m m' × ((0 < m'.0.pin
 
 -- As rows were given back a pass was found to lag once at most; the pass didn't pin.
 abbrev pub LagsOnce : MyTree → MyTree → Type 0
-LagsOnce m m' = (m'.0.pin.lags ≤ m.0.pin.lags + 1) × (m'.0.pin.entered ≡ m.0.pin.entered)
+LagsOnce m m' = (m'.0.pin.lags ≤ m.0.pin.lags + 1) × (m'.0.pin.entered ≡ m.0.pin.entered) × (m'.0.pin.begun ≡ m.0.pin.begun)
+    × (m'.0.pin.begun_at ≡ m.0.pin.begun_at)
+
+-- The pass pinned, and gave no rows back. As it pinned last no more passes had been found to lag, and what was its as it pinned first since it last gave
+-- rows back is noted.
+pub record HasPinned (m m' : MyTree) : Type 0 where
+  pub lags : m'.0.pin.lags ≡ m.0.pin.lags
+  pub looks : m'.0.pin.looks ≡ m.0.pin.looks
+  pub entered : m'.0.pin.entered.lags ≡ m.0.pin.lags
+  pub begun_at : m'.0.pin.begun_at ≡ m.0.pin.looks
+  pub begun : m.0.pin.looks ≢ m.0.pin.begun_at → m'.0.pin.begun ≡ m.0.claims
+  pub begun_before : m.0.pin.looks ≡ m.0.pin.begun_at → m'.0.pin.begun ≡ m.0.pin.begun
 
 -- A pass is found to lag once at most, and no attempt follows: as the call pinned last, none had been found to.
 abbrev pub EndsAtLag : MyTree → MyTree → Type 0

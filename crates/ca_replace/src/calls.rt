@@ -5,7 +5,7 @@ ghost use Rattle.ca_replace.specs.declared.attempting.Stop.TheVariants.{Deep as 
 ghost use Rattle.ca_node.specs.Told.{with_upper};
 ghost use Rattle.ca_replace.specs.Attempting.{IsPaid, total, HasAttempted, HasDoneAs, HasMetBy, HasTriedTo, IfDeep, refused_as};
 ghost use Rattle.ca_replace.specs.Called.{HasTold};
-ghost use Rattle.ca_replace.specs.Causes.{EndsAtLag, IsCaused, IsFullSince, KeepsFew};
+ghost use Rattle.ca_replace.specs.Causes.{EndsAtLag, HasPinned, IsCaused, IsFullSince, KeepsFew};
 ghost use Rattle.ca_replace.specs.Seen.{store_of};
 ghost use Rattle.ca_base.specs.Progress.{IsRefused};
 ghost use Rattle.ca_model.specs.Known.{one_more};
@@ -163,9 +163,7 @@ fn turns<A: Attempt>(
     ensures deep { result ≡ Err IsDeep → IsFullSince (sizes tree.now.space) (A.adds order.now.what.now) (tree_of pass.new) }
     ensures counted { IsPaid course.old.spent course.new.spent (known pass.old) (known pass.new) }
     ensures found { HasMetBy result (known pass.old) (known pass.new) }
-    ensures looks { (view pass.new).pin.looks ≡ (view pass.old).pin.looks }
-    ensures lags { (view pass.new).pin.lags ≡ (view pass.old).pin.lags }
-    ensures entered { total course.old.spent < order.now.budget → (view pass.new).pin.entered.lags ≡ (view pass.old).pin.lags }
+    ensures pinned { total course.old.spent < order.now.budget → HasPinned (known pass.old) (known pass.new) }
     ensures lost { result ≡ Err IsLost → order.now.budget ≤ total course.new.spent }
     ensures no_split { result ≢ Err IsSplit }
     ensures turns { AreTurns (A.edits order.now.what.now) (A.adds order.now.what.now) (sizes tree.now.space) tree.now.tuning course.old course.new
@@ -202,8 +200,7 @@ fn once<A: Attempt>(
     ensures frame { StaysAtRest tree.now.space pass.old pass.new }
     ensures tried { HasTriedTo (λ answer. A.tells what.now answer left.new) (sizes tree.now.space) result (tree_of pass.old) (tree_of pass.new) }
     ensures deep { result ≡ Err IsDeep → IsFullSince (sizes tree.now.space) (A.adds what.now) (tree_of pass.new) }
-    ensures looks { (view pass.new).pin.looks ≡ (view pass.old).pin.looks }
-    ensures lags { ((view pass.new).pin.lags ≡ (view pass.old).pin.lags) × ((view pass.new).pin.entered.lags ≡ (view pass.old).pin.lags) }
+    ensures pinned { HasPinned (known pass.old) (known pass.new) }
     ensures turn { IsTurn (A.edits what.now) (A.adds what.now) (sizes tree.now.space) tree.now.tuning course.old course.new (view pass.new).pin.left result
         (known pass.old) (known pass.new) }
 {

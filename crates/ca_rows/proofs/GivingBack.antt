@@ -42,6 +42,7 @@ module _ {U : Type 0} where
     same_moment = refl;
     same_entered = refl;
     same_left = refl;
+    same_begun = (refl, refl);
     same_upper = refl;
     same_slots = refl;
     later = le_refl m.0.pin.scan;
@@ -68,6 +69,7 @@ module _ {U : Type 0} where
         same_moment = y.same_moment ∙ x.same_moment;
         same_entered = y.same_entered ∙ x.same_entered;
         same_left = y.same_left ∙ x.same_left;
+        same_begun = (y.same_begun.0 ∙ x.same_begun.0, y.same_begun.1 ∙ x.same_begun.1);
         same_upper = y.same_upper ∙ x.same_upper;
         same_slots = y.same_slots ∙ x.same_slots;
         later = omega arith;
@@ -132,6 +134,7 @@ module _ {U : Type 0} where
           same_moment = refl;
           same_entered = refl;
           same_left = refl;
+          same_begun = (refl, refl);
           same_upper = refl;
           same_slots = refl;
           later = le_refl m.0.pin.scan;

@@ -1,5 +1,5 @@
 -- Announcing the epoch and taking the announcement back keep the rule.
-use Rattle.std.proofs.Common.{◌≡◌, ◌≢◌, ℕ, ◌+◌, ◌*◌, ◌<◌, ◌≤◌, true, false, List, map, get_or, set, sym, refl, ap, ◌∙◌, subst, inr, ⊎_elim, arith, le_refl, length-set, get_or-set_other, get_or-set_same}
+use Rattle.std.proofs.Common.{◌≡◌, ◌≢◌, ◌==◌, cond, ℕ, ◌+◌, ◌*◌, ◌<◌, ◌≤◌, true, false, List, map, get_or, set, sym, refl, ap, ◌∙◌, subst, inr, ⊎_elim, arith, le_refl, length-set, get_or-set_other, get_or-set_same}
 use Rattle.std.proofs.lemmas.List.{set-get_or}
 use mathlib.Core.Option.{some, none}
 use lib.ListN.{get_elem?}
@@ -11,7 +11,7 @@ use Rattle.ca_rows.specs.declared.view.View.{View}
 use Rattle.ca_rows.specs.Laws.{Agrees, Framed, Frames, Pinning}
 use Rattle.ca_rows.specs.Pins.{IsPin}
 use Rattle.ca_rows.specs.Rule.{upper_of, pin_of, Ruled}
-use Rattle.ca_rows.specs.Told.{Mine, Asked, Announced, Left, met_of}
+use Rattle.ca_rows.specs.Told.{Mine, Asked, Announced, Left, begun_of, met_of}
 use Rattle.ca_rows.specs.Words.{epoch, announced}
 use Rattle.ca_rows.proofs.Pinned.{NewPin, pins_step, repinned}
 use Rattle.ca_rows.specs.Layout.{row_words}
@@ -175,6 +175,8 @@ module _ {U : Type 0} (linked lent : List ℕ → ℕ → Type 0) (noted : List 
                         epoch s.words;
                     entered =
                         record { lost = d.lost; empty = d.empty; worn = d.worn; lags = d.pin.lags };
+                    begun = cond (d.pin.looks == d.pin.begun_at) d.pin.begun d.claims;
+                    begun_at = d.pin.looks;
                   };
               upper =
                   enters d.upper;
@@ -189,6 +191,8 @@ module _ {U : Type 0} (linked lent : List ℕ → ℕ → Type 0) (noted : List 
                 epoch s.words;
             entered =
                 record { lost = d.lost; empty = d.empty; worn = d.worn; lags = d.pin.lags };
+            begun = cond (d.pin.looks == d.pin.begun_at) d.pin.begun d.claims;
+            begun_at = d.pin.looks;
           } in
           stores lo (d.pin.told + 1) e' (enters d.upper)
           record {
@@ -281,6 +285,8 @@ module _ {U : Type 0} (linked lent : List ℕ → ℕ → Type 0) (noted : List 
                     true;
                 moment = epoch s.words;
                 entered = met_of me;
+                begun = begun_of me;
+                begun_at = me.0.pin.looks;
               };
           upper = enters me.0.upper;
         } in (

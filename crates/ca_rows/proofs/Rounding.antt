@@ -40,6 +40,7 @@ module _ {U : Type 0} where
         same_moment = refl;
         same_entered = refl;
         same_left = refl;
+        same_begun = (refl, refl);
         same_upper = refl;
         same_slots = refl;
         later = up;
@@ -65,6 +66,7 @@ module _ {U : Type 0} where
     same_moment = refl;
     same_entered = refl;
     same_left = refl;
+    same_begun = (refl, refl);
     same_upper = refl;
     same_slots = refl;
     later = le_refl m.0.pin.scan;

@@ -11,7 +11,7 @@ use Rattle.ca_rows.specs.declared.view.Claim.TheVariants.{Holds}
 use Rattle.ca_rows.specs.declared.view.Pin.{Pin}
 use Rattle.ca_rows.specs.declared.view.View.{View}
 use Rattle.ca_rows.specs.Claims.{claim_of, claimed, dropped}
-use Rattle.ca_rows.specs.Told.{Mine, with_claims, with_most, found_empty, found_worn, met_of, missed, relinked}
+use Rattle.ca_rows.specs.Told.{Mine, with_claims, with_most, found_empty, found_worn, begun_of, met_of, missed, relinked}
 use Rattle.ca_rows.specs.Layout.{row_words}
 
 module _ {U : Type 0} where
@@ -67,10 +67,17 @@ module _ {U : Type 0} where
   WritesWord row index value m m' = (its : List ℕ) → claim_of m.0.claims row ≡ some (Holds its)
       → m' ≡ (record m.0 { claims = claimed row (Holds (slice_set its index value)) m.0.claims }, m.1)
 
-  -- The pass is pinned: it announced an epoch, at one that isn't lower. What it had met of the pool is noted.
+  -- The pass is pinned: it announced an epoch, at one that isn't lower. What it had met of the pool is noted, and which rows are its.
   abbrev pub Pins : (U → U) → Mine U → Mine U → Type 0
   Pins enters m m' = (told : ℕ) × (moment : ℕ) × (told ≤ moment) × (m' ≡ (record m.0 {
-    pin = record m.0.pin { pinned = true; told = told; moment = moment; entered = met_of m };
+    pin = record m.0.pin {
+      pinned = true;
+      told = told;
+      moment = moment;
+      entered = met_of m;
+      begun = begun_of m;
+      begun_at = m.0.pin.looks;
+    };
     upper = enters m.0.upper;
   }, m.1))
 

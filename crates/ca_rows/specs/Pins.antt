@@ -1,5 +1,5 @@
 -- Pins and the epoch.
-use Rattle.std.specs.Prelude.{◌≡◌, ℕ, ◌+◌, ◌<◌, ◌≤◌, true, false, List}
+use Rattle.std.specs.Prelude.{◌≡◌, ℕ, ◌+◌, ◌<◌, ◌≤◌, true, false, List, []}
 use mathlib.Core.Option.{some}
 use lib.ListN.{get_elem?}
 use Rattle.ca_rows.specs.declared.view.Met.{Met}
@@ -19,6 +19,8 @@ unpinned number = record {
   moment = 0;
   entered = nothing_met;
   left = nothing_met;
+  begun = [];
+  begun_at = 0;
   scan = 0;
   upto = 0;
   lag = 0;

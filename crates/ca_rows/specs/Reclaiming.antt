@@ -24,6 +24,7 @@ module _ {U : Type 0} where
     pub same_moment : m'.0.pin.moment ≡ m.0.pin.moment
     pub same_entered : m'.0.pin.entered ≡ m.0.pin.entered
     pub same_left : m'.0.pin.left ≡ m.0.pin.left
+    pub same_begun : (m'.0.pin.begun ≡ m.0.pin.begun) × (m'.0.pin.begun_at ≡ m.0.pin.begun_at)
     pub same_upper : m'.0.upper ≡ m.0.upper
     pub same_slots : m'.1 ≡ m.1
     pub later : m.0.pin.scan ≤ m'.0.pin.scan

@@ -1,5 +1,5 @@
 -- What each step of the rows tells.
-use Rattle.std.specs.Prelude.{◌≡◌, ◌≢◌, ◌⊎◌, ℕ, ◌+◌, ◌*◌, ◌/◌, ◌%◌, ◌<◌, ◌≤◌, max, true, false, List, length, slice_index, slice_set}
+use Rattle.std.specs.Prelude.{◌≡◌, ◌≢◌, ◌⊎◌, ◌==◌, ℕ, cond, ◌+◌, ◌*◌, ◌/◌, ◌%◌, ◌<◌, ◌≤◌, max, true, false, List, length, slice_index, slice_set}
 use mathlib.Core.Option.{some, none}
 use Rattle.atomic_table.specs.Table.{Me, Step}
 use Rattle.ca_rows.specs.declared.view.Claim.TheVariants.{Holds, Keeps}
@@ -92,14 +92,21 @@ module _ {U : Type 0} where
   abbrev pub met_of : Mine U → Met
   met_of m = record { lost = m.0.lost; empty = m.0.empty; worn = m.0.worn; lags = m.0.pin.lags }
 
+  -- the rows that are noted as a seat announces: its own, where it is the first time since its last look at the others
+  abbrev pub begun_of : Mine U → List Claimed
+  begun_of m = cond (m.0.pin.looks == m.0.pin.begun_at) m.0.pin.begun m.0.claims
+
   -- The epoch was loaded, to announce it.
   abbrev pub Asked : Step (Unit {0}) → Mine U → ℕ → Mine U → Type 0
   Asked st m n m' = (n ≤ 4611686018427387904) × (m' ≡ with_pin m (record m.0.pin { told = n }))
 
-  -- It was announced, at an epoch that isn't lower. What the seat has met of the pool until then is noted.
+  -- It was announced, at an epoch that isn't lower. What the seat has met of the pool until then is noted, and which rows are its.
   abbrev pub Announced : (U → U) → Step (Unit {0}) → Mine U → ℕ → Mine U → Type 0
   Announced enters st m n m' = (moment : ℕ) × (m.0.pin.told ≤ moment)
-      × (m' ≡ (record m.0 { pin = record m.0.pin { pinned = true; moment = moment; entered = met_of m }; upper = enters m.0.upper }, m.1))
+      × (m' ≡ (record m.0 {
+        pin = record m.0.pin { pinned = true; moment = moment; entered = met_of m; begun = begun_of m; begun_at = m.0.pin.looks };
+        upper = enters m.0.upper;
+      }, m.1))
 
   -- The announcement was taken back. What the seat has met of the pool until then is noted.
   abbrev pub Left : (U → U) → Step (Unit {0}) → Mine U → ℕ → Mine U → Type 0

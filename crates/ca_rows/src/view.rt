@@ -51,6 +51,9 @@ pub struct Pin {
     /// What it had met of the pool as it announced, and as it took the announcement back last.
     pub entered: Met,
     pub left: Met,
+    /// The rows that were its as it announced first since its last look at the others, and how many looks it had begun then.
+    pub begun: LinkedList<Claimed>,
+    pub begun_at: u64,
     /// The epoch as its last look at the others began, or to which it moved it then.
     pub scan: u64,
     /// How many passes it looked at since.

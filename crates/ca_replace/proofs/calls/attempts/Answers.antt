@@ -7,7 +7,8 @@ use Rattle.ca_replace.specs.Adapting.{IsMetAs, MeetsAs, Waits}
 use Rattle.ca_replace.specs.Causes.{IsFullSince, IsRefill}
 use Rattle.ca_replace.specs.Attempting.{HasMetBy, total}
 use Rattle.ca_replace.specs.Growing.{HasWaited}
-use Rattle.ca_replace.proofs.Causing.{begun_with, caused_as, empty_before, few_from, nearer, refill_caused}
+use Rattle.ca_replace.proofs.Causing.{caused_as, few_from, nearer, refill_caused}
+use Rattle.ca_replace.proofs.Pinning.{begun_with, empty_before}
 use Rattle.ca_replace.proofs.Counted.{none_paid, paid_both, paid_given, spends_more}
 use Rattle.ca_replace.proofs.GoingOn.{gone_on, idle_waits, refused_gone, stopped_waits, waits_on}
 use Rattle.ca_replace.proofs.Meeting.{further_on}
@@ -88,7 +89,7 @@ loop-come-preserved g c = let i = c.loop-come.invariant in
           (paid_both c.args.course.now.spent c.loop-come.course.spent c.turns-come.new.course.spent
           start before behind i.counted c.turns-come.ensures.counted)
           c.refill.ensures.counted;
-      looks = let before = i.looks in let same = c.turns-come.ensures.looks in
+      looks = let before = i.looks in let same = (c.turns-come.ensures.pinned i.unspent).looks in
           let more = c.refill.ensures.looked in omega arith;
       waits = subst (Waits c.args.course.now.adapting c.turns-come.new.course.adapting
           start.0.upper) (sym c.refill.ensures.upper)
@@ -127,27 +128,31 @@ loop-come-preserved g c = let i = c.loop-come.invariant in
           i.full c.turns-come.ensures.turns.cut));
       worn = omega (arith, i.worn, met.1, given.1);
       unspent = (c.in_default.ensures.again refl).1;
-      lags = c.in_default.ensures.unlagged refl ∙ (c.turns-come.ensures.lags ∙ i.lags);
+      lags = c.in_default.ensures.unlagged refl
+          ∙ ((c.turns-come.ensures.pinned i.unspent).lags ∙ i.lags);
       first = inr (empty_before (vec_len c.loop-come.pass.kept.rows) c.kept-kept.result
           (vec_len c.refill.new.pass.kept.rows) start before behind last
           c.args.pass.now.kept.rows c.kept-kept.ensures (c.in_default.ensures.again refl).0
           (let one = i.counted.more in let two = c.turns-come.ensures.counted.more in
           omega arith)
-          (c.in_default.ensures.begins refl) i.first met given);
+          (c.in_default.ensures.begins refl) i.first met given
+          (c.turns-come.ensures.pinned i.unspent) c.refill.ensures.lags c.refill.ensures.looked);
     }
 
 pub returns-in-Err-clause-few : goal.returns-in-Err-clause-few
 returns-in-Err-clause-few g c =
     few_from c.args.pass.now.seat.me c.turns-come.new.pass.seat.me c.refill.new.pass.seat.me
     c.refill.new.pass.kept.rows
-    (let before = c.loop-come.invariant.looks in let same = c.turns-come.ensures.looks in
+    (let before = c.loop-come.invariant.looks in
+    let same = (c.turns-come.ensures.pinned c.loop-come.invariant.unspent).looks in
     omega arith) (c.in-Err.ensures.few refl)
 
 pub returns-else-is_empty-clause-few : goal.returns-else-is_empty-clause-few
 returns-else-is_empty-clause-few g c =
     few_from c.args.pass.now.seat.me c.turns-come.new.pass.seat.me c.keep_few.new.pass.seat.me
     c.keep_few.new.pass.kept.rows
-    (let before = c.loop-come.invariant.looks in let same = c.turns-come.ensures.looks in
+    (let before = c.loop-come.invariant.looks in
+    let same = (c.turns-come.ensures.pinned c.loop-come.invariant.unspent).looks in
     omega arith) c.keep_few.ensures.few
 
 pub returns-else-is_empty-clause-come : goal.returns-else-is_empty-clause-come
@@ -180,11 +185,13 @@ returns-in-Err-clause-caused g c = let i = c.loop-come.invariant in
           start before behind i.counted
           c.turns-come.ensures.counted) c.refill.ensures.counted;
     }
-    (begun_with c.kept-kept.result (vec_len c.loop-come.pass.kept.rows) start before behind last
-    c.args.pass.now.kept.rows c.kept-kept.ensures i.first
+    (begun_with z.rows c.kept-kept.result start before behind last
+    c.args.pass.now.kept.rows c.loop-come.pass.kept.rows c.kept-kept.ensures i.resting.are_kept
+    i.first
     (let two = c.turns-come.ensures.counted.more in let three = c.refill.ensures.counted.more in
-    omega arith) met c.refill.ensures.met)
-    (let more = i.looks in let same = c.turns-come.ensures.looks in omega arith)
+    omega arith) met c.refill.ensures.met (c.turns-come.ensures.pinned i.unspent)
+    c.refill.ensures.lags)
+    (let more = i.looks in let same = (c.turns-come.ensures.pinned i.unspent).looks in omega arith)
     (subst (λ (k : ℕ).
     IsRefill z.passes k c.args.order.now.budget c.kept-kept.result c.refill.new.spent
     c.in-Err.why behind last c.refill.new.pass.kept.rows)
@@ -232,16 +239,16 @@ returns-else-is_empty-clause-caused g c = let i = c.loop-come.invariant in
 
 pub returns-in-Err-clause-lags : goal.returns-in-Err-clause-lags
 returns-in-Err-clause-lags g c = let i = c.loop-come.invariant in
-    let same = c.turns-come.ensures.lags in let once = c.refill.ensures.lags in (
+    let same = (c.turns-come.ensures.pinned i.unspent).lags in let once = c.refill.ensures.lags in (
       (let before = i.lags in let one = once.0 in omega arith),
-      ap (λ (x : Met). x.lags) once.1 ∙ (c.turns-come.ensures.entered i.unspent ∙ i.lags),
+      ap (λ (x : Met). x.lags) once.1 ∙ ((c.turns-come.ensures.pinned i.unspent).entered ∙ i.lags),
     )
 
 pub returns-else-is_empty-clause-lags : goal.returns-else-is_empty-clause-lags
 returns-else-is_empty-clause-lags g c = let i = c.loop-come.invariant in
-    let same = c.turns-come.ensures.lags in let once = c.keep_few.ensures.lags in (
+    let same = (c.turns-come.ensures.pinned i.unspent).lags in let once = c.keep_few.ensures.lags in (
       (let before = i.lags in let one = once.0 in omega arith),
-      ap (λ (x : Met). x.lags) once.1 ∙ (c.turns-come.ensures.entered i.unspent ∙ i.lags),
+      ap (λ (x : Met). x.lags) once.1 ∙ ((c.turns-come.ensures.pinned i.unspent).entered ∙ i.lags),
     )
 
 pub returns-in-Err-clause-turns : goal.returns-in-Err-clause-turns

@@ -1,4 +1,4 @@
-use Rattle.std.proofs.Common.{◌≡◌, ◌⊎◌, ◌+◌, ◌-◌, ◌*◌, ◌<◌, ◌≤◌, min, vec_len}
+use Rattle.std.proofs.Common.{◌≡◌, ◌≢◌, ◌⊎◌, ◌+◌, ◌-◌, ◌*◌, ◌<◌, ◌≤◌, min, vec_len}
 use Rattle.ca_base.specs.Counting.{losses}
 use Rattle.ca_base.specs.Progress.{IsFurther}
 use Rattle.ca_node.specs.States.{IsAlone}
@@ -31,7 +31,8 @@ invariant-loop-come g l = record {
       × (l.pass.seat.me.0.empty ≡ l.fn.pass.seat.me.0.empty))
       ⊎ ((l.fn.pass.seat.me.0.empty + 1 ≤ l.pass.seat.me.0.empty)
       × (0 < vec_len l.fn.pass.kept.rows)
-      × ((vec_len l.pass.kept.rows ≡ 0) ⊎ (losses l.fn.pass.seat.me < losses l.pass.seat.me)));
+      × ((vec_len l.pass.kept.rows ≡ 0) ⊎ (losses l.fn.pass.seat.me < losses l.pass.seat.me))
+      × (l.pass.seat.me.0.pin.looks ≢ l.pass.seat.me.0.pin.begun_at));
   unspent : total l.course.spent < l.order.budget;
   lags : l.pass.seat.me.0.pin.lags ≡ l.fn.pass.seat.me.0.pin.lags;
 }

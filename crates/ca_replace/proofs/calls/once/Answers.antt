@@ -4,6 +4,7 @@ use Rattle.ca_node.proofs.Tallies.{tallied_still}
 use Rattle.ca_replace.specs.Attempting.{HasTriedTo}
 use Rattle.ca_replace.specs.Causes.{IsFullSince}
 use Rattle.ca_replace.proofs.GoingOn.{gone_pinned}
+use Rattle.ca_replace.proofs.Pinning.{pinned_once}
 use Rattle.ca_replace.proofs.Turns.{known_pinned, rests_as, rests_again, none_pinned, tried_pinned, tried_known}
 use Rattle.ca_rows.specs.declared.view.Pin.{Pin}
 use Rattle.ca_replace.proofs.Growing.{grown_pinned}
@@ -87,14 +88,20 @@ returns-clause-deep g c deep = subst
     (g.A.Attempt.adds c.args.what.now) m.0.upper) (sym c.unpin.ensures.unpinned)
     (c.attempt-tried.ensures.deep deep)
 
-pub returns-clause-lags : goal.returns-clause-lags
-returns-clause-lags g c = let pin = ap (λ (m : MyTree). m.0.pin) c.pin.ensures.pinned.3 in
+pub returns-clause-pinned : goal.returns-clause-pinned
+returns-clause-pinned g c = let pin = ap (λ (m : MyTree). m.0.pin) c.pin.ensures.pinned.3 in
     let last = c.attempt-tried.ensures.frame.pin.1 in
-    let out = ap (λ (m : MyTree). m.0.pin) c.unpin.ensures.unpinned in (
-      ap (λ (e : Pin). e.lags) out ∙ (ap (λ (e : Pin). e.lags) last ∙ ap (λ (e : Pin). e.lags) pin),
-      ap (λ (e : Pin). e.entered.lags) out
-          ∙ (ap (λ (e : Pin). e.entered.lags) last ∙ ap (λ (e : Pin). e.entered.lags) pin),
-    )
+    let out = ap (λ (m : MyTree). m.0.pin) c.unpin.ensures.unpinned in
+    pinned_once c.args.pass.now.seat.me c.unpin.new.pass.seat.me
+    (ap (λ (e : Pin). e.lags) out ∙ (ap (λ (e : Pin). e.lags) last ∙ ap (λ (e : Pin). e.lags) pin))
+    (ap (λ (e : Pin). e.looks) out
+    ∙ (ap (λ (e : Pin). e.looks) last ∙ ap (λ (e : Pin). e.looks) pin))
+    (ap (λ (e : Pin). e.entered.lags) out
+    ∙ (ap (λ (e : Pin). e.entered.lags) last ∙ ap (λ (e : Pin). e.entered.lags) pin))
+    (ap (λ (e : Pin). e.begun_at) out
+    ∙ (ap (λ (e : Pin). e.begun_at) last ∙ ap (λ (e : Pin). e.begun_at) pin))
+    (ap (λ (e : Pin). e.begun) out
+    ∙ (ap (λ (e : Pin). e.begun) last ∙ ap (λ (e : Pin). e.begun) pin))
 
 pub returns-clause-turn : goal.returns-clause-turn
 returns-clause-turn g c = record {

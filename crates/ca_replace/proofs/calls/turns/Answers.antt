@@ -3,7 +3,9 @@ use Rattle.ca_replace.specs.Attempting.{total}
 use Rattle.ca_base.proofs.Counts.{met_both}
 use Rattle.ca_replace.proofs.Counted.{met_turn, met_then, none_met, none_paid, one_turn_less, paid_both}
 use Rattle.ca_replace.proofs.GoingOn.{gone_on, idle_waits, turn_waits, waits_on}
+use Rattle.ca_replace.specs.Causes.{HasPinned}
 use Rattle.ca_replace.proofs.Meeting.{further_on}
+use Rattle.ca_replace.proofs.Pinning.{pinned_behind}
 use Rattle.ca_replace.proofs.Showing.{tried_on}
 use Rattle.ca_replace.proofs.Turns.{turn_further, no_further}
 use Rattle.ca_replace.proofs.Growing.{alone_on, one_more_attempt, turn_waited}
@@ -18,9 +20,7 @@ loop-pass-init g c = record {
   further = no_further c.args.pass.now.seat.me.0.upper;
   counted = none_paid c.args.course.now.spent c.args.pass.now.seat.me c.args.pass.now.seat.me refl
       refl;
-  looks = refl;
-  lags = refl;
-  entered = inl refl;
+  pinned = inl (refl, refl, refl);
   met = none_met c.args.pass.now.seat.me;
   waits = idle_waits c.args.course.now.adapting c.args.pass.now.seat.me.0.upper
       c.args.pass.now.seat.me.0.upper (refl, refl);
@@ -49,9 +49,10 @@ loop-pass-preserved g c =
       counted = paid_both c.args.course.now.spent c.loop-pass.course.spent c.once-tried.new.course.spent
           c.args.pass.now.seat.me c.loop-pass.pass.seat.me
           c.once-tried.new.pass.seat.me c.loop-pass.invariant.counted c.once-tried.ensures.turn.counted;
-      looks = c.once-tried.ensures.looks ∙ c.loop-pass.invariant.looks;
-      lags = c.once-tried.ensures.lags.0 ∙ c.loop-pass.invariant.lags;
-      entered = inr (c.once-tried.ensures.lags.1 ∙ c.loop-pass.invariant.lags);
+      pinned = inr (pinned_behind c.args.pass.now.seat.me c.loop-pass.pass.seat.me
+          c.once-tried.new.pass.seat.me
+          (⊎_elim (λ s. inl (s.1, s.2)) (λ p. inr p) c.loop-pass.invariant.pinned)
+          c.once-tried.ensures.pinned);
       met = met_both 0 0 0 0 c.args.pass.now.seat.me c.loop-pass.pass.seat.me
           c.once-tried.new.pass.seat.me c.loop-pass.invariant.met
           (met_turn c.once-tried.result c.loop-pass.pass.seat.me c.once-tried.new.pass.seat.me
@@ -153,21 +154,22 @@ returns-clause-counted g c = c.loop-pass.invariant.counted
 pub returns-clause-found : goal.returns-clause-found
 returns-clause-found g c = c.loop-pass.invariant.met
 
-pub returns-clause-entered : goal.returns-clause-entered
-returns-clause-entered g c unspent = ⊎_elim
-    (λ (same : c.loop-pass.course.spent ≡ c.args.course.now.spent).
+pub returns-clause-pinned : goal.returns-clause-pinned
+returns-clause-pinned g c unspent = ⊎_elim
+    (λ (same : (c.loop-pass.course.spent ≡ c.args.course.now.spent)
+    × (c.loop-pass.pass.seat.me.0.pin ≡ c.args.pass.now.seat.me.0.pin)
+    × (c.loop-pass.pass.seat.me.0.claims ≡ c.args.pass.now.seat.me.0.claims)).
     let most = c.budget-budget.type_inv in let is = c.budget-budget.ensures in
-    let none = ap total same in
+    let none = ap total same.0 in
     let spent = c.loop-pass-test.false in let all = c.spent_in_all.ensures in absurd (omega arith))
-    (λ (e : c.loop-pass.pass.seat.me.0.pin.entered.lags ≡ c.args.pass.now.seat.me.0.pin.lags). e)
-    c.loop-pass.invariant.entered
+    (λ (p : HasPinned c.args.pass.now.seat.me c.loop-pass.pass.seat.me). p)
+    c.loop-pass.invariant.pinned
 
-pub returns-then-not-has_next-clause-entered : goal.returns-then-not-has_next-clause-entered
-returns-then-not-has_next-clause-entered g c _ = c.once-tried.ensures.lags.1
-    ∙ c.loop-pass.invariant.lags
-
-pub returns-then-not-has_next-clause-lags : goal.returns-then-not-has_next-clause-lags
-returns-then-not-has_next-clause-lags g c = c.once-tried.ensures.lags.0 ∙ c.loop-pass.invariant.lags
+pub returns-then-not-has_next-clause-pinned : goal.returns-then-not-has_next-clause-pinned
+returns-then-not-has_next-clause-pinned g c _ = pinned_behind c.args.pass.now.seat.me
+    c.loop-pass.pass.seat.me c.once-tried.new.pass.seat.me
+    (⊎_elim (λ s. inl (s.1, s.2)) (λ p. inr p) c.loop-pass.invariant.pinned)
+    c.once-tried.ensures.pinned
 
 pub returns-clause-turns : goal.returns-clause-turns
 returns-clause-turns g c = record {

@@ -4,6 +4,7 @@ use Rattle.ca_base.specs.Progress.{IsFurther}
 use Rattle.ca_node.specs.States.{IsAlone}
 use Rattle.ca_replace.specs.Adapting.{Waits}
 use Rattle.ca_replace.specs.Attempting.{IsPaid, total}
+use Rattle.ca_replace.specs.Causes.{HasPinned}
 use Rattle.ca_replace.specs.Cutting.{HasCutFull}
 use Rattle.ca_replace.specs.Growing.{HasWaited}
 use Rattle.ca_replace.specs.Resting.{IsResting}
@@ -16,12 +17,11 @@ invariant-loop-pass g l = record {
       l.pass.tally l.pass.kept.rows l.pass.seat;
   further : IsFurther l.fn.pass.seat.me.0.upper l.pass.seat.me.0.upper;
   counted : IsPaid l.fn.course.spent l.course.spent l.fn.pass.seat.me l.pass.seat.me;
-  looks : l.pass.seat.me.0.pin.looks ≡ l.fn.pass.seat.me.0.pin.looks;
-  lags : l.pass.seat.me.0.pin.lags ≡ l.fn.pass.seat.me.0.pin.lags;
-  -- No attempt was made yet, or the pass pinned in this call: no other one had been found to lag
-  -- until then.
-  entered : (l.course.spent ≡ l.fn.course.spent)
-      ⊎ (l.pass.seat.me.0.pin.entered.lags ≡ l.fn.pass.seat.me.0.pin.lags);
+  -- No turn was made yet, or the pass pinned.
+  pinned : ((l.course.spent ≡ l.fn.course.spent)
+      × (l.pass.seat.me.0.pin ≡ l.fn.pass.seat.me.0.pin)
+      × (l.pass.seat.me.0.claims ≡ l.fn.pass.seat.me.0.claims))
+      ⊎ HasPinned l.fn.pass.seat.me l.pass.seat.me;
   met : HasMet 0 0 l.fn.pass.seat.me l.pass.seat.me;
   waits : Waits l.fn.course.adapting l.course.adapting l.fn.pass.seat.me.0.upper
       l.pass.seat.me.0.upper;
