@@ -33,10 +33,6 @@ pub record IsObjectShown (u : TreeView) (row : ℕ) (its : List ℕ) : Type 0 wh
   pub shown : IsShown u row its
   pub long : length its ≡ row_words
 
--- The pass was shown the object row, one of a space of these sizes.
-abbrev pub IsObjectIn : Sizes → TreeView → ℕ → Type 0
-IsObjectIn z u row = (row ≤ z.rows) × ((its : List ℕ) × IsObjectShown u row its)
-
 -- all bytes that an object row has room for; the object's are the first of them
 abbrev pub all_bytes : List ℕ → List ℕ
 all_bytes its = bytes_in (drop body_word its)

@@ -1,5 +1,6 @@
 pub mod Counting
 pub mod Finding
+pub mod Holding
 pub mod Objects
 pub mod Progress
 pub mod Putting

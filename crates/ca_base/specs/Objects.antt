@@ -1,5 +1,5 @@
 -- The objects of a base that a pass was shown, in a line, and a key that is looked for among them.
-use Rattle.std.specs.Prelude.{◌≡◌, ℕ, ◌<◌, true, List, [], length, slice_index_or}
+use Rattle.std.specs.Prelude.{◌≡◌, ℕ, ◌<◌, ◌≤◌, true, List, [], length, slice_index_or}
 use Rattle.std.proofs.Common.{refl, subst, sym, ap, ◌∙◌}
 use Rattle.std.specs.declared.cmp.Ordering.{Ordering}
 use Rattle.ca_model.specs.StoreMap.{bytes_cmp}
@@ -7,7 +7,7 @@ use Rattle.ca_node.specs.Row.{pair}
 use Rattle.ca_node.specs.Told.{MyTree}
 use Rattle.ca_node.specs.TreePasses.{tree_of}
 use Rattle.ca_node.specs.TreeView.{Note, TreeView}
-use Rattle.ca_base.specs.Finding.{IsReadable, HasPlace}
+use Rattle.ca_base.specs.Finding.{IsReadable, IsObjectShown, HasPlace}
 use Rattle.ca_base.specs.Writing.{HasBytes}
 use Rattle.ca_rows.specs.declared.sizes.Sizes.{Sizes}
 use Rattle.ca_rows.specs.declared.space.Pass.{Pass}
@@ -20,6 +20,12 @@ StandsAs z u base key place order = (note : Note) → IsReadable z u base note �
     → order ≡ bytes_cmp (pair (slice_index_or note.objects place [])).0 key
 
 module _ {R : Type 0} where
+  -- The pass is pinned, and was shown the object row.
+  pub record IsObjectRead (space : Space R TreeView) (pass : Pass R TreeView) (row : ℕ) : Type 0 where
+    pub reading : IsReading space pass
+    pub inside : row ≤ (sizes space).rows
+    pub shown : (its : List ℕ) × IsObjectShown (tree_of pass) row its
+
   -- The pass is pinned, and was shown the base, which has an object at this place; this word has the first bytes of the key that is looked for.
   pub record IsComparable (space : Space R TreeView) (pass : Pass R TreeView) (base : ℕ) (key : List ℕ) (front place : ℕ) : Type 0 where
     pub reading : IsReading space pass

@@ -4,9 +4,10 @@ ghost use Rattle.std.specs.Prelude.{◌≡◌, ℕ, ◌+◌, ◌-◌, ◌*◌, �
 ghost use Rattle.std.specs.Int.{to_be_bytes, w64};
 ghost use Rattle.ca_model.specs.StoreMap.{bytes_cmp};
 ghost use Rattle.ca_node.specs.Row.{pair};
-ghost use Rattle.ca_base.specs.Finding.{IsObjectIn, IsObjectShown, all_bytes};
+ghost use Rattle.ca_base.specs.Finding.{IsObjectShown, all_bytes};
 ghost use Rattle.ca_base.specs.Writing.{HasBytes};
-ghost use Rattle.ca_rows.specs.Passes.{OnlyReads, IsReading, sizes};
+ghost use Rattle.ca_base.specs.Objects.{IsObjectRead};
+ghost use Rattle.ca_rows.specs.Passes.{OnlyReads};
 ghost use Rattle.ca_node.specs.TreePasses.{tree_of};
 
 use crate::writing::word_of;
@@ -23,8 +24,7 @@ pub(crate) fn compare_by(
     key: &[u8],
     front: u64,
 ) -> Ordering
-    requires reading { IsReading space.now pass.old }
-    requires shown { IsObjectIn (sizes space.now) (tree_of pass.old) row }
+    requires object { IsObjectRead space.now pass.old row }
     requires front { HasBytes key.now front }
     ensures frame { OnlyReads pass.old pass.new }
     ensures order { (its : List ℕ) → IsObjectShown (tree_of pass.old) row its → result ≡ bytes_cmp (pair its).0 key.now }
@@ -50,8 +50,7 @@ pub(crate) fn compare_by(
 
 // Between which bytes of an object that the pass was shown its key stands.
 pub(crate) fn key_bytes(space: &TreeSpace, pass: &mut TreePass, row: u32) -> (usize, usize)
-    requires reading { IsReading space.now pass.old }
-    requires shown { IsObjectIn (sizes space.now) (tree_of pass.old) row }
+    requires object { IsObjectRead space.now pass.old row }
     ensures frame { OnlyReads pass.old pass.new }
     ensures range { (result.0 ≤ result.1) × (result.1 ≤ 1000) }
     ensures key { (its : List ℕ) → IsObjectShown (tree_of pass.old) row its → (pair its).0 ≡ slice_range (all_bytes its) result.0 result.1 }
@@ -65,8 +64,7 @@ pub(crate) fn key_bytes(space: &TreeSpace, pass: &mut TreePass, row: u32) -> (us
 
 // The word with a byte of an object that the pass was shown. Behind the last byte that is wanted nothing is loaded.
 fn word_with(space: &TreeSpace, pass: &mut TreePass, row: u32, at: usize, stop: usize) -> u64
-    requires reading { IsReading space.now pass.old }
-    requires shown { IsObjectIn (sizes space.now) (tree_of pass.old) row }
+    requires object { IsObjectRead space.now pass.old row }
     requires few { stop ≤ 1000 }
     ensures frame { OnlyReads pass.old pass.new }
     ensures word { (its : List ℕ) → IsObjectShown (tree_of pass.old) row its → at < stop → result ≡ slice_index (drop body_word its) (at / 8) }

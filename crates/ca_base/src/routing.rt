@@ -1,11 +1,13 @@
 //! The rows of a split are written: a route, its key, and the halves of a base.
 ghost use Rattle.std.specs.Prelude.{◌≡◌, ℕ, ◌+◌, ◌<◌, ◌≤◌, List, length, take, drop};
 ghost use Rattle.ca_node.specs.Row.{pair};
-ghost use Rattle.ca_base.specs.Finding.{IsObjectIn, IsObjectShown};
+ghost use Rattle.ca_base.specs.Finding.{IsObjectShown};
 ghost use Rattle.ca_base.specs.Putting.{IsShownLast, last_items};
 ghost use Rattle.ca_base.specs.Splitting.{SpellsRoute};
 ghost use Rattle.ca_base.specs.Writing.{IsHeldIn, SpellsBase, HasWritten};
-ghost use Rattle.ca_rows.specs.Passes.{OnlyReads, IsOn, IsReading, StillKeepsList, sizes, known};
+ghost use Rattle.ca_base.specs.Holding.{HoldsRow};
+ghost use Rattle.ca_base.specs.Objects.{IsObjectRead};
+ghost use Rattle.ca_rows.specs.Passes.{OnlyReads, IsReading, StillKeepsList, sizes, known};
 ghost use Rattle.ca_node.specs.TreePasses.{tree_of};
 
 use crate::comparing::key_bytes;
@@ -34,8 +36,7 @@ pub(crate) fn write_route(
     key: &[u8],
     attempt: u64,
 )
-    requires own { IsOn space.now pass.old }
-    requires held { IsHeldIn (sizes space.now) (known pass.old) fork.route }
+    requires row { HoldsRow space.now pass.old fork.route }
     requires short { length key.now ≤ 1000 }
     requires attempt { attempt < 4611686018427387904 }
     ensures frame { StillKeepsList pass.old pass.new }
@@ -63,8 +64,7 @@ pub(crate) fn write_half(space: &TreeSpace, pass: &mut TreePass, row: u32, level
 
 /// Copies the key of an object that the pass was shown, a word at a time.
 pub(crate) fn copy_key(space: &TreeSpace, pass: &mut TreePass, row: u32, into: &mut Code)
-    requires reading { IsReading space.now pass.old }
-    requires shown { IsObjectIn (sizes space.now) (tree_of pass.old) row }
+    requires object { IsObjectRead space.now pass.old row }
     ensures frame { OnlyReads pass.old pass.new }
     ensures key { (its : List ℕ) → IsObjectShown (tree_of pass.old) row its → into.new.items ≡ (pair its).0 }
 {

@@ -2,8 +2,9 @@
 ghost use Rattle.ca_node.specs.Layout.{body_word, form_unit};
 ghost use Rattle.ca_rows.specs.Layout.{row_words};
 ghost use Rattle.std.specs.Prelude.{◌≡◌, ◌+◌, ◌-◌, ◌*◌, ◌/◌, ◌%◌, ◌<◌, ◌≤◌, length, slice_index};
-ghost use Rattle.ca_base.specs.Writing.{IsHeldIn, HasSet, HasFilled, HasBytes, HasEight, SpellsObject, SpellsBase, HasWritten, base_head};
-ghost use Rattle.ca_rows.specs.Passes.{IsOn, StillKeepsList, sizes, known};
+ghost use Rattle.ca_base.specs.Writing.{HasSet, HasFilled, HasBytes, HasEight, SpellsObject, SpellsBase, HasWritten, base_head};
+ghost use Rattle.ca_base.specs.Holding.{HoldsRow};
+ghost use Rattle.ca_rows.specs.Passes.{StillKeepsList, known};
 
 use ca_node::{BASE, BODY, OBJECT, TreePass, TreeSpace};
 use ca_rows::ROW_WORDS;
@@ -18,8 +19,7 @@ pub fn write_object(
     key_at: usize,
     key_end: usize,
 )
-    requires own { IsOn space.now pass.old }
-    requires held { IsHeldIn (sizes space.now) (known pass.old) row }
+    requires row { HoldsRow space.now pass.old row }
     requires place { (key_at ≤ key_end) × (key_end ≤ length object.now) × (length object.now ≤ 1000) }
     ensures frame { StillKeepsList pass.old pass.new }
     ensures written { HasWritten row (SpellsObject object.now key_at key_end) (known pass.old) (known pass.new) }
@@ -39,8 +39,7 @@ pub fn write_base(
     items: &[u32],
     statistic: u64,
 )
-    requires own { IsOn space.now pass.old }
-    requires held { IsHeldIn (sizes space.now) (known pass.old) row }
+    requires row { HoldsRow space.now pass.old row }
     requires few { length items.now ≤ 120 }
     ensures frame { StillKeepsList pass.old pass.new }
     ensures written { HasWritten row (SpellsBase items.now level statistic) (known pass.old) (known pass.new) }
@@ -58,8 +57,7 @@ pub(crate) fn write_head(
     many: u32,
     statistic: u64,
 )
-    requires own { IsOn space.now pass.old }
-    requires held { IsHeldIn (sizes space.now) (known pass.old) row }
+    requires row { HoldsRow space.now pass.old row }
     ensures frame { StillKeepsList pass.old pass.new }
     ensures filled { HasFilled row 0 7 (λ k word. word ≡ slice_index (base_head level many statistic) k) (known pass.old) (known pass.new) }
 {
@@ -81,8 +79,7 @@ fn object_form(length: usize, key_at: usize, key_end: usize) -> u64
 
 // Sets a word. It isn't stored where it is that number already, since a load takes an eighth of the time.
 pub(crate) fn set_word(space: &TreeSpace, pass: &mut TreePass, row: u32, index: u32, value: u64)
-    requires own { IsOn space.now pass.old }
-    requires held { IsHeldIn (sizes space.now) (known pass.old) row }
+    requires row { HoldsRow space.now pass.old row }
     requires inside { index < row_words }
     ensures frame { StillKeepsList pass.old pass.new }
     ensures set { HasSet row index value (known pass.old) (known pass.new) }
@@ -94,8 +91,7 @@ pub(crate) fn set_word(space: &TreeSpace, pass: &mut TreePass, row: u32, index: 
 
 // Sets the words from one on to 0.
 fn clear(space: &TreeSpace, pass: &mut TreePass, row: u32, from: usize)
-    requires own { IsOn space.now pass.old }
-    requires held { IsHeldIn (sizes space.now) (known pass.old) row }
+    requires row { HoldsRow space.now pass.old row }
     requires inside { from ≤ row_words }
     ensures frame { StillKeepsList pass.old pass.new }
     ensures filled { HasFilled row from (row_words - from) (λ _ word. word ≡ 0) (known pass.old) (known pass.new) }
@@ -107,8 +103,7 @@ fn clear(space: &TreeSpace, pass: &mut TreePass, row: u32, from: usize)
 
 // Sets words from the first one on.
 pub(crate) fn write_words(space: &TreeSpace, pass: &mut TreePass, row: u32, words: &[u64])
-    requires own { IsOn space.now pass.old }
-    requires held { IsHeldIn (sizes space.now) (known pass.old) row }
+    requires row { HoldsRow space.now pass.old row }
     requires few { length words.now ≤ row_words }
     ensures frame { StillKeepsList pass.old pass.new }
     ensures filled { HasFilled row 0 (length words.now) (λ k word. word ≡ slice_index words.now k) (known pass.old) (known pass.new) }
@@ -120,8 +115,7 @@ pub(crate) fn write_words(space: &TreeSpace, pass: &mut TreePass, row: u32, word
 
 // Writes items of a base, to the places from `at` on.
 pub(crate) fn write_items(space: &TreeSpace, pass: &mut TreePass, row: u32, at: u32, items: &[u32])
-    requires own { IsOn space.now pass.old }
-    requires held { IsHeldIn (sizes space.now) (known pass.old) row }
+    requires row { HoldsRow space.now pass.old row }
     requires few { at + length items.now ≤ 120 }
     ensures frame { StillKeepsList pass.old pass.new }
     ensures filled { HasFilled row (body_word + at) (length items.now) (λ k word. word ≡ slice_index items.now k) (known pass.old) (known pass.new) }
@@ -134,8 +128,7 @@ pub(crate) fn write_items(space: &TreeSpace, pass: &mut TreePass, row: u32, at: 
 
 // Writes an object's bytes.
 pub(crate) fn write_bytes(space: &TreeSpace, pass: &mut TreePass, row: u32, bytes: &[u8])
-    requires own { IsOn space.now pass.old }
-    requires held { IsHeldIn (sizes space.now) (known pass.old) row }
+    requires row { HoldsRow space.now pass.old row }
     requires short { length bytes.now ≤ 1000 }
     ensures frame { StillKeepsList pass.old pass.new }
     ensures filled { HasFilled row body_word ((length bytes.now + 7) / 8) (HasEight bytes.now) (known pass.old) (known pass.new) }

@@ -11,7 +11,7 @@ use Rattle.ca_base.proofs.routing.copy_key.Goals as goal
 use Rattle.ca_node.specs.Layout.{body_word}
 
 pub load_word-requires-clause-shown : goal.load_word-requires-clause-shown
-load_word-requires-clause-shown c = let s = c.requires.shown.1 in
+load_word-requires-clause-shown c = let s = c.requires.object.shown in
     word_shown c.loop-at.pass.seat.me.0.upper c.args.row (body_word + c.loop-at.at / 8) (
       s.0,
       subst (λ (m : MyTree). IsShown m.0.upper c.args.row s.0) (sym c.loop-at.invariant.still)
@@ -43,7 +43,7 @@ loop-at-preserved c = let start : ℕ = c.key_bytes-start.result.0 in
     c.loop-at.into.items ++ take k (drop (at % 8) (to_be_bytes w64 c.load_word.result))) n
     ∙ next_part (drop body_word its) c.loop-at.into.items start at to c.load_word.result low (omega arith)
     (omega arith) (omega arith) word (i.copied its shown))) in
-    let its : List ℕ = c.requires.shown.1.0 in let long = c.requires.shown.1.1.long in
+    let its : List ℕ = c.requires.object.shown.0 in let long = c.requires.object.shown.1.long in
     let there : length (drop start (bytes_in (drop body_word its))) ≡ 1000 - start =
     omega (
       arith,
@@ -60,7 +60,7 @@ loop-at-preserved c = let start : ℕ = c.key_bytes-start.result.0 in
       still = search rules;
       low = omega arith;
       high = omega arith;
-      many = ap (λ (xs : List ℕ). length xs) (copied its c.requires.shown.1.1)
+      many = ap (λ (xs : List ℕ). length xs) (copied its c.requires.object.shown.1)
           ∙ length-take-le (to - start) (drop start (bytes_in (drop body_word its))) (omega arith);
       copied = copied;
     }

@@ -33,8 +33,8 @@ write_half-requires-2-clause-held c = let t = c.in-Ok.ensures.taken in
       ),
     )
 
-pub copy_key-requires-clause-shown : goal.copy_key-requires-clause-shown
-copy_key-requires-clause-shown c = let r = c.requires in let u = c.args.pass.now.seat.me.0.upper in
+pub copy_key-requires : goal.copy_key-requires
+copy_key-requires c = let r = c.requires in let u = c.args.pass.now.seat.me.0.upper in
     let upper = c.write_half-2.ensures.frame.same.4
     ∙ (c.write_half.ensures.frame.same.4 ∙ c.take_three.ensures.frame.same.4) in
     let many = r.target.many_are in let some = r.two in
@@ -43,32 +43,64 @@ copy_key-requires-clause-shown c = let r = c.requires in let u = c.args.pass.now
     IsReadable c.args.space.now.table.shared.key v c.args.cursor.base (first_note u.notes))
     (sym upper)
     (last_readable c.args.space.now.table.shared.key u c.args.cursor.base r.target.shown
-    r.target.leaf r.ordered) in (
-      c.item-first.ensures.inside.1,
-      (
-        get_or (first_note u.notes).objects (c.args.many / 2) [],
-        subst (λ (m : MyTree).
-            IsObjectShown m.0.upper c.item-first.result
-            (get_or (first_note u.notes).objects (c.args.many / 2) []))
-            (sym c.item-first.ensures.frame.still)
-            (c.item-first.ensures.item (first_note u.notes) read (omega arith)).1,
-      ),
-    )
+    r.target.leaf r.ordered) in record {
+      object = record {
+        reading = record {
+          own = (
+            c.item-first.ensures.frame.same.0
+                ∙ (c.write_half-2.ensures.frame.same.0
+                ∙ (c.write_half.ensures.frame.same.0
+                ∙ (c.take_three.ensures.frame.same.0 ∙ c.requires.ready.own.0))),
+            ap (λ (m : MyTree). m.0.sizes) c.item-first.ensures.frame.still
+                ∙ (c.write_half-2.ensures.frame.same.2
+                ∙ (c.write_half.ensures.frame.same.2 ∙ (c.take_three.ensures.frame.same.2
+                ∙ c.requires.ready.own.1))),
+          );
+          pinned = ap (λ (p : Pin). p.pinned) (ap (λ (m : MyTree). m.0.pin) c.item-first.ensures.frame.still
+              ∙ (c.write_half-2.ensures.frame.same.3 ∙
+              (c.write_half.ensures.frame.same.3 ∙ c.take_three.ensures.frame.same.3)))
+              ∙ c.requires.ready.pinned;
+        };
+        inside = c.item-first.ensures.inside.1;
+        shown = (
+          get_or (first_note u.notes).objects (c.args.many / 2) [],
+          subst (λ (m : MyTree).
+              IsObjectShown m.0.upper c.item-first.result
+              (get_or (first_note u.notes).objects (c.args.many / 2) []))
+              (sym c.item-first.ensures.frame.still)
+              (c.item-first.ensures.item (first_note u.notes) read (omega arith)).1,
+        );
+      };
+    }
 
-pub write_route-requires-clause-held : goal.write_route-requires-clause-held
-write_route-requires-clause-held c = let t = c.in-Ok.ensures.taken in
+pub write_route-requires-clause-row : goal.write_route-requires-clause-row
+write_route-requires-clause-row c = let t = c.in-Ok.ensures.taken in
     let each = t.1.0.each c.in-Ok.rows.0 (0, refl) in let own = each.2 in
     let apart = three_apart c.in-Ok.rows.0 c.in-Ok.rows.1 c.in-Ok.rows.2 t.0 in
-    let still = c.copy_key.ensures.frame.still ∙ c.item-first.ensures.frame.still in (
-      each.1,
-      (
-        own.0,
-        own.1,
-        ap (λ (m : MyTree). claim_of m.0.claims c.in-Ok.rows.0) still
-            ∙ (c.write_half-2.ensures.written.2.others c.in-Ok.rows.0 apart.1
-            ∙ (c.write_half.ensures.written.2.others c.in-Ok.rows.0 apart.0 ∙ own.2)),
-      ),
-    )
+    let still = c.copy_key.ensures.frame.still ∙ c.item-first.ensures.frame.still in record {
+      own = (
+        c.copy_key.ensures.frame.same.0
+            ∙ (c.item-first.ensures.frame.same.0
+            ∙ (c.write_half-2.ensures.frame.same.0
+            ∙ (c.write_half.ensures.frame.same.0 ∙ (c.take_three.ensures.frame.same.0
+            ∙ c.requires.ready.own.0)))),
+        ap (λ (m : MyTree). m.0.sizes) c.copy_key.ensures.frame.still
+            ∙ (ap (λ (m : MyTree). m.0.sizes) c.item-first.ensures.frame.still
+            ∙ (c.write_half-2.ensures.frame.same.2 ∙
+            (c.write_half.ensures.frame.same.2
+            ∙ (c.take_three.ensures.frame.same.2 ∙ c.requires.ready.own.1)))),
+      );
+      held = (
+        each.1,
+        (
+          own.0,
+          own.1,
+          ap (λ (m : MyTree). claim_of m.0.claims c.in-Ok.rows.0) still
+              ∙ (c.write_half-2.ensures.written.2.others c.in-Ok.rows.0 apart.1
+              ∙ (c.write_half.ensures.written.2.others c.in-Ok.rows.0 apart.0 ∙ own.2)),
+        ),
+      );
+    }
 
 pub divide_in-requires-clause-division : goal.divide_in-requires-clause-division
 divide_in-requires-clause-division c = let r = c.requires in
@@ -242,38 +274,6 @@ item-first-requires-clause-reading c = record {
       ∙ (c.write_half.ensures.frame.same.3 ∙ c.take_three.ensures.frame.same.3))
       ∙ c.requires.ready.pinned;
 }
-
-pub copy_key-requires-clause-reading : goal.copy_key-requires-clause-reading
-copy_key-requires-clause-reading c = record {
-  own = (
-    c.item-first.ensures.frame.same.0
-        ∙ (c.write_half-2.ensures.frame.same.0
-        ∙ (c.write_half.ensures.frame.same.0
-        ∙ (c.take_three.ensures.frame.same.0 ∙ c.requires.ready.own.0))),
-    ap (λ (m : MyTree). m.0.sizes) c.item-first.ensures.frame.still
-        ∙ (c.write_half-2.ensures.frame.same.2
-        ∙ (c.write_half.ensures.frame.same.2 ∙ (c.take_three.ensures.frame.same.2
-        ∙ c.requires.ready.own.1))),
-  );
-  pinned = ap (λ (p : Pin). p.pinned) (ap (λ (m : MyTree). m.0.pin) c.item-first.ensures.frame.still
-      ∙ (c.write_half-2.ensures.frame.same.3 ∙
-      (c.write_half.ensures.frame.same.3 ∙ c.take_three.ensures.frame.same.3)))
-      ∙ c.requires.ready.pinned;
-}
-
-pub write_route-requires-clause-own : goal.write_route-requires-clause-own
-write_route-requires-clause-own c = (
-  c.copy_key.ensures.frame.same.0
-      ∙ (c.item-first.ensures.frame.same.0
-      ∙ (c.write_half-2.ensures.frame.same.0
-      ∙ (c.write_half.ensures.frame.same.0 ∙ (c.take_three.ensures.frame.same.0
-      ∙ c.requires.ready.own.0)))),
-  ap (λ (m : MyTree). m.0.sizes) c.copy_key.ensures.frame.still
-      ∙ (ap (λ (m : MyTree). m.0.sizes) c.item-first.ensures.frame.still
-      ∙ (c.write_half-2.ensures.frame.same.2 ∙
-      (c.write_half.ensures.frame.same.2
-      ∙ (c.take_three.ensures.frame.same.2 ∙ c.requires.ready.own.1)))),
-)
 
 pub divide_in-requires-clause-own : goal.divide_in-requires-clause-own
 divide_in-requires-clause-own c = (

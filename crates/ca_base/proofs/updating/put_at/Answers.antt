@@ -14,11 +14,17 @@ use Rattle.ca_rows.specs.declared.view.Pin.{Pin}
 use Rattle.ca_base.proofs.Tallies.{tallied_as}
 use Rattle.ca_base.proofs.updating.put_at.Goals as goal
 
-pub write_object-requires-clause-held : goal.write_object-requires-clause-held
-write_object-requires-clause-held c = let t = c.in-Ok.ensures.taken in
+pub write_object-requires-clause-row : goal.write_object-requires-clause-row
+write_object-requires-clause-row c = let t = c.in-Ok.ensures.taken in
     let each = t.1.0.each c.in-Ok.rows.1
     (in_rest c.in-Ok.rows.1 c.in-Ok.rows.0 (c.in-Ok.rows.1 ∷ [])
-    (in_first c.in-Ok.rows.1 [])) in (each.1, each.2)
+    (in_first c.in-Ok.rows.1 [])) in record {
+      own = (
+        c.take_two.ensures.frame.same.0 ∙ c.requires.ready.own.0,
+        c.take_two.ensures.frame.same.2 ∙ c.requires.ready.own.1,
+      );
+      held = (each.1, each.2);
+    }
 
 pub write_base_with-old-requires-clause-held : goal.write_base_with-old-requires-clause-held
 write_base_with-old-requires-clause-held c = let t = c.in-Ok.ensures.taken in
@@ -217,12 +223,6 @@ returns-clause-won c alone listed =
     (c.write_base_with-old.ensures.frame.same.4
     ∙ (c.write_object.ensures.frame.same.4 ∙ c.take_two.ensures.frame.same.4))
     c.swap_in.ensures.won alone listed _ refl
-
-pub write_object-requires-clause-own : goal.write_object-requires-clause-own
-write_object-requires-clause-own c = (
-  c.take_two.ensures.frame.same.0 ∙ c.requires.ready.own.0,
-  c.take_two.ensures.frame.same.2 ∙ c.requires.ready.own.1,
-)
 
 pub swap_in-requires-clause-own : goal.swap_in-requires-clause-own
 swap_in-requires-clause-own c = (

@@ -5,16 +5,16 @@ use Rattle.ca_base.proofs.Words.{eight_at}
 use Rattle.ca_base.proofs.writing.write_bytes.Goals as goal
 use Rattle.ca_node.specs.Layout.{body_word}
 
-pub set_word-requires-clause-own : goal.set_word-requires-clause-own
-set_word-requires-clause-own c = c.loop-place.invariant.0.of
-
-pub set_word-requires-clause-held : goal.set_word-requires-clause-held
-set_word-requires-clause-held c = (c.requires.held.0, c.loop-place.invariant.0.held)
+pub set_word-requires-clause-row : goal.set_word-requires-clause-row
+set_word-requires-clause-row c = record {
+  own = c.loop-place.invariant.0.of;
+  held = (c.requires.row.held.0, c.loop-place.invariant.0.held);
+}
 
 pub loop-place-init : goal.loop-place-init
 loop-place-init c = (
-  begins _ _ c.args.row body_word (HasEight c.args.bytes.now) c.args.pass.now.seat c.requires.own
-      c.requires.held.1,
+  begins _ _ c.args.row body_word (HasEight c.args.bytes.now) c.args.pass.now.seat c.requires.row.own
+      c.requires.row.held.1,
   refl,
   refl,
   refl,

@@ -1,4 +1,4 @@
-use Rattle.std.proofs.Common.{◌≡◌, ◌+◌, ◌-◌, ◌/◌, ℕ, List, length, set, subst, ◌∙◌, arith, length-set, get_or-set_same}
+use Rattle.std.proofs.Common.{rules, ◌≡◌, ◌+◌, ◌-◌, ◌/◌, ℕ, List, length, set, subst, ◌∙◌, arith, length-set, get_or-set_same}
 use Rattle.ca_base.specs.Writing.{IsFilled}
 use Rattle.ca_base.proofs.Filling.{rewritten, rewritten_again}
 use Rattle.ca_base.proofs.Spelling.{spells_object}
@@ -6,32 +6,38 @@ use Rattle.ca_base.proofs.writing.write_object.Goals as goal
 use Rattle.ca_rows.specs.Layout.{row_words}
 use Rattle.ca_node.specs.Layout.{body_word}
 
-pub write_bytes-requires-clause-held : goal.write_bytes-requires-clause-held
-write_bytes-requires-clause-held c = let h = c.requires.held.1 in
-    let its : List ℕ = set h.0 0 c.object_form-form.result in (
-      c.requires.held.0,
-      (
-        its,
-        length-set h.0 0 c.object_form-form.result ∙ h.1,
-        (rewritten c.args.row h.0 its c.args.pass.now.seat.me c.write_word.new.pass.seat.me h.2
-            (c.write_word.ensures.written h.0 h.2)).here,
-      ),
-    )
+pub write_bytes-requires-clause-row : goal.write_bytes-requires-clause-row
+write_bytes-requires-clause-row c = let h = c.requires.row.held.1 in
+    let its : List ℕ = set h.0 0 c.object_form-form.result in record {
+      own = search rules;
+      held = (
+        c.requires.row.held.0,
+        (
+          its,
+          length-set h.0 0 c.object_form-form.result ∙ h.1,
+          (rewritten c.args.row h.0 its c.args.pass.now.seat.me c.write_word.new.pass.seat.me h.2
+              (c.write_word.ensures.written h.0 h.2)).here,
+        ),
+      );
+    }
 
-pub clear-requires-clause-held : goal.clear-requires-clause-held
-clear-requires-clause-held c = let h = c.requires.held.1 in
+pub clear-requires-clause-row : goal.clear-requires-clause-row
+clear-requires-clause-row c = let h = c.requires.row.held.1 in
     let its : List ℕ = set h.0 0 c.object_form-form.result in
     let one = rewritten c.args.row h.0 its c.args.pass.now.seat.me c.write_word.new.pass.seat.me h.2
     (c.write_word.ensures.written h.0 h.2) in
     let more = c.write_bytes.ensures.filled its (length-set h.0 0 c.object_form-form.result
     ∙ h.1) one.here in
-    (
-      c.requires.held.0,
-      (more.0, more.1.long ∙ (length-set h.0 0 c.object_form-form.result ∙ h.1), more.2.here),
-    )
+    record {
+      own = search rules;
+      held = (
+        c.requires.row.held.0,
+        (more.0, more.1.long ∙ (length-set h.0 0 c.object_form-form.result ∙ h.1), more.2.here),
+      );
+    }
 
 pub returns-clause-written : goal.returns-clause-written
-returns-clause-written c = let h = c.requires.held.1 in let form : ℕ = c.object_form-form.result in
+returns-clause-written c = let h = c.requires.row.held.1 in let form : ℕ = c.object_form-form.result in
     let its : List ℕ = set h.0 0 form in
     let told = c.object_form-form.ensures in let place = c.requires.place in
     let one = rewritten c.args.row h.0 its c.args.pass.now.seat.me c.write_word.new.pass.seat.me h.2

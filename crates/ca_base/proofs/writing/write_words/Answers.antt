@@ -2,16 +2,16 @@ use Rattle.std.proofs.Common.{◌≡◌, get_or, refl, ◌∙◌, arith}
 use Rattle.ca_base.proofs.Filling.{begins, goes_on}
 use Rattle.ca_base.proofs.writing.write_words.Goals as goal
 
-pub set_word-requires-clause-own : goal.set_word-requires-clause-own
-set_word-requires-clause-own c = c.loop-place.invariant.0.of
-
-pub set_word-requires-clause-held : goal.set_word-requires-clause-held
-set_word-requires-clause-held c = (c.requires.held.0, c.loop-place.invariant.0.held)
+pub set_word-requires-clause-row : goal.set_word-requires-clause-row
+set_word-requires-clause-row c = record {
+  own = c.loop-place.invariant.0.of;
+  held = (c.requires.row.held.0, c.loop-place.invariant.0.held);
+}
 
 pub loop-place-init : goal.loop-place-init
 loop-place-init c = (
   begins _ _ c.args.row 0 (λ k word. word
-      ≡ get_or c.args.words.now k 0) c.args.pass.now.seat c.requires.own c.requires.held.1,
+      ≡ get_or c.args.words.now k 0) c.args.pass.now.seat c.requires.row.own c.requires.row.held.1,
   refl,
   refl,
   refl,
