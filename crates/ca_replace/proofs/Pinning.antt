@@ -84,10 +84,12 @@ begun_with rows begun m0 m m1 m2 kept0 kept is are so more one two pinned given 
       l.1,
       ⊎_elim (λ (z : vec_len kept ≡ 0). inl (is ∙ z))
           (λ (lost : losses m0 < losses m). inr (omega arith)) l.2,
-      kept,
-      subst (λ (claims : List Claimed). AreKept rows claims kept)
-          (sym (given.2 ∙ pinned.begun l.3)) are,
-      is,
+      (
+        kept,
+        subst (λ (claims : List Claimed). AreKept rows claims kept)
+            (sym (given.2 ∙ pinned.begun l.3)) are,
+        is,
+      ),
     )) so
 
 -- So the head was found empty before, as seen from the next attempt.

@@ -7,7 +7,7 @@ use Rattle.ca_model.specs.declared.outcome.Counter.TheVariants as counter
 use Rattle.ca_model.specs.declared.outcome.Outcome.{Outcome}
 use Rattle.ca_model.specs.declared.outcome.Outcome.TheVariants as outcome
 use Rattle.ca_model.specs.declared.outcome.Spent.{Spent}
-use Rattle.ca_base.specs.Counting.{losses}
+use Rattle.ca_base.specs.Counting.{losses, HasMet}
 use Rattle.ca_model.specs.StoreMap.{StoreMap, IsFound}
 use Rattle.ca_node.specs.Place.{HasKey, part}
 use Rattle.ca_node.specs.States.{OfSomeState}
@@ -102,6 +102,21 @@ KeepsFew m m' kept = (vec_len kept ≤ 64) ⊎ (HasLooked m m' × ((0 < m'.0.pin
 abbrev pub LagsOnce : MyTree → MyTree → Type 0
 LagsOnce m m' = (m'.0.pin.lags ≤ m.0.pin.lags + 1) × (m'.0.pin.entered ≡ m.0.pin.entered) × (m'.0.pin.begun ≡ m.0.pin.begun)
     × (m'.0.pin.begun_at ≡ m.0.pin.begun_at)
+
+-- Rows were given back, and nothing else was learnt or met.
+pub record GaveBack (m m' : MyTree) : Type 0 where
+  pub upper : m'.0.upper ≡ m.0.upper
+  pub met : HasMet 0 0 m m'
+  pub lags : LagsOnce m m'
+
+-- Another attempt may follow one that found no free row: that one had begun with rows kept, the budget isn't spent, no pass lags, and no row is kept
+-- now, unless an exchange was lost.
+pub record MayGoOn (kept budget : ℕ) (before now : Spent) (m m' : MyTree) (kept' : Vec Kept Global) : Type 0 where
+  pub some : 0 < kept
+  pub unspent : total now < budget
+  pub nearer : (vec_len kept' ≡ 0) ⊎ (total before < total now)
+  pub begins : (vec_len kept' ≡ 0) ⊎ (losses m < losses m')
+  pub unlagged : m'.0.pin.lags ≡ m.0.pin.lags
 
 -- The pass pinned, and gave no rows back. As it pinned last no more passes had been found to lag, and what was its as it pinned first since it last gave
 -- rows back is noted.

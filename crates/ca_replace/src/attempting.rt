@@ -5,14 +5,11 @@ ghost use Rattle.ca_model.specs.Places.{IsPlace};
 ghost use Rattle.ca_model.specs.Event.{Event, Remove};
 ghost use Rattle.ca_node.specs.Row.{pair};
 ghost use Rattle.ca_replace.specs.declared.attempting.Stop.TheVariants.{Deep as IsDeep, Split as IsSplit};
-ghost use Rattle.ca_replace.specs.Adapting.{Waits};
 ghost use Rattle.ca_replace.specs.Causes.{IsFullSince};
-ghost use Rattle.ca_replace.specs.Growing.{HasGrown};
-ghost use Rattle.ca_replace.specs.Winning.{HasWonAs};
-ghost use Rattle.ca_replace.specs.Cutting.{HasCut, IsFullFor};
-ghost use Rattle.ca_replace.specs.Attempting.{IsLooking, HasFetched, HasSeenAlike, HasTriedTo, come_to, split_to, HasStopped, IsPaid};
+ghost use Rattle.ca_replace.specs.Cutting.{IsFullFor};
+ghost use Rattle.ca_replace.specs.Attempting.{IsLooking, HasFetched, HasSeenAlike, HasTriedTo, come_to, split_to};
 ghost use Rattle.ca_node.specs.Told.{IsKnown};
-ghost use Rattle.ca_node.specs.States.{IsAlone, IsAtPin, IsUnanswered};
+ghost use Rattle.ca_node.specs.States.{IsAtPin, IsUnanswered};
 ghost use Rattle.ca_base.specs.Progress.{IsFurther};
 ghost use Rattle.ca_base.specs.Putting.{object_at, IsRoom, IsFor};
 ghost use Rattle.ca_base.specs.Targets.{IsKeyed, event_of, key_in};
@@ -180,15 +177,9 @@ fn make_room(
     ensures further { IsFurther (tree_of pass.old) (tree_of pass.new) × IsKnown (sizes tree.now.space) (tree_of pass.new) }
     ensures same_seen { HasSeenAlike (tree_of pass.old) (tree_of pass.new) }
     ensures deep { result ≡ IsDeep → (sizes tree.now.space).levels ≤ (shown_last pass.old).place.level }
-    ensures waits { Waits course.old.adapting course.new.adapting (tree_of pass.old) (tree_of pass.new) }
-    ensures counted { IsPaid course.old.spent course.new.spent (known pass.old) (known pass.new) }
-    ensures found { HasStopped {T = Unit {0}} (Err result) (known pass.old) (known pass.new) }
-    ensures grown { (key : List ℕ) → IsLooking (sizes tree.now.space) (tree_of pass.old) key cursor → IsAlone (sizes tree.now.space) (tree_of pass.old)
-        → HasGrown {T = Unit {0}} (sizes tree.now.space) (Some key) (Err result) (tree_of pass.old) (tree_of pass.new) }
-    ensures won { (key : List ℕ) → IsLooking (sizes tree.now.space) (tree_of pass.old) key cursor → IsAlone (sizes tree.now.space) (tree_of pass.old)
-        → HasWonAs {T = Unit {0}} (λ _. true) (Err result) (tree_of pass.old) (tree_of pass.new) }
-    ensures cut { (key : List ℕ) → IsFullFor (sizes tree.now.space) (Some key) (shown_last pass.old)
-        → HasCut {T = Unit {0}} (λ _. true) (sizes tree.now.space) (Some key) (Err result) (tree_of pass.old) (tree_of pass.new) }
+    ensures turn { (key : List ℕ) → IsLooking (sizes tree.now.space) (tree_of pass.old) key cursor
+        → IsFullFor (sizes tree.now.space) (Some key) (shown_last pass.old) → IsTurn {T = Unit {0}} (λ _. true) (Some key) (sizes tree.now.space)
+        tree.now.tuning course.old course.new (met_of (known pass.new)) (Err result) (known pass.old) (known pass.new) }
 {
     if cursor.level >= tree.tuning.levels {
         return Stop::Deep;

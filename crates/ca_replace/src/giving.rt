@@ -1,9 +1,8 @@
 //! Passes between two calls give back the rows that they keep.
 ghost use Rattle.std.specs.Prelude.{◌≡◌, ◌⊎◌, ◌↔◌, false, ◌+◌, ◌<◌, ◌≤◌, min, IfErr, IsErr, IsOk, IsTrue, vec_len};
 ghost use Rattle.std.specs.declared.option.Option.TheVariants.{None};
-ghost use Rattle.ca_base.specs.Counting.{losses, HasMet};
 ghost use Rattle.ca_replace.specs.Attempting.{IsPaid, total};
-ghost use Rattle.ca_replace.specs.Causes.{HasLooked, IsRefill, KeepsFew, LagsOnce};
+ghost use Rattle.ca_replace.specs.Causes.{GaveBack, HasLooked, IsRefill, KeepsFew, MayGoOn};
 ghost use Rattle.ca_rows.specs.Reclaiming.{IsLag, lag_count, Reclaims};
 ghost use Rattle.ca_rows.specs.Passes.{sizes, known, view};
 ghost use Rattle.ca_node.specs.TreePasses.{tree_of};
@@ -24,12 +23,10 @@ const LAST_EPOCH: u64 = 1 << 62;
 pub(crate) fn keep_few(tree: &Tree, pass: &mut TreePass) -> u32
     requires resting { IsAtRest tree.now.space pass.old }
     ensures frame { StaysAtRest tree.now.space pass.old pass.new }
-    ensures upper { tree_of pass.new ≡ tree_of pass.old }
+    ensures gave { GaveBack (known pass.old) (known pass.new) }
     ensures few { KeepsFew (known pass.old) (known pass.new) pass.new.kept.rows }
     ensures lost { (view pass.new).lost ≡ (view pass.old).lost + result }
-    ensures met { HasMet 0 0 (known pass.old) (known pass.new) }
     ensures left { (view pass.new).pin.left ≡ (view pass.old).pin.left }
-    ensures lags { LagsOnce (known pass.old) (known pass.new) }
 {
     if pass.kept() < MANY {
         return 0;
@@ -48,13 +45,9 @@ pub(crate) fn refill(
 ) -> Result<(), Cause>
     requires resting { IsAtRest tree.now.space pass.old }
     ensures frame { StaysAtRest tree.now.space pass.old pass.new }
-    ensures upper { tree_of pass.new ≡ tree_of pass.old }
+    ensures gave { GaveBack (known pass.old) (known pass.new) }
     ensures counted { IsPaid spent.old spent.new (known pass.old) (known pass.new) }
-    ensures met { HasMet 0 0 (known pass.old) (known pass.new) }
-    ensures again { IsOk result → (0 < kept) × (total spent.new < budget) × ((vec_len pass.new.kept.rows ≡ 0) ⊎ (total spent.old < total spent.new)) }
-    ensures begins { IsOk result → (vec_len pass.new.kept.rows ≡ 0) ⊎ (losses (known pass.old) < losses (known pass.new)) }
-    ensures unlagged { IsOk result → (view pass.new).pin.lags ≡ (view pass.old).pin.lags }
-    ensures lags { LagsOnce (known pass.old) (known pass.new) }
+    ensures again { IsOk result → MayGoOn kept budget spent.old spent.new (known pass.old) (known pass.new) pass.new.kept.rows }
     ensures looked { HasLooked (known pass.old) (known pass.new) }
     ensures refused { IfErr result (λ why. IsRefill (sizes tree.now.space).passes pass.old.number budget kept spent.new why (known pass.old)
         (known pass.new) pass.new.kept.rows) }

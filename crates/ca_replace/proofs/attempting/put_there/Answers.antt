@@ -5,12 +5,11 @@ use Rattle.ca_model.specs.History.{Put}
 use Rattle.ca_base.specs.Finding.{IsReadable, IsAtCursor}
 use Rattle.ca_node.specs.Place.{HasKey}
 use Rattle.ca_node.specs.Told.{MyTree, IsKnown}
-use Rattle.ca_node.specs.States.{IsAlone}
 use Rattle.ca_node.specs.TreeView.{TreeView}
 use Rattle.ca_base.specs.Putting.{IsRoom, IsShownLast, first_note, object_at, put_event}
 use Rattle.ca_replace.specs.declared.attempting.Stop.{Stop}
 use Rattle.ca_replace.specs.declared.attempting.Stop.TheVariants.{Deep as IsDeep}
-use Rattle.ca_replace.specs.Adapting.{IsMoved, Waits, IsMetAs}
+use Rattle.ca_replace.specs.Adapting.{IsMoved, IsMetAs}
 use Rattle.ca_replace.proofs.Tuning.{tuned_on}
 use Rattle.ca_replace.proofs.Settling.{IsSettling}
 use Rattle.ca_replace.proofs.GoingOn.{is_new, known_then, settled_found, settled_on, settled_paid, settled_tried, tried_turns}
@@ -19,15 +18,14 @@ use Rattle.ca_base.proofs.Tallies.{tallied_as}
 use Rattle.ca_rows.specs.Told.{met_of}
 use Rattle.ca_replace.proofs.DueCauses.{settled_met}
 use Rattle.ca_replace.proofs.Growing.{come_unsplit, settled_grown}
-use Rattle.ca_replace.specs.Cutting.{HasCut, IsFullFor}
+use Rattle.ca_replace.specs.Cutting.{IsFullFor}
+use Rattle.ca_replace.specs.Turning.{IsTurn}
 use Rattle.ca_replace.proofs.Cutting.{full_for, settled_cut}
 use Rattle.ca_replace.proofs.Winning.{settled_won}
 use Rattle.ca_node.specs.Row.{pair}
 use Rattle.ca_base.specs.Progress.{IsFurther}
 use Rattle.ca_model.specs.Places.{IsPlace}
-use Rattle.ca_replace.specs.Attempting.{IsPaid, HasStopped, IsLooking}
-use Rattle.ca_replace.specs.Growing.{HasGrown}
-use Rattle.ca_replace.specs.Winning.{HasWonAs}
+use Rattle.ca_replace.specs.Attempting.{IsLooking}
 use Rattle.ca_rows.specs.declared.view.Pin.{Pin}
 use Rattle.ca_replace.proofs.Entries.{held_looked}
 use Rattle.ca_replace.proofs.attempting.put_there.Goals as goal
@@ -403,52 +401,21 @@ returns-clause-turn c = record {
 }
 
 pub returns-then-not-has_room-clause-turn : goal.returns-then-not-has_room-clause-turn
-returns-then-not-has_room-clause-turn c = record {
-  met_as = tt;
-  gone_on = subst
-      (λ (m : MyTree). Waits c.args.course.now.adapting c.make_room.new.course.adapting m.0.upper
-      c.make_room.new.pass.seat.me.0.upper)
-      c.count-many.ensures.frame.still c.make_room.ensures.waits;
-  counted = subst
-      (λ (m : MyTree).
-      IsPaid c.args.course.now.spent c.make_room.new.course.spent m c.make_room.new.pass.seat.me)
-      c.count-many.ensures.frame.still
-      c.make_room.ensures.counted;
-  found = subst
-      (λ (m : MyTree). HasStopped {T =
-      Unit {0}} (Err c.make_room.result) m c.make_room.new.pass.seat.me)
-      c.count-many.ensures.frame.still
-      c.make_room.ensures.found;
-  grown = subst (λ (m : MyTree). IsLooking c.args.tree.now.space.table.shared.key m.0.upper
-      (key_in c.args.insertion.now.keyed) c.args.cursor
-      → IsAlone c.args.tree.now.space.table.shared.key m.0.upper
-      → HasGrown {T = Unit {0}} c.args.tree.now.space.table.shared.key (Some
-      (key_in c.args.insertion.now.keyed))
-      (Err c.make_room.result) m.0.upper c.make_room.new.pass.seat.me.0.upper)
-      c.count-many.ensures.frame.still (c.make_room.ensures.grown
-      (key_in c.args.insertion.now.keyed))
-      c.requires.looking;
-  won = subst (λ (m : MyTree). IsLooking c.args.tree.now.space.table.shared.key m.0.upper
-      (key_in c.args.insertion.now.keyed) c.args.cursor
-      → IsAlone c.args.tree.now.space.table.shared.key m.0.upper
-      → HasWonAs {T = Unit {0}} (λ _. true) (Err c.make_room.result) m.0.upper
-      c.make_room.new.pass.seat.me.0.upper) c.count-many.ensures.frame.still
-      (c.make_room.ensures.won (key_in c.args.insertion.now.keyed))
-      c.requires.looking;
-  cut = let z = c.args.tree.now.space.table.shared.key in
-      let key = key_in c.args.insertion.now.keyed in let u = c.args.pass.now.seat.me.0.upper in
-      let full =
-      full_for z u c.args.cursor key c.args.insertion.now.place c.count-many.result
-      c.requires.looking c.requires.place
-      (λ room. no_room c.has_room.result c.if-not-has_room.true
-      (c.has_room.ensures.1 (subst
-      (λ n. IsRoom c.args.insertion.now.place c.count-many.result n)
-      (tuned_on c.args.tree.now).leaf room)))
-      (c.count-many.ensures.count (first_note u.notes) c.requires.looking.readable) in
-      subst (λ (m : MyTree). HasCut {T = Unit {0}}
-      (λ _. true) z (Some key) (Err c.make_room.result) m.0.upper
-      c.make_room.new.pass.seat.me.0.upper)
-      c.count-many.ensures.frame.still (c.make_room.ensures.cut key
-      (subst (λ (m : MyTree). IsFullFor z (Some key) (first_note m.0.upper.notes))
-      (sym c.count-many.ensures.frame.still) full));
-}
+returns-then-not-has_room-clause-turn c = let z = c.args.tree.now.space.table.shared.key in
+    let key = key_in c.args.insertion.now.keyed in let u = c.args.pass.now.seat.me.0.upper in
+    let last = c.make_room.new.pass.seat.me in let still = c.count-many.ensures.frame.still in
+    let full =
+    full_for z u c.args.cursor key c.args.insertion.now.place c.count-many.result
+    c.requires.looking c.requires.place
+    (λ room. no_room c.has_room.result c.if-not-has_room.true
+    (c.has_room.ensures.1 (subst
+    (λ n. IsRoom c.args.insertion.now.place c.count-many.result n)
+    (tuned_on c.args.tree.now).leaf room)))
+    (c.count-many.ensures.count (first_note u.notes) c.requires.looking.readable) in
+    subst (λ (m : MyTree). IsTurn {T = Unit {0}} (λ _. true) (Some key) z c.args.tree.now.tuning
+    c.args.course.now c.make_room.new.course (met_of last) (Err c.make_room.result) m last) still
+    (c.make_room.ensures.turn key
+    (subst (λ (m : MyTree). IsLooking z m.0.upper key c.args.cursor) (sym still)
+    c.requires.looking)
+    (subst (λ (m : MyTree). IsFullFor z (Some key) (first_note m.0.upper.notes)) (sym still)
+    full))

@@ -65,7 +65,7 @@ loop-come-smaller g c = let again = c.in_default.ensures.again refl in
     (spends_more c.args.course.now.spent c.turns-come.new.course.spent c.refill.new.spent
     c.args.pass.now.seat.me c.turns-come.new.pass.seat.me c.refill.new.pass.seat.me
     c.requires.none so_far c.refill.ensures.counted)
-    (subst (λ n. 0 < n) c.kept-kept.ensures again.0, again.1, again.2)
+    (subst (λ n. 0 < n) c.kept-kept.ensures again.some, again.unspent, again.nearer)
 
 -- An attempt that found no free row, and rows that were given back, behind the attempts so far.
 pub loop-come-preserved : goal.loop-come-preserved
@@ -76,10 +76,10 @@ loop-come-preserved g c = let i = c.loop-come.invariant in
     let last = c.refill.new.pass.seat.me in let empty = c.if-is_empty.ensures.0 refl in
     let met = subst
     (λ (x : Result _ Stop). HasMetBy x before behind) empty c.turns-come.ensures.found in
-    let given = c.refill.ensures.met in record {
+    let given = c.refill.ensures.gave.met in record {
       number = c.refill.ensures.frame.number ∙ (c.turns-come.ensures.frame.number ∙ i.number);
       resting = c.refill.ensures.frame.resting;
-      further = subst (IsFurther start.0.upper) (sym c.refill.ensures.upper)
+      further = subst (IsFurther start.0.upper) (sym c.refill.ensures.gave.upper)
           (further_on start.0.upper before.0.upper behind.0.upper i.further
           (stopped_further tells c.args.tree.now.space.table.shared.key c.turns-come.result
           stop.Empty before.0.upper behind.0.upper empty
@@ -92,7 +92,7 @@ loop-come-preserved g c = let i = c.loop-come.invariant in
       looks = let before = i.looks in let same = (c.turns-come.ensures.pinned i.unspent).looks in
           let more = c.refill.ensures.looked in omega arith;
       waits = subst (Waits c.args.course.now.adapting c.turns-come.new.course.adapting
-          start.0.upper) (sym c.refill.ensures.upper)
+          start.0.upper) (sym c.refill.ensures.gave.upper)
           (waits_on c.args.course.now.adapting c.loop-come.course.adapting
           c.turns-come.new.course.adapting start.0.upper before.0.upper behind.0.upper i.waits
           (stopped_waits
@@ -100,7 +100,7 @@ loop-come-preserved g c = let i = c.loop-come.invariant in
           c.args.tree.now.space.table.shared.key c.args.tree.now.tuning
           c.loop-come.course.adapting c.turns-come.new.course.adapting c.turns-come.result
           stop.Empty before.0.upper behind.0.upper empty c.turns-come.ensures.turns.gone_on));
-      won = λ alone. ap (λ (u : TreeView). u.lost) c.refill.ensures.upper
+      won = λ alone. ap (λ (u : TreeView). u.lost) c.refill.ensures.gave.upper
           ∙ (stop_won (λ (x : _). g.A.Attempt.edits c.args.order.now.what.now x)
           c.turns-come.result stop.Empty before.0.upper behind.0.upper empty
           (c.turns-come.ensures.turns.won (alone_on
@@ -108,7 +108,7 @@ loop-come-preserved g c = let i = c.loop-come.invariant in
           alone)) ∙ i.won alone);
       waited = λ alone.
           subst (HasWaited c.args.tree.now.space.table.shared.key
-          (g.A.Attempt.adds c.args.order.now.what.now) start.0.upper) (sym c.refill.ensures.upper)
+          (g.A.Attempt.adds c.args.order.now.what.now) start.0.upper) (sym c.refill.ensures.gave.upper)
           (has_waited c.args.tree.now.space.table.shared.key
           (g.A.Attempt.adds c.args.order.now.what.now) c.turns-come.result stop.Empty
           start.0.upper behind.0.upper
@@ -121,22 +121,22 @@ loop-come-preserved g c = let i = c.loop-come.invariant in
       full = let edits = λ (x : _). g.A.Attempt.edits c.args.order.now.what.now x in
           let z = c.args.tree.now.space.table.shared.key in
           let adds = g.A.Attempt.adds c.args.order.now.what.now in
-          subst (HasCutFull z adds start.0.upper) (sym c.refill.ensures.upper)
+          subst (HasCutFull z adds start.0.upper) (sym c.refill.ensures.gave.upper)
           (stopped_cut edits z adds c.turns-come.result stop.Empty start.0.upper behind.0.upper
           empty
           (cuts_so_far edits z adds c.turns-come.result start.0.upper before.0.upper behind.0.upper
           i.full c.turns-come.ensures.turns.cut));
       worn = omega (arith, i.worn, met.1, given.1);
-      unspent = (c.in_default.ensures.again refl).1;
-      lags = c.in_default.ensures.unlagged refl
+      unspent = (c.in_default.ensures.again refl).unspent;
+      lags = (c.in_default.ensures.again refl).unlagged
           ∙ ((c.turns-come.ensures.pinned i.unspent).lags ∙ i.lags);
       first = inr (empty_before (vec_len c.loop-come.pass.kept.rows) c.kept-kept.result
           (vec_len c.refill.new.pass.kept.rows) start before behind last
-          c.args.pass.now.kept.rows c.kept-kept.ensures (c.in_default.ensures.again refl).0
+          c.args.pass.now.kept.rows c.kept-kept.ensures (c.in_default.ensures.again refl).some
           (let one = i.counted.more in let two = c.turns-come.ensures.counted.more in
           omega arith)
-          (c.in_default.ensures.begins refl) i.first met given
-          (c.turns-come.ensures.pinned i.unspent) c.refill.ensures.lags c.refill.ensures.looked);
+          (c.in_default.ensures.again refl).begins i.first met given
+          (c.turns-come.ensures.pinned i.unspent) c.refill.ensures.gave.lags c.refill.ensures.looked);
     }
 
 pub returns-in-Err-clause-few : goal.returns-in-Err-clause-few
@@ -155,13 +155,23 @@ returns-else-is_empty-clause-few g c =
     let same = (c.turns-come.ensures.pinned c.loop-come.invariant.unspent).looks in
     omega arith) c.keep_few.ensures.few
 
+pub returns-in-Err-clause-come : goal.returns-in-Err-clause-come
+returns-in-Err-clause-come g c = let i = c.loop-come.invariant in
+    let tells = λ (x : _). g.A.Attempt.tells c.args.order.now.what.now x c.turns-come.new.left in
+    let u = c.args.pass.now.seat.me.0.upper in let before = c.loop-come.pass.seat.me.0.upper in
+    let behind = c.turns-come.new.pass.seat.me.0.upper in
+    subst (IsFurther u) (sym c.refill.ensures.gave.upper)
+    (further_on u before behind i.further
+    (stopped_further tells c.args.tree.now.space.table.shared.key c.turns-come.result stop.Empty
+    before behind (c.if-is_empty.ensures.0 refl) c.turns-come.ensures.tried))
+
 pub returns-else-is_empty-clause-come : goal.returns-else-is_empty-clause-come
 returns-else-is_empty-clause-come g c =
     let tells = λ (x : _). g.A.Attempt.tells c.args.order.now.what.now x c.turns-come.new.left in
     let z = c.args.tree.now.space.table.shared.key in let u = c.args.pass.now.seat.me.0.upper in
     attempted_as tells z c.turns-come.result c.or_refusal.result _ _ u
     c.turns-come.new.pass.seat.me.0.upper c.keep_few.new.pass.seat.me.0.upper
-    c.keep_few.ensures.upper c.or_refusal.ensures
+    c.keep_few.ensures.gave.upper c.or_refusal.ensures
     (tried_on tells z c.turns-come.result u c.loop-come.pass.seat.me.0.upper
     c.turns-come.new.pass.seat.me.0.upper c.loop-come.invariant.further c.turns-come.ensures.tried)
 
@@ -189,8 +199,8 @@ returns-in-Err-clause-caused g c = let i = c.loop-come.invariant in
     c.args.pass.now.kept.rows c.loop-come.pass.kept.rows c.kept-kept.ensures i.resting.are_kept
     i.first
     (let two = c.turns-come.ensures.counted.more in let three = c.refill.ensures.counted.more in
-    omega arith) met c.refill.ensures.met (c.turns-come.ensures.pinned i.unspent)
-    c.refill.ensures.lags)
+    omega arith) met c.refill.ensures.gave.met (c.turns-come.ensures.pinned i.unspent)
+    c.refill.ensures.gave.lags)
     (let more = i.looks in let same = (c.turns-come.ensures.pinned i.unspent).looks in omega arith)
     (subst (λ (k : ℕ).
     IsRefill z.passes k c.args.order.now.budget c.kept-kept.result c.refill.new.spent
@@ -203,8 +213,8 @@ returns-else-is_empty-clause-caused g c = let i = c.loop-come.invariant in
     let behind = c.turns-come.new.pass.seat.me in let last = c.keep_few.new.pass.seat.me in
     let tree = c.args.tree.now in
     let z = tree.space.table.shared.key in let adds = g.A.Attempt.adds c.args.order.now.what.now in
-    let upper = c.keep_few.ensures.upper in
-    let found = c.turns-come.ensures.found in let given = c.keep_few.ensures.met in
+    let upper = c.keep_few.ensures.gave.upper in
+    let found = c.turns-come.ensures.found in let given = c.keep_few.ensures.gave.met in
     caused_as z c.args.pass.now.number c.args.order.now.budget adds c.turns-come.result
     c.or_refusal.result _ start last
     c.args.pass.now.kept.rows c.keep_few.new.pass.kept.rows (
@@ -239,14 +249,14 @@ returns-else-is_empty-clause-caused g c = let i = c.loop-come.invariant in
 
 pub returns-in-Err-clause-lags : goal.returns-in-Err-clause-lags
 returns-in-Err-clause-lags g c = let i = c.loop-come.invariant in
-    let same = (c.turns-come.ensures.pinned i.unspent).lags in let once = c.refill.ensures.lags in (
+    let same = (c.turns-come.ensures.pinned i.unspent).lags in let once = c.refill.ensures.gave.lags in (
       (let before = i.lags in let one = once.0 in omega arith),
       ap (λ (x : Met). x.lags) once.1 ∙ ((c.turns-come.ensures.pinned i.unspent).entered ∙ i.lags),
     )
 
 pub returns-else-is_empty-clause-lags : goal.returns-else-is_empty-clause-lags
 returns-else-is_empty-clause-lags g c = let i = c.loop-come.invariant in
-    let same = (c.turns-come.ensures.pinned i.unspent).lags in let once = c.keep_few.ensures.lags in (
+    let same = (c.turns-come.ensures.pinned i.unspent).lags in let once = c.keep_few.ensures.gave.lags in (
       (let before = i.lags in let one = once.0 in omega arith),
       ap (λ (x : Met). x.lags) once.1 ∙ ((c.turns-come.ensures.pinned i.unspent).entered ∙ i.lags),
     )
@@ -255,7 +265,7 @@ pub returns-in-Err-clause-turns : goal.returns-in-Err-clause-turns
 returns-in-Err-clause-turns g c = record {
   met_as = tt;
   gone_on = subst (Waits c.args.course.now.adapting c.turns-come.new.course.adapting
-      c.args.pass.now.seat.me.0.upper) (sym c.refill.ensures.upper)
+      c.args.pass.now.seat.me.0.upper) (sym c.refill.ensures.gave.upper)
       (waits_on c.args.course.now.adapting c.loop-come.course.adapting
       c.turns-come.new.course.adapting c.args.pass.now.seat.me.0.upper
       c.loop-come.pass.seat.me.0.upper
@@ -272,7 +282,7 @@ returns-in-Err-clause-turns g c = record {
       let adds = g.A.Attempt.adds c.args.order.now.what.now in
       let u = c.args.pass.now.seat.me.0.upper in
       let i = c.loop-come.invariant in
-      subst (HasWaited z adds u) (sym c.refill.ensures.upper)
+      subst (HasWaited z adds u) (sym c.refill.ensures.gave.upper)
       (has_waited z adds c.turns-come.result stop.Empty u c.turns-come.new.pass.seat.me.0.upper
       (c.if-is_empty.ensures.0 refl)
       (attempts_so_far tells z adds c.turns-come.result u c.loop-come.pass.seat.me.0.upper
@@ -280,7 +290,7 @@ returns-in-Err-clause-turns g c = record {
       c.requires.resting.known i.resting.known i.further i.waited c.turns-come.ensures.tried
       c.turns-come.ensures.turns.grown alone));
   won = λ alone. let i = c.loop-come.invariant in
-      ap (λ (u : TreeView). u.lost) c.refill.ensures.upper
+      ap (λ (u : TreeView). u.lost) c.refill.ensures.gave.upper
       ∙ (stop_won
       (λ (x : _). g.A.Attempt.edits c.args.order.now.what.now x) c.turns-come.result stop.Empty
       c.loop-come.pass.seat.me.0.upper c.turns-come.new.pass.seat.me.0.upper
@@ -291,7 +301,7 @@ returns-in-Err-clause-turns g c = record {
       let z = c.args.tree.now.space.table.shared.key in
       let adds = g.A.Attempt.adds c.args.order.now.what.now in
       let u = c.args.pass.now.seat.me.0.upper in
-      subst (HasCutFull z adds u) (sym c.refill.ensures.upper)
+      subst (HasCutFull z adds u) (sym c.refill.ensures.gave.upper)
       (stopped_cut edits z adds c.turns-come.result stop.Empty u
       c.turns-come.new.pass.seat.me.0.upper (c.if-is_empty.ensures.0 refl)
       (cuts_so_far edits z adds c.turns-come.result u c.loop-come.pass.seat.me.0.upper
@@ -307,7 +317,7 @@ returns-else-is_empty-clause-turns g c = record {
       c.keep_few.new.pass.seat.me.0.upper) edits c.turns-come.result
       c.or_refusal.result _ _ c.or_refusal.ensures (subst
       (λ (x : Met × TreeView). MeetsAs edits last c.turns-come.result x.0 x.1)
-      (λ i. (sym c.keep_few.ensures.left i, sym c.keep_few.ensures.upper i))
+      (λ i. (sym c.keep_few.ensures.left i, sym c.keep_few.ensures.gave.upper i))
       c.turns-come.ensures.turns.met_as);
   gone_on = let edits = λ (x : _). g.A.Attempt.edits c.args.order.now.what.now x in
       let z = c.args.tree.now.space.table.shared.key in
@@ -315,7 +325,7 @@ returns-else-is_empty-clause-turns g c = record {
       let b = c.turns-come.new.course.adapting in let u = c.args.pass.now.seat.me.0.upper in
       refused_gone edits z t a b c.turns-come.result c.or_refusal.result u
       c.turns-come.new.pass.seat.me.0.upper c.keep_few.new.pass.seat.me.0.upper
-      c.keep_few.ensures.upper (_, _, c.or_refusal.ensures)
+      c.keep_few.ensures.gave.upper (_, _, c.or_refusal.ensures)
       (gone_on edits z t a c.loop-come.course.adapting b c.turns-come.result u
       c.loop-come.pass.seat.me.0.upper c.turns-come.new.pass.seat.me.0.upper
       c.loop-come.invariant.waits c.turns-come.ensures.turns.gone_on);
@@ -327,7 +337,7 @@ returns-else-is_empty-clause-turns g c = record {
       let i = c.loop-come.invariant in
       grown_refused z adds c.turns-come.result c.or_refusal.result _ _ u
       c.turns-come.new.pass.seat.me.0.upper c.keep_few.new.pass.seat.me.0.upper
-      c.keep_few.ensures.upper c.or_refusal.ensures
+      c.keep_few.ensures.gave.upper c.or_refusal.ensures
       (attempts_so_far tells z adds c.turns-come.result u c.loop-come.pass.seat.me.0.upper
       c.turns-come.new.pass.seat.me.0.upper c.requires.resting.known i.resting.known i.further
       i.waited c.turns-come.ensures.tried
@@ -337,7 +347,7 @@ returns-else-is_empty-clause-turns g c = record {
       let i = c.loop-come.invariant in
       won_refused edits c.turns-come.result c.or_refusal.result _ _ u
       c.turns-come.new.pass.seat.me.0.upper c.keep_few.new.pass.seat.me.0.upper
-      c.keep_few.ensures.upper c.or_refusal.ensures
+      c.keep_few.ensures.gave.upper c.or_refusal.ensures
       (won_behind edits c.turns-come.result u c.loop-come.pass.seat.me.0.upper
       c.turns-come.new.pass.seat.me.0.upper (i.won alone)
       (c.turns-come.ensures.turns.won (alone_on c.args.tree.now.space.table.shared.key u
@@ -348,7 +358,7 @@ returns-else-is_empty-clause-turns g c = record {
       let u = c.args.pass.now.seat.me.0.upper in
       cut_refused edits z adds c.turns-come.result c.or_refusal.result _ _ u
       c.turns-come.new.pass.seat.me.0.upper c.keep_few.new.pass.seat.me.0.upper
-      c.keep_few.ensures.upper c.or_refusal.ensures
+      c.keep_few.ensures.gave.upper c.or_refusal.ensures
       (cuts_so_far edits z adds c.turns-come.result u c.loop-come.pass.seat.me.0.upper
       c.turns-come.new.pass.seat.me.0.upper c.loop-come.invariant.full
       c.turns-come.ensures.turns.cut);

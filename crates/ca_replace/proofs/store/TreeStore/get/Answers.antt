@@ -119,7 +119,7 @@ returns-clause-got c = let tree = c.self.inside.tree.now in
     c.pin.ensures.pinned.3 tried) in
     subst (λ (u : TreeView).
     Got (knows c.args.self.now) (known_of table z u) c.args.key.now found into)
-    (sym c.keep_few.ensures.upper)
+    (sym c.keep_few.ensures.gave.upper)
     (subst (λ (s : StoreView).
     Got (knows s) (known_of table z behind) c.args.key.now found into) c.self.view_is
     (got_is (known_of table z pass.seat.me.0.upper) (known_of table z behind) c.args.key.now into

@@ -1,7 +1,7 @@
 use Rattle.std.proofs.Common.{true, false, refl, ap, inl, ◌∙◌}
 use Rattle.ca_node.specs.Place.{all_keys}
 use Rattle.ca_node.specs.Told.{MyTree}
-use Rattle.ca_rows.specs.Told.{met_of}
+use Rattle.ca_rows.specs.Told.{begun_of, met_of}
 use Rattle.ca_node.proofs.Tallies.{tallied_still, led_counts}
 use Rattle.ca_node.specs.TreeView.{pinned}
 use Rattle.ca_rows.specs.declared.sizes.Sizes.{Sizes}
@@ -27,6 +27,8 @@ keep_few-requires c = let tree = c.self.inside.tree.now in
           moment =
               c.pin.ensures.pinned.1;
           entered = met_of m;
+          begun = begun_of m;
+          begun_at = m.0.pin.looks;
         };
         upper = pinned m.0.upper;
       },
