@@ -17,7 +17,7 @@ returns-clause-written c = let u = c.args.pass.now.seat.me.0.upper in let m = c.
     c.args.target.now.cursor.level _ c.args.target.now.statistic
     c.args.pass.now.seat.me c.write_head.new.pass.seat.me c.copy_items.new.pass.seat.me
     c.write_items.new.pass.seat.me c.copy_items-2.new.pass.seat.me
-    c.requires.held.1 (omega arith) (omega arith) (omega arith) c.write_head.ensures.filled
+    c.requires.row.held.1 (omega arith) (omega arith) (omega arith) c.write_head.ensures.filled
     (subst (λ (v : TreeView). HasFilled c.args.row (body_word + 0) c.args.around.now.before
     (λ k word. word ≡ get_or (last_items v) (0 + k) 0) c.write_head.new.pass.seat.me
     c.copy_items.new.pass.seat.me) one.4 c.copy_items.ensures.filled)
