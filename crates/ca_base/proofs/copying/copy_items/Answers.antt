@@ -12,7 +12,8 @@ use Rattle.ca_node.specs.Layout.{body_word}
 pub load_word-item-requires-clause-reading : goal.load_word-item-requires-clause-reading
 load_word-item-requires-clause-reading c = record {
   own = c.loop-place.invariant.0.of;
-  pinned = ap (λ (e : Pin). e.pinned) c.loop-place.invariant.0.still.3 ∙ c.requires.row.reading.pinned;
+  pinned = ap (λ (e : Pin). e.pinned) c.loop-place.invariant.0.still.3
+      ∙ c.requires.row.reading.pinned;
 }
 
 pub load_word-item-requires-clause-inside : goal.load_word-item-requires-clause-inside

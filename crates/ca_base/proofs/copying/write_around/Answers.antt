@@ -7,7 +7,8 @@ use Rattle.ca_base.proofs.copying.write_around.Goals as goal
 use Rattle.ca_node.specs.Layout.{body_word}
 
 pub returns-clause-written : goal.returns-clause-written
-returns-clause-written c = let u = c.args.pass.now.seat.me.0.upper in let m = c.requires.shown.1.0 in
+returns-clause-written c = let u = c.args.pass.now.seat.me.0.upper in
+    let m = c.requires.shown.1.0 in
     let one = c.write_head.ensures.frame.same in let two = c.copy_items.ensures.frame.same in
     let three = c.write_items.ensures.frame.same in
     let rest : c.args.target.now.many - c.args.around.now.behind

@@ -24,7 +24,8 @@ write_half-requires-clause-row c =
           c.take_three.ensures.frame.same.0 ∙ c.requires.ready.own.0,
           c.take_three.ensures.frame.same.2 ∙ c.requires.ready.own.1,
         );
-        pinned = ap (λ (p : Pin). p.pinned) c.take_three.ensures.frame.same.3 ∙ c.requires.ready.pinned;
+        pinned = ap (λ (p : Pin). p.pinned) c.take_three.ensures.frame.same.3
+            ∙ c.requires.ready.pinned;
       };
       held = (each.1, each.2);
     }
@@ -78,7 +79,8 @@ copy_key-requires c = let r = c.requires in let u = c.args.pass.now.seat.me.0.up
                 ∙ (c.write_half.ensures.frame.same.2 ∙ (c.take_three.ensures.frame.same.2
                 ∙ c.requires.ready.own.1))),
           );
-          pinned = ap (λ (p : Pin). p.pinned) (ap (λ (m : MyTree). m.0.pin) c.item-first.ensures.frame.still
+          pinned = ap (λ (p : Pin). p.pinned)
+              (ap (λ (m : MyTree). m.0.pin) c.item-first.ensures.frame.still
               ∙ (c.write_half-2.ensures.frame.same.3 ∙
               (c.write_half.ensures.frame.same.3 ∙ c.take_three.ensures.frame.same.3)))
               ∙ c.requires.ready.pinned;
