@@ -12,7 +12,7 @@ module _ {R : Type 0} (space : Space R TreeView) (pass : Pass R TreeView) (row :
     pub own : IsOn space pass
     pub held : IsHeldIn (sizes space) (known pass) row
 
-  -- It does, and it is pinned, so that it may read rows that it was shown meanwhile.
+  -- The pass is one of this space, is pinned, and holds the row: rows that it was shown can be read while this one is written.
   pub record ReadsAndHolds : Type 0 where
     pub reading : IsReading space pass
     pub held : IsHeldIn (sizes space) (known pass) row
