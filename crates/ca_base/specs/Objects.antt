@@ -32,7 +32,7 @@ module _ {R : Type 0} where
     pub there : HasPlace (sizes space) (tree_of pass) base place
     pub front_is : HasBytes key front
 
-  -- A pass that is not asked only reads, and one that only reads twice only reads.
+  -- Reading nothing is only reading, and so is only reading twice.
   pub reads_none : (a : Pass R TreeView) → OnlyReads a a
   reads_none a = record { same = (refl, refl); number = refl; tally = refl; kept = refl; still = refl }
 

@@ -3,7 +3,8 @@ ghost use Rattle.ca_node.specs.Layout.{body_word};
 ghost use Rattle.std.specs.Prelude.{◌≡◌, ◌+◌, ◌-◌, ◌<◌, ◌≤◌, ◌++◌, length, take, drop, slice_index};
 ghost use Rattle.std.specs.List.{remove};
 ghost use Rattle.ca_base.specs.Putting.{put_in, IsItemAt, IsPlaceFor, IsShownLast, IsShownWith, last_items};
-ghost use Rattle.ca_base.specs.Writing.{IsHeldIn, HasFilled, SpellsBase, HasWritten};
+ghost use Rattle.ca_base.specs.Writing.{HasFilled, SpellsBase, HasWritten};
+ghost use Rattle.ca_base.specs.Holding.{ReadsAndHolds};
 ghost use Rattle.ca_rows.specs.Passes.{OnlyReads, IsReading, StillKeepsList, sizes, known};
 ghost use Rattle.ca_node.specs.TreePasses.{tree_of};
 
@@ -37,8 +38,7 @@ pub(crate) fn write_base_with(
     place: Result<u32, u32>,
     item: u32,
 ) -> u32
-    requires reading { IsReading space.now pass.old }
-    requires held { IsHeldIn (sizes space.now) (known pass.old) row }
+    requires row { ReadsAndHolds space.now pass.old row }
     requires shown { IsShownWith (sizes space.now) (tree_of pass.old) target.now.cursor.base target.now.many }
     requires place { IsPlaceFor place target.now.many }
     ensures frame { StillKeepsList pass.old pass.new }
@@ -78,8 +78,7 @@ pub(crate) fn write_base_without(
     target: &Target,
     at: u32,
 ) -> u32
-    requires reading { IsReading space.now pass.old }
-    requires held { IsHeldIn (sizes space.now) (known pass.old) row }
+    requires row { ReadsAndHolds space.now pass.old row }
     requires shown { IsShownWith (sizes space.now) (tree_of pass.old) target.now.cursor.base target.now.many }
     requires place { at < target.now.many }
     ensures frame { StillKeepsList pass.old pass.new }
@@ -115,8 +114,7 @@ fn write_around(
     target: &Target,
     around: &Around<'_>,
 )
-    requires reading { IsReading space.now pass.old }
-    requires held { IsHeldIn (sizes space.now) (known pass.old) row }
+    requires row { ReadsAndHolds space.now pass.old row }
     requires shown { IsShownWith (sizes space.now) (tree_of pass.old) target.now.cursor.base target.now.many }
     requires places { (around.now.before ≤ target.now.many) × (around.now.behind ≤ target.now.many) }
     requires few { around.now.before + length around.now.these.now + (target.now.many - around.now.behind) ≤ 120 }
@@ -152,8 +150,7 @@ fn write_around(
 
 // Copies items of the base that was shown last to a base row that the pass holds: so many, to the places from `to` on those from `from` on.
 pub(crate) fn copy_items(space: &TreeSpace, pass: &mut TreePass, row: u32, to: u32, run: Run)
-    requires reading { IsReading space.now pass.old }
-    requires held { IsHeldIn (sizes space.now) (known pass.old) row }
+    requires row { ReadsAndHolds space.now pass.old row }
     requires shown { IsShownLast (sizes space.now) (tree_of pass.old) run.base }
     requires places { (run.from + run.count ≤ length (last_items (tree_of pass.old))) × (run.from + run.count ≤ 120) × (to + run.count ≤ 120) }
     ensures frame { StillKeepsList pass.old pass.new }

@@ -24,4 +24,3 @@ pub use swapping::STATISTIC;
 pub use taking::{NoRow, give_back, take, take_two};
 pub use target::{Insertion, Keyed, Removal, Target};
 pub use updating::{Putting, put_at};
-pub use writing::{write_base, write_object};

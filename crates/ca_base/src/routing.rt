@@ -4,10 +4,10 @@ ghost use Rattle.ca_node.specs.Row.{pair};
 ghost use Rattle.ca_base.specs.Finding.{IsObjectShown};
 ghost use Rattle.ca_base.specs.Putting.{IsShownLast, last_items};
 ghost use Rattle.ca_base.specs.Splitting.{SpellsRoute};
-ghost use Rattle.ca_base.specs.Writing.{IsHeldIn, SpellsBase, HasWritten};
-ghost use Rattle.ca_base.specs.Holding.{HoldsRow};
+ghost use Rattle.ca_base.specs.Writing.{SpellsBase, HasWritten};
+ghost use Rattle.ca_base.specs.Holding.{HoldsRow, ReadsAndHolds};
 ghost use Rattle.ca_base.specs.Objects.{IsObjectRead};
-ghost use Rattle.ca_rows.specs.Passes.{OnlyReads, IsReading, StillKeepsList, sizes, known};
+ghost use Rattle.ca_rows.specs.Passes.{OnlyReads, StillKeepsList, sizes, known};
 ghost use Rattle.ca_node.specs.TreePasses.{tree_of};
 
 use crate::comparing::key_bytes;
@@ -50,8 +50,7 @@ pub(crate) fn write_route(
 
 /// Writes a half of the base that was shown last: a base row of this level without a mark, with these of its items, and with a statistic of 0.
 pub(crate) fn write_half(space: &TreeSpace, pass: &mut TreePass, row: u32, level: u16, run: Run)
-    requires reading { IsReading space.now pass.old }
-    requires held { IsHeldIn (sizes space.now) (known pass.old) row }
+    requires row { ReadsAndHolds space.now pass.old row }
     requires shown { IsShownLast (sizes space.now) (tree_of pass.old) run.base }
     requires places { (run.from + run.count ≤ length (last_items (tree_of pass.old))) × (run.from + run.count ≤ 120) }
     ensures frame { StillKeepsList pass.old pass.new }

@@ -2,7 +2,7 @@
 ghost use Rattle.ca_node.specs.Layout.{body_word, form_unit};
 ghost use Rattle.ca_rows.specs.Layout.{row_words};
 ghost use Rattle.std.specs.Prelude.{◌≡◌, ◌+◌, ◌-◌, ◌*◌, ◌/◌, ◌%◌, ◌<◌, ◌≤◌, length, slice_index};
-ghost use Rattle.ca_base.specs.Writing.{HasSet, HasFilled, HasBytes, HasEight, SpellsObject, SpellsBase, HasWritten, base_head};
+ghost use Rattle.ca_base.specs.Writing.{HasSet, HasFilled, HasBytes, HasEight, SpellsObject, HasWritten, base_head};
 ghost use Rattle.ca_base.specs.Holding.{HoldsRow};
 ghost use Rattle.ca_rows.specs.Passes.{StillKeepsList, known};
 
@@ -11,7 +11,7 @@ use ca_rows::ROW_WORDS;
 
 /// Writes an object row: the first word, and the object's bytes, eight a word, with zeros behind their end to the end of the row. Its key stands
 /// in it from `key_at` to `key_end`.
-pub fn write_object(
+pub(crate) fn write_object(
     space: &TreeSpace,
     pass: &mut TreePass,
     row: u32,
@@ -30,25 +30,7 @@ pub fn write_object(
     clear(space, pass, row, BODY as usize + object.len().div_ceil(8));
 }
 
-/// Writes a base row of a level without a mark: its items, and the word for its statistic.
-pub fn write_base(
-    space: &TreeSpace,
-    pass: &mut TreePass,
-    row: u32,
-    level: u16,
-    items: &[u32],
-    statistic: u64,
-)
-    requires row { HoldsRow space.now pass.old row }
-    requires few { length items.now ≤ 120 }
-    ensures frame { StillKeepsList pass.old pass.new }
-    ensures written { HasWritten row (SpellsBase items.now level statistic) (known pass.old) (known pass.new) }
-{
-    write_head(space, pass, row, level, items.len() as u32, statistic);
-    write_items(space, pass, row, 0, items);
-}
-
-// Writes the words of such a row before its items, of which there are so many.
+// Writes the words of a base row of a level without a mark that stand before its items, of which there are so many, with the word for its statistic.
 pub(crate) fn write_head(
     space: &TreeSpace,
     pass: &mut TreePass,

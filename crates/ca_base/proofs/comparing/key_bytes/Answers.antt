@@ -7,8 +7,8 @@ use Rattle.ca_base.proofs.comparing.key_bytes.Goals as goal
 use Rattle.ca_node.specs.Layout.{body_word}
 
 pub load_word-word-requires-clause-shown : goal.load_word-word-requires-clause-shown
-load_word-word-requires-clause-shown c =
-    word_shown c.args.pass.now.seat.me.0.upper _ _ (c.requires.object.shown.0, c.requires.object.shown.1.shown)
+load_word-word-requires-clause-shown c = let shown = c.requires.object.shown in
+    word_shown c.args.pass.now.seat.me.0.upper _ _ (shown.0, shown.1.shown)
 
 pub returns-clause-key : goal.returns-clause-key
 returns-clause-key c its shown = let long = shown.long in

@@ -12,7 +12,8 @@ use Rattle.ca_node.specs.Layout.{body_word}
 pub load_word-item-requires-clause-reading : goal.load_word-item-requires-clause-reading
 load_word-item-requires-clause-reading c = record {
   own = c.loop-place.invariant.0.of;
-  pinned = ap (λ (e : Pin). e.pinned) c.loop-place.invariant.0.still.3 ∙ c.requires.reading.pinned;
+  pinned = ap (λ (e : Pin). e.pinned) c.loop-place.invariant.0.still.3
+      ∙ c.requires.row.reading.pinned;
 }
 
 pub load_word-item-requires-clause-inside : goal.load_word-item-requires-clause-inside
@@ -32,7 +33,7 @@ loop-place-init c = (
   begins _ _ c.args.row (body_word + c.args.to)
       (λ k word. word ≡ get_or (last_items c.args.pass.now.seat.me.0.upper) (c.args.run.from + k) 0)
       c.args.pass.now.seat
-      c.requires.reading.own c.requires.held.1,
+      c.requires.row.reading.own c.requires.row.held.1,
   refl,
   refl,
   refl,

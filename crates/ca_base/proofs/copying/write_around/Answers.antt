@@ -7,7 +7,8 @@ use Rattle.ca_base.proofs.copying.write_around.Goals as goal
 use Rattle.ca_node.specs.Layout.{body_word}
 
 pub returns-clause-written : goal.returns-clause-written
-returns-clause-written c = let u = c.args.pass.now.seat.me.0.upper in let m = c.requires.shown.1.0 in
+returns-clause-written c = let u = c.args.pass.now.seat.me.0.upper in
+    let m = c.requires.shown.1.0 in
     let one = c.write_head.ensures.frame.same in let two = c.copy_items.ensures.frame.same in
     let three = c.write_items.ensures.frame.same in
     let rest : c.args.target.now.many - c.args.around.now.behind
@@ -17,7 +18,7 @@ returns-clause-written c = let u = c.args.pass.now.seat.me.0.upper in let m = c.
     c.args.target.now.cursor.level _ c.args.target.now.statistic
     c.args.pass.now.seat.me c.write_head.new.pass.seat.me c.copy_items.new.pass.seat.me
     c.write_items.new.pass.seat.me c.copy_items-2.new.pass.seat.me
-    c.requires.held.1 (omega arith) (omega arith) (omega arith) c.write_head.ensures.filled
+    c.requires.row.held.1 (omega arith) (omega arith) (omega arith) c.write_head.ensures.filled
     (subst (λ (v : TreeView). HasFilled c.args.row (body_word + 0) c.args.around.now.before
     (λ k word. word ≡ get_or (last_items v) (0 + k) 0) c.write_head.new.pass.seat.me
     c.copy_items.new.pass.seat.me) one.4 c.copy_items.ensures.filled)

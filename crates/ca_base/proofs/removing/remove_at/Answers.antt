@@ -23,19 +23,19 @@ returns-in-Err-clause-frame c = record {
   none = c.in-Err.ensures.taken [] (omega arith) c.requires.ready.none;
 }
 
-pub write_base_without-old-requires-clause-held : goal.write_base_without-old-requires-clause-held
-write_base_without-old-requires-clause-held c =
-    let each = (c.in-Ok.ensures.taken [] (omega arith) c.requires.ready.none).1.0.each c.in-Ok.row
-    (in_first c.in-Ok.row []) in (each.1, each.2)
-
-pub write_base_without-old-requires-clause-reading : goal.write_base_without-old-requires-clause-reading
-write_base_without-old-requires-clause-reading c = record {
-  own = (
-    c.take.ensures.frame.same.0 ∙ c.requires.ready.own.0,
-    c.take.ensures.frame.same.2 ∙ c.requires.ready.own.1,
-  );
-  pinned = ap (λ (e : Pin). e.pinned) c.take.ensures.frame.same.3 ∙ c.requires.ready.pinned;
-}
+pub write_base_without-old-requires-clause-row : goal.write_base_without-old-requires-clause-row
+write_base_without-old-requires-clause-row c =
+    let taken = c.in-Ok.ensures.taken [] (omega arith) c.requires.ready.none in
+    let each = taken.1.0.each c.in-Ok.row (in_first c.in-Ok.row []) in record {
+      reading = record {
+        own = (
+          c.take.ensures.frame.same.0 ∙ c.requires.ready.own.0,
+          c.take.ensures.frame.same.2 ∙ c.requires.ready.own.1,
+        );
+        pinned = ap (λ (e : Pin). e.pinned) c.take.ensures.frame.same.3 ∙ c.requires.ready.pinned;
+      };
+      held = (each.1, each.2);
+    }
 
 pub write_base_without-old-requires-clause-shown : goal.write_base_without-old-requires-clause-shown
 write_base_without-old-requires-clause-shown c = let u = c.args.pass.now.seat.me.0.upper in (

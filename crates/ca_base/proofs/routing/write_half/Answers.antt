@@ -10,7 +10,8 @@ pub returns-clause-written : goal.returns-clause-written
 returns-clause-written c = let u = c.args.pass.now.seat.me.0.upper in
     half_written c.args.row c.args.level _ c.args.run.from c.args.run.count (last_items u)
     c.args.pass.now.seat.me c.write_head.new.pass.seat.me
-    c.copy_items.new.pass.seat.me c.requires.held.1 (omega arith) c.requires.places.0 (omega arith)
+    c.copy_items.new.pass.seat.me c.requires.row.held.1 (omega arith) c.requires.places.0
+    (omega arith)
     c.write_head.ensures.filled
     (subst (λ (v : TreeView). HasFilled c.args.row (body_word + 0) c.args.run.count
     (λ i word. word ≡ get_or (last_items v) (c.args.run.from + i) 0)

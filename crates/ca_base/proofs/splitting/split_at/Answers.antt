@@ -16,22 +16,45 @@ use Rattle.ca_base.proofs.Tallies.{tallied_as}
 use Rattle.ca_rows.specs.declared.view.Pin.{Pin}
 use Rattle.ca_base.proofs.splitting.split_at.Goals as goal
 
-pub write_half-requires-clause-held : goal.write_half-requires-clause-held
-write_half-requires-clause-held c =
-    let each = c.in-Ok.ensures.taken.1.0.each c.in-Ok.rows.1 (1, refl) in (each.1, each.2)
+pub write_half-requires-clause-row : goal.write_half-requires-clause-row
+write_half-requires-clause-row c =
+    let each = c.in-Ok.ensures.taken.1.0.each c.in-Ok.rows.1 (1, refl) in record {
+      reading = record {
+        own = (
+          c.take_three.ensures.frame.same.0 ∙ c.requires.ready.own.0,
+          c.take_three.ensures.frame.same.2 ∙ c.requires.ready.own.1,
+        );
+        pinned = ap (λ (p : Pin). p.pinned) c.take_three.ensures.frame.same.3
+            ∙ c.requires.ready.pinned;
+      };
+      held = (each.1, each.2);
+    }
 
-pub write_half-requires-2-clause-held : goal.write_half-requires-2-clause-held
-write_half-requires-2-clause-held c = let t = c.in-Ok.ensures.taken in
+pub write_half-requires-2-clause-row : goal.write_half-requires-2-clause-row
+write_half-requires-2-clause-row c = let t = c.in-Ok.ensures.taken in
     let each = t.1.0.each c.in-Ok.rows.2 (2, refl) in let own = each.2 in
-    let apart = three_apart c.in-Ok.rows.0 c.in-Ok.rows.1 c.in-Ok.rows.2 t.0 in (
-      each.1,
-      (
-        own.0,
-        own.1,
-        c.write_half.ensures.written.2.others c.in-Ok.rows.2 (λ e. apart.2 (sym e))
-            ∙ own.2,
-      ),
-    )
+    let apart = three_apart c.in-Ok.rows.0 c.in-Ok.rows.1 c.in-Ok.rows.2 t.0 in record {
+      reading = record {
+        own = (
+          c.write_half.ensures.frame.same.0
+              ∙ (c.take_three.ensures.frame.same.0 ∙ c.requires.ready.own.0),
+          c.write_half.ensures.frame.same.2
+              ∙ (c.take_three.ensures.frame.same.2 ∙ c.requires.ready.own.1),
+        );
+        pinned = ap (λ (p : Pin). p.pinned) (c.write_half.ensures.frame.same.3
+            ∙ c.take_three.ensures.frame.same.3)
+            ∙ c.requires.ready.pinned;
+      };
+      held = (
+        each.1,
+        (
+          own.0,
+          own.1,
+          c.write_half.ensures.written.2.others c.in-Ok.rows.2 (λ e. apart.2 (sym e))
+              ∙ own.2,
+        ),
+      );
+    }
 
 pub copy_key-requires : goal.copy_key-requires
 copy_key-requires c = let r = c.requires in let u = c.args.pass.now.seat.me.0.upper in
@@ -56,7 +79,8 @@ copy_key-requires c = let r = c.requires in let u = c.args.pass.now.seat.me.0.up
                 ∙ (c.write_half.ensures.frame.same.2 ∙ (c.take_three.ensures.frame.same.2
                 ∙ c.requires.ready.own.1))),
           );
-          pinned = ap (λ (p : Pin). p.pinned) (ap (λ (m : MyTree). m.0.pin) c.item-first.ensures.frame.still
+          pinned = ap (λ (p : Pin). p.pinned)
+              (ap (λ (m : MyTree). m.0.pin) c.item-first.ensures.frame.still
               ∙ (c.write_half-2.ensures.frame.same.3 ∙
               (c.write_half.ensures.frame.same.3 ∙ c.take_three.ensures.frame.same.3)))
               ∙ c.requires.ready.pinned;
@@ -237,28 +261,6 @@ returns-clause-won c alone listed = let still = c.copy_key.ensures.frame.still
     ∙ (c.write_half-2.ensures.frame.same.4
     ∙ (c.write_half.ensures.frame.same.4 ∙ c.take_three.ensures.frame.same.4))))
     c.divide_in.ensures.won alone listed _ refl
-
-pub write_half-requires-clause-reading : goal.write_half-requires-clause-reading
-write_half-requires-clause-reading c = record {
-  own = (
-    c.take_three.ensures.frame.same.0 ∙ c.requires.ready.own.0,
-    c.take_three.ensures.frame.same.2 ∙ c.requires.ready.own.1,
-  );
-  pinned = ap (λ (p : Pin). p.pinned) c.take_three.ensures.frame.same.3 ∙ c.requires.ready.pinned;
-}
-
-pub write_half-requires-2-clause-reading : goal.write_half-requires-2-clause-reading
-write_half-requires-2-clause-reading c = record {
-  own = (
-    c.write_half.ensures.frame.same.0
-        ∙ (c.take_three.ensures.frame.same.0 ∙ c.requires.ready.own.0),
-    c.write_half.ensures.frame.same.2
-        ∙ (c.take_three.ensures.frame.same.2 ∙ c.requires.ready.own.1),
-  );
-  pinned = ap (λ (p : Pin). p.pinned) (c.write_half.ensures.frame.same.3
-      ∙ c.take_three.ensures.frame.same.3)
-      ∙ c.requires.ready.pinned;
-}
 
 pub item-first-requires-clause-reading : goal.item-first-requires-clause-reading
 item-first-requires-clause-reading c = record {

@@ -26,23 +26,23 @@ write_object-requires-clause-row c = let t = c.in-Ok.ensures.taken in
       held = (each.1, each.2);
     }
 
-pub write_base_with-old-requires-clause-held : goal.write_base_with-old-requires-clause-held
-write_base_with-old-requires-clause-held c = let t = c.in-Ok.ensures.taken in
+pub write_base_with-old-requires-clause-row : goal.write_base_with-old-requires-clause-row
+write_base_with-old-requires-clause-row c = let t = c.in-Ok.ensures.taken in
     let w = c.write_object.ensures.written in
     let each = t.1.0.each c.in-Ok.rows.0 (in_first c.in-Ok.rows.0 (c.in-Ok.rows.1 ∷ [])) in
-    let own = each.2 in (each.1, (own.0, own.1, w.2.others c.in-Ok.rows.0 t.0 ∙ own.2))
-
-pub write_base_with-old-requires-clause-reading : goal.write_base_with-old-requires-clause-reading
-write_base_with-old-requires-clause-reading c = record {
-  own = (
-    c.write_object.ensures.frame.same.0
-        ∙ (c.take_two.ensures.frame.same.0 ∙ c.requires.ready.own.0),
-    c.write_object.ensures.frame.same.2
-        ∙ (c.take_two.ensures.frame.same.2 ∙ c.requires.ready.own.1),
-  );
-  pinned = ap (λ (e : Pin). e.pinned) (c.write_object.ensures.frame.same.3
-      ∙ c.take_two.ensures.frame.same.3) ∙ c.requires.ready.pinned;
-}
+    let own = each.2 in record {
+      reading = record {
+        own = (
+          c.write_object.ensures.frame.same.0
+              ∙ (c.take_two.ensures.frame.same.0 ∙ c.requires.ready.own.0),
+          c.write_object.ensures.frame.same.2
+              ∙ (c.take_two.ensures.frame.same.2 ∙ c.requires.ready.own.1),
+        );
+        pinned = ap (λ (e : Pin). e.pinned) (c.write_object.ensures.frame.same.3
+            ∙ c.take_two.ensures.frame.same.3) ∙ c.requires.ready.pinned;
+      };
+      held = (each.1, (own.0, own.1, w.2.others c.in-Ok.rows.0 t.0 ∙ own.2));
+    }
 
 pub write_base_with-old-requires-clause-shown : goal.write_base_with-old-requires-clause-shown
 write_base_with-old-requires-clause-shown c = let u = c.args.pass.now.seat.me.0.upper in (

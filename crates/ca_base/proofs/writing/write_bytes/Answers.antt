@@ -13,8 +13,8 @@ set_word-requires-clause-row c = record {
 
 pub loop-place-init : goal.loop-place-init
 loop-place-init c = (
-  begins _ _ c.args.row body_word (HasEight c.args.bytes.now) c.args.pass.now.seat c.requires.row.own
-      c.requires.row.held.1,
+  begins _ _ c.args.row body_word (HasEight c.args.bytes.now) c.args.pass.now.seat
+      c.requires.row.own c.requires.row.held.1,
   refl,
   refl,
   refl,

@@ -37,7 +37,8 @@ clear-requires-clause-row c = let h = c.requires.row.held.1 in
     }
 
 pub returns-clause-written : goal.returns-clause-written
-returns-clause-written c = let h = c.requires.row.held.1 in let form : ℕ = c.object_form-form.result in
+returns-clause-written c = let h = c.requires.row.held.1 in
+    let form : ℕ = c.object_form-form.result in
     let its : List ℕ = set h.0 0 form in
     let told = c.object_form-form.ensures in let place = c.requires.place in
     let one = rewritten c.args.row h.0 its c.args.pass.now.seat.me c.write_word.new.pass.seat.me h.2
