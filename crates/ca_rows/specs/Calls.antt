@@ -69,10 +69,13 @@ module _ {U : Type 0} where
 
   -- The pass is pinned: it announced an epoch, at one that isn't lower. What it had met of the pool is noted.
   abbrev pub Pins : (U → U) → Mine U → Mine U → Type 0
-  Pins enters m m' = (told : ℕ) × (moment : ℕ) × (told ≤ moment) × (m' ≡ (record m.0 {
-    pin = record m.0.pin { pinned = true; told = told; moment = moment; entered = met_of m };
-    upper = enters m.0.upper;
-  }, m.1))
+  Pins enters m m' = (told : ℕ) × (moment : ℕ) × (told ≤ moment) × (m' ≡ (
+    record m.0 {
+      pin = record m.0.pin { pinned = true; told = told; moment = moment; entered = met_of m };
+      upper = enters m.0.upper;
+    },
+    m.1,
+  ))
 
   -- It isn't pinned any more. What it had met of the pool is noted.
   abbrev pub Unpins : (U → U) → Mine U → Mine U → Type 0
