@@ -65,25 +65,36 @@ module _ {U : Type 0} where
   -- A row that the pass holds has this value at this place of its words.
   abbrev pub WritesWord : ℕ → ℕ → ℕ → Mine U → Mine U → Type 0
   WritesWord row index value m m' = (its : List ℕ) → claim_of m.0.claims row ≡ some (Holds its)
-      → m' ≡ (record m.0 { claims = claimed row (Holds (slice_set its index value)) m.0.claims }, m.1)
+      → m'
+      ≡ (record m.0 { claims = claimed row (Holds (slice_set its index value)) m.0.claims }, m.1)
 
-  -- The pass is pinned: it announced an epoch, at one that isn't lower. What it had met of the pool is noted, and which rows are its.
+  -- The pass is pinned: it announced an epoch, at one that isn't lower. What it had met of the pool
+  -- is noted, and which rows are its.
   abbrev pub Pins : (U → U) → Mine U → Mine U → Type 0
-  Pins enters m m' = (told : ℕ) × (moment : ℕ) × (told ≤ moment) × (m' ≡ (record m.0 {
-    pin = record m.0.pin {
-      pinned = true;
-      told = told;
-      moment = moment;
-      entered = met_of m;
-      begun = begun_of m;
-      begun_at = m.0.pin.looks;
-    };
-    upper = enters m.0.upper;
-  }, m.1))
+  Pins enters m m' = (told : ℕ) × (moment : ℕ) × (told ≤ moment) × (m' ≡ (
+    record m.0 {
+      pin = record m.0.pin {
+        pinned = true;
+        told = told;
+        moment = moment;
+        entered = met_of m;
+        begun = begun_of m;
+        begun_at = m.0.pin.looks;
+      };
+      upper = enters m.0.upper;
+    },
+    m.1,
+  ))
 
-  -- It isn't pinned any more. What it had met of the pool is noted.
+  -- The pass isn't pinned any more. What it had met of the pool is noted.
   abbrev pub Unpins : (U → U) → Mine U → Mine U → Type 0
-  Unpins leaves m m' = m' ≡ (record m.0 { pin = record m.0.pin { pinned = false; left = met_of m }; upper = leaves m.0.upper }, m.1)
+  Unpins leaves m m' = m' ≡ (
+    record m.0 {
+      pin = record m.0.pin { pinned = false; left = met_of m };
+      upper = leaves m.0.upper;
+    },
+    m.1,
+  )
 
 -- The pass has this number, which its announcement goes by.
 abbrev pub IsNumbered : ℕ → Pin → Type 0

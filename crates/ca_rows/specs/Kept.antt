@@ -38,8 +38,10 @@ pub record AreKept (rows : ℕ) (claims : List Claimed) (kept : Vec Kept Global)
   pub are : AreListed rows claims kept.items
   pub room : rows ≤ vec_capacity kept
 
--- Of the list only the rows before a place and those from an end on are kept still: the ones in between were given back, and stand there yet.
-pub record AreKeptBut (rows at end : ℕ) (claims : List Claimed) (kept : Vec Kept Global) : Type 0 where
+-- Of the list only the rows before a place and those from an end on are kept still: the ones in
+-- between were given back, and stand there yet.
+pub record AreKeptBut (rows at end : ℕ) (claims : List Claimed)
+    (kept : Vec Kept Global) : Type 0 where
   pub are : AreListed rows claims (take at kept.items ++ drop end kept.items)
   pub room : rows ≤ vec_capacity kept
 

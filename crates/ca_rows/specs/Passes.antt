@@ -30,7 +30,8 @@ module _ {R U : Type 0} where
     pub own : IsOn space pass
     pub pinned : pass.seat.me.0.pin.pinned ≡ true
 
-  -- The pass is one of this space, has its number, and isn't pinned. Its list is that of the rows that it keeps.
+  -- The pass is one of this space, has its number, and isn't pinned. Its list is that of the rows
+  -- that it keeps.
   pub record MayReclaim (space : Space R U) (pass : Pass R U) : Type 0 where
     pub own : IsOn space pass
     pub number : IsNumbered pass.number pass.seat.me.0.pin

@@ -49,10 +49,14 @@ module _ {U : Type 0} where
     pub reclaims : Reclaims m m'
     pub same_pin : m'.0.pin ≡ m.0.pin
     pub rows_given : given ≡ true → (ks' ≡ ks) × (m'.0.lost ≡ m.0.lost)
-    pub rows_kept : given ≡ false → ((row : Kept) × (m.0.pin.scan ≤ row.at) × (ks' ≡ take at ks ++ (drop end ks ++ row ∷ []))) × (m'.0.lost ≡ m.0.lost + 1)
+    pub rows_kept : given ≡ false
+        → ((row : Kept) × (m.0.pin.scan ≤ row.at) × (ks' ≡ take at ks ++ (drop end ks ++ row ∷ [])))
+        × (m'.0.lost ≡ m.0.lost + 1)
 
-  -- So many rows were given back, of all that were kept for two epochs, and so many exchanges lost: each of those rows is kept anew.
-  pub record GivesOld (epoch freed losses : ℕ) (m m' : Mine U) (kept kept' : Vec Kept Global) : Type 0 where
+  -- So many rows were given back, of all that were kept for two epochs, and so many exchanges lost:
+  -- each of those rows is kept anew.
+  pub record GivesOld (epoch freed losses : ℕ) (m m' : Mine U)
+      (kept kept' : Vec Kept Global) : Type 0 where
     pub reclaims : Reclaims m m'
     pub same_pin : m'.0.pin ≡ m.0.pin
     pub freed_are : freed + vec_len kept' ≡ vec_len kept
@@ -99,22 +103,28 @@ pub record Rounds {U : Type 0} (passes number : ℕ) (answer : Round) (m m' : Mi
   pub lags : m'.0.pin.lags ≡ m.0.pin.lags + lag_count answer.lag
   -- After a lag no round follows.
   pub unlagged : answer.more ≡ true → answer.lag ≡ None
-  -- Whatever was lost, only rows are kept still that were kept for less than two epochs, or are kept anew.
+  -- Whatever was lost, only rows are kept still that were kept for less than two epochs, or are
+  -- kept anew.
   pub young : (r t : ℕ) → kept_of ks' r ≡ some t → e < t + 2
   pub goes_on : answer.more ≡ true → answer.losses ≡ 0 → m'.0.pin.scan ≡ e + 1
   pub near : m'.0.pin.scan ≤ e + 1
   pub stops : answer.more ≡ false → m'.0.pin.scan ≡ e
-  -- Whatever was lost, another round follows but where nothing is kept, a pass lags, or the epoch is at its last value.
+  -- Whatever was lost, another round follows but where nothing is kept, a pass lags, or the epoch is
+  -- at its last value.
   pub ends : answer.more ≡ false → answer.lag ≡ None → m'.0.pin.scan < 4611686018427387904 → ks' ≡ []
   -- Where nothing is kept nobody is looked at, and the epoch isn't moved.
   pub rests : ks' ≡ [] → (answer.more ≡ false) × (answer.lag ≡ None) × (answer.losses ≤ length ks)
 
 -- The rounds of one call, by its answer and by the lists of kept rows before and after.
-pub record MakesRounds {U : Type 0} (answer : Reclaimed) (m m' : Mine U) (ks ks' : List Kept) : Type 0 where
+pub record MakesRounds {U : Type 0} (answer : Reclaimed) (m m' : Mine U)
+    (ks ks' : List Kept) : Type 0 where
   pub most : m'.0.pin.looks ≤ m.0.pin.looks + 3
-  -- Whatever was lost, there are three but where nothing is kept any more, a pass lags, or the epoch is at its last value.
-  pub three : answer.lag ≡ None → m'.0.pin.scan < 4611686018427387904 → (ks' ≡ []) ⊎ (m'.0.pin.looks ≡ m.0.pin.looks + 3)
+  -- Whatever was lost, there are three but where nothing is kept any more, a pass lags, or the epoch
+  -- is at its last value.
+  pub three : answer.lag ≡ None → m'.0.pin.scan < 4611686018427387904
+      → (ks' ≡ []) ⊎ (m'.0.pin.looks ≡ m.0.pin.looks + 3)
   -- Whatever was lost, no row is kept still that was kept for more than two epochs.
   pub recent : (r t : ℕ) → kept_of ks' r ≡ some t → m'.0.pin.scan ≤ t + 2
   -- Where nothing was kept there is one, which looks at nobody and tries no exchange.
-  pub idle : ks ≡ [] → (m'.0.pin.looks ≡ m.0.pin.looks + 1) × (answer.lag ≡ None) × (answer.losses ≡ 0)
+  pub idle : ks ≡ []
+      → (m'.0.pin.looks ≡ m.0.pin.looks + 1) × (answer.lag ≡ None) × (answer.losses ≡ 0)

@@ -112,12 +112,15 @@ module _ {U : Type 0} where
   abbrev pub Left : (U → U) → Step (Unit {0}) → Mine U → ℕ → Mine U → Type 0
   Left leaves st m n m' = m' ≡ (record m.0 { pin = record m.0.pin { pinned = false; left = met_of m }; upper = leaves m.0.upper }, m.1)
 
-  -- The row is kept, since this epoch. It isn't below that of the last look, and no row is kept since a later one.
+  -- The row is kept, since this epoch. The epoch isn't below that of the last look, and no row is
+  -- kept since a later one.
   abbrev pub KeepsSince : ℕ → ℕ → Mine U → Mine U → Type 0
-  KeepsSince q n m m' = (0 < q) × (0 < m.0.sizes.rows → q ≤ m.0.sizes.rows) × (n ≤ 4611686018427387904) × (m.0.pin.scan ≤ n)
-      × ((r t : ℕ) → claim_of m.0.claims r ≡ some (Keeps t) → t ≤ n) × (m' ≡ (record m.0 { claims = claimed q (Keeps n) m.0.claims }, m.1))
+  KeepsSince q n m m' = (0 < q) × (0 < m.0.sizes.rows → q ≤ m.0.sizes.rows)
+      × (n ≤ 4611686018427387904) × (m.0.pin.scan ≤ n)
+      × ((r t : ℕ) → claim_of m.0.claims r ≡ some (Keeps t) → t ≤ n)
+      × (m' ≡ (record m.0 { claims = claimed q (Keeps n) m.0.claims }, m.1))
 
-  -- So it is since the epoch that was loaded.
+  -- The epoch was loaded, since which the row is kept.
   abbrev pub Retired : ℕ → Step (Unit {0}) → Mine U → ℕ → Mine U → Type 0
   Retired q st m n m' = KeepsSince q n m m'
 
@@ -140,7 +143,8 @@ module _ {U : Type 0} where
 
   -- The pass holds a row that it kept.
   abbrev pub HoldsAgain : ℕ → Mine U → Mine U → Type 0
-  HoldsAgain q m m' = (its : List ℕ) × (length its ≡ row_words) × (m' ≡ with_most (record m.0 { claims = claimed q (Holds its) m.0.claims }, m.1))
+  HoldsAgain q m m' = (its : List ℕ) × (length its ≡ row_words)
+      × (m' ≡ with_most (record m.0 { claims = claimed q (Holds its) m.0.claims }, m.1))
 
   abbrev pub Regained : ℕ → Step (Unit {0}) → Mine U → ℕ → Mine U → Type 0
   Regained q st m n m' = HoldsAgain q m m'
