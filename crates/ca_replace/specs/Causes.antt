@@ -1,5 +1,5 @@
 -- Why calls are refused, and which rows a pass keeps behind a call.
-use Rattle.std.specs.Prelude.{◌≡◌, ◌≢◌, ◌⊎◌, ℕ, ◌+◌, ◌-◌, ◌<◌, ◌≤◌, min, List, Vec, vec_len, [], length}
+use Rattle.std.specs.Prelude.{◌≡◌, ◌≢◌, ◌⊎◌, ◌↔◌, IsTrue, false, ℕ, ◌+◌, ◌-◌, ◌<◌, ◌≤◌, min, List, Vec, vec_len, [], length}
 use Rattle.std.specs.declared.option.Option.{Option}
 use Rattle.std.specs.declared.option.Option.TheVariants.{None, Some}
 use Rattle.std.specs.Global.{Global}
@@ -21,7 +21,8 @@ use Rattle.ca_rows.specs.declared.kept.Kept.{Kept}
 use Rattle.ca_rows.specs.declared.sizes.Sizes.{Sizes}
 use Rattle.ca_rows.specs.declared.view.Claimed.{Claimed}
 use Rattle.ca_rows.specs.Kept.{AreKept}
-use Rattle.ca_rows.specs.Reclaiming.{IsLag}
+use Rattle.ca_rows.specs.declared.reclaimed.Reclaimed.{Reclaimed}
+use Rattle.ca_rows.specs.Reclaiming.{IsLag, lag_count, Reclaims}
 
 -- From one of these moments to the other the pass began a look at the others. What it knows then of a pass that lags, and of the epoch, is of its last look.
 abbrev pub HasLooked : MyTree → MyTree → Type 0
@@ -102,6 +103,19 @@ KeepsFew m m' kept = (vec_len kept ≤ 64) ⊎ (HasLooked m m' × ((0 < m'.0.pin
 abbrev pub LagsOnce : MyTree → MyTree → Type 0
 LagsOnce m m' = (m'.0.pin.lags ≤ m.0.pin.lags + 1) × (m'.0.pin.entered ≡ m.0.pin.entered) × (m'.0.pin.begun ≡ m.0.pin.begun)
     × (m'.0.pin.begun_at ≡ m.0.pin.begun_at)
+
+-- Rows were given back by a look at the others, which answered so.
+pub record HasGiven (passes number : ℕ) (answer : Reclaimed) (m m' : MyTree) (kept' : Vec Kept Global) : Type 0 where
+  pub reclaims : Reclaims m m'
+  pub looked : HasLooked m m'
+  pub kept : answer.kept ≡ vec_len kept'
+  pub lag : IsLag passes number answer.lag m'.0.pin
+  pub lags : m'.0.pin.lags ≡ m.0.pin.lags + lag_count answer.lag
+  pub losses : m'.0.lost ≡ m.0.lost + answer.losses
+  pub epoch : answer.epoch ≡ m'.0.pin.scan
+  pub lost : IsTrue answer.lost ↔ (0 < answer.losses)
+  -- Where no pass lags, no exchange was lost, and the epoch may still move, all rows were given back.
+  pub all : answer.lag ≡ None → answer.lost ≡ false → m'.0.pin.scan < 4611686018427387904 → answer.kept ≡ 0
 
 -- Rows were given back, and nothing else was learnt or met.
 pub record GaveBack (m m' : MyTree) : Type 0 where

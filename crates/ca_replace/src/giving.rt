@@ -1,9 +1,7 @@
 //! Passes between two calls give back the rows that they keep.
 ghost use Rattle.std.specs.Prelude.{◌≡◌, ◌⊎◌, ◌↔◌, false, ◌+◌, ◌<◌, ◌≤◌, min, IfErr, IsErr, IsOk, IsTrue, vec_len};
-ghost use Rattle.std.specs.declared.option.Option.TheVariants.{None};
 ghost use Rattle.ca_replace.specs.Attempting.{IsPaid, total};
-ghost use Rattle.ca_replace.specs.Causes.{GaveBack, HasLooked, IsRefill, KeepsFew, MayGoOn};
-ghost use Rattle.ca_rows.specs.Reclaiming.{IsLag, lag_count, Reclaims};
+ghost use Rattle.ca_replace.specs.Causes.{GaveBack, HasGiven, HasLooked, IsRefill, KeepsFew, MayGoOn};
 ghost use Rattle.ca_rows.specs.Passes.{sizes, known, view};
 ghost use Rattle.ca_node.specs.TreePasses.{tree_of};
 ghost use Rattle.ca_replace.specs.Resting.{IsAtRest, StaysAtRest};
@@ -74,15 +72,7 @@ pub(crate) fn refill(
 fn give_back_kept(tree: &Tree, pass: &mut TreePass) -> Reclaimed
     requires resting { IsAtRest tree.now.space pass.old }
     ensures frame { StaysAtRest tree.now.space pass.old pass.new }
-    ensures reclaims { Reclaims (known pass.old) (known pass.new) }
-    ensures looked { HasLooked (known pass.old) (known pass.new) }
-    ensures kept { result.kept ≡ vec_len pass.new.kept.rows }
-    ensures lag { IsLag (sizes tree.now.space).passes pass.old.number result.lag (view pass.new).pin }
-    ensures lags { (view pass.new).pin.lags ≡ (view pass.old).pin.lags + lag_count result.lag }
-    ensures losses { (view pass.new).lost ≡ (view pass.old).lost + result.losses }
-    ensures epoch { result.epoch ≡ (view pass.new).pin.scan }
-    ensures lost { IsTrue result.lost ↔ 0 < result.losses }
-    ensures all { result.lag ≡ None → result.lost ≡ false → (view pass.new).pin.scan < 4611686018427387904 → result.kept ≡ 0 }
+    ensures given { HasGiven (sizes tree.now.space).passes pass.old.number result (known pass.old) (known pass.new) pass.new.kept.rows }
 {
     tree.space.reclaim(pass)
 }

@@ -11,6 +11,7 @@ ghost use Rattle.ca_replace.specs.Called.{HasTold, StaysStore};
 ghost use Rattle.ca_replace.specs.Causes.{IsSparing};
 ghost use Rattle.ca_replace.specs.Growing.{IsSameTree};
 ghost use Rattle.ca_replace.specs.Resting.{IsResting, knows};
+ghost use Rattle.ca_replace.specs.Seen.{store_of};
 ghost use Rattle.ca_term.specs.declared.bounds.TheConstants.{MOST_CODE_BYTES};
 ghost use Rattle.ca_rows.specs.Passes.{sizes};
 
@@ -68,10 +69,7 @@ impl TreeStore<'_> {
     /// The store of a pass of this tree that holds no row and isn't pinned, as one that was just made.
     pub fn new(tree: &Tree, pass: TreePass) -> TreeStore<'_>
         requires { IsResting tree.now.space.table.shared.table_id (sizes tree.now.space) pass.number pass.tally pass.kept.rows pass.seat }
-        ensures tree { (result.table ≡ tree.now.space.table.shared.table_id) × (result.z ≡ sizes tree.now.space) }
-        ensures tuning { result.tuning ≡ tree.now.tuning }
-        ensures last { (result.last.statistic ≡ pos 0) × (result.last.adapted ≡ IsStay) }
-        ensures pass { (result.number ≡ pass.number) × (result.tally ≡ pass.tally) × (result.kept ≡ pass.kept.rows) × (result.seat ≡ pass.seat) }
+        ensures store { result ≡ store_of tree.now pass (record { statistic = pos 0; adapted = IsStay }) }
     {
         let last = Last {
             statistic: 0,

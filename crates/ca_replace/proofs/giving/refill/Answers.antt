@@ -17,8 +17,8 @@ returns-clause-again c = λ _. let given = c.give_back_kept-given in
     let all = λ (calm : given.result.lost ≡ false). ⊎_elim
     (λ (few : (4611686018427387904 ≤ given.result.epoch) × (given.result.kept ≤ 0)).
     let n = few.1 in let none : given.result.kept ≡ 0 = omega arith in none)
-    (λ (room : given.result.epoch < 4611686018427387904). given.ensures.all lag calm
-    (subst (λ n. n < 4611686018427387904) given.ensures.epoch room))
+    (λ (room : given.result.epoch < 4611686018427387904). given.ensures.given.all lag calm
+    (subst (λ n. n < 4611686018427387904) given.ensures.given.epoch room))
     c.else-given-ge-LAST_EPOCH.either in record {
       some = let positive : c.args.kept ≡ 0 → ⊥ = c.if-kept-eq0.false in grind (arith, positive);
       unspent = let room = subst
@@ -28,13 +28,13 @@ returns-clause-again c = λ _. let given = c.give_back_kept-given in
           (λ (more : c.args.spent.now.lost < c.add-spent.result). inr (omega arith))
           (none_or_lost given.result.lost given.result.losses c.args.spent.now.lost
           c.add-spent.result c.args.budget given.result.kept
-          (vec_len given.new.pass.kept.rows) given.ensures.lost (let room = subst
+          (vec_len given.new.pass.kept.rows) given.ensures.given.lost (let room = subst
           (λ n. n < c.args.budget) c.spent_in_all.ensures
           c.if-spent_in_all-budget.false in
-          omega arith) (omega arith) c.add-spent.ensures.sum given.ensures.kept all);
+          omega arith) (omega arith) c.add-spent.ensures.sum given.ensures.given.kept all);
       begins = none_or_more given.result.lost given.result.losses given.result.kept
-          given.ensures.lost all (vec_len given.new.pass.kept.rows) given.ensures.kept
-          c.args.pass.now.seat.me given.new.pass.seat.me given.ensures.losses
-          given.ensures.reclaims.same_upper;
-      unlagged = let none = ap lag_count lag in let sum = given.ensures.lags in omega arith;
+          given.ensures.given.lost all (vec_len given.new.pass.kept.rows) given.ensures.given.kept
+          c.args.pass.now.seat.me given.new.pass.seat.me given.ensures.given.losses
+          given.ensures.given.reclaims.same_upper;
+      unlagged = let none = ap lag_count lag in let sum = given.ensures.given.lags in omega arith;
     }
