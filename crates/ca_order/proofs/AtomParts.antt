@@ -257,7 +257,8 @@ begins_atom bytes body rest text t w o e =
     (omega arith) (record { shallow = omega arith; narrow = w.narrow })
 
 -- A run of so few bytes that is a text has no more characters.
-pub run_is_text : (bytes run text rest : List ℕ) → HasNoZero run × BeginsWithBytes bytes run rest → (text ≡ run) × IsUtf8 run
+pub run_is_text : (bytes run text rest : List ℕ) → HasNoZero run × BeginsWithBytes bytes run rest
+    → (text ≡ run) × IsUtf8 run
     → length run ≤ MOST_CODE_POINTS → HasNoZero text × BeginsWithText bytes text rest
 run_is_text bytes run text rest b w l =
     let e = w.0 in

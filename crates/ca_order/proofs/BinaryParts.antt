@@ -127,7 +127,8 @@ opened_short bytes rest o h n =
     (stuck_behind HasBytes HasBytes (opened o.inside) rest [] (bytes_rest o.inside o.are_bytes) (stuck_in_run rest n here))
 
 -- A run without zero bytes, and its end.
-pub run_begins : (bytes run behind rest : List ℕ) → AreBytes bytes → HasNoZero run → bytes ≡ run ++ 0 ∷ behind → behind ≡ 0 ∷ rest → BeginsWithBytes bytes run rest
+pub run_begins : (bytes run behind rest : List ℕ) → AreBytes bytes → HasNoZero run
+    → bytes ≡ run ++ 0 ∷ behind → behind ≡ 0 ∷ rest → BeginsWithBytes bytes run rest
 run_begins bytes run behind rest h n e f = record {
   inside = run;
   are_bytes = bytes_front run (0 ∷ behind) (subst AreBytes e h);

@@ -53,23 +53,3 @@ pub escaped_no_zero : (bs : List ℕ) → HasNoZero bs → escaped bs ≡ bs ++ 
 escaped_no_zero [] h = escaped_nil
 escaped_no_zero (zero ∷ bs) h = absurd (omega (arith, h.0))
 escaped_no_zero (suc b ∷ bs) h = escaped_suc b bs ∙ (λ j. suc b ∷ escaped_no_zero bs h.1 j)
-
-no_zero_suc : (bs : List ℕ) (i : ℕ) → i < length bs → HasNoZero (take i bs) → (get_or bs i 0 ≡ 0 → ⊥) → HasNoZero (take (suc i) bs)
-no_zero_suc [] i h z n = absurd (omega arith)
-no_zero_suc (zero ∷ bs) zero h z n = absurd (n refl)
-no_zero_suc (suc b ∷ bs) zero h z n = (omega arith, tt)
-no_zero_suc (b ∷ bs) (suc i) h z n = (z.0, no_zero_suc bs i (omega arith) z.1 n)
-
--- One more byte that isn't zero.
-pub no_zero_more : (bs : List ℕ) (i : ℕ) → i < length bs → HasNoZero (take i bs) → (get_or bs i 0 ≡ 0 → ⊥) → HasNoZero (take (i + 1) bs)
-no_zero_more bs i h z n = rw add-one (no_zero_suc bs i h z n)
-
-zero_at : (bs : List ℕ) (i : ℕ) → i < length bs → get_or bs i 0 ≡ 0 → bs ≡ take i bs ++ 0 ∷ drop (suc i) bs
-zero_at [] i h e = absurd (omega arith)
-zero_at (b ∷ bs) zero h e = ap (λ (x : ℕ). x ∷ bs) e
-zero_at (b ∷ bs) (suc i) h e = λ j. b ∷ zero_at bs i (omega arith) e j
-
--- Up to a zero byte there was none.
-pub split_near : (bs : List ℕ) (i : ℕ) → i < length bs → HasNoZero (take i bs) → get_or bs i 0 ≡ 0
-    → HasNoZero (take i bs) × (bs ≡ take i bs ++ 0 ∷ take (length bs - (i + 1)) (drop (i + 1) bs))
-split_near bs i h z e = (z, zero_at bs i h e ∙ ap (λ (x : List ℕ). take i bs ++ 0 ∷ x) (sym (rest_is bs i)))

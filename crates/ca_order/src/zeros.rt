@@ -5,26 +5,8 @@ ghost use Rattle.ca_order.specs.Escapes.{IsEscape};
 
 use memchr::memchr;
 
-// How many bytes are looked at one by one: most texts and binaries end among them, and a search by `memchr` begins slowly.
-const NEAR: usize = 24;
-
 // The bytes before the first zero byte and those behind it, or None where there is no zero byte.
-#[inline(always)]
 pub(crate) fn split_at_zero(bytes: &[u8]) -> Option<(&[u8], &[u8])>
-    ensures { MatchOption result (HasNoZero bytes.now) (λ p. HasNoZero p.0.now × (bytes.now ≡ p.0.now ++ 0 ∷ p.1.now)) }
-{
-    let near = bytes.len().min(NEAR);
-    for i in 0..near {
-        if bytes[i] == 0 {
-            return Some((&bytes[..i], &bytes[i + 1..]));
-        }
-    }
-    split_at_far_zero(bytes)
-}
-
-// The same, where the first zero byte may be far.
-#[inline(never)]
-fn split_at_far_zero(bytes: &[u8]) -> Option<(&[u8], &[u8])>
     ensures { MatchOption result (HasNoZero bytes.now) (λ p. HasNoZero p.0.now × (bytes.now ≡ p.0.now ++ 0 ∷ p.1.now)) }
 {
     match memchr(0, bytes) {

@@ -1,6 +1,8 @@
-use Rattle.std.proofs.Common.{arith}
-use Rattle.ca_order.proofs.FirstZero.{no_zero_more}
+use Rattle.ca_order.proofs.FirstZero.{split_first, split_last}
 use Rattle.ca_order.proofs.zeros.split_at_zero.Goals as goal
 
-pub loop-i-preserved : goal.loop-i-preserved
-loop-i-preserved c = no_zero_more c.args.bytes.now c.loop-i.i (omega arith) c.loop-i.invariant c.if-bytes-i-eq0.false
+pub returns-in-Some : goal.returns-in-Some
+returns-in-Some c = split_first c.args.bytes.now c.in-Some.zero c.in-Some.ensures.0 c.in-Some.ensures.1
+
+pub returns-in-None : goal.returns-in-None
+returns-in-None c = split_last c.args.bytes.now c.in-None.ensures
