@@ -33,9 +33,11 @@ run_more bytes left behind b r e n = record {
 run_here : (bytes left behind end : List ℕ) (b : ℕ) → AreBytes bytes → IsRun bytes left
     → left ≡ b ∷ behind → b ≡ 0 → behind ≡ 0 ∷ end
     → (run : List ℕ) × BeginsWithBytes bytes run end
-run_here bytes left behind end b h r e z f =
-    (r.run, run_begins bytes r.run behind end h r.no_zero
-    (r.parts ∙ ap (λ (x : List ℕ). r.run ++ x) (e ∙ ap (λ (x : ℕ). x ∷ behind) z)) f)
+run_here bytes left behind end b h r e z f = (
+  r.run,
+  run_begins bytes r.run behind end h r.no_zero
+      (r.parts ∙ ap (λ (x : List ℕ). r.run ++ x) (e ∙ ap (λ (x : ℕ). x ∷ behind) z)) f,
+)
 
 -- Behind the run and its end stands what stands behind the escaped bytes.
 pub run_ends : (bytes left behind end : List ℕ) (b : ℕ) → AreBytes bytes → IsRun bytes left
