@@ -4,9 +4,9 @@ use Rattle.std.proofs.Math.Seq.{take-append_seam}
 use Rattle.std.proofs.lemmas.List.{take_more}
 use Rattle.std.proofs.str.Laws.{Shape, of1, of2, of3, of4, shape, one, both, scalars-append}
 use lib.Utf8.{scalar, scalar_cases}
-use Rattle.std.proofs.lemmas.Str.{cons_from_encodes, encode_same, chars-encodes}
+use Rattle.std.proofs.lemmas.Str.{cons_from_encodes, encode_same, chars-encodes, encodes-chars, length-le-encodes}
 use Rattle.std.specs.Char.{IsScalar, encode_utf8}
-use Rattle.std.specs.Str.{encode_utf8_all, all_scalars, IsUtf8}
+use Rattle.std.specs.Str.{chars, encode_utf8_all, all_scalars, IsUtf8}
 use Rattle.ca_term.specs.declared.bounds.TheConstants.{MOST_CODE_POINTS}
 use Rattle.ca_term.specs.Tree.{Tree, Atom, IsNarrow}
 use Rattle.ca_term.specs.Character.{IsNoCharacter}
@@ -15,7 +15,7 @@ use Rattle.ca_term.proofs.Escapes.{escaped_zero, escaped_suc, escaped_nil}
 use Rattle.ca_order.specs.Zeros.{HasNoZero, opened}
 use Rattle.ca_order.specs.Stuck.{IsStuck, IsRest}
 use Rattle.ca_order.specs.Languages.{HasText, HasChar}
-use Rattle.ca_order.specs.Reads.{BeginsWithText, BeginsWithTerm}
+use Rattle.ca_order.specs.Reads.{BeginsWithBytes, BeginsWithText, BeginsWithTerm}
 use Rattle.ca_order.proofs.Opened.{escaped_append, escaped_ends, opened_append, opened_no_zero, opened_zero, opened_nil, same_opened, escaped_after, same_head, same_second}
 use Rattle.ca_order.proofs.Starts.{stuck_here, IsPrefixFree, Begins}
 use Rattle.ca_order.proofs.Parts.{at_atom, begins_as}
@@ -255,6 +255,25 @@ begins_atom bytes body rest text t w o e =
     begins_as 1 (0x30 ∷ bytes) rest t (Atom w.text) (e ∙ ap Atom same) (ap (λ (x : List ℕ). 0x30 ∷ x) inner ∙ ap (λ x. x ++ rest)
     (sym (at_atom (Atom w.text) w.text refl)))
     (omega arith) (record { shallow = omega arith; narrow = w.narrow })
+
+-- A run of so few bytes that is a text has no more characters.
+pub run_is_text : (bytes run text rest : List ℕ) → HasNoZero run × BeginsWithBytes bytes run rest
+    → (text ≡ run) × IsUtf8 run
+    → length run ≤ MOST_CODE_POINTS → HasNoZero text × BeginsWithText bytes text rest
+run_is_text bytes run text rest b w l =
+    let e = w.0 in
+    let u : IsUtf8 text = subst IsUtf8 (sym e) w.1 in
+    let few : length (chars text) ≤ MOST_CODE_POINTS =
+    omega (arith, length-le-encodes (chars text), ap length (encodes-chars text u), ap length e, l) in
+    let plain : HasNoZero text = subst HasNoZero (sym e) b.0 in (
+      plain,
+      record {
+        text = text;
+        narrow = (u, few);
+        body_is = sym (opened_no_zero text plain);
+        parts = b.1.parts ∙ ap (λ (x : List ℕ). x ++ 0 ∷ 0 ∷ rest) (sym e);
+      },
+    )
 
 -- A text that is read makes an atom within the bounds.
 pub text_narrow : (bytes body rest text : List ℕ) → BeginsWithText bytes body rest → opened text ≡ body → IsNarrow (Atom text)

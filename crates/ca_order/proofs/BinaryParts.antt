@@ -126,6 +126,16 @@ opened_short bytes rest o h n =
     subst (λ (x : List ℕ). IsStuck HasBytes x []) (sym o.parts)
     (stuck_behind HasBytes HasBytes (opened o.inside) rest [] (bytes_rest o.inside o.are_bytes) (stuck_in_run rest n here))
 
+-- A run without zero bytes, and its end.
+pub run_begins : (bytes run behind rest : List ℕ) → AreBytes bytes → HasNoZero run
+    → bytes ≡ run ++ 0 ∷ behind → behind ≡ 0 ∷ rest → BeginsWithBytes bytes run rest
+run_begins bytes run behind rest h n e f = record {
+  inside = run;
+  are_bytes = bytes_front run (0 ∷ behind) (subst AreBytes e h);
+  body_is = sym (opened_no_zero run n);
+  parts = e ∙ ap (λ (x : List ℕ). run ++ 0 ∷ x) f;
+}
+
 -- the binary that escaped bytes make
 pub begins_binary : (bytes body rest inside : List ℕ) (t : Tree) → BeginsWithBytes bytes body rest → opened inside ≡ body → t ≡ Binary inside
     → BeginsWithTerm 1 (0x80 ∷ bytes) t rest

@@ -1,4 +1,5 @@
 pub mod Around
+pub mod ByteOrder
 pub mod CodeParts
 pub mod Counted
 pub mod Cuts
@@ -17,6 +18,7 @@ pub mod Parts
 pub mod Put
 pub mod ReadNumbers
 pub mod Replaced
+pub mod Runs
 pub mod Sizes
 pub mod Skipped
 pub mod Starts

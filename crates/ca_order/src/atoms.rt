@@ -1,24 +1,47 @@
 //! Atoms, read back.
-ghost use Rattle.std.specs.Prelude.{◌≡◌, ◌∷◌, IfOk, MatchResult};
+ghost use Rattle.std.specs.Prelude.{◌≡◌, ◌∷◌, IfOk, IfSome, MatchResult};
 ghost use Rattle.ca_term.specs.declared.bounds.TheConstants.{MOST_CODE_POINTS};
 ghost use Rattle.ca_term.specs.Tree.{Atom, IsNarrow};
 ghost use Rattle.ca_order.specs.Languages.{HasText};
+ghost use Rattle.ca_order.specs.Zeros.{HasNoZero};
 ghost use Rattle.ca_order.specs.Reads.{IsReadFault, BeginsWithTerm, BeginsWithText, IsStep};
 
-use crate::binaries::unescape;
+use crate::binaries::{run_to_end, unescape};
 use crate::fault::{ReadFault, stuck};
-use crate::zeros::{Escape, after_zero, split_at_zero};
+use crate::zeros::{Escape, after_zero};
 use ca_term::{MOST_CODE_POINTS, Term, TermFault, atom, character};
 use std::alloc::Global;
 
-// The atom whose escaped text these bytes begin with, and the bytes behind it.
+// The atom whose escaped text these bytes begin with, and the bytes behind it. A short one without a zero byte is read as a whole.
 pub(crate) fn read_atom(alloc: Global, bytes: &[u8]) -> Result<(Term, &[u8]), ReadFault>
     ensures { MatchResult result (λ p. BeginsWithTerm 1 (0x30 ∷ bytes.now) p.0 p.1.now) (λ e. IsReadFault (HasText MOST_CODE_POINTS) bytes.now e) }
 {
+    if let Some((text, rest)) = short_text(bytes) {
+        return Ok((atom(alloc, text)?, rest));
+    }
+    read_any_atom(alloc, bytes)
+}
+
+// The text that these bytes begin with, where it has no zero byte and so few bytes that it can't have too many characters.
+#[inline(always)]
+fn short_text(bytes: &[u8]) -> Option<(&str, &[u8])>
+    ensures { IfSome result (λ p. HasNoZero p.0.now × BeginsWithText bytes.now p.0.now p.1.now) }
+{
+    let (run, rest) = run_to_end(bytes)?;
+    if run.len() > MOST_CODE_POINTS {
+        return None;
+    }
+    match str::from_utf8(run) {
+        Ok(text) => Some((text, rest)),
+        Err(_) => None,
+    }
+}
+
+// The same, where the text may have zero bytes or be too long.
+fn read_any_atom(alloc: Global, bytes: &[u8]) -> Result<(Term, &[u8]), ReadFault>
+    ensures { MatchResult result (λ p. BeginsWithTerm 1 (0x30 ∷ bytes.now) p.0 p.1.now) (λ e. IsReadFault (HasText MOST_CODE_POINTS) bytes.now e) }
+{
     let (body, rest) = read_text(bytes)?;
-    let Some(_) = split_at_zero(body) else {
-        return Ok((atom_of(alloc, body)?, rest));
-    };
     let text = unescape(alloc, body)?;
     Ok((atom_of(alloc, text.as_slice())?, rest))
 }

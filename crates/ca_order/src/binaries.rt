@@ -1,8 +1,8 @@
 //! Escaped bytes, read back.
-ghost use Rattle.std.specs.Prelude.{◌≡◌, ◌∷◌, ◌++◌, List, ℕ, IfOk, IfErr, MatchResult};
+ghost use Rattle.std.specs.Prelude.{◌≡◌, ◌∷◌, ◌++◌, List, ℕ, IfOk, IfErr, IfSome, MatchResult};
 ghost use Rattle.ca_term.specs.Code.{code_of};
 ghost use Rattle.ca_order.specs.Languages.{HasBytes};
-ghost use Rattle.ca_order.specs.Zeros.{opened};
+ghost use Rattle.ca_order.specs.Zeros.{HasNoZero, opened};
 ghost use Rattle.ca_order.specs.Reads.{IsReadFault, IsStuckFault, BeginsWithTerm, BeginsWithBytes};
 
 use crate::fault::{ReadFault, stuck};
@@ -10,16 +10,35 @@ use crate::zeros::{Escape, after_zero, split_at_zero};
 use ca_term::{Term, bin, bin_of};
 use std::alloc::{AllocError, Global};
 
-// The binary whose escaped bytes these bytes begin with, and the bytes behind it.
+// The binary whose escaped bytes these bytes begin with, and the bytes behind it. Where it holds no zero byte its bytes are read once.
 pub(crate) fn read_binary(alloc: Global, bytes: &[u8]) -> Result<(Term, &[u8]), ReadFault>
     ensures { MatchResult result (λ p. BeginsWithTerm 1 (0x80 ∷ bytes.now) p.0 p.1.now) (λ e. IsReadFault HasBytes bytes.now e) }
 {
+    if let Some((run, rest)) = run_to_end(bytes) {
+        return Ok((bin(alloc, run)?, rest));
+    }
+    read_any_binary(alloc, bytes)
+}
+
+// The same, where there may be zero bytes in the binary.
+fn read_any_binary(alloc: Global, bytes: &[u8]) -> Result<(Term, &[u8]), ReadFault>
+    ensures { MatchResult result (λ p. BeginsWithTerm 1 (0x80 ∷ bytes.now) p.0 p.1.now) (λ e. IsReadFault HasBytes bytes.now e) }
+{
     let (body, rest) = read_escaped(bytes)?;
-    let Some(_) = split_at_zero(body) else {
-        return Ok((bin(alloc, body)?, rest));
-    };
     let inside = unescape(alloc, body)?;
     Ok((bin_of(inside), rest))
+}
+
+// The bytes before the first zero byte, where they end there, and those behind their end.
+#[inline(always)]
+pub(crate) fn run_to_end(bytes: &[u8]) -> Option<(&[u8], &[u8])>
+    ensures { IfSome result (λ p. HasNoZero p.0.now × BeginsWithBytes bytes.now p.0.now p.1.now) }
+{
+    let (run, behind) = split_at_zero(bytes)?;
+    match after_zero(behind) {
+        Escape::End(rest) => Some((run, rest)),
+        Escape::Zero(_) | Escape::Neither => None,
+    }
 }
 
 // The escaped bytes that these bytes begin with, without their end, and the bytes behind their end.

@@ -8,6 +8,7 @@ ghost use Rattle.ca_order.specs.Languages.{IsTermCode};
 
 use crate::binaries::read_escaped;
 use crate::tags::{ATOM, BINARY, CONS, NIL, TUPLE};
+use crate::zeros::{Escape, after_zero};
 
 /// Where the code of a tuple's element `keypos`, counted from 1, stands in the tuple's code: its start and its end in bytes.
 /// `None` where the code is no tuple's, or the tuple has fewer elements. It takes no memory.
@@ -97,9 +98,36 @@ pub(crate) fn split_size(bytes: &[u8]) -> (usize, &[u8])
     (usize::from(size[3]), rest)
 }
 
-// The bytes behind escaped ones and their end.
+// How many bytes are looked at one by one: most texts and binaries end among them.
+const NEAR: usize = 24;
+
+// The bytes behind escaped ones and their end. It goes byte by byte where no zero byte is among them.
 #[inline(always)]
+#[tactic(auto, using(crate::proofs::Runs::runs))]
 fn skip_escaped(bytes: &[u8]) -> &[u8]
+    requires { (inside : List ℕ) × (end : List ℕ) × (bytes.now ≡ escaped inside ++ end) }
+    ensures rest { (inside end : List ℕ) → bytes.now ≡ escaped inside ++ end → result.now ≡ end }
+    ensures shorter { length result.now ≤ length bytes.now }
+{
+    let mut left = bytes;
+    for _ in 0..NEAR {
+        let Some((byte, behind)) = left.split_first() else {
+            return skip_any_escaped(bytes);
+        };
+        if *byte == 0 {
+            return match after_zero(behind) {
+                Escape::End(rest) => rest,
+                Escape::Zero(_) | Escape::Neither => skip_any_escaped(bytes),
+            };
+        }
+        left = behind;
+    }
+    skip_any_escaped(bytes)
+}
+
+// The same, where there may be zero bytes in them.
+#[inline(never)]
+fn skip_any_escaped(bytes: &[u8]) -> &[u8]
     requires { (inside : List ℕ) × (end : List ℕ) × (bytes.now ≡ escaped inside ++ end) }
     ensures rest { (inside end : List ℕ) → bytes.now ≡ escaped inside ++ end → result.now ≡ end }
     ensures shorter { length result.now ≤ length bytes.now }

@@ -1,16 +1,18 @@
 //! Results of the objects of a run.
-ghost use Rattle.std.specs.Prelude.{◌≡◌, ◌≤◌, [], IfErr, IfOk, OnOk, None};
+ghost use Rattle.std.specs.Prelude.{◌≡◌, ◌≤◌, [], IfErr, IfOk, OnOk, None, Some};
+ghost use Rattle.ca_term.specs.Code.{code_of};
+ghost use Rattle.ca_term.specs.Tree.{IsTerm, Tree};
 ghost use Rattle.ca_order.specs.Languages.{IsTermCode};
 ghost use Rattle.ca_model.specs.Edges.{IsProperBound, bound_of};
 ghost use Rattle.ca_model.specs.Known.{StaysBesideRun};
-ghost use Rattle.ca_table.specs.Collected.{AddsObject, AreCollected, AreWithin, CountsOnly, IsOpenRun, IsStopped, WasAsked, is_full, left_of, wanted};
+ghost use Rattle.ca_table.specs.Collected.{Adds, AddsObject, AreCollected, AreWithin, CountsOnly, IsOpenRun, IsStopped, WasAsked, is_full, left_of, wanted};
 
 use crate::kept::Object;
 use crate::outcome::{Stop, done};
 use ca_model::{Code, Edge, OrderedStore};
 use ca_order::decode;
 use ca_spec::{Spec, apply, apply_code};
-use ca_term::Terms;
+use ca_term::{Term, Terms};
 use std::alloc::{AllocError, Global};
 
 // What is collected of a run: results in key order, and the last object that gave one.
@@ -40,6 +42,20 @@ impl Collected {
         let Some(found) = apply_code(alloc, spec, code.as_slice())? else {
             return Ok(());
         };
+        let Ok(()) = self.keep(found, code) else {
+            return Err(AllocError);
+        };
+        Ok(())
+    }
+
+    // With this result of the object of this code. It stands apart, since a function clears the room of all its values at each call, and an object is
+    // long: most objects have no result.
+    #[inline(never)]
+    fn keep(&mut self, found: Term, code: &Code) -> Result<(), AllocError>
+        requires { IsTermCode code.now.items }
+        ensures { OnOk result ((o : Tree) → IsTerm o → code.now.items ≡ code_of o
+            → Adds (Some found) o self.old.results.items self.old.last self.new.results.items self.new.last) }
+    {
         let Ok(()) = self.results.push(found) else {
             return Err(AllocError);
         };

@@ -1,26 +1,9 @@
-use Rattle.std.proofs.Common.{ℕ, List, sym, ◌∙◌, ap, subst}
-use Rattle.ca_term.specs.Tree.{Atom, IsNarrow}
 use Rattle.ca_order.proofs.Opened.{opened_no_zero}
-use Rattle.ca_order.proofs.AtomParts.{begins_atom, text_narrow}
+use Rattle.ca_order.proofs.AtomParts.{begins_atom}
 use Rattle.ca_order.proofs.atoms.read_atom.Goals as goal
 
-pub atom_of-requires : goal.atom_of-requires
-atom_of-requires c =
-    text_narrow c.args.bytes.now c.in_ok-body.body.now c.in_ok-body.rest.now c.in_ok-body.body.now c.in_ok-body.ensures
-    (opened_no_zero c.in_ok-body.body.now c.in_default.ensures)
-
-pub returns-in_default : goal.returns-in_default
-returns-in_default c =
-    begins_atom c.args.bytes.now c.in_ok-body.body.now c.in_ok-body.rest.now c.in_ok-body.body.now c.in_ok-atom_of.field-0 c.in_ok-body.ensures
-    (opened_no_zero c.in_ok-body.body.now c.in_default.ensures) c.in_ok-atom_of.ensures
-
-pub atom_of-requires-2 : goal.atom_of-requires-2
-atom_of-requires-2 c =
-    let items = c.in_ok-text.text.items in
-    subst (λ (x : List ℕ). IsNarrow (Atom x)) (sym c.as_slice.ensures.value)
-    (text_narrow c.args.bytes.now c.in_ok-body.body.now c.in_ok-body.rest.now items c.in_ok-body.ensures c.in_ok-text.ensures)
-
-pub returns : goal.returns
-returns c =
-    begins_atom c.args.bytes.now c.in_ok-body.body.now c.in_ok-body.rest.now c.in_ok-text.text.items c.in_ok-atom_of-2.field-0 c.in_ok-body.ensures
-    c.in_ok-text.ensures (c.in_ok-atom_of-2.ensures ∙ ap Atom c.as_slice.ensures.value)
+pub returns-in-Some : goal.returns-in-Some
+returns-in-Some c =
+    begins_atom c.args.bytes.now c.in-Some.text.now c.in-Some.rest.now c.in-Some.text.now
+    c.in_ok-atom.field-0 c.in-Some.ensures.1
+    (opened_no_zero c.in-Some.text.now c.in-Some.ensures.0) c.in_ok-atom.ensures.ok

@@ -1,21 +1,8 @@
-use Rattle.ca_order.specs.Languages.{HasBytes}
-use Rattle.ca_order.proofs.Faults.{refused, stuck_is_fault}
-use Rattle.ca_order.proofs.BinaryParts.{begins_binary, begins_plain_binary, is_opened}
+use Rattle.ca_order.proofs.BinaryParts.{begins_plain_binary}
 use Rattle.ca_order.proofs.binaries.read_binary.Goals as goal
 
-pub returns-in_default : goal.returns-in_default
-returns-in_default c =
-    begins_plain_binary c.args.bytes.now c.in_ok-body.body.now c.in_ok-body.rest.now c.in_ok-bin.field-0 c.in_ok-body.ensures c.in_default.ensures
+pub returns-in-Some : goal.returns-in-Some
+returns-in-Some c =
+    begins_plain_binary c.args.bytes.now c.in-Some.run'.now c.in-Some.rest.now c.in_ok-bin.field-0
+    c.in-Some.ensures.1 c.in-Some.ensures.0
     c.in_ok-bin.ensures.ok
-
-pub unescape-requires : goal.unescape-requires
-unescape-requires c = is_opened c.args.bytes.now c.in_ok-body.body.now c.in_ok-body.rest.now c.in_ok-body.ensures
-
-pub returns : goal.returns
-returns c =
-    begins_binary c.args.bytes.now c.in_ok-body.body.now c.in_ok-body.rest.now c.in_ok-inside.inside.items c.bin_of.result c.in_ok-body.ensures
-    c.in_ok-inside.ensures c.bin_of.ensures
-
-pub returns-in_err-body : goal.returns-in_err-body
-returns-in_err-body c =
-    refused _ _ _ _ c.from_residual.ensures.1 (stuck_is_fault HasBytes c.args.bytes.now c.in_err-body.field-0.0 c.in_err-body.ensures)
