@@ -1,5 +1,5 @@
 -- States of the history that a seat may answer by: those since it was pinned.
-use Rattle.std.specs.Prelude.{◌≡◌, ℕ, ◌<◌, ◌≤◌, List, [], length, map}
+use Rattle.std.specs.Prelude.{◌≡◌, ℕ, ◌<◌, ◌≤◌, [], length, map}
 use Rattle.ca_model.specs.Event.{Event, IsAnswer, effect}
 use Rattle.ca_model.specs.History.{state}
 use Rattle.ca_model.specs.StoreMap.{StoreMap}

@@ -4,7 +4,7 @@ use mathlib.Core.Option.{some, none}
 use lib.ListN.{get_elem?}
 use Rattle.atomic_table.specs.Table.{Step}
 use Rattle.ca_model.specs.Event.{Event, Get, IsAnswer, effect}
-use Rattle.ca_model.specs.History.{Edit, Del, History, after, after_edit, IsEdit, AreEdits, AreByPasses}
+use Rattle.ca_model.specs.History.{Edit, Del, History, after_edit, IsEdit, AreEdits, AreByPasses}
 use Rattle.ca_model.specs.declared.outcome.Cause.{Cause}
 use Rattle.ca_model.specs.Known.{Counts, one_more}
 use Rattle.ca_model.specs.Lawful.{IsLawful}
@@ -20,7 +20,7 @@ use Rattle.ca_node.specs.Links.{IsIn}
 use Rattle.ca_node.specs.declared.link.Link.{Link}
 use Rattle.ca_node.specs.declared.link.Link.TheVariants as link
 use Rattle.ca_node.specs.Marks.{IsMark}
-use Rattle.ca_node.specs.Place.{Span, all_keys, left_of, right_of, HasKey, part, Place, left_place, right_place, edit_key}
+use Rattle.ca_node.specs.Place.{Span, all_keys, left_of, right_of, HasKey, Place, left_place, right_place, edit_key}
 use Rattle.ca_node.specs.Row.{IsObjectRow, IsBaseRow, IsRouteRow, count, level, items, IsUnmarked, IsIdle, key, route_key, pair}
 use Rattle.ca_node.specs.States.{HasState, IsAlone, IsReadAt}
 use Rattle.ca_node.specs.Tree.{ArePast, IsFixed}

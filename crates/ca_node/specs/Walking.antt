@@ -1,9 +1,9 @@
 -- Walks from the root link to a base.
-use Rattle.std.specs.Prelude.{◌≡◌, ◌≢◌, ◌⊎◌, Bool, true, false, not, ℕ, ◌+◌, ◌*◌, ◌<◌, ◌≤◌, List, [], ◌∷◌, ◌++◌, length, map, Option, None, Some}
+use Rattle.std.specs.Prelude.{◌≡◌, ◌≢◌, ◌⊎◌, Bool, true, false, not, ℕ, ◌+◌, ◌*◌, ◌<◌, ◌≤◌, List, ◌∷◌, ◌++◌, length, Option, None, Some}
 use Rattle.std.specs.declared.cmp.Ordering.TheVariants.{Less, Greater}
 use Rattle.std.specs.Ordering.{is_lt, is_gt}
 use Rattle.ca_model.specs.Edges.{Bound, Unbounded, Included, Excluded}
-use Rattle.ca_model.specs.History.{History, after}
+use Rattle.ca_model.specs.History.{History}
 use Rattle.ca_model.specs.StoreMap.{bytes_cmp}
 use Rattle.ca_rows.specs.declared.sizes.Sizes.{Sizes}
 use Rattle.ca_node.specs.declared.cursor.Cursor.{Cursor}
@@ -13,8 +13,8 @@ use Rattle.ca_node.specs.declared.link.Link.{Link}
 use Rattle.ca_node.specs.declared.link.Link.TheVariants as link
 use Rattle.ca_node.specs.Inventory.{IsListed}
 use Rattle.ca_node.specs.Links.{IsIn}
-use Rattle.ca_node.specs.Place.{Span, HasKey, part, Place}
-use Rattle.ca_node.specs.Row.{count, route_key, pair}
+use Rattle.ca_node.specs.Place.{Span, HasKey, Place}
+use Rattle.ca_node.specs.Row.{count, route_key}
 use Rattle.ca_node.specs.Told.{MyTree, with_upper, IsBaseNote, IsRouteNote, IsKnown, IsShownRoute, link_word}
 use Rattle.ca_node.specs.States.{HasState, IsAlone}
 use Rattle.ca_node.specs.TreeView.{Note, Way, TreeView}

@@ -1,5 +1,5 @@
 -- What was lost is counted, and why calls are refused.
-use Rattle.std.proofs.Common.{◌≡◌, ◌≢◌, ◌⊎◌, ◌↔◌, IsTrue, vec_len, ◌∙◌, ℕ, ◌+◌, ◌-◌, ◌*◌, ◌<◌, ◌≤◌, min, Bool, true, false, List, [], Vec, Result, Ok, Err, IfErr, ap, sym, subst, refl, inl, inr, ⊎_elim, arith}
+use Rattle.std.proofs.Common.{◌≡◌, ◌≢◌, ◌⊎◌, ◌↔◌, IsTrue, vec_len, ◌∙◌, ℕ, ◌+◌, ◌-◌, ◌*◌, ◌<◌, ◌≤◌, min, Bool, true, false, List, Vec, Result, Ok, Err, IfErr, ap, sym, subst, refl, inl, inr, ⊎_elim, arith}
 use Rattle.std.specs.Global.{Global}
 use Rattle.ca_replace.specs.declared.attempting.Stop.{Stop}
 use Rattle.ca_replace.specs.declared.attempting.Stop.TheVariants as stop
@@ -12,7 +12,7 @@ use Rattle.ca_model.specs.declared.outcome.Cause.{Cause}
 use Rattle.ca_model.specs.declared.outcome.Cause.TheVariants as refusal
 use Rattle.std.specs.declared.option.Option.{Option}
 use Rattle.std.specs.declared.option.Option.TheVariants.{None as Nothing, Some as Just}
-use Rattle.ca_base.specs.Counting.{losses, HasMet}
+use Rattle.ca_base.specs.Counting.{losses}
 use Rattle.ca_model.specs.Known.{Counts}
 use Rattle.ca_replace.specs.Attempting.{helps, passes, total, IsPaid, IfDeep, refused_as}
 use Rattle.ca_replace.specs.Causes.{HasBegun, IsCaused, IsFullSince, IsRefill, IsUnspent, IfRefusedAs, KeepsFew}

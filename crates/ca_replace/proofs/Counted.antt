@@ -1,5 +1,5 @@
 -- What calls count, from one attempt to the next.
-use Rattle.std.proofs.Common.{◌≡◌, ◌⊎◌, ℕ, ◌+◌, ◌-◌, ◌<◌, ◌≤◌, min, Result, Ok, Err, subst, refl, ap, ◌∙◌, inl, inr, ⊎_elim, arith}
+use Rattle.std.proofs.Common.{◌≡◌, ◌⊎◌, ℕ, ◌+◌, ◌-◌, ◌<◌, ◌≤◌, min, Result, Ok, Err, subst, refl, ap, inl, inr, ⊎_elim, arith}
 use Rattle.ca_model.specs.declared.outcome.Spent.{Spent}
 use Rattle.ca_base.specs.Counting.{losses, HasMet, IsSpent}
 use Rattle.ca_base.proofs.Counts.{met_both}
@@ -7,7 +7,7 @@ use Rattle.ca_node.specs.Told.{MyTree}
 use Rattle.ca_node.specs.TreeView.{TreeView, Turns}
 use Rattle.ca_replace.specs.declared.attempting.Stop.{Stop}
 use Rattle.ca_replace.specs.declared.attempting.Stop.TheVariants as stop
-use Rattle.ca_replace.specs.Attempting.{helps, passes, total, HasMetBy, HasStopped, IsPaid, IsQuiet}
+use Rattle.ca_replace.specs.Attempting.{passes, total, HasMetBy, HasStopped, IsPaid, IsQuiet}
 
 -- Nothing was met.
 pub none_met : (m : MyTree) → HasMet 0 0 m m
@@ -100,10 +100,10 @@ pub stopped_behind : {T : Type 0} (r : Result T Stop) (k m n : MyTree) → IsQui
     → HasStopped r m n → HasStopped r k n
 stopped_behind r k m n q h = let lost = q.lost in
     let same = ap (λ (t : Turns). t.passed) q.same_turns in (
-  met_then r k m n q.met h.0,
-  (λ e. let more = h.1 e in omega arith),
-  λ e. let more = h.2 e in omega arith,
-)
+      met_then r k m n q.met h.0,
+      (λ e. let more = h.1 e in omega arith),
+      λ e. let more = h.2 e in omega arith,
+    )
 
 -- One that did the call met nothing that is told.
 pub done_stopped : {T : Type 0} (x : T) (m n : MyTree) → HasStopped (Ok x) m n

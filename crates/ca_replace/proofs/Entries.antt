@@ -1,5 +1,5 @@
 -- Calls that edit nothing: what a pass knows after one, and what such a call tells.
-use Rattle.std.proofs.Common.{◌≡◌, ◌≤◌, ℕ, Bool, true, false, List, [], length, sym, refl, ap, ◌∙◌, subst, arith}
+use Rattle.std.proofs.Common.{◌≡◌, ◌≤◌, ℕ, Bool, true, false, List, [], length, sym, refl, subst, arith}
 use Rattle.ca_model.specs.Answer.{Got}
 use Rattle.ca_model.specs.Event.{Event, IsAnswer, effect}
 use Rattle.ca_model.specs.Known.{Known, Meets}

@@ -23,7 +23,7 @@ use Rattle.ca_node.specs.declared.cursor.Spot.TheVariants as spot
 use Rattle.ca_node.specs.Laws.{starts_whole}
 use Rattle.ca_node.specs.Links.{IsIn}
 use Rattle.ca_node.specs.Place.{HasKey, edit_key}
-use Rattle.ca_node.specs.Told.{MyTree, with_upper, IsEntered, IsKnown, one_more_lost}
+use Rattle.ca_node.specs.Told.{MyTree, IsEntered, IsKnown, one_more_lost}
 use Rattle.ca_node.specs.TreeView.{Inventory, Note, Renewal, TreeView, Turns, one_passed, pinned, unpinned}
 use Rattle.ca_node.specs.Walking.{IsWalked}
 use Rattle.ca_node.proofs.Looking.{further}

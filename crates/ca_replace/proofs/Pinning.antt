@@ -1,8 +1,6 @@
 -- What is noted as a pass pins, over the turns of an attempt and from one attempt to the next.
-use Rattle.std.proofs.Common.{◌≡◌, ◌≢◌, ◌⊎◌, ℕ, cond, eqb, ◌+◌, ◌<◌, ◌≤◌, List, Vec, vec_len, sym, refl, ap, ◌∙◌, subst, inl, inr, ⊎_elim, arith, eq-eqb, ne_eqb}
+use Rattle.std.proofs.Common.{◌≡◌, ◌≢◌, ◌⊎◌, ℕ, cond, ◌+◌, ◌<◌, ◌≤◌, List, Vec, vec_len, sym, ap, ◌∙◌, subst, inl, inr, ⊎_elim, arith, eq-eqb, ne_eqb}
 use Rattle.std.specs.Global.{Global}
-use mathlib.Core.Logic.{dite}
-use native.Mathlib.Decide.{ℕ_discrete}
 use Rattle.ca_base.specs.Counting.{losses, HasMet}
 use Rattle.ca_node.specs.Told.{MyTree}
 use Rattle.ca_replace.specs.Causes.{HasBegun, HasPinned, LagsOnce}

@@ -13,7 +13,6 @@ use Rattle.ca_node.specs.declared.cursor.Spot.{Spot}
 use Rattle.ca_node.specs.declared.cursor.Spot.TheVariants as spot
 use Rattle.ca_node.specs.Inventory.{IsListed}
 use Rattle.ca_node.specs.Laws.{starts_whole}
-use Rattle.ca_node.specs.Place.{part}
 use Rattle.ca_node.specs.States.{HasState, IsAlone, IsAtPin, IsReadSince, IsUnanswered, OfSomeState}
 use Rattle.ca_node.specs.Row.{object, pair}
 use Rattle.ca_node.specs.Told.{MyTree, with_upper, IsEntered, IsKnown, led_to_base, led_to_route, IsLed, IsLedToBase, IsLedToRoute}

@@ -1,5 +1,5 @@
 -- What a base has of a state since the pin.
-use Rattle.std.proofs.Common.{◌≡◌, ℕ, zero, suc, ◌≤◌, List, [], ◌∷◌, length, map, take, sym, refl, ap, ◌∙◌, subst, arith}
+use Rattle.std.proofs.Common.{◌≡◌, ℕ, zero, suc, ◌≤◌, [], ◌∷◌, length, map, take, sym, refl, ap, ◌∙◌, subst, arith}
 use Rattle.ca_model.specs.History.{History, after, state, AreEdits}
 use Rattle.ca_model.specs.StoreMap.{StoreMap, IsStoreMap}
 use Rattle.ca_model.proofs.Edits.{map_after}

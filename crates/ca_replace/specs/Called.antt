@@ -1,5 +1,5 @@
 -- What a call of a pass's store tells beside its event, if it may edit.
-use Rattle.std.specs.Prelude.{◌≡◌, ◌≤◌, ℕ, Bool, List}
+use Rattle.std.specs.Prelude.{◌≡◌, ℕ, Bool, List}
 use Rattle.std.specs.declared.option.Option.{Option}
 use Rattle.ca_model.specs.declared.outcome.Outcome.{Outcome}
 use Rattle.ca_replace.specs.Adapting.{HasMetAs, LeavesAs}

@@ -103,10 +103,13 @@ module _ {U : Type 0} where
   -- It was announced, at an epoch that isn't lower. What the seat has met of the pool until then is noted, and which rows are its.
   abbrev pub Announced : (U → U) → Step (Unit {0}) → Mine U → ℕ → Mine U → Type 0
   Announced enters st m n m' = (moment : ℕ) × (m.0.pin.told ≤ moment)
-      × (m' ≡ (record m.0 {
-        pin = record m.0.pin { pinned = true; moment = moment; entered = met_of m; begun = begun_of m; begun_at = m.0.pin.looks };
-        upper = enters m.0.upper;
-      }, m.1))
+      × (m' ≡ (
+        record m.0 {
+          pin = record m.0.pin { pinned = true; moment = moment; entered = met_of m; begun = begun_of m; begun_at = m.0.pin.looks };
+          upper = enters m.0.upper;
+        },
+        m.1,
+      ))
 
   -- The announcement was taken back. What the seat has met of the pool until then is noted.
   abbrev pub Left : (U → U) → Step (Unit {0}) → Mine U → ℕ → Mine U → Type 0

@@ -1,4 +1,4 @@
-use Rattle.std.proofs.Common.{◌≡◌, ℕ, ◌<◌, refl, ap, ◌∙◌, sym, subst, inl, inr, vec_len, Result, [], false, true, arith}
+use Rattle.std.proofs.Common.{◌≡◌, ℕ, ◌<◌, refl, ap, ◌∙◌, sym, subst, inl, inr, vec_len, Result, false, true, arith}
 use Rattle.ca_node.specs.TreeView.{TreeView}
 use Rattle.ca_base.specs.Progress.{IsFurther}
 use Rattle.ca_replace.specs.declared.attempting.Stop.{Stop}
