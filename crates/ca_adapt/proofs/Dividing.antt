@@ -1,7 +1,7 @@
 -- What became of a base that was to be split, by what became of its exchange.
 use Rattle.std.proofs.Common.{◌≡◌, ◌≢◌, ℕ, Bool, true, false, length, Result, Ok, Err, sym, refl, subst, inl, inr}
 use Rattle.ca_adapt.specs.declared.adapted.Adapted.{Adapted}
-use Rattle.ca_adapt.specs.Splits.{HasSplitBack, IsOneTry, IsSplitAs, MayBeSplit, IsPoolsLoss, answer_to, attempts_at_first}
+use Rattle.ca_adapt.specs.Splits.{HasSplitBack, IsOneTry, IsSplitOutcome, MayBeSplit, IsPoolsLoss, answer_to, attempts_at_first}
 use Rattle.ca_base.specs.declared.taking.NoRow.{NoRow}
 use Rattle.ca_base.specs.declared.taking.NoRow.TheVariants as norow
 use Rattle.ca_base.specs.Counting.{HasCleared, HasEnded}
@@ -18,7 +18,7 @@ use Rattle.ca_rows.specs.declared.sizes.Sizes.{Sizes}
 split_by : (z : Sizes) (note : Note) (r : Result Bool NoRow) (m m' : MyTree) → MayBeSplit z note
     → HasEnded r m m'
     → HasSplit (length note.objects) (attempts_at_first z) r m.0.upper m'.0.upper
-    → IsSplitAs z note (answer_to r) m m'
+    → IsSplitOutcome z note (answer_to r) m m'
 split_by z note (Ok true) m m' may ended split = (may, ended.0, split)
 split_by z note (Ok false) m m' may ended split = (may, ended.0, ended.1, inr split)
 split_by z note (Err norow.Lost) m m' may ended split = (may, ended.0, ended.1, inl split)
@@ -29,10 +29,10 @@ split_by z note (Err norow.Worn) m m' may ended split = (may, ended, split)
 pub split_as : (z : Sizes) (note : Note) (r : Result Bool NoRow) (a : Adapted) (many attempt : ℕ)
     (k m m' : MyTree) → m ≡ k → many ≡ length note.objects
     → attempt ≡ attempts_at_first z → a ≡ answer_to r → MayBeSplit z note → HasEnded r m m'
-    → HasSplit many attempt r m.0.upper m'.0.upper → IsSplitAs z note a k m'
+    → HasSplit many attempt r m.0.upper m'.0.upper → IsSplitOutcome z note a k m'
 split_as z note r a many attempt k m m' same are first is may ended split = subst
-    (λ (x : Adapted). IsSplitAs z note x k m') (sym is)
-    (subst (λ (x : MyTree). IsSplitAs z note (answer_to r) x m') same
+    (λ (x : Adapted). IsSplitOutcome z note x k m') (sym is)
+    (subst (λ (x : MyTree). IsSplitOutcome z note (answer_to r) x m') same
     (split_by z note r m m' may ended
     (subst (λ (n : ℕ × ℕ). HasSplit n.0 n.1 r m.0.upper m'.0.upper) (λ i. (are i, first i)) split)))
 

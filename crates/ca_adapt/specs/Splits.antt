@@ -30,27 +30,27 @@ abbrev pub MayBeSplit : Sizes → Note → Type 0
 MayBeSplit z note = (2 ≤ length note.objects) × (note.place.level < z.levels)
 
 -- This is why the base was not split, given what the pass knew before and behind.
-abbrev pub IsNotSplitBy : Sizes → Note → Why → MyTree → MyTree → Type 0
-IsNotSplitBy z note why.Root m m' = ⊥
-IsNotSplitBy z note why.OneObject m m' = (length note.objects < 2) × (m' ≡ m)
-IsNotSplitBy z note why.AtLevel m m' = (2 ≤ length note.objects) × (z.levels ≤ note.place.level) × (m' ≡ m)
-IsNotSplitBy z note why.SiblingRoute m m' = ⊥
-IsNotSplitBy z note why.TooMany m m' = ⊥
+abbrev pub IsWhyNotSplit : Sizes → Note → Why → MyTree → MyTree → Type 0
+IsWhyNotSplit z note why.Root m m' = ⊥
+IsWhyNotSplit z note why.OneObject m m' = (length note.objects < 2) × (m' ≡ m)
+IsWhyNotSplit z note why.AtLevel m m' = (2 ≤ length note.objects) × (z.levels ≤ note.place.level) × (m' ≡ m)
+IsWhyNotSplit z note why.SiblingRoute m m' = ⊥
+IsWhyNotSplit z note why.TooMany m m' = ⊥
 -- Nothing marks a base as yet.
-IsNotSplitBy z note why.Taken m m' = ⊥
-IsNotSplitBy z note why.Lost m m' = MayBeSplit z note × (losses m < losses m') × HasMet 0 0 m m'
+IsWhyNotSplit z note why.Taken m m' = ⊥
+IsWhyNotSplit z note why.Lost m m' = MayBeSplit z note × (losses m < losses m') × HasMet 0 0 m m'
     × ((m'.0.upper ≡ m.0.upper) ⊎ (m'.0.upper ≡ one_more_lost m.0.upper))
-IsNotSplitBy z note why.NoRow m m' = MayBeSplit z note × HasMet 1 0 m m' × (m'.0.upper ≡ m.0.upper)
-IsNotSplitBy z note why.Worn m m' = MayBeSplit z note × HasMet 0 1 m m' × (m'.0.upper ≡ m.0.upper)
+IsWhyNotSplit z note why.NoRow m m' = MayBeSplit z note × HasMet 1 0 m m' × (m'.0.upper ≡ m.0.upper)
+IsWhyNotSplit z note why.Worn m m' = MayBeSplit z note × HasMet 0 1 m m' × (m'.0.upper ≡ m.0.upper)
 
 -- This became of the base that was to be split: its exchange was won, or there is the cause.
-abbrev pub IsSplitAs : Sizes → Note → Adapted → MyTree → MyTree → Type 0
-IsSplitAs z note adapted.Stay m m' = ⊥
-IsSplitAs z note adapted.Split m m' = MayBeSplit z note × HasMet 0 0 m m'
+abbrev pub IsSplitOutcome : Sizes → Note → Adapted → MyTree → MyTree → Type 0
+IsSplitOutcome z note adapted.Stay m m' = ⊥
+IsSplitOutcome z note adapted.Split m m' = MayBeSplit z note × HasMet 0 0 m m'
     × HasSplit (length note.objects) (attempts_at_first z) (Ok true) m.0.upper m'.0.upper
-IsSplitAs z note adapted.Joined m m' = ⊥
-IsSplitAs z note (adapted.NotSplit why) m m' = IsNotSplitBy z note why m m'
-IsSplitAs z note (adapted.NotJoined why) m m' = ⊥
+IsSplitOutcome z note adapted.Joined m m' = ⊥
+IsSplitOutcome z note (adapted.NotSplit why) m m' = IsWhyNotSplit z note why m m'
+IsSplitOutcome z note (adapted.NotJoined why) m m' = ⊥
 
 -- A base that was split was split by one try: no exchange was lost in it.
 abbrev pub IsOneTry : Adapted → MyTree → MyTree → Type 0

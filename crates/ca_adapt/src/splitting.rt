@@ -1,6 +1,6 @@
 //! Splits of a base.
 ghost use Rattle.std.specs.Prelude.{◌≡◌, ◌<◌, true};
-ghost use Rattle.ca_adapt.specs.Splits.{HasSplitBack, IsOneTry, IsSplitAs, IsPoolsLoss, answer_to, attempts_at_first};
+ghost use Rattle.ca_adapt.specs.Splits.{HasSplitBack, IsOneTry, IsSplitOutcome, IsPoolsLoss, answer_to, attempts_at_first};
 ghost use Rattle.ca_adapt.specs.Tuned.{IsTuned};
 ghost use Rattle.ca_base.specs.Counting.{IsSpent};
 ghost use Rattle.ca_base.specs.Finding.{IsAtCursor, IsReadable};
@@ -29,7 +29,7 @@ pub fn split(space: &TreeSpace, pass: &mut TreePass, cursor: &Cursor, tuning: &T
     requires readable { IsReadable (sizes space.now) (tree_of pass.old) cursor.now.base (shown_last pass.old) }
     requires at { IsAtCursor (sizes space.now) (shown_last pass.old) cursor.now }
     ensures frame { StaysReady space.now pass.old pass.new }
-    ensures split { IsSplitAs (sizes space.now) (shown_last pass.old) result (known pass.old) (known pass.new) }
+    ensures split { IsSplitOutcome (sizes space.now) (shown_last pass.old) result (known pass.old) (known pass.new) }
     ensures once { IsOneTry result (known pass.old) (known pass.new) }
     ensures back { HasSplitBack result (known pass.old) (known pass.new) pass.old.kept pass.new.kept }
     ensures won { IsAlone (sizes space.now) (tree_of pass.old) → IsListed (tree_of pass.old).inventory (shown_last pass.old)
@@ -56,7 +56,7 @@ pub fn try_split(
     requires readable { IsReadable (sizes space.now) (tree_of pass.old) cursor.base (shown_last pass.old) }
     requires at { IsAtCursor (sizes space.now) (shown_last pass.old) cursor }
     ensures frame { StaysReady space.now pass.old pass.new }
-    ensures split { IsSplitAs (sizes space.now) (shown_last pass.old) result (known pass.old) (known pass.new) }
+    ensures split { IsSplitOutcome (sizes space.now) (shown_last pass.old) result (known pass.old) (known pass.new) }
     ensures once { IsOneTry result (known pass.old) (known pass.new) }
     ensures back { HasSplitBack result (known pass.old) (known pass.new) pass.old.kept pass.new.kept }
     ensures won { IsAlone (sizes space.now) (tree_of pass.old) → IsListed (tree_of pass.old).inventory (shown_last pass.old)

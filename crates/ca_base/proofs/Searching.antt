@@ -11,7 +11,7 @@ use Rattle.ca_model.specs.Places.{IsPlace}
 use Rattle.ca_node.specs.Row.{pair}
 use Rattle.ca_node.specs.TreeView.{Note, TreeView}
 use Rattle.ca_base.specs.Finding.{IsReadable}
-use Rattle.ca_base.specs.Objects.{StandsAs}
+use Rattle.ca_base.specs.Objects.{IsOrderAt}
 use Rattle.ca_leaf.specs.Place.{IsPlaceAmong}
 use Rattle.ca_rows.specs.declared.sizes.Sizes.{Sizes}
 
@@ -72,7 +72,7 @@ module _ (keypos : ℕ) (note : Note) (key : List ℕ)
 -- A place in the line of the objects is the key's place among them.
 pub place_is : (z : Sizes) (u : TreeView) (base many : ℕ) (key : List ℕ) (note : Note)
     (place : Result ℕ ℕ) → IsReadable z u base note → many ≡ length note.objects
-    → IsPlaceAmong (StandsAs z u base key) many place
+    → IsPlaceAmong (IsOrderAt z u base key) many place
     → IsPlace (map pair note.objects) key place
 place_is z u base many key note (Ok at) r e p = let l : at < length note.objects = omega arith in
     found z.keypos note key r.ordered at l (sym (p.1 note r l))

@@ -15,8 +15,8 @@ use Rattle.ca_rows.specs.declared.space.Space.{Space}
 use Rattle.ca_rows.specs.Passes.{IsReading, OnlyReads, sizes}
 
 -- The key of the object at this place stands like this to the key that is looked for.
-abbrev pub StandsAs : Sizes → TreeView → ℕ → List ℕ → ℕ → Ordering → Type 0
-StandsAs z u base key place order = (note : Note) → IsReadable z u base note → place < length note.objects
+abbrev pub IsOrderAt : Sizes → TreeView → ℕ → List ℕ → ℕ → Ordering → Type 0
+IsOrderAt z u base key place order = (note : Note) → IsReadable z u base note → place < length note.objects
     → order ≡ bytes_cmp (pair (slice_index_or note.objects place [])).0 key
 
 module _ {R : Type 0} where
@@ -47,8 +47,8 @@ module _ {R : Type 0} where
 
   -- What a pass knows of the objects stays as it only reads.
   pub stood : (z : Sizes) (base : ℕ) (key : List ℕ) (a b : Pass R TreeView) → OnlyReads a b → (place : ℕ) (order : Ordering)
-      → StandsAs z (tree_of b) base key place order → StandsAs z (tree_of a) base key place order
-  stood z base key a b on place order = subst (λ (m : MyTree). StandsAs z m.0.upper base key place order) on.still
+      → IsOrderAt z (tree_of b) base key place order → IsOrderAt z (tree_of a) base key place order
+  stood z base key a b on place order = subst (λ (m : MyTree). IsOrderAt z m.0.upper base key place order) on.still
 
   pub comparable_on : (space : Space R TreeView) (base : ℕ) (key : List ℕ) (front : ℕ) (a b : Pass R TreeView) → OnlyReads a b → (place : ℕ)
       → IsComparable space a base key front place → IsComparable space b base key front place

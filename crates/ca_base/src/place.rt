@@ -22,11 +22,11 @@ struct Objects<'a> {
 }
 
 impl Line<TreePass> for Objects<'_> {
-    ghost use Rattle.ca_base.specs.Objects.{IsComparable, StandsAs, comparable_on, reads_none, reads_on, stood};
+    ghost use Rattle.ca_base.specs.Objects.{IsComparable, IsOrderAt, comparable_on, reads_none, reads_on, stood};
     ghost use Rattle.ca_rows.specs.Passes.{OnlyReads, sizes};
     ghost use Rattle.ca_node.specs.TreePasses.{tree_of};
 
-    ghost stands = { λ line pass place order. StandsAs (sizes line.space.now) (tree_of pass) line.base line.key.now place order };
+    ghost stands = { λ line pass place order. IsOrderAt (sizes line.space.now) (tree_of pass) line.base line.key.now place order };
 
     ghost knows = { λ line pass place. IsComparable line.space.now pass line.base line.key.now line.front place };
 

@@ -26,7 +26,7 @@ use Rattle.ca_node.specs.Stays.{IsSameRow, word_at, row_same, map_same, linked_o
 use Rattle.ca_node.specs.Tree.{StartsWith, IsAlive, IsDead, IsTrue, IsTrueWay, IsEnded, Knows, IsTree}
 use Rattle.ca_node.specs.TreeView.{Note, Way, Ended, TreeView, first_inventory, blank, ended_of, and_ended, ended_with, pinned, unpinned}
 use Rattle.ca_rows.specs.Layout.{row_words}
-use Rattle.ca_node.specs.Layout.{body_word, form_unit, range_word, root_word}
+use Rattle.ca_node.specs.Layout.{body_word, form_unit, range_word, root_word, sequence_unit}
 
 -- A route that a seat remembers is alive, since none is dead as yet.
 pub alive : (role : ℕ → Role) (way : Way) → IsAlive role way ⊎ ((at : ℕ) × IsDead way at) → IsAlive role way
@@ -472,7 +472,7 @@ tree_closing = record {
 }
 
 -- The words of ranges at the start.
-opens_low : (z : Sizes) (i : ℕ) → i < root_word → opens_at z i ≡ 262144 * z.starts.sequence
+opens_low : (z : Sizes) (i : ℕ) → i < root_word → opens_at z i ≡ sequence_unit * z.starts.sequence
 opens_low z i l = grind (arith, nat_tests)
 
 -- The words at the start.
@@ -522,7 +522,7 @@ module _ (z : Sizes) (words : List ℕ) (bounds : AreInBounds z) (usable : AreUs
       (λ (same : row ≡ 1). let x : Base root_place ≡ Route p key = sym role_one ∙ (ap role_of (sym same) ∙ e) in cc)
       (λ n. let x : Out ≡ Route p key = sym (role_other row n) ∙ e in cc)
 
-  range_is : (pass : ℕ) → 0 < pass → pass ≤ 64 → get_or words (range_word pass) 0 ≡ 262144 * z.starts.sequence
+  range_is : (pass : ℕ) → 0 < pass → pass ≤ 64 → get_or words (range_word pass) 0 ≡ sequence_unit * z.starts.sequence
   range_is pass lo hi = above (range_word pass) (omega arith) (omega arith) ∙ opens_low z (range_word pass) (omega arith)
 
   shape_there : IsShape z words role_of []

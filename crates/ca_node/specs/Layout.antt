@@ -9,6 +9,10 @@ root_word = 130
 abbrev pub range_word : ℕ → ℕ
 range_word pass = 65 + pass
 
+-- The sequence of a pass's last range stands in that word in units of this, above two bits for how far it is and a row's number.
+abbrev pub sequence_unit : ℕ
+sequence_unit = 67108864
+
 -- what a row is stands in its first word in units of this
 abbrev pub form_unit : ℕ
 form_unit = 72057594037927936

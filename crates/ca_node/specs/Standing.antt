@@ -15,7 +15,7 @@ use Rattle.ca_node.specs.Shape.{Role, Out, Base, Route, place_of, IsLink, LeadsT
 use Rattle.ca_node.specs.Stays.{IsSameRow, word_at, row_long, row_same, map_same}
 use Rattle.ca_node.specs.Reached.{linked_range, placed_linked, item_linked}
 use Rattle.ca_rows.specs.Layout.{row_words}
-use Rattle.ca_node.specs.Layout.{body_word, form_unit, range_word, root_word}
+use Rattle.ca_node.specs.Layout.{body_word, form_unit, range_word, root_word, sequence_unit}
 
 -- The row has the same words in both tables, but for those of a route's links.
 abbrev pub IsSameButLinks : List ℕ → List ℕ → ℕ → Type 0
@@ -68,7 +68,7 @@ pub mark_of : (words : List ℕ) (place : Place) (its : List ℕ) → IsMarkIn w
 mark_of words place its m = ⊎_elim
     (λ (none : IsUnmarked its). inl none)
     (λ some_mark. ⊎_elim
-    (λ (r : IsOfRange its × (mark_number its ≤ get_or words (range_word (mark_owner its)) 0 / 262144)). inr (inl r.0))
+    (λ (r : IsOfRange its × (mark_number its ≤ get_or words (range_word (mark_owner its)) 0 / sequence_unit)). inr (inl r.0))
     (λ (j : IsOfJoin place its × (4 * mark_number its ≤ get_or words (row_words * mark_owner its + 3) 0)). inr (inr j.0))
     some_mark) m
 
@@ -80,7 +80,7 @@ pub mark_stays : (words others : List ℕ) (place : Place) (its : List ℕ)
 mark_stays words others place its ranges joins m = ⊎_elim
     (λ (none : IsUnmarked its). inl none)
     (λ some_mark. ⊎_elim
-    (λ (r : IsOfRange its × (mark_number its ≤ get_or words (range_word (mark_owner its)) 0 / 262144)).
+    (λ (r : IsOfRange its × (mark_number its ≤ get_or words (range_word (mark_owner its)) 0 / sequence_unit)).
     let before = r.1 in let rises = ranges (mark_owner its) r.0.1 r.0.2 in inr (inl (r.0, omega arith)))
     (λ (j : IsOfJoin place its × (4 * mark_number its ≤ get_or words (row_words * mark_owner its + 3) 0)).
     let before = j.1 in let rises = joins (mark_owner its) j.0.1 in inr (inr (j.0, omega arith)))

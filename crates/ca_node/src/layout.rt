@@ -1,11 +1,14 @@
 //! Where the words of a tree stand, and what the first word of a row tells.
-use ca_rows::ROW_WORDS;
+use ca_rows::{ROW_LIMIT, ROW_WORDS};
 
 /// The word of the root link.
 pub const ROOT: u32 = 130;
 
 /// The first word of the base in row 1, which is there at the start.
 pub const FIRST_BASE: u32 = ROW_WORDS as u32;
+
+/// The sequence of a pass's last range stands in that word above this bit: below it are two bits for how far it is and a row's number.
+pub const SEQUENCE: u64 = 4 * ROW_LIMIT;
 
 /// What a row is stands in its first word above this bit.
 pub const FORM: u64 = 1 << 56;

@@ -6,7 +6,7 @@ ghost use Rattle.ca_node.specs.Told.{MayLoad, MaySwap, learnt};
 ghost use Rattle.ca_node.specs.Tree.{IsTree};
 ghost use Rattle.ca_node.specs.TreeView.{blank, ended_with, pinned, unpinned};
 
-use crate::layout::{BASE, FIRST_BASE, ROOT};
+use crate::layout::{BASE, FIRST_BASE, ROOT, SEQUENCE};
 use crate::view::Knowledge;
 use ca_rows::{Pass, RowRule, Sizes, Space};
 
@@ -50,7 +50,7 @@ impl RowRule for TreeRule {
 
     fn open(sizes: &Sizes, word: u32) -> u64 {
         match word {
-            0..ROOT => 262_144 * sizes.starts.sequence,
+            0..ROOT => SEQUENCE * sizes.starts.sequence,
             ROOT => 1,
             131 => sizes.keypos as u64,
             132 => sizes.leaf as u64,

@@ -15,7 +15,7 @@ use Rattle.std.specs.declared.option.Option.TheVariants.{None as Nothing, Some a
 use Rattle.ca_base.specs.Counting.{losses}
 use Rattle.ca_model.specs.Known.{Counts}
 use Rattle.ca_replace.specs.Attempting.{helps, passes, total, IsPaid, IfDeep, refused_as}
-use Rattle.ca_replace.specs.Causes.{HasBegun, IsCaused, IsFullSince, IsRefill, IsUnspent, IfRefusedAs, KeepsFew}
+use Rattle.ca_replace.specs.Causes.{HasBegun, IsCaused, IsFullSince, IsRefill, IsUnspent, IfCaused, KeepsFew}
 use Rattle.ca_replace.specs.Refusals.{outcome_by}
 use Rattle.ca_rows.specs.declared.kept.Kept.{Kept}
 use Rattle.ca_rows.specs.declared.sizes.Sizes.{Sizes}
@@ -171,13 +171,13 @@ module _ (m m' m'' : MyTree) (counts : Counts) (kept kept' kept'' : Vec Kept Glo
   pub caused_still : {T : Type 0} (z : Sizes) (number budget : ℕ) (adds : Option (List ℕ))
       (why : Cause) (o : Outcome T) → o ≡ outcome_by why
       → IsCaused z number budget adds why m kept m' kept'
-      → IfRefusedAs o (λ why. IsCaused z number budget adds why m kept m'' kept'')
+      → IfCaused o (λ why. IsCaused z number budget adds why m kept m'' kept'')
   caused_still {T} z number budget adds why o is h = subst
-      (λ (x : Outcome T). IfRefusedAs x (λ y. IsCaused z number budget adds y m kept m'' kept''))
+      (λ (x : Outcome T). IfCaused x (λ y. IsCaused z number budget adds y m kept m'' kept''))
       (sym is) (by why h)
     where
       by : (why : Cause) → IsCaused z number budget adds why m kept m' kept'
-          → IfRefusedAs {T = T} (outcome_by why)
+          → IfCaused {T = T} (outcome_by why)
           (λ y. IsCaused z number budget adds y m kept m'' kept'')
       by (refusal.Busy spent) h = as_counted
           (λ x k. IsCaused z number budget adds (refusal.Busy spent) m kept x k) h

@@ -7,15 +7,15 @@ use Rattle.ca_node.specs.Told.{MyTree}
 use Rattle.ca_node.specs.TreeView.{TreeView, Turns}
 use Rattle.ca_replace.specs.declared.attempting.Stop.{Stop}
 use Rattle.ca_replace.specs.declared.attempting.Stop.TheVariants as stop
-use Rattle.ca_replace.specs.Attempting.{passes, total, HasMetBy, HasStopped, IsPaid, IsQuiet}
+use Rattle.ca_replace.specs.Attempting.{passes, total, HasMetInAttempt, HasStopped, IsPaid, IsQuiet}
 
 -- Nothing was met.
 pub none_met : (m : MyTree) → HasMet 0 0 m m
 none_met m = (omega arith, omega arith)
 
 -- What was met by an attempt, behind others that met nothing.
-pub met_then : {T : Type 0} (r : Result T Stop) (k m n : MyTree) → HasMet 0 0 k m → HasMetBy r m n
-    → HasMetBy r k n
+pub met_then : {T : Type 0} (r : Result T Stop) (k m n : MyTree) → HasMet 0 0 k m → HasMetInAttempt r m n
+    → HasMetInAttempt r k n
 met_then (Ok x) k m n a b = tt
 met_then (Err stop.Lost) k m n a b = met_both 0 0 0 0 k m n a b
 met_then (Err stop.Split) k m n a b = met_both 0 0 0 0 k m n a b
@@ -29,9 +29,9 @@ pub met_turn : {T : Type 0} (r : Result T Stop) (m m' : MyTree) → (r ≡ Err s
     ⊎ (r ≡ Err stop.Split) → HasStopped r m m'
     → HasMet 0 0 m m' × ((losses m < losses m') ⊎ (passes m < passes m'))
 met_turn r m m' e h = ⊎_elim
-    (λ (l : r ≡ Err stop.Lost). (subst (λ (x : Result _ Stop). HasMetBy x m m') l h.0, inl (h.1 l)))
+    (λ (l : r ≡ Err stop.Lost). (subst (λ (x : Result _ Stop). HasMetInAttempt x m m') l h.0, inl (h.1 l)))
     (λ (s : r ≡ Err stop.Split). (
-      subst (λ (x : Result _ Stop). HasMetBy x m m') s h.0,
+      subst (λ (x : Result _ Stop). HasMetInAttempt x m m') s h.0,
       inr (h.2 s),
     )) e
 

@@ -8,7 +8,7 @@ use Rattle.ca_adapt.specs.declared.adapted.Adapted.TheVariants as adapted
 use Rattle.ca_adapt.specs.declared.adapted.Why.{Why}
 use Rattle.ca_adapt.specs.declared.adapted.Why.TheVariants as why
 use Rattle.ca_adapt.specs.declared.tuning.Tuning.{Tuning}
-use Rattle.ca_adapt.specs.Splits.{IsSplitAs, IsNotSplitBy, attempts_at_first}
+use Rattle.ca_adapt.specs.Splits.{IsSplitOutcome, IsWhyNotSplit, attempts_at_first}
 use Rattle.ca_base.specs.declared.taking.NoRow.{NoRow}
 use Rattle.ca_base.specs.declared.taking.NoRow.TheVariants as norow
 use Rattle.ca_base.specs.Putting.{HasRenewed, HasTried, IsRoom, first_note}
@@ -36,7 +36,7 @@ use Rattle.ca_model.specs.declared.outcome.Cause.{Cause}
 use Rattle.ca_model.specs.declared.outcome.Cause.TheVariants as refusal
 use Rattle.ca_replace.specs.Adapting.{IsNew}
 use Rattle.ca_replace.specs.Attempting.{IsLooking, IsQuiet, come_to, refused_as, split_to}
-use Rattle.ca_replace.specs.Cutting.{AreCutFull, CutsBy, HasCut, HasCutAs, HasCutDue, HasCutFull, HasCutIf, HasCutSoFar, IsCutInTwo, IsFullFor}
+use Rattle.ca_replace.specs.Cutting.{AreCutFull, HasCutForEdit, HasCut, HasCutInCall, HasCutDue, HasCutFull, HasCutBehind, HasCutInAttempts, IsCutInTwo, IsFullFor}
 use Rattle.ca_replace.specs.Refusals.{outcome_by}
 use Rattle.ca_replace.proofs.Settling.{IsSettling}
 use Rattle.ca_replace.proofs.Growing.{settled_still}
@@ -123,11 +123,11 @@ due_behind z before then v same h = subst (λ (xs : List Division). HasCutDue z 
 pub due_cut : (z : Sizes) (a : Adapted) (k m m' : MyTree) → m.0.upper.cuts ≡ k.0.upper.cuts
     → m.0.upper.last ≡ first_note m.0.upper.notes
     → m.0.upper.last.row ≡ m.0.upper.renewal.new.row
-    → IsSplitAs z (first_note m.0.upper.notes) a m m' → HasCutDue z k.0.upper.cuts m'.0.upper
+    → IsSplitOutcome z (first_note m.0.upper.notes) a m m' → HasCutDue z k.0.upper.cuts m'.0.upper
 due_cut z a k m m' same last row h =
     due_behind z k.0.upper.cuts m.0.upper.cuts m'.0.upper same (by a h)
   where
-    not_by : (w : Why) → IsNotSplitBy z (first_note m.0.upper.notes) w m m'
+    not_by : (w : Why) → IsWhyNotSplit z (first_note m.0.upper.notes) w m m'
         → HasCutDue z m.0.upper.cuts m'.0.upper
     not_by why.Root h = absurd h
     not_by why.OneObject h = inl (ap (λ (x : MyTree). x.0.upper.cuts) h.1)
@@ -141,7 +141,7 @@ due_cut z a k m m' same last row h =
     not_by why.NoRow h = inl (ap (λ (x : TreeView). x.cuts) h.2)
     not_by why.Worn h = inl (ap (λ (x : TreeView). x.cuts) h.2)
 
-    by : (a : Adapted) → IsSplitAs z (first_note m.0.upper.notes) a m m'
+    by : (a : Adapted) → IsSplitOutcome z (first_note m.0.upper.notes) a m m'
         → HasCutDue z m.0.upper.cuts m'.0.upper
     by adapted.Stay h = absurd h
     by adapted.Split h = let e = h.2.2 in inr (
@@ -160,7 +160,7 @@ due_cut z a k m m' same last row h =
 pub due_there : (z : Sizes) (key : Bor (List ℕ)) (placed : ℕ) (m m' m'' : MyTree) (cursor : Cursor)
     (a : Adapted) → IsNew placed key.now (met_of m) m.0.upper
     → IsWalked z (spot.At key) m cursor m' → z.leaf ≤ 120 → cursor.base ≡ placed
-    → IsSplitAs z (first_note m'.0.upper.notes) a m' m''
+    → IsSplitOutcome z (first_note m'.0.upper.notes) a m' m''
     → HasCutDue z m.0.upper.cuts m''.0.upper
 due_there z key placed m m' m'' cursor a new w most same h = let up = ap
     (λ (x : MyTree). x.0.upper) w.now in
@@ -209,8 +209,8 @@ pub looked_cut : {T : Type 0} (edits : T → Bool) (z : Sizes) (adds : Option (L
     → HasCut edits z adds r m'.0.upper v → HasCut edits z adds r m.0.upper v
 looked_cut {T} edits z adds r m m' v q h = by r h
   where
-    if_edits : (edited : Bool) → HasCutIf edited z m'.0.upper.cuts v
-        → HasCutIf edited z m.0.upper.cuts v
+    if_edits : (edited : Bool) → HasCutBehind edited z m'.0.upper.cuts v
+        → HasCutBehind edited z m.0.upper.cuts v
     if_edits true h = due_behind z m.0.upper.cuts m'.0.upper.cuts v q.same_cuts h
     if_edits false h = h ∙ q.same_cuts
 
@@ -262,7 +262,7 @@ pub cut_pinned : {T : Type 0} (edits : T → Bool) (z : Sizes) (adds : Option (L
 cut_pinned {T} edits z adds r u v w same h = subst
     (λ (x : TreeView). HasCut edits z adds r u x) (sym same) (by r h)
   where
-    if_edits : (edited : Bool) → HasCutIf edited z u.cuts v → HasCutIf edited z u.cuts (unpinned v)
+    if_edits : (edited : Bool) → HasCutBehind edited z u.cuts v → HasCutBehind edited z u.cuts (unpinned v)
     if_edits true h = h
     if_edits false h = h
 
@@ -278,17 +278,17 @@ cut_pinned {T} edits z adds r u v w same h = subst
 -- An attempt behind others that did not do the call.
 pub one_more_cut : {T : Type 0} (edits : T → Bool) (z : Sizes) (adds : Option (List ℕ))
     (r : Result T Stop) (u w v : TreeView) → HasCutFull z adds u w
-    → HasCut edits z adds r w v → HasCutSoFar edits z adds r u v
+    → HasCut edits z adds r w v → HasCutInAttempts edits z adds r u v
 one_more_cut {T} edits z adds r u w v before h = by r h
   where
     still : v.cuts ≡ w.cuts → HasCutFull z adds u v
     still same = full_both z adds u.cuts w.cuts v.cuts before (none_full z adds w.cuts v.cuts same)
 
-    if_edits : (edited : Bool) → HasCutIf edited z w.cuts v → CutsBy edited z adds u v
+    if_edits : (edited : Bool) → HasCutBehind edited z w.cuts v → HasCutForEdit edited z adds u v
     if_edits true h = (w.cuts, before, h)
     if_edits false h = still h
 
-    by : (r : Result T Stop) → HasCut edits z adds r w v → HasCutSoFar edits z adds r u v
+    by : (r : Result T Stop) → HasCut edits z adds r w v → HasCutInAttempts edits z adds r u v
     by (Ok x) h = if_edits (edits x) h
     by (Err stop.Split) h =
         full_both z adds u.cuts w.cuts v.cuts before (one_full z adds w.cuts v.cuts h.0 h.1 (
@@ -303,28 +303,28 @@ one_more_cut {T} edits z adds r u w v before h = by r h
 -- Attempts behind others that did not do the call.
 pub cuts_so_far : {T E : Type 0} (edits : T → Bool) (z : Sizes) (adds : Option (List ℕ))
     (r : Result T E) (u w v : TreeView) → HasCutFull z adds u w
-    → HasCutSoFar edits z adds r w v → HasCutSoFar edits z adds r u v
+    → HasCutInAttempts edits z adds r w v → HasCutInAttempts edits z adds r u v
 cuts_so_far {T} {E} edits z adds r u w v before h = by r h
   where
-    if_edits : (edited : Bool) → CutsBy edited z adds w v → CutsBy edited z adds u v
+    if_edits : (edited : Bool) → HasCutForEdit edited z adds w v → HasCutForEdit edited z adds u v
     if_edits true h = (h.0, full_both z adds u.cuts w.cuts h.0 before h.1, h.2)
     if_edits false h = full_both z adds u.cuts w.cuts v.cuts before h
 
-    by : (r : Result T E) → HasCutSoFar edits z adds r w v → HasCutSoFar edits z adds r u v
+    by : (r : Result T E) → HasCutInAttempts edits z adds r w v → HasCutInAttempts edits z adds r u v
     by (Ok x) h = if_edits (edits x) h
     by (Err why) h = full_both z adds u.cuts w.cuts v.cuts before h
 
 -- Attempts that came to a stop split no base but full ones.
 pub stopped_cut : {T E : Type 0} (edits : T → Bool) (z : Sizes) (adds : Option (List ℕ))
     (r : Result T E) (why : E) (u v : TreeView) → r ≡ Err why
-    → HasCutSoFar edits z adds r u v → HasCutFull z adds u v
+    → HasCutInAttempts edits z adds r u v → HasCutFull z adds u v
 stopped_cut {T} {E} edits z adds r why u v e h = subst
-    (λ (x : Result T E). HasCutSoFar edits z adds x u v) e h
+    (λ (x : Result T E). HasCutInAttempts edits z adds x u v) e h
 
 -- So did one after which another turn may follow.
 pub turn_cut : {T : Type 0} (edits : T → Bool) (z : Sizes) (adds : Option (List ℕ))
     (r : Result T Stop) (u v : TreeView)
-    → (r ≡ Err stop.Lost) ⊎ (r ≡ Err stop.Split) → HasCutSoFar edits z adds r u v
+    → (r ≡ Err stop.Lost) ⊎ (r ≡ Err stop.Split) → HasCutInAttempts edits z adds r u v
     → HasCutFull z adds u v
 turn_cut edits z adds r u v e h = ⊎_elim
     (λ (l : r ≡ Err stop.Lost). stopped_cut edits z adds r stop.Lost u v l h)
@@ -334,14 +334,14 @@ turn_cut edits z adds r u v e h = ⊎_elim
 pub cut_refused : {T : Type 0} (edits : T → Bool) (z : Sizes) (adds : Option (List ℕ))
     (tried : Result T Stop) (r : Result T Cause) (spent : Spent)
     (levels : ℕ) (u w v : TreeView) → v ≡ w → r ≡ refused_as tried spent levels
-    → HasCutSoFar edits z adds tried u w → HasCutSoFar edits z adds r u v
+    → HasCutInAttempts edits z adds tried u w → HasCutInAttempts edits z adds r u v
 cut_refused {T} edits z adds tried r spent levels u w v same is h = subst
-    (λ (x : Result T Cause). HasCutSoFar edits z adds x u v) (sym is)
+    (λ (x : Result T Cause). HasCutInAttempts edits z adds x u v) (sym is)
     (subst (λ (x : TreeView).
-    HasCutSoFar edits z adds (refused_as tried spent levels) u x) (sym same) (by tried h))
+    HasCutInAttempts edits z adds (refused_as tried spent levels) u x) (sym same) (by tried h))
   where
-    by : (tried : Result T Stop) → HasCutSoFar edits z adds tried u w
-        → HasCutSoFar edits z adds (refused_as tried spent levels) u w
+    by : (tried : Result T Stop) → HasCutInAttempts edits z adds tried u w
+        → HasCutInAttempts edits z adds (refused_as tried spent levels) u w
     by (Ok x) h = h
     by (Err stop.Lost) h = h
     by (Err stop.Split) h = h
@@ -354,13 +354,13 @@ pub refused_cuts : {T : Type 0} (edits : T → Bool) (z : Sizes) (adds : Option 
     (counts : Counts) (why : Cause) (o : Outcome T) (u : TreeView)
     (m m' : MyTree) → HasCutFull z adds u m.0.upper → o ≡ outcome_by why
     → m' ≡ with_upper m (record m.0.upper { counts = counts })
-    → HasCutAs edits z adds o u m'.0.upper
+    → HasCutInCall edits z adds o u m'.0.upper
 refused_cuts {T} edits z adds counts why o u m m' h come is = subst
-    (λ (x : Outcome T). HasCutAs edits z adds x u m'.0.upper) (sym come)
+    (λ (x : Outcome T). HasCutInCall edits z adds x u m'.0.upper) (sym come)
     (by why (subst (λ (x : MyTree). HasCutFull z adds u x.0.upper) (sym is) h))
   where
     by : (why : Cause) → HasCutFull z adds u m'.0.upper
-        → HasCutAs edits z adds (outcome_by {T = T} why) u m'.0.upper
+        → HasCutInCall edits z adds (outcome_by {T = T} why) u m'.0.upper
     by (refusal.Busy spent) h = h
     by (refusal.Full cause) h = h
     by (refusal.Deep level) h = h

@@ -5,7 +5,7 @@ use Rattle.ca_adapt.specs.declared.adapted.Adapted.{Adapted}
 use Rattle.ca_adapt.specs.declared.adapted.Adapted.TheVariants as adapted
 use Rattle.ca_adapt.specs.declared.adapted.Why.{Why}
 use Rattle.ca_adapt.specs.declared.adapted.Why.TheVariants as why
-use Rattle.ca_adapt.specs.Splits.{IsSplitAs, IsNotSplitBy}
+use Rattle.ca_adapt.specs.Splits.{IsSplitOutcome, IsWhyNotSplit}
 use Rattle.ca_base.specs.declared.taking.NoRow.{NoRow}
 use Rattle.ca_model.specs.declared.outcome.Spent.{Spent}
 use Rattle.ca_node.specs.declared.cursor.Cursor.{Cursor}
@@ -16,7 +16,7 @@ use Rattle.ca_node.specs.Walking.{IsWalked}
 use Rattle.ca_replace.specs.declared.attempting.Stop.{Stop}
 use Rattle.ca_replace.specs.declared.attempting.Stop.TheVariants as stop
 use Rattle.ca_model.specs.declared.outcome.Cause.{Cause}
-use Rattle.ca_replace.specs.Adapting.{IfEdited, IsMetAs, IsNew}
+use Rattle.ca_replace.specs.Adapting.{IfEdited, IsCauseMet, IsNew}
 use Rattle.ca_replace.specs.Attempting.{come_to, refused_as}
 use Rattle.ca_rows.specs.declared.sizes.Sizes.{Sizes}
 use Rattle.ca_rows.specs.declared.view.Met.{Met}
@@ -26,7 +26,7 @@ use Rattle.ca_rows.specs.Told.{met_of}
 -- until then.
 split_met_by : (z : Sizes) (note : Note) (w : Why) (m m' : MyTree)
     → met_of m ≡ m.0.upper.renewal.met → m.0.upper.lost ≡ m.0.upper.renewal.lost
-    → IsNotSplitBy z note w m m' → IsMetAs (adapted.NotSplit w) (met_of m') m'.0.upper
+    → IsWhyNotSplit z note w m m' → IsCauseMet (adapted.NotSplit w) (met_of m') m'.0.upper
 split_met_by z note why.Root m m' met lost h = tt
 split_met_by z note why.OneObject m m' met lost h = tt
 split_met_by z note why.AtLevel m m' met lost h = tt
@@ -53,7 +53,7 @@ split_met_by z note why.Worn m m' met lost h = let pool = ap (λ (x : Met). x.wo
 pub split_met : (z : Sizes) (key : Bor (List ℕ)) (placed : ℕ) (note : Note) (a : Adapted)
     (k m m' : MyTree) (cursor : Cursor)
     → IsNew placed key.now (met_of k) k.0.upper → IsWalked z (spot.At key) k cursor m
-    → IsSplitAs z note a m m' → IsMetAs a (met_of m') m'.0.upper
+    → IsSplitOutcome z note a m m' → IsCauseMet a (met_of m') m'.0.upper
 split_met z key placed note adapted.Stay k m m' cursor new w h = tt
 split_met z key placed note adapted.Split k m m' cursor new w h = tt
 split_met z key placed note adapted.Joined k m m' cursor new w h = tt

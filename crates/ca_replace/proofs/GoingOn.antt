@@ -7,7 +7,7 @@ use Rattle.ca_adapt.specs.declared.adapted.Adapted.TheVariants as adapted
 use Rattle.ca_adapt.specs.declared.adapted.Why.{Why}
 use Rattle.ca_adapt.specs.declared.adapted.Why.TheVariants as why
 use Rattle.ca_adapt.specs.declared.tuning.Tuning.{Tuning}
-use Rattle.ca_adapt.specs.Splits.{IsSplitAs, IsNotSplitBy, MayBeSplit}
+use Rattle.ca_adapt.specs.Splits.{IsSplitOutcome, IsWhyNotSplit, MayBeSplit}
 use Rattle.ca_adapt.specs.Statistics.{IsWordOf}
 use Rattle.ca_base.specs.declared.taking.NoRow.{NoRow}
 use Rattle.ca_base.specs.declared.taking.NoRow.TheVariants as norow
@@ -35,7 +35,7 @@ use Rattle.ca_replace.specs.declared.attempting.Stop.TheVariants as stop
 use Rattle.ca_model.specs.declared.outcome.Cause.{Cause}
 use Rattle.ca_model.specs.declared.outcome.Cause.TheVariants as refusal
 use Rattle.ca_replace.specs.Refusals.{outcome_by}
-use Rattle.ca_replace.specs.Adapting.{Adapts, Goes, HasGoneOn, HasLookedAgain, HasLostSince, HasMetAs, HasSettled, HasTriedOnce, IsAdaptedBy, IsMoved, IsNew, IsReason, Leaves, LeavesAs, Waits}
+use Rattle.ca_replace.specs.Adapting.{Adapts, Goes, HasGoneOn, HasLookedAgain, HasLostSince, IsCauseMetInCall, HasSettled, HasTriedOnce, IsAdapted, IsMoved, IsNew, IsReason, Leaves, LeavesInCall, Waits}
 use Rattle.ca_replace.specs.Attempting.{HasStopped, HasTriedTo, IsPaid, IsQuiet, come_to, refused_as}
 use Rattle.ca_replace.proofs.Settling.{IsSettling}
 use Rattle.ca_replace.proofs.Counted.{none_paid, paid_both, paid_of}
@@ -287,7 +287,7 @@ not_split z w u v reason e = ⊎_elim
     }) e
 
 not_split_by : (z : Sizes) (note : Note) (w : Why) (m m' : MyTree) → m.0.upper.last ≡ note
-    → IsNotSplitBy z note w m m'
+    → IsWhyNotSplit z note w m m'
     → HasComeOf z (adapted.NotSplit w) m.0.upper m'.0.upper
 not_split_by z note why.Root m m' last h = absurd h
 not_split_by z note why.OneObject m m' last h = not_split z why.OneObject m.0.upper m'.0.upper
@@ -307,7 +307,7 @@ not_split_by z note why.Worn m m' last h = not_split z why.Worn m.0.upper m'.0.u
     (subst (λ (n : Note). IsReason z n why.Worn) (sym last) h.0) (inl h.2)
 
 pub come_of : (z : Sizes) (note : Note) (a : Adapted) (m m' : MyTree) → m.0.upper.last ≡ note
-    → IsSplitAs z note a m m' → HasComeOf z a m.0.upper m'.0.upper
+    → IsSplitOutcome z note a m m' → HasComeOf z a m.0.upper m'.0.upper
 come_of z note adapted.Stay m m' last h = absurd h
 come_of z note adapted.Split m m' last h = subst
     (λ (y : TreeView). HasComeOf z adapted.Split m.0.upper y) (sym h.2.2) record {
@@ -332,7 +332,7 @@ come_of z note (adapted.NotSplit w) m m' last h = not_split_by z note w m m' las
 come_of z note (adapted.NotJoined w) m m' last h = absurd h
 
 -- How many turns there are behind it.
-pub come_turns : (z : Sizes) (note : Note) (a : Adapted) (m m' : MyTree) → IsSplitAs z note a m m'
+pub come_turns : (z : Sizes) (note : Note) (a : Adapted) (m m' : MyTree) → IsSplitOutcome z note a m m'
     → (a ≡ adapted.Split → m'.0.upper.turns ≡ one_passed m.0.upper.turns)
     × (a ≢ adapted.Split → m'.0.upper.turns ≡ m.0.upper.turns)
 come_turns z note adapted.Stay m m' h = absurd h
@@ -341,7 +341,7 @@ come_turns z note adapted.Split m m' h =
 come_turns z note adapted.Joined m m' h = absurd h
 come_turns z note (adapted.NotSplit w) m m' h = ((λ e. cc), λ n. none w h)
   where
-    none : (w : Why) → IsNotSplitBy z note w m m' → m'.0.upper.turns ≡ m.0.upper.turns
+    none : (w : Why) → IsWhyNotSplit z note w m m' → m'.0.upper.turns ≡ m.0.upper.turns
     none why.Root h = absurd h
     none why.OneObject h = ap (λ (y : MyTree). y.0.upper.turns) h.1
     none why.AtLevel h = ap (λ (y : MyTree). y.0.upper.turns) h.2
@@ -375,7 +375,7 @@ led_elsewhere z key placed m m' cursor new w other = subst
 pub led_there : (z : Sizes) (key : Bor (List ℕ)) (placed : ℕ) (m m' m'' : MyTree) (cursor : Cursor)
     (a : Adapted) → IsNew placed key.now (met_of m) m.0.upper
     → IsWalked z (spot.At key) m cursor m' → z.leaf ≤ 120 → cursor.base ≡ placed
-    → IsSplitAs z (first_note m'.0.upper.notes) a m' m''
+    → IsSplitOutcome z (first_note m'.0.upper.notes) a m' m''
     → HasLookedAgain z a m.0.upper m''.0.upper
     × (IsFurther m.0.upper m''.0.upper × IsKnown z m''.0.upper)
 led_there z key placed m m' m'' cursor a new w most same h =
@@ -510,7 +510,7 @@ settled_on {z} {t} {tried} {r} {a} {b} {k} {m} {m'} {m''} s moved word_is = let 
               (λ (n : ℕ). IsWordOf b.last.statistic n)
               (sym (ap (λ (x : Renewal). get_or x.new.its 1 0) e ∙ h.statistic_is))
               (subst (λ (n : ℤ). IsWordOf n s.word) (sym q.0) word_is);
-          adapted = subst (λ (n : ℤ). IsAdaptedBy z t n m''.0.upper b.last.adapted) (sym q.0) q.1.1;
+          adapted = subst (λ (n : ℤ). IsAdapted z t n m''.0.upper b.last.adapted) (sym q.0) q.1.1;
         }
     by (Ok false) lost h q = let w = ap (λ (x : MyTree). x.0.upper) q.2 ∙ lost in
         let more = ap (λ (x : TreeView). x.lost) w in
@@ -584,12 +584,12 @@ gone_refused edits z t a b (Err stop.Worn) spent levels u v h = h
 gone_refused edits z t a b (Err stop.Deep) spent levels u v h = h
 
 -- The call is refused by what its last attempt came to.
-abbrev pub IsRefusedAs : {T : Type 0} → Result T Stop → Result T Cause → Type 0
-IsRefusedAs tried r = (spent : Spent) × (levels : ℕ) × (r ≡ refused_as tried spent levels)
+abbrev pub IsAttemptRefusal : {T : Type 0} → Result T Stop → Result T Cause → Type 0
+IsAttemptRefusal tried r = (spent : Spent) × (levels : ℕ) × (r ≡ refused_as tried spent levels)
 
 pub refused_gone : {T : Type 0} (edits : T → Bool) (z : Sizes) (t : Tuning) (a b : Adapting)
     (tried : Result T Stop) (r : Result T Cause)
-    (u w v : TreeView) → v ≡ w → IsRefusedAs tried r → HasGoneOn edits z t a b tried u w
+    (u w v : TreeView) → v ≡ w → IsAttemptRefusal tried r → HasGoneOn edits z t a b tried u w
     → HasGoneOn edits z t a b r u v
 refused_gone {T} edits z t a b tried r u w v same refused h = subst
     (λ (x : Result T Cause). HasGoneOn edits z t a b x u v) (sym refused.2)
@@ -606,11 +606,11 @@ goes_leaves false z t a b u v none h = (h.0, h.1)
 
 -- Of a call that is refused nothing is told of an update.
 pub none_met_as : {T : Type 0} (edits : T → Bool) (last : Last) (why : Cause) (o : Outcome T)
-    (m : MyTree) → o ≡ outcome_by why → HasMetAs edits last o m
+    (m : MyTree) → o ≡ outcome_by why → IsCauseMetInCall edits last o m
 none_met_as {T} edits last why o m is = subst
-    (λ (x : Outcome T). HasMetAs edits last x m) (sym is) (by why)
+    (λ (x : Outcome T). IsCauseMetInCall edits last x m) (sym is) (by why)
   where
-    by : (why : Cause) → HasMetAs edits last (outcome_by {T = T} why) m
+    by : (why : Cause) → IsCauseMetInCall edits last (outcome_by {T = T} why) m
     by (refusal.Busy spent) = tt
     by (refusal.Full cause) = tt
     by (refusal.Deep level) = tt
@@ -618,11 +618,11 @@ none_met_as {T} edits last why o m is = subst
 
 pub leaves_refused : {T : Type 0} (edits : T → Bool) (z : Sizes) (t : Tuning) (last : Last)
     (why : Cause) (o : Outcome T) (u v : TreeView)
-    → o ≡ outcome_by why → v.renewal ≡ u.renewal → LeavesAs edits z t last last o u v
+    → o ≡ outcome_by why → v.renewal ≡ u.renewal → LeavesInCall edits z t last last o u v
 leaves_refused {T} edits z t last why o u v is same = subst
-    (λ (x : Outcome T). LeavesAs edits z t last last x u v) (sym is) (by why)
+    (λ (x : Outcome T). LeavesInCall edits z t last last x u v) (sym is) (by why)
   where
-    by : (why : Cause) → LeavesAs edits z t last last (outcome_by {T = T} why) u v
+    by : (why : Cause) → LeavesInCall edits z t last last (outcome_by {T = T} why) u v
     by (refusal.Busy spent) = (refl, same)
     by (refusal.Full cause) = (refl, same)
     by (refusal.Deep level) = (refl, same)

@@ -8,7 +8,7 @@ use Rattle.ca_adapt.specs.declared.adapted.Adapted.TheVariants as adapted
 use Rattle.ca_adapt.specs.declared.adapted.Why.{Why}
 use Rattle.ca_adapt.specs.declared.adapted.Why.TheVariants as why
 use Rattle.ca_adapt.specs.declared.tuning.Tuning.{Tuning}
-use Rattle.ca_adapt.specs.Splits.{IsSplitAs, IsNotSplitBy, attempts_at_first}
+use Rattle.ca_adapt.specs.Splits.{IsSplitOutcome, IsWhyNotSplit, attempts_at_first}
 use Rattle.ca_model.specs.declared.outcome.Spent.{Spent}
 use Rattle.ca_model.specs.Event.{Event}
 use Rattle.ca_model.specs.History.{Edit, History, after}
@@ -37,7 +37,7 @@ use Rattle.ca_replace.specs.declared.attempting.Stop.TheVariants as stop
 use Rattle.ca_model.specs.declared.outcome.Cause.{Cause}
 use Rattle.ca_replace.specs.Adapting.{HasSettled}
 use Rattle.ca_replace.specs.Attempting.{IsLooking, IsQuiet, HasTriedTo, come_to, refused_as, split_to}
-use Rattle.ca_replace.specs.Growing.{Grows, GrowsBy, IsSameTree, HasRoom, HasRoomFor, HasGrown, HasWaited, HasGrownSoFar}
+use Rattle.ca_replace.specs.Growing.{Grows, GrowsInCall, IsSameTree, HasRoom, HasRoomFor, HasGrown, HasWaited, HasGrownInAttempts}
 use Rattle.ca_replace.proofs.Settling.{IsSettling}
 use Rattle.ca_replace.proofs.OneHand.{seen_still}
 use Rattle.ca_replace.proofs.States.{has_last}
@@ -361,7 +361,7 @@ come_unsplit (Err norow.Worn) r is e = cc
 -- A try to split the base that is due.
 pub due_grows : (z : Sizes) (a : Adapted) (k m m' : MyTree)
     → IsListed m.0.upper.inventory (first_note m.0.upper.notes) → IsSameTree k.0.upper m.0.upper
-    → IsSplitAs z (first_note m.0.upper.notes) a m m' → Grows 1 2 1 k.0.upper m'.0.upper
+    → IsSplitOutcome z (first_note m.0.upper.notes) a m m' → Grows 1 2 1 k.0.upper m'.0.upper
 due_grows z a k m m' l same h =
     grows_both 0 0 0 1 2 1 k.0.upper m.0.upper m'.0.upper
     (same_grows 0 0 0 k.0.upper m.0.upper same) (by a h)
@@ -372,7 +372,7 @@ due_grows z a k m m' l same h =
       ap (λ (x : TreeView). x.inventory) e,
     )
 
-    not_by : (w : Why) → IsNotSplitBy z (first_note m.0.upper.notes) w m m'
+    not_by : (w : Why) → IsWhyNotSplit z (first_note m.0.upper.notes) w m m'
         → Grows 1 2 1 m.0.upper m'.0.upper
     not_by why.Root h = absurd h
     not_by why.OneObject h = still (ap (λ (x : MyTree). x.0.upper) h.1)
@@ -389,7 +389,7 @@ due_grows z a k m m' l same h =
     not_by why.NoRow h = still h.2
     not_by why.Worn h = still h.2
 
-    by : (a : Adapted) → IsSplitAs z (first_note m.0.upper.notes) a m m'
+    by : (a : Adapted) → IsSplitOutcome z (first_note m.0.upper.notes) a m m'
         → Grows 1 2 1 m.0.upper m'.0.upper
     by adapted.Stay h = absurd h
     by adapted.Split h =
@@ -467,7 +467,7 @@ module _ (z : Sizes) (adds : Option (List ℕ)) (u w v : TreeView) (before : Has
 
 -- One attempt is so many.
 one_attempt : {T : Type 0} (z : Sizes) (adds : Option (List ℕ)) (r : Result T Stop) (u v : TreeView)
-    → HasGrown z adds r u v → HasGrownSoFar z adds r u v
+    → HasGrown z adds r u v → HasGrownInAttempts z adds r u v
 one_attempt z adds (Ok x) u v h = inl h
 one_attempt z adds (Err stop.Split) u v h = inr h
 one_attempt z adds (Err stop.Lost) u v h = inl h
@@ -483,8 +483,8 @@ alone_on z u w same a = (a.0, subst (λ (n : ℕ). 0 < n) (sym same) a.1)
 pub attempts_so_far : {T : Type 0} (tells : T → Event → Type 0) (z : Sizes) (adds : Option (List ℕ))
     (r : Result T Stop) (u w v : TreeView) → IsKnown z u
     → IsKnown z w → IsFurther u w → (IsAlone z u → HasWaited z adds u w) → HasTriedTo tells z r w v
-    → (IsAlone z w → HasGrownSoFar z adds r w v)
-    → IsAlone z u → HasGrownSoFar z adds r u v
+    → (IsAlone z w → HasGrownInAttempts z adds r w v)
+    → IsAlone z u → HasGrownInAttempts z adds r u v
 attempts_so_far tells z adds (Ok x) u w v k l f before tried h a =
     done z adds u w v (before a) (seen_still z u w a k l f) (h (alone_on z u w f.number a))
 attempts_so_far tells z adds (Err why) u w v k l f before tried h a =
@@ -497,19 +497,19 @@ pub one_more_attempt : {T : Type 0} (tells : T → Event → Type 0) (z : Sizes)
     (adds : Option (List ℕ)) (r : Result T Stop) (u w v : TreeView) → IsKnown z u
     → IsKnown z w → IsFurther u w → (IsAlone z u → HasWaited z adds u w) → HasTriedTo tells z r w v
     → (IsAlone z w → HasGrown z adds r w v)
-    → IsAlone z u → HasGrownSoFar z adds r u v
+    → IsAlone z u → HasGrownInAttempts z adds r u v
 one_more_attempt tells z adds r u w v k l f before tried h =
     attempts_so_far tells z adds r u w v k l f before tried (λ b. one_attempt z adds r w v (h b))
 
 -- Attempts that came to a stop did not do the call.
 pub has_waited : {T E : Type 0} (z : Sizes) (adds : Option (List ℕ)) (r : Result T E) (why : E)
-    (u v : TreeView) → r ≡ Err why → HasGrownSoFar z adds r u v
+    (u v : TreeView) → r ≡ Err why → HasGrownInAttempts z adds r u v
     → HasWaited z adds u v
-has_waited {T} {E} z adds r why u v e h = subst (λ (x : Result T E). HasGrownSoFar z adds x u v) e h
+has_waited {T} {E} z adds r why u v e h = subst (λ (x : Result T E). HasGrownInAttempts z adds x u v) e h
 
 pub turn_waited : {T : Type 0} (z : Sizes) (adds : Option (List ℕ)) (r : Result T Stop)
     (u v : TreeView) → (r ≡ Err stop.Lost) ⊎ (r ≡ Err stop.Split)
-    → HasGrownSoFar z adds r u v → HasWaited z adds u v
+    → HasGrownInAttempts z adds r u v → HasWaited z adds u v
 turn_waited z adds r u v e h = ⊎_elim
     (λ (l : r ≡ Err stop.Lost). has_waited z adds r stop.Lost u v l h)
     (λ (s : r ≡ Err stop.Split). has_waited z adds r stop.Split u v s h) e
@@ -593,15 +593,15 @@ grown_pinned {T} z adds r u v w same h = subst
 pub grown_refused : {T : Type 0} (z : Sizes) (adds : Option (List ℕ)) (tried : Result T Stop)
     (r : Result T Cause) (spent : Spent) (levels : ℕ)
     (u w v : TreeView)
-    → v ≡ w → r ≡ refused_as tried spent levels → HasGrownSoFar z adds tried u w
-    → HasGrownSoFar z adds r u v
+    → v ≡ w → r ≡ refused_as tried spent levels → HasGrownInAttempts z adds tried u w
+    → HasGrownInAttempts z adds r u v
 grown_refused {T} z adds tried r spent levels u w v same is h = subst
-    (λ (x : Result T Cause). HasGrownSoFar z adds x u v) (sym is)
+    (λ (x : Result T Cause). HasGrownInAttempts z adds x u v) (sym is)
     (subst (λ (x : TreeView).
-    HasGrownSoFar z adds (refused_as tried spent levels) u x) (sym same) (by tried h))
+    HasGrownInAttempts z adds (refused_as tried spent levels) u x) (sym same) (by tried h))
   where
-    by : (tried : Result T Stop) → HasGrownSoFar z adds tried u w
-        → HasGrownSoFar z adds (refused_as tried spent levels) u w
+    by : (tried : Result T Stop) → HasGrownInAttempts z adds tried u w
+        → HasGrownInAttempts z adds (refused_as tried spent levels) u w
     by (Ok x) h = h
     by (Err stop.Lost) h = h
     by (Err stop.Split) h = h
@@ -611,7 +611,7 @@ grown_refused {T} z adds tried r spent levels u w v same is h = subst
 
 -- By how much a call grew the tree.
 pub done_grows : (z : Sizes) (adds : Option (List ℕ)) (u v : TreeView) → Grows 1 3 1 u v
-    ⊎ (Grows 2 5 2 u v × ¬ HasRoomFor z adds u) → GrowsBy adds u v
+    ⊎ (Grows 2 5 2 u v × ¬ HasRoomFor z adds u) → GrowsInCall adds u v
 done_grows z None u v (inl g) = g
 done_grows z None u v (inr t) = absurd (t.1 tt)
 done_grows z (Some k) u v (inl g) =
@@ -619,7 +619,7 @@ done_grows z (Some k) u v (inl g) =
 done_grows z (Some k) u v (inr t) = t.0
 
 waited_grows : (z : Sizes) (adds : Option (List ℕ)) (u v : TreeView) → HasWaited z adds u v
-    → GrowsBy adds u v
+    → GrowsInCall adds u v
 waited_grows z None u v (inl same) = same_grows 1 3 1 u v same
 waited_grows z None u v (inr t) = absurd (t.2 tt)
 waited_grows z (Some k) u v (inl same) = same_grows 2 5 2 u v same
@@ -629,13 +629,13 @@ waited_grows z (Some k) u v (inr t) =
 -- One that is refused is counted then.
 pub refused_grows : (z : Sizes) (adds : Option (List ℕ)) (counts : Counts) (u : TreeView)
     (m m' : MyTree) → HasWaited z adds u m.0.upper
-    → m' ≡ with_upper m (record m.0.upper { counts = counts }) → GrowsBy adds u m'.0.upper
+    → m' ≡ with_upper m (record m.0.upper { counts = counts }) → GrowsInCall adds u m'.0.upper
 refused_grows z adds counts u m m' h is = subst
-    (λ (x : MyTree). GrowsBy adds u x.0.upper) (sym is)
+    (λ (x : MyTree). GrowsInCall adds u x.0.upper) (sym is)
     (by adds (waited_grows z adds u m.0.upper h))
   where
-    by : (adds : Option (List ℕ)) → GrowsBy adds u m.0.upper
-        → GrowsBy adds u (record m.0.upper { counts = counts })
+    by : (adds : Option (List ℕ)) → GrowsInCall adds u m.0.upper
+        → GrowsInCall adds u (record m.0.upper { counts = counts })
     by None g =
         record {
           splits_are =

@@ -20,7 +20,7 @@ use Rattle.ca_node.specs.TreeView.{Note, TreeView}
 use Rattle.ca_node.specs.Walking.{walked, IsWalked}
 use Rattle.ca_node.proofs.Parts.{part_map, part_get}
 use Rattle.ca_replace.specs.declared.attempting.Stop.{Stop}
-use Rattle.ca_replace.specs.Attempting.{IsLooking, HasFetched, HasDoneAs, HasSeenAlike, HasTriedTo, IsQuiet, come_to}
+use Rattle.ca_replace.specs.Attempting.{IsLooking, HasFetched, HasDoneSuch, HasSeenAlike, HasTriedTo, IsQuiet, come_to}
 use Rattle.ca_replace.specs.Causes.{IsFull, IsFullSince}
 use Rattle.ca_base.specs.declared.taking.NoRow.{NoRow}
 use Rattle.ca_base.specs.Finding.{IsPlaceIn}
@@ -236,7 +236,7 @@ place_still z m m' cursor k place same l p = subst
 -- A call that was told as this event is done, after a look.
 pub did : {T : Type 0} (tells : T → Event → Type 0) (z : Sizes) (event : Event) (x : T)
     (u w v : TreeView) → tells x event → IsFurther u w
-    → HasDoneAs (λ e. e ≡ event) w v × IsKnown z v → HasTriedTo tells z (Ok x) u v
+    → HasDoneSuch (λ e. e ≡ event) w v × IsKnown z v → HasTriedTo tells z (Ok x) u v
 did tells z event x u w v t f h =
     ((event, t, done_on u w v event f (subst (λ (e : Event). HasDone e w v) h.0.1 h.0.2)), h.1)
 

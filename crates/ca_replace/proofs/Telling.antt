@@ -14,7 +14,7 @@ use Rattle.ca_model.specs.Known.{Meets}
 use Rattle.ca_node.specs.Told.{IsKnown}
 use Rattle.ca_node.specs.TreeView.{TreeView}
 use Rattle.ca_base.specs.Progress.{HasDone}
-use Rattle.ca_replace.specs.Attempting.{HasDoneAs}
+use Rattle.ca_replace.specs.Attempting.{HasDoneSuch}
 use Rattle.ca_replace.specs.Resting.{known_of}
 use Rattle.ca_replace.specs.Tells.{Alters, Removes, RemovesIf}
 use Rattle.ca_replace.proofs.Meeting.{meets}
@@ -47,7 +47,7 @@ module _ (table : TableId) (z : Sizes) (u v : TreeView) (before : IsKnown z u)
       (λ (x : Event). HasDone x u v) same done)
 
   -- The call removed the object.
-  pub removed : (was : Bool) → HasDoneAs (Removes key was old) u v
+  pub removed : (was : Bool) → HasDoneSuch (Removes key was old) u v
       → Removed (known_of table z u) (known_of table z v) key was old
   removed true h = met (Remove key (Some old)) h.0 h.1 h.2
   removed false h = (met (Remove key None) h.0 h.1.0 h.2, h.1.1)
@@ -56,7 +56,7 @@ module _ (table : TableId) (z : Sizes) (u v : TreeView) (before : IsKnown z u)
   pub altered : {F : Type 0} (g : Shared F (Bor (List ℕ)
       × (MutBor (ArrayVec ℕ) × (MutBor ℕ × Unit {0}))) (Bool
       × (MutBor (ArrayVec ℕ) × (MutBor ℕ × Unit {0})))) (f : F) (x : Changed)
-      → HasDoneAs (Alters g f key x old) u v
+      → HasDoneSuch (Alters g f key x old) u v
       → Altered g f (known_of table z u) (known_of table z v) key x old
   altered g f changed.Absent h = (met (Change key None None) h.0 h.1.0 h.2, h.1.1)
   altered g f changed.Kept h = (h.1.0, met (Change key (Some old) None) h.0 h.1.1 h.2)
@@ -65,7 +65,7 @@ module _ (table : TableId) (z : Sizes) (u v : TreeView) (before : IsKnown z u)
 
   -- It removed the object where the function said so.
   pub removed_if : {F : Type 0} (g : Shared F (Bor (List ℕ) × Unit {0}) Bool) (f : F) (x : Changed)
-      → HasDoneAs (RemovesIf g f key x old) u v
+      → HasDoneSuch (RemovesIf g f key x old) u v
       → RemovedIf g f (known_of table z u) (known_of table z v) key x old
   removed_if g f changed.Absent h = (met (Get key None) h.0 h.1.0 h.2, h.1.1)
   removed_if g f changed.Kept h = (h.1.0, met (Get key (Some old)) h.0 h.1.1 h.2)

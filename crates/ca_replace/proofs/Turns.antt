@@ -19,7 +19,7 @@ use Rattle.ca_replace.specs.declared.attempting.Stop.{Stop}
 use Rattle.ca_model.specs.declared.outcome.Cause.{Cause}
 use Rattle.ca_model.specs.declared.outcome.Spent.{Spent}
 use Rattle.ca_replace.specs.declared.attempting.Stop.TheVariants as stop
-use Rattle.ca_replace.specs.Attempting.{HasAttempted, HasDoneAs, HasTriedTo, refused_as}
+use Rattle.ca_replace.specs.Attempting.{HasAttempted, HasDoneSuch, HasTriedTo, refused_as}
 use Rattle.ca_base.specs.Progress.{IsFurther, HasDone, IsRefused}
 use Rattle.ca_replace.specs.Resting.{IsResting, known_of}
 use Rattle.ca_base.specs.Taking.{AreHeld, HoldsFew}
@@ -79,7 +79,7 @@ pub tried_pinned : {T : Type 0} (tells : T → Event → Type 0) (z : Sizes) (r 
     (u v w : TreeView) → w ≡ unpinned v
     → HasTriedTo tells z r (pinned u) v → HasTriedTo tells z r u w
 tried_pinned tells z (Ok x) u v w same h = let d = h.0.2 in
-    subst (λ (y : TreeView). HasDoneAs (tells x) u y × IsKnown z y) (sym same) (
+    subst (λ (y : TreeView). HasDoneSuch (tells x) u y × IsKnown z y) (sym same) (
       (
         h.0.0,
         h.0.1,
@@ -258,7 +258,7 @@ no_further u = record { number = refl; seen = starts_whole u.seen; log = refl; c
 -- A call that is done meets its definition.
 pub if_met : {T : Type 0} (event : T → Event) (table : TableId) (z : Sizes) (o : Outcome T)
     (u v : TreeView) → IsKnown z u → IsKnown z v
-    → IfDone o (λ x. HasDoneAs (λ e. e ≡ event x) u v)
+    → IfDone o (λ x. HasDoneSuch (λ e. e ≡ event x) u v)
     → IfDone o (λ x. Meets (known_of table z u) (known_of table z v) (event x))
 if_met event table z (outcome.Done x) u v a b h =
     meets table z u v a b (event x) (subst (λ (e : Event). HasDone e u v) h.1 h.2)

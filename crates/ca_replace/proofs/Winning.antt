@@ -6,7 +6,7 @@ use Rattle.ca_adapt.specs.declared.adapted.Adapted.TheVariants as adapted
 use Rattle.ca_adapt.specs.declared.adapted.Why.{Why}
 use Rattle.ca_adapt.specs.declared.adapted.Why.TheVariants as why
 use Rattle.ca_adapt.specs.declared.tuning.Tuning.{Tuning}
-use Rattle.ca_adapt.specs.Splits.{IsSplitAs, IsNotSplitBy, IsPoolsLoss}
+use Rattle.ca_adapt.specs.Splits.{IsSplitOutcome, IsWhyNotSplit, IsPoolsLoss}
 use Rattle.ca_model.specs.declared.outcome.Outcome.{Outcome}
 use Rattle.ca_model.specs.declared.outcome.Spent.{Spent}
 use Rattle.ca_node.specs.declared.cursor.Cursor.{Cursor}
@@ -28,7 +28,7 @@ use Rattle.ca_model.specs.declared.outcome.Cause.TheVariants as refusal
 use Rattle.ca_replace.specs.Adapting.{HasSettled, IsNew}
 use Rattle.ca_replace.specs.Attempting.{come_to, refused_as, split_to}
 use Rattle.ca_replace.specs.Refusals.{outcome_by}
-use Rattle.ca_replace.specs.Winning.{HasWon, HasWonAs, WinsAs}
+use Rattle.ca_replace.specs.Winning.{HasWon, HasWonInAttempts, HasWonInCall}
 use Rattle.ca_replace.proofs.Settling.{IsSettling}
 use Rattle.ca_rows.specs.declared.sizes.Sizes.{Sizes}
 use Rattle.ca_rows.specs.Told.{met_of}
@@ -45,7 +45,7 @@ comes_there z key placed m m' cursor new w alone = sym (new.listed.2 ∙ (let l 
 pub due_won : (z : Sizes) (key : Bor (List ℕ)) (placed : ℕ) (m m' m'' : MyTree) (cursor : Cursor)
     (a : Adapted) → IsNew placed key.now (met_of m) m.0.upper
     → IsWalked z (spot.At key) m cursor m' → cursor.base ≡ placed
-    → IsSplitAs z (first_note m'.0.upper.notes) a m' m'' → IsPoolsLoss a m' m''
+    → IsSplitOutcome z (first_note m'.0.upper.notes) a m' m'' → IsPoolsLoss a m' m''
     → (m''.0.upper.lost ≡ m.0.upper.lost) × (m''.0.upper.last.row ≡ m''.0.upper.renewal.new.row)
 due_won z key placed m m' m'' cursor a new w same h pools = let t = by a h pools in (
   t.0 ∙ ap (λ (x : MyTree). x.0.upper.lost) w.now,
@@ -67,7 +67,7 @@ due_won z key placed m m' m'' cursor a new w same h pools = let t = by a h pools
       ap (λ (x : TreeView). x.renewal) e,
     )
 
-    not_by : (r : Why) → IsNotSplitBy z (first_note m'.0.upper.notes) r m' m''
+    not_by : (r : Why) → IsWhyNotSplit z (first_note m'.0.upper.notes) r m' m''
         → IsPoolsLoss (adapted.NotSplit r) m' m''
         → (m''.0.upper.lost ≡ m'.0.upper.lost) × (m''.0.upper.last ≡ m'.0.upper.last)
         × (m''.0.upper.renewal ≡ m'.0.upper.renewal)
@@ -81,7 +81,7 @@ due_won z key placed m m' m'' cursor a new w same h pools = let t = by a h pools
     not_by why.NoRow h pools = still h.2
     not_by why.Worn h pools = still h.2
 
-    by : (a : Adapted) → IsSplitAs z (first_note m'.0.upper.notes) a m' m'' → IsPoolsLoss a m' m''
+    by : (a : Adapted) → IsSplitOutcome z (first_note m'.0.upper.notes) a m' m'' → IsPoolsLoss a m' m''
         → (m''.0.upper.lost ≡ m'.0.upper.lost) × (m''.0.upper.last ≡ m'.0.upper.last)
         × (m''.0.upper.renewal ≡ m'.0.upper.renewal)
     by adapted.Stay h pools = absurd h
@@ -97,7 +97,7 @@ due_won z key placed m m' m'' cursor a new w same h pools = let t = by a h pools
 -- A full base that was to be split: its exchange was won, or no row was free.
 pub room_won : {T : Type 0} (edits : T → Bool) (many attempt : ℕ) (r : Result Bool NoRow)
     (u v : TreeView) → r ≢ Ok false → HasSplit many attempt r u v
-    → HasWonAs {T = T} edits (Err (split_to r)) u v
+    → HasWonInAttempts {T = T} edits (Err (split_to r)) u v
 room_won edits many attempt (Ok true) u v won h = ap (λ (x : TreeView). x.lost) h.2
 room_won edits many attempt (Ok false) u v won h = absurd (won refl)
 room_won edits many attempt (Err why) u v won h = ap (λ (x : TreeView). x.lost) h
@@ -111,10 +111,10 @@ pub settled_won : {z : Sizes} {t : Tuning} {tried : Result Bool NoRow} {r : Resu
     → tried ≢ Ok false)
     → (IsAlone z m'.0.upper → tried ≡ Ok true → (m''.0.upper.lost ≡ m'.0.upper.lost)
     × (m''.0.upper.last.row ≡ m''.0.upper.renewal.new.row))
-    → IsAlone z k.0.upper → HasWonAs (λ _. true) r k.0.upper m''.0.upper
+    → IsAlone z k.0.upper → HasWonInAttempts (λ _. true) r k.0.upper m''.0.upper
 settled_won {z} {t} {tried} {r} {a} {b} {k} {m} {m'} {m''} s listed won then alone = subst
-    (λ (x : Result (Unit {0}) Stop). HasWonAs (λ _. true) x k.0.upper m''.0.upper) (sym s.is)
-    (subst (λ (x : MyTree). HasWonAs {T = Unit {0}}
+    (λ (x : Result (Unit {0}) Stop). HasWonInAttempts (λ _. true) x k.0.upper m''.0.upper) (sym s.is)
+    (subst (λ (x : MyTree). HasWonInAttempts {T = Unit {0}}
     (λ _. true) (come_to tried) x.0.upper m''.0.upper) s.same
     (by tried s.entered s.renewed s.settled
     (won (subst (λ (x : MyTree). IsAlone z x.0.upper) (sym s.same) alone)
@@ -129,7 +129,7 @@ settled_won {z} {t} {tried} {r} {a} {b} {k} {m} {m'} {m''} s listed won then alo
         → HasSettled z t s.statistic x a b m' m'' → x ≢ Ok false
         → (IsAlone z m'.0.upper → x ≡ Ok true → (m''.0.upper.lost ≡ m'.0.upper.lost)
         × (m''.0.upper.last.row ≡ m''.0.upper.renewal.new.row))
-        → HasWonAs {T = Unit {0}} (λ _. true) (come_to x) m.0.upper m''.0.upper
+        → HasWonInAttempts {T = Unit {0}} (λ _. true) (come_to x) m.0.upper m''.0.upper
     by (Ok true) h renewed q won then = let same_number = h.0.number in
         let w = then (
           alone.0,
@@ -156,17 +156,17 @@ won_on true u w v before h = (h.0 ∙ before, h.1 ∙ before, h.2)
 won_on false u w v before h = h ∙ before
 
 pub won_behind : {T E : Type 0} (edits : T → Bool) (r : Result T E) (u w v : TreeView)
-    → w.lost ≡ u.lost → HasWonAs edits r w v → HasWonAs edits r u v
+    → w.lost ≡ u.lost → HasWonInAttempts edits r w v → HasWonInAttempts edits r u v
 won_behind edits (Ok x) u w v before h = won_on (edits x) u w v before h
 won_behind edits (Err why) u w v before h = won_on false u w v before h
 
 -- Attempts that came to a stop.
 pub stop_won : {T E : Type 0} (edits : T → Bool) (r : Result T E) (why : E) (u v : TreeView)
-    → r ≡ Err why → HasWonAs edits r u v → v.lost ≡ u.lost
-stop_won {T} {E} edits r why u v e h = subst (λ (x : Result T E). HasWonAs edits x u v) e h
+    → r ≡ Err why → HasWonInAttempts edits r u v → v.lost ≡ u.lost
+stop_won {T} {E} edits r why u v e h = subst (λ (x : Result T E). HasWonInAttempts edits x u v) e h
 
 pub turn_won : {T : Type 0} (edits : T → Bool) (r : Result T Stop) (u v : TreeView)
-    → (r ≡ Err stop.Lost) ⊎ (r ≡ Err stop.Split) → HasWonAs edits r u v
+    → (r ≡ Err stop.Lost) ⊎ (r ≡ Err stop.Split) → HasWonInAttempts edits r u v
     → v.lost ≡ u.lost
 turn_won edits r u v e h = ⊎_elim (λ (l : r ≡ Err stop.Lost). stop_won edits r stop.Lost u v l h)
     (λ (s : r ≡ Err stop.Split). stop_won edits r stop.Split u v s h) e
@@ -178,8 +178,8 @@ won_unpinned true u v h = h
 won_unpinned false u v h = h
 
 pub won_pinned : {T E : Type 0} (edits : T → Bool) (r : Result T E) (u v w : TreeView)
-    → w ≡ unpinned v → HasWonAs edits r (pinned u) v
-    → HasWonAs edits r u w
+    → w ≡ unpinned v → HasWonInAttempts edits r (pinned u) v
+    → HasWonInAttempts edits r u w
 won_pinned edits (Ok x) u v w same h = subst
     (λ (y : TreeView). HasWon (edits x) u y) (sym same) (won_unpinned (edits x) u v h)
 won_pinned edits (Err why) u v w same h = subst (λ (y : TreeView). y.lost ≡ u.lost) (sym same) h
@@ -187,14 +187,14 @@ won_pinned edits (Err why) u v w same h = subst (λ (y : TreeView). y.lost ≡ u
 -- What the attempts come to where the last one's is told otherwise.
 pub won_refused : {T : Type 0} (edits : T → Bool) (tried : Result T Stop) (r : Result T Cause)
     (spent : Spent) (levels : ℕ) (u w v : TreeView)
-    → v ≡ w → r ≡ refused_as tried spent levels → HasWonAs edits tried u w → HasWonAs edits r u v
+    → v ≡ w → r ≡ refused_as tried spent levels → HasWonInAttempts edits tried u w → HasWonInAttempts edits r u v
 won_refused {T} edits tried r spent levels u w v same is h = subst
-    (λ (x : Result T Cause). HasWonAs edits x u v) (sym is)
+    (λ (x : Result T Cause). HasWonInAttempts edits x u v) (sym is)
     (subst (λ (x : TreeView).
-    HasWonAs edits (refused_as tried spent levels) u x) (sym same) (by tried h))
+    HasWonInAttempts edits (refused_as tried spent levels) u x) (sym same) (by tried h))
   where
-    by : (tried : Result T Stop) → HasWonAs edits tried u w
-        → HasWonAs edits (refused_as tried spent levels) u w
+    by : (tried : Result T Stop) → HasWonInAttempts edits tried u w
+        → HasWonInAttempts edits (refused_as tried spent levels) u w
     by (Ok x) h = h
     by (Err stop.Lost) h = h
     by (Err stop.Split) h = h
@@ -204,11 +204,11 @@ won_refused {T} edits tried r spent levels u w v same is h = subst
 
 -- A refused call.
 pub refused_wins : {T : Type 0} (edits : T → Bool) (why : Cause) (o : Outcome T) (u v : TreeView)
-    → o ≡ outcome_by why → v.lost ≡ u.lost → WinsAs edits o u v
+    → o ≡ outcome_by why → v.lost ≡ u.lost → HasWonInCall edits o u v
 refused_wins {T} edits why o u v is same = subst
-    (λ (x : Outcome T). WinsAs edits x u v) (sym is) (by why)
+    (λ (x : Outcome T). HasWonInCall edits x u v) (sym is) (by why)
   where
-    by : (why : Cause) → WinsAs edits (outcome_by {T = T} why) u v
+    by : (why : Cause) → HasWonInCall edits (outcome_by {T = T} why) u v
     by (refusal.Busy spent) = same
     by (refusal.Full cause) = same
     by (refusal.Deep level) = same

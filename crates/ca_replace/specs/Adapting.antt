@@ -85,15 +85,15 @@ IsDoneAbout due.Split Nothing There = There
 IsDoneAbout due.Join Nothing There = Nothing
 
 -- What was due to the new base of the last update by its statistic was done about it.
-abbrev pub IsAdaptedBy : Sizes → Tuning → ℤ → TreeView → Adapted → Type 0
-IsAdaptedBy z t statistic v a = (what : Due) × IsDue t statistic what × IsDoneAbout what (HasTriedNothing v a) (HasTriedThere z v a)
+abbrev pub IsAdapted : Sizes → Tuning → ℤ → TreeView → Adapted → Type 0
+IsAdapted z t statistic v a = (what : Due) × IsDue t statistic what × IsDoneAbout what (HasTriedNothing v a) (HasTriedThere z v a)
 
 -- The same, where nothing was updated in between.
 abbrev pub HasLookedAgain : Sizes → Adapted → TreeView → TreeView → Type 0
 HasLookedAgain z a u v = (v.renewal ≡ u.renewal) × HasTriedThere z v a
 
 abbrev pub HasAdapted : Sizes → Tuning → ℤ → Adapted → TreeView → TreeView → Type 0
-HasAdapted z t statistic a u v = (v.renewal ≡ u.renewal) × IsAdaptedBy z t statistic v a
+HasAdapted z t statistic a u v = (v.renewal ≡ u.renewal) × IsAdapted z t statistic v a
 
 -- Since this update was carried out the pass lost an exchange, found the pool's head empty, or found its tag at the last value: what the answer says
 -- of the base that was not split. So much was met of the pool until now, and so many exchanges of a link were lost.
@@ -113,8 +113,8 @@ IsMetSince (adapted.NotSplit why.Worn) r now lost = r.met.worn < now.worn
 IsMetSince (adapted.NotJoined why) r now lost = Unit {0}
 
 -- So it did since its last update.
-abbrev pub IsMetAs : Adapted → Met → TreeView → Type 0
-IsMetAs a now v = IsMetSince a v.renewal now v.lost
+abbrev pub IsCauseMet : Adapted → Met → TreeView → Type 0
+IsCauseMet a now v = IsMetSince a v.renewal now v.lost
 
 -- This holds where a call edited the map: by what its attempts came to, and by its outcome.
 abbrev pub IfTrue : Bool → Type 0 → Type 0
@@ -134,11 +134,11 @@ IfDoneEdit edits (outcome.Worn s) P = Unit {0}
 
 -- Where an update was carried out, what the answer says of the base that was not split was met since. What was met of the pool counts until the pass
 -- unpinned.
-abbrev pub MeetsAs : {T E : Type 0} → (T → Bool) → Last → Result T E → Met → TreeView → Type 0
-MeetsAs edits last r now v = IfEdited edits r (IsMetAs last.adapted now v)
+abbrev pub IsCauseMetInAttempts : {T E : Type 0} → (T → Bool) → Last → Result T E → Met → TreeView → Type 0
+IsCauseMetInAttempts edits last r now v = IfEdited edits r (IsCauseMet last.adapted now v)
 
-abbrev pub HasMetAs : {T : Type 0} → (T → Bool) → Last → Outcome T → MyTree → Type 0
-HasMetAs edits last o m = IfDoneEdit edits o (IsMetAs last.adapted m.0.pin.left m.0.upper)
+abbrev pub IsCauseMetInCall : {T : Type 0} → (T → Bool) → Last → Outcome T → MyTree → Type 0
+IsCauseMetInCall edits last o m = IfDoneEdit edits o (IsCauseMet last.adapted m.0.pin.left m.0.upper)
 
 -- What became of an exchange of a base, and of the new base.
 abbrev pub HasSettled : Sizes → Tuning → ℤ → Result Bool NoRow → Adapting → Adapting → MyTree → MyTree → Type 0
@@ -154,7 +154,7 @@ pub record Adapts (z : Sizes) (t : Tuning) (before : Bool) (last : Last) (u v : 
   pub since : HasLostSince before lost u.lost v.renewal.lost
   pub moved : IsMoved t (slice_index v.renewal.old.its 1) lost last.statistic
   pub word_is : IsWordOf last.statistic (slice_index v.renewal.new.its 1)
-  pub adapted : IsAdaptedBy z t last.statistic v last.adapted
+  pub adapted : IsAdapted z t last.statistic v last.adapted
 
 -- No update was carried out. Whether the call lost an exchange of a link is kept.
 abbrev pub Waits : Adapting → Adapting → TreeView → TreeView → Type 0
@@ -180,9 +180,9 @@ abbrev pub Leaves : Bool → Sizes → Tuning → Last → Last → TreeView →
 Leaves true z t last last' u v = Adapts z t false last' u v
 Leaves false z t last last' u v = (last' ≡ last) × (v.renewal ≡ u.renewal)
 
-abbrev pub LeavesAs : {T : Type 0} → (T → Bool) → Sizes → Tuning → Last → Last → Outcome T → TreeView → TreeView → Type 0
-LeavesAs edits z t last last' (outcome.Done x) u v = Leaves (edits x) z t last last' u v
-LeavesAs edits z t last last' (outcome.Busy s) u v = Leaves false z t last last' u v
-LeavesAs edits z t last last' (outcome.Full s) u v = Leaves false z t last last' u v
-LeavesAs edits z t last last' (outcome.Deep s) u v = Leaves false z t last last' u v
-LeavesAs edits z t last last' (outcome.Worn s) u v = Leaves false z t last last' u v
+abbrev pub LeavesInCall : {T : Type 0} → (T → Bool) → Sizes → Tuning → Last → Last → Outcome T → TreeView → TreeView → Type 0
+LeavesInCall edits z t last last' (outcome.Done x) u v = Leaves (edits x) z t last last' u v
+LeavesInCall edits z t last last' (outcome.Busy s) u v = Leaves false z t last last' u v
+LeavesInCall edits z t last last' (outcome.Full s) u v = Leaves false z t last last' u v
+LeavesInCall edits z t last last' (outcome.Deep s) u v = Leaves false z t last last' u v
+LeavesInCall edits z t last last' (outcome.Worn s) u v = Leaves false z t last last' u v

@@ -45,12 +45,12 @@ abbrev pub HasSeenAlike : TreeView → TreeView → Type 0
 HasSeenAlike u v = (v.seen ≡ u.seen) × (v.since ≡ u.since) × (v.last ≡ u.last)
 
 -- A call was entered in the log, one that is told so.
-abbrev pub HasDoneAs : (Event → Type 0) → TreeView → TreeView → Type 0
-HasDoneAs tells u v = (event : Event) × tells event × HasDone event u v
+abbrev pub HasDoneSuch : (Event → Type 0) → TreeView → TreeView → Type 0
+HasDoneSuch tells u v = (event : Event) × tells event × HasDone event u v
 
 -- The attempt did the call, which is told so; or it came to a stop, and learnt of others' edits alone.
 abbrev pub HasTriedTo : {T : Type 0} → (T → Event → Type 0) → Sizes → Result T Stop → TreeView → TreeView → Type 0
-HasTriedTo tells z (Ok x) u v = HasDoneAs (tells x) u v × IsKnown z v
+HasTriedTo tells z (Ok x) u v = HasDoneSuch (tells x) u v × IsKnown z v
 HasTriedTo tells z (Err stop) u v = IsFurther u v × IsKnown z v
 
 -- what an attempt comes to that found no row
@@ -73,7 +73,7 @@ come_to (Err why) = Err (stop_of why)
 
 -- Attempts did the call, which is told so; or it is refused, and they learnt of others' edits alone.
 abbrev pub HasAttempted : {T : Type 0} → (T → Event → Type 0) → Result T Cause → TreeView → TreeView → Type 0
-HasAttempted tells (Ok x) u v = HasDoneAs (tells x) u v
+HasAttempted tells (Ok x) u v = HasDoneSuch (tells x) u v
 HasAttempted tells (Err why) u v = IsFurther u v
 
 -- what a call comes to by its last attempt, which found the rows that it wanted, given what was spent and how many levels there are
@@ -88,13 +88,13 @@ refused_as (Err stop.Deep) spent levels = Err (refusal.Deep levels)
 -- What an attempt met of the pool that did not do the call, by what it came to: where no row was free, the head was empty once; where the tag can rise no
 -- more, it was at
 -- its last value once.
-abbrev pub HasMetBy : {T : Type 0} → Result T Stop → MyTree → MyTree → Type 0
-HasMetBy (Ok x) m m' = Unit {0}
-HasMetBy (Err stop.Lost) m m' = HasMet 0 0 m m'
-HasMetBy (Err stop.Split) m m' = HasMet 0 0 m m'
-HasMetBy (Err stop.Empty) m m' = HasMet 1 0 m m'
-HasMetBy (Err stop.Worn) m m' = HasMet 0 1 m m'
-HasMetBy (Err stop.Deep) m m' = HasMet 0 0 m m'
+abbrev pub HasMetInAttempt : {T : Type 0} → Result T Stop → MyTree → MyTree → Type 0
+HasMetInAttempt (Ok x) m m' = Unit {0}
+HasMetInAttempt (Err stop.Lost) m m' = HasMet 0 0 m m'
+HasMetInAttempt (Err stop.Split) m m' = HasMet 0 0 m m'
+HasMetInAttempt (Err stop.Empty) m m' = HasMet 1 0 m m'
+HasMetInAttempt (Err stop.Worn) m m' = HasMet 0 1 m m'
+HasMetInAttempt (Err stop.Deep) m m' = HasMet 0 0 m m'
 
 -- how many splits a seat carried out
 abbrev pub splits : MyTree → ℕ
@@ -109,7 +109,7 @@ helps m = m.0.upper.turns.helped
 
 -- So it met the pool, and where it was lost to another pass, an exchange was lost; where it split a base, that was a turn more.
 abbrev pub HasStopped : {T : Type 0} → Result T Stop → MyTree → MyTree → Type 0
-HasStopped r m m' = HasMetBy r m m' × (r ≡ Err stop.Lost → losses m < losses m') × (r ≡ Err stop.Split → passes m < passes m')
+HasStopped r m m' = HasMetInAttempt r m m' × (r ≡ Err stop.Lost → losses m < losses m') × (r ≡ Err stop.Split → passes m < passes m')
 
 -- What was spent was added up: the exchanges that were lost, the operations of others that were helped, and the other turns, each up to the last number
 -- that 32 bits hold.

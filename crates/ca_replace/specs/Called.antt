@@ -2,12 +2,12 @@
 use Rattle.std.specs.Prelude.{◌≡◌, ℕ, Bool, List}
 use Rattle.std.specs.declared.option.Option.{Option}
 use Rattle.ca_model.specs.declared.outcome.Outcome.{Outcome}
-use Rattle.ca_replace.specs.Adapting.{HasMetAs, LeavesAs}
+use Rattle.ca_replace.specs.Adapting.{IsCauseMetInCall, LeavesInCall}
 use Rattle.ca_replace.specs.Causes.{HasCause, IsSparing}
-use Rattle.ca_replace.specs.Cutting.{HasCutAs}
-use Rattle.ca_replace.specs.Growing.{GrowsBy}
+use Rattle.ca_replace.specs.Cutting.{HasCutInCall}
+use Rattle.ca_replace.specs.Growing.{GrowsInCall}
 use Rattle.ca_replace.specs.Resting.{StoreView}
-use Rattle.ca_replace.specs.Winning.{WinsAs}
+use Rattle.ca_replace.specs.Winning.{HasWonInCall}
 
 -- It is a store of the same pass, on the same tree.
 pub record StaysStore (s t : StoreView) : Type 0 where
@@ -22,10 +22,10 @@ pub record HasTold {T : Type 0} (edits : T → Bool) (adds : Option (List ℕ)) 
   pub caused : HasCause budget adds s t o
   pub sparing : IsSparing s t
   -- the statistic of its update's new base, and what was due by it: a split that came to nothing has its cause since the update
-  pub adapted : LeavesAs edits s.z s.tuning s.last t.last o s.seat.me.0.upper t.seat.me.0.upper
-  pub met_as : HasMetAs edits t.last o t.seat.me
+  pub adapted : LeavesInCall edits s.z s.tuning s.last t.last o s.seat.me.0.upper t.seat.me.0.upper
+  pub met_as : IsCauseMetInCall edits t.last o t.seat.me
   -- by how much the tree of a pass that is alone grew, and that it lost no exchange of a link
-  pub grows : s.z.passes ≡ 1 → GrowsBy adds s.seat.me.0.upper t.seat.me.0.upper
-  pub wins : s.z.passes ≡ 1 → WinsAs edits o s.seat.me.0.upper t.seat.me.0.upper
+  pub grows : s.z.passes ≡ 1 → GrowsInCall adds s.seat.me.0.upper t.seat.me.0.upper
+  pub wins : s.z.passes ≡ 1 → HasWonInCall edits o s.seat.me.0.upper t.seat.me.0.upper
   -- which bases it split, and how
-  pub cut : HasCutAs edits s.z adds o s.seat.me.0.upper t.seat.me.0.upper
+  pub cut : HasCutInCall edits s.z adds o s.seat.me.0.upper t.seat.me.0.upper

@@ -87,12 +87,12 @@ IsCaused z number budget adds (refusal.Worn counter.Epoch) m kept m' kept' = ((b
 IsCaused z number budget adds (refusal.Worn counter.Sequence) m kept m' kept' = ⊥
 
 -- Where the call is refused, this holds of the refusal.
-abbrev pub IfRefusedAs : {T : Type 0} → Outcome T → (Cause → Type 0) → Type 0
-IfRefusedAs (outcome.Done x) P = Unit {0}
-IfRefusedAs (outcome.Busy spent) P = P (refusal.Busy spent)
-IfRefusedAs (outcome.Full cause) P = P (refusal.Full cause)
-IfRefusedAs (outcome.Deep level) P = P (refusal.Deep level)
-IfRefusedAs (outcome.Worn counter) P = P (refusal.Worn counter)
+abbrev pub IfCaused : {T : Type 0} → Outcome T → (Cause → Type 0) → Type 0
+IfCaused (outcome.Done x) P = Unit {0}
+IfCaused (outcome.Busy spent) P = P (refusal.Busy spent)
+IfCaused (outcome.Full cause) P = P (refusal.Full cause)
+IfCaused (outcome.Deep level) P = P (refusal.Deep level)
+IfCaused (outcome.Worn counter) P = P (refusal.Worn counter)
 
 -- The pass keeps at most 64 rows; or else, as it last gave rows back in this call, which it did once it had unpinned, another pass lagged, or an
 -- exchange was lost, or the epoch was at its last value.
@@ -148,7 +148,7 @@ EndsAtLag m m' = (m'.0.pin.lags ≤ m.0.pin.lags + 1) × (m'.0.pin.entered.lags 
 
 -- A call of a pass's store that may add this key, if any, may be refused so, given what contracts see of the store before it and behind it.
 abbrev pub HasCause : {T : Type 0} → ℕ → Option (List ℕ) → StoreView → StoreView → Outcome T → Type 0
-HasCause budget adds s t o = IfRefusedAs o (λ why. IsCaused s.z s.number budget adds why s.seat.me s.kept t.seat.me t.kept)
+HasCause budget adds s t o = IfCaused o (λ why. IsCaused s.z s.number budget adds why s.seat.me s.kept t.seat.me t.kept)
 
 -- Behind a call the store's pass keeps few rows, or there is a cause in this call; it never held more than eight rows at once; and a pass was found to
 -- lag once at most, behind the last attempt.

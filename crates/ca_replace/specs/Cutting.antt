@@ -38,13 +38,13 @@ abbrev pub HasCutDue : Sizes → List Division → TreeView → Type 0
 HasCutDue z before v = (v.cuts ≡ before) ⊎ ((x : Division) × (v.cuts ≡ x ∷ before) × IsCutInTwo z x × (x.old ≡ v.last) × (v.last.row ≡ v.renewal.new.row))
 
 -- So it is where an update was carried out; else no base was split.
-abbrev pub HasCutIf : Bool → Sizes → List Division → TreeView → Type 0
-HasCutIf true z before v = HasCutDue z before v
-HasCutIf false z before v = v.cuts ≡ before
+abbrev pub HasCutBehind : Bool → Sizes → List Division → TreeView → Type 0
+HasCutBehind true z before v = HasCutDue z before v
+HasCutBehind false z before v = v.cuts ≡ before
 
 -- One attempt of a call that may add this key, if any.
 abbrev pub HasCut : {T : Type 0} → (T → Bool) → Sizes → Option (List ℕ) → Result T Stop → TreeView → TreeView → Type 0
-HasCut edits z adds (Ok x) u v = HasCutIf (edits x) z u.cuts v
+HasCut edits z adds (Ok x) u v = HasCutBehind (edits x) z u.cuts v
 HasCut edits z adds (Err stop.Split) u v = (x : Division) × (v.cuts ≡ x ∷ u.cuts) × IsFullFor z adds x.old × IsCutInTwo z x
 HasCut edits z adds (Err stop.Lost) u v = v.cuts ≡ u.cuts
 HasCut edits z adds (Err stop.Empty) u v = v.cuts ≡ u.cuts
@@ -52,19 +52,19 @@ HasCut edits z adds (Err stop.Worn) u v = v.cuts ≡ u.cuts
 HasCut edits z adds (Err stop.Deep) u v = v.cuts ≡ u.cuts
 
 -- Full bases were split before the update, and after it the one that is due, if it is; where none was carried out, none but full ones.
-abbrev pub CutsBy : Bool → Sizes → Option (List ℕ) → TreeView → TreeView → Type 0
-CutsBy true z adds u v = (then : List Division) × AreCutFull z adds u.cuts then × HasCutDue z then v
-CutsBy false z adds u v = HasCutFull z adds u v
+abbrev pub HasCutForEdit : Bool → Sizes → Option (List ℕ) → TreeView → TreeView → Type 0
+HasCutForEdit true z adds u v = (then : List Division) × AreCutFull z adds u.cuts then × HasCutDue z then v
+HasCutForEdit false z adds u v = HasCutFull z adds u v
 
 -- Attempts of a call, the last of which did it, or none.
-abbrev pub HasCutSoFar : {T E : Type 0} → (T → Bool) → Sizes → Option (List ℕ) → Result T E → TreeView → TreeView → Type 0
-HasCutSoFar edits z adds (Ok x) u v = CutsBy (edits x) z adds u v
-HasCutSoFar edits z adds (Err why) u v = HasCutFull z adds u v
+abbrev pub HasCutInAttempts : {T E : Type 0} → (T → Bool) → Sizes → Option (List ℕ) → Result T E → TreeView → TreeView → Type 0
+HasCutInAttempts edits z adds (Ok x) u v = HasCutForEdit (edits x) z adds u v
+HasCutInAttempts edits z adds (Err why) u v = HasCutFull z adds u v
 
 -- A call, by its outcome.
-abbrev pub HasCutAs : {T : Type 0} → (T → Bool) → Sizes → Option (List ℕ) → Outcome T → TreeView → TreeView → Type 0
-HasCutAs edits z adds (outcome.Done x) u v = CutsBy (edits x) z adds u v
-HasCutAs edits z adds (outcome.Busy s) u v = HasCutFull z adds u v
-HasCutAs edits z adds (outcome.Full s) u v = HasCutFull z adds u v
-HasCutAs edits z adds (outcome.Deep s) u v = HasCutFull z adds u v
-HasCutAs edits z adds (outcome.Worn s) u v = HasCutFull z adds u v
+abbrev pub HasCutInCall : {T : Type 0} → (T → Bool) → Sizes → Option (List ℕ) → Outcome T → TreeView → TreeView → Type 0
+HasCutInCall edits z adds (outcome.Done x) u v = HasCutForEdit (edits x) z adds u v
+HasCutInCall edits z adds (outcome.Busy s) u v = HasCutFull z adds u v
+HasCutInCall edits z adds (outcome.Full s) u v = HasCutFull z adds u v
+HasCutInCall edits z adds (outcome.Deep s) u v = HasCutFull z adds u v
+HasCutInCall edits z adds (outcome.Worn s) u v = HasCutFull z adds u v

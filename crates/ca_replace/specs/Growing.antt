@@ -22,6 +22,10 @@ pub record Grows (splits rows bases : ℕ) (u v : TreeView) : Type 0 where
 abbrev pub IsSameTree : TreeView → TreeView → Type 0
 IsSameTree u v = (v.splits ≡ u.splits) × (v.inventory ≡ u.inventory)
 
+-- So it has, and the pass spent no turn.
+abbrev pub IsUntouched : TreeView → TreeView → Type 0
+IsUntouched u v = IsSameTree u v × (v.turns ≡ u.turns)
+
 -- The base that has this key has room for one object more.
 abbrev pub HasRoom : Sizes → List ℕ → TreeView → Type 0
 HasRoom z key u = (row : ℕ) (place : Place) → IsIn (row, place) u.inventory.bases → HasKey place.span key → length (part place.span (after u.seen [])) < z.leaf
@@ -46,11 +50,11 @@ abbrev pub HasWaited : Sizes → Option (List ℕ) → TreeView → TreeView →
 HasWaited z adds u v = IsSameTree u v ⊎ (Grows 1 2 1 u v × HasRoomFor z adds v × ¬ HasRoomFor z adds u)
 
 -- Attempts of a call, the last of which did it, or none.
-abbrev pub HasGrownSoFar : {T E : Type 0} → Sizes → Option (List ℕ) → Result T E → TreeView → TreeView → Type 0
-HasGrownSoFar z adds (Ok x) u v = Grows 1 3 1 u v ⊎ (Grows 2 5 2 u v × ¬ HasRoomFor z adds u)
-HasGrownSoFar z adds (Err why) u v = HasWaited z adds u v
+abbrev pub HasGrownInAttempts : {T E : Type 0} → Sizes → Option (List ℕ) → Result T E → TreeView → TreeView → Type 0
+HasGrownInAttempts z adds (Ok x) u v = Grows 1 3 1 u v ⊎ (Grows 2 5 2 u v × ¬ HasRoomFor z adds u)
+HasGrownInAttempts z adds (Err why) u v = HasWaited z adds u v
 
 -- A call: two splits at most where it may add a key, and else one.
-abbrev pub GrowsBy : Option (List ℕ) → TreeView → TreeView → Type 0
-GrowsBy None u v = Grows 1 3 1 u v
-GrowsBy (Some key) u v = Grows 2 5 2 u v
+abbrev pub GrowsInCall : Option (List ℕ) → TreeView → TreeView → Type 0
+GrowsInCall None u v = Grows 1 3 1 u v
+GrowsInCall (Some key) u v = Grows 2 5 2 u v

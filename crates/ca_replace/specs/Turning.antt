@@ -7,11 +7,11 @@ use Rattle.ca_node.specs.Told.{MyTree}
 use Rattle.ca_node.specs.States.{IsAlone}
 use Rattle.ca_replace.specs.declared.adapting.Course.{Course}
 use Rattle.ca_replace.specs.declared.attempting.Stop.{Stop}
-use Rattle.ca_replace.specs.Adapting.{HasGoneOn, MeetsAs}
+use Rattle.ca_replace.specs.Adapting.{HasGoneOn, IsCauseMetInAttempts}
 use Rattle.ca_replace.specs.Attempting.{HasStopped, IsPaid}
-use Rattle.ca_replace.specs.Cutting.{HasCut, HasCutSoFar}
-use Rattle.ca_replace.specs.Growing.{HasGrown, HasGrownSoFar}
-use Rattle.ca_replace.specs.Winning.{HasWonAs}
+use Rattle.ca_replace.specs.Cutting.{HasCut, HasCutInAttempts}
+use Rattle.ca_replace.specs.Growing.{HasGrown, HasGrownInAttempts}
+use Rattle.ca_replace.specs.Winning.{HasWonInAttempts}
 use Rattle.ca_rows.specs.declared.sizes.Sizes.{Sizes}
 use Rattle.ca_rows.specs.declared.view.Met.{Met}
 
@@ -19,22 +19,22 @@ use Rattle.ca_rows.specs.declared.view.Met.{Met}
 -- the attempts before it, what was spent, what stopped it, what it made of the tree of a pass that is alone, and which bases were split.
 pub record IsTurn {T : Type 0} (edits : T → Bool) (adds : Option (List ℕ)) (z : Sizes) (t : Tuning) (a b : Course) (now : Met) (r : Result T Stop)
     (m m' : MyTree) : Type 0 where
-  pub met_as : MeetsAs edits b.adapting.last r now m'.0.upper
+  pub met_as : IsCauseMetInAttempts edits b.adapting.last r now m'.0.upper
   pub gone_on : HasGoneOn edits z t a.adapting b.adapting r m.0.upper m'.0.upper
   pub counted : IsPaid a.spent b.spent m m'
   pub found : HasStopped r m m'
   pub grown : IsAlone z m.0.upper → HasGrown z adds r m.0.upper m'.0.upper
-  pub won : IsAlone z m.0.upper → HasWonAs edits r m.0.upper m'.0.upper
+  pub won : IsAlone z m.0.upper → HasWonInAttempts edits r m.0.upper m'.0.upper
   pub cut : HasCut edits z adds r m.0.upper m'.0.upper
 
 -- The same of attempts that follow each other, by what the last of them came to.
 pub record AreTurns {T E : Type 0} (edits : T → Bool) (adds : Option (List ℕ)) (z : Sizes) (t : Tuning) (a b : Course) (now : Met) (r : Result T E)
     (m m' : MyTree) : Type 0 where
-  pub met_as : MeetsAs edits b.adapting.last r now m'.0.upper
+  pub met_as : IsCauseMetInAttempts edits b.adapting.last r now m'.0.upper
   pub gone_on : HasGoneOn edits z t a.adapting b.adapting r m.0.upper m'.0.upper
-  pub grown : IsAlone z m.0.upper → HasGrownSoFar z adds r m.0.upper m'.0.upper
-  pub won : IsAlone z m.0.upper → HasWonAs edits r m.0.upper m'.0.upper
-  pub cut : HasCutSoFar edits z adds r m.0.upper m'.0.upper
+  pub grown : IsAlone z m.0.upper → HasGrownInAttempts z adds r m.0.upper m'.0.upper
+  pub won : IsAlone z m.0.upper → HasWonInAttempts edits r m.0.upper m'.0.upper
+  pub cut : HasCutInAttempts edits z adds r m.0.upper m'.0.upper
 
 -- what is handed on behind the split of a full base: a turn where it was split, and that an exchange of a link was lost where that was
 abbrev pub course_after : Result Bool NoRow → Course → Course

@@ -10,13 +10,13 @@ HasWon true u v = (v.lost ≡ u.lost) × (v.renewal.lost ≡ u.lost) × (v.last.
 HasWon false u v = v.lost ≡ u.lost
 
 -- So it is of attempts, by what they came to, and of a call, by its outcome.
-abbrev pub HasWonAs : {T E : Type 0} → (T → Bool) → Result T E → TreeView → TreeView → Type 0
-HasWonAs edits (Ok x) u v = HasWon (edits x) u v
-HasWonAs edits (Err why) u v = HasWon false u v
+abbrev pub HasWonInAttempts : {T E : Type 0} → (T → Bool) → Result T E → TreeView → TreeView → Type 0
+HasWonInAttempts edits (Ok x) u v = HasWon (edits x) u v
+HasWonInAttempts edits (Err why) u v = HasWon false u v
 
-abbrev pub WinsAs : {T : Type 0} → (T → Bool) → Outcome T → TreeView → TreeView → Type 0
-WinsAs edits (outcome.Done x) u v = HasWon (edits x) u v
-WinsAs edits (outcome.Busy s) u v = HasWon false u v
-WinsAs edits (outcome.Full s) u v = HasWon false u v
-WinsAs edits (outcome.Deep s) u v = HasWon false u v
-WinsAs edits (outcome.Worn s) u v = HasWon false u v
+abbrev pub HasWonInCall : {T : Type 0} → (T → Bool) → Outcome T → TreeView → TreeView → Type 0
+HasWonInCall edits (outcome.Done x) u v = HasWon (edits x) u v
+HasWonInCall edits (outcome.Busy s) u v = HasWon false u v
+HasWonInCall edits (outcome.Full s) u v = HasWon false u v
+HasWonInCall edits (outcome.Deep s) u v = HasWon false u v
+HasWonInCall edits (outcome.Worn s) u v = HasWon false u v

@@ -6,7 +6,7 @@ ghost use Rattle.ca_base.specs.Progress.{IsFurther};
 ghost use Rattle.ca_node.specs.Told.{IsKnown};
 ghost use Rattle.ca_node.specs.States.{IsAlone};
 ghost use Rattle.ca_node.specs.TreeView.{Note};
-ghost use Rattle.ca_replace.specs.Adapting.{HasAdapted, HasLookedAgain, HasSettled, IsMetAs, IsMoved, IsNew};
+ghost use Rattle.ca_replace.specs.Adapting.{HasAdapted, HasLookedAgain, HasSettled, IsCauseMet, IsMoved, IsNew};
 ghost use Rattle.ca_replace.specs.Growing.{Grows};
 ghost use Rattle.ca_replace.specs.Cutting.{HasCutDue};
 ghost use Rattle.ca_replace.specs.declared.attempting.Stop.TheVariants.{Deep as IsDeep};
@@ -80,7 +80,7 @@ pub(crate) fn settle(
     ensures come { result ≡ come_to tried }
     ensures deep { result ≢ Err IsDeep }
     ensures further { IsFurther (tree_of pass.old) (tree_of pass.new) × IsKnown (sizes tree.now.space) (tree_of pass.new) }
-    ensures met { tried ≡ Ok true → IsMetAs course.new.adapting.last.adapted (met_of (known pass.new)) (tree_of pass.new) }
+    ensures met { tried ≡ Ok true → IsCauseMet course.new.adapting.last.adapted (met_of (known pass.new)) (tree_of pass.new) }
     ensures settled { HasSettled (sizes tree.now.space) tree.now.tuning statistic tried course.old.adapting course.new.adapting (known pass.old) (known pass.new) }
     ensures counted { IsPaid course.old.spent course.new.spent (known pass.old) (known pass.new) }
     ensures grows { IsAlone (sizes tree.now.space) (tree_of pass.old) → Grows 1 2 1 (tree_of pass.old) (tree_of pass.new) }
@@ -112,7 +112,7 @@ fn adapt(
     requires placed { IsNew placed.now.row placed.now.key.now (met_of (known pass.old)) (tree_of pass.old) }
     ensures frame { StaysReady tree.now.space pass.old pass.new }
     ensures further { IsFurther (tree_of pass.old) (tree_of pass.new) × IsKnown (sizes tree.now.space) (tree_of pass.new) }
-    ensures met { IsMetAs result (met_of (known pass.new)) (tree_of pass.new) }
+    ensures met { IsCauseMet result (met_of (known pass.new)) (tree_of pass.new) }
     ensures adapted { HasAdapted (sizes tree.now.space) tree.now.tuning statistic result (tree_of pass.old) (tree_of pass.new) }
     ensures counted { IsPaid spent.old spent.new (known pass.old) (known pass.new) }
     ensures grows { IsAlone (sizes tree.now.space) (tree_of pass.old) → Grows 1 2 1 (tree_of pass.old) (tree_of pass.new) }
@@ -132,7 +132,7 @@ fn split_again(tree: &Tree, pass: &mut TreePass, placed: &Placed<'_>, spent: &mu
     requires placed { IsNew placed.now.row placed.now.key.now (met_of (known pass.old)) (tree_of pass.old) }
     ensures frame { StaysReady tree.now.space pass.old pass.new }
     ensures further { IsFurther (tree_of pass.old) (tree_of pass.new) × IsKnown (sizes tree.now.space) (tree_of pass.new) }
-    ensures met { IsMetAs result (met_of (known pass.new)) (tree_of pass.new) }
+    ensures met { IsCauseMet result (met_of (known pass.new)) (tree_of pass.new) }
     ensures tried { HasLookedAgain (sizes tree.now.space) result (tree_of pass.old) (tree_of pass.new) }
     ensures counted { IsPaid spent.old spent.new (known pass.old) (known pass.new) }
     ensures grows { IsAlone (sizes tree.now.space) (tree_of pass.old) → Grows 1 2 1 (tree_of pass.old) (tree_of pass.new) }

@@ -3,7 +3,7 @@ ghost use Rattle.std.specs.Prelude.{◌⊎◌, ◌≡◌, ◌≢◌, ◌↔◌, 
 ghost use Rattle.ca_model.specs.Answer.{IfBusy, IfDone, IfRefused};
 ghost use Rattle.ca_replace.specs.declared.attempting.Stop.TheVariants.{Deep as IsDeep, Empty as IsEmpty, Lost as IsLost, Split as IsSplit};
 ghost use Rattle.ca_node.specs.Told.{with_upper};
-ghost use Rattle.ca_replace.specs.Attempting.{IsPaid, total, HasAttempted, HasDoneAs, HasMetBy, HasTriedTo, IfDeep, refused_as};
+ghost use Rattle.ca_replace.specs.Attempting.{IsPaid, total, HasAttempted, HasDoneSuch, HasMetInAttempt, HasTriedTo, IfDeep, refused_as};
 ghost use Rattle.ca_replace.specs.Called.{HasTold};
 ghost use Rattle.ca_replace.specs.Causes.{EndsAtLag, HasPinned, IsCaused, IsFullSince, KeepsFew};
 ghost use Rattle.ca_replace.specs.Seen.{store_of};
@@ -51,7 +51,7 @@ pub(crate) fn call<A: Attempt>(
     requires may { A.may order.now.what.now (sizes tree.now.space) }
     requires budget { 1 ≤ order.now.budget }
     ensures frame { StaysAtRest tree.now.space pass.old pass.new }
-    ensures done { IfDone result (λ answer. HasDoneAs (A.tells order.now.what.now answer left.new) (tree_of pass.old) (tree_of pass.new)) }
+    ensures done { IfDone result (λ answer. HasDoneSuch (A.tells order.now.what.now answer left.new) (tree_of pass.old) (tree_of pass.new)) }
     ensures refused { IfRefused result (λ rise. IsRefused rise (tree_of pass.old) (tree_of pass.new)) }
     ensures deep { IfDeep result (A.adds order.now.what.now ≢ None) }
     ensures busy { IfBusy result (λ spent. order.now.budget ≤ spent) }
@@ -162,7 +162,7 @@ fn turns<A: Attempt>(
     ensures tried { HasTriedTo (λ answer. A.tells order.now.what.now answer left.new) (sizes tree.now.space) result (tree_of pass.old) (tree_of pass.new) }
     ensures deep { result ≡ Err IsDeep → IsFullSince (sizes tree.now.space) (A.adds order.now.what.now) (tree_of pass.new) }
     ensures counted { IsPaid course.old.spent course.new.spent (known pass.old) (known pass.new) }
-    ensures found { HasMetBy result (known pass.old) (known pass.new) }
+    ensures found { HasMetInAttempt result (known pass.old) (known pass.new) }
     ensures pinned { total course.old.spent < order.now.budget → HasPinned (known pass.old) (known pass.new) }
     ensures lost { result ≡ Err IsLost → order.now.budget ≤ total course.new.spent }
     ensures no_split { result ≢ Err IsSplit }

@@ -9,7 +9,7 @@ ghost use Rattle.ca_model.specs.StoreMap.{IsPair};
 ghost use Rattle.ca_replace.specs.Adapting.{is_put};
 ghost use Rattle.ca_replace.specs.Called.{HasTold, StaysStore};
 ghost use Rattle.ca_replace.specs.Causes.{IsSparing};
-ghost use Rattle.ca_replace.specs.Growing.{IsSameTree};
+ghost use Rattle.ca_replace.specs.Growing.{IsUntouched};
 ghost use Rattle.ca_replace.specs.Resting.{IsResting, knows};
 ghost use Rattle.ca_replace.specs.Seen.{store_of};
 ghost use Rattle.ca_term.specs.declared.bounds.TheConstants.{MOST_CODE_BYTES};
@@ -135,7 +135,7 @@ impl TreeStore<'_> {
         ensures got { IfDone result (λ found. Got (knows self.old) (knows self.new) key.now found into.new.items) }
         ensures closed { (knows self.new).run ≡ None }
         ensures frame { StaysStore self.old self.new }
-        ensures last { (self.new.last ≡ self.old.last) × IsSameTree self.old.seat.me.0.upper self.new.seat.me.0.upper }
+        ensures last { (self.new.last ≡ self.old.last) × IsUntouched self.old.seat.me.0.upper self.new.seat.me.0.upper }
         ensures sparing { IsSparing self.old self.new }
     {
         let _budget = budget;
@@ -299,7 +299,7 @@ impl TreeStore<'_> {
     /// A copy of what the pass has seen of the tree's history.
     pub fn front(&mut self) -> Front
         ensures frame { StaysStore self.old self.new }
-        ensures last { (self.new.last ≡ self.old.last) × IsSameTree self.old.seat.me.0.upper self.new.seat.me.0.upper }
+        ensures last { (self.new.last ≡ self.old.last) × IsUntouched self.old.seat.me.0.upper self.new.seat.me.0.upper }
         ensures pass { (self.new.kept ≡ self.old.kept) × (self.new.seat.me ≡ self.old.seat.me) }
         ensures table { result.half.seat.table_id ≡ self.old.table }
         ensures seen { result.half.seat.me.0.upper.seen ≡ self.old.seat.me.0.upper.seen }
@@ -313,7 +313,7 @@ impl TreeStore<'_> {
     pub fn learn(&mut self, front: Front)
         requires table { front.half.seat.table_id ≡ self.old.table }
         ensures frame { StaysStore self.old self.new }
-        ensures last { (self.new.last ≡ self.old.last) × IsSameTree self.old.seat.me.0.upper self.new.seat.me.0.upper }
+        ensures last { (self.new.last ≡ self.old.last) × IsUntouched self.old.seat.me.0.upper self.new.seat.me.0.upper }
         ensures sparing { IsSparing self.old self.new }
         ensures log { self.new.seat.me.0.upper.log ≡ self.old.seat.me.0.upper.log }
         ensures counts { self.new.seat.me.0.upper.counts ≡ self.old.seat.me.0.upper.counts }

@@ -1,11 +1,12 @@
 -- The chain of the free rows as one is taken or put back.
-use Rattle.std.proofs.Common.{◌≡◌, ◌≢◌, ℕ, zero, suc, ◌+◌, ◌*◌, ◌/◌, ◌%◌, ◌<◌, ◌≤◌, eqb, cond, List, sym, refl, ap, ◌∙◌, subst, arith, eq-eqb, ne_eqb}
+use Rattle.std.proofs.Common.{◌≡◌, ◌≢◌, ℕ, zero, suc, ◌+◌, ◌-◌, ◌*◌, ◌/◌, ◌%◌, ◌<◌, ◌≤◌, eqb, cond, List, sym, refl, ap, ◌∙◌, subst, arith, eq-eqb, ne_eqb}
 use mathlib.Core.Logic.{dite}
 use native.Mathlib.Decide.{ℕ_discrete}
 use Rattle.ca_rows.specs.declared.view.Stage.{Stage}
 use Rattle.ca_rows.specs.declared.view.Stage.TheVariants.{Idle, Saw, Knew}
 use Rattle.ca_rows.specs.Chain.{Owner, Free, IsTop, IsChain, IsFree, IsStage}
-use Rattle.ca_rows.specs.Words.{head_tag, head_row, next_of}
+use Rattle.ca_rows.specs.Words.{head_tag, head_row, first_of, next_below}
+use Rattle.ca_rows.specs.Layout.{row_limit}
 
 -- a function changed at one place
 pub put : (ℕ → Owner) → ℕ → Owner → ℕ → Owner
@@ -20,8 +21,12 @@ unfolding put
 put_else f i c j n = ap (λ b. cond b c (f j)) (ne_eqb j i n)
 
 -- The two numbers in a head.
-pub in_head : (t q : ℕ) → q < 65536 → ((t * 65536 + q) / 65536 ≡ t) × ((t * 65536 + q) % 65536 ≡ q)
+pub in_head : (t q : ℕ) → q < row_limit → ((t * row_limit + q) / row_limit ≡ t) × ((t * row_limit + q) % row_limit ≡ q)
 in_head t q l = (omega arith, omega arith)
+
+-- A first word that is one more than a row's number names that row.
+pub next_number : (rows r q : ℕ) → next_below rows r (q + 1) ≡ q
+next_number rows r q = ap (λ b. cond b (cond (eqb r rows) 0 (r + 1)) (q + 1 - 1)) (ne_eqb (q + 1) 0 (omega arith)) ∙ omega arith
 
 pub same_height : (k m : ℕ) → Free k ≡ Free m → k ≡ m
 same_height k m e = cc
@@ -46,10 +51,15 @@ module _ (rows : ℕ) (owner : ℕ → Owner) where
   top_as owner' (suc m) row same t = (t.0, t.1, same row m t.0 t.1 t.2 (omega arith))
 
   module _ (words words' : List ℕ) (n : ℕ) (chain : IsChain rows owner words n) where
+    -- The row below is the same where the first word is.
+    next_same : (r : ℕ) → first_of words' r ≡ first_of words r
+        → next_below rows r (first_of words r) ≡ next_below rows r (first_of words' r)
+    next_same r e = ap (λ (first : ℕ). next_below rows r first) (sym e)
+
     -- The chain stays where head, free rows and their next rows do.
     pub chain_stays : (owner' : ℕ → Owner) → head_row words' ≡ head_row words
         → ((r k : ℕ) → 0 < r → r ≤ rows → owner r ≡ Free k → (owner' r ≡ Free k)
-        × (next_of words' r ≡ next_of words r))
+        × (first_of words' r ≡ first_of words r))
         → ((r k : ℕ) → 0 < r → r ≤ rows → owner' r ≡ Free k → owner r ≡ Free k)
         → IsChain rows owner' words' n
     chain_stays owner' head same back = record {
@@ -57,7 +67,7 @@ module _ (rows : ℕ) (owner : ℕ → Owner) where
           (λ r k lo hi e _. (same r k lo hi e).0) chain.top);
       below = λ r k lo hi e. let was = back r k lo hi e in let b = chain.below r k lo hi was in (
         b.0,
-        subst (IsTop rows owner' k) (sym (same r k lo hi was).1) (top_as owner' k _
+        subst (IsTop rows owner' k) (next_same r (same r k lo hi was).1) (top_as owner' k _
             (λ q m l h f _. (same q m l h f).0) b.1),
       );
       apart = λ r q k lo hi lo' hi' e f.
@@ -66,15 +76,15 @@ module _ (rows : ℕ) (owner : ℕ → Owner) where
 
     -- The uppermost row is taken.
     pub chain_takes : (q m : ℕ) (o : Owner) → ((k : ℕ) → o ≢ Free k) → 0 < q → q ≤ rows
-        → owner q ≡ Free m → n ≡ suc m → head_row words' ≡ next_of words q
-        → ((r : ℕ) → 0 < r → next_of words' r ≡ next_of words r)
+        → owner q ≡ Free m → n ≡ suc m → head_row words' ≡ next_below rows q (first_of words q)
+        → ((r : ℕ) → 0 < r → first_of words' r ≡ first_of words r)
         → IsChain rows (put owner q o) words' m
     chain_takes q m o not_free lo_q hi_q is count head same = record {
       top = subst (IsTop rows (put owner q o) m) (sym head)
           (top_as (put owner q o) m _ stays (chain.below q m lo_q hi_q is).1);
       below = λ r k lo hi e. let w = was r k e in let b = chain.below r k lo hi w.1 in (
         lower r k lo hi w.0 w.1,
-        subst (IsTop rows (put owner q o) k) (sym (same r lo))
+        subst (IsTop rows (put owner q o) k) (next_same r (same r lo))
             (top_as (put owner q o) k _
             (λ c j l h f s. stays c j l h f (let z = lower r k lo hi w.0 w.1 in
             omega arith)) b.1),
@@ -99,8 +109,8 @@ module _ (rows : ℕ) (owner : ℕ → Owner) where
 
     -- A row is put on top.
     pub chain_gives : (q : ℕ) → ((k : ℕ) → owner q ≢ Free k) → 0 < q → q ≤ rows
-        → head_row words' ≡ q → next_of words' q ≡ head_row words
-        → ((r : ℕ) → 0 < r → r ≢ q → next_of words' r ≡ next_of words r)
+        → head_row words' ≡ q → next_below rows q (first_of words' q) ≡ head_row words
+        → ((r : ℕ) → 0 < r → r ≢ q → first_of words' r ≡ first_of words r)
         → IsChain rows (put owner q (Free n)) words' (suc n)
     chain_gives q not_free lo_q hi_q head next same = record {
       top = (
@@ -113,12 +123,12 @@ module _ (rows : ℕ) (owner : ℕ → Owner) where
           same_height n k (sym (put_here owner q (Free n) r s) ∙ e) in (
             omega arith,
             subst (λ (x : ℕ × ℕ). IsTop rows (put owner q (Free n)) x.0 x.1)
-                (λ i. (h i, sym (ap (next_of words') s ∙ next) i))
+                (λ i. (h i, sym (ap (λ c. next_below rows c (first_of words' c)) s ∙ next) i))
                 (top_as (put owner q (Free n)) n _ stays chain.top),
           ))
           (λ ne. let w = was r k ne e in let b = chain.below r k lo hi w in (
             (let z = b.0 in omega arith),
-            subst (IsTop rows (put owner q (Free n)) k) (sym (same r lo ne))
+            subst (IsTop rows (put owner q (Free n)) k) (next_same r (same r lo ne))
                 (top_as (put owner q (Free n)) k _
                 (λ c j l h f x. stays c j l h f (let z = b.0 in omega arith)) b.1),
           ));
@@ -150,7 +160,7 @@ module _ (rows : ℕ) (owner : ℕ → Owner) where
     -- does.
     pub stage_stays : (owner' : ℕ → Owner) → head_tag words ≤ head_tag words'
         → (head_tag words ≡ head_tag words' → (r k : ℕ) → 0 < r → r ≤ rows → owner r ≡ Free k
-        → IsFree rows owner' r × (next_of words' r ≡ next_of words r))
+        → IsFree rows owner' r × (first_of words' r ≡ first_of words r))
         → (st : Stage) → IsStage rows owner words st → IsStage rows owner' words' st
     stage_stays owner' up same Idle k = tt
     stage_stays owner' up same (Saw t r) k = let a = k.0 in (

@@ -16,12 +16,12 @@ use Rattle.ca_rows.specs.Claims.{claim_of, claim_at}
 use Rattle.ca_rows.specs.Laws.{Agrees, Framed, Frames}
 use Rattle.ca_rows.specs.Pins.{IsPin, ArePins}
 use Rattle.ca_rows.specs.Rule.{upper_of, pin_of, NotedAt, Knows, Ruled}
-use Rattle.ca_rows.specs.Words.{epoch, announced, head_tag, next_of}
+use Rattle.ca_rows.specs.Words.{epoch, announced, head_tag, first_of}
 use Rattle.ca_rows.proofs.Accounts.{row_stays}
 use Rattle.ca_rows.proofs.Chains.{chain_stays, stage_stays}
 use Rattle.ca_rows.proofs.Claiming.{claim_mine, claim_others, claim_there}
 use Rattle.ca_rows.proofs.Rules.{all_seats}
-use Rattle.ca_rows.specs.Layout.{row_words}
+use Rattle.ca_rows.specs.Layout.{row_words, row_limit}
 
 module _ (made : ℕ) (words words' : List ℕ) (pins : List Pin) (p : ArePins made words pins) (id : ℕ)
     (e e' : Pin) (at : get_elem? pins id ≡ some e) where
@@ -152,7 +152,7 @@ module _ {U : Type 0} (linked lent : List ℕ → ℕ → Type 0) (noted : List 
     within = r.within;
     wide = agrees.wide ∙ r.wide;
     chain = chain_stays z.rows r.owner s.words words' r.count r.chain r.owner (ap
-        (λ x. x % 65536) n.head) (λ c k lo _ e. (e, next c lo)) (λ c k _ _ e. e);
+        (λ x. x % row_limit) n.head) (λ c k lo _ e. (e, next c lo)) (λ c k _ _ e. e);
     row = λ c lo hi.
         row_stays s.words words' (linked s.words) (linked words') (lent s.words) (lent words')
         (NotedAt noted s.words s.views)
@@ -187,11 +187,11 @@ module _ {U : Type 0} (linked lent : List ℕ → ℕ → Type 0) (noted : List 
     above = subst (fact z r.made words') (sym (map-set upper_of s.views id d')) n.above;
   }
     where
-      next : (c : ℕ) → 0 < c → next_of words' c ≡ next_of s.words c
+      next : (c : ℕ) → 0 < c → first_of words' c ≡ first_of s.words c
       next c lo = n.rows_are (row_words * c) (omega arith)
 
       stages : (st : Stage) → IsStage z.rows r.owner s.words st → IsStage z.rows r.owner words' st
-      stages = let same = ap (λ x. x / 65536) n.head in
+      stages = let same = ap (λ x. x / row_limit) n.head in
           stage_stays z.rows r.owner s.words words' r.count r.chain r.owner (subst
           (λ x. head_tag s.words ≤ x) (sym same) (le_refl (head_tag s.words)))
           (λ _ c k lo hi e. ((k, lo, hi, e), next c lo))

@@ -21,12 +21,12 @@ use Rattle.ca_rows.specs.Claims.{claim_of, claim_at}
 use Rattle.ca_rows.specs.Laws.{Lends as LendsLaw}
 use Rattle.ca_rows.specs.Pins.{ArePins}
 use Rattle.ca_rows.specs.Rule.{upper_of, pin_of, NotedAt, Knows, Ruled}
-use Rattle.ca_rows.specs.Words.{epoch, head_tag, next_of}
+use Rattle.ca_rows.specs.Words.{epoch, head_tag, first_of}
 use Rattle.ca_rows.proofs.Accounts.{row_stays}
 use Rattle.ca_rows.proofs.Chains.{chain_stays, stage_stays}
 use Rattle.ca_rows.proofs.Claiming.{claim_mine, claim_others, claim_there}
 use Rattle.ca_rows.proofs.Rules.{all_seats, pins_stay}
-use Rattle.ca_rows.specs.Layout.{row_words}
+use Rattle.ca_rows.specs.Layout.{row_words, row_limit}
 
 -- what becomes of a row
 pub data Change : Type 0 where
@@ -271,14 +271,14 @@ module _ {U : Type 0} (linked lent : List ℕ → ℕ → Type 0) (noted : List 
     free_was c j Goes e = absurd cc
 
     next : (c j : ℕ) → 0 < c → c ≤ z.rows → r.owner c ≡ Free j
-        → next_of words' c ≡ next_of s.words c
+        → first_of words' c ≡ first_of s.words c
     next c j lo hi is = let zero_is : row_words * c + 0 ≡ row_words * c = omega arith in
         subst (λ i. get_or words' i 0
         ≡ get_or s.words i 0) zero_is
         (m.unlinked_rows c 0 lo hi (was c (Free j) lo hi is).0.0 (omega arith))
 
     stages : (st : Stage) → IsStage z.rows r.owner s.words st → IsStage z.rows owner' words' st
-    stages = let same = ap (λ x. x / 65536) head in
+    stages = let same = ap (λ x. x / row_limit) head in
         stage_stays z.rows r.owner s.words words' r.count r.chain owner' (subst
         (λ x. head_tag s.words ≤ x) (sym same) (le_refl (head_tag s.words)))
         (λ _ c j lo hi e. (
@@ -309,7 +309,7 @@ module _ {U : Type 0} (linked lent : List ℕ → ℕ → Type 0) (noted : List 
       within = r.within;
       wide = m.wide ∙ r.wide;
       chain = chain_stays z.rows r.owner s.words words' r.count r.chain owner' (ap
-          (λ x. x % 65536) head)
+          (λ x. x % row_limit) head)
           (λ c j lo hi e. (free_stays c j lo hi e (kind c) (m.changes c lo hi), next c j lo hi e))
           (λ c j _ _ e. free_was c j (kind c) e);
       row = λ c lo hi. row_now c lo hi (kind c) (m.changes c lo hi);

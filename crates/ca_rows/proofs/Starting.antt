@@ -11,11 +11,12 @@ use Rattle.ca_rows.specs.Account.{IsRow}
 use Rattle.ca_rows.specs.Chain.{Owner, Free, Linked, IsTop, IsChain}
 use Rattle.ca_rows.specs.Claims.{claim_at}
 use Rattle.ca_rows.specs.Laws.{Opened, Opening}
-use Rattle.ca_rows.specs.Opening.{AreInBounds, AreUsable, IsOpening, row_behind}
+use Rattle.ca_rows.specs.Opening.{AreInBounds, AreUsable, IsOpening}
 use Rattle.ca_rows.specs.Pins.{ArePins, IsPin, unpinned}
 use Rattle.ca_rows.specs.Rule.{fresh, NotedAt, Knows, Ruled}
-use Rattle.ca_rows.specs.Words.{head_row, next_of}
+use Rattle.ca_rows.specs.Words.{head_row, first_of, next_below}
 use Rattle.ca_rows.proofs.Chains.{in_head, same_height}
+use Rattle.ca_rows.specs.Layout.{row_limit}
 
 -- Row 1 is linked, and the others are free.
 abbrev first_owner : ℕ → ℕ → Owner
@@ -37,7 +38,7 @@ module _ (rows : ℕ) where
       (n, same_height (rows - r) k (sym (is_free r n) ∙ e))
 
   first_chain : (words : List ℕ) → 2 ≤ rows → head_row words ≡ 2
-      → ((r : ℕ) → 2 ≤ r → r ≤ rows → next_of words r ≡ row_behind rows r)
+      → ((r : ℕ) → 2 ≤ r → r ≤ rows → first_of words r ≡ 0)
       → IsChain rows (first_owner rows) words (suc (rows - 2))
   first_chain words two head next = record {
     top = subst (IsTop rows (first_owner rows) (suc (rows - 2))) (sym head) (
@@ -52,15 +53,15 @@ module _ (rows : ℕ) where
   }
     where
       below : (r k : ℕ) → 2 ≤ r → r ≤ rows → rows - r ≡ k
-          → IsTop rows (first_owner rows) k (next_of words r)
+          → IsTop rows (first_owner rows) k (next_below rows r (first_of words r))
       below r k lo hi same = dite (ℕ_discrete r rows)
           (λ (e : r ≡ rows). let z : 0 ≡ k = omega arith in
-          let x : 0 ≡ next_of words r =
-          sym (next r lo hi ∙ ap (λ b. cond b 0 (r + 1)) (eq-eqb r rows e)) in
+          let x : 0 ≡ next_below rows r (first_of words r) =
+          sym (ap (λ (first : ℕ). next_below rows r first) (next r lo hi) ∙ ap (λ b. cond b 0 (r + 1)) (eq-eqb r rows e)) in
           subst (λ (y : ℕ × ℕ). IsTop rows (first_owner rows) y.0 y.1) (λ i. (z i, x i)) refl)
           (λ n. let z : suc (rows - (r + 1)) ≡ k = omega arith in
-          let x : r + 1 ≡ next_of words r =
-          sym (next r lo hi ∙ ap (λ b. cond b 0 (r + 1)) (ne_eqb r rows n)) in
+          let x : r + 1 ≡ next_below rows r (first_of words r) =
+          sym (ap (λ (first : ℕ). next_below rows r first) (next r lo hi) ∙ ap (λ b. cond b 0 (r + 1)) (ne_eqb r rows n)) in
           subst (λ (y : ℕ × ℕ). IsTop rows (first_owner rows) y.0 y.1)
           (λ i. (z i, x i)) (omega arith, omega arith, is_free (r + 1) (λ f. omega arith)))
 
@@ -131,7 +132,7 @@ module _ {U : Type 0} (linked lent : List ℕ → ℕ → Type 0) (noted : List 
     few = omega arith;
     within = omega arith;
     wide = is.wide;
-    chain = first_chain z.rows words (omega arith) (ap (λ n. n % 65536) is.head
+    chain = first_chain z.rows words (omega arith) (ap (λ n. n % row_limit) is.head
         ∙ (in_head z.starts.tag 2 (omega arith)).1) is.free;
     row = first_row;
     seat = λ j d here. let same = (only_seat own d j here).1 in

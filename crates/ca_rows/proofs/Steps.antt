@@ -19,11 +19,11 @@ use Rattle.ca_rows.specs.Claims.{claim_of, claimed, dropped, held_count, claim_a
 use Rattle.ca_rows.specs.Laws.{IsNoted, Agrees, Frames}
 use Rattle.ca_rows.specs.Rule.{upper_of, NotedAt}
 use Rattle.ca_rows.specs.Told.{Expects, Mine, with_stage, with_claims, with_most, Looked, Glanced, Peeked, Took, Recalled, Wrote, Gave}
-use Rattle.ca_rows.specs.Words.{IsWide, Spells, head_tag, head_row, next_of}
-use Rattle.ca_rows.proofs.Chains.{put, put_here, put_else, in_head, top_free, top_in_range, chain_stays, chain_takes, chain_gives, stage_stays}
+use Rattle.ca_rows.specs.Words.{IsWide, Spells, head_tag, head_row, first_of, next_below}
+use Rattle.ca_rows.proofs.Chains.{put, put_here, put_else, in_head, next_number, top_free, top_in_range, chain_stays, chain_takes, chain_gives, stage_stays}
 use Rattle.ca_rows.proofs.Claiming.{claim_mine, claim_others, claim_there, claimed_here, claimed_else, dropped_here, dropped_else}
 use Rattle.ca_rows.proofs.Rules.{St, Rule, uppers, Is, alone_now, keeps_rule}
-use Rattle.ca_rows.specs.Layout.{row_words}
+use Rattle.ca_rows.specs.Layout.{row_words, row_limit, last_tag}
 
 -- the words of a row
 pub row_of : List ℕ → ℕ → List ℕ
@@ -130,12 +130,12 @@ module _ {U : Type 0} (linked lent : List ℕ → ℕ → Type 0) (noted : List 
           λ lo. absurd (omega arith),
         ),
       ))
-      (λ free. dite (ℕ_discrete t 281474976710655)
-      (λ (last : t ≡ 281474976710655). (
-        record d { stage = Saw 281474976710655 q; worn = d.worn + 1 },
+      (λ free. dite (ℕ_discrete t last_tag)
+      (λ (last : t ≡ last_tag). (
+        record d { stage = Saw last_tag q; worn = d.worn + 1 },
         keeps,
         tt,
-        loaded s r 0 id d (Saw 281474976710655 q) d.lost d.empty (d.worn + 1) at
+        loaded s r 0 id d (Saw last_tag q) d.lost d.empty (d.worn + 1) at
             (subst (λ (y : ℕ). IsStage z.rows r.owner s.words (Saw y q)) last (saw_head s r)),
         (row_inside s r id d at, (λ e. absurd (free e)), (λ _ _. refl), λ _ n. absurd (n last)),
       ))
@@ -249,27 +249,27 @@ module _ {U : Type 0} (linked lent : List ℕ → ℕ → Type 0) (noted : List 
       },
     )
 
-    module _ (t q x m : ℕ) (found : get_or s.words 0 0 ≡ t * 65536 + q) (small : q < 65536)
+    module _ (t q y m : ℕ) (found : get_or s.words 0 0 ≡ t * row_limit + q) (small : q < row_limit)
         (lo : 0 < q) (hi : q ≤ z.rows) (count : r.count ≡ suc m)
-        (is : r.owner q ≡ Free m) (next : next_of s.words q ≡ x) where
+        (is : r.owner q ≡ Free m) (next : next_below z.rows q (first_of s.words q) ≡ y) where
       abbrev taken : View U
       taken = let xs = claimed q (Holds (row_of s.words q)) d.claims in
           record d { stage = Idle; claims = xs; most = max d.most (held_count xs) }
 
       abbrev new_head : List ℕ
-      new_head = set s.words 0 ((t + 1) * 65536 + x % 65536)
+      new_head = set s.words 0 ((t + 1) * row_limit + y % row_limit)
 
       take_step : R record { words = new_head; homes = s.homes; views = set s.views id taken }
       take_step = let few = r.few in let free = free_row q m lo hi is in
-          let x_in : x ≤ z.rows = subst
-          (λ y. y ≤ z.rows) next (top_in_range z.rows r.owner m (next_of s.words q)
-          (r.chain.below q m lo hi is).1) in
-          let head : get_or new_head 0 0 ≡ (t + 1) * 65536 + x % 65536 =
-          head_is s r ((t + 1) * 65536 + x % 65536) in
-          let parts = in_head (t + 1) (x % 65536) (omega arith) in
-          let tag : head_tag s.words ≡ t = ap (λ n. n / 65536) found ∙ (in_head t q small).0 in
-          let tag' : head_tag new_head ≡ t + 1 = ap (λ n. n / 65536) head ∙ parts.0 in
-          let row' : head_row new_head ≡ next_of s.words q = ap (λ n. n % 65536) head
+          let y_in : y ≤ z.rows = subst
+          (λ c. c ≤ z.rows) next (top_in_range z.rows r.owner m
+          (next_below z.rows q (first_of s.words q)) (r.chain.below q m lo hi is).1) in
+          let head : get_or new_head 0 0 ≡ (t + 1) * row_limit + y % row_limit =
+          head_is s r ((t + 1) * row_limit + y % row_limit) in
+          let parts = in_head (t + 1) (y % row_limit) (omega arith) in
+          let tag : head_tag s.words ≡ t = ap (λ n. n / row_limit) found ∙ (in_head t q small).0 in
+          let tag' : head_tag new_head ≡ t + 1 = ap (λ n. n / row_limit) head ∙ parts.0 in
+          let row' : head_row new_head ≡ next_below z.rows q (first_of s.words q) = ap (λ n. n % row_limit) head
           ∙ (parts.1 ∙ (omega arith ∙ sym next)) in
           keeps_rule linked lent noted fact frames z s r id d taken at refl refl new_head
           (head_agrees (uppers linked lent noted fact frames z s) s.words _)
@@ -332,7 +332,7 @@ module _ {U : Type 0} (linked lent : List ℕ → ℕ → Type 0) (noted : List 
             alone.1 n.0 (subst (NotedAt noted s.words s.views n.0) e n.1)) who);
       }
 
-      free_next : (c j : ℕ) → r.owner c ≡ Free j → next_of new_words c ≡ next_of s.words c
+      free_next : (c j : ℕ) → r.owner c ≡ Free j → first_of new_words c ≡ first_of s.words c
       free_next c j is = let o = owned q (Holds its) held in
           let n : c ≢ q = λ f. let y : Of id ≡ Free j = sym o.2 ∙ (ap r.owner (sym f) ∙ is) in cc in
           let zero_is : row_words * c + 0 ≡ row_words * c = omega arith in
@@ -355,7 +355,7 @@ module _ {U : Type 0} (linked lent : List ℕ → ℕ → Type 0) (noted : List 
           write_agrees (λ i _ l. low_word i (omega arith)) refl refl q
           r.owner r.count
           (chain_stays z.rows r.owner s.words new_words r.count r.chain r.owner (ap
-          (λ n. n % 65536) (low_word 0 (omega arith)))
+          (λ n. n % row_limit) (low_word 0 (omega arith)))
           (λ c j _ _ e. (e, free_next c j e)) (λ c j _ _ e. e))
           (λ c _ _ n. record {
             owner_is =
@@ -388,39 +388,40 @@ module _ {U : Type 0} (linked lent : List ℕ → ℕ → Type 0) (noted : List 
           d.stage (r.seat id d at).stage_is)
         where
           same_tag : head_tag new_words ≡ head_tag s.words
-          same_tag = ap (λ n. n / 65536) (low_word 0 (omega arith))
+          same_tag = ap (λ n. n / row_limit) (low_word 0 (omega arith))
 
-    -- A row that the seat holds, whose first word names the free row at the head, is put on top.
-    module _ (t h q : ℕ) (its : List ℕ) (found : get_or s.words 0 0 ≡ t * 65536 + h)
-        (small : h < 65536) (held : claim_of d.claims q ≡ some (Holds its))
-        (next : get_or its 0 0 ≡ h) where
+    -- A row that the seat holds, whose first word says that the free row at the head is below it, is put on top.
+    module _ (t h q : ℕ) (its : List ℕ) (found : get_or s.words 0 0 ≡ t * row_limit + h)
+        (small : h < row_limit) (held : claim_of d.claims q ≡ some (Holds its))
+        (next : get_or its 0 0 ≡ h + 1) where
       abbrev given : View U
       given = record d { stage = Idle; claims = dropped q d.claims }
 
       abbrev head_with : List ℕ
-      head_with = set s.words 0 (t * 65536 + q)
+      head_with = set s.words 0 (t * row_limit + q)
 
       give_step : R record { words = head_with; homes = s.homes; views = set s.views id given }
       give_step = let o = owned q (Holds its) held in let few = r.few in let hi = o.1 in
-          let head : get_or head_with 0 0 ≡ t * 65536 + q = head_is s r (t * 65536 + q) in
+          let head : get_or head_with 0 0 ≡ t * row_limit + q = head_is s r (t * row_limit + q) in
           let parts = in_head t q (omega arith) in
-          let tag : head_tag head_with ≡ head_tag s.words = ap (λ n. n / 65536) head
-          ∙ (parts.0 ∙ sym (ap (λ n. n / 65536) found ∙ (in_head t h small).0)) in
+          let tag : head_tag head_with ≡ head_tag s.words = ap (λ n. n / row_limit) head
+          ∙ (parts.0 ∙ sym (ap (λ n. n / row_limit) found ∙ (in_head t h small).0)) in
           let zero_is : row_words * q + 0 ≡ row_words * q = omega arith in
-          let its_next : next_of s.words q ≡ get_or its 0 0 = subst
+          let its_next : first_of s.words q ≡ get_or its 0 0 = subst
           (λ i. get_or s.words i 0 ≡ get_or its 0 0) zero_is (o.3.1 0 (omega arith)) in
-          let next' : next_of head_with q ≡ head_row s.words =
-          head_else s.words _ (row_words * q) (let some_q = o.0 in omega arith)
-          ∙ (its_next ∙ (next ∙ sym (ap (λ n. n % 65536) found ∙ (in_head t h small).1))) in
+          let next' : next_below z.rows q (first_of head_with q) ≡ head_row s.words =
+          ap (λ (first : ℕ). next_below z.rows q first)
+          (head_else s.words _ (row_words * q) (let some_q = o.0 in omega arith)
+          ∙ (its_next ∙ next)) ∙ (next_number z.rows q h ∙ sym (ap (λ n. n % row_limit) found ∙ (in_head t h small).1)) in
           let not_free : (k : ℕ) → r.owner q ≢ Free k = λ k e. let y : Of id ≡ Free k = sym o.2
           ∙ e in cc in
           let agrees =
-          head_agrees (uppers linked lent noted fact frames z s) s.words (t * 65536 + q) in
+          head_agrees (uppers linked lent noted fact frames z s) s.words (t * row_limit + q) in
           keeps_rule linked lent noted fact frames z s r id d given at refl refl head_with agrees
           (λ i l _. head_else s.words _ i l) refl refl q
           (put r.owner q (Free r.count)) (suc r.count)
           (chain_gives z.rows r.owner s.words head_with r.count r.chain q not_free o.0 hi (ap
-          (λ n. n % 65536) head
+          (λ n. n % row_limit) head
           ∙ parts.1) next' (λ c l _. head_else s.words _ (row_words * c) (omega arith)))
           (λ c l _ n. record {
             owner_is = put_else r.owner q (Free r.count) c n;
@@ -457,30 +458,31 @@ module _ {U : Type 0} (linked lent : List ℕ → ℕ → Type 0) (noted : List 
   at_miss : (n old new : ℕ) → n ≢ old → either (eqb n old) new n ≡ n
   at_miss n old new e = ap (λ b. either b new n) (ne_eqb n old e)
 
-  pub takes : (slots id : ℕ) (me : Mine U) (t q x : ℕ) → me.0.stage ≡ Knew t q x → 0 < q → q < 65536
-      → Allows R slots id me 0 (λ n. either (eqb n (t * 65536 + q)) ((t + 1) * 65536 + x % 65536) n)
-      (Took (step slots 0 (t * 65536 + q) ((t + 1) * 65536 + x % 65536) none) me)
-  takes slots id me t q x is lo small s r _ at _ = let head : ℕ = get_or s.words 0 0 in
-      let old : ℕ = t * 65536 + q in
-      let new : ℕ = (t + 1) * 65536 + x % 65536 in let d = me.0 in
+  pub takes : (slots id : ℕ) (me : Mine U) (t q x y : ℕ) → me.0.stage ≡ Knew t q x
+      → next_below z.rows q x ≡ y → 0 < q → q < row_limit
+      → Allows R slots id me 0 (λ n. either (eqb n (t * row_limit + q)) ((t + 1) * row_limit + y % row_limit) n)
+      (Took (step slots 0 (t * row_limit + q) ((t + 1) * row_limit + y % row_limit) none) me)
+  takes slots id me t q x y is below lo small s r _ at _ = let head : ℕ = get_or s.words 0 0 in
+      let old : ℕ = t * row_limit + q in
+      let new : ℕ = (t + 1) * row_limit + y % row_limit in let d = me.0 in
       let w0 : View U = record d { stage = Idle; lost = d.lost + 1 } in
-      let expected : Expects d.stage old = subst (λ (y : Stage). Expects y old) (sym is) refl in
+      let expected : Expects d.stage old = subst (λ (e : Stage). Expects e old) (sym is) refl in
       dite (ℕ_discrete head old)
       (λ hit.
-      let tag : head_tag s.words ≡ t = ap (λ n. n / 65536) hit ∙ (in_head t q small).0 in
-      let row : head_row s.words ≡ q = ap (λ n. n % 65536) hit ∙ (in_head t q small).1 in
+      let tag : head_tag s.words ≡ t = ap (λ n. n / row_limit) hit ∙ (in_head t q small).0 in
+      let row : head_row s.words ≡ q = ap (λ n. n % row_limit) hit ∙ (in_head t q small).1 in
       let k = subst (IsStage z.rows r.owner s.words) is (r.seat id d at).stage_is in
-      let knew = k.1 (sym tag) in
+      let next = ap (λ (first : ℕ). next_below z.rows q first) (k.1 (sym tag)).1 ∙ below in
       let top = top_free z.rows r.owner r.count q lo
       (subst (IsTop z.rows r.owner r.count) row r.chain.top) in (
-        taken s r id d at t q x top.0 hit small lo top.2 top.1 top.3 knew.1,
+        taken s r id d at t q y top.0 hit small lo top.2 top.1 top.3 next,
         keeps,
         tt,
         subst (λ (n : ℕ).
             R (stepped s 0 n id me.1
-            (taken s r id d at t q x top.0 hit small lo top.2 top.1 top.3 knew.1) keeps))
+            (taken s r id d at t q y top.0 hit small lo top.2 top.1 top.3 next) keeps))
             (sym (at_hit head old new hit))
-            (take_step s r id d at t q x top.0 hit small lo top.2 top.1 top.3 knew.1),
+            (take_step s r id d at t q y top.0 hit small lo top.2 top.1 top.3 next),
         (
           expected,
           λ t' q' x' is'. let same : q ≡ q' = ap
@@ -549,13 +551,13 @@ module _ {U : Type 0} (linked lent : List ℕ → ℕ → Type 0) (noted : List 
   )
 
   pub gives : (slots id : ℕ) (me : Mine U) (t h q : ℕ) (its : List ℕ) → me.0.stage ≡ Saw t h
-      → h < 65536 → q < 65536 → claim_of me.0.claims q ≡ some (Holds its) → get_or its 0 0 ≡ h
+      → h < row_limit → q < row_limit → claim_of me.0.claims q ≡ some (Holds its) → get_or its 0 0 ≡ h + 1
       → Allows R slots id me 0
-      (λ n. either (eqb n (t * 65536 + h)) (t * 65536 + q) n)
-      (Gave (step slots 0 (t * 65536 + h) (t * 65536 + q) none) me)
+      (λ n. either (eqb n (t * row_limit + h)) (t * row_limit + q) n)
+      (Gave (step slots 0 (t * row_limit + h) (t * row_limit + q) none) me)
   gives slots id me t h q its is small small_q held next s r _ at _ =
-      let head : ℕ = get_or s.words 0 0 in let old : ℕ = t * 65536 + h in
-      let new : ℕ = t * 65536 + q in let d = me.0 in
+      let head : ℕ = get_or s.words 0 0 in let old : ℕ = t * row_limit + h in
+      let new : ℕ = t * row_limit + q in let d = me.0 in
       let w0 : View U = record d { stage = Idle; lost = d.lost + 1 } in
       let expected : Expects d.stage old = subst (λ (y : Stage). Expects y old) (sym is) refl in
       dite (ℕ_discrete head old)

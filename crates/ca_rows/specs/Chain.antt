@@ -3,7 +3,7 @@ use Rattle.std.specs.Prelude.{◌≡◌, ℕ, ◌<◌, ◌≤◌, List}
 use Prim.Native.Nat.{zero, suc}
 use Rattle.ca_rows.specs.declared.view.Stage.{Stage}
 use Rattle.ca_rows.specs.declared.view.Stage.TheVariants.{Idle, Saw, Knew}
-use Rattle.ca_rows.specs.Words.{head_tag, head_row, next_of}
+use Rattle.ca_rows.specs.Words.{head_tag, head_row, first_of, next_below}
 
 -- whose a row is
 pub data Owner : Type 0 where
@@ -23,14 +23,14 @@ module _ (rows : ℕ) (owner : ℕ → Owner) where
   -- The chain of the free rows begins at the head and goes from each to the one below it.
   pub record IsChain (words : List ℕ) (n : ℕ) : Type 0 where
     pub top : IsTop n (head_row words)
-    pub below : (r k : ℕ) → 0 < r → r ≤ rows → owner r ≡ Free k → (k < n) × IsTop k (next_of words r)
+    pub below : (r k : ℕ) → 0 < r → r ≤ rows → owner r ≡ Free k → (k < n) × IsTop k (next_below rows r (first_of words r))
     pub apart : (r q k : ℕ) → 0 < r → r ≤ rows → 0 < q → q ≤ rows → owner r ≡ Free k → owner q ≡ Free k → r ≡ q
 
   abbrev pub IsFree : ℕ → Type 0
   IsFree r = (k : ℕ) × (0 < r) × (r ≤ rows) × (owner r ≡ Free k)
 
-  -- What a seat saw of the head is so as long as the tag is the same: no row was taken since.
+  -- What a seat saw of the head, and of the first word of the row there, is so as long as the tag is the same: no row was taken since.
   abbrev pub IsStage : List ℕ → Stage → Type 0
   IsStage words Idle = Unit {0}
   IsStage words (Saw t r) = (t ≤ head_tag words) × (t ≡ head_tag words → 0 < r → IsFree r)
-  IsStage words (Knew t r x) = (t ≤ head_tag words) × (t ≡ head_tag words → IsFree r × (next_of words r ≡ x))
+  IsStage words (Knew t r x) = (t ≤ head_tag words) × (t ≡ head_tag words → IsFree r × (first_of words r ≡ x))

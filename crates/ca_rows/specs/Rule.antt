@@ -13,6 +13,7 @@ use Rattle.ca_rows.specs.Chain.{Owner, IsChain, IsStage}
 use Rattle.ca_rows.specs.Claims.{claim_of, claim_at}
 use Rattle.ca_rows.specs.Pins.{ArePins, unpinned}
 use Rattle.ca_rows.specs.Words.{IsWide}
+use Rattle.ca_rows.specs.Layout.{row_limit}
 
 abbrev pub upper_of : {U : Type 0} → View U → U
 upper_of d = d.upper
@@ -65,7 +66,7 @@ module _ {U : Type 0} (linked lent : List ℕ → ℕ → Type 0) (noted : List 
     -- how many rows are free, and how many passes were made, of those that the space is for
     pub count : ℕ
     pub made : ℕ
-    pub few : z.rows < 65536
+    pub few : z.rows < row_limit
     pub within : made ≤ z.passes
     pub wide : IsWide z.rows s.words
     pub chain : IsChain z.rows owner s.words count

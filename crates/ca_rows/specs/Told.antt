@@ -10,7 +10,7 @@ use Rattle.ca_rows.specs.declared.view.Stage.TheVariants.{Idle, Saw, Knew}
 use Rattle.ca_rows.specs.declared.view.Claimed.{Claimed}
 use Rattle.ca_rows.specs.declared.view.View.{View}
 use Rattle.ca_rows.specs.Claims.{claim_of, claimed, dropped, held_count}
-use Rattle.ca_rows.specs.Layout.{row_words}
+use Rattle.ca_rows.specs.Layout.{row_words, row_limit, last_tag}
 
 abbrev pub Mine : Type 0 → Type 0
 Mine U = Me (Unit {0}) (View U)
@@ -18,8 +18,8 @@ Mine U = Me (Unit {0}) (View U)
 -- An exchange that expects this value expects the head as the seat saw it last, and the seat has tried none since.
 abbrev pub Expects : Stage → ℕ → Type 0
 Expects Idle old = ⊥
-Expects (Saw t r) old = old ≡ t * 65536 + r
-Expects (Knew t r x) old = old ≡ t * 65536 + r
+Expects (Saw t r) old = old ≡ t * row_limit + r
+Expects (Knew t r x) old = old ≡ t * row_limit + r
 
 module _ {U : Type 0} where
   abbrev pub with_stage : Mine U → Stage → Mine U
@@ -38,7 +38,7 @@ module _ {U : Type 0} where
 
   -- It had this row, but its tag was at the last value.
   abbrev pub found_worn : Mine U → ℕ → Mine U
-  found_worn m r = (record m.0 { stage = Saw 281474976710655 r; worn = m.0.worn + 1 }, m.1)
+  found_worn m r = (record m.0 { stage = Saw last_tag r; worn = m.0.worn + 1 }, m.1)
 
   -- what a seat knows once these rows are its and it knows this of what stands above: the rows that it holds then are counted
   abbrev pub relinked : Mine U → List Claimed → U → Mine U
@@ -50,14 +50,14 @@ module _ {U : Type 0} where
 
   -- The head was loaded to take a row. It is counted where it can't be taken: there is none, or the tag can rise no more.
   abbrev pub Looked : Step (Unit {0}) → Mine U → ℕ → Mine U → Type 0
-  Looked st m n m' = (0 < m.0.sizes.rows → n % 65536 ≤ m.0.sizes.rows)
-      × (n % 65536 ≡ 0 → m' ≡ found_empty m (n / 65536))
-      × (0 < n % 65536 → n / 65536 ≡ 281474976710655 → m' ≡ found_worn m (n % 65536))
-      × (0 < n % 65536 → n / 65536 ≢ 281474976710655 → m' ≡ with_stage m (Saw (n / 65536) (n % 65536)))
+  Looked st m n m' = (0 < m.0.sizes.rows → n % row_limit ≤ m.0.sizes.rows)
+      × (n % row_limit ≡ 0 → m' ≡ found_empty m (n / row_limit))
+      × (0 < n % row_limit → n / row_limit ≡ last_tag → m' ≡ found_worn m (n % row_limit))
+      × (0 < n % row_limit → n / row_limit ≢ last_tag → m' ≡ with_stage m (Saw (n / row_limit) (n % row_limit)))
 
   -- The head was loaded to put a row back: nothing is counted.
   abbrev pub Glanced : Step (Unit {0}) → Mine U → ℕ → Mine U → Type 0
-  Glanced st m n m' = (0 < m.0.sizes.rows → n % 65536 ≤ m.0.sizes.rows) × (m' ≡ with_stage m (Saw (n / 65536) (n % 65536)))
+  Glanced st m n m' = (0 < m.0.sizes.rows → n % row_limit ≤ m.0.sizes.rows) × (m' ≡ with_stage m (Saw (n / row_limit) (n % row_limit)))
 
   -- The next row was loaded from the row that the head named.
   abbrev pub Peeked : Step (Unit {0}) → Mine U → ℕ → Mine U → Type 0
@@ -82,7 +82,7 @@ module _ {U : Type 0} where
 
   -- A held row was put back, or the exchange lost. It expected the head that was seen last.
   abbrev pub Gave : Step (Unit {0}) → Mine U → ℕ → Mine U → Type 0
-  Gave st m n m' = Expects m.0.stage st.first × (n ≡ st.first → m' ≡ with_claims m (dropped (st.second % 65536) m.0.claims)) × (n ≢ st.first → m' ≡ missed m)
+  Gave st m n m' = Expects m.0.stage st.first × (n ≡ st.first → m' ≡ with_claims m (dropped (st.second % row_limit) m.0.claims)) × (n ≢ st.first → m' ≡ missed m)
 
 module _ {U : Type 0} where
   abbrev pub with_pin : Mine U → Pin → Mine U

@@ -1,18 +1,18 @@
 -- Where things stand in the words. Word 0 is the pool's head, word 1 the epoch, word 1 + i the announcement of pass i; the words of row r
 -- are those from 136 * r on.
-use Rattle.std.specs.Prelude.{◌≡◌, ℕ, ◌+◌, ◌*◌, ◌/◌, ◌%◌, ◌<◌, List, length, slice_index}
-use Rattle.ca_rows.specs.Layout.{row_words}
+use Rattle.std.specs.Prelude.{◌≡◌, ◌==◌, ℕ, cond, ◌+◌, ◌-◌, ◌*◌, ◌/◌, ◌%◌, ◌<◌, List, length, slice_index}
+use Rattle.ca_rows.specs.Layout.{row_words, row_limit}
 
 abbrev pub IsWide : ℕ → List ℕ → Type 0
 IsWide rows words = length words ≡ row_words * rows + row_words
 
 -- the tag of the pool's head, which rises whenever a row is taken
 abbrev pub head_tag : List ℕ → ℕ
-head_tag words = slice_index words 0 / 65536
+head_tag words = slice_index words 0 / row_limit
 
 -- the first free row, or 0
 abbrev pub head_row : List ℕ → ℕ
-head_row words = slice_index words 0 % 65536
+head_row words = slice_index words 0 % row_limit
 
 abbrev pub epoch : List ℕ → ℕ
 epoch words = slice_index words 1
@@ -21,9 +21,12 @@ epoch words = slice_index words 1
 abbrev pub announced : List ℕ → ℕ → ℕ
 announced words pass = slice_index words (pass + 1)
 
--- in a free row, the next free row, or 0
-abbrev pub next_of : List ℕ → ℕ → ℕ
-next_of words row = slice_index words (row_words * row)
+abbrev pub first_of : List ℕ → ℕ → ℕ
+first_of words row = slice_index words (row_words * row)
+
+-- The free row below a free row, or 0, as the first word says: 0 for the next row by number, 1 for none, else one more than the row.
+abbrev pub next_below : ℕ → ℕ → ℕ → ℕ
+next_below rows row first = cond (first == 0) (cond (row == rows) 0 (row + 1)) (first - 1)
 
 -- The row has these words.
 abbrev pub Spells : List ℕ → ℕ → List ℕ → Type 0

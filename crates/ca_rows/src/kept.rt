@@ -1,5 +1,6 @@
 //! The rows that a pass keeps.
 ghost use Rattle.std.specs.Prelude.{◌≡◌, ◌↔◌, IsTrue, ℕ, ◌<◌, ◌≤◌, ◌+◌, ◌++◌, ◌∷◌, [], take, drop, slice_index_or, vec_len, vec_capacity, IfOk};
+ghost use Rattle.ca_rows.specs.Layout.{row_limit};
 
 use std::alloc::{AllocError, Global};
 
@@ -14,7 +15,7 @@ pub struct Kept {
 /// The rows that a pass keeps, from the one that was retired first.
 pub struct KeptRows {
     pub(crate) rows: Vec<Kept>,
-    pub ghost few: { vec_len rows < 65536 },
+    pub ghost few: { vec_len rows < row_limit },
 }
 
 impl KeptRows {
@@ -30,7 +31,7 @@ impl KeptRows {
     // One more row, for which there is room.
     pub(crate) fn push(&mut self, row: u32, at: u64)
         requires room { vec_len self.old.rows < vec_capacity self.old.rows }
-        requires few { vec_len self.old.rows + 1 < 65536 }
+        requires few { vec_len self.old.rows + 1 < row_limit }
         ensures rows { self.new.rows.items ≡ self.old.rows.items ++ record { row = row; at = at } ∷ [] }
         ensures room { vec_capacity self.old.rows ≤ vec_capacity self.new.rows }
     {

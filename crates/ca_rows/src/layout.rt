@@ -1,4 +1,13 @@
-//! Where the words of a table stand.
+//! Where the words of a table stand, and how large its numbers are.
 
 /// How many words a row has. So many stand before the first row, too.
 pub const ROW_WORDS: usize = 136;
+
+/// The number of each row is below this: it has 24 bits.
+pub const ROW_LIMIT: u64 = 1 << 24;
+
+/// The last value of the tag in the pool's head, which stands above a row's number.
+pub const LAST_TAG: u64 = (1 << 40) - 1;
+
+/// The last value of the sequence in a pass's range result, which stands above two bits and a row's number.
+pub const LAST_SEQUENCE: u64 = (1 << 38) - 1;

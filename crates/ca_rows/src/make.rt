@@ -7,6 +7,7 @@ ghost use Rattle.ca_rows.specs.Rule.{fresh};
 
 use crate::fault::RowsFault;
 use crate::kept::KeptRows;
+use crate::layout::{LAST_SEQUENCE, LAST_TAG, ROW_LIMIT};
 use crate::opening::opening;
 use crate::plays::Make;
 use crate::rest::Rest;
@@ -24,12 +25,12 @@ impl Sizes {
         ensures { IsTrue result ↔ AreInBounds self.now }
     {
         384 <= self.rows
-            && self.rows <= 65_535
+            && (self.rows as u64) < ROW_LIMIT
             && 1 <= self.passes
             && self.passes <= 64
-            && self.starts.tag <= (1 << 48) - 1
+            && self.starts.tag <= LAST_TAG
             && self.starts.epoch <= 1 << 62
-            && self.starts.sequence <= (1 << 46) - 1
+            && self.starts.sequence <= LAST_SEQUENCE
             && self.starts.attempt <= (1 << 62) - 1
     }
 }

@@ -3,7 +3,7 @@ ghost use Rattle.ca_rows.specs.Layout.{row_words};
 ghost use Rattle.std.specs.Prelude.{◌≡◌, ℕ, ◌+◌, ◌*◌, ◌<◌, ◌≤◌, length, slice_index, IfOk};
 ghost use Rattle.ca_rows.specs.Opening.{AreInBounds, IsOpening};
 
-use crate::layout::ROW_WORDS;
+use crate::layout::{ROW_LIMIT, ROW_WORDS};
 use crate::rule::RowRule;
 use crate::sizes::Sizes;
 use std::alloc::{AllocError, Global};
@@ -18,17 +18,16 @@ pub(crate) fn opening<R: RowRule>(alloc: Global, sizes: &Sizes) -> Result<Vec<u6
     Ok(words)
 }
 
-// Fills words that are all 0.
+// Fills words that are all 0: the rows from 2 on are chained as free then, each above the next one by number.
 fn fill<R: RowRule>(words: &mut [u64], sizes: &Sizes)
     requires bounds { AreInBounds sizes.now }
     requires wide { length words.old ≡ row_words * sizes.now.rows + row_words }
     requires zeros { (i : ℕ) → slice_index words.old i ≡ 0 }
     ensures { IsOpening R.opens sizes.now words.new }
 {
-    words[0] = sizes.starts.tag * 65_536 + 2;
+    words[0] = sizes.starts.tag * ROW_LIMIT + 2;
     words[1] = sizes.starts.epoch;
     fill_above::<R>(words, sizes);
-    chain(words, sizes.rows as usize);
 }
 
 // Writes the words of the rule above the rows.
@@ -44,20 +43,5 @@ fn fill_above<R: RowRule>(words: &mut [u64], sizes: &Sizes)
     while word < 272 {
         words[word as usize] = R::open(sizes, word);
         word += 1;
-    }
-}
-
-// Chains the rows from 2 on, in rising order.
-fn chain(words: &mut [u64], rows: usize)
-    requires { (length words.old ≡ row_words * rows + row_words) × (2 ≤ rows) × (rows ≤ 65535) }
-    ensures length { length words.new ≡ length words.old }
-    ensures next { (r : ℕ) → 2 ≤ r → r < rows → slice_index words.new (row_words * r) ≡ r + 1 }
-    ensures before { (i : ℕ) → i < 272 → slice_index words.new i ≡ slice_index words.old i }
-    ensures last { slice_index words.new (row_words * rows) ≡ slice_index words.old (row_words * rows) }
-{
-    let mut row = 2;
-    while row < rows {
-        words[ROW_WORDS * row] = row as u64 + 1;
-        row += 1;
     }
 }

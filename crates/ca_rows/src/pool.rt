@@ -5,9 +5,10 @@ ghost use mathlib.Core.Option.{some};
 ghost use Rattle.ca_rows.specs.declared.view.Claim.TheVariants.{Holds as IsHeld};
 ghost use Rattle.ca_rows.specs.Claims.{claim_of};
 ghost use Rattle.ca_rows.specs.Calls.{TakesRow, PutsRow, WritesWord};
+ghost use Rattle.ca_rows.specs.Words.{next_below};
 ghost use Rattle.ca_rows.specs.Passes.{OnlyReads, IsOn, StillKeepsList, sizes, known, view};
 
-use crate::layout::ROW_WORDS;
+use crate::layout::{LAST_TAG, ROW_LIMIT, ROW_WORDS};
 use crate::plays::{Give, Glance, Look, Peek, Recall, Take, Write};
 use crate::rule::RowRule;
 use crate::space::{Pass, Space};
@@ -21,20 +22,21 @@ impl<R: RowRule> Space<R> {
         ensures row { TakesRow result (known pass.old) (known pass.new) }
     {
         let head = self.table.shared.load::<Look>(&mut pass.seat, 0);
-        let tag = head / 65_536;
-        let row = head % 65_536;
+        let tag = head / ROW_LIMIT;
+        let row = head % ROW_LIMIT;
         if row == 0 {
             return Taken::Empty;
         }
-        if tag == (1 << 48) - 1 {
+        if tag == LAST_TAG {
             return Taken::Worn;
         }
-        let next = self
+        let first = self
             .table
             .shared
             .load::<Peek>(&mut pass.seat, ROW_WORDS * row as usize);
-        let old = tag * 65_536 + row;
-        let new = (tag + 1) * 65_536 + next % 65_536;
+        let next = next_row(self.sizes.rows, row as u32, first);
+        let old = tag * ROW_LIMIT + row;
+        let new = (tag + 1) * ROW_LIMIT + next % ROW_LIMIT;
         let found = self
             .table
             .shared
@@ -83,14 +85,28 @@ impl<R: RowRule> Space<R> {
         ensures given { PutsRow result row (known pass.old) (known pass.new) }
     {
         let head = self.table.shared.load::<Glance>(&mut pass.seat, 0);
-        let tag = head / 65_536;
-        let first = head % 65_536;
-        self.write_word(pass, row, 0, first);
-        let old = tag * 65_536 + first;
-        let new = tag * 65_536 + row as u64;
+        let tag = head / ROW_LIMIT;
+        let below = head % ROW_LIMIT;
+        self.write_word(pass, row, 0, below + 1);
+        let old = tag * ROW_LIMIT + below;
+        let new = tag * ROW_LIMIT + row as u64;
         self.table
             .shared
             .compare_exchange::<Give>(&mut pass.seat, 0, old, new)
             == old
+    }
+}
+
+// The free row below a free row, or 0, as the first word says.
+fn next_row(rows: u32, row: u32, first: u64) -> u64
+    requires { row ≤ rows }
+    ensures { result ≡ next_below rows row first }
+{
+    if first > 0 {
+        first - 1
+    } else if row == rows {
+        0
+    } else {
+        row as u64 + 1
     }
 }

@@ -1,6 +1,6 @@
 //! Passes give back the rows that they keep, once nobody can have a note on them.
-ghost use Rattle.ca_rows.specs.Layout.{row_words};
-ghost use Rattle.std.specs.Prelude.{◌≡◌, ◌↔◌, IsTrue, ℕ, ◌+◌, ◌-◌, ◌<◌, ◌≤◌, ◌++◌, cond, true, false, List, length, take, drop, slice_index_or, vec_len, vec_capacity};
+ghost use Rattle.ca_rows.specs.Layout.{row_words, row_limit};
+ghost use Rattle.std.specs.Prelude.{◌≡◌, ◌↔◌, IsTrue, ℕ, ◌+◌, ◌*◌, ◌-◌, ◌<◌, ◌≤◌, ◌++◌, cond, true, false, List, length, take, drop, slice_index_or, vec_len, vec_capacity};
 ghost use Rattle.std.specs.declared.option.Option.TheVariants.{None, Some};
 ghost use mathlib.Core.Option.{some};
 ghost use Rattle.ca_rows.specs.declared.view.Claim.TheVariants.{Holds as IsHeld, Keeps as IsKept};
@@ -168,7 +168,7 @@ impl<R: RowRule> Space<R> {
         ensures lag { IsLag (sizes self.now).passes pass.old.number result.lag (view pass.new).pin }
         ensures lags { (view pass.new).pin.lags ≡ (view pass.old).pin.lags + lag_count result.lag }
         ensures losses { (view pass.new).lost ≡ (view pass.old).lost + result.losses }
-        ensures few { result.losses ≤ 196608 }
+        ensures few { result.losses ≤ 3 * row_limit }
         ensures lost { IsTrue result.lost ↔ 0 < result.losses }
         ensures epoch { result.epoch ≡ (view pass.new).pin.scan }
         ensures young { result.lost ≡ false → (r t : ℕ) → kept_of pass.new.kept.rows.items r ≡ some t → (view pass.new).pin.scan < t + 2 }

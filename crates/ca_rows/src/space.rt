@@ -1,5 +1,5 @@
 //! The words of a space, and its passes.
-ghost use Rattle.ca_rows.specs.Layout.{row_words};
+ghost use Rattle.ca_rows.specs.Layout.{row_words, row_limit};
 ghost use Rattle.std.specs.Prelude.{◌≡◌, ◌+◌, ◌*◌, ◌<◌, ◌≤◌, IsSome};
 ghost use Rattle.std.specs.Option.{ForSome};
 ghost use Rattle.ca_rows.specs.Owned.{HasNoSlot, IsOwnSeat};
@@ -23,7 +23,7 @@ pub struct Space<R: RowRule> {
     pub ghost same: { sizes ≡ table.shared.key },
     pub ghost sized: { table.shared.table_id.words ≡ row_words * table.shared.key.rows + row_words },
     pub ghost no_slots: { table.shared.table_id.slots ≡ 0 },
-    pub ghost few: { (0 < table.shared.key.rows) × (table.shared.key.rows < 65536) },
+    pub ghost few: { (0 < table.shared.key.rows) × (table.shared.key.rows < row_limit) },
     pub ghost passes: { (made ≤ sizes.passes) × (sizes.passes ≤ 64) },
     pub ghost has: { IsSome own },
     pub ghost mine: { ForSome own (λ rest. IsOwnSeat table.shared.table_id sizes made rest.seat) },

@@ -194,7 +194,7 @@ fn rows_are_taken_until_the_tag_is_worn(rt: HostRuntime) {
     let kept = [(Retire, Keeps(1)), (TakeAll, Were(Some(382)))];
     assert_eq!(rt; alone(rt.alloc(), ZERO, &kept), Some(None));
     let last = Starts {
-        tag: (1 << 48) - 2,
+        tag: (1 << 40) - 2,
         ..ZERO
     };
     let worn = [(Take, Took(Taken::Row(2))), (Take, Took(Taken::Worn))];

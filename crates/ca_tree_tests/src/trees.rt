@@ -16,9 +16,9 @@ pub(crate) const ZERO: Starts = Starts {
 
 /// The last values of all counters.
 pub(crate) const LAST: Starts = Starts {
-    tag: (1 << 48) - 1,
+    tag: (1 << 40) - 1,
     epoch: 1 << 62,
-    sequence: (1 << 46) - 1,
+    sequence: (1 << 38) - 1,
     attempt: (1 << 62) - 1,
 };
 

@@ -9,7 +9,7 @@ use Rattle.ca_node.specs.TreeView.{TreeView}
 use Rattle.ca_base.specs.Putting.{IsRoom, IsShownLast, first_note, object_at, put_event}
 use Rattle.ca_replace.specs.declared.attempting.Stop.{Stop}
 use Rattle.ca_replace.specs.declared.attempting.Stop.TheVariants.{Deep as IsDeep}
-use Rattle.ca_replace.specs.Adapting.{IsMoved, IsMetAs}
+use Rattle.ca_replace.specs.Adapting.{IsMoved, IsCauseMet}
 use Rattle.ca_replace.proofs.Tuning.{tuned_on}
 use Rattle.ca_replace.proofs.Settling.{IsSettling}
 use Rattle.ca_replace.proofs.GoingOn.{is_new, known_then, settled_found, settled_on, settled_paid, settled_tried, tried_turns}
@@ -360,7 +360,7 @@ put_at-tried-requires-clause-target c = let z = c.args.tree.now.space.table.shar
 
 pub returns-clause-turn : goal.returns-clause-turn
 returns-clause-turn c = record {
-  met_as = settled_met (IsMetAs c.settle.new.course.adapting.last.adapted
+  met_as = settled_met (IsCauseMet c.settle.new.course.adapting.last.adapted
       (met_of c.settle.new.pass.seat.me) c.settle.new.pass.seat.me.0.upper)
       c.put_at-tried.result c.settle.result c.settle.ensures.come c.settle.ensures.met;
   gone_on = let note = first_note c.args.pass.now.seat.me.0.upper.notes in

@@ -3,9 +3,9 @@ use Rattle.ca_node.specs.TreeView.{TreeView}
 use Rattle.ca_base.specs.Progress.{IsFurther}
 use Rattle.ca_replace.specs.declared.attempting.Stop.{Stop}
 use Rattle.ca_replace.specs.declared.attempting.Stop.TheVariants as stop
-use Rattle.ca_replace.specs.Adapting.{IsMetAs, MeetsAs, Waits}
+use Rattle.ca_replace.specs.Adapting.{IsCauseMet, IsCauseMetInAttempts, Waits}
 use Rattle.ca_replace.specs.Causes.{IsFullSince, IsRefill}
-use Rattle.ca_replace.specs.Attempting.{HasMetBy, total}
+use Rattle.ca_replace.specs.Attempting.{HasMetInAttempt, total}
 use Rattle.ca_replace.specs.Growing.{HasWaited}
 use Rattle.ca_replace.proofs.Causing.{caused_as, few_from, nearer, refill_caused}
 use Rattle.ca_replace.proofs.Pinning.{begun_with, empty_before}
@@ -75,7 +75,7 @@ loop-come-preserved g c = let i = c.loop-come.invariant in
     let behind = c.turns-come.new.pass.seat.me in
     let last = c.refill.new.pass.seat.me in let empty = c.if-is_empty.ensures.0 refl in
     let met = subst
-    (λ (x : Result _ Stop). HasMetBy x before behind) empty c.turns-come.ensures.found in
+    (λ (x : Result _ Stop). HasMetInAttempt x before behind) empty c.turns-come.ensures.found in
     let given = c.refill.ensures.gave.met in record {
       number = c.refill.ensures.frame.number ∙ (c.turns-come.ensures.frame.number ∙ i.number);
       resting = c.refill.ensures.frame.resting;
@@ -181,7 +181,7 @@ returns-in-Err-clause-caused g c = let i = c.loop-come.invariant in
     let behind = c.turns-come.new.pass.seat.me in let last = c.refill.new.pass.seat.me in
     let z = c.args.tree.now.space.table.shared.key in
     let met = subst
-    (λ (x : Result _ Stop). HasMetBy x before behind) (c.if-is_empty.ensures.0 refl)
+    (λ (x : Result _ Stop). HasMetInAttempt x before behind) (c.if-is_empty.ensures.0 refl)
     c.turns-come.ensures.found in
     refill_caused z c.args.pass.now.number c.args.order.now.budget c.kept-kept.result
     (g.A.Attempt.adds c.args.order.now.what.now) c.in-Err.why
@@ -243,7 +243,7 @@ returns-else-is_empty-clause-caused g c = let i = c.loop-come.invariant in
             last c.add-course.ensures.sum
             c.keep_few.ensures.lost upper);
       };
-      worn = λ e. let met = subst (λ (x : Result _ Stop). HasMetBy x before behind) e found in
+      worn = λ e. let met = subst (λ (x : Result _ Stop). HasMetInAttempt x before behind) e found in
           omega (arith, i.worn, met.1, given.1);
     }
 
@@ -313,10 +313,10 @@ pub returns-else-is_empty-clause-turns : goal.returns-else-is_empty-clause-turns
 returns-else-is_empty-clause-turns g c = record {
   met_as = let edits = λ (x : _). g.A.Attempt.edits c.args.order.now.what.now x in
       let last = c.turns-come.new.course.adapting.last in
-      refused_met (IsMetAs last.adapted c.keep_few.new.pass.seat.me.0.pin.left
+      refused_met (IsCauseMet last.adapted c.keep_few.new.pass.seat.me.0.pin.left
       c.keep_few.new.pass.seat.me.0.upper) edits c.turns-come.result
       c.or_refusal.result _ _ c.or_refusal.ensures (subst
-      (λ (x : Met × TreeView). MeetsAs edits last c.turns-come.result x.0 x.1)
+      (λ (x : Met × TreeView). IsCauseMetInAttempts edits last c.turns-come.result x.0 x.1)
       (λ i. (sym c.keep_few.ensures.left i, sym c.keep_few.ensures.gave.upper i))
       c.turns-come.ensures.turns.met_as);
   gone_on = let edits = λ (x : _). g.A.Attempt.edits c.args.order.now.what.now x in

@@ -1,5 +1,5 @@
 use Rattle.std.proofs.Common.{refl, sym, ap, ◌∙◌, subst, arith, rules}
-use Rattle.ca_replace.specs.Adapting.{HasGoneOn, MeetsAs}
+use Rattle.ca_replace.specs.Adapting.{HasGoneOn, IsCauseMetInAttempts}
 use Rattle.ca_node.proofs.Tallies.{tallied_still}
 use Rattle.ca_replace.specs.Attempting.{HasTriedTo}
 use Rattle.ca_replace.specs.Causes.{IsFullSince}
@@ -14,7 +14,7 @@ use Rattle.ca_replace.specs.Growing.{HasGrown}
 use Rattle.ca_replace.specs.Cutting.{HasCut}
 use Rattle.ca_replace.proofs.Cutting.{cut_pinned}
 use Rattle.ca_replace.proofs.Winning.{won_pinned}
-use Rattle.ca_replace.specs.Winning.{HasWonAs}
+use Rattle.ca_replace.specs.Winning.{HasWonInAttempts}
 use Rattle.ca_replace.proofs.calls.once.Goals as goal
 
 pub attempt-tried-requires-clause-ready : goal.attempt-tried-requires-clause-ready
@@ -105,7 +105,7 @@ returns-clause-pinned g c = let pin = ap (λ (m : MyTree). m.0.pin) c.pin.ensure
 
 pub returns-clause-turn : goal.returns-clause-turn
 returns-clause-turn g c = record {
-  met_as = subst (λ (m : MyTree). MeetsAs
+  met_as = subst (λ (m : MyTree). IsCauseMetInAttempts
       (λ (x : _). g.A.Attempt.edits c.args.what.now x) c.attempt-tried.new.course.adapting.last
       c.attempt-tried.result m.0.pin.left m.0.upper) (sym c.unpin.ensures.unpinned)
       c.attempt-tried.ensures.turn.met_as;
@@ -137,7 +137,7 @@ returns-clause-turn g c = record {
       c.attempt-tried.new.pass.seat.me.0.upper c.unpin.new.pass.seat.me.0.upper
       (ap (λ (m : MyTree). m.0.upper) c.unpin.ensures.unpinned)
       (subst (λ (m : MyTree). IsAlone z m.0.upper
-      → HasWonAs edits c.attempt-tried.result m.0.upper
+      → HasWonInAttempts edits c.attempt-tried.result m.0.upper
       c.attempt-tried.new.pass.seat.me.0.upper)
       c.pin.ensures.pinned.3 c.attempt-tried.ensures.turn.won (alone.0, alone.1));
   cut = let z = c.args.tree.now.space.table.shared.key in

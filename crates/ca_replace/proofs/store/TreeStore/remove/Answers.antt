@@ -2,7 +2,7 @@ use Rattle.std.proofs.Common.{Bool, ℕ, List, subst}
 use Rattle.arrayvec.specs.ArrayVec.{ArrayVec}
 use Rattle.ca_model.specs.Answer.{Removed, IfDone, IfRefused}
 use Rattle.ca_model.specs.Known.{Declines}
-use Rattle.ca_replace.specs.Attempting.{HasDoneAs}
+use Rattle.ca_replace.specs.Attempting.{HasDoneSuch}
 use Rattle.ca_replace.specs.Resting.{StoreView, known_of, knows}
 use Rattle.ca_replace.specs.Tells.{Removes}
 use Rattle.ca_replace.proofs.Telling.{if_still, removed, if_then}
@@ -21,7 +21,7 @@ returns-clause-removed c = let table = c.self.inside.tree.now.space.table.shared
     (if_still (λ (x : Bool) (code : ArrayVec ℕ).
     Removed (known_of table z u) (known_of table z v) key x code.items) c.call-outcome.result
     c.call-outcome.new.left c.empty_if_refused.new.old c.empty_if_refused.ensures.done
-    (if_then (λ (x : Bool). HasDoneAs (Removes key x old) u v)
+    (if_then (λ (x : Bool). HasDoneSuch (Removes key x old) u v)
     (λ (x : Bool). Removed (known_of table z u) (known_of table z v) key x old)
     c.call-outcome.result
     (removed table z u v c.self.invariant.known c.call-outcome.ensures.frame.resting.known key old)

@@ -3,7 +3,7 @@ use Rattle.arrayvec.specs.ArrayVec.{ArrayVec}
 use Rattle.ca_model.specs.Answer.{RemovedIf, IfDone, IfRefused}
 use Rattle.ca_model.specs.Known.{Declines}
 use Rattle.ca_model.specs.declared.outcome.Changed.{Changed}
-use Rattle.ca_replace.specs.Attempting.{HasDoneAs}
+use Rattle.ca_replace.specs.Attempting.{HasDoneSuch}
 use Rattle.ca_replace.specs.Resting.{StoreView, known_of, knows}
 use Rattle.ca_replace.specs.Tells.{RemovesIf}
 use Rattle.ca_replace.proofs.Telling.{if_still, removed_if, if_then}
@@ -23,7 +23,7 @@ returns-clause-removed g c = let table = c.self.inside.tree.now.space.table.shar
     (code : ArrayVec ℕ). RemovedIf g.F.Fn c.args.f.now (known_of table z u) (known_of table z v)
     key x code.items) c.call-outcome.result
     c.call-outcome.new.left c.empty_if_refused.new.old c.empty_if_refused.ensures.done
-    (if_then (λ (x : Changed). HasDoneAs (RemovesIf g.F.Fn c.args.f.now key x old) u v)
+    (if_then (λ (x : Changed). HasDoneSuch (RemovesIf g.F.Fn c.args.f.now key x old) u v)
     (λ (x : Changed).
     RemovedIf g.F.Fn c.args.f.now (known_of table z u) (known_of table z v) key x old)
     c.call-outcome.result

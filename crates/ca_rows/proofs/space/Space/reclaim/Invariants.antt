@@ -4,6 +4,7 @@ use mathlib.Core.Option.{some}
 use Rattle.ca_rows.specs.Kept.{AreKept, kept_of}
 use Rattle.ca_rows.specs.Reclaiming.{Reclaims, IsLag, lag_count}
 use Rattle.ca_rows.proofs.space.Space.reclaim.Given as goal
+use Rattle.ca_rows.specs.Layout.{row_limit}
 
 abbrev pub invariant-loop-left : goal.invariant-loop-left
 invariant-loop-left g l = record {
@@ -28,7 +29,7 @@ invariant-loop-left g l = record {
   freed : l.freed + vec_len l.pass.kept.rows ≡ vec_len l.fn.pass.kept.rows;
   lost : l.pass.seat.me.0.lost ≡ l.fn.pass.seat.me.0.lost + l.losses;
   few : l.left ≤ 3;
-  bound : l.losses + 65536 * l.left ≤ 196608;
+  bound : l.losses + row_limit * l.left ≤ 3 * row_limit;
   epoch : l.left < 3 → l.epoch ≡ l.pass.seat.me.0.pin.scan;
   lag : l.left < 3
       → IsLag l.self.table.shared.key.passes l.fn.pass.number l.lag l.pass.seat.me.0.pin;

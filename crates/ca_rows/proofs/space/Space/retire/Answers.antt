@@ -6,6 +6,7 @@ use Rattle.ca_rows.specs.Kept.{AreKept}
 use Rattle.ca_rows.specs.Told.{Mine}
 use Rattle.ca_rows.proofs.Keeping.{retired_too, finds_room}
 use Rattle.ca_rows.proofs.space.Space.retire.Goals as goal
+use Rattle.ca_rows.specs.Layout.{row_limit}
 
 pub push-requires-clause-room : goal.push-requires-clause-room
 push-requires-clause-room g c = let p = c.args.pass.now in let told = c.retire_as-at.ensures.keeps in
@@ -30,7 +31,7 @@ push-requires-clause-few g c = let p = c.args.pass.now in let told = c.retire_as
     finds_room g.R.RowRule.lent g.R.RowRule.fact c.args.self.now.table.shared.key p.seat.id
     p.seat.me.0 p.kept.rows c.args.row c.requires.list
     c.requires.mine told.0 (omega arith) in let less = found.0 in
-    subst (λ (k : KeptRows). vec_len k.rows + 1 < 65536) (sym frame.kept) (omega arith)
+    subst (λ (k : KeptRows). vec_len k.rows + 1 < row_limit) (sym frame.kept) (omega arith)
 
 pub returns-clause-list : goal.returns-clause-list
 returns-clause-list g c = let p = c.args.pass.now in let told = c.retire_as-at.ensures.keeps in

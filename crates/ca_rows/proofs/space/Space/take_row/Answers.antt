@@ -1,4 +1,4 @@
-use Rattle.std.proofs.Common.{rules, ℕ, ◌*◌, ◌+◌, ◌/◌, ◌%◌, ◌∙◌, arith, ap}
+use Rattle.std.proofs.Common.{rules, ℕ, ◌*◌, ◌+◌, ◌/◌, ◌%◌, ◌∙◌, sym, arith, ap}
 use mathlib.Core.Logic.{dite}
 use native.Mathlib.Decide.{ℕ_discrete}
 use Rattle.ca_rows.specs.declared.sizes.Sizes.{Sizes}
@@ -6,6 +6,8 @@ use Rattle.ca_rows.specs.Told.{Mine}
 use Rattle.ca_rows.proofs.Calling.{row_taken, row_missed, still}
 use Rattle.ca_rows.proofs.Steps.{looks, peeks, takes}
 use Rattle.ca_rows.proofs.space.Space.take_row.Goals as goal
+use Rattle.ca_rows.specs.Layout.{row_limit}
+use Rattle.ca_rows.specs.Words.{next_below}
 
 pub load-head-requires : goal.load-head-requires
 load-head-requires g c = let sized = c.args.self.now.sized in (
@@ -16,10 +18,10 @@ load-head-requires g c = let sized = c.args.self.now.sized in (
       c.args.self.now.table.shared.key _ _ _,
 )
 
-pub load-next-requires : goal.load-next-requires
-load-next-requires g c = let sized = c.args.self.now.sized in let few = c.args.self.now.few.1 in
+pub load-first-requires : goal.load-first-requires
+load-first-requires g c = let sized = c.args.self.now.sized in let few = c.args.self.now.few.1 in
     let some_free = c.if-row-eq0.false in
-    let saw = c.load-head.ensures.2.3 (omega arith) c.if-tag.false in (
+    let saw = c.load-head.ensures.2.3 (omega arith) c.if-tag-eq-LAST_TAG.false in (
       search rules,
       (let same = ap (λ (z : Sizes). z.rows) c.requires.own.1 in
           let some_rows = c.args.self.now.few.0 in
@@ -27,36 +29,39 @@ load-next-requires g c = let sized = c.args.self.now.sized in let few = c.args.s
           omega arith),
       peeks g.R.RowRule.linked g.R.RowRule.lent g.R.RowRule.noted g.R.RowRule.fact
           g.met.R.RowRule.frames c.args.self.now.table.shared.key _ _ _
-          (c.load-head.result / 65536) (c.load-head.result % 65536)
+          (c.load-head.result / row_limit) (c.load-head.result % row_limit)
           (ap (λ (m : Mine g.row.R-Upper.Denot). m.0.stage) saw) (omega arith),
     )
 
 pub compare_exchange-found-requires : goal.compare_exchange-found-requires
 compare_exchange-found-requires g c = let sized = c.args.self.now.sized in
     let some_free = c.if-row-eq0.false in
-    let saw = c.load-head.ensures.2.3 (omega arith) c.if-tag.false in
-    let next = c.load-next.ensures.2 (c.load-head.result / 65536) (c.load-head.result % 65536) (ap
+    let saw = c.load-head.ensures.2.3 (omega arith) c.if-tag-eq-LAST_TAG.false in
+    let next = c.load-first.ensures.2 (c.load-head.result / row_limit) (c.load-head.result % row_limit) (ap
     (λ (m : Mine g.row.R-Upper.Denot). m.0.stage) saw) in (
       search rules,
       omega arith,
       takes g.R.RowRule.linked g.R.RowRule.lent g.R.RowRule.noted g.R.RowRule.fact
           g.met.R.RowRule.frames c.args.self.now.table.shared.key _ _ _
-          (c.load-head.result / 65536) (c.load-head.result % 65536) c.load-next.result
-          (ap (λ (m : Mine g.row.R-Upper.Denot). m.0.stage) next) (omega arith) (omega arith),
+          (c.load-head.result / row_limit) (c.load-head.result % row_limit) c.load-first.result c.next_row-next.result
+          (ap (λ (m : Mine g.row.R-Upper.Denot). m.0.stage) next)
+          (ap (λ (n : ℕ). next_below n (c.load-head.result % row_limit) c.load-first.result)
+          (ap (λ (z : Sizes). z.rows) (sym c.args.self.now.same)) ∙ sym c.next_row-next.ensures)
+          (omega arith) (omega arith),
     )
 
 pub returns-then-found-old-clause-row : goal.returns-then-found-old-clause-row
 returns-then-found-old-clause-row g c =
     let some_free = c.if-row-eq0.false in
-    let saw = c.load-head.ensures.2.3 (omega arith) c.if-tag.false in
-    let t' : ℕ = c.load-head.result / 65536 in
-    let q : ℕ = c.load-head.result % 65536 in
-    let next = c.load-next.ensures.2 t' q (ap (λ (m : Mine g.row.R-Upper.Denot). m.0.stage) saw) in
+    let saw = c.load-head.ensures.2.3 (omega arith) c.if-tag-eq-LAST_TAG.false in
+    let t' : ℕ = c.load-head.result / row_limit in
+    let q : ℕ = c.load-head.result % row_limit in
+    let next = c.load-first.ensures.2 t' q (ap (λ (m : Mine g.row.R-Upper.Denot). m.0.stage) saw) in
     let took =
-    (c.compare_exchange-found.ensures.2.1 t' q c.load-next.result (ap
+    (c.compare_exchange-found.ensures.2.1 t' q c.load-first.result (ap
     (λ (m : Mine g.row.R-Upper.Denot). m.0.stage) next)).0 c.if-found-old.true in
     let same =
-    row_taken c.args.pass.now.seat.me c.load-head.new.seat.me c.load-next.new.seat.me
+    row_taken c.args.pass.now.seat.me c.load-head.new.seat.me c.load-first.new.seat.me
     c.compare_exchange-found.new.seat.me _ _ saw q took.1.0 next
     took.0 took.1.2 in
     let rows = ap (λ (z : Sizes). z.rows) c.requires.own.1 in
@@ -67,14 +72,14 @@ returns-then-found-old-clause-row g c =
 pub returns-else-found-old-clause-row : goal.returns-else-found-old-clause-row
 returns-else-found-old-clause-row g c =
     let some_free = c.if-row-eq0.false in
-    let saw = c.load-head.ensures.2.3 (omega arith) c.if-tag.false in
-    let t' : ℕ = c.load-head.result / 65536 in
-    let q : ℕ = c.load-head.result % 65536 in
-    let next = c.load-next.ensures.2 t' q (ap (λ (m : Mine g.row.R-Upper.Denot). m.0.stage) saw) in
+    let saw = c.load-head.ensures.2.3 (omega arith) c.if-tag-eq-LAST_TAG.false in
+    let t' : ℕ = c.load-head.result / row_limit in
+    let q : ℕ = c.load-head.result % row_limit in
+    let next = c.load-first.ensures.2 t' q (ap (λ (m : Mine g.row.R-Upper.Denot). m.0.stage) saw) in
     let took =
-    (c.compare_exchange-found.ensures.2.1 t' q c.load-next.result (ap
+    (c.compare_exchange-found.ensures.2.1 t' q c.load-first.result (ap
     (λ (m : Mine g.row.R-Upper.Denot). m.0.stage) next)).1 c.if-found-old.false in
-    row_missed c.args.pass.now.seat.me c.load-head.new.seat.me c.load-next.new.seat.me
+    row_missed c.args.pass.now.seat.me c.load-head.new.seat.me c.load-first.new.seat.me
     c.compare_exchange-found.new.seat.me _ _ saw next took
 
 pub returns-then-found-old-clause-frame : goal.returns-then-found-old-clause-frame
@@ -82,9 +87,9 @@ returns-then-found-old-clause-frame g c = record {
   same = let row = returns-then-found-old-clause-row g c in
       let rest =
       still c.args.pass.now.seat.me c.compare_exchange-found.new.seat.me _ _ _ _ _ _ row.3.2 in (
-        c.compare_exchange-found.ensures.0 ∙ (c.load-next.ensures.0 ∙ c.load-head.ensures.0),
+        c.compare_exchange-found.ensures.0 ∙ (c.load-first.ensures.0 ∙ c.load-head.ensures.0),
         c.compare_exchange-found.ensures.1
-            ∙ (c.load-next.ensures.1 ∙ c.load-head.ensures.1),
+            ∙ (c.load-first.ensures.1 ∙ c.load-head.ensures.1),
         rest.0,
         rest.1,
         rest.2,
@@ -98,9 +103,9 @@ pub returns-else-found-old-clause-frame : goal.returns-else-found-old-clause-fra
 returns-else-found-old-clause-frame g c = record {
   same = let rest = still c.args.pass.now.seat.me c.compare_exchange-found.new.seat.me _ _ _ _ _ _
       (returns-else-found-old-clause-row g c) in (
-        c.compare_exchange-found.ensures.0 ∙ (c.load-next.ensures.0 ∙ c.load-head.ensures.0),
+        c.compare_exchange-found.ensures.0 ∙ (c.load-first.ensures.0 ∙ c.load-head.ensures.0),
         c.compare_exchange-found.ensures.1
-            ∙ (c.load-next.ensures.1 ∙ c.load-head.ensures.1),
+            ∙ (c.load-first.ensures.1 ∙ c.load-head.ensures.1),
         rest.0,
         rest.1,
         rest.2,
@@ -113,15 +118,15 @@ returns-else-found-old-clause-frame g c = record {
 pub invariant_of-pass-2 : goal.invariant_of-pass-2
 invariant_of-pass-2 g c =
     let some_free = c.if-row-eq0.false in
-    let saw = c.load-head.ensures.2.3 (omega arith) c.if-tag.false in
-    let t' : ℕ = c.load-head.result / 65536 in
-    let q : ℕ = c.load-head.result % 65536 in
-    let next = c.load-next.ensures.2 t' q (ap (λ (m : Mine g.row.R-Upper.Denot). m.0.stage) saw) in
-    let took = c.compare_exchange-found.ensures.2.1 t' q c.load-next.result (ap
+    let saw = c.load-head.ensures.2.3 (omega arith) c.if-tag-eq-LAST_TAG.false in
+    let t' : ℕ = c.load-head.result / row_limit in
+    let q : ℕ = c.load-head.result % row_limit in
+    let next = c.load-first.ensures.2 t' q (ap (λ (m : Mine g.row.R-Upper.Denot). m.0.stage) saw) in
+    let took = c.compare_exchange-found.ensures.2.1 t' q c.load-first.result (ap
     (λ (m : Mine g.row.R-Upper.Denot). m.0.stage) next) in
     let before = ap (λ (m : Mine g.row.R-Upper.Denot). m.1) next
     ∙ (ap (λ (m : Mine g.row.R-Upper.Denot). m.1) saw ∙ c.args.pass.now.hands) in record {
-      hands = dite (ℕ_discrete c.compare_exchange-found.result (t' * 65536 + q))
+      hands = dite (ℕ_discrete c.compare_exchange-found.result (t' * row_limit + q))
           (λ hit. ap (λ (m : Mine g.row.R-Upper.Denot). m.1) (took.0 hit).1.2 ∙ before)
           (λ miss. ap (λ (m : Mine g.row.R-Upper.Denot). m.1) (took.1 miss) ∙ before);
     }
