@@ -49,5 +49,5 @@ awk -F, -v markdown="$markdown" "$cells"'
     print ""
   }' "$csv"
 awk -F, -v markdown="$markdown" "$cells"'
-  NR == 1 { head("puts of new keys until one is refused", "keys|leaf|levels|rows|objects|refused|rows/object|puts k/s"); next }
-  { row($2 "|" $3 "|" $4 "|" $5 "|" $6 "|" $7 "|" ($7 == "full" ? sprintf("%.3f", $5 / $6) : "-") "|" $8) }' "$rows"
+  NR == 1 { head("puts of new keys until one is refused", "keys|leaf|levels|rows|objects|refused|rows/object|puts k/s|opened ms"); next }
+  { row($2 "|" $3 "|" $4 "|" $5 "|" $6 "|" $7 "|" ($7 == "full" ? sprintf("%.3f", $5 / $6) : "-") "|" $8 "|" sprintf("%.1f", $9 / 1000)) }' "$rows"

@@ -26,7 +26,7 @@ echo "the machine: $(nproc) processors, load $(load) before"
   if command -v escript >/dev/null; then escript bench/tree.escript; fi
 } >"$csv"
 {
-  echo "who,order,leaf,levels,rows,objects,end,thousand_puts_a_second"
+  echo "who,order,leaf,levels,rows,objects,end,thousand_puts_a_second,microseconds_to_open"
   crates/ca_bench/out/ca_bench rows
 } >"$rows"
 echo "load $(load) behind"

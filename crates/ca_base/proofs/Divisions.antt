@@ -25,7 +25,7 @@ use Rattle.ca_rows.specs.declared.sizes.Sizes.{Sizes}
 use Rattle.ca_rows.specs.declared.view.Claim.TheVariants.{Holds}
 use Rattle.ca_rows.specs.declared.view.Pin.{Pin}
 use Rattle.ca_rows.specs.Claims.{claim_of, held_count}
-use Rattle.ca_node.specs.Layout.{body_word}
+use Rattle.ca_node.specs.Layout.{items_word}
 
 -- Of three rows that are apart no two are one.
 pub three_apart : (a b c : ℕ) → AreApart (a ∷ b ∷ c ∷ []) → (a ≢ b) × (a ≢ c) × (b ≢ c)
@@ -118,7 +118,7 @@ module _ (z : Sizes) (m0 m1 m2 m3 m4 : MyTree) (route left right many attempt : 
 
   few : many ≤ z.leaf
   few = let a = as_many in let b = w.shown.is_base.few in
-      omega (arith, length-take (count note.its) (drop body_word note.its))
+      omega (arith, length-take (count note.its) (drop items_word note.its))
 
   left_many : length (take (many / 2) (drop 0 these)) ≡ many / 2
   left_many = let a = as_many in half_long these 0 (many / 2) (omega arith)

@@ -145,11 +145,6 @@ goes_on_behind table z row at says first a b d count place v is l say f same loo
     )
     (subst (λ (m : MyTree). HasSet row place v m d.me) looked wrote)
 
--- The row is held then.
-pub filled_held : (row at count : ℕ) (says : ℕ → ℕ → Type 0) (m m' : MyTree)
-    → HasFilled row at count says m m' → IsHeld m row → IsHeld m' row
-filled_held row at count says m m' f h = let x = f h.0 h.1 h.2 in (x.0, x.1.long ∙ h.1, x.2.here)
-
 -- What is said of the words that were written, in other words.
 pub filled_as : (row at count : ℕ) (says tells : ℕ → ℕ → Type 0) (m m' : MyTree)
     → ((k word : ℕ) → k < count → says k word → tells k word)

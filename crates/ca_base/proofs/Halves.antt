@@ -5,7 +5,7 @@ use Rattle.ca_node.specs.Told.{MyTree}
 use Rattle.ca_base.specs.Writing.{IsHeld, HasFilled, HasWritten, SpellsBase, base_head}
 use Rattle.ca_base.proofs.Filling.{filled_as}
 use Rattle.ca_base.proofs.LastItems.{base_written}
-use Rattle.ca_node.specs.Layout.{body_word}
+use Rattle.ca_node.specs.Layout.{items_word}
 
 -- So many are there.
 pub half_long : (xs : List ℕ) (from count : ℕ) → from + count ≤ length xs
@@ -17,14 +17,14 @@ pub half_written : (row at_level statistic from count : ℕ) (xs : List ℕ) (k 
     → IsHeld k row → at_level < 65536 → from + count ≤ length xs
     → count ≤ 120 → HasFilled row 0 7
     (λ i word. word ≡ get_or (base_head at_level count statistic) i 0) k m
-    → HasFilled row (body_word + 0) count (λ i word. word ≡ get_or xs (from + i) 0) m n
+    → HasFilled row (items_word + 0) count (λ i word. word ≡ get_or xs (from + i) 0) m n
     → HasWritten row (SpellsBase (take count (drop from xs)) at_level statistic) k n
 half_written row at_level statistic from count xs k m n h low inside few head some =
     let these = take count (drop from xs) in
     let long = half_long xs from count inside in
     base_written row at_level count statistic these k m n h low (sym long) (omega arith) head
-    (subst (λ (c : ℕ). HasFilled row body_word c (λ i word. word ≡ get_or these i 0) m n) (sym long)
-    (filled_as row body_word count (λ i word. word ≡ get_or xs (from + i) 0)
+    (subst (λ (c : ℕ). HasFilled row items_word c (λ i word. word ≡ get_or these i 0) m n) (sym long)
+    (filled_as row items_word count (λ i word. word ≡ get_or xs (from + i) 0)
     (λ i word. word ≡ get_or these i 0) m n
     (λ i word l s. s ∙ sym (get_or-take count (drop from xs) i 0 l ∙ get_or-drop from xs i 0))
     some))

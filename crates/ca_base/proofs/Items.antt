@@ -8,7 +8,7 @@ use Rattle.ca_node.specs.Told.{IsShown, IsShownWord}
 use Rattle.ca_node.specs.TreeView.{Note, TreeView}
 use Rattle.ca_base.specs.Finding.{IsReadable, IsObjectShown}
 use Rattle.ca_rows.specs.declared.sizes.Sizes.{Sizes}
-use Rattle.ca_node.specs.Layout.{body_word}
+use Rattle.ca_node.specs.Layout.{items_word}
 
 -- What stands at a place of a list.
 pub at_place : {A : Type 0} (xs : List A) (k : ℕ) (d : A) → k < length xs
@@ -37,7 +37,7 @@ module _ (z : Sizes) (u : TreeView) (base : ℕ) (note : Note) (r : IsReadable z
 
   many : length (items note.its) ≡ count note.its
   many = let few = r.few in let long = r.is_base.long in
-      length-take-le (count note.its) (drop body_word note.its) (omega (arith, length-drop body_word note.its))
+      length-take-le (count note.its) (drop items_word note.its) (omega (arith, length-drop items_word note.its))
 
   -- Its first word says how many objects it has.
   pub count_is : (word : ℕ) → ((its : List ℕ) → IsShown u base its → word ≡ get_or its 0 0)
@@ -48,23 +48,23 @@ module _ (z : Sizes) (u : TreeView) (base : ℕ) (note : Note) (r : IsReadable z
 
   -- The word of an item names its object row.
   pub item_is : (place word : ℕ)
-      → ((its : List ℕ) → IsShown u base its → word ≡ get_or its (body_word + place) 0)
+      → ((its : List ℕ) → IsShown u base its → word ≡ get_or its (items_word + place) 0)
       → place < length note.objects
       → get_elem? (items note.its) place ≡ some word
   item_is place word is l = let m = many in let a = r.is_base.as_many in
       let in_range : place < count note.its = omega arith in
       at_place (items note.its) place 0 (omega arith)
-      ∙ ap some (get_or-take (count note.its) (drop body_word note.its) place 0 in_range
-      ∙ (get_or-drop body_word note.its place 0 ∙ sym (is note.its shows)))
+      ∙ ap some (get_or-take (count note.its) (drop items_word note.its) place 0 in_range
+      ∙ (get_or-drop items_word note.its place 0 ∙ sym (is note.its shows)))
 
   pub item_inside : (place word : ℕ)
-      → ((its : List ℕ) → IsShown u base its → word ≡ get_or its (body_word + place) 0)
+      → ((its : List ℕ) → IsShown u base its → word ≡ get_or its (items_word + place) 0)
       → place < length note.objects
       → (0 < word) × (word ≤ z.rows)
   item_inside place word is l = r.is_base.named word (place, item_is place word is l)
 
   pub object_is : (place word : ℕ)
-      → ((its : List ℕ) → IsShown u base its → word ≡ get_or its (body_word + place) 0)
+      → ((its : List ℕ) → IsShown u base its → word ≡ get_or its (items_word + place) 0)
       → place < length note.objects
       → IsObjectShown u word (get_or note.objects place [])
   object_is place word is l = let its : List ℕ = get_or note.objects place [] in

@@ -11,7 +11,7 @@ use Rattle.ca_base.proofs.Filling.{filled_as, filled_on, rewritten_again}
 use Rattle.ca_base.proofs.Items.{at_place}
 use Rattle.ca_base.proofs.Spelling.{spells_base}
 use Rattle.ca_rows.specs.declared.sizes.Sizes.{Sizes}
-use Rattle.ca_node.specs.Layout.{body_word}
+use Rattle.ca_node.specs.Layout.{items_word}
 
 module _ (z : Sizes) (u : TreeView) (base : ℕ) (shown : IsShownLast z u base) where
   abbrev note : Note
@@ -24,16 +24,16 @@ module _ (z : Sizes) (u : TreeView) (base : ℕ) (shown : IsShownLast z u base) 
   last_inside = let here = shown.here in let high = shown.is_base.in_range in omega arith
 
   in_count : (k : ℕ) → k < length (last_items u) → k < count note.its
-  in_count k l = omega (arith, length-take (count note.its) (drop body_word note.its))
+  in_count k l = omega (arith, length-take (count note.its) (drop items_word note.its))
 
   -- The word of an item, and that it names a row.
-  pub last_item : (k word : ℕ) → word ≡ get_or note.its (body_word + k) 0 → k < length (last_items u)
+  pub last_item : (k word : ℕ) → word ≡ get_or note.its (items_word + k) 0 → k < length (last_items u)
       → word ≡ get_or (last_items u) k 0
   last_item k word is l = is
-      ∙ sym (get_or-take (count note.its) (drop body_word note.its) k 0 (in_count k l)
-      ∙ get_or-drop body_word note.its k 0)
+      ∙ sym (get_or-take (count note.its) (drop items_word note.its) k 0 (in_count k l)
+      ∙ get_or-drop items_word note.its k 0)
 
-  pub item_names : (k word : ℕ) → word ≡ get_or note.its (body_word + k) 0 → k < length (last_items u)
+  pub item_names : (k word : ℕ) → word ≡ get_or note.its (items_word + k) 0 → k < length (last_items u)
       → word ≤ z.rows
   item_names k word is l =
       (shown.is_base.named word (
@@ -47,7 +47,7 @@ pub base_written : (row at_level many statistic : ℕ) (these : List ℕ) (k m n
     → IsHeld k row → at_level < 65536 → many ≡ length these
     → length these ≤ 120
     → HasFilled row 0 7 (λ i word. word ≡ get_or (base_head at_level many statistic) i 0) k m
-    → HasFilled row body_word (length these) (λ i word. word ≡ get_or these i 0) m n
+    → HasFilled row items_word (length these) (λ i word. word ≡ get_or these i 0) m n
     → HasWritten row (SpellsBase these at_level statistic) k n
 base_written row at_level many statistic these k m n h low is few f g = let one = f h.0 h.1 h.2 in
     let two = g one.0 (one.1.long ∙ h.1) one.2.here in (
@@ -103,23 +103,23 @@ module _ (xs these : List ℕ) (before behind : ℕ) (low : before ≤ length xs
       → at_level < 65536
       → many ≡ before + length these + (length xs - behind) → many ≤ 120
       → HasFilled row 0 7 (λ i word. word ≡ get_or (base_head at_level many statistic) i 0) a b
-      → HasFilled row (body_word + 0) before (λ k word. word ≡ get_or xs (0 + k) 0) b d
-      → HasFilled row (body_word + before) (length these) (λ k word. word ≡ get_or these k 0) d e
-      → HasFilled row (body_word + (before + length these)) (length xs - behind)
+      → HasFilled row (items_word + 0) before (λ k word. word ≡ get_or xs (0 + k) 0) b d
+      → HasFilled row (items_word + before) (length these) (λ k word. word ≡ get_or these k 0) d e
+      → HasFilled row (items_word + (before + length these)) (length xs - behind)
       (λ k word. word ≡ get_or xs (behind + k) 0) e f
       → HasWritten row (SpellsBase around at_level statistic) a f
   around_written row at_level many statistic a b d e f h lower is few head one two three =
       let m = many_are in
       base_written row at_level many statistic around a b f h lower (omega arith) (omega arith) head
-      (subst (λ (n : ℕ). HasFilled row body_word n says b f) (sym m)
-      (filled_on row body_word (before + length these) (length xs - behind) says b e f
-      (filled_on row body_word before (length these) says b d e
-      (filled_as row body_word before (λ k word. word ≡ get_or xs (0 + k) 0) says b d
+      (subst (λ (n : ℕ). HasFilled row items_word n says b f) (sym m)
+      (filled_on row items_word (before + length these) (length xs - behind) says b e f
+      (filled_on row items_word before (length these) says b d e
+      (filled_as row items_word before (λ k word. word ≡ get_or xs (0 + k) 0) says b d
       (λ k word l s. first k word l s) one)
-      (filled_as row (body_word + before) (length these) (λ k word. word ≡ get_or these k 0)
+      (filled_as row (items_word + before) (length these) (λ k word. word ≡ get_or these k 0)
       (λ j. says (before + j)) d e
       (λ k word l s. s ∙ sym (middle_are k l)) two))
-      (filled_as row (body_word + (before + length these)) (length xs - behind)
+      (filled_as row (items_word + (before + length these)) (length xs - behind)
       (λ k word. word ≡ get_or xs (behind + k) 0)
       (λ j. says (before + length these + j)) e f (λ k word l s. s ∙ sym (last_are k)) three)))
     where

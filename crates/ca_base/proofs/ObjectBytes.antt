@@ -6,8 +6,18 @@ use Rattle.std.proofs.lemmas.Grind.{same_number_lists}
 use Rattle.std.proofs.Math.Seq.{take-add}
 use Rattle.std.specs.Int.{to_be_bytes, w64}
 use Rattle.ca_term.proofs.Numbers.{length_high_first}
-use Rattle.ca_node.specs.Row.{bytes_in}
+use Rattle.ca_node.specs.Row.{bytes_in, code_words}
 use Rattle.ca_node.proofs.WordOrder.{bytes_long}
+use Rattle.ca_rows.specs.Layout.{row_words}
+use Rattle.ca_node.specs.Layout.{code_word}
+
+-- The words of an object's bytes are as many as there is room for.
+pub code_long : (its : List ℕ) → length its ≡ row_words → length (code_words its) ≡ 125
+code_long its long = omega (arith, length-take 125 (drop code_word its), length-drop code_word its)
+
+-- Each is one of the row's words.
+pub code_at : (its : List ℕ) (i : ℕ) → i < 125 → get_or (code_words its) i 0 ≡ get_or its (code_word + i) 0
+code_at its i l = get_or-take 125 (drop code_word its) i 0 l ∙ get_or-drop code_word its i 0
 
 -- A word has eight bytes.
 pub word_long : (n : ℕ) → length (to_be_bytes w64 n) ≡ 8

@@ -21,7 +21,7 @@ use Rattle.ca_base.proofs.Inserting.{IsInRange}
 use Rattle.ca_rows.specs.declared.sizes.Sizes.{Sizes}
 use Rattle.ca_rows.specs.declared.view.Claim.TheVariants.{Holds}
 use Rattle.ca_rows.specs.Claims.{claim_of}
-use Rattle.ca_node.specs.Layout.{body_word}
+use Rattle.ca_node.specs.Layout.{items_word}
 
 -- An item finds its place and room.
 pub finds_place : (place : Result ℕ ℕ) (n leaf : ℕ) → IsInRange place n → IsRoom place n leaf
@@ -133,4 +133,4 @@ pub few_are : (z : Sizes) (u : TreeView) (base many : ℕ) → IsShownLast z u b
     → many ≡ length (first_note u.notes).objects → z.leaf ≤ 120 → many ≤ 120
 few_are z u base many shown is leaf = let its = (first_note u.notes).its in
     let few = shown.is_base.few in let all = many_are z u base many shown is in
-    omega (arith, length-take (count its) (drop body_word its))
+    omega (arith, length-take (count its) (drop items_word its))

@@ -26,7 +26,7 @@ use Rattle.ca_base.proofs.Inserting.{IsInRange, put_length, elem_or, within, put
 use Rattle.ca_rows.specs.declared.sizes.Sizes.{Sizes}
 use Rattle.ca_rows.specs.declared.view.Claim.TheVariants.{Holds}
 use Rattle.ca_rows.specs.Claims.{claim_of}
-use Rattle.ca_node.specs.Layout.{body_word}
+use Rattle.ca_node.specs.Layout.{items_word}
 
 -- A place among the objects of a map is within the range.
 pub in_range_of : (m : StoreMap) (k : List ℕ) (place : Result ℕ ℕ) → IsPlace m k place
@@ -107,7 +107,7 @@ module _ (z : Sizes) (m : MyTree) (note : Note) (row new : ℕ) (place : Result 
 
   few_items : length (items note.its) ≤ z.leaf
   few_items = let few = n.is_base.few in
-      omega (arith, length-take (count note.its) (drop body_word note.its))
+      omega (arith, length-take (count note.its) (drop items_word note.its))
 
   few : length (put_in (items note.its) place row) ≤ z.leaf
   few = let l = length_put place (items note.its) row range in

@@ -8,7 +8,7 @@ use Rattle.ca_base.specs.Writing.{IsHeld, HasEight, IsFilled, HasFilled, HasWrit
 use Rattle.ca_base.proofs.Filling.{rewritten_again}
 use Rattle.ca_base.proofs.Words.{packed}
 use Rattle.ca_rows.specs.Layout.{row_words}
-use Rattle.ca_node.specs.Layout.{body_word}
+use Rattle.ca_node.specs.Layout.{key_word}
 
 -- The first word, the links and the join word, and the key's bytes from word 11 on.
 pub spells_route : (bytes : List ℕ) (at_level left right attempt form join : ℕ)
@@ -16,7 +16,7 @@ pub spells_route : (bytes : List ℕ) (at_level left right attempt form join : �
     → form ≡ 216172782113783808 + at_level * 65536 + length bytes → join ≡ attempt * 4
     → length bytes ≤ 1000
     → IsFilled 0 4 (λ k word. word ≡ get_or (form ∷ left ∷ right ∷ join ∷ []) k 0) its one
-    → IsFilled body_word ((length bytes + 7) / 8) (HasEight bytes) one new
+    → IsFilled key_word ((length bytes + 7) / 8) (HasEight bytes) one new
     → SpellsRoute at_level bytes left right attempt new
 spells_route bytes at_level left right attempt form join its one new long low is joins short f g =
     record {
@@ -24,10 +24,10 @@ spells_route bytes at_level left right attempt form join its one new long low is
       is_route = let h = first in omega arith;
       level_is = let h = first in omega arith;
       count_is = count_is;
-      key_is = ap (λ n. take n (bytes_in (drop body_word new))) count_is
-          ∙ packed (drop body_word new) bytes ((length bytes + 7) / 8) (omega arith) (omega (
+      key_is = ap (λ n. take n (bytes_in (drop key_word new))) count_is
+          ∙ packed (drop key_word new) bytes ((length bytes + 7) / 8) (omega arith) (omega (
             arith,
-            length-drop body_word new,
+            length-drop key_word new,
             wide,
           )) has_eight;
       left_is = g.before 1 (omega arith) ∙ f.inside 1 (omega arith);
@@ -44,8 +44,8 @@ spells_route bytes at_level left right attempt form join its one new long low is
     count_is : count new ≡ length bytes
     count_is = let h = first in omega arith
 
-    has_eight : (k : ℕ) → k < (length bytes + 7) / 8 → HasEight bytes k (get_or (drop body_word new) k 0)
-    has_eight k l = subst (HasEight bytes k) (sym (get_or-drop body_word new k 0)) (g.inside k l)
+    has_eight : (k : ℕ) → k < (length bytes + 7) / 8 → HasEight bytes k (get_or (drop key_word new) k 0)
+    has_eight k l = subst (HasEight bytes k) (sym (get_or-drop key_word new k 0)) (g.inside k l)
 
 -- A row that was filled with a route's words is a route.
 pub route_written : (row at_level left right attempt form join : ℕ) (bytes : List ℕ)
@@ -53,7 +53,7 @@ pub route_written : (row at_level left right attempt form join : ℕ) (bytes : L
     → form ≡ 216172782113783808 + at_level * 65536 + length bytes → join ≡ attempt * 4
     → length bytes ≤ 1000
     → HasFilled row 0 4 (λ i word. word ≡ get_or (form ∷ left ∷ right ∷ join ∷ []) i 0) k m
-    → HasFilled row body_word ((length bytes + 7) / 8) (HasEight bytes) m n
+    → HasFilled row key_word ((length bytes + 7) / 8) (HasEight bytes) m n
     → HasWritten row (SpellsRoute at_level bytes left right attempt) k n
 route_written row at_level left right attempt form join bytes k m n h low is joins short f g =
     let one = f h.0 h.1 h.2 in

@@ -2,32 +2,27 @@
 use Rattle.std.proofs.Common.{◌≡◌, ℕ, ◌+◌, ◌-◌, ◌*◌, ◌/◌, ◌%◌, ◌<◌, ◌≤◌, List, [], ◌∷◌, length, take, drop, get_or, sym, ap, ◌∙◌, subst, arith, length-drop}
 use Rattle.std.proofs.lemmas.Grind.{same_number_lists}
 use Rattle.std.proofs.lemmas.List.{length-take-le, get_or-take, get_or-drop}
-use Rattle.ca_node.specs.Row.{bytes_in, object, key_place, count}
+use Rattle.ca_node.specs.Row.{bytes_in, object, key_place, count, code_words}
 use Rattle.ca_base.specs.Writing.{HasEight, IsFilled, SpellsObject, SpellsBase}
 use Rattle.ca_base.proofs.Words.{packed, padded}
 use Rattle.ca_rows.specs.Layout.{row_words}
-use Rattle.ca_node.specs.Layout.{body_word, form_unit}
+use Rattle.ca_node.specs.Layout.{code_word, items_word, form_unit}
+use Rattle.ca_base.proofs.ObjectBytes.{code_long, code_at}
 
--- An object row: its first word, and its bytes from word 11 on.
+-- An object row: its first word, and its bytes from the second word on.
 pub spells_object : (bytes : List ℕ) (key_at key_end form : ℕ) (its one new : List ℕ)
-    → length its ≡ row_words → get_or its 0 0 ≡ form
+    → length its ≡ row_words → get_or one 0 0 ≡ form → length one ≡ length its
     → form / form_unit ≡ 1 → form / 4294967296 % 16777216 ≡ key_end - key_at
     → form / 65536 % 65536 ≡ key_at → form % 65536 ≡ length bytes
-    → length bytes ≤ 1000 → IsFilled body_word ((length bytes + 7) / 8) (HasEight bytes) its one
-    → IsFilled (body_word + (length bytes + 7) / 8) (row_words - (body_word + (length bytes + 7) / 8))
-    (λ _ word. word ≡ 0) one new → SpellsObject bytes key_at key_end new
-spells_object bytes key_at key_end form its one new long first is_object is_length is_place is_count
-    short f g = record {
+    → length bytes ≤ 1000 → IsFilled code_word ((length bytes + 7) / 8) (HasEight bytes) one new
+    → SpellsObject bytes key_at key_end new
+spells_object bytes key_at key_end form its one new long first wide_one is_object is_length is_place is_count
+    short f = record {
       long = wide;
       is_object = (
         ap (λ x. x / form_unit) first' ∙ is_object,
-        λ i l. let behind : length bytes ≤ i = subst
-            (λ n. n ≤ i) (ap (λ x. x % 65536) first' ∙ is_count) l in
-            padded (drop body_word new) bytes ((length bytes + 7) / 8) i behind (omega (
-              arith,
-              length-drop body_word new,
-              wide,
-            )) has_eight is_zero,
+        λ i behind inside. padded (code_words new) bytes ((length bytes + 7) / 8) i (omega (arith, count_is))
+            (omega (arith, count_is)) (omega (arith, code_long new wide, wide)) has_eight,
       );
       object_is = object_is;
       key_is = ap (λ n. take n (drop (key_place new) (object new))) (ap
@@ -38,27 +33,22 @@ spells_object bytes key_at key_end form its one new long first is_object is_leng
     }
   where
     first' : get_or new 0 0 ≡ form
-    first' = g.before 0 (omega arith) ∙ (f.before 0 (omega arith) ∙ first)
+    first' = f.before 0 (omega arith) ∙ first
 
     wide : length new ≡ row_words
-    wide = g.long ∙ (f.long ∙ long)
+    wide = f.long ∙ (wide_one ∙ long)
 
-    has_eight : (k : ℕ) → k < (length bytes + 7) / 8 → HasEight bytes k (get_or (drop body_word new) k 0)
-    has_eight k l = subst (HasEight bytes k) (sym (g.before (body_word + k) (omega arith))
-        ∙ sym (get_or-drop body_word new k 0)) (f.inside k l)
+    count_is : count new ≡ length bytes
+    count_is = ap (λ x. x % 65536) first' ∙ is_count
 
-    is_zero : (k : ℕ) → (length bytes + 7) / 8 ≤ k → k < length (drop body_word new)
-        → get_or (drop body_word new) k 0 ≡ 0
-    is_zero k l h = let e : body_word + (length bytes + 7) / 8 + (k - (length bytes + 7) / 8)
-        ≡ body_word + k = omega arith in
-        get_or-drop body_word new k 0 ∙ (ap (λ n. get_or new n 0) (sym e)
-        ∙ g.inside (k - (length bytes + 7) / 8) (omega (arith, length-drop body_word new, wide)))
+    has_eight : (k : ℕ) → k < (length bytes + 7) / 8 → HasEight bytes k (get_or (code_words new) k 0)
+    has_eight k l = subst (HasEight bytes k) (sym (code_at new k (omega arith))) (f.inside k l)
 
     object_is : object new ≡ bytes
-    object_is = ap (λ n. take n (bytes_in (drop body_word new))) (ap (λ x. x % 65536) first' ∙ is_count)
-        ∙ packed (drop body_word new) bytes ((length bytes + 7) / 8) (omega arith) (omega (
+    object_is = ap (λ n. take n (bytes_in (code_words new))) count_is
+        ∙ packed (code_words new) bytes ((length bytes + 7) / 8) (omega arith) (omega (
           arith,
-          length-drop body_word new,
+          code_long new wide,
           wide,
         )) has_eight
 
@@ -67,16 +57,16 @@ pub spells_base : (these : List ℕ) (at_level form statistic : ℕ) (its one ne
     → length its ≡ row_words → at_level < 65536
     → form ≡ 144115188075855872 + at_level * 65536 + length these → length these ≤ 120
     → IsFilled 0 7 (λ k word. word ≡ get_or (form ∷ statistic ∷ 0 ∷ 0 ∷ 0 ∷ 0 ∷ 0 ∷ []) k 0) its one
-    → IsFilled body_word (length these) (λ k word. word ≡ get_or these k 0) one new
+    → IsFilled items_word (length these) (λ k word. word ≡ get_or these k 0) one new
     → SpellsBase these at_level statistic new
 spells_base these at_level form statistic its one new long low is few f g = record {
   long = wide;
   is_base = let h = first in omega arith;
-  items_are = ap (λ n. take n (drop body_word new)) count_is
-      ∙ same_number_lists (take (length these) (drop body_word new)) these wide_items
+  items_are = ap (λ n. take n (drop items_word new)) count_is
+      ∙ same_number_lists (take (length these) (drop items_word new)) these wide_items
       (λ k l. let small : k < length these = omega (arith, wide_items) in
-      get_or-take (length these) (drop body_word new) k 0 small
-      ∙ (get_or-drop body_word new k 0 ∙ g.inside k small));
+      get_or-take (length these) (drop items_word new) k 0 small
+      ∙ (get_or-drop items_word new k 0 ∙ g.inside k small));
   level_is = let h = first in omega arith;
   count_is = count_is;
   unmarked = g.before 2 (omega arith) ∙ f.inside 2 (omega arith);
@@ -92,6 +82,6 @@ spells_base these at_level form statistic its one new long low is few f g = reco
     count_is : count new ≡ length these
     count_is = let h = first in omega arith
 
-    wide_items : length (take (length these) (drop body_word new)) ≡ length these
+    wide_items : length (take (length these) (drop items_word new)) ≡ length these
     wide_items =
-        length-take-le (length these) (drop body_word new) (omega (arith, length-drop body_word new, wide))
+        length-take-le (length these) (drop items_word new) (omega (arith, length-drop items_word new, wide))

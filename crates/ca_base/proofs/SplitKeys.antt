@@ -3,11 +3,10 @@ use Rattle.std.proofs.Common.{◌≡◌, ℕ, ◌+◌, ◌-◌, ◌*◌, ◌/◌
 use Rattle.std.proofs.lemmas.List.{drop-drop}
 use Rattle.std.proofs.Math.Seq.{take-add}
 use Rattle.std.specs.Int.{to_be_bytes, w64}
-use Rattle.ca_node.specs.Row.{bytes_in, count, object, key, key_place, key_length}
+use Rattle.ca_node.specs.Row.{bytes_in, count, object, key, key_place, key_length, code_words}
 use Rattle.ca_node.proofs.WordOrder.{bytes_long}
-use Rattle.ca_base.proofs.ObjectBytes.{part_is}
+use Rattle.ca_base.proofs.ObjectBytes.{part_is, code_long}
 use Rattle.ca_rows.specs.Layout.{row_words}
-use Rattle.ca_node.specs.Layout.{body_word}
 
 -- Behind the bytes from a start on to a place stand those of the next word, up to another place.
 pub next_part : (words so_far : List ℕ) (start at to w : ℕ) → start ≤ at → at < to
@@ -36,7 +35,7 @@ short_key its long = omega (
   arith,
   length-take (key_length its) (drop (key_place its) (object its)),
   length-drop (key_place its) (object its),
-  length-take (count its) (bytes_in (drop body_word its)),
-  bytes_long (drop body_word its),
-  length-drop body_word its,
+  length-take (count its) (bytes_in (code_words its)),
+  bytes_long (code_words its),
+  code_long its long,
 )

@@ -27,7 +27,7 @@ use Rattle.ca_base.specs.Writing.{IsRewritten, SpellsBase}
 use Rattle.ca_base.proofs.Inserting.{elem_or}
 use Rattle.ca_base.proofs.Rebasing.{IsNewBase, gone_is, is_found_at, is_update, new_base, note_is, words_are}
 use Rattle.ca_rows.specs.declared.sizes.Sizes.{Sizes}
-use Rattle.ca_node.specs.Layout.{body_word}
+use Rattle.ca_node.specs.Layout.{items_word}
 
 -- where an element of a list stood from which one was removed
 abbrev past : ℕ → ℕ → ℕ
@@ -84,7 +84,7 @@ module _ (z : Sizes) (m : MyTree) (note : Note) (at new statistic : ℕ) (b : Li
 
   few : length (remove (items note.its) at) ≤ z.leaf
   few = let f = n.is_base.few in let less = length-remove (items note.its) at in_items in
-      omega (arith, length-take (count note.its) (drop body_word note.its))
+      omega (arith, length-take (count note.its) (drop items_word note.its))
 
   pub is_taken_out : IsUpdate z m new (take_update note b at)
   is_taken_out =

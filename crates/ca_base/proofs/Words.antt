@@ -2,7 +2,6 @@
 use Rattle.std.proofs.Common.{◌≡◌, ℕ, zero, suc, ◌+◌, ◌*◌, ◌-◌, ◌/◌, ◌%◌, ◌<◌, ◌≤◌, min, List, [], ◌∷◌, ◌++◌, length, take, drop, get_or, sym, refl, ap, ◌∙◌, subst, ⊎_elim, arith, length-drop, length-append, append-nil}
 use Rattle.std.proofs.lemmas.Bool.{cases_lt}
 use Rattle.std.proofs.lemmas.List.{take_all, take_at, take-append-le, take-append-drop, length-take-le, get_or_append_left, get_or-append_right, get_or-take, get_or-drop, drop-drop}
-use Rattle.std.proofs.Math.ListN.{get_or-eq_default}
 use Rattle.std.proofs.Math.Seq.{take-append-add}
 use Rattle.std.proofs.lemmas.Nat.{be_bytes_8}
 use Rattle.std.specs.Int.{to_be_bytes, from_be_bytes, w64}
@@ -125,18 +124,10 @@ eight_at bytes k w h = subst
       length-drop (8 * k) bytes,
     ))) h
 
--- Behind the bytes that words have there are zeros, where the words behind them are 0.
-pub padded : (words bytes : List ℕ) (n i : ℕ) → length bytes ≤ i → n ≤ length words
-    → ((k : ℕ) → k < n → HasEight bytes k (get_or words k 0))
-    → ((k : ℕ) → n ≤ k → k < length words → get_or words k 0 ≡ 0) → get_or (bytes_in words) i 0 ≡ 0
-padded words bytes n i behind inside each zeros = ⊎_elim
-    (λ (l : i / 8 < length words). let there : i ≡ 8 * (i / 8) + i % 8 = omega arith in
+-- Behind the bytes that words have there are zeros, to the end of the last one of these words.
+pub padded : (words bytes : List ℕ) (n i : ℕ) → length bytes ≤ i → i < 8 * n → n ≤ length words
+    → ((k : ℕ) → k < n → HasEight bytes k (get_or words k 0)) → get_or (bytes_in words) i 0 ≡ 0
+padded words bytes n i behind inside many each = let there : i ≡ 8 * (i / 8) + i % 8 = omega arith in
     ap (λ (k : ℕ). get_or (bytes_in words) k 0) there
-    ∙ (byte_at words (i / 8) (i % 8) l (omega arith)
-    ∙ ⊎_elim (λ (h : i / 8 < n).
-    (each (i / 8) h).zeros (i % 8) (omega (arith, length-drop (8 * (i / 8)) bytes)))
-    (λ (h : n ≤ i / 8). ap (λ (w : ℕ). get_or (to_be_bytes w64 w) (i % 8) 0) (zeros (i / 8) h l)
-    ∙ zero_there (i % 8)) (cases_lt (i / 8) n)))
-    (λ (l : length words ≤ i / 8).
-    get_or-eq_default (bytes_in words) 0 (omega (arith, bytes_long words)))
-    (cases_lt (i / 8) (length words))
+    ∙ (byte_at words (i / 8) (i % 8) (omega arith) (omega arith)
+    ∙ (each (i / 8) (omega arith)).zeros (i % 8) (omega (arith, length-drop (8 * (i / 8)) bytes)))

@@ -6,12 +6,11 @@ use Rattle.ca_model.specs.StoreMap.{IsStoreMap}
 use Rattle.ca_model.specs.Places.{IsPlace}
 use Rattle.ca_node.specs.declared.cursor.Cursor.{Cursor}
 use Rattle.ca_node.specs.Links.{IsIn}
-use Rattle.ca_node.specs.Row.{bytes_in, count, items, pair}
+use Rattle.ca_node.specs.Row.{bytes_in, count, items, pair, code_words}
 use Rattle.ca_node.specs.Told.{IsBaseNote, IsShown, link_word}
 use Rattle.ca_node.specs.TreeView.{Note, TreeView}
 use Rattle.ca_rows.specs.declared.sizes.Sizes.{Sizes}
 use Rattle.ca_rows.specs.Layout.{row_words}
-use Rattle.ca_node.specs.Layout.{body_word}
 
 -- The pass was shown the base, with its objects. They are few enough for a row, and their keys ascend.
 pub record IsReadable (z : Sizes) (u : TreeView) (base : ℕ) (note : Note) : Type 0 where
@@ -35,7 +34,7 @@ pub record IsObjectShown (u : TreeView) (row : ℕ) (its : List ℕ) : Type 0 wh
 
 -- all bytes that an object row has room for; the object's are the first of them
 abbrev pub all_bytes : List ℕ → List ℕ
-all_bytes its = bytes_in (drop body_word its)
+all_bytes its = bytes_in (code_words its)
 
 -- The pass was shown the base, which has an object at this place.
 abbrev pub HasPlace : Sizes → TreeView → ℕ → ℕ → Type 0

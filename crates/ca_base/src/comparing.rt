@@ -1,9 +1,8 @@
 //! How the key of an object that was shown stands to another key.
-ghost use Rattle.ca_node.specs.Layout.{body_word};
 ghost use Rattle.std.specs.Prelude.{◌≡◌, ℕ, ◌+◌, ◌-◌, ◌*◌, ◌/◌, ◌<◌, ◌≤◌, ◌++◌, List, length, take, drop, slice_index, slice_range};
 ghost use Rattle.std.specs.Int.{to_be_bytes, w64};
 ghost use Rattle.ca_model.specs.StoreMap.{bytes_cmp};
-ghost use Rattle.ca_node.specs.Row.{pair};
+ghost use Rattle.ca_node.specs.Row.{code_words, pair};
 ghost use Rattle.ca_base.specs.Finding.{IsObjectShown, all_bytes};
 ghost use Rattle.ca_base.specs.Writing.{HasBytes};
 ghost use Rattle.ca_base.specs.Objects.{IsObjectRead};
@@ -11,7 +10,7 @@ ghost use Rattle.ca_rows.specs.Passes.{OnlyReads};
 ghost use Rattle.ca_node.specs.TreePasses.{tree_of};
 
 use crate::writing::word_of;
-use ca_node::{BODY, TreePass, TreeSpace, load_word};
+use ca_node::{CODE, TreePass, TreeSpace, load_word};
 use ca_term::MOST_CODE_BYTES;
 use std::cmp::Ordering;
 
@@ -67,10 +66,10 @@ fn word_with(space: &TreeSpace, pass: &mut TreePass, row: u32, at: usize, stop: 
     requires object { IsObjectRead space.now pass.old row }
     requires few { stop ≤ 1000 }
     ensures frame { OnlyReads pass.old pass.new }
-    ensures word { (its : List ℕ) → IsObjectShown (tree_of pass.old) row its → at < stop → result ≡ slice_index (drop body_word its) (at / 8) }
+    ensures word { (its : List ℕ) → IsObjectShown (tree_of pass.old) row its → at < stop → result ≡ slice_index (code_words its) (at / 8) }
 {
     if at < stop {
-        load_word(space, pass, row, (BODY as usize + at / 8) as u32)
+        load_word(space, pass, row, (CODE as usize + at / 8) as u32)
     } else {
         0
     }

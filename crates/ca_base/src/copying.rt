@@ -1,5 +1,5 @@
 //! A new base gets the items of the base that was shown last, with one more or without one.
-ghost use Rattle.ca_node.specs.Layout.{body_word};
+ghost use Rattle.ca_node.specs.Layout.{items_word};
 ghost use Rattle.std.specs.Prelude.{◌≡◌, ◌+◌, ◌-◌, ◌<◌, ◌≤◌, ◌++◌, length, take, drop, slice_index};
 ghost use Rattle.std.specs.List.{remove};
 ghost use Rattle.ca_base.specs.Putting.{put_in, IsItemAt, IsPlaceFor, IsShownLast, IsShownWith, last_items};
@@ -10,7 +10,7 @@ ghost use Rattle.ca_node.specs.TreePasses.{tree_of};
 
 use crate::target::Target;
 use crate::writing::{set_word, write_head, write_items};
-use ca_node::{BODY, TreePass, TreeSpace, load_word};
+use ca_node::{ITEMS, TreePass, TreeSpace, load_word};
 
 /// Items of the base that was shown last, in this row: so many, from a place on.
 #[derive(Clone, Copy)]
@@ -103,7 +103,7 @@ fn item_at(space: &TreeSpace, pass: &mut TreePass, base: u32, at: u32) -> u32
     ensures frame { OnlyReads pass.old pass.new }
     ensures item { result ≡ slice_index (last_items (tree_of pass.old)) at }
 {
-    load_word(space, pass, base, BODY + at) as u32
+    load_word(space, pass, base, ITEMS + at) as u32
 }
 
 // Writes such a row: the items before one place of the base that was shown last, these, and the items from another place on.
@@ -154,11 +154,11 @@ pub(crate) fn copy_items(space: &TreeSpace, pass: &mut TreePass, row: u32, to: u
     requires shown { IsShownLast (sizes space.now) (tree_of pass.old) run.base }
     requires places { (run.from + run.count ≤ length (last_items (tree_of pass.old))) × (run.from + run.count ≤ 120) × (to + run.count ≤ 120) }
     ensures frame { StillKeepsList pass.old pass.new }
-    ensures filled { HasFilled row (body_word + to) run.count (λ k word. word ≡ slice_index (last_items (tree_of pass.old)) (run.from + k)) (known pass.old)
+    ensures filled { HasFilled row (items_word + to) run.count (λ k word. word ≡ slice_index (last_items (tree_of pass.old)) (run.from + k)) (known pass.old)
         (known pass.new) }
 {
     for place in 0..run.count {
-        let item = load_word(space, pass, run.base, BODY + run.from + place);
-        set_word(space, pass, row, BODY + to + place, item);
+        let item = load_word(space, pass, run.base, ITEMS + run.from + place);
+        set_word(space, pass, row, ITEMS + to + place, item);
     }
 }

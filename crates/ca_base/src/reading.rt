@@ -9,7 +9,7 @@ ghost use Rattle.ca_rows.specs.Passes.{OnlyReads, IsReading, sizes};
 ghost use Rattle.ca_node.specs.TreePasses.{tree_of};
 
 use ca_model::Code;
-use ca_node::{BODY, TreePass, TreeSpace, load_word};
+use ca_node::{CODE, ITEMS, TreePass, TreeSpace, load_word};
 use ca_term::MOST_CODE_BYTES;
 
 // How many objects a base names that the pass was shown.
@@ -41,7 +41,7 @@ pub fn item(space: &TreeSpace, pass: &mut TreePass, base: u32, place: u32) -> u3
     ensures inside { (0 < result) × (result ≤ (sizes space.now).rows) }
     ensures item { IsItem (sizes space.now) (tree_of pass.old) base place result }
 {
-    load_word(space, pass, base, BODY + place) as u32
+    load_word(space, pass, base, ITEMS + place) as u32
 }
 
 // Copies an object that the pass was shown, eight bytes at a time.
@@ -55,7 +55,7 @@ pub fn copy_object(space: &TreeSpace, pass: &mut TreePass, row: u32, into: &mut 
     let len = MOST_CODE_BYTES.min((load_word(space, pass, row, 0) % 65_536) as usize);
     into.clear();
     for i in 0..(len + 7) / 8 {
-        let bytes = load_word(space, pass, row, BODY + i as u32).to_be_bytes();
+        let bytes = load_word(space, pass, row, CODE + i as u32).to_be_bytes();
         append(into, &bytes[..(len - 8 * i).min(8)]);
     }
 }

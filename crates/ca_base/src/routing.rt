@@ -16,7 +16,7 @@ use crate::reading::append;
 use crate::swapping::STATISTIC;
 use crate::writing::{write_bytes, write_head, write_words};
 use ca_model::Code;
-use ca_node::{BODY, ROUTE, TreePass, TreeSpace, load_word};
+use ca_node::{CODE, KEY, ROUTE, TreePass, TreeSpace, load_word};
 
 /// The rows of a split: a route, and the two bases under it.
 #[derive(Clone, Copy)]
@@ -45,7 +45,7 @@ pub(crate) fn write_route(
     let form = ROUTE + level as u64 * 65_536 + key.len() as u64;
     let (left, right) = (fork.left as u64, fork.right as u64);
     write_words(space, pass, fork.route, &[form, left, right, attempt * 4]);
-    write_bytes(space, pass, fork.route, key);
+    write_bytes(space, pass, fork.route, KEY, key);
 }
 
 /// Writes a half of the base that was shown last: a base row of this level without a mark, with these of its items, and with a statistic of 0.
@@ -72,7 +72,7 @@ pub(crate) fn copy_key(space: &TreeSpace, pass: &mut TreePass, row: u32, into: &
     let mut at = start;
     while at < end {
         let to = end.min(at / 8 * 8 + 8);
-        let bytes = load_word(space, pass, row, (BODY as usize + at / 8) as u32).to_be_bytes();
+        let bytes = load_word(space, pass, row, (CODE as usize + at / 8) as u32).to_be_bytes();
         let first = at % 8;
         append(into, &bytes[first..first + (to - at)]);
         at = to;

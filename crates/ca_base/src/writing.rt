@@ -1,16 +1,15 @@
 //! Rows that a pass holds are written: objects and bases.
-ghost use Rattle.ca_node.specs.Layout.{body_word, form_unit};
+ghost use Rattle.ca_node.specs.Layout.{code_word, items_word, form_unit};
 ghost use Rattle.ca_rows.specs.Layout.{row_words};
 ghost use Rattle.std.specs.Prelude.{◌≡◌, ◌+◌, ◌-◌, ◌*◌, ◌/◌, ◌%◌, ◌<◌, ◌≤◌, length, slice_index};
 ghost use Rattle.ca_base.specs.Writing.{HasSet, HasFilled, HasBytes, HasEight, SpellsObject, HasWritten, base_head};
 ghost use Rattle.ca_base.specs.Holding.{HoldsRow};
 ghost use Rattle.ca_rows.specs.Passes.{StillKeepsList, known};
 
-use ca_node::{BASE, BODY, OBJECT, TreePass, TreeSpace};
-use ca_rows::ROW_WORDS;
+use ca_node::{BASE, CODE, ITEMS, OBJECT, TreePass, TreeSpace};
 
-/// Writes an object row: the first word, and the object's bytes, eight a word, with zeros behind their end to the end of the row. Its key stands
-/// in it from `key_at` to `key_end`.
+/// Writes an object row: the first word, and the object's bytes, eight a word, with zeros behind their end to the end of their last word. What stands
+/// behind that word stays. Its key stands in it from `key_at` to `key_end`.
 pub(crate) fn write_object(
     space: &TreeSpace,
     pass: &mut TreePass,
@@ -26,8 +25,7 @@ pub(crate) fn write_object(
 {
     let form = object_form(object.len(), key_at, key_end);
     space.write_word(pass, row, 0, form);
-    write_bytes(space, pass, row, object);
-    clear(space, pass, row, BODY as usize + object.len().div_ceil(8));
+    write_bytes(space, pass, row, CODE, object);
 }
 
 // Writes the words of a base row of a level without a mark that stand before its items, of which there are so many, with the word for its statistic.
@@ -71,18 +69,6 @@ pub(crate) fn set_word(space: &TreeSpace, pass: &mut TreePass, row: u32, index: 
     }
 }
 
-// Sets the words from one on to 0.
-fn clear(space: &TreeSpace, pass: &mut TreePass, row: u32, from: usize)
-    requires row { HoldsRow space.now pass.old row }
-    requires inside { from ≤ row_words }
-    ensures frame { StillKeepsList pass.old pass.new }
-    ensures filled { HasFilled row from (row_words - from) (λ _ word. word ≡ 0) (known pass.old) (known pass.new) }
-{
-    for place in from..ROW_WORDS {
-        set_word(space, pass, row, place as u32, 0);
-    }
-}
-
 // Sets words from the first one on.
 pub(crate) fn write_words(space: &TreeSpace, pass: &mut TreePass, row: u32, words: &[u64])
     requires row { HoldsRow space.now pass.old row }
@@ -100,24 +86,25 @@ pub(crate) fn write_items(space: &TreeSpace, pass: &mut TreePass, row: u32, at: 
     requires row { HoldsRow space.now pass.old row }
     requires few { at + length items.now ≤ 120 }
     ensures frame { StillKeepsList pass.old pass.new }
-    ensures filled { HasFilled row (body_word + at) (length items.now) (λ k word. word ≡ slice_index items.now k) (known pass.old) (known pass.new) }
+    ensures filled { HasFilled row (items_word + at) (length items.now) (λ k word. word ≡ slice_index items.now k) (known pass.old) (known pass.new) }
 {
     for place in 0..items.len() {
         let item = items[place] as u64;
-        set_word(space, pass, row, BODY + at + place as u32, item);
+        set_word(space, pass, row, ITEMS + at + place as u32, item);
     }
 }
 
-// Writes an object's bytes.
-pub(crate) fn write_bytes(space: &TreeSpace, pass: &mut TreePass, row: u32, bytes: &[u8])
+// Writes bytes, from this word on.
+pub(crate) fn write_bytes(space: &TreeSpace, pass: &mut TreePass, row: u32, from: u32, bytes: &[u8])
     requires row { HoldsRow space.now pass.old row }
+    requires inside { from + 125 ≤ row_words }
     requires short { length bytes.now ≤ 1000 }
     ensures frame { StillKeepsList pass.old pass.new }
-    ensures filled { HasFilled row body_word ((length bytes.now + 7) / 8) (HasEight bytes.now) (known pass.old) (known pass.new) }
+    ensures filled { HasFilled row from ((length bytes.now + 7) / 8) (HasEight bytes.now) (known pass.old) (known pass.new) }
 {
     for place in 0..bytes.len().div_ceil(8) {
         let word = word_of(&bytes[8 * place..]);
-        set_word(space, pass, row, BODY + place as u32, word);
+        set_word(space, pass, row, from + place as u32, word);
     }
 }
 

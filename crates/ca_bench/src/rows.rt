@@ -10,12 +10,13 @@ use std::rt::Clock;
 use std::time::Instant;
 
 // How many objects a leaf may have, how many levels the tree may have, and on how many rows it is.
-const SHAPES: [(u8, u16, u32); 5] = [
+const SHAPES: [(u8, u16, u32); 6] = [
     (60, 64, 4_000),
     (60, 64, 16_000),
     (60, 64, 65_535),
     (24, 64, 65_535),
     (60, 4_096, 65_535),
+    (60, 64, 1_000_000),
 ];
 
 // How many puts of new keys were done before one was refused, and what refused it.
@@ -52,9 +53,11 @@ fn time_fit<R: Clock + Print + Alloc<A = Global>>(
     (leaf, levels, rows): (u8, u16, u32),
 ) -> io::Result<()> {
     let alloc = rt.alloc();
+    let before = Instant::now(rt)?;
     let Ok(mut tree) = tree_of(alloc, rows, 1, tuning_of(leaf, levels)) else {
         return println!(rt; "no memory");
     };
+    let opening = before.elapsed(rt)?.as_micros();
     let Ok(pass) = tree.enroll(alloc) else {
         return println!(rt; "no memory");
     };
@@ -63,12 +66,12 @@ fn time_fit<R: Clock + Print + Alloc<A = Global>>(
     let Fit { objects, end } = put_until_refused(&mut player, keys);
     let nanos = start.elapsed(rt)?.as_nanos();
     let rate = u128::from(objects) * 1_000_000 / nanos.max(1);
-    println!(rt; "tree,{order},{leaf},{levels},{rows},{objects},{end},{rate}")
+    println!(rt; "tree,{order},{leaf},{levels},{rows},{objects},{end},{rate},{opening}")
 }
 
 /// Prints a line of comma-separated values for each order of keys and shape of a tree: who, the order, how many objects a leaf may have, how many
-/// levels the tree may have, how many rows it has, how many objects were put before one was refused, what refused it, and how many thousand were put
-/// a second.
+/// levels the tree may have, how many rows it has, how many objects were put before one was refused, what refused it, how many thousand were put
+/// a second, and in how many microseconds the tree was opened.
 pub fn time_rows<R: Clock + Print + Alloc<A = Global>>(rt: &R) -> io::Result<()> {
     let alloc = rt.alloc();
     for shape in SHAPES {

@@ -37,7 +37,7 @@ use Rattle.ca_node.proofs.Holding.{held_row, unclaimed_row}
 use Rattle.ca_node.proofs.Listing.{in_either, in_front, in_back, Relists, listed_again, known_by_one}
 use Rattle.ca_node.proofs.Looking.{R, loses, hangs_still, of_map, knows_upper, in_more}
 use Rattle.ca_node.proofs.Members.{in_notes, has, given_here, given_else, taken_here, taken_else}
-use Rattle.ca_node.proofs.Rebased.{IsNewBase, relinked_wide, relinked_else, relinked_keeps, relinked_row, base_no_route, out_no_route}
+use Rattle.ca_node.proofs.Rebased.{IsNewBase, relinked_wide, relinked_else, relinked_told, relinked_keeps, relinked_row, base_no_route, out_no_route}
 use Rattle.ca_node.proofs.Remembering.{remembered_leads, unlinked_out, note_stays, way_stays, notes_stay}
 use Rattle.ca_rows.specs.Layout.{row_words}
 use Rattle.ca_node.specs.Layout.{root_word}
@@ -704,6 +704,7 @@ module _ (z : Sizes) (s : State (Unit {0}) (View TreeView)) (r : R z s) (id : �
         same_pin = refl;
         wide = wide' ∙ sym r.wide;
         low = λ i l. control i (omega arith) (λ e. omega arith);
+        announcements = relinked_told z s.words role last shape x.old.row place is_old x.route;
         unlinked_rows = λ c k lo hi n l. unlinked_keeps c k lo n l;
         changes = λ c _ _. changed_now c;
         in_range = claims_in;

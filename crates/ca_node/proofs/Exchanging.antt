@@ -38,7 +38,7 @@ use Rattle.ca_node.proofs.Listing.{Relists, listed_again, known_by_one}
 use Rattle.ca_node.proofs.Looking.{R, knows_upper, in_turn, in_more}
 use Rattle.ca_node.proofs.Members.{in_notes, in_rest, has, given_here, given_else, taken_here, taken_else, other_has, map_is_list}
 use Rattle.ca_node.proofs.Named.{named_once}
-use Rattle.ca_node.proofs.Rebased.{IsNewBase, relinked_wide, relinked_else, relinked_row, relinked_object, base_no_route, out_no_route, relinked_keeps, with_base, with_base_new, with_base_old, with_base_else, shape_rebased}
+use Rattle.ca_node.proofs.Rebased.{IsNewBase, relinked_wide, relinked_else, relinked_told, relinked_row, relinked_object, base_no_route, out_no_route, relinked_keeps, with_base, with_base_new, with_base_old, with_base_else, shape_rebased}
 use Rattle.ca_node.proofs.Remembering.{remembered_leads, unlinked_out, note_stays, way_stays, notes_stay}
 use Rattle.ca_rows.specs.Layout.{row_words}
 use Rattle.ca_node.specs.Layout.{root_word}
@@ -636,6 +636,7 @@ module _ (z : Sizes) (s : State (Unit {0}) (View TreeView)) (r : R z s) (id : �
               same_pin = refl;
               wide = wide' ∙ sym r.wide;
               low = λ i l. control i (omega arith) (λ e. omega arith);
+              announcements = relinked_told z s.words role last shape x.old.row x.old.place is_old new;
               unlinked_rows = λ c k lo hi n l. unlinked_keeps c k lo n l;
               changes = λ c _ _. changed_now c;
               in_range = claims_in;

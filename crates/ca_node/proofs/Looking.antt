@@ -61,6 +61,7 @@ module _ (z : Sizes) where
         same_pin = refl;
         wide = refl;
         low = λ k _. refl;
+        announcements = λ _ _ _. refl;
         unlinked_rows = λ c k _ _ _ _. refl;
         changes = λ c _ _. ((λ l. l), (λ l. l), (λ l. l), (λ l. l), refl);
         in_range = (r.seat id d at).in_range;

@@ -404,11 +404,6 @@ pub answer_whole : (s : Span) (m : StoreMap) (k : List ℕ) (event : Event) → 
     → IsAbout k event → IsAnswer event (part s m) → IsAnswer event m
 answer_whole s m k event h is a = same_answer (part s m) m k event (sym (part_get s m k h)) is a
 
--- It has on the part the answer that it has on the map.
-pub answer_part : (s : Span) (m : StoreMap) (k : List ℕ) (event : Event) → HasKey s k
-    → IsAbout k event → IsAnswer event m → IsAnswer event (part s m)
-answer_part s m k event h is a = same_answer m (part s m) k event (part_get s m k h) is a
-
 -- Lists of one edit each are the same only where the edits are.
 only : (d e : Edit) → d ∷ [] ≡ e ∷ [] → d ≡ e
 only d e is = cc

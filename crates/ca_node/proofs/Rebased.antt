@@ -8,7 +8,7 @@ use mathlib.Core.Option.{some, some-injective, some-ne-none}
 use native.Mathlib.Decide.{ℕ_discrete}
 use Rattle.ca_model.specs.StoreMap.{StoreMap, IsStoreMap}
 use Rattle.ca_rows.specs.declared.sizes.Sizes.{Sizes}
-use Rattle.ca_rows.specs.Words.{IsWide}
+use Rattle.ca_rows.specs.Words.{IsWide, result_of, announced}
 use Rattle.ca_node.specs.Links.{IsIn, IsActive, IsLinked}
 use Rattle.ca_node.specs.Marks.{IsMarkIn}
 use Rattle.ca_node.specs.Place.{Span, all_keys, left_of, right_of, HasKey, part, Place, IsLinkOf}
@@ -18,8 +18,9 @@ use Rattle.ca_node.specs.Stays.{IsSameRow, word_at, row_same}
 use Rattle.ca_node.proofs.Named.{named_once}
 use Rattle.ca_node.specs.Reached.{led_to, base_at, hung, link_range, object_out, item_out, placed_linked, item_linked, reached}
 use Rattle.ca_node.specs.Standing.{IsSameButLinks, objects_same, mark_stays, base_stands, route_stands}
-use Rattle.ca_rows.specs.Layout.{row_words}
-use Rattle.ca_node.specs.Layout.{range_word, root_word}
+use Rattle.ca_rows.specs.Layout.{row_words, pass_words, passes_words}
+use Rattle.ca_node.specs.Layout.{root_word}
+use Rattle.ca_rows.proofs.OwnWords.{announced_else, result_else}
 
 -- The row is a route.
 abbrev pub IsRoute : (ℕ → Role) → ℕ → Type 0
@@ -47,56 +48,6 @@ pub record IsNewBase (z : Sizes) (words : List ℕ) (role : ℕ → Role) (place
   pub marked : IsMarkIn words place (row_at words row)
   pub are_objects : (r : ℕ) → IsIn r (items (row_at words row)) → (0 < r) × (r ≤ z.rows)
       × IsObjectRow (row_at words r)
-
--- What is linked beside a base and its objects.
-module _ (z : Sizes) (words : List ℕ) (role : ℕ → Role) (m : StoreMap)
-    (shape : IsShape z words role m) (old : ℕ) (place : Place)
-    (is : role old ≡ Base place) where
-  -- The row has another place, or is an object of another base.
-  abbrev pub IsBeside : ℕ → Type 0
-  IsBeside c = ((p : Place) × (place_of (role c) ≡ some p) × (c ≢ old))
-      ⊎ ((base : ℕ) × (p : Place) × (role base ≡ Base p) × (base ≢ old)
-      × IsIn c (items (row_at words base)))
-
-  -- It is linked.
-  pub beside_linked : (c : ℕ) → IsBeside c → IsLinked words c
-  beside_linked c b = ⊎_elim
-      (λ (t : (p : Place) × (place_of (role c) ≡ some p) × (c ≢ old)).
-      placed_linked z words role m shape c t.0 t.1)
-      (λ (t : (base : ℕ) × (p : Place) × (role base ≡ Base p) × (base ≢ old)
-      × IsIn c (items (row_at words base))).
-      item_linked z words role m shape t.0 t.1 t.2 c t.4)
-      b
-
-  -- What is linked is the base, one of its objects, or beside it.
-  pub linked_was : (c : ℕ) → IsLinked words c → (c ≡ old)
-      ⊎ (IsIn c (items (row_at words old)) ⊎ IsBeside c)
-  linked_was c l = ⊎_elim
-      (λ (t : (p : Place) × (place_of (role c) ≡ some p)). dite (ℕ_discrete c old)
-      (λ (e : c ≡ old). inl e) (λ (d : c ≢ old). inr (inr (inl (t.0, t.1, d)))))
-      (λ (t : (base : ℕ) × (p : Place) × (role base ≡ Base p) × IsIn c (items (row_at words base))).
-      dite (ℕ_discrete t.0 old)
-      (λ (e : t.0 ≡ old). inr (inl (subst (λ (y : ℕ). IsIn c (items (row_at words y))) e t.3)))
-      (λ (d : t.0 ≢ old). inr (inr (inr (t.0, t.1, t.2, d, t.3)))))
-      (reached z words role m shape c l)
-
-  -- What is beside the base is neither the base nor one of its objects.
-  pub beside_other : (p : ℕ) → IsStoreMap p m → (c : ℕ) → IsBeside c → (c ≢ old)
-      × ¬ IsIn c (items (row_at words old))
-  beside_other p is_map c b = ⊎_elim
-      (λ (t : (q : Place) × (place_of (role c) ≡ some q) × (c ≢ old)). (
-        t.2,
-        λ i. some-ne-none t.0
-            (sym t.1 ∙ ap place_of (item_out z words role m shape old place is c i)),
-      ))
-      (λ (t : (base : ℕ) × (q : Place) × (role base ≡ Base q) × (base ≢ old)
-      × IsIn c (items (row_at words base))). (
-        (λ e. let f : Base place ≡ Out = sym is
-            ∙ (ap role (sym e) ∙ item_out z words role m shape t.0 t.1 t.2 c t.4) in cc),
-        (λ i. t.3 (named_once z words role m shape p is_map t.0 old t.1 place t.2 is t.4.0 i.0 c
-            t.4.1 i.1).0),
-      ))
-      b
 
 -- The link of a base is exchanged: it names this row then.
 module _ (z : Sizes) (words : List ℕ) (role : ℕ → Role) (m : StoreMap)
@@ -127,23 +78,20 @@ module _ (z : Sizes) (words : List ℕ) (role : ℕ → Role) (m : StoreMap)
       → get_or (set words place.link row) i 0 ≡ get_or words i 0
   relinked_else i n = get_or-set_other words place.link i row 0 n
 
-  -- Each row but the one that has the link keeps its words.
-  pub relinked_apart : (c : ℕ) → 0 < c → ¬ IsLinkOf c place.link
-      → IsSameRow words (set words place.link row) c
-  relinked_apart c lo n k l = relinked_else (row_words * c + k) (λ e. ⊎_elim
-      (λ (top : place.link ≡ root_word). omega arith)
-      (λ (t : (route : ℕ) × (p : Place) × (key : List ℕ) × (role route ≡ Route p key)
-      × IsLinkOf route place.link). n (⊎_elim
-      (λ (f : place.link ≡ row_words * t.0 + 1). inl (omega arith))
-      (λ (f : place.link ≡ row_words * t.0 + 2). inr (omega arith)) t.4))
-      was.is_link)
-
   -- No word of a range changes.
   pub relinked_ranges : (pass : ℕ) → 0 < pass → pass ≤ 64
-      → get_or (set words place.link row) (range_word pass) 0 ≡ get_or words (range_word pass) 0
-  relinked_ranges pass lo hi = relinked_else (range_word pass) (λ e. ⊎_elim
+      → result_of (set words place.link row) pass ≡ result_of words pass
+  relinked_ranges pass lo hi = result_else words place.link row pass (λ e. let w = shape.wide in ⊎_elim
       (λ (top : place.link ≡ root_word). omega arith)
-      (λ (t : (row_words < place.link) × (place.link < row_words * z.rows + row_words)). let far = t.0 in omega arith)
+      (λ (t : (row_words < place.link) × (place.link < row_words * z.rows + row_words)). let far = t.1 in omega arith)
+      (link_range z words role m shape place.link was.is_link))
+
+  -- No announcement changes.
+  pub relinked_told : (pass : ℕ) → 0 < pass → pass ≤ 64
+      → announced (set words place.link row) pass ≡ announced words pass
+  relinked_told pass lo hi = announced_else words place.link row pass (λ e. let w = shape.wide in ⊎_elim
+      (λ (top : place.link ≡ root_word). omega arith)
+      (λ (t : (row_words < place.link) × (place.link < row_words * z.rows + row_words)). let far = t.1 in omega arith)
       (link_range z words role m shape place.link was.is_link))
 
   -- No join word changes.
@@ -377,13 +325,6 @@ module _ (z : Sizes) (words : List ℕ) (role : ℕ → Role) (m : StoreMap)
       ∙ (ap roles (sym f) ∙ e) in cc)
       (λ (d' : c ≢ old). inr (d', sym (with_base_else role place old new c d d') ∙ e)))
 
-  -- A base spells what it spelled.
-  base_row : (c : ℕ) (p : Place) → role c ≡ Base p
-      → row_at (set words place.link new) c ≡ row_at words c
-  base_row c p e = let at = base_at z words role m shape c p e in
-      relinked_row z words role m shape old place is new c at.some_row at.in_range
-      (base_no_route role c p e)
-
   -- A route is one of the old tree.
   route_was : (c : ℕ) (p : Place) (key : List ℕ) → roles c ≡ Route p key → role c ≡ Route p key
   route_was c p key e = dite (ℕ_discrete c new)
@@ -422,65 +363,3 @@ module _ (z : Sizes) (words : List ℕ) (role : ℕ → Role) (m : StoreMap)
         relinked_idle z words role m shape old place is new c
         (shape.idle c p key (route_was c p key e));
   }
-
-  -- What is linked then is the new base, one of its objects, or what was linked beside the old
-  -- base.
-  pub linked_rebased : (c : ℕ) → IsLinked (set words place.link new) c
-      → (c ≡ new) ⊎ (IsIn c (items (row_at words new))
-      ⊎ IsBeside z words role m shape old place is c)
-  linked_rebased c l = ⊎_elim
-      (λ (t : (p : Place) × (place_of (roles c) ≡ some p)). dite (ℕ_discrete c new)
-      (λ (e : c ≡ new). inl e)
-      (λ (d : c ≢ new). dite (ℕ_discrete c old)
-      (λ (e : c ≡ old). absurd (some-ne-none t.0 (sym t.1 ∙ (ap (λ (y : ℕ). place_of (roles y)) e
-      ∙ ap place_of (with_base_old role place old new rebased_other)))))
-      (λ (d' : c ≢ old).
-      inr (inr (inl (
-        t.0,
-        sym (ap place_of (with_base_else role place old new c d d')) ∙ t.1,
-        d',
-      ))))))
-      (λ (t : (base : ℕ) × (p : Place) × (roles base ≡ Base p)
-      × IsIn c (items (row_at (set words place.link new) base))). ⊎_elim
-      (λ (y : (t.0 ≡ new) × (role old ≡ Base t.1)). inr (inl (subst (λ ws. IsIn c (items ws))
-      (ap (row_at (set words place.link new)) y.0
-      ∙ relinked_row z words role m shape old place is new new b.some_row b.in_range
-      (out_no_route role new b.is_out)) t.3)))
-      (λ (y : (t.0 ≢ old) × (role t.0 ≡ Base t.1)). inr (inr (inr (
-        t.0,
-        t.1,
-        y.1,
-        y.0,
-        subst (λ ws. IsIn c (items ws))
-            (base_row t.0 t.1 y.1) t.3,
-      ))))
-      (stood t.0 t.1 t.2))
-      (reached z (set words place.link new) roles n shape_rebased c l)
-
-  -- What is beside the old base is linked then.
-  pub beside_rebased : (c : ℕ) → IsBeside z words role m shape old place is c
-      → IsLinked (set words place.link new) c
-  beside_rebased c y = ⊎_elim
-      (λ (t : (p : Place) × (place_of (role c) ≡ some p) × (c ≢ old)).
-      placed_linked z (set words place.link new) roles n shape_rebased c t.0
-      (ap place_of (keeps c t.0 t.1 t.2) ∙ t.1))
-      (λ (t : (base : ℕ) × (p : Place) × (role base ≡ Base p) × (base ≢ old)
-      × IsIn c (items (row_at words base))).
-      item_linked z (set words place.link new) roles n shape_rebased t.0 t.1
-      (keeps t.0 t.1 (ap place_of t.2) t.3 ∙ t.2) c
-      (subst (λ ws. IsIn c (items ws)) (sym (base_row t.0 t.1 t.2)) t.4))
-      y
-
-  -- So is the new base.
-  pub new_rebased : IsLinked (set words place.link new) new
-  new_rebased = placed_linked z (set words place.link new) roles n shape_rebased new place fills
-
-  -- So are its objects.
-  pub item_rebased : (c : ℕ) → IsIn c (items (row_at words new))
-      → IsLinked (set words place.link new) c
-  item_rebased c i =
-      item_linked z (set words place.link new) roles n shape_rebased new place
-      (with_base_new role place old new) c
-      (subst (λ ws. IsIn c (items ws))
-      (sym (relinked_row z words role m shape old place is new new b.some_row b.in_range
-      (out_no_route role new b.is_out))) i)

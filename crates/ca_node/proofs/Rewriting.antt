@@ -119,15 +119,3 @@ module _ (z : Sizes) (s : State (Unit {0}) (View TreeView)) (r : R z s) (id : �
             (subst (λ (w : TreeView). IsIn way w.ways) (sym y.2) i);
         ended = k.ended;
       }
-
-  -- The whole rule holds again.
-  pub rewrite_step : R z record {
-    words = words';
-    homes = s.homes;
-    views = set s.views id (relinked me
-        (taken_out (x.old.row ∷ x.goes) (given (new ∷ x.comes) d.claims)) rewritten).0;
-  }
-  rewrite_step =
-      exchange_step z s r id me at new x u hit r.above.history mark has_then others_have rewritten
-      refl refl refl f.edits f.by_passes own_knows
-      others_know

@@ -4,7 +4,7 @@ use Rattle.ca_node.specs.Told.{IsShownWord}
 use Rattle.ca_node.specs.Tree.{IsFixed}
 use Rattle.ca_node.specs.TreeView.{TreeView}
 use Rattle.ca_node.specs.Walking.{IsRouteShown}
-use Rattle.ca_node.specs.Layout.{body_word}
+use Rattle.ca_node.specs.Layout.{key_word}
 
 -- The word at a fixed place of the route was shown.
 pub fixed_word : (u : TreeView) (row : ℕ) (its : List ℕ) (index : ℕ) → IsRouteShown u row its
@@ -16,5 +16,5 @@ pub first_fixed : IsFixed 0
 first_fixed = (omega arith, λ e. omega arith, λ e. omega arith, λ e. omega arith)
 
 -- So is each word that has bytes of the key.
-pub key_fixed : (i : ℕ) → i < 125 → IsFixed (body_word + i)
+pub key_fixed : (i : ℕ) → i < 125 → IsFixed (key_word + i)
 key_fixed i l = (omega arith, λ e. omega arith, λ e. omega arith, λ e. omega arith)

@@ -14,7 +14,7 @@ use Rattle.ca_term.proofs.Numbers.{less, same, high_first_cmp, length_high_first
 use Rattle.ca_model.specs.StoreMap.{bytes_cmp}
 use Rattle.ca_node.specs.Row.{bytes_in, count, route_key}
 use Rattle.ca_rows.specs.Layout.{row_words}
-use Rattle.ca_node.specs.Layout.{body_word}
+use Rattle.ca_node.specs.Layout.{key_word}
 
 -- Where the first parts differ, they decide.
 pub parts_decide : (n : ℕ) (xs ys : List ℕ) → bytes_cmp (take n xs) (take n ys) ≢ Equal
@@ -95,34 +95,34 @@ module _ (its : List ℕ) (long : length its ≡ row_words) (short : count its �
   -- The key has as many bytes as the first word says.
   pub key_long : length (route_key its) ≡ count its
   key_long =
-      length-take-le (count its) (bytes_in (drop body_word its)) (omega (
+      length-take-le (count its) (bytes_in (drop key_word its)) (omega (
         arith,
-        bytes_long (drop body_word its),
-        length-drop body_word its,
+        bytes_long (drop key_word its),
+        length-drop key_word its,
       ))
 
   -- The first bytes at a word's place are those of the word.
   pub key_part : (i n : ℕ) → n ≤ 8 → 8 * i + n ≤ count its → i < 125
-      → take n (drop (8 * i) (route_key its)) ≡ take n (to_be_bytes w64 (get_or its (body_word + i) 0))
+      → take n (drop (8 * i) (route_key its)) ≡ take n (to_be_bytes w64 (get_or its (key_word + i) 0))
   key_part i n few inside low =
       let left : count its ≡ 8 * i + (count its - 8 * i) = omega arith in
-      ap (λ (k : ℕ). take n (drop (8 * i) (take k (bytes_in (drop body_word its))))) left
-      ∙ (ap (take n) (drop-take (8 * i) (count its - 8 * i) (bytes_in (drop body_word its)))
-      ∙ (take-take n (count its - 8 * i) (drop (8 * i) (bytes_in (drop body_word its))) (omega arith)
-      ∙ (sym (take-take n 8 (drop (8 * i) (bytes_in (drop body_word its))) few)
-      ∙ ap (take n) (word_part (drop body_word its) i (omega (arith, length-drop body_word its))
-      ∙ ap (to_be_bytes w64) (get_or-drop body_word its i 0)))))
+      ap (λ (k : ℕ). take n (drop (8 * i) (take k (bytes_in (drop key_word its))))) left
+      ∙ (ap (take n) (drop-take (8 * i) (count its - 8 * i) (bytes_in (drop key_word its)))
+      ∙ (take-take n (count its - 8 * i) (drop (8 * i) (bytes_in (drop key_word its))) (omega arith)
+      ∙ (sym (take-take n 8 (drop (8 * i) (bytes_in (drop key_word its))) few)
+      ∙ ap (take n) (word_part (drop key_word its) i (omega (arith, length-drop key_word its))
+      ∙ ap (to_be_bytes w64) (get_or-drop key_word its i 0)))))
 
   -- Eight bytes of the key are those of a word.
   whole_part : (i : ℕ) → 8 * i + 8 ≤ count its
-      → take 8 (drop (8 * i) (route_key its)) ≡ to_be_bytes w64 (get_or its (body_word + i) 0)
-  whole_part i inside = let b = length_high_first 8 (get_or its (body_word + i) 0) in
+      → take 8 (drop (8 * i) (route_key its)) ≡ to_be_bytes w64 (get_or its (key_word + i) 0)
+  whole_part i inside = let b = length_high_first 8 (get_or its (key_word + i) 0) in
       key_part i 8 (omega arith) inside (omega arith)
-      ∙ take_all 8 (to_be_bytes w64 (get_or its (body_word + i) 0)) (omega arith)
+      ∙ take_all 8 (to_be_bytes w64 (get_or its (key_word + i) 0)) (omega arith)
 
   -- A word of the route, and eight bytes of the other key at the same place.
   module _ (key : List ℕ) (i word other : ℕ) (inside : 8 * i + 8 ≤ count its)
-      (is : word ≡ get_or its (body_word + i) 0) (fits : word < 2 ^ 64)
+      (is : word ≡ get_or its (key_word + i) 0) (fits : word < 2 ^ 64)
       (fits_too : other < 2 ^ 64) (has : to_be_bytes w64 other ≡ take 8 (drop (8 * i) key))
       (left : IsLeft its key i) where
     -- The eight bytes of both compare as the two numbers.
@@ -161,7 +161,7 @@ module _ (its : List ℕ) (long : length its ≡ row_words) (short : count its �
 
   -- Less than eight bytes are left of one of both: the bytes of one word decide.
   pub rest_decides : (i n word : ℕ) (rest : List ℕ) → n ≡ min (count its - 8 * i) 8 → n ≢ 0
-      → word ≡ get_or its (body_word + i) 0
+      → word ≡ get_or its (key_word + i) 0
       → count its < 8 * i + 8 ⊎ length rest < 8
       → bytes_cmp (take n (to_be_bytes w64 word)) rest
       ≡ bytes_cmp (drop (8 * i) (route_key its)) rest

@@ -11,12 +11,12 @@ use Rattle.ca_model.specs.StoreMap.{StoreMap}
 use Rattle.ca_rows.specs.declared.sizes.Sizes.{Sizes}
 use Rattle.ca_rows.specs.Laws.{Agrees, Framed, Frames, Lends, Pinning, Making, Closing, Opened, Opening}
 use Rattle.ca_rows.specs.Opening.{AreInBounds, AreUsable}
-use Rattle.ca_rows.specs.Words.{IsWide}
+use Rattle.ca_rows.specs.Words.{IsWide, result_of}
 use Rattle.ca_rows.proofs.Making.{at_place}
 use Rattle.ca_rows.proofs.Rules.{all_seats}
 use Rattle.ca_node.specs.Inventory.{IsInventory}
 use Rattle.ca_node.specs.Links.{root, IsIn, IsUnder, IsActive, IsLinked, by_root, by_range, IsLent, IsNoted, by_note, by_item, by_way, by_link, by_link_item}
-use Rattle.ca_node.specs.Opened.{opens_at}
+use Rattle.ca_node.specs.Opened.{opens_at, result_at}
 use Rattle.ca_node.specs.Place.{Place, root_place}
 use Rattle.ca_node.specs.Reached.{same_place, reached, linked_range, nothing_lent}
 use Rattle.ca_node.specs.Row.{row_at, IsObjectRow, IsBaseRow, items, route_key, pair}
@@ -25,8 +25,8 @@ use Rattle.ca_node.specs.Standing.{shape_stands}
 use Rattle.ca_node.specs.Stays.{IsSameRow, word_at, row_same, map_same, linked_on, linked_back, lent_on, lent_back}
 use Rattle.ca_node.specs.Tree.{StartsWith, IsAlive, IsDead, IsTrue, IsTrueWay, IsEnded, Knows, IsTree}
 use Rattle.ca_node.specs.TreeView.{Note, Way, Ended, TreeView, first_inventory, blank, ended_of, and_ended, ended_with, pinned, unpinned}
-use Rattle.ca_rows.specs.Layout.{row_words}
-use Rattle.ca_node.specs.Layout.{body_word, form_unit, range_word, root_word, sequence_unit}
+use Rattle.ca_rows.specs.Layout.{row_words, passes_words}
+use Rattle.ca_node.specs.Layout.{items_word, form_unit, root_word, sequence_unit}
 
 -- A route that a seat remembers is alive, since none is dead as yet.
 pub alive : (role : ℕ → Role) (way : Way) → IsAlive role way ⊎ ((at : ℕ) × IsDead way at) → IsAlive role way
@@ -71,8 +71,8 @@ module _ (z : Sizes) (made : ℕ) (uppers : List TreeView) (words others : List 
 
   active : (pass sequence : ℕ) → (IsActive others pass sequence → IsActive words pass sequence) × (IsActive words pass sequence → IsActive others pass sequence)
   active pass sequence = (
-    (λ x. let lo = x.0 in let hi = x.1 in (x.0, x.1, sym (a.control (range_word pass) (omega arith) (omega arith)) ∙ x.2)),
-    (λ x. let lo = x.0 in let hi = x.1 in (x.0, x.1, a.control (range_word pass) (omega arith) (omega arith) ∙ x.2)),
+    (λ x. let lo = x.0 in let hi = x.1 in (x.0, x.1, sym (a.results pass lo hi) ∙ x.2)),
+    (λ x. let lo = x.0 in let hi = x.1 in (x.0, x.1, a.results pass lo hi ∙ x.2)),
   )
 
   range : (row : ℕ) → IsLinked words row → (0 < row) × (row ≤ z.rows)
@@ -81,23 +81,26 @@ module _ (z : Sizes) (made : ℕ) (uppers : List TreeView) (words others : List 
   in_range : (row : ℕ) → IsLinked words row → row ≤ z.rows
   in_range row l = (range row l).1
 
+  room : (row : ℕ) → row ≤ z.rows → row_words * row + row_words + passes_words ≤ length words
+  room row hi = let w = f.shape.wide in omega arith
+
   same : (row : ℕ) → IsLinked words row → IsSameRow words others row
-  same row l k inside = a.seen row k (range row l).0 (inl l) inside
+  same row l k inside = a.seen row k (range row l).0 (room row (in_range row l)) (inl l) inside
 
   shape_now : IsShape z others f.role (after f.history [])
   shape_now = shape_stands z words others f.role (after f.history []) f.shape wide' same_root
-      (λ pass lo hi. a.control (range_word pass) (omega arith) (omega arith)) same
+      (λ pass lo hi. a.results pass lo hi) same
 
   -- What one seat has a note on.
   module _ (j : ℕ) (u : TreeView) (at : get_elem? uppers j ≡ some u) where
     knows : Knows z.rows made words f.role uppers f.history j u
     knows = f.each_seat j u at
 
-    noted_same : (row : ℕ) → 0 < row → IsNoted words u row → IsSameRow words others row
-    noted_same row lo n k inside = a.seen row k lo (inr (j, u, at, n)) inside
+    noted_same : (row : ℕ) → 0 < row → row ≤ z.rows → IsNoted words u row → IsSameRow words others row
+    noted_same row lo hi n k inside = a.seen row k lo (room row hi) (inr (j, u, at, n)) inside
 
     noted_its : (row : ℕ) → 0 < row → row ≤ z.rows → IsNoted words u row → row_at others row ≡ row_at words row
-    noted_its row lo hi n = row_same words others z.rows row f.shape.wide wide' hi (noted_same row lo n)
+    noted_its row lo hi n = row_same words others z.rows row f.shape.wide wide' hi (noted_same row lo hi n)
 
     note_now : (note : Note) → IsIn note u.notes → IsTrue z.rows others f.role note
     note_now note i = let t = knows.notes note i in record {
@@ -117,11 +120,11 @@ module _ (z : Sizes) (made : ℕ) (uppers : List TreeView) (words others : List 
     way_now : (way : Way) → IsIn way u.ways → IsTrueWay others f.role way
     way_now way i = let t = knows.ways way i in record {
       stands = t.stands;
-      spells = λ index fixed. noted_same way.row (way_range way i).0 (by_way way way.row i refl) index fixed.0 ∙ t.spells index fixed;
+      spells = λ index fixed. noted_same way.row (way_range way i).0 (way_range way i).1 (by_way way way.row i refl) index fixed.0 ∙ t.spells index fixed;
     }
 
     under_back : (way : Way) → IsIn way u.ways → (row : ℕ) → IsUnder others way.row row → IsUnder words way.row row
-    under_back way i row under = let s = noted_same way.row (way_range way i).0 (by_way way way.row i refl) in
+    under_back way i row under = let s = noted_same way.row (way_range way i).0 (way_range way i).1 (by_way way way.row i refl) in
         ⊎_elim (λ e. inl (sym (s 1 (omega arith)) ∙ e)) (λ e. inr (sym (s 2 (omega arith)) ∙ e)) under
 
     under_range : (way : Way) → IsIn way u.ways → (row : ℕ) → IsUnder words way.row row → (0 < row) × (row ≤ z.rows)
@@ -471,13 +474,10 @@ tree_closing = record {
   spent_notes = λ words r. no_notes words (blank 0) r refl refl;
 }
 
--- The words of ranges at the start.
-opens_low : (z : Sizes) (i : ℕ) → i < root_word → opens_at z i ≡ sequence_unit * z.starts.sequence
-opens_low z i l = grind (arith, nat_tests)
-
 -- The words at the start.
 module _ (z : Sizes) (words : List ℕ) (bounds : AreInBounds z) (usable : AreUsable z) (wide : IsWide z.rows words)
-    (above : (i : ℕ) → 66 ≤ i → i < 272 → get_or words i 0 ≡ opens_at z i) where
+    (above : (i : ℕ) → 2 ≤ i → i < 272 → get_or words i 0 ≡ opens_at z i)
+    (results : (pass : ℕ) → 0 < pass → pass ≤ 64 → result_of words pass ≡ result_at z) where
   root_is : root words ≡ 1
   root_is = above root_word (omega arith) (omega arith)
 
@@ -485,7 +485,7 @@ module _ (z : Sizes) (words : List ℕ) (bounds : AreInBounds z) (usable : AreUs
   first_word = word_at words 1 0 (omega arith) ∙ above row_words (omega arith) (omega arith)
 
   no_items : items (row_at words 1) ≡ []
-  no_items = ap (λ n. take (n % 65536) (drop body_word (row_at words 1))) first_word
+  no_items = ap (λ n. take (n % 65536) (drop items_word (row_at words 1))) first_word
 
   -- row 1 is the one base
   role_of : ℕ → Role
@@ -522,8 +522,8 @@ module _ (z : Sizes) (words : List ℕ) (bounds : AreInBounds z) (usable : AreUs
       (λ (same : row ≡ 1). let x : Base root_place ≡ Route p key = sym role_one ∙ (ap role_of (sym same) ∙ e) in cc)
       (λ n. let x : Out ≡ Route p key = sym (role_other row n) ∙ e in cc)
 
-  range_is : (pass : ℕ) → 0 < pass → pass ≤ 64 → get_or words (range_word pass) 0 ≡ sequence_unit * z.starts.sequence
-  range_is pass lo hi = above (range_word pass) (omega arith) (omega arith) ∙ opens_low z (range_word pass) (omega arith)
+  range_is : (pass : ℕ) → 0 < pass → pass ≤ 64 → result_of words pass ≡ sequence_unit * z.starts.sequence
+  range_is = results
 
   shape_there : IsShape z words role_of []
   shape_there = record {
@@ -593,5 +593,5 @@ module _ (z : Sizes) (words : List ℕ) (bounds : AreInBounds z) (usable : AreUs
     notes = λ r. no_notes words (blank 0) r refl refl;
   }
 
-pub tree_opening : Opening IsLinked IsLent IsNoted IsTree opens_at (blank 0)
-tree_opening z words bounds usable wide above = opened z words bounds usable wide above
+pub tree_opening : Opening IsLinked IsLent IsNoted IsTree opens_at result_at (blank 0)
+tree_opening z words bounds usable wide above results = opened z words bounds usable wide above results

@@ -5,7 +5,8 @@ use lib.ListN.{get_elem?}
 use Rattle.ca_node.specs.Row.{row_at, IsBaseRow, IsRouteRow, items, mark, mark_owner, mark_number, mark_bound}
 use Rattle.ca_node.specs.TreeView.{Note, Way, TreeView}
 use Rattle.ca_rows.specs.Layout.{row_words, row_limit}
-use Rattle.ca_node.specs.Layout.{range_word, root_word, sequence_unit}
+use Rattle.ca_node.specs.Layout.{root_word, sequence_unit}
+use Rattle.ca_rows.specs.Words.{result_of}
 
 -- the row that the root link names
 abbrev pub root : List ℕ → ℕ
@@ -25,7 +26,7 @@ IsUnder words route row = (slice_index words (row_words * route + 1) ≡ row) �
 
 -- The range with this sequence of this pass is active.
 abbrev pub IsActive : List ℕ → ℕ → ℕ → Type 0
-IsActive words pass sequence = (0 < pass) × (pass ≤ 64) × (slice_index words (range_word pass) ≡ sequence_unit * sequence + row_limit)
+IsActive words pass sequence = (0 < pass) × (pass ≤ 64) × (result_of words pass ≡ sequence_unit * sequence + row_limit)
 
 -- An active range marked the base, and ends where this row says.
 abbrev pub IsBoundOf : List ℕ → ℕ → ℕ → Type 0

@@ -4,7 +4,8 @@ use Rattle.ca_rows.specs.declared.sizes.Sizes.{Sizes}
 use Rattle.ca_node.specs.Place.{Place, IsLinkOf}
 use Rattle.ca_node.specs.Row.{row_at, IsBaseRow, count, mark, mark_owner, mark_number, IsUnmarked, join_word, IsIdle, IsPreparing, IsSecured}
 use Rattle.ca_rows.specs.Layout.{row_words}
-use Rattle.ca_node.specs.Layout.{range_word, sequence_unit}
+use Rattle.ca_node.specs.Layout.{sequence_unit}
+use Rattle.ca_rows.specs.Words.{result_of}
 
 -- The mark is that of a range of a pass.
 abbrev pub IsOfRange : List ℕ → Type 0
@@ -21,7 +22,7 @@ IsMark place its = IsUnmarked its ⊎ (IsOfRange its ⊎ IsOfJoin place its)
 -- The operation that marked the base was begun: the range's sequence is no greater than the last one of its pass, and the join's attempt no
 -- greater than the last one of its route.
 abbrev pub IsMarkIn : List ℕ → Place → List ℕ → Type 0
-IsMarkIn words place its = IsUnmarked its ⊎ ((IsOfRange its × (mark_number its ≤ slice_index words (range_word (mark_owner its)) / sequence_unit))
+IsMarkIn words place its = IsUnmarked its ⊎ ((IsOfRange its × (mark_number its ≤ result_of words (mark_owner its) / sequence_unit))
     ⊎ (IsOfJoin place its × (4 * mark_number its ≤ slice_index words (row_words * mark_owner its + 3))))
 
 -- This attempt of the route marked the base that one of its links names.

@@ -45,25 +45,6 @@ module _ (z : Sizes) (words : List ℕ) (role : ℕ → Role) (m : StoreMap) (sh
       (λ (t : (key : List ℕ) × (role row ≡ Route place key)). inr (t.0, route_at row place t.0 t.1, t.1))
       (by_place (role row) place l.hangs)
 
-  -- A link of the tree leads somewhere.
-  pub link_leads : (link : ℕ) → IsLink role link → (least : ℕ) × (span : Span) × LeadsTo words role link least span
-  link_leads link is = ⊎_elim
-      (λ (e : link ≡ root_word). (0, all_keys, subst (λ (i : ℕ). LeadsTo words role i 0 all_keys) (sym e) shape.top))
-      (λ (t : (route : ℕ) × (place : Place) × (key : List ℕ) × (role route ≡ Route place key) × IsLinkOf route link).
-      let at = route_at t.0 t.1 t.2 t.3 in ⊎_elim
-      (λ (e : link ≡ row_words * t.0 + 1). (
-        t.1.level + 1,
-        left_of t.2 t.1.span,
-        subst (λ (i : ℕ). LeadsTo words role i (t.1.level + 1) (left_of t.2 t.1.span)) (sym e) at.left,
-      ))
-      (λ (e : link ≡ row_words * t.0 + 2). (
-        t.1.level + 1,
-        right_of t.2 t.1.span,
-        subst (λ (i : ℕ). LeadsTo words role i (t.1.level + 1) (right_of t.2 t.1.span)) (sym e) at.right,
-      ))
-      t.4)
-      is
-
   -- What has a place is a row in range, under a link of the tree.
   pub hung : (row : ℕ) (place : Place) → place_of (role row) ≡ some place
       → (get_or words place.link 0 ≡ row) × IsLink role place.link × (0 < row) × (row ≤ z.rows)

@@ -1,9 +1,9 @@
 -- What the words of a row spell.
-use Rattle.std.specs.Prelude.{◌≡◌, ℕ, ◌*◌, ◌/◌, ◌%◌, ◌≤◌, List, [], ◌∷◌, ◌++◌, take, drop, map, slice_index}
+use Rattle.std.specs.Prelude.{◌≡◌, ℕ, ◌+◌, ◌*◌, ◌/◌, ◌%◌, ◌<◌, ◌≤◌, List, [], ◌∷◌, ◌++◌, take, drop, map, slice_index}
 use Rattle.std.specs.Int.{to_be_bytes, w64}
 use Rattle.ca_model.specs.StoreMap.{Pair, StoreMap}
 use Rattle.ca_rows.specs.Layout.{row_words}
-use Rattle.ca_node.specs.Layout.{body_word, form_unit}
+use Rattle.ca_node.specs.Layout.{code_word, key_word, items_word, form_unit}
 
 -- the 136 words of a row
 abbrev pub row_at : List ℕ → ℕ → List ℕ
@@ -29,7 +29,7 @@ level its = slice_index its 0 / 65536 % 1099511627776
 
 -- of a base: the object rows that it names, in the order of their keys
 abbrev pub items : List ℕ → List ℕ
-items its = take (count its) (drop body_word its)
+items its = take (count its) (drop items_word its)
 
 -- of a base: which kind of operation marked it (0 none, 1 a range, 2 a join), whose (a pass or a route), which one (a sequence or an
 -- attempt), the row to its left in the same range, and the row that tells where the range ends
@@ -70,20 +70,24 @@ abbrev pub bytes_in : List ℕ → List ℕ
 bytes_in [] = []
 bytes_in (word ∷ words) = to_be_bytes w64 word ++ bytes_in words
 
+-- of an object: the words that have room for its bytes
+abbrev pub code_words : List ℕ → List ℕ
+code_words its = take 125 (drop code_word its)
+
 -- of an object: its bytes, and where its key stands in them
 abbrev pub object : List ℕ → List ℕ
-object its = take (count its) (bytes_in (drop body_word its))
+object its = take (count its) (bytes_in (code_words its))
 
--- The bytes behind the object are 0, to the end of the row.
+-- The bytes behind the object are 0, to the end of its last word. Behind that word anything may stand.
 abbrev pub IsPadded : List ℕ → Type 0
-IsPadded its = (i : ℕ) → count its ≤ i → slice_index (bytes_in (drop body_word its)) i ≡ 0
+IsPadded its = (i : ℕ) → count its ≤ i → i < (count its + 7) / 8 * 8 → slice_index (bytes_in (code_words its)) i ≡ 0
 
 abbrev pub IsObjectRow : List ℕ → Type 0
 IsObjectRow its = (form its ≡ 1) × IsPadded its
 
 -- of a route: its key
 abbrev pub route_key : List ℕ → List ℕ
-route_key its = object its
+route_key its = take (count its) (bytes_in (drop key_word its))
 
 abbrev pub key_place : List ℕ → ℕ
 key_place its = slice_index its 0 / 65536 % 65536

@@ -6,7 +6,7 @@ use Rattle.std.proofs.lemmas.Grind.{same_number_lists}
 use mathlib.Core.Option.{some}
 use Rattle.ca_model.specs.StoreMap.{StoreMap}
 use Rattle.ca_rows.specs.declared.sizes.Sizes.{Sizes}
-use Rattle.ca_rows.specs.Words.{IsWide}
+use Rattle.ca_rows.specs.Words.{IsWide, result_of}
 use Rattle.ca_node.specs.Links.{root, IsIn, IsLinked}
 use Rattle.ca_node.specs.Marks.{IsOfRange, IsOfJoin, IsMark, IsMarkIn}
 use Rattle.ca_node.specs.Place.{Span, all_keys, left_of, right_of, part, Place, IsLinkOf}
@@ -15,7 +15,7 @@ use Rattle.ca_node.specs.Shape.{Role, Out, Base, Route, place_of, IsLink, LeadsT
 use Rattle.ca_node.specs.Stays.{IsSameRow, word_at, row_long, row_same, map_same}
 use Rattle.ca_node.specs.Reached.{linked_range, placed_linked, item_linked}
 use Rattle.ca_rows.specs.Layout.{row_words}
-use Rattle.ca_node.specs.Layout.{body_word, form_unit, range_word, root_word, sequence_unit}
+use Rattle.ca_node.specs.Layout.{key_word, form_unit, root_word, sequence_unit}
 
 -- The row has the same words in both tables, but for those of a route's links.
 abbrev pub IsSameButLinks : List ℕ → List ℕ → ℕ → Type 0
@@ -33,16 +33,16 @@ module _ (words others : List ℕ) (rows row : ℕ) (wide : IsWide rows words) (
   first_same = word_same 0 (omega arith) (λ e. omega arith) (λ e. omega arith)
 
   -- So are the words of the bytes.
-  rest_same : drop body_word (row_at others row) ≡ drop body_word (row_at words row)
+  rest_same : drop key_word (row_at others row) ≡ drop key_word (row_at words row)
   rest_same = let long = row_long words rows row wide hi in let long' = row_long others rows row wide' hi in
-      let a = length-drop body_word (row_at words row) in let b = length-drop body_word (row_at others row) in
-      same_number_lists (drop body_word (row_at others row)) (drop body_word (row_at words row)) (omega arith)
-      (λ k l. get_or-drop body_word (row_at others row) k 0
-      ∙ (word_same (body_word + k) (omega arith) (λ e. omega arith) (λ e. omega arith) ∙ sym (get_or-drop body_word (row_at words row) k 0)))
+      let a = length-drop key_word (row_at words row) in let b = length-drop key_word (row_at others row) in
+      same_number_lists (drop key_word (row_at others row)) (drop key_word (row_at words row)) (omega arith)
+      (λ k l. get_or-drop key_word (row_at others row) k 0
+      ∙ (word_same (key_word + k) (omega arith) (λ e. omega arith) (λ e. omega arith) ∙ sym (get_or-drop key_word (row_at words row) k 0)))
 
   -- So it has the same key, if it is a route.
   pub key_same : route_key (row_at others row) ≡ route_key (row_at words row)
-  key_same = ap (λ n. take (n % 65536) (bytes_in (drop body_word (row_at others row)))) first_same
+  key_same = ap (λ n. take (n % 65536) (bytes_in (drop key_word (row_at others row)))) first_same
       ∙ ap (λ xs. take (count (row_at words row)) (bytes_in xs)) rest_same
 
   -- It has the same form.
@@ -68,19 +68,19 @@ pub mark_of : (words : List ℕ) (place : Place) (its : List ℕ) → IsMarkIn w
 mark_of words place its m = ⊎_elim
     (λ (none : IsUnmarked its). inl none)
     (λ some_mark. ⊎_elim
-    (λ (r : IsOfRange its × (mark_number its ≤ get_or words (range_word (mark_owner its)) 0 / sequence_unit)). inr (inl r.0))
+    (λ (r : IsOfRange its × (mark_number its ≤ result_of words (mark_owner its) / sequence_unit)). inr (inl r.0))
     (λ (j : IsOfJoin place its × (4 * mark_number its ≤ get_or words (row_words * mark_owner its + 3) 0)). inr (inr j.0))
     some_mark) m
 
 -- A mark stays one, where no pass's sequence falls, nor the attempt of the route above.
 pub mark_stays : (words others : List ℕ) (place : Place) (its : List ℕ)
-    → ((pass : ℕ) → 0 < pass → pass ≤ 64 → get_or words (range_word pass) 0 ≤ get_or others (range_word pass) 0)
+    → ((pass : ℕ) → 0 < pass → pass ≤ 64 → result_of words pass ≤ result_of others pass)
     → ((route : ℕ) → IsLinkOf route place.link → get_or words (row_words * route + 3) 0 ≤ get_or others (row_words * route + 3) 0)
     → IsMarkIn words place its → IsMarkIn others place its
 mark_stays words others place its ranges joins m = ⊎_elim
     (λ (none : IsUnmarked its). inl none)
     (λ some_mark. ⊎_elim
-    (λ (r : IsOfRange its × (mark_number its ≤ get_or words (range_word (mark_owner its)) 0 / sequence_unit)).
+    (λ (r : IsOfRange its × (mark_number its ≤ result_of words (mark_owner its) / sequence_unit)).
     let before = r.1 in let rises = ranges (mark_owner its) r.0.1 r.0.2 in inr (inl (r.0, omega arith)))
     (λ (j : IsOfJoin place its × (4 * mark_number its ≤ get_or words (row_words * mark_owner its + 3) 0)).
     let before = j.1 in let rises = joins (mark_owner its) j.0.1 in inr (inr (j.0, omega arith)))
@@ -145,7 +145,7 @@ route_stands z words others role role' place key row r wide wide' same under is 
 
 -- Two tables that agree on the root link, on the words of ranges and on each linked row have the same shape.
 module _ (z : Sizes) (words others : List ℕ) (role : ℕ → Role) (m : StoreMap) (shape : IsShape z words role m) (wide : IsWide z.rows others)
-    (same_root : root others ≡ root words) (ranges : (pass : ℕ) → 0 < pass → pass ≤ 64 → get_or others (range_word pass) 0 ≡ get_or words (range_word pass) 0)
+    (same_root : root others ≡ root words) (ranges : (pass : ℕ) → 0 < pass → pass ≤ 64 → result_of others pass ≡ result_of words pass)
     (same : (row : ℕ) → IsLinked words row → IsSameRow words others row) where
   -- A linked row has the same words.
   its_same : (row : ℕ) → IsLinked words row → row_at others row ≡ row_at words row
@@ -210,14 +210,3 @@ module _ (z : Sizes) (words : List ℕ) (role : ℕ → Role) (m n : StoreMap) (
   so_too row (Base place) e s = base_stands z words words role role m n place row s refl (λ r i. refl) s.under s.is_link (parts row place e)
       (λ k. k)
   so_too row (Route place key) e s = s
-
-  -- The other map has the same shape.
-  pub shape_for : IsShape z words role n
-  shape_for = record {
-    wide = shape.wide;
-    top = shape.top;
-    each_row = λ row. so_too row (role row) refl (shape.each_row row);
-    apart = shape.apart;
-    quiet = shape.quiet;
-    idle = shape.idle;
-  }

@@ -7,7 +7,7 @@ ghost use Rattle.ca_node.specs.Walking.{IsRouteShown};
 ghost use Rattle.ca_rows.specs.Passes.{OnlyReads, IsReading, sizes};
 ghost use Rattle.ca_node.specs.TreePasses.{tree_of};
 
-use crate::layout::BODY;
+use crate::layout::KEY;
 use crate::rule::{TreePass, TreeSpace};
 use crate::steps::load_word;
 use std::cmp::Ordering;
@@ -24,7 +24,7 @@ pub fn compare(space: &TreeSpace, pass: &mut TreePass, route: u32, key: &[u8]) -
     let len = (load_word(space, pass, route, 0) % 65_536) as usize;
     let whole = len.min(key.len()) / 8;
     for i in 0..whole {
-        let word = load_word(space, pass, route, BODY + i as u32);
+        let word = load_word(space, pass, route, KEY + i as u32);
         let other = word_at(key, i);
         if word != other {
             return word.cmp(&other);
@@ -54,7 +54,7 @@ fn compare_rest(
     if count == 0 {
         return 0.cmp(&rest.len());
     }
-    let bytes = load_word(space, pass, route, BODY + word as u32).to_be_bytes();
+    let bytes = load_word(space, pass, route, KEY + word as u32).to_be_bytes();
     bytes[..count].cmp(rest)
 }
 

@@ -22,5 +22,11 @@ pub const BASE: u64 = 2 << 56;
 /// A route.
 pub const ROUTE: u64 = 3 << 56;
 
-/// The first word of an object's bytes, of a base's items and of the bytes of a route's key.
-pub const BODY: u32 = 11;
+/// The first word of an object's bytes.
+pub const CODE: u32 = 1;
+
+/// The first word of the bytes of a route's key.
+pub const KEY: u32 = 4;
+
+/// The first word of a base's items.
+pub const ITEMS: u32 = 11;

@@ -1,7 +1,7 @@
 //! The rule of the tree.
 ghost use Rattle.ca_node.specs.Laws.{tree_frames, tree_lends, tree_pinning, tree_making, tree_closing, tree_opening};
 ghost use Rattle.ca_node.specs.Links.{IsLinked, IsLent, IsNoted};
-ghost use Rattle.ca_node.specs.Opened.{opens_at};
+ghost use Rattle.ca_node.specs.Opened.{opens_at, result_at};
 ghost use Rattle.ca_node.specs.Told.{MayLoad, MaySwap, learnt};
 ghost use Rattle.ca_node.specs.Tree.{IsTree};
 ghost use Rattle.ca_node.specs.TreeView.{blank, ended_with, pinned, unpinned};
@@ -23,6 +23,8 @@ impl RowRule for TreeRule {
     ghost first = { blank 0 };
 
     ghost opens = { opens_at };
+
+    ghost result_word = { result_at };
 
     ghost linked = { IsLinked };
 
@@ -50,7 +52,6 @@ impl RowRule for TreeRule {
 
     fn open(sizes: &Sizes, word: u32) -> u64 {
         match word {
-            0..ROOT => SEQUENCE * sizes.starts.sequence,
             ROOT => 1,
             131 => sizes.keypos as u64,
             132 => sizes.leaf as u64,
@@ -59,6 +60,10 @@ impl RowRule for TreeRule {
             137 => 1 << 32,
             _ => 0,
         }
+    }
+
+    fn first_result(sizes: &Sizes) -> u64 {
+        SEQUENCE * sizes.starts.sequence
     }
 
     ghost frames = { tree_frames };

@@ -43,7 +43,7 @@ use Rattle.ca_replace.proofs.OneHand.{seen_still}
 use Rattle.ca_replace.proofs.States.{has_last}
 use Rattle.ca_rows.specs.declared.sizes.Sizes.{Sizes}
 use Rattle.ca_rows.specs.declared.view.Met.{Met}
-use Rattle.ca_node.specs.Layout.{body_word}
+use Rattle.ca_node.specs.Layout.{items_word}
 
 -- One growth behind another.
 pub grows_both : (a b c d e f : ℕ) (u w v : TreeView) → Grows a b c u w → Grows d e f w v
@@ -185,7 +185,7 @@ module _ (z : Sizes) (u : TreeView) (k : List ℕ) (cursor : Cursor) (l : IsLook
 
   few : many ≤ z.leaf
   few = let b = l.readable.is_base in let c = b.as_many in let d = b.few in
-      omega (arith, are, length-take (count note.its) (drop body_word note.its))
+      omega (arith, are, length-take (count note.its) (drop items_word note.its))
 
   middle : x.middle ≡ many / 2
   middle = h.halving.middle_is

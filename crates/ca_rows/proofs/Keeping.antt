@@ -161,10 +161,6 @@ rises_less (x ∷ xs) q up = dite (ℕ_discrete x.row q)
     ))
 
 module _ (rows : ℕ) (claims : List Claimed) (ks : List Kept) (k : AreListed rows claims ks) where
-  -- A list that keeps one row less than all has room for that row.
-  pub kept_few : length ks ≤ rows
-  kept_few = as_many rows ks k.apart (λ r t e. let c = k.are_claimed r t e in (c.0, c.1))
-
   -- What a seat claims otherwise isn't in its list.
   pub not_kept : (q : ℕ) → ((t : ℕ) → claim_of claims q ≢ some (Keeps t)) → kept_of ks q ≡ none
   not_kept q other = by (kept_of ks q) refl

@@ -9,6 +9,7 @@ pub mod HeldCount
 pub mod Keeping
 mod Listing
 pub mod Making
+pub mod OwnWords
 mod PinSteps
 mod Pinned
 pub mod Relinking

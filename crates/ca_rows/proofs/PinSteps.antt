@@ -1,5 +1,5 @@
 -- Announcing the epoch and taking the announcement back keep the rule.
-use Rattle.std.proofs.Common.{◌≡◌, ◌≢◌, ◌==◌, cond, ℕ, ◌+◌, ◌*◌, ◌<◌, ◌≤◌, true, false, List, map, get_or, set, sym, refl, ap, ◌∙◌, subst, inr, ⊎_elim, arith, le_refl, length-set, get_or-set_other, get_or-set_same}
+use Rattle.std.proofs.Common.{◌≡◌, ◌≢◌, ◌⊎◌, ◌==◌, cond, ℕ, ◌+◌, ◌-◌, ◌*◌, ◌<◌, ◌≤◌, true, false, List, map, length, get_or, set, sym, refl, ap, ◌∙◌, subst, inr, ⊎_elim, arith, le_refl, length-set, get_or-set_other, get_or-set_same}
 use Rattle.std.proofs.lemmas.List.{set-get_or}
 use mathlib.Core.Option.{some, none}
 use lib.ListN.{get_elem?}
@@ -12,9 +12,10 @@ use Rattle.ca_rows.specs.Laws.{Agrees, Framed, Frames, Pinning}
 use Rattle.ca_rows.specs.Pins.{IsPin}
 use Rattle.ca_rows.specs.Rule.{upper_of, pin_of, Ruled}
 use Rattle.ca_rows.specs.Told.{Mine, Asked, Announced, Left, begun_of, met_of}
-use Rattle.ca_rows.specs.Words.{epoch, announced}
+use Rattle.ca_rows.specs.Words.{own_word, epoch, announced}
+use Rattle.ca_rows.proofs.OwnWords.{own_is, own_same, announced_else, result_else}
 use Rattle.ca_rows.proofs.Pinned.{NewPin, pins_step, repinned}
-use Rattle.ca_rows.specs.Layout.{row_words}
+use Rattle.ca_rows.specs.Layout.{row_words, pass_words, passes_words}
 
 module _ {U : Type 0} (linked lent : List ℕ → ℕ → Type 0) (noted : List ℕ → U → ℕ → Type 0)
     (fact : Sizes → ℕ → List ℕ → List U → Type 0)
@@ -23,14 +24,26 @@ module _ {U : Type 0} (linked lent : List ℕ → ℕ → Type 0) (noted : List 
   R = Ruled linked lent noted fact z
 
   pub nothing : (us : List U) (words : List ℕ) → Agrees linked lent noted fact us words words
-  nothing us words = record { wide = refl; control = λ i _ _. refl; seen = λ r k _ _ _. refl }
+  nothing us words = record { wide = refl; control = λ i _ _. refl; results = λ _ _ _. refl; seen = λ r k _ _ _ _. refl }
 
-  pub low_agrees : (us : List U) (words : List ℕ) (i x : ℕ) → i < 66
+  -- The epoch, or an announcement, is none of the words that the rule above looks at.
+  pub own_agrees : (us : List U) (words : List ℕ) (i x : ℕ) → row_words + passes_words ≤ length words
+      → (i ≡ 1) ⊎ ((pass : ℕ) × (0 < pass) × (i ≡ own_word words pass))
       → Agrees linked lent noted fact us words (set words i x)
-  low_agrees us words i x l = record {
+  own_agrees us words i x wide which = record {
     wide = length-set words i x;
-    control = λ j lo _. get_or-set_other words i j x 0 (λ e. omega arith);
-    seen = λ r k lo _ _. get_or-set_other words i (row_words * r + k) x 0 (λ e. omega arith);
+    control = λ j lo hi. get_or-set_other words i j x 0 (λ e. ⊎_elim
+        (λ (one : i ≡ 1). omega arith)
+        (λ (t : (pass : ℕ) × (0 < pass) × (i ≡ own_word words pass)).
+        let some = t.1 in let there = t.2 in omega arith) which);
+    results = λ pass lo hi. result_else words i x pass (λ e. ⊎_elim
+        (λ (one : i ≡ 1). omega arith)
+        (λ (t : (q : ℕ) × (0 < q) × (i ≡ own_word words q)).
+        let some = t.1 in let there = t.2 in omega arith) which);
+    seen = λ r k lo within _ inside. get_or-set_other words i (row_words * r + k) x 0 (λ e. ⊎_elim
+        (λ (one : i ≡ 1). omega arith)
+        (λ (t : (pass : ℕ) × (0 < pass) × (i ≡ own_word words pass)).
+        let some = t.1 in let there = t.2 in omega arith) which);
   }
 
   module _ (s : State (Unit {0}) (View U)) (r : R s) (id : ℕ) (d : View U)
@@ -98,7 +111,7 @@ module _ {U : Type 0} (linked lent : List ℕ → ℕ → Type 0) (noted : List 
             same_stage = refl;
             same_claims = refl;
             head = refl;
-            rows_are = λ i _. refl;
+            rows_are = λ i _ _. refl;
             later = le_refl (epoch s.words);
             notes = λ q n. (n, refl, (r.seat id d at).noted_pinned q n);
             pins = pins_step r.made s.words s.words (map pin_of s.views) r.pins id d.pin
@@ -110,24 +123,33 @@ module _ {U : Type 0} (linked lent : List ℕ → ℕ → Type 0) (noted : List 
     -- A store of the seat's own announcement.
     module _ (lo : 0 < d.pin.number) (x : ℕ) where
       abbrev new_words : List ℕ
-      new_words = set s.words (d.pin.number + 1) x
+      new_words = set s.words (own_word s.words d.pin.number) x
 
       small : d.pin.number ≤ 64
       small = let a = own.in_range in let b = r.pins.few in omega arith
 
-      else_word : (i : ℕ) → i ≢ d.pin.number + 1 → get_or new_words i 0 ≡ get_or s.words i 0
-      else_word i n = get_or-set_other s.words (d.pin.number + 1) i x 0 n
+      else_word : (i : ℕ) → i ≢ own_word s.words d.pin.number
+          → get_or new_words i 0 ≡ get_or s.words i 0
+      else_word i n = get_or-set_other s.words (own_word s.words d.pin.number) i x 0 n
 
-      own_word : announced new_words d.pin.number ≡ x
-      own_word = let w = r.wide in let s' = small in
-          get_or-set_same s.words (d.pin.number + 1) x 0 (omega arith)
+      else_told : (pass : ℕ) → 0 < pass → pass ≢ d.pin.number
+          → announced new_words pass ≡ announced s.words pass
+      else_told pass far n = let w = r.wide in
+          announced_else s.words (own_word s.words d.pin.number) x pass (λ e. n (omega arith))
+
+      now_told : announced new_words d.pin.number ≡ x
+      now_told = let w = r.wide in let s' = small in
+          ap (λ (n : ℕ). get_or new_words n 0)
+          (own_same s.words new_words d.pin.number (length-set s.words (own_word s.words d.pin.number) x))
+          ∙ get_or-set_same s.words (own_word s.words d.pin.number) x 0 (omega arith)
 
       agrees : Agrees linked lent noted fact (map upper_of s.views) s.words new_words
-      agrees = let s' = small in
-          low_agrees (map upper_of s.views) s.words (d.pin.number + 1) x (omega arith)
+      agrees = let w = r.wide in
+          own_agrees (map upper_of s.views) s.words (own_word s.words d.pin.number) x (omega arith)
+          (inr (d.pin.number, lo, refl))
 
       same_epoch : epoch new_words ≡ epoch s.words
-      same_epoch = else_word 1 (λ e. omega arith)
+      same_epoch = let w = r.wide in else_word 1 (λ e. omega arith)
 
       -- The seat's pin and upper part become these.
       stores : (e' : Pin) (u' : U)
@@ -148,8 +170,8 @@ module _ {U : Type 0} (linked lent : List ℕ → ℕ → Type 0) (noted : List 
             same_made = refl;
             same_stage = refl;
             same_claims = refl;
-            head = else_word 0 (λ e. omega arith);
-            rows_are = λ i l. let s' = small in else_word i (λ e. omega arith);
+            head = let w = r.wide in else_word 0 (λ e. omega arith);
+            rows_are = λ i _ l. let w = r.wide in else_word i (λ e. omega arith);
             later = subst (λ y. epoch s.words ≤ y) (sym same_epoch) (le_refl (epoch s.words));
             notes = λ q n. absurd (unnoted q n);
             pins = pins_step r.made s.words new_words (map pin_of s.views) r.pins id d.pin e' pin_at
@@ -163,7 +185,7 @@ module _ {U : Type 0} (linked lent : List ℕ → ℕ → Type 0) (noted : List 
     module _ (enters leaves : U → U) (law : Pinning linked lent noted fact enters leaves)
         (lo : 0 < d.pin.number) where
       announce_step : d.pin.pinned ≡ false → R record {
-        words = set s.words (d.pin.number + 1) (d.pin.told + 1);
+        words = set s.words (own_word s.words d.pin.number) (d.pin.told + 1);
         homes = s.homes;
         views = set s.views id
             (record d {
@@ -198,11 +220,11 @@ module _ {U : Type 0} (linked lent : List ℕ → ℕ → Type 0) (noted : List 
           record {
             number_is = refl;
             same_epoch = same_epoch lo (d.pin.told + 1);
-            others = λ i _ _ n. else_word lo (d.pin.told + 1) (i + 1) (λ e. n (omega arith));
+            others = λ i some _ n. else_told lo (d.pin.told + 1) i some n;
             moments = λ _. inr refl;
             is_pass = λ _. lo;
             absent = λ _ p. absurd cc;
-            present = λ _. own_word lo (d.pin.told + 1);
+            present = λ _. now_told lo (d.pin.told + 1);
             pinned_at = λ _. (own.told_past, le_refl (epoch s.words), omega arith);
             told_past = own.told_past;
             scan_past = own.scan_past;
@@ -221,7 +243,7 @@ module _ {U : Type 0} (linked lent : List ℕ → ℕ → Type 0) (noted : List 
           d.upper (framed_now lo (d.pin.told + 1)).stays upper_at)
 
       leave_step : R record {
-        words = set s.words (d.pin.number + 1) 0;
+        words = set s.words (own_word s.words d.pin.number) 0;
         homes = s.homes;
         views = set s.views id
             (record d {
@@ -248,10 +270,10 @@ module _ {U : Type 0} (linked lent : List ℕ → ℕ → Type 0) (noted : List 
           record {
             number_is = refl;
             same_epoch = same_epoch lo 0;
-            others = λ i _ _ n. else_word lo 0 (i + 1) (λ e. n (omega arith));
+            others = λ i some _ n. else_told lo 0 i some n;
             moments = λ p. absurd cc;
             is_pass = λ p. absurd cc;
-            absent = λ _ _. own_word lo 0;
+            absent = λ _ _. now_told lo 0;
             present = λ p. absurd cc;
             pinned_at = λ p. absurd cc;
             told_past = own.told_past;
@@ -273,8 +295,14 @@ module _ {U : Type 0} (linked lent : List ℕ → ℕ → Type 0) (noted : List 
     (r.pins.small, refl),
   )
 
+  -- A pass's own words begin at this place.
+  there : (s : State (Unit {0}) (View U)) → R s → (pass i : ℕ) → 0 < pass
+      → i + pass_words ≡ row_words * z.rows + row_words + pass_words * pass → i ≡ own_word s.words pass
+  there s r pass i lo is = let own = own_is z.rows pass s.words r.wide lo in omega arith
+
   module _ (enters leaves : U → U) (law : Pinning linked lent noted fact enters leaves) where
-    pub announces : (slots id : ℕ) (me : Mine U) (i x : ℕ) → i ≡ me.0.pin.number + 1
+    pub announces : (slots id : ℕ) (me : Mine U) (i x : ℕ)
+        → i + pass_words ≡ row_words * z.rows + row_words + pass_words * me.0.pin.number
         → x ≡ me.0.pin.told + 1 → 0 < me.0.pin.number → me.0.pin.pinned ≡ false
         → Allows R slots id me i (λ _. x) (λ _. Announced enters (step slots i x 0 none) me x)
     announces slots id me i x is_i is_x lo un s r _ at _ = let w : View U =
@@ -299,12 +327,13 @@ module _ {U : Type 0} (linked lent : List ℕ → ℕ → Type 0) (noted : List 
             homes = s.homes;
             views = set s.views id w;
           })
-              (λ j. (sym is_i j, sym is_x j))
+              (λ j. (sym (there s r me.0.pin.number i lo is_i) j, sym is_x j))
               (announce_step s r id me.0 at enters leaves law lo un),
           (epoch s.words, (own s r id me.0 at).told_past, refl),
         )
 
-    pub unpins : (slots id : ℕ) (me : Mine U) (i : ℕ) → i ≡ me.0.pin.number + 1
+    pub unpins : (slots id : ℕ) (me : Mine U) (i : ℕ)
+        → i + pass_words ≡ row_words * z.rows + row_words + pass_words * me.0.pin.number
         → 0 < me.0.pin.number
         → Allows R slots id me i (λ _. 0) (λ _. Left leaves (step slots i 0 0 none) me 0)
     unpins slots id me i is_i lo s r _ at _ =
@@ -322,7 +351,7 @@ module _ {U : Type 0} (linked lent : List ℕ → ℕ → Type 0) (noted : List 
                 set s.words y 0;
             homes = s.homes;
             views = set s.views id w;
-          }) (sym is_i)
+          }) (sym (there s r me.0.pin.number i lo is_i))
               (leave_step s r id me.0 at enters leaves law lo),
           refl,
         )

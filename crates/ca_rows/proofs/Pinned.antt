@@ -129,7 +129,7 @@ module _ {U : Type 0} (linked lent : List ℕ → ℕ → Type 0) (noted : List 
     pub same_stage : d'.stage ≡ d.stage
     pub same_claims : d'.claims ≡ d.claims
     pub head : get_or words' 0 0 ≡ get_or s.words 0 0
-    pub rows_are : (i : ℕ) → 66 ≤ i → get_or words' i 0 ≡ get_or s.words i 0
+    pub rows_are : (i : ℕ) → row_words ≤ i → i < row_words * z.rows + row_words → get_or words' i 0 ≡ get_or s.words i 0
     pub later : epoch s.words ≤ epoch words'
     -- A note that the seat has now it had before, with the same pin.
     pub notes : (q : ℕ) → noted words' d'.upper q → noted s.words d.upper q
@@ -152,15 +152,15 @@ module _ {U : Type 0} (linked lent : List ℕ → ℕ → Type 0) (noted : List 
     within = r.within;
     wide = agrees.wide ∙ r.wide;
     chain = chain_stays z.rows r.owner s.words words' r.count r.chain r.owner (ap
-        (λ x. x % row_limit) n.head) (λ c k lo _ e. (e, next c lo)) (λ c k _ _ e. e);
+        (λ x. x % row_limit) n.head) (λ c k lo hi e. (e, next c lo hi)) (λ c k _ _ e. e);
     row = λ c lo hi.
         row_stays s.words words' (linked s.words) (linked words') (lent s.words) (lent words')
         (NotedAt noted s.words s.views)
         (NotedAt noted words' (set s.views id d')) (claim_at s.views) (claim_at (set s.views id d'))
         n.later c
         record {
-          words_are = λ _ k _. n.rows_are (row_words * c + k)
-              (omega arith);
+          words_are = λ _ k inside. n.rows_are (row_words * c + k)
+              (omega arith) (omega arith);
           links = framed.links c;
           lents = framed.lents c;
           notes = λ _ m x. notes_back m c x;
@@ -187,14 +187,14 @@ module _ {U : Type 0} (linked lent : List ℕ → ℕ → Type 0) (noted : List 
     above = subst (fact z r.made words') (sym (map-set upper_of s.views id d')) n.above;
   }
     where
-      next : (c : ℕ) → 0 < c → first_of words' c ≡ first_of s.words c
-      next c lo = n.rows_are (row_words * c) (omega arith)
+      next : (c : ℕ) → 0 < c → c ≤ z.rows → first_of words' c ≡ first_of s.words c
+      next c lo hi = n.rows_are (row_words * c) (omega arith) (omega arith)
 
       stages : (st : Stage) → IsStage z.rows r.owner s.words st → IsStage z.rows r.owner words' st
       stages = let same = ap (λ x. x / row_limit) n.head in
           stage_stays z.rows r.owner s.words words' r.count r.chain r.owner (subst
           (λ x. head_tag s.words ≤ x) (sym same) (le_refl (head_tag s.words)))
-          (λ _ c k lo hi e. ((k, lo, hi, e), next c lo))
+          (λ _ c k lo hi e. ((k, lo, hi, e), next c lo hi))
 
       claims_are : (j c : ℕ) → claim_at (set s.views id d') j c ≡ claim_at s.views j c
       claims_are j c = dite (ℕ_discrete j id)

@@ -27,7 +27,7 @@ module _ {U : Type 0} (linked lent : List ℕ → ℕ → Type 0) (noted : List 
   R = Rule linked lent noted fact frames z
 
   same : (us : List U) (words : List ℕ) → Agrees linked lent noted fact us words words
-  same us words = record { wide = refl; control = λ i _ _. refl; seen = λ r k _ _ _. refl }
+  same us words = record { wide = refl; control = λ i _ _. refl; results = λ _ _ _. refl; seen = λ r k _ _ _ _. refl }
 
   module _ (s : S) (r : R s) (id : ℕ) (d : View U) (at : get_elem? s.views id ≡ some d) (q t : ℕ)
       (kept : claim_of d.claims q ≡ some (Keeps t))
@@ -66,7 +66,7 @@ module _ {U : Type 0} (linked lent : List ℕ → ℕ → Type 0) (noted : List 
         subst (λ (ws : List ℕ). R record { words = ws; homes = s.homes; views = set s.views id w })
         (sym (set-get_or s.words 1 0))
         (keeps_rule linked lent noted fact frames z s r id d w at refl refl s.words agrees
-        (λ i _ _. refl) refl refl q
+        refl (λ _ _ _. refl) refl refl q
         r.owner r.count r.chain
         (λ c' _ _ n. record {
           owner_is =

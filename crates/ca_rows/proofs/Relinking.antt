@@ -21,7 +21,7 @@ use Rattle.ca_rows.specs.Claims.{claim_of, claim_at}
 use Rattle.ca_rows.specs.Laws.{Lends as LendsLaw}
 use Rattle.ca_rows.specs.Pins.{ArePins}
 use Rattle.ca_rows.specs.Rule.{upper_of, pin_of, NotedAt, Knows, Ruled}
-use Rattle.ca_rows.specs.Words.{epoch, head_tag, first_of}
+use Rattle.ca_rows.specs.Words.{epoch, announced, head_tag, first_of}
 use Rattle.ca_rows.proofs.Accounts.{row_stays}
 use Rattle.ca_rows.proofs.Chains.{chain_stays, stage_stays}
 use Rattle.ca_rows.proofs.Claiming.{claim_mine, claim_others, claim_there}
@@ -85,7 +85,8 @@ module _ {U : Type 0} (linked lent : List ℕ → ℕ → Type 0) (noted : List 
     pub wide : length words' ≡ length s.words
     -- The pool's head, the epoch and the announcements are as they were, and so is each row that
     -- wasn't linked.
-    pub low : (i : ℕ) → i < 66 → get_or words' i 0 ≡ get_or s.words i 0
+    pub low : (i : ℕ) → i < 2 → get_or words' i 0 ≡ get_or s.words i 0
+    pub announcements : (pass : ℕ) → 0 < pass → pass ≤ 64 → announced words' pass ≡ announced s.words pass
     pub unlinked_rows : (c k : ℕ) → 0 < c → c ≤ z.rows → ¬ linked s.words c → k < row_words
         → get_or words' (row_words * c + k) 0 ≡ get_or s.words (row_words * c + k) 0
     pub changes : (c : ℕ) → 0 < c → c ≤ z.rows → IsChange c (kind c)
@@ -335,6 +336,6 @@ module _ {U : Type 0} (linked lent : List ℕ → ℕ → Type 0) (noted : List 
           })
           j x here here;
       pins = subst (ArePins r.made words') (sym same_pins)
-          (pins_stay r.made s.words words' (map pin_of s.views) (λ i _ l. m.low i l) r.pins);
+          (pins_stay r.made s.words words' (map pin_of s.views) now m.announcements r.pins);
       above = m.above;
     }

@@ -18,7 +18,7 @@ use Rattle.ca_rows.specs.Claims.{claim_of, claim_at}
 use Rattle.ca_rows.specs.Laws.{Agrees, Framed, Frames}
 use Rattle.ca_rows.specs.Pins.{ArePins}
 use Rattle.ca_rows.specs.Rule.{upper_of, pin_of, NotedAt, Knows, Ruled}
-use Rattle.ca_rows.specs.Words.{epoch}
+use Rattle.ca_rows.specs.Words.{epoch, announced}
 use Rattle.ca_rows.proofs.Accounts.{row_stays}
 use Rattle.ca_rows.proofs.Claiming.{claim_mine, claim_others, claim_there}
 use Rattle.ca_rows.specs.Layout.{row_words}
@@ -33,9 +33,10 @@ all_seats {A} K l me w mine others j d e = ⊎_elim
 
 -- A step on other words keeps pins.
 pub pins_stay : (made : ℕ) (words words' : List ℕ) (pins : List Pin)
-    → ((i : ℕ) → 0 < i → i < 66 → get_or words' i 0 ≡ get_or words i 0)
+    → epoch words' ≡ epoch words
+    → ((pass : ℕ) → 0 < pass → pass ≤ 64 → announced words' pass ≡ announced words pass)
     → ArePins made words pins → ArePins made words' pins
-pins_stay made words words' pins same p = record {
+pins_stay made words words' pins now same p = record {
   few = p.few;
   small = subst (λ x. x ≤ 4611686018427387904) (sym now) p.small;
   each = λ j e here. let k = p.each j e here in let in_range = k.in_range in let few = p.few in
@@ -43,8 +44,8 @@ pins_stay made words words' pins same p = record {
         in_range = k.in_range;
         is_pass = k.is_pass;
         alone = k.alone;
-        absent = λ some un. same (e.number + 1) (omega arith) (omega arith) ∙ k.absent some un;
-        present = λ pinned. same (e.number + 1) (omega arith) (omega arith) ∙ k.present pinned;
+        absent = λ some un. same e.number some (omega arith) ∙ k.absent some un;
+        present = λ pinned. same e.number (k.is_pass pinned) (omega arith) ∙ k.present pinned;
         pinned_at = λ pinned. subst
             (λ x. (e.told ≤ e.moment) × (e.moment ≤ x)
             × (x ≤ e.moment + 1)) (sym now) (k.pinned_at pinned);
@@ -52,11 +53,8 @@ pins_stay made words words' pins same p = record {
         scan_past = subst (λ x. e.scan ≤ x) (sym now) k.scan_past;
         scanned = λ is. k.scanned (is ∙ now);
       };
-  unused = λ i lo hi. same (i + 1) (omega arith) (omega arith) ∙ p.unused i lo hi;
+  unused = λ i lo hi. same i (omega arith) hi ∙ p.unused i lo hi;
 }
-  where
-    now : epoch words' ≡ epoch words
-    now = same 1 (omega arith) (omega arith)
 
 module _ {U : Type 0} (linked lent : List ℕ → ℕ → Type 0) (noted : List ℕ → U → ℕ → Type 0)
     (fact : Sizes → ℕ → List ℕ → List U → Type 0)
@@ -127,7 +125,8 @@ module _ {U : Type 0} (linked lent : List ℕ → ℕ → Type 0) (noted : List 
         → IsAlone words' (linked words') (lent words') (NotedAt noted words' after.views) q
     alone_now q a = ((λ l. a.0 ((framed.links q).0 l)), (λ m n. a.1 m (notes_back m q n)))
 
-    module _ (low : (i : ℕ) → 0 < i → i < 66 → get_or words' i 0 ≡ get_or s.words i 0)
+    module _ (now : epoch words' ≡ epoch s.words)
+        (announcements : (pass : ℕ) → 0 < pass → pass ≤ 64 → announced words' pass ≡ announced s.words pass)
         (same_sizes : d'.sizes ≡ d.sizes) (same_made : d'.made ≡ d.made)
         (q : ℕ) where
       -- what a step says of each row but q
@@ -179,13 +178,10 @@ module _ {U : Type 0} (linked lent : List ℕ → ℕ → Type 0) (noted : List 
               noted_pinned = λ c m. k.noted_pinned c (note_back j x e c m);
             });
             pins = subst (ArePins r.made words') (sym same_pins)
-                (pins_stay r.made s.words words' (map pin_of s.views) low r.pins);
+                (pins_stay r.made s.words words' (map pin_of s.views) now announcements r.pins);
             above = subst (fact z r.made words') (sym same_uppers) framed.stays;
           }
         where
-          now : epoch words' ≡ epoch s.words
-          now = low 1 (omega arith) (omega arith)
-
           was_mine : (c : ℕ) → claim_of d.claims c ≡ claim_at s.views id c
           was_mine c = sym (claim_there s.views id d d' at c)
 

@@ -1,5 +1,5 @@
 -- Looks at the others' announcements, and moving the epoch, keep the rule.
-use Rattle.std.proofs.Common.{◌≡◌, ◌≢◌, ◌⊎◌, ℕ, ◌+◌, ◌<◌, ◌≤◌, true, false, eqb, List, map, get_or, set, sym, refl, ap, ◌∙◌, subst, inl, inr, ⊎_elim, arith, le_refl, eq-eqb, ne_eqb, get_or-set_other, get_or-set_same}
+use Rattle.std.proofs.Common.{◌*◌, ◌≡◌, ◌≢◌, ◌⊎◌, ℕ, ◌+◌, ◌<◌, ◌≤◌, true, false, eqb, List, map, get_or, set, sym, refl, ap, ◌∙◌, subst, inl, inr, ⊎_elim, arith, le_refl, eq-eqb, ne_eqb, get_or-set_other, get_or-set_same}
 use Rattle.std.proofs.lemmas.Bool.{cases_order}
 use Rattle.std.proofs.lemmas.List.{set-get_or}
 use mathlib.Core.Logic.{dite}
@@ -17,9 +17,11 @@ use Rattle.ca_rows.specs.Laws.{Frames}
 use Rattle.ca_rows.specs.Pins.{IsPin, ArePins}
 use Rattle.ca_rows.specs.Rule.{upper_of, pin_of, Ruled}
 use Rattle.ca_rows.specs.Told.{Mine, Began, Scanned, Moved}
+use Rattle.ca_rows.specs.Layout.{row_words, pass_words}
 use Rattle.ca_rows.specs.Words.{epoch, announced}
+use Rattle.ca_rows.proofs.OwnWords.{own_is, announced_else}
 use Rattle.ca_rows.proofs.Pinned.{NewPin, pins_step, framed, repinned}
-use Rattle.ca_rows.proofs.PinSteps.{nothing, low_agrees, pin_at, upper_at, own}
+use Rattle.ca_rows.proofs.PinSteps.{nothing, own_agrees, pin_at, upper_at, own}
 use Rattle.ca_rows.proofs.Steps.{owned}
 
 pub less_or_not : (a b : ℕ) → (a < b) ⊎ (b ≤ a)
@@ -114,7 +116,7 @@ module _ {U : Type 0} (linked lent : List ℕ → ℕ → Type 0) (noted : List 
           same_stage = refl;
           same_claims = refl;
           head = refl;
-          rows_are = λ i _. refl;
+          rows_are = λ i _ _. refl;
           later = le_refl (epoch s.words);
           notes = λ q n. (n, moment, pinned ∙ (r.seat id d at).noted_pinned q n);
           pins = pins;
@@ -161,7 +163,7 @@ module _ {U : Type 0} (linked lent : List ℕ → ℕ → Type 0) (noted : List 
 
       moved_pins : ArePins r.made moved_words (map pin_of s.views)
       moved_pins = pins_moved r.made s.words moved_words (map pin_of s.views) r.pins next room
-          (λ i lo hi. else_word (i + 1) (λ e. omega arith))
+          (λ i lo hi. let w = r.wide in announced_else s.words 1 (epoch s.words + 1) i (λ e. omega arith))
           (λ j x there p. let low = (r.pins.each j x there).in_range in
           subst (λ y. y ≤ x.moment) found (mine.scanned found j x there (omega arith) p))
 
@@ -174,8 +176,8 @@ module _ {U : Type 0} (linked lent : List ℕ → ℕ → Type 0) (noted : List 
       move_step = let e' : Pin = record d.pin { scan = epoch s.words + 1; upto = 0 } in
           let k = moved_pins.each id d.pin here in
           let agrees =
-          low_agrees linked lent noted fact frames z (map upper_of s.views) s.words 1
-          (epoch s.words + 1) (omega arith) in
+          own_agrees linked lent noted fact frames z (map upper_of s.views) s.words 1
+          (epoch s.words + 1) (let w = r.wide in omega arith) (inl refl) in
           repinned linked lent noted fact frames z s r id d (record d { pin = e' }) at moved_words
           agrees record {
             same_sizes = refl;
@@ -183,7 +185,7 @@ module _ {U : Type 0} (linked lent : List ℕ → ℕ → Type 0) (noted : List 
             same_stage = refl;
             same_claims = refl;
             head = else_word 0 (λ e. omega arith);
-            rows_are = λ i l. else_word i (λ e. omega arith);
+            rows_are = λ i l _. else_word i (λ e. omega arith);
             later = let up = next in omega arith;
             notes = λ q n.
                 let was = (framed linked lent noted fact frames z s r id d d at moved_words
@@ -235,12 +237,14 @@ module _ {U : Type 0} (linked lent : List ℕ → ℕ → Type 0) (noted : List 
     ),
   )
 
-  pub scans : (slots id : ℕ) (me : Mine U) (i : ℕ) → i ≡ me.0.pin.upto + 2
+  pub scans : (slots id : ℕ) (me : Mine U) (i : ℕ)
+      → i + pass_words ≡ row_words * z.rows + row_words + pass_words * (me.0.pin.upto + 1)
       → Allows R slots id me i (λ x. x) (Scanned (step slots i 0 0 none) me)
   scans slots id me i is s r _ at _ = let d = me.0 in let k = mine s r id d at in
       let n : ℕ = get_or s.words i 0 in
       let word : announced s.words (d.pin.upto + 1) ≡ n = ap
-      (λ j. get_or s.words j 0) (omega arith) in
+      (λ j. get_or s.words j 0)
+      (let own = own_is z.rows (d.pin.upto + 1) s.words r.wide (omega arith) in omega arith) in
       let fine : (n ≡ 0 ⊎ d.pin.scan < n) → R record {
         words = set s.words i n;
         homes = s.homes;

@@ -14,7 +14,7 @@ use Rattle.ca_rows.specs.Laws.{Opened, Opening}
 use Rattle.ca_rows.specs.Opening.{AreInBounds, AreUsable, IsOpening}
 use Rattle.ca_rows.specs.Pins.{ArePins, IsPin, unpinned}
 use Rattle.ca_rows.specs.Rule.{fresh, NotedAt, Knows, Ruled}
-use Rattle.ca_rows.specs.Words.{head_row, first_of, next_below}
+use Rattle.ca_rows.specs.Words.{announced, head_row, first_of, next_below}
 use Rattle.ca_rows.proofs.Chains.{in_head, same_height}
 use Rattle.ca_rows.specs.Layout.{row_limit}
 
@@ -67,7 +67,7 @@ module _ (rows : ℕ) where
 
 -- Nobody is pinned, and no pass was made.
 first_pins : (words : List ℕ) → get_or words 1 0 ≤ 4611686018427387904
-    → ((i : ℕ) → 2 ≤ i → i < 66 → get_or words i 0 ≡ 0) → ArePins 0 words (unpinned 0 ∷ [])
+    → ((pass : ℕ) → 0 < pass → pass ≤ 64 → announced words pass ≡ 0) → ArePins 0 words (unpinned 0 ∷ [])
 first_pins words small absent = record {
   few = omega arith;
   small = small;
@@ -84,20 +84,20 @@ first_pins words small absent = record {
         scanned = λ now i d at low p. let x = (only_seat (unpinned 0) d i at).1 in
             let no : false ≡ true = ap (λ (y : Pin). y.pinned) x ∙ p in absurd cc;
       };
-  unused = λ i lo hi. absent (i + 1) (omega arith) (omega arith);
+  unused = λ i lo hi. absent i lo hi;
 }
 
 module _ {U : Type 0} (linked lent : List ℕ → ℕ → Type 0) (noted : List ℕ → U → ℕ → Type 0)
     (fact : Sizes → ℕ → List ℕ → List U → Type 0)
-    (opens : Sizes → ℕ → ℕ) (first : U)
-    (law : Opening linked lent noted fact opens first) (z : Sizes) (words : List ℕ)
+    (opens : Sizes → ℕ → ℕ) (result : Sizes → ℕ) (first : U)
+    (law : Opening linked lent noted fact opens result first) (z : Sizes) (words : List ℕ)
     (bounds : AreInBounds z) (usable : AreUsable z)
-    (is : IsOpening opens z words) where
+    (is : IsOpening opens result z words) where
   abbrev own : View U
   own = fresh z 0 first
 
   opened : Opened linked lent noted fact z first words
-  opened = law z words bounds usable is.wide is.above
+  opened = law z words bounds usable is.wide is.above is.results
 
   nobodys : (j r : ℕ) → claim_at (own ∷ []) j r ≡ none
   nobodys zero r = refl

@@ -19,11 +19,12 @@ use Rattle.ca_rows.specs.Claims.{claim_of, claimed, dropped, held_count, claim_a
 use Rattle.ca_rows.specs.Laws.{IsNoted, Agrees, Frames}
 use Rattle.ca_rows.specs.Rule.{upper_of, NotedAt}
 use Rattle.ca_rows.specs.Told.{Expects, Mine, with_stage, with_claims, with_most, Looked, Glanced, Peeked, Took, Recalled, Wrote, Gave}
-use Rattle.ca_rows.specs.Words.{IsWide, Spells, head_tag, head_row, first_of, next_below}
+use Rattle.ca_rows.specs.Words.{IsWide, Spells, announced, head_tag, head_row, first_of, next_below}
 use Rattle.ca_rows.proofs.Chains.{put, put_here, put_else, in_head, next_number, top_free, top_in_range, chain_stays, chain_takes, chain_gives, stage_stays}
 use Rattle.ca_rows.proofs.Claiming.{claim_mine, claim_others, claim_there, claimed_here, claimed_else, dropped_here, dropped_else}
+use Rattle.ca_rows.proofs.OwnWords.{announced_else, result_else}
 use Rattle.ca_rows.proofs.Rules.{St, Rule, uppers, Is, alone_now, keeps_rule}
-use Rattle.ca_rows.specs.Layout.{row_words, row_limit, last_tag}
+use Rattle.ca_rows.specs.Layout.{row_words, pass_words, passes_words, row_limit, last_tag}
 
 -- the words of a row
 pub row_of : List ℕ → ℕ → List ℕ
@@ -60,7 +61,7 @@ module _ {U : Type 0} (linked lent : List ℕ → ℕ → Type 0) (noted : List 
   R = Rule linked lent noted fact frames z
 
   nothing : (us : List U) (words : List ℕ) → Agrees linked lent noted fact us words words
-  nothing us words = record { wide = refl; control = λ i _ _. refl; seen = λ r k _ _ _. refl }
+  nothing us words = record { wide = refl; control = λ i _ _. refl; results = λ _ _ _. refl; seen = λ r k _ _ _ _. refl }
 
   -- A load after which the seat knows something else of the head, or counts a loss, an empty head
   -- or a worn one.
@@ -77,7 +78,7 @@ module _ {U : Type 0} (linked lent : List ℕ → ℕ → Type 0) (noted : List 
       (sym (set-get_or s.words i 0))
       (keeps_rule linked lent noted fact frames z s r id d w at refl refl s.words
       (nothing (uppers linked lent noted fact frames z s) s.words)
-      (λ i _ _. refl) refl refl 0
+      refl (λ _ _ _. refl) refl refl 0
       r.owner r.count r.chain
       (λ c _ _ _. record { owner_is = refl; claim_is = refl; words_are = λ _ _ _. refl })
       (λ lo _. absurd (omega arith))
@@ -183,8 +184,14 @@ module _ {U : Type 0} (linked lent : List ℕ → ℕ → Type 0) (noted : List 
   head_agrees us words x = record {
     wide = length-set words 0 x;
     control = λ i lo hi. get_or-set_other words 0 i x 0 (λ e. omega arith);
-    seen = λ r k lo _ _. get_or-set_other words 0 (row_words * r + k) x 0 (λ e. omega arith);
+    results = λ pass lo hi. result_else words 0 x pass (λ e. omega arith);
+    seen = λ r k lo _ _ _. get_or-set_other words 0 (row_words * r + k) x 0 (λ e. omega arith);
   }
+
+  -- No announcement is the head.
+  head_told : (s : S) (r : R s) (x pass : ℕ) → 0 < pass → pass ≤ 64
+      → announced (set s.words 0 x) pass ≡ announced s.words pass
+  head_told s r x pass lo hi = announced_else s.words 0 x pass (λ e. let w = r.wide in omega arith)
 
   head_else : (words : List ℕ) (x i : ℕ) → 0 < i → get_or (set words 0 x) i 0 ≡ get_or words i 0
   head_else words x i l = get_or-set_other words 0 i x 0 (λ e. omega arith)
@@ -273,7 +280,7 @@ module _ {U : Type 0} (linked lent : List ℕ → ℕ → Type 0) (noted : List 
           ∙ (parts.1 ∙ (omega arith ∙ sym next)) in
           keeps_rule linked lent noted fact frames z s r id d taken at refl refl new_head
           (head_agrees (uppers linked lent noted fact frames z s) s.words _)
-          (λ i l _. head_else s.words _ i l) refl refl q
+          (head_else s.words _ 1 (omega arith)) (head_told s r _) refl refl q
           (put r.owner q (Of id)) m
           (chain_takes z.rows r.owner s.words new_head r.count r.chain q m (Of id)
           (λ k e. cc) lo hi is count row' (λ c l. head_else s.words _ (row_words * c) (omega arith)))
@@ -325,12 +332,18 @@ module _ {U : Type 0} (linked lent : List ℕ → ℕ → Type 0) (noted : List 
       write_agrees = let o = owned q (Holds its) held in let alone = o.3.2 in record {
         wide = length-set s.words (row_words * q + k) v;
         control = λ i _ l. low_word i l;
-        seen = λ c i _ who l. else_word c i l
+        results = λ pass lo _. let w = r.wide in let hi = o.1 in
+            result_else s.words (row_words * q + k) v pass (λ e. omega arith);
+        seen = λ c i _ _ who l. else_word c i l
             (λ (e : c ≡ q). ⊎_elim (λ (y : linked s.words c). alone.0 (subst (linked s.words) e y))
             (λ (y : IsNoted linked lent noted fact s.words
             (uppers linked lent noted fact frames z s) c). let n = noted_at c y in
             alone.1 n.0 (subst (NotedAt noted s.words s.views n.0) e n.1)) who);
       }
+
+      write_told : (pass : ℕ) → 0 < pass → pass ≤ 64 → announced new_words pass ≡ announced s.words pass
+      write_told pass lo _ = let w = r.wide in let o = owned q (Holds its) held in let hi = o.1 in
+          announced_else s.words (row_words * q + k) v pass (λ e. omega arith)
 
       free_next : (c j : ℕ) → r.owner c ≡ Free j → first_of new_words c ≡ first_of s.words c
       free_next c j is = let o = owned q (Holds its) held in
@@ -352,7 +365,7 @@ module _ {U : Type 0} (linked lent : List ℕ → ℕ → Type 0) (noted : List 
       write_step : R record { words = new_words; homes = s.homes; views = set s.views id written }
       write_step = let o = owned q (Holds its) held in
           keeps_rule linked lent noted fact frames z s r id d written at refl refl new_words
-          write_agrees (λ i _ l. low_word i (omega arith)) refl refl q
+          write_agrees (low_word 1 (omega arith)) write_told refl refl q
           r.owner r.count
           (chain_stays z.rows r.owner s.words new_words r.count r.chain r.owner (ap
           (λ n. n % row_limit) (low_word 0 (omega arith)))
@@ -418,7 +431,7 @@ module _ {U : Type 0} (linked lent : List ℕ → ℕ → Type 0) (noted : List 
           let agrees =
           head_agrees (uppers linked lent noted fact frames z s) s.words (t * row_limit + q) in
           keeps_rule linked lent noted fact frames z s r id d given at refl refl head_with agrees
-          (λ i l _. head_else s.words _ i l) refl refl q
+          (head_else s.words _ 1 (omega arith)) (head_told s r _) refl refl q
           (put r.owner q (Free r.count)) (suc r.count)
           (chain_gives z.rows r.owner s.words head_with r.count r.chain q not_free o.0 hi (ap
           (λ n. n % row_limit) head

@@ -4,19 +4,21 @@ use mathlib.Core.Option.{some}
 use lib.ListN.{get_elem?}
 use Rattle.ca_rows.specs.declared.sizes.Sizes.{Sizes}
 use Rattle.ca_rows.specs.Opening.{AreInBounds, AreUsable}
-use Rattle.ca_rows.specs.Words.{IsWide}
-use Rattle.ca_rows.specs.Layout.{row_words}
+use Rattle.ca_rows.specs.Words.{IsWide, result_of}
+use Rattle.ca_rows.specs.Layout.{row_words, passes_words}
 
 module _ {U : Type 0} (linked lent : List ℕ → ℕ → Type 0) (noted : List ℕ → U → ℕ → Type 0) (fact : Sizes → ℕ → List ℕ → List U → Type 0) where
   -- A seat has a note on the row.
   abbrev pub IsNoted : List ℕ → List U → ℕ → Type 0
   IsNoted words uppers r = (j : ℕ) × (u : U) × (get_elem? uppers j ≡ some u) × noted words u r
 
-  -- The rule above doesn't see the difference: its control words are the same, and so is each row that is linked or noted.
+  -- The rule above doesn't see the difference: its control words are the same, and so are those of the ranges and each row that is linked or noted.
   pub record Agrees (uppers : List U) (words others : List ℕ) : Type 0 where
     pub wide : length others ≡ length words
-    pub control : (i : ℕ) → 66 ≤ i → i < row_words → slice_index others i ≡ slice_index words i
-    pub seen : (r k : ℕ) → 0 < r → linked words r ⊎ IsNoted words uppers r → k < row_words → slice_index others (row_words * r + k) ≡ slice_index words (row_words * r + k)
+    pub control : (i : ℕ) → 2 ≤ i → i < row_words → slice_index others i ≡ slice_index words i
+    pub results : (pass : ℕ) → 0 < pass → pass ≤ 64 → result_of others pass ≡ result_of words pass
+    pub seen : (r k : ℕ) → 0 < r → row_words * r + row_words + passes_words ≤ length words → linked words r ⊎ IsNoted words uppers r → k < row_words
+        → slice_index others (row_words * r + k) ≡ slice_index words (row_words * r + k)
 
   -- The upper fact stays, the same rows are linked and lent, and nobody has a note more.
   pub record Framed (z : Sizes) (made : ℕ) (uppers : List U) (words others : List ℕ) : Type 0 where
@@ -64,6 +66,7 @@ module _ {U : Type 0} (linked lent : List ℕ → ℕ → Type 0) (noted : List 
     pub lents : (r : ℕ) → ¬ lent words r
     pub notes : (r : ℕ) → ¬ noted words first r
 
-  abbrev pub Opening : (Sizes → ℕ → ℕ) → U → Type 0
-  Opening opens first = (z : Sizes) (words : List ℕ) → AreInBounds z → AreUsable z → IsWide z.rows words
-      → ((i : ℕ) → 66 ≤ i → i < 272 → slice_index words i ≡ opens z i) → Opened z first words
+  abbrev pub Opening : (Sizes → ℕ → ℕ) → (Sizes → ℕ) → U → Type 0
+  Opening opens result first = (z : Sizes) (words : List ℕ) → AreInBounds z → AreUsable z → IsWide z.rows words
+      → ((i : ℕ) → 2 ≤ i → i < 272 → slice_index words i ≡ opens z i)
+      → ((pass : ℕ) → 0 < pass → pass ≤ 64 → result_of words pass ≡ result z) → Opened z first words

@@ -5,6 +5,13 @@ use Rattle.std.specs.Prelude.{ℕ}
 abbrev pub row_words : ℕ
 row_words = 136
 
+-- how many words a pass has for itself behind the rows, and how many all passes have
+abbrev pub pass_words : ℕ
+pass_words = 8
+
+abbrev pub passes_words : ℕ
+passes_words = 512
+
 -- The number of each row is below this.
 abbrev pub row_limit : ℕ
 row_limit = 16777216

@@ -1,7 +1,7 @@
 -- How large a space may be, and its words at the start.
 use Rattle.std.specs.Prelude.{◌≡◌, ℕ, ◌+◌, ◌*◌, ◌<◌, ◌≤◌, List, slice_index}
 use Rattle.ca_rows.specs.declared.sizes.Sizes.{Sizes}
-use Rattle.ca_rows.specs.Words.{IsWide, epoch, first_of}
+use Rattle.ca_rows.specs.Words.{IsWide, epoch, announced, result_of, first_of}
 use Rattle.ca_rows.specs.Layout.{row_limit, last_tag, last_sequence}
 
 -- No start is above its counter's last value, and rows and passes are within their bounds.
@@ -23,12 +23,13 @@ pub record AreUsable (z : Sizes) : Type 0 where
   pub most_leaf : z.leaf ≤ 120
   pub most_levels : z.levels ≤ 4096
 
--- The words at the start: row 1 and the words from 66 to 135 are those of the rule above. The rows from 2 on are free, and the first word of each says
+-- The words at the start: the words from 2 to 135, row 1 and the words of the ranges are those of the rule above. The rows from 2 on are free, and the first word of each says
 -- that the next one by number is the one below it.
-pub record IsOpening (opens : Sizes → ℕ → ℕ) (z : Sizes) (words : List ℕ) : Type 0 where
+pub record IsOpening (opens : Sizes → ℕ → ℕ) (result : Sizes → ℕ) (z : Sizes) (words : List ℕ) : Type 0 where
   pub wide : IsWide z.rows words
   pub head : slice_index words 0 ≡ z.starts.tag * row_limit + 2
   pub epoch_is : epoch words ≡ z.starts.epoch
-  pub absent : (i : ℕ) → 2 ≤ i → i < 66 → slice_index words i ≡ 0
-  pub above : (i : ℕ) → 66 ≤ i → i < 272 → slice_index words i ≡ opens z i
+  pub absent : (pass : ℕ) → 0 < pass → pass ≤ 64 → announced words pass ≡ 0
+  pub above : (i : ℕ) → 2 ≤ i → i < 272 → slice_index words i ≡ opens z i
+  pub results : (pass : ℕ) → 0 < pass → pass ≤ 64 → result_of words pass ≡ result z
   pub free : (r : ℕ) → 2 ≤ r → r ≤ z.rows → first_of words r ≡ 0

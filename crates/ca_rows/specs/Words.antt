@@ -1,10 +1,14 @@
--- Where things stand in the words. Word 0 is the pool's head, word 1 the epoch, word 1 + i the announcement of pass i; the words of row r
--- are those from 136 * r on.
+-- Where things stand in the words. Word 0 is the pool's head, word 1 the epoch; the words of row r are those from 136 * r on. Behind the rows each pass has
+-- eight words for itself: the first one is its announcement, the second one says how far its last range is.
 use Rattle.std.specs.Prelude.{◌≡◌, ◌==◌, ℕ, cond, ◌+◌, ◌-◌, ◌*◌, ◌/◌, ◌%◌, ◌<◌, List, length, slice_index}
-use Rattle.ca_rows.specs.Layout.{row_words, row_limit}
+use Rattle.ca_rows.specs.Layout.{row_words, pass_words, passes_words, row_limit}
 
 abbrev pub IsWide : ℕ → List ℕ → Type 0
-IsWide rows words = length words ≡ row_words * rows + row_words
+IsWide rows words = length words ≡ row_words * rows + row_words + passes_words
+
+-- the first of the words that a pass has for itself, counted from the end
+abbrev pub own_word : List ℕ → ℕ → ℕ
+own_word words pass = length words + pass_words * pass - (passes_words + pass_words)
 
 -- the tag of the pool's head, which rises whenever a row is taken
 abbrev pub head_tag : List ℕ → ℕ
@@ -19,7 +23,11 @@ epoch words = slice_index words 1
 
 -- what a pass announces: 0, or one more than an epoch
 abbrev pub announced : List ℕ → ℕ → ℕ
-announced words pass = slice_index words (pass + 1)
+announced words pass = slice_index words (own_word words pass)
+
+-- how far a pass's last range is
+abbrev pub result_of : List ℕ → ℕ → ℕ
+result_of words pass = slice_index words (own_word words pass + 1)
 
 abbrev pub first_of : List ℕ → ℕ → ℕ
 first_of words row = slice_index words (row_words * row)

@@ -3,6 +3,12 @@
 /// How many words a row has. So many stand before the first row, too.
 pub const ROW_WORDS: usize = 136;
 
+/// How many words a pass has for itself behind the rows: they fill a line of a processor's cache, so no two passes' words lie on one.
+pub const PASS_WORDS: usize = 8;
+
+/// How many words all passes have, of which there are 64 at most.
+pub const PASSES_WORDS: usize = 64 * PASS_WORDS;
+
 /// The number of each row is below this: it has 24 bits.
 pub const ROW_LIMIT: u64 = 1 << 24;
 

@@ -1,13 +1,23 @@
 //! Passes announce that they read.
-ghost use Rattle.std.specs.Prelude.{◌≡◌, false};
+ghost use Rattle.std.specs.Prelude.{◌≡◌, ◌+◌, ◌*◌, ◌<◌, ◌≤◌, false};
 ghost use Rattle.ca_rows.specs.Calls.{IsNumbered, Pins, Unpins};
-ghost use Rattle.ca_rows.specs.Passes.{IsOn, IsReading, KeepsList, known, view};
+ghost use Rattle.ca_rows.specs.Layout.{row_words, pass_words};
+ghost use Rattle.ca_rows.specs.Passes.{IsOn, IsReading, KeepsList, known, sizes, view};
 
+use crate::layout::{PASS_WORDS, ROW_WORDS};
 use crate::plays::{Announce, Ask, Leave};
 use crate::rule::RowRule;
 use crate::space::{Pass, Space};
 
 impl<R: RowRule> Space<R> {
+    // The first of the words that a pass has for itself.
+    pub(crate) fn own_word(&self, pass: u32) -> usize
+        requires { (0 < pass) × (pass ≤ 64) }
+        ensures { result + pass_words ≡ row_words * (sizes self.now).rows + row_words + pass_words * pass }
+    {
+        ROW_WORDS * (self.sizes.rows as usize + 1) + PASS_WORDS * (pass as usize - 1)
+    }
+
     /// Announces the epoch that is loaded: rows that are unlinked from then on stay until the pass unpins. What the pass has met of the pool is noted.
     pub fn pin(&self, pass: &mut Pass<R>)
         requires own { IsOn self.now pass.old }
@@ -17,7 +27,7 @@ impl<R: RowRule> Space<R> {
         ensures pinned { Pins R.enters (known pass.old) (known pass.new) }
     {
         let epoch = self.table.shared.load::<Ask>(&mut pass.seat, 1);
-        let word = pass.number as usize + 1;
+        let word = self.own_word(pass.number);
         self.table
             .shared
             .store::<Announce<R>>(&mut pass.seat, word, epoch + 1);
@@ -30,7 +40,7 @@ impl<R: RowRule> Space<R> {
         ensures frame { KeepsList pass.old pass.new }
         ensures unpinned { Unpins R.leaves (known pass.old) (known pass.new) }
     {
-        let word = pass.number as usize + 1;
+        let word = self.own_word(pass.number);
         self.table.shared.store::<Leave<R>>(&mut pass.seat, word, 0);
     }
 }

@@ -87,7 +87,7 @@ impl<R: RowRule> Space<R> {
     {
         let mut seen = 0;
         while seen < self.sizes.passes {
-            let word = seen as usize + 2;
+            let word = self.own_word(seen + 1);
             let announced = self.table.shared.load::<Scan>(&mut pass.seat, word);
             if announced != 0 && announced <= epoch {
                 return Some(seen + 1);

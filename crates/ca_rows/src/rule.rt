@@ -20,8 +20,11 @@ pub trait RowRule {
     /// What the space's own seat knows at the start.
     ghost first: { Self.Upper };
 
-    /// What the words from 66 to 271 are at the start: control words, and row 1.
+    /// What the words from 2 to 271 are at the start: control words, and row 1.
     ghost opens: { TheSizes → ℕ → ℕ };
+
+    /// What the word of each pass's ranges is at the start.
+    ghost result_word: { TheSizes → ℕ };
 
     /// Which rows are linked.
     ghost linked: { List ℕ → ℕ → Type 0 };
@@ -58,8 +61,13 @@ pub trait RowRule {
     /// A word at the start.
     fn open(sizes: &Sizes, word: u32) -> u64
         requires bounds { AreInBounds sizes.now }
-        requires word { (66 ≤ word) × (word < 272) }
+        requires word { (2 ≤ word) × (word < 272) }
         ensures { result ≡ opens sizes.now word };
+
+    /// The word of a pass's ranges at the start.
+    fn first_result(sizes: &Sizes) -> u64
+        requires bounds { AreInBounds sizes.now }
+        ensures { result ≡ result_word sizes.now };
 
     ghost frames: { Frames linked lent noted fact };
 
@@ -71,7 +79,7 @@ pub trait RowRule {
 
     ghost closing: { Closing linked lent noted fact both spent };
 
-    ghost opening: { Opening linked lent noted fact opens first };
+    ghost opening: { Opening linked lent noted fact opens result_word first };
 }
 
 /// The rule of a table whose rows stand under the rule `R`.

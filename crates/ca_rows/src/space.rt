@@ -1,5 +1,5 @@
 //! The words of a space, and its passes.
-ghost use Rattle.ca_rows.specs.Layout.{row_words, row_limit};
+ghost use Rattle.ca_rows.specs.Layout.{row_words, passes_words, row_limit};
 ghost use Rattle.std.specs.Prelude.{◌≡◌, ◌+◌, ◌*◌, ◌<◌, ◌≤◌, IsSome};
 ghost use Rattle.std.specs.Option.{ForSome};
 ghost use Rattle.ca_rows.specs.Owned.{HasNoSlot, IsOwnSeat};
@@ -21,7 +21,7 @@ pub struct Space<R: RowRule> {
     pub(crate) sizes: Sizes,
     pub(crate) made: u32,
     pub ghost same: { sizes ≡ table.shared.key },
-    pub ghost sized: { table.shared.table_id.words ≡ row_words * table.shared.key.rows + row_words },
+    pub ghost sized: { table.shared.table_id.words ≡ row_words * table.shared.key.rows + row_words + passes_words },
     pub ghost no_slots: { table.shared.table_id.slots ≡ 0 },
     pub ghost few: { (0 < table.shared.key.rows) × (table.shared.key.rows < row_limit) },
     pub ghost passes: { (made ≤ sizes.passes) × (sizes.passes ≤ 64) },

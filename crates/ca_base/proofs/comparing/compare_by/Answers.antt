@@ -1,13 +1,12 @@
 use Rattle.std.proofs.Common.{rules, ℕ, List, ◌≡◌, ◌<◌, ◌+◌, ◌-◌, ◌*◌, ◌/◌, drop, get_or, ap, sym, subst, ◌∙◌, arith, length-drop}
 use Rattle.ca_model.specs.StoreMap.{bytes_cmp}
-use Rattle.ca_node.specs.Row.{bytes_in}
+use Rattle.ca_node.specs.Row.{bytes_in, code_words}
 use Rattle.ca_node.specs.Told.{MyTree}
 use Rattle.ca_node.proofs.WordOrder.{bytes_long}
 use Rattle.ca_base.specs.Finding.{IsObjectShown}
 use Rattle.ca_base.proofs.KeyOrder.{is_equal, is_other, front_part, first_word, left_first, decided, left_on, left_none}
-use Rattle.ca_base.proofs.ObjectBytes.{joined_part}
+use Rattle.ca_base.proofs.ObjectBytes.{joined_part, code_long}
 use Rattle.ca_base.proofs.comparing.compare_by.Goals as goal
-use Rattle.ca_node.specs.Layout.{body_word}
 
 pub loop-at-init : goal.loop-at-init
 loop-at-init c = let start : ℕ = c.key_bytes-start.result.0 in
@@ -25,7 +24,7 @@ loop-at-init c = let start : ℕ = c.key_bytes-start.result.0 in
           (sym c.key_bytes-start.ensures.frame.still) shown);
       other = first_word c.args.key.now (start - start) c.args.front none c.requires.front;
       left = λ its _.
-          left_first (bytes_in (drop body_word its)) c.args.key.now start c.key_bytes-start.result.1;
+          left_first (bytes_in (code_words its)) c.args.key.now start c.key_bytes-start.result.1;
     }
 
 pub returns-then-is_ne-clause-order : goal.returns-then-is_ne-clause-order
@@ -38,13 +37,13 @@ returns-then-is_ne-clause-order c its shown = let start : ℕ = c.key_bytes-star
     let range = c.key_bytes-start.ensures.range in let long = shown.long in
     let there = subst
     (λ (m : MyTree). IsObjectShown m.0.upper c.args.row its) (sym i.still) shown in
-    let has = joined_part (drop body_word its) at n c.loop-at.word c.word_with-next.result c.joined.result
-    (omega arith) (omega (arith, length-drop body_word its))
+    let has = joined_part (code_words its) at n c.loop-at.word c.word_with-next.result c.joined.result
+    (omega arith) (omega (arith, code_long its long))
     c.joined.ensures (i.word its shown more)
     (λ (l : at / 8 * 8 + 8 < at + n). c.word_with-next.ensures.word its there (omega arith)) in
     let has_too =
     front_part key (at - start) n c.loop-at.other i.other (omega arith) (omega arith) in
-    decided (bytes_in (drop body_word its)) key start end at n c.joined.result c.loop-at.other low
+    decided (bytes_in (code_words its)) key start end at n c.joined.result c.loop-at.other low
     (omega arith) (i.left its shown) has has_too
     c.compare_tops-order.result c.compare_tops-order.ensures
     (is_other c.compare_tops-order.result (sym c.is_ne.ensures ∙ c.if-is_ne.true))
@@ -74,14 +73,14 @@ loop-at-preserved c = let start : ℕ = c.key_bytes-start.result.0 in
       low = omega arith;
       high = omega arith;
       word = λ its shown l. let e : (at / 8 * 8 + 8) / 8 ≡ (at + n) / 8 = omega arith in
-          next its shown (omega arith) ∙ ap (λ (k : ℕ). get_or (drop body_word its) k 0) e;
+          next its shown (omega arith) ∙ ap (λ (k : ℕ). get_or (code_words its) k 0) e;
       other = c.next_word-other.ensures;
       left = λ its shown. let long = shown.long in
-          let has = joined_part (drop body_word its) at n c.loop-at.word c.word_with-next.result
-          c.joined.result (omega arith) (omega (arith, length-drop body_word its))
+          let has = joined_part (code_words its) at n c.loop-at.word c.word_with-next.result
+          c.joined.result (omega arith) (omega (arith, code_long its long))
           c.joined.ensures (i.word its shown more)
           (λ (l : at / 8 * 8 + 8 < at + n). next its shown (omega arith)) in
-          left_on (bytes_in (drop body_word its)) key start end at n c.joined.result c.loop-at.other low
+          left_on (bytes_in (code_words its)) key start end at n c.joined.result c.loop-at.other low
           (omega arith) (i.left its shown) has has_too
           c.compare_tops-order.result c.compare_tops-order.ensures
           (is_equal c.compare_tops-order.result (sym c.is_ne.ensures ∙ c.if-is_ne.false));
@@ -90,15 +89,15 @@ loop-at-preserved c = let start : ℕ = c.key_bytes-start.result.0 in
 pub returns-clause-order : goal.returns-clause-order
 returns-clause-order c its shown = let start : ℕ = c.key_bytes-start.result.0 in
     let end : ℕ = c.key_bytes-start.result.1 in
-    let bytes : List ℕ = bytes_in (drop body_word its) in let key : List ℕ = c.args.key.now in
+    let bytes : List ℕ = bytes_in (code_words its) in let key : List ℕ = c.args.key.now in
     let i = c.loop-at.invariant in let low = i.low in let high = i.high in
     let over = c.loop-at-test.false in let s = c.min.ensures in
     let range = c.key_bytes-start.ensures.range in let long = shown.long in
     c.cmp.ensures
     ∙ (left_none bytes key start end c.loop-at.at (omega arith) (omega (
       arith,
-      bytes_long (drop body_word its),
-      length-drop body_word its,
+      bytes_long (code_words its),
+      code_long its long,
     )) (omega arith)
     (i.left its shown)
     ∙ ap (λ (k : List ℕ). bytes_cmp k key) (sym (c.key_bytes-start.ensures.key its shown)))

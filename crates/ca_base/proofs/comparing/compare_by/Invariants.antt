@@ -1,10 +1,9 @@
 use Rattle.std.proofs.Common.{◌-◌, ◌/◌, ◌≡◌, ℕ, ◌<◌, ◌≤◌, List, drop, get_or}
-use Rattle.ca_node.specs.Row.{bytes_in}
+use Rattle.ca_node.specs.Row.{bytes_in, code_words}
 use Rattle.ca_base.specs.Finding.{IsObjectShown}
 use Rattle.ca_rows.specs.Calls.{IsOf, IsSame}
 use Rattle.ca_base.proofs.KeyOrder.{IsLeft, IsNext}
 use Rattle.ca_base.proofs.comparing.compare_by.Given as goal
-use Rattle.ca_node.specs.Layout.{body_word}
 
 abbrev pub invariant-loop-at : goal.invariant-loop-at
 invariant-loop-at l = record {
@@ -17,10 +16,10 @@ invariant-loop-at l = record {
   low : l.start ≤ l.at;
   high : l.at ≤ l.stop;
   word : (its : List ℕ) → IsObjectShown l.fn.pass.seat.me.0.upper l.row its → l.at < l.stop
-      → l.word ≡ get_or (drop body_word its) (l.at / 8) 0;
+      → l.word ≡ get_or (code_words its) (l.at / 8) 0;
   other : IsNext l.key (l.at - l.start) l.other;
   left : (its : List ℕ) → IsObjectShown l.fn.pass.seat.me.0.upper l.row its
-      → IsLeft (bytes_in (drop body_word its)) l.key l.start l.end l.at;
+      → IsLeft (bytes_in (code_words its)) l.key l.start l.end l.at;
 }
 
 abbrev pub decreases-loop-at : goal.decreases-loop-at

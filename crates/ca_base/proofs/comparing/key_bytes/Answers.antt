@@ -1,10 +1,9 @@
 use Rattle.std.proofs.Common.{ℕ, List, ◌≡◌, ◌+◌, ◌-◌, ◌/◌, ◌%◌, min, length, take, drop, ap, sym, ◌∙◌, arith, length-drop}
-use Rattle.ca_node.specs.Row.{bytes_in, count, key_place, key_length}
+use Rattle.ca_node.specs.Row.{bytes_in, count, key_place, key_length, code_words}
 use Rattle.ca_node.proofs.WordOrder.{bytes_long}
 use Rattle.ca_base.proofs.Items.{word_shown, as_shown}
-use Rattle.ca_base.proofs.ObjectBytes.{clipped}
+use Rattle.ca_base.proofs.ObjectBytes.{clipped, code_long}
 use Rattle.ca_base.proofs.comparing.key_bytes.Goals as goal
-use Rattle.ca_node.specs.Layout.{body_word}
 
 pub load_word-word-requires-clause-shown : goal.load_word-word-requires-clause-shown
 load_word-word-requires-clause-shown c = let shown = c.requires.object.shown in
@@ -12,11 +11,11 @@ load_word-word-requires-clause-shown c = let shown = c.requires.object.shown in
 
 pub returns-clause-key : goal.returns-clause-key
 returns-clause-key c its shown = let long = shown.long in
-    let bytes : List ℕ = bytes_in (drop body_word its) in
+    let bytes : List ℕ = bytes_in (code_words its) in
     let word =
     as_shown c.args.pass.now.seat.me.0.upper _ _ _ c.load_word-word.ensures.word its
     shown.shown in
-    let all : length bytes ≡ 1000 = omega (arith, bytes_long (drop body_word its), length-drop body_word its) in
+    let all : length bytes ≡ 1000 = omega (arith, bytes_long (code_words its), code_long its long) in
     let end : ℕ = c.min-end.result in let start : ℕ = c.min-start.result in
     let len : ℕ = c.min-len.result in
     let e : end ≡ min (length bytes) (count its) = c.min-end.ensures

@@ -1,8 +1,9 @@
-use Rattle.std.proofs.Common.{◌/◌, ◌∙◌, sym}
+use Rattle.std.proofs.Common.{arith, ◌/◌, ◌∙◌, sym}
 use Rattle.std.proofs.lemmas.List.{get_or-drop}
 use Rattle.ca_base.proofs.Items.{word_shown, as_shown}
 use Rattle.ca_base.proofs.comparing.word_with.Goals as goal
-use Rattle.ca_node.specs.Layout.{body_word}
+use Rattle.ca_node.specs.Row.{code_words}
+use Rattle.ca_base.proofs.ObjectBytes.{code_at}
 
 pub load_word-requires-clause-shown : goal.load_word-requires-clause-shown
 load_word-requires-clause-shown c = let shown = c.requires.object.shown in
@@ -11,4 +12,4 @@ load_word-requires-clause-shown c = let shown = c.requires.object.shown in
 pub returns-then-at-stop-clause-word : goal.returns-then-at-stop-clause-word
 returns-then-at-stop-clause-word c its shown l =
     as_shown c.args.pass.now.seat.me.0.upper _ _ _ c.load_word.ensures.word its shown.shown
-    ∙ sym (get_or-drop body_word its (c.args.at / 8) 0)
+    ∙ sym (code_at its (c.args.at / 8) (omega arith))

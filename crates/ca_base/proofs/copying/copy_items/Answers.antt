@@ -7,7 +7,7 @@ use Rattle.ca_base.proofs.Items.{word_shown, as_shown}
 use Rattle.ca_base.proofs.LastItems.{last_shown, last_inside, last_item}
 use Rattle.ca_rows.specs.declared.view.Pin.{Pin}
 use Rattle.ca_base.proofs.copying.copy_items.Goals as goal
-use Rattle.ca_node.specs.Layout.{body_word}
+use Rattle.ca_node.specs.Layout.{items_word}
 
 pub load_word-item-requires-clause-reading : goal.load_word-item-requires-clause-reading
 load_word-item-requires-clause-reading c = record {
@@ -30,7 +30,7 @@ load_word-item-requires-clause-shown c = word_shown c.loop-place.pass.seat.me.0.
 
 pub loop-place-init : goal.loop-place-init
 loop-place-init c = (
-  begins _ _ c.args.row (body_word + c.args.to)
+  begins _ _ c.args.row (items_word + c.args.to)
       (λ k word. word ≡ get_or (last_items c.args.pass.now.seat.me.0.upper) (c.args.run.from + k) 0)
       c.args.pass.now.seat
       c.requires.row.reading.own c.requires.row.held.1,
@@ -45,14 +45,14 @@ loop-place-preserved c = let i = c.loop-place.invariant in
     let shown = subst
     (λ (v : TreeView). IsShown v c.args.run.base its) (sym i.0.still.4)
     (last_shown _ _ _ c.requires.shown) in
-    let there : body_word + c.args.run.from + c.loop-place.place
-    ≡ body_word + (c.args.run.from + c.loop-place.place) = omega arith in
+    let there : items_word + c.args.run.from + c.loop-place.place
+    ≡ items_word + (c.args.run.from + c.loop-place.place) = omega arith in
     let word : c.load_word-item.result
     ≡ get_or (last_items u) (c.args.run.from + c.loop-place.place) 0 =
     last_item _ u _ c.requires.shown (c.args.run.from + c.loop-place.place) c.load_word-item.result
     (as_shown c.loop-place.pass.seat.me.0.upper _ _ _ c.load_word-item.ensures.word its shown
     ∙ ap (λ k. get_or its k 0) there) (omega arith) in (
-      goes_on_behind _ _ c.args.row (body_word + c.args.to)
+      goes_on_behind _ _ c.args.row (items_word + c.args.to)
           (λ k word. word ≡ get_or (last_items u) (c.args.run.from + k) 0) c.args.pass.now.seat
           c.loop-place.pass.seat c.load_word-item.new.pass.seat c.set_word.new.pass.seat
           c.loop-place.place _ _ (omega arith) (omega arith) word i.0

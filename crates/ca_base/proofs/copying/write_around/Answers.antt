@@ -4,7 +4,7 @@ use Rattle.ca_base.specs.Putting.{last_items}
 use Rattle.ca_base.specs.Writing.{HasFilled}
 use Rattle.ca_base.proofs.LastItems.{around_written}
 use Rattle.ca_base.proofs.copying.write_around.Goals as goal
-use Rattle.ca_node.specs.Layout.{body_word}
+use Rattle.ca_node.specs.Layout.{items_word}
 
 pub returns-clause-written : goal.returns-clause-written
 returns-clause-written c = let u = c.args.pass.now.seat.me.0.upper in
@@ -19,16 +19,16 @@ returns-clause-written c = let u = c.args.pass.now.seat.me.0.upper in
     c.args.pass.now.seat.me c.write_head.new.pass.seat.me c.copy_items.new.pass.seat.me
     c.write_items.new.pass.seat.me c.copy_items-2.new.pass.seat.me
     c.requires.row.held.1 (omega arith) (omega arith) (omega arith) c.write_head.ensures.filled
-    (subst (λ (v : TreeView). HasFilled c.args.row (body_word + 0) c.args.around.now.before
+    (subst (λ (v : TreeView). HasFilled c.args.row (items_word + 0) c.args.around.now.before
     (λ k word. word ≡ get_or (last_items v) (0 + k) 0) c.write_head.new.pass.seat.me
     c.copy_items.new.pass.seat.me) one.4 c.copy_items.ensures.filled)
     c.write_items.ensures.filled
     (subst (λ n.
-    HasFilled c.args.row (body_word + (c.args.around.now.before + length c.args.around.now.these.now))
+    HasFilled c.args.row (items_word + (c.args.around.now.before + length c.args.around.now.these.now))
     n (λ k word. word ≡ get_or (last_items u) (c.args.around.now.behind + k) 0)
     c.write_items.new.pass.seat.me c.copy_items-2.new.pass.seat.me) rest
     (subst (λ (v : TreeView).
-    HasFilled c.args.row (body_word + (c.args.around.now.before + length c.args.around.now.these.now))
+    HasFilled c.args.row (items_word + (c.args.around.now.before + length c.args.around.now.these.now))
     (c.args.target.now.many - c.args.around.now.behind)
     (λ k word. word ≡ get_or (last_items v) (c.args.around.now.behind + k) 0)
     c.write_items.new.pass.seat.me c.copy_items-2.new.pass.seat.me)

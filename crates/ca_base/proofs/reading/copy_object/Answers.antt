@@ -1,14 +1,13 @@
 use Rattle.std.proofs.Common.{rules, ℕ, List, ◌≡◌, ◌*◌, ◌%◌, ◌++◌, min, length, get_or, take, drop, ap, sym, subst, ◌∙◌, arith, length-drop}
 use Rattle.std.proofs.lemmas.List.{get_or-drop, take_min}
 use Rattle.std.specs.Int.{to_be_bytes, w64}
-use Rattle.ca_node.specs.Row.{bytes_in, count}
+use Rattle.ca_node.specs.Row.{bytes_in, count, code_words}
 use Rattle.ca_node.specs.Told.{MyTree}
 use Rattle.ca_base.specs.Finding.{IsObjectShown}
 use Rattle.ca_base.proofs.Items.{word_shown, as_shown}
-use Rattle.ca_base.proofs.ObjectBytes.{one_more}
+use Rattle.ca_base.proofs.ObjectBytes.{one_more, code_long, code_at}
 use Rattle.ca_node.proofs.WordOrder.{bytes_long}
 use Rattle.ca_base.proofs.reading.copy_object.Goals as goal
-use Rattle.ca_node.specs.Layout.{body_word}
 
 pub load_word-requires-clause-shown : goal.load_word-requires-clause-shown
 load_word-requires-clause-shown c =
@@ -35,28 +34,28 @@ loop-i-preserved c = let i : ℕ = c.loop-i.i in let len : ℕ = c.min-len.resul
       copied = λ its shown. let long = shown.long in let m = c.min-len.ensures in
           let s = subst
           (λ (m : MyTree). IsObjectShown m.0.upper c.args.row its) (sym inv.still) shown in
-          let word : c.load_word-in-loop-i.result ≡ get_or (drop body_word its) i 0 =
+          let word : c.load_word-in-loop-i.result ≡ get_or (code_words its) i 0 =
           as_shown c.loop-i.pass.seat.me.0.upper _ _ _ c.load_word-in-loop-i.ensures.word its
-          s.shown ∙ sym (get_or-drop body_word its i 0) in
-          let bytes : c.to_be_bytes-bytes.result ≡ to_be_bytes w64 (get_or (drop body_word its) i 0) =
+          s.shown ∙ sym (code_at its i (omega arith)) in
+          let bytes : c.to_be_bytes-bytes.result ≡ to_be_bytes w64 (get_or (code_words its) i 0) =
           c.to_be_bytes-bytes.ensures ∙ ap (to_be_bytes w64) word in
           c.append.ensures
           ∙ (ap (λ (xs : List ℕ). xs ++ take c.min.result c.to_be_bytes-bytes.result)
           (inv.copied its shown)
           ∙ (ap (λ (xs : List ℕ).
-          take (min len (8 * i)) (bytes_in (drop body_word its)) ++ take c.min.result xs) bytes
-          ∙ one_more (drop body_word its) len i c.min.result (omega arith) (omega (
+          take (min len (8 * i)) (bytes_in (code_words its)) ++ take c.min.result xs) bytes
+          ∙ one_more (code_words its) len i c.min.result (omega arith) (omega (
             arith,
-            length-drop body_word its,
+            code_long its long,
           )) c.min.ensures));
     }
 
 pub returns-clause-object : goal.returns-clause-object
 returns-clause-object c its shown = let over = c.loop-i-test.false in
-    let bytes : List ℕ = bytes_in (drop body_word its) in
+    let bytes : List ℕ = bytes_in (code_words its) in
     let long = shown.long in
     let all : length bytes ≡ 1000 =
-    omega (arith, bytes_long (drop body_word its), length-drop body_word its) in
+    omega (arith, bytes_long (code_words its), code_long its long) in
     let whole : min c.min-len.result (8 * c.loop-i.i) ≡ c.min-len.result = omega arith in
     let word =
     as_shown c.args.pass.now.seat.me.0.upper _ _ _ c.load_word.ensures.word its shown.shown in

@@ -1,9 +1,8 @@
 use Rattle.std.proofs.Common.{◌≡◌, ℕ, List, ◌*◌, min, take, drop}
-use Rattle.ca_node.specs.Row.{bytes_in}
+use Rattle.ca_node.specs.Row.{bytes_in, code_words}
 use Rattle.ca_base.specs.Finding.{IsObjectShown}
 use Rattle.ca_rows.specs.Calls.{IsOf, IsSame}
 use Rattle.ca_base.proofs.reading.copy_object.Given as goal
-use Rattle.ca_node.specs.Layout.{body_word}
 
 abbrev pub invariant-loop-i : goal.invariant-loop-i
 invariant-loop-i l = record {
@@ -14,5 +13,5 @@ invariant-loop-i l = record {
   kept : l.pass.kept ≡ l.fn.pass.kept;
   still : l.pass.seat.me ≡ l.fn.pass.seat.me;
   copied : (its : List ℕ) → IsObjectShown l.fn.pass.seat.me.0.upper l.row its
-      → l.into.items ≡ take (min l.len (8 * l.i)) (bytes_in (drop body_word its));
+      → l.into.items ≡ take (min l.len (8 * l.i)) (bytes_in (code_words its));
 }

@@ -1,18 +1,19 @@
 use Rattle.std.proofs.Common.{rules, ◌≡◌, ◌+◌, ◌-◌, ◌*◌, ◌/◌, ◌%◌, ◌++◌, ℕ, List, length, take, drop, get_or, sym, ap, subst, ◌∙◌, arith, length-drop}
 use Rattle.std.proofs.lemmas.List.{get_or-drop, length-take-le}
 use Rattle.std.specs.Int.{to_be_bytes, w64}
-use Rattle.ca_node.specs.Row.{bytes_in}
+use Rattle.ca_node.specs.Row.{bytes_in, code_words}
 use Rattle.ca_node.specs.Told.{MyTree, IsShown}
 use Rattle.ca_base.specs.Finding.{IsObjectShown}
 use Rattle.ca_base.proofs.Items.{word_shown, as_shown}
 use Rattle.ca_node.proofs.WordOrder.{bytes_long}
 use Rattle.ca_base.proofs.SplitKeys.{next_part}
 use Rattle.ca_base.proofs.routing.copy_key.Goals as goal
-use Rattle.ca_node.specs.Layout.{body_word}
+use Rattle.ca_node.specs.Layout.{code_word}
+use Rattle.ca_base.proofs.ObjectBytes.{code_long, code_at}
 
 pub load_word-requires-clause-shown : goal.load_word-requires-clause-shown
 load_word-requires-clause-shown c = let s = c.requires.object.shown in
-    word_shown c.loop-at.pass.seat.me.0.upper c.args.row (body_word + c.loop-at.at / 8) (
+    word_shown c.loop-at.pass.seat.me.0.upper c.args.row (code_word + c.loop-at.at / 8) (
       s.0,
       subst (λ (m : MyTree). IsShown m.0.upper c.args.row s.0) (sym c.loop-at.invariant.still)
           s.1.shown,
@@ -31,25 +32,25 @@ loop-at-preserved c = let start : ℕ = c.key_bytes-start.result.0 in
     let copied = λ (its : List ℕ)
     (shown : IsObjectShown c.args.pass.now.seat.me.0.upper c.args.row its).
     let long = shown.long in
-    let all : 8 * length (drop body_word its) ≡ 1000 = omega (arith, length-drop body_word its) in
+    let all : 8 * length (code_words its) ≡ 1000 = omega (arith, code_long its long) in
     let s = subst (λ (m : MyTree). IsShown m.0.upper c.args.row its) (sym i.still) shown.shown in
-    let word : c.load_word.result ≡ get_or (drop body_word its) (at / 8) 0 =
-    as_shown c.loop-at.pass.seat.me.0.upper c.args.row (body_word + at / 8) c.load_word.result
-    c.load_word.ensures.word its s ∙ sym (get_or-drop body_word its (at / 8) 0) in
+    let word : c.load_word.result ≡ get_or (code_words its) (at / 8) 0 =
+    as_shown c.loop-at.pass.seat.me.0.upper c.args.row (code_word + at / 8) c.load_word.result
+    c.load_word.ensures.word its s ∙ sym (code_at its (at / 8) (omega arith)) in
     c.append.ensures
     ∙ (ap (λ (bs : List ℕ).
     c.loop-at.into.items ++ take (at % 8 + (to - at) - at % 8) (drop (at % 8) bs)) bytes
     ∙ (ap (λ (k : ℕ).
     c.loop-at.into.items ++ take k (drop (at % 8) (to_be_bytes w64 c.load_word.result))) n
-    ∙ next_part (drop body_word its) c.loop-at.into.items start at to c.load_word.result low (omega arith)
+    ∙ next_part (code_words its) c.loop-at.into.items start at to c.load_word.result low (omega arith)
     (omega arith) (omega arith) word (i.copied its shown))) in
     let its : List ℕ = c.requires.object.shown.0 in let long = c.requires.object.shown.1.long in
-    let there : length (drop start (bytes_in (drop body_word its))) ≡ 1000 - start =
+    let there : length (drop start (bytes_in (code_words its))) ≡ 1000 - start =
     omega (
       arith,
-      length-drop start (bytes_in (drop body_word its)),
-      bytes_long (drop body_word its),
-      length-drop body_word its,
+      length-drop start (bytes_in (code_words its)),
+      bytes_long (code_words its),
+      code_long its long,
     ) in
     record {
       own = search rules;
@@ -61,6 +62,6 @@ loop-at-preserved c = let start : ℕ = c.key_bytes-start.result.0 in
       low = omega arith;
       high = omega arith;
       many = ap (λ (xs : List ℕ). length xs) (copied its c.requires.object.shown.1)
-          ∙ length-take-le (to - start) (drop start (bytes_in (drop body_word its))) (omega arith);
+          ∙ length-take-le (to - start) (drop start (bytes_in (code_words its))) (omega arith);
       copied = copied;
     }

@@ -3,7 +3,6 @@ use Rattle.ca_base.specs.Writing.{HasEight}
 use Rattle.ca_base.proofs.Filling.{begins, goes_on}
 use Rattle.ca_base.proofs.Words.{eight_at}
 use Rattle.ca_base.proofs.writing.write_bytes.Goals as goal
-use Rattle.ca_node.specs.Layout.{body_word}
 
 pub set_word-requires-clause-row : goal.set_word-requires-clause-row
 set_word-requires-clause-row c = record {
@@ -13,7 +12,7 @@ set_word-requires-clause-row c = record {
 
 pub loop-place-init : goal.loop-place-init
 loop-place-init c = (
-  begins _ _ c.args.row body_word (HasEight c.args.bytes.now) c.args.pass.now.seat
+  begins _ _ c.args.row c.args.from (HasEight c.args.bytes.now) c.args.pass.now.seat
       c.requires.row.own c.requires.row.held.1,
   refl,
   refl,
@@ -22,7 +21,7 @@ loop-place-init c = (
 
 pub loop-place-preserved : goal.loop-place-preserved
 loop-place-preserved c = let i = c.loop-place.invariant in (
-  goes_on _ _ c.args.row body_word (HasEight c.args.bytes.now) c.args.pass.now.seat c.loop-place.pass.seat
+  goes_on _ _ c.args.row c.args.from (HasEight c.args.bytes.now) c.args.pass.now.seat c.loop-place.pass.seat
       c.set_word.new.pass.seat c.loop-place.place
       _ _ (omega arith) (omega arith)
       (eight_at c.args.bytes.now c.loop-place.place _ c.word_of-word.ensures) i.0

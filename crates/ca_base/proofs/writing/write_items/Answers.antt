@@ -1,7 +1,7 @@
 use Rattle.std.proofs.Common.{◌≡◌, ◌+◌, get_or, refl, ◌∙◌, arith}
 use Rattle.ca_base.proofs.Filling.{begins, goes_on}
 use Rattle.ca_base.proofs.writing.write_items.Goals as goal
-use Rattle.ca_node.specs.Layout.{body_word}
+use Rattle.ca_node.specs.Layout.{items_word}
 
 pub set_word-requires-clause-row : goal.set_word-requires-clause-row
 set_word-requires-clause-row c = record {
@@ -11,7 +11,7 @@ set_word-requires-clause-row c = record {
 
 pub loop-place-init : goal.loop-place-init
 loop-place-init c = (
-  begins _ _ c.args.row (body_word + c.args.at)
+  begins _ _ c.args.row (items_word + c.args.at)
       (λ k word. word ≡ get_or c.args.items.now k 0) c.args.pass.now.seat c.requires.row.own
       c.requires.row.held.1,
   refl,
@@ -21,7 +21,7 @@ loop-place-init c = (
 
 pub loop-place-preserved : goal.loop-place-preserved
 loop-place-preserved c = let i = c.loop-place.invariant in (
-  goes_on _ _ c.args.row (body_word + c.args.at)
+  goes_on _ _ c.args.row (items_word + c.args.at)
       (λ k word. word ≡ get_or c.args.items.now k 0) c.args.pass.now.seat c.loop-place.pass.seat
       c.set_word.new.pass.seat c.loop-place.place _ _ (omega arith) (omega arith) refl i.0
       c.set_word.ensures.frame.same c.set_word.ensures.set,

@@ -1,11 +1,11 @@
 use Rattle.std.proofs.Common.{◌≡◌, ◌+◌, get_or}
 use Rattle.ca_base.proofs.Filling.{IsFilling}
 use Rattle.ca_base.proofs.writing.write_items.Given as goal
-use Rattle.ca_node.specs.Layout.{body_word}
+use Rattle.ca_node.specs.Layout.{items_word}
 
 abbrev pub invariant-loop-place : goal.invariant-loop-place
 invariant-loop-place l =
-    IsFilling l.space.table.shared.table_id l.space.table.shared.key l.row (body_word + l.at)
+    IsFilling l.space.table.shared.table_id l.space.table.shared.key l.row (items_word + l.at)
     (λ k word. word ≡ get_or l.items k 0)
     l.fn.pass.seat l.pass.seat l.place × (l.pass.number ≡ l.fn.pass.number)
     × (l.pass.kept ≡ l.fn.pass.kept) × (l.pass.tally ≡ l.fn.pass.tally)

@@ -1,10 +1,7 @@
-use Rattle.std.proofs.Common.{rules, ◌≡◌, ◌+◌, ◌-◌, ◌/◌, ℕ, List, length, set, subst, ◌∙◌, arith, length-set, get_or-set_same}
-use Rattle.ca_base.specs.Writing.{IsFilled}
+use Rattle.std.proofs.Common.{rules, ℕ, List, set, ◌∙◌, arith, length-set, get_or-set_same}
 use Rattle.ca_base.proofs.Filling.{rewritten, rewritten_again}
 use Rattle.ca_base.proofs.Spelling.{spells_object}
 use Rattle.ca_base.proofs.writing.write_object.Goals as goal
-use Rattle.ca_rows.specs.Layout.{row_words}
-use Rattle.ca_node.specs.Layout.{body_word}
 
 pub write_bytes-requires-clause-row : goal.write_bytes-requires-clause-row
 write_bytes-requires-clause-row c = let h = c.requires.row.held.1 in
@@ -21,42 +18,18 @@ write_bytes-requires-clause-row c = let h = c.requires.row.held.1 in
       );
     }
 
-pub clear-requires-clause-row : goal.clear-requires-clause-row
-clear-requires-clause-row c = let h = c.requires.row.held.1 in
-    let its : List ℕ = set h.0 0 c.object_form-form.result in
-    let one = rewritten c.args.row h.0 its c.args.pass.now.seat.me c.write_word.new.pass.seat.me h.2
-    (c.write_word.ensures.written h.0 h.2) in
-    let more = c.write_bytes.ensures.filled its (length-set h.0 0 c.object_form-form.result
-    ∙ h.1) one.here in
-    record {
-      own = search rules;
-      held = (
-        c.requires.row.held.0,
-        (more.0, more.1.long ∙ (length-set h.0 0 c.object_form-form.result ∙ h.1), more.2.here),
-      );
-    }
-
 pub returns-clause-written : goal.returns-clause-written
 returns-clause-written c = let h = c.requires.row.held.1 in
     let form : ℕ = c.object_form-form.result in
     let its : List ℕ = set h.0 0 form in
-    let told = c.object_form-form.ensures in let place = c.requires.place in
+    let told = c.object_form-form.ensures in
     let one = rewritten c.args.row h.0 its c.args.pass.now.seat.me c.write_word.new.pass.seat.me h.2
     (c.write_word.ensures.written h.0 h.2) in
-    let more = c.write_bytes.ensures.filled its (length-set h.0 0 form ∙ h.1) one.here in
-    let last = c.clear.ensures.filled more.0 (more.1.long
-    ∙ (length-set h.0 0 form ∙ h.1)) more.2.here in
-    let words : c.div_ceil.result ≡ (length c.args.object.now + 7) / 8 =
-    omega (arith, c.div_ceil.ensures) in (
+    let last = c.write_bytes.ensures.filled its (length-set h.0 0 form ∙ h.1) one.here in (
       last.0,
-      spells_object c.args.object.now c.args.key_at c.args.key_end form its more.0 last.0
-          (length-set h.0 0 form ∙ h.1)
-          (get_or-set_same h.0 0 form 0 (omega (arith, h.1))) told.form told.key_length
-          told.key_place told.count place.2 more.1
-          (subst (λ n. IsFilled (body_word + n) (row_words - (body_word + n))
-          (λ _ word. word ≡ 0) more.0 last.0) words last.1),
-      rewritten_again c.args.row more.0 last.0 c.args.pass.now.seat.me
-          c.write_bytes.new.pass.seat.me c.clear.new.pass.seat.me
-          (rewritten_again c.args.row its more.0 c.args.pass.now.seat.me
-          c.write_word.new.pass.seat.me c.write_bytes.new.pass.seat.me one more.2) last.2,
+      spells_object c.args.object.now c.args.key_at c.args.key_end form h.0 its last.0 h.1
+          (get_or-set_same h.0 0 form 0 (omega (arith, h.1))) (length-set h.0 0 form) told.form told.key_length
+          told.key_place told.count c.requires.place.2 last.1,
+      rewritten_again c.args.row its last.0 c.args.pass.now.seat.me
+          c.write_word.new.pass.seat.me c.write_bytes.new.pass.seat.me one last.2,
     )

@@ -7,7 +7,7 @@ use Rattle.ca_node.specs.Walking.{IsRouteShown}
 use Rattle.ca_node.proofs.RouteWords.{fixed_word, first_fixed, key_fixed}
 use Rattle.ca_node.proofs.WordOrder.{IsLeft, word_decides, word_passes}
 use Rattle.ca_node.proofs.comparing.compare.Goals as goal
-use Rattle.ca_node.specs.Layout.{body_word}
+use Rattle.ca_node.specs.Layout.{key_word}
 
 pub load_word-requires-clause-shown : goal.load_word-requires-clause-shown
 load_word-requires-clause-shown c = let s = c.requires.shown in
@@ -31,8 +31,8 @@ load_word-word-requires-clause-shown c = let s = c.requires.shown in let short =
     c.load_word.ensures.word _
     (fixed_word c.args.pass.now.seat.me.0.upper c.args.route s.0 0 s.1 first_fixed) in
     let len : c.load_word.result % 65536 ≡ count s.0 = ap (λ (n : ℕ). n % 65536) word in (
-      get_or s.0 (body_word + c.loop-i.i) 0,
-      fixed_word c.loop-i.pass.seat.me.0.upper c.args.route s.0 (body_word + c.loop-i.i)
+      get_or s.0 (key_word + c.loop-i.i) 0,
+      fixed_word c.loop-i.pass.seat.me.0.upper c.args.route s.0 (key_word + c.loop-i.i)
           (subst (λ (m : MyTree). IsRouteShown m.0.upper c.args.route s.0)
           (sym c.loop-i.invariant.still) s.1) (key_fixed c.loop-i.i (omega arith)),
     )
@@ -49,7 +49,7 @@ returns-then-word-other-clause-order c its s = let short = s.short in let m = c.
     s in
     let word =
     c.load_word-word.ensures.word _
-    (fixed_word c.loop-i.pass.seat.me.0.upper c.args.route its (body_word + i) there
+    (fixed_word c.loop-i.pass.seat.me.0.upper c.args.route its (key_word + i) there
     (key_fixed i (omega arith))) in
     c.cmp.ensures
     ∙ word_decides its s.long s.short c.args.key.now i c.load_word-word.result
@@ -76,7 +76,7 @@ loop-i-preserved c = let i : ℕ = c.loop-i.i in record {
       s in
       let word =
       c.load_word-word.ensures.word _
-      (fixed_word c.loop-i.pass.seat.me.0.upper c.args.route its (body_word + i) there
+      (fixed_word c.loop-i.pass.seat.me.0.upper c.args.route its (key_word + i) there
       (key_fixed i (omega arith))) in
       word_passes its s.long s.short c.args.key.now i c.load_word-word.result c.word_at-other.result
       (omega arith) word

@@ -3,15 +3,15 @@ use Rattle.ca_model.specs.StoreMap.{bytes_cmp}
 use Rattle.ca_node.proofs.RouteWords.{fixed_word, key_fixed}
 use Rattle.ca_node.proofs.WordOrder.{none_left, rest_decides}
 use Rattle.ca_node.proofs.comparing.compare_rest.Goals as goal
-use Rattle.ca_node.specs.Layout.{body_word}
+use Rattle.ca_node.specs.Layout.{key_word}
 
 pub load_word-requires-clause-shown : goal.load_word-requires-clause-shown
 load_word-requires-clause-shown c = let its : List ℕ = c.requires.shown.0 in
     let s = c.requires.shown.1 in
     let n = c.requires.count its s in let m = c.min-count.ensures in
     let not = c.if-count-eq0.false in let short = s.short in (
-      get_or its (body_word + c.args.word) 0,
-      fixed_word c.args.pass.now.seat.me.0.upper c.args.route its (body_word + c.args.word) s
+      get_or its (key_word + c.args.word) 0,
+      fixed_word c.args.pass.now.seat.me.0.upper c.args.route its (key_word + c.args.word) s
           (key_fixed c.args.word (omega arith)),
     )
 
@@ -21,7 +21,7 @@ returns-clause-order c its s = let n = c.requires.count its s in let m = c.min-c
     let l : c.args.word < 125 = omega arith in
     let word =
     c.load_word.ensures.word _
-    (fixed_word c.args.pass.now.seat.me.0.upper c.args.route its (body_word + c.args.word) s
+    (fixed_word c.args.pass.now.seat.me.0.upper c.args.route its (key_word + c.args.word) s
     (key_fixed c.args.word l)) in
     c.cmp-2.ensures
     ∙ (ap (λ (bs : List ℕ). bytes_cmp (take c.min-count.result bs) c.args.rest.now)

@@ -3,9 +3,9 @@ use Rattle.ca_rows.proofs.opening.fill_above.Given as goal
 
 abbrev pub invariant-loop-word : goal.invariant-loop-word
 invariant-loop-word g l =
-    (66 ≤ l.word) × (l.word ≤ 272) × (length l.words ≡ length l.fn.words)
-    × ((i : ℕ) → 66 ≤ i → i < l.word → slice_index l.words i ≡ g.R.RowRule.opens l.sizes i)
-    × ((i : ℕ) → i < 66 → slice_index l.words i ≡ slice_index l.fn.words i)
+    (2 ≤ l.word) × (l.word ≤ 272) × (length l.words ≡ length l.fn.words)
+    × ((i : ℕ) → 2 ≤ i → i < l.word → slice_index l.words i ≡ g.R.RowRule.opens l.sizes i)
+    × ((i : ℕ) → i < 2 → slice_index l.words i ≡ slice_index l.fn.words i)
     × ((i : ℕ) → 272 ≤ i → slice_index l.words i ≡ slice_index l.fn.words i)
 
 abbrev pub decreases-loop-word : goal.decreases-loop-word

@@ -4,7 +4,7 @@ use Rattle.ca_rows.proofs.Scanning.{scans}
 use Rattle.ca_rows.proofs.space.Space.lagging.Goals as goal
 
 pub load-announced-requires : goal.load-announced-requires
-load-announced-requires g c = let sized = c.args.self.now.sized in
+load-announced-requires g c = let sized = c.args.self.now.sized in let place = c.own_word-word.ensures in
     let some_rows = c.args.self.now.few.0 in let few = c.args.self.now.passes.1 in
     let more = c.loop-seen-test.true in
     let upto = ap
@@ -13,5 +13,5 @@ load-announced-requires g c = let sized = c.args.self.now.sized in
       omega arith,
       scans g.R.RowRule.linked g.R.RowRule.lent g.R.RowRule.noted g.R.RowRule.fact
           g.met.R.RowRule.frames
-          c.args.self.now.table.shared.key _ _ _ (c.loop-seen.seen + 2) (omega arith),
+          c.args.self.now.table.shared.key _ _ _ c.own_word-word.result (omega arith),
     )

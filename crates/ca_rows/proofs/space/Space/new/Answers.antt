@@ -17,11 +17,11 @@ of_words-requires g c =
       starts = c.args.starts;
     } in
     let bounds : AreInBounds z = search rules in
-    let opened : IsOpening g.R.RowRule.opens z c.in-Ok.words.items = search rules in
+    let opened : IsOpening g.R.RowRule.opens g.R.RowRule.result_word z c.in-Ok.words.items = search rules in
     subst (λ (words : List ℕ).
     Ruled g.R.RowRule.linked g.R.RowRule.lent g.R.RowRule.noted g.R.RowRule.fact z
     (opening words [] (fresh z 0 g.R.RowRule.first)))
     (sym c.as_slice.ensures.value)
     (starts_ruled g.R.RowRule.linked g.R.RowRule.lent g.R.RowRule.noted g.R.RowRule.fact
-    g.R.RowRule.opens g.R.RowRule.first g.met.R.RowRule.opening z
+    g.R.RowRule.opens g.R.RowRule.result_word g.R.RowRule.first g.met.R.RowRule.opening z
     c.in-Ok.words.items bounds c.requires opened)

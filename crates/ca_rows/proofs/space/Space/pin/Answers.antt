@@ -14,7 +14,7 @@ load-epoch-requires g c = let sized = c.args.self.now.sized in (
 
 pub store-requires : goal.store-requires
 store-requires g c =
-    let sized = c.args.self.now.sized in
+    let sized = c.args.self.now.sized in let place = c.own_word-word.ensures in
     let some_rows = c.args.self.now.few.0 in
     let asked = c.load-epoch.ensures.2.1 in
     let same = ap (λ (m : Mine g.row.R-Upper.Denot). m.0.pin) asked in
@@ -29,7 +29,7 @@ store-requires g c =
       announces g.R.RowRule.linked g.R.RowRule.lent g.R.RowRule.noted g.R.RowRule.fact
           g.met.R.RowRule.frames c.args.self.now.table.shared.key
           g.R.RowRule.enters g.R.RowRule.leaves g.met.R.RowRule.pinning
-          _ _ _ (c.args.pass.now.number + 1) (c.load-epoch.result + 1) (omega arith) (omega arith)
+          _ _ _ c.own_word-word.result (c.load-epoch.result + 1) (omega arith) (omega arith)
           (omega arith)
           (ap (λ (e : Pin). e.pinned) same ∙ c.requires.unpinned),
     )
