@@ -1,19 +1,19 @@
 -- A base that was shown last may be divided by rows that were written, and which rows a pass has
 -- then.
 use Rattle.std.proofs.Common.{◌≡◌, ◌≢◌, ℕ, ◌+◌, ◌-◌, ◌/◌, ◌<◌, ◌≤◌, true, List, [], ◌∷◌, length, map, take, drop, get_or, sym, refl, ap, ◌∙◌, subst, ⊎_elim, arith, length-take}
-use Rattle.std.proofs.lemmas.List.{take_rest}
+use Rattle.std.proofs.lemmas.List.{take_rest, length-map}
 use mathlib.Core.Option.{some, none}
 use Rattle.ca_model.specs.StoreMap.{IsStoreMap}
 use Rattle.ca_node.specs.Laws.{in_nothing}
 use Rattle.ca_node.specs.Links.{IsIn, AreApart}
-use Rattle.ca_node.specs.Row.{count, items, key, pair}
+use Rattle.ca_node.specs.Row.{count, items, key, pair, item_words, row_in}
 use Rattle.ca_node.specs.Told.{MyTree, IsLastThere, IsDivision, IsDivided, given}
 use Rattle.ca_node.specs.TreeView.{Note, TreeView, Division}
 use Rattle.ca_node.specs.declared.cursor.Cursor.{Cursor}
 use Rattle.ca_node.proofs.HeldRows.{given_fewer, taken_out_more}
 use Rattle.ca_node.proofs.Looking.{in_more}
 use Rattle.ca_base.specs.Finding.{IsAtCursor, IsReadable}
-use Rattle.ca_base.specs.Putting.{IsShownLast, first_note, last_items, words_of}
+use Rattle.ca_base.specs.Putting.{IsShownLast, first_note, words_of, last_words}
 use Rattle.ca_base.specs.Splitting.{SpellsRoute, IsHalving, division_by, division_of}
 use Rattle.ca_base.specs.Taking.{HasHeld, AreHeld, AreUnlinked}
 use Rattle.ca_base.specs.Writing.{IsRewritten, SpellsBase}
@@ -92,9 +92,9 @@ pub record AreWritten (z : Sizes) (m0 m1 m2 m3 m4 : MyTree) (route left right ma
   pub wrote_left : IsRewritten left l m1 m2
   pub wrote_right : IsRewritten right r m2 m3
   pub wrote_route : IsRewritten route t m3 m4
-  pub is_left : SpellsBase (take (many / 2) (drop 0 (last_items m0.0.upper))) (cursor.level + 1)
+  pub is_left : SpellsBase (take (many / 2) (drop 0 (last_words m0.0.upper))) (cursor.level + 1)
       4294967296 l
-  pub is_right : SpellsBase (take (many - many / 2) (drop (many / 2) (last_items m0.0.upper)))
+  pub is_right : SpellsBase (take (many - many / 2) (drop (many / 2) (last_words m0.0.upper)))
       (cursor.level + 1) 4294967296 r
   pub is_route : SpellsRoute cursor.level
       (key (get_or (first_note m0.0.upper.notes).objects (many / 2) [])) left right attempt t
@@ -111,10 +111,10 @@ module _ (z : Sizes) (m0 m1 m2 m3 m4 : MyTree) (route left right many attempt : 
   note = first_note m0.0.upper.notes
 
   abbrev these : List ℕ
-  these = last_items m0.0.upper
+  these = last_words m0.0.upper
 
   as_many : length these ≡ many
-  as_many = sym (w.many_are ∙ w.shown.is_base.as_many)
+  as_many = sym (w.many_are ∙ (w.shown.is_base.as_many ∙ length-map these row_in))
 
   few : many ≤ z.leaf
   few = let a = as_many in let b = w.shown.is_base.few in
@@ -128,7 +128,7 @@ module _ (z : Sizes) (m0 m1 m2 m3 m4 : MyTree) (route left right many attempt : 
 
   -- The middle is where the left half ends.
   middle : length (items l) ≡ many / 2
-  middle = ap (λ (xs : List ℕ). length xs) w.is_left.items_are ∙ left_many
+  middle = length-map (item_words l) row_in ∙ (ap (λ (xs : List ℕ). length xs) w.is_left.words_are ∙ left_many)
 
   -- The right half is all that the left one isn't.
   rest : take (many - many / 2) (drop (many / 2) these) ≡ drop (many / 2) these
@@ -172,14 +172,14 @@ module _ (z : Sizes) (m0 m1 m2 m3 m4 : MyTree) (route left right many attempt : 
       level_is = w.is_left.level_is ∙ ap (λ (n : ℕ). n + 1) (sym w.at.level);
       few = let a = w.is_left.count_is in let b = left_many in let c = few in omega arith;
       unmarked = w.is_left.unmarked;
-      items_are = w.is_left.items_are ∙ ap (λ (n : ℕ). take n these) (sym middle);
+      words_are = w.is_left.words_are ∙ ap (λ (n : ℕ). take n these) (sym middle);
     };
     is_right = record {
       is_base = w.is_right.is_base;
       level_is = w.is_right.level_is ∙ ap (λ (n : ℕ). n + 1) (sym w.at.level);
       few = let a = w.is_right.count_is in let b = right_many in let c = few in omega arith;
       unmarked = w.is_right.unmarked;
-      items_are = w.is_right.items_are ∙ (rest ∙ ap (λ (n : ℕ). drop n these) (sym middle));
+      words_are = w.is_right.words_are ∙ (rest ∙ ap (λ (n : ℕ). drop n these) (sym middle));
     };
   }
 

@@ -108,6 +108,11 @@ pub map_put : (place : Result ℕ ℕ) {A : Type 0} (f : A → Pair) (xs : List 
 map_put (Ok at) f xs x = map-set f xs at x
 map_put (Err at) f xs x = map_inserted f xs at x
 
+pub map_put_in : (place : Result ℕ ℕ) {A B : Type 0} (f : A → B) (xs : List A) (x : A)
+    → map f (put_in xs place x) ≡ put_in (map f xs) place (f x)
+map_put_in (Ok at) f xs x = map-set f xs at x
+map_put_in (Err at) f xs x = map_inserted f xs at x
+
 pub here_put : (place : Result ℕ ℕ) (xs : List ℕ) (x : ℕ) → IsInRange place (length xs)
     → IsIn x (put_in xs place x)
 here_put (Ok at) xs x l = (at, there xs at (get_or xs at 0) x (elem_or xs at 0 l))

@@ -1,9 +1,9 @@
 -- What the words of a base say that a pass was shown.
 use Rattle.std.proofs.Common.{◌≡◌, ℕ, zero, suc, ◌+◌, ◌%◌, ◌<◌, ◌≤◌, List, [], ◌∷◌, length, get_or, drop, sym, refl, ap, ◌∙◌, inl, inr, arith, length-drop}
-use Rattle.std.proofs.lemmas.List.{get_or-take, get_or-drop, length-take-le}
+use Rattle.std.proofs.lemmas.List.{get_or-take, get_or-drop, length-take-le, get_or-map, length-map}
 use mathlib.Core.Option.{some}
 use lib.ListN.{get_elem?}
-use Rattle.ca_node.specs.Row.{count, items}
+use Rattle.ca_node.specs.Row.{count, items, item_words, row_in, head_in, head_of}
 use Rattle.ca_node.specs.Told.{IsShown, IsShownWord}
 use Rattle.ca_node.specs.TreeView.{Note, TreeView}
 use Rattle.ca_base.specs.Finding.{IsReadable, IsObjectShown}
@@ -35,9 +35,12 @@ module _ (z : Sizes) (u : TreeView) (base : ℕ) (note : Note) (r : IsReadable z
   pub base_shown : (its : List ℕ) × IsShown u base its
   base_shown = (note.its, shows)
 
-  many : length (items note.its) ≡ count note.its
-  many = let few = r.few in let long = r.is_base.long in
+  words_many : length (item_words note.its) ≡ count note.its
+  words_many = let few = r.few in let long = r.is_base.long in
       length-take-le (count note.its) (drop items_word note.its) (omega (arith, length-drop items_word note.its))
+
+  many : length (items note.its) ≡ count note.its
+  many = length-map (item_words note.its) row_in ∙ words_many
 
   -- Its first word says how many objects it has.
   pub count_is : (word : ℕ) → ((its : List ℕ) → IsShown u base its → word ≡ get_or its 0 0)
@@ -46,27 +49,47 @@ module _ (z : Sizes) (u : TreeView) (base : ℕ) (note : Note) (r : IsReadable z
       (λ (n : ℕ). n % 65536) (sym (is note.its shows)) in
       let few = r.few in (sym first ∙ (sym many ∙ sym r.is_base.as_many), omega arith)
 
-  -- The word of an item names its object row.
+  -- The word of an item is this one.
+  word_is : (place word : ℕ)
+      → ((its : List ℕ) → IsShown u base its → word ≡ get_or its (items_word + place) 0)
+      → place < length note.objects
+      → get_or (item_words note.its) place 0 ≡ word
+  word_is place word is l = let m = many in let a = r.is_base.as_many in
+      let in_range : place < count note.its = omega arith in
+      get_or-take (count note.its) (drop items_word note.its) place 0 in_range
+      ∙ (get_or-drop items_word note.its place 0 ∙ sym (is note.its shows))
+
+  -- It has the head of the object's key.
+  pub head_is : (place word : ℕ)
+      → ((its : List ℕ) → IsShown u base its → word ≡ get_or its (items_word + place) 0)
+      → place < length note.objects
+      → head_in word ≡ head_of (get_or note.objects place [])
+  head_is place word is l = let m = many in let w = words_many in let a = r.is_base.as_many in
+      sym (get_or-map head_in (item_words note.its) place 0 0 (omega arith)
+      ∙ ap head_in (word_is place word is l))
+      ∙ (ap (λ (hs : List ℕ). get_or hs place 0) r.is_base.headed
+      ∙ get_or-map head_of note.objects place [] 0 l)
+
+  -- It names its object row.
   pub item_is : (place word : ℕ)
       → ((its : List ℕ) → IsShown u base its → word ≡ get_or its (items_word + place) 0)
       → place < length note.objects
-      → get_elem? (items note.its) place ≡ some word
-  item_is place word is l = let m = many in let a = r.is_base.as_many in
-      let in_range : place < count note.its = omega arith in
+      → get_elem? (items note.its) place ≡ some (row_in word)
+  item_is place word is l = let m = many in let w = words_many in let a = r.is_base.as_many in
       at_place (items note.its) place 0 (omega arith)
-      ∙ ap some (get_or-take (count note.its) (drop items_word note.its) place 0 in_range
-      ∙ (get_or-drop items_word note.its place 0 ∙ sym (is note.its shows)))
+      ∙ ap some (get_or-map row_in (item_words note.its) place 0 0 (omega arith)
+      ∙ ap row_in (word_is place word is l))
 
   pub item_inside : (place word : ℕ)
       → ((its : List ℕ) → IsShown u base its → word ≡ get_or its (items_word + place) 0)
       → place < length note.objects
-      → (0 < word) × (word ≤ z.rows)
-  item_inside place word is l = r.is_base.named word (place, item_is place word is l)
+      → (0 < row_in word) × (row_in word ≤ z.rows)
+  item_inside place word is l = r.is_base.named (row_in word) (place, item_is place word is l)
 
   pub object_is : (place word : ℕ)
       → ((its : List ℕ) → IsShown u base its → word ≡ get_or its (items_word + place) 0)
       → place < length note.objects
-      → IsObjectShown u word (get_or note.objects place [])
+      → IsObjectShown u (row_in word) (get_or note.objects place [])
   object_is place word is l = let its : List ℕ = get_or note.objects place [] in
       let here = at_place note.objects place [] l in record {
         shown = (note, r.noted, inr (r.is_base.is_base, (place, item_is place word is l, here)));

@@ -1,14 +1,12 @@
 -- The items of the base that was shown last, and a new base with some of them.
 use Rattle.std.proofs.Common.{◌≡◌, ℕ, ◌+◌, ◌-◌, ◌*◌, ◌<◌, ◌≤◌, List, length, take, drop, ◌++◌, get_or, sym, refl, ap, ◌∙◌, subst, inl, arith, length-take, length-drop, length-append}
-use Rattle.std.proofs.lemmas.List.{get_or-take, get_or-drop, get_or_append_left, get_or-append_right, length-take-le}
-use mathlib.Core.Option.{some}
-use Rattle.ca_node.specs.Row.{count}
+use Rattle.std.proofs.lemmas.List.{get_or-take, get_or-drop, get_or_append_left, get_or-append_right, length-take-le, get_or-map}
+use Rattle.ca_node.specs.Row.{count, row_in}
 use Rattle.ca_node.specs.Told.{MyTree, IsShown}
 use Rattle.ca_node.specs.TreeView.{Note, TreeView}
-use Rattle.ca_base.specs.Putting.{IsShownLast, first_note, last_items}
+use Rattle.ca_base.specs.Putting.{IsShownLast, first_note, last_items, last_words}
 use Rattle.ca_base.specs.Writing.{IsHeld, HasFilled, HasWritten, SpellsBase, base_head}
 use Rattle.ca_base.proofs.Filling.{filled_as, filled_on, rewritten_again}
-use Rattle.ca_base.proofs.Items.{at_place}
 use Rattle.ca_base.proofs.Spelling.{spells_base}
 use Rattle.ca_rows.specs.declared.sizes.Sizes.{Sizes}
 use Rattle.ca_node.specs.Layout.{items_word}
@@ -23,24 +21,19 @@ module _ (z : Sizes) (u : TreeView) (base : ℕ) (shown : IsShownLast z u base) 
   pub last_inside : base ≤ z.rows
   last_inside = let here = shown.here in let high = shown.is_base.in_range in omega arith
 
-  in_count : (k : ℕ) → k < length (last_items u) → k < count note.its
+  in_count : (k : ℕ) → k < length (last_words u) → k < count note.its
   in_count k l = omega (arith, length-take (count note.its) (drop items_word note.its))
 
-  -- The word of an item, and that it names a row.
-  pub last_item : (k word : ℕ) → word ≡ get_or note.its (items_word + k) 0 → k < length (last_items u)
-      → word ≡ get_or (last_items u) k 0
-  last_item k word is l = is
+  -- The word of an item, and the row that it names.
+  pub last_word : (k word : ℕ) → word ≡ get_or note.its (items_word + k) 0 → k < length (last_words u)
+      → word ≡ get_or (last_words u) k 0
+  last_word k word is l = is
       ∙ sym (get_or-take (count note.its) (drop items_word note.its) k 0 (in_count k l)
       ∙ get_or-drop items_word note.its k 0)
 
-  pub item_names : (k word : ℕ) → word ≡ get_or note.its (items_word + k) 0 → k < length (last_items u)
-      → word ≤ z.rows
-  item_names k word is l =
-      (shown.is_base.named word (
-        k,
-        at_place (last_items u) k 0 l
-            ∙ ap some (sym (last_item k word is l)),
-      )).1
+  pub last_item : (k word : ℕ) → word ≡ get_or note.its (items_word + k) 0 → k < length (last_words u)
+      → row_in word ≡ get_or (last_items u) k 0
+  last_item k word is l = ap row_in (last_word k word is l) ∙ sym (get_or-map row_in (last_words u) k 0 0 l)
 
 -- A row that was filled with a base's words is a base.
 pub base_written : (row at_level many statistic : ℕ) (these : List ℕ) (k m n : MyTree)

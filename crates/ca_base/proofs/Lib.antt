@@ -3,6 +3,7 @@ pub mod Counts
 pub mod Divisions
 pub mod Filling
 pub mod Halves
+pub mod Heads
 pub mod Held
 pub mod Inserting
 pub mod Items

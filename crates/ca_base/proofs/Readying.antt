@@ -8,12 +8,12 @@ use Rattle.ca_model.specs.History.{Edit, Put}
 use Rattle.ca_model.specs.StoreMap.{IsPair}
 use Rattle.ca_model.specs.Places.{IsPlace}
 use Rattle.ca_node.specs.Place.{HasKey}
-use Rattle.ca_node.specs.Row.{count, object, key, pair}
+use Rattle.ca_node.specs.Row.{count, object, key, pair, row_in, head_in, front_of}
 use Rattle.ca_node.specs.Told.{MyTree, IsUpdate}
 use Rattle.ca_node.specs.TreeView.{Note, TreeView}
 use Rattle.ca_base.specs.declared.updating.Putting.{Putting}
 use Rattle.ca_rows.specs.declared.view.Met.{Met}
-use Rattle.ca_base.specs.Putting.{put_in, object_at, IsRoom, IsPlaceFor, IsFor, IsShownLast, HasRenewed, HasSwapped, first_note, last_items, words_of, put_event, put_update, put_update_of}
+use Rattle.ca_base.specs.Putting.{put_in, object_at, IsRoom, IsPlaceFor, IsFor, IsShownLast, HasRenewed, HasSwapped, first_note, words_of, put_event, put_update, put_update_of, last_words}
 use Rattle.ca_base.specs.Writing.{IsRewritten, SpellsObject, SpellsBase}
 use Rattle.ca_base.proofs.Rebasing.{new_base, note_is, words_are}
 use Rattle.ca_base.proofs.Replacing.{in_range_of, is_put}
@@ -31,10 +31,11 @@ finds_place (Err at) n leaf l r few = (l, omega arith)
 
 module _ (z : Sizes) (m0 m1 m2 m3 : MyTree) (row new base : ℕ) (place : Result ℕ ℕ) (why : Putting)
     (bytes : List ℕ)
-    (key_at key_end statistic : ℕ) (a b : List ℕ) (shown : IsShownLast z m0.0.upper base)
+    (key_at key_end statistic word : ℕ) (a b : List ℕ) (is_row : row_in word ≡ row)
+    (is_head : head_in word ≡ front_of 5 (slice_range bytes key_at key_end)) (shown : IsShownLast z m0.0.upper base)
     (upper : m3.0.upper ≡ m0.0.upper) (other : row ≢ new)
     (one : SpellsObject bytes key_at key_end a) (wrote : IsRewritten row a m1 m2)
-    (two : SpellsBase (put_in (last_items m0.0.upper) place row)
+    (two : SpellsBase (put_in (last_words m0.0.upper) place word)
     (first_note m0.0.upper.notes).place.level statistic b)
     (wrote_too : IsRewritten new b m2 m3) where
   abbrev note : Note
@@ -50,7 +51,7 @@ module _ (z : Sizes) (m0 m1 m2 m3 : MyTree) (row new base : ℕ) (place : Result
   is_note = note_is m0 m3 upper
 
   pub ready : m0.0.pin.pinned ≡ true → 0 < m0.0.upper.number
-      → IsRoom place (length (last_items m0.0.upper)) z.leaf
+      → IsRoom place (length (last_words m0.0.upper)) z.leaf
       → IsPair z.keypos (slice_range bytes key_at key_end, bytes)
       → IsPlace (map pair note.objects) (slice_range bytes key_at key_end) place
       → IsFor why place → m3.0.pin ≡ m0.0.pin
@@ -60,15 +61,16 @@ module _ (z : Sizes) (m0 m1 m2 m3 : MyTree) (row new base : ℕ) (place : Result
       subst (λ (x : Note × List ℕ × List ℕ).
       IsUpdate z m3 new (put_update x.0 row x.1 x.2 place why))
       (λ i. (sym is_note i, sym is_a i, sym (words_are new b m2 m3 wrote_too) i))
-      (is_put z m3 note row new place why statistic a b
-      (new_base z m0 m2 m3 new base (put_in (last_items m0.0.upper) place row) statistic b shown
+      (is_put z m3 note row new place why statistic word a b is_row
+      (is_head ∙ ap (front_of 5) (sym one.key_is))
+      (new_base z m0 m2 m3 new base (put_in (last_words m0.0.upper) place word) statistic b shown
       is_pinned is_pass upper pin two wrote_too)
       record {
         object_held = object_held;
         is_object = one.is_object;
         place_is = subst
             (λ (k : List ℕ). IsPlace (map pair note.objects) k place) (sym one.key_is) is_place;
-        room = room;
+        room = subst (λ (n : ℕ). IsRoom place n z.leaf) (sym (length-map (last_words m0.0.upper) row_in)) room;
         pair_is = subst (λ (x : List ℕ × List ℕ). IsPair z.keypos x)
             (λ i. (sym one.key_is i, sym one.object_is i)) is_pair;
         is_for = is_for;
@@ -109,17 +111,17 @@ module _ (z : Sizes) (m0 m1 m2 m3 : MyTree) (row new base : ℕ) (place : Result
 -- What was written at the level of a cursor is at that of the base.
 pub spells_there : (first now : TreeView) (these : List ℕ → List ℕ) (there here statistic : ℕ)
     (its : List ℕ) → now ≡ first → there ≡ here
-    → SpellsBase (these (last_items now)) here statistic its
-    → SpellsBase (these (last_items first)) there statistic its
+    → SpellsBase (these (last_words now)) here statistic its
+    → SpellsBase (these (last_words first)) there statistic its
 spells_there first now these there here statistic its same is s = subst
-    (λ (u : TreeView). SpellsBase (these (last_items u)) there statistic its) same
-    (subst (λ (n : ℕ). SpellsBase (these (last_items now)) n statistic its) (sym is) s)
+    (λ (u : TreeView). SpellsBase (these (last_words u)) there statistic its) same
+    (subst (λ (n : ℕ). SpellsBase (these (last_words now)) n statistic its) (sym is) s)
 
 -- It has as many items as objects, and the place is among them.
 pub many_are : (z : Sizes) (u : TreeView) (base many : ℕ) → IsShownLast z u base
     → many ≡ length (first_note u.notes).objects
-    → many ≡ length (last_items u)
-many_are z u base many shown is = is ∙ shown.is_base.as_many
+    → many ≡ length (last_words u)
+many_are z u base many shown is = is ∙ (shown.is_base.as_many ∙ length-map (last_words u) row_in)
 
 pub place_in : (z : Sizes) (u : TreeView) (base many : ℕ) (place : Result ℕ ℕ) (k : List ℕ)
     → IsShownLast z u base

@@ -13,7 +13,7 @@ use Rattle.ca_node.specs.Laws.{in_nothing}
 use Rattle.ca_node.specs.Inventory.{AreOnce, row_itself}
 use Rattle.ca_node.specs.Links.{IsIn}
 use Rattle.ca_node.specs.Place.{HasKey, edit_key}
-use Rattle.ca_node.specs.Row.{items, pair}
+use Rattle.ca_node.specs.Row.{items, pair, row_in, head_in, head_of}
 use Rattle.ca_node.specs.Told.{MyTree, Update, IsBaseNote, IsObjectOf, IsLastThere, IsUpdate}
 use Rattle.ca_node.specs.TreeView.{Note, TreeView}
 use Rattle.ca_node.proofs.Looking.{in_more}
@@ -24,7 +24,7 @@ use Rattle.ca_rows.specs.declared.view.Claim.TheVariants.{Holds}
 use Rattle.ca_rows.specs.declared.view.Pin.{Pin}
 use Rattle.ca_rows.specs.Claims.{claim_of}
 
--- The seat is pinned, was shown the old base, and holds a new one with these items.
+-- The seat is pinned, was shown the old base, and holds a new one with these words for its items.
 pub record IsNewBase (z : Sizes) (m : MyTree) (new : ℕ) (old : Note) (these : List ℕ)
     (statistic : ℕ) (b : List ℕ) : Type 0 where
   pub is_pinned : m.0.pin.pinned ≡ true
@@ -58,11 +58,14 @@ pub record IsMade (keypos : ℕ) (m : MyTree) (x : Update) (these : List ℕ) : 
   pub is_edit : IsEdit keypos x.edit
   pub about : HasKey x.old.place.span (edit_key x.edit)
 
-pub is_update : (z : Sizes) (m : MyTree) (new : ℕ) (x : Update) (these : List ℕ) (statistic : ℕ)
-    → IsNewBase z m new x.old these statistic x.its
+pub is_update : (z : Sizes) (m : MyTree) (new : ℕ) (x : Update) (words these : List ℕ)
+    (statistic : ℕ) → IsNewBase z m new x.old words statistic x.its
+    → map row_in words ≡ these → map head_in words ≡ map head_of x.objects
     → length these ≤ z.leaf → IsMade z.keypos m x these → IsUpdate z m new x
-is_update z m new x these statistic n few made =
-    let h = subst (IsMade z.keypos m x) (sym n.spells.items_are) made in record {
+is_update z m new x words these statistic n rows headed few made =
+    let are = ap (map row_in) n.spells.words_are ∙ rows in
+    let as_long = ap (λ (xs : List ℕ). length xs) rows in let long = length-map words row_in in
+    let h = subst (IsMade z.keypos m x) (sym are) made in record {
       is_pinned = n.is_pinned;
       is_pass = n.is_pass;
       shown = subst (IsLastThere x.old) (sym n.shown.1) (inl refl);
@@ -73,6 +76,7 @@ is_update z m new x these statistic n few made =
       few = let c = n.spells.count_is in omega arith;
       unmarked = n.spells.unmarked;
       as_many = h.as_many;
+      headed = ap (map head_in) n.spells.words_are ∙ headed;
       are_objects = h.are_objects;
       come = h.come;
       come_once = h.come_once;

@@ -83,6 +83,7 @@ module _ (z : Sizes) (kept : Vec Kept Global) (m : MyTree) (new : ℕ) (x : Upda
     named = named_new;
     as_many = up.as_many;
     objects_long = long_new;
+    headed = up.headed;
   }
 
   pub renewed : (m' : MyTree) (v : TreeView) → length x.comes ≤ 1 → IsUpdated new x m m'

@@ -13,7 +13,7 @@ use Rattle.ca_model.proofs.Places.{placed_is}
 use Rattle.ca_model.specs.Places.{IsPlace}
 use Rattle.ca_node.specs.Links.{IsIn}
 use Rattle.ca_node.specs.Place.{HasKey}
-use Rattle.ca_node.specs.Row.{IsObjectRow, items, count, object, key, pair}
+use Rattle.ca_node.specs.Row.{IsObjectRow, items, count, object, key, pair, item_words, row_in, head_in, head_of}
 use Rattle.ca_node.specs.Told.{MyTree, Update, IsUpdate}
 use Rattle.ca_node.specs.TreeView.{Note}
 use Rattle.ca_node.proofs.Looking.{in_more}
@@ -22,7 +22,7 @@ use Rattle.ca_base.specs.declared.updating.Putting.{Putting}
 use Rattle.ca_base.specs.declared.updating.Putting.TheVariants as putting
 use Rattle.ca_base.specs.Putting.{put_in, gone, object_at, IsRoom, put_event, IsFor, put_update}
 use Rattle.ca_base.proofs.Rebasing.{IsNewBase, IsElsewhere, gone_is, is_found_at, is_update}
-use Rattle.ca_base.proofs.Inserting.{IsInRange, put_length, elem_or, within, put_both, length_put, map_put, here_put, in_inserted}
+use Rattle.ca_base.proofs.Inserting.{IsInRange, put_length, elem_or, within, put_both, length_put, map_put, map_put_in, here_put, in_inserted}
 use Rattle.ca_rows.specs.declared.sizes.Sizes.{Sizes}
 use Rattle.ca_rows.specs.declared.view.Claim.TheVariants.{Holds}
 use Rattle.ca_rows.specs.Claims.{claim_of}
@@ -95,8 +95,8 @@ pub record IsPut (z : Sizes) (m : MyTree) (note : Note) (row : ℕ) (place : Res
   pub about : HasKey note.place.span (key a)
 
 module _ (z : Sizes) (m : MyTree) (note : Note) (row new : ℕ) (place : Result ℕ ℕ) (why : Putting)
-    (statistic : ℕ) (a b : List ℕ)
-    (n : IsNewBase z m new note (put_in (items note.its) place row) statistic b)
+    (statistic word : ℕ) (a b : List ℕ) (is_row : row_in word ≡ row) (is_head : head_in word ≡ head_of a)
+    (n : IsNewBase z m new note (put_in (item_words note.its) place word) statistic b)
     (h : IsPut z m note row place why a) where
   abbrev x : Update
   x = put_update note row a b place why
@@ -107,40 +107,49 @@ module _ (z : Sizes) (m : MyTree) (note : Note) (row new : ℕ) (place : Result 
 
   few_items : length (items note.its) ≤ z.leaf
   few_items = let few = n.is_base.few in
-      omega (arith, length-take (count note.its) (drop items_word note.its))
+      omega (arith, length-map (item_words note.its) row_in, length-take (count note.its) (drop items_word note.its))
+
+  rows_put : map row_in (put_in (item_words note.its) place word) ≡ put_in (items note.its) place row
+  rows_put = map_put_in place row_in (item_words note.its) word ∙ ap (put_in (items note.its) place) is_row
+
+  heads_put : map head_in (put_in (item_words note.its) place word) ≡ map head_of (put_in note.objects place a)
+  heads_put = map_put_in place head_in (item_words note.its) word
+      ∙ (ap (λ (hs : List ℕ). put_in hs place (head_in word)) n.is_base.headed
+      ∙ (ap (put_in (map head_of note.objects) place) is_head ∙ sym (map_put_in place head_of note.objects a)))
 
   few : length (put_in (items note.its) place row) ≤ z.leaf
   few = let l = length_put place (items note.its) row range in
       let f = few_enough place (length (items note.its)) z.leaf few_items h.room in omega arith
 
   pub is_put : IsUpdate z m new x
-  is_put = is_update z m new x (put_in (items note.its) place row) statistic n few record {
-    as_many = length_put place note.objects a
-        (subst (IsInRange place) (sym n.is_base.as_many) range)
-        ∙ (ap (put_length place) n.is_base.as_many
-        ∙ sym (length_put place (items note.its) row range));
-    are_objects = λ k r its p q. ⊎_elim
-        (λ (s : (row ≡ r) × (a ≡ its)). inr (
-          (0, ap some s.0),
-          subst (λ (y : ℕ × List ℕ). claim_of m.0.claims y.0 ≡ some (Holds y.1))
-              (λ i. (s.0 i, s.1 i)) h.object_held,
-          subst (λ (y : List ℕ). IsObjectRow y) s.1 h.is_object,
-        ))
-        (λ (o : (i : ℕ) × (get_elem? (items note.its) i ≡ some r)
-        × (get_elem? note.objects i ≡ some its)). inl o)
-        (put_both place (items note.its) note.objects k row r a its n.is_base.as_many range p q);
-    come = λ r i. let e : row ≡ r = ⊎_elim (λ e. e)
-        (λ (j : IsIn r []). absurd (in_nothing r [] refl j)) (in_more row r [] i) in
-        subst (λ (y : ℕ). IsIn y (put_in (items note.its) place row)
-        × ((its : List ℕ) × (claim_of m.0.claims y ≡ some (Holds its)))) e
-        (here_put place (items note.its) row range, (a, h.object_held));
-    come_once = (λ t. in_nothing t.0 [] refl t.1, tt);
-    go = λ r i. goes x place row r range refl i;
-    stay = λ r i. stays place (items note.its) row r i;
-    map_is = map_put place pair note.objects a
-        ∙ placed_is (map pair note.objects) (pair a) place h.place_is;
-    does = effect_is why (key a) (object_at place note.objects) (object a);
-    answer = answers why place note.objects (key a) (object a) h.is_for h.place_is;
-    is_edit = h.pair_is;
-    about = h.about;
-  }
+  is_put = is_update z m new x (put_in (item_words note.its) place word) (put_in (items note.its) place row)
+      statistic n rows_put heads_put few record {
+        as_many = length_put place note.objects a
+            (subst (IsInRange place) (sym n.is_base.as_many) range)
+            ∙ (ap (put_length place) n.is_base.as_many
+            ∙ sym (length_put place (items note.its) row range));
+        are_objects = λ k r its p q. ⊎_elim
+            (λ (s : (row ≡ r) × (a ≡ its)). inr (
+              (0, ap some s.0),
+              subst (λ (y : ℕ × List ℕ). claim_of m.0.claims y.0 ≡ some (Holds y.1))
+                  (λ i. (s.0 i, s.1 i)) h.object_held,
+              subst (λ (y : List ℕ). IsObjectRow y) s.1 h.is_object,
+            ))
+            (λ (o : (i : ℕ) × (get_elem? (items note.its) i ≡ some r)
+            × (get_elem? note.objects i ≡ some its)). inl o)
+            (put_both place (items note.its) note.objects k row r a its n.is_base.as_many range p q);
+        come = λ r i. let e : row ≡ r = ⊎_elim (λ e. e)
+            (λ (j : IsIn r []). absurd (in_nothing r [] refl j)) (in_more row r [] i) in
+            subst (λ (y : ℕ). IsIn y (put_in (items note.its) place row)
+            × ((its : List ℕ) × (claim_of m.0.claims y ≡ some (Holds its)))) e
+            (here_put place (items note.its) row range, (a, h.object_held));
+        come_once = (λ t. in_nothing t.0 [] refl t.1, tt);
+        go = λ r i. goes x place row r range refl i;
+        stay = λ r i. stays place (items note.its) row r i;
+        map_is = map_put place pair note.objects a
+            ∙ placed_is (map pair note.objects) (pair a) place h.place_is;
+        does = effect_is why (key a) (object_at place note.objects) (object a);
+        answer = answers why place note.objects (key a) (object a) h.is_for h.place_is;
+        is_edit = h.pair_is;
+        about = h.about;
+      }

@@ -62,7 +62,7 @@ pub spells_base : (these : List ℕ) (at_level form statistic : ℕ) (its one ne
 spells_base these at_level form statistic its one new long low is few f g = record {
   long = wide;
   is_base = let h = first in omega arith;
-  items_are = ap (λ n. take n (drop items_word new)) count_is
+  words_are = ap (λ n. take n (drop items_word new)) count_is
       ∙ same_number_lists (take (length these) (drop items_word new)) these wide_items
       (λ k l. let small : k < length these = omega (arith, wide_items) in
       get_or-take (length these) (drop items_word new) k 0 small

@@ -16,11 +16,11 @@ use Rattle.ca_model.specs.Places.{IsAt}
 use Rattle.ca_node.specs.Laws.{in_nothing}
 use Rattle.ca_node.specs.Links.{IsIn}
 use Rattle.ca_node.specs.Place.{HasKey}
-use Rattle.ca_node.specs.Row.{items, count, pair}
+use Rattle.ca_node.specs.Row.{items, count, pair, item_words, row_in, head_in, head_of}
 use Rattle.ca_node.specs.Told.{MyTree, IsUpdate}
 use Rattle.ca_node.specs.TreeView.{Note, TreeView}
 use Rattle.ca_rows.specs.declared.view.Met.{Met}
-use Rattle.ca_base.specs.Putting.{object_at, IsShownLast, HasRenewed, HasSwapped, first_note, last_items}
+use Rattle.ca_base.specs.Putting.{object_at, IsShownLast, HasRenewed, HasSwapped, first_note, last_words}
 use Rattle.ca_base.specs.Removing.{key_at, take_update, update_of}
 use Rattle.ca_base.specs.declared.swapping.Deed.TheVariants as deed
 use Rattle.ca_base.specs.Writing.{IsRewritten, SpellsBase}
@@ -72,7 +72,7 @@ key_is objects k at h = let l = h.in_range in let long = length-map objects pair
     ∙ is_found (map pair objects) k at h)
 
 module _ (z : Sizes) (m : MyTree) (note : Note) (at new statistic : ℕ) (b : List ℕ)
-    (n : IsNewBase z m new note (remove (items note.its) at) statistic b)
+    (n : IsNewBase z m new note (remove (item_words note.its) at) statistic b)
     (ordered : IsStoreMap z.keypos (map pair note.objects))
     (place : IsAt (map pair note.objects) (key_at at note.objects) at)
     (about : HasKey note.place.span (key_at at note.objects)) where
@@ -84,12 +84,16 @@ module _ (z : Sizes) (m : MyTree) (note : Note) (at new statistic : ℕ) (b : Li
 
   few : length (remove (items note.its) at) ≤ z.leaf
   few = let f = n.is_base.few in let less = length-remove (items note.its) at in_items in
-      omega (arith, length-take (count note.its) (drop items_word note.its))
+      omega (arith, length-map (item_words note.its) row_in, length-take (count note.its) (drop items_word note.its))
+
+  heads_left : map head_in (remove (item_words note.its) at) ≡ map head_of (remove note.objects at)
+  heads_left = map_removed head_in (item_words note.its) at
+      ∙ (ap (λ (hs : List ℕ). remove hs at) n.is_base.headed ∙ sym (map_removed head_of note.objects at))
 
   pub is_taken_out : IsUpdate z m new (take_update note b at)
   is_taken_out =
-      is_update z m new (take_update note b at) (remove (items note.its) at) statistic n
-      few record {
+      is_update z m new (take_update note b at) (remove (item_words note.its) at)
+      (remove (items note.its) at) statistic n (map_removed row_in (item_words note.its) at) heads_left few record {
         as_many = let many = n.is_base.as_many in let a = length-remove note.objects at in_objects in
             let i = length-remove (items note.its) at in_items in
             omega arith;
@@ -126,7 +130,7 @@ module _ (z : Sizes) (first before now : MyTree) (new base at statistic : ℕ) (
     (shown : IsShownLast z first.0.upper base)
     (upper : now.0.upper ≡ first.0.upper)
     (place : IsAt (map pair (first_note first.0.upper.notes).objects) k at)
-    (spells : SpellsBase (remove (last_items first.0.upper) at)
+    (spells : SpellsBase (remove (last_words first.0.upper) at)
     (first_note first.0.upper.notes).place.level statistic b)
     (wrote : IsRewritten new b before now) where
   abbrev note : Note
@@ -142,7 +146,7 @@ module _ (z : Sizes) (first before now : MyTree) (new base at statistic : ℕ) (
       (λ (y : Note × List ℕ). IsUpdate z now new (take_update y.0 y.1 at))
       (λ i. (sym (note_is first now upper) i, sym (words_are new b before now wrote) i))
       (is_taken_out z now note at new statistic b
-      (new_base z first before now new base (remove (last_items first.0.upper) at) statistic b shown
+      (new_base z first before now new base (remove (last_words first.0.upper) at) statistic b shown
       is_pinned is_pass upper pin spells wrote)
       ordered (subst (λ (q : List ℕ). IsAt (map pair note.objects) q at) (sym key_same) place)
       (subst (HasKey note.place.span) (sym key_same) about))

@@ -8,7 +8,6 @@ use Rattle.std.specs.Int.{to_be_bytes, from_be_bytes, w64}
 use borrow.Rule.Slice.PartMut.{put_mid}
 use Rattle.ca_node.specs.Row.{bytes_in}
 use Rattle.ca_base.specs.Writing.{HasBytes, HasEight}
-use Rattle.ca_node.proofs.WordOrder.{bytes_long}
 use Rattle.ca_base.proofs.ObjectBytes.{byte_at}
 
 abbrev eight_zeros : List ℕ

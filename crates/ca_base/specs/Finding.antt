@@ -1,12 +1,12 @@
 -- Bases and objects that a pass was shown, and where a key stands among the objects of a base.
-use Rattle.std.specs.Prelude.{◌≡◌, ℕ, ◌+◌, ◌*◌, ◌<◌, ◌≤◌, List, [], length, map, drop, slice_index_or, Result}
+use Rattle.std.specs.Prelude.{◌≡◌, ℕ, ◌+◌, ◌*◌, ◌<◌, ◌≤◌, List, [], length, map, slice_index_or, Result}
 use mathlib.Core.Option.{some}
 use lib.ListN.{get_elem?}
 use Rattle.ca_model.specs.StoreMap.{IsStoreMap}
 use Rattle.ca_model.specs.Places.{IsPlace}
 use Rattle.ca_node.specs.declared.cursor.Cursor.{Cursor}
 use Rattle.ca_node.specs.Links.{IsIn}
-use Rattle.ca_node.specs.Row.{bytes_in, count, items, pair, code_words}
+use Rattle.ca_node.specs.Row.{bytes_in, count, items, pair, code_words, head_of}
 use Rattle.ca_node.specs.Told.{IsBaseNote, IsShown, link_word}
 use Rattle.ca_node.specs.TreeView.{Note, TreeView}
 use Rattle.ca_rows.specs.declared.sizes.Sizes.{Sizes}
@@ -44,6 +44,11 @@ HasPlace z u base place = (note : Note) × IsReadable z u base note × (place < 
 abbrev pub IsItem : Sizes → TreeView → ℕ → ℕ → ℕ → Type 0
 IsItem z u base place row = (note : Note) → IsReadable z u base note → place < length note.objects
     → (get_elem? (items note.its) place ≡ some row) × IsObjectShown u row (slice_index_or note.objects place [])
+
+-- The key of the object at this place has this head.
+abbrev pub HasHead : Sizes → TreeView → ℕ → ℕ → ℕ → Type 0
+HasHead z u base place head = (note : Note) → IsReadable z u base note → place < length note.objects
+    → head ≡ head_of (slice_index_or note.objects place [])
 
 -- Among the objects of the base that it was shown this is the key's place: that of the object which has the key, or where one would stand.
 abbrev pub IsPlaceIn : Sizes → TreeView → ℕ → List ℕ → Result ℕ ℕ → Type 0

@@ -3,7 +3,7 @@ use Rattle.std.specs.Prelude.{◌≡◌, ℕ, ◌<◌, ◌≤◌, true, List, []
 use Rattle.std.proofs.Common.{refl, subst, sym, ap, ◌∙◌}
 use Rattle.std.specs.declared.cmp.Ordering.{Ordering}
 use Rattle.ca_model.specs.StoreMap.{bytes_cmp}
-use Rattle.ca_node.specs.Row.{pair}
+use Rattle.ca_node.specs.Row.{front_of, pair}
 use Rattle.ca_node.specs.Told.{MyTree}
 use Rattle.ca_node.specs.TreePasses.{tree_of}
 use Rattle.ca_node.specs.TreeView.{Note, TreeView}
@@ -26,10 +26,12 @@ module _ {R : Type 0} where
     pub inside : row ≤ (sizes space).rows
     pub shown : (its : List ℕ) × IsObjectShown (tree_of pass) row its
 
-  -- The pass is pinned, and was shown the base, which has an object at this place; this word has the first bytes of the key that is looked for.
-  pub record IsComparable (space : Space R TreeView) (pass : Pass R TreeView) (base : ℕ) (key : List ℕ) (front place : ℕ) : Type 0 where
+  -- The pass is pinned, and was shown the base, which has an object at this place; of the key that is looked for, this is the head, and this
+  -- word has the first bytes.
+  pub record IsComparable (space : Space R TreeView) (pass : Pass R TreeView) (base : ℕ) (key : List ℕ) (head front place : ℕ) : Type 0 where
     pub reading : IsReading space pass
     pub there : HasPlace (sizes space) (tree_of pass) base place
+    pub head_is : head ≡ front_of 5 key
     pub front_is : HasBytes key front
 
   -- Reading nothing is only reading, and so is only reading twice.
@@ -50,13 +52,14 @@ module _ {R : Type 0} where
       → IsOrderAt z (tree_of b) base key place order → IsOrderAt z (tree_of a) base key place order
   stood z base key a b on place order = subst (λ (m : MyTree). IsOrderAt z m.0.upper base key place order) on.still
 
-  pub comparable_on : (space : Space R TreeView) (base : ℕ) (key : List ℕ) (front : ℕ) (a b : Pass R TreeView) → OnlyReads a b → (place : ℕ)
-      → IsComparable space a base key front place → IsComparable space b base key front place
-  comparable_on space base key front a b on place known = let still = sym on.still in record {
+  pub comparable_on : (space : Space R TreeView) (base : ℕ) (key : List ℕ) (head front : ℕ) (a b : Pass R TreeView) → OnlyReads a b → (place : ℕ)
+      → IsComparable space a base key head front place → IsComparable space b base key head front place
+  comparable_on space base key head front a b on place known = let still = sym on.still in record {
     reading = record {
       own = (on.same.0 ∙ known.reading.own.0, ap (λ (m : MyTree). m.0.sizes) on.still ∙ known.reading.own.1);
       pinned = subst (λ (m : MyTree). m.0.pin.pinned ≡ true) still known.reading.pinned;
     };
     there = subst (λ (m : MyTree). HasPlace (sizes space) m.0.upper base place) still known.there;
+    head_is = known.head_is;
     front_is = known.front_is;
   }

@@ -6,7 +6,7 @@ use Rattle.ca_model.specs.Event.{Event, Write, WriteNew, Change}
 use Rattle.ca_model.specs.History.{Edit, Put, after_edit}
 use Rattle.ca_node.specs.Links.{IsIn}
 use Rattle.ca_node.specs.Place.{edit_key}
-use Rattle.ca_node.specs.Row.{items, object, key, pair}
+use Rattle.ca_node.specs.Row.{items, object, key, pair, item_words}
 use Rattle.ca_node.specs.Told.{MyTree, IsBaseNote, IsKnown, Update, one_more_lost, updated_inventory}
 use Rattle.ca_node.specs.TreeView.{Note, Renewal, TreeView, no_note}
 use Rattle.ca_base.specs.declared.taking.NoRow.{NoRow}
@@ -80,9 +80,12 @@ abbrev pub first_note : List Note → Note
 first_note [] = no_note
 first_note (note ∷ notes) = note
 
--- its items
+-- its items, and the words that say them
 abbrev pub last_items : TreeView → List ℕ
 last_items u = items (first_note u.notes).its
+
+abbrev pub last_words : TreeView → List ℕ
+last_words u = item_words (first_note u.notes).its
 
 -- the words of a row that is held
 abbrev pub words_of : Option Claim → List ℕ
@@ -106,7 +109,7 @@ pub record IsShownLast (z : Sizes) (u : TreeView) (base : ℕ) : Type 0 where
 
 -- The base was shown last, and names so many items, few enough for a row.
 abbrev pub IsShownWith : Sizes → TreeView → ℕ → ℕ → Type 0
-IsShownWith z u base many = IsShownLast z u base × ((many ≡ length (last_items u)) × (many ≤ 120))
+IsShownWith z u base many = IsShownLast z u base × ((many ≡ length (last_words u)) × (many ≤ 120))
 
 -- The exchange of a base: the call is done, and what the pass has seen then is known of a history; or it was lost, which is counted.
 abbrev pub HasSwapped : Event → Sizes → Bool → TreeView → TreeView → Type 0

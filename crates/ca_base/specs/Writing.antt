@@ -6,7 +6,7 @@ use Rattle.ca_rows.specs.declared.sizes.Sizes.{Sizes}
 use Rattle.ca_rows.specs.declared.view.Claim.TheVariants.{Holds}
 use Rattle.ca_rows.specs.Claims.{claim_of, held_count}
 use Rattle.ca_node.specs.Told.{MyTree}
-use Rattle.ca_node.specs.Row.{IsObjectRow, IsBaseRow, items, count, level, IsUnmarked, object, key}
+use Rattle.ca_node.specs.Row.{IsObjectRow, IsBaseRow, count, level, IsUnmarked, object, key, item_words}
 use Rattle.ca_rows.specs.Layout.{row_words}
 
 -- The seat holds the row.
@@ -56,11 +56,11 @@ pub record SpellsObject (bytes : List ℕ) (key_at key_end : ℕ) (its : List �
   pub object_is : object its ≡ bytes
   pub key_is : key its ≡ slice_range bytes key_at key_end
 
--- The words are a base's: these items, at this level, with this word for the statistic, and no mark.
+-- The words are a base's: these words for its items, at this level, with this word for the statistic, and no mark.
 pub record SpellsBase (these : List ℕ) (at_level statistic : ℕ) (its : List ℕ) : Type 0 where
   pub long : length its ≡ row_words
   pub is_base : IsBaseRow its
-  pub items_are : items its ≡ these
+  pub words_are : item_words its ≡ these
   pub level_is : level its ≡ at_level
   pub count_is : count its ≡ length these
   pub unmarked : IsUnmarked its

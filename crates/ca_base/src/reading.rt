@@ -1,15 +1,16 @@
 //! What bases and objects that were shown say.
 ghost use Rattle.std.specs.Prelude.{◌≡◌, ℕ, ◌+◌, ◌<◌, ◌≤◌, ◌++◌, List, length, slice_index};
 ghost use Rattle.arrayvec.specs.ArrayVec.{array_vec_len};
-ghost use Rattle.ca_node.specs.Row.{pair};
+ghost use Rattle.ca_node.specs.Row.{pair, row_in, head_in};
 ghost use Rattle.ca_node.specs.TreeView.{Note};
-ghost use Rattle.ca_base.specs.Finding.{IsReadable, IsObjectShown, HasPlace, IsItem};
+ghost use Rattle.ca_base.specs.Finding.{IsReadable, IsObjectShown, HasPlace, IsItem, HasHead};
 ghost use Rattle.ca_term.specs.declared.bounds.TheConstants.{MOST_CODE_BYTES};
 ghost use Rattle.ca_rows.specs.Passes.{OnlyReads, IsReading, sizes};
 ghost use Rattle.ca_node.specs.TreePasses.{tree_of};
 
 use ca_model::Code;
 use ca_node::{CODE, ITEMS, TreePass, TreeSpace, load_word};
+use ca_rows::ROW_LIMIT;
 use ca_term::MOST_CODE_BYTES;
 
 // How many objects a base names that the pass was shown.
@@ -41,7 +42,19 @@ pub fn item(space: &TreeSpace, pass: &mut TreePass, base: u32, place: u32) -> u3
     ensures inside { (0 < result) × (result ≤ (sizes space.now).rows) }
     ensures item { IsItem (sizes space.now) (tree_of pass.old) base place result }
 {
-    load_word(space, pass, base, ITEMS + place) as u32
+    (item_word(space, pass, base, place) % ROW_LIMIT) as u32
+}
+
+// The word for what a base names at a place: the object row, and above it the head of the object's key.
+pub(crate) fn item_word(space: &TreeSpace, pass: &mut TreePass, base: u32, place: u32) -> u64
+    requires reading { IsReading space.now pass.old }
+    requires readable { HasPlace (sizes space.now) (tree_of pass.old) base place }
+    ensures frame { OnlyReads pass.old pass.new }
+    ensures inside { (0 < row_in result) × (row_in result ≤ (sizes space.now).rows) }
+    ensures item { IsItem (sizes space.now) (tree_of pass.old) base place (row_in result) }
+    ensures head { HasHead (sizes space.now) (tree_of pass.old) base place (head_in result) }
+{
+    load_word(space, pass, base, ITEMS + place)
 }
 
 // Copies an object that the pass was shown, eight bytes at a time.

@@ -2,7 +2,7 @@
 ghost use Rattle.std.specs.Prelude.{◌≡◌, ℕ, ◌+◌, ◌<◌, ◌≤◌, List, length, take, drop};
 ghost use Rattle.ca_node.specs.Row.{pair};
 ghost use Rattle.ca_base.specs.Finding.{IsObjectShown};
-ghost use Rattle.ca_base.specs.Putting.{IsShownLast, last_items};
+ghost use Rattle.ca_base.specs.Putting.{IsShownLast, last_words};
 ghost use Rattle.ca_base.specs.Splitting.{SpellsRoute};
 ghost use Rattle.ca_base.specs.Writing.{SpellsBase, HasWritten};
 ghost use Rattle.ca_base.specs.Holding.{HoldsRow, ReadsAndHolds};
@@ -52,9 +52,9 @@ pub(crate) fn write_route(
 pub(crate) fn write_half(space: &TreeSpace, pass: &mut TreePass, row: u32, level: u16, run: Run)
     requires row { ReadsAndHolds space.now pass.old row }
     requires shown { IsShownLast (sizes space.now) (tree_of pass.old) run.base }
-    requires places { (run.from + run.count ≤ length (last_items (tree_of pass.old))) × (run.from + run.count ≤ 120) }
+    requires places { (run.from + run.count ≤ length (last_words (tree_of pass.old))) × (run.from + run.count ≤ 120) }
     ensures frame { StillKeepsList pass.old pass.new }
-    ensures written { HasWritten row (SpellsBase (take run.count (drop run.from (last_items (tree_of pass.old)))) level 4294967296) (known pass.old)
+    ensures written { HasWritten row (SpellsBase (take run.count (drop run.from (last_words (tree_of pass.old)))) level 4294967296) (known pass.old)
         (known pass.new) }
 {
     write_head(space, pass, row, level, run.count, STATISTIC);

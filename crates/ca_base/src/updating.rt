@@ -17,7 +17,7 @@ use crate::copying::write_base_with;
 use crate::swapping::{Deed, Rows, swap_in};
 use crate::taking::{NoRow, take_two};
 use crate::target::{Insertion, Target};
-use crate::writing::write_object;
+use crate::writing::{word_of_item, write_object};
 use ca_model::Spent;
 use ca_node::{TreePass, TreeSpace};
 use std::marker::Brand;
@@ -71,8 +71,9 @@ pub fn put_at(
     let keyed = insertion.keyed;
     let place = insertion.place;
     write_object(space, pass, row, keyed.object, keyed.key_at, keyed.key_end);
+    let word = word_of_item(&keyed.object[keyed.key_at..keyed.key_end], row);
     *placed = new;
-    let old = write_base_with(space, pass, new, target, place, row);
+    let old = write_base_with(space, pass, new, target, place, word);
     let rows = Rows {
         new,
         comes: &[row],

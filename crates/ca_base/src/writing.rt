@@ -1,12 +1,14 @@
 //! Rows that a pass holds are written: objects and bases.
 ghost use Rattle.ca_node.specs.Layout.{code_word, items_word, form_unit};
-ghost use Rattle.ca_rows.specs.Layout.{row_words};
+ghost use Rattle.ca_node.specs.Row.{front_of, row_in, head_in};
+ghost use Rattle.ca_rows.specs.Layout.{row_words, row_limit};
 ghost use Rattle.std.specs.Prelude.{◌≡◌, ◌+◌, ◌-◌, ◌*◌, ◌/◌, ◌%◌, ◌<◌, ◌≤◌, length, slice_index};
 ghost use Rattle.ca_base.specs.Writing.{HasSet, HasFilled, HasBytes, HasEight, SpellsObject, HasWritten, base_head};
 ghost use Rattle.ca_base.specs.Holding.{HoldsRow};
 ghost use Rattle.ca_rows.specs.Passes.{StillKeepsList, known};
 
 use ca_node::{BASE, CODE, ITEMS, OBJECT, TreePass, TreeSpace};
+use ca_rows::ROW_LIMIT;
 
 /// Writes an object row: the first word, and the object's bytes, eight a word, with zeros behind their end to the end of their last word. What stands
 /// behind that word stays. Its key stands in it from `key_at` to `key_end`.
@@ -81,16 +83,15 @@ pub(crate) fn write_words(space: &TreeSpace, pass: &mut TreePass, row: u32, word
     }
 }
 
-// Writes items of a base, to the places from `at` on.
-pub(crate) fn write_items(space: &TreeSpace, pass: &mut TreePass, row: u32, at: u32, items: &[u32])
+// Writes the words of items of a base, to the places from `at` on.
+pub(crate) fn write_items(space: &TreeSpace, pass: &mut TreePass, row: u32, at: u32, words: &[u64])
     requires row { HoldsRow space.now pass.old row }
-    requires few { at + length items.now ≤ 120 }
+    requires few { at + length words.now ≤ 120 }
     ensures frame { StillKeepsList pass.old pass.new }
-    ensures filled { HasFilled row (items_word + at) (length items.now) (λ k word. word ≡ slice_index items.now k) (known pass.old) (known pass.new) }
+    ensures filled { HasFilled row (items_word + at) (length words.now) (λ k word. word ≡ slice_index words.now k) (known pass.old) (known pass.new) }
 {
-    for place in 0..items.len() {
-        let item = items[place] as u64;
-        set_word(space, pass, row, ITEMS + at + place as u32, item);
+    for place in 0..words.len() {
+        set_word(space, pass, row, ITEMS + at + place as u32, words[place]);
     }
 }
 
@@ -119,4 +120,21 @@ pub(crate) fn word_of(bytes: &[u8]) -> u64
     }
     eight.copy_from_slice(&bytes[..8]);
     u64::from_be_bytes(eight)
+}
+
+// The head of a key: its first five bytes as a number, the highest first, with zeros behind their end.
+pub(crate) fn head_of(key: &[u8]) -> u64
+    ensures head { result ≡ front_of 5 key.now }
+    ensures fits { result < 1099511627776 }
+{
+    word_of(key) >> 24
+}
+
+// The word of an item: the head of the key of an object above its row.
+pub(crate) fn word_of_item(key: &[u8], row: u32) -> u64
+    requires { row < row_limit }
+    ensures row { row_in result ≡ row }
+    ensures head { head_in result ≡ front_of 5 key.now }
+{
+    head_of(key) * ROW_LIMIT + row as u64
 }

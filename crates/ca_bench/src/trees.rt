@@ -12,7 +12,7 @@ use std::rt::Clock;
 use std::thread::{Threads, for_each_mut};
 use std::time::Instant;
 
-/// As many rows as a tree may have.
+/// How many rows these trees have.
 pub const ROWS: u32 = 65_535;
 
 // How often a measure is taken, each time on a new tree; the times are added.

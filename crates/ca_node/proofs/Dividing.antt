@@ -1,6 +1,6 @@
 -- A split: a route over two bases takes the place of a base under its link.
 use Rattle.std.proofs.Common.{◌≡◌, ◌≢◌, ◌⊎◌, ℕ, zero, suc, ◌+◌, ◌*◌, ◌<◌, ◌≤◌, Bool, true, false, eqb, List, [], ◌∷◌, ◌++◌, length, map, take, drop, get_or, set, sym, refl, ap, ◌∙◌, subst, inl, inr, ⊎_elim, arith, eq-eqb, ne_eqb}
-use Rattle.std.proofs.lemmas.List.{map-set, length-map}
+use Rattle.std.proofs.lemmas.List.{map-set, length-map, take-map, drop-map}
 use mathlib.Core.Logic.{dite}
 use mathlib.Core.Option.{some, none, some-injective, some-ne-none}
 use native.Mathlib.Decide.{ℕ_discrete}
@@ -26,7 +26,7 @@ use Rattle.ca_node.specs.Laws.{tree_lends, in_nothing, numbered, relisted}
 use Rattle.ca_node.specs.Links.{IsIn, IsLinked, IsLent, IsNoted, by_note, by_item, by_way, by_link, by_link_item}
 use Rattle.ca_node.specs.Place.{Place, left_place, right_place}
 use Rattle.ca_node.specs.Reached.{same_place, base_at, link_range, reached, placed_linked, item_linked, item_out, nothing_lent}
-use Rattle.ca_node.specs.Row.{row_at, IsBaseRow, IsRouteRow, items, count, level, IsUnmarked, IsIdle, key, route_key}
+use Rattle.ca_node.specs.Row.{row_at, IsBaseRow, IsRouteRow, items, count, level, IsUnmarked, IsIdle, key, route_key, item_words, row_in, head_in, heads, head_of}
 use Rattle.ca_node.specs.Shape.{Role, Out, Base, Route, place_of, IsBaseAt, IsShape}
 use Rattle.ca_rows.specs.Told.{relinked}
 use Rattle.ca_node.specs.Told.{MyTree, IsHalf, IsDivision, given, taken_out, divided_inventory, divided, one_more_lost, IsDivided, IsMissed, Divides, HasDivided, MaySwap}
@@ -134,20 +134,28 @@ module _ (z : Sizes) (s : State (Unit {0}) (View TreeView)) (r : R z s) (id : �
   -- A half is a base that may come.
   half : (row : ℕ) (its these : List ℕ) (there : Place) → there.level ≡ x.old.place.level + 1
       → claim_of d.claims row ≡ some (Holds its) → IsHalf z x.old.place.level these its
-      → ((c : ℕ) → IsIn c these → IsIn c (items x.old.its))
+      → ((c : ℕ) → IsIn c (map row_in these) → IsIn c (items x.old.its))
+      → map head_in these ≡ map (λ c. head_of (row_at s.words c)) (map row_in these)
       → IsNewBase z s.words r.above.role there row
-  half row its these there below e h within = let w = held row its e in record {
-    some_row = w.0;
-    in_range = w.1;
-    is_out = held_out row its e;
-    is_base = subst IsBaseRow (sym w.2) h.is_base;
-    level_is = ap level w.2 ∙ (h.level_is ∙ sym below);
-    few = subst (λ y. count y ≤ z.leaf) (sym w.2) h.few;
-    marked = inl (subst IsUnmarked (sym w.2) h.unmarked);
-    are_objects =
-        λ c i. old_at.are_objects c
-        (old_item c (within c (subst (IsIn c) (ap items w.2 ∙ h.items_are) i)));
-  }
+  half row its these there below e h within headed = let w = held row its e in
+      let items_are = ap items w.2 ∙ ap (map row_in) h.words_are in record {
+        some_row = w.0;
+        in_range = w.1;
+        is_out = held_out row its e;
+        is_base = subst IsBaseRow (sym w.2) h.is_base;
+        level_is = ap level w.2 ∙ (h.level_is ∙ sym below);
+        few = subst (λ y. count y ≤ z.leaf) (sym w.2) h.few;
+        marked = inl (subst IsUnmarked (sym w.2) h.unmarked);
+        are_objects =
+            λ c i. old_at.are_objects c
+            (old_item c (within c (subst (IsIn c) items_are i)));
+        headed = ap heads w.2 ∙ (ap (map head_in) h.words_are ∙ (headed
+            ∙ sym (ap (map (λ c. head_of (row_at s.words c))) items_are)));
+      }
+
+  -- The old base's items have the heads of its objects' keys.
+  old_headed : heads x.old.its ≡ map (λ c. head_of (row_at s.words c)) (items x.old.its)
+  old_headed = subst (λ its. heads its ≡ map (λ c. head_of (row_at s.words c)) (items its)) old_true.spells old_at.headed
 
   both : items x.old.its ≡ take x.middle (items x.old.its) ++ drop x.middle (items x.old.its)
   both = take_drop x.middle (items x.old.its)
@@ -155,18 +163,26 @@ module _ (z : Sizes) (s : State (Unit {0}) (View TreeView)) (r : R z s) (id : �
   left_base : IsNewBase z s.words r.above.role
       (left_place x.old.place (route_key x.route_its) x.route) x.left
   left_base =
-      half x.left x.left_its (take x.middle (items x.old.its))
+      half x.left x.left_its (take x.middle (item_words x.old.its))
       (left_place x.old.place (route_key x.route_its) x.route) refl u.held_left u.is_left
       (λ c i. subst (IsIn c) (sym both)
-      (in_front (take x.middle (items x.old.its)) (drop x.middle (items x.old.its)) c i))
+      (in_front (take x.middle (items x.old.its)) (drop x.middle (items x.old.its)) c
+      (subst (IsIn c) (sym (take-map row_in x.middle (item_words x.old.its))) i)))
+      (sym (take-map head_in x.middle (item_words x.old.its)) ∙ (ap (take x.middle) old_headed
+      ∙ (take-map (λ c. head_of (row_at s.words c)) x.middle (items x.old.its)
+      ∙ ap (map (λ c. head_of (row_at s.words c))) (take-map row_in x.middle (item_words x.old.its)))))
 
   right_base : IsNewBase z s.words r.above.role
       (right_place x.old.place (route_key x.route_its) x.route) x.right
   right_base =
-      half x.right x.right_its (drop x.middle (items x.old.its))
+      half x.right x.right_its (drop x.middle (item_words x.old.its))
       (right_place x.old.place (route_key x.route_its) x.route) refl u.held_right u.is_right
       (λ c i. subst (IsIn c) (sym both)
-      (in_back (take x.middle (items x.old.its)) (drop x.middle (items x.old.its)) c i))
+      (in_back (take x.middle (items x.old.its)) (drop x.middle (items x.old.its)) c
+      (subst (IsIn c) (sym (drop-map row_in x.middle (item_words x.old.its))) i)))
+      (sym (drop-map head_in x.middle (item_words x.old.its)) ∙ (ap (drop x.middle) old_headed
+      ∙ (drop-map (λ c. head_of (row_at s.words c)) x.middle (items x.old.its)
+      ∙ ap (map (λ c. head_of (row_at s.words c))) (drop-map row_in x.middle (item_words x.old.its)))))
 
   new_route : IsNewRoute z s.words r.above.role x.old.place.level (route_key x.route_its) x.left
       x.right x.route
@@ -184,10 +200,12 @@ module _ (z : Sizes) (s : State (Unit {0}) (View TreeView)) (r : R z s) (id : �
   }
 
   left_items : items (row_at s.words x.left) ≡ take x.middle (items x.old.its)
-  left_items = ap items (held x.left x.left_its u.held_left).2 ∙ u.is_left.items_are
+  left_items = ap items (held x.left x.left_its u.held_left).2 ∙ (ap (map row_in) u.is_left.words_are
+      ∙ sym (take-map row_in x.middle (item_words x.old.its)))
 
   right_items : items (row_at s.words x.right) ≡ drop x.middle (items x.old.its)
-  right_items = ap items (held x.right x.right_its u.held_right).2 ∙ u.is_right.items_are
+  right_items = ap items (held x.right x.right_its u.held_right).2 ∙ (ap (map row_in) u.is_right.words_are
+      ∙ sym (drop-map row_in x.middle (item_words x.old.its)))
 
   -- The object at a place of the old base, by its row.
   object_is : (k row : ℕ) → get_elem? (items x.old.its) k ≡ some row

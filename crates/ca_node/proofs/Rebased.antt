@@ -6,19 +6,18 @@ use Rattle.std.proofs.lemmas.Bool.Decides.{nat_tests}
 use mathlib.Core.Logic.{dite}
 use mathlib.Core.Option.{some, some-injective, some-ne-none}
 use native.Mathlib.Decide.{ℕ_discrete}
-use Rattle.ca_model.specs.StoreMap.{StoreMap, IsStoreMap}
+use Rattle.ca_model.specs.StoreMap.{StoreMap}
 use Rattle.ca_rows.specs.declared.sizes.Sizes.{Sizes}
 use Rattle.ca_rows.specs.Words.{IsWide, result_of, announced}
-use Rattle.ca_node.specs.Links.{IsIn, IsActive, IsLinked}
+use Rattle.ca_node.specs.Links.{IsIn, IsActive}
 use Rattle.ca_node.specs.Marks.{IsMarkIn}
 use Rattle.ca_node.specs.Place.{Span, all_keys, left_of, right_of, HasKey, part, Place, IsLinkOf}
-use Rattle.ca_node.specs.Row.{row_at, form, IsObjectRow, IsBaseRow, count, level, items, IsIdle, objects_in}
+use Rattle.ca_node.specs.Row.{row_at, form, IsObjectRow, IsBaseRow, count, level, items, IsIdle, objects_in, AreHeaded}
 use Rattle.ca_node.specs.Shape.{Role, Out, Base, Route, place_of, IsLink, LeadsTo, IsBaseAt, IsSo, IsShape}
 use Rattle.ca_node.specs.Stays.{IsSameRow, word_at, row_same}
-use Rattle.ca_node.proofs.Named.{named_once}
-use Rattle.ca_node.specs.Reached.{led_to, base_at, hung, link_range, object_out, item_out, placed_linked, item_linked, reached}
-use Rattle.ca_node.specs.Standing.{IsSameButLinks, objects_same, mark_stays, base_stands, route_stands}
-use Rattle.ca_rows.specs.Layout.{row_words, pass_words, passes_words}
+use Rattle.ca_node.specs.Reached.{led_to, base_at, hung, link_range, object_out}
+use Rattle.ca_node.specs.Standing.{IsSameButLinks, objects_same, mark_stays, base_stands, route_stands, heads_same}
+use Rattle.ca_rows.specs.Layout.{row_words}
 use Rattle.ca_node.specs.Layout.{root_word}
 use Rattle.ca_rows.proofs.OwnWords.{announced_else, result_else}
 
@@ -48,6 +47,7 @@ pub record IsNewBase (z : Sizes) (words : List ℕ) (role : ℕ → Role) (place
   pub marked : IsMarkIn words place (row_at words row)
   pub are_objects : (r : ℕ) → IsIn r (items (row_at words row)) → (0 < r) × (r ≤ z.rows)
       × IsObjectRow (row_at words r)
+  pub headed : AreHeaded words row
 
 -- The link of a base is exchanged: it names this row then.
 module _ (z : Sizes) (words : List ℕ) (role : ℕ → Role) (m : StoreMap)
@@ -243,6 +243,7 @@ module _ (z : Sizes) (words : List ℕ) (role : ℕ → Role) (m : StoreMap)
           are_objects = λ r i. let i' = subst (λ its. IsIn r (items its)) e i in
               let o = b.are_objects r i' in
               (o.0, o.1, subst IsObjectRow (sym (same r i')) o.2);
+          headed = heads_same words words' c e same b.headed;
           has = objects_same words words' c e same ∙ has;
         }
 

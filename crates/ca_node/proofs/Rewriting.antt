@@ -15,11 +15,10 @@ use Rattle.ca_node.specs.Marks.{IsMarkIn}
 use Rattle.ca_node.specs.Place.{part, Place}
 use Rattle.ca_node.specs.Row.{pair}
 use Rattle.ca_node.specs.Shape.{Role, Base}
-use Rattle.ca_rows.specs.Told.{relinked}
-use Rattle.ca_node.specs.Told.{MyTree, Update, given, taken_out, updated_inventory}
+use Rattle.ca_node.specs.Told.{MyTree, Update, updated_inventory}
 use Rattle.ca_node.specs.Tree.{IsLinkOfView, IsTrue, Knows, IsTree}
 use Rattle.ca_node.specs.TreeView.{Note, TreeView}
-use Rattle.ca_node.proofs.Exchanging.{IsExchange, old_map, note_keeps, way_keeps, new_true, exchange_step}
+use Rattle.ca_node.proofs.Exchanging.{IsExchange, old_map, note_keeps, way_keeps, new_true}
 use Rattle.ca_node.proofs.Looking.{R, of_map, knows_upper, in_more}
 use Rattle.ca_node.proofs.Members.{in_notes}
 use Rattle.ca_node.proofs.Rebased.{with_base}

@@ -62,6 +62,7 @@ exchange_of z m new x u = record {
   level_is = u.level_is;
   few = u.few;
   as_many = u.as_many;
+  headed = u.headed;
   are_objects = u.are_objects;
   come = u.come;
   come_once = u.come_once;

@@ -1,6 +1,5 @@
 -- The rule of the tree meets the laws of the rows.
 use Rattle.std.proofs.Common.{◌≡◌, ◌≢◌, ◌⊎◌, ℕ, zero, suc, ◌+◌, ◌*◌, ◌/◌, ◌%◌, ◌<◌, ◌≤◌, cond, eqb, List, [], ◌∷◌, ◌++◌, length, map, take, drop, get_or, set, sym, refl, ap, ◌∙◌, subst, inl, inr, ⊎_elim, arith, append-nil, ne_eqb, if◌then◌else◌}
-use Rattle.std.proofs.lemmas.Bool.Decides.{nat_tests}
 use mathlib.Core.Logic.{dite}
 use mathlib.Core.Option.{some, some-injective, some-ne-none}
 use native.Mathlib.Decide.{ℕ_discrete}
@@ -19,7 +18,7 @@ use Rattle.ca_node.specs.Links.{root, IsIn, IsUnder, IsActive, IsLinked, by_root
 use Rattle.ca_node.specs.Opened.{opens_at, result_at}
 use Rattle.ca_node.specs.Place.{Place, root_place}
 use Rattle.ca_node.specs.Reached.{same_place, reached, linked_range, nothing_lent}
-use Rattle.ca_node.specs.Row.{row_at, IsObjectRow, IsBaseRow, items, route_key, pair}
+use Rattle.ca_node.specs.Row.{row_at, IsObjectRow, IsBaseRow, items, route_key, pair, item_words, row_in, head_in, head_of}
 use Rattle.ca_node.specs.Shape.{Role, Out, Base, Route, place_of, IsBaseAt, IsSo, IsShape}
 use Rattle.ca_node.specs.Standing.{shape_stands}
 use Rattle.ca_node.specs.Stays.{IsSameRow, word_at, row_same, map_same, linked_on, linked_back, lent_on, lent_back}
@@ -484,8 +483,11 @@ module _ (z : Sizes) (words : List ℕ) (bounds : AreInBounds z) (usable : AreUs
   first_word : get_or (row_at words 1) 0 0 ≡ 144115188075855872
   first_word = word_at words 1 0 (omega arith) ∙ above row_words (omega arith) (omega arith)
 
+  no_words : item_words (row_at words 1) ≡ []
+  no_words = ap (λ n. take (n % 65536) (drop items_word (row_at words 1))) first_word
+
   no_items : items (row_at words 1) ≡ []
-  no_items = ap (λ n. take (n % 65536) (drop items_word (row_at words 1))) first_word
+  no_items = ap (map row_in) no_words
 
   -- row 1 is the one base
   role_of : ℕ → Role
@@ -511,6 +513,7 @@ module _ (z : Sizes) (words : List ℕ) (bounds : AreInBounds z) (usable : AreUs
     few = let e = ap (λ n. n % 65536) first_word in omega arith;
     marked = inl (word_at words 1 2 (omega arith) ∙ above 138 (omega arith) (omega arith));
     are_objects = λ r i. absurd (in_nothing r (items (row_at words 1)) no_items i);
+    headed = ap (map head_in) no_words ∙ sym (ap (map (λ r. head_of (row_at words r))) no_items);
     has = ap (map (λ row. pair (row_at words row))) no_items;
   }
 

@@ -1,8 +1,9 @@
 -- What the words of a row spell.
-use Rattle.std.specs.Prelude.{◌≡◌, ℕ, ◌+◌, ◌*◌, ◌/◌, ◌%◌, ◌<◌, ◌≤◌, List, [], ◌∷◌, ◌++◌, take, drop, map, slice_index}
+use Rattle.std.specs.Prelude.{◌≡◌, ℕ, ◌+◌, ◌*◌, ◌/◌, ◌%◌, ◌^◌, ◌<◌, ◌≤◌, List, [], ◌∷◌, ◌++◌, take, drop, map, slice_index}
+use Prim.Native.Nat.{zero, suc}
 use Rattle.std.specs.Int.{to_be_bytes, w64}
 use Rattle.ca_model.specs.StoreMap.{Pair, StoreMap}
-use Rattle.ca_rows.specs.Layout.{row_words}
+use Rattle.ca_rows.specs.Layout.{row_words, row_limit}
 use Rattle.ca_node.specs.Layout.{code_word, key_word, items_word, form_unit}
 
 -- the 136 words of a row
@@ -27,9 +28,23 @@ count its = slice_index its 0 % 65536
 abbrev pub level : List ℕ → ℕ
 level its = slice_index its 0 / 65536 % 1099511627776
 
--- of a base: the object rows that it names, in the order of their keys
+-- of a base: a word for each object that it names, in the order of their keys
+abbrev pub item_words : List ℕ → List ℕ
+item_words its = take (count its) (drop items_word its)
+
+-- in such a word, the object's row, and above it the head of its key
+abbrev pub row_in : ℕ → ℕ
+row_in word = word % row_limit
+
+abbrev pub head_in : ℕ → ℕ
+head_in word = word / row_limit
+
+-- of a base: the object rows that it names, and the heads of their keys
 abbrev pub items : List ℕ → List ℕ
-items its = take (count its) (drop items_word its)
+items its = map row_in (item_words its)
+
+abbrev pub heads : List ℕ → List ℕ
+heads its = map head_in (item_words its)
 
 -- of a base: which kind of operation marked it (0 none, 1 a range, 2 a join), whose (a pass or a route), which one (a sequence or an
 -- attempt), the row to its left in the same range, and the row that tells where the range ends
@@ -98,6 +113,16 @@ key_length its = slice_index its 0 / 4294967296 % 16777216
 abbrev pub key : List ℕ → List ℕ
 key its = take (key_length its) (drop (key_place its) (object its))
 
+-- so many bytes at the front as a number, the highest first, with zeros behind their end
+abbrev pub front_of : ℕ → List ℕ → ℕ
+front_of zero bytes = 0
+front_of (suc n) [] = 0
+front_of (suc n) (byte ∷ bytes) = byte * 256 ^ n + front_of n bytes
+
+-- the head of an object's key: its first five bytes
+abbrev pub head_of : List ℕ → ℕ
+head_of its = front_of 5 (key its)
+
 -- an object's key and its bytes
 abbrev pub pair : List ℕ → Pair
 pair its = (key its, object its)
@@ -105,3 +130,7 @@ pair its = (key its, object its)
 -- what a base has: the objects that it names
 abbrev pub objects_in : List ℕ → ℕ → StoreMap
 objects_in words base = map (λ row. pair (row_at words row)) (items (row_at words base))
+
+-- Each item of the base has the head of the key of the object that it names.
+abbrev pub AreHeaded : List ℕ → ℕ → Type 0
+AreHeaded words base = heads (row_at words base) ≡ map (λ row. head_of (row_at words row)) (items (row_at words base))

@@ -7,7 +7,7 @@ use Rattle.ca_rows.specs.Words.{IsWide}
 use Rattle.ca_node.specs.Links.{IsIn, IsActive}
 use Rattle.ca_node.specs.Marks.{IsMarkIn, IsJoinWord}
 use Rattle.ca_node.specs.Place.{Span, all_keys, left_of, right_of, HasKey, part, Place, IsLinkOf}
-use Rattle.ca_node.specs.Row.{row_at, IsObjectRow, IsBaseRow, IsRouteRow, count, level, items, IsIdle, route_key, objects_in}
+use Rattle.ca_node.specs.Row.{row_at, IsObjectRow, IsBaseRow, IsRouteRow, count, level, items, IsIdle, route_key, objects_in, AreHeaded}
 use Rattle.ca_rows.specs.Layout.{row_words}
 use Rattle.ca_node.specs.Layout.{root_word}
 
@@ -33,7 +33,7 @@ pub record LeadsTo (words : List ℕ) (role : ℕ → Role) (link least : ℕ) (
   pub hangs : place_of (role (slice_index words link)) ≡ some (record { link = link; level = level; span = span })
 
 -- The row is a base at this place: it has no more items than a leaf may, each of them names an object row, it has no mark or that of an operation
--- that was begun, and its objects are what the map has of the keys that are led to it.
+-- that was begun, its items have the heads of their objects' keys, and its objects are what the map has of the keys that are led to it.
 pub record IsBaseAt (z : Sizes) (words : List ℕ) (role : ℕ → Role) (map : StoreMap) (place : Place) (row : ℕ) : Type 0 where
   pub some_row : 0 < row
   pub in_range : row ≤ z.rows
@@ -45,6 +45,7 @@ pub record IsBaseAt (z : Sizes) (words : List ℕ) (role : ℕ → Role) (map : 
   pub few : count (row_at words row) ≤ z.leaf
   pub marked : IsMarkIn words place (row_at words row)
   pub are_objects : (r : ℕ) → IsIn r (items (row_at words row)) → (0 < r) × (r ≤ z.rows) × IsObjectRow (row_at words r)
+  pub headed : AreHeaded words row
   pub has : objects_in words row ≡ part place.span map
 
 -- The row is a route at this place, above the last level: its key is one of those that are led to it, the lesser ones go left and the others right, and its

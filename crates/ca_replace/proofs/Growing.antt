@@ -19,7 +19,7 @@ use Rattle.ca_node.specs.declared.cursor.Cursor.{Cursor}
 use Rattle.ca_node.specs.Inventory.{but, but_all, row_itself, row_of_base, IsListed}
 use Rattle.ca_node.specs.Links.{IsIn}
 use Rattle.ca_node.specs.Place.{Place, Span, left_of, right_of, left_place, right_place, part}
-use Rattle.ca_node.specs.Row.{count, pair, route_key}
+use Rattle.ca_node.specs.Row.{count, pair, route_key, item_words, row_in}
 use Rattle.ca_node.specs.Told.{MyTree, IsEntered, IsKnown, with_upper, divided, one_more_lost}
 use Rattle.ca_node.specs.States.{IsAlone}
 use Rattle.ca_node.specs.TreeView.{Inventory, Note, TreeView, pinned, unpinned, Division}
@@ -185,7 +185,12 @@ module _ (z : Sizes) (u : TreeView) (k : List ℕ) (cursor : Cursor) (l : IsLook
 
   few : many ≤ z.leaf
   few = let b = l.readable.is_base in let c = b.as_many in let d = b.few in
-      omega (arith, are, length-take (count note.its) (drop items_word note.its))
+      omega (
+        arith,
+        are,
+        length-map (item_words note.its) row_in,
+        length-take (count note.its) (drop items_word note.its),
+      )
 
   middle : x.middle ≡ many / 2
   middle = h.halving.middle_is

@@ -1,5 +1,5 @@
 -- The words that each pass has for itself.
-use Rattle.std.proofs.Common.{◌≡◌, ◌≢◌, ℕ, ◌+◌, ◌-◌, ◌*◌, ◌<◌, List, length, get_or, set, sym, ap, ◌∙◌, arith, length-set, get_or-set_other}
+use Rattle.std.proofs.Common.{◌≡◌, ◌≢◌, ℕ, ◌+◌, ◌-◌, ◌*◌, ◌<◌, List, length, get_or, set, ap, ◌∙◌, arith, length-set, get_or-set_other}
 use Rattle.ca_rows.specs.Layout.{row_words, pass_words, passes_words}
 use Rattle.ca_rows.specs.Words.{IsWide, own_word, announced, result_of}
 

@@ -24,7 +24,7 @@ use Rattle.ca_rows.proofs.Chains.{put, put_here, put_else, in_head, next_number,
 use Rattle.ca_rows.proofs.Claiming.{claim_mine, claim_others, claim_there, claimed_here, claimed_else, dropped_here, dropped_else}
 use Rattle.ca_rows.proofs.OwnWords.{announced_else, result_else}
 use Rattle.ca_rows.proofs.Rules.{St, Rule, uppers, Is, alone_now, keeps_rule}
-use Rattle.ca_rows.specs.Layout.{row_words, pass_words, passes_words, row_limit, last_tag}
+use Rattle.ca_rows.specs.Layout.{row_words, row_limit, last_tag}
 
 -- the words of a row
 pub row_of : List ℕ → ℕ → List ℕ

@@ -13,7 +13,11 @@ pub(crate) fn opening<R: RowRule>(alloc: Global, sizes: &Sizes) -> Result<Vec<u6
     requires { AreInBounds sizes.now }
     ensures { IfOk result (λ words. IsOpening R.opens R.result_word sizes.now words.items) }
 {
-    let mut words = Vec::from_elem(alloc, 0_u64, ROW_WORDS * (sizes.rows as usize + 1) + PASSES_WORDS)?;
+    let mut words = Vec::from_elem(
+        alloc,
+        0_u64,
+        ROW_WORDS * (sizes.rows as usize + 1) + PASSES_WORDS,
+    )?;
     fill::<R>(words.as_mut_slice(), sizes);
     Ok(words)
 }

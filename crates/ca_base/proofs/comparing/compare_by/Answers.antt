@@ -1,4 +1,4 @@
-use Rattle.std.proofs.Common.{rules, ℕ, List, ◌≡◌, ◌<◌, ◌+◌, ◌-◌, ◌*◌, ◌/◌, drop, get_or, ap, sym, subst, ◌∙◌, arith, length-drop}
+use Rattle.std.proofs.Common.{rules, ℕ, List, ◌≡◌, ◌<◌, ◌+◌, ◌-◌, ◌*◌, ◌/◌, get_or, ap, sym, subst, ◌∙◌, arith}
 use Rattle.ca_model.specs.StoreMap.{bytes_cmp}
 use Rattle.ca_node.specs.Row.{bytes_in, code_words}
 use Rattle.ca_node.specs.Told.{MyTree}

@@ -1,4 +1,4 @@
-use Rattle.std.proofs.Common.{◌-◌, ◌/◌, ◌≡◌, ℕ, ◌<◌, ◌≤◌, List, drop, get_or}
+use Rattle.std.proofs.Common.{◌-◌, ◌/◌, ◌≡◌, ℕ, ◌<◌, ◌≤◌, List, get_or}
 use Rattle.ca_node.specs.Row.{bytes_in, code_words}
 use Rattle.ca_base.specs.Finding.{IsObjectShown}
 use Rattle.ca_rows.specs.Calls.{IsOf, IsSame}

@@ -1,8 +1,6 @@
 use Rattle.std.proofs.Common.{arith, ◌/◌, ◌∙◌, sym}
-use Rattle.std.proofs.lemmas.List.{get_or-drop}
 use Rattle.ca_base.proofs.Items.{word_shown, as_shown}
 use Rattle.ca_base.proofs.comparing.word_with.Goals as goal
-use Rattle.ca_node.specs.Row.{code_words}
 use Rattle.ca_base.proofs.ObjectBytes.{code_at}
 
 pub load_word-requires-clause-shown : goal.load_word-requires-clause-shown

@@ -1,26 +1,26 @@
 use Rattle.std.proofs.Common.{◌≡◌, ◌+◌, get_or, sym, refl, ap, subst, ◌∙◌, arith}
 use Rattle.ca_node.specs.Told.{IsShown}
 use Rattle.ca_node.specs.TreeView.{TreeView}
-use Rattle.ca_base.specs.Putting.{first_note, last_items}
+use Rattle.ca_base.specs.Putting.{first_note, last_words}
 use Rattle.ca_base.proofs.Filling.{begins, goes_on_behind}
 use Rattle.ca_base.proofs.Items.{word_shown, as_shown}
-use Rattle.ca_base.proofs.LastItems.{last_shown, last_inside, last_item}
+use Rattle.ca_base.proofs.LastItems.{last_shown, last_inside, last_word}
 use Rattle.ca_rows.specs.declared.view.Pin.{Pin}
 use Rattle.ca_base.proofs.copying.copy_items.Goals as goal
 use Rattle.ca_node.specs.Layout.{items_word}
 
-pub load_word-item-requires-clause-reading : goal.load_word-item-requires-clause-reading
-load_word-item-requires-clause-reading c = record {
+pub load_word-word-requires-clause-reading : goal.load_word-word-requires-clause-reading
+load_word-word-requires-clause-reading c = record {
   own = c.loop-place.invariant.0.of;
   pinned = ap (λ (e : Pin). e.pinned) c.loop-place.invariant.0.still.3
       ∙ c.requires.row.reading.pinned;
 }
 
-pub load_word-item-requires-clause-inside : goal.load_word-item-requires-clause-inside
-load_word-item-requires-clause-inside c = (last_inside _ _ _ c.requires.shown, omega arith)
+pub load_word-word-requires-clause-inside : goal.load_word-word-requires-clause-inside
+load_word-word-requires-clause-inside c = (last_inside _ _ _ c.requires.shown, omega arith)
 
-pub load_word-item-requires-clause-shown : goal.load_word-item-requires-clause-shown
-load_word-item-requires-clause-shown c = word_shown c.loop-place.pass.seat.me.0.upper _ _ (
+pub load_word-word-requires-clause-shown : goal.load_word-word-requires-clause-shown
+load_word-word-requires-clause-shown c = word_shown c.loop-place.pass.seat.me.0.upper _ _ (
   (first_note c.args.pass.now.seat.me.0.upper.notes).its,
   subst (λ (u : TreeView).
       IsShown u c.args.run.base (first_note c.args.pass.now.seat.me.0.upper.notes).its)
@@ -31,7 +31,7 @@ load_word-item-requires-clause-shown c = word_shown c.loop-place.pass.seat.me.0.
 pub loop-place-init : goal.loop-place-init
 loop-place-init c = (
   begins _ _ c.args.row (items_word + c.args.to)
-      (λ k word. word ≡ get_or (last_items c.args.pass.now.seat.me.0.upper) (c.args.run.from + k) 0)
+      (λ k word. word ≡ get_or (last_words c.args.pass.now.seat.me.0.upper) (c.args.run.from + k) 0)
       c.args.pass.now.seat
       c.requires.row.reading.own c.requires.row.held.1,
   refl,
@@ -47,18 +47,18 @@ loop-place-preserved c = let i = c.loop-place.invariant in
     (last_shown _ _ _ c.requires.shown) in
     let there : items_word + c.args.run.from + c.loop-place.place
     ≡ items_word + (c.args.run.from + c.loop-place.place) = omega arith in
-    let word : c.load_word-item.result
-    ≡ get_or (last_items u) (c.args.run.from + c.loop-place.place) 0 =
-    last_item _ u _ c.requires.shown (c.args.run.from + c.loop-place.place) c.load_word-item.result
-    (as_shown c.loop-place.pass.seat.me.0.upper _ _ _ c.load_word-item.ensures.word its shown
+    let word : c.load_word-word.result
+    ≡ get_or (last_words u) (c.args.run.from + c.loop-place.place) 0 =
+    last_word _ u _ c.requires.shown (c.args.run.from + c.loop-place.place) c.load_word-word.result
+    (as_shown c.loop-place.pass.seat.me.0.upper _ _ _ c.load_word-word.ensures.word its shown
     ∙ ap (λ k. get_or its k 0) there) (omega arith) in (
       goes_on_behind _ _ c.args.row (items_word + c.args.to)
-          (λ k word. word ≡ get_or (last_items u) (c.args.run.from + k) 0) c.args.pass.now.seat
-          c.loop-place.pass.seat c.load_word-item.new.pass.seat c.set_word.new.pass.seat
+          (λ k word. word ≡ get_or (last_words u) (c.args.run.from + k) 0) c.args.pass.now.seat
+          c.loop-place.pass.seat c.load_word-word.new.pass.seat c.set_word.new.pass.seat
           c.loop-place.place _ _ (omega arith) (omega arith) word i.0
-          c.load_word-item.ensures.frame.same c.load_word-item.ensures.frame.still
+          c.load_word-word.ensures.frame.same c.load_word-word.ensures.frame.still
           c.set_word.ensures.frame.same c.set_word.ensures.set,
-      c.set_word.ensures.frame.number ∙ (c.load_word-item.ensures.frame.number ∙ i.1),
-      c.set_word.ensures.frame.kept ∙ (c.load_word-item.ensures.frame.kept ∙ i.2),
-      c.set_word.ensures.frame.tally ∙ (c.load_word-item.ensures.frame.tally ∙ i.3),
+      c.set_word.ensures.frame.number ∙ (c.load_word-word.ensures.frame.number ∙ i.1),
+      c.set_word.ensures.frame.kept ∙ (c.load_word-word.ensures.frame.kept ∙ i.2),
+      c.set_word.ensures.frame.tally ∙ (c.load_word-word.ensures.frame.tally ∙ i.3),
     )

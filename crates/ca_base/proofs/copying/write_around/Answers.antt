@@ -1,6 +1,6 @@
 use Rattle.std.proofs.Common.{◌≡◌, ◌+◌, ◌-◌, length, get_or, subst, ◌∙◌, arith}
 use Rattle.ca_node.specs.TreeView.{TreeView}
-use Rattle.ca_base.specs.Putting.{last_items}
+use Rattle.ca_base.specs.Putting.{last_words}
 use Rattle.ca_base.specs.Writing.{HasFilled}
 use Rattle.ca_base.proofs.LastItems.{around_written}
 use Rattle.ca_base.proofs.copying.write_around.Goals as goal
@@ -12,24 +12,24 @@ returns-clause-written c = let u = c.args.pass.now.seat.me.0.upper in
     let one = c.write_head.ensures.frame.same in let two = c.copy_items.ensures.frame.same in
     let three = c.write_items.ensures.frame.same in
     let rest : c.args.target.now.many - c.args.around.now.behind
-    ≡ length (last_items u) - c.args.around.now.behind = omega arith in
-    around_written (last_items u) c.args.around.now.these.now c.args.around.now.before
+    ≡ length (last_words u) - c.args.around.now.behind = omega arith in
+    around_written (last_words u) c.args.around.now.these.now c.args.around.now.before
     c.args.around.now.behind (omega arith) (omega arith) c.args.row
     c.args.target.now.cursor.level _ c.args.target.now.statistic
     c.args.pass.now.seat.me c.write_head.new.pass.seat.me c.copy_items.new.pass.seat.me
     c.write_items.new.pass.seat.me c.copy_items-2.new.pass.seat.me
     c.requires.row.held.1 (omega arith) (omega arith) (omega arith) c.write_head.ensures.filled
     (subst (λ (v : TreeView). HasFilled c.args.row (items_word + 0) c.args.around.now.before
-    (λ k word. word ≡ get_or (last_items v) (0 + k) 0) c.write_head.new.pass.seat.me
+    (λ k word. word ≡ get_or (last_words v) (0 + k) 0) c.write_head.new.pass.seat.me
     c.copy_items.new.pass.seat.me) one.4 c.copy_items.ensures.filled)
     c.write_items.ensures.filled
     (subst (λ n.
     HasFilled c.args.row (items_word + (c.args.around.now.before + length c.args.around.now.these.now))
-    n (λ k word. word ≡ get_or (last_items u) (c.args.around.now.behind + k) 0)
+    n (λ k word. word ≡ get_or (last_words u) (c.args.around.now.behind + k) 0)
     c.write_items.new.pass.seat.me c.copy_items-2.new.pass.seat.me) rest
     (subst (λ (v : TreeView).
     HasFilled c.args.row (items_word + (c.args.around.now.before + length c.args.around.now.these.now))
     (c.args.target.now.many - c.args.around.now.behind)
-    (λ k word. word ≡ get_or (last_items v) (c.args.around.now.behind + k) 0)
+    (λ k word. word ≡ get_or (last_words v) (c.args.around.now.behind + k) 0)
     c.write_items.new.pass.seat.me c.copy_items-2.new.pass.seat.me)
     (three.4 ∙ (two.4 ∙ one.4)) c.copy_items-2.ensures.filled))

@@ -1,5 +1,5 @@
-use Rattle.std.proofs.Common.{rules, ℕ, List, ◌≡◌, ◌*◌, ◌%◌, ◌++◌, min, length, get_or, take, drop, ap, sym, subst, ◌∙◌, arith, length-drop}
-use Rattle.std.proofs.lemmas.List.{get_or-drop, take_min}
+use Rattle.std.proofs.Common.{rules, ℕ, List, ◌≡◌, ◌*◌, ◌%◌, ◌++◌, min, length, get_or, take, ap, sym, subst, ◌∙◌, arith}
+use Rattle.std.proofs.lemmas.List.{take_min}
 use Rattle.std.specs.Int.{to_be_bytes, w64}
 use Rattle.ca_node.specs.Row.{bytes_in, count, code_words}
 use Rattle.ca_node.specs.Told.{MyTree}

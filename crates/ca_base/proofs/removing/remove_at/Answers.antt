@@ -4,7 +4,7 @@ use Rattle.ca_node.proofs.Members.{in_first}
 use Rattle.ca_node.specs.Told.{IsBaseNote}
 use Rattle.ca_node.specs.TreeView.{TreeView}
 use Rattle.ca_base.specs.Finding.{IsAtCursor}
-use Rattle.ca_base.specs.Putting.{gone, IsShownLast, first_note, last_items}
+use Rattle.ca_base.specs.Putting.{gone, IsShownLast, first_note, last_items, last_words}
 use Rattle.ca_rows.specs.Told.{met_of}
 use Rattle.ca_base.proofs.Alone.{won_then}
 use Rattle.ca_base.proofs.Readying.{place_in, many_are, few_are, spells_there}
@@ -45,7 +45,7 @@ write_base_without-old-requires-clause-shown c = let u = c.args.pass.now.seat.me
       (sym c.take.ensures.frame.same.4) c.requires.target.shown,
   (
     subst (λ (v : TreeView). c.args.target.now.many
-        ≡ length (last_items v)) (sym c.take.ensures.frame.same.4)
+        ≡ length (last_words v)) (sym c.take.ensures.frame.same.4)
         (many_are _ u c.args.target.now.cursor.base c.args.target.now.many c.requires.target.shown
         c.requires.target.many_are),
     few_are _ u c.args.target.now.cursor.base c.args.target.now.many c.requires.target.shown

@@ -1,5 +1,5 @@
 use Rattle.std.proofs.Common.{rules, ◌≡◌, ◌+◌, ◌-◌, ◌*◌, ◌/◌, ◌%◌, ◌++◌, ℕ, List, length, take, drop, get_or, sym, ap, subst, ◌∙◌, arith, length-drop}
-use Rattle.std.proofs.lemmas.List.{get_or-drop, length-take-le}
+use Rattle.std.proofs.lemmas.List.{length-take-le}
 use Rattle.std.specs.Int.{to_be_bytes, w64}
 use Rattle.ca_node.specs.Row.{bytes_in, code_words}
 use Rattle.ca_node.specs.Told.{MyTree, IsShown}

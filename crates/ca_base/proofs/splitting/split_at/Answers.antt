@@ -2,7 +2,7 @@ use Rattle.std.proofs.Common.{ℕ, ◌+◌, ◌-◌, ◌/◌, List, [], ◌∷�
 use Rattle.ca_node.specs.Told.{MyTree}
 use Rattle.ca_node.specs.TreeView.{TreeView}
 use Rattle.ca_base.specs.Finding.{IsObjectShown, IsReadable}
-use Rattle.ca_base.specs.Putting.{first_note, last_items}
+use Rattle.ca_base.specs.Putting.{first_note, last_words}
 use Rattle.ca_base.specs.Splitting.{SpellsRoute}
 use Rattle.ca_base.specs.Taking.{AreHeld}
 use Rattle.ca_base.specs.Writing.{IsRewritten, SpellsBase}
@@ -165,12 +165,12 @@ divide_in-requires-clause-division c = let r = c.requires in
           over.2;
       is_left = subst
           (λ (v : TreeView).
-          SpellsBase (take (c.args.many / 2) (drop 0 (last_items v))) (c.args.cursor.level + 1)
+          SpellsBase (take (c.args.many / 2) (drop 0 (last_words v))) (c.args.cursor.level + 1)
           4294967296 first.0) one.4
           first.1;
       is_right = subst
           (λ (v : TreeView).
-          SpellsBase (take (c.args.many - c.args.many / 2) (drop (c.args.many / 2) (last_items v)))
+          SpellsBase (take (c.args.many - c.args.many / 2) (drop (c.args.many / 2) (last_words v)))
           (c.args.cursor.level + 1)
           4294967296 last.0) (two.4 ∙ one.4) last.1;
       is_route = subst

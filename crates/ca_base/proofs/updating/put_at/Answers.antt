@@ -4,7 +4,7 @@ use Rattle.ca_node.proofs.Members.{in_first, in_rest}
 use Rattle.ca_node.specs.Told.{IsBaseNote}
 use Rattle.ca_node.specs.TreeView.{TreeView}
 use Rattle.ca_base.specs.Finding.{IsAtCursor}
-use Rattle.ca_base.specs.Putting.{put_in, gone, IsRoom, IsShownLast, first_note, last_items}
+use Rattle.ca_base.specs.Putting.{put_in, gone, IsRoom, IsShownLast, first_note, last_items, last_words}
 use Rattle.ca_rows.specs.Told.{met_of}
 use Rattle.ca_base.proofs.Alone.{won_then}
 use Rattle.ca_base.proofs.Readying.{finds_place, place_in, many_are, few_are, spells_there, ready, tried, renewed_so}
@@ -53,7 +53,7 @@ write_base_with-old-requires-clause-shown c = let u = c.args.pass.now.seat.me.0.
       c.requires.target.shown,
   (
     subst (λ (v : TreeView). c.args.target.now.many
-        ≡ length (last_items v)) (sym (c.write_object.ensures.frame.same.4
+        ≡ length (last_words v)) (sym (c.write_object.ensures.frame.same.4
         ∙ c.take_two.ensures.frame.same.4))
         (many_are _ u c.args.target.now.cursor.base c.args.target.now.many c.requires.target.shown
         c.requires.target.many_are),
@@ -123,9 +123,9 @@ swap_in-requires-clause-update c = let t = c.in-Ok.ensures.taken in
     c.args.target.now.cursor.base c.args.insertion.now.place c.args.insertion.now.why
     c.args.insertion.now.keyed.object.now
     c.args.insertion.now.keyed.key_at c.args.insertion.now.keyed.key_end c.args.target.now.statistic
-    w.0 v.0 r.target.shown (three.4 ∙ (two.4 ∙ one.4)) (λ e. t.0 (sym e)) w.1 w.2
+    c.word_of_item-word.result w.0 v.0 c.word_of_item-word.ensures.row c.word_of_item-word.ensures.head r.target.shown (three.4 ∙ (two.4 ∙ one.4)) (λ e. t.0 (sym e)) w.1 w.2
     (spells_there c.args.pass.now.seat.me.0.upper c.write_object.new.pass.seat.me.0.upper
-    (λ xs. put_in xs c.args.insertion.now.place c.in-Ok.rows.1) _ c.args.target.now.cursor.level
+    (λ xs. put_in xs c.args.insertion.now.place c.word_of_item-word.result) _ c.args.target.now.cursor.level
     c.args.target.now.statistic v.0 (two.4 ∙ one.4) r.target.at.level v.1) v.2
     r.ready.pinned r.ready.number
     (subst (λ (n : ℕ). IsRoom c.args.insertion.now.place n c.args.space.now.table.shared.key.leaf)
@@ -158,9 +158,9 @@ returns-clause-put c = let t = c.in-Ok.ensures.taken in let w = c.write_object.e
     c.args.target.now.cursor.base c.args.insertion.now.place c.args.insertion.now.why
     c.args.insertion.now.keyed.object.now
     c.args.insertion.now.keyed.key_at c.args.insertion.now.keyed.key_end c.args.target.now.statistic
-    w.0 v.0 r.target.shown (three.4 ∙ (two.4 ∙ one.4)) (λ e. t.0 (sym e)) w.1 w.2
+    c.word_of_item-word.result w.0 v.0 c.word_of_item-word.ensures.row c.word_of_item-word.ensures.head r.target.shown (three.4 ∙ (two.4 ∙ one.4)) (λ e. t.0 (sym e)) w.1 w.2
     (spells_there c.args.pass.now.seat.me.0.upper c.write_object.new.pass.seat.me.0.upper
-    (λ xs. put_in xs c.args.insertion.now.place c.in-Ok.rows.1) _ c.args.target.now.cursor.level
+    (λ xs. put_in xs c.args.insertion.now.place c.word_of_item-word.result) _ c.args.target.now.cursor.level
     c.args.target.now.statistic v.0 (two.4 ∙ one.4) r.target.at.level v.1) v.2
     c.swap_in.result c.swap_in.new.pass.seat.me.0.upper c.swap_in.ensures.done
 
@@ -176,9 +176,9 @@ returns-clause-renewed c = let t = c.in-Ok.ensures.taken in
     c.args.target.now.cursor.base c.args.insertion.now.place c.args.insertion.now.why
     c.args.insertion.now.keyed.object.now
     c.args.insertion.now.keyed.key_at c.args.insertion.now.keyed.key_end c.args.target.now.statistic
-    w.0 v.0 r.target.shown (three.4 ∙ (two.4 ∙ one.4)) (λ e. t.0 (sym e)) w.1 w.2
+    c.word_of_item-word.result w.0 v.0 c.word_of_item-word.ensures.row c.word_of_item-word.ensures.head r.target.shown (three.4 ∙ (two.4 ∙ one.4)) (λ e. t.0 (sym e)) w.1 w.2
     (spells_there c.args.pass.now.seat.me.0.upper c.write_object.new.pass.seat.me.0.upper
-    (λ xs. put_in xs c.args.insertion.now.place c.in-Ok.rows.1) _ c.args.target.now.cursor.level
+    (λ xs. put_in xs c.args.insertion.now.place c.word_of_item-word.result) _ c.args.target.now.cursor.level
     c.args.target.now.statistic v.0 (two.4 ∙ one.4) r.target.at.level v.1) v.2
     (met_of c.swap_in.new.pass.seat.me) c.swap_in.result c.swap_in.new.pass.seat.me.0.upper
     c.swap_in.ensures.renewed
@@ -233,3 +233,9 @@ swap_in-requires-clause-own c = (
       ∙ (c.write_object.ensures.frame.same.2
       ∙ (c.take_two.ensures.frame.same.2 ∙ c.requires.ready.own.1)),
 )
+
+pub word_of_item-word-requires : goal.word_of_item-word-requires
+word_of_item-word-requires c = let few = c.args.space.now.few.1 in
+    let each = c.in-Ok.ensures.taken.1.0.each c.in-Ok.rows.1
+    (in_rest c.in-Ok.rows.1 c.in-Ok.rows.0 (c.in-Ok.rows.1 ∷ []) (in_first c.in-Ok.rows.1 [])) in
+    let inside = each.1 in omega arith

@@ -12,7 +12,7 @@ set_word-requires-clause-row c = record {
 pub loop-place-init : goal.loop-place-init
 loop-place-init c = (
   begins _ _ c.args.row (items_word + c.args.at)
-      (λ k word. word ≡ get_or c.args.items.now k 0) c.args.pass.now.seat c.requires.row.own
+      (λ k word. word ≡ get_or c.args.words.now k 0) c.args.pass.now.seat c.requires.row.own
       c.requires.row.held.1,
   refl,
   refl,
@@ -22,7 +22,7 @@ loop-place-init c = (
 pub loop-place-preserved : goal.loop-place-preserved
 loop-place-preserved c = let i = c.loop-place.invariant in (
   goes_on _ _ c.args.row (items_word + c.args.at)
-      (λ k word. word ≡ get_or c.args.items.now k 0) c.args.pass.now.seat c.loop-place.pass.seat
+      (λ k word. word ≡ get_or c.args.words.now k 0) c.args.pass.now.seat c.loop-place.pass.seat
       c.set_word.new.pass.seat c.loop-place.place _ _ (omega arith) (omega arith) refl i.0
       c.set_word.ensures.frame.same c.set_word.ensures.set,
   c.set_word.ensures.frame.number ∙ i.1,

@@ -6,6 +6,6 @@ use Rattle.ca_node.specs.Layout.{items_word}
 abbrev pub invariant-loop-place : goal.invariant-loop-place
 invariant-loop-place l =
     IsFilling l.space.table.shared.table_id l.space.table.shared.key l.row (items_word + l.at)
-    (λ k word. word ≡ get_or l.items k 0)
+    (λ k word. word ≡ get_or l.words k 0)
     l.fn.pass.seat l.pass.seat l.place × (l.pass.number ≡ l.fn.pass.number)
     × (l.pass.kept ≡ l.fn.pass.kept) × (l.pass.tally ≡ l.fn.pass.tally)

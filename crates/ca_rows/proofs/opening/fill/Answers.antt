@@ -1,4 +1,4 @@
-use Rattle.std.proofs.Common.{ℕ, ◌+◌, ◌-◌, ◌*◌, ◌<◌, ◌≤◌, ◌≡◌, ◌≢◌, List, ap, ◌∙◌, arith, length, length-set, get_or, set, get_or-set_same, get_or-set_other}
+use Rattle.std.proofs.Common.{ℕ, ◌+◌, ◌-◌, ◌*◌, ◌<◌, ◌≤◌, ◌≡◌, List, ap, ◌∙◌, arith, length, length-set, get_or, set, get_or-set_same, get_or-set_other}
 use Rattle.ca_rows.specs.Layout.{row_words, pass_words, passes_words, row_limit}
 use Rattle.ca_rows.proofs.opening.fill.Goals as goal
 

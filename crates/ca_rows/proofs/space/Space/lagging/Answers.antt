@@ -1,4 +1,4 @@
-use Rattle.std.proofs.Common.{rules, ◌+◌, ap, arith}
+use Rattle.std.proofs.Common.{rules, ap, arith}
 use Rattle.ca_rows.specs.Told.{Mine}
 use Rattle.ca_rows.proofs.Scanning.{scans}
 use Rattle.ca_rows.proofs.space.Space.lagging.Goals as goal

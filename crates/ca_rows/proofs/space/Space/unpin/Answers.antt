@@ -1,4 +1,4 @@
-use Rattle.std.proofs.Common.{rules, ◌+◌, arith}
+use Rattle.std.proofs.Common.{rules, arith}
 use Rattle.ca_rows.proofs.PinSteps.{unpins}
 use Rattle.ca_rows.proofs.space.Space.unpin.Goals as goal
 
